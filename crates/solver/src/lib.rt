@@ -1,0 +1,1 @@
+// Decides a problem of unification over types.
