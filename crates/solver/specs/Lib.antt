@@ -1,0 +1,2 @@
+-- The problem of unification that the solver decides.
+pub mod Problem
