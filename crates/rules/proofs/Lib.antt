@@ -1,1 +1,10 @@
-pub mod Test
+-- The laws that everything above rests on.
+pub mod EndLaws
+pub mod TableLaws
+pub mod ReadingLaws
+pub mod OrderLaws
+pub mod CellsLaws
+pub mod FitsLaws
+pub mod TypedTree
+pub mod SetTypes
+pub mod Soundness
