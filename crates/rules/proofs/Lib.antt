@@ -8,3 +8,5 @@ pub mod FitsLaws
 pub mod TypedTree
 pub mod SetTypes
 pub mod Soundness
+pub mod SetOrder
+pub mod FormedLaws
