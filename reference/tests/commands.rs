@@ -1,0 +1,85 @@
+//! The commands of the binary.
+
+use reference::examples;
+use std::io::Write;
+use std::process::{Command, Output, Stdio};
+
+fn run(arguments: &[&str], input: &[u8]) -> Output {
+    let mut child = Command::new(env!("CARGO_BIN_EXE_reference"))
+        .args(arguments)
+        .stdin(Stdio::piped())
+        .stdout(Stdio::piped())
+        .stderr(Stdio::piped())
+        .spawn()
+        .expect("the binary starts");
+    let mut pipe = child.stdin.take().expect("there is a pipe");
+    // A command that refuses its arguments reads nothing.
+    let _ = pipe.write_all(input);
+    drop(pipe);
+    child.wait_with_output().expect("the binary ends")
+}
+
+#[test]
+fn bad_arguments_end_with_status_2() {
+    let bad: [&[&str]; 9] = [
+        &[],
+        &["other"],
+        &["cases"],
+        &["cases", "--seed", "1"],
+        &["cases", "--seed", "x", "--count", "1"],
+        &["cases", "--seed", "1", "--count"],
+        &["stats", "--seed", "1", "--count", "1", "--class", "none"],
+        &["batch", "--seed", "1", "--count", "1", "--stdin", "a"],
+        &["answers", "more"],
+    ];
+    for arguments in bad {
+        let output = run(arguments, &[]);
+        assert_eq!(output.status.code(), Some(2), "{arguments:?}");
+        assert!(output.stdout.is_empty());
+        assert!(output.stderr.starts_with(b"reference: "));
+    }
+}
+
+#[test]
+fn the_listing_of_p1() {
+    let table = examples::all()[0].draft.bytes();
+    let output = run(&["listing"], &table);
+    assert!(output.status.success());
+    let expected = "i 0 10\nn 0 10\nn 1 0310\nn 2 p\naccepted\n";
+    assert_eq!(String::from_utf8_lossy(&output.stdout), expected);
+}
+
+#[test]
+fn a_written_batch_is_answered_alike() {
+    let folder = std::env::temp_dir().join(format!("reference-batch-{}", std::process::id()));
+    std::fs::create_dir_all(&folder).expect("a folder for the files");
+    let (stdin, stdout) = (folder.join("in"), folder.join("out"));
+    let names = [stdin.to_string_lossy(), stdout.to_string_lossy()];
+    let mut arguments = vec!["batch", "--seed", "9", "--count", "300"];
+    arguments.extend(["--stdin", &names[0], "--stdout", &names[1]]);
+    assert!(run(&arguments, &[]).status.success());
+    let batch = std::fs::read(&stdin).expect("the batch is there");
+    let expected = std::fs::read(&stdout).expect("its output is there");
+    std::fs::remove_dir_all(&folder).expect("the folder is removed");
+    assert_eq!(run(&["answers"], &batch).stdout, expected);
+    let text = String::from_utf8_lossy(&expected);
+    assert_eq!(text.lines().count(), 300 + 32);
+    assert!(text.starts_with("accepted 10 10 0310 p\ntrue 3\nrefused 12 0\n"));
+}
+
+#[test]
+fn cases_have_the_stated_form() {
+    let output = run(&["cases", "--seed", "3", "--count", "90", "--small"], &[]);
+    let text = String::from_utf8_lossy(&output.stdout);
+    assert_eq!(text.lines().count(), 90);
+    for line in text.lines() {
+        let words: Vec<&str> = line.split(' ').collect();
+        let answer = match words[0] {
+            "read" => words[2],
+            "check" => words[3],
+            _ => words[4],
+        };
+        let known = ["readable", "accepted", "refused", "true", "false"];
+        assert!(known.contains(&answer), "{line}");
+    }
+}

@@ -1,0 +1,790 @@
+//! The readings of document 01's open points, by their numbers.
+
+mod common;
+
+use common::*;
+use reference::batch::{check_answer, evaluate_answer};
+use reference::build::Draft;
+use reference::check::check;
+use reference::examples;
+use reference::kinds::Kind;
+use reference::listing::listing;
+use reference::values::{cell, set, Value};
+
+fn one_is_one(d: &mut Draft) -> u32 {
+    let (e, f) = (d.integer(1), d.integer(1));
+    d.two(Kind::Equal, e, f)
+}
+
+/// kind(first literal, second literal) as a whole condition.
+fn relation(kind: Kind, first: &Value, second: &Value) -> Draft {
+    draft(|d| {
+        let (e, f) = (d.literal(first), d.literal(second));
+        d.two(kind, e, f);
+    })
+}
+
+/// card(kind(first, second)) = n.
+fn card_of(kind: Kind, first: &Value, second: &Value, n: i32) -> Draft {
+    draft(|d| {
+        let (s, r) = (d.literal(first), d.literal(second));
+        let made = d.two(kind, s, r);
+        let card = d.one(Kind::Card, made);
+        let n = d.integer(n);
+        d.two(Kind::Equal, card, n);
+    })
+}
+
+/// x0 = x0, for trying values buffers; `sizes` are the given sets.
+fn lent(sizes: &[u32]) -> Draft {
+    draft(|d| {
+        d.sizes.extend(sizes);
+        let x = d.identifier(0);
+        let (e, f) = (d.using(x), d.using(x));
+        d.two(Kind::Equal, e, f);
+    })
+}
+
+fn lent_bytes(sizes: &[u32], buffer: &[u8]) -> String {
+    evaluate_answer(&lent(sizes).bytes(), buffer, 100)
+}
+
+#[test]
+fn r01_a_refusal_leaves_the_sheet_untouched() {
+    let mut tables: Vec<(Vec<u8>, usize)> = examples::all()
+        .iter()
+        .map(|e| (e.draft.bytes(), e.draft.sheet_length()))
+        .collect();
+    tables.push((vec![0; 40], 64));
+    tables.push((lent(&[]).bytes(), 1));
+    let mut refused = 0;
+    for (table, length) in tables {
+        let mut sheet = vec![0xaa; length];
+        if check(&table, &mut sheet).is_err() {
+            refused += 1;
+            assert!(sheet.iter().all(|&byte| byte == 0xaa));
+        }
+    }
+    assert_eq!(refused, 8);
+}
+
+#[test]
+fn r01_an_acceptance_writes_every_byte() {
+    let p1 = &examples::all()[0].draft;
+    let mut sheet = vec![0xaa; p1.sheet_length()];
+    check(&p1.bytes(), &mut sheet).expect("P1 is accepted");
+    assert_eq!(&sheet[128..131], &[3, 16, 0]);
+    assert_eq!(sheet.iter().filter(|&&byte| byte == 0).count(), 256 - 4);
+}
+
+#[test]
+fn r02_places_of_12_count_identifiers_first() {
+    let d = draft(|d| {
+        let x = d.identifier(0);
+        let (e, f) = (d.using(x), d.integer(1));
+        let p = d.two(Kind::Equal, e, f);
+        let (s, r) = (d.leaf(Kind::Empty), d.leaf(Kind::Empty));
+        let q = d.two(Kind::Equal, s, r);
+        d.two(Kind::And, p, q);
+    });
+    assert_eq!(checked(&d), "refused 12 4");
+}
+
+#[test]
+fn r03_a_cycle_counts_where_it_closes() {
+    let d = draft(|d| {
+        let (x, y) = (d.identifier(0), d.identifier(0));
+        let (e, f) = (d.using(x), d.using(y));
+        let s = d.one(Kind::Singleton, f);
+        let p = d.two(Kind::Equal, e, s);
+        let (e, f) = (d.using(y), d.using(x));
+        let s = d.one(Kind::Singleton, f);
+        let q = d.two(Kind::Equal, e, s);
+        d.two(Kind::And, p, q);
+    });
+    assert_eq!(checked(&d), "refused 11 7");
+}
+
+#[test]
+fn r03_the_binder_has_the_rule_of_its_identifier() {
+    let d = draft(|d| {
+        let x = d.identifier(1);
+        let e = d.integer(1);
+        let s = d.one(Kind::Singleton, e);
+        let (e, f) = (d.using(x), d.one(Kind::Truth, 1));
+        let body = d.two(Kind::Equal, e, f);
+        d.node(Kind::Exists, x, s, body);
+    });
+    assert_eq!(checked(&d), "refused 11 5");
+}
+
+#[test]
+fn r04_an_unknown_anywhere_inside_is_ambiguous() {
+    let d = draft(|d| {
+        let x = d.identifier(0);
+        let (n, s) = (d.integer(1), d.leaf(Kind::Empty));
+        let pair = d.two(Kind::Pair, n, s);
+        let e = d.using(x);
+        d.two(Kind::Equal, e, pair);
+    });
+    assert_eq!(checked(&d), "refused 12 0");
+}
+
+#[test]
+fn r04_an_unused_free_identifier_is_ambiguous() {
+    let d = draft(|d| {
+        let x = d.identifier(0);
+        d.identifier(0);
+        let (e, f) = (d.using(x), d.integer(1));
+        d.two(Kind::Equal, e, f);
+    });
+    assert_eq!(checked(&d), "refused 12 1");
+}
+
+/// y = {x25}, x25 = 8 copies of x24, .., x0 = end; y has place 0.
+fn heavy(end: impl Fn(&mut Draft) -> u32) -> Draft {
+    draft(|d| {
+        let names: Vec<u32> = (0..27).map(|_| d.identifier(0)).collect();
+        let (e, f) = (d.using(0), d.using(1));
+        let s = d.one(Kind::Singleton, f);
+        let mut clauses = vec![d.two(Kind::Equal, e, s)];
+        for pair in names[1..].windows(2) {
+            let e = d.using(pair[0]);
+            let f = d.balanced(3, &|d| d.using(pair[1]));
+            clauses.push(d.two(Kind::Equal, e, f));
+        }
+        let (e, f) = (d.using(26), end(d));
+        clauses.push(d.two(Kind::Equal, e, f));
+        d.joined(Kind::And, &clauses);
+    })
+}
+
+#[test]
+fn r05_weights_do_not_wrap() {
+    // y weighs 2^76, which is 0 for a counter of 32 or 64 bits.
+    assert_eq!(checked(&heavy(|d| d.integer(1))), "refused 13 0");
+}
+
+#[test]
+fn r05_12_comes_before_13() {
+    assert_eq!(checked(&heavy(|d| d.leaf(Kind::Empty))), "refused 12 0");
+    let d = draft(|d| {
+        let mut e = d.balanced(5, &|d| d.integer(1));
+        e = d.one(Kind::Singleton, e);
+        e = d.one(Kind::Singleton, e);
+        let card = d.one(Kind::Card, e);
+        let s = d.leaf(Kind::Empty);
+        let none = d.one(Kind::Card, s);
+        d.two(Kind::Equal, card, none);
+    });
+    assert_eq!(checked(&d), "refused 12 66");
+}
+
+#[test]
+fn r06_10_comes_after_9_and_before_11() {
+    let p4 = relation(Kind::Equal, &int(1), &truth(true));
+    assert_eq!(check_answer(&p4.bytes(), 1), "refused 10 0");
+    assert_eq!(check_answer(&p4.bytes()[..40], 1), "refused 3 0");
+    assert_eq!(checked(&p4), "refused 11 2");
+}
+
+#[test]
+fn r06_heavy_tables_run() {
+    let example = examples::all().pop().expect("there are examples");
+    assert_eq!(example.name, "39 negations");
+    let heavy = &examples::all()[13];
+    assert_eq!(heavy.name, "weight 65");
+    assert_eq!(evaluated(&heavy.draft, &[]), "true 68");
+}
+
+#[test]
+fn r07_15_judges_values_not_written_types() {
+    let d = draft(|d| {
+        let (s, r) = (d.literal(&ints(&[1])), d.literal(&ints(&[1])));
+        let none = d.two(Kind::Difference, s, r);
+        let truths = d.leaf(Kind::BoolSet);
+        let joined = d.two(Kind::Union, none, truths);
+        let card = d.one(Kind::Card, joined);
+        let n = d.integer(2);
+        d.two(Kind::Equal, card, n);
+    });
+    assert_eq!(checked(&d), "refused 11 6");
+    assert_eq!(evaluated(&d, &[]), "true 10");
+}
+
+#[test]
+fn r07_one_empty_set_serves_at_two_types() {
+    let d = draft(|d| {
+        let x = d.identifier(0);
+        let (s, r) = (d.using(x), d.literal(&ints(&[1])));
+        let p = d.two(Kind::Subset, s, r);
+        let (s, r) = (d.using(x), d.leaf(Kind::BoolSet));
+        let q = d.two(Kind::Subset, s, r);
+        d.two(Kind::And, p, q);
+    });
+    assert_eq!(evaluated(&d, &[ints(&[])]), "true 8");
+    assert_eq!(evaluated(&d, &[ints(&[1])]), "refused 15 6 8");
+}
+
+fn quantified(kind: Kind, range: &Value) -> Draft {
+    draft(|d| {
+        let x = d.identifier(1);
+        let s = d.literal(range);
+        let (e, f) = (d.using(x), d.one(Kind::Truth, 1));
+        let body = d.two(Kind::Equal, e, f);
+        d.node(kind, x, s, body);
+    })
+}
+
+#[test]
+fn r08_15_at_a_binder_comes_before_the_body() {
+    assert_eq!(
+        evaluated(&quantified(Kind::ForAll, &int(1)), &[]),
+        "refused 15 4 2"
+    );
+    assert_eq!(
+        evaluated(&quantified(Kind::Exists, &ints(&[])), &[]),
+        "false 2"
+    );
+    assert_eq!(
+        evaluated(&quantified(Kind::ForAll, &ints(&[])), &[]),
+        "true 2"
+    );
+    assert_eq!(
+        evaluated(&quantified(Kind::ForAll, &ints(&[1])), &[]),
+        "refused 15 4 6"
+    );
+}
+
+/// f(e) = 1
+fn applied(f: &Value, e: &Value) -> String {
+    let d = draft(|d| {
+        let (x, y) = (d.identifier(0), d.identifier(0));
+        let (s, a) = (d.using(x), d.using(y));
+        let value = d.two(Kind::Application, s, a);
+        let n = d.integer(1);
+        d.two(Kind::Equal, value, n);
+    });
+    evaluated(&d, &[f.clone(), e.clone()])
+}
+
+#[test]
+fn r09_application_shares_one_type_with_all_first_parts() {
+    let relation = |pairs: &[(Value, i32)]| {
+        set(pairs
+            .iter()
+            .map(|(e, n)| both(e.clone(), int(*n)))
+            .collect())
+    };
+    let numbers = relation(&[(int(1), 2), (int(1), 1), (int(3), 4)]);
+    assert_eq!(applied(&numbers, &int(1)), "true 5");
+    assert_eq!(applied(&numbers, &int(3)), "false 5");
+    assert_eq!(applied(&numbers, &int(2)), "refused 16 2 4");
+    assert_eq!(applied(&numbers, &truth(true)), "refused 15 2 4");
+    assert_eq!(applied(&ints(&[]), &truth(true)), "refused 16 2 4");
+    assert_eq!(applied(&ints(&[1]), &int(1)), "refused 15 2 4");
+    let sets = relation(&[(ints(&[]), 1), (ints(&[1]), 2)]);
+    assert_eq!(applied(&sets, &ints(&[])), "true 5");
+    assert_eq!(applied(&sets, &ints(&[7])), "refused 16 2 4");
+    assert_eq!(applied(&sets, &set(vec![truth(true)])), "refused 15 2 4");
+}
+
+#[test]
+fn r10_unlike_sets_are_refused_at_all_four_kinds() {
+    let (numbers, truths) = (ints(&[1]), set(vec![truth(true)]));
+    let subset = relation(Kind::Subset, &numbers, &truths);
+    assert_eq!(evaluated(&subset, &[]), "refused 15 4 5");
+    for kind in [Kind::Union, Kind::Intersection, Kind::Difference] {
+        let d = card_of(kind, &numbers, &truths, 0);
+        assert_eq!(evaluated(&d, &[]), "refused 15 4 7");
+    }
+}
+
+#[test]
+fn r10_the_empty_set_has_a_domain_and_a_range() {
+    for kind in [Kind::Domain, Kind::Range] {
+        let d = draft(|d| {
+            let s = d.leaf(Kind::Empty);
+            let image = d.one(kind, s);
+            let r = d.leaf(Kind::Empty);
+            d.two(Kind::Equal, image, r);
+        });
+        assert_eq!(evaluated(&d, &[]), "true 4");
+    }
+}
+
+#[test]
+fn r10_unlike_operands_of_the_other_kinds() {
+    let unlike = [
+        (Kind::Equal, int(1), truth(true)),
+        (Kind::Member, int(1), set(vec![truth(true)])),
+        (Kind::Member, ints(&[]), ints(&[1])),
+        (Kind::AtMost, int(1), truth(true)),
+    ];
+    for (kind, e, f) in unlike {
+        let answer = evaluated(&relation(kind, &e, &f), &[]);
+        assert!(answer.starts_with("refused 15 "), "{kind:?} {answer}");
+    }
+    // (a,(b,c)) is not ((a,b),c).
+    let (left, right) = (
+        both(int(1), both(int(2), int(3))),
+        both(both(int(1), int(2)), int(3)),
+    );
+    let d = relation(Kind::Equal, &left, &right);
+    assert_eq!(checked(&d), "refused 11 10");
+    assert_eq!(evaluated(&d, &[]), "refused 15 10 11");
+}
+
+#[test]
+fn r11_members_share_one_type_all_at_once() {
+    let member = |n, part| both(int(n), part);
+    let unlike = set(vec![
+        member(1, ints(&[1])),
+        member(2, ints(&[])),
+        member(3, set(vec![truth(true)])),
+    ]);
+    assert_eq!(evaluated(&lent(&[]), &[unlike]), "refused 14 0 0");
+    // Each empty set has a hole of its own.
+    let alike = set(vec![
+        both(ints(&[]), ints(&[])),
+        both(ints(&[1]), set(vec![truth(true)])),
+    ]);
+    assert_eq!(evaluated(&lent(&[]), &[alike]), "true 3");
+}
+
+#[test]
+fn r12_a_257th_cell_is_a_fault() {
+    let members: Vec<i32> = (0..256).collect();
+    assert_eq!(evaluated(&lent(&[]), &[ints(&members[..255])]), "true 3");
+    let heavy = cells(&[ints(&members)]);
+    assert_eq!(lent_bytes(&[], &heavy), "refused 14 0 0");
+    assert_eq!(lent_bytes(&[], &heavy[..256 * 8]), "refused 14 0 0");
+    assert_eq!(lent_bytes(&[], &cell(5, u32::MAX)), "refused 14 0 0");
+    let deep = [cell(4, 0).repeat(300), cell(1, 1).repeat(301)].concat();
+    assert_eq!(lent_bytes(&[], &deep), "refused 14 0 0");
+}
+
+#[test]
+fn r13_elements_by_payload() {
+    for (payload, answer) in [
+        (0, "true 3"),
+        (1, "true 3"),
+        (2, "refused 14 0 0"),
+        (256, "true 3"),
+        (257, "refused 14 0 0"),
+        (512, "refused 14 0 0"),
+        (0x1_0000, "refused 14 0 0"),
+        (u32::MAX, "refused 14 0 0"),
+    ] {
+        assert_eq!(lent_bytes(&[2, 1], &cell(3, payload)), answer, "{payload}");
+    }
+}
+
+#[test]
+fn r12_malformed_cells() {
+    let bad = [
+        cell(0, 0),
+        cell(6, 0),
+        cell(2, 2),
+        cell(4, 1),
+        [1, 0, 0, 0, 1, 1, 0, 0],
+        [1, 0, 0, 0, 1, 0, 0, 1],
+    ];
+    for buffer in bad {
+        let buffer = [buffer, cell(1, 1), cell(1, 1)].concat();
+        assert_eq!(lent_bytes(&[], &buffer), "refused 14 0 0");
+    }
+    let falling = [cell(5, 2), cell(1, 1), cell(1, u32::MAX)].concat();
+    assert_eq!(lent_bytes(&[], &falling), "refused 14 0 0");
+    let repeated = [cell(5, 2), cell(1, 1), cell(1, 1)].concat();
+    assert_eq!(lent_bytes(&[], &repeated), "refused 14 0 0");
+    let rising = [cell(5, 2), cell(1, u32::MAX), cell(1, 1)].concat();
+    assert_eq!(lent_bytes(&[], &rising), "true 3");
+}
+
+#[test]
+fn r14_extent_of_the_buffer() {
+    assert_eq!(lent_bytes(&[], &[]), "refused 14 0 0");
+    assert_eq!(lent_bytes(&[], &cell(1, 1)[..7]), "refused 14 0 0");
+    assert_eq!(
+        lent_bytes(&[], &[&cell(1, 1)[..], &[0]].concat()),
+        "refused 14 1 0"
+    );
+    let closed = draft(|d| {
+        one_is_one(d);
+    });
+    assert_eq!(
+        evaluate_answer(&closed.bytes(), &[0], 100),
+        "refused 14 0 0"
+    );
+    // An unused free identifier has a value; a faulty value precedes surplus.
+    let unused = draft(|d| {
+        d.identifier(0);
+        d.identifier(0);
+        one_is_one(d);
+    });
+    assert_eq!(
+        evaluate_answer(&unused.bytes(), &cell(1, 1), 100),
+        "refused 14 1 0"
+    );
+    let both = [cell(1, 1), cell(9, 1), cell(1, 1)].concat();
+    assert_eq!(
+        evaluate_answer(&unused.bytes(), &both, 100),
+        "refused 14 1 0"
+    );
+    let surplus = [cell(1, 1), cell(1, 1), cell(9, 1)].concat();
+    assert_eq!(
+        evaluate_answer(&unused.bytes(), &surplus, 100),
+        "refused 14 2 0"
+    );
+}
+
+#[test]
+fn r14_bound_identifiers_have_no_value_in_the_buffer() {
+    let d = draft(|d| {
+        let x = d.identifier(1);
+        let y = d.identifier(0);
+        let s = d.using(y);
+        let body = one_is_one_using(d, x);
+        d.node(Kind::ForAll, x, s, body);
+    });
+    assert_eq!(evaluated(&d, &[ints(&[1, 2])]), "true 8");
+    assert_eq!(evaluated(&d, &[]), "refused 14 1 0");
+    assert_eq!(evaluated(&d, &[ints(&[]), int(1)]), "refused 14 2 0");
+}
+
+fn one_is_one_using(d: &mut Draft, x: u32) -> u32 {
+    let (e, f) = (d.using(x), d.using(x));
+    d.two(Kind::Equal, e, f)
+}
+
+#[test]
+fn r15_fields_and_children() {
+    let mut own_child = draft(|d| {
+        one_is_one(d);
+    });
+    own_child.nodes[2] = [Kind::Not as u32, 2, 0, 0];
+    assert_eq!(checked(&own_child), "refused 6 2");
+    let wrong_category = draft(|d| {
+        let e = d.integer(1);
+        d.one(Kind::Not, e);
+    });
+    assert_eq!(checked(&wrong_category), "refused 6 1");
+    let binds_free = draft(|d| {
+        let x = d.identifier(0);
+        let s = d.leaf(Kind::BoolSet);
+        let body = one_is_one(d);
+        d.node(Kind::ForAll, x, s, body);
+    });
+    assert_eq!(checked(&binds_free), "refused 9 0");
+    let any_word = relation(Kind::Equal, &int(i32::MIN), &int(-1));
+    assert!(checked(&any_word).starts_with("accepted"));
+    let unused_field = draft(|d| {
+        d.node(Kind::Empty, 0, 0, 1);
+    });
+    assert_eq!(checked(&unused_field), "refused 6 0");
+    for (kind, expected) in [
+        (0, "6 0"),
+        (12, "6 0"),
+        (19, "6 0"),
+        (44, "6 0"),
+        (20, "6 0"),
+    ] {
+        let mut d = Draft::default();
+        d.nodes.push([kind, 0, 0, 0]);
+        assert_eq!(checked(&d), format!("refused {expected}"), "{kind}");
+    }
+}
+
+#[test]
+fn r16_children_counted_by_field() {
+    let twice = draft(|d| {
+        let e = d.integer(1);
+        d.two(Kind::Equal, e, e);
+    });
+    assert_eq!(checked(&twice), "refused 7 0");
+    let orphan = draft(|d| {
+        d.integer(1);
+        one_is_one(d);
+    });
+    assert_eq!(checked(&orphan), "refused 7 0");
+    let expression = draft(|d| {
+        let p = one_is_one(d);
+        d.one(Kind::Bool, p);
+    });
+    assert_eq!(checked(&expression), "refused 7 3");
+    let single = draft(|d| {
+        d.integer(1);
+    });
+    assert_eq!(checked(&single), "refused 7 0");
+}
+
+#[test]
+fn r17_least_node_above_the_height() {
+    let d = draft(|d| {
+        let mut p = one_is_one(d);
+        for _ in 0..45 {
+            p = d.one(Kind::Not, p);
+        }
+    });
+    assert_eq!(checked(&d), "refused 8 41");
+}
+
+#[test]
+fn r18_binding() {
+    let without_use = draft(|d| {
+        let x = d.identifier(1);
+        let s = d.leaf(Kind::BoolSet);
+        let body = one_is_one(d);
+        d.node(Kind::ForAll, x, s, body);
+    });
+    assert!(checked(&without_use).starts_with("accepted"));
+    let without_binder = draft(|d| {
+        d.identifier(1);
+        one_is_one(d);
+    });
+    assert_eq!(checked(&without_binder), "refused 9 0");
+}
+
+#[test]
+fn r18_uses_outside_the_body() {
+    let used_in_range = draft(|d| {
+        let x = d.identifier(1);
+        let e = d.using(x);
+        let s = d.one(Kind::Singleton, e);
+        let body = one_is_one(d);
+        d.node(Kind::ForAll, x, s, body);
+    });
+    assert_eq!(checked(&used_in_range), "refused 9 0");
+    let used_outside = draft(|d| {
+        d.identifier(0);
+        let x = d.identifier(1);
+        let s = d.leaf(Kind::BoolSet);
+        let body = one_is_one(d);
+        let p = d.node(Kind::ForAll, x, s, body);
+        let q = one_is_one_using(d, x);
+        d.two(Kind::And, p, q);
+    });
+    assert_eq!(checked(&used_outside), "refused 9 1");
+    let two_binders = draft(|d| {
+        let x = d.identifier(1);
+        let s = d.leaf(Kind::BoolSet);
+        let body = one_is_one(d);
+        let p = d.node(Kind::ForAll, x, s, body);
+        let s = d.leaf(Kind::BoolSet);
+        d.node(Kind::Exists, x, s, p);
+    });
+    assert_eq!(checked(&two_binders), "refused 9 0");
+}
+
+#[test]
+fn r19_words_are_unsigned_and_2_precedes_3() {
+    let sound = draft(|d| {
+        one_is_one(d);
+    })
+    .bytes();
+    let with = |index: usize, word: u32| {
+        let mut bytes = sound.clone();
+        bytes[4 * index..4 * index + 4].copy_from_slice(&word.to_le_bytes());
+        check_answer(&bytes, 192)
+    };
+    assert_eq!(with(0, 2), "refused 1 0");
+    for index in 1..4 {
+        assert_eq!(with(index, u32::MAX), "refused 2 0");
+    }
+    assert_eq!(with(3, 0), "refused 2 0");
+    assert_eq!(with(3, 513), "refused 2 0");
+    assert_eq!(with(3, 4), "refused 3 0");
+    for index in 4..8 {
+        assert_eq!(with(index, u32::MAX), "refused 3 0");
+    }
+    assert_eq!(check_answer(&sound[..31], 0), "refused 1 0");
+    assert_eq!(
+        check_answer(&[sound.clone(), vec![0]].concat(), 0),
+        "refused 3 0"
+    );
+}
+
+#[test]
+fn r19_sizes_and_flags() {
+    for (size, answer) in [
+        (0, "refused 4 1"),
+        (33, "refused 4 1"),
+        (u32::MAX, "refused 4 1"),
+    ] {
+        let d = draft(|d| {
+            d.sizes.extend([1, size]);
+            one_is_one(d);
+        });
+        assert_eq!(checked(&d), answer);
+    }
+    let d = draft(|d| {
+        d.flags.extend([0, 2]);
+        one_is_one(d);
+    });
+    assert_eq!(checked(&d), "refused 5 1");
+}
+
+#[test]
+fn r20_steps_and_budgets() {
+    let d = draft(|d| {
+        one_is_one(d);
+    });
+    for (budget, answer) in [
+        (0, "refused 19 2 0"),
+        (1, "refused 19 0 1"),
+        (2, "refused 19 1 2"),
+        (3, "true 3"),
+        (u32::MAX, "true 3"),
+    ] {
+        assert_eq!(evaluate_answer(&d.bytes(), &[], budget), answer);
+    }
+}
+
+#[test]
+fn r21_which_operands_run() {
+    let steps = |kind: Kind, p: i32, q: i32| {
+        let d = draft(|d| {
+            let mut clause = |n: i32| {
+                let (e, f) = (d.integer(1), d.integer(n));
+                d.two(Kind::Equal, e, f)
+            };
+            let (p, q) = (clause(p), clause(q));
+            d.two(kind, p, q);
+        });
+        evaluated(&d, &[])
+    };
+    assert_eq!(steps(Kind::And, 0, 1), "false 4");
+    assert_eq!(steps(Kind::And, 1, 1), "true 7");
+    assert_eq!(steps(Kind::Or, 1, 0), "true 4");
+    assert_eq!(steps(Kind::Or, 0, 0), "false 7");
+    assert_eq!(steps(Kind::Implies, 0, 0), "true 4");
+    assert_eq!(steps(Kind::Implies, 1, 0), "false 7");
+    assert_eq!(steps(Kind::Equivalent, 0, 0), "true 7");
+    assert_eq!(steps(Kind::Equivalent, 0, 1), "false 7");
+}
+
+#[test]
+fn r21_quantifiers_stop_and_comprehension_does_not() {
+    let d = |kind: Kind| {
+        draft(|d| {
+            let x = d.identifier(1);
+            let s = d.identifier(0);
+            let range = d.using(s);
+            let (e, f) = (d.using(x), d.integer(2));
+            let body = d.two(Kind::AtMost, e, f);
+            let made = d.node(kind, x, range, body);
+            if kind == Kind::Comprehension {
+                let wanted = d.literal(&ints(&[1, 2]));
+                d.two(Kind::Equal, made, wanted);
+            }
+        })
+    };
+    let range = ints(&[1, 2, 3, 4]);
+    let answer = |kind| evaluated(&d(kind), std::slice::from_ref(&range));
+    assert_eq!(answer(Kind::ForAll), "false 11");
+    assert_eq!(answer(Kind::Exists), "true 5");
+    assert_eq!(answer(Kind::Comprehension), "true 20");
+}
+
+#[test]
+fn r22_order_of_values() {
+    let rising = [
+        int(i32::MIN),
+        int(-1),
+        int(0),
+        int(i32::MAX),
+        truth(false),
+        truth(true),
+        Value::Element(0, 31),
+        Value::Element(1, 0),
+        both(int(1), int(9)),
+        both(int(2), int(0)),
+        ints(&[]),
+        ints(&[9]),
+        ints(&[1, 4]),
+        ints(&[2, 3]),
+        ints(&[0, 1, 2]),
+    ];
+    for i in 0..rising.len() {
+        for j in 0..rising.len() {
+            assert_eq!(rising[i].cmp(&rising[j]), i.cmp(&j), "{i} {j}");
+        }
+    }
+}
+
+#[test]
+fn r23_weights_of_what_is_formed() {
+    let interval = |low: i32, high: i32| -> Value { set((low..=high).map(int).collect()) };
+    let joined = |a: Value, b: Value, kind: Kind| {
+        let d = draft(|d| {
+            let (x, y) = (d.identifier(0), d.identifier(0));
+            let (s, r) = (d.using(x), d.using(y));
+            let made = d.two(kind, s, r);
+            let single = d.one(Kind::Singleton, made);
+            let card = d.one(Kind::Card, single);
+            let n = d.integer(1);
+            d.two(Kind::Equal, card, n);
+        });
+        evaluated(&d, &[a, b])
+    };
+    // The union weighs 256; its singleton 257.
+    let (a, b) = (interval(1, 200), interval(100, 255));
+    assert_eq!(joined(a.clone(), b, Kind::Union), "refused 18 3 6");
+    assert_eq!(joined(a.clone(), interval(100, 254), Kind::Union), "true 7");
+    assert_eq!(
+        joined(a.clone(), interval(100, 256), Kind::Union),
+        "refused 18 2 6"
+    );
+    assert_eq!(
+        joined(a.clone(), interval(1, 53), Kind::Pair),
+        "refused 18 3 6"
+    );
+    assert_eq!(joined(a, interval(1, 54), Kind::Pair), "refused 18 2 6");
+}
+
+#[test]
+fn r23_intervals_products_and_power_sets_at_the_limit() {
+    let interval = |d: &mut Draft, low, high| {
+        let (e, f) = (d.integer(low), d.integer(high));
+        d.two(Kind::Interval, e, f)
+    };
+    let counted = |low, high| {
+        let d = draft(|d| {
+            let s = interval(d, low, high);
+            let card = d.one(Kind::Card, s);
+            let n = d.integer(255);
+            d.two(Kind::Equal, card, n);
+        });
+        evaluated(&d, &[])
+    };
+    assert_eq!(counted(1, 255), "true 6");
+    assert_eq!(counted(1, 256), "refused 18 2 5");
+    assert_eq!(counted(i32::MIN, i32::MAX), "refused 18 2 5");
+    assert_eq!(counted(i32::MAX, i32::MIN), "false 6");
+    assert_eq!(counted(i32::MAX - 254, i32::MAX), "true 6");
+    let product = |m, n| {
+        let d = draft(|d| {
+            let (s, r) = (interval(d, 1, m), interval(d, 1, n));
+            let made = d.two(Kind::Product, s, r);
+            let card = d.one(Kind::Card, made);
+            let n = d.integer(85);
+            d.two(Kind::Equal, card, n);
+        });
+        evaluated(&d, &[])
+    };
+    assert_eq!(product(5, 17), "true 10");
+    assert_eq!(product(2, 43), "refused 18 6 9");
+    assert_eq!(product(255, 255), "refused 18 6 9");
+    assert_eq!(product(0, 255), "false 10");
+}
+
+#[test]
+fn r24_every_line_of_a_listing_ends() {
+    for example in examples::all() {
+        let text = listing(&example.draft.bytes());
+        assert!(text.ends_with('\n'));
+        let last = text.lines().last().expect("there is a line");
+        assert!(last == "accepted" || last.starts_with("refused "));
+    }
+}
