@@ -10,3 +10,7 @@ pub mod SetTypes
 pub mod Soundness
 pub mod SetOrder
 pub mod FormedLaws
+pub mod TypeLaws
+pub mod VerdictLaws
+pub mod Rows
+pub mod Tried
