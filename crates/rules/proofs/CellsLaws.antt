@@ -169,7 +169,7 @@ head-cell v d bs h =
     let p = twos (payload v) in
     let n = length (cell v ++ bs) in
     rw (word-bytes p (tag v ∷ 0 ∷ 0 ∷ 0 ∷ bs) h)
-      (onlyIf-true (leb 8 n && true) (byTag (λ bs₁. valueTo d bs₁) (tag v) p bs) (and-both (leb 8 n) true (le→leb 8 n (omega arith)) tt))
+    (onlyIf-true (leb 8 n && true) (byTag (λ bs₁. valueTo d bs₁) (tag v) p bs) (and-both (leb 8 n) true (le→leb 8 n (omega arith)) tt))
 
 pair-cells : (r : List ℕ → Read Value) (v w : Value) (a b : List ℕ) (bs : List ℕ) →
     r (a ++ (b ++ bs)) ≡ some (v, b ++ bs) → r (b ++ bs) ≡ some (w, bs) → byTag r 4 0 ((a ++ b) ++ bs) ≡ some (pair v w, bs)
@@ -209,7 +209,7 @@ mutual
   valueTo-cells (pair v w) (suc d) rest l h =
       head-cell (pair v w) d ((cells v ++ cells w) ++ rest) (payload-word (pair v w) h) ∙
       pair-cells (λ bs. valueTo d bs) v w (cells v) (cells w) rest
-        (valueTo-cells v d (cells w ++ rest) (omega arith) (h .0)) (valueTo-cells w d rest (omega arith) (h .1))
+      (valueTo-cells v d (cells w ++ rest) (omega arith) (h .0)) (valueTo-cells w d rest (omega arith) (h .1))
   valueTo-cells (set s) zero rest l h = absurd (omega arith)
   valueTo-cells (set s) (suc d) rest l h =
       head-cell (set s) d (cellsOf s ++ rest) (payload-word (set s) h) ∙
@@ -220,7 +220,7 @@ mutual
   several-cells none d rest l h = refl
   several-cells (v ▸ vs) d rest l h =
       several-cons (λ bs. valueTo d bs) (count vs) v vs (cells v) (cellsOf vs) rest
-        (valueTo-cells v d (cellsOf vs ++ rest) (omega arith) (h .0)) (several-cells vs d rest (omega arith) (h .1))
+      (valueTo-cells v d (cellsOf vs ++ rest) (omega arith) (h .0)) (several-cells vs d rest (omega arith) (h .1))
 
 -- No set has more members than weight.
 pub count-weights : (s : Values) → count s ≤ weights s
@@ -269,9 +269,10 @@ mutual
   encodable-risingAll gs h (v ▸ vs) l t =
       let a = wellFormed gs v in
       let b = precedes v vs in
-      let c = risingAll gs vs in
-      (encodable-wellFormed gs h v (omega arith) (and-left a b (and-left (a && b) c t)),
-        encodable-risingAll gs h vs (omega arith) (and-right (a && b) c t))
+      let c = risingAll gs vs in (
+        encodable-wellFormed gs h v (omega arith) (and-left a b (and-left (a && b) c t)),
+        encodable-risingAll gs h vs (omega arith) (and-right (a && b) c t),
+      )
 
 -- The three parts of `good`.
 pub good-wellFormed : (gs : List ℕ) (v : Value) → T (good gs v) → T (wellFormed gs v)
@@ -283,7 +284,7 @@ pub good-weight : (gs : List ℕ) (v : Value) → T (good gs v) → weight v ≤
 unfolding good
 good-weight gs v t =
     leb→le (weight v) weightLimit
-      (and-right (wellFormed gs v) (leb (weight v) weightLimit) (and-left (wellFormed gs v && leb (weight v) weightLimit) (typed v) t))
+    (and-right (wellFormed gs v) (leb (weight v) weightLimit) (and-left (wellFormed gs v && leb (weight v) weightLimit) (typed v) t))
 
 pub good-typed : (gs : List ℕ) (v : Value) → T (good gs v) → T (typed v)
 unfolding good
@@ -344,8 +345,16 @@ word-at bs i h = omega (arith, byte-at bs i h, byte-at bs (1 + i) h, byte-at bs 
 eight : (bs : List ℕ) → 8 ≤ length bs →
     bs ≡ getD bs 0 0 ∷ getD bs 1 0 ∷ getD bs 2 0 ∷ getD bs 3 0 ∷ getD bs 4 0 ∷ getD bs 5 0 ∷ getD bs 6 0 ∷ getD bs 7 0 ∷ drop 8 bs
 eight bs h =
-    cc (drop-cons bs 0 0 (omega arith), drop-cons bs 1 0 (omega arith), drop-cons bs 2 0 (omega arith), drop-cons bs 3 0 (omega arith),
-      drop-cons bs 4 0 (omega arith), drop-cons bs 5 0 (omega arith), drop-cons bs 6 0 (omega arith), drop-cons bs 7 0 (omega arith))
+    cc (
+      drop-cons bs 0 0 (omega arith),
+      drop-cons bs 1 0 (omega arith),
+      drop-cons bs 2 0 (omega arith),
+      drop-cons bs 3 0 (omega arith),
+      drop-cons bs 4 0 (omega arith),
+      drop-cons bs 5 0 (omega arith),
+      drop-cons bs 6 0 (omega arith),
+      drop-cons bs 7 0 (omega arith),
+    )
 
 -- A reader is right where what it reads is the cells in front.
 abbrev pub Right : (List ℕ → Read Value) → Type 0
@@ -366,7 +375,7 @@ several-right r h (suc n) bs vs rest b e =
     let a : bs ≡ cells v ++ bs₁ = h bs v bs₁ b (p .1) in
     let c = several-right r h n bs₁ ws bs₂ (bytes-after (cells v) bs₁ (subst Bytes a b)) (q .1) in
     read-at (λ ws′ rest′. (count ws′ ≡ suc n) × (bs ≡ cellsOf ws′ ++ rest′)) (v ▸ ws) vs bs₂ rest (q .2)
-      (omega (arith, c .0), a ∙ cc (c .1, append-assoc (cells v) (cellsOf ws) bs₂))
+    (omega (arith, c .0), a ∙ cc (c .1, append-assoc (cells v) (cellsOf ws) bs₂))
 
 -- What the reading by tag owes: the value's tag and payload, and that the bytes behind its first cell are its other cells and the rest.
 abbrev Shown : ℕ → ℕ → List ℕ → Value → List ℕ → Type 0
@@ -404,7 +413,7 @@ module _ (r : List ℕ → Read Value) (h : Right r) (p : ℕ) (bs : List ℕ) (
       let a : bs ≡ cells x ++ bs₁ = h bs x bs₁ b (f .1) in
       let d : bs₁ ≡ cells y ++ bs₂ = h bs₁ y bs₂ (bytes-after (cells x) bs₁ (subst Bytes a b)) (g .1) in
       read-at (Shown 4 p bs) (pair x y) v bs₂ rest (g .2)
-        (refl, sym (eqb→eq p 0 (c .0)), pair-bytes x y bs bs₁ bs₂ a d)
+      (refl, sym (eqb→eq p 0 (c .0)), pair-bytes x y bs bs₁ bs₂ a d)
 
   set-right : Bytes bs → byTag r 5 p bs ≡ some (v, rest) → Shown 5 p bs v rest
   unfolding twos cells
@@ -439,7 +448,7 @@ cell-bytes bs v b l z t w =
     let z₆ : getD bs 6 0 ≡ 0 = omega arith in
     let z₇ : getD bs 7 0 ≡ 0 = omega arith in
     let q = bytes-word (getD bs 0 0) (getD bs 1 0) (getD bs 2 0) (getD bs 3 0)
-              (byte-at bs 0 b) (byte-at bs 1 b) (byte-at bs 2 b) (byte-at bs 3 b) in
+    (byte-at bs 0 b) (byte-at bs 1 b) (byte-at bs 2 b) (byte-at bs 3 b) in
     eight bs l ∙ cell-parts (bytes4 (twos (payload v))) _ _ _ _ _ _ _ _ _ _ (rw w q) t z₅ z₆ z₇
 
 -- A run of bytes that reads is the cells of what it reads, and the rest.
@@ -451,9 +460,9 @@ valueTo-right (suc d) bs v rest b e =
     let c₂ = eqb (getD bs 5 0 + getD bs 6 0 + getD bs 7 0) 0 in
     let f = onlyIf-some (c₁ && c₂) (byTag (λ bs₁. valueTo d bs₁) (getD bs 4 0) (wordAt bs 0) (drop 8 bs)) (v, rest) e in
     let q = byTag-right (λ bs₁. valueTo d bs₁) (valueTo-right d) (wordAt bs 0) (drop 8 bs) v rest (getD bs 4 0)
-              (bytes-drop 8 bs b) (word-at bs 0 b) (f .1) in
+    (bytes-drop 8 bs b) (word-at bs 0 b) (f .1) in
     cell-bytes bs v b (leb→le 8 (length bs) (and-left c₁ c₂ (f .0)))
-      (eqb→eq (getD bs 5 0 + getD bs 6 0 + getD bs 7 0) 0 (and-right c₁ c₂ (f .0))) (q .0) (q .1) ∙ sym (q .2)
+    (eqb→eq (getD bs 5 0 + getD bs 6 0 + getD bs 7 0) 0 (and-right c₁ c₂ (f .0))) (q .0) (q .1) ∙ sym (q .2)
 
 -- Every run of bytes that reads is the cells of what it reads.
 pub cells-value : (bs : List ℕ) (v : Value) (rest : List ℕ) → Bytes bs → value bs ≡ some (v, rest) → bs ≡ cells v ++ rest

@@ -115,9 +115,10 @@ unlessFound-refused r (some q) s p e = (cc, cc)
 -- `requireAll` goes on exactly where each number below n passes.
 pub requireAll-done : (r : ℕ) (ok : ℕ → Bool) (n : ℕ) → (requireAll r ok n ≡ done tt) ↔ ((j : ℕ) → j < n → ok j ≡ true)
 unfolding requireAll
-requireAll-done r ok n =
-    (λ e j hi. leastFailing-none ok 0 n .0 (unlessFound-done r (leastFailing ok 0 n) .0 e) j (omega arith) (omega arith),
-    λ f. rw (leastFailing-none ok 0 n .1 (λ j lo hi. f j (omega arith))))
+requireAll-done r ok n = (
+  λ e j hi. leastFailing-none ok 0 n .0 (unlessFound-done r (leastFailing ok 0 n) .0 e) j (omega arith) (omega arith),
+  λ f. rw (leastFailing-none ok 0 n .1 (λ j lo hi. f j (omega arith))),
+)
 
 -- It refuses with its own number,
 pub requireAll-number : (r : ℕ) (ok : ℕ → Bool) (n s p : ℕ) → requireAll r ok n ≡ refused s p → (s ≡ r) × (leastFailing ok 0 n ≡ some p)
@@ -128,10 +129,11 @@ requireAll-number r ok n s p e = unlessFound-refused r (leastFailing ok 0 n) s p
 pub requireAll-refused : (r : ℕ) (ok : ℕ → Bool) (n p : ℕ) →
     (requireAll r ok n ≡ refused r p) ↔ ((p < n) × (ok p ≡ false) × ((j : ℕ) → j < p → ok j ≡ true))
 unfolding requireAll
-requireAll-refused r ok n p =
-    (λ e. let s : Sought ok 0 n (some p) = leastFailing-some ok 0 n p .0 (requireAll-number r ok n r p e .1) in
+requireAll-refused r ok n p = (
+  λ e. let s : Sought ok 0 n (some p) = leastFailing-some ok 0 n p .0 (requireAll-number r ok n r p e .1) in
       (omega arith, s .2, λ j hi. s .3 j (omega arith) hi),
-    λ h. rw (leastFailing-some ok 0 n p .1 (omega arith, omega arith, h .1, λ j lo hi. h .2 j hi)))
+  λ h. rw (leastFailing-some ok 0 n p .1 (omega arith, omega arith, h .1, λ j lo hi. h .2 j hi)),
+)
 
 -- Each entry of a list has a property.
 abbrev pub Each : {A : Type 0} → (A → Type 0) → List A → Type 0

@@ -180,9 +180,10 @@ some→inhabited (p ×ˢ q) (t ⊗ u) h = and-of (inhabited p) (inhabited q) (so
 -- `typed` (a part of refusal 14) says that a value has a type.
 pub typed-right : (v : Value) → T (typed v) ↔ ((t : Ty) × HasType v t)
 unfolding typed
-typed-right v =
-    ((λ h. let r = inhabited→some (shape v) h in (r .0, shape→has v (r .0) (r .1))),
-    (λ x. some→inhabited (shape v) (x .0) (has→shape v (x .0) (x .1))))
+typed-right v = (
+  (λ h. let r = inhabited→some (shape v) h in (r .0, shape→has v (r .0) (r .1))),
+  (λ x. some→inhabited (shape v) (x .0) (has→shape v (x .0) (x .1))),
+)
 
 -- A pair of types is among those left for t and u.
 abbrev pub Leaves : Asked → Ty → Ty → Type 0

@@ -177,7 +177,7 @@ delimited-apart m n a c h = delimited-cons (pos m) (pos n) a c (λ e. absurd (h 
 delimited-append : (a b c d : List ℤ) → Delimited a c → Delimited b d → Delimited (a ++ b) (c ++ d)
 delimited-append a b c d h k x y =
     rw (append-assoc a b x, append-assoc c d y, h (b ++ x) (d ++ y), k x y, h b d)
-      (sym (then-assoc (lex a c) (lex b d) (lex x y)))
+    (sym (then-assoc (lex a c) (lex b d) (lex x y)))
 
 -- What `key` adds.
 
@@ -196,7 +196,7 @@ mutual
   key-delimited (pair a b) (scalar r) = delimited-apart _ _ _ _ (λ e. omega (arith, tag-small r))
   key-delimited (pair a b) (pair c d) =
       delimited-cons _ _ _ _ (λ e. delimited-cons _ _ _ _ (λ f.
-        delimited-append (key a) (key b) (key c) (key d) (key-delimited a c) (key-delimited b d)))
+      delimited-append (key a) (key b) (key c) (key d) (key-delimited a c) (key-delimited b d)))
   key-delimited (pair a b) (set r) = delimited-apart _ _ _ _ (λ e. omega arith)
   key-delimited (set s) (scalar r) = delimited-apart _ _ _ _ (λ e. omega (arith, tag-small r))
   key-delimited (set s) (pair c d) = delimited-apart _ _ _ _ (λ e. omega arith)

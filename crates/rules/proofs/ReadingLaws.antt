@@ -50,15 +50,25 @@ header-right bs = (to, from)
         let l = limited-right bs .0 (t .1) in
         let o = laidOut-right bs .0 (t .2) in
         record {
-          long = h .0; form = h .1;
-          givens = l .0; identifiers = l .1; some-node = l .2; few-nodes = l .3;
-          givens-at = o .0; identifiers-at = o .1; nodes-at = o .2; ends-at = o .3; extent = o .4;
+          long = h .0;
+          form = h .1;
+          givens = l .0;
+          identifiers = l .1;
+          some-node = l .2;
+          few-nodes = l .3;
+          givens-at = o .0;
+          identifiers-at = o .1;
+          nodes-at = o .2;
+          ends-at = o .3;
+          extent = o .4;
         }
+
     from : Header bs → T (headed bs) × T (limited bs) × T (laidOut bs)
-    from r =
-        (headed-right bs .1 (r .long, r .form),
-        limited-right bs .1 (r .givens, r .identifiers, r .some-node, r .few-nodes),
-        laidOut-right bs .1 (r .givens-at, r .identifiers-at, r .nodes-at, r .ends-at, r .extent))
+    from r = (
+      headed-right bs .1 (r .long, r .form),
+      limited-right bs .1 (r .givens, r .identifiers, r .some-node, r .few-nodes),
+      laidOut-right bs .1 (r .givens-at, r .identifiers-at, r .nodes-at, r .ends-at, r .extent),
+    )
 
 -- Refusals 4 and 5.
 pub sizeGood-right : (tb : Table) (g : ℕ) → T (sizeGood tb g) ↔ ((1 ≤ getD (tb .sizes) g 0) × (getD (tb .sizes) g 0 ≤ 32))
@@ -162,14 +172,16 @@ records-right tb some-node = (to, from)
       heights = λ n p. heightGood-right tb n .0 (t .4 n p);
       bindings = λ x p. binding-right tb x .0 (t .5 x p);
     }
+
     from : Records tb → AllGood tb
-    from r =
-        (λ g p. sizeGood-right tb g .1 (r .sizes g p),
-        λ x p. bindGood-right tb x .1 (r .words x p),
-        λ n p. nodeGood-right tb n .1 (r .fields n p),
-        λ n p. parentGood-right tb n .1 (λ e. rw e (r .root), λ e. r .once n (omega arith)),
-        λ n p. heightGood-right tb n .1 (r .heights n p),
-        λ x p. binding-right tb x .1 (r .bindings x p))
+    from r = (
+      λ g p. sizeGood-right tb g .1 (r .sizes g p),
+      λ x p. bindGood-right tb x .1 (r .words x p),
+      λ n p. nodeGood-right tb n .1 (r .fields n p),
+      λ n p. parentGood-right tb n .1 (λ e. rw e (r .root), λ e. r .once n (omega arith)),
+      λ n p. heightGood-right tb n .1 (r .heights n p),
+      λ x p. binding-right tb x .1 (r .bindings x p),
+    )
 
 require-T : (r p : ℕ) (b : Bool) → (require r p b ≡ done tt) ↔ T b
 require-T r p b = simp (require-done, T-true) Iff·rfl
@@ -224,36 +236,63 @@ stages-good : (bs : List ℕ) → Each (λ m. m ≡ done tt) (stages bs) ↔ All
 stages-good bs = (to, from)
   where
     to : Each (λ m. m ≡ done tt) (stages bs) → AllPass bs
-    to (a, (b, (c, (d, (e, (f, (g, (h, (i, _))))))))) =
-        ((require-T 1 0 (headed bs) .0 a, require-T 2 0 (limited bs) .0 b, require-T 3 0 (laidOut bs) .0 c),
-        (search-T 4 (sizeGood (tableOf bs)) (sizes-length bs) .0 d, search-T 5 (bindGood (tableOf bs)) (binds-length bs) .0 e,
-        search-T 6 (nodeGood (tableOf bs)) (nodes-length bs) .0 f, search-T 7 (parentGood (tableOf bs)) (nodes-length bs) .0 g,
-        search-T 8 (heightGood (tableOf bs)) (nodes-length bs) .0 h, search-T 9 (binding (tableOf bs)) (binds-length bs) .0 i))
+    to (a, (b, (c, (d, (e, (f, (g, (h, (i, _))))))))) = (
+      (require-T 1 0 (headed bs) .0 a, require-T 2 0 (limited bs) .0 b, require-T 3 0 (laidOut bs) .0 c),
+      (
+        search-T 4 (sizeGood (tableOf bs)) (sizes-length bs) .0 d,
+        search-T 5 (bindGood (tableOf bs)) (binds-length bs) .0 e,
+        search-T 6 (nodeGood (tableOf bs)) (nodes-length bs) .0 f,
+        search-T 7 (parentGood (tableOf bs)) (nodes-length bs) .0 g,
+        search-T 8 (heightGood (tableOf bs)) (nodes-length bs) .0 h,
+        search-T 9 (binding (tableOf bs)) (binds-length bs) .0 i,
+      ),
+    )
+
     from : AllPass bs → Each (λ m. m ≡ done tt) (stages bs)
-    from (h, g) =
-        (require-T 1 0 (headed bs) .1 (h .0), (require-T 2 0 (limited bs) .1 (h .1), (require-T 3 0 (laidOut bs) .1 (h .2),
-        (search-T 4 (sizeGood (tableOf bs)) (sizes-length bs) .1 (g .0), (search-T 5 (bindGood (tableOf bs)) (binds-length bs) .1 (g .1),
-        (search-T 6 (nodeGood (tableOf bs)) (nodes-length bs) .1 (g .2), (search-T 7 (parentGood (tableOf bs)) (nodes-length bs) .1 (g .3),
-        (search-T 8 (heightGood (tableOf bs)) (nodes-length bs) .1 (g .4), (search-T 9 (binding (tableOf bs)) (binds-length bs) .1 (g .5), tt)))))))))
+    from (h, g) = (
+      require-T 1 0 (headed bs) .1 (h .0),
+      (
+        require-T 2 0 (limited bs) .1 (h .1),
+        (
+          require-T 3 0 (laidOut bs) .1 (h .2),
+          (
+            search-T 4 (sizeGood (tableOf bs)) (sizes-length bs) .1 (g .0),
+            (
+              search-T 5 (bindGood (tableOf bs)) (binds-length bs) .1 (g .1),
+              (
+                search-T 6 (nodeGood (tableOf bs)) (nodes-length bs) .1 (g .2),
+                (
+                  search-T 7 (parentGood (tableOf bs)) (nodes-length bs) .1 (g .3),
+                  (search-T 8 (heightGood (tableOf bs)) (nodes-length bs) .1 (g .4), (search-T 9 (binding (tableOf bs)) (binds-length bs) .1 (g .5), tt)),
+                ),
+              ),
+            ),
+          ),
+        ),
+      ),
+    )
 
 stages-right : (bs : List ℕ) → Each (λ m. m ≡ done tt) (stages bs) ↔ Readable bs
 stages-right bs = (to, from)
   where
     nodes : Header bs → 1 ≤ length (tableOf bs .nodes)
     nodes h = rw (nodes-length bs) (h .some-node)
+
     to : Each (λ m. m ≡ done tt) (stages bs) → Readable bs
     to s =
         let t = stages-good bs .0 s in
         let h : Header bs = header-right bs .0 (t .0) in
         record { header = h; records = records-right (tableOf bs) (nodes h) .0 (t .1) }
+
     from : Readable bs → Each (λ m. m ≡ done tt) (stages bs)
     from r = stages-good bs .1 (header-right bs .1 (r .header), records-right (tableOf bs) (nodes (r .header)) .1 (r .records))
 
 -- `reading` gives the table exactly where the bytes are readable.
 pub reading-right : (bs : List ℕ) → (reading bs ≡ done (tableOf bs)) ↔ Readable bs
-reading-right bs =
-    (λ e. stages-right bs .0 (inTurn-done (stages bs) (tableOf bs) (tableOf bs) (sym (reading-stages bs) ∙ e) .0),
-    λ r. reading-stages bs ∙ inTurn-passed (stages bs) (tableOf bs) (stages-right bs .1 r))
+reading-right bs = (
+  λ e. stages-right bs .0 (inTurn-done (stages bs) (tableOf bs) (tableOf bs) (sym (reading-stages bs) ∙ e) .0),
+  λ r. reading-stages bs ∙ inTurn-passed (stages bs) (tableOf bs) (stages-right bs .1 r),
+)
 
 -- It gives no other table, and none for bytes that are not readable.
 pub reading-table : (bs : List ℕ) (tb : Table) → reading bs ≡ done tb → tb ≡ tableOf bs
@@ -265,15 +304,32 @@ reading-readable bs tb e = stages-right bs .0 (inTurn-done (stages bs) (tableOf 
 -- Its refusals have the numbers 1 to 9.
 pub reading-numbers : (bs : List ℕ) (r p : ℕ) → reading bs ≡ refused r p → (1 ≤ r) × (r ≤ 9)
 reading-numbers bs r p e =
-    inTurn-refused (stages bs) (tableOf bs) r p ((1 ≤ r) × (r ≤ 9)) (sym (reading-stages bs) ∙ e)
-    (single 1 (headed bs) tt, (single 2 (limited bs) tt, (single 3 (laidOut bs) tt,
-    (least 4 (badSize bs) tt, (least 5 (badWord bs) tt, (least 6 (badNode bs) tt,
-    (least 7 (badParent bs) tt, (least 8 (badHeight bs) tt, (least 9 (badBinding bs) tt, tt)))))))))
+    inTurn-refused (stages bs) (tableOf bs) r p ((1 ≤ r) × (r ≤ 9)) (sym (reading-stages bs) ∙ e) (
+      single 1 (headed bs) tt,
+      (
+        single 2 (limited bs) tt,
+        (
+          single 3 (laidOut bs) tt,
+          (
+            least 4 (badSize bs) tt,
+            (
+              least 5 (badWord bs) tt,
+              (
+                least 6 (badNode bs) tt,
+                (least 7 (badParent bs) tt, (least 8 (badHeight bs) tt, (least 9 (badBinding bs) tt, tt))),
+              ),
+            ),
+          ),
+        ),
+      ),
+    )
   where
     within : (k : ℕ) → T (leb 1 k && leb k 9) → r ≡ k → (1 ≤ r) × (r ≤ 9)
     within k l q = let b : (1 ≤ k) × (k ≤ 9) = simp (T-and, T-leb) at l in omega arith
+
     single : (k : ℕ) (b : Bool) → T (leb 1 k && leb k 9) → require k 0 b ≡ refused r p → (1 ≤ r) × (r ≤ 9)
     single k b l q = within k l (require-refused k 0 b r p q .0)
+
     least : (k : ℕ) (o : Option ℕ) → T (leb 1 k && leb k 9) → unlessFound k o ≡ refused r p → (1 ≤ r) × (r ≤ 9)
     least k o l q = within k l (unlessFound-refused k o r p q .0)
 

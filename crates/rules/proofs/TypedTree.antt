@@ -238,9 +238,10 @@ module _ (limit : ℕ) where
       each-field : (fs : List Field) (ys : List ℕ) → InScope σ (λ x. occursInAny x (b x) (occ x) fs ys) → Each fs ys
       each-field [] ys h = tt
       each-field (f ∷ fs) [] h = tt
-      each-field (f ∷ fs) (y ∷ ys) h =
-          (or-left (λ x. occursIn x (b x) (occ x) f y) (λ x. occursInAny x (b x) (occ x) fs ys) h,
-          each-field fs ys (or-right (λ x. occursIn x (b x) (occ x) f y) (λ x. occursInAny x (b x) (occ x) fs ys) h))
+      each-field (f ∷ fs) (y ∷ ys) h = (
+        or-left (λ x. occursIn x (b x) (occ x) f y) (λ x. occursInAny x (b x) (occ x) fs ys) h,
+        each-field fs ys (or-right (λ x. occursIn x (b x) (occ x) f y) (λ x. occursInAny x (b x) (occ x) fs ys) h),
+      )
 
 module _ (tb : Table) where
   abbrev pub Below : (ℕ → Type 0) → (ℕ → Bool) → Type 0
@@ -279,9 +280,10 @@ module _ (tb : Table) where
       let k = parts (test j) d σ occ h in
       (he _ σ (c .0 .0) (k .0), he _ σ (c .1 .0 .0) (k .1 .0))
   scoped-predOf (some (quant j)) n d p e σ occ c h hp he =
-      let k = parts (quant j) d σ occ h in
-      (he _ σ (c .1 .0 .0) (k .1 .0),
-      hp _ (σ adding d .a) (c .1 .1 .0 .0) (in-body (length (tb .binds)) σ (d .a) (λ x. occ x (d .c)) (k .1 .1 .0)))
+      let k = parts (quant j) d σ occ h in (
+        he _ σ (c .1 .0 .0) (k .1 .0),
+        hp _ (σ adding d .a) (c .1 .1 .0 .0) (in-body (length (tb .binds)) σ (d .a) (λ x. occ x (d .c)) (k .1 .1 .0)),
+      )
   scoped-predOf (some (leaf j)) n d p e σ occ c h hp he = (tt, tt)
   scoped-predOf (some boolOf) n d p e σ occ c h hp he = (tt, tt)
   scoped-predOf (some (one j)) n d p e σ occ c h hp he = (tt, tt)
@@ -320,9 +322,10 @@ module _ (tb : Table) where
       let k = parts (two j) d σ occ h in
       (he _ σ (c .0 .0) (k .0), he _ σ (c .1 .0 .0) (k .1 .0))
   scoped-exprOf (some comprehension) n d p e σ occ c h hp he =
-      let k = parts comprehension d σ occ h in
-      (he _ σ (c .1 .0 .0) (k .1 .0),
-      hp _ (σ adding d .a) (c .1 .1 .0 .0) (in-body (length (tb .binds)) σ (d .a) (λ x. occ x (d .c)) (k .1 .1 .0)))
+      let k = parts comprehension d σ occ h in (
+        he _ σ (c .1 .0 .0) (k .1 .0),
+        hp _ (σ adding d .a) (c .1 .1 .0 .0) (in-body (length (tb .binds)) σ (d .a) (λ x. occ x (d .c)) (k .1 .1 .0)),
+      )
 
   -- Whether x occurs free at a node, for a depth.
   abbrev pub occursTo : ℕ → ℕ → ℕ → Bool
