@@ -1,22 +1,22 @@
 -- What the words of a table are, at the offsets where the code reads them.
 use Prim.Native.Nat.{ℕ, zero, suc, _+_, _*_, _≤_, _<_}
-use mathlib.Core.Bool.{Bool, true, false, _&&_, cond}
+use mathlib.Core.Bool.{Bool, true, false, _&&_, _||_, cond, true≢false, false≢true}
 use mathlib.Core.List.{List, [], _∷_, map}
 use mathlib.Core.Option.{Option, none as nothing, some}
-use mathlib.Core.Path.{_≡_, refl, sym, ap, _∙_}
+use mathlib.Core.Path.{_≡_, refl, sym, ap, ap₂, _∙_}
 use native.Mathlib.Omega.{arith}
 use native.Mathlib.Nat.{add-comm}
 use native.Mathlib.Decide.{ℕ-discrete, decLt}
 use lib.Dec.{T, eqb, leb, ltb, eqb→eq}
 use lib.ListN.{length, getD, List·getD-eq-default, List·getD-map}
-use borrow.Author.Tests.{le-leb, lt-leb}
-use Rattle.rules.specs.Kinds.{Kind, kinds, kindOf, Field, unused}
+use borrow.Author.Tests.{le-leb, lt-leb, ne-eqb}
+use Rattle.rules.specs.Kinds.{Kind, kinds, kindOf, Field, unused, isChild, isBinder}
 use Rattle.rules.specs.Tables.{wordAt, Node, nodeFrom, tableOf, nodeAt, fieldsIf, fieldWords, givenCount, identifierCount, nodeCount, nodesAt, identifiersAt}
 use Rattle.rules.proofs.TableLaws.{sizes-length, sizes-entry, binds-entry, nodes-entry}
 use Rattle.rules.specs.Reading.{headed, limited, laidOut}
 use Rattle.rules.proofs.EndLaws.{T-and}
-use Rattle.table.specs.Layout.{WordOf}
-use Rattle.table.specs.Codes.{fieldOf, categoryCode}
+use Rattle.table.specs.Layout.{WordOf, sortOf}
+use Rattle.table.specs.Codes.{fieldCodes, fieldOf, categoryCode}
 
 pub size-none : (bs : List ℕ) (g n : ℕ) → n ≡ givenCount bs → n ≤ g → 0 ≡ getD (tableOf bs .sizes) g 0
 size-none bs g n e h = sym (List·getD-eq-default (tableOf bs .sizes) 0 (omega (arith, sizes-length bs)))
@@ -38,7 +38,6 @@ field-read bs at n zero w e h l r = rw (nodes-entry bs n h, ← e) (word-four bs
 field-read bs at n (suc zero) w e h l r = rw (nodes-entry bs n h, ← e) (word-four bs at n w 1 r (8 + (at + 16 * n)) (omega arith))
 field-read bs at n (suc (suc zero)) w e h l r = rw (nodes-entry bs n h, ← e) (word-four bs at n w 2 r (12 + (at + 16 * n)) (omega arith))
 field-read bs at n (suc (suc (suc i))) w e h l r = absurd (omega arith)
-
 
 -- A test that passes at each number below n.
 abbrev allBelow : (ℕ → Bool) → ℕ → Bool
@@ -72,6 +71,57 @@ by-range k = go (decLt k 44)
     go : Dec (k < 44) → byRange k ≡ categoryCode (kindOf k)
     go (yes h) = eqb→eq (byRange k) (categoryCode (kindOf k)) (below-at sameCategory 44 tt k h)
     go (no h) = rw (far-kind k (omega arith), lt-leb k 11 (omega arith), lt-leb k 43 (omega arith), le-leb 1 k (omega arith), le-leb 20 k (omega arith))
+
+-- So the code that each range of kind codes has.
+module _ (k : ℕ) where
+  pub code-predicate : 1 ≤ k → k ≤ 11 → 1 ≡ categoryCode (kindOf k)
+  code-predicate l h = rw (← by-range k, le-leb 1 k l, le-leb k 11 h)
+
+  pub code-expression : 20 ≤ k → k ≤ 43 → 2 ≡ categoryCode (kindOf k)
+  code-expression l h = rw (← by-range k, lt-leb k 11 (omega arith), le-leb 1 k (omega arith), le-leb 20 k l, le-leb k 43 h)
+
+  pub code-below : k < 1 → 0 ≡ categoryCode (kindOf k)
+  code-below h = rw (← by-range k, lt-leb 1 k h, lt-leb 20 k (omega arith))
+
+  pub code-between : 11 < k → k < 20 → 0 ≡ categoryCode (kindOf k)
+  code-between l h = rw (← by-range k, lt-leb k 11 l, le-leb 1 k (omega arith), lt-leb 20 k h)
+
+  pub code-above : 43 < k → 0 ≡ categoryCode (kindOf k)
+  code-above h = rw (← by-range k, lt-leb k 11 (omega arith), lt-leb k 43 h, le-leb 1 k (omega arith), le-leb 20 k (omega arith))
+
+-- A code past the last holds nothing.
+pub field-far : (c : ℕ) → 9 ≤ c → fieldOf c ≡ unused
+field-far c h = List·getD-eq-default fieldCodes unused {n = c} h
+
+-- The codes of fields one by one.
+pub by-code : (P : ℕ → Type 0) → P 0 → P 1 → P 2 → P 3 → P 4 → P 5 → P 6 → P 7 → P 8 → ((c : ℕ) → 9 ≤ c → P c) → (c : ℕ) → P c
+by-code P p0 p1 p2 p3 p4 p5 p6 p7 p8 far zero = p0
+by-code P p0 p1 p2 p3 p4 p5 p6 p7 p8 far (suc zero) = p1
+by-code P p0 p1 p2 p3 p4 p5 p6 p7 p8 far (suc (suc zero)) = p2
+by-code P p0 p1 p2 p3 p4 p5 p6 p7 p8 far (suc (suc (suc zero))) = p3
+by-code P p0 p1 p2 p3 p4 p5 p6 p7 p8 far (suc (suc (suc (suc zero)))) = p4
+by-code P p0 p1 p2 p3 p4 p5 p6 p7 p8 far (suc (suc (suc (suc (suc zero))))) = p5
+by-code P p0 p1 p2 p3 p4 p5 p6 p7 p8 far (suc (suc (suc (suc (suc (suc zero)))))) = p6
+by-code P p0 p1 p2 p3 p4 p5 p6 p7 p8 far (suc (suc (suc (suc (suc (suc (suc zero))))))) = p7
+by-code P p0 p1 p2 p3 p4 p5 p6 p7 p8 far (suc (suc (suc (suc (suc (suc (suc (suc zero)))))))) = p8
+by-code P p0 p1 p2 p3 p4 p5 p6 p7 p8 far (suc (suc (suc (suc (suc (suc (suc (suc (suc c))))))))) = far (suc (suc (suc (suc (suc (suc (suc (suc (suc c))))))))) (omega arith)
+
+-- Those that bind, and those that hold a child.
+pub binder-code : (c : ℕ) → eqb c 4 ≡ isBinder (fieldOf c)
+binder-code = by-code (λ c. eqb c 4 ≡ isBinder (fieldOf c)) refl refl refl refl refl refl refl refl refl
+    (λ c h. ne-eqb c 4 (λ e. omega arith) ∙ sym (ap isBinder (field-far c h)))
+
+pub child-code : (c : ℕ) → (eqb c 1 || eqb c 2) ≡ isChild (fieldOf c)
+child-code = by-code (λ c. (eqb c 1 || eqb c 2) ≡ isChild (fieldOf c)) refl refl refl refl refl refl refl refl refl
+    (λ c h. ap₂ _||_ (ne-eqb c 1 (λ e. omega arith)) (ne-eqb c 2 (λ e. omega arith)) ∙ sym (ap isChild (field-far c h)))
+
+pub counts-binder : (b : Bool) (c : ℕ) → b ≡ true → eqb c 4 ≡ sortOf b (fieldOf c)
+counts-binder false c e = absurd (false≢true e)
+counts-binder true c e = binder-code c
+
+pub counts-child : (b : Bool) (c : ℕ) → b ≡ false → (c ≡ 1 → ⊥) → eqb c 2 ≡ sortOf b (fieldOf c)
+counts-child true c e n = absurd (true≢false e)
+counts-child false c e n = ap (λ o. o || eqb c 2) (sym (ne-eqb c 1 n)) ∙ child-code c
 
 -- The constant table as a list, and what document 01's kinds say, three fields a kind.
 abbrev pub table-fields : List ℕ

@@ -2,10 +2,6 @@ use Rattle.table.proofs.Access.{bind-read}
 use borrow.Author.Needs.{needs}
 use Rattle.table.proofs.bind.Statement.{statement}
 use Rattle.table.proofs.bind.Tie as tie
-use Rattle.table.proofs.bind.Reads as reads
-use Rattle.table.proofs.bind.Lts as lts
-use Rattle.table.proofs.givens.Reads as givens-reads
-use Rattle.table.proofs.word.Reads as word-reads
 
 givens-requires : tie.Need-givens-requires
 givens-requires c κs = search needs

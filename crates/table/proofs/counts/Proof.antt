@@ -1,20 +1,17 @@
+-- `counts` by the codes of binders and of children.
 use borrow.Author.Needs.{needs}
+use Rattle.table.proofs.Access.{counts-binder, counts-child}
 use Rattle.table.proofs.counts.Statement.{statement}
 use Rattle.table.proofs.counts.Tie as tie
-use Rattle.table.proofs.counts.Reads as reads
-use Rattle.table.proofs.counts.Lts as lts
 
--- src/lib.rt:410:9
 returns : tie.Need-returns
-returns c = ?
+returns c = counts-binder _ (c .before .args .code) (c .if1 .taken)
 
--- src/lib.rt:406:1
 returns-2 : tie.Need-returns-2
 returns-2 c = search needs
 
--- src/lib.rt:406:1
 returns-3 : tie.Need-returns-3
-returns-3 c = ?
+returns-3 c = counts-child _ (c .before .before .args .code) (c .before .if1 .left) (c .if2 .left)
 
 pub counts-spec : {M : Type 1} → statement M
 counts-spec = tie.close (tie.spec returns returns-2 returns-3)

@@ -2,9 +2,6 @@ use Rattle.table.proofs.Access.{field-read}
 use borrow.Author.Needs.{needs}
 use Rattle.table.proofs.field.Statement.{statement}
 use Rattle.table.proofs.field.Tie as tie
-use Rattle.table.proofs.field.Reads as reads
-use Rattle.table.proofs.field.Lts as lts
-use Rattle.table.proofs.word.Reads as word-reads
 
 mul-word : tie.Need-mul-word
 mul-word c = search needs

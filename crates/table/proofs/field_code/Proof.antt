@@ -2,8 +2,6 @@ use Rattle.table.proofs.Access.{fields-at, fields-far}
 use borrow.Author.Needs.{needs}
 use Rattle.table.proofs.field_code.Statement.{statement}
 use Rattle.table.proofs.field_code.Tie as tie
-use Rattle.table.proofs.field_code.Reads as reads
-use Rattle.table.proofs.field_code.Lts as lts
 
 returns : tie.Need-returns
 returns c = fields-far _ _ (c .if1 .taken)

@@ -2,9 +2,6 @@ use Rattle.table.proofs.Access.{kind-read}
 use borrow.Author.Needs.{needs}
 use Rattle.table.proofs.kind.Statement.{statement}
 use Rattle.table.proofs.kind.Tie as tie
-use Rattle.table.proofs.kind.Reads as reads
-use Rattle.table.proofs.kind.Lts as lts
-use Rattle.table.proofs.word.Reads as word-reads
 
 mul-word : tie.Need-mul-word
 mul-word c = search needs

@@ -5,10 +5,6 @@ use Rattle.table.proofs.Access.{size-none}
 use borrow.Author.Needs.{needs}
 use Rattle.table.proofs.size.Statement.{statement}
 use Rattle.table.proofs.size.Tie as tie
-use Rattle.table.proofs.size.Reads as reads
-use Rattle.table.proofs.size.Lts as lts
-use Rattle.table.proofs.givens.Reads as givens-reads
-use Rattle.table.proofs.word.Reads as word-reads
 
 givens-requires : tie.Need-givens-requires
 givens-requires c κs = search needs
