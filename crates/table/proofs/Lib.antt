@@ -1,3 +1,6 @@
 -- Laws that the proofs of this crate's functions share.
 pub mod Access
 pub mod Least
+pub mod Occurs
+pub mod Stages
+pub mod Promise
