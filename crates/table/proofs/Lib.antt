@@ -1,3 +1,4 @@
 -- Laws that the proofs of this crate's functions share.
 pub mod Access
 pub mod Least
+pub mod Fields
