@@ -1,22 +1,23 @@
 -- What the words of a table are, at the offsets where the code reads them.
 use Prim.Native.Nat.{ℕ, zero, suc, _+_, _*_, _≤_, _<_}
 use mathlib.Core.Bool.{Bool, true, false, _&&_, _||_, cond, true≢false, false≢true}
-use mathlib.Core.List.{List, [], _∷_, map}
-use mathlib.Core.Option.{Option, none as nothing, some}
+use mathlib.Core.List.{List, [], _∷_}
+use mathlib.Core.Option.{Option, none as nothing}
 use mathlib.Core.Path.{_≡_, refl, sym, ap, ap₂, _∙_}
 use native.Mathlib.Omega.{arith}
 use native.Mathlib.Nat.{add-comm}
 use native.Mathlib.Decide.{ℕ-discrete, decLt}
-use lib.Dec.{T, eqb, leb, ltb, eqb→eq}
-use lib.ListN.{length, getD, List·getD-eq-default, List·getD-map}
+use lib.Dec.{T, eqb, leb, eqb→eq}
+use lib.ListN.{length, getD, List·getD-eq-default}
 use borrow.Author.Tests.{le-leb, lt-leb, ne-eqb}
-use Rattle.rules.specs.Kinds.{Kind, kinds, kindOf, Field, unused, isChild, isBinder}
-use Rattle.rules.specs.Tables.{wordAt, Node, nodeFrom, tableOf, nodeAt, fieldsIf, fieldWords, givenCount, identifierCount, nodeCount, nodesAt, identifiersAt}
-use Rattle.rules.proofs.TableLaws.{sizes-length, sizes-entry, binds-entry, nodes-entry}
+use Rattle.rules.specs.Kinds.{Kind, kinds, kindOf, predicate, expression, isChild, isBinder}
+use Rattle.rules.specs.Kinds.{Field, unused, child, use-of, binder-of, setNumber, elementNumber, anyWord, truthBit}
+use Rattle.rules.specs.Tables.{wordAt, nodeFrom, tableOf, nodeAt, fieldsIf, fieldWords, givenCount, identifierCount, nodeCount, nodesAt}
+use Rattle.rules.proofs.TableLaws.{sizes-length, binds-entry, nodes-entry}
 use Rattle.rules.specs.Reading.{headed, limited, laidOut}
 use Rattle.rules.proofs.EndLaws.{T-and}
 use Rattle.table.specs.Layout.{WordOf, sortOf}
-use Rattle.table.specs.Codes.{fieldCodes, fieldOf, categoryCode}
+use Rattle.table.specs.Codes.{fieldCodes, fieldOf, codeOf, categoryCode}
 
 pub size-none : (bs : List ℕ) (g n : ℕ) → n ≡ givenCount bs → n ≤ g → 0 ≡ getD (tableOf bs .sizes) g 0
 size-none bs g n e h = sym (List·getD-eq-default (tableOf bs .sizes) 0 (omega (arith, sizes-length bs)))
@@ -123,35 +124,46 @@ pub counts-child : (b : Bool) (c : ℕ) → b ≡ false → (c ≡ 1 → ⊥) �
 counts-child true c e n = absurd (true≢false e)
 counts-child false c e n = ap (λ o. o || eqb c 2) (sym (ne-eqb c 1 n)) ∙ child-code c
 
--- The constant table as a list, and what document 01's kinds say, three fields a kind.
-abbrev pub table-fields : List ℕ
-table-fields =
-    0 ∷ 0 ∷ 0 ∷ 1 ∷ 1 ∷ 0 ∷ 1 ∷ 1 ∷ 0 ∷ 1 ∷ 1 ∷ 0 ∷ 1 ∷ 0 ∷ 0 ∷ 1 ∷ 1 ∷ 0 ∷ 2 ∷ 2 ∷ 0 ∷ 2 ∷ 2 ∷ 0 ∷ 2 ∷ 2 ∷ 0 ∷ 2 ∷ 2 ∷ 0 ∷ 4 ∷ 2 ∷ 1 ∷ 4 ∷ 2 ∷ 1 ∷
-    0 ∷ 0 ∷ 0 ∷ 0 ∷ 0 ∷ 0 ∷ 0 ∷ 0 ∷ 0 ∷ 0 ∷ 0 ∷ 0 ∷ 0 ∷ 0 ∷ 0 ∷ 0 ∷ 0 ∷ 0 ∷ 0 ∷ 0 ∷ 0 ∷ 0 ∷ 0 ∷ 0 ∷
-    3 ∷ 0 ∷ 0 ∷ 5 ∷ 0 ∷ 0 ∷ 5 ∷ 6 ∷ 0 ∷ 7 ∷ 0 ∷ 0 ∷ 8 ∷ 0 ∷ 0 ∷ 1 ∷ 0 ∷ 0 ∷ 0 ∷ 0 ∷ 0 ∷ 2 ∷ 0 ∷ 0 ∷ 2 ∷ 2 ∷ 0 ∷ 2 ∷ 2 ∷ 0 ∷ 2 ∷ 2 ∷ 0 ∷ 2 ∷ 2 ∷ 0 ∷
-    2 ∷ 2 ∷ 0 ∷ 2 ∷ 0 ∷ 0 ∷ 4 ∷ 2 ∷ 1 ∷ 2 ∷ 0 ∷ 0 ∷ 2 ∷ 0 ∷ 0 ∷ 2 ∷ 2 ∷ 0 ∷ 2 ∷ 0 ∷ 0 ∷ 2 ∷ 2 ∷ 0 ∷ 2 ∷ 2 ∷ 0 ∷ 2 ∷ 2 ∷ 0 ∷ 0 ∷ 0 ∷ 0 ∷ 2 ∷ 0 ∷ 0 ∷ []
+-- The codes of the fields of each kind, three a kind, computed from document 01's kinds: the code's constant table is this list.
+abbrev fieldCode : Field → ℕ
+fieldCode unused = 0
+fieldCode (child c) = codeOf c
+fieldCode use-of = 3
+fieldCode binder-of = 4
+fieldCode setNumber = 5
+fieldCode elementNumber = 6
+fieldCode anyWord = 7
+fieldCode truthBit = 8
 
-abbrev triple : Option Kind → List Field → List Field
-triple o fs = getD (fieldsIf o) 0 unused ∷ getD (fieldsIf o) 1 unused ∷ getD (fieldsIf o) 2 unused ∷ fs
+field-of-code : (f : Field) → fieldOf (fieldCode f) ≡ f
+field-of-code unused = refl
+field-of-code (child predicate) = refl
+field-of-code (child expression) = refl
+field-of-code use-of = refl
+field-of-code binder-of = refl
+field-of-code setNumber = refl
+field-of-code elementNumber = refl
+field-of-code anyWord = refl
+field-of-code truthBit = refl
 
-abbrev wanted : List (Option Kind) → List Field
-wanted [] = []
-wanted (o ∷ os) = triple o (wanted os)
+abbrev codeAt : Option Kind → ℕ → ℕ
+codeAt o i = fieldCode (getD (fieldsIf o) i unused)
 
-wanted-at : (os : List (Option Kind)) (k i : ℕ) → i < 3 → getD (wanted os) (3 * k + i) unused ≡ getD (fieldsIf (getD os k nothing)) i unused
-wanted-at [] k i h = refl
-wanted-at (o ∷ os) zero zero h = refl
-wanted-at (o ∷ os) zero (suc zero) h = refl
-wanted-at (o ∷ os) zero (suc (suc zero)) h = refl
-wanted-at (o ∷ os) zero (suc (suc (suc i))) h = absurd (omega arith)
-wanted-at (o ∷ os) (suc k) i h = let e : 3 * suc k + i ≡ suc (suc (suc (3 * k + i))) = omega arith in rw e (wanted-at os k i h)
+abbrev pub codesOf : List (Option Kind) → List ℕ
+codesOf [] = []
+codesOf (o ∷ os) = codeAt o 0 ∷ codeAt o 1 ∷ codeAt o 2 ∷ codesOf os
 
-decoded : map fieldOf table-fields ≡ wanted kinds
-decoded = refl
+codes-at : (os : List (Option Kind)) (k i : ℕ) → i < 3 → fieldOf (getD (codesOf os) (3 * k + i) 0) ≡ getD (fieldsIf (getD os k nothing)) i unused
+codes-at [] k i h = refl
+codes-at (o ∷ os) zero zero h = field-of-code (getD (fieldsIf o) 0 unused)
+codes-at (o ∷ os) zero (suc zero) h = field-of-code (getD (fieldsIf o) 1 unused)
+codes-at (o ∷ os) zero (suc (suc zero)) h = field-of-code (getD (fieldsIf o) 2 unused)
+codes-at (o ∷ os) zero (suc (suc (suc i))) h = absurd (omega arith)
+codes-at (o ∷ os) (suc k) i h = let e : 3 * suc k + i ≡ suc (suc (suc (3 * k + i))) = omega arith in rw e (codes-at os k i h)
 
-pub fields-at : (k i : ℕ) → i < 3 → fieldOf (getD table-fields (3 * k + i) 0) ≡ getD (fieldsIf (kindOf k)) i unused
+pub fields-at : (k i : ℕ) → i < 3 → fieldOf (getD (codesOf kinds) (3 * k + i) 0) ≡ getD (fieldsIf (kindOf k)) i unused
 unfolding kindOf
-fields-at k i h = sym (List·getD-map fieldOf table-fields (3 * k + i) 0) ∙ ap (λ (l : List Field). getD l (3 * k + i) unused) decoded ∙ wanted-at kinds k i h
+fields-at k i h = codes-at kinds k i h
 
 pub fields-far : (k i : ℕ) → 44 ≤ k → fieldOf 0 ≡ getD (fieldsIf (kindOf k)) i unused
 fields-far k i h = rw (far-kind k h)
@@ -170,7 +182,14 @@ pub headed-read : (bs : List ℕ) (w : ℕ) → 32 ≤ length bs → w ≡ wordA
 unfolding headed
 headed-read bs w h e = rw (le-leb 32 (length bs) h, e)
 
-pub limited-read : (bs : List ℕ) (g i n : ℕ) → g ≡ givenCount bs → i ≡ identifierCount bs → n ≡ nodeCount bs →
-    (leb g 16 && leb i 32 && leb 1 n && leb n 512) ≡ limited bs
+pub limited-read : (bs : List ℕ) (g i n : ℕ) (p q r : Bool) → g ≡ givenCount bs → i ≡ identifierCount bs → n ≡ nodeCount bs →
+    p ≡ (leb g 16 && leb i 32) → q ≡ (p && leb 1 n) → r ≡ (q && leb n 512) → r ≡ limited bs
 unfolding limited
-limited-read bs g i n p q r = rw (p, q, r)
+limited-read bs g i n p q r eg ei en ep eq er = cc
+
+pub laid-read : (bs : List ℕ) (g i n a b d e : ℕ) (p q r s : Bool) → g ≡ givenCount bs → i ≡ identifierCount bs → n ≡ nodeCount bs →
+    a ≡ wordAt bs 16 → b ≡ wordAt bs 20 → d ≡ wordAt bs 24 → e ≡ wordAt bs 28 →
+    p ≡ (eqb a 32 && eqb b (32 + 4 * g)) → q ≡ (p && eqb d (32 + 4 * g + 4 * i)) →
+    r ≡ (q && eqb e (32 + 4 * g + 4 * i + 16 * n)) → s ≡ (r && eqb (length bs) (32 + 4 * g + 4 * i + 16 * n)) → s ≡ laidOut bs
+unfolding laidOut
+laid-read bs g i n a b d e p q r s eg ei en ea eb ed ee ep eq er es = cc

@@ -1,7 +1,6 @@
 -- Loops that look for the least number that fails a test: they end at it, or at the bound where all pass.
 use Prim.Native.Nat.{ℕ, _+_, _≤_, _<_}
 use mathlib.Core.Bool.{Bool, true, false}
-use mathlib.Core.Option.{Option, none as nothing, some}
 use mathlib.Core.Path.{_≡_, sym, ap}
 use native.Mathlib.Decide.{ℕ-discrete}
 use native.Mathlib.Omega.{arith}

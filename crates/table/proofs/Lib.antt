@@ -1,6 +1,7 @@
 -- Laws that the proofs of this crate's functions share.
 pub mod Access
 pub mod Least
+pub mod Fields
 pub mod Occurs
 pub mod Stages
 pub mod Promise

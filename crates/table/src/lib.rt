@@ -182,6 +182,48 @@ pub fn word(bytes: &[u8], at: usize) -> usize
         + 16777216 * wide(bytes[at + 3])
 }
 
+// Both tests, as a value with no branch for the caller's proof.
+fn both(a: bool, b: bool) -> bool
+    ensures { λ r. ⌜ r ≡ (a && b) ⌝ }
+{
+    a && b
+}
+
+// Refusal 1.
+fn is_headed(table: &[u8]) -> bool
+    ensures { λ r. ⌜ r ≡ headed (now (table .entry)) ⌝ }
+{
+    if table.len() < 32 {
+        return false;
+    }
+    word(table, 0) == 1
+}
+
+// Refusal 2.
+fn is_limited(table: &[u8]) -> bool
+    requires { ⌜ 32 ≤ length (now table) ⌝ }
+    ensures { λ r. ⌜ r ≡ limited (now (table .entry)) ⌝ }
+{
+    let g = word(table, 4);
+    let i = word(table, 8);
+    let n = word(table, 12);
+    let few_records = both(g <= 16, i <= 32);
+    both(both(few_records, 1 <= n), n <= 512)
+}
+
+// Refusal 3.
+fn is_laid_out(table: &[u8]) -> bool
+    requires { ⌜ 32 ≤ length (now table) ⌝ }
+    ensures { λ r. ⌜ r ≡ laidOut (now (table .entry)) ⌝ }
+{
+    let identifiers_at = 32 + 4 * word(table, 4);
+    let nodes_at = identifiers_at + 4 * word(table, 8);
+    let end = nodes_at + 16 * word(table, 12);
+    let first = both(word(table, 16) == 32, word(table, 20) == identifiers_at);
+    let offsets = both(first, word(table, 24) == nodes_at);
+    both(both(offsets, word(table, 28) == end), table.len() == end)
+}
+
 // G, I and N.
 pub fn givens(table: &[u8]) -> usize
     requires { ⌜ 32 ≤ length (now table) ⌝ }
@@ -267,6 +309,105 @@ pub fn field_code(kind: usize, i: usize) -> u8
         return 0;
     }
     FIELDS[3 * kind + i]
+}
+
+// Whether x is a node below n of a category.
+fn is_child(table: &[u8], at: usize, n: usize, x: usize, code: u8) -> bool
+    requires { ⌜ NodeIn (now table) at n ⌝ }
+    ensures { λ r. ⌜ r ≡ (ltb x n && eqb (categoryCode (kindOf (nodeAt (tableOf (now (table .entry)) .nodes) x .kind))) code) ⌝ }
+{
+    if n <= x {
+        return false;
+    }
+    category(kind(table, at, x)) == code
+}
+
+// Whether a field of node n that has the code holds x rightly.
+fn field_is_good(table: &[u8], at: usize, n: usize, code: u8, x: usize) -> bool
+    requires { ⌜ NodeIn (now table) at n ⌝ }
+    ensures { λ r. ⌜ r ≡ fieldGood (tableOf (now (table .entry))) n (fieldOf code) x ⌝ }
+{
+    match code {
+        1 | 2 => is_child(table, at, n, x, code),
+        3 | 4 => x < identifiers(table),
+        5 => x < givens(table),
+        6 => x < size(table, field(table, at, n, 0)),
+        7 => true,
+        8 => x < 2,
+        _ => x == 0,
+    }
+}
+
+// Whether field i of node n, whose kind has the code k, holds its word rightly.
+fn field_at_is_good(table: &[u8], at: usize, n: usize, k: usize, i: usize) -> bool
+    requires { ⌜ NodeIn (now table) at n × (i < 3) ⌝ }
+    ensures { λ r. ⌜ r ≡ fieldGood (tableOf (now (table .entry))) n (getD (fieldsIf (kindOf k)) i unused) (getD (fieldWords (nodeAt (tableOf (now (table .entry)) .nodes) n)) i 0) ⌝ }
+{
+    field_is_good(table, at, n, field_code(k, i), field(table, at, n, i))
+}
+
+// Refusal 6 at one node.
+fn node_is_good(table: &[u8], at: usize, n: usize) -> bool
+    requires { ⌜ NodeIn (now table) at n ⌝ }
+    ensures { λ r. ⌜ r ≡ nodeGood (tableOf (now (table .entry))) n ⌝ }
+{
+    let k = kind(table, at, n);
+    if category(k) == 0 {
+        return false;
+    }
+    let a = field_at_is_good(table, at, n, k, 0);
+    let b = field_at_is_good(table, at, n, k, 1);
+    let c = field_at_is_good(table, at, n, k, 2);
+    both(both(a, b), c)
+}
+
+// Refusal 4: the least given set of a wrong size, or G.
+fn first_bad_size(table: &[u8]) -> usize
+    requires { ⌜ Header (now table) ⌝ }
+    ensures { λ r. ⌜ r ≡ foundOr (givenCount (now (table .entry))) (leastFailing (sizeGood (tableOf (now (table .entry)))) 0 (givenCount (now (table .entry)))) ⌝ }
+{
+    let count = givens(table);
+    let mut g: usize = 0;
+    while g < count {
+        let s = size(table, g);
+        if !both(1 <= s, s <= 32) {
+            return g;
+        }
+        g += 1;
+    }
+    count
+}
+
+// Refusal 5: the least identifier whose word is neither 0 nor 1, or I.
+fn first_bad_bind(table: &[u8]) -> usize
+    requires { ⌜ Header (now table) ⌝ }
+    ensures { λ r. ⌜ r ≡ foundOr (identifierCount (now (table .entry))) (leastFailing (bindGood (tableOf (now (table .entry)))) 0 (identifierCount (now (table .entry)))) ⌝ }
+{
+    let count = identifiers(table);
+    let mut x: usize = 0;
+    while x < count {
+        if 1 < bind(table, x) {
+            return x;
+        }
+        x += 1;
+    }
+    count
+}
+
+// Refusal 6: the least node with a fault, or N.
+fn first_bad_node(table: &[u8], at: usize) -> usize
+    requires { ⌜ Laid (now table) at ⌝ }
+    ensures { λ r. ⌜ r ≡ foundOr (nodeCount (now (table .entry))) (leastFailing (nodeGood (tableOf (now (table .entry)))) 0 (nodeCount (now (table .entry)))) ⌝ }
+{
+    let count = nodes(table);
+    let mut n: usize = 0;
+    while n < count {
+        if !node_is_good(table, at, n) {
+            return n;
+        }
+        n += 1;
+    }
+    count
 }
 
 // Whether a field with the code is of the sort that is counted.

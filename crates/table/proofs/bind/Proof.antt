@@ -1,5 +1,6 @@
-use Rattle.table.proofs.Access.{bind-read}
+-- The word at an identifier's place.
 use borrow.Author.Needs.{needs}
+use Rattle.table.proofs.Access.{bind-read}
 use Rattle.table.proofs.bind.Statement.{statement}
 use Rattle.table.proofs.bind.Tie as tie
 

@@ -1,4 +1,4 @@
--- `category` by the ranges of the kind codes.
+-- By the ranges of the kind codes.
 use native.Mathlib.Omega.{arith}
 use Rattle.table.proofs.Access.{code-predicate, code-expression, code-below, code-between, code-above}
 use Rattle.table.proofs.category.Statement.{statement}

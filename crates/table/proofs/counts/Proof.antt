@@ -1,4 +1,4 @@
--- `counts` by the codes of binders and of children.
+-- By the codes of binders and of children.
 use borrow.Author.Needs.{needs}
 use Rattle.table.proofs.Access.{counts-binder, counts-child}
 use Rattle.table.proofs.counts.Statement.{statement}

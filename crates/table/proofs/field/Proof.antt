@@ -1,5 +1,6 @@
-use Rattle.table.proofs.Access.{field-read}
+-- The word at a field's place.
 use borrow.Author.Needs.{needs}
+use Rattle.table.proofs.Access.{field-read}
 use Rattle.table.proofs.field.Statement.{statement}
 use Rattle.table.proofs.field.Tie as tie
 

@@ -1,5 +1,6 @@
-use Rattle.table.proofs.Access.{fields-at, fields-far}
+-- The constant table against the fields of document 01's kinds.
 use borrow.Author.Needs.{needs}
+use Rattle.table.proofs.Access.{fields-at, fields-far}
 use Rattle.table.proofs.field_code.Statement.{statement}
 use Rattle.table.proofs.field_code.Tie as tie
 

@@ -1,5 +1,6 @@
-use Rattle.table.proofs.Access.{kind-read}
+-- The word at a node's place.
 use borrow.Author.Needs.{needs}
+use Rattle.table.proofs.Access.{kind-read}
 use Rattle.table.proofs.kind.Statement.{statement}
 use Rattle.table.proofs.kind.Tie as tie
 

@@ -1,8 +1,9 @@
-use native.Mathlib.Omega.{arith}
+-- The word at a given set's place, or none.
 use mathlib.Core.Path.{sym, _∙_}
+use native.Mathlib.Omega.{arith}
+use borrow.Author.Needs.{needs}
 use Rattle.rules.proofs.TableLaws.{sizes-entry}
 use Rattle.table.proofs.Access.{size-none}
-use borrow.Author.Needs.{needs}
 use Rattle.table.proofs.size.Statement.{statement}
 use Rattle.table.proofs.size.Tie as tie
 

@@ -1,6 +1,7 @@
-use Rattle.table.proofs.Access.{word-sum}
+-- Four bytes, none above 255.
 use native.Mathlib.Omega.{arith}
 use borrow.Author.Needs.{needs}
+use Rattle.table.proofs.Access.{word-sum}
 use Rattle.table.proofs.word.Statement.{statement}
 use Rattle.table.proofs.word.Tie as tie
 
@@ -56,7 +57,12 @@ add-result-3 : tie.Need-add-result-3
 add-result-3 c = search needs
 
 returns : tie.Need-returns
-returns c = (word-sum (c .before .before .before .before .before .before .before .before .before .args .bytes .now) (c .before .before .before .before .before .before .before .before .before .args .at) _ _ _ _ (c .before .before .before .before .before .before .wide .ensures .0) (c .before .before .before .before .wide2 .ensures .0) (c .before .before .wide3 .ensures .0) (c .wide4 .ensures .0), omega arith)
+returns c =
+    let t = c .before .before .before .before in
+    let s = t .before .before .before .before .before .args in (
+      word-sum (s .bytes .now) (s .at) _ _ _ _ (t .before .before .wide .ensures .0) (t .wide2 .ensures .0) (c .before .before .wide3 .ensures .0) (c .wide4 .ensures .0),
+      omega arith,
+    )
 
 pub word-spec : {M : Type 1} → statement M
 word-spec =
