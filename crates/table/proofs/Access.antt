@@ -105,7 +105,8 @@ by-code P p0 p1 p2 p3 p4 p5 p6 p7 p8 far (suc (suc (suc (suc (suc zero))))) = p5
 by-code P p0 p1 p2 p3 p4 p5 p6 p7 p8 far (suc (suc (suc (suc (suc (suc zero)))))) = p6
 by-code P p0 p1 p2 p3 p4 p5 p6 p7 p8 far (suc (suc (suc (suc (suc (suc (suc zero))))))) = p7
 by-code P p0 p1 p2 p3 p4 p5 p6 p7 p8 far (suc (suc (suc (suc (suc (suc (suc (suc zero)))))))) = p8
-by-code P p0 p1 p2 p3 p4 p5 p6 p7 p8 far (suc (suc (suc (suc (suc (suc (suc (suc (suc c))))))))) = far (suc (suc (suc (suc (suc (suc (suc (suc (suc c))))))))) (omega arith)
+by-code P p0 p1 p2 p3 p4 p5 p6 p7 p8 far (suc (suc (suc (suc (suc (suc (suc (suc (suc c))))))))) =
+    far (suc (suc (suc (suc (suc (suc (suc (suc (suc c))))))))) (omega arith)
 
 -- Those that bind, and those that hold a child.
 pub binder-code : (c : ℕ) → eqb c 4 ≡ isBinder (fieldOf c)

@@ -47,7 +47,7 @@ category-is expression nothing = refl
 category-is predicate (some k) = predicate-code (categoryOf k)
 category-is expression (some k) = expression-code (categoryOf k)
 
--- A kind is known exactly where its category's code is not 0.
+-- A kind whose category has the code 0 is unknown.
 some-code : (d : Category) → codeOf d ≡ 0 → ⊥
 some-code predicate e = omega arith
 some-code expression e = omega arith
@@ -56,7 +56,7 @@ unknown-code : (o : Option Kind) → categoryCode o ≡ 0 → known o ≡ false
 unknown-code nothing e = refl
 unknown-code (some k) e = absurd (some-code (categoryOf k) e)
 
--- A child, by the two ways out of the code.
+-- The test for a child: the two ways out of `is_child`.
 module _ (tb : Table) (n x c : ℕ) where
   pub child-above : n ≤ x → false ≡ (ltb x n && eqb (categoryCode (kindAt (tb .nodes) x)) c)
   child-above h = rw (le-ltb x n h)
@@ -151,7 +151,7 @@ pub field-test : (bs : List ℕ) (n k i c x : ℕ) (r : Bool) → fieldOf c ≡ 
     x ≡ getD (fieldWords (nodeAt (tableOf bs .nodes) n)) i 0 → r ≡ fieldGood (tableOf bs) n (fieldOf c) x → r ≡ fieldTest bs n k i
 field-test bs n k i c x r ec ex er = er ∙ ap₂ (fieldGood (tableOf bs) n) ec ex
 
--- Refusal 6 at one node, by the two ways out of the code.
+-- Refusal 6 at one node: the two ways out of `node_is_good`.
 module _ (bs : List ℕ) (n k m : ℕ) (ek : k ≡ nodeAt (tableOf bs .nodes) n .kind) (em : m ≡ categoryCode (kindOf k)) where
   pub node-unknown : m ≡ 0 → false ≡ nodeGood (tableOf bs) n
   unfolding nodeGood

@@ -57,10 +57,11 @@ both-requires-4 c κs = search needs
 
 returns : tie.Need-returns
 returns c =
-    let t = c .before .before .before .before .before .before .before .before in
+    let u = c .before .before .before .before in
+    let t = u .before .before .before .before in
     laid-read _ _ _ _ _ _ _ _ _ _ _ _ (t .before .before .word .ensures .0) (t .before .word2 .ensures .0) (t .word3 .ensures .0)
-    (c .before .before .before .before .before .before .before .word4 .ensures .0) (c .before .before .before .before .before .before .word5 .ensures .0) (c .before .before .before .before .word6 .ensures .0)
-    (c .before .before .word7 .ensures .0) (c .before .before .before .before .before .both .ensures) (c .before .before .before .both2 .ensures)
+    (u .before .before .before .word4 .ensures .0) (u .before .before .word5 .ensures .0) (u .word6 .ensures .0)
+    (c .before .before .word7 .ensures .0) (u .before .both .ensures) (c .before .before .before .both2 .ensures)
     (c .before .both3 .ensures) (c .both4 .ensures)
 
 pub is-laid-out-spec : {M : Type 1} → statement M
