@@ -2,3 +2,5 @@
 pub mod Access
 pub mod Least
 pub mod Fields
+pub mod Counting
+pub mod Heights

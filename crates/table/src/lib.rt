@@ -15,6 +15,8 @@ ghost use Rattle.table.specs.Answers.{readingOf, readingRecords, reading
 ghost use Rattle.table.specs.Codes.{fieldOf, categoryCode};
 ghost use Rattle.table.specs.Layout.{Laid, NodeIn, Fielded, BumpPre, Bumped, sortOf, Counted, Heights, flag, Occurs, WordOf};
 
+mod tree;
+
 // A refusal's number and place.
 pub struct Refusal {
     pub number: u8,
