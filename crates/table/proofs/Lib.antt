@@ -2,6 +2,8 @@
 pub mod Access
 pub mod Least
 pub mod Fields
+pub mod Counting
+pub mod Heights
 pub mod Occurs
 pub mod Stages
 pub mod Promise

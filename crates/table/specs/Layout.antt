@@ -5,8 +5,8 @@ use mathlib.Core.List.{List}
 use mathlib.Core.Path.{_≡_}
 use lib.Dec.{eqb}
 use lib.ListN.{length, getD, take}
-use Rattle.rules.specs.Kinds.{Field, isChild, isBinder}
-use Rattle.rules.specs.Tables.{Table, tableOf, nodeAt, heldIn, nodeCount, nodesAt}
+use Rattle.rules.specs.Kinds.{Field, unused, isChild, isBinder}
+use Rattle.rules.specs.Tables.{Table, tableOf, nodeAt, fieldsAt, fieldWords, heldIn, nodeCount, nodesAt}
 use Rattle.rules.specs.Reading.{occurrences, height, occursFree}
 use Rattle.rules.specs.Readable.{Header, NodeRight}
 
@@ -29,10 +29,14 @@ pub record Fielded (bs : List ℕ) (at : ℕ) : Type 0 where
 abbrev pub more : Bool → ℕ → ℕ → ℕ
 more hit x m = cond hit (cond (eqb m x) 1 0) 0
 
+-- No count is the greatest that there can be.
+abbrev pub Room : List ℕ → Type 0
+Room c = (m : ℕ) → m < length c → getD c m 0 < 65535
+
 pub record BumpPre (c : List ℕ) (hit : Bool) (x : ℕ) : Type 0 where
   pub some : 0 < length c
   pub inside : hit ≡ true → x < length c
-  pub room : (m : ℕ) → m < length c → getD c m 0 < 65535
+  pub room : Room c
 
 abbrev pub Bumped : List ℕ → Bool → ℕ → List ℕ → Type 0
 Bumped c hit x c′ = (m : ℕ) → m < length c → getD c′ m 0 ≡ getD c m 0 + more hit x m
@@ -41,6 +45,19 @@ Bumped c hit x c′ = (m : ℕ) → m < length c → getD c′ m 0 ≡ getD c m 
 abbrev pub sortOf : Bool → Field → Bool
 sortOf true f = isBinder f
 sortOf false f = isChild f
+
+-- Whether field i of node n is of the sort, and the word in it.
+abbrev pub countsAt : Bool → List ℕ → ℕ → ℕ → Bool
+countsAt b bs n i = sortOf b (getD (fieldsAt (nodeAt (tableOf bs .nodes) n)) i unused)
+
+abbrev pub fieldAt : List ℕ → ℕ → ℕ → ℕ
+fieldAt bs n i = getD (fieldWords (nodeAt (tableOf bs .nodes) n)) i 0
+
+-- Field i of node n may be read, of a table whose nodes' fields are right.
+pub record FieldIn (bs : List ℕ) (at n i : ℕ) : Type 0 where
+  pub fielded : Fielded bs at
+  pub below : n < nodeCount bs
+  pub inside : i < 3
 
 -- Each number below the length of c has been counted: c holds how often it stands in the fields of a sort, in the first i nodes.
 abbrev pub Counted : Bool → List ℕ → ℕ → List ℕ → Type 0

@@ -16,6 +16,7 @@ ghost use Rattle.table.specs.Codes.{fieldOf, categoryCode};
 ghost use Rattle.table.specs.Layout.{Laid, NodeIn, Fielded, BumpPre, Bumped, sortOf, Counted, Heights, flag, Occurs, WordOf};
 
 mod binding;
+mod tree;
 
 // A refusal's number and place.
 pub struct Refusal {
