@@ -2,7 +2,7 @@
 use Prim.Native.Nat.{ℕ, zero, suc, _+_, _*_, _-_, _≤_, _<_, max}
 use mathlib.Core.Bool.{Bool, true, false, cond, false≢true}
 use mathlib.Core.List.{List, [], _∷_, _++_}
-use mathlib.Core.Option.{Option, none as nothing, some}
+use mathlib.Core.Option.{Option}
 use mathlib.Core.Path.{_≡_, refl, sym, ap, _∙_}
 use native.Mathlib.Decide.{ℕ-discrete}
 use native.Mathlib.Omega.{arith}
@@ -11,10 +11,9 @@ use lib.Dec.{eqb}
 use lib.ListN.{length, getD, set, take, replicate, length-replicate, getD-replicate}
 use lib.Seq.{getD-set-same, getD-set-other, set-getD, take-all}
 use borrow.Author.Tests.{eq-eqb, ne-eqb}
-use Rattle.rules.specs.Kinds.{Kind, join, negation, test, quant, leaf, boolOf, one, two, comprehension, kindOf}
+use Rattle.rules.specs.Kinds.{Kind, kindOf}
 use Rattle.rules.specs.Kinds.{predicate}
-use Rattle.rules.specs.Kinds.{identifier, givenSet, elementOf, literal, truthConst, emptySet, boolSet}
-use Rattle.rules.specs.Kinds.{Field, unused, child, use-of, binder-of, setNumber, elementNumber, anyWord, truthBit, isChild}
+use Rattle.rules.specs.Kinds.{Field, unused, child, use-of, binder-of, setNumber, elementNumber, anyWord, truthBit, isChild, isBinder}
 use Rattle.rules.specs.Tables.{Node, Table, tableOf, nodeAt, kindAt, lastNode, fieldsAt, fieldsIf, fieldWords, keptIf, pick, held, heldIn}
 use Rattle.rules.specs.Tables.{nodeCount}
 use Rattle.rules.specs.Reading.{occurrences, parentGood}
@@ -22,7 +21,7 @@ use Rattle.rules.specs.Readable.{FieldRight, FieldsRight}
 use Rattle.rules.proofs.TableLaws.{nodes-length, binds-length, fields-right}
 use Rattle.table.specs.Codes.{fieldOf, categoryCode}
 use Rattle.table.specs.Layout.{FieldIn, more, Room, BumpPre, Bumped, sortOf, countsAt, fieldAt, Counted}
-use Rattle.table.proofs.Fields.{category-is}
+use Rattle.table.proofs.Fields.{category-is, by-fields}
 
 -- A field that is not used is of no sort that is counted.
 pub sort-unused : (b : Bool) → sortOf b unused ≡ false
@@ -35,22 +34,12 @@ module _ (p : Field → Bool) (none : p unused ≡ false) where
       pick p (fieldsIf k) (x ∷ y ∷ z ∷ []) ≡
       keptIf (p (getD (fieldsIf k) 0 unused)) x
       (keptIf (p (getD (fieldsIf k) 1 unused)) y (keptIf (p (getD (fieldsIf k) 2 unused)) z []))
-  pick-three nothing x y z = rw none
-  pick-three (some (join j)) x y z = refl
-  pick-three (some negation) x y z = refl
-  pick-three (some (test j)) x y z = refl
-  pick-three (some (quant j)) x y z = refl
-  pick-three (some (leaf identifier)) x y z = refl
-  pick-three (some (leaf givenSet)) x y z = refl
-  pick-three (some (leaf elementOf)) x y z = refl
-  pick-three (some (leaf (literal n))) x y z = refl
-  pick-three (some (leaf truthConst)) x y z = refl
-  pick-three (some (leaf emptySet)) x y z = refl
-  pick-three (some (leaf boolSet)) x y z = refl
-  pick-three (some boolOf) x y z = refl
-  pick-three (some (one j)) x y z = refl
-  pick-three (some (two j)) x y z = refl
-  pick-three (some comprehension) x y z = refl
+  pick-three k x y z =
+      by-fields
+      (λ fs. pick p fs (x ∷ y ∷ z ∷ []) ≡ keptIf (p (getD fs 0 unused)) x (keptIf (p (getD fs 1 unused)) y (keptIf (p (getD fs 2 unused)) z [])))
+      (λ f g h eg eh. refl)
+      (rw none)
+      k
 
   -- What a field of a sort holds is right.
   pub field-right : (tb : Table) (n : ℕ) (fs : List Field) (xs : List ℕ) (i : ℕ) → FieldsRight tb n fs xs →
@@ -133,23 +122,29 @@ pub counts-read : (b : Bool) (bs : List ℕ) (n i k code : ℕ) (hit : Bool) →
 counts-read b bs n i k code hit e f g = cc
 
 -- A child is below its parent, an identifier below I.
+pub child-lt : (tb : Table) (n : ℕ) (f : Field) (x : ℕ) → isChild f ≡ true → FieldRight tb n f x → x < n
+child-lt tb n unused x e h = absurd (false≢true e)
+child-lt tb n (child c) x e h = h .0
+child-lt tb n use-of x e h = absurd (false≢true e)
+child-lt tb n binder-of x e h = absurd (false≢true e)
+child-lt tb n setNumber x e h = absurd (false≢true e)
+child-lt tb n elementNumber x e h = absurd (false≢true e)
+child-lt tb n anyWord x e h = absurd (false≢true e)
+child-lt tb n truthBit x e h = absurd (false≢true e)
+
+binder-lt : (tb : Table) (n : ℕ) (f : Field) (x : ℕ) → isBinder f ≡ true → FieldRight tb n f x → x < length (tb .binds)
+binder-lt tb n unused x e h = absurd (false≢true e)
+binder-lt tb n (child c) x e h = absurd (false≢true e)
+binder-lt tb n use-of x e h = absurd (false≢true e)
+binder-lt tb n binder-of x e h = h
+binder-lt tb n setNumber x e h = absurd (false≢true e)
+binder-lt tb n elementNumber x e h = absurd (false≢true e)
+binder-lt tb n anyWord x e h = absurd (false≢true e)
+binder-lt tb n truthBit x e h = absurd (false≢true e)
+
 sort-below : (b : Bool) (tb : Table) (n : ℕ) (f : Field) (x : ℕ) → sortOf b f ≡ true → FieldRight tb n f x → x < max n (length (tb .binds))
-sort-below true tb n unused x e h = absurd (false≢true e)
-sort-below true tb n (child c) x e h = absurd (false≢true e)
-sort-below true tb n use-of x e h = absurd (false≢true e)
-sort-below true tb n binder-of x e h = omega arith
-sort-below true tb n setNumber x e h = absurd (false≢true e)
-sort-below true tb n elementNumber x e h = absurd (false≢true e)
-sort-below true tb n anyWord x e h = absurd (false≢true e)
-sort-below true tb n truthBit x e h = absurd (false≢true e)
-sort-below false tb n unused x e h = absurd (false≢true e)
-sort-below false tb n (child c) x e h = omega arith
-sort-below false tb n use-of x e h = absurd (false≢true e)
-sort-below false tb n binder-of x e h = absurd (false≢true e)
-sort-below false tb n setNumber x e h = absurd (false≢true e)
-sort-below false tb n elementNumber x e h = absurd (false≢true e)
-sort-below false tb n anyWord x e h = absurd (false≢true e)
-sort-below false tb n truthBit x e h = absurd (false≢true e)
+sort-below true tb n f x e h = omega (arith, binder-lt tb n f x e h)
+sort-below false tb n f x e h = omega (arith, child-lt tb n f x e h)
 
 -- So a word that counts is below 512.
 pub counts-below : (b : Bool) (bs : List ℕ) (at n i : ℕ) → FieldIn bs at n i → countsAt b bs n i ≡ true → fieldAt bs n i < 512

@@ -11,7 +11,8 @@ use lib.ListN.{getD}
 use borrow.Author.Tests.{le-ltb, lt-ltb, le-leb, lt-leb}
 use Rattle.rules.specs.Kinds.{Kind, join, negation, test, quant, leaf, boolOf, one, two, comprehension, kindOf, fieldsOf, categoryOf}
 use Rattle.rules.specs.Kinds.{Leaf, leafFields, identifier, givenSet, elementOf, literal, truthConst, emptySet, boolSet}
-use Rattle.rules.specs.Kinds.{Category, predicate, expression, isPredicate, isExpression, unused}
+use Rattle.rules.specs.Kinds.{Category, predicate, expression, isPredicate, isExpression, isBinder}
+use Rattle.rules.specs.Kinds.{Field, unused, child, use-of, binder-of, setNumber, elementNumber, anyWord, truthBit}
 use Rattle.rules.specs.Tables.{Table, tableOf, nodeAt, kindAt, fieldsIf, fieldWords, givenCount, identifierCount}
 use Rattle.rules.specs.Reading.{sizeGood, bindGood, categoryIs, fieldGood, fieldsGood, known, nodeGood}
 use Rattle.rules.proofs.TableLaws.{sizes-length, binds-length}
@@ -106,26 +107,34 @@ module _ (bs : List ℕ) (n x c : ℕ) where
   good-none (inl ec) = rw ec
   good-none (inr h) = rw (field-far c h)
 
--- Each kind has three fields.
-leaf-three : (j : Leaf) → leafFields j ≡ getD (leafFields j) 0 unused ∷ getD (leafFields j) 1 unused ∷ getD (leafFields j) 2 unused ∷ []
-leaf-three identifier = refl
-leaf-three givenSet = refl
-leaf-three elementOf = refl
-leaf-three (literal n) = refl
-leaf-three truthConst = refl
-leaf-three emptySet = refl
-leaf-three boolSet = refl
+-- A kind has three fields, of which only the first may bind; an unknown kind has none.
+module _ (P : List Field → Type 0) (three : (f g h : Field) → isBinder g ≡ false → isBinder h ≡ false → P (f ∷ g ∷ h ∷ [])) where
+  by-leaf : (j : Leaf) → P (leafFields j)
+  by-leaf identifier = three use-of unused unused refl refl
+  by-leaf givenSet = three setNumber unused unused refl refl
+  by-leaf elementOf = three setNumber elementNumber unused refl refl
+  by-leaf (literal n) = three anyWord unused unused refl refl
+  by-leaf truthConst = three truthBit unused unused refl refl
+  by-leaf emptySet = three unused unused unused refl refl
+  by-leaf boolSet = three unused unused unused refl refl
+
+  by-kind : (k : Kind) → P (fieldsOf k)
+  by-kind (join j) = three (child predicate) (child predicate) unused refl refl
+  by-kind negation = three (child predicate) unused unused refl refl
+  by-kind (test j) = three (child expression) (child expression) unused refl refl
+  by-kind (quant j) = three binder-of (child expression) (child predicate) refl refl
+  by-kind (leaf j) = by-leaf j
+  by-kind boolOf = three (child predicate) unused unused refl refl
+  by-kind (one j) = three (child expression) unused unused refl refl
+  by-kind (two j) = three (child expression) (child expression) unused refl refl
+  by-kind comprehension = three binder-of (child expression) (child predicate) refl refl
+
+  pub by-fields : P [] → (k : Option Kind) → P (fieldsIf k)
+  by-fields unknown nothing = unknown
+  by-fields unknown (some k) = by-kind k
 
 fields-three : (k : Kind) → fieldsOf k ≡ getD (fieldsOf k) 0 unused ∷ getD (fieldsOf k) 1 unused ∷ getD (fieldsOf k) 2 unused ∷ []
-fields-three (join j) = refl
-fields-three negation = refl
-fields-three (test j) = refl
-fields-three (quant j) = refl
-fields-three (leaf j) = leaf-three j
-fields-three boolOf = refl
-fields-three (one j) = refl
-fields-three (two j) = refl
-fields-three comprehension = refl
+fields-three = by-kind (λ fs. fs ≡ getD fs 0 unused ∷ getD fs 1 unused ∷ getD fs 2 unused ∷ []) (λ f g h p q. refl)
 
 and-three : (a b c : Bool) → (a && b && c) ≡ (a && (b && (c && true)))
 and-three false b c = refl

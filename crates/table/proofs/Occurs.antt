@@ -2,7 +2,7 @@
 use Prim.Native.Nat.{ℕ, zero, suc, _+_, _-_, _≤_, _<_}
 use mathlib.Core.Bool.{Bool, true, false, not, _&&_, _||_, cond}
 use mathlib.Core.List.{List, [], _∷_}
-use mathlib.Core.Option.{Option, none as nothing, some}
+use mathlib.Core.Option.{Option}
 use mathlib.Core.Path.{_≡_, refl, sym, ap, ap₂, _∙_}
 use native.Mathlib.Omega.{arith}
 use native.Mathlib.Decide.{ℕ-discrete}
@@ -11,40 +11,16 @@ use lib.ListN.{length, getD, set}
 use lib.Seq.{getD-set-same, getD-set-other}
 use borrow.Author.Tests.{eq-eqb, ne-eqb}
 use mir.Val.{boolByte}
-use Rattle.rules.specs.Kinds.{Kind, join, negation, test, quant, leaf, boolOf, one, two, comprehension, kindOf, predicate, expression, isChild, isBinder}
-use Rattle.rules.specs.Kinds.{Leaf, identifier, givenSet, elementOf, literal, truthConst, emptySet, boolSet, leafFields}
+use Rattle.rules.specs.Kinds.{Kind, kindOf, predicate, expression, isChild, isBinder}
 use Rattle.rules.specs.Kinds.{Field, unused, child, use-of, binder-of, setNumber, elementNumber, anyWord, truthBit}
-use Rattle.rules.specs.Tables.{Node, Table, tableOf, nodeAt, kindAt, fieldsAt, fieldsIf, fieldWords, keptIf, pick, held, lastNode, nodeCount, identifierCount}
+use Rattle.rules.specs.Tables.{Node, Table, tableOf, nodeAt, fieldsAt, fieldsIf, fieldWords, keptIf, pick, held, lastNode, nodeCount}
 use Rattle.rules.specs.Reading.{occurrences, occursIn, occursInAny, bindsHere, occursStep, occursFree, boundRight, binders, binding}
-use Rattle.rules.specs.Readable.{FieldRight, FieldsRight, KindRight, NodeRight}
-use Rattle.rules.proofs.EndLaws.{absurd01}
 use Rattle.rules.proofs.TableLaws.{fields-right, nodes-length, occursFree-at}
 use Rattle.table.specs.Codes.{fieldOf}
-use Rattle.table.specs.Layout.{flag, Occurs, Fielded, WordOf}
+use Rattle.table.specs.Layout.{flag, Occurs, Fielded, FieldIn, countsAt, fieldAt, WordOf, Counted}
 use Rattle.table.proofs.Access.{by-code, field-far}
-
--- A kind has three fields, of which only the first may bind; an unknown kind has none.
-module _ (P : List Field → Type 0) (unknown : P []) (known : (f g h : Field) → isBinder g ≡ false → isBinder h ≡ false → P (f ∷ g ∷ h ∷ [])) where
-  by-leaf : (j : Leaf) → P (leafFields j)
-  by-leaf identifier = known use-of unused unused refl refl
-  by-leaf givenSet = known setNumber unused unused refl refl
-  by-leaf elementOf = known setNumber elementNumber unused refl refl
-  by-leaf (literal n) = known anyWord unused unused refl refl
-  by-leaf truthConst = known truthBit unused unused refl refl
-  by-leaf emptySet = known unused unused unused refl refl
-  by-leaf boolSet = known unused unused unused refl refl
-
-  by-fields : (k : Option Kind) → P (fieldsIf k)
-  by-fields nothing = unknown
-  by-fields (some (join j)) = known (child predicate) (child predicate) unused refl refl
-  by-fields (some negation) = known (child predicate) unused unused refl refl
-  by-fields (some (test j)) = known (child expression) (child expression) unused refl refl
-  by-fields (some (quant j)) = known binder-of (child expression) (child predicate) refl refl
-  by-fields (some (leaf j)) = by-leaf j
-  by-fields (some boolOf) = known (child predicate) unused unused refl refl
-  by-fields (some (one j)) = known (child expression) unused unused refl refl
-  by-fields (some (two j)) = known (child expression) (child expression) unused refl refl
-  by-fields (some comprehension) = known binder-of (child expression) (child predicate) refl refl
+use Rattle.table.proofs.Fields.{by-fields}
+use Rattle.table.proofs.Counting.{field-right, child-lt, counts-below, counted-all}
 
 kept-once : (p : Bool) (x y : ℕ) → leb 1 (occurrences x (keptIf p y [])) ≡ (p && eqb x y)
 unfolding occurrences
@@ -61,8 +37,8 @@ unfolding held
 binds-first d x =
     by-fields
     (λ fs. leb 1 (occurrences x (pick isBinder fs (fieldWords d))) ≡ (isBinder (getD fs 0 unused) && eqb x (d .a)))
-    (kept-once false x (d .a))
     (λ f g h eg eh. rw (eg, eh) (kept-once (isBinder f) x (d .a)))
+    (kept-once false x (d .a))
     (kindOf (d .kind))
 
 module _ (d : Node) (x c : ℕ) (hit : Bool) (code : fieldOf c ≡ getD (fieldsAt d) 0 unused) (tested : hit ≡ isBinder (fieldOf c)) where
@@ -83,8 +59,8 @@ any-three x h occ k a b c =
     by-fields
     (λ fs. (occursIn x h occ (getD fs 0 unused) a || (occursIn x h occ (getD fs 1 unused) b || occursIn x h occ (getD fs 2 unused) c))
     ≡ occursInAny x h occ fs (a ∷ b ∷ c ∷ []))
-    refl
     (λ f g i eg ei. sym (or-three (occursIn x h occ f a) (occursIn x h occ g b) (occursIn x h occ i c)))
+    refl
     k
 
 -- x occurs free in a node where one of its three fields makes it so.
@@ -97,35 +73,24 @@ occurs-three d x h occ p q s e r hb ep eq es ee er =
     er ∙ rw (ee, ep, eq, es, ← hb) (any-three x h occ (kindOf (d .kind)) (d .a) (d .b) (d .c))
 
 -- A field that is a child holds a lower number.
-child-lt : (tb : Table) (n : ℕ) (f : Field) (x : ℕ) → FieldRight tb n f x → isChild f ≡ true → x < n
-child-lt tb n unused x r e = absurd (absurd01 (cc))
-child-lt tb n (child c) x r e = r .0
-child-lt tb n use-of x r e = absurd (absurd01 (cc))
-child-lt tb n binder-of x r e = absurd (absurd01 (cc))
-child-lt tb n setNumber x r e = absurd (absurd01 (cc))
-child-lt tb n elementNumber x r e = absurd (absurd01 (cc))
-child-lt tb n anyWord x r e = absurd (absurd01 (cc))
-child-lt tb n truthBit x r e = absurd (absurd01 (cc))
-
-children-lt : (tb : Table) (n : ℕ) (fs : List Field) (xs : List ℕ) (i : ℕ) → FieldsRight tb n fs xs →
-    isChild (getD fs i unused) ≡ true → getD xs i 0 < n
-children-lt tb n [] xs i r e = absurd (absurd01 (cc))
-children-lt tb n (f ∷ fs) [] i r e = absurd r
-children-lt tb n (f ∷ fs) (x ∷ xs) zero r e = child-lt tb n f x (r .0) e
-children-lt tb n (f ∷ fs) (x ∷ xs) (suc i) r e = children-lt tb n fs xs i (r .1) e
-
-pub child-at : (bs : List ℕ) (at n i : ℕ) → Fielded bs at → n < nodeCount bs →
-    isChild (getD (fieldsAt (nodeAt (tableOf bs .nodes) n)) i unused) ≡ true → getD (fieldWords (nodeAt (tableOf bs .nodes) n)) i 0 < n
-child-at bs at n i p h =
+child-at : (bs : List ℕ) (at n i : ℕ) → Fielded bs at → n < nodeCount bs → countsAt false bs n i ≡ true → fieldAt bs n i < n
+child-at bs at n i p h e =
     let d : Node = nodeAt (tableOf bs .nodes) n in
-    children-lt (tableOf bs) n (fieldsAt d) (fieldWords d) i (fields-right (tableOf bs) n (kindOf (d .kind)) (fieldWords d) (p .fields n h))
+    child-lt (tableOf bs) n (getD (fieldsAt d) i unused) (getD (fieldWords d) i 0) e
+    (field-right isChild refl (tableOf bs) n (fieldsAt d) (fieldWords d) i
+    (fields-right (tableOf bs) n (kindOf (d .kind)) (fieldWords d) (p .fields n h)) e)
 
--- So it is below the number of nodes.
-pub child-inside : (bs : List ℕ) (at n i c k y m : ℕ) → Fielded bs at → n < nodeCount bs → c ≡ k → isChild (fieldOf k) ≡ true →
-    fieldOf c ≡ getD (fieldsAt (nodeAt (tableOf bs .nodes) n)) i unused → y ≡ getD (fieldWords (nodeAt (tableOf bs .nodes) n)) i 0 → m ≡ 512 → y < m
-child-inside bs at n i c k y m p h e t code word l =
-    let q : isChild (getD (fieldsAt (nodeAt (tableOf bs .nodes) n)) i unused) ≡ true = rw (← code, e) t in
-    omega (arith, child-at bs at n i p h q, p .laid .header .few-nodes)
+child-field : (c : ℕ) → 1 ≤ c → c ≤ 2 → isChild (fieldOf c) ≡ true
+child-field zero lo hi = absurd (omega arith)
+child-field (suc zero) lo hi = refl
+child-field (suc (suc zero)) lo hi = refl
+child-field (suc (suc (suc c))) lo hi = absurd (omega arith)
+
+pub child-inside : (bs : List ℕ) (at n i c y m : ℕ) → FieldIn bs at n i → 1 ≤ c → c ≤ 2 →
+    fieldOf c ≡ getD (fieldsAt (nodeAt (tableOf bs .nodes) n)) i unused → y ≡ fieldAt bs n i → m ≡ 512 → y < m
+child-inside bs at n i c y m f lo hi code word long =
+    let e : countsAt false bs n i ≡ true = rw (← code) (child-field c lo hi) in
+    omega (arith, counts-below false bs at n i f e)
 
 -- Free occurrence in a node asks only for the node's children.
 occursIn-same : (x : ℕ) (b : Bool) (h k : ℕ → Bool) (f : Field) (y : ℕ) → (isChild f ≡ true → h y ≡ k y) → occursIn x b h f y ≡ occursIn x b k f y
@@ -181,16 +146,23 @@ occurs-none x b occ y =
     (λ p q r. refl) (λ p q r. refl) (λ p q r. refl) (λ p q r. refl) (λ p q r. refl)
     (λ c h p q r. rw (field-far c h))
 
+-- Those that hold a child: x occurs free there where it does in the child, but not in the body of its own binder.
+occurs-child : (x : ℕ) (b : Bool) (occ : ℕ → Bool) (y c : ℕ) → 1 ≤ c → c ≤ 2 → (not (b && eqb c 1) && occ y) ≡ occursIn x b occ (fieldOf c) y
+occurs-child x b occ y zero lo hi = absurd (omega arith)
+occurs-child x true occ y (suc zero) lo hi = refl
+occurs-child x false occ y (suc zero) lo hi = refl
+occurs-child x true occ y (suc (suc zero)) lo hi = refl
+occurs-child x false occ y (suc (suc zero)) lo hi = refl
+occurs-child x b occ y (suc (suc (suc c))) lo hi = absurd (omega arith)
+
 -- What a field makes occur free, by its code.
 module _ (x : ℕ) (b : Bool) (occ : ℕ → Bool) (c y v : ℕ) (f : Field) (code : fieldOf c ≡ f) (word : y ≡ v) where
-  pub occurs-bound : c ≡ 1 → b ≡ true → false ≡ occursIn x b occ f v
-  occurs-bound e h = rw (← code, e, h)
+  module _ (body : Bool) (tested : body ≡ (b && eqb c 1)) (lo : 1 ≤ c) (hi : c ≤ 2) where
+    pub occurs-bound : body ≡ true → false ≡ occursIn x b occ f v
+    occurs-bound e = rw (← code, ← word, ← occurs-child x b occ y c lo hi, ← tested, e)
 
-  pub occurs-body : c ≡ 1 → b ≡ false → occ y ≡ occursIn x b occ f v
-  occurs-body e h = rw (← code, e, h, word)
-
-  pub occurs-below : c ≡ 2 → occ y ≡ occursIn x b occ f v
-  occurs-below e = rw (← code, e, word)
+    pub occurs-below : body ≡ false → occ y ≡ occursIn x b occ f v
+    occurs-below e = rw (← code, ← word, ← occurs-child x b occ y c lo hi, ← tested, e)
 
   pub occurs-used : c ≡ 3 → eqb x y ≡ occursIn x b occ f v
   occurs-used e = rw (← code, e, word)
@@ -220,3 +192,8 @@ module _ (bs : List ℕ) (x w t : ℕ) (word : WordOf bs x w) (times : t ≡ bin
   unfolding binding
   binding-wrong ne e =
       rw (← word 0, ← times) (rw (ne-eqb t 1 e) at (bound-once w t (occursFree (tableOf bs .nodes) x (lastNode (tableOf bs .nodes))) ne))
+
+-- How often an identifier is bound.
+pub counted-binders : (bs c : List ℕ) (x : ℕ) → Counted true bs (nodeCount bs) c → x < length c → getD c x 0 ≡ binders (tableOf bs .nodes) x
+unfolding binders
+counted-binders bs c x counted h = counted-all true bs c counted x h

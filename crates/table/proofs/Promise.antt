@@ -2,7 +2,7 @@
 use Prim.Native.Nat.{ℕ}
 use mathlib.Core.List.{List}
 use mathlib.Core.Path.{_≡_, refl, sym}
-use Rattle.rules.specs.Tables.{tableOf, nodesAt}
+use Rattle.rules.specs.Tables.{nodesAt}
 use Rattle.rules.specs.Reading.{reading}
 use Rattle.rules.specs.Readable.{Readable}
 use Rattle.rules.proofs.ReadingLaws.{reading-right}

@@ -1,22 +1,25 @@
 // Refusal 9: a bound identifier is named by exactly one binder and used only in its body; a free one has no binder.
 use crate::bind;
+use crate::both;
 use crate::counts;
 use crate::field;
 use crate::field_code;
+use crate::identifiers;
 use crate::kind;
 use crate::nodes;
+use crate::tree::count_nodes;
 ghost use mathlib.Core.Path.{_≡_};
 ghost use mathlib.Core.Bool.{_||_};
-ghost use Prim.Native.Nat.{ℕ, _<_};
+ghost use Prim.Native.Nat.{_<_};
 ghost use lib.ListN.{length, getD};
 ghost use Rattle.rules.specs.Kinds.{unused};
-ghost use Rattle.rules.specs.Tables.{tableOf, nodeAt, fieldsAt, fieldWords, lastNode};
+ghost use Rattle.rules.specs.Tables.{tableOf, nodeAt, fieldsAt, lastNode};
 ghost use Rattle.rules.specs.Tables.{identifierCount, nodeCount};
 ghost use Rattle.rules.specs.Ends.{leastFailing};
 ghost use Rattle.rules.specs.Reading.{occursIn, occursStep, occursFree, bindsHere, binders, binding};
 ghost use Rattle.table.specs.Answers.{foundOr};
 ghost use Rattle.table.specs.Codes.{fieldOf};
-ghost use Rattle.table.specs.Layout.{NodeIn, Fielded, Counted, flag};
+ghost use Rattle.table.specs.Layout.{NodeIn, Fielded, FieldIn, fieldAt, flag};
 
 // One test or the other, as a value with no branch for the caller's proof.
 fn either(a: bool, b: bool) -> bool
@@ -54,18 +57,19 @@ fn field_occurs(
     here: bool,
     occurs: &[u8],
 ) -> bool
-    requires { ⌜ Fielded (now table) at × (n < nodeCount (now table)) × (i < 3) × (length (now occurs) ≡ 512) ⌝ }
-    ensures { λ r. ⌜ r ≡ occursIn x here (flag (now (occurs .entry))) (getD (fieldsAt (nodeAt (tableOf (now (table .entry)) .nodes) n)) i unused) (getD (fieldWords (nodeAt (tableOf (now (table .entry)) .nodes) n)) i 0) ⌝ }
+    requires { ⌜ FieldIn (now table) at n i × (length (now occurs) ≡ 512) ⌝ }
+    ensures { λ r. ⌜ r ≡ occursIn x here (flag (now (occurs .entry))) (getD (fieldsAt (nodeAt (tableOf (now (table .entry)) .nodes) n)) i unused) (fieldAt (now (table .entry)) n i) ⌝ }
 {
     let y = field(table, at, n, i);
-    match holds(table, at, n, i) {
-        1 => {
-            if here {
+    let code = holds(table, at, n, i);
+    match code {
+        1 | 2 => {
+            // A binder binds in its body, a predicate, and not in its range.
+            if both(here, code == 1) {
                 return false;
             }
             occurs[y] == 1
         }
-        2 => occurs[y] == 1,
         3 => x == y,
         _ => false,
     }
@@ -111,4 +115,23 @@ fn binding_is_good(table: &[u8], at: usize, x: usize, times: u16) -> bool
         return !occurs_free(table, at, x);
     }
     false
+}
+
+// Refusal 9: the least identifier that breaks the binding rules, or I.
+pub fn first_bad_binding(table: &[u8], at: usize) -> usize
+    requires { ⌜ Fielded (now table) at ⌝ }
+    ensures { λ r. ⌜ r ≡ foundOr (identifierCount (now (table .entry))) (leastFailing (binding (tableOf (now (table .entry)))) 0 (identifierCount (now (table .entry)))) ⌝ }
+{
+    let count = identifiers(table);
+    let mut counted = [0u16; 512];
+    count_nodes(table, at, &mut counted, true);
+    let mut x: usize = 0;
+    while x < count {
+        let times = counted[x];
+        if !binding_is_good(table, at, x, times) {
+            return x;
+        }
+        x += 1;
+    }
+    count
 }

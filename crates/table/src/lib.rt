@@ -1,19 +1,18 @@
 // Reading a table: refusals 1 to 9 of document 01, and the words of a readable table.
 ghost use mathlib.Core.Path.{_≡_};
-ghost use mathlib.Core.Bool.{true, _&&_, cond};
-ghost use Prim.Native.Nat.{ℕ, _+_, _*_, _-_, _<_, _≤_, max};
+ghost use mathlib.Core.Bool.{_&&_};
+ghost use Prim.Native.Nat.{_+_, _<_, _≤_};
 ghost use lib.Dec.{eqb, ltb};
 ghost use lib.ListN.{length, getD};
-ghost use Rattle.rules.specs.Kinds.{kindOf, unused, isChild, isBinder};
-ghost use Rattle.rules.specs.Tables.{wordAt, tableOf, nodeAt, fieldsAt, fieldsIf, fieldWords, held, heldIn, lastNode};
+ghost use Rattle.rules.specs.Kinds.{kindOf, unused};
+ghost use Rattle.rules.specs.Tables.{wordAt, tableOf, nodeAt, fieldsIf, fieldWords};
 ghost use Rattle.rules.specs.Tables.{givenCount, identifierCount, nodeCount, nodesAt};
 ghost use Rattle.rules.specs.Ends.{leastFailing};
 ghost use Rattle.rules.specs.Readable.{Header};
-ghost use Rattle.rules.specs.Reading.{reading, headed, limited, laidOut, sizeGood, bindGood, nodeGood, fieldGood, parentGood, heightGood, binding};
-ghost use Rattle.rules.specs.Reading.{occurrences, tallest, occursIn, occursStep, occursFree, bindsHere, boundRight, binders};
+ghost use Rattle.rules.specs.Reading.{reading, headed, limited, laidOut, sizeGood, bindGood, nodeGood, fieldGood};
 ghost use Rattle.table.specs.Answers.{readingOf, readingRecords, readingTree, foundOr};
 ghost use Rattle.table.specs.Codes.{fieldOf, categoryCode};
-ghost use Rattle.table.specs.Layout.{Laid, NodeIn, Fielded, BumpPre, Bumped, sortOf, Counted, Heights, flag, Occurs, WordOf};
+ghost use Rattle.table.specs.Layout.{Laid, NodeIn, Fielded, sortOf, WordOf};
 
 mod binding;
 mod tree;
@@ -419,4 +418,67 @@ fn counts(code: u8, binders: bool) -> bool
         return code == 4;
     }
     code == 1 || code == 2
+}
+
+fn refused(number: u8, place: usize) -> Reading
+    ensures { λ r. ⌜ r ≡ Reading.Refused (record { number = number; place = place }) ⌝ }
+{
+    Reading::Refused(Refusal { number, place })
+}
+
+// Refusals 7 to 9 of a table whose records are right.
+fn read_tree(table: &[u8], at: usize) -> Reading
+    requires { ⌜ Fielded (now table) at ⌝ }
+    ensures { λ r. ⌜ readingOf (now (table .entry)) r ≡ readingTree (now (table .entry)) ⌝ }
+{
+    let n = tree::first_bad_parent(table, at);
+    if n < nodes(table) {
+        return refused(7, n);
+    }
+    let m = tree::first_bad_height(table, at);
+    if m < nodes(table) {
+        return refused(8, m);
+    }
+    let x = binding::first_bad_binding(table, at);
+    if x < identifiers(table) {
+        return refused(9, x);
+    }
+    Reading::Passed
+}
+
+// Refusals 4 to 9 of a table whose header is right.
+fn read_records(table: &[u8]) -> Reading
+    requires { ⌜ Header (now table) ⌝ }
+    ensures { λ r. ⌜ readingOf (now (table .entry)) r ≡ readingRecords (now (table .entry)) ⌝ }
+{
+    let at = nodes_offset(table);
+    let g = first_bad_size(table);
+    if g < givens(table) {
+        return refused(4, g);
+    }
+    let x = first_bad_bind(table);
+    if x < identifiers(table) {
+        return refused(5, x);
+    }
+    let n = first_bad_node(table, at);
+    if n < nodes(table) {
+        return refused(6, n);
+    }
+    read_tree(table, at)
+}
+
+// Refusals 1 to 9 in order, with the least place of each.
+pub fn read(table: &[u8]) -> Reading
+    ensures { λ r. ⌜ readingOf (now (table .entry)) r ≡ reading (now (table .entry)) ⌝ }
+{
+    if !is_headed(table) {
+        return refused(1, 0);
+    }
+    if !is_limited(table) {
+        return refused(2, 0);
+    }
+    if !is_laid_out(table) {
+        return refused(3, 0);
+    }
+    read_records(table)
 }

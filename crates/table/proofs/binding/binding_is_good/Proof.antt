@@ -1,29 +1,21 @@
+-- By the identifier's word and by how often it is bound.
 use Rattle.table.proofs.Occurs.{binding-free, binding-once, binding-wrong}
 use borrow.Author.Needs.{needs}
 use Rattle.table.proofs.binding.binding_is_good.Statement.{statement}
 use Rattle.table.proofs.binding.binding_is_good.Tie as tie
-use Rattle.table.proofs.binding.binding_is_good.Reads as reads
-use Rattle.table.proofs.binding.binding_is_good.Lts as lts
-use Rattle.table.proofs.bind.Reads as bind-reads
-use Rattle.table.proofs.binding.occurs_free.Reads as occurs-free-reads
 
--- src/binding.rt:94:8
 bind-requires : tie.Need-bind-requires
 bind-requires c κs = search needs
 
--- src/binding.rt:95:9
 returns : tie.Need-returns
 returns c = binding-free _ _ _ _ (c .before .bind .ensures) (c .before .before .before .pre .2) (c .if1 .taken)
 
--- src/binding.rt:98:17
 occurs-free-requires : tie.Need-occurs-free-requires
 occurs-free-requires c κs = search needs
 
--- src/binding.rt:98:9
 returns-2 : tie.Need-returns-2
 returns-2 c = binding-once _ _ _ _ (c .before .before .before .bind .ensures) (c .before .before .before .before .before .pre .2) _ (c .before .before .if1 .left) (c .before .if2 .taken) (c .occurs-free .ensures)
 
--- src/binding.rt:90:1
 returns-3 : tie.Need-returns-3
 returns-3 c = binding-wrong _ _ _ _ (c .before .before .bind .ensures) (c .before .before .before .before .pre .2) (c .before .if1 .left) (c .if2 .left)
 

@@ -1,30 +1,21 @@
+-- Only the first field of a kind binds.
 use Rattle.table.proofs.Occurs.{binds-hit, binds-miss}
 use borrow.Author.Needs.{needs}
 use Rattle.table.proofs.binding.binds.Statement.{statement}
 use Rattle.table.proofs.binding.binds.Tie as tie
-use Rattle.table.proofs.binding.binds.Reads as reads
-use Rattle.table.proofs.binding.binds.Lts as lts
-use Rattle.table.proofs.binding.holds.Reads as holds-reads
-use Rattle.table.proofs.counts.Reads as counts-reads
-use Rattle.table.proofs.field.Reads as field-reads
 
--- src/binding.rt:29:15
 holds-requires : tie.Need-holds-requires
 holds-requires c κs = search needs
 
--- src/binding.rt:29:8
 counts-requires : tie.Need-counts-requires
 counts-requires c κs = search needs
 
--- src/binding.rt:30:21
 field-requires : tie.Need-field-requires
 field-requires c κs = search needs
 
--- src/binding.rt:30:9
 returns : tie.Need-returns
 returns c = binds-hit _ _ (c .before .before .before .holds .result) _ (c .before .before .before .holds .ensures) (c .before .before .counts .ensures) _ (c .before .if1 .taken) (c .field .ensures)
 
--- src/binding.rt:25:1
 returns-2 : tie.Need-returns-2
 returns-2 c = binds-miss _ _ (c .before .before .holds .result) _ (c .before .before .holds .ensures) (c .before .counts .ensures) (c .if1 .left)
 

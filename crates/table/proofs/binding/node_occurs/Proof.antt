@@ -1,38 +1,27 @@
+-- x occurs free in a node where one of its three fields makes it so.
 use Rattle.table.proofs.Occurs.{occurs-three}
 use borrow.Author.Needs.{needs}
 use Rattle.table.proofs.binding.node_occurs.Statement.{statement}
 use Rattle.table.proofs.binding.node_occurs.Tie as tie
-use Rattle.table.proofs.binding.node_occurs.Reads as reads
-use Rattle.table.proofs.binding.node_occurs.Lts as lts
-use Rattle.table.proofs.binding.binds.Reads as binds-reads
-use Rattle.table.proofs.binding.either.Reads as either-reads
-use Rattle.table.proofs.binding.field_occurs.Reads as field-occurs-reads
 
--- src/binding.rt:66:9
 binds-requires : tie.Need-binds-requires
 binds-requires c κs = search needs
 
--- src/binding.rt:67:9
 field-occurs-requires : tie.Need-field-occurs-requires
 field-occurs-requires c κs = search needs
 
--- src/binding.rt:68:9
 field-occurs-requires-2 : tie.Need-field-occurs-requires-2
 field-occurs-requires-2 c κs = search needs
 
--- src/binding.rt:69:9
 field-occurs-requires-3 : tie.Need-field-occurs-requires-3
 field-occurs-requires-3 c κs = search needs
 
--- src/binding.rt:70:15
 either-requires : tie.Need-either-requires
 either-requires c κs = search needs
 
--- src/binding.rt:70:5
 either-requires-2 : tie.Need-either-requires-2
 either-requires-2 c κs = search needs
 
--- src/binding.rt:62:1
 returns : tie.Need-returns
 returns c =
     occurs-three _ _ _ _ _ _ _ _ _ (c .before .before .before .before .before .binds .ensures) (c .before .before .before .before .field-occurs .ensures)
