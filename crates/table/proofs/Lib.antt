@@ -1,0 +1,9 @@
+-- Laws that the proofs of this crate's functions share.
+pub mod Access
+pub mod Least
+pub mod Fields
+pub mod Counting
+pub mod Heights
+pub mod Occurs
+pub mod Stages
+pub mod Promise

@@ -1,0 +1,53 @@
+-- A known kind has three fields.
+use borrow.Author.Needs.{needs}
+use Rattle.table.proofs.Fields.{node-unknown, node-read}
+use Rattle.table.proofs.node_is_good.Statement.{statement}
+use Rattle.table.proofs.node_is_good.Tie as tie
+
+kind-requires : tie.Need-kind-requires
+kind-requires c κs = search needs
+
+category-requires : tie.Need-category-requires
+category-requires c κs = search needs
+
+returns : tie.Need-returns
+returns c =
+    let s = c .before .before .before .before .args in
+    node-unknown (s .table .now) (s .n) _ _ (c .before .before .kind .ensures) (c .before .category .ensures) (c .if1 .taken)
+
+field-at-is-good-requires : tie.Need-field-at-is-good-requires
+field-at-is-good-requires c κs = search needs
+
+field-at-is-good-requires-2 : tie.Need-field-at-is-good-requires-2
+field-at-is-good-requires-2 c κs = search needs
+
+field-at-is-good-requires-3 : tie.Need-field-at-is-good-requires-3
+field-at-is-good-requires-3 c κs = search needs
+
+both-requires : tie.Need-both-requires
+both-requires c κs = search needs
+
+both-requires-2 : tie.Need-both-requires-2
+both-requires-2 c κs = search needs
+
+returns-2 : tie.Need-returns-2
+returns-2 c =
+    let t = c .before .before .before .before .before in
+    let s = t .before .before .before .before .args in
+    node-read (s .table .now) (s .n) _ _ (t .before .before .kind .ensures) (t .before .category .ensures) (t .if1 .left) _ _ _ _ _
+    (c .before .before .before .before .field-at-is-good .ensures) (c .before .before .before .field-at-is-good2 .ensures) (c .before .before .field-at-is-good3 .ensures)
+    (c .before .both .ensures) (c .both2 .ensures)
+
+pub node-is-good-spec : {M : Type 1} → statement M
+node-is-good-spec =
+    tie.close
+    (tie.spec
+    kind-requires
+    category-requires
+    returns
+    field-at-is-good-requires
+    field-at-is-good-requires-2
+    field-at-is-good-requires-3
+    both-requires
+    both-requires-2
+    returns-2)
