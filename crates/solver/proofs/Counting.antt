@@ -44,3 +44,21 @@ count-strict f h (suc n) m j l p q = go (ℕ-discrete j n) (λ l′. count-stric
     go : Dec (j ≡ n) → (j < n → countBelow f n < countBelow h n) → countBelow f (suc n) < countBelow h (suc n)
     go (yes e) ih = tally-strict (f n) (h n) (countBelow f n) (countBelow h n) (cc) (cc) (count-mono f h n (λ i k. m i (omega arith)))
     go (no e) ih = tally-lt (f n) (h n) (countBelow f n) (countBelow h n) (m n (omega arith)) (ih (omega arith))
+
+-- all pass, or one does not
+pub count-all : (f : ℕ → Bool) (n : ℕ) → n ≤ countBelow f n → (v : ℕ) → v < n → f v ≡ true
+count-all f zero h v l = absurd (not-suc-le-zero l)
+count-all f (suc n) h v l = go (f n) refl h (ℕ-discrete v n) (λ k l′. count-all f n k v l′)
+  where
+    go : (b : Bool) → f n ≡ b → suc n ≤ tally b (countBelow f n) → Dec (v ≡ n) → (n ≤ countBelow f n → v < n → f v ≡ true) → f v ≡ true
+    go true e k (yes y) ih = rw y e
+    go true e k (no ne) ih = ih (omega arith) (omega arith)
+    go false e k d ih = absurd (omega (arith, count-le f n))
+
+pub count-some : (f : ℕ → Bool) (n : ℕ) → countBelow f n < n → (v : ℕ) × (v < n) × (f v ≡ false)
+count-some f zero h = absurd (not-suc-le-zero h)
+count-some f (suc n) h = go (f n) refl h (count-some f n)
+  where
+    go : (b : Bool) → f n ≡ b → tally b (countBelow f n) < suc n → (countBelow f n < n → (v : ℕ) × (v < n) × (f v ≡ false)) → (v : ℕ) × (v < suc n) × (f v ≡ false)
+    go true e k ih = let r = ih (omega arith) in (r .0, omega (arith, r .1), r .2)
+    go false e k ih = (n, omega arith, e)

@@ -7,3 +7,4 @@ pub mod Loops
 pub mod Resolve
 pub mod Sweeps
 pub mod Stack
+pub mod Marking

@@ -2,9 +2,10 @@
 ghost use mathlib.Core.Path.{_≡_};
 ghost use Prim.Native.Nat.{ℕ, _+_, _*_, _<_, _≤_, min};
 ghost use lib.ListN.{length, getD};
-ghost use Rattle.solver.specs.Arrays.{shapeAt, Arrays};
+ghost use Rattle.solver.specs.Arrays.{shapeAt, Arrays, ClassArrays};
 ghost use Rattle.solver.specs.Classes.{WellFormed, change as changed, relabel as relabelled, Unified};
 ghost use Rattle.solver.specs.Turn.{plan as planned, merged, pushTwo, classOf, TurnPre, TurnPost};
+ghost use Rattle.solver.specs.Marks.{statusOf, markOf, orElse, sweepTo, marked, SoundMarks, Settled, StatusPre};
 
 fn wide(x: u16) -> usize
     ensures { λ r. ⌜ r ≡ x ⌝ }
@@ -140,4 +141,96 @@ fn unify(kind: &[u8], left: &[u16], right: &[u16], cls: &mut [u16], ls: &mut [u1
         h += c as usize;
     }
     true
+}
+
+fn least(a: u8, b: u8) -> u8
+    ensures { λ r. ⌜ r ≡ min a b ⌝ }
+{
+    if a < b { a } else { b }
+}
+
+fn mark_at(mark: &[u8], x: u16) -> u8
+    requires { ⌜ x < length (now mark) ⌝ }
+    ensures { λ r. ⌜ r ≡ markOf (now (mark .entry)) x ⌝ }
+{
+    let i = wide(x);
+    mark[i]
+}
+
+// The mark of the class c, by its shape and its parts' marks.
+fn status(kind: &[u8], left: &[u16], right: &[u16], mark: &[u8], c: u16) -> u8
+    requires { ⌜ StatusPre (now kind) (now left) (now right) (now mark) c ⌝ }
+    ensures { λ r. ⌜ r ≡ statusOf (markOf (now (mark .entry))) (shapeAt (now (kind .entry)) (now (left .entry)) (now (right .entry)) c) ⌝ }
+{
+    let i = wide(c);
+    let k = kind[i];
+    if k == 0 {
+        return 1;
+    }
+    if k == 1 {
+        return 2;
+    }
+    let a = mark_at(mark, left[i]);
+    if k == 2 {
+        return a;
+    }
+    let b = mark_at(mark, right[i]);
+    least(a, b)
+}
+
+// A variable that has a mark keeps it.
+fn new_mark(kind: &[u8], left: &[u16], right: &[u16], cls: &[u16], mark: &[u8], v: usize) -> u8
+    requires { ⌜ StatusPre (now kind) (now left) (now right) (now mark) (getD (now cls) v 0) ⌝ }
+    requires { ⌜ (v < length (now cls)) × (v < length (now mark)) ⌝ }
+    ensures { λ r. ⌜ r ≡ orElse (markOf (now (mark .entry)) v) (statusOf (markOf (now (mark .entry))) (shapeAt (now (kind .entry)) (now (left .entry)) (now (right .entry)) (getD (now (cls .entry)) v 0))) ⌝ }
+{
+    let m = mark[v];
+    if m != 0 {
+        return m;
+    }
+    status(kind, left, right, mark, cls[v])
+}
+
+fn sweep(kind: &[u8], left: &[u16], right: &[u16], cls: &[u16], mark: &mut [u8])
+    requires { ⌜ ClassArrays (now kind) (now left) (now right) (now cls) (length (now mark)) ⌝ }
+    ensures { λ _. ⌜ now (mark .exit) ≡ sweepTo (shapeAt (now (kind .entry)) (now (left .entry)) (now (right .entry))) (now (cls .entry)) (length (now (mark .entry))) (now (mark .entry)) ⌝ }
+{
+    let mut i: usize = 0;
+    while i < mark.len() {
+        let m = new_mark(kind, left, right, cls, mark, i);
+        mark[i] = m;
+        i += 1;
+    }
+}
+
+// How many variables are marked.
+fn count(mark: &[u8]) -> usize
+    ensures { λ r. ⌜ r ≡ marked (length (now (mark .entry))) (now (mark .entry)) ⌝ }
+{
+    let mut n: usize = 0;
+    let mut i: usize = 0;
+    while i < mark.len() {
+        if mark[i] != 0 {
+            n += 1;
+        }
+        i += 1;
+    }
+    n
+}
+
+// Sweeps until one marks nothing new, and says how many variables are marked then.
+fn settle(kind: &[u8], left: &[u16], right: &[u16], cls: &[u16], mark: &mut [u8]) -> usize
+    requires { ⌜ ClassArrays (now kind) (now left) (now right) (now cls) (length (now mark)) ⌝ }
+    requires { ⌜ SoundMarks (shapeAt (now kind) (now left) (now right)) (now cls) (length (now mark)) (now mark) ⌝ }
+    ensures { λ r. ⌜ Settled (shapeAt (now (kind .entry)) (now (left .entry)) (now (right .entry))) (now (cls .entry)) (length (now (mark .entry))) (now (mark .exit)) × (r ≡ marked (length (now (mark .entry))) (now (mark .exit))) ⌝ }
+{
+    let mut old = count(mark);
+    loop {
+        sweep(kind, left, right, cls, mark);
+        let new = count(mark);
+        if new == old {
+            return new;
+        }
+        old = new;
+    }
 }
