@@ -8,3 +8,4 @@ pub mod Resolve
 pub mod Sweeps
 pub mod Stack
 pub mod Marking
+pub mod Whole

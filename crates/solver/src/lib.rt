@@ -1,11 +1,12 @@
 // Decides a problem of unification over types.
 ghost use mathlib.Core.Path.{_≡_};
 ghost use Prim.Native.Nat.{ℕ, _+_, _*_, _<_, _≤_, min};
-ghost use lib.ListN.{length, getD};
-ghost use Rattle.solver.specs.Arrays.{shapeAt, Arrays, ClassArrays};
-ghost use Rattle.solver.specs.Classes.{WellFormed, change as changed, relabel as relabelled, Unified};
+ghost use lib.ListN.{length, getD, replicate};
+ghost use Rattle.solver.specs.Arrays.{shapeAt, Arrays, equations, Equations, ClassArrays};
+ghost use Rattle.solver.specs.Classes.{WellFormed, ownClasses, change as changed, relabel as relabelled, Unified, UnifiedAll};
 ghost use Rattle.solver.specs.Turn.{plan as planned, merged, pushTwo, classOf, TurnPre, TurnPost};
 ghost use Rattle.solver.specs.Marks.{statusOf, markOf, orElse, sweepTo, marked, SoundMarks, Settled, StatusPre};
+ghost use Rattle.solver.specs.Solved.{Answer};
 
 fn wide(x: u16) -> usize
     ensures { λ r. ⌜ r ≡ x ⌝ }
@@ -233,4 +234,65 @@ fn settle(kind: &[u8], left: &[u16], right: &[u16], cls: &[u16], mark: &mut [u8]
         }
         old = new;
     }
+}
+
+fn own_classes(cls: &mut [u16])
+    requires { ⌜ length (now cls) ≤ 20000 ⌝ }
+    ensures { λ _. ⌜ now (cls .exit) ≡ ownClasses (length (now (cls .entry))) ⌝ }
+{
+    let mut i: usize = 0;
+    while i < cls.len() {
+        cls[i] = i as u16;
+        i += 1;
+    }
+}
+
+fn clear(mark: &mut [u8])
+    ensures { λ _. ⌜ now (mark .exit) ≡ replicate (length (now (mark .entry))) 0 ⌝ }
+{
+    let mut i: usize = 0;
+    while i < mark.len() {
+        mark[i] = 0;
+        i += 1;
+    }
+}
+
+fn unify_all(kind: &[u8], left: &[u16], right: &[u16], lhs: &[u16], rhs: &[u16], cls: &mut [u16], ls: &mut [u16], rs: &mut [u16]) -> bool
+    requires { ⌜ Arrays (now kind) (now left) (now right) (length (now cls)) ⌝ }
+    requires { ⌜ Equations (now lhs) (now rhs) (length (now cls)) ⌝ }
+    requires { ⌜ WellFormed (shapeAt (now kind) (now left) (now right)) (length (now cls)) (now cls) ⌝ }
+    requires { ⌜ (3 * length (now cls) + 3 ≤ length (now ls)) × (3 * length (now cls) + 3 ≤ length (now rs)) ⌝ }
+    ensures { λ r. ⌜ UnifiedAll (shapeAt (now (kind .entry)) (now (left .entry)) (now (right .entry))) (length (now (cls .entry))) (now (cls .entry)) (now (lhs .entry)) (now (rhs .entry)) (now (cls .exit)) r ⌝ }
+{
+    let mut i: usize = 0;
+    while i < lhs.len() {
+        let ok = unify(kind, left, right, cls, ls, rs, lhs[i], rhs[i]);
+        if !ok {
+            return false;
+        }
+        i += 1;
+    }
+    true
+}
+
+// Decides the equations lhs[i] = rhs[i] between variables of the shapes kind, left, right. ls and rs are room for a stack.
+// True: cls and mark hold what all solutions have in common. False: there is no solution.
+pub fn solve(kind: &[u8], left: &[u16], right: &[u16], lhs: &[u16], rhs: &[u16], cls: &mut [u16], ls: &mut [u16], rs: &mut [u16], mark: &mut [u8]) -> bool
+    requires { ⌜ Arrays (now kind) (now left) (now right) (length (now cls)) ⌝ }
+    requires { ⌜ Equations (now lhs) (now rhs) (length (now cls)) ⌝ }
+    requires { ⌜ (3 * length (now cls) + 3 ≤ length (now ls)) × (3 * length (now cls) + 3 ≤ length (now rs)) × (length (now mark) ≡ length (now cls)) ⌝ }
+    ensures { λ r. ⌜ Answer (shapeAt (now (kind .entry)) (now (left .entry)) (now (right .entry))) (length (now (cls .entry))) (equations (now (lhs .entry)) (now (rhs .entry)) (length (now (lhs .entry)))) (now (cls .exit)) (now (mark .exit)) r ⌝ }
+{
+    own_classes(cls);
+    let ok = unify_all(kind, left, right, lhs, rhs, cls, ls, rs);
+    if !ok {
+        return false;
+    }
+    clear(mark);
+    let resolved = settle(kind, left, right, cls, mark);
+    // A class that is never resolved is part of itself.
+    if resolved < mark.len() {
+        return false;
+    }
+    true
 }
