@@ -80,8 +80,8 @@ status-pre k l r cl m n v p e h =
       kind-long = omega (arith, p .arrays .kind-length);
       left-long = omega (arith, p .arrays .left-length);
       right-long = omega (arith, p .arrays .right-length);
-      parts = rw e (p .arrays .parts (getD cl v 0) b)
-      }
+      parts = rw e (p .arrays .parts (getD cl v 0) b);
+    }
 
 pub mark-glue : (m : List ℕ) (i x : ℕ) → i ≡ x → x < length m → getD m i 0 ≡ markOf m x
 mark-glue m i x e h = rw e (any-default m x 0 1 h)

@@ -27,6 +27,7 @@ module _ (g h : Graph) (p q : ℕ) (p≢q : p ≢ q) (pp : g .cls p ≡ p) (qq :
     where
       q-stays : h .cls q ≡ q
       q-stays = m .miss q (λ e. p≢q (sym e ∙ qq)) ∙ qq
+
       go : Dec (g .cls v ≡ p) → h .cls (h .cls v) ≡ h .cls v
       go (yes e) = rw (m .hit v e) q-stays
       go (no e) = rw (m .miss v e) (m .miss (g .cls v) (λ f. e (sym (i v) ∙ f)) ∙ i v)
@@ -37,6 +38,7 @@ module _ (g h : Graph) (p q : ℕ) (p≢q : p ≢ q) (pp : g .cls p ≡ p) (qq :
     where
       ne : v ≢ p
       ne f = p≢q (let x : h .cls p ≡ q = m .hit p pp in cc)
+
       go : Dec (g .cls v ≡ p) → v ≢ p × (g .cls v ≡ v)
       go (yes y) = (ne, let x : h .cls v ≡ q = m .hit v y in cc)
       go (no n) = (ne, sym (m .miss v n) ∙ e)
@@ -47,14 +49,18 @@ module _ (θ : ℕ → Ty) (g h : Graph) (p q : ℕ) (p≢q : p ≢ q) (pp : g .
     where
       both : Matches θ (top (g .sh p) (g .sh q)) (θ q) × Holds θ es
       both = j .0 (rw e at (s .fits p pp), s .fits q qq)
+
       same-go : (v : ℕ) → Dec (g .cls v ≡ p) → θ v ≡ θ (h .cls v)
       same-go v (yes y) = cc (s .same v, m .hit v y)
       same-go v (no n) = cc (s .same v, m .miss v n)
+
       same′ : (v : ℕ) → θ v ≡ θ (h .cls v)
       same′ v = same-go v (ℕ-discrete (g .cls v) p)
+
       fits-go : (v : ℕ) → h .cls v ≡ v → Dec (v ≡ q) → Matches θ (h .sh v) (θ v)
       fits-go v r (yes y) = rw (y, m .topped) (both .0)
       fits-go v r (no n) = rw (m .rest v (rep-old g h p q p≢q pp qq m v r .0) n) (s .fits v (rep-old g h p q p≢q pp qq m v r .1))
+
       fits′ : (v : ℕ) → h .cls v ≡ v → Matches θ (h .sh v) (θ v)
       fits′ v r = fits-go v r (ℕ-discrete v q)
 
@@ -63,13 +69,17 @@ module _ (θ : ℕ → Ty) (g h : Graph) (p q : ℕ) (p≢q : p ≢ q) (pp : g .
     where
       hq : h .cls q ≡ q
       hq = m .miss q (λ f. p≢q (sym f ∙ qq)) ∙ qq
+
       e : θ p ≡ θ q
       e = cc (s .same p, m .hit p pp)
+
       both : Matches θ (g .sh p) (θ q) × Matches θ (g .sh q) (θ q)
       both = j .1 (rw (m .topped) at (s .fits q hq), hs)
+
       same-go : (v : ℕ) → Dec (g .cls v ≡ p) → θ v ≡ θ (g .cls v)
       same-go v (yes y) = cc (s .same v, m .hit v y, e)
       same-go v (no n) = cc (s .same v, m .miss v n)
+
       fits-go : (v : ℕ) → g .cls v ≡ v → Dec (v ≡ p) → Dec (v ≡ q) → Matches θ (g .sh v) (θ v)
       fits-go v r (yes y) d = rw (y, e) (both .0)
       fits-go v r (no n) (yes y) = rw y (both .1)
@@ -82,9 +92,9 @@ StepOk θ g h a b es = (Sat θ g × (θ a ≡ θ b)) ↔ (Sat θ h × Holds θ e
 pub step-ok : (θ : ℕ → Ty) (g h : Graph) (a b : ℕ) (es : List Eqn) → Idem g → g .cls a ≢ g .cls b
     → join (g .sh (g .cls a)) (g .sh (g .cls b)) ≡ joined es → Merged g h (g .cls a) (g .cls b) → StepOk θ g h a b es
 step-ok θ g h a b es i ne je m =
-    let j : JoinOk θ (g .sh (g .cls a)) (g .sh (g .cls b)) (θ (g .cls b)) (joined es) = rw je at (join-ok θ (g .sh (g .cls a)) (g .sh (g .cls b)) (θ (g .cls b))) in
-    ( (λ x. merge-to θ g h (g .cls a) (g .cls b) ne (i a) (i b) m es j (x .0) (cc (x .0 .same a, x .0 .same b)))
-    , (λ x. let r = merge-from θ g h (g .cls a) (g .cls b) ne (i a) (i b) m es j (x .0) (x .1) in (r .0, cc (r .0 .same a, r .0 .same b)))
+    let j : JoinOk θ (g .sh (g .cls a)) (g .sh (g .cls b)) (θ (g .cls b)) (joined es) = rw je at (join-ok θ (g .sh (g .cls a)) (g .sh (g .cls b)) (θ (g .cls b))) in (
+      (λ x. merge-to θ g h (g .cls a) (g .cls b) ne (i a) (i b) m es j (x .0) (cc (x .0 .same a, x .0 .same b))),
+      (λ x. let r = merge-from θ g h (g .cls a) (g .cls b) ne (i a) (i b) m es j (x .0) (x .1) in (r .0, cc (r .0 .same a, r .0 .same b))),
     )
 
 pub step-clash : (θ : ℕ → Ty) (g : Graph) (a b : ℕ) → Idem g → join (g .sh (g .cls a)) (g .sh (g .cls b)) ≡ clash → Sat θ g → θ a ≡ θ b → ⊥

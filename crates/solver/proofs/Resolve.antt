@@ -47,11 +47,11 @@ val-same g i ρ (suc k) v = rw (i v)
 -- (3a) all resolved: a solution for every choice of types for the unknown classes
 pub solution : (g : Graph) → Idem g → (N : ℕ) → ((v : ℕ) → 0 < statusAfter g N v) → (ρ : ℕ → Ty) → Sat (val g ρ N) g
 solution g i N all ρ = record {
-    same = val-same g i ρ N;
-    fits = λ v e.
-        let m : Matches (val g ρ N) (g .sh (g .cls v)) (val g ρ (suc N) v) = build-matches (val g ρ N) (ρ (g .cls v)) (g .sh (g .cls v)) in
-        subst (λ x. Matches (val g ρ N) (g .sh x) (val g ρ N v)) e (subst (λ x. Matches (val g ρ N) (g .sh (g .cls v)) x) (stable g ρ N v (all v)) m)
-    }
+  same = val-same g i ρ N;
+  fits = λ v e.
+      let m : Matches (val g ρ N) (g .sh (g .cls v)) (val g ρ (suc N) v) = build-matches (val g ρ N) (ρ (g .cls v)) (g .sh (g .cls v)) in
+      subst (λ x. Matches (val g ρ N) (g .sh x) (val g ρ N v)) e (subst (λ x. Matches (val g ρ N) (g .sh (g .cls v)) x) (stable g ρ N v (all v)) m);
+}
 
 -- (3b) a stalled marking with an unmarked class: no solution
 status-pos : (θ : ℕ → Ty) (m : ℕ → ℕ) (s : Shape) (t : Ty) → Matches θ s t → ((w : ℕ) → weightᵀ (θ w) < weightᵀ t → 0 < m w) → 0 < statusOf m s

@@ -107,14 +107,19 @@ plan-unknown kp kq lp lq e = rw e (go (eqb kp 0))
 module _ (k l r : List ℕ) (kinds : (v : ℕ) → getD k v 0 ≤ 3) (codes : (v : ℕ) → getD k v 0 ≡ 1 → AtomCode (getD l v 0)) (c : List ℕ) (p q : ℕ) where
   abbrev kp : ℕ
   kp = getD k p 0
+
   abbrev kq : ℕ
   kq = getD k q 0
+
   abbrev lp : ℕ
   lp = getD l p 0
+
   abbrev lq : ℕ
   lq = getD l q 0
+
   abbrev rp : ℕ
   rp = getD r p 0
+
   abbrev rq : ℕ
   rq = getD r q 0
 
@@ -174,6 +179,7 @@ pub record Unifying (sh : ℕ → Shape) (n : ℕ) (l₀ : List ℕ) (a b : ℕ)
 module _ (sh : ℕ → Shape) (n : ℕ) (parts : (v : ℕ) → v < n → PartsBelow n (sh v)) (l₀ : List ℕ) (a b : ℕ) (l pa pb : List ℕ) (h : ℕ) (inv : Unifying sh n l₀ a b l pa pb (suc h)) where
   top-a : getD pa h 0 < n
   top-a = inv .below .0
+
   top-b : getD pb h 0 < n
   top-b = inv .below .1
 
@@ -187,17 +193,17 @@ module _ (sh : ℕ → Shape) (n : ℕ) (parts : (v : ℕ) → v < n → PartsBe
       → Unifying sh n l₀ a b l′ pa′ pb′ h′ × (3 * classes n l′ + h′ < 3 * classes n l + suc h)
   turn-next l′ new pa′ pb′ h′ e se =
       let g : StepGood sh n l (getD pa h 0) (getD pb h 0) (next l′ new) = rw e at good in
-      let hl : h′ ≡ length new + h = sym (length-equations pa′ pb′ h′) ∙ ap length se ∙ length-append new (equations pa pb h) ∙ ap (λ (z : ℕ). length new + z) (length-equations pa pb h) in
-      ( record {
+      let hl : h′ ≡ length new + h = sym (length-equations pa′ pb′ h′) ∙ ap length se ∙ length-append new (equations pa pb h) ∙ ap (λ (z : ℕ). length new + z) (length-equations pa pb h) in (
+        record {
           wf = g .0;
           below = rw se (below-append n new (equations pa pb h) (g .1) (inv .below .2));
-          iff = λ θ. rw se
-              ( (λ x. let y = inv .iff θ .0 x in let z = g .3 θ .0 (y .0, y .1 .0) in (z .0, holds-append θ new (equations pa pb h) .0 (z .1, y .1 .1)))
-              , (λ x. let y = holds-append θ new (equations pa pb h) .1 (x .1) in let z = g .3 θ .1 (x .0, y .0) in inv .iff θ .1 (z .0, (z .1, y .1)))
-              );
-          room = omega (arith, inv .room, g .2)
-          }
-      , omega (arith, g .2)
+          iff = λ θ. rw se (
+            (λ x. let y = inv .iff θ .0 x in let z = g .3 θ .0 (y .0, y .1 .0) in (z .0, holds-append θ new (equations pa pb h) .0 (z .1, y .1 .1))),
+            (λ x. let y = holds-append θ new (equations pa pb h) .1 (x .1) in let z = g .3 θ .1 (x .0, y .0) in inv .iff θ .1 (z .0, (z .1, y .1))),
+          );
+          room = omega (arith, inv .room, g .2);
+        },
+        omega (arith, g .2),
       )
 
 plan-le : (p q kp′ kq′ lp′ lq′ : ℕ) → plan p q kp′ kq′ lp′ lq′ ≤ 3
@@ -207,6 +213,7 @@ plan-le p q kp′ kq′ lp′ lq′ = go (eqb p q) (eqb kp′ 0) (eqb kq′ 0) (
     pick : (b : Bool) (x y : ℕ) → x ≤ 3 → y ≤ 3 → cond b x y ≤ 3
     pick true x y h k = h
     pick false x y h k = k
+
     go : (b₁ b₂ b₃ b₄ b₅ b₆ b₇ : Bool) → cond b₁ 0 (cond b₂ 0 (cond b₃ 0 (cond b₄ (cond b₅ (cond b₆ 0 3) (cond b₇ 1 2)) 3))) ≤ 3
     go b₁ b₂ b₃ b₄ b₅ b₆ b₇ =
         pick b₁ 0 _ (omega arith) (pick b₂ 0 _ (omega arith) (pick b₃ 0 _ (omega arith) (pick b₄ _ 3
@@ -261,7 +268,7 @@ module _ (k l r : List ℕ) (n : ℕ) (inp : Arrays k l r n) (l₀ : List ℕ) (
 
   pub code-next : c ≢ 3 → h + 1 < length pa → h + 1 < length pb
       → Unifying (shapeAt k l r) n l₀ a b (merged p q (getD k q 0) ca) (pushTwo pa h (getD l p 0) (getD r p 0)) (pushTwo pb h (getD l q 0) (getD r q 0)) (h + c)
-        × (3 * classes n (merged p q (getD k q 0) ca) + (h + c) < 3 * classes n ca + suc h)
+      × (3 * classes n (merged p q (getD k q 0) ca) + (h + c) < 3 * classes n ca + suc h)
   code-next ne ha hb =
       let small : c ≤ 2 = omega (arith, plan-le p q (getD k p 0) (getD k q 0) (getD l p 0) (getD l q 0)) in
       turn-next (shapeAt k l r) n (inp .parts) l₀ a b ca pa pb h inv (merged p q (getD k q 0) ca) (newEqns c (getD l p 0) (getD r p 0) (getD l q 0) (getD r q 0)) _ _ (h + c)
@@ -277,8 +284,8 @@ inv-start sh n l a b pa pb wf an bn ha hb =
       wf = wf;
       below = rw (ea, eb) (an, bn, tt);
       iff = λ θ. rw (ea, eb) ((λ x. (x .0, (x .1, tt))), (λ x. (x .0, x .1 .0)));
-      room = omega (arith, count-le (isRep l) n)
-      }
+      room = omega (arith, count-le (isRep l) n);
+    }
 
 pub inv-end : (sh : ℕ → Shape) (n : ℕ) (l₀ : List ℕ) (a b : ℕ) (l pa pb : List ℕ) (h : ℕ) → Unifying sh n l₀ a b l pa pb h → h ≡ 0 → Unified sh n l₀ a b l true
 inv-end sh n l₀ a b l pa pb zero inv e = (inv .wf, (λ θ. ((λ x. inv .iff θ .0 x .0), (λ x. inv .iff θ .1 (x, tt)))))
@@ -307,8 +314,8 @@ module _ (k l r l₀ : List ℕ) (inp : Arrays k l r (length l₀)) (a b : ℕ) 
         ls-below = omega (arith, down .below .0, len);
         rs-below = omega (arith, down .below .1, len);
         p-below = omega (arith, p-below k l r (length l₀) inp l₀ a b ca pa pb (h - 1) down _ _ _ refl refl refl, len);
-        q-below = omega (arith, q-below k l r (length l₀) inp l₀ a b ca pa pb (h - 1) down _ _ _ refl refl refl, len)
-        }
+        q-below = omega (arith, q-below k l r (length l₀) inp l₀ a b ca pa pb (h - 1) down _ _ _ refl refl refl, len);
+      }
 
   module _ (ca′ pa′ pb′ : List ℕ) (c : ℕ) (post : TurnPost k l r ca pa pb (h - 1) ca′ pa′ pb′ c) where
     pub loop-stop : c ≡ 3 → (θ : ℕ → Ty) → Sat θ (graph (shapeAt k l r) l₀) → θ a ≡ θ b → ⊥

@@ -87,18 +87,18 @@ true-eqb i j e = eqb→eq i j (rw e tt)
 module _ (sh : ℕ → Shape) (n : ℕ) (l : List ℕ) (wf : WellFormed sh n l) (p q : ℕ) (p≢q : p ≢ q) (pn : p < n) (qn : q < n) (pp : look l p ≡ p) (qq : look l q ≡ q) where
   relabel-merged : sh q ≡ top (sh p) (sh q) → Merged (graph sh l) (graph sh (relabel p q l)) p q
   relabel-merged t = record {
-      hit = λ v e. look-relabel p q l (rw (wf .len) pn) v ∙ change-hit p q (look l v) e;
-      miss = λ v e. look-relabel p q l (rw (wf .len) pn) v ∙ change-miss p q (look l v) e;
-      topped = t;
-      rest = λ v a b. refl
-      }
+    hit = λ v e. look-relabel p q l (rw (wf .len) pn) v ∙ change-hit p q (look l v) e;
+    miss = λ v e. look-relabel p q l (rw (wf .len) pn) v ∙ change-miss p q (look l v) e;
+    topped = t;
+    rest = λ v a b. refl;
+  }
 
   relabel-wf : Merged (graph sh l) (graph sh (relabel p q l)) p q → WellFormed sh n (relabel p q l)
   relabel-wf m = record {
-      len = length-map l (change p q) ∙ wf .len;
-      idem = idem-merge (graph sh l) (graph sh (relabel p q l)) p q p≢q pp qq m (wf .idem);
-      bound = λ v h. go v h (ℕ-discrete (look l v) p)
-      }
+    len = length-map l (change p q) ∙ wf .len;
+    idem = idem-merge (graph sh l) (graph sh (relabel p q l)) p q p≢q pp qq m (wf .idem);
+    bound = λ v h. go v h (ℕ-discrete (look l v) p);
+  }
     where
       go : (v : ℕ) → v < n → Dec (look l v ≡ p) → look (relabel p q l) v < n
       go v h (yes e) = rw (m .hit v e) qn
@@ -165,11 +165,11 @@ module _ (sh : ℕ → Shape) (n : ℕ) (parts : (v : ℕ) → v < n → PartsBe
   after-good ne u (joined es) je =
       let m = relabel-merged sh n l wf (look l a) (look l b) ne (wf .bound a an) (wf .bound b bn) (wf .idem a) (wf .idem b) (top-known (sh (look l a)) (sh (look l b)) u) in
       let few = relabel-fewer sh n l wf (look l a) (look l b) ne (wf .bound a an) (wf .bound b bn) (wf .idem a) (wf .idem b) m in
-      let small : JoinSmall n (joined es) = rw je at (join-small n (sh (look l a)) (sh (look l b)) (parts (look l a) (wf .bound a an)) (parts (look l b) (wf .bound b bn))) in
-      ( relabel-wf sh n l wf (look l a) (look l b) ne (wf .bound a an) (wf .bound b bn) (wf .idem a) (wf .idem b) m
-      , small .0
-      , omega (arith, few, small .1)
-      , (λ θ. step-ok θ (graph sh l) (graph sh (relabel (look l a) (look l b) l)) a b es (wf .idem) ne je m)
+      let small : JoinSmall n (joined es) = rw je at (join-small n (sh (look l a)) (sh (look l b)) (parts (look l a) (wf .bound a an)) (parts (look l b) (wf .bound b bn))) in (
+        relabel-wf sh n l wf (look l a) (look l b) ne (wf .bound a an) (wf .bound b bn) (wf .idem a) (wf .idem b) m,
+        small .0,
+        omega (arith, few, small .1),
+        (λ θ. step-ok θ (graph sh l) (graph sh (relabel (look l a) (look l b) l)) a b es (wf .idem) ne je m),
       )
 
   step-on-good : (d u : Bool) → eqb (look l a) (look l b) ≡ d → isUnknown (sh (look l b)) ≡ u → StepGood sh n l a b (step-on sh l (look l a) (look l b) d u)
@@ -179,11 +179,11 @@ module _ (sh : ℕ → Shape) (n : ℕ) (parts : (v : ℕ) → v < n → PartsBe
       let ne : look l b ≢ look l a = λ e. true≢false (sym (eqb-true (look l a) (look l b) (sym e)) ∙ de) in
       let m = relabel-merged sh n l wf (look l b) (look l a) ne (wf .bound b bn) (wf .bound a an) (wf .idem b) (wf .idem a) (rw un (top-unknown (sh (look l a)))) in
       let few = relabel-fewer sh n l wf (look l b) (look l a) ne (wf .bound b bn) (wf .bound a an) (wf .idem b) (wf .idem a) m in
-      let ok : (θ : ℕ → Ty) → StepOk θ (graph sh l) (graph sh (relabel (look l b) (look l a) l)) b a [] = λ θ. step-ok θ (graph sh l) (graph sh (relabel (look l b) (look l a) l)) b a [] (wf .idem) ne (rw un) m in
-      ( relabel-wf sh n l wf (look l b) (look l a) ne (wf .bound b bn) (wf .bound a an) (wf .idem b) (wf .idem a) m
-      , tt
-      , omega (arith, few)
-      , (λ θ. ((λ x. ok θ .0 (x .0, sym (x .1))), (λ x. let r = ok θ .1 x in (r .0, sym (r .1)))))
+      let ok : (θ : ℕ → Ty) → StepOk θ (graph sh l) (graph sh (relabel (look l b) (look l a) l)) b a [] = λ θ. step-ok θ (graph sh l) (graph sh (relabel (look l b) (look l a) l)) b a [] (wf .idem) ne (rw un) m in (
+        relabel-wf sh n l wf (look l b) (look l a) ne (wf .bound b bn) (wf .bound a an) (wf .idem b) (wf .idem a) m,
+        tt,
+        omega (arith, few),
+        (λ θ. ((λ x. ok θ .0 (x .0, sym (x .1))), (λ x. let r = ok θ .1 x in (r .0, sym (r .1))))),
       )
   step-on-good false false de ue = after-good (λ e. true≢false (sym (eqb-true (look l a) (look l b) e) ∙ de)) ue (join (sh (look l a)) (sh (look l b))) refl
 
@@ -198,4 +198,3 @@ below-append n (eqn a b ∷ xs) ys h k = (h .0, h .1, below-append n xs ys (h .2
 pub holds-append : (θ : ℕ → Ty) (xs ys : List Eqn) → (Holds θ xs × Holds θ ys) ↔ Holds θ (xs ++ ys)
 holds-append θ [] ys = ((λ h. h .1), (λ h. (tt, h)))
 holds-append θ (eqn a b ∷ xs) ys = let r = holds-append θ xs ys in ((λ h. (h .0 .0, r .0 (h .0 .1, h .1))), (λ h. let k = r .1 (h .1) in ((h .0, k .0), k .1)))
-

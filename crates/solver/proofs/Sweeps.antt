@@ -78,8 +78,10 @@ module _ (sh : ℕ → Shape) (l : List ℕ) where
     where
       s : List ℕ
       s = sweepTo sh l i m
+
       si : i < length s
       si = rw (length-sweep i m) h
+
       go : Dec (v ≡ i) → (v < i → 0 < markOf s v) → 0 < markOf (markOne sh l s i) v
       go (yes e) ih = rw (e, mark-one-at s i si) (orElse-grow (markOf s i) _ (status-grow (markOf m) (markOf s) (sh (look l i)) (λ w q. rw (sweep-keep i m (omega arith) w q) q) (rw e at p)))
       go (no ne) ih = let q = ih (omega arith) in rw (mark-one-keep s i si v q) q
@@ -90,11 +92,13 @@ module _ (sh : ℕ → Shape) (l : List ℕ) where
     where
       old : (u : ℕ) → 0 < markOf m u → statusAfter (graph sh l) (suc K) u ≡ markOf m u
       old u q = status-keep (graph sh l) K u (rw (s u q) q) ∙ s u q
+
       here : 0 < markOf (markOne sh l m v) v → ((0 < markOf m v) × (orElse (markOf m v) (statusOf (markOf m) (sh (look l v))) ≡ markOf m v)) ⊎ (orElse (markOf m v) (statusOf (markOf m) (sh (look l v))) ≡ statusOf (markOf m) (sh (look l v))) → statusAfter (graph sh l) (suc K) v ≡ markOf (markOne sh l m v) v
       here q (inl d) = old v (d .0) ∙ sym (d .1) ∙ sym (mark-one-at m v h)
       here q (inr d) =
           let e : markOf (markOne sh l m v) v ≡ statusOf (markOf m) (sh (look l v)) = mark-one-at m v h ∙ d in
           status-same (statusAfter (graph sh l) K) (markOf m) (sh (look l v)) s (rw e at q) ∙ sym e
+
       go : Dec (w ≡ v) → statusAfter (graph sh l) (suc K) w ≡ markOf (markOne sh l m v) w
       go (yes e) = rw e (here (rw e at p) (orElse-or (markOf m v) _))
       go (no ne) = old w (rw (mark-one-other m v w ne) at p) ∙ sym (mark-one-other m v w ne)

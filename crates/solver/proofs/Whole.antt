@@ -55,10 +55,10 @@ record Bounded (sh : ℕ → Shape) (n : ℕ) (es : List Eqn) : Type 0 where
   below : AllBelow n es
 
 solves-sat : (sh : ℕ → Shape) (n : ℕ) (es : List Eqn) → Bounded sh n es → (θ : ℕ → Ty) → Solves sh n es θ ↔ (Sat θ (graph sh (ownClasses n)) × Holds θ es)
-solves-sat sh n es pr θ =
-    ( (λ s. (record { same = λ v. ap θ (sym (look-own n v)); fits = λ v e. go v s (decLt v n) }, s .equal))
-    , (λ x. record { shapes = λ v h. x .0 .fits v (look-own n v); equal = x .1 })
-    )
+solves-sat sh n es pr θ = (
+  (λ s. (record { same = λ v. ap θ (sym (look-own n v)); fits = λ v e. go v s (decLt v n) }, s .equal)),
+  (λ x. record { shapes = λ v h. x .0 .fits v (look-own n v); equal = x .1 }),
+)
   where
     go : (v : ℕ) → Solves sh n es θ → Dec (v < n) → Matches θ (sh v) (θ v)
     go v s (yes y) = s .shapes v y
@@ -110,21 +110,21 @@ module _ (sh : ℕ → Shape) (n : ℕ) (es : List Eqn) (pr : Bounded sh n es) (
 
       solved : Solved sh n es l m
       solved = record {
-          bound = wf .bound;
-          classes = λ θ a v h. fits-at (wf .idem) (iff θ .0 a) v;
-          first = build-from (λ x. INTEGER);
-          second = build-from (λ x. BOOL);
-          first-solves = built (λ x. INTEGER);
-          second-solves = built (λ x. BOOL);
-          declared = λ G h v.
-              ( val-declared G (graph sh l) (λ x. INTEGER) (leaves G h) (λ r. tt) (s .rounds) v
-              , val-declared G (graph sh l) (λ x. BOOL) (leaves G h) (λ r. tt) (s .rounds) v
-              );
-          ground = λ v h p θ κ a b. ground-agree (graph sh l) (wf .idem) θ κ (iff θ .0 a) (iff κ .0 b) (s .rounds) v (rw (is v) p);
-          differ = λ v h p.
-              open-differ (graph sh l) (λ x. INTEGER) (λ x. BOOL) (λ x. atoms-differ) (s .rounds) v (rw (is v) (all-pos v)) (rw (is v) p);
-          grounded = λ v h p. ground-kept (graph sh l) (markOf m) (s .rounds) (λ u q. rw (is u) at q) v (rw (is v) p)
-          }
+        bound = wf .bound;
+        classes = λ θ a v h. fits-at (wf .idem) (iff θ .0 a) v;
+        first = build-from (λ x. INTEGER);
+        second = build-from (λ x. BOOL);
+        first-solves = built (λ x. INTEGER);
+        second-solves = built (λ x. BOOL);
+        declared = λ G h v. (
+          val-declared G (graph sh l) (λ x. INTEGER) (leaves G h) (λ r. tt) (s .rounds) v,
+          val-declared G (graph sh l) (λ x. BOOL) (leaves G h) (λ r. tt) (s .rounds) v,
+        );
+        ground = λ v h p θ κ a b. ground-agree (graph sh l) (wf .idem) θ κ (iff θ .0 a) (iff κ .0 b) (s .rounds) v (rw (is v) p);
+        differ = λ v h p.
+            open-differ (graph sh l) (λ x. INTEGER) (λ x. BOOL) (λ x. atoms-differ) (s .rounds) v (rw (is v) (all-pos v)) (rw (is v) p);
+        grounded = λ v h p. ground-kept (graph sh l) (markOf m) (s .rounds) (λ u q. rw (is u) at q) v (rw (is v) p);
+      }
 
 holds-down : (θ : ℕ → Ty) (lhs rhs : List ℕ) (m i : ℕ) → i ≤ m → Holds θ (equations lhs rhs m) → Holds θ (equations lhs rhs i)
 holds-down θ lhs rhs zero i h x = let e : i ≡ 0 = omega arith in rw e tt
@@ -146,9 +146,9 @@ eqs-stop sh n l₀ lhs rhs i l l′ false h s g e θ x y =
 pub eqs-next : (sh : ℕ → Shape) (n : ℕ) (l₀ lhs rhs : List ℕ) (i : ℕ) (l l′ : List ℕ) (b : Bool) → EquationsIn sh n l₀ lhs rhs i l → Unified sh n l (getD lhs i 0) (getD rhs i 0) l′ b → not b ≡ false → EquationsIn sh n l₀ lhs rhs (i + 1) l′
 eqs-next sh n l₀ lhs rhs i l l′ false s g e = absurd (true≢false e)
 eqs-next sh n l₀ lhs rhs i l l′ true s g e = rw (add-one i) (record {
-    wf = g .0;
-    iff = λ θ. ((λ x. g .1 θ .0 (s .iff θ .0 (x .0, x .1 .1), x .1 .0)), (λ x. let y = g .1 θ .1 x in let z = s .iff θ .1 (y .0) in (z .0, (y .1, z .1))))
-    })
+  wf = g .0;
+  iff = λ θ. ((λ x. g .1 θ .0 (s .iff θ .0 (x .0, x .1 .1), x .1 .0)), (λ x. let y = g .1 θ .1 x in let z = s .iff θ .1 (y .0) in (z .0, (y .1, z .1))));
+})
 
 pub eqs-end : (sh : ℕ → Shape) (n : ℕ) (l₀ lhs rhs : List ℕ) (i : ℕ) (l : List ℕ) → i ≤ length lhs → length lhs ≤ i → EquationsIn sh n l₀ lhs rhs i l → UnifiedAll sh n l₀ lhs rhs l true
 eqs-end sh n l₀ lhs rhs i l h k s = let e : i ≡ length lhs = omega arith in rw e at s
@@ -159,10 +159,10 @@ equations-below n lhs rhs q (suc i) h = (q .left i h, q .right i h, equations-be
 
 problem : (k l r lhs rhs : List ℕ) (n : ℕ) → Arrays k l r n → Equations lhs rhs n → Bounded (shapeAt k l r) n (equations lhs rhs (length lhs))
 problem k l r lhs rhs n inp q = record {
-    parts = inp .parts;
-    rest = λ v h. rw (List·getD-eq-default k 0 {n = v} (omega (arith, inp .kind-length)));
-    below = equations-below n lhs rhs q (length lhs) (omega arith)
-    }
+  parts = inp .parts;
+  rest = λ v h. rw (List·getD-eq-default k 0 {n = v} (omega (arith, inp .kind-length)));
+  below = equations-below n lhs rhs q (length lhs) (omega arith);
+}
 
 -- ---- the pieces in the code's terms: c₀ and m₀ are the arrays of classes and marks as they came, c₁ the own classes, c₂ those after the equations
 module _ (k l r lhs rhs c₀ c₁ : List ℕ) (inp : Arrays k l r (length c₀)) (q : Equations lhs rhs (length c₀)) (start : c₁ ≡ ownClasses (length c₀)) where

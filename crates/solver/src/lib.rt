@@ -107,7 +107,15 @@ fn push(stack: &mut [u16], h: usize, left: &[u16], right: &[u16], p: u16)
 }
 
 // Takes the equation at h off the stack, and puts what it leaves on it. 3 where it clashes.
-fn turn(kind: &[u8], left: &[u16], right: &[u16], cls: &mut [u16], ls: &mut [u16], rs: &mut [u16], h: usize) -> u8
+fn turn(
+    kind: &[u8],
+    left: &[u16],
+    right: &[u16],
+    cls: &mut [u16],
+    ls: &mut [u16],
+    rs: &mut [u16],
+    h: usize,
+) -> u8
     requires { ⌜ TurnPre (now kind) (now left) (now right) (now cls) (now ls) (now rs) h ⌝ }
     ensures { λ c. ⌜ TurnPost (now (kind .entry)) (now (left .entry)) (now (right .entry)) (now (cls .entry)) (now (ls .entry)) (now (rs .entry)) h (now (cls .exit)) (now (ls .exit)) (now (rs .exit)) c ⌝ }
 {
@@ -124,7 +132,16 @@ fn turn(kind: &[u8], left: &[u16], right: &[u16], cls: &mut [u16], ls: &mut [u16
 }
 
 // Adds the equation a = b to the classes. False where that leaves no solution, apart from types that contain themselves.
-fn unify(kind: &[u8], left: &[u16], right: &[u16], cls: &mut [u16], ls: &mut [u16], rs: &mut [u16], a: u16, b: u16) -> bool
+fn unify(
+    kind: &[u8],
+    left: &[u16],
+    right: &[u16],
+    cls: &mut [u16],
+    ls: &mut [u16],
+    rs: &mut [u16],
+    a: u16,
+    b: u16,
+) -> bool
     requires { ⌜ Arrays (now kind) (now left) (now right) (length (now cls)) ⌝ }
     requires { ⌜ WellFormed (shapeAt (now kind) (now left) (now right)) (length (now cls)) (now cls) ⌝ }
     requires { ⌜ (a < length (now cls)) × (b < length (now cls)) × (3 * length (now cls) + 3 ≤ length (now ls)) × (3 * length (now cls) + 3 ≤ length (now rs)) ⌝ }
@@ -257,7 +274,16 @@ fn clear(mark: &mut [u8])
     }
 }
 
-fn unify_all(kind: &[u8], left: &[u16], right: &[u16], lhs: &[u16], rhs: &[u16], cls: &mut [u16], ls: &mut [u16], rs: &mut [u16]) -> bool
+fn unify_all(
+    kind: &[u8],
+    left: &[u16],
+    right: &[u16],
+    lhs: &[u16],
+    rhs: &[u16],
+    cls: &mut [u16],
+    ls: &mut [u16],
+    rs: &mut [u16],
+) -> bool
     requires { ⌜ Arrays (now kind) (now left) (now right) (length (now cls)) ⌝ }
     requires { ⌜ Equations (now lhs) (now rhs) (length (now cls)) ⌝ }
     requires { ⌜ WellFormed (shapeAt (now kind) (now left) (now right)) (length (now cls)) (now cls) ⌝ }
@@ -277,7 +303,17 @@ fn unify_all(kind: &[u8], left: &[u16], right: &[u16], lhs: &[u16], rhs: &[u16],
 
 // Decides the equations lhs[i] = rhs[i] between variables of the shapes kind, left, right. ls and rs are room for a stack.
 // True: cls and mark hold what all solutions have in common. False: there is no solution.
-pub fn solve(kind: &[u8], left: &[u16], right: &[u16], lhs: &[u16], rhs: &[u16], cls: &mut [u16], ls: &mut [u16], rs: &mut [u16], mark: &mut [u8]) -> bool
+pub fn solve(
+    kind: &[u8],
+    left: &[u16],
+    right: &[u16],
+    lhs: &[u16],
+    rhs: &[u16],
+    cls: &mut [u16],
+    ls: &mut [u16],
+    rs: &mut [u16],
+    mark: &mut [u8],
+) -> bool
     requires { ⌜ Arrays (now kind) (now left) (now right) (length (now cls)) ⌝ }
     requires { ⌜ Equations (now lhs) (now rhs) (length (now cls)) ⌝ }
     requires { ⌜ (3 * length (now cls) + 3 ≤ length (now ls)) × (3 * length (now cls) + 3 ≤ length (now rs)) × (length (now mark) ≡ length (now cls)) ⌝ }
