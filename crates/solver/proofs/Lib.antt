@@ -9,3 +9,4 @@ pub mod Sweeps
 pub mod Stack
 pub mod Marking
 pub mod Whole
+pub mod Rows

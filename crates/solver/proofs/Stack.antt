@@ -33,15 +33,15 @@ asJoin (suc (suc zero)) lp rp lq rq = joined (eqn rp rq ∷ eqn lp lq ∷ [])
 asJoin (suc (suc (suc c))) lp rp lq rq = clash
 
 -- two codes are equal where their atoms are
-code-of : (c : ℕ) → AtomCode c → atomCode (atomFrom c) ≡ c
+pub code-of : (c : ℕ) → AtomCode c → atomCode (atomFrom c) ≡ c
 code-of zero (inl e) = absurd (omega arith)
 code-of zero (inr (inl e)) = absurd (omega arith)
-code-of zero (inr (inr h)) = absurd (omega arith)
+code-of zero (inr (inr h)) = absurd (omega (arith, h .0))
 code-of (suc zero) d = refl
 code-of (suc (suc zero)) d = refl
 code-of (suc (suc (suc c))) (inl e) = absurd (omega arith)
 code-of (suc (suc (suc c))) (inr (inl e)) = absurd (omega arith)
-code-of (suc (suc (suc c))) (inr (inr h)) = omega arith
+code-of (suc (suc (suc c))) (inr (inr h)) = omega (arith, h .0)
 
 same-codes : (c d : ℕ) → AtomCode c → AtomCode d → sameAtom (atomFrom c) (atomFrom d) ≡ eqb c d
 same-codes c d h k = ap₂ eqb (code-of c h) (code-of d k)

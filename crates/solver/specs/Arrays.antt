@@ -9,9 +9,9 @@ use Rattle.solver.specs.Problem.{Shape, Eqn, eqn, shapeOf, PartsBelow}
 abbrev pub shapeAt : List ℕ → List ℕ → List ℕ → ℕ → Shape
 shapeAt kind left right v = shapeOf (getD kind v 0) (getD left v 0) (getD right v 0)
 
--- The codes of types without parts: two of them are equal just where the types are.
+-- The codes of types without parts, one byte of a row each: two of them are equal just where the types are.
 abbrev pub AtomCode : ℕ → Type 0
-AtomCode c = (c ≡ 1) ⊎ ((c ≡ 2) ⊎ (16 ≤ c))
+AtomCode c = (c ≡ 1) ⊎ ((c ≡ 2) ⊎ ((16 ≤ c) × (c < 256)))
 
 pub record Arrays (kind left right : List ℕ) (n : ℕ) : Type 0 where
   pub kind-length : length kind ≡ n

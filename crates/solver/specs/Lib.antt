@@ -5,3 +5,4 @@ pub mod Classes
 pub mod Turn
 pub mod Marks
 pub mod Solved
+pub mod Rows

@@ -7,6 +7,7 @@ ghost use Rattle.solver.specs.Classes.{WellFormed, ownClasses, change as
 ghost use Rattle.solver.specs.Turn.{plan as planned, merged, pushTwo, classOf, TurnPre, TurnPost};
 ghost use Rattle.solver.specs.Marks.{statusOf, markOf, orElse, sweepTo, marked, SoundMarks, Settled, StatusPre};
 ghost use Rattle.solver.specs.Solved.{Answer};
+ghost use Rattle.solver.specs.Rows.{Weighed};
 
 fn wide(x: u16) -> usize
     ensures { λ r. ⌜ r ≡ x ⌝ }
@@ -331,4 +332,30 @@ pub fn solve(
         return false;
     }
     true
+}
+
+// The weight of the type of v against the room: 0 where it is heavier, else 1 and the room that is left.
+pub fn weigh(kind: &[u8], left: &[u16], right: &[u16], cls: &[u16], v: usize, room: usize) -> usize
+    requires { ⌜ ClassArrays (now kind) (now left) (now right) (now cls) (length (now cls)) ⌝ }
+    requires { ⌜ v < length (now cls) ⌝ }
+    ensures { λ r. ⌜ Weighed (shapeAt (now (kind .entry)) (now (left .entry)) (now (right .entry))) (length (now (cls .entry))) (now (cls .entry)) v room r ⌝ }
+{
+    if room == 0 {
+        return 0;
+    }
+    let c = wide(cls[v]);
+    let k = kind[c];
+    if k < 2 {
+        return room;
+    }
+    let a = wide(left[c]);
+    let rest = weigh(kind, left, right, cls, a, room - 1);
+    if k == 2 {
+        return rest;
+    }
+    if rest == 0 {
+        return 0;
+    }
+    let b = wide(right[c]);
+    weigh(kind, left, right, cls, b, rest - 1)
 }
