@@ -9,18 +9,12 @@ use native.Mathlib.Numerals.{add-one, one-add}
 use lib.ListN.{length, getD, set, length-append}
 use lib.Seq.{sets}
 use Rattle.rules.specs.Types.{Ty, atom, POW, _⊗_, weightᵀ, prefix}
-use Rattle.solver.specs.Problem.{Shape, Eqn, Matches, Solves, PartsBelow, atomFrom, shapeOf}
+use Rattle.solver.specs.Problem.{Shape, Matches, atomFrom, shapeOf}
 use Rattle.solver.specs.Arrays.{shapeAt, AtomCode, ClassArrays}
 use Rattle.solver.specs.Marks.{statusOf, markOf}
-use Rattle.solver.specs.Solved.{Solved}
 use Rattle.solver.specs.Rows.{Determined, Weighed, codeOf, Put, Written}
 use Rattle.solver.proofs.Stack.{any-default, code-of}
 use Rattle.solver.proofs.Marking.{parts-left, parts-right}
-
--- a ground variable of a solved problem
-pub solved-determined : {sh : ℕ → Shape} {n : ℕ} {es : List Eqn} {cls mark : List ℕ} → Solved sh n es cls mark → (θ : ℕ → Ty) → Solves sh n es θ
-    → (v : ℕ) → 2 ≤ getD mark v 1 → Determined sh n cls v θ
-solved-determined {sh} {n} {es} {cls} {mark} s θ a v h = record { mark = mark; grounded = s .grounded; ground = h; matches = s .classes θ a }
 
 pub weight-pos : (t : Ty) → 1 ≤ weightᵀ t
 weight-pos (atom a) = omega arith
