@@ -78,6 +78,14 @@ relabel-id p (x ∷ xs) = ap₂ _∷_ (same (ℕ-discrete x p)) (relabel-id p xs
     same (yes e) = change-hit p p x e ∙ sym e
     same (no ne) = change-miss p p x ne
 
+pub merged-same : (p q k : ℕ) (l : List ℕ) → p ≡ q → l ≡ merged p q k l
+unfolding merged
+merged-same p q k l e = rw e (go (eqb k 0))
+  where
+    go : (b : Bool) → l ≡ cond b (relabel q q l) (relabel q q l)
+    go true = sym (relabel-id q l)
+    go false = sym (relabel-id q l)
+
 is-unknown : (k l r : ℕ) → isUnknown (shapeOf k l r) ≡ eqb k 0
 is-unknown zero l r = refl
 is-unknown (suc zero) l r = refl

@@ -33,10 +33,13 @@ fn relabel(cls: &mut [u16], p: u16, q: u16)
     }
 }
 
-// k is the kind of q.
+// Makes one class of p and q. k is the kind of q.
 fn merge(cls: &mut [u16], p: u16, q: u16, k: u8)
     ensures { λ _. ⌜ now (cls .exit) ≡ merged p q k (now (cls .entry)) ⌝ }
 {
+    if p == q {
+        return;
+    }
     if k == 0 {
         relabel(cls, q, p);
     } else {
