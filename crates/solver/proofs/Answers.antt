@@ -1,8 +1,7 @@
 -- For callers: a problem's equations one by one, the codes of its leaves, and what its answer says of rows.
-use Prim.Native.Nat.{ℕ, zero, suc, _+_, _-_, _≤_, _<_}
-use mathlib.Core.Path.{_≡_, refl, sym, ap, _∙_}
-use mathlib.Core.Logic.{_↔_, inl, inr}
-use mathlib.Core.List.{List, [], _∷_, _++_}
+use Prim.Native.Nat.{ℕ, zero, suc, _+_, _≤_, _<_}
+use mathlib.Core.Path.{_≡_, refl, ap}
+use mathlib.Core.List.{List, _++_}
 use native.Mathlib.Omega.{arith}
 use native.Mathlib.Nat.{not-suc-le-zero}
 use native.Mathlib.Decide.{ℕ-discrete}
@@ -10,7 +9,7 @@ use lib.ListN.{length, getD, take, drop}
 use lib.Seq.{sets, sets-eq}
 use Rattle.rules.specs.Types.{whole, Atom, number, bool, given, Ty, atomCode, weightᵀ, prefix}
 use Rattle.solver.specs.Problem.{Shape, Eqn, Holds, Solves, atomFrom}
-use Rattle.solver.specs.Arrays.{AtomCode, equations}
+use Rattle.solver.specs.Arrays.{shapeAt, Arrays, equations, ClassArrays}
 use Rattle.solver.specs.Solved.{Solved}
 use Rattle.solver.specs.Rows.{Determined}
 use Rattle.solver.proofs.Rows.{length-prefix}
@@ -37,6 +36,10 @@ atom-code (given g) = let e : 16 + g ≡ suc (suc (suc (13 + g))) = omega arith 
 pub solved-determined : {sh : ℕ → Shape} {n : ℕ} {es : List Eqn} {cls mark : List ℕ} → Solved sh n es cls mark → (θ : ℕ → Ty) → Solves sh n es θ
     → (v : ℕ) → 2 ≤ getD mark v 1 → Determined sh n cls v θ
 solved-determined {sh} {n} {es} {cls} {mark} s θ a v h = record { mark = mark; grounded = s .grounded; ground = h; matches = s .classes θ a }
+
+pub solved-arrays : {kind left right : List ℕ} {n : ℕ} {es : List Eqn} {cls mark : List ℕ} → Arrays kind left right n → length cls ≡ n
+    → Solved (shapeAt kind left right) n es cls mark → ClassArrays kind left right cls n
+solved-arrays {kind} {left} {right} {n} {es} {cls} {mark} a e s = record { arrays = a; len = e; bound = s .bound }
 
 -- what `write_type` leaves, in three parts
 pub written-parts : (t : Ty) (sheet : List ℕ) (at : ℕ) → at + weightᵀ t ≤ length sheet → sets sheet at (prefix t) ≡ take at sheet ++ prefix t ++ drop (at + weightᵀ t) sheet

@@ -2,7 +2,7 @@
 use mathlib.Core.Path.{_≡_, refl, sym, ap, _∙_, subst}
 use mathlib.Core.Logic.{_≢_, inl, inr}
 use mathlib.Core.List.{List, [], _∷_, _++_}
-use Prim.Native.Nat.{ℕ, zero, suc, _+_, _-_, _≤_, _<_, min}
+use Prim.Native.Nat.{ℕ, zero, suc, _+_, _-_, _≤_, _<_}
 use native.Mathlib.Omega.{arith}
 use native.Mathlib.Nat.{add-zero}
 use native.Mathlib.Numerals.{add-one, one-add}
@@ -143,29 +143,29 @@ module _ (kind left right cls : List ℕ) (v c : ℕ) (vn : v < length cls) (ce 
     module _ (x : ℕ) (xe : x ≡ codeOf (getD kind c 0) (getD left c 0)) where
       pub write-leaf : (getD kind c 0 ≡ 1 → AtomCode (getD left c 0)) → getD kind c 0 < 2 → Written sh (length cls) cls v sheet at end (at + 1) (set sheet at x)
       write-leaf codes h = record {
-          onward = omega arith;
-          exact = λ θ d. let y = as-leaf θ d h in rw (y .1, xe, y .0) (put-leaf sheet at end (getD left c 0) (codes (y .0)))
-          }
+        onward = omega arith;
+        exact = λ θ d. let y = as-leaf θ d h in rw (y .1, xe, y .0) (put-leaf sheet at end (getD left c 0) (codes (y .0)));
+      }
 
       pub write-power : (a r : ℕ) (after : List ℕ) → getD kind c 0 ≡ 2 → a ≡ getD left c 0 → Written sh (length cls) cls a (set sheet at x) (at + 1) end r after
           → Written sh (length cls) cls v sheet at end r after
       write-power a r after h ae w = record {
-          onward = omega (arith, w .onward);
-          exact = λ θ d.
-              let y = as-power θ d h in
-              rw (y .1, ← ae) (put-power sheet at end r after x (θ a) (xe ∙ rw h) (w .exact θ (rw ae (y .0))))
-          }
+        onward = omega (arith, w .onward);
+        exact = λ θ d.
+            let y = as-power θ d h in
+            rw (y .1, ← ae) (put-power sheet at end r after x (θ a) (xe ∙ rw h) (w .exact θ (rw ae (y .0))));
+      }
 
       pub write-product : (a nx r b : ℕ) (mid after : List ℕ) → 3 ≤ getD kind c 0 → a ≡ getD left c 0 → b ≡ getD right c 0
           → Written sh (length cls) cls a (set sheet at x) (at + 1) end nx mid → Written sh (length cls) cls b mid nx end r after
           → Written sh (length cls) cls v sheet at end r after
       write-product a nx r b mid after h ae be w u = record {
-          onward = omega (arith, w .onward, u .onward);
-          exact = λ θ d.
-              let y = as-product θ d h in
-              rw (y .2, ← ae, ← be)
-              (put-product sheet at end nx r mid after x (θ a) (θ b) (xe ∙ sym (code-product (getD kind c 0) (getD left c 0) (omega arith) (omega arith) (omega arith))) (w .exact θ (rw ae (y .0))) (u .exact θ (rw be (y .1))))
-          }
+        onward = omega (arith, w .onward, u .onward);
+        exact = λ θ d.
+            let y = as-product θ d h in
+            rw (y .2, ← ae, ← be)
+            (put-product sheet at end nx r mid after x (θ a) (θ b) (xe ∙ sym (code-product (getD kind c 0) (getD left c 0) (omega arith) (omega arith) (omega arith))) (w .exact θ (rw ae (y .0))) (u .exact θ (rw be (y .1))));
+      }
 
   module _ (room : ℕ) where
     pub weigh-none : room ≡ 0 → Weighed sh (length cls) cls v room 0
@@ -177,21 +177,21 @@ module _ (kind left right cls : List ℕ) (v c : ℕ) (vn : v < length cls) (ce 
 
       pub weigh-power : (a rest : ℕ) → getD kind c 0 ≡ 2 → a ≡ getD left c 0 → Weighed sh (length cls) cls a (room - 1) rest → Weighed sh (length cls) cls v room rest
       weigh-power a rest h ae w = record {
-          within = omega (arith, w .within);
-          exact = λ θ d. let x = as-power θ d h in rw (x .1, ← ae) (omega (arith, w .exact θ (rw ae (x .0))))
-          }
+        within = omega (arith, w .within);
+        exact = λ θ d. let x = as-power θ d h in rw (x .1, ← ae) (omega (arith, w .exact θ (rw ae (x .0))));
+      }
 
       module _ (a rest : ℕ) (h : 3 ≤ getD kind c 0) (ae : a ≡ getD left c 0) (w : Weighed sh (length cls) cls a (room - 1) rest) where
         pub weigh-full : rest ≡ 0 → Weighed sh (length cls) cls v room 0
         weigh-full e = record {
-            within = omega arith;
-            exact = λ θ d. let x = as-product θ d h in rw (x .2, ← ae) (omega (arith, w .exact θ (rw ae (x .0))))
-            }
+          within = omega arith;
+          exact = λ θ d. let x = as-product θ d h in rw (x .2, ← ae) (omega (arith, w .exact θ (rw ae (x .0))));
+        }
 
         pub weigh-product : (b r : ℕ) → rest ≢ 0 → b ≡ getD right c 0 → Weighed sh (length cls) cls b (rest - 1) r → Weighed sh (length cls) cls v room r
         weigh-product b r e be u = record {
-            within = omega (arith, w .within, u .within);
-            exact = λ θ d.
-                let x = as-product θ d h in
-                rw (x .2, ← ae, ← be) (product-room room rest r (weightᵀ (θ a)) (weightᵀ (θ b)) some e (w .exact θ (rw ae (x .0))) (u .exact θ (rw be (x .1))))
-            }
+          within = omega (arith, w .within, u .within);
+          exact = λ θ d.
+              let x = as-product θ d h in
+              rw (x .2, ← ae, ← be) (product-room room rest r (weightᵀ (θ a)) (weightᵀ (θ b)) some e (w .exact θ (rw ae (x .0))) (u .exact θ (rw be (x .1))));
+        }
