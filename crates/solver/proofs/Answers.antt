@@ -1,6 +1,7 @@
 -- For callers: a problem's equations one by one, the codes of its leaves, and what its answer says of rows.
 use Prim.Native.Nat.{ℕ, zero, suc, _+_, _≤_, _<_}
-use mathlib.Core.Path.{_≡_, refl, ap}
+use mathlib.Core.Path.{_≡_, refl, sym, ap}
+use mathlib.Core.Bool.{Bool, true, false, not, true≢false}
 use mathlib.Core.List.{List, _++_}
 use native.Mathlib.Omega.{arith}
 use native.Mathlib.Nat.{not-suc-le-zero}
@@ -10,7 +11,7 @@ use lib.Seq.{sets, sets-eq}
 use Rattle.rules.specs.Types.{whole, Atom, number, bool, given, Ty, atomCode, weightᵀ, prefix}
 use Rattle.solver.specs.Problem.{Shape, Eqn, Holds, Solves, atomFrom}
 use Rattle.solver.specs.Arrays.{shapeAt, Arrays, equations, ClassArrays}
-use Rattle.solver.specs.Solved.{Solved}
+use Rattle.solver.specs.Solved.{Solved, Answer}
 use Rattle.solver.specs.Rows.{Determined}
 use Rattle.solver.proofs.Rows.{length-prefix}
 
@@ -31,6 +32,15 @@ pub atom-code : (a : Atom) → atomFrom (atomCode a) ≡ a
 atom-code (number whole) = refl
 atom-code bool = refl
 atom-code (given g) = let e : 16 + g ≡ suc (suc (suc (13 + g))) = omega arith in rw e (ap given (omega arith))
+
+-- the answer, where it was tested
+pub answer-none : (sh : ℕ → Shape) (n : ℕ) (es : List Eqn) (cls mark : List ℕ) (b : Bool) → Answer sh n es cls mark b → not b ≡ true → (θ : ℕ → Ty) → Solves sh n es θ → ⊥
+answer-none sh n es cls mark true a e = absurd (true≢false (sym e))
+answer-none sh n es cls mark false a e = a
+
+pub answer-solved : (sh : ℕ → Shape) (n : ℕ) (es : List Eqn) (cls mark : List ℕ) (b : Bool) → Answer sh n es cls mark b → not b ≡ false → Solved sh n es cls mark
+answer-solved sh n es cls mark true a e = a
+answer-solved sh n es cls mark false a e = absurd (true≢false e)
 
 -- a ground variable of a solved problem, for `weigh` and `write_type`
 pub solved-determined : {sh : ℕ → Shape} {n : ℕ} {es : List Eqn} {cls mark : List ℕ} → Solved sh n es cls mark → (θ : ℕ → Ty) → Solves sh n es θ
