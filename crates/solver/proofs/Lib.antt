@@ -10,3 +10,4 @@ pub mod Stack
 pub mod Marking
 pub mod Whole
 pub mod Rows
+pub mod ModelLaws
