@@ -4,3 +4,4 @@ pub mod VariableLaws
 pub mod ProblemLaws
 pub mod EquationsLaws
 pub mod Examples
+pub mod Rows

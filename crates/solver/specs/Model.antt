@@ -9,7 +9,7 @@ use lib.ListN.{length, replicate}
 use Rattle.rules.specs.Types.{Atom, Ty, atom, POW, _⊗_, INTEGER, atomCode}
 use Rattle.solver.specs.Problem.{Shape, unknown, leaf, power, product, Eqn, eqn}
 use Rattle.solver.specs.Classes.{Graph, look, graph, ownClasses, relabel}
-use Rattle.solver.specs.Marks.{sweepTo, marked}
+use Rattle.solver.specs.Marks.{markOne, sweepTo, marked}
 
 -- What two shapes of one class leave: equations between their parts, or a clash.
 pub data Join : Type 0 where
@@ -80,7 +80,7 @@ unless false f m = f m
 
 -- Sweeps over the marks until one marks nothing new, at most as many as the fourth argument says.
 unfoldable pub settle : (ℕ → Shape) → List ℕ → ℕ → ℕ → List ℕ → List ℕ
-unfolding sweepTo
+unfolding sweepTo markOne
 settle sh l n zero m = m
 settle sh l n (suc k) m = let m′ = sweepTo sh l n m in unless (eqb (marked n m′) (marked n m)) (settle sh l n k) m′
 
