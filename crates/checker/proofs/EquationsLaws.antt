@@ -30,10 +30,10 @@ falsity : (b : Bool) → (T b → ⊥) → b ≡ false
 falsity true h = absurd (h tt)
 falsity false h = refl
 
-less : (i j : ℕ) → i < j → ltb i j ≡ true
+pub less : (i j : ℕ) → i < j → ltb i j ≡ true
 less i j h = truth (ltb i j) (lt→ltb i j h)
 
-not-less : (i j : ℕ) → j ≤ i → ltb i j ≡ false
+pub not-less : (i j : ℕ) → j ≤ i → ltb i j ≡ false
 not-less i j h = falsity (ltb i j) (λ t. let l = ltb→lt i j t in omega arith)
 
 -- The places' types are those of their variables.

@@ -3,5 +3,6 @@ pub mod RefLaws
 pub mod VariableLaws
 pub mod ProblemLaws
 pub mod EquationsLaws
+pub mod Places
 pub mod Examples
 pub mod Rows

@@ -10,9 +10,10 @@ use lib.ListN.{getD, length}
 use Rattle.rules.specs.Types.{Ty}
 use Rattle.rules.specs.Tables.{Node, Table, nodeAt, kindAt}
 use Rattle.solver.specs.Problem.{Shape, unknown, Eqn, eqn, Matches, Holds, Solves, PartsBelow, AllBelow}
+use Rattle.solver.specs.Solved.{LeafDeclared}
 use Rattle.checker.specs.Plan.{Ref, Form, openᶠ, atomᶠ, powᶠ, prodᶠ, MatchesForm, MatchesSlots, HoldsRefs, Meets}
 use Rattle.checker.specs.Equations.{planAt, slotCount, base, varOf, shapeFrom, eqnFrom, nodeEquations, shapeAt, equations}
-use Rattle.checker.specs.Equations.{DeclaredLeaf, WellFormed, RightNodes}
+use Rattle.checker.specs.Equations.{WellFormed, RightNodes}
 use Rattle.checker.proofs.RefLaws.{FormRight, FormsRight, PairsRight, PlanRight, plan-refs}
 use Rattle.checker.proofs.VariableLaws.{base-below, shape-name, shape-self, shape-slot, each-variable, ref-below}
 
@@ -136,7 +137,7 @@ module _ (tb : Table) {n k : ℕ} (h : n < k) where
   pairs-below (e ∷ es) w = (ref-below tb h (e .0) (w .0), ref-below tb h (e .1) (w .1), pairs-below es (w .2))
 
 module _ (tb : Table) (n : ℕ) (d : Node) (m : ℕ) where
-  leaf-declared : (v : Ref → ℕ) (f : Form) → FormRight tb n d m f → DeclaredLeaf (length (tb .sizes)) (shapeFrom v f)
+  leaf-declared : (v : Ref → ℕ) (f : Form) → FormRight tb n d m f → LeafDeclared (length (tb .sizes)) (shapeFrom v f)
   leaf-declared v openᶠ w = tt
   leaf-declared v (atomᶠ a) w = w
   leaf-declared v (powᶠ r) w = tt
@@ -163,7 +164,7 @@ module _ (tb : Table) (right : RightNodes tb) where
   pub well-formed : (k : ℕ) → k ≤ length (tb .nodes) → WellFormed tb k
   well-formed k h = record {
     parts = each-shape (λ s. PartsBelow (base tb k) s) tt k h (λ n l f w. parts-below tb l f w);
-    leaves = each-shape (λ s. DeclaredLeaf (length (tb .sizes)) s) tt k h
+    leaves = each-shape (λ s. LeafDeclared (length (tb .sizes)) s) tt k h
         (λ n l f w. leaf-declared tb n (nodeAt (tb .nodes) n) (slotCount tb n) (varOf tb n) f w);
     below = below-all tb (base tb k) k
         (λ n l. pairs-below tb l (planAt tb n .equations) (node-plan tb right {n = n} (omega arith) .equations-right));

@@ -7,11 +7,12 @@ use mathlib.Core.List.{List, [], _∷_, _++_, map}
 use mathlib.Core.Option.{Option, none as nothing, some}
 use lib.Dec.{ltb}
 use lib.ListN.{getD, length, replicate}
-use Rattle.rules.specs.Types.{Ty, DeclaredAtom, INTEGER}
+use Rattle.rules.specs.Types.{Ty, INTEGER}
 use Rattle.rules.specs.Kinds.{Kind, kindOf}
 use Rattle.rules.specs.Tables.{Table, nodeAt, kindAt}
 use Rattle.rules.specs.Readable.{NodeRight}
 use Rattle.solver.specs.Problem.{Shape, unknown, leaf, power, product, Eqn, eqn, PartsBelow, AllBelow}
+use Rattle.solver.specs.Solved.{LeafDeclared}
 use Rattle.checker.specs.Plan.{Ref, self, first, second, name, slot, Form, openᶠ, atomᶠ, powᶠ, prodᶠ, Plan, only, plan}
 
 -- The plan of a node; nothing is known of a node whose kind is unknown.
@@ -73,17 +74,10 @@ unfolding kindOf varOf
 equations tb zero = []
 equations tb (suc k) = equations tb k ++ nodeEquations tb k
 
--- A shape without parts is a type of a table with n given sets.
-abbrev pub DeclaredLeaf : ℕ → Shape → Type 0
-DeclaredLeaf n unknown = Unit {0}
-DeclaredLeaf n (leaf a) = DeclaredAtom n a
-DeclaredLeaf n (power v) = Unit {0}
-DeclaredLeaf n (product v w) = Unit {0}
-
 -- The problem of the nodes below k is well formed.
 pub record WellFormed (tb : Table) (k : ℕ) : Type 0 where
   pub parts : (v : ℕ) → v < base tb k → PartsBelow (base tb k) (shapeAt tb v)
-  pub leaves : (v : ℕ) → v < base tb k → DeclaredLeaf (length (tb .sizes)) (shapeAt tb v)
+  pub leaves : (v : ℕ) → v < base tb k → LeafDeclared (length (tb .sizes)) (shapeAt tb v)
   pub below : AllBelow (base tb k) (equations tb k)
 
 -- A table whose nodes passed refusal 6.
