@@ -4,5 +4,6 @@ pub mod VariableLaws
 pub mod ProblemLaws
 pub mod EquationsLaws
 pub mod Places
+pub mod Verdicts
 pub mod Examples
 pub mod Rows
