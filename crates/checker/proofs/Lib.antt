@@ -5,5 +5,6 @@ pub mod ProblemLaws
 pub mod EquationsLaws
 pub mod Places
 pub mod Verdicts
+pub mod VerdictRight
 pub mod Examples
 pub mod Rows
