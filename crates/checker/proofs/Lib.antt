@@ -7,4 +7,4 @@ pub mod Places
 pub mod Verdicts
 pub mod VerdictRight
 pub mod Examples
-pub mod Rows
+pub mod Conditions

@@ -1,23 +1,21 @@
 -- Places and their variables: a place below I + k has a variable below base k, and its type is that variable's.
-use Prim.Native.Nat.{ℕ, zero, suc, _+_, _-_, _≤_, _<_}
-use mathlib.Core.Bool.{Bool, true, false, _||_}
-use mathlib.Core.List.{List, [], _∷_, _++_}
-use mathlib.Core.Logic.{_↔_, _⊎_, inl, inr}
+use Prim.Native.Nat.{ℕ, zero, suc, _+_, _-_, _<_}
+use mathlib.Core.Bool.{false}
+use mathlib.Core.List.{List, _++_}
+use mathlib.Core.Logic.{inl, inr}
 use mathlib.Core.Option.{Option, none as nothing, some}
 use mathlib.Core.Path.{_≡_, refl, sym, ap, ap₂, _∙_, subst}
 use native.Mathlib.Decide.{decLt}
 use native.Mathlib.Omega.{arith}
-use lib.Dec.{T, ltb, lt→ltb, ltb→lt}
-use lib.ListN.{length, getD}
+use lib.Dec.{T, ltb}
+use lib.ListN.{length}
 use Rattle.rules.specs.Types.{Ty, row}
 use Rattle.rules.specs.Kinds.{Kind, Category, predicate, expression, categoryOf}
 use Rattle.rules.specs.Tables.{Table, kindAt}
 use Rattle.rules.specs.Readable.{CategoryIs}
-use Rattle.rules.specs.Reading.{categoryIs}
 use Rattle.rules.specs.Verdict.{placeOf, Place, categoryRow, kindRow, rowsFrom, sheetOf}
-use Rattle.rules.proofs.EndLaws.{T-ltb}
 use Rattle.rules.proofs.ReadingLaws.{categoryIs-right}
-use Rattle.checker.specs.Equations.{base, slotCount, back}
+use Rattle.checker.specs.Equations.{base, back}
 use Rattle.checker.specs.Model.{placeCount, varAt, isPlace}
 use Rattle.checker.proofs.VariableLaws.{base-mono, base-below}
 use Rattle.checker.proofs.EquationsLaws.{less, not-less, back-name, back-node}
@@ -105,4 +103,5 @@ sheet-same tb θ κ h = ap₂ _++_
     (rows-same (λ x. row (θ x)) (λ x. row (κ x)) 0 (length (tb .binds)) (λ x l. ap row (h x (inl (omega arith)))))
     (rows-same (λ n. kindRow (kindAt (tb .nodes) n) (θ (placeOf tb n))) (λ n. kindRow (kindAt (tb .nodes) n) (κ (placeOf tb n))) 0
         (length (tb .nodes))
-        (λ n l. kind-row (kindAt (tb .nodes) n) (θ (placeOf tb n)) (κ (placeOf tb n)) (λ e. h (placeOf tb n) (inr (n, omega arith, e, refl)))))
+        (λ n l. kind-row (kindAt (tb .nodes) n) (θ (placeOf tb n)) (κ (placeOf tb n))
+            (λ e. h (placeOf tb n) (inr (n, omega arith, e, refl)))))

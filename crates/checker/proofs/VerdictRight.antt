@@ -1,15 +1,15 @@
 -- `verdict` gives the answer that document 01 describes.
-use Prim.Native.Nat.{ℕ, zero, suc, _+_, _≤_, _<_, min}
+use Prim.Native.Nat.{ℕ, zero, suc, _≤_, _<_, min}
 use mathlib.Core.Bool.{Bool, true, false, not, _||_, true≢false, false≢true}
 use mathlib.Core.List.{List}
 use mathlib.Core.Option.{Option, none as nothing, some}
-use mathlib.Core.Path.{_≡_, refl, sym, ap, _∙_, subst}
+use mathlib.Core.Path.{_≡_, refl}
 use native.Mathlib.Decide.{decLt}
 use native.Mathlib.Omega.{arith}
-use lib.Dec.{T, eqb, leb, eqb→eq, eqb-refl, leb→le, le→leb}
+use lib.Dec.{T, eqb, eqb→eq, eqb-refl, leb→le, le→leb}
 use lib.ListN.{length, getD}
 use Rattle.rules.specs.Types.{Ty, weightᵀ}
-use Rattle.rules.specs.Tables.{Table, tableOf}
+use Rattle.rules.specs.Tables.{Table}
 use Rattle.rules.specs.Ends.{End, done, refused, _>>=_, require, requireAll}
 use Rattle.rules.specs.Reading.{reading}
 use Rattle.rules.specs.Verdict.{Place, typeLimit, sheetOf, sheetLength, Verdict, unreadable, misfit}
@@ -19,10 +19,12 @@ use Rattle.rules.proofs.TableLaws.{nodes-length}
 use Rattle.solver.specs.Problem.{Shape}
 use Rattle.solver.proofs.ModelLaws.{Answers, modelSolve-right, typeFrom-is}
 use Rattle.checker.specs.Equations.{base, shapes, shapeAt, equations, RightNodes}
-use Rattle.checker.specs.Model.{placeCount, varAt, isPlace, solveBelow, isSome, solvable, settled, types, light, typed, checked, verdict}
+use Rattle.checker.specs.Model.{placeCount, varAt, isPlace, solveBelow, isSome, solvable}
+use Rattle.checker.specs.Model.{settled, types, light, typed, checked, verdict}
 use Rattle.checker.proofs.ProblemLaws.{well-formed}
 use Rattle.checker.proofs.Places.{place-below, var-below, isPlace-place, place-isPlace}
-use Rattle.checker.proofs.Verdicts.{right-nodes, SolvesBelow, SolvedBelow, GroundPlaces, clash-first, clash-verdict, several-verdict, heavy-verdict, accepts-verdict}
+use Rattle.checker.proofs.Verdicts.{right-nodes, SolvesBelow, SolvedBelow, GroundPlaces}
+use Rattle.checker.proofs.Verdicts.{clash-first, clash-verdict, several-verdict, heavy-verdict, accepts-verdict}
 
 -- A property of `requireAll` and what follows: it holds of the rest where each number passes, and of the refusal at the
 -- least that fails.
@@ -126,7 +128,8 @@ solvable-none sh tb k h = go (solveBelow sh tb k) h
 
 module _ (tb : Table) (right : RightNodes tb) (k : ℕ) (h : k ≤ length (tb .nodes)) where
   -- What `solvable` says of the nodes below k.
-  pub solvable-solved : solvable (shapeAt tb) tb k ≡ true → (r : List ℕ × List ℕ) × (solveBelow (shapeAt tb) tb k ≡ some r) × SolvedBelow tb k (r .0) (r .1)
+  pub solvable-solved : solvable (shapeAt tb) tb k ≡ true →
+      (r : List ℕ × List ℕ) × (solveBelow (shapeAt tb) tb k ≡ some r) × SolvedBelow tb k (r .0) (r .1)
   solvable-solved t = let r = solvable-some (shapeAt tb) tb k t in (r .0, r .1, rw (r .1) at (solveBelow-right tb right k h))
 
   pub unsolvable : solvable (shapeAt tb) tb k ≡ false → (σ : ℕ → Ty) → SolvesBelow tb k σ → ⊥
@@ -179,7 +182,8 @@ module _ {bs : List ℕ} {room : ℕ} {tb : Table} (e : reading bs ≡ done tb) 
             rw (r .1) (typed-right (r .0) (r .2)))
           clash-right
     where
-      last : ((j : ℕ) → j < length (tb .nodes) → solvable (shapeAt tb) tb (suc j) ≡ true) → solvable (shapeAt tb) tb (length (tb .nodes)) ≡ true
+      last : ((j : ℕ) → j < length (tb .nodes) → solvable (shapeAt tb) tb (suc j) ≡ true) →
+          solvable (shapeAt tb) tb (length (tb .nodes)) ≡ true
       last all = go (length (tb .nodes)) (some-nodes bs tb e) all
         where
           go : (n : ℕ) → 0 < n → ((j : ℕ) → j < n → solvable (shapeAt tb) tb (suc j) ≡ true) → solvable (shapeAt tb) tb n ≡ true

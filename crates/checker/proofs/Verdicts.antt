@@ -1,21 +1,21 @@
 -- What a solved problem of a table says of Check's answer, for any classes and marks that are `Solved`: one lemma for each
 -- of the refusals 11 to 13, and one for acceptance.
-use Prim.Native.Nat.{ℕ, zero, suc, _+_, _≤_, _<_}
+use Prim.Native.Nat.{ℕ, suc, _+_, _≤_, _<_}
 use mathlib.Core.List.{List}
 use mathlib.Core.Path.{_≡_, refl, sym, _∙_, subst}
 use native.Mathlib.Omega.{arith}
 use lib.ListN.{length, getD}
 use Rattle.rules.specs.Types.{Ty, weightᵀ, Declared, INTEGER}
 use Rattle.rules.specs.Tables.{Table}
-use Rattle.rules.specs.Ends.{End, done, refused}
+use Rattle.rules.specs.Ends.{done, refused}
 use Rattle.rules.specs.Reading.{reading}
-use Rattle.rules.specs.Verdict.{placeOf, Place, Typing, Whole, AgreeAt, Only, typeLimit, Light, sheetOf, sheetLength, Verdict, clash, several, heavy, accepts}
+use Rattle.rules.specs.Verdict.{Place, Typing, AgreeAt, Only, typeLimit, sheetOf, sheetLength}
+use Rattle.rules.specs.Verdict.{Verdict, clash, several, heavy, accepts}
 use Rattle.rules.proofs.ReadingLaws.{reading-table, reading-readable}
 use Rattle.solver.specs.Problem.{Solves}
 use Rattle.solver.specs.Solved.{Solved}
 use Rattle.checker.specs.Equations.{base, shapeAt, equations, RightNodes, back}
 use Rattle.checker.specs.Model.{placeCount, varAt}
-use Rattle.checker.proofs.VariableLaws.{shape-name}
 use Rattle.checker.proofs.ProblemLaws.{well-formed}
 use Rattle.checker.proofs.EquationsLaws.{typing→solves, solves→typing}
 use Rattle.checker.proofs.Places.{place-below, var-below, back-at, types-at, sheet-same}
@@ -107,9 +107,11 @@ module _ {bs : List ℕ} {room : ℕ} {tb : Table} (e : reading bs ≡ done tb) 
     several-verdict p w few below =
         let n = length (tb .nodes) in
         let l : p < placeCount tb = place-below tb p w in
-        several e fits w (first-typing tb (right-nodes bs tb e) n (omega arith) cls mark s) (second-typing tb (right-nodes bs tb e) n (omega arith) cls mark s)
-            (λ same. s .differ (varAt tb p) (var-below tb n p l) few (sym (back-at tb n (s .first) p l) ∙ same ∙ back-at tb n (s .second) p l))
-            (λ q h v. ground-agrees tb (right-nodes bs tb e) cls mark s q v (below q h v))
+        let right = right-nodes bs tb e in
+        several e fits w (first-typing tb right n (omega arith) cls mark s) (second-typing tb right n (omega arith) cls mark s)
+            (λ same. s .differ (varAt tb p) (var-below tb n p l) few
+                (sym (back-at tb n (s .first) p l) ∙ same ∙ back-at tb n (s .second) p l))
+            (λ q h v. ground-agrees tb right cls mark s q v (below q h v))
 
     module _ (g : GroundPlaces tb mark) where
       -- 13 at p: the least place whose type is too heavy.
@@ -123,5 +125,6 @@ module _ {bs : List ℕ} {room : ℕ} {tb : Table} (e : reading bs ≡ done tb) 
       pub accepts-verdict : ((p : ℕ) → Place tb p → weightᵀ (s .first (varAt tb p)) ≤ typeLimit) →
           (θ : ℕ → Ty) → ((p : ℕ) → Place tb p → θ p ≡ s .first (varAt tb p)) → Verdict bs room (done (sheetOf tb θ))
       accepts-verdict light θ same =
-          rw (sheet-same tb θ (firstTypes tb (right-nodes bs tb e) cls mark s) (λ p w. same p w ∙ sym (first-at tb (right-nodes bs tb e) cls mark s p w)))
-              (accepts e fits (only-first tb (right-nodes bs tb e) cls mark s g) (λ p w. rw (first-at tb (right-nodes bs tb e) cls mark s p w) (light p w)))
+          let right = right-nodes bs tb e in
+          rw (sheet-same tb θ (firstTypes tb right cls mark s) (λ p w. same p w ∙ sym (first-at tb right cls mark s p w)))
+              (accepts e fits (only-first tb right cls mark s g) (λ p w. rw (first-at tb right cls mark s p w) (light p w)))

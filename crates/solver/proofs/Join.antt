@@ -1,13 +1,13 @@
 -- The join of two shapes: what their being one class says of the parts.
-use mathlib.Core.Path.{_≡_, refl, sym, ap, ap₂, _∙_}
+use mathlib.Core.Path.{_≡_, refl, ap}
 use mathlib.Core.Logic.{_↔_}
 use mathlib.Core.Bool.{Bool, true, false}
-use mathlib.Core.List.{List, [], _∷_, _++_}
-use Prim.Native.Nat.{ℕ, zero, suc, _+_, _≤_, _<_}
+use mathlib.Core.List.{[]}
+use Prim.Native.Nat.{ℕ}
 use native.Mathlib.Omega.{arith}
-use lib.Dec.{T, eqb, eqb→eq, eqb-refl}
-use Rattle.rules.specs.Types.{whole, Atom, number, bool, given, Ty, atom, POW, _⊗_, atomCode}
-use Rattle.solver.specs.Problem.{Shape, unknown, leaf, power, product, Eqn, eqn, Matches, Holds}
+use lib.Dec.{T, eqb→eq, eqb-refl}
+use Rattle.rules.specs.Types.{whole, Atom, number, bool, given, Ty, atomCode}
+use Rattle.solver.specs.Problem.{Shape, unknown, leaf, power, product, Matches, Holds}
 use Rattle.solver.specs.Model.{Join, clash, joined, sameAtom, join-leaf, join}
 
 -- the shape of the joined class: b's, unless that is unknown

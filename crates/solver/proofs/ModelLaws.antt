@@ -1,21 +1,21 @@
 -- What the answers of `modelSolve` mean, and the types that classes determine.
-use mathlib.Core.Path.{_≡_, refl, sym, ap, ap₂, _∙_, subst}
-use mathlib.Core.Logic.{_↔_, _≢_, _⊎_, inl, inr, Iff·trans}
-use mathlib.Core.Bool.{Bool, true, false, cond, true≢false}
+use mathlib.Core.Path.{_≡_, refl, sym, ap, ap₂, _∙_}
+use mathlib.Core.Logic.{_↔_, Iff·trans}
+use mathlib.Core.Bool.{Bool, true, false, cond}
 use mathlib.Core.List.{List, [], _∷_, _++_}
 use mathlib.Core.Option.{Option, none as nothing, some}
 use Prim.Native.Nat.{ℕ, zero, suc, _+_, _-_, _*_, _≤_, _<_, min}
 use native.Mathlib.Nat.{not-suc-le-zero}
 use native.Mathlib.Omega.{arith}
-use native.Mathlib.Decide.{decLt}
-use lib.Dec.{T, eqb, ltb, lt→ltb, ltb→lt}
+use lib.Dec.{T, ltb, lt→ltb, ltb→lt}
 use lib.ListN.{length, getD, replicate, length-replicate, length-append}
-use Rattle.rules.specs.Types.{Ty, atom, POW, _⊗_, INTEGER, weightᵀ}
+use Rattle.rules.specs.Types.{Ty, POW, _⊗_, INTEGER, weightᵀ}
 use Rattle.solver.specs.Problem.{Shape, unknown, leaf, power, product, Eqn, eqn, Matches, Holds, Solves, PartsBelow, AllBelow}
-use Rattle.solver.specs.Classes.{Graph, Sat, look, graph, WellFormed, ownClasses}
+use Rattle.solver.specs.Classes.{Sat, graph, WellFormed, ownClasses}
 use Rattle.solver.specs.Marks.{statusOf, markOf, pos, marked, sweepTo, SoundMarks, Settled}
-use Rattle.solver.specs.Solved.{LeafDeclared, ClassesMatch, Grounded, Solved}
-use Rattle.solver.specs.Model.{Step, stop, next, step, goOn, unify, unless, settle, answer, marksOf, within, modelSolve, build, val, typeFrom}
+use Rattle.solver.specs.Solved.{ClassesMatch, Grounded, Solved}
+use Rattle.solver.specs.Model.{Step, stop, next, step, goOn, unify, unless, settle, answer, marksOf, within, modelSolve}
+use Rattle.solver.specs.Model.{build, val, typeFrom}
 use Rattle.solver.proofs.Counting.{count-le}
 use Rattle.solver.proofs.Step.{StepGood, step-good, classes, isRep, below-append, holds-append, eqb-cases}
 use Rattle.solver.proofs.Marking.{sounds-next, settled-end, falls}
@@ -31,7 +31,8 @@ UnifyRight sh n l es (some l′) = WellFormed sh n l′ × ((θ : ℕ → Ty) �
 module _ (sh : ℕ → Shape) (n : ℕ) (parts : (v : ℕ) → v < n → PartsBelow n (sh v)) where
   goOn-right : (l : List ℕ) (a b : ℕ) (es : List Eqn) (k : ℕ) (f : List ℕ → List Eqn → Option (List ℕ)) (s : Step) →
       StepGood sh n l a b s → AllBelow n es → 3 * classes n l + suc (length es) ≤ suc k →
-      ((l′ : List ℕ) (es′ : List Eqn) → WellFormed sh n l′ → AllBelow n es′ → 3 * classes n l′ + length es′ ≤ k → UnifyRight sh n l′ es′ (f l′ es′)) →
+      ((l′ : List ℕ) (es′ : List Eqn) → WellFormed sh n l′ → AllBelow n es′ → 3 * classes n l′ + length es′ ≤ k →
+          UnifyRight sh n l′ es′ (f l′ es′)) →
       UnifyRight sh n l (eqn a b ∷ es) (goOn s es f)
   goOn-right l a b es k f stop g below fuel ih = λ θ s h. g θ s (h .0)
   goOn-right l a b es k f (next l′ new) g below fuel ih =
@@ -158,9 +159,10 @@ module _ (sh : ℕ → Shape) (n : ℕ) (cls mark : List ℕ) (θ : ℕ → Ty) 
       let x : min (weightᵀ (f v ⊗ f w)) (weightᵀ (θ v ⊗ θ w)) ≤ suc k = rw m at h in
       ap₂ _⊗_ (ih v (b .0) (omega arith) (omega arith)) (ih w (b .1) (omega arith) (omega arith)) ∙ sym m
 
-  pub typeFrom-is : (k v : ℕ) → v < n → 2 ≤ getD mark v 1 → min (weightᵀ (typeFrom sh cls k v)) (weightᵀ (θ v)) ≤ k → typeFrom sh cls k v ≡ θ v
+  pub typeFrom-is : (k v : ℕ) → v < n → 2 ≤ getD mark v 1 → min (weightᵀ (typeFrom sh cls k v)) (weightᵀ (θ v)) ≤ k →
+      typeFrom sh cls k v ≡ θ v
   unfolding typeFrom
   typeFrom-is zero v l g h = absurd (omega (arith, weight-pos (θ v)))
   typeFrom-is (suc k) v l g h =
-      build-is (val (graph sh cls) (λ x. INTEGER) k) k (sh (getD cls v v)) (θ v) (parts (getD cls v v) (bound v l)) (grounded v l g) (match v l)
-          h (typeFrom-is k)
+      build-is (val (graph sh cls) (λ x. INTEGER) k) k (sh (getD cls v v)) (θ v) (parts (getD cls v v) (bound v l)) (grounded v l g)
+          (match v l) h (typeFrom-is k)

@@ -6,7 +6,7 @@ use Prim.Native.Nat.{ℕ, zero, suc, _+_, _≤_, _<_, min}
 use native.Mathlib.Nat.{not-suc-le-zero, le-refl}
 use native.Mathlib.Omega.{arith}
 use native.Mathlib.Decide.{decLt}
-use Rattle.rules.specs.Types.{Ty, atom, POW, _⊗_, INTEGER, weightᵀ, Declared}
+use Rattle.rules.specs.Types.{Ty, POW, _⊗_, weightᵀ, Declared}
 use Rattle.solver.specs.Problem.{Shape, unknown, leaf, power, product, Matches, PartsBelow}
 use Rattle.solver.specs.Classes.{Graph, Sat, Idem}
 use Rattle.solver.specs.Marks.{statusOf, statusAfter, Stalled}

@@ -1,10 +1,9 @@
--- Rows of document 01, by computation.
+-- Check's answers for conditions of document 01, "Conditions tried", by computation.
 use Prim.Native.Nat.{ℕ}
 use mathlib.Core.List.{List, [], _∷_, _++_}
 use mathlib.Core.Path.{_≡_, refl}
-use lib.ListN.{replicate}
-use Rattle.rules.specs.Ends.{End, done, refused}
-use Rattle.rules.specs.Types.{row, emptyRow, INTEGER, BOOL, G, POW}
+use Rattle.rules.specs.Ends.{done, refused}
+use Rattle.rules.specs.Types.{row, emptyRow, INTEGER, G, POW}
 use Rattle.checker.specs.Model.{verdict}
 
 -- Small words as bytes.
@@ -24,7 +23,8 @@ unfolding verdict
 p2 = refl
 
 -- P3 x={x}
-p3 : verdict (words (1 ∷ 0 ∷ 1 ∷ 4 ∷ 32 ∷ 32 ∷ 36 ∷ 100 ∷ 0 ∷ 20 ∷ 0 ∷ 0 ∷ 0 ∷ 20 ∷ 0 ∷ 0 ∷ 0 ∷ 27 ∷ 1 ∷ 0 ∷ 0 ∷ 6 ∷ 0 ∷ 2 ∷ 0 ∷ [])) 320 ≡ refused 11 3
+p3 : verdict (words (1 ∷ 0 ∷ 1 ∷ 4 ∷ 32 ∷ 32 ∷ 36 ∷ 100 ∷ 0 ∷ 20 ∷ 0 ∷ 0 ∷ 0 ∷ 20 ∷ 0 ∷ 0 ∷ 0 ∷ 27 ∷ 1 ∷ 0 ∷ 0 ∷ 6 ∷ 0 ∷ 2 ∷ 0 ∷ [])) 320 ≡
+    refused 11 3
 unfolding verdict
 p3 = refl
 
