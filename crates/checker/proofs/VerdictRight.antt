@@ -56,6 +56,20 @@ unfolding solveBelow
 solveBelow-right tb right k h =
     let w = well-formed tb right k h in modelSolve-right (shapeAt tb) (base tb k) (equations tb k) (w .parts) (w .below)
 
+-- A place that has a type is marked ground where it passes the test, and is not where it fails.
+module _ (tb : Table) (mark : List ℕ) (p : ℕ) (w : Place tb p) where
+  settled-true : settled tb mark p ≡ true → 2 ≤ getD mark (varAt tb p) 1
+  unfolding settled
+  settled-true h = leb→le 2 (getD mark (varAt tb p) 1) (passes (isPlace tb p) _ h (place-isPlace tb p w))
+
+  settled-false : settled tb mark p ≡ false → getD mark (varAt tb p) 1 < 2
+  unfolding settled
+  settled-false h = go (decLt (getD mark (varAt tb p) 1) 2)
+    where
+      go : Dec (getD mark (varAt tb p) 1 < 2) → getD mark (varAt tb p) 1 < 2
+      go (yes l) = l
+      go (no f) = absurd (fails (isPlace tb p) _ h .1 (le→leb 2 (getD mark (varAt tb p) 1) (omega arith)))
+
 -- The types of the table's places, from classes and marks that are solved.
 module _ (tb : Table) (right : RightNodes tb) (cls mark : List ℕ) (s : SolvedBelow tb (length (tb .nodes)) cls mark)
     (p : ℕ) (w : Place tb p) where
@@ -87,18 +101,6 @@ module _ (tb : Table) (right : RightNodes tb) (cls mark : List ℕ) (s : SolvedB
       go (no f) =
           let e = types-are g (omega arith) in
           absurd (fails (isPlace tb p) _ h .1 (rw e (le→leb (weightᵀ (s .first (varAt tb p))) typeLimit (omega arith))))
-
-  settled-true : settled tb mark p ≡ true → 2 ≤ getD mark (varAt tb p) 1
-  unfolding settled
-  settled-true h = leb→le 2 (getD mark (varAt tb p) 1) (passes (isPlace tb p) _ h (place-isPlace tb p w))
-
-  settled-false : settled tb mark p ≡ false → getD mark (varAt tb p) 1 < 2
-  unfolding settled
-  settled-false h = go (decLt (getD mark (varAt tb p) 1) 2)
-    where
-      go : Dec (getD mark (varAt tb p) 1 < 2) → getD mark (varAt tb p) 1 < 2
-      go (yes l) = l
-      go (no f) = absurd (fails (isPlace tb p) _ h .1 (le→leb 2 (getD mark (varAt tb p) 1) (omega arith)))
 
 -- A place that fails a test has a type.
 settled-place : (tb : Table) (mark : List ℕ) (p : ℕ) → p < placeCount tb → settled tb mark p ≡ false → Place tb p
@@ -152,10 +154,10 @@ module _ {bs : List ℕ} {room : ℕ} {tb : Table} (e : reading bs ≡ done tb) 
   unfolding typed
   typed-right r s =
       requireAll-cases (Verdict bs room) 12 (settled tb (r .1)) (placeCount tb) _
-          (λ all. rest (λ p w. settled-true tb right (r .0) (r .1) s p w (all p (place-below tb p w))))
+          (λ all. rest (λ p w. settled-true tb (r .1) p w (all p (place-below tb p w))))
           (λ p h f below. let w = settled-place tb (r .1) p h f in
-            several-verdict e fits (r .0) (r .1) s p w (settled-false tb right (r .0) (r .1) s p w f)
-                (λ q l v. settled-true tb right (r .0) (r .1) s q v (below q l)))
+            several-verdict e fits (r .0) (r .1) s p w (settled-false tb (r .1) p w f)
+                (λ q l v. settled-true tb (r .1) q v (below q l)))
     where
       right : RightNodes tb
       right = right-nodes bs tb e

@@ -62,16 +62,16 @@ module _ (tb : Table) (right : RightNodes tb) (k : ℕ) (h : k ≤ length (tb .n
 pub typing-none : (tb : Table) → Typing tb 0 (λ p. INTEGER)
 typing-none tb = record { declared = λ p w. tt; obeyed = λ n l. absurd (omega arith) }
 
+-- The places' types from those of the variables of the whole table.
+abbrev pub backWhole : Table → (ℕ → Ty) → ℕ → Ty
+backWhole tb σ = back tb (length (tb .nodes)) σ
+
+pub back-place : (tb : Table) (σ : ℕ → Ty) (p : ℕ) → Place tb p → backWhole tb σ p ≡ σ (varAt tb p)
+back-place tb σ p w = back-at tb (length (tb .nodes)) σ p (place-below tb p w)
+
 module _ (tb : Table) (right : RightNodes tb) (cls mark : List ℕ) (s : SolvedBelow tb (length (tb .nodes)) cls mark) where
   abbrev n : ℕ
   n = length (tb .nodes)
-
-  -- The types of the first solution at the places.
-  abbrev pub firstTypes : ℕ → Ty
-  firstTypes = back tb n (s .first)
-
-  pub first-at : (p : ℕ) → Place tb p → firstTypes p ≡ s .first (varAt tb p)
-  first-at p w = back-at tb n (s .first) p (place-below tb p w)
 
   -- Two typings are the same at a place that is marked ground.
   pub ground-agrees : (p : ℕ) → Place tb p → 2 ≤ getD mark (varAt tb p) 1 → AgreeAt tb p
@@ -82,10 +82,10 @@ module _ (tb : Table) (right : RightNodes tb) (cls mark : List ℕ) (s : SolvedB
       sym (x .2 p l) ∙ s .ground (varAt tb p) (var-below tb n p l) g (x .0) (y .0) (x .1) (y .1) ∙ y .2 p l
 
   -- Where each place is marked ground, the first solution gives the only typing.
-  pub only-first : GroundPlaces tb mark → Only tb firstTypes
+  pub only-first : GroundPlaces tb mark → Only tb (backWhole tb (s .first))
   only-first g = record {
     typing = first-typing tb right n (omega arith) cls mark s;
-    alone = λ κ t p w. ground-agrees p w (g p w) κ firstTypes t (first-typing tb right n (omega arith) cls mark s);
+    alone = λ κ t p w. ground-agrees p w (g p w) κ (backWhole tb (s .first)) t (first-typing tb right n (omega arith) cls mark s);
   }
 
 -- ---- the answers
@@ -106,11 +106,10 @@ module _ {bs : List ℕ} {room : ℕ} {tb : Table} (e : reading bs ≡ done tb) 
         ((q : ℕ) → q < p → Place tb q → 2 ≤ getD mark (varAt tb q) 1) → Verdict bs room (refused 12 p)
     several-verdict p w few below =
         let n = length (tb .nodes) in
-        let l : p < placeCount tb = place-below tb p w in
         let right = right-nodes bs tb e in
         several e fits w (first-typing tb right n (omega arith) cls mark s) (second-typing tb right n (omega arith) cls mark s)
-            (λ same. s .differ (varAt tb p) (var-below tb n p l) few
-                (sym (back-at tb n (s .first) p l) ∙ same ∙ back-at tb n (s .second) p l))
+            (λ same. s .differ (varAt tb p) (var-below tb n p (place-below tb p w)) few
+                (sym (back-place tb (s .first) p w) ∙ same ∙ back-place tb (s .second) p w))
             (λ q h v. ground-agrees tb right cls mark s q v (below q h v))
 
     module _ (g : GroundPlaces tb mark) where
@@ -118,13 +117,13 @@ module _ {bs : List ℕ} {room : ℕ} {tb : Table} (e : reading bs ≡ done tb) 
       pub heavy-verdict : (p : ℕ) → Place tb p → typeLimit < weightᵀ (s .first (varAt tb p)) →
           ((q : ℕ) → q < p → Place tb q → weightᵀ (s .first (varAt tb q)) ≤ typeLimit) → Verdict bs room (refused 13 p)
       heavy-verdict p w much below =
-          heavy e fits w (only-first tb (right-nodes bs tb e) cls mark s g) (rw (first-at tb (right-nodes bs tb e) cls mark s p w) much)
-              (λ q h v. rw (first-at tb (right-nodes bs tb e) cls mark s q v) (below q h v))
+          heavy e fits w (only-first tb (right-nodes bs tb e) cls mark s g) (rw (back-place tb (s .first) p w) much)
+              (λ q h v. rw (back-place tb (s .first) q v) (below q h v))
 
       -- Accepted: the sheet holds the types of the places.
       pub accepts-verdict : ((p : ℕ) → Place tb p → weightᵀ (s .first (varAt tb p)) ≤ typeLimit) →
           (θ : ℕ → Ty) → ((p : ℕ) → Place tb p → θ p ≡ s .first (varAt tb p)) → Verdict bs room (done (sheetOf tb θ))
       accepts-verdict light θ same =
-          let right = right-nodes bs tb e in
-          rw (sheet-same tb θ (firstTypes tb right cls mark s) (λ p w. same p w ∙ sym (first-at tb right cls mark s p w)))
-              (accepts e fits (only-first tb right cls mark s g) (λ p w. rw (first-at tb right cls mark s p w) (light p w)))
+          rw (sheet-same tb θ (backWhole tb (s .first)) (λ p w. same p w ∙ sym (back-place tb (s .first) p w)))
+              (accepts e fits (only-first tb (right-nodes bs tb e) cls mark s g)
+                  (λ p w. rw (back-place tb (s .first) p w) (light p w)))
