@@ -11,3 +11,4 @@ pub mod Marking
 pub mod Whole
 pub mod Rows
 pub mod ModelLaws
+pub mod Answers

@@ -1,21 +1,20 @@
 -- The sweeps, as the code runs them.
-use mathlib.Core.Path.{_≡_, refl, sym, ap, ap₂, _∙_, subst}
+use mathlib.Core.Path.{_≡_, refl, sym, ap, _∙_}
 use mathlib.Core.Logic.{_≢_}
-use mathlib.Core.Bool.{Bool, true, false, true≢false}
+use mathlib.Core.Bool.{true}
 use mathlib.Core.List.{List}
 use Prim.Native.Nat.{ℕ, zero, suc, _+_, _-_, _≤_, _<_, min}
 use native.Mathlib.Omega.{arith}
 use native.Mathlib.Numerals.{add-one}
 use native.Mathlib.Decide.{decLt}
-use lib.ListN.{length, getD, set, length-set}
+use lib.ListN.{length, getD, set}
 use lib.Seq.{ext-getD}
 use Rattle.solver.specs.Problem.{Shape, PartsBelow, shapeOf}
-use Rattle.solver.specs.Arrays.{shapeAt, Arrays, ClassArrays}
-use Rattle.solver.specs.Classes.{look, graph}
-use Rattle.solver.specs.Marks.{statusOf, markOf, orElse, markOne, sweepTo, pos, tally, countBelow, marked, SoundMarks, Settled, StatusPre}
+use Rattle.solver.specs.Arrays.{ClassArrays}
+use Rattle.solver.specs.Marks.{statusOf, markOf, orElse, markOne, sweepTo, pos, marked, SoundMarks, Settled, StatusPre}
 use Rattle.solver.proofs.Counting.{count-le, count-strict}
 use Rattle.solver.proofs.Stack.{any-default}
-use Rattle.solver.proofs.Sweeps.{length-sweep, sweep-keep, sweep-grow, sweep-sound, stalls, more, pos-lt, lt-pos, nlt-pos}
+use Rattle.solver.proofs.Sweeps.{length-sweep, sweep-keep, sweep-grow, sweep-sound, stalls, more, lt-pos, nlt-pos}
 
 pub parts-left : (n k l r : ℕ) → PartsBelow n (shapeOf k l r) → k ≢ 0 → k ≢ 1 → l < n
 parts-left n zero l r h a b = absurd (a refl)
@@ -102,9 +101,6 @@ sweep-end sh l m₀ m i e h k = let n : i ≡ length m₀ = omega arith in rw n 
 ne-pos : (x : ℕ) → x ≢ 0 → pos x ≡ true
 ne-pos zero h = absurd (h refl)
 ne-pos (suc x) h = refl
-
-pub marked-start : (m : List ℕ) → 0 ≡ marked 0 m
-marked-start m = refl
 
 pub marked-yes : (m : List ℕ) (i n : ℕ) → i < length m → n ≡ marked i m → getD m i 0 ≢ 0 → n + 1 ≡ marked (i + 1) m
 marked-yes m i n h e ne = rw (add-one i, add-one n) (rw (ne-pos (markOf m i) (λ z. ne (any-default m i 0 1 h ∙ z)), e))

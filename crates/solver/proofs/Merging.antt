@@ -1,15 +1,13 @@
 -- One merge of two classes keeps exactly the solutions.
-use mathlib.Core.Path.{_≡_, refl, sym, ap, ap₂, _∙_, subst}
+use mathlib.Core.Path.{_≡_, sym, _∙_}
 use mathlib.Core.Logic.{_↔_, _≢_}
-use mathlib.Core.Bool.{Bool, true, false}
-use mathlib.Core.List.{List, [], _∷_, _++_}
-use Prim.Native.Nat.{ℕ, zero, suc, _+_, _≤_, _<_}
-use native.Mathlib.Omega.{arith}
+use mathlib.Core.List.{List}
+use Prim.Native.Nat.{ℕ}
 use native.Mathlib.Decide.{ℕ-discrete}
 use Rattle.rules.specs.Types.{Ty}
-use Rattle.solver.specs.Problem.{Shape, Eqn, Matches, Holds}
+use Rattle.solver.specs.Problem.{Eqn, Matches, Holds}
 use Rattle.solver.specs.Classes.{Graph, Sat, Idem}
-use Rattle.solver.specs.Model.{Join, clash, joined, join}
+use Rattle.solver.specs.Model.{clash, joined, join}
 use Rattle.solver.proofs.Join.{top, JoinOk, join-ok}
 
 -- h is g with the class p put into the class q, whose shape is then the top of the two; p's own shape may be anything

@@ -1,13 +1,12 @@
 -- Resolved, open and ground classes: the solutions built from them; no solution where a class is never resolved.
 use mathlib.Core.Path.{_≡_, refl, sym, ap, ap₂, _∙_, subst}
-use mathlib.Core.Logic.{_↔_, _≢_}
-use mathlib.Core.List.{List, [], _∷_, _++_}
-use Prim.Native.Nat.{ℕ, zero, suc, _+_, _≤_, _<_, min}
-use native.Mathlib.Nat.{not-suc-le-zero, le-refl}
+use mathlib.Core.Logic.{_≢_}
+use Prim.Native.Nat.{ℕ, zero, suc, _≤_, _<_}
+use native.Mathlib.Nat.{not-suc-le-zero}
 use native.Mathlib.Omega.{arith}
 use native.Mathlib.Decide.{decLt}
 use Rattle.rules.specs.Types.{Ty, POW, _⊗_, weightᵀ, Declared}
-use Rattle.solver.specs.Problem.{Shape, unknown, leaf, power, product, Matches, PartsBelow}
+use Rattle.solver.specs.Problem.{Shape, unknown, leaf, power, product, Matches}
 use Rattle.solver.specs.Classes.{Graph, Sat, Idem}
 use Rattle.solver.specs.Marks.{statusOf, statusAfter, Stalled}
 use Rattle.solver.specs.Solved.{LeafDeclared}

@@ -1,10 +1,10 @@
 -- The equations of the stack, as the code takes them: the loop's invariant and what one turn makes of it.
 use mathlib.Core.Path.{_≡_, refl, sym, ap, ap₂, _∙_, subst}
 use mathlib.Core.Logic.{_↔_, _≢_, inl, inr}
-use mathlib.Core.Bool.{Bool, true, false, cond, true≢false}
-use mathlib.Core.List.{List, [], _∷_, _++_, map}
+use mathlib.Core.Bool.{Bool, true, false, cond}
+use mathlib.Core.List.{List, [], _∷_, _++_}
 use Prim.Native.Nat.{ℕ, zero, suc, _+_, _-_, _*_, _≤_, _<_}
-use native.Mathlib.Nat.{not-suc-le-zero, le-refl, le-of-suc-le-suc, add-zero}
+use native.Mathlib.Nat.{not-suc-le-zero, le-of-suc-le-suc, add-zero}
 use native.Mathlib.Omega.{arith}
 use native.Mathlib.Numerals.{add-one, add-two}
 use native.Mathlib.Decide.{ℕ-discrete, decLt}
@@ -12,14 +12,13 @@ use lib.Dec.{eqb}
 use lib.ListN.{length, getD, set, length-set, length-append, List·getD-eq-default}
 use lib.Seq.{getD-set-same, getD-set-other}
 use Rattle.rules.specs.Types.{Ty, atomCode}
-use Rattle.solver.specs.Problem.{Shape, unknown, leaf, power, product, Eqn, eqn, Holds, PartsBelow, AllBelow, atomFrom, shapeOf}
+use Rattle.solver.specs.Problem.{Shape, Eqn, eqn, Holds, PartsBelow, AllBelow, atomFrom, shapeOf}
 use Rattle.solver.specs.Arrays.{shapeAt, AtomCode, Arrays, equations}
-use Rattle.solver.specs.Classes.{Graph, Sat, look, graph, WellFormed, change, relabel, Unified}
+use Rattle.solver.specs.Classes.{Sat, look, graph, WellFormed, change, relabel, Unified}
 use Rattle.solver.specs.Turn.{planOf, plan, merged, pushTwo, classOf, TurnPre, TurnPost}
 use Rattle.solver.specs.Model.{Join, clash, joined, join, join-leaf, sameAtom, Step, stop, next, isUnknown, after, step-on, step}
-use Rattle.solver.proofs.Merging.{StepOk}
 use Rattle.solver.proofs.Counting.{count-le}
-use Rattle.solver.proofs.Step.{change-hit, change-miss, classes, isRep, StepGood, step-good, eqb-true, eqb-false, true-eqb, below-append, holds-append}
+use Rattle.solver.proofs.Step.{change-hit, change-miss, classes, isRep, StepGood, step-good, eqb-false, true-eqb, below-append, holds-append}
 
 abbrev pub newEqns : ℕ → ℕ → ℕ → ℕ → ℕ → List Eqn
 newEqns zero lp rp lq rq = []
@@ -77,6 +76,14 @@ relabel-id p (x ∷ xs) = ap₂ _∷_ (same (ℕ-discrete x p)) (relabel-id p xs
     same : Dec (x ≡ p) → change p p x ≡ x
     same (yes e) = change-hit p p x e ∙ sym e
     same (no ne) = change-miss p p x ne
+
+pub merged-same : (p q k : ℕ) (l : List ℕ) → p ≡ q → l ≡ merged p q k l
+unfolding merged
+merged-same p q k l e = rw e (go (eqb k 0))
+  where
+    go : (b : Bool) → l ≡ cond b (relabel q q l) (relabel q q l)
+    go true = sym (relabel-id q l)
+    go false = sym (relabel-id q l)
 
 is-unknown : (k l r : ℕ) → isUnknown (shapeOf k l r) ≡ eqb k 0
 is-unknown zero l r = refl
@@ -325,6 +332,3 @@ module _ (k l r l₀ : List ℕ) (inp : Arrays k l r (length l₀)) (a b : ℕ) 
     loop-next ne =
         let x = code-next k l r (length l₀) inp l₀ a b ca pa pb (h - 1) down (classOf ca pa (h - 1)) (classOf ca pb (h - 1)) c refl refl (post .code) ne (omega (arith, inv .room)) (omega (arith, inv .room)) in
         rw (post .cls-is ne, post .ls-is ne, post .rs-is ne) (x .0, omega (arith, x .1))
-
-    pub loop-small : c ≤ 3
-    loop-small = rw (post .code) (plan-le (classOf ca pa (h - 1)) (classOf ca pb (h - 1)) _ _ _ _)

@@ -1,22 +1,22 @@
 -- One equation over the list of classes: the classes and the equations that it leaves.
-use mathlib.Core.Path.{_≡_, refl, sym, ap, ap₂, _∙_, subst}
+use mathlib.Core.Path.{_≡_, refl, sym, _∙_}
 use mathlib.Core.Logic.{_↔_, _≢_}
 use mathlib.Core.Bool.{Bool, true, false, cond, true≢false}
 use mathlib.Core.List.{List, [], _∷_, _++_, map}
 use Prim.Native.Nat.{ℕ, zero, suc, _+_, _*_, _≤_, _<_}
-use native.Mathlib.Nat.{not-suc-le-zero, le-refl, le-of-suc-le-suc}
+use native.Mathlib.Nat.{not-suc-le-zero, le-of-suc-le-suc}
 use native.Mathlib.Omega.{arith}
 use native.Mathlib.Decide.{ℕ-discrete, decLt}
 use lib.Dec.{T, eqb, eqb→eq, eqb-refl}
 use lib.ListN.{length, getD, length-map, List·getD-eq-default}
 use Rattle.rules.specs.Types.{Ty}
-use Rattle.solver.specs.Problem.{Shape, unknown, leaf, power, product, Eqn, eqn, Matches, Holds, PartsBelow, AllBelow}
-use Rattle.solver.specs.Classes.{Graph, Sat, Idem, look, graph, WellFormed, change, relabel}
+use Rattle.solver.specs.Problem.{Shape, unknown, leaf, power, product, Eqn, eqn, Holds, PartsBelow, AllBelow}
+use Rattle.solver.specs.Classes.{Sat, look, graph, WellFormed, change, relabel}
 use Rattle.solver.specs.Marks.{countBelow}
 use Rattle.solver.specs.Model.{Join, clash, joined, join, join-leaf, sameAtom, Step, stop, next, isUnknown, after, step-on, step}
 use Rattle.solver.proofs.Join.{top}
 use Rattle.solver.proofs.Merging.{Merged, StepOk, step-ok, step-clash, step-same, idem-merge, rep-old}
-use Rattle.solver.proofs.Counting.{count-strict, count-le}
+use Rattle.solver.proofs.Counting.{count-strict}
 
 pub eqb-cases {ℓ} : (P : Bool → Type ℓ) (i j : ℕ) → (i ≡ j → P true) → (i ≢ j → P false) → P (eqb i j)
 eqb-cases P i j f h = go (eqb i j) refl

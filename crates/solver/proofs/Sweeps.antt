@@ -1,17 +1,17 @@
 -- Sweeps over the list of marks: what is marked stays and is sound, and a sweep that marks nothing new has stalled.
-use mathlib.Core.Path.{_≡_, refl, sym, ap, ap₂, _∙_, subst}
+use mathlib.Core.Path.{_≡_, refl, sym, _∙_}
 use mathlib.Core.Logic.{_≢_, _⊎_, inl, inr}
-use mathlib.Core.Bool.{Bool, true, false, true≢false}
+use mathlib.Core.Bool.{true, false, true≢false}
 use mathlib.Core.List.{List}
 use Prim.Native.Nat.{ℕ, zero, suc, _+_, _≤_, _<_}
 use native.Mathlib.Nat.{not-suc-le-zero, zero-add, suc-add}
 use native.Mathlib.Omega.{arith}
 use native.Mathlib.Decide.{ℕ-discrete, decLt}
-use lib.ListN.{length, getD, set, length-set, List·getD-eq-default}
+use lib.ListN.{length, length-set, List·getD-eq-default}
 use lib.Seq.{getD-set-same, getD-set-other}
 use Rattle.solver.specs.Problem.{Shape}
 use Rattle.solver.specs.Classes.{look, graph}
-use Rattle.solver.specs.Marks.{statusOf, statusAfter, markOf, orElse, markOne, sweepTo, pos, countBelow, marked, Sound, Stalled}
+use Rattle.solver.specs.Marks.{statusOf, statusAfter, markOf, orElse, markOne, sweepTo, pos, marked, Sound, Stalled}
 use Rattle.solver.proofs.Counting.{count-strict, count-mono}
 use Rattle.solver.proofs.Resolve.{status-same, status-grow, status-keep}
 

@@ -1,21 +1,20 @@
 -- The whole decision: from the arrays to the solutions, or to none.
-use mathlib.Core.Path.{_≡_, refl, sym, ap, ap₂, _∙_, subst}
-use mathlib.Core.Logic.{_↔_, _≢_, Iff·trans}
+use mathlib.Core.Path.{_≡_, refl, sym, ap, _∙_, subst}
+use mathlib.Core.Logic.{_↔_, Iff·trans}
 use mathlib.Core.Bool.{Bool, true, false, not, true≢false}
 use mathlib.Core.List.{List, [], _∷_, _++_}
-use Prim.Native.Nat.{ℕ, zero, suc, _+_, _-_, _*_, _≤_, _<_}
-use native.Mathlib.Nat.{not-suc-le-zero}
+use Prim.Native.Nat.{ℕ, zero, suc, _+_, _*_, _≤_, _<_}
 use native.Mathlib.Omega.{arith}
 use native.Mathlib.Numerals.{add-one}
 use native.Mathlib.Decide.{ℕ-discrete, decLt}
 use lib.ListN.{length, getD, replicate, length-replicate, getD-replicate, List·getD-append, List·getD-eq-default, length-append}
 use lib.Seq.{getD-at}
 use Rattle.rules.specs.Types.{Ty, INTEGER, BOOL}
-use Rattle.solver.specs.Problem.{Shape, unknown, Eqn, eqn, Matches, Holds, Solves, PartsBelow, AllBelow}
+use Rattle.solver.specs.Problem.{Shape, unknown, Eqn, Matches, Holds, Solves, PartsBelow, AllBelow}
 use Rattle.solver.specs.Arrays.{shapeAt, Arrays, equations, Equations, ClassArrays}
-use Rattle.solver.specs.Classes.{Graph, Sat, look, graph, WellFormed, ownClasses, Unified, EquationsIn, UnifiedAll}
+use Rattle.solver.specs.Classes.{Sat, look, graph, WellFormed, ownClasses, Unified, EquationsIn, UnifiedAll}
 use Rattle.solver.specs.Marks.{statusAfter, markOf, pos, marked, Sound, SoundMarks, Settled}
-use Rattle.solver.specs.Solved.{LeafDeclared, Solved, Answer}
+use Rattle.solver.specs.Solved.{LeafDeclared, Solved}
 use Rattle.solver.proofs.Merging.{fits-at}
 use Rattle.solver.proofs.Counting.{count-all, count-some}
 use Rattle.solver.proofs.Loops.{fillTo, fill-end}

@@ -1,5 +1,5 @@
 -- Marks of variables: 0 not resolved, 1 resolved with an unknown part, 2 ground. Sweeps resolve a class once its parts are.
-use Prim.Native.Nat.{ℕ, zero, suc, _+_, _<_, _≤_, min}
+use Prim.Native.Nat.{ℕ, zero, suc, _<_, min}
 use mathlib.Core.Path.{_≡_}
 use mathlib.Core.Bool.{Bool, true, false}
 use mathlib.Core.List.{List}

@@ -1,5 +1,5 @@
 -- Types read from the classes: their weight and their codes.
-use Prim.Native.Nat.{ℕ, suc, _+_, _-_, _≤_}
+use Prim.Native.Nat.{ℕ, zero, suc, _+_, _-_, _≤_}
 use mathlib.Core.Path.{_≡_}
 use mathlib.Core.List.{List}
 use lib.ListN.{getD}
@@ -23,8 +23,18 @@ pub record Weighed (sh : ℕ → Shape) (n : ℕ) (cls : List ℕ) (v room r : �
   pub within : r ≤ room
   pub exact : (θ : ℕ → Ty) → Determined sh n cls v θ → r ≡ roomAfter room (weightᵀ (θ v))
 
--- The codes stand from at on, and nothing else is changed, where there is room for them before end.
+-- The code of a shape's constructor, by the kind and the left entry.
+abbrev pub codeOf : ℕ → ℕ → ℕ
+codeOf zero l = 0
+codeOf (suc zero) l = l
+codeOf (suc (suc zero)) l = 3
+codeOf (suc (suc (suc k))) l = 4
+
+-- A type is written at a place: where there is room for its codes before end they stand there, r is the place after them,
+-- and nothing else is changed.
+abbrev pub Put : (sheet : List ℕ) (at end r : ℕ) (after : List ℕ) (t : Ty) → Type 0
+Put sheet at end r after t = at + weightᵀ t ≤ end → (r ≡ at + weightᵀ t) × (after ≡ sets sheet at (prefix t))
+
 pub record Written (sh : ℕ → Shape) (n : ℕ) (cls : List ℕ) (v : ℕ) (sheet : List ℕ) (at end r : ℕ) (after : List ℕ) : Type 0 where
   pub onward : at ≤ r
-  pub next : (θ : ℕ → Ty) → Determined sh n cls v θ → at + weightᵀ (θ v) ≤ end → r ≡ at + weightᵀ (θ v)
-  pub codes : (θ : ℕ → Ty) → Determined sh n cls v θ → at + weightᵀ (θ v) ≤ end → after ≡ sets sheet at (prefix (θ v))
+  pub exact : (θ : ℕ → Ty) → Determined sh n cls v θ → Put sheet at end r after (θ v)

@@ -7,7 +7,7 @@ ghost use Rattle.solver.specs.Classes.{WellFormed, ownClasses, change as
 ghost use Rattle.solver.specs.Turn.{plan as planned, merged, pushTwo, classOf, TurnPre, TurnPost};
 ghost use Rattle.solver.specs.Marks.{statusOf, markOf, orElse, sweepTo, marked, SoundMarks, Settled, StatusPre};
 ghost use Rattle.solver.specs.Solved.{Answer};
-ghost use Rattle.solver.specs.Rows.{Weighed};
+ghost use Rattle.solver.specs.Rows.{Weighed, codeOf, Written};
 
 fn wide(x: u16) -> usize
     ensures { λ r. ⌜ r ≡ x ⌝ }
@@ -33,10 +33,13 @@ fn relabel(cls: &mut [u16], p: u16, q: u16)
     }
 }
 
-// k is the kind of q.
+// Makes one class of p and q. k is the kind of q.
 fn merge(cls: &mut [u16], p: u16, q: u16, k: u8)
     ensures { λ _. ⌜ now (cls .exit) ≡ merged p q k (now (cls .entry)) ⌝ }
 {
+    if p == q {
+        return;
+    }
     if k == 0 {
         relabel(cls, q, p);
     } else {
@@ -358,4 +361,55 @@ pub fn weigh(kind: &[u8], left: &[u16], right: &[u16], cls: &[u16], v: usize, ro
     }
     let b = wide(right[c]);
     weigh(kind, left, right, cls, b, rest - 1)
+}
+
+// The code of a class's outermost constructor: k is its kind, l its left entry.
+fn code_of(k: u8, l: u16) -> u8
+    requires { ⌜ (k ≡ 1 → l < 256) ⌝ }
+    ensures { λ r. ⌜ r ≡ codeOf k l ⌝ }
+{
+    if k == 0 {
+        return 0;
+    }
+    if k == 1 {
+        return l as u8;
+    }
+    if k == 2 {
+        return 3;
+    }
+    4
+}
+
+// Writes the codes of the type of v from at on, never past end, and says where they end.
+pub fn write_type(
+    kind: &[u8],
+    left: &[u16],
+    right: &[u16],
+    cls: &[u16],
+    v: usize,
+    sheet: &mut [u8],
+    at: usize,
+    end: usize,
+) -> usize
+    requires { ⌜ ClassArrays (now kind) (now left) (now right) (now cls) (length (now cls)) ⌝ }
+    requires { ⌜ (v < length (now cls)) × (end ≤ length (now sheet)) ⌝ }
+    ensures { λ r. ⌜ Written (shapeAt (now (kind .entry)) (now (left .entry)) (now (right .entry))) (length (now (cls .entry))) (now (cls .entry)) v (now (sheet .entry)) at end r (now (sheet .exit)) ⌝ }
+{
+    if at >= end {
+        return at;
+    }
+    let c = wide(cls[v]);
+    let k = kind[c];
+    let x = code_of(k, left[c]);
+    sheet[at] = x;
+    if k < 2 {
+        return at + 1;
+    }
+    let a = wide(left[c]);
+    let next = write_type(kind, left, right, cls, a, sheet, at + 1, end);
+    if k == 2 {
+        return next;
+    }
+    let b = wide(right[c]);
+    write_type(kind, left, right, cls, b, sheet, next, end)
 }

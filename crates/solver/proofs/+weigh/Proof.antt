@@ -22,7 +22,6 @@ weigh-at t = and 4 weigh-kinds.ps (is 4 weigh-kinds.ps μ-weigh t) weigh.Pre
 abbrev weigh-below : ℕ → In 4 weigh-kinds.ps
 weigh-below t = and 4 weigh-kinds.ps (falls 4 weigh-kinds.ps _<_ μ-weigh t) weigh.Pre
 
-
 weigh-returns : (t : ℕ) → weigh-lts.Need-returns (wide-reads.Asked, wide-reads.Learnt, weigh-below t, weigh.Post) (weigh-at t) weigh.Post
 weigh-returns t c = let s = c .before .before .before .before .before in weigh-none (now (s .args .kind)) (now (s .args .left)) (now (s .args .right)) (now (s .args .cls)) (s .args .v) _ (s .pre .1 .1) refl (s .args .room) (c .if1 .taken)
 

@@ -1,5 +1,5 @@
 use denote.Ref.{now}
-use mathlib.Core.Path.{_≡_, refl, _∙_}
+use mathlib.Core.Path.{refl, _∙_}
 use Rattle.solver.proofs.Marking.{mark-old, mark-new}
 use borrow.Author.Needs.{needs}
 use Rattle.solver.proofs.new_mark.Statement.{statement}

@@ -1,9 +1,9 @@
 use denote.Ref.{now}
 use borrow.Author.Needs.{needs}
-use mathlib.Core.Path.{_≡_, refl, sym, ap, ap₂, _∙_}
-use Prim.Native.Nat.{_+_, _*_, _-_, _≤_, _<_, min}
+use mathlib.Core.Path.{_≡_, refl}
+use Prim.Native.Nat.{_-_, _≤_}
 use native.Mathlib.Omega.{arith}
-use lib.ListN.{length, getD, length-set}
+use lib.ListN.{length}
 use Rattle.solver.proofs.Loops.{fillTo, fill-start, fill-turn}
 use Rattle.solver.proofs.Whole.{own-end}
 use Rattle.solver.proofs.own_classes.Statement.{statement}

@@ -1,4 +1,3 @@
-use mathlib.Core.Path.{_≡_, refl, sym, ap, _∙_}
 use Rattle.solver.specs.Turn.{plan, planOf}
 use Rattle.solver.proofs.Step.{eqb-true, eqb-false}
 use Rattle.solver.proofs.plan.Statement.{statement}

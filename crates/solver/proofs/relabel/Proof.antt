@@ -1,11 +1,10 @@
-use mathlib.Core.Path.{_≡_, refl, sym, ap, _∙_}
-use Prim.Native.Nat.{_≤_, _<_, _-_}
+use mathlib.Core.Path.{_≡_, refl}
+use Prim.Native.Nat.{_≤_, _-_}
 use native.Mathlib.Omega.{arith}
-use native.Mathlib.Numerals.{add-one}
 use borrow.Author.Needs.{needs}
-use lib.ListN.{length, length-set}
+use lib.ListN.{length}
 use Rattle.solver.specs.Classes.{change}
-use Rattle.solver.proofs.Loops.{mapTo, length-mapTo, mapTo-turn, mapTo-end}
+use Rattle.solver.proofs.Loops.{mapTo, mapTo-turn, mapTo-end}
 use Rattle.solver.proofs.relabel.Statement.{statement}
 use Rattle.solver.proofs.relabel.Tie as tie
 

@@ -1,7 +1,5 @@
-use mathlib.Core.Path.{_≡_, refl, sym, ap, ap₂, _∙_}
-use Prim.Native.Nat.{_+_, _*_, _-_, _≤_, _<_, min}
-use native.Mathlib.Omega.{arith}
-use lib.ListN.{length, getD, length-set}
+use mathlib.Core.Path.{ap₂, _∙_}
+use Prim.Native.Nat.{min}
 use borrow.Author.Needs.{needs}
 use Rattle.solver.proofs.Marking.{status-unknown, status-leaf, status-power, status-product, parts-left, parts-right}
 use Rattle.solver.proofs.status.Statement.{statement}

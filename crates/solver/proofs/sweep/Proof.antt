@@ -1,9 +1,8 @@
-use denote.Ref.{now}
 use borrow.Author.Needs.{needs}
-use mathlib.Core.Path.{_≡_, refl, sym, ap, ap₂, _∙_}
-use Prim.Native.Nat.{_+_, _*_, _-_, _≤_, _<_, min}
+use mathlib.Core.Path.{_≡_, refl}
+use Prim.Native.Nat.{_-_, _≤_}
 use native.Mathlib.Omega.{arith}
-use lib.ListN.{length, getD, length-set}
+use lib.ListN.{length}
 use Rattle.solver.specs.Arrays.{shapeAt}
 use Rattle.solver.specs.Marks.{sweepTo}
 use Rattle.solver.proofs.Marking.{sweep-start, sweep-turn, sweep-end, status-pre}

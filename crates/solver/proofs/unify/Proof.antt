@@ -1,12 +1,12 @@
 use borrow.Author.Needs.{needs}
-use mathlib.Core.Path.{_≡_, refl, sym, ap, _∙_}
+use mathlib.Core.Path.{_≡_, refl, _∙_}
 use Prim.Native.Nat.{_+_, _*_, _≤_}
 use denote.Ref.{now}
 use native.Mathlib.Omega.{arith}
-use lib.ListN.{length, getD, length-set}
+use lib.ListN.{length, length-set}
 use Rattle.solver.specs.Arrays.{shapeAt}
 use Rattle.solver.proofs.Step.{classes}
-use Rattle.solver.proofs.Stack.{Unifying, inv-start, inv-end, loop-pre, loop-stop, loop-next, loop-small}
+use Rattle.solver.proofs.Stack.{Unifying, inv-start, inv-end, loop-pre, loop-stop, loop-next}
 use Rattle.solver.proofs.unify.Statement.{statement}
 use Rattle.solver.proofs.unify.Tie as tie
 

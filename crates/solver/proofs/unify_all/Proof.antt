@@ -1,10 +1,9 @@
-use denote.Ref.{now}
 use borrow.Author.Needs.{needs}
-use mathlib.Core.Path.{_≡_, refl, sym, ap, ap₂, _∙_}
-use Prim.Native.Nat.{_+_, _*_, _-_, _≤_, _<_, min}
+use mathlib.Core.Path.{_≡_, refl, _∙_}
+use Prim.Native.Nat.{_-_, _≤_}
 use native.Mathlib.Omega.{arith}
-use lib.ListN.{length, getD, length-set}
-use Rattle.solver.specs.Arrays.{shapeAt, Equations}
+use lib.ListN.{length}
+use Rattle.solver.specs.Arrays.{shapeAt}
 use Rattle.solver.specs.Classes.{EquationsIn}
 use Rattle.solver.proofs.Whole.{eqs-start, eqs-stop, eqs-next, eqs-end}
 use Rattle.solver.proofs.unify_all.Statement.{statement}
