@@ -102,6 +102,6 @@ unfolding sheetOf
 sheet-same tb θ κ h = ap₂ _++_
     (rows-same (λ x. row (θ x)) (λ x. row (κ x)) 0 (length (tb .binds)) (λ x l. ap row (h x (inl (omega arith)))))
     (rows-same (λ n. kindRow (kindAt (tb .nodes) n) (θ (placeOf tb n))) (λ n. kindRow (kindAt (tb .nodes) n) (κ (placeOf tb n))) 0
-        (length (tb .nodes))
-        (λ n l. kind-row (kindAt (tb .nodes) n) (θ (placeOf tb n)) (κ (placeOf tb n))
-            (λ e. h (placeOf tb n) (inr (n, omega arith, e, refl)))))
+    (length (tb .nodes))
+    (λ n l. kind-row (kindAt (tb .nodes) n) (θ (placeOf tb n)) (κ (placeOf tb n))
+    (λ e. h (placeOf tb n) (inr (n, omega arith, e, refl)))))

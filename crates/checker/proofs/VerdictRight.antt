@@ -81,7 +81,7 @@ module _ (tb : Table) (right : RightNodes tb) (cls mark : List ℕ) (s : SolvedB
   types-are g h =
       let n = length (tb .nodes) in
       typeFrom-is (shapeAt tb) (base tb n) cls mark (s .first) (well-formed tb right n (omega arith) .parts) (s .bound) (s .grounded)
-          (s .classes (s .first) (s .first-solves)) typeLimit (varAt tb p) (var-below tb n p (place-below tb p w)) g h
+      (s .classes (s .first) (s .first-solves)) typeLimit (varAt tb p) (var-below tb n p (place-below tb p w)) g h
 
   light-true : 2 ≤ getD mark (varAt tb p) 1 → light tb (types (shapeAt tb) tb cls) p ≡ true →
       (types (shapeAt tb) tb cls p ≡ s .first (varAt tb p)) × (weightᵀ (s .first (varAt tb p)) ≤ typeLimit)
@@ -154,10 +154,10 @@ module _ {bs : List ℕ} {room : ℕ} {tb : Table} (e : reading bs ≡ done tb) 
   unfolding typed
   typed-right r s =
       requireAll-cases (Verdict bs room) 12 (settled tb (r .1)) (placeCount tb) _
-          (λ all. rest (λ p w. settled-true tb (r .1) p w (all p (place-below tb p w))))
-          (λ p h f below. let w = settled-place tb (r .1) p h f in
-            several-verdict e fits (r .0) (r .1) s p w (settled-false tb (r .1) p w f)
-                (λ q l v. settled-true tb (r .1) q v (below q l)))
+      (λ all. rest (λ p w. settled-true tb (r .1) p w (all p (place-below tb p w))))
+      (λ p h f below. let w = settled-place tb (r .1) p h f in
+      several-verdict e fits (r .0) (r .1) s p w (settled-false tb (r .1) p w f)
+      (λ q l v. settled-true tb (r .1) q v (below q l)))
     where
       right : RightNodes tb
       right = right-nodes bs tb e
@@ -168,21 +168,21 @@ module _ {bs : List ℕ} {room : ℕ} {tb : Table} (e : reading bs ≡ done tb) 
       rest : GroundPlaces tb (r .1) → Verdict bs room (requireAll 13 (light tb θ) (placeCount tb) >>= λ _. done (sheetOf tb θ))
       rest g =
           requireAll-cases (Verdict bs room) 13 (light tb θ) (placeCount tb) _
-              (λ all. accepts-verdict e fits (r .0) (r .1) s g
-                (λ p w. light-true tb right (r .0) (r .1) s p w (g p w) (all p (place-below tb p w)) .1) θ
-                (λ p w. light-true tb right (r .0) (r .1) s p w (g p w) (all p (place-below tb p w)) .0))
-              (λ p h f below. let w = light-place tb θ p h f in
-                heavy-verdict e fits (r .0) (r .1) s g p w (light-false tb right (r .0) (r .1) s p w (g p w) f)
-                    (λ q l v. light-true tb right (r .0) (r .1) s q v (g q v) (below q l) .1))
+          (λ all. accepts-verdict e fits (r .0) (r .1) s g
+          (λ p w. light-true tb right (r .0) (r .1) s p w (g p w) (all p (place-below tb p w)) .1) θ
+          (λ p w. light-true tb right (r .0) (r .1) s p w (g p w) (all p (place-below tb p w)) .0))
+          (λ p h f below. let w = light-place tb θ p h f in
+          heavy-verdict e fits (r .0) (r .1) s g p w (light-false tb right (r .0) (r .1) s p w (g p w) f)
+          (λ q l v. light-true tb right (r .0) (r .1) s q v (g q v) (below q l) .1))
 
   checked-right : Verdict bs room (checked (shapes tb (length (tb .nodes))) tb)
   unfolding checked shapeAt
   checked-right =
       requireAll-cases (Verdict bs room) 11 (λ k. solvable (shapeAt tb) tb (suc k)) (length (tb .nodes))
-          (typed (shapeAt tb) tb (solveBelow (shapeAt tb) tb (length (tb .nodes))))
-          (λ all. let r = solvable-solved tb (right-nodes bs tb e) (length (tb .nodes)) (omega arith) (last all) in
-            rw (r .1) (typed-right (r .0) (r .2)))
-          clash-right
+      (typed (shapeAt tb) tb (solveBelow (shapeAt tb) tb (length (tb .nodes))))
+      (λ all. let r = solvable-solved tb (right-nodes bs tb e) (length (tb .nodes)) (omega arith) (last all) in
+      rw (r .1) (typed-right (r .0) (r .2)))
+      clash-right
     where
       last : ((j : ℕ) → j < length (tb .nodes) → solvable (shapeAt tb) tb (suc j) ≡ true) →
           solvable (shapeAt tb) tb (length (tb .nodes)) ≡ true

@@ -108,9 +108,9 @@ module _ {bs : List ℕ} {room : ℕ} {tb : Table} (e : reading bs ≡ done tb) 
         let n = length (tb .nodes) in
         let right = right-nodes bs tb e in
         several e fits w (first-typing tb right n (omega arith) cls mark s) (second-typing tb right n (omega arith) cls mark s)
-            (λ same. s .differ (varAt tb p) (var-below tb n p (place-below tb p w)) few
-                (sym (back-place tb (s .first) p w) ∙ same ∙ back-place tb (s .second) p w))
-            (λ q h v. ground-agrees tb right cls mark s q v (below q h v))
+        (λ same. s .differ (varAt tb p) (var-below tb n p (place-below tb p w)) few
+        (sym (back-place tb (s .first) p w) ∙ same ∙ back-place tb (s .second) p w))
+        (λ q h v. ground-agrees tb right cls mark s q v (below q h v))
 
     module _ (g : GroundPlaces tb mark) where
       -- 13 at p: the least place whose type is too heavy.
@@ -118,12 +118,12 @@ module _ {bs : List ℕ} {room : ℕ} {tb : Table} (e : reading bs ≡ done tb) 
           ((q : ℕ) → q < p → Place tb q → weightᵀ (s .first (varAt tb q)) ≤ typeLimit) → Verdict bs room (refused 13 p)
       heavy-verdict p w much below =
           heavy e fits w (only-first tb (right-nodes bs tb e) cls mark s g) (rw (back-place tb (s .first) p w) much)
-              (λ q h v. rw (back-place tb (s .first) q v) (below q h v))
+          (λ q h v. rw (back-place tb (s .first) q v) (below q h v))
 
       -- Accepted: the sheet holds the types of the places.
       pub accepts-verdict : ((p : ℕ) → Place tb p → weightᵀ (s .first (varAt tb p)) ≤ typeLimit) →
           (θ : ℕ → Ty) → ((p : ℕ) → Place tb p → θ p ≡ s .first (varAt tb p)) → Verdict bs room (done (sheetOf tb θ))
       accepts-verdict light θ same =
           rw (sheet-same tb θ (backWhole tb (s .first)) (λ p w. same p w ∙ sym (back-place tb (s .first) p w)))
-              (accepts e fits (only-first tb (right-nodes bs tb e) cls mark s g)
-                  (λ p w. rw (back-place tb (s .first) p w) (light p w)))
+          (accepts e fits (only-first tb (right-nodes bs tb e) cls mark s g)
+          (λ p w. rw (back-place tb (s .first) p w) (light p w)))

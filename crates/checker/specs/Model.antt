@@ -62,7 +62,7 @@ light tb θ p = not (isPlace tb p) || leb (weightᵀ (θ p)) typeLimit
 -- Refusals 12 and 13, or the sheet, from the classes and marks of the whole table.
 unfoldable pub typed : (ℕ → Shape) → Table → Option (List ℕ × List ℕ) → End (List ℕ)
 unfolding settled types light requireAll sheetOf
-typed sh tb nothing = refused 11 0 -- not reached: refusal 11 comes before
+typed sh tb nothing = refused 11 0  -- not reached: refusal 11 comes before
 typed sh tb (some r) = do
   _ ← requireAll 12 (settled tb (r .1)) (placeCount tb)
   _ ← requireAll 13 (light tb (types sh tb (r .0))) (placeCount tb)

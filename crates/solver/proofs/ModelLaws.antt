@@ -32,7 +32,7 @@ module _ (sh : ℕ → Shape) (n : ℕ) (parts : (v : ℕ) → v < n → PartsBe
   goOn-right : (l : List ℕ) (a b : ℕ) (es : List Eqn) (k : ℕ) (f : List ℕ → List Eqn → Option (List ℕ)) (s : Step) →
       StepGood sh n l a b s → AllBelow n es → 3 * classes n l + suc (length es) ≤ suc k →
       ((l′ : List ℕ) (es′ : List Eqn) → WellFormed sh n l′ → AllBelow n es′ → 3 * classes n l′ + length es′ ≤ k →
-          UnifyRight sh n l′ es′ (f l′ es′)) →
+      UnifyRight sh n l′ es′ (f l′ es′)) →
       UnifyRight sh n l (eqn a b ∷ es) (goOn s es f)
   goOn-right l a b es k f stop g below fuel ih = λ θ s h. g θ s (h .0)
   goOn-right l a b es k f (next l′ new) g below fuel ih =
@@ -40,9 +40,13 @@ module _ (sh : ℕ → Shape) (n : ℕ) (parts : (v : ℕ) → v < n → PartsBe
     where
       last : (o : Option (List ℕ)) → UnifyRight sh n l′ (new ++ es) o → UnifyRight sh n l (eqn a b ∷ es) o
       last nothing h = λ θ s hs. let r = g .3 θ .0 (s, hs .0) in h θ (r .0) (holds-append θ new es .0 (r .1, hs .1))
-      last (some l″) h = (h .0, λ θ.
-          ((λ x. let r = g .3 θ .0 (x .0, x .1 .0) in h .1 θ .0 (r .0, holds-append θ new es .0 (r .1, x .1 .1))),
-          (λ x. let y = h .1 θ .1 x in let z = holds-append θ new es .1 (y .1) in let w = g .3 θ .1 (y .0, z .0) in (w .0, (w .1, z .1)))))
+      last (some l″) h = (
+        h .0,
+        λ θ. (
+          (λ x. let r = g .3 θ .0 (x .0, x .1 .0) in h .1 θ .0 (r .0, holds-append θ new es .0 (r .1, x .1 .1))),
+          (λ x. let y = h .1 θ .1 x in let z = holds-append θ new es .1 (y .1) in let w = g .3 θ .1 (y .0, z .0) in (w .0, (w .1, z .1))),
+        ),
+      )
 
   pub unify-right : (fuel : ℕ) (l : List ℕ) (es : List Eqn) → WellFormed sh n l → AllBelow n es →
       3 * classes n l + length es ≤ fuel → UnifyRight sh n l es (unify sh fuel l es)
@@ -60,8 +64,8 @@ module _ (sh : ℕ → Shape) (l : List ℕ) (n : ℕ) where
   settle-right zero m s h = absurd (not-suc-le-zero h)
   settle-right (suc k) m s h =
       eqb-cases (λ b. Settled sh l n (unless b (settle sh l n k) (sweepTo sh l n m))) (marked n (sweepTo sh l n m)) (marked n m)
-          (λ e. settled-end sh l n m s e)
-          (λ e. settle-right k (sweepTo sh l n m) (sounds-next sh l n m s) (omega (arith, falls sh l n m s e)))
+      (λ e. settled-end sh l n m s e)
+      (λ e. settle-right k (sweepTo sh l n m) (sounds-next sh l n m s) (omega (arith, falls sh l n m s e)))
 
 -- ---- a problem and its shapes past the variables
 module _ (sh sh′ : ℕ → Shape) (n : ℕ) (same : (v : ℕ) → v < n → sh v ≡ sh′ v) where
@@ -96,8 +100,8 @@ module _ (sh : ℕ → Shape) (n : ℕ) (es : List Eqn) (pr : Bounded sh n es) w
   marks-right nothing h = λ θ s. let x = solves-sat sh n es pr θ .0 s in h θ (x .0) (x .1)
   marks-right (some l) h =
       eqb-cases (λ b. Answers sh n es (answer b l m)) (marked n m) n
-          (λ e. solved sh n es pr l (h .0) iff m st (omega arith))
-          (λ e. unmarked sh n es pr l (h .0) iff m st (omega (arith, count-le (λ v. pos (markOf m v)) n)))
+      (λ e. solved sh n es pr l (h .0) iff m st (omega arith))
+      (λ e. unmarked sh n es pr l (h .0) iff m st (omega (arith, count-le (λ v. pos (markOf m v)) n)))
     where
       m : List ℕ
       m = settle sh l n (suc n) (replicate n 0)
@@ -114,7 +118,7 @@ module _ (sh : ℕ → Shape) (n : ℕ) (es : List Eqn) (pr : Bounded sh n es) w
   bounded-right : Answers sh n es (marksOf sh n (unify sh (3 * n + length es) (ownClasses n) es))
   bounded-right = marks-right (unify sh (3 * n + length es) (ownClasses n) es)
       (unify-right sh n (pr .parts) (3 * n + length es) (ownClasses n) es (own-well-formed sh n) (pr .below)
-          (omega (arith, count-le (isRep (ownClasses n)) n)))
+      (omega (arith, count-le (isRep (ownClasses n)) n)))
 
 within-below : (sh : ℕ → Shape) (n v : ℕ) → v < n → within n sh v ≡ sh v
 within-below sh n v h = go (ltb v n) (lt→ltb v n h)
@@ -165,4 +169,4 @@ module _ (sh : ℕ → Shape) (n : ℕ) (cls mark : List ℕ) (θ : ℕ → Ty) 
   typeFrom-is zero v l g h = absurd (omega (arith, weight-pos (θ v)))
   typeFrom-is (suc k) v l g h =
       build-is (val (graph sh cls) (λ x. INTEGER) k) k (sh (getD cls v v)) (θ v) (parts (getD cls v v) (bound v l)) (grounded v l g)
-          (match v l) h (typeFrom-is k)
+      (match v l) h (typeFrom-is k)
