@@ -2,16 +2,13 @@
 use mathlib.Core.Path.{_≡_, refl, ap}
 use mathlib.Core.Logic.{_↔_}
 use mathlib.Core.Bool.{Bool, true, false}
-use mathlib.Core.List.{List, [], _∷_}
+use mathlib.Core.List.{[]}
 use Prim.Native.Nat.{ℕ}
 use native.Mathlib.Omega.{arith}
-use lib.Dec.{T, eqb, eqb→eq, eqb-refl}
+use lib.Dec.{T, eqb→eq, eqb-refl}
 use Rattle.rules.specs.Types.{whole, Atom, number, bool, given, Ty, atomCode}
-use Rattle.solver.specs.Problem.{Shape, unknown, leaf, power, product, Eqn, eqn, Matches, Holds}
-
-pub data Join : Type 0 where
-  clash : Join
-  joined : List Eqn → Join
+use Rattle.solver.specs.Problem.{Shape, unknown, leaf, power, product, Matches, Holds}
+use Rattle.solver.specs.Model.{Join, clash, joined, sameAtom, join-leaf, join}
 
 -- the shape of the joined class: b's, unless that is unknown
 abbrev pub top : Shape → Shape → Shape
@@ -19,28 +16,6 @@ top a unknown = a
 top a (leaf j) = leaf j
 top a (power v) = power v
 top a (product v w) = product v w
-
-abbrev pub sameAtom : Atom → Atom → Bool
-sameAtom a b = eqb (atomCode a) (atomCode b)
-
-abbrev pub join-leaf : Bool → Join
-join-leaf true = joined []
-join-leaf false = clash
-
-abbrev pub join : Shape → Shape → Join
-join unknown b = joined []
-join (leaf i) unknown = joined []
-join (leaf i) (leaf j) = join-leaf (sameAtom i j)
-join (leaf i) (power v) = clash
-join (leaf i) (product v w) = clash
-join (power v) unknown = joined []
-join (power v) (leaf j) = clash
-join (power v) (power w) = joined (eqn v w ∷ [])
-join (power v) (product w x) = clash
-join (product v w) unknown = joined []
-join (product v w) (leaf j) = clash
-join (product v w) (power x) = clash
-join (product v w) (product x y) = joined (eqn w y ∷ eqn v x ∷ [])
 
 -- what an outcome of a join says: both shapes together are the top shape with the new equations; a clash has no solution
 abbrev pub JoinOk : (ℕ → Ty) → Shape → Shape → Ty → Join → Type 0

@@ -10,4 +10,5 @@ pub mod Stack
 pub mod Marking
 pub mod Whole
 pub mod Rows
+pub mod ModelLaws
 pub mod Answers

@@ -7,7 +7,8 @@ use native.Mathlib.Decide.{ℕ-discrete}
 use Rattle.rules.specs.Types.{Ty}
 use Rattle.solver.specs.Problem.{Eqn, Matches, Holds}
 use Rattle.solver.specs.Classes.{Graph, Sat, Idem}
-use Rattle.solver.proofs.Join.{clash, joined, top, join, JoinOk, join-ok}
+use Rattle.solver.specs.Model.{clash, joined, join}
+use Rattle.solver.proofs.Join.{top, JoinOk, join-ok}
 
 -- h is g with the class p put into the class q, whose shape is then the top of the two; p's own shape may be anything
 pub record Merged (g h : Graph) (p q : ℕ) : Type 0 where

@@ -5,22 +5,13 @@ use Prim.Native.Nat.{ℕ, zero, suc, _≤_, _<_}
 use native.Mathlib.Nat.{not-suc-le-zero}
 use native.Mathlib.Omega.{arith}
 use native.Mathlib.Decide.{decLt}
-use Rattle.rules.specs.Types.{Ty, atom, POW, _⊗_, INTEGER, weightᵀ, Declared}
+use Rattle.rules.specs.Types.{Ty, POW, _⊗_, weightᵀ, Declared}
 use Rattle.solver.specs.Problem.{Shape, unknown, leaf, power, product, Matches}
 use Rattle.solver.specs.Classes.{Graph, Sat, Idem}
 use Rattle.solver.specs.Marks.{statusOf, statusAfter, Stalled}
 use Rattle.solver.specs.Solved.{LeafDeclared}
+use Rattle.solver.specs.Model.{build, val}
 use Rattle.solver.proofs.Merging.{fits-at}
-
-abbrev pub build : (ℕ → Ty) → Ty → Shape → Ty
-build f t unknown = t
-build f t (leaf a) = atom a
-build f t (power v) = POW (f v)
-build f t (product v w) = f v ⊗ f w
-
-abbrev pub val : Graph → (ℕ → Ty) → ℕ → ℕ → Ty
-val g ρ zero v = INTEGER
-val g ρ (suc k) v = build (val g ρ k) (ρ (g .cls v)) (g .sh (g .cls v))
 
 -- ---- a resolved class keeps its value
 build-stable : (m : ℕ → ℕ) (f f′ : ℕ → Ty) (t : Ty) (s : Shape) → ((w : ℕ) → 0 < m w → f w ≡ f′ w) → 0 < statusOf m s → build f t s ≡ build f′ t s

@@ -16,9 +16,9 @@ use Rattle.solver.specs.Problem.{Shape, Eqn, eqn, Holds, PartsBelow, All
 use Rattle.solver.specs.Arrays.{shapeAt, AtomCode, Arrays, equations}
 use Rattle.solver.specs.Classes.{Sat, look, graph, WellFormed, change, relabel, Unified}
 use Rattle.solver.specs.Turn.{planOf, plan, merged, pushTwo, classOf, TurnPre, TurnPost}
-use Rattle.solver.proofs.Join.{Join, clash, joined, join, join-leaf, sameAtom}
+use Rattle.solver.specs.Model.{Join, clash, joined, join, join-leaf, sameAtom, Step, stop, next, isUnknown, after, step-on, step}
 use Rattle.solver.proofs.Counting.{count-le}
-use Rattle.solver.proofs.Step.{change-hit, change-miss, Step, stop, next, isUnknown, after, step-on, step, classes, isRep, StepGood, step-good, eqb-false, true-eqb, below-append, holds-append}
+use Rattle.solver.proofs.Step.{change-hit, change-miss, classes, isRep, StepGood, step-good, eqb-false, true-eqb, below-append, holds-append}
 
 abbrev pub newEqns : ℕ → ℕ → ℕ → ℕ → ℕ → List Eqn
 newEqns zero lp rp lq rq = []

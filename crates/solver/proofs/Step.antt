@@ -13,32 +13,10 @@ use Rattle.rules.specs.Types.{Ty}
 use Rattle.solver.specs.Problem.{Shape, unknown, leaf, power, product, Eqn, eqn, Holds, PartsBelow, AllBelow}
 use Rattle.solver.specs.Classes.{Sat, look, graph, WellFormed, change, relabel}
 use Rattle.solver.specs.Marks.{countBelow}
-use Rattle.solver.proofs.Join.{Join, clash, joined, top, join, join-leaf, sameAtom}
+use Rattle.solver.specs.Model.{Join, clash, joined, join, join-leaf, sameAtom, Step, stop, next, isUnknown, after, step-on, step}
+use Rattle.solver.proofs.Join.{top}
 use Rattle.solver.proofs.Merging.{Merged, StepOk, step-ok, step-clash, step-same, idem-merge, rep-old}
 use Rattle.solver.proofs.Counting.{count-strict}
-
-pub data Step : Type 0 where
-  stop : Step
-  next : List ℕ → List Eqn → Step
-
-abbrev pub isUnknown : Shape → Bool
-isUnknown unknown = true
-isUnknown (leaf k) = false
-isUnknown (power v) = false
-isUnknown (product v w) = false
-
-abbrev pub after : List ℕ → Join → Step
-after l clash = stop
-after l (joined es) = next l es
-
--- p and q are the classes of the two sides: is it one class, and is q's shape unknown?
-abbrev pub step-on : (ℕ → Shape) → List ℕ → ℕ → ℕ → Bool → Bool → Step
-step-on sh l p q true u = next l []
-step-on sh l p q false true = next (relabel q p l) []
-step-on sh l p q false false = after (relabel p q l) (join (sh p) (sh q))
-
-unfoldable pub step : (ℕ → Shape) → List ℕ → ℕ → ℕ → Step
-step sh l a b = step-on sh l (look l a) (look l b) (eqb (look l a) (look l b)) (isUnknown (sh (look l b)))
 
 pub eqb-cases {ℓ} : (P : Bool → Type ℓ) (i j : ℕ) → (i ≡ j → P true) → (i ≢ j → P false) → P (eqb i j)
 eqb-cases P i j f h = go (eqb i j) refl

@@ -18,7 +18,8 @@ use Rattle.solver.specs.Solved.{LeafDeclared, Solved}
 use Rattle.solver.proofs.Merging.{fits-at}
 use Rattle.solver.proofs.Counting.{count-all, count-some}
 use Rattle.solver.proofs.Loops.{fillTo, fill-end}
-use Rattle.solver.proofs.Resolve.{val, solution, all-marked, ground-agree, open-differ, val-declared, ground-kept}
+use Rattle.solver.specs.Model.{val}
+use Rattle.solver.proofs.Resolve.{solution, all-marked, ground-agree, open-differ, val-declared, ground-kept}
 use Rattle.solver.proofs.Stack.{any-default}
 use Rattle.solver.proofs.Sweeps.{pos-lt, lt-pos}
 
@@ -48,12 +49,12 @@ pub zeros-end : (i : ℕ) (l l′ : List ℕ) → l′ ≡ fillTo (λ x. 0) i l 
 zeros-end i l l′ e h k = fill-end (λ x. 0) i l l′ (replicate (length l) 0) e h k (length-replicate (length l) 0) (λ v hv. getD-replicate {A = ℕ} (length l) v 0 0 hv)
 
 -- the variables of the problem are below n
-record Bounded (sh : ℕ → Shape) (n : ℕ) (es : List Eqn) : Type 0 where
-  parts : (v : ℕ) → v < n → PartsBelow n (sh v)
-  rest : (v : ℕ) → n ≤ v → sh v ≡ unknown
-  below : AllBelow n es
+pub record Bounded (sh : ℕ → Shape) (n : ℕ) (es : List Eqn) : Type 0 where
+  pub parts : (v : ℕ) → v < n → PartsBelow n (sh v)
+  pub rest : (v : ℕ) → n ≤ v → sh v ≡ unknown
+  pub below : AllBelow n es
 
-solves-sat : (sh : ℕ → Shape) (n : ℕ) (es : List Eqn) → Bounded sh n es → (θ : ℕ → Ty) → Solves sh n es θ ↔ (Sat θ (graph sh (ownClasses n)) × Holds θ es)
+pub solves-sat : (sh : ℕ → Shape) (n : ℕ) (es : List Eqn) → Bounded sh n es → (θ : ℕ → Ty) → Solves sh n es θ ↔ (Sat θ (graph sh (ownClasses n)) × Holds θ es)
 solves-sat sh n es pr θ = (
   (λ s. (record { same = λ v. ap θ (sym (look-own n v)); fits = λ v e. go v s (decLt v n) }, s .equal)),
   (λ x. record { shapes = λ v h. x .0 .fits v (look-own n v); equal = x .1 }),
@@ -67,7 +68,7 @@ atoms-differ : INTEGER ≡ BOOL → ⊥
 atoms-differ e = let z : _≡_ {A = ℕ} 0 1 = cc in omega arith
 
 module _ (sh : ℕ → Shape) (n : ℕ) (es : List Eqn) (pr : Bounded sh n es) (l : List ℕ) (wf : WellFormed sh n l) (iff : (θ : ℕ → Ty) → Solves sh n es θ ↔ Sat θ (graph sh l)) where
-  first-sound : Sound sh l 1 (replicate n 0)
+  pub first-sound : Sound sh l 1 (replicate n 0)
   first-sound v p = go (decLt v n)
     where
       go : Dec (v < n) → statusAfter (graph sh l) 1 v ≡ markOf (replicate n 0) v
@@ -78,7 +79,7 @@ module _ (sh : ℕ → Shape) (n : ℕ) (es : List Eqn) (pr : Bounded sh n es) (
           rw (e, k, pr .rest v (omega arith))
 
   module _ (m : List ℕ) (s : Settled sh l n m) where
-    nothing : marked n m < n → (θ : ℕ → Ty) → Solves sh n es θ → ⊥
+    pub nothing : marked n m < n → (θ : ℕ → Ty) → Solves sh n es θ → ⊥
     nothing few θ sol =
         let r = count-some (λ v. pos (markOf m v)) n few in
         true≢false (sym (lt-pos (markOf m (r .0)) (all-marked θ (graph sh l) (markOf m) (wf .idem) (s .stalled) (iff θ .0 sol) (r .0))) ∙ r .2)
@@ -107,7 +108,7 @@ module _ (sh : ℕ → Shape) (n : ℕ) (es : List Eqn) (pr : Bounded sh n es) (
           go (yes y) = h (look l v) (wf .bound v y)
           go (no o) = rw (List·getD-eq-default l v {n = v} (omega (arith, wf .len)), pr .rest v (omega arith)) tt
 
-      solved : Solved sh n es l m
+      pub solved : Solved sh n es l m
       solved = record {
         bound = wf .bound;
         classes = λ θ a v h. fits-at (wf .idem) (iff θ .0 a) v;

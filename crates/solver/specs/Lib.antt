@@ -6,3 +6,4 @@ pub mod Turn
 pub mod Marks
 pub mod Solved
 pub mod Rows
+pub mod Model

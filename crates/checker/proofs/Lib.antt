@@ -1,0 +1,10 @@
+pub mod PlanLaws
+pub mod RefLaws
+pub mod VariableLaws
+pub mod ProblemLaws
+pub mod EquationsLaws
+pub mod Places
+pub mod Verdicts
+pub mod VerdictRight
+pub mod Examples
+pub mod Conditions
