@@ -1,0 +1,176 @@
+-- What the words of a table are, at the offsets where the code reads them.
+use Prim.Native.Nat.{ℕ, zero, suc, _+_, _*_, _≤_, _<_}
+use mathlib.Core.Bool.{Bool, true, false, _&&_, _||_, cond, true≢false, false≢true}
+use mathlib.Core.List.{List, [], _∷_, map}
+use mathlib.Core.Option.{Option, none as nothing, some}
+use mathlib.Core.Path.{_≡_, refl, sym, ap, ap₂, _∙_}
+use native.Mathlib.Omega.{arith}
+use native.Mathlib.Nat.{add-comm}
+use native.Mathlib.Decide.{ℕ-discrete, decLt}
+use lib.Dec.{T, eqb, leb, ltb, eqb→eq}
+use lib.ListN.{length, getD, List·getD-eq-default, List·getD-map}
+use borrow.Author.Tests.{le-leb, lt-leb, ne-eqb}
+use Rattle.rules.specs.Kinds.{Kind, kinds, kindOf, Field, unused, isChild, isBinder}
+use Rattle.rules.specs.Tables.{wordAt, Node, nodeFrom, tableOf, nodeAt, fieldsIf, fieldWords, givenCount, identifierCount, nodeCount, nodesAt, identifiersAt}
+use Rattle.rules.proofs.TableLaws.{sizes-length, sizes-entry, binds-entry, nodes-entry}
+use Rattle.rules.specs.Reading.{headed, limited, laidOut}
+use Rattle.rules.proofs.EndLaws.{T-and}
+use Rattle.table.specs.Layout.{WordOf, sortOf}
+use Rattle.table.specs.Codes.{fieldCodes, fieldOf, categoryCode}
+
+pub size-none : (bs : List ℕ) (g n : ℕ) → n ≡ givenCount bs → n ≤ g → 0 ≡ getD (tableOf bs .sizes) g 0
+size-none bs g n e h = sym (List·getD-eq-default (tableOf bs .sizes) 0 (omega (arith, sizes-length bs)))
+
+pub kind-read : (bs : List ℕ) (at n w : ℕ) → at ≡ nodesAt bs → n < nodeCount bs → w ≡ wordAt bs (at + 16 * n) → w ≡ nodeAt (tableOf bs .nodes) n .kind
+unfolding nodeFrom
+kind-read bs at n w e h r = rw (nodes-entry bs n h, ← e) r
+
+pub bind-read : (bs : List ℕ) (x g w : ℕ) → g ≡ givenCount bs → x < identifierCount bs → w ≡ wordAt bs (32 + 4 * g + 4 * x) → WordOf bs x w
+bind-read bs x g w e h r d = rw e at r ∙ sym (binds-entry bs x d h)
+
+word-four : (bs : List ℕ) (at n w : ℕ) (i : ℕ) → w ≡ wordAt bs (at + 16 * n + 4 + 4 * i) → (o : ℕ) → o ≡ 4 + 4 * i + (at + 16 * n) → w ≡ wordAt bs o
+word-four bs at n w i r o e = let x : at + 16 * n + 4 + 4 * i ≡ o = omega arith in rw x at r
+
+pub field-read : (bs : List ℕ) (at n i w : ℕ) → at ≡ nodesAt bs → n < nodeCount bs → i < 3 → w ≡ wordAt bs (at + 16 * n + 4 + 4 * i) →
+    w ≡ getD (fieldWords (nodeAt (tableOf bs .nodes) n)) i 0
+unfolding nodeFrom
+field-read bs at n zero w e h l r = rw (nodes-entry bs n h, ← e) (word-four bs at n w 0 r (4 + (at + 16 * n)) (omega arith))
+field-read bs at n (suc zero) w e h l r = rw (nodes-entry bs n h, ← e) (word-four bs at n w 1 r (8 + (at + 16 * n)) (omega arith))
+field-read bs at n (suc (suc zero)) w e h l r = rw (nodes-entry bs n h, ← e) (word-four bs at n w 2 r (12 + (at + 16 * n)) (omega arith))
+field-read bs at n (suc (suc (suc i))) w e h l r = absurd (omega arith)
+
+-- A test that passes at each number below n.
+abbrev allBelow : (ℕ → Bool) → ℕ → Bool
+allBelow p zero = true
+allBelow p (suc n) = p n && allBelow p n
+
+below-at : (p : ℕ → Bool) (n : ℕ) → T (allBelow p n) → (k : ℕ) → k < n → T (p k)
+below-at p zero t k h = absurd (omega arith)
+below-at p (suc n) t k h = go (ℕ-discrete k n) (T-and (p n) (allBelow p n) .0 t) (λ w l. below-at p n w k l)
+  where
+    go : Dec (k ≡ n) → T (p n) × T (allBelow p n) → (T (allBelow p n) → k < n → T (p k)) → T (p k)
+    go (yes e) w r = rw e (w .0)
+    go (no e) w r = r (w .1) (omega arith)
+
+-- The category of a kind code by the ranges of the codes.
+abbrev pub byRange : ℕ → ℕ
+byRange k = cond (leb 1 k && leb k 11) 1 (cond (leb 20 k && leb k 43) 2 0)
+
+sameCategory : ℕ → Bool
+unfolding kindOf
+sameCategory k = eqb (byRange k) (categoryCode (kindOf k))
+
+far-kind : (k : ℕ) → 44 ≤ k → kindOf k ≡ nothing
+unfolding kindOf
+far-kind k h = List·getD-eq-default kinds nothing {n = k} h
+
+pub by-range : (k : ℕ) → byRange k ≡ categoryCode (kindOf k)
+unfolding sameCategory kindOf
+by-range k = go (decLt k 44)
+  where
+    go : Dec (k < 44) → byRange k ≡ categoryCode (kindOf k)
+    go (yes h) = eqb→eq (byRange k) (categoryCode (kindOf k)) (below-at sameCategory 44 tt k h)
+    go (no h) = rw (far-kind k (omega arith), lt-leb k 11 (omega arith), lt-leb k 43 (omega arith), le-leb 1 k (omega arith), le-leb 20 k (omega arith))
+
+-- So the code that each range of kind codes has.
+module _ (k : ℕ) where
+  pub code-predicate : 1 ≤ k → k ≤ 11 → 1 ≡ categoryCode (kindOf k)
+  code-predicate l h = rw (← by-range k, le-leb 1 k l, le-leb k 11 h)
+
+  pub code-expression : 20 ≤ k → k ≤ 43 → 2 ≡ categoryCode (kindOf k)
+  code-expression l h = rw (← by-range k, lt-leb k 11 (omega arith), le-leb 1 k (omega arith), le-leb 20 k l, le-leb k 43 h)
+
+  pub code-below : k < 1 → 0 ≡ categoryCode (kindOf k)
+  code-below h = rw (← by-range k, lt-leb 1 k h, lt-leb 20 k (omega arith))
+
+  pub code-between : 11 < k → k < 20 → 0 ≡ categoryCode (kindOf k)
+  code-between l h = rw (← by-range k, lt-leb k 11 l, le-leb 1 k (omega arith), lt-leb 20 k h)
+
+  pub code-above : 43 < k → 0 ≡ categoryCode (kindOf k)
+  code-above h = rw (← by-range k, lt-leb k 11 (omega arith), lt-leb k 43 h, le-leb 1 k (omega arith), le-leb 20 k (omega arith))
+
+-- A code past the last holds nothing.
+pub field-far : (c : ℕ) → 9 ≤ c → fieldOf c ≡ unused
+field-far c h = List·getD-eq-default fieldCodes unused {n = c} h
+
+-- The codes of fields one by one.
+pub by-code : (P : ℕ → Type 0) → P 0 → P 1 → P 2 → P 3 → P 4 → P 5 → P 6 → P 7 → P 8 → ((c : ℕ) → 9 ≤ c → P c) → (c : ℕ) → P c
+by-code P p0 p1 p2 p3 p4 p5 p6 p7 p8 far zero = p0
+by-code P p0 p1 p2 p3 p4 p5 p6 p7 p8 far (suc zero) = p1
+by-code P p0 p1 p2 p3 p4 p5 p6 p7 p8 far (suc (suc zero)) = p2
+by-code P p0 p1 p2 p3 p4 p5 p6 p7 p8 far (suc (suc (suc zero))) = p3
+by-code P p0 p1 p2 p3 p4 p5 p6 p7 p8 far (suc (suc (suc (suc zero)))) = p4
+by-code P p0 p1 p2 p3 p4 p5 p6 p7 p8 far (suc (suc (suc (suc (suc zero))))) = p5
+by-code P p0 p1 p2 p3 p4 p5 p6 p7 p8 far (suc (suc (suc (suc (suc (suc zero)))))) = p6
+by-code P p0 p1 p2 p3 p4 p5 p6 p7 p8 far (suc (suc (suc (suc (suc (suc (suc zero))))))) = p7
+by-code P p0 p1 p2 p3 p4 p5 p6 p7 p8 far (suc (suc (suc (suc (suc (suc (suc (suc zero)))))))) = p8
+by-code P p0 p1 p2 p3 p4 p5 p6 p7 p8 far (suc (suc (suc (suc (suc (suc (suc (suc (suc c))))))))) = far (suc (suc (suc (suc (suc (suc (suc (suc (suc c))))))))) (omega arith)
+
+-- Those that bind, and those that hold a child.
+pub binder-code : (c : ℕ) → eqb c 4 ≡ isBinder (fieldOf c)
+binder-code = by-code (λ c. eqb c 4 ≡ isBinder (fieldOf c)) refl refl refl refl refl refl refl refl refl
+    (λ c h. ne-eqb c 4 (λ e. omega arith) ∙ sym (ap isBinder (field-far c h)))
+
+pub child-code : (c : ℕ) → (eqb c 1 || eqb c 2) ≡ isChild (fieldOf c)
+child-code = by-code (λ c. (eqb c 1 || eqb c 2) ≡ isChild (fieldOf c)) refl refl refl refl refl refl refl refl refl
+    (λ c h. ap₂ _||_ (ne-eqb c 1 (λ e. omega arith)) (ne-eqb c 2 (λ e. omega arith)) ∙ sym (ap isChild (field-far c h)))
+
+pub counts-binder : (b : Bool) (c : ℕ) → b ≡ true → eqb c 4 ≡ sortOf b (fieldOf c)
+counts-binder false c e = absurd (false≢true e)
+counts-binder true c e = binder-code c
+
+pub counts-child : (b : Bool) (c : ℕ) → b ≡ false → (c ≡ 1 → ⊥) → eqb c 2 ≡ sortOf b (fieldOf c)
+counts-child true c e n = absurd (true≢false e)
+counts-child false c e n = ap (λ o. o || eqb c 2) (sym (ne-eqb c 1 n)) ∙ child-code c
+
+-- The constant table as a list, and what document 01's kinds say, three fields a kind.
+abbrev pub table-fields : List ℕ
+table-fields =
+    0 ∷ 0 ∷ 0 ∷ 1 ∷ 1 ∷ 0 ∷ 1 ∷ 1 ∷ 0 ∷ 1 ∷ 1 ∷ 0 ∷ 1 ∷ 0 ∷ 0 ∷ 1 ∷ 1 ∷ 0 ∷ 2 ∷ 2 ∷ 0 ∷ 2 ∷ 2 ∷ 0 ∷ 2 ∷ 2 ∷ 0 ∷ 2 ∷ 2 ∷ 0 ∷ 4 ∷ 2 ∷ 1 ∷ 4 ∷ 2 ∷ 1 ∷
+    0 ∷ 0 ∷ 0 ∷ 0 ∷ 0 ∷ 0 ∷ 0 ∷ 0 ∷ 0 ∷ 0 ∷ 0 ∷ 0 ∷ 0 ∷ 0 ∷ 0 ∷ 0 ∷ 0 ∷ 0 ∷ 0 ∷ 0 ∷ 0 ∷ 0 ∷ 0 ∷ 0 ∷
+    3 ∷ 0 ∷ 0 ∷ 5 ∷ 0 ∷ 0 ∷ 5 ∷ 6 ∷ 0 ∷ 7 ∷ 0 ∷ 0 ∷ 8 ∷ 0 ∷ 0 ∷ 1 ∷ 0 ∷ 0 ∷ 0 ∷ 0 ∷ 0 ∷ 2 ∷ 0 ∷ 0 ∷ 2 ∷ 2 ∷ 0 ∷ 2 ∷ 2 ∷ 0 ∷ 2 ∷ 2 ∷ 0 ∷ 2 ∷ 2 ∷ 0 ∷
+    2 ∷ 2 ∷ 0 ∷ 2 ∷ 0 ∷ 0 ∷ 4 ∷ 2 ∷ 1 ∷ 2 ∷ 0 ∷ 0 ∷ 2 ∷ 0 ∷ 0 ∷ 2 ∷ 2 ∷ 0 ∷ 2 ∷ 0 ∷ 0 ∷ 2 ∷ 2 ∷ 0 ∷ 2 ∷ 2 ∷ 0 ∷ 2 ∷ 2 ∷ 0 ∷ 0 ∷ 0 ∷ 0 ∷ 2 ∷ 0 ∷ 0 ∷ []
+
+abbrev triple : Option Kind → List Field → List Field
+triple o fs = getD (fieldsIf o) 0 unused ∷ getD (fieldsIf o) 1 unused ∷ getD (fieldsIf o) 2 unused ∷ fs
+
+abbrev wanted : List (Option Kind) → List Field
+wanted [] = []
+wanted (o ∷ os) = triple o (wanted os)
+
+wanted-at : (os : List (Option Kind)) (k i : ℕ) → i < 3 → getD (wanted os) (3 * k + i) unused ≡ getD (fieldsIf (getD os k nothing)) i unused
+wanted-at [] k i h = refl
+wanted-at (o ∷ os) zero zero h = refl
+wanted-at (o ∷ os) zero (suc zero) h = refl
+wanted-at (o ∷ os) zero (suc (suc zero)) h = refl
+wanted-at (o ∷ os) zero (suc (suc (suc i))) h = absurd (omega arith)
+wanted-at (o ∷ os) (suc k) i h = let e : 3 * suc k + i ≡ suc (suc (suc (3 * k + i))) = omega arith in rw e (wanted-at os k i h)
+
+decoded : map fieldOf table-fields ≡ wanted kinds
+decoded = refl
+
+pub fields-at : (k i : ℕ) → i < 3 → fieldOf (getD table-fields (3 * k + i) 0) ≡ getD (fieldsIf (kindOf k)) i unused
+unfolding kindOf
+fields-at k i h = sym (List·getD-map fieldOf table-fields (3 * k + i) 0) ∙ ap (λ (l : List Field). getD l (3 * k + i) unused) decoded ∙ wanted-at kinds k i h
+
+pub fields-far : (k i : ℕ) → 44 ≤ k → fieldOf 0 ≡ getD (fieldsIf (kindOf k)) i unused
+fields-far k i h = rw (far-kind k h)
+
+-- Four bytes make a word.
+pub word-sum : (bs : List ℕ) (at a b c d : ℕ) → a ≡ getD bs at 0 → b ≡ getD bs (at + 1) 0 → c ≡ getD bs (at + 2) 0 → d ≡ getD bs (at + 3) 0 →
+    a + 256 * b + 65536 * c + 16777216 * d ≡ wordAt bs at
+word-sum bs at a b c d p q r s = rw (p, q, r, s, add-comm at 1, add-comm at 2, add-comm at 3)
+
+-- Refusals 1 to 3 from the words that the code reads.
+pub headed-short : (bs : List ℕ) → length bs < 32 → false ≡ headed bs
+unfolding headed
+headed-short bs h = rw (lt-leb 32 (length bs) h)
+
+pub headed-read : (bs : List ℕ) (w : ℕ) → 32 ≤ length bs → w ≡ wordAt bs 0 → eqb w 1 ≡ headed bs
+unfolding headed
+headed-read bs w h e = rw (le-leb 32 (length bs) h, e)
+
+pub limited-read : (bs : List ℕ) (g i n : ℕ) → g ≡ givenCount bs → i ≡ identifierCount bs → n ≡ nodeCount bs →
+    (leb g 16 && leb i 32 && leb 1 n && leb n 512) ≡ limited bs
+unfolding limited
+limited-read bs g i n p q r = rw (p, q, r)

@@ -1,0 +1,33 @@
+-- Loops that look for the least number that fails a test: they end at it, or at the bound where all pass.
+use Prim.Native.Nat.{ℕ, _+_, _≤_, _<_}
+use mathlib.Core.Bool.{Bool, true, false}
+use mathlib.Core.Option.{Option, none as nothing, some}
+use mathlib.Core.Path.{_≡_, sym, ap}
+use native.Mathlib.Decide.{ℕ-discrete}
+use native.Mathlib.Omega.{arith}
+use Rattle.rules.specs.Ends.{leastFailing}
+use Rattle.rules.proofs.EndLaws.{leastFailing-none, leastFailing-some}
+use Rattle.table.specs.Answers.{foundOr}
+
+-- The loop's invariant: i is at most the bound, and each number below i passes.
+pub record Passing (ok : ℕ → Bool) (n i : ℕ) : Type 0 where
+  pub within : i ≤ n
+  pub passed : (j : ℕ) → j < i → ok j ≡ true
+
+module _ (ok : ℕ → Bool) (n : ℕ) where
+  pub least-start : Passing ok n 0
+  least-start = record { within = omega arith; passed = λ j h. absurd (omega arith) }
+
+  pub least-turn : (i : ℕ) → Passing ok n i → i < n → ok i ≡ true → Passing ok n (i + 1)
+  least-turn i p h e = record { within = omega arith; passed = λ j l. go j l (ℕ-discrete j i) }
+    where
+      go : (j : ℕ) → j < i + 1 → Dec (j ≡ i) → ok j ≡ true
+      go j l (yes q) = rw q e
+      go j l (no q) = p .passed j (omega arith)
+
+  pub least-here : (i : ℕ) → Passing ok n i → i < n → ok i ≡ false → i ≡ foundOr n (leastFailing ok 0 n)
+  least-here i p h e =
+      sym (ap (foundOr n) (leastFailing-some ok 0 n i .1 (omega arith, omega arith, e, λ j lo hi. p .passed j hi)))
+
+  pub least-none : (i : ℕ) → Passing ok n i → n ≤ i → n ≡ foundOr n (leastFailing ok 0 n)
+  least-none i p h = sym (ap (foundOr n) (leastFailing-none ok 0 n .1 (λ j lo hi. p .passed j (omega arith))))

@@ -1,0 +1,3 @@
+-- Laws that the proofs of this crate's functions share.
+pub mod Access
+pub mod Least

@@ -1,0 +1,30 @@
+use Rattle.table.proofs.Access.{bind-read}
+use borrow.Author.Needs.{needs}
+use Rattle.table.proofs.bind.Statement.{statement}
+use Rattle.table.proofs.bind.Tie as tie
+
+givens-requires : tie.Need-givens-requires
+givens-requires c κs = search needs
+
+mul-word : tie.Need-mul-word
+mul-word c = search needs
+
+add-word : tie.Need-add-word
+add-word c = search needs
+
+mul-word-2 : tie.Need-mul-word-2
+mul-word-2 c = search needs
+
+add-word-2 : tie.Need-add-word-2
+add-word-2 c = search needs
+
+word-requires : tie.Need-word-requires
+word-requires c κs = search needs
+
+returns : tie.Need-returns
+returns c = bind-read _ _ _ _ (c .before .givens .ensures) (c .before .before .before .pre .1) (c .word .ensures .0)
+
+pub bind-spec : {M : Type 1} → statement M
+bind-spec =
+    tie.close
+    (tie.spec givens-requires mul-word add-word mul-word-2 add-word-2 word-requires returns)

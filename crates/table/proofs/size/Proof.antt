@@ -1,0 +1,28 @@
+use native.Mathlib.Omega.{arith}
+use mathlib.Core.Path.{sym, _∙_}
+use Rattle.rules.proofs.TableLaws.{sizes-entry}
+use Rattle.table.proofs.Access.{size-none}
+use borrow.Author.Needs.{needs}
+use Rattle.table.proofs.size.Statement.{statement}
+use Rattle.table.proofs.size.Tie as tie
+
+givens-requires : tie.Need-givens-requires
+givens-requires c κs = search needs
+
+returns : tie.Need-returns
+returns c = size-none _ _ _ (c .before .givens .ensures) (c .if1 .taken)
+
+mul-word : tie.Need-mul-word
+mul-word c = search needs
+
+add-word : tie.Need-add-word
+add-word c = search needs
+
+word-requires : tie.Need-word-requires
+word-requires c κs = search needs
+
+returns-2 : tie.Need-returns-2
+returns-2 c = c .word .ensures .0 ∙ sym (sizes-entry _ _ 0 (omega (arith, c .before .before .givens .ensures, c .before .if1 .left)))
+
+pub size-spec : {M : Type 1} → statement M
+size-spec = tie.close (tie.spec givens-requires returns mul-word add-word word-requires returns-2)
