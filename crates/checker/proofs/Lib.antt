@@ -1,0 +1,6 @@
+pub mod PlanLaws
+pub mod RefLaws
+pub mod VariableLaws
+pub mod ProblemLaws
+pub mod EquationsLaws
+pub mod Examples

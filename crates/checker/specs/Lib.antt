@@ -1,0 +1,4 @@
+-- How the typing rules of a table become a problem of unification.
+pub mod Plan
+pub mod Equations
+pub mod Built

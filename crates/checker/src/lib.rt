@@ -1,0 +1,1 @@
+// Decides whether a table's condition is well typed, and writes its types.
