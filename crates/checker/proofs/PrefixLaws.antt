@@ -1,23 +1,22 @@
 -- The problem of the nodes below k stands in the first parts of the arrays that hold the problem of all nodes.
-use Prim.Native.Nat.{ℕ, zero, suc, _+_, _*_, _≤_, _<_}
-use mathlib.Core.Bool.{Bool, true, false}
-use mathlib.Core.List.{List, [], _++_}
-use mathlib.Core.Path.{_≡_, refl, sym, ap, subst, _∙_}
+use Prim.Native.Nat.{ℕ, zero, suc, _+_, _*_, _-_, _≤_, _<_}
+use mathlib.Core.Bool.{Bool, true, false, true≢false, false≢true}
+use mathlib.Core.List.{List, _++_}
+use mathlib.Core.Path.{_≡_, refl, sym, subst, _∙_}
 use native.Mathlib.Decide.{decLt}
 use native.Mathlib.Nat.{not-suc-le-zero}
 use native.Mathlib.Omega.{arith}
 use lib.ListN.{getD, length, take, drop, length-append, length-map, List·getD-append}
 use lib.Seq.{getD-take, length-take-le}
-use Rattle.rules.specs.Types.{Ty, INTEGER}
-use Rattle.rules.specs.Tables.{Table, tableOf, nodeCount, identifierCount, nodeAt, kindAt}
+use Rattle.rules.specs.Types.{INTEGER}
+use Rattle.rules.specs.Tables.{Table, tableOf, nodeCount, nodeAt, kindAt}
 use Rattle.rules.specs.Readable.{Readable}
-use Rattle.rules.specs.Verdict.{Typing}
 use Rattle.rules.proofs.TableLaws.{binds-length, nodes-length}
 use Rattle.solver.specs.Problem.{Shape, unknown, leaf, power, product, eqn, PartsBelow}
 use Rattle.solver.specs.Arrays.{Arrays, Equations, ClassArrays, shapeAt as arrayShape, equations as arrayEquations}
 use Rattle.solver.specs.Solved.{LeafDeclared, Solved, Answer}
 use Rattle.checker.specs.Equations.{planAt, base, varOf, eqnFrom, nodeEquations, shapeAt, equations, DeclaredLeaf, back}
-use Rattle.checker.specs.Prefix.{Ready, Room, PrefixAnswer, Unsolvable, Typable, Untypable, FirstClash}
+use Rattle.checker.specs.Prefix.{Ready, Room, PrefixAnswer, Unsolvable, Typable, Untypable, Between, FirstClash}
 use Rattle.checker.proofs.RefLaws.{few-equations}
 use Rattle.checker.proofs.VariableLaws.{base-mono, base-bound}
 use Rattle.checker.proofs.ProblemLaws.{well-formed}
@@ -81,10 +80,11 @@ module _ {bs : List ℕ} (r : Readable bs) {k : ℕ} (h : k ≤ nodeCount bs) wh
       Typable (tableOf bs) k
   solved→typable q =
       let G = length (tableOf bs .sizes) in
-      let wf = well-formed (tableOf bs) (r .records .fields) k (node-in r h) in
-      (back (tableOf bs) k (q .first),
-      solves→typing (tableOf bs) (r .records .fields) k (node-in r h) (q .first) (q .first-solves)
-          (λ v l. q .declared G (λ w g. leaf-declared G (shapeAt (tableOf bs) w) (wf .leaves w g)) v .0))
+      let wf = well-formed (tableOf bs) (r .records .fields) k (node-in r h) in (
+        back (tableOf bs) k (q .first),
+        solves→typing (tableOf bs) (r .records .fields) k (node-in r h) (q .first) (q .first-solves)
+            (λ v l. q .declared G (λ w g. leaf-declared G (shapeAt (tableOf bs) w) (wf .leaves w g)) v .0),
+      )
 
   pub unsolvable→untypable : Unsolvable (tableOf bs) k → Untypable (tableOf bs) k
   unsolvable→untypable u κ t = let q = typing→solves (tableOf bs) (r .records .fields) κ k (node-in r h) t in u (q .0) (q .1)
@@ -92,6 +92,51 @@ module _ {bs : List ℕ} (r : Readable bs) {k : ℕ} (h : k ≤ nodeCount bs) wh
 -- No rule, no clash.
 pub typable-none : (tb : Table) → Typable tb 0
 typable-none tb = ((λ p. INTEGER), record { declared = λ p w. tt; obeyed = λ n l. absurd (not-suc-le-zero l) })
+
+-- The bisection starts, goes on with either answer for the nodes below m, and ends.
+module _ {bs : List ℕ} (r : Readable bs) {n : ℕ} (h : n ≤ nodeCount bs) where
+  pub clash-start : Unsolvable (tableOf bs) n → Between (tableOf bs) n 0 n
+  clash-start u = record { less = go (decLt 0 n); upper = omega arith; typing = typable-none (tableOf bs); none = unsolvable→untypable r h u }
+    where
+      go : Dec (0 < n) → 0 < n
+      go (yes l) = l
+      go (no g) =
+          let e : 0 ≡ n = omega arith in
+          let t = subst (λ k. Typable (tableOf bs) k) e (typable-none (tableOf bs)) in
+          absurd (unsolvable→untypable r h u (t .0) (t .1))
+
+  module _ {lo hi : ℕ} (b : Between (tableOf bs) n lo hi) {m : ℕ} (cls mark : List ℕ) where
+    pub clash-above : (a : Bool) → PrefixAnswer (tableOf bs) m cls mark a → a ≡ true → m < hi → Between (tableOf bs) n m hi
+    clash-above true q e l = record {
+      less = l;
+      upper = b .upper;
+      typing = solved→typable r (omega (arith, b .upper)) q;
+      none = b .none;
+    }
+    clash-above false q e l = absurd (false≢true e)
+
+    pub clash-below : (a : Bool) → PrefixAnswer (tableOf bs) m cls mark a → a ≡ false → lo < m → m < hi → Between (tableOf bs) n lo m
+    clash-below true q e l g = absurd (true≢false e)
+    clash-below false q e l g = record {
+      less = l;
+      upper = omega (arith, b .upper);
+      typing = b .typing;
+      none = unsolvable→untypable r (omega (arith, b .upper)) q;
+    }
+
+pub clash-end : (tb : Table) (n lo hi : ℕ) → Between tb n lo hi → hi - lo ≤ 1 → FirstClash tb n lo
+clash-end tb n lo hi b h =
+    let e : hi ≡ suc lo = omega (arith, b .less) in
+    record { below = omega (arith, b .less, b .upper); typing = b .typing; none = subst (λ k. Untypable tb k) e (b .none) }
+
+pub room-kept : {cls ls rs mark : List ℕ} (cls′ ls′ rs′ mark′ : List ℕ) → Room cls ls rs mark → length cls′ ≡ length cls →
+    length ls′ ≡ length ls → length rs′ ≡ length rs → length mark′ ≡ length mark → Room cls′ ls′ rs′ mark′
+room-kept cls′ ls′ rs′ mark′ w a b c d = record {
+  cls-length = a ∙ w .cls-length;
+  ls-length = b ∙ w .ls-length;
+  rs-length = c ∙ w .rs-length;
+  mark-length = d ∙ w .mark-length;
+}
 
 -- The parts of the arrays that hold the problem of the nodes below k: n variables and m equations.
 module _ {bs kind left right lhs rhs bases counts : List ℕ} (p : Ready bs kind left right lhs rhs bases counts) {k : ℕ} (h : k ≤ nodeCount bs) where
@@ -119,8 +164,8 @@ module _ {bs kind left right lhs rhs bases counts : List ℕ} (p : Ready bs kind
   part-equation {m} f i l =
       let g : i < length (equations tb k) = omega (arith, count f) in
       rw (getD-take m lhs i 0 l, getD-take m rhs i 0 l)
-          (p .built .equations-are i (omega (arith, equations-mono tb {k = k} (nodeCount bs) h))
-              ∙ equations-grow tb {k = k} (nodeCount bs) i h g)
+      (p .built .equations-are i (omega (arith, equations-mono tb {k = k} (nodeCount bs) h))
+      ∙ equations-grow tb {k = k} (nodeCount bs) i h g)
 
   pub part-sides : {n m : ℕ} → n ≡ getD bases k 0 → m ≡ getD counts k 0 → Equations (take m lhs) (take m rhs) n
   part-sides {n} {m} e f =
@@ -137,7 +182,7 @@ module _ {bs kind left right lhs rhs bases counts : List ℕ} (p : Ready bs kind
     below : (v : ℕ) → v < n → v < base tb k
     below v l = rw (← variables e) l
 
-    part-shape : (v : ℕ) → v < n → arrayShape (take n kind) (take n left) (take n right) v ≡ shapeAt tb v
+    pub part-shape : (v : ℕ) → v < n → arrayShape (take n kind) (take n left) (take n right) v ≡ shapeAt tb v
     part-shape v l = rw (getD-take n kind v 0 l, getD-take n left v 0 l, getD-take n right v 0 l)
         (p .built .shapes-are v (inside v (below v l)))
 
@@ -170,19 +215,35 @@ module _ {bs kind left right lhs rhs bases counts : List ℕ} (p : Ready bs kind
     prefix-asks f cls ls rs mark w =
         let c : length (take n cls) ≡ n = length-take-le n cls (omega (arith, part-variables e, w .cls-length)) in
         let m : length (take n mark) ≡ n = length-take-le n mark (omega (arith, part-variables e, w .mark-length)) in
-        rw (c, m) (part-arrays, (part-sides e f,
-            (omega (arith, part-variables e, w .ls-length), omega (arith, part-variables e, w .rs-length), refl)))
+        rw (c, m) (
+          part-arrays,
+          (
+            part-sides e f,
+            (omega (arith, part-variables e, w .ls-length), omega (arith, part-variables e, w .rs-length), refl),
+          ),
+        )
 
     -- What `solve` says of the parts, for the whole arrays.
     pub prefix-says : {m : ℕ} → m ≡ getD counts k 0 → (cls ls rs mark cls′ mark′ : List ℕ) → Room cls ls rs mark →
         length cls′ ≡ length (take n cls) → length mark′ ≡ length (take n mark) → (b : Bool) →
         Answer (arrayShape (take n kind) (take n left) (take n right)) (length (take n cls))
-            (arrayEquations (take m lhs) (take m rhs) (length (take m lhs))) cls′ mark′ b →
+        (arrayEquations (take m lhs) (take m rhs) (length (take m lhs))) cls′ mark′ b →
         PrefixAnswer tb k (cls′ ++ drop n cls) (mark′ ++ drop n mark) b
     prefix-says {m} f cls ls rs mark cls′ mark′ w x y b a =
         let c : length (take n cls) ≡ n = length-take-le n cls (omega (arith, part-variables e, w .cls-length)) in
         let d : length (take n mark) ≡ n = length-take-le n mark (omega (arith, part-variables e, w .mark-length)) in
         let l : length (take m lhs) ≡ m = length-take-le m lhs (omega (arith, part-equations f, p .sized .lhs-length)) in
         rw (← variables e) (answer-same (part-same f) cls′ (cls′ ++ drop n cls) mark′ (mark′ ++ drop n mark) (part-arrays .parts)
-            (λ v g. sym (List·getD-append cls′ (drop n cls) v v (omega arith)))
-            (λ v g. sym (List·getD-append mark′ (drop n mark) 1 v (omega arith))) b (rw (c, l) at a))
+        (λ v g. sym (List·getD-append cls′ (drop n cls) v v (omega arith)))
+        (λ v g. sym (List·getD-append mark′ (drop n mark) 1 v (omega arith))) b (rw (c, l) at a))
+
+    -- What `weigh` and `write_type` require of the parts.
+    pub part-classes : (cls : List ℕ) → length cls ≡ 3104 → ((v : ℕ) → v < base tb k → getD cls v v < base tb k) →
+        ClassArrays (take n kind) (take n left) (take n right) (take n cls) (length (take n cls))
+    part-classes cls w b =
+        let c : length (take n cls) ≡ n = length-take-le n cls (omega (arith, part-variables e)) in
+        rw c (record {
+          arrays = part-arrays;
+          len = c;
+          bound = λ v l. rw (getD-take n cls v v l, variables e) (b v (below v l));
+        })

@@ -49,7 +49,7 @@ module _ {sh sh′ : ℕ → Shape} {n : ℕ} {es es′ : List Eqn} (s : Same sh
     differ = λ v h m. q .differ v h (rw (marks-same v h) m);
     grounded = λ v h m. subst (λ x. 2 ≤ x)
         (status-same n (markOf mark) (markOf mark′) marks-same (sh (getD cls v v)) (parts (getD cls v v) (q .bound v h))
-            ∙ ap (statusOf (markOf mark′)) (class v h))
+        ∙ ap (statusOf (markOf mark′)) (class v h))
         (q .grounded v h (rw (marks-same v h) m));
   }
     where

@@ -1,5 +1,5 @@
 -- The problem of the nodes below k: what solving it takes, and what the answers say of the table.
-use Prim.Native.Nat.{ℕ, suc, _<_}
+use Prim.Native.Nat.{ℕ, suc, _<_, _≤_}
 use mathlib.Core.Bool.{Bool}
 use mathlib.Core.List.{List}
 use mathlib.Core.Path.{_≡_}
@@ -38,6 +38,13 @@ Typable tb k = (θ : ℕ → Ty) × Typing tb k θ
 
 abbrev pub Untypable : Table → ℕ → Type 0
 Untypable tb k = (κ : ℕ → Ty) → Typing tb k κ → ⊥
+
+-- The bisection: the nodes below lo have a typing, those below hi have none.
+pub record Between (tb : Table) (n lo hi : ℕ) : Type 0 where
+  pub less : lo < hi
+  pub upper : hi ≤ n
+  pub typing : Typable tb lo
+  pub none : Untypable tb hi
 
 -- Refusal 11: the rules of the nodes below r have a typing, those with r have none.
 pub record FirstClash (tb : Table) (n r : ℕ) : Type 0 where

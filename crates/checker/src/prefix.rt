@@ -45,3 +45,54 @@ pub fn solve_prefix(
         &mut mark[..nv],
     )
 }
+
+// The first node that leaves no typing, where the nodes below n have none: bisection keeps a typing of the nodes below lo
+// and none of those below hi.
+pub fn first_clash(
+    table: &[u8],
+    kind: &[u8],
+    left: &[u16],
+    right: &[u16],
+    lhs: &[u16],
+    rhs: &[u16],
+    bases: &[u16],
+    counts: &[u16],
+    cls: &mut [u16],
+    ls: &mut [u16],
+    rs: &mut [u16],
+    mark: &mut [u8],
+    n: usize,
+) -> usize
+    requires { ⌜ Ready (now table) (now kind) (now left) (now right) (now lhs) (now rhs) (now bases) (now counts) ⌝ }
+    requires { ⌜ Room (now cls) (now ls) (now rs) (now mark) ⌝ }
+    requires { ⌜ n ≤ nodeCount (now table) ⌝ }
+    requires { ⌜ Unsolvable (tableOf (now table)) n ⌝ }
+    ensures { λ r. ⌜ FirstClash (tableOf (now (table .entry))) n r ⌝ }
+{
+    let mut lo: usize = 0;
+    let mut hi: usize = n;
+    while hi - lo > 1 {
+        let mid = lo + (hi - lo) / 2;
+        let ok = solve_prefix(
+            table,
+            kind,
+            left,
+            right,
+            lhs,
+            rhs,
+            bases,
+            counts,
+            cls,
+            ls,
+            rs,
+            mark,
+            mid,
+        );
+        if ok {
+            lo = mid;
+        } else {
+            hi = mid;
+        }
+    }
+    lo
+}
