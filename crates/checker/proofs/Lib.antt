@@ -6,5 +6,7 @@ pub mod EquationsLaws
 pub mod Places
 pub mod Verdicts
 pub mod VerdictRight
+pub mod SameProblem
+pub mod PrefixLaws
 pub mod Examples
 pub mod Conditions
