@@ -2,3 +2,4 @@
 pub mod Plan
 pub mod Equations
 pub mod Built
+pub mod Rows
