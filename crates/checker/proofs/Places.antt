@@ -1,11 +1,11 @@
 -- Places: their variables, and which of them have a type.
-use Prim.Native.Nat.{ℕ, _+_, _*_, _-_, _≤_, _<_}
-use mathlib.Core.Bool.{Bool, true, false, not, cond, true≢false, false≢true}
-use mathlib.Core.List.{List, [], _∷_}
-use mathlib.Core.Logic.{_⊎_, inl, inr}
+use Prim.Native.Nat.{ℕ, _+_, _-_, _≤_, _<_}
+use mathlib.Core.Bool.{Bool, true, false, not, true≢false, false≢true}
+use mathlib.Core.List.{List}
+use mathlib.Core.Logic.{inl, inr}
 use mathlib.Core.Option.{Option, none as nothing, some}
 use mathlib.Core.Path.{_≡_, refl, sym, ap, _∙_}
-use native.Mathlib.Decide.{decLt, ℕ-discrete}
+use native.Mathlib.Decide.{decLt}
 use native.Mathlib.Omega.{arith}
 use borrow.Author.Count.{below-more}
 use borrow.Author.Tests.{lt-ltb, le-ltb, ltb-true, ltb-false, eqb-true, eqb-false}
@@ -15,7 +15,7 @@ use Rattle.rules.specs.Types.{Ty, weightᵀ}
 use Rattle.rules.specs.Kinds.{Kind, kindOf, Category, predicate, expression, categoryOf}
 use Rattle.rules.specs.Tables.{Table, tableOf, nodeAt, kindAt, identifierCount, nodeCount}
 use Rattle.rules.specs.Readable.{CategoryIs}
-use Rattle.rules.specs.Verdict.{placeOf, Place}
+use Rattle.rules.specs.Verdict.{Place}
 use Rattle.rules.proofs.TableLaws.{binds-length, nodes-length}
 use Rattle.table.specs.Codes.{codeOf, categoryCode}
 use Rattle.solver.specs.Problem.{Shape}
@@ -132,7 +132,7 @@ pub open-typed : (bs : List ℕ) (at : ℕ) (bases mark : List ℕ) (i p v : ℕ
     FailsAt (tableOf bs) (GroundAt (tableOf bs) mark) p (ltb (getD mark v 0) 2)
 open-typed bs at bases mark i p v b pl w t e f =
     fails-by (tableOf bs) (GroundAt (tableOf bs) mark) p (typed (tableOf bs) p b t e) (ltb (getD mark v 0) 2)
-        (λ y g. omega (arith, ltb-true (getD mark v 0) 2 y, same, g)) (λ y. omega (arith, ltb-false (getD mark v 0) 2 y, same))
+    (λ y g. omega (arith, ltb-true (getD mark v 0) 2 y, same, g)) (λ y. omega (arith, ltb-false (getD mark v 0) 2 y, same))
   where
     same : getD mark v 0 ≡ getD mark (placeVar (tableOf bs) p) 1
     same = rw (← place-var pl w, ← f) (any-default mark v 0 1 (found-below pl w v f))
@@ -143,7 +143,7 @@ pub heavy-typed : (bs : List ℕ) (at : ℕ) (bases : List ℕ) (sh : ℕ → Sh
     Determines (tableOf bs) sh n cls σ → FailsAt (tableOf bs) (LightAt (tableOf bs) σ) p (eqb r 0)
 heavy-typed bs at bases sh n cls i p v r b pl w t e f g σ d =
     fails-by (tableOf bs) (LightAt (tableOf bs) σ) p here (eqb r 0)
-        (λ y l. omega (arith, eqb-true r 0 y, weight)) (λ y. omega (arith, eqb-false r 0 y, weight))
+    (λ y l. omega (arith, eqb-true r 0 y, weight)) (λ y. omega (arith, eqb-false r 0 y, weight))
   where
     here : Place (tableOf bs) p
     here = typed (tableOf bs) p b t e

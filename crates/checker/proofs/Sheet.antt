@@ -1,8 +1,8 @@
 -- The sheet row by row: the rows of the places in order, 64 bytes each.
 use Prim.Native.Nat.{ℕ, zero, suc, _+_, _*_, _-_, _≤_, _<_}
-use mathlib.Core.Bool.{Bool, true, false, not, cond, true≢false, false≢true}
-use mathlib.Core.List.{List, [], _∷_, _++_, append-assoc, append-nil}
-use mathlib.Core.Logic.{_⊎_, inl, inr}
+use mathlib.Core.Bool.{Bool, true, false, not, false≢true}
+use mathlib.Core.List.{List, [], _++_, append-assoc, append-nil}
+use mathlib.Core.Logic.{inl, inr}
 use mathlib.Core.Option.{Option, none as nothing, some}
 use mathlib.Core.Path.{_≡_, refl, sym, ap, ap₂, _∙_}
 use native.Mathlib.Decide.{decLt}
@@ -10,19 +10,18 @@ use native.Mathlib.Nat.{add-zero, zero-add}
 use native.Mathlib.Numerals.{add-one}
 use native.Mathlib.Omega.{arith}
 use borrow.Author.Tests.{lt-ltb, le-ltb}
-use lib.Dec.{ltb}
-use lib.ListN.{getD, length, take, drop, replicate, set, length-append, length-replicate, length-take, length-drop}
-use lib.Seq.{paste, paste-zero, paste-suc, take-paste, drop-paste, take-all, sets, sets-eq, take-at, take-append-le, drop-append-le, drop-append-add, length-take-le, drop-drop, length-paste-head}
+use lib.ListN.{getD, length, take, drop, replicate, set, length-append, length-drop}
+use lib.Seq.{paste, paste-zero, paste-suc, take-paste, take-all, sets, sets-eq, take-at, drop-append-le, drop-append-add, length-take-le}
 use Rattle.rules.specs.Types.{Ty, weightᵀ, prefix, row, emptyRow}
-use Rattle.rules.specs.Kinds.{Kind, kindOf, Category, predicate, expression, categoryOf}
+use Rattle.rules.specs.Kinds.{Kind, Category, predicate, expression, categoryOf}
 use Rattle.rules.specs.Tables.{Table, tableOf, kindAt}
 use Rattle.rules.specs.Readable.{CategoryIs}
 use Rattle.rules.specs.Verdict.{placeOf, Place, Light, categoryRow, kindRow, rowsFrom, sheetOf, sheetLength}
 use Rattle.rules.proofs.TypeLaws.{prefix-length, row-length, emptyRow-length}
 use Rattle.solver.specs.Problem.{Shape}
-use Rattle.solver.specs.Rows.{Determined, Put, Written}
-use Rattle.checker.specs.Built.{placeVar, placeCount}
-use Rattle.checker.specs.Rows.{Placed, PlaceIn, varAt, Typed, Determines, TypesOf, rowAt, putRow, RowWritten}
+use Rattle.solver.specs.Rows.{Written}
+use Rattle.checker.specs.Built.{placeCount}
+use Rattle.checker.specs.Rows.{Placed, PlaceIn, varAt, Typed, TypesOf, rowAt, putRow, RowWritten}
 use Rattle.checker.proofs.Places.{place-below, place-var, typed}
 
 -- The last row of several.
@@ -76,7 +75,7 @@ pub sheet-rows : (tb : Table) (θ : ℕ → Ty) → sheetOf tb θ ≡ rowsFrom (
 unfolding sheetOf
 sheet-rows tb θ =
     rows-joined (rowAt tb θ) (λ x. row (θ x)) (λ n. kindRow (kindAt (tb .nodes) n) (θ (placeOf tb n))) (length (tb .binds)) (length (tb .nodes))
-        (λ j h. sym (row-name tb θ j h)) (λ j h. sym (row-node tb θ j))
+    (λ j h. sym (row-name tb θ j h)) (λ j h. sym (row-node tb θ j))
 
 -- The row of a kind: that of the type for an expression, else zeros.
 kind-typed : (o : Option Kind) (t : Ty) → CategoryIs expression o → kindRow o t ≡ row t
@@ -199,7 +198,7 @@ unfolding row
 row-codes sheet at t h l =
     sets-paste sheet emptyRow (prefix t) at 64 h emptyRow-length (omega (arith, prefix-length t))
     ∙ ap (λ y. putRow sheet at (prefix t ++ y))
-        (drop-empty (length (prefix t)) (omega (arith, prefix-length t)) ∙ ap (λ w. replicate (64 - w) 0) (prefix-length t))
+    (drop-empty (length (prefix t)) (omega (arith, prefix-length t)) ∙ ap (λ w. replicate (64 - w) 0) (prefix-length t))
 
 -- `write_row` at a place without a type, and at one with a type.
 pub written-blank : (bs : List ℕ) (sh : ℕ → Shape) (n : ℕ) (cls : List ℕ) (i p : ℕ) (b : Bool) (sheet after : List ℕ) → PlaceIn bs i p →

@@ -4,7 +4,7 @@ ghost use mathlib.Core.Path.{_≡_};
 ghost use Prim.Native.Nat.{ℕ, _+_, _*_, _<_, _≤_};
 ghost use lib.ListN.{length};
 ghost use Rattle.rules.specs.Types.{Ty, emptyRow};
-ghost use Rattle.rules.specs.Tables.{tableOf, identifierCount, nodeCount};
+ghost use Rattle.rules.specs.Tables.{tableOf};
 ghost use Rattle.rules.specs.Verdict.{sheetOf, sheetLength};
 ghost use Rattle.table.specs.Layout.{Laid};
 ghost use Rattle.solver.specs.Arrays.{shapeAt, ClassArrays};
@@ -40,7 +40,14 @@ fn has_type(table: &[u8], at: usize, identifiers: usize, p: usize) -> bool
 }
 
 // Whether place p has a type that is not determined.
-fn is_open(table: &[u8], at: usize, identifiers: usize, bases: &[u16], mark: &[u8], p: usize) -> bool
+fn is_open(
+    table: &[u8],
+    at: usize,
+    identifiers: usize,
+    bases: &[u16],
+    mark: &[u8],
+    p: usize,
+) -> bool
     requires { ⌜ Placed (now table) at (now bases) (length (now mark)) × PlaceIn (now table) identifiers p ⌝ }
     ensures { λ r. ⌜ FailsAt (tableOf (now (table .entry))) (GroundAt (tableOf (now (table .entry))) (now (mark .entry))) p r ⌝ }
 {
@@ -176,7 +183,18 @@ pub fn write_rows(
     let places = identifiers + table::nodes(table);
     let mut p: usize = 0;
     while p < places {
-        write_row(table, at, identifiers, bases, kind, left, right, cls, sheet, p);
+        write_row(
+            table,
+            at,
+            identifiers,
+            bases,
+            kind,
+            left,
+            right,
+            cls,
+            sheet,
+            p,
+        );
         p += 1;
     }
 }

@@ -22,7 +22,7 @@ returns-2 : tie.Need-returns-2
 returns-2 c =
     let s = c .before .before .before .before in
     typed-node (now (s .args .table)) (s .args .identifiers) (s .args .p) (c .before .kind .result) (c .category .result) (s .pre .1)
-        (c .before .before .if1 .left) (c .before .kind .ensures) (c .category .ensures)
+    (c .before .before .if1 .left) (c .before .kind .ensures) (c .category .ensures)
 
 pub has-type-spec : {M : Type 1} → statement M
 has-type-spec = tie.close (tie.spec returns kind-requires category-requires returns-2)

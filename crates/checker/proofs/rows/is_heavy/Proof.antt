@@ -32,9 +32,9 @@ returns-2 c =
     let s = c .before .before .before .before .before .before .before .before .before .before in
     let t = c .before .before .before .has-type in
     heavy-typed (now (s .args .table)) (s .args .at) (now (s .args .bases))
-        (shapeAt (now (s .args .kind)) (now (s .args .left)) (now (s .args .right))) (length (now (s .args .cls))) (now (s .args .cls))
-        (s .args .identifiers) (s .args .p) (c .before .place-var .result) (c .weigh .result) (t .result) (s .pre .1 .0) (s .pre .1 .1)
-        (t .ensures) (c .before .before .if1 .left) (c .before .place-var .ensures) (c .weigh .ensures)
+    (shapeAt (now (s .args .kind)) (now (s .args .left)) (now (s .args .right))) (length (now (s .args .cls))) (now (s .args .cls))
+    (s .args .identifiers) (s .args .p) (c .before .place-var .result) (c .weigh .result) (t .result) (s .pre .1 .0) (s .pre .1 .1)
+    (t .ensures) (c .before .before .if1 .left) (c .before .place-var .ensures) (c .weigh .ensures)
 
 pub is-heavy-spec : {M : Type 1} → statement M
 is-heavy-spec = tie.close (tie.spec has-type-requires returns place-var-requires weigh-requires returns-2)

@@ -28,7 +28,7 @@ returns-2 c =
     let s = c .before .before .before .before .before .before .before in
     let t = c .before .before .before .has-type in
     open-typed (now (s .args .table)) (s .args .at) (now (s .args .bases)) (now (s .args .mark)) (s .args .identifiers) (s .args .p)
-        (c .before .place-var .result) (t .result) (s .pre .0) (s .pre .1) (t .ensures) (c .before .before .if1 .left) (c .before .place-var .ensures)
+    (c .before .place-var .result) (t .result) (s .pre .0) (s .pre .1) (t .ensures) (c .before .before .if1 .left) (c .before .place-var .ensures)
 
 pub is-open-spec : {M : Type 1} → statement M
 is-open-spec = tie.close (tie.spec has-type-requires returns place-var-requires shared-slice-read-result returns-2)

@@ -26,8 +26,8 @@ returns c =
     let t = c .before .has-type in
     let z = c .before .before .before .before .clear-row in
     written-blank (now (s .args .table)) (shapeAt (now (s .args .kind)) (now (s .args .left)) (now (s .args .right)))
-        (length (now (s .args .cls))) (now (s .args .cls)) (s .args .identifiers) (s .args .p) (t .result) (now (s .args .sheet)) (z .last .0)
-        (s .pre .1 .0 .1) (t .ensures) (c .if1 .taken) (z .ensures)
+    (length (now (s .args .cls))) (now (s .args .cls)) (s .args .identifiers) (s .args .p) (t .result) (now (s .args .sheet)) (z .last .0)
+    (s .pre .1 .0 .1) (t .ensures) (c .if1 .taken) (z .ensures)
 
 place-var-requires : tie.Need-place-var-requires
 place-var-requires c κs =
@@ -55,10 +55,10 @@ returns-2 c =
     let z = c .before .before .before .before .before .before .before .before .before .clear-row in
     let w = c .before .before .write-type in
     written-typed (now (s .args .table)) (s .args .at) (now (s .args .bases))
-        (shapeAt (now (s .args .kind)) (now (s .args .left)) (now (s .args .right))) (length (now (s .args .cls))) (now (s .args .cls))
-        (s .args .identifiers) (s .args .p) (v .result) (w .result) (t .result) (now (s .args .sheet)) (z .last .0) (w .last .1 .1 .1 .1 .1 .0)
-        (s .pre .1 .0 .0) (s .pre .1 .0 .1) (t .ensures) (c .before .before .before .before .before .if1 .left) (v .ensures) (s .pre .1 .1)
-        (z .ensures) (w .ensures)
+    (shapeAt (now (s .args .kind)) (now (s .args .left)) (now (s .args .right))) (length (now (s .args .cls))) (now (s .args .cls))
+    (s .args .identifiers) (s .args .p) (v .result) (w .result) (t .result) (now (s .args .sheet)) (z .last .0) (w .last .1 .1 .1 .1 .1 .0)
+    (s .pre .1 .0 .0) (s .pre .1 .0 .1) (t .ensures) (c .before .before .before .before .before .if1 .left) (v .ensures) (s .pre .1 .1)
+    (z .ensures) (w .ensures)
 
 pub write-row-spec : {M : Type 1} → statement M
 write-row-spec =

@@ -29,11 +29,12 @@ add-places c = search needs
 
 loop-holds : tie.Need-loop-holds Inv-loop μ-loop
 loop-holds c =
-    let s = c .before .before .before .before .before .before .before .before .before in
-    (omega arith,
-    filled-start (tableOf (now (s .args .table))) (shapeAt (now (s .args .kind)) (now (s .args .left)) (now (s .args .right)))
-        (length (now (s .args .cls))) (now (s .args .cls)) (now (s .args .sheet)),
-    refl)
+    let s = c .before .before .before .before .before .before .before .before .before in (
+      omega arith,
+      filled-start (tableOf (now (s .args .table))) (shapeAt (now (s .args .kind)) (now (s .args .left)) (now (s .args .right)))
+          (length (now (s .args .cls))) (now (s .args .cls)) (now (s .args .sheet)),
+      refl,
+    )
 
 write-row-requires : tie.Need-write-row-requires Inv-loop μ-loop
 write-row-requires c κs =
@@ -41,10 +42,13 @@ write-row-requires c κs =
     let l = c .before .before .loop in
     let i = c .before .before .before .before .identifiers in
     let m = c .before .before .before .nodes in
-    let n = count-places (now (s .args .table)) _ _ (i .ensures) (m .ensures) in
-    (s .pre .0,
-    ((s .pre .1 .0, record { names = i .ensures; below = omega (arith, c .before .loop-test .taken, m .ensures) }),
-    omega (arith, n, c .before .loop-test .taken, s .pre .1 .1, l .inv .2)))
+    let n = count-places (now (s .args .table)) _ _ (i .ensures) (m .ensures) in (
+      s .pre .0,
+      (
+        (s .pre .1 .0, record { names = i .ensures; below = omega (arith, c .before .loop-test .taken, m .ensures) }),
+        omega (arith, n, c .before .loop-test .taken, s .pre .1 .1, l .inv .2),
+      ),
+    )
 
 add-p : tie.Need-add-p Inv-loop μ-loop
 add-p c = search needs
@@ -60,12 +64,13 @@ loop-again c =
     let m = c .before .before .before .before .before .before .nodes in
     let w = c .before .before .write-row in
     let n = count-places (now (s .args .table)) _ _ (i .ensures) (m .ensures) in
-    let h = c .before .before .before .before .loop-test .taken in
-    (omega (arith, h),
-    filled-turn (tableOf (now (s .args .table))) (shapeAt (now (s .args .kind)) (now (s .args .left)) (now (s .args .right)))
-        (length (now (s .args .cls))) (now (s .args .cls)) (l .sheet) (w .last .1 .1 .1 .1 .1 .1 .1 .1 .0) (l .p) (omega (arith, n, h))
-        (omega (arith, n, h, s .pre .1 .1, l .inv .2)) (l .inv .1) (w .ensures),
-    w .kept .1 .1 .1 .1 .1 .1 .1 .1 .0 ∙ l .inv .2)
+    let h = c .before .before .before .before .loop-test .taken in (
+      omega (arith, h),
+      filled-turn (tableOf (now (s .args .table))) (shapeAt (now (s .args .kind)) (now (s .args .left)) (now (s .args .right)))
+          (length (now (s .args .cls))) (now (s .args .cls)) (l .sheet) (w .last .1 .1 .1 .1 .1 .1 .1 .1 .0) (l .p) (omega (arith, n, h))
+          (omega (arith, n, h, s .pre .1 .1, l .inv .2)) (l .inv .1) (w .ensures),
+      w .kept .1 .1 .1 .1 .1 .1 .1 .1 .0 ∙ l .inv .2,
+    )
 
 same-length : tie.Need-same-length Inv-loop μ-loop
 same-length c = search needs
@@ -76,8 +81,8 @@ returns c =
     let l = c .before .loop in
     let n = count-places (now (s .args .table)) _ _ (c .before .before .before .identifiers .ensures) (c .before .before .nodes .ensures) in
     filled-end (tableOf (now (s .args .table))) (shapeAt (now (s .args .kind)) (now (s .args .left)) (now (s .args .right)))
-        (length (now (s .args .cls))) (now (s .args .cls)) (l .sheet) (l .p) (l .inv .2 ∙ s .pre .1 .1) (omega (arith, n, l .inv .0))
-        (omega (arith, n, c .loop-test .left)) (l .inv .1)
+    (length (now (s .args .cls))) (now (s .args .cls)) (l .sheet) (l .p) (l .inv .2 ∙ s .pre .1 .1) (omega (arith, n, l .inv .0))
+    (omega (arith, n, c .loop-test .left)) (l .inv .1)
 
 pub write-rows-spec : {M : Type 1} → statement M
 write-rows-spec =
