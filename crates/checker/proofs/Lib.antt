@@ -8,5 +8,7 @@ pub mod Verdicts
 pub mod VerdictRight
 pub mod SameProblem
 pub mod PrefixLaws
+pub mod Scan
+pub mod Sheet
 pub mod Examples
 pub mod Conditions

@@ -16,7 +16,8 @@ use Rattle.rules.specs.Readable.{CategoryIs}
 use Rattle.rules.specs.Verdict.{placeOf, Place, categoryRow, kindRow, rowsFrom, sheetOf}
 use Rattle.rules.proofs.ReadingLaws.{categoryIs-right}
 use Rattle.checker.specs.Equations.{base, back}
-use Rattle.checker.specs.Model.{placeCount, varAt, isPlace}
+use Rattle.checker.specs.Model.{isPlace}
+use Rattle.checker.specs.Built.{placeCount, placeVar}
 use Rattle.checker.proofs.VariableLaws.{base-mono, base-below}
 use Rattle.checker.proofs.EquationsLaws.{less, not-less, back-name, back-node}
 
@@ -35,12 +36,10 @@ pub place-below : (tb : Table) (p : ℕ) → Place tb p → p < placeCount tb
 place-below tb p (inl h) = omega arith
 place-below tb p (inr h) = omega (arith, h .1, h .3)
 
-pub var-name : (tb : Table) (x : ℕ) → x < length (tb .binds) → varAt tb x ≡ x
-unfolding varAt
+pub var-name : (tb : Table) (x : ℕ) → x < length (tb .binds) → placeVar tb x ≡ x
 var-name tb x h = rw (less x (length (tb .binds)) h) refl
 
-pub var-node : (tb : Table) (n : ℕ) → varAt tb (placeOf tb n) ≡ base tb n
-unfolding varAt
+pub var-node : (tb : Table) (n : ℕ) → placeVar tb (placeOf tb n) ≡ base tb n
 var-node tb n =
     let e : placeOf tb n - length (tb .binds) ≡ n = omega arith in
     rw (not-less (placeOf tb n) (length (tb .binds)) (omega arith), e) refl
@@ -49,18 +48,18 @@ name-below : (tb : Table) (k x : ℕ) → x < length (tb .binds) → x < base tb
 unfolding base
 name-below tb k x h = omega (arith, base-mono tb {n = 0} k (omega arith))
 
-pub var-below : (tb : Table) (k p : ℕ) → p < length (tb .binds) + k → varAt tb p < base tb k
-var-below tb k = each-place tb (λ p. varAt tb p < base tb k) k
+pub var-below : (tb : Table) (k p : ℕ) → p < length (tb .binds) + k → placeVar tb p < base tb k
+var-below tb k = each-place tb (λ p. placeVar tb p < base tb k) k
     (λ x h. rw (var-name tb x h) (name-below tb k x h)) (λ n h. rw (var-node tb n) (omega (arith, base-below tb h)))
 
 -- The type of a place is that of its variable.
-pub back-at : (tb : Table) (k : ℕ) (σ : ℕ → Ty) (p : ℕ) → p < length (tb .binds) + k → back tb k σ p ≡ σ (varAt tb p)
-back-at tb k σ = each-place tb (λ p. back tb k σ p ≡ σ (varAt tb p)) k
+pub back-at : (tb : Table) (k : ℕ) (σ : ℕ → Ty) (p : ℕ) → p < length (tb .binds) + k → back tb k σ p ≡ σ (placeVar tb p)
+back-at tb k σ = each-place tb (λ p. back tb k σ p ≡ σ (placeVar tb p)) k
     (λ x h. back-name tb k σ x h ∙ ap σ (sym (var-name tb x h))) (λ n h. back-node tb k σ n h ∙ ap σ (sym (var-node tb n)))
 
 pub types-at : (tb : Table) (k : ℕ) (σ θ : ℕ → Ty) → ((x : ℕ) → x < length (tb .binds) → σ x ≡ θ x) →
-    ((n : ℕ) → n < k → σ (base tb n) ≡ θ (placeOf tb n)) → (p : ℕ) → p < length (tb .binds) + k → σ (varAt tb p) ≡ θ p
-types-at tb k σ θ names nodes = each-place tb (λ p. σ (varAt tb p) ≡ θ p) k
+    ((n : ℕ) → n < k → σ (base tb n) ≡ θ (placeOf tb n)) → (p : ℕ) → p < length (tb .binds) + k → σ (placeVar tb p) ≡ θ p
+types-at tb k σ θ names nodes = each-place tb (λ p. σ (placeVar tb p) ≡ θ p) k
     (λ x h. ap σ (var-name tb x h) ∙ names x h) (λ n h. ap σ (var-node tb n) ∙ nodes n h)
 
 -- `isPlace` decides which of the table's places have a type.

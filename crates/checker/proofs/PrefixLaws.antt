@@ -15,7 +15,7 @@ use Rattle.rules.proofs.TableLaws.{binds-length, nodes-length}
 use Rattle.solver.specs.Problem.{Shape, unknown, leaf, power, product, eqn, PartsBelow}
 use Rattle.solver.specs.Arrays.{Arrays, Equations, ClassArrays, shapeAt as arrayShape, equations as arrayEquations}
 use Rattle.solver.specs.Solved.{LeafDeclared, Solved, Answer}
-use Rattle.checker.specs.Equations.{planAt, base, varOf, eqnFrom, nodeEquations, shapeAt, equations, DeclaredLeaf, back}
+use Rattle.checker.specs.Equations.{planAt, base, varOf, eqnFrom, nodeEquations, shapeAt, equations, back}
 use Rattle.checker.specs.Prefix.{Ready, Room, PrefixAnswer, Unsolvable, Typable, Untypable, Between, FirstClash}
 use Rattle.checker.proofs.RefLaws.{few-equations}
 use Rattle.checker.proofs.VariableLaws.{base-mono, base-bound}
@@ -68,12 +68,6 @@ module _ {bs : List ℕ} (r : Readable bs) {k : ℕ} (h : k ≤ nodeCount bs) wh
   pub equations-fit : length (equations (tableOf bs) k) ≤ 1024
   equations-fit = omega (arith, equations-bound (tableOf bs) k, r .header .few-nodes)
 
-leaf-declared : (G : ℕ) (s : Shape) → DeclaredLeaf G s → LeafDeclared G s
-leaf-declared G unknown h = tt
-leaf-declared G (leaf a) h = h
-leaf-declared G (power v) h = tt
-leaf-declared G (product v w) h = tt
-
 -- What the answers say of the table's typings.
 module _ {bs : List ℕ} (r : Readable bs) {k : ℕ} (h : k ≤ nodeCount bs) where
   pub solved→typable : {cls mark : List ℕ} → Solved (shapeAt (tableOf bs)) (base (tableOf bs) k) (equations (tableOf bs) k) cls mark →
@@ -83,7 +77,7 @@ module _ {bs : List ℕ} (r : Readable bs) {k : ℕ} (h : k ≤ nodeCount bs) wh
       let wf = well-formed (tableOf bs) (r .records .fields) k (node-in r h) in (
         back (tableOf bs) k (q .first),
         solves→typing (tableOf bs) (r .records .fields) k (node-in r h) (q .first) (q .first-solves)
-            (λ v l. q .declared G (λ w g. leaf-declared G (shapeAt (tableOf bs) w) (wf .leaves w g)) v .0),
+            (λ v l. q .declared G (wf .leaves) v .0),
       )
 
   pub unsolvable→untypable : Unsolvable (tableOf bs) k → Untypable (tableOf bs) k

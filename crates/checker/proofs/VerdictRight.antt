@@ -19,7 +19,8 @@ use Rattle.rules.proofs.TableLaws.{nodes-length}
 use Rattle.solver.specs.Problem.{Shape}
 use Rattle.solver.proofs.ModelLaws.{Answers, modelSolve-right, typeFrom-is}
 use Rattle.checker.specs.Equations.{base, shapes, shapeAt, equations, RightNodes}
-use Rattle.checker.specs.Model.{placeCount, varAt, isPlace, solveBelow, isSome, solvable}
+use Rattle.checker.specs.Model.{isPlace, solveBelow, isSome, solvable}
+use Rattle.checker.specs.Built.{placeCount, placeVar}
 use Rattle.checker.specs.Model.{settled, types, light, typed, checked, verdict}
 use Rattle.checker.proofs.ProblemLaws.{well-formed}
 use Rattle.checker.proofs.Places.{place-below, var-below, isPlace-place, place-isPlace}
@@ -58,49 +59,49 @@ solveBelow-right tb right k h =
 
 -- A place that has a type is marked ground where it passes the test, and is not where it fails.
 module _ (tb : Table) (mark : List ℕ) (p : ℕ) (w : Place tb p) where
-  settled-true : settled tb mark p ≡ true → 2 ≤ getD mark (varAt tb p) 1
+  settled-true : settled tb mark p ≡ true → 2 ≤ getD mark (placeVar tb p) 1
   unfolding settled
-  settled-true h = leb→le 2 (getD mark (varAt tb p) 1) (passes (isPlace tb p) _ h (place-isPlace tb p w))
+  settled-true h = leb→le 2 (getD mark (placeVar tb p) 1) (passes (isPlace tb p) _ h (place-isPlace tb p w))
 
-  settled-false : settled tb mark p ≡ false → getD mark (varAt tb p) 1 < 2
+  settled-false : settled tb mark p ≡ false → getD mark (placeVar tb p) 1 < 2
   unfolding settled
-  settled-false h = go (decLt (getD mark (varAt tb p) 1) 2)
+  settled-false h = go (decLt (getD mark (placeVar tb p) 1) 2)
     where
-      go : Dec (getD mark (varAt tb p) 1 < 2) → getD mark (varAt tb p) 1 < 2
+      go : Dec (getD mark (placeVar tb p) 1 < 2) → getD mark (placeVar tb p) 1 < 2
       go (yes l) = l
-      go (no f) = absurd (fails (isPlace tb p) _ h .1 (le→leb 2 (getD mark (varAt tb p) 1) (omega arith)))
+      go (no f) = absurd (fails (isPlace tb p) _ h .1 (le→leb 2 (getD mark (placeVar tb p) 1) (omega arith)))
 
 -- The types of the table's places, from classes and marks that are solved.
 module _ (tb : Table) (right : RightNodes tb) (cls mark : List ℕ) (s : SolvedBelow tb (length (tb .nodes)) cls mark)
     (p : ℕ) (w : Place tb p) where
   -- They are those of the solutions where one of the two is not too heavy.
-  types-are : 2 ≤ getD mark (varAt tb p) 1 →
-      min (weightᵀ (types (shapeAt tb) tb cls p)) (weightᵀ (s .first (varAt tb p))) ≤ typeLimit →
-      types (shapeAt tb) tb cls p ≡ s .first (varAt tb p)
+  types-are : 2 ≤ getD mark (placeVar tb p) 1 →
+      min (weightᵀ (types (shapeAt tb) tb cls p)) (weightᵀ (s .first (placeVar tb p))) ≤ typeLimit →
+      types (shapeAt tb) tb cls p ≡ s .first (placeVar tb p)
   unfolding types
   types-are g h =
       let n = length (tb .nodes) in
       typeFrom-is (shapeAt tb) (base tb n) cls mark (s .first) (well-formed tb right n (omega arith) .parts) (s .bound) (s .grounded)
-      (s .classes (s .first) (s .first-solves)) typeLimit (varAt tb p) (var-below tb n p (place-below tb p w)) g h
+      (s .classes (s .first) (s .first-solves)) typeLimit (placeVar tb p) (var-below tb n p (place-below tb p w)) g h
 
-  light-true : 2 ≤ getD mark (varAt tb p) 1 → light tb (types (shapeAt tb) tb cls) p ≡ true →
-      (types (shapeAt tb) tb cls p ≡ s .first (varAt tb p)) × (weightᵀ (s .first (varAt tb p)) ≤ typeLimit)
+  light-true : 2 ≤ getD mark (placeVar tb p) 1 → light tb (types (shapeAt tb) tb cls) p ≡ true →
+      (types (shapeAt tb) tb cls p ≡ s .first (placeVar tb p)) × (weightᵀ (s .first (placeVar tb p)) ≤ typeLimit)
   unfolding light
   light-true g h =
       let l = leb→le (weightᵀ (types (shapeAt tb) tb cls p)) typeLimit (passes (isPlace tb p) _ h (place-isPlace tb p w)) in
       let e = types-are g (omega arith) in
       (e, rw e at l)
 
-  light-false : 2 ≤ getD mark (varAt tb p) 1 → light tb (types (shapeAt tb) tb cls) p ≡ false →
-      typeLimit < weightᵀ (s .first (varAt tb p))
+  light-false : 2 ≤ getD mark (placeVar tb p) 1 → light tb (types (shapeAt tb) tb cls) p ≡ false →
+      typeLimit < weightᵀ (s .first (placeVar tb p))
   unfolding light
-  light-false g h = go (decLt typeLimit (weightᵀ (s .first (varAt tb p))))
+  light-false g h = go (decLt typeLimit (weightᵀ (s .first (placeVar tb p))))
     where
-      go : Dec (typeLimit < weightᵀ (s .first (varAt tb p))) → typeLimit < weightᵀ (s .first (varAt tb p))
+      go : Dec (typeLimit < weightᵀ (s .first (placeVar tb p))) → typeLimit < weightᵀ (s .first (placeVar tb p))
       go (yes l) = l
       go (no f) =
           let e = types-are g (omega arith) in
-          absurd (fails (isPlace tb p) _ h .1 (rw e (le→leb (weightᵀ (s .first (varAt tb p))) typeLimit (omega arith))))
+          absurd (fails (isPlace tb p) _ h .1 (rw e (le→leb (weightᵀ (s .first (placeVar tb p))) typeLimit (omega arith))))
 
 -- A place that fails a test has a type.
 settled-place : (tb : Table) (mark : List ℕ) (p : ℕ) → p < placeCount tb → settled tb mark p ≡ false → Place tb p

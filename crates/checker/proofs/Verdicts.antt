@@ -15,7 +15,7 @@ use Rattle.rules.proofs.ReadingLaws.{reading-table, reading-readable}
 use Rattle.solver.specs.Problem.{Solves}
 use Rattle.solver.specs.Solved.{Solved}
 use Rattle.checker.specs.Equations.{base, shapeAt, equations, RightNodes, back}
-use Rattle.checker.specs.Model.{placeCount, varAt}
+use Rattle.checker.specs.Built.{placeCount, placeVar}
 use Rattle.checker.proofs.ProblemLaws.{well-formed}
 use Rattle.checker.proofs.EquationsLaws.{typing→solves, solves→typing}
 use Rattle.checker.proofs.Places.{place-below, var-below, back-at, types-at, sheet-same}
@@ -34,7 +34,7 @@ SolvedBelow tb k cls mark = Solved (shapeAt tb) (base tb k) (equations tb k) cls
 
 -- Each place that has a type is marked ground.
 abbrev pub GroundPlaces : Table → List ℕ → Type 0
-GroundPlaces tb mark = (p : ℕ) → Place tb p → 2 ≤ getD mark (varAt tb p) 1
+GroundPlaces tb mark = (p : ℕ) → Place tb p → 2 ≤ getD mark (placeVar tb p) 1
 
 module _ (tb : Table) (right : RightNodes tb) (k : ℕ) (h : k ≤ length (tb .nodes)) where
   -- No solution, no typing.
@@ -43,7 +43,7 @@ module _ (tb : Table) (right : RightNodes tb) (k : ℕ) (h : k ≤ length (tb .n
 
   -- A solution at the places of the nodes below k, from a typing.
   pub typing-solution : (κ : ℕ → Ty) → Typing tb k κ →
-      (σ : ℕ → Ty) × SolvesBelow tb k σ × ((p : ℕ) → p < length (tb .binds) + k → σ (varAt tb p) ≡ κ p)
+      (σ : ℕ → Ty) × SolvesBelow tb k σ × ((p : ℕ) → p < length (tb .binds) + k → σ (placeVar tb p) ≡ κ p)
   typing-solution κ t =
       let r = typing→solves tb right κ k h t in (r .0, r .1, types-at tb k (r .0) κ (r .2) (r .3))
 
@@ -66,7 +66,7 @@ typing-none tb = record { declared = λ p w. tt; obeyed = λ n l. absurd (omega 
 abbrev pub backWhole : Table → (ℕ → Ty) → ℕ → Ty
 backWhole tb σ = back tb (length (tb .nodes)) σ
 
-pub back-place : (tb : Table) (σ : ℕ → Ty) (p : ℕ) → Place tb p → backWhole tb σ p ≡ σ (varAt tb p)
+pub back-place : (tb : Table) (σ : ℕ → Ty) (p : ℕ) → Place tb p → backWhole tb σ p ≡ σ (placeVar tb p)
 back-place tb σ p w = back-at tb (length (tb .nodes)) σ p (place-below tb p w)
 
 module _ (tb : Table) (right : RightNodes tb) (cls mark : List ℕ) (s : SolvedBelow tb (length (tb .nodes)) cls mark) where
@@ -74,12 +74,12 @@ module _ (tb : Table) (right : RightNodes tb) (cls mark : List ℕ) (s : SolvedB
   n = length (tb .nodes)
 
   -- Two typings are the same at a place that is marked ground.
-  pub ground-agrees : (p : ℕ) → Place tb p → 2 ≤ getD mark (varAt tb p) 1 → AgreeAt tb p
+  pub ground-agrees : (p : ℕ) → Place tb p → 2 ≤ getD mark (placeVar tb p) 1 → AgreeAt tb p
   ground-agrees p w g θ κ t u =
       let l : p < placeCount tb = place-below tb p w in
       let x = typing-solution tb right n (omega arith) θ t in
       let y = typing-solution tb right n (omega arith) κ u in
-      sym (x .2 p l) ∙ s .ground (varAt tb p) (var-below tb n p l) g (x .0) (y .0) (x .1) (y .1) ∙ y .2 p l
+      sym (x .2 p l) ∙ s .ground (placeVar tb p) (var-below tb n p l) g (x .0) (y .0) (x .1) (y .1) ∙ y .2 p l
 
   -- Where each place is marked ground, the first solution gives the only typing.
   pub only-first : GroundPlaces tb mark → Only tb (backWhole tb (s .first))
@@ -102,27 +102,27 @@ module _ {bs : List ℕ} {room : ℕ} {tb : Table} (e : reading bs ≡ done tb) 
 
   module _ (cls mark : List ℕ) (s : SolvedBelow tb (length (tb .nodes)) cls mark) where
     -- 12 at p: the least place that is not marked ground.
-    pub several-verdict : (p : ℕ) → Place tb p → getD mark (varAt tb p) 1 < 2 →
-        ((q : ℕ) → q < p → Place tb q → 2 ≤ getD mark (varAt tb q) 1) → Verdict bs room (refused 12 p)
+    pub several-verdict : (p : ℕ) → Place tb p → getD mark (placeVar tb p) 1 < 2 →
+        ((q : ℕ) → q < p → Place tb q → 2 ≤ getD mark (placeVar tb q) 1) → Verdict bs room (refused 12 p)
     several-verdict p w few below =
         let n = length (tb .nodes) in
         let right = right-nodes bs tb e in
         several e fits w (first-typing tb right n (omega arith) cls mark s) (second-typing tb right n (omega arith) cls mark s)
-        (λ same. s .differ (varAt tb p) (var-below tb n p (place-below tb p w)) few
+        (λ same. s .differ (placeVar tb p) (var-below tb n p (place-below tb p w)) few
         (sym (back-place tb (s .first) p w) ∙ same ∙ back-place tb (s .second) p w))
         (λ q h v. ground-agrees tb right cls mark s q v (below q h v))
 
     module _ (g : GroundPlaces tb mark) where
       -- 13 at p: the least place whose type is too heavy.
-      pub heavy-verdict : (p : ℕ) → Place tb p → typeLimit < weightᵀ (s .first (varAt tb p)) →
-          ((q : ℕ) → q < p → Place tb q → weightᵀ (s .first (varAt tb q)) ≤ typeLimit) → Verdict bs room (refused 13 p)
+      pub heavy-verdict : (p : ℕ) → Place tb p → typeLimit < weightᵀ (s .first (placeVar tb p)) →
+          ((q : ℕ) → q < p → Place tb q → weightᵀ (s .first (placeVar tb q)) ≤ typeLimit) → Verdict bs room (refused 13 p)
       heavy-verdict p w much below =
           heavy e fits w (only-first tb (right-nodes bs tb e) cls mark s g) (rw (back-place tb (s .first) p w) much)
           (λ q h v. rw (back-place tb (s .first) q v) (below q h v))
 
       -- Accepted: the sheet holds the types of the places.
-      pub accepts-verdict : ((p : ℕ) → Place tb p → weightᵀ (s .first (varAt tb p)) ≤ typeLimit) →
-          (θ : ℕ → Ty) → ((p : ℕ) → Place tb p → θ p ≡ s .first (varAt tb p)) → Verdict bs room (done (sheetOf tb θ))
+      pub accepts-verdict : ((p : ℕ) → Place tb p → weightᵀ (s .first (placeVar tb p)) ≤ typeLimit) →
+          (θ : ℕ → Ty) → ((p : ℕ) → Place tb p → θ p ≡ s .first (placeVar tb p)) → Verdict bs room (done (sheetOf tb θ))
       accepts-verdict light θ same =
           rw (sheet-same tb θ (backWhole tb (s .first)) (λ p w. same p w ∙ sym (back-place tb (s .first) p w)))
           (accepts e fits (only-first tb (right-nodes bs tb e) cls mark s g)

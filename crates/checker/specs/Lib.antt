@@ -3,4 +3,5 @@ pub mod Plan
 pub mod Equations
 pub mod Built
 pub mod Prefix
+pub mod Rows
 pub mod Model

@@ -1,7 +1,7 @@
 -- Check's answer as a function: refusals 1 to 13 in order, or the sheet. `verdict-right` in proofs/VerdictRight.antt says
 -- that it is the answer that document 01 describes.
-use Prim.Native.Nat.{ℕ, suc, _+_, _-_}
-use mathlib.Core.Bool.{Bool, true, false, not, _||_, cond}
+use Prim.Native.Nat.{ℕ, suc, _-_}
+use mathlib.Core.Bool.{Bool, true, false, not, _||_}
 use mathlib.Core.List.{List}
 use mathlib.Core.Option.{Option, none as nothing, some}
 use lib.Dec.{eqb, leb, ltb}
@@ -15,15 +15,7 @@ use Rattle.rules.specs.Verdict.{typeLimit, sheetOf, sheetLength}
 use Rattle.solver.specs.Problem.{Shape, unknown}
 use Rattle.solver.specs.Model.{modelSolve, typeFrom}
 use Rattle.checker.specs.Equations.{base, shapes, equations}
-
--- The number of places: identifiers and nodes.
-abbrev pub placeCount : Table → ℕ
-placeCount tb = length (tb .binds) + length (tb .nodes)
-
--- The variable of a place.
-unfoldable pub varAt : Table → ℕ → ℕ
-unfolding base
-varAt tb p = cond (ltb p (length (tb .binds))) p (base tb (p - length (tb .binds)))
+use Rattle.checker.specs.Built.{placeCount, placeVar}
 
 -- Whether a place has a type: a node that is a predicate has none.
 unfoldable pub isPlace : Table → ℕ → Bool
@@ -46,13 +38,13 @@ solvable sh tb k = isSome (solveBelow sh tb k)
 
 -- 12: all typings are the same at p.
 unfoldable pub settled : Table → List ℕ → ℕ → Bool
-unfolding isPlace varAt
-settled tb mark p = not (isPlace tb p) || leb 2 (getD mark (varAt tb p) 1)
+unfolding isPlace base
+settled tb mark p = not (isPlace tb p) || leb 2 (getD mark (placeVar tb p) 1)
 
 -- The types of the places, where they weigh no more than a type may.
 unfoldable pub types : (ℕ → Shape) → Table → List ℕ → ℕ → Ty
-unfolding typeFrom varAt
-types sh tb cls p = typeFrom sh cls typeLimit (varAt tb p)
+unfolding typeFrom base
+types sh tb cls p = typeFrom sh cls typeLimit (placeVar tb p)
 
 -- 13: the type at p weighs no more than a type may.
 unfoldable pub light : Table → (ℕ → Ty) → ℕ → Bool
