@@ -17,12 +17,14 @@ use Rattle.rules.specs.Tables.{Table, tableOf, nodeAt, kindAt, identifierCount,
 use Rattle.rules.specs.Readable.{CategoryIs}
 use Rattle.rules.specs.Verdict.{Place}
 use Rattle.rules.proofs.TableLaws.{binds-length, nodes-length}
+use Rattle.table.specs.Layout.{Laid}
 use Rattle.table.specs.Codes.{codeOf, categoryCode}
 use Rattle.solver.specs.Problem.{Shape}
+use Rattle.solver.specs.Solved.{ClassesMatch, Grounded}
 use Rattle.solver.specs.Rows.{roomAfter, Weighed}
 use Rattle.solver.proofs.Stack.{any-default}
 use Rattle.checker.specs.Equations.{base}
-use Rattle.checker.specs.Built.{placeVar, placeCount, LeastPlace, GroundAt}
+use Rattle.checker.specs.Built.{Built, placeVar, placeCount, LeastPlace, GroundAt}
 use Rattle.checker.specs.Rows.{varAt, Placed, PlaceIn, Typed, FailsAt, Determines, LightAt}
 use Rattle.checker.proofs.VariableLaws.{base-mono, base-below}
 
@@ -169,3 +171,24 @@ module _ (tb : Table) (P : ℕ → Type 0) where
 
   pub scan-end : (p : ℕ) → p ≤ placeCount tb → placeCount tb ≤ p → HoldsBelow p → LeastPlace tb P p
   scan-end p h l w = record { inside = omega arith; below = w; here = λ g. absurd (omega arith) }
+
+-- Where the scan ends at the number of places, P holds at each.
+pub all-places : (tb : Table) (P : ℕ → Type 0) (p : ℕ) → LeastPlace tb P p → p ≡ placeCount tb → (q : ℕ) → Place tb q → P q
+all-places tb P p l e q w = l .below q (under w) w
+  where
+    under : Place tb q → q < p
+    under (inl h) = omega arith
+    under (inr (n, h, t, f)) = omega arith
+
+-- So the types of all places are determined where the scan for an open one found none.
+pub all-determined : (tb : Table) (sh : ℕ → Shape) (n : ℕ) (cls mark : List ℕ) (p : ℕ) → LeastPlace tb (GroundAt tb mark) p →
+    p ≡ placeCount tb → Grounded sh n cls mark → (σ : ℕ → Ty) → ClassesMatch sh n cls σ → Determines tb sh n cls σ
+all-determined tb sh n cls mark p l e g σ m = λ q w.
+    record { mark = mark; grounded = g; ground = all-places tb (GroundAt tb mark) p l e q w; matches = m }
+
+-- What the arrays of a whole table hold is what the scans take for granted.
+pub placed : (bs : List ℕ) (at : ℕ) (kind left right lhs rhs bases counts : List ℕ) (n : ℕ) → Laid bs at →
+    Built (tableOf bs) (length (tableOf bs .nodes)) kind left right lhs rhs bases counts → length (tableOf bs .nodes) ≤ length bases →
+    n ≡ base (tableOf bs) (length (tableOf bs .nodes)) → Placed bs at bases n
+placed bs at kind left right lhs rhs bases counts n l b h e =
+    record { laid = l; long = h; bases-are = b .bases-are; covers = omega arith }

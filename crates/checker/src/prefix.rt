@@ -1,4 +1,4 @@
-// Solves the problem of the nodes below k, and finds the first node that leaves none with a typing.
+// Decides the problem of the nodes below k, and finds the first node whose rule leaves no typing (refusal 11).
 ghost use mathlib.Core.Path.{_≡_};
 ghost use Prim.Native.Nat.{_≤_};
 ghost use Rattle.rules.specs.Tables.{tableOf, nodeCount};
@@ -46,8 +46,8 @@ pub fn solve_prefix(
     )
 }
 
-// The first node that leaves no typing, where the nodes below n have none: bisection keeps a typing of the nodes below lo
-// and none of those below hi.
+// The first node whose rule leaves no typing, where the nodes below n have none. The nodes below lo always have a typing,
+// those below hi none.
 pub fn first_clash(
     table: &[u8],
     kind: &[u8],
