@@ -18,17 +18,20 @@ use Rattle.checker.specs.Plan.{Ref, self, first, second, name, slot, For
 use Rattle.checker.specs.Plan.{MatchesForm, MatchesSlots, HoldsRefs, Meets}
 use Rattle.checker.specs.Equations.{planOf}
 
--- A plan has at most 5 slots.
-pub few-slots : (o : Option Kind) (a : ℕ) → length (planOf o a .slots) ≤ 5
-few-slots nothing a = omega arith
-few-slots (some k) a = go k
+-- A plan has at most 5 slots and 2 equations.
+abbrev Few : Plan → Type 0
+Few p = (length (p .slots) ≤ 5) × (length (p .equations) ≤ 2)
+
+few : (o : Option Kind) (a : ℕ) → Few (planOf o a)
+few nothing a = omega arith
+few (some k) a = go k
   where
-    tests : (j : Test) → length (plan (test j) a .slots) ≤ 5
+    tests : (j : Test) → Few (plan (test j) a)
     tests equal = omega arith
     tests member = omega arith
     tests subset = omega arith
     tests (atMost n) = omega arith
-    leaves : (j : Leaf) → length (plan (leaf j) a .slots) ≤ 5
+    leaves : (j : Leaf) → Few (plan (leaf j) a)
     leaves identifier = omega arith
     leaves givenSet = omega arith
     leaves elementOf = omega arith
@@ -36,14 +39,14 @@ few-slots (some k) a = go k
     leaves truthConst = omega arith
     leaves emptySet = omega arith
     leaves boolSet = omega arith
-    ones : (j : One) → length (plan (one j) a .slots) ≤ 5
+    ones : (j : One) → Few (plan (one j) a)
     ones singleton = omega arith
     ones power = omega arith
     ones dom = omega arith
     ones ran = omega arith
     ones card = omega arith
     ones choice = omega arith
-    twos : (j : Two) → length (plan (two j) a .slots) ≤ 5
+    twos : (j : Two) → Few (plan (two j) a)
     twos pairing = omega arith
     twos union = omega arith
     twos inter = omega arith
@@ -53,7 +56,7 @@ few-slots (some k) a = go k
     twos (plus n) = omega arith
     twos (minus n) = omega arith
     twos interval = omega arith
-    go : (k : Kind) → length (plan k a .slots) ≤ 5
+    go : (k : Kind) → Few (plan k a)
     go (join j) = omega arith
     go negation = omega arith
     go (test j) = tests j
@@ -63,6 +66,12 @@ few-slots (some k) a = go k
     go (one j) = ones j
     go (two j) = twos j
     go comprehension = omega arith
+
+pub few-slots : (o : Option Kind) (a : ℕ) → length (planOf o a .slots) ≤ 5
+few-slots o a = few o a .0
+
+pub few-equations : (o : Option Kind) (a : ℕ) → length (planOf o a .equations) ≤ 2
+few-equations o a = few o a .1
 
 -- What a plan of node n, whose record is d, may speak of: children below n, the table's identifiers and given sets, and m slots.
 module _ (tb : Table) (n : ℕ) (d : Node) (m : ℕ) where
