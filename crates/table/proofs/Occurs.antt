@@ -86,6 +86,7 @@ child-field (suc zero) lo hi = refl
 child-field (suc (suc zero)) lo hi = refl
 child-field (suc (suc (suc c))) lo hi = absurd (omega arith)
 
+-- A field with the code of a child holds a word below 512.
 pub child-inside : (bs : List ℕ) (at n i c y m : ℕ) → FieldIn bs at n i → 1 ≤ c → c ≤ 2 →
     fieldOf c ≡ getD (fieldsAt (nodeAt (tableOf bs .nodes) n)) i unused → y ≡ fieldAt bs n i → m ≡ 512 → y < m
 child-inside bs at n i c y m f lo hi code word long =

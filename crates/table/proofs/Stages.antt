@@ -18,9 +18,9 @@ use Rattle.table.specs.declared.Reading.the-variants.{Refused}
 use Rattle.table.specs.Answers.{readingOf, foundOr, readingRecords}
 use Rattle.table.specs.Layout.{Fielded}
 
-found-lt : (ok : ℕ → Bool) (n p : ℕ) (o : Option ℕ) → p ≡ foundOr n o → p < n → o ≡ some p
-found-lt ok n p nothing e h = absurd (omega arith)
-found-lt ok n p (some q) e h = ap some (sym e)
+found-lt : (n p : ℕ) (o : Option ℕ) → p ≡ foundOr n o → p < n → o ≡ some p
+found-lt n p nothing e h = absurd (omega arith)
+found-lt n p (some q) e h = ap some (sym e)
 
 found-none : (ok : ℕ → Bool) (n p : ℕ) (o : Option ℕ) → Sought ok 0 n o → p ≡ foundOr n o → n ≤ p → o ≡ nothing
 found-none ok n p nothing s e h = refl
@@ -31,7 +31,7 @@ module _ (k : ℕ) (ok : ℕ → Bool) (n m p : ℕ) (found : p ≡ foundOr n (l
   pub stage-refused : (bs : List ℕ) (r : Reading) (rest : Unit {0} → End Table) → r ≡ Refused (record { number = k; place = p }) → p < m →
       readingOf bs r ≡ (requireAll k ok n >>= rest)
   unfolding requireAll
-  stage-refused bs r rest e h = rw (e, found-lt ok n p (leastFailing ok 0 n) found (omega arith))
+  stage-refused bs r rest e h = rw (e, found-lt n p (leastFailing ok 0 n) found (omega arith))
 
   pub all-pass : m ≤ p → requireAll k ok n ≡ done tt
   unfolding requireAll
