@@ -4,3 +4,5 @@ pub mod VariableLaws
 pub mod ProblemLaws
 pub mod EquationsLaws
 pub mod Examples
+pub mod CodeLaws
+pub mod EntryLaws

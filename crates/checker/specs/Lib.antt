@@ -1,4 +1,6 @@
 -- How the typing rules of a table become a problem of unification.
 pub mod Plan
 pub mod Equations
+pub mod Codes
+pub mod Entries
 pub mod Built

@@ -1,1 +1,2 @@
 // Decides whether a table's condition is well typed, and writes its types.
+mod build;
