@@ -9,8 +9,10 @@ use lib.Seq.{getD-append-add}
 use Rattle.rules.specs.Kinds.{Kind, kinds, kindOf}
 use Rattle.rules.specs.Types.{number, bool, given}
 use Rattle.checker.specs.Plan.{Form, openᶠ, atomᶠ, powᶠ, prodᶠ, Plan}
-use Rattle.checker.specs.Codes.{formKind, formLeft, formRight, formsOf, formAt, digits, CodeOf}
+use Rattle.checker.specs.Codes.{refCode, formKind, formLeft, formRight, formsOf, formAt, pairAt, digits, CodeOf}
 use Rattle.checker.specs.Equations.{planOf}
+use Rattle.checker.specs.Entries.{side}
+use Rattle.checker.proofs.RefLaws.{few-slots}
 
 -- The table's bytes.
 abbrev pub bytes : List ℕ
@@ -151,3 +153,16 @@ module _ (p : Plan) where
   form-digits (suc (suc (suc (suc zero)))) h = (refl, refl, refl)
   form-digits (suc (suc (suc (suc (suc zero))))) h = (refl, refl, refl)
   form-digits (suc (suc (suc (suc (suc (suc j)))))) h = absurd (omega arith)
+
+  pub side-digits : (i : ℕ) → i < 2 →
+      (getD (digits p) (20 + i) 0 ≡ refCode (side i (pairAt p 0))) × (getD (digits p) (22 + i) 0 ≡ refCode (side i (pairAt p 1)))
+  unfolding digits
+  side-digits zero h = (refl, refl)
+  side-digits (suc zero) h = (refl, refl)
+  side-digits (suc (suc i)) h = absurd (omega arith)
+
+pub slots-few : (k c : ℕ) → CodeOf k 0 c → c ≤ 5
+slots-few k c e = omega (arith, e 0, slots-digit (planOf (kindOf k) 0), few-slots (kindOf k) 0)
+
+pub equations-few : (k c : ℕ) → CodeOf k 19 c → c ≤ 2
+equations-few k c e = omega (arith, e 0, equations-digit (planOf (kindOf k) 0), few-equations k 0)

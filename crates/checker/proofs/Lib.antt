@@ -6,3 +6,5 @@ pub mod EquationsLaws
 pub mod Examples
 pub mod CodeLaws
 pub mod EntryLaws
+pub mod NodeLaws
+pub mod BuildLaws
