@@ -233,7 +233,7 @@ fn add_equations(
 }
 
 // Nothing is known of the first m variables.
-fn open(kind: &mut [u8], m: usize)
+fn open_names(kind: &mut [u8], m: usize)
     requires { ⌜ m ≤ length (now kind) ⌝ }
     ensures { λ _. ⌜ ((v : ℕ) → v < m → getD (now (kind .exit)) v 0 ≡ 0) ⌝ }
 {
@@ -257,7 +257,7 @@ fn variables(
     ensures { λ _. ⌜ VariablesTo (tableOf (now (table .entry))) (nodeCount (now (table .entry))) (now (kind .exit)) (now (left .exit)) (now (right .exit)) (now (bases .exit)) ⌝ }
 {
     let names = table::identifiers(table);
-    open(kind, names);
+    open_names(kind, names);
     bases[0] = names as u16;
     let count = table::nodes(table);
     let mut n: usize = 0;

@@ -29,7 +29,7 @@ loop-holds c =
     let room = c .before .before .before .before .before .before .pre .1 in
     (omega arith,
     record { lhs-length = room .lhs-length; rhs-length = room .rhs-length; counts-length = simp length-set (room .counts-length) },
-    equations-start _ _ _ _ (getD-set-same _ 0 0 0 (omega (arith, room .counts-length))))
+    equations-start _ _ _ _ (getD-set-same (now (c .before .before .before .before .before .before .args .counts)) 0 0 0 (omega (arith, room .counts-length))))
 
 add-equations-requires : tie.Need-add-equations-requires Inv-loop μ-loop
 add-equations-requires c κs =

@@ -4,8 +4,8 @@ use native.Mathlib.Omega.{arith}
 use lib.ListN.{length, getD}
 use borrow.Author.Needs.{needs}
 use Rattle.checker.proofs.NodeLaws.{open-turn}
-use Rattle.checker.proofs.build.open.Statement.{statement}
-use Rattle.checker.proofs.build.open.Tie as tie
+use Rattle.checker.proofs.build.open_names.Statement.{statement}
+use Rattle.checker.proofs.build.open_names.Tie as tie
 
 abbrev Inv-loop : tie.InvT-loop
 Inv-loop kind₀ m v₀ kind v = (v ≤ m) × (length kind ≡ length kind₀) × ((u : ℕ) → u < v → getD kind u 0 ≡ 0)
@@ -34,8 +34,8 @@ same-length c = search needs
 returns : tie.Need-returns Inv-loop μ-loop
 returns c = λ u h. c .before .loop .inv .2 u (omega arith)
 
-pub open-spec : {M : Type 1} → statement M
-open-spec =
+pub open-names-spec : {M : Type 1} → statement M
+open-names-spec =
     tie.close
     (tie.spec
     Inv-loop
