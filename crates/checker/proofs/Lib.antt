@@ -1,8 +1,13 @@
+-- Laws of the problem of a table, of its solutions and of Check's answer.
 pub mod PlanLaws
 pub mod RefLaws
 pub mod VariableLaws
 pub mod ProblemLaws
 pub mod EquationsLaws
+pub mod CodeLaws
+pub mod EntryLaws
+pub mod NodeLaws
+pub mod BuildLaws
 pub mod Places
 pub mod Verdicts
 pub mod VerdictRight

@@ -143,7 +143,7 @@ module _ (tb : Table) (n : ℕ) (d : Node) (m : ℕ) where
   leaf-declared v (powᶠ r) w = tt
   leaf-declared v (prodᶠ r s) w = tt
 
-  form-at : (fs : List Form) → FormsRight tb n d m fs → (j : ℕ) → j < length fs → FormRight tb n d m (getD fs j openᶠ)
+  pub form-at : (fs : List Form) → FormsRight tb n d m fs → (j : ℕ) → j < length fs → FormRight tb n d m (getD fs j openᶠ)
   form-at [] w j l = tt
   form-at (f ∷ fs) w zero l = w .0
   form-at (f ∷ fs) w (suc j) l = form-at fs (w .1) j (omega arith)

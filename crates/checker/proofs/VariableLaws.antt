@@ -64,7 +64,7 @@ shape-name tb {x} h =
 at-end : (xs ys : List Shape) (b i : ℕ) → length xs ≡ b → getD (xs ++ ys) (b + i) unknown ≡ getD ys i unknown
 at-end xs ys b i e = rw (← e) (getD-append-add xs ys i unknown)
 
-shape-node : (tb : Table) {n : ℕ} → n < length (tb .nodes) → (i : ℕ) → i < suc (slotCount tb n) →
+pub shape-node : (tb : Table) {n : ℕ} → n < length (tb .nodes) → (i : ℕ) → i < suc (slotCount tb n) →
     shapeAt tb (base tb n + i) ≡ getD (nodeShapes tb n) i unknown
 unfolding shapeAt shapes
 shape-node tb {n} h i l =

@@ -1,3 +1,89 @@
 // Decides whether a table's condition is well typed, and writes its types.
-pub mod prefix;
-pub mod rows;
+mod build;
+mod prefix;
+mod rows;
+
+use table::Reading;
+use table::Refusal;
+ghost use mathlib.Core.Path.{_≡_};
+ghost use lib.ListN.{length};
+ghost use Rattle.rules.specs.Verdict.{sheetAfter, sheetLength};
+ghost use Rattle.rules.specs.Tables.{tableOf};
+ghost use Rattle.checker.specs.Model.{verdict};
+ghost use Rattle.checker.specs.Answers.{answerOf, answered, Told};
+
+pub enum Checked {
+    Accepted,
+    Refused(Refusal),
+}
+
+fn refused(number: u8, place: usize) -> Checked
+    ensures { λ r. ⌜ r ≡ Checked.Refused (record { number = number; place = place }) ⌝ }
+{
+    Checked::Refused(Refusal { number, place })
+}
+
+// Refusals 12 and 13, or the rows, from the solved problem.
+fn answer(
+    table: &[u8],
+    at: usize,
+    bases: &[u16],
+    kind: &[u8],
+    left: &[u16],
+    right: &[u16],
+    cls: &[u16],
+    mark: &[u8],
+    sheet: &mut [u8],
+) -> Checked {
+    let places = table::identifiers(table) + table::nodes(table);
+    let p = rows::first_open(table, at, bases, mark);
+    if p < places {
+        return refused(12, p);
+    }
+    let q = rows::first_heavy(table, at, bases, kind, left, right, cls);
+    if q < places {
+        return refused(13, q);
+    }
+    rows::write_rows(table, at, bases, kind, left, right, cls, sheet);
+    Checked::Accepted
+}
+
+// Refusals 11 to 13, or the rows, of a readable table with a sheet of the right length.
+fn check_types(table: &[u8], sheet: &mut [u8]) -> Checked {
+    let at = table::nodes_offset(table);
+    let n = table::nodes(table);
+    let mut kind = [0u8; 3104];
+    let mut left = [0u16; 3104];
+    let mut right = [0u16; 3104];
+    let mut lhs = [0u16; 1024];
+    let mut rhs = [0u16; 1024];
+    let mut bases = [0u16; 513];
+    let mut counts = [0u16; 513];
+    build::build(table, at, &mut kind, &mut left, &mut right, &mut lhs, &mut rhs, &mut bases, &mut counts);
+    let mut cls = [0u16; 3104];
+    let mut ls = [0u16; 9315];
+    let mut rs = [0u16; 9315];
+    let mut mark = [0u8; 3104];
+    let ok = prefix::solve_prefix(table, &kind, &left, &right, &lhs, &rhs, &bases, &counts, &mut cls, &mut ls, &mut rs, &mut mark, n);
+    if !ok {
+        let k = prefix::first_clash(table, &kind, &left, &right, &lhs, &rhs, &bases, &counts, &mut cls, &mut ls, &mut rs, &mut mark, n);
+        return refused(11, k);
+    }
+    let v = bases[n] as usize;
+    answer(table, at, &bases, &kind[..v], &left[..v], &right[..v], &cls[..v], &mark[..v], sheet)
+}
+
+// Check: refusals 1 to 13 in order, or the rows of the only typing.
+pub fn check(table: &[u8], sheet: &mut [u8]) -> Checked
+    ensures { λ r. ⌜ (answerOf r ≡ answered (verdict (now (table .entry)) (length (now (sheet .entry))))) × (now (sheet .exit) ≡ sheetAfter (verdict (now (table .entry)) (length (now (sheet .entry)))) (now (sheet .entry))) ⌝ }
+{
+    let reading = table::read(table);
+    if let Reading::Refused(r) = reading {
+        return Checked::Refused(r);
+    }
+    let places = table::identifiers(table) + table::nodes(table);
+    if sheet.len() != 64 * places {
+        return refused(10, 0);
+    }
+    check_types(table, sheet)
+}

@@ -1,0 +1,168 @@
+-- The constant table of the code holds the digits of the kinds' plans.
+use Prim.Native.Nat.{ℕ, zero, suc, _+_, _*_, _%_, _≤_, _<_, min}
+use mathlib.Core.List.{List, [], _∷_, _++_, map}
+use mathlib.Core.Option.{Option, none as nothing, some}
+use mathlib.Core.Path.{_≡_, refl, sym, ap, _∙_}
+use native.Mathlib.Omega.{arith}
+use lib.ListN.{length, getD, getD-replicate, List·getD-append, List·getD-map, List·getD-eq-default}
+use lib.Seq.{getD-append-add}
+use Rattle.rules.specs.Kinds.{Kind, kinds, kindOf}
+use Rattle.rules.specs.Types.{number, bool, given}
+use Rattle.checker.specs.Plan.{Form, openᶠ, atomᶠ, powᶠ, prodᶠ, Plan}
+use Rattle.checker.specs.Codes.{refCode, formKind, formLeft, formRight, formsOf, formAt, pairAt, digits, CodeOf}
+use Rattle.checker.specs.Equations.{planOf}
+use Rattle.checker.specs.Entries.{side}
+use Rattle.checker.proofs.RefLaws.{few-slots}
+
+-- The table's bytes.
+abbrev pub bytes : List ℕ
+bytes =
+    48 ∷ 48 ∷ 48 ∷ 48 ∷ 48 ∷ 48 ∷ 48 ∷ 48 ∷ 48 ∷ 48 ∷ 48 ∷ 48 ∷ 48 ∷ 48 ∷ 48 ∷ 48 ∷ 48 ∷ 48 ∷ 48 ∷ 48 ∷ 48 ∷ 48 ∷ 48 ∷ 48 ∷
+    48 ∷ 48 ∷ 48 ∷ 48 ∷ 48 ∷ 48 ∷ 48 ∷ 48 ∷ 48 ∷ 48 ∷ 48 ∷ 48 ∷ 48 ∷ 48 ∷ 48 ∷ 48 ∷ 48 ∷ 48 ∷ 48 ∷ 48 ∷ 48 ∷ 48 ∷ 48 ∷ 48 ∷
+    48 ∷ 48 ∷ 48 ∷ 48 ∷ 48 ∷ 48 ∷ 48 ∷ 48 ∷ 48 ∷ 48 ∷ 48 ∷ 48 ∷ 48 ∷ 48 ∷ 48 ∷ 48 ∷ 48 ∷ 48 ∷ 48 ∷ 48 ∷ 48 ∷ 48 ∷ 48 ∷ 48 ∷
+    48 ∷ 48 ∷ 48 ∷ 48 ∷ 48 ∷ 48 ∷ 48 ∷ 48 ∷ 48 ∷ 48 ∷ 48 ∷ 48 ∷ 48 ∷ 48 ∷ 48 ∷ 48 ∷ 48 ∷ 48 ∷ 48 ∷ 48 ∷ 48 ∷ 48 ∷ 48 ∷ 48 ∷
+    48 ∷ 48 ∷ 48 ∷ 48 ∷ 48 ∷ 48 ∷ 48 ∷ 48 ∷ 48 ∷ 48 ∷ 48 ∷ 48 ∷ 48 ∷ 48 ∷ 48 ∷ 48 ∷ 48 ∷ 48 ∷ 48 ∷ 48 ∷ 48 ∷ 48 ∷ 48 ∷ 48 ∷
+    48 ∷ 48 ∷ 48 ∷ 48 ∷ 48 ∷ 48 ∷ 48 ∷ 48 ∷ 48 ∷ 48 ∷ 48 ∷ 48 ∷ 48 ∷ 48 ∷ 48 ∷ 48 ∷ 48 ∷ 48 ∷ 48 ∷ 48 ∷ 48 ∷ 48 ∷ 48 ∷ 48 ∷
+    48 ∷ 48 ∷ 48 ∷ 48 ∷ 48 ∷ 48 ∷ 48 ∷ 48 ∷ 48 ∷ 48 ∷ 48 ∷ 48 ∷ 48 ∷ 48 ∷ 48 ∷ 48 ∷ 48 ∷ 48 ∷ 48 ∷ 49 ∷ 49 ∷ 50 ∷ 48 ∷ 48 ∷
+    49 ∷ 48 ∷ 48 ∷ 48 ∷ 50 ∷ 49 ∷ 48 ∷ 48 ∷ 48 ∷ 48 ∷ 48 ∷ 48 ∷ 48 ∷ 48 ∷ 48 ∷ 48 ∷ 48 ∷ 48 ∷ 48 ∷ 49 ∷ 50 ∷ 52 ∷ 48 ∷ 48 ∷
+    50 ∷ 48 ∷ 48 ∷ 48 ∷ 48 ∷ 48 ∷ 48 ∷ 50 ∷ 52 ∷ 48 ∷ 48 ∷ 48 ∷ 48 ∷ 48 ∷ 48 ∷ 48 ∷ 48 ∷ 48 ∷ 48 ∷ 50 ∷ 49 ∷ 53 ∷ 50 ∷ 53 ∷
+    49 ∷ 48 ∷ 48 ∷ 48 ∷ 49 ∷ 49 ∷ 48 ∷ 48 ∷ 48 ∷ 48 ∷ 48 ∷ 48 ∷ 48 ∷ 48 ∷ 48 ∷ 48 ∷ 48 ∷ 48 ∷ 48 ∷ 50 ∷ 49 ∷ 52 ∷ 50 ∷ 52 ∷
+    49 ∷ 48 ∷ 48 ∷ 48 ∷ 50 ∷ 51 ∷ 48 ∷ 48 ∷ 48 ∷ 48 ∷ 48 ∷ 48 ∷ 48 ∷ 48 ∷ 48 ∷ 48 ∷ 48 ∷ 48 ∷ 48 ∷ 49 ∷ 50 ∷ 52 ∷ 48 ∷ 48 ∷
+    49 ∷ 48 ∷ 48 ∷ 48 ∷ 50 ∷ 51 ∷ 48 ∷ 48 ∷ 48 ∷ 48 ∷ 48 ∷ 48 ∷ 48 ∷ 48 ∷ 48 ∷ 48 ∷ 48 ∷ 48 ∷ 48 ∷ 49 ∷ 50 ∷ 52 ∷ 48 ∷ 48 ∷
+    48 ∷ 48 ∷ 48 ∷ 48 ∷ 48 ∷ 48 ∷ 48 ∷ 48 ∷ 48 ∷ 48 ∷ 48 ∷ 48 ∷ 48 ∷ 48 ∷ 48 ∷ 48 ∷ 48 ∷ 48 ∷ 48 ∷ 48 ∷ 48 ∷ 48 ∷ 48 ∷ 48 ∷
+    48 ∷ 48 ∷ 48 ∷ 48 ∷ 48 ∷ 48 ∷ 48 ∷ 48 ∷ 48 ∷ 48 ∷ 48 ∷ 48 ∷ 48 ∷ 48 ∷ 48 ∷ 48 ∷ 48 ∷ 48 ∷ 48 ∷ 48 ∷ 48 ∷ 48 ∷ 48 ∷ 48 ∷
+    48 ∷ 48 ∷ 48 ∷ 48 ∷ 48 ∷ 48 ∷ 48 ∷ 48 ∷ 48 ∷ 48 ∷ 48 ∷ 48 ∷ 48 ∷ 48 ∷ 48 ∷ 48 ∷ 48 ∷ 48 ∷ 48 ∷ 48 ∷ 48 ∷ 48 ∷ 48 ∷ 48 ∷
+    48 ∷ 48 ∷ 48 ∷ 48 ∷ 48 ∷ 48 ∷ 48 ∷ 48 ∷ 48 ∷ 48 ∷ 48 ∷ 48 ∷ 48 ∷ 48 ∷ 48 ∷ 48 ∷ 48 ∷ 48 ∷ 48 ∷ 48 ∷ 48 ∷ 48 ∷ 48 ∷ 48 ∷
+    48 ∷ 48 ∷ 48 ∷ 48 ∷ 48 ∷ 48 ∷ 48 ∷ 48 ∷ 48 ∷ 48 ∷ 48 ∷ 48 ∷ 48 ∷ 48 ∷ 48 ∷ 48 ∷ 48 ∷ 48 ∷ 48 ∷ 48 ∷ 48 ∷ 48 ∷ 48 ∷ 48 ∷
+    48 ∷ 48 ∷ 48 ∷ 48 ∷ 48 ∷ 48 ∷ 48 ∷ 48 ∷ 48 ∷ 48 ∷ 48 ∷ 48 ∷ 48 ∷ 48 ∷ 48 ∷ 48 ∷ 48 ∷ 48 ∷ 48 ∷ 48 ∷ 48 ∷ 48 ∷ 48 ∷ 48 ∷
+    48 ∷ 48 ∷ 48 ∷ 48 ∷ 48 ∷ 48 ∷ 48 ∷ 48 ∷ 48 ∷ 48 ∷ 48 ∷ 48 ∷ 48 ∷ 48 ∷ 48 ∷ 48 ∷ 48 ∷ 48 ∷ 48 ∷ 48 ∷ 48 ∷ 48 ∷ 48 ∷ 48 ∷
+    48 ∷ 48 ∷ 48 ∷ 48 ∷ 48 ∷ 48 ∷ 48 ∷ 48 ∷ 48 ∷ 48 ∷ 48 ∷ 48 ∷ 48 ∷ 48 ∷ 48 ∷ 48 ∷ 48 ∷ 48 ∷ 48 ∷ 48 ∷ 48 ∷ 48 ∷ 48 ∷ 48 ∷
+    48 ∷ 48 ∷ 48 ∷ 48 ∷ 48 ∷ 48 ∷ 48 ∷ 48 ∷ 48 ∷ 48 ∷ 48 ∷ 48 ∷ 48 ∷ 48 ∷ 48 ∷ 48 ∷ 48 ∷ 48 ∷ 48 ∷ 49 ∷ 48 ∷ 51 ∷ 48 ∷ 48 ∷
+    49 ∷ 50 ∷ 52 ∷ 48 ∷ 49 ∷ 51 ∷ 48 ∷ 48 ∷ 48 ∷ 48 ∷ 48 ∷ 48 ∷ 48 ∷ 48 ∷ 48 ∷ 48 ∷ 48 ∷ 48 ∷ 48 ∷ 48 ∷ 48 ∷ 48 ∷ 48 ∷ 48 ∷
+    48 ∷ 49 ∷ 51 ∷ 48 ∷ 48 ∷ 48 ∷ 48 ∷ 48 ∷ 48 ∷ 48 ∷ 48 ∷ 48 ∷ 48 ∷ 48 ∷ 48 ∷ 48 ∷ 48 ∷ 48 ∷ 48 ∷ 48 ∷ 48 ∷ 48 ∷ 48 ∷ 48 ∷
+    48 ∷ 49 ∷ 49 ∷ 48 ∷ 48 ∷ 48 ∷ 48 ∷ 48 ∷ 48 ∷ 48 ∷ 48 ∷ 48 ∷ 48 ∷ 48 ∷ 48 ∷ 48 ∷ 48 ∷ 48 ∷ 48 ∷ 48 ∷ 48 ∷ 48 ∷ 48 ∷ 48 ∷
+    48 ∷ 49 ∷ 50 ∷ 48 ∷ 48 ∷ 48 ∷ 48 ∷ 48 ∷ 48 ∷ 48 ∷ 48 ∷ 48 ∷ 48 ∷ 48 ∷ 48 ∷ 48 ∷ 48 ∷ 48 ∷ 48 ∷ 48 ∷ 48 ∷ 48 ∷ 48 ∷ 48 ∷
+    48 ∷ 49 ∷ 50 ∷ 48 ∷ 48 ∷ 48 ∷ 48 ∷ 48 ∷ 48 ∷ 48 ∷ 48 ∷ 48 ∷ 48 ∷ 48 ∷ 48 ∷ 48 ∷ 48 ∷ 48 ∷ 48 ∷ 48 ∷ 48 ∷ 48 ∷ 48 ∷ 48 ∷
+    49 ∷ 50 ∷ 52 ∷ 48 ∷ 48 ∷ 48 ∷ 48 ∷ 48 ∷ 48 ∷ 48 ∷ 48 ∷ 48 ∷ 48 ∷ 48 ∷ 48 ∷ 48 ∷ 48 ∷ 48 ∷ 48 ∷ 48 ∷ 48 ∷ 48 ∷ 48 ∷ 48 ∷
+    48 ∷ 50 ∷ 49 ∷ 48 ∷ 48 ∷ 48 ∷ 48 ∷ 48 ∷ 48 ∷ 48 ∷ 48 ∷ 48 ∷ 48 ∷ 48 ∷ 48 ∷ 48 ∷ 48 ∷ 48 ∷ 48 ∷ 48 ∷ 48 ∷ 48 ∷ 48 ∷ 48 ∷
+    48 ∷ 51 ∷ 49 ∷ 50 ∷ 48 ∷ 48 ∷ 48 ∷ 48 ∷ 48 ∷ 48 ∷ 48 ∷ 48 ∷ 48 ∷ 48 ∷ 48 ∷ 48 ∷ 48 ∷ 48 ∷ 48 ∷ 48 ∷ 48 ∷ 48 ∷ 48 ∷ 48 ∷
+    49 ∷ 50 ∷ 52 ∷ 48 ∷ 48 ∷ 48 ∷ 48 ∷ 48 ∷ 48 ∷ 48 ∷ 48 ∷ 48 ∷ 48 ∷ 48 ∷ 48 ∷ 48 ∷ 48 ∷ 48 ∷ 48 ∷ 50 ∷ 49 ∷ 48 ∷ 50 ∷ 48 ∷
+    49 ∷ 50 ∷ 52 ∷ 48 ∷ 48 ∷ 48 ∷ 48 ∷ 48 ∷ 48 ∷ 48 ∷ 48 ∷ 48 ∷ 48 ∷ 48 ∷ 48 ∷ 48 ∷ 48 ∷ 48 ∷ 48 ∷ 50 ∷ 49 ∷ 48 ∷ 50 ∷ 48 ∷
+    49 ∷ 50 ∷ 52 ∷ 48 ∷ 48 ∷ 48 ∷ 48 ∷ 48 ∷ 48 ∷ 48 ∷ 48 ∷ 48 ∷ 48 ∷ 48 ∷ 48 ∷ 48 ∷ 48 ∷ 48 ∷ 48 ∷ 50 ∷ 49 ∷ 48 ∷ 50 ∷ 48 ∷
+    53 ∷ 50 ∷ 54 ∷ 48 ∷ 48 ∷ 48 ∷ 48 ∷ 48 ∷ 48 ∷ 48 ∷ 51 ∷ 52 ∷ 53 ∷ 50 ∷ 52 ∷ 48 ∷ 50 ∷ 53 ∷ 48 ∷ 50 ∷ 49 ∷ 55 ∷ 50 ∷ 56 ∷
+    50 ∷ 50 ∷ 49 ∷ 48 ∷ 48 ∷ 48 ∷ 48 ∷ 50 ∷ 52 ∷ 48 ∷ 48 ∷ 48 ∷ 48 ∷ 48 ∷ 48 ∷ 48 ∷ 48 ∷ 48 ∷ 48 ∷ 49 ∷ 49 ∷ 53 ∷ 48 ∷ 48 ∷
+    48 ∷ 50 ∷ 51 ∷ 48 ∷ 48 ∷ 48 ∷ 48 ∷ 48 ∷ 48 ∷ 48 ∷ 48 ∷ 48 ∷ 48 ∷ 48 ∷ 48 ∷ 48 ∷ 48 ∷ 48 ∷ 48 ∷ 49 ∷ 50 ∷ 48 ∷ 48 ∷ 48 ∷
+    52 ∷ 50 ∷ 52 ∷ 48 ∷ 48 ∷ 48 ∷ 48 ∷ 48 ∷ 48 ∷ 48 ∷ 51 ∷ 52 ∷ 53 ∷ 50 ∷ 54 ∷ 48 ∷ 48 ∷ 48 ∷ 48 ∷ 49 ∷ 49 ∷ 55 ∷ 48 ∷ 48 ∷
+    52 ∷ 50 ∷ 53 ∷ 48 ∷ 48 ∷ 48 ∷ 48 ∷ 48 ∷ 48 ∷ 48 ∷ 51 ∷ 52 ∷ 53 ∷ 50 ∷ 54 ∷ 48 ∷ 48 ∷ 48 ∷ 48 ∷ 49 ∷ 49 ∷ 55 ∷ 48 ∷ 48 ∷
+    50 ∷ 48 ∷ 48 ∷ 48 ∷ 51 ∷ 50 ∷ 48 ∷ 50 ∷ 52 ∷ 48 ∷ 48 ∷ 48 ∷ 48 ∷ 48 ∷ 48 ∷ 48 ∷ 48 ∷ 48 ∷ 48 ∷ 49 ∷ 49 ∷ 53 ∷ 48 ∷ 48 ∷
+    50 ∷ 49 ∷ 49 ∷ 48 ∷ 48 ∷ 48 ∷ 48 ∷ 50 ∷ 52 ∷ 48 ∷ 48 ∷ 48 ∷ 48 ∷ 48 ∷ 48 ∷ 48 ∷ 48 ∷ 48 ∷ 48 ∷ 49 ∷ 49 ∷ 53 ∷ 48 ∷ 48 ∷
+    48 ∷ 49 ∷ 49 ∷ 48 ∷ 48 ∷ 48 ∷ 48 ∷ 48 ∷ 48 ∷ 48 ∷ 48 ∷ 48 ∷ 48 ∷ 48 ∷ 48 ∷ 48 ∷ 48 ∷ 48 ∷ 48 ∷ 50 ∷ 49 ∷ 48 ∷ 50 ∷ 48 ∷
+    48 ∷ 49 ∷ 49 ∷ 48 ∷ 48 ∷ 48 ∷ 48 ∷ 48 ∷ 48 ∷ 48 ∷ 48 ∷ 48 ∷ 48 ∷ 48 ∷ 48 ∷ 48 ∷ 48 ∷ 48 ∷ 48 ∷ 50 ∷ 49 ∷ 48 ∷ 50 ∷ 48 ∷
+    49 ∷ 50 ∷ 52 ∷ 48 ∷ 49 ∷ 49 ∷ 48 ∷ 48 ∷ 48 ∷ 48 ∷ 48 ∷ 48 ∷ 48 ∷ 48 ∷ 48 ∷ 48 ∷ 48 ∷ 48 ∷ 48 ∷ 50 ∷ 49 ∷ 52 ∷ 50 ∷ 52 ∷
+    49 ∷ 50 ∷ 52 ∷ 48 ∷ 49 ∷ 50 ∷ 48 ∷ 48 ∷ 48 ∷ 48 ∷ 48 ∷ 48 ∷ 48 ∷ 48 ∷ 48 ∷ 48 ∷ 48 ∷ 48 ∷ 48 ∷ 48 ∷ 48 ∷ 48 ∷ 48 ∷ 48 ∷
+    49 ∷ 48 ∷ 48 ∷ 48 ∷ 50 ∷ 48 ∷ 48 ∷ 48 ∷ 48 ∷ 48 ∷ 48 ∷ 48 ∷ 48 ∷ 48 ∷ 48 ∷ 48 ∷ 48 ∷ 48 ∷ 48 ∷ 49 ∷ 49 ∷ 52 ∷ 48 ∷ 48 ∷
+    []
+
+-- The digits of the kinds' plans in turn.
+abbrev allDigits : ℕ → List (Option Kind) → List ℕ
+allDigits a [] = []
+allDigits a (o ∷ os) = digits (planOf o a) ++ allDigits a os
+
+-- An unknown kind has the digit 0 throughout.
+digits-unknown : (a i : ℕ) → i < 24 → 0 ≡ getD (digits (planOf nothing a)) i 0
+unfolding digits
+digits-unknown a i h = sym (getD-replicate 24 i 0 0 h)
+
+in-first : (p : Plan) (ds : List ℕ) (i : ℕ) → i < 24 → getD (digits p ++ ds) i 0 ≡ getD (digits p) i 0
+unfolding digits
+in-first p ds i h = List·getD-append (digits p) ds 0 i h
+
+in-rest : (p : Plan) (ds : List ℕ) (k : ℕ) → getD (digits p ++ ds) (24 + k) 0 ≡ getD ds k 0
+unfolding digits
+in-rest p ds k = getD-append-add (digits p) ds k 0
+
+digit-at : (a i : ℕ) → i < 24 → (os : List (Option Kind)) (k : ℕ) →
+    getD (allDigits a os) (24 * k + i) 0 ≡ getD (digits (planOf (getD os k nothing) a)) i 0
+digit-at a i h [] k = digits-unknown a i h
+digit-at a i h (o ∷ os) zero =
+    let e : 24 * zero + i ≡ i = omega arith in rw e (in-first (planOf o a) (allDigits a os) i h)
+digit-at a i h (o ∷ os) (suc k) =
+    let e : 24 * suc k + i ≡ 24 + (24 * k + i) = omega arith in
+    rw e (in-rest (planOf o a) (allDigits a os) (24 * k + i) ∙ digit-at a i h os k)
+
+-- The rule of the whole table, by computation.
+table-right : (a : ℕ) → map (λ b. b % 16) bytes ≡ allDigits a kinds
+unfolding digits
+table-right a = refl
+
+pub code-known : (k i : ℕ) → i < 24 → CodeOf k i (getD bytes (24 * k + i) 0 % 16)
+unfolding kindOf
+code-known k i h a =
+    sym (List·getD-map (λ b. b % 16) bytes (24 * k + i) 0) ∙ ap (λ (l : List ℕ). getD l (24 * k + i) 0) (table-right a) ∙
+    digit-at a i h kinds k
+
+pub code-unknown : (k i : ℕ) → 44 ≤ k → i < 24 → CodeOf k i 0
+unfolding kindOf
+code-unknown k i h l a = rw (List·getD-eq-default kinds nothing {n = k} h) (digits-unknown a i l)
+
+-- What holds of every kind's plan, by computation over the list of kinds.
+by-kinds : {A : Type 0} (f g : Option Kind → A) → f nothing ≡ g nothing → map f kinds ≡ map g kinds → (k : ℕ) →
+    f (kindOf k) ≡ g (kindOf k)
+unfolding kindOf
+by-kinds f g e h k =
+    sym (List·getD-map f kinds k nothing) ∙ ap (λ l. getD l k (f nothing)) h ∙ rw e (List·getD-map g kinds k nothing)
+
+-- A plan has at most 2 equations.
+pub few-equations : (k a : ℕ) → length (planOf (kindOf k) a .equations) ≤ 2
+few-equations k a =
+    let e = by-kinds (λ o. length (planOf o a .equations)) (λ o. min 2 (length (planOf o a .equations))) refl refl k in
+    omega arith
+
+-- The given sets in a plan are the one in field a.
+abbrev pub withSet : ℕ → Form → Form
+withSet a openᶠ = openᶠ
+withSet a (atomᶠ (number n)) = atomᶠ (number n)
+withSet a (atomᶠ bool) = atomᶠ bool
+withSet a (atomᶠ (given g)) = atomᶠ (given a)
+withSet a (powᶠ r) = powᶠ r
+withSet a (prodᶠ r s) = prodᶠ r s
+
+pub own-set : (k a j : ℕ) → withSet a (formAt (planOf (kindOf k) a) j) ≡ formAt (planOf (kindOf k) a) j
+own-set k a j =
+    sym (List·getD-map (withSet a) (formsOf (planOf (kindOf k) a)) j openᶠ) ∙
+    ap (λ (l : List Form). getD l j openᶠ)
+        (by-kinds (λ o. map (withSet a) (formsOf (planOf o a))) (λ o. formsOf (planOf o a)) refl refl k)
+
+-- Each digit's meaning, by its place.
+module _ (p : Plan) where
+  pub slots-digit : getD (digits p) 0 0 ≡ length (p .slots)
+  unfolding digits
+  slots-digit = refl
+
+  pub equations-digit : getD (digits p) 19 0 ≡ length (p .equations)
+  unfolding digits
+  equations-digit = refl
+
+  pub form-digits : (j : ℕ) → j < 6 → (getD (digits p) (1 + 3 * j) 0 ≡ formKind (formAt p j)) ×
+      (getD (digits p) (2 + 3 * j) 0 ≡ formLeft (formAt p j)) × (getD (digits p) (3 + 3 * j) 0 ≡ formRight (formAt p j))
+  unfolding digits
+  form-digits zero h = (refl, refl, refl)
+  form-digits (suc zero) h = (refl, refl, refl)
+  form-digits (suc (suc zero)) h = (refl, refl, refl)
+  form-digits (suc (suc (suc zero))) h = (refl, refl, refl)
+  form-digits (suc (suc (suc (suc zero)))) h = (refl, refl, refl)
+  form-digits (suc (suc (suc (suc (suc zero))))) h = (refl, refl, refl)
+  form-digits (suc (suc (suc (suc (suc (suc j)))))) h = absurd (omega arith)
+
+  pub side-digits : (i : ℕ) → i < 2 →
+      (getD (digits p) (20 + i) 0 ≡ refCode (side i (pairAt p 0))) × (getD (digits p) (22 + i) 0 ≡ refCode (side i (pairAt p 1)))
+  unfolding digits
+  side-digits zero h = (refl, refl)
+  side-digits (suc zero) h = (refl, refl)
+  side-digits (suc (suc i)) h = absurd (omega arith)
+
+pub slots-few : (k c : ℕ) → CodeOf k 0 c → c ≤ 5
+slots-few k c e = omega (arith, e 0, slots-digit (planOf (kindOf k) 0), few-slots (kindOf k) 0)
+
+pub equations-few : (k c : ℕ) → CodeOf k 19 c → c ≤ 2
+equations-few k c e = omega (arith, e 0, equations-digit (planOf (kindOf k) 0), few-equations k 0)
