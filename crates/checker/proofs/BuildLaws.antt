@@ -53,8 +53,8 @@ pub next-variables : (bs : List ℕ) (at n : ℕ) (kind left right bases kind′
 next-variables bs at n kind left right bases kind′ left′ right′ s v q w f =
     let h = q .fielded .laid .header in
     add-variables (tableOf bs) n s w (omega (arith, nodes-length bs, q .below)) (q .fielded .fields n (q .below))
-        (omega (arith, binds-length bs)) (omega (arith, sizes-length bs)) kind left right kind′ left′ right′ bases _ v
-        (omega (arith, q .room .bases-length, q .below)) (q .so-far) (f _) refl
+    (omega (arith, binds-length bs)) (omega (arith, sizes-length bs)) kind left right kind′ left′ right′ bases _ v
+    (omega (arith, q .room .bases-length, q .below)) (q .so-far) (f _) refl
 
 pub next-equations : (bs : List ℕ) (at n : ℕ) (lhs rhs bases counts lhs′ rhs′ : List ℕ) (s : NodeVars) (m x y c : ℕ) →
     NextEquations bs at n lhs rhs bases counts → VarsOf (tableOf bs) n s → m ≡ getD counts n 0 → x ≡ m → y ≡ m →
@@ -65,9 +65,9 @@ next-equations bs at n lhs rhs bases counts lhs′ rhs′ s m x y c q w e ex ey 
     let b = count-small bs h n (q .below) lhs rhs counts (q .so-far) in
     let a = nodeAt (tableOf bs .nodes) n .a in
     add-equations (tableOf bs) n s w (omega (arith, nodes-length bs, q .below)) (q .fielded .fields n (q .below))
-        (omega (arith, binds-length bs)) (omega (arith, sizes-length bs)) lhs rhs lhs′ rhs′ counts _ m c
-        (omega (arith, q .room .lhs-length)) (omega (arith, q .room .rhs-length)) (omega (arith, q .room .counts-length, q .below))
-        (q .so-far) e (subst (λ i. Sides s 0 i lhs lhs′ a) ex (f a)) (subst (λ i. Sides s 1 i rhs rhs′ a) ey (g a)) k refl
+    (omega (arith, binds-length bs)) (omega (arith, sizes-length bs)) lhs rhs lhs′ rhs′ counts _ m c
+    (omega (arith, q .room .lhs-length)) (omega (arith, q .room .rhs-length)) (omega (arith, q .room .counts-length, q .below))
+    (q .so-far) e (subst (λ i. Sides s 0 i lhs lhs′ a) ex (f a)) (subst (λ i. Sides s 1 i rhs rhs′ a) ey (g a)) k refl
 
 -- Both parts make the problem.
 pub built : (tb : Table) (k : ℕ) (kind left right lhs rhs bases counts : List ℕ) →

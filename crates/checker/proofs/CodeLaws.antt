@@ -131,7 +131,7 @@ pub own-set : (k a j : ℕ) → withSet a (formAt (planOf (kindOf k) a) j) ≡ f
 own-set k a j =
     sym (List·getD-map (withSet a) (formsOf (planOf (kindOf k) a)) j openᶠ) ∙
     ap (λ (l : List Form). getD l j openᶠ)
-        (by-kinds (λ o. map (withSet a) (formsOf (planOf o a))) (λ o. formsOf (planOf o a)) refl refl k)
+    (by-kinds (λ o. map (withSet a) (formsOf (planOf o a))) (λ o. formsOf (planOf o a)) refl refl k)
 
 -- Each digit's meaning, by its place.
 module _ (p : Plan) where

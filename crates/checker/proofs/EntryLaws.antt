@@ -93,7 +93,9 @@ stands-put sh v k l r kind left right kind′ left′ right′ ek el er hk hl hr
 -- The loop over the forms.
 pub forms-start : (s : NodeVars) (kind left right : List ℕ) → FormsTo s 0 kind left right kind left right
 forms-start s kind left right = record {
-  kind-kept = refl; left-kept = refl; right-kept = refl;
+  kind-kept = refl;
+  left-kept = refl;
+  right-kept = refl;
   grows = λ a sh h q v l. h v (omega arith);
 }
 
@@ -109,7 +111,7 @@ forms-turn s j kind left right kind₁ left₁ right₁ kind₂ left₂ right₂
   grows = λ a sh h q.
       let e : s .own + (j + 1) ≡ s .own + j + 1 = omega arith in
       rw e (stands-put sh (s .own + j) _ _ _ kind₁ left₁ right₁ kind₂ left₂ right₂ (p a .kind-is) (p a .left-is) (p a .right-is)
-          (omega arith) (omega arith) (omega arith) (f .grows a sh h (λ i l. q i (omega arith))) (q j (omega arith)));
+      (omega arith) (omega arith) (omega arith) (f .grows a sh h (λ i l. q i (omega arith))) (q j (omega arith)));
 }
 
 -- The references and forms of node n, where they are right.

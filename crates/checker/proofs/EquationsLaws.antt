@@ -136,8 +136,8 @@ module _ (tb : Table) (right : RightNodes tb) (θ : ℕ → Ty) where
         go : Dec (n ≡ k) → Meets (planAt tb n) (λ r. next (varOf tb n r))
         go (yes e) = subst (λ j. Meets (planAt tb j) (λ r. next (varOf tb j r))) (sym e)
             (meets-same (node-plan tb right h) (nodeRefs tb θ k s) (λ r. next (varOf tb k r))
-                (λ r w. sym (refs-agree tb k next θ s next-names next-nodes
-                    (extend-slot (base tb k) σ (θ (placeOf tb k)) s) r w)) m)
+            (λ r w. sym (refs-agree tb k next θ s next-names next-nodes
+            (extend-slot (base tb k) σ (θ (placeOf tb k)) s) r w)) m)
         go (no g) = meets-same (node-plan tb right {n = n} (omega arith)) (λ r. σ (varOf tb n r)) (λ r. next (varOf tb n r))
             (λ r w. sym (next-old (varOf tb n r) (ref-below tb (omega arith) r w))) (f .meets n (omega arith))
 
@@ -171,16 +171,16 @@ module _ (tb : Table) (right : RightNodes tb) (k : ℕ) (h : k ≤ length (tb .n
       go (no g) (yes l) =
           let e : placeOf tb (p - length (tb .binds)) ≡ p = omega arith in
           subst (λ t. Declared (length (tb .sizes)) t) (sym (rw e at (back-node tb k σ (p - length (tb .binds)) l)))
-              (d (base tb (p - length (tb .binds))) (omega (arith, base-below tb l)))
+          (d (base tb (p - length (tb .binds))) (omega (arith, base-below tb l)))
       go (no g) (no f) = subst (λ t. Declared (length (tb .sizes)) t) (sym (back-other tb k σ p (omega arith))) tt
 
   back-obeyed : MeetsBelow tb k σ → (n : ℕ) → n < k → ObeysKind tb (back tb k σ) n (kindAt (tb .nodes) n)
   back-obeyed q n l =
       let s : ℕ → Ty = λ i. σ (base tb n + 1 + i) in
       kind-obeys tb (back tb k σ) n (kindAt (tb .nodes) n) (right n (omega arith)) s
-          (meets-same (node-plan tb right {n = n} (omega arith)) (λ r. σ (varOf tb n r)) (nodeRefs tb (back tb k σ) n s)
-              (refs-agree tb n σ (back tb k σ) s (λ x g. sym (back-name tb k σ x g))
-                  (λ m g. sym (back-node tb k σ m (omega arith))) (λ i. refl)) (q n l))
+      (meets-same (node-plan tb right {n = n} (omega arith)) (λ r. σ (varOf tb n r)) (nodeRefs tb (back tb k σ) n s)
+      (refs-agree tb n σ (back tb k σ) s (λ x g. sym (back-name tb k σ x g))
+      (λ m g. sym (back-node tb k σ m (omega arith))) (λ i. refl)) (q n l))
 
   -- A solution in types of the table gives a typing.
   pub solves→typing : Solves (shapeAt tb) (base tb k) (equations tb k) σ →

@@ -9,9 +9,13 @@ use Rattle.checker.specs.Equations.{base, shapes, equations, back}
 
 -- x = {x}
 abbrev tb : Table
-tb = record { sizes = []; binds = 0 ∷ []; nodes =
-  record { kind = 20; a = 0; b = 0; c = 0 } ∷ record { kind = 20; a = 0; b = 0; c = 0 } ∷
-  record { kind = 27; a = 1; b = 0; c = 0 } ∷ record { kind = 6; a = 0; b = 2; c = 0 } ∷ [] }
+tb = record {
+  sizes = [];
+  binds = 0 ∷ [];
+  nodes =
+      record { kind = 20; a = 0; b = 0; c = 0 } ∷ record { kind = 20; a = 0; b = 0; c = 0 } ∷
+      record { kind = 27; a = 1; b = 0; c = 0 } ∷ record { kind = 6; a = 0; b = 2; c = 0 } ∷ [];
+}
 
 t0 : base tb 4 ≡ 5
 unfolding base
@@ -27,13 +31,17 @@ t2 = refl
 
 -- x ∈ s and s ⊆ dom r
 abbrev tb2 : Table
-tb2 = record { sizes = []; binds = 0 ∷ 0 ∷ 0 ∷ []; nodes =
-  record { kind = 20; a = 0; b = 0; c = 0 } ∷ record { kind = 20; a = 1; b = 0; c = 0 } ∷ record { kind = 7; a = 0; b = 1; c = 0 } ∷
-  record { kind = 20; a = 1; b = 0; c = 0 } ∷ record { kind = 20; a = 2; b = 0; c = 0 } ∷ record { kind = 35; a = 4; b = 0; c = 0 } ∷
-  record { kind = 8; a = 3; b = 5; c = 0 } ∷ record { kind = 1; a = 2; b = 6; c = 0 } ∷ [] }
+tb2 = record {
+  sizes = [];
+  binds = 0 ∷ 0 ∷ 0 ∷ [];
+  nodes =
+      record { kind = 20; a = 0; b = 0; c = 0 } ∷ record { kind = 20; a = 1; b = 0; c = 0 } ∷ record { kind = 7; a = 0; b = 1; c = 0 } ∷
+      record { kind = 20; a = 1; b = 0; c = 0 } ∷ record { kind = 20; a = 2; b = 0; c = 0 } ∷ record { kind = 35; a = 4; b = 0; c = 0 } ∷
+      record { kind = 8; a = 3; b = 5; c = 0 } ∷ record { kind = 1; a = 2; b = 6; c = 0 } ∷ [];
+}
 
 t3 : shapes tb2 8 ≡ unknown ∷ unknown ∷ unknown ∷ unknown ∷ unknown ∷ unknown ∷ power 3 ∷ unknown ∷ unknown ∷
-  power 10 ∷ unknown ∷ unknown ∷ product 10 11 ∷ power 12 ∷ unknown ∷ unknown ∷ power 15 ∷ unknown ∷ []
+    power 10 ∷ unknown ∷ unknown ∷ product 10 11 ∷ power 12 ∷ unknown ∷ unknown ∷ power 15 ∷ unknown ∷ []
 unfolding shapes
 t3 = refl
 

@@ -99,8 +99,13 @@ pub equations-bound : (tb : Table) (k : ℕ) → length (equations tb k) ≤ 2 *
 unfolding equations
 equations-bound tb zero = omega arith
 equations-bound tb (suc k) =
-    omega (arith, equations-bound tb k, length-append (equations tb k) (nodeEquations tb k),
-        length-map (planAt tb k .equations) (eqnFrom (varOf tb k)), few-equations (nodeAt (tb .nodes) k .kind) (nodeAt (tb .nodes) k .a))
+    omega (
+      arith,
+      equations-bound tb k,
+      length-append (equations tb k) (nodeEquations tb k),
+      length-map (planAt tb k .equations) (eqnFrom (varOf tb k)),
+      few-equations (nodeAt (tb .nodes) k .kind) (nodeAt (tb .nodes) k .a),
+    )
 
 module _ (tb : Table) (n : ℕ) (s : NodeVars) (vars : VarsOf tb n s) where
   same-plan : planFor s (nodeAt (tb .nodes) n .a) ≡ planAt tb n
@@ -118,10 +123,10 @@ module _ (tb : Table) (n : ℕ) (s : NodeVars) (vars : VarsOf tb n s) where
     form-right : (j : ℕ) → j < suc (slotCount tb n) → FormEntry s (formAt (planAt tb n) j) (shapeAt tb (base tb n + j))
     form-right j l =
         subst (λ sh. FormEntry s (formAt (planAt tb n) j) sh)
-            (sym (shape-node tb h j l ∙ List·getD-map (shapeFrom (varOf tb n)) (formsOf (planAt tb n)) j openᶠ))
-            (form-entry tb n s vars names (slotCount tb n) sets (formAt (planAt tb n) j)
-                (form-at tb n (nodeAt (tb .nodes) n) (slotCount tb n) (formsOf (planAt tb n)) (sound .self-right, sound .slots-right) j l)
-                (own-set (nodeAt (tb .nodes) n .kind) (nodeAt (tb .nodes) n .a) j))
+        (sym (shape-node tb h j l ∙ List·getD-map (shapeFrom (varOf tb n)) (formsOf (planAt tb n)) j openᶠ))
+        (form-entry tb n s vars names (slotCount tb n) sets (formAt (planAt tb n) j)
+        (form-at tb n (nodeAt (tb .nodes) n) (slotCount tb n) (formsOf (planAt tb n)) (sound .self-right, sound .slots-right) j l)
+        (own-set (nodeAt (tb .nodes) n .kind) (nodeAt (tb .nodes) n .a) j))
 
     pub add-variables : (kind left right kind′ left′ right′ bases bases′ : List ℕ) (v : ℕ) → n + 1 < length bases →
         VariablesTo tb n kind left right bases → Forms s kind left right kind′ left′ right′ v (nodeAt (tb .nodes) n .a) →
@@ -131,14 +136,14 @@ module _ (tb : Table) (n : ℕ) (s : NodeVars) (vars : VarsOf tb n s) where
         let b = next-base v (f .after) in
         let before : Stands (shapeAt tb) (s .own) kind left right = rw (vars .own-is) (q .stand) in
         let forms : (j : ℕ) → j < suc (slotCount tb n) → FormEntry s (formAt (planAt tb n) j) (shapeAt tb (s .own + j)) =
-            subst (λ v. (j : ℕ) → j < suc (slotCount tb n) → FormEntry s (formAt (planAt tb n) j) (shapeAt tb (v + j)))
-                (sym (vars .own-is)) form-right in
+        subst (λ v. (j : ℕ) → j < suc (slotCount tb n) → FormEntry s (formAt (planAt tb n) j) (shapeAt tb (v + j)))
+        (sym (vars .own-is)) form-right in
         let w : base tb (n + 1) ≡ s .own + suc (length (planFor s a .slots)) = omega (arith, f .after) in
         record {
           bases-are = rw e (append-turn bases (base tb) n v room b (q .bases-are));
           stand = rw w (f .forms .grows a (shapeAt tb) before
               (subst (λ (p : Plan). (j : ℕ) → j < suc (length (p .slots)) → FormEntry s (formAt p j) (shapeAt tb (s .own + j)))
-                  (sym same-plan) forms));
+              (sym same-plan) forms));
         }
 
     -- Each equation of the node's plan is written as the one between its variables.
@@ -148,7 +153,7 @@ module _ (tb : Table) (n : ℕ) (s : NodeVars) (vars : VarsOf tb n s) where
     pair-entry i l =
         let w = pair-right tb n (nodeAt (tb .nodes) n) (slotCount tb n) (planAt tb n .equations) (sound .equations-right) i l in
         ap₂ eqn (var-right tb n s vars names (slotCount tb n) (pairAt (planAt tb n) i .0) (w .0))
-            (var-right tb n s vars names (slotCount tb n) (pairAt (planAt tb n) i .1) (w .1)) ∙
+        (var-right tb n s vars names (slotCount tb n) (pairAt (planAt tb n) i .1) (w .1)) ∙
         sym (eqn-at (eqnFrom (varOf tb n)) (planAt tb n .equations) i l)
 
     pub add-equations : (lhs rhs lhs′ rhs′ counts counts′ : List ℕ) (m c : ℕ) →
@@ -160,16 +165,16 @@ module _ (tb : Table) (n : ℕ) (s : NodeVars) (vars : VarsOf tb n s) where
         let a = nodeAt (tb .nodes) n .a in
         let first-m : m ≡ length (equations tb n) = em ∙ q .counts-are n (omega arith) in
         let many : c ≡ length (planAt tb n .equations) =
-            ec a ∙ equations-digit (planFor s a) ∙ ap (λ (p : Plan). length (p .equations)) same-plan in
+        ec a ∙ equations-digit (planFor s a) ∙ ap (λ (p : Plan). length (p .equations)) same-plan in
         let own = length-map (planAt tb n .equations) (eqnFrom (varOf tb n)) in
         let whole : m + c ≡ length (equations tb (n + 1)) =
-            rw (equations-next tb n) (omega (arith, own, length-append (equations tb n) (nodeEquations tb n))) in
+        rw (equations-next tb n) (omega (arith, own, length-append (equations tb n) (nodeEquations tb n))) in
         record {
           counts-are = rw e (append-turn counts (λ k. length (equations tb k)) n (m + c) hc whole (q .counts-are));
           equations-are = rw (equations-next tb n)
               (eqns-turn (equations tb n) (nodeEquations tb n) lhs rhs lhs′ rhs′ m _ _ _ _ first-m
-                  (omega (arith, own, few-equations (nodeAt (tb .nodes) n .kind) a)) hl hr (rw same-plan at el) (rw same-plan at er)
-                  (λ l. pair-entry 0 (omega (arith, own))) (λ l. pair-entry 1 (omega (arith, own))) (q .equations-are));
+              (omega (arith, own, few-equations (nodeAt (tb .nodes) n .kind) a)) hl hr (rw same-plan at el) (rw same-plan at er)
+              (λ l. pair-entry 0 (omega (arith, own))) (λ l. pair-entry 1 (omega (arith, own))) (q .equations-are));
         }
 
 -- Before the first node.

@@ -55,9 +55,10 @@ module _ (d : Node) (x : Ty) (η : ℕ → Ty) (z : Ty) where
   two-to union o = (slotsFrom (o .0 ∷ []), (cc, (tt, tt), (cc, (cc, tt))))
   two-to inter o = (slotsFrom (o .0 ∷ []), (cc, (tt, tt), (cc, (cc, tt))))
   two-to diff o = (slotsFrom (o .0 ∷ []), (cc, (tt, tt), (cc, (cc, tt))))
-  two-to product o =
-      (slotsFrom (o .0 ∷ o .1 ∷ (o .0 ⊗ o .1) ∷ POW (o .0) ∷ POW (o .1) ∷ []),
-      (cc, (tt, (tt, (cc, (cc, (cc, tt))))), (cc, (cc, tt))))
+  two-to product o = (
+    slotsFrom (o .0 ∷ o .1 ∷ (o .0 ⊗ o .1) ∷ POW (o .0) ∷ POW (o .1) ∷ []),
+    (cc, (tt, (tt, (cc, (cc, (cc, tt))))), (cc, (cc, tt))),
+  )
   two-to apply o = (slotsFrom ((o .0 ⊗ o .1) ∷ POW (o .0 ⊗ o .1) ∷ []), (tt, (cc, (cc, tt)), (cc, tt)))
   two-to (plus n) o = (slotsFrom [], (cc, tt, (cc, (cc, tt))))
   two-to (minus n) o = (slotsFrom [], (cc, tt, (cc, (cc, tt))))

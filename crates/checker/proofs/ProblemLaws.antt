@@ -92,13 +92,14 @@ MeetsBelow tb k σ = (n : ℕ) → n < k → Meets (planAt tb n) (λ r. σ (varO
 pub solves→meets : (tb : Table) (k : ℕ) (σ : ℕ → Ty) → k ≤ length (tb .nodes) →
     Solves (shapeAt tb) (base tb k) (equations tb k) σ → MeetsBelow tb k σ
 unfolding varOf
-solves→meets tb k σ h q n l =
-    (shape→form σ (varOf tb n) (planAt tb n .self-form) _
-        (subst (λ s. Matches σ s (σ (base tb n))) (shape-self tb (omega arith)) (q .shapes (base tb n) (omega (arith, base-below tb l)))),
-    slots-all _ _ (planAt tb n .slots) (λ j g. shape→form σ (varOf tb n) (getD (planAt tb n .slots) j openᶠ) _
-        (subst (λ s. Matches σ s (σ (base tb n + 1 + j))) (shape-slot tb (omega arith) g)
-            (q .shapes (base tb n + 1 + j) (omega (arith, base-below tb l))))),
-    eqns→pairs σ (varOf tb n) (planAt tb n .equations) (holds-node tb σ k (q .equal) n l))
+solves→meets tb k σ h q n l = (
+  shape→form σ (varOf tb n) (planAt tb n .self-form) _
+      (subst (λ s. Matches σ s (σ (base tb n))) (shape-self tb (omega arith)) (q .shapes (base tb n) (omega (arith, base-below tb l)))),
+  slots-all _ _ (planAt tb n .slots) (λ j g. shape→form σ (varOf tb n) (getD (planAt tb n .slots) j openᶠ) _
+      (subst (λ s. Matches σ s (σ (base tb n + 1 + j))) (shape-slot tb (omega arith) g)
+      (q .shapes (base tb n + 1 + j) (omega (arith, base-below tb l))))),
+  eqns→pairs σ (varOf tb n) (planAt tb n .equations) (holds-node tb σ k (q .equal) n l),
+)
 
 pub meets→solves : (tb : Table) (k : ℕ) (σ : ℕ → Ty) → k ≤ length (tb .nodes) →
     MeetsBelow tb k σ → Solves (shapeAt tb) (base tb k) (equations tb k) σ
@@ -107,9 +108,9 @@ meets→solves tb k σ h q = record {
   shapes = each-variable tb (λ v. Matches σ (shapeAt tb v) (σ v))
       (λ x l. subst (λ s. Matches σ s (σ x)) (sym (shape-name tb l)) tt) k
       (λ n l. subst (λ s. Matches σ s (σ (base tb n))) (sym (shape-self tb (omega arith)))
-          (form→shape σ (varOf tb n) (planAt tb n .self-form) _ (q n l .0)))
+      (form→shape σ (varOf tb n) (planAt tb n .self-form) _ (q n l .0)))
       (λ n j l g. subst (λ s. Matches σ s (σ (base tb n + 1 + j))) (sym (shape-slot tb (omega arith) g))
-          (form→shape σ (varOf tb n) (getD (planAt tb n .slots) j openᶠ) _ (slot-at _ _ (planAt tb n .slots) (q n l .1) j g)));
+      (form→shape σ (varOf tb n) (getD (planAt tb n .slots) j openᶠ) _ (slot-at _ _ (planAt tb n .slots) (q n l .1) j g)));
   equal = holds-all tb σ k (λ n l. pairs→eqns σ (varOf tb n) (planAt tb n .equations) (q n l .2));
 }
 
@@ -155,11 +156,11 @@ module _ (tb : Table) (right : RightNodes tb) where
       (v : ℕ) → v < base tb k → P (shapeAt tb v)
   each-shape P p k h q = each-variable tb (λ v. P (shapeAt tb v)) (λ x l. subst P (sym (shape-name tb l)) p) k
       (λ n l. subst P (sym (shape-self tb (omega arith)))
-          (q n l (planAt tb n .self-form) (node-plan tb right {n = n} (omega arith) .self-right)))
+      (q n l (planAt tb n .self-form) (node-plan tb right {n = n} (omega arith) .self-right)))
       (λ n j l g. subst P (sym (shape-slot tb (omega arith) g))
-          (q n l (getD (planAt tb n .slots) j openᶠ)
-              (form-at tb n (nodeAt (tb .nodes) n) (slotCount tb n) (planAt tb n .slots)
-                  (node-plan tb right {n = n} (omega arith) .slots-right) j g)))
+      (q n l (getD (planAt tb n .slots) j openᶠ)
+      (form-at tb n (nodeAt (tb .nodes) n) (slotCount tb n) (planAt tb n .slots)
+      (node-plan tb right {n = n} (omega arith) .slots-right) j g)))
 
   pub well-formed : (k : ℕ) → k ≤ length (tb .nodes) → WellFormed tb k
   well-formed k h = record {

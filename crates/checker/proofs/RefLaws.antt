@@ -31,6 +31,7 @@ few (some k) a = go k
     tests member = omega arith
     tests subset = omega arith
     tests (atMost n) = omega arith
+
     leaves : (j : Leaf) → Few (plan (leaf j) a)
     leaves identifier = omega arith
     leaves givenSet = omega arith
@@ -39,6 +40,7 @@ few (some k) a = go k
     leaves truthConst = omega arith
     leaves emptySet = omega arith
     leaves boolSet = omega arith
+
     ones : (j : One) → Few (plan (one j) a)
     ones singleton = omega arith
     ones power = omega arith
@@ -46,6 +48,7 @@ few (some k) a = go k
     ones ran = omega arith
     ones card = omega arith
     ones choice = omega arith
+
     twos : (j : Two) → Few (plan (two j) a)
     twos pairing = omega arith
     twos union = omega arith
@@ -56,6 +59,7 @@ few (some k) a = go k
     twos (plus n) = omega arith
     twos (minus n) = omega arith
     twos interval = omega arith
+
     go : (k : Kind) → Few (plan k a)
     go (join j) = omega arith
     go negation = omega arith
@@ -173,7 +177,8 @@ module _ {tb : Table} {n : ℕ} {d : Node} {p : Plan} (w : PlanRight tb n d p) (
   pairs-same (e ∷ es) h q = (cc (same (e .0) (h .0), same (e .1) (h .1), q .0), pairs-same es (h .2) (q .1))
 
   pub meets-same : Meets p ρ → Meets p ρ′
-  meets-same q =
-      (form-same (p .self-form) _ _ (w .self-right) (same self tt) (q .0),
-      slots-same _ _ (p .slots) (λ i l. same (slot i) l) (w .slots-right) (q .1),
-      pairs-same (p .equations) (w .equations-right) (q .2))
+  meets-same q = (
+    form-same (p .self-form) _ _ (w .self-right) (same self tt) (q .0),
+    slots-same _ _ (p .slots) (λ i l. same (slot i) l) (w .slots-right) (q .1),
+    pairs-same (p .equations) (w .equations-right) (q .2),
+  )

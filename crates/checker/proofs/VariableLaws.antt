@@ -39,8 +39,12 @@ pub length-shapes : (tb : Table) (k : ℕ) → length (shapes tb k) ≡ base tb 
 unfolding base shapes
 length-shapes tb zero = length-replicate _ _
 length-shapes tb (suc k) =
-    omega (arith, length-append (shapes tb k) (nodeShapes tb k), length-shapes tb k,
-        length-map (planAt tb k .slots) (shapeFrom (varOf tb k)))
+    omega (
+      arith,
+      length-append (shapes tb k) (nodeShapes tb k),
+      length-shapes tb k,
+      length-map (planAt tb k .slots) (shapeFrom (varOf tb k)),
+    )
 
 -- Later nodes leave the shapes as they are.
 pub shapes-grow : (tb : Table) {k : ℕ} (m v : ℕ) → k ≤ m → v < base tb k → getD (shapes tb m) v unknown ≡ getD (shapes tb k) v unknown
@@ -88,7 +92,7 @@ module _ (tb : Table) (P : ℕ → Type 0) (names : (x : ℕ) → x < length (tb
   each-variable zero nodes slots v h = names v h
   each-variable (suc k) nodes slots v h =
       go (decLt v (base tb k)) (ℕ-discrete v (base tb k))
-          (each-variable k (λ n l. nodes n (omega arith)) (λ n j l. slots n j (omega arith)) v)
+      (each-variable k (λ n l. nodes n (omega arith)) (λ n j l. slots n j (omega arith)) v)
     where
       go : Dec (v < base tb k) → Dec (v ≡ base tb k) → (v < base tb k → P v) → P v
       go (yes l) e ih = ih l

@@ -1,10 +1,16 @@
 -- The number and the place, in the terms of document 01, of what `check` answers, and what its internal functions say.
-use Prim.Native.Nat.{ℕ}
+use Prim.Native.Nat.{ℕ, _<_}
 use mathlib.Core.List.{List}
 use mathlib.Core.Path.{_≡_}
 use lib.ListN.{length}
 use Rattle.rules.specs.Ends.{End, done, refused}
-use Rattle.rules.specs.Verdict.{Verdict, sheetAfter}
+use Rattle.rules.specs.Tables.{tableOf}
+use Rattle.rules.specs.Reading.{reading}
+use Rattle.rules.specs.Verdict.{Verdict, sheetAfter, sheetLength}
+use Rattle.solver.specs.Arrays.{ClassArrays, shapeAt as arrayShape}
+use Rattle.solver.specs.Solved.{Solved}
+use Rattle.checker.specs.Equations.{base, shapeAt, equations}
+use Rattle.checker.specs.Rows.{Placed}
 use Rattle.checker.specs.declared.Checked.{Checked}
 use Rattle.checker.specs.declared.Checked.the-variants.{Accepted, Refused}
 
@@ -23,3 +29,20 @@ pub record Told (bs sheet : List ℕ) (r : Checked) (after : List ℕ) : Type 0 
   pub described : Verdict bs (length sheet) verdict
   pub answer : answerOf r ≡ answered verdict
   pub exit : after ≡ sheetAfter verdict sheet
+
+-- What answering rests on: the parts of the arrays that hold the whole table's problem, solved, and a sheet that fits.
+pub record Answerable (bs : List ℕ) (at : ℕ) (bases kind left right cls mark sheet : List ℕ) : Type 0 where
+  pub reads : reading bs ≡ done (tableOf bs)
+  pub placed : Placed bs at bases (length cls)
+  pub marks : length mark ≡ length cls
+  pub variables : length cls ≡ base (tableOf bs) (length (tableOf bs .nodes))
+  pub classes : ClassArrays kind left right cls (length cls)
+  pub shapes : (v : ℕ) → v < length cls → arrayShape kind left right v ≡ shapeAt (tableOf bs) v
+  pub solved : Solved (shapeAt (tableOf bs)) (base (tableOf bs) (length (tableOf bs .nodes)))
+      (equations (tableOf bs) (length (tableOf bs .nodes))) cls mark
+  pub fits : length sheet ≡ sheetLength (tableOf bs)
+
+-- A readable table and a sheet of the right length.
+pub record Checkable (bs sheet : List ℕ) : Type 0 where
+  pub reads : reading bs ≡ done (tableOf bs)
+  pub fits : length sheet ≡ sheetLength (tableOf bs)

@@ -7,10 +7,9 @@ use table::Reading;
 use table::Refusal;
 ghost use mathlib.Core.Path.{_≡_};
 ghost use lib.ListN.{length};
-ghost use Rattle.rules.specs.Verdict.{sheetAfter, sheetLength};
-ghost use Rattle.rules.specs.Tables.{tableOf};
+ghost use Rattle.rules.specs.Verdict.{sheetAfter};
 ghost use Rattle.checker.specs.Model.{verdict};
-ghost use Rattle.checker.specs.Answers.{answerOf, answered, Told};
+ghost use Rattle.checker.specs.Answers.{answerOf, answered, Answerable, Checkable, Told};
 
 pub enum Checked {
     Accepted,
@@ -34,7 +33,10 @@ fn answer(
     cls: &[u16],
     mark: &[u8],
     sheet: &mut [u8],
-) -> Checked {
+) -> Checked
+    requires { ⌜ Answerable (now table) at (now bases) (now kind) (now left) (now right) (now cls) (now mark) (now sheet) ⌝ }
+    ensures { λ r. ⌜ Told (now (table .entry)) (now (sheet .entry)) r (now (sheet .exit)) ⌝ }
+{
     let places = table::identifiers(table) + table::nodes(table);
     let p = rows::first_open(table, at, bases, mark);
     if p < places {
@@ -49,7 +51,10 @@ fn answer(
 }
 
 // Refusals 11 to 13, or the rows, of a readable table with a sheet of the right length.
-fn check_types(table: &[u8], sheet: &mut [u8]) -> Checked {
+fn check_types(table: &[u8], sheet: &mut [u8]) -> Checked
+    requires { ⌜ Checkable (now table) (now sheet) ⌝ }
+    ensures { λ r. ⌜ Told (now (table .entry)) (now (sheet .entry)) r (now (sheet .exit)) ⌝ }
+{
     let at = table::nodes_offset(table);
     let n = table::nodes(table);
     let mut kind = [0u8; 3104];
@@ -59,18 +64,66 @@ fn check_types(table: &[u8], sheet: &mut [u8]) -> Checked {
     let mut rhs = [0u16; 1024];
     let mut bases = [0u16; 513];
     let mut counts = [0u16; 513];
-    build::build(table, at, &mut kind, &mut left, &mut right, &mut lhs, &mut rhs, &mut bases, &mut counts);
+    build::build(
+        table,
+        at,
+        &mut kind,
+        &mut left,
+        &mut right,
+        &mut lhs,
+        &mut rhs,
+        &mut bases,
+        &mut counts,
+    );
     let mut cls = [0u16; 3104];
     let mut ls = [0u16; 9315];
     let mut rs = [0u16; 9315];
     let mut mark = [0u8; 3104];
-    let ok = prefix::solve_prefix(table, &kind, &left, &right, &lhs, &rhs, &bases, &counts, &mut cls, &mut ls, &mut rs, &mut mark, n);
+    let ok = prefix::solve_prefix(
+        table,
+        &kind,
+        &left,
+        &right,
+        &lhs,
+        &rhs,
+        &bases,
+        &counts,
+        &mut cls,
+        &mut ls,
+        &mut rs,
+        &mut mark,
+        n,
+    );
     if !ok {
-        let k = prefix::first_clash(table, &kind, &left, &right, &lhs, &rhs, &bases, &counts, &mut cls, &mut ls, &mut rs, &mut mark, n);
+        let k = prefix::first_clash(
+            table,
+            &kind,
+            &left,
+            &right,
+            &lhs,
+            &rhs,
+            &bases,
+            &counts,
+            &mut cls,
+            &mut ls,
+            &mut rs,
+            &mut mark,
+            n,
+        );
         return refused(11, k);
     }
     let v = bases[n] as usize;
-    answer(table, at, &bases, &kind[..v], &left[..v], &right[..v], &cls[..v], &mark[..v], sheet)
+    answer(
+        table,
+        at,
+        &bases,
+        &kind[..v],
+        &left[..v],
+        &right[..v],
+        &cls[..v],
+        &mark[..v],
+        sheet,
+    )
 }
 
 // Check: refusals 1 to 13 in order, or the rows of the only typing.

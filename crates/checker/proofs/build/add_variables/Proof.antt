@@ -37,7 +37,7 @@ same-length-4 c = search needs
 returns : tie.Need-returns
 returns c =
     next-variables _ _ _ _ _ _ _ _ _ _ _ _ (c .before .before .before .before .before .before .before .before .before .before .before .before .before .before .before .before .before .pre)
-        (c .before .before .before .before .before .before .before .before .before .before .read-node .ensures) (c .before .before .before .before .before .before .put-forms .ensures)
+    (c .before .before .before .before .before .before .before .before .before .before .read-node .ensures) (c .before .before .before .before .before .before .put-forms .ensures)
 
 pub add-variables-spec : {M : Type 1} → statement M
 add-variables-spec =

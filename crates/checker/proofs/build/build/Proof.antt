@@ -10,10 +10,12 @@ variables-requires c κs = search needs
 equations-requires : tie.Need-equations-requires
 equations-requires c κs =
     let pre = c .before .before .before .before .before .before .before .before .before .before .before .before .before .before .before .before .before .before .before .before .before .before .before .before .before .pre in
-    let call = c .before .before .before .before .before .before .before .before .before .before .before .before .variables in
-    (pre .0,
-    record { lhs-length = pre .1 .lhs-length; rhs-length = pre .1 .rhs-length; counts-length = pre .1 .counts-length },
-    call .kept .1 .1 .1 .1 .1 .0 ∙ pre .1 .bases-length, call .ensures .bases-are)
+    let call = c .before .before .before .before .before .before .before .before .before .before .before .before .variables in (
+      pre .0,
+      record { lhs-length = pre .1 .lhs-length; rhs-length = pre .1 .rhs-length; counts-length = pre .1 .counts-length },
+      call .kept .1 .1 .1 .1 .1 .0 ∙ pre .1 .bases-length,
+      call .ensures .bases-are,
+    )
 
 same-length : tie.Need-same-length
 same-length c = search needs
@@ -39,7 +41,7 @@ same-length-7 c = search needs
 returns : tie.Need-returns
 returns c =
     built _ _ _ _ _ _ _ _ _ (c .before .before .before .before .before .before .before .before .before .before .before .before .before .before .before .before .before .before .before .variables .ensures)
-        (c .before .before .before .before .before .before .equations .ensures)
+    (c .before .before .before .before .before .before .equations .ensures)
 
 pub build-spec : {M : Type 1} → statement M
 build-spec =

@@ -26,10 +26,11 @@ nodes-requires c κs = c .before .before .before .before .before .pre .0 .laid .
 
 loop-holds : tie.Need-loop-holds Inv-loop μ-loop
 loop-holds c =
-    let room = c .before .before .before .before .before .before .pre .1 in
-    (omega arith,
-    record { lhs-length = room .lhs-length; rhs-length = room .rhs-length; counts-length = simp length-set (room .counts-length) },
-    equations-start _ _ _ _ (getD-set-same (now (c .before .before .before .before .before .before .args .counts)) 0 0 0 (omega (arith, room .counts-length))))
+    let room = c .before .before .before .before .before .before .pre .1 in (
+      omega arith,
+      record { lhs-length = room .lhs-length; rhs-length = room .rhs-length; counts-length = simp length-set (room .counts-length) },
+      equations-start _ _ _ _ (getD-set-same (now (c .before .before .before .before .before .before .args .counts)) 0 0 0 (omega (arith, room .counts-length))),
+    )
 
 add-equations-requires : tie.Need-add-equations-requires Inv-loop μ-loop
 add-equations-requires c κs =
@@ -55,14 +56,15 @@ loop-less c = search needs
 loop-again : tie.Need-loop-again Inv-loop μ-loop
 loop-again c =
     let call = c .before .before .before .before .before .before .add-equations in
-    let room = c .before .before .before .before .before .before .before .before .before .before .before .loop .inv .1 in
-    (omega arith,
-    record {
-      lhs-length = call .kept .1 .1 .1 .0 ∙ room .lhs-length;
-      rhs-length = call .kept .1 .1 .1 .1 .0 ∙ room .rhs-length;
-      counts-length = call .kept .1 .1 .1 .1 .1 .1 .0 ∙ room .counts-length;
-    },
-    call .ensures)
+    let room = c .before .before .before .before .before .before .before .before .before .before .before .loop .inv .1 in (
+      omega arith,
+      record {
+        lhs-length = call .kept .1 .1 .1 .0 ∙ room .lhs-length;
+        rhs-length = call .kept .1 .1 .1 .1 .0 ∙ room .rhs-length;
+        counts-length = call .kept .1 .1 .1 .1 .1 .1 .0 ∙ room .counts-length;
+      },
+      call .ensures,
+    )
 
 same-length : tie.Need-same-length Inv-loop μ-loop
 same-length c = c .before .loop .inv .1 .lhs-length ∙ sym (c .before .before .before .before .before .before .before .before .pre .1 .lhs-length)
@@ -76,7 +78,7 @@ same-length-3 c = c .before .loop .inv .1 .counts-length ∙ sym (c .before .bef
 returns : tie.Need-returns Inv-loop μ-loop
 returns c =
     let e : c .before .loop .n ≡ nodeCount (now (c .before .before .before .before .before .before .before .before .args .table)) =
-        omega (arith, c .before .loop .inv .0, c .loop-test .left, c .before .before .nodes .ensures) in
+    omega (arith, c .before .loop .inv .0, c .loop-test .left, c .before .before .nodes .ensures) in
     rw e at (c .before .loop .inv .2)
 
 pub equations-spec : {M : Type 1} → statement M

@@ -70,8 +70,8 @@ returns : tie.Need-returns
 returns c =
     let start = c .before .before .before .before .before .before .before .before .before in
     put-form (start .args .s) (start .args .j) (start .pre .1) _ _ _ _ _ _ _ _ _
-        (c .before .before .before .before .before .code .ensures) (c .before .before .before .before .code2 .ensures)
-        (c .before .before .code3 .ensures) (c .before .before .before .left-entry .ensures) (c .before .var .ensures) (c .wide .ensures)
+    (c .before .before .before .before .before .code .ensures) (c .before .before .before .before .code2 .ensures)
+    (c .before .before .code3 .ensures) (c .before .before .before .left-entry .ensures) (c .before .var .ensures) (c .wide .ensures)
 
 pub put-form-spec : {M : Type 1} → statement M
 put-form-spec =

@@ -44,7 +44,7 @@ returns : tie.Need-returns
 returns c =
     let start = c .before .before .before .before .before in
     put-sides (start .args .s) (start .args .i) (start .pre .2) (start .args .m) (now (start .args .out)) _ _ _ _
-        (c .before .before .before .code .ensures) (c .before .code2 .ensures) (c .before .before .var .ensures) (c .var2 .ensures)
+    (c .before .before .before .code .ensures) (c .before .code2 .ensures) (c .before .before .var .ensures) (c .var2 .ensures)
 
 pub put-sides-spec : {M : Type 1} → statement M
 put-sides-spec =

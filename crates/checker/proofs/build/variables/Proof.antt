@@ -42,17 +42,18 @@ loop-holds c =
     let room = start .pre .1 in
     let names = c .before .before .before .before .before .identifiers in
     let opened = c .before .before .before .open-names in
-    let count = binds-length (now (start .args .table)) in
-    (omega arith,
-    record {
-      kind-length = opened .kept .0 ∙ room .kind-length;
-      left-length = room .left-length;
-      right-length = room .right-length;
-      bases-length = simp length-set (room .bases-length);
-    },
-    variables-start _ _ _ _ _
-        (getD-set-same (now (start .args .bases)) 0 (names .result) 0 (omega (arith, room .bases-length)) ∙ names .ensures ∙ sym count)
-        (λ v l. opened .ensures v (omega (arith, count, names .ensures))))
+    let count = binds-length (now (start .args .table)) in (
+      omega arith,
+      record {
+        kind-length = opened .kept .0 ∙ room .kind-length;
+        left-length = room .left-length;
+        right-length = room .right-length;
+        bases-length = simp length-set (room .bases-length);
+      },
+      variables-start _ _ _ _ _
+          (getD-set-same (now (start .args .bases)) 0 (names .result) 0 (omega (arith, room .bases-length)) ∙ names .ensures ∙ sym count)
+          (λ v l. opened .ensures v (omega (arith, count, names .ensures))),
+    )
 
 add-variables-requires : tie.Need-add-variables-requires Inv-loop μ-loop
 add-variables-requires c κs =
@@ -70,15 +71,16 @@ loop-less c = search needs
 loop-again : tie.Need-loop-again Inv-loop μ-loop
 loop-again c =
     let call = c .before .before .before .before .before .before .before .before .add-variables in
-    let room = c .before .before .before .before .before .before .before .before .before .before .before .before .before .before .loop .inv .1 in
-    (omega (arith, c .before .before .before .before .before .before .before .before .before .before .before .before .before .loop-test .taken),
-    record {
-      kind-length = call .kept .1 .1 .1 .0 ∙ room .kind-length;
-      left-length = call .kept .1 .1 .1 .1 .0 ∙ room .left-length;
-      right-length = call .kept .1 .1 .1 .1 .1 .0 ∙ room .right-length;
-      bases-length = call .kept .1 .1 .1 .1 .1 .1 .0 ∙ room .bases-length;
-    },
-    call .ensures)
+    let room = c .before .before .before .before .before .before .before .before .before .before .before .before .before .before .loop .inv .1 in (
+      omega (arith, c .before .before .before .before .before .before .before .before .before .before .before .before .before .loop-test .taken),
+      record {
+        kind-length = call .kept .1 .1 .1 .0 ∙ room .kind-length;
+        left-length = call .kept .1 .1 .1 .1 .0 ∙ room .left-length;
+        right-length = call .kept .1 .1 .1 .1 .1 .0 ∙ room .right-length;
+        bases-length = call .kept .1 .1 .1 .1 .1 .1 .0 ∙ room .bases-length;
+      },
+      call .ensures,
+    )
 
 same-length : tie.Need-same-length Inv-loop μ-loop
 same-length c = c .before .loop .inv .1 .kind-length ∙ sym (c .before .before .before .before .before .before .before .before .before .before .before .before .before .pre .1 .kind-length)
@@ -95,7 +97,7 @@ same-length-4 c = c .before .loop .inv .1 .bases-length ∙ sym (c .before .befo
 returns : tie.Need-returns Inv-loop μ-loop
 returns c =
     let e : c .before .loop .n ≡ nodeCount (now (c .before .before .before .before .before .before .before .before .before .before .before .before .before .args .table)) =
-        omega (arith, c .before .loop .inv .0, c .loop-test .left, c .before .before .nodes .ensures) in
+    omega (arith, c .before .loop .inv .0, c .loop-test .left, c .before .before .nodes .ensures) in
     rw e at (c .before .loop .inv .2)
 
 pub variables-spec : {M : Type 1} → statement M
