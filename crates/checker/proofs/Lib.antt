@@ -15,5 +15,6 @@ pub mod SameProblem
 pub mod PrefixLaws
 pub mod Scan
 pub mod Sheet
+pub mod Telling
 pub mod Examples
 pub mod Conditions
