@@ -16,5 +16,6 @@ pub mod PrefixLaws
 pub mod Scan
 pub mod Typing
 pub mod Sheet
+pub mod Telling
 pub mod Examples
 pub mod Conditions

@@ -1,0 +1,11 @@
+-- The answers of the exported functions: a number, 0 where there is no refusal, and a place.
+use Prim.Native.Nat.{ℕ}
+use Rattle.rules.specs.Ends.{End, done, refused}
+
+abbrev pub numberOf : {A : Type 0} → End A → ℕ
+numberOf (done a) = 0
+numberOf (refused r p) = r
+
+abbrev pub placeOf : {A : Type 0} → End A → ℕ
+placeOf (done a) = 0
+placeOf (refused r p) = p
