@@ -14,6 +14,7 @@ pub mod VerdictRight
 pub mod SameProblem
 pub mod PrefixLaws
 pub mod Scan
+pub mod Typing
 pub mod Sheet
 pub mod Telling
 pub mod Examples
