@@ -1,14 +1,13 @@
 -- The steps of the code over a readable table's bytes.
-use Prim.Native.Nat.{ℕ, suc, _+_, _*_, _≤_, _<_}
+use Prim.Native.Nat.{ℕ, suc, _+_, _≤_, _<_}
 use mathlib.Core.List.{List}
-use mathlib.Core.Path.{_≡_, refl, sym, ap, subst, _∙_}
+use mathlib.Core.Path.{_≡_, refl, ap, subst, _∙_}
 use native.Mathlib.Omega.{arith}
 use lib.ListN.{length, getD, set}
 use Rattle.rules.specs.Readable.{Header}
 use Rattle.rules.specs.Tables.{Table, tableOf, nodeAt, nodeCount}
 use Rattle.rules.proofs.TableLaws.{sizes-length, binds-length, nodes-length}
 use Rattle.checker.specs.Codes.{CodeOf}
-use Rattle.checker.specs.Equations.{base, equations}
 use Rattle.checker.specs.Entries.{Small, Forms, FormsTo, FormRoom, Sides, VarsOf, VariablesTo, EquationsTo, NextVariables, NextEquations, planFor}
 use Rattle.checker.specs.Built.{Built}
 use Rattle.checker.specs.declared.build.NodeVars.{NodeVars}

@@ -1,8 +1,8 @@
 // Turns a readable table into a problem of unification.
 ghost use mathlib.Core.Path.{_≡_};
-ghost use Prim.Native.Nat.{ℕ, _+_, _*_, _≤_, _<_};
-ghost use lib.ListN.{length, getD, set};
-ghost use Rattle.rules.specs.Tables.{tableOf, nodeCount, identifierCount};
+ghost use Prim.Native.Nat.{ℕ, _+_, _≤_, _<_};
+ghost use lib.ListN.{length, getD};
+ghost use Rattle.rules.specs.Tables.{tableOf, nodeCount};
 ghost use Rattle.table.specs.Layout.{NodeIn, Fielded};
 ghost use Rattle.checker.specs.Codes.{CodeOf, refOf, formAt};
 ghost use Rattle.checker.specs.Built.{Built, Sized};
