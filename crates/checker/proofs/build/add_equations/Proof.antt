@@ -2,7 +2,7 @@ use mathlib.Core.Path.{refl}
 use native.Mathlib.Omega.{arith}
 use borrow.Author.Needs.{needs}
 use Rattle.checker.proofs.CodeLaws.{equations-few}
-use Rattle.checker.proofs.BuildLaws.{small, count-small, next-equations}
+use Rattle.checker.proofs.BuildLaws.{sound, count-small, next-equations}
 use Rattle.checker.proofs.build.add_equations.Statement.{statement}
 use Rattle.checker.proofs.build.add_equations.Tie as tie
 
@@ -26,7 +26,7 @@ put-sides-requires c κs =
     let pre = c .before .before .before .before .before .before .before .before .before .pre in
     let header = pre .fielded .laid .header in
     let m = count-small _ header _ (pre .below) _ _ _ (pre .so-far) in
-    (small _ header _ (pre .below) _ (c .before .before .before .read-node .ensures),
+    (sound _ header _ (pre .below) _ (c .before .before .before .read-node .ensures),
     omega (arith, c .wide .ensures, pre .room .lhs-length), omega arith)
 
 wide-requires-2 : tie.Need-wide-requires-2
@@ -37,11 +37,13 @@ put-sides-requires-2 c κs =
     let pre = c .before .before .before .before .before .before .before .before .before .before .before .before .before .before .pre in
     let header = pre .fielded .laid .header in
     let m = count-small _ header _ (pre .below) _ _ _ (pre .so-far) in
-    (small _ header _ (pre .below) _ (c .before .before .before .before .before .before .before .before .read-node .ensures),
+    (sound _ header _ (pre .below) _ (c .before .before .before .before .before .before .before .before .read-node .ensures),
     omega (arith, c .wide2 .ensures, pre .room .rhs-length), omega arith)
 
 code-requires : tie.Need-code-requires
-code-requires c κs = search needs
+code-requires c κs =
+    let pre = c .before .before .before .before .before .before .before .before .before .before .before .before .before .before .before .before .before .pre in
+    (sound _ (pre .fielded .laid .header) _ (pre .below) _ (c .before .before .before .before .before .before .before .before .before .before .before .read-node .ensures), omega arith)
 
 cast-counts : tie.Need-cast-counts
 cast-counts c = search needs

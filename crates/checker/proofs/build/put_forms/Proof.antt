@@ -31,7 +31,7 @@ put-form-requires c κs =
     let room = c .before .before .before .before .before .before .before .before .before .before .pre in
     let forms = c .before .before .before .before .loop .inv .1 in
     (record {
-      small = room .small;
+      sound = room .sound;
       kind-room = omega (arith, forms .kind-kept, room .kind-room);
       left-room = omega (arith, forms .left-kept, room .left-room);
       right-room = omega (arith, forms .right-kept, room .right-room);
@@ -55,10 +55,10 @@ loop-again c =
         (c .before .before .before .before .before .before .before .before .before .before .before .loop .inv .1) (c .before .before .before .before .before .before .put-form .ensures))
 
 add-result : tie.Need-add-result Inv-loop μ-loop
-add-result c = omega (arith, c .before .before .before .before .before .before .before .before .pre .small .own-small)
+add-result c = omega (arith, c .before .before .before .before .before .before .before .before .pre .sound .own-small)
 
 add-result-2 : tie.Need-add-result-2 Inv-loop μ-loop
-add-result-2 c = omega (arith, c .before .before .before .before .before .before .before .before .pre .small .own-small, slots-few _ _ (c .before .before .before .before .code .ensures))
+add-result-2 c = omega (arith, c .before .before .before .before .before .before .before .before .pre .sound .own-small, slots-few _ _ (c .before .before .before .before .code .ensures))
 
 same-length : tie.Need-same-length Inv-loop μ-loop
 same-length c = c .before .before .loop .inv .1 .kind-kept
