@@ -60,9 +60,9 @@ const PLANS: [[u8; 24]; 44] = [
     *b"100020000000000000011400",
 ];
 
-// The kind of a node and its plan, its variable, and what the plan's other references stand for: `first` and `second` are the variables
-// of the operands in fields a and b, `name` the identifier or the given set in field a. Those that the kind does not have
-// are any numbers.
+// The kind of a node and its plan, its variable, and what the plan's other references stand for: `first` and `second` are
+// the variables of the operands in fields a and b, `name` the identifier or the given set in field a. Those that the kind
+// does not have are any numbers.
 struct NodeVars {
     kind: usize,
     plan: [u8; 24],
