@@ -1,15 +1,14 @@
 -- The steps of the code over a readable table's bytes.
-use Prim.Native.Nat.{ℕ, suc, _+_, _*_, _≤_, _<_}
+use Prim.Native.Nat.{ℕ, suc, _+_, _≤_, _<_}
 use mathlib.Core.List.{List}
-use mathlib.Core.Path.{_≡_, refl, sym, ap, subst, _∙_}
+use mathlib.Core.Path.{_≡_, refl, ap, subst, _∙_}
 use native.Mathlib.Omega.{arith}
 use lib.ListN.{length, getD, set}
 use Rattle.rules.specs.Readable.{Header}
 use Rattle.rules.specs.Tables.{Table, tableOf, nodeAt, nodeCount}
 use Rattle.rules.proofs.TableLaws.{sizes-length, binds-length, nodes-length}
 use Rattle.checker.specs.Codes.{CodeOf}
-use Rattle.checker.specs.Equations.{base, equations}
-use Rattle.checker.specs.Entries.{Small, Forms, FormsTo, FormRoom, Sides, VarsOf, VariablesTo, EquationsTo, NextVariables, NextEquations, planFor}
+use Rattle.checker.specs.Entries.{Sound, Forms, FormsTo, FormRoom, Sides, VarsOf, VariablesTo, EquationsTo, NextVariables, NextEquations, planFor}
 use Rattle.checker.specs.Built.{Built}
 use Rattle.checker.specs.declared.build.NodeVars.{NodeVars}
 use Rattle.checker.proofs.VariableLaws.{base-bound}
@@ -28,8 +27,8 @@ module _ (bs : List ℕ) (h : Header bs) (n : ℕ) (l : n < nodeCount bs) where
   own-bound : (s : NodeVars) → VarsOf (tableOf bs) n s → s .own + 6 ≤ 3104
   own-bound s v = omega (arith, base-bound (tableOf bs) n, binds-length bs)
 
-  pub small : (s : NodeVars) → VarsOf (tableOf bs) n s → Small s
-  small s v = record { own-small = omega (arith, own-bound s v); name-small = v .name-small }
+  pub sound : (s : NodeVars) → VarsOf (tableOf bs) n s → Sound s
+  sound s v = record { digits-are = v .digits-are; own-small = omega (arith, own-bound s v); name-small = v .name-small }
 
   pub count-small : (lhs rhs counts : List ℕ) → EquationsTo (tableOf bs) n lhs rhs counts → getD counts n 0 ≤ 1022
   count-small lhs rhs counts q = omega (arith, q .counts-are n (omega arith), equations-bound (tableOf bs) n)
@@ -40,7 +39,7 @@ pub form-room : (bs : List ℕ) (at n : ℕ) (kind left right bases : List ℕ) 
 form-room bs at n kind left right bases s q v =
     let b = own-bound bs (q .fielded .laid .header) n (q .below) s v in
     record {
-      small = small bs (q .fielded .laid .header) n (q .below) s v;
+      sound = sound bs (q .fielded .laid .header) n (q .below) s v;
       kind-room = omega (arith, q .room .kind-length);
       left-room = omega (arith, q .room .left-length);
       right-room = omega (arith, q .room .right-length);

@@ -1,8 +1,8 @@
 -- What the code writes for a form and for a reference is what the plan says.
 use Prim.Native.Nat.{ℕ, zero, suc, _+_, _*_, _-_, _≤_, _<_}
 use mathlib.Core.List.{List}
-use mathlib.Core.Logic.{_⊎_, inl, inr}
-use mathlib.Core.Path.{_≡_, refl, sym, ap, ap₂, _∙_}
+use mathlib.Core.Logic.{inl, inr}
+use mathlib.Core.Path.{_≡_, refl, ap, ap₂, _∙_}
 use native.Mathlib.Decide.{ℕ-discrete}
 use native.Mathlib.Omega.{arith}
 use lib.ListN.{length, getD, set, length-set}
@@ -12,8 +12,8 @@ use Rattle.rules.specs.Types.{whole, number, bool, given}
 use Rattle.rules.specs.Tables.{Table, nodeAt}
 use Rattle.solver.specs.Problem.{Shape, leaf, power, product, atomFrom}
 use Rattle.checker.specs.Plan.{Ref, self, first, second, name, slot, Form, openᶠ, atomᶠ, powᶠ, prodᶠ}
-use Rattle.checker.specs.Codes.{refCode, refOf, formKind, formLeft, formRight, formAt, pairAt, digits, CodeOf}
-use Rattle.checker.specs.Equations.{base, varOf, shapeFrom}
+use Rattle.checker.specs.Codes.{refCode, refOf, formKind, formLeft, formRight, formAt, pairAt, CodeOf}
+use Rattle.checker.specs.Equations.{varOf, shapeFrom}
 use Rattle.checker.specs.Entries.{varAt, leftOf, planFor, EntryOf, Stands, FormEntry, PutForm, FormsTo, side, Sides, VarsOf}
 use Rattle.checker.specs.declared.build.NodeVars.{NodeVars}
 use Rattle.checker.proofs.RefLaws.{RefRight, FormRight}

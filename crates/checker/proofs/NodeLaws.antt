@@ -10,15 +10,15 @@ use lib.Seq.{getD-set-same, getD-set-other, getD-append-add}
 use Rattle.rules.specs.Kinds.{kindOf}
 use Rattle.rules.specs.Readable.{NodeRight}
 use Rattle.rules.specs.Tables.{Node, Table, nodeAt, kindAt}
-use Rattle.solver.specs.Problem.{Shape, Eqn, eqn, unknown}
+use Rattle.solver.specs.Problem.{Eqn, eqn}
 use Rattle.checker.specs.Plan.{Ref, self, Plan, openᶠ}
 use Rattle.checker.specs.Codes.{formsOf, formAt, pairAt, CodeOf}
 use Rattle.checker.specs.Equations.{planOf, planAt, slotCount, base, varOf, shapeFrom, eqnFrom, nodeEquations, shapeAt, equations}
 use Rattle.checker.specs.Entries.{varAt, planFor, Stands, FormEntry, Forms, side, Sides, BasesTo, VarsOf, VariablesTo, EquationsTo}
 use Rattle.checker.specs.declared.build.NodeVars.{NodeVars}
 use Rattle.checker.proofs.CodeLaws.{few-equations, own-set, equations-digit}
-use Rattle.checker.proofs.RefLaws.{RefRight, FormRight, FormsRight, PairsRight, PlanRight, plan-refs}
-use Rattle.checker.proofs.VariableLaws.{base-bound, shape-name, shape-node}
+use Rattle.checker.proofs.RefLaws.{RefRight, PairsRight, PlanRight, plan-refs}
+use Rattle.checker.proofs.VariableLaws.{shape-name, shape-node}
 use Rattle.checker.proofs.ProblemLaws.{form-at}
 use Rattle.checker.proofs.EntryLaws.{var-right, form-entry}
 

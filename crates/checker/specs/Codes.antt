@@ -1,5 +1,5 @@
 -- The digits of a plan, as the constant table of the code has them.
-use Prim.Native.Nat.{ℕ, zero, suc, _+_}
+use Prim.Native.Nat.{ℕ, zero, suc, _+_, _%_, _<_}
 use mathlib.Core.List.{List, [], _∷_}
 use mathlib.Core.Path.{_≡_}
 use lib.ListN.{getD, length}
@@ -73,3 +73,7 @@ digits p =
 -- c is digit i of the plan of the kind with code k, whatever stands in field a.
 abbrev pub CodeOf : ℕ → ℕ → ℕ → Type 0
 CodeOf k i c = (a : ℕ) → c ≡ getD (digits (planOf (kindOf k) a)) i 0
+
+-- The plan of that kind in ASCII digits.
+abbrev pub Digits : ℕ → List ℕ → Type 0
+Digits k p = (i : ℕ) → i < 24 → CodeOf k i (getD p i 0 % 16)

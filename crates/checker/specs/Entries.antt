@@ -11,7 +11,7 @@ use Rattle.table.specs.Layout.{Fielded}
 use Rattle.solver.specs.Problem.{Shape, shapeOf, eqn}
 use Rattle.solver.specs.Arrays.{AtomCode}
 use Rattle.checker.specs.Plan.{Ref, self, first, second, name, slot, Form, Plan}
-use Rattle.checker.specs.Codes.{refOf, formKind, formLeft, formRight, formAt, pairAt}
+use Rattle.checker.specs.Codes.{Digits, refOf, formKind, formLeft, formRight, formAt, pairAt}
 use Rattle.checker.specs.Equations.{planOf, base, shapeAt, equations}
 use Rattle.checker.specs.declared.build.NodeVars.{NodeVars}
 
@@ -23,8 +23,9 @@ varAt s second = s .second
 varAt s name = s .name
 varAt s (slot i) = s .own + 1 + i
 
--- The numbers are small enough for sums of 16 bits.
-pub record Small (s : NodeVars) : Type 0 where
+-- The plan is the kind's, and the numbers are small enough for sums of 16 bits.
+pub record Sound (s : NodeVars) : Type 0 where
+  pub digits-are : Digits (s .kind) (s .plan)
   pub own-small : s .own ≤ 3104
   pub name-small : s .name < 32
 
@@ -59,7 +60,7 @@ pub record PutForm (s : NodeVars) (v : ℕ) (f : Form) (kind left right kind′ 
 
 -- There is room for the node's forms.
 pub record FormRoom (s : NodeVars) (kind left right : List ℕ) : Type 0 where
-  pub small : Small s
+  pub sound : Sound s
   pub kind-room : s .own + 6 ≤ length kind
   pub left-room : s .own + 6 ≤ length left
   pub right-room : s .own + 6 ≤ length right
@@ -93,6 +94,7 @@ BasesTo tb k bases = (n : ℕ) → n ≤ k → getD bases n 0 ≡ base tb n
 -- s is node n with its variables.
 pub record VarsOf (tb : Table) (n : ℕ) (s : NodeVars) : Type 0 where
   pub kind-is : s .kind ≡ nodeAt (tb .nodes) n .kind
+  pub digits-are : Digits (s .kind) (s .plan)
   pub own-is : s .own ≡ base tb n
   pub first-is : nodeAt (tb .nodes) n .a < n → s .first ≡ base tb (nodeAt (tb .nodes) n .a)
   pub second-is : nodeAt (tb .nodes) n .b < n → s .second ≡ base tb (nodeAt (tb .nodes) n .b)

@@ -1,89 +1,99 @@
 // Turns a readable table into a problem of unification.
 ghost use mathlib.Core.Path.{_≡_};
-ghost use Prim.Native.Nat.{ℕ, _+_, _*_, _≤_, _<_};
-ghost use lib.ListN.{length, getD, set};
-ghost use Rattle.rules.specs.Tables.{tableOf, nodeCount, identifierCount};
+ghost use Prim.Native.Nat.{ℕ, _+_, _≤_, _<_};
+ghost use lib.ListN.{length, getD};
+ghost use Rattle.rules.specs.Tables.{tableOf, nodeCount};
 ghost use Rattle.table.specs.Layout.{NodeIn, Fielded};
-ghost use Rattle.checker.specs.Codes.{CodeOf, refOf, formAt};
+ghost use Rattle.checker.specs.Codes.{CodeOf, Digits, refOf, formAt};
 ghost use Rattle.checker.specs.Built.{Built, Sized};
-ghost use Rattle.checker.specs.Entries.{varAt, leftOf, planFor, Small, PutForm, FormRoom, Forms, Sides, BasesTo, VarsOf};
+ghost use Rattle.checker.specs.Entries.{varAt, leftOf, planFor, Sound, PutForm, FormRoom, Forms, Sides, BasesTo, VarsOf};
 ghost use Rattle.checker.specs.Entries.{VariablesTo, EquationsTo, VariableRoom, EquationRoom, NextVariables, NextEquations};
 
 // The plan of each kind, 24 digits a kind code from 0 to 43: the number of slots; the forms of the node and of slots 0 to 4,
 // three digits each; the number of equations; two equations, two references each. A form is 0 open, 1 without parts,
 // 2 POW, 3 a product, and then its two references, or for a form without parts 1 INTEGER, 2 BOOL, 3 the given set in
 // field a. References: 0 the node, 1 and 2 the operands in fields a and b, 3 the identifier in field a, 4 and more the slots.
-const PLANS: [u8; 1056] = *b"\
-    000000000000000000000000\
-    000000000000000000000000\
-    000000000000000000000000\
-    000000000000000000000000\
-    000000000000000000000000\
-    000000000000000000000000\
-    000000000000000000011200\
-    100021000000000000012400\
-    200000024000000000021525\
-    100011000000000000021424\
-    100023000000000000012400\
-    100023000000000000012400\
-    000000000000000000000000\
-    000000000000000000000000\
-    000000000000000000000000\
-    000000000000000000000000\
-    000000000000000000000000\
-    000000000000000000000000\
-    000000000000000000000000\
-    000000000000000000000000\
-    000000000000000000010300\
-    124013000000000000000000\
-    013000000000000000000000\
-    011000000000000000000000\
-    012000000000000000000000\
-    012000000000000000000000\
-    124000000000000000000000\
-    021000000000000000000000\
-    031200000000000000000000\
-    124000000000000000021020\
-    124000000000000000021020\
-    124000000000000000021020\
-    526000000034524025021728\
-    221000024000000000011500\
-    023000000000000000012000\
-    424000000034526000011700\
-    425000000034526000011700\
-    200032024000000000011500\
-    211000024000000000011500\
-    011000000000000000021020\
-    011000000000000000021020\
-    124011000000000000021424\
-    124012000000000000000000\
-    100020000000000000011400";
+const PLANS: [[u8; 24]; 44] = [
+    *b"000000000000000000000000",
+    *b"000000000000000000000000",
+    *b"000000000000000000000000",
+    *b"000000000000000000000000",
+    *b"000000000000000000000000",
+    *b"000000000000000000000000",
+    *b"000000000000000000011200",
+    *b"100021000000000000012400",
+    *b"200000024000000000021525",
+    *b"100011000000000000021424",
+    *b"100023000000000000012400",
+    *b"100023000000000000012400",
+    *b"000000000000000000000000",
+    *b"000000000000000000000000",
+    *b"000000000000000000000000",
+    *b"000000000000000000000000",
+    *b"000000000000000000000000",
+    *b"000000000000000000000000",
+    *b"000000000000000000000000",
+    *b"000000000000000000000000",
+    *b"000000000000000000010300",
+    *b"124013000000000000000000",
+    *b"013000000000000000000000",
+    *b"011000000000000000000000",
+    *b"012000000000000000000000",
+    *b"012000000000000000000000",
+    *b"124000000000000000000000",
+    *b"021000000000000000000000",
+    *b"031200000000000000000000",
+    *b"124000000000000000021020",
+    *b"124000000000000000021020",
+    *b"124000000000000000021020",
+    *b"526000000034524025021728",
+    *b"221000024000000000011500",
+    *b"023000000000000000012000",
+    *b"424000000034526000011700",
+    *b"425000000034526000011700",
+    *b"200032024000000000011500",
+    *b"211000024000000000011500",
+    *b"011000000000000000021020",
+    *b"011000000000000000021020",
+    *b"124011000000000000021424",
+    *b"124012000000000000000000",
+    *b"100020000000000000011400",
+];
 
-// The kind of a node, its variable, and what its plan's other references stand for: `first` and `second` are the variables
-// of the operands in fields a and b, `name` the identifier or the given set in field a. Those that the kind does not have
-// are any numbers.
+// The kind of a node and its plan, its variable, and what the plan's other references stand for: `first` and `second` are
+// the variables of the operands in fields a and b, `name` the identifier or the given set in field a. Those that the kind
+// does not have are any numbers.
 struct NodeVars {
     kind: usize,
+    plan: [u8; 24],
     own: u16,
     first: u16,
     second: u16,
     name: u16,
 }
 
-// A digit of a kind's plan: the lower half of its ASCII code.
-fn code(kind: usize, i: usize) -> u8
-    requires { ⌜ i < 24 ⌝ }
-    ensures { λ c. ⌜ CodeOf kind i c ⌝ }
+// An unknown kind has the plan of kind 0, which is unknown too. A constant table is made anew where it is read, so a node's
+// plan is read once.
+fn plan_of(kind: usize) -> [u8; 24]
+    ensures { λ p. ⌜ Digits kind p ⌝ }
 {
     if 44 <= kind {
-        return 0;
+        return PLANS[0];
     }
-    PLANS[24 * kind + i] % 16
+    PLANS[kind]
+}
+
+// A digit of the node's plan: the lower half of its ASCII code.
+fn code(s: NodeVars, i: usize) -> u8
+    requires { ⌜ Sound s × (i < 24) ⌝ }
+    ensures { λ c. ⌜ CodeOf (s .kind) i c ⌝ }
+{
+    s.plan[i] % 16
 }
 
 // The variable of a reference.
 fn var(s: NodeVars, code: u8) -> u16
-    requires { ⌜ Small s ⌝ }
+    requires { ⌜ Sound s ⌝ }
     ensures { λ v. ⌜ v ≡ varAt s (refOf code) ⌝ }
 {
     if code == 0 {
@@ -103,7 +113,7 @@ fn var(s: NodeVars, code: u8) -> u16
 
 // What stands in `left` for a form.
 fn left_entry(s: NodeVars, kind: u8, code: u8) -> u16
-    requires { ⌜ Small s ⌝ }
+    requires { ⌜ Sound s ⌝ }
     ensures { λ v. ⌜ v ≡ leftOf s kind code ⌝ }
 {
     if kind != 1 {
@@ -126,9 +136,9 @@ fn put_form(kind: &mut [u8], left: &mut [u16], right: &mut [u16], s: NodeVars, j
     requires { ⌜ FormRoom s (now kind) (now left) (now right) × (j < 6) ⌝ }
     ensures { λ _. ⌜ ((a : ℕ) → PutForm s (s .own + j) (formAt (planFor s a) j) (now (kind .entry)) (now (left .entry)) (now (right .entry)) (now (kind .exit)) (now (left .exit)) (now (right .exit))) ⌝ }
 {
-    let k = code(s.kind, 1 + 3 * j);
-    let l = left_entry(s, k, code(s.kind, 2 + 3 * j));
-    let r = var(s, code(s.kind, 3 + 3 * j));
+    let k = code(s, 1 + 3 * j);
+    let l = left_entry(s, k, code(s, 2 + 3 * j));
+    let r = var(s, code(s, 3 + 3 * j));
     let v = wide(s.own) + j;
     kind[v] = k;
     left[v] = l;
@@ -140,7 +150,7 @@ fn put_forms(kind: &mut [u8], left: &mut [u16], right: &mut [u16], s: NodeVars) 
     requires { ⌜ FormRoom s (now kind) (now left) (now right) ⌝ }
     ensures { λ v. ⌜ ((a : ℕ) → Forms s (now (kind .entry)) (now (left .entry)) (now (right .entry)) (now (kind .exit)) (now (left .exit)) (now (right .exit)) v a) ⌝ }
 {
-    let slots = code(s.kind, 0) as u16;
+    let slots = code(s, 0) as u16;
     let last = wide(slots);
     let mut j: usize = 0;
     while j <= last {
@@ -152,11 +162,11 @@ fn put_forms(kind: &mut [u8], left: &mut [u16], right: &mut [u16], s: NodeVars) 
 
 // Writes one side, i, of the plan's two equations at m.
 fn put_sides(out: &mut [u16], m: usize, s: NodeVars, i: usize)
-    requires { ⌜ Small s × (m + 1 < length (now out)) × (i < 2) ⌝ }
+    requires { ⌜ Sound s × (m + 1 < length (now out)) × (i < 2) ⌝ }
     ensures { λ _. ⌜ ((a : ℕ) → Sides s i m (now (out .entry)) (now (out .exit)) a) ⌝ }
 {
-    out[m] = var(s, code(s.kind, 20 + i));
-    out[m + 1] = var(s, code(s.kind, 22 + i));
+    out[m] = var(s, code(s, 20 + i));
+    out[m + 1] = var(s, code(s, 22 + i));
 }
 
 // The variable of an operand, where a is one.
@@ -186,8 +196,11 @@ fn read_node(table: &[u8], at: usize, n: usize, bases: &[u16]) -> NodeVars
 {
     let a = table::field(table, at, n, 0);
     let b = table::field(table, at, n, 1);
+    let kind = table::kind(table, at, n);
+    let plan = plan_of(kind);
     NodeVars {
-        kind: table::kind(table, at, n),
+        kind,
+        plan,
         own: bases[n],
         first: operand(bases, n, a),
         second: operand(bases, n, b),
@@ -229,7 +242,7 @@ fn add_equations(
     let m = counts[n];
     put_sides(lhs, wide(m), s, 0);
     put_sides(rhs, wide(m), s, 1);
-    counts[n + 1] = m + code(s.kind, 19) as u16;
+    counts[n + 1] = m + code(s, 19) as u16;
 }
 
 // Nothing is known of the first m variables.

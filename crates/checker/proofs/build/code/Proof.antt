@@ -1,22 +1,12 @@
 use borrow.Author.Needs.{needs}
-use Rattle.checker.proofs.CodeLaws.{code-known, code-unknown}
 use Rattle.checker.proofs.build.code.Statement.{statement}
 use Rattle.checker.proofs.build.code.Tie as tie
 
+element-copy-out-result : tie.Need-element-copy-out-result
+element-copy-out-result c = search needs
+
 returns : tie.Need-returns
-returns c = code-unknown _ _ (c .if1 .taken) (c .before .pre)
-
-mul-result : tie.Need-mul-result
-mul-result c = search needs
-
-add-result : tie.Need-add-result
-add-result c = search needs
-
-array-read-result : tie.Need-array-read-result
-array-read-result c = search needs
-
-returns-2 : tie.Need-returns-2
-returns-2 c = code-known _ _ (c .before .pre)
+returns c = c .before .pre .0 .digits-are _ (c .before .pre .1)
 
 pub code-spec : {M : Type 1} → statement M
-code-spec = tie.close (tie.spec returns mul-result add-result array-read-result returns-2)
+code-spec = tie.close (tie.spec element-copy-out-result returns)

@@ -15,11 +15,14 @@ field-requires-2 c κs = search needs
 kind-requires : tie.Need-kind-requires
 kind-requires c κs = search needs
 
-mul-t8 : tie.Need-mul-t8
-mul-t8 c = search needs
+plan-of-requires : tie.Need-plan-of-requires
+plan-of-requires c κs = search needs
 
-shared-slice-read-t10 : tie.Need-shared-slice-read-t10
-shared-slice-read-t10 c = search needs
+mul-t9 : tie.Need-mul-t9
+mul-t9 c = search needs
+
+shared-slice-read-t11 : tie.Need-shared-slice-read-t11
+shared-slice-read-t11 c = search needs
 
 operand-requires : tie.Need-operand-requires
 operand-requires c κs = search needs
@@ -32,13 +35,14 @@ name-of-requires c κs = search needs
 
 returns : tie.Need-returns
 returns c =
-    let start = c .before .before .before .before .before .before .before .before .before in
+    let start = c .before .before .before .before .before .before .before .before .before .before in
     let bases = start .pre .2 in
     let n = start .args .n in
-    let a = c .before .before .before .before .before .before .field .ensures in
-    let b = c .before .before .before .before .before .field2 .ensures in
+    let a = c .before .before .before .before .before .before .before .field .ensures in
+    let b = c .before .before .before .before .before .before .field2 .ensures in
     record {
-      kind-is = c .before .before .before .before .kind .ensures;
+      kind-is = c .before .before .before .before .before .kind .ensures;
+      digits-are = c .before .before .before .before .plan-of .ensures;
       own-is = bases n (omega arith);
       first-is = read-operand _ n (now (start .args .bases)) _ _ _ a bases (c .before .before .operand .ensures);
       second-is = read-operand _ n (now (start .args .bases)) _ _ _ b bases (c .before .operand2 .ensures);
@@ -53,8 +57,9 @@ read-node-spec =
     field-requires
     field-requires-2
     kind-requires
-    mul-t8
-    shared-slice-read-t10
+    plan-of-requires
+    mul-t9
+    shared-slice-read-t11
     operand-requires
     operand-requires-2
     name-of-requires
