@@ -77,9 +77,9 @@ unfolding kindOf
 row-known k d h i l a =
     sym (List·getD-map (λ b. b % 16) (getD rows k d) i 0) ∙
     ap (λ (l : List ℕ). getD l i 0)
-        (sym (List·getD-map (map (λ b. b % 16)) rows k d) ∙ ap (λ (l : List (List ℕ)). getD l k (map (λ b. b % 16) d)) (table-right a) ∙
-            any-default (map (λ o. digits (planOf o a)) kinds) k _ (digits (planOf nothing a)) h ∙
-            List·getD-map (λ o. digits (planOf o a)) kinds k nothing)
+    (sym (List·getD-map (map (λ b. b % 16)) rows k d) ∙ ap (λ (l : List (List ℕ)). getD l k (map (λ b. b % 16) d)) (table-right a) ∙
+    any-default (map (λ o. digits (planOf o a)) kinds) k _ (digits (planOf nothing a)) h ∙
+    List·getD-map (λ o. digits (planOf o a)) kinds k nothing)
 
 far-kind : (k : ℕ) → 44 ≤ k → kindOf k ≡ kindOf 0
 unfolding kindOf

@@ -302,7 +302,7 @@ fn equations(
 
 // The problem of a readable table, whose node records begin at `at`: the shapes of its variables in kind, left and right,
 // its equations in lhs and rhs, for each node its variable in bases, and in counts how many equations come before its own.
-// Entries that the problem does not use are not written, but for one equation past the last.
+// Entries that the problem does not use are not written, but for two equations past the last.
 pub fn build(
     table: &[u8],
     at: usize,

@@ -25,9 +25,11 @@ put-sides-requires : tie.Need-put-sides-requires
 put-sides-requires c κs =
     let pre = c .before .before .before .before .before .before .before .before .before .pre in
     let header = pre .fielded .laid .header in
-    let m = count-small _ header _ (pre .below) _ _ _ (pre .so-far) in
-    (sound _ header _ (pre .below) _ (c .before .before .before .read-node .ensures),
-    omega (arith, c .wide .ensures, pre .room .lhs-length), omega arith)
+    let m = count-small _ header _ (pre .below) _ _ _ (pre .so-far) in (
+      sound _ header _ (pre .below) _ (c .before .before .before .read-node .ensures),
+      omega (arith, c .wide .ensures, pre .room .lhs-length),
+      omega arith,
+    )
 
 wide-requires-2 : tie.Need-wide-requires-2
 wide-requires-2 c κs = search needs
@@ -36,9 +38,11 @@ put-sides-requires-2 : tie.Need-put-sides-requires-2
 put-sides-requires-2 c κs =
     let pre = c .before .before .before .before .before .before .before .before .before .before .before .before .before .before .pre in
     let header = pre .fielded .laid .header in
-    let m = count-small _ header _ (pre .below) _ _ _ (pre .so-far) in
-    (sound _ header _ (pre .below) _ (c .before .before .before .before .before .before .before .before .read-node .ensures),
-    omega (arith, c .wide2 .ensures, pre .room .rhs-length), omega arith)
+    let m = count-small _ header _ (pre .below) _ _ _ (pre .so-far) in (
+      sound _ header _ (pre .below) _ (c .before .before .before .before .before .before .before .before .read-node .ensures),
+      omega (arith, c .wide2 .ensures, pre .room .rhs-length),
+      omega arith,
+    )
 
 code-requires : tie.Need-code-requires
 code-requires c κs =
@@ -76,7 +80,7 @@ returns : tie.Need-returns
 returns c =
     let start = c .before .before .before .before .before .before .before .before .before .before .before .before .before .before .before .before .before .before in
     next-equations _ _ _ _ _ _ _ _ _ _ _ _ _ _ (start .pre) (c .before .before .before .before .before .before .before .before .before .before .before .before .read-node .ensures) refl
-        (c .before .before .before .before .before .before .before .before .before .wide .ensures) (c .before .before .before .before .wide2 .ensures) (c .before .before .before .before .before .before .before .before .put-sides .ensures) (c .before .before .before .put-sides2 .ensures) (c .code .ensures)
+    (c .before .before .before .before .before .before .before .before .before .wide .ensures) (c .before .before .before .before .wide2 .ensures) (c .before .before .before .before .before .before .before .before .put-sides .ensures) (c .before .before .before .put-sides2 .ensures) (c .code .ensures)
 
 pub add-equations-spec : {M : Type 1} → statement M
 add-equations-spec =

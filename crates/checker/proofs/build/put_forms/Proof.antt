@@ -29,14 +29,15 @@ loop-holds c = (omega arith, forms-start _ _ _ _)
 put-form-requires : tie.Need-put-form-requires Inv-loop μ-loop
 put-form-requires c κs =
     let room = c .before .before .before .before .before .before .before .before .before .before .pre in
-    let forms = c .before .before .before .before .loop .inv .1 in
-    (record {
-      sound = room .sound;
-      kind-room = omega (arith, forms .kind-kept, room .kind-room);
-      left-room = omega (arith, forms .left-kept, room .left-room);
-      right-room = omega (arith, forms .right-kept, room .right-room);
-    },
-    omega (arith, slots-few _ _ (c .before .before .before .before .before .before .code .ensures), c .before .before .before .before .before .wide .ensures, c .before .before .before .loop-test .taken))
+    let forms = c .before .before .before .before .loop .inv .1 in (
+      record {
+        sound = room .sound;
+        kind-room = omega (arith, forms .kind-kept, room .kind-room);
+        left-room = omega (arith, forms .left-kept, room .left-room);
+        right-room = omega (arith, forms .right-kept, room .right-room);
+      },
+      omega (arith, slots-few _ _ (c .before .before .before .before .before .before .code .ensures), c .before .before .before .before .before .wide .ensures, c .before .before .before .loop-test .taken),
+    )
 
 add-j : tie.Need-add-j Inv-loop μ-loop
 add-j c = search needs
@@ -49,10 +50,11 @@ loop-again c =
     let room = c .before .before .before .before .before .before .before .before .before .before .before .before .before .before .before .before .before .pre in
     let few = slots-few _ _ (c .before .before .before .before .before .before .before .before .before .before .before .before .before .code .ensures) in
     let test = c .before .before .before .before .before .before .before .before .before .before .loop-test .taken in
-    let last = c .before .before .before .before .before .before .before .before .before .before .before .before .wide .ensures in
-    (omega arith,
-    forms-turn _ _ _ _ _ _ _ _ _ _ _ (omega (arith, room .kind-room)) (omega (arith, room .left-room)) (omega (arith, room .right-room))
-        (c .before .before .before .before .before .before .before .before .before .before .before .loop .inv .1) (c .before .before .before .before .before .before .put-form .ensures))
+    let last = c .before .before .before .before .before .before .before .before .before .before .before .before .wide .ensures in (
+      omega arith,
+      forms-turn _ _ _ _ _ _ _ _ _ _ _ (omega (arith, room .kind-room)) (omega (arith, room .left-room)) (omega (arith, room .right-room))
+          (c .before .before .before .before .before .before .before .before .before .before .before .loop .inv .1) (c .before .before .before .before .before .before .put-form .ensures),
+    )
 
 add-result : tie.Need-add-result Inv-loop μ-loop
 add-result c = omega (arith, c .before .before .before .before .before .before .before .before .pre .sound .own-small)
