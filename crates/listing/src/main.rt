@@ -25,15 +25,19 @@ fn places(table: &[u8]) -> usize
     i + n
 }
 
+fn wide(x: u8) -> u64 {
+    x as u64
+}
+
 // The codes of a row without its fill, or p for a row that has none.
 fn print_row(row: &[u8]) {
     let mut i: usize = 0;
     while i < row.len() {
-        let code = row[i];
+        let code = wide(row[i]);
         if code == 0 {
             break;
         }
-        io::print_hex(STDOUT_FILENO, code as u64, 2);
+        io::print_hex(STDOUT_FILENO, code, 2);
         i += 1;
     }
     if i == 0 {
@@ -83,22 +87,24 @@ fn identifiers_of(table: &[u8]) -> usize {
     table::identifiers(table)
 }
 
-// A sheet of the right length is lent to Check.
-fn list(table: &[u8]) {
+// A part of the right length is lent to Check as its sheet.
+fn list(table: &[u8], sheet: &mut [u8])
+    requires { ⌜ 34816 ≤ length (now sheet) ⌝ }
+{
     let count = places(table);
     let identifiers = identifiers_of(table);
-    let mut sheet = [0u8; 34816];
     let end = 64 * count;
     let checked = checker::check(table, &mut sheet[..end]);
     match checked {
         Checked::Refused(r) => print_refusal(r),
-        Checked::Accepted => print_rows(count, identifiers, &sheet),
+        Checked::Accepted => print_rows(count, identifiers, sheet),
     }
 }
 
 // No table has more than 8,416 bytes, so the length of a longer input is wrong however much of it is read.
 fn main() {
-    let mut input = [0u8; 16384];
+    let mut input = io::large_buffer();
     let n = io::read_full(STDIN_FILENO, &mut input);
-    list(&input[..n]);
+    let mut sheet = io::large_buffer();
+    list(&input[..n], &mut sheet);
 }

@@ -1,5 +1,5 @@
 use borrow.Author.Needs.{needs}
-use Prim.Native.Nat.{_≤_, _-_}
+use Prim.Native.Nat.{_+_, _*_, _≤_, _-_}
 use native.Mathlib.Omega.{arith}
 use lib.ListN.{length}
 use Rattle.listing.proofs.print_row.Statement.{statement}
@@ -8,6 +8,7 @@ use Rattle.listing.proofs.print_row.Reads as reads
 use Rattle.listing.proofs.print_row.Lts as lts
 use Rattle.io.proofs.print_hex.Reads as print-hex-reads
 use Rattle.io.proofs.write_all.Reads as write-all-reads
+use Rattle.listing.proofs.wide.Reads as wide-reads
 
 abbrev Inv-loop : tie.InvT-loop
 Inv-loop row i₀ t4 i = i ≤ length row
@@ -18,11 +19,11 @@ abbrev μ-loop : tie.MeasureT-loop
 loop-holds : tie.Need-loop-holds Inv-loop μ-loop
 loop-holds c = search needs
 
-shared-slice-read-code : tie.Need-shared-slice-read-code Inv-loop μ-loop
-shared-slice-read-code c = search needs
+shared-slice-read-wide : tie.Need-shared-slice-read-wide Inv-loop μ-loop
+shared-slice-read-wide c = search needs
 
-cast-print-hex : tie.Need-cast-print-hex Inv-loop μ-loop
-cast-print-hex c = search needs
+wide-requires : tie.Need-wide-requires Inv-loop μ-loop
+wide-requires c κs = search needs
 
 print-hex-requires : tie.Need-print-hex-requires Inv-loop μ-loop
 print-hex-requires c κs = search needs
@@ -55,8 +56,8 @@ print-row-spec =
     Inv-loop
     μ-loop
     loop-holds
-    shared-slice-read-code
-    cast-print-hex
+    shared-slice-read-wide
+    wide-requires
     print-hex-requires
     add-i
     loop-less
