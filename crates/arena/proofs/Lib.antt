@@ -1,0 +1,3 @@
+-- Laws of values in the arena.
+pub mod CodeLaws
+pub mod Standing

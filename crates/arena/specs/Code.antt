@@ -1,0 +1,141 @@
+-- Values as runs of cells in the arena. A cell is its tag times 2^32 and its payload, numbers in excess form, so that the
+-- order of cells as numbers is the order of document 01 by tag and then payload.
+use Prim.Native.Nat.{ℕ, zero, suc, _+_, _*_, _-_, _/_, _%_, _≤_, _<_, Ordering, Ordering·lt, Ordering·eq, Ordering·gt}
+use mathlib.Core.Bool.{cond}
+use mathlib.Core.List.{List, [], _∷_, _++_}
+use mathlib.Core.Path.{_≡_}
+use lib.Dec.{T, eqb}
+use lib.IntN.{ℤ, pos, negsuc}
+use lib.ListN.{length, getD}
+use lib.Signed.{mag}
+use Rattle.rules.specs.Types.{Number, whole}
+use Rattle.rules.specs.Cells.{precedes}
+use Rattle.rules.specs.Values.{Scalar, num, truth, element, Value, scalar, pair, set, Values, none, _▸_, scalarTag, bit, count, weight, weights, order}
+
+abbrev pub cellSize : ℕ
+cellSize = 4294967296
+
+-- A number of signed 32 bits as a number from 0 to 2^32 − 1, in the same order.
+unfoldable pub excess : ℤ → ℕ
+excess (pos n) = 2147483648 + n
+excess (negsuc n) = 2147483647 - n
+
+abbrev pub scalarLow : Scalar → ℕ
+scalarLow (num n i) = excess i
+scalarLow (truth b) = bit b
+scalarLow (element g k) = 256 * g + k
+
+-- The code of a value: a cell for itself, then those of its parts or members.
+unfoldable mutual
+  unfolding excess
+
+  pub code : Value → List ℕ
+  code (scalar s) = (scalarTag s * cellSize + scalarLow s) ∷ []
+  code (pair v w) = (4 * cellSize) ∷ (code v ++ code w)
+  code (set s) = (5 * cellSize + count s) ∷ codes s
+
+  pub codes : Values → List ℕ
+  codes none = []
+  codes (v ▸ vs) = code v ++ codes vs
+
+-- The cells xs stand in the arena s from `at` on.
+pub record Stands (s : List ℕ) (at : ℕ) (xs : List ℕ) : Type 0 where
+  pub inside : at + length xs ≤ length s
+  pub cells : (i : ℕ) → i < length xs → getD s (at + i) 0 ≡ getD xs i 0
+
+-- A value stands in the arena from `at` on.
+abbrev pub ValueAt : List ℕ → ℕ → Value → Type 0
+ValueAt s at v = Stands s at (code v)
+
+-- Values stand one after the other.
+abbrev pub ValuesAt : List ℕ → ℕ → Values → Type 0
+ValuesAt s at vs = Stands s at (codes vs)
+
+-- Two arenas are the same below `top`.
+pub record Same (top : ℕ) (s s′ : List ℕ) : Type 0 where
+  pub same : (i : ℕ) → i < top → getD s′ i 0 ≡ getD s i 0
+  pub kept : length s′ ≡ length s
+
+-- The cells of a value fit the arena: numbers of signed 32 bits, payloads below 2^32, elements with k below 256.
+abbrev pub ScalarFits : Scalar → Type 0
+ScalarFits (num n i) = (excess i < cellSize) × (mag i ≤ 2147483647)
+ScalarFits (truth b) = Unit {0}
+ScalarFits (element g k) = (k < 256) × (256 * g + k < cellSize)
+
+abbrev mutual
+  pub CellsFit : Value → Type 0
+  CellsFit (scalar s) = ScalarFits s
+  CellsFit (pair v w) = CellsFit v × CellsFit w
+  CellsFit (set s) = (count s < cellSize) × AllFit s
+
+  pub AllFit : Values → Type 0
+  AllFit none = Unit {0}
+  AllFit (v ▸ vs) = CellsFit v × AllFit vs
+
+-- The order of two values as a number: 0 less, 1 equal, 2 greater.
+abbrev pub orderCode : Ordering → ℕ
+orderCode Ordering·lt = 0
+orderCode Ordering·eq = 1
+orderCode Ordering·gt = 2
+
+-- Some value that fits stands at `at`.
+pub record SomeAt (s : List ℕ) (at : ℕ) : Type 0 where
+  pub value : Value
+  pub stands : ValueAt s at value
+  pub fits : CellsFit value
+
+-- r is where the value at `at` ends.
+abbrev pub EndsAt : List ℕ → ℕ → ℕ → Type 0
+EndsAt s at r = (v : Value) → ValueAt s at v → CellsFit v → r ≡ at + weight v
+
+-- r is the order of the values at a and b.
+abbrev pub Compared : List ℕ → ℕ → ℕ → ℕ → Type 0
+Compared s a b r = (v w : Value) → ValueAt s a v → ValueAt s b w → CellsFit v → CellsFit w → r ≡ orderCode (order v w)
+
+-- n cells from `from` on have been copied to `to`, and nothing else is changed.
+pub record Copied (s : List ℕ) (from n to : ℕ) (s′ : List ℕ) : Type 0 where
+  pub there : (i : ℕ) → i < n → getD s′ (to + i) 0 ≡ getD s (from + i) 0
+  pub before : (i : ℕ) → i < to → getD s′ i 0 ≡ getD s i 0
+  pub after : (i : ℕ) → to + n ≤ i → getD s′ i 0 ≡ getD s i 0
+  pub kept : length s′ ≡ length s
+
+-- How many values follow a cell as its parts or members, by its tag.
+abbrev pub partsOf : ℕ → ℕ
+partsOf c = cond (eqb (c / 4294967296) 4) 2 (cond (eqb (c / 4294967296) 5) (c % 4294967296) 0)
+
+-- The members of a set rise.
+abbrev pub Rises : Values → Type 0
+Rises none = Unit {0}
+Rises (v ▸ vs) = T (precedes v vs) × Rises vs
+
+-- A set that evaluation may have formed: its cells fit, it weighs at most 256, its members rise.
+pub record FineSet (vs : Values) : Type 0 where
+  pub fits : CellsFit (set vs)
+  pub light : weight (set vs) ≤ 256
+  pub rises : Rises vs
+
+-- Such a set stands at `at`, below `top`.
+pub record SetBelow (s : List ℕ) (top at : ℕ) (vs : Values) : Type 0 where
+  pub stands : ValueAt s at (set vs)
+  pub below : at + weight (set vs) ≤ top
+  pub fine : FineSet vs
+
+abbrev pub SomeSet : List ℕ → ℕ → ℕ → Type 0
+SomeSet s top at = (vs : Values) × SetBelow s top at vs
+
+-- A value that fits and weighs at most 256 stands at `at`, below `top`.
+pub record ValueBelow (s : List ℕ) (top at : ℕ) (v : Value) : Type 0 where
+  pub stands : ValueAt s at v
+  pub below : at + weight v ≤ top
+  pub fits : CellsFit v
+  pub light : weight v ≤ 256
+
+abbrev pub SomeValue : List ℕ → ℕ → ℕ → Type 0
+SomeValue s top at = (v : Value) × ValueBelow s top at v
+
+-- An operation that gives v has built it at `top` and answers where it ends, or 0 where v weighs over 256 (18);
+-- below `top` nothing is changed.
+pub record Made (top : ℕ) (s s′ : List ℕ) (v : Value) (r : ℕ) : Type 0 where
+  pub frame : Same top s s′
+  pub light : weight v ≤ 256 → (r ≡ top + weight v) × ValueAt s′ top v
+  pub heavy : 256 < weight v → r ≡ 0

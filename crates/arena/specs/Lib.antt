@@ -1,0 +1,2 @@
+-- Values in the arena and in the values buffer.
+pub mod Code

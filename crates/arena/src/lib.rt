@@ -1,0 +1,82 @@
+// Values as runs of cells in an arena: where a value ends, the order of two values, copying.
+ghost use mathlib.Core.Path.{_≡_};
+ghost use mathlib.Core.Logic.{_⊎_};
+ghost use Prim.Native.Nat.{ℕ, _+_, _*_, _-_, _<_, _≤_, _/_, _%_};
+ghost use lib.ListN.{length, getD, set};
+ghost use Rattle.arena.specs.Code.{SomeAt, EndsAt, Compared, Copied, partsOf};
+
+// The tag of a cell, and its payload (numbers in excess form).
+pub fn tag(cell: u64) -> u64
+    ensures { λ r. ⌜ r ≡ cell / 4294967296 ⌝ }
+{
+    cell / 4294967296
+}
+
+pub fn low(cell: u64) -> u64
+    ensures { λ r. ⌜ (r ≡ cell % 4294967296) × (r < 4294967296) ⌝ }
+{
+    cell % 4294967296
+}
+
+// How many values follow a cell as its parts or members.
+fn parts(cell: u64) -> usize
+    ensures { λ r. ⌜ r ≡ partsOf cell ⌝ }
+{
+    let t = tag(cell);
+    if t == 4 {
+        return 2;
+    }
+    if t == 5 {
+        return low(cell) as usize;
+    }
+    0
+}
+
+// Where the value that begins at `at` ends.
+pub fn end_of(s: &[u64], at: usize) -> usize
+    requires { ⌜ SomeAt (now s) at ⌝ }
+    ensures { λ r. ⌜ EndsAt (now (s .entry)) at r ⌝ }
+{
+    let mut i = at;
+    let mut left: usize = 1;
+    while left > 0 {
+        let p = parts(s[i]);
+        left = left - 1 + p;
+        i += 1;
+    }
+    i
+}
+
+// The order of the values at a and b: 0 less, 1 equal, 2 greater. The first ends at `end`.
+pub fn compare(s: &[u64], a: usize, end: usize, b: usize) -> u8
+    requires { ⌜ SomeAt (now s) a × SomeAt (now s) b × EndsAt (now s) a end ⌝ }
+    ensures { λ r. ⌜ Compared (now (s .entry)) a b r ⌝ }
+{
+    let n = end - a;
+    let mut i: usize = 0;
+    while i < n {
+        let x = s[a + i];
+        let y = s[b + i];
+        if x < y {
+            return 0;
+        }
+        if y < x {
+            return 2;
+        }
+        i += 1;
+    }
+    1
+}
+
+// Copies n cells, upward to a place behind them or downward.
+pub fn copy(s: &mut [u64], from: usize, n: usize, to: usize)
+    requires { ⌜ (from + n ≤ length (now s)) × (to + n ≤ length (now s)) × ((from + n ≤ to) ⊎ (to ≤ from)) ⌝ }
+    ensures { λ _. ⌜ Copied (now (s .entry)) from n to (now (s .exit)) ⌝ }
+{
+    let mut i: usize = 0;
+    while i < n {
+        let x = s[from + i];
+        s[to + i] = x;
+        i += 1;
+    }
+}

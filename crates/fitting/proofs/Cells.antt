@@ -1,0 +1,430 @@
+-- Values that stand in the arena: what their cells tell of the types that they share.
+use Prim.Native.Nat.{ℕ, _+_, _*_, _-_, _/_, _%_, _≤_, _<_}
+use mathlib.Core.Bool.{Bool, true, false}
+use mathlib.Core.List.{List, _++_, append-nil}
+use mathlib.Core.Logic.{_≢_, inl, inr}
+use borrow.Author.Tests.{eq-eqb, ne-eqb}
+use mathlib.Core.Path.{_≡_, refl, sym, ap, _∙_, subst}
+use native.Mathlib.Omega.{arith}
+use native.Mathlib.Decide.{ℕ-discrete, decLt}
+use lib.Dec.{T, eqb}
+use lib.ListN.{length, getD}
+use Rattle.rules.specs.Types.{whole}
+use Rattle.rules.specs.Values.{Scalar, num, truth, element, Value, scalar, pair, set, Values, none, _▸_, scalarTag, bit, tag, count, weight, weights}
+use Rattle.rules.specs.Fits.{every, shape, shapes, inhabited, typed}
+use Rattle.arena.specs.Code.{cellSize, scalarLow, code, codes, Stands, ValueAt, ValuesAt, ScalarFits, CellsFit, SomeAt, EndsAt}
+use Rattle.arena.proofs.CodeLaws.{length-code, all-agree}
+use Rattle.arena.proofs.Standing.{stands-head, stands-tail, stands-front, stands-back}
+use Rattle.fitting.specs.Agree.{meets, agree, TypedAt, RunAt, SomeTyped, SomeRun, Agreed, AgreedWith, AgreedAll, emptyCell, NoEmpty, StandFor, Members, Full, FullSet, FullAll, Few, sameKind, SetHere, Two, Parts, AgreedParts, Runs}
+use Rattle.fitting.proofs.Sharing.{and-split, is-true, full-first, meets-both, meets-sym, meets-same, with-every, meets-every, meets-first, tags-differ, scalars-agree, elements-agree, left-typed, right-typed}
+
+-- No empty set among the cells passed.
+pub no-empty-none : (s : List ℕ) (at : ℕ) → NoEmpty s at at
+no-empty-none s at = record { none = λ i p q. absurd (omega arith) }
+
+pub no-empty-more : (s : List ℕ) (at i : ℕ) → NoEmpty s at i → getD s i 0 ≢ emptyCell → NoEmpty s at (i + 1)
+no-empty-more s at i h n = record { none = λ j p q. go j p q (ℕ-discrete j i) }
+  where
+    go : (j : ℕ) → at ≤ j → j < i + 1 → Dec (j ≡ i) → getD s j 0 ≢ emptyCell
+    go j p q (yes e) = rw e n
+    go j p q (no d) = h .none j p (omega arith)
+
+pub no-empty-end : (s : List ℕ) (at i end : ℕ) → NoEmpty s at i → end ≤ i → NoEmpty s at end
+no-empty-end s at i end h l = record { none = λ j p q. h .none j p (omega arith) }
+
+-- Two values that stand at one place are the same.
+pub value-eq : (s : List ℕ) (at : ℕ) (v w : Value) → ValueAt s at v → ValueAt s at w → CellsFit v → CellsFit w → v ≡ w
+value-eq s at v w h k p q = go (decLt (weight v) (weight w))
+  where
+    go : Dec (weight v < weight w) → v ≡ w
+    go (yes y) = sym (all-agree w v q p (omega arith) (λ j m. sym (k .cells j (omega (arith, length-code w))) ∙ h .cells j (omega (arith, length-code v))))
+    go (no n) = all-agree v w p q (omega arith) (λ j m. sym (h .cells j (omega (arith, length-code v))) ∙ k .cells j (omega (arith, length-code w)))
+
+-- The first cell of a value.
+bit-small : (b : Bool) → bit b < cellSize
+bit-small true = omega arith
+bit-small false = omega arith
+
+scalar-tag : (x : Scalar) → ScalarFits x → ((scalarTag x * cellSize + scalarLow x) / cellSize ≡ scalarTag x) × ((scalarTag x * cellSize + scalarLow x) % cellSize ≡ scalarLow x)
+scalar-tag (num whole i) h = (omega (arith, h .0), omega (arith, h .0))
+scalar-tag (truth b) h = (omega (arith, bit-small b), omega (arith, bit-small b))
+scalar-tag (element g k) h = (omega (arith, h .1), omega (arith, h .1))
+
+-- the tag and the payload of the first cell
+abbrev low : Value → ℕ
+low (scalar x) = scalarLow x
+low (pair v w) = 0
+low (set vs) = count vs
+
+pub first-cell : (s : List ℕ) (at : ℕ) (v : Value) → ValueAt s at v → CellsFit v → (getD s at 0 / cellSize ≡ tag v) × (getD s at 0 % cellSize ≡ low v)
+unfolding code
+first-cell s at (scalar x) h f =
+    let e : getD s at 0 ≡ scalarTag x * cellSize + scalarLow x = stands-head s at _ _ h in
+    rw e (scalar-tag x f)
+first-cell s at (pair v w) h f =
+    let e : getD s at 0 ≡ 4 * cellSize = stands-head s at _ _ h in
+    (omega arith, omega arith)
+first-cell s at (set vs) h f =
+    let e : getD s at 0 ≡ 5 * cellSize + count vs = stands-head s at _ _ h in
+    (omega (arith, f .0), omega (arith, f .0))
+
+-- The parts of a pair and the members of a set.
+module _ (s : List ℕ) (at : ℕ) (v w : Value) (h : ValueAt s at (pair v w)) where
+  pub left-stands : ValueAt s (at + 1) v
+  unfolding code
+  left-stands = stands-front s (at + 1) (code v) (code w) (stands-tail s at (4 * cellSize) (code v ++ code w) h)
+
+  pub right-stands : ValueAt s (at + 1 + weight v) w
+  unfolding code
+  right-stands = rw (← length-code v) (stands-back s (at + 1) (code v) (code w) (stands-tail s at (4 * cellSize) (code v ++ code w) h))
+
+pub members-stand : (s : List ℕ) (at : ℕ) (vs : Values) → ValueAt s at (set vs) → ValuesAt s (at + 1) vs
+unfolding code
+members-stand s at vs h = stands-tail s at (5 * cellSize + count vs) (codes vs) h
+
+pub first-stands : (s : List ℕ) (at : ℕ) (v : Value) (vs : Values) → ValuesAt s at (v ▸ vs) → ValueAt s at v
+unfolding code
+first-stands s at v vs h = stands-front s at (code v) (codes vs) h
+
+pub rest-stand : (s : List ℕ) (at : ℕ) (v : Value) (vs : Values) → ValuesAt s at (v ▸ vs) → ValuesAt s (at + weight v) vs
+unfolding code
+rest-stand s at v vs h = rw (← length-code v) (stands-back s at (code v) (codes vs) h)
+
+pub within : {s : List ℕ} {at end at′ end′ : ℕ} → NoEmpty s at end → at ≤ at′ → end′ ≤ end → NoEmpty s at′ end′
+within h l m = record { none = λ i p q. h .none i (omega arith) (omega arith) }
+
+-- A value among whose cells is no empty set's is full.
+mutual
+  unfolding code
+
+  pub full-value : (v : Value) (s : List ℕ) (at : ℕ) → ValueAt s at v → NoEmpty s at (at + weight v) → Full v
+  full-value (scalar x) s at h n = tt
+  full-value (pair v w) s at h n = (
+    full-value v s (at + 1) (left-stands s at v w h) (within n (omega arith) (omega arith)),
+    full-value w s (at + 1 + weight v) (right-stands s at v w h) (within n (omega arith) (omega arith)),
+  )
+  full-value (set vs) s at h n = full-set vs s at h n
+
+  full-set : (vs : Values) (s : List ℕ) (at : ℕ) → ValueAt s at (set vs) → NoEmpty s at (at + (1 + weights vs)) → FullSet vs
+  full-set none s at h n = absurd (n .none at (omega arith) (omega arith) (stands-head s at _ _ h))
+  full-set (v ▸ vs) s at h n =
+      let k = members-stand s at (v ▸ vs) h in (
+        full-value v s (at + 1) (first-stands s (at + 1) v vs k) (within n (omega arith) (omega arith)),
+        full-all vs s (at + 1 + weight v) (rest-stand s (at + 1) v vs k) (within n (omega arith) (omega arith)),
+      )
+
+  full-all : (vs : Values) (s : List ℕ) (at : ℕ) → ValuesAt s at vs → NoEmpty s at (at + weights vs) → FullAll vs
+  full-all none s at h n = tt
+  full-all (v ▸ vs) s at h n = (
+    full-value v s at (first-stands s at v vs h) (within n (omega arith) (omega arith)),
+    full-all vs s (at + weight v) (rest-stand s at v vs h) (within n (omega arith) (omega arith)),
+  )
+
+-- A value takes a cell.
+pub weight-pos : (v : Value) → 1 ≤ weight v
+weight-pos (scalar x) = omega arith
+weight-pos (pair a b) = omega arith
+weight-pos (set ms) = omega arith
+
+pub typed-at : (s : List ℕ) (at : ℕ) (v : Value) → ValueAt s at v → CellsFit v → T (typed v) → TypedAt s at v
+unfolding typed
+typed-at s at v h f t = record { stands = h; fits = f; typed = t }
+
+pub some-at : {s : List ℕ} {at : ℕ} → SomeTyped s at → SomeAt s at
+some-at x = record { value = x .0; stands = x .1 .stands; fits = x .1 .fits }
+
+pub inside : (s : List ℕ) (at : ℕ) → SomeTyped s at → at < length s
+inside s at x = omega (arith, x .1 .stands .inside, length-code (x .0), weight-pos (x .0))
+
+pub ends-at : (s : List ℕ) (at : ℕ) (v : Value) → ValueAt s at v → CellsFit v → EndsAt s at (at + weight v)
+ends-at s at v h f w k q = let e : v ≡ w = value-eq s at v w h k f q in rw e
+
+pub end-is : {s : List ℕ} {at end : ℕ} {v : Value} → EndsAt s at end → TypedAt s at v → end ≡ at + weight v
+end-is {v = v} e h = e v (h .stands) (h .fits)
+
+pub end-bounds : (s : List ℕ) (at end : ℕ) → SomeTyped s at → EndsAt s at end → (at < end) × (end ≤ length s)
+end-bounds s at end x e =
+    let n = end-is e (x .1) in
+    (omega (arith, weight-pos (x .0)), omega (arith, x .1 .stands .inside, length-code (x .0)))
+
+-- A value by the tag of its first cell.
+module _ (s : List ℕ) (a : ℕ) where
+  pub pair-only : (v : Value) → ValueAt s a v → CellsFit v → getD s a 0 / cellSize ≡ 4 → (x : Value) × (y : Value) × (v ≡ pair x y)
+  pair-only (scalar (num whole i)) h f t = absurd (omega (arith, first-cell s a (scalar (num whole i)) h f .0))
+  pair-only (scalar (truth b)) h f t = absurd (omega (arith, first-cell s a (scalar (truth b)) h f .0))
+  pair-only (scalar (element g k)) h f t = absurd (omega (arith, first-cell s a (scalar (element g k)) h f .0))
+  pair-only (pair x y) h f t = (x, y, refl)
+  pair-only (set vs) h f t = absurd (omega (arith, first-cell s a (set vs) h f .0))
+
+  pub set-only : (v : Value) → ValueAt s a v → CellsFit v → getD s a 0 / cellSize ≡ 5 → (vs : Values) × (v ≡ set vs)
+  set-only (scalar (num whole i)) h f t = absurd (omega (arith, first-cell s a (scalar (num whole i)) h f .0))
+  set-only (scalar (truth b)) h f t = absurd (omega (arith, first-cell s a (scalar (truth b)) h f .0))
+  set-only (scalar (element g k)) h f t = absurd (omega (arith, first-cell s a (scalar (element g k)) h f .0))
+  set-only (pair x y) h f t = absurd (omega (arith, first-cell s a (pair x y) h f .0))
+  set-only (set vs) h f t = (vs, refl)
+
+  typed-parts : (x y : Value) → TypedAt s a (pair x y) → TypedAt s (a + 1) x × TypedAt s (a + 1 + weight x) y
+  typed-parts x y h =
+      let p = and-split (inhabited (shape x)) (inhabited (shape y)) (h .typed) in (
+        record { stands = left-stands s a x y (h .stands); fits = h .fits .0; typed = p .0 },
+        record { stands = right-stands s a x y (h .stands); fits = h .fits .1; typed = p .1 },
+      )
+
+  typed-members : (vs : Values) → TypedAt s a (set vs) → RunAt s (a + 1) (getD s a 0 % cellSize) vs
+  typed-members vs h = record { stands = members-stand s a vs (h .stands); fits = h .fits .1; typed = h .typed; counted = sym (first-cell s a (set vs) (h .stands) (h .fits) .1) }
+
+  pub as-pair : (v : Value) → TypedAt s a v → getD s a 0 / cellSize ≡ 4 →
+      (x : Value) × (y : Value) × (v ≡ pair x y) × TypedAt s (a + 1) x × TypedAt s (a + 1 + weight x) y
+  as-pair v h t =
+      let p = pair-only v (h .stands) (h .fits) t in
+      let k = typed-parts (p .0) (p .1) (rw (p .2) at h) in
+      (p .0, p .1, p .2, k .0, k .1)
+
+  pub as-set : (v : Value) → TypedAt s a v → getD s a 0 / cellSize ≡ 5 → (vs : Values) × (v ≡ set vs) × RunAt s (a + 1) (getD s a 0 % cellSize) vs
+  as-set v h t =
+      let p = set-only v (h .stands) (h .fits) t in
+      (p .0, p .1, typed-members (p .0) (rw (p .1) at h))
+
+-- The first of a run of values, and the rest.
+pub as-run : (s : List ℕ) (a n : ℕ) (vs : Values) → RunAt s a n vs → 0 < n →
+    (x : Value) × (ys : Values) × (vs ≡ x ▸ ys) × TypedAt s a x × RunAt s (a + weight x) (n - 1) ys
+as-run s a n none h l = absurd (omega (arith, h .counted))
+as-run s a n (x ▸ ys) h l = (
+  x,
+  ys,
+  refl,
+  record { stands = first-stands s a x ys (h .stands); fits = h .fits .0; typed = left-typed (shape x) (shapes ys) (h .typed) },
+  record { stands = rest-stand s a x ys (h .stands); fits = h .fits .1; typed = right-typed (shape x) (shapes ys) (h .typed); counted = omega (arith, h .counted) },
+)
+
+pub no-run : {s : List ℕ} {a n : ℕ} (vs : Values) → RunAt s a n vs → n ≡ 0 → vs ≡ none
+no-run none h e = refl
+no-run (x ▸ ys) h e = absurd (omega (arith, h .counted))
+
+-- A value against a run, value by value.
+module _ (s : List ℕ) (a j left : ℕ) where
+  pub with-end : left ≡ 0 → AgreedWith s a j left true
+  with-end z v ws h k = let e : ws ≡ none = no-run ws k z in rw e (sym (is-true (meets (shape v) every) (meets-every (shape v) (h .typed))))
+
+  pub with-false : 0 < left → Agreed s a j false → AgreedWith s a j left false
+  unfolding agree
+  with-false l g v ws h k =
+      let x = as-run s j left ws k l in
+      let m = meets-both (shape v) (shape (x .0)) (shapes (x .1)) (rw (x .2) at (k .typed)) in
+      rw (x .2, m, ← g v (x .0) h (x .3))
+
+  pub with-step : (j2 : ℕ) (r : Bool) → 0 < left → Agreed s a j true → EndsAt s j j2 → AgreedWith s a j2 (left - 1) r → AgreedWith s a j left r
+  unfolding agree
+  with-step j2 r l g e t v ws h k =
+      let x = as-run s j left ws k l in
+      let m = meets-both (shape v) (shape (x .0)) (shapes (x .1)) (rw (x .2) at (k .typed)) in
+      let f : j2 ≡ j + weight (x .0) = end-is e (x .3) in
+      rw (x .2, m, ← g v (x .0) h (x .3)) (t v (x .1) h (rw f (x .4)))
+
+-- Runs of values against each other.
+module _ (s : List ℕ) (i left b m : ℕ) where
+  pub all-end : left ≡ 0 → AgreedAll s i left b m true
+  all-end z vs ws h k =
+      let e : vs ≡ none = no-run vs h z in
+      rw e (sym (meets-sym every (shapes ws) ∙ is-true (meets (shapes ws) every) (meets-every (shapes ws) (k .typed))))
+
+  pub all-false : 0 < left → AgreedWith s i b m false → AgreedAll s i left b m false
+  all-false l g vs ws h k =
+      let x = as-run s i left vs h l in
+      let m = meets-first (shape (x .0)) (shapes (x .1)) (shapes ws) (rw (x .2) at (h .typed)) in
+      rw (x .2, m, ← g (x .0) ws (x .3) k)
+
+  pub all-step : (i2 : ℕ) (r : Bool) → 0 < left → AgreedWith s i b m true → EndsAt s i i2 → AgreedAll s i2 (left - 1) b m r → AgreedAll s i left b m r
+  all-step i2 r l g e t vs ws h k =
+      let x = as-run s i left vs h l in
+      let m = meets-first (shape (x .0)) (shapes (x .1)) (shapes ws) (rw (x .2) at (h .typed)) in
+      let f : i2 ≡ i + weight (x .0) = end-is e (x .3) in
+      rw (x .2, m, ← g (x .0) ws (x .3) k) (t (x .1) ws (rw f (x .4)) k)
+
+pub run-first : (s : List ℕ) (at n : ℕ) → SomeRun s at n → 0 < n → SomeTyped s at
+run-first s at n r l = let x = as-run s at n (r .0) (r .1) l in (x .0, x .3)
+
+pub run-rest : (s : List ℕ) (at n end : ℕ) → SomeRun s at n → 0 < n → EndsAt s at end → SomeRun s end (n - 1)
+run-rest s at n end r l e =
+    let x = as-run s at n (r .0) (r .1) l in
+    let f : end ≡ at + weight (x .0) = end-is e (x .3) in
+    (x .1, rw f (x .4))
+
+-- Two values by their parts or members.
+module _ (s : List ℕ) (a b : ℕ) where
+  pub unlike : ((getD s a 0 / cellSize ≡ getD s b 0 / cellSize) → ⊥) → Agreed s a b false
+  unlike n v w h k =
+      let p = first-cell s a v (h .stands) (h .fits) .0 in
+      let q = first-cell s b w (k .stands) (k .fits) .0 in
+      sym (tags-differ v w (λ e. n (p ∙ e ∙ sym q)))
+
+  pub parts-false : Agreed s a b false → AgreedParts s a b false
+  parts-false g v₁ v₂ w₁ w₂ h₁ h₂ k₁ k₂ = rw (← g v₁ w₁ h₁ k₁)
+
+  pub parts-true : (c d : ℕ) (r : Bool) → EndsAt s a c → EndsAt s b d → Agreed s a b true → Agreed s c d r → AgreedParts s a b r
+  parts-true c d r e f g i v₁ v₂ w₁ w₂ h₁ h₂ k₁ k₂ = rw (← g v₁ w₁ h₁ k₁) (i v₂ w₂ (rw (end-is e h₁) h₂) (rw (end-is f k₁) k₂))
+
+  pub pairs-agree : (r : Bool) → getD s a 0 / cellSize ≡ 4 → getD s b 0 / cellSize ≡ 4 → AgreedParts s (a + 1) (b + 1) r → Agreed s a b r
+  unfolding agree meets
+  pairs-agree r t u g v w h k =
+      let x = as-pair s a v h t in
+      let y = as-pair s b w k u in
+      rw (x .2, y .2) (g (x .0) (x .1) (y .0) (y .1) (x .3) (x .4) (y .3) (y .4))
+
+  pub pair-parts : (end : ℕ) → Two s a end b → getD s a 0 / cellSize ≡ 4 → getD s b 0 / cellSize ≡ 4 → Parts s (a + 1) end (b + 1)
+  pair-parts end p t u =
+      let x = as-pair s a (p .first .0) (p .first .1) t in
+      let y = as-pair s b (p .second .0) (p .second .1) u in
+      record {
+        left = (x .0, x .3);
+        right = λ c e. let f : c ≡ a + 1 + weight (x .0) = end-is e (x .3) in
+            let k : TypedAt s c (x .1) = rw f (x .4) in
+            let n : weight (p .first .0) ≡ 1 + (weight (x .0) + weight (x .1)) = ap weight (x .2) in
+            let m : end ≡ c + weight (x .1) = omega (arith, end-is (p .ends) (p .first .1)) in
+            ((x .1, k), rw m (ends-at s c (x .1) (k .stands) (k .fits)));
+        otherLeft = (y .0, y .3);
+        otherRight = λ d e. let f : d ≡ b + 1 + weight (y .0) = end-is e (y .3) in (y .1, rw f (y .4));
+      }
+
+  pub set-runs : (end n m : ℕ) → Two s a end b → getD s a 0 / cellSize ≡ 5 → getD s b 0 / cellSize ≡ 5 → Members s a n → Members s b m → Runs s (a + 1) end n (b + 1) m
+  set-runs end n m p t u c d =
+      let x = as-set s a (p .first .0) (p .first .1) t in
+      let y = as-set s b (p .second .0) (p .second .1) u in
+      let k = c (x .0) (rw (x .1) at (p .first .1)) in
+      let l = d (y .0) (rw (y .1) at (p .second .1)) in
+      let w : weight (p .first .0) ≡ 1 + weights (x .0) = ap weight (x .1) in
+      record { values = k .few; first = k .run; within = omega (arith, k .light, end-is (p .ends) (p .first .1)); second = (l .few, l .run) }
+
+  pub sets-agree : (n m : ℕ) (r : Bool) → getD s a 0 / cellSize ≡ 5 → getD s b 0 / cellSize ≡ 5 →
+      Members s a n → Members s b m → AgreedAll s (a + 1) n (b + 1) m r → Agreed s a b r
+  unfolding agree meets
+  sets-agree n m r t u c d g v w h k =
+      let x = as-set s a v h t in
+      let y = as-set s b w k u in
+      let p = c (x .0) (rw (x .1) at h) in
+      let q = d (y .0) (rw (y .1) at k) in
+      rw (x .1, y .1) (g (p .few) (q .few) (p .run) (q .run) ∙ meets-same (shapes (p .few)) (shapes (x .0)) (shapes (q .few)) (shapes (y .0)) (p .same) (q .same))
+
+pub as-scalar : (s : List ℕ) (a : ℕ) (v : Value) → TypedAt s a v → getD s a 0 / cellSize ≢ 4 → getD s a 0 / cellSize ≢ 5 →
+    (x : Scalar) × (v ≡ scalar x) × (getD s a 0 / cellSize ≡ scalarTag x)
+as-scalar s a (scalar x) h n m = (x, refl, first-cell s a (scalar x) (h .stands) (h .fits) .0)
+as-scalar s a (pair x y) h n m = absurd (n (first-cell s a (pair x y) (h .stands) (h .fits) .0))
+as-scalar s a (set vs) h n m = absurd (m (first-cell s a (set vs) (h .stands) (h .fits) .0))
+
+pub as-element : (s : List ℕ) (a : ℕ) (v : Value) → TypedAt s a v → getD s a 0 / cellSize ≡ 3 →
+    (g : ℕ) × (k : ℕ) × (v ≡ scalar (element g k)) × (getD s a 0 % cellSize / 256 ≡ g)
+as-element s a (scalar (num whole i)) h t = absurd (omega (arith, first-cell s a (scalar (num whole i)) (h .stands) (h .fits) .0))
+as-element s a (scalar (truth b)) h t = absurd (omega (arith, first-cell s a (scalar (truth b)) (h .stands) (h .fits) .0))
+as-element s a (scalar (element g k)) h t =
+    let e = first-cell s a (scalar (element g k)) (h .stands) (h .fits) .1 in
+    (g, k, refl, omega (arith, h .fits .0))
+as-element s a (pair x y) h t = absurd (omega (arith, first-cell s a (pair x y) (h .stands) (h .fits) .0))
+as-element s a (set vs) h t = absurd (omega (arith, first-cell s a (set vs) (h .stands) (h .fits) .0))
+
+pub kinds-agree : (s : List ℕ) (a b : ℕ) → getD s a 0 / cellSize ≡ getD s b 0 / cellSize → getD s a 0 / cellSize ≢ 4 → getD s a 0 / cellSize ≢ 5 →
+    Agreed s a b (sameKind (getD s a 0) (getD s b 0))
+kinds-agree s a b e n4 n5 v w h k = go (ℕ-discrete (getD s a 0 / cellSize) 3)
+  where
+    go : Dec (getD s a 0 / cellSize ≡ 3) → sameKind (getD s a 0) (getD s b 0) ≡ agree v w
+    go (yes t) =
+        let x = as-element s a v h t in
+        let y = as-element s b w k (sym e ∙ t) in
+        rw (eq-eqb (getD s a 0 / cellSize) 3 t, x .2, y .2, elements-agree (x .0) (x .1) (y .0) (y .1), x .3, y .3)
+    go (no n3) =
+        let x = as-scalar s a v h n4 n5 in
+        let y = as-scalar s b w k (λ f. n4 (e ∙ f)) (λ f. n5 (e ∙ f)) in
+        rw (ne-eqb (getD s a 0 / cellSize) 3 n3, x .1, y .1) (sym (scalars-agree (x .0) (y .0) (sym (x .2) ∙ e ∙ y .2) (λ f. n3 (x .2 ∙ f))))
+
+-- The cells of a value without an empty set's.
+pub full-typed : (s : List ℕ) (at end : ℕ) → EndsAt s at end → NoEmpty s at end → (v : Value) → TypedAt s at v → Full v
+full-typed s at end e f v h = full-value v s at (h .stands) (rw (end-is e h) at f)
+
+-- The members that stand for all.
+pub few-members : (s : List ℕ) (a n r : ℕ) → getD s a 0 % cellSize ≡ n → Few s (a + 1) n r → Members s a r
+unfolding code
+few-members s a n r c f vs h = go f
+  where
+    k : RunAt s (a + 1) n vs
+    k = record { stands = members-stand s a vs (h .stands); fits = h .fits .1; typed = h .typed; counted = sym (first-cell s a (set vs) (h .stands) (h .fits) .1) ∙ c }
+
+    one : (ws : Values) → RunAt s (a + 1) n ws → 0 < n → ((v : Value) → TypedAt s (a + 1) v → Full v) → StandFor s (a + 1) 1 ws
+    one none p l u = absurd (omega (arith, p .counted))
+    one (v ▸ ws) p l u =
+        let st : ValueAt s (a + 1) v = first-stands s (a + 1) v ws (p .stands) in
+        let ty = left-typed (shape v) (shapes ws) (p .typed) in
+        let fu : Full v = u v (record { stands = st; fits = p .fits .0; typed = ty }) in
+        record {
+          few = v ▸ none;
+          run = record {
+            stands = subst (λ (z : List ℕ). Stands s (a + 1) z) (sym (append-nil (code v))) st;
+            fits = (p .fits .0, tt);
+            typed = with-every (shape v) ty;
+            counted = refl;
+          };
+          light = omega arith;
+          same = λ q. sym (full-first v every q fu (with-every (shape v) ty)) ∙ full-first v (shapes ws) q fu (p .typed);
+        }
+
+    go : Few s (a + 1) n r → StandFor s (a + 1) r vs
+    go (inl e) = record { few = vs; run = rw e k; light = omega arith; same = λ q. refl }
+    go (inr x) = rw (x .0) (one vs k (x .1) (x .2))
+
+-- Going through the first of two runs.
+pub record Turn (s : List ℕ) (a end n b m i left : ℕ) : Type 0 where
+  pub values : Values
+  pub run : RunAt s i left values
+  pub within : i + weights values ≤ end
+  pub from : a ≤ i
+  pub rest : (r : Bool) → AgreedAll s i left b m r → AgreedAll s a n b m r
+
+pub turn-start : {s : List ℕ} {a end n b m : ℕ} → Runs s a end n b m → Turn s a end n b m a n
+turn-start p = record { values = p .values; run = p .first; within = p .within; from = omega arith; rest = λ r g. g }
+
+module _ (s : List ℕ) (a end n b m i left : ℕ) (p : Turn s a end n b m i left) (l : 0 < left) where
+  pub turn-first : SomeTyped s i
+  turn-first = run-first s i left (p .values, p .run) l
+
+  pub turn-within : (e : ℕ) → EndsAt s i e → e ≤ end
+  turn-within e f =
+      let x = as-run s i left (p .values) (p .run) l in
+      let w : weights (p .values) ≡ weight (x .0) + weights (x .1) = ap weights (x .2) in
+      omega (arith, p .within, end-is f (x .3))
+
+  pub turn-step : (e : ℕ) → EndsAt s i e → AgreedWith s i b m true → Turn s a end n b m e (left - 1)
+  turn-step e f g =
+      let x = as-run s i left (p .values) (p .run) l in
+      let w : weights (p .values) ≡ weight (x .0) + weights (x .1) = ap weights (x .2) in
+      let d : e ≡ i + weight (x .0) = end-is f (x .3) in
+      record {
+        values = x .1;
+        run = rw d (x .4);
+        within = omega (arith, p .within);
+        from = omega (arith, p .from);
+        rest = λ r h. p .rest r (all-step s i left b m e r l g f h);
+      }
+
+-- Cells of one tag.
+pub kind-element : (x y t l m : ℕ) → t ≡ x / cellSize → t ≡ 3 → l ≡ x % cellSize → m ≡ y % cellSize → eqb (l / 256) (m / 256) ≡ sameKind x y
+kind-element x y t l m e n p q = rw (eq-eqb (x / cellSize) 3 (sym e ∙ n), p, q)
+
+pub kind-other : (x y t : ℕ) → t ≡ x / cellSize → t ≢ 3 → true ≡ sameKind x y
+kind-other x y t e n = rw (ne-eqb (x / cellSize) 3 (λ f. n (e ∙ f)))
+
+pub first-member : (s : List ℕ) (a : ℕ) → SetHere s a → 0 < getD s a 0 % cellSize → SomeTyped s (a + 1)
+first-member s a h l =
+    let x = as-set s a (h .value .0) (h .value .1) (h .isSet) in
+    run-first s (a + 1) (getD s a 0 % cellSize) (x .0, x .2) l
+
+pub parts-bounds : (s : List ℕ) (a end b : ℕ) → Parts s a end b → (c : ℕ) → EndsAt s a c → (a < c) × (c < end)
+parts-bounds s a end b p c e =
+    let r = p .right c e in
+    (end-bounds s a c (p .left) e .0, end-bounds s c end (r .0) (r .1) .0)
+
+pub member-inside : (s : List ℕ) (a : ℕ) → SomeTyped s a → getD s a 0 / cellSize ≡ 5 → getD s a 0 % cellSize ≢ 0 → a + 1 < length s
+member-inside s a x t n = inside s (a + 1) (first-member s a (record { value = x; isSet = t }) (omega arith))
+
+pub members-run : (s : List ℕ) (a r : ℕ) → SetHere s a → Members s a r → SomeRun s (a + 1) r
+members-run s a r h c =
+    let x = as-set s a (h .value .0) (h .value .1) (h .isSet) in
+    let y = c (x .0) (rw (x .1) at (h .value .1)) in
+    (y .few, y .run)

@@ -1,0 +1,254 @@
+-- Sharing a type: consistency of sets of types is pairwise, and a value without empty sets has one type only.
+use Prim.Native.Nat.{ℕ}
+use mathlib.Core.Bool.{Bool, true, false, _&&_, cond}
+use mathlib.Core.Path.{_≡_, refl, sym, ap, _∙_, subst}
+use mathlib.Core.Logic.{_≢_, _↔_}
+use native.Mathlib.Omega.{arith}
+use lib.Dec.{T, eqb}
+use Rattle.rules.specs.Types.{whole, Atom, given, Ty, atom, POW, _⊗_}
+use Rattle.rules.specs.Values.{Scalar, num, truth, element, scalarTag, tag, Value, scalar, pair, set, Values, none, _▸_}
+use Rattle.rules.specs.Fits.{sameAtom, Shape, every, clash, atomˢ, powˢ, _×ˢ_, _⊓_, shape, shapes, inhabited, typed}
+use Rattle.rules.proofs.FitsLaws.{_⊑_, ⊓-join, ⊓-split, inhabited→some, some→inhabited}
+use Rattle.fitting.specs.Agree.{meets, agree, Full, FullSet}
+
+-- Booleans.
+pub bool-eq : (a b : Bool) → (T a → T b) → (T b → T a) → a ≡ b
+bool-eq true true f g = refl
+bool-eq true false f g = absurd (f tt)
+bool-eq false true f g = absurd (g tt)
+bool-eq false false f g = refl
+
+pub is-true : (a : Bool) → T a → a ≡ true
+is-true true h = refl
+is-true false h = absurd h
+
+pub and-split : (a b : Bool) → T (a && b) → T a × T b
+and-split true b h = (tt, h)
+and-split false b h = absurd h
+
+pub and-of : (a b : Bool) → T a → T b → T (a && b)
+and-of true b h k = k
+and-of false b h k = h
+
+-- Two sets of types that have one in common.
+abbrev pub Share : Shape → Shape → Type 0
+Share p q = (t : Ty) × (p ⊑ t) × (q ⊑ t)
+
+pub meets→share : (p q : Shape) → T (meets p q) → Share p q
+unfolding meets
+meets→share p q h =
+    let r = inhabited→some (p ⊓ q) h in
+    let k = ⊓-split p q (r .0) (r .1) in
+    (r .0, k .0, k .1)
+
+pub share→meets : (p q : Shape) → Share p q → T (meets p q)
+unfolding meets
+share→meets p q x = some→inhabited (p ⊓ q) (x .0) (⊓-join p q (x .0) (x .1) (x .2))
+
+cond-atom : (c : Bool) (a : Atom) → T (inhabited (cond c (atomˢ a) clash)) → T c
+cond-atom true a h = tt
+cond-atom false a h = h
+
+-- Where each two of three sets of types have one in common, all three have.
+pub pairwise : (p q r : Shape) → T (inhabited (p ⊓ q)) → T (inhabited (p ⊓ r)) → T (inhabited (q ⊓ r)) → T (inhabited ((p ⊓ q) ⊓ r))
+pairwise every q r h k l = l
+pairwise clash q r h k l = h
+pairwise (atomˢ a) every r h k l = k
+pairwise (atomˢ a) clash r h k l = absurd h
+pairwise (atomˢ a) (atomˢ b) r h k l = go (sameAtom a b) h
+  where
+    go : (c : Bool) → T (inhabited (cond c (atomˢ a) clash)) → T (inhabited (cond c (atomˢ a) clash ⊓ r))
+    go true x = k
+    go false x = x
+pairwise (atomˢ a) (powˢ q) r h k l = absurd h
+pairwise (atomˢ a) (q₁ ×ˢ q₂) r h k l = absurd h
+pairwise (powˢ p) every r h k l = k
+pairwise (powˢ p) clash r h k l = absurd h
+pairwise (powˢ p) (atomˢ b) r h k l = absurd h
+pairwise (powˢ p) (powˢ q) every h k l = h
+pairwise (powˢ p) (powˢ q) clash h k l = k
+pairwise (powˢ p) (powˢ q) (atomˢ c) h k l = k
+pairwise (powˢ p) (powˢ q) (powˢ r) h k l = pairwise p q r h k l
+pairwise (powˢ p) (powˢ q) (r₁ ×ˢ r₂) h k l = k
+pairwise (powˢ p) (q₁ ×ˢ q₂) r h k l = absurd h
+pairwise (p₁ ×ˢ p₂) every r h k l = k
+pairwise (p₁ ×ˢ p₂) clash r h k l = absurd h
+pairwise (p₁ ×ˢ p₂) (atomˢ b) r h k l = absurd h
+pairwise (p₁ ×ˢ p₂) (powˢ q) r h k l = absurd h
+pairwise (p₁ ×ˢ p₂) (q₁ ×ˢ q₂) every h k l = h
+pairwise (p₁ ×ˢ p₂) (q₁ ×ˢ q₂) clash h k l = k
+pairwise (p₁ ×ˢ p₂) (q₁ ×ˢ q₂) (atomˢ c) h k l = k
+pairwise (p₁ ×ˢ p₂) (q₁ ×ˢ q₂) (powˢ r) h k l = k
+pairwise (p₁ ×ˢ p₂) (q₁ ×ˢ q₂) (r₁ ×ˢ r₂) h k l =
+    let a = and-split (inhabited (p₁ ⊓ q₁)) (inhabited (p₂ ⊓ q₂)) h in
+    let b = and-split (inhabited (p₁ ⊓ r₁)) (inhabited (p₂ ⊓ r₂)) k in
+    let c = and-split (inhabited (q₁ ⊓ r₁)) (inhabited (q₂ ⊓ r₂)) l in
+    and-of (inhabited ((p₁ ⊓ q₁) ⊓ r₁)) (inhabited ((p₂ ⊓ q₂) ⊓ r₂))
+    (pairwise p₁ q₁ r₁ (a .0) (b .0) (c .0)) (pairwise p₂ q₂ r₂ (a .1) (b .1) (c .1))
+
+-- So of a set of types and of two that have one in common.
+pub meets-both : (p q r : Shape) → T (inhabited (q ⊓ r)) → meets p (q ⊓ r) ≡ (meets p q && meets p r)
+unfolding meets
+meets-both p q r l = bool-eq (meets p (q ⊓ r)) (meets p q && meets p r) there back
+  where
+    there : T (meets p (q ⊓ r)) → T (meets p q && meets p r)
+    there h =
+        let x = meets→share p (q ⊓ r) h in
+        let k = ⊓-split q r (x .0) (x .2) in
+        and-of (meets p q) (meets p r) (share→meets p q (x .0, x .1, k .0)) (share→meets p r (x .0, x .1, k .1))
+
+    back : T (meets p q && meets p r) → T (meets p (q ⊓ r))
+    back h =
+        let a = and-split (meets p q) (meets p r) h in
+        let y = inhabited→some ((p ⊓ q) ⊓ r) (pairwise p q r (a .0) (a .1) l) in
+        let m = ⊓-split (p ⊓ q) r (y .0) (y .1) in
+        let n = ⊓-split p q (y .0) (m .0) in
+        share→meets p (q ⊓ r) (y .0, n .0, ⊓-join q r (y .0) (n .1) (m .1))
+
+pub meets-sym : (p q : Shape) → meets p q ≡ meets q p
+meets-sym p q =
+    bool-eq (meets p q) (meets q p)
+    (λ h. let x = meets→share p q h in share→meets q p (x .0, x .2, x .1))
+    (λ h. let x = meets→share q p h in share→meets p q (x .0, x .2, x .1))
+
+scalars-differ : (x y : Scalar) → scalarTag x ≢ scalarTag y → agree (scalar x) (scalar y) ≡ false
+unfolding agree meets
+scalars-differ (num whole i) (num whole j) n = absurd (n refl)
+scalars-differ (num whole i) (truth b) n = refl
+scalars-differ (num whole i) (element g k) n = refl
+scalars-differ (truth a) (num whole j) n = refl
+scalars-differ (truth a) (truth b) n = absurd (n refl)
+scalars-differ (truth a) (element g k) n = refl
+scalars-differ (element g k) (num whole j) n = refl
+scalars-differ (element g k) (truth b) n = refl
+scalars-differ (element g k) (element h l) n = absurd (n refl)
+
+-- Numbers share a type, truths do, and elements do where their given set is the same.
+pub scalars-agree : (x y : Scalar) → scalarTag x ≡ scalarTag y → scalarTag x ≢ 3 → agree (scalar x) (scalar y) ≡ true
+unfolding agree meets
+scalars-agree (num whole i) (num whole j) e n = refl
+scalars-agree (num whole i) (truth b) e n = absurd (omega arith)
+scalars-agree (num whole i) (element g k) e n = absurd (omega arith)
+scalars-agree (truth a) (num whole j) e n = absurd (omega arith)
+scalars-agree (truth a) (truth b) e n = refl
+scalars-agree (truth a) (element g k) e n = absurd (omega arith)
+scalars-agree (element g k) y e n = absurd (n refl)
+
+pub elements-agree : (g k h l : ℕ) → agree (scalar (element g k)) (scalar (element h l)) ≡ eqb g h
+unfolding agree meets
+elements-agree g k h l = go (eqb g h)
+  where
+    go : (c : Bool) → inhabited (cond c (atomˢ (given g)) clash) ≡ c
+    go true = refl
+    go false = refl
+
+pub meets-first : (q r p : Shape) → T (inhabited (q ⊓ r)) → meets (q ⊓ r) p ≡ (meets q p && meets r p)
+meets-first q r p l = meets-sym (q ⊓ r) p ∙ meets-both p q r l ∙ rw (meets-sym p q, meets-sym p r)
+
+-- Values of different tags share no type.
+pub tags-differ : (v w : Value) → tag v ≢ tag w → agree v w ≡ false
+unfolding agree meets
+tags-differ (scalar x) (scalar y) n = scalars-differ x y n
+tags-differ (scalar x) (pair v w) n = refl
+tags-differ (scalar x) (set vs) n = refl
+tags-differ (pair v w) (scalar x) n = refl
+tags-differ (pair v w) (pair x y) n = absurd (n refl)
+tags-differ (pair v w) (set vs) n = refl
+tags-differ (set vs) (scalar x) n = refl
+tags-differ (set vs) (pair v w) n = refl
+tags-differ (set vs) (set ws) n = absurd (n refl)
+
+-- The parts of two sets of types that have one in common.
+pub left-typed : (p q : Shape) → T (inhabited (p ⊓ q)) → T (inhabited p)
+left-typed p q h =
+    let r = inhabited→some (p ⊓ q) h in
+    some→inhabited p (r .0) (⊓-split p q (r .0) (r .1) .0)
+
+pub right-typed : (p q : Shape) → T (inhabited (p ⊓ q)) → T (inhabited q)
+right-typed p q h =
+    let r = inhabited→some (p ⊓ q) h in
+    some→inhabited q (r .0) (⊓-split p q (r .0) (r .1) .1)
+
+pub with-every : (p : Shape) → T (inhabited p) → T (inhabited (p ⊓ every))
+unfolding meets
+with-every p h = let r = inhabited→some p h in share→meets p every (r .0, r .1, tt)
+
+pub meets-every : (p : Shape) → T (inhabited p) → T (meets p every)
+unfolding meets
+meets-every p h = with-every p h
+
+-- A full value has at most one type.
+mutual
+  pub ground : (v : Value) (t u : Ty) → Full v → shape v ⊑ t → shape v ⊑ u → t ≡ u
+  ground (scalar x) t u f h k = h ∙ sym k
+  ground (pair v w) (atom a) u f h k = absurd h
+  ground (pair v w) (POW t) u f h k = absurd h
+  ground (pair v w) (t₁ ⊗ t₂) (atom a) f h k = absurd k
+  ground (pair v w) (t₁ ⊗ t₂) (POW u) f h k = absurd k
+  ground (pair v w) (t₁ ⊗ t₂) (u₁ ⊗ u₂) f h k =
+      let a = ground v t₁ u₁ (f .0) (h .0) (k .0) in
+      let b = ground w t₂ u₂ (f .1) (h .1) (k .1) in
+      cc
+  ground (set s) (atom a) u f h k = absurd h
+  ground (set s) (t₁ ⊗ t₂) u f h k = absurd h
+  ground (set s) (POW t) (atom a) f h k = absurd k
+  ground (set s) (POW t) (u₁ ⊗ u₂) f h k = absurd k
+  ground (set s) (POW t) (POW u) f h k = ap POW (ground-set s t u f h k)
+
+  ground-set : (s : Values) (t u : Ty) → FullSet s → shapes s ⊑ t → shapes s ⊑ u → t ≡ u
+  ground-set none t u f h k = absurd f
+  ground-set (v ▸ vs) t u f h k =
+      ground v t u (f .0) (⊓-split (shape v) (shapes vs) t h .0) (⊓-split (shape v) (shapes vs) u k .0)
+
+-- The shape of a full value that has a type has no other: what meets it meets all that share its type.
+pub full-first : (v : Value) (r q : Shape) → Full v → T (inhabited (shape v ⊓ r)) → meets (shape v) q ≡ meets (shape v ⊓ r) q
+full-first v r q f l = bool-eq (meets (shape v) q) (meets (shape v ⊓ r) q) there back
+  where
+    there : T (meets (shape v) q) → T (meets (shape v ⊓ r) q)
+    there h =
+        let x = meets→share (shape v) q h in
+        let y = inhabited→some (shape v ⊓ r) l in
+        let e : y .0 ≡ x .0 = ground v (y .0) (x .0) f (⊓-split (shape v) r (y .0) (y .1) .0) (x .1) in
+        share→meets (shape v ⊓ r) q (x .0, subst (λ (t : Ty). shape v ⊓ r ⊑ t) e (y .1), x .2)
+
+    back : T (meets (shape v ⊓ r) q) → T (meets (shape v) q)
+    back h =
+        let x = meets→share (shape v ⊓ r) q h in
+        share→meets (shape v) q (x .0, ⊓-split (shape v) r (x .0) (x .1) .0, x .2)
+
+-- Sets of types that stand for others.
+pub meets-same : (p p′ q q′ : Shape) → ((x : Shape) → meets p x ≡ meets p′ x) → ((x : Shape) → meets q x ≡ meets q′ x) → meets p q ≡ meets p′ q′
+meets-same p p′ q q′ f g = f q ∙ meets-sym p′ q ∙ g p′ ∙ meets-sym q′ p′
+
+-- Two sets share a type exactly where each member of one shares a type with each member of the other.
+abbrev pub WithEach : Value → Values → Type 0
+WithEach v none = Unit {0}
+WithEach v (w ▸ ws) = T (agree v w) × WithEach v ws
+
+abbrev pub EachWithEach : Values → Values → Type 0
+EachWithEach none ws = Unit {0}
+EachWithEach (v ▸ vs) ws = WithEach v ws × EachWithEach vs ws
+
+with-each : (v : Value) (ws : Values) → T (inhabited (shape v)) → T (inhabited (shapes ws)) → T (meets (shape v) (shapes ws)) ↔ WithEach v ws
+unfolding agree
+with-each v none l m = ((λ h. tt), (λ h. meets-every (shape v) l))
+with-each v (w ▸ ws) l m =
+    let e = meets-both (shape v) (shape w) (shapes ws) m in
+    let r = with-each v ws l (right-typed (shape w) (shapes ws) m) in (
+      (λ h. let k = and-split (meets (shape v) (shape w)) (meets (shape v) (shapes ws)) (subst T e h) in (k .0, r .0 (k .1))),
+      (λ h. subst T (sym e) (and-of (meets (shape v) (shape w)) (meets (shape v) (shapes ws)) (h .0) (r .1 (h .1)))),
+    )
+
+each-with-each : (vs ws : Values) → T (inhabited (shapes vs)) → T (inhabited (shapes ws)) → T (meets (shapes vs) (shapes ws)) ↔ EachWithEach vs ws
+each-with-each none ws l m = ((λ h. tt), (λ h. subst T (meets-sym (shapes ws) every) (meets-every (shapes ws) m)))
+each-with-each (v ▸ vs) ws l m =
+    let e = meets-first (shape v) (shapes vs) (shapes ws) l in
+    let q = with-each v ws (left-typed (shape v) (shapes vs) l) m in
+    let r = each-with-each vs ws (right-typed (shape v) (shapes vs) l) m in (
+      (λ h. let k = and-split (meets (shape v) (shapes ws)) (meets (shapes vs) (shapes ws)) (subst T e h) in (q .0 (k .0), r .0 (k .1))),
+      (λ h. subst T (sym e) (and-of (meets (shape v) (shapes ws)) (meets (shapes vs) (shapes ws)) (q .1 (h .0)) (r .1 (h .1)))),
+    )
+
+pub sets-agree : (vs ws : Values) → T (typed (set vs)) → T (typed (set ws)) → T (agree (set vs) (set ws)) ↔ EachWithEach vs ws
+unfolding agree meets typed
+sets-agree vs ws l m = each-with-each vs ws l m

@@ -1,0 +1,380 @@
+-- Values of the arena against types in prefix codes.
+use Prim.Native.Nat.{ℕ, suc, _+_, _-_, _/_, _%_, _≤_, _<_}
+use mathlib.Core.Bool.{Bool, true, false}
+use mathlib.Core.List.{List, [], _∷_, _++_, append-assoc, append-nil}
+use mathlib.Core.Logic.{_≢_}
+use mathlib.Core.Path.{_≡_, refl, sym, ap, _∙_, subst}
+use native.Mathlib.Omega.{arith}
+use lib.Dec.{T, eqb}
+use lib.ListN.{length, getD, replicate, length-append}
+use borrow.Author.Tests.{eq-eqb, ne-eqb, eqb-true}
+use Rattle.rules.specs.Types.{whole, Atom, number, bool, given, Ty, atom, POW, _⊗_, atomCode, weightᵀ, prefix, row}
+use Rattle.rules.specs.Values.{Scalar, num, truth, element, Value, scalar, pair, set, Values, none, _▸_, scalarTag, count, weight, weights}
+use Rattle.rules.specs.Fits.{atomOf, HasType, HaveType}
+use Rattle.rules.proofs.TypeLaws.{weight-positive, prefix-length}
+use Rattle.arena.specs.Code.{cellSize, scalarLow, Stands, ValueAt, ValuesAt, ScalarFits, CellsFit, AllFit, SomeAt, EndsAt}
+use Rattle.arena.proofs.CodeLaws.{length-code}
+use Rattle.arena.proofs.Standing.{stands-head, stands-tail, stands-front, stands-back}
+use Rattle.fitting.specs.Types.{TypeAt, SomeType, TypeEnds, typeParts, Decides, atomIs, OfType, AllOfType, PartsOfType, ValueAndType, ValuesAndType, PartsAndTypes}
+use Rattle.fitting.proofs.Cells.{weight-pos, ends-at, set-only, pair-only, first-cell, left-stands, right-stands, members-stand, first-stands, rest-stand}
+
+-- The first code of a type.
+abbrev head : Ty → ℕ
+head (atom a) = atomCode a
+head (POW t) = 3
+head (t ⊗ u) = 4
+
+pub first-code : (row : List ℕ) (from : ℕ) (t : Ty) → TypeAt row from t → getD row from 0 ≡ head t
+first-code row from (atom a) h = stands-head row from _ _ (h .codes)
+first-code row from (POW t) h = stands-head row from _ _ (h .codes)
+first-code row from (t ⊗ u) h = stands-head row from _ _ (h .codes)
+
+pub type-inside : (row : List ℕ) (from : ℕ) → SomeType row from → from < length row
+type-inside row from x = omega (arith, x .1 .codes .inside, prefix-length (x .0), weight-positive (x .0))
+
+-- A type's code is a POW's or a product's only where the type is.
+atom-code : (a : Atom) → (atomCode a ≢ 3) × (atomCode a ≢ 4)
+atom-code (number whole) = ((λ e. omega arith), (λ e. omega arith))
+atom-code bool = ((λ e. omega arith), (λ e. omega arith))
+atom-code (given g) = ((λ e. omega arith), (λ e. omega arith))
+
+pub is-pow : (row : List ℕ) (from : ℕ) (t : Ty) → TypeAt row from t → getD row from 0 ≡ 3 → (u : Ty) × (t ≡ POW u) × TypeAt row (from + 1) u
+is-pow row from (atom a) h e = absurd (atom-code a .0 (sym (first-code row from (atom a) h) ∙ e))
+is-pow row from (POW u) h e = (u, refl, record { codes = stands-tail row from 3 (prefix u) (h .codes) })
+is-pow row from (u ⊗ w) h e = absurd (omega (arith, first-code row from (u ⊗ w) h))
+
+pub is-product : (row : List ℕ) (from : ℕ) (t : Ty) → TypeAt row from t → getD row from 0 ≡ 4 →
+    (u : Ty) × (w : Ty) × (t ≡ u ⊗ w) × TypeAt row (from + 1) u × TypeAt row (from + 1 + weightᵀ u) w
+is-product row from (atom a) h e = absurd (atom-code a .1 (sym (first-code row from (atom a) h) ∙ e))
+is-product row from (POW u) h e = absurd (omega (arith, first-code row from (POW u) h))
+is-product row from (u ⊗ w) h e =
+    let k = stands-tail row from 4 (prefix u ++ prefix w) (h .codes) in (
+      u,
+      w,
+      refl,
+      record { codes = stands-front row (from + 1) (prefix u) (prefix w) k },
+      record { codes = rw (← prefix-length u) (stands-back row (from + 1) (prefix u) (prefix w) k) },
+    )
+
+-- Types one after the other.
+prefixes : List Ty → List ℕ
+prefixes [] = []
+prefixes (t ∷ ts) = prefix t ++ prefixes ts
+
+widths : List Ty → ℕ
+widths [] = 0
+widths (t ∷ ts) = weightᵀ t + widths ts
+
+-- `left` types stand from i to e.
+pub record PendingTypes (row : List ℕ) (i left e : ℕ) : Type 0 where
+  types : List Ty
+  counted : length types ≡ left
+  codes : Stands row i (prefixes types)
+  ends : i + widths types ≡ e
+
+pub types-start : (row : List ℕ) (from : ℕ) (t : Ty) → TypeAt row from t → PendingTypes row from 1 (from + weightᵀ t)
+unfolding prefixes widths
+types-start row from t h = record {
+  types = t ∷ [];
+  counted = refl;
+  codes = subst (λ (l : List ℕ). Stands row from l) (sym (append-nil (prefix t))) (h .codes);
+  ends = omega arith;
+}
+
+pub parts-pow : (c : ℕ) → c ≡ 3 → typeParts c ≡ 1
+parts-pow c e = rw (eq-eqb c 3 e)
+
+pub parts-product : (c : ℕ) → c ≢ 3 → c ≡ 4 → typeParts c ≡ 2
+parts-product c n e = rw (ne-eqb c 3 n, eq-eqb c 4 e)
+
+pub parts-atom : (c : ℕ) → c ≢ 3 → c ≢ 4 → typeParts c ≡ 0
+parts-atom c n m = rw (ne-eqb c 3 n, ne-eqb c 4 m)
+
+module _ (row : List ℕ) (i e : ℕ) where
+  step-on : (t : Ty) (ts : List Ty) (left : ℕ) → suc (length ts) ≡ left → Stands row i (prefix t ++ prefixes ts) → i + (weightᵀ t + widths ts) ≡ e →
+      PendingTypes row (i + 1) (left - 1 + typeParts (getD row i 0)) e
+  unfolding prefixes widths
+  step-on (atom a) ts left c h en =
+      let hd = stands-head row i (atomCode a) (prefixes ts) h in
+      record {
+        types = ts;
+        counted = rw (hd, parts-atom (atomCode a) (atom-code a .0) (atom-code a .1)) (omega arith);
+        codes = stands-tail row i (atomCode a) (prefixes ts) h;
+        ends = omega arith;
+      }
+  step-on (POW u) ts left c h en =
+      let hd = stands-head row i 3 (prefix u ++ prefixes ts) h in
+      record {
+        types = u ∷ ts;
+        counted = rw (hd, parts-pow 3 refl) (omega arith);
+        codes = stands-tail row i 3 (prefix u ++ prefixes ts) h;
+        ends = omega arith;
+      }
+  step-on (u ⊗ w) ts left c h en =
+      let hd = stands-head row i 4 ((prefix u ++ prefix w) ++ prefixes ts) h in
+      record {
+        types = u ∷ w ∷ ts;
+        counted = rw (hd, parts-product 4 (λ x. omega arith) refl) (omega arith);
+        codes = subst (λ (l : List ℕ). Stands row (i + 1) l) (append-assoc (prefix u) (prefix w) (prefixes ts)) (stands-tail row i 4 ((prefix u ++ prefix w) ++ prefixes ts) h);
+        ends = omega arith;
+      }
+
+  pub types-step : (left : ℕ) → PendingTypes row i left e → 0 < left → PendingTypes row (i + 1) (left - 1 + typeParts (getD row i 0)) e
+  unfolding prefixes widths
+  types-step left p l = go (p .types) (p .counted) (p .codes) (p .ends)
+    where
+      go : (ts : List Ty) → length ts ≡ left → Stands row i (prefixes ts) → i + widths ts ≡ e → PendingTypes row (i + 1) (left - 1 + typeParts (getD row i 0)) e
+      go [] c h en = absurd (omega arith)
+      go (t ∷ ts) c h en = step-on t ts left c h en
+
+  pub types-inside : (left : ℕ) → PendingTypes row i left e → 0 < left → i < length row
+  unfolding prefixes widths
+  types-inside left p l = go (p .types) (p .counted) (p .codes)
+    where
+      go : (ts : List Ty) → length ts ≡ left → Stands row i (prefixes ts) → i < length row
+      go [] c h = absurd (omega arith)
+      go (t ∷ ts) c h = omega (arith, h .inside, length-append (prefix t) (prefixes ts), prefix-length t, weight-positive t)
+
+  pub types-end : (left : ℕ) → PendingTypes row i left e → left ≡ 0 → i ≡ e
+  unfolding widths
+  types-end left p z = go (p .types) (p .counted) (p .ends)
+    where
+      go : (ts : List Ty) → length ts ≡ left → i + widths ts ≡ e → i ≡ e
+      go [] c en = omega arith
+      go (t ∷ ts) c en = absurd (omega arith)
+
+count-types : (ts : List Ty) → length ts ≤ length (prefixes ts)
+unfolding prefixes
+count-types [] = omega arith
+count-types (t ∷ ts) = omega (arith, count-types ts, length-append (prefix t) (prefixes ts), prefix-length t, weight-positive t)
+
+pub types-few : (row : List ℕ) (i left e : ℕ) → PendingTypes row i left e → left ≤ length row
+types-few row i left e p = omega (arith, count-types (p .types), p .counted, p .codes .inside)
+
+-- Cells against codes.
+pub atom-element : (x c t l : ℕ) → t ≡ x / cellSize → t ≡ 3 → l ≡ x % cellSize → eqb (l / 256 + 16) c ≡ atomIs x c
+atom-element x c t l e n p = rw (eq-eqb (x / cellSize) 3 (sym e ∙ n), p)
+
+pub atom-other : (x c t : ℕ) → t ≡ x / cellSize → t ≢ 3 → eqb t c ≡ atomIs x c
+atom-other x c t e n = rw (ne-eqb (x / cellSize) 3 (λ f. n (e ∙ f)), e)
+
+-- The code of a type without parts tells the type.
+head-number : (t : Ty) → head t ≡ 1 → t ≡ atom (number whole)
+head-number (atom (number whole)) e = refl
+head-number (atom bool) e = absurd (omega arith)
+head-number (atom (given g)) e = absurd (omega arith)
+head-number (POW t) e = absurd (omega arith)
+head-number (t ⊗ u) e = absurd (omega arith)
+
+head-bool : (t : Ty) → head t ≡ 2 → t ≡ atom bool
+head-bool (atom (number whole)) e = absurd (omega arith)
+head-bool (atom bool) e = refl
+head-bool (atom (given g)) e = absurd (omega arith)
+head-bool (POW t) e = absurd (omega arith)
+head-bool (t ⊗ u) e = absurd (omega arith)
+
+head-given : (t : Ty) (g : ℕ) → head t ≡ g + 16 → t ≡ atom (given g)
+head-given (atom (number whole)) g e = absurd (omega arith)
+head-given (atom bool) g e = absurd (omega arith)
+head-given (atom (given h)) g e = let f : h ≡ g = omega arith in ap (λ (k : ℕ). atom (given k)) f
+head-given (POW t) g e = absurd (omega arith)
+head-given (t ⊗ u) g e = absurd (omega arith)
+
+-- a test of numbers decides an equation
+by-code : (m n : ℕ) (t u : Ty) → (n ≡ m → t ≡ u) → (t ≡ u → m ≡ n) → Decides (eqb m n) (t ≡ u)
+by-code m n t u f g = record { sound = λ e. f (sym (eqb-true m n e)); complete = λ e. eq-eqb m n (g e) }
+
+scalar-decides : (x : Scalar) (t : Ty) (c : ℕ) → ScalarFits x → c / cellSize ≡ scalarTag x → c % cellSize ≡ scalarLow x → Decides (atomIs c (head t)) (t ≡ atom (atomOf x))
+scalar-decides (num whole i) t c f e l =
+    rw (ne-eqb (c / cellSize) 3 (λ z. omega arith), e) (by-code 1 (head t) t (atom (number whole)) (head-number t) (λ z. sym (ap head z)))
+scalar-decides (truth b) t c f e l =
+    rw (ne-eqb (c / cellSize) 3 (λ z. omega arith), e) (by-code 2 (head t) t (atom bool) (head-bool t) (λ z. sym (ap head z)))
+scalar-decides (element g k) t c f e l =
+    let q : c % cellSize / 256 ≡ g = omega (arith, f .0) in
+    rw (eq-eqb (c / cellSize) 3 e, q) (by-code (g + 16) (head t) t (atom (given g)) (head-given t g) (λ z. let y : head t ≡ 16 + g = ap head z in omega arith))
+
+pub is-atom : (s : List ℕ) (at : ℕ) (row : List ℕ) (from : ℕ) (r : Bool) → r ≡ atomIs (getD s at 0) (getD row from 0) →
+    getD s at 0 / cellSize ≢ 5 → getD s at 0 / cellSize ≢ 4 → OfType s at row from r
+is-atom s at row from r e n5 n4 (scalar x) t h f k =
+    let p = first-cell s at (scalar x) h f in
+    let q : r ≡ atomIs (getD s at 0) (head t) = e ∙ ap (atomIs (getD s at 0)) (first-code row from t k) in
+    subst (λ (b : Bool). Decides b (t ≡ atom (atomOf x))) (sym q) (scalar-decides x t (getD s at 0) f (p .0) (p .1))
+is-atom s at row from r e n5 n4 (pair x y) t h f k = absurd (n4 (first-cell s at (pair x y) h f .0))
+is-atom s at row from r e n5 n4 (set vs) t h f k = absurd (n5 (first-cell s at (set vs) h f .0))
+
+false-true : false ≡ true → ⊥
+false-true e = subst T (sym e) tt
+
+-- Both of two.
+pub both-no : (A B : Type 0) (r : Bool) → Decides r A → r ≡ false → Decides false (A × B)
+both-no A B r d e = record { sound = λ z. absurd (false-true z); complete = λ x. absurd (false-true (sym e ∙ d .complete (x .0))) }
+
+pub both-yes : (A B : Type 0) (q r : Bool) → Decides q A → q ≡ true → Decides r B → Decides r (A × B)
+both-yes A B q r d e f = record { sound = λ z. (d .sound e, f .sound z); complete = λ x. f .complete (x .1) }
+
+-- A set has only types POW(t), a pair only products.
+set-head : (vs : Values) (t : Ty) → HasType (set vs) t → head t ≡ 3
+set-head vs (atom a) h = absurd h
+set-head vs (POW t) h = refl
+set-head vs (t ⊗ u) h = absurd h
+
+pair-head : (v w : Value) (t : Ty) → HasType (pair v w) t → head t ≡ 4
+pair-head v w (atom a) h = absurd h
+pair-head v w (POW t) h = absurd h
+pair-head v w (t ⊗ u) h = refl
+
+refused : (A : Type 0) → (A → ⊥) → Decides false A
+refused A n = record { sound = λ e. absurd (false-true e); complete = λ a. absurd (n a) }
+
+module _ (s : List ℕ) (at : ℕ) (row : List ℕ) (from : ℕ) where
+  pub set-no : getD s at 0 / cellSize ≡ 5 → getD row from 0 ≢ 3 → OfType s at row from false
+  set-no tag n v t h f k =
+      let x = set-only s at v h f tag in
+      refused (HasType v t) (λ y. n (first-code row from t k ∙ set-head (x .0) t (rw (x .1) at y)))
+
+  pub pair-no : getD s at 0 / cellSize ≡ 4 → getD row from 0 ≢ 4 → OfType s at row from false
+  pair-no tag n v t h f k =
+      let x = pair-only s at v h f tag in
+      refused (HasType v t) (λ y. n (first-code row from t k ∙ pair-head (x .0) (x .1) t (rw (x .2) at y)))
+
+  pub set-type : (n : ℕ) (r : Bool) → getD s at 0 / cellSize ≡ 5 → getD row from 0 ≡ 3 → n ≡ getD s at 0 % cellSize → AllOfType s (at + 1) n row (from + 1) r → OfType s at row from r
+  set-type n r tag c m g v t h f k =
+      let x = set-only s at v h f tag in
+      let y = is-pow row from t k c in
+      let h′ : ValueAt s at (set (x .0)) = rw (x .1) at h in
+      let f′ : CellsFit (set (x .0)) = rw (x .1) at f in
+      rw (x .1, y .1) (g (x .0) (y .0) (members-stand s at (x .0) h′) (f′ .1) (sym (m ∙ first-cell s at (set (x .0)) h′ f′ .1)) (y .2))
+
+  pub pair-type : (r : Bool) → getD s at 0 / cellSize ≡ 4 → getD row from 0 ≡ 4 → PartsOfType s (at + 1) row (from + 1) r → OfType s at row from r
+  pair-type r tag c g v t h f k =
+      let x = pair-only s at v h f tag in
+      let y = is-product row from t k c in
+      let h′ : ValueAt s at (pair (x .0) (x .1)) = rw (x .2) at h in
+      let f′ : CellsFit (pair (x .0) (x .1)) = rw (x .2) at f in
+      rw (x .2, y .2) (g (x .0) (x .1) (y .0) (y .1) (left-stands s at (x .0) (x .1) h′) (right-stands s at (x .0) (x .1) h′) (f′ .0) (f′ .1) (y .3) (y .4))
+
+  -- what the tests of the members and of the parts ask
+  pub set-asks : (end n : ℕ) → ValueAndType s at end row from → getD s at 0 / cellSize ≡ 5 → getD row from 0 ≡ 3 → n ≡ getD s at 0 % cellSize → ValuesAndType s (at + 1) end n row (from + 1)
+  set-asks end n p tag c m =
+      let v = p .value in
+      let x = set-only s at (v .value) (v .stands) (v .fits) tag in
+      let y = is-pow row from (p .type .0) (p .type .1) c in
+      let h : ValueAt s at (set (x .0)) = rw (x .1) at (v .stands) in
+      let f : CellsFit (set (x .0)) = rw (x .1) at (v .fits) in
+      let w : weight (v .value) ≡ 1 + weights (x .0) = ap weight (x .1) in
+      record {
+        values = x .0;
+        stands = members-stand s at (x .0) h;
+        fits = f .1;
+        counted = sym (m ∙ first-cell s at (set (x .0)) h f .1);
+        within = omega (arith, p .ends (v .value) (v .stands) (v .fits));
+        type = (y .0, y .2);
+      }
+
+  pub pair-asks : (end : ℕ) → ValueAndType s at end row from → getD s at 0 / cellSize ≡ 4 → getD row from 0 ≡ 4 → PartsAndTypes s (at + 1) end row (from + 1)
+  pair-asks end p tag c =
+      let v = p .value in
+      let x = pair-only s at (v .value) (v .stands) (v .fits) tag in
+      let y = is-product row from (p .type .0) (p .type .1) c in
+      let h : ValueAt s at (pair (x .0) (x .1)) = rw (x .2) at (v .stands) in
+      let f : CellsFit (pair (x .0) (x .1)) = rw (x .2) at (v .fits) in
+      let w : weight (v .value) ≡ 1 + (weight (x .0) + weight (x .1)) = ap weight (x .2) in
+      let l = left-stands s at (x .0) (x .1) h in
+      let r = right-stands s at (x .0) (x .1) h in
+      record {
+        left = record { value = x .0; stands = l; fits = f .0 };
+        right = λ d e. let q : d ≡ at + 1 + weight (x .0) = e (x .0) l (f .0) in
+            let k : ValueAt s d (x .1) = rw q r in
+            let m : end ≡ d + weight (x .1) = omega (arith, p .ends (v .value) (v .stands) (v .fits)) in
+            (record { value = x .1; stands = k; fits = f .1 }, rw m (ends-at s d (x .1) k (f .1)));
+        type = (y .0, y .3);
+        next = λ d e. let q : d ≡ from + 1 + weightᵀ (y .0) = e (y .0) (y .3) in (y .1, rw q (y .4));
+      }
+
+  -- the two parts of a pair
+  pub parts-no : (q : Bool) → OfType s at row from q → q ≡ false → PartsOfType s at row from false
+  parts-no q g e v w t u h k f i a b = both-no (HasType v t) (HasType w u) q (g v t h f a) e
+
+  pub parts-yes : (c e : ℕ) (q r : Bool) → EndsAt s at c → TypeEnds row from e → OfType s at row from q → q ≡ true → OfType s c row e r → PartsOfType s at row from r
+  parts-yes c e q r p n g y z v w t u h k f i a b =
+      let d : c ≡ at + weight v = p v h f in
+      let m : e ≡ from + weightᵀ t = n t a in
+      both-yes (HasType v t) (HasType w u) q r (g v t h f a) y (z w u (rw d k) i (rw m b))
+
+pub parts-between : (s : List ℕ) (at end : ℕ) (row : List ℕ) (from : ℕ) → PartsAndTypes s at end row from → (c : ℕ) → EndsAt s at c → (at < c) × (c < end)
+parts-between s at end row from p c e =
+    let x = p .left in
+    let r = p .right c e in (
+      omega (arith, e (x .value) (x .stands) (x .fits), weight-pos (x .value)),
+      omega (arith, r .1 (r .0 .value) (r .0 .stands) (r .0 .fits), weight-pos (r .0 .value)),
+    )
+
+pub value-between : (s : List ℕ) (at end : ℕ) → SomeAt s at → EndsAt s at end → (at < end) × (end ≤ length s)
+value-between s at end x e = (
+  omega (arith, e (x .value) (x .stands) (x .fits), weight-pos (x .value)),
+  omega (arith, e (x .value) (x .stands) (x .fits), x .stands .inside, length-code (x .value)),
+)
+
+-- The members of a set, one after the other.
+values-only : (n : ℕ) (vs : Values) → count vs ≡ n → 0 < n → (x : Value) × (ys : Values) × (vs ≡ x ▸ ys) × (count ys ≡ n - 1)
+values-only n none e l = absurd (omega arith)
+values-only n (x ▸ ys) e l = (x, ys, refl, omega arith)
+
+module _ (s : List ℕ) (i left : ℕ) (row : List ℕ) (from : ℕ) where
+  pub all-of-end : left ≡ 0 → AllOfType s i left row from true
+  all-of-end z none t h f c k = record { sound = λ e. tt; complete = λ u. refl }
+  all-of-end z (x ▸ ys) t h f c k = absurd (omega arith)
+
+  pub all-of-no : (q : Bool) → 0 < left → OfType s i row from q → q ≡ false → AllOfType s i left row from false
+  all-of-no q l g e none t h f c k = absurd (omega arith)
+  all-of-no q l g e (x ▸ ys) t h f c k = both-no (HasType x t) (HaveType ys t) q (g x t (first-stands s i x ys h) (f .0) k) e
+
+  pub all-of-step : (j : ℕ) (q r : Bool) → 0 < left → OfType s i row from q → q ≡ true → EndsAt s i j → AllOfType s j (left - 1) row from r → AllOfType s i left row from r
+  all-of-step j q r l g y e z none t h f c k = absurd (omega arith)
+  all-of-step j q r l g y e z (x ▸ ys) t h f c k =
+      let a = first-stands s i x ys h in
+      let d : j ≡ i + weight x = e x a (f .0) in
+      both-yes (HasType x t) (HaveType ys t) q r (g x t a (f .0) k) y (z ys t (rw d (rest-stand s i x ys h)) (f .1) (omega arith) k)
+
+  module _ (end : ℕ) (p : ValuesAndType s i end left row from) (l : 0 < left) where
+    pub values-first : SomeAt s i
+    values-first =
+        let x = values-only left (p .values) (p .counted) l in
+        let f : AllFit (x .0 ▸ x .1) = rw (x .2) at (p .fits) in
+        record { value = x .0; stands = first-stands s i (x .0) (x .1) (rw (x .2) at (p .stands)); fits = f .0 }
+
+    pub values-rest : (j : ℕ) → EndsAt s i j → (j ≤ end) × ValuesAndType s j end (left - 1) row from
+    values-rest j e =
+        let x = values-only left (p .values) (p .counted) l in
+        let h : ValuesAt s i (x .0 ▸ x .1) = rw (x .2) at (p .stands) in
+        let f : AllFit (x .0 ▸ x .1) = rw (x .2) at (p .fits) in
+        let w : weights (p .values) ≡ weight (x .0) + weights (x .1) = ap weights (x .2) in
+        let d : j ≡ i + weight (x .0) = e (x .0) (first-stands s i (x .0) (x .1) h) (f .0) in (
+          omega (arith, p .within),
+          record { values = x .1; stands = rw d (rest-stand s i (x .0) (x .1) h); fits = f .1; counted = x .3; within = omega (arith, p .within); type = p .type },
+        )
+
+-- Going through them.
+pub record Through (s : List ℕ) (at end n : ℕ) (row : List ℕ) (from i left : ℕ) : Type 0 where
+  pub rest : ValuesAndType s i end left row from
+  pub from-at : at ≤ i
+  pub whole-of : (r : Bool) → AllOfType s i left row from r → AllOfType s at n row from r
+
+module _ (s : List ℕ) (at end n : ℕ) (row : List ℕ) (from i left : ℕ) (p : Through s at end n row from i left) (l : 0 < left) where
+  pub through-first : SomeAt s i
+  through-first = values-first s i left row from end (p .rest) l
+
+  pub through-within : (j : ℕ) → EndsAt s i j → j ≤ end
+  through-within j e = values-rest s i left row from end (p .rest) l j e .0
+
+  pub through-step : (j : ℕ) (q : Bool) → EndsAt s i j → OfType s i row from q → q ≡ true → Through s at end n row from j (left - 1)
+  through-step j q e g y = record {
+    rest = values-rest s i left row from end (p .rest) l j e .1;
+    from-at = omega (arith, p .from-at, value-between s i j through-first e .0);
+    whole-of = λ r z. p .whole-of r (all-of-step s i left row from j q r l g y e z);
+  }
+
+-- The row of a type begins with its codes.
+pub row-type : (sheet : List ℕ) (from : ℕ) (t : Ty) → Stands sheet from (row t) → TypeAt sheet from t
+unfolding row
+row-type sheet from t h = record { codes = stands-front sheet from (prefix t) (replicate (64 - weightᵀ t) 0) h }

@@ -1,0 +1,61 @@
+use native.Mathlib.Omega.{arith}
+use mathlib.Core.Bool.{Bool, true, false}
+use mathlib.Core.Path.{sym, _∙_}
+use borrow.Author.Tests.{not-true, not-false}
+use Rattle.fitting.specs.Tests.{Pairs, AgreedLefts}
+use Rattle.fitting.proofs.Cells.{inside, some-at}
+use Rattle.fitting.proofs.Tests.{pairs-first, pairs-rest, lefts-end, lefts-false, lefts-step}
+use Rattle.fitting.proofs.lefts.Statement.{statement}
+use Rattle.fitting.proofs.lefts.Tie as tie
+
+abbrev Inv-loop : tie.InvT-loop
+Inv-loop s a n b i₀ left₀ i left = Pairs s i left b × ((r : Bool) → AgreedLefts s i left b r → AgreedLefts s a n b r)
+
+abbrev μ-loop : tie.MeasureT-loop
+μ-loop s a n b i₀ left₀ i left = left
+
+loop-holds : tie.Need-loop-holds Inv-loop μ-loop
+loop-holds c = (c .before .pre, λ r g. g)
+
+add-agree : tie.Need-add-agree Inv-loop μ-loop
+add-agree c = omega (arith, inside _ _ (pairs-first _ _ _ _ (c .before .loop .inv .0) (c .loop-test .taken) .0))
+
+agree-requires : tie.Need-agree-requires Inv-loop μ-loop
+agree-requires c κs = record { first = pairs-first _ _ _ _ (c .before .loop .inv .0) (c .loop-test .taken) .1; second = c .before .loop .inv .0 .second }
+
+returns : tie.Need-returns Inv-loop μ-loop
+returns c = c .before .before .before .loop .inv .1 false (lefts-false _ _ _ _ (c .before .before .loop-test .taken) (λ v w h k. sym (not-true _ (c .if1 .taken)) ∙ c .before .agree .ensures v w h k))
+
+end-of-requires : tie.Need-end-of-requires Inv-loop μ-loop
+end-of-requires c κs = some-at (pairs-first _ _ _ _ (c .before .before .before .loop .inv .0) (c .before .before .loop-test .taken) .0)
+
+sub-left : tie.Need-sub-left Inv-loop μ-loop
+sub-left c = omega (arith, c .before .before .before .loop-test .taken)
+
+loop-less : tie.Need-loop-less Inv-loop μ-loop
+loop-less c = omega (arith, c .before .before .before .loop-test .taken)
+
+loop-again : tie.Need-loop-again Inv-loop μ-loop
+loop-again c = (
+  pairs-rest _ _ _ _ _ (c .before .before .before .before .loop .inv .0) (c .before .before .before .loop-test .taken) (c .end-of .ensures),
+  λ r g. c .before .before .before .before .loop .inv .1 r (lefts-step _ _ _ _ _ r (c .before .before .before .loop-test .taken) (λ v w h k. sym (not-false _ (c .before .if1 .left)) ∙ c .before .before .agree .ensures v w h k) (c .end-of .ensures) g),
+)
+
+returns-2 : tie.Need-returns-2 Inv-loop μ-loop
+returns-2 c = c .before .loop .inv .1 true (lefts-end _ _ _ _ (omega (arith, c .loop-test .left)))
+
+pub lefts-spec : {M : Type 1} → statement M
+lefts-spec =
+    tie.close
+    (tie.spec
+    Inv-loop
+    μ-loop
+    loop-holds
+    add-agree
+    agree-requires
+    returns
+    end-of-requires
+    sub-left
+    loop-less
+    loop-again
+    returns-2)

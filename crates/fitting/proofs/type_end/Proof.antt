@@ -1,0 +1,58 @@
+use Prim.Native.Nat.{_+_, _-_}
+use native.Mathlib.Omega.{arith}
+use borrow.Author.Needs.{needs}
+use lib.ListN.{length}
+use Rattle.rules.specs.Types.{Ty, weightᵀ}
+use Rattle.fitting.specs.Types.{TypeAt}
+use Rattle.fitting.proofs.Types.{PendingTypes, types-start, types-step, types-inside, types-end, types-few}
+use Rattle.fitting.proofs.type_end.Statement.{statement}
+use Rattle.fitting.proofs.type_end.Tie as tie
+
+abbrev Inv-loop : tie.InvT-loop
+Inv-loop row from i₀ left₀ i left = (t : Ty) → TypeAt row from t → PendingTypes row i left (from + weightᵀ t)
+
+abbrev μ-loop : tie.MeasureT-loop
+μ-loop row from i₀ left₀ i left = length row - i
+
+loop-holds : tie.Need-loop-holds Inv-loop μ-loop
+loop-holds c = λ t h. types-start _ _ t h
+
+shared-slice-read-type-parts : tie.Need-shared-slice-read-type-parts Inv-loop μ-loop
+shared-slice-read-type-parts c = types-inside _ _ _ _ (c .before .before .loop .inv (c .before .before .before .before .pre .0) (c .before .before .before .before .pre .1)) (c .before .loop-test .taken)
+
+type-parts-requires : tie.Need-type-parts-requires Inv-loop μ-loop
+type-parts-requires c κs = search needs
+
+sub-left : tie.Need-sub-left Inv-loop μ-loop
+sub-left c = omega (arith, c .before .before .loop-test .taken)
+
+add-left : tie.Need-add-left Inv-loop μ-loop
+add-left c = omega (arith, types-few _ _ _ _ (types-step _ _ _ _ (c .before .before .before .loop .inv (c .before .before .before .before .before .pre .0) (c .before .before .before .before .before .pre .1)) (c .before .before .loop-test .taken)), c .type-parts .ensures)
+
+add-i : tie.Need-add-i Inv-loop μ-loop
+add-i c = omega (arith, types-inside _ _ _ _ (c .before .before .before .loop .inv (c .before .before .before .before .before .pre .0) (c .before .before .before .before .before .pre .1)) (c .before .before .loop-test .taken))
+
+loop-less : tie.Need-loop-less Inv-loop μ-loop
+loop-less c = omega (arith, types-inside _ _ _ _ (c .before .before .before .loop .inv (c .before .before .before .before .before .pre .0) (c .before .before .before .before .before .pre .1)) (c .before .before .loop-test .taken))
+
+loop-again : tie.Need-loop-again Inv-loop μ-loop
+loop-again c = λ t h. rw (c .type-parts .ensures) (types-step _ _ _ _ (c .before .before .before .loop .inv t h) (c .before .before .loop-test .taken))
+
+returns : tie.Need-returns Inv-loop μ-loop
+returns c = λ t h. types-end _ _ _ _ (c .before .loop .inv t h) (omega (arith, c .loop-test .left))
+
+pub type-end-spec : {M : Type 1} → statement M
+type-end-spec =
+    tie.close
+    (tie.spec
+    Inv-loop
+    μ-loop
+    loop-holds
+    shared-slice-read-type-parts
+    type-parts-requires
+    sub-left
+    add-left
+    add-i
+    loop-less
+    loop-again
+    returns)

@@ -1,0 +1,130 @@
+-- Values of the arena that share a type. Every value that is formed or read has a type, so the contracts speak of values
+-- that have one.
+use Prim.Native.Nat.{ℕ, _+_, _/_, _%_, _≤_, _<_}
+use mathlib.Core.Bool.{Bool, true, _&&_, cond}
+use mathlib.Core.List.{List}
+use mathlib.Core.Logic.{_≢_, _⊎_}
+use mathlib.Core.Path.{_≡_}
+use lib.Dec.{T, eqb}
+use lib.ListN.{getD}
+use Rattle.rules.specs.Values.{Value, scalar, pair, set, Values, none, _▸_, count, weight, weights}
+use Rattle.rules.specs.Fits.{Shape, _⊓_, shape, shapes, inhabited, typed}
+use Rattle.arena.specs.Code.{ValueAt, ValuesAt, CellsFit, AllFit, EndsAt}
+
+-- Two sets of types have one in common.
+unfoldable pub meets : Shape → Shape → Bool
+meets p q = inhabited (p ⊓ q)
+
+-- Two values share a type.
+unfoldable pub agree : Value → Value → Bool
+unfolding meets
+agree v w = meets (shape v) (shape w)
+
+-- A value that fits and has a type stands at `at`.
+pub record TypedAt (s : List ℕ) (at : ℕ) (v : Value) : Type 0 where
+  pub stands : ValueAt s at v
+  pub fits : CellsFit v
+  pub typed : T (inhabited (shape v))
+
+-- n values that fit and share a type stand from `at` on.
+pub record RunAt (s : List ℕ) (at n : ℕ) (vs : Values) : Type 0 where
+  pub stands : ValuesAt s at vs
+  pub fits : AllFit vs
+  pub typed : T (inhabited (shapes vs))
+  pub counted : count vs ≡ n
+
+abbrev pub SomeTyped : List ℕ → ℕ → Type 0
+SomeTyped s at = (v : Value) × TypedAt s at v
+
+abbrev pub SomeRun : List ℕ → ℕ → ℕ → Type 0
+SomeRun s at n = (vs : Values) × RunAt s at n vs
+
+-- r says whether the values at a and b share a type.
+abbrev pub Agreed : List ℕ → ℕ → ℕ → Bool → Type 0
+Agreed s a b r = (v w : Value) → TypedAt s a v → TypedAt s b w → r ≡ agree v w
+
+-- r says whether the value at a shares a type with the m values from b on.
+abbrev pub AgreedWith : List ℕ → ℕ → ℕ → ℕ → Bool → Type 0
+AgreedWith s a b m r = (v : Value) (ws : Values) → TypedAt s a v → RunAt s b m ws → r ≡ meets (shape v) (shapes ws)
+
+-- r says whether the n values from a on share a type with the m values from b on.
+abbrev pub AgreedAll : List ℕ → ℕ → ℕ → ℕ → ℕ → Bool → Type 0
+AgreedAll s a n b m r = (vs ws : Values) → RunAt s a n vs → RunAt s b m ws → r ≡ meets (shapes vs) (shapes ws)
+
+abbrev pub emptyCell : ℕ
+emptyCell = 21474836480
+
+-- No cell from `at` to `end` is that of an empty set.
+pub record NoEmpty (s : List ℕ) (at end : ℕ) : Type 0 where
+  pub none : (i : ℕ) → at ≤ i → i < end → getD s i 0 ≢ emptyCell
+
+-- The first r of the values vs from `at` on have just the types that all of them have, as far as sharing goes.
+pub record StandFor (s : List ℕ) (at r : ℕ) (vs : Values) : Type 0 where
+  pub few : Values
+  pub run : RunAt s at r few
+  pub light : weights few ≤ weights vs
+  pub same : (q : Shape) → meets (shapes few) q ≡ meets (shapes vs) q
+
+-- So r of the members of the set at `a`.
+abbrev pub Members : List ℕ → ℕ → ℕ → Type 0
+Members s a r = (vs : Values) → TypedAt s a (set vs) → StandFor s (a + 1) r vs
+
+-- A value is full where it holds no empty set at any depth.
+abbrev mutual
+  pub Full : Value → Type 0
+  Full (scalar x) = Unit {0}
+  Full (pair v w) = Full v × Full w
+  Full (set s) = FullSet s
+
+  pub FullSet : Values → Type 0
+  FullSet none = ⊥
+  FullSet (v ▸ vs) = Full v × FullAll vs
+
+  pub FullAll : Values → Type 0
+  FullAll none = Unit {0}
+  FullAll (v ▸ vs) = Full v × FullAll vs
+
+-- r is n, or 1 where the value at `at` is full.
+abbrev pub Few : List ℕ → ℕ → ℕ → ℕ → Type 0
+Few s at n r = (r ≡ n) ⊎ ((r ≡ 1) × (0 < n) × ((v : Value) → TypedAt s at v → Full v))
+
+-- The types of two cells of one tag, neither a pair's nor a set's, are the same: elements are of one given set.
+abbrev pub sameKind : ℕ → ℕ → Bool
+sameKind x y = cond (eqb (x / 4294967296) 3) (eqb (x % 4294967296 / 256) (y % 4294967296 / 256)) true
+
+-- What the tests of one set ask.
+pub record SetHere (s : List ℕ) (a : ℕ) : Type 0 where
+  pub value : SomeTyped s a
+  pub isSet : getD s a 0 / 4294967296 ≡ 5
+
+-- What the tests of two values ask: the first ends at `end`.
+pub record Two (s : List ℕ) (a end b : ℕ) : Type 0 where
+  pub first : SomeTyped s a
+  pub ends : EndsAt s a end
+  pub second : SomeTyped s b
+
+-- A value and m values.
+pub record OneAndRun (s : List ℕ) (a end b m : ℕ) : Type 0 where
+  pub first : SomeTyped s a
+  pub ends : EndsAt s a end
+  pub second : SomeRun s b m
+
+-- n values that end by `end`, and m values.
+pub record Runs (s : List ℕ) (a end n b m : ℕ) : Type 0 where
+  pub values : Values
+  pub first : RunAt s a n values
+  pub within : a + weights values ≤ end
+  pub second : SomeRun s b m
+
+-- The parts of two pairs, the first of which ends at `end`.
+pub record Parts (s : List ℕ) (a end b : ℕ) : Type 0 where
+  pub left : SomeTyped s a
+  pub right : (c : ℕ) → EndsAt s a c → SomeTyped s c × EndsAt s c end
+  pub otherLeft : SomeTyped s b
+  pub otherRight : (d : ℕ) → EndsAt s b d → SomeTyped s d
+
+-- r says whether the parts from a on share types with the parts from b on.
+abbrev pub AgreedParts : List ℕ → ℕ → ℕ → Bool → Type 0
+AgreedParts s a b r =
+    (v₁ v₂ w₁ w₂ : Value) → TypedAt s a v₁ → TypedAt s (a + weight v₁) v₂ → TypedAt s b w₁ → TypedAt s (b + weight w₁) w₂ →
+    r ≡ (agree v₁ w₁ && agree v₂ w₂)

@@ -1,0 +1,350 @@
+// Refusal 15 as tests on values of the arena, and values against types.
+ghost use mathlib.Core.List.{[], _∷_};
+ghost use mathlib.Core.Path.{_≡_};
+ghost use Prim.Native.Nat.{ℕ, _+_, _≤_, _<_};
+ghost use lib.ListN.{length};
+ghost use Rattle.rules.specs.Types.{whole};
+ghost use Rattle.rules.specs.Rules.{t̂, û, P̂, _×̂_, numᵖ};
+ghost use Rattle.arena.specs.Code.{SomeAt};
+ghost use Rattle.fitting.specs.Types.{Decides, typeParts, SomeType, TypeEnds, atomIs, ValueAndType, ValuesAndType, PartsAndTypes, OfType, AllOfType, PartsOfType};
+ghost use Rattle.fitting.specs.Tests.{FitOne, FitTwo, Both, Pairs, AgreedLefts};
+ghost use Rattle.fitting.specs.Agree.{NoEmpty, SomeTyped, SomeRun, SetHere, Few, Members, sameKind, Two, Parts, AgreedParts, OneAndRun, Runs, Agreed, AgreedWith, AgreedAll};
+
+// Whether no cell from `at` to `end` is that of an empty set.
+fn full(s: &[u64], at: usize, end: usize) -> bool
+    requires { ⌜ (at ≤ end) × (end ≤ length (now s)) ⌝ }
+    ensures { λ r. ⌜ Decides r (NoEmpty (now (s .entry)) at end) ⌝ }
+{
+    let mut i = at;
+    while i < end {
+        if s[i] == 21474836480 {
+            return false;
+        }
+        i += 1;
+    }
+    true
+}
+
+// 1 where the value at `at`, the first of n, has one type only; otherwise n.
+fn few(s: &[u64], at: usize, n: usize) -> usize
+    requires { ⌜ (0 < n → SomeTyped (now s) at) ⌝ }
+    ensures { λ r. ⌜ Few (now (s .entry)) at n r ⌝ }
+{
+    if n == 0 {
+        return n;
+    }
+    let end = arena::end_of(s, at);
+    if full(s, at, end) {
+        return 1;
+    }
+    n
+}
+
+// How many of the first members of the set at `a` stand for all of them.
+fn members(s: &[u64], a: usize) -> usize
+    requires { ⌜ SetHere (now s) a ⌝ }
+    ensures { λ r. ⌜ Members (now (s .entry)) a r ⌝ }
+{
+    let n = arena::low(s[a]);
+    few(s, a + 1, n as usize)
+}
+
+// Whether two cells of one tag, not a pair's or a set's, are of one type.
+fn same_kind(x: u64, y: u64) -> bool
+    ensures { λ r. ⌜ r ≡ sameKind x y ⌝ }
+{
+    if arena::tag(x) == 3 {
+        return arena::low(x) / 256 == arena::low(y) / 256;
+    }
+    true
+}
+
+// Whether the value at a, which ends at `end`, shares a type with the value at b.
+fn meet(s: &[u64], a: usize, end: usize, b: usize) -> bool
+    requires { ⌜ Two (now s) a end b ⌝ }
+    ensures { λ r. ⌜ Agreed (now (s .entry)) a b r ⌝ }
+{
+    let x = s[a];
+    let y = s[b];
+    let t = arena::tag(x);
+    if t != arena::tag(y) {
+        return false;
+    }
+    if t == 5 {
+        let n = members(s, a);
+        let m = members(s, b);
+        return each(s, a + 1, end, n, b + 1, m);
+    }
+    if t == 4 {
+        return parts(s, a + 1, end, b + 1);
+    }
+    same_kind(x, y)
+}
+
+// Whether the parts at a of a pair, which ends at `end`, share types with the parts at b of another.
+fn parts(s: &[u64], a: usize, end: usize, b: usize) -> bool
+    requires { ⌜ Parts (now s) a end b ⌝ }
+    ensures { λ r. ⌜ AgreedParts (now (s .entry)) a b r ⌝ }
+{
+    let c = arena::end_of(s, a);
+    if !meet(s, a, c, b) {
+        return false;
+    }
+    let d = arena::end_of(s, b);
+    meet(s, c, end, d)
+}
+
+// Whether the value at a, which ends at `end`, shares a type with the m values from b on.
+fn against(s: &[u64], a: usize, end: usize, b: usize, m: usize) -> bool
+    requires { ⌜ OneAndRun (now s) a end b m ⌝ }
+    ensures { λ r. ⌜ AgreedWith (now (s .entry)) a b m r ⌝ }
+{
+    let mut j = b;
+    let mut left = m;
+    while left > 0 {
+        if !meet(s, a, end, j) {
+            return false;
+        }
+        j = arena::end_of(s, j);
+        left -= 1;
+    }
+    true
+}
+
+// Whether the n values from a on, which end by `end`, share a type with the m values from b on.
+fn each(s: &[u64], a: usize, end: usize, n: usize, b: usize, m: usize) -> bool
+    requires { ⌜ Runs (now s) a end n b m ⌝ }
+    ensures { λ r. ⌜ AgreedAll (now (s .entry)) a n b m r ⌝ }
+{
+    let mut i = a;
+    let mut left = n;
+    while left > 0 {
+        let e = arena::end_of(s, i);
+        if !against(s, i, e, b, m) {
+            return false;
+        }
+        i = e;
+        left -= 1;
+    }
+    true
+}
+
+// Whether the values at a and b share a type.
+pub fn agree(s: &[u64], a: usize, b: usize) -> bool
+    requires { ⌜ Both (now s) a b ⌝ }
+    ensures { λ r. ⌜ Agreed (now (s .entry)) a b r ⌝ }
+{
+    let end = arena::end_of(s, a);
+    meet(s, a, end, b)
+}
+
+// The tests of refusal 15, each by the types that a rule asks of its operands: P(t).
+pub fn is_set(s: &[u64], a: usize) -> bool
+    requires { ⌜ SomeTyped (now s) a ⌝ }
+    ensures { λ r. ⌜ FitOne (P̂ t̂ ∷ []) (now (s .entry)) a r ⌝ }
+{
+    arena::tag(s[a]) == 5
+}
+
+// P(t × u)
+pub fn is_relation(s: &[u64], a: usize) -> bool
+    requires { ⌜ SomeTyped (now s) a ⌝ }
+    ensures { λ r. ⌜ FitOne (P̂ (t̂ ×̂ û) ∷ []) (now (s .entry)) a r ⌝ }
+{
+    let x = s[a];
+    if arena::tag(x) != 5 {
+        return false;
+    }
+    if arena::low(x) == 0 {
+        return true;
+    }
+    arena::tag(s[a + 1]) == 4
+}
+
+// t and t
+pub fn alike(s: &[u64], a: usize, b: usize) -> bool
+    requires { ⌜ Both (now s) a b ⌝ }
+    ensures { λ r. ⌜ FitTwo (t̂ ∷ t̂ ∷ []) (now (s .entry)) a b r ⌝ }
+{
+    agree(s, a, b)
+}
+
+// t and P(t)
+pub fn belongs(s: &[u64], a: usize, b: usize) -> bool
+    requires { ⌜ Both (now s) a b ⌝ }
+    ensures { λ r. ⌜ FitTwo (t̂ ∷ P̂ t̂ ∷ []) (now (s .entry)) a b r ⌝ }
+{
+    if !is_set(s, b) {
+        return false;
+    }
+    let end = arena::end_of(s, a);
+    let m = members(s, b);
+    against(s, a, end, b + 1, m)
+}
+
+// P(t) and P(t)
+pub fn alike_sets(s: &[u64], a: usize, b: usize) -> bool
+    requires { ⌜ Both (now s) a b ⌝ }
+    ensures { λ r. ⌜ FitTwo (P̂ t̂ ∷ P̂ t̂ ∷ []) (now (s .entry)) a b r ⌝ }
+{
+    if !is_set(s, a) {
+        return false;
+    }
+    agree(s, a, b)
+}
+
+// P(t) and P(u)
+pub fn sets(s: &[u64], a: usize, b: usize) -> bool
+    requires { ⌜ Both (now s) a b ⌝ }
+    ensures { λ r. ⌜ FitTwo (P̂ t̂ ∷ P̂ û ∷ []) (now (s .entry)) a b r ⌝ }
+{
+    if !is_set(s, a) {
+        return false;
+    }
+    is_set(s, b)
+}
+
+// numbers
+pub fn numbers(s: &[u64], a: usize, b: usize) -> bool
+    requires { ⌜ Both (now s) a b ⌝ }
+    ensures { λ r. ⌜ FitTwo (numᵖ whole ∷ numᵖ whole ∷ []) (now (s .entry)) a b r ⌝ }
+{
+    if arena::tag(s[a]) != 1 {
+        return false;
+    }
+    arena::tag(s[b]) == 1
+}
+
+// Whether the left parts of the n pairs from a on share a type with the value at b.
+fn lefts(s: &[u64], a: usize, n: usize, b: usize) -> bool
+    requires { ⌜ Pairs (now s) a n b ⌝ }
+    ensures { λ r. ⌜ AgreedLefts (now (s .entry)) a n b r ⌝ }
+{
+    let mut i = a;
+    let mut left = n;
+    while left > 0 {
+        if !agree(s, i + 1, b) {
+            return false;
+        }
+        i = arena::end_of(s, i);
+        left -= 1;
+    }
+    true
+}
+
+// P(t × u) and t
+pub fn applies(s: &[u64], a: usize, b: usize) -> bool
+    requires { ⌜ Both (now s) a b ⌝ }
+    ensures { λ r. ⌜ FitTwo (P̂ (t̂ ×̂ û) ∷ t̂ ∷ []) (now (s .entry)) a b r ⌝ }
+{
+    if !is_relation(s, a) {
+        return false;
+    }
+    let n = arena::low(s[a]) as usize;
+    let first = a + 1;
+    let k = few(s, first + 1, n);
+    lefts(s, first, k, b)
+}
+
+// How many types follow a code as its parts.
+fn type_parts(c: u8) -> usize
+    ensures { λ r. ⌜ r ≡ typeParts c ⌝ }
+{
+    if c == 3 {
+        return 1;
+    }
+    if c == 4 {
+        return 2;
+    }
+    0
+}
+
+// Where the type that begins at `from` ends.
+fn type_end(row: &[u8], from: usize) -> usize
+    requires { ⌜ SomeType (now row) from ⌝ }
+    ensures { λ r. ⌜ TypeEnds (now (row .entry)) from r ⌝ }
+{
+    let mut i = from;
+    let mut left: usize = 1;
+    while left > 0 {
+        let p = type_parts(row[i]);
+        left = left - 1 + p;
+        i += 1;
+    }
+    i
+}
+
+// Whether a cell, neither a pair's nor a set's, has the type without parts with this code.
+fn atom_is(x: u64, c: u8) -> bool
+    ensures { λ r. ⌜ r ≡ atomIs x c ⌝ }
+{
+    let t = arena::tag(x);
+    if t == 3 {
+        return arena::low(x) / 256 + 16 == c as u64;
+    }
+    t == c as u64
+}
+
+// Whether the value at `at`, which ends at `end`, has the type at `from`.
+fn of_type(s: &[u64], at: usize, end: usize, row: &[u8], from: usize) -> bool
+    requires { ⌜ ValueAndType (now s) at end (now row) from ⌝ }
+    ensures { λ r. ⌜ OfType (now (s .entry)) at (now (row .entry)) from r ⌝ }
+{
+    let x = s[at];
+    let c = row[from];
+    let t = arena::tag(x);
+    if t == 5 {
+        if c != 3 {
+            return false;
+        }
+        let n = arena::low(x) as usize;
+        return all_of_type(s, at + 1, end, n, row, from + 1);
+    }
+    if t == 4 {
+        if c != 4 {
+            return false;
+        }
+        return parts_of_type(s, at + 1, end, row, from + 1);
+    }
+    atom_is(x, c)
+}
+
+// Whether the two values from `at` on, which end at `end`, have the two types from `from` on.
+fn parts_of_type(s: &[u64], at: usize, end: usize, row: &[u8], from: usize) -> bool
+    requires { ⌜ PartsAndTypes (now s) at end (now row) from ⌝ }
+    ensures { λ r. ⌜ PartsOfType (now (s .entry)) at (now (row .entry)) from r ⌝ }
+{
+    let c = arena::end_of(s, at);
+    if !of_type(s, at, c, row, from) {
+        return false;
+    }
+    let next = type_end(row, from);
+    of_type(s, c, end, row, next)
+}
+
+// Whether the n values from `at` on, which end by `end`, have the type at `from`.
+fn all_of_type(s: &[u64], at: usize, end: usize, n: usize, row: &[u8], from: usize) -> bool
+    requires { ⌜ ValuesAndType (now s) at end n (now row) from ⌝ }
+    ensures { λ r. ⌜ AllOfType (now (s .entry)) at n (now (row .entry)) from r ⌝ }
+{
+    let mut i = at;
+    let mut left = n;
+    while left > 0 {
+        let e = arena::end_of(s, i);
+        if !of_type(s, i, e, row, from) {
+            return false;
+        }
+        i = e;
+        left -= 1;
+    }
+    true
+}
+
+// Whether the value at `at` has the type whose prefix codes begin at `from`.
+pub fn has_type(s: &[u64], at: usize, row: &[u8], from: usize) -> bool
+    requires { ⌜ SomeAt (now s) at × SomeType (now row) from ⌝ }
+    ensures { λ r. ⌜ OfType (now (s .entry)) at (now (row .entry)) from r ⌝ }
+{
+    let end = arena::end_of(s, at);
+    of_type(s, at, end, row, from)
+}

@@ -1,0 +1,423 @@
+-- Building a set: members one behind the other, and the walk that merges two sets.
+use Prim.Native.Nat.{ℕ, zero, suc, _+_, _*_, _-_, _%_, _≤_, _<_, Ordering, Ordering·lt, Ordering·eq, Ordering·gt}
+use mathlib.Core.Bool.{Bool, true, false, cond}
+use mathlib.Core.List.{List, [], _∷_, _++_, append-assoc, append-nil}
+use mathlib.Core.Logic.{_⊎_, inl, inr}
+use mathlib.Core.Path.{_≡_, refl, sym, ap, _∙_, subst}
+use native.Mathlib.Omega.{arith}
+use lib.ListN.{length, getD, set as setAt, length-set}
+use lib.Seq.{getD-set-same, getD-set-other}
+use Rattle.rules.specs.Values.{Value, set, Values, none, _▸_, members, values, count, weight, weights, order}
+use Rattle.rules.specs.Operations.{keptValue, setOf}
+use Rattle.arena.specs.Code.{cellSize, code, codes, Stands, ValueAt, Same, Copied, SetBelow, SomeSet, Made}
+use Rattle.arena.proofs.CodeLaws.{length-codes}
+use Rattle.arena.proofs.Standing.{stands-append}
+use Rattle.sets.specs.declared.Turn.{Turn}
+use Rattle.sets.specs.declared.Out.{Out}
+use Rattle.sets.specs.declared.Walk.{Walk}
+use Rattle.sets.specs.declared.Rest.{Rest}
+use Rattle.sets.specs.Merged.{merged}
+use Rattle.sets.specs.Fronts.{Front, keepOf, firstOf, restLeft, restRight, TurnAt, TwoFronts, RunEnds, Built, PutPre, Put, TailPre, Tailed}
+use Rattle.sets.specs.Fronts.{Merging, StepPre, Stepped, GoesOn, RestOf, EndPre, Ended}
+use Rattle.sets.proofs.MergedLaws.{merged-nil, merged-less, merged-equal, merged-greater}
+use Rattle.sets.proofs.FrontLaws.{count-weights, front-start}
+use Rattle.sets.proofs.TurnLaws.{two-fronts, turn-fewer}
+
+-- Members one behind the other.
+codes-append : (xs ys : List Value) → codes (values (xs ++ ys)) ≡ codes (values xs) ++ codes (values ys)
+unfolding code
+codes-append [] ys = refl
+codes-append (x ∷ xs) ys = ap (λ (l : List ℕ). code x ++ l) (codes-append xs ys) ∙ sym (append-assoc (code x) (codes (values xs)) (codes (values ys)))
+
+count-append : (xs ys : List Value) → count (values (xs ++ ys)) ≡ count (values xs) + count (values ys)
+count-append [] ys = omega arith
+count-append (x ∷ xs) ys = omega (arith, count-append xs ys)
+
+weights-append : (xs ys : List Value) → weights (values (xs ++ ys)) ≡ weights (values xs) + weights (values ys)
+weights-append [] ys = omega arith
+weights-append (x ∷ xs) ys = omega (arith, weights-append xs ys)
+
+values-members : (vs : Values) → values (members vs) ≡ vs
+values-members none = refl
+values-members (v ▸ vs) = ap (λ (ws : Values). v ▸ ws) (values-members vs)
+
+-- What stands below a frame stays.
+stands-frame : (k : ℕ) (s s′ : List ℕ) (at : ℕ) (xs : List ℕ) → Same k s s′ → at + length xs ≤ k → Stands s at xs → Stands s′ at xs
+stands-frame k s s′ at xs f l h = record {
+  inside = omega (arith, f .kept, h .inside);
+  cells = λ i p. f .same (at + i) (omega arith) ∙ h .cells i p;
+}
+
+front-frame : (k : ℕ) (s s′ : List ℕ) (top at n : ℕ) (vs : Values) → Same k s s′ → top ≤ k → Front s top at n vs → Front s′ top at n vs
+front-frame k s s′ top at n vs f l h = record {
+  stands = stands-frame k s s′ at (codes vs) f (omega (arith, length-codes vs, h .below)) (h .stands);
+  counted = h .counted;
+  below = h .below;
+  fits = h .fits;
+  rises = h .rises;
+  light = h .light;
+}
+
+copied-stands : (s : List ℕ) (from n to : ℕ) (s′ : List ℕ) (xs : List ℕ) → Copied s from n to s′ → length xs ≡ n → to + n ≤ length s → Stands s from xs → Stands s′ to xs
+copied-stands s from n to s′ xs c e l h = record {
+  inside = omega (arith, c .kept);
+  cells = λ i p. c .there i (omega arith) ∙ h .cells i p;
+}
+
+pub same-refl : (k : ℕ) (s : List ℕ) → Same k s s
+same-refl k s = record { same = λ i p. refl; kept = refl }
+
+pub same-trans : (k m : ℕ) (s s′ s″ : List ℕ) → Same k s s′ → Same m s′ s″ → k ≤ m → Same k s s″
+same-trans k m s s′ s″ f g l = record { same = λ i p. g .same i (omega arith) ∙ f .same i p; kept = g .kept ∙ f .kept }
+
+-- `put`
+
+put-kept : (s : List ℕ) (from end k : ℕ) (o : Out) (s′ : List ℕ) → PutPre s from end k o → Copied s from (end - from) (o .to) s′ →
+    Put true s from end k o s′ (record { to = o .to + (end - from); count = o .count + k })
+put-kept s from end k o s′ p c = record {
+  frame = f;
+  near = omega arith;
+  on = λ top zs vs b at e n. record {
+    stands = subst (λ (l : List ℕ). Stands s′ (top + 1) l)
+        (ap (λ (ws : Values). codes (values zs) ++ codes ws) (sym (values-members vs)) ∙ sym (codes-append zs (members vs)))
+        (stands-append s′ (top + 1) (codes (values zs)) (codes vs)
+        (stands-frame (o .to) s s′ (top + 1) (codes (values zs)) f (omega (arith, length-codes (values zs), b .ends)) (b .stands))
+        (subst (λ (i : ℕ). Stands s′ i (codes vs)) (omega (arith, length-codes (values zs), b .ends))
+        (copied-stands s from (end - from) (o .to) s′ (codes vs) c (omega (arith, length-codes vs)) (p .room) at)));
+    ends = omega (arith, b .ends, weights-append zs (members vs), ap weights (values-members vs));
+    counted = omega (arith, b .counted, count-append zs (members vs), ap count (values-members vs));
+  };
+}
+  where
+    f : Same (o .to) s s′
+    f = record { same = c .before; kept = c .kept }
+
+put-none : (s : List ℕ) (from end k : ℕ) (o : Out) → Put false s from end k o s o
+put-none s from end k o = record {
+  frame = same-refl (o .to) s;
+  near = omega arith;
+  on = λ top zs vs b at e n. subst (λ (l : List Value). Built s top (o .to) (o .count) l) (sym (append-nil zs)) b;
+}
+
+pub put-if : (keep : Bool) (s : List ℕ) (from end k : ℕ) (o : Out) (s′ : List ℕ) → keep ≡ true → PutPre s from end k o → Copied s from (end - from) (o .to) s′ →
+    Put keep s from end k o s′ (record { to = o .to + (end - from); count = o .count + k })
+put-if keep s from end k o s′ e p c =
+    subst (λ (b : Bool). Put b s from end k o s′ (record { to = o .to + (end - from); count = o .count + k })) (sym e) (put-kept s from end k o s′ p c)
+
+pub put-else : (keep : Bool) (s : List ℕ) (from end k : ℕ) (o : Out) → keep ≡ false → Put keep s from end k o s o
+put-else keep s from end k o e = subst (λ (b : Bool). Put b s from end k o s o) (sym e) (put-none s from end k o)
+
+-- `tail`
+
+pub tail-put : (s : List ℕ) (at n end : ℕ) (o : Out) → TailPre s at n o → RunEnds s at n end → PutPre s at end n o
+tail-put s at n end o p e =
+    let x : end ≡ at + weights (p .rest) = e (p .top) (p .rest) (p .front) in
+    record {
+      forward = omega arith;
+      behind = omega (arith, p .front .below, p .behind);
+      room = omega (arith, p .front .light, p .room);
+      few = omega (arith, p .few, p .front .counted, count-weights (p .rest), p .front .light);
+    }
+
+tail-kept : (s : List ℕ) (at n end : ℕ) (o : Out) (s′ : List ℕ) (r : Out) → RunEnds s at n end → Put true s at end n o s′ r → Tailed true s at n o s′ r
+tail-kept s at n end o s′ r e p = record {
+  frame = p .frame;
+  on = λ top zs vs b f. p .on top zs vs b (f .stands) (e top vs f) (f .counted);
+}
+
+pub tail-if : (keep : Bool) (s : List ℕ) (at n end : ℕ) (o : Out) (s′ : List ℕ) (r : Out) → keep ≡ true → RunEnds s at n end → Put true s at end n o s′ r → Tailed keep s at n o s′ r
+tail-if keep s at n end o s′ r k e p = subst (λ (b : Bool). Tailed b s at n o s′ r) (sym k) (tail-kept s at n end o s′ r e p)
+
+pub tail-else : (keep : Bool) (s : List ℕ) (at n : ℕ) (o : Out) → keep ≡ false → Tailed keep s at n o s o
+tail-else keep s at n o e = subst (λ (b : Bool). Tailed b s at n o s o) (sym e) (record {
+  frame = same-refl (o .to) s;
+  on = λ top zs vs b f. subst (λ (l : List Value). Built s top (o .to) (o .count) l) (sym (append-nil zs)) b;
+})
+
+-- `step`
+
+-- A turn of the walk is a turn of the merge.
+merged-turn : (l b r : Bool) (o : Ordering) (v : Value) (vs : Values) (w : Value) (ws : Values) → order v w ≡ o →
+    merged l b r (v ∷ members vs) (w ∷ members ws) ≡ keptValue (keepOf l b r o) (firstOf o v w) (merged l b r (members (restLeft o v vs)) (members (restRight o w ws)))
+merged-turn l b r Ordering·lt v vs w ws e = merged-less l b r v w (members vs) (members ws) e
+merged-turn l b r Ordering·eq v vs w ws e = merged-equal l b r v w (members vs) (members ws) e
+merged-turn l b r Ordering·gt v vs w ws e = merged-greater l b r v w (members vs) (members ws) e
+
+kept-append : (k : Bool) (v : Value) (zs rest : List Value) → zs ++ keptValue k v rest ≡ (zs ++ cond k (v ∷ []) []) ++ rest
+kept-append true v zs rest = sym (append-assoc zs (v ∷ []) rest)
+kept-append false v zs rest = ap (λ (l : List Value). l ++ rest) (sym (append-nil zs))
+
+single : (v : Value) → codes (v ▸ none) ≡ code v
+unfolding code
+single v = append-nil (code v)
+
+-- The walk after a turn t that leaves o built.
+abbrev pub after : Turn → Out → Walk
+after t o = record { a = t .a; m = t .m; b = t .b; n = t .n; to = o .to; count = o .count }
+
+abbrev pub outOf : Walk → Out
+outOf w = record { to = w .to; count = w .count }
+
+module _ (l e r : Bool) (s s′ : List ℕ) (w : Walk) (t : Turn) (o : Out) (turn : TurnAt s (w .a) (w .m) (w .b) (w .n) l e r t) (p : Put (t .keep) s (t .from) (t .end) 1 (outOf w) s′ o)
+    (top : ℕ) (whole : List Value) (h : Merging l e r s top w whole) where
+  step-done : (v : Value) (vs : Values) (x : Value) (xs : Values) → Front s top (w .a) (w .m) (v ▸ vs) → Front s top (w .b) (w .n) (x ▸ xs) →
+      whole ≡ h .done ++ merged l e r (v ∷ members vs) (x ∷ members xs) → Merging l e r s′ top (after t o) whole
+  step-done v vs x xs f g q =
+      let d = turn top v vs x xs f g in
+      let k : top ≤ w .to = omega (arith, h .built .ends) in
+      record {
+        left = restLeft (order v x) v vs;
+        right = restRight (order v x) x xs;
+        done = h .done ++ cond (t .keep) (firstOf (order v x) v x ∷ []) [];
+        onLeft = front-frame (w .to) s s′ top (t .a) (t .m) (restLeft (order v x) v vs) (p .frame) k (d .onLeft);
+        onRight = front-frame (w .to) s s′ top (t .b) (t .n) (restRight (order v x) x xs) (p .frame) k (d .onRight);
+        built = p .on top (h .done) (firstOf (order v x) v x ▸ none) (h .built)
+            (subst (λ (c : List ℕ). Stands s (t .from) c) (sym (single (firstOf (order v x) v x))) (d .value .stands)) (omega (arith, d .ends)) refl;
+        all = q
+            ∙ ap (λ (c : List Value). h .done ++ c)
+            (merged-turn l e r (order v x) v vs x xs refl
+            ∙ ap (λ (b : Bool). keptValue b (firstOf (order v x) v x) (merged l e r (members (restLeft (order v x) v vs)) (members (restRight (order v x) x xs)))) (sym (d .keeps)))
+            ∙ kept-append (t .keep) (firstOf (order v x) v x) (h .done) (merged l e r (members (restLeft (order v x) v vs)) (members (restRight (order v x) x xs)));
+      }
+
+  step-on : 0 < w .m → 0 < w .n → Merging l e r s′ top (after t o) whole
+  step-on i j = go (h .left) (h .right) (h .onLeft) (h .onRight) (h .all)
+    where
+      go : (vs xs : Values) → Front s top (w .a) (w .m) vs → Front s top (w .b) (w .n) xs → whole ≡ h .done ++ merged l e r (members vs) (members xs) →
+          Merging l e r s′ top (after t o) whole
+      go none xs f g q = absurd (omega (arith, f .counted))
+      go (v ▸ vs) none f g q = absurd (omega (arith, g .counted))
+      go (v ▸ vs) (x ▸ xs) f g q = step-done v vs x xs f g q
+
+module _ (l e r : Bool) (s : List ℕ) (w : Walk) (h : StepPre l e r s w) where
+  pub step-two : TwoFronts s (w .a) (w .m) (w .b) (w .n)
+  step-two =
+      two-fronts s (h .top) (w .a) (w .m) (w .b) (w .n) (h .merging .left) (h .merging .right) (h .merging .onLeft) (h .merging .onRight) (h .moreLeft) (h .moreRight)
+
+  module _ (t : Turn) (turn : TurnAt s (w .a) (w .m) (w .b) (w .n) l e r t) where
+    -- what a turn takes, and how many members are left
+    step-took : (t .from ≤ t .end) × (t .end ≤ w .to) × (t .end - t .from ≤ 256) × (t .m + t .n < w .m + w .n)
+    step-took = go (h .merging .left) (h .merging .right) (h .merging .onLeft) (h .merging .onRight)
+      where
+        go : (vs xs : Values) → Front s (h .top) (w .a) (w .m) vs → Front s (h .top) (w .b) (w .n) xs →
+            (t .from ≤ t .end) × (t .end ≤ w .to) × (t .end - t .from ≤ 256) × (t .m + t .n < w .m + w .n)
+        go none xs f g = absurd (omega (arith, f .counted, h .moreLeft))
+        go (v ▸ vs) none f g = absurd (omega (arith, g .counted, h .moreRight))
+        go (v ▸ vs) (x ▸ xs) f g =
+            let d = turn (h .top) v vs x xs f g in (
+              omega (arith, d .ends),
+              omega (arith, d .ends, d .value .below, h .merging .built .ends),
+              omega (arith, d .ends, d .value .light),
+              omega (arith, turn-fewer s (h .top) l e r (order v x) v vs x xs t d, f .counted, g .counted),
+            )
+
+    pub step-put : PutPre s (t .from) (t .end) 1 (outOf w)
+    step-put = record {
+      forward = step-took .0;
+      behind = step-took .1;
+      room = omega (arith, h .room, step-took .2);
+      few = omega (arith, h .near, h .merging .built .ends, h .merging .built .counted, count-weights (values (h .merging .done)));
+    }
+
+    pub step-returns : (s′ : List ℕ) (o : Out) → Put (t .keep) s (t .from) (t .end) 1 (outOf w) s′ o → Stepped l e r s w s′ (after t o)
+    step-returns s′ o p = record {
+      frame = p .frame;
+      near = omega (arith, p .near, step-took .2);
+      fewer = step-took .3;
+      on = λ top whole m. step-on l e r s s′ w t o turn p top whole m (h .moreLeft) (h .moreRight);
+    }
+
+-- `finish`
+
+-- A set's cell before its members.
+set-stands : (s : List ℕ) (top n to : ℕ) (zs : List Value) → Built s top to n zs → top < length s → ValueAt (setAt s top (21474836480 + n)) top (setOf zs)
+unfolding code
+set-stands s top n to zs b l = record {
+  inside = omega (arith, length-set s top (21474836480 + n), b .stands .inside);
+  cells = λ i p. at i p;
+}
+  where
+    at : (i : ℕ) → i < suc (length (codes (values zs))) → getD (setAt s top (21474836480 + n)) (top + i) 0 ≡ getD ((5 * cellSize + count (values zs)) ∷ codes (values zs)) i 0
+    at zero p =
+        ap (λ (j : ℕ). getD (setAt s top (21474836480 + n)) j 0) (let z : top + 0 ≡ top = omega arith in z)
+        ∙ getD-set-same s top (21474836480 + n) 0 l ∙ omega (arith, b .counted)
+    at (suc i) p =
+        getD-set-other s top (top + suc i) (21474836480 + n) 0 (λ z. omega arith)
+        ∙ ap (λ (j : ℕ). getD s j 0) (let z : top + suc i ≡ top + 1 + i = omega arith in z) ∙ b .stands .cells i (omega arith)
+
+-- What has been built is part of the whole.
+whole-weighs : (l e r : Bool) (s : List ℕ) (top : ℕ) (w : Walk) (whole : List Value) → Merging l e r s top w whole → w .to ≤ top + weight (setOf whole)
+whole-weighs l e r s top w whole h =
+    omega (
+      arith,
+      h .built .ends,
+      ap (λ (c : List Value). weights (values c)) (h .all),
+      weights-append (h .done) (merged l e r (members (h .left)) (members (h .right))),
+    )
+
+-- Too heavy already.
+pub end-heavy : (l r : Bool) (s : List ℕ) (w : Walk) (top : ℕ) → top + 256 < w .to → Ended l r s w top s 0
+end-heavy l r s w top g b whole h = record {
+  frame = same-refl top s;
+  light = λ k. absurd (omega (arith, whole-weighs l b r s top w whole h));
+  heavy = λ k. refl;
+}
+
+-- The rest of the set that is not exhausted is all that is left to merge.
+record Rested (s : List ℕ) (top : ℕ) (q : Rest) (done whole : List Value) : Type 0 where
+  pub rest : Values
+  pub front : Front s top (q .at) (q .n) rest
+  pub all : whole ≡ done ++ cond (q .keep) (members rest) []
+
+exhausted : (s : List ℕ) (top at n : ℕ) (vs : Values) → Front s top at n vs → n ≡ 0 → members vs ≡ []
+exhausted s top at n none f z = refl
+exhausted s top at n (v ▸ vs) f z = absurd (omega (arith, f .counted))
+
+merged-none : (l b r : Bool) (ws : List Value) → merged l b r [] ws ≡ cond r ws []
+unfolding merged
+merged-none l b r ws = refl
+
+module _ (l r : Bool) (s : List ℕ) (w : Walk) (top : ℕ) (q : Rest) (over : (w .m ≡ 0) ⊎ ((w .n ≡ 0) ⊎ (top + 256 < w .to))) (light : w .to ≤ top + 256) (rest : RestOf w l r q) where
+  right-over : 0 < w .m → w .n ≡ 0
+  right-over p = go over
+    where
+      go : (w .m ≡ 0) ⊎ ((w .n ≡ 0) ⊎ (top + 256 < w .to)) → w .n ≡ 0
+      go (inl z) = absurd (omega arith)
+      go (inr (inl z)) = z
+      go (inr (inr z)) = absurd (omega arith)
+
+  rested : (e : Bool) (whole : List Value) (h : Merging l e r s top w whole) → Rested s top q (h .done) whole
+  rested e whole h = go rest
+    where
+      go : ((0 < w .m) × (q .at ≡ w .a) × (q .n ≡ w .m) × (q .keep ≡ l)) ⊎ ((w .m ≡ 0) × (q .at ≡ w .b) × (q .n ≡ w .n) × (q .keep ≡ r)) → Rested s top q (h .done) whole
+      go (inl x) = record {
+        rest = h .left;
+        front = rw (x .1, x .2) (h .onLeft);
+        all = rw (x .3) (h .all ∙ ap (λ (c : List Value). h .done ++ c)
+            (ap (λ (c : List Value). merged l e r (members (h .left)) c) (exhausted s top (w .b) (w .n) (h .right) (h .onRight) (right-over (x .0)))
+            ∙ merged-nil l e r (members (h .left))));
+      }
+      go (inr x) = record {
+        rest = h .right;
+        front = rw (x .1, x .2) (h .onRight);
+        all = rw (x .3) (h .all ∙ ap (λ (c : List Value). h .done ++ c)
+            (ap (λ (c : List Value). merged l e r c (members (h .right))) (exhausted s top (w .a) (w .m) (h .left) (h .onLeft) (x .0))
+            ∙ merged-none l e r (members (h .right))));
+      }
+
+  pub end-tail : EndPre l r s w top → TailPre s (q .at) (q .n) (outOf w)
+  end-tail p =
+      let z = rested (p .both) (p .whole) (p .merging) in
+      record {
+        room = omega (arith, p .room);
+        few = omega (arith, p .merging .built .ends, p .merging .built .counted, count-weights (values (p .merging .done)));
+        top = top;
+        rest = z .rest;
+        front = z .front;
+        behind = omega (arith, p .merging .built .ends);
+      }
+
+  module _ (s′ : List ℕ) (o : Out) (tailed : Tailed (q .keep) s (q .at) (q .n) (outOf w) s′ o) where
+    -- the whole has been built
+    all-built : (e : Bool) (whole : List Value) → Merging l e r s top w whole → Built s′ top (o .to) (o .count) whole
+    all-built e whole h =
+        let z = rested e whole h in
+        subst (λ (c : List Value). Built s′ top (o .to) (o .count) c) (sym (z .all)) (tailed .on top (h .done) (z .rest) (h .built) (z .front))
+
+    end-frame : (e : Bool) (whole : List Value) → Merging l e r s top w whole → Same top s s′
+    end-frame e whole h = record { same = λ i p. tailed .frame .same i (omega (arith, h .built .ends)); kept = tailed .frame .kept }
+
+    pub end-over : top + 256 < o .to → Ended l r s w top s′ 0
+    end-over g e whole h = record {
+      frame = end-frame e whole h;
+      light = λ k. absurd (omega (arith, all-built e whole h .ends));
+      heavy = λ k. refl;
+    }
+
+    pub end-count : EndPre l r s w top → o .to ≤ top + 256 → o .count ≤ 256
+    end-count p g =
+        let b = all-built (p .both) (p .whole) (p .merging) in
+        omega (arith, b .ends, b .counted, count-weights (values (p .whole)))
+
+    pub end-made : EndPre l r s w top → o .to ≤ top + 256 → Ended l r s w top (setAt s′ top (21474836480 + o .count)) (o .to)
+    end-made p g e whole h =
+        let b = all-built e whole h in
+        record {
+          frame = record {
+            same = λ i k. getD-set-other s′ top i (21474836480 + o .count) 0 (λ z. omega arith) ∙ end-frame e whole h .same i k;
+            kept = length-set s′ top (21474836480 + o .count) ∙ tailed .frame .kept;
+          };
+          light = λ k. (omega (arith, b .ends), set-stands s′ top (o .count) (o .to) whole b (omega (arith, p .room, tailed .frame .kept)));
+          heavy = λ k. absurd (omega (arith, b .ends));
+        }
+
+-- `merge`
+
+-- The walk goes on from sets that are unchanged below `top`.
+pub record Walking (l e r : Bool) (s₀ : List ℕ) (a b top : ℕ) (s : List ℕ) (w : Walk) : Type 0 where
+  pub frame : Same top s₀ s
+  pub on : (vs ws : Values) → SetBelow s₀ top a vs → SetBelow s₀ top b ws → Merging l e r s top w (merged l e r (members vs) (members ws))
+
+built-none : (s : List ℕ) (top : ℕ) → top + 1 ≤ length s → Built s top (top + 1) 0 []
+unfolding code
+built-none s top l = record {
+  stands = record { inside = omega arith; cells = λ i p. absurd (omega arith) };
+  ends = omega arith;
+  counted = refl;
+}
+
+pub walking-start : (l e r : Bool) (s : List ℕ) (a b top m n : ℕ) → SomeSet s top a × SomeSet s top b × (top + 514 ≤ length s) → m ≡ getD s a 0 % 4294967296 → n ≡ getD s b 0 % 4294967296 →
+    Walking l e r s a b top s (record { a = a + 1; m = m; b = b + 1; n = n; to = top + 1; count = 0 })
+walking-start l e r s a b top m n p x y = record {
+  frame = same-refl top s;
+  on = λ vs ws h k. record {
+    left = vs;
+    right = ws;
+    done = [];
+    onLeft = front-start s top a vs h m x;
+    onRight = front-start s top b ws k n y;
+    built = built-none s top (omega (arith, p .2));
+    all = refl;
+  };
+}
+
+goes-if : (w : Walk) (limit : ℕ) (b c : Bool) → b ≡ c → GoesOn w limit b → GoesOn w limit c
+goes-if w limit b c e g = subst (λ (x : Bool). GoesOn w limit x) e g
+
+module _ (l e r : Bool) (s₀ : List ℕ) (a b top : ℕ) (s : List ℕ) (w : Walk) (p : SomeSet s₀ top a × SomeSet s₀ top b × (top + 514 ≤ length s₀)) (h : Walking l e r s₀ a b top s w) where
+  some-merging : Merging l e r s top w (merged l e r (members (p .0 .0)) (members (p .1 .0)))
+  some-merging = h .on (p .0 .0) (p .1 .0) (p .0 .1) (p .1 .1)
+
+  pub walking-step : (c : Bool) → GoesOn w (top + 256) c → c ≡ true → StepPre l e r s w
+  walking-step c goes z =
+      let g = goes-if w (top + 256) c true z goes in
+      record {
+        top = top;
+        whole = merged l e r (members (p .0 .0)) (members (p .1 .0));
+        merging = some-merging;
+        room = omega (arith, p .2, h .frame .kept, g .2);
+        near = g .2;
+        moreLeft = g .0;
+        moreRight = g .1;
+      }
+
+  pub walking-next : (s′ : List ℕ) (w′ : Walk) → Stepped l e r s w s′ w′ → Walking l e r s₀ a b top s′ w′
+  walking-next s′ w′ t = record {
+    frame = same-trans top (w .to) s₀ s s′ (h .frame) (t .frame) (omega (arith, some-merging .built .ends));
+    on = λ vs ws x y. t .on top (merged l e r (members vs) (members ws)) (h .on vs ws x y);
+  }
+
+  pub walking-end : (c : Bool) → GoesOn w (top + 256) c → c ≡ false → EndPre l r s w top
+  walking-end c goes z = record {
+    both = e;
+    whole = merged l e r (members (p .0 .0)) (members (p .1 .0));
+    merging = some-merging;
+    room = omega (arith, p .2, h .frame .kept);
+    over = goes-if w (top + 256) c false z goes;
+  }
+
+  pub walking-made : (s′ : List ℕ) (k : ℕ) → Ended l r s w top s′ k → (vs ws : Values) → SetBelow s₀ top a vs → SetBelow s₀ top b ws →
+      Made top s₀ s′ (setOf (merged l e r (members vs) (members ws))) k
+  walking-made s′ k m vs ws x y =
+      let d = m e (merged l e r (members vs) (members ws)) (h .on vs ws x y) in
+      record { frame = same-trans top top s₀ s s′ (h .frame) (d .frame) (omega arith); light = d .light; heavy = d .heavy }

@@ -1,0 +1,213 @@
+-- Merging rising lists is union, intersection and difference.
+use Prim.Native.Nat.{Ordering, Ordering·lt, Ordering·eq, Ordering·gt}
+use mathlib.Core.Bool.{Bool, true, false, cond, not}
+use mathlib.Core.List.{List, [], _∷_, _++_}
+use mathlib.Core.Path.{_≡_, refl, sym, ap, _∙_, subst}
+use Rattle.rules.specs.Values.{Value, order, before}
+use Rattle.rules.specs.Operations.{keptValue, insert, rising, isIn, keep}
+use Rattle.rules.proofs.OrderLaws.{Small, flip, order-refl, order-flip, order-eq, before-order, order-before, before-trans}
+use Rattle.rules.proofs.SetOrder.{All, Before, Rising, all-imp}
+use Rattle.sets.specs.Merged.{turned, mergedFrom, merged}
+
+-- Of two values that are before one another one is greater.
+pub after-order : (v w : Value) → Before w v → order v w ≡ Ordering·gt
+after-order v w h = order-flip w v ∙ ap flip (before-order w v h)
+
+-- An exhausted second list leaves the first.
+pub merged-nil : (l b r : Bool) (vs : List Value) → merged l b r vs [] ≡ cond l vs []
+unfolding merged
+merged-nil true b true [] = refl
+merged-nil true b false [] = refl
+merged-nil false b true [] = refl
+merged-nil false b false [] = refl
+merged-nil l b r (v ∷ vs) = refl
+
+-- The turns, by the order of the first members.
+pub merged-less : (l b r : Bool) (v w : Value) (vs ws : List Value) → order v w ≡ Ordering·lt →
+    merged l b r (v ∷ vs) (w ∷ ws) ≡ keptValue l v (merged l b r vs (w ∷ ws))
+unfolding merged
+merged-less l b r v w vs ws e = rw e
+
+pub merged-equal : (l b r : Bool) (v w : Value) (vs ws : List Value) → order v w ≡ Ordering·eq →
+    merged l b r (v ∷ vs) (w ∷ ws) ≡ keptValue b v (merged l b r vs ws)
+unfolding merged
+merged-equal l b r v w vs ws e = rw e
+
+pub merged-greater : (l b r : Bool) (v w : Value) (vs ws : List Value) → order v w ≡ Ordering·gt →
+    merged l b r (v ∷ vs) (w ∷ ws) ≡ keptValue r w (merged l b r (v ∷ vs) ws)
+unfolding merged
+merged-greater l b r v w vs ws e = rw e
+
+kept-nil : (r : Bool) (w : Value) (ws : List Value) → cond r (w ∷ ws) [] ≡ keptValue r w (cond r ws [])
+kept-nil true w ws = refl
+kept-nil false w ws = refl
+
+-- A member before all of the first list comes first.
+merged-first : (l b r : Bool) (vs : List Value) (w : Value) (ws : List Value) → All (Before w) vs →
+    merged l b r vs (w ∷ ws) ≡ keptValue r w (merged l b r vs ws)
+unfolding merged
+merged-first l b r [] w ws h = kept-nil r w ws
+merged-first l b r (v ∷ vs) w ws h = merged-greater l b r v w vs ws (after-order v w (h .0))
+
+-- What is merged comes from the two lists.
+kept-all : (P : Value → Type 0) (k : Bool) (v : Value) (r : List Value) → P v → All P r → All P (keptValue k v r)
+kept-all P true v r h k = (h, k)
+kept-all P false v r h k = k
+
+cond-all : (P : Value → Type 0) (k : Bool) (vs : List Value) → All P vs → All P (cond k vs [])
+cond-all P true vs h = h
+cond-all P false vs h = tt
+
+turned-all : (P : Value → Type 0) (l b r : Bool) (o : Ordering) (v w : Value) (x y z : List Value) →
+    P v → P w → All P x → All P y → All P z → All P (turned l b r o v w x y z)
+turned-all P l b r Ordering·lt v w x y z p q i j k = kept-all P l v x p i
+turned-all P l b r Ordering·eq v w x y z p q i j k = kept-all P b v y p j
+turned-all P l b r Ordering·gt v w x y z p q i j k = kept-all P r w z q k
+
+from-all : (P : Value → Type 0) (l b r : Bool) (v : Value) (vs : List Value) (f : List Value → List Value) →
+    ((ws : List Value) → All P ws → All P (f ws)) → All P (v ∷ vs) → (ws : List Value) → All P ws → All P (mergedFrom l b r v vs f ws)
+unfolding mergedFrom
+from-all P l b r v vs f g h [] k = cond-all P l (v ∷ vs) h
+from-all P l b r v vs f g h (w ∷ ws) k =
+    turned-all P l b r (order v w) v w (f (w ∷ ws)) (f ws) (mergedFrom l b r v vs f ws) (h .0) (k .0) (g (w ∷ ws) k) (g ws (k .1))
+    (from-all P l b r v vs f g h ws (k .1))
+
+pub merged-all : (P : Value → Type 0) (l b r : Bool) (vs ws : List Value) → All P vs → All P ws → All P (merged l b r vs ws)
+unfolding merged
+merged-all P l b r [] ws h k = cond-all P r ws k
+merged-all P l b r (v ∷ vs) ws h k = from-all P l b r v vs (λ zs. merged l b r vs zs) (λ zs j. merged-all P l b r vs zs (h .1) j) h ws k
+
+-- Union.
+
+insert-first : (v : Value) (ws : List Value) → All (Before v) ws → insert v ws ≡ v ∷ ws
+unfolding insert
+insert-first v [] h = refl
+insert-first v (w ∷ ws) h = rw (before-order v w (h .0))
+
+insert-equal : (v : Value) (ws : List Value) → insert v (v ∷ ws) ≡ v ∷ ws
+unfolding insert
+insert-equal v ws = rw (order-refl v)
+
+insert-greater : (v w : Value) (ws : List Value) → Before w v → insert v (w ∷ ws) ≡ w ∷ insert v ws
+unfolding insert
+insert-greater v w ws h = rw (after-order v w h)
+
+-- the first member of a rising list, and those before it
+pub before-all : (v w : Value) (ws : List Value) → Before v w → Rising (w ∷ ws) → All (Before v) (w ∷ ws)
+before-all v w ws h k = (h, all-imp (Before w) (Before v) (λ x p. before-trans v w x h p) ws (k .0))
+
+insert-merged : (v : Value) (vs : List Value) → Rising (v ∷ vs) → Small v → (ws : List Value) → Rising ws → All Small ws →
+    insert v (merged true true true vs ws) ≡ merged true true true (v ∷ vs) ws
+insert-merged v vs h s [] k t =
+    ap (insert v) (merged-nil true true true vs) ∙ insert-first v vs (h .0) ∙ sym (merged-nil true true true (v ∷ vs))
+insert-merged v vs h s (w ∷ ws) k t = go (order v w) refl (insert-merged v vs h s ws (k .1) (t .1))
+  where
+    go : (o : Ordering) → order v w ≡ o → insert v (merged true true true vs ws) ≡ merged true true true (v ∷ vs) ws →
+        insert v (merged true true true vs (w ∷ ws)) ≡ merged true true true (v ∷ vs) (w ∷ ws)
+    go Ordering·lt e r =
+        insert-first v (merged true true true vs (w ∷ ws))
+        (merged-all (Before v) true true true vs (w ∷ ws) (h .0) (before-all v w ws (order-before v w e) k))
+        ∙ sym (merged-less true true true v w vs ws e)
+    go Ordering·eq e r =
+        let q : v ≡ w = order-eq v w s (t .0) e in
+        ap (insert v) (merged-first true true true vs w ws (subst (λ (x : Value). All (Before x) vs) q (h .0)))
+        ∙ subst (λ (x : Value). insert v (x ∷ merged true true true vs ws) ≡ v ∷ merged true true true vs ws) q (insert-equal v (merged true true true vs ws))
+        ∙ sym (merged-equal true true true v w vs ws e)
+    go Ordering·gt e r =
+        let q : Before w v = order-before w v (order-flip v w ∙ ap flip e) in
+        ap (insert v) (merged-first true true true vs w ws (before-all w v vs q h .1))
+        ∙ insert-greater v w (merged true true true vs ws) q ∙ ap (λ (l : List Value). w ∷ l) r
+        ∙ sym (merged-greater true true true v w vs ws e)
+
+rising-same : (ws : List Value) → Rising ws → rising ws ≡ ws
+unfolding rising
+rising-same [] h = refl
+rising-same (w ∷ ws) h = ap (insert w) (rising-same ws (h .1)) ∙ insert-first w ws (h .0)
+
+pub merged-union : (vs ws : List Value) → Rising vs → Rising ws → All Small vs → All Small ws →
+    merged true true true vs ws ≡ rising (vs ++ ws)
+unfolding rising merged
+merged-union [] ws h k s t = sym (rising-same ws k)
+merged-union (v ∷ vs) ws h k s t =
+    sym (insert-merged v vs h (s .0) ws k t) ∙ ap (insert v) (merged-union vs ws (h .1) k (s .1) t)
+
+-- Intersection and difference: a filter of the first list.
+
+-- what is kept of the first list
+abbrev filtered : Bool → Bool → List Value → List Value → List Value
+filtered l b ws vs = keep (λ x. cond (isIn x ws) b l) vs
+
+keep-all-or-none : (l : Bool) (vs : List Value) → keep (λ x. l) vs ≡ cond l vs []
+unfolding keep
+keep-all-or-none true [] = refl
+keep-all-or-none true (v ∷ vs) = ap (λ (r : List Value). v ∷ r) (keep-all-or-none true vs)
+keep-all-or-none false [] = refl
+keep-all-or-none false (v ∷ vs) = keep-all-or-none false vs
+
+-- the test of the first member
+pub isIn-less : (v w : Value) (ws : List Value) → order v w ≡ Ordering·lt → isIn v (w ∷ ws) ≡ isIn v ws
+unfolding isIn
+isIn-less v w ws e = rw e
+
+pub isIn-equal : (v w : Value) (ws : List Value) → order v w ≡ Ordering·eq → isIn v (w ∷ ws) ≡ true
+unfolding isIn
+isIn-equal v w ws e = rw e
+
+pub isIn-greater : (v w : Value) (ws : List Value) → order v w ≡ Ordering·gt → isIn v (w ∷ ws) ≡ isIn v ws
+unfolding isIn
+isIn-greater v w ws e = rw e
+
+-- A value before all is not in.
+pub isIn-before : (v : Value) (ws : List Value) → All (Before v) ws → isIn v ws ≡ false
+unfolding isIn
+isIn-before v [] h = refl
+isIn-before v (w ∷ ws) h = isIn-less v w ws (before-order v w (h .0)) ∙ isIn-before v ws (h .1)
+
+-- one member more in the first list
+module _ (l b : Bool) (v : Value) (vs : List Value) (h : Rising (v ∷ vs)) (small : Small v)
+    (rec : (zs : List Value) → Rising zs → All Small zs → merged l b false vs zs ≡ filtered l b zs vs) where
+  filter-turn : (o : Ordering) (w : Value) (zs : List Value) → order v w ≡ o → Rising (w ∷ zs) → All Small (w ∷ zs) →
+      merged l b false (v ∷ vs) zs ≡ keptValue (cond (isIn v zs) b l) v (filtered l b zs vs) →
+      merged l b false (v ∷ vs) (w ∷ zs) ≡ keptValue (cond (isIn v (w ∷ zs)) b l) v (filtered l b (w ∷ zs) vs)
+  filter-turn Ordering·lt w zs e j m r =
+      merged-less l b false v w vs zs e
+      ∙ rw (rec (w ∷ zs) j m, isIn-before v (w ∷ zs) (before-all v w zs (order-before v w e) j))
+  filter-turn Ordering·eq w zs e j m r =
+      let q : All (Before w) vs = subst (λ (x : Value). All (Before x) vs) (order-eq v w small (m .0) e) (h .0) in
+      merged-equal l b false v w vs zs e
+      ∙ rw (← rec (w ∷ zs) j m, merged-first l b false vs w zs q, isIn-equal v w zs e)
+  filter-turn Ordering·gt w zs e j m r =
+      let q : Before w v = order-before w v (order-flip v w ∙ ap flip e) in
+      merged-greater l b false v w vs zs e
+      ∙ rw (r, isIn-greater v w zs e, ← rec (w ∷ zs) j m, merged-first l b false vs w zs (before-all w v vs q h .1), rec zs (j .1) (m .1))
+
+  filter-from : (zs : List Value) → Rising zs → All Small zs → merged l b false (v ∷ vs) zs ≡ keptValue (cond (isIn v zs) b l) v (filtered l b zs vs)
+  unfolding isIn keep
+  filter-from [] j m = merged-nil l b false (v ∷ vs) ∙ sym (keep-all-or-none l (v ∷ vs))
+  filter-from (w ∷ zs) j m = filter-turn (order v w) w zs refl j m (filter-from zs (j .1) (m .1))
+
+pub merged-filter : (l b : Bool) (vs ws : List Value) → Rising vs → Rising ws → All Small vs → All Small ws → merged l b false vs ws ≡ filtered l b ws vs
+unfolding keep merged
+merged-filter l b [] ws h k s t = refl
+merged-filter l b (v ∷ vs) ws h k s t = filter-from l b v vs h (s .0) (λ zs j m. merged-filter l b vs zs (h .1) j (s .1) m) ws k t
+
+keep-ext : (p q : Value → Bool) → ((x : Value) → p x ≡ q x) → (vs : List Value) → keep p vs ≡ keep q vs
+unfolding keep
+keep-ext p q e [] = refl
+keep-ext p q e (v ∷ vs) = rw (e v, keep-ext p q e vs)
+
+cond-id : (b : Bool) → cond b true false ≡ b
+cond-id true = refl
+cond-id false = refl
+
+cond-not : (b : Bool) → cond b false true ≡ not b
+cond-not true = refl
+cond-not false = refl
+
+pub merged-inter : (vs ws : List Value) → Rising vs → Rising ws → All Small vs → All Small ws → merged false true false vs ws ≡ keep (λ x. isIn x ws) vs
+merged-inter vs ws h k s t =
+    merged-filter false true vs ws h k s t ∙ keep-ext (λ x. cond (isIn x ws) true false) (λ x. isIn x ws) (λ x. cond-id (isIn x ws)) vs
+
+pub merged-diff : (vs ws : List Value) → Rising vs → Rising ws → All Small vs → All Small ws → merged true false false vs ws ≡ keep (λ x. not (isIn x ws)) vs
+merged-diff vs ws h k s t =
+    merged-filter true false vs ws h k s t ∙ keep-ext (λ x. cond (isIn x ws) false true) (λ x. not (isIn x ws)) (λ x. cond-not (isIn x ws)) vs

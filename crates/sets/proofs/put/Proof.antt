@@ -1,0 +1,32 @@
+-- `put`: a run copied behind what has been built.
+use mathlib.Core.Logic.{inl}
+use borrow.Author.Needs.{needs}
+use native.Mathlib.Omega.{arith}
+use Rattle.sets.proofs.BuildLaws.{put-if, put-else}
+use borrow.Author.Needs.{needs}
+use Rattle.sets.proofs.put.Statement.{statement}
+use Rattle.sets.proofs.put.Tie as tie
+
+sub-n : tie.Need-sub-n
+sub-n c = search needs
+
+copy-requires : tie.Need-copy-requires
+copy-requires c κs = (omega (arith, c .before .before .before .pre .forward, c .before .before .before .pre .behind, c .before .before .before .pre .room), omega (arith, c .before .before .before .pre .room), inl (omega (arith, c .before .before .before .pre .forward, c .before .before .before .pre .behind)))
+
+add-t13 : tie.Need-add-t13
+add-t13 c = search needs
+
+add-t14 : tie.Need-add-t14
+add-t14 c = search needs
+
+same-length : tie.Need-same-length
+same-length c = search needs
+
+returns : tie.Need-returns
+returns c = put-if _ _ _ _ _ _ _ (c .before .before .before .before .before .if1 .taken) (c .before .before .before .before .before .before .before .pre) (c .before .before .before .copy .ensures)
+
+returns-2 : tie.Need-returns-2
+returns-2 c = put-else _ _ _ _ _ _ (c .if1 .left)
+
+pub put-spec : {M : Type 1} → statement M
+put-spec = tie.close (tie.spec sub-n copy-requires add-t13 add-t14 same-length returns returns-2)

@@ -1,0 +1,37 @@
+-- `run_end`: where a run of members ends, member by member.
+use Prim.Native.Nat.{ℕ, _+_}
+use native.Mathlib.Omega.{arith}
+use Rattle.rules.specs.Values.{Values, weights}
+use Rattle.sets.specs.Fronts.{Front}
+use Rattle.sets.proofs.FrontLaws.{Running, running-start, running-at, running-next, running-end}
+use Rattle.sets.proofs.run_end.Statement.{statement}
+use Rattle.sets.proofs.run_end.Tie as tie
+
+abbrev Inv-loop : tie.InvT-loop
+Inv-loop s at n left₀ i₀ left i = (top : ℕ) (vs : Values) → Front s top at n vs → Running s top i left (at + weights vs)
+
+abbrev μ-loop : tie.MeasureT-loop
+μ-loop s at n left₀ i₀ left i = left
+
+loop-holds : tie.Need-loop-holds Inv-loop μ-loop
+loop-holds c = λ top vs h. running-start _ top _ _ vs h
+
+end-of-requires : tie.Need-end-of-requires Inv-loop μ-loop
+end-of-requires c κs = running-at _ _ _ _ _ (c .before .loop .inv _ _ (c .before .before .before .pre .2)) (c .loop-test .taken)
+
+sub-left : tie.Need-sub-left Inv-loop μ-loop
+sub-left c = omega (arith, c .before .loop-test .taken)
+
+loop-less : tie.Need-loop-less Inv-loop μ-loop
+loop-less c = omega (arith, c .before .loop-test .taken)
+
+loop-again : tie.Need-loop-again Inv-loop μ-loop
+loop-again c = λ top vs h. running-next _ top _ _ _ (c .before .before .loop .inv top vs h) _ (c .before .loop-test .taken) (c .end-of .ensures)
+
+returns : tie.Need-returns Inv-loop μ-loop
+returns c = λ top vs h. running-end _ top _ _ _ (c .before .loop .inv top vs h) (c .loop-test .left)
+
+pub run-end-spec : {M : Type 1} → statement M
+run-end-spec =
+    tie.close
+    (tie.spec Inv-loop μ-loop loop-holds end-of-requires sub-left loop-less loop-again returns)

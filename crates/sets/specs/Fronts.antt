@@ -1,0 +1,199 @@
+-- Walks over the members of sets in the arena, and what the operations answer.
+use Prim.Native.Nat.{ℕ, _+_, _-_, _≤_, _<_, Ordering, Ordering·lt, Ordering·eq, Ordering·gt}
+use mathlib.Core.Bool.{Bool, true, false, cond}
+use mathlib.Core.List.{List, [], _++_}
+use mathlib.Core.Logic.{_⊎_}
+use mathlib.Core.Path.{_≡_}
+use lib.ListN.{length}
+use Rattle.rules.specs.Values.{Value, scalar, pair, set, Values, none, _▸_, members, values, count, weight, weights, order}
+use Rattle.rules.specs.Runs.{Given, gives, lacks}
+use Rattle.rules.specs.Operations.{isIn, allIn, applied, setOf}
+use Rattle.arena.specs.Code.{ValueAt, ValuesAt, CellsFit, AllFit, orderCode, SomeAt, Rises, SetBelow, ValueBelow, Same, Made}
+use Rattle.sets.specs.declared.Turn.{Turn}
+use Rattle.sets.specs.declared.Out.{Out}
+use Rattle.sets.specs.declared.Walk.{Walk}
+use Rattle.sets.specs.declared.Rest.{Rest}
+use Rattle.sets.specs.Merged.{merged}
+
+-- n members, rising, that are left of a set stand from `at` on, below `top`.
+pub record Front (s : List ℕ) (top at n : ℕ) (vs : Values) : Type 0 where
+  pub stands : ValuesAt s at vs
+  pub counted : n ≡ count vs
+  pub below : at + weights vs ≤ top
+  pub fits : AllFit vs
+  pub rises : Rises vs
+  pub light : weights vs ≤ 255
+
+-- r says whether the value at e is in the set at a.
+abbrev pub Contains : List ℕ → ℕ → ℕ → Bool → Type 0
+Contains s e a r = (v : Value) (vs : Values) → ValueBelow s (length s) e v → SetBelow s (length s) a vs → r ≡ isIn v (members vs)
+
+-- r says whether the set at a is included in the set at b.
+abbrev pub Includes : List ℕ → ℕ → ℕ → Bool → Type 0
+Includes s a b r = (vs ws : Values) → SetBelow s (length s) a vs → SetBelow s (length s) b ws → r ≡ allIn (members vs) (members ws)
+
+-- A turn of a walk over two sets, at their first members v and w with the order o: the first of the two, whether it is
+-- kept (l where it is only in the left set, b in both, r only in the right), and what is left of both sets.
+abbrev pub keepOf : Bool → Bool → Bool → Ordering → Bool
+keepOf l b r Ordering·lt = l
+keepOf l b r Ordering·eq = b
+keepOf l b r Ordering·gt = r
+
+abbrev pub firstOf : Ordering → Value → Value → Value
+firstOf Ordering·lt v w = v
+firstOf Ordering·eq v w = v
+firstOf Ordering·gt v w = w
+
+abbrev pub restLeft : Ordering → Value → Values → Values
+restLeft Ordering·lt v vs = vs
+restLeft Ordering·eq v vs = vs
+restLeft Ordering·gt v vs = v ▸ vs
+
+abbrev pub restRight : Ordering → Value → Values → Values
+restRight Ordering·lt w ws = w ▸ ws
+restRight Ordering·eq w ws = ws
+restRight Ordering·gt w ws = ws
+
+pub record Turned (s : List ℕ) (top : ℕ) (l b r : Bool) (o : Ordering) (v : Value) (vs : Values) (w : Value) (ws : Values) (t : Turn) : Type 0 where
+  pub keeps : t .keep ≡ keepOf l b r o
+  pub value : ValueBelow s top (t .from) (firstOf o v w)
+  pub ends : t .end ≡ t .from + weight (firstOf o v w)
+  pub onLeft : Front s top (t .a) (t .m) (restLeft o v vs)
+  pub onRight : Front s top (t .b) (t .n) (restRight o w ws)
+
+-- t is the turn at two sets of which m members from a on and n from b on are left.
+abbrev pub TurnAt : List ℕ → ℕ → ℕ → ℕ → ℕ → Bool → Bool → Bool → Turn → Type 0
+TurnAt s a m b n l e r t =
+    (top : ℕ) (v : Value) (vs : Values) (w : Value) (ws : Values) → Front s top a m (v ▸ vs) → Front s top b n (w ▸ ws) →
+    Turned s top l e r (order v w) v vs w ws t
+
+pub record TwoFronts (s : List ℕ) (a m b n : ℕ) : Type 0 where
+  pub top : ℕ
+  pub first : Value
+  pub rest : Values
+  pub first′ : Value
+  pub rest′ : Values
+  pub onLeft : Front s top a m (first ▸ rest)
+  pub onRight : Front s top b n (first′ ▸ rest′)
+
+-- A run of members from `at` on.
+abbrev pub SomeFront : List ℕ → ℕ → ℕ → Type 0
+SomeFront s at n = (top : ℕ) × (vs : Values) × Front s top at n vs
+
+-- r is where it ends.
+abbrev pub RunEnds : List ℕ → ℕ → ℕ → ℕ → Type 0
+RunEnds s at n r = (top : ℕ) (vs : Values) → Front s top at n vs → r ≡ at + weights vs
+
+-- The members zs, n in number, have been built from top + 1 up to `to`.
+pub record Built (s : List ℕ) (top to n : ℕ) (zs : List Value) : Type 0 where
+  pub stands : ValuesAt s (top + 1) (values zs)
+  pub ends : to ≡ top + 1 + weights (values zs)
+  pub counted : n ≡ count (values zs)
+
+-- The run from `from` to `end`, of k members, is put behind what has been built, if kept.
+pub record PutPre (s : List ℕ) (from end k : ℕ) (o : Out) : Type 0 where
+  pub forward : from ≤ end
+  pub behind : end ≤ o .to
+  pub room : o .to + (end - from) ≤ length s
+  pub few : o .count + k ≤ 4294967296
+
+pub record Put (keep : Bool) (s : List ℕ) (from end k : ℕ) (o : Out) (s′ : List ℕ) (r : Out) : Type 0 where
+  pub frame : Same (o .to) s s′
+  pub near : r .to ≤ o .to + (end - from)
+  pub on : (top : ℕ) (zs : List Value) (vs : Values) → Built s top (o .to) (o .count) zs → ValuesAt s from vs → end ≡ from + weights vs → k ≡ count vs →
+      Built s′ top (r .to) (r .count) (zs ++ cond keep (members vs) [])
+
+-- The same for the rest of a set.
+pub record TailPre (s : List ℕ) (at n : ℕ) (o : Out) : Type 0 where
+  pub room : o .to + 255 ≤ length s
+  pub few : o .count ≤ 512
+  pub top : ℕ
+  pub rest : Values
+  pub front : Front s top at n rest
+  pub behind : top ≤ o .to
+
+pub record Tailed (keep : Bool) (s : List ℕ) (at n : ℕ) (o : Out) (s′ : List ℕ) (r : Out) : Type 0 where
+  pub frame : Same (o .to) s s′
+  pub on : (top : ℕ) (zs : List Value) (vs : Values) → Built s top (o .to) (o .count) zs → Front s top at n vs →
+      Built s′ top (r .to) (r .count) (zs ++ cond keep (members vs) [])
+
+-- A walk over two sets that merges them into the members `whole`: those built, and those that are left to merge.
+pub record Merging (l b r : Bool) (s : List ℕ) (top : ℕ) (w : Walk) (whole : List Value) : Type 0 where
+  pub left : Values
+  pub right : Values
+  pub done : List Value
+  pub onLeft : Front s top (w .a) (w .m) left
+  pub onRight : Front s top (w .b) (w .n) right
+  pub built : Built s top (w .to) (w .count) done
+  pub all : whole ≡ done ++ merged l b r (members left) (members right)
+
+-- One turn of it.
+pub record StepPre (l b r : Bool) (s : List ℕ) (w : Walk) : Type 0 where
+  pub top : ℕ
+  pub whole : List Value
+  pub merging : Merging l b r s top w whole
+  pub room : w .to + 256 ≤ length s
+  pub near : w .to ≤ top + 256
+  pub moreLeft : 0 < w .m
+  pub moreRight : 0 < w .n
+
+pub record Stepped (l b r : Bool) (s : List ℕ) (w : Walk) (s′ : List ℕ) (w′ : Walk) : Type 0 where
+  pub frame : Same (w .to) s s′
+  pub near : w′ .to ≤ w .to + 256
+  pub fewer : w′ .m + w′ .n < w .m + w .n
+  pub on : (top : ℕ) (whole : List Value) → Merging l b r s top w whole → Merging l b r s′ top w′ whole
+
+-- Whether a walk goes on: both sets have members left, and what is built is not past `limit`.
+abbrev pub GoesOn : Walk → ℕ → Bool → Type 0
+GoesOn w limit true = (0 < w .m) × (0 < w .n) × (w .to ≤ limit)
+GoesOn w limit false = (w .m ≡ 0) ⊎ ((w .n ≡ 0) ⊎ (limit < w .to))
+
+-- What is left at the end of a walk, in the left set or in the right.
+abbrev pub RestOf : Walk → Bool → Bool → Rest → Type 0
+RestOf w l r q =
+    ((0 < w .m) × (q .at ≡ w .a) × (q .n ≡ w .m) × (q .keep ≡ l)) ⊎ ((w .m ≡ 0) × (q .at ≡ w .b) × (q .n ≡ w .n) × (q .keep ≡ r))
+
+-- The end of a merge: the rest is put behind what has been built, and the set's cell before it.
+pub record EndPre (l r : Bool) (s : List ℕ) (w : Walk) (top : ℕ) : Type 0 where
+  pub both : Bool
+  pub whole : List Value
+  pub merging : Merging l both r s top w whole
+  pub room : top + 514 ≤ length s
+  pub over : (w .m ≡ 0) ⊎ ((w .n ≡ 0) ⊎ (top + 256 < w .to))
+
+abbrev pub Ended : Bool → Bool → List ℕ → Walk → ℕ → List ℕ → ℕ → Type 0
+Ended l r s w top s′ k = (b : Bool) (whole : List Value) → Merging l b r s top w whole → Made top s s′ (setOf whole) k
+
+-- The result of a merge.
+abbrev pub Merges : Bool → Bool → Bool → List ℕ → ℕ → ℕ → ℕ → List ℕ → ℕ → Type 0
+Merges l e r s a b top s′ k =
+    (vs ws : Values) → SetBelow s top a vs → SetBelow s top b ws → Made top s s′ (setOf (merged l e r (members vs) (members ws))) k
+
+-- Application. The order of the value at e and the left part of the pair at i.
+pub record LeftCompared (s : List ℕ) (e i r : ℕ) : Type 0 where
+  pub order-is : (v a b : Value) → ValueAt s e v → CellsFit v → ValueAt s i (pair a b) → CellsFit (pair a b) → r ≡ orderCode (order v a)
+  pub is-pair : r ≡ 1 → SomeAt s (i + 1)
+
+abbrev pub IsPair : Value → Type 0
+IsPair (scalar x) = ⊥
+IsPair (pair a b) = Unit {0}
+IsPair (set vs) = ⊥
+
+abbrev pub AllPairs : Values → Type 0
+AllPairs none = Unit {0}
+AllPairs (v ▸ vs) = IsPair v × AllPairs vs
+
+-- u stands at r, within the set vs at f.
+pub record Within (s : List ℕ) (f : ℕ) (vs : Values) (r : ℕ) (u : Value) : Type 0 where
+  pub positive : 0 < r
+  pub behind : f < r
+  pub value : ValueBelow s (f + weight (set vs)) r u
+
+-- r is where the answer of an application stands, or 0 where there is none (16).
+abbrev pub ImageAt : List ℕ → ℕ → Values → ℕ → Given → Type 0
+ImageAt s f vs r (lacks k) = (k ≡ 16) × (r ≡ 0)
+ImageAt s f vs r (gives u) = Within s f vs r u
+
+abbrev pub Applies : List ℕ → ℕ → ℕ → ℕ → Type 0
+Applies s f e r =
+    (vs : Values) (v : Value) → SetBelow s (length s) f vs → ValueBelow s (length s) e v → AllPairs vs → ImageAt s f vs r (applied (set vs) v)

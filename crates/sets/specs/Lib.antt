@@ -1,0 +1,3 @@
+-- Sets in the arena.
+pub mod Merged
+pub mod Fronts

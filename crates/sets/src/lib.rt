@@ -1,0 +1,334 @@
+// Sets in the arena, whose members rise: membership, inclusion, union, intersection, difference, application.
+ghost use Prim.Native.Nat.{_+_, _-_, _≤_};
+ghost use lib.ListN.{length};
+ghost use Rattle.arena.specs.Code.{SomeAt, EndsAt, SomeSet, SomeValue};
+ghost use Rattle.sets.specs.Fronts.{Contains, Includes, LeftCompared, Applies, TwoFronts, TurnAt, SomeFront, RunEnds, PutPre, Put};
+ghost use Rattle.sets.specs.Fronts.{TailPre, Tailed, StepPre, Stepped, GoesOn, RestOf, EndPre, Ended, Merges};
+
+// A turn of a walk over two sets: the first of their members stands between `from` and `end` and is kept or not; what is
+// left are m members from a on and n from b on.
+struct Turn {
+    from: usize,
+    end: usize,
+    keep: bool,
+    a: usize,
+    m: u64,
+    b: usize,
+    n: u64,
+}
+
+// Where the members that have been built end, and their number.
+struct Out {
+    to: usize,
+    count: u64,
+}
+
+// A merge on its way: what is left of both sets, and what has been built.
+struct Walk {
+    a: usize,
+    m: u64,
+    b: usize,
+    n: u64,
+    to: usize,
+    count: u64,
+}
+
+// The rest of one set, kept or not.
+struct Rest {
+    at: usize,
+    n: u64,
+    keep: bool,
+}
+
+// Whether the value at e is a member of the set at a.
+pub fn contains(s: &[u64], e: usize, a: usize) -> bool
+    requires { ⌜ SomeValue (now s) (length (now s)) e × SomeSet (now s) (length (now s)) a ⌝ }
+    ensures { λ r. ⌜ Contains (now (s .entry)) e a r ⌝ }
+{
+    let end = arena::end_of(s, e);
+    let mut left = arena::low(s[a]);
+    let mut i = a + 1;
+    while left > 0 {
+        let c = arena::compare(s, e, end, i);
+        if c == 1 {
+            return true;
+        }
+        // The members that follow are greater still.
+        if c == 0 {
+            return false;
+        }
+        i = arena::end_of(s, i);
+        left -= 1;
+    }
+    false
+}
+
+// The turn at two sets that both have members left: which of the first members comes first, and what is left then.
+fn turn_at(
+    s: &[u64],
+    a: usize,
+    m: u64,
+    b: usize,
+    n: u64,
+    left: bool,
+    both: bool,
+    right: bool,
+) -> Turn
+    requires { ⌜ TwoFronts (now s) a m b n ⌝ }
+    ensures { λ r. ⌜ TurnAt (now (s .entry)) a m b n left both right r ⌝ }
+{
+    let end = arena::end_of(s, a);
+    let c = arena::compare(s, a, end, b);
+    if c == 0 {
+        return Turn {
+            from: a,
+            end: end,
+            keep: left,
+            a: end,
+            m: m - 1,
+            b: b,
+            n: n,
+        };
+    }
+    let end2 = arena::end_of(s, b);
+    if c == 1 {
+        return Turn {
+            from: a,
+            end: end,
+            keep: both,
+            a: end,
+            m: m - 1,
+            b: end2,
+            n: n - 1,
+        };
+    }
+    Turn {
+        from: b,
+        end: end2,
+        keep: right,
+        a: a,
+        m: m,
+        b: end2,
+        n: n - 1,
+    }
+}
+
+// Whether each member of the set at a is one of the set at b.
+pub fn included(s: &[u64], a: usize, b: usize) -> bool
+    requires { ⌜ SomeSet (now s) (length (now s)) a × SomeSet (now s) (length (now s)) b ⌝ }
+    ensures { λ r. ⌜ Includes (now (s .entry)) a b r ⌝ }
+{
+    let mut m = arena::low(s[a]);
+    let mut n = arena::low(s[b]);
+    let mut i = a + 1;
+    let mut j = b + 1;
+    while m > 0 {
+        if n == 0 {
+            return false;
+        }
+        let t = turn_at(s, i, m, j, n, false, true, true);
+        if !t.keep {
+            return false;
+        }
+        i = t.a;
+        m = t.m;
+        j = t.b;
+        n = t.n;
+    }
+    true
+}
+
+// The order of the value at e, which ends at `end`, and the left part of the pair at i; 2 where there is no pair.
+fn left_order(s: &[u64], e: usize, end: usize, i: usize) -> u8
+    requires { ⌜ SomeAt (now s) e × SomeAt (now s) i × EndsAt (now s) e end ⌝ }
+    ensures { λ r. ⌜ LeftCompared (now (s .entry)) e i r ⌝ }
+{
+    let t = arena::tag(s[i]);
+    if t == 4 {
+        return arena::compare(s, e, end, i + 1);
+    }
+    2
+}
+
+// Where the right part of the first pair in the set at f stands whose left part is the value at e; 0 where there is none.
+pub fn image(s: &[u64], f: usize, e: usize) -> usize
+    requires { ⌜ SomeValue (now s) (length (now s)) e × SomeSet (now s) (length (now s)) f ⌝ }
+    ensures { λ r. ⌜ Applies (now (s .entry)) f e r ⌝ }
+{
+    let end = arena::end_of(s, e);
+    let mut left = arena::low(s[f]);
+    let mut i = f + 1;
+    while left > 0 {
+        let c = left_order(s, e, end, i);
+        if c == 1 {
+            return arena::end_of(s, i + 1);
+        }
+        // Pairs rise by their left parts.
+        if c == 0 {
+            return 0;
+        }
+        i = arena::end_of(s, i);
+        left -= 1;
+    }
+    0
+}
+
+// Where n members from `at` on end.
+fn run_end(s: &[u64], at: usize, n: u64) -> usize
+    requires { ⌜ SomeFront (now s) at n ⌝ }
+    ensures { λ r. ⌜ RunEnds (now (s .entry)) at n r ⌝ }
+{
+    let mut left = n;
+    let mut i = at;
+    while left > 0 {
+        i = arena::end_of(s, i);
+        left -= 1;
+    }
+    i
+}
+
+// Puts the run from `from` to `end`, of k members, behind what has been built, if it is kept.
+fn put(s: &mut [u64], from: usize, end: usize, k: u64, keep: bool, o: Out) -> Out
+    requires { ⌜ PutPre (now s) from end k o ⌝ }
+    ensures { λ r. ⌜ Put keep (now (s .entry)) from end k o (now (s .exit)) r ⌝ }
+{
+    if keep {
+        let n = end - from;
+        let to = o.to;
+        arena::copy(s, from, n, to);
+        return Out {
+            to: to + n,
+            count: o.count + k,
+        };
+    }
+    o
+}
+
+// Puts the rest of a set, n members from `at` on, behind what has been built, if it is kept.
+fn tail(s: &mut [u64], at: usize, n: u64, keep: bool, o: Out) -> Out
+    requires { ⌜ TailPre (now s) at n o ⌝ }
+    ensures { λ r. ⌜ Tailed keep (now (s .entry)) at n o (now (s .exit)) r ⌝ }
+{
+    if keep {
+        let end = run_end(s, at, n);
+        return put(s, at, end, n, true, o);
+    }
+    o
+}
+
+// One turn of a merge.
+fn step(s: &mut [u64], w: Walk, left: bool, both: bool, right: bool) -> Walk
+    requires { ⌜ StepPre left both right (now s) w ⌝ }
+    ensures { λ r. ⌜ Stepped left both right (now (s .entry)) w (now (s .exit)) r ⌝ }
+{
+    let t = turn_at(s, w.a, w.m, w.b, w.n, left, both, right);
+    let o = put(
+        s,
+        t.from,
+        t.end,
+        1,
+        t.keep,
+        Out {
+            to: w.to,
+            count: w.count,
+        },
+    );
+    Walk {
+        a: t.a,
+        m: t.m,
+        b: t.b,
+        n: t.n,
+        to: o.to,
+        count: o.count,
+    }
+}
+
+fn goes_on(w: Walk, limit: usize) -> bool
+    ensures { λ r. ⌜ GoesOn w limit r ⌝ }
+{
+    if w.m == 0 {
+        return false;
+    }
+    if w.n == 0 {
+        return false;
+    }
+    if w.to > limit {
+        return false;
+    }
+    true
+}
+
+fn rest_of(w: Walk, left: bool, right: bool) -> Rest
+    ensures { λ r. ⌜ RestOf w left right r ⌝ }
+{
+    if w.m > 0 {
+        return Rest {
+            at: w.a,
+            n: w.m,
+            keep: left,
+        };
+    }
+    Rest {
+        at: w.b,
+        n: w.n,
+        keep: right,
+    }
+}
+
+// The end of a merge: the rest of the set that is not exhausted, and the cell of the set that has been built.
+fn finish(s: &mut [u64], w: Walk, top: usize, left: bool, right: bool) -> usize
+    requires { ⌜ EndPre left right (now s) w top ⌝ }
+    ensures { λ r. ⌜ Ended left right (now (s .entry)) w top (now (s .exit)) r ⌝ }
+{
+    let limit = top + 256;
+    if w.to > limit {
+        return 0;
+    }
+    let q = rest_of(w, left, right);
+    let o = tail(
+        s,
+        q.at,
+        q.n,
+        q.keep,
+        Out {
+            to: w.to,
+            count: w.count,
+        },
+    );
+    if o.to > limit {
+        return 0;
+    }
+    s[top] = 21474836480 + o.count;
+    o.to
+}
+
+// Builds at top the set of the members that are only in the set at a (if left), in both (if both), only in the set at b (if right);
+// answers where it ends, or 0 where it weighs over 256.
+pub fn merge(
+    s: &mut [u64],
+    a: usize,
+    b: usize,
+    top: usize,
+    left: bool,
+    both: bool,
+    right: bool,
+) -> usize
+    requires { ⌜ SomeSet (now s) top a × SomeSet (now s) top b × (top + 514 ≤ length (now s)) ⌝ }
+    ensures { λ r. ⌜ Merges left both right (now (s .entry)) a b top (now (s .exit)) r ⌝ }
+{
+    let m = arena::low(s[a]);
+    let n = arena::low(s[b]);
+    let limit = top + 256;
+    let mut w = Walk {
+        a: a + 1,
+        m: m,
+        b: b + 1,
+        n: n,
+        to: top + 1,
+        count: 0,
+    };
+    while goes_on(w, limit) {
+        w = step(s, w, left, both, right);
+    }
+    finish(s, w, top, left, right)
+}
