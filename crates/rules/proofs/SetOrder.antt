@@ -18,7 +18,7 @@ use Rattle.rules.specs.Values.{members, values, weight, weights, payload
 use Rattle.rules.specs.Fits.{HasType, FitAt}
 use Rattle.rules.specs.Cells.{signed, inRange, precedes, wellFormed, risingAll}
 use Rattle.rules.specs.Runs.{Given, gives, lacks}
-use Rattle.rules.specs.Operations.{left, right, elems, setOf, placed, insert, rising, isIn, keptValue, keep, pairsOf, subsets}
+use Rattle.rules.specs.Operations.{left, right, elems, setOf, placed, insert, rising, isIn, keptValue, keep, pairsOf, subsets, pairedWith}
 use Rattle.rules.specs.Operations.{upFrom, toCount, elementsFrom, least, ranged, oneValue, twoValue}
 use Rattle.rules.proofs.OrderLaws.{flip, lt-compare, order-refl, order-flip, order-pair, order-int, order-element}
 use Rattle.rules.proofs.OrderLaws.{before-order, order-before, before-trans, and-left, and-right}
@@ -409,7 +409,7 @@ module _ (gs : List ℕ) where
       (pairs-all Well Well Well (λ x y p q. and-T (wellFormed gs x) (wellFormed gs y) p q) (elems v) (elems w) (e .0) (d .0))
       (pairs-rising (elems v) (elems w) (e .1) (d .1))
   two-well apply v w t u f h k =
-      let p : Value → Bool = λ x. same (left x) w in
+      let p : Value → Bool = pairedWith w in
       least-well (map right (keep p (elems v)))
       (map-well right right-well (keep p (elems v)) (keep-all Well p (elems v) (elems-well v h .0)))
   two-well (plus n) v w t u f h k = ranged-well n (payload v +ℤ payload w)

@@ -15,7 +15,7 @@ use Rattle.rules.specs.Rules.{leafRule, oneRule, twoRule, Says, Obeys}
 use Rattle.rules.specs.Fits.{HasType, HaveType, FitAt}
 use Rattle.rules.specs.Cells.{inRange}
 use Rattle.rules.specs.Runs.{Given, gives, lacks}
-use Rattle.rules.specs.Operations.{left, right, elems, setOf, placed, insert, rising, isIn, keptValue, keep}
+use Rattle.rules.specs.Operations.{left, right, elems, setOf, placed, insert, rising, isIn, keptValue, keep, pairedWith}
 use Rattle.rules.specs.Operations.{pairsOf, subsets, upFrom, toCount, elementsFrom}
 use Rattle.rules.specs.Operations.{Env, leafValue, least, ranged, oneValue, twoValue}
 use Rattle.rules.proofs.TypedTree.{Uses}
@@ -195,7 +195,7 @@ two-has product v w t u z h e =
     rw e (values-have (pairsOf (elems v) (elems w)) (t ⊗ u)
     (pairs-have (elems v) (elems w) t u (elems-have v t (h .0)) (elems-have w u (h .1 .0))))
 two-has apply v w t u z h e =
-    let p : Value → Bool = λ x. same (left x) w in
+    let p : Value → Bool = pairedWith w in
     rw e (least-has (map right (keep p (elems v))) u
     (map-have right (t ⊗ u) u (right-has t u) (keep p (elems v)) (keep-have p (elems v) (t ⊗ u) (elems-have v (t ⊗ u) (h .0)))))
 two-has (plus n) v w t u z h e = rw e (ranged-has n (payload v +ℤ payload w))

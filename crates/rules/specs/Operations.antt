@@ -140,10 +140,15 @@ abbrev pub least : List Value → Given
 least [] = lacks 16
 least (v ∷ vs) = gives v
 
+-- Whether x is a pair with the first part e.
+unfoldable pub pairedWith : Value → Value → Bool
+unfolding same
+pairedWith e x = same (left x) e
+
 -- 37: the least u with (e, u) in f.
 unfoldable pub applied : Value → Value → Given
-unfolding keep same
-applied f e = least (map right (keep (λ x. same (left x) e) (elems f)))
+unfolding keep pairedWith
+applied f e = least (map right (keep (pairedWith e) (elems f)))
 
 -- 17: a sum or difference stays within 32 bits.
 abbrev pub ranged : Number → ℤ → Given

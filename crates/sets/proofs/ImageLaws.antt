@@ -10,7 +10,7 @@ use lib.ListN.{length, getD}
 use Rattle.rules.specs.Types.{whole}
 use Rattle.rules.specs.Values.{Scalar, num, truth, element, Value, scalar, pair, set, Values, none, _▸_, members, count, weight, order, same, scalarTag}
 use Rattle.rules.specs.Runs.{Given, gives, lacks}
-use Rattle.rules.specs.Operations.{left, keep, applied}
+use Rattle.rules.specs.Operations.{left, keep, applied, pairedWith}
 use Rattle.rules.proofs.OrderLaws.{Small, flip, order-flip, order-trans, order-eq, order-pair, before-order, then-lt}
 use Rattle.rules.proofs.SetOrder.{All, Before}
 use Rattle.arena.specs.Code.{cellSize, scalarLow, code, codes, ValueAt, ScalarFits, CellsFit, AllFit, orderCode, SomeAt, EndsAt, Compared, SetBelow, ValueBelow}
@@ -91,8 +91,8 @@ less-left v a b c d s t e h = go (then-lt (order a c) (order b d) (sym (order-pa
     go (inr f) = subst (λ (x : Value). order v x ≡ Ordering·lt) (order-eq a c s t (f .0)) e
 
 keep-past : (v a b : Value) (ws : Values) → Small a → AllFit ws → order v a ≡ Ordering·lt → All (Before (pair a b)) (members ws) → AllPairs ws →
-    keep (λ x. same (left x) v) (members ws) ≡ []
-unfolding keep
+    keep (pairedWith v) (members ws) ≡ []
+unfolding keep pairedWith
 keep-past v a b none s f e h p = refl
 keep-past v a b (scalar x ▸ ws) s f e h p = absurd (p .0)
 keep-past v a b (pair c d ▸ ws) s f e h p =
