@@ -159,7 +159,7 @@ module _ (s : List ℕ) (i e : ℕ) where
       go (v ▸ vs) c h f en = step-on v vs left (omega arith) h (f .0) (f .1) en
 
 -- a value that is pending takes a cell
-weight-pos : (v : Value) → 1 ≤ weight v
+pub weight-pos : (v : Value) → 1 ≤ weight v
 weight-pos (scalar x) = omega arith
 weight-pos (pair a b) = omega arith
 weight-pos (set ms) = omega arith
@@ -271,7 +271,7 @@ copied-step s₀ s from n to i c d l b = record {
     at j p (yes e) = rw e (getD-set-same s (to + i) (getD s (from + i) 0) 0 (omega (arith, c .kept)) ∙ copied-source s₀ s from n to i c d l)
     at j p (no e) = getD-set-other s (to + i) (to + j) (getD s (from + i) 0) 0 (λ f. e (omega arith)) ∙ c .there j (omega arith)
 
-count-weights : (vs : Values) → count vs ≤ weights vs
+pub count-weights : (vs : Values) → count vs ≤ weights vs
 count-weights none = omega arith
 count-weights (v ▸ vs) = omega (arith, count-weights vs, weight-pos v)
 
@@ -283,3 +283,23 @@ copied-end s₀ s from n to i c e = rw (sym e) c
 
 pub agree-next : (s : List ℕ) (a b i : ℕ) → Agree s a b i → getD s (b + i) 0 ≤ getD s (a + i) 0 → getD s (a + i) 0 ≤ getD s (b + i) 0 → Agree s a b (i + 1)
 agree-next s a b i g p q = agree-more s a b i g (omega arith)
+
+-- What stands below a frame stays, and frames compose.
+pub stands-frame : (k : ℕ) (s s′ : List ℕ) (at : ℕ) (xs : List ℕ) → Same k s s′ → at + length xs ≤ k → Stands s at xs → Stands s′ at xs
+stands-frame k s s′ at xs f l h = record {
+  inside = omega (arith, f .kept, h .inside);
+  cells = λ i p. f .same (at + i) (omega arith) ∙ h .cells i p;
+}
+
+pub same-refl : (k : ℕ) (s : List ℕ) → Same k s s
+same-refl k s = record { same = λ i p. refl; kept = refl }
+
+pub same-trans : (k m : ℕ) (s s′ s″ : List ℕ) → Same k s s′ → Same m s′ s″ → k ≤ m → Same k s s″
+same-trans k m s s′ s″ f g l = record { same = λ i p. g .same i (omega arith) ∙ f .same i p; kept = g .kept ∙ f .kept }
+
+-- A run that has been copied stands in its new place.
+pub copied-stands : (s : List ℕ) (from n to : ℕ) (s′ : List ℕ) (xs : List ℕ) → Copied s from n to s′ → length xs ≡ n → to + n ≤ length s → Stands s from xs → Stands s′ to xs
+copied-stands s from n to s′ xs c e l h = record {
+  inside = omega (arith, c .kept);
+  cells = λ i p. c .there i (omega arith) ∙ h .cells i p;
+}

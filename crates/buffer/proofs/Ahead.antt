@@ -1,0 +1,453 @@
+-- A run of bytes as the cells of a number of values that follow one another: one cell further, and one back.
+use Prim.Native.Nat.{ℕ, zero, suc, _+_, _*_, _-_, _/_, _%_, _≤_, _<_}
+use mathlib.Core.Bool.{Bool, true, false, _&&_, cond}
+use mathlib.Core.List.{List, [], _∷_, _++_, append-assoc, append-nil}
+use mathlib.Core.Option.{some}
+use mathlib.Core.Path.{_≡_, refl, sym, ap, subst, _∙_}
+use native.Mathlib.Omega.{arith}
+use lib.Dec.{T, eqb, leb, ltb, leb→le, ltb→lt, lt→ltb, eqb→eq}
+use lib.IntN.{ℤ, pos, negsuc}
+use lib.ListN.{length, getD, drop}
+use lib.Seq.{drop-cons}
+use borrow.Author.Tests.{eq-eqb, ne-eqb, le-leb}
+use Rattle.rules.specs.Types.{whole}
+use Rattle.rules.specs.Values.{Scalar, num, truth, element, Value, scalar, pair, set, Values, none, _▸_, int, truthValue, bit}
+use Rattle.rules.specs.Values.{scalarTag, scalarPayload, tag, payload, count, weight, weights}
+use Rattle.rules.specs.Tables.{wordAt}
+use Rattle.rules.specs.Cells.{bytes4, twos, signed, inRange, cell, cells, cellsOf, scalarGood, value, weightLimit}
+use Rattle.rules.proofs.OrderLaws.{and-left, and-right}
+use Rattle.rules.proofs.CellsLaws.{Word, Bytes, EncodableScalar, Encodable, Encodables, and-both, byte-at, word-at, word-bytes, bytes-word, twos-signed, signed-range, payload-word, cells-value, value-encodable}
+use Rattle.arena.specs.Code.{cellSize, excess, code, codes, CellsFit, AllFit, partsOf}
+use Rattle.arena.proofs.CodeLaws.{length-code, length-codes}
+use Rattle.buffer.specs.Buffer.{cellFirst, firstCell, codeOf, tagGood, cellGood, scalarsGood, allGood}
+use Rattle.buffer.proofs.Encoded.{value-can}
+
+infixr 40 _before_
+-- Values before other values.
+abbrev pub _before_ : Values → Values → Values
+none before ws = ws
+(v ▸ vs) before ws = v ▸ (vs before ws)
+
+cellsOf-before : (vs ws : Values) → cellsOf (vs before ws) ≡ cellsOf vs ++ cellsOf ws
+unfolding cells
+cellsOf-before none ws = refl
+cellsOf-before (v ▸ vs) ws = ap (λ (l : List ℕ). cells v ++ l) (cellsOf-before vs ws) ∙ sym (append-assoc (cells v) (cellsOf vs) (cellsOf ws))
+
+pub codes-before : (vs ws : Values) → codes (vs before ws) ≡ codes vs ++ codes ws
+unfolding code
+codes-before none ws = refl
+codes-before (v ▸ vs) ws = ap (λ (l : List ℕ). code v ++ l) (codes-before vs ws) ∙ sym (append-assoc (code v) (codes vs) (codes ws))
+
+pub count-before : (vs ws : Values) → count (vs before ws) ≡ count vs + count ws
+count-before none ws = omega arith
+count-before (v ▸ vs) ws = omega (arith, count-before vs ws)
+
+encodable-before : (vs ws : Values) → Encodables vs → Encodables ws → Encodables (vs before ws)
+encodable-before none ws h k = k
+encodable-before (v ▸ vs) ws h k = (h .0, encodable-before vs ws (h .1) k)
+
+encodable-split : (vs ws : Values) → Encodables (vs before ws) → Encodables vs × Encodables ws
+encodable-split none ws h = (tt, h)
+encodable-split (v ▸ vs) ws h = let p = encodable-split vs ws (h .1) in ((h .0, p .0), p .1)
+
+good-before : (gs : List ℕ) (vs ws : Values) → T (allGood gs vs) → T (allGood gs ws) → T (allGood gs (vs before ws))
+good-before gs none ws h k = k
+good-before gs (v ▸ vs) ws h k =
+    let a = scalarsGood gs v in
+    and-both a (allGood gs (vs before ws)) (and-left a (allGood gs vs) h) (good-before gs vs ws (and-right a (allGood gs vs) h) k)
+
+good-split : (gs : List ℕ) (vs ws : Values) → T (allGood gs (vs before ws)) → T (allGood gs vs) × T (allGood gs ws)
+good-split gs none ws h = (tt, h)
+good-split gs (v ▸ vs) ws h =
+    let a = scalarsGood gs v in
+    let p = good-split gs vs ws (and-right a (allGood gs (vs before ws)) h) in
+    (and-both a (allGood gs vs) (and-left a (allGood gs (vs before ws)) h) (p .0), p .1)
+
+-- The first n of a number of values.
+pub record Split (n : ℕ) (vs : Values) : Type 0 where
+  pub front : Values
+  pub back : Values
+  pub whole : vs ≡ front before back
+  pub counted : count front ≡ n
+
+split : (n : ℕ) (vs : Values) → n ≤ count vs → Split n vs
+split zero vs h = record { front = none; back = vs; whole = refl; counted = refl }
+split (suc n) none h = absurd (omega arith)
+split (suc n) (v ▸ vs) h =
+    let s = split n vs (omega arith) in
+    record { front = v ▸ s .front; back = s .back; whole = ap (λ (w : Values). v ▸ w) (s .whole); counted = omega (arith, s .counted) }
+
+-- What follows a value's first cell.
+abbrev pub inner : Value → Values
+inner (scalar s) = none
+inner (pair v w) = v ▸ w ▸ none
+inner (set s) = s
+
+-- A value's first cell as a number.
+abbrev firstOf : Value → ℕ
+firstOf v = tag v * cellSize + twos (payload v)
+
+cells-inner : (v : Value) → cells v ≡ cell v ++ cellsOf (inner v)
+unfolding cells
+cells-inner (scalar s) = sym (append-nil (cell (scalar s)))
+cells-inner (pair v w) = ap (λ (l : List ℕ). cell (pair v w) ++ (cells v ++ l)) (sym (append-nil (cells w)))
+cells-inner (set s) = refl
+
+-- The first cell of a value in the arena.
+number-code : (i : ℤ) → T (inRange i) → codeOf (1 * cellSize + twos i) ≡ 1 * cellSize + excess i
+unfolding codeOf twos excess
+number-code (pos n) t =
+    let h = leb→le n 2147483647 t in
+    rw (eq-eqb ((1 * cellSize + n) / cellSize) 1 (omega arith)) (omega arith)
+number-code (negsuc n) t =
+    let h = leb→le n 2147483647 t in
+    rw (eq-eqb ((1 * cellSize + (4294967295 - n)) / cellSize) 1 (omega arith)) (omega arith)
+
+other-code : (t p : ℕ) → p < cellSize → (t ≡ 1 → ⊥) → codeOf (t * cellSize + p) ≡ t * cellSize + p
+unfolding codeOf
+other-code t p h n = rw (ne-eqb ((t * cellSize + p) / cellSize) 1 (λ e. n (omega arith)))
+
+code-inner : (v : Value) → Encodable v → code v ≡ codeOf (firstOf v) ∷ codes (inner v)
+unfolding code twos
+code-inner (scalar (num whole i)) h = ap (λ (x : ℕ). x ∷ []) (sym (number-code i h))
+code-inner (scalar (truth true)) h = ap (λ (x : ℕ). x ∷ []) (sym (other-code 2 1 (omega arith) (λ e. omega arith)))
+code-inner (scalar (truth false)) h = ap (λ (x : ℕ). x ∷ []) (sym (other-code 2 0 (omega arith) (λ e. omega arith)))
+code-inner (scalar (element g k)) h = ap (λ (x : ℕ). x ∷ []) (sym (other-code 3 (256 * g + k) (h .1) (λ e. omega arith)))
+code-inner (pair v w) h =
+    ap (λ (l : List ℕ). (4 * cellSize) ∷ (code v ++ l)) (sym (append-nil (code w))) ∙
+    ap (λ (x : ℕ). x ∷ (code v ++ (code w ++ []))) (sym (other-code 4 0 (omega arith) (λ e. omega arith)))
+code-inner (set s) h = ap (λ (x : ℕ). x ∷ codes s) (sym (other-code 5 (count s) (h .0) (λ e. omega arith)))
+
+-- The parts of a first cell.
+first-parts : (v : Value) → Encodable v → (firstOf v / cellSize ≡ tag v) × (firstOf v % cellSize ≡ twos (payload v))
+first-parts v h = let w = payload-word v h in (omega arith, omega arith)
+
+parts-by : (x t l : ℕ) → x / cellSize ≡ t → x % cellSize ≡ l → partsOf x ≡ cond (eqb t 4) 2 (cond (eqb t 5) l 0)
+parts-by x t l e f = rw (e, f)
+
+parts-tag : (v : Value) → cond (eqb (tag v) 4) 2 (cond (eqb (tag v) 5) (twos (payload v)) 0) ≡ count (inner v)
+unfolding twos
+parts-tag (scalar (num whole i)) = refl
+parts-tag (scalar (truth b)) = refl
+parts-tag (scalar (element g k)) = refl
+parts-tag (pair v w) = refl
+parts-tag (set s) = refl
+
+parts-inner : (v : Value) → Encodable v → partsOf (firstOf v) ≡ count (inner v)
+parts-inner v h =
+    let p = first-parts v h in
+    parts-by (firstOf v) (tag v) (twos (payload v)) (p .0) (p .1) ∙ parts-tag v
+
+bit-low : (b : Bool) → T (ltb (twos (pos (bit b))) 2)
+unfolding twos
+bit-low true = tt
+bit-low false = tt
+
+good-tag : (gs : List ℕ) (v : Value) → Encodable v → T (scalarsGood gs v) → T (tagGood gs (tag v) (twos (payload v)))
+unfolding twos
+good-tag gs (scalar (num whole i)) h t = tt
+good-tag gs (scalar (truth b)) h t = bit-low b
+good-tag gs (scalar (element g k)) h t =
+    let a : (256 * g + k) % 256 ≡ k = omega arith in
+    let b : (256 * g + k) / 256 ≡ g = omega arith in
+    rw (a, b) t
+good-tag gs (pair v w) h t = tt
+good-tag gs (set s) h t = tt
+
+good-first : (gs : List ℕ) (v : Value) → Encodable v → T (scalarsGood gs v) → T (cellGood gs (firstOf v))
+unfolding cellGood
+good-first gs v h t = let p = first-parts v h in rw (p .0, p .1) (good-tag gs v h t)
+
+good-inner : (gs : List ℕ) (v : Value) → T (scalarsGood gs v) → T (allGood gs (inner v))
+good-inner gs (scalar s) t = tt
+good-inner gs (pair v w) t =
+    let a = scalarsGood gs v in
+    let b = scalarsGood gs w in
+    and-both a (b && true) (and-left a b t) (and-both b true (and-right a b t) tt)
+good-inner gs (set s) t = t
+
+encodable-inner : (v : Value) → Encodable v → Encodables (inner v)
+encodable-inner (scalar s) h = tt
+encodable-inner (pair v w) h = (h .0, (h .1, tt))
+encodable-inner (set s) h = h .1
+
+-- p values, whose cells in the arena are cs, and then `rest`.
+pub record Ahead (gs bs : List ℕ) (p : ℕ) (cs rest : List ℕ) : Type 0 where
+  pub values : Values
+  pub counted : count values ≡ p
+  pub bytes : bs ≡ cellsOf values ++ rest
+  pub coded : codes values ≡ cs
+  pub encodable : Encodables values
+  pub good : T (allGood gs values)
+
+-- The run begins with a cell, that is good, and behind it stand the values that are left.
+pub record Onward (gs bs : List ℕ) (p : ℕ) (cs rest : List ℕ) : Type 0 where
+  pub here : T (cellFirst bs)
+  pub good : T (cellGood gs (firstCell bs))
+  pub left : List ℕ
+  pub coded : cs ≡ codeOf (firstCell bs) ∷ left
+  pub next : Ahead gs (drop 8 bs) (p - 1 + partsOf (firstCell bs)) left rest
+
+first-here : (v : Value) (X : List ℕ) → Word (twos (payload v)) → (cellFirst (cell v ++ X) ≡ true) × (firstCell (cell v ++ X) ≡ firstOf v)
+unfolding cell
+first-here v X h =
+    let p = twos (payload v) in
+    (rw (le-leb 8 (length (cell v ++ X)) (omega arith)), ap (λ (n : ℕ). tag v * cellSize + n) (word-bytes p (tag v ∷ 0 ∷ 0 ∷ 0 ∷ X) h))
+
+first-drop : (v : Value) (X : List ℕ) → drop 8 (cell v ++ X) ≡ X
+unfolding cell
+first-drop v X = refl
+
+-- bytes of a value before others: its first cell, then what follows
+spread : (v : Value) (vs : Values) (rest : List ℕ) → cellsOf (v ▸ vs) ++ rest ≡ cell v ++ (cellsOf (inner v before vs) ++ rest)
+unfolding cells
+spread v vs rest =
+    rw (cells-inner v, cellsOf-before (inner v) vs)
+    (append-assoc (cell v ++ cellsOf (inner v)) (cellsOf vs) rest ∙ append-assoc (cell v) (cellsOf (inner v)) (cellsOf vs ++ rest) ∙
+    ap (λ (l : List ℕ). cell v ++ l) (sym (append-assoc (cellsOf (inner v)) (cellsOf vs) rest)))
+
+spread-code : (v : Value) (vs : Values) → Encodable v → codes (v ▸ vs) ≡ codeOf (firstOf v) ∷ codes (inner v before vs)
+unfolding code
+spread-code v vs h = rw (code-inner v h, codes-before (inner v) vs)
+
+onward-from : (gs bs cs rest : List ℕ) (p : ℕ) (v : Value) (vs : Values) → suc (count vs) ≡ p → bs ≡ cellsOf (v ▸ vs) ++ rest → codes (v ▸ vs) ≡ cs →
+    Encodable v → Encodables vs → T (scalarsGood gs v) → T (allGood gs vs) → Onward gs bs p cs rest
+onward-from gs bs cs rest p v vs c b d e es g gg =
+    let X = cellsOf (inner v before vs) ++ rest in
+    let f : bs ≡ cell v ++ X = b ∙ spread v vs rest in
+    let w = payload-word v e in
+    let q = first-here v X w in
+    let x : firstCell bs ≡ firstOf v = ap firstCell f ∙ q .1 in
+    record {
+      here = subst T (sym (ap cellFirst f ∙ q .0)) tt;
+      good = rw x (good-first gs v e g);
+      left = codes (inner v before vs);
+      coded = rw x (sym d ∙ spread-code v vs e);
+      next = record {
+        values = inner v before vs;
+        counted = rw (x, parts-inner v e) (omega (arith, count-before (inner v) vs));
+        bytes = ap (drop 8) f ∙ first-drop v X;
+        coded = refl;
+        encodable = encodable-before (inner v) vs (encodable-inner v e) es;
+        good = good-before gs (inner v) vs (good-inner gs v g) gg;
+      };
+    }
+
+pub onward : (gs bs : List ℕ) (p : ℕ) (cs rest : List ℕ) → Ahead gs bs p cs rest → 0 < p → Onward gs bs p cs rest
+onward gs bs p cs rest h l = go (h .values) (h .counted) (h .bytes) (h .coded) (h .encodable) (h .good)
+  where
+    go : (vs : Values) → count vs ≡ p → bs ≡ cellsOf vs ++ rest → codes vs ≡ cs → Encodables vs → T (allGood gs vs) → Onward gs bs p cs rest
+    go none c b d e g = absurd (omega arith)
+    go (v ▸ vs) c b d e g =
+        onward-from gs bs cs rest p v vs (omega arith) b d (e .0) (e .1)
+        (and-left (scalarsGood gs v) (allGood gs vs) g) (and-right (scalarsGood gs v) (allGood gs vs) g)
+
+-- A value whose first cell has the tag t and the payload q, and the values behind it.
+record Built (gs : List ℕ) (t q p : ℕ) (vs : Values) : Type 0 where
+  first : Value
+  others : Values
+  whole : vs ≡ inner first before others
+  tagged : tag first ≡ t
+  paid : twos (payload first) ≡ q
+  encodable : Encodable first × Encodables others
+  good : T (scalarsGood gs first) × T (allGood gs others)
+  counted : count others ≡ p
+
+bit-eqb : (q : ℕ) → q < 2 → bit (eqb q 1) ≡ q
+bit-eqb zero h = refl
+bit-eqb (suc zero) h = refl
+bit-eqb (suc (suc n)) h = absurd (omega arith)
+
+abbrev partsBy : ℕ → ℕ → ℕ
+partsBy t q = cond (eqb t 4) 2 (cond (eqb t 5) q 0)
+
+module _ (gs : List ℕ) (q p : ℕ) (w : Word q) where
+  build-pair : (vs : Values) → count vs ≡ p + 2 → q ≡ 0 → Encodables vs → T (allGood gs vs) → Built gs 4 q p vs
+  unfolding twos
+  build-pair none c z e g = absurd (omega arith)
+  build-pair (a ▸ none) c z e g = absurd (omega arith)
+  build-pair (a ▸ b ▸ vs) c z e g =
+      let x = scalarsGood gs a in
+      let y = scalarsGood gs b in
+      let r = and-right x (y && allGood gs vs) g in
+      record {
+        first = pair a b;
+        others = vs;
+        whole = refl;
+        tagged = refl;
+        paid = sym z;
+        encodable = ((e .0, e .1 .0), e .1 .1);
+        good = (and-both x y (and-left x (y && allGood gs vs) g) (and-left y (allGood gs vs) r), and-right y (allGood gs vs) r);
+        counted = omega arith;
+      }
+
+  build-set : (vs : Values) → count vs ≡ p + q → Encodables vs → T (allGood gs vs) → Built gs 5 q p vs
+  unfolding twos
+  build-set vs c e g =
+      let s = split q vs (omega arith) in
+      let e′ = encodable-split (s .front) (s .back) (subst Encodables (s .whole) e) in
+      let g′ = good-split gs (s .front) (s .back) (subst (λ (ws : Values). T (allGood gs ws)) (s .whole) g) in
+      record {
+        first = set (s .front);
+        others = s .back;
+        whole = s .whole;
+        tagged = refl;
+        paid = s .counted;
+        encodable = ((omega (arith, s .counted), e′ .0), e′ .1);
+        good = (g′ .0, g′ .1);
+        counted = omega (arith, s .counted, ap count (s .whole), count-before (s .front) (s .back));
+      }
+
+  build-scalar : (x : Scalar) (t : ℕ) (vs : Values) → scalarTag x ≡ t → twos (scalarPayload x) ≡ q → EncodableScalar x → T (scalarGood gs x) →
+      count vs ≡ p + 0 → Encodables vs → T (allGood gs vs) → Built gs t q p vs
+  build-scalar x t vs a b h k c e g = record {
+    first = scalar x;
+    others = vs;
+    whole = refl;
+    tagged = a;
+    paid = b;
+    encodable = (h, e);
+    good = (k, g);
+    counted = omega arith;
+  }
+
+  build : (t : ℕ) (vs : Values) → T (tagGood gs t q) → count vs ≡ p + partsBy t q → Encodables vs → T (allGood gs vs) → Built gs t q p vs
+  unfolding twos
+  build zero vs k c e g = absurd k
+  build (suc zero) vs k c e g = build-scalar (num whole (signed q)) 1 vs refl (twos-signed q w) (signed-range q w) (signed-range q w) c e g
+  build (suc (suc zero)) vs k c e g = build-scalar (truth (eqb q 1)) 2 vs refl (bit-eqb q (ltb→lt q 2 k)) tt tt c e g
+  build (suc (suc (suc zero))) vs k c e g =
+      build-scalar (element (q / 256) (q % 256)) 3 vs refl (omega arith) (omega arith, omega arith) k c e g
+  build (suc (suc (suc (suc zero)))) vs k c e g = build-pair vs c (eqb→eq q 0 k) e g
+  build (suc (suc (suc (suc (suc zero))))) vs k c e g = build-set vs c e g
+  build (suc (suc (suc (suc (suc (suc n)))))) vs k c e g = absurd k
+
+eight : (bs : List ℕ) → 8 ≤ length bs →
+    bs ≡ getD bs 0 0 ∷ getD bs 1 0 ∷ getD bs 2 0 ∷ getD bs 3 0 ∷ getD bs 4 0 ∷ getD bs 5 0 ∷ getD bs 6 0 ∷ getD bs 7 0 ∷ drop 8 bs
+eight bs h =
+    cc (
+      drop-cons bs 0 0 (omega arith),
+      drop-cons bs 1 0 (omega arith),
+      drop-cons bs 2 0 (omega arith),
+      drop-cons bs 3 0 (omega arith),
+      drop-cons bs 4 0 (omega arith),
+      drop-cons bs 5 0 (omega arith),
+      drop-cons bs 6 0 (omega arith),
+      drop-cons bs 7 0 (omega arith),
+    )
+
+cell-parts : (ws : List ℕ) (a b c d t x y z u : ℕ) (bs : List ℕ) → ws ≡ a ∷ b ∷ c ∷ d ∷ [] → u ≡ t → x ≡ 0 → y ≡ 0 → z ≡ 0 →
+    a ∷ b ∷ c ∷ d ∷ t ∷ x ∷ y ∷ z ∷ bs ≡ (ws ++ (u ∷ 0 ∷ 0 ∷ 0 ∷ [])) ++ bs
+cell-parts ws a b c d t x y z u bs e f g h k = rw (e, f, g, h, k)
+
+-- The eight bytes of a cell are the first cell of a value with its tag and payload.
+cell-bytes : (bs : List ℕ) (v : Value) → Bytes bs → T (cellFirst bs) → tag v ≡ getD bs 4 0 → twos (payload v) ≡ wordAt bs 0 → bs ≡ cell v ++ drop 8 bs
+unfolding cell
+cell-bytes bs v b k t w =
+    let c₁ = leb 8 (length bs) in
+    let c₂ = eqb (getD bs 5 0 + getD bs 6 0 + getD bs 7 0) 0 in
+    let l : 8 ≤ length bs = leb→le 8 (length bs) (and-left c₁ c₂ k) in
+    let z = eqb→eq (getD bs 5 0 + getD bs 6 0 + getD bs 7 0) 0 (and-right c₁ c₂ k) in
+    let z₅ : getD bs 5 0 ≡ 0 = omega arith in
+    let z₆ : getD bs 6 0 ≡ 0 = omega arith in
+    let z₇ : getD bs 7 0 ≡ 0 = omega arith in
+    let q = bytes-word (getD bs 0 0) (getD bs 1 0) (getD bs 2 0) (getD bs 3 0)
+    (byte-at bs 0 b) (byte-at bs 1 b) (byte-at bs 2 b) (byte-at bs 3 b) in
+    eight bs l ∙ cell-parts (bytes4 (twos (payload v))) _ _ _ _ _ _ _ _ _ _ (rw w q) t z₅ z₆ z₇
+
+module _ (gs bs : List ℕ) (p : ℕ) (cs rest : List ℕ) (b : Bytes bs) (k : T (cellFirst bs)) (l : 0 < p) where
+  back-from : (vs : Values) → drop 8 bs ≡ cellsOf vs ++ rest → codes vs ≡ cs → Built gs (getD bs 4 0) (wordAt bs 0) (p - 1) vs →
+      Ahead gs bs p (codeOf (firstCell bs) ∷ cs) rest
+  back-from vs h d r =
+      let v = r .first in
+      let f : firstOf v ≡ firstCell bs = omega (arith, r .tagged, r .paid) in
+      let m : bs ≡ cell v ++ drop 8 bs = cell-bytes bs v b k (r .tagged) (r .paid) in
+      let n : drop 8 bs ≡ cellsOf (inner v before r .others) ++ rest = h ∙ ap (λ (ws : Values). cellsOf ws ++ rest) (r .whole) in
+      record {
+        values = v ▸ r .others;
+        counted = omega (arith, r .counted);
+        bytes = m ∙ ap (λ (l : List ℕ). cell v ++ l) n ∙ sym (spread v (r .others) rest);
+        coded = spread-code v (r .others) (r .encodable .0) ∙ ap (λ (y : ℕ). codeOf y ∷ codes (inner v before r .others)) f ∙
+            ap (λ (l : List ℕ). codeOf (firstCell bs) ∷ l) (sym (ap codes (r .whole)) ∙ d);
+        encodable = r .encodable;
+        good = and-both (scalarsGood gs v) (allGood gs (r .others)) (r .good .0) (r .good .1);
+      }
+
+  -- One cell back.
+  pub back : T (cellGood gs (firstCell bs)) → Ahead gs (drop 8 bs) (p - 1 + partsOf (firstCell bs)) cs rest →
+      Ahead gs bs p (codeOf (firstCell bs) ∷ cs) rest
+  unfolding cellGood
+  back g h =
+      let wd = word-at bs 0 b in
+      let t : firstCell bs / cellSize ≡ getD bs 4 0 = omega arith in
+      let q : firstCell bs % cellSize ≡ wordAt bs 0 = omega arith in
+      let g′ : T (tagGood gs (getD bs 4 0) (wordAt bs 0)) = rw (t, q) at g in
+      let c : count (h .values) ≡ (p - 1) + partsBy (getD bs 4 0) (wordAt bs 0)
+      = h .counted ∙ ap (λ (n : ℕ). p - 1 + n) (parts-by (firstCell bs) (getD bs 4 0) (wordAt bs 0) t q) in
+      back-from (h .values) (h .bytes) (h .coded) (build gs (wordAt bs 0) (p - 1) wd (getD bs 4 0) (h .values) g′ c (h .encodable) (h .good))
+
+-- A value that is read is ahead, and one that is ahead is read.
+pub ahead-read : (gs bs : List ℕ) (v : Value) (rest : List ℕ) → Bytes bs → value bs ≡ some (v, rest) → T (scalarsGood gs v) → Ahead gs bs 1 (code v) rest
+unfolding cells code
+ahead-read gs bs v rest b e g = record {
+  values = v ▸ none;
+  counted = refl;
+  bytes = cells-value bs v rest b e ∙ ap (λ (l : List ℕ). l ++ rest) (sym (append-nil (cells v)));
+  coded = append-nil (code v);
+  encodable = (value-can bs v rest b e, tt);
+  good = and-both (scalarsGood gs v) true g tt;
+}
+
+-- Values that can be encoded fit the arena.
+mutual
+  unfolding excess
+
+  pub encodable-fits : (v : Value) → Encodable v → CellsFit v
+  encodable-fits (scalar (num n (pos i))) h = let l = leb→le i 2147483647 h in (omega arith, omega arith)
+  encodable-fits (scalar (num n (negsuc i))) h = let l = leb→le i 2147483647 h in (omega arith, omega arith)
+  encodable-fits (scalar (truth b)) h = tt
+  encodable-fits (scalar (element g k)) h = h
+  encodable-fits (pair v w) h = (encodable-fits v (h .0), encodable-fits w (h .1))
+  encodable-fits (set s) h = (h .0, encodables-fit s (h .1))
+
+  pub encodables-fit : (vs : Values) → Encodables vs → AllFit vs
+  encodables-fit none h = tt
+  encodables-fit (v ▸ vs) h = (encodable-fits v (h .0), encodables-fit vs (h .1))
+
+pub record OneRead (gs bs cs rest : List ℕ) : Type 0 where
+  pub first : Value
+  pub reads : value bs ≡ some (first, rest)
+  pub coded : code first ≡ cs
+  pub good : T (scalarsGood gs first)
+  pub fits : CellsFit first
+
+pub read-ahead : (gs bs cs rest : List ℕ) → length cs ≤ 256 → Ahead gs bs 1 cs rest → OneRead gs bs cs rest
+unfolding cells code
+read-ahead gs bs cs rest l h = go (h .values) (h .counted) (h .bytes) (h .coded) (h .encodable) (h .good)
+  where
+    go : (vs : Values) → count vs ≡ 1 → bs ≡ cellsOf vs ++ rest → codes vs ≡ cs → Encodables vs → T (allGood gs vs) → OneRead gs bs cs rest
+    go none c b d e g = absurd (omega arith)
+    go (v ▸ w ▸ vs) c b d e g = absurd (omega arith)
+    go (v ▸ none) c b d e g =
+        let d′ : code v ≡ cs = sym (append-nil (code v)) ∙ d in
+        let w : weight v ≤ 256 = omega (arith, length-code v, ap length d′) in
+        record {
+          first = v;
+          reads = ap value (b ∙ ap (λ (l : List ℕ). l ++ rest) (append-nil (cells v))) ∙ value-encodable v rest w (e .0);
+          coded = d′;
+          good = and-left (scalarsGood gs v) true g;
+          fits = encodable-fits v (e .0);
+        }
+
+-- Each value that is ahead takes a cell.
+weight-some : (v : Value) → 1 ≤ weight v
+weight-some (scalar x) = omega arith
+weight-some (pair a b) = omega arith
+weight-some (set ms) = omega arith
+
+count-weights : (vs : Values) → count vs ≤ weights vs
+count-weights none = omega arith
+count-weights (v ▸ vs) = omega (arith, count-weights vs, weight-some v)
+
+pub ahead-long : (gs bs : List ℕ) (p : ℕ) (cs rest : List ℕ) → Ahead gs bs p cs rest → p ≤ length cs
+ahead-long gs bs p cs rest h = omega (arith, h .counted, count-weights (h .values), length-codes (h .values), ap length (h .coded))

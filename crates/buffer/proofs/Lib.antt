@@ -1,0 +1,7 @@
+-- Laws of reading the values buffer.
+pub mod CellAt
+pub mod Encoded
+pub mod Ahead
+pub mod Walk
+pub mod Ordering
+pub mod Sharing

@@ -1,0 +1,351 @@
+-- Whether the members of every set in a value share a type, set by set from the innermost outward.
+use Prim.Native.Nat.{ℕ, zero, suc, _+_, _*_, _-_, _/_, _%_, _≤_, _<_}
+use mathlib.Core.Bool.{Bool, true, false, _&&_, cond}
+use mathlib.Core.List.{List, [], _∷_, _++_, append-nil}
+use mathlib.Core.Path.{_≡_, refl, sym, ap, subst, _∙_}
+use native.Mathlib.Omega.{arith}
+use native.Mathlib.Nat.{add-zero}
+use lib.Dec.{T}
+use lib.ListN.{length, getD}
+use Rattle.rules.specs.Types.{whole, Ty}
+use Rattle.rules.specs.Values.{Scalar, num, truth, element, Value, scalar, pair, set, Values, none, _▸_, scalarTag, tag, count, weight, weights}
+use Rattle.rules.specs.Fits.{Shape, every, _⊓_, shape, shapes, inhabited, typed}
+use Rattle.rules.proofs.FitsLaws.{_⊑_, ⊓-join, ⊓-split, inhabited→some, some→inhabited}
+use Rattle.arena.specs.Code.{cellSize, code, codes, Stands, ValueAt, ValuesAt, CellsFit, AllFit, SomeAt, EndsAt}
+use Rattle.arena.proofs.CodeLaws.{length-code, length-codes}
+use Rattle.arena.proofs.Standing.{stands-front, stands-back}
+use Rattle.fitting.specs.Agree.{meets, TypedAt, RunAt, SomeTyped, SomeRun, AgreedWith, NoEmpty, Full, StandFor}
+use Rattle.fitting.proofs.Sharing.{bool-eq, and-split, and-of, meets→share, share→meets, meets-sym, left-typed, right-typed, with-every, full-first}
+use Rattle.fitting.proofs.Cells.{full-value}
+use Rattle.buffer.specs.Ordered.{Row, Whole}
+use Rattle.buffer.specs.Shared.{AllTyped, TypedRow, SomeTypedRow, Shares, ValueAndRun, TypedHere}
+use Rattle.buffer.proofs.Ahead.{_before_, inner, codes-before, count-before}
+use Rattle.buffer.proofs.Ordering.{cellOf, tag-cell, Left, left-head, left-next, weights-before}
+
+-- Types of values that follow one another.
+shapes-join : (vs ws : Values) (t : Ty) → shapes vs ⊑ t → shapes ws ⊑ t → shapes (vs before ws) ⊑ t
+shapes-join none ws t h k = k
+shapes-join (v ▸ vs) ws t h k =
+    let p = ⊓-split (shape v) (shapes vs) t h in
+    ⊓-join (shape v) (shapes (vs before ws)) t (p .0) (shapes-join vs ws t (p .1) k)
+
+shapes-split : (vs ws : Values) (t : Ty) → shapes (vs before ws) ⊑ t → shapes vs ⊑ t × shapes ws ⊑ t
+shapes-split none ws t h = (tt, h)
+shapes-split (v ▸ vs) ws t h =
+    let p = ⊓-split (shape v) (shapes (vs before ws)) t h in
+    let q = shapes-split vs ws t (p .1) in
+    (⊓-join (shape v) (shapes vs) t (p .0) (q .0), q .1)
+
+before-assoc : (us vs ws : Values) → (us before vs) before ws ≡ us before (vs before ws)
+before-assoc none vs ws = refl
+before-assoc (u ▸ us) vs ws = ap (λ (x : Values). u ▸ x) (before-assoc us vs ws)
+
+before-none : (vs : Values) → vs before none ≡ vs
+before-none none = refl
+before-none (v ▸ vs) = ap (λ (x : Values). v ▸ x) (before-none vs)
+
+fits-split : (vs ws : Values) → AllFit (vs before ws) → AllFit vs × AllFit ws
+fits-split none ws h = (tt, h)
+fits-split (v ▸ vs) ws h = let p = fits-split vs ws (h .1) in ((h .0, p .0), p .1)
+
+typed-split : (vs ws : Values) → AllTyped (vs before ws) → AllTyped vs × AllTyped ws
+typed-split none ws h = (tt, h)
+typed-split (v ▸ vs) ws h = let p = typed-split vs ws (h .1) in ((h .0, p .0), p .1)
+
+typed-before : (vs ws : Values) → AllTyped vs → AllTyped ws → AllTyped (vs before ws)
+typed-before none ws h k = k
+typed-before (v ▸ vs) ws h k = (h .0, typed-before vs ws (h .1) k)
+
+-- The first k of the values vs from `at` on share a type; the next begins at i.
+pub record Prefix (s : List ℕ) (at i k : ℕ) (vs : Values) : Type 0 where
+  pub front : Values
+  pub back : Values
+  pub whole : vs ≡ front before back
+  pub counted : count front ≡ k
+  pub shares : T (inhabited (shapes front))
+  pub there : i ≡ at + weights front
+
+pub prefix-none : (s : List ℕ) (at n : ℕ) (vs : Values) → TypedRow s at n vs → n ≡ 0 → true ≡ inhabited (shapes vs)
+prefix-none s at n none h e = refl
+prefix-none s at n (v ▸ vs) h e = absurd (omega (arith, h .counted))
+
+pub row-some : (s : List ℕ) (at n : ℕ) → SomeTypedRow s at n → (n ≡ 0 → ⊥) → SomeAt s at
+unfolding code
+row-some s at n r z = go (r .0) (r .1)
+  where
+    go : (vs : Values) → TypedRow s at n vs → SomeAt s at
+    go none h = absurd (z (h .counted))
+    go (v ▸ vs) h = record { value = v; stands = stands-front s at (code v) (codes vs) (h .stands); fits = h .fits .0 }
+
+pub prefix-start : (s : List ℕ) (at n end : ℕ) → EndsAt s at end → (n ≡ 0 → ⊥) → (vs : Values) → TypedRow s at n vs → Prefix s at end 1 vs
+unfolding code
+prefix-start s at n end e z none h = absurd (z (h .counted))
+prefix-start s at n end e z (v ▸ vs) h = record {
+  front = v ▸ none;
+  back = vs;
+  whole = refl;
+  counted = refl;
+  shares = with-every (shape v) (h .typed .0);
+  there = omega (arith, e v (stands-front s at (code v) (codes vs) (h .stands)) (h .fits .0));
+}
+
+module _ (s : List ℕ) (at n i k : ℕ) (vs : Values) (row : TypedRow s at n vs) (h : Prefix s at i k vs) where
+  all-stand : ValuesAt s at (h .front before h .back)
+  all-stand = subst (λ (ws : Values). ValuesAt s at ws) (h .whole) (row .stands)
+
+  pub front-run : RunAt s at k (h .front)
+  front-run = record {
+    stands = stands-front s at (codes (h .front)) (codes (h .back)) (subst (λ (l : List ℕ). Stands s at l) (codes-before (h .front) (h .back)) all-stand);
+    fits = fits-split (h .front) (h .back) (subst AllFit (h .whole) (row .fits)) .0;
+    typed = h .shares;
+    counted = h .counted;
+  }
+
+  back-row : TypedRow s i (n - k) (h .back)
+  back-row =
+      let e : i ≡ at + length (codes (h .front)) = omega (arith, h .there, length-codes (h .front)) in
+      record {
+        stands = rw e (stands-back s at (codes (h .front)) (codes (h .back)) (subst (λ (l : List ℕ). Stands s at l) (codes-before (h .front) (h .back)) all-stand));
+        fits = fits-split (h .front) (h .back) (subst AllFit (h .whole) (row .fits)) .1;
+        counted = omega (arith, row .counted, ap count (h .whole), count-before (h .front) (h .back), h .counted);
+        typed = typed-split (h .front) (h .back) (subst AllTyped (h .whole) (row .typed)) .1;
+      }
+
+  pub prefix-end : n ≤ k → true ≡ inhabited (shapes vs)
+  prefix-end l = go (h .back) (h .whole) (back-row .counted)
+    where
+      is : (b : Bool) → T b → true ≡ b
+      is true t = refl
+      is false t = absurd t
+
+      go : (ws : Values) → vs ≡ h .front before ws → n - k ≡ count ws → true ≡ inhabited (shapes vs)
+      go none e c = is (inhabited (shapes vs)) (subst (λ (us : Values). T (inhabited (shapes us))) (sym (e ∙ before-none (h .front))) (h .shares))
+      go (w ▸ ws) e c = absurd (omega arith)
+
+  -- the next value
+  pub prefix-next : k < n → SomeTyped s i
+  unfolding code
+  prefix-next l = go (h .back) back-row
+    where
+      go : (ws : Values) → TypedRow s i (n - k) ws → SomeTyped s i
+      go none r = absurd (omega (arith, r .counted))
+      go (w ▸ ws) r = (w, record { stands = stands-front s i (code w) (codes ws) (r .stands); fits = r .fits .0; typed = r .typed .0 })
+
+  -- The first m values stand for the first k: all of them, or one that has one type only.
+  pub stand-for : (m end : ℕ) (one : Bool) → 0 < k → EndsAt s at end → (one ≡ true → NoEmpty s at end) → m ≡ cond one 1 k → StandFor s at m (h .front)
+  unfolding code
+  stand-for m end false l e f c = record { few = h .front; run = rw c front-run; light = omega arith; same = λ q. refl }
+  stand-for m end true l e f c = go (h .front) front-run
+    where
+      go : (ws : Values) → RunAt s at k ws → StandFor s at m ws
+      go none r = absurd (omega (arith, r .counted))
+      go (w ▸ ws) r =
+          let st : ValueAt s at w = stands-front s at (code w) (codes ws) (r .stands) in
+          let ty = left-typed (shape w) (shapes ws) (r .typed) in
+          let fu : Full w = full-value w s at st (subst (λ (x : ℕ). NoEmpty s at x) (e w st (r .fits .0)) (f refl)) in
+          record {
+            few = w ▸ none;
+            run = record {
+              stands = subst (λ (z : List ℕ). Stands s at z) (sym (append-nil (code w))) st;
+              fits = (r .fits .0, tt);
+              typed = with-every (shape w) ty;
+              counted = sym c;
+            };
+            light = omega arith;
+            same = λ q. sym (full-first w every q fu (with-every (shape w) ty)) ∙ full-first w (shapes ws) q fu (r .typed);
+          }
+
+  module _ (m : ℕ) (l : k < n) (g : StandFor s at m (h .front)) where
+    -- what the test of the next value against those says
+    next-meets : (r : Bool) → AgreedWith s i at m r → (w : Value) (ws : Values) → TypedRow s i (n - k) (w ▸ ws) → r ≡ meets (shapes (h .front)) (shape w)
+    unfolding code
+    next-meets r a w ws b =
+        a w (g .few) (record { stands = stands-front s i (code w) (codes ws) (b .stands); fits = b .fits .0; typed = b .typed .0 }) (g .run) ∙
+        meets-sym (shape w) (shapes (g .few)) ∙ g .same (shape w)
+
+    pub prefix-fails : AgreedWith s i at m false → false ≡ inhabited (shapes vs)
+    prefix-fails a = go (h .back) (h .whole) back-row
+      where
+        none-left : (b : Bool) → (T b → ⊥) → false ≡ b
+        none-left true f = absurd (f tt)
+        none-left false f = refl
+
+        go : (ws : Values) → vs ≡ h .front before ws → TypedRow s i (n - k) ws → false ≡ inhabited (shapes vs)
+        go none e b = absurd (omega (arith, b .counted))
+        go (w ▸ ws) e b =
+            none-left (inhabited (shapes vs)) (λ t.
+            let x = inhabited→some (shapes vs) t in
+            let p = shapes-split (h .front) (w ▸ ws) (x .0) (subst (λ (us : Values). shapes us ⊑ x .0) e (x .1)) in
+            let q = ⊓-split (shape w) (shapes ws) (x .0) (p .1) in
+            subst T (sym (next-meets false a w ws b)) (share→meets (shapes (h .front)) (shape w) (x .0, p .0, q .0)))
+
+    pub prefix-step : (e : ℕ) → EndsAt s i e → AgreedWith s i at m true → Prefix s at e (k + 1) vs
+    unfolding code
+    prefix-step e ends a = go (h .back) (h .whole) back-row
+      where
+        go : (ws : Values) → vs ≡ h .front before ws → TypedRow s i (n - k) ws → Prefix s at e (k + 1) vs
+        go none q b = absurd (omega (arith, b .counted))
+        go (w ▸ ws) q b =
+            let x = meets→share (shapes (h .front)) (shape w) (subst T (next-meets true a w ws b) tt) in
+            let f = h .front before (w ▸ none) in
+            record {
+              front = f;
+              back = ws;
+              whole = q ∙ sym (before-assoc (h .front) (w ▸ none) ws);
+              counted = omega (arith, count-before (h .front) (w ▸ none), h .counted);
+              shares = some→inhabited (shapes f) (x .0) (shapes-join (h .front) (w ▸ none) (x .0) (x .1) (⊓-join (shape w) every (x .0) (x .2) tt));
+              there = omega (arith, h .there, weights-before (h .front) (w ▸ none), ends w (stands-front s i (code w) (codes ws) (b .stands)) (b .fits .0));
+            }
+
+-- What is left of a value after some cells.
+abbrev next : Values → Values
+next none = none
+next (w ▸ ws) = inner w before ws
+
+pub after : Values → ℕ → Values
+after vs zero = vs
+after vs (suc n) = next (after vs n)
+
+weight-some : (v : Value) → 1 ≤ weight v
+weight-some (scalar x) = omega arith
+weight-some (pair a b) = omega arith
+weight-some (set ms) = omega arith
+
+next-left : (s : List ℕ) (i end : ℕ) (ws : Values) → Left s i end ws → i < end → Left s (i + 1) end (next ws)
+next-left s i end none h l = absurd (omega (arith, h .ends))
+next-left s i end (w ▸ ws) h l = left-next s i end w ws h
+
+after-left : (s : List ℕ) (at end : ℕ) (vs : Values) → Left s at end vs → (n : ℕ) → at + n ≤ end → Left s (at + n) end (after vs n)
+unfolding after
+after-left s at end vs h zero l = subst (λ (j : ℕ). Left s j end vs) (sym (add-zero at)) h
+after-left s at end vs h (suc n) l =
+    let e : at + n + 1 ≡ at + suc n = omega arith in
+    subst (λ (j : ℕ). Left s j end (next (after vs n))) e (next-left s (at + n) end (after vs n) (after-left s at end vs h n (omega arith)) (omega arith))
+
+-- A typed value has typed parts and members.
+set-typed : (ms : Values) → T (inhabited (shapes ms)) → AllTyped ms
+set-typed none h = tt
+set-typed (v ▸ vs) h = (left-typed (shape v) (shapes vs) h, set-typed vs (right-typed (shape v) (shapes vs) h))
+
+next-typed : (ws : Values) → AllTyped ws → AllTyped (next ws)
+next-typed none h = tt
+next-typed (scalar x ▸ ws) h = h .1
+next-typed (pair a b ▸ ws) h = let p = and-split (inhabited (shape a)) (inhabited (shape b)) (h .0) in (p .0, (p .1, h .1))
+next-typed (set ms ▸ ws) h = typed-before ms ws (set-typed ms (h .0)) (h .1)
+
+after-typed : (vs : Values) → AllTyped vs → (n : ℕ) → AllTyped (after vs n)
+unfolding after
+after-typed vs h zero = h
+after-typed vs h (suc n) = next-typed (after vs n) (after-typed vs h n)
+
+-- What is left of v from the cell i on is typed.
+abbrev pub TypedFrom : ℕ → ℕ → Value → Type 0
+TypedFrom at i v = AllTyped (after (v ▸ none) (i - at))
+
+start-left : (s : List ℕ) (at end : ℕ) (v : Value) → ValueAt s at v → CellsFit v → EndsAt s at end → Left s at end (v ▸ none)
+unfolding code
+start-left s at end v h f e = record {
+  stands = subst (λ (l : List ℕ). Stands s at l) (sym (append-nil (code v))) h;
+  fits = (f, tt);
+  ends = omega (arith, e v h f);
+}
+
+module _ (s : List ℕ) (at end : ℕ) (v : Value) (h : ValueAt s at v) (f : CellsFit v) (e : EndsAt s at end) where
+  here-left : (i : ℕ) → at ≤ i → i ≤ end → Left s i end (after (v ▸ none) (i - at))
+  here-left i a b =
+      let p : at + (i - at) ≡ i = omega arith in
+      subst (λ (j : ℕ). Left s j end (after (v ▸ none) (i - at))) p (after-left s at end (v ▸ none) (start-left s at end v h f e) (i - at) (omega arith))
+
+  pub from-end : TypedFrom at end v
+  from-end = go (after (v ▸ none) (end - at)) (here-left end (omega (arith, e v h f)) (omega arith))
+    where
+      go : (ws : Values) → Left s end end ws → AllTyped ws
+      go none l = tt
+      go (w ▸ ws) l = absurd (omega (arith, l .ends, weight-some w))
+
+  pub from-start : (i : ℕ) → i ≤ at → TypedFrom at i v → true ≡ typed v
+  unfolding after typed
+  from-start i l t = let z : i - at ≡ 0 = omega arith in is (inhabited (shape v)) (subst (λ (n : ℕ). AllTyped (after (v ▸ none) n)) z t .0)
+    where
+      is : (b : Bool) → T b → true ≡ b
+      is true t = refl
+      is false t = absurd t
+
+  -- one cell back
+  module _ (i x t : ℕ) (low : at < i) (high : i ≤ end) (here : x ≡ getD s (i - 1) 0) (tagged : t ≡ x / cellSize) where
+    left-here : Left s (i - 1) end (after (v ▸ none) (i - 1 - at))
+    left-here = here-left (i - 1) (omega arith) (omega arith)
+
+    next-here : after (v ▸ none) (i - at) ≡ next (after (v ▸ none) (i - 1 - at))
+    unfolding after
+    next-here = let p : i - at ≡ suc (i - 1 - at) = omega arith in ap (after (v ▸ none)) p
+
+    tag-here : (w : Value) (ws : Values) → Left s (i - 1) end (w ▸ ws) → t ≡ tag w
+    tag-here w ws l = tagged ∙ ap (λ (y : ℕ). y / cellSize) (here ∙ left-head s (i - 1) end w ws l) ∙ tag-cell w (l .fits .0)
+
+    pub from-other : (t ≡ 5 → ⊥) → TypedFrom at i v → TypedFrom at (i - 1) v
+    from-other n a = go (after (v ▸ none) (i - 1 - at)) left-here (subst AllTyped next-here a)
+      where
+        go : (ws : Values) → Left s (i - 1) end ws → AllTyped (next ws) → AllTyped ws
+        go none l y = tt
+        go (scalar z ▸ ws) l y = (tt, y)
+        go (pair p q ▸ ws) l y = (and-of (inhabited (shape p)) (inhabited (shape q)) (y .0) (y .1 .0), y .1 .1)
+        go (set ms ▸ ws) l y = absurd (n (tag-here (set ms) ws l))
+
+    module _ (set-here : t ≡ 5) where
+      scalar-tag : (z : Scalar) → scalarTag z ≡ 5 → ⊥
+      scalar-tag (num whole j) q = omega arith
+      scalar-tag (truth b) q = omega arith
+      scalar-tag (element g k) q = omega arith
+
+      members : (n : ℕ) → n ≡ x % cellSize → (ms ws : Values) → Left s (i - 1) end (set ms ▸ ws) → AllTyped ms → TypedRow s i n ms
+      unfolding code
+      members n q ms ws l y =
+          let p : i - 1 + 1 ≡ i = omega arith in
+          record {
+            stands = stands-front s i (codes ms) (codes ws) (subst (λ (c : List ℕ). Stands s i c) (codes-before ms ws)
+                (subst (λ (j : ℕ). Stands s j (codes (ms before ws))) p (left-next s (i - 1) end (set ms) ws l .stands)));
+            fits = l .fits .0 .1;
+            counted = omega (arith, left-head s (i - 1) end (set ms) ws l, l .fits .0 .0);
+            typed = y;
+          }
+
+      pub from-members : (n : ℕ) → n ≡ x % cellSize → TypedFrom at i v → SomeTypedRow s i n
+      from-members n q a = go (after (v ▸ none) (i - 1 - at)) left-here (subst AllTyped next-here a)
+        where
+          go : (ws : Values) → Left s (i - 1) end ws → AllTyped (next ws) → SomeTypedRow s i n
+          go none l y = absurd (omega (arith, l .ends))
+          go (scalar z ▸ ws) l y = absurd (scalar-tag z (sym (tag-here (scalar z) ws l) ∙ set-here))
+          go (pair p r ▸ ws) l y = absurd (omega (arith, tag-here (pair p r) ws l))
+          go (set ms ▸ ws) l y = (ms, members n q ms ws l (typed-split ms ws y .0))
+
+      module _ (n : ℕ) (r : Bool) (q : n ≡ x % cellSize) (k : Shares s i n r) (a : TypedFrom at i v) where
+        pub from-set : r ≡ true → TypedFrom at (i - 1) v
+        from-set z = go (after (v ▸ none) (i - 1 - at)) left-here (subst AllTyped next-here a)
+          where
+            go : (ws : Values) → Left s (i - 1) end ws → AllTyped (next ws) → AllTyped ws
+            go none l y = tt
+            go (scalar b ▸ ws) l y = absurd (scalar-tag b (sym (tag-here (scalar b) ws l) ∙ set-here))
+            go (pair p b ▸ ws) l y = absurd (omega (arith, tag-here (pair p b) ws l))
+            go (set ms ▸ ws) l y =
+                let p = typed-split ms ws y in
+                (subst T (sym z ∙ k ms (members n q ms ws l (p .0))) tt, p .1)
+
+        pub from-fails : r ≡ false → false ≡ typed v
+        unfolding typed
+        from-fails z = none-left (inhabited (shape v)) (λ u. go (after (v ▸ none) (i - 1 - at)) left-here (subst AllTyped next-here a) (after-typed (v ▸ none) (u, tt) (i - 1 - at)))
+          where
+            none-left : (b : Bool) → (T b → ⊥) → false ≡ b
+            none-left true y = absurd (y tt)
+            none-left false y = refl
+
+            go : (ws : Values) → Left s (i - 1) end ws → AllTyped (next ws) → AllTyped ws → ⊥
+            go none l y u = omega (arith, l .ends)
+            go (scalar b ▸ ws) l y u = scalar-tag b (sym (tag-here (scalar b) ws l) ∙ set-here)
+            go (pair p b ▸ ws) l y u = omega (arith, tag-here (pair p b) ws l)
+            go (set ms ▸ ws) l y u = subst T (sym (k ms (members n q ms ws l (typed-split ms ws y .0))) ∙ z) (u .0)
+
+pub end-inside : (s : List ℕ) (at end : ℕ) → SomeAt s at → EndsAt s at end → (at ≤ end) × (end ≤ length s)
+end-inside s at end p e =
+    let x = e (p .value) (p .stands) (p .fits) in
+    (omega arith, omega (arith, p .stands .inside, length-code (p .value)))

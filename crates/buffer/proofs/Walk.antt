@@ -1,0 +1,172 @@
+-- Reading one value cell by cell into the arena.
+use Prim.Native.Nat.{ℕ, zero, suc, _+_, _*_, _-_, _/_, _%_, _≤_, _<_}
+use mathlib.Core.Bool.{Bool, true, false, _&&_, cond}
+use mathlib.Core.List.{List, [], _∷_, _++_, append-assoc, append-nil}
+use mathlib.Core.Option.{some}
+use mathlib.Core.Path.{_≡_, refl, sym, ap, subst, _∙_}
+use native.Mathlib.Omega.{arith}
+use native.Mathlib.Decide.{decLt}
+use lib.Dec.{T, eqb, ltb, ltb→lt}
+use lib.ListN.{length, getD, drop, set as setAt, length-append, length-set, List·getD-eq-default, List·getD-append}
+use lib.Seq.{drop-drop, getD-set-same, getD-set-other, getD-append-add}
+use borrow.Author.Tests.{eq-eqb, ne-eqb}
+use Rattle.rules.specs.Values.{Value, weight}
+use Rattle.rules.specs.Cells.{value}
+use Rattle.rules.proofs.CellsLaws.{Bytes, bytes-drop}
+use Rattle.arena.specs.Code.{code, Stands, Same, partsOf}
+use Rattle.arena.proofs.CodeLaws.{length-code}
+use Rattle.arena.proofs.Standing.{parts-pair, parts-set, parts-scalar}
+use Rattle.buffer.specs.declared.Cursor.{Cursor}
+use Rattle.buffer.specs.declared.Step.{Step}
+use Rattle.buffer.specs.declared.Step.the-variants.{Cell, End}
+use Rattle.buffer.specs.declared.Placed.{Placed}
+use Rattle.buffer.specs.declared.Placed.the-variants.{At, Fault}
+use Rattle.buffer.specs.Buffer.{cellFirst, firstCell, pickStep, stepAt, codeOf, tagGood, cellGood, scalarsGood, GoodCell, Takes, ReadAt, Unread, Places}
+use Rattle.buffer.proofs.Ahead.{Ahead, Onward, onward, back, ahead-read, read-ahead, ahead-long}
+
+-- The entries of a slice of bytes.
+pub bytes-all : (bs : List ℕ) → ((i : ℕ) → i < length bs → getD bs i 0 < 256) → Bytes bs
+bytes-all [] h = tt
+bytes-all (b ∷ bs) h = (h 0 (omega arith), bytes-all bs (λ i l. h (suc i) (omega arith)))
+
+-- Good cells, by the tag.
+pub good-by : (gs : List ℕ) (x t p k : ℕ) → t ≡ x / 4294967296 → p ≡ x % 4294967296 → t ≡ k → tagGood gs k p ≡ cellGood gs x
+unfolding cellGood
+good-by gs x t p k e f g = rw (← g, e, f)
+
+good-last : (gs : List ℕ) (t p : ℕ) → (t ≡ 1 → ⊥) → (t ≡ 2 → ⊥) → (t ≡ 3 → ⊥) → (t ≡ 4 → ⊥) → eqb t 5 ≡ tagGood gs t p
+good-last gs zero p a b c d = refl
+good-last gs (suc zero) p a b c d = absurd (a refl)
+good-last gs (suc (suc zero)) p a b c d = absurd (b refl)
+good-last gs (suc (suc (suc zero))) p a b c d = absurd (c refl)
+good-last gs (suc (suc (suc (suc zero)))) p a b c d = absurd (d refl)
+good-last gs (suc (suc (suc (suc (suc zero))))) p a b c d = refl
+good-last gs (suc (suc (suc (suc (suc (suc n)))))) p a b c d = ne-eqb (suc (suc (suc (suc (suc (suc n)))))) 5 (λ e. omega arith)
+
+pub good-other : (gs : List ℕ) (x t p : ℕ) → t ≡ x / 4294967296 → p ≡ x % 4294967296 → (t ≡ 2 → ⊥) → (t ≡ 3 → ⊥) → (t ≡ 4 → ⊥) → (t ≡ 1 → ⊥) → eqb t 5 ≡ cellGood gs x
+unfolding cellGood
+good-other gs x t p e f b c d a = good-last gs t p a b c d ∙ rw (e, f)
+
+-- The good cell at a place.
+pick-cell : (b : Bool) (x y : ℕ) (n m : Cursor) → Cell x n ≡ pickStep b (Cell y m) → T b × (x ≡ y) × (n ≡ m)
+pick-cell true x y n m e = (tt, (cc), (cc))
+pick-cell false x y n m e = absurd (let z : _≡_ {A = ℕ} 0 1 = cc in omega arith)
+
+pick-end : (b : Bool) (y : ℕ) (m : Cursor) → End ≡ pickStep b (Cell y m) → T b → ⊥
+pick-end true y m e t = let z : _≡_ {A = ℕ} 0 1 = cc in omega arith
+pick-end false y m e t = t
+
+module _ (gs bs : List ℕ) (at : ℕ) where
+  pub take-good : (x : ℕ) (n : Cursor) → Cell x n ≡ stepAt bs at → cellGood gs x ≡ true → GoodCell gs bs at x (n .at)
+  unfolding stepAt
+  take-good x n e g =
+      let p = pick-cell (cellFirst (drop at bs)) x (firstCell (drop at bs)) n (record { at = at + 8 }) e in
+      record { here = p .0; number = p .1; good = subst T (sym g) tt; behind = ap (λ (c : Cursor). c .at) (p .2) }
+
+  pub take-bad : (x : ℕ) (n : Cursor) → Cell x n ≡ stepAt bs at → cellGood gs x ≡ false → Takes gs bs at End
+  unfolding stepAt
+  take-bad x n e g h k =
+      let p = pick-cell (cellFirst (drop at bs)) x (firstCell (drop at bs)) n (record { at = at + 8 }) e in
+      subst T g (subst (λ (y : ℕ). T (cellGood gs y)) (sym (p .1)) k)
+
+  pub take-none : End ≡ stepAt bs at → Takes gs bs at End
+  unfolding stepAt
+  take-none e h k = pick-end (cellFirst (drop at bs)) (firstCell (drop at bs)) (record { at = at + 8 }) e h
+
+-- n cells have been read up to `at` and stand written at `top`; `left` values are still to be read. A value is read at `from`
+-- just where they are.
+pub record Walk (gs bs : List ℕ) (from at left n : ℕ) (s₀ s : List ℕ) (top : ℕ) : Type 0 where
+  pub written : List ℕ
+  pub long : length written ≡ n
+  pub stands : Stands s top written
+  pub frame : Same top s₀ s
+  pub whole : (cs rest : List ℕ) → Ahead gs (drop at bs) left cs rest → Ahead gs (drop from bs) 1 (written ++ cs) rest
+  pub partly : (es rest : List ℕ) → Ahead gs (drop from bs) 1 es rest → (cs : List ℕ) × (es ≡ written ++ cs) × Ahead gs (drop at bs) left cs rest
+
+pub walk-start : (gs bs : List ℕ) (from : ℕ) (s : List ℕ) (top : ℕ) → top ≤ length s → Walk gs bs from from 1 0 s s top
+walk-start gs bs from s top l = record {
+  written = [];
+  long = refl;
+  stands = record { inside = omega arith; cells = λ i p. absurd (omega arith) };
+  frame = record { same = λ i p. refl; kept = refl };
+  whole = λ cs rest a. a;
+  partly = λ es rest a. (es, refl, a);
+}
+
+-- a cell is written behind
+write-stands : (s : List ℕ) (top n x : ℕ) (xs : List ℕ) → length xs ≡ n → top + n < length s → Stands s top xs → Stands (setAt s (top + n) x) top (xs ++ (x ∷ []))
+write-stands s top n x xs l b h = record {
+  inside = omega (arith, length-append xs (x ∷ []), length-set s (top + n) x);
+  cells = λ i p. go i p (decLt i n);
+}
+  where
+    go : (i : ℕ) → i < length (xs ++ (x ∷ [])) → Dec (i < n) → getD (setAt s (top + n) x) (top + i) 0 ≡ getD (xs ++ (x ∷ [])) i 0
+    go i p (yes y) = getD-set-other s (top + n) (top + i) x 0 (λ e. omega arith) ∙ h .cells i (omega arith) ∙ sym (List·getD-append xs (x ∷ []) 0 i (omega arith))
+    go i p (no y) =
+        let e : i ≡ n = omega (arith, length-append xs (x ∷ [])) in
+        let f : i ≡ length xs + 0 = omega arith in
+        ap (λ (j : ℕ). getD (setAt s (top + n) x) (top + j) 0) e ∙ getD-set-same s (top + n) x 0 b ∙ sym (getD-append-add xs (x ∷ []) 0 0) ∙
+        ap (λ (j : ℕ). getD (xs ++ (x ∷ [])) j 0) (sym f)
+
+write-frame : (s₀ s : List ℕ) (top n x : ℕ) → Same top s₀ s → Same top s₀ (setAt s (top + n) x)
+write-frame s₀ s top n x h = record {
+  same = λ i p. getD-set-other s (top + n) i x 0 (λ e. omega arith) ∙ h .same i p;
+  kept = length-set s (top + n) x ∙ h .kept;
+}
+
+module _ (gs bs : List ℕ) (b : Bytes bs) (from at left n : ℕ) (s₀ s : List ℕ) (top : ℕ) (h : Walk gs bs from at left n s₀ s top) (l : 0 < left) where
+  pub walk-step : (x next y k : ℕ) → GoodCell gs bs at x next → y ≡ codeOf x → k ≡ partsOf x → top + n < length s →
+      Walk gs bs from next (left - 1 + k) (n + 1) s₀ (setAt s (top + n) y) top
+  walk-step x next y k g e f m =
+      let ds = drop at bs in
+      let b′ = bytes-drop at bs b in
+      let d : drop next bs ≡ drop 8 ds = ap (λ (j : ℕ). drop j bs) (g .behind) ∙ sym (drop-drop 8 at bs) in
+      let c : y ≡ codeOf (firstCell ds) = e ∙ ap codeOf (g .number) in
+      let q : k ≡ partsOf (firstCell ds) = f ∙ ap partsOf (g .number) in
+      record {
+        written = h .written ++ (y ∷ []);
+        long = omega (arith, length-append (h .written) (y ∷ []), h .long);
+        stands = write-stands s top n y (h .written) (h .long) m (h .stands);
+        frame = write-frame s₀ s top n y (h .frame);
+        whole = λ cs rest a.
+            let a′ : Ahead gs (drop 8 ds) (left - 1 + partsOf (firstCell ds)) cs rest = rw (← d, ← q) a in
+            let r = h .whole (codeOf (firstCell ds) ∷ cs) rest (back gs ds left cs rest b′ (g .here) l (rw (g .number) at (g .good)) a′) in
+            rw (append-assoc (h .written) (y ∷ []) cs, c) r;
+        partly = λ es rest a.
+            let p = h .partly es rest a in
+            let o = onward gs ds left (p .0) rest (p .2) l in (
+              o .left,
+              p .1 ∙ ap (λ (z : List ℕ). h .written ++ z) (o .coded) ∙ ap (λ (z : ℕ). h .written ++ (z ∷ o .left)) (sym c) ∙ sym (append-assoc (h .written) (y ∷ []) (o .left)),
+              rw (d, q) (o .next),
+            );
+      }
+
+  -- no value of at most 256 cells is read
+  pub walk-none : Takes gs bs at End → Unread gs bs from
+  walk-none t v rest e w g =
+      let p = h .partly (code v) rest (ahead-read gs (drop from bs) v rest (bytes-drop from bs b) e g) in
+      let o = onward gs (drop at bs) left (p .0) rest (p .2) l in
+      t (o .here) (o .good)
+
+  pub walk-heavy : 256 < n + left → Unread gs bs from
+  walk-heavy k v rest e w g =
+      let p = h .partly (code v) rest (ahead-read gs (drop from bs) v rest (bytes-drop from bs b) e g) in
+      omega (arith, ahead-long gs (drop at bs) left (p .0) rest (p .2), length-append (h .written) (p .0), ap length (p .1), length-code v, h .long)
+
+pub walk-end : (gs bs : List ℕ) (from at left n : ℕ) (s₀ s : List ℕ) (top : ℕ) → Walk gs bs from at left n s₀ s top → left ≡ 0 → n ≤ 256 →
+    ReadAt gs bs from s top at (top + n)
+unfolding Rattle.rules.specs.Cells.cells code
+walk-end gs bs from at left n s₀ s top h z l =
+    let a : Ahead gs (drop at bs) left [] (drop at bs) = record { values = Rattle.rules.specs.Values.none; counted = sym z; bytes = refl; coded = refl; encodable = tt; good = tt } in
+    let r = read-ahead gs (drop from bs) (h .written ++ []) (drop at bs) (omega (arith, length-append (h .written) [], h .long)) (h .whole [] (drop at bs) a) in
+    let e : code (r .first) ≡ h .written = r .coded ∙ append-nil (h .written) in
+    let w : weight (r .first) ≡ n = sym (length-code (r .first)) ∙ ap length e ∙ h .long in
+    record {
+      first = r .first;
+      reads = r .reads;
+      light = omega arith;
+      good = r .good;
+      fits = r .fits;
+      stands = subst (λ (xs : List ℕ). Stands s top xs) (sym e) (h .stands);
+      ends = omega arith;
+    }

@@ -1,0 +1,54 @@
+use borrow.Author.Needs.{needs}
+use Prim.Native.Nat.{_-_, _≤_}
+use native.Mathlib.Omega.{arith}
+use Rattle.fitting.specs.Agree.{NoEmpty}
+use Rattle.fitting.proofs.Cells.{no-empty-none, no-empty-more, no-empty-end}
+use Rattle.buffer.proofs.full.Statement.{statement}
+use Rattle.buffer.proofs.full.Tie as tie
+use Rattle.buffer.proofs.full.Reads as reads
+use Rattle.buffer.proofs.full.Lts as lts
+
+abbrev Inv-loop : tie.InvT-loop
+Inv-loop s at end i₀ i = (at ≤ i) × (i ≤ end) × NoEmpty s at i
+
+abbrev μ-loop : tie.MeasureT-loop
+μ-loop s at end i₀ i = end - i
+
+loop-holds : tie.Need-loop-holds Inv-loop μ-loop
+loop-holds c = (omega arith, omega arith, no-empty-none _ _)
+
+mul-if1 : tie.Need-mul-if1 Inv-loop μ-loop
+mul-if1 c = omega arith
+
+shared-slice-read-if1 : tie.Need-shared-slice-read-if1 Inv-loop μ-loop
+shared-slice-read-if1 c = omega arith
+
+returns : tie.Need-returns Inv-loop μ-loop
+returns c = λ e. absurd (search needs)
+
+add-i : tie.Need-add-i Inv-loop μ-loop
+add-i c = omega arith
+
+loop-less : tie.Need-loop-less Inv-loop μ-loop
+loop-less c = omega arith
+
+loop-again : tie.Need-loop-again Inv-loop μ-loop
+loop-again c = (omega arith, omega arith, no-empty-more _ _ _ (c .before .before .before .loop .inv .2) (c .if1 .left))
+
+returns-2 : tie.Need-returns-2 Inv-loop μ-loop
+returns-2 c = λ _. no-empty-end _ _ _ _ (c .before .loop .inv .2) (omega arith)
+
+pub full-spec : {M : Type 1} → statement M
+full-spec =
+    tie.close
+    (tie.spec
+    Inv-loop
+    μ-loop
+    loop-holds
+    mul-if1
+    shared-slice-read-if1
+    returns
+    add-i
+    loop-less
+    loop-again
+    returns-2)

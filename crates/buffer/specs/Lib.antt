@@ -1,0 +1,4 @@
+-- The values buffer read into the arena.
+pub mod Buffer
+pub mod Ordered
+pub mod Shared

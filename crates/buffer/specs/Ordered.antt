@@ -1,0 +1,46 @@
+-- Members that rise, in every set of a value.
+use Prim.Native.Nat.{ℕ}
+use mathlib.Core.Bool.{Bool, true, _&&_}
+use mathlib.Core.List.{List}
+use mathlib.Core.Path.{_≡_}
+use Rattle.rules.specs.Values.{Value, scalar, pair, set, Values, none, _▸_, count}
+use Rattle.rules.specs.Cells.{precedes}
+use Rattle.arena.specs.Code.{ValueAt, ValuesAt, CellsFit, AllFit, SomeAt, EndsAt}
+
+-- The members of a set rise.
+abbrev pub inOrder : Values → Bool
+inOrder none = true
+inOrder (v ▸ vs) = precedes v vs && inOrder vs
+
+-- Those of every set inside a value.
+abbrev mutual
+  pub ordered : Value → Bool
+  ordered (scalar s) = true
+  ordered (pair v w) = ordered v && ordered w
+  ordered (set s) = inOrder s && orderedAll s
+
+  pub orderedAll : Values → Bool
+  orderedAll none = true
+  orderedAll (v ▸ vs) = ordered v && orderedAll vs
+
+-- n values stand from `at` on.
+pub record Row (s : List ℕ) (at n : ℕ) (vs : Values) : Type 0 where
+  pub stands : ValuesAt s at vs
+  pub fits : AllFit vs
+  pub counted : n ≡ count vs
+
+abbrev pub SomeRow : List ℕ → ℕ → ℕ → Type 0
+SomeRow s at n = (vs : Values) × Row s at n vs
+
+-- r says whether they rise.
+abbrev pub InOrder : List ℕ → ℕ → ℕ → Bool → Type 0
+InOrder s at n r = (vs : Values) → Row s at n vs → r ≡ inOrder vs
+
+-- A value stands from `at` to `end`.
+pub record Whole (s : List ℕ) (at end : ℕ) : Type 0 where
+  pub value : SomeAt s at
+  pub ends : EndsAt s at end
+
+-- r says whether the members of each of its sets rise.
+abbrev pub Ordered : List ℕ → ℕ → Bool → Type 0
+Ordered s at r = (v : Value) → ValueAt s at v → CellsFit v → r ≡ ordered v

@@ -1,0 +1,295 @@
+// The values buffer of document 01 (refusal 14), read into the arena.
+ghost use mathlib.Core.Path.{_≡_};
+ghost use mathlib.Core.Bool.{true, cond};
+ghost use Prim.Native.Nat.{_+_, _≤_, _<_};
+ghost use lib.ListN.{length, getD};
+ghost use Rattle.rules.specs.Tables.{wordAt};
+ghost use Rattle.buffer.specs.Buffer.{stepAt, zerosAt, codeOf, cellGood, Takes, Places};
+ghost use Rattle.arena.specs.Code.{partsOf, Same};
+ghost use Rattle.buffer.specs.Ordered.{SomeRow, InOrder, Whole, Ordered};
+ghost use Rattle.buffer.specs.Shared.{SomeTypedRow, Shares, ValueAndRun, TypedHere};
+ghost use Rattle.fitting.specs.Agree.{NoEmpty, AgreedWith};
+
+// A place in the values buffer where a cell may begin.
+pub struct Cursor {
+    pub at: usize,
+}
+
+// What stands there: a cell as one number, its tag times 2^32 and its payload, and the place behind it; or none.
+pub enum Step {
+    Cell(u64, Cursor),
+    End,
+}
+
+// A value that has been read into the arena up to `end`, and the place behind it in the buffer; or a fault of the buffer.
+pub enum Placed {
+    At(Cursor, usize),
+    Fault,
+}
+
+fn wide(x: u8) -> u64
+    ensures { λ r. ⌜ (r ≡ x) × (r < 256) ⌝ }
+{
+    x as u64
+}
+
+// Four bytes, least first.
+fn word(values: &[u8], at: usize) -> u64
+    requires { ⌜ at + 4 ≤ length (now values) ⌝ }
+    ensures { λ r. ⌜ (r ≡ wordAt (now (values .entry)) at) × (r < 4294967296) ⌝ }
+{
+    let a = wide(values[at]);
+    let b = wide(values[at + 1]);
+    let c = wide(values[at + 2]);
+    let d = wide(values[at + 3]);
+    a + 256 * b + 65536 * c + 16777216 * d
+}
+
+// Whether the three bytes from `at` on are zero.
+fn zeros(values: &[u8], at: usize) -> bool
+    requires { ⌜ at + 3 ≤ length (now values) ⌝ }
+    ensures { λ r. ⌜ r ≡ zerosAt (now (values .entry)) at ⌝ }
+{
+    let a = wide(values[at]);
+    let b = wide(values[at + 1]);
+    let c = wide(values[at + 2]);
+    a + b + c == 0
+}
+
+impl Cursor {
+    // The cell at this place: eight bytes, the last three zero.
+    pub fn next(self, values: &[u8]) -> Step
+        ensures { λ r. ⌜ r ≡ stepAt (now (values .entry)) (self .at) ⌝ }
+    {
+        let at = self.at;
+        let len = values.len();
+        if len < 8 {
+            return Step::End;
+        }
+        if len - 8 < at {
+            return Step::End;
+        }
+        if !zeros(values, at + 5) {
+            return Step::End;
+        }
+        let payload = word(values, at);
+        let tag = wide(values[at + 4]);
+        Step::Cell(tag * 4294967296 + payload, Cursor { at: at + 8 })
+    }
+}
+
+// The arena's cell for a cell of the buffer: numbers go from two's complement to excess form.
+pub fn code_cell(cell: u64) -> u64
+    ensures { λ r. ⌜ r ≡ codeOf cell ⌝ }
+{
+    if arena::tag(cell) == 1 {
+        return 4294967296 + (arena::low(cell) + 2147483648) % 4294967296;
+    }
+    cell
+}
+
+// The size of the given set g; 0 where there is none.
+fn size(sizes: &[u32], g: u64) -> u64
+    ensures { λ r. ⌜ r ≡ getD (now (sizes .entry)) g 0 ⌝ }
+{
+    let i = g as usize;
+    if i < sizes.len() {
+        return sizes[i] as u64;
+    }
+    0
+}
+
+// Whether a value may have this cell: its tag, a truth below 2, an element that its given set has, no payload of a pair.
+fn good_cell(cell: u64, sizes: &[u32]) -> bool
+    ensures { λ r. ⌜ r ≡ cellGood (now (sizes .entry)) cell ⌝ }
+{
+    let t = arena::tag(cell);
+    let p = arena::low(cell);
+    if t == 2 {
+        return p < 2;
+    }
+    if t == 3 {
+        return p % 256 < size(sizes, p / 256);
+    }
+    if t == 4 {
+        return p == 0;
+    }
+    if t == 1 {
+        return true;
+    }
+    t == 5
+}
+
+// The good cell at a place.
+fn take(from: Cursor, values: &[u8], sizes: &[u32]) -> Step
+    ensures { λ r. ⌜ Takes (now (sizes .entry)) (now (values .entry)) (from .at) r ⌝ }
+{
+    let step = from.next(values);
+    match step {
+        Step::Cell(x, next) => {
+            if good_cell(x, sizes) {
+                return Step::Cell(x, next);
+            }
+            Step::End
+        }
+        Step::End => Step::End,
+    }
+}
+
+// How many values follow a cell as its parts or members.
+fn parts(cell: u64) -> usize
+    ensures { λ r. ⌜ (r ≡ partsOf cell) × (r < 4294967296) ⌝ }
+{
+    let t = arena::tag(cell);
+    if t == 4 {
+        return 2;
+    }
+    if t == 5 {
+        return arena::low(cell) as usize;
+    }
+    0
+}
+
+// Reads one value of at most 256 cells and copies it to the arena at top.
+pub fn copy_value(from: Cursor, values: &[u8], sizes: &[u32], s: &mut [u64], top: usize) -> Placed
+    requires { ⌜ top + 256 ≤ length (now s) ⌝ }
+    ensures { λ r. ⌜ Same top (now (s .entry)) (now (s .exit)) × Places (now (sizes .entry)) (now (values .entry)) (from .at) (now (s .exit)) top r ⌝ }
+{
+    let mut c = from;
+    let mut n: usize = 0;
+    let mut left: usize = 1;
+    while left > 0 {
+        // Each value that is still to be read takes a cell.
+        if left > 256 - n {
+            return Placed::Fault;
+        }
+        let Step::Cell(x, next) = take(c, values, sizes) else {
+            return Placed::Fault;
+        };
+        s[top + n] = code_cell(x);
+        left = left - 1 + parts(x);
+        n += 1;
+        c = next;
+    }
+    Placed::At(c, top + n)
+}
+
+// Whether n values from `at` on rise.
+fn in_order(s: &[u64], at: usize, n: u64) -> bool
+    requires { ⌜ SomeRow (now s) at n ⌝ }
+    ensures { λ r. ⌜ InOrder (now (s .entry)) at n r ⌝ }
+{
+    let mut i = at;
+    let mut left = n;
+    while left > 1 {
+        let e = arena::end_of(s, i);
+        if arena::compare(s, i, e, e) != 0 {
+            return false;
+        }
+        i = e;
+        left -= 1;
+    }
+    true
+}
+
+// Whether the members of every set in the value from `at` to `end` rise.
+pub fn rises(s: &[u64], at: usize, end: usize) -> bool
+    requires { ⌜ Whole (now s) at end ⌝ }
+    ensures { λ r. ⌜ Ordered (now (s .entry)) at r ⌝ }
+{
+    let mut i = at;
+    while i < end {
+        let x = s[i];
+        i += 1;
+        if arena::tag(x) == 5 {
+            if !in_order(s, i, arena::low(x)) {
+                return false;
+            }
+        }
+    }
+    true
+}
+
+// Whether the value at a shares a type with m values from b on, which share one.
+fn with_each(s: &[u64], a: usize, b: usize, m: u64) -> bool
+    requires { ⌜ ValueAndRun (now s) a b m ⌝ }
+    ensures { λ r. ⌜ AgreedWith (now (s .entry)) a b m r ⌝ }
+{
+    let mut j = b;
+    let mut left = m;
+    while left > 0 {
+        if !fitting::agree(s, a, j) {
+            return false;
+        }
+        j = arena::end_of(s, j);
+        left -= 1;
+    }
+    true
+}
+
+// Whether no cell from `at` to `end` is that of an empty set: then a value there has one type only.
+fn full(s: &[u64], at: usize, end: usize) -> bool
+    requires { ⌜ (at ≤ end) × (end ≤ length (now s)) ⌝ }
+    ensures { λ r. ⌜ (r ≡ true → NoEmpty (now (s .entry)) at end) ⌝ }
+{
+    let mut i = at;
+    while i < end {
+        if s[i] == 21474836480 {
+            return false;
+        }
+        i += 1;
+    }
+    true
+}
+
+// How many of k values that share a type stand for all of them: the first, where it has one type only.
+fn few(one: bool, k: u64) -> u64
+    ensures { λ r. ⌜ r ≡ cond one 1 k ⌝ }
+{
+    if one {
+        return 1;
+    }
+    k
+}
+
+// Whether n values from `at` on share a type.
+fn share(s: &[u64], at: usize, n: u64) -> bool
+    requires { ⌜ SomeTypedRow (now s) at n ⌝ }
+    ensures { λ r. ⌜ Shares (now (s .entry)) at n r ⌝ }
+{
+    if n == 0 {
+        return true;
+    }
+    let end = arena::end_of(s, at);
+    let one = full(s, at, end);
+    let mut i = end;
+    let mut k: u64 = 1;
+    while k < n {
+        let m = few(one, k);
+        if !with_each(s, i, at, m) {
+            return false;
+        }
+        i = arena::end_of(s, i);
+        k += 1;
+    }
+    true
+}
+
+// Whether the value from `at` to `end` has a type: in each of its sets, from the innermost outward, the members share one.
+pub fn well_typed(s: &[u64], at: usize, end: usize) -> bool
+    requires { ⌜ Whole (now s) at end ⌝ }
+    ensures { λ r. ⌜ TypedHere (now (s .entry)) at r ⌝ }
+{
+    let mut i = end;
+    while i > at {
+        let next = i;
+        i -= 1;
+        let x = s[i];
+        if arena::tag(x) == 5 {
+            if !share(s, next, arena::low(x)) {
+                return false;
+            }
+        }
+    }
+    true
+}

@@ -1,0 +1,6 @@
+-- Laws of values built in the arena.
+pub mod GrowLaws
+pub mod ScalarLaws
+pub mod WalkLaws
+pub mod PartLaws
+pub mod TakeLaws

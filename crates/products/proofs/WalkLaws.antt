@@ -1,0 +1,317 @@
+-- Walking the members of sets, and the pairs of one value or of a set's members with those of another.
+use Prim.Native.Nat.{ℕ, suc, _+_, _*_, _-_, _%_, _≤_, _<_}
+use mathlib.Core.List.{List, [], _∷_, _++_, map}
+use mathlib.Core.Path.{_≡_, refl, sym, ap, _∙_, subst}
+use native.Mathlib.Omega.{arith}
+use native.Mathlib.Nat.{mul-le-mul-right}
+use lib.ListN.{length, getD, set as setAt}
+use Rattle.rules.specs.Values.{Value, pair, set, Values, none, _▸_, members, values, count, weight, weights}
+use Rattle.rules.specs.Operations.{setOf, pairsOf}
+use Rattle.arena.specs.Code.{cellSize, code, codes, Stands, ValueAt, Same, SomeAt, EndsAt, SetBelow, SomeSet, ValueBelow, Made}
+use Rattle.arena.proofs.CodeLaws.{length-code, length-codes}
+use Rattle.arena.proofs.Standing.{stands-head, stands-tail, stands-front, stands-back, stands-frame, count-weights}
+use Rattle.products.specs.Growing.{Appended, Grown, Front, PairPre, PairPut, rowOf, RowPre, Rows, SquarePre, Squares}
+use Rattle.products.proofs.GrowLaws.{codes-append, count-append, weights-append, grown-start, grown-step, grown-end, grown-left, made-set, made-heavy}
+
+-- The members of a set stand behind its cell, which counts them.
+module _ (s : List ℕ) (top a : ℕ) (vs : Values) (h : SetBelow s top a vs) where
+  pub set-cell : getD s a 0 ≡ 5 * cellSize + count vs
+  unfolding code
+  set-cell = stands-head s a (5 * cellSize + count vs) (codes vs) (h .stands)
+
+  pub front-start : (n : ℕ) → n ≡ getD s a 0 % 4294967296 → Front s top (a + 1) n vs
+  unfolding code
+  front-start n e = record {
+    stands = stands-tail s a (5 * cellSize + count vs) (codes vs) (h .stands);
+    counted = omega (arith, set-cell, h .fine .fits .0);
+    below = omega (arith, h .below);
+    fits = h .fine .fits .1;
+    rises = h .fine .rises;
+    light = omega (arith, h .fine .light);
+  }
+
+  pub set-inside : a < length s
+  set-inside = omega (arith, h .stands .inside, length-code (set vs))
+
+  pub set-some : SomeAt s a
+  set-some = record { value = set vs; stands = h .stands; fits = h .fine .fits }
+
+  pub set-end : (e : ℕ) → EndsAt s a e → e ≡ a + 1 + weights vs
+  set-end e x = omega (arith, x (set vs) (h .stands) (h .fine .fits))
+
+module _ (s : List ℕ) (top at n : ℕ) (v : Value) (vs : Values) (h : Front s top at n (v ▸ vs)) where
+  -- The first member, and those behind it.
+  pub front-value : ValueAt s at v
+  unfolding code
+  front-value = stands-front s at (code v) (codes vs) (h .stands)
+
+  pub front-next : (e m : ℕ) → e ≡ at + weight v → suc m ≡ n → Front s top e m vs
+  unfolding code
+  front-next e m p q = record {
+    stands = rw (p, ← length-code v) (stands-back s at (code v) (codes vs) (h .stands));
+    counted = omega (arith, h .counted);
+    below = omega (arith, h .below);
+    fits = h .fits .1;
+    rises = h .rises .1;
+    light = omega (arith, h .light);
+  }
+
+  pub front-below : ValueBelow s top at v
+  front-below = record { stands = front-value; below = omega (arith, h .below); fits = h .fits .0; light = omega (arith, h .light) }
+
+  pub front-at : SomeAt s at
+  front-at = record { value = v; stands = front-value; fits = h .fits .0 }
+
+pub front-some : (s : List ℕ) (top at n : ℕ) (vs : Values) → Front s top at n vs → 0 < n → SomeAt s at
+front-some s top at n none h l = absurd (omega (arith, h .counted))
+front-some s top at n (v ▸ vs) h l = front-at s top at n v vs h
+
+-- What is below a frame stays.
+pub front-frame : (k : ℕ) (s s′ : List ℕ) (top at n : ℕ) (vs : Values) → Same k s s′ → top ≤ k → Front s top at n vs → Front s′ top at n vs
+front-frame k s s′ top at n vs f l h = record {
+  stands = stands-frame k s s′ at (codes vs) f (omega (arith, length-codes vs, h .below)) (h .stands);
+  counted = h .counted;
+  below = h .below;
+  fits = h .fits;
+  rises = h .rises;
+  light = h .light;
+}
+
+pub value-frame : (k : ℕ) (s s′ : List ℕ) (top at : ℕ) (v : Value) → Same k s s′ → top ≤ k → ValueBelow s top at v → ValueBelow s′ top at v
+value-frame k s s′ top at v f l h = record {
+  stands = stands-frame k s s′ at (code v) f (omega (arith, length-code v, h .below)) (h .stands);
+  below = h .below;
+  fits = h .fits;
+  light = h .light;
+}
+
+-- The pairs of x with the members of a set.
+row-weighs : (x : Value) (ws : Values) → weights (rowOf x ws) ≡ count ws + count ws * weight x + weights ws
+row-weighs x none = omega arith
+row-weighs x (w ▸ ws) = omega (arith, row-weighs x ws)
+
+row-count : (x : Value) (ws : Values) → count (rowOf x ws) ≡ count ws
+row-count x none = refl
+row-count x (w ▸ ws) = omega (arith, row-count x ws)
+
+row-none : (x : Value) → codes (rowOf x none) ≡ []
+unfolding code
+row-none x = refl
+
+row-more : (x w : Value) (ws : Values) → codes (rowOf x (w ▸ ws)) ≡ code (pair x w) ++ codes (rowOf x ws)
+unfolding code
+row-more x w ws = refl
+
+-- `row`
+pub record RowAt (s₀ : List ℕ) (top : ℕ) (x : Value) (ws : Values) (to : ℕ) (s : List ℕ) (i left at : ℕ) : Type 0 where
+  pub rest : Values
+  pub front : Front s₀ top i left rest
+  pub grown : Grown s₀ to s at (codes (rowOf x ws)) (codes (rowOf x rest))
+
+pub row-start : (s : List ℕ) (top : ℕ) (x : Value) (ws : Values) (b m to : ℕ) → to ≤ length s → Front s top b m ws → RowAt s top x ws to s b m to
+row-start s top x ws b m to l h = record { rest = ws; front = h; grown = grown-start s to (codes (rowOf x ws)) l }
+
+module _ (s₀ : List ℕ) (top : ℕ) (x : Value) (ws : Values) (to : ℕ) (s : List ℕ) (i left at : ℕ) (behind : top ≤ to) (h : RowAt s₀ top x ws to s i left at) where
+  row-front : Front s top i left (h .rest)
+  row-front = front-frame to s₀ s top i left (h .rest) (h .grown .appended .frame) behind (h .front)
+
+  pub row-some : 0 < left → SomeAt s i
+  row-some l = front-some s top i left (h .rest) row-front l
+
+  pub row-end : left ≤ 0 → Appended s₀ to s at (codes (rowOf x ws))
+  row-end l = go (h .rest) (h .front) (h .grown)
+    where
+      go : (vs : Values) → Front s₀ top i left vs → Grown s₀ to s at (codes (rowOf x ws)) (codes (rowOf x vs)) → Appended s₀ to s at (codes (rowOf x ws))
+      go none f g = grown-end s₀ to s at (codes (rowOf x ws)) (subst (λ (c : List ℕ). Grown s₀ to s at (codes (rowOf x ws)) c) (row-none x) g)
+      go (w ▸ vs) f g = absurd (omega (arith, f .counted))
+
+  module _ (v k : ℕ) (value : ValueBelow s₀ top v x) (weighs : k ≡ weight x) (more : 0 < left) (e : ℕ) (ends : EndsAt s i e) where
+    pub row-forward : i ≤ e
+    row-forward = go (h .rest) row-front
+      where
+        go : (vs : Values) → Front s top i left vs → i ≤ e
+        go none f = absurd (omega (arith, f .counted))
+        go (w ▸ vs) f = omega (arith, ends w (front-value s top i left w vs f) (f .fits .0))
+
+    pub row-pair : to + weights (rowOf x ws) ≤ length s₀ → PairPre s v k i (e - i) at
+    row-pair room = go (h .rest) row-front (grown-left s₀ to s at (codes (rowOf x ws)) (codes (rowOf x (h .rest))) (h .grown))
+      where
+        go : (vs : Values) → Front s top i left vs → at + length (codes (rowOf x vs)) ≡ to + length (codes (rowOf x ws)) → PairPre s v k i (e - i) at
+        go none f q = absurd (omega (arith, f .counted))
+        go (w ▸ vs) f q =
+            let z : e ≡ i + weight w = ends w (front-value s top i left w vs f) (f .fits .0) in
+            let y : to ≤ at = omega (arith, h .grown .appended .ends) in
+            record {
+              left = omega (arith, value .below);
+              right = omega (arith, f .below);
+              room = omega (arith, length-codes (rowOf x ws), length-codes (rowOf x (w ▸ vs)), h .grown .appended .frame .kept);
+            }
+
+    pub row-next : (s′ : List ℕ) (r : ℕ) → PairPut s v k i (e - i) at s′ r → RowAt s₀ top x ws to s′ e (left - 1) r
+    row-next s′ r put = go (h .rest) (h .front) row-front (h .grown)
+      where
+        go : (vs : Values) → Front s₀ top i left vs → Front s top i left vs → Grown s₀ to s at (codes (rowOf x ws)) (codes (rowOf x vs)) → RowAt s₀ top x ws to s′ e (left - 1) r
+        go none f₀ f g = absurd (omega (arith, f .counted))
+        go (w ▸ vs) f₀ f g =
+            let z : e ≡ i + weight w = ends w (front-value s top i left w vs f) (f .fits .0) in
+            record {
+              rest = vs;
+              front = front-next s₀ top i left w vs f₀ e (left - 1) z (omega arith);
+              grown = grown-step s₀ to s at (codes (rowOf x ws)) (code (pair x w)) (codes (rowOf x vs)) s′ r
+                  (subst (λ (c : List ℕ). Grown s₀ to s at (codes (rowOf x ws)) c) (row-more x w vs) g)
+                  (put x w (value-frame to s₀ s top v x (h .grown .appended .frame) behind value .stands) (front-value s top i left w vs f) weighs (omega arith));
+            }
+
+-- The pairs of the members of two sets.
+abbrev pub square : Values → Values → Values
+square vs ws = values (pairsOf (members vs) (members ws))
+
+square-none : (ws : Values) → codes (square none ws) ≡ []
+unfolding code pairsOf
+square-none ws = refl
+
+square-more : (v : Value) (vs ws : Values) → square (v ▸ vs) ws ≡ values (map (pair v) (members ws) ++ pairsOf (members vs) (members ws))
+unfolding pairsOf
+square-more v vs ws = refl
+
+square-codes : (v : Value) (vs ws : Values) → codes (square (v ▸ vs) ws) ≡ codes (rowOf v ws) ++ codes (square vs ws)
+square-codes v vs ws = ap codes (square-more v vs ws) ∙ codes-append (map (pair v) (members ws)) (pairsOf (members vs) (members ws))
+
+pub square-weighs : (vs ws : Values) → weights (square vs ws) ≡ count vs * count ws + count ws * weights vs + count vs * weights ws
+unfolding pairsOf
+square-weighs none ws = omega arith
+square-weighs (v ▸ vs) ws =
+    weights-append (map (pair v) (members ws)) (pairsOf (members vs) (members ws)) ∙ omega (arith, row-weighs v ws, square-weighs vs ws)
+
+pub square-count : (vs ws : Values) → count (square vs ws) ≡ count vs * count ws
+unfolding pairsOf
+square-count none ws = omega arith
+square-count (v ▸ vs) ws =
+    count-append (map (pair v) (members ws)) (pairsOf (members vs) (members ws)) ∙ omega (arith, row-count v ws, square-count vs ws)
+
+-- `rows`
+pub record SquareAt (s₀ : List ℕ) (top : ℕ) (vs ws : Values) (to : ℕ) (s : List ℕ) (i left at : ℕ) : Type 0 where
+  pub rest : Values
+  pub front : Front s₀ top i left rest
+  pub grown : Grown s₀ to s at (codes (square vs ws)) (codes (square rest ws))
+
+pub square-start : (s : List ℕ) (top : ℕ) (vs ws : Values) (a n to : ℕ) → to ≤ length s → Front s top a n vs → SquareAt s top vs ws to s a n to
+square-start s top vs ws a n to l h = record { rest = vs; front = h; grown = grown-start s to (codes (square vs ws)) l }
+
+module _ (s₀ : List ℕ) (top : ℕ) (vs ws : Values) (to : ℕ) (s : List ℕ) (i left at : ℕ) (behind : top ≤ to) (h : SquareAt s₀ top vs ws to s i left at) where
+  square-front : Front s top i left (h .rest)
+  square-front = front-frame to s₀ s top i left (h .rest) (h .grown .appended .frame) behind (h .front)
+
+  pub square-some : 0 < left → SomeAt s i
+  square-some l = front-some s top i left (h .rest) square-front l
+
+  pub square-end : left ≤ 0 → Appended s₀ to s at (codes (square vs ws))
+  square-end l = go (h .rest) (h .front) (h .grown)
+    where
+      go : (us : Values) → Front s₀ top i left us → Grown s₀ to s at (codes (square vs ws)) (codes (square us ws)) → Appended s₀ to s at (codes (square vs ws))
+      go none f g = grown-end s₀ to s at (codes (square vs ws)) (subst (λ (c : List ℕ). Grown s₀ to s at (codes (square vs ws)) c) (square-none ws) g)
+      go (w ▸ us) f g = absurd (omega (arith, f .counted))
+
+  module _ (b m : ℕ) (others : Front s₀ top b m ws) (more : 0 < left) (e : ℕ) (ends : EndsAt s i e) where
+    pub square-forward : i ≤ e
+    square-forward = go (h .rest) square-front
+      where
+        go : (us : Values) → Front s top i left us → i ≤ e
+        go none f = absurd (omega (arith, f .counted))
+        go (w ▸ us) f = omega (arith, ends w (front-value s top i left w us f) (f .fits .0))
+
+    pub square-row : to + weights (square vs ws) ≤ length s₀ → RowPre s i (e - i) b m at
+    square-row room = go (h .rest) square-front (grown-left s₀ to s at (codes (square vs ws)) (codes (square (h .rest) ws)) (h .grown))
+      where
+        go : (us : Values) → Front s top i left us → at + length (codes (square us ws)) ≡ to + length (codes (square vs ws)) → RowPre s i (e - i) b m at
+        go none f q = absurd (omega (arith, f .counted))
+        go (w ▸ us) f q =
+            let z : e ≡ i + weight w = ends w (front-value s top i left w us f) (f .fits .0) in
+            let y : to ≤ at = omega (arith, h .grown .appended .ends) in
+            record {
+              top = top;
+              first = w;
+              others = ws;
+              value = front-below s top i left w us f;
+              weighs = omega arith;
+              front = front-frame to s₀ s top b m ws (h .grown .appended .frame) behind others;
+              behind = omega arith;
+              room = omega (
+                arith,
+                length-codes (square vs ws),
+                length-codes (square (w ▸ us) ws),
+                h .grown .appended .frame .kept,
+                ap weights (square-more w us ws),
+                weights-append (map (pair w) (members ws)) (pairsOf (members us) (members ws)),
+              );
+            }
+
+    pub square-next : (s′ : List ℕ) (r : ℕ) → Rows s i (e - i) b m at s′ r → SquareAt s₀ top vs ws to s′ e (left - 1) r
+    square-next s′ r put = go (h .rest) (h .front) square-front (h .grown)
+      where
+        go : (us : Values) → Front s₀ top i left us → Front s top i left us → Grown s₀ to s at (codes (square vs ws)) (codes (square us ws)) →
+            SquareAt s₀ top vs ws to s′ e (left - 1) r
+        go none f₀ f g = absurd (omega (arith, f .counted))
+        go (w ▸ us) f₀ f g =
+            let z : e ≡ i + weight w = ends w (front-value s top i left w us f) (f .fits .0) in
+            record {
+              rest = us;
+              front = front-next s₀ top i left w us f₀ e (left - 1) z (omega arith);
+              grown = grown-step s₀ to s at (codes (square vs ws)) (codes (rowOf w ws)) (codes (square us ws)) s′ r
+                  (subst (λ (c : List ℕ). Grown s₀ to s at (codes (square vs ws)) c) (square-codes w us ws) g)
+                  (put top w ws (front-below s top i left w us f) (omega arith) (front-frame to s₀ s top b m ws (h .grown .appended .frame) behind others)
+                  (omega (arith, h .grown .appended .ends)));
+            }
+
+-- `product`
+module _ (s : List ℕ) (top a b d e n m : ℕ) (ends : EndsAt s a d) (ends′ : EndsAt s b e) (low : n ≡ getD s a 0 % 4294967296) (low′ : m ≡ getD s b 0 % 4294967296) where
+  -- numbers and cells of the members
+  pub product-sizes : (vs ws : Values) → SetBelow s top a vs → SetBelow s top b ws →
+      (n ≡ count vs) × (m ≡ count ws) × (d - a - 1 ≡ weights vs) × (e - b - 1 ≡ weights ws) × (n ≤ 255) × (m ≤ 255) × (d - a - 1 ≤ 255) × (e - b - 1 ≤ 255)
+  product-sizes vs ws h k =
+      let f = front-start s top a vs h n low in
+      let g = front-start s top b ws k m low′ in
+      let x = set-end s top a vs h d ends in
+      let y = set-end s top b ws k e ends′ in (
+        f .counted,
+        g .counted,
+        omega arith,
+        omega arith,
+        omega (arith, f .light, f .counted, count-weights vs),
+        omega (arith, g .light, g .counted, count-weights ws),
+        omega (arith, f .light),
+        omega (arith, g .light),
+      )
+
+  product-weighs : (vs ws : Values) → SetBelow s top a vs → SetBelow s top b ws → weights (square vs ws) ≡ n * m + m * (d - a - 1) + n * (e - b - 1)
+  product-weighs vs ws h k =
+      let z = product-sizes vs ws h k in
+      square-weighs vs ws ∙ rw (z .0, z .1, z .2, z .3)
+
+  pub product-heavy : 256 < 1 + n * m + m * (d - a - 1) + n * (e - b - 1) → (vs ws : Values) → SetBelow s top a vs → SetBelow s top b ws →
+      Made top s s (setOf (pairsOf (members vs) (members ws))) 0
+  product-heavy l vs ws h k = made-heavy s top (set (square vs ws)) (omega (arith, product-weighs vs ws h k))
+
+  module _ (room : top + 514 ≤ length s) (light : 1 + n * m + m * (d - a - 1) + n * (e - b - 1) ≤ 256) where
+    pub product-pre : (vs ws : Values) → SetBelow s top a vs → SetBelow s top b ws → SquarePre s (a + 1) n (b + 1) m (top + 1)
+    product-pre vs ws h k = record {
+      top = top;
+      lefts = vs;
+      rights = ws;
+      front = front-start s top a vs h n low;
+      others = front-start s top b ws k m low′;
+      behind = omega arith;
+      room = omega (arith, product-weighs vs ws h k);
+    }
+
+    pub product-made : (s′ : List ℕ) (r : ℕ) → Squares s (a + 1) n (b + 1) m (top + 1) s′ r → (vs ws : Values) → SetBelow s top a vs → SetBelow s top b ws →
+        Made top s (setAt s′ top (21474836480 + n * m)) (setOf (pairsOf (members vs) (members ws))) r
+    product-made s′ r put vs ws h k =
+        let z = product-sizes vs ws h k in
+        made-set s top s′ r (n * m) (square vs ws)
+        (put top vs ws (front-start s top a vs h n low) (front-start s top b ws k m low′) (omega arith))
+        (sym (square-count vs ws ∙ rw (z .0, z .1))) (omega arith) (omega (arith, product-weighs vs ws h k))
+
+-- products of two numbers that are small
+pub small-product : (n m : ℕ) → n ≤ 255 → m ≤ 255 → n * m ≤ 65025
+small-product n m p q = omega (arith, mul-le-mul-right m p)

@@ -1,0 +1,76 @@
+-- `run`: cells that follow one another, behind the cell of their set.
+use borrow.Author.Needs.{needs}
+use Prim.Native.Nat.{ℕ, _+_, _*_, _-_, _≤_, _<_}
+use native.Mathlib.Omega.{arith}
+use Rattle.products.proofs.GrowLaws.{Running, running-start, running-inside, running-next, running-end}
+use Rattle.products.proofs.run.Statement.{statement}
+use Rattle.products.proofs.run.Tie as tie
+
+abbrev Inv-loop : tie.InvT-loop
+Inv-loop s₀ cell n top to₀ i₀ s to i = Running s₀ cell n top s to i
+
+abbrev μ-loop : tie.MeasureT-loop
+μ-loop s₀ cell n top to₀ i₀ s to i = n - i
+
+add-to : tie.Need-add-to Inv-loop μ-loop
+add-to c = search needs
+
+loop-holds : tie.Need-loop-holds Inv-loop μ-loop
+loop-holds c = running-start _ _ _ _ (c .pre .room)
+
+add-s : tie.Need-add-s Inv-loop μ-loop
+add-s c = omega (arith, c .before .before .pre .fits, c .before .before .pre .few, c .loop-test .taken)
+
+mul-s : tie.Need-mul-s Inv-loop μ-loop
+mul-s c = omega (arith, running-inside _ _ _ _ _ _ _ (c .before .loop .inv) (c .before .before .pre .room) (c .before .before .pre .few) (c .loop-test .taken))
+
+slice-write-s : tie.Need-slice-write-s Inv-loop μ-loop
+slice-write-s c = running-inside _ _ _ _ _ _ _ (c .before .loop .inv) (c .before .before .pre .room) (c .before .before .pre .few) (c .loop-test .taken)
+
+add-to-2 : tie.Need-add-to-2 Inv-loop μ-loop
+add-to-2 c = omega (arith, running-inside _ _ _ _ _ _ _ (c .before .loop .inv) (c .before .before .pre .room) (c .before .before .pre .few) (c .loop-test .taken))
+
+add-i : tie.Need-add-i Inv-loop μ-loop
+add-i c = omega (arith, c .before .before .pre .few, c .loop-test .taken)
+
+loop-less : tie.Need-loop-less Inv-loop μ-loop
+loop-less c = omega (arith, c .loop-test .taken)
+
+loop-again : tie.Need-loop-again Inv-loop μ-loop
+loop-again c = running-next _ _ _ _ _ _ _ (c .before .loop .inv) (c .before .before .pre .room) (c .before .before .pre .few) (c .loop-test .taken)
+
+add-s-2 : tie.Need-add-s-2 Inv-loop μ-loop
+add-s-2 c = omega (arith, c .before .before .pre .few)
+
+mul-s-2 : tie.Need-mul-s-2 Inv-loop μ-loop
+mul-s-2 c = omega (arith, c .before .before .pre .room, c .before .loop .inv .grown .appended .frame .kept)
+
+slice-write-s-2 : tie.Need-slice-write-s-2 Inv-loop μ-loop
+slice-write-s-2 c = omega (arith, c .before .before .pre .room, c .before .loop .inv .grown .appended .frame .kept)
+
+same-length : tie.Need-same-length Inv-loop μ-loop
+same-length c = search needs
+
+returns : tie.Need-returns Inv-loop μ-loop
+returns c = λ vs e q. running-end _ _ _ _ _ _ _ (c .before .loop .inv) (c .before .before .pre .room) (c .before .before .pre .few) (c .loop-test .left) vs e q
+
+pub run-spec : {M : Type 1} → statement M
+run-spec =
+    tie.close
+    (tie.spec
+    Inv-loop
+    μ-loop
+    add-to
+    loop-holds
+    add-s
+    mul-s
+    slice-write-s
+    add-to-2
+    add-i
+    loop-less
+    loop-again
+    add-s-2
+    mul-s-2
+    slice-write-s-2
+    same-length
+    returns)

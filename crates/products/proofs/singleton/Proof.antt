@@ -1,0 +1,60 @@
+-- `singleton`: a value copied behind the cell of a set of one member.
+use mathlib.Core.Logic.{inl}
+use native.Mathlib.Omega.{arith}
+use Rattle.products.proofs.GrowLaws.{value-some, value-end, single-made, single-heavy}
+use borrow.Author.Needs.{needs}
+use Rattle.products.proofs.singleton.Statement.{statement}
+use Rattle.products.proofs.singleton.Tie as tie
+
+end-of-requires : tie.Need-end-of-requires
+end-of-requires c κs = value-some _ _ _ _ (c .before .before .pre .0 .1)
+
+sub-n : tie.Need-sub-n
+sub-n c = omega (arith, value-end _ _ _ _ _ (c .before .before .before .pre .0 .1) (c .end-of .ensures))
+
+same-length : tie.Need-same-length
+same-length c = search needs
+
+returns : tie.Need-returns
+returns c = λ v h. single-heavy _ _ _ _ (c .before .end-of .ensures) (c .if1 .taken) v h
+
+add-copy : tie.Need-add-copy
+add-copy c = search needs
+
+copy-requires : tie.Need-copy-requires
+copy-requires c κs = (omega (arith, value-end _ _ _ _ _ (c .before .before .before .before .before .pre .0 .1) (c .before .before .end-of .ensures), c .before .before .before .before .before .pre .0 .1 .below), omega (arith, c .before .if1 .left), inl (omega (arith, value-end _ _ _ _ _ (c .before .before .before .before .before .pre .0 .1) (c .before .before .end-of .ensures), c .before .before .before .before .before .pre .0 .1 .below)))
+
+mul-s : tie.Need-mul-s
+mul-s c = search needs
+
+slice-write-s : tie.Need-slice-write-s
+slice-write-s c = search needs
+
+add-result : tie.Need-add-result
+add-result c = search needs
+
+add-result-2 : tie.Need-add-result-2
+add-result-2 c = search needs
+
+same-length-2 : tie.Need-same-length-2
+same-length-2 c = search needs
+
+returns-2 : tie.Need-returns-2
+returns-2 c = λ v h. single-made _ _ _ _ _ (c .before .before .before .before .before .before .before .before .pre .1) (c .before .before .before .before .before .end-of .ensures) (c .before .before .before .before .if1 .left) (c .before .before .copy .ensures) v h
+
+pub singleton-spec : {M : Type 1} → statement M
+singleton-spec =
+    tie.close
+    (tie.spec
+    end-of-requires
+    sub-n
+    same-length
+    returns
+    add-copy
+    copy-requires
+    mul-s
+    slice-write-s
+    add-result
+    add-result-2
+    same-length-2
+    returns-2)

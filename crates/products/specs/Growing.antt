@@ -1,0 +1,106 @@
+-- Values built in the arena cell by cell, and what each function has built.
+use Prim.Native.Nat.{ℕ, zero, suc, _+_, _-_, _≤_, _<_}
+use mathlib.Core.Bool.{true, false}
+use mathlib.Core.List.{List, [], _∷_, _++_, map}
+use mathlib.Core.Path.{_≡_}
+use lib.IntN.{ℤ, pos, _+ℤ_, _-ℤ_}
+use lib.ListN.{length}
+use Rattle.rules.specs.Values.{Value, pair, set, Values, none, _▸_, int, truthValue, members, values, count, weight, weights}
+use Rattle.rules.specs.Operations.{setOf, upFrom, toCount, elementsFrom, pairsOf}
+use Rattle.arena.specs.Code.{excess, code, codes, Stands, ValueAt, ValuesAt, Same, CellsFit, AllFit, Rises, SetBelow, ValueBelow, Made}
+
+-- The cells cs have been written from `to` to r; below `to` nothing is changed.
+pub record Appended (s : List ℕ) (to : ℕ) (s′ : List ℕ) (r : ℕ) (cs : List ℕ) : Type 0 where
+  pub frame : Same to s s′
+  pub stands : Stands s′ to cs
+  pub ends : r ≡ to + length cs
+
+-- Of the cells `whole`, those before `rest` have been written from `to` to r.
+pub record Grown (s : List ℕ) (to : ℕ) (s′ : List ℕ) (r : ℕ) (whole rest : List ℕ) : Type 0 where
+  pub done : List ℕ
+  pub appended : Appended s to s′ r done
+  pub all : whole ≡ done ++ rest
+
+-- n members of a set, rising, stand from `at` on, below `top`.
+pub record Front (s : List ℕ) (top at n : ℕ) (vs : Values) : Type 0 where
+  pub stands : ValuesAt s at vs
+  pub counted : n ≡ count vs
+  pub below : at + weights vs ≤ top
+  pub fits : AllFit vs
+  pub rises : Rises vs
+  pub light : weights vs ≤ 255
+
+-- A value of one cell.
+abbrev pub PutsCell : List ℕ → ℕ → ℕ → List ℕ → ℕ → Type 0
+PutsCell s top cell s′ r = (v : Value) → code v ≡ cell ∷ [] → Made top s s′ v r
+
+-- n cells that follow one another as numbers, from c on.
+unfoldable pub cellsFrom : ℕ → ℕ → List ℕ
+cellsFrom c zero = []
+cellsFrom c (suc n) = c ∷ cellsFrom (suc c) n
+
+pub record RunPre (s : List ℕ) (cell n top : ℕ) : Type 0 where
+  pub room : top + 514 ≤ length s
+  pub few : n ≤ 255
+  pub fits : cell ≤ 30000000000
+
+-- The set of n scalars with these cells.
+abbrev pub Runs : List ℕ → ℕ → ℕ → ℕ → List ℕ → ℕ → Type 0
+Runs s cell n top s′ r = (vs : Values) → count vs ≡ n → codes vs ≡ cellsFrom cell n → Made top s s′ (set vs) r
+
+abbrev pub Singles : List ℕ → ℕ → ℕ → List ℕ → ℕ → Type 0
+Singles s a top s′ r = (v : Value) → ValueBelow s top a v → Made top s s′ (setOf (v ∷ [])) r
+
+abbrev pub Pairs : List ℕ → ℕ → ℕ → ℕ → List ℕ → ℕ → Type 0
+Pairs s a b top s′ r = (v w : Value) → ValueBelow s top a v → ValueBelow s top b w → Made top s s′ (pair v w) r
+
+-- The pair of a value of n cells at a and one of m cells at b, written at `to`.
+pub record PairPre (s : List ℕ) (a n b m to : ℕ) : Type 0 where
+  pub left : a + n ≤ to
+  pub right : b + m ≤ to
+  pub room : to + 1 + n + m ≤ length s
+
+abbrev pub PairPut : List ℕ → ℕ → ℕ → ℕ → ℕ → ℕ → List ℕ → ℕ → Type 0
+PairPut s a n b m to s′ r = (v w : Value) → ValueAt s a v → ValueAt s b w → n ≡ weight v → m ≡ weight w → Appended s to s′ r (code (pair v w))
+
+abbrev pub Intervals : List ℕ → ℕ → ℕ → ℕ → List ℕ → ℕ → Type 0
+Intervals s x y top s′ r =
+    (i j : ℤ) → CellsFit (int i) → CellsFit (int j) → excess i ≡ x → excess j ≡ y → Made top s s′ (setOf (upFrom i (toCount (j -ℤ i +ℤ pos 1)))) r
+
+-- The pairs of the value of k cells at v with each of m members from b on, written at `to`.
+abbrev pub rowOf : Value → Values → Values
+rowOf x ws = values (map (pair x) (members ws))
+
+pub record RowPre (s : List ℕ) (v k b m to : ℕ) : Type 0 where
+  pub top : ℕ
+  pub first : Value
+  pub others : Values
+  pub value : ValueBelow s top v first
+  pub weighs : k ≡ weight first
+  pub front : Front s top b m others
+  pub behind : top ≤ to
+  pub room : to + weights (rowOf first others) ≤ length s
+
+abbrev pub Rows : List ℕ → ℕ → ℕ → ℕ → ℕ → ℕ → List ℕ → ℕ → Type 0
+Rows s v k b m to s′ r =
+    (top : ℕ) (x : Value) (ws : Values) → ValueBelow s top v x → k ≡ weight x → Front s top b m ws → top ≤ to →
+    Appended s to s′ r (codes (rowOf x ws))
+
+-- The pairs of n members from a on with m members from b on, written at `to`.
+pub record SquarePre (s : List ℕ) (a n b m to : ℕ) : Type 0 where
+  pub top : ℕ
+  pub lefts : Values
+  pub rights : Values
+  pub front : Front s top a n lefts
+  pub others : Front s top b m rights
+  pub behind : top ≤ to
+  pub room : to + weights (values (pairsOf (members lefts) (members rights))) ≤ length s
+
+abbrev pub Squares : List ℕ → ℕ → ℕ → ℕ → ℕ → ℕ → List ℕ → ℕ → Type 0
+Squares s a n b m to s′ r =
+    (top : ℕ) (vs ws : Values) → Front s top a n vs → Front s top b m ws → top ≤ to →
+    Appended s to s′ r (codes (values (pairsOf (members vs) (members ws))))
+
+abbrev pub Multiplies : List ℕ → ℕ → ℕ → ℕ → List ℕ → ℕ → Type 0
+Multiplies s a b top s′ r =
+    (vs ws : Values) → SetBelow s top a vs → SetBelow s top b ws → Made top s s′ (setOf (pairsOf (members vs) (members ws))) r

@@ -1,0 +1,3 @@
+-- Values built in the arena from others.
+pub mod Growing
+pub mod Parts

@@ -1,0 +1,286 @@
+// Values built in the arena from others: scalars, singletons, pairs, intervals, products.
+ghost use mathlib.Core.List.{[], _∷_};
+ghost use mathlib.Core.Bool.{true, false};
+ghost use mathlib.Core.Path.{_≡_};
+ghost use Prim.Native.Nat.{_+_, _*_, _<_, _≤_};
+ghost use lib.ListN.{length};
+ghost use Rattle.rules.specs.Values.{set, none, truthValue};
+ghost use Rattle.rules.specs.Operations.{setOf, elementsFrom};
+ghost use Rattle.arena.specs.Code.{SomeSet, SomeValue, Made};
+ghost use Rattle.products.specs.Growing.{PutsCell, RunPre, Runs, Singles, Pairs, PairPre, PairPut, Intervals, RowPre, Rows, SquarePre, Squares, Multiplies};
+ghost use Rattle.products.specs.Parts.{SomePairs, Domains, Ranges, AddPre, Added, ComparePre, Compares, NewPre, AddedNew, BetterPre, Betters, NextPre, Nexts};
+
+// Members that have been built: where the last one stands (0 where there is none), where they end, their number.
+struct Out {
+    last: usize,
+    to: usize,
+    count: u64,
+}
+
+// A value of one cell.
+pub fn put_cell(s: &mut [u64], top: usize, cell: u64) -> usize
+    requires { ⌜ top + 514 ≤ length (now s) ⌝ }
+    ensures { λ r. ⌜ PutsCell (now (s .entry)) top cell (now (s .exit)) r ⌝ }
+{
+    s[top] = cell;
+    top + 1
+}
+
+pub fn put_empty(s: &mut [u64], top: usize) -> usize
+    requires { ⌜ top + 514 ≤ length (now s) ⌝ }
+    ensures { λ r. ⌜ Made top (now (s .entry)) (now (s .exit)) (set none) r ⌝ }
+{
+    put_cell(s, top, 21474836480)
+}
+
+pub fn singleton(s: &mut [u64], a: usize, top: usize) -> usize
+    requires { ⌜ SomeValue (now s) top a × (top + 514 ≤ length (now s)) ⌝ }
+    ensures { λ r. ⌜ Singles (now (s .entry)) a top (now (s .exit)) r ⌝ }
+{
+    let n = arena::end_of(s, a) - a;
+    if n > 255 {
+        return 0;
+    }
+    arena::copy(s, a, n, top + 1);
+    s[top] = 21474836481;
+    top + 1 + n
+}
+
+// The pair of the value of n cells at a and the value of m cells at b, behind both.
+fn pair_at(s: &mut [u64], a: usize, n: usize, b: usize, m: usize, to: usize) -> usize
+    requires { ⌜ PairPre (now s) a n b m to ⌝ }
+    ensures { λ r. ⌜ PairPut (now (s .entry)) a n b m to (now (s .exit)) r ⌝ }
+{
+    s[to] = 17179869184;
+    arena::copy(s, a, n, to + 1);
+    arena::copy(s, b, m, to + 1 + n);
+    to + 1 + n + m
+}
+
+pub fn pair(s: &mut [u64], a: usize, b: usize, top: usize) -> usize
+    requires { ⌜ SomeValue (now s) top a × SomeValue (now s) top b × (top + 514 ≤ length (now s)) ⌝ }
+    ensures { λ r. ⌜ Pairs (now (s .entry)) a b top (now (s .exit)) r ⌝ }
+{
+    let n = arena::end_of(s, a) - a;
+    let m = arena::end_of(s, b) - b;
+    if n + m > 255 {
+        return 0;
+    }
+    pair_at(s, a, n, b, m, top)
+}
+
+// The set of n scalars whose cells follow one another as numbers.
+fn run(s: &mut [u64], cell: u64, n: u64, top: usize) -> usize
+    requires { ⌜ RunPre (now s) cell n top ⌝ }
+    ensures { λ r. ⌜ Runs (now (s .entry)) cell n top (now (s .exit)) r ⌝ }
+{
+    let mut to = top + 1;
+    let mut i: u64 = 0;
+    while i < n {
+        s[to] = cell + i;
+        to += 1;
+        i += 1;
+    }
+    s[top] = 21474836480 + n;
+    to
+}
+
+// The n elements of the given set g.
+pub fn elements(s: &mut [u64], g: u64, n: u64, top: usize) -> usize
+    requires { ⌜ (g < 16777216) × (n ≤ 32) × (top + 514 ≤ length (now s)) ⌝ }
+    ensures { λ r. ⌜ Made top (now (s .entry)) (now (s .exit)) (setOf (elementsFrom g 0 n)) r ⌝ }
+{
+    run(s, 12884901888 + 256 * g, n, top)
+}
+
+pub fn booleans(s: &mut [u64], top: usize) -> usize
+    requires { ⌜ top + 514 ≤ length (now s) ⌝ }
+    ensures { λ r. ⌜ Made top (now (s .entry)) (now (s .exit)) (setOf (truthValue false ∷ truthValue true ∷ [])) r ⌝ }
+{
+    run(s, 8589934592, 2, top)
+}
+
+// The integers from x to y, numbers in excess form.
+pub fn interval(s: &mut [u64], x: u64, y: u64, top: usize) -> usize
+    requires { ⌜ (x < 4294967296) × (y < 4294967296) × (top + 514 ≤ length (now s)) ⌝ }
+    ensures { λ r. ⌜ Intervals (now (s .entry)) x y top (now (s .exit)) r ⌝ }
+{
+    if x > y {
+        return run(s, 4294967296 + x, 0, top);
+    }
+    let n = y - x;
+    if n > 254 {
+        return 0;
+    }
+    run(s, 4294967296 + x, n + 1, top)
+}
+
+// The pairs of the value at v, of k cells, with each of m members from b on.
+fn row(s: &mut [u64], v: usize, k: usize, b: usize, m: u64, to: usize) -> usize
+    requires { ⌜ RowPre (now s) v k b m to ⌝ }
+    ensures { λ r. ⌜ Rows (now (s .entry)) v k b m to (now (s .exit)) r ⌝ }
+{
+    let mut i = b;
+    let mut left = m;
+    let mut at = to;
+    while left > 0 {
+        let e = arena::end_of(s, i);
+        at = pair_at(s, v, k, i, e - i, at);
+        i = e;
+        left -= 1;
+    }
+    at
+}
+
+// The pairs of n members from a on with m members from b on.
+fn rows(s: &mut [u64], a: usize, n: u64, b: usize, m: u64, to: usize) -> usize
+    requires { ⌜ SquarePre (now s) a n b m to ⌝ }
+    ensures { λ r. ⌜ Squares (now (s .entry)) a n b m to (now (s .exit)) r ⌝ }
+{
+    let mut i = a;
+    let mut left = n;
+    let mut at = to;
+    while left > 0 {
+        let e = arena::end_of(s, i);
+        at = row(s, i, e - i, b, m, at);
+        i = e;
+        left -= 1;
+    }
+    at
+}
+
+// The weight of the product of n members of k cells and m members of l cells.
+fn product_weight(n: usize, k: usize, m: usize, l: usize) -> usize
+    requires { ⌜ (n ≤ 255) × (k ≤ 255) × (m ≤ 255) × (l ≤ 255) ⌝ }
+    ensures { λ r. ⌜ r ≡ 1 + n * m + m * k + n * l ⌝ }
+{
+    1 + n * m + m * k + n * l
+}
+
+pub fn product(s: &mut [u64], a: usize, b: usize, top: usize) -> usize
+    requires { ⌜ SomeSet (now s) top a × SomeSet (now s) top b × (top + 514 ≤ length (now s)) ⌝ }
+    ensures { λ r. ⌜ Multiplies (now (s .entry)) a b top (now (s .exit)) r ⌝ }
+{
+    let n = arena::low(s[a]);
+    let m = arena::low(s[b]);
+    let k = arena::end_of(s, a) - a - 1;
+    let l = arena::end_of(s, b) - b - 1;
+    if product_weight(n as usize, k, m as usize, l) > 256 {
+        return 0;
+    }
+    let end = rows(s, a + 1, n, b + 1, m, top + 1);
+    s[top] = 21474836480 + n * m;
+    end
+}
+
+// Copies the run from `from` to `end` behind what has been built, as its next member.
+fn add(s: &mut [u64], from: usize, end: usize, o: Out) -> Out
+    requires { ⌜ AddPre (now s) from end o ⌝ }
+    ensures { λ r. ⌜ Added (now (s .entry)) from end o (now (s .exit)) r ⌝ }
+{
+    let n = end - from;
+    let to = o.to;
+    arena::copy(s, from, n, to);
+    Out {
+        last: to,
+        to: to + n,
+        count: o.count + 1,
+    }
+}
+
+// Whether the value at p, which ends at `end`, compares to the one at q with the answer c; `none` where q is 0.
+fn compares(s: &[u64], p: usize, end: usize, q: usize, c: u8, none: bool) -> bool
+    requires { ⌜ ComparePre (now s) p end q ⌝ }
+    ensures { λ r. ⌜ Compares (now (s .entry)) p q c none r ⌝ }
+{
+    if q == 0 {
+        return none;
+    }
+    let d = arena::compare(s, p, end, q);
+    d == c
+}
+
+// The same unless it equals the last member.
+fn add_new(s: &mut [u64], from: usize, end: usize, o: Out) -> Out
+    requires { ⌜ NewPre (now s) from end o ⌝ }
+    ensures { λ r. ⌜ AddedNew (now (s .entry)) from end o (now (s .exit)) r ⌝ }
+{
+    if compares(s, from, end, o.last, 1, false) {
+        return o;
+    }
+    add(s, from, end, o)
+}
+
+// The value at p where it is greater than the one at `last` and less than the one at `best`, and else the one at `best`;
+// 0 stands for none.
+fn better(s: &[u64], p: usize, last: usize, best: usize) -> usize
+    requires { ⌜ BetterPre (now s) p last best ⌝ }
+    ensures { λ r. ⌜ Betters (now (s .entry)) p last best r ⌝ }
+{
+    let end = arena::end_of(s, p);
+    if !compares(s, p, end, last, 2, true) {
+        return best;
+    }
+    if !compares(s, p, end, best, 0, true) {
+        return best;
+    }
+    p
+}
+
+// Where the least right part stands that is greater than the value at `last`, of n pairs from `at` on; 0 where there is none.
+fn next_right(s: &[u64], at: usize, n: u64, last: usize) -> usize
+    requires { ⌜ NextPre (now s) at n last ⌝ }
+    ensures { λ r. ⌜ Nexts (now (s .entry)) at n last r ⌝ }
+{
+    let mut i = at;
+    let mut left = n;
+    let mut best: usize = 0;
+    while left > 0 {
+        let p = arena::end_of(s, i + 1);
+        best = better(s, p, last, best);
+        i = arena::end_of(s, p);
+        left -= 1;
+    }
+    best
+}
+
+pub fn range(s: &mut [u64], a: usize, top: usize) -> usize
+    requires { ⌜ SomePairs (now s) top a × (top + 514 ≤ length (now s)) ⌝ }
+    ensures { λ r. ⌜ Ranges (now (s .entry)) a top (now (s .exit)) r ⌝ }
+{
+    let n = arena::low(s[a]);
+    let mut o = Out {
+        last: 0,
+        to: top + 1,
+        count: 0,
+    };
+    let mut p = next_right(s, a + 1, n, 0);
+    while p > 0 {
+        let e = arena::end_of(s, p);
+        o = add(s, p, e, o);
+        p = next_right(s, a + 1, n, o.last);
+    }
+    s[top] = 21474836480 + o.count;
+    o.to
+}
+
+pub fn domain(s: &mut [u64], a: usize, top: usize) -> usize
+    requires { ⌜ SomePairs (now s) top a × (top + 514 ≤ length (now s)) ⌝ }
+    ensures { λ r. ⌜ Domains (now (s .entry)) a top (now (s .exit)) r ⌝ }
+{
+    let mut left = arena::low(s[a]);
+    let mut i = a + 1;
+    let mut o = Out {
+        last: 0,
+        to: top + 1,
+        count: 0,
+    };
+    while left > 0 {
+        let e = arena::end_of(s, i + 1);
+        o = add_new(s, i + 1, e, o);
+        i = arena::end_of(s, e);
+        left -= 1;
+    }
+    s[top] = 21474836480 + o.count;
+    o.to
+}
