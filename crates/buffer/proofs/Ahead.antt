@@ -5,18 +5,18 @@ use mathlib.Core.List.{List, [], _∷_, _++_, append-assoc, append-nil}
 use mathlib.Core.Option.{some}
 use mathlib.Core.Path.{_≡_, refl, sym, ap, subst, _∙_}
 use native.Mathlib.Omega.{arith}
-use lib.Dec.{T, eqb, leb, ltb, leb→le, ltb→lt, lt→ltb, eqb→eq}
+use lib.Dec.{T, eqb, leb, ltb, leb→le, ltb→lt, eqb→eq}
 use lib.IntN.{ℤ, pos, negsuc}
 use lib.ListN.{length, getD, drop}
 use lib.Seq.{drop-cons}
 use borrow.Author.Tests.{eq-eqb, ne-eqb, le-leb}
 use Rattle.rules.specs.Types.{whole}
-use Rattle.rules.specs.Values.{Scalar, num, truth, element, Value, scalar, pair, set, Values, none, _▸_, int, truthValue, bit}
-use Rattle.rules.specs.Values.{scalarTag, scalarPayload, tag, payload, count, weight, weights}
+use Rattle.rules.specs.Values.{Scalar, num, truth, element, Value, scalar, pair, set, Values, none, _▸_, bit}
+use Rattle.rules.specs.Values.{scalarTag, scalarPayload, tag, payload, count, weight}
 use Rattle.rules.specs.Tables.{wordAt}
-use Rattle.rules.specs.Cells.{bytes4, twos, signed, inRange, cell, cells, cellsOf, scalarGood, value, weightLimit}
+use Rattle.rules.specs.Cells.{bytes4, twos, signed, inRange, cell, cells, cellsOf, scalarGood, value}
 use Rattle.rules.proofs.OrderLaws.{and-left, and-right}
-use Rattle.rules.proofs.CellsLaws.{Word, Bytes, EncodableScalar, Encodable, Encodables, and-both, byte-at, word-at, word-bytes, bytes-word, twos-signed, signed-range, payload-word, cells-value, value-encodable}
+use Rattle.rules.proofs.CellsLaws.{Word, Bytes, EncodableScalar, Encodable, Encodables, and-both, byte-at, word-at, word-bytes, bytes-word, twos-signed, signed-range, payload-word, cells-value, value-encodable, count-weights}
 use Rattle.arena.specs.Code.{cellSize, excess, code, codes, CellsFit, AllFit, partsOf}
 use Rattle.arena.proofs.CodeLaws.{length-code, length-codes}
 use Rattle.buffer.specs.Buffer.{cellFirst, firstCell, codeOf, tagGood, cellGood, scalarsGood, allGood}
@@ -440,14 +440,5 @@ read-ahead gs bs cs rest l h = go (h .values) (h .counted) (h .bytes) (h .coded)
         }
 
 -- Each value that is ahead takes a cell.
-weight-some : (v : Value) → 1 ≤ weight v
-weight-some (scalar x) = omega arith
-weight-some (pair a b) = omega arith
-weight-some (set ms) = omega arith
-
-count-weights : (vs : Values) → count vs ≤ weights vs
-count-weights none = omega arith
-count-weights (v ▸ vs) = omega (arith, count-weights vs, weight-some v)
-
 pub ahead-long : (gs bs : List ℕ) (p : ℕ) (cs rest : List ℕ) → Ahead gs bs p cs rest → p ≤ length cs
 ahead-long gs bs p cs rest h = omega (arith, h .counted, count-weights (h .values), length-codes (h .values), ap length (h .coded))

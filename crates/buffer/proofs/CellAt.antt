@@ -1,5 +1,5 @@
 -- A cell at a place of the buffer, and its form in the arena.
-use Prim.Native.Nat.{ℕ, zero, suc, _+_, _*_, _-_, _/_, _%_, _≤_, _<_}
+use Prim.Native.Nat.{ℕ, _+_, _*_, _-_, _/_, _%_, _≤_, _<_}
 use mathlib.Core.Bool.{Bool, true, false, _&&_}
 use mathlib.Core.List.{List}
 use mathlib.Core.Path.{_≡_, refl, sym, ap, _∙_}
@@ -8,12 +8,11 @@ use native.Mathlib.Nat.{add-zero}
 use lib.Dec.{eqb, leb}
 use lib.ListN.{length, getD, drop, length-drop}
 use lib.Seq.{getD-drop}
-use borrow.Author.Tests.{le-leb, lt-leb, eq-eqb, ne-eqb, eqb-true, eqb-false}
+use borrow.Author.Tests.{le-leb, lt-leb, eq-eqb, ne-eqb}
 use Rattle.rules.specs.Tables.{wordAt}
-use Rattle.buffer.specs.declared.Cursor.{Cursor}
 use Rattle.buffer.specs.declared.Step.{Step}
 use Rattle.buffer.specs.declared.Step.the-variants.{Cell, End}
-use Rattle.buffer.specs.Buffer.{zerosAt, cellFirst, firstCell, pickStep, stepAt, codeOf}
+use Rattle.buffer.specs.Buffer.{zerosAt, pickStep, stepAt, codeOf}
 
 -- a byte further on
 ahead : (bs : List ℕ) (i k : ℕ) → getD bs (i + k) 0 ≡ getD bs (k + i) 0

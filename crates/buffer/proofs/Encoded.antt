@@ -1,15 +1,15 @@
 -- Every value that bytes read as can be encoded.
-use Prim.Native.Nat.{ℕ, zero, suc, _+_, _*_, _/_, _%_, _≤_, _<_}
+use Prim.Native.Nat.{ℕ, zero, suc, _+_, _/_, _%_}
 use mathlib.Core.Bool.{Bool, true, false, _&&_}
-use mathlib.Core.List.{List, _++_}
+use mathlib.Core.List.{List}
 use mathlib.Core.Option.{none as nothing, some}
-use mathlib.Core.Path.{_≡_, refl, sym, subst}
+use mathlib.Core.Path.{_≡_, refl, subst}
 use native.Mathlib.Omega.{arith}
-use lib.Dec.{T, eqb, leb, ltb}
+use lib.Dec.{eqb, leb, ltb}
 use lib.ListN.{length, getD, drop}
-use Rattle.rules.specs.Values.{Scalar, num, truth, element, Value, scalar, pair, set, Values, none, _▸_, int, truthValue, count, weight}
+use Rattle.rules.specs.Values.{element, Value, scalar, pair, set, Values, none, _▸_, int, truthValue, count}
 use Rattle.rules.specs.Tables.{wordAt}
-use Rattle.rules.specs.Cells.{signed, cells, cellsOf, Read, _andThen_, onlyIf, several, byTag, valueTo, value, weightLimit}
+use Rattle.rules.specs.Cells.{signed, cells, Read, _andThen_, onlyIf, several, byTag, valueTo, value, weightLimit}
 use Rattle.rules.proofs.CellsLaws.{Word, Bytes, Encodable, Encodables, signed-range, word-at, bytes-after, bytes-drop, Right, valueTo-right}
 
 onlyIf-some : {A : Type 0} (b : Bool) (r : Read A) (y : A × List ℕ) → onlyIf b r ≡ some y → r ≡ some y

@@ -5,3 +5,4 @@ pub mod Ahead
 pub mod Walk
 pub mod Ordering
 pub mod Sharing
+pub mod Loading

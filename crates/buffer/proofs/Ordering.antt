@@ -1,17 +1,17 @@
 -- Whether the members of every set in a value rise, set by set.
-use Prim.Native.Nat.{ℕ, zero, suc, _+_, _*_, _-_, _/_, _%_, _≤_, _<_, Ordering, Ordering·lt, Ordering·eq, Ordering·gt}
+use Prim.Native.Nat.{ℕ, _+_, _*_, _-_, _/_, _%_, _≤_, _<_, Ordering, Ordering·lt, Ordering·eq, Ordering·gt}
 use mathlib.Core.Bool.{Bool, true, false, _&&_}
-use mathlib.Core.List.{List, [], _∷_, _++_, append-assoc, append-nil}
+use mathlib.Core.List.{List, _∷_, _++_, append-nil}
 use mathlib.Core.Path.{_≡_, refl, sym, ap, subst, _∙_}
 use native.Mathlib.Omega.{arith}
-use lib.ListN.{length, getD, length-append}
+use lib.ListN.{length, getD}
 use Rattle.rules.specs.Types.{whole}
 use Rattle.rules.specs.Values.{Scalar, num, truth, element, Value, scalar, pair, set, Values, none, _▸_, scalarTag, tag, bit, count, weight, weights, order, isLt, before}
-use Rattle.rules.specs.Cells.{precedes}
-use Rattle.arena.specs.Code.{cellSize, excess, scalarLow, code, codes, Stands, ValueAt, ValuesAt, ScalarFits, CellsFit, AllFit, orderCode, SomeAt, EndsAt, Compared}
+use Rattle.arena.specs.Code.{cellSize, excess, scalarLow, code, codes, Stands, ValueAt, ValuesAt, CellsFit, AllFit, orderCode, SomeAt, EndsAt, Compared}
 use Rattle.arena.proofs.CodeLaws.{length-code, length-codes}
 use Rattle.arena.proofs.Standing.{stands-head, stands-tail, stands-front, stands-back}
-use Rattle.buffer.specs.Ordered.{inOrder, ordered, orderedAll, Row, SomeRow, InOrder, Whole, Ordered}
+use Rattle.fitting.proofs.Cells.{weight-pos}
+use Rattle.buffer.specs.Ordered.{inOrder, ordered, orderedAll, Row, SomeRow, InOrder}
 use Rattle.buffer.proofs.Ahead.{_before_, inner, codes-before}
 
 and-false : (a : Bool) → (a && false) ≡ false
@@ -185,6 +185,20 @@ left-next s i end w ws h =
 pub left-inside : (s : List ℕ) (i end : ℕ) (ws : Values) → Left s i end ws → (end ≤ length s) × (i ≤ end)
 left-inside s i end ws h = (omega (arith, h .ends, h .stands .inside, length-codes ws), omega (arith, h .ends))
 
+-- a value's first cell
+pub left-start : (s : List ℕ) (at end : ℕ) (v : Value) → ValueAt s at v → CellsFit v → EndsAt s at end → Left s at end (v ▸ none)
+unfolding code
+left-start s at end v h f e = record {
+  stands = subst (λ (l : List ℕ). Stands s at l) (sym (append-nil (code v))) h;
+  fits = (f, tt);
+  ends = omega (arith, e v h f);
+}
+
+pub scalar-tag : (x : Scalar) → scalarTag x ≡ 5 → ⊥
+scalar-tag (num whole j) e = omega arith
+scalar-tag (truth b) e = omega arith
+scalar-tag (element g k) e = omega arith
+
 -- The sets of v are ordered just where those of what is left of it are.
 pub record Sorted (s : List ℕ) (i end : ℕ) (v : Value) : Type 0 where
   pub rest : Values
@@ -192,14 +206,9 @@ pub record Sorted (s : List ℕ) (i end : ℕ) (v : Value) : Type 0 where
   pub same : ordered v ≡ orderedAll rest
 
 pub sorted-start : (s : List ℕ) (at end : ℕ) (v : Value) → ValueAt s at v → CellsFit v → EndsAt s at end → Sorted s at end v
-unfolding code
 sorted-start s at end v h f e = record {
   rest = v ▸ none;
-  left = record {
-    stands = subst (λ (l : List ℕ). Stands s at l) (sym (append-nil (code v))) h;
-    fits = (f, tt);
-    ends = omega (arith, e v h f);
-  };
+  left = left-start s at end v h f e;
   same = and-true (ordered v);
 }
   where
@@ -214,14 +223,9 @@ module _ (s : List ℕ) (i end : ℕ) (v : Value) (h : Sorted s i end v) where
   pub sorted-end : end ≤ i → true ≡ ordered v
   sorted-end l = go (h .rest) (h .left) (h .same)
     where
-      weight-some : (w : Value) → 1 ≤ weight w
-      weight-some (scalar x) = omega arith
-      weight-some (pair a b) = omega arith
-      weight-some (set ms) = omega arith
-
       go : (ws : Values) → Left s i end ws → ordered v ≡ orderedAll ws → true ≡ ordered v
       go none f e = sym e
-      go (w ▸ ws) f e = absurd (omega (arith, f .ends, weight-some w))
+      go (w ▸ ws) f e = absurd (omega (arith, f .ends, weight-pos w))
 
   module _ (x t : ℕ) (l : i < end) (here : x ≡ getD s i 0) (tagged : t ≡ x / cellSize) where
     -- a cell that is not a set's
@@ -237,11 +241,6 @@ module _ (s : List ℕ) (i end : ℕ) (v : Value) (h : Sorted s i end v) where
     module _ (set-here : t ≡ 5) where
       not-set : (w : Value) (ws : Values) → Left s i end (w ▸ ws) → tag w ≡ 5
       not-set w ws f = sym (tagged ∙ ap (λ (y : ℕ). y / cellSize) (here ∙ left-head s i end w ws f) ∙ tag-cell w (f .fits .0)) ∙ set-here
-
-      scalar-tag : (y : Scalar) → scalarTag y ≡ 5 → ⊥
-      scalar-tag (num whole j) e = omega arith
-      scalar-tag (truth b) e = omega arith
-      scalar-tag (element g k) e = omega arith
 
       -- its members
       members : (ms ws : Values) (n : ℕ) → Left s i end (set ms ▸ ws) → n ≡ x % cellSize → Row s (i + 1) n ms

@@ -1,26 +1,25 @@
 -- Whether the members of every set in a value share a type, set by set from the innermost outward.
-use Prim.Native.Nat.{ℕ, zero, suc, _+_, _*_, _-_, _/_, _%_, _≤_, _<_}
-use mathlib.Core.Bool.{Bool, true, false, _&&_, cond}
-use mathlib.Core.List.{List, [], _∷_, _++_, append-nil}
+use Prim.Native.Nat.{ℕ, zero, suc, _+_, _-_, _/_, _%_, _≤_, _<_}
+use mathlib.Core.Bool.{Bool, true, false, cond}
+use mathlib.Core.List.{List, append-nil}
 use mathlib.Core.Path.{_≡_, refl, sym, ap, subst, _∙_}
 use native.Mathlib.Omega.{arith}
 use native.Mathlib.Nat.{add-zero}
 use lib.Dec.{T}
 use lib.ListN.{length, getD}
 use Rattle.rules.specs.Types.{whole, Ty}
-use Rattle.rules.specs.Values.{Scalar, num, truth, element, Value, scalar, pair, set, Values, none, _▸_, scalarTag, tag, count, weight, weights}
-use Rattle.rules.specs.Fits.{Shape, every, _⊓_, shape, shapes, inhabited, typed}
+use Rattle.rules.specs.Values.{Value, scalar, pair, set, Values, none, _▸_, tag, count, weights}
+use Rattle.rules.specs.Fits.{every, _⊓_, shape, shapes, inhabited, typed}
 use Rattle.rules.proofs.FitsLaws.{_⊑_, ⊓-join, ⊓-split, inhabited→some, some→inhabited}
 use Rattle.arena.specs.Code.{cellSize, code, codes, Stands, ValueAt, ValuesAt, CellsFit, AllFit, SomeAt, EndsAt}
 use Rattle.arena.proofs.CodeLaws.{length-code, length-codes}
 use Rattle.arena.proofs.Standing.{stands-front, stands-back}
-use Rattle.fitting.specs.Agree.{meets, TypedAt, RunAt, SomeTyped, SomeRun, AgreedWith, NoEmpty, Full, StandFor}
-use Rattle.fitting.proofs.Sharing.{bool-eq, and-split, and-of, meets→share, share→meets, meets-sym, left-typed, right-typed, with-every, full-first}
-use Rattle.fitting.proofs.Cells.{full-value}
-use Rattle.buffer.specs.Ordered.{Row, Whole}
-use Rattle.buffer.specs.Shared.{AllTyped, TypedRow, SomeTypedRow, Shares, ValueAndRun, TypedHere}
+use Rattle.fitting.specs.Agree.{meets, RunAt, SomeTyped, AgreedWith, NoEmpty, Full, StandFor}
+use Rattle.fitting.proofs.Sharing.{and-split, and-of, meets→share, share→meets, meets-sym, left-typed, right-typed, with-every, full-first}
+use Rattle.fitting.proofs.Cells.{full-value, weight-pos}
+use Rattle.buffer.specs.Shared.{AllTyped, TypedRow, SomeTypedRow, Shares}
 use Rattle.buffer.proofs.Ahead.{_before_, inner, codes-before, count-before}
-use Rattle.buffer.proofs.Ordering.{cellOf, tag-cell, Left, left-head, left-next, weights-before}
+use Rattle.buffer.proofs.Ordering.{tag-cell, Left, left-start, scalar-tag, left-head, left-next, weights-before}
 
 -- Types of values that follow one another.
 shapes-join : (vs ws : Values) (t : Ty) → shapes vs ⊑ t → shapes ws ⊑ t → shapes (vs before ws) ⊑ t
@@ -206,11 +205,6 @@ pub after : Values → ℕ → Values
 after vs zero = vs
 after vs (suc n) = next (after vs n)
 
-weight-some : (v : Value) → 1 ≤ weight v
-weight-some (scalar x) = omega arith
-weight-some (pair a b) = omega arith
-weight-some (set ms) = omega arith
-
 next-left : (s : List ℕ) (i end : ℕ) (ws : Values) → Left s i end ws → i < end → Left s (i + 1) end (next ws)
 next-left s i end none h l = absurd (omega (arith, h .ends))
 next-left s i end (w ▸ ws) h l = left-next s i end w ws h
@@ -242,26 +236,18 @@ after-typed vs h (suc n) = next-typed (after vs n) (after-typed vs h n)
 abbrev pub TypedFrom : ℕ → ℕ → Value → Type 0
 TypedFrom at i v = AllTyped (after (v ▸ none) (i - at))
 
-start-left : (s : List ℕ) (at end : ℕ) (v : Value) → ValueAt s at v → CellsFit v → EndsAt s at end → Left s at end (v ▸ none)
-unfolding code
-start-left s at end v h f e = record {
-  stands = subst (λ (l : List ℕ). Stands s at l) (sym (append-nil (code v))) h;
-  fits = (f, tt);
-  ends = omega (arith, e v h f);
-}
-
 module _ (s : List ℕ) (at end : ℕ) (v : Value) (h : ValueAt s at v) (f : CellsFit v) (e : EndsAt s at end) where
   here-left : (i : ℕ) → at ≤ i → i ≤ end → Left s i end (after (v ▸ none) (i - at))
   here-left i a b =
       let p : at + (i - at) ≡ i = omega arith in
-      subst (λ (j : ℕ). Left s j end (after (v ▸ none) (i - at))) p (after-left s at end (v ▸ none) (start-left s at end v h f e) (i - at) (omega arith))
+      subst (λ (j : ℕ). Left s j end (after (v ▸ none) (i - at))) p (after-left s at end (v ▸ none) (left-start s at end v h f e) (i - at) (omega arith))
 
   pub from-end : TypedFrom at end v
   from-end = go (after (v ▸ none) (end - at)) (here-left end (omega (arith, e v h f)) (omega arith))
     where
       go : (ws : Values) → Left s end end ws → AllTyped ws
       go none l = tt
-      go (w ▸ ws) l = absurd (omega (arith, l .ends, weight-some w))
+      go (w ▸ ws) l = absurd (omega (arith, l .ends, weight-pos w))
 
   pub from-start : (i : ℕ) → i ≤ at → TypedFrom at i v → true ≡ typed v
   unfolding after typed
@@ -293,11 +279,6 @@ module _ (s : List ℕ) (at end : ℕ) (v : Value) (h : ValueAt s at v) (f : Cel
         go (set ms ▸ ws) l y = absurd (n (tag-here (set ms) ws l))
 
     module _ (set-here : t ≡ 5) where
-      scalar-tag : (z : Scalar) → scalarTag z ≡ 5 → ⊥
-      scalar-tag (num whole j) q = omega arith
-      scalar-tag (truth b) q = omega arith
-      scalar-tag (element g k) q = omega arith
-
       members : (n : ℕ) → n ≡ x % cellSize → (ms ws : Values) → Left s (i - 1) end (set ms ▸ ws) → AllTyped ms → TypedRow s i n ms
       unfolding code
       members n q ms ws l y =

@@ -1,28 +1,23 @@
 -- Reading one value cell by cell into the arena.
-use Prim.Native.Nat.{ℕ, zero, suc, _+_, _*_, _-_, _/_, _%_, _≤_, _<_}
-use mathlib.Core.Bool.{Bool, true, false, _&&_, cond}
+use Prim.Native.Nat.{ℕ, zero, suc, _+_, _-_, _/_, _%_, _≤_, _<_}
+use mathlib.Core.Bool.{Bool, true, false}
 use mathlib.Core.List.{List, [], _∷_, _++_, append-assoc, append-nil}
-use mathlib.Core.Option.{some}
 use mathlib.Core.Path.{_≡_, refl, sym, ap, subst, _∙_}
 use native.Mathlib.Omega.{arith}
 use native.Mathlib.Decide.{decLt}
-use lib.Dec.{T, eqb, ltb, ltb→lt}
-use lib.ListN.{length, getD, drop, set as setAt, length-append, length-set, List·getD-eq-default, List·getD-append}
+use lib.Dec.{T, eqb}
+use lib.ListN.{length, getD, drop, set as setAt, length-append, length-set, List·getD-append}
 use lib.Seq.{drop-drop, getD-set-same, getD-set-other, getD-append-add}
-use borrow.Author.Tests.{eq-eqb, ne-eqb}
-use Rattle.rules.specs.Values.{Value, weight}
+use borrow.Author.Tests.{ne-eqb}
+use Rattle.rules.specs.Values.{weight}
 use Rattle.rules.specs.Cells.{value}
 use Rattle.rules.proofs.CellsLaws.{Bytes, bytes-drop}
 use Rattle.arena.specs.Code.{code, Stands, Same, partsOf}
 use Rattle.arena.proofs.CodeLaws.{length-code}
-use Rattle.arena.proofs.Standing.{parts-pair, parts-set, parts-scalar}
 use Rattle.buffer.specs.declared.Cursor.{Cursor}
-use Rattle.buffer.specs.declared.Step.{Step}
 use Rattle.buffer.specs.declared.Step.the-variants.{Cell, End}
-use Rattle.buffer.specs.declared.Placed.{Placed}
-use Rattle.buffer.specs.declared.Placed.the-variants.{At, Fault}
-use Rattle.buffer.specs.Buffer.{cellFirst, firstCell, pickStep, stepAt, codeOf, tagGood, cellGood, scalarsGood, GoodCell, Takes, ReadAt, Unread, Places}
-use Rattle.buffer.proofs.Ahead.{Ahead, Onward, onward, back, ahead-read, read-ahead, ahead-long}
+use Rattle.buffer.specs.Buffer.{cellFirst, firstCell, pickStep, stepAt, codeOf, tagGood, cellGood, GoodCell, Takes, ReadAt, Unread}
+use Rattle.buffer.proofs.Ahead.{Ahead, onward, back, ahead-read, read-ahead, ahead-long}
 
 -- The entries of a slice of bytes.
 pub bytes-all : (bs : List ℕ) → ((i : ℕ) → i < length bs → getD bs i 0 < 256) → Bytes bs

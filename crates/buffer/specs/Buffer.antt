@@ -8,10 +8,8 @@ use lib.Dec.{T, eqb, leb, ltb}
 use lib.ListN.{length, getD, drop}
 use Rattle.rules.specs.Tables.{wordAt}
 use Rattle.rules.specs.Values.{Value, scalar, pair, set, Values, none, _▸_, weight}
-use Rattle.rules.specs.Cells.{scalarGood}
-use Rattle.rules.specs.Cells.{value as valueFirst}
-use Rattle.arena.specs.Code.{cellSize, ValueAt, CellsFit, Same}
-use Rattle.buffer.specs.declared.Cursor.{Cursor}
+use Rattle.rules.specs.Cells.{scalarGood, value as valueFirst}
+use Rattle.arena.specs.Code.{cellSize, ValueAt, CellsFit}
 use Rattle.buffer.specs.declared.Step.{Step}
 use Rattle.buffer.specs.declared.Step.the-variants.{Cell, End}
 use Rattle.buffer.specs.declared.Placed.{Placed}

@@ -2,3 +2,4 @@
 pub mod Buffer
 pub mod Ordered
 pub mod Shared
+pub mod Loaded

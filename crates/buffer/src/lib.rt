@@ -8,6 +8,7 @@ ghost use Rattle.buffer.specs.Buffer.{stepAt, zerosAt, codeOf, cellGood,
 ghost use Rattle.arena.specs.Code.{partsOf, Same};
 ghost use Rattle.buffer.specs.Ordered.{SomeRow, InOrder, Whole, Ordered};
 ghost use Rattle.buffer.specs.Shared.{SomeTypedRow, Shares, ValueAndRun, TypedHere};
+ghost use Rattle.buffer.specs.Loaded.{ReadsGood, Enters, Room, Loads};
 ghost use Rattle.fitting.specs.Agree.{NoEmpty, AgreedWith};
 
 // A place in the values buffer where a cell may begin.
@@ -25,6 +26,24 @@ pub enum Step {
 pub enum Placed {
     At(Cursor, usize),
     Fault,
+}
+
+// The value of an identifier: where it stands, the place behind it in the buffer, and the arena's new top; or a fault.
+enum Entry {
+    Of(usize, Cursor, usize),
+    Bad,
+}
+
+// The values of all identifiers, and the arena's new top; or the identifier at which refusal 14 is met.
+pub enum Loaded {
+    All(usize),
+    Refused(usize),
+}
+
+// Where the value of each identifier stands, and the answer.
+pub struct Environment {
+    pub at: [u32; 32],
+    pub answer: Loaded,
 }
 
 fn wide(x: u8) -> u64
@@ -292,4 +311,87 @@ pub fn well_typed(s: &[u64], at: usize, end: usize) -> bool
         }
     }
     true
+}
+
+// Reads one value without the faults that refusal 14 names.
+fn read_value(from: Cursor, values: &[u8], sizes: &[u32], s: &mut [u64], top: usize) -> Placed
+    requires { ⌜ top + 256 ≤ length (now s) ⌝ }
+    ensures { λ r. ⌜ Same top (now (s .entry)) (now (s .exit)) × ReadsGood (now (sizes .entry)) (now (values .entry)) (from .at) (now (s .exit)) top r ⌝ }
+{
+    let r = copy_value(from, values, sizes, s, top);
+    match r {
+        Placed::At(next, end) => {
+            if !rises(s, top, end) {
+                return Placed::Fault;
+            }
+            if !well_typed(s, top, end) {
+                return Placed::Fault;
+            }
+            Placed::At(next, end)
+        }
+        Placed::Fault => Placed::Fault,
+    }
+}
+
+// The value of an identifier with this word: 0 is free, and reads one; a bound identifier has the value at `none`.
+fn read_entry(
+    word: u32,
+    from: Cursor,
+    values: &[u8],
+    sizes: &[u32],
+    s: &mut [u64],
+    none: usize,
+    top: usize,
+) -> Entry
+    requires { ⌜ top + 256 ≤ length (now s) ⌝ }
+    ensures { λ r. ⌜ Same top (now (s .entry)) (now (s .exit)) × Enters (now (sizes .entry)) word (now (values .entry)) (from .at) (now (s .entry)) (now (s .exit)) none top r ⌝ }
+{
+    if word != 0 {
+        return Entry::Of(none, from, top);
+    }
+    let r = read_value(from, values, sizes, s, top);
+    match r {
+        Placed::At(next, end) => Entry::Of(top, next, end),
+        Placed::Fault => Entry::Bad,
+    }
+}
+
+// Reads one value for each free identifier and nothing else. The cell at top is that of an identifier without a value.
+pub fn read_values(
+    values: &[u8],
+    sizes: &[u32],
+    binds: &[u32],
+    s: &mut [u64],
+    top: usize,
+) -> Environment
+    requires { ⌜ Room (now binds) (now s) top ⌝ }
+    ensures { λ r. ⌜ Same top (now (s .entry)) (now (s .exit)) × Loads (now (sizes .entry)) (now (binds .entry)) (now (values .entry)) (now (s .exit)) (r .at) (r .answer) ⌝ }
+{
+    s[top] = 6442450944;
+    let mut env = [top as u32; 32];
+    let mut c = Cursor { at: 0 };
+    let mut end = top + 1;
+    let mut x: usize = 0;
+    while x < binds.len() {
+        let Entry::Of(place, next, e) = read_entry(binds[x], c, values, sizes, s, top, end) else {
+            return Environment {
+                at: env,
+                answer: Loaded::Refused(x),
+            };
+        };
+        env[x] = place as u32;
+        c = next;
+        end = e;
+        x += 1;
+    }
+    if c.at < values.len() {
+        return Environment {
+            at: env,
+            answer: Loaded::Refused(x),
+        };
+    }
+    Environment {
+        at: env,
+        answer: Loaded::All(end),
+    }
 }

@@ -4,3 +4,5 @@ pub mod ScalarLaws
 pub mod WalkLaws
 pub mod PartLaws
 pub mod TakeLaws
+pub mod PowerOrder
+pub mod PowerLaws

@@ -154,36 +154,42 @@ pub before-lefts : (a b c d : Value) → Before (pair a b) (pair c d) → NotGt 
 before-lefts a b c d h = then-notGt (order a c) (order b d) (sym (order-pair a b c d) ∙ before-order (pair a b) (pair c d) h)
 
 -- Membership.
-abbrev pub In : Value → List Value → Type 0
+abbrev pub In : {A : Type 0} → A → List A → Type 0
 In x [] = ⊥
 In x (y ∷ ys) = (x ≡ y) ⊎ In x ys
 
-pub all-in : (P : Value → Type 0) (x : Value) (ys : List Value) → All P ys → In x ys → P x
-all-in P x [] h i = absurd i
-all-in P x (y ∷ ys) h (inl e) = subst P (sym e) (h .0)
-all-in P x (y ∷ ys) h (inr i) = all-in P x ys (h .1) i
+module _ {A : Type 0} where
+  pub all-in : (P : A → Type 0) (x : A) (ys : List A) → All P ys → In x ys → P x
+  all-in P x [] h i = absurd i
+  all-in P x (y ∷ ys) h (inl e) = subst P (sym e) (h .0)
+  all-in P x (y ∷ ys) h (inr i) = all-in P x ys (h .1) i
 
-pub all-self : (ys : List Value) → All (λ x. In x ys) ys
-all-self [] = tt
-all-self (y ∷ ys) = (inl refl, all-imp (λ x. In x ys) (λ x. In x (y ∷ ys)) (λ x h. inr h) ys (all-self ys))
+  pub all-self : (ys : List A) → All (λ x. In x ys) ys
+  all-self [] = tt
+  all-self (y ∷ ys) = (inl refl, all-imp (λ x. In x ys) (λ x. In x (y ∷ ys)) (λ x h. inr h) ys (all-self ys))
 
-pub in-append : (x : Value) (ys zs : List Value) → In x (ys ++ zs) → In x ys ⊎ In x zs
-in-append x [] zs i = inr i
-in-append x (y ∷ ys) zs (inl e) = inl (inl e)
-in-append x (y ∷ ys) zs (inr i) = go (in-append x ys zs i)
-  where
-    go : In x ys ⊎ In x zs → ((x ≡ y) ⊎ In x ys) ⊎ In x zs
-    go (inl h) = inl (inr h)
-    go (inr h) = inr h
+  pub in-append : (x : A) (ys zs : List A) → In x (ys ++ zs) → In x ys ⊎ In x zs
+  in-append x [] zs i = inr i
+  in-append x (y ∷ ys) zs (inl e) = inl (inl e)
+  in-append x (y ∷ ys) zs (inr i) = go (in-append x ys zs i)
+    where
+      go : In x ys ⊎ In x zs → ((x ≡ y) ⊎ In x ys) ⊎ In x zs
+      go (inl h) = inl (inr h)
+      go (inr h) = inr h
 
-pub in-left : (x : Value) (ys zs : List Value) → In x ys → In x (ys ++ zs)
-in-left x [] zs i = absurd i
-in-left x (y ∷ ys) zs (inl e) = inl e
-in-left x (y ∷ ys) zs (inr i) = inr (in-left x ys zs i)
+  pub in-left : (x : A) (ys zs : List A) → In x ys → In x (ys ++ zs)
+  in-left x [] zs i = absurd i
+  in-left x (y ∷ ys) zs (inl e) = inl e
+  in-left x (y ∷ ys) zs (inr i) = inr (in-left x ys zs i)
 
-pub in-right : (x : Value) (ys zs : List Value) → In x zs → In x (ys ++ zs)
-in-right x [] zs i = i
-in-right x (y ∷ ys) zs i = inr (in-right x ys zs i)
+  pub in-right : (x : A) (ys zs : List A) → In x zs → In x (ys ++ zs)
+  in-right x [] zs i = i
+  in-right x (y ∷ ys) zs i = inr (in-right x ys zs i)
+
+pub in-map : {A B : Type 0} (f : A → B) (x : A) (ys : List A) → In x ys → In (f x) (map f ys)
+in-map f x [] i = absurd i
+in-map f x (y ∷ ys) (inl e) = inl (ap f e)
+in-map f x (y ∷ ys) (inr i) = inr (in-map f x ys i)
 
 -- `insert` keeps the members, and adds one.
 placed-old : (o : Ordering) (x v w : Value) (ws r : List Value) → In x (w ∷ ws) → (In x ws → In x r) → In x (placed o v w ws r)

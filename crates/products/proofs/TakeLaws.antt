@@ -256,7 +256,7 @@ pub record Putting (s₀ : List ℕ) (top : ℕ) (s : List ℕ) (o : Out) (whole
   pub grown : Grown s₀ (top + 1) s (o .to) (codes (values whole)) (codes (values rest))
   pub counted : o .count + count (values rest) ≡ count (values whole)
 
-pub putting-start : (s : List ℕ) (top : ℕ) (whole : List Value) → top + 514 ≤ length s →
+pub putting-start : (s : List ℕ) (top : ℕ) (whole : List Value) → top + 257 ≤ length s →
     Putting s top s (record { last = 0; to = top + 1; count = 0 }) whole nothing whole
 putting-start s top whole g = record { lastAt = refl; grown = grown-start s (top + 1) (codes (values whole)) (omega arith); counted = omega arith }
 
@@ -277,14 +277,14 @@ module _ (s₀ : List ℕ) (top : ℕ) (s : List ℕ) (o : Out) (whole : List Va
     omega (arith, h .counted, count-weights (values whole)),
   )
 
-  pub putting-end : Putting s₀ top s o whole l [] → top + 514 ≤ length s₀ → Made top s₀ (setAt s top (21474836480 + o .count)) (setOf whole) (o .to)
+  pub putting-end : Putting s₀ top s o whole l [] → top + 257 ≤ length s₀ → Made top s₀ (setAt s top (21474836480 + o .count)) (setOf whole) (o .to)
   putting-end h g =
       made-set s₀ top s (o .to) (o .count) (values whole)
       (grown-end s₀ (top + 1) s (o .to) (codes (values whole)) (subst (λ (c : List ℕ). Grown s₀ (top + 1) s (o .to) (codes (values whole)) c) no-codes (h .grown)))
       (omega (arith, h .counted)) (omega arith) (omega arith)
 
   module _ (w : Value) (rest : List Value) (h : Putting s₀ top s o whole l (w ∷ rest)) (k p e : ℕ) (value : ValueBelow s k p w) (ends : e ≡ p + weight w) where
-    pub putting-pre : k ≤ top + 1 → top + 514 ≤ length s₀ → AddPre s p e o
+    pub putting-pre : k ≤ top + 1 → top + 257 ≤ length s₀ → AddPre s p e o
     putting-pre g room =
         let n = putting-near (w ∷ rest) h in
         record {
@@ -356,7 +356,7 @@ module _ (s₀ : List ℕ) (a top n : ℕ) (low : n ≡ getD s₀ a 0 % 42949672
     last = nothing;
     rest = rising (map right (members vs));
     taking = taking-start (map right (members vs));
-    putting = putting-start s₀ top (rising (map right (members vs))) room;
+    putting = putting-start s₀ top (rising (map right (members vs))) (omega arith);
     nextAt = subst (λ (b : Option Value). Maybe s₀ top p b)
         (choose-next (map right (members vs)) nothing (rising (map right (members vs))) range-small (taking-start (map right (members vs))))
         (next top vs nothing (omega arith) range-front pairs refl);
@@ -380,7 +380,7 @@ module _ (s₀ : List ℕ) (a top n : ℕ) (low : n ≡ getD s₀ a 0 % 42949672
       where
         go : (rest : List Value) → Maybe s top p (firstOf rest) → Putting s₀ top s o (rising (map right (members vs))) (h .last) rest →
             Made top s₀ (setAt s top (21474836480 + o .count)) (setOf (rising (map right (members vs)))) (o .to)
-        go [] m q = putting-end s₀ top s o (rising (map right (members vs))) (h .last) range-light q room
+        go [] m q = putting-end s₀ top s o (rising (map right (members vs))) (h .last) range-light q (omega arith)
         go (w ∷ rest) m q = absurd (omega (arith, m .0))
 
     module _ (more : 0 < p) (e : ℕ) (ends : EndsAt s p e) where
@@ -390,7 +390,7 @@ module _ (s₀ : List ℕ) (a top n : ℕ) (low : n ≡ getD s₀ a 0 % 42949672
           go : (rest : List Value) → Maybe s top p (firstOf rest) → Putting s₀ top s o (rising (map right (members vs))) (h .last) rest → AddPre s p e o
           go [] m q = absurd (omega (arith, m))
           go (w ∷ rest) m q =
-              putting-pre s₀ top s o (rising (map right (members vs))) (h .last) range-light w rest q top p e (m .1) (ends w (m .1 .stands) (m .1 .fits)) (omega arith) room
+              putting-pre s₀ top s o (rising (map right (members vs))) (h .last) range-light w rest q top p e (m .1) (ends w (m .1 .stands) (m .1 .fits)) (omega arith) (omega arith)
 
       module _ (s′ : List ℕ) (r : Out) (added : Added s p e o s′ r) where
         -- what has been put, before the next is chosen
@@ -488,7 +488,7 @@ module _ (s₀ : List ℕ) (a top n : ℕ) (low : n ≡ getD s₀ a 0 % 42949672
         last = nothing;
         steps = st;
         putting = subst (λ (c : List Value). Putting s₀ top s₀ (record { last = 0; to = top + 1; count = 0 }) (rising (map left (members vs))) nothing c)
-            (rising-afterLast (map left (members vs)) (lefts-small vs (domain-front .fits)) st) (putting-start s₀ top (rising (map left (members vs))) room);
+            (rising-afterLast (map left (members vs)) (lefts-small vs (domain-front .fits)) st) (putting-start s₀ top (rising (map left (members vs))) (omega arith));
       }
 
   module _ (s : List ℕ) (left′ i : ℕ) (o : Out) (h : DomainAt s₀ top vs s left′ i o) where
@@ -504,7 +504,7 @@ module _ (s₀ : List ℕ) (a top n : ℕ) (low : n ≡ getD s₀ a 0 % 42949672
             Made top s₀ (setAt s top (21474836480 + o .count)) (setOf (rising (map left (members vs)))) (o .to)
         go none f q =
             putting-end s₀ top s o (rising (map left (members vs))) (h .last) domain-light
-            (subst (λ (c : List Value). Putting s₀ top s o (rising (map left (members vs))) (h .last) c) (afterLast-none (h .last)) q) room
+            (subst (λ (c : List Value). Putting s₀ top s o (rising (map left (members vs))) (h .last) c) (afterLast-none (h .last)) q) (omega arith)
         go (w ▸ rest) f q = absurd (omega (arith, f .counted))
 
     module _ (more : 0 < left′) where

@@ -39,6 +39,9 @@ module _ (s : List ℕ) (top a : ℕ) (vs : Values) (h : SetBelow s top a vs) wh
   pub set-end : (e : ℕ) → EndsAt s a e → e ≡ a + 1 + weights vs
   set-end e x = omega (arith, x (set vs) (h .stands) (h .fine .fits))
 
+  pub set-cells : (e : ℕ) → EndsAt s a e → e - a - 1 ≤ 255
+  set-cells e x = omega (arith, set-end e x, h .fine .light)
+
 module _ (s : List ℕ) (top at n : ℕ) (v : Value) (vs : Values) (h : Front s top at n (v ▸ vs)) where
   -- The first member, and those behind it.
   pub front-value : ValueAt s at v

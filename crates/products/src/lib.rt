@@ -3,12 +3,13 @@ ghost use mathlib.Core.List.{[], _∷_};
 ghost use mathlib.Core.Bool.{true, false};
 ghost use mathlib.Core.Path.{_≡_};
 ghost use Prim.Native.Nat.{_+_, _*_, _<_, _≤_};
-ghost use lib.ListN.{length};
+ghost use lib.ListN.{length, getD};
 ghost use Rattle.rules.specs.Values.{set, none, truthValue};
 ghost use Rattle.rules.specs.Operations.{setOf, elementsFrom};
 ghost use Rattle.arena.specs.Code.{SomeSet, SomeValue, Made};
 ghost use Rattle.products.specs.Growing.{PutsCell, RunPre, Runs, Singles, Pairs, PairPre, PairPut, Intervals, RowPre, Rows, SquarePre, Squares, Multiplies};
 ghost use Rattle.products.specs.Parts.{SomePairs, Domains, Ranges, AddPre, Added, ComparePre, Compares, NewPre, AddedNew, BetterPre, Betters, NextPre, Nexts};
+ghost use Rattle.products.specs.Power.{Powers, masks, subsetCount, AddedIf, SubsetPre, Subsets, SubsetIf, AllPre, AllSubsets};
 
 // Members that have been built: where the last one stands (0 where there is none), where they end, their number.
 struct Out {
@@ -283,4 +284,135 @@ pub fn domain(s: &mut [u64], a: usize, top: usize) -> usize
     }
     s[top] = 21474836480 + o.count;
     o.to
+}
+
+// Puts a member if it is kept.
+fn add_if(s: &mut [u64], from: usize, end: usize, keep: bool, o: Out) -> Out
+    requires { ⌜ (keep ≡ true → AddPre (now s) from end o) ⌝ }
+    ensures { λ r. ⌜ AddedIf keep (now (s .entry)) from end o (now (s .exit)) r ⌝ }
+{
+    if keep {
+        return add(s, from, end, o);
+    }
+    o
+}
+
+// The set of those of n members from a on whose bits `mask` has.
+fn subset(s: &mut [u64], a: usize, n: u64, mask: u64, to: usize) -> usize
+    requires { ⌜ SubsetPre (now s) a n to ⌝ }
+    ensures { λ r. ⌜ Subsets (now (s .entry)) a n mask to (now (s .exit)) r ⌝ }
+{
+    let mut i = a;
+    let mut left = n;
+    let mut m = mask;
+    let mut o = Out {
+        last: 0,
+        to: to + 1,
+        count: 0,
+    };
+    while left > 0 {
+        let e = arena::end_of(s, i);
+        o = add_if(s, i, e, m % 2 == 1, o);
+        m = m / 2;
+        i = e;
+        left -= 1;
+    }
+    s[to] = 21474836480 + o.count;
+    o.to
+}
+
+// The same if the mask is below p.
+fn subset_if(s: &mut [u64], a: usize, n: u64, mask: u64, p: u64, to: usize) -> usize
+    requires { ⌜ SubsetPre (now s) a n to ⌝ }
+    ensures { λ r. ⌜ SubsetIf (now (s .entry)) a n mask p to (now (s .exit)) r ⌝ }
+{
+    if mask < p {
+        return subset(s, a, n, mask, to);
+    }
+    to
+}
+
+// Subsets of at most five members as bits: fewer members first, then by the first members that differ.
+const MASKS: [u64; 32] = [
+    0,
+    1,
+    2,
+    4,
+    8,
+    16,
+    3,
+    5,
+    9,
+    17,
+    6,
+    10,
+    18,
+    12,
+    20,
+    24,
+    7,
+    11,
+    19,
+    13,
+    21,
+    25,
+    14,
+    22,
+    26,
+    28,
+    15,
+    23,
+    27,
+    29,
+    30,
+    31,
+];
+
+fn mask_at(j: usize) -> u64
+    requires { ⌜ j < 32 ⌝ }
+    ensures { λ r. ⌜ r ≡ getD masks j 0 ⌝ }
+{
+    MASKS[j]
+}
+
+const SUBSET_COUNTS: [u64; 6] = [1, 2, 4, 8, 16, 32];
+
+// The number of subsets of n members; 64 for more than five.
+fn subset_count(n: u64) -> u64
+    ensures { λ r. ⌜ (r ≡ subsetCount n) × (r ≤ 64) ⌝ }
+{
+    if n > 5 {
+        return 64;
+    }
+    SUBSET_COUNTS[n as usize]
+}
+
+// The subsets of n members from a on for the masks below p.
+fn all_subsets(s: &mut [u64], a: usize, n: u64, p: u64, to: usize) -> usize
+    requires { ⌜ AllPre (now s) a n p to ⌝ }
+    ensures { λ r. ⌜ AllSubsets (now (s .entry)) a n p to (now (s .exit)) r ⌝ }
+{
+    let mut j: usize = 0;
+    let mut at = to;
+    while j < 32 {
+        let mask = mask_at(j);
+        at = subset_if(s, a, n, mask, p, at);
+        j += 1;
+    }
+    at
+}
+
+pub fn power(s: &mut [u64], a: usize, top: usize) -> usize
+    requires { ⌜ SomeSet (now s) top a × (top + 514 ≤ length (now s)) ⌝ }
+    ensures { λ r. ⌜ Powers (now (s .entry)) a top (now (s .exit)) r ⌝ }
+{
+    let n = arena::low(s[a]);
+    let k = (arena::end_of(s, a) - a - 1) as u64;
+    let p = subset_count(n);
+    if 1 + p + p / 2 * k > 256 {
+        return 0;
+    }
+    let end = all_subsets(s, a + 1, n, p, top + 1);
+    s[top] = 21474836480 + p;
+    end
 }

@@ -2,10 +2,6 @@ use borrow.Author.Needs.{needs}
 use Rattle.buffer.proofs.CellAt.{code-number, code-other}
 use Rattle.buffer.proofs.code_cell.Statement.{statement}
 use Rattle.buffer.proofs.code_cell.Tie as tie
-use Rattle.buffer.proofs.code_cell.Reads as reads
-use Rattle.buffer.proofs.code_cell.Lts as lts
-use Rattle.arena.proofs.low.Reads as low-reads
-use Rattle.arena.proofs.tag.Reads as tag-reads
 
 tag-requires : tie.Need-tag-requires
 tag-requires c κs = search needs

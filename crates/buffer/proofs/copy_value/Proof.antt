@@ -1,5 +1,5 @@
 use borrow.Author.Needs.{needs}
-use Prim.Native.Nat.{_+_, _-_, _≤_, _<_}
+use Prim.Native.Nat.{_-_, _≤_, _<_}
 use mathlib.Core.Path.{subst}
 use native.Mathlib.Omega.{arith}
 use denote.Ref.{now}
@@ -8,11 +8,6 @@ use Rattle.buffer.specs.Buffer.{Takes}
 use Rattle.buffer.proofs.Walk.{Walk, bytes-all, walk-start, walk-step, walk-none, walk-heavy, walk-end}
 use Rattle.buffer.proofs.copy_value.Statement.{statement}
 use Rattle.buffer.proofs.copy_value.Tie as tie
-use Rattle.buffer.proofs.copy_value.Reads as reads
-use Rattle.buffer.proofs.copy_value.Lts as lts
-use Rattle.buffer.proofs.code_cell.Reads as code-cell-reads
-use Rattle.buffer.proofs.parts.Reads as parts-reads
-use Rattle.buffer.proofs.take.Reads as take-reads
 
 abbrev Inv-loop : tie.InvT-loop
 Inv-loop values sizes s₀ top c₀ n₀ left₀ s c n left = (n ≤ 256) × (left < 8589934592) × Walk sizes values (c₀ .at) (c .at) left n s₀ s top

@@ -5,8 +5,6 @@ use Rattle.fitting.specs.Agree.{NoEmpty}
 use Rattle.fitting.proofs.Cells.{no-empty-none, no-empty-more, no-empty-end}
 use Rattle.buffer.proofs.full.Statement.{statement}
 use Rattle.buffer.proofs.full.Tie as tie
-use Rattle.buffer.proofs.full.Reads as reads
-use Rattle.buffer.proofs.full.Lts as lts
 
 abbrev Inv-loop : tie.InvT-loop
 Inv-loop s at end i₀ i = (at ≤ i) × (i ≤ end) × NoEmpty s at i

@@ -6,11 +6,6 @@ use Rattle.buffer.proofs.Walk.{good-by, good-other}
 use borrow.Author.Needs.{needs}
 use Rattle.buffer.proofs.good_cell.Statement.{statement}
 use Rattle.buffer.proofs.good_cell.Tie as tie
-use Rattle.buffer.proofs.good_cell.Reads as reads
-use Rattle.buffer.proofs.good_cell.Lts as lts
-use Rattle.arena.proofs.low.Reads as low-reads
-use Rattle.arena.proofs.tag.Reads as tag-reads
-use Rattle.buffer.proofs.size.Reads as size-reads
 
 tag-requires : tie.Need-tag-requires
 tag-requires c κs = search needs

@@ -5,10 +5,6 @@ use Rattle.buffer.specs.Ordered.{Row}
 use Rattle.buffer.proofs.Ordering.{Checked, checked-start, checked-at, checked-second, checked-next, checked-fails, checked-end}
 use Rattle.buffer.proofs.in_order.Statement.{statement}
 use Rattle.buffer.proofs.in_order.Tie as tie
-use Rattle.buffer.proofs.in_order.Reads as reads
-use Rattle.buffer.proofs.in_order.Lts as lts
-use Rattle.arena.proofs.compare.Reads as compare-reads
-use Rattle.arena.proofs.end_of.Reads as end-of-reads
 
 abbrev Inv-loop : tie.InvT-loop
 Inv-loop s at n i₀ left₀ i left = (vs : Values) → Row s at n vs → Checked s i left vs

@@ -3,10 +3,6 @@ use Rattle.arena.proofs.Standing.{parts-pair, parts-set, parts-scalar}
 use borrow.Author.Needs.{needs}
 use Rattle.buffer.proofs.parts.Statement.{statement}
 use Rattle.buffer.proofs.parts.Tie as tie
-use Rattle.buffer.proofs.parts.Reads as reads
-use Rattle.buffer.proofs.parts.Lts as lts
-use Rattle.arena.proofs.low.Reads as low-reads
-use Rattle.arena.proofs.tag.Reads as tag-reads
 
 tag-requires : tie.Need-tag-requires
 tag-requires c κs = search needs

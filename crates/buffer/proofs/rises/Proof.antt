@@ -8,11 +8,6 @@ use Rattle.arena.specs.Code.{ValueAt, CellsFit}
 use Rattle.buffer.proofs.Ordering.{Sorted, sorted-start, sorted-inside, sorted-members, sorted-fails, sorted-past, sorted-on, sorted-end}
 use Rattle.buffer.proofs.rises.Statement.{statement}
 use Rattle.buffer.proofs.rises.Tie as tie
-use Rattle.buffer.proofs.rises.Reads as reads
-use Rattle.buffer.proofs.rises.Lts as lts
-use Rattle.arena.proofs.low.Reads as low-reads
-use Rattle.arena.proofs.tag.Reads as tag-reads
-use Rattle.buffer.proofs.in_order.Reads as in-order-reads
 
 abbrev Inv-loop : tie.InvT-loop
 Inv-loop s at end i₀ i = (v : Value) → ValueAt s at v → CellsFit v → Sorted s i end v

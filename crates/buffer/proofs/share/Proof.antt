@@ -12,12 +12,6 @@ use Rattle.buffer.specs.Shared.{TypedRow}
 use Rattle.buffer.proofs.Sharing.{Prefix, prefix-none, row-some, prefix-start, prefix-end, prefix-next, stand-for, prefix-fails, prefix-step, end-inside}
 use Rattle.buffer.proofs.share.Statement.{statement}
 use Rattle.buffer.proofs.share.Tie as tie
-use Rattle.buffer.proofs.share.Reads as reads
-use Rattle.buffer.proofs.share.Lts as lts
-use Rattle.arena.proofs.end_of.Reads as end-of-reads
-use Rattle.buffer.proofs.few.Reads as few-reads
-use Rattle.buffer.proofs.full.Reads as full-reads
-use Rattle.buffer.proofs.with_each.Reads as with-each-reads
 
 abbrev Inv-loop : tie.InvT-loop
 Inv-loop s at n end one i₀ k₀ i k = (0 < k) × ((vs : Values) → TypedRow s at n vs → Prefix s at i k vs)

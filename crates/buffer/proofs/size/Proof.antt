@@ -5,8 +5,6 @@ use denote.Ref.{now}
 use borrow.Author.Needs.{needs}
 use Rattle.buffer.proofs.size.Statement.{statement}
 use Rattle.buffer.proofs.size.Tie as tie
-use Rattle.buffer.proofs.size.Reads as reads
-use Rattle.buffer.proofs.size.Lts as lts
 
 mul-result : tie.Need-mul-result
 mul-result c = search needs

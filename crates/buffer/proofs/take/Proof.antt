@@ -4,10 +4,6 @@ use Rattle.buffer.proofs.Walk.{take-good, take-bad, take-none}
 use borrow.Author.Needs.{needs}
 use Rattle.buffer.proofs.take.Statement.{statement}
 use Rattle.buffer.proofs.take.Tie as tie
-use Rattle.buffer.proofs.take.Reads as reads
-use Rattle.buffer.proofs.take.Lts as lts
-use Rattle.buffer.proofs.Cursor.next.Reads as next-reads
-use Rattle.buffer.proofs.good_cell.Reads as good-cell-reads
 
 next-requires : tie.Need-next-requires
 next-requires c κs = search needs

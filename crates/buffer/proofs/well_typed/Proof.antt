@@ -9,11 +9,6 @@ use Rattle.arena.specs.Code.{ValueAt, CellsFit}
 use Rattle.buffer.proofs.Sharing.{TypedFrom, from-end, from-start, from-other, from-members, from-set, from-fails, end-inside}
 use Rattle.buffer.proofs.well_typed.Statement.{statement}
 use Rattle.buffer.proofs.well_typed.Tie as tie
-use Rattle.buffer.proofs.well_typed.Reads as reads
-use Rattle.buffer.proofs.well_typed.Lts as lts
-use Rattle.arena.proofs.low.Reads as low-reads
-use Rattle.arena.proofs.tag.Reads as tag-reads
-use Rattle.buffer.proofs.share.Reads as share-reads
 
 abbrev Inv-loop : tie.InvT-loop
 Inv-loop s at end i₀ i = (i ≤ end) × ((v : Value) → ValueAt s at v → CellsFit v → TypedFrom at i v)

@@ -8,10 +8,6 @@ use Rattle.fitting.specs.Agree.{SomeRun, Agreed, AgreedWith}
 use Rattle.fitting.proofs.Cells.{some-at, run-first, run-rest, with-end, with-false, with-step}
 use Rattle.buffer.proofs.with_each.Statement.{statement}
 use Rattle.buffer.proofs.with_each.Tie as tie
-use Rattle.buffer.proofs.with_each.Reads as reads
-use Rattle.buffer.proofs.with_each.Lts as lts
-use Rattle.arena.proofs.end_of.Reads as end-of-reads
-use Rattle.fitting.proofs.agree.Reads as agree-reads
 
 abbrev Inv-loop : tie.InvT-loop
 Inv-loop s a b m j₀ left₀ j left = SomeRun s j left × ((r : Bool) → AgreedWith s a j left r → AgreedWith s a b m r)

@@ -3,9 +3,6 @@ use borrow.Author.Needs.{needs}
 use Rattle.buffer.proofs.CellAt.{zeros-is}
 use Rattle.buffer.proofs.zeros.Statement.{statement}
 use Rattle.buffer.proofs.zeros.Tie as tie
-use Rattle.buffer.proofs.zeros.Reads as reads
-use Rattle.buffer.proofs.zeros.Lts as lts
-use Rattle.buffer.proofs.wide.Reads as wide-reads
 
 shared-slice-read-wide : tie.Need-shared-slice-read-wide
 shared-slice-read-wide c = search needs

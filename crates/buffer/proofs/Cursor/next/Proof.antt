@@ -5,11 +5,6 @@ use native.Mathlib.Omega.{arith}
 use Rattle.buffer.proofs.CellAt.{step-short, step-marked, step-cell}
 use Rattle.buffer.proofs.Cursor.next.Statement.{statement}
 use Rattle.buffer.proofs.Cursor.next.Tie as tie
-use Rattle.buffer.proofs.Cursor.next.Reads as reads
-use Rattle.buffer.proofs.Cursor.next.Lts as lts
-use Rattle.buffer.proofs.wide.Reads as wide-reads
-use Rattle.buffer.proofs.word.Reads as word-reads
-use Rattle.buffer.proofs.zeros.Reads as zeros-reads
 
 returns : tie.Need-returns
 returns c = step-short _ _ (omega (arith, c .if1 .taken))

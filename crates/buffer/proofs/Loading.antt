@@ -1,0 +1,316 @@
+-- Reading the values of identifiers one after the other.
+use Prim.Native.Nat.{ℕ, zero, suc, _+_, _*_, _-_, _≤_, _<_}
+use mathlib.Core.Bool.{Bool, true, false, _&&_}
+use mathlib.Core.List.{List, [], _∷_, _++_, append-assoc, append-nil}
+use mathlib.Core.Option.{Option, none as nothing, some}
+use mathlib.Core.Path.{_≡_, refl, sym, ap, subst, _∙_}
+use native.Mathlib.Omega.{arith}
+use native.Mathlib.Numerals.{add-one}
+use native.Mathlib.Decide.{ℕ-discrete, decLt}
+use lib.Dec.{T, leb, le→leb}
+use lib.ListN.{length, getD, drop, set as setAt, length-append, length-set, drop-of-length-le, List·getD-append, List·getD-eq-default}
+use lib.Seq.{drop-cons, getD-set-same, getD-set-other, getD-append-add}
+use Rattle.rules.specs.Values.{Value, scalar, pair, set, Values, none, _▸_, weight}
+use Rattle.rules.specs.Ends.{End, done, refused, _>>=_, require}
+use Rattle.rules.specs.Fits.{typed}
+use Rattle.rules.specs.Cells.{value, good, wellFormed, risingAll, precedes, weightLimit, noValue, orFault, valueFor, nothingLeft, valuesFrom}
+use Rattle.rules.proofs.OrderLaws.{and-left, and-right}
+use Rattle.rules.proofs.CellsLaws.{and-both, good-wellFormed, good-weight, good-typed}
+use Rattle.arena.specs.Code.{excess, code, EndsAt, Same, ValueBelow}
+use Rattle.arena.proofs.CodeLaws.{length-code}
+use Rattle.fitting.proofs.Cells.{ends-at}
+use Rattle.buffer.specs.Buffer.{scalarsGood, allGood, ReadAt, Unread}
+use Rattle.buffer.specs.Ordered.{inOrder, ordered, orderedAll, Whole, Ordered}
+use Rattle.buffer.specs.Shared.{TypedHere}
+use Rattle.buffer.specs.Loaded.{GoodAt, Entered, Room, Bound}
+
+-- A value is well formed where its scalars are good and its sets ordered.
+mutual
+  well-of : (gs : List ℕ) (v : Value) → T (scalarsGood gs v) → T (ordered v) → T (wellFormed gs v)
+  well-of gs (scalar s) h k = h
+  well-of gs (pair v w) h k =
+      let a = scalarsGood gs v in
+      let b = scalarsGood gs w in
+      and-both (wellFormed gs v) (wellFormed gs w)
+      (well-of gs v (and-left a b h) (and-left (ordered v) (ordered w) k))
+      (well-of gs w (and-right a b h) (and-right (ordered v) (ordered w) k))
+  well-of gs (set s) h k = rising-of gs s h (and-left (inOrder s) (orderedAll s) k) (and-right (inOrder s) (orderedAll s) k)
+
+  rising-of : (gs : List ℕ) (vs : Values) → T (allGood gs vs) → T (inOrder vs) → T (orderedAll vs) → T (risingAll gs vs)
+  rising-of gs none h k l = tt
+  rising-of gs (v ▸ vs) h k l =
+      let a = scalarsGood gs v in
+      let b = allGood gs vs in
+      let p = precedes v vs in
+      let o = inOrder vs in
+      and-both (wellFormed gs v && p) (risingAll gs vs)
+      (and-both (wellFormed gs v) p (well-of gs v (and-left a b h) (and-left (ordered v) (orderedAll vs) l)) (and-left p o k))
+      (rising-of gs vs (and-right a b h) (and-right p o k) (and-right (ordered v) (orderedAll vs) l))
+
+mutual
+  of-well : (gs : List ℕ) (v : Value) → T (wellFormed gs v) → T (scalarsGood gs v) × T (ordered v)
+  of-well gs (scalar s) h = (h, tt)
+  of-well gs (pair v w) h =
+      let x = of-well gs v (and-left (wellFormed gs v) (wellFormed gs w) h) in
+      let y = of-well gs w (and-right (wellFormed gs v) (wellFormed gs w) h) in
+      (and-both (scalarsGood gs v) (scalarsGood gs w) (x .0) (y .0), and-both (ordered v) (ordered w) (x .1) (y .1))
+  of-well gs (set s) h = let x = of-rising gs s h in (x .0, and-both (inOrder s) (orderedAll s) (x .1) (x .2))
+
+  of-rising : (gs : List ℕ) (vs : Values) → T (risingAll gs vs) → T (allGood gs vs) × T (inOrder vs) × T (orderedAll vs)
+  of-rising gs none h = (tt, tt, tt)
+  of-rising gs (v ▸ vs) h =
+      let p = precedes v vs in
+      let q = and-left (wellFormed gs v && p) (risingAll gs vs) h in
+      let x = of-well gs v (and-left (wellFormed gs v) p q) in
+      let y = of-rising gs vs (and-right (wellFormed gs v && p) (risingAll gs vs) h) in (
+        and-both (scalarsGood gs v) (allGood gs vs) (x .0) (y .0),
+        and-both p (inOrder vs) (and-right (wellFormed gs v) p q) (y .1),
+        and-both (ordered v) (orderedAll vs) (x .1) (y .2),
+      )
+
+good-of : (gs : List ℕ) (v : Value) → T (scalarsGood gs v) → T (ordered v) → weight v ≤ 256 → T (typed v) → T (good gs v)
+unfolding good
+good-of gs v h k w t =
+    let a = wellFormed gs v in
+    let b = leb (weight v) weightLimit in
+    and-both (a && b) (typed v) (and-both a b (well-of gs v h k) (le→leb (weight v) 256 w)) t
+
+-- One value.
+module _ (gs bs : List ℕ) (at : ℕ) (s : List ℕ) (top next end : ℕ) (h : ReadAt gs bs at s top next end) where
+  pub read-whole : Whole s top end
+  read-whole = record {
+    value = record { value = h .first; stands = h .stands; fits = h .fits };
+    ends = subst (λ (e : ℕ). EndsAt s top e) (sym (h .ends)) (ends-at s top (h .first) (h .stands) (h .fits));
+  }
+
+  same-read : (v : Value) (rest : List ℕ) → value (drop at bs) ≡ some (v, rest) → v ≡ h .first
+  same-read v rest e =
+      let p : _≡_ {A = Option (Value × List ℕ)} (some (v, rest)) (some (h .first, drop next bs)) = sym e ∙ h .reads in
+      let q : _≡_ {A = Value × List ℕ} (v, rest) (h .first, drop next bs) = cc in
+      ap (λ (z : Value × List ℕ). z .0) q
+
+  pub read-unordered : Ordered s top false → (v : Value) (rest : List ℕ) → value (drop at bs) ≡ some (v, rest) → T (good gs v) → ⊥
+  read-unordered o v rest e g =
+      let f = same-read v rest e in
+      let t : T (ordered (h .first)) = subst (λ (w : Value). T (ordered w)) f (of-well gs v (good-wellFormed gs v g) .1) in
+      subst T (sym (o (h .first) (h .stands) (h .fits))) t
+
+  pub read-untyped : TypedHere s top false → (v : Value) (rest : List ℕ) → value (drop at bs) ≡ some (v, rest) → T (good gs v) → ⊥
+  read-untyped o v rest e g =
+      let f = same-read v rest e in
+      let t : T (typed (h .first)) = subst (λ (w : Value). T (typed w)) f (good-typed gs v g) in
+      subst T (sym (o (h .first) (h .stands) (h .fits))) t
+
+  pub read-good : Ordered s top true → TypedHere s top true → GoodAt gs bs at s top next end
+  read-good o t = record {
+    first = h .first;
+    reads = h .reads;
+    good = good-of gs (h .first) (h .good) (subst T (o (h .first) (h .stands) (h .fits)) tt) (h .light) (subst T (t (h .first) (h .stands) (h .fits)) tt);
+    below = record { stands = h .stands; below = omega (arith, h .ends); fits = h .fits; light = h .light };
+    grows = omega (arith, h .ends);
+    near = omega (arith, h .ends, h .light);
+  }
+
+pub unread-bad : (gs bs : List ℕ) (at : ℕ) → Unread gs bs at → (v : Value) (rest : List ℕ) → value (drop at bs) ≡ some (v, rest) → T (good gs v) → ⊥
+unread-bad gs bs at u v rest e g = u v rest e (good-weight gs v g) (of-well gs v (good-wellFormed gs v g) .0)
+
+-- The value of one identifier.
+for-bound : (gs : List ℕ) (w x : ℕ) (bs : List ℕ) → (w ≡ 0 → ⊥) → valueFor gs w x bs ≡ done (noValue, bs)
+for-bound gs zero x bs n = absurd (n refl)
+for-bound gs (suc w) x bs n = refl
+
+for-good : (gs : List ℕ) (w x : ℕ) (bs : List ℕ) (v : Value) (rest : List ℕ) → w ≡ 0 → value bs ≡ some (v, rest) → T (good gs v) →
+    valueFor gs w x bs ≡ done (v, rest)
+for-good gs w x bs v rest z e g = rw (z, e) (passes (good gs v) (v, rest) g)
+  where
+    passes : (b : Bool) (r : Value × List ℕ) → T b → (require 14 x b >>= λ _. done r) ≡ done r
+    passes true r t = refl
+    passes false r t = absurd t
+
+for-bad : (gs : List ℕ) (w x : ℕ) (bs : List ℕ) → w ≡ 0 → ((v : Value) (rest : List ℕ) → value bs ≡ some (v, rest) → T (good gs v) → ⊥) →
+    valueFor gs w x bs ≡ refused 14 x
+for-bad gs w x bs z u = rw z (go (value bs) refl)
+  where
+    fails : (b : Bool) (r : Value × List ℕ) → (T b → ⊥) → (require 14 x b >>= λ _. done r) ≡ refused 14 x
+    fails true r n = absurd (n tt)
+    fails false r n = refl
+
+    go : (r : Option (Value × List ℕ)) → value bs ≡ r → (orFault x r >>= λ p. require 14 x (good gs (p .0)) >>= λ _. done p) ≡ refused 14 x
+    go nothing e = refl
+    go (some p) e = fails (good gs (p .0)) p (u (p .0) (p .1) e)
+
+module _ (gs : List ℕ) (w : ℕ) (bs : List ℕ) (at : ℕ) (s : List ℕ) (nowhere top : ℕ) where
+  pub entry-bound : (w ≡ 0 → ⊥) → Entered gs w bs at s s nowhere top nowhere at top
+  entry-bound n = record {
+    first = noValue;
+    reads = λ x. for-bound gs w x (drop at bs) n;
+    below = λ b. b;
+    grows = omega arith;
+    near = omega arith;
+  }
+
+  pub entry-free : (s′ : List ℕ) (next end : ℕ) → w ≡ 0 → GoodAt gs bs at s′ top next end → Entered gs w bs at s s′ nowhere top top next end
+  entry-free s′ next end z h = record {
+    first = h .first;
+    reads = λ x. for-good gs w x (drop at bs) (h .first) (drop next bs) z (h .reads) (h .good);
+    below = λ b. h .below;
+    grows = h .grows;
+    near = h .near;
+  }
+
+pub entry-bad : (gs : List ℕ) (w : ℕ) (bs : List ℕ) (at : ℕ) → w ≡ 0 → ((v : Value) (rest : List ℕ) → value (drop at bs) ≡ some (v, rest) → T (good gs v) → ⊥) →
+    (x : ℕ) → valueFor gs w x (drop at bs) ≡ refused 14 x
+entry-bad gs w bs at z u x = for-bad gs w x (drop at bs) z u
+
+pub same-refl : (top : ℕ) (s : List ℕ) → Same top s s
+same-refl top s = record { same = λ i l. refl; kept = refl }
+
+-- A value below `top` stays where nothing below changes.
+pub below-same : (s s′ : List ℕ) (top end at : ℕ) (v : Value) → Same top s s′ → top ≤ end → ValueBelow s top at v → ValueBelow s′ end at v
+below-same s s′ top end at v h l b = record {
+  stands = record {
+    inside = omega (arith, b .stands .inside, h .kept);
+    cells = λ i p. h .same (at + i) (omega (arith, b .below, length-code v)) ∙ b .stands .cells i p;
+  };
+  below = omega (arith, b .below);
+  fits = b .fits;
+  light = b .light;
+}
+
+-- The values of the first x identifiers have been read.
+pub record Loading (gs ws bs : List ℕ) (x at : ℕ) (s₀ s : List ℕ) (top end : ℕ) (env : List ℕ) : Type 0 where
+  pub front : List Value
+  pub counted : length front ≡ x
+  pub whole : valuesFrom gs ws 0 bs ≡ (valuesFrom gs (drop x ws) x (drop at bs) >>= λ vs. done (front ++ vs))
+  pub bound : (y : ℕ) → y < 32 → ValueBelow s end (getD env y 0) (getD front y noValue)
+  pub nowhere : ValueBelow s end top noValue
+  pub frame : Same top s₀ s
+  pub room : end ≤ top + 1 + 256 * x
+  pub above : top < end
+  pub wide : length env ≡ 32
+
+noValue-cell : (s : List ℕ) (top : ℕ) → top < length s → ValueBelow (setAt s top 6442450944) (top + 1) top noValue
+unfolding code excess
+noValue-cell s top l = record {
+  stands = record {
+    inside = omega (arith, length-set s top 6442450944);
+    cells = λ i p. first i p;
+  };
+  below = omega arith;
+  fits = (omega arith, omega arith);
+  light = omega arith;
+}
+  where
+    first : (i : ℕ) → i < 1 → getD (setAt s top 6442450944) (top + i) 0 ≡ getD (code noValue) i 0
+    first zero p = ap (λ (j : ℕ). getD (setAt s top 6442450944) j 0) (let e : top + 0 ≡ top = omega arith in e) ∙ getD-set-same s top 6442450944 0 l
+    first (suc i) p = absurd (omega arith)
+
+bind-done : {A : Type 0} (e : End (List A)) → e ≡ (e >>= λ vs. done ([] ++ vs))
+bind-done (done vs) = refl
+bind-done (refused r p) = refl
+
+pub loading-start : (gs ws bs s : List ℕ) (top : ℕ) (env : List ℕ) → Room ws s top → length env ≡ 32 → ((x : ℕ) → x < 32 → getD env x 0 ≡ top) →
+    Loading gs ws bs 0 0 (setAt s top 6442450944) (setAt s top 6442450944) top (top + 1) env
+loading-start gs ws bs s top env r w u =
+    let n = noValue-cell s top (omega (arith, r .space)) in
+    record {
+      front = [];
+      counted = refl;
+      whole = bind-done (valuesFrom gs ws 0 bs);
+      bound = λ y l. subst (λ (p : ℕ). ValueBelow (setAt s top 6442450944) (top + 1) p noValue) (sym (u y l)) n;
+      nowhere = n;
+      frame = same-refl top (setAt s top 6442450944);
+      room = omega arith;
+      above = omega arith;
+      wide = w;
+    }
+
+bind-front : (e : End (List Value)) (front : List Value) (v : Value) →
+    ((e >>= λ vs. done (v ∷ vs)) >>= λ us. done (front ++ us)) ≡ (e >>= λ vs. done ((front ++ (v ∷ [])) ++ vs))
+bind-front (done vs) front v = ap done (sym (append-assoc front (v ∷ []) vs))
+bind-front (refused r p) front v = refl
+
+-- one identifier more
+from-next : (gs ws bs rest : List ℕ) (w x : ℕ) (v : Value) → valueFor gs w x bs ≡ done (v, rest) →
+    valuesFrom gs (w ∷ ws) x bs ≡ (valuesFrom gs ws (suc x) rest >>= λ vs. done (v ∷ vs))
+unfolding valuesFrom
+from-next gs ws bs rest w x v e = rw e
+
+from-refused : (gs ws bs : List ℕ) (w x : ℕ) → valueFor gs w x bs ≡ refused 14 x → valuesFrom gs (w ∷ ws) x bs ≡ refused 14 x
+unfolding valuesFrom
+from-refused gs ws bs w x e = rw e
+
+getD-more : (front : List Value) (v : Value) (y : ℕ) → (y ≡ length front → ⊥) → getD (front ++ (v ∷ [])) y noValue ≡ getD front y noValue
+getD-more front v y n = go (decLt y (length front))
+  where
+    go : Dec (y < length front) → getD (front ++ (v ∷ [])) y noValue ≡ getD front y noValue
+    go (yes l) = List·getD-append front (v ∷ []) noValue y l
+    go (no l) =
+        List·getD-eq-default (front ++ (v ∷ [])) noValue (omega (arith, length-append front (v ∷ []))) ∙ sym (List·getD-eq-default front noValue (omega arith))
+
+getD-last : (front : List Value) (v : Value) (y : ℕ) → y ≡ length front → getD (front ++ (v ∷ [])) y noValue ≡ v
+getD-last front v y e =
+    let f : y ≡ length front + 0 = omega arith in
+    ap (λ (j : ℕ). getD (front ++ (v ∷ [])) j noValue) f ∙ getD-append-add front (v ∷ []) 0 noValue
+
+module _ (gs ws bs : List ℕ) (x at : ℕ) (s₀ s : List ℕ) (top end : ℕ) (env : List ℕ) (h : Loading gs ws bs x at s₀ s top end env) where
+  pub loading-step : (w : ℕ) (s′ : List ℕ) (place next e : ℕ) → x < length ws → length ws ≤ 32 → w ≡ getD ws x 0 → Same end s s′ →
+      Entered gs w bs at s s′ top end place next e → Loading gs ws bs (x + 1) next s₀ s′ top e (setAt env x place)
+  loading-step w s′ place next e l few q f g =
+      let d : drop x ws ≡ w ∷ drop (x + 1) ws = drop-cons ws x 0 l ∙ rw (q, add-one x) in
+      let v = g .first in
+      record {
+        front = h .front ++ (v ∷ []);
+        counted = omega (arith, length-append (h .front) (v ∷ []), h .counted);
+        whole = h .whole ∙ ap (λ (us : List ℕ). valuesFrom gs us x (drop at bs) >>= λ vs. done (h .front ++ vs)) d ∙
+            ap (λ (r : End (List Value)). r >>= λ vs. done (h .front ++ vs)) (from-next gs (drop (x + 1) ws) (drop at bs) (drop next bs) w x v (g .reads x)) ∙
+            bind-front (valuesFrom gs (drop (x + 1) ws) (suc x) (drop next bs)) (h .front) v ∙
+            ap (λ (y : ℕ). valuesFrom gs (drop (x + 1) ws) y (drop next bs) >>= λ vs. done ((h .front ++ (v ∷ [])) ++ vs)) (sym (add-one x));
+        bound = λ y m. named y m (ℕ-discrete y x);
+        nowhere = below-same s s′ end e top noValue f (g .grows) (h .nowhere);
+        frame = record { same = λ i m. f .same i (omega (arith, h .above)) ∙ h .frame .same i m; kept = f .kept ∙ h .frame .kept };
+        room = omega (arith, h .room, g .near);
+        above = omega (arith, h .above, g .grows);
+        wide = length-set env x place ∙ h .wide;
+      }
+    where
+      named : (y : ℕ) → y < 32 → Dec (y ≡ x) → ValueBelow s′ e (getD (setAt env x place) y 0) (getD (h .front ++ (g .first ∷ [])) y noValue)
+      named y m (yes n) =
+          rw (n, getD-set-same env x place 0 (omega (arith, h .wide)), getD-last (h .front) (g .first) x (sym (h .counted))) (g .below (h .nowhere))
+      named y m (no n) =
+          rw (getD-set-other env x y place 0 n, getD-more (h .front) (g .first) y (λ p. n (p ∙ h .counted)))
+          (below-same s s′ end e (getD env y 0) (getD (h .front) y noValue) f (g .grows) (h .bound y m))
+
+  pub loading-bad : (w : ℕ) → x < length ws → w ≡ getD ws x 0 → ((y : ℕ) → valueFor gs w y (drop at bs) ≡ refused 14 y) → valuesFrom gs ws 0 bs ≡ refused 14 x
+  loading-bad w l q u =
+      let d : drop x ws ≡ w ∷ drop (x + 1) ws = drop-cons ws x 0 l ∙ rw (q, add-one x) in
+      h .whole ∙ ap (λ (us : List ℕ). valuesFrom gs us x (drop at bs) >>= λ vs. done (h .front ++ vs)) d ∙
+      ap (λ (r : End (List Value)). r >>= λ vs. done (h .front ++ vs)) (from-refused gs (drop (x + 1) ws) (drop at bs) w x (u x))
+
+  none-left : length ws ≤ x → valuesFrom gs ws 0 bs ≡ (nothingLeft x (drop at bs) >>= λ vs. done (h .front ++ vs))
+  unfolding valuesFrom
+  none-left l = h .whole ∙ ap (λ (us : List ℕ). valuesFrom gs us x (drop at bs) >>= λ vs. done (h .front ++ vs)) (drop-of-length-le ws l)
+
+  -- bytes behind the last value
+  pub loading-surplus : length ws ≤ x → at < length bs → valuesFrom gs ws 0 bs ≡ refused 14 x
+  loading-surplus l m = none-left l ∙ ap (λ (us : List ℕ). nothingLeft x us >>= λ vs. done (h .front ++ vs)) (drop-cons bs at 0 m)
+
+  pub loading-end : length ws ≤ x → length bs ≤ at → Bound gs ws bs s env end
+  loading-end l m = record {
+    values = h .front;
+    reads = none-left l ∙ ap (λ (us : List ℕ). nothingLeft x us >>= λ vs. done (h .front ++ vs)) (drop-of-length-le bs m) ∙ ap done (append-nil (h .front));
+    at = h .bound;
+  }
+
+-- The cell at `top` is not below it.
+pub frame-all : (s s′ : List ℕ) (top x : ℕ) → Same top (setAt s top x) s′ → Same top s s′
+frame-all s s′ top x h = record {
+  same = λ i l. h .same i l ∙ getD-set-other s top i x 0 (λ e. omega arith);
+  kept = h .kept ∙ length-set s top x;
+}
+
+pub same-both : (top end : ℕ) (s₀ s s′ : List ℕ) → top < end → Same top s₀ s → Same end s s′ → Same top s₀ s′
+same-both top end s₀ s s′ l h k = record { same = λ i m. k .same i (omega arith) ∙ h .same i m; kept = k .kept ∙ h .kept }
+
+pub place-small : (s : List ℕ) (end at : ℕ) (v : Value) → ValueBelow s end at v → at ≤ length s
+place-small s end at v h = omega (arith, h .stands .inside)

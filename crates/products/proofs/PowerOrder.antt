@@ -1,0 +1,343 @@
+-- The subsets of a rising list in rising order: by their number of members, then in the order of their members.
+use Prim.Native.Nat.{ℕ, zero, suc, _+_, _*_, _-_, _/_, _≤_, _<_, Ordering, Ordering·lt, Ordering·eq, Ordering·gt}
+use mathlib.Core.List.{List, [], _∷_, _++_, map}
+use mathlib.Core.Logic.{_⊎_, inl, inr}
+use mathlib.Core.Path.{_≡_, refl, sym, ap, _∙_, subst}
+use native.Mathlib.Omega.{arith}
+use native.Mathlib.Decide.{ℕ-discrete}
+use lib.IntN.{ℤ, pos}
+use lib.Dec.{T}
+use lib.ListN.{length}
+use Rattle.rules.specs.Values.{Value, set, Values, none, _▸_, values, count, weight, weights, order, before, compareℤ, _then_, lex, key, keys}
+use Rattle.rules.specs.Operations.{setOf, rising, subsets}
+use Rattle.rules.proofs.OrderLaws.{Small, Smalls, order-refl, order-before, before-order, before-trans, before-irrefl, lt-compare, compare-refl, key-delimited}
+use Rattle.rules.proofs.SetOrder.{All, Before, Rising, all-imp, all-map, all-append, all-both, append-rising, rising-rising, subsets-all}
+use Rattle.arena.proofs.Standing.{weight-pos}
+use Rattle.products.specs.Power.{masks, subsetCount, pick, picked}
+use Rattle.products.proofs.PartLaws.{In, all-in, all-self, in-append, in-left, in-right, in-map, in-rising, rising-in}
+
+-- What is in y ∷ ys and follows x, which is y, is in ys.
+in-rest : (x y : Value) (xs ys : List Value) → All (Before x) xs → y ≡ x → All (λ z. In z (y ∷ ys)) xs → All (λ z. In z ys) xs
+in-rest x y [] ys p e q = tt
+in-rest x y (z ∷ xs) ys p e q = (one (q .0), in-rest x y xs ys (p .1) e (q .1))
+  where
+    one : (z ≡ y) ⊎ In z ys → In z ys
+    one (inl f) = absurd (before-irrefl x (subst (λ (u : Value). Before x u) (f ∙ e) (p .0)))
+    one (inr i) = i
+
+-- Two rising lists with the same members are equal.
+pub rising-same : (vs ws : List Value) → Rising vs → Rising ws → All (λ x. In x ws) vs → All (λ x. In x vs) ws → vs ≡ ws
+rising-same [] [] h k a b = refl
+rising-same [] (w ∷ ws) h k a b = absurd (b .0)
+rising-same (v ∷ vs) [] h k a b = absurd (a .0)
+rising-same (v ∷ vs) (w ∷ ws) h k a b =
+    go (λ e. rising-same vs ws (h .1) (k .1) (in-rest v w vs ws (h .0) (sym e) (a .1)) (in-rest w v ws vs (k .0) e (b .1))) (a .0) (b .0)
+  where
+    equal : (v ≡ w → vs ≡ ws) → v ≡ w → v ∷ vs ≡ w ∷ ws
+    equal f e = let r : vs ≡ ws = f e in cc
+
+    go : (v ≡ w → vs ≡ ws) → (v ≡ w) ⊎ In v ws → (w ≡ v) ⊎ In w vs → v ∷ vs ≡ w ∷ ws
+    go f (inl e) j = equal f e
+    go f (inr i) (inl e) = equal f (sym e)
+    go f (inr i) (inr j) = absurd (before-irrefl v (before-trans v w v (all-in (Before v) w vs (h .0) j) (all-in (Before w) v ws (k .0) i)))
+
+-- The order of two sets: fewer members first, then by the first members that differ.
+order-fewer : (s r : Values) → count s < count r → order (set s) (set r) ≡ Ordering·lt
+unfolding order
+order-fewer s r h = rw (lt-compare (count s) (count r) h)
+
+fewer-before : (s r : Values) → count s < count r → Before (set s) (set r)
+fewer-before s r h = order-before (set s) (set r) (order-fewer s r h)
+
+order-equal : (v w : Value) (s r : Values) → count s ≡ count r → order (set (v ▸ s)) (set (w ▸ r)) ≡ (order v w then lex (keys s) (keys r))
+unfolding order
+order-equal v w s r e = rw (e, compare-refl (1 + count r)) (key-delimited v w (keys s) (keys r))
+
+order-rest : (s r : Values) → count s ≡ count r → order (set s) (set r) ≡ lex (keys s) (keys r)
+unfolding order
+order-rest s r e = rw (e, compare-refl (count r))
+
+first-before : (v w : Value) (s r : Values) → count s ≡ count r → Before v w → Before (set (v ▸ s)) (set (w ▸ r))
+first-before v w s r e h =
+    order-before (set (v ▸ s)) (set (w ▸ r)) (order-equal v w s r e ∙ ap (λ (o : Ordering). o then lex (keys s) (keys r)) (before-order v w h))
+
+rest-before : (v : Value) (s r : Values) → count s ≡ count r → Before (set s) (set r) → Before (set (v ▸ s)) (set (v ▸ r))
+rest-before v s r e h =
+    order-before (set (v ▸ s)) (set (v ▸ r))
+    (order-equal v v s r e ∙ ap (λ (o : Ordering). o then lex (keys s) (keys r)) (order-refl v) ∙ sym (order-rest s r e) ∙ before-order (set s) (set r) h)
+
+-- The sublists of k values, in order.
+unfoldable pub combos : ℕ → List Value → List (List Value)
+combos zero vs = [] ∷ []
+combos (suc k) [] = []
+combos (suc k) (v ∷ vs) =
+    let p = combos k vs in
+    let q = combos (suc k) vs in
+    map (λ s. v ∷ s) p ++ q
+
+-- Those of at most k values.
+unfoldable pub powers : ℕ → List Value → List (List Value)
+unfolding combos
+powers zero vs = combos 0 vs
+powers (suc k) vs = powers k vs ++ combos (suc k) vs
+
+length-count : (s : List Value) → count (values s) ≡ length s
+length-count [] = refl
+length-count (v ∷ s) = omega (arith, length-count s)
+
+combos-length : (k : ℕ) (vs : List Value) → All (λ s. length s ≡ k) (combos k vs)
+unfolding combos
+combos-length zero vs = (refl, tt)
+combos-length (suc k) [] = tt
+combos-length (suc k) (v ∷ vs) =
+    all-append (λ s. length s ≡ suc k) (map (λ s. v ∷ s) (combos k vs)) (combos (suc k) vs)
+    (all-map (λ s. length s ≡ k) (λ s. length s ≡ suc k) (λ s. v ∷ s) (λ s e. ap suc e) (combos k vs) (combos-length k vs)) (combos-length (suc k) vs)
+
+powers-length : (k : ℕ) (vs : List Value) → All (λ s. length s ≤ k) (powers k vs)
+unfolding powers
+powers-length zero vs = all-imp (λ s. length s ≡ 0) (λ s. length s ≤ 0) (λ s e. omega arith) (combos 0 vs) (combos-length 0 vs)
+powers-length (suc k) vs =
+    all-append (λ s. length s ≤ suc k) (powers k vs) (combos (suc k) vs)
+    (all-imp (λ s. length s ≤ k) (λ s. length s ≤ suc k) (λ s e. omega arith) (powers k vs) (powers-length k vs))
+    (all-imp (λ s. length s ≡ suc k) (λ s. length s ≤ suc k) (λ s e. omega arith) (combos (suc k) vs) (combos-length (suc k) vs))
+
+combos-all : (P : Value → Type 0) (k : ℕ) (vs : List Value) → All P vs → All (All P) (combos k vs)
+unfolding combos
+combos-all P zero vs h = (tt, tt)
+combos-all P (suc k) [] h = tt
+combos-all P (suc k) (v ∷ vs) h =
+    all-append (All P) (map (λ s. v ∷ s) (combos k vs)) (combos (suc k) vs)
+    (all-map (All P) (All P) (λ s. v ∷ s) (λ s e. (h .0, e)) (combos k vs) (combos-all P k vs (h .1))) (combos-all P (suc k) vs (h .1))
+
+-- the sublists s of one length, with v before each
+with-rising : (v : Value) (k : ℕ) (ss : List (List Value)) → All (λ s. length s ≡ k) ss → Rising (map setOf ss) → Rising (map setOf (map (λ s. v ∷ s) ss))
+with-rising v k [] l h = tt
+with-rising v k (s ∷ ss) l h = (each ss (l .1) (h .0), with-rising v k ss (l .1) (h .1))
+  where
+    each : (ts : List (List Value)) → All (λ t. length t ≡ k) ts → All (Before (setOf s)) (map setOf ts) → All (Before (setOf (v ∷ s))) (map setOf (map (λ t. v ∷ t) ts))
+    each [] m q = tt
+    each (t ∷ ts) m q =
+        (rest-before v (values s) (values t) (length-count s ∙ l .0 ∙ sym (m .0) ∙ sym (length-count t)) (q .0), each ts (m .1) (q .1))
+
+before-begins : (v : Value) (s : List Value) (k : ℕ) (ts : List (List Value)) → length s ≡ k → All (λ t. length t ≡ suc k) ts → All (All (Before v)) ts →
+    All (Before (setOf (v ∷ s))) (map setOf ts)
+before-begins v s k [] e l a = tt
+before-begins v s k ([] ∷ ts) e l a = absurd (omega (arith, l .0))
+before-begins v s k ((w ∷ t) ∷ ts) e l a =
+    (first-before v w (values s) (values t) (omega (arith, length-count s, length-count t, l .0)) (a .0 .0), before-begins v s k ts e (l .1) (a .1))
+
+maps : (xs ys : List (List Value)) → map setOf (xs ++ ys) ≡ map setOf xs ++ map setOf ys
+maps [] ys = refl
+maps (x ∷ xs) ys = ap (λ (l : List Value). setOf x ∷ l) (maps xs ys)
+
+combos-rising : (k : ℕ) (vs : List Value) → Rising vs → Rising (map setOf (combos k vs))
+unfolding combos
+combos-rising zero vs h = (tt, tt)
+combos-rising (suc k) [] h = tt
+combos-rising (suc k) (v ∷ vs) h =
+    subst Rising (sym (maps (map (λ s. v ∷ s) (combos k vs)) (combos (suc k) vs)))
+    (append-rising (map setOf (map (λ s. v ∷ s) (combos k vs))) (map setOf (combos (suc k) vs))
+    (with-rising v k (combos k vs) (combos-length k vs) (combos-rising k vs (h .1))) (combos-rising (suc k) vs (h .1))
+    (firsts (combos k vs) (combos-length k vs)))
+  where
+    firsts : (ss : List (List Value)) → All (λ s. length s ≡ k) ss → All (λ x. All (Before x) (map setOf (combos (suc k) vs))) (map setOf (map (λ s. v ∷ s) ss))
+    firsts [] l = tt
+    firsts (s ∷ ss) l = (before-begins v s k (combos (suc k) vs) (l .0) (combos-length (suc k) vs) (combos-all (Before v) (suc k) vs (h .0)), firsts ss (l .1))
+
+fewer-all : (s : List Value) (k : ℕ) (ts : List (List Value)) → length s ≤ k → All (λ t. length t ≡ suc k) ts → All (Before (setOf s)) (map setOf ts)
+fewer-all s k [] e l = tt
+fewer-all s k (t ∷ ts) e l = (fewer-before (values s) (values t) (omega (arith, length-count s, length-count t, l .0)), fewer-all s k ts e (l .1))
+
+pub powers-rising : (k : ℕ) (vs : List Value) → Rising vs → Rising (map setOf (powers k vs))
+unfolding powers
+powers-rising zero vs h = combos-rising 0 vs h
+powers-rising (suc k) vs h =
+    subst Rising (sym (maps (powers k vs) (combos (suc k) vs)))
+    (append-rising (map setOf (powers k vs)) (map setOf (combos (suc k) vs)) (powers-rising k vs h) (combos-rising (suc k) vs h) (each (powers k vs) (powers-length k vs)))
+  where
+    each : (ss : List (List Value)) → All (λ s. length s ≤ k) ss → All (λ x. All (Before x) (map setOf (combos (suc k) vs))) (map setOf ss)
+    each [] l = tt
+    each (s ∷ ss) l = (fewer-all s k (combos (suc k) vs) (l .0) (combos-length (suc k) vs), each ss (l .1))
+
+-- They are the sublists.
+unmap : (v : Value) (s : List Value) (ss : List (List Value)) (P : List Value → Type 0) → ((t : List Value) → In t ss → P (v ∷ t)) → In s (map (λ t. v ∷ t) ss) → P s
+unmap v s [] P f i = absurd i
+unmap v s (t ∷ ss) P f (inl e) = subst P (sym e) (f t (inl refl))
+unmap v s (t ∷ ss) P f (inr i) = unmap v s ss P (λ u j. f u (inr j)) i
+
+nil-subset : (vs : List Value) → In [] (subsets vs)
+unfolding subsets
+nil-subset [] = inl refl
+nil-subset (v ∷ vs) = in-left [] (subsets vs) (map (λ s. v ∷ s) (subsets vs)) (nil-subset vs)
+
+combos-subset : (k : ℕ) (vs s : List Value) → In s (combos k vs) → In s (subsets vs)
+unfolding combos subsets
+combos-subset zero vs s (inl e) = subst (λ (t : List Value). In t (subsets vs)) (sym e) (nil-subset vs)
+combos-subset zero vs s (inr i) = absurd i
+combos-subset (suc k) [] s i = absurd i
+combos-subset (suc k) (v ∷ vs) s i =
+    go (λ t m. combos-subset k vs t m) (λ m. combos-subset (suc k) vs s m) (in-append s (map (λ t. v ∷ t) (combos k vs)) (combos (suc k) vs) i)
+  where
+    go : ((t : List Value) → In t (combos k vs) → In t (subsets vs)) → (In s (combos (suc k) vs) → In s (subsets vs)) →
+        In s (map (λ t. v ∷ t) (combos k vs)) ⊎ In s (combos (suc k) vs) → In s (subsets vs ++ map (λ t. v ∷ t) (subsets vs))
+    go f g (inl j) =
+        unmap v s (combos k vs) (λ t. In t (subsets vs ++ map (λ u. v ∷ u) (subsets vs)))
+        (λ t m. in-right (v ∷ t) (subsets vs) (map (λ u. v ∷ u) (subsets vs)) (in-map (λ u. v ∷ u) t (subsets vs) (f t m))) j
+    go f g (inr j) = in-left s (subsets vs) (map (λ t. v ∷ t) (subsets vs)) (g j)
+
+combos-more : (k : ℕ) (v : Value) (vs s : List Value) → In s (combos k vs) → In s (combos k (v ∷ vs))
+unfolding combos
+combos-more zero v vs s i = i
+combos-more (suc k) v vs s i = in-right s (map (λ t. v ∷ t) (combos k vs)) (combos (suc k) vs) i
+
+combos-with : (k : ℕ) (v : Value) (vs s : List Value) → In s (combos k vs) → In (v ∷ s) (combos (suc k) (v ∷ vs))
+unfolding combos
+combos-with k v vs s i = in-left (v ∷ s) (map (λ t. v ∷ t) (combos k vs)) (combos (suc k) vs) (in-map (λ t. v ∷ t) s (combos k vs) i)
+
+subset-combos : (vs : List Value) → All (λ s. In s (combos (length s) vs)) (subsets vs)
+unfolding subsets combos
+subset-combos [] = (inl refl, tt)
+subset-combos (v ∷ vs) =
+    let h = subset-combos vs in
+    all-append (λ s. In s (combos (length s) (v ∷ vs))) (subsets vs) (map (λ s. v ∷ s) (subsets vs))
+    (all-imp (λ s. In s (combos (length s) vs)) (λ s. In s (combos (length s) (v ∷ vs))) (λ s i. combos-more (length s) v vs s i) (subsets vs) h)
+    (all-map (λ s. In s (combos (length s) vs)) (λ s. In s (combos (length s) (v ∷ vs))) (λ s. v ∷ s) (λ s i. combos-with (length s) v vs s i) (subsets vs) h)
+
+subset-length : (vs : List Value) → All (λ s. length s ≤ length vs) (subsets vs)
+unfolding subsets
+subset-length [] = (omega arith, tt)
+subset-length (v ∷ vs) =
+    let h = subset-length vs in
+    all-append (λ s. length s ≤ suc (length vs)) (subsets vs) (map (λ s. v ∷ s) (subsets vs))
+    (all-imp (λ s. length s ≤ length vs) (λ s. length s ≤ suc (length vs)) (λ s e. omega arith) (subsets vs) h)
+    (all-map (λ s. length s ≤ length vs) (λ s. length s ≤ suc (length vs)) (λ s. v ∷ s) (λ s e. omega arith) (subsets vs) h)
+
+combos-powers : (m k : ℕ) (vs s : List Value) → k ≤ m → In s (combos k vs) → In s (powers m vs)
+unfolding powers
+combos-powers zero k vs s l i = subst (λ (j : ℕ). In s (combos j vs)) (let z : k ≡ 0 = omega arith in z) i
+combos-powers (suc m) k vs s l i = go (λ n. combos-powers m k vs s n i) (ℕ-discrete k (suc m))
+  where
+    go : (k ≤ m → In s (powers m vs)) → Dec (k ≡ suc m) → In s (powers m vs ++ combos (suc m) vs)
+    go f (yes e) = in-right s (powers m vs) (combos (suc m) vs) (subst (λ (j : ℕ). In s (combos j vs)) e i)
+    go f (no n) = in-left s (powers m vs) (combos (suc m) vs) (f (omega arith))
+
+powers-subset : (m : ℕ) (vs s : List Value) → In s (powers m vs) → In s (subsets vs)
+unfolding powers
+powers-subset zero vs s i = combos-subset 0 vs s i
+powers-subset (suc m) vs s i = go (λ j. powers-subset m vs s j) (in-append s (powers m vs) (combos (suc m) vs) i)
+  where
+    go : (In s (powers m vs) → In s (subsets vs)) → In s (powers m vs) ⊎ In s (combos (suc m) vs) → In s (subsets vs)
+    go f (inl j) = f j
+    go f (inr j) = combos-subset (suc m) vs s j
+
+-- The rising list of the subsets.
+powers-all : (vs : List Value) → All (λ s. In s (powers (length vs) vs)) (subsets vs)
+powers-all vs =
+    all-imp (λ s. In s (combos (length s) vs) × (length s ≤ length vs)) (λ s. In s (powers (length vs) vs))
+    (λ s h. combos-powers (length vs) (length s) vs s (h .1) (h .0)) (subsets vs)
+    (all-both (λ s. In s (combos (length s) vs)) (λ s. length s ≤ length vs) (subsets vs) (subset-combos vs) (subset-length vs))
+
+mapped : (ss ts : List (List Value)) → All (λ s. In s ts) ss → All (λ x. In x (map setOf ts)) (map setOf ss)
+mapped ss ts h = all-map (λ s. In s ts) (λ x. In x (map setOf ts)) setOf (λ s i. in-map setOf s ts i) ss h
+
+small-sets : (ss : List (List Value)) → All (All Small) ss → All Small (map setOf ss)
+small-sets ss h = all-map (All Small) Small setOf (λ s k. smalls s k) ss h
+  where
+    smalls : (s : List Value) → All Small s → Smalls (values s)
+    smalls [] k = tt
+    smalls (v ∷ s) k = (k .0, smalls s (k .1))
+
+pub power-rising : (vs : List Value) → Rising vs → All Small vs → rising (map setOf (subsets vs)) ≡ map setOf (powers (length vs) vs)
+power-rising vs h small =
+    let ys = map setOf (subsets vs) in
+    let zs = map setOf (powers (length vs) vs) in
+    let little = small-sets (subsets vs) (subsets-all Small vs small) in
+    let there : All (λ x. In x ys) zs = mapped (powers (length vs) vs) (subsets vs) (all-imp (λ s. In s (powers (length vs) vs)) (λ s. In s (subsets vs)) (λ s i. powers-subset (length vs) vs s i) (powers (length vs) vs) (all-self (powers (length vs) vs))) in
+    rising-same (rising ys) zs (rising-rising ys) (powers-rising (length vs) vs h)
+    (all-imp (λ x. In x ys) (λ x. In x zs) (λ x i. all-in (λ y. In y zs) x ys (mapped (subsets vs) (powers (length vs) vs) (powers-all vs)) i) (rising ys)
+    (all-imp (λ x. In x (rising ys)) (λ x. In x ys) (λ x i. rising-in x ys i) (rising ys) (all-self (rising ys))))
+    (all-imp (λ x. In x ys) (λ x. In x (rising ys)) (λ x i. in-rising x ys little i) zs there)
+
+-- What they weigh: 2^n cells and each member 2^(n−1) times, for n members.
+abbrev pub powerWeight : List Value → ℕ
+powerWeight vs = weights (values (map setOf (powers (length vs) vs)))
+
+abbrev weigh : List (List Value) → ℕ
+weigh ss = weights (values (map setOf ss))
+
+weigh-append : (ss ts : List (List Value)) → weigh (ss ++ ts) ≡ weigh ss + weigh ts
+weigh-append [] ts = omega arith
+weigh-append (s ∷ ss) ts = omega (arith, weigh-append ss ts)
+
+combos-heavier : (k : ℕ) (v : Value) (vs : List Value) → weigh (combos k vs) ≤ weigh (combos k (v ∷ vs))
+unfolding combos
+combos-heavier zero v vs = omega arith
+combos-heavier (suc k) v vs = omega (arith, weigh-append (map (λ s. v ∷ s) (combos k vs)) (combos (suc k) vs))
+
+powers-heavier : (k : ℕ) (v : Value) (vs : List Value) → weigh (powers k vs) ≤ weigh (powers k (v ∷ vs))
+unfolding powers
+powers-heavier zero v vs = combos-heavier 0 v vs
+powers-heavier (suc k) v vs =
+    omega (
+      arith,
+      weigh-append (powers k vs) (combos (suc k) vs),
+      weigh-append (powers k (v ∷ vs)) (combos (suc k) (v ∷ vs)),
+      powers-heavier k v vs,
+      combos-heavier (suc k) v vs,
+    )
+
+-- five members or fewer
+pub power-weighs : (vs : List Value) → length vs ≤ 5 → powerWeight vs ≡ subsetCount (length vs) + subsetCount (length vs) / 2 * weights (values vs)
+unfolding powers
+power-weighs [] l = refl
+power-weighs (a ∷ []) l = omega arith
+power-weighs (a ∷ b ∷ []) l = omega arith
+power-weighs (a ∷ b ∷ c ∷ []) l = omega arith
+power-weighs (a ∷ b ∷ c ∷ d ∷ []) l = omega arith
+power-weighs (a ∷ b ∷ c ∷ d ∷ f ∷ []) l = omega arith
+power-weighs (a ∷ b ∷ c ∷ d ∷ f ∷ g ∷ vs) l = absurd (omega arith)
+
+pub power-count : (vs : List Value) → length vs ≤ 5 → count (values (map setOf (powers (length vs) vs))) ≡ subsetCount (length vs)
+unfolding powers
+power-count [] l = refl
+power-count (a ∷ []) l = refl
+power-count (a ∷ b ∷ []) l = refl
+power-count (a ∷ b ∷ c ∷ []) l = refl
+power-count (a ∷ b ∷ c ∷ d ∷ []) l = refl
+power-count (a ∷ b ∷ c ∷ d ∷ f ∷ []) l = refl
+power-count (a ∷ b ∷ c ∷ d ∷ f ∷ g ∷ vs) l = absurd (omega arith)
+
+-- The masks give them in order.
+pub power-picked : (vs : List Value) → length vs ≤ 5 → picked (subsetCount (length vs)) masks vs ≡ map setOf (powers (length vs) vs)
+unfolding powers picked
+power-picked [] l = refl
+power-picked (a ∷ []) l = refl
+power-picked (a ∷ b ∷ []) l = refl
+power-picked (a ∷ b ∷ c ∷ []) l = refl
+power-picked (a ∷ b ∷ c ∷ d ∷ []) l = refl
+power-picked (a ∷ b ∷ c ∷ d ∷ f ∷ []) l = refl
+power-picked (a ∷ b ∷ c ∷ d ∷ f ∷ g ∷ vs) l = absurd (omega arith)
+
+-- Six members or more are too many.
+six-heavy : (a b c d f g : Value) → 256 ≤ powerWeight (a ∷ b ∷ c ∷ d ∷ f ∷ g ∷ [])
+unfolding powers
+six-heavy a b c d f g = omega (arith, weight-pos a, weight-pos b, weight-pos c, weight-pos d, weight-pos f, weight-pos g)
+
+more-heavy : (n : ℕ) (v : Value) (vs : List Value) → length vs ≡ n → weigh (powers n vs) ≤ weigh (powers (suc n) (v ∷ vs))
+unfolding powers
+more-heavy n v vs e = omega (arith, powers-heavier n v vs, weigh-append (powers n (v ∷ vs)) (combos (suc n) (v ∷ vs)))
+
+pub power-heavy : (vs : List Value) → 6 ≤ length vs → 256 ≤ powerWeight vs
+power-heavy [] l = absurd (omega arith)
+power-heavy (a ∷ []) l = absurd (omega arith)
+power-heavy (a ∷ b ∷ []) l = absurd (omega arith)
+power-heavy (a ∷ b ∷ c ∷ []) l = absurd (omega arith)
+power-heavy (a ∷ b ∷ c ∷ d ∷ []) l = absurd (omega arith)
+power-heavy (a ∷ b ∷ c ∷ d ∷ f ∷ []) l = absurd (omega arith)
+power-heavy (a ∷ b ∷ c ∷ d ∷ f ∷ g ∷ []) l = six-heavy a b c d f g
+power-heavy (a ∷ b ∷ c ∷ d ∷ f ∷ g ∷ h ∷ vs) l =
+    omega (
+      arith,
+      power-heavy (b ∷ c ∷ d ∷ f ∷ g ∷ h ∷ vs) (omega arith),
+      more-heavy (length (b ∷ c ∷ d ∷ f ∷ g ∷ h ∷ vs)) a (b ∷ c ∷ d ∷ f ∷ g ∷ h ∷ vs) refl,
+    )

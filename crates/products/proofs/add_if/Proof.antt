@@ -1,0 +1,21 @@
+-- `add_if`: a member that is not kept changes nothing.
+use mathlib.Core.Logic.{inl, inr}
+use mathlib.Core.Path.{refl}
+use borrow.Author.Needs.{needs}
+use Rattle.products.proofs.add_if.Statement.{statement}
+use Rattle.products.proofs.add_if.Tie as tie
+
+add-requires : tie.Need-add-requires
+add-requires c κs = c .before .before .before .pre (c .before .if1 .taken)
+
+same-length : tie.Need-same-length
+same-length c = search needs
+
+returns : tie.Need-returns
+returns c = inl (c .before .before .before .before .if1 .taken, c .before .before .add .ensures)
+
+returns-2 : tie.Need-returns-2
+returns-2 c = inr (c .if1 .left, refl, refl)
+
+pub add-if-spec : {M : Type 1} → statement M
+add-if-spec = tie.close (tie.spec add-requires same-length returns returns-2)

@@ -1,0 +1,73 @@
+-- The power set of a set of at most five members: its subsets as bits.
+use Prim.Native.Nat.{ℕ, zero, suc, _+_, _/_, _%_, _≤_, _<_}
+use mathlib.Core.Bool.{Bool, true, false, cond}
+use mathlib.Core.List.{List, [], _∷_, map}
+use mathlib.Core.Logic.{_⊎_}
+use mathlib.Core.Path.{_≡_}
+use lib.Dec.{eqb, ltb}
+use lib.ListN.{length, getD}
+use Rattle.rules.specs.Values.{Value, set, Values, none, _▸_, members, values, weights}
+use Rattle.rules.specs.Operations.{setOf, rising, subsets, keptValue}
+use Rattle.arena.specs.Code.{code, codes, SetBelow, Made}
+use Rattle.products.specs.Growing.{Appended, Front}
+use Rattle.products.specs.Parts.{AddPre, Added}
+use Rattle.products.specs.declared.Out.{Out}
+
+abbrev pub Powers : List ℕ → ℕ → ℕ → List ℕ → ℕ → Type 0
+Powers s a top s′ r = (vs : Values) → SetBelow s top a vs → Made top s s′ (setOf (rising (map setOf (subsets (members vs))))) r
+
+-- Bit i stands for member i: fewer bits first, then by the first members that differ.
+abbrev pub masks : List ℕ
+masks =
+    0 ∷ 1 ∷ 2 ∷ 4 ∷ 8 ∷ 16 ∷ 3 ∷ 5 ∷ 9 ∷ 17 ∷ 6 ∷ 10 ∷ 18 ∷ 12 ∷ 20 ∷ 24 ∷ 7 ∷ 11 ∷ 19 ∷ 13 ∷ 21 ∷ 25 ∷ 14 ∷ 22 ∷ 26 ∷ 28 ∷ 15 ∷ 23 ∷ 27 ∷ 29 ∷ 30 ∷ 31 ∷ []
+
+-- The number of subsets of n members; 64 for more than five.
+abbrev pub subsetCounts : List ℕ
+subsetCounts = 1 ∷ 2 ∷ 4 ∷ 8 ∷ 16 ∷ 32 ∷ []
+
+abbrev pub subsetCount : ℕ → ℕ
+subsetCount n = cond (ltb 5 n) 64 (getD subsetCounts n 0)
+
+-- The members whose bits m has.
+unfoldable pub pick : ℕ → List Value → List Value
+pick m [] = []
+pick m (v ∷ vs) = keptValue (eqb (m % 2) 1) v (pick (m / 2) vs)
+
+-- The subsets for the masks below p.
+unfoldable pub picked : ℕ → List ℕ → List Value → List Value
+unfolding pick
+picked p [] vs = []
+picked p (m ∷ ms) vs = keptValue (ltb m p) (setOf (pick m vs)) (picked p ms vs)
+
+-- A member put if it is kept.
+abbrev pub AddedIf : Bool → List ℕ → ℕ → ℕ → Out → List ℕ → Out → Type 0
+AddedIf keep s from end o s′ r = ((keep ≡ true) × Added s from end o s′ r) ⊎ ((keep ≡ false) × (s′ ≡ s) × (r ≡ o))
+
+-- n members from a on stand below `to`, where there is room for a subset.
+pub record SubsetPre (s : List ℕ) (a n to : ℕ) : Type 0 where
+  pub top : ℕ
+  pub whole : Values
+  pub front : Front s top a n whole
+  pub behind : top ≤ to
+  pub room : to + 257 ≤ length s
+
+abbrev pub Subsets : List ℕ → ℕ → ℕ → ℕ → ℕ → List ℕ → ℕ → Type 0
+Subsets s a n mask to s′ r =
+    (top : ℕ) (vs : Values) → Front s top a n vs → top ≤ to → Appended s to s′ r (code (setOf (pick mask (members vs))))
+
+abbrev pub SubsetIf : List ℕ → ℕ → ℕ → ℕ → ℕ → ℕ → List ℕ → ℕ → Type 0
+SubsetIf s a n mask p to s′ r =
+    (top : ℕ) (vs : Values) → Front s top a n vs → top ≤ to → Appended s to s′ r (codes (values (keptValue (ltb mask p) (setOf (pick mask (members vs))) [])))
+
+-- All subsets for the masks below p.
+pub record AllPre (s : List ℕ) (a n p to : ℕ) : Type 0 where
+  pub top : ℕ
+  pub whole : Values
+  pub front : Front s top a n whole
+  pub behind : top ≤ to
+  pub light : weights (values (picked p masks (members whole))) ≤ 255
+  pub room : to + 512 ≤ length s
+
+abbrev pub AllSubsets : List ℕ → ℕ → ℕ → ℕ → ℕ → List ℕ → ℕ → Type 0
+AllSubsets s a n p to s′ r =
+    (top : ℕ) (vs : Values) → Front s top a n vs → top ≤ to → Appended s to s′ r (codes (values (picked p masks (members vs))))
