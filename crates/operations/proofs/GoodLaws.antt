@@ -1,0 +1,80 @@
+-- What a good value of the arena is to the functions below: it fits, has a type, and as a set can be an operand.
+use Prim.Native.Nat.{ℕ, zero, suc, _+_, _≤_, _<_}
+use mathlib.Core.Bool.{Bool, true, _&&_}
+use mathlib.Core.List.{List}
+use mathlib.Core.Path.{_≡_}
+use native.Mathlib.Omega.{arith}
+use lib.Dec.{T, leb→le}
+use lib.IntN.{pos, negsuc}
+use lib.ListN.{length, getD}
+use Rattle.rules.specs.Values.{Value, scalar, num, truth, element, pair, set, Values, none, _▸_, weight}
+use Rattle.rules.specs.Cells.{wellFormed, risingAll, precedes, good}
+use Rattle.rules.proofs.OrderLaws.{and-left, and-right}
+use Rattle.rules.proofs.CellsLaws.{Encodable, Encodables, encodable-wellFormed, few-sizes, good-wellFormed, good-weight, good-typed}
+use Rattle.arena.specs.Code.{excess, CellsFit, AllFit, SomeAt, Rises, FineSet, SetBelow, ValueBelow}
+use Rattle.arena.proofs.CodeLaws.{length-code}
+use Rattle.fitting.specs.Agree.{TypedAt}
+use Rattle.fitting.proofs.Cells.{typed-at}
+use Rattle.operations.specs.Good.{Sizes, GoodAt}
+
+-- Values that can be encoded fit the arena.
+mutual
+  unfolding excess
+
+  encodable-fits : (v : Value) → Encodable v → CellsFit v
+  encodable-fits (scalar (num n (pos i))) h = let l = leb→le i 2147483647 h in (omega arith, omega arith)
+  encodable-fits (scalar (num n (negsuc i))) h = let l = leb→le i 2147483647 h in (omega arith, omega arith)
+  encodable-fits (scalar (truth b)) h = tt
+  encodable-fits (scalar (element g k)) h = h
+  encodable-fits (pair v w) h = (encodable-fits v (h .0), encodable-fits w (h .1))
+  encodable-fits (set s) h = (h .0, encodables-fit s (h .1))
+
+  encodables-fit : (vs : Values) → Encodables vs → AllFit vs
+  encodables-fit none h = tt
+  encodables-fit (v ▸ vs) h = (encodable-fits v (h .0), encodables-fit vs (h .1))
+
+rising-rises : (gs : List ℕ) (s : Values) → T (risingAll gs s) → Rises s
+rising-rises gs none h = tt
+rising-rises gs (v ▸ vs) h =
+    let a = wellFormed gs v in
+    let b = precedes v vs in
+    let c = risingAll gs vs in
+    (and-right a b (and-left (a && b) c h), rising-rises gs vs (and-right (a && b) c h))
+
+module _ {gs : List ℕ} (small : Sizes gs) where
+  pub good-fits : (v : Value) → T (good gs v) → CellsFit v
+  good-fits v h =
+      encodable-fits v
+      (encodable-wellFormed gs (few-sizes gs (small .few) (λ g _. small .small g)) v (omega (arith, good-weight gs v h)) (good-wellFormed gs v h))
+
+  pub good-set : (vs : Values) → T (good gs (set vs)) → FineSet vs
+  good-set vs h = record {
+    fits = good-fits (set vs) h;
+    light = good-weight gs (set vs) h;
+    rises = rising-rises gs vs (good-wellFormed gs (set vs) h);
+  }
+
+  module _ {s : List ℕ} {top at : ℕ} {v : Value} (h : GoodAt gs s top at v) where
+    pub good-value : ValueBelow s top at v
+    good-value = record { stands = h .stands; below = h .below; fits = good-fits v (h .good); light = good-weight gs v (h .good) }
+
+    pub good-typed-at : TypedAt s at v
+    good-typed-at = typed-at s at v (h .stands) (good-fits v (h .good)) (good-typed gs v (h .good))
+
+    pub good-some : SomeAt s at
+    good-some = record { value = v; stands = h .stands; fits = good-fits v (h .good) }
+
+    -- Seen from a higher place.
+    pub good-above : (k : ℕ) → top ≤ k → GoodAt gs s k at v
+    good-above k le = record { stands = h .stands; below = omega (arith, h .below); good = h .good }
+
+    pub good-inside : at < length s
+    good-inside = omega (arith, h .stands .inside, length-code v, weight-pos v)
+      where
+        weight-pos : (w : Value) → 1 ≤ weight w
+        weight-pos (scalar x) = omega arith
+        weight-pos (pair a b) = omega arith
+        weight-pos (set x) = omega arith
+
+  pub good-set-at : {s : List ℕ} {top at : ℕ} (vs : Values) → GoodAt gs s top at (set vs) → SetBelow s top at vs
+  good-set-at vs h = record { stands = h .stands; below = h .below; fine = good-set vs (h .good) }

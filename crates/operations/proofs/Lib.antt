@@ -1,0 +1,3 @@
+-- The operations on good values.
+pub mod GoodLaws
+pub mod OutcomeLaws

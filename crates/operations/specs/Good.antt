@@ -1,0 +1,19 @@
+-- Good values of the arena: those that refusal 14 lets through and those that evaluation forms.
+use Prim.Native.Nat.{ℕ, _+_, _≤_}
+use mathlib.Core.List.{List}
+use lib.Dec.{T}
+use lib.ListN.{length, getD}
+use Rattle.rules.specs.Values.{Value, weight}
+use Rattle.rules.specs.Cells.{good}
+use Rattle.arena.specs.Code.{ValueAt}
+
+-- The sizes of the given sets of a readable table.
+pub record Sizes (gs : List ℕ) : Type 0 where
+  pub few : length gs ≤ 16
+  pub small : (g : ℕ) → getD gs g 0 ≤ 32
+
+-- A good value stands at `at`, below `top`.
+pub record GoodAt (gs s : List ℕ) (top at : ℕ) (v : Value) : Type 0 where
+  pub stands : ValueAt s at v
+  pub below : at + weight v ≤ top
+  pub good : T (good gs v)

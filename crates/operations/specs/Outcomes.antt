@@ -1,0 +1,142 @@
+-- What a node gives for its operands' values, and what the operations answer for it.
+use Prim.Native.Nat.{ℕ, _+_, _≤_, _<_}
+use mathlib.Core.Bool.{Bool, true, false, cond}
+use mathlib.Core.List.{List, [], _∷_}
+use mathlib.Core.Option.{some}
+use mathlib.Core.Path.{_≡_}
+use lib.Dec.{leb, eqb}
+use lib.ListN.{length, getD}
+use Rattle.rules.specs.Values.{Value, weight}
+use Rattle.rules.specs.Kinds.{Test, One, Two, test, leaf, one, two, kindOf}
+use Rattle.rules.specs.Kinds.{Leaf, identifier, givenSet, elementOf, literal, truthConst, emptySet, boolSet}
+use Rattle.rules.specs.Rules.{Pattern, testRule, oneRule, twoRule}
+use Rattle.rules.specs.Fits.{fits}
+use Rattle.rules.specs.Cells.{weightLimit}
+use Rattle.rules.specs.Runs.{Given, gives, lacks}
+use Rattle.rules.specs.Operations.{Env, holds, leafValue, oneValue, twoValue}
+use Rattle.arena.specs.Code.{ValueAt, Same}
+use Rattle.operations.specs.Good.{Sizes, GoodAt}
+use Rattle.operations.specs.declared.Outcome.{Outcome}
+use Rattle.operations.specs.declared.Outcome.the-variants.{Built, Within, Lacks}
+use Rattle.operations.specs.declared.Tested.{Tested}
+use Rattle.operations.specs.declared.Tested.the-variants.{Truth, Unlike}
+
+-- 18: what is given weighs at most 256.
+abbrev pub weighed : Given → Given
+weighed (gives v) = cond (leb (weight v) weightLimit) (gives v) (lacks 18)
+weighed (lacks k) = lacks k
+
+-- 15, and then what is given.
+abbrev pub fitted : List Pattern → List Value → Given → Given
+fitted ps vs g = cond (fits ps vs) (weighed g) (lacks 15)
+
+unfoldable pub oneGiven : One → Value → Given
+unfolding fits oneValue
+oneGiven j v = fitted (oneRule j .takes) (v ∷ []) (oneValue j v)
+
+unfoldable pub twoGiven : Two → Value → Value → Given
+unfolding fits twoValue
+twoGiven j v w = fitted (twoRule j .takes) (v ∷ w ∷ []) (twoValue j v w)
+
+unfoldable pub tested : Test → Value → Value → Tested
+unfolding fits holds
+tested j v w = cond (fits (testRule j .takes) (v ∷ w ∷ [])) (Truth (holds j v w)) Unlike
+
+-- The answer of a function that builds and answers where the value ends, or 0 where it would weigh over 256.
+unfoldable pub ended : ℕ → Outcome
+ended end = cond (eqb end 0) (Lacks 18) (Built end)
+
+-- A value that is given has been built at `top` and ends at `end`.
+pub record BuiltAt (s : List ℕ) (top : ℕ) (g : Given) (end : ℕ) : Type 0 where
+  pub value : Value
+  pub is : g ≡ gives value
+  pub stands : ValueAt s top value
+  pub ends : end ≡ top + weight value
+  pub light : weight value ≤ 256
+
+-- A value that is given stands at `at`, below `mid`.
+pub record WithinAt (s : List ℕ) (mid : ℕ) (g : Given) (at : ℕ) : Type 0 where
+  pub value : Value
+  pub is : g ≡ gives value
+  pub stands : ValueAt s at value
+  pub below : at + weight value ≤ mid
+
+-- The answer tells what is given: built at `top`, or a part of the first operand, which ends by `mid`, or the number of a refusal.
+abbrev pub Gives : List ℕ → ℕ → ℕ → Given → Outcome → Type 0
+Gives s mid top g (Built end) = BuiltAt s top g end
+Gives s mid top g (Within at) = WithinAt s mid g at
+Gives s mid top g (Lacks k) = g ≡ lacks k
+
+-- A good operand stands at a, below `top`, where there is room to build.
+pub record OneReady (s : List ℕ) (a top : ℕ) : Type 0 where
+  pub sizes : List ℕ
+  pub small : Sizes sizes
+  pub value : Value
+  pub operand : GoodAt sizes s top a value
+  pub room : top + 514 ≤ length s
+
+-- Good operands stand at a, below `mid`, and at b, below `top`.
+pub record TwoReady (s : List ℕ) (a mid b top : ℕ) : Type 0 where
+  pub sizes : List ℕ
+  pub small : Sizes sizes
+  pub first : Value
+  pub second : Value
+  pub left : GoodAt sizes s mid a first
+  pub right : GoodAt sizes s top b second
+  pub order : mid ≤ top
+  pub room : top + 514 ≤ length s
+
+-- What an operation of one operand answers; below `top` nothing is changed.
+pub record OneDone (j : One) (s : List ℕ) (a top : ℕ) (s′ : List ℕ) (r : Outcome) : Type 0 where
+  pub frame : Same top s s′
+  pub answer : (gs : List ℕ) (v : Value) → Sizes gs → GoodAt gs s top a v → Gives s′ top top (oneGiven j v) r
+
+-- And of two.
+pub record TwoDone (j : Two) (s : List ℕ) (a mid b top : ℕ) (s′ : List ℕ) (r : Outcome) : Type 0 where
+  pub frame : Same top s s′
+  pub answer : (gs : List ℕ) (v w : Value) → Sizes gs → GoodAt gs s mid a v → GoodAt gs s top b w → Gives s′ mid top (twoGiven j v w) r
+
+-- What a test answers.
+abbrev pub TestDone : Test → List ℕ → ℕ → ℕ → ℕ → ℕ → Tested → Type 0
+TestDone j s a mid b top r = (gs : List ℕ) (v w : Value) → Sizes gs → GoodAt gs s mid a v → GoodAt gs s top b w → r ≡ tested j v w
+
+-- The same by kind codes.
+abbrev pub OneOf : ℕ → List ℕ → ℕ → ℕ → List ℕ → Outcome → Type 0
+OneOf k s a top s′ r = (j : One) → kindOf k ≡ some (one j) → OneDone j s a top s′ r
+
+abbrev pub TwoOf : ℕ → List ℕ → ℕ → ℕ → ℕ → ℕ → List ℕ → Outcome → Type 0
+TwoOf k s a mid b top s′ r = (j : Two) → kindOf k ≡ some (two j) → TwoDone j s a mid b top s′ r
+
+abbrev pub TestOf : ℕ → List ℕ → ℕ → ℕ → ℕ → ℕ → Tested → Type 0
+TestOf k s a mid b top r = (j : Test) → kindOf k ≡ some (test j) → TestDone j s a mid b top r
+
+abbrev pub IsOne : ℕ → Type 0
+IsOne k = (j : One) × (kindOf k ≡ some (one j))
+
+abbrev pub IsTwo : ℕ → Type 0
+IsTwo k = (j : Two) × (kindOf k ≡ some (two j))
+
+abbrev pub IsTest : ℕ → Type 0
+IsTest k = (j : Test) × (kindOf k ≡ some (test j))
+
+-- A leaf other than an identifier, with the words a and b and the size of the given set a, may be built.
+abbrev pub LeafFits : Leaf → ℕ → ℕ → ℕ → Type 0
+LeafFits identifier a b size = ⊥
+LeafFits givenSet a b size = (a < 16) × (size ≤ 32)
+LeafFits elementOf a b size = (a < 16) × (b < 32)
+LeafFits (literal n) a b size = a < 4294967296
+LeafFits truthConst a b size = a < 2
+LeafFits emptySet a b size = Unit {0}
+LeafFits boolSet a b size = Unit {0}
+
+pub record LeafReady (k a b size : ℕ) (s : List ℕ) (top : ℕ) : Type 0 where
+  pub kind : Leaf
+  pub is : kindOf k ≡ some (leaf kind)
+  pub fits : LeafFits kind a b size
+  pub room : top + 514 ≤ length s
+
+-- It has been built at `top` and ends at r.
+pub record LeafDone (k a b size : ℕ) (s : List ℕ) (top : ℕ) (s′ : List ℕ) (r : ℕ) : Type 0 where
+  pub frame : Same top s s′
+  pub answer : (j : Leaf) (gs : List ℕ) (ρ : Env) → kindOf k ≡ some (leaf j) → LeafFits j a b size → getD gs a 0 ≡ size →
+      BuiltAt s′ top (gives (leafValue gs j a b ρ)) r
