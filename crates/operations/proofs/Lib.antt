@@ -1,3 +1,5 @@
 -- The operations on good values.
 pub mod GoodLaws
 pub mod OutcomeLaws
+pub mod KindLaws
+pub mod SingleLaws

@@ -1,6 +1,9 @@
 // What each kind gives for its operands' values, by kind codes: refusals 15 to 18, and values built in the arena.
 ghost use mathlib.Core.Path.{_≡_};
-ghost use Rattle.operations.specs.Outcomes.{ended};
+ghost use Rattle.operations.specs.Outcomes.{ended, OneReady, OneOf, IsOne, LeafReady, LeafDone};
+
+mod leaves;
+mod single;
 
 // A value built at the arena's top, with where it ends; or one within the first operand, with where it stands; or the
 // number of a refusal.
@@ -24,4 +27,33 @@ fn built(end: usize) -> Outcome
         return Outcome::Lacks(18);
     }
     Outcome::Built(end)
+}
+
+// Kinds 27, 33, 35, 36, 38 and 43: one operand, at a.
+pub fn one(s: &mut [u64], kind: usize, a: usize, top: usize) -> Outcome
+    requires { ⌜ IsOne kind × OneReady (now s) a top ⌝ }
+    ensures { λ r. ⌜ OneOf kind (now (s .entry)) a top (now (s .exit)) r ⌝ }
+{
+    match kind {
+        27 => single::one_singleton(s, a, top),
+        33 => single::one_power(s, a, top),
+        35 => single::one_domain(s, a, top),
+        36 => single::one_range(s, a, top),
+        38 => single::one_card(s, a, top),
+        _ => single::one_choice(s, a, top),
+    }
+}
+
+// Kinds 21 to 24, 26 and 42: no operand, with the words a and b and the size of the given set a. Answers where the value
+// ends that has been built at top.
+pub fn leaf(s: &mut [u64], kind: usize, a: u64, b: u64, size: u64, top: usize) -> usize
+    requires { ⌜ LeafReady kind a b size (now s) top ⌝ }
+    ensures { λ r. ⌜ LeafDone kind a b size (now (s .entry)) top (now (s .exit)) r ⌝ }
+{
+    match kind {
+        21 => products::elements(s, a, size, top),
+        26 => products::put_empty(s, top),
+        42 => products::booleans(s, top),
+        _ => products::put_cell(s, top, leaves::scalar_cell(kind, a, b)),
+    }
 }
