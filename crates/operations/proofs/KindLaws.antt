@@ -127,3 +127,12 @@ same-one k i j e f = let d : some (one i) ≡ some (one j) = sym e ∙ f in cc
 
 pub same-leaf : (k : ℕ) (i j : Leaf) → kindOf k ≡ some (leaf i) → kindOf k ≡ some (leaf j) → i ≡ j
 same-leaf k i j e f = let d : some (leaf i) ≡ some (leaf j) = sym e ∙ f in cc
+
+-- The last kind of one operand, where the code is none of the others'.
+pub last-one : (k : ℕ) (j : One) → kindOf k ≡ some (one j) → k ≢ 27 → k ≢ 33 → k ≢ 35 → k ≢ 36 → k ≢ 38 → j ≡ choice
+last-one k singleton e n27 n33 n35 n36 n38 = absurd (n27 (code-of k (one singleton) e))
+last-one k power e n27 n33 n35 n36 n38 = absurd (n33 (code-of k (one power) e))
+last-one k dom e n27 n33 n35 n36 n38 = absurd (n35 (code-of k (one dom) e))
+last-one k ran e n27 n33 n35 n36 n38 = absurd (n36 (code-of k (one ran) e))
+last-one k card e n27 n33 n35 n36 n38 = absurd (n38 (code-of k (one card) e))
+last-one k choice e n27 n33 n35 n36 n38 = refl

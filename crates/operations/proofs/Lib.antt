@@ -3,3 +3,4 @@ pub mod GoodLaws
 pub mod OutcomeLaws
 pub mod KindLaws
 pub mod SingleLaws
+pub mod LeafLaws

@@ -11,7 +11,7 @@ use lib.IntN.{pos}
 use lib.ListN.{length, getD}
 use Rattle.rules.specs.Types.{whole, Ty, atom, POW, _⊗_, INTEGER}
 use Rattle.rules.specs.Values.{Value, scalar, pair, set, Values, none, _▸_, int, members, count, weight, weights}
-use Rattle.rules.specs.Kinds.{One, singleton, power, dom, ran, card, choice}
+use Rattle.rules.specs.Kinds.{One, singleton, power, dom, ran, card, choice, kindOf}
 use Rattle.rules.specs.Rules.{Pattern, t̂, û, P̂, _×̂_, oneRule}
 use Rattle.rules.specs.Fits.{HasType, HaveType, Fits, typed, fits}
 use Rattle.rules.specs.Runs.{Given, gives, lacks}
@@ -27,11 +27,12 @@ use Rattle.fitting.specs.Agree.{SomeTyped}
 use Rattle.fitting.specs.Tests.{FitOne}
 use Rattle.fitting.proofs.Cells.{first-cell, members-stand, first-stands}
 use Rattle.operations.specs.Good.{Sizes, GoodAt}
-use Rattle.operations.specs.Outcomes.{weighed, oneGiven, ended, Gives, OneReady, OneDone}
+use Rattle.operations.specs.Outcomes.{weighed, oneGiven, ended, Gives, OneReady, OneDone, OneOf}
 use Rattle.operations.specs.declared.Outcome.{Outcome}
 use Rattle.operations.specs.declared.Outcome.the-variants.{Built, Within, Lacks}
 use Rattle.operations.proofs.GoodLaws.{good-value, good-typed-at, good-set-at, good-fits, good-inside}
 use Rattle.operations.proofs.OutcomeLaws.{made-gives, one-unfit, one-fit, gives-as}
+use Rattle.operations.proofs.KindLaws.{oneCode, of-one, same-one, last-one}
 
 absurd01 : _≡_ {A = ℕ} 0 1 → ⊥
 absurd01 e = omega arith
@@ -220,3 +221,11 @@ module _ {s : List ℕ} {a top : ℕ} {r : Bool} (f : FitOne (P̂ t̂ ∷ []) s 
 
   pub choice-some : n ≢ 0 → OneDone choice s a top s (Within (a + 1))
   choice-some z = chosen (Within (a + 1)) (λ vs b d. choice-first s a top vs b (λ e. z (d ∙ e)))
+
+-- By kind codes: the code is j's, or that of none but the last.
+module _ {k a top : ℕ} {s s′ : List ℕ} {o : Outcome} where
+  pub one-of : (j : One) → k ≡ oneCode j → OneDone j s a top s′ o → OneOf k s a top s′ o
+  one-of j e d i f = subst (λ (h : One). OneDone h s a top s′ o) (same-one k j i (ap kindOf e ∙ of-one j) f) d
+
+  pub one-last : k ≢ 27 → k ≢ 33 → k ≢ 35 → k ≢ 36 → k ≢ 38 → OneDone choice s a top s′ o → OneOf k s a top s′ o
+  one-last n27 n33 n35 n36 n38 d i f = subst (λ (h : One). OneDone h s a top s′ o) (sym (last-one k i f n27 n33 n35 n36 n38)) d
