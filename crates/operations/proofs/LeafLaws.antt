@@ -1,6 +1,6 @@
 -- The leaves: their cells, and that what the functions below have built is their value.
 use Prim.Native.Nat.{ℕ, zero, suc, _+_, _*_, _-_, _%_, _≤_, _<_}
-use mathlib.Core.Bool.{Bool, true, false, cond}
+use mathlib.Core.Bool.{true, false}
 use mathlib.Core.List.{List, [], _∷_}
 use mathlib.Core.Logic.{_≢_}
 use mathlib.Core.Option.{some}
@@ -8,16 +8,16 @@ use mathlib.Core.Path.{_≡_, refl, ap, sym, subst, _∙_}
 use native.Mathlib.Omega.{arith}
 use native.Mathlib.Decide.{decLt}
 use borrow.Author.Tests.{eq-eqb, ne-eqb, lt-ltb, le-ltb}
-use lib.Dec.{eqb, ltb}
-use lib.IntN.{ℤ, pos, negsuc}
-use lib.ListN.{length, getD}
+use lib.Dec.{eqb}
+use lib.IntN.{pos, negsuc}
+use lib.ListN.{getD}
 use Rattle.rules.specs.Types.{whole}
-use Rattle.rules.specs.Values.{Value, scalar, element, num, set, none, int, truthValue, bit, values, weight, weights}
+use Rattle.rules.specs.Values.{Value, set, none, truthValue, bit, values, weight, weights}
 use Rattle.rules.specs.Kinds.{Leaf, identifier, givenSet, elementOf, literal, truthConst, emptySet, boolSet, leaf, kindOf}
 use Rattle.rules.specs.Cells.{signed, noValue}
 use Rattle.rules.specs.Runs.{gives}
 use Rattle.rules.specs.Operations.{Env, setOf, elementsFrom, leafValue}
-use Rattle.arena.specs.Code.{cellSize, excess, code, Same, Made}
+use Rattle.arena.specs.Code.{excess, code, Same, Made}
 use Rattle.products.specs.Growing.{PutsCell}
 use Rattle.operations.specs.Outcomes.{BuiltAt, LeafFits, LeafReady, LeafDone}
 use Rattle.operations.specs.Leaves.{scalarCell, Narrow}

@@ -1,5 +1,5 @@
 -- The operations of one operand: what the functions below need of it, and that their answers tell what the node gives.
-use Prim.Native.Nat.{ℕ, zero, suc, _+_, _/_, _%_, _≤_, _<_}
+use Prim.Native.Nat.{ℕ, _+_, _%_, _<_}
 use mathlib.Core.Bool.{Bool, true, false}
 use mathlib.Core.List.{List, [], _∷_}
 use mathlib.Core.Logic.{_≢_}
@@ -9,16 +9,16 @@ use borrow.Author.Tests.{le-leb}
 use lib.Dec.{T}
 use lib.IntN.{pos}
 use lib.ListN.{length, getD}
-use Rattle.rules.specs.Types.{whole, Ty, atom, POW, _⊗_, INTEGER}
-use Rattle.rules.specs.Values.{Value, scalar, pair, set, Values, none, _▸_, int, members, count, weight, weights}
+use Rattle.rules.specs.Types.{Ty, POW, _⊗_, INTEGER}
+use Rattle.rules.specs.Values.{Value, scalar, pair, set, Values, none, _▸_, int, members, count, weight}
 use Rattle.rules.specs.Kinds.{One, singleton, power, dom, ran, card, choice, kindOf}
-use Rattle.rules.specs.Rules.{Pattern, t̂, û, P̂, _×̂_, oneRule}
-use Rattle.rules.specs.Fits.{HasType, HaveType, Fits, typed, fits}
-use Rattle.rules.specs.Runs.{Given, gives, lacks}
-use Rattle.rules.specs.Operations.{oneValue, elems}
-use Rattle.rules.proofs.CellsLaws.{good-weight, good-typed}
+use Rattle.rules.specs.Rules.{t̂, û, P̂, _×̂_, oneRule}
+use Rattle.rules.specs.Fits.{HasType, HaveType, typed, fits}
+use Rattle.rules.specs.Runs.{gives, lacks}
+use Rattle.rules.specs.Operations.{oneValue}
+use Rattle.rules.proofs.CellsLaws.{good-typed}
 use Rattle.rules.proofs.FitsLaws.{typed-right, fits-right}
-use Rattle.arena.specs.Code.{cellSize, excess, code, ValueAt, Same, SetBelow, SomeSet, SomeValue, Made}
+use Rattle.arena.specs.Code.{code, SetBelow, SomeSet, SomeValue, Made}
 use Rattle.arena.proofs.Standing.{same-refl}
 use Rattle.products.specs.Growing.{PutsCell, Singles}
 use Rattle.products.specs.Parts.{IsPair, AllPairs, SomePairs, Domains, Ranges}
@@ -29,8 +29,8 @@ use Rattle.fitting.proofs.Cells.{first-cell, members-stand, first-stands}
 use Rattle.operations.specs.Good.{Sizes, GoodAt}
 use Rattle.operations.specs.Outcomes.{weighed, oneGiven, ended, Gives, OneReady, OneDone, OneOf}
 use Rattle.operations.specs.declared.Outcome.{Outcome}
-use Rattle.operations.specs.declared.Outcome.the-variants.{Built, Within, Lacks}
-use Rattle.operations.proofs.GoodLaws.{good-value, good-typed-at, good-set-at, good-fits, good-inside}
+use Rattle.operations.specs.declared.Outcome.the-variants.{Within, Lacks}
+use Rattle.operations.proofs.GoodLaws.{good-value, good-typed-at, good-set-at, good-inside}
 use Rattle.operations.proofs.OutcomeLaws.{made-gives, one-unfit, one-fit, gives-as}
 use Rattle.operations.proofs.KindLaws.{oneCode, of-one, same-one, last-one}
 

@@ -1,5 +1,4 @@
 -- `scalar_cell`: the cell by the kind's code.
-use native.Mathlib.Omega.{arith}
 use Rattle.operations.proofs.LeafLaws.{cell-element, cell-number, cell-truth}
 use borrow.Author.Needs.{needs}
 use Rattle.operations.proofs.leaves.scalar_cell.Statement.{statement}
