@@ -11,19 +11,19 @@ use lib.Dec.{T, eqb, ltb, eqb→eq, ltb→lt, nltb→le}
 use lib.IntN.{ℤ, pos, negsuc, subℕ, _+ℤ_, _-ℤ_}
 use lib.Signed.{mag}
 use lib.ListN.{length, getD}
-use Rattle.rules.specs.Types.{whole, Ty, atom, POW, _⊗_, INTEGER}
-use Rattle.rules.specs.Values.{num, truth, element, Value, scalar, pair, set, Values, none, _▸_, int, members, payload, weight}
+use Rattle.rules.specs.Types.{whole, Ty, POW, _⊗_, INTEGER}
+use Rattle.rules.specs.Values.{num, truth, element, Value, scalar, pair, set, Values, none, _▸_, int, members, weight}
 use Rattle.rules.specs.Rules.{Pattern, t̂, û, P̂, _×̂_, numᵖ, inst, twoRule}
 use Rattle.rules.specs.Kinds.{Two, pairing, union, inter, diff, product, apply, plus, minus, interval}
 use Rattle.rules.specs.Kinds.{Kind, join, negation, test, quant, leaf, boolOf, one, two, comprehension, kinds, kindOf}
 use Rattle.rules.specs.Fits.{HasType, HaveType, fits, typed}
-use Rattle.rules.specs.Cells.{good, inRange}
+use Rattle.rules.specs.Cells.{good}
 use Rattle.rules.specs.Runs.{Given, gives, lacks}
 use Rattle.rules.specs.Operations.{elems, setOf, pairsOf, upFrom, toCount, applied, ranged, twoValue}
 use Rattle.rules.proofs.FitsLaws.{typed-right, fits-right}
 use Rattle.rules.proofs.CellsLaws.{good-typed}
 use Rattle.rules.proofs.OrderLaws.{and-left, and-right}
-use Rattle.arena.specs.Code.{cellSize, excess, code, CellsFit, FineSet, Same, SomeSet, SomeValue, SetBelow, ValueBelow, Made}
+use Rattle.arena.specs.Code.{cellSize, excess, code, CellsFit, FineSet, SomeSet, SomeValue, SetBelow, Made}
 use Rattle.arena.proofs.Standing.{same-refl}
 use Rattle.sets.specs.Merged.{merged}
 use Rattle.sets.specs.Fronts.{Merges, Applies, ImageAt, Within as WithinSet, IsPair, AllPairs}
@@ -32,9 +32,9 @@ use Rattle.products.specs.Growing.{PutsCell, Pairs, Intervals, Multiplies}
 use Rattle.fitting.specs.Tests.{FitTwo, Both}
 use Rattle.fitting.proofs.Cells.{first-cell}
 use Rattle.operations.specs.declared.Outcome.{Outcome}
-use Rattle.operations.specs.declared.Outcome.the-variants.{Built, Within, Lacks}
+use Rattle.operations.specs.declared.Outcome.the-variants.{Within, Lacks}
 use Rattle.operations.specs.Good.{Sizes, GoodAt}
-use Rattle.operations.specs.Outcomes.{weighed, fitted, twoGiven, ended, Gives, WithinAt, TwoReady, TwoDone, TwoOf, IsTwo}
+use Rattle.operations.specs.Outcomes.{weighed, fitted, twoGiven, ended, Gives, TwoReady, TwoDone, TwoOf, IsTwo}
 use Rattle.operations.specs.Double.{MergeDone, Shifted, NumberDone}
 use Rattle.operations.proofs.GoodLaws.{good-fits, good-set, good-value, good-typed-at, good-above, good-inside, good-set-at}
 use Rattle.operations.proofs.OutcomeLaws.{made-gives, fit-fails, fit-holds, two-unfit, two-fit, gives-as}
@@ -134,7 +134,7 @@ module _ {s : List ℕ} {a mid b top : ℕ} (ready : TwoReady s a mid b top) whe
         (
           x .0,
           good-set-at (ready .small) (x .0)
-          (subst (λ (z : Value). GoodAt (ready .sizes) s (length s) a z) (x .1) (good-above (ready .small) (ready .left) (length s) (omega (arith, ready .order, ready .room)))),
+              (subst (λ (z : Value). GoodAt (ready .sizes) s (length s) a z) (x .1) (good-above (ready .small) (ready .left) (length s) (omega (arith, ready .order, ready .room)))),
         ),
       )
 
@@ -163,7 +163,7 @@ module _ (v w : Value) (vs ws : Values) (e : v ≡ set vs) (d : w ≡ set ws) wh
   merge-is l b r m = rw (e, d) m
 
 module _ {s : List ℕ} {a mid b top : ℕ} (ready : TwoReady s a mid b top) where
-  -- Where the operands of j are sets, they can be merged and multiplied.
+  -- Operands that are sets can be merged and multiplied.
   sets-below : (p q : Pattern) (gs : List ℕ) (v w : Value) → Sizes gs → GoodAt gs s mid a v → GoodAt gs s top b w →
       fits (P̂ p ∷ P̂ q ∷ []) (v ∷ w ∷ []) ≡ true →
       (vs : Values) × (ws : Values) × (v ≡ set vs) × (w ≡ set ws) × SetBelow s top a vs × SetBelow s top b ws
@@ -318,13 +318,21 @@ module _ {s : List ℕ} {a mid b top : ℕ} (ready : TwoReady s a mid b top) {f 
   }
 
 -- Integers with their range checked.
+beyond : (i : ℤ) → 2147483647 < mag i → weighed (ranged whole i) ≡ lacks 17
+beyond i l = rw (lt-leb (mag i) 2147483647 l)
+
+within-range : (i : ℤ) → mag i ≤ 2147483647 → ranged whole i ≡ gives (int i)
+within-range i l = rw (le-leb (mag i) 2147483647 l)
+
+-- The integer that x stands for.
+shifted-some : (x : ℕ) → (i : ℤ) × Shifted i x
+shifted-some x = go (decLt x 4294967296)
+  where
+    go : Dec (x < 4294967296) → (i : ℤ) × Shifted i x
+    go (yes l) = (negsuc (4294967295 - x), omega arith)
+    go (no l) = (pos (x - 4294967296), omega arith)
+
 module _ (x : ℕ) (s : List ℕ) (top : ℕ) where
-  beyond : (i : ℤ) → 2147483647 < mag i → weighed (ranged whole i) ≡ lacks 17
-  beyond i l = rw (lt-leb (mag i) 2147483647 l)
-
-  within-range : (i : ℤ) → mag i ≤ 2147483647 → ranged whole i ≡ gives (int i)
-  within-range i l = rw (le-leb (mag i) 2147483647 l)
-
   pub number-low : x < 2147483648 → NumberDone x s top s (Lacks 17)
   number-low l = record { frame = same-refl top s; answer = λ mid i h. beyond i (go i h) }
     where
@@ -339,14 +347,6 @@ module _ (x : ℕ) (s : List ℕ) (top : ℕ) where
       go (pos n) h = omega arith
       go (negsuc n) h = omega arith
 
-  -- The integer that x stands for.
-  shifted-some : (i : ℤ) × Shifted i x
-  shifted-some = go (decLt x 4294967296)
-    where
-      go : Dec (x < 4294967296) → (i : ℤ) × Shifted i x
-      go (yes l) = (negsuc (4294967295 - x), omega arith)
-      go (no l) = (pos (x - 4294967296), omega arith)
-
   module _ (low : 2147483648 ≤ x) (high : x - 2147483648 ≤ 4294967295) where
     in-range : (i : ℤ) → Shifted i x → mag i ≤ 2147483647
     in-range (pos n) h = omega arith
@@ -359,7 +359,7 @@ module _ (x : ℕ) (s : List ℕ) (top : ℕ) where
 
     pub number-made : (s′ : List ℕ) (e : ℕ) (o : Outcome) → PutsCell s top (4294967296 + (x - 2147483648)) s′ e → o ≡ ended e → NumberDone x s top s′ o
     number-made s′ e o put z = record {
-      frame = let y = shifted-some in put (int (y .0)) (cell-is (y .0) (y .1)) .frame;
+      frame = let y = shifted-some x in put (int (y .0)) (cell-is (y .0) (y .1)) .frame;
       answer = λ mid i h.
           subst (λ (y : Outcome). Gives s′ mid top (weighed (ranged whole i)) y) (sym z)
           (gives-as s′ mid top (ended e) (ap weighed (within-range i (in-range i h))) (made-gives mid (put (int i) (cell-is i h))));
