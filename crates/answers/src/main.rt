@@ -1,0 +1,196 @@
+// The batch program: cases on standard input, one line for each answer. All words have 4 bytes, least first.
+// A check case: 1, the table's length, the sheet's length, the table. An evaluation: 2, the table's length, the values'
+// length, the budget, the table, the values.
+use checker::Checked;
+use evaluate::Ending;
+use evaluate::Truth;
+use libc::STDIN_FILENO;
+use libc::STDOUT_FILENO;
+use table::Refusal;
+ghost use Prim.Native.Nat.{_≤_, _<_, _*_};
+ghost use lib.ListN.{length};
+
+fn wide(x: u8) -> u64
+    ensures { λ r. ⌜ r < 256 ⌝ }
+{
+    x as u64
+}
+
+// The word at an offset of a case's header.
+fn word(head: &[u8], at: usize) -> u64
+    requires { ⌜ (at ≤ 12) × (16 ≤ length (now head)) ⌝ }
+    ensures { λ r. ⌜ r < 4294967296 ⌝ }
+{
+    let a = wide(head[at]);
+    let b = wide(head[at + 1]);
+    let c = wide(head[at + 2]);
+    let d = wide(head[at + 3]);
+    a + 256 * b + 65536 * c + 16777216 * d
+}
+
+fn say(text: &[u8]) {
+    io::write_all(STDOUT_FILENO, text);
+}
+
+// A refusal's number and place.
+fn print_refusal(r: Refusal) {
+    say(b"refused ");
+    io::print_decimal(STDOUT_FILENO, r.number as u64);
+    say(b" ");
+    io::print_decimal(STDOUT_FILENO, r.place as u64);
+}
+
+// The codes of a row without its fill, or p for a row that has none.
+fn print_row(row: &[u8]) {
+    say(b" ");
+    let mut i: usize = 0;
+    while i < row.len() {
+        let code = wide(row[i]);
+        if code == 0 {
+            break;
+        }
+        io::print_hex(STDOUT_FILENO, code, 2);
+        i += 1;
+    }
+    if i == 0 {
+        say(b"p");
+    }
+}
+
+fn print_rows(sheet: &[u8]) {
+    say(b"accepted");
+    let count = sheet.len() / 64;
+    let mut p: usize = 0;
+    while p < count {
+        let from = 64 * p;
+        let end = from + 64;
+        print_row(&sheet[from..end]);
+        p += 1;
+    }
+}
+
+fn check_case(table: &[u8], sheet: &mut [u8]) {
+    let checked = checker::check(table, sheet);
+    match checked {
+        Checked::Refused(r) => print_refusal(r),
+        Checked::Accepted => print_rows(sheet),
+    }
+    say(b"\n");
+}
+
+fn evaluate_case(table: &[u8], values: &[u8], budget: u32) {
+    let e = evaluate::evaluate(table, values, budget);
+    match e.ending {
+        Ending::Refused(r) => print_refusal(r),
+        Ending::Decided(t) => match t {
+            Truth::True => say(b"true"),
+            Truth::False => say(b"false"),
+        },
+    }
+    say(b" ");
+    io::print_decimal(STDOUT_FILENO, e.steps as u64);
+    say(b"\n");
+}
+
+// Says why the batch stops.
+fn stop(why: &[u8]) -> bool {
+    say(why);
+    false
+}
+
+// Whether the input still has n bytes, which then stand in the buffer.
+fn take(buffer: &mut [u8], n: usize) -> bool
+    requires { ⌜ n ≤ length (now buffer) ⌝ }
+{
+    io::read_full(STDIN_FILENO, &mut buffer[..n]) == n
+}
+
+fn next_check(table: &mut [u8], sheet: &mut [u8]) -> bool
+    requires { ⌜ (16384 ≤ length (now table)) × (1048576 ≤ length (now sheet)) ⌝ }
+{
+    let mut head = [0u8; 16];
+    if !take(&mut head, 8) {
+        return stop(b"cut\n");
+    }
+    let t = word(&head, 0) as usize;
+    let n = word(&head, 4) as usize;
+    if t > 16384 {
+        return stop(b"long\n");
+    }
+    if n > 1048576 {
+        return stop(b"long\n");
+    }
+    if !take(table, t) {
+        return stop(b"cut\n");
+    }
+    check_case(&table[..t], &mut sheet[..n]);
+    true
+}
+
+fn next_evaluation(table: &mut [u8], values: &mut [u8]) -> bool
+    requires { ⌜ (16384 ≤ length (now table)) × (131072 ≤ length (now values)) ⌝ }
+{
+    let mut head = [0u8; 16];
+    if !take(&mut head, 12) {
+        return stop(b"cut\n");
+    }
+    let t = word(&head, 0) as usize;
+    let v = word(&head, 4) as usize;
+    let budget = word(&head, 8) as u32;
+    if t > 16384 {
+        return stop(b"long\n");
+    }
+    if v > 131072 {
+        return stop(b"long\n");
+    }
+    if !take(table, t) {
+        return stop(b"cut\n");
+    }
+    if !take(values, v) {
+        return stop(b"cut\n");
+    }
+    evaluate_case(&table[..t], &values[..v], budget);
+    true
+}
+
+// One case; whether the batch goes on.
+fn next_case(table: &mut [u8], values: &mut [u8], sheet: &mut [u8]) -> bool
+    requires { ⌜ (16384 ≤ length (now table)) × (131072 ≤ length (now values)) × (1048576 ≤ length (now sheet)) ⌝ }
+{
+    let mut head = [0u8; 16];
+    let n = io::read_full(STDIN_FILENO, &mut head[..4]);
+    if n == 0 {
+        return false;
+    }
+    if n < 4 {
+        return stop(b"cut\n");
+    }
+    let kind = word(&head, 0);
+    if kind == 1 {
+        return next_check(table, sheet);
+    }
+    if kind == 2 {
+        return next_evaluation(table, values);
+    }
+    stop(b"unknown\n")
+}
+
+// Nothing says that the input ends, so the turns are counted: no input has so many cases.
+fn all_cases(table: &mut [u8], values: &mut [u8], sheet: &mut [u8])
+    requires { ⌜ (16384 ≤ length (now table)) × (131072 ≤ length (now values)) × (1048576 ≤ length (now sheet)) ⌝ }
+{
+    let mut turns: u64 = 18446744073709551615;
+    while turns > 0 {
+        if !next_case(table, values, sheet) {
+            return;
+        }
+        turns -= 1;
+    }
+}
+
+fn main() {
+    let mut table = [0u8; 16384];
+    let mut values = [0u8; 131072];
+    let mut sheet = [0u8; 1048576];
+    all_cases(&mut table, &mut values, &mut sheet);
+}
