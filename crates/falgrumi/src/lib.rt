@@ -1,10 +1,13 @@
 // The public library, for C and Rust.
 use checker::Checked;
+use evaluate::Ending;
+use evaluate::Truth;
 ghost use mathlib.Core.Path.{_≡_};
 ghost use lib.ListN.{length};
 ghost use Rattle.rules.specs.Verdict.{sheetAfter};
 ghost use Rattle.checker.specs.Model.{verdict};
-ghost use Rattle.falgrumi.specs.Answers.{numberOf, placeOf};
+ghost use Rattle.rules.specs.Evaluation.{evaluation};
+ghost use Rattle.falgrumi.specs.Answers.{numberOf, placeOf, truthOf};
 
 // Check: the refusal's number, 0 where the table is accepted; its place goes to `place`.
 #[no_mangle]
@@ -18,6 +21,45 @@ pub extern "C" fn falgrumi_check(table: &[u8], sheet: &mut [u8], place: &mut u64
             0
         }
         Checked::Refused(r) => {
+            *place = r.place as u64;
+            r.number
+        }
+    }
+}
+
+// 1 for true, 0 for false.
+fn truth_byte(t: Truth) -> u8
+    ensures { λ r. ⌜ r ≡ byteOf t ⌝ }
+{
+    match t {
+        Truth::True => 1,
+        Truth::False => 0,
+    }
+}
+
+// Evaluate: the refusal's number, 0 where there is none. Its place goes to `place`, the condition's truth to `truth`, the
+// visits made to `steps`.
+#[no_mangle]
+pub extern "C" fn falgrumi_evaluate(
+    table: &[u8],
+    values: &[u8],
+    budget: u32,
+    truth: &mut u8,
+    place: &mut u64,
+    steps: &mut u32,
+) -> u8
+    ensures { λ r. ⌜ (r ≡ numberOf (evaluation (now (table .entry)) (now (values .entry)) budget .end)) × (now (truth .exit) ≡ truthOf (evaluation (now (table .entry)) (now (values .entry)) budget .end)) × (now (place .exit) ≡ placeOf (evaluation (now (table .entry)) (now (values .entry)) budget .end)) × (now (steps .exit) ≡ evaluation (now (table .entry)) (now (values .entry)) budget .steps) ⌝ }
+{
+    let e = evaluate::evaluate(table, values, budget);
+    *steps = e.steps;
+    match e.ending {
+        Ending::Decided(t) => {
+            *truth = truth_byte(t);
+            *place = 0;
+            0
+        }
+        Ending::Refused(r) => {
+            *truth = 0;
             *place = r.place as u64;
             r.number
         }

@@ -1,10 +1,13 @@
-//! bench: the time of Check against the reference on the same tables in one run, as a ratio (above 1: the library is faster).
+//! bench: the time of Check and of Evaluate against the reference on the same cases in one run, as a ratio (above 1: the
+//! library is faster).
 
 use std::time::Instant;
 
 use reference::build::Draft;
+use reference::evaluate::Outcome;
 use reference::generate::{Class, Generator};
 use reference::kinds::Kind;
+use reference::values::{pair, set, Value};
 
 /// Accepted tables of 10 to 40 nodes.
 fn small() -> Vec<Vec<u8>> {
@@ -103,6 +106,165 @@ fn time(tables: &[Vec<u8>], rounds: usize, check: impl Fn(&[u8], &mut [u8]) -> b
     (start.elapsed().as_secs_f64() * 1e6 / calls, accepted)
 }
 
+/// A condition with the values of its free identifiers, as bytes.
+struct Case {
+    table: Vec<u8>,
+    values: Vec<u8>,
+}
+
+fn case(draft: &Draft, values: &[Value]) -> Case {
+    let mut buffer = Vec::new();
+    for value in values {
+        value.write_cells(&mut buffer);
+    }
+    Case {
+        table: draft.bytes(),
+        values: buffer,
+    }
+}
+
+/// x = y, three nodes.
+fn three_nodes() -> Case {
+    let mut draft = Draft::default();
+    let names = [draft.identifier(0), draft.identifier(0)];
+    let sides = names.map(|x| draft.using(x));
+    draft.two(Kind::Equal, sides[0], sides[1]);
+    case(&draft, &[Value::Integer(1), Value::Integer(1)])
+}
+
+/// An interval.
+fn interval(draft: &mut Draft, from: i32, to: i32) -> u32 {
+    let a = draft.integer(from);
+    let b = draft.integer(to);
+    draft.two(Kind::Interval, a, b)
+}
+
+/// For all x, y in 1..100: x + y <= 1000.
+fn integer_loops() -> Case {
+    let mut draft = Draft::default();
+    let (x, y) = (draft.identifier(1), draft.identifier(1));
+    let outer = interval(&mut draft, 1, 100);
+    let inner = interval(&mut draft, 1, 100);
+    let (a, b) = (draft.using(x), draft.using(y));
+    let sum = draft.two(Kind::Sum, a, b);
+    let limit = draft.integer(1000);
+    let test = draft.two(Kind::AtMost, sum, limit);
+    let body = draft.node(Kind::ForAll, y, inner, test);
+    draft.node(Kind::ForAll, x, outer, body);
+    case(&draft, &[])
+}
+
+/// For all s, t in a set of sets: s <: u and t <: u.
+fn nested_sets() -> Case {
+    let mut draft = Draft::default();
+    let (family, whole) = (draft.identifier(0), draft.identifier(0));
+    let (s, t) = (draft.identifier(1), draft.identifier(1));
+    let outer = draft.using(family);
+    let inner = draft.using(family);
+    let (a, u) = (draft.using(s), draft.using(whole));
+    let first = draft.two(Kind::Subset, a, u);
+    let (b, v) = (draft.using(t), draft.using(whole));
+    let second = draft.two(Kind::Subset, b, v);
+    let both = draft.two(Kind::And, first, second);
+    let body = draft.node(Kind::ForAll, t, inner, both);
+    draft.node(Kind::ForAll, s, outer, body);
+    let members = |from: i32, n: i32| set((from..from + n).map(Value::Integer).collect());
+    case(&draft, &[set((0..40).map(|i| members(i, 4)).collect()), members(0, 60)])
+}
+
+/// For all x in 1..200: a \/ b = c and a /\ b = d, sets of up to 200 members.
+fn large_sets() -> Case {
+    let mut draft = Draft::default();
+    let names: Vec<u32> = (0..4).map(|_| draft.identifier(0)).collect();
+    let x = draft.identifier(1);
+    let range = interval(&mut draft, 1, 200);
+    let mut tests = Vec::new();
+    for (kind, result) in [(Kind::Union, names[2]), (Kind::Intersection, names[3])] {
+        let (a, b) = (draft.using(names[0]), draft.using(names[1]));
+        let both = draft.two(kind, a, b);
+        let c = draft.using(result);
+        tests.push(draft.two(Kind::Equal, both, c));
+    }
+    let body = draft.two(Kind::And, tests[0], tests[1]);
+    draft.node(Kind::ForAll, x, range, body);
+    let members = |from: i32, to: i32| set((from..to).map(Value::Integer).collect());
+    case(&draft, &[members(0, 120), members(80, 200), members(0, 200), members(80, 120)])
+}
+
+/// For all x in 1..200: card(POW(a)) = 16 and card(b * c) = 60.
+fn powers() -> Case {
+    let mut draft = Draft::default();
+    let names: Vec<u32> = (0..3).map(|_| draft.identifier(0)).collect();
+    let x = draft.identifier(1);
+    let range = interval(&mut draft, 1, 200);
+    let a = draft.using(names[0]);
+    let power = draft.one(Kind::Power, a);
+    let (b, c) = (draft.using(names[1]), draft.using(names[2]));
+    let product = draft.two(Kind::Product, b, c);
+    let mut tests = Vec::new();
+    for (value, size) in [(power, 16), (product, 60)] {
+        let card = draft.one(Kind::Card, value);
+        let n = draft.integer(size);
+        tests.push(draft.two(Kind::Equal, card, n));
+    }
+    let body = draft.two(Kind::And, tests[0], tests[1]);
+    draft.node(Kind::ForAll, x, range, body);
+    let members = |n: i32| set((0..n).map(Value::Integer).collect());
+    case(&draft, &[members(4), members(6), members(10)])
+}
+
+/// For all x in 1..80: f(x) = x + x, f of 80 pairs.
+fn applications() -> Case {
+    let mut draft = Draft::default();
+    let f = draft.identifier(0);
+    let x = draft.identifier(1);
+    let range = interval(&mut draft, 1, 80);
+    let function = draft.using(f);
+    let argument = draft.using(x);
+    let image = draft.two(Kind::Application, function, argument);
+    let (a, b) = (draft.using(x), draft.using(x));
+    let sum = draft.two(Kind::Sum, a, b);
+    let body = draft.two(Kind::Equal, image, sum);
+    draft.node(Kind::ForAll, x, range, body);
+    let pairs = (1..=80).map(|i| pair(Value::Integer(i), Value::Integer(2 * i)));
+    case(&draft, &[set(pairs.collect())])
+}
+
+/// Nanoseconds a visit, the visits of a call, and whether the condition holds.
+fn pace(case: &Case, rounds: u32, evaluate: impl Fn(&[u8], &[u8]) -> (bool, u32)) -> (f64, u32, bool) {
+    let (truth, steps) = evaluate(&case.table, &case.values);
+    let start = Instant::now();
+    for _ in 0..rounds {
+        assert_eq!(evaluate(&case.table, &case.values), (truth, steps));
+    }
+    let visits = f64::from(rounds) * f64::from(steps);
+    (start.elapsed().as_secs_f64() * 1e9 / visits, steps, truth)
+}
+
+fn evaluation() {
+    let workloads = [
+        ("a call on three nodes", three_nodes(), 20_000),
+        ("integer loops", integer_loops(), 10),
+        ("nested quantifiers over sets", nested_sets(), 50),
+        ("unions of large sets", large_sets(), 50),
+        ("power sets and products", powers(), 50),
+        ("function of 80 pairs", applications(), 200),
+    ];
+    println!("{:28} {:>8} {:>12} {:>12} {:>7}", "Evaluate", "visits", "library ns", "reference ns", "ratio");
+    for (name, case, rounds) in workloads {
+        let (ours, steps, a) = pace(&case, rounds, |t, v| {
+            let (end, steps) = differential::evaluate(t, v, u32::MAX);
+            (end.expect("no refusal"), steps)
+        });
+        let (theirs, visits, b) = pace(&case, rounds, |t, v| {
+            let run = reference::evaluate::evaluate(t, v, u32::MAX);
+            (run.outcome == Outcome::Truth(true), run.steps)
+        });
+        assert_eq!((steps, a), (visits, b), "the answers differ on {name}");
+        println!("{name:28} {steps:8} {ours:12.1} {theirs:12.1} {:7.2}", theirs / ours);
+    }
+}
+
 fn main() {
     let workloads = [
         ("small, 10 to 40 nodes", small(), 50),
@@ -118,4 +280,5 @@ fn main() {
         assert_eq!(a, b, "the answers differ on {name}");
         println!("{name:24} {ours:12.2} {theirs:12.2} {:7.2}", theirs / ours);
     }
+    evaluation();
 }
