@@ -1,3 +1,4 @@
 -- The operations on good values.
 pub mod GoodLaws
 pub mod OutcomeLaws
+pub mod TestLaws

@@ -140,11 +140,12 @@ module _ (gs : List ℕ) where
   LeafRight emptySet a b = Unit {0}
   LeafRight boolSet a b = Unit {0}
 
-  -- An environment of good values, and with one more.
+  -- An environment of good values.
   abbrev EnvGood : Env → Type 0
   EnvGood ρ = (x : ℕ) → Good (ρ x)
 
-  with-good : (ρ : Env) (x : ℕ) (v : Value) → EnvGood ρ → Good v → EnvGood (ρ with x ≔ v)
+  -- An environment of good values with one more.
+  pub with-good : (ρ : Env) (x : ℕ) (v : Value) → EnvGood ρ → Good v → EnvGood (ρ with x ≔ v)
   with-good ρ x v h k y = go (eqb x y)
     where
       go : (b : Bool) → Good (elim b [ true ↦ v | false ↦ ρ y ])
@@ -403,6 +404,12 @@ unfolding run root
 run-good tb vs budget some-node r h =
     pred-forms budget (tb .sizes) (root tb) (λ x. getD vs x noValue) (predAt-leaves tb r (length (tb .nodes)) (lastNode (tb .nodes))) h 0 .1
 
+-- The value of an expression of the tree is good where the identifiers' values are.
+pub value-good : (budget : ℕ) (tb : Table) → Records tb → (f n : ℕ) (ρ : Env) (s : ℕ) (v : Value) →
+    ((x : ℕ) → T (good (tb .sizes) (ρ x))) → valueᵉ budget (tb .sizes) (exprAt f (tb .nodes) n) ρ s .end ≡ done v → T (good (tb .sizes) v)
+value-good budget tb r f n ρ s v h e =
+    rw e at (expr-forms budget (tb .sizes) (exprAt f (tb .nodes) n) ρ (exprAt-leaves tb r f n) h s .0)
+
 -- Refusal 14: the values that it lets through.
 ended-bind : {A B : Type 0} (P : A → Type 0) (Q : B → Type 0) (m : End A) (f : A → End B) →
     Ended P m → ((a : A) → P a → Ended Q (f a)) → Ended Q (Ends._>>=_ m f)
@@ -417,7 +424,8 @@ require-ended : (r p : ℕ) (b : Bool) → Ended (λ _. T b) (require r p b)
 require-ended r p true = tt
 require-ended r p false = tt
 
-noValue-good : (gs : List ℕ) → T (good gs noValue)
+-- The value of an identifier that the buffer has no value for is good.
+pub noValue-good : (gs : List ℕ) → T (good gs noValue)
 unfolding good
 noValue-good gs = tt
 
