@@ -7,7 +7,6 @@ ghost use Rattle.evaluate.specs.Cycle.{Ready, Visited, Sort, EvaluatesP,
 use operations::Outcome;
 use operations::Tested;
 
-mod stub;
 
 // The truth of a condition, or a refusal's number and place; and the visits made.
 enum Held {
@@ -180,7 +179,7 @@ fn eval_test(
 {
     match eval_both(table, base, env, s, top, node, steps + 1, budget) {
         Operands::Failed(k, p, n) => Held::Refused(k, p, n),
-        Operands::Both(a, mid, b, next, n) => match stub::test(s, kind, a, mid, b, next) {
+        Operands::Both(a, mid, b, next, n) => match operations::test(s, kind, a, mid, b, next) {
             Tested::Unlike => Held::Refused(15, node, n),
             Tested::Truth(yes) => Held::Truth(yes, n),
         },
@@ -310,7 +309,7 @@ fn eval_leaf(table: &[u8], base: usize, s: &mut [u64], top: usize, kind: usize, 
     let a = table::field(table, base, node, 0);
     let b = table::field(table, base, node, 1);
     let size = table::size(table, a);
-    let end = stub::leaf(s, kind, a as u64, b as u64, size as u64, top);
+    let end = operations::leaf(s, kind, a as u64, b as u64, size as u64, top);
     Formed::Value(top, end, steps)
 }
 
@@ -374,7 +373,7 @@ fn eval_one(
     match eval_expr(table, base, env, s, top, a, steps + 1, budget) {
         Formed::Stopped(k, p, n) => Formed::Stopped(k, p, n),
         Formed::Value(at, next, n) => {
-            let r = stub::one(s, kind, at, next);
+            let r = operations::one(s, kind, at, next);
             settle(s, r, next, next, top, node, n, budget)
         }
     }
@@ -398,7 +397,7 @@ fn eval_two(
     match eval_both(table, base, env, s, top, node, steps + 1, budget) {
         Operands::Failed(k, p, n) => Formed::Stopped(k, p, n),
         Operands::Both(a, mid, b, next, n) => {
-            let r = stub::two(s, kind, a, mid, b, next);
+            let r = operations::two(s, kind, a, mid, b, next);
             settle(s, r, mid, next, top, node, n, budget)
         }
     }
