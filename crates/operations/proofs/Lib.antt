@@ -1,4 +1,8 @@
 -- The operations on good values.
 pub mod GoodLaws
 pub mod OutcomeLaws
+pub mod KindLaws
+pub mod SingleLaws
+pub mod LeafLaws
+pub mod DoubleLaws
 pub mod TestLaws

@@ -1,0 +1,537 @@
+-- The operations of two operands: what fits, what has been built, and kinds by their codes.
+use Prim.Native.Nat.{ℕ, zero, suc, _+_, _-_, _%_, _≤_, _<_}
+use mathlib.Core.Bool.{Bool, true, false, cond, _&&_}
+use mathlib.Core.List.{List, [], _∷_}
+use mathlib.Core.Option.{Option, none as nothing, some}
+use mathlib.Core.Path.{_≡_, refl, sym, ap, _∙_, subst}
+use native.Mathlib.Omega.{arith}
+use native.Mathlib.Decide.{decLt}
+use borrow.Author.Tests.{le-leb, lt-leb}
+use lib.Dec.{T, eqb, ltb, eqb→eq, ltb→lt, nltb→le}
+use lib.IntN.{ℤ, pos, negsuc, subℕ, _+ℤ_, _-ℤ_}
+use lib.Signed.{mag}
+use lib.ListN.{length, getD}
+use Rattle.rules.specs.Types.{whole, Ty, POW, _⊗_, INTEGER}
+use Rattle.rules.specs.Values.{num, truth, element, Value, scalar, pair, set, Values, none, _▸_, int, members, weight}
+use Rattle.rules.specs.Rules.{Pattern, t̂, û, P̂, _×̂_, numᵖ, inst, twoRule}
+use Rattle.rules.specs.Kinds.{Two, pairing, union, inter, diff, product, apply, plus, minus, interval}
+use Rattle.rules.specs.Kinds.{Kind, join, negation, test, quant, leaf, boolOf, one, two, comprehension, kinds, kindOf}
+use Rattle.rules.specs.Fits.{HasType, HaveType, fits, typed}
+use Rattle.rules.specs.Cells.{good}
+use Rattle.rules.specs.Runs.{Given, gives, lacks}
+use Rattle.rules.specs.Operations.{elems, setOf, pairsOf, upFrom, toCount, applied, ranged, twoValue}
+use Rattle.rules.proofs.FitsLaws.{typed-right, fits-right}
+use Rattle.rules.proofs.CellsLaws.{good-typed}
+use Rattle.rules.proofs.OrderLaws.{and-left, and-right}
+use Rattle.arena.specs.Code.{cellSize, excess, code, CellsFit, FineSet, SomeSet, SomeValue, SetBelow, Made}
+use Rattle.arena.proofs.Standing.{same-refl}
+use Rattle.sets.specs.Merged.{merged}
+use Rattle.sets.specs.Fronts.{Merges, Applies, ImageAt, Within as WithinSet, IsPair, AllPairs}
+use Rattle.sets.proofs.OperationLaws.{union-merged, inter-merged, diff-merged}
+use Rattle.products.specs.Growing.{PutsCell, Pairs, Intervals, Multiplies}
+use Rattle.fitting.specs.Tests.{FitTwo, Both}
+use Rattle.fitting.proofs.Cells.{first-cell}
+use Rattle.operations.specs.declared.Outcome.{Outcome}
+use Rattle.operations.specs.declared.Outcome.the-variants.{Within, Lacks}
+use Rattle.operations.specs.Good.{Sizes, GoodAt}
+use Rattle.operations.specs.Outcomes.{weighed, fitted, twoGiven, ended, Gives, TwoReady, TwoDone, TwoOf, IsTwo}
+use Rattle.operations.specs.Double.{MergeDone, Shifted, NumberDone}
+use Rattle.operations.proofs.GoodLaws.{good-fits, good-set, good-value, good-typed-at, good-above, good-inside, good-set-at}
+use Rattle.operations.proofs.OutcomeLaws.{made-gives, fit-fails, fit-holds, two-unfit, two-fit, gives-as}
+
+absurd01 : _≡_ {A = ℕ} 0 1 → ⊥
+absurd01 e = omega arith
+
+is-T : (b : Bool) → b ≡ true → T b
+is-T true e = tt
+is-T false e = absurd01 (cc)
+
+T-is : (b : Bool) → T b → b ≡ true
+T-is true h = refl
+T-is false h = absurd h
+
+-- What the values are where the operands fit.
+pow-set : (v : Value) (t : Ty) → HasType v (POW t) → (vs : Values) × (v ≡ set vs)
+pow-set (scalar x) t h = absurd (absurd01 (cc))
+pow-set (pair v w) t h = absurd h
+pow-set (set vs) t h = (vs, refl)
+
+integer-int : (v : Value) → HasType v INTEGER → (i : ℤ) × (v ≡ int i)
+integer-int (scalar (num whole i)) h = (i, refl)
+integer-int (scalar (truth b)) h = absurd (absurd01 (cc))
+integer-int (scalar (element g k)) h = absurd (absurd01 (cc))
+integer-int (pair v w) h = absurd h
+integer-int (set vs) h = absurd h
+
+product-pair : (v : Value) (t u : Ty) → HasType v (t ⊗ u) → IsPair v
+product-pair (scalar x) t u h = absurd01 (cc)
+product-pair (pair v w) t u h = tt
+product-pair (set vs) t u h = h
+
+all-pairs : (vs : Values) (t u : Ty) → HaveType vs (t ⊗ u) → AllPairs vs
+all-pairs none t u h = tt
+all-pairs (v ▸ vs) t u h = (product-pair v t u (h .0), all-pairs vs t u (h .1))
+
+module _ (v w : Value) where
+  fit-sets : (p q : Pattern) → fits (P̂ p ∷ P̂ q ∷ []) (v ∷ w ∷ []) ≡ true → ((vs : Values) × (v ≡ set vs)) × ((ws : Values) × (w ≡ set ws))
+  fit-sets p q e =
+      let x = fits-right (P̂ p ∷ P̂ q ∷ []) (v ∷ w ∷ []) .0 (is-T (fits (P̂ p ∷ P̂ q ∷ []) (v ∷ w ∷ [])) e) in
+      (pow-set v (inst p (x .0) (x .1)) (x .2 .0), pow-set w (inst q (x .0) (x .1)) (x .2 .1 .0))
+
+  fit-numbers : fits (numᵖ whole ∷ numᵖ whole ∷ []) (v ∷ w ∷ []) ≡ true → ((i : ℤ) × (v ≡ int i)) × ((j : ℤ) × (w ≡ int j))
+  fit-numbers e =
+      let x = fits-right (numᵖ whole ∷ numᵖ whole ∷ []) (v ∷ w ∷ []) .0 (is-T (fits (numᵖ whole ∷ numᵖ whole ∷ []) (v ∷ w ∷ [])) e) in
+      (integer-int v (x .2 .0), integer-int w (x .2 .1 .0))
+
+  fit-applies : fits (P̂ (t̂ ×̂ û) ∷ t̂ ∷ []) (v ∷ w ∷ []) ≡ true → (vs : Values) × (v ≡ set vs) × AllPairs vs
+  fit-applies e =
+      let x = fits-right (P̂ (t̂ ×̂ û) ∷ t̂ ∷ []) (v ∷ w ∷ []) .0 (is-T (fits (P̂ (t̂ ×̂ û) ∷ t̂ ∷ []) (v ∷ w ∷ [])) e) in
+      let y = pow-set v (x .0 ⊗ x .1) (x .2 .0) in
+      (y .0, y .1, all-pairs (y .0) (x .0) (x .1) (subst (λ (z : Value). HasType z (POW (x .0 ⊗ x .1))) (y .1) (x .2 .0)))
+
+  -- Any two values make a pair.
+  fit-pair : T (typed v) → T (typed w) → fits (t̂ ∷ û ∷ []) (v ∷ w ∷ []) ≡ true
+  fit-pair h k =
+      let x = typed-right v .0 h in
+      let y = typed-right w .0 k in
+      T-is (fits (t̂ ∷ û ∷ []) (v ∷ w ∷ [])) (fits-right (t̂ ∷ û ∷ []) (v ∷ w ∷ []) .1 (x .0, y .0, (x .1, (y .1, tt))))
+
+-- What the functions below ask of operands that are ready.
+module _ {s : List ℕ} {a mid b top : ℕ} (ready : TwoReady s a mid b top) where
+  pub ready-both : Both s a b
+  ready-both = record {
+    first = (ready .first, good-typed-at (ready .small) (ready .left));
+    second = (ready .second, good-typed-at (ready .small) (ready .right));
+  }
+
+  ready-fits : (ps : List Pattern) {r : Bool} → FitTwo ps s a b r → r ≡ true → fits ps (ready .first ∷ ready .second ∷ []) ≡ true
+  ready-fits ps f e = sym (f (ready .first) (ready .second) (good-typed-at (ready .small) (ready .left)) (good-typed-at (ready .small) (ready .right))) ∙ e
+
+  pub ready-first : a < length s
+  ready-first = good-inside (ready .small) (ready .left)
+
+  pub ready-second : b < length s
+  ready-second = good-inside (ready .small) (ready .right)
+
+  left-good : GoodAt (ready .sizes) s top a (ready .first)
+  left-good = good-above (ready .small) (ready .left) top (ready .order)
+
+  pub ready-values : SomeValue s top a × SomeValue s top b
+  ready-values = ((ready .first, good-value (ready .small) left-good), (ready .second, good-value (ready .small) (ready .right)))
+
+  module _ (p q : Pattern) {r : Bool} (f : FitTwo (P̂ p ∷ P̂ q ∷ []) s a b r) (e : r ≡ true) where
+    pub ready-sets : SomeSet s top a × SomeSet s top b
+    ready-sets =
+        let x = fit-sets (ready .first) (ready .second) p q (ready-fits (P̂ p ∷ P̂ q ∷ []) f e) in (
+          (x .0 .0, good-set-at (ready .small) (x .0 .0) (subst (λ (z : Value). GoodAt (ready .sizes) s top a z) (x .0 .1) left-good)),
+          (x .1 .0, good-set-at (ready .small) (x .1 .0) (subst (λ (z : Value). GoodAt (ready .sizes) s top b z) (x .1 .1) (ready .right))),
+        )
+
+  pub ready-function : {r : Bool} → FitTwo (P̂ (t̂ ×̂ û) ∷ t̂ ∷ []) s a b r → r ≡ true → SomeValue s (length s) b × SomeSet s (length s) a
+  ready-function f e =
+      let x = fit-applies (ready .first) (ready .second) (ready-fits (P̂ (t̂ ×̂ û) ∷ t̂ ∷ []) f e) in (
+        (ready .second, good-value (ready .small) (good-above (ready .small) (ready .right) (length s) (omega (arith, ready .room)))),
+        (
+          x .0,
+          good-set-at (ready .small) (x .0)
+              (subst (λ (z : Value). GoodAt (ready .sizes) s (length s) a z) (x .1) (good-above (ready .small) (ready .left) (length s) (omega (arith, ready .order, ready .room)))),
+        ),
+      )
+
+-- The answers of the functions below, for operands that fit and that do not.
+module _ {s : List ℕ} {a mid b top : ℕ} where
+  pub unfit-done : (j : Two) {r : Bool} → FitTwo (twoRule j .takes) s a b r → r ≡ false → TwoDone j s a mid b top s (Lacks 15)
+  unfit-done j f e = record {
+    frame = same-refl top s;
+    answer = λ gs v w small h k. two-unfit j v w (sym (f v w (good-typed-at small h) (good-typed-at small k)) ∙ e);
+  }
+
+-- The operation gives the value u of good operands, which has been made.
+abbrev Makes : Two → List ℕ → ℕ → ℕ → ℕ → ℕ → List ℕ → ℕ → Type 0
+Makes j s a mid b top s′ e =
+    (gs : List ℕ) (v w : Value) → Sizes gs → GoodAt gs s mid a v → GoodAt gs s top b w → fits (twoRule j .takes) (v ∷ w ∷ []) ≡ true →
+    (u : Value) × (twoValue j v w ≡ gives u) × Made top s s′ u e
+
+-- The members of operands that are sets.
+module _ (v w : Value) (vs ws : Values) (e : v ≡ set vs) (d : w ≡ set ws) where
+  product-is : twoValue product v w ≡ gives (setOf (pairsOf (members vs) (members ws)))
+  unfolding twoValue
+  product-is = rw (e, d)
+
+  merge-is : {top n : ℕ} {s s′ : List ℕ} (l b r : Bool) → Made top s s′ (setOf (merged l b r (members vs) (members ws))) n →
+      Made top s s′ (setOf (merged l b r (elems v) (elems w))) n
+  merge-is l b r m = rw (e, d) m
+
+module _ {s : List ℕ} {a mid b top : ℕ} (ready : TwoReady s a mid b top) where
+  -- Operands that are sets can be merged and multiplied.
+  sets-below : (p q : Pattern) (gs : List ℕ) (v w : Value) → Sizes gs → GoodAt gs s mid a v → GoodAt gs s top b w →
+      fits (P̂ p ∷ P̂ q ∷ []) (v ∷ w ∷ []) ≡ true →
+      (vs : Values) × (ws : Values) × (v ≡ set vs) × (w ≡ set ws) × SetBelow s top a vs × SetBelow s top b ws
+  sets-below p q gs v w small h k f =
+      let x = fit-sets v w p q f in (
+        x .0 .0,
+        x .1 .0,
+        x .0 .1,
+        x .1 .1,
+        good-set-at small (x .0 .0) (subst (λ (u : Value). GoodAt gs s top a u) (x .0 .1) (good-above small h top (ready .order))),
+        good-set-at small (x .1 .0) (subst (λ (u : Value). GoodAt gs s top b u) (x .1 .1) k),
+      )
+
+  made-done : (j : Two) (s′ : List ℕ) (e : ℕ) (o : Outcome) →
+      ((gs : List ℕ) (v w : Value) → Sizes gs → GoodAt gs s mid a v → GoodAt gs s top b w → fits (twoRule j .takes) (v ∷ w ∷ []) ≡ true) →
+      Makes j s a mid b top s′ e → o ≡ ended e → TwoDone j s a mid b top s′ o
+  made-done j s′ e o fit m z = record {
+    frame = m (ready .sizes) (ready .first) (ready .second) (ready .small) (ready .left) (ready .right)
+        (fit (ready .sizes) (ready .first) (ready .second) (ready .small) (ready .left) (ready .right)) .2 .frame;
+    answer = λ gs v w small h k.
+        let g = fit gs v w small h k in
+        let x = m gs v w small h k g in
+        subst (λ (y : Outcome). Gives s′ mid top (twoGiven j v w) y) (sym z)
+        (gives-as s′ mid top (ended e) (two-fit j v w g (x .1)) (made-gives mid (x .2)));
+  }
+
+  pub pair-done : (s′ : List ℕ) (e : ℕ) (o : Outcome) → Pairs s a b top s′ e → o ≡ ended e → TwoDone pairing s a mid b top s′ o
+  unfolding twoValue
+  pair-done s′ e o p z =
+      made-done pairing s′ e o (λ gs v w small h k. fit-pair v w (good-typed gs v (h .good)) (good-typed gs w (k .good)))
+      (λ gs v w small h k f. (pair v w, refl, p v w (good-value small (good-above small h top (ready .order))) (good-value small k))) z
+
+  pub product-done : {r : Bool} → FitTwo (P̂ t̂ ∷ P̂ û ∷ []) s a b r → r ≡ true → (s′ : List ℕ) (e : ℕ) (o : Outcome) →
+      Multiplies s a b top s′ e → o ≡ ended e → TwoDone product s a mid b top s′ o
+  unfolding twoValue
+  product-done fit q s′ e o p z =
+      made-done product s′ e o (λ gs v w small h k. sym (fit v w (good-typed-at small h) (good-typed-at small k)) ∙ q)
+      (λ gs v w small h k f.
+      let x = sets-below t̂ û gs v w small h k f in
+      (setOf (pairsOf (members (x .0)) (members (x .1))), product-is v w (x .0) (x .1) (x .2) (x .3), p (x .0) (x .1) (x .4) (x .5))) z
+
+  pub merge-done : {l e r : Bool} {f : Bool} → FitTwo (P̂ t̂ ∷ P̂ t̂ ∷ []) s a b f → f ≡ true → (s′ : List ℕ) (k : ℕ) (o : Outcome) →
+      Merges l e r s a b top s′ k → o ≡ ended k → MergeDone l e r s a mid b top s′ o
+  merge-done {l} {e} {r} fit q s′ n o m z = record {
+    frame =
+        let x = sets-below t̂ t̂ (ready .sizes) (ready .first) (ready .second) (ready .small) (ready .left) (ready .right) (ready-fits ready (P̂ t̂ ∷ P̂ t̂ ∷ []) fit q) in
+        m (x .0) (x .1) (x .4) (x .5) .frame;
+    answer = λ gs v w small h k.
+        let g : fits (P̂ t̂ ∷ P̂ t̂ ∷ []) (v ∷ w ∷ []) ≡ true = sym (fit v w (good-typed-at small h) (good-typed-at small k)) ∙ q in
+        let x = sets-below t̂ t̂ gs v w small h k g in
+        let y : Value = setOf (merged l e r (elems v) (elems w)) in
+        let made : Made top s s′ y n = merge-is v w (x .0) (x .1) (x .2) (x .3) l e r (m (x .0) (x .1) (x .4) (x .5)) in
+        subst (λ (u : Outcome). Gives s′ mid top (fitted (twoRule union .takes) (v ∷ w ∷ []) (gives y)) u) (sym z)
+        (gives-as s′ mid top (ended n) (fit-holds (twoRule union .takes) (v ∷ w ∷ []) (gives y) g) (made-gives mid made));
+  }
+
+pub merge-unfit : {s : List ℕ} {a mid b top : ℕ} {l e r f : Bool} → FitTwo (P̂ t̂ ∷ P̂ t̂ ∷ []) s a b f → f ≡ false → MergeDone l e r s a mid b top s (Lacks 15)
+merge-unfit {s} {top = top} {l = l} {e = e} {r = r} fit q = record {
+  frame = same-refl top s;
+  answer = λ gs v w small h k.
+      fit-fails (twoRule union .takes) (v ∷ w ∷ []) (gives (setOf (merged l e r (elems v) (elems w))))
+      (sym (fit v w (good-typed-at small h) (good-typed-at small k)) ∙ q);
+}
+
+-- Union, intersection and difference are merges.
+module _ (j : Two) (l e r : Bool) (takes : twoRule j .takes ≡ P̂ t̂ ∷ P̂ t̂ ∷ [])
+    (is : (vs ws : Values) → FineSet vs → FineSet ws → twoValue j (set vs) (set ws) ≡ gives (setOf (merged l e r (members vs) (members ws)))) where
+  set-merged : (v w : Value) (vs ws : Values) → v ≡ set vs → w ≡ set ws → FineSet vs → FineSet ws →
+      twoValue j v w ≡ gives (setOf (merged l e r (elems v) (elems w)))
+  set-merged v w vs ws p q f g = rw (p, q) (is vs ws f g)
+
+  merge-given : {gs : List ℕ} (small : Sizes gs) (v w : Value) → T (good gs v) → T (good gs w) →
+      twoGiven j v w ≡ fitted (twoRule union .takes) (v ∷ w ∷ []) (gives (setOf (merged l e r (elems v) (elems w))))
+  merge-given {gs} small v w h k = go (fits (P̂ t̂ ∷ P̂ t̂ ∷ []) (v ∷ w ∷ [])) refl
+    where
+      fine : (u : Value) (us : Values) → u ≡ set us → T (good gs u) → FineSet us
+      fine u us q g = good-set small us (subst (λ (y : Value). T (good gs y)) q g)
+
+      go : (c : Bool) → fits (P̂ t̂ ∷ P̂ t̂ ∷ []) (v ∷ w ∷ []) ≡ c →
+          twoGiven j v w ≡ fitted (twoRule union .takes) (v ∷ w ∷ []) (gives (setOf (merged l e r (elems v) (elems w))))
+      go true q =
+          let x = fit-sets v w t̂ t̂ q in
+          two-fit j v w (rw takes q) (set-merged v w (x .0 .0) (x .1 .0) (x .0 .1) (x .1 .1) (fine v (x .0 .0) (x .0 .1) h) (fine w (x .1 .0) (x .1 .1) k))
+          ∙ sym (fit-holds (P̂ t̂ ∷ P̂ t̂ ∷ []) (v ∷ w ∷ []) (gives (setOf (merged l e r (elems v) (elems w)))) q)
+      go false q =
+          two-unfit j v w (rw takes q)
+          ∙ sym (fit-fails (P̂ t̂ ∷ P̂ t̂ ∷ []) (v ∷ w ∷ []) (gives (setOf (merged l e r (elems v) (elems w)))) q)
+
+  merge-as : {s : List ℕ} {a mid b top : ℕ} {s′ : List ℕ} {o : Outcome} → MergeDone l e r s a mid b top s′ o → TwoDone j s a mid b top s′ o
+  merge-as {mid = mid} {top = top} {s′ = s′} {o = o} m = record {
+    frame = m .frame;
+    answer = λ gs v w small h k. gives-as s′ mid top o (merge-given small v w (h .good) (k .good)) (m .answer gs v w small h k);
+  }
+
+module _ {s : List ℕ} {a mid b top : ℕ} {s′ : List ℕ} {o : Outcome} where
+  pub union-done : MergeDone true true true s a mid b top s′ o → TwoDone union s a mid b top s′ o
+  union-done m = merge-as union true true true refl union-merged m
+
+  pub inter-done : MergeDone false true false s a mid b top s′ o → TwoDone inter s a mid b top s′ o
+  inter-done m = merge-as inter false true false refl inter-merged m
+
+  pub diff-done : MergeDone true false false s a mid b top s′ o → TwoDone diff s a mid b top s′ o
+  diff-done m = merge-as diff true false false refl diff-merged m
+
+-- Application: the image within the function, or none.
+image-none : (s : List ℕ) (f : ℕ) (vs : Values) (r : ℕ) (g : Given) → ImageAt s f vs r g → r ≡ 0 → g ≡ lacks 16
+image-none s f vs r (lacks k) h z = ap lacks (h .0)
+image-none s f vs r (gives u) h z = absurd (omega (arith, h .positive))
+
+image-some : (s : List ℕ) (f : ℕ) (vs : Values) (r : ℕ) (g : Given) → ImageAt s f vs r g → (r ≡ 0 → ⊥) → (u : Value) × (g ≡ gives u) × WithinSet s f vs r u
+image-some s f vs r (lacks k) h n = absurd (n (h .1))
+image-some s f vs r (gives u) h n = (u, refl, h)
+
+apply-is : (v w : Value) → twoValue apply v w ≡ applied v w
+unfolding twoValue
+apply-is v w = refl
+
+module _ {s : List ℕ} {a mid b top : ℕ} (ready : TwoReady s a mid b top) {f : Bool} (fit : FitTwo (P̂ (t̂ ×̂ û) ∷ t̂ ∷ []) s a b f) (q : f ≡ true)
+    (at : ℕ) (image : Applies s a b at) where
+  image-at : (gs : List ℕ) (v w : Value) → Sizes gs → GoodAt gs s mid a v → GoodAt gs s top b w →
+      (fits (P̂ (t̂ ×̂ û) ∷ t̂ ∷ []) (v ∷ w ∷ []) ≡ true) × ((vs : Values) × (v ≡ set vs) × ImageAt s a vs at (applied v w))
+  image-at gs v w small h k =
+      let g : fits (P̂ (t̂ ×̂ û) ∷ t̂ ∷ []) (v ∷ w ∷ []) ≡ true = sym (fit v w (good-typed-at small h) (good-typed-at small k)) ∙ q in
+      let x = fit-applies v w g in
+      let l = good-above small h (length s) (omega (arith, ready .order, ready .room)) in
+      let m = good-above small k (length s) (omega (arith, ready .room)) in
+      let i = image (x .0) w (good-set-at small (x .0) (subst (λ (u : Value). GoodAt gs s (length s) a u) (x .1) l)) (good-value small m) (x .2) in
+      (g, (x .0, x .1, subst (λ (u : Value). ImageAt s a (x .0) at (applied u w)) (sym (x .1)) i))
+
+  pub apply-none : at ≡ 0 → TwoDone apply s a mid b top s (Lacks 16)
+  apply-none z = record {
+    frame = same-refl top s;
+    answer = λ gs v w small h k.
+        let x = image-at gs v w small h k in
+        two-fit apply v w (x .0) (apply-is v w ∙ image-none s a (x .1 .0) at (applied v w) (x .1 .2) z);
+  }
+
+  pub apply-some : (at ≡ 0 → ⊥) → TwoDone apply s a mid b top s (Within at)
+  apply-some n = record {
+    frame = same-refl top s;
+    answer = λ gs v w small h k.
+        let x = image-at gs v w small h k in
+        let y = image-some s a (x .1 .0) at (applied v w) (x .1 .2) n in
+        let light : weighed (gives (y .0)) ≡ gives (y .0) = rw (le-leb (weight (y .0)) 256 (y .2 .value .light)) in
+        let below : a + weight (set (x .1 .0)) ≤ mid = subst (λ (u : Value). a + weight u ≤ mid) (x .1 .1) (h .below) in
+        record {
+          value = y .0;
+          is = two-fit apply v w (x .0) (apply-is v w ∙ y .1) ∙ light;
+          stands = y .2 .value .stands;
+          below = omega (arith, y .2 .value .below);
+        };
+  }
+
+-- Integers with their range checked.
+beyond : (i : ℤ) → 2147483647 < mag i → weighed (ranged whole i) ≡ lacks 17
+beyond i l = rw (lt-leb (mag i) 2147483647 l)
+
+within-range : (i : ℤ) → mag i ≤ 2147483647 → ranged whole i ≡ gives (int i)
+within-range i l = rw (le-leb (mag i) 2147483647 l)
+
+-- The integer that x stands for.
+shifted-some : (x : ℕ) → (i : ℤ) × Shifted i x
+shifted-some x = go (decLt x 4294967296)
+  where
+    go : Dec (x < 4294967296) → (i : ℤ) × Shifted i x
+    go (yes l) = (negsuc (4294967295 - x), omega arith)
+    go (no l) = (pos (x - 4294967296), omega arith)
+
+module _ (x : ℕ) (s : List ℕ) (top : ℕ) where
+  pub number-low : x < 2147483648 → NumberDone x s top s (Lacks 17)
+  number-low l = record { frame = same-refl top s; answer = λ mid i h. beyond i (go i h) }
+    where
+      go : (i : ℤ) → Shifted i x → 2147483647 < mag i
+      go (pos n) h = omega arith
+      go (negsuc n) h = omega arith
+
+  pub number-high : 4294967295 < x - 2147483648 → NumberDone x s top s (Lacks 17)
+  number-high l = record { frame = same-refl top s; answer = λ mid i h. beyond i (go i h) }
+    where
+      go : (i : ℤ) → Shifted i x → 2147483647 < mag i
+      go (pos n) h = omega arith
+      go (negsuc n) h = omega arith
+
+  module _ (low : 2147483648 ≤ x) (high : x - 2147483648 ≤ 4294967295) where
+    in-range : (i : ℤ) → Shifted i x → mag i ≤ 2147483647
+    in-range (pos n) h = omega arith
+    in-range (negsuc n) h = omega arith
+
+    cell-is : (i : ℤ) → Shifted i x → code (int i) ≡ (4294967296 + (x - 2147483648)) ∷ []
+    unfolding code excess
+    cell-is (pos n) h = ap (λ (c : ℕ). c ∷ []) (let z : 4294967296 + (2147483648 + n) ≡ 4294967296 + (x - 2147483648) = omega arith in z)
+    cell-is (negsuc n) h = ap (λ (c : ℕ). c ∷ []) (let z : 4294967296 + (2147483647 - n) ≡ 4294967296 + (x - 2147483648) = omega arith in z)
+
+    pub number-made : (s′ : List ℕ) (e : ℕ) (o : Outcome) → PutsCell s top (4294967296 + (x - 2147483648)) s′ e → o ≡ ended e → NumberDone x s top s′ o
+    number-made s′ e o put z = record {
+      frame = let y = shifted-some x in put (int (y .0)) (cell-is (y .0) (y .1)) .frame;
+      answer = λ mid i h.
+          subst (λ (y : Outcome). Gives s′ mid top (weighed (ranged whole i)) y) (sym z)
+          (gives-as s′ mid top (ended e) (ap weighed (within-range i (in-range i h))) (made-gives mid (put (int i) (cell-is i h))));
+    }
+
+-- Sums and differences.
+shifted-sub : (a b x : ℕ) → x + b ≡ 4294967296 + a → Shifted (subℕ a b) x
+shifted-sub a b x h = go (ltb a b) refl
+  where
+    go : (c : Bool) → ltb a b ≡ c → Shifted (cond c (negsuc (b - suc a)) (pos (a - b))) x
+    go true e = omega (arith, ltb→lt a b (rw e tt))
+    go false e = omega (arith, nltb→le a b (rw e tt))
+
+shifted-sum : (i j : ℤ) → CellsFit (int i) → CellsFit (int j) → Shifted (i +ℤ j) (excess i + excess j)
+unfolding excess
+shifted-sum (pos a) (pos b) h k = omega arith
+shifted-sum (pos a) (negsuc b) h k = shifted-sub a (suc b) (2147483648 + a + (2147483647 - b)) (omega (arith, k .1))
+shifted-sum (negsuc a) (pos b) h k = shifted-sub b (suc a) (2147483647 - a + (2147483648 + b)) (omega (arith, h .1))
+shifted-sum (negsuc a) (negsuc b) h k = omega (arith, h .1, k .1)
+
+shifted-difference : (i j : ℤ) → CellsFit (int i) → CellsFit (int j) → Shifted (i -ℤ j) (excess i + 4294967296 - excess j)
+unfolding excess
+shifted-difference (pos a) (pos zero) h k = omega arith
+shifted-difference (pos a) (pos (suc b)) h k = shifted-sub a (suc b) (2147483648 + a + 4294967296 - (2147483648 + suc b)) (omega (arith, h .1, k .1))
+shifted-difference (pos a) (negsuc b) h k = omega (arith, k .1)
+shifted-difference (negsuc a) (pos zero) h k = shifted-sub 0 (suc a) (2147483647 - a + 4294967296 - 2147483648) (omega (arith, h .1))
+shifted-difference (negsuc a) (pos (suc b)) h k = omega (arith, h .1, k .1)
+shifted-difference (negsuc a) (negsuc b) h k = shifted-sub (suc b) (suc a) (2147483647 - a + 4294967296 - (2147483647 - b)) (omega (arith, h .1, k .1))
+
+sum-at : (i j : ℤ) (x y : ℕ) → CellsFit (int i) → CellsFit (int j) → excess i ≡ x → excess j ≡ y → Shifted (i +ℤ j) (x + y)
+sum-at i j x y h k p q = rw (← p, ← q) (shifted-sum i j h k)
+
+difference-at : (i j : ℤ) (x y : ℕ) → CellsFit (int i) → CellsFit (int j) → excess i ≡ x → excess j ≡ y → Shifted (i -ℤ j) (x + 4294967296 - y)
+difference-at i j x y h k p q = rw (← p, ← q) (shifted-difference i j h k)
+
+-- Two numbers as operands, by the payloads of their cells.
+number-at : {gs s : List ℕ} {top at : ℕ} {v : Value} (i : ℤ) → Sizes gs → GoodAt gs s top at v → v ≡ int i →
+    CellsFit (int i) × (getD s at 0 % cellSize ≡ excess i)
+number-at {gs} {s} {top} {at} i small h e =
+    let g : GoodAt gs s top at (int i) = subst (λ (u : Value). GoodAt gs s top at u) e h in
+    let f = good-fits small (int i) (g .good) in
+    (f, first-cell s at (int i) (g .stands) f .1)
+
+sum-is : (v w : Value) (i j : ℤ) → v ≡ int i → w ≡ int j → twoValue (plus whole) v w ≡ ranged whole (i +ℤ j)
+unfolding twoValue
+sum-is v w i j e d = rw (e, d)
+
+difference-is : (v w : Value) (i j : ℤ) → v ≡ int i → w ≡ int j → twoValue (minus whole) v w ≡ ranged whole (i -ℤ j)
+unfolding twoValue
+difference-is v w i j e d = rw (e, d)
+
+interval-is : (v w : Value) (i j : ℤ) → v ≡ int i → w ≡ int j → twoValue interval v w ≡ gives (setOf (upFrom i (toCount (j -ℤ i +ℤ pos 1))))
+unfolding twoValue
+interval-is v w i j e d = rw (e, d)
+
+module _ {s : List ℕ} {a mid b top : ℕ} {f : Bool} (fit : FitTwo (numᵖ whole ∷ numᵖ whole ∷ []) s a b f) (q : f ≡ true)
+    (x y : ℕ) (xe : x ≡ getD s a 0 % cellSize) (ye : y ≡ getD s b 0 % cellSize) where
+  number-fits : (gs : List ℕ) (v w : Value) → Sizes gs → GoodAt gs s mid a v → GoodAt gs s top b w → fits (numᵖ whole ∷ numᵖ whole ∷ []) (v ∷ w ∷ []) ≡ true
+  number-fits gs v w small h k = sym (fit v w (good-typed-at small h) (good-typed-at small k)) ∙ q
+
+  two-numbers : (gs : List ℕ) (v w : Value) → Sizes gs → GoodAt gs s mid a v → GoodAt gs s top b w →
+      (i : ℤ) × (j : ℤ) × (v ≡ int i) × (w ≡ int j) × CellsFit (int i) × CellsFit (int j) × (excess i ≡ x) × (excess j ≡ y)
+  two-numbers gs v w small h k =
+      let n = fit-numbers v w (number-fits gs v w small h k) in
+      let l = number-at (n .0 .0) small h (n .0 .1) in
+      let m = number-at (n .1 .0) small k (n .1 .1) in
+      (n .0 .0, n .1 .0, n .0 .1, n .1 .1, l .0, m .0, sym (xe ∙ l .1), sym (ye ∙ m .1))
+
+  pub plus-done : (s′ : List ℕ) (o : Outcome) → NumberDone (x + y) s top s′ o → TwoDone (plus whole) s a mid b top s′ o
+  plus-done s′ o m = record {
+    frame = m .frame;
+    answer = λ gs v w small h k.
+        let n = two-numbers gs v w small h k in
+        gives-as s′ mid top o (two-fit (plus whole) v w (number-fits gs v w small h k) (sum-is v w (n .0) (n .1) (n .2) (n .3)))
+        (m .answer mid (n .0 +ℤ n .1) (sum-at (n .0) (n .1) x y (n .4) (n .5) (n .6) (n .7)));
+  }
+
+  pub minus-done : (s′ : List ℕ) (o : Outcome) → NumberDone (x + 4294967296 - y) s top s′ o → TwoDone (minus whole) s a mid b top s′ o
+  minus-done s′ o m = record {
+    frame = m .frame;
+    answer = λ gs v w small h k.
+        let n = two-numbers gs v w small h k in
+        gives-as s′ mid top o (two-fit (minus whole) v w (number-fits gs v w small h k) (difference-is v w (n .0) (n .1) (n .2) (n .3)))
+        (m .answer mid (n .0 -ℤ n .1) (difference-at (n .0) (n .1) x y (n .4) (n .5) (n .6) (n .7)));
+  }
+
+  pub interval-done : TwoReady s a mid b top → (s′ : List ℕ) (e : ℕ) (o : Outcome) → Intervals s x y top s′ e → o ≡ ended e → TwoDone interval s a mid b top s′ o
+  interval-done ready s′ e o m z =
+      made-done ready interval s′ e o number-fits
+      (λ gs v w small h k g.
+      let n = two-numbers gs v w small h k in
+      let u : Value = setOf (upFrom (n .0) (toCount (n .1 -ℤ n .0 +ℤ pos 1))) in
+      (u, interval-is v w (n .0) (n .1) (n .2) (n .3), m (n .0) (n .1) (n .4) (n .5) (n .6) (n .7))) z
+
+-- The codes of the kinds with two operands.
+abbrev pub twoCode : Two → ℕ
+twoCode pairing = 28
+twoCode union = 29
+twoCode inter = 30
+twoCode diff = 31
+twoCode product = 32
+twoCode apply = 37
+twoCode (plus n) = 39
+twoCode (minus n) = 40
+twoCode interval = 41
+
+code-kind : (i : Two) → kindOf (twoCode i) ≡ some (two i)
+unfolding kindOf
+code-kind pairing = refl
+code-kind union = refl
+code-kind inter = refl
+code-kind diff = refl
+code-kind product = refl
+code-kind apply = refl
+code-kind (plus whole) = refl
+code-kind (minus whole) = refl
+code-kind interval = refl
+
+-- The code of a kind with two operands; of the others, k.
+abbrev codeOr : ℕ → Option Kind → ℕ
+codeOr k nothing = k
+codeOr k (some (join j)) = k
+codeOr k (some negation) = k
+codeOr k (some (test j)) = k
+codeOr k (some (quant j)) = k
+codeOr k (some (leaf j)) = k
+codeOr k (some boolOf) = k
+codeOr k (some (one j)) = k
+codeOr k (some (two j)) = twoCode j
+codeOr k (some comprehension) = k
+
+-- Kinds from the code n on stand at their codes.
+abbrev ordered : ℕ → List (Option Kind) → Bool
+ordered n [] = true
+ordered n (x ∷ xs) = eqb (codeOr n x) n && ordered (suc n) xs
+
+ordered-at : (n : ℕ) (xs : List (Option Kind)) → T (ordered n xs) → (k : ℕ) → codeOr (n + k) (getD xs k nothing) ≡ n + k
+ordered-at n [] h k = refl
+ordered-at n (x ∷ xs) h zero =
+    let e : n + 0 ≡ n = omega arith in
+    rw e (eqb→eq (codeOr n x) n (and-left (eqb (codeOr n x) n) (ordered (suc n) xs) h))
+ordered-at n (x ∷ xs) h (suc k) =
+    let e : n + suc k ≡ suc n + k = omega arith in
+    rw e (ordered-at (suc n) xs (and-right (eqb (codeOr n x) n) (ordered (suc n) xs) h) k)
+
+pub code-of-two : (k : ℕ) (j : Two) → kindOf k ≡ some (two j) → k ≡ twoCode j
+unfolding kindOf
+code-of-two k j e =
+    let z : 0 + k ≡ k = omega arith in
+    let q : codeOr k (kindOf k) ≡ k = rw z at (ordered-at 0 kinds tt k) in
+    sym q ∙ ap (codeOr k) e
+
+-- The answer by a kind's code.
+module _ {s : List ℕ} {a mid b top : ℕ} {s′ : List ℕ} {o : Outcome} where
+  pub two-of : (i : Two) (k : ℕ) → k ≡ twoCode i → TwoDone i s a mid b top s′ o → TwoOf k s a mid b top s′ o
+  two-of i k z d j e =
+      let c : some (two i) ≡ some (two j) = sym (code-kind i) ∙ ap kindOf (sym z) ∙ e in
+      let q : i ≡ j = cc in
+      subst (λ (h : Two). TwoDone h s a mid b top s′ o) q d
+
+-- What is left is the interval.
+pub else-interval : (k : ℕ) → IsTwo k → (k ≡ 28 → ⊥) → (k ≡ 29 → ⊥) → (k ≡ 30 → ⊥) → (k ≡ 31 → ⊥) → (k ≡ 32 → ⊥) → (k ≡ 37 → ⊥) → (k ≡ 39 → ⊥) →
+    (k ≡ 40 → ⊥) → k ≡ twoCode interval
+else-interval k x n₁ n₂ n₃ n₄ n₅ n₆ n₇ n₈ = go (x .0) (code-of-two k (x .0) (x .1))
+  where
+    go : (j : Two) → k ≡ twoCode j → k ≡ twoCode interval
+    go pairing e = absurd (n₁ e)
+    go union e = absurd (n₂ e)
+    go inter e = absurd (n₃ e)
+    go diff e = absurd (n₄ e)
+    go product e = absurd (n₅ e)
+    go apply e = absurd (n₆ e)
+    go (plus n) e = absurd (n₇ e)
+    go (minus n) e = absurd (n₈ e)
+    go interval e = e

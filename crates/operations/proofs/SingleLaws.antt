@@ -1,0 +1,231 @@
+-- The operations of one operand: what the functions below need of it, and that their answers tell what the node gives.
+use Prim.Native.Nat.{ℕ, _+_, _%_, _<_}
+use mathlib.Core.Bool.{Bool, true, false}
+use mathlib.Core.List.{List, [], _∷_}
+use mathlib.Core.Logic.{_≢_}
+use mathlib.Core.Path.{_≡_, refl, ap, sym, subst, _∙_}
+use native.Mathlib.Omega.{arith}
+use borrow.Author.Tests.{le-leb}
+use lib.Dec.{T}
+use lib.IntN.{pos}
+use lib.ListN.{length, getD}
+use Rattle.rules.specs.Types.{Ty, POW, _⊗_, INTEGER}
+use Rattle.rules.specs.Values.{Value, scalar, pair, set, Values, none, _▸_, int, members, count, weight}
+use Rattle.rules.specs.Kinds.{One, singleton, power, dom, ran, card, choice, kindOf}
+use Rattle.rules.specs.Rules.{t̂, û, P̂, _×̂_, oneRule}
+use Rattle.rules.specs.Fits.{HasType, HaveType, typed, fits}
+use Rattle.rules.specs.Runs.{gives, lacks}
+use Rattle.rules.specs.Operations.{oneValue}
+use Rattle.rules.proofs.CellsLaws.{good-typed}
+use Rattle.rules.proofs.FitsLaws.{typed-right, fits-right}
+use Rattle.arena.specs.Code.{code, SetBelow, SomeSet, SomeValue, Made}
+use Rattle.arena.proofs.Standing.{same-refl}
+use Rattle.products.specs.Growing.{PutsCell, Singles}
+use Rattle.products.specs.Parts.{IsPair, AllPairs, SomePairs, Domains, Ranges}
+use Rattle.products.specs.Power.{Powers}
+use Rattle.fitting.specs.Agree.{SomeTyped}
+use Rattle.fitting.specs.Tests.{FitOne}
+use Rattle.fitting.proofs.Cells.{first-cell, members-stand, first-stands}
+use Rattle.operations.specs.Good.{Sizes, GoodAt}
+use Rattle.operations.specs.Outcomes.{weighed, oneGiven, ended, Gives, OneReady, OneDone, OneOf}
+use Rattle.operations.specs.declared.Outcome.{Outcome}
+use Rattle.operations.specs.declared.Outcome.the-variants.{Within, Lacks}
+use Rattle.operations.proofs.GoodLaws.{good-value, good-typed-at, good-set-at, good-inside}
+use Rattle.operations.proofs.OutcomeLaws.{made-gives, one-unfit, one-fit, gives-as}
+use Rattle.operations.proofs.KindLaws.{oneCode, of-one, same-one, last-one}
+
+absurd01 : _≡_ {A = ℕ} 0 1 → ⊥
+absurd01 e = omega arith
+
+of-true : {b : Bool} → b ≡ true → T b
+of-true e = subst T (sym e) tt
+
+true-of : (b : Bool) → T b → b ≡ true
+true-of true t = refl
+true-of false t = absurd t
+
+-- Values that pass the tests.
+set-typed : (v : Value) (t : Ty) → HasType v (POW t) → (vs : Values) × (v ≡ set vs) × HaveType vs t
+set-typed (scalar x) t h = absurd (absurd01 (cc))
+set-typed (pair v w) t h = absurd h
+set-typed (set vs) t h = (vs, refl, h)
+
+pair-typed : (v : Value) (t u : Ty) → HasType v (t ⊗ u) → IsPair v
+pair-typed (scalar x) t u h = absurd (absurd01 (cc))
+pair-typed (pair v w) t u h = tt
+pair-typed (set vs) t u h = absurd h
+
+pairs-typed : (vs : Values) (t u : Ty) → HaveType vs (t ⊗ u) → AllPairs vs
+pairs-typed none t u h = tt
+pairs-typed (v ▸ vs) t u h = (pair-typed v t u (h .0), pairs-typed vs t u (h .1))
+
+module _ (v : Value) where
+  -- anything that has a type
+  pub fits-any : T (typed v) → fits (t̂ ∷ []) (v ∷ []) ≡ true
+  fits-any h =
+      let x = typed-right v .0 h in
+      true-of (fits (t̂ ∷ []) (v ∷ [])) (fits-right (t̂ ∷ []) (v ∷ []) .1 (x .0, INTEGER, (x .1, tt)))
+
+  pub fits-is-set : fits (P̂ t̂ ∷ []) (v ∷ []) ≡ true → (vs : Values) × (v ≡ set vs)
+  fits-is-set e =
+      let x = fits-right (P̂ t̂ ∷ []) (v ∷ []) .0 (of-true e) in
+      let y = set-typed v (x .0) (x .2 .0) in
+      (y .0, y .1)
+
+  pub fits-is-relation : fits (P̂ (t̂ ×̂ û) ∷ []) (v ∷ []) ≡ true → (vs : Values) × (v ≡ set vs) × AllPairs vs
+  fits-is-relation e =
+      let x = fits-right (P̂ (t̂ ×̂ û) ∷ []) (v ∷ []) .0 (of-true e) in
+      let y = set-typed v (x .0 ⊗ x .1) (x .2 .0) in
+      (y .0, y .1, pairs-typed (y .0) (x .0) (x .1) (y .2))
+
+-- A good value that is a set.
+as-set : {gs s : List ℕ} {top a : ℕ} {v : Value} {vs : Values} → Sizes gs → GoodAt gs s top a v → v ≡ set vs → SetBelow s top a vs
+as-set {gs} {s} {top} {a} {v} {vs} q h e = good-set-at q vs (subst (λ (w : Value). GoodAt gs s top a w) e h)
+
+-- The operand that the functions below ask for.
+module _ {s : List ℕ} {a top : ℕ} (p : OneReady s a top) where
+  pub ready-value : SomeValue s top a
+  ready-value = (p .value, good-value (p .small) (p .operand))
+
+  pub ready-typed : SomeTyped s a
+  ready-typed = (p .value, good-typed-at (p .small) (p .operand))
+
+  pub ready-inside : a < length s
+  ready-inside = good-inside (p .small) (p .operand)
+
+  pub ready-set : {r : Bool} → FitOne (P̂ t̂ ∷ []) s a r → r ≡ true → SomeSet s top a
+  ready-set f e =
+      let x = fits-is-set (p .value) (sym (f (p .value) (good-typed-at (p .small) (p .operand))) ∙ e) in
+      (x .0, as-set (p .small) (p .operand) (x .1))
+
+  pub ready-pairs : {r : Bool} → FitOne (P̂ (t̂ ×̂ û) ∷ []) s a r → r ≡ true → SomePairs s top a
+  ready-pairs f e =
+      let x = fits-is-relation (p .value) (sym (f (p .value) (good-typed-at (p .small) (p .operand))) ∙ e) in
+      (x .0, as-set (p .small) (p .operand) (x .1), x .2)
+
+-- 15
+pub one-unlike : {s : List ℕ} {a top : ℕ} (j : One) {r : Bool} → FitOne (oneRule j .takes) s a r → r ≡ false → OneDone j s a top s (Lacks 15)
+one-unlike {s} {a} {top} j f e = record {
+  frame = same-refl top s;
+  answer = λ gs v p h. one-unfit j v (sym (f v (good-typed-at p h)) ∙ e);
+}
+
+-- For v the node gives a value, which has been made.
+record OneMade (j : One) (v : Value) (top : ℕ) (s s′ : List ℕ) (end : ℕ) : Type 0 where
+  fit : fits (oneRule j .takes) (v ∷ []) ≡ true
+  value : Value
+  is : oneValue j v ≡ gives value
+  made : Made top s s′ value end
+
+one-made : {s s′ : List ℕ} {a top end : ℕ} {o : Outcome} (j : One) → OneReady s a top →
+    ((gs : List ℕ) (v : Value) → Sizes gs → GoodAt gs s top a v → OneMade j v top s s′ end) → o ≡ ended end → OneDone j s a top s′ o
+one-made {s} {s′} {a} {top} {end} {o} j p m e = record {
+  frame = m (p .sizes) (p .value) (p .small) (p .operand) .made .frame;
+  answer = λ gs v q h.
+      let x = m gs v q h in
+      subst (λ (z : Outcome). Gives s′ top top (oneGiven j v) z) (sym e)
+      (gives-as s′ top top (ended end) (one-fit j v (x .fit) (x .is)) (made-gives top (x .made)));
+}
+
+length-members : (vs : Values) → length (members vs) ≡ count vs
+length-members none = refl
+length-members (v ▸ vs) = omega (arith, length-members vs)
+
+-- The cell of a number of members.
+card-code : (vs : Values) (n : ℕ) → n ≡ count vs → code (int (pos (length (members vs)))) ≡ (6442450944 + n) ∷ []
+unfolding code
+card-code vs n e = ap (λ (x : ℕ). x ∷ []) (omega (arith, length-members vs))
+
+module _ {s s′ : List ℕ} {a top end : ℕ} {o : Outcome} (p : OneReady s a top) where
+  pub singleton-done : Singles s a top s′ end → o ≡ ended end → OneDone singleton s a top s′ o
+  unfolding oneValue
+  singleton-done m e =
+      one-made singleton p
+      (λ gs v q h. record { fit = fits-any v (good-typed gs v (h .good)); value = _; is = refl; made = m v (good-value q h) })
+      e
+
+  module _ {r : Bool} (f : FitOne (P̂ t̂ ∷ []) s a r) (t : r ≡ true) where
+    pub power-done : Powers s a top s′ end → o ≡ ended end → OneDone power s a top s′ o
+    unfolding oneValue
+    power-done m e =
+        one-made power p
+        (λ gs v q h.
+        let i = sym (f v (good-typed-at q h)) ∙ t in
+        let x = fits-is-set v i in
+        record { fit = i; value = _; is = ap (oneValue power) (x .1); made = m (x .0) (as-set q h (x .1)) })
+        e
+
+    pub card-done : (n : ℕ) → n ≡ getD s a 0 % 4294967296 → PutsCell s top (6442450944 + n) s′ end → o ≡ ended end → OneDone card s a top s′ o
+    unfolding oneValue
+    card-done n c m e =
+        one-made card p
+        (λ gs v q h.
+        let i = sym (f v (good-typed-at q h)) ∙ t in
+        let x = fits-is-set v i in
+        let b = as-set q h (x .1) in
+        let d : n ≡ count (x .0) = c ∙ first-cell s a (set (x .0)) (b .stands) (b .fine .fits) .1 in
+        record { fit = i; value = _; is = ap (oneValue card) (x .1); made = m _ (card-code (x .0) n d) })
+        e
+
+  module _ {r : Bool} (f : FitOne (P̂ (t̂ ×̂ û) ∷ []) s a r) (t : r ≡ true) where
+    pub domain-done : Domains s a top s′ end → o ≡ ended end → OneDone dom s a top s′ o
+    unfolding oneValue
+    domain-done m e =
+        one-made dom p
+        (λ gs v q h.
+        let i = sym (f v (good-typed-at q h)) ∙ t in
+        let x = fits-is-relation v i in
+        record { fit = i; value = _; is = ap (oneValue dom) (x .1); made = m (x .0) (as-set q h (x .1)) (x .2) })
+        e
+
+    pub range-done : Ranges s a top s′ end → o ≡ ended end → OneDone ran s a top s′ o
+    unfolding oneValue
+    range-done m e =
+        one-made ran p
+        (λ gs v q h.
+        let i = sym (f v (good-typed-at q h)) ∙ t in
+        let x = fits-is-relation v i in
+        record { fit = i; value = _; is = ap (oneValue ran) (x .1); made = m (x .0) (as-set q h (x .1)) (x .2) })
+        e
+
+-- The least member of a set is its first.
+choice-empty : (s : List ℕ) (top : ℕ) (vs : Values) → count vs ≡ 0 → oneValue choice (set vs) ≡ lacks 16
+unfolding oneValue
+choice-empty s top none e = refl
+choice-empty s top (v ▸ vs) e = absurd (omega arith)
+
+choice-first : (s : List ℕ) (a top : ℕ) (vs : Values) → SetBelow s top a vs → count vs ≢ 0 → Gives s top top (weighed (oneValue choice (set vs))) (Within (a + 1))
+unfolding oneValue
+choice-first s a top none h n = absurd (n refl)
+choice-first s a top (v ▸ vs) h n = record {
+  value = v;
+  is = rw (le-leb (weight v) 256 (omega (arith, h .fine .light)));
+  stands = first-stands s (a + 1) v vs (members-stand s a (v ▸ vs) (h .stands));
+  below = omega (arith, h .below);
+}
+
+module _ {s : List ℕ} {a top : ℕ} {r : Bool} (f : FitOne (P̂ t̂ ∷ []) s a r) (t : r ≡ true) (n : ℕ) (c : n ≡ getD s a 0 % 4294967296) where
+  chosen : (o : Outcome) → ((vs : Values) → SetBelow s top a vs → n ≡ count vs → Gives s top top (weighed (oneValue choice (set vs))) o) → OneDone choice s a top s o
+  chosen o m = record {
+    frame = same-refl top s;
+    answer = λ gs v q h.
+        let i = sym (f v (good-typed-at q h)) ∙ t in
+        let x = fits-is-set v i in
+        let b = as-set q h (x .1) in
+        gives-as s top top o (one-fit choice v i (ap (oneValue choice) (x .1)))
+        (m (x .0) b (c ∙ first-cell s a (set (x .0)) (b .stands) (b .fine .fits) .1));
+  }
+
+  pub choice-none : n ≡ 0 → OneDone choice s a top s (Lacks 16)
+  choice-none z = chosen (Lacks 16) (λ vs b d. ap weighed (choice-empty s top vs (sym d ∙ z)))
+
+  pub choice-some : n ≢ 0 → OneDone choice s a top s (Within (a + 1))
+  choice-some z = chosen (Within (a + 1)) (λ vs b d. choice-first s a top vs b (λ e. z (d ∙ e)))
+
+-- By kind codes: the code is j's, or that of none but the last.
+module _ {k a top : ℕ} {s s′ : List ℕ} {o : Outcome} where
+  pub one-of : (j : One) → k ≡ oneCode j → OneDone j s a top s′ o → OneOf k s a top s′ o
+  one-of j e d i f = subst (λ (h : One). OneDone h s a top s′ o) (same-one k j i (ap kindOf e ∙ of-one j) f) d
+
+  pub one-last : k ≢ 27 → k ≢ 33 → k ≢ 35 → k ≢ 36 → k ≢ 38 → OneDone choice s a top s′ o → OneOf k s a top s′ o
+  one-last n27 n33 n35 n36 n38 d i f = subst (λ (h : One). OneDone h s a top s′ o) (sym (last-one k i f n27 n33 n35 n36 n38)) d

@@ -1,0 +1,39 @@
+-- `number`: an integer of 32 bits, or 17.
+use native.Mathlib.Omega.{arith}
+use Rattle.operations.proofs.DoubleLaws.{number-low, number-high, number-made}
+use borrow.Author.Needs.{needs}
+use Rattle.operations.proofs.double.number.Statement.{statement}
+use Rattle.operations.proofs.double.number.Tie as tie
+
+returns : tie.Need-returns
+returns c = number-low _ _ _ (c .if1 .taken)
+
+returns-2 : tie.Need-returns-2
+returns-2 c = number-high _ _ _ (c .if2 .taken)
+
+add-put-cell : tie.Need-add-put-cell
+add-put-cell c = search needs
+
+put-cell-requires : tie.Need-put-cell-requires
+put-cell-requires c κs = search needs
+
+built-requires : tie.Need-built-requires
+built-requires c κs = search needs
+
+same-length : tie.Need-same-length
+same-length c = search needs
+
+returns-3 : tie.Need-returns-3
+returns-3 c = number-made _ _ _ (omega (arith, c .before .before .before .before .before .before .if1 .left)) (omega (arith, c .before .before .before .before .before .if2 .left)) _ _ _ (c .before .before .before .put-cell .ensures) (c .built .ensures)
+
+pub number-spec : {M : Type 1} → statement M
+number-spec =
+    tie.close
+    (tie.spec
+    returns
+    returns-2
+    add-put-cell
+    put-cell-requires
+    built-requires
+    same-length
+    returns-3)

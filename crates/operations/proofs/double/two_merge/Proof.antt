@@ -1,0 +1,40 @@
+-- `two_merge`: sets alike, merged.
+use borrow.Author.Tests.{not-true, not-false}
+use Rattle.rules.specs.Rules.{t̂}
+use Rattle.operations.proofs.DoubleLaws.{ready-both, ready-sets, merge-unfit, merge-done}
+use borrow.Author.Needs.{needs}
+use Rattle.operations.proofs.double.two_merge.Statement.{statement}
+use Rattle.operations.proofs.double.two_merge.Tie as tie
+
+alike-sets-requires : tie.Need-alike-sets-requires
+alike-sets-requires c κs = ready-both (c .before .before .pre)
+
+same-length : tie.Need-same-length
+same-length c = search needs
+
+returns : tie.Need-returns
+returns c = merge-unfit (c .before .alike-sets .ensures) (not-true _ (c .if1 .taken))
+
+merge-requires : tie.Need-merge-requires
+merge-requires c κs = let v = ready-sets (c .before .before .before .before .before .pre) t̂ t̂ (c .before .before .alike-sets .ensures) (not-false _ (c .before .if1 .left)) in (v .0, v .1, c .before .before .before .before .before .pre .room)
+
+built-requires : tie.Need-built-requires
+built-requires c κs = search needs
+
+same-length-2 : tie.Need-same-length-2
+same-length-2 c = search needs
+
+returns-2 : tie.Need-returns-2
+returns-2 c = merge-done (c .before .before .before .before .before .before .before .before .before .pre) (c .before .before .before .before .before .before .alike-sets .ensures) (not-false _ (c .before .before .before .before .before .if1 .left)) _ _ _ (c .before .before .before .merge .ensures) (c .built .ensures)
+
+pub two-merge-spec : {M : Type 1} → statement M
+two-merge-spec =
+    tie.close
+    (tie.spec
+    alike-sets-requires
+    same-length
+    returns
+    merge-requires
+    built-requires
+    same-length-2
+    returns-2)

@@ -1,0 +1,112 @@
+// Kinds 28 to 32, 37 and 39 to 41: two operands, the first at a and below mid, the second at b.
+use crate::Outcome;
+use crate::built;
+ghost use Prim.Native.Nat.{_+_, _≤_, _<_};
+ghost use lib.ListN.{length};
+ghost use Rattle.rules.specs.Types.{whole};
+ghost use Rattle.rules.specs.Kinds.{pairing, product, apply, plus, minus, interval};
+ghost use Rattle.operations.specs.Outcomes.{TwoReady, TwoDone};
+ghost use Rattle.operations.specs.Double.{MergeDone, NumberDone};
+
+pub fn two_pair(s: &mut [u64], a: usize, mid: usize, b: usize, top: usize) -> Outcome
+    requires { ⌜ TwoReady (now s) a mid b top ⌝ }
+    ensures { λ r. ⌜ TwoDone pairing (now (s .entry)) a mid b top (now (s .exit)) r ⌝ }
+{
+    built(products::pair(s, a, b, top))
+}
+
+// 29 to 31: the members that are only in the left set (if left), in both (if both), only in the right (if right).
+pub fn two_merge(
+    s: &mut [u64],
+    a: usize,
+    mid: usize,
+    b: usize,
+    top: usize,
+    left: bool,
+    both: bool,
+    right: bool,
+) -> Outcome
+    requires { ⌜ TwoReady (now s) a mid b top ⌝ }
+    ensures { λ r. ⌜ MergeDone left both right (now (s .entry)) a mid b top (now (s .exit)) r ⌝ }
+{
+    if !fitting::alike_sets(s, a, b) {
+        return Outcome::Lacks(15);
+    }
+    built(sets::merge(s, a, b, top, left, both, right))
+}
+
+pub fn two_product(s: &mut [u64], a: usize, mid: usize, b: usize, top: usize) -> Outcome
+    requires { ⌜ TwoReady (now s) a mid b top ⌝ }
+    ensures { λ r. ⌜ TwoDone product (now (s .entry)) a mid b top (now (s .exit)) r ⌝ }
+{
+    if !fitting::sets(s, a, b) {
+        return Outcome::Lacks(15);
+    }
+    built(products::product(s, a, b, top))
+}
+
+// The image stays where it is, within the function.
+pub fn two_apply(s: &[u64], a: usize, mid: usize, b: usize, top: usize) -> Outcome
+    requires { ⌜ TwoReady (now s) a mid b top ⌝ }
+    ensures { λ r. ⌜ TwoDone apply (now (s .entry)) a mid b top (now (s .entry)) r ⌝ }
+{
+    if !fitting::applies(s, a, b) {
+        return Outcome::Lacks(15);
+    }
+    let at = sets::image(s, a, b);
+    if at == 0 {
+        return Outcome::Lacks(16);
+    }
+    Outcome::Within(at)
+}
+
+// The integer x − 2^32, which has 32 bits where x is from 2^31 to 2^31 + 2^32 − 1 (17).
+fn number(s: &mut [u64], x: u64, top: usize) -> Outcome
+    requires { ⌜ (x < 8589934592) × (top + 514 ≤ length (now s)) ⌝ }
+    ensures { λ r. ⌜ NumberDone x (now (s .entry)) top (now (s .exit)) r ⌝ }
+{
+    if x < 2147483648 {
+        return Outcome::Lacks(17);
+    }
+    let n = x - 2147483648;
+    if n > 4294967295 {
+        return Outcome::Lacks(17);
+    }
+    built(products::put_cell(s, top, 4294967296 + n))
+}
+
+pub fn two_plus(s: &mut [u64], a: usize, mid: usize, b: usize, top: usize) -> Outcome
+    requires { ⌜ TwoReady (now s) a mid b top ⌝ }
+    ensures { λ r. ⌜ TwoDone (plus whole) (now (s .entry)) a mid b top (now (s .exit)) r ⌝ }
+{
+    if !fitting::numbers(s, a, b) {
+        return Outcome::Lacks(15);
+    }
+    let x = arena::low(s[a]);
+    let y = arena::low(s[b]);
+    number(s, x + y, top)
+}
+
+pub fn two_minus(s: &mut [u64], a: usize, mid: usize, b: usize, top: usize) -> Outcome
+    requires { ⌜ TwoReady (now s) a mid b top ⌝ }
+    ensures { λ r. ⌜ TwoDone (minus whole) (now (s .entry)) a mid b top (now (s .exit)) r ⌝ }
+{
+    if !fitting::numbers(s, a, b) {
+        return Outcome::Lacks(15);
+    }
+    let x = arena::low(s[a]);
+    let y = arena::low(s[b]);
+    number(s, x + 4294967296 - y, top)
+}
+
+pub fn two_interval(s: &mut [u64], a: usize, mid: usize, b: usize, top: usize) -> Outcome
+    requires { ⌜ TwoReady (now s) a mid b top ⌝ }
+    ensures { λ r. ⌜ TwoDone interval (now (s .entry)) a mid b top (now (s .exit)) r ⌝ }
+{
+    if !fitting::numbers(s, a, b) {
+        return Outcome::Lacks(15);
+    }
+    let x = arena::low(s[a]);
+    let y = arena::low(s[b]);
+    built(products::interval(s, x, y, top))
+}

@@ -1,0 +1,68 @@
+// Kinds 27, 33, 35, 36, 38 and 43: one operand, at a.
+use crate::Outcome;
+use crate::built;
+ghost use Rattle.rules.specs.Kinds.{singleton, power, dom, ran, card, choice};
+ghost use Rattle.operations.specs.Outcomes.{OneReady, OneDone};
+
+pub fn one_singleton(s: &mut [u64], a: usize, top: usize) -> Outcome
+    requires { ⌜ OneReady (now s) a top ⌝ }
+    ensures { λ r. ⌜ OneDone singleton (now (s .entry)) a top (now (s .exit)) r ⌝ }
+{
+    built(products::singleton(s, a, top))
+}
+
+pub fn one_power(s: &mut [u64], a: usize, top: usize) -> Outcome
+    requires { ⌜ OneReady (now s) a top ⌝ }
+    ensures { λ r. ⌜ OneDone power (now (s .entry)) a top (now (s .exit)) r ⌝ }
+{
+    if !fitting::is_set(s, a) {
+        return Outcome::Lacks(15);
+    }
+    built(products::power(s, a, top))
+}
+
+pub fn one_domain(s: &mut [u64], a: usize, top: usize) -> Outcome
+    requires { ⌜ OneReady (now s) a top ⌝ }
+    ensures { λ r. ⌜ OneDone dom (now (s .entry)) a top (now (s .exit)) r ⌝ }
+{
+    if !fitting::is_relation(s, a) {
+        return Outcome::Lacks(15);
+    }
+    built(products::domain(s, a, top))
+}
+
+pub fn one_range(s: &mut [u64], a: usize, top: usize) -> Outcome
+    requires { ⌜ OneReady (now s) a top ⌝ }
+    ensures { λ r. ⌜ OneDone ran (now (s .entry)) a top (now (s .exit)) r ⌝ }
+{
+    if !fitting::is_relation(s, a) {
+        return Outcome::Lacks(15);
+    }
+    built(products::range(s, a, top))
+}
+
+// The cell of an integer from 0 on is 2^32 for its tag, 2^31 for the excess form, and itself.
+pub fn one_card(s: &mut [u64], a: usize, top: usize) -> Outcome
+    requires { ⌜ OneReady (now s) a top ⌝ }
+    ensures { λ r. ⌜ OneDone card (now (s .entry)) a top (now (s .exit)) r ⌝ }
+{
+    if !fitting::is_set(s, a) {
+        return Outcome::Lacks(15);
+    }
+    let n = arena::low(s[a]);
+    built(products::put_cell(s, top, 6442450944 + n))
+}
+
+// The first member is the least, and stays where it is.
+pub fn one_choice(s: &[u64], a: usize, top: usize) -> Outcome
+    requires { ⌜ OneReady (now s) a top ⌝ }
+    ensures { λ r. ⌜ OneDone choice (now (s .entry)) a top (now (s .entry)) r ⌝ }
+{
+    if !fitting::is_set(s, a) {
+        return Outcome::Lacks(15);
+    }
+    if arena::low(s[a]) == 0 {
+        return Outcome::Lacks(16);
+    }
+    Outcome::Within(a + 1)
+}
