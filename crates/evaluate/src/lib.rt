@@ -6,7 +6,26 @@ ghost use Rattle.evaluate.specs.Nodes.{IsPred, IsExpr, TwoFields, Decide
 ghost use Rattle.evaluate.specs.Cycle.{Ready, Visited, Sort, EvaluatesP, EvaluatesE, EvaluatesBoth, EachReady, EvaluatesEach, EvaluatesChosen, Settles};
 use operations::Outcome;
 use operations::Tested;
+use table::Reading;
+use table::Refusal;
+use buffer::Loaded;
 
+pub enum Truth {
+    True,
+    False,
+}
+
+// How an evaluation ends: with the condition's truth, or with a refusal's number and place.
+pub enum Ending {
+    Decided(Truth),
+    Refused(Refusal),
+}
+
+// The end, and the visits made.
+pub struct Evaluation {
+    pub ending: Ending,
+    pub steps: u32,
+}
 
 // The truth of a condition, or a refusal's number and place; and the visits made.
 enum Held {
@@ -490,4 +509,105 @@ fn each_chosen(
     }
     s[top] = 21474836480 + chosen;
     Formed::Value(top, to, n)
+}
+
+fn truth_of(yes: bool) -> Truth {
+    if yes { Truth::True } else { Truth::False }
+}
+
+fn refused(number: u8, place: usize, steps: u32) -> Evaluation {
+    Evaluation {
+        ending: Ending::Refused(Refusal {
+            number: number,
+            place: place,
+        }),
+        steps: steps,
+    }
+}
+
+fn ended(held: Held) -> Evaluation {
+    match held {
+        Held::Truth(yes, n) => Evaluation {
+            ending: Ending::Decided(truth_of(yes)),
+            steps: n,
+        },
+        Held::Refused(k, p, n) => refused(k, p, n),
+    }
+}
+
+// The sizes of the given sets.
+fn sizes_of(table: &[u8]) -> [u32; 16] {
+    let count = table::givens(table);
+    let mut sizes = [0u32; 16];
+    let mut g: usize = 0;
+    while g < count {
+        sizes[g] = table::size(table, g) as u32;
+        g += 1;
+    }
+    sizes
+}
+
+// The words of the identifiers.
+fn binds_of(table: &[u8]) -> [u32; 32] {
+    let count = table::identifiers(table);
+    let mut binds = [0u32; 32];
+    let mut x: usize = 0;
+    while x < count {
+        binds[x] = table::bind(table, x) as u32;
+        x += 1;
+    }
+    binds
+}
+
+// Evaluates a readable table over the arena s.
+fn evaluate_in(table: &[u8], values: &[u8], budget: u32, s: &mut [u64]) -> Evaluation {
+    let sizes = sizes_of(table);
+    let binds = binds_of(table);
+    let g = table::givens(table);
+    let i = table::identifiers(table);
+    let loaded = buffer::read_values(values, &sizes[..g], &binds[..i], s, 0);
+    match loaded.answer {
+        Loaded::Refused(x) => refused(14, x, 0),
+        Loaded::All(top) => {
+            let base = table::nodes_offset(table);
+            let root = table::nodes(table) - 1;
+            let env = loaded.at;
+            ended(eval_pred(table, base, &env, s, top, root, 0, budget))
+        }
+    }
+}
+
+// Arenas of three sizes, so that a small condition does not pay for a large one.
+fn small(table: &[u8], values: &[u8], budget: u32) -> Evaluation {
+    let mut s = [0u64; 4096];
+    evaluate_in(table, values, budget, &mut s)
+}
+
+fn middle(table: &[u8], values: &[u8], budget: u32) -> Evaluation {
+    let mut s = [0u64; 12288];
+    evaluate_in(table, values, budget, &mut s)
+}
+
+fn large(table: &[u8], values: &[u8], budget: u32) -> Evaluation {
+    let mut s = [0u64; 29700];
+    evaluate_in(table, values, budget, &mut s)
+}
+
+fn evaluate_sized(table: &[u8], values: &[u8], budget: u32) -> Evaluation {
+    let need = 1027 + 256 * table::identifiers(table) + 512 * table::nodes(table);
+    if need <= 4096 {
+        return small(table, values, budget);
+    }
+    if need <= 12288 {
+        return middle(table, values, budget);
+    }
+    large(table, values, budget)
+}
+
+// Evaluate: refusals 1 to 9, then 14, and then the condition's end.
+pub fn evaluate(table: &[u8], values: &[u8], budget: u32) -> Evaluation {
+    match table::read(table) {
+        Reading::Refused(r) => refused(r.number, r.place, 0),
+        Reading::Passed => evaluate_sized(table, values, budget),
+    }
 }

@@ -1,0 +1,3 @@
+-- The laws that the evaluators' proofs rest on.
+pub mod RunLaws
+pub mod NodeLaws
