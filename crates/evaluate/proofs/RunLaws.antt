@@ -63,10 +63,12 @@ fitted-ends n r vs g s = go (fits (r .takes) vs) refl
     go : (b : Bool) → fits (r .takes) vs ≡ b → Ends ((fitting n r vs >> form n g) s) (endOf n (fitted (r .takes) vs g)) s
     go true e =
         let f : Ends (fitting n r vs s) (done tt) s = record { end = rw e; steps = rw e } in
-        rw e (then-done (fitting n r vs) (λ _. form n g) s f (form-ends n g s))
+        let q : endOf n (fitted (r .takes) vs g) ≡ endOf n (weighed g) = rw e in
+        subst (λ (z : End Value). Ends ((fitting n r vs >> form n g) s) z s) (sym q) (then-done (fitting n r vs) (λ _. form n g) s f (form-ends n g s))
     go false e =
         let f : Ends (fitting n r vs s) (refused 15 n) s = record { end = rw e; steps = rw e } in
-        rw e (then-refused (fitting n r vs) (λ _. form n g) s f)
+        let q : endOf n (fitted (r .takes) vs g) ≡ refused 15 n = rw e in
+        subst (λ (z : End Value). Ends ((fitting n r vs >> form n g) s) z s) (sym q) (then-refused (fitting n r vs) (λ _. form n g) s f)
 
 pub fitting-done : (n : ℕ) (r : Rule) (vs : List Value) (s : ℕ) → fits (r .takes) vs ≡ true → Ends (fitting n r vs s) (done tt) s
 fitting-done n r vs s e = record { end = rw e; steps = rw e }

@@ -4,11 +4,11 @@ ghost use Rattle.rules.specs.Kinds.{join, test, quant, one, two};
 ghost use Rattle.evaluate.specs.Answers.{SettleReady};
 ghost use Rattle.evaluate.specs.Nodes.{IsPred, IsExpr, TwoFields, DecidesBy, JoinedBy, quantOf, SomeGood, RangeAt, NameReady, NameAt, LeafNode, LeafFormed, ChooseReady, Chooses};
 ghost use Rattle.evaluate.specs.Cycle.{Ready, Visited, Sort, EvaluatesP, EvaluatesE, EvaluatesBoth, EachReady, EvaluatesEach, EvaluatesChosen, Settles};
+use buffer::Loaded;
 use operations::Outcome;
 use operations::Tested;
 use table::Reading;
 use table::Refusal;
-use buffer::Loaded;
 
 pub enum Truth {
     True,
@@ -238,7 +238,19 @@ fn eval_quant(
             Range::Unlike => Held::Refused(15, node, n),
             Range::Set(count) => {
                 let all = kind == 10;
-                each_member(table, base, env, s, next, all, node, at + 1, count, n, budget)
+                each_member(
+                    table,
+                    base,
+                    env,
+                    s,
+                    next,
+                    all,
+                    node,
+                    at + 1,
+                    count,
+                    n,
+                    budget,
+                )
             }
         },
     }
@@ -304,7 +316,17 @@ fn eval_expr(
     match kind {
         20 => eval_name(table, base, env, top, node, steps + 1),
         25 => eval_bool(table, base, env, s, top, kind, node, steps, budget),
-        27 | 33 | 35 | 36 | 38 | 43 => eval_one(table, base, env, s, top, kind, node, steps, budget),
+        27 | 33 | 35 | 36 | 38 | 43 => eval_one(
+            table,
+            base,
+            env,
+            s,
+            top,
+            kind,
+            node,
+            steps,
+            budget,
+        ),
         28..=32 | 37 | 39..=41 => eval_two(table, base, env, s, top, kind, node, steps, budget),
         34 => eval_select(table, base, env, s, top, kind, node, steps, budget),
         _ => eval_leaf(table, base, s, top, kind, node, steps + 1),
@@ -312,7 +334,14 @@ fn eval_expr(
 }
 
 // 20: the value stays where it is.
-fn eval_name(table: &[u8], base: usize, env: &[u32; 32], top: usize, node: usize, steps: u32) -> Formed
+fn eval_name(
+    table: &[u8],
+    base: usize,
+    env: &[u32; 32],
+    top: usize,
+    node: usize,
+    steps: u32,
+) -> Formed
     requires { ⌜ NameReady (now table) base (now env) node ⌝ }
     ensures { λ r. ⌜ NameAt (now (table .entry)) (now (env .entry)) top node steps r ⌝ }
 {
@@ -321,7 +350,15 @@ fn eval_name(table: &[u8], base: usize, env: &[u32; 32], top: usize, node: usize
 }
 
 // 21 to 24, 26 and 42
-fn eval_leaf(table: &[u8], base: usize, s: &mut [u64], top: usize, kind: usize, node: usize, steps: u32) -> Formed
+fn eval_leaf(
+    table: &[u8],
+    base: usize,
+    s: &mut [u64],
+    top: usize,
+    kind: usize,
+    node: usize,
+    steps: u32,
+) -> Formed
     requires { ⌜ LeafNode (now table) base (now s) top kind node ⌝ }
     ensures { λ r. ⌜ LeafFormed (now (table .entry)) (now (s .entry)) top kind node steps (now (s .exit)) r ⌝ }
 {
@@ -358,7 +395,16 @@ fn eval_bool(
 }
 
 // What a node gives: a value that has been built above is copied down to top, one within an operand stays.
-fn settle(s: &mut [u64], r: Outcome, mid: usize, next: usize, top: usize, node: usize, steps: u32, budget: u32) -> Formed
+fn settle(
+    s: &mut [u64],
+    r: Outcome,
+    mid: usize,
+    next: usize,
+    top: usize,
+    node: usize,
+    steps: u32,
+    budget: u32,
+) -> Formed
     requires { ⌜ SettleReady (now s) r mid next top steps budget ⌝ }
     ensures { λ x. ⌜ Settles (now (s .entry)) r mid next top node steps budget (now (s .exit)) x ⌝ }
 {
