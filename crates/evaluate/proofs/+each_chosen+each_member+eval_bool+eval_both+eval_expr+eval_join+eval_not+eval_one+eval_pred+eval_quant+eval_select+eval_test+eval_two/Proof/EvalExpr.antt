@@ -96,7 +96,7 @@ pub eval-expr-kind-requires : (t : ℕ) → eval-expr-lts.Need-kind-requires (
   eval-one-below t,
   eval-one.Post,
 ) (eval-expr-at t) eval-expr.Post
-eval-expr-kind-requires t c κs = ?
+eval-expr-kind-requires t c κs = search needs
 
 -- src/lib.rt:313:54
 pub eval-expr-add-eval-name : (t : ℕ) → eval-expr-lts.Need-add-eval-name (
@@ -115,7 +115,7 @@ pub eval-expr-add-eval-name : (t : ℕ) → eval-expr-lts.Need-add-eval-name (
   eval-one-below t,
   eval-one.Post,
 ) (eval-expr-at t) eval-expr.Post
-eval-expr-add-eval-name t c = ?
+eval-expr-add-eval-name t c = search needs
 
 -- src/lib.rt:313:15
 pub eval-expr-eval-name-requires : (t : ℕ) → eval-expr-lts.Need-eval-name-requires (
@@ -191,7 +191,7 @@ pub eval-expr-add-eval-leaf : (t : ℕ) → eval-expr-lts.Need-add-eval-leaf (
   eval-one-below t,
   eval-one.Post,
 ) (eval-expr-at t) eval-expr.Post
-eval-expr-add-eval-leaf t c = ?
+eval-expr-add-eval-leaf t c = search needs
 
 -- src/lib.rt:328:14
 pub eval-expr-eval-leaf-requires : (t : ℕ) → eval-expr-lts.Need-eval-leaf-requires (
@@ -286,7 +286,7 @@ pub eval-expr-same-length : (t : ℕ) → eval-expr-lts.Need-same-length (
   eval-one-below t,
   eval-one.Post,
 ) (eval-expr-at t) eval-expr.Post
-eval-expr-same-length t c = ?
+eval-expr-same-length t c = search needs
 
 -- src/lib.rt:295:1
 pub eval-expr-returns-3 : (t : ℕ) → eval-expr-lts.Need-returns-3 (
@@ -305,7 +305,7 @@ pub eval-expr-returns-3 : (t : ℕ) → eval-expr-lts.Need-returns-3 (
   eval-one-below t,
   eval-one.Post,
 ) (eval-expr-at t) eval-expr.Post
-eval-expr-returns-3 t c = ?
+eval-expr-returns-3 t c = search needs
 
 -- src/lib.rt:295:1
 pub eval-expr-same-length-2 : (t : ℕ) → eval-expr-lts.Need-same-length-2 (
@@ -324,7 +324,7 @@ pub eval-expr-same-length-2 : (t : ℕ) → eval-expr-lts.Need-same-length-2 (
   eval-one-below t,
   eval-one.Post,
 ) (eval-expr-at t) eval-expr.Post
-eval-expr-same-length-2 t c = ?
+eval-expr-same-length-2 t c = search needs
 
 -- src/lib.rt:295:1
 pub eval-expr-returns-4 : (t : ℕ) → eval-expr-lts.Need-returns-4 (
@@ -343,7 +343,7 @@ pub eval-expr-returns-4 : (t : ℕ) → eval-expr-lts.Need-returns-4 (
   eval-one-below t,
   eval-one.Post,
 ) (eval-expr-at t) eval-expr.Post
-eval-expr-returns-4 t c = ?
+eval-expr-returns-4 t c = search needs
 
 -- src/lib.rt:295:1
 pub eval-expr-same-length-3 : (t : ℕ) → eval-expr-lts.Need-same-length-3 (
@@ -362,7 +362,7 @@ pub eval-expr-same-length-3 : (t : ℕ) → eval-expr-lts.Need-same-length-3 (
   eval-one-below t,
   eval-one.Post,
 ) (eval-expr-at t) eval-expr.Post
-eval-expr-same-length-3 t c = ?
+eval-expr-same-length-3 t c = search needs
 
 -- src/lib.rt:295:1
 pub eval-expr-returns-5 : (t : ℕ) → eval-expr-lts.Need-returns-5 (
@@ -400,7 +400,7 @@ pub eval-expr-same-length-4 : (t : ℕ) → eval-expr-lts.Need-same-length-4 (
   eval-one-below t,
   eval-one.Post,
 ) (eval-expr-at t) eval-expr.Post
-eval-expr-same-length-4 t c = ?
+eval-expr-same-length-4 t c = search needs
 
 -- src/lib.rt:295:1
 pub eval-expr-returns-6 : (t : ℕ) → eval-expr-lts.Need-returns-6 (
@@ -419,7 +419,7 @@ pub eval-expr-returns-6 : (t : ℕ) → eval-expr-lts.Need-returns-6 (
   eval-one-below t,
   eval-one.Post,
 ) (eval-expr-at t) eval-expr.Post
-eval-expr-returns-6 t c = ?
+eval-expr-returns-6 t c = search needs
 
 -- src/lib.rt:295:1
 pub eval-expr-same-length-5 : (t : ℕ) → eval-expr-lts.Need-same-length-5 (
@@ -438,7 +438,7 @@ pub eval-expr-same-length-5 : (t : ℕ) → eval-expr-lts.Need-same-length-5 (
   eval-one-below t,
   eval-one.Post,
 ) (eval-expr-at t) eval-expr.Post
-eval-expr-same-length-5 t c = ?
+eval-expr-same-length-5 t c = search needs
 
 -- src/lib.rt:295:1
 pub eval-expr-returns-7 : (t : ℕ) → eval-expr-lts.Need-returns-7 (
@@ -457,4 +457,4 @@ pub eval-expr-returns-7 : (t : ℕ) → eval-expr-lts.Need-returns-7 (
   eval-one-below t,
   eval-one.Post,
 ) (eval-expr-at t) eval-expr.Post
-eval-expr-returns-7 t c = ?
+eval-expr-returns-7 t c = search needs

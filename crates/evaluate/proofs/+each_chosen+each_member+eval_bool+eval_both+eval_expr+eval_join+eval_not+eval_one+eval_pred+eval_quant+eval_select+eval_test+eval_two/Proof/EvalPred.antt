@@ -59,6 +59,11 @@ use Rattle.products.proofs.put_cell.Reads as put-cell-reads
 use Rattle.table.proofs.field.Reads as field-reads
 use Rattle.table.proofs.kind.Reads as kind-reads
 use Rattle.evaluate.proofs.+each_chosen+each_member+eval_bool+eval_both+eval_expr+eval_join+eval_not+eval_one+eval_pred+eval_quant+eval_select+eval_test+eval_two.Proof.Base.{μ-each-chosen, μ-each-member, μ-eval-bool, μ-eval-both, μ-eval-expr, μ-eval-join, μ-eval-not, μ-eval-one, μ-eval-pred, μ-eval-quant, μ-eval-select, μ-eval-test, μ-eval-two, each-chosen-at, each-chosen-below, each-member-at, each-member-below, eval-bool-at, eval-bool-below, eval-both-at, eval-both-below, eval-expr-at, eval-expr-below, eval-join-at, eval-join-below, eval-not-at, eval-not-below, eval-one-at, eval-one-below, eval-pred-at, eval-pred-below, eval-quant-at, eval-quant-below, eval-select-at, eval-select-below, eval-test-at, eval-test-below, eval-two-at, eval-two-below}
+use mathlib.Core.Logic.{⊎-elim}
+use mathlib.Core.Path.{_≡_, subst, sym}
+use Rattle.rules.specs.Kinds.{predicate, kindOf}
+use Rattle.rules.specs.Readable.{CategoryIs}
+use Rattle.evaluate.proofs.DispatchLaws.{spent-pred, counted, test-sort, quant-sort, join-rest}
 
 -- src/lib.rt:74:9
 pub eval-pred-returns : (t : ℕ) → eval-pred-lts.Need-returns (
@@ -73,7 +78,9 @@ pub eval-pred-returns : (t : ℕ) → eval-pred-lts.Need-returns (
   eval-join-below t,
   eval-join.Post,
 ) (eval-pred-at t) eval-pred.Post
-eval-pred-returns t c = ?
+eval-pred-returns t c =
+    let c1 = c .before .before .before in
+    spent-pred (c1 .pre .1 .0) (c .if1 .taken)
 
 -- src/lib.rt:76:9
 pub eval-pred-kind-requires : (t : ℕ) → eval-pred-lts.Need-kind-requires (
@@ -88,7 +95,7 @@ pub eval-pred-kind-requires : (t : ℕ) → eval-pred-lts.Need-kind-requires (
   eval-join-below t,
   eval-join.Post,
 ) (eval-pred-at t) eval-pred.Post
-eval-pred-kind-requires t c κs = ?
+eval-pred-kind-requires t c κs = search needs
 
 -- src/lib.rt:78:14
 pub eval-pred-eval-not-requires : (t : ℕ) → eval-pred-lts.Need-eval-not-requires (
@@ -103,7 +110,10 @@ pub eval-pred-eval-not-requires : (t : ℕ) → eval-pred-lts.Need-eval-not-requ
   eval-join-below t,
   eval-join.Post,
 ) (eval-pred-at t) eval-pred.Post
-eval-pred-eval-not-requires t c κs = ?
+eval-pred-eval-not-requires t c κs =
+    let c1 = c .before .before .before .before .before .before in
+    let v = counted (c1 .pre .1 .0) _ (c .before .before .before .if1 .left) (c .before .before .kind .ensures) in
+    (omega (arith, c1 .pre .0), (v, c .before .match .keys1))
 
 -- src/lib.rt:79:18
 pub eval-pred-eval-test-requires : (t : ℕ) → eval-pred-lts.Need-eval-test-requires (
@@ -118,7 +128,10 @@ pub eval-pred-eval-test-requires : (t : ℕ) → eval-pred-lts.Need-eval-test-re
   eval-join-below t,
   eval-join.Post,
 ) (eval-pred-at t) eval-pred.Post
-eval-pred-eval-test-requires t c κs = ?
+eval-pred-eval-test-requires t c κs =
+    let c1 = c .before .before .before .before .before .before .before .before in
+    let v = counted (c1 .pre .1 .0) _ (c .before .before .before .before .before .if1 .left) (c .before .before .before .before .kind .ensures) in
+    (omega (arith, c1 .pre .0), (v, test-sort _ (c .before .before .if2 .left) (c .before .if3 .taken)))
 
 -- src/lib.rt:80:20
 pub eval-pred-eval-quant-requires : (t : ℕ) → eval-pred-lts.Need-eval-quant-requires (
@@ -133,7 +146,10 @@ pub eval-pred-eval-quant-requires : (t : ℕ) → eval-pred-lts.Need-eval-quant-
   eval-join-below t,
   eval-join.Post,
 ) (eval-pred-at t) eval-pred.Post
-eval-pred-eval-quant-requires t c κs = ?
+eval-pred-eval-quant-requires t c κs =
+    let c1 = c .before .before .before .before .before .before .before .before .before in
+    let v = counted (c1 .pre .1 .0) _ (c .before .before .before .before .before .before .if1 .left) (c .before .before .before .before .before .kind .ensures) in
+    (omega (arith, c1 .pre .0), (v, quant-sort _ (c .before .before .if3 .left) (c .before .if4 .taken)))
 
 -- src/lib.rt:81:14
 pub eval-pred-eval-join-requires : (t : ℕ) → eval-pred-lts.Need-eval-join-requires (
@@ -148,7 +164,11 @@ pub eval-pred-eval-join-requires : (t : ℕ) → eval-pred-lts.Need-eval-join-re
   eval-join-below t,
   eval-join.Post,
 ) (eval-pred-at t) eval-pred.Post
-eval-pred-eval-join-requires t c κs = ?
+eval-pred-eval-join-requires t c κs =
+    let c1 = c .before .before .before .before .before .before .before in
+    let v = counted (c1 .pre .1 .0) _ (c .before .before .before .before .if1 .left) (c .before .before .before .kind .ensures) in
+    (omega (arith, c1 .pre .0), (v, join-rest _ (subst (λ (k : ℕ). CategoryIs predicate (kindOf k)) (sym (c .before .before .before .kind .ensures)) (c1 .pre .1 .1)) (c .before .before .match .rest .1)
+    (λ l. ⊎-elim (λ w. absurd (omega (arith, w .taken))) (λ w. w .2 .left) (c .before .if2 .came))))
 
 -- src/lib.rt:60:1
 pub eval-pred-same-length : (t : ℕ) → eval-pred-lts.Need-same-length (
@@ -163,7 +183,7 @@ pub eval-pred-same-length : (t : ℕ) → eval-pred-lts.Need-same-length (
   eval-join-below t,
   eval-join.Post,
 ) (eval-pred-at t) eval-pred.Post
-eval-pred-same-length t c = ?
+eval-pred-same-length t c = search needs
 
 -- src/lib.rt:60:1
 pub eval-pred-returns-2 : (t : ℕ) → eval-pred-lts.Need-returns-2 (
@@ -178,7 +198,7 @@ pub eval-pred-returns-2 : (t : ℕ) → eval-pred-lts.Need-returns-2 (
   eval-join-below t,
   eval-join.Post,
 ) (eval-pred-at t) eval-pred.Post
-eval-pred-returns-2 t c = ?
+eval-pred-returns-2 t c = search needs
 
 -- src/lib.rt:60:1
 pub eval-pred-same-length-2 : (t : ℕ) → eval-pred-lts.Need-same-length-2 (
@@ -193,7 +213,7 @@ pub eval-pred-same-length-2 : (t : ℕ) → eval-pred-lts.Need-same-length-2 (
   eval-join-below t,
   eval-join.Post,
 ) (eval-pred-at t) eval-pred.Post
-eval-pred-same-length-2 t c = ?
+eval-pred-same-length-2 t c = search needs
 
 -- src/lib.rt:60:1
 pub eval-pred-returns-3 : (t : ℕ) → eval-pred-lts.Need-returns-3 (
@@ -208,7 +228,7 @@ pub eval-pred-returns-3 : (t : ℕ) → eval-pred-lts.Need-returns-3 (
   eval-join-below t,
   eval-join.Post,
 ) (eval-pred-at t) eval-pred.Post
-eval-pred-returns-3 t c = ?
+eval-pred-returns-3 t c = search needs
 
 -- src/lib.rt:60:1
 pub eval-pred-same-length-3 : (t : ℕ) → eval-pred-lts.Need-same-length-3 (
@@ -223,7 +243,7 @@ pub eval-pred-same-length-3 : (t : ℕ) → eval-pred-lts.Need-same-length-3 (
   eval-join-below t,
   eval-join.Post,
 ) (eval-pred-at t) eval-pred.Post
-eval-pred-same-length-3 t c = ?
+eval-pred-same-length-3 t c = search needs
 
 -- src/lib.rt:60:1
 pub eval-pred-returns-4 : (t : ℕ) → eval-pred-lts.Need-returns-4 (
@@ -238,7 +258,7 @@ pub eval-pred-returns-4 : (t : ℕ) → eval-pred-lts.Need-returns-4 (
   eval-join-below t,
   eval-join.Post,
 ) (eval-pred-at t) eval-pred.Post
-eval-pred-returns-4 t c = ?
+eval-pred-returns-4 t c = search needs
 
 -- src/lib.rt:60:1
 pub eval-pred-same-length-4 : (t : ℕ) → eval-pred-lts.Need-same-length-4 (
@@ -253,7 +273,7 @@ pub eval-pred-same-length-4 : (t : ℕ) → eval-pred-lts.Need-same-length-4 (
   eval-join-below t,
   eval-join.Post,
 ) (eval-pred-at t) eval-pred.Post
-eval-pred-same-length-4 t c = ?
+eval-pred-same-length-4 t c = search needs
 
 -- src/lib.rt:60:1
 pub eval-pred-returns-5 : (t : ℕ) → eval-pred-lts.Need-returns-5 (
@@ -268,4 +288,4 @@ pub eval-pred-returns-5 : (t : ℕ) → eval-pred-lts.Need-returns-5 (
   eval-join-below t,
   eval-join.Post,
 ) (eval-pred-at t) eval-pred.Post
-eval-pred-returns-5 t c = ?
+eval-pred-returns-5 t c = search needs
