@@ -1,45 +1,41 @@
 -- Where a node's visit goes: the refusal of a visit beyond the budget, the evaluator by the kind's code, and the leaves.
 use Prim.Native.Nat.{ℕ, zero, suc, _+_, _*_, _≤_, _<_}
-use mathlib.Core.Bool.{Bool, true, false}
-use mathlib.Core.List.{List, [], _∷_}
+use mathlib.Core.List.{List}
 use mathlib.Core.Logic.{_≢_, _⊎_, inl, inr}
 use mathlib.Core.Option.{Option, none as nothing, some}
 use mathlib.Core.Path.{_≡_, refl, sym, ap, _∙_, subst}
 use native.Mathlib.Omega.{arith}
 use native.Mathlib.Decide.{decLt}
 use borrow.Author.Tests.{le-leb}
-use lib.Dec.{T}
-use lib.ListN.{length, getD}
+use lib.ListN.{getD}
 use Rattle.rules.specs.Types.{whole}
 use Rattle.rules.specs.Values.{Value, weight}
-use Rattle.rules.specs.Kinds.{Join, Test, equal, member, subset, atMost, Quant, forAll, forSome}
+use Rattle.rules.specs.Kinds.{Test, equal, member, subset, atMost, Quant, forAll, forSome}
 use Rattle.rules.specs.Kinds.{Leaf, identifier, givenSet, elementOf, literal, truthConst, emptySet, boolSet}
 use Rattle.rules.specs.Kinds.{One, singleton, power, dom, ran, card, choice}
 use Rattle.rules.specs.Kinds.{Two, pairing, union, inter, diff, product, apply, plus, minus, interval}
 use Rattle.rules.specs.Kinds.{Kind, join, negation, test, quant, leaf, boolOf, one, two, comprehension, kindOf}
 use Rattle.rules.specs.Kinds.{Category, predicate, expression, categoryOf}
-use Rattle.rules.specs.Tables.{Node, Table, Pred, joinᵖ, notᵖ, testᵖ, quantᵖ, Expr, leafᵉ, boolᵉ, oneᵉ, twoᵉ, comprehensionᵉ}
+use Rattle.rules.specs.Tables.{Node, Pred, joinᵖ, notᵖ, testᵖ, quantᵖ, Expr, leafᵉ, boolᵉ, oneᵉ, twoᵉ, comprehensionᵉ}
 use Rattle.rules.specs.Tables.{wordAt, nodeFrom, tableOf, nodeAt, kindAt, predOf, exprOf, predAt, exprAt, nodeCount, nodesAt}
 use Rattle.rules.specs.Readable.{Readable, CategoryIs}
-use Rattle.rules.specs.Ends.{End, done, refused}
-use Rattle.rules.specs.Runs.{M, visit, form, gives, lacks}
+use Rattle.rules.specs.Ends.{done, refused}
+use Rattle.rules.specs.Runs.{visit, form, gives}
 use Rattle.rules.specs.Operations.{Env, leafValue}
 use Rattle.rules.specs.Evaluation.{holdsᵖ, valueᵉ}
 use Rattle.rules.proofs.TableLaws.{sizes-length, binds-length, nodes-entry}
 use Rattle.rules.proofs.CellsLaws.{good-weight}
 use Rattle.rules.proofs.FormedLaws.{value-good}
-use Rattle.arena.specs.Code.{Same}
 use Rattle.arena.proofs.Standing.{same-refl}
-use Rattle.operations.specs.Good.{GoodAt}
-use Rattle.operations.specs.Outcomes.{BuiltAt, LeafFits, LeafReady, LeafDone}
-use Rattle.operations.proofs.KindLaws.{joinCode, testCode, quantCode, oneCode, twoCode, code-of, of-one, of-leaf}
+use Rattle.operations.specs.Outcomes.{BuiltAt, LeafFits}
+use Rattle.operations.proofs.KindLaws.{testCode, quantCode, oneCode, twoCode, code-of, of-one, of-leaf}
 use Rattle.evaluate.specs.declared.Formed.{Formed}
-use Rattle.evaluate.specs.declared.Formed.the-variants.{Value as Placed, Stopped}
+use Rattle.evaluate.specs.declared.Formed.the-variants.{Stopped}
 use Rattle.evaluate.specs.declared.Held.the-variants.{Refused}
 use Rattle.evaluate.specs.Answers.{Ends, PlacedAs}
 use Rattle.evaluate.specs.Nodes.{IsPred, IsExpr, NameReady, NameAt, LeafNode, LeafFormed}
 use Rattle.evaluate.specs.Cycle.{Binds, Ready, Visited, Sort, EvaluatesP, EvaluatesE}
-use Rattle.evaluate.proofs.RunLaws.{visited, unvisited, form-ends, endOf}
+use Rattle.evaluate.proofs.RunLaws.{visited, unvisited}
 use Rattle.evaluate.proofs.NodeLaws.{sizes-small, field-holds, expr-at}
 
 -- The number of a tree's own node.
@@ -241,7 +237,7 @@ module _ (k : ℕ) where
   last-join (two j) e c n l = absurd (other c)
   last-join comprehension e c n l = absurd (other c)
 
-  pub join-rest : CategoryIs predicate (kindOf k) → k ≢ 4 → (6 ≤ k → 12 ≤ k) → Sort join k
+  join-rest : CategoryIs predicate (kindOf k) → k ≢ 4 → (6 ≤ k → 12 ≤ k) → Sort join k
   join-rest h n l = go (kindOf k) refl h
     where
       go : (o : Option Kind) → kindOf k ≡ o → CategoryIs predicate o → Sort join k
@@ -249,10 +245,10 @@ module _ (k : ℕ) where
       go (some x) e h = last-join x e h n l
 
   -- A leaf that is no identifier.
-  pub record Constant : Type 0 where
-    pub kind : Leaf
-    pub is : kindOf k ≡ some (leaf kind)
-    pub no-name : kind ≢ identifier
+  record Constant : Type 0 where
+    kind : Leaf
+    is : kindOf k ≡ some (leaf kind)
+    no-name : kind ≢ identifier
 
   last-leaf : (x : Kind) → kindOf k ≡ some x → categoryOf x ≡ expression → k ≢ 20 → k ≢ 25 → k ≢ 34 → k ≢ 43 → (27 ≤ k → 42 ≤ k) → Constant
   last-leaf (join j) e c n20 n25 n34 n43 l = absurd (other (sym c))
@@ -274,7 +270,7 @@ module _ (k : ℕ) where
       let r = two-codes j in absurd (omega (arith, q, r .1, l (omega (arith, q, r .0))))
   last-leaf comprehension e c n20 n25 n34 n43 l = absurd (n34 (code-of k comprehension e))
 
-  pub leaf-rest : CategoryIs expression (kindOf k) → k ≢ 20 → k ≢ 25 → k ≢ 34 → (Some-one k → ⊥) → (27 ≤ k → 42 ≤ k) → Constant
+  leaf-rest : CategoryIs expression (kindOf k) → k ≢ 20 → k ≢ 25 → k ≢ 34 → (Some-one k → ⊥) → (27 ≤ k → 42 ≤ k) → Constant
   leaf-rest h n20 n25 n34 n l = go (kindOf k) refl h
     where
       go : (o : Option Kind) → kindOf k ≡ o → CategoryIs expression o → Constant
@@ -335,8 +331,8 @@ module _ {bs : List ℕ} {base : ℕ} {env s : List ℕ} {top k n steps budget :
     entries = v .ready .entries;
   }
 
-  pub leaf-node : Constant k → ((i : ℕ) → getD bs i 0 < 256) → LeafNode bs base s top k n
-  leaf-node c h = record {
+  constant-node : Constant k → ((i : ℕ) → getD bs i 0 < 256) → LeafNode bs base s top k n
+  constant-node c h = record {
     readable = v .ready .readable;
     offset = v .ready .offset;
     node = v .ready .node;
@@ -347,6 +343,17 @@ module _ {bs : List ℕ} {base : ℕ} {env s : List ℕ} {top k n steps budget :
       room = omega (arith, v .ready .room);
     };
   }
+
+  -- The last arms.
+  category : (c : Category) → CategoryIs c (kindAt (tableOf bs .nodes) n) → CategoryIs c (kindOf k)
+  category c h = subst (λ (m : ℕ). CategoryIs c (kindOf m)) (sym (v .kind)) h
+
+  pub join-kind : IsPred bs n → k ≢ 4 → (6 ≤ k → 12 ≤ k) → Sort join k
+  join-kind h d l = join-rest k (category predicate h) d l
+
+  pub leaf-node : IsExpr bs n → k ≢ 20 → k ≢ 25 → (Some-one k → ⊥) → k ≢ 34 → (27 ≤ k → 42 ≤ k) → ((i : ℕ) → getD bs i 0 < 256) →
+      LeafNode bs base s top k n
+  leaf-node h n20 n25 d n34 l bytes = constant-node (leaf-rest k (category expression h) n20 n25 n34 d l) bytes
 
   -- A leaf's value, which is not heavy, is formed at once.
   leaf-ends : (j : Leaf) → kindAt (tableOf bs .nodes) n ≡ some (leaf j) → (f : ℕ) (ρ : Env) → n < f →

@@ -59,6 +59,8 @@ use Rattle.products.proofs.put_cell.Reads as put-cell-reads
 use Rattle.table.proofs.field.Reads as field-reads
 use Rattle.table.proofs.kind.Reads as kind-reads
 use Rattle.evaluate.proofs.+each_chosen+each_member+eval_bool+eval_both+eval_expr+eval_join+eval_not+eval_one+eval_pred+eval_quant+eval_select+eval_test+eval_two.Proof.Base.{μ-each-chosen, μ-each-member, μ-eval-bool, μ-eval-both, μ-eval-expr, μ-eval-join, μ-eval-not, μ-eval-one, μ-eval-pred, μ-eval-quant, μ-eval-select, μ-eval-test, μ-eval-two, each-chosen-at, each-chosen-below, each-member-at, each-member-below, eval-bool-at, eval-bool-below, eval-both-at, eval-both-below, eval-expr-at, eval-expr-below, eval-join-at, eval-join-below, eval-not-at, eval-not-below, eval-one-at, eval-one-below, eval-pred-at, eval-pred-below, eval-quant-at, eval-quant-below, eval-select-at, eval-select-below, eval-test-at, eval-test-below, eval-two-at, eval-two-below}
+use mathlib.Core.Logic.{⊎-elim}
+use Rattle.evaluate.proofs.DispatchLaws.{spent-expr, counted, one-keys, one-range, two-key, two-low, two-high, name-ready, name-answer, leaf-node, leaf-answer}
 
 -- src/lib.rt:309:9
 pub eval-expr-returns : (t : ℕ) → eval-expr-lts.Need-returns (
@@ -77,7 +79,9 @@ pub eval-expr-returns : (t : ℕ) → eval-expr-lts.Need-returns (
   eval-one-below t,
   eval-one.Post,
 ) (eval-expr-at t) eval-expr.Post
-eval-expr-returns t c = ?
+eval-expr-returns t c =
+    let c1 = c .before .before .before in
+    spent-expr (c1 .pre .1 .0) (c .if1 .taken)
 
 -- src/lib.rt:311:9
 pub eval-expr-kind-requires : (t : ℕ) → eval-expr-lts.Need-kind-requires (
@@ -134,7 +138,10 @@ pub eval-expr-eval-name-requires : (t : ℕ) → eval-expr-lts.Need-eval-name-re
   eval-one-below t,
   eval-one.Post,
 ) (eval-expr-at t) eval-expr.Post
-eval-expr-eval-name-requires t c κs = ?
+eval-expr-eval-name-requires t c κs =
+    let c1 = c .before .before .before .before .before in
+    let v = counted (c1 .pre .1 .0) _ (c .before .before .if1 .left) (c .before .kind .ensures) in
+    name-ready v (c .match .keys1)
 
 -- src/lib.rt:314:15
 pub eval-expr-eval-bool-requires : (t : ℕ) → eval-expr-lts.Need-eval-bool-requires (
@@ -153,7 +160,10 @@ pub eval-expr-eval-bool-requires : (t : ℕ) → eval-expr-lts.Need-eval-bool-re
   eval-one-below t,
   eval-one.Post,
 ) (eval-expr-at t) eval-expr.Post
-eval-expr-eval-bool-requires t c κs = ?
+eval-expr-eval-bool-requires t c κs =
+    let c1 = c .before .before .before .before .before .before in
+    let v = counted (c1 .pre .1 .0) _ (c .before .before .before .if1 .left) (c .before .before .kind .ensures) in
+    (omega (arith, c1 .pre .0), (v, c .before .match .keys2))
 
 -- src/lib.rt:327:15
 pub eval-expr-eval-select-requires : (t : ℕ) → eval-expr-lts.Need-eval-select-requires (
@@ -172,7 +182,10 @@ pub eval-expr-eval-select-requires : (t : ℕ) → eval-expr-lts.Need-eval-selec
   eval-one-below t,
   eval-one.Post,
 ) (eval-expr-at t) eval-expr.Post
-eval-expr-eval-select-requires t c κs = ?
+eval-expr-eval-select-requires t c κs =
+    let c1 = c .before .before .before .before .before .before in
+    let v = counted (c1 .pre .1 .0) _ (c .before .before .before .if1 .left) (c .before .before .kind .ensures) in
+    (omega (arith, c1 .pre .0), (v, c .before .match .keys5))
 
 -- src/lib.rt:328:57
 pub eval-expr-add-eval-leaf : (t : ℕ) → eval-expr-lts.Need-add-eval-leaf (
@@ -210,7 +223,13 @@ pub eval-expr-eval-leaf-requires : (t : ℕ) → eval-expr-lts.Need-eval-leaf-re
   eval-one-below t,
   eval-one.Post,
 ) (eval-expr-at t) eval-expr.Post
-eval-expr-eval-leaf-requires t c κs = ?
+eval-expr-eval-leaf-requires t c κs =
+    let c1 = c .before .before .before .before .before .before .before in
+    let v = counted (c1 .pre .1 .0) _ (c .before .before .before .before .if1 .left) (c .before .before .before .kind .ensures) in
+    let m = c .before .before .match .rest in
+    leaf-node v (c1 .pre .1 .1) (m .0 .0 .0 .0 .1) (m .0 .0 .0 .1) (m .0 .0 .1) (m .1)
+    (λ l. ⊎-elim (λ w. absurd (omega (arith, w .taken))) (λ w. w .3 .left) (c .before .if2 .came))
+    (λ i. omega (arith, c .before .before .before .before .before .before .shared-slice-known .given i))
 
 -- src/lib.rt:326:35
 pub eval-expr-eval-two-requires : (t : ℕ) → eval-expr-lts.Need-eval-two-requires (
@@ -229,7 +248,17 @@ pub eval-expr-eval-two-requires : (t : ℕ) → eval-expr-lts.Need-eval-two-requ
   eval-one-below t,
   eval-one.Post,
 ) (eval-expr-at t) eval-expr.Post
-eval-expr-eval-two-requires t c κs = ?
+eval-expr-eval-two-requires t c κs =
+    let c1 = c .before .before .before .before .before .before in
+    let v = counted (c1 .pre .1 .0) _ (c .before .before .before .if1 .left) (c .before .before .kind .ensures) in (
+      omega (arith, c1 .pre .0),
+      (
+        v,
+        ⊎-elim (λ w. two-key _ (w .keys4))
+            (⊎-elim (λ w. two-low _ (w .0 .rest .0 .0 .1) (w .1 .left) (w .2 .taken))
+            (λ w. two-high _ (w .0 .rest .0 .0 .1) (w .0 .rest .0 .1) (w .3 .left) (w .4 .taken))) (c .before .match .came),
+      ),
+    )
 
 -- src/lib.rt:315:40
 pub eval-expr-eval-one-requires : (t : ℕ) → eval-expr-lts.Need-eval-one-requires (
@@ -248,7 +277,16 @@ pub eval-expr-eval-one-requires : (t : ℕ) → eval-expr-lts.Need-eval-one-requ
   eval-one-below t,
   eval-one.Post,
 ) (eval-expr-at t) eval-expr.Post
-eval-expr-eval-one-requires t c κs = ?
+eval-expr-eval-one-requires t c κs =
+    let c1 = c .before .before .before .before .before .before in
+    let v = counted (c1 .pre .1 .0) _ (c .before .before .before .if1 .left) (c .before .before .kind .ensures) in (
+      omega (arith, c1 .pre .0),
+      (
+        v,
+        ⊎-elim (λ w. one-keys _ (w .keys3))
+            (λ w. one-range _ (w .0 .rest .0 .0 .1) (w .0 .rest .1) (w .2 .left) (w .3 .taken)) (c .before .match .came),
+      ),
+    )
 
 -- src/lib.rt:295:1
 pub eval-expr-returns-2 : (t : ℕ) → eval-expr-lts.Need-returns-2 (
@@ -267,7 +305,10 @@ pub eval-expr-returns-2 : (t : ℕ) → eval-expr-lts.Need-returns-2 (
   eval-one-below t,
   eval-one.Post,
 ) (eval-expr-at t) eval-expr.Post
-eval-expr-returns-2 t c = ?
+eval-expr-returns-2 t c =
+    let c1 = c .before .before .before .before .before .before in
+    let v = counted (c1 .pre .1 .0) _ (c .before .before .before .if1 .left) (c .before .before .kind .ensures) in
+    name-answer v (c .before .match .keys1) _ (c .eval-name .ensures)
 
 -- src/lib.rt:295:1
 pub eval-expr-same-length : (t : ℕ) → eval-expr-lts.Need-same-length (
@@ -381,7 +422,14 @@ pub eval-expr-returns-5 : (t : ℕ) → eval-expr-lts.Need-returns-5 (
   eval-one-below t,
   eval-one.Post,
 ) (eval-expr-at t) eval-expr.Post
-eval-expr-returns-5 t c = ?
+eval-expr-returns-5 t c =
+    let c1 = c .before .before .before .before .before .before .before .before .before .before in
+    let v = counted (c1 .pre .1 .0) _ (c .before .before .before .before .before .before .before .if1 .left) (c .before .before .before .before .before .before .kind .ensures) in
+    let m = c .before .before .before .before .before .match .rest in
+    let p = leaf-node v (c1 .pre .1 .1) (m .0 .0 .0 .0 .1) (m .0 .0 .0 .1) (m .0 .0 .1) (m .1)
+    (λ l. ⊎-elim (λ w. absurd (omega (arith, w .taken))) (λ w. w .3 .left) (c .before .before .before .before .if2 .came))
+    (λ i. omega (arith, c .before .before .before .before .before .before .before .before .before .shared-slice-known .given i)) in
+    leaf-answer v p _ _ (c .before .before .eval-leaf .ensures)
 
 -- src/lib.rt:295:1
 pub eval-expr-same-length-4 : (t : ℕ) → eval-expr-lts.Need-same-length-4 (

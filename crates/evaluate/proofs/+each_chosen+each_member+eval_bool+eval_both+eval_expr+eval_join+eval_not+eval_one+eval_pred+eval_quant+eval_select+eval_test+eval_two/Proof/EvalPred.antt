@@ -60,10 +60,7 @@ use Rattle.table.proofs.field.Reads as field-reads
 use Rattle.table.proofs.kind.Reads as kind-reads
 use Rattle.evaluate.proofs.+each_chosen+each_member+eval_bool+eval_both+eval_expr+eval_join+eval_not+eval_one+eval_pred+eval_quant+eval_select+eval_test+eval_two.Proof.Base.{μ-each-chosen, μ-each-member, μ-eval-bool, μ-eval-both, μ-eval-expr, μ-eval-join, μ-eval-not, μ-eval-one, μ-eval-pred, μ-eval-quant, μ-eval-select, μ-eval-test, μ-eval-two, each-chosen-at, each-chosen-below, each-member-at, each-member-below, eval-bool-at, eval-bool-below, eval-both-at, eval-both-below, eval-expr-at, eval-expr-below, eval-join-at, eval-join-below, eval-not-at, eval-not-below, eval-one-at, eval-one-below, eval-pred-at, eval-pred-below, eval-quant-at, eval-quant-below, eval-select-at, eval-select-below, eval-test-at, eval-test-below, eval-two-at, eval-two-below}
 use mathlib.Core.Logic.{⊎-elim}
-use mathlib.Core.Path.{_≡_, subst, sym}
-use Rattle.rules.specs.Kinds.{predicate, kindOf}
-use Rattle.rules.specs.Readable.{CategoryIs}
-use Rattle.evaluate.proofs.DispatchLaws.{spent-pred, counted, test-sort, quant-sort, join-rest}
+use Rattle.evaluate.proofs.DispatchLaws.{spent-pred, counted, test-sort, quant-sort, join-kind}
 
 -- src/lib.rt:74:9
 pub eval-pred-returns : (t : ℕ) → eval-pred-lts.Need-returns (
@@ -167,8 +164,7 @@ pub eval-pred-eval-join-requires : (t : ℕ) → eval-pred-lts.Need-eval-join-re
 eval-pred-eval-join-requires t c κs =
     let c1 = c .before .before .before .before .before .before .before in
     let v = counted (c1 .pre .1 .0) _ (c .before .before .before .before .if1 .left) (c .before .before .before .kind .ensures) in
-    (omega (arith, c1 .pre .0), (v, join-rest _ (subst (λ (k : ℕ). CategoryIs predicate (kindOf k)) (sym (c .before .before .before .kind .ensures)) (c1 .pre .1 .1)) (c .before .before .match .rest .1)
-    (λ l. ⊎-elim (λ w. absurd (omega (arith, w .taken))) (λ w. w .2 .left) (c .before .if2 .came))))
+    (omega (arith, c1 .pre .0), (v, join-kind v (c1 .pre .1 .1) (c .before .before .match .rest .1) (λ l. ⊎-elim (λ w. absurd (omega (arith, w .taken))) (λ w. w .2 .left) (c .before .if2 .came))))
 
 -- src/lib.rt:60:1
 pub eval-pred-same-length : (t : ℕ) → eval-pred-lts.Need-same-length (
