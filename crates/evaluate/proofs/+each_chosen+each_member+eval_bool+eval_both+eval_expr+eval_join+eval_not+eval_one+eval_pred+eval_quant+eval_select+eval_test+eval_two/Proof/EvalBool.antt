@@ -69,7 +69,7 @@ pub eval-bool-field-requires : (t : ℕ) → eval-bool-lts.Need-field-requires (
   put-cell-reads.Asked,
   put-cell-reads.Learnt,
 ) (eval-bool-at t) eval-bool.Post
-eval-bool-field-requires t c κs = ?
+eval-bool-field-requires t c κs = search needs
 
 -- src/lib.rt:381:50
 pub eval-bool-add-eval-pred : (t : ℕ) → eval-bool-lts.Need-add-eval-pred (
@@ -80,7 +80,7 @@ pub eval-bool-add-eval-pred : (t : ℕ) → eval-bool-lts.Need-add-eval-pred (
   put-cell-reads.Asked,
   put-cell-reads.Learnt,
 ) (eval-bool-at t) eval-bool.Post
-eval-bool-add-eval-pred t c = ?
+eval-bool-add-eval-pred t c = search needs
 
 -- src/lib.rt:381:11
 pub eval-bool-eval-pred-requires : (t : ℕ) → eval-bool-lts.Need-eval-pred-requires (
@@ -102,7 +102,7 @@ pub eval-bool-enum-known-k : (t : ℕ) → eval-bool-lts.Need-enum-known-k (
   put-cell-reads.Asked,
   put-cell-reads.Learnt,
 ) (eval-bool-at t) eval-bool.Post
-eval-bool-enum-known-k t c = ?
+eval-bool-enum-known-k t c = search needs
 
 -- src/lib.rt:383:21
 pub eval-bool-enum-known-yes : (t : ℕ) → eval-bool-lts.Need-enum-known-yes (
@@ -113,7 +113,7 @@ pub eval-bool-enum-known-yes : (t : ℕ) → eval-bool-lts.Need-enum-known-yes (
   put-cell-reads.Asked,
   put-cell-reads.Learnt,
 ) (eval-bool-at t) eval-bool.Post
-eval-bool-enum-known-yes t c = ?
+eval-bool-enum-known-yes t c = search needs
 
 -- src/lib.rt:384:63
 pub eval-bool-cast-put-cell : (t : ℕ) → eval-bool-lts.Need-cast-put-cell (
@@ -124,7 +124,7 @@ pub eval-bool-cast-put-cell : (t : ℕ) → eval-bool-lts.Need-cast-put-cell (
   put-cell-reads.Asked,
   put-cell-reads.Learnt,
 ) (eval-bool-at t) eval-bool.Post
-eval-bool-cast-put-cell t c = ?
+eval-bool-cast-put-cell t c = search needs
 
 -- src/lib.rt:384:50
 pub eval-bool-add-put-cell : (t : ℕ) → eval-bool-lts.Need-add-put-cell (
@@ -146,7 +146,7 @@ pub eval-bool-put-cell-requires : (t : ℕ) → eval-bool-lts.Need-put-cell-requ
   put-cell-reads.Asked,
   put-cell-reads.Learnt,
 ) (eval-bool-at t) eval-bool.Post
-eval-bool-put-cell-requires t c κs = ?
+eval-bool-put-cell-requires t c κs = search needs
 
 -- src/lib.rt:366:1
 pub eval-bool-same-length : (t : ℕ) → eval-bool-lts.Need-same-length (
@@ -157,7 +157,7 @@ pub eval-bool-same-length : (t : ℕ) → eval-bool-lts.Need-same-length (
   put-cell-reads.Asked,
   put-cell-reads.Learnt,
 ) (eval-bool-at t) eval-bool.Post
-eval-bool-same-length t c = ?
+eval-bool-same-length t c = search needs
 
 -- src/lib.rt:366:1
 pub eval-bool-returns : (t : ℕ) → eval-bool-lts.Need-returns (
@@ -179,7 +179,7 @@ pub eval-bool-same-length-2 : (t : ℕ) → eval-bool-lts.Need-same-length-2 (
   put-cell-reads.Asked,
   put-cell-reads.Learnt,
 ) (eval-bool-at t) eval-bool.Post
-eval-bool-same-length-2 t c = ?
+eval-bool-same-length-2 t c = search needs
 
 -- src/lib.rt:366:1
 pub eval-bool-returns-2 : (t : ℕ) → eval-bool-lts.Need-returns-2 (

@@ -73,7 +73,7 @@ pub eval-select-field-requires : (t : ℕ) → eval-select-lts.Need-field-requir
   settle-reads.Asked,
   settle-reads.Learnt,
 ) (eval-select-at t) eval-select.Post
-eval-select-field-requires t c κs = ?
+eval-select-field-requires t c κs = search needs
 
 -- src/lib.rt:473:50
 pub eval-select-add-eval-expr : (t : ℕ) → eval-select-lts.Need-add-eval-expr (
@@ -88,7 +88,7 @@ pub eval-select-add-eval-expr : (t : ℕ) → eval-select-lts.Need-add-eval-expr
   settle-reads.Asked,
   settle-reads.Learnt,
 ) (eval-select-at t) eval-select.Post
-eval-select-add-eval-expr t c = ?
+eval-select-add-eval-expr t c = search needs
 
 -- src/lib.rt:473:11
 pub eval-select-eval-expr-requires : (t : ℕ) → eval-select-lts.Need-eval-expr-requires (
@@ -118,7 +118,7 @@ pub eval-select-enum-known-k : (t : ℕ) → eval-select-lts.Need-enum-known-k (
   settle-reads.Asked,
   settle-reads.Learnt,
 ) (eval-select-at t) eval-select.Post
-eval-select-enum-known-k t c = ?
+eval-select-enum-known-k t c = search needs
 
 -- src/lib.rt:475:23
 pub eval-select-enum-known-at : (t : ℕ) → eval-select-lts.Need-enum-known-at (
@@ -133,7 +133,7 @@ pub eval-select-enum-known-at : (t : ℕ) → eval-select-lts.Need-enum-known-at
   settle-reads.Asked,
   settle-reads.Learnt,
 ) (eval-select-at t) eval-select.Post
-eval-select-enum-known-at t c = ?
+eval-select-enum-known-at t c = search needs
 
 -- src/lib.rt:475:45
 pub eval-select-range-of-requires : (t : ℕ) → eval-select-lts.Need-range-of-requires (
@@ -163,7 +163,7 @@ pub eval-select-enum-told : (t : ℕ) → eval-select-lts.Need-enum-told (
   settle-reads.Asked,
   settle-reads.Learnt,
 ) (eval-select-at t) eval-select.Post
-eval-select-enum-told t c = ?
+eval-select-enum-told t c = search needs
 
 -- src/lib.rt:477:24
 pub eval-select-enum-known-count : (t : ℕ) → eval-select-lts.Need-enum-known-count (
@@ -178,7 +178,7 @@ pub eval-select-enum-known-count : (t : ℕ) → eval-select-lts.Need-enum-known
   settle-reads.Asked,
   settle-reads.Learnt,
 ) (eval-select-at t) eval-select.Post
-eval-select-enum-known-count t c = ?
+eval-select-enum-known-count t c = search needs
 
 -- src/lib.rt:478:68
 pub eval-select-add-each-chosen : (t : ℕ) → eval-select-lts.Need-add-each-chosen (
@@ -223,7 +223,7 @@ pub eval-select-enum-known-k-2 : (t : ℕ) → eval-select-lts.Need-enum-known-k
   settle-reads.Asked,
   settle-reads.Learnt,
 ) (eval-select-at t) eval-select.Post
-eval-select-enum-known-k-2 t c = ?
+eval-select-enum-known-k-2 t c = search needs
 
 -- src/lib.rt:480:38
 pub eval-select-enum-known-end : (t : ℕ) → eval-select-lts.Need-enum-known-end (
@@ -238,7 +238,7 @@ pub eval-select-enum-known-end : (t : ℕ) → eval-select-lts.Need-enum-known-e
   settle-reads.Asked,
   settle-reads.Learnt,
 ) (eval-select-at t) eval-select.Post
-eval-select-enum-known-end t c = ?
+eval-select-enum-known-end t c = search needs
 
 -- src/lib.rt:481:25
 pub eval-select-settle-requires : (t : ℕ) → eval-select-lts.Need-settle-requires (
@@ -268,7 +268,7 @@ pub eval-select-same-length : (t : ℕ) → eval-select-lts.Need-same-length (
   settle-reads.Asked,
   settle-reads.Learnt,
 ) (eval-select-at t) eval-select.Post
-eval-select-same-length t c = ?
+eval-select-same-length t c = search needs
 
 -- src/lib.rt:458:1
 pub eval-select-returns : (t : ℕ) → eval-select-lts.Need-returns (
@@ -298,7 +298,7 @@ pub eval-select-same-length-2 : (t : ℕ) → eval-select-lts.Need-same-length-2
   settle-reads.Asked,
   settle-reads.Learnt,
 ) (eval-select-at t) eval-select.Post
-eval-select-same-length-2 t c = ?
+eval-select-same-length-2 t c = search needs
 
 -- src/lib.rt:458:1
 pub eval-select-returns-2 : (t : ℕ) → eval-select-lts.Need-returns-2 (
@@ -328,7 +328,7 @@ pub eval-select-same-length-3 : (t : ℕ) → eval-select-lts.Need-same-length-3
   settle-reads.Asked,
   settle-reads.Learnt,
 ) (eval-select-at t) eval-select.Post
-eval-select-same-length-3 t c = ?
+eval-select-same-length-3 t c = search needs
 
 -- src/lib.rt:458:1
 pub eval-select-returns-3 : (t : ℕ) → eval-select-lts.Need-returns-3 (
@@ -358,7 +358,7 @@ pub eval-select-same-length-4 : (t : ℕ) → eval-select-lts.Need-same-length-4
   settle-reads.Asked,
   settle-reads.Learnt,
 ) (eval-select-at t) eval-select.Post
-eval-select-same-length-4 t c = ?
+eval-select-same-length-4 t c = search needs
 
 -- src/lib.rt:458:1
 pub eval-select-returns-4 : (t : ℕ) → eval-select-lts.Need-returns-4 (

@@ -69,7 +69,7 @@ pub eval-two-add-eval-both : (t : ℕ) → eval-two-lts.Need-add-eval-both (
   settle-reads.Asked,
   settle-reads.Learnt,
 ) (eval-two-at t) eval-two.Post
-eval-two-add-eval-both t c = ?
+eval-two-add-eval-both t c = search needs
 
 -- src/lib.rt:448:11
 pub eval-two-eval-both-requires : (t : ℕ) → eval-two-lts.Need-eval-both-requires (
@@ -91,7 +91,7 @@ pub eval-two-enum-known-k : (t : ℕ) → eval-two-lts.Need-enum-known-k (
   settle-reads.Asked,
   settle-reads.Learnt,
 ) (eval-two-at t) eval-two.Post
-eval-two-enum-known-k t c = ?
+eval-two-enum-known-k t c = search needs
 
 -- src/lib.rt:450:24
 pub eval-two-enum-known-a : (t : ℕ) → eval-two-lts.Need-enum-known-a (
@@ -102,7 +102,7 @@ pub eval-two-enum-known-a : (t : ℕ) → eval-two-lts.Need-enum-known-a (
   settle-reads.Asked,
   settle-reads.Learnt,
 ) (eval-two-at t) eval-two.Post
-eval-two-enum-known-a t c = ?
+eval-two-enum-known-a t c = search needs
 
 -- src/lib.rt:451:17
 pub eval-two-two-requires : (t : ℕ) → eval-two-lts.Need-two-requires (
@@ -135,7 +135,7 @@ pub eval-two-same-length : (t : ℕ) → eval-two-lts.Need-same-length (
   settle-reads.Asked,
   settle-reads.Learnt,
 ) (eval-two-at t) eval-two.Post
-eval-two-same-length t c = ?
+eval-two-same-length t c = search needs
 
 -- src/lib.rt:434:1
 pub eval-two-returns : (t : ℕ) → eval-two-lts.Need-returns (
@@ -157,7 +157,7 @@ pub eval-two-same-length-2 : (t : ℕ) → eval-two-lts.Need-same-length-2 (
   settle-reads.Asked,
   settle-reads.Learnt,
 ) (eval-two-at t) eval-two.Post
-eval-two-same-length-2 t c = ?
+eval-two-same-length-2 t c = search needs
 
 -- src/lib.rt:434:1
 pub eval-two-returns-2 : (t : ℕ) → eval-two-lts.Need-returns-2 (

@@ -1,0 +1,148 @@
+-- What the evaluators of expressions with operands give: kinds 25, 27 to 41 and 43.
+use Prim.Native.Nat.{ℕ, zero, suc, _+_, _*_, _≤_, _<_}
+use mathlib.Core.Bool.{Bool, true, false, cond}
+use mathlib.Core.List.{List, [], _∷_}
+use mathlib.Core.Option.{Option, none as nothing, some}
+use mathlib.Core.Path.{_≡_, refl, sym, ap, _∙_, subst}
+use native.Mathlib.Omega.{arith}
+use lib.Dec.{T}
+use lib.ListN.{length, getD}
+use Rattle.rules.specs.Values.{Value, weight}
+use Rattle.rules.specs.Cells.{good}
+use Rattle.rules.specs.Kinds.{Kind, one, two, One, Two, Category, expression, unused, child, kindOf, fieldsOf}
+use Rattle.rules.specs.Rules.{oneRule, twoRule}
+use Rattle.rules.specs.Tables.{Expr, oneᵉ, twoᵉ, tableOf, nodeAt, kindAt, exprAt, fieldWords, nodeCount}
+use Rattle.rules.specs.Reading.{height}
+use Rattle.rules.specs.Readable.{Readable}
+use Rattle.rules.specs.Ends.{End, done, refused}
+use Rattle.rules.specs.Runs.{Run, M, _>>=_, _>>_, form, Given, gives, lacks}
+use Rattle.rules.specs.Operations.{Env, oneValue, twoValue}
+use Rattle.rules.specs.Evaluation.{fitting, valueᵉ}
+use Rattle.rules.proofs.FormedLaws.{value-good}
+use Rattle.arena.specs.Code.{Same}
+use Rattle.arena.proofs.Standing.{same-trans}
+use Rattle.operations.specs.Good.{GoodAt}
+use Rattle.operations.specs.Outcomes.{oneGiven, twoGiven, Gives, OneReady, TwoReady, OneOf, TwoOf}
+use Rattle.operations.specs.declared.Outcome.{Outcome}
+use Rattle.evaluate.specs.declared.Formed.{Formed}
+use Rattle.evaluate.specs.declared.Formed.the-variants.{Value as Placed, Stopped}
+use Rattle.evaluate.specs.declared.Operands.{Operands}
+use Rattle.evaluate.specs.declared.Operands.the-variants.{Both, Failed}
+use Rattle.evaluate.specs.Answers.{Ends, PlacedAs, FormedAs, SettledAs, SettleReady}
+use Rattle.evaluate.specs.Cycle.{Binds, Visited, EvaluatesE, Settles}
+use Rattle.evaluate.proofs.RunLaws.{then-done, then-refused, visited, endOf, fitted-ends, ends-as}
+use Rattle.evaluate.proofs.NodeLaws.{sizes-small, Child, field-child, expr-at}
+
+-- The visits after one more, as the code counts them.
+next-step : {A : Type 0} (m : M A) (s : ℕ) {e : End A} {t : ℕ} → Ends (m (s + 1)) e t → Ends (m (suc s)) e t
+next-step {A} m s {e} {t} h = let q : s + 1 ≡ suc s = omega arith in subst (λ (z : ℕ). Ends (m z) e t) q h
+
+-- The kind of a node that is visited, and its child in field i.
+module _ {bs : List ℕ} {base : ℕ} {env s : List ℕ} {top k n steps budget : ℕ} (x : Visited bs base env s top k n steps budget) (κ : Kind)
+    (e : kindOf k ≡ some κ) where
+  pub kind-at : kindAt (tableOf bs .nodes) n ≡ some κ
+  kind-at = ap kindOf (sym (x .kind)) ∙ e
+
+  pub child-at : (c : Category) (i m : ℕ) → i < 3 → i < length (fieldsOf κ) → getD (fieldsOf κ) i unused ≡ child c →
+      m ≡ getD (fieldWords (nodeAt (tableOf bs .nodes) n)) i 0 → Child bs n m c
+  child-at c i m l l′ q w =
+      subst (λ (z : ℕ). Child bs n z c) (sym w) (field-child bs (x .ready .readable) n (x .ready .node) κ kind-at c i l l′ q)
+
+-- The same answer for the same node.
+pub evaluated-as : {bs env s : List ℕ} {top m m′ steps budget : ℕ} {s′ : List ℕ} {r r′ : Formed} → m ≡ m′ → r ≡ r′ →
+    EvaluatesE bs env s top m steps budget s′ r → EvaluatesE bs env s top m′ steps budget s′ r′
+evaluated-as {bs} {env} {s} {top} {m} {m′} {steps} {budget} {s′} {r} {r′} e q h =
+    subst (λ (z : Formed). EvaluatesE bs env s top m′ steps budget s′ z) q
+    (subst (λ (z : ℕ). EvaluatesE bs env s top z steps budget s′ r) e h)
+
+-- A node's end is what it gives; where that has been settled it is the node's answer.
+module _ (budget : ℕ) (bs : List ℕ) (f n : ℕ) (ρ : Env) (steps : ℕ) (readable : Readable bs) (ok : (x : ℕ) → T (good (tableOf bs .sizes) (ρ x)))
+    (g : Given) (t : ℕ) (e : Ends (valueᵉ budget (tableOf bs .sizes) (exprAt f (tableOf bs .nodes) n) ρ steps) (endOf n g) t) (s′ : List ℕ) where
+  pub settled-as : (r : Formed) → SettledAs g s′ n t r →
+      FormedAs (valueᵉ budget (tableOf bs .sizes) (exprAt f (tableOf bs .nodes) n) ρ steps) (tableOf bs .sizes) s′ r
+  settled-as (Placed at next m) h =
+      let q = e .end ∙ ap (λ (z : Given). endOf n z) (h .is) in
+      record {
+        value = h .value;
+        ends = record { end = q; steps = e .steps ∙ sym (h .same) };
+        place = record {
+          stands = h .stands;
+          below = h .below;
+          good = value-good budget (tableOf bs) (readable .records) f n ρ steps (h .value) ok q;
+        };
+      }
+  settled-as (Stopped k p m) h = record {
+    end = e .end ∙ ap (λ (z : Given). endOf n z) (h .0) ∙ ap (λ (z : ℕ). refused k z) (sym (h .1));
+    steps = e .steps ∙ sym (h .2);
+  }
+
+-- 27, 33, 35, 36, 38 and 43
+module _ (budget : ℕ) (gs : List ℕ) (n : ℕ) (j : One) (e : Expr) (ρ : Env) (s : ℕ) (l : s < budget) where
+  one-done : {v : Value} {t : ℕ} → Ends (valueᵉ budget gs e ρ (s + 1)) (done v) t → Ends (valueᵉ budget gs (oneᵉ n j e) ρ s) (endOf n (oneGiven j v)) t
+  unfolding valueᵉ oneGiven
+  one-done {v} {t} h =
+      visited budget n s _ l
+      (then-done (valueᵉ budget gs e ρ) (λ v. fitting n (oneRule j) (v ∷ []) >> form n (oneValue j v)) (suc s) (next-step (valueᵉ budget gs e ρ) s h)
+      (fitted-ends n (oneRule j) (v ∷ []) (oneValue j v) t))
+
+  one-refused : {k p t : ℕ} → Ends (valueᵉ budget gs e ρ (s + 1)) (refused k p) t → Ends (valueᵉ budget gs (oneᵉ n j e) ρ s) (refused k p) t
+  unfolding valueᵉ
+  one-refused h =
+      visited budget n s _ l
+      (then-refused (valueᵉ budget gs e ρ) (λ v. fitting n (oneRule j) (v ∷ []) >> form n (oneValue j v)) (suc s) (next-step (valueᵉ budget gs e ρ) s h))
+
+-- The node's child m in field a has been evaluated.
+module _ {bs : List ℕ} {base : ℕ} {env s : List ℕ} {top k n m steps budget : ℕ} (x : Visited bs base env s top k n steps budget)
+    (j : One) (e : kindOf k ≡ some (one j)) (w : m ≡ getD (fieldWords (nodeAt (tableOf bs .nodes) n)) 0 0) where
+  pub one-child : Child bs n m expression
+  one-child = child-at x (one j) e expression 0 m (omega arith) (omega arith) refl w
+
+  pub one-fails : {s₁ : List ℕ} {q p t : ℕ} → EvaluatesE bs env s top m (steps + 1) budget s₁ (Stopped q p t) → EvaluatesE bs env s top n steps budget s₁ (Stopped q p t)
+  one-fails h = record {
+    frame = h .frame;
+    bounds = h .bounds;
+    answer = λ f ρ l b.
+        let d = expr-at (tableOf bs .nodes) n (one j) (kind-at x (one j) e) f l in
+        let v = evaluated-as w refl h .answer (d .depth) ρ (omega (arith, d .enough, one-child .below, w)) b in
+        ends-as (ap (λ (z : Expr). valueᵉ budget (tableOf bs .sizes) z ρ steps) (d .is))
+        (one-refused budget (tableOf bs .sizes) n j (exprAt (d .depth) (tableOf bs .nodes) (nodeAt (tableOf bs .nodes) n .a)) ρ steps (x .spent) v);
+  }
+
+  module _ {s₁ : List ℕ} {at next t : ℕ} (h : EvaluatesE bs env s top m (steps + 1) budget s₁ (Placed at next t)) where
+    operand-at : PlacedAs (valueᵉ budget (tableOf bs .sizes) (exprAt n (tableOf bs .nodes) m) (x .ready .values) (steps + 1)) (tableOf bs .sizes) s₁ at next t
+    operand-at = h .answer n (x .ready .values) (one-child .below) (x .ready .binds)
+
+    pub one-ready : OneReady s₁ at next
+    one-ready = record {
+      sizes = tableOf bs .sizes;
+      small = sizes-small bs (x .ready .readable);
+      value = operand-at .value;
+      operand = operand-at .place;
+      room = omega (arith, x .ready .room, h .bounds .1, h .frame .kept);
+    }
+
+    module _ {s₂ : List ℕ} {o : Outcome} (op : OneOf k s₁ at next s₂ o) where
+      pub one-settles : SettleReady s₂ o next next top t budget
+      one-settles = record {
+        given = oneGiven j (operand-at .value);
+        gives = op j e .answer (tableOf bs .sizes) (operand-at .value) (sizes-small bs (x .ready .readable)) (operand-at .place);
+        low = h .bounds .0;
+        high = h .bounds .1;
+        order = omega arith;
+        room = omega (arith, x .ready .room, h .bounds .1, h .frame .kept, op j e .frame .kept);
+        within = h .bounds .2;
+      }
+
+      pub one-evaluates : {s₃ : List ℕ} {r : Formed} → Settles s₂ o next next top n t budget s₃ r → EvaluatesE bs env s top n steps budget s₃ r
+      one-evaluates {s₃} {r} st = record {
+        frame = same-trans top top s s₂ s₃ (same-trans top next s s₁ s₂ (h .frame) (op j e .frame) (h .bounds .0)) (st .frame) (omega arith);
+        bounds = st .bounds;
+        answer = λ f ρ l b.
+            let d = expr-at (tableOf bs .nodes) n (one j) (kind-at x (one j) e) f l in
+            let v = evaluated-as w refl h .answer (d .depth) ρ (omega (arith, d .enough, one-child .below, w)) b in
+            settled-as budget bs f n ρ steps (x .ready .readable) (b .good) (oneGiven j (v .value)) t
+            (ends-as (ap (λ (z : Expr). valueᵉ budget (tableOf bs .sizes) z ρ steps) (d .is))
+            (one-done budget (tableOf bs .sizes) n j (exprAt (d .depth) (tableOf bs .nodes) (nodeAt (tableOf bs .nodes) n .a)) ρ steps (x .spent) (v .ends)))
+            s₃ r
+            (st .answer (oneGiven j (v .value)) (op j e .answer (tableOf bs .sizes) (v .value) (sizes-small bs (x .ready .readable)) (v .place)));
+      }
