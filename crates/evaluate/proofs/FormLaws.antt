@@ -2,6 +2,7 @@
 use Prim.Native.Nat.{ℕ, zero, suc, _+_, _*_, _≤_, _<_}
 use mathlib.Core.Bool.{Bool, true, false, cond}
 use mathlib.Core.List.{List, [], _∷_}
+use mathlib.Core.Logic.{_⊎_, inl, inr}
 use mathlib.Core.Option.{Option, none as nothing, some}
 use mathlib.Core.Path.{_≡_, refl, sym, ap, _∙_, subst}
 use native.Mathlib.Omega.{arith}
@@ -28,8 +29,9 @@ use Rattle.evaluate.specs.declared.Formed.{Formed}
 use Rattle.evaluate.specs.declared.Formed.the-variants.{Value as Placed, Stopped}
 use Rattle.evaluate.specs.declared.Operands.{Operands}
 use Rattle.evaluate.specs.declared.Operands.the-variants.{Both, Failed}
-use Rattle.evaluate.specs.Answers.{Ends, PlacedAs, FormedAs, SettledAs, SettleReady}
-use Rattle.evaluate.specs.Cycle.{Binds, Visited, EvaluatesE, Settles}
+use Rattle.evaluate.specs.Answers.{Ends, PlacedAs, FormedAs, BothAs, SecondFails, SettledAs, SettleReady}
+use Rattle.evaluate.specs.Nodes.{TwoFields}
+use Rattle.evaluate.specs.Cycle.{Binds, Ready, Visited, EvaluatesE, EvaluatesBoth, Settles}
 use Rattle.evaluate.proofs.RunLaws.{then-done, then-refused, visited, endOf, fitted-ends, ends-as}
 use Rattle.evaluate.proofs.NodeLaws.{sizes-small, Child, field-child, expr-at}
 
@@ -145,4 +147,118 @@ module _ {bs : List ℕ} {base : ℕ} {env s : List ℕ} {top k n m steps budget
             (one-done budget (tableOf bs .sizes) n j (exprAt (d .depth) (tableOf bs .nodes) (nodeAt (tableOf bs .nodes) n .a)) ρ steps (x .spent) (v .ends)))
             s₃ r
             (st .answer (oneGiven j (v .value)) (op j e .answer (tableOf bs .sizes) (v .value) (sizes-small bs (x .ready .readable)) (v .place)));
+      }
+
+-- 28 to 32, 37 and 39 to 41
+module _ (budget : ℕ) (gs : List ℕ) (n : ℕ) (j : Two) (e f : Expr) (ρ : Env) (s : ℕ) (l : s < budget) where
+  abbrev formed : Value → Value → M Value
+  formed v w = fitting n (twoRule j) (v ∷ w ∷ []) >> form n (twoValue j v w)
+
+  two-done : {v w : Value} {m t : ℕ} → Ends (valueᵉ budget gs e ρ (s + 1)) (done v) m → Ends (valueᵉ budget gs f ρ m) (done w) t →
+      Ends (valueᵉ budget gs (twoᵉ n j e f) ρ s) (endOf n (twoGiven j v w)) t
+  unfolding valueᵉ twoGiven
+  two-done {v} {w} {m} {t} h k =
+      visited budget n s _ l
+      (then-done (valueᵉ budget gs e ρ) (λ v. valueᵉ budget gs f ρ >>= λ w. formed v w) (suc s) (next-step (valueᵉ budget gs e ρ) s h)
+      (then-done (valueᵉ budget gs f ρ) (λ w. formed v w) m k (fitted-ends n (twoRule j) (v ∷ w ∷ []) (twoValue j v w) t)))
+
+  two-refused : {q p t : ℕ} → Ends (valueᵉ budget gs e ρ (s + 1)) (refused q p) t ⊎ SecondFails (valueᵉ budget gs e ρ) (valueᵉ budget gs f ρ) (s + 1) q p t →
+      Ends (valueᵉ budget gs (twoᵉ n j e f) ρ s) (refused q p) t
+  unfolding valueᵉ
+  two-refused (inl h) =
+      visited budget n s _ l
+      (then-refused (valueᵉ budget gs e ρ) (λ v. valueᵉ budget gs f ρ >>= λ w. formed v w) (suc s) (next-step (valueᵉ budget gs e ρ) s h))
+  two-refused (inr h) =
+      visited budget n s _ l
+      (then-done (valueᵉ budget gs e ρ) (λ v. valueᵉ budget gs f ρ >>= λ w. formed v w) (suc s) (next-step (valueᵉ budget gs e ρ) s (h .left))
+      (then-refused (valueᵉ budget gs f ρ) (λ w. formed (h .first) w) (h .between) (h .right)))
+
+-- The same node, after more visits.
+pub ready-on : {bs : List ℕ} {base : ℕ} {env s : List ℕ} {top n steps budget : ℕ} (steps′ : ℕ) → Ready bs base env s top n steps budget → steps′ ≤ budget →
+    Ready bs base env s top n steps′ budget
+ready-on steps′ r within = record {
+  readable = r .readable;
+  offset = r .offset;
+  node = r .node;
+  unspent = within;
+  room = r .room;
+  small = r .small;
+  entries = r .entries;
+  values = r .values;
+  binds = r .binds;
+}
+
+pub both-as : {bs env s : List ℕ} {top n steps budget : ℕ} {s′ : List ℕ} {r r′ : Operands} → r ≡ r′ →
+    EvaluatesBoth bs env s top n steps budget s′ r → EvaluatesBoth bs env s top n steps budget s′ r′
+both-as {bs} {env} {s} {top} {n} {steps} {budget} {s′} {r} {r′} q h = subst (λ (z : Operands). EvaluatesBoth bs env s top n steps budget s′ z) q h
+
+-- The node's operands have been evaluated.
+module _ {bs : List ℕ} {base : ℕ} {env s : List ℕ} {top k n steps budget : ℕ} (x : Visited bs base env s top k n steps budget)
+    (j : Two) (e : kindOf k ≡ some (two j)) where
+  pub two-fields : TwoFields bs n
+  two-fields =
+      let a = child-at x (two j) e expression 0 (nodeAt (tableOf bs .nodes) n .a) (omega arith) (omega arith) refl refl in
+      let b = child-at x (two j) e expression 1 (nodeAt (tableOf bs .nodes) n .b) (omega arith) (omega arith) refl refl in
+      record { left = a .below; right = b .below; leftIs = a .is; rightIs = b .is }
+
+  pub two-fails : {s₁ : List ℕ} {q p t : ℕ} → EvaluatesBoth bs env s top n (steps + 1) budget s₁ (Failed q p t) →
+      EvaluatesE bs env s top n steps budget s₁ (Stopped q p t)
+  two-fails h = record {
+    frame = h .frame;
+    bounds = h .bounds;
+    answer = λ f ρ l b.
+        let d = expr-at (tableOf bs .nodes) n (two j) (kind-at x (two j) e) f l in
+        ends-as (ap (λ (z : Expr). valueᵉ budget (tableOf bs .sizes) z ρ steps) (d .is))
+        (two-refused budget (tableOf bs .sizes) n j (exprAt (d .depth) (tableOf bs .nodes) (nodeAt (tableOf bs .nodes) n .a))
+        (exprAt (d .depth) (tableOf bs .nodes) (nodeAt (tableOf bs .nodes) n .b)) ρ steps (x .spent) (h .answer (d .depth) ρ (d .enough) b));
+  }
+
+  module _ {s₁ : List ℕ} {at mid other next t : ℕ} (h : EvaluatesBoth bs env s top n (steps + 1) budget s₁ (Both at mid other next t)) where
+    operands-at : BothAs (valueᵉ budget (tableOf bs .sizes) (exprAt n (tableOf bs .nodes) (nodeAt (tableOf bs .nodes) n .a)) (x .ready .values))
+        (valueᵉ budget (tableOf bs .sizes) (exprAt n (tableOf bs .nodes) (nodeAt (tableOf bs .nodes) n .b)) (x .ready .values))
+        (steps + 1) (tableOf bs .sizes) s₁ at mid other next t
+    operands-at = h .answer n (x .ready .values) (omega arith) (x .ready .binds)
+
+    pub two-ready : TwoReady s₁ at mid other next
+    two-ready = record {
+      sizes = tableOf bs .sizes;
+      small = sizes-small bs (x .ready .readable);
+      first = operands-at .first;
+      second = operands-at .second;
+      left = operands-at .leftAt;
+      right = operands-at .rightAt;
+      order = h .bounds .2;
+      room = omega (arith, x .ready .room, h .bounds .1, h .bounds .3, h .frame .kept);
+    }
+
+    module _ {s₂ : List ℕ} {o : Outcome} (op : TwoOf k s₁ at mid other next s₂ o) where
+      pub two-settles : SettleReady s₂ o mid next top t budget
+      two-settles = record {
+        given = twoGiven j (operands-at .first) (operands-at .second);
+        gives =
+            op j e .answer (tableOf bs .sizes) (operands-at .first) (operands-at .second) (sizes-small bs (x .ready .readable))
+            (operands-at .leftAt) (operands-at .rightAt);
+        low = h .bounds .0;
+        high = h .bounds .1;
+        order = h .bounds .2;
+        room = omega (arith, x .ready .room, h .bounds .1, h .bounds .3, h .frame .kept, op j e .frame .kept);
+        within = h .bounds .4;
+      }
+
+      pub two-evaluates : {s₃ : List ℕ} {r : Formed} → Settles s₂ o mid next top n t budget s₃ r → EvaluatesE bs env s top n steps budget s₃ r
+      two-evaluates {s₃} {r} st = record {
+        frame =
+            same-trans top top s s₂ s₃ (same-trans top next s s₁ s₂ (h .frame) (op j e .frame) (omega (arith, h .bounds .0, h .bounds .2)))
+            (st .frame) (omega arith);
+        bounds = st .bounds;
+        answer = λ f ρ l b.
+            let d = expr-at (tableOf bs .nodes) n (two j) (kind-at x (two j) e) f l in
+            let v = h .answer (d .depth) ρ (d .enough) b in
+            settled-as budget bs f n ρ steps (x .ready .readable) (b .good) (twoGiven j (v .first) (v .second)) t
+            (ends-as (ap (λ (z : Expr). valueᵉ budget (tableOf bs .sizes) z ρ steps) (d .is))
+            (two-done budget (tableOf bs .sizes) n j (exprAt (d .depth) (tableOf bs .nodes) (nodeAt (tableOf bs .nodes) n .a))
+            (exprAt (d .depth) (tableOf bs .nodes) (nodeAt (tableOf bs .nodes) n .b)) ρ steps (x .spent) (v .left) (v .right)))
+            s₃ r
+            (st .answer (twoGiven j (v .first) (v .second))
+            (op j e .answer (tableOf bs .sizes) (v .first) (v .second) (sizes-small bs (x .ready .readable)) (v .leftAt) (v .rightAt)));
       }
