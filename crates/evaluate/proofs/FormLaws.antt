@@ -8,31 +8,35 @@ use mathlib.Core.Path.{_≡_, refl, sym, ap, _∙_, subst}
 use native.Mathlib.Omega.{arith}
 use lib.Dec.{T}
 use lib.ListN.{length, getD}
-use Rattle.rules.specs.Values.{Value, weight}
+use mir.Val.{boolByte}
+use Rattle.rules.specs.Values.{Value, truthValue, weight}
 use Rattle.rules.specs.Cells.{good}
-use Rattle.rules.specs.Kinds.{Kind, one, two, One, Two, Category, expression, unused, child, kindOf, fieldsOf}
+use Rattle.rules.specs.Kinds.{Kind, boolOf, one, two, One, Two, Category, predicate, expression, unused, child, kindOf, fieldsOf}
 use Rattle.rules.specs.Rules.{oneRule, twoRule}
-use Rattle.rules.specs.Tables.{Expr, oneᵉ, twoᵉ, tableOf, nodeAt, kindAt, exprAt, fieldWords, nodeCount}
+use Rattle.rules.specs.Tables.{Pred, Expr, boolᵉ, oneᵉ, twoᵉ, tableOf, nodeAt, kindAt, predAt, exprAt, fieldWords, nodeCount}
 use Rattle.rules.specs.Reading.{height}
 use Rattle.rules.specs.Readable.{Readable}
 use Rattle.rules.specs.Ends.{End, done, refused}
 use Rattle.rules.specs.Runs.{Run, M, _>>=_, _>>_, form, Given, gives, lacks}
 use Rattle.rules.specs.Operations.{Env, oneValue, twoValue}
-use Rattle.rules.specs.Evaluation.{fitting, valueᵉ}
+use Rattle.rules.specs.Evaluation.{fitting, holdsᵖ, valueᵉ}
 use Rattle.rules.proofs.FormedLaws.{value-good}
-use Rattle.arena.specs.Code.{Same}
+use Rattle.arena.specs.Code.{code, Same}
 use Rattle.arena.proofs.Standing.{same-trans}
+use Rattle.products.specs.Growing.{PutsCell}
 use Rattle.operations.specs.Good.{GoodAt}
 use Rattle.operations.specs.Outcomes.{oneGiven, twoGiven, Gives, OneReady, TwoReady, OneOf, TwoOf}
 use Rattle.operations.specs.declared.Outcome.{Outcome}
+use Rattle.evaluate.specs.declared.Held.{Held}
+use Rattle.evaluate.specs.declared.Held.the-variants.{Truth, Refused}
 use Rattle.evaluate.specs.declared.Formed.{Formed}
 use Rattle.evaluate.specs.declared.Formed.the-variants.{Value as Placed, Stopped}
 use Rattle.evaluate.specs.declared.Operands.{Operands}
 use Rattle.evaluate.specs.declared.Operands.the-variants.{Both, Failed}
 use Rattle.evaluate.specs.Answers.{Ends, PlacedAs, FormedAs, BothAs, SecondFails, SettledAs, SettleReady}
 use Rattle.evaluate.specs.Nodes.{TwoFields}
-use Rattle.evaluate.specs.Cycle.{Binds, Ready, Visited, EvaluatesE, EvaluatesBoth, Settles}
-use Rattle.evaluate.proofs.RunLaws.{then-done, then-refused, visited, endOf, fitted-ends, ends-as}
+use Rattle.evaluate.specs.Cycle.{Binds, Ready, Visited, EvaluatesP, EvaluatesE, EvaluatesBoth, Settles}
+use Rattle.evaluate.proofs.RunLaws.{then-done, then-refused, visited, endOf, form-ends, fitted-ends, ends-as}
 use Rattle.evaluate.proofs.NodeLaws.{sizes-small, Child, field-child, expr-at}
 
 -- The visits after one more, as the code counts them.
@@ -262,3 +266,79 @@ module _ {bs : List ℕ} {base : ℕ} {env s : List ℕ} {top k n steps budget :
             (st .answer (twoGiven j (v .first) (v .second))
             (op j e .answer (tableOf bs .sizes) (v .first) (v .second) (sizes-small bs (x .ready .readable)) (v .leftAt) (v .rightAt)));
       }
+
+-- 25
+pub byte-small : (b : Bool) → boolByte b ≤ 1
+byte-small true = omega arith
+byte-small false = omega arith
+
+truth-code : (b : Bool) → code (truthValue b) ≡ (8589934592 + boolByte b) ∷ []
+unfolding code
+truth-code true = refl
+truth-code false = refl
+
+bool-kind : (k : ℕ) → k ≡ 25 → kindOf k ≡ some boolOf
+unfolding kindOf
+bool-kind k e = rw e
+
+module _ (budget : ℕ) (gs : List ℕ) (n : ℕ) (p : Pred) (ρ : Env) (s : ℕ) (l : s < budget) where
+  bool-done : {b : Bool} {t : ℕ} → Ends (holdsᵖ budget gs p ρ (s + 1)) (done b) t → Ends (valueᵉ budget gs (boolᵉ n p) ρ s) (done (truthValue b)) t
+  unfolding valueᵉ
+  bool-done {b} {t} h =
+      visited budget n s _ l
+      (then-done (holdsᵖ budget gs p ρ) (λ b. form n (gives (truthValue b))) (suc s) (next-step (holdsᵖ budget gs p ρ) s h)
+      (form-ends n (gives (truthValue b)) t))
+
+  bool-refused : {q a t : ℕ} → Ends (holdsᵖ budget gs p ρ (s + 1)) (refused q a) t → Ends (valueᵉ budget gs (boolᵉ n p) ρ s) (refused q a) t
+  unfolding valueᵉ
+  bool-refused h =
+      visited budget n s _ l
+      (then-refused (holdsᵖ budget gs p ρ) (λ b. form n (gives (truthValue b))) (suc s) (next-step (holdsᵖ budget gs p ρ) s h))
+
+-- The same answer for the same condition.
+pub held-as : {bs env s : List ℕ} {top m m′ steps budget : ℕ} {s′ : List ℕ} {r r′ : Held} → m ≡ m′ → r ≡ r′ →
+    EvaluatesP bs env s top m steps budget s′ r → EvaluatesP bs env s top m′ steps budget s′ r′
+held-as {bs} {env} {s} {top} {m} {m′} {steps} {budget} {s′} {r} {r′} e q h =
+    subst (λ (z : Held). EvaluatesP bs env s top m′ steps budget s′ z) q
+    (subst (λ (z : ℕ). EvaluatesP bs env s top z steps budget s′ r) e h)
+
+-- The node's condition m in field a has been evaluated.
+module _ {bs : List ℕ} {base : ℕ} {env s : List ℕ} {top k n m steps budget : ℕ} (x : Visited bs base env s top k n steps budget)
+    (e : k ≡ 25) (w : m ≡ getD (fieldWords (nodeAt (tableOf bs .nodes) n)) 0 0) where
+  pub bool-child : Child bs n m predicate
+  bool-child = child-at x boolOf (bool-kind k e) predicate 0 m (omega arith) (omega arith) refl w
+
+  pub bool-fails : {s₁ : List ℕ} {q p t : ℕ} → EvaluatesP bs env s top m (steps + 1) budget s₁ (Refused q p t) → EvaluatesE bs env s top n steps budget s₁ (Stopped q p t)
+  bool-fails h = record {
+    frame = h .frame;
+    bounds = h .bounds;
+    answer = λ f ρ l b.
+        let d = expr-at (tableOf bs .nodes) n boolOf (kind-at x boolOf (bool-kind k e)) f l in
+        let v = held-as w refl h .answer (d .depth) ρ (omega (arith, d .enough, bool-child .below, w)) b in
+        ends-as (ap (λ (z : Expr). valueᵉ budget (tableOf bs .sizes) z ρ steps) (d .is))
+        (bool-refused budget (tableOf bs .sizes) n (predAt (d .depth) (tableOf bs .nodes) (nodeAt (tableOf bs .nodes) n .a)) ρ steps (x .spent) v);
+  }
+
+  module _ {s₁ : List ℕ} {y : Bool} {t : ℕ} (h : EvaluatesP bs env s top m (steps + 1) budget s₁ (Truth y t)) where
+    pub bool-evaluates : {s₂ : List ℕ} {end : ℕ} → PutsCell s₁ top (8589934592 + boolByte y) s₂ end → EvaluatesE bs env s top n steps budget s₂ (Placed top end t)
+    bool-evaluates {s₂} {end} put =
+        let made = put (truthValue y) (truth-code y) in
+        let q = made .light (omega arith) in
+        record {
+          frame = same-trans top top s s₁ s₂ (h .frame) (made .frame) (omega arith);
+          bounds = (omega (arith, q .0), omega (arith, q .0), h .bounds);
+          answer = λ f ρ l b.
+              let d = expr-at (tableOf bs .nodes) n boolOf (kind-at x boolOf (bool-kind k e)) f l in
+              let v = held-as w refl h .answer (d .depth) ρ (omega (arith, d .enough, bool-child .below, w)) b in
+              let z = ends-as (ap (λ (z : Expr). valueᵉ budget (tableOf bs .sizes) z ρ steps) (d .is))
+                  (bool-done budget (tableOf bs .sizes) n (predAt (d .depth) (tableOf bs .nodes) (nodeAt (tableOf bs .nodes) n .a)) ρ steps (x .spent) v) in
+              record {
+                value = truthValue y;
+                ends = z;
+                place = record {
+                  stands = q .1;
+                  below = omega (arith, q .0);
+                  good = value-good budget (tableOf bs) (x .ready .readable .records) f n ρ steps (truthValue y) (b .good) (z .end);
+                };
+              };
+        }
