@@ -6,38 +6,47 @@ use mathlib.Core.Logic.{_⊎_, inl, inr}
 use mathlib.Core.Option.{Option, none as nothing, some}
 use mathlib.Core.Path.{_≡_, refl, sym, ap, _∙_, subst}
 use native.Mathlib.Omega.{arith}
+use borrow.Author.Tests.{le-leb}
 use lib.Dec.{T}
 use lib.ListN.{length, getD}
 use mir.Val.{boolByte}
-use Rattle.rules.specs.Values.{Value, truthValue, weight}
+use Rattle.rules.specs.Values.{Value, set, Values, truthValue, members, count, weight}
 use Rattle.rules.specs.Cells.{good}
-use Rattle.rules.specs.Kinds.{Kind, boolOf, one, two, One, Two, Category, predicate, expression, unused, child, kindOf, fieldsOf}
-use Rattle.rules.specs.Rules.{oneRule, twoRule}
-use Rattle.rules.specs.Tables.{Pred, Expr, boolᵉ, oneᵉ, twoᵉ, tableOf, nodeAt, kindAt, predAt, exprAt, fieldWords, nodeCount}
+use Rattle.rules.specs.Kinds.{Kind, boolOf, one, two, comprehension, One, Two, Category, predicate, expression, unused, child, kindOf, fieldsOf}
+use Rattle.rules.specs.Rules.{oneRule, twoRule, comprehensionRule}
+use Rattle.rules.specs.Types.{Ty, atom, POW, _⊗_}
+use Rattle.rules.specs.Fits.{HasType, Fits, fits}
+use Rattle.rules.specs.Tables.{Pred, Expr, boolᵉ, oneᵉ, twoᵉ, comprehensionᵉ, tableOf, nodeAt, kindAt, predAt, exprAt, fieldWords, nodeCount}
 use Rattle.rules.specs.Reading.{height}
 use Rattle.rules.specs.Readable.{Readable}
 use Rattle.rules.specs.Ends.{End, done, refused}
 use Rattle.rules.specs.Runs.{Run, M, _>>=_, _>>_, form, Given, gives, lacks}
-use Rattle.rules.specs.Operations.{Env, oneValue, twoValue}
-use Rattle.rules.specs.Evaluation.{fitting, holdsᵖ, valueᵉ}
-use Rattle.rules.proofs.FormedLaws.{value-good}
-use Rattle.arena.specs.Code.{code, Same}
-use Rattle.arena.proofs.Standing.{same-trans}
+use Rattle.rules.specs.Operations.{Env, _with_≔_, elems, setOf, oneValue, twoValue}
+use Rattle.rules.specs.Evaluation.{fitting, select, holdsᵖ, valueᵉ}
+use Rattle.rules.proofs.FormedLaws.{value-good, elems-good}
+use Rattle.rules.proofs.FitsLaws.{typed-right, fits-right}
+use Rattle.rules.proofs.TableLaws.{binds-length}
+use Rattle.rules.proofs.CellsLaws.{good-weight, good-typed}
+use Rattle.arena.specs.Code.{cellSize, code, codes, Same}
+use Rattle.arena.proofs.Standing.{stands-tail, same-trans}
 use Rattle.products.specs.Growing.{PutsCell}
-use Rattle.operations.specs.Good.{GoodAt}
-use Rattle.operations.specs.Outcomes.{oneGiven, twoGiven, Gives, OneReady, TwoReady, OneOf, TwoOf}
+use Rattle.operations.specs.Good.{Sizes, GoodAt}
+use Rattle.operations.specs.Outcomes.{weighed, oneGiven, twoGiven, Gives, OneReady, TwoReady, OneOf, TwoOf}
 use Rattle.operations.specs.declared.Outcome.{Outcome}
+use Rattle.operations.specs.declared.Outcome.the-variants.{Built}
 use Rattle.evaluate.specs.declared.Held.{Held}
 use Rattle.evaluate.specs.declared.Held.the-variants.{Truth, Refused}
 use Rattle.evaluate.specs.declared.Formed.{Formed}
 use Rattle.evaluate.specs.declared.Formed.the-variants.{Value as Placed, Stopped}
 use Rattle.evaluate.specs.declared.Operands.{Operands}
 use Rattle.evaluate.specs.declared.Operands.the-variants.{Both, Failed}
-use Rattle.evaluate.specs.Answers.{Ends, PlacedAs, FormedAs, BothAs, SecondFails, SettledAs, SettleReady}
-use Rattle.evaluate.specs.Nodes.{TwoFields}
-use Rattle.evaluate.specs.Cycle.{Binds, Ready, Visited, EvaluatesP, EvaluatesE, EvaluatesBoth, Settles}
-use Rattle.evaluate.proofs.RunLaws.{then-done, then-refused, visited, endOf, form-ends, fitted-ends, ends-as}
-use Rattle.evaluate.proofs.NodeLaws.{sizes-small, Child, field-child, expr-at}
+use Rattle.evaluate.specs.declared.Range.{Range}
+use Rattle.evaluate.specs.declared.Range.the-variants.{Set, Unlike}
+use Rattle.evaluate.specs.Answers.{Ends, PlacedAs, FormedAs, BothAs, SecondFails, Listed, SelectedAs, SettledAs, SettleReady}
+use Rattle.evaluate.specs.Nodes.{TwoFields, SomeGood, RangeAt}
+use Rattle.evaluate.specs.Cycle.{Binds, Ready, Visited, EvaluatesP, EvaluatesE, EvaluatesBoth, EachReady, bodyAt, EvaluatesChosen, Settles}
+use Rattle.evaluate.proofs.RunLaws.{then-done, then-refused, visited, endOf, form-ends, fitted-ends, fitting-done, fitting-refused, ends-as}
+use Rattle.evaluate.proofs.NodeLaws.{sizes-small, binds-frame, Child, field-holds, field-child, expr-at, ready-child}
 
 -- The visits after one more, as the code counts them.
 next-step : {A : Type 0} (m : M A) (s : ℕ) {e : End A} {t : ℕ} → Ends (m (s + 1)) e t → Ends (m (suc s)) e t
@@ -341,4 +350,235 @@ module _ {bs : List ℕ} {base : ℕ} {env s : List ℕ} {top k n m steps budget
                   good = value-good budget (tableOf bs) (x .ready .readable .records) f n ρ steps (truthValue y) (b .good) (z .end);
                 };
               };
+        }
+
+-- 34
+select-kind : (k : ℕ) → k ≡ 34 → kindOf k ≡ some comprehension
+unfolding kindOf
+select-kind k e = rw e
+
+is-true : (b : Bool) → T b → b ≡ true
+is-true true h = refl
+is-true false h = absurd h
+
+-- A good set fits as a range.
+set-fits : (gs : List ℕ) (vs : Values) → T (good gs (set vs)) → fits (comprehensionRule .takes) (set vs ∷ []) ≡ true
+set-fits gs vs h =
+    let y = typed-right (set vs) .0 (good-typed gs (set vs) h) in
+    is-true (fits (comprehensionRule .takes) (set vs ∷ [])) (fits-right (comprehensionRule .takes) (set vs ∷ []) .1 (go (y .0) (y .1)))
+  where
+    go : (t : Ty) → HasType (set vs) t → Fits (comprehensionRule .takes) (set vs ∷ [])
+    go (atom a) k = absurd k
+    go (POW t) k = (t, t, (k, tt))
+    go (t ⊗ u) k = absurd k
+
+-- The members of a good set stand behind its header.
+set-listed : {gs s : List ℕ} {top at : ℕ} (n : ℕ) (vs : Values) → n ≡ count vs → GoodAt gs s top at (set vs) → Listed gs s top (at + 1) n vs
+unfolding code
+set-listed {gs} {s} {top} {at} n vs e h = record {
+  stands = stands-tail s at (5 * cellSize + count vs) (codes vs) (h .stands);
+  counted = e;
+  below = omega (arith, h .below);
+  good = elems-good gs (set vs) (h .good);
+  light = omega (arith, good-weight gs (set vs) (h .good));
+}
+
+-- The range of a node, as the set of n members that it is.
+record RangeHere (x : Run Value) (gs s : List ℕ) (at next t n : ℕ) : Type 0 where
+  range : Values
+  ends : Ends x (done (set range)) t
+  listed : Listed gs s next (at + 1) n range
+  fit : fits (comprehensionRule .takes) (set range ∷ []) ≡ true
+
+range-here : {x : Run Value} {gs s : List ℕ} {at next t : ℕ} (n : ℕ) → Sizes gs → RangeAt s at (Set n) → PlacedAs x gs s at next t → RangeHere x gs s at next t n
+range-here {x} {gs} {s} {at} {next} {t} n z g h =
+    let r = g gs next (h .value) z (h .place) in
+    let p : GoodAt gs s next at (set (r .members)) = subst (λ (v : Value). GoodAt gs s next at v) (r .is) (h .place) in
+    record {
+      range = r .members;
+      ends = subst (λ (v : Value). Ends x (done v) t) (r .is) (h .ends);
+      listed = set-listed n (r .members) (r .counted) p;
+      fit = set-fits gs (r .members) (p .good);
+    }
+
+module _ (budget : ℕ) (gs : List ℕ) (n x : ℕ) (r : Expr) (p : Pred) (ρ : Env) (s : ℕ) (l : s < budget) where
+  abbrev chosen : Value → M Value
+  chosen v = select (λ w. holdsᵖ budget gs p (ρ with x ≔ w)) (elems v) >>= λ ws. form n (gives (setOf ws))
+
+  abbrev tested : Value → M Value
+  tested v = fitting n comprehensionRule (v ∷ []) >> chosen v
+
+  -- After the range.
+  select-after : {v : Value} {m : ℕ} {e : End Value} {t : ℕ} → Ends (valueᵉ budget gs r ρ (s + 1)) (done v) m → Ends (tested v m) e t →
+      Ends (valueᵉ budget gs (comprehensionᵉ n x r p) ρ s) e t
+  unfolding valueᵉ
+  select-after h k = visited budget n s _ l (then-done (valueᵉ budget gs r ρ) tested (suc s) (next-step (valueᵉ budget gs r ρ) s h) k)
+
+  select-refused : {q a t : ℕ} → Ends (valueᵉ budget gs r ρ (s + 1)) (refused q a) t → Ends (valueᵉ budget gs (comprehensionᵉ n x r p) ρ s) (refused q a) t
+  unfolding valueᵉ
+  select-refused h = visited budget n s _ l (then-refused (valueᵉ budget gs r ρ) tested (suc s) (next-step (valueᵉ budget gs r ρ) s h))
+
+  select-unlike : {v : Value} {t : ℕ} → Ends (valueᵉ budget gs r ρ (s + 1)) (done v) t → fits (comprehensionRule .takes) (v ∷ []) ≡ false →
+      Ends (valueᵉ budget gs (comprehensionᵉ n x r p) ρ s) (refused 15 n) t
+  select-unlike {v} {t} h f =
+      select-after h (then-refused (fitting n comprehensionRule (v ∷ [])) (λ _. chosen v) t (fitting-refused n comprehensionRule (v ∷ []) t f))
+
+  -- After the test of the range.
+  select-on : {v : Value} {m : ℕ} {e : End Value} {t : ℕ} → Ends (valueᵉ budget gs r ρ (s + 1)) (done v) m →
+      fits (comprehensionRule .takes) (v ∷ []) ≡ true → Ends (chosen v m) e t → Ends (valueᵉ budget gs (comprehensionᵉ n x r p) ρ s) e t
+  select-on {v} {m} h f k =
+      select-after h (then-done (fitting n comprehensionRule (v ∷ [])) (λ _. chosen v) m (fitting-done n comprehensionRule (v ∷ []) m f) k)
+
+  select-stops : {v : Value} {m q a t : ℕ} → Ends (valueᵉ budget gs r ρ (s + 1)) (done v) m → fits (comprehensionRule .takes) (v ∷ []) ≡ true →
+      Ends (select (λ w. holdsᵖ budget gs p (ρ with x ≔ w)) (elems v) m) (refused q a) t →
+      Ends (valueᵉ budget gs (comprehensionᵉ n x r p) ρ s) (refused q a) t
+  select-stops {v} {m} h f k =
+      select-on h f (then-refused (select (λ w. holdsᵖ budget gs p (ρ with x ≔ w)) (elems v)) (λ ws. form n (gives (setOf ws))) m k)
+
+  select-done : {v : Value} {m : ℕ} {ws : List Value} {t : ℕ} → Ends (valueᵉ budget gs r ρ (s + 1)) (done v) m →
+      fits (comprehensionRule .takes) (v ∷ []) ≡ true → Ends (select (λ w. holdsᵖ budget gs p (ρ with x ≔ w)) (elems v) m) (done ws) t →
+      weight (setOf ws) ≤ 256 → Ends (valueᵉ budget gs (comprehensionᵉ n x r p) ρ s) (done (setOf ws)) t
+  select-done {v} {m} {ws} {t} h f k light =
+      let q : endOf n (weighed (gives (setOf ws))) ≡ done (setOf ws) = rw (le-leb (weight (setOf ws)) 256 light) in
+      select-on h f (then-done (select (λ w. holdsᵖ budget gs p (ρ with x ≔ w)) (elems v)) (λ ws. form n (gives (setOf ws))) m k
+      (subst (λ (e : End Value). Ends (form n (gives (setOf ws)) t) e t) q (form-ends n (gives (setOf ws)) t)))
+
+-- The same answers under equal names.
+pub range-as : {s : List ℕ} {at : ℕ} {r r′ : Range} → r ≡ r′ → RangeAt s at r → RangeAt s at r′
+range-as {s} {at} {r} {r′} q h = subst (λ (z : Range). RangeAt s at z) q h
+
+pub chosen-as : {bs env s : List ℕ} {top n from count steps budget : ℕ} {s′ : List ℕ} {r r′ : Formed} → r ≡ r′ →
+    EvaluatesChosen bs env s top n from count steps budget s′ r → EvaluatesChosen bs env s top n from count steps budget s′ r′
+chosen-as {bs} {env} {s} {top} {n} {from} {count} {steps} {budget} {s′} {r} {r′} q h =
+    subst (λ (z : Formed). EvaluatesChosen bs env s top n from count steps budget s′ z) q h
+
+-- The node's range m in field b has been evaluated.
+module _ {bs : List ℕ} {base : ℕ} {env s : List ℕ} {top k n m steps budget : ℕ} (x : Visited bs base env s top k n steps budget)
+    (e : k ≡ 34) (w : m ≡ getD (fieldWords (nodeAt (tableOf bs .nodes) n)) 1 0) where
+  abbrev tree : ℕ → Expr
+  tree f = exprAt f (tableOf bs .nodes) (nodeAt (tableOf bs .nodes) n .b)
+
+  abbrev body : ℕ → Pred
+  body f = predAt f (tableOf bs .nodes) (nodeAt (tableOf bs .nodes) n .c)
+
+  abbrev binder : ℕ
+  binder = nodeAt (tableOf bs .nodes) n .a
+
+  pub select-child : Child bs n m expression
+  select-child = child-at x comprehension (select-kind k e) expression 1 m (omega arith) (omega arith) refl w
+
+  pub select-fails : {s₁ : List ℕ} {q p t : ℕ} → EvaluatesE bs env s top m (steps + 1) budget s₁ (Stopped q p t) → EvaluatesE bs env s top n steps budget s₁ (Stopped q p t)
+  select-fails h = record {
+    frame = h .frame;
+    bounds = h .bounds;
+    answer = λ f ρ l b.
+        let d = expr-at (tableOf bs .nodes) n comprehension (kind-at x comprehension (select-kind k e)) f l in
+        let v = evaluated-as w refl h .answer (d .depth) ρ (omega (arith, d .enough, select-child .below, w)) b in
+        ends-as (ap (λ (z : Expr). valueᵉ budget (tableOf bs .sizes) z ρ steps) (d .is))
+        (select-refused budget (tableOf bs .sizes) n binder (tree (d .depth)) (body (d .depth)) ρ steps (x .spent) v);
+  }
+
+  module _ {s₁ : List ℕ} {at next t : ℕ} (h : EvaluatesE bs env s top m (steps + 1) budget s₁ (Placed at next t)) where
+    range-at : PlacedAs (valueᵉ budget (tableOf bs .sizes) (exprAt n (tableOf bs .nodes) m) (x .ready .values) (steps + 1)) (tableOf bs .sizes) s₁ at next t
+    range-at = h .answer n (x .ready .values) (select-child .below) (x .ready .binds)
+
+    pub range-good : SomeGood s₁ at
+    range-good = record {
+      sizes = tableOf bs .sizes;
+      small = sizes-small bs (x .ready .readable);
+      top = next;
+      value = range-at .value;
+      stands = range-at .place;
+    }
+
+    pub range-low : at < 4294967296
+    range-low = omega (arith, range-at .place .below, h .bounds .1, x .ready .room, x .ready .small)
+
+    pub range-fails : RangeAt s₁ at Unlike → EvaluatesE bs env s top n steps budget s₁ (Stopped 15 n t)
+    range-fails g = record {
+      frame = h .frame;
+      bounds = h .bounds .2;
+      answer = λ f ρ l b.
+          let d = expr-at (tableOf bs .nodes) n comprehension (kind-at x comprehension (select-kind k e)) f l in
+          let v = evaluated-as w refl h .answer (d .depth) ρ (omega (arith, d .enough, select-child .below, w)) b in
+          ends-as (ap (λ (z : Expr). valueᵉ budget (tableOf bs .sizes) z ρ steps) (d .is))
+          (select-unlike budget (tableOf bs .sizes) n binder (tree (d .depth)) (body (d .depth)) ρ steps (x .spent) (v .ends)
+          (g (tableOf bs .sizes) next (v .value) (sizes-small bs (x .ready .readable)) (v .place)));
+    }
+
+    module _ {count : ℕ} (g : RangeAt s₁ at (Set count)) where
+      pub select-each : EachReady bs base env s₁ next n (at + 1) count t budget
+      select-each =
+          let q = kind-at x comprehension (select-kind k e) in
+          let c = child-at x comprehension (select-kind k e) predicate 2 (nodeAt (tableOf bs .nodes) n .c) (omega arith) (omega arith) refl refl in
+          let a : binder < length (tableOf bs .binds) = field-holds bs (x .ready .readable) n (x .ready .node) comprehension q 0 (omega arith) in
+          let r = range-here count (sizes-small bs (x .ready .readable)) g range-at in
+          record {
+            ready = ready-child s₁ (nodeAt (tableOf bs .nodes) n .c) next t (x .ready) c (h .frame) (h .bounds .0) (omega (arith, h .bounds .1)) (h .bounds .2);
+            binder = x .ready .node;
+            deeper = c .below;
+            is = c .is;
+            name = omega (arith, a, binds-length bs, x .ready .readable .header .identifiers);
+            space = omega (arith, c .lower, x .ready .room, h .frame .kept, h .bounds .1);
+            range = r .range;
+            listed = r .listed;
+          }
+
+      -- The range at an environment, and the members of it that the body selects.
+      range-of : (f : ℕ) (ρ : Env) → n ≤ f → Binds (tableOf bs .sizes) s top env ρ →
+          RangeHere (valueᵉ budget (tableOf bs .sizes) (tree f) ρ (steps + 1)) (tableOf bs .sizes) s₁ at next t count
+      range-of f ρ d b =
+          range-here count (sizes-small bs (x .ready .readable)) g
+          (evaluated-as w refl h .answer f ρ (omega (arith, d, select-child .below, w)) b)
+
+      pub chosen-fails : {s₂ : List ℕ} {q p u : ℕ} → EvaluatesChosen bs env s₁ next n (at + 1) count t budget s₂ (Stopped q p u) →
+          EvaluatesE bs env s top n steps budget s₂ (Stopped q p u)
+      chosen-fails {s₂} ch = record {
+        frame = same-trans top next s s₁ s₂ (h .frame) (ch .frame) (h .bounds .0);
+        bounds = ch .bounds;
+        answer = λ f ρ l b.
+            let d = expr-at (tableOf bs .nodes) n comprehension (kind-at x comprehension (select-kind k e)) f l in
+            let v = range-of (d .depth) ρ (d .enough) b in
+            ends-as (ap (λ (z : Expr). valueᵉ budget (tableOf bs .sizes) z ρ steps) (d .is))
+            (select-stops budget (tableOf bs .sizes) n binder (tree (d .depth)) (body (d .depth)) ρ steps (x .spent) (v .ends) (v .fit)
+            (ch .answer (d .depth) ρ (v .range) (d .enough) (binds-frame next (h .frame) (h .bounds .0) b) (v .listed)));
+      }
+
+      module _ {s₂ : List ℕ} {to end u : ℕ} (ch : EvaluatesChosen bs env s₁ next n (at + 1) count t budget s₂ (Placed to end u)) where
+        -- The set has been built at `next`.
+        built : (f : ℕ) (ρ : Env) (d : n ≤ f) (b : Binds (tableOf bs .sizes) s top env ρ) →
+            SelectedAs (select (bodyAt bs budget n f ρ) (members (range-of f ρ d b .range)) t) s₂ next end u
+        built f ρ d b = ch .answer f ρ (range-of f ρ d b .range) d (binds-frame next (h .frame) (h .bounds .0) b) (range-of f ρ d b .listed)
+
+        light : {y : Run (List Value)} (z : SelectedAs y s₂ next end u) → weight (setOf (z .chosen)) ≤ 256
+        light z = omega (arith, z .ending, ch .bounds .1)
+
+        given : {y : Run (List Value)} (z : SelectedAs y s₂ next end u) → Gives s₂ next next (gives (setOf (z .chosen))) (Built end)
+        given z = record { value = setOf (z .chosen); is = refl; stands = z .stands; ends = z .ending; light = light z }
+
+        pub select-settles : SettleReady s₂ (Built end) next next top u budget
+        select-settles =
+            let z = built n (x .ready .values) (omega arith) (x .ready .binds) in
+            record {
+              given = gives (setOf (z .chosen));
+              gives = given z;
+              low = h .bounds .0;
+              high = h .bounds .1;
+              order = omega arith;
+              room = omega (arith, x .ready .room, h .bounds .1, h .frame .kept, ch .frame .kept);
+              within = ch .bounds .2;
+            }
+
+        pub select-evaluates : {s₃ : List ℕ} {r : Formed} → Settles s₂ (Built end) next next top n u budget s₃ r → EvaluatesE bs env s top n steps budget s₃ r
+        select-evaluates {s₃} {r} st = record {
+          frame = same-trans top top s s₂ s₃ (same-trans top next s s₁ s₂ (h .frame) (ch .frame) (h .bounds .0)) (st .frame) (omega arith);
+          bounds = st .bounds;
+          answer = λ f ρ l b.
+              let d = expr-at (tableOf bs .nodes) n comprehension (kind-at x comprehension (select-kind k e)) f l in
+              let v = range-of (d .depth) ρ (d .enough) b in
+              let z = built (d .depth) ρ (d .enough) b in
+              settled-as budget bs f n ρ steps (x .ready .readable) (b .good) (gives (setOf (z .chosen))) u
+              (ends-as (ap (λ (z : Expr). valueᵉ budget (tableOf bs .sizes) z ρ steps) (d .is))
+              (select-done budget (tableOf bs .sizes) n binder (tree (d .depth)) (body (d .depth)) ρ steps (x .spent) (v .ends) (v .fit) (z .ends) (light z)))
+              s₃ r (st .answer (gives (setOf (z .chosen))) (given z));
         }
