@@ -1,33 +1,32 @@
 -- What the evaluators of expressions with operands give: kinds 25, 27 to 41 and 43.
-use Prim.Native.Nat.{ℕ, zero, suc, _+_, _*_, _≤_, _<_}
-use mathlib.Core.Bool.{Bool, true, false, cond}
+use Prim.Native.Nat.{ℕ, suc, _+_, _*_, _≤_, _<_}
+use mathlib.Core.Bool.{Bool, true, false}
 use mathlib.Core.List.{List, [], _∷_}
 use mathlib.Core.Logic.{_⊎_, inl, inr}
-use mathlib.Core.Option.{Option, none as nothing, some}
+use mathlib.Core.Option.{some}
 use mathlib.Core.Path.{_≡_, refl, sym, ap, _∙_, subst}
 use native.Mathlib.Omega.{arith}
 use borrow.Author.Tests.{le-leb}
 use lib.Dec.{T}
 use lib.ListN.{length, getD}
 use mir.Val.{boolByte}
+use Rattle.rules.specs.Types.{Ty, atom, POW, _⊗_}
 use Rattle.rules.specs.Values.{Value, set, Values, truthValue, members, count, weight}
 use Rattle.rules.specs.Cells.{good}
 use Rattle.rules.specs.Kinds.{Kind, boolOf, one, two, comprehension, One, Two, Category, predicate, expression, unused, child, kindOf, fieldsOf}
 use Rattle.rules.specs.Rules.{oneRule, twoRule, comprehensionRule}
-use Rattle.rules.specs.Types.{Ty, atom, POW, _⊗_}
 use Rattle.rules.specs.Fits.{HasType, Fits, fits}
-use Rattle.rules.specs.Tables.{Pred, Expr, boolᵉ, oneᵉ, twoᵉ, comprehensionᵉ, tableOf, nodeAt, kindAt, predAt, exprAt, fieldWords, nodeCount}
-use Rattle.rules.specs.Reading.{height}
+use Rattle.rules.specs.Tables.{Pred, Expr, boolᵉ, oneᵉ, twoᵉ, comprehensionᵉ, tableOf, nodeAt, kindAt, predAt, exprAt, fieldWords}
 use Rattle.rules.specs.Readable.{Readable}
 use Rattle.rules.specs.Ends.{End, done, refused}
-use Rattle.rules.specs.Runs.{Run, M, _>>=_, _>>_, form, Given, gives, lacks}
+use Rattle.rules.specs.Runs.{Run, M, _>>=_, _>>_, form, Given, gives}
 use Rattle.rules.specs.Operations.{Env, _with_≔_, elems, setOf, oneValue, twoValue}
 use Rattle.rules.specs.Evaluation.{fitting, select, holdsᵖ, valueᵉ}
 use Rattle.rules.proofs.FormedLaws.{value-good, elems-good}
 use Rattle.rules.proofs.FitsLaws.{typed-right, fits-right}
 use Rattle.rules.proofs.TableLaws.{binds-length}
 use Rattle.rules.proofs.CellsLaws.{good-weight, good-typed}
-use Rattle.arena.specs.Code.{cellSize, code, codes, Same}
+use Rattle.arena.specs.Code.{cellSize, code, codes}
 use Rattle.arena.proofs.Standing.{stands-tail, same-trans}
 use Rattle.products.specs.Growing.{PutsCell}
 use Rattle.operations.specs.Good.{Sizes, GoodAt}
@@ -340,7 +339,7 @@ module _ {bs : List ℕ} {base : ℕ} {env s : List ℕ} {top k n m steps budget
               let d = expr-at (tableOf bs .nodes) n boolOf (kind-at x boolOf (bool-kind k e)) f l in
               let v = held-as w refl h .answer (d .depth) ρ (omega (arith, d .enough, bool-child .below, w)) b in
               let z = ends-as (ap (λ (z : Expr). valueᵉ budget (tableOf bs .sizes) z ρ steps) (d .is))
-                  (bool-done budget (tableOf bs .sizes) n (predAt (d .depth) (tableOf bs .nodes) (nodeAt (tableOf bs .nodes) n .a)) ρ steps (x .spent) v) in
+              (bool-done budget (tableOf bs .sizes) n (predAt (d .depth) (tableOf bs .nodes) (nodeAt (tableOf bs .nodes) n .a)) ρ steps (x .spent) v) in
               record {
                 value = truthValue y;
                 ends = z;

@@ -144,10 +144,11 @@ pub eval-one-one-requires : (t : ℕ) → eval-one-lts.Need-one-requires (
 ) (eval-one-at t) eval-one.Post
 eval-one-one-requires t c κs =
     let a = c .before .before .before .before .before .before in
-    let b = a .before .before .before .before .before in
-    (b .pre .1 .1,
-    one-ready (b .pre .1 .0) (b .pre .1 .1 .0) (b .pre .1 .1 .1) (a .before .before .field .ensures)
-    (evaluated-as refl (c .before .before .at .given .1) (a .eval-expr .ensures)))
+    let b = a .before .before .before .before .before in (
+      b .pre .1 .1,
+      one-ready (b .pre .1 .0) (b .pre .1 .1 .0) (b .pre .1 .1 .1) (a .before .before .field .ensures)
+          (evaluated-as refl (c .before .before .at .given .1) (a .eval-expr .ensures)),
+    )
 
 -- src/lib.rt:428:13
 pub eval-one-settle-requires : (t : ℕ) → eval-one-lts.Need-settle-requires (

@@ -206,8 +206,10 @@ eval-select-add-each-chosen t c =
     let g = c .before .before .before .before .before .before .before in
     let a = g .before .before .before .before in
     let b = a .before .before .before .before .before in
-    omega (arith,
-    range-low (b .pre .1 .0) (b .pre .1 .1) (a .before .before .field .ensures) (evaluated-as refl (g .at .given .1) (a .eval-expr .ensures)))
+    omega (
+      arith,
+      range-low (b .pre .1 .0) (b .pre .1 .1) (a .before .before .field .ensures) (evaluated-as refl (g .at .given .1) (a .eval-expr .ensures)),
+    )
 
 -- src/lib.rt:478:23
 pub eval-select-each-chosen-requires : (t : ℕ) → eval-select-lts.Need-each-chosen-requires (
@@ -226,10 +228,11 @@ eval-select-each-chosen-requires t c κs =
     let n = c .before .before in
     let g = n .before .before .before .before .before in
     let a = g .before .before .before .before in
-    let b = a .before .before .before .before .before in
-    (omega (arith, b .pre .0),
-    select-each (b .pre .1 .0) (b .pre .1 .1) (a .before .before .field .ensures) (evaluated-as refl (g .at .given .1) (a .eval-expr .ensures))
-    (range-as (n .count .given .1) (n .before .before .range-of .ensures)))
+    let b = a .before .before .before .before .before in (
+      omega (arith, b .pre .0),
+      select-each (b .pre .1 .0) (b .pre .1 .1) (a .before .before .field .ensures) (evaluated-as refl (g .at .given .1) (a .eval-expr .ensures))
+          (range-as (n .count .given .1) (n .before .before .range-of .ensures)),
+    )
 
 -- src/lib.rt:479:37
 pub eval-select-enum-known-k-2 : (t : ℕ) → eval-select-lts.Need-enum-known-k-2 (

@@ -82,9 +82,10 @@ pub eval-two-eval-both-requires : (t : ℕ) → eval-two-lts.Need-eval-both-requ
   settle-reads.Learnt,
 ) (eval-two-at t) eval-two.Post
 eval-two-eval-both-requires t c κs =
-    let b = c .before .before .before in
-    (omega (arith, b .pre .0),
-    (ready-on _ (b .pre .1 .0 .ready) (omega (arith, b .pre .1 .0 .spent)), two-fields (b .pre .1 .0) (b .pre .1 .1 .0) (b .pre .1 .1 .1)))
+    let b = c .before .before .before in (
+      omega (arith, b .pre .0),
+      (ready-on _ (b .pre .1 .0 .ready) (omega (arith, b .pre .1 .0 .spent)), two-fields (b .pre .1 .0) (b .pre .1 .1 .0) (b .pre .1 .1 .1)),
+    )
 
 -- src/lib.rt:449:26
 pub eval-two-enum-known-k : (t : ℕ) → eval-two-lts.Need-enum-known-k (
@@ -119,9 +120,10 @@ pub eval-two-two-requires : (t : ℕ) → eval-two-lts.Need-two-requires (
 ) (eval-two-at t) eval-two.Post
 eval-two-two-requires t c κs =
     let a = c .before .before .before .before .before .before in
-    let b = a .before .before .before .before in
-    (b .pre .1 .1,
-    two-ready (b .pre .1 .0) (b .pre .1 .1 .0) (b .pre .1 .1 .1) (both-as (c .before .before .a .given .1) (a .eval-both .ensures)))
+    let b = a .before .before .before .before in (
+      b .pre .1 .1,
+      two-ready (b .pre .1 .0) (b .pre .1 .1 .0) (b .pre .1 .1 .1) (both-as (c .before .before .a .given .1) (a .eval-both .ensures)),
+    )
 
 -- src/lib.rt:452:13
 pub eval-two-settle-requires : (t : ℕ) → eval-two-lts.Need-settle-requires (
