@@ -59,6 +59,9 @@ use Rattle.products.proofs.put_cell.Reads as put-cell-reads
 use Rattle.table.proofs.field.Reads as field-reads
 use Rattle.table.proofs.kind.Reads as kind-reads
 use Rattle.evaluate.proofs.+each_chosen+each_member+eval_bool+eval_both+eval_expr+eval_join+eval_not+eval_one+eval_pred+eval_quant+eval_select+eval_test+eval_two.Proof.Base.{μ-each-chosen, μ-each-member, μ-eval-bool, μ-eval-both, μ-eval-expr, μ-eval-join, μ-eval-not, μ-eval-one, μ-eval-pred, μ-eval-quant, μ-eval-select, μ-eval-test, μ-eval-two, each-chosen-at, each-chosen-below, each-member-at, each-member-below, eval-bool-at, eval-bool-below, eval-both-at, eval-both-below, eval-expr-at, eval-expr-below, eval-join-at, eval-join-below, eval-not-at, eval-not-below, eval-one-at, eval-one-below, eval-pred-at, eval-pred-below, eval-quant-at, eval-quant-below, eval-select-at, eval-select-below, eval-test-at, eval-test-below, eval-two-at, eval-two-below}
+use Rattle.arena.proofs.Standing.{same-refl}
+use Rattle.evaluate.proofs.NodeLaws.{ready-child}
+use Rattle.evaluate.proofs.FormLaws.{byte-small, held-as, bool-child, bool-fails, bool-evaluates}
 
 -- src/lib.rt:380:9
 pub eval-bool-field-requires : (t : ℕ) → eval-bool-lts.Need-field-requires (
@@ -69,7 +72,7 @@ pub eval-bool-field-requires : (t : ℕ) → eval-bool-lts.Need-field-requires (
   put-cell-reads.Asked,
   put-cell-reads.Learnt,
 ) (eval-bool-at t) eval-bool.Post
-eval-bool-field-requires t c κs = ?
+eval-bool-field-requires t c κs = search needs
 
 -- src/lib.rt:381:50
 pub eval-bool-add-eval-pred : (t : ℕ) → eval-bool-lts.Need-add-eval-pred (
@@ -80,7 +83,7 @@ pub eval-bool-add-eval-pred : (t : ℕ) → eval-bool-lts.Need-add-eval-pred (
   put-cell-reads.Asked,
   put-cell-reads.Learnt,
 ) (eval-bool-at t) eval-bool.Post
-eval-bool-add-eval-pred t c = ?
+eval-bool-add-eval-pred t c = search needs
 
 -- src/lib.rt:381:11
 pub eval-bool-eval-pred-requires : (t : ℕ) → eval-bool-lts.Need-eval-pred-requires (
@@ -91,7 +94,10 @@ pub eval-bool-eval-pred-requires : (t : ℕ) → eval-bool-lts.Need-eval-pred-re
   put-cell-reads.Asked,
   put-cell-reads.Learnt,
 ) (eval-bool-at t) eval-bool.Post
-eval-bool-eval-pred-requires t c κs = ?
+eval-bool-eval-pred-requires t c κs =
+    let b = c .before .before .before .before in
+    let d = bool-child (b .pre .1 .0) (b .pre .1 .1) (c .before .field .ensures) in
+    (omega (arith, b .pre .0, d .below), (ready-child _ _ _ _ (b .pre .1 .0 .ready) d (same-refl _ _) (omega arith) (omega arith) (omega (arith, b .pre .1 .0 .spent)), d .is))
 
 -- src/lib.rt:382:23
 pub eval-bool-enum-known-k : (t : ℕ) → eval-bool-lts.Need-enum-known-k (
@@ -102,7 +108,7 @@ pub eval-bool-enum-known-k : (t : ℕ) → eval-bool-lts.Need-enum-known-k (
   put-cell-reads.Asked,
   put-cell-reads.Learnt,
 ) (eval-bool-at t) eval-bool.Post
-eval-bool-enum-known-k t c = ?
+eval-bool-enum-known-k t c = search needs
 
 -- src/lib.rt:383:21
 pub eval-bool-enum-known-yes : (t : ℕ) → eval-bool-lts.Need-enum-known-yes (
@@ -113,7 +119,7 @@ pub eval-bool-enum-known-yes : (t : ℕ) → eval-bool-lts.Need-enum-known-yes (
   put-cell-reads.Asked,
   put-cell-reads.Learnt,
 ) (eval-bool-at t) eval-bool.Post
-eval-bool-enum-known-yes t c = ?
+eval-bool-enum-known-yes t c = search needs
 
 -- src/lib.rt:384:63
 pub eval-bool-cast-put-cell : (t : ℕ) → eval-bool-lts.Need-cast-put-cell (
@@ -124,7 +130,7 @@ pub eval-bool-cast-put-cell : (t : ℕ) → eval-bool-lts.Need-cast-put-cell (
   put-cell-reads.Asked,
   put-cell-reads.Learnt,
 ) (eval-bool-at t) eval-bool.Post
-eval-bool-cast-put-cell t c = ?
+eval-bool-cast-put-cell t c = search needs
 
 -- src/lib.rt:384:50
 pub eval-bool-add-put-cell : (t : ℕ) → eval-bool-lts.Need-add-put-cell (
@@ -135,7 +141,7 @@ pub eval-bool-add-put-cell : (t : ℕ) → eval-bool-lts.Need-add-put-cell (
   put-cell-reads.Asked,
   put-cell-reads.Learnt,
 ) (eval-bool-at t) eval-bool.Post
-eval-bool-add-put-cell t c = ?
+eval-bool-add-put-cell t c = omega (arith, byte-small (c .before .before .yes .given .0 .0))
 
 -- src/lib.rt:384:17
 pub eval-bool-put-cell-requires : (t : ℕ) → eval-bool-lts.Need-put-cell-requires (
@@ -146,7 +152,7 @@ pub eval-bool-put-cell-requires : (t : ℕ) → eval-bool-lts.Need-put-cell-requ
   put-cell-reads.Asked,
   put-cell-reads.Learnt,
 ) (eval-bool-at t) eval-bool.Post
-eval-bool-put-cell-requires t c κs = ?
+eval-bool-put-cell-requires t c κs = search needs
 
 -- src/lib.rt:366:1
 pub eval-bool-same-length : (t : ℕ) → eval-bool-lts.Need-same-length (
@@ -157,7 +163,7 @@ pub eval-bool-same-length : (t : ℕ) → eval-bool-lts.Need-same-length (
   put-cell-reads.Asked,
   put-cell-reads.Learnt,
 ) (eval-bool-at t) eval-bool.Post
-eval-bool-same-length t c = ?
+eval-bool-same-length t c = search needs
 
 -- src/lib.rt:366:1
 pub eval-bool-returns : (t : ℕ) → eval-bool-lts.Need-returns (
@@ -168,7 +174,10 @@ pub eval-bool-returns : (t : ℕ) → eval-bool-lts.Need-returns (
   put-cell-reads.Asked,
   put-cell-reads.Learnt,
 ) (eval-bool-at t) eval-bool.Post
-eval-bool-returns t c = ?
+eval-bool-returns t c =
+    let a = c .before .before .before .before .before in
+    let b = a .before .before .before .before .before in
+    bool-fails (b .pre .1 .0) (b .pre .1 .1) (a .before .before .field .ensures) (held-as refl (c .before .k .given .1) (a .eval-pred .ensures))
 
 -- src/lib.rt:366:1
 pub eval-bool-same-length-2 : (t : ℕ) → eval-bool-lts.Need-same-length-2 (
@@ -179,7 +188,7 @@ pub eval-bool-same-length-2 : (t : ℕ) → eval-bool-lts.Need-same-length-2 (
   put-cell-reads.Asked,
   put-cell-reads.Learnt,
 ) (eval-bool-at t) eval-bool.Post
-eval-bool-same-length-2 t c = ?
+eval-bool-same-length-2 t c = search needs
 
 -- src/lib.rt:366:1
 pub eval-bool-returns-2 : (t : ℕ) → eval-bool-lts.Need-returns-2 (
@@ -190,4 +199,9 @@ pub eval-bool-returns-2 : (t : ℕ) → eval-bool-lts.Need-returns-2 (
   put-cell-reads.Asked,
   put-cell-reads.Learnt,
 ) (eval-bool-at t) eval-bool.Post
-eval-bool-returns-2 t c = ?
+eval-bool-returns-2 t c =
+    let g = c .before .before .before .before .before in
+    let a = g .before .before .before .before in
+    let b = a .before .before .before .before .before in
+    bool-evaluates (b .pre .1 .0) (b .pre .1 .1) (a .before .before .field .ensures) (held-as refl (g .yes .given .1) (a .eval-pred .ensures))
+    (c .before .before .put-cell .ensures)

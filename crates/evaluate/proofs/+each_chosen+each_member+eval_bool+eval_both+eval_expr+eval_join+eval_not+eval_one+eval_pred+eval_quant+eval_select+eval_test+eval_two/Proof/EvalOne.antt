@@ -59,6 +59,9 @@ use Rattle.products.proofs.put_cell.Reads as put-cell-reads
 use Rattle.table.proofs.field.Reads as field-reads
 use Rattle.table.proofs.kind.Reads as kind-reads
 use Rattle.evaluate.proofs.+each_chosen+each_member+eval_bool+eval_both+eval_expr+eval_join+eval_not+eval_one+eval_pred+eval_quant+eval_select+eval_test+eval_two.Proof.Base.{μ-each-chosen, μ-each-member, μ-eval-bool, μ-eval-both, μ-eval-expr, μ-eval-join, μ-eval-not, μ-eval-one, μ-eval-pred, μ-eval-quant, μ-eval-select, μ-eval-test, μ-eval-two, each-chosen-at, each-chosen-below, each-member-at, each-member-below, eval-bool-at, eval-bool-below, eval-both-at, eval-both-below, eval-expr-at, eval-expr-below, eval-join-at, eval-join-below, eval-not-at, eval-not-below, eval-one-at, eval-one-below, eval-pred-at, eval-pred-below, eval-quant-at, eval-quant-below, eval-select-at, eval-select-below, eval-test-at, eval-test-below, eval-two-at, eval-two-below}
+use Rattle.arena.proofs.Standing.{same-refl}
+use Rattle.evaluate.proofs.NodeLaws.{ready-child}
+use Rattle.evaluate.proofs.FormLaws.{evaluated-as, one-child, one-fails, one-ready, one-settles, one-evaluates}
 
 -- src/lib.rt:423:9
 pub eval-one-field-requires : (t : ℕ) → eval-one-lts.Need-field-requires (
@@ -71,7 +74,7 @@ pub eval-one-field-requires : (t : ℕ) → eval-one-lts.Need-field-requires (
   settle-reads.Asked,
   settle-reads.Learnt,
 ) (eval-one-at t) eval-one.Post
-eval-one-field-requires t c κs = ?
+eval-one-field-requires t c κs = search needs
 
 -- src/lib.rt:424:50
 pub eval-one-add-eval-expr : (t : ℕ) → eval-one-lts.Need-add-eval-expr (
@@ -84,7 +87,7 @@ pub eval-one-add-eval-expr : (t : ℕ) → eval-one-lts.Need-add-eval-expr (
   settle-reads.Asked,
   settle-reads.Learnt,
 ) (eval-one-at t) eval-one.Post
-eval-one-add-eval-expr t c = ?
+eval-one-add-eval-expr t c = search needs
 
 -- src/lib.rt:424:11
 pub eval-one-eval-expr-requires : (t : ℕ) → eval-one-lts.Need-eval-expr-requires (
@@ -97,7 +100,10 @@ pub eval-one-eval-expr-requires : (t : ℕ) → eval-one-lts.Need-eval-expr-requ
   settle-reads.Asked,
   settle-reads.Learnt,
 ) (eval-one-at t) eval-one.Post
-eval-one-eval-expr-requires t c κs = ?
+eval-one-eval-expr-requires t c κs =
+    let b = c .before .before .before .before in
+    let d = one-child (b .pre .1 .0) (b .pre .1 .1 .0) (b .pre .1 .1 .1) (c .before .field .ensures) in
+    (omega (arith, b .pre .0, d .below), (ready-child _ _ _ _ (b .pre .1 .0 .ready) d (same-refl _ _) (omega arith) (omega arith) (omega (arith, b .pre .1 .0 .spent)), d .is))
 
 -- src/lib.rt:425:25
 pub eval-one-enum-known-k : (t : ℕ) → eval-one-lts.Need-enum-known-k (
@@ -110,7 +116,7 @@ pub eval-one-enum-known-k : (t : ℕ) → eval-one-lts.Need-enum-known-k (
   settle-reads.Asked,
   settle-reads.Learnt,
 ) (eval-one-at t) eval-one.Post
-eval-one-enum-known-k t c = ?
+eval-one-enum-known-k t c = search needs
 
 -- src/lib.rt:426:23
 pub eval-one-enum-known-at : (t : ℕ) → eval-one-lts.Need-enum-known-at (
@@ -123,7 +129,7 @@ pub eval-one-enum-known-at : (t : ℕ) → eval-one-lts.Need-enum-known-at (
   settle-reads.Asked,
   settle-reads.Learnt,
 ) (eval-one-at t) eval-one.Post
-eval-one-enum-known-at t c = ?
+eval-one-enum-known-at t c = search needs
 
 -- src/lib.rt:427:17
 pub eval-one-one-requires : (t : ℕ) → eval-one-lts.Need-one-requires (
@@ -136,7 +142,13 @@ pub eval-one-one-requires : (t : ℕ) → eval-one-lts.Need-one-requires (
   settle-reads.Asked,
   settle-reads.Learnt,
 ) (eval-one-at t) eval-one.Post
-eval-one-one-requires t c κs = ?
+eval-one-one-requires t c κs =
+    let a = c .before .before .before .before .before .before in
+    let b = a .before .before .before .before .before in (
+      b .pre .1 .1,
+      one-ready (b .pre .1 .0) (b .pre .1 .1 .0) (b .pre .1 .1 .1) (a .before .before .field .ensures)
+          (evaluated-as refl (c .before .before .at .given .1) (a .eval-expr .ensures)),
+    )
 
 -- src/lib.rt:428:13
 pub eval-one-settle-requires : (t : ℕ) → eval-one-lts.Need-settle-requires (
@@ -149,7 +161,12 @@ pub eval-one-settle-requires : (t : ℕ) → eval-one-lts.Need-settle-requires (
   settle-reads.Asked,
   settle-reads.Learnt,
 ) (eval-one-at t) eval-one.Post
-eval-one-settle-requires t c κs = ?
+eval-one-settle-requires t c κs =
+    let g = c .before .before .before .before .before .before in
+    let a = g .before .before .before .before in
+    let b = a .before .before .before .before .before in
+    one-settles (b .pre .1 .0) (b .pre .1 .1 .0) (b .pre .1 .1 .1) (a .before .before .field .ensures)
+    (evaluated-as refl (g .at .given .1) (a .eval-expr .ensures)) (c .before .before .before .one .ensures)
 
 -- src/lib.rt:409:1
 pub eval-one-same-length : (t : ℕ) → eval-one-lts.Need-same-length (
@@ -162,7 +179,7 @@ pub eval-one-same-length : (t : ℕ) → eval-one-lts.Need-same-length (
   settle-reads.Asked,
   settle-reads.Learnt,
 ) (eval-one-at t) eval-one.Post
-eval-one-same-length t c = ?
+eval-one-same-length t c = search needs
 
 -- src/lib.rt:409:1
 pub eval-one-returns : (t : ℕ) → eval-one-lts.Need-returns (
@@ -175,7 +192,11 @@ pub eval-one-returns : (t : ℕ) → eval-one-lts.Need-returns (
   settle-reads.Asked,
   settle-reads.Learnt,
 ) (eval-one-at t) eval-one.Post
-eval-one-returns t c = ?
+eval-one-returns t c =
+    let a = c .before .before .before .before .before in
+    let b = a .before .before .before .before .before in
+    one-fails (b .pre .1 .0) (b .pre .1 .1 .0) (b .pre .1 .1 .1) (a .before .before .field .ensures)
+    (evaluated-as refl (c .before .k .given .1) (a .eval-expr .ensures))
 
 -- src/lib.rt:409:1
 pub eval-one-same-length-2 : (t : ℕ) → eval-one-lts.Need-same-length-2 (
@@ -188,7 +209,7 @@ pub eval-one-same-length-2 : (t : ℕ) → eval-one-lts.Need-same-length-2 (
   settle-reads.Asked,
   settle-reads.Learnt,
 ) (eval-one-at t) eval-one.Post
-eval-one-same-length-2 t c = ?
+eval-one-same-length-2 t c = search needs
 
 -- src/lib.rt:409:1
 pub eval-one-returns-2 : (t : ℕ) → eval-one-lts.Need-returns-2 (
@@ -201,4 +222,10 @@ pub eval-one-returns-2 : (t : ℕ) → eval-one-lts.Need-returns-2 (
   settle-reads.Asked,
   settle-reads.Learnt,
 ) (eval-one-at t) eval-one.Post
-eval-one-returns-2 t c = ?
+eval-one-returns-2 t c =
+    let o = c .before .before .before .before .before .before in
+    let g = o .before .before .before in
+    let a = g .before .before .before .before in
+    let b = a .before .before .before .before .before in
+    one-evaluates (b .pre .1 .0) (b .pre .1 .1 .0) (b .pre .1 .1 .1) (a .before .before .field .ensures)
+    (evaluated-as refl (g .at .given .1) (a .eval-expr .ensures)) (o .one .ensures) (c .before .before .settle .ensures)

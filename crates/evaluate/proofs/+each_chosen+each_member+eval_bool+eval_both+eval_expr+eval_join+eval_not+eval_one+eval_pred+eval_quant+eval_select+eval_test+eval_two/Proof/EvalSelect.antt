@@ -59,6 +59,9 @@ use Rattle.products.proofs.put_cell.Reads as put-cell-reads
 use Rattle.table.proofs.field.Reads as field-reads
 use Rattle.table.proofs.kind.Reads as kind-reads
 use Rattle.evaluate.proofs.+each_chosen+each_member+eval_bool+eval_both+eval_expr+eval_join+eval_not+eval_one+eval_pred+eval_quant+eval_select+eval_test+eval_two.Proof.Base.{μ-each-chosen, μ-each-member, μ-eval-bool, μ-eval-both, μ-eval-expr, μ-eval-join, μ-eval-not, μ-eval-one, μ-eval-pred, μ-eval-quant, μ-eval-select, μ-eval-test, μ-eval-two, each-chosen-at, each-chosen-below, each-member-at, each-member-below, eval-bool-at, eval-bool-below, eval-both-at, eval-both-below, eval-expr-at, eval-expr-below, eval-join-at, eval-join-below, eval-not-at, eval-not-below, eval-one-at, eval-one-below, eval-pred-at, eval-pred-below, eval-quant-at, eval-quant-below, eval-select-at, eval-select-below, eval-test-at, eval-test-below, eval-two-at, eval-two-below}
+use Rattle.arena.proofs.Standing.{same-refl}
+use Rattle.evaluate.proofs.NodeLaws.{ready-child}
+use Rattle.evaluate.proofs.FormLaws.{evaluated-as, range-as, chosen-as, select-child, select-fails, range-good, range-low, range-fails, select-each, chosen-fails, select-settles, select-evaluates}
 
 -- src/lib.rt:472:9
 pub eval-select-field-requires : (t : ℕ) → eval-select-lts.Need-field-requires (
@@ -73,7 +76,7 @@ pub eval-select-field-requires : (t : ℕ) → eval-select-lts.Need-field-requir
   settle-reads.Asked,
   settle-reads.Learnt,
 ) (eval-select-at t) eval-select.Post
-eval-select-field-requires t c κs = ?
+eval-select-field-requires t c κs = search needs
 
 -- src/lib.rt:473:50
 pub eval-select-add-eval-expr : (t : ℕ) → eval-select-lts.Need-add-eval-expr (
@@ -88,7 +91,7 @@ pub eval-select-add-eval-expr : (t : ℕ) → eval-select-lts.Need-add-eval-expr
   settle-reads.Asked,
   settle-reads.Learnt,
 ) (eval-select-at t) eval-select.Post
-eval-select-add-eval-expr t c = ?
+eval-select-add-eval-expr t c = search needs
 
 -- src/lib.rt:473:11
 pub eval-select-eval-expr-requires : (t : ℕ) → eval-select-lts.Need-eval-expr-requires (
@@ -103,7 +106,10 @@ pub eval-select-eval-expr-requires : (t : ℕ) → eval-select-lts.Need-eval-exp
   settle-reads.Asked,
   settle-reads.Learnt,
 ) (eval-select-at t) eval-select.Post
-eval-select-eval-expr-requires t c κs = ?
+eval-select-eval-expr-requires t c κs =
+    let b = c .before .before .before .before in
+    let d = select-child (b .pre .1 .0) (b .pre .1 .1) (c .before .field .ensures) in
+    (omega (arith, b .pre .0, d .below), (ready-child _ _ _ _ (b .pre .1 .0 .ready) d (same-refl _ _) (omega arith) (omega arith) (omega (arith, b .pre .1 .0 .spent)), d .is))
 
 -- src/lib.rt:474:25
 pub eval-select-enum-known-k : (t : ℕ) → eval-select-lts.Need-enum-known-k (
@@ -118,7 +124,7 @@ pub eval-select-enum-known-k : (t : ℕ) → eval-select-lts.Need-enum-known-k (
   settle-reads.Asked,
   settle-reads.Learnt,
 ) (eval-select-at t) eval-select.Post
-eval-select-enum-known-k t c = ?
+eval-select-enum-known-k t c = search needs
 
 -- src/lib.rt:475:23
 pub eval-select-enum-known-at : (t : ℕ) → eval-select-lts.Need-enum-known-at (
@@ -133,7 +139,7 @@ pub eval-select-enum-known-at : (t : ℕ) → eval-select-lts.Need-enum-known-at
   settle-reads.Asked,
   settle-reads.Learnt,
 ) (eval-select-at t) eval-select.Post
-eval-select-enum-known-at t c = ?
+eval-select-enum-known-at t c = search needs
 
 -- src/lib.rt:475:45
 pub eval-select-range-of-requires : (t : ℕ) → eval-select-lts.Need-range-of-requires (
@@ -148,7 +154,10 @@ pub eval-select-range-of-requires : (t : ℕ) → eval-select-lts.Need-range-of-
   settle-reads.Asked,
   settle-reads.Learnt,
 ) (eval-select-at t) eval-select.Post
-eval-select-range-of-requires t c κs = ?
+eval-select-range-of-requires t c κs =
+    let a = c .before .before .before .before .before .before in
+    let b = a .before .before .before .before .before in
+    range-good (b .pre .1 .0) (b .pre .1 .1) (a .before .before .field .ensures) (evaluated-as refl (c .before .before .at .given .1) (a .eval-expr .ensures))
 
 -- src/lib.rt:476:30
 pub eval-select-enum-told : (t : ℕ) → eval-select-lts.Need-enum-told (
@@ -163,7 +172,7 @@ pub eval-select-enum-told : (t : ℕ) → eval-select-lts.Need-enum-told (
   settle-reads.Asked,
   settle-reads.Learnt,
 ) (eval-select-at t) eval-select.Post
-eval-select-enum-told t c = ?
+eval-select-enum-told t c = search needs
 
 -- src/lib.rt:477:24
 pub eval-select-enum-known-count : (t : ℕ) → eval-select-lts.Need-enum-known-count (
@@ -178,7 +187,7 @@ pub eval-select-enum-known-count : (t : ℕ) → eval-select-lts.Need-enum-known
   settle-reads.Asked,
   settle-reads.Learnt,
 ) (eval-select-at t) eval-select.Post
-eval-select-enum-known-count t c = ?
+eval-select-enum-known-count t c = search needs
 
 -- src/lib.rt:478:68
 pub eval-select-add-each-chosen : (t : ℕ) → eval-select-lts.Need-add-each-chosen (
@@ -193,7 +202,14 @@ pub eval-select-add-each-chosen : (t : ℕ) → eval-select-lts.Need-add-each-ch
   settle-reads.Asked,
   settle-reads.Learnt,
 ) (eval-select-at t) eval-select.Post
-eval-select-add-each-chosen t c = ?
+eval-select-add-each-chosen t c =
+    let g = c .before .before .before .before .before .before .before in
+    let a = g .before .before .before .before in
+    let b = a .before .before .before .before .before in
+    omega (
+      arith,
+      range-low (b .pre .1 .0) (b .pre .1 .1) (a .before .before .field .ensures) (evaluated-as refl (g .at .given .1) (a .eval-expr .ensures)),
+    )
 
 -- src/lib.rt:478:23
 pub eval-select-each-chosen-requires : (t : ℕ) → eval-select-lts.Need-each-chosen-requires (
@@ -208,7 +224,15 @@ pub eval-select-each-chosen-requires : (t : ℕ) → eval-select-lts.Need-each-c
   settle-reads.Asked,
   settle-reads.Learnt,
 ) (eval-select-at t) eval-select.Post
-eval-select-each-chosen-requires t c κs = ?
+eval-select-each-chosen-requires t c κs =
+    let n = c .before .before in
+    let g = n .before .before .before .before .before in
+    let a = g .before .before .before .before in
+    let b = a .before .before .before .before .before in (
+      omega (arith, b .pre .0),
+      select-each (b .pre .1 .0) (b .pre .1 .1) (a .before .before .field .ensures) (evaluated-as refl (g .at .given .1) (a .eval-expr .ensures))
+          (range-as (n .count .given .1) (n .before .before .range-of .ensures)),
+    )
 
 -- src/lib.rt:479:37
 pub eval-select-enum-known-k-2 : (t : ℕ) → eval-select-lts.Need-enum-known-k-2 (
@@ -223,7 +247,7 @@ pub eval-select-enum-known-k-2 : (t : ℕ) → eval-select-lts.Need-enum-known-k
   settle-reads.Asked,
   settle-reads.Learnt,
 ) (eval-select-at t) eval-select.Post
-eval-select-enum-known-k-2 t c = ?
+eval-select-enum-known-k-2 t c = search needs
 
 -- src/lib.rt:480:38
 pub eval-select-enum-known-end : (t : ℕ) → eval-select-lts.Need-enum-known-end (
@@ -238,7 +262,7 @@ pub eval-select-enum-known-end : (t : ℕ) → eval-select-lts.Need-enum-known-e
   settle-reads.Asked,
   settle-reads.Learnt,
 ) (eval-select-at t) eval-select.Post
-eval-select-enum-known-end t c = ?
+eval-select-enum-known-end t c = search needs
 
 -- src/lib.rt:481:25
 pub eval-select-settle-requires : (t : ℕ) → eval-select-lts.Need-settle-requires (
@@ -253,7 +277,15 @@ pub eval-select-settle-requires : (t : ℕ) → eval-select-lts.Need-settle-requ
   settle-reads.Asked,
   settle-reads.Learnt,
 ) (eval-select-at t) eval-select.Post
-eval-select-settle-requires t c κs = ?
+eval-select-settle-requires t c κs =
+    let v = c .before .before in
+    let e = v .before .before .before .before in
+    let n = e .before .before .before in
+    let g = n .before .before .before .before .before in
+    let a = g .before .before .before .before in
+    let b = a .before .before .before .before .before in
+    select-settles (b .pre .1 .0) (b .pre .1 .1) (a .before .before .field .ensures) (evaluated-as refl (g .at .given .1) (a .eval-expr .ensures))
+    (range-as (n .count .given .1) (n .before .before .range-of .ensures)) (chosen-as (v .end .given .1) (e .each-chosen .ensures))
 
 -- src/lib.rt:458:1
 pub eval-select-same-length : (t : ℕ) → eval-select-lts.Need-same-length (
@@ -268,7 +300,7 @@ pub eval-select-same-length : (t : ℕ) → eval-select-lts.Need-same-length (
   settle-reads.Asked,
   settle-reads.Learnt,
 ) (eval-select-at t) eval-select.Post
-eval-select-same-length t c = ?
+eval-select-same-length t c = search needs
 
 -- src/lib.rt:458:1
 pub eval-select-returns : (t : ℕ) → eval-select-lts.Need-returns (
@@ -283,7 +315,10 @@ pub eval-select-returns : (t : ℕ) → eval-select-lts.Need-returns (
   settle-reads.Asked,
   settle-reads.Learnt,
 ) (eval-select-at t) eval-select.Post
-eval-select-returns t c = ?
+eval-select-returns t c =
+    let a = c .before .before .before .before .before in
+    let b = a .before .before .before .before .before in
+    select-fails (b .pre .1 .0) (b .pre .1 .1) (a .before .before .field .ensures) (evaluated-as refl (c .before .k .given .1) (a .eval-expr .ensures))
 
 -- src/lib.rt:458:1
 pub eval-select-same-length-2 : (t : ℕ) → eval-select-lts.Need-same-length-2 (
@@ -298,7 +333,7 @@ pub eval-select-same-length-2 : (t : ℕ) → eval-select-lts.Need-same-length-2
   settle-reads.Asked,
   settle-reads.Learnt,
 ) (eval-select-at t) eval-select.Post
-eval-select-same-length-2 t c = ?
+eval-select-same-length-2 t c = search needs
 
 -- src/lib.rt:458:1
 pub eval-select-returns-2 : (t : ℕ) → eval-select-lts.Need-returns-2 (
@@ -313,7 +348,12 @@ pub eval-select-returns-2 : (t : ℕ) → eval-select-lts.Need-returns-2 (
   settle-reads.Asked,
   settle-reads.Learnt,
 ) (eval-select-at t) eval-select.Post
-eval-select-returns-2 t c = ?
+eval-select-returns-2 t c =
+    let g = c .before .before .before .before .before in
+    let a = g .before .before .before .before in
+    let b = a .before .before .before .before .before in
+    range-fails (b .pre .1 .0) (b .pre .1 .1) (a .before .before .field .ensures) (evaluated-as refl (g .at .given .1) (a .eval-expr .ensures))
+    (range-as (c .enum-told .given .1) (c .before .before .range-of .ensures))
 
 -- src/lib.rt:458:1
 pub eval-select-same-length-3 : (t : ℕ) → eval-select-lts.Need-same-length-3 (
@@ -328,7 +368,7 @@ pub eval-select-same-length-3 : (t : ℕ) → eval-select-lts.Need-same-length-3
   settle-reads.Asked,
   settle-reads.Learnt,
 ) (eval-select-at t) eval-select.Post
-eval-select-same-length-3 t c = ?
+eval-select-same-length-3 t c = search needs
 
 -- src/lib.rt:458:1
 pub eval-select-returns-3 : (t : ℕ) → eval-select-lts.Need-returns-3 (
@@ -343,7 +383,14 @@ pub eval-select-returns-3 : (t : ℕ) → eval-select-lts.Need-returns-3 (
   settle-reads.Asked,
   settle-reads.Learnt,
 ) (eval-select-at t) eval-select.Post
-eval-select-returns-3 t c = ?
+eval-select-returns-3 t c =
+    let e = c .before .before .before .before .before in
+    let n = e .before .before .before in
+    let g = n .before .before .before .before .before in
+    let a = g .before .before .before .before in
+    let b = a .before .before .before .before .before in
+    chosen-fails (b .pre .1 .0) (b .pre .1 .1) (a .before .before .field .ensures) (evaluated-as refl (g .at .given .1) (a .eval-expr .ensures))
+    (range-as (n .count .given .1) (n .before .before .range-of .ensures)) (chosen-as (c .before .k2 .given .1) (e .each-chosen .ensures))
 
 -- src/lib.rt:458:1
 pub eval-select-same-length-4 : (t : ℕ) → eval-select-lts.Need-same-length-4 (
@@ -358,7 +405,7 @@ pub eval-select-same-length-4 : (t : ℕ) → eval-select-lts.Need-same-length-4
   settle-reads.Asked,
   settle-reads.Learnt,
 ) (eval-select-at t) eval-select.Post
-eval-select-same-length-4 t c = ?
+eval-select-same-length-4 t c = search needs
 
 -- src/lib.rt:458:1
 pub eval-select-returns-4 : (t : ℕ) → eval-select-lts.Need-returns-4 (
@@ -373,4 +420,13 @@ pub eval-select-returns-4 : (t : ℕ) → eval-select-lts.Need-returns-4 (
   settle-reads.Asked,
   settle-reads.Learnt,
 ) (eval-select-at t) eval-select.Post
-eval-select-returns-4 t c = ?
+eval-select-returns-4 t c =
+    let v = c .before .before .before .before .before in
+    let e = v .before .before .before .before in
+    let n = e .before .before .before in
+    let g = n .before .before .before .before .before in
+    let a = g .before .before .before .before in
+    let b = a .before .before .before .before .before in
+    select-evaluates (b .pre .1 .0) (b .pre .1 .1) (a .before .before .field .ensures) (evaluated-as refl (g .at .given .1) (a .eval-expr .ensures))
+    (range-as (n .count .given .1) (n .before .before .range-of .ensures)) (chosen-as (v .end .given .1) (e .each-chosen .ensures))
+    (c .before .before .settle .ensures)

@@ -59,6 +59,7 @@ use Rattle.products.proofs.put_cell.Reads as put-cell-reads
 use Rattle.table.proofs.field.Reads as field-reads
 use Rattle.table.proofs.kind.Reads as kind-reads
 use Rattle.evaluate.proofs.+each_chosen+each_member+eval_bool+eval_both+eval_expr+eval_join+eval_not+eval_one+eval_pred+eval_quant+eval_select+eval_test+eval_two.Proof.Base.{μ-each-chosen, μ-each-member, μ-eval-bool, μ-eval-both, μ-eval-expr, μ-eval-join, μ-eval-not, μ-eval-one, μ-eval-pred, μ-eval-quant, μ-eval-select, μ-eval-test, μ-eval-two, each-chosen-at, each-chosen-below, each-member-at, each-member-below, eval-bool-at, eval-bool-below, eval-both-at, eval-both-below, eval-expr-at, eval-expr-below, eval-join-at, eval-join-below, eval-not-at, eval-not-below, eval-one-at, eval-one-below, eval-pred-at, eval-pred-below, eval-quant-at, eval-quant-below, eval-select-at, eval-select-below, eval-test-at, eval-test-below, eval-two-at, eval-two-below}
+use Rattle.evaluate.proofs.FormLaws.{ready-on, both-as, two-fields, two-fails, two-ready, two-settles, two-evaluates}
 
 -- src/lib.rt:448:53
 pub eval-two-add-eval-both : (t : ℕ) → eval-two-lts.Need-add-eval-both (
@@ -69,7 +70,7 @@ pub eval-two-add-eval-both : (t : ℕ) → eval-two-lts.Need-add-eval-both (
   settle-reads.Asked,
   settle-reads.Learnt,
 ) (eval-two-at t) eval-two.Post
-eval-two-add-eval-both t c = ?
+eval-two-add-eval-both t c = search needs
 
 -- src/lib.rt:448:11
 pub eval-two-eval-both-requires : (t : ℕ) → eval-two-lts.Need-eval-both-requires (
@@ -80,7 +81,11 @@ pub eval-two-eval-both-requires : (t : ℕ) → eval-two-lts.Need-eval-both-requ
   settle-reads.Asked,
   settle-reads.Learnt,
 ) (eval-two-at t) eval-two.Post
-eval-two-eval-both-requires t c κs = ?
+eval-two-eval-both-requires t c κs =
+    let b = c .before .before .before in (
+      omega (arith, b .pre .0),
+      (ready-on _ (b .pre .1 .0 .ready) (omega (arith, b .pre .1 .0 .spent)), two-fields (b .pre .1 .0) (b .pre .1 .1 .0) (b .pre .1 .1 .1)),
+    )
 
 -- src/lib.rt:449:26
 pub eval-two-enum-known-k : (t : ℕ) → eval-two-lts.Need-enum-known-k (
@@ -91,7 +96,7 @@ pub eval-two-enum-known-k : (t : ℕ) → eval-two-lts.Need-enum-known-k (
   settle-reads.Asked,
   settle-reads.Learnt,
 ) (eval-two-at t) eval-two.Post
-eval-two-enum-known-k t c = ?
+eval-two-enum-known-k t c = search needs
 
 -- src/lib.rt:450:24
 pub eval-two-enum-known-a : (t : ℕ) → eval-two-lts.Need-enum-known-a (
@@ -102,7 +107,7 @@ pub eval-two-enum-known-a : (t : ℕ) → eval-two-lts.Need-enum-known-a (
   settle-reads.Asked,
   settle-reads.Learnt,
 ) (eval-two-at t) eval-two.Post
-eval-two-enum-known-a t c = ?
+eval-two-enum-known-a t c = search needs
 
 -- src/lib.rt:451:17
 pub eval-two-two-requires : (t : ℕ) → eval-two-lts.Need-two-requires (
@@ -113,7 +118,12 @@ pub eval-two-two-requires : (t : ℕ) → eval-two-lts.Need-two-requires (
   settle-reads.Asked,
   settle-reads.Learnt,
 ) (eval-two-at t) eval-two.Post
-eval-two-two-requires t c κs = ?
+eval-two-two-requires t c κs =
+    let a = c .before .before .before .before .before .before in
+    let b = a .before .before .before .before in (
+      b .pre .1 .1,
+      two-ready (b .pre .1 .0) (b .pre .1 .1 .0) (b .pre .1 .1 .1) (both-as (c .before .before .a .given .1) (a .eval-both .ensures)),
+    )
 
 -- src/lib.rt:452:13
 pub eval-two-settle-requires : (t : ℕ) → eval-two-lts.Need-settle-requires (
@@ -124,7 +134,11 @@ pub eval-two-settle-requires : (t : ℕ) → eval-two-lts.Need-settle-requires (
   settle-reads.Asked,
   settle-reads.Learnt,
 ) (eval-two-at t) eval-two.Post
-eval-two-settle-requires t c κs = ?
+eval-two-settle-requires t c κs =
+    let g = c .before .before .before .before .before .before in
+    let a = g .before .before .before .before in
+    let b = a .before .before .before .before in
+    two-settles (b .pre .1 .0) (b .pre .1 .1 .0) (b .pre .1 .1 .1) (both-as (g .a .given .1) (a .eval-both .ensures)) (c .before .before .before .two .ensures)
 
 -- src/lib.rt:434:1
 pub eval-two-same-length : (t : ℕ) → eval-two-lts.Need-same-length (
@@ -135,7 +149,7 @@ pub eval-two-same-length : (t : ℕ) → eval-two-lts.Need-same-length (
   settle-reads.Asked,
   settle-reads.Learnt,
 ) (eval-two-at t) eval-two.Post
-eval-two-same-length t c = ?
+eval-two-same-length t c = search needs
 
 -- src/lib.rt:434:1
 pub eval-two-returns : (t : ℕ) → eval-two-lts.Need-returns (
@@ -146,7 +160,10 @@ pub eval-two-returns : (t : ℕ) → eval-two-lts.Need-returns (
   settle-reads.Asked,
   settle-reads.Learnt,
 ) (eval-two-at t) eval-two.Post
-eval-two-returns t c = ?
+eval-two-returns t c =
+    let a = c .before .before .before .before .before in
+    let b = a .before .before .before .before in
+    two-fails (b .pre .1 .0) (b .pre .1 .1 .0) (b .pre .1 .1 .1) (both-as (c .before .k .given .1) (a .eval-both .ensures))
 
 -- src/lib.rt:434:1
 pub eval-two-same-length-2 : (t : ℕ) → eval-two-lts.Need-same-length-2 (
@@ -157,7 +174,7 @@ pub eval-two-same-length-2 : (t : ℕ) → eval-two-lts.Need-same-length-2 (
   settle-reads.Asked,
   settle-reads.Learnt,
 ) (eval-two-at t) eval-two.Post
-eval-two-same-length-2 t c = ?
+eval-two-same-length-2 t c = search needs
 
 -- src/lib.rt:434:1
 pub eval-two-returns-2 : (t : ℕ) → eval-two-lts.Need-returns-2 (
@@ -168,4 +185,10 @@ pub eval-two-returns-2 : (t : ℕ) → eval-two-lts.Need-returns-2 (
   settle-reads.Asked,
   settle-reads.Learnt,
 ) (eval-two-at t) eval-two.Post
-eval-two-returns-2 t c = ?
+eval-two-returns-2 t c =
+    let o = c .before .before .before .before .before .before in
+    let g = o .before .before .before in
+    let a = g .before .before .before .before in
+    let b = a .before .before .before .before in
+    two-evaluates (b .pre .1 .0) (b .pre .1 .1 .0) (b .pre .1 .1 .1)
+    (both-as (g .a .given .1) (a .eval-both .ensures)) (o .two .ensures) (c .before .before .settle .ensures)
