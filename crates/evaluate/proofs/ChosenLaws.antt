@@ -1,25 +1,33 @@
 -- The members that a comprehension chooses: its run member by member, and the set that is built of them.
-use Prim.Native.Nat.{ℕ, zero, suc, _+_, _-_, _≤_, _<_}
+use Prim.Native.Nat.{ℕ, zero, suc, _+_, _*_, _-_, _≤_, _<_}
 use mathlib.Core.Bool.{Bool, true, false, cond}
 use mathlib.Core.List.{List, [], _∷_, _++_, append-assoc, append-nil}
 use mathlib.Core.Path.{_≡_, refl, sym, ap, _∙_, subst}
 use native.Mathlib.Omega.{arith}
-use lib.ListN.{length, getD, set as setAt}
+use lib.ListN.{length, getD, set as setAt, length-set}
+use lib.Seq.{getD-set-other}
 use mir.Val.{boolByte}
 use Rattle.rules.specs.Values.{Value, Values, none, _▸_, members, values, count, weight, weights}
 use Rattle.rules.specs.Ends.{done, refused}
 use Rattle.rules.specs.Runs.{M, return, _>>=_}
-use Rattle.rules.specs.Operations.{Env, setOf, _with_≔_}
+use Rattle.rules.specs.Tables.{tableOf, nodeAt}
+use Rattle.rules.specs.Operations.{Env, _with_≔_}
 use Rattle.rules.specs.Evaluation.{select}
-use Rattle.arena.specs.Code.{code, codes, Stands, ValuesAt, Same, Made, Copied}
+use Rattle.arena.specs.Code.{code, codes, Stands, ValuesAt, Same, SomeAt, EndsAt}
 use Rattle.arena.proofs.CodeLaws.{length-code, length-codes}
-use Rattle.arena.proofs.Standing.{stands-append, stands-frame, same-refl, same-trans, copied-stands, count-weights}
+use Rattle.arena.proofs.Standing.{stands-append, stands-frame, same-refl, same-trans, copied-stands, count-weights, weight-pos}
 use Rattle.products.proofs.GrowLaws.{codes-append, count-append, weights-append, made-set}
 use Rattle.operations.specs.Good.{GoodAt}
+use Rattle.operations.proofs.GoodLaws.{good-fits}
+use Rattle.evaluate.specs.declared.Held.{Held}
+use Rattle.evaluate.specs.declared.Held.the-variants.{Truth, Refused}
+use Rattle.evaluate.specs.declared.Formed.the-variants.{Value as Placed, Stopped}
 use Rattle.evaluate.specs.Answers.{Ends, Listed, SelectedAs}
-use Rattle.evaluate.specs.Nodes.{Chooses}
+use Rattle.evaluate.specs.Nodes.{IsPred, ChooseReady, Chooses}
+use Rattle.evaluate.specs.Cycle.{Binds, Ready, bodyAt, EvaluatesP, EachReady, EvaluatesChosen}
 use Rattle.evaluate.proofs.RunLaws.{then-done, then-refused, returns}
-use Rattle.evaluate.proofs.BodyLaws.{First, first-member, listed-frame, none-left}
+use Rattle.evaluate.proofs.NodeLaws.{sizes-small, binds-frame, good-frame}
+use Rattle.evaluate.proofs.BodyLaws.{Inner, inner-start, inner-set, binds-body, First, first-member, listed-frame, none-left}
 
 -- What a member adds to those chosen.
 abbrev pub picked : Bool → Value → List Value
@@ -175,3 +183,133 @@ module _ {g : Value → M Bool} {whole : List Value} {steps : ℕ} {gs s : List 
         stands = l .1;
         ending = l .0;
       }
+
+-- Before each turn of the loop.
+pub record Choosing (bs env s₀ : List ℕ) (top n from count steps budget : ℕ) (s inner : List ℕ) (at left m to chosen : ℕ) : Type 0 where
+  pub frame : Same top s₀ s
+  pub within : m ≤ budget
+  pub entries : Inner env inner (nodeAt (tableOf bs .nodes) n .a)
+  pub on : (f : ℕ) (ρ : Env) (vs : Values) → n ≤ f → Binds (tableOf bs .sizes) s₀ top env ρ → Listed (tableOf bs .sizes) s₀ top from count vs →
+      Selecting (bodyAt bs budget n f ρ) (members vs) steps (tableOf bs .sizes) s top at left m to chosen
+
+module _ {bs : List ℕ} {base : ℕ} {env s₀ : List ℕ} {top n from count steps budget : ℕ} (pre : EachReady bs base env s₀ top n from count steps budget) where
+  pub choosing-start : Choosing bs env s₀ top n from count steps budget s₀ env from count steps (top + 1) 0
+  choosing-start = record {
+    frame = same-refl top s₀;
+    within = pre .ready .unspent;
+    entries = inner-start env (nodeAt (tableOf bs .nodes) n .a) (pre .ready .entries);
+    on = λ f ρ vs d b l.
+        selecting-start (bodyAt bs budget n f ρ) steps (tableOf bs .sizes) s₀ top from count vs (omega (arith, pre .space)) l;
+  }
+
+  module _ {s inner : List ℕ} {at left m to chosen : ℕ} (h : Choosing bs env s₀ top n from count steps budget s inner at left m to chosen) where
+    -- The run of which the contract speaks.
+    abbrev one : Selecting (bodyAt bs budget n n (pre .ready .values)) (members (pre .range)) steps (tableOf bs .sizes) s top at left m to chosen
+    one = h .on n (pre .ready .values) (pre .range) (omega arith) (pre .ready .binds) (pre .listed)
+
+    pub choosing-near : (top + 1 ≤ to) × (to ≤ top + 256) × (chosen ≤ 255)
+    choosing-near = selecting-near one
+
+    pub choosing-few : (b : Bool) → chosen + boolByte b < 18446744073709551616
+    choosing-few true = omega (arith, choosing-near .2)
+    choosing-few false = omega (arith, choosing-near .2)
+
+    -- No member is left.
+    pub choosing-end : left ≡ 0 → EvaluatesChosen bs env s₀ top n from count steps budget (setAt s top (21474836480 + chosen)) (Placed top to m)
+    choosing-end z = record {
+      frame = record {
+        same = λ i p. getD-set-other s top i (21474836480 + chosen) 0 (λ e. omega arith) ∙ h .frame .same i p;
+        kept = length-set s top (21474836480 + chosen) ∙ h .frame .kept;
+      };
+      bounds = (omega (arith, choosing-near .0), choosing-near .1, h .within);
+      answer = λ f ρ vs d b l. selecting-end (h .on f ρ vs d b l) z (omega (arith, pre .space, h .frame .kept));
+    }
+
+    module _ (more : 0 < left) where
+      -- The next member is a good value.
+      abbrev member : First (tableOf bs .sizes) s top at left (one .rest)
+      member = selecting-member one more
+
+      pub choosing-below : at < top
+      choosing-below = omega (arith, member .here .below, weight-pos (member .value))
+
+      -- The environment of the body at the next member.
+      inside : (f : ℕ) (ρ : Env) (vs : Values) (d : n ≤ f) (b : Binds (tableOf bs .sizes) s₀ top env ρ) (l : Listed (tableOf bs .sizes) s₀ top from count vs) →
+          Binds (tableOf bs .sizes) s to (setAt inner (nodeAt (tableOf bs .nodes) n .a) at)
+          (ρ with nodeAt (tableOf bs .nodes) n .a ≔ selecting-member (h .on f ρ vs d b l) more .value)
+      inside f ρ vs d b l =
+          let u = selecting-member (h .on f ρ vs d b l) more in
+          binds-body (h .entries) (pre .name) (binds-frame to (h .frame) (omega (arith, choosing-near .0)) b)
+          (record { stands = u .here .stands; below = omega (arith, u .here .below, choosing-near .0); good = u .here .good })
+
+      -- The identifier x and the body c, as they have been read off the node.
+      module _ {x c : ℕ} (name : x ≡ nodeAt (tableOf bs .nodes) n .a) (body : c ≡ nodeAt (tableOf bs .nodes) n .c) where
+        pub choosing-ready : Ready bs base (setAt inner x at) s to c m budget × IsPred bs c
+        choosing-ready = rw (name, body) (
+          record {
+            readable = pre .ready .readable;
+            offset = pre .ready .offset;
+            node = pre .ready .node;
+            unspent = h .within;
+            room = omega (arith, pre .space, choosing-near .1, h .frame .kept);
+            small = omega (arith, pre .ready .small, h .frame .kept);
+            entries = inner-set at (h .entries) .long;
+            values = pre .ready .values with nodeAt (tableOf bs .nodes) n .a ≔ member .value;
+            binds = inside n (pre .ready .values) (pre .range) (omega arith) (pre .ready .binds) (pre .listed);
+          },
+          pre .is,
+        )
+
+        module _ {s₁ : List ℕ} {r : Held} (e : EvaluatesP bs (setAt inner x at) s to c m budget s₁ r) where
+          -- What the body answers at the member.
+          abbrev answer : {r′ : Held} → r ≡ r′ → EvaluatesP bs (setAt inner (nodeAt (tableOf bs .nodes) n .a) at) s to (nodeAt (tableOf bs .nodes) n .c) m budget s₁ r′
+          answer is = rw (name, body, is) at e
+
+          -- It is refused.
+          pub choosing-refused : {k p t : ℕ} → r ≡ Refused k p t → EvaluatesChosen bs env s₀ top n from count steps budget s₁ (Stopped k p t)
+          choosing-refused is = record {
+            frame = same-trans top to s₀ s s₁ (h .frame) (e .frame) (omega (arith, choosing-near .0));
+            bounds = answer is .bounds;
+            answer = λ f ρ vs d b l. selecting-refused (h .on f ρ vs d b l) more (answer is .answer f _ (omega (arith, pre .deeper)) (inside f ρ vs d b l));
+          }
+
+          -- It is true or false, and the member stands as before.
+          stays : (v : Value) → GoodAt (tableOf bs .sizes) s top at v → GoodAt (tableOf bs .sizes) s₁ top at v
+          stays v g = good-frame (record { same = λ i p. e .frame .same i (omega (arith, choosing-near .0)); kept = e .frame .kept }) g
+
+          pub choosing-some : SomeAt s₁ at
+          choosing-some =
+              let u = member in
+              record {
+                value = u .value;
+                stands = stays (u .value) (u .here) .stands;
+                fits = good-fits (sizes-small bs (pre .ready .readable)) (u .value) (u .here .good);
+              }
+
+          module _ {end : ℕ} (ends : EndsAt s₁ at end) where
+            -- where the member ends
+            ends-at : (v : Value) → GoodAt (tableOf bs .sizes) s top at v → end ≡ at + weight v
+            ends-at v g = ends v (stays v g .stands) (good-fits (sizes-small bs (pre .ready .readable)) v (g .good))
+
+            pub choosing-choose : ChooseReady s₁ at end to
+            choosing-choose =
+                let u = member in
+                let q = ends-at (u .value) (u .here) in
+                record {
+                  forward = omega arith;
+                  behind = omega (arith, u .here .below, choosing-near .0);
+                  room = omega (arith, pre .space, choosing-near .1, h .frame .kept, e .frame .kept, one .light, ap weights (u .is));
+                }
+
+            pub choosing-next : {yes : Bool} {t : ℕ} {s₂ : List ℕ} {q : ℕ} → r ≡ Truth yes t → Chooses s₁ at end yes to s₂ q →
+                Choosing bs env s₀ top n from count steps budget s₂ (setAt inner x at) end (left - 1) t q (chosen + boolByte yes)
+            choosing-next {yes} {t} {s₂} {q} is k = record {
+              frame = same-trans top to s₀ s s₂ (h .frame) (same-trans to to s s₁ s₂ (e .frame) (k .frame) (omega arith)) (omega (arith, choosing-near .0));
+              within = answer is .bounds;
+              entries = rw name (inner-set at (h .entries));
+              on = λ f ρ vs d b l.
+                  let y = h .on f ρ vs d b l in
+                  let u = selecting-member y more in
+                  selecting-turn y more s₁ end yes t s₂ q (omega (arith, pre .space, choosing-near .1, h .frame .kept)) (e .frame)
+                  (ends-at (u .value) (u .here)) (answer is .answer f _ (omega (arith, pre .deeper)) (inside f ρ vs d b l)) k;
+            }
