@@ -1,10 +1,10 @@
 -- The members that a comprehension chooses: its run member by member, and the set that is built of them.
-use Prim.Native.Nat.{ℕ, zero, suc, _+_, _*_, _-_, _≤_, _<_}
+use Prim.Native.Nat.{ℕ, _+_, _-_, _≤_, _<_}
 use mathlib.Core.Bool.{Bool, true, false, cond}
 use mathlib.Core.List.{List, [], _∷_, _++_, append-assoc, append-nil}
 use mathlib.Core.Path.{_≡_, refl, sym, ap, _∙_, subst}
 use native.Mathlib.Omega.{arith}
-use lib.ListN.{length, getD, set as setAt, length-set}
+use lib.ListN.{length, set as setAt, length-set}
 use lib.Seq.{getD-set-other}
 use mir.Val.{boolByte}
 use Rattle.rules.specs.Values.{Value, Values, none, _▸_, members, values, count, weight, weights}
@@ -40,30 +40,26 @@ module _ (g : Value → M Bool) where
   select-none m = returns [] m
 
   module _ (v : Value) (vs : List Value) (m : ℕ) where
-    -- The body is refused at a member.
+    -- What follows the body at the first member.
+    abbrev onward : Bool → M (List Value)
+    onward b = select g vs >>= λ ws. elim b [ true ↦ return (v ∷ ws) | false ↦ return ws ]
+
+    -- The body is refused there.
     pub select-refused : {k p t : ℕ} → Ends (g v m) (refused k p) t → Ends (select g (v ∷ vs) m) (refused k p) t
     unfolding select
-    select-refused h = then-refused (g v) (λ b. select g vs >>= λ ws. elim b [ true ↦ return (v ∷ ws) | false ↦ return ws ]) m h
+    select-refused h = then-refused (g v) onward m h
 
-    -- The body ends at a member, and the run goes on to the others.
+    -- It ends there, and the run goes on to the other members.
     pub select-on : (b : Bool) {t : ℕ} {ws : List Value} {u : ℕ} → Ends (g v m) (done b) t → Ends (select g vs t) (done ws) u →
         Ends (select g (v ∷ vs) m) (done (picked b v ++ ws)) u
     unfolding select
-    select-on true {t} {ws} {u} h k =
-        then-done (g v) (λ b. select g vs >>= λ ws. elim b [ true ↦ return (v ∷ ws) | false ↦ return ws ]) m h
-        (then-done (select g vs) (λ ws. return (v ∷ ws)) t k (returns (v ∷ ws) u))
-    select-on false {t} {ws} {u} h k =
-        then-done (g v) (λ b. select g vs >>= λ ws. elim b [ true ↦ return (v ∷ ws) | false ↦ return ws ]) m h
-        (then-done (select g vs) (λ ws. return ws) t k (returns ws u))
+    select-on true {t} {ws} {u} h k = then-done (g v) onward m h (then-done (select g vs) (λ ws. return (v ∷ ws)) t k (returns (v ∷ ws) u))
+    select-on false {t} {ws} {u} h k = then-done (g v) onward m h (then-done (select g vs) (λ ws. return ws) t k (returns ws u))
 
     pub select-stops : (b : Bool) {t k p u : ℕ} → Ends (g v m) (done b) t → Ends (select g vs t) (refused k p) u → Ends (select g (v ∷ vs) m) (refused k p) u
     unfolding select
-    select-stops true {t} h k =
-        then-done (g v) (λ b. select g vs >>= λ ws. elim b [ true ↦ return (v ∷ ws) | false ↦ return ws ]) m h
-        (then-refused (select g vs) (λ ws. return (v ∷ ws)) t k)
-    select-stops false {t} h k =
-        then-done (g v) (λ b. select g vs >>= λ ws. elim b [ true ↦ return (v ∷ ws) | false ↦ return ws ]) m h
-        (then-refused (select g vs) (λ ws. return ws) t k)
+    select-stops true {t} h k = then-done (g v) onward m h (then-refused (select g vs) (λ ws. return (v ∷ ws)) t k)
+    select-stops false {t} h k = then-done (g v) onward m h (then-refused (select g vs) (λ ws. return ws) t k)
 
 -- The members chosen stand from top + 1 up to `to`, the others from `at` on, and the whole run ends as the rest of it does.
 pub record Selecting (g : Value → M Bool) (whole : List Value) (steps : ℕ) (gs s : List ℕ) (top at left m to chosen : ℕ) : Type 0 where
