@@ -3,3 +3,5 @@ pub mod RunLaws
 pub mod NodeLaws
 pub mod DispatchLaws
 pub mod FormLaws
+pub mod BodyLaws
+pub mod ChosenLaws

@@ -44,6 +44,7 @@ use Rattle.evaluate.proofs.+each_chosen+each_member+eval_bool+eval_both
 use Rattle.evaluate.proofs.eval_two.Reads as eval-two
 use Rattle.evaluate.proofs.eval_two.Kinds as eval-two-kinds
 use Rattle.evaluate.proofs.+each_chosen+each_member+eval_bool+eval_both+eval_expr+eval_join+eval_not+eval_one+eval_pred+eval_quant+eval_select+eval_test+eval_two.Lts-eval_two as eval-two-lts
+use Rattle.evaluate.proofs.ChosenLaws.{Choosing, choosing-start, choosing-near, choosing-few, choosing-end, choosing-below, choosing-ready, choosing-refused, choosing-some, choosing-choose, choosing-next}
 use Rattle.arena.proofs.end_of.Reads as end-of-reads
 use Rattle.evaluate.proofs.choose.Reads as choose-reads
 use Rattle.evaluate.proofs.decides.Reads as decides-reads
@@ -62,11 +63,11 @@ use Rattle.evaluate.proofs.+each_chosen+each_member+eval_bool+eval_both
 
 abbrev pub each-chosen-Inv-loop : each-chosen-lts.InvT-loop
 each-chosen-Inv-loop table base env s₀ top node from count steps budget x body inner₀ at₀ left₀ n₀ to₀ chosen₀ s inner at left n to chosen =
-    ?
+    Choosing table env s₀ top node from count steps budget s inner at left n to chosen
 
 abbrev pub each-chosen-μ-loop : each-chosen-lts.MeasureT-loop
 each-chosen-μ-loop table base env s₀ top node from count steps budget x body inner₀ at₀ left₀ n₀ to₀ chosen₀ s inner at left n to chosen =
-    ?
+    left
 
 -- src/lib.rt:514:9
 pub each-chosen-field-requires : (t : ℕ) → each-chosen-lts.Need-field-requires (
@@ -79,7 +80,7 @@ pub each-chosen-field-requires : (t : ℕ) → each-chosen-lts.Need-field-requir
   choose-reads.Asked,
   choose-reads.Learnt,
 ) (each-chosen-at t) each-chosen.Post each-chosen-Inv-loop each-chosen-μ-loop
-each-chosen-field-requires t c κs = ?
+each-chosen-field-requires t c κs = search needs
 
 -- src/lib.rt:515:9
 pub each-chosen-field-requires-2 : (t : ℕ) → each-chosen-lts.Need-field-requires-2 (
@@ -92,7 +93,7 @@ pub each-chosen-field-requires-2 : (t : ℕ) → each-chosen-lts.Need-field-requ
   choose-reads.Asked,
   choose-reads.Learnt,
 ) (each-chosen-at t) each-chosen.Post each-chosen-Inv-loop each-chosen-μ-loop
-each-chosen-field-requires-2 t c κs = ?
+each-chosen-field-requires-2 t c κs = search needs
 
 -- src/lib.rt:520:18
 pub each-chosen-add-to : (t : ℕ) → each-chosen-lts.Need-add-to (
@@ -105,7 +106,7 @@ pub each-chosen-add-to : (t : ℕ) → each-chosen-lts.Need-add-to (
   choose-reads.Asked,
   choose-reads.Learnt,
 ) (each-chosen-at t) each-chosen.Post each-chosen-Inv-loop each-chosen-μ-loop
-each-chosen-add-to t c = ?
+each-chosen-add-to t c = search needs
 
 -- src/lib.rt:522:5
 pub each-chosen-loop-holds : (t : ℕ) → each-chosen-lts.Need-loop-holds (
@@ -118,7 +119,7 @@ pub each-chosen-loop-holds : (t : ℕ) → each-chosen-lts.Need-loop-holds (
   choose-reads.Asked,
   choose-reads.Learnt,
 ) (each-chosen-at t) each-chosen.Post each-chosen-Inv-loop each-chosen-μ-loop
-each-chosen-loop-holds t c = ?
+each-chosen-loop-holds t c = choosing-start (c .before .before .before .before .before .pre .1)
 
 -- src/lib.rt:523:20
 pub each-chosen-cast-inner : (t : ℕ) → each-chosen-lts.Need-cast-inner (
@@ -131,7 +132,10 @@ pub each-chosen-cast-inner : (t : ℕ) → each-chosen-lts.Need-cast-inner (
   choose-reads.Asked,
   choose-reads.Learnt,
 ) (each-chosen-at t) each-chosen.Post each-chosen-Inv-loop each-chosen-μ-loop
-each-chosen-cast-inner t c = ?
+each-chosen-cast-inner t c =
+    let start = c .before .before .before .before .before .before .before .pre .1 in
+    let inv = c .before .loop .inv in
+    omega (arith, choosing-below start inv (omega (arith, c .loop-test .taken)), start .space, start .ready .small)
 
 -- src/lib.rt:523:9
 pub each-chosen-mul-inner : (t : ℕ) → each-chosen-lts.Need-mul-inner (
@@ -144,7 +148,7 @@ pub each-chosen-mul-inner : (t : ℕ) → each-chosen-lts.Need-mul-inner (
   choose-reads.Asked,
   choose-reads.Learnt,
 ) (each-chosen-at t) each-chosen.Post each-chosen-Inv-loop each-chosen-μ-loop
-each-chosen-mul-inner t c = ?
+each-chosen-mul-inner t c = search needs
 
 -- src/lib.rt:523:9
 pub each-chosen-array-write-inner : (t : ℕ) → each-chosen-lts.Need-array-write-inner (
@@ -157,7 +161,7 @@ pub each-chosen-array-write-inner : (t : ℕ) → each-chosen-lts.Need-array-wri
   choose-reads.Asked,
   choose-reads.Learnt,
 ) (each-chosen-at t) each-chosen.Post each-chosen-Inv-loop each-chosen-μ-loop
-each-chosen-array-write-inner t c = ?
+each-chosen-array-write-inner t c = search needs
 
 -- src/lib.rt:524:15
 pub each-chosen-eval-pred-requires : (t : ℕ) → each-chosen-lts.Need-eval-pred-requires (
@@ -170,7 +174,12 @@ pub each-chosen-eval-pred-requires : (t : ℕ) → each-chosen-lts.Need-eval-pre
   choose-reads.Asked,
   choose-reads.Learnt,
 ) (each-chosen-at t) each-chosen.Post each-chosen-Inv-loop each-chosen-μ-loop
-each-chosen-eval-pred-requires t c κs = ?
+each-chosen-eval-pred-requires t c κs =
+    let start = c .before .before .before .before .before .before .before .before .before .pre in
+    let inv = c .before .before .before .loop .inv in
+    let body = c .before .before .before .before .before .field2 .ensures in
+    let more : 0 < c .before .before .before .loop .left = omega (arith, c .before .before .loop-test .taken) in
+    (omega (arith, start .0, start .1 .deeper, body), choosing-ready (start .1) inv more (c .before .before .before .before .before .before .field .ensures) body)
 
 -- src/lib.rt:525:27
 pub each-chosen-enum-known-k : (t : ℕ) → each-chosen-lts.Need-enum-known-k (
@@ -183,7 +192,7 @@ pub each-chosen-enum-known-k : (t : ℕ) → each-chosen-lts.Need-enum-known-k (
   choose-reads.Asked,
   choose-reads.Learnt,
 ) (each-chosen-at t) each-chosen.Post each-chosen-Inv-loop each-chosen-μ-loop
-each-chosen-enum-known-k t c = ?
+each-chosen-enum-known-k t c = search needs
 
 -- src/lib.rt:526:17
 pub each-chosen-same-length : (t : ℕ) → each-chosen-lts.Need-same-length (
@@ -196,7 +205,7 @@ pub each-chosen-same-length : (t : ℕ) → each-chosen-lts.Need-same-length (
   choose-reads.Asked,
   choose-reads.Learnt,
 ) (each-chosen-at t) each-chosen.Post each-chosen-Inv-loop each-chosen-μ-loop
-each-chosen-same-length t c = ?
+each-chosen-same-length t c = search needs
 
 -- src/lib.rt:526:17
 pub each-chosen-returns : (t : ℕ) → each-chosen-lts.Need-returns (
@@ -209,7 +218,11 @@ pub each-chosen-returns : (t : ℕ) → each-chosen-lts.Need-returns (
   choose-reads.Asked,
   choose-reads.Learnt,
 ) (each-chosen-at t) each-chosen.Post each-chosen-Inv-loop each-chosen-μ-loop
-each-chosen-returns t c = ?
+each-chosen-returns t c =
+    let start = c .before .before .before .before .before .before .before .before .before .before .before .before .before .before .before .pre .1 in
+    let inv = c .before .before .before .before .before .before .before .before .before .loop .inv in
+    let more : 0 < c .before .before .before .before .before .before .before .before .before .loop .left = omega (arith, c .before .before .before .before .before .before .before .before .loop-test .taken) in
+    choosing-refused start inv more (c .before .before .before .before .before .before .before .before .before .before .before .before .field .ensures) (c .before .before .before .before .before .before .before .before .before .before .before .field2 .ensures) (c .before .before .before .before .before .eval-pred .ensures) (c .before .k .given .1)
 
 -- src/lib.rt:528:25
 pub each-chosen-enum-known-yes : (t : ℕ) → each-chosen-lts.Need-enum-known-yes (
@@ -222,7 +235,7 @@ pub each-chosen-enum-known-yes : (t : ℕ) → each-chosen-lts.Need-enum-known-y
   choose-reads.Asked,
   choose-reads.Learnt,
 ) (each-chosen-at t) each-chosen.Post each-chosen-Inv-loop each-chosen-μ-loop
-each-chosen-enum-known-yes t c = ?
+each-chosen-enum-known-yes t c = search needs
 
 -- src/lib.rt:530:21
 pub each-chosen-end-of-requires : (t : ℕ) → each-chosen-lts.Need-end-of-requires (
@@ -235,7 +248,11 @@ pub each-chosen-end-of-requires : (t : ℕ) → each-chosen-lts.Need-end-of-requ
   choose-reads.Asked,
   choose-reads.Learnt,
 ) (each-chosen-at t) each-chosen.Post each-chosen-Inv-loop each-chosen-μ-loop
-each-chosen-end-of-requires t c κs = ?
+each-chosen-end-of-requires t c κs =
+    let start = c .before .before .before .before .before .before .before .before .before .before .before .before .before .before .before .before .pre .1 in
+    let inv = c .before .before .before .before .before .before .before .before .before .before .loop .inv in
+    let more : 0 < c .before .before .before .before .before .before .before .before .before .before .loop .left = omega (arith, c .before .before .before .before .before .before .before .before .before .loop-test .taken) in
+    choosing-some start inv more (c .before .before .before .before .before .before .before .before .before .before .before .before .before .field .ensures) (c .before .before .before .before .before .before .before .before .before .before .before .before .field2 .ensures) (c .before .before .before .before .before .before .eval-pred .ensures)
 
 -- src/lib.rt:531:17
 pub each-chosen-choose-requires : (t : ℕ) → each-chosen-lts.Need-choose-requires (
@@ -248,7 +265,11 @@ pub each-chosen-choose-requires : (t : ℕ) → each-chosen-lts.Need-choose-requ
   choose-reads.Asked,
   choose-reads.Learnt,
 ) (each-chosen-at t) each-chosen.Post each-chosen-Inv-loop each-chosen-μ-loop
-each-chosen-choose-requires t c κs = ?
+each-chosen-choose-requires t c κs =
+    let start = c .before .before .before .before .before .before .before .before .before .before .before .before .before .before .before .before .before .before .pre .1 in
+    let inv = c .before .before .before .before .before .before .before .before .before .before .before .before .loop .inv in
+    let more : 0 < c .before .before .before .before .before .before .before .before .before .before .before .before .loop .left = omega (arith, c .before .before .before .before .before .before .before .before .before .before .before .loop-test .taken) in
+    choosing-choose start inv more (c .before .before .before .before .before .before .before .before .before .before .before .before .before .before .before .field .ensures) (c .before .before .before .before .before .before .before .before .before .before .before .before .before .before .field2 .ensures) (c .before .before .before .before .before .before .before .before .eval-pred .ensures) (c .before .end-of .ensures)
 
 -- src/lib.rt:532:27
 pub each-chosen-cast-chosen : (t : ℕ) → each-chosen-lts.Need-cast-chosen (
@@ -261,7 +282,7 @@ pub each-chosen-cast-chosen : (t : ℕ) → each-chosen-lts.Need-cast-chosen (
   choose-reads.Asked,
   choose-reads.Learnt,
 ) (each-chosen-at t) each-chosen.Post each-chosen-Inv-loop each-chosen-μ-loop
-each-chosen-cast-chosen t c = ?
+each-chosen-cast-chosen t c = search needs
 
 -- src/lib.rt:532:17
 pub each-chosen-add-chosen : (t : ℕ) → each-chosen-lts.Need-add-chosen (
@@ -274,7 +295,8 @@ pub each-chosen-add-chosen : (t : ℕ) → each-chosen-lts.Need-add-chosen (
   choose-reads.Asked,
   choose-reads.Learnt,
 ) (each-chosen-at t) each-chosen.Post each-chosen-Inv-loop each-chosen-μ-loop
-each-chosen-add-chosen t c = ?
+each-chosen-add-chosen t c =
+    record { fits = choosing-few (c .before .before .before .before .before .before .before .before .before .before .before .before .before .before .before .before .before .before .before .before .before .pre .1) (c .before .before .before .before .before .before .before .before .before .before .before .before .before .before .before .loop .inv) (c .before .before .before .before .before .before .before .yes .given .0 .0) }
 
 -- src/lib.rt:536:9
 pub each-chosen-sub-left : (t : ℕ) → each-chosen-lts.Need-sub-left (
@@ -287,7 +309,7 @@ pub each-chosen-sub-left : (t : ℕ) → each-chosen-lts.Need-sub-left (
   choose-reads.Asked,
   choose-reads.Learnt,
 ) (each-chosen-at t) each-chosen.Post each-chosen-Inv-loop each-chosen-μ-loop
-each-chosen-sub-left t c = ?
+each-chosen-sub-left t c = search needs
 
 -- src/lib.rt:522:5
 pub each-chosen-loop-less : (t : ℕ) → each-chosen-lts.Need-loop-less (
@@ -300,7 +322,7 @@ pub each-chosen-loop-less : (t : ℕ) → each-chosen-lts.Need-loop-less (
   choose-reads.Asked,
   choose-reads.Learnt,
 ) (each-chosen-at t) each-chosen.Post each-chosen-Inv-loop each-chosen-μ-loop
-each-chosen-loop-less t c = ?
+each-chosen-loop-less t c = search needs
 
 -- src/lib.rt:522:5
 pub each-chosen-loop-again : (t : ℕ) → each-chosen-lts.Need-loop-again (
@@ -313,7 +335,12 @@ pub each-chosen-loop-again : (t : ℕ) → each-chosen-lts.Need-loop-again (
   choose-reads.Asked,
   choose-reads.Learnt,
 ) (each-chosen-at t) each-chosen.Post each-chosen-Inv-loop each-chosen-μ-loop
-each-chosen-loop-again t c = ?
+each-chosen-loop-again t c =
+    let start = c .before .before .before .before .before .before .before .before .before .before .before .before .before .before .before .before .before .before .before .before .before .pre .1 in
+    let inv = c .before .before .before .before .before .before .before .before .before .before .before .before .before .before .before .loop .inv in
+    let more : 0 < c .before .before .before .before .before .before .before .before .before .before .before .before .before .before .before .loop .left = omega (arith, c .before .before .before .before .before .before .before .before .before .before .before .before .before .before .loop-test .taken) in
+    choosing-next start inv more (c .before .before .before .before .before .before .before .before .before .before .before .before .before .before .before .before .before .before .field .ensures) (c .before .before .before .before .before .before .before .before .before .before .before .before .before .before .before .before .before .field2 .ensures) (c .before .before .before .before .before .before .before .before .before .before .before .eval-pred .ensures) (c .before .before .before .before .end-of .ensures) (c .before .before .before .before .before .before .before .yes .given .1)
+    (c .before .before .choose .ensures)
 
 -- src/lib.rt:538:14
 pub each-chosen-add-s : (t : ℕ) → each-chosen-lts.Need-add-s (
@@ -326,7 +353,7 @@ pub each-chosen-add-s : (t : ℕ) → each-chosen-lts.Need-add-s (
   choose-reads.Asked,
   choose-reads.Learnt,
 ) (each-chosen-at t) each-chosen.Post each-chosen-Inv-loop each-chosen-μ-loop
-each-chosen-add-s t c = ?
+each-chosen-add-s t c = omega (arith, choosing-near (c .before .before .before .before .before .before .before .pre .1) (c .before .loop .inv) .2)
 
 -- src/lib.rt:538:5
 pub each-chosen-mul-s : (t : ℕ) → each-chosen-lts.Need-mul-s (
@@ -339,7 +366,7 @@ pub each-chosen-mul-s : (t : ℕ) → each-chosen-lts.Need-mul-s (
   choose-reads.Asked,
   choose-reads.Learnt,
 ) (each-chosen-at t) each-chosen.Post each-chosen-Inv-loop each-chosen-μ-loop
-each-chosen-mul-s t c = ?
+each-chosen-mul-s t c = search needs
 
 -- src/lib.rt:538:5
 pub each-chosen-slice-write-s : (t : ℕ) → each-chosen-lts.Need-slice-write-s (
@@ -352,7 +379,7 @@ pub each-chosen-slice-write-s : (t : ℕ) → each-chosen-lts.Need-slice-write-s
   choose-reads.Asked,
   choose-reads.Learnt,
 ) (each-chosen-at t) each-chosen.Post each-chosen-Inv-loop each-chosen-μ-loop
-each-chosen-slice-write-s t c = ?
+each-chosen-slice-write-s t c = search needs
 
 -- src/lib.rt:499:1
 pub each-chosen-same-length-2 : (t : ℕ) → each-chosen-lts.Need-same-length-2 (
@@ -365,7 +392,7 @@ pub each-chosen-same-length-2 : (t : ℕ) → each-chosen-lts.Need-same-length-2
   choose-reads.Asked,
   choose-reads.Learnt,
 ) (each-chosen-at t) each-chosen.Post each-chosen-Inv-loop each-chosen-μ-loop
-each-chosen-same-length-2 t c = ?
+each-chosen-same-length-2 t c = search needs
 
 -- src/lib.rt:499:1
 pub each-chosen-returns-2 : (t : ℕ) → each-chosen-lts.Need-returns-2 (
@@ -378,4 +405,4 @@ pub each-chosen-returns-2 : (t : ℕ) → each-chosen-lts.Need-returns-2 (
   choose-reads.Asked,
   choose-reads.Learnt,
 ) (each-chosen-at t) each-chosen.Post each-chosen-Inv-loop each-chosen-μ-loop
-each-chosen-returns-2 t c = ?
+each-chosen-returns-2 t c = choosing-end (c .before .before .before .before .before .before .before .pre .1) (c .before .loop .inv) (omega (arith, c .loop-test .left))
