@@ -23,6 +23,7 @@ use Rattle.operations.specs.declared.Outcome.{Outcome}
 use Rattle.evaluate.specs.declared.Held.{Held}
 use Rattle.evaluate.specs.declared.Formed.{Formed}
 use Rattle.evaluate.specs.declared.Operands.{Operands}
+use Rattle.evaluate.specs.Nodes.{IsPred}
 use Rattle.evaluate.specs.Answers.{HeldAs, HeldBounds, FormedAs, FormedBounds, OperandsAs, OperandsBounds, Listed, ChosenAs, ChosenBounds, SettledAs}
 
 -- The values of the identifiers are good and stand where the environment says.
@@ -83,6 +84,7 @@ pub record EachReady (bs : List ℕ) (base : ℕ) (env s : List ℕ) (top n from
   pub ready : Ready bs base env s top (nodeAt (tableOf bs .nodes) n .c) steps budget
   pub binder : n < nodeCount bs
   pub deeper : nodeAt (tableOf bs .nodes) n .c < n
+  pub is : IsPred bs (nodeAt (tableOf bs .nodes) n .c)
   pub name : nodeAt (tableOf bs .nodes) n .a < 32
   pub space : top + 256 + 512 * height (tableOf bs .nodes) (nodeAt (tableOf bs .nodes) n .c) + 1026 ≤ length s
   pub range : Values
