@@ -71,7 +71,7 @@ pub eval-quant-field-requires : (t : ℕ) → eval-quant-lts.Need-field-requires
   each-member-below t,
   each-member.Post,
 ) (eval-quant-at t) eval-quant.Post
-eval-quant-field-requires t c κs = ?
+eval-quant-field-requires t c κs = search needs
 
 -- src/lib.rt:231:50
 pub eval-quant-add-eval-expr : (t : ℕ) → eval-quant-lts.Need-add-eval-expr (
@@ -84,7 +84,7 @@ pub eval-quant-add-eval-expr : (t : ℕ) → eval-quant-lts.Need-add-eval-expr (
   each-member-below t,
   each-member.Post,
 ) (eval-quant-at t) eval-quant.Post
-eval-quant-add-eval-expr t c = ?
+eval-quant-add-eval-expr t c = search needs
 
 -- src/lib.rt:231:11
 pub eval-quant-eval-expr-requires : (t : ℕ) → eval-quant-lts.Need-eval-expr-requires (
@@ -110,7 +110,7 @@ pub eval-quant-enum-known-k : (t : ℕ) → eval-quant-lts.Need-enum-known-k (
   each-member-below t,
   each-member.Post,
 ) (eval-quant-at t) eval-quant.Post
-eval-quant-enum-known-k t c = ?
+eval-quant-enum-known-k t c = search needs
 
 -- src/lib.rt:233:23
 pub eval-quant-enum-known-at : (t : ℕ) → eval-quant-lts.Need-enum-known-at (
@@ -123,7 +123,7 @@ pub eval-quant-enum-known-at : (t : ℕ) → eval-quant-lts.Need-enum-known-at (
   each-member-below t,
   each-member.Post,
 ) (eval-quant-at t) eval-quant.Post
-eval-quant-enum-known-at t c = ?
+eval-quant-enum-known-at t c = search needs
 
 -- src/lib.rt:233:45
 pub eval-quant-range-of-requires : (t : ℕ) → eval-quant-lts.Need-range-of-requires (
@@ -149,7 +149,7 @@ pub eval-quant-enum-told : (t : ℕ) → eval-quant-lts.Need-enum-told (
   each-member-below t,
   each-member.Post,
 ) (eval-quant-at t) eval-quant.Post
-eval-quant-enum-told t c = ?
+eval-quant-enum-told t c = search needs
 
 -- src/lib.rt:235:24
 pub eval-quant-enum-known-count : (t : ℕ) → eval-quant-lts.Need-enum-known-count (
@@ -162,7 +162,7 @@ pub eval-quant-enum-known-count : (t : ℕ) → eval-quant-lts.Need-enum-known-c
   each-member-below t,
   each-member.Post,
 ) (eval-quant-at t) eval-quant.Post
-eval-quant-enum-known-count t c = ?
+eval-quant-enum-known-count t c = search needs
 
 -- src/lib.rt:245:21
 pub eval-quant-add-each-member : (t : ℕ) → eval-quant-lts.Need-add-each-member (
@@ -201,7 +201,7 @@ pub eval-quant-same-length : (t : ℕ) → eval-quant-lts.Need-same-length (
   each-member-below t,
   each-member.Post,
 ) (eval-quant-at t) eval-quant.Post
-eval-quant-same-length t c = ?
+eval-quant-same-length t c = search needs
 
 -- src/lib.rt:216:1
 pub eval-quant-returns : (t : ℕ) → eval-quant-lts.Need-returns (
@@ -227,7 +227,7 @@ pub eval-quant-same-length-2 : (t : ℕ) → eval-quant-lts.Need-same-length-2 (
   each-member-below t,
   each-member.Post,
 ) (eval-quant-at t) eval-quant.Post
-eval-quant-same-length-2 t c = ?
+eval-quant-same-length-2 t c = search needs
 
 -- src/lib.rt:216:1
 pub eval-quant-returns-2 : (t : ℕ) → eval-quant-lts.Need-returns-2 (
@@ -253,7 +253,7 @@ pub eval-quant-same-length-3 : (t : ℕ) → eval-quant-lts.Need-same-length-3 (
   each-member-below t,
   each-member.Post,
 ) (eval-quant-at t) eval-quant.Post
-eval-quant-same-length-3 t c = ?
+eval-quant-same-length-3 t c = search needs
 
 -- src/lib.rt:216:1
 pub eval-quant-returns-3 : (t : ℕ) → eval-quant-lts.Need-returns-3 (
