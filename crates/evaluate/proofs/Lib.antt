@@ -2,4 +2,5 @@
 pub mod RunLaws
 pub mod NodeLaws
 pub mod BodyLaws
+pub mod RangeLaws
 pub mod QuantLaws
