@@ -1,29 +1,41 @@
 -- The loop over the members of a quantifier's range, and the quantifier's node.
-use Prim.Native.Nat.{ℕ, _+_, _-_, _≤_, _<_}
+use Prim.Native.Nat.{ℕ, suc, _+_, _-_, _≤_, _<_}
 use mathlib.Core.Bool.{Bool, true, false, not, Bool·beq}
 use mathlib.Core.List.{List, [], _∷_}
+use mathlib.Core.Option.{some}
 use mathlib.Core.Path.{_≡_, refl, sym, ap, _∙_, subst}
 use native.Mathlib.Omega.{arith}
 use native.Mathlib.Nat.{le-refl}
+use native.Mathlib.Numerals.{add-one}
+use lib.Dec.{eqb}
 use lib.ListN.{length, getD, set as setAt}
 use Rattle.rules.specs.Values.{Value, Values, members, weight}
-use Rattle.rules.specs.Kinds.{Quant, forAll, forSome}
+use Rattle.rules.specs.Kinds.{Quant, forAll, forSome, quant, kindOf}
+use Rattle.rules.specs.Rules.{quantRule}
+use Rattle.rules.specs.Fits.{fits}
 use Rattle.rules.specs.Ends.{End, done, refused}
-use Rattle.rules.specs.Runs.{M, return}
-use Rattle.rules.specs.Tables.{tableOf, nodeAt, predAt}
-use Rattle.rules.specs.Operations.{Env, _with_≔_}
-use Rattle.rules.specs.Evaluation.{quantify, holdsᵖ}
+use Rattle.rules.specs.Runs.{Run, M, return}
+use Rattle.rules.specs.Tables.{Pred, Expr, quantᵖ, tableOf, nodeAt, kindAt, predAt, exprAt}
+use Rattle.rules.specs.Operations.{Env, _with_≔_, elems}
+use Rattle.rules.specs.Evaluation.{fitting, quantify, holdsᵖ, valueᵉ}
 use Rattle.arena.specs.Code.{Same, SomeAt, EndsAt}
 use Rattle.arena.proofs.Standing.{same-refl, same-trans, weight-pos}
+use Rattle.operations.specs.Good.{GoodAt}
 use Rattle.operations.proofs.GoodLaws.{good-fits}
+use Rattle.operations.proofs.KindLaws.{quantCode, code-of}
 use Rattle.evaluate.specs.declared.Held.{Held}
 use Rattle.evaluate.specs.declared.Held.the-variants.{Truth, Refused}
-use Rattle.evaluate.specs.Answers.{Ends, HeldAs, Listed}
-use Rattle.evaluate.specs.Nodes.{quantOf, IsPred}
-use Rattle.evaluate.specs.Cycle.{Binds, Ready, EachReady, bodyAt, EvaluatesP, EvaluatesEach}
-use Rattle.evaluate.proofs.RunLaws.{then-done, then-refused, returns}
-use Rattle.evaluate.proofs.NodeLaws.{sizes-small, good-frame, binds-frame}
+use Rattle.evaluate.specs.declared.Formed.{Formed}
+use Rattle.evaluate.specs.declared.Formed.the-variants.{Value as Placed, Stopped}
+use Rattle.evaluate.specs.declared.Range.{Range}
+use Rattle.evaluate.specs.declared.Range.the-variants.{Set, Unlike}
+use Rattle.evaluate.specs.Answers.{Ends, HeldAs, PlacedAs, FormedAs, RangeSet, RangeAs, Listed}
+use Rattle.evaluate.specs.Nodes.{quantOf, IsPred, IsExpr, SomeGood, RangeAt}
+use Rattle.evaluate.specs.Cycle.{Binds, Ready, Visited, Sort, EachReady, bodyAt, EvaluatesP, EvaluatesE, EvaluatesEach}
+use Rattle.evaluate.proofs.RunLaws.{then-done, then-refused, returns, visited, fitting-done, fitting-refused}
+use Rattle.evaluate.proofs.NodeLaws.{sizes-small, good-frame, binds-frame, pred-at, ready-child}
 use Rattle.evaluate.proofs.BodyLaws.{Inner, inner-start, inner-set, binds-body, First, first-member, none-left, listed-frame}
+use Rattle.evaluate.proofs.RangeLaws.{binder-range, binder-ready, range-fits, range-listed}
 
 -- Two truths differ, or are the same.
 pub differ : (a b : Bool) → not (Bool·beq a b) ≡ true → a ≡ not b
@@ -206,3 +218,123 @@ members-done {bs} {env} {s₀} {top} {all} {node} {from} {count} {steps} {budget
       let u = i .remains f ρ vs d b l in
       u .gives (done all) n (rw (none-left (u .rest) (u .listed) e) (quantify-none g all n));
 }
+
+-- The quantifier at a node, by how its range ends.
+module _ (budget : ℕ) (gs : List ℕ) (n : ℕ) (j : Quant) (x : ℕ) (e : Expr) (p : Pred) (ρ : Env) (s : ℕ) (lt : s < budget) where
+  quant-refused : {k q t : ℕ} → Ends (valueᵉ budget gs e ρ (suc s)) (refused k q) t → Ends (holdsᵖ budget gs (quantᵖ n j x e p) ρ s) (refused k q) t
+  unfolding holdsᵖ
+  quant-refused h = visited budget n s _ lt (then-refused (valueᵉ budget gs e ρ) _ (suc s) h)
+
+  quant-unlike : {v : Value} {t : ℕ} → Ends (valueᵉ budget gs e ρ (suc s)) (done v) t → fits (quantRule .takes) (v ∷ []) ≡ false →
+      Ends (holdsᵖ budget gs (quantᵖ n j x e p) ρ s) (refused 15 n) t
+  unfolding holdsᵖ
+  quant-unlike {v} {t} h f =
+      visited budget n s _ lt (then-done (valueᵉ budget gs e ρ) _ (suc s) h (then-refused (fitting n quantRule (v ∷ [])) _ t (fitting-refused n quantRule (v ∷ []) t f)))
+
+  quant-ends : {v : Value} {t : ℕ} {a : End Bool} {u : ℕ} → Ends (valueᵉ budget gs e ρ (suc s)) (done v) t → fits (quantRule .takes) (v ∷ []) ≡ true →
+      Ends (quantify j (λ w. holdsᵖ budget gs p (ρ with x ≔ w)) (elems v) t) a u → Ends (holdsᵖ budget gs (quantᵖ n j x e p) ρ s) a u
+  unfolding holdsᵖ
+  quant-ends {v} {t} h f k =
+      visited budget n s _ lt (then-done (valueᵉ budget gs e ρ) _ (suc s) h (then-done (fitting n quantRule (v ∷ [])) _ t (fitting-done n quantRule (v ∷ []) t f) k))
+
+-- The quantifier of a kind.
+quant-of : (k : ℕ) (j : Quant) → kindOf k ≡ some (quant j) → quantOf (eqb k 10) ≡ j
+quant-of k j e = rw (code-of k (quant j) e) (go j)
+  where
+    go : (j : Quant) → quantOf (eqb (quantCode j) 10) ≡ j
+    go forAll = refl
+    go forSome = refl
+
+-- Any end of one run is that of the other.
+held-on : {x y : Run Bool} (r : Held) → ((e : End Bool) (t : ℕ) → Ends x e t → Ends y e t) → HeldAs x r → HeldAs y r
+held-on (Truth b n) g h = g (done b) n h
+held-on (Refused k p n) g h = g (refused k p) n h
+
+-- The evaluation of a quantifier's node.
+module _ {bs : List ℕ} {base : ℕ} {env s : List ℕ} {top k n steps budget : ℕ} (d : Visited bs base env s top k n steps budget) (q : Sort quant k) where
+  quant-kind : kindAt (tableOf bs .nodes) n ≡ some (quant (q .0))
+  quant-kind = ap kindOf (sym (d .kind)) ∙ q .1
+
+  module _ {a : ℕ} (ea : a ≡ nodeAt (tableOf bs .nodes) n .b) where
+    pub quant-range : Ready bs base env s top a (steps + 1) budget × IsExpr bs a × (a < n)
+    quant-range =
+        let c = binder-range (d .ready) quant-kind refl in
+        rw ea (ready-child s _ top (steps + 1) (d .ready) c (same-refl top s) (le-refl top) (omega arith) (omega (arith, d .spent)), c .is, c .below)
+
+    module _ {s′ : List ℕ} {r : Formed} (p : EvaluatesE bs env s top a (steps + 1) budget s′ r) where
+      range-ends : (f : ℕ) (ρ : Env) → n ≤ f → Binds (tableOf bs .sizes) s top env ρ →
+          FormedAs (valueᵉ budget (tableOf bs .sizes) (exprAt f (tableOf bs .nodes) (nodeAt (tableOf bs .nodes) n .b)) ρ (suc steps)) (tableOf bs .sizes) s′ r
+      range-ends f ρ l b =
+          let lt : a < f = omega (arith, quant-range .2) in
+          let x = p .answer f ρ lt b in
+          let y = subst (λ (m : ℕ). FormedAs (valueᵉ budget (tableOf bs .sizes) (exprAt f (tableOf bs .nodes) a) ρ m) (tableOf bs .sizes) s′ r) (add-one steps) x in
+          subst (λ (m : ℕ). FormedAs (valueᵉ budget (tableOf bs .sizes) (exprAt f (tableOf bs .nodes) m) ρ (suc steps)) (tableOf bs .sizes) s′ r) ea y
+
+      -- The range is refused.
+      pub range-refused : (c h t : ℕ) → r ≡ Stopped c h t → EvaluatesP bs env s top n steps budget s′ (Refused c h t)
+      range-refused c h t e = record {
+        frame = p .frame;
+        bounds = rw e at (p .bounds);
+        answer = λ f ρ l b.
+            let u = pred-at (tableOf bs .nodes) n (quant (q .0)) quant-kind f l in
+            rw (u .is) (quant-refused budget (tableOf bs .sizes) n (q .0) _ _ _ ρ steps (d .spent) (rw e at (range-ends (u .depth) ρ (u .enough) b)));
+      }
+
+      module _ {at next t : ℕ} (e : r ≡ Placed at next t) where
+        placed-range : (f : ℕ) (ρ : Env) → n ≤ f → Binds (tableOf bs .sizes) s top env ρ →
+            PlacedAs (valueᵉ budget (tableOf bs .sizes) (exprAt f (tableOf bs .nodes) (nodeAt (tableOf bs .nodes) n .b)) ρ (suc steps)) (tableOf bs .sizes) s′ at next t
+        placed-range f ρ l b = rw e at (range-ends f ρ l b)
+
+        some-range : PlacedAs (valueᵉ budget (tableOf bs .sizes) (exprAt n (tableOf bs .nodes) (nodeAt (tableOf bs .nodes) n .b)) (d .ready .values) (suc steps)) (tableOf bs .sizes) s′ at next t
+        some-range = placed-range n (d .ready .values) (le-refl n) (d .ready .binds)
+
+        range-bounds : (top ≤ next) × (next ≤ top + 256) × (t ≤ budget)
+        range-bounds = rw e at (p .bounds)
+
+        pub range-good : SomeGood s′ at
+        range-good = record {
+          sizes = tableOf bs .sizes;
+          small = sizes-small bs (d .ready .readable);
+          top = next;
+          value = some-range .value;
+          stands = some-range .place;
+        }
+
+        pub range-low : at < 4294967296
+        range-low = omega (arith, some-range .place .below, range-bounds .1, d .ready .room, d .ready .small)
+
+        module _ {o : Range} (g : RangeAt s′ at o) where
+          -- The range is no set.
+          pub range-unlike : o ≡ Unlike → EvaluatesP bs env s top n steps budget s′ (Refused 15 n t)
+          range-unlike z = record {
+            frame = p .frame;
+            bounds = range-bounds .2;
+            answer = λ f ρ l b.
+                let u = pred-at (tableOf bs .nodes) n (quant (q .0)) quant-kind f l in
+                let w = placed-range (u .depth) ρ (u .enough) b in
+                let y : RangeAs (w .value) Unlike = rw z at (g (tableOf bs .sizes) next (w .value) (sizes-small bs (d .ready .readable)) (w .place)) in
+                rw (u .is) (quant-unlike budget (tableOf bs .sizes) n (q .0) _ _ _ ρ steps (d .spent) (w .ends) y);
+          }
+
+          module _ {m : ℕ} (z : o ≡ Set m) where
+            range-set : (v : Value) → GoodAt (tableOf bs .sizes) s′ next at v → RangeSet v m
+            range-set v h = rw z at (g (tableOf bs .sizes) next v (sizes-small bs (d .ready .readable)) h)
+
+            pub quant-ready : EachReady bs base env s′ next n (at + 1) m t budget
+            quant-ready =
+                binder-ready (d .ready) quant-kind refl (p .frame) (range-bounds .0) (range-bounds .1) (range-bounds .2) (some-range .place)
+                (range-set (some-range .value) (some-range .place))
+
+            pub quant-done : {s″ : List ℕ} {h : Held} → EvaluatesEach bs env s′ next n (at + 1) m t budget (quantOf (eqb k 10)) s″ h →
+                EvaluatesP bs env s top n steps budget s″ h
+            quant-done {s″} {h} c = record {
+              frame = same-trans top next s s′ s″ (p .frame) (c .frame) (range-bounds .0);
+              bounds = c .bounds;
+              answer = λ f ρ l b.
+                  let u = pred-at (tableOf bs .nodes) n (quant (q .0)) quant-kind f l in
+                  let w = placed-range (u .depth) ρ (u .enough) b in
+                  let y = range-set (w .value) (w .place) in
+                  let i = rw (quant-of k (q .0) (q .1)) at (c .answer (u .depth) ρ (y .members) (u .enough) (binds-frame next (p .frame) (range-bounds .0) b) (range-listed (w .place) y)) in
+                  rw (u .is)
+                  (held-on h (λ a v x. quant-ends budget (tableOf bs .sizes) n (q .0) _ _ _ ρ steps (d .spent) (w .ends) (range-fits (w .place) y) (rw (y .is) x)) i);
+            }
