@@ -5,3 +5,5 @@ pub mod DispatchLaws
 pub mod FormLaws
 pub mod BodyLaws
 pub mod ChosenLaws
+pub mod RangeLaws
+pub mod QuantLaws

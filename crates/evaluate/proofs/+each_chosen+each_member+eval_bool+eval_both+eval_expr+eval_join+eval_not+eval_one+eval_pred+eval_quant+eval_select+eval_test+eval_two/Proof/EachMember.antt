@@ -59,14 +59,15 @@ use Rattle.products.proofs.put_cell.Reads as put-cell-reads
 use Rattle.table.proofs.field.Reads as field-reads
 use Rattle.table.proofs.kind.Reads as kind-reads
 use Rattle.evaluate.proofs.+each_chosen+each_member+eval_bool+eval_both+eval_expr+eval_join+eval_not+eval_one+eval_pred+eval_quant+eval_select+eval_test+eval_two.Proof.Base.{μ-each-chosen, μ-each-member, μ-eval-bool, μ-eval-both, μ-eval-expr, μ-eval-join, μ-eval-not, μ-eval-one, μ-eval-pred, μ-eval-quant, μ-eval-select, μ-eval-test, μ-eval-two, each-chosen-at, each-chosen-below, each-member-at, each-member-below, eval-bool-at, eval-bool-below, eval-both-at, eval-both-below, eval-expr-at, eval-expr-below, eval-join-at, eval-join-below, eval-not-at, eval-not-below, eval-one-at, eval-one-below, eval-pred-at, eval-pred-below, eval-quant-at, eval-quant-below, eval-select-at, eval-select-below, eval-test-at, eval-test-below, eval-two-at, eval-two-below}
+use Rattle.evaluate.proofs.QuantLaws.{differ, agree, Turning, turning-start, member-low, member-stands, body-ready, member-refused, member-decides, turning-on, members-done}
 
 abbrev pub each-member-Inv-loop : each-member-lts.InvT-loop
 each-member-Inv-loop table base env s₀ top all node from count steps budget x body inner₀ at₀ left₀ n₀ s inner at left n =
-    ?
+    Turning table env s₀ top all node from count steps budget x s inner at left n
 
 abbrev pub each-member-μ-loop : each-member-lts.MeasureT-loop
 each-member-μ-loop table base env s₀ top all node from count steps budget x body inner₀ at₀ left₀ n₀ s inner at left n =
-    ?
+    left
 
 -- src/lib.rt:272:9
 pub each-member-field-requires : (t : ℕ) → each-member-lts.Need-field-requires (
@@ -77,7 +78,7 @@ pub each-member-field-requires : (t : ℕ) → each-member-lts.Need-field-requir
   end-of-reads.Asked,
   end-of-reads.Learnt,
 ) (each-member-at t) each-member.Post each-member-Inv-loop each-member-μ-loop
-each-member-field-requires t c κs = ?
+each-member-field-requires t c κs = search needs
 
 -- src/lib.rt:273:9
 pub each-member-field-requires-2 : (t : ℕ) → each-member-lts.Need-field-requires-2 (
@@ -88,7 +89,7 @@ pub each-member-field-requires-2 : (t : ℕ) → each-member-lts.Need-field-requ
   end-of-reads.Asked,
   end-of-reads.Learnt,
 ) (each-member-at t) each-member.Post each-member-Inv-loop each-member-μ-loop
-each-member-field-requires-2 t c κs = ?
+each-member-field-requires-2 t c κs = search needs
 
 -- src/lib.rt:278:5
 pub each-member-loop-holds : (t : ℕ) → each-member-lts.Need-loop-holds (
@@ -99,7 +100,8 @@ pub each-member-loop-holds : (t : ℕ) → each-member-lts.Need-loop-holds (
   end-of-reads.Asked,
   end-of-reads.Learnt,
 ) (each-member-at t) each-member.Post each-member-Inv-loop each-member-μ-loop
-each-member-loop-holds t c = ?
+each-member-loop-holds t c =
+    turning-start _ _ (c .before .before .before .before .before .pre .1)
 
 -- src/lib.rt:279:20
 pub each-member-cast-inner : (t : ℕ) → each-member-lts.Need-cast-inner (
@@ -110,7 +112,8 @@ pub each-member-cast-inner : (t : ℕ) → each-member-lts.Need-cast-inner (
   end-of-reads.Asked,
   end-of-reads.Learnt,
 ) (each-member-at t) each-member.Post each-member-Inv-loop each-member-μ-loop
-each-member-cast-inner t c = ?
+each-member-cast-inner t c =
+    record { fits = member-low (c .before .before .before .before .before .before .before .pre .1) (c .before .loop .inv) (omega (arith, c .loop-test .taken)) }
 
 -- src/lib.rt:279:9
 pub each-member-mul-inner : (t : ℕ) → each-member-lts.Need-mul-inner (
@@ -121,7 +124,7 @@ pub each-member-mul-inner : (t : ℕ) → each-member-lts.Need-mul-inner (
   end-of-reads.Asked,
   end-of-reads.Learnt,
 ) (each-member-at t) each-member.Post each-member-Inv-loop each-member-μ-loop
-each-member-mul-inner t c = ?
+each-member-mul-inner t c = search needs
 
 -- src/lib.rt:279:9
 pub each-member-array-write-inner : (t : ℕ) → each-member-lts.Need-array-write-inner (
@@ -132,7 +135,7 @@ pub each-member-array-write-inner : (t : ℕ) → each-member-lts.Need-array-wri
   end-of-reads.Asked,
   end-of-reads.Learnt,
 ) (each-member-at t) each-member.Post each-member-Inv-loop each-member-μ-loop
-each-member-array-write-inner t c = ?
+each-member-array-write-inner t c = search needs
 
 -- src/lib.rt:280:13
 pub each-member-eval-pred-requires : (t : ℕ) → each-member-lts.Need-eval-pred-requires (
@@ -143,7 +146,9 @@ pub each-member-eval-pred-requires : (t : ℕ) → each-member-lts.Need-eval-pre
   end-of-reads.Asked,
   end-of-reads.Learnt,
 ) (each-member-at t) each-member.Post each-member-Inv-loop each-member-μ-loop
-each-member-eval-pred-requires t c κs = ?
+each-member-eval-pred-requires t c κs =
+    (omega (arith, c .before .before .before .before .before .before .before .before .before .pre .0, c .before .before .before .before .before .before .before .before .before .pre .1 .deeper, c .before .before .before .before .before .field2 .ensures),
+     body-ready (c .before .before .before .before .before .before .before .before .before .pre .1) (c .before .before .before .loop .inv) (omega (arith, c .before .before .loop-test .taken)) (c .before .before .before .before .before .before .field .ensures) (c .before .before .before .before .before .field2 .ensures))
 
 -- src/lib.rt:281:25
 pub each-member-enum-known-held : (t : ℕ) → each-member-lts.Need-enum-known-held (
@@ -154,7 +159,7 @@ pub each-member-enum-known-held : (t : ℕ) → each-member-lts.Need-enum-known-
   end-of-reads.Asked,
   end-of-reads.Learnt,
 ) (each-member-at t) each-member.Post each-member-Inv-loop each-member-μ-loop
-each-member-enum-known-held t c = ?
+each-member-enum-known-held t c = search needs
 
 -- src/lib.rt:282:13
 pub each-member-enum-told : (t : ℕ) → each-member-lts.Need-enum-told (
@@ -165,7 +170,7 @@ pub each-member-enum-told : (t : ℕ) → each-member-lts.Need-enum-told (
   end-of-reads.Asked,
   end-of-reads.Learnt,
 ) (each-member-at t) each-member.Post each-member-Inv-loop each-member-μ-loop
-each-member-enum-told t c = ?
+each-member-enum-told t c = search needs
 
 -- src/lib.rt:282:13
 pub each-member-same-length : (t : ℕ) → each-member-lts.Need-same-length (
@@ -176,7 +181,7 @@ pub each-member-same-length : (t : ℕ) → each-member-lts.Need-same-length (
   end-of-reads.Asked,
   end-of-reads.Learnt,
 ) (each-member-at t) each-member.Post each-member-Inv-loop each-member-μ-loop
-each-member-same-length t c = ?
+each-member-same-length t c = search needs
 
 -- src/lib.rt:282:13
 pub each-member-returns : (t : ℕ) → each-member-lts.Need-returns (
@@ -187,7 +192,9 @@ pub each-member-returns : (t : ℕ) → each-member-lts.Need-returns (
   end-of-reads.Asked,
   end-of-reads.Learnt,
 ) (each-member-at t) each-member.Post each-member-Inv-loop each-member-μ-loop
-each-member-returns t c = ?
+each-member-returns t c =
+    member-refused (c .before .before .before .before .before .before .before .before .before .before .before .before .before .before .pre .1) (c .before .before .before .before .before .before .before .before .loop .inv) (omega (arith, c .before .before .before .before .before .before .before .loop-test .taken)) (c .before .before .before .before .before .before .before .before .before .before .before .field .ensures) (c .before .before .before .before .before .before .before .before .before .before .field2 .ensures)
+    (c .before .before .before .before .eval-pred .ensures) _ _ _ (c .enum-told .given .1)
 
 -- src/lib.rt:285:13
 pub each-member-same-length-2 : (t : ℕ) → each-member-lts.Need-same-length-2 (
@@ -198,7 +205,7 @@ pub each-member-same-length-2 : (t : ℕ) → each-member-lts.Need-same-length-2
   end-of-reads.Asked,
   end-of-reads.Learnt,
 ) (each-member-at t) each-member.Post each-member-Inv-loop each-member-μ-loop
-each-member-same-length-2 t c = ?
+each-member-same-length-2 t c = search needs
 
 -- src/lib.rt:285:13
 pub each-member-returns-2 : (t : ℕ) → each-member-lts.Need-returns-2 (
@@ -209,7 +216,9 @@ pub each-member-returns-2 : (t : ℕ) → each-member-lts.Need-returns-2 (
   end-of-reads.Asked,
   end-of-reads.Learnt,
 ) (each-member-at t) each-member.Post each-member-Inv-loop each-member-μ-loop
-each-member-returns-2 t c = ?
+each-member-returns-2 t c =
+    member-decides (c .before .before .before .before .before .before .before .before .before .before .before .before .before .before .before .before .pre .1) (c .before .before .before .before .before .before .before .before .before .before .loop .inv) (omega (arith, c .before .before .before .before .before .before .before .before .before .loop-test .taken)) (c .before .before .before .before .before .before .before .before .before .before .before .before .before .field .ensures) (c .before .before .before .before .before .before .before .before .before .before .before .before .field2 .ensures)
+    (c .before .before .before .before .before .before .eval-pred .ensures) _ _ (c .before .before .held .given .1) (differ _ _ (c .if1 .taken))
 
 -- src/lib.rt:288:9
 pub each-member-end-of-requires : (t : ℕ) → each-member-lts.Need-end-of-requires (
@@ -220,7 +229,8 @@ pub each-member-end-of-requires : (t : ℕ) → each-member-lts.Need-end-of-requ
   end-of-reads.Asked,
   end-of-reads.Learnt,
 ) (each-member-at t) each-member.Post each-member-Inv-loop each-member-μ-loop
-each-member-end-of-requires t c κs = ?
+each-member-end-of-requires t c κs =
+    member-stands (c .before .before .before .before .before .before .before .before .before .before .before .before .before .before .before .before .before .pre .1) (c .before .before .before .before .before .before .before .before .before .before .before .loop .inv) (omega (arith, c .before .before .before .before .before .before .before .before .before .before .loop-test .taken)) _ (c .before .before .before .before .before .before .before .eval-pred .ensures .frame)
 
 -- src/lib.rt:289:9
 pub each-member-sub-left : (t : ℕ) → each-member-lts.Need-sub-left (
@@ -231,7 +241,7 @@ pub each-member-sub-left : (t : ℕ) → each-member-lts.Need-sub-left (
   end-of-reads.Asked,
   end-of-reads.Learnt,
 ) (each-member-at t) each-member.Post each-member-Inv-loop each-member-μ-loop
-each-member-sub-left t c = ?
+each-member-sub-left t c = search needs
 
 -- src/lib.rt:278:5
 pub each-member-loop-less : (t : ℕ) → each-member-lts.Need-loop-less (
@@ -242,7 +252,7 @@ pub each-member-loop-less : (t : ℕ) → each-member-lts.Need-loop-less (
   end-of-reads.Asked,
   end-of-reads.Learnt,
 ) (each-member-at t) each-member.Post each-member-Inv-loop each-member-μ-loop
-each-member-loop-less t c = ?
+each-member-loop-less t c = search needs
 
 -- src/lib.rt:278:5
 pub each-member-loop-again : (t : ℕ) → each-member-lts.Need-loop-again (
@@ -253,7 +263,9 @@ pub each-member-loop-again : (t : ℕ) → each-member-lts.Need-loop-again (
   end-of-reads.Asked,
   end-of-reads.Learnt,
 ) (each-member-at t) each-member.Post each-member-Inv-loop each-member-μ-loop
-each-member-loop-again t c = ?
+each-member-loop-again t c =
+    turning-on (c .before .before .before .before .before .before .before .before .before .before .before .before .before .before .before .before .before .before .pre .1) (c .before .before .before .before .before .before .before .before .before .before .before .before .loop .inv) (omega (arith, c .before .before .before .before .before .before .before .before .before .before .before .loop-test .taken)) (c .before .before .before .before .before .before .before .before .before .before .before .before .before .before .before .field .ensures) (c .before .before .before .before .before .before .before .before .before .before .before .before .before .before .field2 .ensures)
+    (c .before .before .before .before .before .before .before .before .eval-pred .ensures) _ _ _ (c .before .before .before .before .held .given .1) (agree _ _ (c .before .before .if1 .left)) (c .end-of .ensures)
 
 -- src/lib.rt:256:1
 pub each-member-same-length-3 : (t : ℕ) → each-member-lts.Need-same-length-3 (
@@ -264,7 +276,7 @@ pub each-member-same-length-3 : (t : ℕ) → each-member-lts.Need-same-length-3
   end-of-reads.Asked,
   end-of-reads.Learnt,
 ) (each-member-at t) each-member.Post each-member-Inv-loop each-member-μ-loop
-each-member-same-length-3 t c = ?
+each-member-same-length-3 t c = search needs
 
 -- src/lib.rt:256:1
 pub each-member-returns-3 : (t : ℕ) → each-member-lts.Need-returns-3 (
@@ -275,4 +287,5 @@ pub each-member-returns-3 : (t : ℕ) → each-member-lts.Need-returns-3 (
   end-of-reads.Asked,
   end-of-reads.Learnt,
 ) (each-member-at t) each-member.Post each-member-Inv-loop each-member-μ-loop
-each-member-returns-3 t c = ?
+each-member-returns-3 t c =
+    members-done (c .before .loop .inv) (omega (arith, c .loop-test .left))

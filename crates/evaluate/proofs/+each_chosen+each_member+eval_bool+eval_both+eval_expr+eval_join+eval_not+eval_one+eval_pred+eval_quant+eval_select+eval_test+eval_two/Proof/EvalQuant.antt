@@ -59,6 +59,7 @@ use Rattle.products.proofs.put_cell.Reads as put-cell-reads
 use Rattle.table.proofs.field.Reads as field-reads
 use Rattle.table.proofs.kind.Reads as kind-reads
 use Rattle.evaluate.proofs.+each_chosen+each_member+eval_bool+eval_both+eval_expr+eval_join+eval_not+eval_one+eval_pred+eval_quant+eval_select+eval_test+eval_two.Proof.Base.{μ-each-chosen, μ-each-member, μ-eval-bool, μ-eval-both, μ-eval-expr, μ-eval-join, μ-eval-not, μ-eval-one, μ-eval-pred, μ-eval-quant, μ-eval-select, μ-eval-test, μ-eval-two, each-chosen-at, each-chosen-below, each-member-at, each-member-below, eval-bool-at, eval-bool-below, eval-both-at, eval-both-below, eval-expr-at, eval-expr-below, eval-join-at, eval-join-below, eval-not-at, eval-not-below, eval-one-at, eval-one-below, eval-pred-at, eval-pred-below, eval-quant-at, eval-quant-below, eval-select-at, eval-select-below, eval-test-at, eval-test-below, eval-two-at, eval-two-below}
+use Rattle.evaluate.proofs.QuantLaws.{quant-range, range-good, range-low, quant-ready, range-refused, range-unlike, quant-done}
 
 -- src/lib.rt:230:9
 pub eval-quant-field-requires : (t : ℕ) → eval-quant-lts.Need-field-requires (
@@ -71,7 +72,7 @@ pub eval-quant-field-requires : (t : ℕ) → eval-quant-lts.Need-field-requires
   each-member-below t,
   each-member.Post,
 ) (eval-quant-at t) eval-quant.Post
-eval-quant-field-requires t c κs = ?
+eval-quant-field-requires t c κs = search needs
 
 -- src/lib.rt:231:50
 pub eval-quant-add-eval-expr : (t : ℕ) → eval-quant-lts.Need-add-eval-expr (
@@ -84,7 +85,7 @@ pub eval-quant-add-eval-expr : (t : ℕ) → eval-quant-lts.Need-add-eval-expr (
   each-member-below t,
   each-member.Post,
 ) (eval-quant-at t) eval-quant.Post
-eval-quant-add-eval-expr t c = ?
+eval-quant-add-eval-expr t c = search needs
 
 -- src/lib.rt:231:11
 pub eval-quant-eval-expr-requires : (t : ℕ) → eval-quant-lts.Need-eval-expr-requires (
@@ -97,7 +98,9 @@ pub eval-quant-eval-expr-requires : (t : ℕ) → eval-quant-lts.Need-eval-expr-
   each-member-below t,
   each-member.Post,
 ) (eval-quant-at t) eval-quant.Post
-eval-quant-eval-expr-requires t c κs = ?
+eval-quant-eval-expr-requires t c κs =
+    let q = quant-range (c .before .before .before .before .pre .1 .0) (c .before .before .before .before .pre .1 .1) (c .before .field .ensures) in
+    (omega (arith, c .before .before .before .before .pre .0, q .2), (q .0, q .1))
 
 -- src/lib.rt:232:25
 pub eval-quant-enum-known-k : (t : ℕ) → eval-quant-lts.Need-enum-known-k (
@@ -110,7 +113,7 @@ pub eval-quant-enum-known-k : (t : ℕ) → eval-quant-lts.Need-enum-known-k (
   each-member-below t,
   each-member.Post,
 ) (eval-quant-at t) eval-quant.Post
-eval-quant-enum-known-k t c = ?
+eval-quant-enum-known-k t c = search needs
 
 -- src/lib.rt:233:23
 pub eval-quant-enum-known-at : (t : ℕ) → eval-quant-lts.Need-enum-known-at (
@@ -123,7 +126,7 @@ pub eval-quant-enum-known-at : (t : ℕ) → eval-quant-lts.Need-enum-known-at (
   each-member-below t,
   each-member.Post,
 ) (eval-quant-at t) eval-quant.Post
-eval-quant-enum-known-at t c = ?
+eval-quant-enum-known-at t c = search needs
 
 -- src/lib.rt:233:45
 pub eval-quant-range-of-requires : (t : ℕ) → eval-quant-lts.Need-range-of-requires (
@@ -136,7 +139,8 @@ pub eval-quant-range-of-requires : (t : ℕ) → eval-quant-lts.Need-range-of-re
   each-member-below t,
   each-member.Post,
 ) (eval-quant-at t) eval-quant.Post
-eval-quant-range-of-requires t c κs = ?
+eval-quant-range-of-requires t c κs =
+    range-good (c .before .before .before .before .before .before .before .before .before .before .before .pre .1 .0) (c .before .before .before .before .before .before .before .before .before .before .before .pre .1 .1) (c .before .before .before .before .before .before .before .before .field .ensures) (c .before .before .before .before .before .before .eval-expr .ensures) (c .before .before .at .given .1)
 
 -- src/lib.rt:234:30
 pub eval-quant-enum-told : (t : ℕ) → eval-quant-lts.Need-enum-told (
@@ -149,7 +153,7 @@ pub eval-quant-enum-told : (t : ℕ) → eval-quant-lts.Need-enum-told (
   each-member-below t,
   each-member.Post,
 ) (eval-quant-at t) eval-quant.Post
-eval-quant-enum-told t c = ?
+eval-quant-enum-told t c = search needs
 
 -- src/lib.rt:235:24
 pub eval-quant-enum-known-count : (t : ℕ) → eval-quant-lts.Need-enum-known-count (
@@ -162,7 +166,7 @@ pub eval-quant-enum-known-count : (t : ℕ) → eval-quant-lts.Need-enum-known-c
   each-member-below t,
   each-member.Post,
 ) (eval-quant-at t) eval-quant.Post
-eval-quant-enum-known-count t c = ?
+eval-quant-enum-known-count t c = search needs
 
 -- src/lib.rt:245:21
 pub eval-quant-add-each-member : (t : ℕ) → eval-quant-lts.Need-add-each-member (
@@ -175,7 +179,8 @@ pub eval-quant-add-each-member : (t : ℕ) → eval-quant-lts.Need-add-each-memb
   each-member-below t,
   each-member.Post,
 ) (eval-quant-at t) eval-quant.Post
-eval-quant-add-each-member t c = ?
+eval-quant-add-each-member t c =
+    record { fits = omega (arith, range-low (c .before .before .before .before .before .before .before .before .before .before .before .before .before .before .before .before .pre .1 .0) (c .before .before .before .before .before .before .before .before .before .before .before .before .before .before .before .before .pre .1 .1) (c .before .before .before .before .before .before .before .before .before .before .before .before .before .field .ensures) (c .before .before .before .before .before .before .before .before .before .before .before .eval-expr .ensures) (c .before .before .before .before .before .before .before .at .given .1)) }
 
 -- src/lib.rt:237:17
 pub eval-quant-each-member-requires : (t : ℕ) → eval-quant-lts.Need-each-member-requires (
@@ -188,7 +193,10 @@ pub eval-quant-each-member-requires : (t : ℕ) → eval-quant-lts.Need-each-mem
   each-member-below t,
   each-member.Post,
 ) (eval-quant-at t) eval-quant.Post
-eval-quant-each-member-requires t c κs = ?
+eval-quant-each-member-requires t c κs =
+    (omega (arith, c .before .before .before .before .before .before .before .before .before .before .before .before .before .before .before .before .pre .0),
+     quant-ready (c .before .before .before .before .before .before .before .before .before .before .before .before .before .before .before .before .pre .1 .0) (c .before .before .before .before .before .before .before .before .before .before .before .before .before .before .before .before .pre .1 .1) (c .before .before .before .before .before .before .before .before .before .before .before .before .before .field .ensures) (c .before .before .before .before .before .before .before .before .before .before .before .eval-expr .ensures) (c .before .before .before .before .before .before .before .at .given .1)
+     (c .before .before .before .before .range-of .ensures) (c .before .before .count .given .1))
 
 -- src/lib.rt:216:1
 pub eval-quant-same-length : (t : ℕ) → eval-quant-lts.Need-same-length (
@@ -201,7 +209,7 @@ pub eval-quant-same-length : (t : ℕ) → eval-quant-lts.Need-same-length (
   each-member-below t,
   each-member.Post,
 ) (eval-quant-at t) eval-quant.Post
-eval-quant-same-length t c = ?
+eval-quant-same-length t c = search needs
 
 -- src/lib.rt:216:1
 pub eval-quant-returns : (t : ℕ) → eval-quant-lts.Need-returns (
@@ -214,7 +222,8 @@ pub eval-quant-returns : (t : ℕ) → eval-quant-lts.Need-returns (
   each-member-below t,
   each-member.Post,
 ) (eval-quant-at t) eval-quant.Post
-eval-quant-returns t c = ?
+eval-quant-returns t c =
+    range-refused (c .before .before .before .before .before .before .before .before .before .before .pre .1 .0) (c .before .before .before .before .before .before .before .before .before .before .pre .1 .1) (c .before .before .before .before .before .before .before .field .ensures) (c .before .before .before .before .before .eval-expr .ensures) _ _ _ (c .before .k .given .1)
 
 -- src/lib.rt:216:1
 pub eval-quant-same-length-2 : (t : ℕ) → eval-quant-lts.Need-same-length-2 (
@@ -227,7 +236,7 @@ pub eval-quant-same-length-2 : (t : ℕ) → eval-quant-lts.Need-same-length-2 (
   each-member-below t,
   each-member.Post,
 ) (eval-quant-at t) eval-quant.Post
-eval-quant-same-length-2 t c = ?
+eval-quant-same-length-2 t c = search needs
 
 -- src/lib.rt:216:1
 pub eval-quant-returns-2 : (t : ℕ) → eval-quant-lts.Need-returns-2 (
@@ -240,7 +249,9 @@ pub eval-quant-returns-2 : (t : ℕ) → eval-quant-lts.Need-returns-2 (
   each-member-below t,
   each-member.Post,
 ) (eval-quant-at t) eval-quant.Post
-eval-quant-returns-2 t c = ?
+eval-quant-returns-2 t c =
+    range-unlike (c .before .before .before .before .before .before .before .before .before .before .before .before .before .before .pre .1 .0) (c .before .before .before .before .before .before .before .before .before .before .before .before .before .before .pre .1 .1) (c .before .before .before .before .before .before .before .before .before .before .before .field .ensures) (c .before .before .before .before .before .before .before .before .before .eval-expr .ensures) (c .before .before .before .before .before .at .given .1)
+    (c .before .before .range-of .ensures) (c .enum-told .given .1)
 
 -- src/lib.rt:216:1
 pub eval-quant-same-length-3 : (t : ℕ) → eval-quant-lts.Need-same-length-3 (
@@ -253,7 +264,7 @@ pub eval-quant-same-length-3 : (t : ℕ) → eval-quant-lts.Need-same-length-3 (
   each-member-below t,
   each-member.Post,
 ) (eval-quant-at t) eval-quant.Post
-eval-quant-same-length-3 t c = ?
+eval-quant-same-length-3 t c = search needs
 
 -- src/lib.rt:216:1
 pub eval-quant-returns-3 : (t : ℕ) → eval-quant-lts.Need-returns-3 (
@@ -266,4 +277,6 @@ pub eval-quant-returns-3 : (t : ℕ) → eval-quant-lts.Need-returns-3 (
   each-member-below t,
   each-member.Post,
 ) (eval-quant-at t) eval-quant.Post
-eval-quant-returns-3 t c = ?
+eval-quant-returns-3 t c =
+    quant-done (c .before .before .before .before .before .before .before .before .before .before .before .before .before .before .before .before .before .before .before .pre .1 .0) (c .before .before .before .before .before .before .before .before .before .before .before .before .before .before .before .before .before .before .before .pre .1 .1) (c .before .before .before .before .before .before .before .before .before .before .before .before .before .before .before .before .field .ensures) (c .before .before .before .before .before .before .before .before .before .before .before .before .before .before .eval-expr .ensures) (c .before .before .before .before .before .before .before .before .before .before .at .given .1)
+    (c .before .before .before .before .before .before .before .range-of .ensures) (c .before .before .before .before .before .count .given .1) (c .before .before .each-member .ensures)
