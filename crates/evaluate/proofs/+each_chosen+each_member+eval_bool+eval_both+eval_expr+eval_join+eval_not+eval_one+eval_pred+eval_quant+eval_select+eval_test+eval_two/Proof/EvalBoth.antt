@@ -67,7 +67,7 @@ pub eval-both-field-requires : (t : ℕ) → eval-both-lts.Need-field-requires (
   eval-expr-below t,
   eval-expr.Post,
 ) (eval-both-at t) eval-both.Post
-eval-both-field-requires t c κs = ?
+eval-both-field-requires t c κs = search needs
 
 -- src/lib.rt:170:11
 pub eval-both-eval-expr-requires : (t : ℕ) → eval-both-lts.Need-eval-expr-requires (
@@ -85,7 +85,7 @@ pub eval-both-enum-known-k : (t : ℕ) → eval-both-lts.Need-enum-known-k (
   eval-expr-below t,
   eval-expr.Post,
 ) (eval-both-at t) eval-both.Post
-eval-both-enum-known-k t c = ?
+eval-both-enum-known-k t c = search needs
 
 -- src/lib.rt:172:23
 pub eval-both-enum-known-at : (t : ℕ) → eval-both-lts.Need-enum-known-at (
@@ -94,7 +94,7 @@ pub eval-both-enum-known-at : (t : ℕ) → eval-both-lts.Need-enum-known-at (
   eval-expr-below t,
   eval-expr.Post,
 ) (eval-both-at t) eval-both.Post
-eval-both-enum-known-at t c = ?
+eval-both-enum-known-at t c = search needs
 
 -- src/lib.rt:173:17
 pub eval-both-field-requires-2 : (t : ℕ) → eval-both-lts.Need-field-requires-2 (
@@ -103,7 +103,7 @@ pub eval-both-field-requires-2 : (t : ℕ) → eval-both-lts.Need-field-requires
   eval-expr-below t,
   eval-expr.Post,
 ) (eval-both-at t) eval-both.Post
-eval-both-field-requires-2 t c κs = ?
+eval-both-field-requires-2 t c κs = search needs
 
 -- src/lib.rt:174:19
 pub eval-both-eval-expr-requires-2 : (t : ℕ) → eval-both-lts.Need-eval-expr-requires-2 (
@@ -121,7 +121,7 @@ pub eval-both-enum-known-k-2 : (t : ℕ) → eval-both-lts.Need-enum-known-k-2 (
   eval-expr-below t,
   eval-expr.Post,
 ) (eval-both-at t) eval-both.Post
-eval-both-enum-known-k-2 t c = ?
+eval-both-enum-known-k-2 t c = search needs
 
 -- src/lib.rt:176:31
 pub eval-both-enum-known-other : (t : ℕ) → eval-both-lts.Need-enum-known-other (
@@ -130,7 +130,7 @@ pub eval-both-enum-known-other : (t : ℕ) → eval-both-lts.Need-enum-known-oth
   eval-expr-below t,
   eval-expr.Post,
 ) (eval-both-at t) eval-both.Post
-eval-both-enum-known-other t c = ?
+eval-both-enum-known-other t c = search needs
 
 -- src/lib.rt:156:1
 pub eval-both-same-length : (t : ℕ) → eval-both-lts.Need-same-length (
@@ -139,7 +139,7 @@ pub eval-both-same-length : (t : ℕ) → eval-both-lts.Need-same-length (
   eval-expr-below t,
   eval-expr.Post,
 ) (eval-both-at t) eval-both.Post
-eval-both-same-length t c = ?
+eval-both-same-length t c = search needs
 
 -- src/lib.rt:156:1
 pub eval-both-returns : (t : ℕ) → eval-both-lts.Need-returns (
@@ -157,7 +157,7 @@ pub eval-both-same-length-2 : (t : ℕ) → eval-both-lts.Need-same-length-2 (
   eval-expr-below t,
   eval-expr.Post,
 ) (eval-both-at t) eval-both.Post
-eval-both-same-length-2 t c = ?
+eval-both-same-length-2 t c = search needs
 
 -- src/lib.rt:156:1
 pub eval-both-returns-2 : (t : ℕ) → eval-both-lts.Need-returns-2 (
@@ -175,7 +175,7 @@ pub eval-both-same-length-3 : (t : ℕ) → eval-both-lts.Need-same-length-3 (
   eval-expr-below t,
   eval-expr.Post,
 ) (eval-both-at t) eval-both.Post
-eval-both-same-length-3 t c = ?
+eval-both-same-length-3 t c = search needs
 
 -- src/lib.rt:156:1
 pub eval-both-returns-3 : (t : ℕ) → eval-both-lts.Need-returns-3 (

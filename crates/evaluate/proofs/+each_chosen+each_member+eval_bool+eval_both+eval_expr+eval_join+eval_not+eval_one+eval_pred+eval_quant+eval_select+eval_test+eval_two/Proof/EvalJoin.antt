@@ -71,7 +71,7 @@ pub eval-join-field-requires : (t : ℕ) → eval-join-lts.Need-field-requires (
   joined-reads.Asked,
   joined-reads.Learnt,
 ) (eval-join-at t) eval-join.Post
-eval-join-field-requires t c κs = ?
+eval-join-field-requires t c κs = search needs
 
 -- src/lib.rt:117:56
 pub eval-join-add-eval-pred : (t : ℕ) → eval-join-lts.Need-add-eval-pred (
@@ -84,7 +84,7 @@ pub eval-join-add-eval-pred : (t : ℕ) → eval-join-lts.Need-add-eval-pred (
   joined-reads.Asked,
   joined-reads.Learnt,
 ) (eval-join-at t) eval-join.Post
-eval-join-add-eval-pred t c = ?
+eval-join-add-eval-pred t c = search needs
 
 -- src/lib.rt:117:9
 pub eval-join-eval-pred-requires : (t : ℕ) → eval-join-lts.Need-eval-pred-requires (
@@ -110,7 +110,7 @@ pub eval-join-enum-known-first : (t : ℕ) → eval-join-lts.Need-enum-known-fir
   joined-reads.Asked,
   joined-reads.Learnt,
 ) (eval-join-at t) eval-join.Post
-eval-join-enum-known-first t c = ?
+eval-join-enum-known-first t c = search needs
 
 -- src/lib.rt:119:9
 pub eval-join-enum-told : (t : ℕ) → eval-join-lts.Need-enum-told (
@@ -123,7 +123,7 @@ pub eval-join-enum-told : (t : ℕ) → eval-join-lts.Need-enum-told (
   joined-reads.Asked,
   joined-reads.Learnt,
 ) (eval-join-at t) eval-join.Post
-eval-join-enum-told t c = ?
+eval-join-enum-told t c = search needs
 
 -- src/lib.rt:119:9
 pub eval-join-same-length : (t : ℕ) → eval-join-lts.Need-same-length (
@@ -136,7 +136,7 @@ pub eval-join-same-length : (t : ℕ) → eval-join-lts.Need-same-length (
   joined-reads.Asked,
   joined-reads.Learnt,
 ) (eval-join-at t) eval-join.Post
-eval-join-same-length t c = ?
+eval-join-same-length t c = search needs
 
 -- src/lib.rt:119:9
 pub eval-join-returns : (t : ℕ) → eval-join-lts.Need-returns (
@@ -162,7 +162,7 @@ pub eval-join-decides-requires : (t : ℕ) → eval-join-lts.Need-decides-requir
   joined-reads.Asked,
   joined-reads.Learnt,
 ) (eval-join-at t) eval-join.Post
-eval-join-decides-requires t c κs = ?
+eval-join-decides-requires t c κs = search needs
 
 -- src/lib.rt:122:9
 pub eval-join-same-length-2 : (t : ℕ) → eval-join-lts.Need-same-length-2 (
@@ -175,7 +175,7 @@ pub eval-join-same-length-2 : (t : ℕ) → eval-join-lts.Need-same-length-2 (
   joined-reads.Asked,
   joined-reads.Learnt,
 ) (eval-join-at t) eval-join.Post
-eval-join-same-length-2 t c = ?
+eval-join-same-length-2 t c = search needs
 
 -- src/lib.rt:122:9
 pub eval-join-returns-2 : (t : ℕ) → eval-join-lts.Need-returns-2 (
@@ -201,7 +201,7 @@ pub eval-join-field-requires-2 : (t : ℕ) → eval-join-lts.Need-field-requires
   joined-reads.Asked,
   joined-reads.Learnt,
 ) (eval-join-at t) eval-join.Post
-eval-join-field-requires-2 t c κs = ?
+eval-join-field-requires-2 t c κs = search needs
 
 -- src/lib.rt:125:9
 pub eval-join-eval-pred-requires-2 : (t : ℕ) → eval-join-lts.Need-eval-pred-requires-2 (
@@ -227,7 +227,7 @@ pub eval-join-enum-known-second : (t : ℕ) → eval-join-lts.Need-enum-known-se
   joined-reads.Asked,
   joined-reads.Learnt,
 ) (eval-join-at t) eval-join.Post
-eval-join-enum-known-second t c = ?
+eval-join-enum-known-second t c = search needs
 
 -- src/lib.rt:127:9
 pub eval-join-enum-told-2 : (t : ℕ) → eval-join-lts.Need-enum-told-2 (
@@ -240,7 +240,7 @@ pub eval-join-enum-told-2 : (t : ℕ) → eval-join-lts.Need-enum-told-2 (
   joined-reads.Asked,
   joined-reads.Learnt,
 ) (eval-join-at t) eval-join.Post
-eval-join-enum-told-2 t c = ?
+eval-join-enum-told-2 t c = search needs
 
 -- src/lib.rt:127:9
 pub eval-join-same-length-3 : (t : ℕ) → eval-join-lts.Need-same-length-3 (
@@ -253,7 +253,7 @@ pub eval-join-same-length-3 : (t : ℕ) → eval-join-lts.Need-same-length-3 (
   joined-reads.Asked,
   joined-reads.Learnt,
 ) (eval-join-at t) eval-join.Post
-eval-join-same-length-3 t c = ?
+eval-join-same-length-3 t c = search needs
 
 -- src/lib.rt:127:9
 pub eval-join-returns-3 : (t : ℕ) → eval-join-lts.Need-returns-3 (
@@ -279,7 +279,7 @@ pub eval-join-joined-requires : (t : ℕ) → eval-join-lts.Need-joined-requires
   joined-reads.Asked,
   joined-reads.Learnt,
 ) (eval-join-at t) eval-join.Post
-eval-join-joined-requires t c κs = ?
+eval-join-joined-requires t c κs = search needs
 
 -- src/lib.rt:102:1
 pub eval-join-same-length-4 : (t : ℕ) → eval-join-lts.Need-same-length-4 (
@@ -292,7 +292,7 @@ pub eval-join-same-length-4 : (t : ℕ) → eval-join-lts.Need-same-length-4 (
   joined-reads.Asked,
   joined-reads.Learnt,
 ) (eval-join-at t) eval-join.Post
-eval-join-same-length-4 t c = ?
+eval-join-same-length-4 t c = search needs
 
 -- src/lib.rt:102:1
 pub eval-join-returns-4 : (t : ℕ) → eval-join-lts.Need-returns-4 (

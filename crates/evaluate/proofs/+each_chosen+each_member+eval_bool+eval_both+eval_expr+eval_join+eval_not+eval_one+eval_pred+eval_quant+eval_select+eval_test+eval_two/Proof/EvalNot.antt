@@ -67,7 +67,7 @@ pub eval-not-field-requires : (t : ℕ) → eval-not-lts.Need-field-requires (
   eval-pred-below t,
   eval-pred.Post,
 ) (eval-not-at t) eval-not.Post
-eval-not-field-requires t c κs = ?
+eval-not-field-requires t c κs = search needs
 
 -- src/lib.rt:148:56
 pub eval-not-add-eval-pred : (t : ℕ) → eval-not-lts.Need-add-eval-pred (
@@ -76,7 +76,7 @@ pub eval-not-add-eval-pred : (t : ℕ) → eval-not-lts.Need-add-eval-pred (
   eval-pred-below t,
   eval-pred.Post,
 ) (eval-not-at t) eval-not.Post
-eval-not-add-eval-pred t c = ?
+eval-not-add-eval-pred t c = search needs
 
 -- src/lib.rt:148:9
 pub eval-not-eval-pred-requires : (t : ℕ) → eval-not-lts.Need-eval-pred-requires (
@@ -94,7 +94,7 @@ pub eval-not-enum-known-first : (t : ℕ) → eval-not-lts.Need-enum-known-first
   eval-pred-below t,
   eval-pred.Post,
 ) (eval-not-at t) eval-not.Post
-eval-not-enum-known-first t c = ?
+eval-not-enum-known-first t c = search needs
 
 -- src/lib.rt:150:9
 pub eval-not-enum-told : (t : ℕ) → eval-not-lts.Need-enum-told (
@@ -103,7 +103,7 @@ pub eval-not-enum-told : (t : ℕ) → eval-not-lts.Need-enum-told (
   eval-pred-below t,
   eval-pred.Post,
 ) (eval-not-at t) eval-not.Post
-eval-not-enum-told t c = ?
+eval-not-enum-told t c = search needs
 
 -- src/lib.rt:150:9
 pub eval-not-same-length : (t : ℕ) → eval-not-lts.Need-same-length (
@@ -112,7 +112,7 @@ pub eval-not-same-length : (t : ℕ) → eval-not-lts.Need-same-length (
   eval-pred-below t,
   eval-pred.Post,
 ) (eval-not-at t) eval-not.Post
-eval-not-same-length t c = ?
+eval-not-same-length t c = search needs
 
 -- src/lib.rt:150:9
 pub eval-not-returns : (t : ℕ) → eval-not-lts.Need-returns (
@@ -130,7 +130,7 @@ pub eval-not-same-length-2 : (t : ℕ) → eval-not-lts.Need-same-length-2 (
   eval-pred-below t,
   eval-pred.Post,
 ) (eval-not-at t) eval-not.Post
-eval-not-same-length-2 t c = ?
+eval-not-same-length-2 t c = search needs
 
 -- src/lib.rt:133:1
 pub eval-not-returns-2 : (t : ℕ) → eval-not-lts.Need-returns-2 (

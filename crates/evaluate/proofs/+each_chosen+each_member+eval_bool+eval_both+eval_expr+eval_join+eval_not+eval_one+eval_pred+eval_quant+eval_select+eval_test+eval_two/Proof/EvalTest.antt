@@ -67,7 +67,7 @@ pub eval-test-add-eval-both : (t : ℕ) → eval-test-lts.Need-add-eval-both (
   test-reads.Asked,
   test-reads.Learnt,
 ) (eval-test-at t) eval-test.Post
-eval-test-add-eval-both t c = ?
+eval-test-add-eval-both t c = search needs
 
 -- src/lib.rt:197:11
 pub eval-test-eval-both-requires : (t : ℕ) → eval-test-lts.Need-eval-both-requires (
@@ -85,7 +85,7 @@ pub eval-test-enum-known-k : (t : ℕ) → eval-test-lts.Need-enum-known-k (
   test-reads.Asked,
   test-reads.Learnt,
 ) (eval-test-at t) eval-test.Post
-eval-test-enum-known-k t c = ?
+eval-test-enum-known-k t c = search needs
 
 -- src/lib.rt:199:24
 pub eval-test-enum-known-a : (t : ℕ) → eval-test-lts.Need-enum-known-a (
@@ -94,7 +94,7 @@ pub eval-test-enum-known-a : (t : ℕ) → eval-test-lts.Need-enum-known-a (
   test-reads.Asked,
   test-reads.Learnt,
 ) (eval-test-at t) eval-test.Post
-eval-test-enum-known-a t c = ?
+eval-test-enum-known-a t c = search needs
 
 -- src/lib.rt:199:53
 pub eval-test-test-requires : (t : ℕ) → eval-test-lts.Need-test-requires (
@@ -112,7 +112,7 @@ pub eval-test-enum-told : (t : ℕ) → eval-test-lts.Need-enum-told (
   test-reads.Asked,
   test-reads.Learnt,
 ) (eval-test-at t) eval-test.Post
-eval-test-enum-told t c = ?
+eval-test-enum-told t c = search needs
 
 -- src/lib.rt:201:27
 pub eval-test-enum-known-yes : (t : ℕ) → eval-test-lts.Need-enum-known-yes (
@@ -121,7 +121,7 @@ pub eval-test-enum-known-yes : (t : ℕ) → eval-test-lts.Need-enum-known-yes (
   test-reads.Asked,
   test-reads.Learnt,
 ) (eval-test-at t) eval-test.Post
-eval-test-enum-known-yes t c = ?
+eval-test-enum-known-yes t c = search needs
 
 -- src/lib.rt:183:1
 pub eval-test-same-length : (t : ℕ) → eval-test-lts.Need-same-length (
@@ -130,7 +130,7 @@ pub eval-test-same-length : (t : ℕ) → eval-test-lts.Need-same-length (
   test-reads.Asked,
   test-reads.Learnt,
 ) (eval-test-at t) eval-test.Post
-eval-test-same-length t c = ?
+eval-test-same-length t c = search needs
 
 -- src/lib.rt:183:1
 pub eval-test-returns : (t : ℕ) → eval-test-lts.Need-returns (
@@ -148,7 +148,7 @@ pub eval-test-same-length-2 : (t : ℕ) → eval-test-lts.Need-same-length-2 (
   test-reads.Asked,
   test-reads.Learnt,
 ) (eval-test-at t) eval-test.Post
-eval-test-same-length-2 t c = ?
+eval-test-same-length-2 t c = search needs
 
 -- src/lib.rt:183:1
 pub eval-test-returns-2 : (t : ℕ) → eval-test-lts.Need-returns-2 (
@@ -166,7 +166,7 @@ pub eval-test-same-length-3 : (t : ℕ) → eval-test-lts.Need-same-length-3 (
   test-reads.Asked,
   test-reads.Learnt,
 ) (eval-test-at t) eval-test.Post
-eval-test-same-length-3 t c = ?
+eval-test-same-length-3 t c = search needs
 
 -- src/lib.rt:183:1
 pub eval-test-returns-3 : (t : ℕ) → eval-test-lts.Need-returns-3 (
