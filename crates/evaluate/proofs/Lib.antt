@@ -1,3 +1,4 @@
 -- The laws that the evaluators' proofs rest on.
 pub mod RunLaws
 pub mod NodeLaws
+pub mod JoinLaws
