@@ -2,3 +2,4 @@
 pub mod RunLaws
 pub mod NodeLaws
 pub mod JoinLaws
+pub mod BothLaws
