@@ -7,3 +7,5 @@ pub mod BodyLaws
 pub mod ChosenLaws
 pub mod RangeLaws
 pub mod QuantLaws
+pub mod JoinLaws
+pub mod BothLaws

@@ -9,6 +9,7 @@ use lib.ListN.{length, getD}
 use Rattle.rules.specs.Values.{Value}
 use Rattle.rules.specs.Kinds.{Join, join, Quant, forAll, forSome, predicate, expression, kindOf}
 use Rattle.rules.specs.Tables.{tableOf, nodeAt, kindAt, nodeCount, nodesAt}
+use Rattle.rules.specs.Reading.{height}
 use Rattle.rules.specs.Readable.{Readable, CategoryIs}
 use Rattle.rules.specs.Operations as rules
 use Rattle.arena.specs.Code.{Same, Copied}
@@ -26,12 +27,14 @@ IsPred bs n = CategoryIs predicate (kindAt (tableOf bs .nodes) n)
 abbrev pub IsExpr : List ℕ → ℕ → Type 0
 IsExpr bs n = CategoryIs expression (kindAt (tableOf bs .nodes) n)
 
--- The fields a and b of a node are expressions with lower numbers.
+-- The fields a and b of a node are expressions, lower in number and in height.
 pub record TwoFields (bs : List ℕ) (n : ℕ) : Type 0 where
   pub left : nodeAt (tableOf bs .nodes) n .a < n
   pub right : nodeAt (tableOf bs .nodes) n .b < n
   pub leftIs : IsExpr bs (nodeAt (tableOf bs .nodes) n .a)
   pub rightIs : IsExpr bs (nodeAt (tableOf bs .nodes) n .b)
+  pub leftLower : height (tableOf bs .nodes) (nodeAt (tableOf bs .nodes) n .a) < height (tableOf bs .nodes) n
+  pub rightLower : height (tableOf bs .nodes) (nodeAt (tableOf bs .nodes) n .b) < height (tableOf bs .nodes) n
 
 -- Whether the first truth of a join decides: it does with any truth but for 1, where it is false.
 abbrev pub DecidesBy : ℕ → Bool → Bool → Type 0

@@ -59,6 +59,7 @@ use Rattle.products.proofs.put_cell.Reads as put-cell-reads
 use Rattle.table.proofs.field.Reads as field-reads
 use Rattle.table.proofs.kind.Reads as kind-reads
 use Rattle.evaluate.proofs.+each_chosen+each_member+eval_bool+eval_both+eval_expr+eval_join+eval_not+eval_one+eval_pred+eval_quant+eval_select+eval_test+eval_two.Proof.Base.{μ-each-chosen, μ-each-member, μ-eval-bool, μ-eval-both, μ-eval-expr, μ-eval-join, μ-eval-not, μ-eval-one, μ-eval-pred, μ-eval-quant, μ-eval-select, μ-eval-test, μ-eval-two, each-chosen-at, each-chosen-below, each-member-at, each-member-below, eval-bool-at, eval-bool-below, eval-both-at, eval-both-below, eval-expr-at, eval-expr-below, eval-join-at, eval-join-below, eval-not-at, eval-not-below, eval-one-at, eval-one-below, eval-pred-at, eval-pred-below, eval-quant-at, eval-quant-below, eval-select-at, eval-select-below, eval-test-at, eval-test-below, eval-two-at, eval-two-below}
+use Rattle.evaluate.proofs.BothLaws.{left-child, left-ready, both-stops, right-child, right-ready, both-stops-2, both-formed}
 
 -- src/lib.rt:169:9
 pub eval-both-field-requires : (t : ℕ) → eval-both-lts.Need-field-requires (
@@ -67,7 +68,7 @@ pub eval-both-field-requires : (t : ℕ) → eval-both-lts.Need-field-requires (
   eval-expr-below t,
   eval-expr.Post,
 ) (eval-both-at t) eval-both.Post
-eval-both-field-requires t c κs = ?
+eval-both-field-requires t c κs = search needs
 
 -- src/lib.rt:170:11
 pub eval-both-eval-expr-requires : (t : ℕ) → eval-both-lts.Need-eval-expr-requires (
@@ -76,7 +77,10 @@ pub eval-both-eval-expr-requires : (t : ℕ) → eval-both-lts.Need-eval-expr-re
   eval-expr-below t,
   eval-expr.Post,
 ) (eval-both-at t) eval-both.Post
-eval-both-eval-expr-requires t c κs = ?
+eval-both-eval-expr-requires t c κs =
+    let c1 = c .before in
+    let c0 = c1 .before .before .before in
+    (omega (arith, c0 .pre .0, left-child (c0 .pre .1 .0) (c0 .pre .1 .1) (c1 .field .ensures) .below), left-ready (c0 .pre .1 .0) (c0 .pre .1 .1) (c1 .field .ensures))
 
 -- src/lib.rt:171:25
 pub eval-both-enum-known-k : (t : ℕ) → eval-both-lts.Need-enum-known-k (
@@ -85,7 +89,7 @@ pub eval-both-enum-known-k : (t : ℕ) → eval-both-lts.Need-enum-known-k (
   eval-expr-below t,
   eval-expr.Post,
 ) (eval-both-at t) eval-both.Post
-eval-both-enum-known-k t c = ?
+eval-both-enum-known-k t c = search needs
 
 -- src/lib.rt:172:23
 pub eval-both-enum-known-at : (t : ℕ) → eval-both-lts.Need-enum-known-at (
@@ -94,7 +98,7 @@ pub eval-both-enum-known-at : (t : ℕ) → eval-both-lts.Need-enum-known-at (
   eval-expr-below t,
   eval-expr.Post,
 ) (eval-both-at t) eval-both.Post
-eval-both-enum-known-at t c = ?
+eval-both-enum-known-at t c = search needs
 
 -- src/lib.rt:173:17
 pub eval-both-field-requires-2 : (t : ℕ) → eval-both-lts.Need-field-requires-2 (
@@ -103,7 +107,7 @@ pub eval-both-field-requires-2 : (t : ℕ) → eval-both-lts.Need-field-requires
   eval-expr-below t,
   eval-expr.Post,
 ) (eval-both-at t) eval-both.Post
-eval-both-field-requires-2 t c κs = ?
+eval-both-field-requires-2 t c κs = search needs
 
 -- src/lib.rt:174:19
 pub eval-both-eval-expr-requires-2 : (t : ℕ) → eval-both-lts.Need-eval-expr-requires-2 (
@@ -112,7 +116,14 @@ pub eval-both-eval-expr-requires-2 : (t : ℕ) → eval-both-lts.Need-eval-expr-
   eval-expr-below t,
   eval-expr.Post,
 ) (eval-both-at t) eval-both.Post
-eval-both-eval-expr-requires-2 t c κs = ?
+eval-both-eval-expr-requires-2 t c κs =
+    let c4 = c .before in
+    let c3 = c4 .before .before in
+    let c2 = c3 .before .before .before .before in
+    let c1 = c2 .before .before in
+    let c0 = c1 .before .before .before in
+    let d = right-child (c0 .pre .1 .0) (c0 .pre .1 .1) (c1 .field .ensures) (c2 .eval-expr .ensures) (c3 .at .given .1) (c4 .field2 .ensures) in
+    (omega (arith, c0 .pre .0, d .below), right-ready (c0 .pre .1 .0) (c0 .pre .1 .1) (c1 .field .ensures) (c2 .eval-expr .ensures) (c3 .at .given .1) (c4 .field2 .ensures))
 
 -- src/lib.rt:175:33
 pub eval-both-enum-known-k-2 : (t : ℕ) → eval-both-lts.Need-enum-known-k-2 (
@@ -121,7 +132,7 @@ pub eval-both-enum-known-k-2 : (t : ℕ) → eval-both-lts.Need-enum-known-k-2 (
   eval-expr-below t,
   eval-expr.Post,
 ) (eval-both-at t) eval-both.Post
-eval-both-enum-known-k-2 t c = ?
+eval-both-enum-known-k-2 t c = search needs
 
 -- src/lib.rt:176:31
 pub eval-both-enum-known-other : (t : ℕ) → eval-both-lts.Need-enum-known-other (
@@ -130,7 +141,7 @@ pub eval-both-enum-known-other : (t : ℕ) → eval-both-lts.Need-enum-known-oth
   eval-expr-below t,
   eval-expr.Post,
 ) (eval-both-at t) eval-both.Post
-eval-both-enum-known-other t c = ?
+eval-both-enum-known-other t c = search needs
 
 -- src/lib.rt:156:1
 pub eval-both-same-length : (t : ℕ) → eval-both-lts.Need-same-length (
@@ -139,7 +150,7 @@ pub eval-both-same-length : (t : ℕ) → eval-both-lts.Need-same-length (
   eval-expr-below t,
   eval-expr.Post,
 ) (eval-both-at t) eval-both.Post
-eval-both-same-length t c = ?
+eval-both-same-length t c = search needs
 
 -- src/lib.rt:156:1
 pub eval-both-returns : (t : ℕ) → eval-both-lts.Need-returns (
@@ -148,7 +159,12 @@ pub eval-both-returns : (t : ℕ) → eval-both-lts.Need-returns (
   eval-expr-below t,
   eval-expr.Post,
 ) (eval-both-at t) eval-both.Post
-eval-both-returns t c = ?
+eval-both-returns t c =
+    let c3 = c .before in
+    let c2 = c3 .before .before .before .before in
+    let c1 = c2 .before .before in
+    let c0 = c1 .before .before .before in
+    both-stops (c0 .pre .1 .0) (c0 .pre .1 .1) (c1 .field .ensures) (c2 .eval-expr .ensures) (c3 .k .given .1)
 
 -- src/lib.rt:156:1
 pub eval-both-same-length-2 : (t : ℕ) → eval-both-lts.Need-same-length-2 (
@@ -157,7 +173,7 @@ pub eval-both-same-length-2 : (t : ℕ) → eval-both-lts.Need-same-length-2 (
   eval-expr-below t,
   eval-expr.Post,
 ) (eval-both-at t) eval-both.Post
-eval-both-same-length-2 t c = ?
+eval-both-same-length-2 t c = search needs
 
 -- src/lib.rt:156:1
 pub eval-both-returns-2 : (t : ℕ) → eval-both-lts.Need-returns-2 (
@@ -166,7 +182,15 @@ pub eval-both-returns-2 : (t : ℕ) → eval-both-lts.Need-returns-2 (
   eval-expr-below t,
   eval-expr.Post,
 ) (eval-both-at t) eval-both.Post
-eval-both-returns-2 t c = ?
+eval-both-returns-2 t c =
+    let c6 = c .before in
+    let c5 = c6 .before .before .before .before in
+    let c4 = c5 .before .before in
+    let c3 = c4 .before .before in
+    let c2 = c3 .before .before .before .before in
+    let c1 = c2 .before .before in
+    let c0 = c1 .before .before .before in
+    both-stops-2 (c0 .pre .1 .0) (c0 .pre .1 .1) (c1 .field .ensures) (c2 .eval-expr .ensures) (c3 .at .given .1) (c4 .field2 .ensures) (c5 .eval-expr2 .ensures) (c6 .k2 .given .1)
 
 -- src/lib.rt:156:1
 pub eval-both-same-length-3 : (t : ℕ) → eval-both-lts.Need-same-length-3 (
@@ -175,7 +199,7 @@ pub eval-both-same-length-3 : (t : ℕ) → eval-both-lts.Need-same-length-3 (
   eval-expr-below t,
   eval-expr.Post,
 ) (eval-both-at t) eval-both.Post
-eval-both-same-length-3 t c = ?
+eval-both-same-length-3 t c = search needs
 
 -- src/lib.rt:156:1
 pub eval-both-returns-3 : (t : ℕ) → eval-both-lts.Need-returns-3 (
@@ -184,4 +208,12 @@ pub eval-both-returns-3 : (t : ℕ) → eval-both-lts.Need-returns-3 (
   eval-expr-below t,
   eval-expr.Post,
 ) (eval-both-at t) eval-both.Post
-eval-both-returns-3 t c = ?
+eval-both-returns-3 t c =
+    let c6 = c .before in
+    let c5 = c6 .before .before .before .before in
+    let c4 = c5 .before .before in
+    let c3 = c4 .before .before in
+    let c2 = c3 .before .before .before .before in
+    let c1 = c2 .before .before in
+    let c0 = c1 .before .before .before in
+    both-formed (c0 .pre .1 .0) (c0 .pre .1 .1) (c1 .field .ensures) (c2 .eval-expr .ensures) (c3 .at .given .1) (c4 .field2 .ensures) (c5 .eval-expr2 .ensures) (c6 .other .given .1)

@@ -59,6 +59,8 @@ use Rattle.products.proofs.put_cell.Reads as put-cell-reads
 use Rattle.table.proofs.field.Reads as field-reads
 use Rattle.table.proofs.kind.Reads as kind-reads
 use Rattle.evaluate.proofs.+each_chosen+each_member+eval_bool+eval_both+eval_expr+eval_join+eval_not+eval_one+eval_pred+eval_quant+eval_select+eval_test+eval_two.Proof.Base.{μ-each-chosen, μ-each-member, μ-eval-bool, μ-eval-both, μ-eval-expr, μ-eval-join, μ-eval-not, μ-eval-one, μ-eval-pred, μ-eval-quant, μ-eval-select, μ-eval-test, μ-eval-two, each-chosen-at, each-chosen-below, each-member-at, each-member-below, eval-bool-at, eval-bool-below, eval-both-at, eval-both-below, eval-expr-at, eval-expr-below, eval-join-at, eval-join-below, eval-not-at, eval-not-below, eval-one-at, eval-one-below, eval-pred-at, eval-pred-below, eval-quant-at, eval-quant-below, eval-select-at, eval-select-below, eval-test-at, eval-test-below, eval-two-at, eval-two-below}
+use Rattle.rules.specs.Kinds.{join, predicate}
+use Rattle.evaluate.proofs.JoinLaws.{visited-child, first-ready, join-stays, join-short, join-next, join-ready, join-stays-2, join-both}
 
 -- src/lib.rt:116:9
 pub eval-join-field-requires : (t : ℕ) → eval-join-lts.Need-field-requires (
@@ -71,7 +73,7 @@ pub eval-join-field-requires : (t : ℕ) → eval-join-lts.Need-field-requires (
   joined-reads.Asked,
   joined-reads.Learnt,
 ) (eval-join-at t) eval-join.Post
-eval-join-field-requires t c κs = ?
+eval-join-field-requires t c κs = search needs
 
 -- src/lib.rt:117:56
 pub eval-join-add-eval-pred : (t : ℕ) → eval-join-lts.Need-add-eval-pred (
@@ -84,7 +86,7 @@ pub eval-join-add-eval-pred : (t : ℕ) → eval-join-lts.Need-add-eval-pred (
   joined-reads.Asked,
   joined-reads.Learnt,
 ) (eval-join-at t) eval-join.Post
-eval-join-add-eval-pred t c = ?
+eval-join-add-eval-pred t c = search needs
 
 -- src/lib.rt:117:9
 pub eval-join-eval-pred-requires : (t : ℕ) → eval-join-lts.Need-eval-pred-requires (
@@ -97,7 +99,11 @@ pub eval-join-eval-pred-requires : (t : ℕ) → eval-join-lts.Need-eval-pred-re
   joined-reads.Asked,
   joined-reads.Learnt,
 ) (eval-join-at t) eval-join.Post
-eval-join-eval-pred-requires t c κs = ?
+eval-join-eval-pred-requires t c κs =
+    let c1 = c .before in
+    let c0 = c1 .before .before .before in
+    let d = visited-child (c0 .pre .1 .0) (join (c0 .pre .1 .1 .0)) (c0 .pre .1 .1 .1) predicate 0 _ (omega arith) (omega arith) refl (c1 .field .ensures) in
+    (omega (arith, c0 .pre .0, d .below), first-ready (c0 .pre .1 .0) d)
 
 -- src/lib.rt:118:21
 pub eval-join-enum-known-first : (t : ℕ) → eval-join-lts.Need-enum-known-first (
@@ -110,7 +116,7 @@ pub eval-join-enum-known-first : (t : ℕ) → eval-join-lts.Need-enum-known-fir
   joined-reads.Asked,
   joined-reads.Learnt,
 ) (eval-join-at t) eval-join.Post
-eval-join-enum-known-first t c = ?
+eval-join-enum-known-first t c = search needs
 
 -- src/lib.rt:119:9
 pub eval-join-enum-told : (t : ℕ) → eval-join-lts.Need-enum-told (
@@ -123,7 +129,7 @@ pub eval-join-enum-told : (t : ℕ) → eval-join-lts.Need-enum-told (
   joined-reads.Asked,
   joined-reads.Learnt,
 ) (eval-join-at t) eval-join.Post
-eval-join-enum-told t c = ?
+eval-join-enum-told t c = search needs
 
 -- src/lib.rt:119:9
 pub eval-join-same-length : (t : ℕ) → eval-join-lts.Need-same-length (
@@ -136,7 +142,7 @@ pub eval-join-same-length : (t : ℕ) → eval-join-lts.Need-same-length (
   joined-reads.Asked,
   joined-reads.Learnt,
 ) (eval-join-at t) eval-join.Post
-eval-join-same-length t c = ?
+eval-join-same-length t c = search needs
 
 -- src/lib.rt:119:9
 pub eval-join-returns : (t : ℕ) → eval-join-lts.Need-returns (
@@ -149,7 +155,11 @@ pub eval-join-returns : (t : ℕ) → eval-join-lts.Need-returns (
   joined-reads.Asked,
   joined-reads.Learnt,
 ) (eval-join-at t) eval-join.Post
-eval-join-returns t c = ?
+eval-join-returns t c =
+    let c2 = c .before .before .before .before in
+    let c1 = c2 .before .before in
+    let c0 = c1 .before .before .before in
+    join-stays (c0 .pre .1 .0) (c0 .pre .1 .1 .0) (c0 .pre .1 .1 .1) (c1 .field .ensures) (c2 .eval-pred .ensures) (c .enum-told .given .1)
 
 -- src/lib.rt:121:8
 pub eval-join-decides-requires : (t : ℕ) → eval-join-lts.Need-decides-requires (
@@ -162,7 +172,7 @@ pub eval-join-decides-requires : (t : ℕ) → eval-join-lts.Need-decides-requir
   joined-reads.Asked,
   joined-reads.Learnt,
 ) (eval-join-at t) eval-join.Post
-eval-join-decides-requires t c κs = ?
+eval-join-decides-requires t c κs = search needs
 
 -- src/lib.rt:122:9
 pub eval-join-same-length-2 : (t : ℕ) → eval-join-lts.Need-same-length-2 (
@@ -175,7 +185,7 @@ pub eval-join-same-length-2 : (t : ℕ) → eval-join-lts.Need-same-length-2 (
   joined-reads.Asked,
   joined-reads.Learnt,
 ) (eval-join-at t) eval-join.Post
-eval-join-same-length-2 t c = ?
+eval-join-same-length-2 t c = search needs
 
 -- src/lib.rt:122:9
 pub eval-join-returns-2 : (t : ℕ) → eval-join-lts.Need-returns-2 (
@@ -188,7 +198,13 @@ pub eval-join-returns-2 : (t : ℕ) → eval-join-lts.Need-returns-2 (
   joined-reads.Asked,
   joined-reads.Learnt,
 ) (eval-join-at t) eval-join.Post
-eval-join-returns-2 t c = ?
+eval-join-returns-2 t c =
+    let c4 = c .before in
+    let c3 = c4 .before .before in
+    let c2 = c3 .before .before .before .before in
+    let c1 = c2 .before .before in
+    let c0 = c1 .before .before .before in
+    join-short (c0 .pre .1 .0) (c0 .pre .1 .1 .0) (c0 .pre .1 .1 .1) (c1 .field .ensures) (c2 .eval-pred .ensures) (c3 .first .given .1) (c4 .decides .ensures) (c .if1 .taken)
 
 -- src/lib.rt:124:9
 pub eval-join-field-requires-2 : (t : ℕ) → eval-join-lts.Need-field-requires-2 (
@@ -201,7 +217,7 @@ pub eval-join-field-requires-2 : (t : ℕ) → eval-join-lts.Need-field-requires
   joined-reads.Asked,
   joined-reads.Learnt,
 ) (eval-join-at t) eval-join.Post
-eval-join-field-requires-2 t c κs = ?
+eval-join-field-requires-2 t c κs = search needs
 
 -- src/lib.rt:125:9
 pub eval-join-eval-pred-requires-2 : (t : ℕ) → eval-join-lts.Need-eval-pred-requires-2 (
@@ -214,7 +230,16 @@ pub eval-join-eval-pred-requires-2 : (t : ℕ) → eval-join-lts.Need-eval-pred-
   joined-reads.Asked,
   joined-reads.Learnt,
 ) (eval-join-at t) eval-join.Post
-eval-join-eval-pred-requires-2 t c κs = ?
+eval-join-eval-pred-requires-2 t c κs =
+    let c6 = c .before in
+    let c5 = c6 .before in
+    let c4 = c5 .before in
+    let c3 = c4 .before .before in
+    let c2 = c3 .before .before .before .before in
+    let c1 = c2 .before .before in
+    let c0 = c1 .before .before .before in
+    let d = join-next (c0 .pre .1 .0) (c0 .pre .1 .1 .0) (c0 .pre .1 .1 .1) (c1 .field .ensures) (c2 .eval-pred .ensures) (c3 .first .given .1) (c4 .decides .ensures) (c5 .if1 .left) (c6 .field2 .ensures) in
+    (omega (arith, c0 .pre .0, d .below), join-ready (c0 .pre .1 .0) (c0 .pre .1 .1 .0) (c0 .pre .1 .1 .1) (c1 .field .ensures) (c2 .eval-pred .ensures) (c3 .first .given .1) (c4 .decides .ensures) (c5 .if1 .left) (c6 .field2 .ensures))
 
 -- src/lib.rt:126:21
 pub eval-join-enum-known-second : (t : ℕ) → eval-join-lts.Need-enum-known-second (
@@ -227,7 +252,7 @@ pub eval-join-enum-known-second : (t : ℕ) → eval-join-lts.Need-enum-known-se
   joined-reads.Asked,
   joined-reads.Learnt,
 ) (eval-join-at t) eval-join.Post
-eval-join-enum-known-second t c = ?
+eval-join-enum-known-second t c = search needs
 
 -- src/lib.rt:127:9
 pub eval-join-enum-told-2 : (t : ℕ) → eval-join-lts.Need-enum-told-2 (
@@ -240,7 +265,7 @@ pub eval-join-enum-told-2 : (t : ℕ) → eval-join-lts.Need-enum-told-2 (
   joined-reads.Asked,
   joined-reads.Learnt,
 ) (eval-join-at t) eval-join.Post
-eval-join-enum-told-2 t c = ?
+eval-join-enum-told-2 t c = search needs
 
 -- src/lib.rt:127:9
 pub eval-join-same-length-3 : (t : ℕ) → eval-join-lts.Need-same-length-3 (
@@ -253,7 +278,7 @@ pub eval-join-same-length-3 : (t : ℕ) → eval-join-lts.Need-same-length-3 (
   joined-reads.Asked,
   joined-reads.Learnt,
 ) (eval-join-at t) eval-join.Post
-eval-join-same-length-3 t c = ?
+eval-join-same-length-3 t c = search needs
 
 -- src/lib.rt:127:9
 pub eval-join-returns-3 : (t : ℕ) → eval-join-lts.Need-returns-3 (
@@ -266,7 +291,16 @@ pub eval-join-returns-3 : (t : ℕ) → eval-join-lts.Need-returns-3 (
   joined-reads.Asked,
   joined-reads.Learnt,
 ) (eval-join-at t) eval-join.Post
-eval-join-returns-3 t c = ?
+eval-join-returns-3 t c =
+    let c7 = c .before .before .before .before in
+    let c6 = c7 .before .before in
+    let c5 = c6 .before in
+    let c4 = c5 .before in
+    let c3 = c4 .before .before in
+    let c2 = c3 .before .before .before .before in
+    let c1 = c2 .before .before in
+    let c0 = c1 .before .before .before in
+    join-stays-2 (c0 .pre .1 .0) (c0 .pre .1 .1 .0) (c0 .pre .1 .1 .1) (c1 .field .ensures) (c2 .eval-pred .ensures) (c3 .first .given .1) (c4 .decides .ensures) (c5 .if1 .left) (c6 .field2 .ensures) (c7 .eval-pred2 .ensures) (c .enum-told2 .given .1)
 
 -- src/lib.rt:129:17
 pub eval-join-joined-requires : (t : ℕ) → eval-join-lts.Need-joined-requires (
@@ -279,7 +313,7 @@ pub eval-join-joined-requires : (t : ℕ) → eval-join-lts.Need-joined-requires
   joined-reads.Asked,
   joined-reads.Learnt,
 ) (eval-join-at t) eval-join.Post
-eval-join-joined-requires t c κs = ?
+eval-join-joined-requires t c κs = search needs
 
 -- src/lib.rt:102:1
 pub eval-join-same-length-4 : (t : ℕ) → eval-join-lts.Need-same-length-4 (
@@ -292,7 +326,7 @@ pub eval-join-same-length-4 : (t : ℕ) → eval-join-lts.Need-same-length-4 (
   joined-reads.Asked,
   joined-reads.Learnt,
 ) (eval-join-at t) eval-join.Post
-eval-join-same-length-4 t c = ?
+eval-join-same-length-4 t c = search needs
 
 -- src/lib.rt:102:1
 pub eval-join-returns-4 : (t : ℕ) → eval-join-lts.Need-returns-4 (
@@ -305,4 +339,14 @@ pub eval-join-returns-4 : (t : ℕ) → eval-join-lts.Need-returns-4 (
   joined-reads.Asked,
   joined-reads.Learnt,
 ) (eval-join-at t) eval-join.Post
-eval-join-returns-4 t c = ?
+eval-join-returns-4 t c =
+    let c8 = c .before .before in
+    let c7 = c8 .before .before .before .before in
+    let c6 = c7 .before .before in
+    let c5 = c6 .before in
+    let c4 = c5 .before in
+    let c3 = c4 .before .before in
+    let c2 = c3 .before .before .before .before in
+    let c1 = c2 .before .before in
+    let c0 = c1 .before .before .before in
+    join-both (c0 .pre .1 .0) (c0 .pre .1 .1 .0) (c0 .pre .1 .1 .1) (c1 .field .ensures) (c2 .eval-pred .ensures) (c3 .first .given .1) (c4 .decides .ensures) (c5 .if1 .left) (c6 .field2 .ensures) (c7 .eval-pred2 .ensures) (c8 .second .given .1) (c .joined .ensures)

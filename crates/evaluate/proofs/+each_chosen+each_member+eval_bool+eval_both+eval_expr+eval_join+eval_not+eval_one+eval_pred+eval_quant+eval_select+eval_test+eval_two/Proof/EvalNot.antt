@@ -59,6 +59,8 @@ use Rattle.products.proofs.put_cell.Reads as put-cell-reads
 use Rattle.table.proofs.field.Reads as field-reads
 use Rattle.table.proofs.kind.Reads as kind-reads
 use Rattle.evaluate.proofs.+each_chosen+each_member+eval_bool+eval_both+eval_expr+eval_join+eval_not+eval_one+eval_pred+eval_quant+eval_select+eval_test+eval_two.Proof.Base.{μ-each-chosen, μ-each-member, μ-eval-bool, μ-eval-both, μ-eval-expr, μ-eval-join, μ-eval-not, μ-eval-one, μ-eval-pred, μ-eval-quant, μ-eval-select, μ-eval-test, μ-eval-two, each-chosen-at, each-chosen-below, each-member-at, each-member-below, eval-bool-at, eval-bool-below, eval-both-at, eval-both-below, eval-expr-at, eval-expr-below, eval-join-at, eval-join-below, eval-not-at, eval-not-below, eval-one-at, eval-one-below, eval-pred-at, eval-pred-below, eval-quant-at, eval-quant-below, eval-select-at, eval-select-below, eval-test-at, eval-test-below, eval-two-at, eval-two-below}
+use Rattle.rules.specs.Kinds.{negation, predicate}
+use Rattle.evaluate.proofs.JoinLaws.{visited-child, first-ready, is-negation, not-held, not-stays, not-turns}
 
 -- src/lib.rt:147:9
 pub eval-not-field-requires : (t : ℕ) → eval-not-lts.Need-field-requires (
@@ -67,7 +69,7 @@ pub eval-not-field-requires : (t : ℕ) → eval-not-lts.Need-field-requires (
   eval-pred-below t,
   eval-pred.Post,
 ) (eval-not-at t) eval-not.Post
-eval-not-field-requires t c κs = ?
+eval-not-field-requires t c κs = search needs
 
 -- src/lib.rt:148:56
 pub eval-not-add-eval-pred : (t : ℕ) → eval-not-lts.Need-add-eval-pred (
@@ -76,7 +78,7 @@ pub eval-not-add-eval-pred : (t : ℕ) → eval-not-lts.Need-add-eval-pred (
   eval-pred-below t,
   eval-pred.Post,
 ) (eval-not-at t) eval-not.Post
-eval-not-add-eval-pred t c = ?
+eval-not-add-eval-pred t c = search needs
 
 -- src/lib.rt:148:9
 pub eval-not-eval-pred-requires : (t : ℕ) → eval-not-lts.Need-eval-pred-requires (
@@ -85,7 +87,11 @@ pub eval-not-eval-pred-requires : (t : ℕ) → eval-not-lts.Need-eval-pred-requ
   eval-pred-below t,
   eval-pred.Post,
 ) (eval-not-at t) eval-not.Post
-eval-not-eval-pred-requires t c κs = ?
+eval-not-eval-pred-requires t c κs =
+    let c1 = c .before in
+    let c2 = c1 .before .before .before in
+    let d = visited-child (c2 .pre .1 .0) negation (is-negation (c2 .pre .1 .1)) predicate 0 _ (omega arith) (omega arith) refl (c1 .field .ensures) in
+    (omega (arith, c2 .pre .0, d .below), first-ready (c2 .pre .1 .0) d)
 
 -- src/lib.rt:149:21
 pub eval-not-enum-known-first : (t : ℕ) → eval-not-lts.Need-enum-known-first (
@@ -94,7 +100,7 @@ pub eval-not-enum-known-first : (t : ℕ) → eval-not-lts.Need-enum-known-first
   eval-pred-below t,
   eval-pred.Post,
 ) (eval-not-at t) eval-not.Post
-eval-not-enum-known-first t c = ?
+eval-not-enum-known-first t c = search needs
 
 -- src/lib.rt:150:9
 pub eval-not-enum-told : (t : ℕ) → eval-not-lts.Need-enum-told (
@@ -103,7 +109,7 @@ pub eval-not-enum-told : (t : ℕ) → eval-not-lts.Need-enum-told (
   eval-pred-below t,
   eval-pred.Post,
 ) (eval-not-at t) eval-not.Post
-eval-not-enum-told t c = ?
+eval-not-enum-told t c = search needs
 
 -- src/lib.rt:150:9
 pub eval-not-same-length : (t : ℕ) → eval-not-lts.Need-same-length (
@@ -112,7 +118,7 @@ pub eval-not-same-length : (t : ℕ) → eval-not-lts.Need-same-length (
   eval-pred-below t,
   eval-pred.Post,
 ) (eval-not-at t) eval-not.Post
-eval-not-same-length t c = ?
+eval-not-same-length t c = search needs
 
 -- src/lib.rt:150:9
 pub eval-not-returns : (t : ℕ) → eval-not-lts.Need-returns (
@@ -121,7 +127,11 @@ pub eval-not-returns : (t : ℕ) → eval-not-lts.Need-returns (
   eval-pred-below t,
   eval-pred.Post,
 ) (eval-not-at t) eval-not.Post
-eval-not-returns t c = ?
+eval-not-returns t c =
+    let c1 = c .before .before .before .before in
+    let c2 = c1 .before .before in
+    let c3 = c2 .before .before .before in
+    not-stays (c .enum-told .given .1) (not-held (c3 .pre .1 .0) (is-negation (c3 .pre .1 .1)) (c2 .field .ensures) (c1 .eval-pred .ensures))
 
 -- src/lib.rt:133:1
 pub eval-not-same-length-2 : (t : ℕ) → eval-not-lts.Need-same-length-2 (
@@ -130,7 +140,7 @@ pub eval-not-same-length-2 : (t : ℕ) → eval-not-lts.Need-same-length-2 (
   eval-pred-below t,
   eval-pred.Post,
 ) (eval-not-at t) eval-not.Post
-eval-not-same-length-2 t c = ?
+eval-not-same-length-2 t c = search needs
 
 -- src/lib.rt:133:1
 pub eval-not-returns-2 : (t : ℕ) → eval-not-lts.Need-returns-2 (
@@ -139,4 +149,8 @@ pub eval-not-returns-2 : (t : ℕ) → eval-not-lts.Need-returns-2 (
   eval-pred-below t,
   eval-pred.Post,
 ) (eval-not-at t) eval-not.Post
-eval-not-returns-2 t c = ?
+eval-not-returns-2 t c =
+    let c1 = c .before .before .before .before .before in
+    let c2 = c1 .before .before in
+    let c3 = c2 .before .before .before in
+    not-turns (c .before .first .given .1) (not-held (c3 .pre .1 .0) (is-negation (c3 .pre .1 .1)) (c2 .field .ensures) (c1 .eval-pred .ensures))

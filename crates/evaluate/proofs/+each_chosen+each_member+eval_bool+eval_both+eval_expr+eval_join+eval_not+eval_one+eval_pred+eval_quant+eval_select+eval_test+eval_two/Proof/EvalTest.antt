@@ -59,6 +59,7 @@ use Rattle.products.proofs.put_cell.Reads as put-cell-reads
 use Rattle.table.proofs.field.Reads as field-reads
 use Rattle.table.proofs.kind.Reads as kind-reads
 use Rattle.evaluate.proofs.+each_chosen+each_member+eval_bool+eval_both+eval_expr+eval_join+eval_not+eval_one+eval_pred+eval_quant+eval_select+eval_test+eval_two.Proof.Base.{μ-each-chosen, μ-each-member, μ-eval-bool, μ-eval-both, μ-eval-expr, μ-eval-join, μ-eval-not, μ-eval-one, μ-eval-pred, μ-eval-quant, μ-eval-select, μ-eval-test, μ-eval-two, each-chosen-at, each-chosen-below, each-member-at, each-member-below, eval-bool-at, eval-bool-below, eval-both-at, eval-both-below, eval-expr-at, eval-expr-below, eval-join-at, eval-join-below, eval-not-at, eval-not-below, eval-one-at, eval-one-below, eval-pred-at, eval-pred-below, eval-quant-at, eval-quant-below, eval-select-at, eval-select-below, eval-test-at, eval-test-below, eval-two-at, eval-two-below}
+use Rattle.evaluate.proofs.BothLaws.{test-begins, test-stops, test-ready, test-unlike, test-truth}
 
 -- src/lib.rt:197:53
 pub eval-test-add-eval-both : (t : ℕ) → eval-test-lts.Need-add-eval-both (
@@ -67,7 +68,7 @@ pub eval-test-add-eval-both : (t : ℕ) → eval-test-lts.Need-add-eval-both (
   test-reads.Asked,
   test-reads.Learnt,
 ) (eval-test-at t) eval-test.Post
-eval-test-add-eval-both t c = ?
+eval-test-add-eval-both t c = search needs
 
 -- src/lib.rt:197:11
 pub eval-test-eval-both-requires : (t : ℕ) → eval-test-lts.Need-eval-both-requires (
@@ -76,7 +77,9 @@ pub eval-test-eval-both-requires : (t : ℕ) → eval-test-lts.Need-eval-both-re
   test-reads.Asked,
   test-reads.Learnt,
 ) (eval-test-at t) eval-test.Post
-eval-test-eval-both-requires t c κs = ?
+eval-test-eval-both-requires t c κs =
+    let c0 = c .before .before .before in
+    (omega (arith, c0 .pre .0), test-begins (c0 .pre .1 .0) (c0 .pre .1 .1 .0) (c0 .pre .1 .1 .1))
 
 -- src/lib.rt:198:26
 pub eval-test-enum-known-k : (t : ℕ) → eval-test-lts.Need-enum-known-k (
@@ -85,7 +88,7 @@ pub eval-test-enum-known-k : (t : ℕ) → eval-test-lts.Need-enum-known-k (
   test-reads.Asked,
   test-reads.Learnt,
 ) (eval-test-at t) eval-test.Post
-eval-test-enum-known-k t c = ?
+eval-test-enum-known-k t c = search needs
 
 -- src/lib.rt:199:24
 pub eval-test-enum-known-a : (t : ℕ) → eval-test-lts.Need-enum-known-a (
@@ -94,7 +97,7 @@ pub eval-test-enum-known-a : (t : ℕ) → eval-test-lts.Need-enum-known-a (
   test-reads.Asked,
   test-reads.Learnt,
 ) (eval-test-at t) eval-test.Post
-eval-test-enum-known-a t c = ?
+eval-test-enum-known-a t c = search needs
 
 -- src/lib.rt:199:53
 pub eval-test-test-requires : (t : ℕ) → eval-test-lts.Need-test-requires (
@@ -103,7 +106,11 @@ pub eval-test-test-requires : (t : ℕ) → eval-test-lts.Need-test-requires (
   test-reads.Asked,
   test-reads.Learnt,
 ) (eval-test-at t) eval-test.Post
-eval-test-test-requires t c κs = ?
+eval-test-test-requires t c κs =
+    let c2 = c .before .before in
+    let c1 = c2 .before .before .before .before in
+    let c0 = c1 .before .before .before .before in
+    (c0 .pre .1 .1, test-ready (c0 .pre .1 .0) (c0 .pre .1 .1 .0) (c0 .pre .1 .1 .1) (c1 .eval-both .ensures) (c2 .a .given .1))
 
 -- src/lib.rt:200:31
 pub eval-test-enum-told : (t : ℕ) → eval-test-lts.Need-enum-told (
@@ -112,7 +119,7 @@ pub eval-test-enum-told : (t : ℕ) → eval-test-lts.Need-enum-told (
   test-reads.Asked,
   test-reads.Learnt,
 ) (eval-test-at t) eval-test.Post
-eval-test-enum-told t c = ?
+eval-test-enum-told t c = search needs
 
 -- src/lib.rt:201:27
 pub eval-test-enum-known-yes : (t : ℕ) → eval-test-lts.Need-enum-known-yes (
@@ -121,7 +128,7 @@ pub eval-test-enum-known-yes : (t : ℕ) → eval-test-lts.Need-enum-known-yes (
   test-reads.Asked,
   test-reads.Learnt,
 ) (eval-test-at t) eval-test.Post
-eval-test-enum-known-yes t c = ?
+eval-test-enum-known-yes t c = search needs
 
 -- src/lib.rt:183:1
 pub eval-test-same-length : (t : ℕ) → eval-test-lts.Need-same-length (
@@ -130,7 +137,7 @@ pub eval-test-same-length : (t : ℕ) → eval-test-lts.Need-same-length (
   test-reads.Asked,
   test-reads.Learnt,
 ) (eval-test-at t) eval-test.Post
-eval-test-same-length t c = ?
+eval-test-same-length t c = search needs
 
 -- src/lib.rt:183:1
 pub eval-test-returns : (t : ℕ) → eval-test-lts.Need-returns (
@@ -139,7 +146,11 @@ pub eval-test-returns : (t : ℕ) → eval-test-lts.Need-returns (
   test-reads.Asked,
   test-reads.Learnt,
 ) (eval-test-at t) eval-test.Post
-eval-test-returns t c = ?
+eval-test-returns t c =
+    let c2 = c .before in
+    let c1 = c2 .before .before .before .before in
+    let c0 = c1 .before .before .before .before in
+    test-stops (c0 .pre .1 .0) (c0 .pre .1 .1 .0) (c0 .pre .1 .1 .1) (c1 .eval-both .ensures) (c2 .k .given .1)
 
 -- src/lib.rt:183:1
 pub eval-test-same-length-2 : (t : ℕ) → eval-test-lts.Need-same-length-2 (
@@ -148,7 +159,7 @@ pub eval-test-same-length-2 : (t : ℕ) → eval-test-lts.Need-same-length-2 (
   test-reads.Asked,
   test-reads.Learnt,
 ) (eval-test-at t) eval-test.Post
-eval-test-same-length-2 t c = ?
+eval-test-same-length-2 t c = search needs
 
 -- src/lib.rt:183:1
 pub eval-test-returns-2 : (t : ℕ) → eval-test-lts.Need-returns-2 (
@@ -157,7 +168,12 @@ pub eval-test-returns-2 : (t : ℕ) → eval-test-lts.Need-returns-2 (
   test-reads.Asked,
   test-reads.Learnt,
 ) (eval-test-at t) eval-test.Post
-eval-test-returns-2 t c = ?
+eval-test-returns-2 t c =
+    let c3 = c .before .before in
+    let c2 = c3 .before .before .before in
+    let c1 = c2 .before .before .before .before in
+    let c0 = c1 .before .before .before .before in
+    test-unlike (c0 .pre .1 .0) (c0 .pre .1 .1 .0) (c0 .pre .1 .1 .1) (c1 .eval-both .ensures) (c2 .a .given .1) (c3 .test .ensures) (c .enum-told .given .1)
 
 -- src/lib.rt:183:1
 pub eval-test-same-length-3 : (t : ℕ) → eval-test-lts.Need-same-length-3 (
@@ -166,7 +182,7 @@ pub eval-test-same-length-3 : (t : ℕ) → eval-test-lts.Need-same-length-3 (
   test-reads.Asked,
   test-reads.Learnt,
 ) (eval-test-at t) eval-test.Post
-eval-test-same-length-3 t c = ?
+eval-test-same-length-3 t c = search needs
 
 -- src/lib.rt:183:1
 pub eval-test-returns-3 : (t : ℕ) → eval-test-lts.Need-returns-3 (
@@ -175,4 +191,10 @@ pub eval-test-returns-3 : (t : ℕ) → eval-test-lts.Need-returns-3 (
   test-reads.Asked,
   test-reads.Learnt,
 ) (eval-test-at t) eval-test.Post
-eval-test-returns-3 t c = ?
+eval-test-returns-3 t c =
+    let c4 = c .before in
+    let c3 = c4 .before .before in
+    let c2 = c3 .before .before .before in
+    let c1 = c2 .before .before .before .before in
+    let c0 = c1 .before .before .before .before in
+    test-truth (c0 .pre .1 .0) (c0 .pre .1 .1 .0) (c0 .pre .1 .1 .1) (c1 .eval-both .ensures) (c2 .a .given .1) (c3 .test .ensures) (c4 .yes .given .1)
