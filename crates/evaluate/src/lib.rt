@@ -1,7 +1,12 @@
 // Evaluate: the value rules of document 01 over an arena of cells.
 ghost use mathlib.Core.Path.{_≡_};
 ghost use Rattle.rules.specs.Kinds.{join, test, quant, one, two};
+ghost use Rattle.rules.specs.Tables.{tableOf, givenCount, identifierCount};
+ghost use Rattle.rules.specs.Readable.{Readable};
+ghost use Rattle.rules.specs.Ends.{done};
+ghost use Rattle.evaluate.specs.declared.Ending.the-variants.{Decided};
 ghost use Rattle.evaluate.specs.Answers.{SettleReady};
+ghost use Rattle.evaluate.specs.Result.{endingOf, RefusedAt, Reports, Begins};
 ghost use Rattle.evaluate.specs.Nodes.{IsPred, IsExpr, TwoFields, DecidesBy, JoinedBy, quantOf, SomeGood, RangeAt, NameReady, NameAt, LeafNode, LeafFormed, ChooseReady, Chooses};
 ghost use Rattle.evaluate.specs.Cycle.{Ready, Visited, Sort, EvaluatesP, EvaluatesE, EvaluatesBoth, EachReady, EvaluatesEach, EvaluatesChosen, Settles};
 use operations::Outcome;
@@ -311,13 +316,19 @@ fn eval_expr(
     }
 }
 
+fn wide(x: u32) -> usize
+    ensures { λ r. ⌜ r ≡ x ⌝ }
+{
+    x as usize
+}
+
 // 20: the value stays where it is.
 fn eval_name(table: &[u8], base: usize, env: &[u32; 32], top: usize, node: usize, steps: u32) -> Formed
     requires { ⌜ NameReady (now table) base (now env) node ⌝ }
     ensures { λ r. ⌜ NameAt (now (table .entry)) (now (env .entry)) top node steps r ⌝ }
 {
     let x = table::field(table, base, node, 0);
-    Formed::Value(env[x] as usize, top, steps)
+    Formed::Value(wide(env[x]), top, steps)
 }
 
 // 21 to 24, 26 and 42
@@ -511,11 +522,15 @@ fn each_chosen(
     Formed::Value(top, to, n)
 }
 
-fn truth_of(yes: bool) -> Truth {
+fn truth_of(yes: bool) -> Truth
+    ensures { λ r. ⌜ endingOf (Decided r) ≡ done yes ⌝ }
+{
     if yes { Truth::True } else { Truth::False }
 }
 
-fn refused(number: u8, place: usize, steps: u32) -> Evaluation {
+fn refused(number: u8, place: usize, steps: u32) -> Evaluation
+    ensures { λ r. ⌜ RefusedAt number place steps r ⌝ }
+{
     Evaluation {
         ending: Ending::Refused(Refusal {
             number: number,
@@ -525,7 +540,9 @@ fn refused(number: u8, place: usize, steps: u32) -> Evaluation {
     }
 }
 
-fn ended(held: Held) -> Evaluation {
+fn ended(held: Held) -> Evaluation
+    ensures { λ r. ⌜ Reports held r ⌝ }
+{
     match held {
         Held::Truth(yes, n) => Evaluation {
             ending: Ending::Decided(truth_of(yes)),
@@ -536,7 +553,10 @@ fn ended(held: Held) -> Evaluation {
 }
 
 // The sizes of the given sets.
-fn sizes_of(table: &[u8]) -> [u32; 16] {
+fn sizes_of(table: &[u8]) -> [u32; 16]
+    requires { ⌜ Readable (now table) ⌝ }
+    ensures { λ r. ⌜ Begins (tableOf (now (table .entry)) .sizes) (givenCount (now (table .entry))) 16 r ⌝ }
+{
     let count = table::givens(table);
     let mut sizes = [0u32; 16];
     let mut g: usize = 0;
@@ -548,7 +568,10 @@ fn sizes_of(table: &[u8]) -> [u32; 16] {
 }
 
 // The words of the identifiers.
-fn binds_of(table: &[u8]) -> [u32; 32] {
+fn binds_of(table: &[u8]) -> [u32; 32]
+    requires { ⌜ Readable (now table) ⌝ }
+    ensures { λ r. ⌜ Begins (tableOf (now (table .entry)) .binds) (identifierCount (now (table .entry))) 32 r ⌝ }
+{
     let count = table::identifiers(table);
     let mut binds = [0u32; 32];
     let mut x: usize = 0;
