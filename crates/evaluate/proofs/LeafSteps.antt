@@ -1,5 +1,5 @@
 -- Joins by their codes, the range of a binder, and the nodes without operands.
-use Prim.Native.Nat.{ℕ, _+_, _*_, _%_, _≤_, _<_}
+use Prim.Native.Nat.{ℕ, _%_, _<_}
 use mathlib.Core.Bool.{Bool, true, false, cond, not, _&&_, _||_, Bool·beq}
 use mathlib.Core.List.{List, [], _∷_}
 use mathlib.Core.Logic.{_⊎_, inl, inr, _≢_}
@@ -8,21 +8,19 @@ use mathlib.Core.Path.{_≡_, refl, sym, ap, _∙_, subst}
 use native.Mathlib.Omega.{arith}
 use lib.Dec.{eqb}
 use lib.ListN.{length, getD}
-use Rattle.rules.specs.Values.{Value, set, Values, count}
+use Rattle.rules.specs.Values.{Value, set}
 use Rattle.rules.specs.Kinds.{Join, and, or, implies, iff, join, kindOf}
 use Rattle.rules.specs.Rules.{t̂, P̂}
-use Rattle.rules.specs.Fits.{fits}
 use Rattle.rules.specs.Operations as rules
 use Rattle.rules.specs.Tables.{tableOf, nodeAt}
 use Rattle.fitting.specs.Agree.{SomeTyped}
 use Rattle.fitting.specs.Tests.{FitOne}
 use Rattle.fitting.proofs.Cells.{first-cell}
-use Rattle.operations.specs.Good.{Sizes, GoodAt}
+use Rattle.operations.specs.Good.{GoodAt}
 use Rattle.operations.specs.Outcomes.{LeafReady, LeafDone}
 use Rattle.operations.proofs.GoodLaws.{good-fits, good-typed-at, good-inside}
 use Rattle.operations.proofs.KindLaws.{joinCode, code-of}
 use Rattle.operations.proofs.SingleLaws.{fits-is-set}
-use Rattle.evaluate.specs.declared.Formed.{Formed}
 use Rattle.evaluate.specs.declared.Formed.the-variants.{Value as Placed}
 use Rattle.evaluate.specs.declared.Range.the-variants.{Set, Unlike}
 use Rattle.evaluate.specs.Nodes.{DecidesBy, JoinedBy, SomeGood, RangeAt, NameReady, NameAt, LeafNode, LeafFormed}
@@ -83,17 +81,17 @@ module _ {k : ℕ} (p q : Bool) where
   pub and-true : k ≡ 1 → p ≡ true → JoinedBy k p q q
   and-true c e = joined-by and c (ap (λ (x : Bool). x && q) (sym e))
 
-  pub and-false : k ≡ 1 → p ≡ false → JoinedBy k p q false
-  and-false c e = joined-by and c (ap (λ (x : Bool). x && q) (sym e))
+  pub and-false : k ≡ 1 → p ≡ false → JoinedBy k p q p
+  and-false c e = joined-by and c (e ∙ ap (λ (x : Bool). x && q) (sym e))
 
-  pub or-true : k ≡ 2 → p ≡ true → JoinedBy k p q true
-  or-true c e = joined-by or c (ap (λ (x : Bool). x || q) (sym e))
+  pub or-true : k ≡ 2 → p ≡ true → JoinedBy k p q p
+  or-true c e = joined-by or c (e ∙ ap (λ (x : Bool). x || q) (sym e))
 
   pub or-false : k ≡ 2 → p ≡ false → JoinedBy k p q q
   or-false c e = joined-by or c (ap (λ (x : Bool). x || q) (sym e))
 
-  pub implies-free : k ≡ 3 → not p ≡ true → JoinedBy k p q true
-  implies-free c e = joined-by implies c (ap (λ (x : Bool). x || q) (sym e))
+  pub implies-free : k ≡ 3 → not p ≡ true → JoinedBy k p q (not p)
+  implies-free c e = joined-by implies c (e ∙ ap (λ (x : Bool). x || q) (sym e))
 
   pub implies-bound : k ≡ 3 → not p ≡ false → JoinedBy k p q q
   implies-bound c e = joined-by implies c (ap (λ (x : Bool). x || q) (sym e))

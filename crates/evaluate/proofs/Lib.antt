@@ -3,3 +3,4 @@ pub mod RunLaws
 pub mod NodeLaws
 pub mod LeafSteps
 pub mod SettleLaws
+pub mod ReportLaws

@@ -1,12 +1,11 @@
 -- What a node gives is settled at its top, and a member that is chosen is copied behind those before it.
-use Prim.Native.Nat.{ℕ, _+_, _-_, _≤_, _<_}
+use Prim.Native.Nat.{ℕ, _+_, _-_, _≤_}
 use mathlib.Core.Bool.{Bool, true, false, cond}
 use mathlib.Core.List.{List}
 use mathlib.Core.Logic.{_⊎_, inl, inr}
-use mathlib.Core.Path.{_≡_, refl, sym, ap, _∙_, subst}
+use mathlib.Core.Path.{_≡_, refl, sym, _∙_, subst}
 use native.Mathlib.Omega.{arith}
-use lib.ListN.{length, getD}
-use Rattle.rules.specs.Values.{weight}
+use lib.ListN.{length}
 use Rattle.rules.specs.Runs.{Given}
 use Rattle.arena.specs.Code.{code, Stands, Same, Copied}
 use Rattle.arena.proofs.CodeLaws.{length-code}

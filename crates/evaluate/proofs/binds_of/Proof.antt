@@ -1,55 +1,53 @@
+-- The invariant: the first entries are the words of the identifiers.
+use Prim.Native.Nat.{_-_}
+use mathlib.Core.Path.{refl}
+use native.Mathlib.Omega.{arith}
+use borrow.Author.Needs.{needs}
+use Rattle.rules.specs.Tables.{tableOf, identifierCount}
+use Rattle.rules.proofs.TableLaws.{binds-length}
+use Rattle.evaluate.proofs.ReportLaws.{Filled, filled-start, filled-turn, filled-end, bind-bound, bind-fits}
 use Rattle.evaluate.proofs.binds_of.Statement.{statement}
 use Rattle.evaluate.proofs.binds_of.Tie as tie
-use Rattle.evaluate.proofs.binds_of.Reads as reads
-use Rattle.evaluate.proofs.binds_of.Lts as lts
-use Rattle.table.proofs.bind.Reads as bind-reads
-use Rattle.table.proofs.identifiers.Reads as identifiers-reads
 
 abbrev Inv-loop : tie.InvT-loop
-Inv-loop table count binds₀ x₀ binds x = ?
+Inv-loop table count binds₀ x₀ binds x = Filled (tableOf table .binds) (identifierCount table) 32 x binds
 
 abbrev μ-loop : tie.MeasureT-loop
-μ-loop table count binds₀ x₀ binds x = ?
+μ-loop table count binds₀ x₀ binds x = count - x
 
--- src/lib.rt:569:9
 identifiers-requires : tie.Need-identifiers-requires Inv-loop μ-loop
-identifiers-requires c κs = ?
+identifiers-requires c κs = c .before .pre .header .long
 
--- src/lib.rt:572:5
 loop-holds : tie.Need-loop-holds Inv-loop μ-loop
-loop-holds c = ?
+loop-holds c = filled-start refl
 
--- src/lib.rt:573:20
 bind-requires : tie.Need-bind-requires Inv-loop μ-loop
-bind-requires c κs = ?
+bind-requires c κs = (c .before .before .before .before .pre .header, omega (arith, c .loop-test, c .before .before .identifiers .ensures))
 
--- src/lib.rt:573:20
 cast-binds : tie.Need-cast-binds Inv-loop μ-loop
-cast-binds c = ?
+cast-binds c = let b = c .before .before in omega (arith, bind-fits (b .before .before .before .pre) (b .loop .x) (omega (arith, c .before .loop-test, b .before .identifiers .ensures)) (c .bind .ensures))
 
--- src/lib.rt:573:9
 mul-binds : tie.Need-mul-binds Inv-loop μ-loop
-mul-binds c = ?
+mul-binds c = let b = c .before .before in omega (arith, c .before .loop-test, b .before .identifiers .ensures, bind-bound (b .before .before .before .pre))
 
--- src/lib.rt:573:9
 array-write-binds : tie.Need-array-write-binds Inv-loop μ-loop
-array-write-binds c = ?
+array-write-binds c = let b = c .before .before in omega (arith, c .before .loop-test, b .before .identifiers .ensures, bind-bound (b .before .before .before .pre))
 
--- src/lib.rt:574:9
 add-x : tie.Need-add-x Inv-loop μ-loop
-add-x c = ?
+add-x c = search needs
 
--- src/lib.rt:572:5
 loop-less : tie.Need-loop-less Inv-loop μ-loop
-loop-less c = ?
+loop-less c = omega (arith, c .before .loop-test)
 
--- src/lib.rt:572:5
 loop-again : tie.Need-loop-again Inv-loop μ-loop
-loop-again c = ?
+loop-again c =
+    let b = c .before .before in
+    filled-turn (b .loop .inv) (omega (arith, c .before .loop-test, b .before .identifiers .ensures)) (bind-bound (b .before .before .before .pre)) (c .bind .ensures 0)
 
--- src/lib.rt:565:1
 returns : tie.Need-returns Inv-loop μ-loop
-returns c = ?
+returns c =
+    let b = c .before in
+    filled-end (b .loop .inv) (omega (arith, c .loop-test, b .before .identifiers .ensures)) (binds-length _) (bind-bound (b .before .before .before .pre))
 
 pub binds-of-spec : {M : Type 1} → statement M
 binds-of-spec =

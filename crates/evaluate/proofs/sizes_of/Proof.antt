@@ -1,55 +1,53 @@
+-- The invariant: the first entries are the sizes.
+use Prim.Native.Nat.{_-_}
+use mathlib.Core.Path.{refl}
+use native.Mathlib.Omega.{arith}
+use borrow.Author.Needs.{needs}
+use Rattle.rules.specs.Tables.{tableOf, givenCount}
+use Rattle.rules.proofs.TableLaws.{sizes-length}
+use Rattle.evaluate.proofs.ReportLaws.{Filled, filled-start, filled-turn, filled-end, size-bound, size-fits}
 use Rattle.evaluate.proofs.sizes_of.Statement.{statement}
 use Rattle.evaluate.proofs.sizes_of.Tie as tie
-use Rattle.evaluate.proofs.sizes_of.Reads as reads
-use Rattle.evaluate.proofs.sizes_of.Lts as lts
-use Rattle.table.proofs.givens.Reads as givens-reads
-use Rattle.table.proofs.size.Reads as size-reads
 
 abbrev Inv-loop : tie.InvT-loop
-Inv-loop table count sizes₀ g₀ sizes g = ?
+Inv-loop table count sizes₀ g₀ sizes g = Filled (tableOf table .sizes) (givenCount table) 16 g sizes
 
 abbrev μ-loop : tie.MeasureT-loop
-μ-loop table count sizes₀ g₀ sizes g = ?
+μ-loop table count sizes₀ g₀ sizes g = count - g
 
--- src/lib.rt:554:9
 givens-requires : tie.Need-givens-requires Inv-loop μ-loop
-givens-requires c κs = ?
+givens-requires c κs = c .before .pre .header .long
 
--- src/lib.rt:557:5
 loop-holds : tie.Need-loop-holds Inv-loop μ-loop
-loop-holds c = ?
+loop-holds c = filled-start refl
 
--- src/lib.rt:558:20
 size-requires : tie.Need-size-requires Inv-loop μ-loop
-size-requires c κs = ?
+size-requires c κs = c .before .before .before .before .pre .header
 
--- src/lib.rt:558:20
 cast-sizes : tie.Need-cast-sizes Inv-loop μ-loop
-cast-sizes c = ?
+cast-sizes c = let b = c .before .before in omega (arith, size-fits (b .before .before .before .pre) (b .loop .g) (c .size .ensures))
 
--- src/lib.rt:558:9
 mul-sizes : tie.Need-mul-sizes Inv-loop μ-loop
-mul-sizes c = ?
+mul-sizes c = let b = c .before .before in omega (arith, c .before .loop-test, b .before .givens .ensures, size-bound (b .before .before .before .pre))
 
--- src/lib.rt:558:9
 array-write-sizes : tie.Need-array-write-sizes Inv-loop μ-loop
-array-write-sizes c = ?
+array-write-sizes c = let b = c .before .before in omega (arith, c .before .loop-test, b .before .givens .ensures, size-bound (b .before .before .before .pre))
 
--- src/lib.rt:559:9
 add-g : tie.Need-add-g Inv-loop μ-loop
-add-g c = ?
+add-g c = search needs
 
--- src/lib.rt:557:5
 loop-less : tie.Need-loop-less Inv-loop μ-loop
-loop-less c = ?
+loop-less c = omega (arith, c .before .loop-test)
 
--- src/lib.rt:557:5
 loop-again : tie.Need-loop-again Inv-loop μ-loop
-loop-again c = ?
+loop-again c =
+    let b = c .before .before in
+    filled-turn (b .loop .inv) (omega (arith, c .before .loop-test, b .before .givens .ensures)) (size-bound (b .before .before .before .pre)) (c .size .ensures)
 
--- src/lib.rt:550:1
 returns : tie.Need-returns Inv-loop μ-loop
-returns c = ?
+returns c =
+    let b = c .before in
+    filled-end (b .loop .inv) (omega (arith, c .loop-test, b .before .givens .ensures)) (sizes-length _) (size-bound (b .before .before .before .pre))
 
 pub sizes-of-spec : {M : Type 1} → statement M
 sizes-of-spec =
