@@ -323,7 +323,14 @@ fn wide(x: u32) -> usize
 }
 
 // 20: the value stays where it is.
-fn eval_name(table: &[u8], base: usize, env: &[u32; 32], top: usize, node: usize, steps: u32) -> Formed
+fn eval_name(
+    table: &[u8],
+    base: usize,
+    env: &[u32; 32],
+    top: usize,
+    node: usize,
+    steps: u32,
+) -> Formed
     requires { ⌜ NameReady (now table) base (now env) node ⌝ }
     ensures { λ r. ⌜ NameAt (now (table .entry)) (now (env .entry)) top node steps r ⌝ }
 {
@@ -332,7 +339,15 @@ fn eval_name(table: &[u8], base: usize, env: &[u32; 32], top: usize, node: usize
 }
 
 // 21 to 24, 26 and 42
-fn eval_leaf(table: &[u8], base: usize, s: &mut [u64], top: usize, kind: usize, node: usize, steps: u32) -> Formed
+fn eval_leaf(
+    table: &[u8],
+    base: usize,
+    s: &mut [u64],
+    top: usize,
+    kind: usize,
+    node: usize,
+    steps: u32,
+) -> Formed
     requires { ⌜ LeafNode (now table) base (now s) top kind node ⌝ }
     ensures { λ r. ⌜ LeafFormed (now (table .entry)) (now (s .entry)) top kind node steps (now (s .exit)) r ⌝ }
 {
@@ -369,7 +384,16 @@ fn eval_bool(
 }
 
 // What a node gives: a value that has been built above is copied down to top, one within an operand stays.
-fn settle(s: &mut [u64], r: Outcome, mid: usize, next: usize, top: usize, node: usize, steps: u32, budget: u32) -> Formed
+fn settle(
+    s: &mut [u64],
+    r: Outcome,
+    mid: usize,
+    next: usize,
+    top: usize,
+    node: usize,
+    steps: u32,
+    budget: u32,
+) -> Formed
     requires { ⌜ SettleReady (now s) r mid next top steps budget ⌝ }
     ensures { λ x. ⌜ Settles (now (s .entry)) r mid next top node steps budget (now (s .exit)) x ⌝ }
 {
