@@ -60,6 +60,14 @@ filled-end {xs} {l} {n} {size} {i} f h e k =
       whole = f .whole;
     }
 
+-- What is lent of such an array, by a count that has been read.
+module _ {xs l : List ℕ} {n size m : ℕ} (b : Begins xs n size l) (e : m ≡ n) where
+  pub begins-lent : take m l ≡ xs
+  begins-lent = ap (λ (y : ℕ). take y l) e ∙ b .first
+
+  pub begins-count : n ≤ size → m ≡ length (take m l)
+  begins-count h = sym (length-take-le m l (omega (arith, b .whole)))
+
 -- A readable table has few words, and they are small.
 module _ {bs : List ℕ} (r : Readable bs) where
   pub size-bound : givenCount bs ≤ 16
