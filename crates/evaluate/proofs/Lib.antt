@@ -9,3 +9,6 @@ pub mod RangeLaws
 pub mod QuantLaws
 pub mod JoinLaws
 pub mod BothLaws
+pub mod LeafSteps
+pub mod SettleLaws
+pub mod ReportLaws

@@ -2,3 +2,4 @@
 pub mod Answers
 pub mod Cycle
 pub mod Nodes
+pub mod Result

@@ -1,19 +1,19 @@
 // Evaluate: the value rules of document 01 over an arena of cells.
 ghost use mathlib.Core.Path.{_≡_};
 ghost use Rattle.rules.specs.Kinds.{join, test, quant, one, two};
+ghost use Rattle.rules.specs.Tables.{tableOf, givenCount, identifierCount};
+ghost use Rattle.rules.specs.Readable.{Readable};
+ghost use Rattle.rules.specs.Ends.{done};
+ghost use Rattle.evaluate.specs.declared.Ending.the-variants.{Decided};
 ghost use Rattle.evaluate.specs.Answers.{SettleReady};
+ghost use Rattle.evaluate.specs.Result.{endingOf, RefusedAt, Reports, Begins};
 ghost use Rattle.evaluate.specs.Nodes.{IsPred, IsExpr, TwoFields, DecidesBy, JoinedBy, quantOf, SomeGood, RangeAt, NameReady, NameAt, LeafNode, LeafFormed, ChooseReady, Chooses};
 ghost use Rattle.evaluate.specs.Cycle.{Ready, Visited, Sort, EvaluatesP, EvaluatesE, EvaluatesBoth, EachReady, EvaluatesEach, EvaluatesChosen, Settles};
-use buffer::Loaded;
 use operations::Outcome;
 use operations::Tested;
 use table::Reading;
 use table::Refusal;
-
-extern "C" {
-    fn impossible(x: u64) -> u64
-        ensures { λ r. ⌜ ⊥ ⌝ };
-}
+use buffer::Loaded;
 
 pub enum Truth {
     True,
@@ -86,16 +86,23 @@ fn eval_pred(
 fn decides(kind: usize, p: bool) -> bool
     ensures { λ r. ⌜ DecidesBy kind p r ⌝ }
 {
-    let _x = impossible(0);
-    p
+    match kind {
+        1 | 3 => !p,
+        2 => p,
+        _ => false,
+    }
 }
 
 // The truth of a join of two truths.
 fn joined(kind: usize, p: bool, q: bool) -> bool
     ensures { λ r. ⌜ JoinedBy kind p q r ⌝ }
 {
-    let _x = impossible(0);
-    p
+    match kind {
+        1 => p && q,
+        2 => p || q,
+        3 => !p || q,
+        _ => p == q,
+    }
 }
 
 // 1, 2, 3 and 5
@@ -208,8 +215,10 @@ fn range_of(s: &[u64], at: usize) -> Range
     requires { ⌜ SomeGood (now s) at ⌝ }
     ensures { λ r. ⌜ RangeAt (now (s .entry)) at r ⌝ }
 {
-    let _x = impossible(0);
-    Range::Unlike
+    if !fitting::is_set(s, at) {
+        return Range::Unlike;
+    }
+    Range::Set(arena::low(s[at]))
 }
 
 // 10 and 11
@@ -234,19 +243,7 @@ fn eval_quant(
             Range::Unlike => Held::Refused(15, node, n),
             Range::Set(count) => {
                 let all = kind == 10;
-                each_member(
-                    table,
-                    base,
-                    env,
-                    s,
-                    next,
-                    all,
-                    node,
-                    at + 1,
-                    count,
-                    n,
-                    budget,
-                )
+                each_member(table, base, env, s, next, all, node, at + 1, count, n, budget)
             }
         },
     }
@@ -312,21 +309,17 @@ fn eval_expr(
     match kind {
         20 => eval_name(table, base, env, top, node, steps + 1),
         25 => eval_bool(table, base, env, s, top, kind, node, steps, budget),
-        27 | 33 | 35 | 36 | 38 | 43 => eval_one(
-            table,
-            base,
-            env,
-            s,
-            top,
-            kind,
-            node,
-            steps,
-            budget,
-        ),
+        27 | 33 | 35 | 36 | 38 | 43 => eval_one(table, base, env, s, top, kind, node, steps, budget),
         28..=32 | 37 | 39..=41 => eval_two(table, base, env, s, top, kind, node, steps, budget),
         34 => eval_select(table, base, env, s, top, kind, node, steps, budget),
         _ => eval_leaf(table, base, s, top, kind, node, steps + 1),
     }
+}
+
+fn wide(x: u32) -> usize
+    ensures { λ r. ⌜ r ≡ x ⌝ }
+{
+    x as usize
 }
 
 // 20: the value stays where it is.
@@ -341,8 +334,8 @@ fn eval_name(
     requires { ⌜ NameReady (now table) base (now env) node ⌝ }
     ensures { λ r. ⌜ NameAt (now (table .entry)) (now (env .entry)) top node steps r ⌝ }
 {
-    let _x = impossible(0);
-    Formed::Stopped(0, 0, steps)
+    let x = table::field(table, base, node, 0);
+    Formed::Value(wide(env[x]), top, steps)
 }
 
 // 21 to 24, 26 and 42
@@ -358,8 +351,11 @@ fn eval_leaf(
     requires { ⌜ LeafNode (now table) base (now s) top kind node ⌝ }
     ensures { λ r. ⌜ LeafFormed (now (table .entry)) (now (s .entry)) top kind node steps (now (s .exit)) r ⌝ }
 {
-    let _x = impossible(0);
-    Formed::Stopped(0, 0, steps)
+    let a = table::field(table, base, node, 0);
+    let b = table::field(table, base, node, 1);
+    let size = table::size(table, a);
+    let end = operations::leaf(s, kind, a as u64, b as u64, size as u64, top);
+    Formed::Value(top, end, steps)
 }
 
 // 25
@@ -401,8 +397,15 @@ fn settle(
     requires { ⌜ SettleReady (now s) r mid next top steps budget ⌝ }
     ensures { λ x. ⌜ Settles (now (s .entry)) r mid next top node steps budget (now (s .exit)) x ⌝ }
 {
-    let _x = impossible(0);
-    Formed::Stopped(0, node, steps)
+    match r {
+        Outcome::Lacks(k) => Formed::Stopped(k, node, steps),
+        Outcome::Within(at) => Formed::Value(at, mid, steps),
+        Outcome::Built(end) => {
+            let n = end - next;
+            arena::copy(s, next, n, top);
+            Formed::Value(top, top + n, steps)
+        }
+    }
 }
 
 // 27, 33, 35, 36, 38 and 43
@@ -491,8 +494,12 @@ fn choose(s: &mut [u64], at: usize, end: usize, yes: bool, to: usize) -> usize
     requires { ⌜ ChooseReady (now s) at end to ⌝ }
     ensures { λ r. ⌜ Chooses (now (s .entry)) at end yes to (now (s .exit)) r ⌝ }
 {
-    let _x = impossible(0);
-    to
+    if !yes {
+        return to;
+    }
+    let n = end - at;
+    arena::copy(s, at, n, to);
+    to + n
 }
 
 // The members, of `count` from `from` on, at which the body holds, as a set built at top.
@@ -539,3 +546,115 @@ fn each_chosen(
     Formed::Value(top, to, n)
 }
 
+fn truth_of(yes: bool) -> Truth
+    ensures { λ r. ⌜ endingOf (Decided r) ≡ done yes ⌝ }
+{
+    if yes { Truth::True } else { Truth::False }
+}
+
+fn refused(number: u8, place: usize, steps: u32) -> Evaluation
+    ensures { λ r. ⌜ RefusedAt number place steps r ⌝ }
+{
+    Evaluation {
+        ending: Ending::Refused(Refusal {
+            number: number,
+            place: place,
+        }),
+        steps: steps,
+    }
+}
+
+fn ended(held: Held) -> Evaluation
+    ensures { λ r. ⌜ Reports held r ⌝ }
+{
+    match held {
+        Held::Truth(yes, n) => Evaluation {
+            ending: Ending::Decided(truth_of(yes)),
+            steps: n,
+        },
+        Held::Refused(k, p, n) => refused(k, p, n),
+    }
+}
+
+// The sizes of the given sets.
+fn sizes_of(table: &[u8]) -> [u32; 16]
+    requires { ⌜ Readable (now table) ⌝ }
+    ensures { λ r. ⌜ Begins (tableOf (now (table .entry)) .sizes) (givenCount (now (table .entry))) 16 r ⌝ }
+{
+    let count = table::givens(table);
+    let mut sizes = [0u32; 16];
+    let mut g: usize = 0;
+    while g < count {
+        sizes[g] = table::size(table, g) as u32;
+        g += 1;
+    }
+    sizes
+}
+
+// The words of the identifiers.
+fn binds_of(table: &[u8]) -> [u32; 32]
+    requires { ⌜ Readable (now table) ⌝ }
+    ensures { λ r. ⌜ Begins (tableOf (now (table .entry)) .binds) (identifierCount (now (table .entry))) 32 r ⌝ }
+{
+    let count = table::identifiers(table);
+    let mut binds = [0u32; 32];
+    let mut x: usize = 0;
+    while x < count {
+        binds[x] = table::bind(table, x) as u32;
+        x += 1;
+    }
+    binds
+}
+
+// Evaluates a readable table over the arena s.
+fn evaluate_in(table: &[u8], values: &[u8], budget: u32, s: &mut [u64]) -> Evaluation {
+    let sizes = sizes_of(table);
+    let binds = binds_of(table);
+    let g = table::givens(table);
+    let i = table::identifiers(table);
+    let loaded = buffer::read_values(values, &sizes[..g], &binds[..i], s, 0);
+    match loaded.answer {
+        Loaded::Refused(x) => refused(14, x, 0),
+        Loaded::All(top) => {
+            let base = table::nodes_offset(table);
+            let root = table::nodes(table) - 1;
+            let env = loaded.at;
+            ended(eval_pred(table, base, &env, s, top, root, 0, budget))
+        }
+    }
+}
+
+// Arenas of three sizes, so that a small condition does not pay for a large one.
+fn small(table: &[u8], values: &[u8], budget: u32) -> Evaluation {
+    let mut s = [0u64; 4096];
+    evaluate_in(table, values, budget, &mut s)
+}
+
+fn middle(table: &[u8], values: &[u8], budget: u32) -> Evaluation {
+    let mut s = [0u64; 12288];
+    evaluate_in(table, values, budget, &mut s)
+}
+
+fn large(table: &[u8], values: &[u8], budget: u32) -> Evaluation {
+    let mut s = [0u64; 29700];
+    evaluate_in(table, values, budget, &mut s)
+}
+
+fn evaluate_sized(table: &[u8], values: &[u8], budget: u32) -> Evaluation {
+    let need = 1027 + 256 * table::identifiers(table) + 512 * table::nodes(table);
+    if need <= 4096 {
+        return small(table, values, budget);
+    }
+    if need <= 12288 {
+        return middle(table, values, budget);
+    }
+    large(table, values, budget)
+}
+
+// Evaluate: refusals 1 to 9, then 14, and then the condition's end.
+pub fn evaluate(table: &[u8], values: &[u8], budget: u32) -> Evaluation {
+    match table::read(table) {
+        Reading::Refused(r) => refused(r.number, r.place, 0),
+        Reading::Passed => evaluate_sized(table, values, budget),
+    }
+}
