@@ -8,7 +8,7 @@ use native.Mathlib.Omega.{arith}
 use native.Mathlib.Nat.{le-refl}
 use native.Mathlib.Numerals.{add-one}
 use lib.Dec.{eqb}
-use lib.ListN.{length, getD, set as setAt}
+use lib.ListN.{set as setAt}
 use Rattle.rules.specs.Values.{Value, Values, members, weight}
 use Rattle.rules.specs.Kinds.{Quant, forAll, forSome, quant, kindOf}
 use Rattle.rules.specs.Rules.{quantRule}

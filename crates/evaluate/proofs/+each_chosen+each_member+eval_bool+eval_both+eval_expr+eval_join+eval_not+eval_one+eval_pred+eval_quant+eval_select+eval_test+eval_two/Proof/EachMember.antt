@@ -113,7 +113,11 @@ pub each-member-cast-inner : (t : ℕ) → each-member-lts.Need-cast-inner (
   end-of-reads.Learnt,
 ) (each-member-at t) each-member.Post each-member-Inv-loop each-member-μ-loop
 each-member-cast-inner t c =
-    record { fits = member-low (c .before .before .before .before .before .before .before .pre .1) (c .before .loop .inv) (omega (arith, c .loop-test .taken)) }
+    let l = c .before in
+    let g = l .before .before in
+    let f = g .before in
+    let a = f .before .before .before in
+    record { fits = member-low (a .pre .1) (l .loop .inv) (omega (arith, c .loop-test .taken)) }
 
 -- src/lib.rt:279:9
 pub each-member-mul-inner : (t : ℕ) → each-member-lts.Need-mul-inner (
@@ -147,8 +151,12 @@ pub each-member-eval-pred-requires : (t : ℕ) → each-member-lts.Need-eval-pre
   end-of-reads.Learnt,
 ) (each-member-at t) each-member.Post each-member-Inv-loop each-member-μ-loop
 each-member-eval-pred-requires t c κs =
-    (omega (arith, c .before .before .before .before .before .before .before .before .before .pre .0, c .before .before .before .before .before .before .before .before .before .pre .1 .deeper, c .before .before .before .before .before .field2 .ensures),
-     body-ready (c .before .before .before .before .before .before .before .before .before .pre .1) (c .before .before .before .loop .inv) (omega (arith, c .before .before .loop-test .taken)) (c .before .before .before .before .before .before .field .ensures) (c .before .before .before .before .before .field2 .ensures))
+    let w = c .before .before in
+    let l = w .before in
+    let g = l .before .before in
+    let f = g .before in
+    let a = f .before .before .before in
+    (omega (arith, a .pre .0, a .pre .1 .deeper, g .field2 .ensures), body-ready (a .pre .1) (l .loop .inv) (omega (arith, w .loop-test .taken)) (f .field .ensures) (g .field2 .ensures))
 
 -- src/lib.rt:281:25
 pub each-member-enum-known-held : (t : ℕ) → each-member-lts.Need-enum-known-held (
@@ -193,8 +201,13 @@ pub each-member-returns : (t : ℕ) → each-member-lts.Need-returns (
   end-of-reads.Learnt,
 ) (each-member-at t) each-member.Post each-member-Inv-loop each-member-μ-loop
 each-member-returns t c =
-    member-refused (c .before .before .before .before .before .before .before .before .before .before .before .before .before .before .pre .1) (c .before .before .before .before .before .before .before .before .loop .inv) (omega (arith, c .before .before .before .before .before .before .before .loop-test .taken)) (c .before .before .before .before .before .before .before .before .before .before .before .field .ensures) (c .before .before .before .before .before .before .before .before .before .before .field2 .ensures)
-    (c .before .before .before .before .eval-pred .ensures) _ _ _ (c .enum-told .given .1)
+    let p = c .before .before .before .before in
+    let w = p .before .before .before in
+    let l = w .before in
+    let g = l .before .before in
+    let f = g .before in
+    let a = f .before .before .before in
+    member-refused (a .pre .1) (l .loop .inv) (omega (arith, w .loop-test .taken)) (f .field .ensures) (g .field2 .ensures) (p .eval-pred .ensures) _ _ _ (c .enum-told .given .1)
 
 -- src/lib.rt:285:13
 pub each-member-same-length-2 : (t : ℕ) → each-member-lts.Need-same-length-2 (
@@ -217,8 +230,13 @@ pub each-member-returns-2 : (t : ℕ) → each-member-lts.Need-returns-2 (
   end-of-reads.Learnt,
 ) (each-member-at t) each-member.Post each-member-Inv-loop each-member-μ-loop
 each-member-returns-2 t c =
-    member-decides (c .before .before .before .before .before .before .before .before .before .before .before .before .before .before .before .before .pre .1) (c .before .before .before .before .before .before .before .before .before .before .loop .inv) (omega (arith, c .before .before .before .before .before .before .before .before .before .loop-test .taken)) (c .before .before .before .before .before .before .before .before .before .before .before .before .before .field .ensures) (c .before .before .before .before .before .before .before .before .before .before .before .before .field2 .ensures)
-    (c .before .before .before .before .before .before .eval-pred .ensures) _ _ (c .before .before .held .given .1) (differ _ _ (c .if1 .taken))
+    let p = c .before .before .before .before .before .before in
+    let w = p .before .before .before in
+    let l = w .before in
+    let g = l .before .before in
+    let f = g .before in
+    let a = f .before .before .before in
+    member-decides (a .pre .1) (l .loop .inv) (omega (arith, w .loop-test .taken)) (f .field .ensures) (g .field2 .ensures) (p .eval-pred .ensures) _ _ (c .before .before .held .given .1) (differ _ _ (c .if1 .taken))
 
 -- src/lib.rt:288:9
 pub each-member-end-of-requires : (t : ℕ) → each-member-lts.Need-end-of-requires (
@@ -230,7 +248,13 @@ pub each-member-end-of-requires : (t : ℕ) → each-member-lts.Need-end-of-requ
   end-of-reads.Learnt,
 ) (each-member-at t) each-member.Post each-member-Inv-loop each-member-μ-loop
 each-member-end-of-requires t c κs =
-    member-stands (c .before .before .before .before .before .before .before .before .before .before .before .before .before .before .before .before .before .pre .1) (c .before .before .before .before .before .before .before .before .before .before .before .loop .inv) (omega (arith, c .before .before .before .before .before .before .before .before .before .before .loop-test .taken)) _ (c .before .before .before .before .before .before .before .eval-pred .ensures .frame)
+    let p = c .before .before .before .before .before .before .before in
+    let w = p .before .before .before in
+    let l = w .before in
+    let g = l .before .before in
+    let f = g .before in
+    let a = f .before .before .before in
+    member-stands (a .pre .1) (l .loop .inv) (omega (arith, w .loop-test .taken)) _ (p .eval-pred .ensures .frame)
 
 -- src/lib.rt:289:9
 pub each-member-sub-left : (t : ℕ) → each-member-lts.Need-sub-left (
@@ -264,8 +288,14 @@ pub each-member-loop-again : (t : ℕ) → each-member-lts.Need-loop-again (
   end-of-reads.Learnt,
 ) (each-member-at t) each-member.Post each-member-Inv-loop each-member-μ-loop
 each-member-loop-again t c =
-    turning-on (c .before .before .before .before .before .before .before .before .before .before .before .before .before .before .before .before .before .before .pre .1) (c .before .before .before .before .before .before .before .before .before .before .before .before .loop .inv) (omega (arith, c .before .before .before .before .before .before .before .before .before .before .before .loop-test .taken)) (c .before .before .before .before .before .before .before .before .before .before .before .before .before .before .before .field .ensures) (c .before .before .before .before .before .before .before .before .before .before .before .before .before .before .field2 .ensures)
-    (c .before .before .before .before .before .before .before .before .eval-pred .ensures) _ _ _ (c .before .before .before .before .held .given .1) (agree _ _ (c .before .before .if1 .left)) (c .end-of .ensures)
+    let p = c .before .before .before .before .before .before .before .before in
+    let w = p .before .before .before in
+    let l = w .before in
+    let g = l .before .before in
+    let f = g .before in
+    let a = f .before .before .before in
+    turning-on (a .pre .1) (l .loop .inv) (omega (arith, w .loop-test .taken)) (f .field .ensures) (g .field2 .ensures) (p .eval-pred .ensures) _ _ _ (c .before .before .before .before .held .given .1)
+    (agree _ _ (c .before .before .if1 .left)) (c .end-of .ensures)
 
 -- src/lib.rt:256:1
 pub each-member-same-length-3 : (t : ℕ) → each-member-lts.Need-same-length-3 (

@@ -99,8 +99,10 @@ pub eval-quant-eval-expr-requires : (t : ℕ) → eval-quant-lts.Need-eval-expr-
   each-member.Post,
 ) (eval-quant-at t) eval-quant.Post
 eval-quant-eval-expr-requires t c κs =
-    let q = quant-range (c .before .before .before .before .pre .1 .0) (c .before .before .before .before .pre .1 .1) (c .before .field .ensures) in
-    (omega (arith, c .before .before .before .before .pre .0, q .2), (q .0, q .1))
+    let f = c .before in
+    let v = f .before .before .before in
+    let q = quant-range (v .pre .1 .0) (v .pre .1 .1) (f .field .ensures) in
+    (omega (arith, v .pre .0, q .2), (q .0, q .1))
 
 -- src/lib.rt:232:25
 pub eval-quant-enum-known-k : (t : ℕ) → eval-quant-lts.Need-enum-known-k (
@@ -140,7 +142,11 @@ pub eval-quant-range-of-requires : (t : ℕ) → eval-quant-lts.Need-range-of-re
   each-member.Post,
 ) (eval-quant-at t) eval-quant.Post
 eval-quant-range-of-requires t c κs =
-    range-good (c .before .before .before .before .before .before .before .before .before .before .before .pre .1 .0) (c .before .before .before .before .before .before .before .before .before .before .before .pre .1 .1) (c .before .before .before .before .before .before .before .before .field .ensures) (c .before .before .before .before .before .before .eval-expr .ensures) (c .before .before .at .given .1)
+    let m = c .before .before in
+    let p = m .before .before .before .before in
+    let f = p .before .before in
+    let v = f .before .before .before in
+    range-good (v .pre .1 .0) (v .pre .1 .1) (f .field .ensures) (p .eval-expr .ensures) (m .at .given .1)
 
 -- src/lib.rt:234:30
 pub eval-quant-enum-told : (t : ℕ) → eval-quant-lts.Need-enum-told (
@@ -180,7 +186,11 @@ pub eval-quant-add-each-member : (t : ℕ) → eval-quant-lts.Need-add-each-memb
   each-member.Post,
 ) (eval-quant-at t) eval-quant.Post
 eval-quant-add-each-member t c =
-    record { fits = omega (arith, range-low (c .before .before .before .before .before .before .before .before .before .before .before .before .before .before .before .before .pre .1 .0) (c .before .before .before .before .before .before .before .before .before .before .before .before .before .before .before .before .pre .1 .1) (c .before .before .before .before .before .before .before .before .before .before .before .before .before .field .ensures) (c .before .before .before .before .before .before .before .before .before .before .before .eval-expr .ensures) (c .before .before .before .before .before .before .before .at .given .1)) }
+    let m = c .before .before .before .before .before .before .before in
+    let p = m .before .before .before .before in
+    let f = p .before .before in
+    let v = f .before .before .before in
+    record { fits = omega (arith, range-low (v .pre .1 .0) (v .pre .1 .1) (f .field .ensures) (p .eval-expr .ensures) (m .at .given .1)) }
 
 -- src/lib.rt:237:17
 pub eval-quant-each-member-requires : (t : ℕ) → eval-quant-lts.Need-each-member-requires (
@@ -194,9 +204,13 @@ pub eval-quant-each-member-requires : (t : ℕ) → eval-quant-lts.Need-each-mem
   each-member.Post,
 ) (eval-quant-at t) eval-quant.Post
 eval-quant-each-member-requires t c κs =
-    (omega (arith, c .before .before .before .before .before .before .before .before .before .before .before .before .before .before .before .before .pre .0),
-     quant-ready (c .before .before .before .before .before .before .before .before .before .before .before .before .before .before .before .before .pre .1 .0) (c .before .before .before .before .before .before .before .before .before .before .before .before .before .before .before .before .pre .1 .1) (c .before .before .before .before .before .before .before .before .before .before .before .before .before .field .ensures) (c .before .before .before .before .before .before .before .before .before .before .before .eval-expr .ensures) (c .before .before .before .before .before .before .before .at .given .1)
-     (c .before .before .before .before .range-of .ensures) (c .before .before .count .given .1))
+    let m = c .before .before .before .before .before .before .before in
+    let p = m .before .before .before .before in
+    let f = p .before .before in
+    let v = f .before .before .before in (
+      omega (arith, v .pre .0),
+      quant-ready (v .pre .1 .0) (v .pre .1 .1) (f .field .ensures) (p .eval-expr .ensures) (m .at .given .1) (c .before .before .before .before .range-of .ensures) (c .before .before .count .given .1),
+    )
 
 -- src/lib.rt:216:1
 pub eval-quant-same-length : (t : ℕ) → eval-quant-lts.Need-same-length (
@@ -223,7 +237,11 @@ pub eval-quant-returns : (t : ℕ) → eval-quant-lts.Need-returns (
   each-member.Post,
 ) (eval-quant-at t) eval-quant.Post
 eval-quant-returns t c =
-    range-refused (c .before .before .before .before .before .before .before .before .before .before .pre .1 .0) (c .before .before .before .before .before .before .before .before .before .before .pre .1 .1) (c .before .before .before .before .before .before .before .field .ensures) (c .before .before .before .before .before .eval-expr .ensures) _ _ _ (c .before .k .given .1)
+    let m = c .before in
+    let p = m .before .before .before .before in
+    let f = p .before .before in
+    let v = f .before .before .before in
+    range-refused (v .pre .1 .0) (v .pre .1 .1) (f .field .ensures) (p .eval-expr .ensures) _ _ _ (m .k .given .1)
 
 -- src/lib.rt:216:1
 pub eval-quant-same-length-2 : (t : ℕ) → eval-quant-lts.Need-same-length-2 (
@@ -250,8 +268,11 @@ pub eval-quant-returns-2 : (t : ℕ) → eval-quant-lts.Need-returns-2 (
   each-member.Post,
 ) (eval-quant-at t) eval-quant.Post
 eval-quant-returns-2 t c =
-    range-unlike (c .before .before .before .before .before .before .before .before .before .before .before .before .before .before .pre .1 .0) (c .before .before .before .before .before .before .before .before .before .before .before .before .before .before .pre .1 .1) (c .before .before .before .before .before .before .before .before .before .before .before .field .ensures) (c .before .before .before .before .before .before .before .before .before .eval-expr .ensures) (c .before .before .before .before .before .at .given .1)
-    (c .before .before .range-of .ensures) (c .enum-told .given .1)
+    let m = c .before .before .before .before .before in
+    let p = m .before .before .before .before in
+    let f = p .before .before in
+    let v = f .before .before .before in
+    range-unlike (v .pre .1 .0) (v .pre .1 .1) (f .field .ensures) (p .eval-expr .ensures) (m .at .given .1) (c .before .before .range-of .ensures) (c .enum-told .given .1)
 
 -- src/lib.rt:216:1
 pub eval-quant-same-length-3 : (t : ℕ) → eval-quant-lts.Need-same-length-3 (
@@ -278,5 +299,9 @@ pub eval-quant-returns-3 : (t : ℕ) → eval-quant-lts.Need-returns-3 (
   each-member.Post,
 ) (eval-quant-at t) eval-quant.Post
 eval-quant-returns-3 t c =
-    quant-done (c .before .before .before .before .before .before .before .before .before .before .before .before .before .before .before .before .before .before .before .pre .1 .0) (c .before .before .before .before .before .before .before .before .before .before .before .before .before .before .before .before .before .before .before .pre .1 .1) (c .before .before .before .before .before .before .before .before .before .before .before .before .before .before .before .before .field .ensures) (c .before .before .before .before .before .before .before .before .before .before .before .before .before .before .eval-expr .ensures) (c .before .before .before .before .before .before .before .before .before .before .at .given .1)
+    let m = c .before .before .before .before .before .before .before .before .before .before in
+    let p = m .before .before .before .before in
+    let f = p .before .before in
+    let v = f .before .before .before in
+    quant-done (v .pre .1 .0) (v .pre .1 .1) (f .field .ensures) (p .eval-expr .ensures) (m .at .given .1)
     (c .before .before .before .before .before .before .before .range-of .ensures) (c .before .before .before .before .before .count .given .1) (c .before .before .each-member .ensures)
