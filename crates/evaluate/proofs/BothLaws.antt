@@ -1,5 +1,5 @@
--- The two operands of a node, one after the other.
-use Prim.Native.Nat.{ℕ, zero, suc, _+_, _≤_, _<_}
+-- The two operands of a node, one after the other, and the tests of them.
+use Prim.Native.Nat.{ℕ, suc, _+_, _≤_, _<_}
 use mathlib.Core.Bool.{Bool, true, false}
 use mathlib.Core.List.{List, [], _∷_}
 use mathlib.Core.Logic.{_⊎_, inl, inr}
@@ -7,7 +7,6 @@ use mathlib.Core.Option.{some}
 use mathlib.Core.Path.{_≡_, refl, sym, _∙_, subst}
 use native.Mathlib.Omega.{arith}
 use native.Mathlib.Numerals.{add-one}
-use lib.ListN.{length}
 use Rattle.rules.specs.Values.{Value}
 use Rattle.rules.specs.Kinds.{Category, expression, Test, test, kindOf}
 use Rattle.rules.specs.Rules.{testRule}
@@ -17,7 +16,6 @@ use Rattle.rules.specs.Ends.{End, done, refused}
 use Rattle.rules.specs.Runs.{M, return, _>>=_, _>>_}
 use Rattle.rules.specs.Operations.{Env, holds}
 use Rattle.rules.specs.Evaluation.{fitting, holdsᵖ, valueᵉ}
-use Rattle.arena.specs.Code.{Same}
 use Rattle.arena.proofs.Standing.{same-refl, same-trans}
 use Rattle.operations.specs.Outcomes.{TwoReady, TestOf, tested}
 use Rattle.operations.specs.declared.Tested.{Tested}
@@ -28,7 +26,7 @@ use Rattle.evaluate.specs.declared.Formed.the-variants.{Value as Placed,
 use Rattle.evaluate.specs.declared.Held.the-variants.{Truth, Refused}
 use Rattle.evaluate.specs.declared.Operands.{Operands}
 use Rattle.evaluate.specs.declared.Operands.the-variants.{Both, Failed}
-use Rattle.evaluate.specs.Answers.{Ends, FormedAs, FormedBounds, BothAs, SecondFails, OperandsAs, OperandsBounds}
+use Rattle.evaluate.specs.Answers.{Ends, FormedAs, FormedBounds, SecondFails}
 use Rattle.evaluate.specs.Cycle.{Binds, Ready, Visited, EvaluatesP, EvaluatesE, EvaluatesBoth}
 use Rattle.evaluate.specs.Nodes.{IsExpr, TwoFields}
 use Rattle.evaluate.proofs.RunLaws.{then-done, then-refused, returns, visited, fitting-done, fitting-refused}
@@ -179,18 +177,20 @@ module _ {bs : List ℕ} {base : ℕ} {env s : List ℕ} {top k n steps budget :
 
   pub test-begins : Ready bs base env s top n (steps + 1) budget × TwoFields bs n
   test-begins =
-      let r = x .ready in
-      (record {
-        readable = r .readable;
-        offset = r .offset;
-        node = r .node;
-        unspent = omega (arith, x .spent);
-        room = r .room;
-        small = r .small;
-        entries = r .entries;
-        values = r .values;
-        binds = r .binds;
-      }, test-fields)
+      let r = x .ready in (
+        record {
+          readable = r .readable;
+          offset = r .offset;
+          node = r .node;
+          unspent = omega (arith, x .spent);
+          room = r .room;
+          small = r .small;
+          entries = r .entries;
+          values = r .values;
+          binds = r .binds;
+        },
+        test-fields,
+      )
 
   abbrev eᵃ : ℕ → Expr
   eᵃ g = exprAt g (tableOf bs .nodes) (nodeAt (tableOf bs .nodes) n .a)
@@ -207,7 +207,7 @@ module _ {bs : List ℕ} {base : ℕ} {env s : List ℕ} {top k n steps budget :
           frame = h .frame;
           bounds = h .bounds;
           answer = λ f ρ l b. held-at budget (tableOf bs .sizes) (tableOf bs .nodes) n (test j) (visited-kind x (test j) e) ρ steps (Refused c p t) f l
-          (λ g le. test-refused budget (tableOf bs .sizes) n j (eᵃ g) (eᵇ g) ρ steps (x .spent) (h .answer g ρ le b));
+              (λ g le. test-refused budget (tableOf bs .sizes) n j (eᵃ g) (eᵇ g) ρ steps (x .spent) (h .answer g ρ le b));
         }
 
     module _ {a mid b next t : ℕ} (d : r ≡ Both a mid b next t) where
@@ -238,7 +238,7 @@ module _ {bs : List ℕ} {base : ℕ} {env s : List ℕ} {top k n steps budget :
               frame = h .frame;
               bounds = h .bounds .4;
               answer = λ f ρ l y. held-at budget (tableOf bs .sizes) (tableOf bs .nodes) n (test j) (visited-kind x (test j) e) ρ steps (Refused 15 n t) f l
-              (λ g le.
+                  (λ g le.
                   let v = h .answer g ρ le y in
                   test-unfits budget (tableOf bs .sizes) n j (eᵃ g) (eᵇ g) ρ steps (x .spent) (v .left) (v .right)
                   (tells-unlike j (v .first) (v .second)
@@ -252,7 +252,7 @@ module _ {bs : List ℕ} {base : ℕ} {env s : List ℕ} {top k n steps budget :
               frame = h .frame;
               bounds = h .bounds .4;
               answer = λ f ρ l i. held-at budget (tableOf bs .sizes) (tableOf bs .nodes) n (test j) (visited-kind x (test j) e) ρ steps (Truth y t) f l
-              (λ g le.
+                  (λ g le.
                   let v = h .answer g ρ le i in
                   let w = tells-truth j (v .first) (v .second)
                   (sym q ∙ op j e (tableOf bs .sizes) (v .first) (v .second) (sizes-small bs (x .ready .readable)) (v .leftAt) (v .rightAt)) in

@@ -1,17 +1,17 @@
--- Negations, joins and tests: what the answers for the children make of the node's.
-use Prim.Native.Nat.{ℕ, zero, suc, _+_, _≤_, _<_}
+-- Negations and joins: what the answers for the conditions below make of the node's.
+use Prim.Native.Nat.{ℕ, suc, _+_, _≤_, _<_}
 use mathlib.Core.Bool.{Bool, true, false, not, cond}
-use mathlib.Core.List.{List, [], _∷_}
+use mathlib.Core.List.{List}
 use mathlib.Core.Option.{Option, none as nothing, some}
 use mathlib.Core.Path.{_≡_, refl, sym, ap, _∙_, subst}
 use native.Mathlib.Omega.{arith}
 use native.Mathlib.Numerals.{add-one}
 use lib.Dec.{eqb}
 use lib.ListN.{length, getD}
-use Rattle.rules.specs.Kinds.{Kind, Category, predicate, expression, unused, child, Join, join, negation, kindOf, fieldsOf}
+use Rattle.rules.specs.Kinds.{Kind, Category, predicate, unused, child, Join, join, negation, kindOf, fieldsOf}
 use Rattle.rules.specs.Tables.{Node, Pred, notᵖ, joinᵖ, tableOf, nodeAt, kindAt, fieldWords, predOf, predAt, exprAt}
 use Rattle.rules.specs.Ends.{End, done, refused}
-use Rattle.rules.specs.Runs.{Run, M, return, _>>=_, _>>_, _orElse_}
+use Rattle.rules.specs.Runs.{M, return, _>>=_, _orElse_}
 use Rattle.rules.specs.Operations.{Env}
 use Rattle.rules.specs.Operations as rules
 use Rattle.rules.specs.Evaluation.{holdsᵖ}
@@ -40,7 +40,7 @@ pub child-ready : {bs : List ℕ} {base : ℕ} {env s : List ℕ} {top n steps b
     Ready bs base env s top n steps budget → Child bs n m c → Same top s s′ → steps′ ≤ budget → Ready bs base env s′ top m steps′ budget
 child-ready {top} {m} s′ steps′ r c e l = ready-child s′ m top steps′ r c e (omega arith) (omega arith) l
 
--- A condition in field i, after the visit.
+-- A child that is a condition, after the visit.
 pub first-ready : {bs : List ℕ} {base : ℕ} {env s : List ℕ} {top n steps budget m : ℕ} {k : ℕ} →
     Visited bs base env s top k n steps budget → Child bs n m predicate → Ready bs base env s top m (steps + 1) budget × IsPred bs m
 first-ready {s} {top} {steps} v c = (child-ready s (steps + 1) (v .ready) c (same-refl top s) (omega (arith, v .spent)), c .is)
@@ -106,8 +106,8 @@ not-held {bs} {env} {s} {top} {n} {steps} {budget} {a} {r} v e q h =
       frame = h .frame;
       bounds = negated-bounds budget r (h .bounds);
       answer = λ f ρ l b. held-at budget (tableOf bs .sizes) (tableOf bs .nodes) n negation (visited-kind v negation e) ρ steps (negated r) f l
-      (λ g le. negated-ends budget (tableOf bs .sizes) n ρ steps (p g) r (v .spent)
-      (held-next budget (tableOf bs .sizes) (p g) ρ steps r (held-below r c q refl h g le ρ b)));
+          (λ g le. negated-ends budget (tableOf bs .sizes) n ρ steps (p g) r (v .spent)
+          (held-next budget (tableOf bs .sizes) (p g) ρ steps r (held-below r c q refl h g le ρ b)));
     }
 
 -- As the code answers: a refusal is handed on, a truth is turned round.
@@ -181,7 +181,7 @@ module _ {bs : List ℕ} {base : ℕ} {env s : List ℕ} {top k n steps budget :
         frame = h .frame;
         bounds = held-within budget (Refused c p t) d (h .bounds);
         answer = λ f ρ l b. held-at budget (tableOf bs .sizes) (tableOf bs .nodes) n (join j) (visited-kind v (join j) e) ρ steps (Refused c p t) f l
-        (λ g le. join-refused budget (tableOf bs .sizes) n j (pᵃ g) (pᵇ g) ρ steps (v .spent) (join-first (Refused c p t) d g le ρ b));
+            (λ g le. join-refused budget (tableOf bs .sizes) n j (pᵃ g) (pᵇ g) ρ steps (v .spent) (join-first (Refused c p t) d g le ρ b));
       })
 
   module _ {y : Bool} {t : ℕ} (d : r ≡ Truth y t) {o : Bool} (by : DecidesBy k y o) where
@@ -191,8 +191,8 @@ module _ {bs : List ℕ} {base : ℕ} {env s : List ℕ} {top k n steps budget :
       frame = h .frame;
       bounds = held-within budget (Truth y t) d (h .bounds);
       answer = λ f ρ l b. held-at budget (tableOf bs .sizes) (tableOf bs .nodes) n (join j) (visited-kind v (join j) e) ρ steps (Truth (not (eqb k 1)) t) f l
-      (λ g le. join-decided budget (tableOf bs .sizes) n j (pᵃ g) (pᵇ g) ρ steps (v .spent) (join-first (Truth y t) d g le ρ b)
-      (by j e ∙ ap (λ (x : Bool). cond x (some (not (eqb k 1))) nothing) i));
+          (λ g le. join-decided budget (tableOf bs .sizes) n j (pᵃ g) (pᵇ g) ρ steps (v .spent) (join-first (Truth y t) d g le ρ b)
+          (by j e ∙ ap (λ (x : Bool). cond x (some (not (eqb k 1))) nothing) i));
     }
 
     -- It does not.
@@ -217,8 +217,8 @@ module _ {bs : List ℕ} {base : ℕ} {env s : List ℕ} {top k n steps budget :
               frame = same-trans top top s s′ s″ (h .frame) (h′ .frame) (omega arith);
               bounds = held-within budget (Refused c p u) d′ (h′ .bounds);
               answer = λ f ρ l b. held-at budget (tableOf bs .sizes) (tableOf bs .nodes) n (join j) (visited-kind v (join j) e) ρ steps (Refused c p u) f l
-              (λ g le. join-fails budget (tableOf bs .sizes) n j (pᵃ g) (pᵇ g) ρ steps (v .spent) (join-first (Truth y t) d g le ρ b)
-              open-by (join-last (Refused c p u) d′ g le ρ b));
+                  (λ g le. join-fails budget (tableOf bs .sizes) n j (pᵃ g) (pᵇ g) ρ steps (v .spent) (join-first (Truth y t) d g le ρ b)
+                  open-by (join-last (Refused c p u) d′ g le ρ b));
             })
 
         pub join-both : {z w : Bool} {u : ℕ} → r′ ≡ Truth z u → JoinedBy k y z w → EvaluatesP bs env s top n steps budget s″ (Truth w u)
@@ -228,6 +228,6 @@ module _ {bs : List ℕ} {base : ℕ} {env s : List ℕ} {top k n steps budget :
               frame = same-trans top top s s′ s″ (h .frame) (h′ .frame) (omega arith);
               bounds = held-within budget (Truth z u) d′ (h′ .bounds);
               answer = λ f ρ l b. held-at budget (tableOf bs .sizes) (tableOf bs .nodes) n (join j) (visited-kind v (join j) e) ρ steps (Truth (rules.joined j y z) u) f l
-              (λ g le. join-done budget (tableOf bs .sizes) n j (pᵃ g) (pᵇ g) ρ steps (v .spent) (join-first (Truth y t) d g le ρ b)
-              open-by (join-last (Truth z u) d′ g le ρ b));
+                  (λ g le. join-done budget (tableOf bs .sizes) n j (pᵃ g) (pᵇ g) ρ steps (v .spent) (join-first (Truth y t) d g le ρ b)
+                  open-by (join-last (Truth z u) d′ g le ρ b));
             })
