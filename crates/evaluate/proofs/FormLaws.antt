@@ -211,7 +211,7 @@ module _ {bs : List ℕ} {base : ℕ} {env s : List ℕ} {top k n steps budget :
   two-fields =
       let a = child-at x (two j) e expression 0 (nodeAt (tableOf bs .nodes) n .a) (omega arith) (omega arith) refl refl in
       let b = child-at x (two j) e expression 1 (nodeAt (tableOf bs .nodes) n .b) (omega arith) (omega arith) refl refl in
-      record { left = a .below; right = b .below; leftIs = a .is; rightIs = b .is }
+      record { left = a .below; right = b .below; leftIs = a .is; rightIs = b .is; leftLower = a .lower; rightLower = b .lower }
 
   pub two-fails : {s₁ : List ℕ} {q p t : ℕ} → EvaluatesBoth bs env s top n (steps + 1) budget s₁ (Failed q p t) →
       EvaluatesE bs env s top n steps budget s₁ (Stopped q p t)
