@@ -188,6 +188,7 @@ pub record Loading (gs ws bs : List ℕ) (x at : ℕ) (s₀ s : List ℕ) (top e
   pub room : end ≤ top + 1 + 256 * x
   pub above : top < end
   pub wide : length env ≡ 32
+  pub within : x ≤ length ws
 
 noValue-cell : (s : List ℕ) (top : ℕ) → top < length s → ValueBelow (setAt s top 6442450944) (top + 1) top noValue
 unfolding code excess
@@ -223,6 +224,7 @@ loading-start gs ws bs s top env r w u =
       room = omega arith;
       above = omega arith;
       wide = w;
+      within = omega arith;
     }
 
 bind-front : (e : End (List Value)) (front : List Value) (v : Value) →
@@ -272,6 +274,7 @@ module _ (gs ws bs : List ℕ) (x at : ℕ) (s₀ s : List ℕ) (top end : ℕ) 
         room = omega (arith, h .room, g .near);
         above = omega (arith, h .above, g .grows);
         wide = length-set env x place ∙ h .wide;
+        within = omega arith;
       }
     where
       named : (y : ℕ) → y < 32 → Dec (y ≡ x) → ValueBelow s′ e (getD (setAt env x place) y 0) (getD (h .front ++ (g .first ∷ [])) y noValue)
@@ -295,11 +298,13 @@ module _ (gs ws bs : List ℕ) (x at : ℕ) (s₀ s : List ℕ) (top end : ℕ) 
   pub loading-surplus : length ws ≤ x → at < length bs → valuesFrom gs ws 0 bs ≡ refused 14 x
   loading-surplus l m = none-left l ∙ ap (λ (us : List ℕ). nothingLeft x us >>= λ vs. done (h .front ++ vs)) (drop-cons bs at 0 m)
 
-  pub loading-end : length ws ≤ x → length bs ≤ at → Bound gs ws bs s env end
+  pub loading-end : length ws ≤ x → length bs ≤ at → Bound gs ws bs s env top end
   loading-end l m = record {
     values = h .front;
     reads = none-left l ∙ ap (λ (us : List ℕ). nothingLeft x us >>= λ vs. done (h .front ++ vs)) (drop-of-length-le bs m) ∙ ap done (append-nil (h .front));
     at = h .bound;
+    above = h .above;
+    room = omega (arith, h .room, h .within);
   }
 
 -- The cell at `top` is not below it.

@@ -48,13 +48,16 @@ pub record Room (ws s : List ℕ) (top : ℕ) : Type 0 where
   pub space : top + 1 + 256 * length ws ≤ length s
   pub small : length s < 4294967296
 
--- Each identifier's value stands below `end` where the environment says; those without one have the cell of `noValue`.
-pub record Bound (gs ws bs s env : List ℕ) (end : ℕ) : Type 0 where
+-- Each identifier's value stands below `end` where the environment says; those without one have the cell of `noValue`. What
+-- has been read lies from `top` on, within the room that was asked for.
+pub record Bound (gs ws bs s env : List ℕ) (top end : ℕ) : Type 0 where
   pub values : List Value
   pub reads : valuesFrom gs ws 0 bs ≡ done values
   pub at : (x : ℕ) → x < 32 → ValueBelow s end (getD env x 0) (getD values x noValue)
+  pub above : top < end
+  pub room : end ≤ top + 1 + 256 * length ws
 
 -- The answer is that of refusal 14.
-abbrev pub Loads : List ℕ → List ℕ → List ℕ → List ℕ → List ℕ → Loaded → Type 0
-Loads gs ws bs s env (All end) = Bound gs ws bs s env end
-Loads gs ws bs s env (Refused x) = valuesFrom gs ws 0 bs ≡ refused 14 x
+abbrev pub Loads : List ℕ → List ℕ → List ℕ → List ℕ → List ℕ → ℕ → Loaded → Type 0
+Loads gs ws bs s env top (All end) = Bound gs ws bs s env top end
+Loads gs ws bs s env top (Refused x) = valuesFrom gs ws 0 bs ≡ refused 14 x

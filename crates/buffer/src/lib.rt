@@ -365,7 +365,7 @@ pub fn read_values(
     top: usize,
 ) -> Environment
     requires { ⌜ Room (now binds) (now s) top ⌝ }
-    ensures { λ r. ⌜ Same top (now (s .entry)) (now (s .exit)) × Loads (now (sizes .entry)) (now (binds .entry)) (now (values .entry)) (now (s .exit)) (r .at) (r .answer) ⌝ }
+    ensures { λ r. ⌜ Same top (now (s .entry)) (now (s .exit)) × Loads (now (sizes .entry)) (now (binds .entry)) (now (values .entry)) (now (s .exit)) (r .at) top (r .answer) ⌝ }
 {
     s[top] = 6442450944;
     let mut env = [top as u32; 32];

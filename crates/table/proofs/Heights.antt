@@ -1,5 +1,5 @@
 -- The height of a node by the heights that the code has for the nodes below it.
-use Prim.Native.Nat.{ℕ, _+_, _≤_, _<_, max}
+use Prim.Native.Nat.{ℕ, _+_, _-_, _≤_, _<_, max}
 use mathlib.Core.Bool.{Bool, true, false, cond}
 use mathlib.Core.List.{List, [], _∷_}
 use mathlib.Core.Path.{_≡_, refl, sym, ap, ap₂, _∙_}
@@ -9,12 +9,15 @@ use lib.ListN.{length, getD, set}
 use lib.Seq.{getD-set-same, getD-set-other}
 use borrow.Author.Tests.{le-leb, lt-leb}
 use Rattle.rules.specs.Kinds.{unused, isChild, kindOf}
-use Rattle.rules.specs.Tables.{Node, tableOf, nodeAt, fieldsAt, keptIf, held, nodeCount}
+use Rattle.rules.specs.Tables.{Node, tableOf, nodeAt, fieldsAt, keptIf, held, nodeCount, lastNode}
 use Rattle.rules.specs.Reading.{tallest, height, heightGood}
-use Rattle.rules.specs.Readable.{NodeRight}
+use Rattle.rules.specs.Ends.{leastFailing}
+use Rattle.rules.specs.Readable.{NodeRight, Readable}
 use Rattle.rules.proofs.EndLaws.{Each}
 use Rattle.rules.proofs.TableLaws.{nodes-length, held-below, height-at}
 use Rattle.table.specs.Layout.{Fielded, countsAt, fieldAt, Heights}
+use Rattle.table.specs.Answers.{foundOr}
+use Rattle.table.proofs.Least.{least-none}
 use Rattle.table.proofs.Counting.{pick-three}
 
 tallest-kept : (h : ℕ → ℕ) (b : Bool) (x : ℕ) (xs : List ℕ) → tallest h (keptIf b x xs) ≡ max (cond b (h x) 0) (tallest h xs)
@@ -86,3 +89,19 @@ module _ (bs : List ℕ) (at n : ℕ) (f : Fielded bs at) (below : n < nodeCount
       go : Dec (m ≡ n) → getD (set hs n (t + 1)) m 0 ≡ height (tableOf bs .nodes) m
       go (yes e) = rw (e, getD-set-same hs n (t + 1) 0 long) (sym height-next)
       go (no e) = getD-set-other hs n m (t + 1) 0 e ∙ heights m (omega arith)
+
+-- Where the table is readable, all nodes have their heights, and so has the root.
+module _ (bs : List ℕ) (r : Readable bs) where
+  all-low : foundOr (nodeCount bs) (leastFailing (heightGood (tableOf bs)) 0 (nodeCount bs)) ≡ nodeCount bs
+  unfolding heightGood
+  all-low =
+      sym (least-none (heightGood (tableOf bs)) (nodeCount bs) (nodeCount bs)
+      (record { within = omega arith; passed = λ n l. le-leb (height (tableOf bs .nodes) n) 40 (r .records .heights n (omega (arith, nodes-length bs))) })
+      (omega arith))
+
+  pub root-height : (hs : List ℕ) (n count : ℕ) → n ≡ foundOr (nodeCount bs) (leastFailing (heightGood (tableOf bs)) 0 (nodeCount bs)) → Heights bs n hs →
+      count ≡ nodeCount bs → getD hs (count - 1) 0 ≡ height (tableOf bs .nodes) (lastNode (tableOf bs .nodes))
+  unfolding lastNode
+  root-height hs n count e heights is =
+      let last : count - 1 ≡ length (tableOf bs .nodes) - 1 = omega (arith, nodes-length bs) in
+      heights (count - 1) (omega (arith, all-low, r .header .some-node)) ∙ ap (height (tableOf bs .nodes)) last

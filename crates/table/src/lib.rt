@@ -6,10 +6,10 @@ ghost use lib.Dec.{eqb, ltb};
 ghost use lib.ListN.{length, getD};
 ghost use Rattle.rules.specs.Kinds.{kindOf, unused};
 ghost use Rattle.rules.specs.Tables.{wordAt, tableOf, nodeAt, fieldsIf, fieldWords};
-ghost use Rattle.rules.specs.Tables.{givenCount, identifierCount, nodeCount, nodesAt};
+ghost use Rattle.rules.specs.Tables.{givenCount, identifierCount, nodeCount, nodesAt, lastNode};
 ghost use Rattle.rules.specs.Ends.{leastFailing};
-ghost use Rattle.rules.specs.Readable.{Header};
-ghost use Rattle.rules.specs.Reading.{reading, headed, limited, laidOut, sizeGood, bindGood, nodeGood, fieldGood};
+ghost use Rattle.rules.specs.Readable.{Header, Readable};
+ghost use Rattle.rules.specs.Reading.{reading, headed, limited, laidOut, sizeGood, bindGood, nodeGood, fieldGood, height};
 ghost use Rattle.table.specs.Answers.{readingOf, readingRecords, readingTree, foundOr};
 ghost use Rattle.table.specs.Codes.{fieldOf, categoryCode};
 ghost use Rattle.table.specs.Layout.{Laid, NodeIn, Fielded, sortOf, WordOf};
@@ -481,4 +481,16 @@ pub fn read(table: &[u8]) -> Reading
         return refused(3, 0);
     }
     read_records(table)
+}
+
+// The height of the root of a table that `read` passes.
+pub fn root_height(table: &[u8]) -> usize
+    requires { ⌜ Readable (now table) ⌝ }
+    ensures { λ r. ⌜ r ≡ height (tableOf (now (table .entry)) .nodes) (lastNode (tableOf (now (table .entry)) .nodes)) ⌝ }
+{
+    let at = nodes_offset(table);
+    let root = nodes(table) - 1;
+    let mut heights = [0u8; 512];
+    tree::set_heights(table, at, &mut heights);
+    wide(heights[root])
 }

@@ -8,7 +8,7 @@ ghost use Rattle.rules.specs.Tables.{tableOf, nodeAt, held, heldIn, nodeCount};
 ghost use Rattle.rules.specs.Ends.{leastFailing};
 ghost use Rattle.rules.specs.Reading.{parentGood, heightGood, occurrences, tallest};
 ghost use Rattle.table.specs.Answers.{foundOr};
-ghost use Rattle.table.specs.Layout.{NodeIn, Fielded, FieldIn, Room, BumpPre, Bumped, countsAt, fieldAt, Counted};
+ghost use Rattle.table.specs.Layout.{NodeIn, Fielded, FieldIn, Room, BumpPre, Bumped, countsAt, fieldAt, Counted, Heights};
 use super::category;
 use super::counts;
 use super::field;
@@ -117,16 +117,15 @@ fn tallest_child(table: &[u8], at: usize, n: usize, heights: &[u8]) -> u8
     larger(a, larger(b, c))
 }
 
-// Refusal 8: the least node whose height is above the limit, or N.
-pub fn first_bad_height(table: &[u8], at: usize) -> usize
-    requires { ⌜ Fielded (now table) at ⌝ }
-    ensures { λ r. ⌜ r ≡ foundOr (nodeCount (now (table .entry))) (leastFailing (heightGood (tableOf (now (table .entry)))) 0 (nodeCount (now (table .entry)))) ⌝ }
+// Sets the heights of the nodes below the first that is above the limit, and answers that node, or N.
+pub fn set_heights(table: &[u8], at: usize, heights: &mut [u8]) -> usize
+    requires { ⌜ Fielded (now table) at × (length (now heights) ≡ 512) ⌝ }
+    ensures { λ r. ⌜ (r ≡ foundOr (nodeCount (now (table .entry))) (leastFailing (heightGood (tableOf (now (table .entry)))) 0 (nodeCount (now (table .entry))))) × Heights (now (table .entry)) r (now (heights .exit)) ⌝ }
 {
     let count = nodes(table);
-    let mut heights = [0u8; 512];
     let mut n: usize = 0;
     while n < count {
-        let h = tallest_child(table, at, n, &heights);
+        let h = tallest_child(table, at, n, heights);
         if 40 <= h {
             return n;
         }
@@ -134,4 +133,13 @@ pub fn first_bad_height(table: &[u8], at: usize) -> usize
         n += 1;
     }
     count
+}
+
+// Refusal 8: the least node whose height is above the limit, or N.
+pub fn first_bad_height(table: &[u8], at: usize) -> usize
+    requires { ⌜ Fielded (now table) at ⌝ }
+    ensures { λ r. ⌜ r ≡ foundOr (nodeCount (now (table .entry))) (leastFailing (heightGood (tableOf (now (table .entry)))) 0 (nodeCount (now (table .entry)))) ⌝ }
+{
+    let mut heights = [0u8; 512];
+    set_heights(table, at, &mut heights)
 }

@@ -1,0 +1,432 @@
+-- `eval_select`.
+use Prim.Native.Nat.{ℕ, suc, zero, _+_, _*_, _-_, _≤_, _<_}
+use mathlib.Core.Path.{_≡_, refl, sym, ap, subst, _∙_}
+use native.Mathlib.Omega.{arith}
+use borrow.Author.Needs.{needs}
+use borrow.Fn.Kinds.{In}
+use borrow.Fn.PlainCycle.{Measures, is, falls, and}
+use Rattle.evaluate.proofs.each_chosen.Reads as each-chosen
+use Rattle.evaluate.proofs.each_chosen.Kinds as each-chosen-kinds
+use Rattle.evaluate.proofs.+each_chosen+each_member+eval_bool+eval_both+eval_expr+eval_join+eval_not+eval_one+eval_pred+eval_quant+eval_select+eval_test+eval_two.Lts-each_chosen as each-chosen-lts
+use Rattle.evaluate.proofs.each_member.Reads as each-member
+use Rattle.evaluate.proofs.each_member.Kinds as each-member-kinds
+use Rattle.evaluate.proofs.+each_chosen+each_member+eval_bool+eval_both+eval_expr+eval_join+eval_not+eval_one+eval_pred+eval_quant+eval_select+eval_test+eval_two.Lts-each_member as each-member-lts
+use Rattle.evaluate.proofs.eval_bool.Reads as eval-bool
+use Rattle.evaluate.proofs.eval_bool.Kinds as eval-bool-kinds
+use Rattle.evaluate.proofs.+each_chosen+each_member+eval_bool+eval_both+eval_expr+eval_join+eval_not+eval_one+eval_pred+eval_quant+eval_select+eval_test+eval_two.Lts-eval_bool as eval-bool-lts
+use Rattle.evaluate.proofs.eval_both.Reads as eval-both
+use Rattle.evaluate.proofs.eval_both.Kinds as eval-both-kinds
+use Rattle.evaluate.proofs.+each_chosen+each_member+eval_bool+eval_both+eval_expr+eval_join+eval_not+eval_one+eval_pred+eval_quant+eval_select+eval_test+eval_two.Lts-eval_both as eval-both-lts
+use Rattle.evaluate.proofs.eval_expr.Reads as eval-expr
+use Rattle.evaluate.proofs.eval_expr.Kinds as eval-expr-kinds
+use Rattle.evaluate.proofs.+each_chosen+each_member+eval_bool+eval_both+eval_expr+eval_join+eval_not+eval_one+eval_pred+eval_quant+eval_select+eval_test+eval_two.Lts-eval_expr as eval-expr-lts
+use Rattle.evaluate.proofs.eval_join.Reads as eval-join
+use Rattle.evaluate.proofs.eval_join.Kinds as eval-join-kinds
+use Rattle.evaluate.proofs.+each_chosen+each_member+eval_bool+eval_both+eval_expr+eval_join+eval_not+eval_one+eval_pred+eval_quant+eval_select+eval_test+eval_two.Lts-eval_join as eval-join-lts
+use Rattle.evaluate.proofs.eval_not.Reads as eval-not
+use Rattle.evaluate.proofs.eval_not.Kinds as eval-not-kinds
+use Rattle.evaluate.proofs.+each_chosen+each_member+eval_bool+eval_both+eval_expr+eval_join+eval_not+eval_one+eval_pred+eval_quant+eval_select+eval_test+eval_two.Lts-eval_not as eval-not-lts
+use Rattle.evaluate.proofs.eval_one.Reads as eval-one
+use Rattle.evaluate.proofs.eval_one.Kinds as eval-one-kinds
+use Rattle.evaluate.proofs.+each_chosen+each_member+eval_bool+eval_both+eval_expr+eval_join+eval_not+eval_one+eval_pred+eval_quant+eval_select+eval_test+eval_two.Lts-eval_one as eval-one-lts
+use Rattle.evaluate.proofs.eval_pred.Reads as eval-pred
+use Rattle.evaluate.proofs.eval_pred.Kinds as eval-pred-kinds
+use Rattle.evaluate.proofs.+each_chosen+each_member+eval_bool+eval_both+eval_expr+eval_join+eval_not+eval_one+eval_pred+eval_quant+eval_select+eval_test+eval_two.Lts-eval_pred as eval-pred-lts
+use Rattle.evaluate.proofs.eval_quant.Reads as eval-quant
+use Rattle.evaluate.proofs.eval_quant.Kinds as eval-quant-kinds
+use Rattle.evaluate.proofs.+each_chosen+each_member+eval_bool+eval_both+eval_expr+eval_join+eval_not+eval_one+eval_pred+eval_quant+eval_select+eval_test+eval_two.Lts-eval_quant as eval-quant-lts
+use Rattle.evaluate.proofs.eval_select.Reads as eval-select
+use Rattle.evaluate.proofs.eval_select.Kinds as eval-select-kinds
+use Rattle.evaluate.proofs.+each_chosen+each_member+eval_bool+eval_both+eval_expr+eval_join+eval_not+eval_one+eval_pred+eval_quant+eval_select+eval_test+eval_two.Lts-eval_select as eval-select-lts
+use Rattle.evaluate.proofs.eval_test.Reads as eval-test
+use Rattle.evaluate.proofs.eval_test.Kinds as eval-test-kinds
+use Rattle.evaluate.proofs.+each_chosen+each_member+eval_bool+eval_both+eval_expr+eval_join+eval_not+eval_one+eval_pred+eval_quant+eval_select+eval_test+eval_two.Lts-eval_test as eval-test-lts
+use Rattle.evaluate.proofs.eval_two.Reads as eval-two
+use Rattle.evaluate.proofs.eval_two.Kinds as eval-two-kinds
+use Rattle.evaluate.proofs.+each_chosen+each_member+eval_bool+eval_both+eval_expr+eval_join+eval_not+eval_one+eval_pred+eval_quant+eval_select+eval_test+eval_two.Lts-eval_two as eval-two-lts
+use Rattle.arena.proofs.end_of.Reads as end-of-reads
+use Rattle.evaluate.proofs.choose.Reads as choose-reads
+use Rattle.evaluate.proofs.decides.Reads as decides-reads
+use Rattle.evaluate.proofs.eval_leaf.Reads as eval-leaf-reads
+use Rattle.evaluate.proofs.eval_name.Reads as eval-name-reads
+use Rattle.evaluate.proofs.joined.Reads as joined-reads
+use Rattle.evaluate.proofs.range_of.Reads as range-of-reads
+use Rattle.evaluate.proofs.settle.Reads as settle-reads
+use Rattle.operations.proofs.one.Reads as one-reads
+use Rattle.operations.proofs.test.Reads as test-reads
+use Rattle.operations.proofs.two.Reads as two-reads
+use Rattle.products.proofs.put_cell.Reads as put-cell-reads
+use Rattle.table.proofs.field.Reads as field-reads
+use Rattle.table.proofs.kind.Reads as kind-reads
+use Rattle.evaluate.proofs.+each_chosen+each_member+eval_bool+eval_both+eval_expr+eval_join+eval_not+eval_one+eval_pred+eval_quant+eval_select+eval_test+eval_two.Proof.Base.{μ-each-chosen, μ-each-member, μ-eval-bool, μ-eval-both, μ-eval-expr, μ-eval-join, μ-eval-not, μ-eval-one, μ-eval-pred, μ-eval-quant, μ-eval-select, μ-eval-test, μ-eval-two, each-chosen-at, each-chosen-below, each-member-at, each-member-below, eval-bool-at, eval-bool-below, eval-both-at, eval-both-below, eval-expr-at, eval-expr-below, eval-join-at, eval-join-below, eval-not-at, eval-not-below, eval-one-at, eval-one-below, eval-pred-at, eval-pred-below, eval-quant-at, eval-quant-below, eval-select-at, eval-select-below, eval-test-at, eval-test-below, eval-two-at, eval-two-below}
+use Rattle.arena.proofs.Standing.{same-refl}
+use Rattle.evaluate.proofs.NodeLaws.{ready-child}
+use Rattle.evaluate.proofs.FormLaws.{evaluated-as, range-as, chosen-as, select-child, select-fails, range-good, range-low, range-fails, select-each, chosen-fails, select-settles, select-evaluates}
+
+-- src/lib.rt:472:9
+pub eval-select-field-requires : (t : ℕ) → eval-select-lts.Need-field-requires (
+  field-reads.Asked,
+  field-reads.Learnt,
+  eval-expr-below t,
+  eval-expr.Post,
+  range-of-reads.Asked,
+  range-of-reads.Learnt,
+  each-chosen-below t,
+  each-chosen.Post,
+  settle-reads.Asked,
+  settle-reads.Learnt,
+) (eval-select-at t) eval-select.Post
+eval-select-field-requires t c κs = search needs
+
+-- src/lib.rt:473:50
+pub eval-select-add-eval-expr : (t : ℕ) → eval-select-lts.Need-add-eval-expr (
+  field-reads.Asked,
+  field-reads.Learnt,
+  eval-expr-below t,
+  eval-expr.Post,
+  range-of-reads.Asked,
+  range-of-reads.Learnt,
+  each-chosen-below t,
+  each-chosen.Post,
+  settle-reads.Asked,
+  settle-reads.Learnt,
+) (eval-select-at t) eval-select.Post
+eval-select-add-eval-expr t c = search needs
+
+-- src/lib.rt:473:11
+pub eval-select-eval-expr-requires : (t : ℕ) → eval-select-lts.Need-eval-expr-requires (
+  field-reads.Asked,
+  field-reads.Learnt,
+  eval-expr-below t,
+  eval-expr.Post,
+  range-of-reads.Asked,
+  range-of-reads.Learnt,
+  each-chosen-below t,
+  each-chosen.Post,
+  settle-reads.Asked,
+  settle-reads.Learnt,
+) (eval-select-at t) eval-select.Post
+eval-select-eval-expr-requires t c κs =
+    let b = c .before .before .before .before in
+    let d = select-child (b .pre .1 .0) (b .pre .1 .1) (c .before .field .ensures) in
+    (omega (arith, b .pre .0, d .below), (ready-child _ _ _ _ (b .pre .1 .0 .ready) d (same-refl _ _) (omega arith) (omega arith) (omega (arith, b .pre .1 .0 .spent)), d .is))
+
+-- src/lib.rt:474:25
+pub eval-select-enum-known-k : (t : ℕ) → eval-select-lts.Need-enum-known-k (
+  field-reads.Asked,
+  field-reads.Learnt,
+  eval-expr-below t,
+  eval-expr.Post,
+  range-of-reads.Asked,
+  range-of-reads.Learnt,
+  each-chosen-below t,
+  each-chosen.Post,
+  settle-reads.Asked,
+  settle-reads.Learnt,
+) (eval-select-at t) eval-select.Post
+eval-select-enum-known-k t c = search needs
+
+-- src/lib.rt:475:23
+pub eval-select-enum-known-at : (t : ℕ) → eval-select-lts.Need-enum-known-at (
+  field-reads.Asked,
+  field-reads.Learnt,
+  eval-expr-below t,
+  eval-expr.Post,
+  range-of-reads.Asked,
+  range-of-reads.Learnt,
+  each-chosen-below t,
+  each-chosen.Post,
+  settle-reads.Asked,
+  settle-reads.Learnt,
+) (eval-select-at t) eval-select.Post
+eval-select-enum-known-at t c = search needs
+
+-- src/lib.rt:475:45
+pub eval-select-range-of-requires : (t : ℕ) → eval-select-lts.Need-range-of-requires (
+  field-reads.Asked,
+  field-reads.Learnt,
+  eval-expr-below t,
+  eval-expr.Post,
+  range-of-reads.Asked,
+  range-of-reads.Learnt,
+  each-chosen-below t,
+  each-chosen.Post,
+  settle-reads.Asked,
+  settle-reads.Learnt,
+) (eval-select-at t) eval-select.Post
+eval-select-range-of-requires t c κs =
+    let a = c .before .before .before .before .before .before in
+    let b = a .before .before .before .before .before in
+    range-good (b .pre .1 .0) (b .pre .1 .1) (a .before .before .field .ensures) (evaluated-as refl (c .before .before .at .given .1) (a .eval-expr .ensures))
+
+-- src/lib.rt:476:30
+pub eval-select-enum-told : (t : ℕ) → eval-select-lts.Need-enum-told (
+  field-reads.Asked,
+  field-reads.Learnt,
+  eval-expr-below t,
+  eval-expr.Post,
+  range-of-reads.Asked,
+  range-of-reads.Learnt,
+  each-chosen-below t,
+  each-chosen.Post,
+  settle-reads.Asked,
+  settle-reads.Learnt,
+) (eval-select-at t) eval-select.Post
+eval-select-enum-told t c = search needs
+
+-- src/lib.rt:477:24
+pub eval-select-enum-known-count : (t : ℕ) → eval-select-lts.Need-enum-known-count (
+  field-reads.Asked,
+  field-reads.Learnt,
+  eval-expr-below t,
+  eval-expr.Post,
+  range-of-reads.Asked,
+  range-of-reads.Learnt,
+  each-chosen-below t,
+  each-chosen.Post,
+  settle-reads.Asked,
+  settle-reads.Learnt,
+) (eval-select-at t) eval-select.Post
+eval-select-enum-known-count t c = search needs
+
+-- src/lib.rt:478:68
+pub eval-select-add-each-chosen : (t : ℕ) → eval-select-lts.Need-add-each-chosen (
+  field-reads.Asked,
+  field-reads.Learnt,
+  eval-expr-below t,
+  eval-expr.Post,
+  range-of-reads.Asked,
+  range-of-reads.Learnt,
+  each-chosen-below t,
+  each-chosen.Post,
+  settle-reads.Asked,
+  settle-reads.Learnt,
+) (eval-select-at t) eval-select.Post
+eval-select-add-each-chosen t c =
+    let g = c .before .before .before .before .before .before .before in
+    let a = g .before .before .before .before in
+    let b = a .before .before .before .before .before in
+    omega (
+      arith,
+      range-low (b .pre .1 .0) (b .pre .1 .1) (a .before .before .field .ensures) (evaluated-as refl (g .at .given .1) (a .eval-expr .ensures)),
+    )
+
+-- src/lib.rt:478:23
+pub eval-select-each-chosen-requires : (t : ℕ) → eval-select-lts.Need-each-chosen-requires (
+  field-reads.Asked,
+  field-reads.Learnt,
+  eval-expr-below t,
+  eval-expr.Post,
+  range-of-reads.Asked,
+  range-of-reads.Learnt,
+  each-chosen-below t,
+  each-chosen.Post,
+  settle-reads.Asked,
+  settle-reads.Learnt,
+) (eval-select-at t) eval-select.Post
+eval-select-each-chosen-requires t c κs =
+    let n = c .before .before in
+    let g = n .before .before .before .before .before in
+    let a = g .before .before .before .before in
+    let b = a .before .before .before .before .before in (
+      omega (arith, b .pre .0),
+      select-each (b .pre .1 .0) (b .pre .1 .1) (a .before .before .field .ensures) (evaluated-as refl (g .at .given .1) (a .eval-expr .ensures))
+          (range-as (n .count .given .1) (n .before .before .range-of .ensures)),
+    )
+
+-- src/lib.rt:479:37
+pub eval-select-enum-known-k-2 : (t : ℕ) → eval-select-lts.Need-enum-known-k-2 (
+  field-reads.Asked,
+  field-reads.Learnt,
+  eval-expr-below t,
+  eval-expr.Post,
+  range-of-reads.Asked,
+  range-of-reads.Learnt,
+  each-chosen-below t,
+  each-chosen.Post,
+  settle-reads.Asked,
+  settle-reads.Learnt,
+) (eval-select-at t) eval-select.Post
+eval-select-enum-known-k-2 t c = search needs
+
+-- src/lib.rt:480:38
+pub eval-select-enum-known-end : (t : ℕ) → eval-select-lts.Need-enum-known-end (
+  field-reads.Asked,
+  field-reads.Learnt,
+  eval-expr-below t,
+  eval-expr.Post,
+  range-of-reads.Asked,
+  range-of-reads.Learnt,
+  each-chosen-below t,
+  each-chosen.Post,
+  settle-reads.Asked,
+  settle-reads.Learnt,
+) (eval-select-at t) eval-select.Post
+eval-select-enum-known-end t c = search needs
+
+-- src/lib.rt:481:25
+pub eval-select-settle-requires : (t : ℕ) → eval-select-lts.Need-settle-requires (
+  field-reads.Asked,
+  field-reads.Learnt,
+  eval-expr-below t,
+  eval-expr.Post,
+  range-of-reads.Asked,
+  range-of-reads.Learnt,
+  each-chosen-below t,
+  each-chosen.Post,
+  settle-reads.Asked,
+  settle-reads.Learnt,
+) (eval-select-at t) eval-select.Post
+eval-select-settle-requires t c κs =
+    let v = c .before .before in
+    let e = v .before .before .before .before in
+    let n = e .before .before .before in
+    let g = n .before .before .before .before .before in
+    let a = g .before .before .before .before in
+    let b = a .before .before .before .before .before in
+    select-settles (b .pre .1 .0) (b .pre .1 .1) (a .before .before .field .ensures) (evaluated-as refl (g .at .given .1) (a .eval-expr .ensures))
+    (range-as (n .count .given .1) (n .before .before .range-of .ensures)) (chosen-as (v .end .given .1) (e .each-chosen .ensures))
+
+-- src/lib.rt:458:1
+pub eval-select-same-length : (t : ℕ) → eval-select-lts.Need-same-length (
+  field-reads.Asked,
+  field-reads.Learnt,
+  eval-expr-below t,
+  eval-expr.Post,
+  range-of-reads.Asked,
+  range-of-reads.Learnt,
+  each-chosen-below t,
+  each-chosen.Post,
+  settle-reads.Asked,
+  settle-reads.Learnt,
+) (eval-select-at t) eval-select.Post
+eval-select-same-length t c = search needs
+
+-- src/lib.rt:458:1
+pub eval-select-returns : (t : ℕ) → eval-select-lts.Need-returns (
+  field-reads.Asked,
+  field-reads.Learnt,
+  eval-expr-below t,
+  eval-expr.Post,
+  range-of-reads.Asked,
+  range-of-reads.Learnt,
+  each-chosen-below t,
+  each-chosen.Post,
+  settle-reads.Asked,
+  settle-reads.Learnt,
+) (eval-select-at t) eval-select.Post
+eval-select-returns t c =
+    let a = c .before .before .before .before .before in
+    let b = a .before .before .before .before .before in
+    select-fails (b .pre .1 .0) (b .pre .1 .1) (a .before .before .field .ensures) (evaluated-as refl (c .before .k .given .1) (a .eval-expr .ensures))
+
+-- src/lib.rt:458:1
+pub eval-select-same-length-2 : (t : ℕ) → eval-select-lts.Need-same-length-2 (
+  field-reads.Asked,
+  field-reads.Learnt,
+  eval-expr-below t,
+  eval-expr.Post,
+  range-of-reads.Asked,
+  range-of-reads.Learnt,
+  each-chosen-below t,
+  each-chosen.Post,
+  settle-reads.Asked,
+  settle-reads.Learnt,
+) (eval-select-at t) eval-select.Post
+eval-select-same-length-2 t c = search needs
+
+-- src/lib.rt:458:1
+pub eval-select-returns-2 : (t : ℕ) → eval-select-lts.Need-returns-2 (
+  field-reads.Asked,
+  field-reads.Learnt,
+  eval-expr-below t,
+  eval-expr.Post,
+  range-of-reads.Asked,
+  range-of-reads.Learnt,
+  each-chosen-below t,
+  each-chosen.Post,
+  settle-reads.Asked,
+  settle-reads.Learnt,
+) (eval-select-at t) eval-select.Post
+eval-select-returns-2 t c =
+    let g = c .before .before .before .before .before in
+    let a = g .before .before .before .before in
+    let b = a .before .before .before .before .before in
+    range-fails (b .pre .1 .0) (b .pre .1 .1) (a .before .before .field .ensures) (evaluated-as refl (g .at .given .1) (a .eval-expr .ensures))
+    (range-as (c .enum-told .given .1) (c .before .before .range-of .ensures))
+
+-- src/lib.rt:458:1
+pub eval-select-same-length-3 : (t : ℕ) → eval-select-lts.Need-same-length-3 (
+  field-reads.Asked,
+  field-reads.Learnt,
+  eval-expr-below t,
+  eval-expr.Post,
+  range-of-reads.Asked,
+  range-of-reads.Learnt,
+  each-chosen-below t,
+  each-chosen.Post,
+  settle-reads.Asked,
+  settle-reads.Learnt,
+) (eval-select-at t) eval-select.Post
+eval-select-same-length-3 t c = search needs
+
+-- src/lib.rt:458:1
+pub eval-select-returns-3 : (t : ℕ) → eval-select-lts.Need-returns-3 (
+  field-reads.Asked,
+  field-reads.Learnt,
+  eval-expr-below t,
+  eval-expr.Post,
+  range-of-reads.Asked,
+  range-of-reads.Learnt,
+  each-chosen-below t,
+  each-chosen.Post,
+  settle-reads.Asked,
+  settle-reads.Learnt,
+) (eval-select-at t) eval-select.Post
+eval-select-returns-3 t c =
+    let e = c .before .before .before .before .before in
+    let n = e .before .before .before in
+    let g = n .before .before .before .before .before in
+    let a = g .before .before .before .before in
+    let b = a .before .before .before .before .before in
+    chosen-fails (b .pre .1 .0) (b .pre .1 .1) (a .before .before .field .ensures) (evaluated-as refl (g .at .given .1) (a .eval-expr .ensures))
+    (range-as (n .count .given .1) (n .before .before .range-of .ensures)) (chosen-as (c .before .k2 .given .1) (e .each-chosen .ensures))
+
+-- src/lib.rt:458:1
+pub eval-select-same-length-4 : (t : ℕ) → eval-select-lts.Need-same-length-4 (
+  field-reads.Asked,
+  field-reads.Learnt,
+  eval-expr-below t,
+  eval-expr.Post,
+  range-of-reads.Asked,
+  range-of-reads.Learnt,
+  each-chosen-below t,
+  each-chosen.Post,
+  settle-reads.Asked,
+  settle-reads.Learnt,
+) (eval-select-at t) eval-select.Post
+eval-select-same-length-4 t c = search needs
+
+-- src/lib.rt:458:1
+pub eval-select-returns-4 : (t : ℕ) → eval-select-lts.Need-returns-4 (
+  field-reads.Asked,
+  field-reads.Learnt,
+  eval-expr-below t,
+  eval-expr.Post,
+  range-of-reads.Asked,
+  range-of-reads.Learnt,
+  each-chosen-below t,
+  each-chosen.Post,
+  settle-reads.Asked,
+  settle-reads.Learnt,
+) (eval-select-at t) eval-select.Post
+eval-select-returns-4 t c =
+    let v = c .before .before .before .before .before in
+    let e = v .before .before .before .before in
+    let n = e .before .before .before in
+    let g = n .before .before .before .before .before in
+    let a = g .before .before .before .before in
+    let b = a .before .before .before .before .before in
+    select-evaluates (b .pre .1 .0) (b .pre .1 .1) (a .before .before .field .ensures) (evaluated-as refl (g .at .given .1) (a .eval-expr .ensures))
+    (range-as (n .count .given .1) (n .before .before .range-of .ensures)) (chosen-as (v .end .given .1) (e .each-chosen .ensures))
+    (c .before .before .settle .ensures)

@@ -1,0 +1,5 @@
+-- The evaluation of a readable table over an arena.
+pub mod Answers
+pub mod Cycle
+pub mod Nodes
+pub mod Result
