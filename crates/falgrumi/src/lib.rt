@@ -7,7 +7,7 @@ ghost use lib.ListN.{length};
 ghost use Rattle.rules.specs.Verdict.{sheetAfter};
 ghost use Rattle.checker.specs.Model.{verdict};
 ghost use Rattle.rules.specs.Evaluation.{evaluation};
-ghost use Rattle.falgrumi.specs.Answers.{numberOf, placeOf, truthOf};
+ghost use Rattle.falgrumi.specs.Answers.{numberOf, placeOf, truthOf, byteOf};
 
 // Check: the refusal's number, 0 where the table is accepted; its place goes to `place`.
 #[no_mangle]
@@ -58,10 +58,10 @@ pub extern "C" fn falgrumi_evaluate(
             *place = 0;
             0
         }
-        Ending::Refused(r) => {
+        Ending::Refused(x) => {
             *truth = 0;
-            *place = r.place as u64;
-            r.number
+            *place = x.place as u64;
+            x.number
         }
     }
 }
