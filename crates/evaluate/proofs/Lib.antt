@@ -12,3 +12,4 @@ pub mod BothLaws
 pub mod LeafSteps
 pub mod SettleLaws
 pub mod ReportLaws
+pub mod EntryLaws

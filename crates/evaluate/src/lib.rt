@@ -4,16 +4,19 @@ ghost use Rattle.rules.specs.Kinds.{join, test, quant, one, two};
 ghost use Rattle.rules.specs.Tables.{tableOf, givenCount, identifierCount};
 ghost use Rattle.rules.specs.Readable.{Readable};
 ghost use Rattle.rules.specs.Ends.{done};
+ghost use Rattle.rules.specs.Evaluation.{evaluation};
+ghost use Rattle.buffer.specs.Loaded.{Loads};
 ghost use Rattle.evaluate.specs.declared.Ending.the-variants.{Decided};
 ghost use Rattle.evaluate.specs.Answers.{SettleReady};
-ghost use Rattle.evaluate.specs.Result.{endingOf, RefusedAt, Reports, Begins};
+ghost use Rattle.evaluate.specs.Result.{endingOf, RefusedAt, Reported, Reports, Begins, Needs, LoadReady, ArenaReady};
 ghost use Rattle.evaluate.specs.Nodes.{IsPred, IsExpr, TwoFields, DecidesBy, JoinedBy, quantOf, SomeGood, RangeAt, NameReady, NameAt, LeafNode, LeafFormed, ChooseReady, Chooses};
 ghost use Rattle.evaluate.specs.Cycle.{Ready, Visited, Sort, EvaluatesP, EvaluatesE, EvaluatesBoth, EachReady, EvaluatesEach, EvaluatesChosen, Settles};
+use buffer::Environment;
+use buffer::Loaded;
 use operations::Outcome;
 use operations::Tested;
 use table::Reading;
 use table::Refusal;
-use buffer::Loaded;
 
 pub enum Truth {
     True,
@@ -243,7 +246,19 @@ fn eval_quant(
             Range::Unlike => Held::Refused(15, node, n),
             Range::Set(count) => {
                 let all = kind == 10;
-                each_member(table, base, env, s, next, all, node, at + 1, count, n, budget)
+                each_member(
+                    table,
+                    base,
+                    env,
+                    s,
+                    next,
+                    all,
+                    node,
+                    at + 1,
+                    count,
+                    n,
+                    budget,
+                )
             }
         },
     }
@@ -309,7 +324,17 @@ fn eval_expr(
     match kind {
         20 => eval_name(table, base, env, top, node, steps + 1),
         25 => eval_bool(table, base, env, s, top, kind, node, steps, budget),
-        27 | 33 | 35 | 36 | 38 | 43 => eval_one(table, base, env, s, top, kind, node, steps, budget),
+        27 | 33 | 35 | 36 | 38 | 43 => eval_one(
+            table,
+            base,
+            env,
+            s,
+            top,
+            kind,
+            node,
+            steps,
+            budget,
+        ),
         28..=32 | 37 | 39..=41 => eval_two(table, base, env, s, top, kind, node, steps, budget),
         34 => eval_select(table, base, env, s, top, kind, node, steps, budget),
         _ => eval_leaf(table, base, s, top, kind, node, steps + 1),
@@ -604,4 +629,87 @@ fn binds_of(table: &[u8]) -> [u32; 32]
         x += 1;
     }
     binds
+}
+
+// Reads the values of a readable table's free identifiers into the arena s.
+pub fn load(table: &[u8], values: &[u8], s: &mut [u64]) -> Environment
+    requires { ⌜ LoadReady (now table) (now s) ⌝ }
+    ensures { λ r. ⌜ Loads (tableOf (now (table .entry)) .sizes) (tableOf (now (table .entry)) .binds) (now (values .entry)) (now (s .exit)) (r .at) 0 (r .answer) ⌝ }
+{
+    let sizes = sizes_of(table);
+    let binds = binds_of(table);
+    let g = table::givens(table);
+    let i = table::identifiers(table);
+    buffer::read_values(values, &sizes[..g], &binds[..i], s, 0)
+}
+
+// Evaluates a readable table over the arena s.
+fn evaluate_in(table: &[u8], values: &[u8], budget: u32, s: &mut [u64]) -> Evaluation
+    requires { ⌜ ArenaReady (now table) (now s) ⌝ }
+    ensures { λ r. ⌜ Reported (evaluation (now (table .entry)) (now (values .entry)) budget) r ⌝ }
+{
+    let loaded = load(table, values, s);
+    let env = loaded.at;
+    let answer = loaded.answer;
+    match answer {
+        Loaded::Refused(x) => refused(14, x, 0),
+        Loaded::All(top) => {
+            let base = table::nodes_offset(table);
+            let root = table::nodes(table) - 1;
+            ended(eval_pred(table, base, &env, s, top, root, 0, budget))
+        }
+    }
+}
+
+// Arenas of three sizes, so that a small condition does not pay for a large one.
+fn small(table: &[u8], values: &[u8], budget: u32) -> Evaluation
+    requires { ⌜ Needs (now table) 4096 ⌝ }
+    ensures { λ r. ⌜ Reported (evaluation (now (table .entry)) (now (values .entry)) budget) r ⌝ }
+{
+    let mut s = [0u64; 4096];
+    evaluate_in(table, values, budget, &mut s)
+}
+
+fn middle(table: &[u8], values: &[u8], budget: u32) -> Evaluation
+    requires { ⌜ Needs (now table) 12288 ⌝ }
+    ensures { λ r. ⌜ Reported (evaluation (now (table .entry)) (now (values .entry)) budget) r ⌝ }
+{
+    let mut s = [0u64; 12288];
+    evaluate_in(table, values, budget, &mut s)
+}
+
+fn large(table: &[u8], values: &[u8], budget: u32) -> Evaluation
+    requires { ⌜ Needs (now table) 29700 ⌝ }
+    ensures { λ r. ⌜ Reported (evaluation (now (table .entry)) (now (values .entry)) budget) r ⌝ }
+{
+    let mut s = [0u64; 29700];
+    evaluate_in(table, values, budget, &mut s)
+}
+
+fn evaluate_sized(table: &[u8], values: &[u8], budget: u32) -> Evaluation
+    requires { ⌜ Readable (now table) ⌝ }
+    ensures { λ r. ⌜ Reported (evaluation (now (table .entry)) (now (values .entry)) budget) r ⌝ }
+{
+    let need = 1027 + 256 * table::identifiers(table) + 512 * table::root_height(table);
+    if need <= 4096 {
+        return small(table, values, budget);
+    }
+    if need <= 12288 {
+        return middle(table, values, budget);
+    }
+    large(table, values, budget)
+}
+
+// Evaluate: refusals 1 to 9, then 14, and then the condition's end.
+pub fn evaluate(table: &[u8], values: &[u8], budget: u32) -> Evaluation
+    ensures { λ r. ⌜ (endingOf (r .ending) ≡ evaluation (now (table .entry)) (now (values .entry)) budget .end) × (r .steps ≡ evaluation (now (table .entry)) (now (values .entry)) budget .steps) ⌝ }
+{
+    let reading = table::read(table);
+    match reading {
+        Reading::Refused(r) => {
+            let e = refused(r.number, r.place, 0);
+            e
+        }
+        Reading::Passed => evaluate_sized(table, values, budget),
+    }
 }

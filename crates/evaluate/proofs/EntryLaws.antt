@@ -1,0 +1,141 @@
+-- From the bytes of a table and its values to the run at the root, and what each refusal before it reports.
+use Prim.Native.Nat.{ℕ, _+_, _-_, _*_, _≤_, _<_}
+use mathlib.Core.Bool.{Bool}
+use mathlib.Core.List.{List}
+use mathlib.Core.Path.{_≡_, sym, ap, _∙_, subst}
+use native.Mathlib.Omega.{arith}
+use lib.ListN.{length, getD}
+use Rattle.rules.specs.Values.{Value}
+use Rattle.rules.specs.Cells.{noValue, valuesIn, valuesFrom}
+use Rattle.rules.specs.Ends.{done, refused}
+use Rattle.rules.specs.Tables.{Table, tableOf, predAt, root, lastNode, identifierCount, nodeCount, nodesAt, kindAt}
+use Rattle.rules.specs.Kinds.{predicate}
+use Rattle.rules.specs.Reading.{reading, height}
+use Rattle.rules.specs.Readable.{Readable, CategoryIs}
+use Rattle.rules.specs.Runs.{Run}
+use Rattle.rules.specs.Operations.{Env}
+use Rattle.rules.specs.Evaluation.{run, evaluation}
+use Rattle.rules.proofs.TableLaws.{binds-length, nodes-length}
+use Rattle.rules.proofs.ReadingLaws.{reading-right}
+use Rattle.rules.proofs.FormedLaws.{valuesIn-good}
+use Rattle.rules.proofs.Soundness.{evaluation-run}
+use Rattle.table.specs.Answers.{readingOf}
+use Rattle.table.specs.declared.Reading.{Reading}
+use Rattle.table.specs.declared.Reading.the-variants.{Passed, Refused as Unreadable}
+use Rattle.table.specs.declared.Refusal.{Refusal}
+use Rattle.table.proofs.Promise.{passed-readable}
+use Rattle.buffer.specs.declared.Loaded.{Loaded}
+use Rattle.buffer.specs.declared.Loaded.the-variants.{All, Refused as Lacking}
+use Rattle.buffer.specs.Loaded.{Room, Bound, Loads}
+use Rattle.evaluate.specs.declared.Evaluation.{Evaluation}
+use Rattle.evaluate.specs.declared.Held.{Held}
+use Rattle.evaluate.specs.Answers.{Ends}
+use Rattle.evaluate.specs.Cycle.{Binds, Ready, EvaluatesP}
+use Rattle.evaluate.specs.Nodes.{IsPred}
+use Rattle.evaluate.specs.Result.{endingOf, RefusedAt, Reported, Reports, needed, Needs, LoadReady, ArenaReady}
+
+-- The arena has room for the values of the identifiers.
+pub load-room : {bs ws s : List ℕ} → LoadReady bs s → ws ≡ tableOf bs .binds → Room ws s 0
+load-room {bs} {ws} {s} r e =
+    let l : length ws ≡ identifierCount bs = ap length e ∙ binds-length bs in
+    record {
+      few = omega (arith, l, r .readable .header .identifiers);
+      space = omega (arith, l, r .room);
+      small = r .small;
+    }
+
+-- What has been read with the words of a table.
+pub loads-as : {gs gs′ ws ws′ : List ℕ} (bs s env : List ℕ) (a : Loaded) → gs ≡ gs′ → ws ≡ ws′ → Loads gs ws bs s env 0 a → Loads gs′ ws′ bs s env 0 a
+loads-as {gs} {gs′} {ws} {ws′} bs s env a e f h =
+    subst (λ (xs : List ℕ). Loads xs ws′ bs s env 0 a) e (subst (λ (xs : List ℕ). Loads gs xs bs s env 0 a) f h)
+
+-- Refusals 1 to 9, and 14: no visit is made.
+unread-ends : (bs buffer : List ℕ) (budget k p : ℕ) → reading bs ≡ refused k p → Ends (evaluation bs buffer budget) (refused k p) 0
+unfolding evaluation
+unread-ends bs buffer budget k p e = record { end = rw e; steps = rw e }
+
+unloaded-ends : (bs buffer : List ℕ) (budget k p : ℕ) (tb : Table) → reading bs ≡ done tb → valuesIn tb buffer ≡ refused k p →
+    Ends (evaluation bs buffer budget) (refused k p) 0
+unfolding evaluation
+unloaded-ends bs buffer budget k p tb e f = record { end = rw (e, f); steps = rw (e, f) }
+
+refusal-reported : {x : Run Bool} {k p : ℕ} {r : Evaluation} → Ends x (refused k p) 0 → RefusedAt k p 0 r → Reported x r
+refusal-reported e d = record { ending = d .ending ∙ sym (e .end); spent = d .spent ∙ sym (e .steps) }
+
+module _ (bs buffer s env : List ℕ) (a : Loaded) (h : Loads (tableOf bs .sizes) (tableOf bs .binds) buffer s env 0 a) where
+  -- 14 refuses.
+  pub lacking-reported : (budget : ℕ) {x : ℕ} {r : Evaluation} → Readable bs → a ≡ Lacking x → RefusedAt 14 x 0 r → Reported (evaluation bs buffer budget) r
+  unfolding valuesIn
+  lacking-reported budget {x} q e d =
+      let l : valuesIn (tableOf bs) buffer ≡ refused 14 x = subst (λ (z : Loaded). Loads (tableOf bs .sizes) (tableOf bs .binds) buffer s env 0 z) e h in
+      refusal-reported (unloaded-ends bs buffer budget 14 x (tableOf bs) (reading-right bs .1 q) l) d
+
+  pub all-bound : {end : ℕ} → a ≡ All end → Bound (tableOf bs .sizes) (tableOf bs .binds) buffer s env 0 end
+  all-bound e = subst (λ (z : Loaded). Loads (tableOf bs .sizes) (tableOf bs .binds) buffer s env 0 z) e h
+
+module _ (bs : List ℕ) {buffer s env : List ℕ} {top : ℕ} (b : Bound (tableOf bs .sizes) (tableOf bs .binds) buffer s env 0 top) where
+  read-all : valuesIn (tableOf bs) buffer ≡ done (b .values)
+  unfolding valuesIn
+  read-all = b .reads
+
+  -- The identifiers' values as an environment.
+  abbrev pub valueOf : Env
+  valueOf x = getD (b .values) x noValue
+
+  pub bound-binds : Binds (tableOf bs .sizes) s top env valueOf
+  bound-binds =
+      let g = valuesIn-good (tableOf bs) buffer (b .values) read-all in
+      record { at = λ x l. record { stands = b .at x l .stands; below = b .at x l .below; good = g x }; good = g }
+
+  module _ (q : Readable bs) {n : ℕ} (e : n ≡ nodeCount bs) where
+    root-last : n - 1 ≡ lastNode (tableOf bs .nodes)
+    unfolding lastNode
+    root-last = omega (arith, e, nodes-length bs)
+
+    -- The condition at the root may be evaluated.
+    pub root-ready : {s₀ : List ℕ} {base budget : ℕ} → ArenaReady bs s₀ → length s ≡ length s₀ → length env ≡ 32 → base ≡ nodesAt bs →
+        Ready bs base env s top (n - 1) 0 budget × IsPred bs (n - 1)
+    root-ready {s₀} {base} {budget} r k l o = (
+      record {
+        readable = q;
+        offset = o;
+        node = omega (arith, e, q .header .some-node);
+        unspent = omega arith;
+        room = omega (arith, b .room, binds-length bs, r .needs .enough, k, ap (height (tableOf bs .nodes)) root-last);
+        small = omega (arith, r .small, k);
+        entries = l;
+        values = valueOf;
+        binds = bound-binds;
+      },
+      subst (λ (m : ℕ). CategoryIs predicate (kindAt (tableOf bs .nodes) m)) (sym root-last) (q .records .root),
+    )
+
+    -- Its end is that of the evaluation.
+    pub root-reported : {s′ : List ℕ} {budget : ℕ} {held : Held} {r : Evaluation} → EvaluatesP bs env s top (n - 1) 0 budget s′ held → Reports held r →
+        Reported (evaluation bs buffer budget) r
+    unfolding run root
+    root-reported {s′} {budget} {held} {r} p f =
+        let x = p .answer (length (tableOf bs .nodes)) valueOf (omega (arith, e, q .header .some-node, nodes-length bs)) bound-binds in
+        let y : Reported (run (tableOf bs) (b .values) budget) r = f _ (rw root-last at x) in
+        subst (λ (z : Run Bool). Reported z r) (sym (evaluation-run bs buffer budget (tableOf bs) (b .values) (reading-right bs .1 q) read-all)) y
+
+-- No table needs more than the large arena.
+pub needed-most : {bs : List ℕ} → Readable bs → needed bs ≤ 29700
+unfolding lastNode
+needed-most {bs} q =
+    omega (
+      arith,
+      q .header .identifiers,
+      q .header .some-node,
+      nodes-length bs,
+      q .records .heights (lastNode (tableOf bs .nodes)) (omega (arith, q .header .some-node, nodes-length bs)),
+    )
+
+-- 1 to 9 refuse.
+pub unread-reported : (bs buffer : List ℕ) (budget : ℕ) (a : Reading) {f : Refusal} {r : Evaluation} → readingOf bs a ≡ reading bs → a ≡ Unreadable f →
+    RefusedAt (f .number) (f .place) 0 r → Reported (evaluation bs buffer budget) r
+unread-reported bs buffer budget a {f} h e d =
+    refusal-reported (unread-ends bs buffer budget (f .number) (f .place) (sym h ∙ ap (readingOf bs) e)) d
+
+pub read-readable : (bs : List ℕ) (a : Reading) → readingOf bs a ≡ reading bs → a ≡ Passed → Readable bs
+read-readable bs a h e = passed-readable bs (ap (readingOf bs) (sym e) ∙ h)
