@@ -1,14 +1,13 @@
 -- From the bytes of a table and its values to the run at the root, and what each refusal before it reports.
-use Prim.Native.Nat.{ℕ, _+_, _-_, _*_, _≤_, _<_}
+use Prim.Native.Nat.{ℕ, _-_, _≤_}
 use mathlib.Core.Bool.{Bool}
 use mathlib.Core.List.{List}
 use mathlib.Core.Path.{_≡_, sym, ap, _∙_, subst}
 use native.Mathlib.Omega.{arith}
 use lib.ListN.{length, getD}
-use Rattle.rules.specs.Values.{Value}
-use Rattle.rules.specs.Cells.{noValue, valuesIn, valuesFrom}
+use Rattle.rules.specs.Cells.{noValue, valuesIn}
 use Rattle.rules.specs.Ends.{done, refused}
-use Rattle.rules.specs.Tables.{Table, tableOf, predAt, root, lastNode, identifierCount, nodeCount, nodesAt, kindAt}
+use Rattle.rules.specs.Tables.{Table, tableOf, root, lastNode, identifierCount, nodeCount, nodesAt, kindAt}
 use Rattle.rules.specs.Kinds.{predicate}
 use Rattle.rules.specs.Reading.{reading, height}
 use Rattle.rules.specs.Readable.{Readable, CategoryIs}
@@ -32,7 +31,7 @@ use Rattle.evaluate.specs.declared.Held.{Held}
 use Rattle.evaluate.specs.Answers.{Ends}
 use Rattle.evaluate.specs.Cycle.{Binds, Ready, EvaluatesP}
 use Rattle.evaluate.specs.Nodes.{IsPred}
-use Rattle.evaluate.specs.Result.{endingOf, RefusedAt, Reported, Reports, needed, Needs, LoadReady, ArenaReady}
+use Rattle.evaluate.specs.Result.{RefusedAt, Reported, Reports, needed, LoadReady, ArenaReady}
 
 -- The arena has room for the values of the identifiers.
 pub load-room : {bs ws s : List ℕ} → LoadReady bs s → ws ≡ tableOf bs .binds → Room ws s 0

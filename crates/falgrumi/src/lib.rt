@@ -52,7 +52,8 @@ pub extern "C" fn falgrumi_evaluate(
 {
     let e = evaluate::evaluate(table, values, budget);
     *steps = e.steps;
-    match e.ending {
+    let ending = e.ending;
+    match ending {
         Ending::Decided(t) => {
             *truth = truth_byte(t);
             *place = 0;
