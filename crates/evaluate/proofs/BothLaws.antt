@@ -30,7 +30,7 @@ use Rattle.evaluate.specs.Answers.{Ends, FormedAs, FormedBounds, SecondF
 use Rattle.evaluate.specs.Cycle.{Binds, Ready, Visited, EvaluatesP, EvaluatesE, EvaluatesBoth}
 use Rattle.evaluate.specs.Nodes.{IsExpr, TwoFields}
 use Rattle.evaluate.proofs.RunLaws.{then-done, then-refused, returns, visited, fitting-done, fitting-refused}
-use Rattle.evaluate.proofs.NodeLaws.{Child, ready-child, binds-frame, good-frame, sizes-small}
+use Rattle.evaluate.proofs.NodeLaws.{Child, ready-child, binds-frame, good-frame, sizes-small, node-tall}
 use Rattle.evaluate.proofs.JoinLaws.{visited-kind, visited-child, held-at}
 
 formed-within : (top budget : ℕ) {r : Formed} (r₀ : Formed) → r ≡ r₀ → FormedBounds top budget r → FormedBounds top budget r₀
@@ -49,7 +49,7 @@ module _ {bs : List ℕ} {base : ℕ} {env s : List ℕ} {top n steps budget : �
     {a : ℕ} (q : a ≡ nodeAt (tableOf bs .nodes) n .a) where
   pub left-child : Child bs n a expression
   left-child =
-      subst (λ (z : ℕ). Child bs n z expression) (sym q) (record { below = y .left; is = y .leftIs; lower = y .leftLower })
+      subst (λ (z : ℕ). Child bs n z expression) (sym q) (record { below = y .left; is = y .leftIs; lower = y .leftLower; tall = node-tall bs (x .readable) _ (omega (arith, y .left, x .node)) })
 
   pub left-ready : Ready bs base env s top a steps budget × IsExpr bs a
   left-ready = (ready-child s a top steps x left-child (same-refl top s) (omega arith) (omega arith) (x .unspent), left-child .is)
@@ -66,7 +66,7 @@ module _ {bs : List ℕ} {base : ℕ} {env s : List ℕ} {top n steps budget : �
     module _ {at mid t : ℕ} (d : r ≡ Placed at mid t) {m : ℕ} (q′ : m ≡ nodeAt (tableOf bs .nodes) n .b) where
       pub right-child : Child bs n m expression
       right-child =
-          subst (λ (z : ℕ). Child bs n z expression) (sym q′) (record { below = y .right; is = y .rightIs; lower = y .rightLower })
+          subst (λ (z : ℕ). Child bs n z expression) (sym q′) (record { below = y .right; is = y .rightIs; lower = y .rightLower; tall = node-tall bs (x .readable) _ (omega (arith, y .right, x .node)) })
 
       placed-bounds : (top ≤ mid) × (mid ≤ top + 256) × (t ≤ budget)
       placed-bounds = formed-within top budget (Placed at mid t) d (h .bounds)
@@ -184,6 +184,7 @@ module _ {bs : List ℕ} {base : ℕ} {env s : List ℕ} {top k n steps budget :
           node = r .node;
           unspent = omega (arith, x .spent);
           room = r .room;
+          tall = r .tall;
           small = r .small;
           entries = r .entries;
           values = r .values;

@@ -248,6 +248,7 @@ module _ {bs : List ℕ} {base : ℕ} {env s₀ : List ℕ} {top n from count st
             node = pre .ready .node;
             unspent = h .within;
             room = omega (arith, pre .space, choosing-near .1, h .frame .kept);
+            tall = pre .ready .tall;
             small = omega (arith, pre .ready .small, h .frame .kept);
             entries = inner-set at (h .entries) .long;
             values = pre .ready .values with nodeAt (tableOf bs .nodes) n .a ≔ member .value;

@@ -26,6 +26,7 @@ use Rattle.table.proofs.Promise.{passed-readable}
 use Rattle.buffer.specs.declared.Loaded.{Loaded}
 use Rattle.buffer.specs.declared.Loaded.the-variants.{All, Refused as Lacking}
 use Rattle.buffer.specs.Loaded.{Room, Bound, Loads}
+use Rattle.evaluate.proofs.NodeLaws.{node-tall}
 use Rattle.evaluate.specs.declared.Evaluation.{Evaluation}
 use Rattle.evaluate.specs.declared.Held.{Held}
 use Rattle.evaluate.specs.Answers.{Ends}
@@ -101,6 +102,7 @@ module _ (bs : List ℕ) {buffer s env : List ℕ} {top : ℕ} (b : Bound (table
         node = omega (arith, e, q .header .some-node);
         unspent = omega arith;
         room = omega (arith, b .room, binds-length bs, r .needs .enough, k, ap (height (tableOf bs .nodes)) root-last);
+        tall = node-tall bs q _ (omega (arith, e, q .header .some-node));
         small = omega (arith, r .small, k);
         entries = l;
         values = valueOf;
@@ -119,7 +121,7 @@ module _ (bs : List ℕ) {buffer s env : List ℕ} {top : ℕ} (b : Bound (table
         subst (λ (z : Run Bool). Reported z r) (sym (evaluation-run bs buffer budget (tableOf bs) (b .values) (reading-right bs .1 q) read-all)) y
 
 -- No table needs more than the large arena.
-pub needed-most : {bs : List ℕ} → Readable bs → needed bs ≤ 29700
+pub needed-most : {bs : List ℕ} → Readable bs → needed bs ≤ 29187
 unfolding lastNode
 needed-most {bs} q =
     omega (

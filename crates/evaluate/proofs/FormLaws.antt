@@ -194,6 +194,7 @@ ready-on steps′ r within = record {
   node = r .node;
   unspent = within;
   room = r .room;
+  tall = r .tall;
   small = r .small;
   entries = r .entries;
   values = r .values;

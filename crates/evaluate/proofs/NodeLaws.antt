@@ -43,11 +43,16 @@ binds-frame {gs} {s} {s′} {top} {env} {ρ} k e le b = record {
   good = b .good;
 }
 
+-- No node has height 0.
+pub node-tall : (bs : List ℕ) → Readable bs → (m : ℕ) → m < nodeCount bs → 1 ≤ height (tableOf bs .nodes) m
+node-tall bs r m l = omega (arith, height-at (tableOf bs) (r .records .fields) m (omega (arith, nodes-length bs)))
+
 -- A child of a node: lower in number and in height.
 pub record Child (bs : List ℕ) (n m : ℕ) (c : Category) : Type 0 where
   pub below : m < n
   pub is : CategoryIs c (kindAt (tableOf bs .nodes) m)
   pub lower : height (tableOf bs .nodes) m < height (tableOf bs .nodes) n
+  pub tall : 1 ≤ height (tableOf bs .nodes) m
 
 -- The heights of the words in the fields that hold children.
 tallest-kept : (h : ℕ → ℕ) (b : Bool) (m : ℕ) (ms : List ℕ) → tallest h ms ≤ tallest h (keptIf b m ms)
@@ -100,6 +105,7 @@ module _ (bs : List ℕ) (r : Readable bs) (n : ℕ) (lt : n < nodeCount bs) (k 
         below = f .0;
         is = f .1;
         lower = omega (arith, height-at (tableOf bs) (r .records .fields) n (omega (arith, nodes-length bs)), t, s);
+        tall = node-tall bs r _ (omega (arith, f .0));
       }
 
 -- The tree at a node, one level down.
@@ -129,6 +135,7 @@ ready-child {bs} {base} {env} {s} {top} {n} s′ m k steps′ r c e le near with
   node = omega (arith, c .below, r .node);
   unspent = within;
   room = omega (arith, c .lower, r .room, e .kept);
+  tall = c .tall;
   small = omega (arith, r .small, e .kept);
   entries = r .entries;
   values = r .values;

@@ -138,6 +138,7 @@ module _ {bs : List ℕ} {base : ℕ} {env s₀ : List ℕ} {top : ℕ} {all : B
         node = r .ready .node;
         unspent = i .within;
         room = omega (arith, r .ready .room, i .frame .kept);
+        tall = r .ready .tall;
         small = omega (arith, r .ready .small, i .frame .kept);
         entries = inner-set at (i .body) .long;
         values = r .ready .values with x ≔ some-next .value;

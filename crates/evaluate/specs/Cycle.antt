@@ -37,7 +37,8 @@ pub record Ready (bs : List ℕ) (base : ℕ) (env s : List ℕ) (top n steps bu
   pub offset : base ≡ nodesAt bs
   pub node : n < nodeCount bs
   pub unspent : steps ≤ budget
-  pub room : top + 512 * height (tableOf bs .nodes) n + 1026 ≤ length s
+  pub room : top + 512 * height (tableOf bs .nodes) n + 514 ≤ length s
+  pub tall : 1 ≤ height (tableOf bs .nodes) n
   pub small : length s < 4294967296
   pub entries : length env ≡ 32
   pub values : Env
@@ -86,7 +87,7 @@ pub record EachReady (bs : List ℕ) (base : ℕ) (env s : List ℕ) (top n from
   pub deeper : nodeAt (tableOf bs .nodes) n .c < n
   pub is : IsPred bs (nodeAt (tableOf bs .nodes) n .c)
   pub name : nodeAt (tableOf bs .nodes) n .a < 32
-  pub space : top + 256 + 512 * height (tableOf bs .nodes) (nodeAt (tableOf bs .nodes) n .c) + 1026 ≤ length s
+  pub space : top + 256 + 512 * height (tableOf bs .nodes) (nodeAt (tableOf bs .nodes) n .c) + 514 ≤ length s
   pub range : Values
   pub listed : Listed (tableOf bs .sizes) s top from count range
 

@@ -41,7 +41,7 @@ pub record Begins (xs : List ℕ) (n size : ℕ) (l : List ℕ) : Type 0 where
 
 -- What a readable table asks of the arena: the values of its identifiers, 512 cells a level, and what an operation takes.
 abbrev pub needed : List ℕ → ℕ
-needed bs = 1027 + 256 * identifierCount bs + 512 * height (tableOf bs .nodes) (lastNode (tableOf bs .nodes))
+needed bs = 515 + 256 * identifierCount bs + 512 * height (tableOf bs .nodes) (lastNode (tableOf bs .nodes))
 
 pub record Needs (bs : List ℕ) (size : ℕ) : Type 0 where
   pub readable : Readable bs

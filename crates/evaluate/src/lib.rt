@@ -661,28 +661,36 @@ fn evaluate_in(table: &[u8], values: &[u8], budget: u32, s: &mut [u64]) -> Evalu
     }
 }
 
-// Arenas of three sizes, so that a small condition does not pay for a large one.
-fn small(table: &[u8], values: &[u8], budget: u32) -> Evaluation
-    requires { ⌜ Needs (now table) 4096 ⌝ }
+// Arenas of four sizes, so that a small condition does not pay for a large one.
+fn tiny(table: &[u8], values: &[u8], budget: u32) -> Evaluation
+    requires { ⌜ Needs (now table) 2304 ⌝ }
     ensures { λ r. ⌜ Reported (evaluation (now (table .entry)) (now (values .entry)) budget) r ⌝ }
 {
-    let mut s = [0u64; 4096];
+    let mut s = [0u64; 2304];
+    evaluate_in(table, values, budget, &mut s)
+}
+
+fn small(table: &[u8], values: &[u8], budget: u32) -> Evaluation
+    requires { ⌜ Needs (now table) 4864 ⌝ }
+    ensures { λ r. ⌜ Reported (evaluation (now (table .entry)) (now (values .entry)) budget) r ⌝ }
+{
+    let mut s = [0u64; 4864];
     evaluate_in(table, values, budget, &mut s)
 }
 
 fn middle(table: &[u8], values: &[u8], budget: u32) -> Evaluation
-    requires { ⌜ Needs (now table) 12288 ⌝ }
+    requires { ⌜ Needs (now table) 12544 ⌝ }
     ensures { λ r. ⌜ Reported (evaluation (now (table .entry)) (now (values .entry)) budget) r ⌝ }
 {
-    let mut s = [0u64; 12288];
+    let mut s = [0u64; 12544];
     evaluate_in(table, values, budget, &mut s)
 }
 
 fn large(table: &[u8], values: &[u8], budget: u32) -> Evaluation
-    requires { ⌜ Needs (now table) 29700 ⌝ }
+    requires { ⌜ Needs (now table) 29187 ⌝ }
     ensures { λ r. ⌜ Reported (evaluation (now (table .entry)) (now (values .entry)) budget) r ⌝ }
 {
-    let mut s = [0u64; 29700];
+    let mut s = [0u64; 29187];
     evaluate_in(table, values, budget, &mut s)
 }
 
@@ -690,11 +698,14 @@ fn evaluate_sized(table: &[u8], values: &[u8], budget: u32) -> Evaluation
     requires { ⌜ Readable (now table) ⌝ }
     ensures { λ r. ⌜ Reported (evaluation (now (table .entry)) (now (values .entry)) budget) r ⌝ }
 {
-    let need = 1027 + 256 * table::identifiers(table) + 512 * table::root_height(table);
-    if need <= 4096 {
+    let need = 515 + 256 * table::identifiers(table) + 512 * table::root_height(table);
+    if need <= 2304 {
+        return tiny(table, values, budget);
+    }
+    if need <= 4864 {
         return small(table, values, budget);
     }
-    if need <= 12288 {
+    if need <= 12544 {
         return middle(table, values, budget);
     }
     large(table, values, budget)

@@ -24,23 +24,29 @@ add-need-2 : tie.Need-add-need-2
 add-need-2 c =
     omega (arith, c .before .identifiers .ensures, c .root-height .ensures, needed-most (c .before .before .before .before .pre))
 
-small-requires : tie.Need-small-requires
-small-requires c κs = search needs
+tiny-requires : tie.Need-tiny-requires
+tiny-requires c κs = search needs
 
 returns : tie.Need-returns
 returns c = search needs
 
-middle-requires : tie.Need-middle-requires
-middle-requires c κs = search needs
+small-requires : tie.Need-small-requires
+small-requires c κs = search needs
 
 returns-2 : tie.Need-returns-2
 returns-2 c = search needs
 
-large-requires : tie.Need-large-requires
-large-requires c κs = search (needs, needed-most)
+middle-requires : tie.Need-middle-requires
+middle-requires c κs = search needs
 
 returns-3 : tie.Need-returns-3
 returns-3 c = search needs
+
+large-requires : tie.Need-large-requires
+large-requires c κs = search (needs, needed-most)
+
+returns-4 : tie.Need-returns-4
+returns-4 c = search needs
 
 pub evaluate-sized-spec : {M : Type 1} → statement M
 evaluate-sized-spec =
@@ -52,9 +58,11 @@ evaluate-sized-spec =
     root-height-requires
     mul-need-2
     add-need-2
-    small-requires
+    tiny-requires
     returns
-    middle-requires
+    small-requires
     returns-2
+    middle-requires
+    returns-3
     large-requires
-    returns-3)
+    returns-4)
