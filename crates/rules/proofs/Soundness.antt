@@ -24,6 +24,8 @@ use Rattle.rules.specs.Evaluation.{fitting, quantify, select, holdsᵖ, 
 use Rattle.rules.specs.Verdict.{placeOf, Whole}
 use Rattle.rules.specs.Safety.{Free, Left, Ends, Any, Formed}
 use Rattle.rules.proofs.FitsLaws.{fits-right}
+use Rattle.rules.proofs.ReadingLaws.{reading-table, reading-readable}
+use Rattle.rules.proofs.TableLaws.{nodes-length}
 use Rattle.rules.proofs.TypedTree.{numberᵉ, Typedᵖ, Typedᵉ, IsExpression, _adding_, Scopedᵖ, Scopedᵉ, typed-root, scoped-root}
 use Rattle.rules.proofs.SetTypes.{AllHave, GivenHas, values-have, elems-have, one-has, two-has, leaf-has}
 
@@ -231,10 +233,13 @@ pub evaluation-run : (bs buffer : List ℕ) (budget : ℕ) (tb : Table) (vs : Li
 unfolding evaluation
 evaluation-run bs buffer budget tb vs e f = rw (e, f)
 
--- So too of the bytes of a table and of its values.
+-- So too of the bytes of a table, which is then readable, and of its values.
 pub evaluation-sound : (bs buffer : List ℕ) (budget : ℕ) (tb : Table) (θ : ℕ → Ty) (vs : List Value) →
-    reading bs ≡ done tb → valuesIn tb buffer ≡ done vs → 0 < length (tb .nodes) → Records tb → Whole tb θ →
+    reading bs ≡ done tb → valuesIn tb buffer ≡ done vs → Whole tb θ →
     ((x : ℕ) → Free tb x → HasType (getD vs x noValue) (θ x)) →
     SoundRun tb θ (evaluation bs buffer budget)
-evaluation-sound bs buffer budget tb θ vs e f some-node r w h =
-    rw (evaluation-run bs buffer budget tb vs e f) (run-sound tb θ vs budget some-node r w h)
+evaluation-sound bs buffer budget tb θ vs e f w h =
+    let q = reading-table bs tb e in
+    let r = reading-readable bs tb e in
+    rw (evaluation-run bs buffer budget tb vs e f)
+    (run-sound tb θ vs budget (rw (q, nodes-length bs) (r .header .some-node)) (rw q (r .records)) w h)
