@@ -12,7 +12,7 @@ use Rattle.rules.specs.Reading.{reading}
 use Rattle.rules.specs.Ends.{done}
 use Rattle.rules.specs.Verdict.{placeOf}
 use Rattle.rules.specs.Evaluation.{evaluation}
-use Rattle.rules.specs.Safety.{Free, Ends, Any, Formed}
+use Rattle.rules.specs.Safety.{Free, Ends, Any, All}
 
 -- The row of a place in a sheet.
 abbrev pub rowAt : List ℕ → ℕ → List ℕ
@@ -36,4 +36,4 @@ pub record Guaranteed (bs sheet buffer : List ℕ) (budget : ℕ) : Type 0 where
   pub table : Table
   pub reads : reading bs ≡ done table
   pub ends : Ends Any (evaluation bs buffer budget .end)
-  pub formed : Formed (λ n v. HasWritten sheet (placeOf table n) v) (evaluation bs buffer budget .formed)
+  pub formed : All (λ x. HasWritten sheet (placeOf table (x .0)) (x .1)) (evaluation bs buffer budget .formed)

@@ -1,5 +1,5 @@
 -- A typed condition is never refused by 15, and every value that its evaluation forms has its node's type: `run-sound`.
-use Prim.Native.Nat.{ℕ, _≤_, _<_}
+use Prim.Native.Nat.{ℕ, _<_}
 use mathlib.Core.List.{List, [], _∷_, _++_}
 use mathlib.Core.Bool.{Bool, true, false}
 use mathlib.Core.Option.{Option, none as nothing, some}
@@ -22,11 +22,12 @@ use Rattle.rules.specs.Runs.{Trace, Run, M, goOn, _>>=_, _>>_, demand, c
 use Rattle.rules.specs.Operations.{Env, _with_≔_, decides, elems, setOf, leafValue, oneValue, twoValue}
 use Rattle.rules.specs.Evaluation.{fitting, quantify, select, holdsᵖ, valueᵉ, run, evaluation}
 use Rattle.rules.specs.Verdict.{placeOf, Whole}
-use Rattle.rules.specs.Safety.{Free, Left, Ends, Any, Formed}
+use Rattle.rules.specs.Safety.{Free, Left, Ends, Any, All}
 use Rattle.rules.proofs.FitsLaws.{fits-right}
 use Rattle.rules.proofs.ReadingLaws.{reading-table, reading-readable}
 use Rattle.rules.proofs.TableLaws.{nodes-length}
 use Rattle.rules.proofs.TypedTree.{numberᵉ, Typedᵖ, Typedᵉ, IsExpression, _adding_, Scopedᵖ, Scopedᵉ, typed-root, scoped-root}
+use Rattle.rules.proofs.SetOrder.{all-append}
 use Rattle.rules.proofs.SetTypes.{AllHave, GivenHas, values-have, elems-have, one-has, two-has, leaf-has}
 
 -- It is not refusal 15.
@@ -65,27 +66,18 @@ with-has ι σ ρ x v h k y i = go (eqb x y) (eqb→eq x y) i (λ p. subst (λ (
 range-has : (v : Value) (x r t : Ty) → x ≡ t → r ≡ POW t → HasType v r → AllHave (elems v) x
 range-has v x r t p q h = elems-have v x (subst (λ (z : Ty). HasType v z) (q ∙ ap POW (sym p)) h)
 
--- What holds of every value formed by two parts of an evaluation, and what follows from it.
-formed-append : (R : ℕ → Value → Type 0) (a b : Trace) → Formed R a → Formed R b → Formed R (a ++ b)
-formed-append R [] b h k = k
-formed-append R (x ∷ a) b h k = (h .0, formed-append R a b (h .1) k)
-
-pub formed-map : (R S : ℕ → Value → Type 0) (tr : Trace) → ((n : ℕ) (v : Value) → R n v → S n v) → Formed R tr → Formed S tr
-formed-map R S [] f h = tt
-formed-map R S (x ∷ tr) f h = (f (x .0) (x .1) (h .0), formed-map R S tr f (h .1))
-
 module _ (E : ℕ → Type 0) (ν : ℕ → Ty) where
-  -- A value has the type of a node of which E holds.
-  abbrev pub At : ℕ → Value → Type 0
-  At n v = E n × HasType v (ν n)
+  -- E holds of the node where a value is formed, and the value has its type.
+  abbrev pub AtNode : ℕ × Value → Type 0
+  AtNode x = E (x .0) × HasType (x .1) (ν (x .0))
 
   -- From any number of visits, a run ends with Q or in a refusal that is left, and forms only values of their nodes' types.
   abbrev pub Sound : {A : Type 0} → (A → Type 0) → M A → Type 0
-  Sound Q m = (s : ℕ) → Ends Q (m s .end) × Formed At (m s .formed)
+  Sound Q m = (s : ℕ) → Ends Q (m s .end) × All AtNode (m s .formed)
 
-  goOn-sound : {A B : Type 0} (P : A → Type 0) (Q : B → Type 0) (e : End A) (s : ℕ) (tr : Trace) (f : A → M B) → Ends P e → Formed At tr →
-      ((a : A) → P a → Sound Q (f a)) → Ends Q (goOn e s tr f .end) × Formed At (goOn e s tr f .formed)
-  goOn-sound P Q (done a) s tr f h k hf = (hf a h s .0, formed-append At tr (f a s .formed) k (hf a h s .1))
+  goOn-sound : {A B : Type 0} (P : A → Type 0) (Q : B → Type 0) (e : End A) (s : ℕ) (tr : Trace) (f : A → M B) → Ends P e → All AtNode tr →
+      ((a : A) → P a → Sound Q (f a)) → Ends Q (goOn e s tr f .end) × All AtNode (goOn e s tr f .formed)
+  goOn-sound P Q (done a) s tr f h k hf = (hf a h s .0, all-append AtNode tr (f a s .formed) k (hf a h s .1))
   goOn-sound P Q (refused r n) s tr f h k hf = (h, k)
 
   -- A run and what goes on from its answer.
@@ -216,7 +208,7 @@ module _ (E : ℕ → Type 0) (ν : ℕ → Ty) where
 
 -- A run ends in a truth or in a refusal of 16 to 19, and each value is formed at an expression and has its type at θ.
 abbrev pub SoundRun : Table → (ℕ → Ty) → Run Bool → Type 0
-SoundRun tb θ r = Ends Any (r .end) × Formed (At (IsExpression tb) (λ n. θ (placeOf tb n))) (r .formed)
+SoundRun tb θ r = Ends Any (r .end) × All (AtNode (IsExpression tb) (λ n. θ (placeOf tb n))) (r .formed)
 
 -- The run of a table with a whole typing θ, at values of θ's types for the free identifiers, is never refused by 15.
 pub run-sound : (tb : Table) (θ : ℕ → Ty) (vs : List Value) (budget : ℕ) → 0 < length (tb .nodes) → Records tb → Whole tb θ →
