@@ -22,6 +22,7 @@ use Rattle.solver.specs.Problem.{Shape}
 use Rattle.solver.specs.Rows.{Written}
 use Rattle.checker.specs.Built.{placeCount}
 use Rattle.checker.specs.Rows.{Placed, PlaceIn, varAt, Typed, TypesOf, rowAt, putRow, RowWritten}
+use Rattle.checker.proofs.Places.{place-below as typed-below}
 use Rattle.checker.proofs.Scan.{place-below, place-var, typed}
 
 -- The last row of several.
@@ -131,6 +132,26 @@ row-long tb θ light p h = go (decLt p (length (tb .binds)))
     go : Dec (p < length (tb .binds)) → length (rowAt tb θ p) ≡ 64
     go (yes l) = ap length (row-name tb θ p l) ∙ row-length (θ p) (light p (inl l))
     go (no l) = at-node (omega arith)
+
+rows-at : (r : ℕ → List ℕ) (i n k : ℕ) → ((j : ℕ) → j < i + n → length (r j) ≡ 64) → k < n →
+    take 64 (drop (64 * k) (rowsFrom r i n)) ≡ r (i + k)
+unfolding rowsFrom
+rows-at r i zero k h l = absurd (omega arith)
+rows-at r i (suc n) zero h l = take-at (r i) (rowsFrom r (suc i) n) 64 (h i (omega arith)) ∙ ap r (sym (add-zero i))
+rows-at r i (suc n) (suc k) h l =
+    let e : 64 * suc k ≡ length (r i) + 64 * k = omega (arith, h i (omega arith)) in
+    let f : suc i + k ≡ i + suc k = omega arith in
+    ap (λ m. take 64 (drop m (r i ++ rowsFrom r (suc i) n))) e
+    ∙ ap (take 64) (drop-append-add (r i) (rowsFrom r (suc i) n) (64 * k))
+    ∙ rows-at r (suc i) n k (λ j g. h j (omega arith)) (omega arith) ∙ ap r f
+
+-- Where no type is too heavy, the row of a place with a type stands in the sheet at 64 times the place.
+pub sheet-row : (tb : Table) (θ : ℕ → Ty) → ((p : ℕ) → Light tb θ p) → (p : ℕ) → Place tb p →
+    take 64 (drop (64 * p) (sheetOf tb θ)) ≡ row (θ p)
+sheet-row tb θ light p h =
+    ap (λ l. take 64 (drop (64 * p) l)) (sheet-rows tb θ)
+    ∙ rows-at (rowAt tb θ) 0 (placeCount tb) p (λ j l. row-long tb θ light j (omega arith)) (typed-below tb p h)
+    ∙ ap (rowAt tb θ) (zero-add p) ∙ row-typed tb θ p h
 
 -- The loop of `clear_row`: i zeros are written.
 zero-at : (n j : ℕ) → getD {A = ℕ} (replicate n 0) j 0 ≡ 0

@@ -1,2 +1,3 @@
 -- Laws of the answers.
 pub mod Numbers
+pub mod Demand

@@ -1,2 +1,3 @@
 -- What the exported functions answer.
 pub mod Answers
+pub mod Guarantee

@@ -20,13 +20,9 @@ use Rattle.rules.specs.Cells.{signed, inRange, precedes, wellFormed, ris
 use Rattle.rules.specs.Runs.{Given, gives, lacks}
 use Rattle.rules.specs.Operations.{left, right, elems, setOf, placed, insert, rising, isIn, keptValue, keep, pairsOf, subsets, pairedWith}
 use Rattle.rules.specs.Operations.{upFrom, toCount, elementsFrom, least, ranged, oneValue, twoValue}
+pub use Rattle.rules.specs.Safety.{All, Any}
 use Rattle.rules.proofs.OrderLaws.{flip, lt-compare, order-refl, order-flip, order-pair, order-int, order-element}
 use Rattle.rules.proofs.OrderLaws.{before-order, order-before, before-trans, and-left, and-right}
-
--- Each member of a list has the property P.
-abbrev pub All : {A : Type 0} → (A → Type 0) → List A → Type 0
-All P [] = Unit {0}
-All P (x ∷ xs) = P x × All P xs
 
 -- What follows from P holds where P does.
 pub all-imp : {A : Type 0} (P Q : A → Type 0) → ((x : A) → P x → Q x) → (xs : List A) → All P xs → All Q xs
@@ -146,11 +142,7 @@ before-right : (a b d : Value) → Before b d → Before (pair a b) (pair a d)
 before-right a b d h =
     order-before (pair a b) (pair a d) (order-pair a b a d ∙ ap (λ o. o then order b d) (order-refl a) ∙ before-order b d h)
 
--- The property that everything has.
-abbrev pub Any : {A : Type 0} → A → Type 0
-Any x = Unit {0}
-
--- Each member of a list has it.
+-- Each member of a list has the property that everything has.
 pub all-any : {A : Type 0} (xs : List A) → All Any xs
 all-any [] = tt
 all-any (x ∷ xs) = (tt, all-any xs)

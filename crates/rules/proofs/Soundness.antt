@@ -1,5 +1,5 @@
 -- A typed condition is never refused by 15, and every value that its evaluation forms has its node's type: `run-sound`.
-use Prim.Native.Nat.{ℕ, _≤_, _<_}
+use Prim.Native.Nat.{ℕ, _<_}
 use mathlib.Core.List.{List, [], _∷_, _++_}
 use mathlib.Core.Bool.{Bool, true, false}
 use mathlib.Core.Option.{Option, none as nothing, some}
@@ -22,26 +22,17 @@ use Rattle.rules.specs.Runs.{Trace, Run, M, goOn, _>>=_, _>>_, demand, c
 use Rattle.rules.specs.Operations.{Env, _with_≔_, decides, elems, setOf, leafValue, oneValue, twoValue}
 use Rattle.rules.specs.Evaluation.{fitting, quantify, select, holdsᵖ, valueᵉ, run, evaluation}
 use Rattle.rules.specs.Verdict.{placeOf, Whole}
+use Rattle.rules.specs.Safety.{Free, Left, Ends, Any, All}
 use Rattle.rules.proofs.FitsLaws.{fits-right}
-use Rattle.rules.proofs.TypedTree.{numberᵉ, Typedᵖ, Typedᵉ, _adding_, Scopedᵖ, Scopedᵉ, Free, typed-root, scoped-root}
+use Rattle.rules.proofs.ReadingLaws.{reading-table, reading-readable}
+use Rattle.rules.proofs.TableLaws.{nodes-length}
+use Rattle.rules.proofs.TypedTree.{numberᵉ, Typedᵖ, Typedᵉ, IsExpression, _adding_, Scopedᵖ, Scopedᵉ, typed-root, scoped-root}
+use Rattle.rules.proofs.SetOrder.{all-append}
 use Rattle.rules.proofs.SetTypes.{AllHave, GivenHas, values-have, elems-have, one-has, two-has, leaf-has}
-
--- The refusals that are left: 16 to 19.
-abbrev pub Left : ℕ → Type 0
-Left r = (16 ≤ r) × (r ≤ 19)
-
--- An answer with Q, or a refusal that is left.
-abbrev pub Ends : {A : Type 0} → (A → Type 0) → End A → Type 0
-Ends Q (done a) = Q a
-Ends Q (refused r n) = Left r
 
 -- It is not refusal 15.
 pub not-15 : {A : Type 0} (Q : A → Type 0) (e : End A) (n : ℕ) → Ends Q e → e ≡ refused 15 n → ⊥
 not-15 Q e n h p = let k : Left 15 = rw p at h in omega arith
-
--- Nothing is said of an answer.
-abbrev pub Any : {A : Type 0} → A → Type 0
-Any a = Unit {0}
 
 -- Values have the types of a list, one by one.
 abbrev pub Have : List Value → List Ty → Type 0
@@ -75,23 +66,18 @@ with-has ι σ ρ x v h k y i = go (eqb x y) (eqb→eq x y) i (λ p. subst (λ (
 range-has : (v : Value) (x r t : Ty) → x ≡ t → r ≡ POW t → HasType v r → AllHave (elems v) x
 range-has v x r t p q h = elems-have v x (subst (λ (z : Ty). HasType v z) (q ∙ ap POW (sym p)) h)
 
-module _ (ν : ℕ → Ty) where
-  -- Every value formed has its node's type.
-  abbrev pub Formed : Trace → Type 0
-  Formed [] = Unit {0}
-  Formed (x ∷ tr) = HasType (x .1) (ν (x .0)) × Formed tr
+module _ (E : ℕ → Type 0) (ν : ℕ → Ty) where
+  -- E holds of the node where a value is formed, and the value has its type.
+  abbrev pub AtNode : ℕ × Value → Type 0
+  AtNode x = E (x .0) × HasType (x .1) (ν (x .0))
 
   -- From any number of visits, a run ends with Q or in a refusal that is left, and forms only values of their nodes' types.
   abbrev pub Sound : {A : Type 0} → (A → Type 0) → M A → Type 0
-  Sound Q m = (s : ℕ) → Ends Q (m s .end) × Formed (m s .formed)
+  Sound Q m = (s : ℕ) → Ends Q (m s .end) × All AtNode (m s .formed)
 
-  formed-append : (a b : Trace) → Formed a → Formed b → Formed (a ++ b)
-  formed-append [] b h k = k
-  formed-append (x ∷ a) b h k = (h .0, formed-append a b (h .1) k)
-
-  goOn-sound : {A B : Type 0} (P : A → Type 0) (Q : B → Type 0) (e : End A) (s : ℕ) (tr : Trace) (f : A → M B) → Ends P e → Formed tr →
-      ((a : A) → P a → Sound Q (f a)) → Ends Q (goOn e s tr f .end) × Formed (goOn e s tr f .formed)
-  goOn-sound P Q (done a) s tr f h k hf = (hf a h s .0, formed-append tr (f a s .formed) k (hf a h s .1))
+  goOn-sound : {A B : Type 0} (P : A → Type 0) (Q : B → Type 0) (e : End A) (s : ℕ) (tr : Trace) (f : A → M B) → Ends P e → All AtNode tr →
+      ((a : A) → P a → Sound Q (f a)) → Ends Q (goOn e s tr f .end) × All AtNode (goOn e s tr f .formed)
+  goOn-sound P Q (done a) s tr f h k hf = (hf a h s .0, all-append AtNode tr (f a s .formed) k (hf a h s .1))
   goOn-sound P Q (refused r n) s tr f h k hf = (h, k)
 
   -- A run and what goes on from its answer.
@@ -122,11 +108,11 @@ module _ (ν : ℕ → Ty) where
       bind Any Q (fitting n r vs) (λ _. m) (demand-passes (fits (r .takes) vs) 15 n (fits-right (r .takes) vs .1 (t, u, k))) (λ _ _. h)
 
   -- A value of its node's type is formed, or 16 to 18 refuses.
-  form-sound : (n : ℕ) (g : Given) → GivenHas g (ν n) → Sound (λ v. HasType v (ν n)) (form n g)
-  form-sound n (lacks r) h = λ s. ((h .0, omega arith), tt)
-  form-sound n (gives v) h =
+  form-sound : (n : ℕ) (g : Given) → E n → GivenHas g (ν n) → Sound (λ v. HasType v (ν n)) (form n g)
+  form-sound n (lacks r) i h = λ s. ((h .0, omega arith), tt)
+  form-sound n (gives v) i h =
       bind Any (λ w. HasType w (ν n)) (demand (leb (weight v) weightLimit) 18 n) (λ _. emit n v)
-      (demand-sound (leb (weight v) weightLimit) 18 n (omega arith, omega arith)) (λ _ _ s. (h, (h, tt)))
+      (demand-sound (leb (weight v) weightLimit) 18 n (omega arith, omega arith)) (λ _ _ s. (h, ((i, h), tt)))
 
   orElse-sound : (o : Option Bool) (m : M Bool) → Sound Any m → Sound Any (o orElse m)
   orElse-sound nothing m h = h
@@ -162,7 +148,7 @@ module _ (ν : ℕ → Ty) where
       unfolding holdsᵖ
 
       -- The runs of a typed and scoped tree at values of the identifiers' types.
-      pub pred-sound : (p : Pred) (σ : ℕ → Type 0) (ρ : Env) → Typedᵖ ι ν p → Scopedᵖ p σ → EnvHas ι σ ρ →
+      pub pred-sound : (p : Pred) (σ : ℕ → Type 0) (ρ : Env) → Typedᵖ E ι ν p → Scopedᵖ p σ → EnvHas ι σ ρ →
           Sound Any (holdsᵖ budget sizes p ρ)
       pred-sound (joinᵖ n j p q) σ ρ h c e =
           visited Any budget n _
@@ -186,21 +172,21 @@ module _ (ν : ℕ → Ty) where
           j (elems v) (range-has v (ι x) (ν (numberᵉ r)) (h .2 .0) (h .2 .2) (h .2 .3 .0) hv)))
 
       -- So too of an expression, whose value has its node's type.
-      pub expr-sound : (a : Expr) (σ : ℕ → Type 0) (ρ : Env) → Typedᵉ ι ν a → Scopedᵉ a σ → EnvHas ι σ ρ →
+      pub expr-sound : (a : Expr) (σ : ℕ → Type 0) (ρ : Env) → Typedᵉ E ι ν a → Scopedᵉ a σ → EnvHas ι σ ρ →
           Sound (λ v. HasType v (ν (numberᵉ a))) (valueᵉ budget sizes a ρ)
       expr-sound (leafᵉ n j a b) σ ρ h c e =
           visited (Of (leafᵉ n j a b)) budget n _
-          (form-sound n (gives (leafValue sizes j a b ρ)) (leaf-has sizes j a b ρ σ (ι a) (ν n) (e a) c h))
+          (form-sound n (gives (leafValue sizes j a b ρ)) (h .1) (leaf-has sizes j a b ρ σ (ι a) (ν n) (e a) c (h .0)))
       expr-sound (boolᵉ n p) σ ρ h c e =
           visited (Of (boolᵉ n p)) budget n _
           (bind Any (Of (boolᵉ n p)) (holdsᵖ budget sizes p ρ) _ (pred-sound p σ ρ (h .0) c e) λ b _.
-          form-sound n (gives (truthValue b)) (h .1 .4))
+          form-sound n (gives (truthValue b)) (h .2) (h .1 .4))
       expr-sound (oneᵉ n j a) σ ρ h c e =
           visited (Of (oneᵉ n j a)) budget n _
           (bind (Of a) (Of (oneᵉ n j a)) (valueᵉ budget sizes a ρ) _ (expr-sound a σ ρ (h .0) c e) λ v hv.
           let k = takes-fit (oneRule j .takes) (ν (numberᵉ a) ∷ []) (v ∷ []) (h .1 .0) (h .1 .1) (h .1 .3) (hv, tt) in
           fitted (Of (oneᵉ n j a)) n (oneRule j) (v ∷ []) (h .1 .0) (h .1 .1) _ k
-          (form-sound n (oneValue j v) (one-has j v (h .1 .0) (h .1 .1) (ν n) k (h .1 .4))))
+          (form-sound n (oneValue j v) (h .2) (one-has j v (h .1 .0) (h .1 .1) (ν n) k (h .1 .4))))
       expr-sound (twoᵉ n j a b) σ ρ h c e =
           visited (Of (twoᵉ n j a b)) budget n _
           (bind (Of a) (Of (twoᵉ n j a b)) (valueᵉ budget sizes a ρ) _ (expr-sound a σ ρ (h .0) (c .0) e) λ v hv.
@@ -208,7 +194,7 @@ module _ (ν : ℕ → Ty) where
           let es = ν (numberᵉ a) ∷ ν (numberᵉ b) ∷ [] in
           let k = takes-fit (twoRule j .takes) es (v ∷ w ∷ []) (h .2 .0) (h .2 .1) (h .2 .3) (hv, (hw, tt)) in
           fitted (Of (twoᵉ n j a b)) n (twoRule j) (v ∷ w ∷ []) (h .2 .0) (h .2 .1) _ k
-          (form-sound n (twoValue j v w) (two-has j v w (h .2 .0) (h .2 .1) (ν n) k (h .2 .4))))
+          (form-sound n (twoValue j v w) (h .3) (two-has j v w (h .2 .0) (h .2 .1) (ν n) k (h .2 .4))))
       expr-sound (comprehensionᵉ n x r p) σ ρ h c e =
           visited (Of (comprehensionᵉ n x r p)) budget n _
           (bind (Of r) (Of (comprehensionᵉ n x r p)) (valueᵉ budget sizes r ρ) _ (expr-sound r σ ρ (h .0) (c .0) e) λ v hv.
@@ -217,12 +203,12 @@ module _ (ν : ℕ → Ty) where
           (select-sound (λ w. holdsᵖ budget sizes p (ρ with x ≔ w)) (ι x)
           (λ w hw. pred-sound p (σ adding x) (ρ with x ≔ w) (h .1) (c .1) (with-has ι σ ρ x w e hw))
           (elems v) (range-has v (ι x) (ν (numberᵉ r)) (h .2 .0) (h .2 .2) (h .2 .3 .0) hv)) λ ws hws.
-          form-sound n (gives (setOf ws))
+          form-sound n (gives (setOf ws)) (h .3)
           (subst (λ (z : Ty). HasType (setOf ws) z) (ap POW (h .2 .2) ∙ sym (h .2 .4)) (values-have ws (ι x) hws))))
 
--- A run ends in a truth or in a refusal of 16 to 19, and each value formed has its node's type at θ.
+-- A run ends in a truth or in a refusal of 16 to 19, and each value is formed at an expression and has its type at θ.
 abbrev pub SoundRun : Table → (ℕ → Ty) → Run Bool → Type 0
-SoundRun tb θ r = Ends Any (r .end) × Formed (λ n. θ (placeOf tb n)) (r .formed)
+SoundRun tb θ r = Ends Any (r .end) × All (AtNode (IsExpression tb) (λ n. θ (placeOf tb n))) (r .formed)
 
 -- The run of a table with a whole typing θ, at values of θ's types for the free identifiers, is never refused by 15.
 pub run-sound : (tb : Table) (θ : ℕ → Ty) (vs : List Value) (budget : ℕ) → 0 < length (tb .nodes) → Records tb → Whole tb θ →
@@ -230,7 +216,7 @@ pub run-sound : (tb : Table) (θ : ℕ → Ty) (vs : List Value) (budget : ℕ) 
     SoundRun tb θ (run tb vs budget)
 unfolding run
 run-sound tb θ vs budget some-node r w e =
-    pred-sound (λ n. θ (placeOf tb n)) θ budget (tb .sizes) (root tb) (Free tb) (λ x. getD vs x noValue)
+    pred-sound (IsExpression tb) (λ n. θ (placeOf tb n)) θ budget (tb .sizes) (root tb) (Free tb) (λ x. getD vs x noValue)
     (typed-root tb θ r w some-node) (scoped-root tb r some-node) e 0
 
 -- Evaluate is the run of the table and the values that its bytes hold.
@@ -239,10 +225,13 @@ pub evaluation-run : (bs buffer : List ℕ) (budget : ℕ) (tb : Table) (vs : Li
 unfolding evaluation
 evaluation-run bs buffer budget tb vs e f = rw (e, f)
 
--- So too of the bytes of a table and of its values.
+-- So too of the bytes of a table, which is then readable, and of its values.
 pub evaluation-sound : (bs buffer : List ℕ) (budget : ℕ) (tb : Table) (θ : ℕ → Ty) (vs : List Value) →
-    reading bs ≡ done tb → valuesIn tb buffer ≡ done vs → 0 < length (tb .nodes) → Records tb → Whole tb θ →
+    reading bs ≡ done tb → valuesIn tb buffer ≡ done vs → Whole tb θ →
     ((x : ℕ) → Free tb x → HasType (getD vs x noValue) (θ x)) →
     SoundRun tb θ (evaluation bs buffer budget)
-evaluation-sound bs buffer budget tb θ vs e f some-node r w h =
-    rw (evaluation-run bs buffer budget tb vs e f) (run-sound tb θ vs budget some-node r w h)
+evaluation-sound bs buffer budget tb θ vs e f w h =
+    let q = reading-table bs tb e in
+    let r = reading-readable bs tb e in
+    rw (evaluation-run bs buffer budget tb vs e f)
+    (run-sound tb θ vs budget (rw (q, nodes-length bs) (r .header .some-node)) (rw q (r .records)) w h)

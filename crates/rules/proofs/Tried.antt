@@ -16,6 +16,7 @@ use Rattle.rules.specs.Reading.{reading}
 use Rattle.rules.specs.Evaluation.{evaluation}
 use Rattle.rules.specs.Verdict.{placeOf, Place, ObeysKind, Typing, AgreeAt, Only, sheetOf, sheetLength}
 use Rattle.rules.specs.Verdict.{Verdict, unreadable, misfit, clash, several, accepts}
+use Rattle.rules.specs.Safety.{All}
 use Rattle.rules.proofs.TypeLaws.{no-cycle}
 use Rattle.rules.proofs.Rows.{toBytes, wordsOf, sheet, z, pz, ppz, zz, pzz, p1, p2, p3, p4, p5, cardPower, p8, p9, p10, p12}
 use Rattle.rules.proofs.Rows.{Row, Condition, conditions, evaluated, expected}
@@ -245,10 +246,6 @@ p12-checks = accepted p12 refl
 -- Check and Evaluate say of a condition what its row tells.
 abbrev pub Right : Condition → Type 0
 Right c = Verdict (toBytes (c .row .words)) (c .room) (c .checks) × (evaluated (c .row) ≡ expected (c .row))
-
-abbrev pub All : (Condition → Type 0) → List Condition → Type 0
-All P [] = Unit {0}
-All P (c ∷ cs) = P c × All P cs
 
 -- Each of P1 to P12 is what the rules give.
 pub conditions-right : All Right conditions

@@ -20,6 +20,7 @@ use Rattle.rules.specs.Tables.{predOf, exprOf, predAt, exprAt}
 use Rattle.rules.specs.Reading.{occurrences, upward, occursIn, occursInAny, occursStep, occursFree, binders}
 use Rattle.rules.specs.Readable.{CategoryIs, KindRight, BindingRight, Records}
 use Rattle.rules.specs.Verdict.{placeOf, ObeysKind, Whole}
+use Rattle.rules.specs.Safety.{Free}
 
 -- The number of an expression's node.
 abbrev pub numberᵉ : Expr → ℕ
@@ -29,9 +30,9 @@ numberᵉ (oneᵉ n j e) = n
 numberᵉ (twoᵉ n j e f) = n
 numberᵉ (comprehensionᵉ n x r p) = n
 
--- Every node of a tree obeys its rule, at the types ι of the identifiers and ν of the nodes. Where field a holds a child,
--- the rule says nothing of an identifier.
-module _ (ι ν : ℕ → Ty) where
+-- Every node of a tree obeys its rule, at the types ι of the identifiers and ν of the nodes, and E holds of its expressions.
+-- Where field a holds a child, the rule says nothing of an identifier.
+module _ (E : ℕ → Type 0) (ι ν : ℕ → Ty) where
   abbrev mutual
     pub Typedᵖ : Pred → Type 0
     Typedᵖ (joinᵖ n j p q) = Typedᵖ p × Typedᵖ q
@@ -40,11 +41,11 @@ module _ (ι ν : ℕ → Ty) where
     Typedᵖ (quantᵖ n j x r p) = Typedᵉ r × Typedᵖ p × Obeys quantRule (ι x) (ν (numberᵉ r) ∷ []) (ν n)
 
     pub Typedᵉ : Expr → Type 0
-    Typedᵉ (leafᵉ n j a b) = Obeys (leafRule j a) (ι a) [] (ν n)
-    Typedᵉ (boolᵉ n p) = Typedᵖ p × Obeys ([] gives boolᵖ) (ι 0) [] (ν n)
-    Typedᵉ (oneᵉ n j e) = Typedᵉ e × Obeys (oneRule j) (ι (numberᵉ e)) (ν (numberᵉ e) ∷ []) (ν n)
-    Typedᵉ (twoᵉ n j e f) = Typedᵉ e × Typedᵉ f × Obeys (twoRule j) (ι (numberᵉ e)) (ν (numberᵉ e) ∷ ν (numberᵉ f) ∷ []) (ν n)
-    Typedᵉ (comprehensionᵉ n x r p) = Typedᵉ r × Typedᵖ p × Obeys comprehensionRule (ι x) (ν (numberᵉ r) ∷ []) (ν n)
+    Typedᵉ (leafᵉ n j a b) = Obeys (leafRule j a) (ι a) [] (ν n) × E n
+    Typedᵉ (boolᵉ n p) = Typedᵖ p × Obeys ([] gives boolᵖ) (ι 0) [] (ν n) × E n
+    Typedᵉ (oneᵉ n j e) = Typedᵉ e × Obeys (oneRule j) (ι (numberᵉ e)) (ν (numberᵉ e) ∷ []) (ν n) × E n
+    Typedᵉ (twoᵉ n j e f) = Typedᵉ e × Typedᵉ f × Obeys (twoRule j) (ι (numberᵉ e)) (ν (numberᵉ e) ∷ ν (numberᵉ f) ∷ []) (ν n) × E n
+    Typedᵉ (comprehensionᵉ n x r p) = Typedᵉ r × Typedᵖ p × Obeys comprehensionRule (ι x) (ν (numberᵉ r) ∷ []) (ν n) × E n
 
 -- The identifier that a leaf uses is in scope; the other leaves use none.
 abbrev pub Uses : Leaf → (ℕ → Type 0) → ℕ → Type 0
@@ -101,23 +102,31 @@ absurd01 e = absurd (omega arith)
 one-category : {A : Type 0} → predicate ≡ expression → A
 one-category e = absurd01 (cc)
 
-module _ (tb : Table) (θ : ℕ → Ty) where
-  abbrev ν : ℕ → Ty
-  ν n = θ (placeOf tb n)
+-- A node of the table that is an expression.
+abbrev pub IsExpression : Table → ℕ → Type 0
+IsExpression tb n = (n < length (tb .nodes)) × CategoryIs expression (kindAt (tb .nodes) n)
 
+-- The tree obeys the rules at the types θ of the table's places.
+abbrev pub Typedᵖ-at : Table → (ℕ → Ty) → Pred → Type 0
+Typedᵖ-at tb θ = Typedᵖ (IsExpression tb) θ (λ n. θ (placeOf tb n))
+
+abbrev pub Typedᵉ-at : Table → (ℕ → Ty) → Expr → Type 0
+Typedᵉ-at tb θ = Typedᵉ (IsExpression tb) θ (λ n. θ (placeOf tb n))
+
+module _ (tb : Table) (θ : ℕ → Ty) where
   abbrev record-of : ℕ → Node
   record-of n = nodeAt (tb .nodes) n
 
   -- The children of a node, by category, that are typed.
   abbrev Typedᵖ-below : ℕ → (ℕ → Pred) → Type 0
-  Typedᵖ-below n p = (m : ℕ) → m < n → CategoryIs predicate (kindAt (tb .nodes) m) → Typedᵖ θ ν (p m)
+  Typedᵖ-below n p = (m : ℕ) → m < n → CategoryIs predicate (kindAt (tb .nodes) m) → Typedᵖ-at tb θ (p m)
 
   abbrev Typedᵉ-below : ℕ → (ℕ → Expr) → Type 0
-  Typedᵉ-below n e = (m : ℕ) → m < n → CategoryIs expression (kindAt (tb .nodes) m) → Typedᵉ θ ν (e m)
+  Typedᵉ-below n e = (m : ℕ) → m < n → CategoryIs expression (kindAt (tb .nodes) m) → Typedᵉ-at tb θ (e m)
 
   typed-predOf : (k : Option Kind) (n : ℕ) (p : ℕ → Pred) (e : ℕ → Expr) → CategoryIs predicate k →
       KindRight tb n k (fieldWords (record-of n)) → ObeysKind tb θ n k →
-      Typedᵖ-below n p → Typedᵉ-below n e → ((m : ℕ) → numberᵉ (e m) ≡ m) → Typedᵖ θ ν (predOf k n (record-of n) p e)
+      Typedᵖ-below n p → Typedᵉ-below n e → ((m : ℕ) → numberᵉ (e m) ≡ m) → Typedᵖ-at tb θ (predOf k n (record-of n) p e)
   typed-predOf nothing n p e i c o hp he hn = absurd i
   typed-predOf (some (join j)) n p e i c o hp he hn = (hp _ (c .0 .0) (c .0 .1), hp _ (c .1 .0 .0) (c .1 .0 .1))
   typed-predOf (some negation) n p e i c o hp he hn = hp _ (c .0 .0) (c .0 .1)
@@ -131,27 +140,27 @@ module _ (tb : Table) (θ : ℕ → Ty) where
   typed-predOf (some (two j)) n p e i c o hp he hn = one-category (sym i)
   typed-predOf (some comprehension) n p e i c o hp he hn = one-category (sym i)
 
-  typed-exprOf : (k : Option Kind) (n : ℕ) (p : ℕ → Pred) (e : ℕ → Expr) → CategoryIs expression k →
+  typed-exprOf : (k : Option Kind) (n : ℕ) (p : ℕ → Pred) (e : ℕ → Expr) → CategoryIs expression k → IsExpression tb n →
       KindRight tb n k (fieldWords (record-of n)) → ObeysKind tb θ n k →
-      Typedᵖ-below n p → Typedᵉ-below n e → ((m : ℕ) → numberᵉ (e m) ≡ m) → Typedᵉ θ ν (exprOf k n (record-of n) p e)
-  typed-exprOf nothing n p e i c o hp he hn = absurd i
-  typed-exprOf (some (join j)) n p e i c o hp he hn = one-category i
-  typed-exprOf (some negation) n p e i c o hp he hn = one-category i
-  typed-exprOf (some (test j)) n p e i c o hp he hn = one-category i
-  typed-exprOf (some (quant j)) n p e i c o hp he hn = one-category i
-  typed-exprOf (some (leaf identifier)) n p e i c o hp he hn = o
-  typed-exprOf (some (leaf givenSet)) n p e i c o hp he hn = o
-  typed-exprOf (some (leaf elementOf)) n p e i c o hp he hn = o
-  typed-exprOf (some (leaf (literal k))) n p e i c o hp he hn = o
-  typed-exprOf (some (leaf truthConst)) n p e i c o hp he hn = o
-  typed-exprOf (some (leaf emptySet)) n p e i c o hp he hn = o
-  typed-exprOf (some (leaf boolSet)) n p e i c o hp he hn = o
-  typed-exprOf (some boolOf) n p e i c o hp he hn = (hp _ (c .0 .0) (c .0 .1), o)
-  typed-exprOf (some (one j)) n p e i c o hp he hn = (he _ (c .0 .0) (c .0 .1), rw (hn (record-of n .a)) o)
-  typed-exprOf (some (two j)) n p e i c o hp he hn =
-      (he _ (c .0 .0) (c .0 .1), he _ (c .1 .0 .0) (c .1 .0 .1), rw (hn (record-of n .a), hn (record-of n .b)) o)
-  typed-exprOf (some comprehension) n p e i c o hp he hn =
-      (he _ (c .1 .0 .0) (c .1 .0 .1), hp _ (c .1 .1 .0 .0) (c .1 .1 .0 .1), rw (hn (record-of n .b)) o)
+      Typedᵖ-below n p → Typedᵉ-below n e → ((m : ℕ) → numberᵉ (e m) ≡ m) → Typedᵉ-at tb θ (exprOf k n (record-of n) p e)
+  typed-exprOf nothing n p e i q c o hp he hn = absurd i
+  typed-exprOf (some (join j)) n p e i q c o hp he hn = one-category i
+  typed-exprOf (some negation) n p e i q c o hp he hn = one-category i
+  typed-exprOf (some (test j)) n p e i q c o hp he hn = one-category i
+  typed-exprOf (some (quant j)) n p e i q c o hp he hn = one-category i
+  typed-exprOf (some (leaf identifier)) n p e i q c o hp he hn = (o, q)
+  typed-exprOf (some (leaf givenSet)) n p e i q c o hp he hn = (o, q)
+  typed-exprOf (some (leaf elementOf)) n p e i q c o hp he hn = (o, q)
+  typed-exprOf (some (leaf (literal k))) n p e i q c o hp he hn = (o, q)
+  typed-exprOf (some (leaf truthConst)) n p e i q c o hp he hn = (o, q)
+  typed-exprOf (some (leaf emptySet)) n p e i q c o hp he hn = (o, q)
+  typed-exprOf (some (leaf boolSet)) n p e i q c o hp he hn = (o, q)
+  typed-exprOf (some boolOf) n p e i q c o hp he hn = (hp _ (c .0 .0) (c .0 .1), o, q)
+  typed-exprOf (some (one j)) n p e i q c o hp he hn = (he _ (c .0 .0) (c .0 .1), rw (hn (record-of n .a)) o, q)
+  typed-exprOf (some (two j)) n p e i q c o hp he hn =
+      (he _ (c .0 .0) (c .0 .1), he _ (c .1 .0 .0) (c .1 .0 .1), rw (hn (record-of n .a), hn (record-of n .b)) o, q)
+  typed-exprOf (some comprehension) n p e i q c o hp he hn =
+      (he _ (c .1 .0 .0) (c .1 .0 .1), hp _ (c .1 .1 .0 .0) (c .1 .1 .0 .1), rw (hn (record-of n .b)) o, q)
 
   module _ (r : Records tb) (w : Whole tb θ) where
     mutual
@@ -159,7 +168,7 @@ module _ (tb : Table) (θ : ℕ → Ty) where
 
       -- The trees at the nodes of a whole typing are typed.
       pub typed-predAt : (f n : ℕ) → n < f → n < length (tb .nodes) → CategoryIs predicate (kindAt (tb .nodes) n) →
-          Typedᵖ θ ν (predAt f (tb .nodes) n)
+          Typedᵖ-at tb θ (predAt f (tb .nodes) n)
       typed-predAt zero n h l i = absurd (omega arith)
       typed-predAt (suc f) n h l i =
           typed-predOf (kindAt (tb .nodes) n) n (λ m. predAt f (tb .nodes) m) (λ m. exprAt f (tb .nodes) m) i (r .fields n l) (w .obeyed n l)
@@ -168,23 +177,20 @@ module _ (tb : Table) (θ : ℕ → Ty) where
 
       -- So too of an expression.
       pub typed-exprAt : (f n : ℕ) → n < f → n < length (tb .nodes) → CategoryIs expression (kindAt (tb .nodes) n) →
-          Typedᵉ θ ν (exprAt f (tb .nodes) n)
+          Typedᵉ-at tb θ (exprAt f (tb .nodes) n)
       typed-exprAt zero n h l i = absurd (omega arith)
       typed-exprAt (suc f) n h l i =
-          typed-exprOf (kindAt (tb .nodes) n) n (λ m. predAt f (tb .nodes) m) (λ m. exprAt f (tb .nodes) m) i (r .fields n l) (w .obeyed n l)
+          typed-exprOf (kindAt (tb .nodes) n) n (λ m. predAt f (tb .nodes) m) (λ m. exprAt f (tb .nodes) m) i (l, i) (r .fields n l)
+          (w .obeyed n l)
           (λ m q c. typed-predAt f m (omega arith) (omega arith) c) (λ m q c. typed-exprAt f m (omega arith) (omega arith) c)
           (λ m. number-at f (tb .nodes) m)
 
 -- A whole typing of a table types the tree of its condition.
 pub typed-root : (tb : Table) (θ : ℕ → Ty) → Records tb → Whole tb θ → 0 < length (tb .nodes) →
-    Typedᵖ θ (λ n. θ (placeOf tb n)) (root tb)
+    Typedᵖ-at tb θ (root tb)
 unfolding root
 typed-root tb θ r w h =
     typed-predAt tb θ r w (length (tb .nodes)) (lastNode (tb .nodes)) (omega arith) (omega arith) (r .root)
-
--- The identifiers of a table whose word is 0.
-abbrev pub Free : Table → ℕ → Type 0
-Free tb x = (x < length (tb .binds)) × (getD (tb .binds) x 1 ≡ 0)
 
 or-false : (a b : Bool) → a || b ≡ false → (a ≡ false) × (b ≡ false)
 or-false true b h = absurd01 (cc)

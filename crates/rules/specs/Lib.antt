@@ -13,3 +13,4 @@ pub mod Runs
 pub mod Operations
 pub mod Evaluation
 pub mod Verdict
+pub mod Safety

@@ -1,0 +1,100 @@
+-- Demand 3 of document 01 as one claim, `guarantee`, and what it says of the two calls.
+use Prim.Native.Nat.{ℕ}
+use mathlib.Core.List.{List}
+use mathlib.Core.Path.{_≡_, refl, sym, subst, _∙_}
+use mathlib.Core.Logic.{inl, inr}
+use native.Mathlib.Omega.{arith}
+use lib.ListN.{getD, length}
+use Rattle.rules.specs.Types.{Ty, row}
+use Rattle.rules.specs.Values.{Value}
+use Rattle.rules.specs.Fits.{HasType}
+use Rattle.rules.specs.Cells.{noValue}
+use Rattle.rules.specs.Tables.{Table}
+use Rattle.rules.specs.Reading.{reading}
+use Rattle.rules.specs.Ends.{End, done, refused}
+use Rattle.rules.specs.Verdict.{placeOf, Place, Whole, sheetAfter}
+use Rattle.rules.specs.Verdict.{Verdict, unreadable, misfit, clash, several, heavy, accepts}
+use Rattle.rules.specs.Evaluation.{evaluation}
+use Rattle.rules.specs.Safety.{Any}
+use Rattle.rules.proofs.ReadingLaws.{reading-numbers}
+use Rattle.rules.proofs.TypeLaws.{row-injective}
+use Rattle.rules.proofs.SetOrder.{all-imp}
+use Rattle.rules.proofs.TypedTree.{IsExpression}
+use Rattle.rules.proofs.Soundness.{AtNode, not-15, evaluation-sound}
+use Rattle.checker.specs.Model.{verdict}
+use Rattle.checker.proofs.VerdictRight.{verdict-right}
+use Rattle.checker.proofs.Sheet.{sheet-row}
+use Rattle.falgrumi.specs.Answers.{numberOf}
+use Rattle.falgrumi.specs.Guarantee.{rowAt, HasWritten, Conforming, Guaranteed}
+
+-- The rows are those of a typing of the table.
+record Written (bs rows : List ℕ) : Type 0 where
+  table : Table
+  reads : reading bs ≡ done table
+  θ : ℕ → Ty
+  typing : Whole table θ
+  typed : (p : ℕ) → Place table p → rowAt rows p ≡ row (θ p)
+
+-- So it is where Check accepts.
+written : {bs rows : List ℕ} {room : ℕ} → Verdict bs room (done rows) → Written bs rows
+written (accepts {tb} {θ} e fits only light) =
+    record { table = tb; reads = e; θ = θ; typing = only .typing; typed = λ p h. sheet-row tb θ light p h }
+
+one-table : {o : End Table} {tb tb′ : Table} → o ≡ done tb → o ≡ done tb′ → tb′ ≡ tb
+one-table e f = cc
+
+module _ {bs rows : List ℕ} (w : Written bs rows) where
+  -- A value has its node's type, and the type written for its node.
+  abbrev Typed : ℕ × Value → Type 0
+  Typed x = AtNode (IsExpression (w .table)) (λ n. w .θ (placeOf (w .table) n)) x
+
+  abbrev TypedAsWritten : ℕ × Value → Type 0
+  TypedAsWritten x = HasWritten rows (placeOf (w .table) (x .0)) (x .1)
+
+  -- The type written at a place is the place's type, since a row tells its type.
+  has-type : (p : ℕ) (v : Value) → Place (w .table) p → HasWritten rows p v → HasType v (w .θ p)
+  has-type p v h (t, e, k) = subst (λ (u : Ty). HasType v u) (row-injective t (w .θ p) (sym e ∙ w .typed p h)) k
+
+  has-written : (x : ℕ × Value) → Typed x → TypedAsWritten x
+  has-written (n, v) (i, k) = let p = placeOf (w .table) n in (w .θ p, w .typed p (inr (n, i .0, i .1, refl)), k)
+
+  guaranteed : {buffer : List ℕ} (c : Conforming bs rows buffer) (budget : ℕ) → w .table ≡ c .table → Guaranteed bs rows buffer budget
+  guaranteed {buffer} c budget q =
+      let s = evaluation-sound bs buffer budget (w .table) (w .θ) (c .values) (w .reads) (rw q (c .loads)) (w .typing)
+      (λ x f. has-type x (getD (c .values) x noValue) (inl (f .0)) (c .types x (rw q at f))) in
+      record {
+        table = w .table;
+        reads = w .reads;
+        ends = s .0;
+        formed = all-imp Typed TypedAsWritten has-written (evaluation bs buffer budget .formed) (s .1);
+      }
+
+-- Where Check accepts a table and writes these rows, and the values of its free identifiers have the types written for them,
+-- no evaluation ends in 15, and each forms only values of the types written for their nodes.
+pub guarantee : (bs buffer rows : List ℕ) (room budget : ℕ) → verdict bs room ≡ done rows →
+    Conforming bs rows buffer → Guaranteed bs rows buffer budget
+guarantee bs buffer rows room budget e c =
+    let w : Written bs rows = written (subst (Verdict bs room) e (verdict-right bs room)) in
+    guaranteed w c budget (one-table (c .reads) (w .reads))
+
+-- So it never ends in 15.
+pub never-15 : (bs rows buffer : List ℕ) (budget n : ℕ) → Guaranteed bs rows buffer budget →
+    evaluation bs buffer budget .end ≡ refused 15 n → ⊥
+never-15 bs rows buffer budget n g e = not-15 Any (evaluation bs buffer budget .end) n (g .ends) e
+
+-- Only acceptance has the number 0, and then the sheet at exit is the rows.
+zero-accepts : {bs : List ℕ} {room : ℕ} {a : End (List ℕ)} → Verdict bs room a → (sheet : List ℕ) → numberOf a ≡ 0 → a ≡ done (sheetAfter a sheet)
+zero-accepts {bs} (unreadable {r} {p} e) sheet z = absurd (omega (arith, reading-numbers bs r p e))
+zero-accepts (misfit e n) sheet z = absurd (omega arith)
+zero-accepts (clash e f l w n) sheet z = absurd (omega arith)
+zero-accepts (several e f h w w₁ d g) sheet z = absurd (omega arith)
+zero-accepts (heavy e f h o l g) sheet z = absurd (omega arith)
+zero-accepts (accepts e f o g) sheet z = refl
+
+-- The claim in the terms of the two calls' contracts: the number that Check answers, and the sheet at its exit.
+pub guarantee-calls : (bs sheet buffer : List ℕ) (budget : ℕ) → numberOf (verdict bs (length sheet)) ≡ 0 →
+    Conforming bs (sheetAfter (verdict bs (length sheet)) sheet) buffer →
+    Guaranteed bs (sheetAfter (verdict bs (length sheet)) sheet) buffer budget
+guarantee-calls bs sheet buffer budget z c =
+    guarantee bs buffer (sheetAfter (verdict bs (length sheet)) sheet) (length sheet) budget
+    (zero-accepts (verdict-right bs (length sheet)) sheet z) c
