@@ -12,7 +12,7 @@ use Rattle.rules.specs.Cells.{noValue}
 use Rattle.rules.specs.Tables.{Table}
 use Rattle.rules.specs.Reading.{reading}
 use Rattle.rules.specs.Ends.{End, done, refused}
-use Rattle.rules.specs.Verdict.{placeOf, Place, Whole, sheetAfter}
+use Rattle.rules.specs.Verdict.{placeOf, Place, Whole, Light, sheetAfter}
 use Rattle.rules.specs.Verdict.{Verdict, unreadable, misfit, clash, several, heavy, accepts}
 use Rattle.rules.specs.Evaluation.{evaluation}
 use Rattle.rules.specs.Safety.{Any}
@@ -25,7 +25,8 @@ use Rattle.checker.specs.Model.{verdict}
 use Rattle.checker.proofs.VerdictRight.{verdict-right}
 use Rattle.checker.proofs.Sheet.{sheet-row}
 use Rattle.falgrumi.specs.Answers.{numberOf}
-use Rattle.falgrumi.specs.Guarantee.{rowAt, HasWritten, Conforming, Guaranteed}
+use Rattle.conforms.specs.Conforming.{rowAt, HasWritten, Conforming}
+use Rattle.falgrumi.specs.Guarantee.{Guaranteed}
 
 -- The rows are those of a typing of the table.
 record Written (bs rows : List ℕ) : Type 0 where
@@ -34,11 +35,12 @@ record Written (bs rows : List ℕ) : Type 0 where
   θ : ℕ → Ty
   typing : Whole table θ
   typed : (p : ℕ) → Place table p → rowAt rows p ≡ row (θ p)
+  light : (p : ℕ) → Light table θ p
 
 -- So it is where Check accepts.
 written : {bs rows : List ℕ} {room : ℕ} → Verdict bs room (done rows) → Written bs rows
 written (accepts {tb} {θ} e fits only light) =
-    record { table = tb; reads = e; θ = θ; typing = only .typing; typed = λ p h. sheet-row tb θ light p h }
+    record { table = tb; reads = e; θ = θ; typing = only .typing; typed = λ p h. sheet-row tb θ light p h; light = light }
 
 one-table : {o : End Table} {tb tb′ : Table} → o ≡ done tb → o ≡ done tb′ → tb′ ≡ tb
 one-table e f = cc
@@ -53,10 +55,13 @@ module _ {bs rows : List ℕ} (w : Written bs rows) where
 
   -- The type written at a place is the place's type, since a row tells its type.
   has-type : (p : ℕ) (v : Value) → Place (w .table) p → HasWritten rows p v → HasType v (w .θ p)
-  has-type p v h (t, e, k) = subst (λ (u : Ty). HasType v u) (row-injective t (w .θ p) (sym e ∙ w .typed p h)) k
+  has-type p v h (t, e, l, k) = subst (λ (u : Ty). HasType v u) (row-injective t (w .θ p) (sym e ∙ w .typed p h)) k
 
   has-written : (x : ℕ × Value) → Typed x → TypedAsWritten x
-  has-written (n, v) (i, k) = let p = placeOf (w .table) n in (w .θ p, w .typed p (inr (n, i .0, i .1, refl)), k)
+  has-written (n, v) (i, k) =
+      let p = placeOf (w .table) n in
+      let h : Place (w .table) p = inr (n, i .0, i .1, refl) in
+      (w .θ p, w .typed p h, w .light p h, k)
 
   guaranteed : {buffer : List ℕ} (c : Conforming bs rows buffer) (budget : ℕ) → w .table ≡ c .table → Guaranteed bs rows buffer budget
   guaranteed {buffer} c budget q =

@@ -57,20 +57,20 @@ is-product row from (u ⊗ w) h e =
     )
 
 -- Types one after the other.
-prefixes : List Ty → List ℕ
+unfoldable pub prefixes : List Ty → List ℕ
 prefixes [] = []
 prefixes (t ∷ ts) = prefix t ++ prefixes ts
 
-widths : List Ty → ℕ
+unfoldable pub widths : List Ty → ℕ
 widths [] = 0
 widths (t ∷ ts) = weightᵀ t + widths ts
 
 -- `left` types stand from i to e.
 pub record PendingTypes (row : List ℕ) (i left e : ℕ) : Type 0 where
-  types : List Ty
-  counted : length types ≡ left
-  codes : Stands row i (prefixes types)
-  ends : i + widths types ≡ e
+  pub types : List Ty
+  pub counted : length types ≡ left
+  pub codes : Stands row i (prefixes types)
+  pub ends : i + widths types ≡ e
 
 pub types-start : (row : List ℕ) (from : ℕ) (t : Ty) → TypeAt row from t → PendingTypes row from 1 (from + weightᵀ t)
 unfolding prefixes widths

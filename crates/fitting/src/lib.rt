@@ -247,7 +247,7 @@ pub fn applies(s: &[u64], a: usize, b: usize) -> bool
 }
 
 // How many types follow a code as its parts.
-fn type_parts(c: u8) -> usize
+pub fn type_parts(c: u8) -> usize
     ensures { λ r. ⌜ r ≡ typeParts c ⌝ }
 {
     if c == 3 {

@@ -1,0 +1,3 @@
+-- Laws of rows of a sheet, and of values against them.
+pub mod RowLaws
+pub mod NameLaws

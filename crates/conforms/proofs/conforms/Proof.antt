@@ -1,0 +1,27 @@
+use borrow.Author.Needs.{needs}
+use Rattle.conforms.proofs.NameLaws.{reading-passed, no-reading}
+use Rattle.conforms.proofs.conforms.Statement.{statement}
+use Rattle.conforms.proofs.conforms.Tie as tie
+
+read-requires : tie.Need-read-requires
+read-requires c κs = search needs
+
+enum-told : tie.Need-enum-told
+enum-told c = search needs
+
+enum-told-2 : tie.Need-enum-told-2
+enum-told-2 c = search needs
+
+conforms-readable-requires : tie.Need-conforms-readable-requires
+conforms-readable-requires c κs = reading-passed _ _ (c .before .before .read .ensures) (c .enum-told2 .given .1)
+
+returns : tie.Need-returns
+returns c = no-reading _ _ _ _ _ (c .before .before .read .ensures) (c .enum-told .given .1)
+
+returns-2 : tie.Need-returns-2
+returns-2 c = search needs
+
+pub conforms-spec : {M : Type 1} → statement M
+conforms-spec =
+    tie.close
+    (tie.spec read-requires enum-told enum-told-2 conforms-readable-requires returns returns-2)

@@ -1,0 +1,3 @@
+-- Values of the types in a sheet.
+pub mod Conforming
+pub mod Rows

@@ -1,0 +1,150 @@
+// Whether values have the types that a sheet gives to the free identifiers of a table.
+use buffer::Loaded;
+use table::Reading;
+ghost use mathlib.Core.Path.{_≡_};
+ghost use Prim.Native.Nat.{_+_, _≤_};
+ghost use lib.ListN.{length};
+ghost use Rattle.rules.specs.Readable.{Readable};
+ghost use Rattle.fitting.specs.Types.{Decides};
+ghost use Rattle.conforms.specs.Conforming.{Conforming};
+ghost use Rattle.evaluate.specs.Result.{LoadReady};
+ghost use Rattle.conforms.specs.Rows.{Code, Blank, SomeRow, ValueAndRow, OfRow, NameReady, NameHas, AllReady, AllHave, Fits};
+
+// Whether a byte is the code of a type's first constructor.
+fn is_code(c: u8) -> bool
+    ensures { λ r. ⌜ Decides r (Code c) ⌝ }
+{
+    if c >= 16 {
+        return true;
+    }
+    if c == 0 {
+        return false;
+    }
+    c <= 4
+}
+
+// Whether the bytes from `at` to `end` are zero.
+fn blank(sheet: &[u8], at: usize, end: usize) -> bool
+    requires { ⌜ (at ≤ end) × (end ≤ length (now sheet)) ⌝ }
+    ensures { λ r. ⌜ Decides r (Blank (now (sheet .entry)) at end) ⌝ }
+{
+    let mut i = at;
+    while i < end {
+        if sheet[i] != 0 {
+            return false;
+        }
+        i += 1;
+    }
+    true
+}
+
+// Whether the row from `at` on is that of a type: its codes in prefix order, and then zeros.
+fn is_row(sheet: &[u8], at: usize) -> bool
+    requires { ⌜ at + 64 ≤ length (now sheet) ⌝ }
+    ensures { λ r. ⌜ Decides r (SomeRow (now (sheet .entry)) at) ⌝ }
+{
+    let end = at + 64;
+    let mut i = at;
+    let mut left: usize = 1;
+    while left > 0 {
+        if i == end {
+            return false;
+        }
+        let c = sheet[i];
+        if !is_code(c) {
+            return false;
+        }
+        left = left - 1 + fitting::type_parts(c);
+        i += 1;
+    }
+    blank(sheet, i, end)
+}
+
+// Whether the value at `at` has the type in the row from `row` on.
+fn row_has(s: &[u64], at: usize, sheet: &[u8], row: usize) -> bool
+    requires { ⌜ ValueAndRow (now s) at (now sheet) row ⌝ }
+    ensures { λ r. ⌜ OfRow (now (s .entry)) at (now (sheet .entry)) row r ⌝ }
+{
+    if !is_row(sheet, row) {
+        return false;
+    }
+    fitting::has_type(s, at, sheet, row)
+}
+
+// The same for the identifier x, if it is free.
+fn name_has(table: &[u8], s: &[u64], at: usize, sheet: &[u8], x: usize) -> bool
+    requires { ⌜ NameReady (now table) (now s) at (now sheet) x ⌝ }
+    ensures { λ r. ⌜ NameHas (now (table .entry)) (now (s .entry)) at (now (sheet .entry)) x r ⌝ }
+{
+    if table::bind(table, x) != 0 {
+        return true;
+    }
+    row_has(s, at, sheet, 64 * x)
+}
+
+fn wide(x: u32) -> usize
+    ensures { λ r. ⌜ r ≡ x ⌝ }
+{
+    x as usize
+}
+
+// The same for all identifiers.
+fn all_have(table: &[u8], s: &[u64], env: &[u32; 32], sheet: &[u8]) -> bool
+    requires { ⌜ AllReady (now table) (now s) (now env) (now sheet) ⌝ }
+    ensures { λ r. ⌜ AllHave (now (table .entry)) (now (s .entry)) (now (env .entry)) (now (sheet .entry)) r ⌝ }
+{
+    let count = table::identifiers(table);
+    let mut x: usize = 0;
+    while x < count {
+        let at = wide(env[x]);
+        if !name_has(table, s, at, sheet, x) {
+            return false;
+        }
+        x += 1;
+    }
+    true
+}
+
+// The same for the values of a buffer, which are read into the arena s.
+fn conforms_in(table: &[u8], sheet: &[u8], values: &[u8], s: &mut [u64]) -> bool
+    requires { ⌜ LoadReady (now table) (now s) × Fits (now table) (now sheet) ⌝ }
+    ensures { λ r. ⌜ Decides r (Conforming (now (table .entry)) (now (sheet .entry)) (now (values .entry))) ⌝ }
+{
+    let loaded = evaluate::load(table, values, s);
+    let env = loaded.at;
+    let answer = loaded.answer;
+    match answer {
+        Loaded::Refused(_) => false,
+        Loaded::All(_) => all_have(table, s, &env, sheet),
+    }
+}
+
+// 32 values, each of at most 256 cells, and the value of those that have none.
+fn conforms_fitting(table: &[u8], sheet: &[u8], values: &[u8]) -> bool
+    requires { ⌜ Readable (now table) × Fits (now table) (now sheet) ⌝ }
+    ensures { λ r. ⌜ Decides r (Conforming (now (table .entry)) (now (sheet .entry)) (now (values .entry))) ⌝ }
+{
+    let mut s = [0u64; 8193];
+    conforms_in(table, sheet, values, &mut s)
+}
+
+fn conforms_readable(table: &[u8], sheet: &[u8], values: &[u8]) -> bool
+    requires { ⌜ Readable (now table) ⌝ }
+    ensures { λ r. ⌜ Decides r (Conforming (now (table .entry)) (now (sheet .entry)) (now (values .entry))) ⌝ }
+{
+    if sheet.len() != 64 * (table::identifiers(table) + table::nodes(table)) {
+        return false;
+    }
+    conforms_fitting(table, sheet, values)
+}
+
+// Whether the values buffer gives each free identifier of the table a value of the type in its row of the sheet.
+pub fn conforms(table: &[u8], sheet: &[u8], values: &[u8]) -> bool
+    ensures { λ r. ⌜ Decides r (Conforming (now (table .entry)) (now (sheet .entry)) (now (values .entry))) ⌝ }
+{
+    let reading = table::read(table);
+    match reading {
+        Reading::Refused(_) => false,
+        Reading::Passed => conforms_readable(table, sheet, values),
+    }
+}
