@@ -1,6 +1,9 @@
 // The batch program: cases on standard input, one line for each answer. All words have 4 bytes, least first.
-// A check case: 1, the table's length, the sheet's length, the table. An evaluation: 2, the table's length, the values'
-// length, the budget, the table, the values.
+// A check: 1, the table's length, the sheet's length, the table. An evaluation: 2, the table's length, the values' length,
+// the budget, the table, the values. A check answers `accepted` and the row of every place, an evaluation its truth and its
+// steps; a refusal has its number and place. A table of up to 16,384 bytes, values of up to 131,072 and a sheet of up to
+// 1,048,576 are taken, more than any right one has. What ends the batch early is its last line: `long` for a longer one,
+// `cut` for an input that ends inside a case, `unknown` for another first word.
 use checker::Checked;
 use evaluate::Ending;
 use evaluate::Truth;
@@ -116,7 +119,7 @@ fn take(buffer: &mut [u8], n: usize) -> bool
     next_bytes(buffer, n) == n
 }
 
-// A check whose table, of t bytes, is next in the input, and whose sheet has n.
+// A check whose table, of t bytes, is next in the input, and whose sheet has n; whether the batch goes on.
 fn answer_check(table: &mut [u8], t: usize, sheet: &mut [u8], n: usize) -> bool
     requires { ⌜ (t ≤ length (now table)) × (n ≤ length (now sheet)) ⌝ }
 {
@@ -146,7 +149,7 @@ fn next_check(table: &mut [u8], sheet: &mut [u8]) -> bool
     answer_check(table, t, sheet, n)
 }
 
-// An evaluation whose table, of t bytes, and values, of v bytes, are next in the input.
+// An evaluation whose table, of t bytes, and values, of v bytes, are next in the input; whether the batch goes on.
 fn answer_evaluation(table: &mut [u8], t: usize, values: &mut [u8], v: usize, budget: u32) -> bool
     requires { ⌜ (t ≤ length (now table)) × (v ≤ length (now values)) ⌝ }
 {
@@ -181,7 +184,7 @@ fn next_evaluation(table: &mut [u8], values: &mut [u8]) -> bool
     answer_evaluation(table, t, values, v, budget)
 }
 
-// One case; whether the batch goes on.
+// The next case; whether the batch goes on.
 fn next_case(table: &mut [u8], values: &mut [u8], sheet: &mut [u8]) -> bool
     requires { ⌜ (16384 ≤ length (now table)) × (131072 ≤ length (now values)) × (1048576 ≤ length (now sheet)) ⌝ }
 {
