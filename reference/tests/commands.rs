@@ -49,22 +49,38 @@ fn the_listing_of_p1() {
     assert_eq!(String::from_utf8_lossy(&output.stdout), expected);
 }
 
-#[test]
-fn a_written_batch_is_answered_alike() {
-    let folder = std::env::temp_dir().join(format!("reference-batch-{}", std::process::id()));
+/// The two files that `batch` writes.
+fn written(seed: &str, count: &str) -> (Vec<u8>, Vec<u8>) {
+    let name = format!("reference-batch-{}-{seed}", std::process::id());
+    let folder = std::env::temp_dir().join(name);
     std::fs::create_dir_all(&folder).expect("a folder for the files");
     let (stdin, stdout) = (folder.join("in"), folder.join("out"));
     let names = [stdin.to_string_lossy(), stdout.to_string_lossy()];
-    let mut arguments = vec!["batch", "--seed", "9", "--count", "300"];
+    let mut arguments = vec!["batch", "--seed", seed, "--count", count];
     arguments.extend(["--stdin", &names[0], "--stdout", &names[1]]);
     assert!(run(&arguments, &[]).status.success());
     let batch = std::fs::read(&stdin).expect("the batch is there");
     let expected = std::fs::read(&stdout).expect("its output is there");
     std::fs::remove_dir_all(&folder).expect("the folder is removed");
+    (batch, expected)
+}
+
+#[test]
+fn a_written_batch_is_answered_alike() {
+    let (batch, expected) = written("9", "300");
     assert_eq!(run(&["answers"], &batch).stdout, expected);
     let text = String::from_utf8_lossy(&expected);
     assert_eq!(text.lines().count(), 300 + 32);
     assert!(text.starts_with("accepted 10 10 0310 p\ntrue 3\nrefused 12 0\n"));
+}
+
+/// The batch of the program `answers`; the README says how it is made again.
+#[test]
+fn the_stored_batch_is_of_this_reference() {
+    let stored = |name| std::fs::read(format!("../crates/answers/{name}")).expect("it is stored");
+    let (batch, expected) = written("106", "2970");
+    assert!(batch == stored("stdin"), "stdin differs");
+    assert!(expected == stored("stdout"), "stdout differs");
 }
 
 #[test]

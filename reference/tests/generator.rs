@@ -27,16 +27,12 @@ fn refusals(numbers: impl Iterator<Item = u32>) -> Vec<String> {
     numbers.map(|n| format!("refused {n:>2}")).collect()
 }
 
-#[test]
-fn every_kind_and_every_answer_is_reached() {
-    let stats = stats(1, 12_000, false);
-    assert_reaches(&stats, "read", &refusals(1..=9));
-    assert_reaches(&stats, "read", &["readable".to_string()]);
-    assert_reaches(&stats, "check", &refusals(1..=13));
-    assert_reaches(&stats, "check", &["accepted".to_string()]);
-    assert_reaches(&stats, "evaluate", &refusals((1..=9).chain(14..=19)));
+fn assert_reaches_all(stats: &Stats) {
+    assert_reaches(stats, "check", &refusals(1..=13));
+    assert_reaches(stats, "check", &["accepted".to_string()]);
+    assert_reaches(stats, "evaluate", &refusals((1..=9).chain(14..=19)));
     assert_reaches(
-        &stats,
+        stats,
         "evaluate",
         &["true".to_string(), "false".to_string()],
     );
@@ -44,6 +40,23 @@ fn every_kind_and_every_answer_is_reached() {
         let code = row.kind as u32;
         assert!(stats.accepted_kinds.contains_key(&code), "kind {code}");
     }
+}
+
+#[test]
+fn every_kind_and_every_answer_is_reached() {
+    let stats = stats(1, 12_000, false);
+    assert_reaches(&stats, "read", &refusals(1..=9));
+    assert_reaches(&stats, "read", &["readable".to_string()]);
+    assert_reaches_all(&stats);
+}
+
+/// Of the generated cases alone, without the conditions of document 01.
+#[test]
+fn the_stored_batch_reaches_every_kind_and_every_answer() {
+    let mut generator = Generator::new(106, false, None);
+    let mut stats = Stats::default();
+    (0..2_970).for_each(|_| stats.add(&generator.batch_case()));
+    assert_reaches_all(&stats);
 }
 
 #[test]

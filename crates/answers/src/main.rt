@@ -1,14 +1,19 @@
 // The batch program: cases on standard input, one line for each answer. All words have 4 bytes, least first.
-// A check case: 1, the table's length, the sheet's length, the table. An evaluation: 2, the table's length, the values'
-// length, the budget, the table, the values.
+// A check: 1, the table's length, the sheet's length, the table. An evaluation: 2, the table's length, the values' length,
+// the budget, the table, the values. A check answers `accepted` and the row of every place, an evaluation its truth and its
+// steps; a refusal has its number and place. A table of up to 16,384 bytes, values of up to 131,072 and a sheet of up to
+// 1,048,576 are taken, more than any right one has. What ends the batch early is its last line: `long` for a longer one,
+// `cut` for an input that ends inside a case, `unknown` for another first word.
 use checker::Checked;
 use evaluate::Ending;
 use evaluate::Truth;
 use libc::STDIN_FILENO;
 use libc::STDOUT_FILENO;
 use table::Refusal;
-ghost use Prim.Native.Nat.{_≤_, _<_, _*_};
+ghost use Prim.Native.Nat.{_≤_, _<_};
+ghost use mathlib.Core.Path.{_≡_};
 ghost use lib.ListN.{length};
+ghost use Rattle.io.specs.Counts.{Counts};
 
 fn wide(x: u8) -> u64
     ensures { λ r. ⌜ r < 256 ⌝ }
@@ -80,7 +85,8 @@ fn check_case(table: &[u8], sheet: &mut [u8]) {
 
 fn evaluate_case(table: &[u8], values: &[u8], budget: u32) {
     let e = evaluate::evaluate(table, values, budget);
-    match e.ending {
+    let ending = e.ending;
+    match ending {
         Ending::Refused(r) => print_refusal(r),
         Ending::Decided(t) => match t {
             Truth::True => say(b"true"),
@@ -98,11 +104,31 @@ fn stop(why: &[u8]) -> bool {
     false
 }
 
+// How many of the next n bytes the input still has. They then stand at the start of the buffer.
+fn next_bytes(buffer: &mut [u8], n: usize) -> usize
+    requires { ⌜ n ≤ length (now buffer) ⌝ }
+    ensures { λ r. ⌜ Counts r (now (buffer .exit)) ⌝ }
+{
+    io::read_full(STDIN_FILENO, &mut buffer[..n])
+}
+
 // Whether the input still has n bytes, which then stand in the buffer.
 fn take(buffer: &mut [u8], n: usize) -> bool
     requires { ⌜ n ≤ length (now buffer) ⌝ }
 {
-    io::read_full(STDIN_FILENO, &mut buffer[..n]) == n
+    next_bytes(buffer, n) == n
+}
+
+// A check whose table, of t bytes, is next in the input, and whose sheet has n; whether the batch goes on.
+fn answer_check(table: &mut [u8], t: usize, sheet: &mut [u8], n: usize) -> bool
+    requires { ⌜ (t ≤ length (now table)) × (n ≤ length (now sheet)) ⌝ }
+{
+    let got = next_bytes(table, t);
+    if got < t {
+        return stop(b"cut\n");
+    }
+    check_case(&table[..got], &mut sheet[..n]);
+    true
 }
 
 fn next_check(table: &mut [u8], sheet: &mut [u8]) -> bool
@@ -120,10 +146,22 @@ fn next_check(table: &mut [u8], sheet: &mut [u8]) -> bool
     if n > 1048576 {
         return stop(b"long\n");
     }
-    if !take(table, t) {
+    answer_check(table, t, sheet, n)
+}
+
+// An evaluation whose table, of t bytes, and values, of v bytes, are next in the input; whether the batch goes on.
+fn answer_evaluation(table: &mut [u8], t: usize, values: &mut [u8], v: usize, budget: u32) -> bool
+    requires { ⌜ (t ≤ length (now table)) × (v ≤ length (now values)) ⌝ }
+{
+    let got = next_bytes(table, t);
+    if got < t {
         return stop(b"cut\n");
     }
-    check_case(&table[..t], &mut sheet[..n]);
+    let more = next_bytes(values, v);
+    if more < v {
+        return stop(b"cut\n");
+    }
+    evaluate_case(&table[..got], &values[..more], budget);
     true
 }
 
@@ -143,22 +181,15 @@ fn next_evaluation(table: &mut [u8], values: &mut [u8]) -> bool
     if v > 131072 {
         return stop(b"long\n");
     }
-    if !take(table, t) {
-        return stop(b"cut\n");
-    }
-    if !take(values, v) {
-        return stop(b"cut\n");
-    }
-    evaluate_case(&table[..t], &values[..v], budget);
-    true
+    answer_evaluation(table, t, values, v, budget)
 }
 
-// One case; whether the batch goes on.
+// The next case; whether the batch goes on.
 fn next_case(table: &mut [u8], values: &mut [u8], sheet: &mut [u8]) -> bool
     requires { ⌜ (16384 ≤ length (now table)) × (131072 ≤ length (now values)) × (1048576 ≤ length (now sheet)) ⌝ }
 {
     let mut head = [0u8; 16];
-    let n = io::read_full(STDIN_FILENO, &mut head[..4]);
+    let n = next_bytes(&mut head, 4);
     if n == 0 {
         return false;
     }
@@ -188,9 +219,28 @@ fn all_cases(table: &mut [u8], values: &mut [u8], sheet: &mut [u8])
     }
 }
 
+// Room for the longest table, values and sheet of a case. The contracts give only the lengths, which lending needs.
+fn table_room() -> [u8; 16384]
+    ensures { λ r. ⌜ 16384 ≡ length r ⌝ }
+{
+    [0; 16384]
+}
+
+fn values_room() -> [u8; 131072]
+    ensures { λ r. ⌜ 131072 ≡ length r ⌝ }
+{
+    [0; 131072]
+}
+
+fn sheet_room() -> [u8; 1048576]
+    ensures { λ r. ⌜ 1048576 ≡ length r ⌝ }
+{
+    [0; 1048576]
+}
+
 fn main() {
-    let mut table = [0u8; 16384];
-    let mut values = [0u8; 131072];
-    let mut sheet = [0u8; 1048576];
+    let mut table = table_room();
+    let mut values = values_room();
+    let mut sheet = sheet_room();
     all_cases(&mut table, &mut values, &mut sheet);
 }
