@@ -96,3 +96,66 @@ fn number(word: OsString) -> Result<u32, String> {
         u32::MAX
     ))
 }
+
+#[cfg(test)]
+mod tests {
+    use super::*;
+
+    fn parsed(line: &str) -> Result<Command, String> {
+        let words: Vec<OsString> = line
+            .split(' ')
+            .filter(|w| !w.is_empty())
+            .map(OsString::from)
+            .collect();
+        parse(&words)
+    }
+
+    #[test]
+    fn commands_are_understood() {
+        let evaluate = |values: Option<&str>, budget| {
+            let (table, values) = ("t".into(), values.map(OsString::from));
+            Ok(Command::Evaluate(Evaluate {
+                table,
+                values,
+                budget,
+            }))
+        };
+        assert_eq!(parsed("check -"), Ok(Command::Check("-".into())));
+        assert_eq!(parsed("show t"), Ok(Command::Show("t".into())));
+        assert_eq!(parsed("evaluate t"), evaluate(None, 1_000_000));
+        assert_eq!(
+            parsed("evaluate --budget 0 t --values v"),
+            evaluate(Some("v"), 0)
+        );
+        assert_eq!(
+            parsed("evaluate t --budget 4294967295"),
+            evaluate(None, u32::MAX)
+        );
+        assert_eq!(parsed("-h"), Ok(Command::Help));
+        assert_eq!(parsed("check t --help"), Ok(Command::Help));
+    }
+
+    #[test]
+    fn bad_lines_are_refused() {
+        let lines = [
+            "",
+            "list t",
+            "check",
+            "check t u",
+            "check --all",
+            "evaluate",
+            "evaluate t u",
+            "evaluate t --values",
+            "evaluate t --budget",
+            "evaluate t --budget x",
+            "evaluate t --budget -1",
+            "evaluate t --budget 4294967296",
+            "evaluate t --budget 1 --budget 2",
+            "evaluate - --values -",
+            "evaluate --fast",
+        ];
+        for line in lines {
+            assert!(parsed(line).is_err(), "{line}");
+        }
+    }
+}

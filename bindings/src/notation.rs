@@ -120,3 +120,61 @@ impl Table {
         text
     }
 }
+
+#[cfg(test)]
+mod tests {
+    use super::*;
+
+    /// The text of the last of these nodes.
+    fn text(nodes: &[[u32; 4]], levels: u32) -> String {
+        let table = Table {
+            sizes: vec![],
+            marks: vec![],
+            nodes: nodes.to_vec(),
+        };
+        table.text(nodes.len() - 1, levels)
+    }
+
+    #[test]
+    fn every_kind_has_its_notation() {
+        let (x, y) = ([20, 0, 0, 0], [20, 1, 0, 0]);
+        let over = |kind| text(&[x, y, [kind, 0, 1, 1]], 2);
+        let predicates = [1, 2, 3, 4, 5, 6, 7, 8, 9, 10, 11].map(over).join("; ");
+        let sets = [27, 28, 29, 30, 31, 32, 33, 34].map(over).join("; ");
+        let functions = [25, 35, 36, 37, 38, 39, 40, 41, 43].map(over).join("; ");
+        let leaves = [20, 21, 22, 23, 24, 26, 42, 12, 44].map(over).join("; ");
+        assert_eq!(
+            predicates,
+            "x0 ∧ x1; x0 ∨ x1; x0 ⇒ x1; ¬x0; x0 ⇔ x1; x0 = x1; x0 ∈ x1; x0 ⊆ x1; x0 ≤ x1; \
+             ∀ x0 ∈ x1 · x1; ∃ x0 ∈ x1 · x1"
+        );
+        assert_eq!(
+            sets,
+            "{x0}; (x0, x1); x0 ∪ x1; x0 ∩ x1; x0 ∖ x1; x0 × x1; POW(x0); {x0 ∈ x1 | x1}"
+        );
+        assert_eq!(
+            functions,
+            "bool(x0); dom(x0); ran(x0); x0(x1); card(x0); x0 + x1; x0 − x1; x0..x1; choice(x0)"
+        );
+        assert_eq!(leaves, "x0; G0; G0.1; 0; FALSE; ∅; BOOL; kind 12; kind 44");
+        assert_eq!(text(&[[23, u32::MAX, 0, 0]], 1), "-1");
+    }
+
+    #[test]
+    fn parentheses_stand_beside_operators_only() {
+        let (one, sum) = ([23, 1, 0, 0], [39, 0, 0, 0]);
+        let over = |node| text(&[one, sum, node], 3);
+        assert_eq!(over([40, 1, 1, 0]), "(1 + 1) − (1 + 1)");
+        assert_eq!(over([28, 1, 1, 0]), "(1 + 1, 1 + 1)");
+        assert_eq!(over([37, 1, 1, 0]), "(1 + 1)(1 + 1)");
+        assert_eq!(over([4, 1, 0, 0]), "¬(1 + 1)");
+        assert_eq!(over([10, 3, 1, 1]), "∀ x3 ∈ 1 + 1 · 1 + 1");
+    }
+
+    #[test]
+    fn what_is_deep_or_out_of_range_is_left_out() {
+        let (one, sum) = ([23, 1, 0, 0], [39, 0, 0, 0]);
+        assert_eq!(text(&[one, sum, [39, 1, 0, 0]], 2), "(… + …) + 1");
+        assert_eq!(text(&[one, [39, 1, 9, 0]], 2), "?1 + ?9");
+    }
+}

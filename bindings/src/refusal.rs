@@ -87,3 +87,33 @@ impl fmt::Display for Refusal {
 }
 
 impl std::error::Error for Refusal {}
+
+#[cfg(test)]
+mod tests {
+    use super::*;
+    use std::collections::HashSet;
+
+    fn refusal(number: u8) -> Refusal {
+        Refusal { number, place: 7 }
+    }
+
+    #[test]
+    fn every_number_has_its_own_sentence() {
+        let sentences: HashSet<&str> = (1..=19).map(|n| refusal(n).sentence()).collect();
+        assert_eq!(sentences.len(), 19);
+        for number in [0, 20, 255] {
+            assert_eq!(refusal(number).sentence(), "an unknown refusal");
+        }
+    }
+
+    #[test]
+    fn a_text_names_number_and_place() {
+        let starts = |number, text| refusal(number).to_string().starts_with(text);
+        assert!(starts(3, "refused 3: an offset"));
+        assert!(starts(4, "refused 4 at given set 7: "));
+        assert!(starts(9, "refused 9 at identifier 7: "));
+        assert!(starts(12, "refused 12 at row 7: "));
+        assert!(starts(14, "refused 14 at identifier 7: "));
+        assert!(starts(19, "refused 19 at node 7: "));
+    }
+}

@@ -90,3 +90,37 @@ impl Sheet {
         self.row(self.identifiers.checked_add(number)?)
     }
 }
+
+#[cfg(test)]
+mod tests {
+    use super::*;
+
+    fn text(codes: &[u8]) -> Option<String> {
+        let mut row = vec![0; ROW_BYTES];
+        row[..codes.len()].copy_from_slice(codes);
+        Sheet::new(row, 0).row(0).map(|found| found.to_string())
+    }
+
+    #[test]
+    fn rows_read_as_types() {
+        let wanted = |t: &str| Some(t.to_string());
+        assert_eq!(text(&[1]), wanted("INTEGER"));
+        assert_eq!(text(&[3, 3, 2]), wanted("POW(POW(BOOL))"));
+        assert_eq!(text(&[3, 4, 16, 31]), wanted("POW(G0 × G15)"));
+        assert_eq!(
+            text(&[4, 4, 1, 2, 3, 1]),
+            wanted("((INTEGER × BOOL) × POW(INTEGER))")
+        );
+        assert_eq!(
+            text(&[4, 1, 4, 2, 1]),
+            wanted("(INTEGER × (BOOL × INTEGER))")
+        );
+    }
+
+    #[test]
+    fn a_row_that_is_no_type_reads_as_none() {
+        for codes in [&[][..], &[3], &[4, 1], &[5], &[32], &[3; 64]] {
+            assert_eq!(text(codes), None);
+        }
+    }
+}

@@ -192,3 +192,101 @@ fn header(bytes: &[u8]) -> String {
     }
     out
 }
+
+#[cfg(test)]
+mod tests {
+    use super::*;
+
+    fn show(bytes: &[u8]) -> String {
+        table(bytes, &falgrumi::check(bytes))
+    }
+
+    fn bytes(sizes: &[u32], marks: &[u32], nodes: &[[u32; 4]]) -> Vec<u8> {
+        let identifiers_at = 32 + 4 * sizes.len();
+        let nodes_at = identifiers_at + 4 * marks.len();
+        let length = nodes_at + 16 * nodes.len();
+        let counts = [1, sizes.len(), marks.len(), nodes.len()];
+        let header = [32, identifiers_at, nodes_at, length];
+        let words = counts.into_iter().chain(header).map(|w| w as u32);
+        let records = [sizes, marks, nodes.as_flattened()].concat();
+        words.chain(records).flat_map(u32::to_le_bytes).collect()
+    }
+
+    #[test]
+    fn the_refused_place_is_marked() {
+        let (x, empty) = ([20, 0, 0, 0], [26, 0, 0, 0]);
+        let ambiguous = bytes(&[], &[0], &[x, empty, [7, 0, 1, 0]]);
+        assert!(show(&ambiguous).starts_with("identifier x0, free  ◄ refused 12\n"));
+        let unsized_ = bytes(&[2, 0], &[], &[empty, empty, [6, 0, 1, 0]]);
+        assert!(show(&unsized_).contains("given set G1: no elements  ◄ refused 4\n"));
+        let unmarked = bytes(&[], &[2], &[empty, empty, [6, 0, 1, 0]]);
+        assert!(show(&unmarked).contains("identifier x0, marked 2  ◄ refused 5\n"));
+        let unknown = bytes(&[], &[], &[empty, [12, 1, 2, 3], [6, 0, 1, 0]]);
+        assert!(show(&unknown).contains("1  kind 12  ◄ refused 6: kind 12, fields 1, 2, 3\n"));
+    }
+
+    #[test]
+    fn every_node_is_drawn_once() {
+        let (empty, equal) = ([26, 0, 0, 0], [6, 0, 0, 0]);
+        let drawn = show(&bytes(&[], &[], &[empty, empty, equal, [6, 1, 7, 0]]));
+        assert_eq!(
+            drawn,
+            "3  ∅ = ?7  ◄ refused 6: kind 6, fields 1, 7, 0\n\
+             ├─ 1  ∅\n\
+             └─ 7?  not a node below 3\n\
+             2  ∅ = ∅\n\
+             ├─ 0  ∅\n\
+             └─ 0  ∅  (drawn above)\n"
+        );
+        // Both fields of each node name the one before: a tree of 2^511 leaves, were it drawn whole.
+        let doubled: Vec<[u32; 4]> = (0..512u32)
+            .map(|n| [1, n.wrapping_sub(1), n.wrapping_sub(1), 0])
+            .collect();
+        assert_eq!(
+            show(&bytes(&[], &[], &doubled)).lines().count(),
+            512 + 511 + 2
+        );
+    }
+
+    #[test]
+    fn a_bad_header_is_told() {
+        assert!(show(&[])
+            .starts_with("the table has 0 bytes; its header:\nform: missing (must be 1)\n"));
+        let mut long = bytes(&[], &[], &[[26, 0, 0, 0]]);
+        long.push(0);
+        assert!(show(&long).starts_with("the table has 49 bytes (must be 48); its header:\n"));
+    }
+
+    /// A number below the limit, from a small generator.
+    fn random(state: &mut u64, limit: u64) -> u32 {
+        *state = state
+            .wrapping_mul(6364136223846793005)
+            .wrapping_add(1442695040888963407);
+        ((*state >> 33) % limit) as u32
+    }
+
+    #[test]
+    fn any_bytes_can_be_shown() {
+        let mut state = 1;
+        for _ in 0..2000 {
+            let mut some = |most: u64, limit: u64| -> Vec<u32> {
+                let count = random(&mut state, most + 1);
+                (0..count).map(|_| random(&mut state, limit)).collect()
+            };
+            let (sizes, marks, words) = (some(3, 4), some(3, 3), some(60, 45));
+            let nodes: Vec<[u32; 4]> = words
+                .chunks_exact(4)
+                .map(|w| [w[0], w[1], w[2], w[3]])
+                .collect();
+            let whole = bytes(&sizes, &marks, &nodes);
+            let cut = random(&mut state, whole.len() as u64) as usize;
+            for shown in [&whole[..], &whole[..cut]] {
+                let checked = falgrumi::check(shown);
+                let lines = table(shown, &checked).lines().count();
+                assert!(lines <= sizes.len() + marks.len() + 4 * nodes.len() + 9);
+                let told = checked.err().map(|r| refusal(shown, &r));
+                assert!(told.is_none_or(|text| text.starts_with("refused ")));
+            }
+        }
+    }
+}
