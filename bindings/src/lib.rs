@@ -1,8 +1,8 @@
 //! Safe calls of the proved library: Check and Evaluate of document 01.
 //!
 //! A table, a sheet and values are bytes in the forms that `include/falgrumi.h` describes. Every call, on any bytes whatever,
-//! ends with an answer; nothing is kept between calls. The library works on the caller's stack, about 0.4 MB of it for Evaluate
-//! (an estimate, not measured).
+//! ends with an answer; nothing is kept between calls. The library works on the caller's stack; 0.4 MB is enough for
+//! what was measured.
 
 // CONFORMS: the next two lines, src/conforms.rs and a block of include/falgrumi.h go or stay together.
 mod conforms;
