@@ -1,0 +1,68 @@
+//! The exported functions of the library. Nothing checks these declarations against the library: they are those of
+//! `include/falgrumi.h`.
+
+mod c {
+    extern "C" {
+        pub fn falgrumi_check(
+            table: *const u8,
+            table_length: usize,
+            sheet: *mut u8,
+            sheet_length: usize,
+            place: *mut u64,
+        ) -> u8;
+
+        pub fn falgrumi_evaluate(
+            table: *const u8,
+            table_length: usize,
+            values: *const u8,
+            values_length: usize,
+            budget: u32,
+            truth: *mut u8,
+            place: *mut u64,
+            steps: *mut u32,
+        ) -> u8;
+    }
+}
+
+#[derive(Default)]
+pub struct Answer {
+    pub number: u8,
+    pub truth: u8,
+    pub place: u64,
+    pub steps: u32,
+}
+
+/// The answer's number and place.
+pub fn check(table: &[u8], sheet: &mut [u8]) -> (u8, u64) {
+    let mut place = 0;
+    // SAFETY: the library reads the table and writes the sheet and the place within their lengths, as its proofs say; a
+    // slice's pointer is never null, and the borrows keep the sheet apart from the table.
+    let number = unsafe {
+        c::falgrumi_check(
+            table.as_ptr(),
+            table.len(),
+            sheet.as_mut_ptr(),
+            sheet.len(),
+            &mut place,
+        )
+    };
+    (number, place)
+}
+
+pub fn evaluate(table: &[u8], values: &[u8], budget: u32) -> Answer {
+    let mut answer = Answer::default();
+    // SAFETY: as for `check`; only the three numbers are written.
+    answer.number = unsafe {
+        c::falgrumi_evaluate(
+            table.as_ptr(),
+            table.len(),
+            values.as_ptr(),
+            values.len(),
+            budget,
+            &mut answer.truth,
+            &mut answer.place,
+            &mut answer.steps,
+        )
+    };
+    answer
+}

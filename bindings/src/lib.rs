@@ -1,0 +1,82 @@
+//! Safe calls of the proved library: Check and Evaluate of document 01.
+//!
+//! A table, a sheet and values are bytes in the forms that `include/falgrumi.h` describes. Every call, on any bytes whatever,
+//! ends with an answer; nothing is kept between calls. The library works on the caller's stack; 0.4 MB is enough for
+//! what was measured.
+
+// CONFORMS: the next two lines, src/conforms.rs and a block of include/falgrumi.h go or stay together.
+mod conforms;
+pub use conforms::conforms;
+
+mod ffi;
+mod refusal;
+mod sheet;
+
+pub use refusal::{Refusal, Subject};
+pub use sheet::{Sheet, Type};
+
+/// The bytes of a table's header.
+pub const HEADER_BYTES: usize = 32;
+/// The bytes of a node's record.
+pub const NODE_BYTES: usize = 16;
+/// The bytes of a sheet's row.
+pub const ROW_BYTES: usize = 64;
+pub const MAX_GIVEN_SETS: u32 = 16;
+pub const MAX_IDENTIFIERS: u32 = 32;
+pub const MAX_NODES: u32 = 512;
+
+/// What Evaluate answers.
+#[derive(Clone, Copy, PartialEq, Eq, Debug)]
+pub struct Evaluation {
+    /// The condition's truth, or the refusal.
+    pub outcome: Result<bool, Refusal>,
+    /// The visits made; 0 for refusals 1 to 14.
+    pub steps: u32,
+}
+
+/// Checks a table: the types of its identifiers and nodes, or the refusal.
+pub fn check(table: &[u8]) -> Result<Sheet, Refusal> {
+    let mut rows = vec![0; sheet_length(table)];
+    check_into(table, &mut rows)?;
+    // An accepted table has a header, and at most 32 identifiers.
+    let identifiers = word(table, 2).map_or(0, |count| count as usize);
+    Ok(Sheet::new(rows, identifiers))
+}
+
+/// Checks a table and writes its rows to a sheet of `sheet_length(table)` bytes; a refusal leaves the sheet as it was.
+pub fn check_into(table: &[u8], sheet: &mut [u8]) -> Result<(), Refusal> {
+    let (number, place) = ffi::check(table, sheet);
+    refused(number, place).map_or(Ok(()), Err)
+}
+
+/// Evaluates a table at the values of its free identifiers, with at most `budget` visits.
+pub fn evaluate(table: &[u8], values: &[u8], budget: u32) -> Evaluation {
+    let answer = ffi::evaluate(table, values, budget);
+    let outcome = refused(answer.number, answer.place).map_or(Ok(answer.truth == 1), Err);
+    Evaluation {
+        outcome,
+        steps: answer.steps,
+    }
+}
+
+/// The length of the sheet that Check asks for; 0 where the table's header is too short or beyond the limits.
+pub fn sheet_length(table: &[u8]) -> usize {
+    match (table.len() >= HEADER_BYTES, word(table, 2), word(table, 3)) {
+        (true, Some(i), Some(n)) if i <= MAX_IDENTIFIERS && n <= MAX_NODES => {
+            ROW_BYTES * (i + n) as usize
+        }
+        _ => 0,
+    }
+}
+
+/// The word with the given number, least byte first, if the bytes have it.
+pub fn word(bytes: &[u8], number: usize) -> Option<u32> {
+    let four = bytes.chunks_exact(4).nth(number)?;
+    Some(u32::from_le_bytes([four[0], four[1], four[2], four[3]]))
+}
+
+fn refused(number: u8, place: u64) -> Option<Refusal> {
+    // Places are numbers of given sets, identifiers and nodes: below 32 + 512.
+    let place = place as u32;
+    (number != 0).then_some(Refusal { number, place })
+}

@@ -1,0 +1,145 @@
+//! Checks, shows and evaluates tables in files.
+
+mod arguments;
+mod notation;
+mod show;
+mod table;
+
+use arguments::{Command, Evaluate};
+use std::ffi::{OsStr, OsString};
+use std::fs::File;
+use std::io::{self, Read, Write};
+use std::process::ExitCode;
+
+/// No table or values buffer is nearly as long.
+const LONGEST: u64 = 1 << 20;
+
+/// What is printed, and whether it tells a refusal.
+struct Report {
+    text: String,
+    refused: bool,
+}
+
+fn main() -> ExitCode {
+    let arguments: Vec<OsString> = std::env::args_os().skip(1).collect();
+    match run(&arguments).and_then(print) {
+        Ok(refused) => ExitCode::from(u8::from(refused)),
+        Err(message) => {
+            // Nothing is left to do where standard error is closed.
+            let _ = writeln!(io::stderr(), "falgrumi: {message}");
+            ExitCode::from(2)
+        }
+    }
+}
+
+fn run(arguments: &[OsString]) -> Result<Report, String> {
+    match arguments::parse(arguments).map_err(|m| format!("{m}; --help tells the commands"))? {
+        Command::Help => Ok(Report {
+            text: arguments::USAGE.to_string(),
+            refused: false,
+        }),
+        Command::Check(file) => Ok(check(&read(&file)?)),
+        Command::Show(file) => Ok(show(&read(&file)?)),
+        Command::Evaluate(wanted) => evaluate(&wanted),
+    }
+}
+
+fn check(table: &[u8]) -> Report {
+    let checked = falgrumi::check(table);
+    let text = match &checked {
+        Ok(sheet) => format!("accepted\n{}", rows(sheet)),
+        Err(refusal) => show::refusal(table, refusal),
+    };
+    Report {
+        text,
+        refused: checked.is_err(),
+    }
+}
+
+fn rows(sheet: &falgrumi::Sheet) -> String {
+    let mut out = String::new();
+    for x in 0..sheet.identifiers() {
+        let found = sheet.identifier(x).map(|t| t.to_string());
+        out += &format!("identifier {x}: {}\n", found.unwrap_or_default());
+    }
+    for node in 0..sheet.nodes() {
+        let found = sheet.node(node).map(|t| t.to_string());
+        out += &format!(
+            "node {node}: {}\n",
+            found.unwrap_or("predicate".to_string())
+        );
+    }
+    out
+}
+
+fn show(table: &[u8]) -> Report {
+    let checked = falgrumi::check(table);
+    let answer = match &checked {
+        Ok(_) => "accepted\n".to_string(),
+        Err(refusal) => show::refusal(table, refusal),
+    };
+    Report {
+        text: show::table(table, &checked) + &answer,
+        refused: checked.is_err(),
+    }
+}
+
+fn evaluate(wanted: &Evaluate) -> Result<Report, String> {
+    let table = read(&wanted.table)?;
+    let values = wanted.values.as_deref().map_or(Ok(Vec::new()), read)?;
+    let evaluation = falgrumi::evaluate(&table, &values, wanted.budget);
+    let answer = match evaluation.outcome {
+        Ok(truth) => format!("{truth}\n"),
+        Err(refusal) if refusal.number == 14 && wanted.values.is_none() => {
+            return Err(missing_values(&table));
+        }
+        Err(refusal) => show::refusal(&table, &refusal),
+    };
+    Ok(Report {
+        text: format!("{answer}steps: {}\n", evaluation.steps),
+        refused: evaluation.outcome.is_err(),
+    })
+}
+
+fn missing_values(table: &[u8]) -> String {
+    let free = table::Table::read(table).map_or(Vec::new(), |table| table.free().collect());
+    let names: Vec<String> = free.iter().map(|x| format!("x{x}")).collect();
+    let names = names.join(", ");
+    format!("the table has free identifiers ({names}): give their values with --values FILE")
+}
+
+fn read(file: &OsStr) -> Result<Vec<u8>, String> {
+    let (name, bytes) = if file == "-" {
+        ("standard input".into(), read_all(io::stdin()))
+    } else {
+        (file.to_string_lossy(), File::open(file).and_then(read_all))
+    };
+    match bytes {
+        Ok(bytes) if bytes.len() as u64 <= LONGEST => Ok(bytes),
+        Ok(_) => Err(format!(
+            "{name}: over {LONGEST} bytes, no table or values are as long"
+        )),
+        Err(error) => Err(format!("{name}: {error}")),
+    }
+}
+
+/// The bytes, one beyond the longest at most.
+fn read_all(from: impl Read) -> io::Result<Vec<u8>> {
+    let mut bytes = Vec::new();
+    from.take(LONGEST + 1).read_to_end(&mut bytes)?;
+    Ok(bytes)
+}
+
+/// Whether the report tells a refusal. A reader that closes early ends the output; nothing is wrong.
+fn print(report: Report) -> Result<bool, String> {
+    let mut out = io::stdout().lock();
+    let done = out
+        .write_all(report.text.as_bytes())
+        .and_then(|()| out.flush());
+    match done {
+        Err(error) if error.kind() != io::ErrorKind::BrokenPipe => {
+            Err(format!("standard output: {error}"))
+        }
+        _ => Ok(report.refused),
+    }
+}

@@ -1,0 +1,194 @@
+//! The library through its safe calls: document 01's conditions, and what the wrapper adds.
+
+use falgrumi::{check, check_into, evaluate, sheet_length, Evaluation, Refusal};
+
+const P1: &[u8] = include_bytes!("../../tables/p1");
+const P2: &[u8] = include_bytes!("../../tables/p2");
+const P3: &[u8] = include_bytes!("../../tables/p3");
+const GATE: &[u8] = include_bytes!("../../tables/gate");
+/// x is element 1 of G0.
+const ELEMENT: &[u8] = &[1, 0, 0, 0, 3, 0, 0, 0];
+
+/// A table with no given sets and these identifiers and nodes.
+fn table(marks: &[u32], nodes: &[[u32; 4]]) -> Vec<u8> {
+    let nodes_at = 32 + 4 * marks.len();
+    let length = nodes_at + 16 * nodes.len();
+    let header = [1, 0, marks.len(), nodes.len(), 32, 32, nodes_at, length].map(|w| w as u32);
+    let words = [&header, marks, nodes.as_flattened()].concat();
+    words.into_iter().flat_map(u32::to_le_bytes).collect()
+}
+
+fn refused(number: u8, place: u32) -> Refusal {
+    Refusal { number, place }
+}
+
+fn ends(outcome: Result<bool, Refusal>, steps: u32) -> Evaluation {
+    Evaluation { outcome, steps }
+}
+
+/// card(POW(1..high)) = 32
+fn power(high: u32) -> Vec<u8> {
+    let (low, high) = ([23, 1, 0, 0], [23, high, 0, 0]);
+    let (interval, power, card) = ([41, 0, 1, 0], [33, 2, 0, 0], [38, 3, 0, 0]);
+    table(
+        &[],
+        &[
+            low,
+            high,
+            interval,
+            power,
+            card,
+            [23, 32, 0, 0],
+            [6, 4, 5, 0],
+        ],
+    )
+}
+
+/// ∀ x ∈ 2..1 · x = x
+fn empty_range() -> Vec<u8> {
+    let (two, one, range) = ([23, 2, 0, 0], [23, 1, 0, 0], [41, 0, 1, 0]);
+    let (x, same, all) = ([20, 0, 0, 0], [6, 3, 4, 0], [10, 0, 2, 5]);
+    table(&[1], &[two, one, range, x, x, same, all])
+}
+
+#[test]
+fn accepted_rows_are_types() {
+    let sheet = check(P1).expect("P1 is accepted");
+    assert_eq!((sheet.identifiers(), sheet.nodes()), (1, 3));
+    let types: Vec<Option<String>> = (0..5)
+        .map(|place| sheet.row(place).map(|t| t.to_string()))
+        .collect();
+    let [g, pow] = ["G0", "POW(G0)"].map(|t| Some(t.to_string()));
+    assert_eq!(types, [g.clone(), g, pow, None, None]);
+    assert_eq!(sheet.identifier(0), sheet.node(0));
+    assert_eq!(
+        (sheet.identifier(1), sheet.node(2), sheet.node(usize::MAX)),
+        (None, None, None)
+    );
+    assert_eq!(sheet.bytes().len(), sheet_length(P1));
+    let gate = check(GATE).expect("the gate is accepted");
+    assert_eq!(
+        gate.identifier(1).expect("a type").to_string(),
+        "POW(G0 × G1)"
+    );
+}
+
+#[test]
+fn check_refuses_as_document_01_says() {
+    let unlike = table(&[], &[[23, 1, 0, 0], [24, 1, 0, 0], [6, 0, 1, 0]]);
+    assert_eq!(check(P2).err(), Some(refused(12, 0)));
+    assert_eq!(check(P3).err(), Some(refused(11, 3)));
+    assert_eq!(check(&unlike).err(), Some(refused(11, 2)));
+}
+
+#[test]
+fn evaluate_answers_as_document_01_says() {
+    let (one, truth, equal) = ([23, 1, 0, 0], [24, 1, 0, 0], [6, 0, 1, 0]);
+    let p4 = table(&[], &[one, truth, equal]);
+    let p5 = table(
+        &[],
+        &[one, one, equal, one, truth, [6, 3, 4, 0], [2, 2, 5, 0]],
+    );
+    let p8 = table(&[], &[[26, 0, 0, 0], [43, 0, 0, 0], one, [6, 1, 2, 0]]);
+    let most = [23, i32::MAX as u32, 0, 0];
+    let p9 = table(
+        &[],
+        &[most, one, [39, 0, 1, 0], [23, 0, 0, 0], [6, 2, 3, 0]],
+    );
+    assert_eq!(evaluate(P1, ELEMENT, 100), ends(Ok(true), 3));
+    assert_eq!(evaluate(&p4, &[], 100), ends(Err(refused(15, 2)), 3));
+    assert_eq!(evaluate(&p5, &[], 100), ends(Ok(true), 4));
+    assert_eq!(evaluate(&power(5), &[], 100), ends(Ok(true), 7));
+    assert_eq!(evaluate(&power(6), &[], 100), ends(Err(refused(18, 3)), 6));
+    assert_eq!(evaluate(&p8, &[], 100), ends(Err(refused(16, 1)), 3));
+    assert_eq!(evaluate(&p9, &[], 100), ends(Err(refused(17, 2)), 4));
+    assert_eq!(evaluate(&empty_range(), &[], 100), ends(Ok(true), 4));
+    assert_eq!(
+        evaluate(&empty_range(), &[], 3),
+        ends(Err(refused(19, 1)), 3)
+    );
+}
+
+#[test]
+fn application_gives_the_least_image() {
+    let number = |n| [23, n, 0, 0];
+    let pair = |first| [28, first, first + 1, 0];
+    let nodes = [
+        number(1),
+        number(3),
+        pair(0),
+        [27, 2, 0, 0],
+        number(1),
+        number(2),
+        pair(4),
+        [27, 6, 0, 0],
+        [29, 3, 7, 0],
+        number(1),
+        [37, 8, 9, 0],
+        number(2),
+        [6, 10, 11, 0],
+    ];
+    assert_eq!(evaluate(&table(&[], &nodes), &[], 100), ends(Ok(true), 13));
+}
+
+#[test]
+fn values_of_the_wrong_extent_are_refused() {
+    let cut = &ELEMENT[..7];
+    let surplus = [ELEMENT, &[0]].concat();
+    assert_eq!(evaluate(P1, &[], 100), ends(Err(refused(14, 0)), 0));
+    assert_eq!(evaluate(P1, cut, 100), ends(Err(refused(14, 0)), 0));
+    assert_eq!(evaluate(P1, &surplus, 100), ends(Err(refused(14, 1)), 0));
+    assert_eq!(evaluate(P1, ELEMENT, 0), ends(Err(refused(19, 2)), 0));
+}
+
+#[test]
+fn a_refusal_leaves_the_sheet() {
+    for (table, length, number) in [(P1, 255, 10), (P1, 0, 10), (P2, 192, 12), (&[][..], 8, 1)] {
+        let mut sheet = vec![0xA5; length];
+        let refusal = check_into(table, &mut sheet).expect_err("refused");
+        assert_eq!(refusal, refused(number, 0));
+        assert!(sheet.iter().all(|&byte| byte == 0xA5));
+    }
+}
+
+#[test]
+fn the_sheet_of_any_header_is_small() {
+    let mut huge = P1.to_vec();
+    huge[8..16].fill(0xFF);
+    for length in 0..32 {
+        assert_eq!(sheet_length(&P1[..length]), 0);
+        assert_eq!(check(&P1[..length]).err(), Some(refused(1, 0)));
+    }
+    assert_eq!((sheet_length(P1), sheet_length(&huge)), (256, 0));
+    assert_eq!(check(&huge).err(), Some(refused(2, 0)));
+    assert_eq!(check(&P1[..87]).err(), Some(refused(3, 0)));
+}
+
+#[test]
+fn damaged_tables_get_an_answer() {
+    for at in 0..GATE.len() {
+        for byte in [0, 1, 0x2C, 0xFF] {
+            let mut table = GATE.to_vec();
+            table[at] = byte;
+            if let Err(refusal) = check(&table) {
+                assert!((1..=13).contains(&refusal.number));
+            }
+            let evaluation = evaluate(&table, ELEMENT, 100);
+            assert!(evaluation.steps <= 100);
+        }
+    }
+}
+
+#[test]
+fn threads_do_not_disturb_one_another() {
+    std::thread::scope(|scope| {
+        for table in [power(5), power(6), empty_range(), P2.to_vec()] {
+            scope.spawn(move || {
+                let first = (check(&table), evaluate(&table, &[], 100));
+                for _ in 0..200 {
+                    assert_eq!((check(&table), evaluate(&table, &[], 100)), first);
+                }
+            });
+        }
+    });
+}
