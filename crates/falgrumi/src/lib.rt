@@ -1,12 +1,17 @@
 // The public library, for C and Rust.
 use checker::Checked;
 use evaluate::Ending;
+use evaluate::Evaluation;
 use evaluate::Truth;
+use table::Refusal;
 ghost use mathlib.Core.Path.{_≡_};
 ghost use lib.ListN.{length};
 ghost use Rattle.rules.specs.Verdict.{sheetAfter};
 ghost use Rattle.checker.specs.Model.{verdict};
 ghost use Rattle.rules.specs.Evaluation.{evaluation};
+ghost use Rattle.fitting.specs.Types.{Decides};
+ghost use Rattle.conforms.specs.Conforming.{Conforming};
+ghost use Rattle.falgrumi.specs.Guarantee.{GuardedAs};
 ghost use Rattle.falgrumi.specs.Answers.{numberOf, placeOf, truthOf, byteOf};
 
 // Check: the refusal's number, 0 where the table is accepted; its place goes to `place`.
@@ -63,6 +68,38 @@ pub extern "C" fn falgrumi_evaluate(
             *truth = 0;
             *place = x.place as u64;
             x.number
+        }
+    }
+}
+
+// Whether the values give each free identifier a value of the type in its row of the sheet.
+#[no_mangle]
+pub extern "C" fn falgrumi_conforms(table: &[u8], sheet: &[u8], values: &[u8]) -> bool
+    ensures { λ r. ⌜ Decides r (Conforming (now (table .entry)) (now (sheet .entry)) (now (values .entry))) ⌝ }
+{
+    conforms::conforms(table, sheet, values)
+}
+
+// A checked evaluation: Check's refusal, or values that have other types than those written, or the evaluation.
+pub enum Guarded {
+    Refused(Refusal),
+    Unlike,
+    Evaluated(Evaluation),
+}
+
+// Checks the table, tests the values against the sheet, and evaluates: what demand 3 guarantees holds of the answer.
+pub fn checked_evaluation(table: &[u8], sheet: &mut [u8], values: &[u8], budget: u32) -> Guarded
+    ensures { λ r. ⌜ GuardedAs (now (table .entry)) (now (sheet .entry)) (now (values .entry)) budget (now (sheet .exit)) r ⌝ }
+{
+    let checked = checker::check(table, sheet);
+    match checked {
+        Checked::Refused(r) => Guarded::Refused(r),
+        Checked::Accepted => {
+            if !conforms::conforms(table, sheet, values) {
+                return Guarded::Unlike;
+            }
+            let e = evaluate::evaluate(table, values, budget);
+            Guarded::Evaluated(e)
         }
     }
 }
