@@ -122,8 +122,8 @@ uint8_t falgrumi_check(const uint8_t *table, size_t table_length, uint8_t *sheet
 uint8_t falgrumi_evaluate(const uint8_t *table, size_t table_length, const uint8_t *values, size_t values_length,
                           uint32_t budget, uint8_t *truth, uint64_t *place, uint32_t *steps);
 
-/* CONFORMS (here and in bindings/src/conforms.rs; to keep or remove as a whole): whether the values have the types that the
- * sheet gives to the free identifiers. Answers 1 where the table is readable, the sheet has its length, the values pass refusal
+/* Whether the values have the types that the sheet gives to the free identifiers. Where falgrumi_check has accepted the table
+ * and written the sheet, no evaluation at such values ends in refusal 15. Answers 1 where the table is readable, the sheet has its length, the values pass refusal
  * 14 and each has the type in its identifier's row; 0 otherwise. Everything is read only. */
 uint8_t falgrumi_conforms(const uint8_t *table, size_t table_length, const uint8_t *sheet, size_t sheet_length,
                           const uint8_t *values, size_t values_length);

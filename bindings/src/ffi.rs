@@ -21,6 +21,15 @@ mod c {
             place: *mut u64,
             steps: *mut u32,
         ) -> u8;
+
+        pub fn falgrumi_conforms(
+            table: *const u8,
+            table_length: usize,
+            sheet: *const u8,
+            sheet_length: usize,
+            values: *const u8,
+            values_length: usize,
+        ) -> u8;
     }
 }
 
@@ -65,4 +74,19 @@ pub fn evaluate(table: &[u8], values: &[u8], budget: u32) -> Answer {
         )
     };
     answer
+}
+
+pub fn conforms(table: &[u8], sheet: &[u8], values: &[u8]) -> bool {
+    // SAFETY: as for `check`; nothing is written.
+    let answer = unsafe {
+        c::falgrumi_conforms(
+            table.as_ptr(),
+            table.len(),
+            sheet.as_ptr(),
+            sheet.len(),
+            values.as_ptr(),
+            values.len(),
+        )
+    };
+    answer == 1
 }

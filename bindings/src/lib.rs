@@ -4,10 +4,6 @@
 //! ends with an answer; nothing is kept between calls. The library works on the caller's stack; 0.4 MB is enough for
 //! what was measured.
 
-// CONFORMS: the next two lines, src/conforms.rs and a block of include/falgrumi.h go or stay together.
-mod conforms;
-pub use conforms::conforms;
-
 mod ffi;
 mod refusal;
 mod sheet;
@@ -57,6 +53,13 @@ pub fn evaluate(table: &[u8], values: &[u8], budget: u32) -> Evaluation {
         outcome,
         steps: answer.steps,
     }
+}
+
+/// Whether the values have the types that the sheet gives to the table's free identifiers. Where Check has accepted the table and
+/// written the sheet, no evaluation at such values ends in refusal 15. No where the table is not readable, the sheet has not its
+/// length, or the values are malformed.
+pub fn conforms(table: &[u8], sheet: &[u8], values: &[u8]) -> bool {
+    ffi::conforms(table, sheet, values)
 }
 
 /// The length of the sheet that Check asks for; 0 where the table's header is too short or beyond the limits.

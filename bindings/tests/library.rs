@@ -1,6 +1,6 @@
 //! The library through its safe calls: document 01's conditions, and what the wrapper adds.
 
-use falgrumi::{check, check_into, evaluate, sheet_length, Evaluation, Refusal};
+use falgrumi::{check, check_into, conforms, evaluate, sheet_length, Evaluation, Refusal};
 
 const P1: &[u8] = include_bytes!("../../tables/p1");
 const P2: &[u8] = include_bytes!("../../tables/p2");
@@ -191,4 +191,20 @@ fn threads_do_not_disturb_one_another() {
             });
         }
     });
+}
+
+/// The values of tests/values against the types that Check writes.
+#[test]
+fn values_conform_to_the_sheet() {
+    let mut sheet = vec![0; sheet_length(GATE)];
+    check_into(GATE, &mut sheet).expect("the gate's condition is well typed");
+    let open = include_bytes!("../../tests/values/gate-open");
+    assert!(conforms(GATE, &sheet, open));
+    assert!(!conforms(GATE, &sheet, &open[1..]), "malformed values");
+    assert!(
+        !conforms(GATE, &sheet[1..], open),
+        "a sheet of another length"
+    );
+    sheet[0] ^= 1;
+    assert!(!conforms(GATE, &sheet, open), "another type");
 }
