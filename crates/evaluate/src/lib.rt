@@ -449,13 +449,12 @@ fn eval_one(
     ensures { λ r. ⌜ EvaluatesE (now (table .entry)) (now (env .entry)) (now (s .entry)) top node steps budget (now (s .exit)) r ⌝ }
 {
     let a = table::field(table, base, node, 0);
-    match eval_expr(table, base, env, s, top, a, steps + 1, budget) {
-        Formed::Stopped(k, p, n) => Formed::Stopped(k, p, n),
-        Formed::Value(at, next, n) => {
-            let r = operations::one(s, kind, at, next);
-            settle(s, r, next, next, top, node, n, budget)
-        }
-    }
+    let formed = eval_expr(table, base, env, s, top, a, steps + 1, budget);
+    let Formed::Value(at, next, n) = formed else {
+        return formed;
+    };
+    let r = operations::one(s, kind, at, next);
+    settle(s, r, next, next, top, node, n, budget)
 }
 
 // 28 to 32, 37 and 39 to 41
@@ -498,20 +497,19 @@ fn eval_select(
     ensures { λ r. ⌜ EvaluatesE (now (table .entry)) (now (env .entry)) (now (s .entry)) top node steps budget (now (s .exit)) r ⌝ }
 {
     let a = table::field(table, base, node, 1);
-    match eval_expr(table, base, env, s, top, a, steps + 1, budget) {
-        Formed::Stopped(k, p, n) => Formed::Stopped(k, p, n),
-        Formed::Value(at, next, n) => match range_of(s, at) {
-            Range::Unlike => Formed::Stopped(15, node, n),
-            Range::Set(count) => {
-                match each_chosen(table, base, env, s, next, node, at + 1, count, n, budget) {
-                    Formed::Stopped(k, p, m) => Formed::Stopped(k, p, m),
-                    Formed::Value(_, end, m) => {
-                        settle(s, Outcome::Built(end), next, next, top, node, m, budget)
-                    }
-                }
-            }
-        },
-    }
+    let formed = eval_expr(table, base, env, s, top, a, steps + 1, budget);
+    let Formed::Value(at, next, n) = formed else {
+        return formed;
+    };
+    let range = range_of(s, at);
+    let Range::Set(count) = range else {
+        return Formed::Stopped(15, node, n);
+    };
+    let chosen = each_chosen(table, base, env, s, next, node, at + 1, count, n, budget);
+    let Formed::Value(_, end, m) = chosen else {
+        return chosen;
+    };
+    settle(s, Outcome::Built(end), next, next, top, node, m, budget)
 }
 
 // Copies a member to `to` if it is chosen, and answers where what has been chosen ends.

@@ -82,10 +82,10 @@ use Rattle.evaluate.proofs.+each_chosen+each_member+eval_bool+eval_both
 use Rattle.evaluate.proofs.+each_chosen+each_member+eval_bool+eval_both+eval_expr+eval_join+eval_not+eval_one+eval_pred+eval_quant+eval_select+eval_test+eval_two.Proof.EvalExpr.{eval-expr-returns, eval-expr-kind-requires, eval-expr-add-eval-name, eval-expr-eval-name-requires, eval-expr-eval-bool-requires, eval-expr-eval-select-requires, eval-expr-add-eval-leaf, eval-expr-eval-leaf-requires, eval-expr-eval-two-requires, eval-expr-eval-one-requires, eval-expr-returns-2, eval-expr-same-length, eval-expr-returns-3, eval-expr-same-length-2, eval-expr-returns-4, eval-expr-same-length-3, eval-expr-returns-5, eval-expr-same-length-4, eval-expr-returns-6, eval-expr-same-length-5, eval-expr-returns-7}
 use Rattle.evaluate.proofs.+each_chosen+each_member+eval_bool+eval_both+eval_expr+eval_join+eval_not+eval_one+eval_pred+eval_quant+eval_select+eval_test+eval_two.Proof.EvalJoin.{eval-join-field-requires, eval-join-add-eval-pred, eval-join-eval-pred-requires, eval-join-enum-known-first, eval-join-enum-told, eval-join-same-length, eval-join-returns, eval-join-decides-requires, eval-join-same-length-2, eval-join-returns-2, eval-join-field-requires-2, eval-join-eval-pred-requires-2, eval-join-enum-known-second, eval-join-enum-told-2, eval-join-same-length-3, eval-join-returns-3, eval-join-joined-requires, eval-join-same-length-4, eval-join-returns-4}
 use Rattle.evaluate.proofs.+each_chosen+each_member+eval_bool+eval_both+eval_expr+eval_join+eval_not+eval_one+eval_pred+eval_quant+eval_select+eval_test+eval_two.Proof.EvalNot.{eval-not-field-requires, eval-not-add-eval-pred, eval-not-eval-pred-requires, eval-not-enum-known-first, eval-not-enum-told, eval-not-same-length, eval-not-returns, eval-not-same-length-2, eval-not-returns-2}
-use Rattle.evaluate.proofs.+each_chosen+each_member+eval_bool+eval_both+eval_expr+eval_join+eval_not+eval_one+eval_pred+eval_quant+eval_select+eval_test+eval_two.Proof.EvalOne.{eval-one-field-requires, eval-one-add-eval-expr, eval-one-eval-expr-requires, eval-one-enum-known-k, eval-one-enum-known-at, eval-one-one-requires, eval-one-settle-requires, eval-one-same-length, eval-one-returns, eval-one-same-length-2, eval-one-returns-2}
+use Rattle.evaluate.proofs.+each_chosen+each_member+eval_bool+eval_both+eval_expr+eval_join+eval_not+eval_one+eval_pred+eval_quant+eval_select+eval_test+eval_two.Proof.EvalOne.{eval-one-field-requires, eval-one-add-eval-expr, eval-one-eval-expr-requires, eval-one-enum-known-formed, eval-one-enum-told, eval-one-same-length, eval-one-returns, eval-one-one-requires, eval-one-settle-requires, eval-one-same-length-2, eval-one-returns-2}
 use Rattle.evaluate.proofs.+each_chosen+each_member+eval_bool+eval_both+eval_expr+eval_join+eval_not+eval_one+eval_pred+eval_quant+eval_select+eval_test+eval_two.Proof.EvalPred.{eval-pred-returns, eval-pred-kind-requires, eval-pred-eval-not-requires, eval-pred-eval-test-requires, eval-pred-eval-quant-requires, eval-pred-eval-join-requires, eval-pred-same-length, eval-pred-returns-2, eval-pred-same-length-2, eval-pred-returns-3, eval-pred-same-length-3, eval-pred-returns-4, eval-pred-same-length-4, eval-pred-returns-5}
 use Rattle.evaluate.proofs.+each_chosen+each_member+eval_bool+eval_both+eval_expr+eval_join+eval_not+eval_one+eval_pred+eval_quant+eval_select+eval_test+eval_two.Proof.EvalQuant.{eval-quant-field-requires, eval-quant-add-eval-expr, eval-quant-eval-expr-requires, eval-quant-enum-known-k, eval-quant-enum-known-at, eval-quant-range-of-requires, eval-quant-enum-told, eval-quant-enum-known-count, eval-quant-add-each-member, eval-quant-each-member-requires, eval-quant-same-length, eval-quant-returns, eval-quant-same-length-2, eval-quant-returns-2, eval-quant-same-length-3, eval-quant-returns-3}
-use Rattle.evaluate.proofs.+each_chosen+each_member+eval_bool+eval_both+eval_expr+eval_join+eval_not+eval_one+eval_pred+eval_quant+eval_select+eval_test+eval_two.Proof.EvalSelect.{eval-select-field-requires, eval-select-add-eval-expr, eval-select-eval-expr-requires, eval-select-enum-known-k, eval-select-enum-known-at, eval-select-range-of-requires, eval-select-enum-told, eval-select-enum-known-count, eval-select-add-each-chosen, eval-select-each-chosen-requires, eval-select-enum-known-k-2, eval-select-enum-known-end, eval-select-settle-requires, eval-select-same-length, eval-select-returns, eval-select-same-length-2, eval-select-returns-2, eval-select-same-length-3, eval-select-returns-3, eval-select-same-length-4, eval-select-returns-4}
+use Rattle.evaluate.proofs.+each_chosen+each_member+eval_bool+eval_both+eval_expr+eval_join+eval_not+eval_one+eval_pred+eval_quant+eval_select+eval_test+eval_two.Proof.EvalSelect.{eval-select-field-requires, eval-select-add-eval-expr, eval-select-eval-expr-requires, eval-select-enum-known-formed, eval-select-enum-told, eval-select-same-length, eval-select-returns, eval-select-range-of-requires, eval-select-enum-known-range, eval-select-enum-told-2, eval-select-same-length-2, eval-select-returns-2, eval-select-add-each-chosen, eval-select-each-chosen-requires, eval-select-enum-known-chosen, eval-select-enum-told-3, eval-select-same-length-3, eval-select-returns-3, eval-select-settle-requires, eval-select-same-length-4, eval-select-returns-4}
 use Rattle.evaluate.proofs.+each_chosen+each_member+eval_bool+eval_both+eval_expr+eval_join+eval_not+eval_one+eval_pred+eval_quant+eval_select+eval_test+eval_two.Proof.EvalTest.{eval-test-add-eval-both, eval-test-eval-both-requires, eval-test-enum-known-k, eval-test-enum-known-a, eval-test-test-requires, eval-test-enum-told, eval-test-enum-known-yes, eval-test-same-length, eval-test-returns, eval-test-same-length-2, eval-test-returns-2, eval-test-same-length-3, eval-test-returns-3}
 use Rattle.evaluate.proofs.+each_chosen+each_member+eval_bool+eval_both+eval_expr+eval_join+eval_not+eval_one+eval_pred+eval_quant+eval_select+eval_test+eval_two.Proof.EvalTwo.{eval-two-add-eval-both, eval-two-eval-both-requires, eval-two-enum-known-k, eval-two-enum-known-a, eval-two-two-requires, eval-two-settle-requires, eval-two-same-length, eval-two-returns, eval-two-same-length-2, eval-two-returns-2}
 
@@ -321,12 +321,12 @@ pub +each-chosen+each-member+eval-bool+eval-both+eval-expr+eval-join+eval-not+ev
     (eval-one-field-requires t)
     (eval-one-add-eval-expr t)
     (eval-one-eval-expr-requires t)
-    (eval-one-enum-known-k t)
-    (eval-one-enum-known-at t)
-    (eval-one-one-requires t)
-    (eval-one-settle-requires t)
+    (eval-one-enum-known-formed t)
+    (eval-one-enum-told t)
     (eval-one-same-length t)
     (eval-one-returns t)
+    (eval-one-one-requires t)
+    (eval-one-settle-requires t)
     (eval-one-same-length-2 t)
     (eval-one-returns-2 t))
     (λ t. eval-pred-lts.spec (
@@ -402,22 +402,22 @@ pub +each-chosen+each-member+eval-bool+eval-both+eval-expr+eval-join+eval-not+ev
     (eval-select-field-requires t)
     (eval-select-add-eval-expr t)
     (eval-select-eval-expr-requires t)
-    (eval-select-enum-known-k t)
-    (eval-select-enum-known-at t)
-    (eval-select-range-of-requires t)
+    (eval-select-enum-known-formed t)
     (eval-select-enum-told t)
-    (eval-select-enum-known-count t)
-    (eval-select-add-each-chosen t)
-    (eval-select-each-chosen-requires t)
-    (eval-select-enum-known-k-2 t)
-    (eval-select-enum-known-end t)
-    (eval-select-settle-requires t)
     (eval-select-same-length t)
     (eval-select-returns t)
+    (eval-select-range-of-requires t)
+    (eval-select-enum-known-range t)
+    (eval-select-enum-told-2 t)
     (eval-select-same-length-2 t)
     (eval-select-returns-2 t)
+    (eval-select-add-each-chosen t)
+    (eval-select-each-chosen-requires t)
+    (eval-select-enum-known-chosen t)
+    (eval-select-enum-told-3 t)
     (eval-select-same-length-3 t)
     (eval-select-returns-3 t)
+    (eval-select-settle-requires t)
     (eval-select-same-length-4 t)
     (eval-select-returns-4 t))
     (λ t. eval-test-lts.spec (

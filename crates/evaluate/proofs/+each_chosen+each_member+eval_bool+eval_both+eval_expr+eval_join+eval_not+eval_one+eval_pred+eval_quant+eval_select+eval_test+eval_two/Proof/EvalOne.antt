@@ -63,7 +63,7 @@ use Rattle.arena.proofs.Standing.{same-refl}
 use Rattle.evaluate.proofs.NodeLaws.{ready-child}
 use Rattle.evaluate.proofs.FormLaws.{evaluated-as, one-child, one-fails, one-ready, one-settles, one-evaluates}
 
--- src/lib.rt:423:9
+-- src/lib.rt:451:9
 pub eval-one-field-requires : (t : ℕ) → eval-one-lts.Need-field-requires (
   field-reads.Asked,
   field-reads.Learnt,
@@ -76,7 +76,7 @@ pub eval-one-field-requires : (t : ℕ) → eval-one-lts.Need-field-requires (
 ) (eval-one-at t) eval-one.Post
 eval-one-field-requires t c κs = search needs
 
--- src/lib.rt:424:50
+-- src/lib.rt:452:56
 pub eval-one-add-eval-expr : (t : ℕ) → eval-one-lts.Need-add-eval-expr (
   field-reads.Asked,
   field-reads.Learnt,
@@ -89,7 +89,7 @@ pub eval-one-add-eval-expr : (t : ℕ) → eval-one-lts.Need-add-eval-expr (
 ) (eval-one-at t) eval-one.Post
 eval-one-add-eval-expr t c = search needs
 
--- src/lib.rt:424:11
+-- src/lib.rt:452:9
 pub eval-one-eval-expr-requires : (t : ℕ) → eval-one-lts.Need-eval-expr-requires (
   field-reads.Asked,
   field-reads.Learnt,
@@ -105,8 +105,8 @@ eval-one-eval-expr-requires t c κs =
     let d = one-child (b .pre .1 .0) (b .pre .1 .1 .0) (b .pre .1 .1 .1) (c .before .field .ensures) in
     (omega (arith, b .pre .0, d .below), (ready-child _ _ _ _ (b .pre .1 .0 .ready) d (same-refl _ _) (omega arith) (omega arith) (omega (arith, b .pre .1 .0 .spent)), d .is))
 
--- src/lib.rt:425:25
-pub eval-one-enum-known-k : (t : ℕ) → eval-one-lts.Need-enum-known-k (
+-- src/lib.rt:453:23
+pub eval-one-enum-known-formed : (t : ℕ) → eval-one-lts.Need-enum-known-formed (
   field-reads.Asked,
   field-reads.Learnt,
   eval-expr-below t,
@@ -116,10 +116,10 @@ pub eval-one-enum-known-k : (t : ℕ) → eval-one-lts.Need-enum-known-k (
   settle-reads.Asked,
   settle-reads.Learnt,
 ) (eval-one-at t) eval-one.Post
-eval-one-enum-known-k t c = search needs
+eval-one-enum-known-formed t c = search needs
 
--- src/lib.rt:426:23
-pub eval-one-enum-known-at : (t : ℕ) → eval-one-lts.Need-enum-known-at (
+-- src/lib.rt:454:9
+pub eval-one-enum-told : (t : ℕ) → eval-one-lts.Need-enum-told (
   field-reads.Asked,
   field-reads.Learnt,
   eval-expr-below t,
@@ -129,9 +129,40 @@ pub eval-one-enum-known-at : (t : ℕ) → eval-one-lts.Need-enum-known-at (
   settle-reads.Asked,
   settle-reads.Learnt,
 ) (eval-one-at t) eval-one.Post
-eval-one-enum-known-at t c = search needs
+eval-one-enum-told t c = search needs
 
--- src/lib.rt:427:17
+-- src/lib.rt:454:9
+pub eval-one-same-length : (t : ℕ) → eval-one-lts.Need-same-length (
+  field-reads.Asked,
+  field-reads.Learnt,
+  eval-expr-below t,
+  eval-expr.Post,
+  one-reads.Asked,
+  one-reads.Learnt,
+  settle-reads.Asked,
+  settle-reads.Learnt,
+) (eval-one-at t) eval-one.Post
+eval-one-same-length t c = search needs
+
+-- src/lib.rt:454:9
+pub eval-one-returns : (t : ℕ) → eval-one-lts.Need-returns (
+  field-reads.Asked,
+  field-reads.Learnt,
+  eval-expr-below t,
+  eval-expr.Post,
+  one-reads.Asked,
+  one-reads.Learnt,
+  settle-reads.Asked,
+  settle-reads.Learnt,
+) (eval-one-at t) eval-one.Post
+eval-one-returns t c =
+    let a = c .before .before .before .before in
+    let b = a .before .before .before .before .before in
+    let e = c .enum-told .given .1 in
+    evaluated-as refl (sym e)
+    (one-fails (b .pre .1 .0) (b .pre .1 .1 .0) (b .pre .1 .1 .1) (a .before .before .field .ensures) (evaluated-as refl e (a .eval-expr .ensures)))
+
+-- src/lib.rt:456:9
 pub eval-one-one-requires : (t : ℕ) → eval-one-lts.Need-one-requires (
   field-reads.Asked,
   field-reads.Learnt,
@@ -147,10 +178,10 @@ eval-one-one-requires t c κs =
     let b = a .before .before .before .before .before in (
       b .pre .1 .1,
       one-ready (b .pre .1 .0) (b .pre .1 .1 .0) (b .pre .1 .1 .1) (a .before .before .field .ensures)
-          (evaluated-as refl (c .before .before .at .given .1) (a .eval-expr .ensures)),
+          (evaluated-as refl (c .before .before .formed .given .1) (a .eval-expr .ensures)),
     )
 
--- src/lib.rt:428:13
+-- src/lib.rt:457:5
 pub eval-one-settle-requires : (t : ℕ) → eval-one-lts.Need-settle-requires (
   field-reads.Asked,
   field-reads.Learnt,
@@ -166,39 +197,9 @@ eval-one-settle-requires t c κs =
     let a = g .before .before .before .before in
     let b = a .before .before .before .before .before in
     one-settles (b .pre .1 .0) (b .pre .1 .1 .0) (b .pre .1 .1 .1) (a .before .before .field .ensures)
-    (evaluated-as refl (g .at .given .1) (a .eval-expr .ensures)) (c .before .before .before .one .ensures)
+    (evaluated-as refl (g .formed .given .1) (a .eval-expr .ensures)) (c .before .before .before .one .ensures)
 
--- src/lib.rt:409:1
-pub eval-one-same-length : (t : ℕ) → eval-one-lts.Need-same-length (
-  field-reads.Asked,
-  field-reads.Learnt,
-  eval-expr-below t,
-  eval-expr.Post,
-  one-reads.Asked,
-  one-reads.Learnt,
-  settle-reads.Asked,
-  settle-reads.Learnt,
-) (eval-one-at t) eval-one.Post
-eval-one-same-length t c = search needs
-
--- src/lib.rt:409:1
-pub eval-one-returns : (t : ℕ) → eval-one-lts.Need-returns (
-  field-reads.Asked,
-  field-reads.Learnt,
-  eval-expr-below t,
-  eval-expr.Post,
-  one-reads.Asked,
-  one-reads.Learnt,
-  settle-reads.Asked,
-  settle-reads.Learnt,
-) (eval-one-at t) eval-one.Post
-eval-one-returns t c =
-    let a = c .before .before .before .before .before in
-    let b = a .before .before .before .before .before in
-    one-fails (b .pre .1 .0) (b .pre .1 .1 .0) (b .pre .1 .1 .1) (a .before .before .field .ensures)
-    (evaluated-as refl (c .before .k .given .1) (a .eval-expr .ensures))
-
--- src/lib.rt:409:1
+-- src/lib.rt:437:1
 pub eval-one-same-length-2 : (t : ℕ) → eval-one-lts.Need-same-length-2 (
   field-reads.Asked,
   field-reads.Learnt,
@@ -211,7 +212,7 @@ pub eval-one-same-length-2 : (t : ℕ) → eval-one-lts.Need-same-length-2 (
 ) (eval-one-at t) eval-one.Post
 eval-one-same-length-2 t c = search needs
 
--- src/lib.rt:409:1
+-- src/lib.rt:437:1
 pub eval-one-returns-2 : (t : ℕ) → eval-one-lts.Need-returns-2 (
   field-reads.Asked,
   field-reads.Learnt,
@@ -228,4 +229,4 @@ eval-one-returns-2 t c =
     let a = g .before .before .before .before in
     let b = a .before .before .before .before .before in
     one-evaluates (b .pre .1 .0) (b .pre .1 .1 .0) (b .pre .1 .1 .1) (a .before .before .field .ensures)
-    (evaluated-as refl (g .at .given .1) (a .eval-expr .ensures)) (o .one .ensures) (c .before .before .settle .ensures)
+    (evaluated-as refl (g .formed .given .1) (a .eval-expr .ensures)) (o .one .ensures) (c .before .before .settle .ensures)

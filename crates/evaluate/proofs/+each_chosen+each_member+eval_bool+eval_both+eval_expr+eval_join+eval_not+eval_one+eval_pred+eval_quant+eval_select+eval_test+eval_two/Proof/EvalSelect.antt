@@ -63,7 +63,7 @@ use Rattle.arena.proofs.Standing.{same-refl}
 use Rattle.evaluate.proofs.NodeLaws.{ready-child}
 use Rattle.evaluate.proofs.FormLaws.{evaluated-as, range-as, chosen-as, select-child, select-fails, range-good, range-low, range-fails, select-each, chosen-fails, select-settles, select-evaluates}
 
--- src/lib.rt:472:9
+-- src/lib.rt:499:9
 pub eval-select-field-requires : (t : ℕ) → eval-select-lts.Need-field-requires (
   field-reads.Asked,
   field-reads.Learnt,
@@ -78,7 +78,7 @@ pub eval-select-field-requires : (t : ℕ) → eval-select-lts.Need-field-requir
 ) (eval-select-at t) eval-select.Post
 eval-select-field-requires t c κs = search needs
 
--- src/lib.rt:473:50
+-- src/lib.rt:500:56
 pub eval-select-add-eval-expr : (t : ℕ) → eval-select-lts.Need-add-eval-expr (
   field-reads.Asked,
   field-reads.Learnt,
@@ -93,7 +93,7 @@ pub eval-select-add-eval-expr : (t : ℕ) → eval-select-lts.Need-add-eval-expr
 ) (eval-select-at t) eval-select.Post
 eval-select-add-eval-expr t c = search needs
 
--- src/lib.rt:473:11
+-- src/lib.rt:500:9
 pub eval-select-eval-expr-requires : (t : ℕ) → eval-select-lts.Need-eval-expr-requires (
   field-reads.Asked,
   field-reads.Learnt,
@@ -111,8 +111,8 @@ eval-select-eval-expr-requires t c κs =
     let d = select-child (b .pre .1 .0) (b .pre .1 .1) (c .before .field .ensures) in
     (omega (arith, b .pre .0, d .below), (ready-child _ _ _ _ (b .pre .1 .0 .ready) d (same-refl _ _) (omega arith) (omega arith) (omega (arith, b .pre .1 .0 .spent)), d .is))
 
--- src/lib.rt:474:25
-pub eval-select-enum-known-k : (t : ℕ) → eval-select-lts.Need-enum-known-k (
+-- src/lib.rt:501:23
+pub eval-select-enum-known-formed : (t : ℕ) → eval-select-lts.Need-enum-known-formed (
   field-reads.Asked,
   field-reads.Learnt,
   eval-expr-below t,
@@ -124,10 +124,10 @@ pub eval-select-enum-known-k : (t : ℕ) → eval-select-lts.Need-enum-known-k (
   settle-reads.Asked,
   settle-reads.Learnt,
 ) (eval-select-at t) eval-select.Post
-eval-select-enum-known-k t c = search needs
+eval-select-enum-known-formed t c = search needs
 
--- src/lib.rt:475:23
-pub eval-select-enum-known-at : (t : ℕ) → eval-select-lts.Need-enum-known-at (
+-- src/lib.rt:502:9
+pub eval-select-enum-told : (t : ℕ) → eval-select-lts.Need-enum-told (
   field-reads.Asked,
   field-reads.Learnt,
   eval-expr-below t,
@@ -139,9 +139,43 @@ pub eval-select-enum-known-at : (t : ℕ) → eval-select-lts.Need-enum-known-at
   settle-reads.Asked,
   settle-reads.Learnt,
 ) (eval-select-at t) eval-select.Post
-eval-select-enum-known-at t c = search needs
+eval-select-enum-told t c = search needs
 
--- src/lib.rt:475:45
+-- src/lib.rt:502:9
+pub eval-select-same-length : (t : ℕ) → eval-select-lts.Need-same-length (
+  field-reads.Asked,
+  field-reads.Learnt,
+  eval-expr-below t,
+  eval-expr.Post,
+  range-of-reads.Asked,
+  range-of-reads.Learnt,
+  each-chosen-below t,
+  each-chosen.Post,
+  settle-reads.Asked,
+  settle-reads.Learnt,
+) (eval-select-at t) eval-select.Post
+eval-select-same-length t c = search needs
+
+-- src/lib.rt:502:9
+pub eval-select-returns : (t : ℕ) → eval-select-lts.Need-returns (
+  field-reads.Asked,
+  field-reads.Learnt,
+  eval-expr-below t,
+  eval-expr.Post,
+  range-of-reads.Asked,
+  range-of-reads.Learnt,
+  each-chosen-below t,
+  each-chosen.Post,
+  settle-reads.Asked,
+  settle-reads.Learnt,
+) (eval-select-at t) eval-select.Post
+eval-select-returns t c =
+    let a = c .before .before .before .before in
+    let b = a .before .before .before .before .before in
+    let e = c .enum-told .given .1 in
+    evaluated-as refl (sym e) (select-fails (b .pre .1 .0) (b .pre .1 .1) (a .before .before .field .ensures) (evaluated-as refl e (a .eval-expr .ensures)))
+
+-- src/lib.rt:504:9
 pub eval-select-range-of-requires : (t : ℕ) → eval-select-lts.Need-range-of-requires (
   field-reads.Asked,
   field-reads.Learnt,
@@ -157,10 +191,10 @@ pub eval-select-range-of-requires : (t : ℕ) → eval-select-lts.Need-range-of-
 eval-select-range-of-requires t c κs =
     let a = c .before .before .before .before .before .before in
     let b = a .before .before .before .before .before in
-    range-good (b .pre .1 .0) (b .pre .1 .1) (a .before .before .field .ensures) (evaluated-as refl (c .before .before .at .given .1) (a .eval-expr .ensures))
+    range-good (b .pre .1 .0) (b .pre .1 .1) (a .before .before .field .ensures) (evaluated-as refl (c .before .before .formed .given .1) (a .eval-expr .ensures))
 
--- src/lib.rt:476:30
-pub eval-select-enum-told : (t : ℕ) → eval-select-lts.Need-enum-told (
+-- src/lib.rt:505:20
+pub eval-select-enum-known-range : (t : ℕ) → eval-select-lts.Need-enum-known-range (
   field-reads.Asked,
   field-reads.Learnt,
   eval-expr-below t,
@@ -172,10 +206,10 @@ pub eval-select-enum-told : (t : ℕ) → eval-select-lts.Need-enum-told (
   settle-reads.Asked,
   settle-reads.Learnt,
 ) (eval-select-at t) eval-select.Post
-eval-select-enum-told t c = search needs
+eval-select-enum-known-range t c = search needs
 
--- src/lib.rt:477:24
-pub eval-select-enum-known-count : (t : ℕ) → eval-select-lts.Need-enum-known-count (
+-- src/lib.rt:506:9
+pub eval-select-enum-told-2 : (t : ℕ) → eval-select-lts.Need-enum-told-2 (
   field-reads.Asked,
   field-reads.Learnt,
   eval-expr-below t,
@@ -187,9 +221,44 @@ pub eval-select-enum-known-count : (t : ℕ) → eval-select-lts.Need-enum-known
   settle-reads.Asked,
   settle-reads.Learnt,
 ) (eval-select-at t) eval-select.Post
-eval-select-enum-known-count t c = search needs
+eval-select-enum-told-2 t c = search needs
 
--- src/lib.rt:478:68
+-- src/lib.rt:506:9
+pub eval-select-same-length-2 : (t : ℕ) → eval-select-lts.Need-same-length-2 (
+  field-reads.Asked,
+  field-reads.Learnt,
+  eval-expr-below t,
+  eval-expr.Post,
+  range-of-reads.Asked,
+  range-of-reads.Learnt,
+  each-chosen-below t,
+  each-chosen.Post,
+  settle-reads.Asked,
+  settle-reads.Learnt,
+) (eval-select-at t) eval-select.Post
+eval-select-same-length-2 t c = search needs
+
+-- src/lib.rt:506:9
+pub eval-select-returns-2 : (t : ℕ) → eval-select-lts.Need-returns-2 (
+  field-reads.Asked,
+  field-reads.Learnt,
+  eval-expr-below t,
+  eval-expr.Post,
+  range-of-reads.Asked,
+  range-of-reads.Learnt,
+  each-chosen-below t,
+  each-chosen.Post,
+  settle-reads.Asked,
+  settle-reads.Learnt,
+) (eval-select-at t) eval-select.Post
+eval-select-returns-2 t c =
+    let g = c .before .before .before .before .before in
+    let a = g .before .before .before .before in
+    let b = a .before .before .before .before .before in
+    range-fails (b .pre .1 .0) (b .pre .1 .1) (a .before .before .field .ensures) (evaluated-as refl (g .formed .given .1) (a .eval-expr .ensures))
+    (range-as (c .enum-told2 .given .1) (c .before .before .range-of .ensures))
+
+-- src/lib.rt:508:66
 pub eval-select-add-each-chosen : (t : ℕ) → eval-select-lts.Need-add-each-chosen (
   field-reads.Asked,
   field-reads.Learnt,
@@ -208,10 +277,10 @@ eval-select-add-each-chosen t c =
     let b = a .before .before .before .before .before in
     omega (
       arith,
-      range-low (b .pre .1 .0) (b .pre .1 .1) (a .before .before .field .ensures) (evaluated-as refl (g .at .given .1) (a .eval-expr .ensures)),
+      range-low (b .pre .1 .0) (b .pre .1 .1) (a .before .before .field .ensures) (evaluated-as refl (g .formed .given .1) (a .eval-expr .ensures)),
     )
 
--- src/lib.rt:478:23
+-- src/lib.rt:508:9
 pub eval-select-each-chosen-requires : (t : ℕ) → eval-select-lts.Need-each-chosen-requires (
   field-reads.Asked,
   field-reads.Learnt,
@@ -230,12 +299,12 @@ eval-select-each-chosen-requires t c κs =
     let a = g .before .before .before .before in
     let b = a .before .before .before .before .before in (
       omega (arith, b .pre .0),
-      select-each (b .pre .1 .0) (b .pre .1 .1) (a .before .before .field .ensures) (evaluated-as refl (g .at .given .1) (a .eval-expr .ensures))
-          (range-as (n .count .given .1) (n .before .before .range-of .ensures)),
+      select-each (b .pre .1 .0) (b .pre .1 .1) (a .before .before .field .ensures) (evaluated-as refl (g .formed .given .1) (a .eval-expr .ensures))
+          (range-as (n .range .given .1) (n .before .before .range-of .ensures)),
     )
 
--- src/lib.rt:479:37
-pub eval-select-enum-known-k-2 : (t : ℕ) → eval-select-lts.Need-enum-known-k-2 (
+-- src/lib.rt:509:26
+pub eval-select-enum-known-chosen : (t : ℕ) → eval-select-lts.Need-enum-known-chosen (
   field-reads.Asked,
   field-reads.Learnt,
   eval-expr-below t,
@@ -247,10 +316,10 @@ pub eval-select-enum-known-k-2 : (t : ℕ) → eval-select-lts.Need-enum-known-k
   settle-reads.Asked,
   settle-reads.Learnt,
 ) (eval-select-at t) eval-select.Post
-eval-select-enum-known-k-2 t c = search needs
+eval-select-enum-known-chosen t c = search needs
 
--- src/lib.rt:480:38
-pub eval-select-enum-known-end : (t : ℕ) → eval-select-lts.Need-enum-known-end (
+-- src/lib.rt:510:9
+pub eval-select-enum-told-3 : (t : ℕ) → eval-select-lts.Need-enum-told-3 (
   field-reads.Asked,
   field-reads.Learnt,
   eval-expr-below t,
@@ -262,9 +331,48 @@ pub eval-select-enum-known-end : (t : ℕ) → eval-select-lts.Need-enum-known-e
   settle-reads.Asked,
   settle-reads.Learnt,
 ) (eval-select-at t) eval-select.Post
-eval-select-enum-known-end t c = search needs
+eval-select-enum-told-3 t c = search needs
 
--- src/lib.rt:481:25
+-- src/lib.rt:510:9
+pub eval-select-same-length-3 : (t : ℕ) → eval-select-lts.Need-same-length-3 (
+  field-reads.Asked,
+  field-reads.Learnt,
+  eval-expr-below t,
+  eval-expr.Post,
+  range-of-reads.Asked,
+  range-of-reads.Learnt,
+  each-chosen-below t,
+  each-chosen.Post,
+  settle-reads.Asked,
+  settle-reads.Learnt,
+) (eval-select-at t) eval-select.Post
+eval-select-same-length-3 t c = search needs
+
+-- src/lib.rt:510:9
+pub eval-select-returns-3 : (t : ℕ) → eval-select-lts.Need-returns-3 (
+  field-reads.Asked,
+  field-reads.Learnt,
+  eval-expr-below t,
+  eval-expr.Post,
+  range-of-reads.Asked,
+  range-of-reads.Learnt,
+  each-chosen-below t,
+  each-chosen.Post,
+  settle-reads.Asked,
+  settle-reads.Learnt,
+) (eval-select-at t) eval-select.Post
+eval-select-returns-3 t c =
+    let e = c .before .before .before .before in
+    let n = e .before .before .before in
+    let g = n .before .before .before .before .before in
+    let a = g .before .before .before .before in
+    let b = a .before .before .before .before .before in
+    let q = c .enum-told3 .given .1 in
+    evaluated-as refl (sym q)
+    (chosen-fails (b .pre .1 .0) (b .pre .1 .1) (a .before .before .field .ensures) (evaluated-as refl (g .formed .given .1) (a .eval-expr .ensures))
+    (range-as (n .range .given .1) (n .before .before .range-of .ensures)) (chosen-as q (e .each-chosen .ensures)))
+
+-- src/lib.rt:512:5
 pub eval-select-settle-requires : (t : ℕ) → eval-select-lts.Need-settle-requires (
   field-reads.Asked,
   field-reads.Learnt,
@@ -284,115 +392,10 @@ eval-select-settle-requires t c κs =
     let g = n .before .before .before .before .before in
     let a = g .before .before .before .before in
     let b = a .before .before .before .before .before in
-    select-settles (b .pre .1 .0) (b .pre .1 .1) (a .before .before .field .ensures) (evaluated-as refl (g .at .given .1) (a .eval-expr .ensures))
-    (range-as (n .count .given .1) (n .before .before .range-of .ensures)) (chosen-as (v .end .given .1) (e .each-chosen .ensures))
+    select-settles (b .pre .1 .0) (b .pre .1 .1) (a .before .before .field .ensures) (evaluated-as refl (g .formed .given .1) (a .eval-expr .ensures))
+    (range-as (n .range .given .1) (n .before .before .range-of .ensures)) (chosen-as (v .chosen .given .1) (e .each-chosen .ensures))
 
--- src/lib.rt:458:1
-pub eval-select-same-length : (t : ℕ) → eval-select-lts.Need-same-length (
-  field-reads.Asked,
-  field-reads.Learnt,
-  eval-expr-below t,
-  eval-expr.Post,
-  range-of-reads.Asked,
-  range-of-reads.Learnt,
-  each-chosen-below t,
-  each-chosen.Post,
-  settle-reads.Asked,
-  settle-reads.Learnt,
-) (eval-select-at t) eval-select.Post
-eval-select-same-length t c = search needs
-
--- src/lib.rt:458:1
-pub eval-select-returns : (t : ℕ) → eval-select-lts.Need-returns (
-  field-reads.Asked,
-  field-reads.Learnt,
-  eval-expr-below t,
-  eval-expr.Post,
-  range-of-reads.Asked,
-  range-of-reads.Learnt,
-  each-chosen-below t,
-  each-chosen.Post,
-  settle-reads.Asked,
-  settle-reads.Learnt,
-) (eval-select-at t) eval-select.Post
-eval-select-returns t c =
-    let a = c .before .before .before .before .before in
-    let b = a .before .before .before .before .before in
-    select-fails (b .pre .1 .0) (b .pre .1 .1) (a .before .before .field .ensures) (evaluated-as refl (c .before .k .given .1) (a .eval-expr .ensures))
-
--- src/lib.rt:458:1
-pub eval-select-same-length-2 : (t : ℕ) → eval-select-lts.Need-same-length-2 (
-  field-reads.Asked,
-  field-reads.Learnt,
-  eval-expr-below t,
-  eval-expr.Post,
-  range-of-reads.Asked,
-  range-of-reads.Learnt,
-  each-chosen-below t,
-  each-chosen.Post,
-  settle-reads.Asked,
-  settle-reads.Learnt,
-) (eval-select-at t) eval-select.Post
-eval-select-same-length-2 t c = search needs
-
--- src/lib.rt:458:1
-pub eval-select-returns-2 : (t : ℕ) → eval-select-lts.Need-returns-2 (
-  field-reads.Asked,
-  field-reads.Learnt,
-  eval-expr-below t,
-  eval-expr.Post,
-  range-of-reads.Asked,
-  range-of-reads.Learnt,
-  each-chosen-below t,
-  each-chosen.Post,
-  settle-reads.Asked,
-  settle-reads.Learnt,
-) (eval-select-at t) eval-select.Post
-eval-select-returns-2 t c =
-    let g = c .before .before .before .before .before in
-    let a = g .before .before .before .before in
-    let b = a .before .before .before .before .before in
-    range-fails (b .pre .1 .0) (b .pre .1 .1) (a .before .before .field .ensures) (evaluated-as refl (g .at .given .1) (a .eval-expr .ensures))
-    (range-as (c .enum-told .given .1) (c .before .before .range-of .ensures))
-
--- src/lib.rt:458:1
-pub eval-select-same-length-3 : (t : ℕ) → eval-select-lts.Need-same-length-3 (
-  field-reads.Asked,
-  field-reads.Learnt,
-  eval-expr-below t,
-  eval-expr.Post,
-  range-of-reads.Asked,
-  range-of-reads.Learnt,
-  each-chosen-below t,
-  each-chosen.Post,
-  settle-reads.Asked,
-  settle-reads.Learnt,
-) (eval-select-at t) eval-select.Post
-eval-select-same-length-3 t c = search needs
-
--- src/lib.rt:458:1
-pub eval-select-returns-3 : (t : ℕ) → eval-select-lts.Need-returns-3 (
-  field-reads.Asked,
-  field-reads.Learnt,
-  eval-expr-below t,
-  eval-expr.Post,
-  range-of-reads.Asked,
-  range-of-reads.Learnt,
-  each-chosen-below t,
-  each-chosen.Post,
-  settle-reads.Asked,
-  settle-reads.Learnt,
-) (eval-select-at t) eval-select.Post
-eval-select-returns-3 t c =
-    let e = c .before .before .before .before .before in
-    let n = e .before .before .before in
-    let g = n .before .before .before .before .before in
-    let a = g .before .before .before .before in
-    let b = a .before .before .before .before .before in
-    chosen-fails (b .pre .1 .0) (b .pre .1 .1) (a .before .before .field .ensures) (evaluated-as refl (g .at .given .1) (a .eval-expr .ensures))
-    (range-as (n .count .given .1) (n .before .before .range-of .ensures)) (chosen-as (c .before .k2 .given .1) (e .each-chosen .ensures))
-
--- src/lib.rt:458:1
+-- src/lib.rt:485:1
 pub eval-select-same-length-4 : (t : ℕ) → eval-select-lts.Need-same-length-4 (
   field-reads.Asked,
   field-reads.Learnt,
@@ -407,7 +410,7 @@ pub eval-select-same-length-4 : (t : ℕ) → eval-select-lts.Need-same-length-4
 ) (eval-select-at t) eval-select.Post
 eval-select-same-length-4 t c = search needs
 
--- src/lib.rt:458:1
+-- src/lib.rt:485:1
 pub eval-select-returns-4 : (t : ℕ) → eval-select-lts.Need-returns-4 (
   field-reads.Asked,
   field-reads.Learnt,
@@ -427,6 +430,6 @@ eval-select-returns-4 t c =
     let g = n .before .before .before .before .before in
     let a = g .before .before .before .before in
     let b = a .before .before .before .before .before in
-    select-evaluates (b .pre .1 .0) (b .pre .1 .1) (a .before .before .field .ensures) (evaluated-as refl (g .at .given .1) (a .eval-expr .ensures))
-    (range-as (n .count .given .1) (n .before .before .range-of .ensures)) (chosen-as (v .end .given .1) (e .each-chosen .ensures))
+    select-evaluates (b .pre .1 .0) (b .pre .1 .1) (a .before .before .field .ensures) (evaluated-as refl (g .formed .given .1) (a .eval-expr .ensures))
+    (range-as (n .range .given .1) (n .before .before .range-of .ensures)) (chosen-as (v .chosen .given .1) (e .each-chosen .ensures))
     (c .before .before .settle .ensures)
