@@ -1,26 +1,25 @@
 -- The children of a node, its tree, and what its evaluators pass on to theirs.
-use Prim.Native.Nat.{ℕ, zero, suc, _+_, _*_, _≤_, _<_, max}
+use Prim.Native.Nat.{ℕ, zero, suc, _+_, _≤_, _<_}
 use mathlib.Core.Bool.{Bool, true, false, cond}
 use mathlib.Core.List.{List, [], _∷_}
-use mathlib.Core.Option.{Option, none as nothing, some}
-use mathlib.Core.Path.{_≡_, refl, sym, ap, _∙_, subst}
+use mathlib.Core.Option.{Option, some}
+use mathlib.Core.Path.{_≡_, ap, subst}
 use native.Mathlib.Omega.{arith}
-use lib.Dec.{T}
 use lib.ListN.{length, getD}
-use Rattle.rules.specs.Values.{Value, weight}
+use Rattle.rules.specs.Values.{Value}
 use Rattle.rules.specs.Cells.{good}
-use Rattle.rules.specs.Kinds.{Kind, Category, Field, unused, child, use-of, binder-of, setNumber, elementNumber, anyWord, truthBit, kindOf, fieldsOf, isChild}
-use Rattle.rules.specs.Tables.{Node, Table, Pred, Expr, tableOf, nodeAt, kindAt, fieldWords, fieldsIf, fieldsAt, keptIf, pick, held, predOf, exprOf, predAt, exprAt, nodeCount, nodesAt}
+use Rattle.rules.specs.Kinds.{Kind, Category, Field, unused, child, fieldsOf, isChild}
+use Rattle.rules.specs.Tables.{Node, Table, Pred, Expr, tableOf, nodeAt, kindAt, fieldWords, fieldsIf, keptIf, pick, held, predOf, exprOf, predAt, exprAt, nodeCount}
 use Rattle.rules.specs.Reading.{height, tallest}
-use Rattle.rules.specs.Readable.{Readable, Records, FieldRight, FieldsRight, KindRight, NodeRight, CategoryIs}
-use Rattle.rules.specs.Operations.{Env, _with_≔_}
+use Rattle.rules.specs.Readable.{Readable, FieldRight, FieldsRight, KindRight, NodeRight, CategoryIs}
+use Rattle.rules.specs.Operations.{Env}
 use Rattle.rules.proofs.TableLaws.{nodes-length, sizes-length, height-at}
 use Rattle.rules.proofs.CellsLaws.{size-below}
-use Rattle.arena.specs.Code.{ValueAt, Same}
+use Rattle.arena.specs.Code.{Same}
 use Rattle.arena.proofs.Standing.{stands-frame}
 use Rattle.arena.proofs.CodeLaws.{length-code}
 use Rattle.operations.specs.Good.{Sizes, GoodAt}
-use Rattle.evaluate.specs.Cycle.{Binds, Ready, Visited}
+use Rattle.evaluate.specs.Cycle.{Binds, Ready}
 
 -- The sizes of a readable table are small.
 pub sizes-small : (bs : List ℕ) → Readable bs → Sizes (tableOf bs .sizes)

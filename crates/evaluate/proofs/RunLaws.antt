@@ -1,17 +1,17 @@
 -- Ends and steps of runs, part by part.
-use Prim.Native.Nat.{ℕ, zero, suc, _+_, _≤_, _<_}
-use mathlib.Core.Bool.{Bool, true, false, cond}
-use mathlib.Core.List.{List, [], _∷_}
-use mathlib.Core.Path.{_≡_, refl, sym, ap, _∙_, subst}
+use Prim.Native.Nat.{ℕ, suc, _<_}
+use mathlib.Core.Bool.{Bool, true, false}
+use mathlib.Core.List.{List}
+use mathlib.Core.Path.{_≡_, refl, sym, subst}
 use native.Mathlib.Omega.{arith}
-use borrow.Author.Tests.{lt-ltb, le-ltb, eq-eqb, ne-eqb}
+use borrow.Author.Tests.{lt-ltb, le-ltb}
 use lib.Dec.{ltb, leb}
 use Rattle.rules.specs.Values.{Value, weight}
 use Rattle.rules.specs.Cells.{weightLimit}
 use Rattle.rules.specs.Rules.{Rule}
 use Rattle.rules.specs.Fits.{fits}
 use Rattle.rules.specs.Ends.{End, done, refused}
-use Rattle.rules.specs.Runs.{Run, M, return, _>>=_, _>>_, demand, visit, emit, form, Given, gives, lacks}
+use Rattle.rules.specs.Runs.{Run, M, return, _>>=_, _>>_, visit, form, Given, gives, lacks}
 use Rattle.rules.specs.Evaluation.{fitting}
 use Rattle.operations.specs.Outcomes.{weighed, fitted}
 use Rattle.evaluate.specs.Answers.{Ends}

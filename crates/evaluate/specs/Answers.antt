@@ -1,18 +1,18 @@
 -- What the evaluators answer for a run of the value rules. The values that a run forms do not matter to its answer.
-use Prim.Native.Nat.{ℕ, suc, _+_, _*_, _≤_, _<_}
+use Prim.Native.Nat.{ℕ, _+_, _≤_, _<_}
 use mathlib.Core.Bool.{Bool, false}
 use mathlib.Core.List.{List, [], _∷_}
 use mathlib.Core.Logic.{_⊎_}
 use mathlib.Core.Path.{_≡_}
 use lib.Dec.{T}
-use lib.ListN.{length, getD}
+use lib.ListN.{length}
 use Rattle.rules.specs.Values.{Value, set, Values, members, count, weight, weights}
 use Rattle.rules.specs.Cells.{good}
 use Rattle.rules.specs.Ends.{End, done, refused}
 use Rattle.rules.specs.Runs.{Run, M, Given, gives, lacks}
 use Rattle.rules.specs.Rules.{quantRule}
 use Rattle.rules.specs.Fits.{fits}
-use Rattle.rules.specs.Operations.{Env, setOf}
+use Rattle.rules.specs.Operations.{setOf}
 use Rattle.rules.proofs.SetOrder.{All}
 use Rattle.arena.specs.Code.{ValueAt, ValuesAt}
 use Rattle.operations.specs.Good.{GoodAt}

@@ -1,22 +1,22 @@
 -- The contracts of the evaluators that call each other, for every depth above the node and every environment that the
 -- offsets of the arena bind.
-use Prim.Native.Nat.{ℕ, suc, _+_, _*_, _≤_, _<_}
+use Prim.Native.Nat.{ℕ, _+_, _*_, _≤_, _<_}
 use mathlib.Core.Bool.{Bool}
-use mathlib.Core.List.{List, [], _∷_}
+use mathlib.Core.List.{List}
 use mathlib.Core.Option.{some}
 use mathlib.Core.Path.{_≡_}
 use lib.Dec.{T}
 use lib.ListN.{length, getD}
-use Rattle.rules.specs.Values.{Value, Values, members, weight}
-use Rattle.rules.specs.Kinds.{Kind, Quant, quant, kindOf}
+use Rattle.rules.specs.Values.{Value, Values, members}
+use Rattle.rules.specs.Kinds.{Kind, Quant, kindOf}
 use Rattle.rules.specs.Cells.{good}
-use Rattle.rules.specs.Tables.{Node, Table, tableOf, nodeAt, kindAt, predAt, exprAt, nodeCount, nodesAt}
+use Rattle.rules.specs.Tables.{tableOf, nodeAt, predAt, exprAt, nodeCount, nodesAt}
 use Rattle.rules.specs.Reading.{height}
 use Rattle.rules.specs.Readable.{Readable}
 use Rattle.rules.specs.Runs.{M, Given}
 use Rattle.rules.specs.Operations.{Env, _with_≔_}
 use Rattle.rules.specs.Evaluation.{quantify, select, holdsᵖ, valueᵉ}
-use Rattle.arena.specs.Code.{ValueAt, Same}
+use Rattle.arena.specs.Code.{Same}
 use Rattle.operations.specs.Good.{GoodAt}
 use Rattle.operations.specs.Outcomes.{Gives}
 use Rattle.operations.specs.declared.Outcome.{Outcome}

@@ -2,8 +2,7 @@
 use Prim.Native.Nat.{ℕ}
 use mathlib.Core.Bool.{Bool}
 use mathlib.Core.List.{List}
-use mathlib.Core.Path.{_≡_, refl, ap, sym, _∙_}
-use native.Mathlib.Omega.{arith}
+use mathlib.Core.Path.{_≡_, ap, sym, _∙_}
 use Rattle.rules.specs.Ends.{End, done, refused}
 use Rattle.checker.specs.Answers.{answered}
 use Rattle.table.specs.declared.Refusal.{Refusal}

@@ -1,8 +1,8 @@
 -- How the answers of the functions below tell what a node gives.
-use Prim.Native.Nat.{ℕ, zero, suc, _+_, _≤_, _<_}
-use mathlib.Core.Bool.{Bool, true, false, cond}
+use Prim.Native.Nat.{ℕ, _≤_, _<_}
+use mathlib.Core.Bool.{true, false}
 use mathlib.Core.List.{List, [], _∷_}
-use mathlib.Core.Path.{_≡_, refl, sym, _∙_, subst}
+use mathlib.Core.Path.{_≡_, sym, subst}
 use native.Mathlib.Omega.{arith}
 use native.Mathlib.Decide.{decLt}
 use borrow.Author.Tests.{eq-eqb, ne-eqb, le-leb, lt-leb}
@@ -14,9 +14,9 @@ use Rattle.rules.specs.Runs.{Given, gives, lacks}
 use Rattle.rules.specs.Operations.{oneValue, twoValue, holds}
 use Rattle.arena.specs.Code.{Made}
 use Rattle.operations.specs.declared.Outcome.{Outcome}
-use Rattle.operations.specs.declared.Outcome.the-variants.{Built, Within, Lacks}
+use Rattle.operations.specs.declared.Outcome.the-variants.{Built, Lacks}
 use Rattle.operations.specs.declared.Tested.the-variants.{Truth, Unlike}
-use Rattle.operations.specs.Outcomes.{weighed, fitted, oneGiven, twoGiven, tested, ended, BuiltAt, Gives}
+use Rattle.operations.specs.Outcomes.{weighed, fitted, oneGiven, twoGiven, tested, ended, Gives}
 
 pub ended-none : (end : ℕ) → end ≡ 0 → Lacks 18 ≡ ended end
 unfolding ended

@@ -12,9 +12,6 @@ mod EvalQuant
 mod EvalSelect
 mod EvalTest
 mod EvalTwo
-use Prim.Native.Nat.{ℕ, _<_}
-use borrow.Fn.Kinds.{In}
-use borrow.Fn.PlainCycle.{Measures, is, falls, and}
 use Rattle.evaluate.proofs.each_chosen.Reads as each-chosen
 use Rattle.evaluate.proofs.each_chosen.Kinds as each-chosen-kinds
 use Rattle.evaluate.proofs.+each_chosen+each_member+eval_bool+eval_both+eval_expr+eval_join+eval_not+eval_one+eval_pred+eval_quant+eval_select+eval_test+eval_two.Lts-each_chosen as each-chosen-lts

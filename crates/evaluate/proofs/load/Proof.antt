@@ -1,5 +1,4 @@
 -- `load`: the table's words are lent as they stand in their arrays.
-use mathlib.Core.Path.{_∙_}
 use borrow.Author.Needs.{needs}
 use Rattle.evaluate.proofs.ReportLaws.{begins-lent, begins-count, size-bound, bind-bound}
 use Rattle.evaluate.proofs.EntryLaws.{load-room, loads-as}
