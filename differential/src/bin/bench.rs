@@ -253,8 +253,8 @@ fn evaluation() {
     println!("{:28} {:>8} {:>12} {:>12} {:>7}", "Evaluate", "visits", "library ns", "reference ns", "ratio");
     for (name, case, rounds) in workloads {
         let (ours, steps, a) = pace(&case, rounds, |t, v| {
-            let (end, steps) = differential::evaluate(t, v, u32::MAX);
-            (end.expect("no refusal"), steps)
+            let run = falgrumi::evaluate(t, v, u32::MAX);
+            (run.outcome.expect("no refusal"), run.steps)
         });
         let (theirs, visits, b) = pace(&case, rounds, |t, v| {
             let run = reference::evaluate::evaluate(t, v, u32::MAX);
@@ -275,7 +275,7 @@ fn main() {
     ];
     println!("{:24} {:>12} {:>12} {:>7}", "Check", "library us", "reference us", "ratio");
     for (name, tables, rounds) in workloads {
-        let (ours, a) = time(&tables, rounds, |t, s| differential::check(t, s).is_ok());
+        let (ours, a) = time(&tables, rounds, |t, s| falgrumi::check_into(t, s).is_ok());
         let (theirs, b) = time(&tables, rounds, |t, s| reference::check::check(t, s).is_ok());
         assert_eq!(a, b, "the answers differ on {name}");
         println!("{name:24} {ours:12.2} {theirs:12.2} {:7.2}", theirs / ours);

@@ -1,6 +1,6 @@
 //! differential SEED COUNT: compares the library with the reference on generated cases: Check, sheets included, and Evaluate.
 
-use differential::{check, evaluate};
+use falgrumi::{check_into, evaluate};
 use reference::evaluate::Outcome;
 use reference::generate::{Class, Generator, Sample};
 
@@ -11,7 +11,7 @@ fn check_differs(sample: &Sample) -> Option<String> {
     let length = sample.sheet as usize;
     let mut ours = vec![FILL; length];
     let mut theirs = vec![FILL; length];
-    let answer = check(&sample.table, &mut ours);
+    let answer = check_into(&sample.table, &mut ours).map_err(|r| (u32::from(r.number), r.place));
     let wanted = reference::check::check(&sample.table, &mut theirs).map_err(|r| (r.number, r.place));
     if answer == wanted && ours == theirs {
         return None;
@@ -23,7 +23,8 @@ fn check_differs(sample: &Sample) -> Option<String> {
 }
 
 fn evaluation_differs(sample: &Sample) -> Option<String> {
-    let answer = evaluate(&sample.table, &sample.values, sample.budget);
+    let ours = evaluate(&sample.table, &sample.values, sample.budget);
+    let answer = (ours.outcome.map_err(|r| (u32::from(r.number), r.place)), ours.steps);
     let run = reference::evaluate::evaluate(&sample.table, &sample.values, sample.budget);
     let end = match run.outcome {
         Outcome::Truth(truth) => Ok(truth),
@@ -60,9 +61,9 @@ fn main() {
             println!("case {number} ({}): table {table}: {text}", class.name());
         }
         let mut sheet = vec![0; sample.sheet as usize];
-        accepted += u64::from(check(&sample.table, &mut sheet).is_ok());
-        let end = evaluate(&sample.table, &sample.values, sample.budget).0;
-        ends[end.map_or_else(|(n, _)| n as usize, |_| 0)] += 1;
+        accepted += u64::from(check_into(&sample.table, &mut sheet).is_ok());
+        let end = evaluate(&sample.table, &sample.values, sample.budget).outcome;
+        ends[end.map_or_else(|r| usize::from(r.number), |_| 0)] += 1;
     }
     println!("check: {accepted} of {count} tables accepted");
     println!("evaluate: {} truths, refusals by number: {:?}", ends[0], &ends[1..]);
