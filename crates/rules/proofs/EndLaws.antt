@@ -9,7 +9,7 @@ use mathlib.Core.Path.{_≡_, refl, ap}
 use native.Mathlib.Decide.{ℕ-discrete, decLt}
 use native.Mathlib.Omega.{arith}
 use lib.Dec.{T, leb, ltb, eqb, leb→le, le→leb, ltb→lt, lt→ltb, eqb→eq, eqb-refl}
-use Rattle.rules.specs.Ends.{End, done, refused, _>>=_, require, unlessFound, pickFirst, leastFailing, requireAll}
+use Rattle.rules.specs.Ends.{End, done, refused, _>>=_, require, unlessFound, pickFirst, leastFailing, requireAll, allBelow, doneWith}
 
 -- For ⊥ from equations: `absurd01 (cc)`.
 pub absurd01 : _≡_ {A = ℕ} 0 1 → ⊥
@@ -38,6 +38,23 @@ T-ltb m n = (ltb→lt m n, lt→ltb m n)
 
 pub T-eqb : (m n : ℕ) → T (eqb m n) ↔ (m ≡ n)
 T-eqb m n = (eqb→eq m n, λ e. rw e (eqb-refl n))
+
+-- `allBelow` passes exactly where each number below n does.
+pub T-allBelow : (ok : ℕ → Bool) (n : ℕ) → T (allBelow ok n) ↔ ((j : ℕ) → j < n → T (ok j))
+T-allBelow ok zero = (λ t j l. absurd (omega arith), λ f. tt)
+T-allBelow ok (suc n) = (
+  λ t j l. let w = T-and (ok n) (allBelow ok n) .0 t in go j l (w .0) (T-allBelow ok n .0 (w .1)) (ℕ-discrete j n),
+  λ f. T-and (ok n) (allBelow ok n) .1 (f n (omega arith), T-allBelow ok n .1 (λ j l. f j (omega arith))),
+)
+  where
+    go : (j : ℕ) → j < suc n → T (ok n) → ((j : ℕ) → j < n → T (ok j)) → Dec (j ≡ n) → T (ok j)
+    go j l t f (yes e) = rw e t
+    go j l t f (no e) = f j (omega arith)
+
+-- `doneWith` passes exactly where there is an answer that does.
+pub T-doneWith : {A : Type 0} (e : End A) (ok : A → Bool) → T (doneWith e ok) ↔ ((a : A) × (e ≡ done a) × T (ok a))
+T-doneWith (done a) ok = (λ t. (a, refl, t), λ x. let f : a ≡ x .0 = cc (x .1) in rw f (x .2))
+T-doneWith (refused r p) ok = (λ t. absurd t, λ x. absurd01 (cc (x .1)))
 
 -- What a search among the n numbers from i on says: all pass, or p is the least that fails.
 abbrev pub Sought : (ℕ → Bool) → ℕ → ℕ → Option ℕ → Type 0

@@ -1,14 +1,15 @@
--- The tests on values are right: `typed v` says that v has a type, `fits ps vs` (refusal 15) that some t and u fit.
+-- The tests on values are right: `typed v` says that v has a type, `fits ps vs` (refusal 15) that some t and u fit, `hasType v t`
+-- that v has t.
 use mathlib.Core.List.{List, [], _∷_}
 use mathlib.Core.Bool.{Bool, true, false, _&&_, cond}
-use mathlib.Core.Path.{_≡_, refl, ap, _∙_, subst}
+use mathlib.Core.Path.{_≡_, refl, ap, ap₂, _∙_, subst, subst⁻¹}
 use mathlib.Core.Logic.{_↔_}
 use lib.Dec.{T, eqb→eq, eqb-refl}
 use Rattle.rules.specs.Types.{whole, Atom, number, bool, given, Ty, atom, POW, _⊗_, INTEGER}
 use Rattle.rules.specs.Values.{Value, scalar, pair, set, Values, none, _▸_}
 use Rattle.rules.specs.Rules.{Pattern, t̂, û, atom̂, P̂, _×̂_, inst}
 use Rattle.rules.specs.Fits.{IfPow, IfProduct, HasType, HaveType, FitAt, Fits, sameAtom, Shape, every, clash, atomˢ, powˢ, _×ˢ_, _⊓_}
-use Rattle.rules.specs.Fits.{shape, shapes, inhabited, typed, Asked, anything, nothing-fits, askAtom, asked, askedAll, fits}
+use Rattle.rules.specs.Fits.{shape, shapes, inhabited, typed, Asked, anything, nothing-fits, askAtom, asked, askedAll, fits, exactly, hasType}
 
 infix 30 _⊑_
 -- A type is one of a shape's.
@@ -280,3 +281,17 @@ fits-right ps vs = (there, back)
         let a = fit-asked ps vs (x .0) (x .1) (x .2) in
         and-of (inhabited (askedAll ps vs .0)) (inhabited (askedAll ps vs .1))
         (some→inhabited (askedAll ps vs .0) (x .0) (a .0)) (some→inhabited (askedAll ps vs .1) (x .1) (a .1))
+
+-- The pattern of a type is that type at every t and u.
+exactly-inst : (t a b : Ty) → inst (exactly t) a b ≡ t
+exactly-inst (atom x) a b = refl
+exactly-inst (POW t) a b = ap POW (exactly-inst t a b)
+exactly-inst (t ⊗ u) a b = ap₂ _⊗_ (exactly-inst t a b) (exactly-inst u a b)
+
+-- `hasType` says that a value has a type.
+pub hasType-right : (v : Value) (t : Ty) → T (hasType v t) ↔ HasType v t
+unfolding hasType
+hasType-right v t = (
+  (λ h. let x = fits-right (exactly t ∷ []) (v ∷ []) .0 h in subst (HasType v) (exactly-inst t (x .0) (x .1)) (x .2 .0)),
+  (λ h. fits-right (exactly t ∷ []) (v ∷ []) .1 (t, t, (subst⁻¹ (HasType v) (exactly-inst t t t) h, tt))),
+)

@@ -1,6 +1,6 @@
 -- Document 01, "Refusal list": an answer, or a refusal with its number and place.
 use Prim.Native.Nat.{ℕ, zero, suc}
-use mathlib.Core.Bool.{Bool, true, false}
+use mathlib.Core.Bool.{Bool, true, false, _&&_}
 use mathlib.Core.Option.{Option, none as nothing, some}
 
 pub data End (A : Type 0) : Type 0 where
@@ -35,3 +35,13 @@ leastFailing ok i (suc n) = let rest = leastFailing ok (suc i) n in pickFirst (o
 unfoldable pub requireAll : ℕ → (ℕ → Bool) → ℕ → End (Unit {0})
 unfolding leastFailing
 requireAll r ok n = unlessFound r (leastFailing ok 0 n)
+
+-- Each number below n passes a test.
+abbrev pub allBelow : (ℕ → Bool) → ℕ → Bool
+allBelow ok zero = true
+allBelow ok (suc n) = ok n && allBelow ok n
+
+-- There is an answer, and it passes a test.
+abbrev pub doneWith : {A : Type 0} → End A → (A → Bool) → Bool
+doneWith (done a) ok = ok a
+doneWith (refused r p) ok = false

@@ -134,3 +134,14 @@ askedAll (p ∷ ps) (v ∷ vs) = asked p (shape v) ⊓ᵃ askedAll ps vs
 -- The test of refusal 15.
 unfoldable pub fits : List Pattern → List Value → Bool
 fits ps vs = let a = askedAll ps vs in inhabited (a .0) && inhabited (a .1)
+
+-- The pattern that one type fits, and no other.
+abbrev pub exactly : Ty → Pattern
+exactly (atom a) = atom̂ a
+exactly (POW t) = P̂ (exactly t)
+exactly (t ⊗ u) = exactly t ×̂ exactly u
+
+-- Whether a value has a type: the test of refusal 15 at this type alone.
+unfoldable pub hasType : Value → Ty → Bool
+unfolding fits
+hasType v t = fits (exactly t ∷ []) (v ∷ [])

@@ -1,6 +1,9 @@
 -- Document 01, "Kinds and typing rules", second paragraph: types, their weight and their row in a sheet.
-use Prim.Native.Nat.{ℕ, _+_, _-_, _<_}
+use Prim.Native.Nat.{ℕ, zero, suc, _+_, _-_, _<_}
+use mathlib.Core.Bool.{cond}
 use mathlib.Core.List.{List, [], _∷_, _++_}
+use mathlib.Core.Option.{Option, none as nothing, some, bind}
+use lib.Dec.{leb}
 use lib.ListN.{replicate}
 
 -- The number types. There is one so far; what speaks of numbers takes the type as a parameter.
@@ -64,3 +67,35 @@ row t = prefix t ++ replicate (64 - weightᵀ t) 0
 
 unfoldable pub emptyRow : List ℕ
 emptyRow = replicate 64 0
+
+-- A row read back, from its last byte on: what a code makes of the types behind it. A type without parts comes before them, POW
+-- takes the first of them as its part, × the first two; a zero has only zeros behind it.
+abbrev pub codeBefore : ℕ → List Ty → Option (List Ty)
+codeBefore zero [] = some []
+codeBefore zero (t ∷ ts) = nothing
+codeBefore (suc zero) ts = some (INTEGER ∷ ts)
+codeBefore (suc (suc zero)) ts = some (BOOL ∷ ts)
+codeBefore (suc (suc (suc zero))) [] = nothing
+codeBefore (suc (suc (suc zero))) (t ∷ ts) = some (POW t ∷ ts)
+codeBefore (suc (suc (suc (suc zero)))) [] = nothing
+codeBefore (suc (suc (suc (suc zero)))) (t ∷ []) = nothing
+codeBefore (suc (suc (suc (suc zero)))) (t ∷ u ∷ ts) = some ((t ⊗ u) ∷ ts)
+codeBefore (suc (suc (suc (suc (suc c))))) ts = let code = 5 + c in cond (leb 16 code) (some (G (code - 16) ∷ ts)) nothing
+
+-- The types whose codes follow one another in a list, with zeros behind the last; nothing where it is no such list.
+unfoldable pub typesIn : List ℕ → Option (List Ty)
+unfolding bind
+typesIn [] = some []
+typesIn (c ∷ cs) = bind (typesIn cs) (codeBefore c)
+
+abbrev pub onlyType : Option (List Ty) → Option Ty
+onlyType nothing = nothing
+onlyType (some []) = nothing
+onlyType (some (t ∷ [])) = some t
+onlyType (some (t ∷ u ∷ ts)) = nothing
+
+-- The type whose row these 64 bytes are; nothing where they are the row of none. `typeOfRow-right` in proofs/TypeLaws.antt says
+-- that it is so.
+unfoldable pub typeOfRow : List ℕ → Option Ty
+unfolding typesIn
+typeOfRow bs = onlyType (typesIn bs)
