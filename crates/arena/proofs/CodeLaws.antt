@@ -1,18 +1,19 @@
 -- The cells of a value: how many they are, that they tell the value, and that their order is the order of values.
 use Prim.Native.Nat.{ℕ, zero, suc, _+_, _*_, _-_, _/_, _%_, _≤_, _<_, compare, Ordering, Ordering·lt, Ordering·eq, Ordering·gt}
 use mathlib.Core.Bool.{Bool, true, false, cond}
-use mathlib.Core.List.{List, [], _∷_, _++_, append-assoc, append-cancel-left, append-nil}
+use mathlib.Core.List.{List, [], _∷_, _++_, append-cancel-left, append-nil}
 use mathlib.Core.Path.{_≡_, refl, sym, ap, _∙_}
 use native.Mathlib.Omega.{arith}
-use native.Mathlib.Decide.{ℕ-discrete, decLt}
-use lib.Dec.{T, eqb, ltb}
+use native.Mathlib.Decide.{decLt}
+use lib.Dec.{eqb, ltb, leb→le}
 use lib.IntN.{ℤ, pos, negsuc}
 use lib.Signed.{mag}
 use lib.ListN.{length, getD, drop, length-append}
-use borrow.Author.Tests.{lt-ltb, le-ltb, eq-eqb, ne-eqb}
-use Rattle.rules.specs.Types.{Number, whole}
+use borrow.Author.Tests.{lt-ltb, le-ltb}
+use Rattle.rules.specs.Types.{whole}
 use Rattle.rules.specs.Values.{Scalar, num, truth, element, Value, scalar, pair, set, Values, none, _▸_, scalarTag, scalarPayload, bit, count, weight, weights, compareℤ, _then_, lex, key, keys, order}
-use Rattle.rules.proofs.OrderLaws.{flip, Small, Smalls, SmallScalar, key-eq, compare-eq, compare-refl, lt-compare, compare-flip, compareℤ-refl}
+use Rattle.rules.proofs.OrderLaws.{flip, Small, Smalls, key-eq, compare-refl, lt-compare, compare-flip}
+use Rattle.rules.proofs.CellsLaws.{Encodable, Encodables}
 use Rattle.arena.specs.Code.{cellSize, excess, scalarLow, code, codes, ScalarFits, CellsFit, AllFit}
 
 mutual
@@ -57,7 +58,7 @@ uncode-cell : (t l : ℕ) (cs : List ℕ) → l < cellSize → uncode ((t * cell
 unfolding uncode
 uncode-cell t l cs h = rw (cell-parts t l h .0, cell-parts t l h .1)
 
-bit-small : (b : Bool) → bit b < cellSize
+pub bit-small : (b : Bool) → bit b < cellSize
 bit-small true = omega arith
 bit-small false = omega arith
 
@@ -105,6 +106,22 @@ mutual
   pub fits-smalls : (s : Values) → AllFit s → Smalls s
   fits-smalls none h = tt
   fits-smalls (v ▸ vs) h = (fits-small v (h .0), fits-smalls vs (h .1))
+
+-- Values that can be encoded fit the arena.
+mutual
+  unfolding excess
+
+  pub encodable-fits : (v : Value) → Encodable v → CellsFit v
+  encodable-fits (scalar (num n (pos i))) h = let l = leb→le i 2147483647 h in (omega arith, omega arith)
+  encodable-fits (scalar (num n (negsuc i))) h = let l = leb→le i 2147483647 h in (omega arith, omega arith)
+  encodable-fits (scalar (truth b)) h = tt
+  encodable-fits (scalar (element g k)) h = h
+  encodable-fits (pair v w) h = (encodable-fits v (h .0), encodable-fits w (h .1))
+  encodable-fits (set s) h = (h .0, encodables-fit s (h .1))
+
+  pub encodables-fit : (vs : Values) → Encodables vs → AllFit vs
+  encodables-fit none h = tt
+  encodables-fit (v ▸ vs) h = (encodable-fits v (h .0), encodables-fit vs (h .1))
 
 -- Cells tell the value, whatever follows them.
 pub code-eq : (v w : Value) (x y : List ℕ) → CellsFit v → CellsFit w → code v ++ x ≡ code w ++ y → (v ≡ w) × (x ≡ y)

@@ -1,21 +1,19 @@
 -- Values that stand in the arena: their cells one by one, where they end, how two compare, and what copying keeps.
-use Prim.Native.Nat.{ℕ, zero, suc, _+_, _*_, _-_, _/_, _%_, _≤_, _<_, Ordering, Ordering·lt, Ordering·eq, Ordering·gt}
-use mathlib.Core.Bool.{Bool, true, false, cond}
-use mathlib.Core.List.{List, [], _∷_, _++_, append-assoc, append-nil}
-use mathlib.Core.Logic.{_⊎_, inl, inr, _≢_}
+use Prim.Native.Nat.{ℕ, suc, _+_, _*_, _-_, _/_, _%_, _≤_, _<_}
+use mathlib.Core.List.{List, _∷_, _++_, append-assoc, append-nil}
+use mathlib.Core.Logic.{_⊎_, inl, inr}
 use mathlib.Core.Path.{_≡_, refl, sym, ap, _∙_, subst}
 use native.Mathlib.Omega.{arith}
 use native.Mathlib.Nat.{add-zero}
 use native.Mathlib.Decide.{ℕ-discrete, decLt}
-use lib.Dec.{T, eqb}
 use lib.ListN.{length, getD, set as setAt, length-append, length-set, List·getD-append}
 use lib.Seq.{getD-append-add, getD-set-same, getD-set-other}
 use borrow.Author.Tests.{eq-eqb, ne-eqb}
 use Rattle.rules.specs.Types.{whole}
-use Rattle.rules.specs.Values.{Scalar, num, truth, element, Value, scalar, pair, set, Values, none, _▸_, scalarTag, count, weight, weights, order}
+use Rattle.rules.specs.Values.{Scalar, num, truth, element, Value, scalar, pair, set, Values, none, _▸_, scalarTag, bit, count, weight, weights}
 use Rattle.rules.proofs.OrderLaws.{order-refl}
-use Rattle.arena.specs.Code.{cellSize, excess, scalarLow, code, codes, Stands, ValueAt, ValuesAt, Same, ScalarFits, CellsFit, AllFit, orderCode, SomeAt, EndsAt, Compared, Copied, partsOf}
-use Rattle.arena.proofs.CodeLaws.{length-code, length-codes, first-less, first-greater, all-agree}
+use Rattle.arena.specs.Code.{cellSize, excess, scalarLow, code, codes, Stands, ValueAt, ValuesAt, Same, ScalarFits, CellsFit, AllFit, SomeAt, EndsAt, Compared, Copied, partsOf}
+use Rattle.arena.proofs.CodeLaws.{length-code, length-codes, bit-small, first-less, first-greater, all-agree}
 
 -- The first cell of a run, and the rest of it.
 pub stands-head : (s : List ℕ) (at x : ℕ) (xs : List ℕ) → Stands s at (x ∷ xs) → getD s at 0 ≡ x
@@ -59,20 +57,20 @@ none before ws = ws
 (v ▸ vs) before ws = v ▸ (vs before ws)
 
 infixr 40 _before_
-codes-before : (vs ws : Values) → codes (vs before ws) ≡ codes vs ++ codes ws
+pub codes-before : (vs ws : Values) → codes (vs before ws) ≡ codes vs ++ codes ws
 unfolding code
 codes-before none ws = refl
 codes-before (v ▸ vs) ws = ap (λ (l : List ℕ). code v ++ l) (codes-before vs ws) ∙ sym (append-assoc (code v) (codes vs) (codes ws))
 
-count-before : (vs ws : Values) → count (vs before ws) ≡ count vs + count ws
+pub count-before : (vs ws : Values) → count (vs before ws) ≡ count vs + count ws
 count-before none ws = omega arith
 count-before (v ▸ vs) ws = omega (arith, count-before vs ws)
 
-weights-before : (vs ws : Values) → weights (vs before ws) ≡ weights vs + weights ws
+pub weights-before : (vs ws : Values) → weights (vs before ws) ≡ weights vs + weights ws
 weights-before none ws = omega arith
 weights-before (v ▸ vs) ws = omega (arith, weights-before vs ws)
 
-fit-before : (vs ws : Values) → AllFit vs → AllFit ws → AllFit (vs before ws)
+pub fit-before : (vs ws : Values) → AllFit vs → AllFit ws → AllFit (vs before ws)
 fit-before none ws h k = k
 fit-before (v ▸ vs) ws h k = (h .0, fit-before vs ws (h .1) k)
 
@@ -97,13 +95,9 @@ parts-scalar c t e n m = rw (ne-eqb (c / 4294967296) 4 (λ f. n (e ∙ f)), ne-e
 parts-cell : (t l : ℕ) → l < cellSize → (t < 4) → partsOf (t * cellSize + l) ≡ 0
 parts-cell t l h p = sym (parts-scalar (t * cellSize + l) t (omega arith) (λ e. omega arith) (λ e. omega arith))
 
-bit-low : (b : Bool) → Rattle.rules.specs.Values.bit b < cellSize
-bit-low true = omega arith
-bit-low false = omega arith
-
 parts-of-scalar : (s : Scalar) → ScalarFits s → partsOf (scalarTag s * cellSize + scalarLow s) ≡ 0
 parts-of-scalar (num whole i) h = parts-cell 1 (excess i) (h .0) (omega arith)
-parts-of-scalar (truth b) h = parts-cell 2 (Rattle.rules.specs.Values.bit b) (bit-low b) (omega arith)
+parts-of-scalar (truth b) h = parts-cell 2 (bit b) (bit-small b) (omega arith)
 parts-of-scalar (element g k) h = parts-cell 3 (256 * g + k) (h .1) (omega arith)
 
 pub pending-start : (s : List ℕ) (at : ℕ) (v : Value) → ValueAt s at v → CellsFit v → Pending s at 1 (at + weight v)

@@ -1,6 +1,6 @@
 -- Values as runs of cells in the arena. A cell is its tag times 2^32 and its payload, numbers in excess form, so that the
 -- order of cells as numbers is the order of document 01 by tag and then payload.
-use Prim.Native.Nat.{ℕ, zero, suc, _+_, _*_, _-_, _/_, _%_, _≤_, _<_, Ordering, Ordering·lt, Ordering·eq, Ordering·gt}
+use Prim.Native.Nat.{ℕ, _+_, _*_, _-_, _/_, _%_, _≤_, _<_, Ordering, Ordering·lt, Ordering·eq, Ordering·gt}
 use mathlib.Core.Bool.{cond}
 use mathlib.Core.List.{List, [], _∷_, _++_}
 use mathlib.Core.Path.{_≡_}
@@ -8,7 +8,6 @@ use lib.Dec.{T, eqb}
 use lib.IntN.{ℤ, pos, negsuc}
 use lib.ListN.{length, getD}
 use lib.Signed.{mag}
-use Rattle.rules.specs.Types.{Number, whole}
 use Rattle.rules.specs.Cells.{precedes}
 use Rattle.rules.specs.Values.{Scalar, num, truth, element, Value, scalar, pair, set, Values, none, _▸_, scalarTag, bit, count, weight, weights, order}
 
@@ -139,3 +138,22 @@ pub record Made (top : ℕ) (s s′ : List ℕ) (v : Value) (r : ℕ) : Type 0 w
   pub frame : Same top s s′
   pub light : weight v ≤ 256 → (r ≡ top + weight v) × ValueAt s′ top v
   pub heavy : 256 < weight v → r ≡ 0
+
+-- n members of a set, rising, those that are left of it, stand from `at` on, below `top`.
+pub record Front (s : List ℕ) (top at n : ℕ) (vs : Values) : Type 0 where
+  pub stands : ValuesAt s at vs
+  pub counted : n ≡ count vs
+  pub below : at + weights vs ≤ top
+  pub fits : AllFit vs
+  pub rises : Rises vs
+  pub light : weights vs ≤ 255
+
+-- Relations: all members are pairs.
+abbrev pub IsPair : Value → Type 0
+IsPair (scalar x) = ⊥
+IsPair (pair a b) = Unit {0}
+IsPair (set vs) = ⊥
+
+abbrev pub AllPairs : Values → Type 0
+AllPairs none = Unit {0}
+AllPairs (v ▸ vs) = IsPair v × AllPairs vs

@@ -19,8 +19,8 @@ pub fn low(cell: u64) -> u64
 }
 
 // How many values follow a cell as its parts or members.
-fn parts(cell: u64) -> usize
-    ensures { λ r. ⌜ r ≡ partsOf cell ⌝ }
+pub fn parts(cell: u64) -> usize
+    ensures { λ r. ⌜ (r ≡ partsOf cell) × (r < 4294967296) ⌝ }
 {
     let t = tag(cell);
     if t == 4 {

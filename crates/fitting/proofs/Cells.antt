@@ -10,11 +10,11 @@ use native.Mathlib.Decide.{ℕ-discrete, decLt}
 use lib.Dec.{T, eqb}
 use lib.ListN.{length, getD}
 use Rattle.rules.specs.Types.{whole}
-use Rattle.rules.specs.Values.{Scalar, num, truth, element, Value, scalar, pair, set, Values, none, _▸_, scalarTag, bit, tag, count, weight, weights}
+use Rattle.rules.specs.Values.{Scalar, num, truth, element, Value, scalar, pair, set, Values, none, _▸_, scalarTag, tag, count, weight, weights}
 use Rattle.rules.specs.Fits.{every, shape, shapes, inhabited, typed}
 use Rattle.arena.specs.Code.{cellSize, scalarLow, code, codes, Stands, ValueAt, ValuesAt, ScalarFits, CellsFit, SomeAt, EndsAt}
-use Rattle.arena.proofs.CodeLaws.{length-code, all-agree}
-use Rattle.arena.proofs.Standing.{stands-head, stands-tail, stands-front, stands-back}
+use Rattle.arena.proofs.CodeLaws.{length-code, bit-small, all-agree}
+use Rattle.arena.proofs.Standing.{stands-head, stands-tail, stands-front, stands-back, weight-pos}
 use Rattle.fitting.specs.Agree.{meets, agree, TypedAt, RunAt, SomeTyped, SomeRun, Agreed, AgreedWith, AgreedAll, emptyCell, NoEmpty, StandFor, Members, Full, FullSet, FullAll, Few, sameKind, SetHere, Two, Parts, AgreedParts, Runs}
 use Rattle.fitting.proofs.Sharing.{and-split, is-true, full-first, meets-both, meets-sym, meets-same, with-every, meets-every, meets-first, tags-differ, scalars-agree, elements-agree, left-typed, right-typed}
 
@@ -41,10 +41,6 @@ value-eq s at v w h k p q = go (decLt (weight v) (weight w))
     go (no n) = all-agree v w p q (omega arith) (λ j m. sym (h .cells j (omega (arith, length-code v))) ∙ k .cells j (omega (arith, length-code w)))
 
 -- The first cell of a value.
-bit-small : (b : Bool) → bit b < cellSize
-bit-small true = omega arith
-bit-small false = omega arith
-
 scalar-tag : (x : Scalar) → ScalarFits x → ((scalarTag x * cellSize + scalarLow x) / cellSize ≡ scalarTag x) × ((scalarTag x * cellSize + scalarLow x) % cellSize ≡ scalarLow x)
 scalar-tag (num whole i) h = (omega (arith, h .0), omega (arith, h .0))
 scalar-tag (truth b) h = (omega (arith, bit-small b), omega (arith, bit-small b))
@@ -119,12 +115,6 @@ mutual
     full-value v s at (first-stands s at v vs h) (within n (omega arith) (omega arith)),
     full-all vs s (at + weight v) (rest-stand s at v vs h) (within n (omega arith) (omega arith)),
   )
-
--- A value takes a cell.
-pub weight-pos : (v : Value) → 1 ≤ weight v
-weight-pos (scalar x) = omega arith
-weight-pos (pair a b) = omega arith
-weight-pos (set ms) = omega arith
 
 pub typed-at : (s : List ℕ) (at : ℕ) (v : Value) → ValueAt s at v → CellsFit v → T (typed v) → TypedAt s at v
 unfolding typed

@@ -11,12 +11,12 @@ use borrow.Author.Tests.{eq-eqb, ne-eqb, eqb-true}
 use Rattle.rules.specs.Types.{whole, Atom, number, bool, given, Ty, atom, POW, _⊗_, atomCode, weightᵀ, prefix, row}
 use Rattle.rules.specs.Values.{Scalar, num, truth, element, Value, scalar, pair, set, Values, none, _▸_, scalarTag, count, weight, weights}
 use Rattle.rules.specs.Fits.{atomOf, HasType, HaveType}
-use Rattle.rules.proofs.TypeLaws.{weight-positive, prefix-length}
+use Rattle.rules.proofs.TypeLaws.{weight-positive, prefix-length, prefixes}
 use Rattle.arena.specs.Code.{cellSize, scalarLow, Stands, ValueAt, ValuesAt, ScalarFits, CellsFit, AllFit, SomeAt, EndsAt}
 use Rattle.arena.proofs.CodeLaws.{length-code}
-use Rattle.arena.proofs.Standing.{stands-head, stands-tail, stands-front, stands-back}
+use Rattle.arena.proofs.Standing.{stands-head, stands-tail, stands-front, stands-back, weight-pos}
 use Rattle.fitting.specs.Types.{TypeAt, SomeType, TypeEnds, typeParts, Decides, atomIs, OfType, AllOfType, PartsOfType, ValueAndType, ValuesAndType, PartsAndTypes}
-use Rattle.fitting.proofs.Cells.{weight-pos, ends-at, set-only, pair-only, first-cell, left-stands, right-stands, members-stand, first-stands, rest-stand}
+use Rattle.fitting.proofs.Cells.{ends-at, set-only, pair-only, first-cell, left-stands, right-stands, members-stand, first-stands, rest-stand}
 
 -- The first code of a type.
 abbrev head : Ty → ℕ
@@ -56,11 +56,7 @@ is-product row from (u ⊗ w) h e =
       record { codes = rw (← prefix-length u) (stands-back row (from + 1) (prefix u) (prefix w) k) },
     )
 
--- Types one after the other.
-unfoldable pub prefixes : List Ty → List ℕ
-prefixes [] = []
-prefixes (t ∷ ts) = prefix t ++ prefixes ts
-
+-- The weight of types one after the other.
 unfoldable pub widths : List Ty → ℕ
 widths [] = 0
 widths (t ∷ ts) = weightᵀ t + widths ts

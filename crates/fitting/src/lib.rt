@@ -11,7 +11,7 @@ ghost use Rattle.fitting.specs.Tests.{FitOne, FitTwo, Both, Pairs, Agree
 ghost use Rattle.fitting.specs.Agree.{NoEmpty, SomeTyped, SomeRun, SetHere, Few, Members, sameKind, Two, Parts, AgreedParts, OneAndRun, Runs, Agreed, AgreedWith, AgreedAll};
 
 // Whether no cell from `at` to `end` is that of an empty set.
-fn full(s: &[u64], at: usize, end: usize) -> bool
+pub fn full(s: &[u64], at: usize, end: usize) -> bool
     requires { ⌜ (at ≤ end) × (end ≤ length (now s)) ⌝ }
     ensures { λ r. ⌜ Decides r (NoEmpty (now (s .entry)) at end) ⌝ }
 {

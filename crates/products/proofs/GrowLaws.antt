@@ -5,25 +5,13 @@ use mathlib.Core.Path.{_≡_, refl, sym, ap, _∙_, subst}
 use native.Mathlib.Omega.{arith}
 use lib.ListN.{length, getD, set as setAt, length-append, length-set}
 use lib.Seq.{getD-set-same, getD-set-other}
-use Rattle.rules.specs.Values.{Value, pair, set, Values, none, _▸_, values, count, weight, weights}
+use Rattle.rules.specs.Values.{Value, pair, set, Values, none, _▸_, count, weight}
 use Rattle.rules.specs.Operations.{setOf}
-use Rattle.arena.specs.Code.{cellSize, code, codes, Stands, ValueAt, Same, EndsAt, Copied, ValueBelow, SomeAt, Made}
+use Rattle.arena.specs.Code.{cellSize, code, codes, Stands, ValueAt, EndsAt, Copied, ValueBelow, Made}
 use Rattle.arena.proofs.CodeLaws.{length-code, length-codes}
-use Rattle.arena.proofs.Standing.{stands-append, stands-frame, same-refl, same-trans, copied-stands, weight-pos}
-use Rattle.products.specs.Growing.{Appended, Grown, cellsFrom, PairPre, RunPre}
-
-pub codes-append : (xs ys : List Value) → codes (values (xs ++ ys)) ≡ codes (values xs) ++ codes (values ys)
-unfolding code
-codes-append [] ys = refl
-codes-append (x ∷ xs) ys = ap (λ (l : List ℕ). code x ++ l) (codes-append xs ys) ∙ sym (append-assoc (code x) (codes (values xs)) (codes (values ys)))
-
-pub count-append : (xs ys : List Value) → count (values (xs ++ ys)) ≡ count (values xs) + count (values ys)
-count-append [] ys = omega arith
-count-append (x ∷ xs) ys = omega (arith, count-append xs ys)
-
-pub weights-append : (xs ys : List Value) → weights (values (xs ++ ys)) ≡ weights (values xs) + weights (values ys)
-weights-append [] ys = omega arith
-weights-append (x ∷ xs) ys = omega (arith, weights-append xs ys)
+use Rattle.arena.proofs.Standing.{stands-append, stands-frame, same-refl, same-trans, copied-stands}
+use Rattle.arena.proofs.FrontLaws.{single, value-end}
+use Rattle.products.specs.Growing.{Appended, Grown, cellsFrom, PairPre}
 
 -- Nothing, a cell, or a copied run, written behind what stands.
 nothing-stands : (s : List ℕ) (to : ℕ) → to ≤ length s → Stands s to []
@@ -120,18 +108,7 @@ pub empty-code : code (set none) ≡ 21474836480 ∷ []
 unfolding code
 empty-code = refl
 
--- The value at a, of n cells.
-pub value-some : (s : List ℕ) (top e : ℕ) (v : Value) → ValueBelow s top e v → SomeAt s e
-value-some s top e v h = record { value = v; stands = h .stands; fits = h .fits }
-
-pub value-end : (s : List ℕ) (top a e : ℕ) (v : Value) → ValueBelow s top a v → EndsAt s a e → e ≡ a + weight v
-value-end s top a e v h x = x v (h .stands) (h .fits)
-
 -- `singleton`
-single : (v : Value) → codes (v ▸ none) ≡ code v
-unfolding code
-single v = append-nil (code v)
-
 pub single-made : (s : List ℕ) (a top e : ℕ) (s′ : List ℕ) → top + 514 ≤ length s → EndsAt s a e → e - a ≤ 255 → Copied s a (e - a) (top + 1) s′ →
     (v : Value) → ValueBelow s top a v → Made top s (setAt s′ top 21474836481) (setOf (v ∷ [])) (top + 1 + (e - a))
 single-made s a top e s′ l x few c v h =

@@ -1,8 +1,8 @@
 -- The power set in the arena: subsets by masks, one behind the other.
 use Prim.Native.Nat.{ℕ, zero, suc, _+_, _*_, _-_, _/_, _%_, _≤_, _<_}
-use mathlib.Core.Bool.{Bool, true, false, cond}
+use mathlib.Core.Bool.{Bool, true, false}
 use mathlib.Core.List.{List, [], _∷_, _++_, map, append-nil}
-use mathlib.Core.Logic.{_⊎_, inl, inr}
+use mathlib.Core.Logic.{inl, inr}
 use mathlib.Core.Option.{Option, none as nothing, some}
 use mathlib.Core.Path.{_≡_, refl, sym, ap, _∙_, subst}
 use native.Mathlib.Omega.{arith}
@@ -13,19 +13,17 @@ use borrow.Author.Tests.{lt-ltb, le-ltb}
 use lib.Dec.{eqb, ltb}
 use lib.ListN.{length, getD, drop, drop-of-length-le, set as setAt}
 use lib.Seq.{drop-cons}
-use Rattle.rules.specs.Values.{Value, set, Values, none, _▸_, members, values, count, weight, weights}
+use Rattle.rules.specs.Values.{Value, Values, none, _▸_, members, values, count, weight, weights}
 use Rattle.rules.specs.Operations.{setOf, rising, subsets, keptValue}
-use Rattle.rules.proofs.SetOrder.{All, Rising, rising-cons}
-use Rattle.rules.proofs.OrderLaws.{Small}
-use Rattle.arena.specs.Code.{code, codes, Same, AllFit, Rises, SomeAt, EndsAt, SetBelow, ValueBelow, Made}
-use Rattle.arena.proofs.CodeLaws.{length-code, length-codes, fits-small}
+use Rattle.arena.specs.Code.{code, codes, Same, SomeAt, EndsAt, SetBelow, ValueBelow, Made, Front}
+use Rattle.arena.proofs.CodeLaws.{length-code, length-codes}
 use Rattle.arena.proofs.Standing.{count-weights}
-use Rattle.products.specs.Growing.{Appended, Grown, Front}
-use Rattle.products.specs.Parts.{AddPre, Added}
+use Rattle.arena.proofs.FrontLaws.{values-members, rises-rising, fit-small, front-start, front-value, front-next, front-below, front-some, front-frame, set-end}
+use Rattle.products.specs.Growing.{Appended, Grown}
+use Rattle.products.specs.Parts.{AddPre}
 use Rattle.products.specs.Power.{masks, subsetCount, subsetCounts, pick, picked, AddedIf, SubsetPre, Subsets, SubsetIf, AllPre, AllSubsets}
 use Rattle.products.specs.declared.Out.{Out}
-use Rattle.products.proofs.GrowLaws.{codes-append, appended-none, grown-start, grown-step, grown-end, grown-left, made-set, made-heavy}
-use Rattle.products.proofs.WalkLaws.{front-start, front-value, front-next, front-below, front-some, front-frame, set-end}
+use Rattle.products.proofs.GrowLaws.{appended-none, grown-start, grown-step, grown-end, grown-left, made-set, made-heavy}
 use Rattle.products.proofs.TakeLaws.{Putting, putting-start, putting-near, putting-end, putting-pre, putting-add}
 use Rattle.products.proofs.PowerOrder.{powers, powerWeight, power-rising, power-weighs, power-count, power-picked, power-heavy}
 
@@ -235,19 +233,6 @@ module _ (s₀ : List ℕ) (a n p to : ℕ) (s : List ℕ) (j at : ℕ) (top : �
   all-end l = grown-end s₀ to s at (allFrom p 0 vs) (subst (λ (c : List ℕ). Grown s₀ to s at (allFrom p 0 vs) c) (picked-over p j vs l) h)
 
 -- `power`
-rises-rising : (vs : Values) → Rises vs → Rising (members vs)
-rises-rising none h = tt
-rises-rising (v ▸ none) h = (tt, tt)
-rises-rising (v ▸ w ▸ ws) h = rising-cons v w (members ws) (h .0) (rises-rising (w ▸ ws) (h .1))
-
-fit-small : (vs : Values) → AllFit vs → All Small (members vs)
-fit-small none h = tt
-fit-small (v ▸ vs) h = (fits-small v (h .0), fit-small vs (h .1))
-
-values-members : (vs : Values) → values (members vs) ≡ vs
-values-members none = refl
-values-members (v ▸ vs) = ap (λ (ws : Values). v ▸ ws) (values-members vs)
-
 members-count : (vs : Values) → length (members vs) ≡ count vs
 members-count none = refl
 members-count (v ▸ vs) = omega (arith, members-count vs)

@@ -1,26 +1,27 @@
 -- Domain and range in the arena: comparing parts, and putting them one behind the other.
-use Prim.Native.Nat.{ℕ, zero, suc, _+_, _*_, _-_, _%_, _≤_, _<_, Ordering, Ordering·lt, Ordering·eq, Ordering·gt}
-use mathlib.Core.Bool.{Bool, true, false, not, _&&_, cond}
+use Prim.Native.Nat.{ℕ, _+_, _*_, _-_, _%_, _≤_, _<_, Ordering, Ordering·lt, Ordering·eq, Ordering·gt}
+use mathlib.Core.Bool.{Bool, true, false, not}
 use mathlib.Core.List.{List, [], _∷_, _++_, map}
 use mathlib.Core.Logic.{_⊎_, inl, inr}
 use mathlib.Core.Option.{Option, none as nothing, some}
 use mathlib.Core.Path.{_≡_, refl, sym, ap, _∙_, subst}
 use native.Mathlib.Omega.{arith}
-use lib.Dec.{T, eqb, isEq}
+use borrow.Author.Tests.{not-true, not-false}
+use lib.Dec.{eqb, isEq}
 use lib.ListN.{length, getD, set as setAt}
 use Rattle.rules.specs.Values.{Value, scalar, pair, set, Values, none, _▸_, members, values, count, weight, weights, order, same, before, isLt}
 use Rattle.rules.specs.Operations.{left, right, setOf, rising}
 use Rattle.rules.proofs.OrderLaws.{flip, Small, order-flip}
-use Rattle.rules.proofs.SetOrder.{All, Before, Rising}
-use Rattle.arena.specs.Code.{cellSize, code, codes, Stands, ValueAt, Same, CellsFit, AllFit, Rises, orderCode, SomeAt, EndsAt, Compared, Copied, SetBelow, ValueBelow, Made}
+use Rattle.rules.proofs.SetOrder.{All}
+use Rattle.arena.specs.Code.{cellSize, code, codes, ValueAt, Same, CellsFit, AllFit, Rises, orderCode, SomeAt, EndsAt, Compared, Copied, SetBelow, ValueBelow, Made, Front, AllPairs}
 use Rattle.arena.proofs.CodeLaws.{length-code, length-codes, fits-small}
-use Rattle.arena.proofs.Standing.{stands-tail, stands-front, stands-back, stands-frame, weight-pos, count-weights}
-use Rattle.products.specs.Growing.{Appended, Grown, Front}
-use Rattle.products.specs.Parts.{IsPair, AllPairs, Maybe, AddPre, Added, related, ComparePre, Compares, isLast, NewPre, AddedNew, isAbove, isBelow, lesser, choose, BetterPre, Betters, NextPre, Nexts}
+use Rattle.arena.proofs.Standing.{stands-tail, stands-front, stands-back, weight-pos, count-weights}
+use Rattle.arena.proofs.FrontLaws.{front-start, front-next, front-below, front-frame, value-frame, value-some}
+use Rattle.products.specs.Growing.{Grown}
+use Rattle.products.specs.Parts.{Maybe, AddPre, Added, related, ComparePre, Compares, isLast, NewPre, AddedNew, isAbove, isBelow, lesser, choose, BetterPre, Betters, NextPre, Nexts}
 use Rattle.products.specs.declared.Out.{Out}
-use Rattle.products.proofs.GrowLaws.{appended-copy, grown-start, grown-step, grown-end, grown-left, made-set, value-some}
-use Rattle.products.proofs.WalkLaws.{set-inside, front-start, front-value, front-next, front-below, front-some, front-frame, value-frame}
-use Rattle.products.proofs.PartLaws.{after, afterLast, Steps, rising-weighs, lefts-weigh, rights-weigh, rising-afterLast, lastThen, AllOf, afterLast-none, afterLast-skip, afterLast-take, before-lefts, Taking, taking-start, taking-next, firstOf, choose-next}
+use Rattle.products.proofs.GrowLaws.{appended-copy, grown-start, grown-step, grown-end, grown-left, made-set}
+use Rattle.products.proofs.PartLaws.{afterLast, Steps, rising-weighs, lefts-weigh, rights-weigh, rising-afterLast, lastThen, AllOf, afterLast-none, afterLast-skip, afterLast-take, before-lefts, Taking, taking-start, taking-next, firstOf, choose-next}
 
 -- The parts of a pair.
 module _ (s : List ℕ) (top i : ℕ) (a b : Value) (h : ValueBelow s top i (pair a b)) where
@@ -119,14 +120,6 @@ better-compare s p last best end h e = (
   record { value = h .value; below = h .below; ends = e; other = h .lastValue; otherAt = h .lastAt },
   record { value = h .value; below = h .below; ends = e; other = h .bestValue; otherAt = h .bestAt },
 )
-
-not-true : (b : Bool) → not b ≡ true → b ≡ false
-not-true true e = sym e
-not-true false e = refl
-
-not-false : (b : Bool) → not b ≡ false → b ≡ true
-not-false true e = refl
-not-false false e = sym e
 
 module _ (s : List ℕ) (p last best : ℕ) (a : Bool) (above : Compares s p last 2 true a) where
   pub better-low : not a ≡ true → Betters s p last best best

@@ -1,92 +1,18 @@
 -- Walking the members of sets, and the pairs of one value or of a set's members with those of another.
-use Prim.Native.Nat.{ℕ, suc, _+_, _*_, _-_, _%_, _≤_, _<_}
-use mathlib.Core.List.{List, [], _∷_, _++_, map}
+use Prim.Native.Nat.{ℕ, _+_, _*_, _-_, _%_, _≤_, _<_}
+use mathlib.Core.List.{List, [], _++_, map}
 use mathlib.Core.Path.{_≡_, refl, sym, ap, _∙_, subst}
 use native.Mathlib.Omega.{arith}
 use native.Mathlib.Nat.{mul-le-mul-right}
 use lib.ListN.{length, getD, set as setAt}
 use Rattle.rules.specs.Values.{Value, pair, set, Values, none, _▸_, members, values, count, weight, weights}
 use Rattle.rules.specs.Operations.{setOf, pairsOf}
-use Rattle.arena.specs.Code.{cellSize, code, codes, Stands, ValueAt, Same, SomeAt, EndsAt, SetBelow, SomeSet, ValueBelow, Made}
-use Rattle.arena.proofs.CodeLaws.{length-code, length-codes}
-use Rattle.arena.proofs.Standing.{stands-head, stands-tail, stands-front, stands-back, stands-frame, count-weights}
-use Rattle.products.specs.Growing.{Appended, Grown, Front, PairPre, PairPut, rowOf, RowPre, Rows, SquarePre, Squares}
-use Rattle.products.proofs.GrowLaws.{codes-append, count-append, weights-append, grown-start, grown-step, grown-end, grown-left, made-set, made-heavy}
-
--- The members of a set stand behind its cell, which counts them.
-module _ (s : List ℕ) (top a : ℕ) (vs : Values) (h : SetBelow s top a vs) where
-  pub set-cell : getD s a 0 ≡ 5 * cellSize + count vs
-  unfolding code
-  set-cell = stands-head s a (5 * cellSize + count vs) (codes vs) (h .stands)
-
-  pub front-start : (n : ℕ) → n ≡ getD s a 0 % 4294967296 → Front s top (a + 1) n vs
-  unfolding code
-  front-start n e = record {
-    stands = stands-tail s a (5 * cellSize + count vs) (codes vs) (h .stands);
-    counted = omega (arith, set-cell, h .fine .fits .0);
-    below = omega (arith, h .below);
-    fits = h .fine .fits .1;
-    rises = h .fine .rises;
-    light = omega (arith, h .fine .light);
-  }
-
-  pub set-inside : a < length s
-  set-inside = omega (arith, h .stands .inside, length-code (set vs))
-
-  pub set-some : SomeAt s a
-  set-some = record { value = set vs; stands = h .stands; fits = h .fine .fits }
-
-  pub set-end : (e : ℕ) → EndsAt s a e → e ≡ a + 1 + weights vs
-  set-end e x = omega (arith, x (set vs) (h .stands) (h .fine .fits))
-
-  pub set-cells : (e : ℕ) → EndsAt s a e → e - a - 1 ≤ 255
-  set-cells e x = omega (arith, set-end e x, h .fine .light)
-
-module _ (s : List ℕ) (top at n : ℕ) (v : Value) (vs : Values) (h : Front s top at n (v ▸ vs)) where
-  -- The first member, and those behind it.
-  pub front-value : ValueAt s at v
-  unfolding code
-  front-value = stands-front s at (code v) (codes vs) (h .stands)
-
-  pub front-next : (e m : ℕ) → e ≡ at + weight v → suc m ≡ n → Front s top e m vs
-  unfolding code
-  front-next e m p q = record {
-    stands = rw (p, ← length-code v) (stands-back s at (code v) (codes vs) (h .stands));
-    counted = omega (arith, h .counted);
-    below = omega (arith, h .below);
-    fits = h .fits .1;
-    rises = h .rises .1;
-    light = omega (arith, h .light);
-  }
-
-  pub front-below : ValueBelow s top at v
-  front-below = record { stands = front-value; below = omega (arith, h .below); fits = h .fits .0; light = omega (arith, h .light) }
-
-  pub front-at : SomeAt s at
-  front-at = record { value = v; stands = front-value; fits = h .fits .0 }
-
-pub front-some : (s : List ℕ) (top at n : ℕ) (vs : Values) → Front s top at n vs → 0 < n → SomeAt s at
-front-some s top at n none h l = absurd (omega (arith, h .counted))
-front-some s top at n (v ▸ vs) h l = front-at s top at n v vs h
-
--- What is below a frame stays.
-pub front-frame : (k : ℕ) (s s′ : List ℕ) (top at n : ℕ) (vs : Values) → Same k s s′ → top ≤ k → Front s top at n vs → Front s′ top at n vs
-front-frame k s s′ top at n vs f l h = record {
-  stands = stands-frame k s s′ at (codes vs) f (omega (arith, length-codes vs, h .below)) (h .stands);
-  counted = h .counted;
-  below = h .below;
-  fits = h .fits;
-  rises = h .rises;
-  light = h .light;
-}
-
-pub value-frame : (k : ℕ) (s s′ : List ℕ) (top at : ℕ) (v : Value) → Same k s s′ → top ≤ k → ValueBelow s top at v → ValueBelow s′ top at v
-value-frame k s s′ top at v f l h = record {
-  stands = stands-frame k s s′ at (code v) f (omega (arith, length-code v, h .below)) (h .stands);
-  below = h .below;
-  fits = h .fits;
-  light = h .light;
-}
+use Rattle.arena.specs.Code.{code, codes, SomeAt, EndsAt, SetBelow, ValueBelow, Made, Front}
+use Rattle.arena.proofs.CodeLaws.{length-codes}
+use Rattle.arena.proofs.Standing.{count-weights}
+use Rattle.arena.proofs.FrontLaws.{codes-append, count-append, weights-append, front-start, front-value, front-next, front-below, front-some, front-frame, value-frame, set-end}
+use Rattle.products.specs.Growing.{Appended, Grown, PairPre, PairPut, rowOf, RowPre, Rows, SquarePre, Squares}
+use Rattle.products.proofs.GrowLaws.{grown-start, grown-step, grown-end, grown-left, made-set, made-heavy}
 
 -- The pairs of x with the members of a set.
 row-weighs : (x : Value) (ws : Values) → weights (rowOf x ws) ≡ count ws + count ws * weight x + weights ws

@@ -1,13 +1,12 @@
 -- Values built in the arena cell by cell, and what each function has built.
-use Prim.Native.Nat.{ℕ, zero, suc, _+_, _-_, _≤_, _<_}
-use mathlib.Core.Bool.{true, false}
+use Prim.Native.Nat.{ℕ, zero, suc, _+_, _≤_}
 use mathlib.Core.List.{List, [], _∷_, _++_, map}
 use mathlib.Core.Path.{_≡_}
 use lib.IntN.{ℤ, pos, _+ℤ_, _-ℤ_}
 use lib.ListN.{length}
-use Rattle.rules.specs.Values.{Value, pair, set, Values, none, _▸_, int, truthValue, members, values, count, weight, weights}
-use Rattle.rules.specs.Operations.{setOf, upFrom, toCount, elementsFrom, pairsOf}
-use Rattle.arena.specs.Code.{excess, code, codes, Stands, ValueAt, ValuesAt, Same, CellsFit, AllFit, Rises, SetBelow, ValueBelow, Made}
+use Rattle.rules.specs.Values.{Value, pair, set, Values, int, members, values, count, weight, weights}
+use Rattle.rules.specs.Operations.{setOf, upFrom, toCount, pairsOf}
+use Rattle.arena.specs.Code.{excess, code, codes, Stands, ValueAt, Same, CellsFit, SetBelow, ValueBelow, Made, Front}
 
 -- The cells cs have been written from `to` to r; below `to` nothing is changed.
 pub record Appended (s : List ℕ) (to : ℕ) (s′ : List ℕ) (r : ℕ) (cs : List ℕ) : Type 0 where
@@ -20,15 +19,6 @@ pub record Grown (s : List ℕ) (to : ℕ) (s′ : List ℕ) (r : ℕ) (whole re
   pub done : List ℕ
   pub appended : Appended s to s′ r done
   pub all : whole ≡ done ++ rest
-
--- n members of a set, rising, stand from `at` on, below `top`.
-pub record Front (s : List ℕ) (top at n : ℕ) (vs : Values) : Type 0 where
-  pub stands : ValuesAt s at vs
-  pub counted : n ≡ count vs
-  pub below : at + weights vs ≤ top
-  pub fits : AllFit vs
-  pub rises : Rises vs
-  pub light : weights vs ≤ 255
 
 -- A value of one cell.
 abbrev pub PutsCell : List ℕ → ℕ → ℕ → List ℕ → ℕ → Type 0

@@ -1,5 +1,5 @@
 -- Domain and range: the left or right parts of a set of pairs, put one behind the other in rising order.
-use Prim.Native.Nat.{ℕ, _+_, _-_, _≤_, _<_, Ordering, Ordering·lt, Ordering·eq, Ordering·gt}
+use Prim.Native.Nat.{ℕ, _+_, _-_, _≤_, _<_}
 use mathlib.Core.Bool.{Bool, true, false, _&&_, cond}
 use mathlib.Core.List.{List, [], _∷_, map}
 use mathlib.Core.Logic.{_⊎_}
@@ -7,20 +7,11 @@ use mathlib.Core.Option.{Option, none as nothing, some}
 use mathlib.Core.Path.{_≡_}
 use lib.Dec.{eqb}
 use lib.ListN.{length}
-use Rattle.rules.specs.Values.{Value, scalar, pair, set, Values, none, _▸_, members, weight, weights, order, same, before}
+use Rattle.rules.specs.Values.{Value, Values, members, weight, order, same, before}
 use Rattle.rules.specs.Operations.{left, right, setOf, rising}
-use Rattle.arena.specs.Code.{code, orderCode, ValueAt, EndsAt, SetBelow, ValueBelow, Made}
-use Rattle.products.specs.Growing.{Appended, Front}
+use Rattle.arena.specs.Code.{code, orderCode, ValueAt, EndsAt, SetBelow, ValueBelow, Made, Front, AllPairs}
+use Rattle.products.specs.Growing.{Appended}
 use Rattle.products.specs.declared.Out.{Out}
-
-abbrev pub IsPair : Value → Type 0
-IsPair (scalar x) = ⊥
-IsPair (pair a b) = Unit {0}
-IsPair (set vs) = ⊥
-
-abbrev pub AllPairs : Values → Type 0
-AllPairs none = Unit {0}
-AllPairs (v ▸ vs) = IsPair v × AllPairs vs
 
 abbrev pub SomePairs : List ℕ → ℕ → ℕ → Type 0
 SomePairs s top a = (vs : Values) × SetBelow s top a vs × AllPairs vs

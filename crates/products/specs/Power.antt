@@ -1,16 +1,16 @@
 -- The power set of a set of at most five members: its subsets as bits.
-use Prim.Native.Nat.{ℕ, zero, suc, _+_, _/_, _%_, _≤_, _<_}
+use Prim.Native.Nat.{ℕ, _+_, _/_, _%_, _≤_}
 use mathlib.Core.Bool.{Bool, true, false, cond}
 use mathlib.Core.List.{List, [], _∷_, map}
 use mathlib.Core.Logic.{_⊎_}
 use mathlib.Core.Path.{_≡_}
 use lib.Dec.{eqb, ltb}
 use lib.ListN.{length, getD}
-use Rattle.rules.specs.Values.{Value, set, Values, none, _▸_, members, values, weights}
+use Rattle.rules.specs.Values.{Value, Values, members, values, weights}
 use Rattle.rules.specs.Operations.{setOf, rising, subsets, keptValue}
-use Rattle.arena.specs.Code.{code, codes, SetBelow, Made}
-use Rattle.products.specs.Growing.{Appended, Front}
-use Rattle.products.specs.Parts.{AddPre, Added}
+use Rattle.arena.specs.Code.{code, codes, SetBelow, Made, Front}
+use Rattle.products.specs.Growing.{Appended}
+use Rattle.products.specs.Parts.{Added}
 use Rattle.products.specs.declared.Out.{Out}
 
 abbrev pub Powers : List ℕ → ℕ → ℕ → List ℕ → ℕ → Type 0

@@ -7,68 +7,21 @@ use mathlib.Core.Path.{_≡_, refl, sym, ap, _∙_, subst}
 use native.Mathlib.Omega.{arith}
 use lib.ListN.{length, getD, set as setAt, length-set}
 use lib.Seq.{getD-set-same, getD-set-other}
-use Rattle.rules.specs.Values.{Value, set, Values, none, _▸_, members, values, count, weight, weights, order}
+use Rattle.rules.specs.Values.{Value, Values, none, _▸_, members, values, count, weight, weights, order}
 use Rattle.rules.specs.Operations.{keptValue, setOf}
-use Rattle.arena.specs.Code.{cellSize, code, codes, Stands, ValueAt, Same, Copied, SetBelow, SomeSet, Made}
+use Rattle.arena.specs.Code.{cellSize, code, codes, Stands, ValueAt, Same, Copied, SetBelow, SomeSet, Made, Front}
 use Rattle.arena.proofs.CodeLaws.{length-codes}
-use Rattle.arena.proofs.Standing.{stands-append}
+use Rattle.arena.proofs.Standing.{stands-append, stands-frame, copied-stands, same-refl, same-trans, count-weights}
+use Rattle.arena.proofs.FrontLaws.{codes-append, count-append, weights-append, single, values-members, front-start, front-frame}
 use Rattle.sets.specs.declared.Turn.{Turn}
 use Rattle.sets.specs.declared.Out.{Out}
 use Rattle.sets.specs.declared.Walk.{Walk}
 use Rattle.sets.specs.declared.Rest.{Rest}
 use Rattle.sets.specs.Merged.{merged}
-use Rattle.sets.specs.Fronts.{Front, keepOf, firstOf, restLeft, restRight, TurnAt, TwoFronts, RunEnds, Built, PutPre, Put, TailPre, Tailed}
+use Rattle.sets.specs.Fronts.{keepOf, firstOf, restLeft, restRight, TurnAt, TwoFronts, RunEnds, Built, PutPre, Put, TailPre, Tailed}
 use Rattle.sets.specs.Fronts.{Merging, StepPre, Stepped, GoesOn, RestOf, EndPre, Ended}
 use Rattle.sets.proofs.MergedLaws.{merged-nil, merged-less, merged-equal, merged-greater}
-use Rattle.sets.proofs.FrontLaws.{count-weights, front-start}
 use Rattle.sets.proofs.TurnLaws.{two-fronts, turn-fewer}
-
--- Members one behind the other.
-codes-append : (xs ys : List Value) → codes (values (xs ++ ys)) ≡ codes (values xs) ++ codes (values ys)
-unfolding code
-codes-append [] ys = refl
-codes-append (x ∷ xs) ys = ap (λ (l : List ℕ). code x ++ l) (codes-append xs ys) ∙ sym (append-assoc (code x) (codes (values xs)) (codes (values ys)))
-
-count-append : (xs ys : List Value) → count (values (xs ++ ys)) ≡ count (values xs) + count (values ys)
-count-append [] ys = omega arith
-count-append (x ∷ xs) ys = omega (arith, count-append xs ys)
-
-weights-append : (xs ys : List Value) → weights (values (xs ++ ys)) ≡ weights (values xs) + weights (values ys)
-weights-append [] ys = omega arith
-weights-append (x ∷ xs) ys = omega (arith, weights-append xs ys)
-
-values-members : (vs : Values) → values (members vs) ≡ vs
-values-members none = refl
-values-members (v ▸ vs) = ap (λ (ws : Values). v ▸ ws) (values-members vs)
-
--- What stands below a frame stays.
-stands-frame : (k : ℕ) (s s′ : List ℕ) (at : ℕ) (xs : List ℕ) → Same k s s′ → at + length xs ≤ k → Stands s at xs → Stands s′ at xs
-stands-frame k s s′ at xs f l h = record {
-  inside = omega (arith, f .kept, h .inside);
-  cells = λ i p. f .same (at + i) (omega arith) ∙ h .cells i p;
-}
-
-front-frame : (k : ℕ) (s s′ : List ℕ) (top at n : ℕ) (vs : Values) → Same k s s′ → top ≤ k → Front s top at n vs → Front s′ top at n vs
-front-frame k s s′ top at n vs f l h = record {
-  stands = stands-frame k s s′ at (codes vs) f (omega (arith, length-codes vs, h .below)) (h .stands);
-  counted = h .counted;
-  below = h .below;
-  fits = h .fits;
-  rises = h .rises;
-  light = h .light;
-}
-
-copied-stands : (s : List ℕ) (from n to : ℕ) (s′ : List ℕ) (xs : List ℕ) → Copied s from n to s′ → length xs ≡ n → to + n ≤ length s → Stands s from xs → Stands s′ to xs
-copied-stands s from n to s′ xs c e l h = record {
-  inside = omega (arith, c .kept);
-  cells = λ i p. c .there i (omega arith) ∙ h .cells i p;
-}
-
-pub same-refl : (k : ℕ) (s : List ℕ) → Same k s s
-same-refl k s = record { same = λ i p. refl; kept = refl }
-
-pub same-trans : (k m : ℕ) (s s′ s″ : List ℕ) → Same k s s′ → Same m s′ s″ → k ≤ m → Same k s s″
-same-trans k m s s′ s″ f g l = record { same = λ i p. g .same i (omega arith) ∙ f .same i p; kept = g .kept ∙ f .kept }
 
 -- `put`
 
@@ -146,10 +99,6 @@ merged-turn l b r Ordering·gt v vs w ws e = merged-greater l b r v w (members v
 kept-append : (k : Bool) (v : Value) (zs rest : List Value) → zs ++ keptValue k v rest ≡ (zs ++ cond k (v ∷ []) []) ++ rest
 kept-append true v zs rest = sym (append-assoc zs (v ∷ []) rest)
 kept-append false v zs rest = ap (λ (l : List Value). l ++ rest) (sym (append-nil zs))
-
-single : (v : Value) → codes (v ▸ none) ≡ code v
-unfolding code
-single v = append-nil (code v)
 
 -- The walk after a turn t that leaves o built.
 abbrev pub after : Turn → Out → Walk

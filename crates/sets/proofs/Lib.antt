@@ -1,6 +1,6 @@
 -- Laws of sets in the arena.
 pub mod MergedLaws
-pub mod FrontLaws
+pub mod SearchLaws
 pub mod TurnLaws
 pub mod ImageLaws
 pub mod BuildLaws

@@ -1,20 +1,20 @@
 -- A turn of a walk over two sets.
 use Prim.Native.Nat.{ℕ, _+_, _-_, _%_, _≤_, _<_, Ordering, Ordering·lt, Ordering·eq, Ordering·gt}
-use mathlib.Core.Bool.{Bool, true, false, not}
+use mathlib.Core.Bool.{Bool, true, false}
 use mathlib.Core.List.{List, [], _∷_}
 use mathlib.Core.Path.{_≡_, refl, sym, ap, _∙_, subst}
 use native.Mathlib.Omega.{arith}
 use lib.ListN.{length, getD}
-use Rattle.rules.specs.Values.{Value, set, Values, none, _▸_, members, count, weight, order}
+use Rattle.rules.specs.Values.{Value, Values, none, _▸_, members, count, weight, order}
 use Rattle.rules.specs.Operations.{allIn}
 use Rattle.rules.proofs.OrderLaws.{flip, order-eq, order-flip, order-before}
 use Rattle.rules.proofs.SetOrder.{All, Before, Rising}
-use Rattle.arena.specs.Code.{orderCode, SomeAt, EndsAt, Compared, SetBelow}
+use Rattle.arena.specs.Code.{orderCode, SomeAt, EndsAt, Compared, SetBelow, Front}
 use Rattle.arena.proofs.CodeLaws.{fits-small}
+use Rattle.arena.proofs.FrontLaws.{rises-rising, front-start, front-value, front-below, front-next, front-at, code-less, code-equal, code-greater}
 use Rattle.sets.specs.declared.Turn.{Turn}
-use Rattle.sets.specs.Fronts.{Front, Turned, TurnAt, TwoFronts}
+use Rattle.sets.specs.Fronts.{Turned, TurnAt, TwoFronts}
 use Rattle.sets.proofs.MergedLaws.{after-order, before-all, isIn-equal, isIn-greater, isIn-before}
-use Rattle.sets.proofs.FrontLaws.{rises-rising, front-start, front-value, front-below, front-next, front-at, code-less, code-equal, code-greater}
 
 module _ (s : List ℕ) (a m b n : ℕ) (l e r : Bool) (end c : ℕ) (ends : EndsAt s a end) (compared : Compared s a b c) where
   order-of : (top : ℕ) (v : Value) (vs : Values) (w : Value) (ws : Values) → Front s top a m (v ▸ vs) → Front s top b n (w ▸ ws) → c ≡ orderCode (order v w)
@@ -187,11 +187,3 @@ module _ (s : List ℕ) (a m b n : ℕ) (whole : Bool) (h : Including s a m b n 
         go none ws f g q = absurd (omega (arith, f .counted))
         go (v ▸ vs) none f g q = absurd (omega (arith, g .counted))
         go (v ▸ vs) (w ▸ ws) f g q = including-go (order v w) v vs w ws refl f g q (turn (length s) v vs w ws f g)
-
-pub not-true : (b : Bool) → not b ≡ true → b ≡ false
-not-true true e = sym e
-not-true false e = refl
-
-pub not-false : (b : Bool) → not b ≡ false → b ≡ true
-not-false true e = refl
-not-false false e = sym e

@@ -5,24 +5,15 @@ use mathlib.Core.List.{List, [], _++_}
 use mathlib.Core.Logic.{_⊎_}
 use mathlib.Core.Path.{_≡_}
 use lib.ListN.{length}
-use Rattle.rules.specs.Values.{Value, scalar, pair, set, Values, none, _▸_, members, values, count, weight, weights, order}
+use Rattle.rules.specs.Values.{Value, pair, set, Values, _▸_, members, values, count, weight, weights, order}
 use Rattle.rules.specs.Runs.{Given, gives, lacks}
 use Rattle.rules.specs.Operations.{isIn, allIn, applied, setOf}
-use Rattle.arena.specs.Code.{ValueAt, ValuesAt, CellsFit, AllFit, orderCode, SomeAt, Rises, SetBelow, ValueBelow, Same, Made}
+use Rattle.arena.specs.Code.{ValueAt, ValuesAt, CellsFit, orderCode, SomeAt, SetBelow, ValueBelow, Same, Made, Front, AllPairs}
 use Rattle.sets.specs.declared.Turn.{Turn}
 use Rattle.sets.specs.declared.Out.{Out}
 use Rattle.sets.specs.declared.Walk.{Walk}
 use Rattle.sets.specs.declared.Rest.{Rest}
 use Rattle.sets.specs.Merged.{merged}
-
--- n members, rising, that are left of a set stand from `at` on, below `top`.
-pub record Front (s : List ℕ) (top at n : ℕ) (vs : Values) : Type 0 where
-  pub stands : ValuesAt s at vs
-  pub counted : n ≡ count vs
-  pub below : at + weights vs ≤ top
-  pub fits : AllFit vs
-  pub rises : Rises vs
-  pub light : weights vs ≤ 255
 
 -- r says whether the value at e is in the set at a.
 abbrev pub Contains : List ℕ → ℕ → ℕ → Bool → Type 0
@@ -173,15 +164,6 @@ Merges l e r s a b top s′ k =
 pub record LeftCompared (s : List ℕ) (e i r : ℕ) : Type 0 where
   pub order-is : (v a b : Value) → ValueAt s e v → CellsFit v → ValueAt s i (pair a b) → CellsFit (pair a b) → r ≡ orderCode (order v a)
   pub is-pair : r ≡ 1 → SomeAt s (i + 1)
-
-abbrev pub IsPair : Value → Type 0
-IsPair (scalar x) = ⊥
-IsPair (pair a b) = Unit {0}
-IsPair (set vs) = ⊥
-
-abbrev pub AllPairs : Values → Type 0
-AllPairs none = Unit {0}
-AllPairs (v ▸ vs) = IsPair v × AllPairs vs
 
 -- u stands at r, within the set vs at f.
 pub record Within (s : List ℕ) (f : ℕ) (vs : Values) (r : ℕ) (u : Value) : Type 0 where

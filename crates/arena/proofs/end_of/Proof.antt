@@ -1,10 +1,8 @@
 use borrow.Author.Needs.{needs}
 use Rattle.arena.proofs.Standing.{Pending, pending-start, pending-step, pending-inside, pending-end, pending-few}
-use Prim.Native.Nat.{_+_, _*_, _-_, _≤_, _<_}
+use Prim.Native.Nat.{_+_, _-_}
 use native.Mathlib.Omega.{arith}
-use mathlib.Core.Path.{_≡_, refl, sym, ap, _∙_}
-use lib.ListN.{length, getD}
-use denote.Ref.{now}
+use lib.ListN.{length}
 use Rattle.arena.specs.Code.{ValueAt, CellsFit}
 use Rattle.rules.specs.Values.{Value, weight}
 use Rattle.arena.proofs.Standing.{Pending, pending-start, pending-step, pending-inside, pending-end}
@@ -36,7 +34,7 @@ sub-left : tie.Need-sub-left Inv-loop μ-loop
 sub-left c = omega (arith, c .before .before .loop-test .taken)
 
 add-left : tie.Need-add-left Inv-loop μ-loop
-add-left c = omega (arith, pending-few _ _ _ _ (pending-step _ _ _ _ (c .before .before .before .loop .inv (c .before .before .before .before .before .pre .value) (c .before .before .before .before .before .pre .stands) (c .before .before .before .before .before .pre .fits)) (c .before .before .loop-test .taken)), c .parts .ensures)
+add-left c = omega (arith, pending-few _ _ _ _ (pending-step _ _ _ _ (c .before .before .before .loop .inv (c .before .before .before .before .before .pre .value) (c .before .before .before .before .before .pre .stands) (c .before .before .before .before .before .pre .fits)) (c .before .before .loop-test .taken)), c .parts .ensures .0)
 
 add-i : tie.Need-add-i Inv-loop μ-loop
 add-i c = omega (arith, pending-inside _ _ _ _ (c .before .before .before .loop .inv (c .before .before .before .before .before .pre .value) (c .before .before .before .before .before .pre .stands) (c .before .before .before .before .before .pre .fits)) (c .before .before .loop-test .taken) .0)
@@ -45,7 +43,7 @@ loop-less : tie.Need-loop-less Inv-loop μ-loop
 loop-less c = omega (arith, pending-inside _ _ _ _ (c .before .before .before .loop .inv (c .before .before .before .before .before .pre .value) (c .before .before .before .before .before .pre .stands) (c .before .before .before .before .before .pre .fits)) (c .before .before .loop-test .taken) .0)
 
 loop-again : tie.Need-loop-again Inv-loop μ-loop
-loop-again c = λ v h f. rw (c .parts .ensures) (pending-step _ _ _ _ (c .before .before .before .loop .inv v h f) (c .before .before .loop-test .taken))
+loop-again c = λ v h f. rw (c .parts .ensures .0) (pending-step _ _ _ _ (c .before .before .before .loop .inv v h f) (c .before .before .loop-test .taken))
 
 returns : tie.Need-returns Inv-loop μ-loop
 returns c = λ v h f. pending-end _ _ _ _ (c .before .loop .inv v h f) (omega (arith, c .loop-test .left))

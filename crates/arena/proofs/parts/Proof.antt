@@ -1,26 +1,23 @@
+use native.Mathlib.Omega.{arith}
 use Rattle.arena.proofs.Standing.{parts-pair, parts-set, parts-scalar}
 use borrow.Author.Needs.{needs}
 use Rattle.arena.proofs.parts.Statement.{statement}
 use Rattle.arena.proofs.parts.Tie as tie
-use Rattle.arena.proofs.parts.Reads as reads
-use Rattle.arena.proofs.parts.Lts as lts
-use Rattle.arena.proofs.low.Reads as low-reads
-use Rattle.arena.proofs.tag.Reads as tag-reads
 
 tag-requires : tie.Need-tag-requires
 tag-requires c κs = search needs
 
 returns : tie.Need-returns
-returns c = parts-pair _ _ (c .before .tag .ensures) (c .if1 .taken)
+returns c = (parts-pair _ _ (c .before .tag .ensures) (c .if1 .taken), omega arith)
 
 low-requires : tie.Need-low-requires
 low-requires c κs = search needs
 
 returns-2 : tie.Need-returns-2
-returns-2 c = parts-set _ _ _ (c .before .before .before .tag .ensures) (c .before .before .if1 .left) (c .before .if2 .taken) (c .low .ensures .0)
+returns-2 c = (parts-set _ _ _ (c .before .before .before .tag .ensures) (c .before .before .if1 .left) (c .before .if2 .taken) (c .low .ensures .0), c .low .ensures .1)
 
 returns-3 : tie.Need-returns-3
-returns-3 c = parts-scalar _ _ (c .before .before .tag .ensures) (c .before .if1 .left) (c .if2 .left)
+returns-3 c = (parts-scalar _ _ (c .before .before .tag .ensures) (c .before .if1 .left) (c .if2 .left), omega arith)
 
 pub parts-spec : {M : Type 1} → statement M
 parts-spec = tie.close (tie.spec tag-requires returns low-requires returns-2 returns-3)

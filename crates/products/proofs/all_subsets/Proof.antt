@@ -3,7 +3,8 @@ use borrow.Author.Needs.{needs}
 use Prim.Native.Nat.{ℕ, _-_, _≤_}
 use native.Mathlib.Omega.{arith}
 use Rattle.rules.specs.Values.{Values}
-use Rattle.products.specs.Growing.{Front, Grown}
+use Rattle.arena.specs.Code.{Front}
+use Rattle.products.specs.Growing.{Grown}
 use Rattle.products.proofs.PowerLaws.{allFrom, all-start, all-pre, all-next, all-end}
 use Rattle.products.proofs.all_subsets.Statement.{statement}
 use Rattle.products.proofs.all_subsets.Tie as tie

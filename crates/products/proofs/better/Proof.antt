@@ -1,7 +1,6 @@
 -- `better`: the lesser of two values, if it is above a third.
-use Rattle.products.proofs.GrowLaws.{value-some}
+use Rattle.arena.proofs.FrontLaws.{value-some}
 use Rattle.products.proofs.TakeLaws.{better-compare, better-low, better-high, better-new}
-use borrow.Author.Needs.{needs}
 use Rattle.products.proofs.better.Statement.{statement}
 use Rattle.products.proofs.better.Tie as tie
 

@@ -1,5 +1,5 @@
 -- `compares`: a comparison where there is a value to compare with.
-use Rattle.products.proofs.GrowLaws.{value-some}
+use Rattle.arena.proofs.FrontLaws.{value-some}
 use Rattle.products.proofs.TakeLaws.{maybe-some, compares-none, compares-some}
 use Rattle.products.proofs.compares.Statement.{statement}
 use Rattle.products.proofs.compares.Tie as tie

@@ -2,9 +2,8 @@
 use borrow.Author.Needs.{needs}
 use native.Mathlib.Omega.{arith}
 use Rattle.rules.specs.Values.{Values}
-use Rattle.arena.specs.Code.{SetBelow}
-use Rattle.products.specs.Parts.{AllPairs}
-use Rattle.products.proofs.WalkLaws.{set-inside}
+use Rattle.arena.specs.Code.{SetBelow, AllPairs}
+use Rattle.arena.proofs.FrontLaws.{set-inside}
 use Rattle.products.proofs.TakeLaws.{DomainAt, domain-start, domain-near, domain-end, domain-some, domain-inside, domain-new, domain-second, domain-again}
 use Rattle.products.proofs.domain.Statement.{statement}
 use Rattle.products.proofs.domain.Tie as tie

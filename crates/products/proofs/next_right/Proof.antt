@@ -4,8 +4,8 @@ use native.Mathlib.Omega.{arith}
 use mathlib.Core.Option.{Option}
 use lib.ListN.{length}
 use Rattle.rules.specs.Values.{Value, Values}
-use Rattle.products.specs.Growing.{Front}
-use Rattle.products.specs.Parts.{AllPairs, Maybe}
+use Rattle.arena.specs.Code.{Front, AllPairs}
+use Rattle.products.specs.Parts.{Maybe}
 use Rattle.products.proofs.TakeLaws.{NextAt, next-start, next-end, next-some, next-inside, next-second, next-better, next-again}
 use Rattle.products.proofs.next_right.Statement.{statement}
 use Rattle.products.proofs.next_right.Tie as tie

@@ -1,6 +1,7 @@
 -- `pair`: the pair of two values, unless it is too heavy.
 use native.Mathlib.Omega.{arith}
-use Rattle.products.proofs.GrowLaws.{value-some, value-end, pair-pre, pair-made, pair-heavy}
+use Rattle.arena.proofs.FrontLaws.{value-some, value-end}
+use Rattle.products.proofs.GrowLaws.{pair-pre, pair-made, pair-heavy}
 use borrow.Author.Needs.{needs}
 use Rattle.products.proofs.pair.Statement.{statement}
 use Rattle.products.proofs.pair.Tie as tie

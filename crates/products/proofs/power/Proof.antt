@@ -1,6 +1,6 @@
 -- `power`: all subsets, unless their set is too heavy.
 use native.Mathlib.Omega.{arith}
-use Rattle.products.proofs.WalkLaws.{set-end, set-cells}
+use Rattle.arena.proofs.FrontLaws.{set-end, set-cells}
 use Rattle.products.proofs.PowerLaws.{power-too-heavy, power-pre, power-made, half-product}
 use borrow.Author.Needs.{needs}
 use Rattle.products.proofs.power.Statement.{statement}

@@ -1,6 +1,7 @@
 -- `product`: all pairs, unless their set is too heavy.
 use native.Mathlib.Omega.{arith}
-use Rattle.products.proofs.WalkLaws.{set-some, set-end, product-sizes, product-heavy, product-pre, product-made}
+use Rattle.arena.proofs.FrontLaws.{set-end}
+use Rattle.products.proofs.WalkLaws.{product-sizes, product-heavy, product-pre, product-made}
 use borrow.Author.Needs.{needs}
 use Rattle.products.proofs.product.Statement.{statement}
 use Rattle.products.proofs.product.Tie as tie

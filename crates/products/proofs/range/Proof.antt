@@ -3,9 +3,8 @@ use borrow.Author.Needs.{needs}
 use Prim.Native.Nat.{_+_, _-_}
 use native.Mathlib.Omega.{arith}
 use Rattle.rules.specs.Values.{Values}
-use Rattle.arena.specs.Code.{SetBelow}
-use Rattle.products.specs.Parts.{AllPairs}
-use Rattle.products.proofs.WalkLaws.{set-inside}
+use Rattle.arena.specs.Code.{SetBelow, AllPairs}
+use Rattle.arena.proofs.FrontLaws.{set-inside}
 use Rattle.products.proofs.TakeLaws.{RangeAt, range-next-start, range-start, range-near, range-some, range-end, range-add, range-between, range-next, range-again}
 use Rattle.products.proofs.range.Statement.{statement}
 use Rattle.products.proofs.range.Tie as tie

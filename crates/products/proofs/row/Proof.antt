@@ -1,10 +1,9 @@
 -- `row`: the pairs of a value with each member of a set.
-use Prim.Native.Nat.{ℕ, _+_, _*_, _-_, _≤_, _<_}
+use Prim.Native.Nat.{ℕ, _≤_}
 use mathlib.Core.Path.{_≡_}
 use native.Mathlib.Omega.{arith}
 use Rattle.rules.specs.Values.{Value, Values, weight}
-use Rattle.arena.specs.Code.{ValueBelow}
-use Rattle.products.specs.Growing.{Front}
+use Rattle.arena.specs.Code.{ValueBelow, Front}
 use Rattle.products.proofs.WalkLaws.{RowAt, row-start, row-some, row-end, row-forward, row-pair, row-next}
 use Rattle.products.proofs.row.Statement.{statement}
 use Rattle.products.proofs.row.Tie as tie

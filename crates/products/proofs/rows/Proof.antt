@@ -1,9 +1,8 @@
 -- `rows`: a row of pairs for each member of the first set.
-use Prim.Native.Nat.{ℕ, _+_, _*_, _-_, _≤_, _<_}
-use mathlib.Core.Path.{_≡_}
+use Prim.Native.Nat.{ℕ, _≤_}
 use native.Mathlib.Omega.{arith}
-use Rattle.rules.specs.Values.{Value, Values, weight}
-use Rattle.products.specs.Growing.{Front}
+use Rattle.rules.specs.Values.{Values}
+use Rattle.arena.specs.Code.{Front}
 use Rattle.products.proofs.WalkLaws.{SquareAt, square-start, square-some, square-end, square-forward, square-row, square-next}
 use Rattle.products.proofs.rows.Statement.{statement}
 use Rattle.products.proofs.rows.Tie as tie

@@ -1,7 +1,8 @@
 -- `singleton`: a value copied behind the cell of a set of one member.
 use mathlib.Core.Logic.{inl}
 use native.Mathlib.Omega.{arith}
-use Rattle.products.proofs.GrowLaws.{value-some, value-end, single-made, single-heavy}
+use Rattle.arena.proofs.FrontLaws.{value-some, value-end}
+use Rattle.products.proofs.GrowLaws.{single-made, single-heavy}
 use borrow.Author.Needs.{needs}
 use Rattle.products.proofs.singleton.Statement.{statement}
 use Rattle.products.proofs.singleton.Tie as tie

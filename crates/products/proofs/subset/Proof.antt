@@ -3,7 +3,7 @@ use borrow.Author.Needs.{needs}
 use Prim.Native.Nat.{ℕ, _≤_}
 use native.Mathlib.Omega.{arith}
 use Rattle.rules.specs.Values.{Values}
-use Rattle.products.specs.Growing.{Front}
+use Rattle.arena.specs.Code.{Front}
 use Rattle.products.proofs.PowerLaws.{SubsetAt, subset-start, subset-near, subset-some, subset-end, subset-add, subset-again}
 use Rattle.products.proofs.subset.Statement.{statement}
 use Rattle.products.proofs.subset.Tie as tie

@@ -4,7 +4,8 @@ use native.Mathlib.Omega.{arith}
 use lib.ListN.{length}
 use Rattle.rules.specs.Values.{Value, Values}
 use Rattle.arena.specs.Code.{ValueBelow, SetBelow}
-use Rattle.sets.proofs.FrontLaws.{set-inside, value-some, Searched, searched-start, searched-at, searched-end, searched-found, searched-past, searched-next}
+use Rattle.arena.proofs.FrontLaws.{set-inside, value-some}
+use Rattle.sets.proofs.SearchLaws.{Searched, searched-start, searched-at, searched-end, searched-found, searched-past, searched-next}
 use Rattle.sets.proofs.contains.Statement.{statement}
 use Rattle.sets.proofs.contains.Tie as tie
 

@@ -4,7 +4,7 @@ use native.Mathlib.Omega.{arith}
 use lib.ListN.{length}
 use Rattle.rules.specs.Values.{Value, Values}
 use Rattle.arena.specs.Code.{ValueBelow, SetBelow}
-use Rattle.sets.proofs.FrontLaws.{set-inside, value-some}
+use Rattle.arena.proofs.FrontLaws.{set-inside, value-some}
 use Rattle.sets.proofs.ImageLaws.{some-inside, Applying, applying-start, applying-at, applying-end, applying-found, applying-past, applying-next}
 use Rattle.sets.proofs.image.Statement.{statement}
 use Rattle.sets.proofs.image.Tie as tie

@@ -1,13 +1,14 @@
 -- `included`: the answer is whether the members left of the first set are among those left of the second.
 use Prim.Native.Nat.{_+_}
 use borrow.Author.Needs.{needs}
+use borrow.Author.Tests.{not-true, not-false}
 use native.Mathlib.Omega.{arith}
 use lib.ListN.{length}
 use Rattle.rules.specs.Values.{Values, members}
 use Rattle.rules.specs.Operations.{allIn}
 use Rattle.arena.specs.Code.{SetBelow}
-use Rattle.sets.proofs.FrontLaws.{set-inside}
-use Rattle.sets.proofs.TurnLaws.{Including, including-start, including-end, including-short, including-two, including-turn, not-true, not-false}
+use Rattle.arena.proofs.FrontLaws.{set-inside}
+use Rattle.sets.proofs.TurnLaws.{Including, including-start, including-end, including-short, including-two, including-turn}
 use Rattle.sets.proofs.included.Statement.{statement}
 use Rattle.sets.proofs.included.Tie as tie
 

@@ -2,7 +2,7 @@
 use Prim.Native.Nat.{_+_}
 use borrow.Author.Needs.{needs}
 use native.Mathlib.Omega.{arith}
-use Rattle.sets.proofs.FrontLaws.{set-inside}
+use Rattle.arena.proofs.FrontLaws.{set-inside}
 use Rattle.sets.proofs.BuildLaws.{Walking, walking-start, walking-step, walking-next, walking-end, walking-made}
 use Rattle.sets.proofs.merge.Statement.{statement}
 use Rattle.sets.proofs.merge.Tie as tie

@@ -2,8 +2,8 @@
 use Prim.Native.Nat.{ℕ, _+_}
 use native.Mathlib.Omega.{arith}
 use Rattle.rules.specs.Values.{Values, weights}
-use Rattle.sets.specs.Fronts.{Front}
-use Rattle.sets.proofs.FrontLaws.{Running, running-start, running-at, running-next, running-end}
+use Rattle.arena.specs.Code.{Front}
+use Rattle.sets.proofs.SearchLaws.{Running, running-start, running-at, running-next, running-end}
 use Rattle.sets.proofs.run_end.Statement.{statement}
 use Rattle.sets.proofs.run_end.Tie as tie
 
