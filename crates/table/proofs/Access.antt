@@ -1,23 +1,24 @@
 -- What the words of a table are, at the offsets where the code reads them.
-use Prim.Native.Nat.{ℕ, zero, suc, _+_, _*_, _≤_, _<_}
+use Prim.Native.Nat.{ℕ, zero, suc, _+_, _*_, _/_, _%_, _≤_, _<_}
 use mathlib.Core.Bool.{Bool, true, false, _&&_, _||_, cond, true≢false, false≢true}
-use mathlib.Core.List.{List, [], _∷_}
+use mathlib.Core.List.{List, map}
+use mathlib.Core.Logic.{_≢_}
 use mathlib.Core.Option.{Option, none as nothing}
 use mathlib.Core.Path.{_≡_, refl, sym, ap, ap₂, _∙_}
 use native.Mathlib.Omega.{arith}
 use native.Mathlib.Nat.{add-comm}
 use native.Mathlib.Decide.{ℕ-discrete, decLt}
-use lib.Dec.{T, eqb, leb, eqb→eq}
-use lib.ListN.{length, getD, List·getD-eq-default}
+use lib.Dec.{eqb, leb, eqb→eq}
+use lib.ListN.{length, getD, List·getD-eq-default, List·getD-map}
 use borrow.Author.Tests.{le-leb, lt-leb, ne-eqb}
 use Rattle.rules.specs.Kinds.{Kind, kinds, kindOf, predicate, expression, isChild, isBinder}
 use Rattle.rules.specs.Kinds.{Field, unused, child, use-of, binder-of, setNumber, elementNumber, anyWord, truthBit}
 use Rattle.rules.specs.Tables.{wordAt, nodeFrom, tableOf, nodeAt, fieldsIf, fieldWords, givenCount, identifierCount, nodeCount, nodesAt}
 use Rattle.rules.proofs.TableLaws.{sizes-length, binds-entry, nodes-entry}
 use Rattle.rules.specs.Reading.{headed, limited, laidOut}
-use Rattle.rules.proofs.EndLaws.{T-and}
+use Rattle.rules.proofs.EndLaws.{T-allBelow}
 use Rattle.table.specs.Layout.{WordOf, sortOf}
-use Rattle.table.specs.Codes.{fieldCodes, fieldOf, codeOf, categoryCode}
+use Rattle.table.specs.Codes.{fieldCodes, fieldOf, fieldCode, codeAt, rowOf, categoryCode}
 
 pub size-none : (bs : List ℕ) (g n : ℕ) → n ≡ givenCount bs → n ≤ g → 0 ≡ getD (tableOf bs .sizes) g 0
 size-none bs g n e h = sym (List·getD-eq-default (tableOf bs .sizes) 0 (omega (arith, sizes-length bs)))
@@ -40,19 +41,6 @@ field-read bs at n (suc zero) w e h l r = rw (nodes-entry bs n h, ← e) (word-f
 field-read bs at n (suc (suc zero)) w e h l r = rw (nodes-entry bs n h, ← e) (word-four bs at n w 2 r (12 + (at + 16 * n)) (omega arith))
 field-read bs at n (suc (suc (suc i))) w e h l r = absurd (omega arith)
 
--- A test that passes at each number below n.
-abbrev allBelow : (ℕ → Bool) → ℕ → Bool
-allBelow p zero = true
-allBelow p (suc n) = p n && allBelow p n
-
-below-at : (p : ℕ → Bool) (n : ℕ) → T (allBelow p n) → (k : ℕ) → k < n → T (p k)
-below-at p zero t k h = absurd (omega arith)
-below-at p (suc n) t k h = go (ℕ-discrete k n) (T-and (p n) (allBelow p n) .0 t) (λ w l. below-at p n w k l)
-  where
-    go : Dec (k ≡ n) → T (p n) × T (allBelow p n) → (T (allBelow p n) → k < n → T (p k)) → T (p k)
-    go (yes e) w r = rw e (w .0)
-    go (no e) w r = r (w .1) (omega arith)
-
 -- The category of a kind code by the ranges of the codes.
 abbrev pub byRange : ℕ → ℕ
 byRange k = cond (leb 1 k && leb k 11) 1 (cond (leb 20 k && leb k 43) 2 0)
@@ -61,16 +49,16 @@ sameCategory : ℕ → Bool
 unfolding kindOf
 sameCategory k = eqb (byRange k) (categoryCode (kindOf k))
 
-far-kind : (k : ℕ) → 44 ≤ k → kindOf k ≡ nothing
+far-kind : (k : ℕ) → length kinds ≤ k → kindOf k ≡ nothing
 unfolding kindOf
 far-kind k h = List·getD-eq-default kinds nothing {n = k} h
 
 pub by-range : (k : ℕ) → byRange k ≡ categoryCode (kindOf k)
 unfolding sameCategory kindOf
-by-range k = go (decLt k 44)
+by-range k = go (decLt k (length kinds))
   where
-    go : Dec (k < 44) → byRange k ≡ categoryCode (kindOf k)
-    go (yes h) = eqb→eq (byRange k) (categoryCode (kindOf k)) (below-at sameCategory 44 tt k h)
+    go : Dec (k < length kinds) → byRange k ≡ categoryCode (kindOf k)
+    go (yes h) = eqb→eq (byRange k) (categoryCode (kindOf k)) (T-allBelow sameCategory (length kinds) .0 tt k h)
     go (no h) = rw (far-kind k (omega arith), lt-leb k 11 (omega arith), lt-leb k 43 (omega arith), le-leb 1 k (omega arith), le-leb 20 k (omega arith))
 
 -- So the code that each range of kind codes has.
@@ -125,49 +113,41 @@ pub counts-child : (b : Bool) (c : ℕ) → b ≡ false → (c ≡ 1 → ⊥) �
 counts-child true c e n = absurd (true≢false e)
 counts-child false c e n = ap (λ o. o || eqb c 2) (sym (ne-eqb c 1 n)) ∙ child-code c
 
--- The codes of the fields of each kind, three a kind, computed from document 01's kinds: the code's constant table is this list.
-abbrev fieldCode : Field → ℕ
-fieldCode unused = 0
-fieldCode (child c) = codeOf c
-fieldCode use-of = 3
-fieldCode binder-of = 4
-fieldCode setNumber = 5
-fieldCode elementNumber = 6
-fieldCode anyWord = 7
-fieldCode truthBit = 8
+-- What a field holds from its code, and the codes of a kind from the digits of its row.
+coded : (f : Field) → (fieldOf (fieldCode f) ≡ f) × (fieldCode f < 16)
+coded unused = (refl, omega arith)
+coded (child predicate) = (refl, omega arith)
+coded (child expression) = (refl, omega arith)
+coded use-of = (refl, omega arith)
+coded binder-of = (refl, omega arith)
+coded setNumber = (refl, omega arith)
+coded elementNumber = (refl, omega arith)
+coded anyWord = (refl, omega arith)
+coded truthBit = (refl, omega arith)
 
-field-of-code : (f : Field) → fieldOf (fieldCode f) ≡ f
-field-of-code unused = refl
-field-of-code (child predicate) = refl
-field-of-code (child expression) = refl
-field-of-code use-of = refl
-field-of-code binder-of = refl
-field-of-code setNumber = refl
-field-of-code elementNumber = refl
-field-of-code anyWord = refl
-field-of-code truthBit = refl
+module _ (row i : ℕ) (o : Option Kind) (e : row ≡ rowOf o) where
+  below-16 : (j : ℕ) → codeAt o j < 16
+  below-16 j = coded (getD (fieldsIf o) j unused) .1
 
-abbrev codeAt : Option Kind → ℕ → ℕ
-codeAt o i = fieldCode (getD (fieldsIf o) i unused)
+  field-by-code : (j c : ℕ) → i ≡ j → c ≡ codeAt o j → fieldOf c ≡ getD (fieldsIf o) i unused
+  field-by-code j c h d = rw (h, d) (coded (getD (fieldsIf o) j unused) .0)
 
-abbrev pub codesOf : List (Option Kind) → List ℕ
-codesOf [] = []
-codesOf (o ∷ os) = codeAt o 0 ∷ codeAt o 1 ∷ codeAt o 2 ∷ codesOf os
+  pub first-code : i ≡ 0 → fieldOf (row / 256) ≡ getD (fieldsIf o) i unused
+  first-code h = field-by-code 0 (row / 256) h (omega (arith, below-16 0, below-16 1, below-16 2))
 
-codes-at : (os : List (Option Kind)) (k i : ℕ) → i < 3 → fieldOf (getD (codesOf os) (3 * k + i) 0) ≡ getD (fieldsIf (getD os k nothing)) i unused
-codes-at [] k i h = refl
-codes-at (o ∷ os) zero zero h = field-of-code (getD (fieldsIf o) 0 unused)
-codes-at (o ∷ os) zero (suc zero) h = field-of-code (getD (fieldsIf o) 1 unused)
-codes-at (o ∷ os) zero (suc (suc zero)) h = field-of-code (getD (fieldsIf o) 2 unused)
-codes-at (o ∷ os) zero (suc (suc (suc i))) h = absurd (omega arith)
-codes-at (o ∷ os) (suc k) i h = let e : 3 * suc k + i ≡ suc (suc (suc (3 * k + i))) = omega arith in rw e (codes-at os k i h)
+  pub second-code : i ≡ 1 → fieldOf (row / 16 % 16) ≡ getD (fieldsIf o) i unused
+  second-code h = field-by-code 1 (row / 16 % 16) h (omega (arith, below-16 0, below-16 1, below-16 2))
 
-pub fields-at : (k i : ℕ) → i < 3 → fieldOf (getD (codesOf kinds) (3 * k + i) 0) ≡ getD (fieldsIf (kindOf k)) i unused
+  pub third-code : i < 3 → i ≢ 0 → i ≢ 1 → fieldOf (row % 16) ≡ getD (fieldsIf o) i unused
+  third-code l m n = field-by-code 2 (row % 16) (omega (arith, m, n)) (omega (arith, below-16 0, below-16 1, below-16 2))
+
+-- The rows of all kinds: the code's constant table is this list.
+pub row-known : (k : ℕ) → getD (map rowOf kinds) k 0 ≡ rowOf (kindOf k)
 unfolding kindOf
-fields-at k i h = codes-at kinds k i h
+row-known k = List·getD-map rowOf kinds k nothing
 
-pub fields-far : (k i : ℕ) → 44 ≤ k → fieldOf 0 ≡ getD (fieldsIf (kindOf k)) i unused
-fields-far k i h = rw (far-kind k h)
+pub row-unknown : (k : ℕ) → length kinds ≤ k → 0 ≡ rowOf (kindOf k)
+row-unknown k h = rw (far-kind k h)
 
 -- Four bytes make a word.
 pub word-sum : (bs : List ℕ) (at a b c d : ℕ) → a ≡ getD bs at 0 → b ≡ getD bs (at + 1) 0 → c ≡ getD bs (at + 2) 0 → d ≡ getD bs (at + 3) 0 →

@@ -19,9 +19,9 @@ use Rattle.rules.specs.Tables.{nodeCount}
 use Rattle.rules.specs.Reading.{occurrences, parentGood}
 use Rattle.rules.specs.Readable.{FieldRight, FieldsRight}
 use Rattle.rules.proofs.TableLaws.{nodes-length, binds-length, fields-right}
-use Rattle.table.specs.Codes.{fieldOf, categoryCode}
-use Rattle.table.specs.Layout.{FieldIn, more, Room, BumpPre, Bumped, sortOf, countsAt, fieldAt, Counted}
-use Rattle.table.proofs.Fields.{category-is, by-fields}
+use Rattle.table.specs.Codes.{fieldOf, categoryCode, DigitOf}
+use Rattle.table.specs.Layout.{FieldIn, more, Room, BumpPre, Bumped, sortOf, rowAt, countsAt, fieldAt, Counted}
+use Rattle.table.proofs.Fields.{category-is, code-read, by-fields}
 
 -- A field that is not used is of no sort that is counted.
 pub sort-unused : (b : Bool) → sortOf b unused ≡ false
@@ -117,9 +117,9 @@ module _ (p : Field → Bool) (none : p unused ≡ false) (m : ℕ) where
       )
 
 -- Whether a field counts, by the codes that the code reads.
-pub counts-read : (b : Bool) (bs : List ℕ) (n i k code : ℕ) (hit : Bool) → k ≡ nodeAt (tableOf bs .nodes) n .kind →
-    fieldOf code ≡ getD (fieldsIf (kindOf k)) i unused → hit ≡ sortOf b (fieldOf code) → hit ≡ countsAt b bs n i
-counts-read b bs n i k code hit e f g = cc
+pub counts-read : (b : Bool) (bs : List ℕ) (n i row code : ℕ) (hit : Bool) → row ≡ rowAt bs n → DigitOf row i code →
+    hit ≡ sortOf b (fieldOf code) → hit ≡ countsAt b bs n i
+counts-read b bs n i row code hit e d h = h ∙ ap (sortOf b) (code-read bs n row i code e d)
 
 -- A child is below its parent, an identifier below I.
 pub child-lt : (tb : Table) (n : ℕ) (f : Field) (x : ℕ) → isChild f ≡ true → FieldRight tb n f x → x < n

@@ -1,6 +1,6 @@
 -- Refusals 4 to 6: the tests that the code makes are those of document 01.
 use Prim.Native.Nat.{ℕ, zero, suc, _≤_, _<_}
-use mathlib.Core.Bool.{Bool, true, false, not, _&&_}
+use mathlib.Core.Bool.{Bool, true, false, _&&_}
 use mathlib.Core.List.{List, [], _∷_}
 use mathlib.Core.Logic.{_⊎_, inl, inr}
 use mathlib.Core.Option.{Option, none as nothing, some}
@@ -13,11 +13,11 @@ use Rattle.rules.specs.Kinds.{Kind, join, negation, test, quant, leaf, boolOf, 
 use Rattle.rules.specs.Kinds.{Leaf, leafFields, identifier, givenSet, elementOf, literal, truthConst, emptySet, boolSet}
 use Rattle.rules.specs.Kinds.{Category, predicate, expression, isPredicate, isExpression, isBinder}
 use Rattle.rules.specs.Kinds.{Field, unused, child, use-of, binder-of, setNumber, elementNumber, anyWord, truthBit}
-use Rattle.rules.specs.Tables.{Table, tableOf, nodeAt, kindAt, fieldsIf, fieldWords, givenCount, identifierCount}
+use Rattle.rules.specs.Tables.{Table, tableOf, nodeAt, kindAt, fieldsIf, givenCount, identifierCount}
 use Rattle.rules.specs.Reading.{sizeGood, bindGood, categoryIs, fieldGood, fieldsGood, known, nodeGood}
 use Rattle.rules.proofs.TableLaws.{sizes-length, binds-length}
-use Rattle.table.specs.Codes.{fieldOf, codeOf, categoryCode}
-use Rattle.table.specs.Layout.{WordOf}
+use Rattle.table.specs.Codes.{fieldOf, codeOf, categoryCode, rowOf, DigitOf}
+use Rattle.table.specs.Layout.{rowAt, holdsAt, fieldAt, WordOf}
 use Rattle.table.proofs.Access.{field-far}
 
 -- Refusals 4 and 5 at one place.
@@ -152,13 +152,20 @@ fields-known tb n (some k) x y z h = and-three (good 0 x) (good 1 y) (good 2 z)
     good : ℕ → ℕ → Bool
     good i x = fieldGood tb n (getD (fieldsOf k) i unused) x
 
--- The test of field i of node n, where k is the code of its kind.
-abbrev pub fieldTest : List ℕ → ℕ → ℕ → ℕ → Bool
-fieldTest bs n k i = fieldGood (tableOf bs) n (getD (fieldsIf (kindOf k)) i unused) (getD (fieldWords (nodeAt (tableOf bs .nodes) n)) i 0)
+-- What field i of node n holds, by the row and the code that the code reads.
+pub row-read : (bs : List ℕ) (n k row : ℕ) → k ≡ nodeAt (tableOf bs .nodes) n .kind → row ≡ rowOf (kindOf k) → row ≡ rowAt bs n
+row-read bs n k row ek er = er ∙ ap (λ j. rowOf (kindOf j)) ek
 
-pub field-test : (bs : List ℕ) (n k i c x : ℕ) (r : Bool) → fieldOf c ≡ getD (fieldsIf (kindOf k)) i unused →
-    x ≡ getD (fieldWords (nodeAt (tableOf bs .nodes) n)) i 0 → r ≡ fieldGood (tableOf bs) n (fieldOf c) x → r ≡ fieldTest bs n k i
-field-test bs n k i c x r ec ex er = er ∙ ap₂ (fieldGood (tableOf bs) n) ec ex
+pub code-read : (bs : List ℕ) (n row i c : ℕ) → row ≡ rowAt bs n → DigitOf row i c → fieldOf c ≡ holdsAt bs n i
+code-read bs n row i c er ec = ec (kindAt (tableOf bs .nodes) n) er
+
+-- The test of field i of node n.
+abbrev pub fieldTest : List ℕ → ℕ → ℕ → Bool
+fieldTest bs n i = fieldGood (tableOf bs) n (holdsAt bs n i) (fieldAt bs n i)
+
+pub field-test : (bs : List ℕ) (n row i c x : ℕ) (r : Bool) → row ≡ rowAt bs n → DigitOf row i c →
+    x ≡ fieldAt bs n i → r ≡ fieldGood (tableOf bs) n (fieldOf c) x → r ≡ fieldTest bs n i
+field-test bs n row i c x r e ec ex er = er ∙ ap₂ (fieldGood (tableOf bs) n) (code-read bs n row i c e ec) ex
 
 -- Refusal 6 at one node: the two ways out of `node_is_good`.
 module _ (bs : List ℕ) (n k m : ℕ) (ek : k ≡ nodeAt (tableOf bs .nodes) n .kind) (em : m ≡ categoryCode (kindOf k)) where
@@ -166,10 +173,11 @@ module _ (bs : List ℕ) (n k m : ℕ) (ek : k ≡ nodeAt (tableOf bs .nodes) n 
   unfolding nodeGood
   node-unknown e = rw (← ek, unknown-code (kindOf k) (sym em ∙ e))
 
-  pub node-read : (m ≡ 0 → ⊥) → (a b c d e : Bool) → a ≡ fieldTest bs n k 0 → b ≡ fieldTest bs n k 1 → c ≡ fieldTest bs n k 2 →
+  pub node-read : (m ≡ 0 → ⊥) → (a b c d e : Bool) → a ≡ fieldTest bs n 0 → b ≡ fieldTest bs n 1 → c ≡ fieldTest bs n 2 →
       d ≡ (a && b) → e ≡ (d && c) → e ≡ nodeGood (tableOf bs) n
   unfolding nodeGood
   node-read h a b c d e ea eb ec ed ee =
       let w = nodeAt (tableOf bs .nodes) n in
-      let all : (a && b && c) ≡ (fieldTest bs n k 0 && fieldTest bs n k 1 && fieldTest bs n k 2) = cc in
-      ee ∙ ap (λ o. o && c) ed ∙ all ∙ rw (← ek) (fields-known (tableOf bs) n (kindOf k) (w .a) (w .b) (w .c) (λ z. h (em ∙ z)))
+      let all : (a && b && c) ≡ (fieldTest bs n 0 && fieldTest bs n 1 && fieldTest bs n 2) = cc in
+      ee ∙ ap (λ o. o && c) ed ∙ all ∙
+      fields-known (tableOf bs) n (kindOf (w .kind)) (w .a) (w .b) (w .c) (λ z. h (em ∙ ap (λ j. categoryCode (kindOf j)) ek ∙ z))

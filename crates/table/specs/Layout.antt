@@ -1,14 +1,15 @@
 -- What a function may take for granted once earlier refusals have passed, and what its arrays hold.
-use Prim.Native.Nat.{ℕ, zero, suc, _+_, _≤_, _<_}
+use Prim.Native.Nat.{ℕ, _+_, _<_}
 use mathlib.Core.Bool.{Bool, true, false, cond}
 use mathlib.Core.List.{List}
 use mathlib.Core.Path.{_≡_}
 use lib.Dec.{eqb}
 use lib.ListN.{length, getD, take}
 use Rattle.rules.specs.Kinds.{Field, unused, isChild, isBinder}
-use Rattle.rules.specs.Tables.{Table, tableOf, nodeAt, fieldsAt, fieldWords, heldIn, nodeCount, nodesAt}
+use Rattle.rules.specs.Tables.{tableOf, nodeAt, kindAt, fieldsAt, fieldWords, heldIn, nodeCount, nodesAt}
 use Rattle.rules.specs.Reading.{occurrences, height, occursFree}
 use Rattle.rules.specs.Readable.{Header, NodeRight}
+use Rattle.table.specs.Codes.{rowOf}
 
 -- The header is right and the nodes begin at the offset.
 pub record Laid (bs : List ℕ) (at : ℕ) : Type 0 where
@@ -46,9 +47,15 @@ abbrev pub sortOf : Bool → Field → Bool
 sortOf true f = isBinder f
 sortOf false f = isChild f
 
--- Whether field i of node n is of the sort, and the word in it.
+-- The row of node n's kind, what field i of the node holds, whether that is of the sort, and the word in it.
+abbrev pub rowAt : List ℕ → ℕ → ℕ
+rowAt bs n = rowOf (kindAt (tableOf bs .nodes) n)
+
+abbrev pub holdsAt : List ℕ → ℕ → ℕ → Field
+holdsAt bs n i = getD (fieldsAt (nodeAt (tableOf bs .nodes) n)) i unused
+
 abbrev pub countsAt : Bool → List ℕ → ℕ → ℕ → Bool
-countsAt b bs n i = sortOf b (getD (fieldsAt (nodeAt (tableOf bs .nodes) n)) i unused)
+countsAt b bs n i = sortOf b (holdsAt bs n i)
 
 abbrev pub fieldAt : List ℕ → ℕ → ℕ → ℕ
 fieldAt bs n i = getD (fieldWords (nodeAt (tableOf bs .nodes) n)) i 0

@@ -2,24 +2,22 @@
 use crate::bind;
 use crate::both;
 use crate::counts;
+use crate::digit;
 use crate::field;
-use crate::field_code;
 use crate::identifiers;
-use crate::kind;
+use crate::node_row;
 use crate::nodes;
 use crate::tree::count_nodes;
 ghost use mathlib.Core.Path.{_≡_};
 ghost use mathlib.Core.Bool.{_||_};
 ghost use Prim.Native.Nat.{_<_};
-ghost use lib.ListN.{length, getD};
-ghost use Rattle.rules.specs.Kinds.{unused};
-ghost use Rattle.rules.specs.Tables.{tableOf, nodeAt, fieldsAt, lastNode};
+ghost use lib.ListN.{length};
+ghost use Rattle.rules.specs.Tables.{tableOf, nodeAt, lastNode};
 ghost use Rattle.rules.specs.Tables.{identifierCount, nodeCount};
 ghost use Rattle.rules.specs.Ends.{leastFailing};
 ghost use Rattle.rules.specs.Reading.{occursIn, occursStep, occursFree, bindsHere, binders, binding};
 ghost use Rattle.table.specs.Answers.{foundOr};
-ghost use Rattle.table.specs.Codes.{fieldOf};
-ghost use Rattle.table.specs.Layout.{NodeIn, Fielded, FieldIn, fieldAt, flag};
+ghost use Rattle.table.specs.Layout.{NodeIn, Fielded, FieldIn, rowAt, holdsAt, fieldAt, flag};
 
 // One test or the other, as a value with no branch for the caller's proof.
 fn either(a: bool, b: bool) -> bool
@@ -28,40 +26,34 @@ fn either(a: bool, b: bool) -> bool
     a || b
 }
 
-// The code of what a field of a node holds.
-fn holds(table: &[u8], at: usize, n: usize, i: usize) -> u8
-    requires { ⌜ NodeIn (now table) at n × (i < 3) ⌝ }
-    ensures { λ r. ⌜ fieldOf r ≡ getD (fieldsAt (nodeAt (tableOf (now (table .entry)) .nodes) n)) i unused ⌝ }
-{
-    field_code(kind(table, at, n), i)
-}
-
-// Whether node n binds x. Only the first field of a kind binds.
-fn binds(table: &[u8], at: usize, n: usize, x: usize) -> bool
-    requires { ⌜ NodeIn (now table) at n ⌝ }
+// Whether node n, whose kind has the row, binds x. Only the first field of a kind binds.
+fn binds(table: &[u8], at: usize, n: usize, row: u16, x: usize) -> bool
+    requires { ⌜ NodeIn (now table) at n × (row ≡ rowAt (now table) n) ⌝ }
     ensures { λ r. ⌜ r ≡ bindsHere x (nodeAt (tableOf (now (table .entry)) .nodes) n) ⌝ }
 {
-    if counts(holds(table, at, n, 0), true) {
+    if counts(digit(row, 0), true) {
         return x == field(table, at, n, 0);
     }
     false
 }
 
-// Whether a field of node n makes x occur free; `here` tells that the node binds x, `occurs` where x occurs free below.
+// Whether a field of node n, whose kind has the row, makes x occur free; `here` tells that the node binds x, `occurs`
+// where x occurs free below.
 fn field_occurs(
     table: &[u8],
     at: usize,
     n: usize,
+    row: u16,
     i: usize,
     x: usize,
     here: bool,
     occurs: &[u8],
 ) -> bool
-    requires { ⌜ FieldIn (now table) at n i × (length (now occurs) ≡ 512) ⌝ }
-    ensures { λ r. ⌜ r ≡ occursIn x here (flag (now (occurs .entry))) (getD (fieldsAt (nodeAt (tableOf (now (table .entry)) .nodes) n)) i unused) (fieldAt (now (table .entry)) n i) ⌝ }
+    requires { ⌜ FieldIn (now table) at n i × (length (now occurs) ≡ 512) × (row ≡ rowAt (now table) n) ⌝ }
+    ensures { λ r. ⌜ r ≡ occursIn x here (flag (now (occurs .entry))) (holdsAt (now (table .entry)) n i) (fieldAt (now (table .entry)) n i) ⌝ }
 {
     let y = field(table, at, n, i);
-    let code = holds(table, at, n, i);
+    let code = digit(row, i);
     match code {
         1 | 2 => {
             // A binder binds in its body, a predicate, and not in its range.
@@ -80,10 +72,11 @@ fn node_occurs(table: &[u8], at: usize, n: usize, x: usize, occurs: &[u8]) -> bo
     requires { ⌜ Fielded (now table) at × (n < nodeCount (now table)) × (length (now occurs) ≡ 512) ⌝ }
     ensures { λ r. ⌜ r ≡ occursStep (tableOf (now (table .entry)) .nodes) x (flag (now (occurs .entry))) n ⌝ }
 {
-    let here = binds(table, at, n, x);
-    let a = field_occurs(table, at, n, 0, x, here, occurs);
-    let b = field_occurs(table, at, n, 1, x, here, occurs);
-    let c = field_occurs(table, at, n, 2, x, here, occurs);
+    let row = node_row(table, at, n);
+    let here = binds(table, at, n, row, x);
+    let a = field_occurs(table, at, n, row, 0, x, here, occurs);
+    let b = field_occurs(table, at, n, row, 1, x, here, occurs);
+    let c = field_occurs(table, at, n, row, 2, x, here, occurs);
     either(a, either(b, c))
 }
 

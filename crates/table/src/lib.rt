@@ -4,15 +4,15 @@ ghost use mathlib.Core.Bool.{_&&_};
 ghost use Prim.Native.Nat.{_+_, _<_, _≤_};
 ghost use lib.Dec.{eqb, ltb};
 ghost use lib.ListN.{length, getD};
-ghost use Rattle.rules.specs.Kinds.{kindOf, unused};
-ghost use Rattle.rules.specs.Tables.{wordAt, tableOf, nodeAt, fieldsIf, fieldWords};
+ghost use Rattle.rules.specs.Kinds.{kindOf};
+ghost use Rattle.rules.specs.Tables.{wordAt, tableOf, nodeAt, fieldWords};
 ghost use Rattle.rules.specs.Tables.{givenCount, identifierCount, nodeCount, nodesAt, lastNode};
 ghost use Rattle.rules.specs.Ends.{leastFailing};
 ghost use Rattle.rules.specs.Readable.{Header, Readable};
 ghost use Rattle.rules.specs.Reading.{reading, headed, limited, laidOut, sizeGood, bindGood, nodeGood, fieldGood, height};
 ghost use Rattle.table.specs.Answers.{readingOf, readingRecords, readingTree, foundOr};
-ghost use Rattle.table.specs.Codes.{fieldOf, categoryCode};
-ghost use Rattle.table.specs.Layout.{Laid, NodeIn, Fielded, sortOf, WordOf};
+ghost use Rattle.table.specs.Codes.{fieldOf, rowOf, DigitOf, categoryCode};
+ghost use Rattle.table.specs.Layout.{Laid, NodeIn, Fielded, rowAt, holdsAt, fieldAt, sortOf, WordOf};
 
 mod binding;
 mod tree;
@@ -28,141 +28,53 @@ pub enum Reading {
     Refused(Refusal),
 }
 
-// What each of the three fields of a kind holds, three entries a kind code: 0 nothing, 1 a predicate, 2 an expression,
+// What the fields a, b and c of each kind code hold, a hexadecimal digit each: 0 nothing, 1 a predicate, 2 an expression,
 // 3 an identifier used, 4 an identifier bound, 5 a given set, 6 an element of that given set, 7 any word, 8 a truth.
-const FIELDS: [u8; 132] = [
-    0,
-    0,
-    0, // kind 0
-    1,
-    1,
-    0, // kind 1
-    1,
-    1,
-    0, // kind 2
-    1,
-    1,
-    0, // kind 3
-    1,
-    0,
-    0, // kind 4
-    1,
-    1,
-    0, // kind 5
-    2,
-    2,
-    0, // kind 6
-    2,
-    2,
-    0, // kind 7
-    2,
-    2,
-    0, // kind 8
-    2,
-    2,
-    0, // kind 9
-    4,
-    2,
-    1, // kind 10
-    4,
-    2,
-    1, // kind 11
-    0,
-    0,
-    0, // kind 12
-    0,
-    0,
-    0, // kind 13
-    0,
-    0,
-    0, // kind 14
-    0,
-    0,
-    0, // kind 15
-    0,
-    0,
-    0, // kind 16
-    0,
-    0,
-    0, // kind 17
-    0,
-    0,
-    0, // kind 18
-    0,
-    0,
-    0, // kind 19
-    3,
-    0,
-    0, // kind 20
-    5,
-    0,
-    0, // kind 21
-    5,
-    6,
-    0, // kind 22
-    7,
-    0,
-    0, // kind 23
-    8,
-    0,
-    0, // kind 24
-    1,
-    0,
-    0, // kind 25
-    0,
-    0,
-    0, // kind 26
-    2,
-    0,
-    0, // kind 27
-    2,
-    2,
-    0, // kind 28
-    2,
-    2,
-    0, // kind 29
-    2,
-    2,
-    0, // kind 30
-    2,
-    2,
-    0, // kind 31
-    2,
-    2,
-    0, // kind 32
-    2,
-    0,
-    0, // kind 33
-    4,
-    2,
-    1, // kind 34
-    2,
-    0,
-    0, // kind 35
-    2,
-    0,
-    0, // kind 36
-    2,
-    2,
-    0, // kind 37
-    2,
-    0,
-    0, // kind 38
-    2,
-    2,
-    0, // kind 39
-    2,
-    2,
-    0, // kind 40
-    2,
-    2,
-    0, // kind 41
-    0,
-    0,
-    0, // kind 42
-    2,
-    0,
-    0, // kind 43
+const FIELDS: [u16; 44] = [
+    0x000, // 0 unknown
+    0x110, // 1 ∧: a predicate, a predicate
+    0x110, // 2 ∨: a predicate, a predicate
+    0x110, // 3 ⇒: a predicate, a predicate
+    0x100, // 4 ¬: a predicate
+    0x110, // 5 ⇔: a predicate, a predicate
+    0x220, // 6 =: an expression, an expression
+    0x220, // 7 ∈: an expression, an expression
+    0x220, // 8 ⊆: an expression, an expression
+    0x220, // 9 ≤: an expression, an expression
+    0x421, // 10 ∀: an identifier bound, an expression, a predicate
+    0x421, // 11 ∃: an identifier bound, an expression, a predicate
+    0x000, // 12 unknown
+    0x000, // 13 unknown
+    0x000, // 14 unknown
+    0x000, // 15 unknown
+    0x000, // 16 unknown
+    0x000, // 17 unknown
+    0x000, // 18 unknown
+    0x000, // 19 unknown
+    0x300, // 20 identifier: an identifier used
+    0x500, // 21 given set: a given set
+    0x560, // 22 element: a given set, an element of it
+    0x700, // 23 integer: any word
+    0x800, // 24 truth constant: a truth
+    0x100, // 25 bool(p): a predicate
+    0x000, // 26 ∅
+    0x200, // 27 {e}: an expression
+    0x220, // 28 pair: an expression, an expression
+    0x220, // 29 ∪: an expression, an expression
+    0x220, // 30 ∩: an expression, an expression
+    0x220, // 31 difference of sets: an expression, an expression
+    0x220, // 32 product: an expression, an expression
+    0x200, // 33 power: an expression
+    0x421, // 34 comprehension: an identifier bound, an expression, a predicate
+    0x200, // 35 dom: an expression
+    0x200, // 36 ran: an expression
+    0x220, // 37 application: an expression, an expression
+    0x200, // 38 card: an expression
+    0x220, // 39 sum: an expression, an expression
+    0x220, // 40 difference: an expression, an expression
+    0x220, // 41 interval: an expression, an expression
+    0x000, // 42 the set BOOL
+    0x200, // 43 choice: an expression
 ];
 
 fn wide(x: u8) -> usize
@@ -300,15 +212,34 @@ pub fn category(kind: usize) -> u8
     }
 }
 
-// The code of what a field holds; 0 where the kind is unknown.
-pub fn field_code(kind: usize, i: usize) -> u8
-    requires { ⌜ i < 3 ⌝ }
-    ensures { λ r. ⌜ fieldOf r ≡ getD (fieldsIf (kindOf kind)) i unused ⌝ }
+// The row of a kind in the table; 0 where the kind is unknown.
+fn field_codes(kind: usize) -> u16
+    ensures { λ r. ⌜ r ≡ rowOf (kindOf kind) ⌝ }
 {
     if 44 <= kind {
         return 0;
     }
-    FIELDS[3 * kind + i]
+    FIELDS[kind]
+}
+
+// The code of what field i holds, from the row of a kind.
+fn digit(row: u16, i: usize) -> u8
+    requires { ⌜ i < 3 ⌝ }
+    ensures { λ r. ⌜ DigitOf row i r ⌝ }
+{
+    match i {
+        0 => (row / 256) as u8,
+        1 => (row / 16 % 16) as u8,
+        _ => (row % 16) as u8,
+    }
+}
+
+// The row of a node's kind. A constant table is made anew where it is read, so a node's row is read once.
+fn node_row(table: &[u8], at: usize, n: usize) -> u16
+    requires { ⌜ NodeIn (now table) at n ⌝ }
+    ensures { λ r. ⌜ r ≡ rowAt (now (table .entry)) n ⌝ }
+{
+    field_codes(kind(table, at, n))
 }
 
 // Whether x is a node below n of a category.
@@ -338,12 +269,12 @@ fn field_is_good(table: &[u8], at: usize, n: usize, code: u8, x: usize) -> bool
     }
 }
 
-// Whether field i of node n, whose kind has the code k, holds its word rightly.
-fn field_at_is_good(table: &[u8], at: usize, n: usize, k: usize, i: usize) -> bool
-    requires { ⌜ NodeIn (now table) at n × (i < 3) ⌝ }
-    ensures { λ r. ⌜ r ≡ fieldGood (tableOf (now (table .entry))) n (getD (fieldsIf (kindOf k)) i unused) (getD (fieldWords (nodeAt (tableOf (now (table .entry)) .nodes) n)) i 0) ⌝ }
+// Whether field i of node n, whose kind has the row, holds its word rightly.
+fn field_at_is_good(table: &[u8], at: usize, n: usize, row: u16, i: usize) -> bool
+    requires { ⌜ NodeIn (now table) at n × (i < 3) × (row ≡ rowAt (now table) n) ⌝ }
+    ensures { λ r. ⌜ r ≡ fieldGood (tableOf (now (table .entry))) n (holdsAt (now (table .entry)) n i) (fieldAt (now (table .entry)) n i) ⌝ }
 {
-    field_is_good(table, at, n, field_code(k, i), field(table, at, n, i))
+    field_is_good(table, at, n, digit(row, i), field(table, at, n, i))
 }
 
 // Refusal 6 at one node.
@@ -355,9 +286,10 @@ fn node_is_good(table: &[u8], at: usize, n: usize) -> bool
     if category(k) == 0 {
         return false;
     }
-    let a = field_at_is_good(table, at, n, k, 0);
-    let b = field_at_is_good(table, at, n, k, 1);
-    let c = field_at_is_good(table, at, n, k, 2);
+    let row = field_codes(k);
+    let a = field_at_is_good(table, at, n, row, 0);
+    let b = field_at_is_good(table, at, n, row, 1);
+    let c = field_at_is_good(table, at, n, row, 2);
     both(both(a, b), c)
 }
 

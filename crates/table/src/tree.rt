@@ -8,12 +8,13 @@ ghost use Rattle.rules.specs.Tables.{tableOf, nodeAt, held, heldIn, nodeCount};
 ghost use Rattle.rules.specs.Ends.{leastFailing};
 ghost use Rattle.rules.specs.Reading.{parentGood, heightGood, occurrences, tallest};
 ghost use Rattle.table.specs.Answers.{foundOr};
-ghost use Rattle.table.specs.Layout.{NodeIn, Fielded, FieldIn, Room, BumpPre, Bumped, countsAt, fieldAt, Counted, Heights};
+ghost use Rattle.table.specs.Layout.{NodeIn, Fielded, FieldIn, Room, BumpPre, Bumped, rowAt, countsAt, fieldAt, Counted, Heights};
 use super::category;
 use super::counts;
+use super::digit;
 use super::field;
-use super::field_code;
 use super::kind;
+use super::node_row;
 use super::nodes;
 
 // Adds 1 to the count at x if the field counts.
@@ -27,12 +28,20 @@ fn bump(counted: &mut [u16], hit: bool, x: usize)
     counted[i] = c + d;
 }
 
-// Counts field i of a node.
-fn count_field(table: &[u8], at: usize, n: usize, i: usize, counted: &mut [u16], binders: bool)
-    requires { ⌜ FieldIn (now table) at n i × (length (now counted) ≡ 512) × Room (now counted) ⌝ }
+// Counts field i of a node whose kind has the row.
+fn count_field(
+    table: &[u8],
+    at: usize,
+    n: usize,
+    row: u16,
+    i: usize,
+    counted: &mut [u16],
+    binders: bool,
+)
+    requires { ⌜ FieldIn (now table) at n i × (length (now counted) ≡ 512) × Room (now counted) × (row ≡ rowAt (now table) n) ⌝ }
     ensures { λ _. ⌜ Bumped (now (counted .entry)) (countsAt binders (now (table .entry)) n i) (fieldAt (now (table .entry)) n i) (now (counted .exit)) ⌝ }
 {
-    let hit = counts(field_code(kind(table, at, n), i), binders);
+    let hit = counts(digit(row, i), binders);
     bump(counted, hit, field(table, at, n, i));
 }
 
@@ -41,9 +50,10 @@ fn count_node(table: &[u8], at: usize, n: usize, counted: &mut [u16], binders: b
     requires { ⌜ Fielded (now table) at × (n < nodeCount (now table)) × (length (now counted) ≡ 512) × Counted binders (now table) n (now counted) ⌝ }
     ensures { λ _. ⌜ Counted binders (now (table .entry)) (n + 1) (now (counted .exit)) ⌝ }
 {
-    count_field(table, at, n, 0, counted, binders);
-    count_field(table, at, n, 1, counted, binders);
-    count_field(table, at, n, 2, counted, binders);
+    let row = node_row(table, at, n);
+    count_field(table, at, n, row, 0, counted, binders);
+    count_field(table, at, n, row, 1, counted, binders);
+    count_field(table, at, n, row, 2, counted, binders);
 }
 
 // How often each number stands in the fields of a sort.
@@ -95,12 +105,12 @@ fn larger(a: u8, b: u8) -> u8
     if a < b { b } else { a }
 }
 
-// The height of the child in field i, or 0 where the field holds none.
-fn child_height(table: &[u8], at: usize, n: usize, i: usize, heights: &[u8]) -> u8
-    requires { ⌜ FieldIn (now table) at n i × (length (now heights) ≡ 512) ⌝ }
+// The height of the child in field i of a node whose kind has the row, or 0 where the field holds none.
+fn child_height(table: &[u8], at: usize, n: usize, row: u16, i: usize, heights: &[u8]) -> u8
+    requires { ⌜ FieldIn (now table) at n i × (length (now heights) ≡ 512) × (row ≡ rowAt (now table) n) ⌝ }
     ensures { λ r. ⌜ r ≡ cond (countsAt false (now (table .entry)) n i) (getD (now (heights .entry)) (fieldAt (now (table .entry)) n i) 0) 0 ⌝ }
 {
-    if counts(field_code(kind(table, at, n), i), false) {
+    if counts(digit(row, i), false) {
         return heights[field(table, at, n, i)];
     }
     0
@@ -111,9 +121,10 @@ fn tallest_child(table: &[u8], at: usize, n: usize, heights: &[u8]) -> u8
     requires { ⌜ Fielded (now table) at × (n < nodeCount (now table)) × (length (now heights) ≡ 512) ⌝ }
     ensures { λ r. ⌜ r ≡ tallest (λ m. getD (now (heights .entry)) m 0) (held isChild (nodeAt (tableOf (now (table .entry)) .nodes) n)) ⌝ }
 {
-    let a = child_height(table, at, n, 0, heights);
-    let b = child_height(table, at, n, 1, heights);
-    let c = child_height(table, at, n, 2, heights);
+    let row = node_row(table, at, n);
+    let a = child_height(table, at, n, row, 0, heights);
+    let b = child_height(table, at, n, row, 1, heights);
+    let c = child_height(table, at, n, row, 2, heights);
     larger(a, larger(b, c))
 }
 

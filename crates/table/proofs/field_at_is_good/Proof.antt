@@ -4,8 +4,8 @@ use Rattle.table.proofs.Fields.{field-test}
 use Rattle.table.proofs.field_at_is_good.Statement.{statement}
 use Rattle.table.proofs.field_at_is_good.Tie as tie
 
-field-code-requires : tie.Need-field-code-requires
-field-code-requires c κs = search needs
+digit-requires : tie.Need-digit-requires
+digit-requires c κs = search needs
 
 field-requires : tie.Need-field-requires
 field-requires c κs = search needs
@@ -15,10 +15,11 @@ field-is-good-requires c κs = search needs
 
 returns : tie.Need-returns
 returns c =
-    let s = c .before .before .before .before .args in
-    let f = c .before .before .field-code in
-    field-test (s .table .now) (s .n) (s .k) (s .i) (f .result) _ _ (f .ensures) (c .before .field .ensures) (c .field-is-good .ensures)
+    let s = c .before .before .before .before in
+    let f = c .before .before .digit in
+    field-test (s .args .table .now) (s .args .n) (s .args .row) (s .args .i) (f .result) _ _ (s .pre .2) (f .ensures)
+    (c .before .field .ensures) (c .field-is-good .ensures)
 
 pub field-at-is-good-spec : {M : Type 1} → statement M
 field-at-is-good-spec =
-    tie.close (tie.spec field-code-requires field-requires field-is-good-requires returns)
+    tie.close (tie.spec digit-requires field-requires field-is-good-requires returns)

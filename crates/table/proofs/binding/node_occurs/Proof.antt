@@ -4,6 +4,9 @@ use borrow.Author.Needs.{needs}
 use Rattle.table.proofs.binding.node_occurs.Statement.{statement}
 use Rattle.table.proofs.binding.node_occurs.Tie as tie
 
+node-row-requires : tie.Need-node-row-requires
+node-row-requires c κs = search needs
+
 binds-requires : tie.Need-binds-requires
 binds-requires c κs = search needs
 
@@ -31,6 +34,7 @@ pub node-occurs-spec : {M : Type 1} → statement M
 node-occurs-spec =
     tie.close
     (tie.spec
+    node-row-requires
     binds-requires
     field-occurs-requires
     field-occurs-requires-2

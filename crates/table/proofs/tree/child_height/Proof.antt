@@ -10,18 +10,15 @@ use Rattle.table.proofs.tree.child_height.Statement.{statement}
 use Rattle.table.proofs.tree.child_height.Tie as tie
 
 abbrev start : tie.After-counts → tie.Start
-start c = c .before .before .before .before .before
+start c = c .before .before .before .before
 
 hit : (c : tie.After-counts) → c .counts .result ≡ countsAt false (start c .args .table .now) (start c .args .n) (start c .args .i)
 hit c =
-    counts-read false (start c .args .table .now) (start c .args .n) (start c .args .i) _ (c .before .field-code .result) _
-    (c .before .before .kind .ensures) (c .before .field-code .ensures) (c .counts .ensures)
+    counts-read false (start c .args .table .now) (start c .args .n) (start c .args .i) (start c .args .row) (c .before .digit .result) _
+    (start c .pre .2) (c .before .digit .ensures) (c .counts .ensures)
 
-kind-requires : tie.Need-kind-requires
-kind-requires c κs = search needs
-
-field-code-requires : tie.Need-field-code-requires
-field-code-requires c κs = search needs
+digit-requires : tie.Need-digit-requires
+digit-requires c κs = search needs
 
 counts-requires : tie.Need-counts-requires
 counts-requires c κs = search needs
@@ -52,8 +49,7 @@ pub child-height-spec : {M : Type 1} → statement M
 child-height-spec =
     tie.close
     (tie.spec
-    kind-requires
-    field-code-requires
+    digit-requires
     counts-requires
     field-requires
     shared-slice-read-result

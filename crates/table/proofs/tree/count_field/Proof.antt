@@ -6,19 +6,16 @@ use Rattle.table.proofs.tree.count_field.Statement.{statement}
 use Rattle.table.proofs.tree.count_field.Tie as tie
 
 abbrev start : tie.After-field → tie.Start
-start c = c .before .before .before .before .before .before .before
+start c = c .before .before .before .before .before .before
 
 hit : (c : tie.After-field) → c .before .before .counts .result ≡ countsAt (start c .args .binders) (start c .args .table .now) (start c .args .n) (start c .args .i)
 hit c =
-    let r = c .before .before .before in
-    counts-read (start c .args .binders) (start c .args .table .now) (start c .args .n) (start c .args .i) _ (r .field-code .result) _
-    (r .before .kind .ensures) (r .field-code .ensures) (c .before .before .counts .ensures)
+    let r = c .before .before .before .digit in
+    counts-read (start c .args .binders) (start c .args .table .now) (start c .args .n) (start c .args .i) (start c .args .row) (r .result) _
+    (start c .pre .3) (r .ensures) (c .before .before .counts .ensures)
 
-kind-requires : tie.Need-kind-requires
-kind-requires c κs = search needs
-
-field-code-requires : tie.Need-field-code-requires
-field-code-requires c κs = search needs
+digit-requires : tie.Need-digit-requires
+digit-requires c κs = search needs
 
 counts-requires : tie.Need-counts-requires
 counts-requires c κs = search needs
@@ -46,8 +43,7 @@ pub count-field-spec : {M : Type 1} → statement M
 count-field-spec =
     tie.close
     (tie.spec
-    kind-requires
-    field-code-requires
+    digit-requires
     counts-requires
     field-requires
     bump-requires

@@ -5,6 +5,9 @@ use borrow.Author.Needs.{needs}
 use Rattle.table.proofs.tree.tallest_child.Statement.{statement}
 use Rattle.table.proofs.tree.tallest_child.Tie as tie
 
+node-row-requires : tie.Need-node-row-requires
+node-row-requires c κs = search needs
+
 child-height-requires : tie.Need-child-height-requires
 child-height-requires c κs = search needs
 
@@ -23,7 +26,7 @@ larger-requires-2 c κs = search needs
 returns : tie.Need-returns
 returns c =
     let b = c .before .before in
-    let s = b .before .before .before .before .before in
+    let s = b .before .before .before .before .before .before in
     tallest-held (λ (m : ℕ). getD (s .args .heights .now) m 0) (s .args .table .now) (s .args .n)
     (b .before .before .child-height .result) (b .before .child-height2 .result) (b .child-height3 .result) (c .before .larger .result) (c .larger2 .result)
     (b .before .before .child-height .ensures) (b .before .child-height2 .ensures) (b .child-height3 .ensures) (c .before .larger .ensures) (c .larger2 .ensures)
@@ -32,6 +35,7 @@ pub tallest-child-spec : {M : Type 1} → statement M
 tallest-child-spec =
     tie.close
     (tie.spec
+    node-row-requires
     child-height-requires
     child-height-requires-2
     child-height-requires-3
