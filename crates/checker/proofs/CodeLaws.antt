@@ -1,92 +1,19 @@
--- The constant table of the code holds the digits of the kinds' plans.
-use Prim.Native.Nat.{ℕ, zero, suc, _+_, _*_, _%_, _≤_, _<_, min}
+-- The digits of the kinds' plans.
+use Prim.Native.Nat.{ℕ, zero, suc, _+_, _*_, _%_, _≤_, _<_}
 use mathlib.Core.List.{List, [], _∷_, map}
+use mathlib.Core.Logic.{_≢_}
 use mathlib.Core.Option.{Option, none as nothing}
 use mathlib.Core.Path.{_≡_, refl, sym, ap, _∙_}
 use native.Mathlib.Omega.{arith}
-use lib.ListN.{length, getD, List·getD-map, List·getD-eq-default}
+use lib.ListN.{length, getD, set, List·getD-map}
+use lib.Seq.{getD-set-other}
 use Rattle.rules.specs.Kinds.{Kind, kinds, kindOf}
 use Rattle.rules.specs.Types.{number, bool, given}
 use Rattle.checker.specs.Plan.{Form, openᶠ, atomᶠ, powᶠ, prodᶠ, Plan}
 use Rattle.checker.specs.Codes.{refCode, formKind, formLeft, formRight, formsOf, formAt, pairAt, digits, CodeOf, Digits}
 use Rattle.checker.specs.Equations.{planOf}
 use Rattle.checker.specs.Entries.{side}
-use Rattle.checker.proofs.RefLaws.{few-slots}
-
--- The table's rows.
-abbrev pub rows : List (List ℕ)
-rows =
-    (48 ∷ 48 ∷ 48 ∷ 48 ∷ 48 ∷ 48 ∷ 48 ∷ 48 ∷ 48 ∷ 48 ∷ 48 ∷ 48 ∷ 48 ∷ 48 ∷ 48 ∷ 48 ∷ 48 ∷ 48 ∷ 48 ∷ 48 ∷ 48 ∷ 48 ∷ 48 ∷ 48 ∷ []) ∷
-    (48 ∷ 48 ∷ 48 ∷ 48 ∷ 48 ∷ 48 ∷ 48 ∷ 48 ∷ 48 ∷ 48 ∷ 48 ∷ 48 ∷ 48 ∷ 48 ∷ 48 ∷ 48 ∷ 48 ∷ 48 ∷ 48 ∷ 48 ∷ 48 ∷ 48 ∷ 48 ∷ 48 ∷ []) ∷
-    (48 ∷ 48 ∷ 48 ∷ 48 ∷ 48 ∷ 48 ∷ 48 ∷ 48 ∷ 48 ∷ 48 ∷ 48 ∷ 48 ∷ 48 ∷ 48 ∷ 48 ∷ 48 ∷ 48 ∷ 48 ∷ 48 ∷ 48 ∷ 48 ∷ 48 ∷ 48 ∷ 48 ∷ []) ∷
-    (48 ∷ 48 ∷ 48 ∷ 48 ∷ 48 ∷ 48 ∷ 48 ∷ 48 ∷ 48 ∷ 48 ∷ 48 ∷ 48 ∷ 48 ∷ 48 ∷ 48 ∷ 48 ∷ 48 ∷ 48 ∷ 48 ∷ 48 ∷ 48 ∷ 48 ∷ 48 ∷ 48 ∷ []) ∷
-    (48 ∷ 48 ∷ 48 ∷ 48 ∷ 48 ∷ 48 ∷ 48 ∷ 48 ∷ 48 ∷ 48 ∷ 48 ∷ 48 ∷ 48 ∷ 48 ∷ 48 ∷ 48 ∷ 48 ∷ 48 ∷ 48 ∷ 48 ∷ 48 ∷ 48 ∷ 48 ∷ 48 ∷ []) ∷
-    (48 ∷ 48 ∷ 48 ∷ 48 ∷ 48 ∷ 48 ∷ 48 ∷ 48 ∷ 48 ∷ 48 ∷ 48 ∷ 48 ∷ 48 ∷ 48 ∷ 48 ∷ 48 ∷ 48 ∷ 48 ∷ 48 ∷ 48 ∷ 48 ∷ 48 ∷ 48 ∷ 48 ∷ []) ∷
-    (48 ∷ 48 ∷ 48 ∷ 48 ∷ 48 ∷ 48 ∷ 48 ∷ 48 ∷ 48 ∷ 48 ∷ 48 ∷ 48 ∷ 48 ∷ 48 ∷ 48 ∷ 48 ∷ 48 ∷ 48 ∷ 48 ∷ 49 ∷ 49 ∷ 50 ∷ 48 ∷ 48 ∷ []) ∷
-    (49 ∷ 48 ∷ 48 ∷ 48 ∷ 50 ∷ 49 ∷ 48 ∷ 48 ∷ 48 ∷ 48 ∷ 48 ∷ 48 ∷ 48 ∷ 48 ∷ 48 ∷ 48 ∷ 48 ∷ 48 ∷ 48 ∷ 49 ∷ 50 ∷ 52 ∷ 48 ∷ 48 ∷ []) ∷
-    (50 ∷ 48 ∷ 48 ∷ 48 ∷ 48 ∷ 48 ∷ 48 ∷ 50 ∷ 52 ∷ 48 ∷ 48 ∷ 48 ∷ 48 ∷ 48 ∷ 48 ∷ 48 ∷ 48 ∷ 48 ∷ 48 ∷ 50 ∷ 49 ∷ 53 ∷ 50 ∷ 53 ∷ []) ∷
-    (49 ∷ 48 ∷ 48 ∷ 48 ∷ 49 ∷ 49 ∷ 48 ∷ 48 ∷ 48 ∷ 48 ∷ 48 ∷ 48 ∷ 48 ∷ 48 ∷ 48 ∷ 48 ∷ 48 ∷ 48 ∷ 48 ∷ 50 ∷ 49 ∷ 52 ∷ 50 ∷ 52 ∷ []) ∷
-    (49 ∷ 48 ∷ 48 ∷ 48 ∷ 50 ∷ 51 ∷ 48 ∷ 48 ∷ 48 ∷ 48 ∷ 48 ∷ 48 ∷ 48 ∷ 48 ∷ 48 ∷ 48 ∷ 48 ∷ 48 ∷ 48 ∷ 49 ∷ 50 ∷ 52 ∷ 48 ∷ 48 ∷ []) ∷
-    (49 ∷ 48 ∷ 48 ∷ 48 ∷ 50 ∷ 51 ∷ 48 ∷ 48 ∷ 48 ∷ 48 ∷ 48 ∷ 48 ∷ 48 ∷ 48 ∷ 48 ∷ 48 ∷ 48 ∷ 48 ∷ 48 ∷ 49 ∷ 50 ∷ 52 ∷ 48 ∷ 48 ∷ []) ∷
-    (48 ∷ 48 ∷ 48 ∷ 48 ∷ 48 ∷ 48 ∷ 48 ∷ 48 ∷ 48 ∷ 48 ∷ 48 ∷ 48 ∷ 48 ∷ 48 ∷ 48 ∷ 48 ∷ 48 ∷ 48 ∷ 48 ∷ 48 ∷ 48 ∷ 48 ∷ 48 ∷ 48 ∷ []) ∷
-    (48 ∷ 48 ∷ 48 ∷ 48 ∷ 48 ∷ 48 ∷ 48 ∷ 48 ∷ 48 ∷ 48 ∷ 48 ∷ 48 ∷ 48 ∷ 48 ∷ 48 ∷ 48 ∷ 48 ∷ 48 ∷ 48 ∷ 48 ∷ 48 ∷ 48 ∷ 48 ∷ 48 ∷ []) ∷
-    (48 ∷ 48 ∷ 48 ∷ 48 ∷ 48 ∷ 48 ∷ 48 ∷ 48 ∷ 48 ∷ 48 ∷ 48 ∷ 48 ∷ 48 ∷ 48 ∷ 48 ∷ 48 ∷ 48 ∷ 48 ∷ 48 ∷ 48 ∷ 48 ∷ 48 ∷ 48 ∷ 48 ∷ []) ∷
-    (48 ∷ 48 ∷ 48 ∷ 48 ∷ 48 ∷ 48 ∷ 48 ∷ 48 ∷ 48 ∷ 48 ∷ 48 ∷ 48 ∷ 48 ∷ 48 ∷ 48 ∷ 48 ∷ 48 ∷ 48 ∷ 48 ∷ 48 ∷ 48 ∷ 48 ∷ 48 ∷ 48 ∷ []) ∷
-    (48 ∷ 48 ∷ 48 ∷ 48 ∷ 48 ∷ 48 ∷ 48 ∷ 48 ∷ 48 ∷ 48 ∷ 48 ∷ 48 ∷ 48 ∷ 48 ∷ 48 ∷ 48 ∷ 48 ∷ 48 ∷ 48 ∷ 48 ∷ 48 ∷ 48 ∷ 48 ∷ 48 ∷ []) ∷
-    (48 ∷ 48 ∷ 48 ∷ 48 ∷ 48 ∷ 48 ∷ 48 ∷ 48 ∷ 48 ∷ 48 ∷ 48 ∷ 48 ∷ 48 ∷ 48 ∷ 48 ∷ 48 ∷ 48 ∷ 48 ∷ 48 ∷ 48 ∷ 48 ∷ 48 ∷ 48 ∷ 48 ∷ []) ∷
-    (48 ∷ 48 ∷ 48 ∷ 48 ∷ 48 ∷ 48 ∷ 48 ∷ 48 ∷ 48 ∷ 48 ∷ 48 ∷ 48 ∷ 48 ∷ 48 ∷ 48 ∷ 48 ∷ 48 ∷ 48 ∷ 48 ∷ 48 ∷ 48 ∷ 48 ∷ 48 ∷ 48 ∷ []) ∷
-    (48 ∷ 48 ∷ 48 ∷ 48 ∷ 48 ∷ 48 ∷ 48 ∷ 48 ∷ 48 ∷ 48 ∷ 48 ∷ 48 ∷ 48 ∷ 48 ∷ 48 ∷ 48 ∷ 48 ∷ 48 ∷ 48 ∷ 48 ∷ 48 ∷ 48 ∷ 48 ∷ 48 ∷ []) ∷
-    (48 ∷ 48 ∷ 48 ∷ 48 ∷ 48 ∷ 48 ∷ 48 ∷ 48 ∷ 48 ∷ 48 ∷ 48 ∷ 48 ∷ 48 ∷ 48 ∷ 48 ∷ 48 ∷ 48 ∷ 48 ∷ 48 ∷ 49 ∷ 48 ∷ 51 ∷ 48 ∷ 48 ∷ []) ∷
-    (49 ∷ 50 ∷ 52 ∷ 48 ∷ 49 ∷ 51 ∷ 48 ∷ 48 ∷ 48 ∷ 48 ∷ 48 ∷ 48 ∷ 48 ∷ 48 ∷ 48 ∷ 48 ∷ 48 ∷ 48 ∷ 48 ∷ 48 ∷ 48 ∷ 48 ∷ 48 ∷ 48 ∷ []) ∷
-    (48 ∷ 49 ∷ 51 ∷ 48 ∷ 48 ∷ 48 ∷ 48 ∷ 48 ∷ 48 ∷ 48 ∷ 48 ∷ 48 ∷ 48 ∷ 48 ∷ 48 ∷ 48 ∷ 48 ∷ 48 ∷ 48 ∷ 48 ∷ 48 ∷ 48 ∷ 48 ∷ 48 ∷ []) ∷
-    (48 ∷ 49 ∷ 49 ∷ 48 ∷ 48 ∷ 48 ∷ 48 ∷ 48 ∷ 48 ∷ 48 ∷ 48 ∷ 48 ∷ 48 ∷ 48 ∷ 48 ∷ 48 ∷ 48 ∷ 48 ∷ 48 ∷ 48 ∷ 48 ∷ 48 ∷ 48 ∷ 48 ∷ []) ∷
-    (48 ∷ 49 ∷ 50 ∷ 48 ∷ 48 ∷ 48 ∷ 48 ∷ 48 ∷ 48 ∷ 48 ∷ 48 ∷ 48 ∷ 48 ∷ 48 ∷ 48 ∷ 48 ∷ 48 ∷ 48 ∷ 48 ∷ 48 ∷ 48 ∷ 48 ∷ 48 ∷ 48 ∷ []) ∷
-    (48 ∷ 49 ∷ 50 ∷ 48 ∷ 48 ∷ 48 ∷ 48 ∷ 48 ∷ 48 ∷ 48 ∷ 48 ∷ 48 ∷ 48 ∷ 48 ∷ 48 ∷ 48 ∷ 48 ∷ 48 ∷ 48 ∷ 48 ∷ 48 ∷ 48 ∷ 48 ∷ 48 ∷ []) ∷
-    (49 ∷ 50 ∷ 52 ∷ 48 ∷ 48 ∷ 48 ∷ 48 ∷ 48 ∷ 48 ∷ 48 ∷ 48 ∷ 48 ∷ 48 ∷ 48 ∷ 48 ∷ 48 ∷ 48 ∷ 48 ∷ 48 ∷ 48 ∷ 48 ∷ 48 ∷ 48 ∷ 48 ∷ []) ∷
-    (48 ∷ 50 ∷ 49 ∷ 48 ∷ 48 ∷ 48 ∷ 48 ∷ 48 ∷ 48 ∷ 48 ∷ 48 ∷ 48 ∷ 48 ∷ 48 ∷ 48 ∷ 48 ∷ 48 ∷ 48 ∷ 48 ∷ 48 ∷ 48 ∷ 48 ∷ 48 ∷ 48 ∷ []) ∷
-    (48 ∷ 51 ∷ 49 ∷ 50 ∷ 48 ∷ 48 ∷ 48 ∷ 48 ∷ 48 ∷ 48 ∷ 48 ∷ 48 ∷ 48 ∷ 48 ∷ 48 ∷ 48 ∷ 48 ∷ 48 ∷ 48 ∷ 48 ∷ 48 ∷ 48 ∷ 48 ∷ 48 ∷ []) ∷
-    (49 ∷ 50 ∷ 52 ∷ 48 ∷ 48 ∷ 48 ∷ 48 ∷ 48 ∷ 48 ∷ 48 ∷ 48 ∷ 48 ∷ 48 ∷ 48 ∷ 48 ∷ 48 ∷ 48 ∷ 48 ∷ 48 ∷ 50 ∷ 49 ∷ 48 ∷ 50 ∷ 48 ∷ []) ∷
-    (49 ∷ 50 ∷ 52 ∷ 48 ∷ 48 ∷ 48 ∷ 48 ∷ 48 ∷ 48 ∷ 48 ∷ 48 ∷ 48 ∷ 48 ∷ 48 ∷ 48 ∷ 48 ∷ 48 ∷ 48 ∷ 48 ∷ 50 ∷ 49 ∷ 48 ∷ 50 ∷ 48 ∷ []) ∷
-    (49 ∷ 50 ∷ 52 ∷ 48 ∷ 48 ∷ 48 ∷ 48 ∷ 48 ∷ 48 ∷ 48 ∷ 48 ∷ 48 ∷ 48 ∷ 48 ∷ 48 ∷ 48 ∷ 48 ∷ 48 ∷ 48 ∷ 50 ∷ 49 ∷ 48 ∷ 50 ∷ 48 ∷ []) ∷
-    (53 ∷ 50 ∷ 54 ∷ 48 ∷ 48 ∷ 48 ∷ 48 ∷ 48 ∷ 48 ∷ 48 ∷ 51 ∷ 52 ∷ 53 ∷ 50 ∷ 52 ∷ 48 ∷ 50 ∷ 53 ∷ 48 ∷ 50 ∷ 49 ∷ 55 ∷ 50 ∷ 56 ∷ []) ∷
-    (50 ∷ 50 ∷ 49 ∷ 48 ∷ 48 ∷ 48 ∷ 48 ∷ 50 ∷ 52 ∷ 48 ∷ 48 ∷ 48 ∷ 48 ∷ 48 ∷ 48 ∷ 48 ∷ 48 ∷ 48 ∷ 48 ∷ 49 ∷ 49 ∷ 53 ∷ 48 ∷ 48 ∷ []) ∷
-    (48 ∷ 50 ∷ 51 ∷ 48 ∷ 48 ∷ 48 ∷ 48 ∷ 48 ∷ 48 ∷ 48 ∷ 48 ∷ 48 ∷ 48 ∷ 48 ∷ 48 ∷ 48 ∷ 48 ∷ 48 ∷ 48 ∷ 49 ∷ 50 ∷ 48 ∷ 48 ∷ 48 ∷ []) ∷
-    (52 ∷ 50 ∷ 52 ∷ 48 ∷ 48 ∷ 48 ∷ 48 ∷ 48 ∷ 48 ∷ 48 ∷ 51 ∷ 52 ∷ 53 ∷ 50 ∷ 54 ∷ 48 ∷ 48 ∷ 48 ∷ 48 ∷ 49 ∷ 49 ∷ 55 ∷ 48 ∷ 48 ∷ []) ∷
-    (52 ∷ 50 ∷ 53 ∷ 48 ∷ 48 ∷ 48 ∷ 48 ∷ 48 ∷ 48 ∷ 48 ∷ 51 ∷ 52 ∷ 53 ∷ 50 ∷ 54 ∷ 48 ∷ 48 ∷ 48 ∷ 48 ∷ 49 ∷ 49 ∷ 55 ∷ 48 ∷ 48 ∷ []) ∷
-    (50 ∷ 48 ∷ 48 ∷ 48 ∷ 51 ∷ 50 ∷ 48 ∷ 50 ∷ 52 ∷ 48 ∷ 48 ∷ 48 ∷ 48 ∷ 48 ∷ 48 ∷ 48 ∷ 48 ∷ 48 ∷ 48 ∷ 49 ∷ 49 ∷ 53 ∷ 48 ∷ 48 ∷ []) ∷
-    (50 ∷ 49 ∷ 49 ∷ 48 ∷ 48 ∷ 48 ∷ 48 ∷ 50 ∷ 52 ∷ 48 ∷ 48 ∷ 48 ∷ 48 ∷ 48 ∷ 48 ∷ 48 ∷ 48 ∷ 48 ∷ 48 ∷ 49 ∷ 49 ∷ 53 ∷ 48 ∷ 48 ∷ []) ∷
-    (48 ∷ 49 ∷ 49 ∷ 48 ∷ 48 ∷ 48 ∷ 48 ∷ 48 ∷ 48 ∷ 48 ∷ 48 ∷ 48 ∷ 48 ∷ 48 ∷ 48 ∷ 48 ∷ 48 ∷ 48 ∷ 48 ∷ 50 ∷ 49 ∷ 48 ∷ 50 ∷ 48 ∷ []) ∷
-    (48 ∷ 49 ∷ 49 ∷ 48 ∷ 48 ∷ 48 ∷ 48 ∷ 48 ∷ 48 ∷ 48 ∷ 48 ∷ 48 ∷ 48 ∷ 48 ∷ 48 ∷ 48 ∷ 48 ∷ 48 ∷ 48 ∷ 50 ∷ 49 ∷ 48 ∷ 50 ∷ 48 ∷ []) ∷
-    (49 ∷ 50 ∷ 52 ∷ 48 ∷ 49 ∷ 49 ∷ 48 ∷ 48 ∷ 48 ∷ 48 ∷ 48 ∷ 48 ∷ 48 ∷ 48 ∷ 48 ∷ 48 ∷ 48 ∷ 48 ∷ 48 ∷ 50 ∷ 49 ∷ 52 ∷ 50 ∷ 52 ∷ []) ∷
-    (49 ∷ 50 ∷ 52 ∷ 48 ∷ 49 ∷ 50 ∷ 48 ∷ 48 ∷ 48 ∷ 48 ∷ 48 ∷ 48 ∷ 48 ∷ 48 ∷ 48 ∷ 48 ∷ 48 ∷ 48 ∷ 48 ∷ 48 ∷ 48 ∷ 48 ∷ 48 ∷ 48 ∷ []) ∷
-    (49 ∷ 48 ∷ 48 ∷ 48 ∷ 50 ∷ 48 ∷ 48 ∷ 48 ∷ 48 ∷ 48 ∷ 48 ∷ 48 ∷ 48 ∷ 48 ∷ 48 ∷ 48 ∷ 48 ∷ 48 ∷ 48 ∷ 49 ∷ 49 ∷ 52 ∷ 48 ∷ 48 ∷ []) ∷
-    []
-
--- The rule of the whole table, by computation.
-table-right : (a : ℕ) → map (map (λ b. b % 16)) rows ≡ map (λ o. digits (planOf o a)) kinds
-unfolding digits
-table-right a = refl
-
-any-default : {A : Type 0} (l : List A) (k : ℕ) (d e : A) → k < length l → getD l k d ≡ getD l k e
-any-default [] k d e h = absurd (omega arith)
-any-default (x ∷ l) zero d e h = refl
-any-default (x ∷ l) (suc k) d e h = any-default l k d e (omega arith)
-
-pub row-known : (k : ℕ) (d : List ℕ) → k < 44 → Digits k (getD rows k d)
-unfolding kindOf
-row-known k d h i l a =
-    sym (List·getD-map (λ b. b % 16) (getD rows k d) i 0) ∙
-    ap (λ (l : List ℕ). getD l i 0)
-    (sym (List·getD-map (map (λ b. b % 16)) rows k d) ∙ ap (λ (l : List (List ℕ)). getD l k (map (λ b. b % 16) d)) (table-right a) ∙
-    any-default (map (λ o. digits (planOf o a)) kinds) k _ (digits (planOf nothing a)) h ∙
-    List·getD-map (λ o. digits (planOf o a)) kinds k nothing)
-
-far-kind : (k : ℕ) → 44 ≤ k → kindOf k ≡ kindOf 0
-unfolding kindOf
-far-kind k h = List·getD-eq-default kinds nothing {n = k} h
-
-pub row-unknown : (k : ℕ) → 44 ≤ k → Digits k (getD rows 0 [])
-row-unknown k h i l a = rw (far-kind k h) (row-known 0 [] (omega arith) i l a)
+use Rattle.checker.proofs.RefLaws.{few-slots, few-equations}
 
 -- What holds of every kind's plan, by computation over the list of kinds.
 by-kinds : {A : Type 0} (f g : Option Kind → A) → f nothing ≡ g nothing → map f kinds ≡ map g kinds → (k : ℕ) →
@@ -95,11 +22,55 @@ unfolding kindOf
 by-kinds f g e h k =
     sym (List·getD-map f kinds k nothing) ∙ ap (λ l. getD l k (f nothing)) h ∙ rw e (List·getD-map g kinds k nothing)
 
--- A plan has at most 2 equations.
-pub few-equations : (k a : ℕ) → length (planOf (kindOf k) a .equations) ≤ 2
-few-equations k a =
-    let e = by-kinds (λ o. length (planOf o a .equations)) (λ o. min 2 (length (planOf o a .equations))) refl refl k in
-    omega arith
+-- The plan of the kind with code n in ASCII digits, which are the same whatever stands in field a.
+abbrev pub ascii : ℕ → List ℕ
+ascii n = map (λ d. 48 + d) (digits (planOf (kindOf n) 0))
+
+ascii-right : (n a : ℕ) → map (λ b. b % 16) (ascii n) ≡ digits (planOf (kindOf n) a)
+unfolding digits
+ascii-right n a = by-kinds (λ o. map (λ b. b % 16) (map (λ d. 48 + d) (digits (planOf o 0)))) (λ o. digits (planOf o a)) refl refl n
+
+-- The kind with code k has the plan of the kind with code n.
+like : (k n : ℕ) → ((a : ℕ) → digits (planOf (kindOf n) a) ≡ digits (planOf (kindOf k) a)) → Digits k (ascii n)
+like k n e i l a = sym (List·getD-map (λ b. b % 16) (ascii n) i 0) ∙ ap (λ (l : List ℕ). getD l i 0) (ascii-right n a ∙ e a)
+
+pub plan-at : (n : ℕ) {k : ℕ} → k ≡ n → Digits k (ascii n)
+plan-at n {k} q = like k n (λ a. ap (λ (m : ℕ). digits (planOf (kindOf m) a)) (sym q))
+
+-- The n codes from f on, the last first, before ns.
+abbrev codesFrom : ℕ → ℕ → List ℕ → List ℕ
+codesFrom f zero ns = ns
+codesFrom f (suc n) ns = (f + n) ∷ codesFrom f n ns
+
+-- The kinds whose rules speak of types.
+abbrev pub typed : List ℕ
+typed = codesFrom 20 24 (codesFrom 6 6 [])
+
+abbrev pub NoneOf : ℕ → List ℕ → Type 0
+NoneOf k [] = Unit {0}
+NoneOf k (n ∷ ns) = NoneOf k ns × (k ≢ n)
+
+-- xs with unknown kinds at the codes ns.
+abbrev without : List ℕ → List (Option Kind) → List (Option Kind)
+without [] xs = xs
+without (n ∷ ns) xs = set (without ns xs) n nothing
+
+without-other : (k : ℕ) (ns : List ℕ) (xs : List (Option Kind)) → NoneOf k ns → getD (without ns xs) k nothing ≡ getD xs k nothing
+without-other k [] xs h = refl
+without-other k (n ∷ ns) xs h = getD-set-other (without ns xs) n k nothing nothing (h .1) ∙ without-other k ns xs (h .0)
+
+-- The other kinds have the plan of an unknown kind, by computation.
+others : (a : ℕ) → map (λ o. digits (planOf nothing a)) kinds ≡ map (λ o. digits (planOf o a)) (without typed kinds)
+unfolding digits
+others a = refl
+
+pub plan-else : (k : ℕ) → NoneOf k typed → Digits k (ascii 0)
+unfolding kindOf
+plan-else k h = like k 0 λ a.
+    sym (List·getD-map (λ (o : Option Kind). digits (planOf nothing a)) kinds k nothing) ∙
+    ap (λ (l : List (List ℕ)). getD l k (digits (planOf nothing a))) (others a) ∙
+    List·getD-map (λ o. digits (planOf o a)) (without typed kinds) k nothing ∙
+    ap (λ o. digits (planOf o a)) (without-other k typed kinds h)
 
 -- The given sets in a plan are the one in field a.
 abbrev pub withSet : ℕ → Form → Form
@@ -148,4 +119,4 @@ pub slots-few : (k c : ℕ) → CodeOf k 0 c → c ≤ 5
 slots-few k c e = omega (arith, e 0, slots-digit (planOf (kindOf k) 0), few-slots (kindOf k) 0)
 
 pub equations-few : (k c : ℕ) → CodeOf k 19 c → c ≤ 2
-equations-few k c e = omega (arith, e 0, equations-digit (planOf (kindOf k) 0), few-equations k 0)
+equations-few k c e = omega (arith, e 0, equations-digit (planOf (kindOf k) 0), few-equations (kindOf k) 0)

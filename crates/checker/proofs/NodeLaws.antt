@@ -16,8 +16,8 @@ use Rattle.checker.specs.Codes.{formsOf, formAt, pairAt, CodeOf}
 use Rattle.checker.specs.Equations.{planOf, planAt, slotCount, base, varOf, shapeFrom, eqnFrom, nodeEquations, shapeAt, equations}
 use Rattle.checker.specs.Entries.{varAt, planFor, Stands, FormEntry, Forms, side, Sides, BasesTo, VarsOf, VariablesTo, EquationsTo}
 use Rattle.checker.specs.declared.build.NodeVars.{NodeVars}
-use Rattle.checker.proofs.CodeLaws.{few-equations, own-set, equations-digit}
-use Rattle.checker.proofs.RefLaws.{RefRight, PairsRight, PlanRight, plan-refs}
+use Rattle.checker.proofs.CodeLaws.{own-set, equations-digit}
+use Rattle.checker.proofs.RefLaws.{few-equations, RefRight, PairsRight, PlanRight, plan-refs}
 use Rattle.checker.proofs.VariableLaws.{shape-name, shape-node}
 use Rattle.checker.proofs.ProblemLaws.{form-at}
 use Rattle.checker.proofs.EntryLaws.{var-right, form-entry}
@@ -104,7 +104,7 @@ equations-bound tb (suc k) =
       equations-bound tb k,
       length-append (equations tb k) (nodeEquations tb k),
       length-map (planAt tb k .equations) (eqnFrom (varOf tb k)),
-      few-equations (nodeAt (tb .nodes) k .kind) (nodeAt (tb .nodes) k .a),
+      few-equations (kindAt (tb .nodes) k) (nodeAt (tb .nodes) k .a),
     )
 
 module _ (tb : Table) (n : ℕ) (s : NodeVars) (vars : VarsOf tb n s) where
@@ -173,7 +173,7 @@ module _ (tb : Table) (n : ℕ) (s : NodeVars) (vars : VarsOf tb n s) where
           counts-are = rw e (append-turn counts (λ k. length (equations tb k)) n (m + c) hc whole (q .counts-are));
           equations-are = rw (equations-next tb n)
               (eqns-turn (equations tb n) (nodeEquations tb n) lhs rhs lhs′ rhs′ m _ _ _ _ first-m
-              (omega (arith, own, few-equations (nodeAt (tb .nodes) n .kind) a)) hl hr (rw same-plan at el) (rw same-plan at er)
+              (omega (arith, own, few-equations (kindAt (tb .nodes) n) a)) hl hr (rw same-plan at el) (rw same-plan at er)
               (λ l. pair-entry 0 (omega (arith, own))) (λ l. pair-entry 1 (omega (arith, own))) (q .equations-are));
         }
 

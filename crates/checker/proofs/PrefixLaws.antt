@@ -9,17 +9,17 @@ use native.Mathlib.Omega.{arith}
 use lib.ListN.{getD, length, take, drop, length-append, length-map, List·getD-append}
 use lib.Seq.{getD-take, length-take-le}
 use Rattle.rules.specs.Types.{INTEGER}
-use Rattle.rules.specs.Tables.{Table, tableOf, nodeCount, nodeAt, kindAt}
+use Rattle.rules.specs.Tables.{Table, tableOf, nodeCount}
 use Rattle.rules.specs.Readable.{Readable}
 use Rattle.rules.proofs.TableLaws.{binds-length, nodes-length}
-use Rattle.solver.specs.Problem.{Shape, unknown, leaf, power, product, eqn, PartsBelow}
+use Rattle.solver.specs.Problem.{eqn, PartsBelow}
 use Rattle.solver.specs.Arrays.{Arrays, Equations, ClassArrays, shapeAt as arrayShape, equations as arrayEquations}
-use Rattle.solver.specs.Solved.{LeafDeclared, Solved, Answer}
+use Rattle.solver.specs.Solved.{Solved, Answer}
 use Rattle.checker.specs.Equations.{planAt, base, varOf, eqnFrom, nodeEquations, shapeAt, equations, back}
 use Rattle.checker.specs.Prefix.{Ready, Room, PrefixAnswer, Unsolvable, Typable, Untypable, Between, FirstClash}
-use Rattle.checker.proofs.RefLaws.{few-equations}
 use Rattle.checker.proofs.VariableLaws.{base-mono, base-bound}
 use Rattle.checker.proofs.ProblemLaws.{well-formed}
+use Rattle.checker.proofs.NodeLaws.{equations-bound}
 use Rattle.checker.proofs.EquationsLaws.{typing→solves, solves→typing}
 use Rattle.checker.proofs.SameProblem.{Same, answer-same, array→list, list→array, array-below}
 
@@ -28,12 +28,6 @@ pub length-equations : (tb : Table) (k : ℕ) → length (equations tb (suc k)) 
 unfolding equations
 length-equations tb k =
     omega (arith, length-append (equations tb k) (nodeEquations tb k), length-map (planAt tb k .equations) (eqnFrom (varOf tb k)))
-
-pub equations-bound : (tb : Table) (k : ℕ) → length (equations tb k) ≤ 2 * k
-unfolding equations
-equations-bound tb zero = omega arith
-equations-bound tb (suc k) =
-    omega (arith, equations-bound tb k, length-equations tb k, few-equations (kindAt (tb .nodes) k) (nodeAt (tb .nodes) k .a))
 
 pub equations-mono : (tb : Table) {k : ℕ} (m : ℕ) → k ≤ m → length (equations tb k) ≤ length (equations tb m)
 unfolding equations

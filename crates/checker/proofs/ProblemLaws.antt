@@ -1,7 +1,7 @@
 -- The problem of a table's nodes: it is well formed where the table is readable, and its solutions are the assignments of
 -- types to variables that meet the nodes' plans.
 use Prim.Native.Nat.{ℕ, zero, suc, _+_, _≤_, _<_}
-use mathlib.Core.List.{List, [], _∷_, _++_, map}
+use mathlib.Core.List.{List, [], _∷_, map}
 use mathlib.Core.Path.{_≡_, subst, sym}
 use native.Mathlib.Decide.{ℕ-discrete}
 use native.Mathlib.Nat.{not-suc-le-zero}
@@ -9,33 +9,21 @@ use native.Mathlib.Omega.{arith}
 use lib.ListN.{getD, length}
 use Rattle.rules.specs.Types.{Ty}
 use Rattle.rules.specs.Tables.{Node, Table, nodeAt, kindAt}
-use Rattle.solver.specs.Problem.{Shape, unknown, Eqn, eqn, Matches, Holds, Solves, PartsBelow, AllBelow}
+use Rattle.solver.specs.Problem.{Shape, unknown, Matches, Holds, Solves, PartsBelow, AllBelow}
 use Rattle.solver.specs.Solved.{LeafDeclared}
+use Rattle.solver.proofs.Step.{below-append, holds-append}
 use Rattle.checker.specs.Plan.{Ref, Form, openᶠ, atomᶠ, powᶠ, prodᶠ, MatchesForm, MatchesSlots, HoldsRefs, Meets}
 use Rattle.checker.specs.Equations.{planAt, slotCount, base, varOf, shapeFrom, eqnFrom, nodeEquations, shapeAt, equations}
 use Rattle.checker.specs.Equations.{WellFormed, RightNodes}
 use Rattle.checker.proofs.RefLaws.{FormRight, FormsRight, PairsRight, PlanRight, plan-refs}
 use Rattle.checker.proofs.VariableLaws.{base-below, shape-name, shape-self, shape-slot, each-variable, ref-below}
 
--- Lists of equations that hold, and those that are below m.
-holds-split : (σ : ℕ → Ty) (ds es : List Eqn) → Holds σ (ds ++ es) → Holds σ ds × Holds σ es
-holds-split σ [] es h = (tt, h)
-holds-split σ (eqn v w ∷ ds) es h = let r = holds-split σ ds es (h .1) in ((h .0, r .0), r .1)
-
-holds-join : (σ : ℕ → Ty) (ds es : List Eqn) → Holds σ ds → Holds σ es → Holds σ (ds ++ es)
-holds-join σ [] es h g = g
-holds-join σ (eqn v w ∷ ds) es h g = (h .0, holds-join σ ds es (h .1) g)
-
-below-join : (m : ℕ) (ds es : List Eqn) → AllBelow m ds → AllBelow m es → AllBelow m (ds ++ es)
-below-join m [] es h g = g
-below-join m (eqn v w ∷ ds) es h g = (h .0, h .1, below-join m ds es (h .2) g)
-
 module _ (tb : Table) where
   holds-node : (σ : ℕ → Ty) (k : ℕ) → Holds σ (equations tb k) → (n : ℕ) → n < k → Holds σ (nodeEquations tb n)
   unfolding equations
   holds-node σ zero h n l = absurd (not-suc-le-zero l)
   holds-node σ (suc k) h n l =
-      let r = holds-split σ (equations tb k) (nodeEquations tb k) h in go (ℕ-discrete n k) (r .1) (holds-node σ k (r .0) n)
+      let r = holds-append σ (equations tb k) (nodeEquations tb k) .1 h in go (ℕ-discrete n k) (r .1) (holds-node σ k (r .0) n)
     where
       go : Dec (n ≡ k) → Holds σ (nodeEquations tb k) → (n < k → Holds σ (nodeEquations tb n)) → Holds σ (nodeEquations tb n)
       go (yes e) last ih = subst (λ j. Holds σ (nodeEquations tb j)) (sym e) last
@@ -44,12 +32,12 @@ module _ (tb : Table) where
   holds-all : (σ : ℕ → Ty) (k : ℕ) → ((n : ℕ) → n < k → Holds σ (nodeEquations tb n)) → Holds σ (equations tb k)
   unfolding equations
   holds-all σ zero h = tt
-  holds-all σ (suc k) h = holds-join σ (equations tb k) (nodeEquations tb k) (holds-all σ k (λ n l. h n (omega arith))) (h k (omega arith))
+  holds-all σ (suc k) h = holds-append σ (equations tb k) (nodeEquations tb k) .0 (holds-all σ k (λ n l. h n (omega arith)), h k (omega arith))
 
   below-all : (m k : ℕ) → ((n : ℕ) → n < k → AllBelow m (nodeEquations tb n)) → AllBelow m (equations tb k)
   unfolding equations
   below-all m zero h = tt
-  below-all m (suc k) h = below-join m (equations tb k) (nodeEquations tb k) (below-all m k (λ n l. h n (omega arith))) (h k (omega arith))
+  below-all m (suc k) h = below-append m (equations tb k) (nodeEquations tb k) (below-all m k (λ n l. h n (omega arith))) (h k (omega arith))
 
 -- Forms and pairs of references mean the shapes and equations that are made of them.
 module _ (σ : ℕ → Ty) (v : Ref → ℕ) where

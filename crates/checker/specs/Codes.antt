@@ -1,4 +1,4 @@
--- The digits of a plan, as the constant table of the code has them.
+-- The digits of a plan, as the code has them.
 use Prim.Native.Nat.{ℕ, zero, suc, _+_, _%_, _<_}
 use mathlib.Core.List.{List, [], _∷_}
 use mathlib.Core.Path.{_≡_}

@@ -1,4 +1,5 @@
 // Turns a readable table into a problem of unification.
+use crate::wide;
 ghost use mathlib.Core.Path.{_≡_};
 ghost use Prim.Native.Nat.{ℕ, _+_, _≤_, _<_};
 ghost use lib.ListN.{length, getD};
@@ -8,57 +9,6 @@ ghost use Rattle.checker.specs.Codes.{CodeOf, Digits, refOf, formAt};
 ghost use Rattle.checker.specs.Built.{Built, Sized};
 ghost use Rattle.checker.specs.Entries.{varAt, leftOf, planFor, Sound, PutForm, FormRoom, Forms, Sides, BasesTo, VarsOf};
 ghost use Rattle.checker.specs.Entries.{VariablesTo, EquationsTo, VariableRoom, EquationRoom, NextVariables, NextEquations};
-
-// The plan of each kind, 24 digits a kind code from 0 to 43: the number of slots; the forms of the node and of slots 0 to 4,
-// three digits each; the number of equations; two equations, two references each. A form is 0 open, 1 without parts,
-// 2 POW, 3 a product, and then its two references, or for a form without parts 1 INTEGER, 2 BOOL, 3 the given set in
-// field a. References: 0 the node, 1 and 2 the operands in fields a and b, 3 the identifier in field a, 4 and more the slots.
-const PLANS: [[u8; 24]; 44] = [
-    *b"000000000000000000000000",
-    *b"000000000000000000000000",
-    *b"000000000000000000000000",
-    *b"000000000000000000000000",
-    *b"000000000000000000000000",
-    *b"000000000000000000000000",
-    *b"000000000000000000011200",
-    *b"100021000000000000012400",
-    *b"200000024000000000021525",
-    *b"100011000000000000021424",
-    *b"100023000000000000012400",
-    *b"100023000000000000012400",
-    *b"000000000000000000000000",
-    *b"000000000000000000000000",
-    *b"000000000000000000000000",
-    *b"000000000000000000000000",
-    *b"000000000000000000000000",
-    *b"000000000000000000000000",
-    *b"000000000000000000000000",
-    *b"000000000000000000000000",
-    *b"000000000000000000010300",
-    *b"124013000000000000000000",
-    *b"013000000000000000000000",
-    *b"011000000000000000000000",
-    *b"012000000000000000000000",
-    *b"012000000000000000000000",
-    *b"124000000000000000000000",
-    *b"021000000000000000000000",
-    *b"031200000000000000000000",
-    *b"124000000000000000021020",
-    *b"124000000000000000021020",
-    *b"124000000000000000021020",
-    *b"526000000034524025021728",
-    *b"221000024000000000011500",
-    *b"023000000000000000012000",
-    *b"424000000034526000011700",
-    *b"425000000034526000011700",
-    *b"200032024000000000011500",
-    *b"211000024000000000011500",
-    *b"011000000000000000021020",
-    *b"011000000000000000021020",
-    *b"124011000000000000021424",
-    *b"124012000000000000000000",
-    *b"100020000000000000011400",
-];
 
 // The kind of a node and its plan, its variable, and what the plan's other references stand for: `first` and `second` are
 // the variables of the operands in fields a and b, `name` the identifier or the given set in field a. Those that the kind
@@ -72,15 +22,47 @@ struct NodeVars {
     name: u16,
 }
 
-// An unknown kind has the plan of kind 0, which is unknown too. A constant table is made anew where it is read, so a node's
-// plan is read once.
+// The plan of each kind, in 24 digits: the number of slots; the forms of the node and of slots 0 to 4, three digits each; the
+// number of equations; two equations, two references each. A form is 0 open, 1 without parts, 2 POW, 3 a product, and then
+// its two references, or for a form without parts 1 INTEGER, 2 BOOL, 3 the given set in field a. References: 0 the node, 1
+// and 2 the operands in fields a and b, 3 the identifier in field a, 4 and more the slots. The kinds 1 to 5 say nothing of
+// types, nor does an unknown kind.
 fn plan_of(kind: usize) -> [u8; 24]
     ensures { λ p. ⌜ Digits kind p ⌝ }
 {
-    if 44 <= kind {
-        return PLANS[0];
+    match kind {
+        6 => *b"000000000000000000011200",
+        7 => *b"100021000000000000012400",
+        8 => *b"200000024000000000021525",
+        9 => *b"100011000000000000021424",
+        10 => *b"100023000000000000012400",
+        11 => *b"100023000000000000012400",
+        20 => *b"000000000000000000010300",
+        21 => *b"124013000000000000000000",
+        22 => *b"013000000000000000000000",
+        23 => *b"011000000000000000000000",
+        24 => *b"012000000000000000000000",
+        25 => *b"012000000000000000000000",
+        26 => *b"124000000000000000000000",
+        27 => *b"021000000000000000000000",
+        28 => *b"031200000000000000000000",
+        29 => *b"124000000000000000021020",
+        30 => *b"124000000000000000021020",
+        31 => *b"124000000000000000021020",
+        32 => *b"526000000034524025021728",
+        33 => *b"221000024000000000011500",
+        34 => *b"023000000000000000012000",
+        35 => *b"424000000034526000011700",
+        36 => *b"425000000034526000011700",
+        37 => *b"200032024000000000011500",
+        38 => *b"211000024000000000011500",
+        39 => *b"011000000000000000021020",
+        40 => *b"011000000000000000021020",
+        41 => *b"124011000000000000021424",
+        42 => *b"124012000000000000000000",
+        43 => *b"100020000000000000011400",
+        _ => *b"000000000000000000000000",
     }
-    PLANS[kind]
 }
 
 // A digit of the node's plan: the lower half of its ASCII code.
@@ -123,12 +105,6 @@ fn left_entry(s: NodeVars, kind: u8, code: u8) -> u16
         return code as u16;
     }
     16 + s.name
-}
-
-fn wide(x: u16) -> usize
-    ensures { λ r. ⌜ r ≡ x ⌝ }
-{
-    x as usize
 }
 
 // Writes form j of the node's plan, the node's own being the first.

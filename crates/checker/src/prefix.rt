@@ -1,14 +1,9 @@
 // Decides the problem of the nodes below k, and finds the first node whose rule leaves no typing (refusal 11).
+use crate::wide;
 ghost use mathlib.Core.Path.{_≡_};
 ghost use Prim.Native.Nat.{_≤_};
 ghost use Rattle.rules.specs.Tables.{tableOf, nodeCount};
 ghost use Rattle.checker.specs.Prefix.{Ready, Room, PrefixAnswer, Unsolvable, FirstClash};
-
-fn wide(x: u16) -> usize
-    ensures { λ r. ⌜ r ≡ x ⌝ }
-{
-    x as usize
-}
 
 // Decides the problem of the nodes below k. The table stands here for the contract only.
 pub fn solve_prefix(

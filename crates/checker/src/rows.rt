@@ -1,5 +1,6 @@
 // The places of a table: identifiers first, then nodes. The least place whose type is not determined or too heavy, and
 // the rows of the sheet.
+use crate::wide;
 ghost use mathlib.Core.Path.{_≡_};
 ghost use Prim.Native.Nat.{ℕ, _+_, _*_, _<_, _≤_};
 ghost use lib.ListN.{length};
@@ -10,12 +11,6 @@ ghost use Rattle.table.specs.Layout.{Laid};
 ghost use Rattle.solver.specs.Arrays.{shapeAt, ClassArrays};
 ghost use Rattle.checker.specs.Built.{LeastPlace, GroundAt};
 ghost use Rattle.checker.specs.Rows.{varAt, Placed, PlaceIn, Typed, FailsAt, Determines, LightAt, TypesOf, putRow, RowWritten};
-
-fn wide(x: u16) -> usize
-    ensures { λ r. ⌜ r ≡ x ⌝ }
-{
-    x as usize
-}
 
 // The variable of place p.
 fn place_var(identifiers: usize, bases: &[u16], p: usize) -> usize
