@@ -17,30 +17,16 @@ use Rattle.rules.specs.Tables.{wordAt}
 use Rattle.rules.specs.Cells.{bytes4, twos, signed, inRange, cell, cells, cellsOf, scalarGood, value}
 use Rattle.rules.proofs.OrderLaws.{and-left, and-right}
 use Rattle.rules.proofs.CellsLaws.{Word, Bytes, EncodableScalar, Encodable, Encodables, and-both, byte-at, word-at, word-bytes, bytes-word, twos-signed, signed-range, payload-word, cells-value, value-encodable, count-weights}
-use Rattle.arena.specs.Code.{cellSize, excess, code, codes, CellsFit, AllFit, partsOf}
-use Rattle.arena.proofs.CodeLaws.{length-code, length-codes}
+use Rattle.arena.specs.Code.{cellSize, excess, code, codes, CellsFit, partsOf}
+use Rattle.arena.proofs.CodeLaws.{length-code, length-codes, encodable-fits}
+use Rattle.arena.proofs.Standing.{_before_, codes-before, count-before}
 use Rattle.buffer.specs.Buffer.{cellFirst, firstCell, codeOf, tagGood, cellGood, scalarsGood, allGood}
 use Rattle.buffer.proofs.Encoded.{value-can}
-
-infixr 40 _before_
--- Values before other values.
-abbrev pub _before_ : Values → Values → Values
-none before ws = ws
-(v ▸ vs) before ws = v ▸ (vs before ws)
 
 cellsOf-before : (vs ws : Values) → cellsOf (vs before ws) ≡ cellsOf vs ++ cellsOf ws
 unfolding cells
 cellsOf-before none ws = refl
 cellsOf-before (v ▸ vs) ws = ap (λ (l : List ℕ). cells v ++ l) (cellsOf-before vs ws) ∙ sym (append-assoc (cells v) (cellsOf vs) (cellsOf ws))
-
-pub codes-before : (vs ws : Values) → codes (vs before ws) ≡ codes vs ++ codes ws
-unfolding code
-codes-before none ws = refl
-codes-before (v ▸ vs) ws = ap (λ (l : List ℕ). code v ++ l) (codes-before vs ws) ∙ sym (append-assoc (code v) (codes vs) (codes ws))
-
-pub count-before : (vs ws : Values) → count (vs before ws) ≡ count vs + count ws
-count-before none ws = omega arith
-count-before (v ▸ vs) ws = omega (arith, count-before vs ws)
 
 encodable-before : (vs ws : Values) → Encodables vs → Encodables ws → Encodables (vs before ws)
 encodable-before none ws h k = k
@@ -397,22 +383,6 @@ ahead-read gs bs v rest b e g = record {
   encodable = (value-can bs v rest b e, tt);
   good = and-both (scalarsGood gs v) true g tt;
 }
-
--- Values that can be encoded fit the arena.
-mutual
-  unfolding excess
-
-  pub encodable-fits : (v : Value) → Encodable v → CellsFit v
-  encodable-fits (scalar (num n (pos i))) h = let l = leb→le i 2147483647 h in (omega arith, omega arith)
-  encodable-fits (scalar (num n (negsuc i))) h = let l = leb→le i 2147483647 h in (omega arith, omega arith)
-  encodable-fits (scalar (truth b)) h = tt
-  encodable-fits (scalar (element g k)) h = h
-  encodable-fits (pair v w) h = (encodable-fits v (h .0), encodable-fits w (h .1))
-  encodable-fits (set s) h = (h .0, encodables-fit s (h .1))
-
-  pub encodables-fit : (vs : Values) → Encodables vs → AllFit vs
-  encodables-fit none h = tt
-  encodables-fit (v ▸ vs) h = (encodable-fits v (h .0), encodables-fit vs (h .1))
 
 pub record OneRead (gs bs cs rest : List ℕ) : Type 0 where
   pub first : Value

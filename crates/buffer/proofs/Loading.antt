@@ -18,11 +18,12 @@ use Rattle.rules.proofs.OrderLaws.{and-left, and-right}
 use Rattle.rules.proofs.CellsLaws.{and-both, good-wellFormed, good-weight, good-typed}
 use Rattle.arena.specs.Code.{excess, code, EndsAt, Same, ValueBelow}
 use Rattle.arena.proofs.CodeLaws.{length-code}
+use Rattle.arena.proofs.Standing.{same-refl, stands-frame}
 use Rattle.fitting.proofs.Cells.{ends-at}
-use Rattle.buffer.specs.Buffer.{scalarsGood, allGood, ReadAt, Unread}
+use Rattle.buffer.specs.Buffer.{scalarsGood, allGood, cellsAtMost, ReadAt, Unread}
 use Rattle.buffer.specs.Ordered.{inOrder, ordered, orderedAll, Whole, Ordered}
 use Rattle.buffer.specs.Shared.{TypedHere}
-use Rattle.buffer.specs.Loaded.{GoodAt, Entered, Room, Bound}
+use Rattle.buffer.specs.Loaded.{GoodRead, Entered, Room, Bound}
 
 -- A value is well formed where its scalars are good and its sets ordered.
 mutual
@@ -101,14 +102,15 @@ module _ (gs bs : List ℕ) (at : ℕ) (s : List ℕ) (top next end : ℕ) (h : 
       let t : T (typed (h .first)) = subst (λ (w : Value). T (typed w)) f (good-typed gs v g) in
       subst T (sym (o (h .first) (h .stands) (h .fits))) t
 
-  pub read-good : Ordered s top true → TypedHere s top true → GoodAt gs bs at s top next end
+  pub read-good : Ordered s top true → TypedHere s top true → GoodRead gs bs at s top next end
   read-good o t = record {
     first = h .first;
     reads = h .reads;
     good = good-of gs (h .first) (h .good) (subst T (o (h .first) (h .stands) (h .fits)) tt) (h .light) (subst T (t (h .first) (h .stands) (h .fits)) tt);
     below = record { stands = h .stands; below = omega (arith, h .ends); fits = h .fits; light = h .light };
     grows = omega (arith, h .ends);
-    near = omega (arith, h .ends, h .light);
+    near = omega (arith, h .ends, h .light, h .held);
+    spent = omega (arith, h .ends, h .spent);
   }
 
 pub unread-bad : (gs bs : List ℕ) (at : ℕ) → Unread gs bs at → (v : Value) (rest : List ℕ) → value (drop at bs) ≡ some (v, rest) → T (good gs v) → ⊥
@@ -147,31 +149,27 @@ module _ (gs : List ℕ) (w : ℕ) (bs : List ℕ) (at : ℕ) (s : List ℕ) (no
     below = λ b. b;
     grows = omega arith;
     near = omega arith;
+    spent = omega arith;
   }
 
-  pub entry-free : (s′ : List ℕ) (next end : ℕ) → w ≡ 0 → GoodAt gs bs at s′ top next end → Entered gs w bs at s s′ nowhere top top next end
+  pub entry-free : (s′ : List ℕ) (next end : ℕ) → w ≡ 0 → GoodRead gs bs at s′ top next end → Entered gs w bs at s s′ nowhere top top next end
   entry-free s′ next end z h = record {
     first = h .first;
     reads = λ x. for-good gs w x (drop at bs) (h .first) (drop next bs) z (h .reads) (h .good);
     below = λ b. h .below;
     grows = h .grows;
     near = h .near;
+    spent = h .spent;
   }
 
 pub entry-bad : (gs : List ℕ) (w : ℕ) (bs : List ℕ) (at : ℕ) → w ≡ 0 → ((v : Value) (rest : List ℕ) → value (drop at bs) ≡ some (v, rest) → T (good gs v) → ⊥) →
     (x : ℕ) → valueFor gs w x (drop at bs) ≡ refused 14 x
 entry-bad gs w bs at z u x = for-bad gs w x (drop at bs) z u
 
-pub same-refl : (top : ℕ) (s : List ℕ) → Same top s s
-same-refl top s = record { same = λ i l. refl; kept = refl }
-
 -- A value below `top` stays where nothing below changes.
 pub below-same : (s s′ : List ℕ) (top end at : ℕ) (v : Value) → Same top s s′ → top ≤ end → ValueBelow s top at v → ValueBelow s′ end at v
 below-same s s′ top end at v h l b = record {
-  stands = record {
-    inside = omega (arith, b .stands .inside, h .kept);
-    cells = λ i p. h .same (at + i) (omega (arith, b .below, length-code v)) ∙ b .stands .cells i p;
-  };
+  stands = stands-frame top s s′ at (code v) h (omega (arith, b .below, length-code v)) (b .stands);
   below = omega (arith, b .below);
   fits = b .fits;
   light = b .light;
@@ -185,7 +183,8 @@ pub record Loading (gs ws bs : List ℕ) (x at : ℕ) (s₀ s : List ℕ) (top e
   pub bound : (y : ℕ) → y < 32 → ValueBelow s end (getD env y 0) (getD front y noValue)
   pub nowhere : ValueBelow s end top noValue
   pub frame : Same top s₀ s
-  pub room : end ≤ top + 1 + 256 * x
+  pub room : end ≤ top + 1 + cellsAtMost x (length bs)
+  pub spent : at ≡ 8 * (end - (top + 1))
   pub above : top < end
   pub wide : length env ≡ 32
   pub within : x ≤ length ws
@@ -210,7 +209,7 @@ bind-done : {A : Type 0} (e : End (List A)) → e ≡ (e >>= λ vs. done ([] ++ 
 bind-done (done vs) = refl
 bind-done (refused r p) = refl
 
-pub loading-start : (gs ws bs s : List ℕ) (top : ℕ) (env : List ℕ) → Room ws s top → length env ≡ 32 → ((x : ℕ) → x < 32 → getD env x 0 ≡ top) →
+pub loading-start : (gs ws bs s : List ℕ) (top : ℕ) (env : List ℕ) → Room ws bs s top → length env ≡ 32 → ((x : ℕ) → x < 32 → getD env x 0 ≡ top) →
     Loading gs ws bs 0 0 (setAt s top 6442450944) (setAt s top 6442450944) top (top + 1) env
 loading-start gs ws bs s top env r w u =
     let n = noValue-cell s top (omega (arith, r .space)) in
@@ -222,6 +221,7 @@ loading-start gs ws bs s top env r w u =
       nowhere = n;
       frame = same-refl top (setAt s top 6442450944);
       room = omega arith;
+      spent = omega arith;
       above = omega arith;
       wide = w;
       within = omega arith;
@@ -271,7 +271,8 @@ module _ (gs ws bs : List ℕ) (x at : ℕ) (s₀ s : List ℕ) (top end : ℕ) 
         bound = λ y m. named y m (ℕ-discrete y x);
         nowhere = below-same s s′ end e top noValue f (g .grows) (h .nowhere);
         frame = record { same = λ i m. f .same i (omega (arith, h .above)) ∙ h .frame .same i m; kept = f .kept ∙ h .frame .kept };
-        room = omega (arith, h .room, g .near);
+        room = omega (arith, h .room, h .spent, g .near);
+        spent = omega (arith, h .spent, g .spent, h .above, g .grows);
         above = omega (arith, h .above, g .grows);
         wide = length-set env x place ∙ h .wide;
         within = omega arith;

@@ -8,11 +8,10 @@ use lib.ListN.{length, getD}
 use Rattle.rules.specs.Types.{whole}
 use Rattle.rules.specs.Values.{Scalar, num, truth, element, Value, scalar, pair, set, Values, none, _▸_, scalarTag, tag, bit, count, weight, weights, order, isLt, before}
 use Rattle.arena.specs.Code.{cellSize, excess, scalarLow, code, codes, Stands, ValueAt, ValuesAt, CellsFit, AllFit, orderCode, SomeAt, EndsAt, Compared}
-use Rattle.arena.proofs.CodeLaws.{length-code, length-codes}
-use Rattle.arena.proofs.Standing.{stands-head, stands-tail, stands-front, stands-back}
-use Rattle.fitting.proofs.Cells.{weight-pos}
+use Rattle.arena.proofs.CodeLaws.{length-code, length-codes, bit-small}
+use Rattle.arena.proofs.Standing.{stands-head, stands-tail, stands-front, stands-back, _before_, codes-before, weights-before, fit-before, weight-pos}
 use Rattle.buffer.specs.Ordered.{inOrder, ordered, orderedAll, Row, SomeRow, InOrder}
-use Rattle.buffer.proofs.Ahead.{_before_, inner, codes-before}
+use Rattle.buffer.proofs.Ahead.{inner}
 
 and-false : (a : Bool) → (a && false) ≡ false
 and-false true = refl
@@ -125,10 +124,6 @@ code-cell (set s) = refl
 cell-tag : (t l : ℕ) → l < cellSize → (t * cellSize + l) / cellSize ≡ t
 cell-tag t l h = omega arith
 
-bit-small : (b : Bool) → bit b < cellSize
-bit-small true = omega arith
-bit-small false = omega arith
-
 pub tag-cell : (v : Value) → CellsFit v → cellOf v / cellSize ≡ tag v
 tag-cell (scalar (num whole i)) h = cell-tag 1 (excess i) (h .0)
 tag-cell (scalar (truth b)) h = cell-tag 2 (bit b) (bit-small b)
@@ -136,18 +131,10 @@ tag-cell (scalar (element g k)) h = cell-tag 3 (256 * g + k) (h .1)
 tag-cell (pair v w) h = refl
 tag-cell (set s) h = cell-tag 5 (count s) (h .0)
 
-fits-before : (vs ws : Values) → AllFit vs → AllFit ws → AllFit (vs before ws)
-fits-before none ws h k = k
-fits-before (v ▸ vs) ws h k = (h .0, fits-before vs ws (h .1) k)
-
 fits-inner : (v : Value) → CellsFit v → AllFit (inner v)
 fits-inner (scalar s) h = tt
 fits-inner (pair v w) h = (h .0, (h .1, tt))
 fits-inner (set s) h = h .1
-
-pub weights-before : (vs ws : Values) → weights (vs before ws) ≡ weights vs + weights ws
-weights-before none ws = omega arith
-weights-before (v ▸ vs) ws = omega (arith, weights-before vs ws)
 
 weight-inner : (v : Value) → weight v ≡ 1 + weights (inner v)
 weight-inner (scalar s) = refl
@@ -178,7 +165,7 @@ left-next s i end w ws h =
     record {
       stands = subst (λ (l : List ℕ). Stands s (i + 1) l) (sym (codes-before (inner w) ws))
           (stands-tail s i (cellOf w) (codes (inner w) ++ codes ws) (subst (λ (l : List ℕ). Stands s i l) e (h .stands)));
-      fits = fits-before (inner w) ws (fits-inner w (h .fits .0)) (h .fits .1);
+      fits = fit-before (inner w) ws (fits-inner w (h .fits .0)) (h .fits .1);
       ends = omega (arith, weights-before (inner w) ws, weight-inner w, h .ends);
     }
 

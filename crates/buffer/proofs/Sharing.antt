@@ -9,17 +9,17 @@ use lib.Dec.{T}
 use lib.ListN.{length, getD}
 use Rattle.rules.specs.Types.{whole, Ty}
 use Rattle.rules.specs.Values.{Value, scalar, pair, set, Values, none, _▸_, tag, count, weights}
-use Rattle.rules.specs.Fits.{every, _⊓_, shape, shapes, inhabited, typed}
+use Rattle.rules.specs.Fits.{every, shape, shapes, inhabited, typed}
 use Rattle.rules.proofs.FitsLaws.{_⊑_, ⊓-join, ⊓-split, inhabited→some, some→inhabited}
 use Rattle.arena.specs.Code.{cellSize, code, codes, Stands, ValueAt, ValuesAt, CellsFit, AllFit, SomeAt, EndsAt}
 use Rattle.arena.proofs.CodeLaws.{length-code, length-codes}
-use Rattle.arena.proofs.Standing.{stands-front, stands-back}
+use Rattle.arena.proofs.Standing.{stands-front, stands-back, _before_, codes-before, count-before, weights-before, weight-pos}
 use Rattle.fitting.specs.Agree.{meets, RunAt, SomeTyped, AgreedWith, NoEmpty, Full, StandFor}
 use Rattle.fitting.proofs.Sharing.{and-split, and-of, meets→share, share→meets, meets-sym, left-typed, right-typed, with-every, full-first}
-use Rattle.fitting.proofs.Cells.{full-value, weight-pos}
+use Rattle.fitting.proofs.Cells.{full-value}
 use Rattle.buffer.specs.Shared.{AllTyped, TypedRow, SomeTypedRow, Shares}
-use Rattle.buffer.proofs.Ahead.{_before_, inner, codes-before, count-before}
-use Rattle.buffer.proofs.Ordering.{tag-cell, Left, left-start, scalar-tag, left-head, left-next, weights-before}
+use Rattle.buffer.proofs.Ahead.{inner}
+use Rattle.buffer.proofs.Ordering.{tag-cell, Left, left-start, scalar-tag, left-head, left-next}
 
 -- Types of values that follow one another.
 shapes-join : (vs ws : Values) (t : Ty) → shapes vs ⊑ t → shapes ws ⊑ t → shapes (vs before ws) ⊑ t

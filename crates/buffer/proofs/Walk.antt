@@ -1,22 +1,23 @@
 -- Reading one value cell by cell into the arena.
-use Prim.Native.Nat.{ℕ, zero, suc, _+_, _-_, _/_, _%_, _≤_, _<_}
+use Prim.Native.Nat.{ℕ, zero, suc, _+_, _*_, _-_, _/_, _%_, _≤_, _<_}
 use mathlib.Core.Bool.{Bool, true, false}
 use mathlib.Core.List.{List, [], _∷_, _++_, append-assoc, append-nil}
 use mathlib.Core.Path.{_≡_, refl, sym, ap, subst, _∙_}
 use native.Mathlib.Omega.{arith}
 use native.Mathlib.Decide.{decLt}
-use lib.Dec.{T, eqb}
-use lib.ListN.{length, getD, drop, set as setAt, length-append, length-set, List·getD-append}
+use lib.Dec.{T, eqb, leb, leb→le}
+use lib.ListN.{length, getD, drop, set as setAt, length-append, length-set, length-drop, List·getD-append}
 use lib.Seq.{drop-drop, getD-set-same, getD-set-other, getD-append-add}
 use borrow.Author.Tests.{ne-eqb}
 use Rattle.rules.specs.Values.{weight}
 use Rattle.rules.specs.Cells.{value}
+use Rattle.rules.proofs.OrderLaws.{and-left}
 use Rattle.rules.proofs.CellsLaws.{Bytes, bytes-drop}
 use Rattle.arena.specs.Code.{code, Stands, Same, partsOf}
 use Rattle.arena.proofs.CodeLaws.{length-code}
 use Rattle.buffer.specs.declared.Cursor.{Cursor}
 use Rattle.buffer.specs.declared.Step.the-variants.{Cell, End}
-use Rattle.buffer.specs.Buffer.{cellFirst, firstCell, pickStep, stepAt, codeOf, tagGood, cellGood, GoodCell, Takes, ReadAt, Unread}
+use Rattle.buffer.specs.Buffer.{cellFirst, firstCell, pickStep, stepAt, codeOf, tagGood, cellGood, cellsAtMost, GoodCell, Takes, ReadAt, Unread}
 use Rattle.buffer.proofs.Ahead.{Ahead, onward, back, ahead-read, read-ahead, ahead-long}
 
 -- The entries of a slice of bytes.
@@ -75,6 +76,8 @@ pub record Walk (gs bs : List ℕ) (from at left n : ℕ) (s₀ s : List ℕ) (t
   pub long : length written ≡ n
   pub stands : Stands s top written
   pub frame : Same top s₀ s
+  pub spent : at ≡ from + 8 * n
+  pub held : 8 * n ≤ length bs - from
   pub whole : (cs rest : List ℕ) → Ahead gs (drop at bs) left cs rest → Ahead gs (drop from bs) 1 (written ++ cs) rest
   pub partly : (es rest : List ℕ) → Ahead gs (drop from bs) 1 es rest → (cs : List ℕ) × (es ≡ written ++ cs) × Ahead gs (drop at bs) left cs rest
 
@@ -84,9 +87,18 @@ walk-start gs bs from s top l = record {
   long = refl;
   stands = record { inside = omega arith; cells = λ i p. absurd (omega arith) };
   frame = record { same = λ i p. refl; kept = refl };
+  spent = omega arith;
+  held = omega arith;
   whole = λ cs rest a. a;
   partly = λ es rest a. (es, refl, a);
 }
+
+-- A cell lies within the buffer.
+cell-held : {gs bs : List ℕ} {at x next : ℕ} → GoodCell gs bs at x next → 8 ≤ length bs - at
+cell-held {gs} {bs} {at} g =
+    let ds = drop at bs in
+    let l = leb→le 8 (length ds) (and-left (leb 8 (length ds)) (eqb (getD ds 5 0 + getD ds 6 0 + getD ds 7 0) 0) (g .here)) in
+    omega (arith, l, length-drop at bs)
 
 -- a cell is written behind
 write-stands : (s : List ℕ) (top n x : ℕ) (xs : List ℕ) → length xs ≡ n → top + n < length s → Stands s top xs → Stands (setAt s (top + n) x) top (xs ++ (x ∷ []))
@@ -109,6 +121,11 @@ write-frame s₀ s top n x h = record {
   kept = length-set s (top + n) x ∙ h .kept;
 }
 
+-- The arena has room for the next cell, as the buffer holds it.
+pub walk-room : {gs bs : List ℕ} {from at left n : ℕ} {s₀ s : List ℕ} {top : ℕ} → Walk gs bs from at left n s₀ s top → {x next : ℕ} →
+    GoodCell gs bs at x next → n < 256 → top + cellsAtMost 1 (length bs - from) ≤ length s₀ → top + n < length s
+walk-room h g l r = let m = cell-held g in omega (arith, h .spent, h .frame .kept)
+
 module _ (gs bs : List ℕ) (b : Bytes bs) (from at left n : ℕ) (s₀ s : List ℕ) (top : ℕ) (h : Walk gs bs from at left n s₀ s top) (l : 0 < left) where
   pub walk-step : (x next y k : ℕ) → GoodCell gs bs at x next → y ≡ codeOf x → k ≡ partsOf x → top + n < length s →
       Walk gs bs from next (left - 1 + k) (n + 1) s₀ (setAt s (top + n) y) top
@@ -123,6 +140,8 @@ module _ (gs bs : List ℕ) (b : Bytes bs) (from at left n : ℕ) (s₀ s : List
         long = omega (arith, length-append (h .written) (y ∷ []), h .long);
         stands = write-stands s top n y (h .written) (h .long) m (h .stands);
         frame = write-frame s₀ s top n y (h .frame);
+        spent = omega (arith, g .behind, h .spent);
+        held = omega (arith, cell-held g, h .spent);
         whole = λ cs rest a.
             let a′ : Ahead gs (drop 8 ds) (left - 1 + partsOf (firstCell ds)) cs rest = rw (← d, ← q) a in
             let r = h .whole (codeOf (firstCell ds) ∷ cs) rest (back gs ds left cs rest b′ (g .here) l (rw (g .number) at (g .good)) a′) in
@@ -164,4 +183,6 @@ walk-end gs bs from at left n s₀ s top h z l =
       fits = r .fits;
       stands = subst (λ (xs : List ℕ). Stands s top xs) (sym e) (h .stands);
       ends = omega arith;
+      spent = omega (arith, h .spent);
+      held = omega (arith, h .held);
     }

@@ -1,5 +1,5 @@
 -- The values buffer as a run of cells, and what reading it into the arena answers.
-use Prim.Native.Nat.{ℕ, zero, suc, _+_, _*_, _/_, _%_, _≤_}
+use Prim.Native.Nat.{ℕ, zero, suc, _+_, _*_, _-_, _/_, _%_, _≤_, min}
 use mathlib.Core.Bool.{Bool, true, false, _&&_, cond}
 use mathlib.Core.List.{List}
 use mathlib.Core.Option.{some}
@@ -72,6 +72,10 @@ abbrev pub Takes : List ℕ → List ℕ → ℕ → Step → Type 0
 Takes gs bs at (Cell x next) = GoodCell gs bs at x (next .at)
 Takes gs bs at End = T (cellFirst (drop at bs)) → T (cellGood gs (firstCell (drop at bs))) → ⊥
 
+-- The most cells that n values may take: 256 each, and one for each eight bytes that are left of the buffer.
+abbrev pub cellsAtMost : ℕ → ℕ → ℕ
+cellsAtMost n bytes = min (256 * n) (bytes / 8)
+
 -- The value that is read at `at` stands in the arena from `top` to `end`; the next may begin at `next`.
 pub record ReadAt (gs bs : List ℕ) (at : ℕ) (s : List ℕ) (top next end : ℕ) : Type 0 where
   pub first : Value
@@ -81,6 +85,8 @@ pub record ReadAt (gs bs : List ℕ) (at : ℕ) (s : List ℕ) (top next end : �
   pub fits : CellsFit first
   pub stands : ValueAt s top first
   pub ends : end ≡ top + weight first
+  pub spent : next ≡ at + 8 * weight first
+  pub held : 8 * weight first ≤ length bs - at
 
 -- No value of weight at most 256 with good scalars is read at `at`.
 abbrev pub Unread : List ℕ → List ℕ → ℕ → Type 0

@@ -1,5 +1,5 @@
 -- Refusal 14: the values of a table's identifiers, read from the buffer into the arena.
-use Prim.Native.Nat.{ℕ, _+_, _*_, _≤_, _<_}
+use Prim.Native.Nat.{ℕ, _+_, _*_, _-_, _≤_, _<_}
 use mathlib.Core.List.{List}
 use mathlib.Core.Option.{some}
 use mathlib.Core.Path.{_≡_}
@@ -9,6 +9,7 @@ use Rattle.rules.specs.Values.{Value}
 use Rattle.rules.specs.Ends.{done, refused}
 use Rattle.rules.specs.Cells.{value as valueFirst, good, noValue, valueFor, valuesFrom}
 use Rattle.arena.specs.Code.{ValueBelow}
+use Rattle.buffer.specs.Buffer.{cellsAtMost}
 use Rattle.buffer.specs.declared.Placed.{Placed}
 use Rattle.buffer.specs.declared.Placed.the-variants.{At, Fault}
 use Rattle.buffer.specs.declared.Entry.{Entry}
@@ -17,17 +18,18 @@ use Rattle.buffer.specs.declared.Loaded.{Loaded}
 use Rattle.buffer.specs.declared.Loaded.the-variants.{All, Refused}
 
 -- The good value that is read at `at` stands from `top` to `end`; the next may begin at `next`.
-pub record GoodAt (gs bs : List ℕ) (at : ℕ) (s : List ℕ) (top next end : ℕ) : Type 0 where
+pub record GoodRead (gs bs : List ℕ) (at : ℕ) (s : List ℕ) (top next end : ℕ) : Type 0 where
   pub first : Value
   pub reads : valueFirst (drop at bs) ≡ some (first, drop next bs)
   pub good : T (good gs first)
   pub below : ValueBelow s end top first
   pub grows : top ≤ end
-  pub near : end ≤ top + 256
+  pub near : end ≤ top + cellsAtMost 1 (length bs - at)
+  pub spent : next ≡ at + 8 * (end - top)
 
 -- A good value has been read, or none is there.
 abbrev pub ReadsGood : List ℕ → List ℕ → ℕ → List ℕ → ℕ → Placed → Type 0
-ReadsGood gs bs at s top (At next end) = GoodAt gs bs at s top (next .at) end
+ReadsGood gs bs at s top (At next end) = GoodRead gs bs at s top (next .at) end
 ReadsGood gs bs at s top Fault = (v : Value) (rest : List ℕ) → valueFirst (drop at bs) ≡ some (v, rest) → T (good gs v) → ⊥
 
 -- The value of an identifier with the word w stands at `place`; it is the value without a value at `none` where it is bound.
@@ -36,16 +38,17 @@ pub record Entered (gs : List ℕ) (w : ℕ) (bs : List ℕ) (at : ℕ) (s s′ 
   pub reads : (x : ℕ) → valueFor gs w x (drop at bs) ≡ done (first, drop next bs)
   pub below : ValueBelow s top none noValue → ValueBelow s′ end place first
   pub grows : top ≤ end
-  pub near : end ≤ top + 256
+  pub near : end ≤ top + cellsAtMost 1 (length bs - at)
+  pub spent : next ≡ at + 8 * (end - top)
 
 abbrev pub Enters : List ℕ → ℕ → List ℕ → ℕ → List ℕ → List ℕ → ℕ → ℕ → Entry → Type 0
 Enters gs w bs at s s′ none top (Of place next end) = Entered gs w bs at s s′ none top place (next .at) end
 Enters gs w bs at s s′ none top Bad = (x : ℕ) → valueFor gs w x (drop at bs) ≡ refused 14 x
 
--- What reading the buffer asks: room for each value.
-pub record Room (ws s : List ℕ) (top : ℕ) : Type 0 where
+-- What reading the buffer asks: room for the cells that its values may take.
+pub record Room (ws bs s : List ℕ) (top : ℕ) : Type 0 where
   pub few : length ws ≤ 32
-  pub space : top + 1 + 256 * length ws ≤ length s
+  pub space : top + 1 + cellsAtMost (length ws) (length bs) ≤ length s
   pub small : length s < 4294967296
 
 -- Each identifier's value stands below `end` where the environment says; those without one have the cell of `noValue`. What
@@ -55,7 +58,7 @@ pub record Bound (gs ws bs s env : List ℕ) (top end : ℕ) : Type 0 where
   pub reads : valuesFrom gs ws 0 bs ≡ done values
   pub at : (x : ℕ) → x < 32 → ValueBelow s end (getD env x 0) (getD values x noValue)
   pub above : top < end
-  pub room : end ≤ top + 1 + 256 * length ws
+  pub room : end ≤ top + 1 + cellsAtMost (length ws) (length bs)
 
 -- The answer is that of refusal 14.
 abbrev pub Loads : List ℕ → List ℕ → List ℕ → List ℕ → List ℕ → ℕ → Loaded → Type 0

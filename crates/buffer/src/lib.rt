@@ -1,15 +1,15 @@
 // The values buffer of document 01 (refusal 14), read into the arena.
 ghost use mathlib.Core.Path.{_≡_};
 ghost use mathlib.Core.Bool.{true, cond};
-ghost use Prim.Native.Nat.{_+_, _≤_, _<_};
+ghost use Prim.Native.Nat.{_+_, _-_, _≤_, _<_};
 ghost use lib.ListN.{length, getD};
 ghost use Rattle.rules.specs.Tables.{wordAt};
-ghost use Rattle.buffer.specs.Buffer.{stepAt, zerosAt, codeOf, cellGood, Takes, Places};
-ghost use Rattle.arena.specs.Code.{partsOf, Same};
+ghost use Rattle.buffer.specs.Buffer.{stepAt, zerosAt, codeOf, cellGood, cellsAtMost, Takes, Places};
+ghost use Rattle.arena.specs.Code.{Same};
 ghost use Rattle.buffer.specs.Ordered.{SomeRow, InOrder, Whole, Ordered};
 ghost use Rattle.buffer.specs.Shared.{SomeTypedRow, Shares, ValueAndRun, TypedHere};
 ghost use Rattle.buffer.specs.Loaded.{ReadsGood, Enters, Room, Loads};
-ghost use Rattle.fitting.specs.Agree.{NoEmpty, AgreedWith};
+ghost use Rattle.fitting.specs.Agree.{AgreedWith};
 
 // A place in the values buffer where a cell may begin.
 pub struct Cursor {
@@ -155,23 +155,22 @@ fn take(from: Cursor, values: &[u8], sizes: &[u32]) -> Step
     }
 }
 
-// How many values follow a cell as its parts or members.
-fn parts(cell: u64) -> usize
-    ensures { λ r. ⌜ (r ≡ partsOf cell) × (r < 4294967296) ⌝ }
+// The cells that the values of n identifiers take at most: 256 each, and one for 8 bytes of the buffer.
+pub fn cells_at_most(n: usize, bytes: usize) -> usize
+    requires { ⌜ n ≤ 32 ⌝ }
+    ensures { λ r. ⌜ r ≡ cellsAtMost n bytes ⌝ }
 {
-    let t = arena::tag(cell);
-    if t == 4 {
-        return 2;
+    let most = 256 * n;
+    let held = bytes / 8;
+    if most < held {
+        return most;
     }
-    if t == 5 {
-        return arena::low(cell) as usize;
-    }
-    0
+    held
 }
 
 // Reads one value of at most 256 cells and copies it to the arena at top.
 pub fn copy_value(from: Cursor, values: &[u8], sizes: &[u32], s: &mut [u64], top: usize) -> Placed
-    requires { ⌜ top + 256 ≤ length (now s) ⌝ }
+    requires { ⌜ top + cellsAtMost 1 (length (now values) - from .at) ≤ length (now s) ⌝ }
     ensures { λ r. ⌜ Same top (now (s .entry)) (now (s .exit)) × Places (now (sizes .entry)) (now (values .entry)) (from .at) (now (s .exit)) top r ⌝ }
 {
     let mut c = from;
@@ -186,7 +185,7 @@ pub fn copy_value(from: Cursor, values: &[u8], sizes: &[u32], s: &mut [u64], top
             return Placed::Fault;
         };
         s[top + n] = code_cell(x);
-        left = left - 1 + parts(x);
+        left = left - 1 + arena::parts(x);
         n += 1;
         c = next;
     }
@@ -246,21 +245,6 @@ fn with_each(s: &[u64], a: usize, b: usize, m: u64) -> bool
     true
 }
 
-// Whether no cell from `at` to `end` is that of an empty set: then a value there has one type only.
-fn full(s: &[u64], at: usize, end: usize) -> bool
-    requires { ⌜ (at ≤ end) × (end ≤ length (now s)) ⌝ }
-    ensures { λ r. ⌜ (r ≡ true → NoEmpty (now (s .entry)) at end) ⌝ }
-{
-    let mut i = at;
-    while i < end {
-        if s[i] == 21474836480 {
-            return false;
-        }
-        i += 1;
-    }
-    true
-}
-
 // How many of k values that share a type stand for all of them: the first, where it has one type only.
 fn few(one: bool, k: u64) -> u64
     ensures { λ r. ⌜ r ≡ cond one 1 k ⌝ }
@@ -280,7 +264,8 @@ fn share(s: &[u64], at: usize, n: u64) -> bool
         return true;
     }
     let end = arena::end_of(s, at);
-    let one = full(s, at, end);
+    // A value with no empty set in it has one type only.
+    let one = fitting::full(s, at, end);
     let mut i = end;
     let mut k: u64 = 1;
     while k < n {
@@ -315,7 +300,7 @@ pub fn well_typed(s: &[u64], at: usize, end: usize) -> bool
 
 // Reads one value without the faults that refusal 14 names.
 fn read_value(from: Cursor, values: &[u8], sizes: &[u32], s: &mut [u64], top: usize) -> Placed
-    requires { ⌜ top + 256 ≤ length (now s) ⌝ }
+    requires { ⌜ top + cellsAtMost 1 (length (now values) - from .at) ≤ length (now s) ⌝ }
     ensures { λ r. ⌜ Same top (now (s .entry)) (now (s .exit)) × ReadsGood (now (sizes .entry)) (now (values .entry)) (from .at) (now (s .exit)) top r ⌝ }
 {
     let r = copy_value(from, values, sizes, s, top);
@@ -343,7 +328,7 @@ fn read_entry(
     none: usize,
     top: usize,
 ) -> Entry
-    requires { ⌜ top + 256 ≤ length (now s) ⌝ }
+    requires { ⌜ top + cellsAtMost 1 (length (now values) - from .at) ≤ length (now s) ⌝ }
     ensures { λ r. ⌜ Same top (now (s .entry)) (now (s .exit)) × Enters (now (sizes .entry)) word (now (values .entry)) (from .at) (now (s .entry)) (now (s .exit)) none top r ⌝ }
 {
     if word != 0 {
@@ -364,7 +349,7 @@ pub fn read_values(
     s: &mut [u64],
     top: usize,
 ) -> Environment
-    requires { ⌜ Room (now binds) (now s) top ⌝ }
+    requires { ⌜ Room (now binds) (now values) (now s) top ⌝ }
     ensures { λ r. ⌜ Same top (now (s .entry)) (now (s .exit)) × Loads (now (sizes .entry)) (now (binds .entry)) (now (values .entry)) (now (s .exit)) (r .at) top (r .answer) ⌝ }
 {
     s[top] = 6442450944;

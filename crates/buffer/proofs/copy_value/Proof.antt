@@ -5,7 +5,7 @@ use native.Mathlib.Omega.{arith}
 use denote.Ref.{now}
 use Rattle.buffer.specs.declared.Step.{Step}
 use Rattle.buffer.specs.Buffer.{Takes}
-use Rattle.buffer.proofs.Walk.{Walk, bytes-all, walk-start, walk-step, walk-none, walk-heavy, walk-end}
+use Rattle.buffer.proofs.Walk.{Walk, bytes-all, walk-start, walk-room, walk-step, walk-none, walk-heavy, walk-end}
 use Rattle.buffer.proofs.copy_value.Statement.{statement}
 use Rattle.buffer.proofs.copy_value.Tie as tie
 
@@ -52,7 +52,14 @@ mul-s : tie.Need-mul-s Inv-loop μ-loop
 mul-s c = omega (arith, c .before .before .before .before .before .before .before .before .before .before .before .pre, c .before .before .before .before .before .if1 .left, c .before .before .before .before .before .before .loop-test .taken)
 
 slice-write-s : tie.Need-slice-write-s Inv-loop μ-loop
-slice-write-s c = omega (arith, c .before .before .before .before .before .before .before .before .before .before .before .pre, c .before .before .before .before .before .if1 .left, c .before .before .before .before .before .before .loop-test .taken, c .before .before .before .before .before .before .before .loop .inv .2 .frame .kept)
+slice-write-s c =
+    let x = c .before .before in
+    let t = x .before .before in
+    let i = t .before in
+    let l = i .before .before in
+    let start = l .before .before .before .before in
+    let g = subst (λ (r : Step). Takes (now (start .args .sizes)) (now (start .args .values)) (l .loop .c .at) r) (x .x .given .1) (t .take .ensures) in
+    walk-room (l .loop .inv .2) g (omega (arith, i .if1 .left, i .before .loop-test .taken)) (start .pre)
 
 sub-left : tie.Need-sub-left Inv-loop μ-loop
 sub-left c = search needs
@@ -70,7 +77,19 @@ loop-less : tie.Need-loop-less Inv-loop μ-loop
 loop-less c = omega (arith, c .before .before .before .before .before .before .if1 .left, c .before .before .before .before .before .before .before .loop-test .taken)
 
 loop-again : tie.Need-loop-again Inv-loop μ-loop
-loop-again c = (omega (arith, c .before .before .before .before .before .before .if1 .left, c .before .before .before .before .before .before .before .loop-test .taken), omega (arith, c .before .before .before .before .before .before .if1 .left, c .parts .ensures .1), walk-step (now (c .before .before .before .before .before .before .before .before .before .before .before .before .args .sizes)) (now (c .before .before .before .before .before .before .before .before .before .before .before .before .args .values)) (bytes-all (now (c .before .before .before .before .before .before .before .before .before .before .before .before .args .values)) (λ i l. omega (arith, c .before .before .before .before .before .before .before .before .before .before .before .shared-slice-known .given i))) _ _ _ _ _ _ _ (c .before .before .before .before .before .before .before .before .loop .inv .2) (c .before .before .before .before .before .before .before .loop-test .taken) _ _ _ _ (subst (λ (r : Step). Takes (now (c .before .before .before .before .before .before .before .before .before .before .before .before .args .sizes)) (now (c .before .before .before .before .before .before .before .before .before .before .before .before .args .values)) (c .before .before .before .before .before .before .before .before .loop .c .at) r) (c .before .before .before .x .given .1) (c .before .before .before .before .before .take .ensures)) (c .before .code-cell .ensures) (c .parts .ensures .0) (omega (arith, c .before .before .before .before .before .before .before .before .before .before .before .before .pre, c .before .before .before .before .before .before .if1 .left, c .before .before .before .before .before .before .before .loop-test .taken, c .before .before .before .before .before .before .before .before .loop .inv .2 .frame .kept)))
+loop-again c =
+    let x = c .before .before .before in
+    let t = x .before .before in
+    let i = t .before in
+    let l = i .before .before in
+    let start = l .before .before .before .before in
+    let values = now (start .args .values) in
+    let g = subst (λ (r : Step). Takes (now (start .args .sizes)) values (l .loop .c .at) r) (x .x .given .1) (t .take .ensures) in (
+      omega (arith, i .if1 .left, i .before .loop-test .taken),
+      omega (arith, i .if1 .left, c .parts .ensures .1),
+      walk-step (now (start .args .sizes)) values (bytes-all values (λ j m. omega (arith, l .before .before .before .shared-slice-known .given j)))
+          _ _ _ _ _ _ _ (l .loop .inv .2) (i .before .loop-test .taken) _ _ _ _ g (c .before .code-cell .ensures) (c .parts .ensures .0) (slice-write-s (c .before)),
+    )
 
 add-t17 : tie.Need-add-t17 Inv-loop μ-loop
 add-t17 c = omega (arith, c .before .before .before .before .before .pre)

@@ -2,7 +2,8 @@ use mathlib.Core.Path.{subst}
 use denote.Ref.{now}
 use Rattle.buffer.specs.declared.Placed.{Placed}
 use Rattle.buffer.specs.Loaded.{ReadsGood}
-use Rattle.buffer.proofs.Loading.{same-refl, entry-bound, entry-free, entry-bad}
+use Rattle.arena.proofs.Standing.{same-refl}
+use Rattle.buffer.proofs.Loading.{entry-bound, entry-free, entry-bad}
 use borrow.Author.Needs.{needs}
 use Rattle.buffer.proofs.read_entry.Statement.{statement}
 use Rattle.buffer.proofs.read_entry.Tie as tie

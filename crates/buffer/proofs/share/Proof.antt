@@ -35,10 +35,10 @@ few-requires : tie.Need-few-requires Inv-loop μ-loop
 few-requires c κs = search needs
 
 with-each-requires : tie.Need-with-each-requires Inv-loop μ-loop
-with-each-requires c κs = let g = (stand-for (now (c .before .before .before .before .before .before .before .args .s)) (c .before .before .before .before .before .before .before .args .at) (c .before .before .before .before .before .before .before .args .n) _ _ (c .before .before .before .before .before .before .before .pre .0) (c .before .before .before .before .before .before .before .pre .1) (c .before .before .loop .inv .1 (c .before .before .before .before .before .before .before .pre .0) (c .before .before .before .before .before .before .before .pre .1)) _ _ _ (c .before .before .loop .inv .0) (c .before .before .before .before .end-of .ensures) (c .before .before .before .full .ensures) (c .few .ensures)) in record { value = prefix-next (now (c .before .before .before .before .before .before .before .args .s)) (c .before .before .before .before .before .before .before .args .at) (c .before .before .before .before .before .before .before .args .n) _ _ (c .before .before .before .before .before .before .before .pre .0) (c .before .before .before .before .before .before .before .pre .1) (c .before .before .loop .inv .1 (c .before .before .before .before .before .before .before .pre .0) (c .before .before .before .before .before .before .before .pre .1)) (c .before .loop-test .taken); run = (g .few, g .run) }
+with-each-requires c κs = let g = (stand-for (now (c .before .before .before .before .before .before .before .args .s)) (c .before .before .before .before .before .before .before .args .at) (c .before .before .before .before .before .before .before .args .n) _ _ (c .before .before .before .before .before .before .before .pre .0) (c .before .before .before .before .before .before .before .pre .1) (c .before .before .loop .inv .1 (c .before .before .before .before .before .before .before .pre .0) (c .before .before .before .before .before .before .before .pre .1)) _ _ _ (c .before .before .loop .inv .0) (c .before .before .before .before .end-of .ensures) (c .before .before .before .full .ensures .sound) (c .few .ensures)) in record { value = prefix-next (now (c .before .before .before .before .before .before .before .args .s)) (c .before .before .before .before .before .before .before .args .at) (c .before .before .before .before .before .before .before .args .n) _ _ (c .before .before .before .before .before .before .before .pre .0) (c .before .before .before .before .before .before .before .pre .1) (c .before .before .loop .inv .1 (c .before .before .before .before .before .before .before .pre .0) (c .before .before .before .before .before .before .before .pre .1)) (c .before .loop-test .taken); run = (g .few, g .run) }
 
 returns-2 : tie.Need-returns-2 Inv-loop μ-loop
-returns-2 c = λ vs r. prefix-fails (now (c .before .before .before .before .before .before .before .before .before .args .s)) (c .before .before .before .before .before .before .before .before .before .args .at) (c .before .before .before .before .before .before .before .before .before .args .n) _ _ vs r (c .before .before .before .before .loop .inv .1 vs r) _ (c .before .before .before .loop-test .taken) (stand-for (now (c .before .before .before .before .before .before .before .before .before .args .s)) (c .before .before .before .before .before .before .before .before .before .args .at) (c .before .before .before .before .before .before .before .before .before .args .n) _ _ vs r (c .before .before .before .before .loop .inv .1 vs r) _ _ _ (c .before .before .before .before .loop .inv .0) (c .before .before .before .before .before .before .end-of .ensures) (c .before .before .before .before .before .full .ensures) (c .before .before .few .ensures)) (subst (λ (r : Bool). AgreedWith (now (c .before .before .before .before .before .before .before .before .before .args .s)) (c .before .before .before .before .loop .i) (c .before .before .before .before .before .before .before .before .before .args .at) (c .before .before .few .result) r) (not-true _ (c .if2 .taken)) (c .before .with-each .ensures))
+returns-2 c = λ vs r. prefix-fails (now (c .before .before .before .before .before .before .before .before .before .args .s)) (c .before .before .before .before .before .before .before .before .before .args .at) (c .before .before .before .before .before .before .before .before .before .args .n) _ _ vs r (c .before .before .before .before .loop .inv .1 vs r) _ (c .before .before .before .loop-test .taken) (stand-for (now (c .before .before .before .before .before .before .before .before .before .args .s)) (c .before .before .before .before .before .before .before .before .before .args .at) (c .before .before .before .before .before .before .before .before .before .args .n) _ _ vs r (c .before .before .before .before .loop .inv .1 vs r) _ _ _ (c .before .before .before .before .loop .inv .0) (c .before .before .before .before .before .before .end-of .ensures) (c .before .before .before .before .before .full .ensures .sound) (c .before .before .few .ensures)) (subst (λ (r : Bool). AgreedWith (now (c .before .before .before .before .before .before .before .before .before .args .s)) (c .before .before .before .before .loop .i) (c .before .before .before .before .before .before .before .before .before .args .at) (c .before .before .few .result) r) (not-true _ (c .if2 .taken)) (c .before .with-each .ensures))
 
 end-of-requires-2 : tie.Need-end-of-requires-2 Inv-loop μ-loop
 end-of-requires-2 c κs = some-at (prefix-next (now (c .before .before .before .before .before .before .before .before .before .args .s)) (c .before .before .before .before .before .before .before .before .before .args .at) (c .before .before .before .before .before .before .before .before .before .args .n) _ _ (c .before .before .before .before .before .before .before .before .before .pre .0) (c .before .before .before .before .before .before .before .before .before .pre .1) (c .before .before .before .before .loop .inv .1 (c .before .before .before .before .before .before .before .before .before .pre .0) (c .before .before .before .before .before .before .before .before .before .pre .1)) (c .before .before .before .loop-test .taken))
@@ -50,7 +50,7 @@ loop-less : tie.Need-loop-less Inv-loop μ-loop
 loop-less c = omega (arith, c .before .before .before .before .loop-test .taken)
 
 loop-again : tie.Need-loop-again Inv-loop μ-loop
-loop-again c = (omega arith, λ vs r. prefix-step (now (c .before .before .before .before .before .before .before .before .before .before .args .s)) (c .before .before .before .before .before .before .before .before .before .before .args .at) (c .before .before .before .before .before .before .before .before .before .before .args .n) _ _ vs r (c .before .before .before .before .before .loop .inv .1 vs r) _ (c .before .before .before .before .loop-test .taken) (stand-for (now (c .before .before .before .before .before .before .before .before .before .before .args .s)) (c .before .before .before .before .before .before .before .before .before .before .args .at) (c .before .before .before .before .before .before .before .before .before .before .args .n) _ _ vs r (c .before .before .before .before .before .loop .inv .1 vs r) _ _ _ (c .before .before .before .before .before .loop .inv .0) (c .before .before .before .before .before .before .before .end-of .ensures) (c .before .before .before .before .before .before .full .ensures) (c .before .before .before .few .ensures)) _ (c .end-of2 .ensures) (subst (λ (r : Bool). AgreedWith (now (c .before .before .before .before .before .before .before .before .before .before .args .s)) (c .before .before .before .before .before .loop .i) (c .before .before .before .before .before .before .before .before .before .before .args .at) (c .before .before .before .few .result) r) (not-false _ (c .before .if2 .left)) (c .before .before .with-each .ensures)))
+loop-again c = (omega arith, λ vs r. prefix-step (now (c .before .before .before .before .before .before .before .before .before .before .args .s)) (c .before .before .before .before .before .before .before .before .before .before .args .at) (c .before .before .before .before .before .before .before .before .before .before .args .n) _ _ vs r (c .before .before .before .before .before .loop .inv .1 vs r) _ (c .before .before .before .before .loop-test .taken) (stand-for (now (c .before .before .before .before .before .before .before .before .before .before .args .s)) (c .before .before .before .before .before .before .before .before .before .before .args .at) (c .before .before .before .before .before .before .before .before .before .before .args .n) _ _ vs r (c .before .before .before .before .before .loop .inv .1 vs r) _ _ _ (c .before .before .before .before .before .loop .inv .0) (c .before .before .before .before .before .before .before .end-of .ensures) (c .before .before .before .before .before .before .full .ensures .sound) (c .before .before .before .few .ensures)) _ (c .end-of2 .ensures) (subst (λ (r : Bool). AgreedWith (now (c .before .before .before .before .before .before .before .before .before .before .args .s)) (c .before .before .before .before .before .loop .i) (c .before .before .before .before .before .before .before .before .before .before .args .at) (c .before .before .before .few .result) r) (not-false _ (c .before .if2 .left)) (c .before .before .with-each .ensures)))
 
 returns-3 : tie.Need-returns-3 Inv-loop μ-loop
 returns-3 c = λ vs r. prefix-end (now (c .before .before .before .before .before .before .args .s)) (c .before .before .before .before .before .before .args .at) (c .before .before .before .before .before .before .args .n) _ _ vs r (c .before .loop .inv .1 vs r) (omega (arith, c .loop-test .left))
