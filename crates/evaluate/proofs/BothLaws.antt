@@ -30,8 +30,8 @@ use Rattle.evaluate.specs.Answers.{Ends, FormedAs, FormedBounds, SecondF
 use Rattle.evaluate.specs.Cycle.{Binds, Ready, Visited, EvaluatesP, EvaluatesE, EvaluatesBoth}
 use Rattle.evaluate.specs.Nodes.{IsExpr, TwoFields}
 use Rattle.evaluate.proofs.RunLaws.{then-done, then-refused, returns, visited, fitting-done, fitting-refused}
-use Rattle.evaluate.proofs.NodeLaws.{Child, ready-child, binds-frame, good-frame, sizes-small, node-tall}
-use Rattle.evaluate.proofs.JoinLaws.{visited-kind, visited-child, held-at}
+use Rattle.evaluate.proofs.NodeLaws.{Child, ready-child, ready-on, binds-frame, good-frame, sizes-small, node-tall, fields-tall, visited-kind, visited-operands, formed-as, both-as}
+use Rattle.evaluate.proofs.JoinLaws.{held-at}
 
 formed-within : (top budget : ℕ) {r : Formed} (r₀ : Formed) → r ≡ r₀ → FormedBounds top budget r → FormedBounds top budget r₀
 formed-within top budget r₀ e h = subst (λ (z : Formed). FormedBounds top budget z) e h
@@ -40,10 +40,7 @@ formed-within top budget r₀ e h = subst (λ (z : Formed). FormedBounds top bud
 formed-below : {bs env s : List ℕ} {top n steps budget a : ℕ} {c : Category} {s′ : List ℕ} {r : Formed} {b : ℕ} (r₀ : Formed) → Child bs n a c → a ≡ b → r ≡ r₀ →
     EvaluatesE bs env s top a steps budget s′ r → (g : ℕ) → n ≤ g → (ρ : Env) → Binds (tableOf bs .sizes) s top env ρ →
     FormedAs (valueᵉ budget (tableOf bs .sizes) (exprAt g (tableOf bs .nodes) b) ρ steps) (tableOf bs .sizes) s′ r₀
-formed-below {bs} {steps} {budget} {a} {s′} {r} {b} r₀ c q e h g le ρ bound =
-    let x = subst (λ (z : Formed). FormedAs (valueᵉ budget (tableOf bs .sizes) (exprAt g (tableOf bs .nodes) a) ρ steps) (tableOf bs .sizes) s′ z) e
-    (h .answer g ρ (omega (arith, c .below, le)) bound) in
-    subst (λ (z : ℕ). FormedAs (valueᵉ budget (tableOf bs .sizes) (exprAt g (tableOf bs .nodes) z) ρ steps) (tableOf bs .sizes) s′ r₀) q x
+formed-below r₀ c q e h g le ρ bound = formed-as q e h .answer g ρ (omega (arith, c .below, le, q)) bound
 
 module _ {bs : List ℕ} {base : ℕ} {env s : List ℕ} {top n steps budget : ℕ} (x : Ready bs base env s top n steps budget) (y : TwoFields bs n)
     {a : ℕ} (q : a ≡ nodeAt (tableOf bs .nodes) n .a) where
@@ -164,34 +161,15 @@ module _ (j : Test) (v w : Value) where
 
 both-next : {bs env s : List ℕ} {top n steps budget : ℕ} {s′ : List ℕ} {r : Operands} (r₀ : Operands) → r ≡ r₀ →
     EvaluatesBoth bs env s top n (steps + 1) budget s′ r → EvaluatesBoth bs env s top n (suc steps) budget s′ r₀
-both-next {bs} {env} {s} {top} {n} {steps} {budget} {s′} {r} r₀ d h =
-    subst (λ (z : Operands). EvaluatesBoth bs env s top n (suc steps) budget s′ z) d
-    (subst (λ (z : ℕ). EvaluatesBoth bs env s top n z budget s′ r) (add-one steps) h)
+both-next {bs} {env} {s} {top} {n} {steps} {budget} {s′} r₀ d h =
+    subst (λ (z : ℕ). EvaluatesBoth bs env s top n z budget s′ r₀) (add-one steps) (both-as d h)
 
 module _ {bs : List ℕ} {base : ℕ} {env s : List ℕ} {top k n steps budget : ℕ} (x : Visited bs base env s top k n steps budget) (j : Test) (e : kindOf k ≡ some (test j)) where
   test-fields : TwoFields bs n
-  test-fields =
-      let a = visited-child x (test j) e expression 0 (nodeAt (tableOf bs .nodes) n .a) (omega arith) (omega arith) refl refl in
-      let b = visited-child x (test j) e expression 1 (nodeAt (tableOf bs .nodes) n .b) (omega arith) (omega arith) refl refl in
-      record { left = a .below; right = b .below; leftIs = a .is; rightIs = b .is; leftLower = a .lower; rightLower = b .lower }
+  test-fields = visited-operands x (test j) e refl
 
   pub test-begins : Ready bs base env s top n (steps + 1) budget × TwoFields bs n
-  test-begins =
-      let r = x .ready in (
-        record {
-          readable = r .readable;
-          offset = r .offset;
-          node = r .node;
-          unspent = omega (arith, x .spent);
-          room = r .room;
-          tall = r .tall;
-          small = r .small;
-          entries = r .entries;
-          values = r .values;
-          binds = r .binds;
-        },
-        test-fields,
-      )
+  test-begins = (ready-on (steps + 1) (x .ready) (omega (arith, x .spent)), test-fields)
 
   abbrev eᵃ : ℕ → Expr
   eᵃ g = exprAt g (tableOf bs .nodes) (nodeAt (tableOf bs .nodes) n .a)
@@ -227,7 +205,7 @@ module _ {bs : List ℕ} {base : ℕ} {env s : List ℕ} {top k n steps budget :
             left = v .leftAt;
             right = v .rightAt;
             order = h .bounds .2;
-            room = omega (arith, x .ready .room, h .bounds .1, h .bounds .3, h .frame .kept);
+            room = omega (arith, x .ready .room, fields-tall (x .ready .readable) (x .ready .node) test-fields, h .bounds .1, h .bounds .3, h .frame .kept);
           }
 
       module _ {o : Tested} (op : TestOf k s′ a mid b next o) where

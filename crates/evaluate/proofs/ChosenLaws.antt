@@ -16,7 +16,8 @@ use Rattle.rules.specs.Evaluation.{select}
 use Rattle.arena.specs.Code.{code, codes, Stands, ValuesAt, Same, SomeAt, EndsAt}
 use Rattle.arena.proofs.CodeLaws.{length-code, length-codes}
 use Rattle.arena.proofs.Standing.{stands-append, stands-frame, same-refl, same-trans, copied-stands, count-weights, weight-pos}
-use Rattle.products.proofs.GrowLaws.{codes-append, count-append, weights-append, made-set}
+use Rattle.arena.proofs.FrontLaws.{single, codes-append, count-append, weights-append}
+use Rattle.products.proofs.GrowLaws.{made-set}
 use Rattle.operations.specs.Good.{GoodAt}
 use Rattle.operations.proofs.GoodLaws.{good-fits}
 use Rattle.evaluate.specs.declared.Held.{Held}
@@ -93,10 +94,6 @@ values-append : (s : List ℕ) (at : ℕ) (xs ys : List Value) → ValuesAt s at
 values-append s at xs ys h k =
     subst (λ (l : List ℕ). Stands s at l) (sym (codes-append xs ys))
     (stands-append s at (codes (values xs)) (codes (values ys)) h (subst (λ (i : ℕ). Stands s (at + i) (codes (values ys))) (sym (length-codes (values xs))) k))
-
-single : (v : Value) → codes (v ▸ none) ≡ code v
-unfolding code
-single v = append-nil (code v)
 
 -- What is chosen of a member stands behind what has been chosen.
 chosen-stands : (s : List ℕ) (at end : ℕ) (b : Bool) (to : ℕ) (s′ : List ℕ) (r : ℕ) (v : Value) → Chooses s at end b to s′ r → Stands s at (code v) → end ≡ at + weight v →

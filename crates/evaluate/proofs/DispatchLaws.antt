@@ -20,7 +20,7 @@ use Rattle.rules.specs.Tables.{Node, Pred, joinᵖ, notᵖ, testᵖ, quantᵖ, 
 use Rattle.rules.specs.Tables.{wordAt, nodeFrom, tableOf, nodeAt, kindAt, predOf, exprOf, predAt, exprAt, nodeCount, nodesAt}
 use Rattle.rules.specs.Readable.{Readable, CategoryIs}
 use Rattle.rules.specs.Ends.{done, refused}
-use Rattle.rules.specs.Runs.{visit, form, gives}
+use Rattle.rules.specs.Runs.{form, gives}
 use Rattle.rules.specs.Operations.{Env, leafValue}
 use Rattle.rules.specs.Evaluation.{holdsᵖ, valueᵉ}
 use Rattle.rules.proofs.TableLaws.{sizes-length, binds-length, nodes-entry}
@@ -28,7 +28,7 @@ use Rattle.rules.proofs.CellsLaws.{good-weight}
 use Rattle.rules.proofs.FormedLaws.{value-good}
 use Rattle.arena.proofs.Standing.{same-refl}
 use Rattle.operations.specs.Outcomes.{BuiltAt, LeafFits}
-use Rattle.operations.proofs.KindLaws.{testCode, quantCode, oneCode, twoCode, code-of, of-one, of-leaf}
+use Rattle.operations.proofs.KindLaws.{testCode, quantCode, oneCode, twoCode, code-of, kind-of}
 use Rattle.evaluate.specs.declared.Formed.{Formed}
 use Rattle.evaluate.specs.declared.Formed.the-variants.{Stopped}
 use Rattle.evaluate.specs.declared.Held.the-variants.{Refused}
@@ -36,7 +36,7 @@ use Rattle.evaluate.specs.Answers.{Ends, PlacedAs}
 use Rattle.evaluate.specs.Nodes.{IsPred, IsExpr, NameReady, NameAt, LeafNode, LeafFormed}
 use Rattle.evaluate.specs.Cycle.{Binds, Ready, Visited, Sort, EvaluatesP, EvaluatesE}
 use Rattle.evaluate.proofs.RunLaws.{visited, unvisited}
-use Rattle.evaluate.proofs.NodeLaws.{sizes-small, field-holds, expr-at}
+use Rattle.evaluate.proofs.NodeLaws.{sizes-small, field-holds, expr-at, visited-kind}
 
 -- The number of a tree's own node.
 abbrev numberᵖ : Pred → ℕ
@@ -153,7 +153,7 @@ module _ (k : ℕ) where
   quant-sort a b = along (λ (m : ℕ). Sort quant m) 10 2 ((forAll, refl), ((forSome, refl), tt)) k a (omega arith)
 
   one-is : (j : One) → k ≡ oneCode j → Sort one k
-  one-is j e = (j, ap kindOf e ∙ of-one j)
+  one-is j e = (j, kind-of k (one j) e)
 
   -- The codes of one arm: 27, 33, 38 and 43.
   abbrev Some-one : Type 0
@@ -172,8 +172,7 @@ module _ (k : ℕ) where
       (let d : k ≢ 33 = λ e. n (inr (inl e)) in omega (arith, d, m)) (omega arith)
 
   pub two-key : k ≡ 37 → Sort two k
-  unfolding kindOf
-  two-key e = (apply, ap kindOf e)
+  two-key e = (apply, kind-of k (two apply) e)
 
   pub two-low : (Some-one → ⊥) → 27 ≤ k → k < 33 → Sort two k
   unfolding kindOf
@@ -315,12 +314,8 @@ given-same v w e = cc
 
 -- What the evaluators of the leaves take for granted.
 module _ {bs : List ℕ} {base : ℕ} {env s : List ℕ} {top k n steps budget : ℕ} (v : Visited bs base env s top k n steps budget) where
-  -- The kind by the node's own code.
-  at-node : {x : Kind} → kindOf k ≡ some x → kindAt (tableOf bs .nodes) n ≡ some x
-  at-node e = ap kindOf (sym (v .kind)) ∙ e
-
   name-kind : k ≡ 20 → kindAt (tableOf bs .nodes) n ≡ some (leaf identifier)
-  name-kind e = at-node (ap kindOf e ∙ of-leaf identifier)
+  name-kind e = visited-kind v (leaf identifier) (kind-of k (leaf identifier) e)
 
   pub name-ready : k ≡ 20 → NameReady bs base env n
   name-ready e = record {
@@ -339,7 +334,7 @@ module _ {bs : List ℕ} {base : ℕ} {env s : List ℕ} {top k n steps budget :
     ready = record {
       kind = c .kind;
       is = c .is;
-      fits = constant-fits bs (v .ready .readable) n (v .ready .node) (c .kind) (at-node (c .is)) (c .no-name) h;
+      fits = constant-fits bs (v .ready .readable) n (v .ready .node) (c .kind) (visited-kind v (leaf (c .kind)) (c .is)) (c .no-name) h;
       room = omega (arith, v .ready .room);
     };
   }
@@ -411,5 +406,5 @@ module _ {bs : List ℕ} {base : ℕ} {env s : List ℕ} {top k n steps budget :
       subst (λ (x : Formed). EvaluatesE bs env s top n steps budget s′ x) (sym (h .is)) (record {
         frame = h .done .frame;
         bounds = (omega (arith, x .ends), omega (arith, x .ends, x .light), omega (arith, v .spent));
-        answer = λ f ρ l b. built-answer s′ (h .end) (p .ready .kind) (at-node (p .ready .is)) f ρ l b (leaf-built p s′ o h ρ);
+        answer = λ f ρ l b. built-answer s′ (h .end) (p .ready .kind) (visited-kind v (leaf (p .ready .kind)) (p .ready .is)) f ρ l b (leaf-built p s′ o h ρ);
       })

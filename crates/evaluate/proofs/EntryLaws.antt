@@ -35,8 +35,8 @@ use Rattle.evaluate.specs.Nodes.{IsPred}
 use Rattle.evaluate.specs.Result.{RefusedAt, Reported, Reports, needed, LoadReady, ArenaReady}
 
 -- The arena has room for the values of the identifiers.
-pub load-room : {bs ws s : List ℕ} → LoadReady bs s → ws ≡ tableOf bs .binds → Room ws s 0
-load-room {bs} {ws} {s} r e =
+pub load-room : {bs ws buffer s : List ℕ} → LoadReady bs buffer s → ws ≡ tableOf bs .binds → Room ws buffer s 0
+load-room {bs} {ws} r e =
     let l : length ws ≡ identifierCount bs = ap length e ∙ binds-length bs in
     record {
       few = omega (arith, l, r .readable .header .identifiers);
@@ -93,7 +93,7 @@ module _ (bs : List ℕ) {buffer s env : List ℕ} {top : ℕ} (b : Bound (table
     root-last = omega (arith, e, nodes-length bs)
 
     -- The condition at the root may be evaluated.
-    pub root-ready : {s₀ : List ℕ} {base budget : ℕ} → ArenaReady bs s₀ → length s ≡ length s₀ → length env ≡ 32 → base ≡ nodesAt bs →
+    pub root-ready : {s₀ : List ℕ} {base budget : ℕ} → ArenaReady bs buffer s₀ → length s ≡ length s₀ → length env ≡ 32 → base ≡ nodesAt bs →
         Ready bs base env s top (n - 1) 0 budget × IsPred bs (n - 1)
     root-ready {s₀} {base} {budget} r k l o = (
       record {
@@ -121,9 +121,9 @@ module _ (bs : List ℕ) {buffer s env : List ℕ} {top : ℕ} (b : Bound (table
         subst (λ (z : Run Bool). Reported z r) (sym (evaluation-run bs buffer budget (tableOf bs) (b .values) (reading-right bs .1 q) read-all)) y
 
 -- No table needs more than the large arena.
-pub needed-most : {bs : List ℕ} → Readable bs → needed bs ≤ 29187
+pub needed-most : {bs : List ℕ} (values : List ℕ) → Readable bs → needed bs values ≤ 28675
 unfolding lastNode
-needed-most {bs} q =
+needed-most {bs} values q =
     omega (
       arith,
       q .header .identifiers,

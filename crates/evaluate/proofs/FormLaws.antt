@@ -1,5 +1,5 @@
 -- What the evaluators of expressions with operands give: kinds 25, 27 to 41 and 43.
-use Prim.Native.Nat.{ℕ, suc, _+_, _*_, _≤_, _<_}
+use Prim.Native.Nat.{ℕ, suc, _+_, _≤_, _<_}
 use mathlib.Core.Bool.{Bool, true, false}
 use mathlib.Core.List.{List, [], _∷_}
 use mathlib.Core.Logic.{_⊎_, inl, inr}
@@ -8,66 +8,45 @@ use mathlib.Core.Path.{_≡_, refl, sym, ap, _∙_, subst}
 use native.Mathlib.Omega.{arith}
 use borrow.Author.Tests.{le-leb}
 use lib.Dec.{T}
-use lib.ListN.{length, getD}
+use lib.ListN.{getD}
 use mir.Val.{boolByte}
-use Rattle.rules.specs.Types.{Ty, atom, POW, _⊗_}
 use Rattle.rules.specs.Values.{Value, set, Values, truthValue, members, count, weight}
 use Rattle.rules.specs.Cells.{good}
-use Rattle.rules.specs.Kinds.{Kind, boolOf, one, two, comprehension, One, Two, Category, predicate, expression, unused, child, kindOf, fieldsOf}
+use Rattle.rules.specs.Kinds.{boolOf, one, two, comprehension, One, Two, predicate, expression, kindOf}
+use Rattle.rules.specs.Reading.{height}
 use Rattle.rules.specs.Rules.{oneRule, twoRule, comprehensionRule}
-use Rattle.rules.specs.Fits.{HasType, Fits, fits}
-use Rattle.rules.specs.Tables.{Pred, Expr, boolᵉ, oneᵉ, twoᵉ, comprehensionᵉ, tableOf, nodeAt, kindAt, predAt, exprAt, fieldWords}
+use Rattle.rules.specs.Fits.{fits}
+use Rattle.rules.specs.Tables.{Pred, Expr, boolᵉ, oneᵉ, twoᵉ, comprehensionᵉ, tableOf, nodeAt, predAt, exprAt, fieldWords}
 use Rattle.rules.specs.Readable.{Readable}
 use Rattle.rules.specs.Ends.{End, done, refused}
 use Rattle.rules.specs.Runs.{Run, M, _>>=_, _>>_, form, Given, gives}
 use Rattle.rules.specs.Operations.{Env, _with_≔_, elems, setOf, oneValue, twoValue}
 use Rattle.rules.specs.Evaluation.{fitting, select, holdsᵖ, valueᵉ}
-use Rattle.rules.proofs.FormedLaws.{value-good, elems-good}
-use Rattle.rules.proofs.FitsLaws.{typed-right, fits-right}
-use Rattle.rules.proofs.TableLaws.{binds-length}
-use Rattle.rules.proofs.CellsLaws.{good-weight, good-typed}
-use Rattle.arena.specs.Code.{cellSize, code, codes}
-use Rattle.arena.proofs.Standing.{stands-tail, same-trans}
+use Rattle.rules.proofs.FormedLaws.{value-good}
+use Rattle.arena.specs.Code.{code}
+use Rattle.arena.proofs.Standing.{same-trans}
 use Rattle.products.specs.Growing.{PutsCell}
-use Rattle.operations.specs.Good.{Sizes, GoodAt}
+use Rattle.operations.specs.Good.{Sizes}
 use Rattle.operations.specs.Outcomes.{weighed, oneGiven, twoGiven, Gives, OneReady, TwoReady, OneOf, TwoOf}
 use Rattle.operations.specs.declared.Outcome.{Outcome}
 use Rattle.operations.specs.declared.Outcome.the-variants.{Built}
-use Rattle.evaluate.specs.declared.Held.{Held}
+use Rattle.operations.proofs.KindLaws.{kind-of}
 use Rattle.evaluate.specs.declared.Held.the-variants.{Truth, Refused}
 use Rattle.evaluate.specs.declared.Formed.{Formed}
 use Rattle.evaluate.specs.declared.Formed.the-variants.{Value as Placed, Stopped}
-use Rattle.evaluate.specs.declared.Operands.{Operands}
 use Rattle.evaluate.specs.declared.Operands.the-variants.{Both, Failed}
 use Rattle.evaluate.specs.declared.Range.{Range}
 use Rattle.evaluate.specs.declared.Range.the-variants.{Set, Unlike}
 use Rattle.evaluate.specs.Answers.{Ends, PlacedAs, FormedAs, BothAs, SecondFails, Listed, SelectedAs, SettledAs, SettleReady}
 use Rattle.evaluate.specs.Nodes.{TwoFields, SomeGood, RangeAt}
-use Rattle.evaluate.specs.Cycle.{Binds, Ready, Visited, EvaluatesP, EvaluatesE, EvaluatesBoth, EachReady, bodyAt, EvaluatesChosen, Settles}
+use Rattle.evaluate.specs.Cycle.{Binds, Visited, EvaluatesP, EvaluatesE, EvaluatesBoth, EachReady, bodyAt, EvaluatesChosen, Settles}
 use Rattle.evaluate.proofs.RunLaws.{then-done, then-refused, visited, endOf, form-ends, fitted-ends, fitting-done, fitting-refused, ends-as}
-use Rattle.evaluate.proofs.NodeLaws.{sizes-small, binds-frame, Child, field-holds, field-child, expr-at, ready-child}
+use Rattle.evaluate.proofs.NodeLaws.{sizes-small, binds-frame, Child, fields-tall, expr-at, visited-kind, visited-child, visited-operands, held-as, formed-as}
+use Rattle.evaluate.proofs.RangeLaws.{placed-good, range-fits, range-listed, binder-ready}
 
 -- The visits after one more, as the code counts them.
 next-step : {A : Type 0} (m : M A) (s : ℕ) {e : End A} {t : ℕ} → Ends (m (s + 1)) e t → Ends (m (suc s)) e t
 next-step {A} m s {e} {t} h = let q : s + 1 ≡ suc s = omega arith in subst (λ (z : ℕ). Ends (m z) e t) q h
-
--- The kind of a node that is visited, and its child in field i.
-module _ {bs : List ℕ} {base : ℕ} {env s : List ℕ} {top k n steps budget : ℕ} (x : Visited bs base env s top k n steps budget) (κ : Kind)
-    (e : kindOf k ≡ some κ) where
-  pub kind-at : kindAt (tableOf bs .nodes) n ≡ some κ
-  kind-at = ap kindOf (sym (x .kind)) ∙ e
-
-  pub child-at : (c : Category) (i m : ℕ) → i < 3 → i < length (fieldsOf κ) → getD (fieldsOf κ) i unused ≡ child c →
-      m ≡ getD (fieldWords (nodeAt (tableOf bs .nodes) n)) i 0 → Child bs n m c
-  child-at c i m l l′ q w =
-      subst (λ (z : ℕ). Child bs n z c) (sym w) (field-child bs (x .ready .readable) n (x .ready .node) κ kind-at c i l l′ q)
-
--- The same answer for the same node.
-pub evaluated-as : {bs env s : List ℕ} {top m m′ steps budget : ℕ} {s′ : List ℕ} {r r′ : Formed} → m ≡ m′ → r ≡ r′ →
-    EvaluatesE bs env s top m steps budget s′ r → EvaluatesE bs env s top m′ steps budget s′ r′
-evaluated-as {bs} {env} {s} {top} {m} {m′} {steps} {budget} {s′} {r} {r′} e q h =
-    subst (λ (z : Formed). EvaluatesE bs env s top m′ steps budget s′ z) q
-    (subst (λ (z : ℕ). EvaluatesE bs env s top z steps budget s′ r) e h)
 
 -- A node's end is what it gives; where that has been settled it is the node's answer.
 module _ (budget : ℕ) (bs : List ℕ) (f n : ℕ) (ρ : Env) (steps : ℕ) (readable : Readable bs) (ok : (x : ℕ) → T (good (tableOf bs .sizes) (ρ x)))
@@ -109,15 +88,15 @@ module _ (budget : ℕ) (gs : List ℕ) (n : ℕ) (j : One) (e : Expr) (ρ : Env
 module _ {bs : List ℕ} {base : ℕ} {env s : List ℕ} {top k n m steps budget : ℕ} (x : Visited bs base env s top k n steps budget)
     (j : One) (e : kindOf k ≡ some (one j)) (w : m ≡ getD (fieldWords (nodeAt (tableOf bs .nodes) n)) 0 0) where
   pub one-child : Child bs n m expression
-  one-child = child-at x (one j) e expression 0 m (omega arith) (omega arith) refl w
+  one-child = visited-child x (one j) e expression 0 m (omega arith) (omega arith) refl w
 
   pub one-fails : {s₁ : List ℕ} {q p t : ℕ} → EvaluatesE bs env s top m (steps + 1) budget s₁ (Stopped q p t) → EvaluatesE bs env s top n steps budget s₁ (Stopped q p t)
   one-fails h = record {
     frame = h .frame;
     bounds = h .bounds;
     answer = λ f ρ l b.
-        let d = expr-at (tableOf bs .nodes) n (one j) (kind-at x (one j) e) f l in
-        let v = evaluated-as w refl h .answer (d .depth) ρ (omega (arith, d .enough, one-child .below, w)) b in
+        let d = expr-at (tableOf bs .nodes) n (one j) (visited-kind x (one j) e) f l in
+        let v = formed-as w refl h .answer (d .depth) ρ (omega (arith, d .enough, one-child .below, w)) b in
         ends-as (ap (λ (z : Expr). valueᵉ budget (tableOf bs .sizes) z ρ steps) (d .is))
         (one-refused budget (tableOf bs .sizes) n j (exprAt (d .depth) (tableOf bs .nodes) (nodeAt (tableOf bs .nodes) n .a)) ρ steps (x .spent) v);
   }
@@ -132,7 +111,7 @@ module _ {bs : List ℕ} {base : ℕ} {env s : List ℕ} {top k n m steps budget
       small = sizes-small bs (x .ready .readable);
       value = operand-at .value;
       operand = operand-at .place;
-      room = omega (arith, x .ready .room, h .bounds .1, h .frame .kept);
+      room = omega (arith, x .ready .room, one-child .lower, one-child .tall, h .bounds .1, h .frame .kept);
     }
 
     module _ {s₂ : List ℕ} {o : Outcome} (op : OneOf k s₁ at next s₂ o) where
@@ -143,7 +122,7 @@ module _ {bs : List ℕ} {base : ℕ} {env s : List ℕ} {top k n m steps budget
         low = h .bounds .0;
         high = h .bounds .1;
         order = omega arith;
-        room = omega (arith, x .ready .room, h .bounds .1, h .frame .kept, op j e .frame .kept);
+        room = omega (arith, x .ready .room, one-child .lower, one-child .tall, h .bounds .1, h .frame .kept, op j e .frame .kept);
         within = h .bounds .2;
       }
 
@@ -152,8 +131,8 @@ module _ {bs : List ℕ} {base : ℕ} {env s : List ℕ} {top k n m steps budget
         frame = same-trans top top s s₂ s₃ (same-trans top next s s₁ s₂ (h .frame) (op j e .frame) (h .bounds .0)) (st .frame) (omega arith);
         bounds = st .bounds;
         answer = λ f ρ l b.
-            let d = expr-at (tableOf bs .nodes) n (one j) (kind-at x (one j) e) f l in
-            let v = evaluated-as w refl h .answer (d .depth) ρ (omega (arith, d .enough, one-child .below, w)) b in
+            let d = expr-at (tableOf bs .nodes) n (one j) (visited-kind x (one j) e) f l in
+            let v = formed-as w refl h .answer (d .depth) ρ (omega (arith, d .enough, one-child .below, w)) b in
             settled-as budget bs f n ρ steps (x .ready .readable) (b .good) (oneGiven j (v .value)) t
             (ends-as (ap (λ (z : Expr). valueᵉ budget (tableOf bs .sizes) z ρ steps) (d .is))
             (one-done budget (tableOf bs .sizes) n j (exprAt (d .depth) (tableOf bs .nodes) (nodeAt (tableOf bs .nodes) n .a)) ρ steps (x .spent) (v .ends)))
@@ -185,34 +164,14 @@ module _ (budget : ℕ) (gs : List ℕ) (n : ℕ) (j : Two) (e f : Expr) (ρ : E
       (then-done (valueᵉ budget gs e ρ) (λ v. valueᵉ budget gs f ρ >>= λ w. formed v w) (suc s) (next-step (valueᵉ budget gs e ρ) s (h .left))
       (then-refused (valueᵉ budget gs f ρ) (λ w. formed (h .first) w) (h .between) (h .right)))
 
--- The same node, after more visits.
-pub ready-on : {bs : List ℕ} {base : ℕ} {env s : List ℕ} {top n steps budget : ℕ} (steps′ : ℕ) → Ready bs base env s top n steps budget → steps′ ≤ budget →
-    Ready bs base env s top n steps′ budget
-ready-on steps′ r within = record {
-  readable = r .readable;
-  offset = r .offset;
-  node = r .node;
-  unspent = within;
-  room = r .room;
-  tall = r .tall;
-  small = r .small;
-  entries = r .entries;
-  values = r .values;
-  binds = r .binds;
-}
-
-pub both-as : {bs env s : List ℕ} {top n steps budget : ℕ} {s′ : List ℕ} {r r′ : Operands} → r ≡ r′ →
-    EvaluatesBoth bs env s top n steps budget s′ r → EvaluatesBoth bs env s top n steps budget s′ r′
-both-as {bs} {env} {s} {top} {n} {steps} {budget} {s′} {r} {r′} q h = subst (λ (z : Operands). EvaluatesBoth bs env s top n steps budget s′ z) q h
-
 -- The node's operands have been evaluated.
 module _ {bs : List ℕ} {base : ℕ} {env s : List ℕ} {top k n steps budget : ℕ} (x : Visited bs base env s top k n steps budget)
     (j : Two) (e : kindOf k ≡ some (two j)) where
   pub two-fields : TwoFields bs n
-  two-fields =
-      let a = child-at x (two j) e expression 0 (nodeAt (tableOf bs .nodes) n .a) (omega arith) (omega arith) refl refl in
-      let b = child-at x (two j) e expression 1 (nodeAt (tableOf bs .nodes) n .b) (omega arith) (omega arith) refl refl in
-      record { left = a .below; right = b .below; leftIs = a .is; rightIs = b .is; leftLower = a .lower; rightLower = b .lower }
+  two-fields = visited-operands x (two j) e refl
+
+  two-tall : 2 ≤ height (tableOf bs .nodes) n
+  two-tall = fields-tall (x .ready .readable) (x .ready .node) two-fields
 
   pub two-fails : {s₁ : List ℕ} {q p t : ℕ} → EvaluatesBoth bs env s top n (steps + 1) budget s₁ (Failed q p t) →
       EvaluatesE bs env s top n steps budget s₁ (Stopped q p t)
@@ -220,7 +179,7 @@ module _ {bs : List ℕ} {base : ℕ} {env s : List ℕ} {top k n steps budget :
     frame = h .frame;
     bounds = h .bounds;
     answer = λ f ρ l b.
-        let d = expr-at (tableOf bs .nodes) n (two j) (kind-at x (two j) e) f l in
+        let d = expr-at (tableOf bs .nodes) n (two j) (visited-kind x (two j) e) f l in
         ends-as (ap (λ (z : Expr). valueᵉ budget (tableOf bs .sizes) z ρ steps) (d .is))
         (two-refused budget (tableOf bs .sizes) n j (exprAt (d .depth) (tableOf bs .nodes) (nodeAt (tableOf bs .nodes) n .a))
         (exprAt (d .depth) (tableOf bs .nodes) (nodeAt (tableOf bs .nodes) n .b)) ρ steps (x .spent) (h .answer (d .depth) ρ (d .enough) b));
@@ -241,7 +200,7 @@ module _ {bs : List ℕ} {base : ℕ} {env s : List ℕ} {top k n steps budget :
       left = operands-at .leftAt;
       right = operands-at .rightAt;
       order = h .bounds .2;
-      room = omega (arith, x .ready .room, h .bounds .1, h .bounds .3, h .frame .kept);
+      room = omega (arith, x .ready .room, two-tall, h .bounds .1, h .bounds .3, h .frame .kept);
     }
 
     module _ {s₂ : List ℕ} {o : Outcome} (op : TwoOf k s₁ at mid other next s₂ o) where
@@ -254,7 +213,7 @@ module _ {bs : List ℕ} {base : ℕ} {env s : List ℕ} {top k n steps budget :
         low = h .bounds .0;
         high = h .bounds .1;
         order = h .bounds .2;
-        room = omega (arith, x .ready .room, h .bounds .1, h .bounds .3, h .frame .kept, op j e .frame .kept);
+        room = omega (arith, x .ready .room, two-tall, h .bounds .1, h .bounds .3, h .frame .kept, op j e .frame .kept);
         within = h .bounds .4;
       }
 
@@ -265,7 +224,7 @@ module _ {bs : List ℕ} {base : ℕ} {env s : List ℕ} {top k n steps budget :
             (st .frame) (omega arith);
         bounds = st .bounds;
         answer = λ f ρ l b.
-            let d = expr-at (tableOf bs .nodes) n (two j) (kind-at x (two j) e) f l in
+            let d = expr-at (tableOf bs .nodes) n (two j) (visited-kind x (two j) e) f l in
             let v = h .answer (d .depth) ρ (d .enough) b in
             settled-as budget bs f n ρ steps (x .ready .readable) (b .good) (twoGiven j (v .first) (v .second)) t
             (ends-as (ap (λ (z : Expr). valueᵉ budget (tableOf bs .sizes) z ρ steps) (d .is))
@@ -286,10 +245,6 @@ unfolding code
 truth-code true = refl
 truth-code false = refl
 
-bool-kind : (k : ℕ) → k ≡ 25 → kindOf k ≡ some boolOf
-unfolding kindOf
-bool-kind k e = rw e
-
 module _ (budget : ℕ) (gs : List ℕ) (n : ℕ) (p : Pred) (ρ : Env) (s : ℕ) (l : s < budget) where
   bool-done : {b : Bool} {t : ℕ} → Ends (holdsᵖ budget gs p ρ (s + 1)) (done b) t → Ends (valueᵉ budget gs (boolᵉ n p) ρ s) (done (truthValue b)) t
   unfolding valueᵉ
@@ -304,25 +259,18 @@ module _ (budget : ℕ) (gs : List ℕ) (n : ℕ) (p : Pred) (ρ : Env) (s : ℕ
       visited budget n s _ l
       (then-refused (holdsᵖ budget gs p ρ) (λ b. form n (gives (truthValue b))) (suc s) (next-step (holdsᵖ budget gs p ρ) s h))
 
--- The same answer for the same condition.
-pub held-as : {bs env s : List ℕ} {top m m′ steps budget : ℕ} {s′ : List ℕ} {r r′ : Held} → m ≡ m′ → r ≡ r′ →
-    EvaluatesP bs env s top m steps budget s′ r → EvaluatesP bs env s top m′ steps budget s′ r′
-held-as {bs} {env} {s} {top} {m} {m′} {steps} {budget} {s′} {r} {r′} e q h =
-    subst (λ (z : Held). EvaluatesP bs env s top m′ steps budget s′ z) q
-    (subst (λ (z : ℕ). EvaluatesP bs env s top z steps budget s′ r) e h)
-
 -- The node's condition m in field a has been evaluated.
 module _ {bs : List ℕ} {base : ℕ} {env s : List ℕ} {top k n m steps budget : ℕ} (x : Visited bs base env s top k n steps budget)
     (e : k ≡ 25) (w : m ≡ getD (fieldWords (nodeAt (tableOf bs .nodes) n)) 0 0) where
   pub bool-child : Child bs n m predicate
-  bool-child = child-at x boolOf (bool-kind k e) predicate 0 m (omega arith) (omega arith) refl w
+  bool-child = visited-child x boolOf (kind-of k boolOf e) predicate 0 m (omega arith) (omega arith) refl w
 
   pub bool-fails : {s₁ : List ℕ} {q p t : ℕ} → EvaluatesP bs env s top m (steps + 1) budget s₁ (Refused q p t) → EvaluatesE bs env s top n steps budget s₁ (Stopped q p t)
   bool-fails h = record {
     frame = h .frame;
     bounds = h .bounds;
     answer = λ f ρ l b.
-        let d = expr-at (tableOf bs .nodes) n boolOf (kind-at x boolOf (bool-kind k e)) f l in
+        let d = expr-at (tableOf bs .nodes) n boolOf (visited-kind x boolOf (kind-of k boolOf e)) f l in
         let v = held-as w refl h .answer (d .depth) ρ (omega (arith, d .enough, bool-child .below, w)) b in
         ends-as (ap (λ (z : Expr). valueᵉ budget (tableOf bs .sizes) z ρ steps) (d .is))
         (bool-refused budget (tableOf bs .sizes) n (predAt (d .depth) (tableOf bs .nodes) (nodeAt (tableOf bs .nodes) n .a)) ρ steps (x .spent) v);
@@ -337,7 +285,7 @@ module _ {bs : List ℕ} {base : ℕ} {env s : List ℕ} {top k n m steps budget
           frame = same-trans top top s s₁ s₂ (h .frame) (made .frame) (omega arith);
           bounds = (omega (arith, q .0), omega (arith, q .0), h .bounds);
           answer = λ f ρ l b.
-              let d = expr-at (tableOf bs .nodes) n boolOf (kind-at x boolOf (bool-kind k e)) f l in
+              let d = expr-at (tableOf bs .nodes) n boolOf (visited-kind x boolOf (kind-of k boolOf e)) f l in
               let v = held-as w refl h .answer (d .depth) ρ (omega (arith, d .enough, bool-child .below, w)) b in
               let z = ends-as (ap (λ (z : Expr). valueᵉ budget (tableOf bs .sizes) z ρ steps) (d .is))
               (bool-done budget (tableOf bs .sizes) n (predAt (d .depth) (tableOf bs .nodes) (nodeAt (tableOf bs .nodes) n .a)) ρ steps (x .spent) v) in
@@ -353,36 +301,6 @@ module _ {bs : List ℕ} {base : ℕ} {env s : List ℕ} {top k n m steps budget
         }
 
 -- 34
-select-kind : (k : ℕ) → k ≡ 34 → kindOf k ≡ some comprehension
-unfolding kindOf
-select-kind k e = rw e
-
-is-true : (b : Bool) → T b → b ≡ true
-is-true true h = refl
-is-true false h = absurd h
-
--- A good set fits as a range.
-set-fits : (gs : List ℕ) (vs : Values) → T (good gs (set vs)) → fits (comprehensionRule .takes) (set vs ∷ []) ≡ true
-set-fits gs vs h =
-    let y = typed-right (set vs) .0 (good-typed gs (set vs) h) in
-    is-true (fits (comprehensionRule .takes) (set vs ∷ [])) (fits-right (comprehensionRule .takes) (set vs ∷ []) .1 (go (y .0) (y .1)))
-  where
-    go : (t : Ty) → HasType (set vs) t → Fits (comprehensionRule .takes) (set vs ∷ [])
-    go (atom a) k = absurd k
-    go (POW t) k = (t, t, (k, tt))
-    go (t ⊗ u) k = absurd k
-
--- The members of a good set stand behind its header.
-set-listed : {gs s : List ℕ} {top at : ℕ} (n : ℕ) (vs : Values) → n ≡ count vs → GoodAt gs s top at (set vs) → Listed gs s top (at + 1) n vs
-unfolding code
-set-listed {gs} {s} {top} {at} n vs e h = record {
-  stands = stands-tail s at (5 * cellSize + count vs) (codes vs) (h .stands);
-  counted = e;
-  below = omega (arith, h .below);
-  good = elems-good gs (set vs) (h .good);
-  light = omega (arith, good-weight gs (set vs) (h .good));
-}
-
 -- The range of a node, as the set of n members that it is.
 record RangeHere (x : Run Value) (gs s : List ℕ) (at next t n : ℕ) : Type 0 where
   range : Values
@@ -393,12 +311,11 @@ record RangeHere (x : Run Value) (gs s : List ℕ) (at next t n : ℕ) : Type 0 
 range-here : {x : Run Value} {gs s : List ℕ} {at next t : ℕ} (n : ℕ) → Sizes gs → RangeAt s at (Set n) → PlacedAs x gs s at next t → RangeHere x gs s at next t n
 range-here {x} {gs} {s} {at} {next} {t} n z g h =
     let r = g gs next (h .value) z (h .place) in
-    let p : GoodAt gs s next at (set (r .members)) = subst (λ (v : Value). GoodAt gs s next at v) (r .is) (h .place) in
     record {
       range = r .members;
       ends = subst (λ (v : Value). Ends x (done v) t) (r .is) (h .ends);
-      listed = set-listed n (r .members) (r .counted) p;
-      fit = set-fits gs (r .members) (p .good);
+      listed = range-listed (h .place) r;
+      fit = subst (λ (v : Value). fits (comprehensionRule .takes) (v ∷ []) ≡ true) (r .is) (range-fits (h .place) r);
     }
 
 module _ (budget : ℕ) (gs : List ℕ) (n x : ℕ) (r : Expr) (p : Pred) (ρ : Env) (s : ℕ) (l : s < budget) where
@@ -465,15 +382,15 @@ module _ {bs : List ℕ} {base : ℕ} {env s : List ℕ} {top k n m steps budget
   binder = nodeAt (tableOf bs .nodes) n .a
 
   pub select-child : Child bs n m expression
-  select-child = child-at x comprehension (select-kind k e) expression 1 m (omega arith) (omega arith) refl w
+  select-child = visited-child x comprehension (kind-of k comprehension e) expression 1 m (omega arith) (omega arith) refl w
 
   pub select-fails : {s₁ : List ℕ} {q p t : ℕ} → EvaluatesE bs env s top m (steps + 1) budget s₁ (Stopped q p t) → EvaluatesE bs env s top n steps budget s₁ (Stopped q p t)
   select-fails h = record {
     frame = h .frame;
     bounds = h .bounds;
     answer = λ f ρ l b.
-        let d = expr-at (tableOf bs .nodes) n comprehension (kind-at x comprehension (select-kind k e)) f l in
-        let v = evaluated-as w refl h .answer (d .depth) ρ (omega (arith, d .enough, select-child .below, w)) b in
+        let d = expr-at (tableOf bs .nodes) n comprehension (visited-kind x comprehension (kind-of k comprehension e)) f l in
+        let v = formed-as w refl h .answer (d .depth) ρ (omega (arith, d .enough, select-child .below, w)) b in
         ends-as (ap (λ (z : Expr). valueᵉ budget (tableOf bs .sizes) z ρ steps) (d .is))
         (select-refused budget (tableOf bs .sizes) n binder (tree (d .depth)) (body (d .depth)) ρ steps (x .spent) v);
   }
@@ -483,13 +400,7 @@ module _ {bs : List ℕ} {base : ℕ} {env s : List ℕ} {top k n m steps budget
     range-at = h .answer n (x .ready .values) (select-child .below) (x .ready .binds)
 
     pub range-good : SomeGood s₁ at
-    range-good = record {
-      sizes = tableOf bs .sizes;
-      small = sizes-small bs (x .ready .readable);
-      top = next;
-      value = range-at .value;
-      stands = range-at .place;
-    }
+    range-good = placed-good (sizes-small bs (x .ready .readable)) range-at
 
     pub range-low : at < 4294967296
     range-low = omega (arith, range-at .place .below, h .bounds .1, x .ready .room, x .ready .small)
@@ -499,8 +410,8 @@ module _ {bs : List ℕ} {base : ℕ} {env s : List ℕ} {top k n m steps budget
       frame = h .frame;
       bounds = h .bounds .2;
       answer = λ f ρ l b.
-          let d = expr-at (tableOf bs .nodes) n comprehension (kind-at x comprehension (select-kind k e)) f l in
-          let v = evaluated-as w refl h .answer (d .depth) ρ (omega (arith, d .enough, select-child .below, w)) b in
+          let d = expr-at (tableOf bs .nodes) n comprehension (visited-kind x comprehension (kind-of k comprehension e)) f l in
+          let v = formed-as w refl h .answer (d .depth) ρ (omega (arith, d .enough, select-child .below, w)) b in
           ends-as (ap (λ (z : Expr). valueᵉ budget (tableOf bs .sizes) z ρ steps) (d .is))
           (select-unlike budget (tableOf bs .sizes) n binder (tree (d .depth)) (body (d .depth)) ρ steps (x .spent) (v .ends)
           (g (tableOf bs .sizes) next (v .value) (sizes-small bs (x .ready .readable)) (v .place)));
@@ -509,27 +420,16 @@ module _ {bs : List ℕ} {base : ℕ} {env s : List ℕ} {top k n m steps budget
     module _ {count : ℕ} (g : RangeAt s₁ at (Set count)) where
       pub select-each : EachReady bs base env s₁ next n (at + 1) count t budget
       select-each =
-          let q = kind-at x comprehension (select-kind k e) in
-          let c = child-at x comprehension (select-kind k e) predicate 2 (nodeAt (tableOf bs .nodes) n .c) (omega arith) (omega arith) refl refl in
-          let a : binder < length (tableOf bs .binds) = field-holds bs (x .ready .readable) n (x .ready .node) comprehension q 0 (omega arith) in
-          let r = range-here count (sizes-small bs (x .ready .readable)) g range-at in
-          record {
-            ready = ready-child s₁ (nodeAt (tableOf bs .nodes) n .c) next t (x .ready) c (h .frame) (h .bounds .0) (omega (arith, h .bounds .1)) (h .bounds .2);
-            binder = x .ready .node;
-            deeper = c .below;
-            is = c .is;
-            name = omega (arith, a, binds-length bs, x .ready .readable .header .identifiers);
-            space = omega (arith, c .lower, x .ready .room, h .frame .kept, h .bounds .1);
-            range = r .range;
-            listed = r .listed;
-          }
+          let v = range-at in
+          binder-ready (x .ready) (visited-kind x comprehension (kind-of k comprehension e)) refl (h .frame) (h .bounds .0) (h .bounds .1) (h .bounds .2) (v .place)
+          (g (tableOf bs .sizes) next (v .value) (sizes-small bs (x .ready .readable)) (v .place))
 
       -- The range at an environment, and the members of it that the body selects.
       range-of : (f : ℕ) (ρ : Env) → n ≤ f → Binds (tableOf bs .sizes) s top env ρ →
           RangeHere (valueᵉ budget (tableOf bs .sizes) (tree f) ρ (steps + 1)) (tableOf bs .sizes) s₁ at next t count
       range-of f ρ d b =
           range-here count (sizes-small bs (x .ready .readable)) g
-          (evaluated-as w refl h .answer f ρ (omega (arith, d, select-child .below, w)) b)
+          (formed-as w refl h .answer f ρ (omega (arith, d, select-child .below, w)) b)
 
       pub chosen-fails : {s₂ : List ℕ} {q p u : ℕ} → EvaluatesChosen bs env s₁ next n (at + 1) count t budget s₂ (Stopped q p u) →
           EvaluatesE bs env s top n steps budget s₂ (Stopped q p u)
@@ -537,7 +437,7 @@ module _ {bs : List ℕ} {base : ℕ} {env s : List ℕ} {top k n m steps budget
         frame = same-trans top next s s₁ s₂ (h .frame) (ch .frame) (h .bounds .0);
         bounds = ch .bounds;
         answer = λ f ρ l b.
-            let d = expr-at (tableOf bs .nodes) n comprehension (kind-at x comprehension (select-kind k e)) f l in
+            let d = expr-at (tableOf bs .nodes) n comprehension (visited-kind x comprehension (kind-of k comprehension e)) f l in
             let v = range-of (d .depth) ρ (d .enough) b in
             ends-as (ap (λ (z : Expr). valueᵉ budget (tableOf bs .sizes) z ρ steps) (d .is))
             (select-stops budget (tableOf bs .sizes) n binder (tree (d .depth)) (body (d .depth)) ρ steps (x .spent) (v .ends) (v .fit)
@@ -565,7 +465,7 @@ module _ {bs : List ℕ} {base : ℕ} {env s : List ℕ} {top k n m steps budget
               low = h .bounds .0;
               high = h .bounds .1;
               order = omega arith;
-              room = omega (arith, x .ready .room, h .bounds .1, h .frame .kept, ch .frame .kept);
+              room = omega (arith, x .ready .room, select-child .lower, select-child .tall, h .bounds .1, h .frame .kept, ch .frame .kept);
               within = ch .bounds .2;
             }
 
@@ -574,7 +474,7 @@ module _ {bs : List ℕ} {base : ℕ} {env s : List ℕ} {top k n m steps budget
           frame = same-trans top top s s₂ s₃ (same-trans top next s s₁ s₂ (h .frame) (ch .frame) (h .bounds .0)) (st .frame) (omega arith);
           bounds = st .bounds;
           answer = λ f ρ l b.
-              let d = expr-at (tableOf bs .nodes) n comprehension (kind-at x comprehension (select-kind k e)) f l in
+              let d = expr-at (tableOf bs .nodes) n comprehension (visited-kind x comprehension (kind-of k comprehension e)) f l in
               let v = range-of (d .depth) ρ (d .enough) b in
               let z = built (d .depth) ρ (d .enough) b in
               settled-as budget bs f n ρ steps (x .ready .readable) (b .good) (gives (setOf (z .chosen))) u

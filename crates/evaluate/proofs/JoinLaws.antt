@@ -7,9 +7,8 @@ use mathlib.Core.Path.{_≡_, refl, sym, ap, _∙_, subst}
 use native.Mathlib.Omega.{arith}
 use native.Mathlib.Numerals.{add-one}
 use lib.Dec.{eqb}
-use lib.ListN.{length, getD}
-use Rattle.rules.specs.Kinds.{Kind, Category, predicate, unused, child, Join, join, negation, kindOf, fieldsOf}
-use Rattle.rules.specs.Tables.{Node, Pred, notᵖ, joinᵖ, tableOf, nodeAt, kindAt, fieldWords, predOf, predAt, exprAt}
+use Rattle.rules.specs.Kinds.{Kind, Category, predicate, Join, join, negation, kindOf}
+use Rattle.rules.specs.Tables.{Node, Pred, notᵖ, joinᵖ, tableOf, nodeAt, kindAt, predOf, predAt, exprAt}
 use Rattle.rules.specs.Ends.{End, done, refused}
 use Rattle.rules.specs.Runs.{M, return, _>>=_, _orElse_}
 use Rattle.rules.specs.Operations.{Env}
@@ -23,17 +22,7 @@ use Rattle.evaluate.specs.Answers.{Ends, HeldAs, HeldBounds}
 use Rattle.evaluate.specs.Cycle.{Binds, Ready, Visited, EvaluatesP}
 use Rattle.evaluate.specs.Nodes.{IsPred, DecidesBy, JoinedBy}
 use Rattle.evaluate.proofs.RunLaws.{then-done, then-refused, returns, visited}
-use Rattle.evaluate.proofs.NodeLaws.{Child, field-child, pred-at, ready-child, binds-frame}
-
--- The kind of a visited node, and its children.
-module _ {bs : List ℕ} {base : ℕ} {env s : List ℕ} {top k n steps budget : ℕ} (v : Visited bs base env s top k n steps budget) (x : Kind) (e : kindOf k ≡ some x) where
-  pub visited-kind : kindAt (tableOf bs .nodes) n ≡ some x
-  visited-kind = subst (λ (z : ℕ). kindOf z ≡ some x) (v .kind) e
-
-  pub visited-child : (c : Category) (i m : ℕ) → i < 3 → i < length (fieldsOf x) → getD (fieldsOf x) i unused ≡ child c →
-      m ≡ getD (fieldWords (nodeAt (tableOf bs .nodes) n)) i 0 → Child bs n m c
-  visited-child c i m l l′ q a =
-      subst (λ (z : ℕ). Child bs n z c) (sym a) (field-child bs (v .ready .readable) n (v .ready .node) x visited-kind c i l l′ q)
+use Rattle.evaluate.proofs.NodeLaws.{Child, pred-at, ready-child, binds-frame, visited-kind, visited-child, held-as}
 
 -- The evaluator of a child begins where nothing has been changed below `top`.
 pub child-ready : {bs : List ℕ} {base : ℕ} {env s : List ℕ} {top n steps budget : ℕ} {c : Category} {m : ℕ} (s′ : List ℕ) (steps′ : ℕ) →
@@ -84,17 +73,11 @@ negated-ends budget gs n ρ s p (Refused k q t) l h = not-refused budget gs n ρ
 held-next : (budget : ℕ) (gs : List ℕ) (p : Pred) (ρ : Env) (steps : ℕ) (r : Held) → HeldAs (holdsᵖ budget gs p ρ (steps + 1)) r → HeldAs (holdsᵖ budget gs p ρ (suc steps)) r
 held-next budget gs p ρ steps r h = subst (λ (z : ℕ). HeldAs (holdsᵖ budget gs p ρ z) r) (add-one steps) h
 
-pub is-negation : {k : ℕ} → k ≡ 4 → kindOf k ≡ some negation
-unfolding kindOf
-is-negation e = rw e
-
 -- The answer for a child is that of its tree below the node.
 held-below : {bs env s : List ℕ} {top n steps budget a : ℕ} {c : Category} {s′ : List ℕ} {r : Held} {b : ℕ} (r₀ : Held) → Child bs n a c → a ≡ b → r ≡ r₀ →
     EvaluatesP bs env s top a steps budget s′ r → (g : ℕ) → n ≤ g → (ρ : Env) → Binds (tableOf bs .sizes) s top env ρ →
     HeldAs (holdsᵖ budget (tableOf bs .sizes) (predAt g (tableOf bs .nodes) b) ρ steps) r₀
-held-below {bs} {steps} {budget} {a} {r} {b} r₀ c q e h g le ρ bound =
-    let x = subst (λ (z : Held). HeldAs (holdsᵖ budget (tableOf bs .sizes) (predAt g (tableOf bs .nodes) a) ρ steps) z) e (h .answer g ρ (omega (arith, c .below, le)) bound) in
-    subst (λ (z : ℕ). HeldAs (holdsᵖ budget (tableOf bs .sizes) (predAt g (tableOf bs .nodes) z) ρ steps) r₀) q x
+held-below r₀ c q e h g le ρ bound = held-as q e h .answer g ρ (omega (arith, c .below, le, q)) bound
 
 pub not-held : {bs : List ℕ} {base : ℕ} {env s : List ℕ} {top k n steps budget a : ℕ} {s′ : List ℕ} {r : Held} →
     Visited bs base env s top k n steps budget → kindOf k ≡ some negation → a ≡ nodeAt (tableOf bs .nodes) n .a →
@@ -113,13 +96,11 @@ not-held {bs} {env} {s} {top} {n} {steps} {budget} {a} {r} v e q h =
 -- As the code answers: a refusal is handed on, a truth is turned round.
 pub not-stays : {bs env s : List ℕ} {top n steps budget : ℕ} {s′ : List ℕ} {r : Held} {k p t : ℕ} → r ≡ Refused k p t →
     EvaluatesP bs env s top n steps budget s′ (negated r) → EvaluatesP bs env s top n steps budget s′ r
-not-stays {bs} {env} {s} {top} {n} {steps} {budget} {s′} {r} {k} {p} {t} e h =
-    subst (λ (z : Held). EvaluatesP bs env s top n steps budget s′ z) (ap negated e ∙ sym e) h
+not-stays e h = held-as refl (ap negated e ∙ sym e) h
 
 pub not-turns : {bs env s : List ℕ} {top n steps budget : ℕ} {s′ : List ℕ} {r : Held} {b : Bool} {t : ℕ} → r ≡ Truth b t →
     EvaluatesP bs env s top n steps budget s′ (negated r) → EvaluatesP bs env s top n steps budget s′ (Truth (not b) t)
-not-turns {bs} {env} {s} {top} {n} {steps} {budget} {s′} {r} {b} {t} e h =
-    subst (λ (z : Held). EvaluatesP bs env s top n steps budget s′ z) (ap negated e) h
+not-turns e h = held-as refl (ap negated e) h
 
 -- What decides, and what does not.
 or-decided : {A : Type 0} (o : Option A) (m : M A) (a : A) (t : ℕ) → o ≡ some a → Ends ((o orElse m) t) (done a) t
@@ -176,7 +157,7 @@ module _ {bs : List ℕ} {base : ℕ} {env s : List ℕ} {top k n steps budget :
   -- The first operand is refused.
   pub join-stays : {c p t : ℕ} → r ≡ Refused c p t → EvaluatesP bs env s top n steps budget s′ r
   join-stays {c} {p} {t} d =
-      subst (λ (z : Held). EvaluatesP bs env s top n steps budget s′ z) (sym d)
+      held-as refl (sym d)
       (record {
         frame = h .frame;
         bounds = held-within budget (Refused c p t) d (h .bounds);
@@ -212,7 +193,7 @@ module _ {bs : List ℕ} {base : ℕ} {env s : List ℕ} {top k n steps budget :
 
         pub join-stays-2 : {c p u : ℕ} → r′ ≡ Refused c p u → EvaluatesP bs env s top n steps budget s″ r′
         join-stays-2 {c} {p} {u} d′ =
-            subst (λ (z : Held). EvaluatesP bs env s top n steps budget s″ z) (sym d′)
+            held-as refl (sym d′)
             (record {
               frame = same-trans top top s s′ s″ (h .frame) (h′ .frame) (omega arith);
               bounds = held-within budget (Refused c p u) d′ (h′ .bounds);

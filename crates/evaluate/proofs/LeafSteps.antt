@@ -9,7 +9,7 @@ use native.Mathlib.Omega.{arith}
 use lib.Dec.{eqb}
 use lib.ListN.{length, getD}
 use Rattle.rules.specs.Values.{Value, set}
-use Rattle.rules.specs.Kinds.{Join, and, or, implies, iff, join, kindOf}
+use Rattle.rules.specs.Kinds.{Join, and, or, implies, iff, join}
 use Rattle.rules.specs.Rules.{t̂, P̂}
 use Rattle.rules.specs.Operations as rules
 use Rattle.rules.specs.Tables.{tableOf, nodeAt}
@@ -19,18 +19,11 @@ use Rattle.fitting.proofs.Cells.{first-cell}
 use Rattle.operations.specs.Good.{GoodAt}
 use Rattle.operations.specs.Outcomes.{LeafReady, LeafDone}
 use Rattle.operations.proofs.GoodLaws.{good-fits, good-typed-at, good-inside}
-use Rattle.operations.proofs.KindLaws.{joinCode, code-of}
+use Rattle.operations.proofs.KindLaws.{joinCode, code-of, same-join}
 use Rattle.operations.proofs.SingleLaws.{fits-is-set}
 use Rattle.evaluate.specs.declared.Formed.the-variants.{Value as Placed}
 use Rattle.evaluate.specs.declared.Range.the-variants.{Set, Unlike}
 use Rattle.evaluate.specs.Nodes.{DecidesBy, JoinedBy, SomeGood, RangeAt, NameReady, NameAt, LeafNode, LeafFormed}
-
-of-join : (j : Join) → kindOf (joinCode j) ≡ some (join j)
-unfolding kindOf
-of-join and = refl
-of-join or = refl
-of-join implies = refl
-of-join iff = refl
 
 -- What holds of a join by its own code.
 module _ {k : ℕ} (p : Bool) where
@@ -73,10 +66,7 @@ module _ {k : ℕ} (p : Bool) where
 
 module _ {k : ℕ} (p q : Bool) where
   joined-by : {r : Bool} (i : Join) → k ≡ joinCode i → r ≡ rules.joined i p q → JoinedBy k p q r
-  joined-by {r} i c h j e =
-      let d : some (join i) ≡ some (join j) = sym (of-join i) ∙ ap kindOf (sym c) ∙ e in
-      let s : i ≡ j = cc in
-      subst (λ (x : Join). r ≡ rules.joined x p q) s h
+  joined-by {r} i c h j e = subst (λ (x : Join). r ≡ rules.joined x p q) (same-join k i j c e) h
 
   pub and-true : k ≡ 1 → p ≡ true → JoinedBy k p q q
   and-true c e = joined-by and c (ap (λ (x : Bool). x && q) (sym e))

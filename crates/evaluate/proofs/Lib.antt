@@ -13,3 +13,4 @@ pub mod LeafSteps
 pub mod SettleLaws
 pub mod ReportLaws
 pub mod EntryLaws
+pub mod ArenaLaws

@@ -3,12 +3,12 @@ use Prim.Native.Nat.{ℕ, zero, suc, _+_, _≤_, _<_}
 use mathlib.Core.Bool.{Bool, true, false, cond}
 use mathlib.Core.List.{List, [], _∷_}
 use mathlib.Core.Option.{Option, some}
-use mathlib.Core.Path.{_≡_, ap, subst}
+use mathlib.Core.Path.{_≡_, refl, sym, ap, _∙_, subst}
 use native.Mathlib.Omega.{arith}
 use lib.ListN.{length, getD}
 use Rattle.rules.specs.Values.{Value}
 use Rattle.rules.specs.Cells.{good}
-use Rattle.rules.specs.Kinds.{Kind, Category, Field, unused, child, fieldsOf, isChild}
+use Rattle.rules.specs.Kinds.{Kind, Category, expression, Field, unused, child, kindOf, fieldsOf, isChild}
 use Rattle.rules.specs.Tables.{Node, Table, Pred, Expr, tableOf, nodeAt, kindAt, fieldWords, fieldsIf, keptIf, pick, held, predOf, exprOf, predAt, exprAt, nodeCount}
 use Rattle.rules.specs.Reading.{height, tallest}
 use Rattle.rules.specs.Readable.{Readable, FieldRight, FieldsRight, KindRight, NodeRight, CategoryIs}
@@ -19,7 +19,11 @@ use Rattle.arena.specs.Code.{Same}
 use Rattle.arena.proofs.Standing.{stands-frame}
 use Rattle.arena.proofs.CodeLaws.{length-code}
 use Rattle.operations.specs.Good.{Sizes, GoodAt}
-use Rattle.evaluate.specs.Cycle.{Binds, Ready}
+use Rattle.evaluate.specs.declared.Held.{Held}
+use Rattle.evaluate.specs.declared.Formed.{Formed}
+use Rattle.evaluate.specs.declared.Operands.{Operands}
+use Rattle.evaluate.specs.Nodes.{TwoFields}
+use Rattle.evaluate.specs.Cycle.{Binds, Ready, Visited, EvaluatesP, EvaluatesE, EvaluatesBoth}
 
 -- The sizes of a readable table are small.
 pub sizes-small : (bs : List ℕ) → Readable bs → Sizes (tableOf bs .sizes)
@@ -107,6 +111,10 @@ module _ (bs : List ℕ) (r : Readable bs) (n : ℕ) (lt : n < nodeCount bs) (k 
         tall = node-tall bs r _ (omega (arith, f .0));
       }
 
+-- A node with operands is above a leaf.
+pub fields-tall : {bs : List ℕ} {n : ℕ} → Readable bs → n < nodeCount bs → TwoFields bs n → 2 ≤ height (tableOf bs .nodes) n
+fields-tall {bs} {n} r l y = omega (arith, y .leftLower, node-tall bs r (nodeAt (tableOf bs .nodes) n .a) (omega (arith, y .left, l)))
+
 -- The tree at a node, one level down.
 pub record Deeper (A : Type 0) (x : A) (n : ℕ) (tree : ℕ → A) : Type 0 where
   pub depth : ℕ
@@ -140,3 +148,52 @@ ready-child {bs} {base} {env} {s} {top} {n} s′ m k steps′ r c e le near with
   values = r .values;
   binds = binds-frame k e le (r .binds);
 }
+
+-- The same node, after more visits.
+pub ready-on : {bs : List ℕ} {base : ℕ} {env s : List ℕ} {top n steps budget : ℕ} (steps′ : ℕ) → Ready bs base env s top n steps budget → steps′ ≤ budget →
+    Ready bs base env s top n steps′ budget
+ready-on steps′ r within = record {
+  readable = r .readable;
+  offset = r .offset;
+  node = r .node;
+  unspent = within;
+  room = r .room;
+  tall = r .tall;
+  small = r .small;
+  entries = r .entries;
+  values = r .values;
+  binds = r .binds;
+}
+
+-- The kind of a visited node, and its children.
+module _ {bs : List ℕ} {base : ℕ} {env s : List ℕ} {top k n steps budget : ℕ} (v : Visited bs base env s top k n steps budget) (x : Kind) (e : kindOf k ≡ some x) where
+  pub visited-kind : kindAt (tableOf bs .nodes) n ≡ some x
+  visited-kind = ap kindOf (sym (v .kind)) ∙ e
+
+  pub visited-child : (c : Category) (i m : ℕ) → i < 3 → i < length (fieldsOf x) → getD (fieldsOf x) i unused ≡ child c →
+      m ≡ getD (fieldWords (nodeAt (tableOf bs .nodes) n)) i 0 → Child bs n m c
+  visited-child c i m l l′ q w =
+      subst (λ (z : ℕ). Child bs n z c) (sym w) (field-child bs (v .ready .readable) n (v .ready .node) x visited-kind c i l l′ q)
+
+  pub visited-operands : fieldsOf x ≡ child expression ∷ child expression ∷ unused ∷ [] → TwoFields bs n
+  visited-operands q =
+      let a = visited-child expression 0 (nodeAt (tableOf bs .nodes) n .a) (omega arith) (rw q (omega arith)) (rw q) refl in
+      let b = visited-child expression 1 (nodeAt (tableOf bs .nodes) n .b) (omega arith) (rw q (omega arith)) (rw q) refl in
+      record { left = a .below; right = b .below; leftIs = a .is; rightIs = b .is; leftLower = a .lower; rightLower = b .lower }
+
+-- The same answer, for the same node.
+pub held-as : {bs env s : List ℕ} {top m m′ steps budget : ℕ} {s′ : List ℕ} {r r′ : Held} → m ≡ m′ → r ≡ r′ →
+    EvaluatesP bs env s top m steps budget s′ r → EvaluatesP bs env s top m′ steps budget s′ r′
+held-as {bs} {env} {s} {top} {m} {m′} {steps} {budget} {s′} {r} {r′} e q h =
+    subst (λ (z : Held). EvaluatesP bs env s top m′ steps budget s′ z) q
+    (subst (λ (z : ℕ). EvaluatesP bs env s top z steps budget s′ r) e h)
+
+pub formed-as : {bs env s : List ℕ} {top m m′ steps budget : ℕ} {s′ : List ℕ} {r r′ : Formed} → m ≡ m′ → r ≡ r′ →
+    EvaluatesE bs env s top m steps budget s′ r → EvaluatesE bs env s top m′ steps budget s′ r′
+formed-as {bs} {env} {s} {top} {m} {m′} {steps} {budget} {s′} {r} {r′} e q h =
+    subst (λ (z : Formed). EvaluatesE bs env s top m′ steps budget s′ z) q
+    (subst (λ (z : ℕ). EvaluatesE bs env s top z steps budget s′ r) e h)
+
+pub both-as : {bs env s : List ℕ} {top n steps budget : ℕ} {s′ : List ℕ} {r r′ : Operands} → r ≡ r′ →
+    EvaluatesBoth bs env s top n steps budget s′ r → EvaluatesBoth bs env s top n steps budget s′ r′
+both-as {bs} {env} {s} {top} {n} {steps} {budget} {s′} {r} {r′} q h = subst (λ (z : Operands). EvaluatesBoth bs env s top n steps budget s′ z) q h

@@ -33,9 +33,9 @@ use Rattle.evaluate.specs.Answers.{Ends, HeldAs, PlacedAs, FormedAs, Ran
 use Rattle.evaluate.specs.Nodes.{quantOf, IsPred, IsExpr, SomeGood, RangeAt}
 use Rattle.evaluate.specs.Cycle.{Binds, Ready, Visited, Sort, EachReady, bodyAt, EvaluatesP, EvaluatesE, EvaluatesEach}
 use Rattle.evaluate.proofs.RunLaws.{then-done, then-refused, returns, visited, fitting-done, fitting-refused}
-use Rattle.evaluate.proofs.NodeLaws.{sizes-small, good-frame, binds-frame, pred-at, ready-child}
+use Rattle.evaluate.proofs.NodeLaws.{sizes-small, good-frame, binds-frame, pred-at, ready-child, visited-kind}
 use Rattle.evaluate.proofs.BodyLaws.{Inner, inner-start, inner-set, binds-body, First, first-member, none-left, listed-frame}
-use Rattle.evaluate.proofs.RangeLaws.{binder-range, binder-ready, range-fits, range-listed}
+use Rattle.evaluate.proofs.RangeLaws.{placed-good, binder-range, binder-ready, range-fits, range-listed}
 
 -- Two truths differ, or are the same.
 pub differ : (a b : Bool) → not (Bool·beq a b) ≡ true → a ≡ not b
@@ -254,7 +254,7 @@ held-on (Refused k p n) g h = g (refused k p) n h
 -- The evaluation of a quantifier's node.
 module _ {bs : List ℕ} {base : ℕ} {env s : List ℕ} {top k n steps budget : ℕ} (d : Visited bs base env s top k n steps budget) (q : Sort quant k) where
   quant-kind : kindAt (tableOf bs .nodes) n ≡ some (quant (q .0))
-  quant-kind = ap kindOf (sym (d .kind)) ∙ q .1
+  quant-kind = visited-kind d (quant (q .0)) (q .1)
 
   module _ {a : ℕ} (ea : a ≡ nodeAt (tableOf bs .nodes) n .b) where
     pub quant-range : Ready bs base env s top a (steps + 1) budget × IsExpr bs a × (a < n)
@@ -293,13 +293,7 @@ module _ {bs : List ℕ} {base : ℕ} {env s : List ℕ} {top k n steps budget :
         range-bounds = rw e at (p .bounds)
 
         pub range-good : SomeGood s′ at
-        range-good = record {
-          sizes = tableOf bs .sizes;
-          small = sizes-small bs (d .ready .readable);
-          top = next;
-          value = some-range .value;
-          stands = some-range .place;
-        }
+        range-good = placed-good (sizes-small bs (d .ready .readable)) some-range
 
         pub range-low : at < 4294967296
         range-low = omega (arith, some-range .place .below, range-bounds .1, d .ready .room, d .ready .small)

@@ -1,9 +1,9 @@
 -- A binder's range: its fields, the members of a set that stands in the arena, and what the loop over them may take for granted.
 use Prim.Native.Nat.{ℕ, _+_, _*_, _≤_, _<_}
-use mathlib.Core.Bool.{Bool, true, false}
+use mathlib.Core.Bool.{true}
 use mathlib.Core.List.{List, [], _∷_}
 use mathlib.Core.Option.{some}
-use mathlib.Core.Path.{_≡_, refl}
+use mathlib.Core.Path.{_≡_}
 use native.Mathlib.Omega.{arith}
 use lib.Dec.{T}
 use lib.ListN.{length}
@@ -11,21 +11,28 @@ use Rattle.rules.specs.Types.{Ty, atom, POW, _⊗_}
 use Rattle.rules.specs.Values.{Value, set, Values, count}
 use Rattle.rules.specs.Kinds.{Kind, Field, expression, predicate, child, binder-of, fieldsOf}
 use Rattle.rules.specs.Rules.{P̂, t̂}
-use Rattle.rules.specs.Fits.{HasType, typed, fits}
+use Rattle.rules.specs.Fits.{HasType, Fits, typed, fits}
 use Rattle.rules.specs.Tables.{tableOf, nodeAt, kindAt}
+use Rattle.rules.specs.Runs.{Run}
 use Rattle.rules.proofs.TableLaws.{binds-length}
 use Rattle.rules.proofs.CellsLaws.{good-weight, good-typed}
-use Rattle.rules.proofs.FitsLaws.{fits-right, typed-right}
+use Rattle.rules.proofs.FitsLaws.{typed-right}
 use Rattle.rules.proofs.FormedLaws.{elems-good}
 use Rattle.arena.specs.Code.{cellSize, code, codes, Same}
 use Rattle.arena.proofs.Standing.{stands-tail}
-use Rattle.operations.specs.Good.{GoodAt}
-use Rattle.evaluate.specs.Answers.{RangeSet, Listed}
+use Rattle.operations.specs.Good.{Sizes, GoodAt}
+use Rattle.operations.proofs.FitLaws.{types-fit}
+use Rattle.evaluate.specs.Answers.{PlacedAs, RangeSet, Listed}
+use Rattle.evaluate.specs.Nodes.{SomeGood}
 use Rattle.evaluate.specs.Cycle.{Ready, EachReady}
 use Rattle.evaluate.proofs.NodeLaws.{Child, field-holds, field-child, ready-child}
 
+-- The range is a good value.
+pub placed-good : {x : Run Value} {gs s : List ℕ} {at next t : ℕ} → Sizes gs → PlacedAs x gs s at next t → SomeGood s at
+placed-good {gs = gs} {next = next} small p = record { sizes = gs; small = small; top = next; value = p .value; stands = p .place }
+
 -- The members of a good set stand behind its own cell.
-pub set-listed : {gs s : List ℕ} {top at n : ℕ} {vs : Values} → GoodAt gs s top at (set vs) → n ≡ count vs → Listed gs s top (at + 1) n vs
+set-listed : {gs s : List ℕ} {top at n : ℕ} {vs : Values} → GoodAt gs s top at (set vs) → n ≡ count vs → Listed gs s top (at + 1) n vs
 unfolding code
 set-listed {gs} {s} {top} {at} {n} {vs} h e = record {
   stands = stands-tail s at (5 * cellSize + count vs) (codes vs) (h .stands);
@@ -36,16 +43,12 @@ set-listed {gs} {s} {top} {at} {n} {vs} h e = record {
 }
 
 -- A set that has a type can be a range.
-pub set-fits : (vs : Values) → T (typed (set vs)) → fits (P̂ t̂ ∷ []) (set vs ∷ []) ≡ true
-set-fits vs h = let x = typed-right (set vs) .0 h in true-of (fits (P̂ t̂ ∷ []) (set vs ∷ [])) (go (x .0) (x .1))
+set-fits : (vs : Values) → T (typed (set vs)) → fits (P̂ t̂ ∷ []) (set vs ∷ []) ≡ true
+set-fits vs h = let x = typed-right (set vs) .0 h in types-fit (P̂ t̂ ∷ []) (set vs ∷ []) (go (x .0) (x .1))
   where
-    true-of : (b : Bool) → T b → b ≡ true
-    true-of true t = refl
-    true-of false t = absurd t
-
-    go : (t : Ty) → HasType (set vs) t → T (fits (P̂ t̂ ∷ []) (set vs ∷ []))
+    go : (t : Ty) → HasType (set vs) t → Fits (P̂ t̂ ∷ []) (set vs ∷ [])
     go (atom a) k = absurd k
-    go (POW u) k = fits-right (P̂ t̂ ∷ []) (set vs ∷ []) .1 (u, u, (k, tt))
+    go (POW u) k = (u, u, (k, tt))
     go (u ⊗ w) k = absurd k
 
 pub range-fits : {gs s : List ℕ} {top at n : ℕ} {v : Value} → GoodAt gs s top at v → RangeSet v n → fits (P̂ t̂ ∷ []) (v ∷ []) ≡ true

@@ -3,13 +3,13 @@ use Prim.Native.Nat.{ℕ, _+_, _-_, _≤_}
 use mathlib.Core.Bool.{Bool, true, false, cond}
 use mathlib.Core.List.{List}
 use mathlib.Core.Logic.{_⊎_, inl, inr}
-use mathlib.Core.Path.{_≡_, refl, sym, _∙_, subst}
+use mathlib.Core.Path.{_≡_, refl, sym, subst}
 use native.Mathlib.Omega.{arith}
 use lib.ListN.{length}
 use Rattle.rules.specs.Runs.{Given}
-use Rattle.arena.specs.Code.{code, Stands, Same, Copied}
+use Rattle.arena.specs.Code.{code, Same, Copied}
 use Rattle.arena.proofs.CodeLaws.{length-code}
-use Rattle.arena.proofs.Standing.{same-refl}
+use Rattle.arena.proofs.Standing.{same-refl, copied-stands}
 use Rattle.operations.specs.declared.Outcome.{Outcome}
 use Rattle.operations.specs.declared.Outcome.the-variants.{Built, Within, Lacks}
 use Rattle.operations.specs.Outcomes.{BuiltAt, WithinAt, Gives}
@@ -24,12 +24,6 @@ absurd01 e = omega arith
 -- Copying changes nothing below its place.
 copied-frame : {s s′ : List ℕ} {from n to : ℕ} → Copied s from n to s′ → Same to s s′
 copied-frame c = record { same = c .before; kept = c .kept }
-
-copied-stands : (s : List ℕ) (from n to : ℕ) (s′ xs : List ℕ) → Copied s from n to s′ → length xs ≡ n → to + n ≤ length s → Stands s from xs → Stands s′ to xs
-copied-stands s from n to s′ xs c e l h = record {
-  inside = omega (arith, c .kept);
-  cells = λ i p. c .there i (omega arith) ∙ h .cells i p;
-}
 
 module _ {s : List ℕ} {at end to : ℕ} where
   pub choose-room : ChooseReady s at end to → (at + (end - at) ≤ length s) × (to + (end - at) ≤ length s) × ((at + (end - at) ≤ to) ⊎ (to ≤ at))

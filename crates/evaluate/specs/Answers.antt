@@ -13,7 +13,7 @@ use Rattle.rules.specs.Runs.{Run, M, Given, gives, lacks}
 use Rattle.rules.specs.Rules.{quantRule}
 use Rattle.rules.specs.Fits.{fits}
 use Rattle.rules.specs.Operations.{setOf}
-use Rattle.rules.proofs.SetOrder.{All}
+use Rattle.rules.specs.Safety.{All}
 use Rattle.arena.specs.Code.{ValueAt, ValuesAt}
 use Rattle.operations.specs.Good.{GoodAt}
 use Rattle.operations.specs.Outcomes.{Gives}

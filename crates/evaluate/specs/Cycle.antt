@@ -31,13 +31,13 @@ pub record Binds (gs s : List ℕ) (top : ℕ) (env : List ℕ) (ρ : Env) : Typ
   pub at : (x : ℕ) → x < 32 → GoodAt gs s top (getD env x 0) (ρ x)
   pub good : (x : ℕ) → T (good gs (ρ x))
 
--- The node's own room and that of the nodes below: 512 cells a level, and what an operation takes to build.
+-- The node's own room and that of the nodes below: 512 cells a level, for two operands or for what is built, and 2 more.
 pub record Ready (bs : List ℕ) (base : ℕ) (env s : List ℕ) (top n steps budget : ℕ) : Type 0 where
   pub readable : Readable bs
   pub offset : base ≡ nodesAt bs
   pub node : n < nodeCount bs
   pub unspent : steps ≤ budget
-  pub room : top + 512 * height (tableOf bs .nodes) n + 514 ≤ length s
+  pub room : top + 512 * height (tableOf bs .nodes) n + 2 ≤ length s
   pub tall : 1 ≤ height (tableOf bs .nodes) n
   pub small : length s < 4294967296
   pub entries : length env ≡ 32
@@ -87,7 +87,7 @@ pub record EachReady (bs : List ℕ) (base : ℕ) (env s : List ℕ) (top n from
   pub deeper : nodeAt (tableOf bs .nodes) n .c < n
   pub is : IsPred bs (nodeAt (tableOf bs .nodes) n .c)
   pub name : nodeAt (tableOf bs .nodes) n .a < 32
-  pub space : top + 256 + 512 * height (tableOf bs .nodes) (nodeAt (tableOf bs .nodes) n .c) + 514 ≤ length s
+  pub space : top + 256 + 512 * height (tableOf bs .nodes) (nodeAt (tableOf bs .nodes) n .c) + 2 ≤ length s
   pub range : Values
   pub listed : Listed (tableOf bs .sizes) s top from count range
 

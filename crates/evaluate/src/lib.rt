@@ -8,9 +8,13 @@ ghost use Rattle.rules.specs.Evaluation.{evaluation};
 ghost use Rattle.buffer.specs.Loaded.{Loads};
 ghost use Rattle.evaluate.specs.declared.Ending.the-variants.{Decided};
 ghost use Rattle.evaluate.specs.Answers.{SettleReady};
-ghost use Rattle.evaluate.specs.Result.{endingOf, RefusedAt, Reported, Reports, Begins, Needs, LoadReady, ArenaReady};
+ghost use Rattle.evaluate.specs.Result.{endingOf, RefusedAt, Reported, Reports, Begins, LoadReady, ArenaReady};
 ghost use Rattle.evaluate.specs.Nodes.{IsPred, IsExpr, TwoFields, DecidesBy, JoinedBy, quantOf, SomeGood, RangeAt, NameReady, NameAt, LeafNode, LeafFormed, ChooseReady, Chooses};
 ghost use Rattle.evaluate.specs.Cycle.{Ready, Visited, Sort, EvaluatesP, EvaluatesE, EvaluatesBoth, EachReady, EvaluatesEach, EvaluatesChosen, Settles};
+
+mod arenas;
+
+use arenas::Attempt;
 use buffer::Environment;
 use buffer::Loaded;
 use operations::Outcome;
@@ -631,7 +635,7 @@ fn binds_of(table: &[u8]) -> [u32; 32]
 
 // Reads the values of a readable table's free identifiers into the arena s.
 pub fn load(table: &[u8], values: &[u8], s: &mut [u64]) -> Environment
-    requires { ⌜ LoadReady (now table) (now s) ⌝ }
+    requires { ⌜ LoadReady (now table) (now values) (now s) ⌝ }
     ensures { λ r. ⌜ Loads (tableOf (now (table .entry)) .sizes) (tableOf (now (table .entry)) .binds) (now (values .entry)) (now (s .exit)) (r .at) 0 (r .answer) ⌝ }
 {
     let sizes = sizes_of(table);
@@ -643,7 +647,7 @@ pub fn load(table: &[u8], values: &[u8], s: &mut [u64]) -> Environment
 
 // Evaluates a readable table over the arena s.
 fn evaluate_in(table: &[u8], values: &[u8], budget: u32, s: &mut [u64]) -> Evaluation
-    requires { ⌜ ArenaReady (now table) (now s) ⌝ }
+    requires { ⌜ ArenaReady (now table) (now values) (now s) ⌝ }
     ensures { λ r. ⌜ Reported (evaluation (now (table .entry)) (now (values .entry)) budget) r ⌝ }
 {
     let loaded = load(table, values, s);
@@ -659,54 +663,18 @@ fn evaluate_in(table: &[u8], values: &[u8], budget: u32, s: &mut [u64]) -> Evalu
     }
 }
 
-// Arenas of four sizes, so that a small condition does not pay for a large one.
-fn tiny(table: &[u8], values: &[u8], budget: u32) -> Evaluation
-    requires { ⌜ Needs (now table) 2304 ⌝ }
-    ensures { λ r. ⌜ Reported (evaluation (now (table .entry)) (now (values .entry)) budget) r ⌝ }
-{
-    let mut s = [0u64; 2304];
-    evaluate_in(table, values, budget, &mut s)
-}
-
-fn small(table: &[u8], values: &[u8], budget: u32) -> Evaluation
-    requires { ⌜ Needs (now table) 4864 ⌝ }
-    ensures { λ r. ⌜ Reported (evaluation (now (table .entry)) (now (values .entry)) budget) r ⌝ }
-{
-    let mut s = [0u64; 4864];
-    evaluate_in(table, values, budget, &mut s)
-}
-
-fn middle(table: &[u8], values: &[u8], budget: u32) -> Evaluation
-    requires { ⌜ Needs (now table) 12544 ⌝ }
-    ensures { λ r. ⌜ Reported (evaluation (now (table .entry)) (now (values .entry)) budget) r ⌝ }
-{
-    let mut s = [0u64; 12544];
-    evaluate_in(table, values, budget, &mut s)
-}
-
-fn large(table: &[u8], values: &[u8], budget: u32) -> Evaluation
-    requires { ⌜ Needs (now table) 29187 ⌝ }
-    ensures { λ r. ⌜ Reported (evaluation (now (table .entry)) (now (values .entry)) budget) r ⌝ }
-{
-    let mut s = [0u64; 29187];
-    evaluate_in(table, values, budget, &mut s)
-}
-
+// Evaluates a readable table over an arena of its size.
 fn evaluate_sized(table: &[u8], values: &[u8], budget: u32) -> Evaluation
     requires { ⌜ Readable (now table) ⌝ }
     ensures { λ r. ⌜ Reported (evaluation (now (table .entry)) (now (values .entry)) budget) r ⌝ }
 {
-    let need = 515 + 256 * table::identifiers(table) + 512 * table::root_height(table);
-    if need <= 2304 {
-        return tiny(table, values, budget);
+    let held = buffer::cells_at_most(table::identifiers(table), values.len());
+    let need = 3 + held + 512 * table::root_height(table);
+    match arenas::smallest(table, values, budget, need, 4) {
+        Attempt::Made(e) => e,
+        // Never: the last arena has room for each readable table.
+        Attempt::NoRoom => refused(8, 0, 0),
     }
-    if need <= 4864 {
-        return small(table, values, budget);
-    }
-    if need <= 12544 {
-        return middle(table, values, budget);
-    }
-    large(table, values, budget)
 }
 
 // Evaluate: refusals 1 to 9, then 14, and then the condition's end.

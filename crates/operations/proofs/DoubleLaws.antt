@@ -1,111 +1,75 @@
 -- The operations of two operands: what fits, what has been built, and kinds by their codes.
 use Prim.Native.Nat.{ℕ, zero, suc, _+_, _-_, _%_, _≤_, _<_}
-use mathlib.Core.Bool.{Bool, true, false, cond, _&&_}
+use mathlib.Core.Bool.{Bool, true, false, cond}
 use mathlib.Core.List.{List, [], _∷_}
-use mathlib.Core.Option.{Option, none as nothing, some}
+use mathlib.Core.Logic.{_≢_}
 use mathlib.Core.Path.{_≡_, refl, sym, ap, _∙_, subst}
 use native.Mathlib.Omega.{arith}
 use native.Mathlib.Decide.{decLt}
 use borrow.Author.Tests.{le-leb, lt-leb}
-use lib.Dec.{T, eqb, ltb, eqb→eq, ltb→lt, nltb→le}
+use lib.Dec.{T, ltb, ltb→lt, nltb→le}
 use lib.IntN.{ℤ, pos, negsuc, subℕ, _+ℤ_, _-ℤ_}
 use lib.Signed.{mag}
 use lib.ListN.{length, getD}
-use Rattle.rules.specs.Types.{whole, Ty, POW, _⊗_, INTEGER}
-use Rattle.rules.specs.Values.{num, truth, element, Value, scalar, pair, set, Values, none, _▸_, int, members, weight}
+use Rattle.rules.specs.Types.{whole, _⊗_}
+use Rattle.rules.specs.Values.{Value, pair, set, Values, int, members, weight}
 use Rattle.rules.specs.Rules.{Pattern, t̂, û, P̂, _×̂_, numᵖ, inst, twoRule}
-use Rattle.rules.specs.Kinds.{Two, pairing, union, inter, diff, product, apply, plus, minus, interval}
-use Rattle.rules.specs.Kinds.{Kind, join, negation, test, quant, leaf, boolOf, one, two, comprehension, kinds, kindOf}
-use Rattle.rules.specs.Fits.{HasType, HaveType, fits, typed}
+use Rattle.rules.specs.Kinds.{Two, pairing, union, inter, diff, product, apply, plus, minus, interval, two}
+use Rattle.rules.specs.Fits.{fits, typed}
 use Rattle.rules.specs.Cells.{good}
 use Rattle.rules.specs.Runs.{Given, gives, lacks}
 use Rattle.rules.specs.Operations.{elems, setOf, pairsOf, upFrom, toCount, applied, ranged, twoValue}
-use Rattle.rules.proofs.FitsLaws.{typed-right, fits-right}
+use Rattle.rules.proofs.FitsLaws.{typed-right}
 use Rattle.rules.proofs.CellsLaws.{good-typed}
-use Rattle.rules.proofs.OrderLaws.{and-left, and-right}
-use Rattle.arena.specs.Code.{cellSize, excess, code, CellsFit, FineSet, SomeSet, SomeValue, SetBelow, Made}
+use Rattle.arena.specs.Code.{cellSize, excess, code, CellsFit, FineSet, SomeSet, SomeValue, SetBelow, Made, AllPairs}
 use Rattle.arena.proofs.Standing.{same-refl}
 use Rattle.sets.specs.Merged.{merged}
-use Rattle.sets.specs.Fronts.{Merges, Applies, ImageAt, Within as WithinSet, IsPair, AllPairs}
+use Rattle.sets.specs.Fronts.{Merges, Applies, ImageAt, Within as WithinSet}
 use Rattle.sets.proofs.OperationLaws.{union-merged, inter-merged, diff-merged}
 use Rattle.products.specs.Growing.{PutsCell, Pairs, Intervals, Multiplies}
-use Rattle.fitting.specs.Tests.{FitTwo, Both}
+use Rattle.fitting.specs.Tests.{FitTwo}
 use Rattle.fitting.proofs.Cells.{first-cell}
 use Rattle.operations.specs.declared.Outcome.{Outcome}
 use Rattle.operations.specs.declared.Outcome.the-variants.{Within, Lacks}
 use Rattle.operations.specs.Good.{Sizes, GoodAt}
-use Rattle.operations.specs.Outcomes.{weighed, fitted, twoGiven, ended, Gives, TwoReady, TwoDone, TwoOf, IsTwo}
+use Rattle.operations.specs.Outcomes.{weighed, fitted, twoGiven, ended, Gives, TwoReady, TwoDone, TwoOf}
 use Rattle.operations.specs.Double.{MergeDone, Shifted, NumberDone}
-use Rattle.operations.proofs.GoodLaws.{good-fits, good-set, good-value, good-typed-at, good-above, good-inside, good-set-at}
+use Rattle.operations.proofs.GoodLaws.{good-fits, good-set, good-value, good-above, good-inside, good-set-at}
 use Rattle.operations.proofs.OutcomeLaws.{made-gives, fit-fails, fit-holds, two-unfit, two-fit, gives-as}
-
-absurd01 : _≡_ {A = ℕ} 0 1 → ⊥
-absurd01 e = omega arith
-
-is-T : (b : Bool) → b ≡ true → T b
-is-T true e = tt
-is-T false e = absurd01 (cc)
-
-T-is : (b : Bool) → T b → b ≡ true
-T-is true h = refl
-T-is false h = absurd h
+use Rattle.operations.proofs.FitLaws.{two-fits, fit-types, types-fit, set-typed, int-typed, pairs-typed}
+use Rattle.operations.proofs.KindLaws.{twoCode, code-of, same-two}
 
 -- What the values are where the operands fit.
-pow-set : (v : Value) (t : Ty) → HasType v (POW t) → (vs : Values) × (v ≡ set vs)
-pow-set (scalar x) t h = absurd (absurd01 (cc))
-pow-set (pair v w) t h = absurd h
-pow-set (set vs) t h = (vs, refl)
-
-integer-int : (v : Value) → HasType v INTEGER → (i : ℤ) × (v ≡ int i)
-integer-int (scalar (num whole i)) h = (i, refl)
-integer-int (scalar (truth b)) h = absurd (absurd01 (cc))
-integer-int (scalar (element g k)) h = absurd (absurd01 (cc))
-integer-int (pair v w) h = absurd h
-integer-int (set vs) h = absurd h
-
-product-pair : (v : Value) (t u : Ty) → HasType v (t ⊗ u) → IsPair v
-product-pair (scalar x) t u h = absurd01 (cc)
-product-pair (pair v w) t u h = tt
-product-pair (set vs) t u h = h
-
-all-pairs : (vs : Values) (t u : Ty) → HaveType vs (t ⊗ u) → AllPairs vs
-all-pairs none t u h = tt
-all-pairs (v ▸ vs) t u h = (product-pair v t u (h .0), all-pairs vs t u (h .1))
-
 module _ (v w : Value) where
   fit-sets : (p q : Pattern) → fits (P̂ p ∷ P̂ q ∷ []) (v ∷ w ∷ []) ≡ true → ((vs : Values) × (v ≡ set vs)) × ((ws : Values) × (w ≡ set ws))
   fit-sets p q e =
-      let x = fits-right (P̂ p ∷ P̂ q ∷ []) (v ∷ w ∷ []) .0 (is-T (fits (P̂ p ∷ P̂ q ∷ []) (v ∷ w ∷ [])) e) in
-      (pow-set v (inst p (x .0) (x .1)) (x .2 .0), pow-set w (inst q (x .0) (x .1)) (x .2 .1 .0))
+      let x = fit-types (P̂ p ∷ P̂ q ∷ []) (v ∷ w ∷ []) e in
+      let y = set-typed v (inst p (x .0) (x .1)) (x .2 .0) in
+      let z = set-typed w (inst q (x .0) (x .1)) (x .2 .1 .0) in
+      ((y .0, y .1), (z .0, z .1))
 
   fit-numbers : fits (numᵖ whole ∷ numᵖ whole ∷ []) (v ∷ w ∷ []) ≡ true → ((i : ℤ) × (v ≡ int i)) × ((j : ℤ) × (w ≡ int j))
   fit-numbers e =
-      let x = fits-right (numᵖ whole ∷ numᵖ whole ∷ []) (v ∷ w ∷ []) .0 (is-T (fits (numᵖ whole ∷ numᵖ whole ∷ []) (v ∷ w ∷ [])) e) in
-      (integer-int v (x .2 .0), integer-int w (x .2 .1 .0))
+      let x = fit-types (numᵖ whole ∷ numᵖ whole ∷ []) (v ∷ w ∷ []) e in
+      (int-typed v (x .2 .0), int-typed w (x .2 .1 .0))
 
   fit-applies : fits (P̂ (t̂ ×̂ û) ∷ t̂ ∷ []) (v ∷ w ∷ []) ≡ true → (vs : Values) × (v ≡ set vs) × AllPairs vs
   fit-applies e =
-      let x = fits-right (P̂ (t̂ ×̂ û) ∷ t̂ ∷ []) (v ∷ w ∷ []) .0 (is-T (fits (P̂ (t̂ ×̂ û) ∷ t̂ ∷ []) (v ∷ w ∷ [])) e) in
-      let y = pow-set v (x .0 ⊗ x .1) (x .2 .0) in
-      (y .0, y .1, all-pairs (y .0) (x .0) (x .1) (subst (λ (z : Value). HasType z (POW (x .0 ⊗ x .1))) (y .1) (x .2 .0)))
+      let x = fit-types (P̂ (t̂ ×̂ û) ∷ t̂ ∷ []) (v ∷ w ∷ []) e in
+      let y = set-typed v (x .0 ⊗ x .1) (x .2 .0) in
+      (y .0, y .1, pairs-typed (y .0) (x .0) (x .1) (y .2))
 
   -- Any two values make a pair.
   fit-pair : T (typed v) → T (typed w) → fits (t̂ ∷ û ∷ []) (v ∷ w ∷ []) ≡ true
   fit-pair h k =
       let x = typed-right v .0 h in
       let y = typed-right w .0 k in
-      T-is (fits (t̂ ∷ û ∷ []) (v ∷ w ∷ [])) (fits-right (t̂ ∷ û ∷ []) (v ∷ w ∷ []) .1 (x .0, y .0, (x .1, (y .1, tt))))
+      types-fit (t̂ ∷ û ∷ []) (v ∷ w ∷ []) (x .0, y .0, (x .1, (y .1, tt)))
 
 -- What the functions below ask of operands that are ready.
 module _ {s : List ℕ} {a mid b top : ℕ} (ready : TwoReady s a mid b top) where
-  pub ready-both : Both s a b
-  ready-both = record {
-    first = (ready .first, good-typed-at (ready .small) (ready .left));
-    second = (ready .second, good-typed-at (ready .small) (ready .right));
-  }
-
   ready-fits : (ps : List Pattern) {r : Bool} → FitTwo ps s a b r → r ≡ true → fits ps (ready .first ∷ ready .second ∷ []) ≡ true
-  ready-fits ps f e = sym (f (ready .first) (ready .second) (good-typed-at (ready .small) (ready .left)) (good-typed-at (ready .small) (ready .right))) ∙ e
+  ready-fits ps f e = two-fits (ready .small) (ready .left) (ready .right) ps f ∙ e
 
   pub ready-first : a < length s
   ready-first = good-inside (ready .small) (ready .left)
@@ -143,7 +107,7 @@ module _ {s : List ℕ} {a mid b top : ℕ} where
   pub unfit-done : (j : Two) {r : Bool} → FitTwo (twoRule j .takes) s a b r → r ≡ false → TwoDone j s a mid b top s (Lacks 15)
   unfit-done j f e = record {
     frame = same-refl top s;
-    answer = λ gs v w small h k. two-unfit j v w (sym (f v w (good-typed-at small h) (good-typed-at small k)) ∙ e);
+    answer = λ gs v w small h k. two-unfit j v w (two-fits small h k (twoRule j .takes) f ∙ e);
   }
 
 -- The operation gives the value u of good operands, which has been made.
@@ -200,7 +164,7 @@ module _ {s : List ℕ} {a mid b top : ℕ} (ready : TwoReady s a mid b top) whe
       Multiplies s a b top s′ e → o ≡ ended e → TwoDone product s a mid b top s′ o
   unfolding twoValue
   product-done fit q s′ e o p z =
-      made-done product s′ e o (λ gs v w small h k. sym (fit v w (good-typed-at small h) (good-typed-at small k)) ∙ q)
+      made-done product s′ e o (λ gs v w small h k. two-fits small h k (P̂ t̂ ∷ P̂ û ∷ []) fit ∙ q)
       (λ gs v w small h k f.
       let x = sets-below t̂ û gs v w small h k f in
       (setOf (pairsOf (members (x .0)) (members (x .1))), product-is v w (x .0) (x .1) (x .2) (x .3), p (x .0) (x .1) (x .4) (x .5))) z
@@ -212,7 +176,7 @@ module _ {s : List ℕ} {a mid b top : ℕ} (ready : TwoReady s a mid b top) whe
         let x = sets-below t̂ t̂ (ready .sizes) (ready .first) (ready .second) (ready .small) (ready .left) (ready .right) (ready-fits ready (P̂ t̂ ∷ P̂ t̂ ∷ []) fit q) in
         m (x .0) (x .1) (x .4) (x .5) .frame;
     answer = λ gs v w small h k.
-        let g : fits (P̂ t̂ ∷ P̂ t̂ ∷ []) (v ∷ w ∷ []) ≡ true = sym (fit v w (good-typed-at small h) (good-typed-at small k)) ∙ q in
+        let g = two-fits small h k (P̂ t̂ ∷ P̂ t̂ ∷ []) fit ∙ q in
         let x = sets-below t̂ t̂ gs v w small h k g in
         let y : Value = setOf (merged l e r (elems v) (elems w)) in
         let made : Made top s s′ y n = merge-is v w (x .0) (x .1) (x .2) (x .3) l e r (m (x .0) (x .1) (x .4) (x .5)) in
@@ -225,7 +189,7 @@ merge-unfit {s} {top = top} {l = l} {e = e} {r = r} fit q = record {
   frame = same-refl top s;
   answer = λ gs v w small h k.
       fit-fails (twoRule union .takes) (v ∷ w ∷ []) (gives (setOf (merged l e r (elems v) (elems w))))
-      (sym (fit v w (good-typed-at small h) (good-typed-at small k)) ∙ q);
+      (two-fits small h k (P̂ t̂ ∷ P̂ t̂ ∷ []) fit ∙ q);
 }
 
 -- Union, intersection and difference are merges.
@@ -286,7 +250,7 @@ module _ {s : List ℕ} {a mid b top : ℕ} (ready : TwoReady s a mid b top) {f 
   image-at : (gs : List ℕ) (v w : Value) → Sizes gs → GoodAt gs s mid a v → GoodAt gs s top b w →
       (fits (P̂ (t̂ ×̂ û) ∷ t̂ ∷ []) (v ∷ w ∷ []) ≡ true) × ((vs : Values) × (v ≡ set vs) × ImageAt s a vs at (applied v w))
   image-at gs v w small h k =
-      let g : fits (P̂ (t̂ ×̂ û) ∷ t̂ ∷ []) (v ∷ w ∷ []) ≡ true = sym (fit v w (good-typed-at small h) (good-typed-at small k)) ∙ q in
+      let g = two-fits small h k (P̂ (t̂ ×̂ û) ∷ t̂ ∷ []) fit ∙ q in
       let x = fit-applies v w g in
       let l = good-above small h (length s) (omega (arith, ready .order, ready .room)) in
       let m = good-above small k (length s) (omega (arith, ready .room)) in
@@ -418,7 +382,7 @@ interval-is v w i j e d = rw (e, d)
 module _ {s : List ℕ} {a mid b top : ℕ} {f : Bool} (fit : FitTwo (numᵖ whole ∷ numᵖ whole ∷ []) s a b f) (q : f ≡ true)
     (x y : ℕ) (xe : x ≡ getD s a 0 % cellSize) (ye : y ≡ getD s b 0 % cellSize) where
   number-fits : (gs : List ℕ) (v w : Value) → Sizes gs → GoodAt gs s mid a v → GoodAt gs s top b w → fits (numᵖ whole ∷ numᵖ whole ∷ []) (v ∷ w ∷ []) ≡ true
-  number-fits gs v w small h k = sym (fit v w (good-typed-at small h) (good-typed-at small k)) ∙ q
+  number-fits gs v w small h k = two-fits small h k (numᵖ whole ∷ numᵖ whole ∷ []) fit ∙ q
 
   two-numbers : (gs : List ℕ) (v w : Value) → Sizes gs → GoodAt gs s mid a v → GoodAt gs s top b w →
       (i : ℤ) × (j : ℤ) × (v ≡ int i) × (w ≡ int j) × CellsFit (int i) × CellsFit (int j) × (excess i ≡ x) × (excess j ≡ y)
@@ -454,84 +418,18 @@ module _ {s : List ℕ} {a mid b top : ℕ} {f : Bool} (fit : FitTwo (numᵖ who
       let u : Value = setOf (upFrom (n .0) (toCount (n .1 -ℤ n .0 +ℤ pos 1))) in
       (u, interval-is v w (n .0) (n .1) (n .2) (n .3), m (n .0) (n .1) (n .4) (n .5) (n .6) (n .7))) z
 
--- The codes of the kinds with two operands.
-abbrev pub twoCode : Two → ℕ
-twoCode pairing = 28
-twoCode union = 29
-twoCode inter = 30
-twoCode diff = 31
-twoCode product = 32
-twoCode apply = 37
-twoCode (plus n) = 39
-twoCode (minus n) = 40
-twoCode interval = 41
+-- By kind codes: the code is i's, or that of none but the last.
+module _ {k : ℕ} {s : List ℕ} {a mid b top : ℕ} {s′ : List ℕ} {o : Outcome} where
+  pub two-of : (i : Two) → k ≡ twoCode i → TwoDone i s a mid b top s′ o → TwoOf k s a mid b top s′ o
+  two-of i e d j f = subst (λ (h : Two). TwoDone h s a mid b top s′ o) (same-two k i j e f) d
 
-code-kind : (i : Two) → kindOf (twoCode i) ≡ some (two i)
-unfolding kindOf
-code-kind pairing = refl
-code-kind union = refl
-code-kind inter = refl
-code-kind diff = refl
-code-kind product = refl
-code-kind apply = refl
-code-kind (plus whole) = refl
-code-kind (minus whole) = refl
-code-kind interval = refl
-
--- The code of a kind with two operands; of the others, k.
-abbrev codeOr : ℕ → Option Kind → ℕ
-codeOr k nothing = k
-codeOr k (some (join j)) = k
-codeOr k (some negation) = k
-codeOr k (some (test j)) = k
-codeOr k (some (quant j)) = k
-codeOr k (some (leaf j)) = k
-codeOr k (some boolOf) = k
-codeOr k (some (one j)) = k
-codeOr k (some (two j)) = twoCode j
-codeOr k (some comprehension) = k
-
--- Kinds from the code n on stand at their codes.
-abbrev ordered : ℕ → List (Option Kind) → Bool
-ordered n [] = true
-ordered n (x ∷ xs) = eqb (codeOr n x) n && ordered (suc n) xs
-
-ordered-at : (n : ℕ) (xs : List (Option Kind)) → T (ordered n xs) → (k : ℕ) → codeOr (n + k) (getD xs k nothing) ≡ n + k
-ordered-at n [] h k = refl
-ordered-at n (x ∷ xs) h zero =
-    let e : n + 0 ≡ n = omega arith in
-    rw e (eqb→eq (codeOr n x) n (and-left (eqb (codeOr n x) n) (ordered (suc n) xs) h))
-ordered-at n (x ∷ xs) h (suc k) =
-    let e : n + suc k ≡ suc n + k = omega arith in
-    rw e (ordered-at (suc n) xs (and-right (eqb (codeOr n x) n) (ordered (suc n) xs) h) k)
-
-pub code-of-two : (k : ℕ) (j : Two) → kindOf k ≡ some (two j) → k ≡ twoCode j
-unfolding kindOf
-code-of-two k j e =
-    let z : 0 + k ≡ k = omega arith in
-    let q : codeOr k (kindOf k) ≡ k = rw z at (ordered-at 0 kinds tt k) in
-    sym q ∙ ap (codeOr k) e
-
--- The answer by a kind's code.
-module _ {s : List ℕ} {a mid b top : ℕ} {s′ : List ℕ} {o : Outcome} where
-  pub two-of : (i : Two) (k : ℕ) → k ≡ twoCode i → TwoDone i s a mid b top s′ o → TwoOf k s a mid b top s′ o
-  two-of i k z d j e =
-      let c : some (two i) ≡ some (two j) = sym (code-kind i) ∙ ap kindOf (sym z) ∙ e in
-      let q : i ≡ j = cc in
-      subst (λ (h : Two). TwoDone h s a mid b top s′ o) q d
-
--- What is left is the interval.
-pub else-interval : (k : ℕ) → IsTwo k → (k ≡ 28 → ⊥) → (k ≡ 29 → ⊥) → (k ≡ 30 → ⊥) → (k ≡ 31 → ⊥) → (k ≡ 32 → ⊥) → (k ≡ 37 → ⊥) → (k ≡ 39 → ⊥) →
-    (k ≡ 40 → ⊥) → k ≡ twoCode interval
-else-interval k x n₁ n₂ n₃ n₄ n₅ n₆ n₇ n₈ = go (x .0) (code-of-two k (x .0) (x .1))
-  where
-    go : (j : Two) → k ≡ twoCode j → k ≡ twoCode interval
-    go pairing e = absurd (n₁ e)
-    go union e = absurd (n₂ e)
-    go inter e = absurd (n₃ e)
-    go diff e = absurd (n₄ e)
-    go product e = absurd (n₅ e)
-    go apply e = absurd (n₆ e)
-    go (plus n) e = absurd (n₇ e)
-    go (minus n) e = absurd (n₈ e)
-    go interval e = e
+  pub two-last : k ≢ 28 → k ≢ 29 → k ≢ 30 → k ≢ 31 → k ≢ 32 → k ≢ 37 → k ≢ 39 → k ≢ 40 → TwoDone interval s a mid b top s′ o → TwoOf k s a mid b top s′ o
+  two-last n28 n29 n30 n31 n32 n37 n39 n40 d pairing e = absurd (n28 (code-of k (two pairing) e))
+  two-last n28 n29 n30 n31 n32 n37 n39 n40 d union e = absurd (n29 (code-of k (two union) e))
+  two-last n28 n29 n30 n31 n32 n37 n39 n40 d inter e = absurd (n30 (code-of k (two inter) e))
+  two-last n28 n29 n30 n31 n32 n37 n39 n40 d diff e = absurd (n31 (code-of k (two diff) e))
+  two-last n28 n29 n30 n31 n32 n37 n39 n40 d product e = absurd (n32 (code-of k (two product) e))
+  two-last n28 n29 n30 n31 n32 n37 n39 n40 d apply e = absurd (n37 (code-of k (two apply) e))
+  two-last n28 n29 n30 n31 n32 n37 n39 n40 d (plus whole) e = absurd (n39 (code-of k (two (plus whole)) e))
+  two-last n28 n29 n30 n31 n32 n37 n39 n40 d (minus whole) e = absurd (n40 (code-of k (two (minus whole)) e))
+  two-last n28 n29 n30 n31 n32 n37 n39 n40 d interval e = d

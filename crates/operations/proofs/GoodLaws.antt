@@ -3,34 +3,18 @@ use Prim.Native.Nat.{ℕ, _≤_, _<_}
 use mathlib.Core.Bool.{_&&_}
 use mathlib.Core.List.{List}
 use native.Mathlib.Omega.{arith}
-use lib.Dec.{T, leb→le}
-use lib.IntN.{pos, negsuc}
+use lib.Dec.{T}
 use lib.ListN.{length}
-use Rattle.rules.specs.Values.{Value, scalar, num, truth, element, pair, set, Values, none, _▸_, weight}
+use Rattle.rules.specs.Values.{Value, scalar, pair, set, Values, none, _▸_}
 use Rattle.rules.specs.Cells.{wellFormed, risingAll, precedes, good}
 use Rattle.rules.proofs.OrderLaws.{and-left, and-right}
-use Rattle.rules.proofs.CellsLaws.{Encodable, Encodables, encodable-wellFormed, few-sizes, good-wellFormed, good-weight, good-typed}
-use Rattle.arena.specs.Code.{excess, CellsFit, AllFit, SomeAt, Rises, FineSet, SetBelow, ValueBelow}
-use Rattle.arena.proofs.CodeLaws.{length-code}
+use Rattle.rules.proofs.CellsLaws.{encodable-wellFormed, few-sizes, good-wellFormed, good-weight, good-typed}
+use Rattle.arena.specs.Code.{CellsFit, SomeAt, Rises, FineSet, SetBelow, ValueBelow}
+use Rattle.arena.proofs.CodeLaws.{length-code, encodable-fits}
+use Rattle.arena.proofs.Standing.{weight-pos}
 use Rattle.fitting.specs.Agree.{TypedAt}
 use Rattle.fitting.proofs.Cells.{typed-at}
 use Rattle.operations.specs.Good.{Sizes, GoodAt}
-
--- Values that can be encoded fit the arena.
-mutual
-  unfolding excess
-
-  encodable-fits : (v : Value) → Encodable v → CellsFit v
-  encodable-fits (scalar (num n (pos i))) h = let l = leb→le i 2147483647 h in (omega arith, omega arith)
-  encodable-fits (scalar (num n (negsuc i))) h = let l = leb→le i 2147483647 h in (omega arith, omega arith)
-  encodable-fits (scalar (truth b)) h = tt
-  encodable-fits (scalar (element g k)) h = h
-  encodable-fits (pair v w) h = (encodable-fits v (h .0), encodable-fits w (h .1))
-  encodable-fits (set s) h = (h .0, encodables-fit s (h .1))
-
-  encodables-fit : (vs : Values) → Encodables vs → AllFit vs
-  encodables-fit none h = tt
-  encodables-fit (v ▸ vs) h = (encodable-fits v (h .0), encodables-fit vs (h .1))
 
 rising-rises : (gs : List ℕ) (s : Values) → T (risingAll gs s) → Rises s
 rising-rises gs none h = tt
@@ -69,11 +53,6 @@ module _ {gs : List ℕ} (small : Sizes gs) where
 
     pub good-inside : at < length s
     good-inside = omega (arith, h .stands .inside, length-code v, weight-pos v)
-      where
-        weight-pos : (w : Value) → 1 ≤ weight w
-        weight-pos (scalar x) = omega arith
-        weight-pos (pair a b) = omega arith
-        weight-pos (set x) = omega arith
 
   pub good-set-at : {s : List ℕ} {top at : ℕ} (vs : Values) → GoodAt gs s top at (set vs) → SetBelow s top at vs
   good-set-at vs h = record { stands = h .stands; below = h .below; fine = good-set vs (h .good) }

@@ -2,7 +2,6 @@
 use Prim.Native.Nat.{ℕ, zero, suc, _+_}
 use mathlib.Core.Bool.{Bool, true, _&&_}
 use mathlib.Core.List.{List, [], _∷_}
-use mathlib.Core.Logic.{_≢_}
 use mathlib.Core.Option.{Option, none as nothing, some}
 use mathlib.Core.Path.{_≡_, refl, ap, sym, _∙_}
 use native.Mathlib.Omega.{arith}
@@ -102,37 +101,62 @@ unfolding kindOf
 code-of k x e = let c = coded-at 0 kinds tt k x e in omega arith
 
 -- The kind of a code.
-pub of-one : (j : One) → kindOf (oneCode j) ≡ some (one j)
+code-kind : (x : Kind) → kindOf (codeOf x) ≡ some x
 unfolding kindOf
-of-one singleton = refl
-of-one power = refl
-of-one dom = refl
-of-one ran = refl
-of-one card = refl
-of-one choice = refl
+code-kind (join and) = refl
+code-kind (join or) = refl
+code-kind (join implies) = refl
+code-kind (join iff) = refl
+code-kind negation = refl
+code-kind (test equal) = refl
+code-kind (test member) = refl
+code-kind (test subset) = refl
+code-kind (test (atMost whole)) = refl
+code-kind (quant forAll) = refl
+code-kind (quant forSome) = refl
+code-kind (leaf identifier) = refl
+code-kind (leaf givenSet) = refl
+code-kind (leaf elementOf) = refl
+code-kind (leaf (literal whole)) = refl
+code-kind (leaf truthConst) = refl
+code-kind (leaf emptySet) = refl
+code-kind (leaf boolSet) = refl
+code-kind boolOf = refl
+code-kind (one singleton) = refl
+code-kind (one power) = refl
+code-kind (one dom) = refl
+code-kind (one ran) = refl
+code-kind (one card) = refl
+code-kind (one choice) = refl
+code-kind (two pairing) = refl
+code-kind (two union) = refl
+code-kind (two inter) = refl
+code-kind (two diff) = refl
+code-kind (two product) = refl
+code-kind (two apply) = refl
+code-kind (two (plus whole)) = refl
+code-kind (two (minus whole)) = refl
+code-kind (two interval) = refl
+code-kind comprehension = refl
 
-pub of-leaf : (j : Leaf) → kindOf (leafCode j) ≡ some (leaf j)
-unfolding kindOf
-of-leaf identifier = refl
-of-leaf givenSet = refl
-of-leaf elementOf = refl
-of-leaf (literal whole) = refl
-of-leaf truthConst = refl
-of-leaf emptySet = refl
-of-leaf boolSet = refl
+pub kind-of : (k : ℕ) (x : Kind) → k ≡ codeOf x → kindOf k ≡ some x
+kind-of k x e = ap kindOf e ∙ code-kind x
 
 -- A code has one kind.
-pub same-one : (k : ℕ) (i j : One) → kindOf k ≡ some (one i) → kindOf k ≡ some (one j) → i ≡ j
-same-one k i j e f = let d : some (one i) ≡ some (one j) = sym e ∙ f in cc
+same-kind : (k : ℕ) (x y : Kind) → k ≡ codeOf x → kindOf k ≡ some y → x ≡ y
+same-kind k x y e f = let d : some x ≡ some y = sym (kind-of k x e) ∙ f in cc
 
-pub same-leaf : (k : ℕ) (i j : Leaf) → kindOf k ≡ some (leaf i) → kindOf k ≡ some (leaf j) → i ≡ j
-same-leaf k i j e f = let d : some (leaf i) ≡ some (leaf j) = sym e ∙ f in cc
+pub same-join : (k : ℕ) (i j : Join) → k ≡ joinCode i → kindOf k ≡ some (join j) → i ≡ j
+same-join k i j e f = cc (same-kind k (join i) (join j) e f)
 
--- The last kind of one operand, where the code is none of the others'.
-pub last-one : (k : ℕ) (j : One) → kindOf k ≡ some (one j) → k ≢ 27 → k ≢ 33 → k ≢ 35 → k ≢ 36 → k ≢ 38 → j ≡ choice
-last-one k singleton e n27 n33 n35 n36 n38 = absurd (n27 (code-of k (one singleton) e))
-last-one k power e n27 n33 n35 n36 n38 = absurd (n33 (code-of k (one power) e))
-last-one k dom e n27 n33 n35 n36 n38 = absurd (n35 (code-of k (one dom) e))
-last-one k ran e n27 n33 n35 n36 n38 = absurd (n36 (code-of k (one ran) e))
-last-one k card e n27 n33 n35 n36 n38 = absurd (n38 (code-of k (one card) e))
-last-one k choice e n27 n33 n35 n36 n38 = refl
+pub same-one : (k : ℕ) (i j : One) → k ≡ oneCode i → kindOf k ≡ some (one j) → i ≡ j
+same-one k i j e f = cc (same-kind k (one i) (one j) e f)
+
+pub same-two : (k : ℕ) (i j : Two) → k ≡ twoCode i → kindOf k ≡ some (two j) → i ≡ j
+same-two k i j e f = cc (same-kind k (two i) (two j) e f)
+
+pub same-test : (k : ℕ) (i j : Test) → k ≡ testCode i → kindOf k ≡ some (test j) → i ≡ j
+same-test k i j e f = cc (same-kind k (test i) (test j) e f)
+
+pub same-leaf : (k : ℕ) (i j : Leaf) → k ≡ leafCode i → kindOf k ≡ some (leaf j) → i ≡ j
+same-leaf k i j e f = cc (same-kind k (leaf i) (leaf j) e f)

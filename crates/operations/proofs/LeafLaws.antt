@@ -21,7 +21,7 @@ use Rattle.arena.specs.Code.{excess, code, Same, Made}
 use Rattle.products.specs.Growing.{PutsCell}
 use Rattle.operations.specs.Outcomes.{BuiltAt, LeafFits, LeafReady, LeafDone}
 use Rattle.operations.specs.Leaves.{scalarCell, Narrow}
-use Rattle.operations.proofs.KindLaws.{leafCode, code-of, of-leaf, same-leaf}
+use Rattle.operations.proofs.KindLaws.{leafCode, code-of, same-leaf}
 
 -- The cell by the kind's code.
 pub cell-element : (k a b : ℕ) → k ≡ 22 → 12884901888 + 256 * a + b ≡ scalarCell k a b
@@ -62,7 +62,7 @@ truth-bit (suc (suc a)) h = absurd (omega arith)
 -- The leaf that the code tells.
 module _ {k a b size : ℕ} {s : List ℕ} {top : ℕ} (p : LeafReady k a b size s top) where
   pub leaf-fits : (j : Leaf) → k ≡ leafCode j → LeafFits j a b size
-  leaf-fits j e = subst (λ (i : Leaf). LeafFits i a b size) (same-leaf k (p .kind) j (p .is) (ap kindOf e ∙ of-leaf j)) (p .fits)
+  leaf-fits j e = subst (λ (i : Leaf). LeafFits i a b size) (sym (same-leaf k j (p .kind) e (p .is))) (p .fits)
 
 -- The leaves of one cell are those whose code is none of the sets'.
 scalar-code : (j : Leaf) (k a b size : ℕ) → kindOf k ≡ some (leaf j) → LeafFits j a b size → k ≢ 21 → k ≢ 26 → k ≢ 42 →
@@ -111,7 +111,7 @@ module _ {k a b size top r : ℕ} {s s′ : List ℕ} where
   leaf-of j e same m = record {
     frame = same;
     answer = λ i gs ρ f h g.
-        let d : j ≡ i = same-leaf k j i (ap kindOf e ∙ of-leaf j) f in
+        let d : j ≡ i = same-leaf k j i e f in
         subst (λ (x : Leaf). BuiltAt s′ top (gives (leafValue gs x a b ρ)) r) d (m gs ρ (subst (λ (x : Leaf). LeafFits x a b size) (sym d) h) g);
   }
 

@@ -1,6 +1,7 @@
 -- The operations on good values.
 pub mod GoodLaws
 pub mod OutcomeLaws
+pub mod FitLaws
 pub mod KindLaws
 pub mod SingleLaws
 pub mod LeafLaws

@@ -1,18 +1,19 @@
 -- How the answers of the functions below tell what a node gives.
-use Prim.Native.Nat.{ℕ, _≤_, _<_}
+use Prim.Native.Nat.{ℕ, _<_}
 use mathlib.Core.Bool.{true, false}
 use mathlib.Core.List.{List, [], _∷_}
 use mathlib.Core.Path.{_≡_, sym, subst}
 use native.Mathlib.Omega.{arith}
 use native.Mathlib.Decide.{decLt}
 use borrow.Author.Tests.{eq-eqb, ne-eqb, le-leb, lt-leb}
-use Rattle.rules.specs.Values.{Value, scalar, pair, set, weight}
+use Rattle.rules.specs.Values.{Value, weight}
 use Rattle.rules.specs.Rules.{Pattern, oneRule, twoRule, testRule}
 use Rattle.rules.specs.Kinds.{One, Two, Test}
 use Rattle.rules.specs.Fits.{fits}
 use Rattle.rules.specs.Runs.{Given, gives, lacks}
 use Rattle.rules.specs.Operations.{oneValue, twoValue, holds}
 use Rattle.arena.specs.Code.{Made}
+use Rattle.arena.proofs.Standing.{weight-pos}
 use Rattle.operations.specs.declared.Outcome.{Outcome}
 use Rattle.operations.specs.declared.Outcome.the-variants.{Built, Lacks}
 use Rattle.operations.specs.declared.Tested.the-variants.{Truth, Unlike}
@@ -25,11 +26,6 @@ ended-none end e = rw (eq-eqb end 0 e)
 pub ended-some : (end : ℕ) → (end ≡ 0 → ⊥) → Built end ≡ ended end
 unfolding ended
 ended-some end e = rw (ne-eqb end 0 e)
-
-weight-pos : (w : Value) → 1 ≤ weight w
-weight-pos (scalar x) = omega arith
-weight-pos (pair a b) = omega arith
-weight-pos (set x) = omega arith
 
 -- A value that has been made is what is given, or 18 is met.
 pub made-gives : (mid : ℕ) {top : ℕ} {s s′ : List ℕ} {v : Value} {r : ℕ} → Made top s s′ v r → Gives s′ mid top (weighed (gives v)) (ended r)

@@ -9,19 +9,19 @@ use borrow.Author.Tests.{le-leb}
 use lib.Dec.{T}
 use lib.IntN.{pos}
 use lib.ListN.{length, getD}
-use Rattle.rules.specs.Types.{Ty, POW, _⊗_, INTEGER}
-use Rattle.rules.specs.Values.{Value, scalar, pair, set, Values, none, _▸_, int, members, count, weight}
-use Rattle.rules.specs.Kinds.{One, singleton, power, dom, ran, card, choice, kindOf}
+use Rattle.rules.specs.Types.{_⊗_, INTEGER}
+use Rattle.rules.specs.Values.{Value, set, Values, none, _▸_, int, members, count, weight}
+use Rattle.rules.specs.Kinds.{One, singleton, power, dom, ran, card, choice, one}
 use Rattle.rules.specs.Rules.{t̂, û, P̂, _×̂_, oneRule}
-use Rattle.rules.specs.Fits.{HasType, HaveType, typed, fits}
+use Rattle.rules.specs.Fits.{typed, fits}
 use Rattle.rules.specs.Runs.{gives, lacks}
 use Rattle.rules.specs.Operations.{oneValue}
 use Rattle.rules.proofs.CellsLaws.{good-typed}
-use Rattle.rules.proofs.FitsLaws.{typed-right, fits-right}
-use Rattle.arena.specs.Code.{code, SetBelow, SomeSet, SomeValue, Made}
+use Rattle.rules.proofs.FitsLaws.{typed-right}
+use Rattle.arena.specs.Code.{code, SetBelow, SomeSet, SomeValue, Made, AllPairs}
 use Rattle.arena.proofs.Standing.{same-refl}
 use Rattle.products.specs.Growing.{PutsCell, Singles}
-use Rattle.products.specs.Parts.{IsPair, AllPairs, SomePairs, Domains, Ranges}
+use Rattle.products.specs.Parts.{SomePairs, Domains, Ranges}
 use Rattle.products.specs.Power.{Powers}
 use Rattle.fitting.specs.Agree.{SomeTyped}
 use Rattle.fitting.specs.Tests.{FitOne}
@@ -32,49 +32,24 @@ use Rattle.operations.specs.declared.Outcome.{Outcome}
 use Rattle.operations.specs.declared.Outcome.the-variants.{Within, Lacks}
 use Rattle.operations.proofs.GoodLaws.{good-value, good-typed-at, good-set-at, good-inside}
 use Rattle.operations.proofs.OutcomeLaws.{made-gives, one-unfit, one-fit, gives-as}
-use Rattle.operations.proofs.KindLaws.{oneCode, of-one, same-one, last-one}
+use Rattle.operations.proofs.FitLaws.{one-fits, fit-types, types-fit, set-typed, pairs-typed}
+use Rattle.operations.proofs.KindLaws.{oneCode, code-of, same-one}
 
-absurd01 : _≡_ {A = ℕ} 0 1 → ⊥
-absurd01 e = omega arith
-
-of-true : {b : Bool} → b ≡ true → T b
-of-true e = subst T (sym e) tt
-
-true-of : (b : Bool) → T b → b ≡ true
-true-of true t = refl
-true-of false t = absurd t
-
--- Values that pass the tests.
-set-typed : (v : Value) (t : Ty) → HasType v (POW t) → (vs : Values) × (v ≡ set vs) × HaveType vs t
-set-typed (scalar x) t h = absurd (absurd01 (cc))
-set-typed (pair v w) t h = absurd h
-set-typed (set vs) t h = (vs, refl, h)
-
-pair-typed : (v : Value) (t u : Ty) → HasType v (t ⊗ u) → IsPair v
-pair-typed (scalar x) t u h = absurd (absurd01 (cc))
-pair-typed (pair v w) t u h = tt
-pair-typed (set vs) t u h = absurd h
-
-pairs-typed : (vs : Values) (t u : Ty) → HaveType vs (t ⊗ u) → AllPairs vs
-pairs-typed none t u h = tt
-pairs-typed (v ▸ vs) t u h = (pair-typed v t u (h .0), pairs-typed vs t u (h .1))
-
+-- What fits the patterns of one operand.
 module _ (v : Value) where
   -- anything that has a type
   pub fits-any : T (typed v) → fits (t̂ ∷ []) (v ∷ []) ≡ true
-  fits-any h =
-      let x = typed-right v .0 h in
-      true-of (fits (t̂ ∷ []) (v ∷ [])) (fits-right (t̂ ∷ []) (v ∷ []) .1 (x .0, INTEGER, (x .1, tt)))
+  fits-any h = let x = typed-right v .0 h in types-fit (t̂ ∷ []) (v ∷ []) (x .0, INTEGER, (x .1, tt))
 
   pub fits-is-set : fits (P̂ t̂ ∷ []) (v ∷ []) ≡ true → (vs : Values) × (v ≡ set vs)
   fits-is-set e =
-      let x = fits-right (P̂ t̂ ∷ []) (v ∷ []) .0 (of-true e) in
+      let x = fit-types (P̂ t̂ ∷ []) (v ∷ []) e in
       let y = set-typed v (x .0) (x .2 .0) in
       (y .0, y .1)
 
   pub fits-is-relation : fits (P̂ (t̂ ×̂ û) ∷ []) (v ∷ []) ≡ true → (vs : Values) × (v ≡ set vs) × AllPairs vs
   fits-is-relation e =
-      let x = fits-right (P̂ (t̂ ×̂ û) ∷ []) (v ∷ []) .0 (of-true e) in
+      let x = fit-types (P̂ (t̂ ×̂ û) ∷ []) (v ∷ []) e in
       let y = set-typed v (x .0 ⊗ x .1) (x .2 .0) in
       (y .0, y .1, pairs-typed (y .0) (x .0) (x .1) (y .2))
 
@@ -95,19 +70,19 @@ module _ {s : List ℕ} {a top : ℕ} (p : OneReady s a top) where
 
   pub ready-set : {r : Bool} → FitOne (P̂ t̂ ∷ []) s a r → r ≡ true → SomeSet s top a
   ready-set f e =
-      let x = fits-is-set (p .value) (sym (f (p .value) (good-typed-at (p .small) (p .operand))) ∙ e) in
+      let x = fits-is-set (p .value) (one-fits (p .small) (p .operand) (P̂ t̂ ∷ []) f ∙ e) in
       (x .0, as-set (p .small) (p .operand) (x .1))
 
   pub ready-pairs : {r : Bool} → FitOne (P̂ (t̂ ×̂ û) ∷ []) s a r → r ≡ true → SomePairs s top a
   ready-pairs f e =
-      let x = fits-is-relation (p .value) (sym (f (p .value) (good-typed-at (p .small) (p .operand))) ∙ e) in
+      let x = fits-is-relation (p .value) (one-fits (p .small) (p .operand) (P̂ (t̂ ×̂ û) ∷ []) f ∙ e) in
       (x .0, as-set (p .small) (p .operand) (x .1), x .2)
 
 -- 15
 pub one-unlike : {s : List ℕ} {a top : ℕ} (j : One) {r : Bool} → FitOne (oneRule j .takes) s a r → r ≡ false → OneDone j s a top s (Lacks 15)
 one-unlike {s} {a} {top} j f e = record {
   frame = same-refl top s;
-  answer = λ gs v p h. one-unfit j v (sym (f v (good-typed-at p h)) ∙ e);
+  answer = λ gs v p h. one-unfit j v (one-fits p h (oneRule j .takes) f ∙ e);
 }
 
 -- For v the node gives a value, which has been made.
@@ -150,7 +125,7 @@ module _ {s s′ : List ℕ} {a top end : ℕ} {o : Outcome} (p : OneReady s a t
     power-done m e =
         one-made power p
         (λ gs v q h.
-        let i = sym (f v (good-typed-at q h)) ∙ t in
+        let i = one-fits q h (P̂ t̂ ∷ []) f ∙ t in
         let x = fits-is-set v i in
         record { fit = i; value = _; is = ap (oneValue power) (x .1); made = m (x .0) (as-set q h (x .1)) })
         e
@@ -160,7 +135,7 @@ module _ {s s′ : List ℕ} {a top end : ℕ} {o : Outcome} (p : OneReady s a t
     card-done n c m e =
         one-made card p
         (λ gs v q h.
-        let i = sym (f v (good-typed-at q h)) ∙ t in
+        let i = one-fits q h (P̂ t̂ ∷ []) f ∙ t in
         let x = fits-is-set v i in
         let b = as-set q h (x .1) in
         let d : n ≡ count (x .0) = c ∙ first-cell s a (set (x .0)) (b .stands) (b .fine .fits) .1 in
@@ -173,7 +148,7 @@ module _ {s s′ : List ℕ} {a top end : ℕ} {o : Outcome} (p : OneReady s a t
     domain-done m e =
         one-made dom p
         (λ gs v q h.
-        let i = sym (f v (good-typed-at q h)) ∙ t in
+        let i = one-fits q h (P̂ (t̂ ×̂ û) ∷ []) f ∙ t in
         let x = fits-is-relation v i in
         record { fit = i; value = _; is = ap (oneValue dom) (x .1); made = m (x .0) (as-set q h (x .1)) (x .2) })
         e
@@ -183,7 +158,7 @@ module _ {s s′ : List ℕ} {a top end : ℕ} {o : Outcome} (p : OneReady s a t
     range-done m e =
         one-made ran p
         (λ gs v q h.
-        let i = sym (f v (good-typed-at q h)) ∙ t in
+        let i = one-fits q h (P̂ (t̂ ×̂ û) ∷ []) f ∙ t in
         let x = fits-is-relation v i in
         record { fit = i; value = _; is = ap (oneValue ran) (x .1); made = m (x .0) (as-set q h (x .1)) (x .2) })
         e
@@ -209,7 +184,7 @@ module _ {s : List ℕ} {a top : ℕ} {r : Bool} (f : FitOne (P̂ t̂ ∷ []) s 
   chosen o m = record {
     frame = same-refl top s;
     answer = λ gs v q h.
-        let i = sym (f v (good-typed-at q h)) ∙ t in
+        let i = one-fits q h (P̂ t̂ ∷ []) f ∙ t in
         let x = fits-is-set v i in
         let b = as-set q h (x .1) in
         gives-as s top top o (one-fit choice v i (ap (oneValue choice) (x .1)))
@@ -222,10 +197,15 @@ module _ {s : List ℕ} {a top : ℕ} {r : Bool} (f : FitOne (P̂ t̂ ∷ []) s 
   pub choice-some : n ≢ 0 → OneDone choice s a top s (Within (a + 1))
   choice-some z = chosen (Within (a + 1)) (λ vs b d. choice-first s a top vs b (λ e. z (d ∙ e)))
 
--- By kind codes: the code is j's, or that of none but the last.
+-- By kind codes: the code is i's, or that of none but the last.
 module _ {k a top : ℕ} {s s′ : List ℕ} {o : Outcome} where
-  pub one-of : (j : One) → k ≡ oneCode j → OneDone j s a top s′ o → OneOf k s a top s′ o
-  one-of j e d i f = subst (λ (h : One). OneDone h s a top s′ o) (same-one k j i (ap kindOf e ∙ of-one j) f) d
+  pub one-of : (i : One) → k ≡ oneCode i → OneDone i s a top s′ o → OneOf k s a top s′ o
+  one-of i e d j f = subst (λ (h : One). OneDone h s a top s′ o) (same-one k i j e f) d
 
   pub one-last : k ≢ 27 → k ≢ 33 → k ≢ 35 → k ≢ 36 → k ≢ 38 → OneDone choice s a top s′ o → OneOf k s a top s′ o
-  one-last n27 n33 n35 n36 n38 d i f = subst (λ (h : One). OneDone h s a top s′ o) (sym (last-one k i f n27 n33 n35 n36 n38)) d
+  one-last n27 n33 n35 n36 n38 d singleton e = absurd (n27 (code-of k (one singleton) e))
+  one-last n27 n33 n35 n36 n38 d power e = absurd (n33 (code-of k (one power) e))
+  one-last n27 n33 n35 n36 n38 d dom e = absurd (n35 (code-of k (one dom) e))
+  one-last n27 n33 n35 n36 n38 d ran e = absurd (n36 (code-of k (one ran) e))
+  one-last n27 n33 n35 n36 n38 d card e = absurd (n38 (code-of k (one card) e))
+  one-last n27 n33 n35 n36 n38 d choice e = d

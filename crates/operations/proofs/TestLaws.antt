@@ -1,87 +1,62 @@
 -- What the tests of kinds 6 to 9 answer.
-use Prim.Native.Nat.{ℕ, zero, suc, _+_, _-_, _≤_, _<_, Ordering, Ordering·lt, Ordering·eq, Ordering·gt}
-use mathlib.Core.Bool.{Bool, true, false, _&&_}
+use Prim.Native.Nat.{ℕ, _+_, _-_, _≤_, _<_, Ordering, Ordering·lt, Ordering·eq, Ordering·gt}
+use mathlib.Core.Bool.{Bool, true, false}
 use mathlib.Core.Logic.{_≢_}
 use mathlib.Core.List.{List, [], _∷_}
-use mathlib.Core.Option.{Option, none as nothing, some}
 use mathlib.Core.Path.{_≡_, refl, sym, ap, _∙_, subst}
 use native.Mathlib.Omega.{arith}
 use native.Mathlib.Decide.{decLt}
 use borrow.Author.Tests.{le-leb, lt-leb}
-use lib.Dec.{T, leb, eqb, isEq, eqb→eq}
+use lib.Dec.{leb, eqb, isEq}
 use lib.IntN.{ℤ, pos, negsuc}
 use lib.ListN.{length, getD}
 use lib.Signed.{leZ}
-use Rattle.rules.specs.Types.{whole, Ty, POW, INTEGER}
-use Rattle.rules.specs.Values.{num, truth, element, Value, scalar, pair, set, Values, int, members, order, same}
-use Rattle.rules.specs.Kinds.{Test, equal, member, subset, atMost, kinds, kindOf}
-use Rattle.rules.specs.Kinds.{Kind, join, negation, test, quant, leaf, boolOf, one, two, comprehension}
-use Rattle.rules.specs.Rules.{Pattern, t̂, P̂, numᵖ, testRule}
+use Rattle.rules.specs.Types.{whole, Ty, POW}
+use Rattle.rules.specs.Values.{Value, set, Values, int, members, order, same}
+use Rattle.rules.specs.Kinds.{Test, equal, member, subset, atMost, test}
+use Rattle.rules.specs.Rules.{t̂, P̂, numᵖ, testRule}
 use Rattle.rules.specs.Fits.{HasType, Fits, fits}
 use Rattle.rules.specs.Operations.{isIn, allIn, holds}
-use Rattle.rules.proofs.FitsLaws.{fits-right}
-use Rattle.rules.proofs.OrderLaws.{and-left, and-right}
 use Rattle.arena.specs.Code.{excess, code, ValueAt, CellsFit, orderCode, SomeSet, SomeValue, Compared}
 use Rattle.arena.proofs.CodeLaws.{length-code}
 use Rattle.arena.proofs.Standing.{stands-head}
-use Rattle.fitting.specs.Tests.{FitTwo, Both}
+use Rattle.fitting.specs.Tests.{FitTwo}
 use Rattle.sets.specs.Fronts.{Contains, Includes}
 use Rattle.operations.specs.Good.{Sizes, GoodAt}
 use Rattle.operations.specs.declared.Tested.{Tested}
 use Rattle.operations.specs.declared.Tested.the-variants.{Truth, Unlike}
 use Rattle.operations.specs.Outcomes.{TwoReady, TestDone, TestOf}
-use Rattle.operations.proofs.GoodLaws.{good-fits, good-value, good-typed-at, good-set-at}
+use Rattle.operations.proofs.GoodLaws.{good-fits, good-value, good-set-at}
 use Rattle.operations.proofs.OutcomeLaws.{test-unfit, test-fit}
-
-absurd01 : _≡_ {A = ℕ} 0 1 → ⊥
-absurd01 e = omega arith
+use Rattle.operations.proofs.FitLaws.{two-fits, fit-types, set-typed, int-typed}
+use Rattle.operations.proofs.KindLaws.{testCode, code-of, same-test}
 
 -- Seen from the arena's end.
 good-whole : {gs s : List ℕ} {top at : ℕ} {v : Value} → GoodAt gs s top at v → GoodAt gs s (length s) at v
 good-whole {v = v} h = record { stands = h .stands; below = omega (arith, h .stands .inside, length-code v); good = h .good }
 
-pub ready-both : {s : List ℕ} {a mid b top : ℕ} → TwoReady s a mid b top → Both s a b
-ready-both p = record { first = (p .first, good-typed-at (p .small) (p .left)); second = (p .second, good-typed-at (p .small) (p .right)) }
-
--- Operands that pass 15 have the types of the rule.
-fit-types : (ps : List Pattern) (v w : Value) → fits ps (v ∷ w ∷ []) ≡ true → Fits ps (v ∷ w ∷ [])
-fit-types ps v w e = fits-right ps (v ∷ w ∷ []) .0 (rw e tt)
-
 module _ (j : Test) {s : List ℕ} {a b : ℕ} {r : Bool} (f : FitTwo (testRule j .takes) s a b r) where
   pub test-unlike : (mid top : ℕ) → r ≡ false → TestDone j s a mid b top Unlike
-  test-unlike mid top e gs v w h k l = sym (test-unfit j v w (sym (f v w (good-typed-at h k) (good-typed-at h l)) ∙ e))
+  test-unlike mid top e gs v w h k l = sym (test-unfit j v w (two-fits h k l (testRule j .takes) f ∙ e))
 
   passed : {gs : List ℕ} {mid top : ℕ} (v w : Value) → r ≡ true → Sizes gs → GoodAt gs s mid a v → GoodAt gs s top b w →
       fits (testRule j .takes) (v ∷ w ∷ []) ≡ true
-  passed v w e h k l = sym (f v w (good-typed-at h k) (good-typed-at h l)) ∙ e
+  passed v w e h k l = two-fits h k l (testRule j .takes) f ∙ e
 
   test-told : (mid top : ℕ) (t : Bool) → r ≡ true →
       ((gs : List ℕ) (v w : Value) → Sizes gs → GoodAt gs s mid a v → GoodAt gs s top b w → Fits (testRule j .takes) (v ∷ w ∷ []) → t ≡ holds j v w) →
       TestDone j s a mid b top (Truth t)
   test-told mid top t e g gs v w h k l =
       let x = passed v w e h k l in
-      ap Truth (g gs v w h k l (fit-types (testRule j .takes) v w x)) ∙ sym (test-fit j v w x)
+      ap Truth (g gs v w h k l (fit-types (testRule j .takes) (v ∷ w ∷ []) x)) ∙ sym (test-fit j v w x)
 
   ready-fits : {mid top : ℕ} (p : TwoReady s a mid b top) → r ≡ true → Fits (testRule j .takes) (p .first ∷ p .second ∷ [])
-  ready-fits p e = fit-types (testRule j .takes) (p .first) (p .second) (passed (p .first) (p .second) e (p .small) (p .left) (p .right))
-
--- The values of a type POW(t) are sets, those of INTEGER numbers.
-pow-set : (v : Value) (t : Ty) → HasType v (POW t) → (vs : Values) × (v ≡ set vs)
-pow-set (scalar x) t h = absurd (absurd01 cc)
-pow-set (pair v w) t h = absurd h
-pow-set (set vs) t h = (vs, refl)
-
-type-int : (v : Value) → HasType v INTEGER → (i : ℤ) × (v ≡ int i)
-type-int (scalar (num whole i)) h = (i, refl)
-type-int (scalar (truth b)) h = absurd (absurd01 cc)
-type-int (scalar (element g k)) h = absurd (absurd01 cc)
-type-int (pair v w) h = absurd h
-type-int (set vs) h = absurd h
+  ready-fits p e = fit-types (testRule j .takes) (p .first ∷ p .second ∷ []) (passed (p .first) (p .second) e (p .small) (p .left) (p .right))
 
 -- A good value of a type POW(t) is a set that can be an operand.
 set-here : {gs s : List ℕ} {top at : ℕ} (v : Value) (t : Ty) → Sizes gs → GoodAt gs s top at v → HasType v (POW t) → SomeSet s (length s) at
 set-here v t h k q =
-    let x = pow-set v t q in
+    let x = set-typed v t q in
     (x .0, good-set-at h (x .0) (rw (x .1) at (good-whole k)))
 
 -- 6
@@ -114,7 +89,7 @@ module _ {s : List ℕ} {a mid b top : ℕ} {r : Bool} (f : FitTwo (t̂ ∷ P̂ 
   pub member-told : (q : Bool) → Contains s a b q → TestDone member s a mid b top (Truth q)
   member-told q c =
       test-told member f mid top q e λ gs v w h k l x.
-      let y = pow-set w (x .0) (x .2 .1 .0) in
+      let y = set-typed w (x .0) (x .2 .1 .0) in
       c v (y .0) (good-value h (good-whole k)) (good-set-at h (y .0) (rw (y .1) at (good-whole l))) ∙ holds-member v w (y .0) (y .1)
 
 -- 8
@@ -131,8 +106,8 @@ module _ {s : List ℕ} {a mid b top : ℕ} {r : Bool} (f : FitTwo (P̂ t̂ ∷ 
   pub subset-told : (q : Bool) → Includes s a b q → TestDone subset s a mid b top (Truth q)
   subset-told q c =
       test-told subset f mid top q e λ gs v w h k l x.
-      let y = pow-set v (x .0) (x .2 .0) in
-      let z = pow-set w (x .0) (x .2 .1 .0) in
+      let y = set-typed v (x .0) (x .2 .0) in
+      let z = set-typed w (x .0) (x .2 .1 .0) in
       c (y .0) (z .0) (good-set-at h (y .0) (rw (y .1) at (good-whole k))) (good-set-at h (z .0) (rw (z .1) at (good-whole l))) ∙
       holds-subset v w (y .0) (z .0) (y .1) (z .1)
 
@@ -164,62 +139,20 @@ pub at-most-told : {s : List ℕ} {a b : ℕ} {r : Bool} (mid top : ℕ) → Fit
     TestDone (atMost whole) s a mid b top (Truth (leb (getD s a 0) (getD s b 0)))
 at-most-told {s} {a} {b} mid top f e =
     test-told (atMost whole) f mid top (leb (getD s a 0) (getD s b 0)) e λ gs v w h k l x.
-    let y = type-int v (x .2 .0) in
-    let z = type-int w (x .2 .1 .0) in
+    let y = int-typed v (x .2 .0) in
+    let z = int-typed w (x .2 .1 .0) in
     let k′ = rw (y .1) at k in
     let l′ = rw (z .1) at l in
     rw (number-cell s a (y .0) (k′ .stands), number-cell s b (z .0) (l′ .stands))
     (cells-order (y .0) (z .0) (good-fits h (int (y .0)) (k′ .good)) (good-fits h (int (z .0)) (l′ .good)) ∙ holds-atMost v w (y .0) (z .0) (y .1) (z .1))
 
--- The kinds' codes.
-abbrev testCode : Test → ℕ
-testCode equal = 6
-testCode member = 7
-testCode subset = 8
-testCode (atMost n) = 9
-
-abbrev codeRight : ℕ → Option Kind → Bool
-codeRight k nothing = true
-codeRight k (some (join j)) = true
-codeRight k (some negation) = true
-codeRight k (some (test j)) = eqb k (testCode j)
-codeRight k (some (quant j)) = true
-codeRight k (some (leaf j)) = true
-codeRight k (some boolOf) = true
-codeRight k (some (one j)) = true
-codeRight k (some (two j)) = true
-codeRight k (some comprehension) = true
-
-abbrev codesRight : ℕ → List (Option Kind) → Bool
-codesRight k [] = true
-codesRight k (o ∷ os) = codeRight k o && codesRight (suc k) os
-
-right-at : (os : List (Option Kind)) (i k n : ℕ) → n ≡ i + k → T (codesRight i os) → T (codeRight n (getD os k nothing))
-right-at [] i k n e h = tt
-right-at (o ∷ os) i zero n e h = let d : n ≡ i = omega arith in rw d (and-left (codeRight i o) (codesRight (suc i) os) h)
-right-at (o ∷ os) i (suc k) n e h = right-at os (suc i) k n (omega arith) (and-right (codeRight i o) (codesRight (suc i) os) h)
-
-pub code-of-test : (k : ℕ) (j : Test) → kindOf k ≡ some (test j) → k ≡ testCode j
-unfolding kindOf
-code-of-test k j e = eqb→eq k (testCode j) (rw e at (right-at kinds 0 k k (omega arith) tt))
-
-code-kind : (i : Test) → kindOf (testCode i) ≡ some (test i)
-unfolding kindOf
-code-kind equal = refl
-code-kind member = refl
-code-kind subset = refl
-code-kind (atMost whole) = refl
-
--- A test answers for its own code, and the last one where the code is none of the others.
+-- By kind codes: the code is i's, or that of none but the last.
 module _ {k : ℕ} {s : List ℕ} {a mid b top : ℕ} {r : Tested} where
-  pub own-code : (i : Test) → k ≡ testCode i → TestDone i s a mid b top r → TestOf k s a mid b top r
-  own-code i e h j d =
-      let x : some (test i) ≡ some (test j) = sym (code-kind i) ∙ ap kindOf (sym e) ∙ d in
-      let y : i ≡ j = cc in
-      subst (λ (z : Test). TestDone z s a mid b top r) y h
+  pub test-of : (i : Test) → k ≡ testCode i → TestDone i s a mid b top r → TestOf k s a mid b top r
+  test-of i e d j f = subst (λ (h : Test). TestDone h s a mid b top r) (same-test k i j e f) d
 
-  pub last-code : k ≢ 6 → k ≢ 7 → k ≢ 8 → TestDone (atMost whole) s a mid b top r → TestOf k s a mid b top r
-  last-code n₆ n₇ n₈ h equal d = absurd (n₆ (code-of-test k equal d))
-  last-code n₆ n₇ n₈ h member d = absurd (n₇ (code-of-test k member d))
-  last-code n₆ n₇ n₈ h subset d = absurd (n₈ (code-of-test k subset d))
-  last-code n₆ n₇ n₈ h (atMost whole) d = h
+  pub test-last : k ≢ 6 → k ≢ 7 → k ≢ 8 → TestDone (atMost whole) s a mid b top r → TestOf k s a mid b top r
+  test-last n6 n7 n8 d equal e = absurd (n6 (code-of k (test equal) e))
+  test-last n6 n7 n8 d member e = absurd (n7 (code-of k (test member) e))
+  test-last n6 n7 n8 d subset e = absurd (n8 (code-of k (test subset) e))
+  test-last n6 n7 n8 d (atMost whole) e = d

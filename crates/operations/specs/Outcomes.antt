@@ -110,15 +110,6 @@ TwoOf k s a mid b top s′ r = (j : Two) → kindOf k ≡ some (two j) → TwoDo
 abbrev pub TestOf : ℕ → List ℕ → ℕ → ℕ → ℕ → ℕ → Tested → Type 0
 TestOf k s a mid b top r = (j : Test) → kindOf k ≡ some (test j) → TestDone j s a mid b top r
 
-abbrev pub IsOne : ℕ → Type 0
-IsOne k = (j : One) × (kindOf k ≡ some (one j))
-
-abbrev pub IsTwo : ℕ → Type 0
-IsTwo k = (j : Two) × (kindOf k ≡ some (two j))
-
-abbrev pub IsTest : ℕ → Type 0
-IsTest k = (j : Test) × (kindOf k ≡ some (test j))
-
 -- A leaf other than an identifier, with the words a and b and the size of the given set a, may be built.
 abbrev pub LeafFits : Leaf → ℕ → ℕ → ℕ → Type 0
 LeafFits identifier a b size = ⊥

@@ -8,7 +8,7 @@ ghost use Rattle.rules.specs.Kinds.{pairing, product, apply, plus, minus, inter
 ghost use Rattle.operations.specs.Outcomes.{TwoReady, TwoDone};
 ghost use Rattle.operations.specs.Double.{MergeDone, NumberDone};
 
-pub fn two_pair(s: &mut [u64], a: usize, mid: usize, b: usize, top: usize) -> Outcome
+pub fn pair(s: &mut [u64], a: usize, mid: usize, b: usize, top: usize) -> Outcome
     requires { ⌜ TwoReady (now s) a mid b top ⌝ }
     ensures { λ r. ⌜ TwoDone pairing (now (s .entry)) a mid b top (now (s .exit)) r ⌝ }
 {
@@ -16,7 +16,7 @@ pub fn two_pair(s: &mut [u64], a: usize, mid: usize, b: usize, top: usize) -> Ou
 }
 
 // 29 to 31: the members that are only in the left set (if left), in both (if both), only in the right (if right).
-pub fn two_merge(
+pub fn merge(
     s: &mut [u64],
     a: usize,
     mid: usize,
@@ -35,7 +35,7 @@ pub fn two_merge(
     built(sets::merge(s, a, b, top, left, both, right))
 }
 
-pub fn two_product(s: &mut [u64], a: usize, mid: usize, b: usize, top: usize) -> Outcome
+pub fn product(s: &mut [u64], a: usize, mid: usize, b: usize, top: usize) -> Outcome
     requires { ⌜ TwoReady (now s) a mid b top ⌝ }
     ensures { λ r. ⌜ TwoDone product (now (s .entry)) a mid b top (now (s .exit)) r ⌝ }
 {
@@ -46,7 +46,7 @@ pub fn two_product(s: &mut [u64], a: usize, mid: usize, b: usize, top: usize) ->
 }
 
 // The image stays where it is, within the function.
-pub fn two_apply(s: &[u64], a: usize, mid: usize, b: usize, top: usize) -> Outcome
+pub fn apply(s: &[u64], a: usize, mid: usize, b: usize, top: usize) -> Outcome
     requires { ⌜ TwoReady (now s) a mid b top ⌝ }
     ensures { λ r. ⌜ TwoDone apply (now (s .entry)) a mid b top (now (s .entry)) r ⌝ }
 {
@@ -75,7 +75,7 @@ fn number(s: &mut [u64], x: u64, top: usize) -> Outcome
     built(products::put_cell(s, top, 4294967296 + n))
 }
 
-pub fn two_plus(s: &mut [u64], a: usize, mid: usize, b: usize, top: usize) -> Outcome
+pub fn plus(s: &mut [u64], a: usize, mid: usize, b: usize, top: usize) -> Outcome
     requires { ⌜ TwoReady (now s) a mid b top ⌝ }
     ensures { λ r. ⌜ TwoDone (plus whole) (now (s .entry)) a mid b top (now (s .exit)) r ⌝ }
 {
@@ -87,7 +87,7 @@ pub fn two_plus(s: &mut [u64], a: usize, mid: usize, b: usize, top: usize) -> Ou
     number(s, x + y, top)
 }
 
-pub fn two_minus(s: &mut [u64], a: usize, mid: usize, b: usize, top: usize) -> Outcome
+pub fn minus(s: &mut [u64], a: usize, mid: usize, b: usize, top: usize) -> Outcome
     requires { ⌜ TwoReady (now s) a mid b top ⌝ }
     ensures { λ r. ⌜ TwoDone (minus whole) (now (s .entry)) a mid b top (now (s .exit)) r ⌝ }
 {
@@ -99,7 +99,7 @@ pub fn two_minus(s: &mut [u64], a: usize, mid: usize, b: usize, top: usize) -> O
     number(s, x + 4294967296 - y, top)
 }
 
-pub fn two_interval(s: &mut [u64], a: usize, mid: usize, b: usize, top: usize) -> Outcome
+pub fn interval(s: &mut [u64], a: usize, mid: usize, b: usize, top: usize) -> Outcome
     requires { ⌜ TwoReady (now s) a mid b top ⌝ }
     ensures { λ r. ⌜ TwoDone interval (now (s .entry)) a mid b top (now (s .exit)) r ⌝ }
 {

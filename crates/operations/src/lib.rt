@@ -1,6 +1,6 @@
 // What each kind gives for its operands' values, by kind codes: refusals 15 to 18, and values built in the arena.
 ghost use mathlib.Core.Path.{_≡_};
-ghost use Rattle.operations.specs.Outcomes.{ended, OneReady, OneOf, IsOne, TwoReady, TwoOf, IsTwo, TestOf, IsTest, LeafReady, LeafDone};
+ghost use Rattle.operations.specs.Outcomes.{ended, OneReady, OneOf, TwoReady, TwoOf, TestOf, LeafReady, LeafDone};
 
 mod double;
 mod leaves;
@@ -33,16 +33,16 @@ fn built(end: usize) -> Outcome
 
 // Kinds 27, 33, 35, 36, 38 and 43: one operand, at a.
 pub fn one(s: &mut [u64], kind: usize, a: usize, top: usize) -> Outcome
-    requires { ⌜ IsOne kind × OneReady (now s) a top ⌝ }
+    requires { ⌜ OneReady (now s) a top ⌝ }
     ensures { λ r. ⌜ OneOf kind (now (s .entry)) a top (now (s .exit)) r ⌝ }
 {
     match kind {
-        27 => single::one_singleton(s, a, top),
-        33 => single::one_power(s, a, top),
-        35 => single::one_domain(s, a, top),
-        36 => single::one_range(s, a, top),
-        38 => single::one_card(s, a, top),
-        _ => single::one_choice(s, a, top),
+        27 => single::singleton(s, a, top),
+        33 => single::power(s, a, top),
+        35 => single::domain(s, a, top),
+        36 => single::range(s, a, top),
+        38 => single::card(s, a, top),
+        _ => single::choice(s, a, top),
     }
 }
 
@@ -62,25 +62,25 @@ pub fn leaf(s: &mut [u64], kind: usize, a: u64, b: u64, size: u64, top: usize) -
 
 // Kinds 28 to 32, 37 and 39 to 41: two operands, the first at a and below mid, the second at b.
 pub fn two(s: &mut [u64], kind: usize, a: usize, mid: usize, b: usize, top: usize) -> Outcome
-    requires { ⌜ IsTwo kind × TwoReady (now s) a mid b top ⌝ }
+    requires { ⌜ TwoReady (now s) a mid b top ⌝ }
     ensures { λ r. ⌜ TwoOf kind (now (s .entry)) a mid b top (now (s .exit)) r ⌝ }
 {
     match kind {
-        28 => double::two_pair(s, a, mid, b, top),
-        29 => double::two_merge(s, a, mid, b, top, true, true, true),
-        30 => double::two_merge(s, a, mid, b, top, false, true, false),
-        31 => double::two_merge(s, a, mid, b, top, true, false, false),
-        32 => double::two_product(s, a, mid, b, top),
-        37 => double::two_apply(s, a, mid, b, top),
-        39 => double::two_plus(s, a, mid, b, top),
-        40 => double::two_minus(s, a, mid, b, top),
-        _ => double::two_interval(s, a, mid, b, top),
+        28 => double::pair(s, a, mid, b, top),
+        29 => double::merge(s, a, mid, b, top, true, true, true),
+        30 => double::merge(s, a, mid, b, top, false, true, false),
+        31 => double::merge(s, a, mid, b, top, true, false, false),
+        32 => double::product(s, a, mid, b, top),
+        37 => double::apply(s, a, mid, b, top),
+        39 => double::plus(s, a, mid, b, top),
+        40 => double::minus(s, a, mid, b, top),
+        _ => double::interval(s, a, mid, b, top),
     }
 }
 
 // What a test of kind 6 to 9 answers for good operands, the first at a and below mid, the second at b and below top.
 pub fn test(s: &[u64], kind: usize, a: usize, mid: usize, b: usize, top: usize) -> Tested
-    requires { ⌜ IsTest kind × TwoReady (now s) a mid b top ⌝ }
+    requires { ⌜ TwoReady (now s) a mid b top ⌝ }
     ensures { λ r. ⌜ TestOf kind (now (s .entry)) a mid b top r ⌝ }
 {
     match kind {

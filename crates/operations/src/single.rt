@@ -4,14 +4,14 @@ use crate::built;
 ghost use Rattle.rules.specs.Kinds.{singleton, power, dom, ran, card, choice};
 ghost use Rattle.operations.specs.Outcomes.{OneReady, OneDone};
 
-pub fn one_singleton(s: &mut [u64], a: usize, top: usize) -> Outcome
+pub fn singleton(s: &mut [u64], a: usize, top: usize) -> Outcome
     requires { ⌜ OneReady (now s) a top ⌝ }
     ensures { λ r. ⌜ OneDone singleton (now (s .entry)) a top (now (s .exit)) r ⌝ }
 {
     built(products::singleton(s, a, top))
 }
 
-pub fn one_power(s: &mut [u64], a: usize, top: usize) -> Outcome
+pub fn power(s: &mut [u64], a: usize, top: usize) -> Outcome
     requires { ⌜ OneReady (now s) a top ⌝ }
     ensures { λ r. ⌜ OneDone power (now (s .entry)) a top (now (s .exit)) r ⌝ }
 {
@@ -21,7 +21,7 @@ pub fn one_power(s: &mut [u64], a: usize, top: usize) -> Outcome
     built(products::power(s, a, top))
 }
 
-pub fn one_domain(s: &mut [u64], a: usize, top: usize) -> Outcome
+pub fn domain(s: &mut [u64], a: usize, top: usize) -> Outcome
     requires { ⌜ OneReady (now s) a top ⌝ }
     ensures { λ r. ⌜ OneDone dom (now (s .entry)) a top (now (s .exit)) r ⌝ }
 {
@@ -31,7 +31,7 @@ pub fn one_domain(s: &mut [u64], a: usize, top: usize) -> Outcome
     built(products::domain(s, a, top))
 }
 
-pub fn one_range(s: &mut [u64], a: usize, top: usize) -> Outcome
+pub fn range(s: &mut [u64], a: usize, top: usize) -> Outcome
     requires { ⌜ OneReady (now s) a top ⌝ }
     ensures { λ r. ⌜ OneDone ran (now (s .entry)) a top (now (s .exit)) r ⌝ }
 {
@@ -42,7 +42,7 @@ pub fn one_range(s: &mut [u64], a: usize, top: usize) -> Outcome
 }
 
 // The cell of an integer from 0 on is 2^32 for its tag, 2^31 for the excess form, and itself.
-pub fn one_card(s: &mut [u64], a: usize, top: usize) -> Outcome
+pub fn card(s: &mut [u64], a: usize, top: usize) -> Outcome
     requires { ⌜ OneReady (now s) a top ⌝ }
     ensures { λ r. ⌜ OneDone card (now (s .entry)) a top (now (s .exit)) r ⌝ }
 {
@@ -54,7 +54,7 @@ pub fn one_card(s: &mut [u64], a: usize, top: usize) -> Outcome
 }
 
 // The first member is the least, and stays where it is.
-pub fn one_choice(s: &[u64], a: usize, top: usize) -> Outcome
+pub fn choice(s: &[u64], a: usize, top: usize) -> Outcome
     requires { ⌜ OneReady (now s) a top ⌝ }
     ensures { λ r. ⌜ OneDone choice (now (s .entry)) a top (now (s .entry)) r ⌝ }
 {

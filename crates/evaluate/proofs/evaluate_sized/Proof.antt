@@ -1,15 +1,16 @@
--- `evaluate_sized`: what the table needs is what has been computed.
+-- `evaluate_sized`: what the table and its values need is what has been computed, and some arena has room for it.
 use native.Mathlib.Omega.{arith}
 use borrow.Author.Needs.{needs}
 use Rattle.evaluate.proofs.EntryLaws.{needed-most}
+use Rattle.evaluate.proofs.ArenaLaws.{made-now, some-room}
 use Rattle.evaluate.proofs.evaluate_sized.Statement.{statement}
 use Rattle.evaluate.proofs.evaluate_sized.Tie as tie
 
 identifiers-requires : tie.Need-identifiers-requires
 identifiers-requires c κs = search needs
 
-mul-need : tie.Need-mul-need
-mul-need c = search needs
+cells-at-most-requires : tie.Need-cells-at-most-requires
+cells-at-most-requires c κs = search needs
 
 add-need : tie.Need-add-need
 add-need c = search needs
@@ -17,52 +18,51 @@ add-need c = search needs
 root-height-requires : tie.Need-root-height-requires
 root-height-requires c κs = search needs
 
-mul-need-2 : tie.Need-mul-need-2
-mul-need-2 c = omega (arith, c .root-height .ensures, needed-most (c .before .before .before .before .pre))
+mul-need : tie.Need-mul-need
+mul-need c = let start = c .before .before .before .before .before in omega (arith, c .root-height .ensures, needed-most (start .args .values .now) (start .pre))
 
 add-need-2 : tie.Need-add-need-2
 add-need-2 c =
-    omega (arith, c .before .identifiers .ensures, c .root-height .ensures, needed-most (c .before .before .before .before .pre))
+    let start = c .before .before .before .before .before in
+    omega (arith, c .before .cells-at-most .ensures, c .before .before .identifiers .ensures, c .root-height .ensures, needed-most (start .args .values .now) (start .pre))
 
-tiny-requires : tie.Need-tiny-requires
-tiny-requires c κs = search needs
+smallest-requires : tie.Need-smallest-requires
+smallest-requires c κs = search needs
+
+enum-known-e : tie.Need-enum-known-e
+enum-known-e c = search needs
+
+enum-told : tie.Need-enum-told
+enum-told c = search needs
+
+refused-requires : tie.Need-refused-requires
+refused-requires c κs = search needs
 
 returns : tie.Need-returns
-returns c = search needs
-
-small-requires : tie.Need-small-requires
-small-requires c κs = search needs
+returns c =
+    let start = c .before .before .before .before .before .before .before .before .before in
+    let made = c .before .before .before .smallest in
+    made-now (start .args .table .now) (start .args .values .now) (start .args .budget) 4 (made .result) (c .before .e .given .1) (made .ensures)
 
 returns-2 : tie.Need-returns-2
-returns-2 c = search needs
-
-middle-requires : tie.Need-middle-requires
-middle-requires c κs = search needs
-
-returns-3 : tie.Need-returns-3
-returns-3 c = search needs
-
-large-requires : tie.Need-large-requires
-large-requires c κs = search (needs, needed-most)
-
-returns-4 : tie.Need-returns-4
-returns-4 c = search needs
+returns-2 c =
+    let start = c .before .before .before .before .before .before .before .before .before in
+    let made = c .before .before .before .smallest in
+    absurd (some-room (start .args .table .now) (start .args .values .now) (start .args .budget) (made .result) (c .before .enum-told .given .1) (made .ensures) (start .pre))
 
 pub evaluate-sized-spec : {M : Type 1} → statement M
 evaluate-sized-spec =
     tie.close
     (tie.spec
     identifiers-requires
-    mul-need
+    cells-at-most-requires
     add-need
     root-height-requires
-    mul-need-2
+    mul-need
     add-need-2
-    tiny-requires
+    smallest-requires
+    enum-known-e
+    enum-told
+    refused-requires
     returns
-    small-requires
-    returns-2
-    middle-requires
-    returns-3
-    large-requires
-    returns-4)
+    returns-2)

@@ -1,7 +1,7 @@
 -- `test`: by the codes of kinds 6 to 9.
 use borrow.Author.Needs.{needs}
 use Rattle.rules.specs.Kinds.{equal, member, subset}
-use Rattle.operations.proofs.TestLaws.{own-code, last-code}
+use Rattle.operations.proofs.TestLaws.{test-of, test-last}
 use Rattle.operations.proofs.test.Statement.{statement}
 use Rattle.operations.proofs.test.Tie as tie
 
@@ -18,16 +18,16 @@ at-most-requires : tie.Need-at-most-requires
 at-most-requires c κs = search needs
 
 returns : tie.Need-returns
-returns c = own-code equal (c .before .match .keys1) (c .equal .ensures)
+returns c = test-of equal (c .before .match .keys1) (c .equal .ensures)
 
 returns-2 : tie.Need-returns-2
-returns-2 c = own-code member (c .before .match .keys2) (c .member .ensures)
+returns-2 c = test-of member (c .before .match .keys2) (c .member .ensures)
 
 returns-3 : tie.Need-returns-3
-returns-3 c = own-code subset (c .before .match .keys3) (c .subset .ensures)
+returns-3 c = test-of subset (c .before .match .keys3) (c .subset .ensures)
 
 returns-4 : tie.Need-returns-4
-returns-4 c = let n = c .before .match .rest in last-code (n .0 .0 .1) (n .0 .1) (n .1) (c .at-most .ensures)
+returns-4 c = let n = c .before .match .rest in test-last (n .0 .0 .1) (n .0 .1) (n .1) (c .at-most .ensures)
 
 pub test-spec : {M : Type 1} → statement M
 test-spec =

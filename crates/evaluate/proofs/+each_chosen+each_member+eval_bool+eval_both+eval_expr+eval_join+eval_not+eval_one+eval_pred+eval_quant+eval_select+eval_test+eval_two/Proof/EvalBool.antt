@@ -59,8 +59,8 @@ use Rattle.table.proofs.field.Reads as field-reads
 use Rattle.table.proofs.kind.Reads as kind-reads
 use Rattle.evaluate.proofs.+each_chosen+each_member+eval_bool+eval_both+eval_expr+eval_join+eval_not+eval_one+eval_pred+eval_quant+eval_select+eval_test+eval_two.Proof.Base.{eval-bool-at, eval-pred-below}
 use Rattle.arena.proofs.Standing.{same-refl}
-use Rattle.evaluate.proofs.NodeLaws.{ready-child}
-use Rattle.evaluate.proofs.FormLaws.{byte-small, held-as, bool-child, bool-fails, bool-evaluates}
+use Rattle.evaluate.proofs.NodeLaws.{ready-child, held-as}
+use Rattle.evaluate.proofs.FormLaws.{byte-small, bool-child, bool-fails, bool-evaluates}
 
 -- src/lib.rt:380:9
 pub eval-bool-field-requires : (t : ℕ) → eval-bool-lts.Need-field-requires (

@@ -58,7 +58,8 @@ use Rattle.table.proofs.field.Reads as field-reads
 use Rattle.table.proofs.kind.Reads as kind-reads
 use Rattle.evaluate.proofs.+each_chosen+each_member+eval_bool+eval_both+eval_expr+eval_join+eval_not+eval_one+eval_pred+eval_quant+eval_select+eval_test+eval_two.Proof.Base.{eval-join-at, eval-pred-below}
 use Rattle.rules.specs.Kinds.{join, predicate}
-use Rattle.evaluate.proofs.JoinLaws.{visited-child, first-ready, join-stays, join-short, join-next, join-ready, join-stays-2, join-both}
+use Rattle.evaluate.proofs.NodeLaws.{visited-child}
+use Rattle.evaluate.proofs.JoinLaws.{first-ready, join-stays, join-short, join-next, join-ready, join-stays-2, join-both}
 
 -- src/lib.rt:116:9
 pub eval-join-field-requires : (t : ℕ) → eval-join-lts.Need-field-requires (

@@ -58,7 +58,9 @@ use Rattle.table.proofs.field.Reads as field-reads
 use Rattle.table.proofs.kind.Reads as kind-reads
 use Rattle.evaluate.proofs.+each_chosen+each_member+eval_bool+eval_both+eval_expr+eval_join+eval_not+eval_one+eval_pred+eval_quant+eval_select+eval_test+eval_two.Proof.Base.{eval-not-at, eval-pred-below}
 use Rattle.rules.specs.Kinds.{negation, predicate}
-use Rattle.evaluate.proofs.JoinLaws.{visited-child, first-ready, is-negation, not-held, not-stays, not-turns}
+use Rattle.operations.proofs.KindLaws.{kind-of}
+use Rattle.evaluate.proofs.NodeLaws.{visited-child}
+use Rattle.evaluate.proofs.JoinLaws.{first-ready, not-held, not-stays, not-turns}
 
 -- src/lib.rt:147:9
 pub eval-not-field-requires : (t : ℕ) → eval-not-lts.Need-field-requires (
@@ -88,7 +90,7 @@ pub eval-not-eval-pred-requires : (t : ℕ) → eval-not-lts.Need-eval-pred-requ
 eval-not-eval-pred-requires t c κs =
     let c1 = c .before in
     let c2 = c1 .before .before .before in
-    let d = visited-child (c2 .pre .1 .0) negation (is-negation (c2 .pre .1 .1)) predicate 0 _ (omega arith) (omega arith) refl (c1 .field .ensures) in
+    let d = visited-child (c2 .pre .1 .0) negation (kind-of _ negation (c2 .pre .1 .1)) predicate 0 _ (omega arith) (omega arith) refl (c1 .field .ensures) in
     (omega (arith, c2 .pre .0, d .below), first-ready (c2 .pre .1 .0) d)
 
 -- src/lib.rt:149:21
@@ -129,7 +131,7 @@ eval-not-returns t c =
     let c1 = c .before .before .before .before in
     let c2 = c1 .before .before in
     let c3 = c2 .before .before .before in
-    not-stays (c .enum-told .given .1) (not-held (c3 .pre .1 .0) (is-negation (c3 .pre .1 .1)) (c2 .field .ensures) (c1 .eval-pred .ensures))
+    not-stays (c .enum-told .given .1) (not-held (c3 .pre .1 .0) (kind-of _ negation (c3 .pre .1 .1)) (c2 .field .ensures) (c1 .eval-pred .ensures))
 
 -- src/lib.rt:133:1
 pub eval-not-same-length-2 : (t : ℕ) → eval-not-lts.Need-same-length-2 (
@@ -151,4 +153,4 @@ eval-not-returns-2 t c =
     let c1 = c .before .before .before .before .before in
     let c2 = c1 .before .before in
     let c3 = c2 .before .before .before in
-    not-turns (c .before .first .given .1) (not-held (c3 .pre .1 .0) (is-negation (c3 .pre .1 .1)) (c2 .field .ensures) (c1 .eval-pred .ensures))
+    not-turns (c .before .first .given .1) (not-held (c3 .pre .1 .0) (kind-of _ negation (c3 .pre .1 .1)) (c2 .field .ensures) (c1 .eval-pred .ensures))

@@ -59,8 +59,8 @@ use Rattle.table.proofs.field.Reads as field-reads
 use Rattle.table.proofs.kind.Reads as kind-reads
 use Rattle.evaluate.proofs.+each_chosen+each_member+eval_bool+eval_both+eval_expr+eval_join+eval_not+eval_one+eval_pred+eval_quant+eval_select+eval_test+eval_two.Proof.Base.{eval-expr-below, eval-one-at}
 use Rattle.arena.proofs.Standing.{same-refl}
-use Rattle.evaluate.proofs.NodeLaws.{ready-child}
-use Rattle.evaluate.proofs.FormLaws.{evaluated-as, one-child, one-fails, one-ready, one-settles, one-evaluates}
+use Rattle.evaluate.proofs.NodeLaws.{ready-child, formed-as}
+use Rattle.evaluate.proofs.FormLaws.{one-child, one-fails, one-ready, one-settles, one-evaluates}
 
 -- src/lib.rt:451:9
 pub eval-one-field-requires : (t : ℕ) → eval-one-lts.Need-field-requires (
@@ -158,8 +158,8 @@ eval-one-returns t c =
     let a = c .before .before .before .before in
     let b = a .before .before .before .before .before in
     let e = c .enum-told .given .1 in
-    evaluated-as refl (sym e)
-    (one-fails (b .pre .1 .0) (b .pre .1 .1 .0) (b .pre .1 .1 .1) (a .before .before .field .ensures) (evaluated-as refl e (a .eval-expr .ensures)))
+    formed-as refl (sym e)
+    (one-fails (b .pre .1 .0) (b .pre .1 .1 .0) (b .pre .1 .1 .1) (a .before .before .field .ensures) (formed-as refl e (a .eval-expr .ensures)))
 
 -- src/lib.rt:456:9
 pub eval-one-one-requires : (t : ℕ) → eval-one-lts.Need-one-requires (
@@ -174,11 +174,9 @@ pub eval-one-one-requires : (t : ℕ) → eval-one-lts.Need-one-requires (
 ) (eval-one-at t) eval-one.Post
 eval-one-one-requires t c κs =
     let a = c .before .before .before .before .before .before in
-    let b = a .before .before .before .before .before in (
-      b .pre .1 .1,
-      one-ready (b .pre .1 .0) (b .pre .1 .1 .0) (b .pre .1 .1 .1) (a .before .before .field .ensures)
-          (evaluated-as refl (c .before .before .formed .given .1) (a .eval-expr .ensures)),
-    )
+    let b = a .before .before .before .before .before in
+    one-ready (b .pre .1 .0) (b .pre .1 .1 .0) (b .pre .1 .1 .1) (a .before .before .field .ensures)
+    (formed-as refl (c .before .before .formed .given .1) (a .eval-expr .ensures))
 
 -- src/lib.rt:457:5
 pub eval-one-settle-requires : (t : ℕ) → eval-one-lts.Need-settle-requires (
@@ -196,7 +194,7 @@ eval-one-settle-requires t c κs =
     let a = g .before .before .before .before in
     let b = a .before .before .before .before .before in
     one-settles (b .pre .1 .0) (b .pre .1 .1 .0) (b .pre .1 .1 .1) (a .before .before .field .ensures)
-    (evaluated-as refl (g .formed .given .1) (a .eval-expr .ensures)) (c .before .before .before .one .ensures)
+    (formed-as refl (g .formed .given .1) (a .eval-expr .ensures)) (c .before .before .before .one .ensures)
 
 -- src/lib.rt:437:1
 pub eval-one-same-length-2 : (t : ℕ) → eval-one-lts.Need-same-length-2 (
@@ -228,4 +226,4 @@ eval-one-returns-2 t c =
     let a = g .before .before .before .before in
     let b = a .before .before .before .before .before in
     one-evaluates (b .pre .1 .0) (b .pre .1 .1 .0) (b .pre .1 .1 .1) (a .before .before .field .ensures)
-    (evaluated-as refl (g .formed .given .1) (a .eval-expr .ensures)) (o .one .ensures) (c .before .before .settle .ensures)
+    (formed-as refl (g .formed .given .1) (a .eval-expr .ensures)) (o .one .ensures) (c .before .before .settle .ensures)

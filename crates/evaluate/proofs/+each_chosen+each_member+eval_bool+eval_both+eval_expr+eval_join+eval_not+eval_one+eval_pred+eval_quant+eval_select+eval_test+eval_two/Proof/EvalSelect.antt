@@ -59,8 +59,8 @@ use Rattle.table.proofs.field.Reads as field-reads
 use Rattle.table.proofs.kind.Reads as kind-reads
 use Rattle.evaluate.proofs.+each_chosen+each_member+eval_bool+eval_both+eval_expr+eval_join+eval_not+eval_one+eval_pred+eval_quant+eval_select+eval_test+eval_two.Proof.Base.{each-chosen-below, eval-expr-below, eval-select-at}
 use Rattle.arena.proofs.Standing.{same-refl}
-use Rattle.evaluate.proofs.NodeLaws.{ready-child}
-use Rattle.evaluate.proofs.FormLaws.{evaluated-as, range-as, chosen-as, select-child, select-fails, range-good, range-low, range-fails, select-each, chosen-fails, select-settles, select-evaluates}
+use Rattle.evaluate.proofs.NodeLaws.{ready-child, formed-as}
+use Rattle.evaluate.proofs.FormLaws.{range-as, chosen-as, select-child, select-fails, range-good, range-low, range-fails, select-each, chosen-fails, select-settles, select-evaluates}
 
 -- src/lib.rt:499:9
 pub eval-select-field-requires : (t : ℕ) → eval-select-lts.Need-field-requires (
@@ -172,7 +172,7 @@ eval-select-returns t c =
     let a = c .before .before .before .before in
     let b = a .before .before .before .before .before in
     let e = c .enum-told .given .1 in
-    evaluated-as refl (sym e) (select-fails (b .pre .1 .0) (b .pre .1 .1) (a .before .before .field .ensures) (evaluated-as refl e (a .eval-expr .ensures)))
+    formed-as refl (sym e) (select-fails (b .pre .1 .0) (b .pre .1 .1) (a .before .before .field .ensures) (formed-as refl e (a .eval-expr .ensures)))
 
 -- src/lib.rt:504:9
 pub eval-select-range-of-requires : (t : ℕ) → eval-select-lts.Need-range-of-requires (
@@ -190,7 +190,7 @@ pub eval-select-range-of-requires : (t : ℕ) → eval-select-lts.Need-range-of-
 eval-select-range-of-requires t c κs =
     let a = c .before .before .before .before .before .before in
     let b = a .before .before .before .before .before in
-    range-good (b .pre .1 .0) (b .pre .1 .1) (a .before .before .field .ensures) (evaluated-as refl (c .before .before .formed .given .1) (a .eval-expr .ensures))
+    range-good (b .pre .1 .0) (b .pre .1 .1) (a .before .before .field .ensures) (formed-as refl (c .before .before .formed .given .1) (a .eval-expr .ensures))
 
 -- src/lib.rt:505:20
 pub eval-select-enum-known-range : (t : ℕ) → eval-select-lts.Need-enum-known-range (
@@ -254,7 +254,7 @@ eval-select-returns-2 t c =
     let g = c .before .before .before .before .before in
     let a = g .before .before .before .before in
     let b = a .before .before .before .before .before in
-    range-fails (b .pre .1 .0) (b .pre .1 .1) (a .before .before .field .ensures) (evaluated-as refl (g .formed .given .1) (a .eval-expr .ensures))
+    range-fails (b .pre .1 .0) (b .pre .1 .1) (a .before .before .field .ensures) (formed-as refl (g .formed .given .1) (a .eval-expr .ensures))
     (range-as (c .enum-told2 .given .1) (c .before .before .range-of .ensures))
 
 -- src/lib.rt:508:66
@@ -276,7 +276,7 @@ eval-select-add-each-chosen t c =
     let b = a .before .before .before .before .before in
     omega (
       arith,
-      range-low (b .pre .1 .0) (b .pre .1 .1) (a .before .before .field .ensures) (evaluated-as refl (g .formed .given .1) (a .eval-expr .ensures)),
+      range-low (b .pre .1 .0) (b .pre .1 .1) (a .before .before .field .ensures) (formed-as refl (g .formed .given .1) (a .eval-expr .ensures)),
     )
 
 -- src/lib.rt:508:9
@@ -298,7 +298,7 @@ eval-select-each-chosen-requires t c κs =
     let a = g .before .before .before .before in
     let b = a .before .before .before .before .before in (
       omega (arith, b .pre .0),
-      select-each (b .pre .1 .0) (b .pre .1 .1) (a .before .before .field .ensures) (evaluated-as refl (g .formed .given .1) (a .eval-expr .ensures))
+      select-each (b .pre .1 .0) (b .pre .1 .1) (a .before .before .field .ensures) (formed-as refl (g .formed .given .1) (a .eval-expr .ensures))
           (range-as (n .range .given .1) (n .before .before .range-of .ensures)),
     )
 
@@ -367,8 +367,8 @@ eval-select-returns-3 t c =
     let a = g .before .before .before .before in
     let b = a .before .before .before .before .before in
     let q = c .enum-told3 .given .1 in
-    evaluated-as refl (sym q)
-    (chosen-fails (b .pre .1 .0) (b .pre .1 .1) (a .before .before .field .ensures) (evaluated-as refl (g .formed .given .1) (a .eval-expr .ensures))
+    formed-as refl (sym q)
+    (chosen-fails (b .pre .1 .0) (b .pre .1 .1) (a .before .before .field .ensures) (formed-as refl (g .formed .given .1) (a .eval-expr .ensures))
     (range-as (n .range .given .1) (n .before .before .range-of .ensures)) (chosen-as q (e .each-chosen .ensures)))
 
 -- src/lib.rt:512:5
@@ -391,7 +391,7 @@ eval-select-settle-requires t c κs =
     let g = n .before .before .before .before .before in
     let a = g .before .before .before .before in
     let b = a .before .before .before .before .before in
-    select-settles (b .pre .1 .0) (b .pre .1 .1) (a .before .before .field .ensures) (evaluated-as refl (g .formed .given .1) (a .eval-expr .ensures))
+    select-settles (b .pre .1 .0) (b .pre .1 .1) (a .before .before .field .ensures) (formed-as refl (g .formed .given .1) (a .eval-expr .ensures))
     (range-as (n .range .given .1) (n .before .before .range-of .ensures)) (chosen-as (v .chosen .given .1) (e .each-chosen .ensures))
 
 -- src/lib.rt:485:1
@@ -429,6 +429,6 @@ eval-select-returns-4 t c =
     let g = n .before .before .before .before .before in
     let a = g .before .before .before .before in
     let b = a .before .before .before .before .before in
-    select-evaluates (b .pre .1 .0) (b .pre .1 .1) (a .before .before .field .ensures) (evaluated-as refl (g .formed .given .1) (a .eval-expr .ensures))
+    select-evaluates (b .pre .1 .0) (b .pre .1 .1) (a .before .before .field .ensures) (formed-as refl (g .formed .given .1) (a .eval-expr .ensures))
     (range-as (n .range .given .1) (n .before .before .range-of .ensures)) (chosen-as (v .chosen .given .1) (e .each-chosen .ensures))
     (c .before .before .settle .ensures)

@@ -107,7 +107,7 @@ eval-test-test-requires t c κs =
     let c2 = c .before .before in
     let c1 = c2 .before .before .before .before in
     let c0 = c1 .before .before .before .before in
-    (c0 .pre .1 .1, test-ready (c0 .pre .1 .0) (c0 .pre .1 .1 .0) (c0 .pre .1 .1 .1) (c1 .eval-both .ensures) (c2 .a .given .1))
+    test-ready (c0 .pre .1 .0) (c0 .pre .1 .1 .0) (c0 .pre .1 .1 .1) (c1 .eval-both .ensures) (c2 .a .given .1)
 
 -- src/lib.rt:200:31
 pub eval-test-enum-told : (t : ℕ) → eval-test-lts.Need-enum-told (

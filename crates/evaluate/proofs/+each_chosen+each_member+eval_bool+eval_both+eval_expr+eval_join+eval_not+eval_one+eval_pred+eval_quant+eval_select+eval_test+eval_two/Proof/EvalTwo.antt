@@ -56,7 +56,8 @@ use Rattle.products.proofs.put_cell.Reads as put-cell-reads
 use Rattle.table.proofs.field.Reads as field-reads
 use Rattle.table.proofs.kind.Reads as kind-reads
 use Rattle.evaluate.proofs.+each_chosen+each_member+eval_bool+eval_both+eval_expr+eval_join+eval_not+eval_one+eval_pred+eval_quant+eval_select+eval_test+eval_two.Proof.Base.{eval-both-below, eval-two-at}
-use Rattle.evaluate.proofs.FormLaws.{ready-on, both-as, two-fields, two-fails, two-ready, two-settles, two-evaluates}
+use Rattle.evaluate.proofs.NodeLaws.{ready-on, both-as}
+use Rattle.evaluate.proofs.FormLaws.{two-fields, two-fails, two-ready, two-settles, two-evaluates}
 
 -- src/lib.rt:448:53
 pub eval-two-add-eval-both : (t : ℕ) → eval-two-lts.Need-add-eval-both (
@@ -117,10 +118,8 @@ pub eval-two-two-requires : (t : ℕ) → eval-two-lts.Need-two-requires (
 ) (eval-two-at t) eval-two.Post
 eval-two-two-requires t c κs =
     let a = c .before .before .before .before .before .before in
-    let b = a .before .before .before .before in (
-      b .pre .1 .1,
-      two-ready (b .pre .1 .0) (b .pre .1 .1 .0) (b .pre .1 .1 .1) (both-as (c .before .before .a .given .1) (a .eval-both .ensures)),
-    )
+    let b = a .before .before .before .before in
+    two-ready (b .pre .1 .0) (b .pre .1 .1 .0) (b .pre .1 .1 .1) (both-as (c .before .before .a .given .1) (a .eval-both .ensures))
 
 -- src/lib.rt:452:13
 pub eval-two-settle-requires : (t : ℕ) → eval-two-lts.Need-settle-requires (

@@ -24,7 +24,9 @@ same-length : tie.Need-same-length
 same-length c = search needs
 
 returns-3 : tie.Need-returns-3
-returns-3 c = number-made _ _ _ (omega (arith, c .before .before .before .before .before .before .if1 .left)) (omega (arith, c .before .before .before .before .before .if2 .left)) _ _ _ (c .before .before .before .put-cell .ensures) (c .built .ensures)
+returns-3 c =
+    let f = c .before .before .before .before .before in
+    number-made _ _ _ (omega (arith, f .before .if1 .left)) (omega (arith, f .if2 .left)) _ _ _ (c .before .before .before .put-cell .ensures) (c .built .ensures)
 
 pub number-spec : {M : Type 1} → statement M
 number-spec =

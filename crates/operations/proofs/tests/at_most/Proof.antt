@@ -4,7 +4,8 @@ use borrow.Author.Needs.{needs}
 use Rattle.rules.specs.Types.{whole}
 use Rattle.rules.specs.Kinds.{atMost}
 use Rattle.operations.proofs.GoodLaws.{good-inside}
-use Rattle.operations.proofs.TestLaws.{ready-both, test-unlike, at-most-told}
+use Rattle.operations.proofs.FitLaws.{ready-both}
+use Rattle.operations.proofs.TestLaws.{test-unlike, at-most-told}
 use Rattle.operations.proofs.tests.at_most.Statement.{statement}
 use Rattle.operations.proofs.tests.at_most.Tie as tie
 

@@ -2,7 +2,8 @@
 use borrow.Author.Tests.{not-true, not-false}
 use Rattle.rules.specs.Kinds.{equal}
 use Rattle.operations.proofs.GoodLaws.{good-some}
-use Rattle.operations.proofs.TestLaws.{ready-both, test-unlike, equal-told}
+use Rattle.operations.proofs.FitLaws.{ready-both}
+use Rattle.operations.proofs.TestLaws.{test-unlike, equal-told}
 use Rattle.operations.proofs.tests.equal.Statement.{statement}
 use Rattle.operations.proofs.tests.equal.Tie as tie
 

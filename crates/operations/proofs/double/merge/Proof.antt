@@ -1,0 +1,46 @@
+-- `merge`: sets alike, merged.
+use borrow.Author.Tests.{not-true, not-false}
+use Rattle.rules.specs.Rules.{t̂}
+use Rattle.operations.proofs.FitLaws.{ready-both}
+use Rattle.operations.proofs.DoubleLaws.{ready-sets, merge-unfit, merge-done}
+use borrow.Author.Needs.{needs}
+use Rattle.operations.proofs.double.merge.Statement.{statement}
+use Rattle.operations.proofs.double.merge.Tie as tie
+
+alike-sets-requires : tie.Need-alike-sets-requires
+alike-sets-requires c κs = ready-both (c .before .before .pre)
+
+same-length : tie.Need-same-length
+same-length c = search needs
+
+returns : tie.Need-returns
+returns c = merge-unfit (c .before .alike-sets .ensures) (not-true _ (c .if1 .taken))
+
+merge-requires : tie.Need-merge-requires
+merge-requires c κs =
+    let p = c .before .before .before .before .before .pre in
+    let v = ready-sets p t̂ t̂ (c .before .before .alike-sets .ensures) (not-false _ (c .before .if1 .left)) in
+    (v .0, v .1, p .room)
+
+built-requires : tie.Need-built-requires
+built-requires c κs = search needs
+
+same-length-2 : tie.Need-same-length-2
+same-length-2 c = search needs
+
+returns-2 : tie.Need-returns-2
+returns-2 c =
+    let f = c .before .before .before .before .before in
+    merge-done (f .before .before .before .before .pre) (f .before .alike-sets .ensures) (not-false _ (f .if1 .left)) _ _ _ (c .before .before .before .merge .ensures) (c .built .ensures)
+
+pub merge-spec : {M : Type 1} → statement M
+merge-spec =
+    tie.close
+    (tie.spec
+    alike-sets-requires
+    same-length
+    returns
+    merge-requires
+    built-requires
+    same-length-2
+    returns-2)
