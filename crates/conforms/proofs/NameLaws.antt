@@ -31,6 +31,7 @@ use Rattle.buffer.specs.declared.Loaded.{Loaded}
 use Rattle.buffer.specs.declared.Loaded.the-variants.{All, Refused}
 use Rattle.buffer.specs.Loaded.{Bound, Loads}
 use Rattle.conforms.specs.Conforming.{HasWritten, Conforming}
+use Rattle.buffer.specs.Buffer.{cellsAtMost}
 use Rattle.evaluate.specs.Result.{LoadReady}
 use Rattle.conforms.specs.Rows.{RowOf, SomeRow, OfRow, NameReady, NameHas, AllStand, AllReady, Fits, Typed, AllHave}
 use Rattle.conforms.proofs.RowLaws.{refuses, agrees, decided-no, row-stands, row-there}
@@ -124,9 +125,12 @@ module _ (gs ws bs s env : List ℕ) (a : Loaded) (l : Loads gs ws bs s env 0 a)
 pub reading-passed : (bs : List ℕ) (a : Reading) → readingOf bs a ≡ reading bs → a ≡ Passed → Readable bs
 reading-passed bs a e f = passed-readable bs (subst (λ (b : Reading). readingOf bs b ≡ reading bs) f e)
 
--- An arena of 8193 cells has room for the values of 32 identifiers.
-pub load-ready : (bs s : List ℕ) → length s ≡ 8193 → Readable bs → LoadReady bs s
-load-ready bs s e r = record { readable = r; room = omega (arith, r .header .identifiers); small = omega arith }
+-- An arena of 512 cells has room for few values, one of 8193 for those of 32 identifiers.
+pub few-ready : (bs values s : List ℕ) → length s ≡ 512 → Readable bs → cellsAtMost (identifierCount bs) (length values) < 512 → LoadReady bs values s
+few-ready bs values s e r l = record { readable = r; room = omega (arith, e, l); small = omega (arith, e) }
+
+pub load-ready : (bs values s : List ℕ) → length s ≡ 8193 → Readable bs → LoadReady bs values s
+load-ready bs values s e r = record { readable = r; room = omega (arith, r .header .identifiers); small = omega arith }
 
 pub sheet-fits : (bs sheet : List ℕ) (i n : ℕ) → i ≡ identifierCount bs → n ≡ nodeCount bs → length sheet ≡ 64 * (i + n) → Fits bs sheet
 sheet-fits bs sheet i n e f g = record { rows = omega (arith, binds-length bs, nodes-length bs) }

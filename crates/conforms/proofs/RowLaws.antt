@@ -2,7 +2,7 @@
 use Prim.Native.Nat.{ℕ, _+_, _*_, _-_, _≤_, _<_}
 use mathlib.Core.Bool.{Bool, true, false}
 use mathlib.Core.List.{List, [], _∷_, _++_, append-assoc, append-nil}
-use mathlib.Core.Logic.{_≢_, _⊎_, inl, inr}
+use mathlib.Core.Logic.{_≢_, _⊎_, _↔_, inl, inr}
 use mathlib.Core.Path.{_≡_, refl, sym, ap, _∙_, subst}
 use native.Mathlib.Omega.{arith}
 use native.Mathlib.Nat.{add-zero}
@@ -12,11 +12,12 @@ use borrow.Author.Tests.{leb-true, le-leb}
 use lib.ListN.{length, getD, drop, replicate, length-take, length-drop, length-replicate, getD-replicate}
 use lib.Seq.{getD-take, getD-drop, ext-getD}
 use Rattle.rules.specs.Types.{whole, Atom, number, bool, given, Ty, atom, POW, _⊗_, atomCode, weightᵀ, prefix, row}
-use Rattle.rules.proofs.TypeLaws.{weight-positive, prefix-length, row-length}
+use Rattle.rules.proofs.TypeLaws.{weight-positive, prefix-length, row-length, prefixes}
+use Rattle.rules.proofs.EndLaws.{T-true}
 use Rattle.arena.specs.Code.{Stands}
 use Rattle.arena.proofs.Standing.{stands-head, stands-append, stands-back}
 use Rattle.fitting.specs.Types.{TypeAt, typeParts, Decides}
-use Rattle.fitting.proofs.Types.{prefixes, widths, PendingTypes, types-start, types-step, types-end, parts-pow, parts-product, parts-atom, row-type}
+use Rattle.fitting.proofs.Types.{widths, PendingTypes, types-start, types-step, types-end, parts-pow, parts-product, parts-atom, row-type}
 use Rattle.conforms.specs.Conforming.{rowAt}
 use Rattle.conforms.specs.Rows.{Code, Blank, SomeRow}
 
@@ -32,6 +33,15 @@ agrees A a = record { sound = λ e. a; complete = λ b. refl }
 
 pub decided-no : (A : Type 0) (r : Bool) → Decides r A → r ≡ false → A → ⊥
 decided-no A r d e a = false-true (sym e ∙ d .complete a)
+
+-- A test that passes exactly where A holds decides A; two answers that decide A are the same.
+pub test-decides : (A : Type 0) (b : Bool) → T b ↔ A → Decides b A
+test-decides A b h = record { sound = λ e. h .0 (T-true b .1 e); complete = λ a. T-true b .0 (h .1 a) }
+
+pub decides-same : (A : Type 0) (r b : Bool) → Decides r A → Decides b A → r ≡ b
+decides-same A true b d k = sym (k .complete (d .sound refl))
+decides-same A false true d k = d .complete (k .sound refl)
+decides-same A false false d k = refl
 
 -- The first codes of types.
 pub no-code : (c : ℕ) → c < 16 → (c ≡ 0) ⊎ (4 < c) → Code c → ⊥
@@ -242,7 +252,10 @@ blank-more sheet at i b e = record { zeros = λ j p q. go j p q (ℕ-discrete j 
 pub blank-end : (sheet : List ℕ) (at i end : ℕ) → Blank sheet at i → i ≡ end → Blank sheet at end
 blank-end sheet at i end b e = rw (sym e) b
 
--- The row of a place stands from the place's 64 bytes on.
+-- The row of a place has 64 bytes, and stands from those of the place on.
+pub row-long : (sheet : List ℕ) (p : ℕ) → 64 * p + 64 ≤ length sheet → length (rowAt sheet p) ≡ 64
+row-long sheet p room = omega (arith, length-take 64 (drop (64 * p) sheet), length-drop (64 * p) sheet)
+
 module _ (sheet : List ℕ) (p : ℕ) (t : Ty) (w : weightᵀ t ≤ 64) (room : 64 * p + 64 ≤ length sheet) where
   pub row-stands : rowAt sheet p ≡ row t → Stands sheet (64 * p) (row t)
   row-stands e = record {
@@ -252,10 +265,7 @@ module _ (sheet : List ℕ) (p : ℕ) (t : Ty) (w : weightᵀ t ≤ 64) (room : 
         ∙ ap (λ (l : List ℕ). getD l i 0) e;
   }
 
-  row-long : length (rowAt sheet p) ≡ 64
-  row-long = omega (arith, length-take 64 (drop (64 * p) sheet), length-drop (64 * p) sheet)
-
   pub row-there : Stands sheet (64 * p) (row t) → rowAt sheet p ≡ row t
-  row-there h = ext-getD 0 (rowAt sheet p) (row t) (row-long ∙ sym (row-length t w))
-      (λ i q. let m : i < 64 = omega (arith, row-long) in
+  row-there h = ext-getD 0 (rowAt sheet p) (row t) (row-long sheet p room ∙ sym (row-length t w))
+      (λ i q. let m : i < 64 = omega (arith, row-long sheet p room) in
       getD-take 64 (drop (64 * p) sheet) i 0 m ∙ getD-drop (64 * p) sheet i 0 ∙ h .cells i (omega (arith, row-length t w)))

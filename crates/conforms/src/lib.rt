@@ -2,11 +2,13 @@
 use buffer::Loaded;
 use table::Reading;
 ghost use mathlib.Core.Path.{_≡_};
-ghost use Prim.Native.Nat.{_+_, _≤_};
+ghost use Prim.Native.Nat.{_+_, _≤_, _<_};
 ghost use lib.ListN.{length};
 ghost use Rattle.rules.specs.Readable.{Readable};
+ghost use Rattle.rules.specs.Tables.{identifierCount};
+ghost use Rattle.buffer.specs.Buffer.{cellsAtMost};
 ghost use Rattle.fitting.specs.Types.{Decides};
-ghost use Rattle.conforms.specs.Conforming.{Conforming};
+ghost use Rattle.conforms.specs.Conforming.{Conforming, conforming};
 ghost use Rattle.evaluate.specs.Result.{LoadReady};
 ghost use Rattle.conforms.specs.Rows.{Code, Blank, SomeRow, ValueAndRow, OfRow, NameReady, NameHas, AllReady, AllHave, Fits};
 
@@ -107,7 +109,7 @@ fn all_have(table: &[u8], s: &[u64], env: &[u32; 32], sheet: &[u8]) -> bool
 
 // The same for the values of a buffer, which are read into the arena s.
 fn conforms_in(table: &[u8], sheet: &[u8], values: &[u8], s: &mut [u64]) -> bool
-    requires { ⌜ LoadReady (now table) (now s) × Fits (now table) (now sheet) ⌝ }
+    requires { ⌜ LoadReady (now table) (now values) (now s) × Fits (now table) (now sheet) ⌝ }
     ensures { λ r. ⌜ Decides r (Conforming (now (table .entry)) (now (sheet .entry)) (now (values .entry))) ⌝ }
 {
     let loaded = evaluate::load(table, values, s);
@@ -119,13 +121,32 @@ fn conforms_in(table: &[u8], sheet: &[u8], values: &[u8], s: &mut [u64]) -> bool
     }
 }
 
+// Few values, and the value of those that have none.
+fn conforms_small(table: &[u8], sheet: &[u8], values: &[u8]) -> bool
+    requires { ⌜ Readable (now table) × Fits (now table) (now sheet) × (cellsAtMost (identifierCount (now table)) (length (now values)) < 512) ⌝ }
+    ensures { λ r. ⌜ Decides r (Conforming (now (table .entry)) (now (sheet .entry)) (now (values .entry))) ⌝ }
+{
+    let mut s = [0u64; 512];
+    conforms_in(table, sheet, values, &mut s)
+}
+
 // 32 values, each of at most 256 cells, and the value of those that have none.
-fn conforms_fitting(table: &[u8], sheet: &[u8], values: &[u8]) -> bool
+fn conforms_large(table: &[u8], sheet: &[u8], values: &[u8]) -> bool
     requires { ⌜ Readable (now table) × Fits (now table) (now sheet) ⌝ }
     ensures { λ r. ⌜ Decides r (Conforming (now (table .entry)) (now (sheet .entry)) (now (values .entry))) ⌝ }
 {
     let mut s = [0u64; 8193];
     conforms_in(table, sheet, values, &mut s)
+}
+
+fn conforms_fitting(table: &[u8], sheet: &[u8], values: &[u8]) -> bool
+    requires { ⌜ Readable (now table) × Fits (now table) (now sheet) ⌝ }
+    ensures { λ r. ⌜ Decides r (Conforming (now (table .entry)) (now (sheet .entry)) (now (values .entry))) ⌝ }
+{
+    if buffer::cells_at_most(table::identifiers(table), values.len()) < 512 {
+        return conforms_small(table, sheet, values);
+    }
+    conforms_large(table, sheet, values)
 }
 
 fn conforms_readable(table: &[u8], sheet: &[u8], values: &[u8]) -> bool
@@ -140,7 +161,7 @@ fn conforms_readable(table: &[u8], sheet: &[u8], values: &[u8]) -> bool
 
 // Whether the values buffer gives each free identifier of the table a value of the type in its row of the sheet.
 pub fn conforms(table: &[u8], sheet: &[u8], values: &[u8]) -> bool
-    ensures { λ r. ⌜ Decides r (Conforming (now (table .entry)) (now (sheet .entry)) (now (values .entry))) ⌝ }
+    ensures { λ r. ⌜ r ≡ conforming (now (table .entry)) (now (sheet .entry)) (now (values .entry)) ⌝ }
 {
     let reading = table::read(table);
     match reading {

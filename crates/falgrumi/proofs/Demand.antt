@@ -1,5 +1,6 @@
--- Demand 3 of document 01 as one claim, `guarantee`, and what it says of the two calls.
+-- Demand 3 of document 01 as one claim, `guarantee`, and what it says of the calls.
 use Prim.Native.Nat.{ℕ}
+use mathlib.Core.Bool.{true}
 use mathlib.Core.List.{List}
 use mathlib.Core.Path.{_≡_, refl, sym, subst, _∙_}
 use mathlib.Core.Logic.{inl, inr}
@@ -25,7 +26,8 @@ use Rattle.checker.specs.Model.{verdict}
 use Rattle.checker.proofs.VerdictRight.{verdict-right}
 use Rattle.checker.proofs.Sheet.{sheet-row}
 use Rattle.falgrumi.specs.Answers.{numberOf}
-use Rattle.conforms.specs.Conforming.{rowAt, HasWritten, Conforming}
+use Rattle.conforms.specs.Conforming.{rowAt, HasWritten, Conforming, conforming}
+use Rattle.conforms.proofs.ConformingLaws.{conforming-right}
 use Rattle.falgrumi.specs.Guarantee.{Guaranteed}
 
 -- The rows are those of a typing of the table.
@@ -96,10 +98,11 @@ zero-accepts (several e f h w w₁ d g) sheet z = absurd (omega arith)
 zero-accepts (heavy e f h o l g) sheet z = absurd (omega arith)
 zero-accepts (accepts e f o g) sheet z = refl
 
--- The claim in the terms of the two calls' contracts: the number that Check answers, and the sheet at its exit.
+-- The claim in the terms of the calls' contracts: the number that Check answers, the sheet at its exit, and the truth that
+-- `conforms` answers for that sheet.
 pub guarantee-calls : (bs sheet buffer : List ℕ) (budget : ℕ) → numberOf (verdict bs (length sheet)) ≡ 0 →
-    Conforming bs (sheetAfter (verdict bs (length sheet)) sheet) buffer →
+    conforming bs (sheetAfter (verdict bs (length sheet)) sheet) buffer ≡ true →
     Guaranteed bs (sheetAfter (verdict bs (length sheet)) sheet) buffer budget
 guarantee-calls bs sheet buffer budget z c =
     guarantee bs buffer (sheetAfter (verdict bs (length sheet)) sheet) (length sheet) budget
-    (zero-accepts (verdict-right bs (length sheet)) sheet z) c
+    (zero-accepts (verdict-right bs (length sheet)) sheet z) (conforming-right bs _ buffer .sound c)

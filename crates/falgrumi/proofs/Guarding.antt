@@ -1,8 +1,8 @@
 -- The answers of a checked evaluation, from those of its three calls.
 use Prim.Native.Nat.{ℕ}
-use mathlib.Core.Bool.{Bool, true, false, not}
+use mathlib.Core.Bool.{Bool, true, false, true≢false}
 use mathlib.Core.List.{List}
-use mathlib.Core.Path.{_≡_, sym, ap, _∙_, subst}
+use mathlib.Core.Path.{_≡_, sym, ap, _∙_}
 use native.Mathlib.Omega.{arith}
 use lib.ListN.{length}
 use Rattle.rules.specs.Ends.{End, done, refused}
@@ -15,8 +15,8 @@ use Rattle.checker.specs.Answers.{answerOf, answered}
 use Rattle.checker.specs.Model.{verdict}
 use Rattle.evaluate.specs.declared.Evaluation.{Evaluation}
 use Rattle.evaluate.specs.Result.{endingOf}
-use Rattle.fitting.specs.Types.{Decides}
-use Rattle.conforms.specs.Conforming.{Conforming}
+use Rattle.conforms.specs.Conforming.{Conforming, conforming}
+use Rattle.conforms.proofs.ConformingLaws.{conforming-right}
 use Rattle.falgrumi.specs.Guarantee.{GuardedRun}
 use Rattle.falgrumi.proofs.Demand.{guarantee}
 
@@ -41,14 +41,12 @@ module _ (bs sheet after : List ℕ) (r : Checked) (e : answerOf r ≡ answered 
   check-refused y q = refuses (verdict bs (length sheet)) (answerOf r) sheet after (y .number) (y .place) e x (ap answerOf q)
 
 -- The test of the values.
-abbrev asNumber : Bool → ℕ
-asNumber true = 1
-asNumber false = 0
+module _ (bs sheet buffer : List ℕ) (r : Bool) (e : r ≡ conforming bs sheet buffer) where
+  pub alike : r ≡ true → Conforming bs sheet buffer
+  alike t = conforming-right bs sheet buffer .sound (sym e ∙ t)
 
-pub unlike : {b : Bool} {P : Type 0} → Decides b P → not b ≡ true → P → ⊥
-unlike {b} d n p =
-    let z : not true ≡ true = subst (λ (y : Bool). not y ≡ true) (d .complete p) n in
-    omega (arith, ap asNumber z)
+  pub unlike : r ≡ false → Conforming bs sheet buffer → ⊥
+  unlike f k = true≢false (sym (conforming-right bs sheet buffer .complete k) ∙ sym e ∙ f)
 
 pub guarded : (bs sheet buffer : List ℕ) (budget : ℕ) (after : List ℕ) (y : Evaluation) → verdict bs (length sheet) ≡ done after → Conforming bs after buffer →
     (endingOf (y .ending) ≡ evaluation bs buffer budget .end) × (y .steps ≡ evaluation bs buffer budget .steps) →

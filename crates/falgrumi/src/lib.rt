@@ -9,8 +9,7 @@ ghost use lib.ListN.{length};
 ghost use Rattle.rules.specs.Verdict.{sheetAfter};
 ghost use Rattle.checker.specs.Model.{verdict};
 ghost use Rattle.rules.specs.Evaluation.{evaluation};
-ghost use Rattle.fitting.specs.Types.{Decides};
-ghost use Rattle.conforms.specs.Conforming.{Conforming};
+ghost use Rattle.conforms.specs.Conforming.{conforming};
 ghost use Rattle.falgrumi.specs.Guarantee.{GuardedAs};
 ghost use Rattle.falgrumi.specs.Answers.{numberOf, placeOf, truthOf, byteOf};
 
@@ -75,7 +74,7 @@ pub extern "C" fn falgrumi_evaluate(
 // Whether the values give each free identifier a value of the type in its row of the sheet.
 #[no_mangle]
 pub extern "C" fn falgrumi_conforms(table: &[u8], sheet: &[u8], values: &[u8]) -> bool
-    ensures { λ r. ⌜ Decides r (Conforming (now (table .entry)) (now (sheet .entry)) (now (values .entry))) ⌝ }
+    ensures { λ r. ⌜ r ≡ conforming (now (table .entry)) (now (sheet .entry)) (now (values .entry)) ⌝ }
 {
     conforms::conforms(table, sheet, values)
 }

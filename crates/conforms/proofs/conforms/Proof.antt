@@ -1,5 +1,6 @@
 use borrow.Author.Needs.{needs}
 use Rattle.conforms.proofs.NameLaws.{reading-passed, no-reading}
+use Rattle.conforms.proofs.ConformingLaws.{conforming-is}
 use Rattle.conforms.proofs.conforms.Statement.{statement}
 use Rattle.conforms.proofs.conforms.Tie as tie
 
@@ -16,10 +17,10 @@ conforms-readable-requires : tie.Need-conforms-readable-requires
 conforms-readable-requires c κs = reading-passed _ _ (c .before .before .read .ensures) (c .enum-told2 .given .1)
 
 returns : tie.Need-returns
-returns c = no-reading _ _ _ _ _ (c .before .before .read .ensures) (c .enum-told .given .1)
+returns c = conforming-is _ _ _ _ (no-reading _ _ _ _ _ (c .before .before .read .ensures) (c .enum-told .given .1))
 
 returns-2 : tie.Need-returns-2
-returns-2 c = search needs
+returns-2 c = conforming-is _ _ _ _ (c .conforms-readable .ensures)
 
 pub conforms-spec : {M : Type 1} → statement M
 conforms-spec =

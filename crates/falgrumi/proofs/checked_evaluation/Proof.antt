@@ -1,8 +1,8 @@
 -- `checked_evaluation`: what demand 3 guarantees holds of the evaluation that it reports.
 use denote.Ref.{now}
 use borrow.Author.Needs.{needs}
-use borrow.Author.Tests.{not-false}
-use Rattle.falgrumi.proofs.Guarding.{check-accepted, check-refused, unlike, guarded}
+use borrow.Author.Tests.{not-true, not-false}
+use Rattle.falgrumi.proofs.Guarding.{check-accepted, check-refused, alike, unlike, guarded}
 use Rattle.falgrumi.proofs.checked_evaluation.Statement.{statement}
 use Rattle.falgrumi.proofs.checked_evaluation.Tie as tie
 use Rattle.falgrumi.proofs.checked_evaluation.Reads as reads
@@ -29,7 +29,7 @@ same-length c = search needs
 returns : tie.Need-returns
 returns c =
     let b = c .before .before .before .before .before .before .before in
-    (check-accepted _ (now (c .before .before .before .before .before .before .before .before .before .before .before .before .args .sheet)) _ _ (b .check .ensures .0) (b .check .ensures .1) (c .before .before .before .enum-told .given .1), unlike (c .before .conforms .ensures) (c .if1 .taken))
+    (check-accepted _ (now (c .before .before .before .before .before .before .before .before .before .before .before .before .args .sheet)) _ _ (b .check .ensures .0) (b .check .ensures .1) (c .before .before .before .enum-told .given .1), unlike _ _ _ _ (c .before .conforms .ensures) (not-true _ (c .if1 .taken)))
 
 evaluate-requires : tie.Need-evaluate-requires
 evaluate-requires c κs = search needs
@@ -50,7 +50,7 @@ returns-3 c =
     let b = c .before .before .before .before .before .before .before .before in
     guarded _ _ _ _ _ _
     (check-accepted _ (now (c .before .before .before .before .before .before .before .before .before .before .before .before .before .args .sheet)) _ _ (b .check .ensures .0) (b .check .ensures .1) (c .before .before .before .before .enum-told .given .1))
-    (c .before .before .conforms .ensures .sound (not-false _ (c .before .if1 .left))) (c .evaluate .ensures)
+    (alike _ _ _ _ (c .before .before .conforms .ensures) (not-false _ (c .before .if1 .left))) (c .evaluate .ensures)
 
 pub checked-evaluation-spec : {M : Type 1} → statement M
 checked-evaluation-spec =
