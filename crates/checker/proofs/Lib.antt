@@ -1,21 +1,4 @@
--- Laws of the problem of a table, of its solutions and of Check's answer.
-pub mod PlanLaws
-pub mod RefLaws
-pub mod VariableLaws
-pub mod ProblemLaws
-pub mod EquationsLaws
-pub mod CodeLaws
-pub mod EntryLaws
-pub mod NodeLaws
-pub mod BuildLaws
-pub mod Places
-pub mod Verdicts
-pub mod VerdictRight
-pub mod SameProblem
+-- From what the functions of Check find to its answer.
 pub mod PrefixLaws
-pub mod Scan
 pub mod Typing
-pub mod Sheet
 pub mod Telling
-pub mod Examples
-pub mod Conditions

@@ -15,13 +15,13 @@ use Rattle.rules.proofs.TableLaws.{binds-length, nodes-length}
 use Rattle.solver.specs.Problem.{eqn, PartsBelow}
 use Rattle.solver.specs.Arrays.{Arrays, Equations, ClassArrays, shapeAt as arrayShape, equations as arrayEquations}
 use Rattle.solver.specs.Solved.{Solved, Answer}
-use Rattle.checker.specs.Equations.{planAt, base, varOf, eqnFrom, nodeEquations, shapeAt, equations, back}
+use Rattle.typing.specs.Equations.{planAt, base, varOf, eqnFrom, nodeEquations, shapeAt, equations, back}
 use Rattle.checker.specs.Prefix.{Ready, Room, PrefixAnswer, Unsolvable, Typable, Untypable, Between, FirstClash}
-use Rattle.checker.proofs.VariableLaws.{base-mono, base-bound}
-use Rattle.checker.proofs.ProblemLaws.{well-formed}
-use Rattle.checker.proofs.NodeLaws.{equations-bound}
-use Rattle.checker.proofs.EquationsLaws.{typing→solves, solves→typing}
-use Rattle.checker.proofs.SameProblem.{Same, answer-same, array→list, list→array, array-below}
+use Rattle.typing.proofs.VariableLaws.{base-mono, base-bound}
+use Rattle.typing.proofs.ProblemLaws.{well-formed}
+use Rattle.problem.proofs.NodeLaws.{equations-bound}
+use Rattle.typing.proofs.EquationsLaws.{typing→solves, solves→typing}
+use Rattle.typing.proofs.SameProblem.{Same, answer-same, array→list, list→array, array-below}
 
 -- Later nodes leave the equations as they are.
 pub length-equations : (tb : Table) (k : ℕ) → length (equations tb (suc k)) ≡ length (equations tb k) + length (planAt tb k .equations)

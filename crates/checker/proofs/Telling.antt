@@ -21,14 +21,14 @@ use Rattle.solver.specs.Solved.{Solved, ClassesMatch, Grounded}
 use Rattle.solver.specs.Rows.{Determined}
 use Rattle.checker.specs.declared.Checked.{Checked}
 use Rattle.checker.specs.declared.Checked.the-variants.{Accepted, Refused}
-use Rattle.checker.specs.Equations.{base, shapeAt, equations}
-use Rattle.checker.specs.Built.{placeVar, placeCount, LeastPlace, GroundAt}
-use Rattle.checker.specs.Rows.{Determines, LightAt, TypesOf}
-use Rattle.checker.specs.Model.{verdict}
+use Rattle.typing.specs.Equations.{base, shapeAt, equations}
+use Rattle.typing.specs.Places.{placeVar, placeCount, LeastPlace, GroundAt}
+use Rattle.rows.specs.Rows.{Determines, LightAt, TypesOf}
+use Rattle.typing.specs.Model.{verdict}
 use Rattle.checker.specs.Answers.{answerOf, answered, Told, Answerable, Checkable}
-use Rattle.checker.proofs.Scan.{all-places, all-determined}
-use Rattle.checker.proofs.Verdicts.{GroundPlaces, several-verdict, heavy-verdict, accepts-verdict}
-use Rattle.checker.proofs.VerdictRight.{verdict-right}
+use Rattle.rows.proofs.Scan.{all-places, all-determined}
+use Rattle.typing.proofs.Verdicts.{GroundPlaces, several-verdict, heavy-verdict, accepts-verdict}
+use Rattle.typing.proofs.VerdictRight.{verdict-right}
 
 -- The computed verdict is the one that was told.
 pub told-final : (bs sheet : List ℕ) (r : Checked) (after : List ℕ) → Told bs sheet r after →

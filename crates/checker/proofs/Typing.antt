@@ -1,4 +1,4 @@
--- The steps of `check_types`: the fresh arrays, the problem of the whole table, its solution or its first clash.
+-- The steps of `check_types` and `solve_types`: the fresh arrays, the problem of the whole table, its solution or its first clash.
 use Prim.Native.Nat.{ℕ, _≤_, _<_}
 use mathlib.Core.Bool.{Bool, true, false, true≢false, false≢true}
 use mathlib.Core.List.{List}
@@ -12,19 +12,19 @@ use Rattle.rules.specs.Readable.{Readable}
 use Rattle.rules.specs.Verdict.{clash}
 use Rattle.rules.proofs.ReadingLaws.{reading-readable}
 use Rattle.rules.proofs.TableLaws.{nodes-length}
-use Rattle.table.specs.Layout.{Fielded}
+use Rattle.table.specs.Layout.{Laid, Fielded}
 use Rattle.solver.specs.Problem.{Shape, Eqn, PartsBelow}
 use Rattle.solver.specs.Solved.{Solved}
-use Rattle.checker.specs.Equations.{base, shapeAt, equations}
-use Rattle.checker.specs.Built.{Built, Sized}
+use Rattle.typing.specs.Equations.{base, shapeAt, equations}
+use Rattle.problem.specs.Built.{Built, Sized}
 use Rattle.checker.specs.Prefix.{Ready, Room, PrefixAnswer, Unsolvable, FirstClash}
-use Rattle.checker.specs.Answers.{Answerable, Checkable, Told}
+use Rattle.checker.specs.Answers.{Answerable, Checkable, Posed, Told}
 use Rattle.checker.specs.declared.Checked.{Checked}
 use Rattle.checker.specs.declared.Checked.the-variants.{Refused}
-use Rattle.checker.proofs.ProblemLaws.{well-formed}
-use Rattle.checker.proofs.SameProblem.{answer-same}
+use Rattle.rows.specs.Rows.{Placed}
+use Rattle.typing.proofs.ProblemLaws.{well-formed}
+use Rattle.typing.proofs.SameProblem.{answer-same}
 use Rattle.checker.proofs.PrefixLaws.{node-in, part-variables, part-shape, part-classes}
-use Rattle.checker.proofs.Scan.{placed}
 
 pub readable : {bs sheet : List ℕ} → Checkable bs sheet → Readable bs
 readable {bs} k = reading-readable bs (tableOf bs) (k .reads)
@@ -110,37 +110,54 @@ solved-take v cls mark e parts q =
     answer-same (record { shapes = λ w h. refl; there = λ θ h. h; back = λ θ h. h }) cls (take v cls) mark (take v mark) parts
     (λ w h. sym (getD-take v cls w w (omega arith))) (λ w h. sym (getD-take v mark w 1 (omega arith))) true q
 
--- What `answer` takes for granted of the parts of the arrays.
-module _ {bs sheet : List ℕ} (ck : Checkable bs sheet) {kind left right lhs rhs bases counts : List ℕ}
-    (p : Ready bs kind left right lhs rhs bases counts) {n : ℕ} (en : n ≡ nodeCount bs) where
+-- What the arrays of a whole table hold is what the scans take for granted.
+placed : (bs : List ℕ) (at : ℕ) (kind left right lhs rhs bases counts : List ℕ) (n : ℕ) → Laid bs at →
+    Built (tableOf bs) (length (tableOf bs .nodes)) kind left right lhs rhs bases counts → length (tableOf bs .nodes) ≤ length bases →
+    n ≡ base (tableOf bs) (length (tableOf bs .nodes)) → Placed bs at bases n
+placed bs at kind left right lhs rhs bases counts n l b h e =
+    record { laid = l; long = h; bases-are = b .bases-are; covers = omega arith }
+
+-- The first v entries of a work array.
+pub part : (v : ℕ) (l : List ℕ) → v ≤ 3104 → length l ≡ 3104 → v ≡ length (take v l)
+part v l h e = sym (length-take-le v l (within h e))
+
+-- A problem that is posed: its number of nodes, and what `answer` takes for granted of the parts of the arrays.
+module _ {bs : List ℕ} {at : ℕ} {kind left right lhs rhs bases counts sheet : List ℕ}
+    (p : Posed bs at kind left right lhs rhs bases counts sheet) {n : ℕ} (en : n ≡ nodeCount bs) where
+  pub all-nodes : n ≤ nodeCount bs
+  all-nodes = omega arith
+
+  pub bases-long : n < length bases
+  bases-long = omega (arith, p .ready .readable .header .few-nodes, p .ready .sized .bases-length)
+
   same-nodes : n ≡ length (tableOf bs .nodes)
   same-nodes = en ∙ sym (nodes-length bs)
 
   pub variables-fit : {v : ℕ} → v ≡ getD bases n 0 → v ≤ 3104
-  variables-fit e = part-variables p {k = n} (omega arith) e
+  variables-fit e = part-variables (p .ready) {k = n} all-nodes e
 
-  pub answerable : {at v : ℕ} → at ≡ nodesAt bs → v ≡ getD bases n 0 → (cls ls rs mark : List ℕ) → Room cls ls rs mark → (b : Bool) →
+  pub answerable : {v : ℕ} → v ≡ getD bases n 0 → {cls ls rs mark : List ℕ} → Room cls ls rs mark → (b : Bool) →
       PrefixAnswer (tableOf bs) n cls mark b → b ≡ true →
       Answerable bs at bases (take v kind) (take v left) (take v right) (take v cls) (take v mark) sheet
-  answerable {at} {v} ea ev cls ls rs mark w b a eb =
-      let l : n ≤ nodeCount bs = omega arith in
+  answerable {v} ev {cls} {ls} {rs} {mark} w b a eb =
+      let r = p .ready in
       let s = solved bs n cls mark b a eb in
-      let vars : v ≡ base (tableOf bs) n = ev ∙ p .built .bases-are n l in
+      let vars : v ≡ base (tableOf bs) n = ev ∙ r .built .bases-are n all-nodes in
       let small = variables-fit ev in
       let lc : length (take v cls) ≡ v = length-take-le v cls (omega (arith, w .cls-length)) in
       let lm : length (take v mark) ≡ v = length-take-le v mark (omega (arith, w .mark-length)) in
       let whole : base (tableOf bs) n ≡ base (tableOf bs) (length (tableOf bs .nodes)) = ap (base (tableOf bs)) same-nodes in
-      let wf = well-formed (tableOf bs) (p .readable .records .fields) n (node-in (p .readable) l) in
+      let wf = well-formed (tableOf bs) (r .readable .records .fields) n (node-in (r .readable) all-nodes) in
       record {
-        reads = ck .reads;
-        placed = placed bs at kind left right lhs rhs bases counts (length (take v cls)) (record { header = p .readable .header; base = ea })
-            (subst (λ m. Built (tableOf bs) m kind left right lhs rhs bases counts) (sym (nodes-length bs)) (p .built))
-            (omega (arith, nodes-length bs, p .readable .header .few-nodes, p .sized .bases-length)) (lc ∙ vars ∙ whole);
+        reads = p .checkable .reads;
+        placed = placed bs at kind left right lhs rhs bases counts (length (take v cls)) (record { header = r .readable .header; base = p .offset })
+            (subst (λ m. Built (tableOf bs) m kind left right lhs rhs bases counts) (sym (nodes-length bs)) (r .built))
+            (omega (arith, nodes-length bs, r .readable .header .few-nodes, r .sized .bases-length)) (lc ∙ vars ∙ whole);
         marks = lm ∙ sym lc;
         variables = lc ∙ vars ∙ whole;
-        classes = part-classes p {k = n} l ev cls (w .cls-length) (s .bound);
-        shapes = λ u h. part-shape p {k = n} l ev u (omega arith);
+        classes = part-classes r {k = n} all-nodes ev cls (w .cls-length) (s .bound);
+        shapes = λ u h. part-shape r {k = n} all-nodes ev u (omega arith);
         solved = subst (λ m. Solved (shapeAt (tableOf bs)) (base (tableOf bs) m) (equations (tableOf bs) m) (take v cls) (take v mark)) same-nodes
             (solved-take v cls mark (sym vars) (wf .parts) s);
-        fits = ck .fits;
+        fits = p .checkable .fits;
       }

@@ -4,13 +4,14 @@ use mathlib.Core.List.{List}
 use mathlib.Core.Path.{_≡_}
 use lib.ListN.{length}
 use Rattle.rules.specs.Ends.{End, done, refused}
-use Rattle.rules.specs.Tables.{tableOf}
+use Rattle.rules.specs.Tables.{tableOf, nodesAt}
 use Rattle.rules.specs.Reading.{reading}
 use Rattle.rules.specs.Verdict.{Verdict, sheetAfter, sheetLength}
 use Rattle.solver.specs.Arrays.{ClassArrays, shapeAt as arrayShape}
 use Rattle.solver.specs.Solved.{Solved}
-use Rattle.checker.specs.Equations.{base, shapeAt, equations}
-use Rattle.checker.specs.Rows.{Placed}
+use Rattle.typing.specs.Equations.{base, shapeAt, equations}
+use Rattle.rows.specs.Rows.{Placed}
+use Rattle.checker.specs.Prefix.{Ready}
 use Rattle.checker.specs.declared.Checked.{Checked}
 use Rattle.checker.specs.declared.Checked.the-variants.{Accepted, Refused}
 
@@ -46,3 +47,9 @@ pub record Answerable (bs : List ℕ) (at : ℕ) (bases kind left right cls mark
 pub record Checkable (bs sheet : List ℕ) : Type 0 where
   pub reads : reading bs ≡ done (tableOf bs)
   pub fits : length sheet ≡ sheetLength (tableOf bs)
+
+-- The problem of such a table stands in the arrays; its node records begin at `at`.
+pub record Posed (bs : List ℕ) (at : ℕ) (kind left right lhs rhs bases counts sheet : List ℕ) : Type 0 where
+  pub checkable : Checkable bs sheet
+  pub ready : Ready bs kind left right lhs rhs bases counts
+  pub offset : at ≡ nodesAt bs

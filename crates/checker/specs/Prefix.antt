@@ -10,8 +10,8 @@ use Rattle.rules.specs.Readable.{Readable}
 use Rattle.rules.specs.Verdict.{Typing}
 use Rattle.solver.specs.Problem.{Solves}
 use Rattle.solver.specs.Solved.{Answer}
-use Rattle.checker.specs.Equations.{base, shapeAt, equations}
-use Rattle.checker.specs.Built.{Built, Sized}
+use Rattle.typing.specs.Equations.{base, shapeAt, equations}
+use Rattle.problem.specs.Built.{Built, Sized}
 
 -- The arrays hold the problem of the readable table bs.
 pub record Ready (bs kind left right lhs rhs bases counts : List ℕ) : Type 0 where

@@ -1,25 +1,18 @@
 // Decides whether a table's condition is well typed, and writes its types.
-mod build;
 mod prefix;
-mod rows;
 
+use solver::wide;
 use table::Reading;
 use table::Refusal;
 ghost use mathlib.Core.Path.{_≡_};
 ghost use lib.ListN.{length};
 ghost use Rattle.rules.specs.Verdict.{sheetAfter};
-ghost use Rattle.checker.specs.Model.{verdict};
-ghost use Rattle.checker.specs.Answers.{answerOf, answered, Answerable, Checkable, Told};
+ghost use Rattle.typing.specs.Model.{verdict};
+ghost use Rattle.checker.specs.Answers.{answerOf, answered, Answerable, Checkable, Posed, Told};
 
 pub enum Checked {
     Accepted,
     Refused(Refusal),
-}
-
-fn wide(x: u16) -> usize
-    ensures { λ r. ⌜ r ≡ x ⌝ }
-{
-    x as usize
 }
 
 fn refused(number: u8, place: usize) -> Checked
@@ -56,13 +49,80 @@ fn answer(
     Checked::Accepted
 }
 
+// Refusals 11 to 13, or the rows, from the problem of a readable table, whose node records begin at `at`.
+fn solve_types(
+    table: &[u8],
+    at: usize,
+    kind: &[u8],
+    left: &[u16],
+    right: &[u16],
+    lhs: &[u16],
+    rhs: &[u16],
+    bases: &[u16],
+    counts: &[u16],
+    sheet: &mut [u8],
+) -> Checked
+    requires { ⌜ Posed (now table) at (now kind) (now left) (now right) (now lhs) (now rhs) (now bases) (now counts) (now sheet) ⌝ }
+    ensures { λ r. ⌜ Told (now (table .entry)) (now (sheet .entry)) r (now (sheet .exit)) ⌝ }
+{
+    let n = table::nodes(table);
+    let mut cls = [0u16; 3104];
+    let mut ls = [0u16; 9315];
+    let mut rs = [0u16; 9315];
+    let mut mark = [0u8; 3104];
+    let ok = prefix::solve_prefix(
+        table,
+        kind,
+        left,
+        right,
+        lhs,
+        rhs,
+        bases,
+        counts,
+        &mut cls,
+        &mut ls,
+        &mut rs,
+        &mut mark,
+        n,
+    );
+    if !ok {
+        let k = prefix::first_clash(
+            table,
+            kind,
+            left,
+            right,
+            lhs,
+            rhs,
+            bases,
+            counts,
+            &mut cls,
+            &mut ls,
+            &mut rs,
+            &mut mark,
+            n,
+        );
+        return refused(11, k);
+    }
+    let v = wide(bases[n]);
+    answer(
+        table,
+        at,
+        bases,
+        &kind[..v],
+        &left[..v],
+        &right[..v],
+        &cls[..v],
+        &mark[..v],
+        sheet,
+    )
+}
+
 // Refusals 11 to 13, or the rows, of a readable table with a sheet of the right length.
 fn check_types(table: &[u8], sheet: &mut [u8]) -> Checked
     requires { ⌜ Checkable (now table) (now sheet) ⌝ }
     ensures { λ r. ⌜ Told (now (table .entry)) (now (sheet .entry)) r (now (sheet .exit)) ⌝ }
 {
     let at = table::nodes_offset(table);
-    let n = table::nodes(table);
     let mut kind = [0u8; 3104];
     let mut left = [0u16; 3104];
     let mut right = [0u16; 3104];
@@ -70,7 +130,7 @@ fn check_types(table: &[u8], sheet: &mut [u8]) -> Checked
     let mut rhs = [0u16; 1024];
     let mut bases = [0u16; 513];
     let mut counts = [0u16; 513];
-    build::build(
+    problem::build(
         table,
         at,
         &mut kind,
@@ -81,12 +141,9 @@ fn check_types(table: &[u8], sheet: &mut [u8]) -> Checked
         &mut bases,
         &mut counts,
     );
-    let mut cls = [0u16; 3104];
-    let mut ls = [0u16; 9315];
-    let mut rs = [0u16; 9315];
-    let mut mark = [0u8; 3104];
-    let ok = prefix::solve_prefix(
+    solve_types(
         table,
+        at,
         &kind,
         &left,
         &right,
@@ -94,40 +151,6 @@ fn check_types(table: &[u8], sheet: &mut [u8]) -> Checked
         &rhs,
         &bases,
         &counts,
-        &mut cls,
-        &mut ls,
-        &mut rs,
-        &mut mark,
-        n,
-    );
-    if !ok {
-        let k = prefix::first_clash(
-            table,
-            &kind,
-            &left,
-            &right,
-            &lhs,
-            &rhs,
-            &bases,
-            &counts,
-            &mut cls,
-            &mut ls,
-            &mut rs,
-            &mut mark,
-            n,
-        );
-        return refused(11, k);
-    }
-    let v = bases[n] as usize;
-    answer(
-        table,
-        at,
-        &bases,
-        &kind[..v],
-        &left[..v],
-        &right[..v],
-        &cls[..v],
-        &mark[..v],
         sheet,
     )
 }

@@ -22,9 +22,9 @@ use Rattle.rules.proofs.TypeLaws.{row-injective}
 use Rattle.rules.proofs.SetOrder.{all-imp}
 use Rattle.rules.proofs.TypedTree.{IsExpression}
 use Rattle.rules.proofs.Soundness.{AtNode, not-15, evaluation-sound}
-use Rattle.checker.specs.Model.{verdict}
-use Rattle.checker.proofs.VerdictRight.{verdict-right}
-use Rattle.checker.proofs.Sheet.{sheet-row}
+use Rattle.typing.specs.Model.{verdict}
+use Rattle.typing.proofs.VerdictRight.{verdict-right}
+use Rattle.rows.proofs.Sheet.{sheet-row}
 use Rattle.falgrumi.specs.Answers.{numberOf}
 use Rattle.conforms.specs.Conforming.{rowAt, HasWritten, Conforming, conforming}
 use Rattle.conforms.proofs.ConformingLaws.{conforming-right}

@@ -12,7 +12,7 @@ use Rattle.table.specs.declared.Refusal.{Refusal}
 use Rattle.checker.specs.declared.Checked.{Checked}
 use Rattle.checker.specs.declared.Checked.the-variants.{Accepted, Refused}
 use Rattle.checker.specs.Answers.{answerOf, answered}
-use Rattle.checker.specs.Model.{verdict}
+use Rattle.typing.specs.Model.{verdict}
 use Rattle.evaluate.specs.declared.Evaluation.{Evaluation}
 use Rattle.evaluate.specs.Result.{endingOf}
 use Rattle.conforms.specs.Conforming.{Conforming, conforming}

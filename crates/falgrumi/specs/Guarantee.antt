@@ -10,7 +10,7 @@ use Rattle.rules.specs.Verdict.{placeOf}
 use Rattle.rules.specs.Evaluation.{evaluation}
 use Rattle.rules.specs.Safety.{Ends, Any, All}
 use Rattle.conforms.specs.Conforming.{HasWritten, Conforming}
-use Rattle.checker.specs.Model.{verdict}
+use Rattle.typing.specs.Model.{verdict}
 use Rattle.evaluate.specs.declared.Evaluation.{Evaluation}
 use Rattle.evaluate.specs.Result.{Reported}
 use Rattle.falgrumi.specs.declared.Guarded.{Guarded}

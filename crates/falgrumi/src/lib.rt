@@ -7,7 +7,7 @@ use table::Refusal;
 ghost use mathlib.Core.Path.{_≡_};
 ghost use lib.ListN.{length};
 ghost use Rattle.rules.specs.Verdict.{sheetAfter};
-ghost use Rattle.checker.specs.Model.{verdict};
+ghost use Rattle.typing.specs.Model.{verdict};
 ghost use Rattle.rules.specs.Evaluation.{evaluation};
 ghost use Rattle.conforms.specs.Conforming.{conforming};
 ghost use Rattle.falgrumi.specs.Guarantee.{GuardedAs};

@@ -9,7 +9,7 @@ ghost use Rattle.solver.specs.Marks.{statusOf, markOf, orElse, sweepTo, 
 ghost use Rattle.solver.specs.Solved.{Answer};
 ghost use Rattle.solver.specs.Rows.{Weighed, codeOf, Written};
 
-fn wide(x: u16) -> usize
+pub fn wide(x: u16) -> usize
     ensures { λ r. ⌜ r ≡ x ⌝ }
 {
     x as usize

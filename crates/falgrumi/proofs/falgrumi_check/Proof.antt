@@ -2,7 +2,7 @@ use mathlib.Core.Path.{_≡_, sym, ap, _∙_}
 use denote.Ref.{now}
 use lib.ListN.{length}
 use Rattle.rules.specs.Ends.{done}
-use Rattle.checker.specs.Model.{verdict}
+use Rattle.typing.specs.Model.{verdict}
 use Rattle.checker.specs.Answers.{answerOf}
 use Rattle.falgrumi.specs.Answers.{numberOf, placeOf}
 use Rattle.falgrumi.proofs.Numbers.{number-answered}

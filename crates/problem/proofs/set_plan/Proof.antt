@@ -1,0 +1,51 @@
+-- By kind codes.
+use Rattle.rules.specs.Kinds.{kindOf}
+use Rattle.problem.specs.Codes.{digits}
+use Rattle.problem.proofs.CodeLaws.{plan-at, last-code}
+use Rattle.problem.proofs.set_plan.Statement.{statement}
+use Rattle.problem.proofs.set_plan.Tie as tie
+
+returns : tie.Need-returns
+unfolding digits kindOf
+returns c = plan-at 27 (c .before .before .match .keys1)
+
+returns-2 : tie.Need-returns-2
+unfolding digits kindOf
+returns-2 c = plan-at 28 (c .before .before .match .keys2)
+
+returns-3 : tie.Need-returns-3
+unfolding digits kindOf
+returns-3 c = plan-at 29 (c .before .before .match .keys3)
+
+returns-4 : tie.Need-returns-4
+unfolding digits kindOf
+returns-4 c = plan-at 30 (c .before .before .match .keys4)
+
+returns-5 : tie.Need-returns-5
+unfolding digits kindOf
+returns-5 c = plan-at 31 (c .before .before .match .keys5)
+
+returns-6 : tie.Need-returns-6
+unfolding digits kindOf
+returns-6 c = plan-at 32 (c .before .before .match .keys6)
+
+returns-7 : tie.Need-returns-7
+unfolding digits kindOf
+returns-7 c = plan-at 33 (c .before .before .match .keys7)
+
+returns-8 : tie.Need-returns-8
+unfolding digits kindOf
+returns-8 c = plan-at 34 (last-code _ 27 7 (c .before .before .before .pre .0) (c .before .before .before .pre .1) (c .before .before .match .rest))
+
+pub set-plan-spec : {M : Type 1} → statement M
+set-plan-spec =
+    tie.close
+    (tie.spec
+    returns
+    returns-2
+    returns-3
+    returns-4
+    returns-5
+    returns-6
+    returns-7
+    returns-8)

@@ -1,0 +1,61 @@
+-- By kind codes.
+use Rattle.rules.specs.Kinds.{kindOf}
+use Rattle.problem.specs.Codes.{digits}
+use Rattle.problem.proofs.CodeLaws.{plan-at, plan-high}
+use Rattle.problem.proofs.value_plan.Statement.{statement}
+use Rattle.problem.proofs.value_plan.Tie as tie
+
+returns : tie.Need-returns
+unfolding digits kindOf
+returns c = plan-at 35 (c .before .before .match .keys1)
+
+returns-2 : tie.Need-returns-2
+unfolding digits kindOf
+returns-2 c = plan-at 36 (c .before .before .match .keys2)
+
+returns-3 : tie.Need-returns-3
+unfolding digits kindOf
+returns-3 c = plan-at 37 (c .before .before .match .keys3)
+
+returns-4 : tie.Need-returns-4
+unfolding digits kindOf
+returns-4 c = plan-at 38 (c .before .before .match .keys4)
+
+returns-5 : tie.Need-returns-5
+unfolding digits kindOf
+returns-5 c = plan-at 39 (c .before .before .match .keys5)
+
+returns-6 : tie.Need-returns-6
+unfolding digits kindOf
+returns-6 c = plan-at 40 (c .before .before .match .keys6)
+
+returns-7 : tie.Need-returns-7
+unfolding digits kindOf
+returns-7 c = plan-at 41 (c .before .before .match .keys7)
+
+returns-8 : tie.Need-returns-8
+unfolding digits kindOf
+returns-8 c = plan-at 42 (c .before .before .match .keys8)
+
+returns-9 : tie.Need-returns-9
+unfolding digits kindOf
+returns-9 c = plan-at 43 (c .before .before .match .keys9)
+
+returns-10 : tie.Need-returns-10
+unfolding digits kindOf
+returns-10 c = plan-high _ (c .before .before .before .pre) (c .before .before .match .rest)
+
+pub value-plan-spec : {M : Type 1} → statement M
+value-plan-spec =
+    tie.close
+    (tie.spec
+    returns
+    returns-2
+    returns-3
+    returns-4
+    returns-5
+    returns-6
+    returns-7
+    returns-8
+    returns-9
+    returns-10)

@@ -1,0 +1,3 @@
+-- Laws of the places of a table and of the sheet.
+pub mod Scan
+pub mod Sheet

@@ -1,0 +1,2 @@
+-- What the functions over the places of a table say.
+pub mod Rows

@@ -1,0 +1,12 @@
+-- Laws of the problem of a table, of its solutions and of Check's answer.
+pub mod PlanLaws
+pub mod RefLaws
+pub mod VariableLaws
+pub mod ProblemLaws
+pub mod EquationsLaws
+pub mod Places
+pub mod Verdicts
+pub mod VerdictRight
+pub mod SameProblem
+pub mod Examples
+pub mod Conditions
