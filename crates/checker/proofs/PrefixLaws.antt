@@ -12,9 +12,9 @@ use Rattle.rules.specs.Types.{INTEGER}
 use Rattle.rules.specs.Tables.{Table, tableOf, nodeCount}
 use Rattle.rules.specs.Readable.{Readable}
 use Rattle.rules.proofs.TableLaws.{binds-length, nodes-length}
-use Rattle.solver.specs.Problem.{eqn, PartsBelow}
-use Rattle.solver.specs.Arrays.{Arrays, Equations, ClassArrays, shapeAt as arrayShape, equations as arrayEquations}
-use Rattle.solver.specs.Solved.{Solved, Answer}
+use Rattle.unification.specs.Problem.{eqn, PartsBelow}
+use Rattle.unification.specs.Arrays.{Arrays, Equations, ClassArrays, shapeAt as arrayShape, equations as arrayEquations}
+use Rattle.unification.specs.Solved.{Solved, Answer}
 use Rattle.typing.specs.Equations.{planAt, base, varOf, eqnFrom, nodeEquations, shapeAt, equations, back}
 use Rattle.checker.specs.Prefix.{Ready, Room, PrefixAnswer, Unsolvable, Typable, Untypable, Between, FirstClash}
 use Rattle.typing.proofs.VariableLaws.{base-mono, base-bound}

@@ -14,11 +14,11 @@ use Rattle.rules.proofs.TableLaws.{binds-length, nodes-length}
 use Rattle.table.specs.declared.Refusal.{Refusal}
 use Rattle.table.specs.Answers.{readingOf}
 use Rattle.table.proofs.Promise.{passed-readable}
-use Rattle.solver.specs.Problem.{Shape, Matches}
-use Rattle.solver.specs.Arrays.{shapeAt as arrayShape}
-use Rattle.solver.specs.Marks.{statusOf, markOf}
-use Rattle.solver.specs.Solved.{Solved, ClassesMatch, Grounded}
-use Rattle.solver.specs.Rows.{Determined}
+use Rattle.unification.specs.Problem.{Shape, Matches}
+use Rattle.unification.specs.Arrays.{shapeAt as arrayShape}
+use Rattle.unification.specs.Marks.{statusOf, markOf}
+use Rattle.unification.specs.Solved.{Solved, ClassesMatch, Grounded}
+use Rattle.unification.specs.Rows.{Determined}
 use Rattle.checker.specs.declared.Checked.{Checked}
 use Rattle.checker.specs.declared.Checked.the-variants.{Accepted, Refused}
 use Rattle.typing.specs.Equations.{base, shapeAt, equations}

@@ -13,8 +13,8 @@ use Rattle.rules.specs.Verdict.{clash}
 use Rattle.rules.proofs.ReadingLaws.{reading-readable}
 use Rattle.rules.proofs.TableLaws.{nodes-length}
 use Rattle.table.specs.Layout.{Laid, Fielded}
-use Rattle.solver.specs.Problem.{Shape, Eqn, PartsBelow}
-use Rattle.solver.specs.Solved.{Solved}
+use Rattle.unification.specs.Problem.{Shape, Eqn, PartsBelow}
+use Rattle.unification.specs.Solved.{Solved}
 use Rattle.typing.specs.Equations.{base, shapeAt, equations}
 use Rattle.problem.specs.Built.{Built, Sized}
 use Rattle.checker.specs.Prefix.{Ready, Room, PrefixAnswer, Unsolvable, FirstClash}

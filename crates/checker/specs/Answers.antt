@@ -7,8 +7,8 @@ use Rattle.rules.specs.Ends.{End, done, refused}
 use Rattle.rules.specs.Tables.{tableOf, nodesAt}
 use Rattle.rules.specs.Reading.{reading}
 use Rattle.rules.specs.Verdict.{Verdict, sheetAfter, sheetLength}
-use Rattle.solver.specs.Arrays.{ClassArrays, shapeAt as arrayShape}
-use Rattle.solver.specs.Solved.{Solved}
+use Rattle.unification.specs.Arrays.{ClassArrays, shapeAt as arrayShape}
+use Rattle.unification.specs.Solved.{Solved}
 use Rattle.typing.specs.Equations.{base, shapeAt, equations}
 use Rattle.rows.specs.Rows.{Placed}
 use Rattle.checker.specs.Prefix.{Ready}

@@ -8,8 +8,8 @@ use Rattle.rules.specs.Types.{Ty}
 use Rattle.rules.specs.Tables.{Table, tableOf, nodeCount}
 use Rattle.rules.specs.Readable.{Readable}
 use Rattle.rules.specs.Verdict.{Typing}
-use Rattle.solver.specs.Problem.{Solves}
-use Rattle.solver.specs.Solved.{Answer}
+use Rattle.unification.specs.Problem.{Solves}
+use Rattle.unification.specs.Solved.{Answer}
 use Rattle.typing.specs.Equations.{base, shapeAt, equations}
 use Rattle.problem.specs.Built.{Built, Sized}
 

@@ -1,9 +1,9 @@
 // Decides whether a table's condition is well typed, and writes its types.
 mod prefix;
 
-use solver::wide;
 use table::Reading;
 use table::Refusal;
+use unifier::wide;
 ghost use mathlib.Core.Path.{_≡_};
 ghost use lib.ListN.{length};
 ghost use Rattle.rules.specs.Verdict.{sheetAfter};

@@ -1,5 +1,5 @@
 // Decides the problem of the nodes below k, and finds the first node whose rule leaves no typing (refusal 11).
-use solver::wide;
+use unifier::wide;
 ghost use mathlib.Core.Path.{_≡_};
 ghost use Prim.Native.Nat.{_≤_};
 ghost use Rattle.rules.specs.Tables.{tableOf, nodeCount};

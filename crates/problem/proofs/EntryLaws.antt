@@ -10,7 +10,7 @@ use lib.Seq.{getD-set-same, getD-set-other}
 use borrow.Author.Tests.{eq-eqb, ne-eqb, lt-ltb, le-ltb}
 use Rattle.rules.specs.Types.{whole, number, bool, given}
 use Rattle.rules.specs.Tables.{Table, nodeAt}
-use Rattle.solver.specs.Problem.{Shape, leaf, power, product, atomFrom}
+use Rattle.unification.specs.Problem.{Shape, leaf, power, product, atomFrom}
 use Rattle.typing.specs.Plan.{Ref, self, first, second, name, slot, Form, openᶠ, atomᶠ, powᶠ, prodᶠ}
 use Rattle.problem.specs.Codes.{refCode, refOf, formKind, formLeft, formRight, formAt, pairAt, CodeOf}
 use Rattle.typing.specs.Equations.{varOf, shapeFrom}

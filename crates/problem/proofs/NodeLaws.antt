@@ -10,7 +10,7 @@ use lib.Seq.{getD-set-same, getD-set-other, getD-append-add}
 use Rattle.rules.specs.Kinds.{kindOf}
 use Rattle.rules.specs.Readable.{NodeRight}
 use Rattle.rules.specs.Tables.{Node, Table, nodeAt, kindAt}
-use Rattle.solver.specs.Problem.{Eqn, eqn}
+use Rattle.unification.specs.Problem.{Eqn, eqn}
 use Rattle.typing.specs.Plan.{Ref, self, Plan, openᶠ}
 use Rattle.problem.specs.Codes.{formsOf, formAt, pairAt, CodeOf}
 use Rattle.typing.specs.Equations.{planOf, planAt, slotCount, base, varOf, shapeFrom, eqnFrom, nodeEquations, shapeAt, equations}

@@ -4,8 +4,8 @@ use mathlib.Core.List.{List}
 use mathlib.Core.Path.{_≡_}
 use lib.ListN.{getD, length}
 use Rattle.rules.specs.Tables.{Table}
-use Rattle.solver.specs.Problem.{Eqn, eqn}
-use Rattle.solver.specs.Arrays.{AtomCode, shapeAt as arrayShape}
+use Rattle.unification.specs.Problem.{Eqn, eqn}
+use Rattle.unification.specs.Arrays.{AtomCode, shapeAt as arrayShape}
 use Rattle.typing.specs.Equations.{base, shapeAt, equations}
 
 -- The arrays hold the variables and the equations of the nodes below k: bases and counts by node, shapes by variable,

@@ -8,8 +8,8 @@ use lib.ListN.{getD, length, set}
 use Rattle.rules.specs.Kinds.{kindOf}
 use Rattle.rules.specs.Tables.{Table, tableOf, nodeAt, nodeCount}
 use Rattle.table.specs.Layout.{Fielded}
-use Rattle.solver.specs.Problem.{Shape, shapeOf, eqn}
-use Rattle.solver.specs.Arrays.{AtomCode}
+use Rattle.unification.specs.Problem.{Shape, shapeOf, eqn}
+use Rattle.unification.specs.Arrays.{AtomCode}
 use Rattle.typing.specs.Plan.{Ref, self, first, second, name, slot, Form, Plan}
 use Rattle.problem.specs.Codes.{Digits, refOf, formKind, formLeft, formRight, formAt, pairAt}
 use Rattle.typing.specs.Equations.{planOf, base, shapeAt, equations}

@@ -1,5 +1,5 @@
 // Turns a readable table into a problem of unification.
-use solver::wide;
+use unifier::wide;
 ghost use mathlib.Core.Path.{_≡_};
 ghost use Prim.Native.Nat.{ℕ, _+_, _≤_, _<_};
 ghost use lib.ListN.{length, getD};

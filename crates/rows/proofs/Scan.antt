@@ -19,10 +19,10 @@ use Rattle.rules.specs.Verdict.{Place}
 use Rattle.rules.proofs.TableLaws.{binds-length, nodes-length}
 use Rattle.table.specs.Layout.{Laid}
 use Rattle.table.specs.Codes.{codeOf, categoryCode}
-use Rattle.solver.specs.Problem.{Shape}
-use Rattle.solver.specs.Solved.{ClassesMatch, Grounded}
-use Rattle.solver.specs.Rows.{roomAfter, Weighed}
-use Rattle.solver.proofs.Stack.{any-default}
+use Rattle.unification.specs.Problem.{Shape}
+use Rattle.unification.specs.Solved.{ClassesMatch, Grounded}
+use Rattle.unification.specs.Rows.{roomAfter, Weighed}
+use Rattle.unification.proofs.Stack.{any-default}
 use Rattle.typing.specs.Equations.{base}
 use Rattle.typing.specs.Places.{placeVar, placeCount, LeastPlace, GroundAt}
 use Rattle.rows.specs.Rows.{varAt, Placed, PlaceIn, Typed, FailsAt, Determines, LightAt}

@@ -18,8 +18,8 @@ use Rattle.rules.specs.Tables.{Table, tableOf, kindAt}
 use Rattle.rules.specs.Readable.{CategoryIs}
 use Rattle.rules.specs.Verdict.{placeOf, Place, Light, categoryRow, kindRow, rowsFrom, sheetOf, sheetLength}
 use Rattle.rules.proofs.TypeLaws.{prefix-length, row-length, emptyRow-length}
-use Rattle.solver.specs.Problem.{Shape}
-use Rattle.solver.specs.Rows.{Written}
+use Rattle.unification.specs.Problem.{Shape}
+use Rattle.unification.specs.Rows.{Written}
 use Rattle.typing.specs.Places.{placeCount}
 use Rattle.rows.specs.Rows.{Placed, PlaceIn, varAt, Typed, TypesOf, rowAt, putRow, RowWritten}
 use Rattle.typing.proofs.Places.{place-below as typed-below}

@@ -11,8 +11,8 @@ use Rattle.rules.specs.Kinds.{kindOf}
 use Rattle.rules.specs.Tables.{Table, tableOf, kindAt, identifierCount, nodeCount}
 use Rattle.rules.specs.Verdict.{Place, Light, typeLimit, kindRow}
 use Rattle.table.specs.Layout.{Laid}
-use Rattle.solver.specs.Problem.{Shape}
-use Rattle.solver.specs.Rows.{Determined}
+use Rattle.unification.specs.Problem.{Shape}
+use Rattle.unification.specs.Rows.{Determined}
 use Rattle.typing.specs.Equations.{base}
 use Rattle.typing.specs.Places.{placeVar}
 

@@ -1,6 +1,6 @@
 // The places of a table: identifiers first, then nodes. The least place whose type is not determined or too heavy, and
 // the rows of the sheet.
-use solver::wide;
+use unifier::wide;
 ghost use mathlib.Core.Path.{_≡_};
 ghost use Prim.Native.Nat.{ℕ, _+_, _*_, _<_, _≤_};
 ghost use lib.ListN.{length};
@@ -8,7 +8,7 @@ ghost use Rattle.rules.specs.Types.{Ty, emptyRow};
 ghost use Rattle.rules.specs.Tables.{tableOf};
 ghost use Rattle.rules.specs.Verdict.{sheetOf, sheetLength};
 ghost use Rattle.table.specs.Layout.{Laid};
-ghost use Rattle.solver.specs.Arrays.{shapeAt, ClassArrays};
+ghost use Rattle.unification.specs.Arrays.{shapeAt, ClassArrays};
 ghost use Rattle.typing.specs.Places.{LeastPlace, GroundAt};
 ghost use Rattle.rows.specs.Rows.{varAt, Placed, PlaceIn, Typed, FailsAt, Determines, LightAt, TypesOf, putRow, RowWritten};
 

@@ -13,7 +13,7 @@ use Rattle.rules.specs.Kinds.{Kind}
 use Rattle.rules.specs.Tables.{Table, nodeAt, kindAt, fieldWords}
 use Rattle.rules.specs.Readable.{KindRight}
 use Rattle.rules.specs.Verdict.{placeOf, ObeysKind, Typing}
-use Rattle.solver.specs.Problem.{Solves}
+use Rattle.unification.specs.Problem.{Solves}
 use Rattle.typing.specs.Plan.{Ref, self, first, second, name, slot, Meets, refs}
 use Rattle.typing.specs.Equations.{planOf, planAt, slotCount, base, varOf, shapeAt, equations, RightNodes, back}
 use Rattle.typing.proofs.PlanLaws.{obeys→meets, meets→obeys}

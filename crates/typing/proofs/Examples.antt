@@ -4,7 +4,7 @@ use mathlib.Core.List.{[], _∷_}
 use mathlib.Core.Path.{_≡_, refl}
 use Rattle.rules.specs.Types.{Ty}
 use Rattle.rules.specs.Tables.{Table}
-use Rattle.solver.specs.Problem.{unknown, power, product, eqn}
+use Rattle.unification.specs.Problem.{unknown, power, product, eqn}
 use Rattle.typing.specs.Equations.{base, shapes, equations, back}
 
 -- x = {x}

@@ -9,9 +9,9 @@ use native.Mathlib.Omega.{arith}
 use lib.ListN.{getD, length}
 use Rattle.rules.specs.Types.{Ty}
 use Rattle.rules.specs.Tables.{Node, Table, nodeAt, kindAt}
-use Rattle.solver.specs.Problem.{Shape, unknown, Matches, Holds, Solves, PartsBelow, AllBelow}
-use Rattle.solver.specs.Solved.{LeafDeclared}
-use Rattle.solver.proofs.Step.{below-append, holds-append}
+use Rattle.unification.specs.Problem.{Shape, unknown, Matches, Holds, Solves, PartsBelow, AllBelow}
+use Rattle.unification.specs.Solved.{LeafDeclared}
+use Rattle.unification.proofs.Step.{below-append, holds-append}
 use Rattle.typing.specs.Plan.{Ref, Form, openᶠ, atomᶠ, powᶠ, prodᶠ, MatchesForm, MatchesSlots, HoldsRefs, Meets}
 use Rattle.typing.specs.Equations.{planAt, slotCount, base, varOf, shapeFrom, eqnFrom, nodeEquations, shapeAt, equations}
 use Rattle.typing.specs.Equations.{WellFormed, RightNodes}

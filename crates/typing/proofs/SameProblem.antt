@@ -7,10 +7,10 @@ use native.Mathlib.Decide.{ℕ-discrete}
 use native.Mathlib.Omega.{arith}
 use lib.ListN.{getD, length}
 use Rattle.rules.specs.Types.{Ty}
-use Rattle.solver.specs.Problem.{Shape, unknown, leaf, power, product, Eqn, eqn, Matches, Holds, Solves, PartsBelow, AllBelow}
-use Rattle.solver.specs.Arrays.{equations as arrayEquations}
-use Rattle.solver.specs.Marks.{statusOf, markOf}
-use Rattle.solver.specs.Solved.{LeafDeclared, Solved, Answer}
+use Rattle.unification.specs.Problem.{Shape, unknown, leaf, power, product, Eqn, eqn, Matches, Holds, Solves, PartsBelow, AllBelow}
+use Rattle.unification.specs.Arrays.{equations as arrayEquations}
+use Rattle.unification.specs.Marks.{statusOf, markOf}
+use Rattle.unification.specs.Solved.{LeafDeclared, Solved, Answer}
 
 -- The shapes below n are the same, and the equations hold alike.
 pub record Same (sh sh′ : ℕ → Shape) (n : ℕ) (es es′ : List Eqn) : Type 0 where

@@ -9,7 +9,7 @@ use native.Mathlib.Omega.{arith}
 use lib.ListN.{getD, length, length-append, length-map, length-replicate, getD-replicate, List·getD-append, List·getD-map}
 use lib.Seq.{getD-append-add}
 use Rattle.rules.specs.Tables.{Table, nodeAt, kindAt}
-use Rattle.solver.specs.Problem.{Shape, unknown}
+use Rattle.unification.specs.Problem.{Shape, unknown}
 use Rattle.typing.specs.Plan.{Ref, self, first, second, name, slot, openᶠ}
 use Rattle.typing.specs.Equations.{planAt, slotCount, base, varOf, shapeFrom, nodeShapes, shapes, shapeAt}
 use Rattle.typing.proofs.RefLaws.{few-slots, RefRight}

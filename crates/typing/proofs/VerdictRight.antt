@@ -16,8 +16,8 @@ use Rattle.rules.specs.Verdict.{Place, typeLimit, sheetOf, sheetLength, Verdict
 use Rattle.rules.proofs.EndLaws.{T-true, T-false, requireAll-done, requireAll-number, requireAll-refused}
 use Rattle.rules.proofs.ReadingLaws.{reading-table, reading-readable}
 use Rattle.rules.proofs.TableLaws.{nodes-length}
-use Rattle.solver.specs.Problem.{Shape}
-use Rattle.solver.proofs.ModelLaws.{Answers, modelSolve-right, typeFrom-is}
+use Rattle.unification.specs.Problem.{Shape}
+use Rattle.unification.proofs.ModelLaws.{Answers, modelSolve-right, typeFrom-is}
 use Rattle.typing.specs.Equations.{base, shapes, shapeAt, equations, RightNodes}
 use Rattle.typing.specs.Model.{isPlace, solveBelow, isSome, solvable}
 use Rattle.typing.specs.Places.{placeCount, placeVar}

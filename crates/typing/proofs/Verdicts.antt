@@ -12,8 +12,8 @@ use Rattle.rules.specs.Reading.{reading}
 use Rattle.rules.specs.Verdict.{Place, Typing, AgreeAt, Only, typeLimit, sheetOf, sheetLength}
 use Rattle.rules.specs.Verdict.{Verdict, clash, several, heavy, accepts}
 use Rattle.rules.proofs.ReadingLaws.{reading-table, reading-readable}
-use Rattle.solver.specs.Problem.{Solves}
-use Rattle.solver.specs.Solved.{Solved}
+use Rattle.unification.specs.Problem.{Solves}
+use Rattle.unification.specs.Solved.{Solved}
 use Rattle.typing.specs.Equations.{base, shapeAt, equations, RightNodes, back}
 use Rattle.typing.specs.Places.{placeCount, placeVar}
 use Rattle.typing.proofs.ProblemLaws.{well-formed}

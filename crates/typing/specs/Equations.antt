@@ -11,8 +11,8 @@ use Rattle.rules.specs.Types.{Ty, INTEGER}
 use Rattle.rules.specs.Kinds.{Kind, kindOf}
 use Rattle.rules.specs.Tables.{Table, nodeAt, kindAt}
 use Rattle.rules.specs.Readable.{NodeRight}
-use Rattle.solver.specs.Problem.{Shape, unknown, leaf, power, product, Eqn, eqn, PartsBelow, AllBelow}
-use Rattle.solver.specs.Solved.{LeafDeclared}
+use Rattle.unification.specs.Problem.{Shape, unknown, leaf, power, product, Eqn, eqn, PartsBelow, AllBelow}
+use Rattle.unification.specs.Solved.{LeafDeclared}
 use Rattle.typing.specs.Plan.{Ref, self, first, second, name, slot, Form, openᶠ, atomᶠ, powᶠ, prodᶠ, Plan, only, plan}
 
 -- The plan of a node; nothing is known of a node whose kind is unknown.

@@ -12,8 +12,8 @@ use Rattle.rules.specs.Tables.{Table, kindAt}
 use Rattle.rules.specs.Ends.{End, done, refused, _>>=_, require, requireAll}
 use Rattle.rules.specs.Reading.{reading, categoryIs}
 use Rattle.rules.specs.Verdict.{typeLimit, sheetOf, sheetLength}
-use Rattle.solver.specs.Problem.{Shape, unknown}
-use Rattle.solver.specs.Model.{modelSolve, typeFrom}
+use Rattle.unification.specs.Problem.{Shape, unknown}
+use Rattle.unification.specs.Model.{modelSolve, typeFrom}
 use Rattle.typing.specs.Equations.{base, shapes, equations}
 use Rattle.typing.specs.Places.{placeCount, placeVar}
 

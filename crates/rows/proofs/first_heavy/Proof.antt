@@ -5,7 +5,7 @@ use native.Mathlib.Omega.{arith}
 use lib.ListN.{length}
 use Rattle.rules.specs.Types.{Ty}
 use Rattle.rules.specs.Tables.{tableOf}
-use Rattle.solver.specs.Arrays.{shapeAt}
+use Rattle.unification.specs.Arrays.{shapeAt}
 use Rattle.rows.specs.Rows.{Determines, LightAt}
 use Rattle.rows.proofs.Scan.{count-places, HoldsBelow, scan-start, scan-turn, scan-here, scan-end}
 use Rattle.rows.proofs.first_heavy.Statement.{statement}

@@ -2,7 +2,7 @@ use borrow.Author.Needs.{needs}
 use denote.Ref.{now}
 use lib.ListN.{length}
 use Rattle.rules.specs.Tables.{tableOf}
-use Rattle.solver.specs.Arrays.{shapeAt}
+use Rattle.unification.specs.Arrays.{shapeAt}
 use Rattle.rows.specs.Rows.{LightAt}
 use Rattle.rows.proofs.Scan.{place-inside, found-below, fails-blank, heavy-typed}
 use Rattle.rows.proofs.is_heavy.Statement.{statement}

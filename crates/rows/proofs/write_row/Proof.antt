@@ -2,7 +2,7 @@ use borrow.Author.Needs.{needs}
 use denote.Ref.{now}
 use native.Mathlib.Omega.{arith}
 use lib.ListN.{length}
-use Rattle.solver.specs.Arrays.{shapeAt}
+use Rattle.unification.specs.Arrays.{shapeAt}
 use Rattle.rows.proofs.Scan.{place-inside, found-below}
 use Rattle.rows.proofs.Sheet.{written-blank, written-typed}
 use Rattle.rows.proofs.write_row.Statement.{statement}

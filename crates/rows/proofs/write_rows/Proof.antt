@@ -5,7 +5,7 @@ use Prim.Native.Nat.{_-_, _≤_}
 use native.Mathlib.Omega.{arith}
 use lib.ListN.{length}
 use Rattle.rules.specs.Tables.{tableOf}
-use Rattle.solver.specs.Arrays.{shapeAt}
+use Rattle.unification.specs.Arrays.{shapeAt}
 use Rattle.rows.proofs.Scan.{count-places}
 use Rattle.rows.proofs.Sheet.{Filled, filled-start, filled-turn, filled-end}
 use Rattle.rows.proofs.write_rows.Statement.{statement}

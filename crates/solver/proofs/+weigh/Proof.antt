@@ -1,4 +1,4 @@
-use Rattle.solver.proofs.Rows.{class-below, left-below, right-below, weigh-none, weigh-leaf, weigh-power, weigh-full, weigh-product}
+use Rattle.unification.proofs.Rows.{class-below, left-below, right-below, weigh-none, weigh-leaf, weigh-power, weigh-full, weigh-product}
 use mathlib.Core.Path.{refl}
 use native.Mathlib.Omega.{arith}
 use denote.Ref.{now}
@@ -9,7 +9,7 @@ use borrow.Fn.PlainCycle.{Measures, is, falls, and}
 use Rattle.solver.proofs.weigh.Reads as weigh
 use Rattle.solver.proofs.weigh.Kinds as weigh-kinds
 use Rattle.solver.proofs.+weigh.Lts-weigh as weigh-lts
-use Rattle.solver.proofs.wide.Reads as wide-reads
+use Rattle.unifier.proofs.wide.Reads as wide-reads
 use Rattle.solver.proofs.+weigh.{statement}
 use Rattle.solver.proofs.+weigh.Tie.{close}
 

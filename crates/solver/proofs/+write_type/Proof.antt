@@ -3,7 +3,7 @@ use borrow.Author.Needs.{needs}
 use denote.Ref.{now}
 use native.Mathlib.Omega.{arith}
 use lib.ListN.{length-set}
-use Rattle.solver.proofs.Rows.{class-below, left-below, right-below, class-code, class-byte, write-none, write-leaf, write-power, write-product}
+use Rattle.unification.proofs.Rows.{class-below, left-below, right-below, class-code, class-byte, write-none, write-leaf, write-power, write-product}
 use Prim.Native.Nat.{ℕ, _-_, _<_}
 use borrow.Fn.Kinds.{In}
 use borrow.Fn.PlainCycle.{Measures, is, falls, and}
@@ -11,7 +11,7 @@ use Rattle.solver.proofs.write_type.Reads as write-type
 use Rattle.solver.proofs.write_type.Kinds as write-type-kinds
 use Rattle.solver.proofs.+write_type.Lts-write_type as write-type-lts
 use Rattle.solver.proofs.code_of.Reads as code-of-reads
-use Rattle.solver.proofs.wide.Reads as wide-reads
+use Rattle.unifier.proofs.wide.Reads as wide-reads
 use Rattle.solver.proofs.+write_type.{statement}
 use Rattle.solver.proofs.+write_type.Tie.{close}
 

@@ -4,8 +4,8 @@ use mathlib.Core.Path.{_≡_, refl}
 use Prim.Native.Nat.{_-_, _≤_}
 use native.Mathlib.Omega.{arith}
 use lib.ListN.{length}
-use Rattle.solver.proofs.Loops.{fillTo, fill-start, fill-turn}
-use Rattle.solver.proofs.Whole.{zeros-end}
+use Rattle.unification.proofs.Loops.{fillTo, fill-start, fill-turn}
+use Rattle.unification.proofs.Whole.{zeros-end}
 use Rattle.solver.proofs.clear.Statement.{statement}
 use Rattle.solver.proofs.clear.Tie as tie
 

@@ -1,5 +1,5 @@
 use native.Mathlib.Omega.{arith}
-use Rattle.solver.proofs.Rows.{code-product}
+use Rattle.unification.proofs.Rows.{code-product}
 use borrow.Author.Needs.{needs}
 use Rattle.solver.proofs.code_of.Statement.{statement}
 use Rattle.solver.proofs.code_of.Tie as tie

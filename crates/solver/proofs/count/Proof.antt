@@ -5,8 +5,8 @@ use Prim.Native.Nat.{_-_, _≤_}
 use native.Mathlib.Omega.{arith}
 use lib.ListN.{length}
 use mathlib.Core.Logic.{⊎-elim}
-use Rattle.solver.specs.Marks.{marked}
-use Rattle.solver.proofs.Marking.{marked-yes, marked-no, marked-le, marked-end}
+use Rattle.unification.specs.Marks.{marked}
+use Rattle.unification.proofs.Marking.{marked-yes, marked-no, marked-le, marked-end}
 use Rattle.solver.proofs.count.Statement.{statement}
 use Rattle.solver.proofs.count.Tie as tie
 

@@ -1,6 +1,6 @@
 use denote.Ref.{now}
 use borrow.Author.Needs.{needs}
-use Rattle.solver.proofs.Marking.{mark-glue}
+use Rattle.unification.proofs.Marking.{mark-glue}
 use Rattle.solver.proofs.mark_at.Statement.{statement}
 use Rattle.solver.proofs.mark_at.Tie as tie
 

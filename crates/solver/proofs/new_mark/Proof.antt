@@ -1,6 +1,6 @@
 use denote.Ref.{now}
 use mathlib.Core.Path.{refl, _∙_}
-use Rattle.solver.proofs.Marking.{mark-old, mark-new}
+use Rattle.unification.proofs.Marking.{mark-old, mark-new}
 use borrow.Author.Needs.{needs}
 use Rattle.solver.proofs.new_mark.Statement.{statement}
 use Rattle.solver.proofs.new_mark.Tie as tie

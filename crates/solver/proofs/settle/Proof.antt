@@ -3,9 +3,9 @@ use borrow.Author.Needs.{needs}
 use mathlib.Core.Path.{_≡_, _∙_}
 use Prim.Native.Nat.{_-_}
 use lib.ListN.{length}
-use Rattle.solver.specs.Arrays.{shapeAt}
-use Rattle.solver.specs.Marks.{marked, SoundMarks}
-use Rattle.solver.proofs.Marking.{settle-stop, settle-again, settle-less, settle-count}
+use Rattle.unification.specs.Arrays.{shapeAt}
+use Rattle.unification.specs.Marks.{marked, SoundMarks}
+use Rattle.unification.proofs.Marking.{settle-stop, settle-again, settle-less, settle-count}
 use Rattle.solver.proofs.settle.Statement.{statement}
 use Rattle.solver.proofs.settle.Tie as tie
 

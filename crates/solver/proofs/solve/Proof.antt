@@ -1,5 +1,5 @@
 use denote.Ref.{now}
-use Rattle.solver.proofs.Whole.{all-pre, clash-none, equations-in, settle-pre, marks-none, marks-solved}
+use Rattle.unification.proofs.Whole.{all-pre, clash-none, equations-in, settle-pre, marks-none, marks-solved}
 use borrow.Author.Needs.{needs}
 use Rattle.solver.proofs.solve.Statement.{statement}
 use Rattle.solver.proofs.solve.Tie as tie

@@ -1,7 +1,7 @@
 use mathlib.Core.Path.{ap₂, _∙_}
 use Prim.Native.Nat.{min}
 use borrow.Author.Needs.{needs}
-use Rattle.solver.proofs.Marking.{status-unknown, status-leaf, status-power, status-product, parts-left, parts-right}
+use Rattle.unification.proofs.Marking.{status-unknown, status-leaf, status-power, status-product, parts-left, parts-right}
 use Rattle.solver.proofs.status.Statement.{statement}
 use Rattle.solver.proofs.status.Tie as tie
 

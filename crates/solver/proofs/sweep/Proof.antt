@@ -3,9 +3,9 @@ use mathlib.Core.Path.{_≡_, refl}
 use Prim.Native.Nat.{_-_, _≤_}
 use native.Mathlib.Omega.{arith}
 use lib.ListN.{length}
-use Rattle.solver.specs.Arrays.{shapeAt}
-use Rattle.solver.specs.Marks.{sweepTo}
-use Rattle.solver.proofs.Marking.{sweep-start, sweep-turn, sweep-end, status-pre}
+use Rattle.unification.specs.Arrays.{shapeAt}
+use Rattle.unification.specs.Marks.{sweepTo}
+use Rattle.unification.proofs.Marking.{sweep-start, sweep-turn, sweep-end, status-pre}
 use Rattle.solver.proofs.sweep.Statement.{statement}
 use Rattle.solver.proofs.sweep.Tie as tie
 
