@@ -6,7 +6,7 @@ use native.Mathlib.Decide.{ℕ-discrete}
 use native.Mathlib.Omega.{arith}
 use Rattle.rules.specs.Ends.{leastFailing}
 use Rattle.rules.proofs.EndLaws.{leastFailing-none, leastFailing-some}
-use Rattle.table.specs.Answers.{foundOr}
+use Rattle.table.specs.Places.{foundOr}
 
 -- The loop's invariant: i is at most the bound, and each number below i passes.
 pub record Passing (ok : ℕ → Bool) (n i : ℕ) : Type 0 where
