@@ -20,9 +20,20 @@ use Rattle.rules.specs.Reading.{occurrences, parentGood}
 use Rattle.rules.specs.Readable.{FieldRight, FieldsRight}
 use Rattle.rules.proofs.TableLaws.{nodes-length, binds-length, fields-right}
 use Rattle.table.specs.Codes.{fieldOf, categoryCode, DigitOf}
-use Rattle.table.specs.Layout.{sortOf, rowAt, fieldAt}
+use Rattle.table.specs.Layout.{NodeIn, Fielded, sortOf, rowAt, fieldAt}
 use Rattle.reading.specs.Arrays.{FieldIn, more, Room, BumpPre, Bumped, countsAt, Counted}
 use Rattle.table.proofs.Fields.{category-is, code-read, by-fields}
+
+-- What may be read of a node whose fields are right.
+module _ {bs : List ℕ} {at n : ℕ} where
+  pub node-in : Fielded bs at → n < nodeCount bs → NodeIn bs at n
+  node-in f h = record { laid = f .laid; below = h }
+
+  pub field-in : {i : ℕ} → Fielded bs at → n < nodeCount bs → i < 3 → FieldIn bs at n i
+  field-in f h l = record { fielded = f; below = h; inside = l }
+
+  pub field-asks : {i : ℕ} → FieldIn bs at n i → NodeIn bs at n × (i < 3)
+  field-asks f = (node-in (f .fielded) (f .below), f .inside)
 
 -- A field that is not used is of no sort that is counted.
 pub sort-unused : (b : Bool) → sortOf b unused ≡ false
@@ -162,6 +173,9 @@ counts-below b bs at n i f e =
       f .fielded .laid .header .identifiers,
       sort-below b tb n (getD (fieldsAt d) i unused) (getD (fieldWords d) i 0) e r,
     )
+
+pub counts-inside : (b : Bool) (bs : List ℕ) (at n i : ℕ) → FieldIn bs at n i → countsAt b bs n i ≡ true → {x m : ℕ} → x ≡ fieldAt bs n i → m ≡ 512 → x < m
+counts-inside b bs at n i f e word long = rw (word, long) (counts-below b bs at n i f e)
 
 -- No count is above k.
 abbrev pub Low : ℕ → List ℕ → Type 0

@@ -13,8 +13,9 @@ use borrow.Author.Tests.{eq-eqb, ne-eqb}
 use mir.Val.{boolByte}
 use Rattle.rules.specs.Kinds.{Kind, kindOf, predicate, expression, isChild, isBinder}
 use Rattle.rules.specs.Kinds.{Field, unused, child, use-of, binder-of, setNumber, elementNumber, anyWord, truthBit}
-use Rattle.rules.specs.Tables.{Node, Table, tableOf, nodeAt, fieldsAt, fieldsIf, fieldWords, keptIf, pick, held, lastNode, nodeCount}
+use Rattle.rules.specs.Tables.{Node, Table, tableOf, nodeAt, fieldsAt, fieldsIf, fieldWords, keptIf, pick, held, lastNode, identifierCount, nodeCount}
 use Rattle.rules.specs.Reading.{occurrences, occursIn, occursInAny, bindsHere, occursStep, occursFree, boundRight, binders, binding}
+use Rattle.rules.specs.Readable.{Header}
 use Rattle.rules.proofs.TableLaws.{fields-right, nodes-length, occursFree-at}
 use Rattle.table.specs.Codes.{fieldOf}
 use Rattle.table.specs.Layout.{Fielded, fieldAt, WordOf}
@@ -135,6 +136,13 @@ occurs-turn bs at x n c o p h l s e m m< = go (ℕ-discrete m n)
     go (no q) = rw (getD-set-other c n m (boolByte o) 0 q) (s m (omega arith))
 
 -- The last node is the root.
+module _ {bs : List ℕ} {i : ℕ} (e : i ≡ nodeCount bs) (h : Header bs) where
+  pub last-here : 1 ≤ i
+  last-here = omega (arith, h .some-node)
+
+  pub last-inside : i - 1 < 512
+  last-inside = omega (arith, h .some-node, h .few-nodes)
+
 pub occurs-root : (bs : List ℕ) (at x i n : ℕ) (c : List ℕ) → Fielded bs at → i ≡ nodeCount bs → i ≤ n → Occurs bs x n c →
     eqb (getD c (i - 1) 0) 1 ≡ occursFree (tableOf bs .nodes) x (lastNode (tableOf bs .nodes))
 unfolding lastNode
@@ -196,6 +204,7 @@ module _ (bs : List ℕ) (x w t : ℕ) (word : WordOf bs x w) (times : t ≡ bin
       rw (← word 0, ← times) (rw (ne-eqb t 1 e) at (bound-once w t (occursFree (tableOf bs .nodes) x (lastNode (tableOf bs .nodes))) ne))
 
 -- How often an identifier is bound.
-pub counted-binders : (bs c : List ℕ) (x : ℕ) → Counted true bs (nodeCount bs) c → x < length c → getD c x 0 ≡ binders (tableOf bs .nodes) x
+pub counted-binders : (bs c : List ℕ) (x : ℕ) → Header bs → x < identifierCount bs → length c ≡ 512 → Counted true bs (nodeCount bs) c →
+    getD c x 0 ≡ binders (tableOf bs .nodes) x
 unfolding binders
-counted-binders bs c x counted h = counted-all true bs c counted x h
+counted-binders bs c x h l long counted = counted-all true bs c counted x (omega (arith, h .identifiers))

@@ -3,15 +3,14 @@ use mathlib.Core.Path.{ap, sym, _∙_}
 use Rattle.rules.proofs.ReadingLaws.{refused-1, refused-2, refused-3}
 use Rattle.reading.specs.Answers.{readingOf}
 use Rattle.reading.proofs.Stages.{fails, passes, long, header-read, records-left}
-use borrow.Author.Needs.{needs}
 use Rattle.reading.proofs.read.Statement.{statement}
 use Rattle.reading.proofs.read.Tie as tie
 
 is-headed-requires : tie.Need-is-headed-requires
-is-headed-requires c κs = search needs
+is-headed-requires c κs = tt
 
 refused-requires : tie.Need-refused-requires
-refused-requires c κs = search needs
+refused-requires c κs = tt
 
 returns : tie.Need-returns
 returns c =
@@ -22,7 +21,7 @@ is-limited-requires : tie.Need-is-limited-requires
 is-limited-requires c κs = long _ (passes _ _ (c .before .is-headed .ensures) (c .if1 .left))
 
 refused-requires-2 : tie.Need-refused-requires-2
-refused-requires-2 c κs = search needs
+refused-requires-2 c κs = tt
 
 returns-2 : tie.Need-returns-2
 returns-2 c =
@@ -38,7 +37,7 @@ is-laid-out-requires c κs =
     long _ (passes _ _ (s1 .before .is-headed .ensures) (s1 .if1 .left))
 
 refused-requires-3 : tie.Need-refused-requires-3
-refused-requires-3 c κs = search needs
+refused-requires-3 c κs = tt
 
 returns-3 : tie.Need-returns-3
 returns-3 c =

@@ -1,21 +1,20 @@
--- Stages 4 to 6 of `reading`, then the tree.
+-- Stages 4 to 6 of `reading`, then the tree. 
 use Rattle.reading.specs.Answers.{readingRecords}
 use Rattle.reading.proofs.Stages.{stage-refused, stage-passed, nodes-fielded}
-use borrow.Author.Needs.{needs}
 use Rattle.reading.proofs.read_records.Statement.{statement}
 use Rattle.reading.proofs.read_records.Tie as tie
 
 nodes-offset-requires : tie.Need-nodes-offset-requires
-nodes-offset-requires c κs = search needs
+nodes-offset-requires c κs = c .before .pre .long
 
 first-bad-size-requires : tie.Need-first-bad-size-requires
-first-bad-size-requires c κs = search needs
+first-bad-size-requires c κs = c .before .before .pre
 
 givens-requires : tie.Need-givens-requires
-givens-requires c κs = search needs
+givens-requires c κs = c .before .before .before .pre .long
 
 refused-requires : tie.Need-refused-requires
-refused-requires c κs = search needs
+refused-requires c κs = tt
 
 returns : tie.Need-returns
 unfolding readingRecords
@@ -24,13 +23,13 @@ returns c =
     stage-refused 4 _ _ _ _ (s4 .before .before .first-bad-size .ensures) (s4 .before .givens .ensures) _ _ _ (c .refused .ensures) (s4 .if1 .taken)
 
 first-bad-bind-requires : tie.Need-first-bad-bind-requires
-first-bad-bind-requires c κs = search needs
+first-bad-bind-requires c κs = c .before .before .before .before .before .pre
 
 identifiers-requires : tie.Need-identifiers-requires
-identifiers-requires c κs = search needs
+identifiers-requires c κs = c .before .before .before .before .before .before .pre .long
 
 refused-requires-2 : tie.Need-refused-requires-2
-refused-requires-2 c κs = search needs
+refused-requires-2 c κs = tt
 
 returns-2 : tie.Need-returns-2
 unfolding readingRecords
@@ -41,13 +40,13 @@ returns-2 c =
     (stage-refused 5 _ _ _ _ (s5 .before .before .first-bad-bind .ensures) (s5 .before .identifiers .ensures) _ _ _ (c .refused2 .ensures) (s5 .if2 .taken))
 
 first-bad-node-requires : tie.Need-first-bad-node-requires
-first-bad-node-requires c κs = search needs
+first-bad-node-requires c κs = record { header = c .before .before .before .before .before .before .before .before .pre; base = c .before .before .before .before .before .before .nodes-offset .ensures }
 
 nodes-requires : tie.Need-nodes-requires
-nodes-requires c κs = search needs
+nodes-requires c κs = c .before .before .before .before .before .before .before .before .before .pre .long
 
 refused-requires-3 : tie.Need-refused-requires-3
-refused-requires-3 c κs = search needs
+refused-requires-3 c κs = tt
 
 returns-3 : tie.Need-returns-3
 unfolding readingRecords

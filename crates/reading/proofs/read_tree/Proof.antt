@@ -2,18 +2,17 @@
 use Rattle.reading.specs.Answers.{readingTree}
 use Rattle.reading.proofs.Stages.{stage-refused, stage-passed}
 use mathlib.Core.Path.{refl}
-use borrow.Author.Needs.{needs}
 use Rattle.reading.proofs.read_tree.Statement.{statement}
 use Rattle.reading.proofs.read_tree.Tie as tie
 
 first-bad-parent-requires : tie.Need-first-bad-parent-requires
-first-bad-parent-requires c κs = search needs
+first-bad-parent-requires c κs = c .before .pre
 
 nodes-requires : tie.Need-nodes-requires
-nodes-requires c κs = search needs
+nodes-requires c κs = c .before .before .pre .laid .header .long
 
 refused-requires : tie.Need-refused-requires
-refused-requires c κs = search needs
+refused-requires c κs = tt
 
 returns : tie.Need-returns
 unfolding readingTree
@@ -22,13 +21,13 @@ returns c =
     stage-refused 7 _ _ _ _ (s7 .before .before .first-bad-parent .ensures) (s7 .before .nodes .ensures) _ _ _ (c .refused .ensures) (s7 .if1 .taken)
 
 first-bad-height-requires : tie.Need-first-bad-height-requires
-first-bad-height-requires c κs = search needs
+first-bad-height-requires c κs = c .before .before .before .before .pre
 
 nodes-requires-2 : tie.Need-nodes-requires-2
-nodes-requires-2 c κs = search needs
+nodes-requires-2 c κs = c .before .before .before .before .before .pre .laid .header .long
 
 refused-requires-2 : tie.Need-refused-requires-2
-refused-requires-2 c κs = search needs
+refused-requires-2 c κs = tt
 
 returns-2 : tie.Need-returns-2
 unfolding readingTree
@@ -39,13 +38,13 @@ returns-2 c =
     (stage-refused 8 _ _ _ _ (s8 .before .before .first-bad-height .ensures) (s8 .before .nodes2 .ensures) _ _ _ (c .refused2 .ensures) (s8 .if2 .taken))
 
 first-bad-binding-requires : tie.Need-first-bad-binding-requires
-first-bad-binding-requires c κs = search needs
+first-bad-binding-requires c κs = c .before .before .before .before .before .before .before .pre
 
 identifiers-requires : tie.Need-identifiers-requires
-identifiers-requires c κs = search needs
+identifiers-requires c κs = c .before .before .before .before .before .before .before .before .pre .laid .header .long
 
 refused-requires-3 : tie.Need-refused-requires-3
-refused-requires-3 c κs = search needs
+refused-requires-3 c κs = tt
 
 returns-3 : tie.Need-returns-3
 unfolding readingTree

@@ -1,5 +1,5 @@
+use Rattle.reading.proofs.Occurs.{last-here, last-inside}
 use mathlib.Core.Path.{refl, _∙_}
-use borrow.Author.Needs.{needs}
 use Rattle.table.specs.Layout.{Laid}
 use Rattle.reading.proofs.Heights.{root-height}
 use Rattle.reading.proofs.Promise.{readable-fielded}
@@ -7,16 +7,16 @@ use Rattle.reading.proofs.root_height.Statement.{statement}
 use Rattle.reading.proofs.root_height.Tie as tie
 
 nodes-offset-requires : tie.Need-nodes-offset-requires
-nodes-offset-requires c κs = search needs
+nodes-offset-requires c κs = c .before .pre .header .long
 
 nodes-requires : tie.Need-nodes-requires
-nodes-requires c κs = search needs
+nodes-requires c κs = c .before .before .pre .header .long
 
 sub-root : tie.Need-sub-root
-sub-root c = search needs
+sub-root c = last-here (c .nodes .ensures) (c .before .before .before .pre .header)
 
 slice-aggregate-set-heights : tie.Need-slice-aggregate-set-heights
-slice-aggregate-set-heights c = search needs
+slice-aggregate-set-heights c = refl
 
 set-heights-requires : tie.Need-set-heights-requires
 set-heights-requires c κs =
@@ -26,10 +26,10 @@ set-heights-requires c κs =
     (record { laid = laid; fields = readable-fielded _ (s .pre) .fields }, refl)
 
 array-read-wide : tie.Need-array-read-wide
-array-read-wide c = search needs
+array-read-wide c = last-inside (c .before .before .before .nodes .ensures) (c .before .before .before .before .before .before .pre .header)
 
 wide-requires : tie.Need-wide-requires
-wide-requires c κs = search needs
+wide-requires c κs = tt
 
 returns : tie.Need-returns
 returns c =

@@ -1,10 +1,10 @@
 -- Only the first field of a kind binds.
+use lib.Dec.{lit<}
 use mathlib.Core.Path.{_≡_}
 use Rattle.table.specs.Codes.{fieldOf}
 use Rattle.table.specs.Layout.{holdsAt}
 use Rattle.reading.proofs.Occurs.{binds-hit, binds-miss}
 use Rattle.table.proofs.Fields.{code-read}
-use borrow.Author.Needs.{needs}
 use Rattle.reading.proofs.binding.binds.Statement.{statement}
 use Rattle.reading.proofs.binding.binds.Tie as tie
 
@@ -15,13 +15,13 @@ code : (c : tie.After-digit) → fieldOf (c .digit .result) ≡ holdsAt (start c
 code c = code-read (start c .args .table .now) (start c .args .n) (start c .args .row) 0 (c .digit .result) (start c .pre .1) (c .digit .ensures)
 
 digit-requires : tie.Need-digit-requires
-digit-requires c κs = search needs
+digit-requires c κs = lit< tt
 
 counts-requires : tie.Need-counts-requires
-counts-requires c κs = search needs
+counts-requires c κs = tt
 
 field-requires : tie.Need-field-requires
-field-requires c κs = search needs
+field-requires c κs = (c .before .before .before .before .pre .0, lit< tt)
 
 returns : tie.Need-returns
 returns c = binds-hit _ _ (c .before .before .before .digit .result) _ (code (c .before .before .before)) (c .before .before .counts .ensures) _ (c .before .if1 .taken) (c .field .ensures)

@@ -1,11 +1,11 @@
 -- By the code of what the field holds. A child is below its parent, so the array reaches it.
+use Rattle.reading.proofs.Counting.{field-asks}
 use mathlib.Core.Path.{_≡_}
 use native.Mathlib.Omega.{arith}
 use Rattle.table.specs.Codes.{fieldOf}
 use Rattle.table.specs.Layout.{holdsAt}
 use Rattle.reading.proofs.Occurs.{child-inside, occurs-bound, occurs-below, occurs-used, occurs-other}
 use Rattle.table.proofs.Fields.{code-read}
-use borrow.Author.Needs.{needs}
 use Rattle.reading.proofs.binding.field_occurs.Statement.{statement}
 use Rattle.reading.proofs.binding.field_occurs.Tie as tie
 
@@ -18,13 +18,13 @@ code c =
     (c .digit .ensures)
 
 field-requires : tie.Need-field-requires
-field-requires c κs = search needs
+field-requires c κs = field-asks (c .before .before .pre .0)
 
 digit-requires : tie.Need-digit-requires
-digit-requires c κs = search needs
+digit-requires c κs = c .before .before .before .pre .0 .inside
 
 both-requires : tie.Need-both-requires
-both-requires c κs = search needs
+both-requires c κs = tt
 
 returns : tie.Need-returns
 returns c =

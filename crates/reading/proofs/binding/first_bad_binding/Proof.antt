@@ -1,15 +1,17 @@
 -- The invariant: each identifier passed keeps the binding rules.
+use borrow.Author.Needs.{scaled-fits}
+use lib.Dec.{lit<, lit≤}
+use native.Mathlib.Nat.{le-trans, lt-of-lt-of-le}
+use borrow.Author.Count.{falls}
 use Prim.Native.Nat.{_-_}
 use mathlib.Core.Bool.{true}
 use mathlib.Core.Path.{refl, sym, _∙_}
-use native.Mathlib.Omega.{arith}
-use borrow.Author.Needs.{needs}
 use Rattle.rules.specs.Tables.{tableOf, identifierCount}
 use Rattle.rules.specs.Reading.{binding}
 use borrow.Author.Tests.{not-true, not-false}
 use Rattle.reading.proofs.Counting.{counted-none}
 use Rattle.reading.proofs.Occurs.{counted-binders}
-use Rattle.table.proofs.Least.{Passing, least-start, least-turn, least-here, least-none}
+use Rattle.table.proofs.Least.{Passing, least-start, least-turn, least-here, least-none, below, past, next-fits}
 use Rattle.reading.proofs.binding.first_bad_binding.Statement.{statement}
 use Rattle.reading.proofs.binding.first_bad_binding.Tie as tie
 
@@ -20,10 +22,10 @@ abbrev μ-loop : tie.MeasureT-loop
 μ-loop table at count counted x₀ x = count - x
 
 identifiers-requires : tie.Need-identifiers-requires Inv-loop μ-loop
-identifiers-requires c κs = search needs
+identifiers-requires c κs = c .before .pre .laid .header .long
 
 slice-aggregate-count-nodes : tie.Need-slice-aggregate-count-nodes Inv-loop μ-loop
-slice-aggregate-count-nodes c = search needs
+slice-aggregate-count-nodes c = refl
 
 count-nodes-requires : tie.Need-count-nodes-requires Inv-loop μ-loop
 count-nodes-requires c κs = (c .before .before .before .pre, refl, counted-none true (c .before .before .before .args .table .now) 512)
@@ -32,39 +34,36 @@ loop-holds : tie.Need-loop-holds Inv-loop μ-loop
 loop-holds c = least-start _ _
 
 mul-times : tie.Need-mul-times Inv-loop μ-loop
-mul-times c = search needs
+mul-times c = scaled-fits _ 32 2 (lt-of-lt-of-le (below (c .loop-test .taken) (c .before .before .before .before .before .identifiers .ensures)) (c .before .before .before .before .before .before .before .pre .laid .header .identifiers)) (lit< tt)
 
 array-read-times : tie.Need-array-read-times Inv-loop μ-loop
-array-read-times c = search needs
+array-read-times c = lt-of-lt-of-le (below (c .loop-test .taken) (c .before .before .before .before .before .identifiers .ensures)) (le-trans (c .before .before .before .before .before .before .before .pre .laid .header .identifiers) (lit≤ tt))
 
 binding-is-good-requires : tie.Need-binding-is-good-requires Inv-loop μ-loop
 binding-is-good-requires c κs =
-    let t = c .before .before .before in
-    let p = t .before .before .before .before .pre in
-    (p, search needs, counted-binders _ (t .count-nodes .last .1 .1 .0) _ (t .count-nodes .ensures) (omega (arith, p .laid .header .identifiers)))
+    let p = c .before .before .before .before .before .before .before .pre in
+    let x< = below (c .loop-test .taken) (c .before .before .before .before .before .identifiers .ensures) in
+    let called = c .before .before .before .count-nodes in
+    (p, x<, counted-binders _ (called .last .1 .1 .0) _ (p .laid .header) x< (called .kept .1 .1 .0) (called .ensures))
 
 returns : tie.Need-returns Inv-loop μ-loop
 returns c =
-    let t = c .before .before .before in
-    least-here _ _ _ (t .loop .inv) (omega (arith, t .before .before .before .before .identifiers .ensures))
+    least-here _ _ _ (c .before .before .before .loop .inv) (below (c .before .before .loop-test .taken) (c .before .before .before .before .before .before .before .identifiers .ensures))
     (sym (c .before .binding-is-good .ensures) ∙ not-true _ (c .if1 .taken))
 
 add-x : tie.Need-add-x Inv-loop μ-loop
-add-x c = search needs
+add-x c = next-fits 32 (lt-of-lt-of-le (below (c .before .before .loop-test .taken) (c .before .before .before .before .before .before .before .identifiers .ensures)) (c .before .before .before .before .before .before .before .before .before .pre .laid .header .identifiers)) tt
 
 loop-less : tie.Need-loop-less Inv-loop μ-loop
-loop-less c = search needs
+loop-less c = falls _ _ (c .before .before .loop-test .taken)
 
 loop-again : tie.Need-loop-again Inv-loop μ-loop
 loop-again c =
-    let t = c .before .before .before in
-    least-turn _ _ _ (t .loop .inv) (omega (arith, t .before .before .before .before .identifiers .ensures))
+    least-turn _ _ _ (c .before .before .before .loop .inv) (below (c .before .before .loop-test .taken) (c .before .before .before .before .before .before .before .identifiers .ensures))
     (sym (c .before .binding-is-good .ensures) ∙ not-false _ (c .if1 .left))
 
 returns-2 : tie.Need-returns-2 Inv-loop μ-loop
-returns-2 c =
-    let e = c .before .before .before .before .before .identifiers .ensures in
-    e ∙ least-none _ _ _ (c .before .loop .inv) (omega (arith, e))
+returns-2 c = c .before .before .before .before .before .identifiers .ensures ∙ least-none _ _ _ (c .before .loop .inv) (past (c .loop-test .left) (c .before .before .before .before .before .identifiers .ensures))
 
 pub first-bad-binding-spec : {M : Type 1} → statement M
 first-bad-binding-spec =

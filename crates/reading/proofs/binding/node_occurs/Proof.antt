@@ -1,29 +1,30 @@
 -- x occurs free in a node where one of its three fields makes it so.
+use lib.Dec.{lit<}
+use Rattle.reading.proofs.Counting.{node-in, field-in}
 use Rattle.reading.proofs.Occurs.{occurs-three}
-use borrow.Author.Needs.{needs}
 use Rattle.reading.proofs.binding.node_occurs.Statement.{statement}
 use Rattle.reading.proofs.binding.node_occurs.Tie as tie
 
 node-row-requires : tie.Need-node-row-requires
-node-row-requires c κs = search needs
+node-row-requires c κs = node-in (c .before .before .pre .0) (c .before .before .pre .1)
 
 binds-requires : tie.Need-binds-requires
-binds-requires c κs = search needs
+binds-requires c κs = (node-in (c .before .before .before .pre .0) (c .before .before .before .pre .1), c .node-row .ensures)
 
 field-occurs-requires : tie.Need-field-occurs-requires
-field-occurs-requires c κs = search needs
+field-occurs-requires c κs = (field-in (c .before .before .before .before .pre .0) (c .before .before .before .before .pre .1) (lit< tt), c .before .before .before .before .pre .2, c .before .node-row .ensures)
 
 field-occurs-requires-2 : tie.Need-field-occurs-requires-2
-field-occurs-requires-2 c κs = search needs
+field-occurs-requires-2 c κs = (field-in (c .before .before .before .before .before .pre .0) (c .before .before .before .before .before .pre .1) (lit< tt), c .before .before .before .before .before .pre .2, c .before .before .node-row .ensures)
 
 field-occurs-requires-3 : tie.Need-field-occurs-requires-3
-field-occurs-requires-3 c κs = search needs
+field-occurs-requires-3 c κs = (field-in (c .before .before .before .before .before .before .pre .0) (c .before .before .before .before .before .before .pre .1) (lit< tt), c .before .before .before .before .before .before .pre .2, c .before .before .before .node-row .ensures)
 
 either-requires : tie.Need-either-requires
-either-requires c κs = search needs
+either-requires c κs = tt
 
 either-requires-2 : tie.Need-either-requires-2
-either-requires-2 c κs = search needs
+either-requires-2 c κs = tt
 
 returns : tie.Need-returns
 returns c =

@@ -1,11 +1,13 @@
 -- The invariant: the array tells of each node passed whether x occurs free there.
-use Prim.Native.Nat.{_≤_, _-_}
-use mathlib.Core.Path.{_≡_}
-use lib.ListN.{length}
-use native.Mathlib.Omega.{arith}
-use borrow.Author.Needs.{needs}
+use native.Mathlib.Nat.{not-suc-le-zero, lt-of-lt-of-le}
+use Rattle.table.proofs.Least.{below, next-fits}
+use native.Mathlib.Numerals.{add-one-le}
+use borrow.Author.Count.{falls}
+use Prim.Native.Nat.{_≤_, _-_, zero-le}
+use mathlib.Core.Path.{_≡_, refl, sym, _∙_}
+use lib.ListN.{length, length-set}
 use Rattle.reading.specs.Arrays.{Occurs}
-use Rattle.reading.proofs.Occurs.{occurs-turn, occurs-root}
+use Rattle.reading.proofs.Occurs.{occurs-turn, occurs-root, last-here, last-inside}
 use Rattle.reading.proofs.binding.occurs_free.Statement.{statement}
 use Rattle.reading.proofs.binding.occurs_free.Tie as tie
 
@@ -16,41 +18,43 @@ abbrev μ-loop : tie.MeasureT-loop
 μ-loop table at x count occurs₀ n₀ occurs n = count - n
 
 nodes-requires : tie.Need-nodes-requires Inv-loop μ-loop
-nodes-requires c κs = search needs
+nodes-requires c κs = c .before .pre .laid .header .long
 
 loop-holds : tie.Need-loop-holds Inv-loop μ-loop
-loop-holds c = (search needs, search needs, λ m h. absurd (omega arith))
+loop-holds c = (zero-le, refl, λ m h. absurd (not-suc-le-zero h))
 
 slice-aggregate-node-occurs : tie.Need-slice-aggregate-node-occurs Inv-loop μ-loop
-slice-aggregate-node-occurs c = search needs
+slice-aggregate-node-occurs c = sym (c .before .before .loop .inv .1)
 
 node-occurs-requires : tie.Need-node-occurs-requires Inv-loop μ-loop
-node-occurs-requires c κs = search needs
+node-occurs-requires c κs = (c .before .before .before .before .before .pre, below (c .before .loop-test .taken) (c .before .before .before .nodes .ensures), c .before .before .loop .inv .1)
 
 cast-occurs : tie.Need-cast-occurs Inv-loop μ-loop
-cast-occurs c = search needs
+cast-occurs c = tt
 
 array-write-occurs : tie.Need-array-write-occurs Inv-loop μ-loop
-array-write-occurs c = search needs
+array-write-occurs c = lt-of-lt-of-le (below (c .before .before .loop-test .taken) (c .before .before .before .before .nodes .ensures)) (c .before .before .before .before .before .before .pre .laid .header .few-nodes)
 
 add-n : tie.Need-add-n Inv-loop μ-loop
-add-n c = search needs
+add-n c = next-fits 512 (lt-of-lt-of-le (below (c .before .before .loop-test .taken) (c .before .before .before .before .nodes .ensures)) (c .before .before .before .before .before .before .pre .laid .header .few-nodes)) tt
 
 loop-less : tie.Need-loop-less Inv-loop μ-loop
-loop-less c = search needs
+loop-less c = falls _ _ (c .before .before .loop-test .taken)
 
 loop-again : tie.Need-loop-again Inv-loop μ-loop
-loop-again c = (
-  search needs,
-  search needs,
-  occurs-turn _ _ _ _ (c .before .before .before .loop .occurs) _ (c .before .before .before .before .before .before .pre) (omega arith) (omega (arith, c .before .before .before .before .before .before .pre .laid .header .few-nodes)) (c .before .before .before .loop .inv .2) (c .node-occurs .ensures),
-)
+loop-again c =
+    let n< = below (c .before .before .loop-test .taken) (c .before .before .before .before .nodes .ensures) in
+    let p = c .before .before .before .before .before .before .pre in (
+      add-one-le (c .before .before .loop-test .taken),
+      simp length-set (c .before .before .before .loop .inv .1),
+      occurs-turn _ _ _ _ (c .before .before .before .loop .occurs) _ p n< (below (lt-of-lt-of-le n< (p .laid .header .few-nodes)) (sym (c .before .before .before .loop .inv .1))) (c .before .before .before .loop .inv .2) (c .node-occurs .ensures),
+    )
 
 sub-result : tie.Need-sub-result Inv-loop μ-loop
-sub-result c = search needs
+sub-result c = last-here (c .before .before .nodes .ensures) (c .before .before .before .before .pre .laid .header)
 
 array-read-result : tie.Need-array-read-result Inv-loop μ-loop
-array-read-result c = search needs
+array-read-result c = last-inside (c .before .before .nodes .ensures) (c .before .before .before .before .pre .laid .header)
 
 returns : tie.Need-returns Inv-loop μ-loop
 returns c = occurs-root _ _ _ _ _ (c .before .loop .occurs) (c .before .before .before .before .pre) (c .before .before .nodes .ensures) (c .loop-test .left) (c .before .loop .inv .2)

@@ -1,11 +1,9 @@
 use mathlib.Core.Bool.{false}
 use mathlib.Core.Path.{_≡_, sym, _∙_}
-use native.Mathlib.Omega.{arith}
 use lib.ListN.{getD}
 use Rattle.reading.specs.Arrays.{countsAt}
-use Rattle.reading.proofs.Counting.{counts-read, counts-below}
+use Rattle.reading.proofs.Counting.{counts-read, counts-below, counts-inside, field-asks}
 use Rattle.reading.proofs.Heights.{child-here, child-none}
-use borrow.Author.Needs.{needs}
 use Rattle.reading.proofs.tree.child_height.Statement.{statement}
 use Rattle.reading.proofs.tree.child_height.Tie as tie
 
@@ -18,24 +16,18 @@ hit c =
     (start c .pre .2) (c .before .digit .ensures) (c .counts .ensures)
 
 digit-requires : tie.Need-digit-requires
-digit-requires c κs = search needs
+digit-requires c κs = c .before .before .pre .0 .inside
 
 counts-requires : tie.Need-counts-requires
-counts-requires c κs = search needs
+counts-requires c κs = tt
 
 field-requires : tie.Need-field-requires
-field-requires c κs = search needs
+field-requires c κs = field-asks (c .before .before .before .before .before .pre .0)
 
 shared-slice-read-result : tie.Need-shared-slice-read-result
 shared-slice-read-result c =
     let r = c .before .before .before in
-    let s = start r in
-    omega (
-      arith,
-      s .pre .1,
-      c .before .field .ensures,
-      counts-below false (s .args .table .now) (s .args .at) (s .args .n) (s .args .i) (s .pre .0) (sym (hit r) ∙ c .before .before .if1 .taken),
-    )
+    counts-inside false _ _ _ _ (start r .pre .0) (sym (hit r) ∙ c .before .before .if1 .taken) (c .before .field .ensures) (start r .pre .1)
 
 returns : tie.Need-returns
 returns c =

@@ -1,7 +1,6 @@
 use mathlib.Core.Path.{_≡_}
 use Rattle.reading.specs.Arrays.{countsAt}
-use Rattle.reading.proofs.Counting.{counts-read, bump-pre, bumped-field}
-use borrow.Author.Needs.{needs}
+use Rattle.reading.proofs.Counting.{counts-read, bump-pre, bumped-field, field-asks}
 use Rattle.reading.proofs.tree.count_field.Statement.{statement}
 use Rattle.reading.proofs.tree.count_field.Tie as tie
 
@@ -15,13 +14,13 @@ hit c =
     (start c .pre .3) (r .ensures) (c .before .before .counts .ensures)
 
 digit-requires : tie.Need-digit-requires
-digit-requires c κs = search needs
+digit-requires c κs = c .before .before .pre .0 .inside
 
 counts-requires : tie.Need-counts-requires
-counts-requires c κs = search needs
+counts-requires c κs = tt
 
 field-requires : tie.Need-field-requires
-field-requires c κs = search needs
+field-requires c κs = field-asks (c .before .before .before .before .before .pre .0)
 
 bump-requires : tie.Need-bump-requires
 bump-requires c κs =
@@ -30,7 +29,7 @@ bump-requires c κs =
     (s .pre .0) (s .pre .1) (s .pre .2)
 
 same-length : tie.Need-same-length
-same-length c = search needs
+same-length c = c .before .before .bump .kept .0
 
 returns : tie.Need-returns
 returns c =

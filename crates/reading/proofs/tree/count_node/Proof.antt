@@ -1,10 +1,11 @@
+use lib.Dec.{lit<}
 use Prim.Native.Nat.{ℕ}
 use mathlib.Core.List.{List}
-use native.Mathlib.Omega.{arith}
+use mathlib.Core.Path.{_≡_, _∙_}
+use lib.ListN.{length}
 use Rattle.table.specs.Layout.{fieldAt}
 use Rattle.reading.specs.Arrays.{countsAt}
-use Rattle.reading.proofs.Counting.{Low, low-room, counted-low, bumped-low, counted-more}
-use borrow.Author.Needs.{needs}
+use Rattle.reading.proofs.Counting.{Low, low-room, counted-low, bumped-low, counted-more, node-in, field-in}
 use Rattle.reading.proofs.tree.count_node.Statement.{statement}
 use Rattle.reading.proofs.tree.count_node.Tie as tie
 
@@ -19,6 +20,12 @@ counted₁ c = c .count-field .last .1 .1 .1 .1 .1 .0
 
 abbrev counted₂ : tie.After-count-field2 → List ℕ
 counted₂ c = c .count-field2 .last .1 .1 .1 .1 .1 .0
+
+long₁ : (c : tie.After-count-field) → length (counted₁ c) ≡ length (turn₁ c .args .counted .now)
+long₁ c = c .count-field .kept .1 .1 .1 .1 .1 .0
+
+long₂ : (c : tie.After-count-field2) → length (counted₂ c) ≡ length (turn₁ (turn₂ c) .args .counted .now)
+long₂ c = c .count-field2 .kept .1 .1 .1 .1 .1 .0 ∙ long₁ (turn₂ c)
 
 -- No count is above three for each node before, and one for each field before.
 low₀ : (s : tie.Start) → Low 1536 (s .args .counted .now)
@@ -37,25 +44,27 @@ low₂ c =
     (c .count-field2 .kept .1 .1 .1 .1 .1 .0) (low₁ (turn₂ c)) (c .count-field2 .ensures)
 
 node-row-requires : tie.Need-node-row-requires
-node-row-requires c κs = search needs
+node-row-requires c κs = node-in (c .before .before .pre .0) (c .before .before .pre .1)
 
 count-field-requires : tie.Need-count-field-requires
 count-field-requires c κs =
     let s = c .before .before .before .before in
-    (search needs, s .pre .2, low-room 1536 (s .args .counted .now) (omega arith) (low₀ s), search needs)
+    (field-in (s .pre .0) (s .pre .1) (lit< tt), s .pre .2, low-room 1536 (s .args .counted .now) (lit< tt) (low₀ s), c .before .node-row .ensures)
 
 count-field-requires-2 : tie.Need-count-field-requires-2
 count-field-requires-2 c κs =
-    let b = c .before .before .before in
-    (search needs, search needs, low-room 1537 (counted₁ b) (omega arith) (low₁ b), search needs)
+    let s = c .before .before .before .before .before .before .before .before in
+    let b₀ = c .before .before .before in
+    (field-in (s .pre .0) (s .pre .1) (lit< tt), long₁ b₀ ∙ s .pre .2, low-room 1537 (counted₁ b₀) (lit< tt) (low₁ b₀), c .before .before .before .before .before .node-row .ensures)
 
 count-field-requires-3 : tie.Need-count-field-requires-3
 count-field-requires-3 c κs =
-    let b = c .before .before .before in
-    (search needs, search needs, low-room 1538 (counted₂ b) (omega arith) (low₂ b), search needs)
+    let s = c .before .before .before .before .before .before .before .before .before .before .before .before in
+    let b₁ = c .before .before .before in
+    (field-in (s .pre .0) (s .pre .1) (lit< tt), long₂ b₁ ∙ s .pre .2, low-room 1538 (counted₂ b₁) (lit< tt) (low₂ b₁), c .before .before .before .before .before .before .before .before .before .node-row .ensures)
 
 same-length : tie.Need-same-length
-same-length c = search needs
+same-length c = c .before .before .count-field3 .kept .1 .1 .1 .1 .1 .0 ∙ long₂ (c .before .before .before .before .before .before)
 
 returns : tie.Need-returns
 returns c =

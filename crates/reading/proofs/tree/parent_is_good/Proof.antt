@@ -1,20 +1,21 @@
+use native.Mathlib.Nat.{lt-of-lt-of-le}
+use Rattle.table.proofs.Least.{next-fits}
 use mathlib.Core.Path.{sym, _∙_}
 use Rattle.reading.proofs.Counting.{parent-last, parent-other}
-use borrow.Author.Needs.{needs}
 use Rattle.reading.proofs.tree.parent_is_good.Statement.{statement}
 use Rattle.reading.proofs.tree.parent_is_good.Tie as tie
 
 add-if1 : tie.Need-add-if1
-add-if1 c = search needs
+add-if1 c = next-fits 512 (lt-of-lt-of-le (c .before .pre .0 .below) (c .before .pre .0 .laid .header .few-nodes)) tt
 
 nodes-requires : tie.Need-nodes-requires
-nodes-requires c κs = search needs
+nodes-requires c κs = c .before .pre .0 .laid .header .long
 
 kind-requires : tie.Need-kind-requires
-kind-requires c κs = search needs
+kind-requires c κs = c .before .before .before .pre .0
 
 category-requires : tie.Need-category-requires
-category-requires c κs = search needs
+category-requires c κs = tt
 
 returns : tie.Need-returns
 returns c = parent-last _ _ _ _ (c .before .before .if1 .taken ∙ c .before .before .before .nodes .ensures) (c .before .kind .ensures) (c .category .ensures)
