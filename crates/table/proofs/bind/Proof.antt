@@ -5,7 +5,7 @@ use Rattle.table.proofs.bind.Statement.{statement}
 use Rattle.table.proofs.bind.Tie as tie
 
 givens-requires : tie.Need-givens-requires
-givens-requires c κs = search needs
+givens-requires c κs = c .before .pre .0 .long
 
 mul-word : tie.Need-mul-word
 mul-word c = search needs
