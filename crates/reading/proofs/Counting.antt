@@ -158,9 +158,9 @@ sort-below : (b : Bool) (tb : Table) (n : ℕ) (f : Field) (x : ℕ) → sortOf 
 sort-below true tb n f x e h = omega (arith, binder-lt tb n f x e h)
 sort-below false tb n f x e h = omega (arith, child-lt tb n f x e h)
 
--- So a word that counts is below 512.
-pub counts-below : (b : Bool) (bs : List ℕ) (at n i : ℕ) → FieldIn bs at n i → countsAt b bs n i ≡ true → fieldAt bs n i < 512
-counts-below b bs at n i f e =
+-- So an array of length 512 reaches a word that counts.
+pub counts-inside : (b : Bool) (bs : List ℕ) (at n i : ℕ) → FieldIn bs at n i → countsAt b bs n i ≡ true → {x m : ℕ} → x ≡ fieldAt bs n i → m ≡ 512 → x < m
+counts-inside b bs at n i f e word long =
     let tb : Table = tableOf bs in
     let d : Node = nodeAt (tb .nodes) n in
     let r : FieldRight tb n (getD (fieldsAt d) i unused) (getD (fieldWords d) i 0) =
@@ -173,9 +173,6 @@ counts-below b bs at n i f e =
       f .fielded .laid .header .identifiers,
       sort-below b tb n (getD (fieldsAt d) i unused) (getD (fieldWords d) i 0) e r,
     )
-
-pub counts-inside : (b : Bool) (bs : List ℕ) (at n i : ℕ) → FieldIn bs at n i → countsAt b bs n i ≡ true → {x m : ℕ} → x ≡ fieldAt bs n i → m ≡ 512 → x < m
-counts-inside b bs at n i f e word long = rw (word, long) (counts-below b bs at n i f e)
 
 -- No count is above k.
 abbrev pub Low : ℕ → List ℕ → Type 0
@@ -196,7 +193,7 @@ module _ (b : Bool) (bs : List ℕ) (at n i : ℕ) (c : List ℕ) (hit : Bool) (
   pub bump-pre : FieldIn bs at n i → length c ≡ 512 → Room c → BumpPre c hit x
   bump-pre f long room = record {
     some = omega arith;
-    inside = λ e. omega (arith, counts-below b bs at n i f (sym eh ∙ e));
+    inside = λ e. counts-inside b bs at n i f (sym eh ∙ e) ex long;
     room = room;
   }
 

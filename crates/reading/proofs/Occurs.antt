@@ -13,16 +13,16 @@ use borrow.Author.Tests.{eq-eqb, ne-eqb}
 use mir.Val.{boolByte}
 use Rattle.rules.specs.Kinds.{Kind, kindOf, predicate, expression, isChild, isBinder}
 use Rattle.rules.specs.Kinds.{Field, unused, child, use-of, binder-of, setNumber, elementNumber, anyWord, truthBit}
-use Rattle.rules.specs.Tables.{Node, Table, tableOf, nodeAt, fieldsAt, fieldsIf, fieldWords, keptIf, pick, held, lastNode, identifierCount, nodeCount}
+use Rattle.rules.specs.Tables.{Node, tableOf, nodeAt, fieldsAt, fieldsIf, fieldWords, keptIf, pick, held, lastNode, identifierCount, nodeCount}
 use Rattle.rules.specs.Reading.{occurrences, occursIn, occursInAny, bindsHere, occursStep, occursFree, boundRight, binders, binding}
 use Rattle.rules.specs.Readable.{Header}
 use Rattle.rules.proofs.TableLaws.{fields-right, nodes-length, occursFree-at}
 use Rattle.table.specs.Codes.{fieldOf}
-use Rattle.table.specs.Layout.{Fielded, fieldAt, WordOf}
+use Rattle.table.specs.Layout.{Fielded, holdsAt, fieldAt, WordOf}
 use Rattle.reading.specs.Arrays.{flag, Occurs, FieldIn, countsAt, Counted}
 use Rattle.table.proofs.Access.{by-code, field-far}
 use Rattle.table.proofs.Fields.{by-fields}
-use Rattle.reading.proofs.Counting.{field-right, child-lt, counts-below, counted-all}
+use Rattle.reading.proofs.Counting.{field-right, child-lt, counts-inside, counted-all}
 
 kept-once : (p : Bool) (x y : ℕ) → leb 1 (occurrences x (keptIf p y [])) ≡ (p && eqb x y)
 unfolding occurrences
@@ -82,18 +82,16 @@ child-at bs at n i p h e =
     (field-right isChild refl (tableOf bs) n (fieldsAt d) (fieldWords d) i
     (fields-right (tableOf bs) n (kindOf (d .kind)) (fieldWords d) (p .fields n h)) e)
 
-child-field : (c : ℕ) → 1 ≤ c → c ≤ 2 → isChild (fieldOf c) ≡ true
+child-field : (c : ℕ) → 1 ≤ c → c < 3 → isChild (fieldOf c) ≡ true
 child-field zero lo hi = absurd (omega arith)
 child-field (suc zero) lo hi = refl
 child-field (suc (suc zero)) lo hi = refl
 child-field (suc (suc (suc c))) lo hi = absurd (omega arith)
 
 -- A field with the code of a child holds a word below 512.
-pub child-inside : (bs : List ℕ) (at n i c y m : ℕ) → FieldIn bs at n i → 1 ≤ c → c ≤ 2 →
-    fieldOf c ≡ getD (fieldsAt (nodeAt (tableOf bs .nodes) n)) i unused → y ≡ fieldAt bs n i → m ≡ 512 → y < m
-child-inside bs at n i c y m f lo hi code word long =
-    let e : countsAt false bs n i ≡ true = rw (← code) (child-field c lo hi) in
-    omega (arith, counts-below false bs at n i f e)
+pub child-inside : (bs : List ℕ) (at n i c y m : ℕ) → FieldIn bs at n i → 1 ≤ c → c < 3 → fieldOf c ≡ holdsAt bs n i → y ≡ fieldAt bs n i →
+    m ≡ 512 → y < m
+child-inside bs at n i c y m f lo hi code word long = counts-inside false bs at n i f (rw (← code) (child-field c lo hi)) word long
 
 -- Free occurrence in a node asks only for the node's children.
 occursIn-same : (x : ℕ) (b : Bool) (h k : ℕ → Bool) (f : Field) (y : ℕ) → (isChild f ≡ true → h y ≡ k y) → occursIn x b h f y ≡ occursIn x b k f y
@@ -157,7 +155,7 @@ occurs-none x b occ y =
     (λ c h p q r. rw (field-far c h))
 
 -- Those that hold a child: x occurs free there where it does in the child, but not in the body of its own binder.
-occurs-child : (x : ℕ) (b : Bool) (occ : ℕ → Bool) (y c : ℕ) → 1 ≤ c → c ≤ 2 → (not (b && eqb c 1) && occ y) ≡ occursIn x b occ (fieldOf c) y
+occurs-child : (x : ℕ) (b : Bool) (occ : ℕ → Bool) (y c : ℕ) → 1 ≤ c → c < 3 → (not (b && eqb c 1) && occ y) ≡ occursIn x b occ (fieldOf c) y
 occurs-child x b occ y zero lo hi = absurd (omega arith)
 occurs-child x true occ y (suc zero) lo hi = refl
 occurs-child x false occ y (suc zero) lo hi = refl
@@ -167,7 +165,7 @@ occurs-child x b occ y (suc (suc (suc c))) lo hi = absurd (omega arith)
 
 -- What a field makes occur free, by its code.
 module _ (x : ℕ) (b : Bool) (occ : ℕ → Bool) (c y v : ℕ) (f : Field) (code : fieldOf c ≡ f) (word : y ≡ v) where
-  module _ (body : Bool) (tested : body ≡ (b && eqb c 1)) (lo : 1 ≤ c) (hi : c ≤ 2) where
+  module _ (body : Bool) (tested : body ≡ (b && eqb c 1)) (lo : 1 ≤ c) (hi : c < 3) where
     pub occurs-bound : body ≡ true → false ≡ occursIn x b occ f v
     occurs-bound e = rw (← code, ← word, ← occurs-child x b occ y c lo hi, ← tested, e)
 
@@ -177,8 +175,11 @@ module _ (x : ℕ) (b : Bool) (occ : ℕ → Bool) (c y v : ℕ) (f : Field) (co
   pub occurs-used : c ≡ 3 → eqb x y ≡ occursIn x b occ f v
   occurs-used e = rw (← code, e, word)
 
-  pub occurs-other : (c ≡ 1 → ⊥) → (c ≡ 2 → ⊥) → (c ≡ 3 → ⊥) → false ≡ occursIn x b occ f v
-  occurs-other p q r = rw (← code, ← word) (occurs-none x b occ y c p q r)
+  pub occurs-unused : c < 1 → false ≡ occursIn x b occ f v
+  occurs-unused h = rw (← code, ← word) (occurs-none x b occ y c (λ e. omega arith) (λ e. omega arith) (λ e. omega arith))
+
+  pub occurs-beyond : 3 ≤ c → (c ≡ 3 → ⊥) → false ≡ occursIn x b occ f v
+  occurs-beyond h e = rw (← code, ← word) (occurs-none x b occ y c (λ q. omega arith) (λ q. omega arith) e)
 
 bound-free : (w t : ℕ) (o : Bool) → w ≡ 0 → eqb t 0 ≡ boundRight w t o
 bound-free zero t o e = refl

@@ -1,6 +1,5 @@
 -- The number and the place, in the terms of document 01, of what this crate's functions answer.
 use Prim.Native.Nat.{ℕ}
-use mathlib.Core.Path.{_≡_}
 use mathlib.Core.List.{List}
 use Rattle.rules.specs.Ends.{End, done, refused, _>>=_, requireAll}
 use Rattle.rules.specs.Tables.{Table, tableOf, givenCount, identifierCount, nodeCount}

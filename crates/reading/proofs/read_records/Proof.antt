@@ -1,4 +1,4 @@
--- Stages 4 to 6 of `reading`, then the tree. 
+-- Stages 4 to 6 of `reading`, then the tree.
 use Rattle.reading.specs.Answers.{readingRecords}
 use Rattle.reading.proofs.Stages.{stage-refused, stage-passed, nodes-fielded}
 use Rattle.reading.proofs.read_records.Statement.{statement}

@@ -1,7 +1,7 @@
 -- Stages 7 to 9 of `reading`, in order.
+use mathlib.Core.Path.{refl}
 use Rattle.reading.specs.Answers.{readingTree}
 use Rattle.reading.proofs.Stages.{stage-refused, stage-passed}
-use mathlib.Core.Path.{refl}
 use Rattle.reading.proofs.read_tree.Statement.{statement}
 use Rattle.reading.proofs.read_tree.Tie as tie
 

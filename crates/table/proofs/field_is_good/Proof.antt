@@ -1,7 +1,7 @@
 -- One case for each code, as in `fieldGood`.
-use lib.Dec.{lit<}
 use mathlib.Core.Logic.{⊎-elim, inl, inr}
 use native.Mathlib.Omega.{arith}
+use lib.Dec.{lit<}
 use Rattle.table.proofs.Fields.{good-given, good-element, good-word, good-truth, good-child, good-identifier, good-none}
 use Rattle.table.proofs.field_is_good.Statement.{statement}
 use Rattle.table.proofs.field_is_good.Tie as tie

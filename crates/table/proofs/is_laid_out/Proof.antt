@@ -1,5 +1,5 @@
 -- The words read are those of `laidOut`.
-use borrow.Author.Needs.{needs}
+use native.Mathlib.Omega.{arith}
 use Rattle.table.proofs.Access.{laid-read, in-header}
 use Rattle.table.proofs.is_laid_out.Statement.{statement}
 use Rattle.table.proofs.is_laid_out.Tie as tie
@@ -8,28 +8,28 @@ word-requires : tie.Need-word-requires
 word-requires c κs = in-header (c .before .pre) tt
 
 mul-identifiers-at : tie.Need-mul-identifiers-at
-mul-identifiers-at c = search needs
+mul-identifiers-at c = omega arith
 
 add-identifiers-at : tie.Need-add-identifiers-at
-add-identifiers-at c = search needs
+add-identifiers-at c = omega arith
 
 word-requires-2 : tie.Need-word-requires-2
 word-requires-2 c κs = in-header (c .before .before .pre) tt
 
 mul-nodes-at : tie.Need-mul-nodes-at
-mul-nodes-at c = search needs
+mul-nodes-at c = omega arith
 
 add-nodes-at : tie.Need-add-nodes-at
-add-nodes-at c = search needs
+add-nodes-at c = omega arith
 
 word-requires-3 : tie.Need-word-requires-3
 word-requires-3 c κs = in-header (c .before .before .before .pre) tt
 
 mul-end : tie.Need-mul-end
-mul-end c = search needs
+mul-end c = omega arith
 
 add-end : tie.Need-add-end
-add-end c = search needs
+add-end c = omega arith
 
 word-requires-4 : tie.Need-word-requires-4
 word-requires-4 c κs = in-header (c .before .before .before .before .pre) tt

@@ -1,6 +1,6 @@
 -- A known kind has three fields.
-use lib.Dec.{lit<}
 use mathlib.Core.Path.{_≡_}
+use lib.Dec.{lit<}
 use Rattle.table.specs.Layout.{rowAt}
 use Rattle.table.proofs.Fields.{node-unknown, node-read, row-read}
 use Rattle.table.proofs.node_is_good.Statement.{statement}

@@ -1,10 +1,10 @@
 -- Only the first field of a kind binds.
-use lib.Dec.{lit<}
 use mathlib.Core.Path.{_≡_}
+use lib.Dec.{lit<}
 use Rattle.table.specs.Codes.{fieldOf}
 use Rattle.table.specs.Layout.{holdsAt}
-use Rattle.reading.proofs.Occurs.{binds-hit, binds-miss}
 use Rattle.table.proofs.Fields.{code-read}
+use Rattle.reading.proofs.Occurs.{binds-hit, binds-miss}
 use Rattle.reading.proofs.binding.binds.Statement.{statement}
 use Rattle.reading.proofs.binding.binds.Tie as tie
 

@@ -12,13 +12,13 @@ binds-requires : tie.Need-binds-requires
 binds-requires c κs = (node-in (c .before .before .before .pre .0) (c .before .before .before .pre .1), c .node-row .ensures)
 
 field-occurs-requires : tie.Need-field-occurs-requires
-field-occurs-requires c κs = (field-in (c .before .before .before .before .pre .0) (c .before .before .before .before .pre .1) (lit< tt), c .before .before .before .before .pre .2, c .before .node-row .ensures)
+field-occurs-requires c κs = let p = c .before .before .before .before .pre in (field-in (p .0) (p .1) (lit< tt), p .2, c .before .node-row .ensures)
 
 field-occurs-requires-2 : tie.Need-field-occurs-requires-2
-field-occurs-requires-2 c κs = (field-in (c .before .before .before .before .before .pre .0) (c .before .before .before .before .before .pre .1) (lit< tt), c .before .before .before .before .before .pre .2, c .before .before .node-row .ensures)
+field-occurs-requires-2 c κs = let p = c .before .before .before .before .before .pre in (field-in (p .0) (p .1) (lit< tt), p .2, c .before .before .node-row .ensures)
 
 field-occurs-requires-3 : tie.Need-field-occurs-requires-3
-field-occurs-requires-3 c κs = (field-in (c .before .before .before .before .before .before .pre .0) (c .before .before .before .before .before .before .pre .1) (lit< tt), c .before .before .before .before .before .before .pre .2, c .before .before .before .node-row .ensures)
+field-occurs-requires-3 c κs = let p = c .before .before .before .before .before .before .pre in (field-in (p .0) (p .1) (lit< tt), p .2, c .before .before .before .node-row .ensures)
 
 either-requires : tie.Need-either-requires
 either-requires c κs = tt

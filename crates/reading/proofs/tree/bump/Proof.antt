@@ -1,7 +1,7 @@
+use Prim.Native.Nat.{_<_}
 use mathlib.Core.Bool.{cond}
 use mathlib.Core.Logic.{⊎-elim}
 use mathlib.Core.Path.{_≡_}
-use Prim.Native.Nat.{_<_}
 use lib.ListN.{length}
 use borrow.Author.Needs.{needs, scaled-fits}
 use Rattle.reading.proofs.Counting.{bumped, bump-inside, bump-room}

@@ -2,7 +2,7 @@ use mathlib.Core.Bool.{false}
 use mathlib.Core.Path.{_≡_, sym, _∙_}
 use lib.ListN.{getD}
 use Rattle.reading.specs.Arrays.{countsAt}
-use Rattle.reading.proofs.Counting.{counts-read, counts-below, counts-inside, field-asks}
+use Rattle.reading.proofs.Counting.{counts-read, counts-inside, field-asks}
 use Rattle.reading.proofs.Heights.{child-here, child-none}
 use Rattle.reading.proofs.tree.child_height.Statement.{statement}
 use Rattle.reading.proofs.tree.child_height.Tie as tie

@@ -1,7 +1,7 @@
-use lib.Dec.{lit<}
 use Prim.Native.Nat.{ℕ}
 use mathlib.Core.List.{List}
 use mathlib.Core.Path.{_≡_, _∙_}
+use lib.Dec.{lit<}
 use lib.ListN.{length}
 use Rattle.table.specs.Layout.{fieldAt}
 use Rattle.reading.specs.Arrays.{countsAt}

@@ -1,11 +1,11 @@
-use native.Mathlib.Nat.{lt-of-lt-of-le}
-use Rattle.table.proofs.Least.{below, at-end, next-fits}
-use native.Mathlib.Numerals.{add-one-le}
-use borrow.Author.Count.{falls}
-use Prim.Native.Nat.{ℕ, _≤_, _-_, zero-le}
+use Prim.Native.Nat.{ℕ, _≤_, _-_, zero-le, _<_}
 use mathlib.Core.Path.{_≡_, subst, refl, _∙_}
+use native.Mathlib.Nat.{lt-of-lt-of-le}
+use native.Mathlib.Numerals.{add-one-le}
 use lib.ListN.{length}
+use borrow.Author.Count.{falls}
 use Rattle.rules.specs.Tables.{nodeCount}
+use Rattle.table.proofs.Least.{below, at-end, next-fits}
 use Rattle.reading.specs.Arrays.{Counted}
 use Rattle.reading.proofs.tree.count_nodes.Statement.{statement}
 use Rattle.reading.proofs.tree.count_nodes.Tie as tie
@@ -16,6 +16,13 @@ Inv-loop table at counted₀ binders count n₀ counted n = (n ≤ count) × (le
 abbrev μ-loop : tie.MeasureT-loop
 μ-loop table at counted₀ binders count n₀ counted n = count - n
 
+-- The loop is at a node, of which there are few.
+inside : (c : tie.In-loop Inv-loop μ-loop) → c .before .loop .n < nodeCount (c .before .before .before .before .before .args .table .now)
+inside c = below (c .loop-test .taken) (c .before .before .nodes .ensures)
+
+few : (c : tie.In-loop Inv-loop μ-loop) → c .before .loop .n < 512
+few c = lt-of-lt-of-le (inside c) (c .before .before .before .before .before .pre .0 .laid .header .few-nodes)
+
 nodes-requires : tie.Need-nodes-requires Inv-loop μ-loop
 nodes-requires c κs = c .before .before .pre .0 .laid .header .long
 
@@ -23,10 +30,13 @@ loop-holds : tie.Need-loop-holds Inv-loop μ-loop
 loop-holds c = (zero-le, refl, c .before .before .before .pre .2)
 
 count-node-requires : tie.Need-count-node-requires Inv-loop μ-loop
-count-node-requires c κs = (c .before .before .before .before .before .before .pre .0, below (c .before .loop-test .taken) (c .before .before .before .nodes .ensures), c .before .before .loop .inv .1 ∙ c .before .before .before .before .before .before .pre .1, c .before .before .loop .inv .2)
+count-node-requires c κs =
+    let p = c .before .before .before .before .before .before .pre in
+    let l = c .before .before .loop in
+    (p .0, inside (c .before), l .inv .1 ∙ p .1, l .inv .2)
 
 add-n : tie.Need-add-n Inv-loop μ-loop
-add-n c = next-fits 512 (lt-of-lt-of-le (below (c .before .before .before .before .loop-test .taken) (c .before .before .before .before .before .before .nodes .ensures)) (c .before .before .before .before .before .before .before .before .before .pre .0 .laid .header .few-nodes)) tt
+add-n c = next-fits 512 (few (c .before .before .before .before)) tt
 
 loop-less : tie.Need-loop-less Inv-loop μ-loop
 loop-less c = falls _ _ (c .before .before .before .before .loop-test .taken)

@@ -1,6 +1,6 @@
+use mathlib.Core.Path.{sym, _∙_}
 use native.Mathlib.Nat.{lt-of-lt-of-le}
 use Rattle.table.proofs.Least.{next-fits}
-use mathlib.Core.Path.{sym, _∙_}
 use Rattle.reading.proofs.Counting.{parent-last, parent-other}
 use Rattle.reading.proofs.tree.parent_is_good.Statement.{statement}
 use Rattle.reading.proofs.tree.parent_is_good.Tie as tie

@@ -1,7 +1,7 @@
-use lib.Dec.{lit<}
-use Rattle.reading.proofs.Counting.{node-in, field-in}
 use Prim.Native.Nat.{ℕ}
+use lib.Dec.{lit<}
 use lib.ListN.{getD}
+use Rattle.reading.proofs.Counting.{node-in, field-in}
 use Rattle.reading.proofs.Heights.{tallest-held}
 use Rattle.reading.proofs.tree.tallest_child.Statement.{statement}
 use Rattle.reading.proofs.tree.tallest_child.Tie as tie
@@ -10,13 +10,13 @@ node-row-requires : tie.Need-node-row-requires
 node-row-requires c κs = node-in (c .before .before .pre .0) (c .before .before .pre .1)
 
 child-height-requires : tie.Need-child-height-requires
-child-height-requires c κs = (field-in (c .before .before .before .pre .0) (c .before .before .before .pre .1) (lit< tt), c .before .before .before .pre .2, c .node-row .ensures)
+child-height-requires c κs = let p = c .before .before .before .pre in (field-in (p .0) (p .1) (lit< tt), p .2, c .node-row .ensures)
 
 child-height-requires-2 : tie.Need-child-height-requires-2
-child-height-requires-2 c κs = (field-in (c .before .before .before .before .pre .0) (c .before .before .before .before .pre .1) (lit< tt), c .before .before .before .before .pre .2, c .before .node-row .ensures)
+child-height-requires-2 c κs = let p = c .before .before .before .before .pre in (field-in (p .0) (p .1) (lit< tt), p .2, c .before .node-row .ensures)
 
 child-height-requires-3 : tie.Need-child-height-requires-3
-child-height-requires-3 c κs = (field-in (c .before .before .before .before .before .pre .0) (c .before .before .before .before .before .pre .1) (lit< tt), c .before .before .before .before .before .pre .2, c .before .before .node-row .ensures)
+child-height-requires-3 c κs = let p = c .before .before .before .before .before .pre in (field-in (p .0) (p .1) (lit< tt), p .2, c .before .before .node-row .ensures)
 
 larger-requires : tie.Need-larger-requires
 larger-requires c κs = tt
