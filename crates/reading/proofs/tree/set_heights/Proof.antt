@@ -1,6 +1,7 @@
 use Prim.Native.Nat.{_-_, _<_}
 use mathlib.Core.Path.{_≡_, _∙_, refl, sym}
 use native.Mathlib.Nat.{not-suc-le-zero, lt-of-lt-of-le}
+use native.Mathlib.Omega.{arith}
 use lib.ListN.{length, length-set}
 use borrow.Author.Count.{falls}
 use Rattle.rules.specs.Tables.{tableOf, nodeCount}
@@ -52,7 +53,7 @@ returns c =
     )
 
 add-heights : tie.Need-add-heights Inv-loop μ-loop
-add-heights c = next-fits 40 (c .if1 .left) tt
+add-heights c = omega arith
 
 slice-write-heights : tie.Need-slice-write-heights Inv-loop μ-loop
 slice-write-heights c = reached c
