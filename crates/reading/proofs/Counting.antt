@@ -17,7 +17,7 @@ use Rattle.rules.specs.Kinds.{Field, unused, child, use-of, binder-of, setNumbe
 use Rattle.rules.specs.Tables.{Node, Table, tableOf, nodeAt, kindAt, lastNode, fieldsAt, fieldsIf, fieldWords, keptIf, pick, held, heldIn}
 use Rattle.rules.specs.Tables.{nodeCount}
 use Rattle.rules.specs.Reading.{occurrences, parentGood}
-use Rattle.rules.specs.Readable.{FieldRight, FieldsRight}
+use Rattle.rules.specs.Readable.{Header, FieldRight, FieldsRight}
 use Rattle.rules.proofs.TableLaws.{nodes-length, binds-length, fields-right}
 use Rattle.table.specs.Codes.{fieldOf, categoryCode, DigitOf}
 use Rattle.table.specs.Layout.{NodeIn, Fielded, sortOf, rowAt, fieldAt}
@@ -34,6 +34,14 @@ module _ {bs : List ℕ} {at n : ℕ} where
 
   pub field-asks : {i : ℕ} → FieldIn bs at n i → NodeIn bs at n × (i < 3)
   field-asks f = (node-in (f .fielded) (f .below), f .inside)
+
+-- There is a last node, and an array of length 512 reaches it.
+module _ {bs : List ℕ} {i : ℕ} (e : i ≡ nodeCount bs) (h : Header bs) where
+  pub last-here : 1 ≤ i
+  last-here = omega (arith, h .some-node)
+
+  pub last-inside : i - 1 < 512
+  last-inside = omega (arith, h .some-node, h .few-nodes)
 
 -- A field that is not used is of no sort that is counted.
 pub sort-unused : (b : Bool) → sortOf b unused ≡ false

@@ -134,13 +134,6 @@ occurs-turn bs at x n c o p h l s e m m< = go (ℕ-discrete m n)
     go (no q) = rw (getD-set-other c n m (boolByte o) 0 q) (s m (omega arith))
 
 -- The last node is the root.
-module _ {bs : List ℕ} {i : ℕ} (e : i ≡ nodeCount bs) (h : Header bs) where
-  pub last-here : 1 ≤ i
-  last-here = omega (arith, h .some-node)
-
-  pub last-inside : i - 1 < 512
-  last-inside = omega (arith, h .some-node, h .few-nodes)
-
 pub occurs-root : (bs : List ℕ) (at x i n : ℕ) (c : List ℕ) → Fielded bs at → i ≡ nodeCount bs → i ≤ n → Occurs bs x n c →
     eqb (getD c (i - 1) 0) 1 ≡ occursFree (tableOf bs .nodes) x (lastNode (tableOf bs .nodes))
 unfolding lastNode

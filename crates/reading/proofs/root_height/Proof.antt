@@ -1,6 +1,6 @@
 use mathlib.Core.Path.{refl, _∙_}
 use Rattle.table.specs.Layout.{Laid}
-use Rattle.reading.proofs.Occurs.{last-here, last-inside}
+use Rattle.reading.proofs.Counting.{last-here, last-inside}
 use Rattle.reading.proofs.Heights.{root-height}
 use Rattle.reading.proofs.Promise.{readable-fielded}
 use Rattle.reading.proofs.root_height.Statement.{statement}

@@ -8,7 +8,8 @@ use borrow.Author.Count.{falls}
 use Rattle.rules.specs.Tables.{nodeCount}
 use Rattle.table.proofs.Least.{below, next-fits}
 use Rattle.reading.specs.Arrays.{Occurs}
-use Rattle.reading.proofs.Occurs.{occurs-turn, occurs-root, last-here, last-inside}
+use Rattle.reading.proofs.Counting.{last-here, last-inside}
+use Rattle.reading.proofs.Occurs.{occurs-turn, occurs-root}
 use Rattle.reading.proofs.binding.occurs_free.Statement.{statement}
 use Rattle.reading.proofs.binding.occurs_free.Tie as tie
 
