@@ -6,9 +6,9 @@ use mathlib.Core.Logic.{_≢_}
 use mathlib.Core.Option.{Option, none as nothing}
 use mathlib.Core.Path.{_≡_, refl, sym, ap, ap₂, _∙_}
 use native.Mathlib.Omega.{arith}
-use native.Mathlib.Nat.{add-comm}
-use native.Mathlib.Decide.{ℕ-discrete, decLt}
-use lib.Dec.{eqb, leb, eqb→eq}
+use native.Mathlib.Nat.{le-trans, add-comm}
+use native.Mathlib.Decide.{decLt}
+use lib.Dec.{T, eqb, leb, eqb→eq, lit≤}
 use lib.ListN.{length, getD, List·getD-eq-default, List·getD-map}
 use borrow.Author.Tests.{le-leb, lt-leb, ne-eqb}
 use Rattle.rules.specs.Kinds.{Kind, kinds, kindOf, predicate, expression, isChild, isBinder}
@@ -153,6 +153,10 @@ row-unknown k h = rw (far-kind k h)
 pub word-sum : (bs : List ℕ) (at a b c d : ℕ) → a ≡ getD bs at 0 → b ≡ getD bs (at + 1) 0 → c ≡ getD bs (at + 2) 0 → d ≡ getD bs (at + 3) 0 →
     a + 256 * b + 65536 * c + 16777216 * d ≡ wordAt bs at
 word-sum bs at a b c d p q r s = rw (p, q, r, s, add-comm at 1, add-comm at 2, add-comm at 3)
+
+-- A word that ends in the header ends in the table.
+pub in-header : {end n : ℕ} → 32 ≤ n → T (leb end 32) → end ≤ n
+in-header h t = le-trans (lit≤ t) h
 
 -- Refusals 1 to 3 from the words that the code reads.
 pub headed-short : (bs : List ℕ) → length bs < 32 → false ≡ headed bs

@@ -1,12 +1,17 @@
 -- Loops that look for the least number that fails a test: they end at it, or at the bound where all pass.
-use Prim.Native.Nat.{ℕ, _+_, _≤_, _<_}
+use Prim.Native.Nat.{ℕ, _+_, _≤_, _<_, _^_}
 use mathlib.Core.Bool.{Bool, true, false}
-use mathlib.Core.Path.{_≡_, sym, ap}
+use mathlib.Core.Path.{_≡_, sym, ap, _∙_}
 use native.Mathlib.Decide.{ℕ-discrete}
+use native.Mathlib.Nat.{le-of-eq, le-trans, le-antisymm, lt-of-lt-of-le, lt-of-le-of-lt}
+use native.Mathlib.Numerals.{add-one-le}
 use native.Mathlib.Omega.{arith}
+use lib.Dec.{T, ltb, lit<}
+use mir.Syntax.{Width}
+use mir.Val.{Fits, bits}
 use Rattle.rules.specs.Ends.{leastFailing}
 use Rattle.rules.proofs.EndLaws.{leastFailing-none, leastFailing-some}
-use Rattle.table.specs.Answers.{foundOr}
+use Rattle.table.specs.Places.{foundOr}
 
 -- The loop's invariant: i is at most the bound, and each number below i passes.
 pub record Passing (ok : ℕ → Bool) (n i : ℕ) : Type 0 where
@@ -30,3 +35,18 @@ module _ (ok : ℕ → Bool) (n : ℕ) where
 
   pub least-none : (i : ℕ) → Passing ok n i → n ≤ i → n ≡ foundOr n (leastFailing ok 0 n)
   least-none i p h = sym (ap (foundOr n) (leastFailing-none ok 0 n .1 (λ j lo hi. p .passed j (omega arith))))
+
+-- The counter i of a loop over the m places of which a call tells that they are n.
+module _ {i m n : ℕ} where
+  pub below : i < m → m ≡ n → i < n
+  below h e = lt-of-lt-of-le h (le-of-eq e)
+
+  pub past : m ≤ i → m ≡ n → n ≤ i
+  past h e = le-trans (le-of-eq (sym e)) h
+
+  pub at-end : i ≤ m → m ≤ i → m ≡ n → i ≡ n
+  at-end l h e = le-antisymm l h ∙ e
+
+-- A number below a small one can be counted up.
+pub next-fits : {w : Width} {i : ℕ} (n : ℕ) → i < n → T (ltb n (2 ^ bits w)) → Fits w (i + 1)
+next-fits n h t = record { fits = lt-of-le-of-lt (add-one-le h) (lit< t) }

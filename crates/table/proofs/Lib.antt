@@ -1,9 +1,4 @@
--- Laws that the proofs of this crate's functions share.
+-- Laws that the proofs of this crate's functions, and of those above, share.
 pub mod Access
 pub mod Least
 pub mod Fields
-pub mod Counting
-pub mod Heights
-pub mod Occurs
-pub mod Stages
-pub mod Promise

@@ -1,4 +1,4 @@
-// Reading a table: refusals 1 to 9 of document 01, and the words of a readable table.
+// A table's words and records, and refusals 1 to 6 of document 01.
 ghost use mathlib.Core.Path.{_≡_};
 ghost use mathlib.Core.Bool.{_&&_};
 ghost use Prim.Native.Nat.{_+_, _<_, _≤_};
@@ -6,27 +6,13 @@ ghost use lib.Dec.{eqb, ltb};
 ghost use lib.ListN.{length, getD};
 ghost use Rattle.rules.specs.Kinds.{kindOf};
 ghost use Rattle.rules.specs.Tables.{wordAt, tableOf, nodeAt, fieldWords};
-ghost use Rattle.rules.specs.Tables.{givenCount, identifierCount, nodeCount, nodesAt, lastNode};
+ghost use Rattle.rules.specs.Tables.{givenCount, identifierCount, nodeCount, nodesAt};
 ghost use Rattle.rules.specs.Ends.{leastFailing};
-ghost use Rattle.rules.specs.Readable.{Header, Readable};
-ghost use Rattle.rules.specs.Reading.{reading, headed, limited, laidOut, sizeGood, bindGood, nodeGood, fieldGood, height};
-ghost use Rattle.table.specs.Answers.{readingOf, readingRecords, readingTree, foundOr};
+ghost use Rattle.rules.specs.Readable.{Header};
+ghost use Rattle.rules.specs.Reading.{headed, limited, laidOut, sizeGood, bindGood, nodeGood, fieldGood};
 ghost use Rattle.table.specs.Codes.{fieldOf, rowOf, DigitOf, categoryCode};
-ghost use Rattle.table.specs.Layout.{Laid, NodeIn, Fielded, rowAt, holdsAt, fieldAt, sortOf, WordOf};
-
-mod binding;
-mod tree;
-
-// A refusal's number and place.
-pub struct Refusal {
-    pub number: u8,
-    pub place: usize,
-}
-
-pub enum Reading {
-    Passed,
-    Refused(Refusal),
-}
+ghost use Rattle.table.specs.Layout.{Laid, NodeIn, rowAt, holdsAt, fieldAt, sortOf, WordOf};
+ghost use Rattle.table.specs.Places.{foundOr};
 
 // What the fields a, b and c of each kind code hold, a hexadecimal digit each: 0 nothing, 1 a predicate, 2 an expression,
 // 3 an identifier used, 4 an identifier bound, 5 a given set, 6 an element of that given set, 7 any word, 8 a truth.
@@ -77,7 +63,7 @@ const FIELDS: [u16; 44] = [
     0x200, // 43 choice: an expression
 ];
 
-fn wide(x: u8) -> usize
+pub fn wide(x: u8) -> usize
     ensures { λ r. ⌜ (r ≡ x) × (r < 256) ⌝ }
 {
     x as usize
@@ -95,14 +81,14 @@ pub fn word(bytes: &[u8], at: usize) -> usize
 }
 
 // Both tests, as a value with no branch for the caller's proof.
-fn both(a: bool, b: bool) -> bool
+pub fn both(a: bool, b: bool) -> bool
     ensures { λ r. ⌜ r ≡ (a && b) ⌝ }
 {
     a && b
 }
 
 // Refusal 1.
-fn is_headed(table: &[u8]) -> bool
+pub fn is_headed(table: &[u8]) -> bool
     ensures { λ r. ⌜ r ≡ headed (now (table .entry)) ⌝ }
 {
     if table.len() < 32 {
@@ -112,7 +98,7 @@ fn is_headed(table: &[u8]) -> bool
 }
 
 // Refusal 2.
-fn is_limited(table: &[u8]) -> bool
+pub fn is_limited(table: &[u8]) -> bool
     requires { ⌜ 32 ≤ length (now table) ⌝ }
     ensures { λ r. ⌜ r ≡ limited (now (table .entry)) ⌝ }
 {
@@ -124,7 +110,7 @@ fn is_limited(table: &[u8]) -> bool
 }
 
 // Refusal 3.
-fn is_laid_out(table: &[u8]) -> bool
+pub fn is_laid_out(table: &[u8]) -> bool
     requires { ⌜ 32 ≤ length (now table) ⌝ }
     ensures { λ r. ⌜ r ≡ laidOut (now (table .entry)) ⌝ }
 {
@@ -223,7 +209,7 @@ fn field_codes(kind: usize) -> u16
 }
 
 // The code of what field i holds, from the row of a kind.
-fn digit(row: u16, i: usize) -> u8
+pub fn digit(row: u16, i: usize) -> u8
     requires { ⌜ i < 3 ⌝ }
     ensures { λ r. ⌜ DigitOf row i r ⌝ }
 {
@@ -235,7 +221,7 @@ fn digit(row: u16, i: usize) -> u8
 }
 
 // The row of a node's kind. A constant table is made anew where it is read, so a node's row is read once.
-fn node_row(table: &[u8], at: usize, n: usize) -> u16
+pub fn node_row(table: &[u8], at: usize, n: usize) -> u16
     requires { ⌜ NodeIn (now table) at n ⌝ }
     ensures { λ r. ⌜ r ≡ rowAt (now (table .entry)) n ⌝ }
 {
@@ -294,7 +280,7 @@ fn node_is_good(table: &[u8], at: usize, n: usize) -> bool
 }
 
 // Refusal 4: the least given set of a wrong size, or G.
-fn first_bad_size(table: &[u8]) -> usize
+pub fn first_bad_size(table: &[u8]) -> usize
     requires { ⌜ Header (now table) ⌝ }
     ensures { λ r. ⌜ r ≡ foundOr (givenCount (now (table .entry))) (leastFailing (sizeGood (tableOf (now (table .entry)))) 0 (givenCount (now (table .entry)))) ⌝ }
 {
@@ -311,7 +297,7 @@ fn first_bad_size(table: &[u8]) -> usize
 }
 
 // Refusal 5: the least identifier whose word is neither 0 nor 1, or I.
-fn first_bad_bind(table: &[u8]) -> usize
+pub fn first_bad_bind(table: &[u8]) -> usize
     requires { ⌜ Header (now table) ⌝ }
     ensures { λ r. ⌜ r ≡ foundOr (identifierCount (now (table .entry))) (leastFailing (bindGood (tableOf (now (table .entry)))) 0 (identifierCount (now (table .entry)))) ⌝ }
 {
@@ -327,7 +313,7 @@ fn first_bad_bind(table: &[u8]) -> usize
 }
 
 // Refusal 6: the least node with a fault, or N.
-fn first_bad_node(table: &[u8], at: usize) -> usize
+pub fn first_bad_node(table: &[u8], at: usize) -> usize
     requires { ⌜ Laid (now table) at ⌝ }
     ensures { λ r. ⌜ r ≡ foundOr (nodeCount (now (table .entry))) (leastFailing (nodeGood (tableOf (now (table .entry)))) 0 (nodeCount (now (table .entry)))) ⌝ }
 {
@@ -343,86 +329,11 @@ fn first_bad_node(table: &[u8], at: usize) -> usize
 }
 
 // Whether a field with the code is of the sort that is counted.
-fn counts(code: u8, binders: bool) -> bool
+pub fn counts(code: u8, binders: bool) -> bool
     ensures { λ r. ⌜ r ≡ sortOf binders (fieldOf code) ⌝ }
 {
     if binders {
         return code == 4;
     }
     code == 1 || code == 2
-}
-
-fn refused(number: u8, place: usize) -> Reading
-    ensures { λ r. ⌜ r ≡ Reading.Refused (record { number = number; place = place }) ⌝ }
-{
-    Reading::Refused(Refusal { number, place })
-}
-
-// Refusals 7 to 9 of a table whose records are right.
-fn read_tree(table: &[u8], at: usize) -> Reading
-    requires { ⌜ Fielded (now table) at ⌝ }
-    ensures { λ r. ⌜ readingOf (now (table .entry)) r ≡ readingTree (now (table .entry)) ⌝ }
-{
-    let n = tree::first_bad_parent(table, at);
-    if n < nodes(table) {
-        return refused(7, n);
-    }
-    let m = tree::first_bad_height(table, at);
-    if m < nodes(table) {
-        return refused(8, m);
-    }
-    let x = binding::first_bad_binding(table, at);
-    if x < identifiers(table) {
-        return refused(9, x);
-    }
-    Reading::Passed
-}
-
-// Refusals 4 to 9 of a table whose header is right.
-fn read_records(table: &[u8]) -> Reading
-    requires { ⌜ Header (now table) ⌝ }
-    ensures { λ r. ⌜ readingOf (now (table .entry)) r ≡ readingRecords (now (table .entry)) ⌝ }
-{
-    let at = nodes_offset(table);
-    let g = first_bad_size(table);
-    if g < givens(table) {
-        return refused(4, g);
-    }
-    let x = first_bad_bind(table);
-    if x < identifiers(table) {
-        return refused(5, x);
-    }
-    let n = first_bad_node(table, at);
-    if n < nodes(table) {
-        return refused(6, n);
-    }
-    read_tree(table, at)
-}
-
-// Refusals 1 to 9 in order, with the least place of each.
-pub fn read(table: &[u8]) -> Reading
-    ensures { λ r. ⌜ readingOf (now (table .entry)) r ≡ reading (now (table .entry)) ⌝ }
-{
-    if !is_headed(table) {
-        return refused(1, 0);
-    }
-    if !is_limited(table) {
-        return refused(2, 0);
-    }
-    if !is_laid_out(table) {
-        return refused(3, 0);
-    }
-    read_records(table)
-}
-
-// The height of the root of a table that `read` passes.
-pub fn root_height(table: &[u8]) -> usize
-    requires { ⌜ Readable (now table) ⌝ }
-    ensures { λ r. ⌜ r ≡ height (tableOf (now (table .entry)) .nodes) (lastNode (tableOf (now (table .entry)) .nodes)) ⌝ }
-{
-    let at = nodes_offset(table);
-    let root = nodes(table) - 1;
-    let mut heights = [0u8; 512];
-    tree::set_heights(table, at, &mut heights);
-    wide(heights[root])
 }

@@ -1,17 +1,16 @@
 -- The code and the word of one field, and the test on them.
-use borrow.Author.Needs.{needs}
 use Rattle.table.proofs.Fields.{field-test}
 use Rattle.table.proofs.field_at_is_good.Statement.{statement}
 use Rattle.table.proofs.field_at_is_good.Tie as tie
 
 digit-requires : tie.Need-digit-requires
-digit-requires c κs = search needs
+digit-requires c κs = c .before .pre .1
 
 field-requires : tie.Need-field-requires
-field-requires c κs = search needs
+field-requires c κs = (c .before .before .pre .0, c .before .before .pre .1)
 
 field-is-good-requires : tie.Need-field-is-good-requires
-field-is-good-requires c κs = search needs
+field-is-good-requires c κs = c .before .before .before .pre .0
 
 returns : tie.Need-returns
 returns c =

@@ -1,25 +1,25 @@
 -- One case for each code, as in `fieldGood`.
 use mathlib.Core.Logic.{⊎-elim, inl, inr}
 use native.Mathlib.Omega.{arith}
-use borrow.Author.Needs.{needs}
+use lib.Dec.{lit<}
 use Rattle.table.proofs.Fields.{good-given, good-element, good-word, good-truth, good-child, good-identifier, good-none}
 use Rattle.table.proofs.field_is_good.Statement.{statement}
 use Rattle.table.proofs.field_is_good.Tie as tie
 
 givens-requires : tie.Need-givens-requires
-givens-requires c κs = search needs
+givens-requires c κs = c .before .before .pre .laid .header .long
 
 field-requires : tie.Need-field-requires
-field-requires c κs = search needs
+field-requires c κs = (c .before .before .pre, lit< tt)
 
 size-requires : tie.Need-size-requires
-size-requires c κs = search needs
+size-requires c κs = c .before .before .before .pre .laid .header
 
 is-child-requires : tie.Need-is-child-requires
-is-child-requires c κs = search needs
+is-child-requires c κs = c .before .before .before .before .pre
 
 identifiers-requires : tie.Need-identifiers-requires
-identifiers-requires c κs = search needs
+identifiers-requires c κs = c .before .before .before .before .before .pre .laid .header .long
 
 returns : tie.Need-returns
 returns c =

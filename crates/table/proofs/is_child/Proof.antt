@@ -1,6 +1,5 @@
 -- A node below n has a kind that can be read.
-use native.Mathlib.Omega.{arith}
-use borrow.Author.Needs.{needs}
+use native.Mathlib.Nat.{lt-trans}
 use Rattle.rules.specs.Tables.{tableOf}
 use Rattle.table.proofs.Fields.{child-above, child-read}
 use Rattle.table.proofs.is_child.Statement.{statement}
@@ -10,10 +9,10 @@ returns : tie.Need-returns
 returns c = child-above (tableOf (c .before .before .args .table .now)) _ _ (c .before .before .args .code) (c .if1 .taken)
 
 kind-requires : tie.Need-kind-requires
-kind-requires c κs = record { laid = c .before .before .pre .laid; below = omega (arith, c .before .before .pre .below) }
+kind-requires c κs = record { laid = c .before .before .pre .laid; below = lt-trans (c .if1 .left) (c .before .before .pre .below) }
 
 category-requires : tie.Need-category-requires
-category-requires c κs = search needs
+category-requires c κs = tt
 
 returns-2 : tie.Need-returns-2
 returns-2 c =

@@ -1,59 +1,59 @@
 -- The words read are those of `laidOut`.
-use borrow.Author.Needs.{needs}
-use Rattle.table.proofs.Access.{laid-read}
+use native.Mathlib.Omega.{arith}
+use Rattle.table.proofs.Access.{laid-read, in-header}
 use Rattle.table.proofs.is_laid_out.Statement.{statement}
 use Rattle.table.proofs.is_laid_out.Tie as tie
 
 word-requires : tie.Need-word-requires
-word-requires c κs = search needs
+word-requires c κs = in-header (c .before .pre) tt
 
 mul-identifiers-at : tie.Need-mul-identifiers-at
-mul-identifiers-at c = search needs
+mul-identifiers-at c = omega arith
 
 add-identifiers-at : tie.Need-add-identifiers-at
-add-identifiers-at c = search needs
+add-identifiers-at c = omega arith
 
 word-requires-2 : tie.Need-word-requires-2
-word-requires-2 c κs = search needs
+word-requires-2 c κs = in-header (c .before .before .pre) tt
 
 mul-nodes-at : tie.Need-mul-nodes-at
-mul-nodes-at c = search needs
+mul-nodes-at c = omega arith
 
 add-nodes-at : tie.Need-add-nodes-at
-add-nodes-at c = search needs
+add-nodes-at c = omega arith
 
 word-requires-3 : tie.Need-word-requires-3
-word-requires-3 c κs = search needs
+word-requires-3 c κs = in-header (c .before .before .before .pre) tt
 
 mul-end : tie.Need-mul-end
-mul-end c = search needs
+mul-end c = omega arith
 
 add-end : tie.Need-add-end
-add-end c = search needs
+add-end c = omega arith
 
 word-requires-4 : tie.Need-word-requires-4
-word-requires-4 c κs = search needs
+word-requires-4 c κs = in-header (c .before .before .before .before .pre) tt
 
 word-requires-5 : tie.Need-word-requires-5
-word-requires-5 c κs = search needs
+word-requires-5 c κs = in-header (c .before .before .before .before .before .pre) tt
 
 both-requires : tie.Need-both-requires
-both-requires c κs = search needs
+both-requires c κs = tt
 
 word-requires-6 : tie.Need-word-requires-6
-word-requires-6 c κs = search needs
+word-requires-6 c κs = in-header (c .before .before .before .before .before .before .before .pre) tt
 
 both-requires-2 : tie.Need-both-requires-2
-both-requires-2 c κs = search needs
+both-requires-2 c κs = tt
 
 word-requires-7 : tie.Need-word-requires-7
-word-requires-7 c κs = search needs
+word-requires-7 c κs = in-header (c .before .before .before .before .before .before .before .before .before .pre) tt
 
 both-requires-3 : tie.Need-both-requires-3
-both-requires-3 c κs = search needs
+both-requires-3 c κs = tt
 
 both-requires-4 : tie.Need-both-requires-4
-both-requires-4 c κs = search needs
+both-requires-4 c κs = tt
 
 returns : tie.Need-returns
 returns c =

@@ -1,26 +1,25 @@
 -- The words read are those of `limited`.
-use borrow.Author.Needs.{needs}
-use Rattle.table.proofs.Access.{limited-read}
+use Rattle.table.proofs.Access.{limited-read, in-header}
 use Rattle.table.proofs.is_limited.Statement.{statement}
 use Rattle.table.proofs.is_limited.Tie as tie
 
 word-requires : tie.Need-word-requires
-word-requires c κs = search needs
+word-requires c κs = in-header (c .before .pre) tt
 
 word-requires-2 : tie.Need-word-requires-2
-word-requires-2 c κs = search needs
+word-requires-2 c κs = in-header (c .before .before .pre) tt
 
 word-requires-3 : tie.Need-word-requires-3
-word-requires-3 c κs = search needs
+word-requires-3 c κs = in-header (c .before .before .before .pre) tt
 
 both-requires : tie.Need-both-requires
-both-requires c κs = search needs
+both-requires c κs = tt
 
 both-requires-2 : tie.Need-both-requires-2
-both-requires-2 c κs = search needs
+both-requires-2 c κs = tt
 
 both-requires-3 : tie.Need-both-requires-3
-both-requires-3 c κs = search needs
+both-requires-3 c κs = tt
 
 returns : tie.Need-returns
 returns c =

@@ -1,14 +1,13 @@
 -- The kind of the node, then the constant table.
-use borrow.Author.Needs.{needs}
 use Rattle.table.proofs.Fields.{row-read}
 use Rattle.table.proofs.node_row.Statement.{statement}
 use Rattle.table.proofs.node_row.Tie as tie
 
 kind-requires : tie.Need-kind-requires
-kind-requires c κs = search needs
+kind-requires c κs = c .before .pre
 
 field-codes-requires : tie.Need-field-codes-requires
-field-codes-requires c κs = search needs
+field-codes-requires c κs = tt
 
 returns : tie.Need-returns
 returns c =

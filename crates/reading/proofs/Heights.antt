@@ -1,0 +1,108 @@
+-- The height of a node by the heights that the code has for the nodes below it.
+use Prim.Native.Nat.{ℕ, _+_, _-_, _≤_, _<_, max}
+use mathlib.Core.Bool.{Bool, true, false, cond}
+use mathlib.Core.List.{List, [], _∷_}
+use mathlib.Core.Path.{_≡_, refl, sym, ap, ap₂, _∙_}
+use native.Mathlib.Decide.{ℕ-discrete}
+use native.Mathlib.Omega.{arith}
+use lib.ListN.{length, getD, set}
+use lib.Seq.{getD-set-same, getD-set-other}
+use borrow.Author.Tests.{le-leb, lt-leb}
+use Rattle.rules.specs.Kinds.{unused, isChild, kindOf}
+use Rattle.rules.specs.Tables.{Node, tableOf, nodeAt, fieldsAt, keptIf, held, nodeCount, lastNode}
+use Rattle.rules.specs.Reading.{tallest, height, heightGood}
+use Rattle.rules.specs.Ends.{leastFailing}
+use Rattle.rules.specs.Readable.{NodeRight, Readable}
+use Rattle.rules.proofs.EndLaws.{Each}
+use Rattle.rules.proofs.TableLaws.{nodes-length, held-below, height-at}
+use Rattle.table.specs.Layout.{Fielded, fieldAt}
+use Rattle.reading.specs.Arrays.{countsAt, Heights}
+use Rattle.table.specs.Places.{foundOr}
+use Rattle.table.proofs.Least.{least-none}
+use Rattle.reading.proofs.Counting.{pick-three}
+
+tallest-kept : (h : ℕ → ℕ) (b : Bool) (x : ℕ) (xs : List ℕ) → tallest h (keptIf b x xs) ≡ max (cond b (h x) 0) (tallest h xs)
+unfolding tallest
+tallest-kept h true x xs = refl
+tallest-kept h false x xs = omega arith
+
+kept-three : (h : ℕ → ℕ) (b c d : Bool) (x y z : ℕ) →
+    tallest h (keptIf b x (keptIf c y (keptIf d z []))) ≡ max (cond b (h x) 0) (max (cond c (h y) 0) (cond d (h z) 0))
+unfolding tallest
+kept-three h b c d x y z =
+    omega (arith, tallest-kept h b x (keptIf c y (keptIf d z [])), tallest-kept h c y (keptIf d z []), tallest-kept h d z [])
+
+-- The tallest child is the tallest of those in the three fields.
+pub tallest-held : (h : ℕ → ℕ) (bs : List ℕ) (n p q r s t : ℕ) →
+    p ≡ cond (countsAt false bs n 0) (h (fieldAt bs n 0)) 0 → q ≡ cond (countsAt false bs n 1) (h (fieldAt bs n 1)) 0 →
+    r ≡ cond (countsAt false bs n 2) (h (fieldAt bs n 2)) 0 → s ≡ max q r → t ≡ max p s →
+    t ≡ tallest h (held isChild (nodeAt (tableOf bs .nodes) n))
+unfolding held
+tallest-held h bs n p q r s t ep eq er es et =
+    let d : Node = nodeAt (tableOf bs .nodes) n in
+    omega (
+      arith,
+      ap (tallest h) (pick-three isChild refl (kindOf (d .kind)) (d .a) (d .b) (d .c)),
+      kept-three h (isChild (getD (fieldsAt d) 0 unused)) (isChild (getD (fieldsAt d) 1 unused)) (isChild (getD (fieldsAt d) 2 unused)) (d .a) (d .b) (d .c),
+    )
+
+-- What a field gives, by the two ways out of the code.
+pub child-here : (f : ℕ → ℕ) (hit b : Bool) (x y : ℕ) → hit ≡ b → x ≡ y → hit ≡ true → f x ≡ cond b (f y) 0
+child-here f hit b x y e g t = rw (← e, t, g)
+
+pub child-none : (hit b : Bool) (z : ℕ) → hit ≡ b → hit ≡ false → 0 ≡ cond b z 0
+child-none hit b z e t = rw (← e, t)
+
+-- It depends on the heights of the children only.
+tallest-below : (n : ℕ) (h k : ℕ → ℕ) → ((m : ℕ) → m < n → h m ≡ k m) → (ms : List ℕ) → Each (λ m. m < n) ms → tallest h ms ≡ tallest k ms
+unfolding tallest
+tallest-below n h k e [] b = refl
+tallest-below n h k e (m ∷ ms) b = ap₂ max (e m (b .0)) (tallest-below n h k e ms (b .1))
+
+module _ (bs : List ℕ) (at n : ℕ) (f : Fielded bs at) (below : n < nodeCount bs) (hs : List ℕ) (heights : Heights bs n hs) (t : ℕ)
+    (is : t ≡ tallest (λ m. getD hs m 0) (held isChild (nodeAt (tableOf bs .nodes) n))) where
+  -- The height of the next node,
+  pub height-next : height (tableOf bs .nodes) n ≡ t + 1
+  height-next =
+      let ns = tableOf bs .nodes in
+      let d : Node = nodeAt ns n in
+      let r : (m : ℕ) → m < length ns → NodeRight (tableOf bs) m = λ m l. f .fields m (omega (arith, nodes-length bs)) in
+      omega (
+        arith,
+        is,
+        height-at (tableOf bs) r n (omega (arith, nodes-length bs)),
+        tallest-below n (λ m. getD hs m 0) (height ns) heights (held isChild d) (held-below (tableOf bs) n (f .fields n below)),
+      )
+
+  -- whether it is good,
+  pub height-high : 40 ≤ t → heightGood (tableOf bs) n ≡ false
+  unfolding heightGood
+  height-high l = lt-leb (height (tableOf bs .nodes) n) 40 (omega (arith, height-next))
+
+  pub height-low : t < 40 → heightGood (tableOf bs) n ≡ true
+  unfolding heightGood
+  height-low l = le-leb (height (tableOf bs .nodes) n) 40 (omega (arith, height-next))
+
+  -- and the heights with it.
+  pub heights-more : n < length hs → Heights bs (n + 1) (set hs n (t + 1))
+  heights-more long m l = go (ℕ-discrete m n)
+    where
+      go : Dec (m ≡ n) → getD (set hs n (t + 1)) m 0 ≡ height (tableOf bs .nodes) m
+      go (yes e) = rw (e, getD-set-same hs n (t + 1) 0 long) (sym height-next)
+      go (no e) = getD-set-other hs n m (t + 1) 0 e ∙ heights m (omega arith)
+
+-- Where the table is readable, all nodes have their heights, and so has the root.
+module _ (bs : List ℕ) (r : Readable bs) where
+  all-low : foundOr (nodeCount bs) (leastFailing (heightGood (tableOf bs)) 0 (nodeCount bs)) ≡ nodeCount bs
+  unfolding heightGood
+  all-low =
+      sym (least-none (heightGood (tableOf bs)) (nodeCount bs) (nodeCount bs)
+      (record { within = omega arith; passed = λ n l. le-leb (height (tableOf bs .nodes) n) 40 (r .records .heights n (omega (arith, nodes-length bs))) })
+      (omega arith))
+
+  pub root-height : (hs : List ℕ) (n count : ℕ) → n ≡ foundOr (nodeCount bs) (leastFailing (heightGood (tableOf bs)) 0 (nodeCount bs)) → Heights bs n hs →
+      count ≡ nodeCount bs → getD hs (count - 1) 0 ≡ height (tableOf bs .nodes) (lastNode (tableOf bs .nodes))
+  unfolding lastNode
+  root-height hs n count e heights is =
+      let last : count - 1 ≡ length (tableOf bs .nodes) - 1 = omega (arith, nodes-length bs) in
+      heights (count - 1) (omega (arith, all-low, r .header .some-node)) ∙ ap (height (tableOf bs .nodes)) last

@@ -1,0 +1,49 @@
+use mathlib.Core.Bool.{false}
+use mathlib.Core.Path.{_≡_, sym, _∙_}
+use lib.ListN.{getD}
+use Rattle.reading.specs.Arrays.{countsAt}
+use Rattle.reading.proofs.Counting.{counts-read, counts-inside, field-asks}
+use Rattle.reading.proofs.Heights.{child-here, child-none}
+use Rattle.reading.proofs.tree.child_height.Statement.{statement}
+use Rattle.reading.proofs.tree.child_height.Tie as tie
+
+abbrev start : tie.After-counts → tie.Start
+start c = c .before .before .before .before
+
+hit : (c : tie.After-counts) → c .counts .result ≡ countsAt false (start c .args .table .now) (start c .args .n) (start c .args .i)
+hit c =
+    counts-read false (start c .args .table .now) (start c .args .n) (start c .args .i) (start c .args .row) (c .before .digit .result) _
+    (start c .pre .2) (c .before .digit .ensures) (c .counts .ensures)
+
+digit-requires : tie.Need-digit-requires
+digit-requires c κs = c .before .before .pre .0 .inside
+
+counts-requires : tie.Need-counts-requires
+counts-requires c κs = tt
+
+field-requires : tie.Need-field-requires
+field-requires c κs = field-asks (c .before .before .before .before .before .pre .0)
+
+shared-slice-read-result : tie.Need-shared-slice-read-result
+shared-slice-read-result c =
+    let r = c .before .before .before in
+    counts-inside false _ _ _ _ (start r .pre .0) (sym (hit r) ∙ c .before .before .if1 .taken) (c .before .field .ensures) (start r .pre .1)
+
+returns : tie.Need-returns
+returns c =
+    let r = c .before .before .before in
+    child-here (λ m. getD (start r .args .heights .now) m 0) _ _ _ _ (hit r) (c .before .field .ensures) (c .before .before .if1 .taken)
+
+returns-2 : tie.Need-returns-2
+returns-2 c = child-none _ _ _ (hit (c .before)) (c .if1 .left)
+
+pub child-height-spec : {M : Type 1} → statement M
+child-height-spec =
+    tie.close
+    (tie.spec
+    digit-requires
+    counts-requires
+    field-requires
+    shared-slice-read-result
+    returns
+    returns-2)

@@ -1,0 +1,50 @@
+use mathlib.Core.Path.{_≡_}
+use Rattle.reading.specs.Arrays.{countsAt}
+use Rattle.reading.proofs.Counting.{counts-read, bump-pre, bumped-field, field-asks}
+use Rattle.reading.proofs.tree.count_field.Statement.{statement}
+use Rattle.reading.proofs.tree.count_field.Tie as tie
+
+abbrev start : tie.After-field → tie.Start
+start c = c .before .before .before .before .before .before
+
+hit : (c : tie.After-field) → c .before .before .counts .result ≡ countsAt (start c .args .binders) (start c .args .table .now) (start c .args .n) (start c .args .i)
+hit c =
+    let r = c .before .before .before .digit in
+    counts-read (start c .args .binders) (start c .args .table .now) (start c .args .n) (start c .args .i) (start c .args .row) (r .result) _
+    (start c .pre .3) (r .ensures) (c .before .before .counts .ensures)
+
+digit-requires : tie.Need-digit-requires
+digit-requires c κs = c .before .before .pre .0 .inside
+
+counts-requires : tie.Need-counts-requires
+counts-requires c κs = tt
+
+field-requires : tie.Need-field-requires
+field-requires c κs = field-asks (c .before .before .before .before .before .pre .0)
+
+bump-requires : tie.Need-bump-requires
+bump-requires c κs =
+    let s = start c in
+    bump-pre (s .args .binders) (s .args .table .now) (s .args .at) (s .args .n) (s .args .i) (s .args .counted .now) _ _ (hit c) (c .field .ensures)
+    (s .pre .0) (s .pre .1) (s .pre .2)
+
+same-length : tie.Need-same-length
+same-length c = c .before .before .bump .kept .0
+
+returns : tie.Need-returns
+returns c =
+    let f = c .before .before .before in
+    let s = start f in
+    bumped-field (s .args .binders) (s .args .table .now) (s .args .at) (s .args .n) (s .args .i) (s .args .counted .now) _ _ (hit f) (f .field .ensures)
+    (c .before .before .bump .last .0) (c .before .before .bump .ensures)
+
+pub count-field-spec : {M : Type 1} → statement M
+count-field-spec =
+    tie.close
+    (tie.spec
+    digit-requires
+    counts-requires
+    field-requires
+    bump-requires
+    same-length
+    returns)

@@ -1,0 +1,30 @@
+use mathlib.Core.Path.{sym, _∙_}
+use native.Mathlib.Nat.{lt-of-lt-of-le}
+use Rattle.table.proofs.Least.{next-fits}
+use Rattle.reading.proofs.Counting.{parent-last, parent-other}
+use Rattle.reading.proofs.tree.parent_is_good.Statement.{statement}
+use Rattle.reading.proofs.tree.parent_is_good.Tie as tie
+
+add-if1 : tie.Need-add-if1
+add-if1 c = next-fits 512 (lt-of-lt-of-le (c .before .pre .0 .below) (c .before .pre .0 .laid .header .few-nodes)) tt
+
+nodes-requires : tie.Need-nodes-requires
+nodes-requires c κs = c .before .pre .0 .laid .header .long
+
+kind-requires : tie.Need-kind-requires
+kind-requires c κs = c .before .before .before .pre .0
+
+category-requires : tie.Need-category-requires
+category-requires c κs = tt
+
+returns : tie.Need-returns
+returns c = parent-last _ _ _ _ (c .before .before .if1 .taken ∙ c .before .before .before .nodes .ensures) (c .before .kind .ensures) (c .category .ensures)
+
+returns-2 : tie.Need-returns-2
+returns-2 c =
+    let s = c .before .before .before in
+    parent-other _ _ _ (s .pre .0 .below) (λ e. c .if1 .left (e ∙ sym (c .before .nodes .ensures))) (s .pre .1)
+
+pub parent-is-good-spec : {M : Type 1} → statement M
+parent-is-good-spec =
+    tie.close (tie.spec add-if1 nodes-requires kind-requires category-requires returns returns-2)

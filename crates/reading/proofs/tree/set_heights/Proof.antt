@@ -1,0 +1,105 @@
+use Prim.Native.Nat.{_-_, _<_}
+use mathlib.Core.Path.{_≡_, _∙_, refl, sym}
+use native.Mathlib.Nat.{not-suc-le-zero, lt-of-lt-of-le}
+use native.Mathlib.Omega.{arith}
+use lib.ListN.{length, length-set}
+use borrow.Author.Count.{falls}
+use Rattle.rules.specs.Tables.{tableOf, nodeCount}
+use Rattle.rules.specs.Reading.{heightGood}
+use Rattle.table.proofs.Least.{Passing, least-start, least-turn, least-here, least-none, below, past, next-fits}
+use Rattle.reading.specs.Arrays.{Heights}
+use Rattle.reading.proofs.Heights.{height-high, height-low, heights-more}
+use Rattle.reading.proofs.tree.set_heights.Statement.{statement}
+use Rattle.reading.proofs.tree.set_heights.Tie as tie
+
+abbrev Inv-loop : tie.InvT-loop
+Inv-loop table at heights₀ count n₀ heights n = (length heights ≡ length heights₀) × Passing (heightGood (tableOf table)) (nodeCount table) n × Heights table n heights
+
+abbrev μ-loop : tie.MeasureT-loop
+μ-loop table at heights₀ count n₀ heights n = count - n
+
+-- The loop is at a node, of which there are few.
+inside : (c : tie.In-loop Inv-loop μ-loop) → c .before .loop .n < nodeCount (c .before .before .before .before .before .args .table .now)
+inside c = below (c .loop-test .taken) (c .before .before .nodes .ensures)
+
+few : (c : tie.In-loop Inv-loop μ-loop) → c .before .loop .n < 512
+few c = lt-of-lt-of-le (inside c) (c .before .before .before .before .before .pre .0 .laid .header .few-nodes)
+
+-- The array reaches it.
+reached : (c : tie.Else1 Inv-loop μ-loop) → c .before .before .before .before .loop .n < length (c .before .before .before .before .loop .heights)
+reached c =
+    let l = c .before .before .before .before in
+    below (few (c .before .before .before)) (sym (l .loop .inv .0 ∙ l .before .before .before .before .pre .1))
+
+nodes-requires : tie.Need-nodes-requires Inv-loop μ-loop
+nodes-requires c κs = c .before .before .pre .0 .laid .header .long
+
+loop-holds : tie.Need-loop-holds Inv-loop μ-loop
+loop-holds c = (refl, least-start _ _, λ m h. absurd (not-suc-le-zero h))
+
+tallest-child-requires : tie.Need-tallest-child-requires Inv-loop μ-loop
+tallest-child-requires c κs = (c .before .before .before .before .before .before .pre .0, inside (c .before), c .before .before .loop .inv .0 ∙ c .before .before .before .before .before .before .pre .1)
+
+same-length : tie.Need-same-length Inv-loop μ-loop
+same-length c = c .before .before .before .before .loop .inv .0
+
+returns : tie.Need-returns Inv-loop μ-loop
+returns c =
+    let l = c .before .before .before .before .loop in
+    let s = c .before .before .before .before .before .before .before .before in
+    let n< = inside (c .before .before .before) in (
+      least-here _ _ _ (l .inv .1) n< (height-high (s .args .table .now) (s .args .at) (l .n) (s .pre .0) n< (l .heights) (l .inv .2) _ (c .before .tallest-child .ensures) (c .if1 .taken)),
+      l .inv .2,
+    )
+
+add-heights : tie.Need-add-heights Inv-loop μ-loop
+add-heights c = omega arith
+
+slice-write-heights : tie.Need-slice-write-heights Inv-loop μ-loop
+slice-write-heights c = reached c
+
+add-n : tie.Need-add-n Inv-loop μ-loop
+add-n c = next-fits 512 (few (c .before .before .before)) tt
+
+loop-less : tie.Need-loop-less Inv-loop μ-loop
+loop-less c = falls _ _ (c .before .before .before .loop-test .taken)
+
+loop-again : tie.Need-loop-again Inv-loop μ-loop
+loop-again c =
+    let l = c .before .before .before .before .loop in
+    let s = c .before .before .before .before .before .before .before .before in
+    let table = s .args .table .now in
+    let n< = inside (c .before .before .before) in
+    let t = c .before .tallest-child in (
+      simp length-set (l .inv .0),
+      least-turn _ _ _ (l .inv .1) n< (height-low table (s .args .at) (l .n) (s .pre .0) n< (l .heights) (l .inv .2) (t .result) (t .ensures) (c .if1 .left)),
+      heights-more table (s .args .at) (l .n) (s .pre .0) n< (l .heights) (l .inv .2) (t .result) (t .ensures) (reached c),
+    )
+
+same-length-2 : tie.Need-same-length-2 Inv-loop μ-loop
+same-length-2 c = c .before .loop .inv .0
+
+returns-2 : tie.Need-returns-2 Inv-loop μ-loop
+returns-2 c =
+    let l = c .before .loop .inv in
+    let e = c .before .before .nodes .ensures in
+    (e ∙ least-none _ _ _ (l .1) (past (c .loop-test .left) e), λ m h. l .2 m (lt-of-lt-of-le h (c .loop-test .left)))
+
+pub set-heights-spec : {M : Type 1} → statement M
+set-heights-spec =
+    tie.close
+    (tie.spec
+    Inv-loop
+    μ-loop
+    nodes-requires
+    loop-holds
+    tallest-child-requires
+    same-length
+    returns
+    add-heights
+    slice-write-heights
+    add-n
+    loop-less
+    loop-again
+    same-length-2
+    returns-2)

@@ -1,0 +1,3 @@
+-- What the functions of this crate compute, in the terms of the rules.
+pub mod Answers
+pub mod Arrays

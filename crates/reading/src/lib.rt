@@ -1,0 +1,96 @@
+// Reading a table: refusals 1 to 9 of document 01.
+ghost use mathlib.Core.Path.{_≡_};
+ghost use Rattle.rules.specs.Tables.{tableOf, lastNode};
+ghost use Rattle.rules.specs.Readable.{Header, Readable};
+ghost use Rattle.rules.specs.Reading.{reading, height};
+ghost use Rattle.table.specs.Layout.{Fielded};
+ghost use Rattle.reading.specs.Answers.{readingOf, readingRecords, readingTree};
+
+mod binding;
+mod tree;
+
+// A refusal's number and place.
+pub struct Refusal {
+    pub number: u8,
+    pub place: usize,
+}
+
+pub enum Reading {
+    Passed,
+    Refused(Refusal),
+}
+
+fn refused(number: u8, place: usize) -> Reading
+    ensures { λ r. ⌜ r ≡ Reading.Refused (record { number = number; place = place }) ⌝ }
+{
+    Reading::Refused(Refusal { number, place })
+}
+
+// Refusals 7 to 9 of a table whose records are right.
+fn read_tree(table: &[u8], at: usize) -> Reading
+    requires { ⌜ Fielded (now table) at ⌝ }
+    ensures { λ r. ⌜ readingOf (now (table .entry)) r ≡ readingTree (now (table .entry)) ⌝ }
+{
+    let n = tree::first_bad_parent(table, at);
+    if n < table::nodes(table) {
+        return refused(7, n);
+    }
+    let m = tree::first_bad_height(table, at);
+    if m < table::nodes(table) {
+        return refused(8, m);
+    }
+    let x = binding::first_bad_binding(table, at);
+    if x < table::identifiers(table) {
+        return refused(9, x);
+    }
+    Reading::Passed
+}
+
+// Refusals 4 to 9 of a table whose header is right.
+fn read_records(table: &[u8]) -> Reading
+    requires { ⌜ Header (now table) ⌝ }
+    ensures { λ r. ⌜ readingOf (now (table .entry)) r ≡ readingRecords (now (table .entry)) ⌝ }
+{
+    let at = table::nodes_offset(table);
+    let g = table::first_bad_size(table);
+    if g < table::givens(table) {
+        return refused(4, g);
+    }
+    let x = table::first_bad_bind(table);
+    if x < table::identifiers(table) {
+        return refused(5, x);
+    }
+    let n = table::first_bad_node(table, at);
+    if n < table::nodes(table) {
+        return refused(6, n);
+    }
+    read_tree(table, at)
+}
+
+// Refusals 1 to 9 in order, with the least place of each.
+pub fn read(table: &[u8]) -> Reading
+    ensures { λ r. ⌜ readingOf (now (table .entry)) r ≡ reading (now (table .entry)) ⌝ }
+{
+    if !table::is_headed(table) {
+        return refused(1, 0);
+    }
+    if !table::is_limited(table) {
+        return refused(2, 0);
+    }
+    if !table::is_laid_out(table) {
+        return refused(3, 0);
+    }
+    read_records(table)
+}
+
+// The height of the root of a table that `read` passes.
+pub fn root_height(table: &[u8]) -> usize
+    requires { ⌜ Readable (now table) ⌝ }
+    ensures { λ r. ⌜ r ≡ height (tableOf (now (table .entry)) .nodes) (lastNode (tableOf (now (table .entry)) .nodes)) ⌝ }
+{
+    let at = table::nodes_offset(table);
+    let root = table::nodes(table) - 1;
+    let mut heights = [0u8; 512];
+    tree::set_heights(table, at, &mut heights);
+    table::wide(heights[root])
+}
