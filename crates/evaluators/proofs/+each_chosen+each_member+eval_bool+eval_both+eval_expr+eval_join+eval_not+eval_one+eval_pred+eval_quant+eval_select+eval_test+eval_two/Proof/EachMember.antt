@@ -1,0 +1,318 @@
+-- `each_member`.
+use Prim.Native.Nat.{ℕ}
+use native.Mathlib.Omega.{arith}
+use borrow.Author.Needs.{needs}
+use Rattle.evaluators.proofs.each_chosen.Reads as each-chosen
+use Rattle.evaluators.proofs.each_chosen.Kinds as each-chosen-kinds
+use Rattle.evaluators.proofs.+each_chosen+each_member+eval_bool+eval_both+eval_expr+eval_join+eval_not+eval_one+eval_pred+eval_quant+eval_select+eval_test+eval_two.Lts-each_chosen as each-chosen-lts
+use Rattle.evaluators.proofs.each_member.Reads as each-member
+use Rattle.evaluators.proofs.each_member.Kinds as each-member-kinds
+use Rattle.evaluators.proofs.+each_chosen+each_member+eval_bool+eval_both+eval_expr+eval_join+eval_not+eval_one+eval_pred+eval_quant+eval_select+eval_test+eval_two.Lts-each_member as each-member-lts
+use Rattle.evaluators.proofs.eval_bool.Reads as eval-bool
+use Rattle.evaluators.proofs.eval_bool.Kinds as eval-bool-kinds
+use Rattle.evaluators.proofs.+each_chosen+each_member+eval_bool+eval_both+eval_expr+eval_join+eval_not+eval_one+eval_pred+eval_quant+eval_select+eval_test+eval_two.Lts-eval_bool as eval-bool-lts
+use Rattle.evaluators.proofs.eval_both.Reads as eval-both
+use Rattle.evaluators.proofs.eval_both.Kinds as eval-both-kinds
+use Rattle.evaluators.proofs.+each_chosen+each_member+eval_bool+eval_both+eval_expr+eval_join+eval_not+eval_one+eval_pred+eval_quant+eval_select+eval_test+eval_two.Lts-eval_both as eval-both-lts
+use Rattle.evaluators.proofs.eval_expr.Reads as eval-expr
+use Rattle.evaluators.proofs.eval_expr.Kinds as eval-expr-kinds
+use Rattle.evaluators.proofs.+each_chosen+each_member+eval_bool+eval_both+eval_expr+eval_join+eval_not+eval_one+eval_pred+eval_quant+eval_select+eval_test+eval_two.Lts-eval_expr as eval-expr-lts
+use Rattle.evaluators.proofs.eval_join.Reads as eval-join
+use Rattle.evaluators.proofs.eval_join.Kinds as eval-join-kinds
+use Rattle.evaluators.proofs.+each_chosen+each_member+eval_bool+eval_both+eval_expr+eval_join+eval_not+eval_one+eval_pred+eval_quant+eval_select+eval_test+eval_two.Lts-eval_join as eval-join-lts
+use Rattle.evaluators.proofs.eval_not.Reads as eval-not
+use Rattle.evaluators.proofs.eval_not.Kinds as eval-not-kinds
+use Rattle.evaluators.proofs.+each_chosen+each_member+eval_bool+eval_both+eval_expr+eval_join+eval_not+eval_one+eval_pred+eval_quant+eval_select+eval_test+eval_two.Lts-eval_not as eval-not-lts
+use Rattle.evaluators.proofs.eval_one.Reads as eval-one
+use Rattle.evaluators.proofs.eval_one.Kinds as eval-one-kinds
+use Rattle.evaluators.proofs.+each_chosen+each_member+eval_bool+eval_both+eval_expr+eval_join+eval_not+eval_one+eval_pred+eval_quant+eval_select+eval_test+eval_two.Lts-eval_one as eval-one-lts
+use Rattle.evaluators.proofs.eval_pred.Reads as eval-pred
+use Rattle.evaluators.proofs.eval_pred.Kinds as eval-pred-kinds
+use Rattle.evaluators.proofs.+each_chosen+each_member+eval_bool+eval_both+eval_expr+eval_join+eval_not+eval_one+eval_pred+eval_quant+eval_select+eval_test+eval_two.Lts-eval_pred as eval-pred-lts
+use Rattle.evaluators.proofs.eval_quant.Reads as eval-quant
+use Rattle.evaluators.proofs.eval_quant.Kinds as eval-quant-kinds
+use Rattle.evaluators.proofs.+each_chosen+each_member+eval_bool+eval_both+eval_expr+eval_join+eval_not+eval_one+eval_pred+eval_quant+eval_select+eval_test+eval_two.Lts-eval_quant as eval-quant-lts
+use Rattle.evaluators.proofs.eval_select.Reads as eval-select
+use Rattle.evaluators.proofs.eval_select.Kinds as eval-select-kinds
+use Rattle.evaluators.proofs.+each_chosen+each_member+eval_bool+eval_both+eval_expr+eval_join+eval_not+eval_one+eval_pred+eval_quant+eval_select+eval_test+eval_two.Lts-eval_select as eval-select-lts
+use Rattle.evaluators.proofs.eval_test.Reads as eval-test
+use Rattle.evaluators.proofs.eval_test.Kinds as eval-test-kinds
+use Rattle.evaluators.proofs.+each_chosen+each_member+eval_bool+eval_both+eval_expr+eval_join+eval_not+eval_one+eval_pred+eval_quant+eval_select+eval_test+eval_two.Lts-eval_test as eval-test-lts
+use Rattle.evaluators.proofs.eval_two.Reads as eval-two
+use Rattle.evaluators.proofs.eval_two.Kinds as eval-two-kinds
+use Rattle.evaluators.proofs.+each_chosen+each_member+eval_bool+eval_both+eval_expr+eval_join+eval_not+eval_one+eval_pred+eval_quant+eval_select+eval_test+eval_two.Lts-eval_two as eval-two-lts
+use Rattle.arena.proofs.end_of.Reads as end-of-reads
+use Rattle.evaluators.proofs.choose.Reads as choose-reads
+use Rattle.evaluators.proofs.decides.Reads as decides-reads
+use Rattle.evaluators.proofs.eval_leaf.Reads as eval-leaf-reads
+use Rattle.evaluators.proofs.eval_name.Reads as eval-name-reads
+use Rattle.evaluators.proofs.joined.Reads as joined-reads
+use Rattle.evaluators.proofs.range_of.Reads as range-of-reads
+use Rattle.evaluators.proofs.settle.Reads as settle-reads
+use Rattle.operations.proofs.one.Reads as one-reads
+use Rattle.operations.proofs.test.Reads as test-reads
+use Rattle.operations.proofs.two.Reads as two-reads
+use Rattle.products.proofs.put_cell.Reads as put-cell-reads
+use Rattle.table.proofs.field.Reads as field-reads
+use Rattle.table.proofs.kind.Reads as kind-reads
+use Rattle.evaluators.proofs.+each_chosen+each_member+eval_bool+eval_both+eval_expr+eval_join+eval_not+eval_one+eval_pred+eval_quant+eval_select+eval_test+eval_two.Proof.Base.{each-member-at, eval-pred-below}
+use Rattle.evaluators.proofs.QuantLaws.{differ, agree, Turning, turning-start, member-low, member-stands, body-ready, member-refused, member-decides, turning-on, members-done}
+
+abbrev pub each-member-Inv-loop : each-member-lts.InvT-loop
+each-member-Inv-loop table base env s₀ top all node from count steps budget x body inner₀ at₀ left₀ n₀ s inner at left n =
+    Turning table env s₀ top all node from count steps budget x s inner at left n
+
+abbrev pub each-member-μ-loop : each-member-lts.MeasureT-loop
+each-member-μ-loop table base env s₀ top all node from count steps budget x body inner₀ at₀ left₀ n₀ s inner at left n =
+    left
+
+-- src/lib.rt:272:9
+pub each-member-field-requires : (t : ℕ) → each-member-lts.Need-field-requires (
+  field-reads.Asked,
+  field-reads.Learnt,
+  eval-pred-below t,
+  eval-pred.Post,
+  end-of-reads.Asked,
+  end-of-reads.Learnt,
+) (each-member-at t) each-member.Post each-member-Inv-loop each-member-μ-loop
+each-member-field-requires t c κs = search needs
+
+-- src/lib.rt:273:9
+pub each-member-field-requires-2 : (t : ℕ) → each-member-lts.Need-field-requires-2 (
+  field-reads.Asked,
+  field-reads.Learnt,
+  eval-pred-below t,
+  eval-pred.Post,
+  end-of-reads.Asked,
+  end-of-reads.Learnt,
+) (each-member-at t) each-member.Post each-member-Inv-loop each-member-μ-loop
+each-member-field-requires-2 t c κs = search needs
+
+-- src/lib.rt:278:5
+pub each-member-loop-holds : (t : ℕ) → each-member-lts.Need-loop-holds (
+  field-reads.Asked,
+  field-reads.Learnt,
+  eval-pred-below t,
+  eval-pred.Post,
+  end-of-reads.Asked,
+  end-of-reads.Learnt,
+) (each-member-at t) each-member.Post each-member-Inv-loop each-member-μ-loop
+each-member-loop-holds t c =
+    turning-start _ _ (c .before .before .before .before .before .pre .1)
+
+-- src/lib.rt:279:20
+pub each-member-cast-inner : (t : ℕ) → each-member-lts.Need-cast-inner (
+  field-reads.Asked,
+  field-reads.Learnt,
+  eval-pred-below t,
+  eval-pred.Post,
+  end-of-reads.Asked,
+  end-of-reads.Learnt,
+) (each-member-at t) each-member.Post each-member-Inv-loop each-member-μ-loop
+each-member-cast-inner t c =
+    let l = c .before in
+    let g = l .before .before in
+    let f = g .before in
+    let a = f .before .before .before in
+    record { fits = member-low (a .pre .1) (l .loop .inv) (omega (arith, c .loop-test .taken)) }
+
+-- src/lib.rt:279:9
+pub each-member-mul-inner : (t : ℕ) → each-member-lts.Need-mul-inner (
+  field-reads.Asked,
+  field-reads.Learnt,
+  eval-pred-below t,
+  eval-pred.Post,
+  end-of-reads.Asked,
+  end-of-reads.Learnt,
+) (each-member-at t) each-member.Post each-member-Inv-loop each-member-μ-loop
+each-member-mul-inner t c = search needs
+
+-- src/lib.rt:279:9
+pub each-member-array-write-inner : (t : ℕ) → each-member-lts.Need-array-write-inner (
+  field-reads.Asked,
+  field-reads.Learnt,
+  eval-pred-below t,
+  eval-pred.Post,
+  end-of-reads.Asked,
+  end-of-reads.Learnt,
+) (each-member-at t) each-member.Post each-member-Inv-loop each-member-μ-loop
+each-member-array-write-inner t c = search needs
+
+-- src/lib.rt:280:13
+pub each-member-eval-pred-requires : (t : ℕ) → each-member-lts.Need-eval-pred-requires (
+  field-reads.Asked,
+  field-reads.Learnt,
+  eval-pred-below t,
+  eval-pred.Post,
+  end-of-reads.Asked,
+  end-of-reads.Learnt,
+) (each-member-at t) each-member.Post each-member-Inv-loop each-member-μ-loop
+each-member-eval-pred-requires t c κs =
+    let w = c .before .before in
+    let l = w .before in
+    let g = l .before .before in
+    let f = g .before in
+    let a = f .before .before .before in
+    (omega (arith, a .pre .0, a .pre .1 .deeper, g .field2 .ensures), body-ready (a .pre .1) (l .loop .inv) (omega (arith, w .loop-test .taken)) (f .field .ensures) (g .field2 .ensures))
+
+-- src/lib.rt:281:25
+pub each-member-enum-known-held : (t : ℕ) → each-member-lts.Need-enum-known-held (
+  field-reads.Asked,
+  field-reads.Learnt,
+  eval-pred-below t,
+  eval-pred.Post,
+  end-of-reads.Asked,
+  end-of-reads.Learnt,
+) (each-member-at t) each-member.Post each-member-Inv-loop each-member-μ-loop
+each-member-enum-known-held t c = search needs
+
+-- src/lib.rt:282:13
+pub each-member-enum-told : (t : ℕ) → each-member-lts.Need-enum-told (
+  field-reads.Asked,
+  field-reads.Learnt,
+  eval-pred-below t,
+  eval-pred.Post,
+  end-of-reads.Asked,
+  end-of-reads.Learnt,
+) (each-member-at t) each-member.Post each-member-Inv-loop each-member-μ-loop
+each-member-enum-told t c = search needs
+
+-- src/lib.rt:282:13
+pub each-member-same-length : (t : ℕ) → each-member-lts.Need-same-length (
+  field-reads.Asked,
+  field-reads.Learnt,
+  eval-pred-below t,
+  eval-pred.Post,
+  end-of-reads.Asked,
+  end-of-reads.Learnt,
+) (each-member-at t) each-member.Post each-member-Inv-loop each-member-μ-loop
+each-member-same-length t c = search needs
+
+-- src/lib.rt:282:13
+pub each-member-returns : (t : ℕ) → each-member-lts.Need-returns (
+  field-reads.Asked,
+  field-reads.Learnt,
+  eval-pred-below t,
+  eval-pred.Post,
+  end-of-reads.Asked,
+  end-of-reads.Learnt,
+) (each-member-at t) each-member.Post each-member-Inv-loop each-member-μ-loop
+each-member-returns t c =
+    let p = c .before .before .before .before in
+    let w = p .before .before .before in
+    let l = w .before in
+    let g = l .before .before in
+    let f = g .before in
+    let a = f .before .before .before in
+    member-refused (a .pre .1) (l .loop .inv) (omega (arith, w .loop-test .taken)) (f .field .ensures) (g .field2 .ensures) (p .eval-pred .ensures) _ _ _ (c .enum-told .given .1)
+
+-- src/lib.rt:285:13
+pub each-member-same-length-2 : (t : ℕ) → each-member-lts.Need-same-length-2 (
+  field-reads.Asked,
+  field-reads.Learnt,
+  eval-pred-below t,
+  eval-pred.Post,
+  end-of-reads.Asked,
+  end-of-reads.Learnt,
+) (each-member-at t) each-member.Post each-member-Inv-loop each-member-μ-loop
+each-member-same-length-2 t c = search needs
+
+-- src/lib.rt:285:13
+pub each-member-returns-2 : (t : ℕ) → each-member-lts.Need-returns-2 (
+  field-reads.Asked,
+  field-reads.Learnt,
+  eval-pred-below t,
+  eval-pred.Post,
+  end-of-reads.Asked,
+  end-of-reads.Learnt,
+) (each-member-at t) each-member.Post each-member-Inv-loop each-member-μ-loop
+each-member-returns-2 t c =
+    let p = c .before .before .before .before .before .before in
+    let w = p .before .before .before in
+    let l = w .before in
+    let g = l .before .before in
+    let f = g .before in
+    let a = f .before .before .before in
+    member-decides (a .pre .1) (l .loop .inv) (omega (arith, w .loop-test .taken)) (f .field .ensures) (g .field2 .ensures) (p .eval-pred .ensures) _ _ (c .before .before .held .given .1) (differ _ _ (c .if1 .taken))
+
+-- src/lib.rt:288:9
+pub each-member-end-of-requires : (t : ℕ) → each-member-lts.Need-end-of-requires (
+  field-reads.Asked,
+  field-reads.Learnt,
+  eval-pred-below t,
+  eval-pred.Post,
+  end-of-reads.Asked,
+  end-of-reads.Learnt,
+) (each-member-at t) each-member.Post each-member-Inv-loop each-member-μ-loop
+each-member-end-of-requires t c κs =
+    let p = c .before .before .before .before .before .before .before in
+    let w = p .before .before .before in
+    let l = w .before in
+    let g = l .before .before in
+    let f = g .before in
+    let a = f .before .before .before in
+    member-stands (a .pre .1) (l .loop .inv) (omega (arith, w .loop-test .taken)) _ (p .eval-pred .ensures .frame)
+
+-- src/lib.rt:289:9
+pub each-member-sub-left : (t : ℕ) → each-member-lts.Need-sub-left (
+  field-reads.Asked,
+  field-reads.Learnt,
+  eval-pred-below t,
+  eval-pred.Post,
+  end-of-reads.Asked,
+  end-of-reads.Learnt,
+) (each-member-at t) each-member.Post each-member-Inv-loop each-member-μ-loop
+each-member-sub-left t c = search needs
+
+-- src/lib.rt:278:5
+pub each-member-loop-less : (t : ℕ) → each-member-lts.Need-loop-less (
+  field-reads.Asked,
+  field-reads.Learnt,
+  eval-pred-below t,
+  eval-pred.Post,
+  end-of-reads.Asked,
+  end-of-reads.Learnt,
+) (each-member-at t) each-member.Post each-member-Inv-loop each-member-μ-loop
+each-member-loop-less t c = search needs
+
+-- src/lib.rt:278:5
+pub each-member-loop-again : (t : ℕ) → each-member-lts.Need-loop-again (
+  field-reads.Asked,
+  field-reads.Learnt,
+  eval-pred-below t,
+  eval-pred.Post,
+  end-of-reads.Asked,
+  end-of-reads.Learnt,
+) (each-member-at t) each-member.Post each-member-Inv-loop each-member-μ-loop
+each-member-loop-again t c =
+    let p = c .before .before .before .before .before .before .before .before in
+    let w = p .before .before .before in
+    let l = w .before in
+    let g = l .before .before in
+    let f = g .before in
+    let a = f .before .before .before in
+    turning-on (a .pre .1) (l .loop .inv) (omega (arith, w .loop-test .taken)) (f .field .ensures) (g .field2 .ensures) (p .eval-pred .ensures) _ _ _ (c .before .before .before .before .held .given .1)
+    (agree _ _ (c .before .before .if1 .left)) (c .end-of .ensures)
+
+-- src/lib.rt:256:1
+pub each-member-same-length-3 : (t : ℕ) → each-member-lts.Need-same-length-3 (
+  field-reads.Asked,
+  field-reads.Learnt,
+  eval-pred-below t,
+  eval-pred.Post,
+  end-of-reads.Asked,
+  end-of-reads.Learnt,
+) (each-member-at t) each-member.Post each-member-Inv-loop each-member-μ-loop
+each-member-same-length-3 t c = search needs
+
+-- src/lib.rt:256:1
+pub each-member-returns-3 : (t : ℕ) → each-member-lts.Need-returns-3 (
+  field-reads.Asked,
+  field-reads.Learnt,
+  eval-pred-below t,
+  eval-pred.Post,
+  end-of-reads.Asked,
+  end-of-reads.Learnt,
+) (each-member-at t) each-member.Post each-member-Inv-loop each-member-μ-loop
+each-member-returns-3 t c =
+    members-done (c .before .loop .inv) (omega (arith, c .loop-test .left))

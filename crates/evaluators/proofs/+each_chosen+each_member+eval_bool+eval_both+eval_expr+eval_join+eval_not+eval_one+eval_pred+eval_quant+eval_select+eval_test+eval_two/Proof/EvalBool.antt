@@ -1,0 +1,206 @@
+-- `eval_bool`.
+use Prim.Native.Nat.{ℕ}
+use mathlib.Core.Path.{refl}
+use native.Mathlib.Omega.{arith}
+use borrow.Author.Needs.{needs}
+use borrow.Fn.PlainCycle.{is}
+use Rattle.evaluators.proofs.each_chosen.Reads as each-chosen
+use Rattle.evaluators.proofs.each_chosen.Kinds as each-chosen-kinds
+use Rattle.evaluators.proofs.+each_chosen+each_member+eval_bool+eval_both+eval_expr+eval_join+eval_not+eval_one+eval_pred+eval_quant+eval_select+eval_test+eval_two.Lts-each_chosen as each-chosen-lts
+use Rattle.evaluators.proofs.each_member.Reads as each-member
+use Rattle.evaluators.proofs.each_member.Kinds as each-member-kinds
+use Rattle.evaluators.proofs.+each_chosen+each_member+eval_bool+eval_both+eval_expr+eval_join+eval_not+eval_one+eval_pred+eval_quant+eval_select+eval_test+eval_two.Lts-each_member as each-member-lts
+use Rattle.evaluators.proofs.eval_bool.Reads as eval-bool
+use Rattle.evaluators.proofs.eval_bool.Kinds as eval-bool-kinds
+use Rattle.evaluators.proofs.+each_chosen+each_member+eval_bool+eval_both+eval_expr+eval_join+eval_not+eval_one+eval_pred+eval_quant+eval_select+eval_test+eval_two.Lts-eval_bool as eval-bool-lts
+use Rattle.evaluators.proofs.eval_both.Reads as eval-both
+use Rattle.evaluators.proofs.eval_both.Kinds as eval-both-kinds
+use Rattle.evaluators.proofs.+each_chosen+each_member+eval_bool+eval_both+eval_expr+eval_join+eval_not+eval_one+eval_pred+eval_quant+eval_select+eval_test+eval_two.Lts-eval_both as eval-both-lts
+use Rattle.evaluators.proofs.eval_expr.Reads as eval-expr
+use Rattle.evaluators.proofs.eval_expr.Kinds as eval-expr-kinds
+use Rattle.evaluators.proofs.+each_chosen+each_member+eval_bool+eval_both+eval_expr+eval_join+eval_not+eval_one+eval_pred+eval_quant+eval_select+eval_test+eval_two.Lts-eval_expr as eval-expr-lts
+use Rattle.evaluators.proofs.eval_join.Reads as eval-join
+use Rattle.evaluators.proofs.eval_join.Kinds as eval-join-kinds
+use Rattle.evaluators.proofs.+each_chosen+each_member+eval_bool+eval_both+eval_expr+eval_join+eval_not+eval_one+eval_pred+eval_quant+eval_select+eval_test+eval_two.Lts-eval_join as eval-join-lts
+use Rattle.evaluators.proofs.eval_not.Reads as eval-not
+use Rattle.evaluators.proofs.eval_not.Kinds as eval-not-kinds
+use Rattle.evaluators.proofs.+each_chosen+each_member+eval_bool+eval_both+eval_expr+eval_join+eval_not+eval_one+eval_pred+eval_quant+eval_select+eval_test+eval_two.Lts-eval_not as eval-not-lts
+use Rattle.evaluators.proofs.eval_one.Reads as eval-one
+use Rattle.evaluators.proofs.eval_one.Kinds as eval-one-kinds
+use Rattle.evaluators.proofs.+each_chosen+each_member+eval_bool+eval_both+eval_expr+eval_join+eval_not+eval_one+eval_pred+eval_quant+eval_select+eval_test+eval_two.Lts-eval_one as eval-one-lts
+use Rattle.evaluators.proofs.eval_pred.Reads as eval-pred
+use Rattle.evaluators.proofs.eval_pred.Kinds as eval-pred-kinds
+use Rattle.evaluators.proofs.+each_chosen+each_member+eval_bool+eval_both+eval_expr+eval_join+eval_not+eval_one+eval_pred+eval_quant+eval_select+eval_test+eval_two.Lts-eval_pred as eval-pred-lts
+use Rattle.evaluators.proofs.eval_quant.Reads as eval-quant
+use Rattle.evaluators.proofs.eval_quant.Kinds as eval-quant-kinds
+use Rattle.evaluators.proofs.+each_chosen+each_member+eval_bool+eval_both+eval_expr+eval_join+eval_not+eval_one+eval_pred+eval_quant+eval_select+eval_test+eval_two.Lts-eval_quant as eval-quant-lts
+use Rattle.evaluators.proofs.eval_select.Reads as eval-select
+use Rattle.evaluators.proofs.eval_select.Kinds as eval-select-kinds
+use Rattle.evaluators.proofs.+each_chosen+each_member+eval_bool+eval_both+eval_expr+eval_join+eval_not+eval_one+eval_pred+eval_quant+eval_select+eval_test+eval_two.Lts-eval_select as eval-select-lts
+use Rattle.evaluators.proofs.eval_test.Reads as eval-test
+use Rattle.evaluators.proofs.eval_test.Kinds as eval-test-kinds
+use Rattle.evaluators.proofs.+each_chosen+each_member+eval_bool+eval_both+eval_expr+eval_join+eval_not+eval_one+eval_pred+eval_quant+eval_select+eval_test+eval_two.Lts-eval_test as eval-test-lts
+use Rattle.evaluators.proofs.eval_two.Reads as eval-two
+use Rattle.evaluators.proofs.eval_two.Kinds as eval-two-kinds
+use Rattle.evaluators.proofs.+each_chosen+each_member+eval_bool+eval_both+eval_expr+eval_join+eval_not+eval_one+eval_pred+eval_quant+eval_select+eval_test+eval_two.Lts-eval_two as eval-two-lts
+use Rattle.arena.proofs.end_of.Reads as end-of-reads
+use Rattle.evaluators.proofs.choose.Reads as choose-reads
+use Rattle.evaluators.proofs.decides.Reads as decides-reads
+use Rattle.evaluators.proofs.eval_leaf.Reads as eval-leaf-reads
+use Rattle.evaluators.proofs.eval_name.Reads as eval-name-reads
+use Rattle.evaluators.proofs.joined.Reads as joined-reads
+use Rattle.evaluators.proofs.range_of.Reads as range-of-reads
+use Rattle.evaluators.proofs.settle.Reads as settle-reads
+use Rattle.operations.proofs.one.Reads as one-reads
+use Rattle.operations.proofs.test.Reads as test-reads
+use Rattle.operations.proofs.two.Reads as two-reads
+use Rattle.products.proofs.put_cell.Reads as put-cell-reads
+use Rattle.table.proofs.field.Reads as field-reads
+use Rattle.table.proofs.kind.Reads as kind-reads
+use Rattle.evaluators.proofs.+each_chosen+each_member+eval_bool+eval_both+eval_expr+eval_join+eval_not+eval_one+eval_pred+eval_quant+eval_select+eval_test+eval_two.Proof.Base.{eval-bool-at, eval-pred-below}
+use Rattle.arena.proofs.Standing.{same-refl}
+use Rattle.evaluators.proofs.NodeLaws.{ready-child, held-as}
+use Rattle.evaluators.proofs.FormLaws.{byte-small, bool-child, bool-fails, bool-evaluates}
+
+-- src/lib.rt:380:9
+pub eval-bool-field-requires : (t : ℕ) → eval-bool-lts.Need-field-requires (
+  field-reads.Asked,
+  field-reads.Learnt,
+  eval-pred-below t,
+  eval-pred.Post,
+  put-cell-reads.Asked,
+  put-cell-reads.Learnt,
+) (eval-bool-at t) eval-bool.Post
+eval-bool-field-requires t c κs = search needs
+
+-- src/lib.rt:381:50
+pub eval-bool-add-eval-pred : (t : ℕ) → eval-bool-lts.Need-add-eval-pred (
+  field-reads.Asked,
+  field-reads.Learnt,
+  eval-pred-below t,
+  eval-pred.Post,
+  put-cell-reads.Asked,
+  put-cell-reads.Learnt,
+) (eval-bool-at t) eval-bool.Post
+eval-bool-add-eval-pred t c = search needs
+
+-- src/lib.rt:381:11
+pub eval-bool-eval-pred-requires : (t : ℕ) → eval-bool-lts.Need-eval-pred-requires (
+  field-reads.Asked,
+  field-reads.Learnt,
+  eval-pred-below t,
+  eval-pred.Post,
+  put-cell-reads.Asked,
+  put-cell-reads.Learnt,
+) (eval-bool-at t) eval-bool.Post
+eval-bool-eval-pred-requires t c κs =
+    let b = c .before .before .before .before in
+    let d = bool-child (b .pre .1 .0) (b .pre .1 .1) (c .before .field .ensures) in
+    (omega (arith, b .pre .0, d .below), (ready-child _ _ _ _ (b .pre .1 .0 .ready) d (same-refl _ _) (omega arith) (omega arith) (omega (arith, b .pre .1 .0 .spent)), d .is))
+
+-- src/lib.rt:382:23
+pub eval-bool-enum-known-k : (t : ℕ) → eval-bool-lts.Need-enum-known-k (
+  field-reads.Asked,
+  field-reads.Learnt,
+  eval-pred-below t,
+  eval-pred.Post,
+  put-cell-reads.Asked,
+  put-cell-reads.Learnt,
+) (eval-bool-at t) eval-bool.Post
+eval-bool-enum-known-k t c = search needs
+
+-- src/lib.rt:383:21
+pub eval-bool-enum-known-yes : (t : ℕ) → eval-bool-lts.Need-enum-known-yes (
+  field-reads.Asked,
+  field-reads.Learnt,
+  eval-pred-below t,
+  eval-pred.Post,
+  put-cell-reads.Asked,
+  put-cell-reads.Learnt,
+) (eval-bool-at t) eval-bool.Post
+eval-bool-enum-known-yes t c = search needs
+
+-- src/lib.rt:384:63
+pub eval-bool-cast-put-cell : (t : ℕ) → eval-bool-lts.Need-cast-put-cell (
+  field-reads.Asked,
+  field-reads.Learnt,
+  eval-pred-below t,
+  eval-pred.Post,
+  put-cell-reads.Asked,
+  put-cell-reads.Learnt,
+) (eval-bool-at t) eval-bool.Post
+eval-bool-cast-put-cell t c = search needs
+
+-- src/lib.rt:384:50
+pub eval-bool-add-put-cell : (t : ℕ) → eval-bool-lts.Need-add-put-cell (
+  field-reads.Asked,
+  field-reads.Learnt,
+  eval-pred-below t,
+  eval-pred.Post,
+  put-cell-reads.Asked,
+  put-cell-reads.Learnt,
+) (eval-bool-at t) eval-bool.Post
+eval-bool-add-put-cell t c = omega (arith, byte-small (c .before .before .yes .given .0 .0))
+
+-- src/lib.rt:384:17
+pub eval-bool-put-cell-requires : (t : ℕ) → eval-bool-lts.Need-put-cell-requires (
+  field-reads.Asked,
+  field-reads.Learnt,
+  eval-pred-below t,
+  eval-pred.Post,
+  put-cell-reads.Asked,
+  put-cell-reads.Learnt,
+) (eval-bool-at t) eval-bool.Post
+eval-bool-put-cell-requires t c κs = search needs
+
+-- src/lib.rt:366:1
+pub eval-bool-same-length : (t : ℕ) → eval-bool-lts.Need-same-length (
+  field-reads.Asked,
+  field-reads.Learnt,
+  eval-pred-below t,
+  eval-pred.Post,
+  put-cell-reads.Asked,
+  put-cell-reads.Learnt,
+) (eval-bool-at t) eval-bool.Post
+eval-bool-same-length t c = search needs
+
+-- src/lib.rt:366:1
+pub eval-bool-returns : (t : ℕ) → eval-bool-lts.Need-returns (
+  field-reads.Asked,
+  field-reads.Learnt,
+  eval-pred-below t,
+  eval-pred.Post,
+  put-cell-reads.Asked,
+  put-cell-reads.Learnt,
+) (eval-bool-at t) eval-bool.Post
+eval-bool-returns t c =
+    let a = c .before .before .before .before .before in
+    let b = a .before .before .before .before .before in
+    bool-fails (b .pre .1 .0) (b .pre .1 .1) (a .before .before .field .ensures) (held-as refl (c .before .k .given .1) (a .eval-pred .ensures))
+
+-- src/lib.rt:366:1
+pub eval-bool-same-length-2 : (t : ℕ) → eval-bool-lts.Need-same-length-2 (
+  field-reads.Asked,
+  field-reads.Learnt,
+  eval-pred-below t,
+  eval-pred.Post,
+  put-cell-reads.Asked,
+  put-cell-reads.Learnt,
+) (eval-bool-at t) eval-bool.Post
+eval-bool-same-length-2 t c = search needs
+
+-- src/lib.rt:366:1
+pub eval-bool-returns-2 : (t : ℕ) → eval-bool-lts.Need-returns-2 (
+  field-reads.Asked,
+  field-reads.Learnt,
+  eval-pred-below t,
+  eval-pred.Post,
+  put-cell-reads.Asked,
+  put-cell-reads.Learnt,
+) (eval-bool-at t) eval-bool.Post
+eval-bool-returns-2 t c =
+    let g = c .before .before .before .before .before in
+    let a = g .before .before .before .before in
+    let b = a .before .before .before .before .before in
+    bool-evaluates (b .pre .1 .0) (b .pre .1 .1) (a .before .before .field .ensures) (held-as refl (g .yes .given .1) (a .eval-pred .ensures))
+    (c .before .before .put-cell .ensures)

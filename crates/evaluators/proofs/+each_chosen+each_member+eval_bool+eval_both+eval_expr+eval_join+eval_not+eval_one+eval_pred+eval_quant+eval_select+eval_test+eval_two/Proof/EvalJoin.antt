@@ -1,0 +1,351 @@
+-- `eval_join`.
+use Prim.Native.Nat.{ℕ}
+use mathlib.Core.Path.{refl}
+use native.Mathlib.Omega.{arith}
+use borrow.Author.Needs.{needs}
+use Rattle.evaluators.proofs.each_chosen.Reads as each-chosen
+use Rattle.evaluators.proofs.each_chosen.Kinds as each-chosen-kinds
+use Rattle.evaluators.proofs.+each_chosen+each_member+eval_bool+eval_both+eval_expr+eval_join+eval_not+eval_one+eval_pred+eval_quant+eval_select+eval_test+eval_two.Lts-each_chosen as each-chosen-lts
+use Rattle.evaluators.proofs.each_member.Reads as each-member
+use Rattle.evaluators.proofs.each_member.Kinds as each-member-kinds
+use Rattle.evaluators.proofs.+each_chosen+each_member+eval_bool+eval_both+eval_expr+eval_join+eval_not+eval_one+eval_pred+eval_quant+eval_select+eval_test+eval_two.Lts-each_member as each-member-lts
+use Rattle.evaluators.proofs.eval_bool.Reads as eval-bool
+use Rattle.evaluators.proofs.eval_bool.Kinds as eval-bool-kinds
+use Rattle.evaluators.proofs.+each_chosen+each_member+eval_bool+eval_both+eval_expr+eval_join+eval_not+eval_one+eval_pred+eval_quant+eval_select+eval_test+eval_two.Lts-eval_bool as eval-bool-lts
+use Rattle.evaluators.proofs.eval_both.Reads as eval-both
+use Rattle.evaluators.proofs.eval_both.Kinds as eval-both-kinds
+use Rattle.evaluators.proofs.+each_chosen+each_member+eval_bool+eval_both+eval_expr+eval_join+eval_not+eval_one+eval_pred+eval_quant+eval_select+eval_test+eval_two.Lts-eval_both as eval-both-lts
+use Rattle.evaluators.proofs.eval_expr.Reads as eval-expr
+use Rattle.evaluators.proofs.eval_expr.Kinds as eval-expr-kinds
+use Rattle.evaluators.proofs.+each_chosen+each_member+eval_bool+eval_both+eval_expr+eval_join+eval_not+eval_one+eval_pred+eval_quant+eval_select+eval_test+eval_two.Lts-eval_expr as eval-expr-lts
+use Rattle.evaluators.proofs.eval_join.Reads as eval-join
+use Rattle.evaluators.proofs.eval_join.Kinds as eval-join-kinds
+use Rattle.evaluators.proofs.+each_chosen+each_member+eval_bool+eval_both+eval_expr+eval_join+eval_not+eval_one+eval_pred+eval_quant+eval_select+eval_test+eval_two.Lts-eval_join as eval-join-lts
+use Rattle.evaluators.proofs.eval_not.Reads as eval-not
+use Rattle.evaluators.proofs.eval_not.Kinds as eval-not-kinds
+use Rattle.evaluators.proofs.+each_chosen+each_member+eval_bool+eval_both+eval_expr+eval_join+eval_not+eval_one+eval_pred+eval_quant+eval_select+eval_test+eval_two.Lts-eval_not as eval-not-lts
+use Rattle.evaluators.proofs.eval_one.Reads as eval-one
+use Rattle.evaluators.proofs.eval_one.Kinds as eval-one-kinds
+use Rattle.evaluators.proofs.+each_chosen+each_member+eval_bool+eval_both+eval_expr+eval_join+eval_not+eval_one+eval_pred+eval_quant+eval_select+eval_test+eval_two.Lts-eval_one as eval-one-lts
+use Rattle.evaluators.proofs.eval_pred.Reads as eval-pred
+use Rattle.evaluators.proofs.eval_pred.Kinds as eval-pred-kinds
+use Rattle.evaluators.proofs.+each_chosen+each_member+eval_bool+eval_both+eval_expr+eval_join+eval_not+eval_one+eval_pred+eval_quant+eval_select+eval_test+eval_two.Lts-eval_pred as eval-pred-lts
+use Rattle.evaluators.proofs.eval_quant.Reads as eval-quant
+use Rattle.evaluators.proofs.eval_quant.Kinds as eval-quant-kinds
+use Rattle.evaluators.proofs.+each_chosen+each_member+eval_bool+eval_both+eval_expr+eval_join+eval_not+eval_one+eval_pred+eval_quant+eval_select+eval_test+eval_two.Lts-eval_quant as eval-quant-lts
+use Rattle.evaluators.proofs.eval_select.Reads as eval-select
+use Rattle.evaluators.proofs.eval_select.Kinds as eval-select-kinds
+use Rattle.evaluators.proofs.+each_chosen+each_member+eval_bool+eval_both+eval_expr+eval_join+eval_not+eval_one+eval_pred+eval_quant+eval_select+eval_test+eval_two.Lts-eval_select as eval-select-lts
+use Rattle.evaluators.proofs.eval_test.Reads as eval-test
+use Rattle.evaluators.proofs.eval_test.Kinds as eval-test-kinds
+use Rattle.evaluators.proofs.+each_chosen+each_member+eval_bool+eval_both+eval_expr+eval_join+eval_not+eval_one+eval_pred+eval_quant+eval_select+eval_test+eval_two.Lts-eval_test as eval-test-lts
+use Rattle.evaluators.proofs.eval_two.Reads as eval-two
+use Rattle.evaluators.proofs.eval_two.Kinds as eval-two-kinds
+use Rattle.evaluators.proofs.+each_chosen+each_member+eval_bool+eval_both+eval_expr+eval_join+eval_not+eval_one+eval_pred+eval_quant+eval_select+eval_test+eval_two.Lts-eval_two as eval-two-lts
+use Rattle.arena.proofs.end_of.Reads as end-of-reads
+use Rattle.evaluators.proofs.choose.Reads as choose-reads
+use Rattle.evaluators.proofs.decides.Reads as decides-reads
+use Rattle.evaluators.proofs.eval_leaf.Reads as eval-leaf-reads
+use Rattle.evaluators.proofs.eval_name.Reads as eval-name-reads
+use Rattle.evaluators.proofs.joined.Reads as joined-reads
+use Rattle.evaluators.proofs.range_of.Reads as range-of-reads
+use Rattle.evaluators.proofs.settle.Reads as settle-reads
+use Rattle.operations.proofs.one.Reads as one-reads
+use Rattle.operations.proofs.test.Reads as test-reads
+use Rattle.operations.proofs.two.Reads as two-reads
+use Rattle.products.proofs.put_cell.Reads as put-cell-reads
+use Rattle.table.proofs.field.Reads as field-reads
+use Rattle.table.proofs.kind.Reads as kind-reads
+use Rattle.evaluators.proofs.+each_chosen+each_member+eval_bool+eval_both+eval_expr+eval_join+eval_not+eval_one+eval_pred+eval_quant+eval_select+eval_test+eval_two.Proof.Base.{eval-join-at, eval-pred-below}
+use Rattle.rules.specs.Kinds.{join, predicate}
+use Rattle.evaluators.proofs.NodeLaws.{visited-child}
+use Rattle.evaluators.proofs.JoinLaws.{first-ready, join-stays, join-short, join-next, join-ready, join-stays-2, join-both}
+
+-- src/lib.rt:116:9
+pub eval-join-field-requires : (t : ℕ) → eval-join-lts.Need-field-requires (
+  field-reads.Asked,
+  field-reads.Learnt,
+  eval-pred-below t,
+  eval-pred.Post,
+  decides-reads.Asked,
+  decides-reads.Learnt,
+  joined-reads.Asked,
+  joined-reads.Learnt,
+) (eval-join-at t) eval-join.Post
+eval-join-field-requires t c κs = search needs
+
+-- src/lib.rt:117:56
+pub eval-join-add-eval-pred : (t : ℕ) → eval-join-lts.Need-add-eval-pred (
+  field-reads.Asked,
+  field-reads.Learnt,
+  eval-pred-below t,
+  eval-pred.Post,
+  decides-reads.Asked,
+  decides-reads.Learnt,
+  joined-reads.Asked,
+  joined-reads.Learnt,
+) (eval-join-at t) eval-join.Post
+eval-join-add-eval-pred t c = search needs
+
+-- src/lib.rt:117:9
+pub eval-join-eval-pred-requires : (t : ℕ) → eval-join-lts.Need-eval-pred-requires (
+  field-reads.Asked,
+  field-reads.Learnt,
+  eval-pred-below t,
+  eval-pred.Post,
+  decides-reads.Asked,
+  decides-reads.Learnt,
+  joined-reads.Asked,
+  joined-reads.Learnt,
+) (eval-join-at t) eval-join.Post
+eval-join-eval-pred-requires t c κs =
+    let c1 = c .before in
+    let c0 = c1 .before .before .before in
+    let d = visited-child (c0 .pre .1 .0) (join (c0 .pre .1 .1 .0)) (c0 .pre .1 .1 .1) predicate 0 _ (omega arith) (omega arith) refl (c1 .field .ensures) in
+    (omega (arith, c0 .pre .0, d .below), first-ready (c0 .pre .1 .0) d)
+
+-- src/lib.rt:118:21
+pub eval-join-enum-known-first : (t : ℕ) → eval-join-lts.Need-enum-known-first (
+  field-reads.Asked,
+  field-reads.Learnt,
+  eval-pred-below t,
+  eval-pred.Post,
+  decides-reads.Asked,
+  decides-reads.Learnt,
+  joined-reads.Asked,
+  joined-reads.Learnt,
+) (eval-join-at t) eval-join.Post
+eval-join-enum-known-first t c = search needs
+
+-- src/lib.rt:119:9
+pub eval-join-enum-told : (t : ℕ) → eval-join-lts.Need-enum-told (
+  field-reads.Asked,
+  field-reads.Learnt,
+  eval-pred-below t,
+  eval-pred.Post,
+  decides-reads.Asked,
+  decides-reads.Learnt,
+  joined-reads.Asked,
+  joined-reads.Learnt,
+) (eval-join-at t) eval-join.Post
+eval-join-enum-told t c = search needs
+
+-- src/lib.rt:119:9
+pub eval-join-same-length : (t : ℕ) → eval-join-lts.Need-same-length (
+  field-reads.Asked,
+  field-reads.Learnt,
+  eval-pred-below t,
+  eval-pred.Post,
+  decides-reads.Asked,
+  decides-reads.Learnt,
+  joined-reads.Asked,
+  joined-reads.Learnt,
+) (eval-join-at t) eval-join.Post
+eval-join-same-length t c = search needs
+
+-- src/lib.rt:119:9
+pub eval-join-returns : (t : ℕ) → eval-join-lts.Need-returns (
+  field-reads.Asked,
+  field-reads.Learnt,
+  eval-pred-below t,
+  eval-pred.Post,
+  decides-reads.Asked,
+  decides-reads.Learnt,
+  joined-reads.Asked,
+  joined-reads.Learnt,
+) (eval-join-at t) eval-join.Post
+eval-join-returns t c =
+    let c2 = c .before .before .before .before in
+    let c1 = c2 .before .before in
+    let c0 = c1 .before .before .before in
+    join-stays (c0 .pre .1 .0) (c0 .pre .1 .1 .0) (c0 .pre .1 .1 .1) (c1 .field .ensures) (c2 .eval-pred .ensures) (c .enum-told .given .1)
+
+-- src/lib.rt:121:8
+pub eval-join-decides-requires : (t : ℕ) → eval-join-lts.Need-decides-requires (
+  field-reads.Asked,
+  field-reads.Learnt,
+  eval-pred-below t,
+  eval-pred.Post,
+  decides-reads.Asked,
+  decides-reads.Learnt,
+  joined-reads.Asked,
+  joined-reads.Learnt,
+) (eval-join-at t) eval-join.Post
+eval-join-decides-requires t c κs = search needs
+
+-- src/lib.rt:122:9
+pub eval-join-same-length-2 : (t : ℕ) → eval-join-lts.Need-same-length-2 (
+  field-reads.Asked,
+  field-reads.Learnt,
+  eval-pred-below t,
+  eval-pred.Post,
+  decides-reads.Asked,
+  decides-reads.Learnt,
+  joined-reads.Asked,
+  joined-reads.Learnt,
+) (eval-join-at t) eval-join.Post
+eval-join-same-length-2 t c = search needs
+
+-- src/lib.rt:122:9
+pub eval-join-returns-2 : (t : ℕ) → eval-join-lts.Need-returns-2 (
+  field-reads.Asked,
+  field-reads.Learnt,
+  eval-pred-below t,
+  eval-pred.Post,
+  decides-reads.Asked,
+  decides-reads.Learnt,
+  joined-reads.Asked,
+  joined-reads.Learnt,
+) (eval-join-at t) eval-join.Post
+eval-join-returns-2 t c =
+    let c4 = c .before in
+    let c3 = c4 .before .before in
+    let c2 = c3 .before .before .before .before in
+    let c1 = c2 .before .before in
+    let c0 = c1 .before .before .before in
+    join-short (c0 .pre .1 .0) (c0 .pre .1 .1 .0) (c0 .pre .1 .1 .1) (c1 .field .ensures) (c2 .eval-pred .ensures) (c3 .first .given .1) (c4 .decides .ensures) (c .if1 .taken)
+
+-- src/lib.rt:124:9
+pub eval-join-field-requires-2 : (t : ℕ) → eval-join-lts.Need-field-requires-2 (
+  field-reads.Asked,
+  field-reads.Learnt,
+  eval-pred-below t,
+  eval-pred.Post,
+  decides-reads.Asked,
+  decides-reads.Learnt,
+  joined-reads.Asked,
+  joined-reads.Learnt,
+) (eval-join-at t) eval-join.Post
+eval-join-field-requires-2 t c κs = search needs
+
+-- src/lib.rt:125:9
+pub eval-join-eval-pred-requires-2 : (t : ℕ) → eval-join-lts.Need-eval-pred-requires-2 (
+  field-reads.Asked,
+  field-reads.Learnt,
+  eval-pred-below t,
+  eval-pred.Post,
+  decides-reads.Asked,
+  decides-reads.Learnt,
+  joined-reads.Asked,
+  joined-reads.Learnt,
+) (eval-join-at t) eval-join.Post
+eval-join-eval-pred-requires-2 t c κs =
+    let c6 = c .before in
+    let c5 = c6 .before in
+    let c4 = c5 .before in
+    let c3 = c4 .before .before in
+    let c2 = c3 .before .before .before .before in
+    let c1 = c2 .before .before in
+    let c0 = c1 .before .before .before in
+    let d = join-next (c0 .pre .1 .0) (c0 .pre .1 .1 .0) (c0 .pre .1 .1 .1) (c1 .field .ensures) (c2 .eval-pred .ensures) (c3 .first .given .1) (c4 .decides .ensures) (c5 .if1 .left) (c6 .field2 .ensures) in
+    (omega (arith, c0 .pre .0, d .below), join-ready (c0 .pre .1 .0) (c0 .pre .1 .1 .0) (c0 .pre .1 .1 .1) (c1 .field .ensures) (c2 .eval-pred .ensures) (c3 .first .given .1) (c4 .decides .ensures) (c5 .if1 .left) (c6 .field2 .ensures))
+
+-- src/lib.rt:126:21
+pub eval-join-enum-known-second : (t : ℕ) → eval-join-lts.Need-enum-known-second (
+  field-reads.Asked,
+  field-reads.Learnt,
+  eval-pred-below t,
+  eval-pred.Post,
+  decides-reads.Asked,
+  decides-reads.Learnt,
+  joined-reads.Asked,
+  joined-reads.Learnt,
+) (eval-join-at t) eval-join.Post
+eval-join-enum-known-second t c = search needs
+
+-- src/lib.rt:127:9
+pub eval-join-enum-told-2 : (t : ℕ) → eval-join-lts.Need-enum-told-2 (
+  field-reads.Asked,
+  field-reads.Learnt,
+  eval-pred-below t,
+  eval-pred.Post,
+  decides-reads.Asked,
+  decides-reads.Learnt,
+  joined-reads.Asked,
+  joined-reads.Learnt,
+) (eval-join-at t) eval-join.Post
+eval-join-enum-told-2 t c = search needs
+
+-- src/lib.rt:127:9
+pub eval-join-same-length-3 : (t : ℕ) → eval-join-lts.Need-same-length-3 (
+  field-reads.Asked,
+  field-reads.Learnt,
+  eval-pred-below t,
+  eval-pred.Post,
+  decides-reads.Asked,
+  decides-reads.Learnt,
+  joined-reads.Asked,
+  joined-reads.Learnt,
+) (eval-join-at t) eval-join.Post
+eval-join-same-length-3 t c = search needs
+
+-- src/lib.rt:127:9
+pub eval-join-returns-3 : (t : ℕ) → eval-join-lts.Need-returns-3 (
+  field-reads.Asked,
+  field-reads.Learnt,
+  eval-pred-below t,
+  eval-pred.Post,
+  decides-reads.Asked,
+  decides-reads.Learnt,
+  joined-reads.Asked,
+  joined-reads.Learnt,
+) (eval-join-at t) eval-join.Post
+eval-join-returns-3 t c =
+    let c7 = c .before .before .before .before in
+    let c6 = c7 .before .before in
+    let c5 = c6 .before in
+    let c4 = c5 .before in
+    let c3 = c4 .before .before in
+    let c2 = c3 .before .before .before .before in
+    let c1 = c2 .before .before in
+    let c0 = c1 .before .before .before in
+    join-stays-2 (c0 .pre .1 .0) (c0 .pre .1 .1 .0) (c0 .pre .1 .1 .1) (c1 .field .ensures) (c2 .eval-pred .ensures) (c3 .first .given .1) (c4 .decides .ensures) (c5 .if1 .left) (c6 .field2 .ensures) (c7 .eval-pred2 .ensures) (c .enum-told2 .given .1)
+
+-- src/lib.rt:129:17
+pub eval-join-joined-requires : (t : ℕ) → eval-join-lts.Need-joined-requires (
+  field-reads.Asked,
+  field-reads.Learnt,
+  eval-pred-below t,
+  eval-pred.Post,
+  decides-reads.Asked,
+  decides-reads.Learnt,
+  joined-reads.Asked,
+  joined-reads.Learnt,
+) (eval-join-at t) eval-join.Post
+eval-join-joined-requires t c κs = search needs
+
+-- src/lib.rt:102:1
+pub eval-join-same-length-4 : (t : ℕ) → eval-join-lts.Need-same-length-4 (
+  field-reads.Asked,
+  field-reads.Learnt,
+  eval-pred-below t,
+  eval-pred.Post,
+  decides-reads.Asked,
+  decides-reads.Learnt,
+  joined-reads.Asked,
+  joined-reads.Learnt,
+) (eval-join-at t) eval-join.Post
+eval-join-same-length-4 t c = search needs
+
+-- src/lib.rt:102:1
+pub eval-join-returns-4 : (t : ℕ) → eval-join-lts.Need-returns-4 (
+  field-reads.Asked,
+  field-reads.Learnt,
+  eval-pred-below t,
+  eval-pred.Post,
+  decides-reads.Asked,
+  decides-reads.Learnt,
+  joined-reads.Asked,
+  joined-reads.Learnt,
+) (eval-join-at t) eval-join.Post
+eval-join-returns-4 t c =
+    let c8 = c .before .before in
+    let c7 = c8 .before .before .before .before in
+    let c6 = c7 .before .before in
+    let c5 = c6 .before in
+    let c4 = c5 .before in
+    let c3 = c4 .before .before in
+    let c2 = c3 .before .before .before .before in
+    let c1 = c2 .before .before in
+    let c0 = c1 .before .before .before in
+    join-both (c0 .pre .1 .0) (c0 .pre .1 .1 .0) (c0 .pre .1 .1 .1) (c1 .field .ensures) (c2 .eval-pred .ensures) (c3 .first .given .1) (c4 .decides .ensures) (c5 .if1 .left) (c6 .field2 .ensures) (c7 .eval-pred2 .ensures) (c8 .second .given .1) (c .joined .ensures)

@@ -1,0 +1,229 @@
+-- `eval_one`.
+use Prim.Native.Nat.{ℕ}
+use mathlib.Core.Path.{refl, sym}
+use native.Mathlib.Omega.{arith}
+use borrow.Author.Needs.{needs}
+use borrow.Fn.PlainCycle.{is}
+use Rattle.evaluators.proofs.each_chosen.Reads as each-chosen
+use Rattle.evaluators.proofs.each_chosen.Kinds as each-chosen-kinds
+use Rattle.evaluators.proofs.+each_chosen+each_member+eval_bool+eval_both+eval_expr+eval_join+eval_not+eval_one+eval_pred+eval_quant+eval_select+eval_test+eval_two.Lts-each_chosen as each-chosen-lts
+use Rattle.evaluators.proofs.each_member.Reads as each-member
+use Rattle.evaluators.proofs.each_member.Kinds as each-member-kinds
+use Rattle.evaluators.proofs.+each_chosen+each_member+eval_bool+eval_both+eval_expr+eval_join+eval_not+eval_one+eval_pred+eval_quant+eval_select+eval_test+eval_two.Lts-each_member as each-member-lts
+use Rattle.evaluators.proofs.eval_bool.Reads as eval-bool
+use Rattle.evaluators.proofs.eval_bool.Kinds as eval-bool-kinds
+use Rattle.evaluators.proofs.+each_chosen+each_member+eval_bool+eval_both+eval_expr+eval_join+eval_not+eval_one+eval_pred+eval_quant+eval_select+eval_test+eval_two.Lts-eval_bool as eval-bool-lts
+use Rattle.evaluators.proofs.eval_both.Reads as eval-both
+use Rattle.evaluators.proofs.eval_both.Kinds as eval-both-kinds
+use Rattle.evaluators.proofs.+each_chosen+each_member+eval_bool+eval_both+eval_expr+eval_join+eval_not+eval_one+eval_pred+eval_quant+eval_select+eval_test+eval_two.Lts-eval_both as eval-both-lts
+use Rattle.evaluators.proofs.eval_expr.Reads as eval-expr
+use Rattle.evaluators.proofs.eval_expr.Kinds as eval-expr-kinds
+use Rattle.evaluators.proofs.+each_chosen+each_member+eval_bool+eval_both+eval_expr+eval_join+eval_not+eval_one+eval_pred+eval_quant+eval_select+eval_test+eval_two.Lts-eval_expr as eval-expr-lts
+use Rattle.evaluators.proofs.eval_join.Reads as eval-join
+use Rattle.evaluators.proofs.eval_join.Kinds as eval-join-kinds
+use Rattle.evaluators.proofs.+each_chosen+each_member+eval_bool+eval_both+eval_expr+eval_join+eval_not+eval_one+eval_pred+eval_quant+eval_select+eval_test+eval_two.Lts-eval_join as eval-join-lts
+use Rattle.evaluators.proofs.eval_not.Reads as eval-not
+use Rattle.evaluators.proofs.eval_not.Kinds as eval-not-kinds
+use Rattle.evaluators.proofs.+each_chosen+each_member+eval_bool+eval_both+eval_expr+eval_join+eval_not+eval_one+eval_pred+eval_quant+eval_select+eval_test+eval_two.Lts-eval_not as eval-not-lts
+use Rattle.evaluators.proofs.eval_one.Reads as eval-one
+use Rattle.evaluators.proofs.eval_one.Kinds as eval-one-kinds
+use Rattle.evaluators.proofs.+each_chosen+each_member+eval_bool+eval_both+eval_expr+eval_join+eval_not+eval_one+eval_pred+eval_quant+eval_select+eval_test+eval_two.Lts-eval_one as eval-one-lts
+use Rattle.evaluators.proofs.eval_pred.Reads as eval-pred
+use Rattle.evaluators.proofs.eval_pred.Kinds as eval-pred-kinds
+use Rattle.evaluators.proofs.+each_chosen+each_member+eval_bool+eval_both+eval_expr+eval_join+eval_not+eval_one+eval_pred+eval_quant+eval_select+eval_test+eval_two.Lts-eval_pred as eval-pred-lts
+use Rattle.evaluators.proofs.eval_quant.Reads as eval-quant
+use Rattle.evaluators.proofs.eval_quant.Kinds as eval-quant-kinds
+use Rattle.evaluators.proofs.+each_chosen+each_member+eval_bool+eval_both+eval_expr+eval_join+eval_not+eval_one+eval_pred+eval_quant+eval_select+eval_test+eval_two.Lts-eval_quant as eval-quant-lts
+use Rattle.evaluators.proofs.eval_select.Reads as eval-select
+use Rattle.evaluators.proofs.eval_select.Kinds as eval-select-kinds
+use Rattle.evaluators.proofs.+each_chosen+each_member+eval_bool+eval_both+eval_expr+eval_join+eval_not+eval_one+eval_pred+eval_quant+eval_select+eval_test+eval_two.Lts-eval_select as eval-select-lts
+use Rattle.evaluators.proofs.eval_test.Reads as eval-test
+use Rattle.evaluators.proofs.eval_test.Kinds as eval-test-kinds
+use Rattle.evaluators.proofs.+each_chosen+each_member+eval_bool+eval_both+eval_expr+eval_join+eval_not+eval_one+eval_pred+eval_quant+eval_select+eval_test+eval_two.Lts-eval_test as eval-test-lts
+use Rattle.evaluators.proofs.eval_two.Reads as eval-two
+use Rattle.evaluators.proofs.eval_two.Kinds as eval-two-kinds
+use Rattle.evaluators.proofs.+each_chosen+each_member+eval_bool+eval_both+eval_expr+eval_join+eval_not+eval_one+eval_pred+eval_quant+eval_select+eval_test+eval_two.Lts-eval_two as eval-two-lts
+use Rattle.arena.proofs.end_of.Reads as end-of-reads
+use Rattle.evaluators.proofs.choose.Reads as choose-reads
+use Rattle.evaluators.proofs.decides.Reads as decides-reads
+use Rattle.evaluators.proofs.eval_leaf.Reads as eval-leaf-reads
+use Rattle.evaluators.proofs.eval_name.Reads as eval-name-reads
+use Rattle.evaluators.proofs.joined.Reads as joined-reads
+use Rattle.evaluators.proofs.range_of.Reads as range-of-reads
+use Rattle.evaluators.proofs.settle.Reads as settle-reads
+use Rattle.operations.proofs.one.Reads as one-reads
+use Rattle.operations.proofs.test.Reads as test-reads
+use Rattle.operations.proofs.two.Reads as two-reads
+use Rattle.products.proofs.put_cell.Reads as put-cell-reads
+use Rattle.table.proofs.field.Reads as field-reads
+use Rattle.table.proofs.kind.Reads as kind-reads
+use Rattle.evaluators.proofs.+each_chosen+each_member+eval_bool+eval_both+eval_expr+eval_join+eval_not+eval_one+eval_pred+eval_quant+eval_select+eval_test+eval_two.Proof.Base.{eval-expr-below, eval-one-at}
+use Rattle.arena.proofs.Standing.{same-refl}
+use Rattle.evaluators.proofs.NodeLaws.{ready-child, formed-as}
+use Rattle.evaluators.proofs.FormLaws.{one-child, one-fails, one-ready, one-settles, one-evaluates}
+
+-- src/lib.rt:451:9
+pub eval-one-field-requires : (t : ℕ) → eval-one-lts.Need-field-requires (
+  field-reads.Asked,
+  field-reads.Learnt,
+  eval-expr-below t,
+  eval-expr.Post,
+  one-reads.Asked,
+  one-reads.Learnt,
+  settle-reads.Asked,
+  settle-reads.Learnt,
+) (eval-one-at t) eval-one.Post
+eval-one-field-requires t c κs = search needs
+
+-- src/lib.rt:452:56
+pub eval-one-add-eval-expr : (t : ℕ) → eval-one-lts.Need-add-eval-expr (
+  field-reads.Asked,
+  field-reads.Learnt,
+  eval-expr-below t,
+  eval-expr.Post,
+  one-reads.Asked,
+  one-reads.Learnt,
+  settle-reads.Asked,
+  settle-reads.Learnt,
+) (eval-one-at t) eval-one.Post
+eval-one-add-eval-expr t c = search needs
+
+-- src/lib.rt:452:9
+pub eval-one-eval-expr-requires : (t : ℕ) → eval-one-lts.Need-eval-expr-requires (
+  field-reads.Asked,
+  field-reads.Learnt,
+  eval-expr-below t,
+  eval-expr.Post,
+  one-reads.Asked,
+  one-reads.Learnt,
+  settle-reads.Asked,
+  settle-reads.Learnt,
+) (eval-one-at t) eval-one.Post
+eval-one-eval-expr-requires t c κs =
+    let b = c .before .before .before .before in
+    let d = one-child (b .pre .1 .0) (b .pre .1 .1 .0) (b .pre .1 .1 .1) (c .before .field .ensures) in
+    (omega (arith, b .pre .0, d .below), (ready-child _ _ _ _ (b .pre .1 .0 .ready) d (same-refl _ _) (omega arith) (omega arith) (omega (arith, b .pre .1 .0 .spent)), d .is))
+
+-- src/lib.rt:453:23
+pub eval-one-enum-known-formed : (t : ℕ) → eval-one-lts.Need-enum-known-formed (
+  field-reads.Asked,
+  field-reads.Learnt,
+  eval-expr-below t,
+  eval-expr.Post,
+  one-reads.Asked,
+  one-reads.Learnt,
+  settle-reads.Asked,
+  settle-reads.Learnt,
+) (eval-one-at t) eval-one.Post
+eval-one-enum-known-formed t c = search needs
+
+-- src/lib.rt:454:9
+pub eval-one-enum-told : (t : ℕ) → eval-one-lts.Need-enum-told (
+  field-reads.Asked,
+  field-reads.Learnt,
+  eval-expr-below t,
+  eval-expr.Post,
+  one-reads.Asked,
+  one-reads.Learnt,
+  settle-reads.Asked,
+  settle-reads.Learnt,
+) (eval-one-at t) eval-one.Post
+eval-one-enum-told t c = search needs
+
+-- src/lib.rt:454:9
+pub eval-one-same-length : (t : ℕ) → eval-one-lts.Need-same-length (
+  field-reads.Asked,
+  field-reads.Learnt,
+  eval-expr-below t,
+  eval-expr.Post,
+  one-reads.Asked,
+  one-reads.Learnt,
+  settle-reads.Asked,
+  settle-reads.Learnt,
+) (eval-one-at t) eval-one.Post
+eval-one-same-length t c = search needs
+
+-- src/lib.rt:454:9
+pub eval-one-returns : (t : ℕ) → eval-one-lts.Need-returns (
+  field-reads.Asked,
+  field-reads.Learnt,
+  eval-expr-below t,
+  eval-expr.Post,
+  one-reads.Asked,
+  one-reads.Learnt,
+  settle-reads.Asked,
+  settle-reads.Learnt,
+) (eval-one-at t) eval-one.Post
+eval-one-returns t c =
+    let a = c .before .before .before .before in
+    let b = a .before .before .before .before .before in
+    let e = c .enum-told .given .1 in
+    formed-as refl (sym e)
+    (one-fails (b .pre .1 .0) (b .pre .1 .1 .0) (b .pre .1 .1 .1) (a .before .before .field .ensures) (formed-as refl e (a .eval-expr .ensures)))
+
+-- src/lib.rt:456:9
+pub eval-one-one-requires : (t : ℕ) → eval-one-lts.Need-one-requires (
+  field-reads.Asked,
+  field-reads.Learnt,
+  eval-expr-below t,
+  eval-expr.Post,
+  one-reads.Asked,
+  one-reads.Learnt,
+  settle-reads.Asked,
+  settle-reads.Learnt,
+) (eval-one-at t) eval-one.Post
+eval-one-one-requires t c κs =
+    let a = c .before .before .before .before .before .before in
+    let b = a .before .before .before .before .before in
+    one-ready (b .pre .1 .0) (b .pre .1 .1 .0) (b .pre .1 .1 .1) (a .before .before .field .ensures)
+    (formed-as refl (c .before .before .formed .given .1) (a .eval-expr .ensures))
+
+-- src/lib.rt:457:5
+pub eval-one-settle-requires : (t : ℕ) → eval-one-lts.Need-settle-requires (
+  field-reads.Asked,
+  field-reads.Learnt,
+  eval-expr-below t,
+  eval-expr.Post,
+  one-reads.Asked,
+  one-reads.Learnt,
+  settle-reads.Asked,
+  settle-reads.Learnt,
+) (eval-one-at t) eval-one.Post
+eval-one-settle-requires t c κs =
+    let g = c .before .before .before .before .before .before in
+    let a = g .before .before .before .before in
+    let b = a .before .before .before .before .before in
+    one-settles (b .pre .1 .0) (b .pre .1 .1 .0) (b .pre .1 .1 .1) (a .before .before .field .ensures)
+    (formed-as refl (g .formed .given .1) (a .eval-expr .ensures)) (c .before .before .before .one .ensures)
+
+-- src/lib.rt:437:1
+pub eval-one-same-length-2 : (t : ℕ) → eval-one-lts.Need-same-length-2 (
+  field-reads.Asked,
+  field-reads.Learnt,
+  eval-expr-below t,
+  eval-expr.Post,
+  one-reads.Asked,
+  one-reads.Learnt,
+  settle-reads.Asked,
+  settle-reads.Learnt,
+) (eval-one-at t) eval-one.Post
+eval-one-same-length-2 t c = search needs
+
+-- src/lib.rt:437:1
+pub eval-one-returns-2 : (t : ℕ) → eval-one-lts.Need-returns-2 (
+  field-reads.Asked,
+  field-reads.Learnt,
+  eval-expr-below t,
+  eval-expr.Post,
+  one-reads.Asked,
+  one-reads.Learnt,
+  settle-reads.Asked,
+  settle-reads.Learnt,
+) (eval-one-at t) eval-one.Post
+eval-one-returns-2 t c =
+    let o = c .before .before .before .before .before .before in
+    let g = o .before .before .before in
+    let a = g .before .before .before .before in
+    let b = a .before .before .before .before .before in
+    one-evaluates (b .pre .1 .0) (b .pre .1 .1 .0) (b .pre .1 .1 .1) (a .before .before .field .ensures)
+    (formed-as refl (g .formed .given .1) (a .eval-expr .ensures)) (o .one .ensures) (c .before .before .settle .ensures)

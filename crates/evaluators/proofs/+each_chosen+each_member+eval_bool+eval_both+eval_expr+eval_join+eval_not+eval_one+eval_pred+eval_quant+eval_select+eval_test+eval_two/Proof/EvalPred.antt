@@ -1,0 +1,284 @@
+-- `eval_pred`.
+use Prim.Native.Nat.{ℕ}
+use native.Mathlib.Omega.{arith}
+use borrow.Author.Needs.{needs}
+use Rattle.evaluators.proofs.each_chosen.Reads as each-chosen
+use Rattle.evaluators.proofs.each_chosen.Kinds as each-chosen-kinds
+use Rattle.evaluators.proofs.+each_chosen+each_member+eval_bool+eval_both+eval_expr+eval_join+eval_not+eval_one+eval_pred+eval_quant+eval_select+eval_test+eval_two.Lts-each_chosen as each-chosen-lts
+use Rattle.evaluators.proofs.each_member.Reads as each-member
+use Rattle.evaluators.proofs.each_member.Kinds as each-member-kinds
+use Rattle.evaluators.proofs.+each_chosen+each_member+eval_bool+eval_both+eval_expr+eval_join+eval_not+eval_one+eval_pred+eval_quant+eval_select+eval_test+eval_two.Lts-each_member as each-member-lts
+use Rattle.evaluators.proofs.eval_bool.Reads as eval-bool
+use Rattle.evaluators.proofs.eval_bool.Kinds as eval-bool-kinds
+use Rattle.evaluators.proofs.+each_chosen+each_member+eval_bool+eval_both+eval_expr+eval_join+eval_not+eval_one+eval_pred+eval_quant+eval_select+eval_test+eval_two.Lts-eval_bool as eval-bool-lts
+use Rattle.evaluators.proofs.eval_both.Reads as eval-both
+use Rattle.evaluators.proofs.eval_both.Kinds as eval-both-kinds
+use Rattle.evaluators.proofs.+each_chosen+each_member+eval_bool+eval_both+eval_expr+eval_join+eval_not+eval_one+eval_pred+eval_quant+eval_select+eval_test+eval_two.Lts-eval_both as eval-both-lts
+use Rattle.evaluators.proofs.eval_expr.Reads as eval-expr
+use Rattle.evaluators.proofs.eval_expr.Kinds as eval-expr-kinds
+use Rattle.evaluators.proofs.+each_chosen+each_member+eval_bool+eval_both+eval_expr+eval_join+eval_not+eval_one+eval_pred+eval_quant+eval_select+eval_test+eval_two.Lts-eval_expr as eval-expr-lts
+use Rattle.evaluators.proofs.eval_join.Reads as eval-join
+use Rattle.evaluators.proofs.eval_join.Kinds as eval-join-kinds
+use Rattle.evaluators.proofs.+each_chosen+each_member+eval_bool+eval_both+eval_expr+eval_join+eval_not+eval_one+eval_pred+eval_quant+eval_select+eval_test+eval_two.Lts-eval_join as eval-join-lts
+use Rattle.evaluators.proofs.eval_not.Reads as eval-not
+use Rattle.evaluators.proofs.eval_not.Kinds as eval-not-kinds
+use Rattle.evaluators.proofs.+each_chosen+each_member+eval_bool+eval_both+eval_expr+eval_join+eval_not+eval_one+eval_pred+eval_quant+eval_select+eval_test+eval_two.Lts-eval_not as eval-not-lts
+use Rattle.evaluators.proofs.eval_one.Reads as eval-one
+use Rattle.evaluators.proofs.eval_one.Kinds as eval-one-kinds
+use Rattle.evaluators.proofs.+each_chosen+each_member+eval_bool+eval_both+eval_expr+eval_join+eval_not+eval_one+eval_pred+eval_quant+eval_select+eval_test+eval_two.Lts-eval_one as eval-one-lts
+use Rattle.evaluators.proofs.eval_pred.Reads as eval-pred
+use Rattle.evaluators.proofs.eval_pred.Kinds as eval-pred-kinds
+use Rattle.evaluators.proofs.+each_chosen+each_member+eval_bool+eval_both+eval_expr+eval_join+eval_not+eval_one+eval_pred+eval_quant+eval_select+eval_test+eval_two.Lts-eval_pred as eval-pred-lts
+use Rattle.evaluators.proofs.eval_quant.Reads as eval-quant
+use Rattle.evaluators.proofs.eval_quant.Kinds as eval-quant-kinds
+use Rattle.evaluators.proofs.+each_chosen+each_member+eval_bool+eval_both+eval_expr+eval_join+eval_not+eval_one+eval_pred+eval_quant+eval_select+eval_test+eval_two.Lts-eval_quant as eval-quant-lts
+use Rattle.evaluators.proofs.eval_select.Reads as eval-select
+use Rattle.evaluators.proofs.eval_select.Kinds as eval-select-kinds
+use Rattle.evaluators.proofs.+each_chosen+each_member+eval_bool+eval_both+eval_expr+eval_join+eval_not+eval_one+eval_pred+eval_quant+eval_select+eval_test+eval_two.Lts-eval_select as eval-select-lts
+use Rattle.evaluators.proofs.eval_test.Reads as eval-test
+use Rattle.evaluators.proofs.eval_test.Kinds as eval-test-kinds
+use Rattle.evaluators.proofs.+each_chosen+each_member+eval_bool+eval_both+eval_expr+eval_join+eval_not+eval_one+eval_pred+eval_quant+eval_select+eval_test+eval_two.Lts-eval_test as eval-test-lts
+use Rattle.evaluators.proofs.eval_two.Reads as eval-two
+use Rattle.evaluators.proofs.eval_two.Kinds as eval-two-kinds
+use Rattle.evaluators.proofs.+each_chosen+each_member+eval_bool+eval_both+eval_expr+eval_join+eval_not+eval_one+eval_pred+eval_quant+eval_select+eval_test+eval_two.Lts-eval_two as eval-two-lts
+use Rattle.arena.proofs.end_of.Reads as end-of-reads
+use Rattle.evaluators.proofs.choose.Reads as choose-reads
+use Rattle.evaluators.proofs.decides.Reads as decides-reads
+use Rattle.evaluators.proofs.eval_leaf.Reads as eval-leaf-reads
+use Rattle.evaluators.proofs.eval_name.Reads as eval-name-reads
+use Rattle.evaluators.proofs.joined.Reads as joined-reads
+use Rattle.evaluators.proofs.range_of.Reads as range-of-reads
+use Rattle.evaluators.proofs.settle.Reads as settle-reads
+use Rattle.operations.proofs.one.Reads as one-reads
+use Rattle.operations.proofs.test.Reads as test-reads
+use Rattle.operations.proofs.two.Reads as two-reads
+use Rattle.products.proofs.put_cell.Reads as put-cell-reads
+use Rattle.table.proofs.field.Reads as field-reads
+use Rattle.table.proofs.kind.Reads as kind-reads
+use Rattle.evaluators.proofs.+each_chosen+each_member+eval_bool+eval_both+eval_expr+eval_join+eval_not+eval_one+eval_pred+eval_quant+eval_select+eval_test+eval_two.Proof.Base.{eval-join-below, eval-not-below, eval-pred-at, eval-quant-below, eval-test-below}
+use mathlib.Core.Logic.{⊎-elim}
+use Rattle.evaluators.proofs.DispatchLaws.{spent-pred, counted, test-sort, quant-sort, join-kind}
+
+-- src/lib.rt:74:9
+pub eval-pred-returns : (t : ℕ) → eval-pred-lts.Need-returns (
+  kind-reads.Asked,
+  kind-reads.Learnt,
+  eval-not-below t,
+  eval-not.Post,
+  eval-test-below t,
+  eval-test.Post,
+  eval-quant-below t,
+  eval-quant.Post,
+  eval-join-below t,
+  eval-join.Post,
+) (eval-pred-at t) eval-pred.Post
+eval-pred-returns t c =
+    let c1 = c .before .before .before in
+    spent-pred (c1 .pre .1 .0) (c .if1 .taken)
+
+-- src/lib.rt:76:9
+pub eval-pred-kind-requires : (t : ℕ) → eval-pred-lts.Need-kind-requires (
+  kind-reads.Asked,
+  kind-reads.Learnt,
+  eval-not-below t,
+  eval-not.Post,
+  eval-test-below t,
+  eval-test.Post,
+  eval-quant-below t,
+  eval-quant.Post,
+  eval-join-below t,
+  eval-join.Post,
+) (eval-pred-at t) eval-pred.Post
+eval-pred-kind-requires t c κs = search needs
+
+-- src/lib.rt:78:14
+pub eval-pred-eval-not-requires : (t : ℕ) → eval-pred-lts.Need-eval-not-requires (
+  kind-reads.Asked,
+  kind-reads.Learnt,
+  eval-not-below t,
+  eval-not.Post,
+  eval-test-below t,
+  eval-test.Post,
+  eval-quant-below t,
+  eval-quant.Post,
+  eval-join-below t,
+  eval-join.Post,
+) (eval-pred-at t) eval-pred.Post
+eval-pred-eval-not-requires t c κs =
+    let c1 = c .before .before .before .before .before .before in
+    let v = counted (c1 .pre .1 .0) _ (c .before .before .before .if1 .left) (c .before .before .kind .ensures) in
+    (omega (arith, c1 .pre .0), (v, c .before .match .keys1))
+
+-- src/lib.rt:79:18
+pub eval-pred-eval-test-requires : (t : ℕ) → eval-pred-lts.Need-eval-test-requires (
+  kind-reads.Asked,
+  kind-reads.Learnt,
+  eval-not-below t,
+  eval-not.Post,
+  eval-test-below t,
+  eval-test.Post,
+  eval-quant-below t,
+  eval-quant.Post,
+  eval-join-below t,
+  eval-join.Post,
+) (eval-pred-at t) eval-pred.Post
+eval-pred-eval-test-requires t c κs =
+    let c1 = c .before .before .before .before .before .before .before .before in
+    let v = counted (c1 .pre .1 .0) _ (c .before .before .before .before .before .if1 .left) (c .before .before .before .before .kind .ensures) in
+    (omega (arith, c1 .pre .0), (v, test-sort _ (c .before .before .if2 .left) (c .before .if3 .taken)))
+
+-- src/lib.rt:80:20
+pub eval-pred-eval-quant-requires : (t : ℕ) → eval-pred-lts.Need-eval-quant-requires (
+  kind-reads.Asked,
+  kind-reads.Learnt,
+  eval-not-below t,
+  eval-not.Post,
+  eval-test-below t,
+  eval-test.Post,
+  eval-quant-below t,
+  eval-quant.Post,
+  eval-join-below t,
+  eval-join.Post,
+) (eval-pred-at t) eval-pred.Post
+eval-pred-eval-quant-requires t c κs =
+    let c1 = c .before .before .before .before .before .before .before .before .before in
+    let v = counted (c1 .pre .1 .0) _ (c .before .before .before .before .before .before .if1 .left) (c .before .before .before .before .before .kind .ensures) in
+    (omega (arith, c1 .pre .0), (v, quant-sort _ (c .before .before .if3 .left) (c .before .if4 .taken)))
+
+-- src/lib.rt:81:14
+pub eval-pred-eval-join-requires : (t : ℕ) → eval-pred-lts.Need-eval-join-requires (
+  kind-reads.Asked,
+  kind-reads.Learnt,
+  eval-not-below t,
+  eval-not.Post,
+  eval-test-below t,
+  eval-test.Post,
+  eval-quant-below t,
+  eval-quant.Post,
+  eval-join-below t,
+  eval-join.Post,
+) (eval-pred-at t) eval-pred.Post
+eval-pred-eval-join-requires t c κs =
+    let c1 = c .before .before .before .before .before .before .before in
+    let v = counted (c1 .pre .1 .0) _ (c .before .before .before .before .if1 .left) (c .before .before .before .kind .ensures) in
+    (omega (arith, c1 .pre .0), (v, join-kind v (c1 .pre .1 .1) (c .before .before .match .rest .1) (λ l. ⊎-elim (λ w. absurd (omega (arith, w .taken))) (λ w. w .2 .left) (c .before .if2 .came))))
+
+-- src/lib.rt:60:1
+pub eval-pred-same-length : (t : ℕ) → eval-pred-lts.Need-same-length (
+  kind-reads.Asked,
+  kind-reads.Learnt,
+  eval-not-below t,
+  eval-not.Post,
+  eval-test-below t,
+  eval-test.Post,
+  eval-quant-below t,
+  eval-quant.Post,
+  eval-join-below t,
+  eval-join.Post,
+) (eval-pred-at t) eval-pred.Post
+eval-pred-same-length t c = search needs
+
+-- src/lib.rt:60:1
+pub eval-pred-returns-2 : (t : ℕ) → eval-pred-lts.Need-returns-2 (
+  kind-reads.Asked,
+  kind-reads.Learnt,
+  eval-not-below t,
+  eval-not.Post,
+  eval-test-below t,
+  eval-test.Post,
+  eval-quant-below t,
+  eval-quant.Post,
+  eval-join-below t,
+  eval-join.Post,
+) (eval-pred-at t) eval-pred.Post
+eval-pred-returns-2 t c = search needs
+
+-- src/lib.rt:60:1
+pub eval-pred-same-length-2 : (t : ℕ) → eval-pred-lts.Need-same-length-2 (
+  kind-reads.Asked,
+  kind-reads.Learnt,
+  eval-not-below t,
+  eval-not.Post,
+  eval-test-below t,
+  eval-test.Post,
+  eval-quant-below t,
+  eval-quant.Post,
+  eval-join-below t,
+  eval-join.Post,
+) (eval-pred-at t) eval-pred.Post
+eval-pred-same-length-2 t c = search needs
+
+-- src/lib.rt:60:1
+pub eval-pred-returns-3 : (t : ℕ) → eval-pred-lts.Need-returns-3 (
+  kind-reads.Asked,
+  kind-reads.Learnt,
+  eval-not-below t,
+  eval-not.Post,
+  eval-test-below t,
+  eval-test.Post,
+  eval-quant-below t,
+  eval-quant.Post,
+  eval-join-below t,
+  eval-join.Post,
+) (eval-pred-at t) eval-pred.Post
+eval-pred-returns-3 t c = search needs
+
+-- src/lib.rt:60:1
+pub eval-pred-same-length-3 : (t : ℕ) → eval-pred-lts.Need-same-length-3 (
+  kind-reads.Asked,
+  kind-reads.Learnt,
+  eval-not-below t,
+  eval-not.Post,
+  eval-test-below t,
+  eval-test.Post,
+  eval-quant-below t,
+  eval-quant.Post,
+  eval-join-below t,
+  eval-join.Post,
+) (eval-pred-at t) eval-pred.Post
+eval-pred-same-length-3 t c = search needs
+
+-- src/lib.rt:60:1
+pub eval-pred-returns-4 : (t : ℕ) → eval-pred-lts.Need-returns-4 (
+  kind-reads.Asked,
+  kind-reads.Learnt,
+  eval-not-below t,
+  eval-not.Post,
+  eval-test-below t,
+  eval-test.Post,
+  eval-quant-below t,
+  eval-quant.Post,
+  eval-join-below t,
+  eval-join.Post,
+) (eval-pred-at t) eval-pred.Post
+eval-pred-returns-4 t c = search needs
+
+-- src/lib.rt:60:1
+pub eval-pred-same-length-4 : (t : ℕ) → eval-pred-lts.Need-same-length-4 (
+  kind-reads.Asked,
+  kind-reads.Learnt,
+  eval-not-below t,
+  eval-not.Post,
+  eval-test-below t,
+  eval-test.Post,
+  eval-quant-below t,
+  eval-quant.Post,
+  eval-join-below t,
+  eval-join.Post,
+) (eval-pred-at t) eval-pred.Post
+eval-pred-same-length-4 t c = search needs
+
+-- src/lib.rt:60:1
+pub eval-pred-returns-5 : (t : ℕ) → eval-pred-lts.Need-returns-5 (
+  kind-reads.Asked,
+  kind-reads.Learnt,
+  eval-not-below t,
+  eval-not.Post,
+  eval-test-below t,
+  eval-test.Post,
+  eval-quant-below t,
+  eval-quant.Post,
+  eval-join-below t,
+  eval-join.Post,
+) (eval-pred-at t) eval-pred.Post
+eval-pred-returns-5 t c = search needs

@@ -1,0 +1,304 @@
+-- `eval_quant`.
+use Prim.Native.Nat.{ℕ}
+use native.Mathlib.Omega.{arith}
+use borrow.Author.Needs.{needs}
+use Rattle.evaluators.proofs.each_chosen.Reads as each-chosen
+use Rattle.evaluators.proofs.each_chosen.Kinds as each-chosen-kinds
+use Rattle.evaluators.proofs.+each_chosen+each_member+eval_bool+eval_both+eval_expr+eval_join+eval_not+eval_one+eval_pred+eval_quant+eval_select+eval_test+eval_two.Lts-each_chosen as each-chosen-lts
+use Rattle.evaluators.proofs.each_member.Reads as each-member
+use Rattle.evaluators.proofs.each_member.Kinds as each-member-kinds
+use Rattle.evaluators.proofs.+each_chosen+each_member+eval_bool+eval_both+eval_expr+eval_join+eval_not+eval_one+eval_pred+eval_quant+eval_select+eval_test+eval_two.Lts-each_member as each-member-lts
+use Rattle.evaluators.proofs.eval_bool.Reads as eval-bool
+use Rattle.evaluators.proofs.eval_bool.Kinds as eval-bool-kinds
+use Rattle.evaluators.proofs.+each_chosen+each_member+eval_bool+eval_both+eval_expr+eval_join+eval_not+eval_one+eval_pred+eval_quant+eval_select+eval_test+eval_two.Lts-eval_bool as eval-bool-lts
+use Rattle.evaluators.proofs.eval_both.Reads as eval-both
+use Rattle.evaluators.proofs.eval_both.Kinds as eval-both-kinds
+use Rattle.evaluators.proofs.+each_chosen+each_member+eval_bool+eval_both+eval_expr+eval_join+eval_not+eval_one+eval_pred+eval_quant+eval_select+eval_test+eval_two.Lts-eval_both as eval-both-lts
+use Rattle.evaluators.proofs.eval_expr.Reads as eval-expr
+use Rattle.evaluators.proofs.eval_expr.Kinds as eval-expr-kinds
+use Rattle.evaluators.proofs.+each_chosen+each_member+eval_bool+eval_both+eval_expr+eval_join+eval_not+eval_one+eval_pred+eval_quant+eval_select+eval_test+eval_two.Lts-eval_expr as eval-expr-lts
+use Rattle.evaluators.proofs.eval_join.Reads as eval-join
+use Rattle.evaluators.proofs.eval_join.Kinds as eval-join-kinds
+use Rattle.evaluators.proofs.+each_chosen+each_member+eval_bool+eval_both+eval_expr+eval_join+eval_not+eval_one+eval_pred+eval_quant+eval_select+eval_test+eval_two.Lts-eval_join as eval-join-lts
+use Rattle.evaluators.proofs.eval_not.Reads as eval-not
+use Rattle.evaluators.proofs.eval_not.Kinds as eval-not-kinds
+use Rattle.evaluators.proofs.+each_chosen+each_member+eval_bool+eval_both+eval_expr+eval_join+eval_not+eval_one+eval_pred+eval_quant+eval_select+eval_test+eval_two.Lts-eval_not as eval-not-lts
+use Rattle.evaluators.proofs.eval_one.Reads as eval-one
+use Rattle.evaluators.proofs.eval_one.Kinds as eval-one-kinds
+use Rattle.evaluators.proofs.+each_chosen+each_member+eval_bool+eval_both+eval_expr+eval_join+eval_not+eval_one+eval_pred+eval_quant+eval_select+eval_test+eval_two.Lts-eval_one as eval-one-lts
+use Rattle.evaluators.proofs.eval_pred.Reads as eval-pred
+use Rattle.evaluators.proofs.eval_pred.Kinds as eval-pred-kinds
+use Rattle.evaluators.proofs.+each_chosen+each_member+eval_bool+eval_both+eval_expr+eval_join+eval_not+eval_one+eval_pred+eval_quant+eval_select+eval_test+eval_two.Lts-eval_pred as eval-pred-lts
+use Rattle.evaluators.proofs.eval_quant.Reads as eval-quant
+use Rattle.evaluators.proofs.eval_quant.Kinds as eval-quant-kinds
+use Rattle.evaluators.proofs.+each_chosen+each_member+eval_bool+eval_both+eval_expr+eval_join+eval_not+eval_one+eval_pred+eval_quant+eval_select+eval_test+eval_two.Lts-eval_quant as eval-quant-lts
+use Rattle.evaluators.proofs.eval_select.Reads as eval-select
+use Rattle.evaluators.proofs.eval_select.Kinds as eval-select-kinds
+use Rattle.evaluators.proofs.+each_chosen+each_member+eval_bool+eval_both+eval_expr+eval_join+eval_not+eval_one+eval_pred+eval_quant+eval_select+eval_test+eval_two.Lts-eval_select as eval-select-lts
+use Rattle.evaluators.proofs.eval_test.Reads as eval-test
+use Rattle.evaluators.proofs.eval_test.Kinds as eval-test-kinds
+use Rattle.evaluators.proofs.+each_chosen+each_member+eval_bool+eval_both+eval_expr+eval_join+eval_not+eval_one+eval_pred+eval_quant+eval_select+eval_test+eval_two.Lts-eval_test as eval-test-lts
+use Rattle.evaluators.proofs.eval_two.Reads as eval-two
+use Rattle.evaluators.proofs.eval_two.Kinds as eval-two-kinds
+use Rattle.evaluators.proofs.+each_chosen+each_member+eval_bool+eval_both+eval_expr+eval_join+eval_not+eval_one+eval_pred+eval_quant+eval_select+eval_test+eval_two.Lts-eval_two as eval-two-lts
+use Rattle.arena.proofs.end_of.Reads as end-of-reads
+use Rattle.evaluators.proofs.choose.Reads as choose-reads
+use Rattle.evaluators.proofs.decides.Reads as decides-reads
+use Rattle.evaluators.proofs.eval_leaf.Reads as eval-leaf-reads
+use Rattle.evaluators.proofs.eval_name.Reads as eval-name-reads
+use Rattle.evaluators.proofs.joined.Reads as joined-reads
+use Rattle.evaluators.proofs.range_of.Reads as range-of-reads
+use Rattle.evaluators.proofs.settle.Reads as settle-reads
+use Rattle.operations.proofs.one.Reads as one-reads
+use Rattle.operations.proofs.test.Reads as test-reads
+use Rattle.operations.proofs.two.Reads as two-reads
+use Rattle.products.proofs.put_cell.Reads as put-cell-reads
+use Rattle.table.proofs.field.Reads as field-reads
+use Rattle.table.proofs.kind.Reads as kind-reads
+use Rattle.evaluators.proofs.+each_chosen+each_member+eval_bool+eval_both+eval_expr+eval_join+eval_not+eval_one+eval_pred+eval_quant+eval_select+eval_test+eval_two.Proof.Base.{each-member-below, eval-expr-below, eval-quant-at}
+use Rattle.evaluators.proofs.QuantLaws.{quant-range, range-good, range-low, quant-ready, range-refused, range-unlike, quant-done}
+
+-- src/lib.rt:230:9
+pub eval-quant-field-requires : (t : ℕ) → eval-quant-lts.Need-field-requires (
+  field-reads.Asked,
+  field-reads.Learnt,
+  eval-expr-below t,
+  eval-expr.Post,
+  range-of-reads.Asked,
+  range-of-reads.Learnt,
+  each-member-below t,
+  each-member.Post,
+) (eval-quant-at t) eval-quant.Post
+eval-quant-field-requires t c κs = search needs
+
+-- src/lib.rt:231:50
+pub eval-quant-add-eval-expr : (t : ℕ) → eval-quant-lts.Need-add-eval-expr (
+  field-reads.Asked,
+  field-reads.Learnt,
+  eval-expr-below t,
+  eval-expr.Post,
+  range-of-reads.Asked,
+  range-of-reads.Learnt,
+  each-member-below t,
+  each-member.Post,
+) (eval-quant-at t) eval-quant.Post
+eval-quant-add-eval-expr t c = search needs
+
+-- src/lib.rt:231:11
+pub eval-quant-eval-expr-requires : (t : ℕ) → eval-quant-lts.Need-eval-expr-requires (
+  field-reads.Asked,
+  field-reads.Learnt,
+  eval-expr-below t,
+  eval-expr.Post,
+  range-of-reads.Asked,
+  range-of-reads.Learnt,
+  each-member-below t,
+  each-member.Post,
+) (eval-quant-at t) eval-quant.Post
+eval-quant-eval-expr-requires t c κs =
+    let f = c .before in
+    let v = f .before .before .before in
+    let q = quant-range (v .pre .1 .0) (v .pre .1 .1) (f .field .ensures) in
+    (omega (arith, v .pre .0, q .2), (q .0, q .1))
+
+-- src/lib.rt:232:25
+pub eval-quant-enum-known-k : (t : ℕ) → eval-quant-lts.Need-enum-known-k (
+  field-reads.Asked,
+  field-reads.Learnt,
+  eval-expr-below t,
+  eval-expr.Post,
+  range-of-reads.Asked,
+  range-of-reads.Learnt,
+  each-member-below t,
+  each-member.Post,
+) (eval-quant-at t) eval-quant.Post
+eval-quant-enum-known-k t c = search needs
+
+-- src/lib.rt:233:23
+pub eval-quant-enum-known-at : (t : ℕ) → eval-quant-lts.Need-enum-known-at (
+  field-reads.Asked,
+  field-reads.Learnt,
+  eval-expr-below t,
+  eval-expr.Post,
+  range-of-reads.Asked,
+  range-of-reads.Learnt,
+  each-member-below t,
+  each-member.Post,
+) (eval-quant-at t) eval-quant.Post
+eval-quant-enum-known-at t c = search needs
+
+-- src/lib.rt:233:45
+pub eval-quant-range-of-requires : (t : ℕ) → eval-quant-lts.Need-range-of-requires (
+  field-reads.Asked,
+  field-reads.Learnt,
+  eval-expr-below t,
+  eval-expr.Post,
+  range-of-reads.Asked,
+  range-of-reads.Learnt,
+  each-member-below t,
+  each-member.Post,
+) (eval-quant-at t) eval-quant.Post
+eval-quant-range-of-requires t c κs =
+    let m = c .before .before in
+    let p = m .before .before .before .before in
+    let f = p .before .before in
+    let v = f .before .before .before in
+    range-good (v .pre .1 .0) (v .pre .1 .1) (f .field .ensures) (p .eval-expr .ensures) (m .at .given .1)
+
+-- src/lib.rt:234:30
+pub eval-quant-enum-told : (t : ℕ) → eval-quant-lts.Need-enum-told (
+  field-reads.Asked,
+  field-reads.Learnt,
+  eval-expr-below t,
+  eval-expr.Post,
+  range-of-reads.Asked,
+  range-of-reads.Learnt,
+  each-member-below t,
+  each-member.Post,
+) (eval-quant-at t) eval-quant.Post
+eval-quant-enum-told t c = search needs
+
+-- src/lib.rt:235:24
+pub eval-quant-enum-known-count : (t : ℕ) → eval-quant-lts.Need-enum-known-count (
+  field-reads.Asked,
+  field-reads.Learnt,
+  eval-expr-below t,
+  eval-expr.Post,
+  range-of-reads.Asked,
+  range-of-reads.Learnt,
+  each-member-below t,
+  each-member.Post,
+) (eval-quant-at t) eval-quant.Post
+eval-quant-enum-known-count t c = search needs
+
+-- src/lib.rt:245:21
+pub eval-quant-add-each-member : (t : ℕ) → eval-quant-lts.Need-add-each-member (
+  field-reads.Asked,
+  field-reads.Learnt,
+  eval-expr-below t,
+  eval-expr.Post,
+  range-of-reads.Asked,
+  range-of-reads.Learnt,
+  each-member-below t,
+  each-member.Post,
+) (eval-quant-at t) eval-quant.Post
+eval-quant-add-each-member t c =
+    let m = c .before .before .before .before .before .before .before in
+    let p = m .before .before .before .before in
+    let f = p .before .before in
+    let v = f .before .before .before in
+    record { fits = omega (arith, range-low (v .pre .1 .0) (v .pre .1 .1) (f .field .ensures) (p .eval-expr .ensures) (m .at .given .1)) }
+
+-- src/lib.rt:237:17
+pub eval-quant-each-member-requires : (t : ℕ) → eval-quant-lts.Need-each-member-requires (
+  field-reads.Asked,
+  field-reads.Learnt,
+  eval-expr-below t,
+  eval-expr.Post,
+  range-of-reads.Asked,
+  range-of-reads.Learnt,
+  each-member-below t,
+  each-member.Post,
+) (eval-quant-at t) eval-quant.Post
+eval-quant-each-member-requires t c κs =
+    let m = c .before .before .before .before .before .before .before in
+    let p = m .before .before .before .before in
+    let f = p .before .before in
+    let v = f .before .before .before in (
+      omega (arith, v .pre .0),
+      quant-ready (v .pre .1 .0) (v .pre .1 .1) (f .field .ensures) (p .eval-expr .ensures) (m .at .given .1) (c .before .before .before .before .range-of .ensures) (c .before .before .count .given .1),
+    )
+
+-- src/lib.rt:216:1
+pub eval-quant-same-length : (t : ℕ) → eval-quant-lts.Need-same-length (
+  field-reads.Asked,
+  field-reads.Learnt,
+  eval-expr-below t,
+  eval-expr.Post,
+  range-of-reads.Asked,
+  range-of-reads.Learnt,
+  each-member-below t,
+  each-member.Post,
+) (eval-quant-at t) eval-quant.Post
+eval-quant-same-length t c = search needs
+
+-- src/lib.rt:216:1
+pub eval-quant-returns : (t : ℕ) → eval-quant-lts.Need-returns (
+  field-reads.Asked,
+  field-reads.Learnt,
+  eval-expr-below t,
+  eval-expr.Post,
+  range-of-reads.Asked,
+  range-of-reads.Learnt,
+  each-member-below t,
+  each-member.Post,
+) (eval-quant-at t) eval-quant.Post
+eval-quant-returns t c =
+    let m = c .before in
+    let p = m .before .before .before .before in
+    let f = p .before .before in
+    let v = f .before .before .before in
+    range-refused (v .pre .1 .0) (v .pre .1 .1) (f .field .ensures) (p .eval-expr .ensures) _ _ _ (m .k .given .1)
+
+-- src/lib.rt:216:1
+pub eval-quant-same-length-2 : (t : ℕ) → eval-quant-lts.Need-same-length-2 (
+  field-reads.Asked,
+  field-reads.Learnt,
+  eval-expr-below t,
+  eval-expr.Post,
+  range-of-reads.Asked,
+  range-of-reads.Learnt,
+  each-member-below t,
+  each-member.Post,
+) (eval-quant-at t) eval-quant.Post
+eval-quant-same-length-2 t c = search needs
+
+-- src/lib.rt:216:1
+pub eval-quant-returns-2 : (t : ℕ) → eval-quant-lts.Need-returns-2 (
+  field-reads.Asked,
+  field-reads.Learnt,
+  eval-expr-below t,
+  eval-expr.Post,
+  range-of-reads.Asked,
+  range-of-reads.Learnt,
+  each-member-below t,
+  each-member.Post,
+) (eval-quant-at t) eval-quant.Post
+eval-quant-returns-2 t c =
+    let m = c .before .before .before .before .before in
+    let p = m .before .before .before .before in
+    let f = p .before .before in
+    let v = f .before .before .before in
+    range-unlike (v .pre .1 .0) (v .pre .1 .1) (f .field .ensures) (p .eval-expr .ensures) (m .at .given .1) (c .before .before .range-of .ensures) (c .enum-told .given .1)
+
+-- src/lib.rt:216:1
+pub eval-quant-same-length-3 : (t : ℕ) → eval-quant-lts.Need-same-length-3 (
+  field-reads.Asked,
+  field-reads.Learnt,
+  eval-expr-below t,
+  eval-expr.Post,
+  range-of-reads.Asked,
+  range-of-reads.Learnt,
+  each-member-below t,
+  each-member.Post,
+) (eval-quant-at t) eval-quant.Post
+eval-quant-same-length-3 t c = search needs
+
+-- src/lib.rt:216:1
+pub eval-quant-returns-3 : (t : ℕ) → eval-quant-lts.Need-returns-3 (
+  field-reads.Asked,
+  field-reads.Learnt,
+  eval-expr-below t,
+  eval-expr.Post,
+  range-of-reads.Asked,
+  range-of-reads.Learnt,
+  each-member-below t,
+  each-member.Post,
+) (eval-quant-at t) eval-quant.Post
+eval-quant-returns-3 t c =
+    let m = c .before .before .before .before .before .before .before .before .before .before in
+    let p = m .before .before .before .before in
+    let f = p .before .before in
+    let v = f .before .before .before in
+    quant-done (v .pre .1 .0) (v .pre .1 .1) (f .field .ensures) (p .eval-expr .ensures) (m .at .given .1)
+    (c .before .before .before .before .before .before .before .range-of .ensures) (c .before .before .before .before .before .count .given .1) (c .before .before .each-member .ensures)
