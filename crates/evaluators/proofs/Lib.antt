@@ -1,6 +1,7 @@
 -- The laws that the evaluators' proofs rest on.
 pub mod RunLaws
 pub mod NodeLaws
+pub mod SafeLaws
 pub mod DispatchLaws
 pub mod FormLaws
 pub mod BodyLaws

@@ -1,7 +1,9 @@
 -- `each_chosen`.
 use Prim.Native.Nat.{ℕ, _<_}
 use native.Mathlib.Omega.{arith}
-use borrow.Author.Needs.{needs}
+use Rattle.evaluators.proofs.SafeLaws.{one-less, binder-node, name-below, name-scaled, above-fits, top-scaled, top-inside, written-kept}
+use mathlib.Core.Path.{_∙_}
+use lib.Dec.{lit<}
 use Rattle.evaluators.proofs.each_chosen.Reads as each-chosen
 use Rattle.evaluators.proofs.each_chosen.Kinds as each-chosen-kinds
 use Rattle.evaluators.proofs.+each_chosen+each_member+eval_bool+eval_both+eval_expr+eval_join+eval_not+eval_one+eval_pred+eval_quant+eval_select+eval_test+eval_two.Lts-each_chosen as each-chosen-lts
@@ -77,7 +79,7 @@ pub each-chosen-field-requires : (t : ℕ) → each-chosen-lts.Need-field-requir
   choose-reads.Asked,
   choose-reads.Learnt,
 ) (each-chosen-at t) each-chosen.Post each-chosen-Inv-loop each-chosen-μ-loop
-each-chosen-field-requires t c κs = search needs
+each-chosen-field-requires t c κs = (binder-node (c .before .before .pre .1), lit< tt)
 
 -- src/lib.rt:515:9
 pub each-chosen-field-requires-2 : (t : ℕ) → each-chosen-lts.Need-field-requires-2 (
@@ -90,7 +92,7 @@ pub each-chosen-field-requires-2 : (t : ℕ) → each-chosen-lts.Need-field-requ
   choose-reads.Asked,
   choose-reads.Learnt,
 ) (each-chosen-at t) each-chosen.Post each-chosen-Inv-loop each-chosen-μ-loop
-each-chosen-field-requires-2 t c κs = search needs
+each-chosen-field-requires-2 t c κs = (binder-node (c .before .before .before .pre .1), lit< tt)
 
 -- src/lib.rt:520:18
 pub each-chosen-add-to : (t : ℕ) → each-chosen-lts.Need-add-to (
@@ -103,7 +105,7 @@ pub each-chosen-add-to : (t : ℕ) → each-chosen-lts.Need-add-to (
   choose-reads.Asked,
   choose-reads.Learnt,
 ) (each-chosen-at t) each-chosen.Post each-chosen-Inv-loop each-chosen-μ-loop
-each-chosen-add-to t c = search needs
+each-chosen-add-to t c = above-fits (c .before .before .before .before .before .pre .1)
 
 -- src/lib.rt:522:5
 pub each-chosen-loop-holds : (t : ℕ) → each-chosen-lts.Need-loop-holds (
@@ -145,7 +147,7 @@ pub each-chosen-mul-inner : (t : ℕ) → each-chosen-lts.Need-mul-inner (
   choose-reads.Asked,
   choose-reads.Learnt,
 ) (each-chosen-at t) each-chosen.Post each-chosen-Inv-loop each-chosen-μ-loop
-each-chosen-mul-inner t c = search needs
+each-chosen-mul-inner t c = name-scaled (c .before .before .before .before .before .before .before .pre .1) (c .before .before .before .before .field .ensures)
 
 -- src/lib.rt:523:9
 pub each-chosen-array-write-inner : (t : ℕ) → each-chosen-lts.Need-array-write-inner (
@@ -158,7 +160,7 @@ pub each-chosen-array-write-inner : (t : ℕ) → each-chosen-lts.Need-array-wri
   choose-reads.Asked,
   choose-reads.Learnt,
 ) (each-chosen-at t) each-chosen.Post each-chosen-Inv-loop each-chosen-μ-loop
-each-chosen-array-write-inner t c = search needs
+each-chosen-array-write-inner t c = name-below (c .before .before .before .before .before .before .before .pre .1) (c .before .before .before .before .field .ensures)
 
 -- src/lib.rt:524:15
 pub each-chosen-eval-pred-requires : (t : ℕ) → each-chosen-lts.Need-eval-pred-requires (
@@ -189,7 +191,7 @@ pub each-chosen-enum-known-k : (t : ℕ) → each-chosen-lts.Need-enum-known-k (
   choose-reads.Asked,
   choose-reads.Learnt,
 ) (each-chosen-at t) each-chosen.Post each-chosen-Inv-loop each-chosen-μ-loop
-each-chosen-enum-known-k t c = search needs
+each-chosen-enum-known-k t c = c .match .keys1
 
 -- src/lib.rt:526:17
 pub each-chosen-same-length : (t : ℕ) → each-chosen-lts.Need-same-length (
@@ -202,7 +204,7 @@ pub each-chosen-same-length : (t : ℕ) → each-chosen-lts.Need-same-length (
   choose-reads.Asked,
   choose-reads.Learnt,
 ) (each-chosen-at t) each-chosen.Post each-chosen-Inv-loop each-chosen-μ-loop
-each-chosen-same-length t c = search needs
+each-chosen-same-length t c = c .before .before .before .before .before .eval-pred .kept .1 .1 .1 .0 ∙ c .before .before .before .before .before .before .before .before .before .loop .inv .frame .kept
 
 -- src/lib.rt:526:17
 pub each-chosen-returns : (t : ℕ) → each-chosen-lts.Need-returns (
@@ -232,7 +234,7 @@ pub each-chosen-enum-known-yes : (t : ℕ) → each-chosen-lts.Need-enum-known-y
   choose-reads.Asked,
   choose-reads.Learnt,
 ) (each-chosen-at t) each-chosen.Post each-chosen-Inv-loop each-chosen-μ-loop
-each-chosen-enum-known-yes t c = search needs
+each-chosen-enum-known-yes t c = c .match .keys2
 
 -- src/lib.rt:530:21
 pub each-chosen-end-of-requires : (t : ℕ) → each-chosen-lts.Need-end-of-requires (
@@ -279,7 +281,7 @@ pub each-chosen-cast-chosen : (t : ℕ) → each-chosen-lts.Need-cast-chosen (
   choose-reads.Asked,
   choose-reads.Learnt,
 ) (each-chosen-at t) each-chosen.Post each-chosen-Inv-loop each-chosen-μ-loop
-each-chosen-cast-chosen t c = search needs
+each-chosen-cast-chosen t c = tt
 
 -- src/lib.rt:532:17
 pub each-chosen-add-chosen : (t : ℕ) → each-chosen-lts.Need-add-chosen (
@@ -306,7 +308,7 @@ pub each-chosen-sub-left : (t : ℕ) → each-chosen-lts.Need-sub-left (
   choose-reads.Asked,
   choose-reads.Learnt,
 ) (each-chosen-at t) each-chosen.Post each-chosen-Inv-loop each-chosen-μ-loop
-each-chosen-sub-left t c = search needs
+each-chosen-sub-left t c = c .before .before .before .before .before .before .before .before .before .before .before .before .before .before .loop-test .taken
 
 -- src/lib.rt:522:5
 pub each-chosen-loop-less : (t : ℕ) → each-chosen-lts.Need-loop-less (
@@ -319,7 +321,7 @@ pub each-chosen-loop-less : (t : ℕ) → each-chosen-lts.Need-loop-less (
   choose-reads.Asked,
   choose-reads.Learnt,
 ) (each-chosen-at t) each-chosen.Post each-chosen-Inv-loop each-chosen-μ-loop
-each-chosen-loop-less t c = search needs
+each-chosen-loop-less t c = one-less (c .before .before .before .before .before .before .before .before .before .before .before .before .before .before .loop-test .taken)
 
 -- src/lib.rt:522:5
 pub each-chosen-loop-again : (t : ℕ) → each-chosen-lts.Need-loop-again (
@@ -363,7 +365,7 @@ pub each-chosen-mul-s : (t : ℕ) → each-chosen-lts.Need-mul-s (
   choose-reads.Asked,
   choose-reads.Learnt,
 ) (each-chosen-at t) each-chosen.Post each-chosen-Inv-loop each-chosen-μ-loop
-each-chosen-mul-s t c = search needs
+each-chosen-mul-s t c = top-scaled (c .before .before .before .before .before .before .before .pre .1)
 
 -- src/lib.rt:538:5
 pub each-chosen-slice-write-s : (t : ℕ) → each-chosen-lts.Need-slice-write-s (
@@ -376,7 +378,7 @@ pub each-chosen-slice-write-s : (t : ℕ) → each-chosen-lts.Need-slice-write-s
   choose-reads.Asked,
   choose-reads.Learnt,
 ) (each-chosen-at t) each-chosen.Post each-chosen-Inv-loop each-chosen-μ-loop
-each-chosen-slice-write-s t c = search needs
+each-chosen-slice-write-s t c = top-inside (c .before .before .before .before .before .before .before .pre .1) (c .before .loop .inv .frame)
 
 -- src/lib.rt:499:1
 pub each-chosen-same-length-2 : (t : ℕ) → each-chosen-lts.Need-same-length-2 (
@@ -389,7 +391,7 @@ pub each-chosen-same-length-2 : (t : ℕ) → each-chosen-lts.Need-same-length-2
   choose-reads.Asked,
   choose-reads.Learnt,
 ) (each-chosen-at t) each-chosen.Post each-chosen-Inv-loop each-chosen-μ-loop
-each-chosen-same-length-2 t c = search needs
+each-chosen-same-length-2 t c = written-kept _ (c .before .loop .inv .frame)
 
 -- src/lib.rt:499:1
 pub each-chosen-returns-2 : (t : ℕ) → each-chosen-lts.Need-returns-2 (

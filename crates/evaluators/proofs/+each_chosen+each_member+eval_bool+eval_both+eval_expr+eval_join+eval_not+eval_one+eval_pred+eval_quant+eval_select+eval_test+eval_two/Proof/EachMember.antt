@@ -1,7 +1,9 @@
 -- `each_member`.
 use Prim.Native.Nat.{ℕ}
 use native.Mathlib.Omega.{arith}
-use borrow.Author.Needs.{needs}
+use Rattle.evaluators.proofs.SafeLaws.{one-less, binder-node, name-below, name-scaled}
+use mathlib.Core.Path.{_∙_}
+use lib.Dec.{lit<}
 use Rattle.evaluators.proofs.each_chosen.Reads as each-chosen
 use Rattle.evaluators.proofs.each_chosen.Kinds as each-chosen-kinds
 use Rattle.evaluators.proofs.+each_chosen+each_member+eval_bool+eval_both+eval_expr+eval_join+eval_not+eval_one+eval_pred+eval_quant+eval_select+eval_test+eval_two.Lts-each_chosen as each-chosen-lts
@@ -75,7 +77,7 @@ pub each-member-field-requires : (t : ℕ) → each-member-lts.Need-field-requir
   end-of-reads.Asked,
   end-of-reads.Learnt,
 ) (each-member-at t) each-member.Post each-member-Inv-loop each-member-μ-loop
-each-member-field-requires t c κs = search needs
+each-member-field-requires t c κs = (binder-node (c .before .before .pre .1), lit< tt)
 
 -- src/lib.rt:273:9
 pub each-member-field-requires-2 : (t : ℕ) → each-member-lts.Need-field-requires-2 (
@@ -86,7 +88,7 @@ pub each-member-field-requires-2 : (t : ℕ) → each-member-lts.Need-field-requ
   end-of-reads.Asked,
   end-of-reads.Learnt,
 ) (each-member-at t) each-member.Post each-member-Inv-loop each-member-μ-loop
-each-member-field-requires-2 t c κs = search needs
+each-member-field-requires-2 t c κs = (binder-node (c .before .before .before .pre .1), lit< tt)
 
 -- src/lib.rt:278:5
 pub each-member-loop-holds : (t : ℕ) → each-member-lts.Need-loop-holds (
@@ -125,7 +127,7 @@ pub each-member-mul-inner : (t : ℕ) → each-member-lts.Need-mul-inner (
   end-of-reads.Asked,
   end-of-reads.Learnt,
 ) (each-member-at t) each-member.Post each-member-Inv-loop each-member-μ-loop
-each-member-mul-inner t c = search needs
+each-member-mul-inner t c = name-scaled (c .before .before .before .before .before .before .before .pre .1) (c .before .before .before .before .field .ensures)
 
 -- src/lib.rt:279:9
 pub each-member-array-write-inner : (t : ℕ) → each-member-lts.Need-array-write-inner (
@@ -136,7 +138,7 @@ pub each-member-array-write-inner : (t : ℕ) → each-member-lts.Need-array-wri
   end-of-reads.Asked,
   end-of-reads.Learnt,
 ) (each-member-at t) each-member.Post each-member-Inv-loop each-member-μ-loop
-each-member-array-write-inner t c = search needs
+each-member-array-write-inner t c = name-below (c .before .before .before .before .before .before .before .pre .1) (c .before .before .before .before .field .ensures)
 
 -- src/lib.rt:280:13
 pub each-member-eval-pred-requires : (t : ℕ) → each-member-lts.Need-eval-pred-requires (
@@ -164,7 +166,7 @@ pub each-member-enum-known-held : (t : ℕ) → each-member-lts.Need-enum-known-
   end-of-reads.Asked,
   end-of-reads.Learnt,
 ) (each-member-at t) each-member.Post each-member-Inv-loop each-member-μ-loop
-each-member-enum-known-held t c = search needs
+each-member-enum-known-held t c = c .match .keys1
 
 -- src/lib.rt:282:13
 pub each-member-enum-told : (t : ℕ) → each-member-lts.Need-enum-told (
@@ -175,7 +177,7 @@ pub each-member-enum-told : (t : ℕ) → each-member-lts.Need-enum-told (
   end-of-reads.Asked,
   end-of-reads.Learnt,
 ) (each-member-at t) each-member.Post each-member-Inv-loop each-member-μ-loop
-each-member-enum-told t c = search needs
+each-member-enum-told t c = c .match .keys2
 
 -- src/lib.rt:282:13
 pub each-member-same-length : (t : ℕ) → each-member-lts.Need-same-length (
@@ -186,7 +188,7 @@ pub each-member-same-length : (t : ℕ) → each-member-lts.Need-same-length (
   end-of-reads.Asked,
   end-of-reads.Learnt,
 ) (each-member-at t) each-member.Post each-member-Inv-loop each-member-μ-loop
-each-member-same-length t c = search needs
+each-member-same-length t c = c .before .before .before .before .eval-pred .kept .1 .1 .1 .0 ∙ c .before .before .before .before .before .before .before .before .loop .inv .frame .kept
 
 -- src/lib.rt:282:13
 pub each-member-returns : (t : ℕ) → each-member-lts.Need-returns (
@@ -215,7 +217,8 @@ pub each-member-same-length-2 : (t : ℕ) → each-member-lts.Need-same-length-2
   end-of-reads.Asked,
   end-of-reads.Learnt,
 ) (each-member-at t) each-member.Post each-member-Inv-loop each-member-μ-loop
-each-member-same-length-2 t c = search needs
+each-member-same-length-2 t c =
+    c .before .before .before .before .before .before .eval-pred .kept .1 .1 .1 .0 ∙ c .before .before .before .before .before .before .before .before .before .before .loop .inv .frame .kept
 
 -- src/lib.rt:285:13
 pub each-member-returns-2 : (t : ℕ) → each-member-lts.Need-returns-2 (
@@ -262,7 +265,7 @@ pub each-member-sub-left : (t : ℕ) → each-member-lts.Need-sub-left (
   end-of-reads.Asked,
   end-of-reads.Learnt,
 ) (each-member-at t) each-member.Post each-member-Inv-loop each-member-μ-loop
-each-member-sub-left t c = search needs
+each-member-sub-left t c = c .before .before .before .before .before .before .before .before .before .before .before .loop-test .taken
 
 -- src/lib.rt:278:5
 pub each-member-loop-less : (t : ℕ) → each-member-lts.Need-loop-less (
@@ -273,7 +276,7 @@ pub each-member-loop-less : (t : ℕ) → each-member-lts.Need-loop-less (
   end-of-reads.Asked,
   end-of-reads.Learnt,
 ) (each-member-at t) each-member.Post each-member-Inv-loop each-member-μ-loop
-each-member-loop-less t c = search needs
+each-member-loop-less t c = one-less (c .before .before .before .before .before .before .before .before .before .before .before .loop-test .taken)
 
 -- src/lib.rt:278:5
 pub each-member-loop-again : (t : ℕ) → each-member-lts.Need-loop-again (
@@ -303,7 +306,7 @@ pub each-member-same-length-3 : (t : ℕ) → each-member-lts.Need-same-length-3
   end-of-reads.Asked,
   end-of-reads.Learnt,
 ) (each-member-at t) each-member.Post each-member-Inv-loop each-member-μ-loop
-each-member-same-length-3 t c = search needs
+each-member-same-length-3 t c = c .before .loop .inv .frame .kept
 
 -- src/lib.rt:256:1
 pub each-member-returns-3 : (t : ℕ) → each-member-lts.Need-returns-3 (

@@ -1,9 +1,10 @@
 -- `eval_bool`.
 use Prim.Native.Nat.{ℕ}
-use mathlib.Core.Path.{refl}
+use mathlib.Core.Path.{refl, _∙_}
 use native.Mathlib.Omega.{arith}
-use borrow.Author.Needs.{needs}
 use borrow.Fn.PlainCycle.{is}
+use Rattle.evaluators.proofs.SafeLaws.{count-fits, ready-node, cell-room}
+use lib.Dec.{lit<}
 use Rattle.evaluators.proofs.each_chosen.Reads as each-chosen
 use Rattle.evaluators.proofs.each_chosen.Kinds as each-chosen-kinds
 use Rattle.evaluators.proofs.+each_chosen+each_member+eval_bool+eval_both+eval_expr+eval_join+eval_not+eval_one+eval_pred+eval_quant+eval_select+eval_test+eval_two.Lts-each_chosen as each-chosen-lts
@@ -71,7 +72,7 @@ pub eval-bool-field-requires : (t : ℕ) → eval-bool-lts.Need-field-requires (
   put-cell-reads.Asked,
   put-cell-reads.Learnt,
 ) (eval-bool-at t) eval-bool.Post
-eval-bool-field-requires t c κs = search needs
+eval-bool-field-requires t c κs = (ready-node (c .before .before .pre .1 .0 .ready), lit< tt)
 
 -- src/lib.rt:381:50
 pub eval-bool-add-eval-pred : (t : ℕ) → eval-bool-lts.Need-add-eval-pred (
@@ -82,7 +83,7 @@ pub eval-bool-add-eval-pred : (t : ℕ) → eval-bool-lts.Need-add-eval-pred (
   put-cell-reads.Asked,
   put-cell-reads.Learnt,
 ) (eval-bool-at t) eval-bool.Post
-eval-bool-add-eval-pred t c = search needs
+eval-bool-add-eval-pred t c = count-fits (c .before .before .before .before .pre .1 .0 .spent) (c .before .before .before .before .fits .budget)
 
 -- src/lib.rt:381:11
 pub eval-bool-eval-pred-requires : (t : ℕ) → eval-bool-lts.Need-eval-pred-requires (
@@ -107,7 +108,7 @@ pub eval-bool-enum-known-k : (t : ℕ) → eval-bool-lts.Need-enum-known-k (
   put-cell-reads.Asked,
   put-cell-reads.Learnt,
 ) (eval-bool-at t) eval-bool.Post
-eval-bool-enum-known-k t c = search needs
+eval-bool-enum-known-k t c = c .match .keys1
 
 -- src/lib.rt:383:21
 pub eval-bool-enum-known-yes : (t : ℕ) → eval-bool-lts.Need-enum-known-yes (
@@ -118,7 +119,7 @@ pub eval-bool-enum-known-yes : (t : ℕ) → eval-bool-lts.Need-enum-known-yes (
   put-cell-reads.Asked,
   put-cell-reads.Learnt,
 ) (eval-bool-at t) eval-bool.Post
-eval-bool-enum-known-yes t c = search needs
+eval-bool-enum-known-yes t c = c .match .keys2
 
 -- src/lib.rt:384:63
 pub eval-bool-cast-put-cell : (t : ℕ) → eval-bool-lts.Need-cast-put-cell (
@@ -129,7 +130,7 @@ pub eval-bool-cast-put-cell : (t : ℕ) → eval-bool-lts.Need-cast-put-cell (
   put-cell-reads.Asked,
   put-cell-reads.Learnt,
 ) (eval-bool-at t) eval-bool.Post
-eval-bool-cast-put-cell t c = search needs
+eval-bool-cast-put-cell t c = tt
 
 -- src/lib.rt:384:50
 pub eval-bool-add-put-cell : (t : ℕ) → eval-bool-lts.Need-add-put-cell (
@@ -151,7 +152,8 @@ pub eval-bool-put-cell-requires : (t : ℕ) → eval-bool-lts.Need-put-cell-requ
   put-cell-reads.Asked,
   put-cell-reads.Learnt,
 ) (eval-bool-at t) eval-bool.Post
-eval-bool-put-cell-requires t c κs = search needs
+eval-bool-put-cell-requires t c κs =
+    cell-room (c .before .before .before .before .before .before .before .before .before .before .before .pre .1 .0 .ready) (c .before .before .before .before .before .before .eval-pred .ensures .frame)
 
 -- src/lib.rt:366:1
 pub eval-bool-same-length : (t : ℕ) → eval-bool-lts.Need-same-length (
@@ -162,7 +164,7 @@ pub eval-bool-same-length : (t : ℕ) → eval-bool-lts.Need-same-length (
   put-cell-reads.Asked,
   put-cell-reads.Learnt,
 ) (eval-bool-at t) eval-bool.Post
-eval-bool-same-length t c = search needs
+eval-bool-same-length t c = c .before .before .before .before .before .eval-pred .kept .1 .1 .1 .0
 
 -- src/lib.rt:366:1
 pub eval-bool-returns : (t : ℕ) → eval-bool-lts.Need-returns (
@@ -187,7 +189,7 @@ pub eval-bool-same-length-2 : (t : ℕ) → eval-bool-lts.Need-same-length-2 (
   put-cell-reads.Asked,
   put-cell-reads.Learnt,
 ) (eval-bool-at t) eval-bool.Post
-eval-bool-same-length-2 t c = search needs
+eval-bool-same-length-2 t c = c .before .before .put-cell .kept .0 ∙ c .before .before .before .before .before .before .before .before .before .eval-pred .kept .1 .1 .1 .0
 
 -- src/lib.rt:366:1
 pub eval-bool-returns-2 : (t : ℕ) → eval-bool-lts.Need-returns-2 (

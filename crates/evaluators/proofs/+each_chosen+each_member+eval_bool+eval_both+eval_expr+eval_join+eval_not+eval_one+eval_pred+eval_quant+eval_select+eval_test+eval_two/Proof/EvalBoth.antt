@@ -1,7 +1,9 @@
 -- `eval_both`.
 use Prim.Native.Nat.{ℕ}
 use native.Mathlib.Omega.{arith}
-use borrow.Author.Needs.{needs}
+use Rattle.evaluators.proofs.SafeLaws.{ready-node}
+use mathlib.Core.Path.{_∙_}
+use lib.Dec.{lit<}
 use Rattle.evaluators.proofs.each_chosen.Reads as each-chosen
 use Rattle.evaluators.proofs.each_chosen.Kinds as each-chosen-kinds
 use Rattle.evaluators.proofs.+each_chosen+each_member+eval_bool+eval_both+eval_expr+eval_join+eval_not+eval_one+eval_pred+eval_quant+eval_select+eval_test+eval_two.Lts-each_chosen as each-chosen-lts
@@ -65,7 +67,7 @@ pub eval-both-field-requires : (t : ℕ) → eval-both-lts.Need-field-requires (
   eval-expr-below t,
   eval-expr.Post,
 ) (eval-both-at t) eval-both.Post
-eval-both-field-requires t c κs = search needs
+eval-both-field-requires t c κs = (ready-node (c .before .before .pre .1 .0), lit< tt)
 
 -- src/lib.rt:170:11
 pub eval-both-eval-expr-requires : (t : ℕ) → eval-both-lts.Need-eval-expr-requires (
@@ -86,7 +88,7 @@ pub eval-both-enum-known-k : (t : ℕ) → eval-both-lts.Need-enum-known-k (
   eval-expr-below t,
   eval-expr.Post,
 ) (eval-both-at t) eval-both.Post
-eval-both-enum-known-k t c = search needs
+eval-both-enum-known-k t c = c .match .keys1
 
 -- src/lib.rt:172:23
 pub eval-both-enum-known-at : (t : ℕ) → eval-both-lts.Need-enum-known-at (
@@ -95,7 +97,7 @@ pub eval-both-enum-known-at : (t : ℕ) → eval-both-lts.Need-enum-known-at (
   eval-expr-below t,
   eval-expr.Post,
 ) (eval-both-at t) eval-both.Post
-eval-both-enum-known-at t c = search needs
+eval-both-enum-known-at t c = c .match .keys2
 
 -- src/lib.rt:173:17
 pub eval-both-field-requires-2 : (t : ℕ) → eval-both-lts.Need-field-requires-2 (
@@ -104,7 +106,7 @@ pub eval-both-field-requires-2 : (t : ℕ) → eval-both-lts.Need-field-requires
   eval-expr-below t,
   eval-expr.Post,
 ) (eval-both-at t) eval-both.Post
-eval-both-field-requires-2 t c κs = search needs
+eval-both-field-requires-2 t c κs = (ready-node (c .before .before .before .before .before .before .before .before .before .before .pre .1 .0), lit< tt)
 
 -- src/lib.rt:174:19
 pub eval-both-eval-expr-requires-2 : (t : ℕ) → eval-both-lts.Need-eval-expr-requires-2 (
@@ -129,7 +131,7 @@ pub eval-both-enum-known-k-2 : (t : ℕ) → eval-both-lts.Need-enum-known-k-2 (
   eval-expr-below t,
   eval-expr.Post,
 ) (eval-both-at t) eval-both.Post
-eval-both-enum-known-k-2 t c = search needs
+eval-both-enum-known-k-2 t c = c .match2 .keys1
 
 -- src/lib.rt:176:31
 pub eval-both-enum-known-other : (t : ℕ) → eval-both-lts.Need-enum-known-other (
@@ -138,7 +140,7 @@ pub eval-both-enum-known-other : (t : ℕ) → eval-both-lts.Need-enum-known-oth
   eval-expr-below t,
   eval-expr.Post,
 ) (eval-both-at t) eval-both.Post
-eval-both-enum-known-other t c = search needs
+eval-both-enum-known-other t c = c .match2 .keys2
 
 -- src/lib.rt:156:1
 pub eval-both-same-length : (t : ℕ) → eval-both-lts.Need-same-length (
@@ -147,7 +149,7 @@ pub eval-both-same-length : (t : ℕ) → eval-both-lts.Need-same-length (
   eval-expr-below t,
   eval-expr.Post,
 ) (eval-both-at t) eval-both.Post
-eval-both-same-length t c = search needs
+eval-both-same-length t c = c .before .before .before .before .before .eval-expr .kept .1 .1 .1 .0
 
 -- src/lib.rt:156:1
 pub eval-both-returns : (t : ℕ) → eval-both-lts.Need-returns (
@@ -170,7 +172,8 @@ pub eval-both-same-length-2 : (t : ℕ) → eval-both-lts.Need-same-length-2 (
   eval-expr-below t,
   eval-expr.Post,
 ) (eval-both-at t) eval-both.Post
-eval-both-same-length-2 t c = search needs
+eval-both-same-length-2 t c =
+    c .before .before .before .before .before .eval-expr2 .kept .1 .1 .1 .0 ∙ c .before .before .before .before .before .before .before .before .before .before .before .before .before .eval-expr .kept .1 .1 .1 .0
 
 -- src/lib.rt:156:1
 pub eval-both-returns-2 : (t : ℕ) → eval-both-lts.Need-returns-2 (
@@ -196,7 +199,8 @@ pub eval-both-same-length-3 : (t : ℕ) → eval-both-lts.Need-same-length-3 (
   eval-expr-below t,
   eval-expr.Post,
 ) (eval-both-at t) eval-both.Post
-eval-both-same-length-3 t c = search needs
+eval-both-same-length-3 t c =
+    c .before .before .before .before .before .eval-expr2 .kept .1 .1 .1 .0 ∙ c .before .before .before .before .before .before .before .before .before .before .before .before .before .eval-expr .kept .1 .1 .1 .0
 
 -- src/lib.rt:156:1
 pub eval-both-returns-3 : (t : ℕ) → eval-both-lts.Need-returns-3 (

@@ -1,7 +1,7 @@
 -- `eval_expr`.
 use Prim.Native.Nat.{ℕ}
 use native.Mathlib.Omega.{arith}
-use borrow.Author.Needs.{needs}
+use Rattle.evaluators.proofs.SafeLaws.{count-fits, ready-node}
 use Rattle.evaluators.proofs.each_chosen.Reads as each-chosen
 use Rattle.evaluators.proofs.each_chosen.Kinds as each-chosen-kinds
 use Rattle.evaluators.proofs.+each_chosen+each_member+eval_bool+eval_both+eval_expr+eval_join+eval_not+eval_one+eval_pred+eval_quant+eval_select+eval_test+eval_two.Lts-each_chosen as each-chosen-lts
@@ -97,7 +97,7 @@ pub eval-expr-kind-requires : (t : ℕ) → eval-expr-lts.Need-kind-requires (
   eval-one-below t,
   eval-one.Post,
 ) (eval-expr-at t) eval-expr.Post
-eval-expr-kind-requires t c κs = search needs
+eval-expr-kind-requires t c κs = ready-node (c .before .before .before .pre .1 .0)
 
 -- src/lib.rt:313:54
 pub eval-expr-add-eval-name : (t : ℕ) → eval-expr-lts.Need-add-eval-name (
@@ -116,7 +116,8 @@ pub eval-expr-add-eval-name : (t : ℕ) → eval-expr-lts.Need-add-eval-name (
   eval-one-below t,
   eval-one.Post,
 ) (eval-expr-at t) eval-expr.Post
-eval-expr-add-eval-name t c = search needs
+eval-expr-add-eval-name t c =
+    count-fits (counted (c .before .before .before .before .before .pre .1 .0) _ (c .before .before .if1 .left) (c .before .kind .ensures) .spent) (c .before .before .before .before .before .fits .budget)
 
 -- src/lib.rt:313:15
 pub eval-expr-eval-name-requires : (t : ℕ) → eval-expr-lts.Need-eval-name-requires (
@@ -201,7 +202,8 @@ pub eval-expr-add-eval-leaf : (t : ℕ) → eval-expr-lts.Need-add-eval-leaf (
   eval-one-below t,
   eval-one.Post,
 ) (eval-expr-at t) eval-expr.Post
-eval-expr-add-eval-leaf t c = search needs
+eval-expr-add-eval-leaf t c =
+    count-fits (counted (c .before .before .before .before .before .before .before .pre .1 .0) _ (c .before .before .before .before .if1 .left) (c .before .before .before .kind .ensures) .spent) (c .before .before .before .before .before .before .before .fits .budget)
 
 -- src/lib.rt:328:14
 pub eval-expr-eval-leaf-requires : (t : ℕ) → eval-expr-lts.Need-eval-leaf-requires (
@@ -324,7 +326,7 @@ pub eval-expr-same-length : (t : ℕ) → eval-expr-lts.Need-same-length (
   eval-one-below t,
   eval-one.Post,
 ) (eval-expr-at t) eval-expr.Post
-eval-expr-same-length t c = search needs
+eval-expr-same-length t c = c .before .before .eval-bool .kept .1 .1 .1 .0
 
 -- src/lib.rt:295:1
 pub eval-expr-returns-3 : (t : ℕ) → eval-expr-lts.Need-returns-3 (
@@ -343,7 +345,7 @@ pub eval-expr-returns-3 : (t : ℕ) → eval-expr-lts.Need-returns-3 (
   eval-one-below t,
   eval-one.Post,
 ) (eval-expr-at t) eval-expr.Post
-eval-expr-returns-3 t c = search needs
+eval-expr-returns-3 t c = c .before .before .eval-bool .ensures
 
 -- src/lib.rt:295:1
 pub eval-expr-same-length-2 : (t : ℕ) → eval-expr-lts.Need-same-length-2 (
@@ -362,7 +364,7 @@ pub eval-expr-same-length-2 : (t : ℕ) → eval-expr-lts.Need-same-length-2 (
   eval-one-below t,
   eval-one.Post,
 ) (eval-expr-at t) eval-expr.Post
-eval-expr-same-length-2 t c = search needs
+eval-expr-same-length-2 t c = c .before .before .eval-select .kept .1 .1 .1 .0
 
 -- src/lib.rt:295:1
 pub eval-expr-returns-4 : (t : ℕ) → eval-expr-lts.Need-returns-4 (
@@ -381,7 +383,7 @@ pub eval-expr-returns-4 : (t : ℕ) → eval-expr-lts.Need-returns-4 (
   eval-one-below t,
   eval-one.Post,
 ) (eval-expr-at t) eval-expr.Post
-eval-expr-returns-4 t c = search needs
+eval-expr-returns-4 t c = c .before .before .eval-select .ensures
 
 -- src/lib.rt:295:1
 pub eval-expr-same-length-3 : (t : ℕ) → eval-expr-lts.Need-same-length-3 (
@@ -400,7 +402,7 @@ pub eval-expr-same-length-3 : (t : ℕ) → eval-expr-lts.Need-same-length-3 (
   eval-one-below t,
   eval-one.Post,
 ) (eval-expr-at t) eval-expr.Post
-eval-expr-same-length-3 t c = search needs
+eval-expr-same-length-3 t c = c .before .before .eval-leaf .kept .1 .1 .0
 
 -- src/lib.rt:295:1
 pub eval-expr-returns-5 : (t : ℕ) → eval-expr-lts.Need-returns-5 (
@@ -445,7 +447,7 @@ pub eval-expr-same-length-4 : (t : ℕ) → eval-expr-lts.Need-same-length-4 (
   eval-one-below t,
   eval-one.Post,
 ) (eval-expr-at t) eval-expr.Post
-eval-expr-same-length-4 t c = search needs
+eval-expr-same-length-4 t c = c .before .before .eval-two .kept .1 .1 .1 .0
 
 -- src/lib.rt:295:1
 pub eval-expr-returns-6 : (t : ℕ) → eval-expr-lts.Need-returns-6 (
@@ -464,7 +466,7 @@ pub eval-expr-returns-6 : (t : ℕ) → eval-expr-lts.Need-returns-6 (
   eval-one-below t,
   eval-one.Post,
 ) (eval-expr-at t) eval-expr.Post
-eval-expr-returns-6 t c = search needs
+eval-expr-returns-6 t c = c .before .before .eval-two .ensures
 
 -- src/lib.rt:295:1
 pub eval-expr-same-length-5 : (t : ℕ) → eval-expr-lts.Need-same-length-5 (
@@ -483,7 +485,7 @@ pub eval-expr-same-length-5 : (t : ℕ) → eval-expr-lts.Need-same-length-5 (
   eval-one-below t,
   eval-one.Post,
 ) (eval-expr-at t) eval-expr.Post
-eval-expr-same-length-5 t c = search needs
+eval-expr-same-length-5 t c = c .before .before .eval-one .kept .1 .1 .1 .0
 
 -- src/lib.rt:295:1
 pub eval-expr-returns-7 : (t : ℕ) → eval-expr-lts.Need-returns-7 (
@@ -502,4 +504,4 @@ pub eval-expr-returns-7 : (t : ℕ) → eval-expr-lts.Need-returns-7 (
   eval-one-below t,
   eval-one.Post,
 ) (eval-expr-at t) eval-expr.Post
-eval-expr-returns-7 t c = search needs
+eval-expr-returns-7 t c = c .before .before .eval-one .ensures

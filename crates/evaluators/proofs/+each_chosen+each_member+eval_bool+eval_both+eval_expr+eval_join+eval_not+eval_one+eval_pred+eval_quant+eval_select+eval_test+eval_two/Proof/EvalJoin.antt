@@ -1,8 +1,9 @@
 -- `eval_join`.
 use Prim.Native.Nat.{ℕ}
-use mathlib.Core.Path.{refl}
+use mathlib.Core.Path.{refl, _∙_}
 use native.Mathlib.Omega.{arith}
-use borrow.Author.Needs.{needs}
+use Rattle.evaluators.proofs.SafeLaws.{count-fits, ready-node}
+use lib.Dec.{lit<}
 use Rattle.evaluators.proofs.each_chosen.Reads as each-chosen
 use Rattle.evaluators.proofs.each_chosen.Kinds as each-chosen-kinds
 use Rattle.evaluators.proofs.+each_chosen+each_member+eval_bool+eval_both+eval_expr+eval_join+eval_not+eval_one+eval_pred+eval_quant+eval_select+eval_test+eval_two.Lts-each_chosen as each-chosen-lts
@@ -72,7 +73,7 @@ pub eval-join-field-requires : (t : ℕ) → eval-join-lts.Need-field-requires (
   joined-reads.Asked,
   joined-reads.Learnt,
 ) (eval-join-at t) eval-join.Post
-eval-join-field-requires t c κs = search needs
+eval-join-field-requires t c κs = (ready-node (c .before .before .pre .1 .0 .ready), lit< tt)
 
 -- src/lib.rt:117:56
 pub eval-join-add-eval-pred : (t : ℕ) → eval-join-lts.Need-add-eval-pred (
@@ -85,7 +86,7 @@ pub eval-join-add-eval-pred : (t : ℕ) → eval-join-lts.Need-add-eval-pred (
   joined-reads.Asked,
   joined-reads.Learnt,
 ) (eval-join-at t) eval-join.Post
-eval-join-add-eval-pred t c = search needs
+eval-join-add-eval-pred t c = count-fits (c .before .before .before .before .pre .1 .0 .spent) (c .before .before .before .before .fits .budget)
 
 -- src/lib.rt:117:9
 pub eval-join-eval-pred-requires : (t : ℕ) → eval-join-lts.Need-eval-pred-requires (
@@ -115,7 +116,7 @@ pub eval-join-enum-known-first : (t : ℕ) → eval-join-lts.Need-enum-known-fir
   joined-reads.Asked,
   joined-reads.Learnt,
 ) (eval-join-at t) eval-join.Post
-eval-join-enum-known-first t c = search needs
+eval-join-enum-known-first t c = c .match .keys1
 
 -- src/lib.rt:119:9
 pub eval-join-enum-told : (t : ℕ) → eval-join-lts.Need-enum-told (
@@ -128,7 +129,7 @@ pub eval-join-enum-told : (t : ℕ) → eval-join-lts.Need-enum-told (
   joined-reads.Asked,
   joined-reads.Learnt,
 ) (eval-join-at t) eval-join.Post
-eval-join-enum-told t c = search needs
+eval-join-enum-told t c = c .match .keys2
 
 -- src/lib.rt:119:9
 pub eval-join-same-length : (t : ℕ) → eval-join-lts.Need-same-length (
@@ -141,7 +142,7 @@ pub eval-join-same-length : (t : ℕ) → eval-join-lts.Need-same-length (
   joined-reads.Asked,
   joined-reads.Learnt,
 ) (eval-join-at t) eval-join.Post
-eval-join-same-length t c = search needs
+eval-join-same-length t c = c .before .before .before .before .eval-pred .kept .1 .1 .1 .0
 
 -- src/lib.rt:119:9
 pub eval-join-returns : (t : ℕ) → eval-join-lts.Need-returns (
@@ -171,7 +172,7 @@ pub eval-join-decides-requires : (t : ℕ) → eval-join-lts.Need-decides-requir
   joined-reads.Asked,
   joined-reads.Learnt,
 ) (eval-join-at t) eval-join.Post
-eval-join-decides-requires t c κs = search needs
+eval-join-decides-requires t c κs = tt
 
 -- src/lib.rt:122:9
 pub eval-join-same-length-2 : (t : ℕ) → eval-join-lts.Need-same-length-2 (
@@ -184,7 +185,7 @@ pub eval-join-same-length-2 : (t : ℕ) → eval-join-lts.Need-same-length-2 (
   joined-reads.Asked,
   joined-reads.Learnt,
 ) (eval-join-at t) eval-join.Post
-eval-join-same-length-2 t c = search needs
+eval-join-same-length-2 t c = c .before .before .before .before .before .before .before .eval-pred .kept .1 .1 .1 .0
 
 -- src/lib.rt:122:9
 pub eval-join-returns-2 : (t : ℕ) → eval-join-lts.Need-returns-2 (
@@ -216,7 +217,7 @@ pub eval-join-field-requires-2 : (t : ℕ) → eval-join-lts.Need-field-requires
   joined-reads.Asked,
   joined-reads.Learnt,
 ) (eval-join-at t) eval-join.Post
-eval-join-field-requires-2 t c κs = search needs
+eval-join-field-requires-2 t c κs = (ready-node (c .before .before .before .before .before .before .before .before .before .before .before .before .pre .1 .0 .ready), lit< tt)
 
 -- src/lib.rt:125:9
 pub eval-join-eval-pred-requires-2 : (t : ℕ) → eval-join-lts.Need-eval-pred-requires-2 (
@@ -251,7 +252,7 @@ pub eval-join-enum-known-second : (t : ℕ) → eval-join-lts.Need-enum-known-se
   joined-reads.Asked,
   joined-reads.Learnt,
 ) (eval-join-at t) eval-join.Post
-eval-join-enum-known-second t c = search needs
+eval-join-enum-known-second t c = c .match2 .keys1
 
 -- src/lib.rt:127:9
 pub eval-join-enum-told-2 : (t : ℕ) → eval-join-lts.Need-enum-told-2 (
@@ -264,7 +265,7 @@ pub eval-join-enum-told-2 : (t : ℕ) → eval-join-lts.Need-enum-told-2 (
   joined-reads.Asked,
   joined-reads.Learnt,
 ) (eval-join-at t) eval-join.Post
-eval-join-enum-told-2 t c = search needs
+eval-join-enum-told-2 t c = c .match2 .keys2
 
 -- src/lib.rt:127:9
 pub eval-join-same-length-3 : (t : ℕ) → eval-join-lts.Need-same-length-3 (
@@ -277,7 +278,8 @@ pub eval-join-same-length-3 : (t : ℕ) → eval-join-lts.Need-same-length-3 (
   joined-reads.Asked,
   joined-reads.Learnt,
 ) (eval-join-at t) eval-join.Post
-eval-join-same-length-3 t c = search needs
+eval-join-same-length-3 t c =
+    c .before .before .before .before .eval-pred2 .kept .1 .1 .1 .0 ∙ c .before .before .before .before .before .before .before .before .before .before .before .before .before .before .eval-pred .kept .1 .1 .1 .0
 
 -- src/lib.rt:127:9
 pub eval-join-returns-3 : (t : ℕ) → eval-join-lts.Need-returns-3 (
@@ -312,7 +314,7 @@ pub eval-join-joined-requires : (t : ℕ) → eval-join-lts.Need-joined-requires
   joined-reads.Asked,
   joined-reads.Learnt,
 ) (eval-join-at t) eval-join.Post
-eval-join-joined-requires t c κs = search needs
+eval-join-joined-requires t c κs = tt
 
 -- src/lib.rt:102:1
 pub eval-join-same-length-4 : (t : ℕ) → eval-join-lts.Need-same-length-4 (
@@ -325,7 +327,8 @@ pub eval-join-same-length-4 : (t : ℕ) → eval-join-lts.Need-same-length-4 (
   joined-reads.Asked,
   joined-reads.Learnt,
 ) (eval-join-at t) eval-join.Post
-eval-join-same-length-4 t c = search needs
+eval-join-same-length-4 t c =
+    c .before .before .before .before .before .before .eval-pred2 .kept .1 .1 .1 .0 ∙ c .before .before .before .before .before .before .before .before .before .before .before .before .before .before .before .before .eval-pred .kept .1 .1 .1 .0
 
 -- src/lib.rt:102:1
 pub eval-join-returns-4 : (t : ℕ) → eval-join-lts.Need-returns-4 (

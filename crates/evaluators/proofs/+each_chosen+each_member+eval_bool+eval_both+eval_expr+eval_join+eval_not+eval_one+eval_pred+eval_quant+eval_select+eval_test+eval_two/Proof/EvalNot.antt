@@ -2,7 +2,8 @@
 use Prim.Native.Nat.{ℕ}
 use mathlib.Core.Path.{refl}
 use native.Mathlib.Omega.{arith}
-use borrow.Author.Needs.{needs}
+use Rattle.evaluators.proofs.SafeLaws.{count-fits, ready-node}
+use lib.Dec.{lit<}
 use Rattle.evaluators.proofs.each_chosen.Reads as each-chosen
 use Rattle.evaluators.proofs.each_chosen.Kinds as each-chosen-kinds
 use Rattle.evaluators.proofs.+each_chosen+each_member+eval_bool+eval_both+eval_expr+eval_join+eval_not+eval_one+eval_pred+eval_quant+eval_select+eval_test+eval_two.Lts-each_chosen as each-chosen-lts
@@ -69,7 +70,7 @@ pub eval-not-field-requires : (t : ℕ) → eval-not-lts.Need-field-requires (
   eval-pred-below t,
   eval-pred.Post,
 ) (eval-not-at t) eval-not.Post
-eval-not-field-requires t c κs = search needs
+eval-not-field-requires t c κs = (ready-node (c .before .before .pre .1 .0 .ready), lit< tt)
 
 -- src/lib.rt:148:56
 pub eval-not-add-eval-pred : (t : ℕ) → eval-not-lts.Need-add-eval-pred (
@@ -78,7 +79,7 @@ pub eval-not-add-eval-pred : (t : ℕ) → eval-not-lts.Need-add-eval-pred (
   eval-pred-below t,
   eval-pred.Post,
 ) (eval-not-at t) eval-not.Post
-eval-not-add-eval-pred t c = search needs
+eval-not-add-eval-pred t c = count-fits (c .before .before .before .before .pre .1 .0 .spent) (c .before .before .before .before .fits .budget)
 
 -- src/lib.rt:148:9
 pub eval-not-eval-pred-requires : (t : ℕ) → eval-not-lts.Need-eval-pred-requires (
@@ -100,7 +101,7 @@ pub eval-not-enum-known-first : (t : ℕ) → eval-not-lts.Need-enum-known-first
   eval-pred-below t,
   eval-pred.Post,
 ) (eval-not-at t) eval-not.Post
-eval-not-enum-known-first t c = search needs
+eval-not-enum-known-first t c = c .match .keys1
 
 -- src/lib.rt:150:9
 pub eval-not-enum-told : (t : ℕ) → eval-not-lts.Need-enum-told (
@@ -109,7 +110,7 @@ pub eval-not-enum-told : (t : ℕ) → eval-not-lts.Need-enum-told (
   eval-pred-below t,
   eval-pred.Post,
 ) (eval-not-at t) eval-not.Post
-eval-not-enum-told t c = search needs
+eval-not-enum-told t c = c .match .keys2
 
 -- src/lib.rt:150:9
 pub eval-not-same-length : (t : ℕ) → eval-not-lts.Need-same-length (
@@ -118,7 +119,7 @@ pub eval-not-same-length : (t : ℕ) → eval-not-lts.Need-same-length (
   eval-pred-below t,
   eval-pred.Post,
 ) (eval-not-at t) eval-not.Post
-eval-not-same-length t c = search needs
+eval-not-same-length t c = c .before .before .before .before .eval-pred .kept .1 .1 .1 .0
 
 -- src/lib.rt:150:9
 pub eval-not-returns : (t : ℕ) → eval-not-lts.Need-returns (
@@ -140,7 +141,7 @@ pub eval-not-same-length-2 : (t : ℕ) → eval-not-lts.Need-same-length-2 (
   eval-pred-below t,
   eval-pred.Post,
 ) (eval-not-at t) eval-not.Post
-eval-not-same-length-2 t c = search needs
+eval-not-same-length-2 t c = c .before .before .before .before .before .eval-pred .kept .1 .1 .1 .0
 
 -- src/lib.rt:133:1
 pub eval-not-returns-2 : (t : ℕ) → eval-not-lts.Need-returns-2 (

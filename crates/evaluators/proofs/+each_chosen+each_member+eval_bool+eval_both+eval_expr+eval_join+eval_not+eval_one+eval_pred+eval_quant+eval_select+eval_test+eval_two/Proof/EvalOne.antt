@@ -1,9 +1,10 @@
 -- `eval_one`.
 use Prim.Native.Nat.{ℕ}
-use mathlib.Core.Path.{refl, sym}
+use mathlib.Core.Path.{refl, sym, _∙_}
 use native.Mathlib.Omega.{arith}
-use borrow.Author.Needs.{needs}
 use borrow.Fn.PlainCycle.{is}
+use Rattle.evaluators.proofs.SafeLaws.{count-fits, ready-node}
+use lib.Dec.{lit<}
 use Rattle.evaluators.proofs.each_chosen.Reads as each-chosen
 use Rattle.evaluators.proofs.each_chosen.Kinds as each-chosen-kinds
 use Rattle.evaluators.proofs.+each_chosen+each_member+eval_bool+eval_both+eval_expr+eval_join+eval_not+eval_one+eval_pred+eval_quant+eval_select+eval_test+eval_two.Lts-each_chosen as each-chosen-lts
@@ -73,7 +74,7 @@ pub eval-one-field-requires : (t : ℕ) → eval-one-lts.Need-field-requires (
   settle-reads.Asked,
   settle-reads.Learnt,
 ) (eval-one-at t) eval-one.Post
-eval-one-field-requires t c κs = search needs
+eval-one-field-requires t c κs = (ready-node (c .before .before .pre .1 .0 .ready), lit< tt)
 
 -- src/lib.rt:452:56
 pub eval-one-add-eval-expr : (t : ℕ) → eval-one-lts.Need-add-eval-expr (
@@ -86,7 +87,7 @@ pub eval-one-add-eval-expr : (t : ℕ) → eval-one-lts.Need-add-eval-expr (
   settle-reads.Asked,
   settle-reads.Learnt,
 ) (eval-one-at t) eval-one.Post
-eval-one-add-eval-expr t c = search needs
+eval-one-add-eval-expr t c = count-fits (c .before .before .before .before .pre .1 .0 .spent) (c .before .before .before .before .fits .budget)
 
 -- src/lib.rt:452:9
 pub eval-one-eval-expr-requires : (t : ℕ) → eval-one-lts.Need-eval-expr-requires (
@@ -115,7 +116,7 @@ pub eval-one-enum-known-formed : (t : ℕ) → eval-one-lts.Need-enum-known-form
   settle-reads.Asked,
   settle-reads.Learnt,
 ) (eval-one-at t) eval-one.Post
-eval-one-enum-known-formed t c = search needs
+eval-one-enum-known-formed t c = c .match .keys1
 
 -- src/lib.rt:454:9
 pub eval-one-enum-told : (t : ℕ) → eval-one-lts.Need-enum-told (
@@ -128,7 +129,7 @@ pub eval-one-enum-told : (t : ℕ) → eval-one-lts.Need-enum-told (
   settle-reads.Asked,
   settle-reads.Learnt,
 ) (eval-one-at t) eval-one.Post
-eval-one-enum-told t c = search needs
+eval-one-enum-told t c = c .match .keys2
 
 -- src/lib.rt:454:9
 pub eval-one-same-length : (t : ℕ) → eval-one-lts.Need-same-length (
@@ -141,7 +142,7 @@ pub eval-one-same-length : (t : ℕ) → eval-one-lts.Need-same-length (
   settle-reads.Asked,
   settle-reads.Learnt,
 ) (eval-one-at t) eval-one.Post
-eval-one-same-length t c = search needs
+eval-one-same-length t c = c .before .before .before .before .eval-expr .kept .1 .1 .1 .0
 
 -- src/lib.rt:454:9
 pub eval-one-returns : (t : ℕ) → eval-one-lts.Need-returns (
@@ -207,7 +208,8 @@ pub eval-one-same-length-2 : (t : ℕ) → eval-one-lts.Need-same-length-2 (
   settle-reads.Asked,
   settle-reads.Learnt,
 ) (eval-one-at t) eval-one.Post
-eval-one-same-length-2 t c = search needs
+eval-one-same-length-2 t c =
+    c .before .before .settle .kept .0 ∙ c .before .before .before .before .before .before .one .kept .0 ∙ c .before .before .before .before .before .before .before .before .before .before .before .before .before .eval-expr .kept .1 .1 .1 .0
 
 -- src/lib.rt:437:1
 pub eval-one-returns-2 : (t : ℕ) → eval-one-lts.Need-returns-2 (

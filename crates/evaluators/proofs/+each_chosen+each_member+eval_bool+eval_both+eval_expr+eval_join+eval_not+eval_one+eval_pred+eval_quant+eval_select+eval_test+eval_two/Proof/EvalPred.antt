@@ -1,7 +1,7 @@
 -- `eval_pred`.
 use Prim.Native.Nat.{ℕ}
 use native.Mathlib.Omega.{arith}
-use borrow.Author.Needs.{needs}
+use Rattle.evaluators.proofs.SafeLaws.{ready-node}
 use Rattle.evaluators.proofs.each_chosen.Reads as each-chosen
 use Rattle.evaluators.proofs.each_chosen.Kinds as each-chosen-kinds
 use Rattle.evaluators.proofs.+each_chosen+each_member+eval_bool+eval_both+eval_expr+eval_join+eval_not+eval_one+eval_pred+eval_quant+eval_select+eval_test+eval_two.Lts-each_chosen as each-chosen-lts
@@ -89,7 +89,7 @@ pub eval-pred-kind-requires : (t : ℕ) → eval-pred-lts.Need-kind-requires (
   eval-join-below t,
   eval-join.Post,
 ) (eval-pred-at t) eval-pred.Post
-eval-pred-kind-requires t c κs = search needs
+eval-pred-kind-requires t c κs = ready-node (c .before .before .before .pre .1 .0)
 
 -- src/lib.rt:78:14
 pub eval-pred-eval-not-requires : (t : ℕ) → eval-pred-lts.Need-eval-not-requires (
@@ -176,7 +176,7 @@ pub eval-pred-same-length : (t : ℕ) → eval-pred-lts.Need-same-length (
   eval-join-below t,
   eval-join.Post,
 ) (eval-pred-at t) eval-pred.Post
-eval-pred-same-length t c = search needs
+eval-pred-same-length t c = c .before .before .eval-not .kept .1 .1 .1 .0
 
 -- src/lib.rt:60:1
 pub eval-pred-returns-2 : (t : ℕ) → eval-pred-lts.Need-returns-2 (
@@ -191,7 +191,7 @@ pub eval-pred-returns-2 : (t : ℕ) → eval-pred-lts.Need-returns-2 (
   eval-join-below t,
   eval-join.Post,
 ) (eval-pred-at t) eval-pred.Post
-eval-pred-returns-2 t c = search needs
+eval-pred-returns-2 t c = c .before .before .eval-not .ensures
 
 -- src/lib.rt:60:1
 pub eval-pred-same-length-2 : (t : ℕ) → eval-pred-lts.Need-same-length-2 (
@@ -206,7 +206,7 @@ pub eval-pred-same-length-2 : (t : ℕ) → eval-pred-lts.Need-same-length-2 (
   eval-join-below t,
   eval-join.Post,
 ) (eval-pred-at t) eval-pred.Post
-eval-pred-same-length-2 t c = search needs
+eval-pred-same-length-2 t c = c .before .before .eval-test .kept .1 .1 .1 .0
 
 -- src/lib.rt:60:1
 pub eval-pred-returns-3 : (t : ℕ) → eval-pred-lts.Need-returns-3 (
@@ -221,7 +221,7 @@ pub eval-pred-returns-3 : (t : ℕ) → eval-pred-lts.Need-returns-3 (
   eval-join-below t,
   eval-join.Post,
 ) (eval-pred-at t) eval-pred.Post
-eval-pred-returns-3 t c = search needs
+eval-pred-returns-3 t c = c .before .before .eval-test .ensures
 
 -- src/lib.rt:60:1
 pub eval-pred-same-length-3 : (t : ℕ) → eval-pred-lts.Need-same-length-3 (
@@ -236,7 +236,7 @@ pub eval-pred-same-length-3 : (t : ℕ) → eval-pred-lts.Need-same-length-3 (
   eval-join-below t,
   eval-join.Post,
 ) (eval-pred-at t) eval-pred.Post
-eval-pred-same-length-3 t c = search needs
+eval-pred-same-length-3 t c = c .before .before .eval-quant .kept .1 .1 .1 .0
 
 -- src/lib.rt:60:1
 pub eval-pred-returns-4 : (t : ℕ) → eval-pred-lts.Need-returns-4 (
@@ -251,7 +251,7 @@ pub eval-pred-returns-4 : (t : ℕ) → eval-pred-lts.Need-returns-4 (
   eval-join-below t,
   eval-join.Post,
 ) (eval-pred-at t) eval-pred.Post
-eval-pred-returns-4 t c = search needs
+eval-pred-returns-4 t c = c .before .before .eval-quant .ensures
 
 -- src/lib.rt:60:1
 pub eval-pred-same-length-4 : (t : ℕ) → eval-pred-lts.Need-same-length-4 (
@@ -266,7 +266,7 @@ pub eval-pred-same-length-4 : (t : ℕ) → eval-pred-lts.Need-same-length-4 (
   eval-join-below t,
   eval-join.Post,
 ) (eval-pred-at t) eval-pred.Post
-eval-pred-same-length-4 t c = search needs
+eval-pred-same-length-4 t c = c .before .before .eval-join .kept .1 .1 .1 .0
 
 -- src/lib.rt:60:1
 pub eval-pred-returns-5 : (t : ℕ) → eval-pred-lts.Need-returns-5 (
@@ -281,4 +281,4 @@ pub eval-pred-returns-5 : (t : ℕ) → eval-pred-lts.Need-returns-5 (
   eval-join-below t,
   eval-join.Post,
 ) (eval-pred-at t) eval-pred.Post
-eval-pred-returns-5 t c = search needs
+eval-pred-returns-5 t c = c .before .before .eval-join .ensures

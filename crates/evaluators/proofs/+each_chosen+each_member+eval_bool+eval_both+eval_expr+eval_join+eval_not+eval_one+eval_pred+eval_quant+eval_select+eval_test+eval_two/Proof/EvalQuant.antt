@@ -1,7 +1,9 @@
 -- `eval_quant`.
 use Prim.Native.Nat.{ℕ}
 use native.Mathlib.Omega.{arith}
-use borrow.Author.Needs.{needs}
+use Rattle.evaluators.proofs.SafeLaws.{count-fits, ready-node}
+use mathlib.Core.Path.{_∙_}
+use lib.Dec.{lit<}
 use Rattle.evaluators.proofs.each_chosen.Reads as each-chosen
 use Rattle.evaluators.proofs.each_chosen.Kinds as each-chosen-kinds
 use Rattle.evaluators.proofs.+each_chosen+each_member+eval_bool+eval_both+eval_expr+eval_join+eval_not+eval_one+eval_pred+eval_quant+eval_select+eval_test+eval_two.Lts-each_chosen as each-chosen-lts
@@ -69,7 +71,7 @@ pub eval-quant-field-requires : (t : ℕ) → eval-quant-lts.Need-field-requires
   each-member-below t,
   each-member.Post,
 ) (eval-quant-at t) eval-quant.Post
-eval-quant-field-requires t c κs = search needs
+eval-quant-field-requires t c κs = (ready-node (c .before .before .pre .1 .0 .ready), lit< tt)
 
 -- src/lib.rt:231:50
 pub eval-quant-add-eval-expr : (t : ℕ) → eval-quant-lts.Need-add-eval-expr (
@@ -82,7 +84,7 @@ pub eval-quant-add-eval-expr : (t : ℕ) → eval-quant-lts.Need-add-eval-expr (
   each-member-below t,
   each-member.Post,
 ) (eval-quant-at t) eval-quant.Post
-eval-quant-add-eval-expr t c = search needs
+eval-quant-add-eval-expr t c = count-fits (c .before .before .before .before .pre .1 .0 .spent) (c .before .before .before .before .fits .budget)
 
 -- src/lib.rt:231:11
 pub eval-quant-eval-expr-requires : (t : ℕ) → eval-quant-lts.Need-eval-expr-requires (
@@ -112,7 +114,7 @@ pub eval-quant-enum-known-k : (t : ℕ) → eval-quant-lts.Need-enum-known-k (
   each-member-below t,
   each-member.Post,
 ) (eval-quant-at t) eval-quant.Post
-eval-quant-enum-known-k t c = search needs
+eval-quant-enum-known-k t c = c .match .keys1
 
 -- src/lib.rt:233:23
 pub eval-quant-enum-known-at : (t : ℕ) → eval-quant-lts.Need-enum-known-at (
@@ -125,7 +127,7 @@ pub eval-quant-enum-known-at : (t : ℕ) → eval-quant-lts.Need-enum-known-at (
   each-member-below t,
   each-member.Post,
 ) (eval-quant-at t) eval-quant.Post
-eval-quant-enum-known-at t c = search needs
+eval-quant-enum-known-at t c = c .match .keys2
 
 -- src/lib.rt:233:45
 pub eval-quant-range-of-requires : (t : ℕ) → eval-quant-lts.Need-range-of-requires (
@@ -156,7 +158,7 @@ pub eval-quant-enum-told : (t : ℕ) → eval-quant-lts.Need-enum-told (
   each-member-below t,
   each-member.Post,
 ) (eval-quant-at t) eval-quant.Post
-eval-quant-enum-told t c = search needs
+eval-quant-enum-told t c = c .match2 .keys1
 
 -- src/lib.rt:235:24
 pub eval-quant-enum-known-count : (t : ℕ) → eval-quant-lts.Need-enum-known-count (
@@ -169,7 +171,7 @@ pub eval-quant-enum-known-count : (t : ℕ) → eval-quant-lts.Need-enum-known-c
   each-member-below t,
   each-member.Post,
 ) (eval-quant-at t) eval-quant.Post
-eval-quant-enum-known-count t c = search needs
+eval-quant-enum-known-count t c = c .match2 .keys2
 
 -- src/lib.rt:245:21
 pub eval-quant-add-each-member : (t : ℕ) → eval-quant-lts.Need-add-each-member (
@@ -220,7 +222,7 @@ pub eval-quant-same-length : (t : ℕ) → eval-quant-lts.Need-same-length (
   each-member-below t,
   each-member.Post,
 ) (eval-quant-at t) eval-quant.Post
-eval-quant-same-length t c = search needs
+eval-quant-same-length t c = c .before .before .before .before .before .eval-expr .kept .1 .1 .1 .0
 
 -- src/lib.rt:216:1
 pub eval-quant-returns : (t : ℕ) → eval-quant-lts.Need-returns (
@@ -251,7 +253,7 @@ pub eval-quant-same-length-2 : (t : ℕ) → eval-quant-lts.Need-same-length-2 (
   each-member-below t,
   each-member.Post,
 ) (eval-quant-at t) eval-quant.Post
-eval-quant-same-length-2 t c = search needs
+eval-quant-same-length-2 t c = c .before .before .before .before .before .before .before .before .before .eval-expr .kept .1 .1 .1 .0
 
 -- src/lib.rt:216:1
 pub eval-quant-returns-2 : (t : ℕ) → eval-quant-lts.Need-returns-2 (
@@ -282,7 +284,8 @@ pub eval-quant-same-length-3 : (t : ℕ) → eval-quant-lts.Need-same-length-3 (
   each-member-below t,
   each-member.Post,
 ) (eval-quant-at t) eval-quant.Post
-eval-quant-same-length-3 t c = search needs
+eval-quant-same-length-3 t c =
+    c .before .before .each-member .kept .1 .1 .1 .0 ∙ c .before .before .before .before .before .before .before .before .before .before .before .before .before .before .eval-expr .kept .1 .1 .1 .0
 
 -- src/lib.rt:216:1
 pub eval-quant-returns-3 : (t : ℕ) → eval-quant-lts.Need-returns-3 (

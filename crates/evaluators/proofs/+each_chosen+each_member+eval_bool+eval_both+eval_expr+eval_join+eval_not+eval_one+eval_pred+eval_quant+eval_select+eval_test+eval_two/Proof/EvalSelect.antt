@@ -1,9 +1,10 @@
 -- `eval_select`.
 use Prim.Native.Nat.{ℕ}
-use mathlib.Core.Path.{refl, sym}
+use mathlib.Core.Path.{refl, sym, _∙_}
 use native.Mathlib.Omega.{arith}
-use borrow.Author.Needs.{needs}
 use borrow.Fn.PlainCycle.{is}
+use Rattle.evaluators.proofs.SafeLaws.{count-fits, ready-node}
+use lib.Dec.{lit<}
 use Rattle.evaluators.proofs.each_chosen.Reads as each-chosen
 use Rattle.evaluators.proofs.each_chosen.Kinds as each-chosen-kinds
 use Rattle.evaluators.proofs.+each_chosen+each_member+eval_bool+eval_both+eval_expr+eval_join+eval_not+eval_one+eval_pred+eval_quant+eval_select+eval_test+eval_two.Lts-each_chosen as each-chosen-lts
@@ -75,7 +76,7 @@ pub eval-select-field-requires : (t : ℕ) → eval-select-lts.Need-field-requir
   settle-reads.Asked,
   settle-reads.Learnt,
 ) (eval-select-at t) eval-select.Post
-eval-select-field-requires t c κs = search needs
+eval-select-field-requires t c κs = (ready-node (c .before .before .pre .1 .0 .ready), lit< tt)
 
 -- src/lib.rt:500:56
 pub eval-select-add-eval-expr : (t : ℕ) → eval-select-lts.Need-add-eval-expr (
@@ -90,7 +91,7 @@ pub eval-select-add-eval-expr : (t : ℕ) → eval-select-lts.Need-add-eval-expr
   settle-reads.Asked,
   settle-reads.Learnt,
 ) (eval-select-at t) eval-select.Post
-eval-select-add-eval-expr t c = search needs
+eval-select-add-eval-expr t c = count-fits (c .before .before .before .before .pre .1 .0 .spent) (c .before .before .before .before .fits .budget)
 
 -- src/lib.rt:500:9
 pub eval-select-eval-expr-requires : (t : ℕ) → eval-select-lts.Need-eval-expr-requires (
@@ -123,7 +124,7 @@ pub eval-select-enum-known-formed : (t : ℕ) → eval-select-lts.Need-enum-know
   settle-reads.Asked,
   settle-reads.Learnt,
 ) (eval-select-at t) eval-select.Post
-eval-select-enum-known-formed t c = search needs
+eval-select-enum-known-formed t c = c .match .keys1
 
 -- src/lib.rt:502:9
 pub eval-select-enum-told : (t : ℕ) → eval-select-lts.Need-enum-told (
@@ -138,7 +139,7 @@ pub eval-select-enum-told : (t : ℕ) → eval-select-lts.Need-enum-told (
   settle-reads.Asked,
   settle-reads.Learnt,
 ) (eval-select-at t) eval-select.Post
-eval-select-enum-told t c = search needs
+eval-select-enum-told t c = c .match .keys2
 
 -- src/lib.rt:502:9
 pub eval-select-same-length : (t : ℕ) → eval-select-lts.Need-same-length (
@@ -153,7 +154,7 @@ pub eval-select-same-length : (t : ℕ) → eval-select-lts.Need-same-length (
   settle-reads.Asked,
   settle-reads.Learnt,
 ) (eval-select-at t) eval-select.Post
-eval-select-same-length t c = search needs
+eval-select-same-length t c = c .before .before .before .before .eval-expr .kept .1 .1 .1 .0
 
 -- src/lib.rt:502:9
 pub eval-select-returns : (t : ℕ) → eval-select-lts.Need-returns (
@@ -205,7 +206,7 @@ pub eval-select-enum-known-range : (t : ℕ) → eval-select-lts.Need-enum-known
   settle-reads.Asked,
   settle-reads.Learnt,
 ) (eval-select-at t) eval-select.Post
-eval-select-enum-known-range t c = search needs
+eval-select-enum-known-range t c = c .match2 .keys1
 
 -- src/lib.rt:506:9
 pub eval-select-enum-told-2 : (t : ℕ) → eval-select-lts.Need-enum-told-2 (
@@ -220,7 +221,7 @@ pub eval-select-enum-told-2 : (t : ℕ) → eval-select-lts.Need-enum-told-2 (
   settle-reads.Asked,
   settle-reads.Learnt,
 ) (eval-select-at t) eval-select.Post
-eval-select-enum-told-2 t c = search needs
+eval-select-enum-told-2 t c = c .match2 .keys2
 
 -- src/lib.rt:506:9
 pub eval-select-same-length-2 : (t : ℕ) → eval-select-lts.Need-same-length-2 (
@@ -235,7 +236,7 @@ pub eval-select-same-length-2 : (t : ℕ) → eval-select-lts.Need-same-length-2
   settle-reads.Asked,
   settle-reads.Learnt,
 ) (eval-select-at t) eval-select.Post
-eval-select-same-length-2 t c = search needs
+eval-select-same-length-2 t c = c .before .before .before .before .before .before .before .before .before .eval-expr .kept .1 .1 .1 .0
 
 -- src/lib.rt:506:9
 pub eval-select-returns-2 : (t : ℕ) → eval-select-lts.Need-returns-2 (
@@ -315,7 +316,7 @@ pub eval-select-enum-known-chosen : (t : ℕ) → eval-select-lts.Need-enum-know
   settle-reads.Asked,
   settle-reads.Learnt,
 ) (eval-select-at t) eval-select.Post
-eval-select-enum-known-chosen t c = search needs
+eval-select-enum-known-chosen t c = c .match3 .keys1
 
 -- src/lib.rt:510:9
 pub eval-select-enum-told-3 : (t : ℕ) → eval-select-lts.Need-enum-told-3 (
@@ -330,7 +331,7 @@ pub eval-select-enum-told-3 : (t : ℕ) → eval-select-lts.Need-enum-told-3 (
   settle-reads.Asked,
   settle-reads.Learnt,
 ) (eval-select-at t) eval-select.Post
-eval-select-enum-told-3 t c = search needs
+eval-select-enum-told-3 t c = c .match3 .keys2
 
 -- src/lib.rt:510:9
 pub eval-select-same-length-3 : (t : ℕ) → eval-select-lts.Need-same-length-3 (
@@ -345,7 +346,8 @@ pub eval-select-same-length-3 : (t : ℕ) → eval-select-lts.Need-same-length-3
   settle-reads.Asked,
   settle-reads.Learnt,
 ) (eval-select-at t) eval-select.Post
-eval-select-same-length-3 t c = search needs
+eval-select-same-length-3 t c =
+    c .before .before .before .before .each-chosen .kept .1 .1 .1 .0 ∙ c .before .before .before .before .before .before .before .before .before .before .before .before .before .before .before .before .eval-expr .kept .1 .1 .1 .0
 
 -- src/lib.rt:510:9
 pub eval-select-returns-3 : (t : ℕ) → eval-select-lts.Need-returns-3 (
@@ -407,7 +409,8 @@ pub eval-select-same-length-4 : (t : ℕ) → eval-select-lts.Need-same-length-4
   settle-reads.Asked,
   settle-reads.Learnt,
 ) (eval-select-at t) eval-select.Post
-eval-select-same-length-4 t c = search needs
+eval-select-same-length-4 t c =
+    c .before .before .settle .kept .0 ∙ c .before .before .before .before .before .before .before .before .before .each-chosen .kept .1 .1 .1 .0 ∙ c .before .before .before .before .before .before .before .before .before .before .before .before .before .before .before .before .before .before .before .before .before .eval-expr .kept .1 .1 .1 .0
 
 -- src/lib.rt:485:1
 pub eval-select-returns-4 : (t : ℕ) → eval-select-lts.Need-returns-4 (

@@ -1,7 +1,7 @@
 -- `eval_test`.
 use Prim.Native.Nat.{ℕ}
 use native.Mathlib.Omega.{arith}
-use borrow.Author.Needs.{needs}
+use Rattle.evaluators.proofs.SafeLaws.{count-fits}
 use Rattle.evaluators.proofs.each_chosen.Reads as each-chosen
 use Rattle.evaluators.proofs.each_chosen.Kinds as each-chosen-kinds
 use Rattle.evaluators.proofs.+each_chosen+each_member+eval_bool+eval_both+eval_expr+eval_join+eval_not+eval_one+eval_pred+eval_quant+eval_select+eval_test+eval_two.Lts-each_chosen as each-chosen-lts
@@ -65,7 +65,7 @@ pub eval-test-add-eval-both : (t : ℕ) → eval-test-lts.Need-add-eval-both (
   test-reads.Asked,
   test-reads.Learnt,
 ) (eval-test-at t) eval-test.Post
-eval-test-add-eval-both t c = search needs
+eval-test-add-eval-both t c = count-fits (c .before .before .before .pre .1 .0 .spent) (c .before .before .before .fits .budget)
 
 -- src/lib.rt:197:11
 pub eval-test-eval-both-requires : (t : ℕ) → eval-test-lts.Need-eval-both-requires (
@@ -85,7 +85,7 @@ pub eval-test-enum-known-k : (t : ℕ) → eval-test-lts.Need-enum-known-k (
   test-reads.Asked,
   test-reads.Learnt,
 ) (eval-test-at t) eval-test.Post
-eval-test-enum-known-k t c = search needs
+eval-test-enum-known-k t c = c .match .keys1
 
 -- src/lib.rt:199:24
 pub eval-test-enum-known-a : (t : ℕ) → eval-test-lts.Need-enum-known-a (
@@ -94,7 +94,7 @@ pub eval-test-enum-known-a : (t : ℕ) → eval-test-lts.Need-enum-known-a (
   test-reads.Asked,
   test-reads.Learnt,
 ) (eval-test-at t) eval-test.Post
-eval-test-enum-known-a t c = search needs
+eval-test-enum-known-a t c = c .match .keys2
 
 -- src/lib.rt:199:53
 pub eval-test-test-requires : (t : ℕ) → eval-test-lts.Need-test-requires (
@@ -116,7 +116,7 @@ pub eval-test-enum-told : (t : ℕ) → eval-test-lts.Need-enum-told (
   test-reads.Asked,
   test-reads.Learnt,
 ) (eval-test-at t) eval-test.Post
-eval-test-enum-told t c = search needs
+eval-test-enum-told t c = c .match2 .keys1
 
 -- src/lib.rt:201:27
 pub eval-test-enum-known-yes : (t : ℕ) → eval-test-lts.Need-enum-known-yes (
@@ -125,7 +125,7 @@ pub eval-test-enum-known-yes : (t : ℕ) → eval-test-lts.Need-enum-known-yes (
   test-reads.Asked,
   test-reads.Learnt,
 ) (eval-test-at t) eval-test.Post
-eval-test-enum-known-yes t c = search needs
+eval-test-enum-known-yes t c = c .match2 .keys2
 
 -- src/lib.rt:183:1
 pub eval-test-same-length : (t : ℕ) → eval-test-lts.Need-same-length (
@@ -134,7 +134,7 @@ pub eval-test-same-length : (t : ℕ) → eval-test-lts.Need-same-length (
   test-reads.Asked,
   test-reads.Learnt,
 ) (eval-test-at t) eval-test.Post
-eval-test-same-length t c = search needs
+eval-test-same-length t c = c .before .before .before .before .before .eval-both .kept .1 .1 .1 .0
 
 -- src/lib.rt:183:1
 pub eval-test-returns : (t : ℕ) → eval-test-lts.Need-returns (
@@ -156,7 +156,7 @@ pub eval-test-same-length-2 : (t : ℕ) → eval-test-lts.Need-same-length-2 (
   test-reads.Asked,
   test-reads.Learnt,
 ) (eval-test-at t) eval-test.Post
-eval-test-same-length-2 t c = search needs
+eval-test-same-length-2 t c = c .before .before .before .before .before .before .before .before .before .eval-both .kept .1 .1 .1 .0
 
 -- src/lib.rt:183:1
 pub eval-test-returns-2 : (t : ℕ) → eval-test-lts.Need-returns-2 (
@@ -179,7 +179,7 @@ pub eval-test-same-length-3 : (t : ℕ) → eval-test-lts.Need-same-length-3 (
   test-reads.Asked,
   test-reads.Learnt,
 ) (eval-test-at t) eval-test.Post
-eval-test-same-length-3 t c = search needs
+eval-test-same-length-3 t c = c .before .before .before .before .before .before .before .before .before .before .eval-both .kept .1 .1 .1 .0
 
 -- src/lib.rt:183:1
 pub eval-test-returns-3 : (t : ℕ) → eval-test-lts.Need-returns-3 (

@@ -1,7 +1,8 @@
 -- `eval_two`.
 use Prim.Native.Nat.{ℕ}
 use native.Mathlib.Omega.{arith}
-use borrow.Author.Needs.{needs}
+use Rattle.evaluators.proofs.SafeLaws.{count-fits}
+use mathlib.Core.Path.{_∙_}
 use Rattle.evaluators.proofs.each_chosen.Reads as each-chosen
 use Rattle.evaluators.proofs.each_chosen.Kinds as each-chosen-kinds
 use Rattle.evaluators.proofs.+each_chosen+each_member+eval_bool+eval_both+eval_expr+eval_join+eval_not+eval_one+eval_pred+eval_quant+eval_select+eval_test+eval_two.Lts-each_chosen as each-chosen-lts
@@ -68,7 +69,7 @@ pub eval-two-add-eval-both : (t : ℕ) → eval-two-lts.Need-add-eval-both (
   settle-reads.Asked,
   settle-reads.Learnt,
 ) (eval-two-at t) eval-two.Post
-eval-two-add-eval-both t c = search needs
+eval-two-add-eval-both t c = count-fits (c .before .before .before .pre .1 .0 .spent) (c .before .before .before .fits .budget)
 
 -- src/lib.rt:448:11
 pub eval-two-eval-both-requires : (t : ℕ) → eval-two-lts.Need-eval-both-requires (
@@ -94,7 +95,7 @@ pub eval-two-enum-known-k : (t : ℕ) → eval-two-lts.Need-enum-known-k (
   settle-reads.Asked,
   settle-reads.Learnt,
 ) (eval-two-at t) eval-two.Post
-eval-two-enum-known-k t c = search needs
+eval-two-enum-known-k t c = c .match .keys1
 
 -- src/lib.rt:450:24
 pub eval-two-enum-known-a : (t : ℕ) → eval-two-lts.Need-enum-known-a (
@@ -105,7 +106,7 @@ pub eval-two-enum-known-a : (t : ℕ) → eval-two-lts.Need-enum-known-a (
   settle-reads.Asked,
   settle-reads.Learnt,
 ) (eval-two-at t) eval-two.Post
-eval-two-enum-known-a t c = search needs
+eval-two-enum-known-a t c = c .match .keys2
 
 -- src/lib.rt:451:17
 pub eval-two-two-requires : (t : ℕ) → eval-two-lts.Need-two-requires (
@@ -145,7 +146,7 @@ pub eval-two-same-length : (t : ℕ) → eval-two-lts.Need-same-length (
   settle-reads.Asked,
   settle-reads.Learnt,
 ) (eval-two-at t) eval-two.Post
-eval-two-same-length t c = search needs
+eval-two-same-length t c = c .before .before .before .before .before .eval-both .kept .1 .1 .1 .0
 
 -- src/lib.rt:434:1
 pub eval-two-returns : (t : ℕ) → eval-two-lts.Need-returns (
@@ -170,7 +171,8 @@ pub eval-two-same-length-2 : (t : ℕ) → eval-two-lts.Need-same-length-2 (
   settle-reads.Asked,
   settle-reads.Learnt,
 ) (eval-two-at t) eval-two.Post
-eval-two-same-length-2 t c = search needs
+eval-two-same-length-2 t c =
+    c .before .before .settle .kept .0 ∙ c .before .before .before .before .before .before .two .kept .0 ∙ c .before .before .before .before .before .before .before .before .before .before .before .before .before .eval-both .kept .1 .1 .1 .0
 
 -- src/lib.rt:434:1
 pub eval-two-returns-2 : (t : ℕ) → eval-two-lts.Need-returns-2 (
