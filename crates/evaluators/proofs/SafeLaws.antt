@@ -9,7 +9,8 @@ use mir.Val.{Fits}
 use mir.Facts.{fits-le}
 use lib.Dec.{lit<}
 use lib.ListN.{length, set as setAt, length-set}
-use Rattle.rules.specs.Tables.{tableOf, nodeAt}
+use Rattle.rules.specs.Tables.{nodeCount, nodesAt}
+use Rattle.rules.specs.Readable.{Readable}
 use Rattle.table.specs.Layout.{NodeIn}
 use Rattle.arena.specs.Code.{Same}
 use Rattle.evaluators.specs.Cycle.{Ready, EachReady}
@@ -21,9 +22,20 @@ count-fits l f = fits-le (omega (arith, l)) f
 pub one-less : {n : ℕ} → 0 < n → n - 1 < n
 one-less h = omega (arith, h)
 
+-- The node of an identifier, or of a binder, has it in an environment of 32 entries.
+module _ {x y : ℕ} (e : x ≡ y) (l : y < 32) where
+  pub entry-below : x < 32
+  entry-below = omega (arith, e, l)
+
+  pub entry-scaled : Fits w64 (x * 4)
+  entry-scaled = scaled-fits x 32 4 entry-below (lit< tt)
+
+pub node-in : {bs : List ℕ} {base n : ℕ} → Readable bs → base ≡ nodesAt bs → n < nodeCount bs → NodeIn bs base n
+node-in r o l = record { laid = record { header = r .header; base = o }; below = l }
+
 module _ {bs : List ℕ} {base : ℕ} {env s : List ℕ} {top n steps budget : ℕ} (r : Ready bs base env s top n steps budget) where
   pub ready-node : NodeIn bs base n
-  ready-node = record { laid = record { header = r .readable .header; base = r .offset }; below = r .node }
+  ready-node = node-in (r .readable) (r .offset) (r .node)
 
   -- Room for a cell that is built.
   pub cell-room : {s′ : List ℕ} → Same top s s′ → top + 514 ≤ length s′
@@ -31,14 +43,7 @@ module _ {bs : List ℕ} {base : ℕ} {env s : List ℕ} {top n steps budget : �
 
 module _ {bs : List ℕ} {base : ℕ} {env s : List ℕ} {top n from count steps budget : ℕ} (r : EachReady bs base env s top n from count steps budget) where
   pub binder-node : NodeIn bs base n
-  binder-node = record { laid = record { header = r .ready .readable .header; base = r .ready .offset }; below = r .binder }
-
-  -- The bound identifier has an entry.
-  pub name-below : {x : ℕ} → x ≡ nodeAt (tableOf bs .nodes) n .a → x < 32
-  name-below e = omega (arith, e, r .name)
-
-  pub name-scaled : {x : ℕ} → x ≡ nodeAt (tableOf bs .nodes) n .a → Fits w64 (x * 4)
-  name-scaled {x} e = scaled-fits x 32 4 (name-below e) (lit< tt)
+  binder-node = node-in (r .ready .readable) (r .ready .offset) (r .binder)
 
   -- The first cell of a set that is built.
   pub above-fits : Fits w64 (top + 1)

@@ -1,17 +1,18 @@
 -- `eval_leaf`: the words of the node, and what the leaf builds.
 use Rattle.evaluators.proofs.LeafSteps.{leaf-ready, leaf-formed}
-use borrow.Author.Needs.{needs}
+use Rattle.evaluators.proofs.SafeLaws.{node-in}
+use lib.Dec.{lit<}
 use Rattle.evaluators.proofs.eval_leaf.Statement.{statement}
 use Rattle.evaluators.proofs.eval_leaf.Tie as tie
 
 field-requires : tie.Need-field-requires
-field-requires c κs = search needs
+field-requires c κs = let p = c .before .before .pre in (node-in (p .readable) (p .offset) (p .node), lit< tt)
 
 field-requires-2 : tie.Need-field-requires-2
-field-requires-2 c κs = search needs
+field-requires-2 c κs = let p = c .before .before .before .pre in (node-in (p .readable) (p .offset) (p .node), lit< tt)
 
 size-requires : tie.Need-size-requires
-size-requires c κs = search needs
+size-requires c κs = c .before .before .before .before .pre .readable .header
 
 leaf-requires : tie.Need-leaf-requires
 leaf-requires c κs =
@@ -19,7 +20,7 @@ leaf-requires c κs =
     leaf-ready (f .before .before .before .pre) (f .field .ensures) (c .before .before .field2 .ensures) (c .before .size .ensures)
 
 same-length : tie.Need-same-length
-same-length c = search needs
+same-length c = c .before .before .leaf .kept .0
 
 returns : tie.Need-returns
 returns c =

@@ -1,7 +1,7 @@
 -- `each_chosen`.
 use Prim.Native.Nat.{ℕ, _<_}
 use native.Mathlib.Omega.{arith}
-use Rattle.evaluators.proofs.SafeLaws.{one-less, binder-node, name-below, name-scaled, above-fits, top-scaled, top-inside, written-kept}
+use Rattle.evaluators.proofs.SafeLaws.{one-less, binder-node, entry-below, entry-scaled, above-fits, top-scaled, top-inside, written-kept}
 use mathlib.Core.Path.{_∙_}
 use lib.Dec.{lit<}
 use Rattle.evaluators.proofs.each_chosen.Reads as each-chosen
@@ -147,7 +147,7 @@ pub each-chosen-mul-inner : (t : ℕ) → each-chosen-lts.Need-mul-inner (
   choose-reads.Asked,
   choose-reads.Learnt,
 ) (each-chosen-at t) each-chosen.Post each-chosen-Inv-loop each-chosen-μ-loop
-each-chosen-mul-inner t c = name-scaled (c .before .before .before .before .before .before .before .pre .1) (c .before .before .before .before .field .ensures)
+each-chosen-mul-inner t c = entry-scaled (c .before .before .before .before .field .ensures) (c .before .before .before .before .before .before .before .pre .1 .name)
 
 -- src/lib.rt:523:9
 pub each-chosen-array-write-inner : (t : ℕ) → each-chosen-lts.Need-array-write-inner (
@@ -160,7 +160,7 @@ pub each-chosen-array-write-inner : (t : ℕ) → each-chosen-lts.Need-array-wri
   choose-reads.Asked,
   choose-reads.Learnt,
 ) (each-chosen-at t) each-chosen.Post each-chosen-Inv-loop each-chosen-μ-loop
-each-chosen-array-write-inner t c = name-below (c .before .before .before .before .before .before .before .pre .1) (c .before .before .before .before .field .ensures)
+each-chosen-array-write-inner t c = entry-below (c .before .before .before .before .field .ensures) (c .before .before .before .before .before .before .before .pre .1 .name)
 
 -- src/lib.rt:524:15
 pub each-chosen-eval-pred-requires : (t : ℕ) → each-chosen-lts.Need-eval-pred-requires (

@@ -1,7 +1,7 @@
 -- `each_member`.
 use Prim.Native.Nat.{ℕ}
 use native.Mathlib.Omega.{arith}
-use Rattle.evaluators.proofs.SafeLaws.{one-less, binder-node, name-below, name-scaled}
+use Rattle.evaluators.proofs.SafeLaws.{one-less, binder-node, entry-below, entry-scaled}
 use mathlib.Core.Path.{_∙_}
 use lib.Dec.{lit<}
 use Rattle.evaluators.proofs.each_chosen.Reads as each-chosen
@@ -127,7 +127,7 @@ pub each-member-mul-inner : (t : ℕ) → each-member-lts.Need-mul-inner (
   end-of-reads.Asked,
   end-of-reads.Learnt,
 ) (each-member-at t) each-member.Post each-member-Inv-loop each-member-μ-loop
-each-member-mul-inner t c = name-scaled (c .before .before .before .before .before .before .before .pre .1) (c .before .before .before .before .field .ensures)
+each-member-mul-inner t c = entry-scaled (c .before .before .before .before .field .ensures) (c .before .before .before .before .before .before .before .pre .1 .name)
 
 -- src/lib.rt:279:9
 pub each-member-array-write-inner : (t : ℕ) → each-member-lts.Need-array-write-inner (
@@ -138,7 +138,7 @@ pub each-member-array-write-inner : (t : ℕ) → each-member-lts.Need-array-wri
   end-of-reads.Asked,
   end-of-reads.Learnt,
 ) (each-member-at t) each-member.Post each-member-Inv-loop each-member-μ-loop
-each-member-array-write-inner t c = name-below (c .before .before .before .before .before .before .before .pre .1) (c .before .before .before .before .field .ensures)
+each-member-array-write-inner t c = entry-below (c .before .before .before .before .field .ensures) (c .before .before .before .before .before .before .before .pre .1 .name)
 
 -- src/lib.rt:280:13
 pub each-member-eval-pred-requires : (t : ℕ) → each-member-lts.Need-eval-pred-requires (
