@@ -25,7 +25,7 @@ use Rattle.table.specs.declared.Refusal.{Refusal}
 use Rattle.table.proofs.Promise.{passed-readable}
 use Rattle.buffer.specs.declared.Loaded.{Loaded}
 use Rattle.buffer.specs.declared.Loaded.the-variants.{All, Refused as Lacking}
-use Rattle.buffer.specs.Loaded.{Bound, Loads}
+use Rattle.buffer.specs.Loaded.{Bound, Loads, LoadReady}
 use Rattle.evaluators.proofs.NodeLaws.{node-tall}
 use Rattle.evaluate.specs.declared.Evaluation.{Evaluation}
 use Rattle.evaluators.specs.declared.Held.{Held}
@@ -34,6 +34,13 @@ use Rattle.evaluators.specs.Cycle.{Binds, Ready, EvaluatesP}
 use Rattle.evaluators.specs.Nodes.{IsPred}
 use Rattle.evaluate.specs.Result.{RefusedAt, Reported, Reports}
 use Rattle.evaluate.specs.Arenas.{needed, ArenaReady}
+
+-- The arena has room for the values, and the table a node.
+pub load-ready : {bs buffer s : List ℕ} → ArenaReady bs buffer s → LoadReady bs buffer s
+load-ready r = record { readable = r .needs .readable; room = omega (arith, r .needs .enough); small = r .small }
+
+pub some-node : {bs : List ℕ} {n : ℕ} → Readable bs → n ≡ nodeCount bs → 1 ≤ n
+some-node q e = omega (arith, e, q .header .some-node)
 
 -- Refusals 1 to 9, and 14: no visit is made.
 unread-ends : (bs buffer : List ℕ) (budget k p : ℕ) → reading bs ≡ refused k p → Ends (evaluation bs buffer budget) (refused k p) 0
