@@ -6,3 +6,4 @@ pub mod Walk
 pub mod Ordering
 pub mod Sharing
 pub mod Loading
+pub mod Filling

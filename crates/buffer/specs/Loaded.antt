@@ -4,10 +4,12 @@ use mathlib.Core.List.{List}
 use mathlib.Core.Option.{some}
 use mathlib.Core.Path.{_≡_}
 use lib.Dec.{T}
-use lib.ListN.{length, getD, drop}
+use lib.ListN.{length, getD, take, drop}
 use Rattle.rules.specs.Values.{Value}
 use Rattle.rules.specs.Ends.{done, refused}
 use Rattle.rules.specs.Cells.{value as valueFirst, good, noValue, valueFor, valuesFrom}
+use Rattle.rules.specs.Tables.{identifierCount}
+use Rattle.rules.specs.Readable.{Readable}
 use Rattle.arena.specs.Code.{ValueBelow}
 use Rattle.buffer.specs.Buffer.{cellsAtMost}
 use Rattle.buffer.specs.declared.Placed.{Placed}
@@ -64,3 +66,14 @@ pub record Bound (gs ws bs s env : List ℕ) (top end : ℕ) : Type 0 where
 abbrev pub Loads : List ℕ → List ℕ → List ℕ → List ℕ → List ℕ → ℕ → Loaded → Type 0
 Loads gs ws bs s env top (All end) = Bound gs ws bs s env top end
 Loads gs ws bs s env top (Refused x) = valuesFrom gs ws 0 bs ≡ refused 14 x
+
+-- The first n entries of an array are a list; the rest is room.
+pub record Begins (xs : List ℕ) (n size : ℕ) (l : List ℕ) : Type 0 where
+  pub first : take n l ≡ xs
+  pub whole : length l ≡ size
+
+-- What reading the values asks: room for the cells that they may take, and the cell of an identifier without a value.
+pub record LoadReady (bs values s : List ℕ) : Type 0 where
+  pub readable : Readable bs
+  pub room : 1 + cellsAtMost (identifierCount bs) (length values) ≤ length s
+  pub small : length s < 4294967296

@@ -3,13 +3,15 @@ ghost use mathlib.Core.Path.{_≡_};
 ghost use mathlib.Core.Bool.{true, cond};
 ghost use Prim.Native.Nat.{_+_, _-_, _≤_, _<_};
 ghost use lib.ListN.{length, getD};
-ghost use Rattle.rules.specs.Tables.{wordAt};
+ghost use Rattle.rules.specs.Tables.{wordAt, tableOf};
 ghost use Rattle.buffer.specs.Buffer.{stepAt, zerosAt, codeOf, cellGood, cellsAtMost, Takes, Places};
 ghost use Rattle.arena.specs.Code.{Same};
 ghost use Rattle.buffer.specs.Ordered.{SomeRow, InOrder, Whole, Ordered};
 ghost use Rattle.buffer.specs.Shared.{SomeTypedRow, Shares, ValueAndRun, TypedHere};
-ghost use Rattle.buffer.specs.Loaded.{ReadsGood, Enters, Room, Loads};
+ghost use Rattle.buffer.specs.Loaded.{ReadsGood, Enters, Room, Loads, LoadReady};
 ghost use Rattle.fitting.specs.Agree.{AgreedWith};
+
+mod words;
 
 // A place in the values buffer where a cell may begin.
 pub struct Cursor {
@@ -379,4 +381,16 @@ pub fn read_values(
         at: env,
         answer: Loaded::All(end),
     }
+}
+
+// Reads the values of a readable table's free identifiers into the arena s.
+pub fn load(table: &[u8], values: &[u8], s: &mut [u64]) -> Environment
+    requires { ⌜ LoadReady (now table) (now values) (now s) ⌝ }
+    ensures { λ r. ⌜ Loads (tableOf (now (table .entry)) .sizes) (tableOf (now (table .entry)) .binds) (now (values .entry)) (now (s .exit)) (r .at) 0 (r .answer) ⌝ }
+{
+    let sizes = words::sizes_of(table);
+    let binds = words::binds_of(table);
+    let g = table::givens(table);
+    let i = table::identifiers(table);
+    read_values(values, &sizes[..g], &binds[..i], s, 0)
 }

@@ -29,10 +29,9 @@ use Rattle.fitting.specs.Types.{SomeType, OfType, Decides}
 use Rattle.fitting.proofs.Types.{row-type}
 use Rattle.buffer.specs.declared.Loaded.{Loaded}
 use Rattle.buffer.specs.declared.Loaded.the-variants.{All, Refused}
-use Rattle.buffer.specs.Loaded.{Bound, Loads}
+use Rattle.buffer.specs.Loaded.{Bound, Loads, LoadReady}
 use Rattle.conforms.specs.Conforming.{HasWritten, Conforming}
 use Rattle.buffer.specs.Buffer.{cellsAtMost}
-use Rattle.evaluate.specs.Result.{LoadReady}
 use Rattle.conforms.specs.Rows.{RowOf, SomeRow, OfRow, NameReady, NameHas, AllStand, AllReady, Fits, Typed, AllHave}
 use Rattle.conforms.proofs.RowLaws.{refuses, agrees, decided-no, row-stands, row-there}
 

@@ -9,7 +9,7 @@ ghost use Rattle.rules.specs.Tables.{identifierCount};
 ghost use Rattle.buffer.specs.Buffer.{cellsAtMost};
 ghost use Rattle.fitting.specs.Types.{Decides};
 ghost use Rattle.conforms.specs.Conforming.{Conforming, conforming};
-ghost use Rattle.evaluate.specs.Result.{LoadReady};
+ghost use Rattle.buffer.specs.Loaded.{LoadReady};
 ghost use Rattle.conforms.specs.Rows.{Code, Blank, SomeRow, ValueAndRow, OfRow, NameReady, NameHas, AllReady, AllHave, Fits};
 
 // Whether a byte is the code of a type's first constructor.
@@ -112,7 +112,7 @@ fn conforms_in(table: &[u8], sheet: &[u8], values: &[u8], s: &mut [u64]) -> bool
     requires { ⌜ LoadReady (now table) (now values) (now s) × Fits (now table) (now sheet) ⌝ }
     ensures { λ r. ⌜ Decides r (Conforming (now (table .entry)) (now (sheet .entry)) (now (values .entry))) ⌝ }
 {
-    let loaded = evaluate::load(table, values, s);
+    let loaded = buffer::load(table, values, s);
     let env = loaded.at;
     let answer = loaded.answer;
     match answer {

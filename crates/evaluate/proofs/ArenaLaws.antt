@@ -9,7 +9,8 @@ use Rattle.rules.specs.Evaluation.{evaluation}
 use Rattle.evaluate.specs.declared.arenas.Attempt.{Attempt}
 use Rattle.evaluate.specs.declared.arenas.Attempt.the-variants.{Made, NoRoom}
 use Rattle.evaluate.specs.declared.Evaluation.{Evaluation}
-use Rattle.evaluate.specs.Result.{Reported, needed, Needs, Sized, Attempts, arenaSize}
+use Rattle.evaluate.specs.Result.{Reported}
+use Rattle.evaluate.specs.Arenas.{needed, Needs, Measured, Attempts, arenaSize}
 use Rattle.evaluate.proofs.EntryLaws.{needed-most}
 
 -- From 4 on an arena is the largest.
@@ -21,7 +22,7 @@ size-last (suc (suc (suc zero))) a b c d = absurd (d refl)
 size-last (suc (suc (suc (suc k)))) a b c d = refl
 
 -- An arena has room.
-pub has-room : {bs values : List ℕ} {need size cells : ℕ} → Sized bs values need → need ≤ size → size ≡ cells → Needs bs values cells
+pub has-room : {bs values : List ℕ} {need size cells : ℕ} → Measured bs values need → need ≤ size → size ≡ cells → Needs bs values cells
 has-room h l e = record { readable = h .readable; enough = omega (arith, h .is, l, e) }
 
 -- What a smaller arena has made.

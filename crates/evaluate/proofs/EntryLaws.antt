@@ -25,29 +25,22 @@ use Rattle.table.specs.declared.Refusal.{Refusal}
 use Rattle.table.proofs.Promise.{passed-readable}
 use Rattle.buffer.specs.declared.Loaded.{Loaded}
 use Rattle.buffer.specs.declared.Loaded.the-variants.{All, Refused as Lacking}
-use Rattle.buffer.specs.Loaded.{Room, Bound, Loads}
-use Rattle.evaluate.proofs.NodeLaws.{node-tall}
+use Rattle.buffer.specs.Loaded.{Bound, Loads, LoadReady}
+use Rattle.evaluators.proofs.NodeLaws.{node-tall}
 use Rattle.evaluate.specs.declared.Evaluation.{Evaluation}
-use Rattle.evaluate.specs.declared.Held.{Held}
-use Rattle.evaluate.specs.Answers.{Ends}
-use Rattle.evaluate.specs.Cycle.{Binds, Ready, EvaluatesP}
-use Rattle.evaluate.specs.Nodes.{IsPred}
-use Rattle.evaluate.specs.Result.{RefusedAt, Reported, Reports, needed, LoadReady, ArenaReady}
+use Rattle.evaluators.specs.declared.Held.{Held}
+use Rattle.evaluators.specs.Answers.{Ends}
+use Rattle.evaluators.specs.Cycle.{Binds, Ready, EvaluatesP}
+use Rattle.evaluators.specs.Nodes.{IsPred}
+use Rattle.evaluate.specs.Result.{RefusedAt, Reported, Reports}
+use Rattle.evaluate.specs.Arenas.{needed, ArenaReady}
 
--- The arena has room for the values of the identifiers.
-pub load-room : {bs ws buffer s : List ℕ} → LoadReady bs buffer s → ws ≡ tableOf bs .binds → Room ws buffer s 0
-load-room {bs} {ws} r e =
-    let l : length ws ≡ identifierCount bs = ap length e ∙ binds-length bs in
-    record {
-      few = omega (arith, l, r .readable .header .identifiers);
-      space = omega (arith, l, r .room);
-      small = r .small;
-    }
+-- The arena has room for the values, and the table a node.
+pub load-ready : {bs buffer s : List ℕ} → ArenaReady bs buffer s → LoadReady bs buffer s
+load-ready r = record { readable = r .needs .readable; room = omega (arith, r .needs .enough); small = r .small }
 
--- What has been read with the words of a table.
-pub loads-as : {gs gs′ ws ws′ : List ℕ} (bs s env : List ℕ) (a : Loaded) → gs ≡ gs′ → ws ≡ ws′ → Loads gs ws bs s env 0 a → Loads gs′ ws′ bs s env 0 a
-loads-as {gs} {gs′} {ws} {ws′} bs s env a e f h =
-    subst (λ (xs : List ℕ). Loads xs ws′ bs s env 0 a) e (subst (λ (xs : List ℕ). Loads gs xs bs s env 0 a) f h)
+pub some-node : {bs : List ℕ} {n : ℕ} → Readable bs → n ≡ nodeCount bs → 1 ≤ n
+some-node q e = omega (arith, e, q .header .some-node)
 
 -- Refusals 1 to 9, and 14: no visit is made.
 unread-ends : (bs buffer : List ℕ) (budget k p : ℕ) → reading bs ≡ refused k p → Ends (evaluation bs buffer budget) (refused k p) 0

@@ -1,16 +1,4 @@
--- The laws that the evaluators' proofs rest on.
-pub mod RunLaws
-pub mod NodeLaws
-pub mod DispatchLaws
-pub mod FormLaws
-pub mod BodyLaws
-pub mod ChosenLaws
-pub mod RangeLaws
-pub mod QuantLaws
-pub mod JoinLaws
-pub mod BothLaws
-pub mod LeafSteps
-pub mod SettleLaws
+-- The laws that the proofs of Evaluate rest on.
 pub mod ReportLaws
 pub mod EntryLaws
 pub mod ArenaLaws

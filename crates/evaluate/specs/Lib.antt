@@ -1,5 +1,3 @@
--- The evaluation of a readable table over an arena.
-pub mod Answers
-pub mod Cycle
-pub mod Nodes
+-- Evaluate: what it reports, and the arenas.
 pub mod Result
+pub mod Arenas

@@ -3,7 +3,8 @@ use crate::Evaluation;
 use crate::evaluate_in;
 ghost use mathlib.Core.Path.{_≡_};
 ghost use Rattle.rules.specs.Evaluation.{evaluation};
-ghost use Rattle.evaluate.specs.Result.{Reported, Needs, arenaSize, Sized, Attempts};
+ghost use Rattle.evaluate.specs.Result.{Reported};
+ghost use Rattle.evaluate.specs.Arenas.{Needs, arenaSize, Measured, Attempts};
 
 // An evaluation, or that no arena had room for it.
 pub enum Attempt {
@@ -67,7 +68,7 @@ fn size(k: usize) -> usize
 // Evaluates in the smallest of the arenas 0 to k that has room. The recursion keeps their frames apart: without it the
 // compiler makes one frame of all, and each call touches every page of the largest.
 pub fn smallest(table: &[u8], values: &[u8], budget: u32, need: usize, k: usize) -> Attempt
-    requires { ⌜ Sized (now table) (now values) need ⌝ }
+    requires { ⌜ Measured (now table) (now values) need ⌝ }
     ensures { λ r. ⌜ Attempts (now (table .entry)) (now (values .entry)) budget k r ⌝ }
 {
     if k > 0 {

@@ -12,7 +12,7 @@ use Rattle.evaluate.proofs.arenas.small.Reads as small-reads
 use Rattle.evaluate.proofs.arenas.tiny.Reads as tiny-reads
 use mathlib.Core.Path.{sym, ap, _∙_}
 use borrow.Author.Needs.{needs}
-use Rattle.evaluate.specs.Result.{arenaSize}
+use Rattle.evaluate.specs.Arenas.{arenaSize}
 use Rattle.evaluate.proofs.ArenaLaws.{size-last, has-room, made-before}
 use Rattle.evaluate.proofs.arenas.+smallest.{statement}
 use Rattle.evaluate.proofs.arenas.+smallest.Tie.{close}

@@ -1,0 +1,70 @@
+-- `load`: the table's words are lent as they stand in their arrays.
+use borrow.Author.Needs.{needs}
+use Rattle.buffer.proofs.Filling.{begins-lent, begins-count, size-bound, bind-bound, load-room, loads-as}
+use Rattle.buffer.proofs.load.Statement.{statement}
+use Rattle.buffer.proofs.load.Tie as tie
+
+sizes-of-requires : tie.Need-sizes-of-requires
+sizes-of-requires c κs = search needs
+
+binds-of-requires : tie.Need-binds-of-requires
+binds-of-requires c κs = search needs
+
+givens-requires : tie.Need-givens-requires
+givens-requires c κs = search needs
+
+identifiers-requires : tie.Need-identifiers-requires
+identifiers-requires c κs = search needs
+
+array-share-prefix-sizes : tie.Need-array-share-prefix-sizes
+array-share-prefix-sizes c = search needs
+
+slice-aggregate-read-values : tie.Need-slice-aggregate-read-values
+slice-aggregate-read-values c =
+    let g = c .before .before in
+    let z = g .before .before in
+    begins-count (z .sizes-of .ensures) (g .givens .ensures) (size-bound (z .before .before .before .before .pre .readable))
+
+array-share-prefix-binds : tie.Need-array-share-prefix-binds
+array-share-prefix-binds c = search needs
+
+slice-aggregate-read-values-2 : tie.Need-slice-aggregate-read-values-2
+slice-aggregate-read-values-2 c =
+    let i = c .before .before in
+    let b = i .before .before in
+    begins-count (b .binds-of .ensures) (i .identifiers .ensures) (bind-bound (b .before .before .before .before .before .pre .readable))
+
+read-values-requires : tie.Need-read-values-requires
+read-values-requires c κs =
+    let i = c .before .before .before in
+    let b = i .before .before in
+    load-room (b .before .before .before .before .before .pre) (begins-lent (b .binds-of .ensures) (i .identifiers .ensures))
+
+same-length : tie.Need-same-length
+same-length c = search needs
+
+returns : tie.Need-returns
+returns c =
+    let v = c .before .before in
+    let i = v .before .before .before .before in
+    let b = i .before .before in
+    let start = b .before .before .before .before .before in
+    loads-as (start .args .values .now) (v .read-values .last .1 .1 .1 .0) (v .read-values .result .at) (v .read-values .result .answer)
+    (begins-lent (b .before .sizes-of .ensures) (i .before .givens .ensures))
+    (begins-lent (b .binds-of .ensures) (i .identifiers .ensures)) (v .read-values .ensures .1)
+
+pub load-spec : {M : Type 1} → statement M
+load-spec =
+    tie.close
+    (tie.spec
+    sizes-of-requires
+    binds-of-requires
+    givens-requires
+    identifiers-requires
+    array-share-prefix-sizes
+    slice-aggregate-read-values
+    array-share-prefix-binds
+    slice-aggregate-read-values-2
+    read-values-requires
+    same-length
+    returns)

@@ -1,0 +1,39 @@
+-- The arenas that an evaluation may be made in, and the room that it needs.
+use Prim.Native.Nat.{ℕ, _+_, _*_, _≤_, _<_}
+use mathlib.Core.List.{List, [], _∷_}
+use mathlib.Core.Path.{_≡_}
+use lib.ListN.{length, getD}
+use Rattle.rules.specs.Tables.{tableOf, identifierCount, lastNode}
+use Rattle.rules.specs.Reading.{height}
+use Rattle.rules.specs.Readable.{Readable}
+use Rattle.rules.specs.Evaluation.{evaluation}
+use Rattle.buffer.specs.Buffer.{cellsAtMost}
+use Rattle.evaluate.specs.declared.arenas.Attempt.{Attempt}
+use Rattle.evaluate.specs.declared.arenas.Attempt.the-variants.{Made, NoRoom}
+use Rattle.evaluate.specs.Result.{Reported}
+
+-- What a readable table and its values ask of the arena: the values' cells, 512 a level, and 3 more.
+abbrev pub needed : List ℕ → List ℕ → ℕ
+needed bs values = 3 + cellsAtMost (identifierCount bs) (length values) + 512 * height (tableOf bs .nodes) (lastNode (tableOf bs .nodes))
+
+pub record Needs (bs values : List ℕ) (size : ℕ) : Type 0 where
+  pub readable : Readable bs
+  pub enough : needed bs values ≤ size
+
+pub record ArenaReady (bs values s : List ℕ) : Type 0 where
+  pub needs : Needs bs values (length s)
+  pub small : length s < 4294967296
+
+-- The cells of the arenas, from the smallest on.
+abbrev pub arenaSize : ℕ → ℕ
+arenaSize k = getD (1152 ∷ 2304 ∷ 4864 ∷ 12544 ∷ []) k 28675
+
+-- What a readable table and its values need has been computed.
+pub record Measured (bs values : List ℕ) (need : ℕ) : Type 0 where
+  pub readable : Readable bs
+  pub is : need ≡ needed bs values
+
+-- The evaluation has been made, or arena k has no room for it.
+abbrev pub Attempts : List ℕ → List ℕ → ℕ → ℕ → Attempt → Type 0
+Attempts bs values budget k (Made r) = Reported (evaluation bs values budget) r
+Attempts bs values budget k NoRoom = arenaSize k < needed bs values

@@ -1,0 +1,410 @@
+-- Where a node's visit goes: the refusal of a visit beyond the budget, the evaluator by the kind's code, and the leaves.
+use Prim.Native.Nat.{ℕ, zero, suc, _+_, _*_, _≤_, _<_}
+use mathlib.Core.List.{List}
+use mathlib.Core.Logic.{_≢_, _⊎_, inl, inr}
+use mathlib.Core.Option.{Option, none as nothing, some}
+use mathlib.Core.Path.{_≡_, refl, sym, ap, _∙_, subst}
+use native.Mathlib.Omega.{arith}
+use native.Mathlib.Decide.{decLt}
+use borrow.Author.Tests.{le-leb}
+use lib.ListN.{getD}
+use Rattle.rules.specs.Types.{whole}
+use Rattle.rules.specs.Values.{Value, weight}
+use Rattle.rules.specs.Kinds.{Test, equal, member, subset, atMost, Quant, forAll, forSome}
+use Rattle.rules.specs.Kinds.{Leaf, identifier, givenSet, elementOf, literal, truthConst, emptySet, boolSet}
+use Rattle.rules.specs.Kinds.{One, singleton, power, dom, ran, card, choice}
+use Rattle.rules.specs.Kinds.{Two, pairing, union, inter, diff, product, apply, plus, minus, interval}
+use Rattle.rules.specs.Kinds.{Kind, join, negation, test, quant, leaf, boolOf, one, two, comprehension, kindOf}
+use Rattle.rules.specs.Kinds.{Category, predicate, expression, categoryOf}
+use Rattle.rules.specs.Tables.{Node, Pred, joinᵖ, notᵖ, testᵖ, quantᵖ, Expr, leafᵉ, boolᵉ, oneᵉ, twoᵉ, comprehensionᵉ}
+use Rattle.rules.specs.Tables.{wordAt, nodeFrom, tableOf, nodeAt, kindAt, predOf, exprOf, predAt, exprAt, nodeCount, nodesAt}
+use Rattle.rules.specs.Readable.{Readable, CategoryIs}
+use Rattle.rules.specs.Ends.{done, refused}
+use Rattle.rules.specs.Runs.{form, gives}
+use Rattle.rules.specs.Operations.{Env, leafValue}
+use Rattle.rules.specs.Evaluation.{holdsᵖ, valueᵉ}
+use Rattle.rules.proofs.TableLaws.{sizes-length, binds-length, nodes-entry}
+use Rattle.rules.proofs.CellsLaws.{good-weight}
+use Rattle.rules.proofs.FormedLaws.{value-good}
+use Rattle.arena.proofs.Standing.{same-refl}
+use Rattle.operations.specs.Outcomes.{BuiltAt, LeafFits}
+use Rattle.operations.proofs.KindLaws.{testCode, quantCode, oneCode, twoCode, code-of, kind-of}
+use Rattle.evaluators.specs.declared.Formed.{Formed}
+use Rattle.evaluators.specs.declared.Formed.the-variants.{Stopped}
+use Rattle.evaluators.specs.declared.Held.the-variants.{Refused}
+use Rattle.evaluators.specs.Answers.{Ends, PlacedAs}
+use Rattle.evaluators.specs.Nodes.{IsPred, IsExpr, NameReady, NameAt, LeafNode, LeafFormed}
+use Rattle.evaluators.specs.Cycle.{Binds, Ready, Visited, Sort, EvaluatesP, EvaluatesE}
+use Rattle.evaluators.proofs.RunLaws.{visited, unvisited}
+use Rattle.evaluators.proofs.NodeLaws.{sizes-small, field-holds, expr-at, visited-kind}
+
+-- The number of a tree's own node.
+abbrev numberᵖ : Pred → ℕ
+numberᵖ (joinᵖ n j p q) = n
+numberᵖ (notᵖ n p) = n
+numberᵖ (testᵖ n j e f) = n
+numberᵖ (quantᵖ n j x r p) = n
+
+abbrev numberᵉ : Expr → ℕ
+numberᵉ (leafᵉ n j a b) = n
+numberᵉ (boolᵉ n p) = n
+numberᵉ (oneᵉ n j e) = n
+numberᵉ (twoᵉ n j e f) = n
+numberᵉ (comprehensionᵉ n x r p) = n
+
+predOf-number : (k : Option Kind) (n : ℕ) (d : Node) (p : ℕ → Pred) (e : ℕ → Expr) → numberᵖ (predOf k n d p e) ≡ n
+predOf-number nothing n d p e = refl
+predOf-number (some (join j)) n d p e = refl
+predOf-number (some negation) n d p e = refl
+predOf-number (some (test j)) n d p e = refl
+predOf-number (some (quant j)) n d p e = refl
+predOf-number (some (leaf j)) n d p e = refl
+predOf-number (some boolOf) n d p e = refl
+predOf-number (some (one j)) n d p e = refl
+predOf-number (some (two j)) n d p e = refl
+predOf-number (some comprehension) n d p e = refl
+
+exprOf-number : (k : Option Kind) (n : ℕ) (d : Node) (p : ℕ → Pred) (e : ℕ → Expr) → numberᵉ (exprOf k n d p e) ≡ n
+exprOf-number nothing n d p e = refl
+exprOf-number (some (join j)) n d p e = refl
+exprOf-number (some negation) n d p e = refl
+exprOf-number (some (test j)) n d p e = refl
+exprOf-number (some (quant j)) n d p e = refl
+exprOf-number (some (leaf j)) n d p e = refl
+exprOf-number (some boolOf) n d p e = refl
+exprOf-number (some (one j)) n d p e = refl
+exprOf-number (some (two j)) n d p e = refl
+exprOf-number (some comprehension) n d p e = refl
+
+predAt-number : (f : ℕ) (ns : List Node) (n : ℕ) → numberᵖ (predAt f ns n) ≡ n
+unfolding predAt
+predAt-number zero ns n = refl
+predAt-number (suc f) ns n = predOf-number (kindAt ns n) n (nodeAt ns n) (λ m. predAt f ns m) (λ m. exprAt f ns m)
+
+exprAt-number : (f : ℕ) (ns : List Node) (n : ℕ) → numberᵉ (exprAt f ns n) ≡ n
+unfolding exprAt
+exprAt-number zero ns n = refl
+exprAt-number (suc f) ns n = exprOf-number (kindAt ns n) n (nodeAt ns n) (λ m. predAt f ns m) (λ m. exprAt f ns m)
+
+-- 19: the visits are spent.
+module _ (budget : ℕ) (gs : List ℕ) (ρ : Env) (s : ℕ) (e : s ≡ budget) where
+  pred-spent : (p : Pred) → Ends (holdsᵖ budget gs p ρ s) (refused 19 (numberᵖ p)) s
+  unfolding holdsᵖ
+  pred-spent (joinᵖ n j p q) = unvisited budget n s _ e
+  pred-spent (notᵖ n p) = unvisited budget n s _ e
+  pred-spent (testᵖ n j a b) = unvisited budget n s _ e
+  pred-spent (quantᵖ n j x r p) = unvisited budget n s _ e
+
+  expr-spent : (a : Expr) → Ends (valueᵉ budget gs a ρ s) (refused 19 (numberᵉ a)) s
+  unfolding valueᵉ
+  expr-spent (leafᵉ n j a b) = unvisited budget n s _ e
+  expr-spent (boolᵉ n p) = unvisited budget n s _ e
+  expr-spent (oneᵉ n j a) = unvisited budget n s _ e
+  expr-spent (twoᵉ n j a b) = unvisited budget n s _ e
+  expr-spent (comprehensionᵉ n x r p) = unvisited budget n s _ e
+
+module _ {bs : List ℕ} {base : ℕ} {env s : List ℕ} {top n steps budget : ℕ} (r : Ready bs base env s top n steps budget) where
+  pub spent-pred : steps ≡ budget → EvaluatesP bs env s top n steps budget s (Refused 19 n steps)
+  spent-pred e = record {
+    frame = same-refl top s;
+    bounds = r .unspent;
+    answer = λ f ρ l b.
+        subst (λ (m : ℕ). Ends (holdsᵖ budget (tableOf bs .sizes) (predAt f (tableOf bs .nodes) n) ρ steps) (refused 19 m) steps)
+        (predAt-number f (tableOf bs .nodes) n) (pred-spent budget (tableOf bs .sizes) ρ steps e (predAt f (tableOf bs .nodes) n));
+  }
+
+  pub spent-expr : steps ≡ budget → EvaluatesE bs env s top n steps budget s (Stopped 19 n steps)
+  spent-expr e = record {
+    frame = same-refl top s;
+    bounds = r .unspent;
+    answer = λ f ρ l b.
+        subst (λ (m : ℕ). Ends (valueᵉ budget (tableOf bs .sizes) (exprAt f (tableOf bs .nodes) n) ρ steps) (refused 19 m) steps)
+        (exprAt-number f (tableOf bs .nodes) n) (expr-spent budget (tableOf bs .sizes) ρ steps e (exprAt f (tableOf bs .nodes) n));
+  }
+
+  -- The visit is counted.
+  pub counted : (k : ℕ) → steps ≢ budget → k ≡ nodeAt (tableOf bs .nodes) n .kind → Visited bs base env s top k n steps budget
+  counted k h e = record { ready = r; spent = omega (arith, r .unspent); kind = e }
+
+-- What holds at each of n numbers from i on.
+abbrev Along : (ℕ → Type 0) → ℕ → ℕ → Type 0
+Along P i zero = Unit {0}
+Along P i (suc n) = P i × Along P (suc i) n
+
+here-or-on : (P : ℕ → Type 0) (i k : ℕ) → i ≤ k → P i → (i < k → P k) → P k
+here-or-on P i k a h on = go (decLt i k)
+  where
+    go : Dec (i < k) → P k
+    go (yes l) = on l
+    go (no l) = let e : i ≡ k = omega arith in subst P e h
+
+along : (P : ℕ → Type 0) (i n : ℕ) → Along P i n → (k : ℕ) → i ≤ k → k < i + n → P k
+along P i zero h k a b = absurd (omega arith)
+along P i (suc n) h k a b = here-or-on P i k a (h .0) (λ l. along P (suc i) n (h .1) k (omega arith) (omega arith))
+
+-- The kinds that a code or a range of codes stands for.
+module _ (k : ℕ) where
+  pub test-sort : 6 ≤ k → k < 10 → Sort test k
+  unfolding kindOf
+  test-sort a b = along (λ (m : ℕ). Sort test m) 6 4 ((equal, refl), ((member, refl), ((subset, refl), ((atMost whole, refl), tt)))) k a (omega arith)
+
+  pub quant-sort : 10 ≤ k → k < 12 → Sort quant k
+  unfolding kindOf
+  quant-sort a b = along (λ (m : ℕ). Sort quant m) 10 2 ((forAll, refl), ((forSome, refl), tt)) k a (omega arith)
+
+  one-is : (j : One) → k ≡ oneCode j → Sort one k
+  one-is j e = (j, kind-of k (one j) e)
+
+  -- The codes of one arm: 27, 33, 38 and 43.
+  abbrev Some-one : Type 0
+  Some-one = (k ≡ 27) ⊎ ((k ≡ 33) ⊎ ((k ≡ 38) ⊎ (k ≡ 43)))
+
+  pub one-keys : Some-one → Sort one k
+  one-keys (inl e) = one-is singleton e
+  one-keys (inr (inl e)) = one-is power e
+  one-keys (inr (inr (inl e))) = one-is card e
+  one-keys (inr (inr (inr e))) = one-is choice e
+
+  pub one-range : (Some-one → ⊥) → k ≢ 34 → 33 ≤ k → k < 37 → Sort one k
+  unfolding kindOf
+  one-range n m a b =
+      along (λ (m : ℕ). Sort one m) 35 2 ((dom, refl), ((ran, refl), tt)) k
+      (let d : k ≢ 33 = λ e. n (inr (inl e)) in omega (arith, d, m)) (omega arith)
+
+  pub two-key : k ≡ 37 → Sort two k
+  two-key e = (apply, kind-of k (two apply) e)
+
+  pub two-low : (Some-one → ⊥) → 27 ≤ k → k < 33 → Sort two k
+  unfolding kindOf
+  two-low n a b =
+      along (λ (m : ℕ). Sort two m) 28 5 ((pairing, refl), ((union, refl), ((inter, refl), ((diff, refl), ((product, refl), tt))))) k
+      (let d : k ≢ 27 = λ e. n (inl e) in omega (arith, d)) (omega arith)
+
+  pub two-high : (Some-one → ⊥) → k ≢ 37 → 37 ≤ k → k < 42 → Sort two k
+  unfolding kindOf
+  two-high n m a b =
+      along (λ (m : ℕ). Sort two m) 39 3 ((plus whole, refl), ((minus whole, refl), ((interval, refl), tt))) k
+      (let d : k ≢ 38 = λ e. n (inr (inr (inl e))) in omega (arith, d, m)) (omega arith)
+
+-- The codes of a sort.
+test-codes : (j : Test) → (6 ≤ testCode j) × (testCode j < 10)
+test-codes equal = (omega arith, omega arith)
+test-codes member = (omega arith, omega arith)
+test-codes subset = (omega arith, omega arith)
+test-codes (atMost whole) = (omega arith, omega arith)
+
+quant-codes : (j : Quant) → (10 ≤ quantCode j) × (quantCode j < 12)
+quant-codes forAll = (omega arith, omega arith)
+quant-codes forSome = (omega arith, omega arith)
+
+one-codes : (j : One) → (27 ≤ oneCode j) × (oneCode j ≢ 43 → oneCode j < 42)
+one-codes singleton = (omega arith, λ n. omega arith)
+one-codes power = (omega arith, λ n. omega arith)
+one-codes dom = (omega arith, λ n. omega arith)
+one-codes ran = (omega arith, λ n. omega arith)
+one-codes card = (omega arith, λ n. omega arith)
+one-codes choice = (omega arith, λ n. absurd (n refl))
+
+two-codes : (j : Two) → (27 ≤ twoCode j) × (twoCode j < 42)
+two-codes pairing = (omega arith, omega arith)
+two-codes union = (omega arith, omega arith)
+two-codes inter = (omega arith, omega arith)
+two-codes diff = (omega arith, omega arith)
+two-codes product = (omega arith, omega arith)
+two-codes apply = (omega arith, omega arith)
+two-codes (plus whole) = (omega arith, omega arith)
+two-codes (minus whole) = (omega arith, omega arith)
+two-codes interval = (omega arith, omega arith)
+
+other : expression ≡ predicate → ⊥
+other e = let z : _≡_ {A = ℕ} 0 1 = cc in absurd (omega arith)
+
+-- The kinds of the last arms are those that no arm before has.
+module _ (k : ℕ) where
+  last-join : (x : Kind) → kindOf k ≡ some x → categoryOf x ≡ predicate → k ≢ 4 → (6 ≤ k → 12 ≤ k) → Sort join k
+  last-join (join j) e c n l = (j, e)
+  last-join negation e c n l = absurd (n (code-of k negation e))
+  last-join (test j) e c n l =
+      let q = code-of k (test j) e in
+      let r = test-codes j in absurd (omega (arith, q, r .0, r .1, l (omega (arith, q, r .0))))
+  last-join (quant j) e c n l =
+      let q = code-of k (quant j) e in
+      let r = quant-codes j in absurd (omega (arith, q, r .0, r .1, l (omega (arith, q, r .0))))
+  last-join (leaf j) e c n l = absurd (other c)
+  last-join boolOf e c n l = absurd (other c)
+  last-join (one j) e c n l = absurd (other c)
+  last-join (two j) e c n l = absurd (other c)
+  last-join comprehension e c n l = absurd (other c)
+
+  join-rest : CategoryIs predicate (kindOf k) → k ≢ 4 → (6 ≤ k → 12 ≤ k) → Sort join k
+  join-rest h n l = go (kindOf k) refl h
+    where
+      go : (o : Option Kind) → kindOf k ≡ o → CategoryIs predicate o → Sort join k
+      go nothing e h = absurd h
+      go (some x) e h = last-join x e h n l
+
+  -- A leaf that is no identifier.
+  record Constant : Type 0 where
+    kind : Leaf
+    is : kindOf k ≡ some (leaf kind)
+    no-name : kind ≢ identifier
+
+  last-leaf : (x : Kind) → kindOf k ≡ some x → categoryOf x ≡ expression → k ≢ 20 → k ≢ 25 → k ≢ 34 → k ≢ 43 → (27 ≤ k → 42 ≤ k) → Constant
+  last-leaf (join j) e c n20 n25 n34 n43 l = absurd (other (sym c))
+  last-leaf negation e c n20 n25 n34 n43 l = absurd (other (sym c))
+  last-leaf (test j) e c n20 n25 n34 n43 l = absurd (other (sym c))
+  last-leaf (quant j) e c n20 n25 n34 n43 l = absurd (other (sym c))
+  last-leaf (leaf j) e c n20 n25 n34 n43 l = record {
+    kind = j;
+    is = e;
+    no-name = λ d. n20 (code-of k (leaf identifier) (e ∙ ap (λ (i : Leaf). some (leaf i)) d));
+  }
+  last-leaf boolOf e c n20 n25 n34 n43 l = absurd (n25 (code-of k boolOf e))
+  last-leaf (one j) e c n20 n25 n34 n43 l =
+      let q = code-of k (one j) e in
+      let r = one-codes j in
+      absurd (omega (arith, q, r .1 (λ d. n43 (q ∙ d)), l (omega (arith, q, r .0))))
+  last-leaf (two j) e c n20 n25 n34 n43 l =
+      let q = code-of k (two j) e in
+      let r = two-codes j in absurd (omega (arith, q, r .1, l (omega (arith, q, r .0))))
+  last-leaf comprehension e c n20 n25 n34 n43 l = absurd (n34 (code-of k comprehension e))
+
+  leaf-rest : CategoryIs expression (kindOf k) → k ≢ 20 → k ≢ 25 → k ≢ 34 → (Some-one k → ⊥) → (27 ≤ k → 42 ≤ k) → Constant
+  leaf-rest h n20 n25 n34 n l = go (kindOf k) refl h
+    where
+      go : (o : Option Kind) → kindOf k ≡ o → CategoryIs expression o → Constant
+      go nothing e h = absurd h
+      go (some x) e h = last-leaf x e h n20 n25 n34 (λ d. n (inr (inr (inr d)))) l
+
+-- A word of a node.
+node-word : (bs : List ℕ) (n : ℕ) → n < nodeCount bs → ((i : ℕ) → getD bs i 0 < 256) → nodeAt (tableOf bs .nodes) n .a < 4294967296
+unfolding nodeFrom
+node-word bs n lt h =
+    let i = 4 + (nodesAt bs + 16 * n) in
+    let e : nodeAt (tableOf bs .nodes) n .a ≡ wordAt bs i = ap (λ (d : Node). d .a) (nodes-entry bs n lt) in
+    omega (arith, e, h i, h (1 + i), h (2 + i), h (3 + i))
+
+module _ (bs : List ℕ) (r : Readable bs) (n : ℕ) (lt : n < nodeCount bs) where
+  -- The words of a leaf are in range.
+  pub name-below : kindAt (tableOf bs .nodes) n ≡ some (leaf identifier) → nodeAt (tableOf bs .nodes) n .a < 32
+  name-below e = omega (arith, field-holds bs r n lt (leaf identifier) e 0 (omega arith), binds-length bs, r .header .identifiers)
+
+  constant-fits : (j : Leaf) → kindAt (tableOf bs .nodes) n ≡ some (leaf j) → j ≢ identifier → ((i : ℕ) → getD bs i 0 < 256) →
+      LeafFits j (nodeAt (tableOf bs .nodes) n .a) (nodeAt (tableOf bs .nodes) n .b) (getD (tableOf bs .sizes) (nodeAt (tableOf bs .nodes) n .a) 0)
+  constant-fits identifier e d h = absurd (d refl)
+  constant-fits givenSet e d h = (
+    omega (arith, field-holds bs r n lt (leaf givenSet) e 0 (omega arith), sizes-length bs, r .header .givens),
+    sizes-small bs r .small (nodeAt (tableOf bs .nodes) n .a),
+  )
+  constant-fits elementOf e d h = (
+    omega (arith, field-holds bs r n lt (leaf elementOf) e 0 (omega arith), sizes-length bs, r .header .givens),
+    omega (arith, field-holds bs r n lt (leaf elementOf) e 1 (omega arith), sizes-small bs r .small (nodeAt (tableOf bs .nodes) n .a)),
+  )
+  constant-fits (literal m) e d h = node-word bs n lt h
+  constant-fits truthConst e d h = field-holds bs r n lt (leaf truthConst) e 0 (omega arith)
+  constant-fits emptySet e d h = tt
+  constant-fits boolSet e d h = tt
+
+-- A value that is not heavy is formed.
+light-form : (n : ℕ) (w : Value) (s : ℕ) → weight w ≤ 256 → Ends (form n (gives w) s) (done w) s
+light-form n w s h = record { end = rw (le-leb (weight w) 256 h); steps = rw (le-leb (weight w) 256 h) }
+
+given-same : (v w : Value) → gives v ≡ gives w → v ≡ w
+given-same v w e = cc
+
+-- What the evaluators of the leaves take for granted.
+module _ {bs : List ℕ} {base : ℕ} {env s : List ℕ} {top k n steps budget : ℕ} (v : Visited bs base env s top k n steps budget) where
+  name-kind : k ≡ 20 → kindAt (tableOf bs .nodes) n ≡ some (leaf identifier)
+  name-kind e = visited-kind v (leaf identifier) (kind-of k (leaf identifier) e)
+
+  pub name-ready : k ≡ 20 → NameReady bs base env n
+  name-ready e = record {
+    readable = v .ready .readable;
+    offset = v .ready .offset;
+    node = v .ready .node;
+    name = name-below bs (v .ready .readable) n (v .ready .node) (name-kind e);
+    entries = v .ready .entries;
+  }
+
+  constant-node : Constant k → ((i : ℕ) → getD bs i 0 < 256) → LeafNode bs base s top k n
+  constant-node c h = record {
+    readable = v .ready .readable;
+    offset = v .ready .offset;
+    node = v .ready .node;
+    ready = record {
+      kind = c .kind;
+      is = c .is;
+      fits = constant-fits bs (v .ready .readable) n (v .ready .node) (c .kind) (visited-kind v (leaf (c .kind)) (c .is)) (c .no-name) h;
+      room = omega (arith, v .ready .room);
+    };
+  }
+
+  -- The last arms.
+  category : (c : Category) → CategoryIs c (kindAt (tableOf bs .nodes) n) → CategoryIs c (kindOf k)
+  category c h = subst (λ (m : ℕ). CategoryIs c (kindOf m)) (sym (v .kind)) h
+
+  pub join-kind : IsPred bs n → k ≢ 4 → (6 ≤ k → 12 ≤ k) → Sort join k
+  join-kind h d l = join-rest k (category predicate h) d l
+
+  pub leaf-node : IsExpr bs n → k ≢ 20 → k ≢ 25 → (Some-one k → ⊥) → k ≢ 34 → (27 ≤ k → 42 ≤ k) → ((i : ℕ) → getD bs i 0 < 256) →
+      LeafNode bs base s top k n
+  leaf-node h n20 n25 d n34 l bytes = constant-node (leaf-rest k (category expression h) n20 n25 n34 d l) bytes
+
+  -- A leaf's value, which is not heavy, is formed at once.
+  leaf-ends : (j : Leaf) → kindAt (tableOf bs .nodes) n ≡ some (leaf j) → (f : ℕ) (ρ : Env) → n < f →
+      weight (leafValue (tableOf bs .sizes) j (nodeAt (tableOf bs .nodes) n .a) (nodeAt (tableOf bs .nodes) n .b) ρ) ≤ 256 →
+      Ends (valueᵉ budget (tableOf bs .sizes) (exprAt f (tableOf bs .nodes) n) ρ steps)
+      (done (leafValue (tableOf bs .sizes) j (nodeAt (tableOf bs .nodes) n .a) (nodeAt (tableOf bs .nodes) n .b) ρ)) (steps + 1)
+  unfolding valueᵉ
+  leaf-ends j e f ρ l light =
+      let w = leafValue (tableOf bs .sizes) j (nodeAt (tableOf bs .nodes) n .a) (nodeAt (tableOf bs .nodes) n .b) ρ in
+      let d = expr-at (tableOf bs .nodes) n (leaf j) e f l in
+      let y = visited budget n steps (form n (gives w)) (v .spent) (light-form n w (suc steps) light) in
+      let z : suc steps ≡ steps + 1 = omega arith in
+      record { end = rw (d .is) (y .end); steps = rw (d .is) (y .steps) ∙ z }
+
+  -- An identifier's value stays where it is.
+  pub name-answer : k ≡ 20 → (o : Formed) → NameAt bs env top n (steps + 1) o → EvaluatesE bs env s top n steps budget s o
+  unfolding leafValue
+  name-answer e o h = subst (λ (x : Formed). EvaluatesE bs env s top n steps budget s x) (sym h) (record {
+    frame = same-refl top s;
+    bounds = (omega arith, omega arith, omega (arith, v .spent));
+    answer = λ f ρ l b. record {
+      value = ρ (nodeAt (tableOf bs .nodes) n .a);
+      ends = leaf-ends identifier (name-kind e) f ρ l (good-weight (tableOf bs .sizes) (ρ (nodeAt (tableOf bs .nodes) n .a)) (b .good (nodeAt (tableOf bs .nodes) n .a)));
+      place = b .at (nodeAt (tableOf bs .nodes) n .a) (name-below bs (v .ready .readable) n (v .ready .node) (name-kind e));
+    };
+  })
+
+  -- Another leaf's value has been built.
+  built-answer : (s′ : List ℕ) (end : ℕ) (j : Leaf) → kindAt (tableOf bs .nodes) n ≡ some (leaf j) →
+      (f : ℕ) (ρ : Env) → n < f → Binds (tableOf bs .sizes) s top env ρ →
+      BuiltAt s′ top (gives (leafValue (tableOf bs .sizes) j (nodeAt (tableOf bs .nodes) n .a) (nodeAt (tableOf bs .nodes) n .b) ρ)) end →
+      PlacedAs (valueᵉ budget (tableOf bs .sizes) (exprAt f (tableOf bs .nodes) n) ρ steps) (tableOf bs .sizes) s′ top end (steps + 1)
+  built-answer s′ end j e f ρ l b h =
+      let w = leafValue (tableOf bs .sizes) j (nodeAt (tableOf bs .nodes) n .a) (nodeAt (tableOf bs .nodes) n .b) ρ in
+      let q : w ≡ h .value = given-same w (h .value) (h .is) in
+      let y = leaf-ends j e f ρ l (subst (λ (x : Value). weight x ≤ 256) (sym q) (h .light)) in
+      let z : valueᵉ budget (tableOf bs .sizes) (exprAt f (tableOf bs .nodes) n) ρ steps .end ≡ done (h .value) = y .end ∙ ap done q in
+      record {
+        value = h .value;
+        ends = record { end = z; steps = y .steps };
+        place = record {
+          stands = h .stands;
+          below = omega (arith, h .ends);
+          good = value-good budget (tableOf bs) (v .ready .readable .records) f n ρ steps (h .value) (b .good) z;
+        };
+      }
+
+  leaf-built : (p : LeafNode bs base s top k n) (s′ : List ℕ) (o : Formed) (h : LeafFormed bs s top k n (steps + 1) s′ o) (ρ : Env) →
+      BuiltAt s′ top (gives (leafValue (tableOf bs .sizes) (p .ready .kind) (nodeAt (tableOf bs .nodes) n .a) (nodeAt (tableOf bs .nodes) n .b) ρ)) (h .end)
+  leaf-built p s′ o h ρ = h .done .answer (p .ready .kind) (tableOf bs .sizes) ρ (p .ready .is) (p .ready .fits) refl
+
+  pub leaf-answer : LeafNode bs base s top k n → (s′ : List ℕ) (o : Formed) → LeafFormed bs s top k n (steps + 1) s′ o → EvaluatesE bs env s top n steps budget s′ o
+  leaf-answer p s′ o h =
+      let x = leaf-built p s′ o h (v .ready .values) in
+      subst (λ (x : Formed). EvaluatesE bs env s top n steps budget s′ x) (sym (h .is)) (record {
+        frame = h .done .frame;
+        bounds = (omega (arith, x .ends), omega (arith, x .ends, x .light), omega (arith, v .spent));
+        answer = λ f ρ l b. built-answer s′ (h .end) (p .ready .kind) (visited-kind v (leaf (p .ready .kind)) (p .ready .is)) f ρ l b (leaf-built p s′ o h ρ);
+      })

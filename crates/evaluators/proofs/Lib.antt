@@ -1,0 +1,14 @@
+-- The laws that the evaluators' proofs rest on.
+pub mod RunLaws
+pub mod NodeLaws
+pub mod SafeLaws
+pub mod DispatchLaws
+pub mod FormLaws
+pub mod BodyLaws
+pub mod ChosenLaws
+pub mod RangeLaws
+pub mod QuantLaws
+pub mod JoinLaws
+pub mod BothLaws
+pub mod LeafSteps
+pub mod SettleLaws

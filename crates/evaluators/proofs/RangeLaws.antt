@@ -1,0 +1,89 @@
+-- A binder's range: its fields, the members of a set that stands in the arena, and what the loop over them may take for granted.
+use Prim.Native.Nat.{ℕ, _+_, _*_, _≤_, _<_}
+use mathlib.Core.Bool.{true}
+use mathlib.Core.List.{List, [], _∷_}
+use mathlib.Core.Option.{some}
+use mathlib.Core.Path.{_≡_}
+use native.Mathlib.Omega.{arith}
+use lib.Dec.{T}
+use lib.ListN.{length}
+use Rattle.rules.specs.Types.{Ty, atom, POW, _⊗_}
+use Rattle.rules.specs.Values.{Value, set, Values, count}
+use Rattle.rules.specs.Kinds.{Kind, Field, expression, predicate, child, binder-of, fieldsOf}
+use Rattle.rules.specs.Rules.{P̂, t̂}
+use Rattle.rules.specs.Fits.{HasType, Fits, typed, fits}
+use Rattle.rules.specs.Tables.{tableOf, nodeAt, kindAt}
+use Rattle.rules.specs.Runs.{Run}
+use Rattle.rules.proofs.TableLaws.{binds-length}
+use Rattle.rules.proofs.CellsLaws.{good-weight, good-typed}
+use Rattle.rules.proofs.FitsLaws.{typed-right}
+use Rattle.rules.proofs.FormedLaws.{elems-good}
+use Rattle.arena.specs.Code.{cellSize, code, codes, Same}
+use Rattle.arena.proofs.Standing.{stands-tail}
+use Rattle.operations.specs.Good.{Sizes, GoodAt}
+use Rattle.operations.proofs.FitLaws.{types-fit}
+use Rattle.evaluators.specs.Answers.{PlacedAs, RangeSet, Listed}
+use Rattle.evaluators.specs.Nodes.{SomeGood}
+use Rattle.evaluators.specs.Cycle.{Ready, EachReady}
+use Rattle.evaluators.proofs.NodeLaws.{Child, field-holds, field-child, ready-child}
+
+-- The range is a good value.
+pub placed-good : {x : Run Value} {gs s : List ℕ} {at next t : ℕ} → Sizes gs → PlacedAs x gs s at next t → SomeGood s at
+placed-good {gs = gs} {next = next} small p = record { sizes = gs; small = small; top = next; value = p .value; stands = p .place }
+
+-- The members of a good set stand behind its own cell.
+set-listed : {gs s : List ℕ} {top at n : ℕ} {vs : Values} → GoodAt gs s top at (set vs) → n ≡ count vs → Listed gs s top (at + 1) n vs
+unfolding code
+set-listed {gs} {s} {top} {at} {n} {vs} h e = record {
+  stands = stands-tail s at (5 * cellSize + count vs) (codes vs) (h .stands);
+  counted = e;
+  below = omega (arith, h .below);
+  good = elems-good gs (set vs) (h .good);
+  light = omega (arith, good-weight gs (set vs) (h .good));
+}
+
+-- A set that has a type can be a range.
+set-fits : (vs : Values) → T (typed (set vs)) → fits (P̂ t̂ ∷ []) (set vs ∷ []) ≡ true
+set-fits vs h = let x = typed-right (set vs) .0 h in types-fit (P̂ t̂ ∷ []) (set vs ∷ []) (go (x .0) (x .1))
+  where
+    go : (t : Ty) → HasType (set vs) t → Fits (P̂ t̂ ∷ []) (set vs ∷ [])
+    go (atom a) k = absurd k
+    go (POW u) k = (u, u, (k, tt))
+    go (u ⊗ w) k = absurd k
+
+pub range-fits : {gs s : List ℕ} {top at n : ℕ} {v : Value} → GoodAt gs s top at v → RangeSet v n → fits (P̂ t̂ ∷ []) (v ∷ []) ≡ true
+range-fits {gs} {s} {top} {at} {n} {v} h r = rw (r .is) (set-fits (r .members) (good-typed gs (set (r .members)) (rw (r .is) at (h .good))))
+
+pub range-listed : {gs s : List ℕ} {top at n : ℕ} {v : Value} → GoodAt gs s top at v → (r : RangeSet v n) → Listed gs s top (at + 1) n (r .members)
+range-listed {gs} {s} {top} {at} {n} {v} h r = set-listed (rw (r .is) at h) (r .counted)
+
+-- The fields of a binder: a name, a range and a body.
+abbrev pub binderFields : List Field
+binderFields = binder-of ∷ child expression ∷ child predicate ∷ []
+
+module _ {bs : List ℕ} {base : ℕ} {env s : List ℕ} {top n steps budget : ℕ} (r : Ready bs base env s top n steps budget)
+    {k : Kind} (e : kindAt (tableOf bs .nodes) n ≡ some k) (q : fieldsOf k ≡ binderFields) where
+  pub binder-name : nodeAt (tableOf bs .nodes) n .a < 32
+  binder-name =
+      let h : nodeAt (tableOf bs .nodes) n .a < length (tableOf bs .binds) = rw q at (field-holds bs (r .readable) n (r .node) k e 0 (rw q (omega arith))) in
+      omega (arith, h, binds-length bs, r .readable .header .identifiers)
+
+  pub binder-range : Child bs n (nodeAt (tableOf bs .nodes) n .b) expression
+  binder-range = field-child bs (r .readable) n (r .node) k e expression 1 (omega arith) (rw q (omega arith)) (rw q)
+
+  pub binder-body : Child bs n (nodeAt (tableOf bs .nodes) n .c) predicate
+  binder-body = field-child bs (r .readable) n (r .node) k e predicate 2 (omega arith) (rw q (omega arith)) (rw q)
+
+  -- The range is a set of m members, that stands at `at`.
+  pub binder-ready : {s′ : List ℕ} {at next m t : ℕ} {v : Value} → Same top s s′ → top ≤ next → next ≤ top + 256 → t ≤ budget →
+      GoodAt (tableOf bs .sizes) s′ next at v → RangeSet v m → EachReady bs base env s′ next n (at + 1) m t budget
+  binder-ready {s′} {at} {next} {m} {t} {v} f low high within g x = record {
+    ready = ready-child s′ (nodeAt (tableOf bs .nodes) n .c) next t r binder-body f low (omega arith) within;
+    binder = r .node;
+    deeper = binder-body .below;
+    is = binder-body .is;
+    name = binder-name;
+    space = omega (arith, binder-body .lower, r .room, f .kept);
+    range = x .members;
+    listed = range-listed g x;
+  }

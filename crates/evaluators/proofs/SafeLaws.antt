@@ -1,0 +1,60 @@
+-- What the code of the evaluators asks to be safe: nodes that may be read, numbers that fit their width, room.
+use Prim.Native.Nat.{ℕ, _+_, _-_, _*_, _≤_, _<_}
+use mathlib.Core.List.{List}
+use mathlib.Core.Path.{_≡_, _∙_}
+use native.Mathlib.Omega.{arith}
+use borrow.Author.Needs.{scaled-fits, fits-under}
+use mir.Syntax.{w32, w64}
+use mir.Val.{Fits}
+use mir.Facts.{fits-le}
+use lib.Dec.{lit<}
+use lib.ListN.{length, set as setAt, length-set}
+use Rattle.rules.specs.Tables.{nodeCount, nodesAt}
+use Rattle.rules.specs.Readable.{Readable}
+use Rattle.table.specs.Layout.{NodeIn}
+use Rattle.arena.specs.Code.{Same}
+use Rattle.evaluators.specs.Cycle.{Ready, EachReady}
+
+-- A visit is counted.
+pub count-fits : {steps budget : ℕ} → steps < budget → Fits w32 budget → Fits w32 (steps + 1)
+count-fits l f = fits-le (omega (arith, l)) f
+
+pub one-less : {n : ℕ} → 0 < n → n - 1 < n
+one-less h = omega (arith, h)
+
+-- The node of an identifier, or of a binder, has it in an environment of 32 entries.
+module _ {x y : ℕ} (e : x ≡ y) (l : y < 32) where
+  pub entry-below : x < 32
+  entry-below = omega (arith, e, l)
+
+  pub entry-scaled : Fits w64 (x * 4)
+  entry-scaled = scaled-fits x 32 4 entry-below (lit< tt)
+
+pub node-in : {bs : List ℕ} {base n : ℕ} → Readable bs → base ≡ nodesAt bs → n < nodeCount bs → NodeIn bs base n
+node-in r o l = record { laid = record { header = r .header; base = o }; below = l }
+
+module _ {bs : List ℕ} {base : ℕ} {env s : List ℕ} {top n steps budget : ℕ} (r : Ready bs base env s top n steps budget) where
+  pub ready-node : NodeIn bs base n
+  ready-node = node-in (r .readable) (r .offset) (r .node)
+
+  -- Room for a cell that is built.
+  pub cell-room : {s′ : List ℕ} → Same top s s′ → top + 514 ≤ length s′
+  cell-room e = omega (arith, r .room, r .tall, e .kept)
+
+module _ {bs : List ℕ} {base : ℕ} {env s : List ℕ} {top n from count steps budget : ℕ} (r : EachReady bs base env s top n from count steps budget) where
+  pub binder-node : NodeIn bs base n
+  binder-node = node-in (r .ready .readable) (r .ready .offset) (r .binder)
+
+  -- The first cell of a set that is built.
+  pub above-fits : Fits w64 (top + 1)
+  above-fits = fits-under w64 (top + 1) 4294967296 (omega (arith, r .space, r .ready .small)) tt
+
+  pub top-scaled : Fits w64 (top * 8)
+  top-scaled = fits-under w64 (top * 8) 34359738368 (omega (arith, r .space, r .ready .small)) tt
+
+  pub top-inside : {s′ : List ℕ} → Same top s s′ → top < length s′
+  top-inside e = omega (arith, r .space, e .kept)
+
+-- It is written.
+pub written-kept : {s s′ : List ℕ} {top : ℕ} (x : ℕ) → Same top s s′ → length (setAt s′ top x) ≡ length s
+written-kept {s} {s′} {top} x e = length-set s′ top x ∙ e .kept

@@ -1,0 +1,91 @@
+-- What a node gives is settled at its top, and a member that is chosen is copied behind those before it.
+use Prim.Native.Nat.{ℕ, _+_, _-_, _≤_}
+use mathlib.Core.Bool.{Bool, true, false, cond}
+use mathlib.Core.List.{List}
+use mathlib.Core.Logic.{_⊎_, inl, inr}
+use mathlib.Core.Path.{_≡_, refl, sym, subst}
+use native.Mathlib.Omega.{arith}
+use lib.ListN.{length}
+use Rattle.rules.specs.Runs.{Given}
+use Rattle.arena.specs.Code.{code, Same, Copied}
+use Rattle.arena.proofs.CodeLaws.{length-code}
+use Rattle.arena.proofs.Standing.{same-refl, copied-stands}
+use Rattle.operations.specs.declared.Outcome.{Outcome}
+use Rattle.operations.specs.declared.Outcome.the-variants.{Built, Within, Lacks}
+use Rattle.operations.specs.Outcomes.{BuiltAt, WithinAt, Gives}
+use Rattle.evaluators.specs.declared.Formed.the-variants.{Value as Placed, Stopped}
+use Rattle.evaluators.specs.Answers.{SettleReady}
+use Rattle.evaluators.specs.Nodes.{ChooseReady, Chooses}
+use Rattle.evaluators.specs.Cycle.{Settles}
+
+absurd01 : _≡_ {A = ℕ} 0 1 → ⊥
+absurd01 e = omega arith
+
+-- Copying changes nothing below its place.
+copied-frame : {s s′ : List ℕ} {from n to : ℕ} → Copied s from n to s′ → Same to s s′
+copied-frame c = record { same = c .before; kept = c .kept }
+
+module _ {s : List ℕ} {at end to : ℕ} where
+  pub choose-room : ChooseReady s at end to → (at + (end - at) ≤ length s) × (to + (end - at) ≤ length s) × ((at + (end - at) ≤ to) ⊎ (to ≤ at))
+  choose-room p = (omega (arith, p .forward, p .behind, p .room), p .room, inl (omega (arith, p .forward, p .behind)))
+
+  module _ {yes : Bool} where
+    pub chooses-none : yes ≡ false → Chooses s at end yes to s to
+    chooses-none e = record {
+      frame = same-refl to s;
+      kept = λ t. absurd (absurd01 (cc));
+      ends = subst (λ (b : Bool). to ≡ to + cond b (end - at) 0) (sym e) (omega arith);
+    }
+
+    pub chooses-copy : {s′ : List ℕ} → yes ≡ true → Copied s at (end - at) to s′ → Chooses s at end yes to s′ (to + (end - at))
+    chooses-copy e c = record {
+      frame = copied-frame c;
+      kept = λ _. c;
+      ends = subst (λ (b : Bool). to + (end - at) ≡ to + cond b (end - at) 0) (sym e) refl;
+    }
+
+module _ {s : List ℕ} {r : Outcome} {mid next top steps budget : ℕ} (p : SettleReady s r mid next top steps budget) where
+  pub settles-lacks : {node k : ℕ} → r ≡ Lacks k → Settles s r mid next top node steps budget s (Stopped k node steps)
+  settles-lacks e = record {
+    frame = same-refl top s;
+    bounds = p .within;
+    answer = λ g h. (subst (λ (o : Outcome). Gives s mid next g o) e h, refl, refl);
+  }
+
+  pub settles-within : {node at : ℕ} → r ≡ Within at → Settles s r mid next top node steps budget s (Placed at mid steps)
+  settles-within {node} {at} e = record {
+    frame = same-refl top s;
+    bounds = (p .low, p .high, p .within);
+    answer = λ g h.
+        let w : WithinAt s mid g at = subst (λ (o : Outcome). Gives s mid next g o) e h in
+        record { value = w .value; is = w .is; stands = w .stands; below = w .below; same = refl };
+  }
+
+  module _ {end : ℕ} (e : r ≡ Built end) where
+    built-as : (g : Given) → Gives s mid next g r → BuiltAt s next g end
+    built-as g h = subst (λ (o : Outcome). Gives s mid next g o) e h
+
+    pub built-above : next ≤ end
+    built-above = let b = built-as (p .given) (p .gives) in omega (arith, b .ends)
+
+    pub settle-room : (next + (end - next) ≤ length s) × (top + (end - next) ≤ length s) × ((next + (end - next) ≤ top) ⊎ (top ≤ next))
+    settle-room =
+        let b = built-as (p .given) (p .gives) in
+        (omega (arith, b .ends, b .light, p .room), omega (arith, b .ends, b .light, p .low, p .order, p .room), inr (omega (arith, p .low, p .order)))
+
+    pub settles-built : {node : ℕ} {s′ : List ℕ} → Copied s next (end - next) top s′ → Settles s r mid next top node steps budget s′ (Placed top (top + (end - next)) steps)
+    settles-built {node} {s′} c =
+        let b = built-as (p .given) (p .gives) in
+        record {
+          frame = copied-frame c;
+          bounds = (omega arith, omega (arith, b .ends, b .light), p .within);
+          answer = λ g h.
+              let x = built-as g h in
+              record {
+                value = x .value;
+                is = x .is;
+                stands = copied-stands s next (end - next) top s′ (code (x .value)) c (omega (arith, x .ends, length-code (x .value))) (settle-room .1) (x .stands);
+                below = omega (arith, x .ends);
+                same = refl;
+              };
+        }

@@ -1,0 +1,93 @@
+-- What the evaluators take for granted of single nodes, and the contracts of the functions that they use.
+use Prim.Native.Nat.{ℕ, _+_, _-_, _≤_, _<_}
+use mathlib.Core.Bool.{Bool, true, false, cond, not}
+use mathlib.Core.List.{List}
+use mathlib.Core.Option.{none as nothing, some}
+use mathlib.Core.Path.{_≡_}
+use lib.Dec.{eqb}
+use lib.ListN.{length, getD}
+use Rattle.rules.specs.Values.{Value}
+use Rattle.rules.specs.Kinds.{Join, join, Quant, forAll, forSome, predicate, expression, kindOf}
+use Rattle.rules.specs.Tables.{tableOf, nodeAt, kindAt, nodeCount, nodesAt}
+use Rattle.rules.specs.Reading.{height}
+use Rattle.rules.specs.Readable.{Readable, CategoryIs}
+use Rattle.rules.specs.Operations as rules
+use Rattle.arena.specs.Code.{Same, Copied}
+use Rattle.operations.specs.Good.{Sizes, GoodAt}
+use Rattle.operations.specs.Outcomes.{LeafReady, LeafDone}
+use Rattle.evaluators.specs.declared.Formed.{Formed}
+use Rattle.evaluators.specs.declared.Formed.the-variants.{Value as Placed}
+use Rattle.evaluators.specs.declared.Range.{Range}
+use Rattle.evaluators.specs.Answers.{RangeAs}
+
+-- The category of a node.
+abbrev pub IsPred : List ℕ → ℕ → Type 0
+IsPred bs n = CategoryIs predicate (kindAt (tableOf bs .nodes) n)
+
+abbrev pub IsExpr : List ℕ → ℕ → Type 0
+IsExpr bs n = CategoryIs expression (kindAt (tableOf bs .nodes) n)
+
+-- The fields a and b of a node are expressions, lower in number and in height.
+pub record TwoFields (bs : List ℕ) (n : ℕ) : Type 0 where
+  pub left : nodeAt (tableOf bs .nodes) n .a < n
+  pub right : nodeAt (tableOf bs .nodes) n .b < n
+  pub leftIs : IsExpr bs (nodeAt (tableOf bs .nodes) n .a)
+  pub rightIs : IsExpr bs (nodeAt (tableOf bs .nodes) n .b)
+  pub leftLower : height (tableOf bs .nodes) (nodeAt (tableOf bs .nodes) n .a) < height (tableOf bs .nodes) n
+  pub rightLower : height (tableOf bs .nodes) (nodeAt (tableOf bs .nodes) n .b) < height (tableOf bs .nodes) n
+
+-- Whether the first truth of a join decides: it does with any truth but for 1, where it is false.
+abbrev pub DecidesBy : ℕ → Bool → Bool → Type 0
+DecidesBy k p r = (j : Join) → kindOf k ≡ some (join j) → rules.decides j p ≡ cond r (some (not (eqb k 1))) nothing
+
+abbrev pub JoinedBy : ℕ → Bool → Bool → Bool → Type 0
+JoinedBy k p q r = (j : Join) → kindOf k ≡ some (join j) → r ≡ rules.joined j p q
+
+abbrev pub quantOf : Bool → Quant
+quantOf true = forAll
+quantOf false = forSome
+
+-- A good value stands at `at`.
+pub record SomeGood (s : List ℕ) (at : ℕ) : Type 0 where
+  pub sizes : List ℕ
+  pub small : Sizes sizes
+  pub top : ℕ
+  pub value : Value
+  pub stands : GoodAt sizes s top at value
+
+abbrev pub RangeAt : List ℕ → ℕ → Range → Type 0
+RangeAt s at r = (gs : List ℕ) (top : ℕ) (v : Value) → Sizes gs → GoodAt gs s top at v → RangeAs v r
+
+-- An identifier's node.
+pub record NameReady (bs : List ℕ) (base : ℕ) (env : List ℕ) (n : ℕ) : Type 0 where
+  pub readable : Readable bs
+  pub offset : base ≡ nodesAt bs
+  pub node : n < nodeCount bs
+  pub name : nodeAt (tableOf bs .nodes) n .a < 32
+  pub entries : length env ≡ 32
+
+abbrev pub NameAt : List ℕ → List ℕ → ℕ → ℕ → ℕ → Formed → Type 0
+NameAt bs env top n steps r = r ≡ Placed (getD env (nodeAt (tableOf bs .nodes) n .a) 0) top steps
+
+-- Another leaf's node.
+pub record LeafNode (bs : List ℕ) (base : ℕ) (s : List ℕ) (top k n : ℕ) : Type 0 where
+  pub readable : Readable bs
+  pub offset : base ≡ nodesAt bs
+  pub node : n < nodeCount bs
+  pub ready : LeafReady k (nodeAt (tableOf bs .nodes) n .a) (nodeAt (tableOf bs .nodes) n .b) (getD (tableOf bs .sizes) (nodeAt (tableOf bs .nodes) n .a) 0) s top
+
+pub record LeafFormed (bs s : List ℕ) (top k n steps : ℕ) (s′ : List ℕ) (r : Formed) : Type 0 where
+  pub end : ℕ
+  pub is : r ≡ Placed top end steps
+  pub done : LeafDone k (nodeAt (tableOf bs .nodes) n .a) (nodeAt (tableOf bs .nodes) n .b) (getD (tableOf bs .sizes) (nodeAt (tableOf bs .nodes) n .a) 0) s top s′ end
+
+-- A member from `at` to `end`, and room for it from `to` on, behind it.
+pub record ChooseReady (s : List ℕ) (at end to : ℕ) : Type 0 where
+  pub forward : at ≤ end
+  pub behind : end ≤ to
+  pub room : to + (end - at) ≤ length s
+
+pub record Chooses (s : List ℕ) (at end : ℕ) (yes : Bool) (to : ℕ) (s′ : List ℕ) (r : ℕ) : Type 0 where
+  pub frame : Same to s s′
+  pub kept : yes ≡ true → Copied s at (end - at) to s′
+  pub ends : r ≡ to + cond yes (end - at) 0
