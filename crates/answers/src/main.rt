@@ -9,7 +9,7 @@ use evaluate::Ending;
 use evaluate::Truth;
 use libc::STDIN_FILENO;
 use libc::STDOUT_FILENO;
-use table::Refusal;
+use reading::Refusal;
 ghost use Prim.Native.Nat.{_≤_, _<_};
 ghost use mathlib.Core.Path.{_≡_};
 ghost use lib.ListN.{length};

@@ -11,9 +11,9 @@ use Rattle.rules.specs.Reading.{reading}
 use Rattle.rules.specs.Verdict.{Verdict, unreadable, misfit, Place, sheetAfter, sheetLength, sheetOf, typeLimit}
 use Rattle.rules.proofs.VerdictLaws.{verdict-only}
 use Rattle.rules.proofs.TableLaws.{binds-length, nodes-length}
-use Rattle.table.specs.declared.Refusal.{Refusal}
-use Rattle.table.specs.Answers.{readingOf}
-use Rattle.table.proofs.Promise.{passed-readable}
+use Rattle.reading.specs.declared.Refusal.{Refusal}
+use Rattle.reading.specs.Answers.{readingOf}
+use Rattle.reading.proofs.Promise.{passed-readable}
 use Rattle.unification.specs.Problem.{Shape, Matches}
 use Rattle.unification.specs.Arrays.{shapeAt as arrayShape}
 use Rattle.unification.specs.Marks.{statusOf, markOf}
@@ -42,7 +42,7 @@ pub told-refused : (bs sheet : List ℕ) (n p : ℕ) (r : Checked) → r ≡ Ref
     Verdict bs (length sheet) (refused n p) → Told bs sheet r sheet
 told-refused bs sheet n p r e v = record { verdict = refused n p; described = v; answer = ap answerOf e; exit = refl }
 
-pub told-unreadable : (bs sheet : List ℕ) (q : Refusal) → readingOf bs (Rattle.table.specs.declared.Reading.the-variants.Refused q) ≡ reading bs →
+pub told-unreadable : (bs sheet : List ℕ) (q : Refusal) → readingOf bs (Rattle.reading.specs.declared.Reading.the-variants.Refused q) ≡ reading bs →
     Told bs sheet (Refused q) sheet
 told-unreadable bs sheet q e =
     record { verdict = refused (q .number) (q .place); described = unreadable (sym e); answer = refl; exit = refl }
@@ -113,7 +113,7 @@ module _ {bs : List ℕ} {at : ℕ} {bases kind left right cls mark sheet : List
           }
 
 -- A table that passed refusals 1 to 9.
-module _ (bs : List ℕ) (e : readingOf bs Rattle.table.specs.declared.Reading.the-variants.Passed ≡ reading bs) where
+module _ (bs : List ℕ) (e : readingOf bs Rattle.reading.specs.declared.Reading.the-variants.Passed ≡ reading bs) where
   pub passed-reads : reading bs ≡ done (tableOf bs)
   passed-reads = sym e
 

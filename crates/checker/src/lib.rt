@@ -1,8 +1,8 @@
 // Decides whether a table's condition is well typed, and writes its types.
 mod prefix;
 
-use table::Reading;
-use table::Refusal;
+use reading::Reading;
+use reading::Refusal;
 use unifier::wide;
 ghost use mathlib.Core.Path.{_≡_};
 ghost use lib.ListN.{length};
@@ -159,7 +159,7 @@ fn check_types(table: &[u8], sheet: &mut [u8]) -> Checked
 pub fn check(table: &[u8], sheet: &mut [u8]) -> Checked
     ensures { λ r. ⌜ (answerOf r ≡ answered (verdict (now (table .entry)) (length (now (sheet .entry))))) × (now (sheet .exit) ≡ sheetAfter (verdict (now (table .entry)) (length (now (sheet .entry)))) (now (sheet .entry))) ⌝ }
 {
-    let reading = table::read(table);
+    let reading = reading::read(table);
     if let Reading::Refused(r) = reading {
         return Checked::Refused(r);
     }

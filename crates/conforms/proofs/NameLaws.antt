@@ -19,12 +19,12 @@ use Rattle.rules.specs.Verdict.{sheetLength}
 use Rattle.rules.proofs.ReadingLaws.{reading-right, reading-table}
 use Rattle.rules.proofs.TableLaws.{binds-length, nodes-length}
 use Rattle.rules.specs.Safety.{Free}
-use Rattle.table.specs.declared.Refusal.{Refusal}
-use Rattle.table.specs.declared.Reading.{Reading}
-use Rattle.table.specs.declared.Reading.the-variants.{Passed, Refused as Unreadable}
-use Rattle.table.specs.Answers.{readingOf}
+use Rattle.reading.specs.declared.Refusal.{Refusal}
+use Rattle.reading.specs.declared.Reading.{Reading}
+use Rattle.reading.specs.declared.Reading.the-variants.{Passed, Refused as Unreadable}
+use Rattle.reading.specs.Answers.{readingOf}
 use Rattle.table.specs.Layout.{WordOf}
-use Rattle.table.proofs.Promise.{passed-readable}
+use Rattle.reading.proofs.Promise.{passed-readable}
 use Rattle.fitting.specs.Types.{SomeType, OfType, Decides}
 use Rattle.fitting.proofs.Types.{row-type}
 use Rattle.buffer.specs.declared.Loaded.{Loaded}

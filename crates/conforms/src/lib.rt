@@ -1,6 +1,6 @@
 // Whether values have the types that a sheet gives to the free identifiers of a table.
 use buffer::Loaded;
-use table::Reading;
+use reading::Reading;
 ghost use mathlib.Core.Path.{_≡_};
 ghost use Prim.Native.Nat.{_+_, _≤_, _<_};
 ghost use lib.ListN.{length};
@@ -163,7 +163,7 @@ fn conforms_readable(table: &[u8], sheet: &[u8], values: &[u8]) -> bool
 pub fn conforms(table: &[u8], sheet: &[u8], values: &[u8]) -> bool
     ensures { λ r. ⌜ r ≡ conforming (now (table .entry)) (now (sheet .entry)) (now (values .entry)) ⌝ }
 {
-    let reading = table::read(table);
+    let reading = reading::read(table);
     match reading {
         Reading::Refused(_) => false,
         Reading::Passed => conforms_readable(table, sheet, values),

@@ -18,11 +18,11 @@ use Rattle.rules.proofs.TableLaws.{binds-length, nodes-length}
 use Rattle.rules.proofs.ReadingLaws.{reading-right}
 use Rattle.rules.proofs.FormedLaws.{valuesIn-good}
 use Rattle.rules.proofs.Soundness.{evaluation-run}
-use Rattle.table.specs.Answers.{readingOf}
-use Rattle.table.specs.declared.Reading.{Reading}
-use Rattle.table.specs.declared.Reading.the-variants.{Passed, Refused as Unreadable}
-use Rattle.table.specs.declared.Refusal.{Refusal}
-use Rattle.table.proofs.Promise.{passed-readable}
+use Rattle.reading.specs.Answers.{readingOf}
+use Rattle.reading.specs.declared.Reading.{Reading}
+use Rattle.reading.specs.declared.Reading.the-variants.{Passed, Refused as Unreadable}
+use Rattle.reading.specs.declared.Refusal.{Refusal}
+use Rattle.reading.proofs.Promise.{passed-readable}
 use Rattle.buffer.specs.declared.Loaded.{Loaded}
 use Rattle.buffer.specs.declared.Loaded.the-variants.{All, Refused as Lacking}
 use Rattle.buffer.specs.Loaded.{Bound, Loads, LoadReady}

@@ -12,8 +12,8 @@ mod arenas;
 use arenas::Attempt;
 use buffer::Loaded;
 use evaluators::Held;
-use table::Reading;
-use table::Refusal;
+use reading::Reading;
+use reading::Refusal;
 
 pub enum Truth {
     True,
@@ -86,7 +86,7 @@ fn evaluate_sized(table: &[u8], values: &[u8], budget: u32) -> Evaluation
     ensures { λ r. ⌜ Reported (evaluation (now (table .entry)) (now (values .entry)) budget) r ⌝ }
 {
     let held = buffer::cells_at_most(table::identifiers(table), values.len());
-    let need = 3 + held + 512 * table::root_height(table);
+    let need = 3 + held + 512 * reading::root_height(table);
     match arenas::smallest(table, values, budget, need, 4) {
         Attempt::Made(e) => e,
         // Never: the last arena has room for each readable table.
@@ -98,7 +98,7 @@ fn evaluate_sized(table: &[u8], values: &[u8], budget: u32) -> Evaluation
 pub fn evaluate(table: &[u8], values: &[u8], budget: u32) -> Evaluation
     ensures { λ r. ⌜ (endingOf (r .ending) ≡ evaluation (now (table .entry)) (now (values .entry)) budget .end) × (r .steps ≡ evaluation (now (table .entry)) (now (values .entry)) budget .steps) ⌝ }
 {
-    let reading = table::read(table);
+    let reading = reading::read(table);
     match reading {
         Reading::Refused(r) => {
             let e = refused(r.number, r.place, 0);

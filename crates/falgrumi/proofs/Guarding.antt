@@ -8,7 +8,7 @@ use lib.ListN.{length}
 use Rattle.rules.specs.Ends.{End, done, refused}
 use Rattle.rules.specs.Evaluation.{evaluation}
 use Rattle.rules.specs.Verdict.{sheetAfter}
-use Rattle.table.specs.declared.Refusal.{Refusal}
+use Rattle.reading.specs.declared.Refusal.{Refusal}
 use Rattle.checker.specs.declared.Checked.{Checked}
 use Rattle.checker.specs.declared.Checked.the-variants.{Accepted, Refused}
 use Rattle.checker.specs.Answers.{answerOf, answered}

@@ -5,7 +5,7 @@ use mathlib.Core.List.{List}
 use mathlib.Core.Path.{_≡_, ap, sym, _∙_}
 use Rattle.rules.specs.Ends.{End, done, refused}
 use Rattle.checker.specs.Answers.{answered}
-use Rattle.table.specs.declared.Refusal.{Refusal}
+use Rattle.reading.specs.declared.Refusal.{Refusal}
 use Rattle.evaluate.specs.declared.Truth.{Truth}
 use Rattle.evaluate.specs.declared.Truth.the-variants.{True, False}
 use Rattle.evaluate.specs.declared.Ending.{Ending}

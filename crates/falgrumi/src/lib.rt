@@ -3,7 +3,7 @@ use checker::Checked;
 use evaluate::Ending;
 use evaluate::Evaluation;
 use evaluate::Truth;
-use table::Refusal;
+use reading::Refusal;
 ghost use mathlib.Core.Path.{_≡_};
 ghost use lib.ListN.{length};
 ghost use Rattle.rules.specs.Verdict.{sheetAfter};

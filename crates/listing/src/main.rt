@@ -2,7 +2,7 @@
 use checker::Checked;
 use libc::STDIN_FILENO;
 use libc::STDOUT_FILENO;
-use table::Refusal;
+use reading::Refusal;
 ghost use Prim.Native.Nat.{_+_, _*_, _≤_};
 ghost use lib.ListN.{length};
 

@@ -1,7 +1,7 @@
 use native.Mathlib.Omega.{arith}
 use mathlib.Core.Path.{_≡_, refl, sym, ap, _∙_}
 use denote.Ref.{now}
-use Rattle.table.specs.Answers.{readingOf}
+use Rattle.reading.specs.Answers.{readingOf}
 use Rattle.checker.specs.declared.Checked.the-variants.{Refused}
 use Rattle.checker.proofs.Telling.{told-final, told-unreadable, passed-reads, passed-long, passed-few, told-misfit, checkable}
 use borrow.Author.Needs.{needs}
@@ -13,7 +13,7 @@ use Rattle.checker.proofs.check_types.Reads as check-types-reads
 use Rattle.checker.proofs.refused.Reads as refused-reads
 use Rattle.table.proofs.identifiers.Reads as identifiers-reads
 use Rattle.table.proofs.nodes.Reads as nodes-reads
-use Rattle.table.proofs.read.Reads as read-reads
+use Rattle.reading.proofs.read.Reads as read-reads
 
 read-requires : tie.Need-read-requires
 read-requires c κs = search needs
