@@ -75,7 +75,7 @@ fn evaluate_in(table: &[u8], values: &[u8], budget: u32, s: &mut [u64]) -> Evalu
         Loaded::All(top) => {
             let base = table::nodes_offset(table);
             let root = table::nodes(table) - 1;
-            ended(evaluators::preds::eval_pred(table, base, &env, s, top, root, 0, budget))
+            ended(evaluators::eval_pred(table, base, &env, s, top, root, 0, budget))
         }
     }
 }

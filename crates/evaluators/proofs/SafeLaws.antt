@@ -55,6 +55,6 @@ module _ {bs : List ℕ} {base : ℕ} {env s : List ℕ} {top n from count steps
   pub top-inside : {s′ : List ℕ} → Same top s s′ → top < length s′
   top-inside e = omega (arith, r .space, e .kept)
 
--- It is written.
+-- Writing it keeps the arena as long as it was.
 pub written-kept : {s s′ : List ℕ} {top : ℕ} (x : ℕ) → Same top s s′ → length (setAt s′ top x) ≡ length s
 written-kept {s} {s′} {top} x e = length-set s′ top x ∙ e .kept
