@@ -14,6 +14,7 @@ use Rattle.rules.specs.Values.{Scalar, num, truth, element, Value, scalar, pair
 use Rattle.rules.proofs.OrderLaws.{order-refl}
 use Rattle.arena.specs.Code.{cellSize, excess, scalarLow, code, codes, Stands, ValueAt, ValuesAt, Same, ScalarFits, CellsFit, AllFit, SomeAt, EndsAt, Compared, Copied, partsOf}
 use Rattle.arena.proofs.CodeLaws.{length-code, length-codes, bit-small, first-less, first-greater, all-agree}
+use Rattle.rules.proofs.CellsLaws.{count-weights, weight-some}
 
 -- The first cell of a run, and the rest of it.
 pub stands-head : (s : List ℕ) (at x : ℕ) (xs : List ℕ) → Stands s at (x ∷ xs) → getD s at 0 ≡ x
@@ -152,18 +153,12 @@ module _ (s : List ℕ) (i e : ℕ) where
       go none c h f en = absurd (omega arith)
       go (v ▸ vs) c h f en = step-on v vs left (omega arith) h (f .0) (f .1) en
 
--- a value that is pending takes a cell
-pub weight-pos : (v : Value) → 1 ≤ weight v
-weight-pos (scalar x) = omega arith
-weight-pos (pair a b) = omega arith
-weight-pos (set ms) = omega arith
-
 pub pending-inside : (s : List ℕ) (i left e : ℕ) → Pending s i left e → 0 < left → (i < length s) × (i < e)
 pending-inside s i left e p l = go (p .values) (p .counted) (p .stands) (p .ends)
   where
     go : (vs : Values) → count vs ≡ left → ValuesAt s i vs → i + weights vs ≡ e → (i < length s) × (i < e)
     go none c h en = absurd (omega arith)
-    go (v ▸ vs) c h en = (omega (arith, h .inside, length-codes (v ▸ vs), weight-pos v), omega (arith, weight-pos v))
+    go (v ▸ vs) c h en = (omega (arith, h .inside, length-codes (v ▸ vs), weight-some v), omega (arith, weight-some v))
 
 pub pending-end : (s : List ℕ) (i left e : ℕ) → Pending s i left e → left ≡ 0 → i ≡ e
 pending-end s i left e p z = go (p .values) (p .counted) (p .ends)
@@ -264,10 +259,6 @@ copied-step s₀ s from n to i c d l b = record {
     at : (j : ℕ) → j < i + 1 → Dec (j ≡ i) → getD (setAt s (to + i) (getD s (from + i) 0)) (to + j) 0 ≡ getD s₀ (from + j) 0
     at j p (yes e) = rw e (getD-set-same s (to + i) (getD s (from + i) 0) 0 (omega (arith, c .kept)) ∙ copied-source s₀ s from n to i c d l)
     at j p (no e) = getD-set-other s (to + i) (to + j) (getD s (from + i) 0) 0 (λ f. e (omega arith)) ∙ c .there j (omega arith)
-
-pub count-weights : (vs : Values) → count vs ≤ weights vs
-count-weights none = omega arith
-count-weights (v ▸ vs) = omega (arith, count-weights vs, weight-pos v)
 
 pub pending-few : (s : List ℕ) (i left e : ℕ) → Pending s i left e → left ≤ length s
 pending-few s i left e p = omega (arith, count-weights (p .values), p .counted, p .stands .inside, length-codes (p .values))

@@ -8,7 +8,6 @@ use native.Mathlib.Omega.{arith}
 use lib.Dec.{T, eqb, leb, ltb, leb→le, ltb→lt, eqb→eq}
 use lib.IntN.{ℤ, pos, negsuc}
 use lib.ListN.{length, getD, drop}
-use lib.Seq.{drop-cons}
 use borrow.Author.Tests.{eq-eqb, ne-eqb, le-leb}
 use Rattle.rules.specs.Types.{whole}
 use Rattle.rules.specs.Values.{Scalar, num, truth, element, Value, scalar, pair, set, Values, none, _▸_, bit}
@@ -16,12 +15,13 @@ use Rattle.rules.specs.Values.{scalarTag, scalarPayload, tag, payload, count, w
 use Rattle.rules.specs.Tables.{wordAt}
 use Rattle.rules.specs.Cells.{bytes4, twos, signed, inRange, cell, cells, cellsOf, scalarGood, value}
 use Rattle.rules.proofs.OrderLaws.{and-left, and-right}
-use Rattle.rules.proofs.CellsLaws.{Word, Bytes, EncodableScalar, Encodable, Encodables, and-both, byte-at, word-at, word-bytes, bytes-word, twos-signed, signed-range, payload-word, cells-value, value-encodable, count-weights}
+use Rattle.rules.proofs.CellsLaws.{Word, Bytes, EncodableScalar, Encodable, Encodables, byte-at, word-at, word-bytes, bytes-word, twos-signed, signed-range, payload-word, cells-value, value-encodable, count-weights, bit-eqb, cell-parts, eight}
 use Rattle.arena.specs.Code.{cellSize, excess, code, codes, CellsFit, partsOf}
 use Rattle.arena.proofs.CodeLaws.{length-code, length-codes, encodable-fits}
 use Rattle.arena.proofs.Standing.{_before_, codes-before, count-before}
 use Rattle.buffer.specs.Buffer.{cellFirst, firstCell, codeOf, tagGood, cellGood, scalarsGood, allGood}
 use Rattle.buffer.proofs.Encoded.{value-can}
+use Rattle.rules.proofs.Basics.{and-of}
 
 cellsOf-before : (vs ws : Values) → cellsOf (vs before ws) ≡ cellsOf vs ++ cellsOf ws
 unfolding cells
@@ -40,14 +40,14 @@ good-before : (gs : List ℕ) (vs ws : Values) → T (allGood gs vs) → T (allG
 good-before gs none ws h k = k
 good-before gs (v ▸ vs) ws h k =
     let a = scalarsGood gs v in
-    and-both a (allGood gs (vs before ws)) (and-left a (allGood gs vs) h) (good-before gs vs ws (and-right a (allGood gs vs) h) k)
+    and-of a (allGood gs (vs before ws)) (and-left a (allGood gs vs) h) (good-before gs vs ws (and-right a (allGood gs vs) h) k)
 
 good-split : (gs : List ℕ) (vs ws : Values) → T (allGood gs (vs before ws)) → T (allGood gs vs) × T (allGood gs ws)
 good-split gs none ws h = (tt, h)
 good-split gs (v ▸ vs) ws h =
     let a = scalarsGood gs v in
     let p = good-split gs vs ws (and-right a (allGood gs (vs before ws)) h) in
-    (and-both a (allGood gs vs) (and-left a (allGood gs (vs before ws)) h) (p .0), p .1)
+    (and-of a (allGood gs vs) (and-left a (allGood gs (vs before ws)) h) (p .0), p .1)
 
 -- The first n of a number of values.
 pub record Split (n : ℕ) (vs : Values) : Type 0 where
@@ -149,7 +149,7 @@ good-inner gs (scalar s) t = tt
 good-inner gs (pair v w) t =
     let a = scalarsGood gs v in
     let b = scalarsGood gs w in
-    and-both a (b && true) (and-left a b t) (and-both b true (and-right a b t) tt)
+    and-of a (b && true) (and-left a b t) (and-of b true (and-right a b t) tt)
 good-inner gs (set s) t = t
 
 encodable-inner : (v : Value) → Encodable v → Encodables (inner v)
@@ -239,11 +239,6 @@ record Built (gs : List ℕ) (t q p : ℕ) (vs : Values) : Type 0 where
   good : T (scalarsGood gs first) × T (allGood gs others)
   counted : count others ≡ p
 
-bit-eqb : (q : ℕ) → q < 2 → bit (eqb q 1) ≡ q
-bit-eqb zero h = refl
-bit-eqb (suc zero) h = refl
-bit-eqb (suc (suc n)) h = absurd (omega arith)
-
 abbrev partsBy : ℕ → ℕ → ℕ
 partsBy t q = cond (eqb t 4) 2 (cond (eqb t 5) q 0)
 
@@ -263,7 +258,7 @@ module _ (gs : List ℕ) (q p : ℕ) (w : Word q) where
         tagged = refl;
         paid = sym z;
         encodable = ((e .0, e .1 .0), e .1 .1);
-        good = (and-both x y (and-left x (y && allGood gs vs) g) (and-left y (allGood gs vs) r), and-right y (allGood gs vs) r);
+        good = (and-of x y (and-left x (y && allGood gs vs) g) (and-left y (allGood gs vs) r), and-right y (allGood gs vs) r);
         counted = omega arith;
       }
 
@@ -308,24 +303,6 @@ module _ (gs : List ℕ) (q p : ℕ) (w : Word q) where
   build (suc (suc (suc (suc (suc zero))))) vs k c e g = build-set vs c e g
   build (suc (suc (suc (suc (suc (suc n)))))) vs k c e g = absurd k
 
-eight : (bs : List ℕ) → 8 ≤ length bs →
-    bs ≡ getD bs 0 0 ∷ getD bs 1 0 ∷ getD bs 2 0 ∷ getD bs 3 0 ∷ getD bs 4 0 ∷ getD bs 5 0 ∷ getD bs 6 0 ∷ getD bs 7 0 ∷ drop 8 bs
-eight bs h =
-    cc (
-      drop-cons bs 0 0 (omega arith),
-      drop-cons bs 1 0 (omega arith),
-      drop-cons bs 2 0 (omega arith),
-      drop-cons bs 3 0 (omega arith),
-      drop-cons bs 4 0 (omega arith),
-      drop-cons bs 5 0 (omega arith),
-      drop-cons bs 6 0 (omega arith),
-      drop-cons bs 7 0 (omega arith),
-    )
-
-cell-parts : (ws : List ℕ) (a b c d t x y z u : ℕ) (bs : List ℕ) → ws ≡ a ∷ b ∷ c ∷ d ∷ [] → u ≡ t → x ≡ 0 → y ≡ 0 → z ≡ 0 →
-    a ∷ b ∷ c ∷ d ∷ t ∷ x ∷ y ∷ z ∷ bs ≡ (ws ++ (u ∷ 0 ∷ 0 ∷ 0 ∷ [])) ++ bs
-cell-parts ws a b c d t x y z u bs e f g h k = rw (e, f, g, h, k)
-
 -- The eight bytes of a cell are the first cell of a value with its tag and payload.
 cell-bytes : (bs : List ℕ) (v : Value) → Bytes bs → T (cellFirst bs) → tag v ≡ getD bs 4 0 → twos (payload v) ≡ wordAt bs 0 → bs ≡ cell v ++ drop 8 bs
 unfolding cell
@@ -356,7 +333,7 @@ module _ (gs bs : List ℕ) (p : ℕ) (cs rest : List ℕ) (b : Bytes bs) (k : T
         coded = spread-code v (r .others) (r .encodable .0) ∙ ap (λ (y : ℕ). codeOf y ∷ codes (inner v before r .others)) f ∙
             ap (λ (l : List ℕ). codeOf (firstCell bs) ∷ l) (sym (ap codes (r .whole)) ∙ d);
         encodable = r .encodable;
-        good = and-both (scalarsGood gs v) (allGood gs (r .others)) (r .good .0) (r .good .1);
+        good = and-of (scalarsGood gs v) (allGood gs (r .others)) (r .good .0) (r .good .1);
       }
 
   -- One cell back.
@@ -381,7 +358,7 @@ ahead-read gs bs v rest b e g = record {
   bytes = cells-value bs v rest b e ∙ ap (λ (l : List ℕ). l ++ rest) (sym (append-nil (cells v)));
   coded = append-nil (code v);
   encodable = (value-can bs v rest b e, tt);
-  good = and-both (scalarsGood gs v) true g tt;
+  good = and-of (scalarsGood gs v) true g tt;
 }
 
 pub record OneRead (gs bs cs rest : List ℕ) : Type 0 where

@@ -2,7 +2,7 @@
 use Prim.Native.Nat.{ℕ, zero, suc, _+_, _/_, _%_}
 use mathlib.Core.Bool.{Bool, true, false, _&&_}
 use mathlib.Core.List.{List}
-use mathlib.Core.Option.{none as nothing, some}
+use mathlib.Core.Option.{some}
 use mathlib.Core.Path.{_≡_, refl, subst}
 use native.Mathlib.Omega.{arith}
 use lib.Dec.{eqb, leb, ltb}
@@ -10,16 +10,11 @@ use lib.ListN.{length, getD, drop}
 use Rattle.rules.specs.Values.{element, Value, scalar, pair, set, Values, none, _▸_, int, truthValue, count}
 use Rattle.rules.specs.Tables.{wordAt}
 use Rattle.rules.specs.Cells.{signed, cells, Read, _andThen_, onlyIf, several, byTag, valueTo, value, weightLimit}
-use Rattle.rules.proofs.CellsLaws.{Word, Bytes, Encodable, Encodables, signed-range, word-at, bytes-after, bytes-drop, Right, valueTo-right}
+use Rattle.rules.proofs.CellsLaws.{Word, Bytes, Encodable, Encodables, signed-range, word-at, bytes-after, bytes-drop, Right, valueTo-right, andThen-some}
 
 onlyIf-some : {A : Type 0} (b : Bool) (r : Read A) (y : A × List ℕ) → onlyIf b r ≡ some y → r ≡ some y
 onlyIf-some true r y e = e
 onlyIf-some false r y e = absurd (let z : _≡_ {A = ℕ} 0 1 = cc in omega arith)
-
-andThen-some : {A B : Type 0} (r : Read A) (f : A → List ℕ → Read B) (y : B × List ℕ) →
-    (r andThen f) ≡ some y → (x : A × List ℕ) × (r ≡ some x) × (f (x .0) (x .1) ≡ some y)
-andThen-some nothing f y e = absurd (let z : _≡_ {A = ℕ} 0 1 = cc in omega arith)
-andThen-some (some x) f y e = (x, refl, e)
 
 -- what holds of a value read holds of an equal one
 read-at : {A : Type 0} (F : A → Type 0) (x y : A) (bs cs : List ℕ) → _≡_ {A = Read A} (some (x, bs)) (some (y, cs)) → F x → F y

@@ -15,7 +15,7 @@ use Rattle.rules.specs.Ends.{End, done, refused, _>>=_, require}
 use Rattle.rules.specs.Fits.{typed}
 use Rattle.rules.specs.Cells.{value, good, wellFormed, risingAll, precedes, weightLimit, noValue, orFault, valueFor, nothingLeft, valuesFrom}
 use Rattle.rules.proofs.OrderLaws.{and-left, and-right}
-use Rattle.rules.proofs.CellsLaws.{and-both, good-wellFormed, good-weight, good-typed}
+use Rattle.rules.proofs.CellsLaws.{good-wellFormed, good-weight, good-typed}
 use Rattle.arena.specs.Code.{excess, code, EndsAt, Same, ValueBelow}
 use Rattle.arena.proofs.CodeLaws.{length-code}
 use Rattle.arena.proofs.Standing.{same-refl, stands-frame}
@@ -24,6 +24,7 @@ use Rattle.buffer.specs.Buffer.{scalarsGood, allGood, cellsAtMost, ReadA
 use Rattle.buffer.specs.Ordered.{inOrder, ordered, orderedAll, Whole, Ordered}
 use Rattle.buffer.specs.Shared.{TypedHere}
 use Rattle.buffer.specs.Loaded.{GoodRead, Entered, Room, Bound}
+use Rattle.rules.proofs.Basics.{and-of}
 
 -- A value is well formed where its scalars are good and its sets ordered.
 mutual
@@ -32,7 +33,7 @@ mutual
   well-of gs (pair v w) h k =
       let a = scalarsGood gs v in
       let b = scalarsGood gs w in
-      and-both (wellFormed gs v) (wellFormed gs w)
+      and-of (wellFormed gs v) (wellFormed gs w)
       (well-of gs v (and-left a b h) (and-left (ordered v) (ordered w) k))
       (well-of gs w (and-right a b h) (and-right (ordered v) (ordered w) k))
   well-of gs (set s) h k = rising-of gs s h (and-left (inOrder s) (orderedAll s) k) (and-right (inOrder s) (orderedAll s) k)
@@ -44,8 +45,8 @@ mutual
       let b = allGood gs vs in
       let p = precedes v vs in
       let o = inOrder vs in
-      and-both (wellFormed gs v && p) (risingAll gs vs)
-      (and-both (wellFormed gs v) p (well-of gs v (and-left a b h) (and-left (ordered v) (orderedAll vs) l)) (and-left p o k))
+      and-of (wellFormed gs v && p) (risingAll gs vs)
+      (and-of (wellFormed gs v) p (well-of gs v (and-left a b h) (and-left (ordered v) (orderedAll vs) l)) (and-left p o k))
       (rising-of gs vs (and-right a b h) (and-right p o k) (and-right (ordered v) (orderedAll vs) l))
 
 mutual
@@ -54,8 +55,8 @@ mutual
   of-well gs (pair v w) h =
       let x = of-well gs v (and-left (wellFormed gs v) (wellFormed gs w) h) in
       let y = of-well gs w (and-right (wellFormed gs v) (wellFormed gs w) h) in
-      (and-both (scalarsGood gs v) (scalarsGood gs w) (x .0) (y .0), and-both (ordered v) (ordered w) (x .1) (y .1))
-  of-well gs (set s) h = let x = of-rising gs s h in (x .0, and-both (inOrder s) (orderedAll s) (x .1) (x .2))
+      (and-of (scalarsGood gs v) (scalarsGood gs w) (x .0) (y .0), and-of (ordered v) (ordered w) (x .1) (y .1))
+  of-well gs (set s) h = let x = of-rising gs s h in (x .0, and-of (inOrder s) (orderedAll s) (x .1) (x .2))
 
   of-rising : (gs : List ℕ) (vs : Values) → T (risingAll gs vs) → T (allGood gs vs) × T (inOrder vs) × T (orderedAll vs)
   of-rising gs none h = (tt, tt, tt)
@@ -64,9 +65,9 @@ mutual
       let q = and-left (wellFormed gs v && p) (risingAll gs vs) h in
       let x = of-well gs v (and-left (wellFormed gs v) p q) in
       let y = of-rising gs vs (and-right (wellFormed gs v && p) (risingAll gs vs) h) in (
-        and-both (scalarsGood gs v) (allGood gs vs) (x .0) (y .0),
-        and-both p (inOrder vs) (and-right (wellFormed gs v) p q) (y .1),
-        and-both (ordered v) (orderedAll vs) (x .1) (y .2),
+        and-of (scalarsGood gs v) (allGood gs vs) (x .0) (y .0),
+        and-of p (inOrder vs) (and-right (wellFormed gs v) p q) (y .1),
+        and-of (ordered v) (orderedAll vs) (x .1) (y .2),
       )
 
 good-of : (gs : List ℕ) (v : Value) → T (scalarsGood gs v) → T (ordered v) → weight v ≤ 256 → T (typed v) → T (good gs v)
@@ -74,7 +75,7 @@ unfolding good
 good-of gs v h k w t =
     let a = wellFormed gs v in
     let b = leb (weight v) weightLimit in
-    and-both (a && b) (typed v) (and-both a b (well-of gs v h k) (le→leb (weight v) 256 w)) t
+    and-of (a && b) (typed v) (and-of a b (well-of gs v h k) (le→leb (weight v) 256 w)) t
 
 -- One value.
 module _ (gs bs : List ℕ) (at : ℕ) (s : List ℕ) (top next end : ℕ) (h : ReadAt gs bs at s top next end) where

@@ -9,9 +9,10 @@ use Rattle.rules.specs.Types.{whole}
 use Rattle.rules.specs.Values.{Scalar, num, truth, element, Value, scalar, pair, set, Values, none, _▸_, scalarTag, tag, bit, count, weight, weights, order, isLt, before}
 use Rattle.arena.specs.Code.{cellSize, excess, scalarLow, code, codes, Stands, ValueAt, ValuesAt, CellsFit, AllFit, orderCode, SomeAt, EndsAt, Compared}
 use Rattle.arena.proofs.CodeLaws.{length-code, length-codes, bit-small}
-use Rattle.arena.proofs.Standing.{stands-head, stands-tail, stands-front, stands-back, _before_, codes-before, weights-before, fit-before, weight-pos}
+use Rattle.arena.proofs.Standing.{stands-head, stands-tail, stands-front, stands-back, _before_, codes-before, weights-before, fit-before}
 use Rattle.buffer.specs.Ordered.{inOrder, ordered, orderedAll, Row, SomeRow, InOrder}
 use Rattle.buffer.proofs.Ahead.{inner}
+use Rattle.rules.proofs.CellsLaws.{weight-some}
 
 and-false : (a : Bool) → (a && false) ≡ false
 and-false true = refl
@@ -212,7 +213,7 @@ module _ (s : List ℕ) (i end : ℕ) (v : Value) (h : Sorted s i end v) where
     where
       go : (ws : Values) → Left s i end ws → ordered v ≡ orderedAll ws → true ≡ ordered v
       go none f e = sym e
-      go (w ▸ ws) f e = absurd (omega (arith, f .ends, weight-pos w))
+      go (w ▸ ws) f e = absurd (omega (arith, f .ends, weight-some w))
 
   module _ (x t : ℕ) (l : i < end) (here : x ≡ getD s i 0) (tagged : t ≡ x / cellSize) where
     -- a cell that is not a set's

@@ -13,13 +13,15 @@ use Rattle.rules.specs.Fits.{every, shape, shapes, inhabited, typed}
 use Rattle.rules.proofs.FitsLaws.{_⊑_, ⊓-join, ⊓-split, inhabited→some, some→inhabited}
 use Rattle.arena.specs.Code.{cellSize, code, codes, Stands, ValueAt, ValuesAt, CellsFit, AllFit, SomeAt, EndsAt}
 use Rattle.arena.proofs.CodeLaws.{length-code, length-codes}
-use Rattle.arena.proofs.Standing.{stands-front, stands-back, _before_, codes-before, count-before, weights-before, weight-pos}
+use Rattle.arena.proofs.Standing.{stands-front, stands-back, _before_, codes-before, count-before, weights-before}
 use Rattle.fitting.specs.Agree.{meets, RunAt, SomeTyped, AgreedWith, NoEmpty, Full, StandFor}
-use Rattle.fitting.proofs.Sharing.{and-split, and-of, meets→share, share→meets, meets-sym, left-typed, right-typed, with-every, full-first}
+use Rattle.fitting.proofs.Sharing.{meets→share, share→meets, meets-sym, left-typed, right-typed, with-every, full-first}
 use Rattle.fitting.proofs.Cells.{full-value}
 use Rattle.buffer.specs.Shared.{AllTyped, TypedRow, SomeTypedRow, Shares}
 use Rattle.buffer.proofs.Ahead.{inner}
 use Rattle.buffer.proofs.Ordering.{tag-cell, Left, left-start, scalar-tag, left-head, left-next}
+use Rattle.rules.proofs.Basics.{and-of, and-split}
+use Rattle.rules.proofs.CellsLaws.{weight-some}
 
 -- Types of values that follow one another.
 shapes-join : (vs ws : Values) (t : Ty) → shapes vs ⊑ t → shapes ws ⊑ t → shapes (vs before ws) ⊑ t
@@ -247,7 +249,7 @@ module _ (s : List ℕ) (at end : ℕ) (v : Value) (h : ValueAt s at v) (f : Cel
     where
       go : (ws : Values) → Left s end end ws → AllTyped ws
       go none l = tt
-      go (w ▸ ws) l = absurd (omega (arith, l .ends, weight-pos w))
+      go (w ▸ ws) l = absurd (omega (arith, l .ends, weight-some w))
 
   pub from-start : (i : ℕ) → i ≤ at → TypedFrom at i v → true ≡ typed v
   unfolding after typed

@@ -6,7 +6,7 @@ use native.Mathlib.Omega.{arith}
 use lib.ListN.{length, getD}
 use Rattle.rules.specs.Types.{Ty, weightᵀ}
 use Rattle.rules.specs.Ends.{End, done, refused}
-use Rattle.rules.specs.Tables.{Table, tableOf, identifierCount, nodeCount}
+use Rattle.rules.specs.Tables.{tableOf, identifierCount, nodeCount}
 use Rattle.rules.specs.Reading.{reading}
 use Rattle.rules.specs.Verdict.{Verdict, unreadable, misfit, Place, sheetAfter, sheetLength, sheetOf, typeLimit}
 use Rattle.rules.proofs.VerdictLaws.{verdict-only}
@@ -17,11 +17,10 @@ use Rattle.reading.proofs.Promise.{passed-readable}
 use Rattle.unification.specs.Problem.{Shape, Matches}
 use Rattle.unification.specs.Arrays.{shapeAt as arrayShape}
 use Rattle.unification.specs.Marks.{statusOf, markOf}
-use Rattle.unification.specs.Solved.{Solved, ClassesMatch, Grounded}
-use Rattle.unification.specs.Rows.{Determined}
+use Rattle.unification.specs.Solved.{ClassesMatch, Grounded}
 use Rattle.checker.specs.declared.Checked.{Checked}
 use Rattle.checker.specs.declared.Checked.the-variants.{Accepted, Refused}
-use Rattle.typing.specs.Equations.{base, shapeAt, equations}
+use Rattle.typing.specs.Equations.{base, shapeAt}
 use Rattle.typing.specs.Places.{placeVar, placeCount, LeastPlace, GroundAt}
 use Rattle.rows.specs.Rows.{Determines, LightAt, TypesOf}
 use Rattle.typing.specs.Model.{verdict}

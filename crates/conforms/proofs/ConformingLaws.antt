@@ -17,12 +17,13 @@ use Rattle.rules.specs.Reading.{reading}
 use Rattle.rules.specs.Ends.{allBelow, doneWith}
 use Rattle.rules.specs.Verdict.{sheetLength}
 use Rattle.rules.specs.Safety.{Free}
-use Rattle.rules.proofs.EndLaws.{absurd01, T-and, T-eqb, T-allBelow, T-doneWith}
+use Rattle.rules.proofs.EndLaws.{T-and, T-eqb, T-allBelow, T-doneWith}
 use Rattle.rules.proofs.TypeLaws.{typeOfRow-right}
 use Rattle.rules.proofs.FitsLaws.{hasType-right}
 use Rattle.fitting.specs.Types.{Decides}
 use Rattle.conforms.specs.Conforming.{rowAt, HasWritten, Conforming, hasTypeRead, hasWritten, ifFree, freeHas, conforming}
 use Rattle.conforms.proofs.RowLaws.{test-decides, decides-same, row-long}
+use Rattle.rules.proofs.Basics.{absurd01}
 
 type-read : (o : Option Ty) (v : Value) → T (hasTypeRead o v) ↔ ((t : Ty) × (o ≡ some t) × HasType v t)
 type-read nothing v = (λ h. absurd h, λ x. absurd01 (cc (x .1)))

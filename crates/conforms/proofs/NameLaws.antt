@@ -21,19 +21,19 @@ use Rattle.rules.proofs.TableLaws.{binds-length, nodes-length}
 use Rattle.rules.specs.Safety.{Free}
 use Rattle.reading.specs.declared.Refusal.{Refusal}
 use Rattle.reading.specs.declared.Reading.{Reading}
-use Rattle.reading.specs.declared.Reading.the-variants.{Passed, Refused as Unreadable}
+use Rattle.reading.specs.declared.Reading.the-variants.{Refused as Unreadable}
 use Rattle.reading.specs.Answers.{readingOf}
 use Rattle.table.specs.Layout.{WordOf}
-use Rattle.reading.proofs.Promise.{passed-readable}
 use Rattle.fitting.specs.Types.{SomeType, OfType, Decides}
-use Rattle.fitting.proofs.Types.{row-type}
+use Rattle.fitting.proofs.Types.{row-type, refuses}
 use Rattle.buffer.specs.declared.Loaded.{Loaded}
 use Rattle.buffer.specs.declared.Loaded.the-variants.{All, Refused}
 use Rattle.buffer.specs.Loaded.{Bound, Loads, LoadReady}
 use Rattle.conforms.specs.Conforming.{HasWritten, Conforming}
 use Rattle.buffer.specs.Buffer.{cellsAtMost}
 use Rattle.conforms.specs.Rows.{RowOf, SomeRow, OfRow, NameReady, NameHas, AllStand, AllReady, Fits, Typed, AllHave}
-use Rattle.conforms.proofs.RowLaws.{refuses, agrees, decided-no, row-stands, row-there}
+use Rattle.conforms.proofs.RowLaws.{agrees, decided-no, row-stands, row-there}
+use Rattle.rules.proofs.Basics.{absurd01}
 
 -- The type of a row, which q says is one.
 pub row-type-there : (sheet : List ℕ) (from : ℕ) (q : Bool) → Decides q (SomeRow sheet from) → q ≡ true → SomeType sheet from
@@ -103,9 +103,6 @@ module _ (bs s env sheet : List ℕ) where
   pub have-all : (x : ℕ) → HaveBelow bs s env sheet x → identifierCount bs ≤ x → AllHave bs s env sheet true
   have-all x b l vs a = agrees (Typed bs sheet vs) (λ y k. b .have vs a y (omega (arith, k .0, binds-length bs)) k)
 
-absurd01 : _≡_ {A = ℕ} 0 1 → ⊥
-absurd01 e = omega arith
-
 not-both : {A : Type 0} {a : A} {r p : ℕ} (e : End A) → e ≡ done a → e ≡ refused r p → ⊥
 not-both e f g = absurd01 (cc)
 
@@ -119,10 +116,6 @@ module _ (gs ws bs s env : List ℕ) (a : Loaded) (l : Loads gs ws bs s env 0 a)
 
   pub loads-all : (end : ℕ) → a ≡ All end → Bound gs ws bs s env 0 end
   loads-all end e = subst (Loads gs ws bs s env 0) e l
-
--- What reading the table has answered.
-pub reading-passed : (bs : List ℕ) (a : Reading) → readingOf bs a ≡ reading bs → a ≡ Passed → Readable bs
-reading-passed bs a e f = passed-readable bs (subst (λ (b : Reading). readingOf bs b ≡ reading bs) f e)
 
 -- An arena of 512 cells has room for few values, one of 8193 for those of 32 identifiers.
 pub few-ready : (bs values s : List ℕ) → length s ≡ 512 → Readable bs → cellsAtMost (identifierCount bs) (length values) < 512 → LoadReady bs values s

@@ -1,6 +1,6 @@
 -- Rows of a sheet: what `is_row` has read of one, and the row of a place.
 use Prim.Native.Nat.{ℕ, _+_, _*_, _-_, _≤_, _<_}
-use mathlib.Core.Bool.{Bool, true, false}
+use mathlib.Core.Bool.{Bool, true, false, false≢true}
 use mathlib.Core.List.{List, [], _∷_, _++_, append-assoc, append-nil}
 use mathlib.Core.Logic.{_≢_, _⊎_, _↔_, inl, inr}
 use mathlib.Core.Path.{_≡_, refl, sym, ap, _∙_, subst}
@@ -21,18 +21,12 @@ use Rattle.fitting.proofs.Types.{widths, PendingTypes, types-start, types-step,
 use Rattle.conforms.specs.Conforming.{rowAt}
 use Rattle.conforms.specs.Rows.{Code, Blank, SomeRow}
 
-false-true : false ≡ true → ⊥
-false-true e = subst T (sym e) tt
-
--- An answer that is false, or true, by what it decides.
-pub refuses : (A : Type 0) → (A → ⊥) → Decides false A
-refuses A n = record { sound = λ e. absurd (false-true e); complete = λ a. absurd (n a) }
-
+-- An answer that is true, by what it decides.
 pub agrees : (A : Type 0) → A → Decides true A
 agrees A a = record { sound = λ e. a; complete = λ b. refl }
 
 pub decided-no : (A : Type 0) (r : Bool) → Decides r A → r ≡ false → A → ⊥
-decided-no A r d e a = false-true (sym e ∙ d .complete a)
+decided-no A r d e a = false≢true (sym e ∙ d .complete a)
 
 -- A test that passes exactly where A holds decides A; two answers that decide A are the same.
 pub test-decides : (A : Type 0) (b : Bool) → T b ↔ A → Decides b A

@@ -3,7 +3,7 @@ use Prim.Native.Nat.{ℕ}
 use mathlib.Core.Bool.{Bool, true, false}
 use mathlib.Core.List.{List, [], _∷_, _++_, map}
 use mathlib.Core.Path.{_≡_, refl}
-use lib.ListN.{take, replicate}
+use lib.ListN.{replicate}
 use Rattle.rules.specs.Tables.{Table}
 use Rattle.rules.proofs.Rows.{toBytes, wordsOf, sheet, table, node₁, node₂, p1, p10}
 use Rattle.conforms.specs.Conforming.{conforming}

@@ -7,7 +7,7 @@ use native.Mathlib.Omega.{arith}
 use lib.ListN.{length, getD}
 use Rattle.rules.specs.Cells.{noValue, valuesIn}
 use Rattle.rules.specs.Ends.{done, refused}
-use Rattle.rules.specs.Tables.{Table, tableOf, root, lastNode, identifierCount, nodeCount, nodesAt, kindAt}
+use Rattle.rules.specs.Tables.{Table, tableOf, root, lastNode, nodeCount, nodesAt, kindAt}
 use Rattle.rules.specs.Kinds.{predicate}
 use Rattle.rules.specs.Reading.{reading, height}
 use Rattle.rules.specs.Readable.{Readable, CategoryIs}
@@ -20,9 +20,8 @@ use Rattle.rules.proofs.FormedLaws.{valuesIn-good}
 use Rattle.rules.proofs.Soundness.{evaluation-run}
 use Rattle.reading.specs.Answers.{readingOf}
 use Rattle.reading.specs.declared.Reading.{Reading}
-use Rattle.reading.specs.declared.Reading.the-variants.{Passed, Refused as Unreadable}
+use Rattle.reading.specs.declared.Reading.the-variants.{Refused as Unreadable}
 use Rattle.reading.specs.declared.Refusal.{Refusal}
-use Rattle.reading.proofs.Promise.{passed-readable}
 use Rattle.buffer.specs.declared.Loaded.{Loaded}
 use Rattle.buffer.specs.declared.Loaded.the-variants.{All, Refused as Lacking}
 use Rattle.buffer.specs.Loaded.{Bound, Loads, LoadReady}
@@ -130,6 +129,3 @@ pub unread-reported : (bs buffer : List ℕ) (budget : ℕ) (a : Reading) {f : R
     RefusedAt (f .number) (f .place) 0 r → Reported (evaluation bs buffer budget) r
 unread-reported bs buffer budget a {f} h e d =
     refusal-reported (unread-ends bs buffer budget (f .number) (f .place) (sym h ∙ ap (readingOf bs) e)) d
-
-pub read-readable : (bs : List ℕ) (a : Reading) → readingOf bs a ≡ reading bs → a ≡ Passed → Readable bs
-read-readable bs a h e = passed-readable bs (ap (readingOf bs) (sym e) ∙ h)

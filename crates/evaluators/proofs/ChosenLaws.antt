@@ -7,7 +7,7 @@ use native.Mathlib.Omega.{arith}
 use lib.ListN.{length, set as setAt, length-set}
 use lib.Seq.{getD-set-other}
 use mir.Val.{boolByte}
-use Rattle.rules.specs.Values.{Value, Values, none, _▸_, members, values, count, weight, weights}
+use Rattle.rules.specs.Values.{Value, Values, members, values, count, weight, weights}
 use Rattle.rules.specs.Ends.{done, refused}
 use Rattle.rules.specs.Runs.{M, return, _>>=_}
 use Rattle.rules.specs.Tables.{tableOf, nodeAt}
@@ -15,7 +15,7 @@ use Rattle.rules.specs.Operations.{Env, _with_≔_}
 use Rattle.rules.specs.Evaluation.{select}
 use Rattle.arena.specs.Code.{code, codes, Stands, ValuesAt, Same, SomeAt, EndsAt}
 use Rattle.arena.proofs.CodeLaws.{length-code, length-codes}
-use Rattle.arena.proofs.Standing.{stands-append, stands-frame, same-refl, same-trans, copied-stands, count-weights, weight-pos}
+use Rattle.arena.proofs.Standing.{stands-append, stands-frame, same-refl, same-trans, copied-stands}
 use Rattle.arena.proofs.FrontLaws.{single, codes-append, count-append, weights-append}
 use Rattle.products.proofs.GrowLaws.{made-set}
 use Rattle.operations.specs.Good.{GoodAt}
@@ -29,6 +29,7 @@ use Rattle.evaluators.specs.Cycle.{Binds, Ready, bodyAt, EvaluatesP, Eac
 use Rattle.evaluators.proofs.RunLaws.{then-done, then-refused, returns}
 use Rattle.evaluators.proofs.NodeLaws.{sizes-small, binds-frame, good-frame}
 use Rattle.evaluators.proofs.BodyLaws.{Inner, inner-start, inner-set, binds-body, First, first-member, listed-frame, none-left}
+use Rattle.rules.proofs.CellsLaws.{count-weights, weight-some}
 
 -- What a member adds to those chosen.
 abbrev pub picked : Bool → Value → List Value
@@ -224,7 +225,7 @@ module _ {bs : List ℕ} {base : ℕ} {env s₀ : List ℕ} {top n from count st
       member = selecting-member one more
 
       pub choosing-below : at < top
-      choosing-below = omega (arith, member .here .below, weight-pos (member .value))
+      choosing-below = omega (arith, member .here .below, weight-some (member .value))
 
       -- The environment of the body at the next member.
       inside : (f : ℕ) (ρ : Env) (vs : Values) (d : n ≤ f) (b : Binds (tableOf bs .sizes) s₀ top env ρ) (l : Listed (tableOf bs .sizes) s₀ top from count vs) →

@@ -17,7 +17,7 @@ use Rattle.rules.specs.Kinds.{Two, pairing, union, inter, diff, product, apply,
 use Rattle.rules.specs.Kinds.{Kind, join, negation, test, quant, leaf, boolOf, one, two, comprehension, kindOf}
 use Rattle.rules.specs.Kinds.{Category, predicate, expression, categoryOf}
 use Rattle.rules.specs.Tables.{Node, Pred, joinᵖ, notᵖ, testᵖ, quantᵖ, Expr, leafᵉ, boolᵉ, oneᵉ, twoᵉ, comprehensionᵉ}
-use Rattle.rules.specs.Tables.{wordAt, nodeFrom, tableOf, nodeAt, kindAt, predOf, exprOf, predAt, exprAt, nodeCount, nodesAt}
+use Rattle.rules.specs.Tables.{wordAt, nodeFrom, tableOf, nodeAt, kindAt, predOf, predAt, exprAt, nodeCount, nodesAt}
 use Rattle.rules.specs.Readable.{Readable, CategoryIs}
 use Rattle.rules.specs.Ends.{done, refused}
 use Rattle.rules.specs.Runs.{form, gives}
@@ -37,6 +37,7 @@ use Rattle.evaluators.specs.Nodes.{IsPred, IsExpr, NameReady, NameAt, Le
 use Rattle.evaluators.specs.Cycle.{Binds, Ready, Visited, Sort, EvaluatesP, EvaluatesE}
 use Rattle.evaluators.proofs.RunLaws.{visited, unvisited}
 use Rattle.evaluators.proofs.NodeLaws.{sizes-small, field-holds, expr-at, visited-kind}
+use Rattle.rules.proofs.TypedTree.{number-at}
 
 -- The number of a tree's own node.
 abbrev numberᵖ : Pred → ℕ
@@ -64,27 +65,10 @@ predOf-number (some (one j)) n d p e = refl
 predOf-number (some (two j)) n d p e = refl
 predOf-number (some comprehension) n d p e = refl
 
-exprOf-number : (k : Option Kind) (n : ℕ) (d : Node) (p : ℕ → Pred) (e : ℕ → Expr) → numberᵉ (exprOf k n d p e) ≡ n
-exprOf-number nothing n d p e = refl
-exprOf-number (some (join j)) n d p e = refl
-exprOf-number (some negation) n d p e = refl
-exprOf-number (some (test j)) n d p e = refl
-exprOf-number (some (quant j)) n d p e = refl
-exprOf-number (some (leaf j)) n d p e = refl
-exprOf-number (some boolOf) n d p e = refl
-exprOf-number (some (one j)) n d p e = refl
-exprOf-number (some (two j)) n d p e = refl
-exprOf-number (some comprehension) n d p e = refl
-
 predAt-number : (f : ℕ) (ns : List Node) (n : ℕ) → numberᵖ (predAt f ns n) ≡ n
 unfolding predAt
 predAt-number zero ns n = refl
 predAt-number (suc f) ns n = predOf-number (kindAt ns n) n (nodeAt ns n) (λ m. predAt f ns m) (λ m. exprAt f ns m)
-
-exprAt-number : (f : ℕ) (ns : List Node) (n : ℕ) → numberᵉ (exprAt f ns n) ≡ n
-unfolding exprAt
-exprAt-number zero ns n = refl
-exprAt-number (suc f) ns n = exprOf-number (kindAt ns n) n (nodeAt ns n) (λ m. predAt f ns m) (λ m. exprAt f ns m)
 
 -- 19: the visits are spent.
 module _ (budget : ℕ) (gs : List ℕ) (ρ : Env) (s : ℕ) (e : s ≡ budget) where
@@ -119,7 +103,7 @@ module _ {bs : List ℕ} {base : ℕ} {env s : List ℕ} {top n steps budget : �
     bounds = r .unspent;
     answer = λ f ρ l b.
         subst (λ (m : ℕ). Ends (valueᵉ budget (tableOf bs .sizes) (exprAt f (tableOf bs .nodes) n) ρ steps) (refused 19 m) steps)
-        (exprAt-number f (tableOf bs .nodes) n) (expr-spent budget (tableOf bs .sizes) ρ steps e (exprAt f (tableOf bs .nodes) n));
+        (number-at f (tableOf bs .nodes) n) (expr-spent budget (tableOf bs .sizes) ρ steps e (exprAt f (tableOf bs .nodes) n));
   }
 
   -- The visit is counted.

@@ -1,6 +1,6 @@
 -- The children of a node, its tree, and what its evaluators pass on to theirs.
 use Prim.Native.Nat.{ℕ, zero, suc, _+_, _≤_, _<_}
-use mathlib.Core.Bool.{Bool, true, false, cond}
+use mathlib.Core.Bool.{Bool, true, false, false≢true}
 use mathlib.Core.List.{List, [], _∷_}
 use mathlib.Core.Option.{Option, some}
 use mathlib.Core.Path.{_≡_, refl, sym, ap, _∙_, subst}
@@ -66,10 +66,7 @@ tallest-kept h false m ms = omega arith
 tallest-first : (h : ℕ → ℕ) (b : Bool) (m : ℕ) (ms : List ℕ) → b ≡ true → h m ≤ tallest h (keptIf b m ms)
 unfolding tallest
 tallest-first h true m ms e = omega arith
-tallest-first h false m ms e = absurd (false-true e)
-  where
-    false-true : false ≡ true → ⊥
-    false-true e = let z : _≡_ {A = ℕ} 0 1 = ap (λ (b : Bool). cond b 1 0) e in absurd (omega (arith, z))
+tallest-first h false m ms e = absurd (false≢true e)
 
 child-tall : (h : ℕ → ℕ) (fs : List Field) (xs : List ℕ) (i : ℕ) → i < length fs → i < length xs → isChild (getD fs i unused) ≡ true →
     h (getD xs i 0) ≤ tallest h (pick isChild fs xs)

@@ -19,7 +19,7 @@ use Rattle.rules.specs.Tables.{Pred, Expr, quantᵖ, tableOf, nodeAt, kindAt, p
 use Rattle.rules.specs.Operations.{Env, _with_≔_, elems}
 use Rattle.rules.specs.Evaluation.{fitting, quantify, holdsᵖ, valueᵉ}
 use Rattle.arena.specs.Code.{Same, SomeAt, EndsAt}
-use Rattle.arena.proofs.Standing.{same-refl, same-trans, weight-pos}
+use Rattle.arena.proofs.Standing.{same-refl, same-trans}
 use Rattle.operations.specs.Good.{GoodAt}
 use Rattle.operations.proofs.GoodLaws.{good-fits}
 use Rattle.operations.proofs.KindLaws.{quantCode, code-of}
@@ -36,6 +36,7 @@ use Rattle.evaluators.proofs.RunLaws.{then-done, then-refused, returns,
 use Rattle.evaluators.proofs.NodeLaws.{sizes-small, good-frame, binds-frame, pred-at, ready-child, visited-kind}
 use Rattle.evaluators.proofs.BodyLaws.{Inner, inner-start, inner-set, binds-body, First, first-member, none-left, listed-frame}
 use Rattle.evaluators.proofs.RangeLaws.{placed-good, binder-range, binder-ready, range-fits, range-listed}
+use Rattle.rules.proofs.CellsLaws.{weight-some}
 
 -- Two truths differ, or are the same.
 pub differ : (a b : Bool) → not (Bool·beq a b) ≡ true → a ≡ not b
@@ -113,7 +114,7 @@ module _ {bs : List ℕ} {base : ℕ} {env s₀ : List ℕ} {top : ℕ} {all : B
   some-next = next node (r .ready .values) (r .range) (le-refl node) (r .ready .binds) (r .listed)
 
   pub member-low : at < 4294967296
-  member-low = omega (arith, some-next .here .below, weight-pos (some-next .value), r .ready .small, r .ready .room)
+  member-low = omega (arith, some-next .here .below, weight-some (some-next .value), r .ready .small, r .ready .room)
 
   pub member-stands : (s′ : List ℕ) → Same top s s′ → SomeAt s′ at
   member-stands s′ e =

@@ -17,9 +17,7 @@ use Rattle.evaluators.specs.declared.Formed.the-variants.{Value as Place
 use Rattle.evaluators.specs.Answers.{SettleReady}
 use Rattle.evaluators.specs.Nodes.{ChooseReady, Chooses}
 use Rattle.evaluators.specs.Cycle.{Settles}
-
-absurd01 : _≡_ {A = ℕ} 0 1 → ⊥
-absurd01 e = omega arith
+use Rattle.rules.proofs.Basics.{absurd01}
 
 -- Copying changes nothing below its place.
 copied-frame : {s s′ : List ℕ} {from n to : ℕ} → Copied s from n to s′ → Same to s s′

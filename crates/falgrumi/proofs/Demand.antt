@@ -29,6 +29,7 @@ use Rattle.falgrumi.specs.Answers.{numberOf}
 use Rattle.conforms.specs.Conforming.{rowAt, HasWritten, Conforming, conforming}
 use Rattle.conforms.proofs.ConformingLaws.{conforming-right}
 use Rattle.falgrumi.specs.Guarantee.{Guaranteed}
+use Rattle.rules.proofs.VerdictLaws.{one-table}
 
 -- The rows are those of a typing of the table.
 record Written (bs rows : List ℕ) : Type 0 where
@@ -43,9 +44,6 @@ record Written (bs rows : List ℕ) : Type 0 where
 written : {bs rows : List ℕ} {room : ℕ} → Verdict bs room (done rows) → Written bs rows
 written (accepts {tb} {θ} e fits only light) =
     record { table = tb; reads = e; θ = θ; typing = only .typing; typed = λ p h. sheet-row tb θ light p h; light = light }
-
-one-table : {o : End Table} {tb tb′ : Table} → o ≡ done tb → o ≡ done tb′ → tb′ ≡ tb
-one-table e f = cc
 
 module _ {bs rows : List ℕ} (w : Written bs rows) where
   -- A value has its node's type, and the type written for its node.

@@ -14,9 +14,11 @@ use Rattle.rules.specs.Values.{Scalar, num, truth, element, Value, scalar, pair
 use Rattle.rules.specs.Fits.{every, shape, shapes, inhabited, typed}
 use Rattle.arena.specs.Code.{cellSize, scalarLow, code, codes, Stands, ValueAt, ValuesAt, ScalarFits, CellsFit, SomeAt, EndsAt}
 use Rattle.arena.proofs.CodeLaws.{length-code, bit-small, all-agree}
-use Rattle.arena.proofs.Standing.{stands-head, stands-tail, stands-front, stands-back, weight-pos}
+use Rattle.arena.proofs.Standing.{stands-head, stands-tail, stands-front, stands-back}
 use Rattle.fitting.specs.Agree.{meets, agree, TypedAt, RunAt, SomeTyped, SomeRun, Agreed, AgreedWith, AgreedAll, emptyCell, NoEmpty, StandFor, Members, Full, FullSet, FullAll, Few, sameKind, SetHere, Two, Parts, AgreedParts, Runs}
-use Rattle.fitting.proofs.Sharing.{and-split, is-true, full-first, meets-both, meets-sym, meets-same, with-every, meets-every, meets-first, tags-differ, scalars-agree, elements-agree, left-typed, right-typed}
+use Rattle.fitting.proofs.Sharing.{is-true, full-first, meets-both, meets-sym, meets-same, with-every, meets-every, meets-first, tags-differ, scalars-agree, elements-agree, left-typed, right-typed}
+use Rattle.rules.proofs.Basics.{and-split}
+use Rattle.rules.proofs.CellsLaws.{weight-some}
 
 -- No empty set among the cells passed.
 pub no-empty-none : (s : List ℕ) (at : ℕ) → NoEmpty s at at
@@ -124,7 +126,7 @@ pub some-at : {s : List ℕ} {at : ℕ} → SomeTyped s at → SomeAt s at
 some-at x = record { value = x .0; stands = x .1 .stands; fits = x .1 .fits }
 
 pub inside : (s : List ℕ) (at : ℕ) → SomeTyped s at → at < length s
-inside s at x = omega (arith, x .1 .stands .inside, length-code (x .0), weight-pos (x .0))
+inside s at x = omega (arith, x .1 .stands .inside, length-code (x .0), weight-some (x .0))
 
 pub ends-at : (s : List ℕ) (at : ℕ) (v : Value) → ValueAt s at v → CellsFit v → EndsAt s at (at + weight v)
 ends-at s at v h f w k q = let e : v ≡ w = value-eq s at v w h k f q in rw e
@@ -135,7 +137,7 @@ end-is {v = v} e h = e v (h .stands) (h .fits)
 pub end-bounds : (s : List ℕ) (at end : ℕ) → SomeTyped s at → EndsAt s at end → (at < end) × (end ≤ length s)
 end-bounds s at end x e =
     let n = end-is e (x .1) in
-    (omega (arith, weight-pos (x .0)), omega (arith, x .1 .stands .inside, length-code (x .0)))
+    (omega (arith, weight-some (x .0)), omega (arith, x .1 .stands .inside, length-code (x .0)))
 
 -- A value by the tag of its first cell.
 module _ (s : List ℕ) (a : ℕ) where

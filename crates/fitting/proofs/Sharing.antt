@@ -10,6 +10,7 @@ use Rattle.rules.specs.Values.{Scalar, num, truth, element, scalarTag, tag, Val
 use Rattle.rules.specs.Fits.{sameAtom, Shape, every, clash, atomˢ, powˢ, _×ˢ_, _⊓_, shape, shapes, inhabited, typed}
 use Rattle.rules.proofs.FitsLaws.{_⊑_, ⊓-join, ⊓-split, inhabited→some, some→inhabited}
 use Rattle.fitting.specs.Agree.{meets, agree, Full, FullSet}
+use Rattle.rules.proofs.Basics.{and-of, and-split}
 
 -- Booleans.
 pub bool-eq : (a b : Bool) → (T a → T b) → (T b → T a) → a ≡ b
@@ -21,14 +22,6 @@ bool-eq false false f g = refl
 pub is-true : (a : Bool) → T a → a ≡ true
 is-true true h = refl
 is-true false h = absurd h
-
-pub and-split : (a b : Bool) → T (a && b) → T a × T b
-and-split true b h = (tt, h)
-and-split false b h = absurd h
-
-pub and-of : (a b : Bool) → T a → T b → T (a && b)
-and-of true b h k = k
-and-of false b h k = h
 
 -- Two sets of types that have one in common.
 abbrev pub Share : Shape → Shape → Type 0

@@ -1,11 +1,11 @@
 -- Values of the arena against types in prefix codes.
 use Prim.Native.Nat.{ℕ, suc, _+_, _-_, _/_, _%_, _≤_, _<_}
-use mathlib.Core.Bool.{Bool, true, false}
+use mathlib.Core.Bool.{Bool, true, false, false≢true}
 use mathlib.Core.List.{List, [], _∷_, _++_, append-assoc, append-nil}
 use mathlib.Core.Logic.{_≢_}
 use mathlib.Core.Path.{_≡_, refl, sym, ap, _∙_, subst}
 use native.Mathlib.Omega.{arith}
-use lib.Dec.{T, eqb}
+use lib.Dec.{eqb}
 use lib.ListN.{length, getD, replicate, length-append}
 use borrow.Author.Tests.{eq-eqb, ne-eqb, eqb-true}
 use Rattle.rules.specs.Types.{whole, Atom, number, bool, given, Ty, atom, POW, _⊗_, atomCode, weightᵀ, prefix, row}
@@ -14,9 +14,10 @@ use Rattle.rules.specs.Fits.{atomOf, HasType, HaveType}
 use Rattle.rules.proofs.TypeLaws.{weight-positive, prefix-length, prefixes}
 use Rattle.arena.specs.Code.{cellSize, scalarLow, Stands, ValueAt, ValuesAt, ScalarFits, CellsFit, AllFit, SomeAt, EndsAt}
 use Rattle.arena.proofs.CodeLaws.{length-code}
-use Rattle.arena.proofs.Standing.{stands-head, stands-tail, stands-front, stands-back, weight-pos}
+use Rattle.arena.proofs.Standing.{stands-head, stands-tail, stands-front, stands-back}
 use Rattle.fitting.specs.Types.{TypeAt, SomeType, TypeEnds, typeParts, Decides, atomIs, OfType, AllOfType, PartsOfType, ValueAndType, ValuesAndType, PartsAndTypes}
 use Rattle.fitting.proofs.Cells.{ends-at, set-only, pair-only, first-cell, left-stands, right-stands, members-stand, first-stands, rest-stand}
+use Rattle.rules.proofs.CellsLaws.{weight-some}
 
 -- The first code of a type.
 abbrev head : Ty → ℕ
@@ -198,12 +199,9 @@ is-atom s at row from r e n5 n4 (scalar x) t h f k =
 is-atom s at row from r e n5 n4 (pair x y) t h f k = absurd (n4 (first-cell s at (pair x y) h f .0))
 is-atom s at row from r e n5 n4 (set vs) t h f k = absurd (n5 (first-cell s at (set vs) h f .0))
 
-false-true : false ≡ true → ⊥
-false-true e = subst T (sym e) tt
-
 -- Both of two.
 pub both-no : (A B : Type 0) (r : Bool) → Decides r A → r ≡ false → Decides false (A × B)
-both-no A B r d e = record { sound = λ z. absurd (false-true z); complete = λ x. absurd (false-true (sym e ∙ d .complete (x .0))) }
+both-no A B r d e = record { sound = λ z. absurd (false≢true z); complete = λ x. absurd (false≢true (sym e ∙ d .complete (x .0))) }
 
 pub both-yes : (A B : Type 0) (q r : Bool) → Decides q A → q ≡ true → Decides r B → Decides r (A × B)
 both-yes A B q r d e f = record { sound = λ z. (d .sound e, f .sound z); complete = λ x. f .complete (x .1) }
@@ -219,19 +217,20 @@ pair-head v w (atom a) h = absurd h
 pair-head v w (POW t) h = absurd h
 pair-head v w (t ⊗ u) h = refl
 
-refused : (A : Type 0) → (A → ⊥) → Decides false A
-refused A n = record { sound = λ e. absurd (false-true e); complete = λ a. absurd (n a) }
+-- An answer that is false, by what it decides.
+pub refuses : (A : Type 0) → (A → ⊥) → Decides false A
+refuses A n = record { sound = λ e. absurd (false≢true e); complete = λ a. absurd (n a) }
 
 module _ (s : List ℕ) (at : ℕ) (row : List ℕ) (from : ℕ) where
   pub set-no : getD s at 0 / cellSize ≡ 5 → getD row from 0 ≢ 3 → OfType s at row from false
   set-no tag n v t h f k =
       let x = set-only s at v h f tag in
-      refused (HasType v t) (λ y. n (first-code row from t k ∙ set-head (x .0) t (rw (x .1) at y)))
+      refuses (HasType v t) (λ y. n (first-code row from t k ∙ set-head (x .0) t (rw (x .1) at y)))
 
   pub pair-no : getD s at 0 / cellSize ≡ 4 → getD row from 0 ≢ 4 → OfType s at row from false
   pair-no tag n v t h f k =
       let x = pair-only s at v h f tag in
-      refused (HasType v t) (λ y. n (first-code row from t k ∙ pair-head (x .0) (x .1) t (rw (x .2) at y)))
+      refuses (HasType v t) (λ y. n (first-code row from t k ∙ pair-head (x .0) (x .1) t (rw (x .2) at y)))
 
   pub set-type : (n : ℕ) (r : Bool) → getD s at 0 / cellSize ≡ 5 → getD row from 0 ≡ 3 → n ≡ getD s at 0 % cellSize → AllOfType s (at + 1) n row (from + 1) r → OfType s at row from r
   set-type n r tag c m g v t h f k =
@@ -301,13 +300,13 @@ pub parts-between : (s : List ℕ) (at end : ℕ) (row : List ℕ) (from : ℕ) 
 parts-between s at end row from p c e =
     let x = p .left in
     let r = p .right c e in (
-      omega (arith, e (x .value) (x .stands) (x .fits), weight-pos (x .value)),
-      omega (arith, r .1 (r .0 .value) (r .0 .stands) (r .0 .fits), weight-pos (r .0 .value)),
+      omega (arith, e (x .value) (x .stands) (x .fits), weight-some (x .value)),
+      omega (arith, r .1 (r .0 .value) (r .0 .stands) (r .0 .fits), weight-some (r .0 .value)),
     )
 
 pub value-between : (s : List ℕ) (at end : ℕ) → SomeAt s at → EndsAt s at end → (at < end) × (end ≤ length s)
 value-between s at end x e = (
-  omega (arith, e (x .value) (x .stands) (x .fits), weight-pos (x .value)),
+  omega (arith, e (x .value) (x .stands) (x .fits), weight-some (x .value)),
   omega (arith, e (x .value) (x .stands) (x .fits), x .stands .inside, length-code (x .value)),
 )
 

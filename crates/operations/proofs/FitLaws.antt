@@ -3,7 +3,6 @@ use Prim.Native.Nat.{ℕ}
 use mathlib.Core.Bool.{Bool, true}
 use mathlib.Core.List.{List, [], _∷_}
 use mathlib.Core.Path.{_≡_, refl, sym}
-use native.Mathlib.Omega.{arith}
 use lib.IntN.{ℤ}
 use Rattle.rules.specs.Types.{whole, Ty, POW, _⊗_, INTEGER}
 use Rattle.rules.specs.Values.{num, truth, element, Value, scalar, pair, set, Values, none, _▸_, int}
@@ -16,6 +15,7 @@ use Rattle.arena.specs.Code.{IsPair, AllPairs}
 use Rattle.operations.specs.Good.{Sizes, GoodAt}
 use Rattle.operations.specs.Outcomes.{TwoReady}
 use Rattle.operations.proofs.GoodLaws.{good-typed-at}
+use Rattle.rules.proofs.Basics.{absurd01}
 
 -- Operands that fit have the types of the rule.
 module _ (ps : List Pattern) (vs : List Value) where
@@ -36,10 +36,6 @@ module _ {gs s : List ℕ} {top a : ℕ} {v : Value} (small : Sizes gs) (h : Goo
 
 pub ready-both : {s : List ℕ} {a mid b top : ℕ} → TwoReady s a mid b top → Both s a b
 ready-both p = record { first = (p .first, good-typed-at (p .small) (p .left)); second = (p .second, good-typed-at (p .small) (p .right)) }
-
--- Values by their types.
-absurd01 : _≡_ {A = ℕ} 0 1 → ⊥
-absurd01 e = omega arith
 
 pub set-typed : (v : Value) (t : Ty) → HasType v (POW t) → (vs : Values) × (v ≡ set vs) × HaveType vs t
 set-typed (scalar x) t h = absurd (absurd01 (cc))

@@ -5,13 +5,12 @@ use mathlib.Core.List.{List}
 use native.Mathlib.Omega.{arith}
 use lib.Dec.{T}
 use lib.ListN.{length}
-use Rattle.rules.specs.Values.{Value, scalar, pair, set, Values, none, _▸_}
+use Rattle.rules.specs.Values.{Value, set, Values, none, _▸_}
 use Rattle.rules.specs.Cells.{wellFormed, risingAll, precedes, good}
 use Rattle.rules.proofs.OrderLaws.{and-left, and-right}
-use Rattle.rules.proofs.CellsLaws.{encodable-wellFormed, few-sizes, good-wellFormed, good-weight, good-typed}
+use Rattle.rules.proofs.CellsLaws.{encodable-wellFormed, few-sizes, good-wellFormed, good-weight, good-typed, weight-some}
 use Rattle.arena.specs.Code.{CellsFit, SomeAt, Rises, FineSet, SetBelow, ValueBelow}
 use Rattle.arena.proofs.CodeLaws.{length-code, encodable-fits}
-use Rattle.arena.proofs.Standing.{weight-pos}
 use Rattle.fitting.specs.Agree.{TypedAt}
 use Rattle.fitting.proofs.Cells.{typed-at}
 use Rattle.operations.specs.Good.{Sizes, GoodAt}
@@ -52,7 +51,7 @@ module _ {gs : List ℕ} (small : Sizes gs) where
     good-above k le = record { stands = h .stands; below = omega (arith, h .below); good = h .good }
 
     pub good-inside : at < length s
-    good-inside = omega (arith, h .stands .inside, length-code v, weight-pos v)
+    good-inside = omega (arith, h .stands .inside, length-code v, weight-some v)
 
   pub good-set-at : {s : List ℕ} {top at : ℕ} (vs : Values) → GoodAt gs s top at (set vs) → SetBelow s top at vs
   good-set-at vs h = record { stands = h .stands; below = h .below; fine = good-set vs (h .good) }

@@ -14,6 +14,7 @@ use Rattle.rules.specs.Kinds.{One, singleton, power, dom, ran, card, choice}
 use Rattle.rules.specs.Kinds.{Two, pairing, union, inter, diff, product, apply, plus, minus, interval}
 use Rattle.rules.specs.Kinds.{Kind, join, negation, test, quant, leaf, boolOf, one, two, comprehension, kinds, kindOf}
 use Rattle.rules.proofs.OrderLaws.{and-left, and-right}
+use Rattle.rules.proofs.Basics.{absurd01}
 
 abbrev pub joinCode : Join → ℕ
 joinCode and = 1
@@ -78,9 +79,6 @@ codedHere i (some x) = eqb i (codeOf x)
 abbrev coded : ℕ → List (Option Kind) → Bool
 coded i [] = true
 coded i (o ∷ ks) = codedHere i o && coded (suc i) ks
-
-absurd01 : _≡_ {A = ℕ} 0 1 → ⊥
-absurd01 e = omega arith
 
 coded-at : (i : ℕ) (ks : List (Option Kind)) → T (coded i ks) → (n : ℕ) (x : Kind) → getD ks n nothing ≡ some x → i + n ≡ codeOf x
 coded-at i [] t n x e = absurd (absurd01 (cc))

@@ -13,11 +13,11 @@ use Rattle.rules.specs.Fits.{fits}
 use Rattle.rules.specs.Runs.{Given, gives, lacks}
 use Rattle.rules.specs.Operations.{oneValue, twoValue, holds}
 use Rattle.arena.specs.Code.{Made}
-use Rattle.arena.proofs.Standing.{weight-pos}
 use Rattle.operations.specs.declared.Outcome.{Outcome}
 use Rattle.operations.specs.declared.Outcome.the-variants.{Built, Lacks}
 use Rattle.operations.specs.declared.Tested.the-variants.{Truth, Unlike}
 use Rattle.operations.specs.Outcomes.{weighed, fitted, oneGiven, twoGiven, tested, ended, Gives}
+use Rattle.rules.proofs.CellsLaws.{weight-some}
 
 pub ended-none : (end : ℕ) → end ≡ 0 → Lacks 18 ≡ ended end
 unfolding ended
@@ -39,7 +39,7 @@ made-gives mid {top} {s} {s′} {v} {r} h = go (decLt 256 (weight v))
     go (no l) =
         let e = h .light (omega arith) in
         let q : weighed (gives v) ≡ gives v = rw (le-leb (weight v) 256 (omega arith)) in
-        subst (λ (o : Outcome). Gives s′ mid top (weighed (gives v)) o) (ended-some r (λ z. omega (arith, e .0, weight-pos v)))
+        subst (λ (o : Outcome). Gives s′ mid top (weighed (gives v)) o) (ended-some r (λ z. omega (arith, e .0, weight-some v)))
         (record { value = v; is = q; stands = e .1; ends = e .0; light = omega arith })
 
 -- 15, or what is given, by the test of the operands.

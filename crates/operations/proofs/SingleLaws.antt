@@ -34,6 +34,7 @@ use Rattle.operations.proofs.GoodLaws.{good-value, good-typed-at, good-
 use Rattle.operations.proofs.OutcomeLaws.{made-gives, one-unfit, one-fit, gives-as}
 use Rattle.operations.proofs.FitLaws.{one-fits, fit-types, types-fit, set-typed, pairs-typed}
 use Rattle.operations.proofs.KindLaws.{oneCode, code-of, same-one}
+use Rattle.products.proofs.PowerLaws.{members-count}
 
 -- What fits the patterns of one operand.
 module _ (v : Value) where
@@ -102,14 +103,10 @@ one-made {s} {s′} {a} {top} {end} {o} j p m e = record {
       (gives-as s′ top top (ended end) (one-fit j v (x .fit) (x .is)) (made-gives top (x .made)));
 }
 
-length-members : (vs : Values) → length (members vs) ≡ count vs
-length-members none = refl
-length-members (v ▸ vs) = omega (arith, length-members vs)
-
 -- The cell of a number of members.
 card-code : (vs : Values) (n : ℕ) → n ≡ count vs → code (int (pos (length (members vs)))) ≡ (6442450944 + n) ∷ []
 unfolding code
-card-code vs n e = ap (λ (x : ℕ). x ∷ []) (omega (arith, length-members vs))
+card-code vs n e = ap (λ (x : ℕ). x ∷ []) (omega (arith, members-count vs))
 
 module _ {s s′ : List ℕ} {a top end : ℕ} {o : Outcome} (p : OneReady s a top) where
   pub singleton-done : Singles s a top s′ end → o ≡ ended end → OneDone singleton s a top s′ o

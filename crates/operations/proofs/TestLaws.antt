@@ -1,13 +1,13 @@
 -- What the tests of kinds 6 to 9 answer.
-use Prim.Native.Nat.{ℕ, _+_, _-_, _≤_, _<_, Ordering, Ordering·lt, Ordering·eq, Ordering·gt}
+use Prim.Native.Nat.{ℕ, _+_, _-_, _≤_, _<_}
 use mathlib.Core.Bool.{Bool, true, false}
 use mathlib.Core.Logic.{_≢_}
 use mathlib.Core.List.{List, [], _∷_}
-use mathlib.Core.Path.{_≡_, refl, sym, ap, _∙_, subst}
+use mathlib.Core.Path.{_≡_, sym, ap, _∙_, subst}
 use native.Mathlib.Omega.{arith}
 use native.Mathlib.Decide.{decLt}
 use borrow.Author.Tests.{le-leb, lt-leb}
-use lib.Dec.{leb, eqb, isEq}
+use lib.Dec.{leb, eqb}
 use lib.IntN.{ℤ, pos, negsuc}
 use lib.ListN.{length, getD}
 use lib.Signed.{leZ}
@@ -30,6 +30,7 @@ use Rattle.operations.proofs.GoodLaws.{good-fits, good-value, good-set-
 use Rattle.operations.proofs.OutcomeLaws.{test-unfit, test-fit}
 use Rattle.operations.proofs.FitLaws.{two-fits, fit-types, set-typed, int-typed}
 use Rattle.operations.proofs.KindLaws.{testCode, code-of, same-test}
+use Rattle.products.proofs.TakeLaws.{same-code}
 
 -- Seen from the arena's end.
 good-whole : {gs s : List ℕ} {top at : ℕ} {v : Value} → GoodAt gs s top at v → GoodAt gs s (length s) at v
@@ -59,15 +60,9 @@ set-here v t h k q =
     let x = set-typed v t q in
     (x .0, good-set-at h (x .0) (rw (x .1) at (good-whole k)))
 
--- 6
-order-equal : (o : Ordering) → eqb (orderCode o) 1 ≡ isEq o
-order-equal Ordering·lt = refl
-order-equal Ordering·eq = refl
-order-equal Ordering·gt = refl
-
 holds-equal : (v w : Value) (r : ℕ) → r ≡ orderCode (order v w) → eqb r 1 ≡ holds equal v w
 unfolding holds same
-holds-equal v w r e = rw e (order-equal (order v w))
+holds-equal v w r e = rw e (same-code (order v w))
 
 pub equal-told : {s : List ℕ} {a b : ℕ} {r : Bool} (mid top q : ℕ) → FitTwo (t̂ ∷ t̂ ∷ []) s a b r → r ≡ true → Compared s a b q →
     TestDone equal s a mid b top (Truth (eqb q 1))

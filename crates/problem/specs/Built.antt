@@ -4,7 +4,7 @@ use mathlib.Core.List.{List}
 use mathlib.Core.Path.{_≡_}
 use lib.ListN.{getD, length}
 use Rattle.rules.specs.Tables.{Table}
-use Rattle.unification.specs.Problem.{Eqn, eqn}
+use Rattle.unification.specs.Problem.{eqn}
 use Rattle.unification.specs.Arrays.{AtomCode, shapeAt as arrayShape}
 use Rattle.typing.specs.Equations.{base, shapeAt, equations}
 

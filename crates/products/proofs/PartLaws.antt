@@ -1,5 +1,5 @@
 -- The rising list of values that come in non-falling order, and of values that are chosen one by one, the least first.
-use Prim.Native.Nat.{ℕ, zero, suc, _+_, _≤_, _<_, Ordering, Ordering·lt, Ordering·eq, Ordering·gt}
+use Prim.Native.Nat.{ℕ, _+_, _≤_, Ordering, Ordering·lt, Ordering·eq, Ordering·gt}
 use mathlib.Core.Bool.{Bool, true, false, _&&_, cond}
 use mathlib.Core.List.{List, [], _∷_, _++_, append-assoc, map}
 use mathlib.Core.Logic.{_⊎_, inl, inr}
@@ -7,9 +7,9 @@ use mathlib.Core.Option.{Option, none as nothing, some}
 use mathlib.Core.Path.{_≡_, refl, sym, ap, _∙_, subst}
 use native.Mathlib.Omega.{arith}
 use lib.Dec.{T, isEq}
-use Rattle.rules.specs.Values.{Value, scalar, pair, set, Values, none, _▸_, members, values, count, weight, weights, order, same, before, isLt, _then_}
+use Rattle.rules.specs.Values.{Value, scalar, pair, set, Values, none, _▸_, members, values, weight, weights, order, same, _then_}
 use Rattle.rules.specs.Operations.{left, right, placed, insert, rising}
-use Rattle.rules.proofs.OrderLaws.{flip, Small, order-refl, order-flip, order-eq, order-pair, order-before, before-order, before-trans, before-irrefl, then-lt, same-order}
+use Rattle.rules.proofs.OrderLaws.{flip, Small, order-flip, order-eq, order-pair, before-order, before-trans, before-irrefl}
 use Rattle.rules.proofs.SetOrder.{All, Before, Rising, all-imp, all-append, rising-all, rising-rising}
 use Rattle.products.specs.Parts.{isLast, isAbove, isBelow, lesser, choose}
 

@@ -17,7 +17,6 @@ use Rattle.rules.specs.Values.{Value, Values, none, _▸_, members, values, cou
 use Rattle.rules.specs.Operations.{setOf, rising, subsets, keptValue}
 use Rattle.arena.specs.Code.{code, codes, Same, SomeAt, EndsAt, SetBelow, ValueBelow, Made, Front}
 use Rattle.arena.proofs.CodeLaws.{length-code, length-codes}
-use Rattle.arena.proofs.Standing.{count-weights}
 use Rattle.arena.proofs.FrontLaws.{values-members, rises-rising, fit-small, front-start, front-value, front-next, front-below, front-some, front-frame, set-end}
 use Rattle.products.specs.Growing.{Appended, Grown}
 use Rattle.products.specs.Parts.{AddPre}
@@ -26,6 +25,7 @@ use Rattle.products.specs.declared.Out.{Out}
 use Rattle.products.proofs.GrowLaws.{appended-none, grown-start, grown-step, grown-end, grown-left, made-set, made-heavy}
 use Rattle.products.proofs.TakeLaws.{Putting, putting-start, putting-near, putting-end, putting-pre, putting-add}
 use Rattle.products.proofs.PowerOrder.{powers, powerWeight, power-rising, power-weighs, power-count, power-picked, power-heavy}
+use Rattle.rules.proofs.CellsLaws.{count-weights}
 
 -- `subset_count`
 pub count-many : (n : ℕ) → 5 < n → 64 ≡ subsetCount n
@@ -233,7 +233,7 @@ module _ (s₀ : List ℕ) (a n p to : ℕ) (s : List ℕ) (j at : ℕ) (top : �
   all-end l = grown-end s₀ to s at (allFrom p 0 vs) (subst (λ (c : List ℕ). Grown s₀ to s at (allFrom p 0 vs) c) (picked-over p j vs l) h)
 
 -- `power`
-members-count : (vs : Values) → length (members vs) ≡ count vs
+pub members-count : (vs : Values) → length (members vs) ≡ count vs
 members-count none = refl
 members-count (v ▸ vs) = omega (arith, members-count vs)
 

@@ -1,20 +1,18 @@
 -- The subsets of a rising list in rising order: by their number of members, then in the order of their members.
-use Prim.Native.Nat.{ℕ, zero, suc, _+_, _*_, _-_, _/_, _≤_, _<_, Ordering, Ordering·lt, Ordering·eq, Ordering·gt}
+use Prim.Native.Nat.{ℕ, zero, suc, _+_, _*_, _-_, _/_, _≤_, _<_, Ordering, Ordering·lt}
 use mathlib.Core.List.{List, [], _∷_, _++_, map}
 use mathlib.Core.Logic.{_⊎_, inl, inr}
 use mathlib.Core.Path.{_≡_, refl, sym, ap, _∙_, subst}
 use native.Mathlib.Omega.{arith}
 use native.Mathlib.Decide.{ℕ-discrete}
-use lib.IntN.{ℤ, pos}
-use lib.Dec.{T}
 use lib.ListN.{length}
-use Rattle.rules.specs.Values.{Value, set, Values, none, _▸_, values, count, weight, weights, order, before, compareℤ, _then_, lex, key, keys}
+use Rattle.rules.specs.Values.{Value, set, Values, _▸_, values, count, weights, order, _then_, lex, keys}
 use Rattle.rules.specs.Operations.{setOf, rising, subsets}
 use Rattle.rules.proofs.OrderLaws.{Small, Smalls, order-refl, order-before, before-order, before-trans, before-irrefl, lt-compare, compare-refl, key-delimited}
 use Rattle.rules.proofs.SetOrder.{All, Before, Rising, all-imp, all-map, all-append, all-both, append-rising, rising-rising, subsets-all}
-use Rattle.arena.proofs.Standing.{weight-pos}
-use Rattle.products.specs.Power.{masks, subsetCount, pick, picked}
+use Rattle.products.specs.Power.{masks, subsetCount, picked}
 use Rattle.products.proofs.PartLaws.{In, all-in, all-self, in-append, in-left, in-right, in-map, in-rising, rising-in}
+use Rattle.rules.proofs.CellsLaws.{weight-some}
 
 -- What is in y ∷ ys and follows x, which is y, is in ys.
 in-rest : (x y : Value) (xs ys : List Value) → All (Before x) xs → y ≡ x → All (λ z. In z (y ∷ ys)) xs → All (λ z. In z ys) xs
@@ -321,7 +319,7 @@ power-picked (a ∷ b ∷ c ∷ d ∷ f ∷ g ∷ vs) l = absurd (omega arith)
 -- Six members or more are too many.
 six-heavy : (a b c d f g : Value) → 256 ≤ powerWeight (a ∷ b ∷ c ∷ d ∷ f ∷ g ∷ [])
 unfolding powers
-six-heavy a b c d f g = omega (arith, weight-pos a, weight-pos b, weight-pos c, weight-pos d, weight-pos f, weight-pos g)
+six-heavy a b c d f g = omega (arith, weight-some a, weight-some b, weight-some c, weight-some d, weight-some f, weight-some g)
 
 more-heavy : (n : ℕ) (v : Value) (vs : List Value) → length vs ≡ n → weigh (powers n vs) ≤ weigh (powers (suc n) (v ∷ vs))
 unfolding powers

@@ -1,12 +1,12 @@
 -- Sets of scalars whose cells follow one another as numbers: elements of a given set, truths, integers.
 use Prim.Native.Nat.{ℕ, zero, suc, _+_, _*_, _-_, _≤_, _<_}
 use mathlib.Core.Bool.{Bool, true, false, cond}
-use mathlib.Core.List.{List, [], _∷_, _++_}
+use mathlib.Core.List.{List, [], _∷_}
 use mathlib.Core.Path.{_≡_, refl, sym, ap, _∙_}
 use native.Mathlib.Omega.{arith}
-use lib.Dec.{T, ltb, ltb→lt, nltb→le}
+use lib.Dec.{ltb, ltb→lt, nltb→le}
 use lib.IntN.{ℤ, pos, negsuc, sucℤ, subℕ, _+ℤ_, _-ℤ_, +ℤ-one}
-use Rattle.rules.specs.Values.{set, int, truthValue, values, count, weights}
+use Rattle.rules.specs.Values.{int, truthValue, values, count, weights}
 use Rattle.rules.specs.Operations.{setOf, upFrom, toCount, elementsFrom}
 use Rattle.arena.specs.Code.{excess, code, codes, CellsFit, Made}
 use Rattle.products.specs.Growing.{cellsFrom, Runs, Intervals}

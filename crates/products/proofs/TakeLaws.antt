@@ -15,13 +15,14 @@ use Rattle.rules.proofs.OrderLaws.{flip, Small, order-flip}
 use Rattle.rules.proofs.SetOrder.{All}
 use Rattle.arena.specs.Code.{cellSize, code, codes, ValueAt, Same, CellsFit, AllFit, Rises, orderCode, SomeAt, EndsAt, Compared, Copied, SetBelow, ValueBelow, Made, Front, AllPairs}
 use Rattle.arena.proofs.CodeLaws.{length-code, length-codes, fits-small}
-use Rattle.arena.proofs.Standing.{stands-tail, stands-front, stands-back, weight-pos, count-weights}
+use Rattle.arena.proofs.Standing.{stands-tail, stands-front, stands-back}
 use Rattle.arena.proofs.FrontLaws.{front-start, front-next, front-below, front-frame, value-frame, value-some}
 use Rattle.products.specs.Growing.{Grown}
 use Rattle.products.specs.Parts.{Maybe, AddPre, Added, related, ComparePre, Compares, isLast, NewPre, AddedNew, isAbove, isBelow, lesser, choose, BetterPre, Betters, NextPre, Nexts}
 use Rattle.products.specs.declared.Out.{Out}
 use Rattle.products.proofs.GrowLaws.{appended-copy, grown-start, grown-step, grown-end, grown-left, made-set}
 use Rattle.products.proofs.PartLaws.{afterLast, Steps, rising-weighs, lefts-weigh, rights-weigh, rising-afterLast, lastThen, AllOf, afterLast-none, afterLast-skip, afterLast-take, before-lefts, Taking, taking-start, taking-next, firstOf, choose-next}
+use Rattle.rules.proofs.CellsLaws.{count-weights, weight-some}
 
 -- The parts of a pair.
 module _ (s : List ℕ) (top i : ℕ) (a b : Value) (h : ValueBelow s top i (pair a b)) where
@@ -57,7 +58,7 @@ compares-some s p q c d r n k v nothing h m = absurd (n m)
 compares-some s p q c d r n k v (some u) h m = ap (λ (x : ℕ). eqb x c) (k v u (h .stands) (m .1 .stands) (h .fits) (m .1 .fits))
 
 -- what the answers of a comparison mean
-same-code : (o : Ordering) → eqb (orderCode o) 1 ≡ isEq o
+pub same-code : (o : Ordering) → eqb (orderCode o) 1 ≡ isEq o
 same-code Ordering·lt = refl
 same-code Ordering·eq = refl
 same-code Ordering·gt = refl
@@ -407,7 +408,7 @@ module _ (s₀ : List ℕ) (a top n : ℕ) (low : n ≡ getD s₀ a 0 % 42949672
                   rest′ = rest;
                   taking′ = taking-next (map right (members vs)) (h .last) w rest t;
                   putting′ = putting-add s₀ top s o (rising (map right (members vs))) (h .last) range-light w rest q top p e (m .1) z s′ r added;
-                  further = omega (arith, added .cells w (m .1 .stands) z .ends, length-code w, weight-pos w);
+                  further = omega (arith, added .cells w (m .1 .stands) z .ends, length-code w, weight-some w);
                 }
 
         between-near : (r .to ≤ length s′) × (top + 1 ≤ length s′)

@@ -1,8 +1,8 @@
 -- The height of a node by the heights that the code has for the nodes below it.
 use Prim.Native.Nat.{ℕ, _+_, _-_, _≤_, _<_, max}
 use mathlib.Core.Bool.{Bool, true, false, cond}
-use mathlib.Core.List.{List, [], _∷_}
-use mathlib.Core.Path.{_≡_, refl, sym, ap, ap₂, _∙_}
+use mathlib.Core.List.{List, []}
+use mathlib.Core.Path.{_≡_, refl, sym, ap, _∙_}
 use native.Mathlib.Decide.{ℕ-discrete}
 use native.Mathlib.Omega.{arith}
 use lib.ListN.{length, getD, set}
@@ -13,8 +13,7 @@ use Rattle.rules.specs.Tables.{Node, tableOf, nodeAt, fieldsAt, keptIf, held, n
 use Rattle.rules.specs.Reading.{tallest, height, heightGood}
 use Rattle.rules.specs.Ends.{leastFailing}
 use Rattle.rules.specs.Readable.{NodeRight, Readable}
-use Rattle.rules.proofs.EndLaws.{Each}
-use Rattle.rules.proofs.TableLaws.{nodes-length, held-below, height-at}
+use Rattle.rules.proofs.TableLaws.{nodes-length, held-below, height-at, tallest-below}
 use Rattle.table.specs.Layout.{Fielded, fieldAt}
 use Rattle.reading.specs.Arrays.{countsAt, Heights}
 use Rattle.table.specs.Places.{foundOr}
@@ -52,12 +51,6 @@ child-here f hit b x y e g t = rw (← e, t, g)
 
 pub child-none : (hit b : Bool) (z : ℕ) → hit ≡ b → hit ≡ false → 0 ≡ cond b z 0
 child-none hit b z e t = rw (← e, t)
-
--- It depends on the heights of the children only.
-tallest-below : (n : ℕ) (h k : ℕ → ℕ) → ((m : ℕ) → m < n → h m ≡ k m) → (ms : List ℕ) → Each (λ m. m < n) ms → tallest h ms ≡ tallest k ms
-unfolding tallest
-tallest-below n h k e [] b = refl
-tallest-below n h k e (m ∷ ms) b = ap₂ max (e m (b .0)) (tallest-below n h k e ms (b .1))
 
 module _ (bs : List ℕ) (at n : ℕ) (f : Fielded bs at) (below : n < nodeCount bs) (hs : List ℕ) (heights : Heights bs n hs) (t : ℕ)
     (is : t ≡ tallest (λ m. getD hs m 0) (held isChild (nodeAt (tableOf bs .nodes) n))) where

@@ -17,7 +17,6 @@ use Rattle.rules.specs.Tables.{Table, tableOf, nodeAt, kindAt, identifierCount,
 use Rattle.rules.specs.Readable.{CategoryIs}
 use Rattle.rules.specs.Verdict.{Place}
 use Rattle.rules.proofs.TableLaws.{binds-length, nodes-length}
-use Rattle.table.specs.Layout.{Laid}
 use Rattle.table.specs.Codes.{codeOf, categoryCode}
 use Rattle.unification.specs.Problem.{Shape}
 use Rattle.unification.specs.Solved.{ClassesMatch, Grounded}

@@ -18,6 +18,7 @@ use Rattle.rules.specs.Cells.{bytes4, twos, signed, inRange, cell, cells
 use Rattle.rules.specs.Cells.{Read, _andThen_, onlyIf, several, byTag, valueTo, value}
 use Rattle.rules.specs.Fits.{typed}
 use Rattle.rules.proofs.OrderLaws.{and-left, and-right, Small, small-wellFormed}
+use Rattle.rules.proofs.Basics.{and-of}
 
 -- A number that a word holds.
 abbrev pub Word : ℕ → Type 0
@@ -118,7 +119,7 @@ onlyIf-some : {A : Type 0} (b : Bool) (r : Read A) (y : A × List ℕ) → onlyI
 onlyIf-some true r y e = (tt, e)
 onlyIf-some false r y e = absurd (let z : _≡_ {A = ℕ} 0 1 = cc in omega arith)
 
-andThen-some : {A B : Type 0} (r : Read A) (f : A → List ℕ → Read B) (y : B × List ℕ) →
+pub andThen-some : {A B : Type 0} (r : Read A) (f : A → List ℕ → Read B) (y : B × List ℕ) →
     (r andThen f) ≡ some y → (x : A × List ℕ) × (r ≡ some x) × (f (x .0) (x .1) ≡ some y)
 andThen-some nothing f y e = absurd (let z : _≡_ {A = ℕ} 0 1 = cc in omega arith)
 andThen-some (some x) f y e = (x, refl, e)
@@ -129,11 +130,6 @@ read-at : {A : Type 0} (F : A → List ℕ → Type 0) (x y : A) (bs cs : List �
 read-at {A} F x y bs cs e h =
     let p : _≡_ {A = A × List ℕ} (x, bs) (y, cs) = cc in
     subst (λ (z : A × List ℕ). F (z .0) (z .1)) p h
-
--- Both tests pass.
-pub and-both : (a b : Bool) → T a → T b → T (a && b)
-and-both true b s t = t
-and-both false b s t = s
 
 -- Values that a run of cells can hold: numbers of 32 bits, elements and counts that a word holds.
 abbrev pub EncodableScalar : Scalar → Type 0
@@ -169,7 +165,7 @@ head-cell v d bs h =
     let p = twos (payload v) in
     let n = length (cell v ++ bs) in
     rw (word-bytes p (tag v ∷ 0 ∷ 0 ∷ 0 ∷ bs) h)
-    (onlyIf-true (leb 8 n && true) (byTag (λ bs₁. valueTo d bs₁) (tag v) p bs) (and-both (leb 8 n) true (le→leb 8 n (omega arith)) tt))
+    (onlyIf-true (leb 8 n && true) (byTag (λ bs₁. valueTo d bs₁) (tag v) p bs) (and-of (leb 8 n) true (le→leb 8 n (omega arith)) tt))
 
 pair-cells : (r : List ℕ → Read Value) (v w : Value) (a b : List ℕ) (bs : List ℕ) →
     r (a ++ (b ++ bs)) ≡ some (v, b ++ bs) → r (b ++ bs) ≡ some (w, bs) → byTag r 4 0 ((a ++ b) ++ bs) ≡ some (pair v w, bs)
@@ -222,15 +218,15 @@ mutual
       several-cons (λ bs. valueTo d bs) (count vs) v vs (cells v) (cellsOf vs) rest
       (valueTo-cells v d (cellsOf vs ++ rest) (omega arith) (h .0)) (several-cells vs d rest (omega arith) (h .1))
 
+pub weight-some : (v : Value) → 1 ≤ weight v
+weight-some (scalar s) = omega arith
+weight-some (pair v w) = omega arith
+weight-some (set s) = omega arith
+
 -- No set has more members than weight.
 pub count-weights : (s : Values) → count s ≤ weights s
 count-weights none = omega arith
-count-weights (v ▸ vs) = omega (arith, count-weights vs, weight-positive v)
-  where
-    weight-positive : (w : Value) → 1 ≤ weight w
-    weight-positive (scalar r) = omega arith
-    weight-positive (pair a b) = omega arith
-    weight-positive (set r) = omega arith
+count-weights (v ▸ vs) = omega (arith, count-weights vs, weight-some v)
 
 -- A bound on the entries of a list bounds what is read past its end too.
 pub size-below : (gs : List ℕ) (n : ℕ) → ((g : ℕ) → g < length gs → getD gs g 0 ≤ n) → (g : ℕ) → getD gs g 0 ≤ n
@@ -342,7 +338,7 @@ bytes-drop (suc n) (b ∷ bs) h = bytes-drop n bs (h .1)
 pub word-at : (bs : List ℕ) (i : ℕ) → Bytes bs → Word (wordAt bs i)
 word-at bs i h = omega (arith, byte-at bs i h, byte-at bs (1 + i) h, byte-at bs (2 + i) h, byte-at bs (3 + i) h)
 
-eight : (bs : List ℕ) → 8 ≤ length bs →
+pub eight : (bs : List ℕ) → 8 ≤ length bs →
     bs ≡ getD bs 0 0 ∷ getD bs 1 0 ∷ getD bs 2 0 ∷ getD bs 3 0 ∷ getD bs 4 0 ∷ getD bs 5 0 ∷ getD bs 6 0 ∷ getD bs 7 0 ∷ drop 8 bs
 eight bs h =
     cc (
@@ -381,7 +377,7 @@ several-right r h (suc n) bs vs rest b e =
 abbrev Shown : ℕ → ℕ → List ℕ → Value → List ℕ → Type 0
 Shown t p bs v rest = (tag v ≡ t) × (twos (payload v) ≡ p) × (cells v ++ rest ≡ cell v ++ bs)
 
-bit-eqb : (p : ℕ) → p < 2 → bit (eqb p 1) ≡ p
+pub bit-eqb : (p : ℕ) → p < 2 → bit (eqb p 1) ≡ p
 bit-eqb zero h = refl
 bit-eqb (suc zero) h = refl
 bit-eqb (suc (suc n)) h = absurd (omega arith)
@@ -435,7 +431,7 @@ module _ (r : List ℕ → Read Value) (h : Right r) (p : ℕ) (bs : List ℕ) (
   byTag-right (suc (suc (suc (suc (suc zero))))) b w e = set-right b e
   byTag-right (suc (suc (suc (suc (suc (suc n)))))) b w e = absurd (let z : _≡_ {A = ℕ} 0 1 = cc in omega arith)
 
-cell-parts : (ws : List ℕ) (a b c d t x y z u : ℕ) (bs : List ℕ) → ws ≡ a ∷ b ∷ c ∷ d ∷ [] → u ≡ t → x ≡ 0 → y ≡ 0 → z ≡ 0 →
+pub cell-parts : (ws : List ℕ) (a b c d t x y z u : ℕ) (bs : List ℕ) → ws ≡ a ∷ b ∷ c ∷ d ∷ [] → u ≡ t → x ≡ 0 → y ≡ 0 → z ≡ 0 →
     a ∷ b ∷ c ∷ d ∷ t ∷ x ∷ y ∷ z ∷ bs ≡ (ws ++ (u ∷ 0 ∷ 0 ∷ 0 ∷ [])) ++ bs
 cell-parts ws a b c d t x y z u bs e f g h k = rw (e, f, g, h, k)
 

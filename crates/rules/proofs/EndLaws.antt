@@ -10,10 +10,7 @@ use native.Mathlib.Decide.{ℕ-discrete, decLt}
 use native.Mathlib.Omega.{arith}
 use lib.Dec.{T, leb, ltb, eqb, leb→le, le→leb, ltb→lt, lt→ltb, eqb→eq, eqb-refl}
 use Rattle.rules.specs.Ends.{End, done, refused, _>>=_, require, unlessFound, pickFirst, leastFailing, requireAll, allBelow, doneWith}
-
--- For ⊥ from equations: `absurd01 (cc)`.
-pub absurd01 : _≡_ {A = ℕ} 0 1 → ⊥
-absurd01 e = omega arith
+use Rattle.rules.proofs.Basics.{absurd01}
 
 -- A test that passes, in both writings.
 pub T-true : (b : Bool) → T b ↔ (b ≡ true)

@@ -1,7 +1,7 @@
 -- The tests on values are right: `typed v` says that v has a type, `fits ps vs` (refusal 15) that some t and u fit, `hasType v t`
 -- that v has t.
 use mathlib.Core.List.{List, [], _∷_}
-use mathlib.Core.Bool.{Bool, true, false, _&&_, cond}
+use mathlib.Core.Bool.{Bool, true, false, cond}
 use mathlib.Core.Path.{_≡_, refl, ap, ap₂, _∙_, subst, subst⁻¹}
 use mathlib.Core.Logic.{_↔_}
 use lib.Dec.{T, eqb→eq, eqb-refl}
@@ -10,6 +10,7 @@ use Rattle.rules.specs.Values.{Value, scalar, pair, set, Values, none, _
 use Rattle.rules.specs.Rules.{Pattern, t̂, û, atom̂, P̂, _×̂_, inst}
 use Rattle.rules.specs.Fits.{IfPow, IfProduct, HasType, HaveType, FitAt, Fits, sameAtom, Shape, every, clash, atomˢ, powˢ, _×ˢ_, _⊓_}
 use Rattle.rules.specs.Fits.{shape, shapes, inhabited, typed, Asked, anything, nothing-fits, askAtom, asked, askedAll, fits, exactly, hasType}
+use Rattle.rules.proofs.Basics.{and-of, and-split}
 
 infix 30 _⊑_
 -- A type is one of a shape's.
@@ -145,14 +146,6 @@ mutual
   shapes→have (v ▸ vs) t h =
       let k = ⊓-split (shape v) (shapes vs) t h in
       (shape→has v t (k .0), shapes→have vs t (k .1))
-
-and-split : (a b : Bool) → T (a && b) → T a × T b
-and-split true b h = (tt, h)
-and-split false b h = absurd h
-
-and-of : (a b : Bool) → T a → T b → T (a && b)
-and-of true b h k = k
-and-of false b h k = h
 
 -- An inhabited shape has a type.
 pub inhabited→some : (p : Shape) → T (inhabited p) → (t : Ty) × p ⊑ t

@@ -30,8 +30,9 @@ use Rattle.rules.specs.Evaluation.{fitting, quantify, select, holdsᵖ, 
 use Rattle.rules.proofs.OrderLaws.{and-left, and-right}
 use Rattle.rules.proofs.FitsLaws.{fits-right, typed-right}
 use Rattle.rules.proofs.SetTypes.{AllHave, GivenHas, elems-have, values-have, elements-have, one-has, two-has}
-use Rattle.rules.proofs.SetOrder.{All, all-imp, all-both, all-append, all-at, Any, Before, Rising, and-T, signed-right}
+use Rattle.rules.proofs.SetOrder.{All, all-imp, all-both, all-append, all-at, Any, Before, Rising, signed-right}
 use Rattle.rules.proofs.SetOrder.{elements-rising, elems-light, Well, elems-well, setOf-well, elements-well, GivenWell, one-well, two-well}
+use Rattle.rules.proofs.Basics.{and-of}
 
 -- `AllHave` of the types' laws is `All` of `HasType`.
 all-of-have : (vs : List Value) (t : Ty) → AllHave vs t → All (λ v. HasType v t) vs
@@ -84,7 +85,7 @@ module _ (gs : List ℕ) where
   light-good : (v : Value) → WellTyped v → T (leb (weight v) weightLimit) → Good v
   unfolding good
   light-good v h l =
-      and-T (wellFormed gs v && leb (weight v) weightLimit) (typed v) (and-T (wellFormed gs v) (leb (weight v) weightLimit) (h .0) l) (h .1)
+      and-of (wellFormed gs v && leb (weight v) weightLimit) (typed v) (and-of (wellFormed gs v) (leb (weight v) weightLimit) (h .0) l) (h .1)
 
   good-well : (v : Value) → Good v → Well gs v
   unfolding good

@@ -1,4 +1,5 @@
 -- The laws that everything above rests on.
+pub mod Basics
 pub mod EndLaws
 pub mod TableLaws
 pub mod ReadingLaws

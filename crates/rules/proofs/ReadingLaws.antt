@@ -19,9 +19,10 @@ use Rattle.rules.specs.Reading.{headed, limited, laidOut, sizeGood, bind
 use Rattle.rules.specs.Reading.{occurrences, parentGood, height, heightLimit, heightGood, binders, occursFree, boundRight, binding}
 use Rattle.rules.specs.Reading.{reading}
 use Rattle.rules.specs.Readable.{CategoryIs, FieldRight, FieldsRight, KindRight, NodeRight, BindingRight, Header, Records, Readable}
-use Rattle.rules.proofs.EndLaws.{absurd01, T-true, T-and, T-leb, T-ltb, T-eqb, requireAll-done, unlessFound-refused}
+use Rattle.rules.proofs.EndLaws.{T-true, T-and, T-leb, T-ltb, T-eqb, requireAll-done, unlessFound-refused}
 use Rattle.rules.proofs.EndLaws.{require-done, require-refused, Each, inTurn, inTurn-done, inTurn-passed, inTurn-refused}
 use Rattle.rules.proofs.TableLaws.{sizes-length, binds-length, nodes-length}
+use Rattle.rules.proofs.Basics.{absurd01}
 
 -- Refusals 1 to 3.
 pub headed-right : (bs : List ℕ) → T (headed bs) ↔ ((32 ≤ length bs) × (wordAt bs 0 ≡ 1))

@@ -14,7 +14,7 @@ use Rattle.rules.specs.Kinds.{One, singleton, power, dom, ran, card, cho
 use Rattle.rules.specs.Kinds.{Two, pairing, union, inter, diff, product, apply, plus, minus, interval}
 use Rattle.rules.specs.Rules.{twoRule}
 use Rattle.rules.specs.Values.{num, truth, element, Value, scalar, pair, set, Values, none, _▸_, int}
-use Rattle.rules.specs.Values.{members, values, weight, weights, payload, order, same, before, compareℤ, _then_}
+use Rattle.rules.specs.Values.{members, values, weight, weights, payload, order, before, compareℤ, _then_}
 use Rattle.rules.specs.Fits.{HasType, FitAt}
 use Rattle.rules.specs.Cells.{signed, inRange, precedes, wellFormed, risingAll}
 use Rattle.rules.specs.Runs.{Given, gives, lacks}
@@ -23,6 +23,8 @@ use Rattle.rules.specs.Operations.{upFrom, toCount, elementsFrom, least,
 pub use Rattle.rules.specs.Safety.{All, Any}
 use Rattle.rules.proofs.OrderLaws.{flip, lt-compare, order-refl, order-flip, order-pair, order-int, order-element}
 use Rattle.rules.proofs.OrderLaws.{before-order, order-before, before-trans, and-left, and-right}
+use Rattle.rules.proofs.Basics.{and-of}
+use Rattle.rules.proofs.CellsLaws.{weight-some}
 
 -- What follows from P holds where P does.
 pub all-imp : {A : Type 0} (P Q : A → Type 0) → ((x : A) → P x → Q x) → (xs : List A) → All P xs → All Q xs
@@ -209,11 +211,6 @@ elements-rising g k (suc (suc n)) =
     rising-cons (scalar (element g k)) (scalar (element g (suc k))) (elementsFrom g (suc (suc k)) n)
     (before-element g k) (elements-rising g (suc k) (suc n))
 
--- Two tests pass where each does.
-pub and-T : (a b : Bool) → T a → T b → T (a && b)
-and-T true b h k = k
-and-T false b h k = h
-
 -- The n numbers from i on are of signed 32 bits.
 abbrev Span : ℤ → ℕ → Type 0
 Span (pos a) n = a + n ≤ 2147483648
@@ -255,11 +252,6 @@ signed-right n = go (ltb n 2147483648) refl
     go : (b : Bool) → ltb n 2147483648 ≡ b → T (inRange (elim b [ true ↦ pos n | false ↦ negsuc (4294967295 - n) ]))
     go true e = le→leb n 2147483647 (omega (arith, ltb→lt n 2147483648 (rw e tt)))
     go false e = le→leb (4294967295 - n) 2147483647 (omega (arith, nltb→le n 2147483648 (rw e tt)))
-
-weight-some : (v : Value) → 1 ≤ weight v
-weight-some (scalar s) = omega arith
-weight-some (pair v w) = omega arith
-weight-some (set s) = omega arith
 
 members-count : (s : Values) → length (members s) ≤ weights s
 members-count none = omega arith
@@ -310,8 +302,8 @@ module _ (gs : List ℕ) where
   pub setOf-well : (vs : List Value) → All Well vs → Rising vs → Well (setOf vs)
   setOf-well [] h r = tt
   setOf-well (v ∷ vs) h r =
-      and-T (wellFormed gs v && precedes v (values vs)) (risingAll gs (values vs))
-      (and-T (wellFormed gs v) (precedes v (values vs)) (h .0) (first-precedes v vs (r .0))) (setOf-well vs (h .1) (r .1))
+      and-of (wellFormed gs v && precedes v (values vs)) (risingAll gs (values vs))
+      (and-of (wellFormed gs v) (precedes v (values vs)) (h .0) (first-precedes v vs (r .0))) (setOf-well vs (h .1) (r .1))
 
   left-well : (v : Value) → Well v → Well (left v)
   left-well (scalar s) h = h
@@ -389,7 +381,7 @@ module _ (gs : List ℕ) where
   pub two-well : (j : Two) (v w : Value) (t u : Ty) → FitAt (twoRule j .takes) (v ∷ w ∷ []) t u → Well v → Well w →
       GivenWell (twoValue j v w)
   unfolding twoValue
-  two-well pairing v w t u f h k = and-T (wellFormed gs v) (wellFormed gs w) h k
+  two-well pairing v w t u f h k = and-of (wellFormed gs v) (wellFormed gs w) h k
   two-well union v w t u f h k =
       rising-well (elems v ++ elems w) (all-append Well (elems v) (elems w) (elems-well v h .0) (elems-well w k .0))
   two-well inter v w t u f h k = keep-well (λ x. isIn x (elems w)) v h
@@ -398,7 +390,7 @@ module _ (gs : List ℕ) where
       let e = elems-well v h in
       let d = elems-well w k in
       setOf-well (pairsOf (elems v) (elems w))
-      (pairs-all Well Well Well (λ x y p q. and-T (wellFormed gs x) (wellFormed gs y) p q) (elems v) (elems w) (e .0) (d .0))
+      (pairs-all Well Well Well (λ x y p q. and-of (wellFormed gs x) (wellFormed gs y) p q) (elems v) (elems w) (e .0) (d .0))
       (pairs-rising (elems v) (elems w) (e .1) (d .1))
   two-well apply v w t u f h k =
       let p : Value → Bool = pairedWith w in

@@ -7,7 +7,7 @@ use native.Mathlib.Omega.{arith}
 use lib.IntN.{ℤ, pos, _+ℤ_, _-ℤ_}
 use lib.ListN.{getD}
 use Rattle.rules.specs.Types.{Number, number, Ty, atom, POW, _⊗_, INTEGER, G}
-use Rattle.rules.specs.Values.{num, Value, scalar, pair, set, Values, none, _▸_, members, values, payload, order, same}
+use Rattle.rules.specs.Values.{num, Value, scalar, pair, set, Values, none, _▸_, members, values, payload, order}
 use Rattle.rules.specs.Kinds.{Leaf, identifier, givenSet, elementOf, literal, truthConst, emptySet, boolSet}
 use Rattle.rules.specs.Kinds.{One, singleton, power, dom, ran, card, choice}
 use Rattle.rules.specs.Kinds.{Two, pairing, union, inter, diff, product, apply, plus, minus, interval}

@@ -1,6 +1,6 @@
 -- A typed condition is never refused by 15, and every value that its evaluation forms has its node's type: `run-sound`.
 use Prim.Native.Nat.{ℕ, _<_}
-use mathlib.Core.List.{List, [], _∷_, _++_}
+use mathlib.Core.List.{List, [], _∷_}
 use mathlib.Core.Bool.{Bool, true, false}
 use mathlib.Core.Option.{Option, none as nothing, some}
 use mathlib.Core.Path.{_≡_, sym, subst, ap, _∙_}

@@ -125,7 +125,7 @@ each-occurs P m (y ∷ ms) h o = go (eqb m y) refl (λ q. each-occurs P m ms (h 
 pub child-below : (tb : Table) (n m : ℕ) → NodeRight tb n → 1 ≤ occurrences m (held isChild (nodeAt (tb .nodes) n)) → m < n
 child-below tb n m h o = each-occurs (λ m. m < n) m (held isChild (nodeAt (tb .nodes) n)) (held-below tb n h) o
 
-tallest-below : (n : ℕ) (h k : ℕ → ℕ) → ((m : ℕ) → m < n → h m ≡ k m) → (ms : List ℕ) → Each (λ m. m < n) ms → tallest h ms ≡ tallest k ms
+pub tallest-below : (n : ℕ) (h k : ℕ → ℕ) → ((m : ℕ) → m < n → h m ≡ k m) → (ms : List ℕ) → Each (λ m. m < n) ms → tallest h ms ≡ tallest k ms
 unfolding tallest
 tallest-below n h k e [] b = refl
 tallest-below n h k e (m ∷ ms) b = ap₂ max (e m (b .0)) (tallest-below n h k e ms (b .1))

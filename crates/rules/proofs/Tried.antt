@@ -4,13 +4,13 @@ use Prim.Native.Nat.{ℕ, zero, suc, _≤_, _<_}
 use mathlib.Core.List.{List, [], _∷_}
 use mathlib.Core.Option.{Option, none as nothing, some}
 use mathlib.Core.Path.{_≡_, refl}
-use mathlib.Core.Logic.{_⊎_, inl, inr}
+use mathlib.Core.Logic.{inl, inr}
 use native.Mathlib.Omega.{arith}
 use lib.ListN.{length, getD, take}
 use Rattle.rules.specs.Types.{Ty, POW, _⊗_, INTEGER, BOOL, G, weightᵀ, Declared}
 use Rattle.rules.specs.Kinds.{Kind, kindOf, Category, predicate, expression, categoryOf}
 use Rattle.rules.specs.Tables.{Table, kindAt}
-use Rattle.rules.specs.Ends.{End, done, refused}
+use Rattle.rules.specs.Ends.{done, refused}
 use Rattle.rules.specs.Readable.{CategoryIs}
 use Rattle.rules.specs.Reading.{reading}
 use Rattle.rules.specs.Evaluation.{evaluation}
@@ -19,10 +19,8 @@ use Rattle.rules.specs.Verdict.{Verdict, unreadable, misfit, clash, seve
 use Rattle.rules.specs.Safety.{All}
 use Rattle.rules.proofs.TypeLaws.{no-cycle}
 use Rattle.rules.proofs.Rows.{toBytes, wordsOf, sheet, z, pz, ppz, zz, pzz, p1, p2, p3, p4, p5, cardPower, p8, p9, p10, p12}
-use Rattle.rules.proofs.Rows.{Row, Condition, conditions, evaluated, expected}
-
-absurd01 : _≡_ {A = ℕ} 0 1 → ⊥
-absurd01 e = omega arith
+use Rattle.rules.proofs.Rows.{Condition, conditions, evaluated, expected}
+use Rattle.rules.proofs.Basics.{absurd01}
 
 infixr 5 _&_
 abbrev _&_ : {A B : Type 0} → A → B → A × B

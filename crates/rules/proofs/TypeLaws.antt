@@ -1,6 +1,6 @@
 -- Types and their rows: a row is 64 bytes long, tells its type and is read back as it, no type is a proper part of itself, and
 -- equality of types is decided.
-use Prim.Native.Nat.{ℕ, zero, suc, _+_, _-_, _≤_, _<_}
+use Prim.Native.Nat.{ℕ, zero, suc, _+_, _-_, _≤_}
 use mathlib.Core.Bool.{Bool, true, false, cond}
 use mathlib.Core.List.{List, [], _∷_, _++_, append-assoc, append-nil}
 use mathlib.Core.Logic.{_↔_}
@@ -10,8 +10,9 @@ use native.Mathlib.Omega.{arith}
 use native.Mathlib.Decide.{ℕ-discrete}
 use lib.Dec.{T, leb, leb→le, le→leb}
 use lib.ListN.{length, length-append, replicate, length-replicate}
-use Rattle.rules.specs.Types.{Number, whole, Atom, number, bool, given, Ty, atom, POW, _⊗_}
+use Rattle.rules.specs.Types.{whole, Atom, number, bool, given, Ty, atom, POW, _⊗_}
 use Rattle.rules.specs.Types.{INTEGER, G, weightᵀ, atomCode, prefix, row, emptyRow, codeBefore, typesIn, onlyType, typeOfRow}
+use Rattle.rules.proofs.Basics.{absurd01}
 
 -- Each type weighs something.
 pub weight-positive : (t : Ty) → 1 ≤ weightᵀ t
@@ -37,7 +38,7 @@ unfolding emptyRow
 emptyRow-length = refl
 
 -- The codes are all different, and none is 0.
-atomCode-injective : (a b : Atom) → atomCode a ≡ atomCode b → a ≡ b
+pub atomCode-injective : (a b : Atom) → atomCode a ≡ atomCode b → a ≡ b
 atomCode-injective (number whole) (number whole) e = refl
 atomCode-injective (number whole) bool e = absurd (omega (arith, e))
 atomCode-injective (number whole) (given g) e = absurd (omega (arith, e))
@@ -102,9 +103,6 @@ no-cycle-left t u e = omega (arith, ap weightᵀ e)
 
 pub no-cycle-right : (t u : Ty) → t ≡ u ⊗ t → ⊥
 no-cycle-right t u e = omega (arith, ap weightᵀ e)
-
-absurd01 : _≡_ {A = ℕ} 0 1 → ⊥
-absurd01 e = omega arith
 
 Atom-discrete : (a b : Atom) → Dec (a ≡ b)
 Atom-discrete a b = go (ℕ-discrete (atomCode a) (atomCode b))

@@ -21,6 +21,7 @@ use Rattle.rules.specs.Reading.{occurrences, upward, occursIn, occursInA
 use Rattle.rules.specs.Readable.{CategoryIs, KindRight, BindingRight, Records}
 use Rattle.rules.specs.Verdict.{placeOf, ObeysKind, Whole}
 use Rattle.rules.specs.Safety.{Free}
+use Rattle.rules.proofs.Basics.{absurd01}
 
 -- The number of an expression's node.
 abbrev pub numberᵉ : Expr → ℕ
@@ -94,9 +95,6 @@ pub number-at : (f : ℕ) (ns : List Node) (n : ℕ) → numberᵉ (exprAt f ns 
 unfolding predAt
 number-at zero ns n = refl
 number-at (suc f) ns n = number-of (kindAt ns n) n (nodeAt ns n) (λ m. predAt f ns m) (λ m. exprAt f ns m)
-
-absurd01 : {A : Type 0} → _≡_ {A = ℕ} 0 1 → A
-absurd01 e = absurd (omega arith)
 
 -- No kind is of both categories.
 one-category : {A : Type 0} → predicate ≡ expression → A

@@ -1,10 +1,10 @@
 -- The typing rules determine Check's answer: two verdicts on the same bytes and sheet length are the same, and so is the
 -- sheet at exit.
 use Prim.Native.Nat.{ℕ, zero, suc, _+_, _≤_, _<_}
-use mathlib.Core.List.{List, [], _∷_, _++_}
+use mathlib.Core.List.{List, _++_}
 use mathlib.Core.Option.{Option, none as nothing, some}
 use mathlib.Core.Path.{_≡_, refl, ap, ap₂, subst, sym}
-use mathlib.Core.Logic.{_⊎_, inl, inr}
+use mathlib.Core.Logic.{inl, inr}
 use native.Mathlib.Omega.{arith}
 use native.Mathlib.Decide.{decLt}
 use lib.ListN.{length}
@@ -16,9 +16,7 @@ use Rattle.rules.specs.Readable.{CategoryIs}
 use Rattle.rules.specs.Verdict.{placeOf, Place, Typing, Whole, AgreeAt, Only, typeLimit, Light}
 use Rattle.rules.specs.Verdict.{categoryRow, kindRow, rowsFrom, sheetOf, sheetLength}
 use Rattle.rules.specs.Verdict.{Verdict, unreadable, misfit, clash, several, heavy, accepts, sheetAfter}
-
-absurd01 : _≡_ {A = ℕ} 0 1 → ⊥
-absurd01 e = omega arith
+use Rattle.rules.proofs.Basics.{absurd01}
 
 -- A typing of some nodes is one of fewer.
 pub restrict : {tb : Table} {θ : ℕ → Ty} {k m : ℕ} → k ≤ m → Typing tb m θ → Typing tb k θ
@@ -60,7 +58,7 @@ sheetOf-same tb θ κ h = ap₂ _++_
     (λ n l. kindRow-same (kindAt (tb .nodes) n) _ _ (λ c. h (placeOf tb n) (inr (n, omega arith, c, refl)))))
 
 -- A reading gives one table, or none.
-one-table : {o : End Table} {tb tb′ : Table} → o ≡ done tb → o ≡ done tb′ → tb′ ≡ tb
+pub one-table : {o : End Table} {tb tb′ : Table} → o ≡ done tb → o ≡ done tb′ → tb′ ≡ tb
 one-table e f = cc
 
 read-or-not : {o : End Table} {tb : Table} {r p : ℕ} {A : Type 0} → o ≡ refused r p → o ≡ done tb → A

@@ -1,5 +1,5 @@
 -- Document 01, "Values and evaluation", first paragraph: the byte form of values, and the values buffer (refusal 14).
-use Prim.Native.Nat.{ℕ, zero, suc, _+_, _*_, _-_, _/_, _%_}
+use Prim.Native.Nat.{ℕ, zero, suc, _+_, _-_, _/_, _%_}
 use mathlib.Core.List.{List, [], _∷_, _++_}
 use mathlib.Core.Bool.{Bool, true, false, _&&_}
 use mathlib.Core.Option.{Option, none as nothing, some}
@@ -7,8 +7,7 @@ use lib.IntN.{ℤ, pos, negsuc}
 use lib.Signed.{mag}
 use lib.Dec.{eqb, leb, ltb}
 use lib.ListN.{getD, length, drop}
-use Rattle.rules.specs.Types.{whole}
-use Rattle.rules.specs.Values.{Scalar, num, truth, element, Value, scalar, pair, set, Values, none, _▸_, int, truthValue, tag, payload, weight, count, before}
+use Rattle.rules.specs.Values.{Scalar, num, truth, element, Value, scalar, pair, set, Values, none, _▸_, int, truthValue, tag, payload, weight, before}
 use Rattle.rules.specs.Fits.{typed}
 use Rattle.rules.specs.Tables.{wordAt, Table}
 use Rattle.rules.specs.Ends.{End, done, refused, _>>=_, require}

@@ -1,17 +1,16 @@
 -- Document 01, "Values and evaluation" and refusals 14 to 19: the value rules, and the whole of Evaluate.
-use Prim.Native.Nat.{ℕ, zero, suc}
+use Prim.Native.Nat.{ℕ}
 use mathlib.Core.List.{List, [], _∷_}
 use mathlib.Core.Bool.{Bool, true, false, not}
-use mathlib.Core.Option.{Option, none as nothing, some}
 use lib.ListN.{getD}
 use Rattle.rules.specs.Values.{Value, truthValue}
 use Rattle.rules.specs.Kinds.{Quant, forAll, forSome}
-use Rattle.rules.specs.Rules.{Rule, Pattern, testRule, oneRule, twoRule, quantRule, comprehensionRule}
+use Rattle.rules.specs.Rules.{Rule, testRule, oneRule, twoRule, quantRule, comprehensionRule}
 use Rattle.rules.specs.Fits.{fits}
 use Rattle.rules.specs.Tables.{Table, Pred, joinᵖ, notᵖ, testᵖ, quantᵖ, Expr, leafᵉ, boolᵉ, oneᵉ, twoᵉ, comprehensionᵉ, root}
 use Rattle.rules.specs.Reading.{reading}
 use Rattle.rules.specs.Cells.{valuesIn, noValue}
-use Rattle.rules.specs.Runs.{Run, M, lift, return, _>>=_, _>>_, demand, visit, form, _orElse_, Given, gives, lacks}
+use Rattle.rules.specs.Runs.{Run, M, lift, return, _>>=_, _>>_, demand, visit, form, _orElse_, gives}
 use Rattle.rules.specs.Operations.{Env, _with_≔_, decides, joined, holds, leafValue, oneValue, twoValue, elems, setOf}
 
 -- 15: some instance of the node's rule fits the operands.

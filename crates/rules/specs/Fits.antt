@@ -1,5 +1,4 @@
 -- Document 01: the types of a value ("Values and evaluation", first paragraph), and refusal 15 as a test on values.
-use Prim.Native.Nat.{ℕ}
 use mathlib.Core.List.{List, [], _∷_}
 use mathlib.Core.Bool.{Bool, true, false, _&&_, cond}
 use mathlib.Core.Path.{_≡_}

@@ -7,9 +7,9 @@ use lib.IntN.{ℤ, pos, negsuc, _+ℤ_, _-ℤ_}
 use lib.Signed.{leZ}
 use lib.Dec.{eqb}
 use lib.ListN.{getD, length}
-use Rattle.rules.specs.Types.{Number, whole}
-use Rattle.rules.specs.Values.{Scalar, num, truth, element, Value, scalar, pair, set, Values, none, _▸_, int, truthValue}
-use Rattle.rules.specs.Values.{members, values, count, payload, order, same}
+use Rattle.rules.specs.Types.{Number}
+use Rattle.rules.specs.Values.{num, element, Value, scalar, pair, set, none, int, truthValue}
+use Rattle.rules.specs.Values.{members, values, payload, order, same}
 use Rattle.rules.specs.Kinds.{Join, and, or, implies, iff, Test, equal, member, subset, atMost}
 use Rattle.rules.specs.Kinds.{Leaf, identifier, givenSet, elementOf, literal, truthConst, emptySet, boolSet}
 use Rattle.rules.specs.Kinds.{One, singleton, power, dom, ran, card, choice}

@@ -1,7 +1,7 @@
 -- What the layers above may rest on: the facts of a table that passes refusals 1 to 9. `reading-right` in
 -- proofs/ReadingLaws.antt says that `reading` passes exactly these.
 use Prim.Native.Nat.{ℕ, zero, suc, _≤_, _<_}
-use mathlib.Core.Bool.{Bool, true, false}
+use mathlib.Core.Bool.{Bool, false}
 use mathlib.Core.List.{List, [], _∷_}
 use mathlib.Core.Option.{Option, none as nothing, some}
 use mathlib.Core.Path.{_≡_}

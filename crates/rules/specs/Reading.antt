@@ -1,16 +1,15 @@
 -- Document 01, "Table of a condition" and refusals 1 to 9: which bytes are a readable table, and what is wrong with others.
-use Prim.Native.Nat.{ℕ, zero, suc, _+_, _*_, _-_, _≤_, _<_, max}
+use Prim.Native.Nat.{ℕ, zero, suc, _+_, _-_, max}
 use mathlib.Core.Bool.{Bool, true, false, not, _&&_, _||_, cond}
 use mathlib.Core.List.{List, [], _∷_}
 use mathlib.Core.Option.{Option, none as nothing, some}
-use mathlib.Core.Path.{_≡_}
 use lib.Dec.{eqb, leb, ltb}
 use lib.ListN.{getD, length}
 use Rattle.rules.specs.Kinds.{Kind, kindOf, Category, predicate, expression, categoryOf, isPredicate, isExpression}
 use Rattle.rules.specs.Kinds.{Field, unused, child, use-of, binder-of, setNumber, elementNumber, anyWord, truthBit, isChild, isBinder}
-use Rattle.rules.specs.Tables.{wordAt, Node, Table, tableOf, nodeAt, kindAt, fieldsAt, fieldsIf, fieldWords, held, heldIn, lastNode}
+use Rattle.rules.specs.Tables.{wordAt, Node, Table, tableOf, nodeAt, kindAt, fieldsAt, fieldWords, held, heldIn, lastNode}
 use Rattle.rules.specs.Tables.{givenCount, identifierCount, nodeCount, givensAt, identifiersAt, nodesAt, wholeLength}
-use Rattle.rules.specs.Ends.{End, done, refused, _>>=_, require, requireAll}
+use Rattle.rules.specs.Ends.{End, done, _>>=_, require, requireAll}
 
 -- 1: 32 bytes at least, and form 1.
 unfoldable pub headed : List ℕ → Bool

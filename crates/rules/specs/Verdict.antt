@@ -1,6 +1,6 @@
 -- Document 01, "Kinds and typing rules" and refusals 10 to 13: typings, the sheet, and Check's answer.
 use Prim.Native.Nat.{ℕ, zero, suc, _+_, _*_, _<_, _≤_}
-use mathlib.Core.List.{List, [], _∷_, _++_, map}
+use mathlib.Core.List.{List, [], _++_, map}
 use mathlib.Core.Option.{Option, none as nothing, some}
 use mathlib.Core.Path.{_≡_}
 use mathlib.Core.Logic.{_⊎_}
@@ -8,7 +8,7 @@ use lib.ListN.{length}
 use Rattle.rules.specs.Types.{Ty, weightᵀ, Declared, row, emptyRow}
 use Rattle.rules.specs.Kinds.{Kind, kindOf, Category, predicate, expression, categoryOf}
 use Rattle.rules.specs.Rules.{rule, Obeys}
-use Rattle.rules.specs.Tables.{Node, Table, nodeAt, kindAt, operands}
+use Rattle.rules.specs.Tables.{Table, nodeAt, kindAt, operands}
 use Rattle.rules.specs.Ends.{End, done, refused}
 use Rattle.rules.specs.Readable.{CategoryIs}
 use Rattle.rules.specs.Reading.{reading}

@@ -11,7 +11,7 @@ use Rattle.rules.specs.Values.{Value, Values, none, _▸_, members, values, cou
 use Rattle.rules.specs.Operations.{keptValue, setOf}
 use Rattle.arena.specs.Code.{cellSize, code, codes, Stands, ValueAt, Same, Copied, SetBelow, SomeSet, Made, Front}
 use Rattle.arena.proofs.CodeLaws.{length-codes}
-use Rattle.arena.proofs.Standing.{stands-append, stands-frame, copied-stands, same-refl, same-trans, count-weights}
+use Rattle.arena.proofs.Standing.{stands-append, stands-frame, copied-stands, same-refl, same-trans}
 use Rattle.arena.proofs.FrontLaws.{codes-append, count-append, weights-append, single, values-members, front-start, front-frame}
 use Rattle.sets.specs.declared.Turn.{Turn}
 use Rattle.sets.specs.declared.Out.{Out}
@@ -22,6 +22,7 @@ use Rattle.sets.specs.Fronts.{keepOf, firstOf, restLeft, restRight, Turn
 use Rattle.sets.specs.Fronts.{Merging, StepPre, Stepped, GoesOn, RestOf, EndPre, Ended}
 use Rattle.sets.proofs.MergedLaws.{merged-nil, merged-less, merged-equal, merged-greater}
 use Rattle.sets.proofs.TurnLaws.{two-fronts, turn-fewer}
+use Rattle.rules.proofs.CellsLaws.{count-weights}
 
 -- `put`
 

@@ -15,9 +15,10 @@ use Rattle.rules.proofs.OrderLaws.{Small, flip, order-flip, order-trans, order-
 use Rattle.rules.proofs.SetOrder.{All, Before}
 use Rattle.arena.specs.Code.{cellSize, scalarLow, code, codes, ValueAt, ScalarFits, CellsFit, AllFit, orderCode, SomeAt, EndsAt, Compared, SetBelow, ValueBelow, Front, AllPairs}
 use Rattle.arena.proofs.CodeLaws.{length-code, fits-small}
-use Rattle.arena.proofs.Standing.{stands-head, stands-tail, stands-front, stands-back, weight-pos}
+use Rattle.arena.proofs.Standing.{stands-head, stands-tail, stands-front, stands-back}
 use Rattle.arena.proofs.FrontLaws.{rises-rising, front-start, front-value, front-next, front-some, code-less, code-equal, code-greater}
 use Rattle.sets.specs.Fronts.{LeftCompared, ImageAt}
+use Rattle.rules.proofs.CellsLaws.{weight-some}
 
 -- The parts of a pair.
 module _ (s : List ℕ) (i : ℕ) (a b : Value) (h : ValueAt s i (pair a b)) where
@@ -34,7 +35,7 @@ module _ (s : List ℕ) (i : ℕ) (a b : Value) (h : ValueAt s i (pair a b)) whe
   pair-right = rw (← length-code a) (stands-back s (i + 1) (code a) (code b) (stands-tail s i (4 * cellSize) (code a ++ code b) h))
 
 pub some-inside : (s : List ℕ) (at : ℕ) → SomeAt s at → at < length s
-some-inside s at h = omega (arith, h .stands .inside, length-code (h .value), weight-pos (h .value))
+some-inside s at h = omega (arith, h .stands .inside, length-code (h .value), weight-some (h .value))
 
 -- The first cell of a value.
 scalar-cell : (s : List ℕ) (i : ℕ) (x : Scalar) → ValueAt s i (scalar x) → getD s i 0 ≡ scalarTag x * cellSize + scalarLow x

@@ -3,7 +3,7 @@ use Prim.Native.Nat.{Ordering, Ordering·lt, Ordering·eq, Ordering·gt}
 use mathlib.Core.Bool.{Bool, true, false, cond, not}
 use mathlib.Core.List.{List, [], _∷_, _++_}
 use mathlib.Core.Path.{_≡_, refl, sym, ap, _∙_, subst}
-use Rattle.rules.specs.Values.{Value, order, before}
+use Rattle.rules.specs.Values.{Value, order}
 use Rattle.rules.specs.Operations.{keptValue, insert, rising, isIn, keep}
 use Rattle.rules.proofs.OrderLaws.{Small, flip, order-refl, order-flip, order-eq, before-order, order-before, before-trans}
 use Rattle.rules.proofs.SetOrder.{All, Before, Rising, all-imp}

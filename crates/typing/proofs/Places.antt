@@ -1,19 +1,16 @@
 -- Places and their variables: a place below I + k has a variable below base k, and its type is that variable's.
-use Prim.Native.Nat.{ℕ, zero, suc, _+_, _-_, _<_}
+use Prim.Native.Nat.{ℕ, _+_, _-_, _<_}
 use mathlib.Core.Bool.{false}
-use mathlib.Core.List.{List, _++_}
 use mathlib.Core.Logic.{inl, inr}
-use mathlib.Core.Option.{Option, none as nothing, some}
-use mathlib.Core.Path.{_≡_, refl, sym, ap, ap₂, _∙_, subst}
+use mathlib.Core.Path.{_≡_, refl, sym, ap, _∙_, subst}
 use native.Mathlib.Decide.{decLt}
 use native.Mathlib.Omega.{arith}
 use lib.Dec.{T, ltb}
 use lib.ListN.{length}
-use Rattle.rules.specs.Types.{Ty, row}
-use Rattle.rules.specs.Kinds.{Kind, Category, predicate, expression, categoryOf}
+use Rattle.rules.specs.Types.{Ty}
+use Rattle.rules.specs.Kinds.{expression}
 use Rattle.rules.specs.Tables.{Table, kindAt}
-use Rattle.rules.specs.Readable.{CategoryIs}
-use Rattle.rules.specs.Verdict.{placeOf, Place, categoryRow, kindRow, rowsFrom, sheetOf}
+use Rattle.rules.specs.Verdict.{placeOf, Place}
 use Rattle.rules.proofs.ReadingLaws.{categoryIs-right}
 use Rattle.typing.specs.Equations.{base, back}
 use Rattle.typing.specs.Model.{isPlace}
@@ -81,26 +78,3 @@ module _ (tb : Table) where
   place-isPlace p (inr (n, h, k, e)) =
       let m : p - length (tb .binds) ≡ n = omega arith in
       rw (not-less p (length (tb .binds)) (omega arith), m) (categoryIs-right expression (kindAt (tb .nodes) n) .1 k)
-
--- ---- the sheet holds the types of the places only
-category-row : (c : Category) (t u : Ty) → (c ≡ expression → t ≡ u) → categoryRow c t ≡ categoryRow c u
-category-row predicate t u h = refl
-category-row expression t u h = rw (h refl) refl
-
-kind-row : (o : Option Kind) (t u : Ty) → (CategoryIs expression o → t ≡ u) → kindRow o t ≡ kindRow o u
-kind-row nothing t u h = refl
-kind-row (some k) t u h = category-row (categoryOf k) t u h
-
-rows-same : (r s : ℕ → List ℕ) (i n : ℕ) → ((j : ℕ) → j < i + n → r j ≡ s j) → rowsFrom r i n ≡ rowsFrom s i n
-unfolding rowsFrom
-rows-same r s i zero h = refl
-rows-same r s i (suc n) h = ap₂ _++_ (h i (omega arith)) (rows-same r s (suc i) n (λ j l. h j (omega arith)))
-
-pub sheet-same : (tb : Table) (θ κ : ℕ → Ty) → ((p : ℕ) → Place tb p → θ p ≡ κ p) → sheetOf tb θ ≡ sheetOf tb κ
-unfolding sheetOf
-sheet-same tb θ κ h = ap₂ _++_
-    (rows-same (λ x. row (θ x)) (λ x. row (κ x)) 0 (length (tb .binds)) (λ x l. ap row (h x (inl (omega arith)))))
-    (rows-same (λ n. kindRow (kindAt (tb .nodes) n) (θ (placeOf tb n))) (λ n. kindRow (kindAt (tb .nodes) n) (κ (placeOf tb n))) 0
-    (length (tb .nodes))
-    (λ n l. kind-row (kindAt (tb .nodes) n) (θ (placeOf tb n)) (κ (placeOf tb n))
-    (λ e. h (placeOf tb n) (inr (n, omega arith, e, refl)))))

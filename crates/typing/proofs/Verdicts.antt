@@ -2,7 +2,7 @@
 -- of the refusals 11 to 13, and one for acceptance.
 use Prim.Native.Nat.{ℕ, suc, _+_, _≤_, _<_}
 use mathlib.Core.List.{List}
-use mathlib.Core.Path.{_≡_, refl, sym, _∙_, subst}
+use mathlib.Core.Path.{_≡_, sym, _∙_, subst}
 use native.Mathlib.Omega.{arith}
 use lib.ListN.{length, getD}
 use Rattle.rules.specs.Types.{Ty, weightᵀ, Declared, INTEGER}
@@ -18,7 +18,8 @@ use Rattle.typing.specs.Equations.{base, shapeAt, equations, RightNodes,
 use Rattle.typing.specs.Places.{placeCount, placeVar}
 use Rattle.typing.proofs.ProblemLaws.{well-formed}
 use Rattle.typing.proofs.EquationsLaws.{typing→solves, solves→typing}
-use Rattle.typing.proofs.Places.{place-below, var-below, back-at, types-at, sheet-same}
+use Rattle.typing.proofs.Places.{place-below, var-below, back-at, types-at}
+use Rattle.rules.proofs.VerdictLaws.{sheetOf-same}
 
 -- The nodes of a table that was read hold what their kinds say.
 pub right-nodes : (bs : List ℕ) (tb : Table) → reading bs ≡ done tb → RightNodes tb
@@ -124,6 +125,6 @@ module _ {bs : List ℕ} {room : ℕ} {tb : Table} (e : reading bs ≡ done tb) 
       pub accepts-verdict : ((p : ℕ) → Place tb p → weightᵀ (s .first (placeVar tb p)) ≤ typeLimit) →
           (θ : ℕ → Ty) → ((p : ℕ) → Place tb p → θ p ≡ s .first (placeVar tb p)) → Verdict bs room (done (sheetOf tb θ))
       accepts-verdict light θ same =
-          rw (sheet-same tb θ (backWhole tb (s .first)) (λ p w. same p w ∙ sym (back-place tb (s .first) p w)))
+          rw (sheetOf-same tb θ (backWhole tb (s .first)) (λ p w. same p w ∙ sym (back-place tb (s .first) p w)))
           (accepts e fits (only-first tb (right-nodes bs tb e) cls mark s g)
           (λ p w. rw (back-place tb (s .first) p w) (light p w)))

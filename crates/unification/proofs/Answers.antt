@@ -13,7 +13,7 @@ use Rattle.unification.specs.Problem.{Shape, Eqn, Holds, Solves, atomFro
 use Rattle.unification.specs.Arrays.{shapeAt, Arrays, equations, ClassArrays}
 use Rattle.unification.specs.Solved.{Solved, Answer}
 use Rattle.unification.specs.Rows.{Determined}
-use Rattle.unification.proofs.Rows.{length-prefix}
+use Rattle.rules.proofs.TypeLaws.{prefix-length}
 
 pub holds-each : (θ : ℕ → Ty) (lhs rhs : List ℕ) (m : ℕ) → Holds θ (equations lhs rhs m) → (i : ℕ) → i < m → θ (getD lhs i 0) ≡ θ (getD rhs i 0)
 holds-each θ lhs rhs zero h i l = absurd (not-suc-le-zero l)
@@ -53,4 +53,4 @@ solved-arrays {kind} {left} {right} {n} {es} {cls} {mark} a e s = record { array
 
 -- what `write_type` leaves, in three parts
 pub written-parts : (t : Ty) (sheet : List ℕ) (at : ℕ) → at + weightᵀ t ≤ length sheet → sets sheet at (prefix t) ≡ take at sheet ++ prefix t ++ drop (at + weightᵀ t) sheet
-written-parts t sheet at h = rw (← length-prefix t) (sets-eq (prefix t) sheet at (omega (arith, length-prefix t)))
+written-parts t sheet at h = rw (← prefix-length t) (sets-eq (prefix t) sheet at (omega (arith, prefix-length t)))

@@ -1,14 +1,15 @@
 -- The join of two shapes: what their being one class says of the parts.
-use mathlib.Core.Path.{_≡_, refl, ap}
+use mathlib.Core.Path.{_≡_, refl}
 use mathlib.Core.Logic.{_↔_}
 use mathlib.Core.Bool.{Bool, true, false}
 use mathlib.Core.List.{[]}
 use Prim.Native.Nat.{ℕ}
-use native.Mathlib.Omega.{arith}
 use lib.Dec.{T, eqb→eq, eqb-refl}
-use Rattle.rules.specs.Types.{whole, Atom, number, bool, given, Ty, atomCode}
+use Rattle.rules.specs.Types.{Atom, Ty, atomCode}
 use Rattle.unification.specs.Problem.{Shape, unknown, leaf, power, product, Matches, Holds}
 use Rattle.unification.specs.Model.{Join, clash, joined, sameAtom, join-leaf, join}
+use Rattle.rules.proofs.TypeLaws.{atomCode-injective}
+use Rattle.rules.proofs.Basics.{absurd01}
 
 -- the shape of the joined class: b's, unless that is unknown
 abbrev pub top : Shape → Shape → Shape
@@ -22,23 +23,9 @@ abbrev pub JoinOk : (ℕ → Ty) → Shape → Shape → Ty → Join → Type 0
 JoinOk θ a b t clash = Matches θ a t → Matches θ b t → ⊥
 JoinOk θ a b t (joined es) = (Matches θ a t × Matches θ b t) ↔ (Matches θ (top a b) t × Holds θ es)
 
-absurd01 : _≡_ {A = ℕ} 0 1 → ⊥
-absurd01 z = omega arith
-
-code-injective : (a b : Atom) → atomCode a ≡ atomCode b → a ≡ b
-code-injective (number whole) (number whole) e = refl
-code-injective (number whole) bool e = absurd (omega arith)
-code-injective (number whole) (given g) e = absurd (omega arith)
-code-injective bool (number whole) e = absurd (omega arith)
-code-injective bool bool e = refl
-code-injective bool (given g) e = absurd (omega arith)
-code-injective (given g) (number whole) e = absurd (omega arith)
-code-injective (given g) bool e = absurd (omega arith)
-code-injective (given g) (given h) e = ap given (omega arith)
-
 join-leaf-ok : (θ : ℕ → Ty) (a b : Atom) (t : Ty) (d : Bool) → sameAtom a b ≡ d → JoinOk θ (leaf a) (leaf b) t (join-leaf d)
 join-leaf-ok θ a b t true e =
-    let ab : a ≡ b = code-injective a b (eqb→eq (atomCode a) (atomCode b) (rw e tt)) in ((λ h. (h .1, tt)), (λ h. (cc, h .0)))
+    let ab : a ≡ b = atomCode-injective a b (eqb→eq (atomCode a) (atomCode b) (rw e tt)) in ((λ h. (h .1, tt)), (λ h. (cc, h .0)))
 join-leaf-ok θ a b t false e = λ p q. let ab : a ≡ b = cc in let w : T (sameAtom a b) = rw ab (eqb-refl (atomCode b)) in rw e at w
 
 join-unknown-ok : (θ : ℕ → Ty) (b : Shape) (t : Ty) → JoinOk θ unknown b t (joined [])

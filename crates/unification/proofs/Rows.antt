@@ -5,8 +5,8 @@ use mathlib.Core.List.{List, [], _∷_, _++_}
 use Prim.Native.Nat.{ℕ, zero, suc, _+_, _-_, _≤_, _<_}
 use native.Mathlib.Omega.{arith}
 use native.Mathlib.Nat.{add-zero}
-use native.Mathlib.Numerals.{add-one, one-add}
-use lib.ListN.{length, getD, set, length-append}
+use native.Mathlib.Numerals.{add-one}
+use lib.ListN.{length, getD, set}
 use lib.Seq.{sets}
 use Rattle.rules.specs.Types.{Ty, atom, POW, _⊗_, weightᵀ, prefix}
 use Rattle.unification.specs.Problem.{Shape, Matches, atomFrom, shapeOf}
@@ -15,16 +15,12 @@ use Rattle.unification.specs.Marks.{statusOf, markOf}
 use Rattle.unification.specs.Rows.{Determined, Weighed, codeOf, Put, Written}
 use Rattle.unification.proofs.Stack.{any-default, code-of}
 use Rattle.unification.proofs.Marking.{parts-left, parts-right}
+use Rattle.rules.proofs.TypeLaws.{prefix-length}
 
 pub weight-pos : (t : Ty) → 1 ≤ weightᵀ t
 weight-pos (atom a) = omega arith
 weight-pos (POW t) = omega arith
 weight-pos (t ⊗ u) = omega arith
-
-pub length-prefix : (t : Ty) → length (prefix t) ≡ weightᵀ t
-length-prefix (atom a) = refl
-length-prefix (POW t) = sym (one-add (length (prefix t))) ∙ ap (λ (k : ℕ). 1 + k) (length-prefix t)
-length-prefix (t ⊗ u) = omega (arith, length-append (prefix t) (prefix u), length-prefix t, length-prefix u)
 
 sets-append : (l : List ℕ) (i : ℕ) (xs ys : List ℕ) → sets l i (xs ++ ys) ≡ sets (sets l i xs) (i + length xs) ys
 sets-append l i [] ys = rw (add-zero i)
@@ -44,7 +40,7 @@ put-product : (sheet : List ℕ) (at end nx r : ℕ) (mid after : List ℕ) (x :
 put-product sheet at end nx r mid after x t u xe p q f =
     let y = p (omega arith) in
     let z = q (omega (arith, y .0)) in
-    let n : nx ≡ suc at + length (prefix t) = omega (arith, y .0, length-prefix t) in
+    let n : nx ≡ suc at + length (prefix t) = omega (arith, y .0, prefix-length t) in
     let m : mid ≡ sets (set sheet at 4) (suc at) (prefix t) = y .1 ∙ rw (xe, add-one at) in
     (omega (arith, y .0, z .0), z .1 ∙ rw (n, m) (sym (sets-append (set sheet at 4) (suc at) (prefix t) (prefix u))))
 

@@ -3,9 +3,6 @@ use lib.ListN.{length}
 use borrow.Author.Needs.{needs}
 use Rattle.answers.proofs.all_cases.Statement.{statement}
 use Rattle.answers.proofs.all_cases.Tie as tie
-use Rattle.answers.proofs.all_cases.Reads as reads
-use Rattle.answers.proofs.all_cases.Lts as lts
-use Rattle.answers.proofs.next_case.Reads as next-case-reads
 
 abbrev Inv-loop : tie.InvT-loop
 Inv-loop table₀ values₀ sheet₀ turns₀ table values sheet turns = (length table ≡ length table₀) × (length values ≡ length values₀) × (length sheet ≡ length sheet₀)

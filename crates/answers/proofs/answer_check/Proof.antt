@@ -3,11 +3,6 @@ use lib.Seq.{length-take-le}
 use borrow.Author.Needs.{needs}
 use Rattle.answers.proofs.answer_check.Statement.{statement}
 use Rattle.answers.proofs.answer_check.Tie as tie
-use Rattle.answers.proofs.answer_check.Reads as reads
-use Rattle.answers.proofs.answer_check.Lts as lts
-use Rattle.answers.proofs.check_case.Reads as check-case-reads
-use Rattle.answers.proofs.next_bytes.Reads as next-bytes-reads
-use Rattle.answers.proofs.stop.Reads as stop-reads
 
 next-bytes-requires : tie.Need-next-bytes-requires
 next-bytes-requires c κs = search needs

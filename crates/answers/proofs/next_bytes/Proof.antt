@@ -9,9 +9,6 @@ use Rattle.io.specs.Counts.{Counts}
 use Rattle.io.proofs.Counting.{counts}
 use Rattle.answers.proofs.next_bytes.Statement.{statement}
 use Rattle.answers.proofs.next_bytes.Tie as tie
-use Rattle.answers.proofs.next_bytes.Reads as reads
-use Rattle.answers.proofs.next_bytes.Lts as lts
-use Rattle.io.proofs.read_full.Reads as read-full-reads
 
 -- What counts bytes at the start of a part counts them in the whole.
 counts-append : (n : ℕ) (xs ys : List ℕ) → n ≤ length xs → Counts n (xs ++ ys)

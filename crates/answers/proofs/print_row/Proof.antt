@@ -3,11 +3,6 @@ use lib.ListN.{length}
 use borrow.Author.Needs.{needs}
 use Rattle.answers.proofs.print_row.Statement.{statement}
 use Rattle.answers.proofs.print_row.Tie as tie
-use Rattle.answers.proofs.print_row.Reads as reads
-use Rattle.answers.proofs.print_row.Lts as lts
-use Rattle.answers.proofs.say.Reads as say-reads
-use Rattle.answers.proofs.wide.Reads as wide-reads
-use Rattle.io.proofs.print_hex.Reads as print-hex-reads
 
 abbrev Inv-loop : tie.InvT-loop
 Inv-loop row i₀ t5 i = i ≤ length row

@@ -2,10 +2,6 @@ use Prim.Native.Nat.{_≤_, _-_}
 use borrow.Author.Needs.{needs}
 use Rattle.answers.proofs.print_rows.Statement.{statement}
 use Rattle.answers.proofs.print_rows.Tie as tie
-use Rattle.answers.proofs.print_rows.Reads as reads
-use Rattle.answers.proofs.print_rows.Lts as lts
-use Rattle.answers.proofs.print_row.Reads as print-row-reads
-use Rattle.answers.proofs.say.Reads as say-reads
 
 abbrev Inv-loop : tie.InvT-loop
 Inv-loop sheet count p₀ p = p ≤ count

@@ -3,8 +3,6 @@ use mathlib.Core.Path.{sym}
 use lib.ListN.{length-replicate}
 use Rattle.answers.proofs.sheet_room.Statement.{statement}
 use Rattle.answers.proofs.sheet_room.Tie as tie
-use Rattle.answers.proofs.sheet_room.Reads as reads
-use Rattle.answers.proofs.sheet_room.Lts as lts
 
 returns : tie.Need-returns
 returns c = sym (length-replicate {A = ℕ} 1048576 0)

@@ -1,14 +1,9 @@
-use borrow.Author.Needs.{needs}
-use Prim.Native.Nat.{_+_, _*_, _-_, _≤_, _<_}
+use Prim.Native.Nat.{_-_, _≤_}
 use native.Mathlib.Omega.{arith}
-use mathlib.Core.Path.{_≡_, refl, sym, ap, _∙_}
-use lib.ListN.{length, getD}
 use denote.Ref.{now}
 use Rattle.arena.proofs.Standing.{Agree, end-above, first-inside, second-inside, found-less, found-greater, found-equal, agree-next}
 use Rattle.arena.proofs.compare.Statement.{statement}
 use Rattle.arena.proofs.compare.Tie as tie
-use Rattle.arena.proofs.compare.Reads as reads
-use Rattle.arena.proofs.compare.Lts as lts
 
 abbrev Inv-loop : tie.InvT-loop
 Inv-loop s a end b n i₀ i = (i ≤ n) × Agree s a b i

@@ -1,15 +1,9 @@
-use borrow.Author.Needs.{needs}
-use Prim.Native.Nat.{_+_, _*_, _-_, _≤_, _<_}
+use Prim.Native.Nat.{_-_, _≤_}
 use native.Mathlib.Omega.{arith}
-use mathlib.Core.Path.{_≡_, refl, sym, ap, _∙_}
-use lib.ListN.{length, getD}
-use denote.Ref.{now}
 use Rattle.arena.specs.Code.{Copied}
 use Rattle.arena.proofs.Standing.{copied-start, copied-step, copied-end}
 use Rattle.arena.proofs.copy.Statement.{statement}
 use Rattle.arena.proofs.copy.Tie as tie
-use Rattle.arena.proofs.copy.Reads as reads
-use Rattle.arena.proofs.copy.Lts as lts
 
 abbrev Inv-loop : tie.InvT-loop
 Inv-loop s₀ from n to i₀ s i = (i ≤ n) × Copied s₀ from i to s

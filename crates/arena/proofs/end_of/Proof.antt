@@ -8,9 +8,6 @@ use Rattle.rules.specs.Values.{Value, weight}
 use Rattle.arena.proofs.Standing.{Pending, pending-start, pending-step, pending-inside, pending-end}
 use Rattle.arena.proofs.end_of.Statement.{statement}
 use Rattle.arena.proofs.end_of.Tie as tie
-use Rattle.arena.proofs.end_of.Reads as reads
-use Rattle.arena.proofs.end_of.Lts as lts
-use Rattle.arena.proofs.parts.Reads as parts-reads
 
 abbrev Inv-loop : tie.InvT-loop
 Inv-loop s at i₀ left₀ i left = (v : Value) → ValueAt s at v → CellsFit v → Pending s i left (at + weight v)

@@ -1,19 +1,10 @@
 use native.Mathlib.Omega.{arith}
-use mathlib.Core.Path.{_≡_, refl, sym, ap, _∙_}
 use denote.Ref.{now}
 use Rattle.rows.proofs.Scan.{count-places}
 use Rattle.checker.proofs.Telling.{told-open, told-heavy, told-accepted, determined}
 use borrow.Author.Needs.{needs}
 use Rattle.checker.proofs.answer.Statement.{statement}
 use Rattle.checker.proofs.answer.Tie as tie
-use Rattle.checker.proofs.answer.Reads as reads
-use Rattle.checker.proofs.answer.Lts as lts
-use Rattle.checker.proofs.refused.Reads as refused-reads
-use Rattle.rows.proofs.first_heavy.Reads as first-heavy-reads
-use Rattle.rows.proofs.first_open.Reads as first-open-reads
-use Rattle.rows.proofs.write_rows.Reads as write-rows-reads
-use Rattle.table.proofs.identifiers.Reads as identifiers-reads
-use Rattle.table.proofs.nodes.Reads as nodes-reads
 
 identifiers-requires : tie.Need-identifiers-requires
 identifiers-requires c κs = search needs

@@ -1,19 +1,12 @@
 use native.Mathlib.Omega.{arith}
-use mathlib.Core.Path.{_≡_, refl, sym, ap, _∙_}
+use mathlib.Core.Path.{sym, ap, _∙_}
 use denote.Ref.{now}
 use Rattle.reading.specs.Answers.{readingOf}
 use Rattle.checker.specs.declared.Checked.the-variants.{Refused}
-use Rattle.checker.proofs.Telling.{told-final, told-unreadable, passed-reads, passed-long, passed-few, told-misfit, checkable}
+use Rattle.checker.proofs.Telling.{told-final, told-unreadable, passed-long, passed-few, told-misfit, checkable}
 use borrow.Author.Needs.{needs}
 use Rattle.checker.proofs.check.Statement.{statement}
 use Rattle.checker.proofs.check.Tie as tie
-use Rattle.checker.proofs.check.Reads as reads
-use Rattle.checker.proofs.check.Lts as lts
-use Rattle.checker.proofs.check_types.Reads as check-types-reads
-use Rattle.checker.proofs.refused.Reads as refused-reads
-use Rattle.table.proofs.identifiers.Reads as identifiers-reads
-use Rattle.table.proofs.nodes.Reads as nodes-reads
-use Rattle.reading.proofs.read.Reads as read-reads
 
 read-requires : tie.Need-read-requires
 read-requires c κs = search needs

@@ -1,7 +1,8 @@
 use Prim.Native.Nat.{_-_, _≤_}
 use native.Mathlib.Omega.{arith}
 use Rattle.conforms.specs.Rows.{Blank}
-use Rattle.conforms.proofs.RowLaws.{refuses, agrees, blank-none, blank-more, blank-end}
+use Rattle.conforms.proofs.RowLaws.{agrees, blank-none, blank-more, blank-end}
+use Rattle.fitting.proofs.Types.{refuses}
 use Rattle.conforms.proofs.blank.Statement.{statement}
 use Rattle.conforms.proofs.blank.Tie as tie
 

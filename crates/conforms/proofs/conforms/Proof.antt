@@ -1,8 +1,9 @@
 use borrow.Author.Needs.{needs}
-use Rattle.conforms.proofs.NameLaws.{reading-passed, no-reading}
+use Rattle.conforms.proofs.NameLaws.{no-reading}
 use Rattle.conforms.proofs.ConformingLaws.{conforming-is}
 use Rattle.conforms.proofs.conforms.Statement.{statement}
 use Rattle.conforms.proofs.conforms.Tie as tie
+use Rattle.reading.proofs.Promise.{read-readable}
 
 read-requires : tie.Need-read-requires
 read-requires c κs = search needs
@@ -14,7 +15,7 @@ enum-told-2 : tie.Need-enum-told-2
 enum-told-2 c = search needs
 
 conforms-readable-requires : tie.Need-conforms-readable-requires
-conforms-readable-requires c κs = reading-passed _ _ (c .before .before .read .ensures) (c .enum-told2 .given .1)
+conforms-readable-requires c κs = read-readable _ _ (c .before .before .read .ensures) (c .enum-told2 .given .1)
 
 returns : tie.Need-returns
 returns c = conforming-is _ _ _ _ (no-reading _ _ _ _ _ (c .before .before .read .ensures) (c .enum-told .given .1))

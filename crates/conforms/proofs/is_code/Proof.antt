@@ -1,5 +1,6 @@
 use mathlib.Core.Logic.{inl, inr}
-use Rattle.conforms.proofs.RowLaws.{agrees, refuses, no-code, code-test}
+use Rattle.conforms.proofs.RowLaws.{agrees, no-code, code-test}
+use Rattle.fitting.proofs.Types.{refuses}
 use Rattle.conforms.proofs.is_code.Statement.{statement}
 use Rattle.conforms.proofs.is_code.Tie as tie
 use native.Mathlib.Omega.{arith}

@@ -4,7 +4,8 @@ use native.Mathlib.Omega.{arith}
 use lib.ListN.{getD}
 use borrow.Author.Needs.{needs}
 use borrow.Author.Tests.{not-true, not-false}
-use Rattle.conforms.proofs.RowLaws.{refuses, decided-no, Begun, begun-start, begun-step, begun-goes, begun-end, parts-most}
+use Rattle.conforms.proofs.RowLaws.{decided-no, Begun, begun-start, begun-step, begun-goes, begun-end, parts-most}
+use Rattle.fitting.proofs.Types.{refuses}
 use Rattle.conforms.proofs.is_row.Statement.{statement}
 use Rattle.conforms.proofs.is_row.Tie as tie
 

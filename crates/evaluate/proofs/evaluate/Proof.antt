@@ -1,8 +1,9 @@
 -- `evaluate`: refusals 1 to 9, or the evaluation of a readable table.
 use borrow.Author.Needs.{needs}
-use Rattle.evaluate.proofs.EntryLaws.{unread-reported, read-readable}
+use Rattle.evaluate.proofs.EntryLaws.{unread-reported}
 use Rattle.evaluate.proofs.evaluate.Statement.{statement}
 use Rattle.evaluate.proofs.evaluate.Tie as tie
+use Rattle.reading.proofs.Promise.{read-readable}
 
 read-requires : tie.Need-read-requires
 read-requires c κs = search needs

@@ -5,11 +5,6 @@ use borrow.Author.Tests.{not-true, not-false}
 use Rattle.falgrumi.proofs.Guarding.{check-accepted, check-refused, alike, unlike, guarded}
 use Rattle.falgrumi.proofs.checked_evaluation.Statement.{statement}
 use Rattle.falgrumi.proofs.checked_evaluation.Tie as tie
-use Rattle.falgrumi.proofs.checked_evaluation.Reads as reads
-use Rattle.falgrumi.proofs.checked_evaluation.Lts as lts
-use Rattle.checker.proofs.check.Reads as check-reads
-use Rattle.conforms.proofs.conforms.Reads as conforms-reads
-use Rattle.evaluate.proofs.evaluate.Reads as evaluate-reads
 
 check-requires : tie.Need-check-requires
 check-requires c κs = search needs

@@ -9,9 +9,6 @@ use Rattle.falgrumi.proofs.Numbers.{number-answered}
 use borrow.Author.Needs.{needs}
 use Rattle.falgrumi.proofs.falgrumi_check.Statement.{statement}
 use Rattle.falgrumi.proofs.falgrumi_check.Tie as tie
-use Rattle.falgrumi.proofs.falgrumi_check.Reads as reads
-use Rattle.falgrumi.proofs.falgrumi_check.Lts as lts
-use Rattle.checker.proofs.check.Reads as check-reads
 
 check-requires : tie.Need-check-requires
 check-requires c κs = search needs

@@ -4,10 +4,6 @@ use borrow.Author.Needs.{needs}
 use Rattle.falgrumi.proofs.Numbers.{decided-told, refused-told}
 use Rattle.falgrumi.proofs.falgrumi_evaluate.Statement.{statement}
 use Rattle.falgrumi.proofs.falgrumi_evaluate.Tie as tie
-use Rattle.falgrumi.proofs.falgrumi_evaluate.Reads as reads
-use Rattle.falgrumi.proofs.falgrumi_evaluate.Lts as lts
-use Rattle.evaluate.proofs.evaluate.Reads as evaluate-reads
-use Rattle.falgrumi.proofs.truth_byte.Reads as truth-byte-reads
 
 evaluate-requires : tie.Need-evaluate-requires
 evaluate-requires c κs = search needs

@@ -5,13 +5,6 @@ use lib.Seq.{length-take-le}
 use borrow.Author.Needs.{needs}
 use Rattle.listing.proofs.list.Statement.{statement}
 use Rattle.listing.proofs.list.Tie as tie
-use Rattle.listing.proofs.list.Reads as reads
-use Rattle.listing.proofs.list.Lts as lts
-use Rattle.checker.proofs.check.Reads as check-reads
-use Rattle.listing.proofs.identifiers_of.Reads as identifiers-of-reads
-use Rattle.listing.proofs.places.Reads as places-reads
-use Rattle.listing.proofs.print_refusal.Reads as print-refusal-reads
-use Rattle.listing.proofs.print_rows.Reads as print-rows-reads
 
 places-requires : tie.Need-places-requires
 places-requires c κs = search needs

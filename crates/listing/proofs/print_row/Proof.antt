@@ -1,14 +1,8 @@
 use borrow.Author.Needs.{needs}
-use Prim.Native.Nat.{_+_, _*_, _≤_, _-_}
-use native.Mathlib.Omega.{arith}
+use Prim.Native.Nat.{_≤_, _-_}
 use lib.ListN.{length}
 use Rattle.listing.proofs.print_row.Statement.{statement}
 use Rattle.listing.proofs.print_row.Tie as tie
-use Rattle.listing.proofs.print_row.Reads as reads
-use Rattle.listing.proofs.print_row.Lts as lts
-use Rattle.io.proofs.print_hex.Reads as print-hex-reads
-use Rattle.io.proofs.write_all.Reads as write-all-reads
-use Rattle.listing.proofs.wide.Reads as wide-reads
 
 abbrev Inv-loop : tie.InvT-loop
 Inv-loop row i₀ t4 i = i ≤ length row

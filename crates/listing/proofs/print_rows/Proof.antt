@@ -1,13 +1,7 @@
 use borrow.Author.Needs.{needs}
-use Prim.Native.Nat.{_+_, _*_, _≤_, _-_}
-use native.Mathlib.Omega.{arith}
-use lib.ListN.{length}
+use Prim.Native.Nat.{_≤_, _-_}
 use Rattle.listing.proofs.print_rows.Statement.{statement}
 use Rattle.listing.proofs.print_rows.Tie as tie
-use Rattle.listing.proofs.print_rows.Reads as reads
-use Rattle.listing.proofs.print_rows.Lts as lts
-use Rattle.io.proofs.write_all.Reads as write-all-reads
-use Rattle.listing.proofs.print_place.Reads as print-place-reads
 
 abbrev Inv-loop : tie.InvT-loop
 Inv-loop count identifiers sheet p₀ t7 p = p ≤ count

@@ -1,6 +1,6 @@
 -- `run`: cells that follow one another, behind the cell of their set.
 use borrow.Author.Needs.{needs}
-use Prim.Native.Nat.{ℕ, _+_, _*_, _-_, _≤_, _<_}
+use Prim.Native.Nat.{_-_}
 use native.Mathlib.Omega.{arith}
 use Rattle.products.proofs.GrowLaws.{Running, running-start, running-inside, running-next, running-end}
 use Rattle.products.proofs.run.Statement.{statement}

@@ -1,0 +1,127 @@
+//! stack [COUNT]: the most stack that Check and Evaluate were seen to take, over tall tables made by hand and COUNT generated
+//! cases (5,000). The stack below the caller is painted, and after the call the lowest byte that has changed is looked for.
+
+use reference::build::Draft;
+use reference::generate::{Class, Generator};
+use reference::kinds::Kind;
+use reference::values::{pair, set, Value};
+
+const PAINT: u8 = 0xA5;
+/// How far below the caller the stack is painted, and how much below it is left to the painting itself.
+const DEPTH: usize = 1 << 20;
+const NEAR: usize = 4096;
+
+/// The bytes of stack that `run` takes below this function's frame; NEAR at least.
+#[inline(never)]
+fn taken(run: &dyn Fn()) -> usize {
+    let here = 0u8;
+    // A number, so that the compiler knows nothing of what lies around it.
+    let top = std::hint::black_box(std::ptr::addr_of!(here) as usize);
+    // The thread's stack is larger than DEPTH, so all that is painted and read lies in it, below the frames in use.
+    for at in NEAR..DEPTH {
+        unsafe { ((top - at) as *mut u8).write_volatile(PAINT) };
+    }
+    run();
+    let untouched = (NEAR..DEPTH).rev().take_while(|&at| unsafe { ((top - at) as *const u8).read_volatile() } == PAINT);
+    DEPTH - untouched.count()
+}
+
+struct Case {
+    table: Vec<u8>,
+    values: Vec<u8>,
+    sheet: usize,
+}
+
+fn case(draft: &Draft, values: &[Value]) -> Case {
+    let mut bytes = Vec::new();
+    for value in values {
+        value.write_cells(&mut bytes);
+    }
+    Case {
+        table: draft.bytes(),
+        values: bytes,
+        sheet: draft.sheet_length(),
+    }
+}
+
+/// 256 cells, one in the other.
+fn nested() -> Value {
+    (0..255).fold(Value::Integer(1), |value, _| set(vec![value]))
+}
+
+/// Pairs whose second part is a pair, 255 cells.
+fn chain() -> Value {
+    (0..127).fold(Value::Integer(1), |value, _| pair(Value::Integer(1), value))
+}
+
+/// x = y under `count` negations.
+fn negations(count: usize, value: &Value) -> Case {
+    let mut draft = Draft::default();
+    let names = [draft.identifier(0), draft.identifier(0)];
+    let sides = names.map(|x| draft.using(x));
+    let mut root = draft.two(Kind::Equal, sides[0], sides[1]);
+    for _ in 0..count {
+        root = draft.one(Kind::Not, root);
+    }
+    case(&draft, &[value.clone(), value.clone()])
+}
+
+/// A quantifier or comprehension in the body of another, as deep as the height allows, over x = y.
+fn binders(select: bool, value: &Value) -> Case {
+    let mut draft = Draft::default();
+    let names = [draft.identifier(0), draft.identifier(0)];
+    let range = draft.identifier(0);
+    let sides = names.map(|x| draft.using(x));
+    let mut body = draft.two(Kind::Equal, sides[0], sides[1]);
+    // A comprehension stands in its parent's body as one side of an equality.
+    for _ in 0..if select { 19 } else { 29 } {
+        let members = draft.using(range);
+        let bound = draft.identifier(1);
+        if select {
+            let chosen = draft.node(Kind::Comprehension, bound, members, body);
+            let whole = draft.using(range);
+            body = draft.two(Kind::Equal, chosen, whole);
+        } else {
+            body = draft.node(Kind::ForAll, bound, members, body);
+        }
+    }
+    case(&draft, &[value.clone(), value.clone(), set(vec![Value::Integer(1)])])
+}
+
+fn made() -> Vec<Case> {
+    let mut cases = Vec::new();
+    for value in [Value::Integer(1), nested(), chain()] {
+        cases.extend([0, 38].map(|count| negations(count, &value)));
+        cases.extend([false, true].map(|select| binders(select, &value)));
+    }
+    cases
+}
+
+fn measure(count: u64) {
+    let mut generator = Generator::new(3, false, None);
+    let generated = (0..count).map(|number| {
+        let sample = generator.sample(Class::ALL[number as usize % Class::ALL.len()]);
+        Case {
+            table: sample.table,
+            values: sample.values,
+            sheet: sample.sheet as usize,
+        }
+    });
+    let (mut check, mut evaluate) = (0, 0);
+    for case in made().into_iter().chain(generated) {
+        let sheet = std::cell::RefCell::new(vec![0; case.sheet]);
+        check = check.max(taken(&|| {
+            let _ = falgrumi::check_into(&case.table, &mut sheet.borrow_mut());
+        }));
+        evaluate = evaluate.max(taken(&|| {
+            let _ = falgrumi::evaluate(&case.table, &case.values, 10_000);
+        }));
+    }
+    println!("stack: Check {check} bytes, Evaluate {evaluate} bytes");
+}
+
+fn main() {
+    let count = std::env::args().nth(1).map_or(5_000, |word| word.parse().expect("a number of cases"));
+    let thread = std::thread::Builder::new().stack_size(4 * DEPTH).spawn(move || measure(count));
+    thread.expect("a thread").join().expect("no panic");
+}
