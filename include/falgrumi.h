@@ -9,8 +9,8 @@
  * Any bytes will do. Whatever the table, sheet and values hold, a call ends, stays inside what it was lent, and answers.
  * Threads. Nothing is kept between calls, and there is no shared state: calls may run at the same time, if no one writes
  *   what another reads or writes.
- * Stack. The functions allocate nothing and work on the caller's stack. The most that was measured (x86-64; tall tables made by
- *   hand over deeply nested values) is 71 KB for falgrumi_check and 283 KB for falgrumi_evaluate; lend 0.4 MB.
+ * Stack. The functions allocate nothing and work on the caller's stack. The most that was measured (x86-64; tall tables over
+ *   deeply nested values, and generated ones) is 75 KB for falgrumi_check and 283 KB for falgrumi_evaluate; lend 0.4 MB.
  * Bytes. A word is 4 bytes, least byte first. */
 #ifndef FALGRUMI_H
 #define FALGRUMI_H
