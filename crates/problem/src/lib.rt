@@ -95,7 +95,7 @@ fn value_plan(kind: usize) -> [u8; 24]
     }
 }
 
-// The plan of each kind. Few arms to a function: the proof of a match that gives arrays costs the square of their number.
+// The plan of each kind. The arms are in four functions, since a match with many arms that give arrays is slow to prove.
 fn plan_of(kind: usize) -> [u8; 24]
     ensures { λ p. ⌜ Digits kind p ⌝ }
 {
