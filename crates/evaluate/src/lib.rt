@@ -1,4 +1,4 @@
-// Evaluate: the value rules of document 01 over an arena of cells.
+// Evaluate: refusals 1 to 9, then 14, then the condition in an arena with room for it, and the report.
 ghost use mathlib.Core.Path.{_≡_};
 ghost use Rattle.rules.specs.Readable.{Readable};
 ghost use Rattle.rules.specs.Ends.{done};

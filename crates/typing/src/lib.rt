@@ -1,1 +1,2 @@
-// Document 01 as definitions (specs/) and their laws (proofs/). There is no code here.
+// The typing rules of a table as a problem of unification, and Check's verdict as a function: definitions (specs/) and laws
+// (proofs/). There is no code here.
