@@ -7,12 +7,10 @@ use mathlib.Core.Option.{some}
 use mathlib.Core.Path.{_≡_, refl, ap, sym, subst, _∙_}
 use native.Mathlib.Omega.{arith}
 use native.Mathlib.Decide.{decLt}
-use borrow.Author.Tests.{eq-eqb, ne-eqb, lt-ltb, le-ltb}
-use lib.Dec.{eqb}
-use lib.IntN.{pos, negsuc}
+use borrow.Author.Tests.{eq-eqb, ne-eqb}
 use lib.ListN.{getD}
 use Rattle.rules.specs.Types.{whole}
-use Rattle.rules.specs.Values.{Value, set, none, truthValue, bit, values, weight, weights}
+use Rattle.rules.specs.Values.{Value, set, none, truthValue, values, weight, weights}
 use Rattle.rules.specs.Kinds.{Leaf, identifier, givenSet, elementOf, literal, truthConst, emptySet, boolSet, leaf, kindOf}
 use Rattle.rules.specs.Cells.{signed, noValue}
 use Rattle.rules.specs.Runs.{gives}
@@ -22,6 +20,7 @@ use Rattle.products.specs.Growing.{PutsCell}
 use Rattle.operations.specs.Outcomes.{BuiltAt, LeafFits, LeafReady, LeafDone}
 use Rattle.operations.specs.Leaves.{scalarCell, Narrow}
 use Rattle.operations.proofs.KindLaws.{leafCode, code-of, same-leaf}
+use Rattle.rules.proofs.CellsLaws.{bit-eqb, signed-high, signed-low}
 
 -- The cell by the kind's code.
 pub cell-element : (k a b : ℕ) → k ≡ 22 → 12884901888 + 256 * a + b ≡ scalarCell k a b
@@ -32,15 +31,6 @@ cell-number k a b e = rw (ne-eqb k 22 (λ f. omega arith), eq-eqb k 23 e)
 
 pub cell-truth : (k a b : ℕ) → k ≢ 22 → k ≢ 23 → 8589934592 + a ≡ scalarCell k a b
 cell-truth k a b n m = rw (ne-eqb k 22 n, ne-eqb k 23 m)
-
--- A word in two's complement as a number in excess form.
-signed-low : (a : ℕ) → a < 2147483648 → signed a ≡ pos a
-unfolding signed
-signed-low a l = rw (lt-ltb a 2147483648 l, signed)
-
-signed-high : (a : ℕ) → 2147483648 ≤ a → signed a ≡ negsuc (4294967295 - a)
-unfolding signed
-signed-high a l = rw (le-ltb a 2147483648 l, signed)
 
 excess-signed : (a : ℕ) → a < 4294967296 → excess (signed a) ≡ (a + 2147483648) % 4294967296
 unfolding excess
@@ -53,11 +43,6 @@ excess-signed a h = go (decLt a 2147483648)
     go (no l) =
         let e : 2147483647 - (4294967295 - a) ≡ (a + 2147483648) % 4294967296 = omega arith in
         ap excess (signed-high a (omega arith)) ∙ e
-
-truth-bit : (a : ℕ) → a < 2 → bit (eqb a 1) ≡ a
-truth-bit zero h = refl
-truth-bit (suc zero) h = refl
-truth-bit (suc (suc a)) h = absurd (omega arith)
 
 -- The leaf that the code tells.
 module _ {k a b size : ℕ} {s : List ℕ} {top : ℕ} (p : LeafReady k a b size s top) where
@@ -76,7 +61,7 @@ scalar-code (literal whole) k a b size e f n21 n26 n42 gs ρ =
     (ap (λ (x : ℕ). x ∷ []) (omega (arith, excess-signed a f, cell-number k a b (code-of k (leaf (literal whole)) e))), refl)
 scalar-code truthConst k a b size e f n21 n26 n42 gs ρ =
     let c : k ≡ 24 = code-of k (leaf truthConst) e in
-    (ap (λ (x : ℕ). x ∷ []) (omega (arith, truth-bit a f, cell-truth k a b (λ d. omega arith) (λ d. omega arith))), refl)
+    (ap (λ (x : ℕ). x ∷ []) (omega (arith, bit-eqb a f, cell-truth k a b (λ d. omega arith) (λ d. omega arith))), refl)
 scalar-code emptySet k a b size e f n21 n26 n42 gs ρ = absurd (n26 (code-of k (leaf emptySet) e))
 scalar-code boolSet k a b size e f n21 n26 n42 gs ρ = absurd (n42 (code-of k (leaf boolSet) e))
 

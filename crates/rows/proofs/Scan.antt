@@ -21,11 +21,11 @@ use Rattle.table.specs.Codes.{codeOf, categoryCode}
 use Rattle.unification.specs.Problem.{Shape}
 use Rattle.unification.specs.Solved.{ClassesMatch, Grounded}
 use Rattle.unification.specs.Rows.{roomAfter, Weighed}
-use Rattle.unification.proofs.Stack.{any-default}
 use Rattle.typing.specs.Equations.{base}
 use Rattle.typing.specs.Places.{placeVar, placeCount, LeastPlace, GroundAt}
 use Rattle.rows.specs.Rows.{varAt, Placed, PlaceIn, Typed, FailsAt, Determines, LightAt}
 use Rattle.typing.proofs.VariableLaws.{base-mono, base-below}
+use Rattle.rules.proofs.Basics.{any-default}
 
 -- The variable as `place_var` finds it.
 pub var-name : (i : ℕ) (bases : List ℕ) (p : ℕ) → p < i → p ≡ varAt i bases p

@@ -1,9 +1,12 @@
--- Facts of numbers and of tests that many laws use.
-use Prim.Native.Nat.{ℕ}
+-- Facts of numbers, tests and lists that many laws use.
+use Prim.Native.Nat.{ℕ, zero, suc, _<_}
 use mathlib.Core.Bool.{Bool, true, false, _&&_}
-use mathlib.Core.Path.{_≡_}
+use mathlib.Core.List.{List, [], _∷_}
+use mathlib.Core.Path.{_≡_, refl}
+use native.Mathlib.Nat.{le-of-suc-le-suc}
 use native.Mathlib.Omega.{arith}
 use lib.Dec.{T}
+use lib.ListN.{getD, length}
 
 -- Anything follows from 0 = 1, which `cc` proves of things that cannot be equal.
 pub absurd01 : {A : Type 0} → _≡_ {A = ℕ} 0 1 → A
@@ -17,3 +20,9 @@ and-of false b h k = h
 pub and-split : (a b : Bool) → T (a && b) → T a × T b
 and-split true b h = (tt, h)
 and-split false b h = absurd h
+
+-- Within a list the default does not matter.
+pub any-default : (l : List ℕ) (x d e : ℕ) → x < length l → getD l x d ≡ getD l x e
+any-default [] x d e h = absurd (omega arith)
+any-default (y ∷ l) zero d e h = refl
+any-default (y ∷ l) (suc x) d e h = any-default l x d e (le-of-suc-le-suc h)

@@ -37,7 +37,7 @@ unfolding twos
 twos-word (pos n) t = omega (arith, leb→le n 2147483647 t)
 twos-word (negsuc n) t = omega (arith, leb→le n 2147483647 t)
 
-signed-low : (n : ℕ) → n < 2147483648 → signed n ≡ pos n
+pub signed-low : (n : ℕ) → n < 2147483648 → signed n ≡ pos n
 unfolding signed
 signed-low n h = go (ltb n 2147483648) (lt→ltb n 2147483648 h)
   where
@@ -45,7 +45,7 @@ signed-low n h = go (ltb n 2147483648) (lt→ltb n 2147483648 h)
     go true t = refl
     go false t = absurd t
 
-signed-high : (n : ℕ) → 2147483648 ≤ n → signed n ≡ negsuc (4294967295 - n)
+pub signed-high : (n : ℕ) → 2147483648 ≤ n → signed n ≡ negsuc (4294967295 - n)
 unfolding signed
 signed-high n h = go (ltb n 2147483648) (ltb→lt n 2147483648)
   where

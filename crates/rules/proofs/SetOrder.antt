@@ -108,7 +108,7 @@ unfolding rising
 rising-rising [] = tt
 rising-rising (v ∷ vs) = insert-rising v (rising vs) (rising-rising vs)
 
-kept-all : (P : Value → Type 0) (b : Bool) (v : Value) (r : List Value) → P v → All P r → All P (keptValue b v r)
+pub kept-all : (P : Value → Type 0) (b : Bool) (v : Value) (r : List Value) → P v → All P r → All P (keptValue b v r)
 kept-all P true v r h k = (h, k)
 kept-all P false v r h k = k
 
@@ -118,7 +118,7 @@ unfolding keep
 keep-all P p [] h = tt
 keep-all P p (v ∷ vs) h = kept-all P (p v) v (keep p vs) (h .0) (keep-all P p vs (h .1))
 
-kept-rising : (b : Bool) (v : Value) (r : List Value) → All (Before v) r → Rising r → Rising (keptValue b v r)
+pub kept-rising : (b : Bool) (v : Value) (r : List Value) → All (Before v) r → Rising r → Rising (keptValue b v r)
 kept-rising true v r h k = (h, k)
 kept-rising false v r h k = k
 

@@ -6,7 +6,6 @@ use mathlib.Core.Option.{Option, none as nothing, some}
 use mathlib.Core.Path.{_≡_, refl, sym, subst}
 use mathlib.Core.Logic.{_⊎_, inl, inr}
 use native.Mathlib.Omega.{arith}
-use native.Mathlib.Nat.{le-of-suc-le-suc}
 use lib.Dec.{T, eqb, leb, eqb→eq, eqb-refl}
 use lib.ListN.{getD, length}
 use Rattle.rules.specs.Types.{Ty}
@@ -21,7 +20,7 @@ use Rattle.rules.specs.Reading.{occurrences, upward, occursIn, occursInA
 use Rattle.rules.specs.Readable.{CategoryIs, KindRight, BindingRight, Records}
 use Rattle.rules.specs.Verdict.{placeOf, ObeysKind, Whole}
 use Rattle.rules.specs.Safety.{Free}
-use Rattle.rules.proofs.Basics.{absurd01}
+use Rattle.rules.proofs.Basics.{absurd01, any-default}
 
 -- The number of an expression's node.
 abbrev pub numberᵉ : Expr → ℕ
@@ -357,15 +356,9 @@ module _ (tb : Table) where
           (λ x m. occursTo f x m) (r .fields n l) h
           (λ m τ q k. scoped-predAt f m τ (omega arith) k) (λ m τ q k. scoped-exprAt f m τ (omega arith) k)
 
--- Within a list the default does not matter.
-in-list : (l : List ℕ) (x d e : ℕ) → x < length l → getD l x d ≡ getD l x e
-in-list [] x d e h = absurd (omega arith)
-in-list (y ∷ l) zero d e h = refl
-in-list (y ∷ l) (suc x) d e h = in-list l x d e (le-of-suc-le-suc h)
-
 -- An identifier is free or does not occur free at the root.
 free-or-bound : (tb : Table) → Records tb → InScope (length (tb .binds)) (Free tb) (λ x. occursFree (tb .nodes) x (lastNode (tb .nodes)))
-free-or-bound tb r x l = go (getD (tb .binds) x 0) (in-list (tb .binds) x 1 0 l) (r .bindings x l)
+free-or-bound tb r x l = go (getD (tb .binds) x 0) (any-default (tb .binds) x 1 0 l) (r .bindings x l)
   where
     go : (w : ℕ) → getD (tb .binds) x 1 ≡ w → BindingRight w (binders (tb .nodes) x) (occursFree (tb .nodes) x (lastNode (tb .nodes))) →
         Free tb x ⊎ (occursFree (tb .nodes) x (lastNode (tb .nodes)) ≡ false)

@@ -6,7 +6,7 @@ use mathlib.Core.Path.{_≡_, refl, sym, ap, _∙_, subst}
 use Rattle.rules.specs.Values.{Value, order}
 use Rattle.rules.specs.Operations.{keptValue, insert, rising, isIn, keep}
 use Rattle.rules.proofs.OrderLaws.{Small, flip, order-refl, order-flip, order-eq, before-order, order-before, before-trans}
-use Rattle.rules.proofs.SetOrder.{All, Before, Rising, all-imp}
+use Rattle.rules.proofs.SetOrder.{All, Before, Rising, all-imp, kept-all}
 use Rattle.sets.specs.Merged.{turned, mergedFrom, merged}
 
 -- Of two values that are before one another one is greater.
@@ -48,11 +48,6 @@ merged-first : (l b r : Bool) (vs : List Value) (w : Value) (ws : List Value) �
 unfolding merged
 merged-first l b r [] w ws h = kept-nil r w ws
 merged-first l b r (v ∷ vs) w ws h = merged-greater l b r v w vs ws (after-order v w (h .0))
-
--- What is merged comes from the two lists.
-kept-all : (P : Value → Type 0) (k : Bool) (v : Value) (r : List Value) → P v → All P r → All P (keptValue k v r)
-kept-all P true v r h k = (h, k)
-kept-all P false v r h k = k
 
 cond-all : (P : Value → Type 0) (k : Bool) (vs : List Value) → All P vs → All P (cond k vs [])
 cond-all P true vs h = h

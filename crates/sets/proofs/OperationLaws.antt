@@ -7,9 +7,9 @@ use native.Mathlib.Omega.{arith}
 use Rattle.rules.specs.Kinds.{union, inter, diff}
 use Rattle.rules.specs.Values.{Value, set, Values, none, _▸_, members, values, weight, order}
 use Rattle.rules.specs.Runs.{gives}
-use Rattle.rules.specs.Operations.{keptValue, setOf, twoValue}
+use Rattle.rules.specs.Operations.{setOf, twoValue}
 use Rattle.rules.proofs.OrderLaws.{Small, flip, order-eq, order-flip, order-before}
-use Rattle.rules.proofs.SetOrder.{All, Before, Rising}
+use Rattle.rules.proofs.SetOrder.{All, Before, Rising, kept-rising}
 use Rattle.arena.specs.Code.{CellsFit, AllFit, Rises, FineSet}
 use Rattle.arena.proofs.FrontLaws.{rises-rising, fit-small}
 use Rattle.sets.specs.Merged.{merged}
@@ -34,11 +34,6 @@ module _ (vs ws : Values) (f : FineSet vs) (g : FineSet ws) where
   diff-merged =
       ap (λ (l : List Value). gives (setOf l))
       (sym (merged-diff (members vs) (members ws) (rises-rising vs (f .rises)) (rises-rising ws (g .rises)) (fit-small vs (f .fits .1)) (fit-small ws (g .fits .1))))
-
--- What is merged rises.
-kept-rising : (k : Bool) (v : Value) (r : List Value) → All (Before v) r → Rising r → Rising (keptValue k v r)
-kept-rising true v r h k = (h, k)
-kept-rising false v r h k = k
 
 cond-rising : (k : Bool) (vs : List Value) → Rising vs → Rising (cond k vs [])
 cond-rising true vs h = h

@@ -13,8 +13,8 @@ use Rattle.unification.specs.Problem.{Shape, PartsBelow, shapeOf}
 use Rattle.unification.specs.Arrays.{ClassArrays}
 use Rattle.unification.specs.Marks.{statusOf, markOf, orElse, markOne, sweepTo, pos, marked, SoundMarks, Settled, StatusPre}
 use Rattle.unification.proofs.Counting.{count-le, count-strict}
-use Rattle.unification.proofs.Stack.{any-default}
 use Rattle.unification.proofs.Sweeps.{length-sweep, sweep-keep, sweep-grow, sweep-sound, stalls, more, lt-pos, nlt-pos}
+use Rattle.rules.proofs.Basics.{any-default}
 
 pub parts-left : (n k l r : ℕ) → PartsBelow n (shapeOf k l r) → k ≢ 0 → k ≢ 1 → l < n
 parts-left n zero l r h a b = absurd (a refl)

@@ -13,9 +13,10 @@ use Rattle.unification.specs.Problem.{Shape, Matches, atomFrom, shapeOf}
 use Rattle.unification.specs.Arrays.{shapeAt, AtomCode, ClassArrays}
 use Rattle.unification.specs.Marks.{statusOf, markOf}
 use Rattle.unification.specs.Rows.{Determined, Weighed, codeOf, Put, Written}
-use Rattle.unification.proofs.Stack.{any-default, code-of}
+use Rattle.unification.proofs.Stack.{code-of}
 use Rattle.unification.proofs.Marking.{parts-left, parts-right}
 use Rattle.rules.proofs.TypeLaws.{prefix-length}
+use Rattle.rules.proofs.Basics.{any-default}
 
 pub weight-pos : (t : Ty) → 1 ≤ weightᵀ t
 weight-pos (atom a) = omega arith

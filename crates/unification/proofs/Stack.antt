@@ -4,7 +4,7 @@ use mathlib.Core.Logic.{_↔_, _≢_, inl, inr}
 use mathlib.Core.Bool.{Bool, true, false, cond}
 use mathlib.Core.List.{List, [], _∷_, _++_}
 use Prim.Native.Nat.{ℕ, zero, suc, _+_, _-_, _*_, _≤_, _<_}
-use native.Mathlib.Nat.{not-suc-le-zero, le-of-suc-le-suc, add-zero}
+use native.Mathlib.Nat.{add-zero}
 use native.Mathlib.Omega.{arith}
 use native.Mathlib.Numerals.{add-one, add-two}
 use native.Mathlib.Decide.{ℕ-discrete, decLt}
@@ -19,6 +19,7 @@ use Rattle.unification.specs.Turn.{planOf, plan, merged, pushTwo, classO
 use Rattle.unification.specs.Model.{Join, clash, joined, join, join-leaf, sameAtom, Step, stop, next, isUnknown, after, step-on, step}
 use Rattle.unification.proofs.Counting.{count-le}
 use Rattle.unification.proofs.Step.{change-hit, change-miss, classes, isRep, StepGood, step-good, eqb-false, true-eqb, below-append, holds-append}
+use Rattle.rules.proofs.Basics.{any-default}
 
 abbrev pub newEqns : ℕ → ℕ → ℕ → ℕ → ℕ → List Eqn
 newEqns zero lp rp lq rq = []
@@ -231,11 +232,6 @@ asStep-next zero m lp′ rp′ lq′ rq′ h = refl
 asStep-next (suc zero) m lp′ rp′ lq′ rq′ h = refl
 asStep-next (suc (suc zero)) m lp′ rp′ lq′ rq′ h = refl
 asStep-next (suc (suc (suc c))) m lp′ rp′ lq′ rq′ h = absurd (omega arith)
-
-pub any-default : (l : List ℕ) (v d e : ℕ) → v < length l → getD l v d ≡ getD l v e
-any-default [] v d e h = absurd (not-suc-le-zero h)
-any-default (x ∷ xs) zero d e h = refl
-any-default (x ∷ xs) (suc v) d e h = any-default xs v d e (le-of-suc-le-suc h)
 
 -- past the end each kind is 0
 past-kind : (k l r : List ℕ) (n : ℕ) → Arrays k l r n → (v : ℕ) → (v < n → ⊥) → getD k v 0 ≡ 0

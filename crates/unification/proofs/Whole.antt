@@ -20,8 +20,8 @@ use Rattle.unification.proofs.Counting.{count-all, count-some}
 use Rattle.unification.proofs.Loops.{fillTo, fill-end}
 use Rattle.unification.specs.Model.{val}
 use Rattle.unification.proofs.Resolve.{solution, all-marked, ground-agree, open-differ, val-declared, ground-kept}
-use Rattle.unification.proofs.Stack.{any-default}
 use Rattle.unification.proofs.Sweeps.{pos-lt, lt-pos}
+use Rattle.rules.proofs.Basics.{any-default}
 
 pub length-own : (n : ℕ) → length (ownClasses n) ≡ n
 unfolding ownClasses
