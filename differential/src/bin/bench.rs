@@ -3,6 +3,7 @@
 
 use std::time::Instant;
 
+use differential::{case, sheet_length, Case};
 use reference::build::Draft;
 use reference::evaluate::Outcome;
 use reference::generate::{Class, Generator};
@@ -97,30 +98,12 @@ fn time(tables: &[Vec<u8>], rounds: usize, check: impl Fn(&[u8], &mut [u8]) -> b
     let start = Instant::now();
     for _ in 0..rounds {
         for table in tables {
-            let word = |at: usize| u32::from_le_bytes(table[at..at + 4].try_into().unwrap()) as usize;
-            let length = 64 * (word(8) + word(12));
+            let length = sheet_length(table);
             accepted += usize::from(check(table, &mut sheet[..length]));
         }
     }
     let calls = (rounds * tables.len()) as f64;
     (start.elapsed().as_secs_f64() * 1e6 / calls, accepted)
-}
-
-/// A condition with the values of its free identifiers, as bytes.
-struct Case {
-    table: Vec<u8>,
-    values: Vec<u8>,
-}
-
-fn case(draft: &Draft, values: &[Value]) -> Case {
-    let mut buffer = Vec::new();
-    for value in values {
-        value.write_cells(&mut buffer);
-    }
-    Case {
-        table: draft.bytes(),
-        values: buffer,
-    }
 }
 
 /// x = y, three nodes.

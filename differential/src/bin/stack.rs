@@ -1,6 +1,7 @@
 //! stack [COUNT]: the most stack that Check and Evaluate were seen to take, over tall tables made by hand and COUNT generated
 //! cases (5,000). The stack below the caller is painted, and after the call the lowest byte that has changed is looked for.
 
+use differential::{case, sheet_length, Case};
 use reference::build::Draft;
 use reference::generate::{Class, Generator};
 use reference::kinds::Kind;
@@ -24,24 +25,6 @@ fn taken(run: &dyn Fn()) -> usize {
     run();
     let untouched = (NEAR..DEPTH).rev().take_while(|&at| unsafe { ((top - at) as *const u8).read_volatile() } == PAINT);
     DEPTH - untouched.count()
-}
-
-struct Case {
-    table: Vec<u8>,
-    values: Vec<u8>,
-    sheet: usize,
-}
-
-fn case(draft: &Draft, values: &[Value]) -> Case {
-    let mut bytes = Vec::new();
-    for value in values {
-        value.write_cells(&mut bytes);
-    }
-    Case {
-        table: draft.bytes(),
-        values: bytes,
-        sheet: draft.sheet_length(),
-    }
 }
 
 /// 256 cells, one in the other.
@@ -99,17 +82,18 @@ fn made() -> Vec<Case> {
 
 fn measure(count: u64) {
     let mut generator = Generator::new(3, false, None);
+    let made = made().into_iter().map(|case| (sheet_length(&case.table), case));
     let generated = (0..count).map(|number| {
         let sample = generator.sample(Class::ALL[number as usize % Class::ALL.len()]);
-        Case {
+        let case = Case {
             table: sample.table,
             values: sample.values,
-            sheet: sample.sheet as usize,
-        }
+        };
+        (sample.sheet as usize, case)
     });
     let (mut check, mut evaluate) = (0, 0);
-    for case in made().into_iter().chain(generated) {
-        let sheet = std::cell::RefCell::new(vec![0; case.sheet]);
+    for (length, case) in made.chain(generated) {
+        let sheet = std::cell::RefCell::new(vec![0; length]);
         check = check.max(taken(&|| {
             let _ = falgrumi::check_into(&case.table, &mut sheet.borrow_mut());
         }));
