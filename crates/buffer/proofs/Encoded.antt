@@ -9,7 +9,7 @@ use lib.Dec.{eqb, leb, ltb}
 use lib.ListN.{length, getD, drop}
 use Rattle.rules.specs.Values.{element, Value, scalar, pair, set, Values, none, _▸_, int, truthValue, count}
 use Rattle.rules.specs.Tables.{wordAt}
-use Rattle.rules.specs.Cells.{signed, cells, Read, _andThen_, onlyIf, several, byTag, valueTo, value, weightLimit}
+use Rattle.rules.specs.Cells.{signed, cells, Read, _andThen_, onlyIf, readMany, byTag, valueTo, value, weightLimit}
 use Rattle.rules.proofs.CellsLaws.{Word, Bytes, Encodable, Encodables, signed-range, word-at, bytes-after, bytes-drop, Right, valueTo-right, andThen-some}
 
 onlyIf-some : {A : Type 0} (b : Bool) (r : Read A) (y : A × List ℕ) → onlyIf b r ≡ some y → r ≡ some y
@@ -30,14 +30,14 @@ module _ (r : List ℕ → Read Value) (right : Right r) (h : Encoding r) where
   behind : (bs : List ℕ) (v : Value) (rest : List ℕ) → Bytes bs → r bs ≡ some (v, rest) → Bytes rest
   behind bs v rest b e = bytes-after (cells v) rest (subst Bytes (right bs v rest b e) b)
 
-  several-encodable : (n : ℕ) (bs : List ℕ) (vs : Values) (rest : List ℕ) → Bytes bs → several r n bs ≡ some (vs, rest) → (count vs ≡ n) × Encodables vs
-  unfolding several
+  several-encodable : (n : ℕ) (bs : List ℕ) (vs : Values) (rest : List ℕ) → Bytes bs → readMany r n bs ≡ some (vs, rest) → (count vs ≡ n) × Encodables vs
+  unfolding readMany
   several-encodable zero bs vs rest b e = read-at (λ ws. (count ws ≡ 0) × Encodables ws) none vs bs rest e (refl, tt)
   several-encodable (suc n) bs vs rest b e =
-      let p = andThen-some (r bs) (λ v bs₁. several r n bs₁ andThen λ ws bs₂. some (v ▸ ws, bs₂)) (vs, rest) e in
+      let p = andThen-some (r bs) (λ v bs₁. readMany r n bs₁ andThen λ ws bs₂. some (v ▸ ws, bs₂)) (vs, rest) e in
       let v = p .0 .0 in
       let bs₁ = p .0 .1 in
-      let q = andThen-some (several r n bs₁) (λ ws bs₂. some (v ▸ ws, bs₂)) (vs, rest) (p .2) in
+      let q = andThen-some (readMany r n bs₁) (λ ws bs₂. some (v ▸ ws, bs₂)) (vs, rest) (p .2) in
       let ws = q .0 .0 in
       let c = several-encodable n bs₁ ws (q .0 .1) (behind bs v bs₁ b (p .1)) (q .1) in
       read-at (λ ws′. (count ws′ ≡ suc n) × Encodables ws′) (v ▸ ws) vs (q .0 .1) rest (q .2) (omega (arith, c .0), (h bs v bs₁ b (p .1), c .1))
@@ -59,7 +59,7 @@ module _ (r : List ℕ → Read Value) (right : Right r) (h : Encoding r) where
       read-at Encodable (pair x y) v (g .0 .1) rest (g .2)
       (h bs x bs₁ b (f .1), h bs₁ y (g .0 .1) (behind bs x bs₁ b (f .1)) (g .1))
   byTag-encodable (suc (suc (suc (suc (suc zero))))) p bs v rest b w e =
-      let f = andThen-some (several r p bs) (λ vs bs₁. some (set vs, bs₁)) (v, rest) e in
+      let f = andThen-some (readMany r p bs) (λ vs bs₁. some (set vs, bs₁)) (v, rest) e in
       let c = several-encodable p bs (f .0 .0) (f .0 .1) b (f .1) in
       read-at Encodable (set (f .0 .0)) v (f .0 .1) rest (f .2) (omega (arith, c .0), c .1)
   byTag-encodable (suc (suc (suc (suc (suc (suc n)))))) p bs v rest b w e = absurd (let z : _≡_ {A = ℕ} 0 1 = cc in omega arith)

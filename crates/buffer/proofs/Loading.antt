@@ -21,7 +21,7 @@ use Rattle.arena.proofs.CodeLaws.{length-code}
 use Rattle.arena.proofs.Standing.{same-refl, stands-frame}
 use Rattle.fitting.proofs.Cells.{ends-at}
 use Rattle.buffer.specs.Buffer.{scalarsGood, allGood, cellsAtMost, ReadAt, Unread}
-use Rattle.buffer.specs.Ordered.{inOrder, ordered, orderedAll, Whole, Ordered}
+use Rattle.buffer.specs.Ordered.{inOrder, ordered, orderedAll, WholeValue, Ordered}
 use Rattle.buffer.specs.Shared.{TypedHere}
 use Rattle.buffer.specs.Loaded.{GoodRead, Entered, Room, Bound}
 use Rattle.rules.proofs.Basics.{and-of}
@@ -79,7 +79,7 @@ good-of gs v h k w t =
 
 -- One value.
 module _ (gs bs : List ℕ) (at : ℕ) (s : List ℕ) (top next end : ℕ) (h : ReadAt gs bs at s top next end) where
-  pub read-whole : Whole s top end
+  pub read-whole : WholeValue s top end
   read-whole = record {
     value = record { value = h .first; stands = h .stands; fits = h .fits };
     ends = subst (λ (e : ℕ). EndsAt s top e) (sym (h .ends)) (ends-at s top (h .first) (h .stands) (h .fits));

@@ -10,7 +10,7 @@ use Rattle.rules.specs.Values.{Scalar, num, truth, element, Value, scalar, pair
 use Rattle.arena.specs.Code.{cellSize, excess, scalarLow, code, codes, Stands, ValueAt, ValuesAt, CellsFit, AllFit, orderCode, SomeAt, EndsAt, Compared}
 use Rattle.arena.proofs.CodeLaws.{length-code, length-codes, bit-small}
 use Rattle.arena.proofs.Standing.{stands-head, stands-tail, stands-front, stands-back, _before_, codes-before, weights-before, fit-before}
-use Rattle.buffer.specs.Ordered.{inOrder, ordered, orderedAll, Row, SomeRow, InOrder}
+use Rattle.buffer.specs.Ordered.{inOrder, ordered, orderedAll, MembersAt, SomeMembersAt, InOrder}
 use Rattle.buffer.proofs.Ahead.{inner}
 use Rattle.rules.proofs.CellsLaws.{weight-some}
 
@@ -23,12 +23,12 @@ and-assoc true b c = refl
 and-assoc false b c = refl
 
 -- The first of two or more values, and those behind it.
-module _ (s : List ℕ) (at n : ℕ) (v : Value) (vs : Values) (h : Row s at n (v ▸ vs)) where
+module _ (s : List ℕ) (at n : ℕ) (v : Value) (vs : Values) (h : MembersAt s at n (v ▸ vs)) where
   pub row-first : ValueAt s at v
   unfolding code
   row-first = stands-front s at (code v) (codes vs) (h .stands)
 
-  pub row-next : (e : ℕ) → e ≡ at + weight v → Row s e (n - 1) vs
+  pub row-next : (e : ℕ) → e ≡ at + weight v → MembersAt s e (n - 1) vs
   unfolding code
   row-next e p = record {
     stands = rw (p, ← length-code v) (stands-back s at (code v) (codes vs) (h .stands));
@@ -39,10 +39,10 @@ module _ (s : List ℕ) (at n : ℕ) (v : Value) (vs : Values) (h : Row s at n (
 -- The values from i on rise just where vs do.
 pub record Checked (s : List ℕ) (i left : ℕ) (vs : Values) : Type 0 where
   pub rest : Values
-  pub row : Row s i left rest
+  pub row : MembersAt s i left rest
   pub same : inOrder vs ≡ inOrder rest
 
-pub checked-start : (s : List ℕ) (at n : ℕ) (vs : Values) → Row s at n vs → Checked s at n vs
+pub checked-start : (s : List ℕ) (at n : ℕ) (vs : Values) → MembersAt s at n vs → Checked s at n vs
 checked-start s at n vs h = record { rest = vs; row = h; same = refl }
 
 -- the number of an order
@@ -60,14 +60,14 @@ module _ (s : List ℕ) (i left : ℕ) (vs : Values) (h : Checked s i left vs) w
   pub checked-at : 1 < left → SomeAt s i
   checked-at l = go (h .rest) (h .row)
     where
-      go : (ws : Values) → Row s i left ws → SomeAt s i
+      go : (ws : Values) → MembersAt s i left ws → SomeAt s i
       go none r = absurd (omega (arith, r .counted))
       go (w ▸ ws) r = record { value = w; stands = row-first s i left w ws r; fits = r .fits .0 }
 
   pub checked-end : left ≤ 1 → true ≡ inOrder vs
   checked-end l = go (h .rest) (h .row) (h .same)
     where
-      go : (ws : Values) → Row s i left ws → inOrder vs ≡ inOrder ws → true ≡ inOrder vs
+      go : (ws : Values) → MembersAt s i left ws → inOrder vs ≡ inOrder ws → true ≡ inOrder vs
       go none r e = sym e
       go (w ▸ none) r e = sym e
       go (w ▸ x ▸ ws) r e = absurd (omega (arith, r .counted))
@@ -76,7 +76,7 @@ module _ (s : List ℕ) (i left : ℕ) (vs : Values) (h : Checked s i left vs) w
     pub checked-second : SomeAt s e
     checked-second = go (h .rest) (h .row)
       where
-        go : (ws : Values) → Row s i left ws → SomeAt s e
+        go : (ws : Values) → MembersAt s i left ws → SomeAt s e
         go none r = absurd (omega (arith, r .counted))
         go (w ▸ none) r = absurd (omega (arith, r .counted))
         go (w ▸ x ▸ ws) r =
@@ -88,7 +88,7 @@ module _ (s : List ℕ) (i left : ℕ) (vs : Values) (h : Checked s i left vs) w
       unfolding before
       checked-next z = go (h .rest) (h .row) (h .same)
         where
-          go : (ws : Values) → Row s i left ws → inOrder vs ≡ inOrder ws → Checked s e (left - 1) vs
+          go : (ws : Values) → MembersAt s i left ws → inOrder vs ≡ inOrder ws → Checked s e (left - 1) vs
           go none r q = absurd (omega (arith, r .counted))
           go (w ▸ none) r q = absurd (omega (arith, r .counted))
           go (w ▸ x ▸ ws) r q =
@@ -101,7 +101,7 @@ module _ (s : List ℕ) (i left : ℕ) (vs : Values) (h : Checked s i left vs) w
       unfolding before
       checked-fails z = go (h .rest) (h .row) (h .same)
         where
-          go : (ws : Values) → Row s i left ws → inOrder vs ≡ inOrder ws → false ≡ inOrder vs
+          go : (ws : Values) → MembersAt s i left ws → inOrder vs ≡ inOrder ws → false ≡ inOrder vs
           go none r q = absurd (omega (arith, r .counted))
           go (w ▸ none) r q = absurd (omega (arith, r .counted))
           go (w ▸ x ▸ ws) r q =
@@ -231,7 +231,7 @@ module _ (s : List ℕ) (i end : ℕ) (v : Value) (h : Sorted s i end v) where
       not-set w ws f = sym (tagged ∙ ap (λ (y : ℕ). y / cellSize) (here ∙ left-head s i end w ws f) ∙ tag-cell w (f .fits .0)) ∙ set-here
 
       -- its members
-      members : (ms ws : Values) (n : ℕ) → Left s i end (set ms ▸ ws) → n ≡ x % cellSize → Row s (i + 1) n ms
+      members : (ms ws : Values) (n : ℕ) → Left s i end (set ms ▸ ws) → n ≡ x % cellSize → MembersAt s (i + 1) n ms
       unfolding code
       members ms ws n f e = record {
         stands = stands-front s (i + 1) (codes ms) (codes ws)
@@ -240,10 +240,10 @@ module _ (s : List ℕ) (i end : ℕ) (v : Value) (h : Sorted s i end v) where
         counted = omega (arith, left-head s i end (set ms) ws f, f .fits .0 .0);
       }
 
-      pub sorted-members : (n : ℕ) → n ≡ x % cellSize → SomeRow s (i + 1) n
+      pub sorted-members : (n : ℕ) → n ≡ x % cellSize → SomeMembersAt s (i + 1) n
       sorted-members n q = go (h .rest) (h .left)
         where
-          go : (ws : Values) → Left s i end ws → SomeRow s (i + 1) n
+          go : (ws : Values) → Left s i end ws → SomeMembersAt s (i + 1) n
           go none f = absurd (omega (arith, f .ends))
           go (scalar y ▸ ws) f = absurd (scalar-tag y (not-set (scalar y) ws f))
           go (pair a b ▸ ws) f = absurd (omega (arith, not-set (pair a b) ws f))

@@ -9,7 +9,7 @@ use lib.Dec.{T}
 use lib.ListN.{length, getD}
 use Rattle.rules.specs.Types.{whole, Ty}
 use Rattle.rules.specs.Values.{Value, scalar, pair, set, Values, none, _▸_, tag, count, weights}
-use Rattle.rules.specs.Fits.{every, shape, shapes, inhabited, typed}
+use Rattle.rules.specs.Fits.{every, typesOf, sharedTypes, inhabited, typed}
 use Rattle.rules.proofs.FitsLaws.{_⊑_, ⊓-join, ⊓-split, inhabited→some, some→inhabited}
 use Rattle.arena.specs.Code.{cellSize, code, codes, Stands, ValueAt, ValuesAt, CellsFit, AllFit, SomeAt, EndsAt}
 use Rattle.arena.proofs.CodeLaws.{length-code, length-codes}
@@ -24,18 +24,18 @@ use Rattle.rules.proofs.Basics.{and-of, and-split}
 use Rattle.rules.proofs.CellsLaws.{weight-some}
 
 -- Types of values that follow one another.
-shapes-join : (vs ws : Values) (t : Ty) → shapes vs ⊑ t → shapes ws ⊑ t → shapes (vs before ws) ⊑ t
+shapes-join : (vs ws : Values) (t : Ty) → sharedTypes vs ⊑ t → sharedTypes ws ⊑ t → sharedTypes (vs before ws) ⊑ t
 shapes-join none ws t h k = k
 shapes-join (v ▸ vs) ws t h k =
-    let p = ⊓-split (shape v) (shapes vs) t h in
-    ⊓-join (shape v) (shapes (vs before ws)) t (p .0) (shapes-join vs ws t (p .1) k)
+    let p = ⊓-split (typesOf v) (sharedTypes vs) t h in
+    ⊓-join (typesOf v) (sharedTypes (vs before ws)) t (p .0) (shapes-join vs ws t (p .1) k)
 
-shapes-split : (vs ws : Values) (t : Ty) → shapes (vs before ws) ⊑ t → shapes vs ⊑ t × shapes ws ⊑ t
+shapes-split : (vs ws : Values) (t : Ty) → sharedTypes (vs before ws) ⊑ t → sharedTypes vs ⊑ t × sharedTypes ws ⊑ t
 shapes-split none ws t h = (tt, h)
 shapes-split (v ▸ vs) ws t h =
-    let p = ⊓-split (shape v) (shapes (vs before ws)) t h in
+    let p = ⊓-split (typesOf v) (sharedTypes (vs before ws)) t h in
     let q = shapes-split vs ws t (p .1) in
-    (⊓-join (shape v) (shapes vs) t (p .0) (q .0), q .1)
+    (⊓-join (typesOf v) (sharedTypes vs) t (p .0) (q .0), q .1)
 
 before-assoc : (us vs ws : Values) → (us before vs) before ws ≡ us before (vs before ws)
 before-assoc none vs ws = refl
@@ -63,10 +63,10 @@ pub record Prefix (s : List ℕ) (at i k : ℕ) (vs : Values) : Type 0 where
   pub back : Values
   pub whole : vs ≡ front before back
   pub counted : count front ≡ k
-  pub shares : T (inhabited (shapes front))
+  pub shares : T (inhabited (sharedTypes front))
   pub there : i ≡ at + weights front
 
-pub prefix-none : (s : List ℕ) (at n : ℕ) (vs : Values) → TypedRow s at n vs → n ≡ 0 → true ≡ inhabited (shapes vs)
+pub prefix-none : (s : List ℕ) (at n : ℕ) (vs : Values) → TypedRow s at n vs → n ≡ 0 → true ≡ inhabited (sharedTypes vs)
 prefix-none s at n none h e = refl
 prefix-none s at n (v ▸ vs) h e = absurd (omega (arith, h .counted))
 
@@ -86,7 +86,7 @@ prefix-start s at n end e z (v ▸ vs) h = record {
   back = vs;
   whole = refl;
   counted = refl;
-  shares = with-every (shape v) (h .typed .0);
+  shares = with-every (typesOf v) (h .typed .0);
   there = omega (arith, e v (stands-front s at (code v) (codes vs) (h .stands)) (h .fits .0));
 }
 
@@ -112,15 +112,15 @@ module _ (s : List ℕ) (at n i k : ℕ) (vs : Values) (row : TypedRow s at n vs
         typed = typed-split (h .front) (h .back) (subst AllTyped (h .whole) (row .typed)) .1;
       }
 
-  pub prefix-end : n ≤ k → true ≡ inhabited (shapes vs)
+  pub prefix-end : n ≤ k → true ≡ inhabited (sharedTypes vs)
   prefix-end l = go (h .back) (h .whole) (back-row .counted)
     where
       is : (b : Bool) → T b → true ≡ b
       is true t = refl
       is false t = absurd t
 
-      go : (ws : Values) → vs ≡ h .front before ws → n - k ≡ count ws → true ≡ inhabited (shapes vs)
-      go none e c = is (inhabited (shapes vs)) (subst (λ (us : Values). T (inhabited (shapes us))) (sym (e ∙ before-none (h .front))) (h .shares))
+      go : (ws : Values) → vs ≡ h .front before ws → n - k ≡ count ws → true ≡ inhabited (sharedTypes vs)
+      go none e c = is (inhabited (sharedTypes vs)) (subst (λ (us : Values). T (inhabited (sharedTypes us))) (sym (e ∙ before-none (h .front))) (h .shares))
       go (w ▸ ws) e c = absurd (omega arith)
 
   -- the next value
@@ -142,43 +142,43 @@ module _ (s : List ℕ) (at n i k : ℕ) (vs : Values) (row : TypedRow s at n vs
       go none r = absurd (omega (arith, r .counted))
       go (w ▸ ws) r =
           let st : ValueAt s at w = stands-front s at (code w) (codes ws) (r .stands) in
-          let ty = left-typed (shape w) (shapes ws) (r .typed) in
+          let ty = left-typed (typesOf w) (sharedTypes ws) (r .typed) in
           let fu : Full w = full-value w s at st (subst (λ (x : ℕ). NoEmpty s at x) (e w st (r .fits .0)) (f refl)) in
           record {
             few = w ▸ none;
             run = record {
               stands = subst (λ (z : List ℕ). Stands s at z) (sym (append-nil (code w))) st;
               fits = (r .fits .0, tt);
-              typed = with-every (shape w) ty;
+              typed = with-every (typesOf w) ty;
               counted = sym c;
             };
             light = omega arith;
-            same = λ q. sym (full-first w every q fu (with-every (shape w) ty)) ∙ full-first w (shapes ws) q fu (r .typed);
+            same = λ q. sym (full-first w every q fu (with-every (typesOf w) ty)) ∙ full-first w (sharedTypes ws) q fu (r .typed);
           }
 
   module _ (m : ℕ) (l : k < n) (g : StandFor s at m (h .front)) where
     -- what the test of the next value against those says
-    next-meets : (r : Bool) → AgreedWith s i at m r → (w : Value) (ws : Values) → TypedRow s i (n - k) (w ▸ ws) → r ≡ meets (shapes (h .front)) (shape w)
+    next-meets : (r : Bool) → AgreedWith s i at m r → (w : Value) (ws : Values) → TypedRow s i (n - k) (w ▸ ws) → r ≡ meets (sharedTypes (h .front)) (typesOf w)
     unfolding code
     next-meets r a w ws b =
         a w (g .few) (record { stands = stands-front s i (code w) (codes ws) (b .stands); fits = b .fits .0; typed = b .typed .0 }) (g .run) ∙
-        meets-sym (shape w) (shapes (g .few)) ∙ g .same (shape w)
+        meets-sym (typesOf w) (sharedTypes (g .few)) ∙ g .same (typesOf w)
 
-    pub prefix-fails : AgreedWith s i at m false → false ≡ inhabited (shapes vs)
+    pub prefix-fails : AgreedWith s i at m false → false ≡ inhabited (sharedTypes vs)
     prefix-fails a = go (h .back) (h .whole) back-row
       where
         none-left : (b : Bool) → (T b → ⊥) → false ≡ b
         none-left true f = absurd (f tt)
         none-left false f = refl
 
-        go : (ws : Values) → vs ≡ h .front before ws → TypedRow s i (n - k) ws → false ≡ inhabited (shapes vs)
+        go : (ws : Values) → vs ≡ h .front before ws → TypedRow s i (n - k) ws → false ≡ inhabited (sharedTypes vs)
         go none e b = absurd (omega (arith, b .counted))
         go (w ▸ ws) e b =
-            none-left (inhabited (shapes vs)) (λ t.
-            let x = inhabited→some (shapes vs) t in
-            let p = shapes-split (h .front) (w ▸ ws) (x .0) (subst (λ (us : Values). shapes us ⊑ x .0) e (x .1)) in
-            let q = ⊓-split (shape w) (shapes ws) (x .0) (p .1) in
-            subst T (sym (next-meets false a w ws b)) (share→meets (shapes (h .front)) (shape w) (x .0, p .0, q .0)))
+            none-left (inhabited (sharedTypes vs)) (λ t.
+            let x = inhabited→some (sharedTypes vs) t in
+            let p = shapes-split (h .front) (w ▸ ws) (x .0) (subst (λ (us : Values). sharedTypes us ⊑ x .0) e (x .1)) in
+            let q = ⊓-split (typesOf w) (sharedTypes ws) (x .0) (p .1) in
+            subst T (sym (next-meets false a w ws b)) (share→meets (sharedTypes (h .front)) (typesOf w) (x .0, p .0, q .0)))
 
     pub prefix-step : (e : ℕ) → EndsAt s i e → AgreedWith s i at m true → Prefix s at e (k + 1) vs
     unfolding code
@@ -187,14 +187,14 @@ module _ (s : List ℕ) (at n i k : ℕ) (vs : Values) (row : TypedRow s at n vs
         go : (ws : Values) → vs ≡ h .front before ws → TypedRow s i (n - k) ws → Prefix s at e (k + 1) vs
         go none q b = absurd (omega (arith, b .counted))
         go (w ▸ ws) q b =
-            let x = meets→share (shapes (h .front)) (shape w) (subst T (next-meets true a w ws b) tt) in
+            let x = meets→share (sharedTypes (h .front)) (typesOf w) (subst T (next-meets true a w ws b) tt) in
             let f = h .front before (w ▸ none) in
             record {
               front = f;
               back = ws;
               whole = q ∙ sym (before-assoc (h .front) (w ▸ none) ws);
               counted = omega (arith, count-before (h .front) (w ▸ none), h .counted);
-              shares = some→inhabited (shapes f) (x .0) (shapes-join (h .front) (w ▸ none) (x .0) (x .1) (⊓-join (shape w) every (x .0) (x .2) tt));
+              shares = some→inhabited (sharedTypes f) (x .0) (shapes-join (h .front) (w ▸ none) (x .0) (x .1) (⊓-join (typesOf w) every (x .0) (x .2) tt));
               there = omega (arith, h .there, weights-before (h .front) (w ▸ none), ends w (stands-front s i (code w) (codes ws) (b .stands)) (b .fits .0));
             }
 
@@ -219,14 +219,14 @@ after-left s at end vs h (suc n) l =
     subst (λ (j : ℕ). Left s j end (next (after vs n))) e (next-left s (at + n) end (after vs n) (after-left s at end vs h n (omega arith)) (omega arith))
 
 -- A typed value has typed parts and members.
-set-typed : (ms : Values) → T (inhabited (shapes ms)) → AllTyped ms
+set-typed : (ms : Values) → T (inhabited (sharedTypes ms)) → AllTyped ms
 set-typed none h = tt
-set-typed (v ▸ vs) h = (left-typed (shape v) (shapes vs) h, set-typed vs (right-typed (shape v) (shapes vs) h))
+set-typed (v ▸ vs) h = (left-typed (typesOf v) (sharedTypes vs) h, set-typed vs (right-typed (typesOf v) (sharedTypes vs) h))
 
 next-typed : (ws : Values) → AllTyped ws → AllTyped (next ws)
 next-typed none h = tt
 next-typed (scalar x ▸ ws) h = h .1
-next-typed (pair a b ▸ ws) h = let p = and-split (inhabited (shape a)) (inhabited (shape b)) (h .0) in (p .0, (p .1, h .1))
+next-typed (pair a b ▸ ws) h = let p = and-split (inhabited (typesOf a)) (inhabited (typesOf b)) (h .0) in (p .0, (p .1, h .1))
 next-typed (set ms ▸ ws) h = typed-before ms ws (set-typed ms (h .0)) (h .1)
 
 after-typed : (vs : Values) → AllTyped vs → (n : ℕ) → AllTyped (after vs n)
@@ -253,7 +253,7 @@ module _ (s : List ℕ) (at end : ℕ) (v : Value) (h : ValueAt s at v) (f : Cel
 
   pub from-start : (i : ℕ) → i ≤ at → TypedFrom at i v → true ≡ typed v
   unfolding after typed
-  from-start i l t = let z : i - at ≡ 0 = omega arith in is (inhabited (shape v)) (subst (λ (n : ℕ). AllTyped (after (v ▸ none) n)) z t .0)
+  from-start i l t = let z : i - at ≡ 0 = omega arith in is (inhabited (typesOf v)) (subst (λ (n : ℕ). AllTyped (after (v ▸ none) n)) z t .0)
     where
       is : (b : Bool) → T b → true ≡ b
       is true t = refl
@@ -277,7 +277,7 @@ module _ (s : List ℕ) (at end : ℕ) (v : Value) (h : ValueAt s at v) (f : Cel
         go : (ws : Values) → Left s (i - 1) end ws → AllTyped (next ws) → AllTyped ws
         go none l y = tt
         go (scalar z ▸ ws) l y = (tt, y)
-        go (pair p q ▸ ws) l y = (and-of (inhabited (shape p)) (inhabited (shape q)) (y .0) (y .1 .0), y .1 .1)
+        go (pair p q ▸ ws) l y = (and-of (inhabited (typesOf p)) (inhabited (typesOf q)) (y .0) (y .1 .0), y .1 .1)
         go (set ms ▸ ws) l y = absurd (n (tag-here (set ms) ws l))
 
     module _ (set-here : t ≡ 5) where
@@ -316,7 +316,7 @@ module _ (s : List ℕ) (at end : ℕ) (v : Value) (h : ValueAt s at v) (f : Cel
 
         pub from-fails : r ≡ false → false ≡ typed v
         unfolding typed
-        from-fails z = none-left (inhabited (shape v)) (λ u. go (after (v ▸ none) (i - 1 - at)) left-here (subst AllTyped next-here a) (after-typed (v ▸ none) (u, tt) (i - 1 - at)))
+        from-fails z = none-left (inhabited (typesOf v)) (λ u. go (after (v ▸ none) (i - 1 - at)) left-here (subst AllTyped next-here a) (after-typed (v ▸ none) (u, tt) (i - 1 - at)))
           where
             none-left : (b : Bool) → (T b → ⊥) → false ≡ b
             none-left true y = absurd (y tt)

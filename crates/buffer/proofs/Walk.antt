@@ -16,7 +16,7 @@ use Rattle.arena.specs.Code.{code, Stands, Same, partsOf}
 use Rattle.arena.proofs.CodeLaws.{length-code}
 use Rattle.buffer.specs.declared.Cursor.{Cursor}
 use Rattle.buffer.specs.declared.Step.the-variants.{Cell, End}
-use Rattle.buffer.specs.Buffer.{cellFirst, firstCell, pickStep, stepAt, codeOf, tagGood, cellGood, cellsAtMost, GoodCell, Takes, ReadAt, Unread}
+use Rattle.buffer.specs.Buffer.{cellFirst, firstCell, pickStep, stepAt, codeOf, tagGood, cellGood, cellsAtMost, GoodCell, StepTakes, ReadAt, Unread}
 use Rattle.buffer.proofs.Ahead.{Ahead, onward, back, ahead-read, read-ahead, ahead-long}
 
 -- The entries of a slice of bytes.
@@ -58,13 +58,13 @@ module _ (gs bs : List ℕ) (at : ℕ) where
       let p = pick-cell (cellFirst (drop at bs)) x (firstCell (drop at bs)) n (record { at = at + 8 }) e in
       record { here = p .0; number = p .1; good = subst T (sym g) tt; behind = ap (λ (c : Cursor). c .at) (p .2) }
 
-  pub take-bad : (x : ℕ) (n : Cursor) → Cell x n ≡ stepAt bs at → cellGood gs x ≡ false → Takes gs bs at End
+  pub take-bad : (x : ℕ) (n : Cursor) → Cell x n ≡ stepAt bs at → cellGood gs x ≡ false → StepTakes gs bs at End
   unfolding stepAt
   take-bad x n e g h k =
       let p = pick-cell (cellFirst (drop at bs)) x (firstCell (drop at bs)) n (record { at = at + 8 }) e in
       subst T g (subst (λ (y : ℕ). T (cellGood gs y)) (sym (p .1)) k)
 
-  pub take-none : End ≡ stepAt bs at → Takes gs bs at End
+  pub take-none : End ≡ stepAt bs at → StepTakes gs bs at End
   unfolding stepAt
   take-none e h k = pick-end (cellFirst (drop at bs)) (firstCell (drop at bs)) (record { at = at + 8 }) e h
 
@@ -155,7 +155,7 @@ module _ (gs bs : List ℕ) (b : Bytes bs) (from at left n : ℕ) (s₀ s : List
       }
 
   -- no value of at most 256 cells is read
-  pub walk-none : Takes gs bs at End → Unread gs bs from
+  pub walk-none : StepTakes gs bs at End → Unread gs bs from
   walk-none t v rest e w g =
       let p = h .partly (code v) rest (ahead-read gs (drop from bs) v rest (bytes-drop from bs b) e g) in
       let o = onward gs (drop at bs) left (p .0) rest (p .2) l in

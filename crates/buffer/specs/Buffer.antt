@@ -68,9 +68,9 @@ pub record GoodCell (gs bs : List ℕ) (at x next : ℕ) : Type 0 where
   pub good : T (cellGood gs x)
   pub behind : next ≡ at + 8
 
-abbrev pub Takes : List ℕ → List ℕ → ℕ → Step → Type 0
-Takes gs bs at (Cell x next) = GoodCell gs bs at x (next .at)
-Takes gs bs at End = T (cellFirst (drop at bs)) → T (cellGood gs (firstCell (drop at bs))) → ⊥
+abbrev pub StepTakes : List ℕ → List ℕ → ℕ → Step → Type 0
+StepTakes gs bs at (Cell x next) = GoodCell gs bs at x (next .at)
+StepTakes gs bs at End = T (cellFirst (drop at bs)) → T (cellGood gs (firstCell (drop at bs))) → ⊥
 
 -- The most cells that n values may take: 256 each, and one for each eight bytes that are left of the buffer.
 abbrev pub cellsAtMost : ℕ → ℕ → ℕ

@@ -24,20 +24,20 @@ abbrev mutual
   orderedAll (v ▸ vs) = ordered v && orderedAll vs
 
 -- n values stand from `at` on.
-pub record Row (s : List ℕ) (at n : ℕ) (vs : Values) : Type 0 where
+pub record MembersAt (s : List ℕ) (at n : ℕ) (vs : Values) : Type 0 where
   pub stands : ValuesAt s at vs
   pub fits : AllFit vs
   pub counted : n ≡ count vs
 
-abbrev pub SomeRow : List ℕ → ℕ → ℕ → Type 0
-SomeRow s at n = (vs : Values) × Row s at n vs
+abbrev pub SomeMembersAt : List ℕ → ℕ → ℕ → Type 0
+SomeMembersAt s at n = (vs : Values) × MembersAt s at n vs
 
 -- r says whether they rise.
 abbrev pub InOrder : List ℕ → ℕ → ℕ → Bool → Type 0
-InOrder s at n r = (vs : Values) → Row s at n vs → r ≡ inOrder vs
+InOrder s at n r = (vs : Values) → MembersAt s at n vs → r ≡ inOrder vs
 
 -- A value stands from `at` to `end`.
-pub record Whole (s : List ℕ) (at end : ℕ) : Type 0 where
+pub record WholeValue (s : List ℕ) (at end : ℕ) : Type 0 where
   pub value : SomeAt s at
   pub ends : EndsAt s at end
 

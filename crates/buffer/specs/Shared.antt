@@ -5,14 +5,14 @@ use mathlib.Core.List.{List}
 use mathlib.Core.Path.{_≡_}
 use lib.Dec.{T}
 use Rattle.rules.specs.Values.{Value, Values, none, _▸_, count}
-use Rattle.rules.specs.Fits.{shape, shapes, inhabited, typed}
+use Rattle.rules.specs.Fits.{typesOf, sharedTypes, inhabited, typed}
 use Rattle.arena.specs.Code.{ValueAt, ValuesAt, CellsFit, AllFit}
 use Rattle.fitting.specs.Agree.{SomeTyped, SomeRun}
 
 -- Each value has a type.
 abbrev pub AllTyped : Values → Type 0
 AllTyped none = Unit {0}
-AllTyped (v ▸ vs) = T (inhabited (shape v)) × AllTyped vs
+AllTyped (v ▸ vs) = T (inhabited (typesOf v)) × AllTyped vs
 
 -- n values that have types stand from `at` on.
 pub record TypedRow (s : List ℕ) (at n : ℕ) (vs : Values) : Type 0 where
@@ -26,7 +26,7 @@ SomeTypedRow s at n = (vs : Values) × TypedRow s at n vs
 
 -- r says whether they share one.
 abbrev pub Shares : List ℕ → ℕ → ℕ → Bool → Type 0
-Shares s at n r = (vs : Values) → TypedRow s at n vs → r ≡ inhabited (shapes vs)
+Shares s at n r = (vs : Values) → TypedRow s at n vs → r ≡ inhabited (sharedTypes vs)
 
 -- A typed value at a, and m values from b on that share a type.
 pub record ValueAndRun (s : List ℕ) (a b m : ℕ) : Type 0 where

@@ -4,9 +4,9 @@ ghost use mathlib.Core.Bool.{true, cond};
 ghost use Prim.Native.Nat.{_+_, _-_, _≤_, _<_};
 ghost use lib.ListN.{length, getD};
 ghost use Rattle.rules.specs.Tables.{wordAt, tableOf};
-ghost use Rattle.buffer.specs.Buffer.{stepAt, zerosAt, codeOf, cellGood, cellsAtMost, Takes, Places};
+ghost use Rattle.buffer.specs.Buffer.{stepAt, zerosAt, codeOf, cellGood, cellsAtMost, StepTakes, Places};
 ghost use Rattle.arena.specs.Code.{Same};
-ghost use Rattle.buffer.specs.Ordered.{SomeRow, InOrder, Whole, Ordered};
+ghost use Rattle.buffer.specs.Ordered.{SomeMembersAt, InOrder, WholeValue, Ordered};
 ghost use Rattle.buffer.specs.Shared.{SomeTypedRow, Shares, ValueAndRun, TypedHere};
 ghost use Rattle.buffer.specs.Loaded.{ReadsGood, Enters, Room, Loads, LoadReady};
 ghost use Rattle.fitting.specs.Agree.{AgreedWith};
@@ -143,7 +143,7 @@ fn good_cell(cell: u64, sizes: &[u32]) -> bool
 
 // The good cell at a place.
 fn take(from: Cursor, values: &[u8], sizes: &[u32]) -> Step
-    ensures { λ r. ⌜ Takes (now (sizes .entry)) (now (values .entry)) (from .at) r ⌝ }
+    ensures { λ r. ⌜ StepTakes (now (sizes .entry)) (now (values .entry)) (from .at) r ⌝ }
 {
     let step = from.next(values);
     match step {
@@ -196,7 +196,7 @@ pub fn copy_value(from: Cursor, values: &[u8], sizes: &[u32], s: &mut [u64], top
 
 // Whether n values from `at` on rise.
 fn in_order(s: &[u64], at: usize, n: u64) -> bool
-    requires { ⌜ SomeRow (now s) at n ⌝ }
+    requires { ⌜ SomeMembersAt (now s) at n ⌝ }
     ensures { λ r. ⌜ InOrder (now (s .entry)) at n r ⌝ }
 {
     let mut i = at;
@@ -214,7 +214,7 @@ fn in_order(s: &[u64], at: usize, n: u64) -> bool
 
 // Whether the members of every set in the value from `at` to `end` rise.
 pub fn rises(s: &[u64], at: usize, end: usize) -> bool
-    requires { ⌜ Whole (now s) at end ⌝ }
+    requires { ⌜ WholeValue (now s) at end ⌝ }
     ensures { λ r. ⌜ Ordered (now (s .entry)) at r ⌝ }
 {
     let mut i = at;
@@ -283,7 +283,7 @@ fn share(s: &[u64], at: usize, n: u64) -> bool
 
 // Whether the value from `at` to `end` has a type: in each of its sets, from the innermost outward, the members share one.
 pub fn well_typed(s: &[u64], at: usize, end: usize) -> bool
-    requires { ⌜ Whole (now s) at end ⌝ }
+    requires { ⌜ WholeValue (now s) at end ⌝ }
     ensures { λ r. ⌜ TypedHere (now (s .entry)) at r ⌝ }
 {
     let mut i = end;

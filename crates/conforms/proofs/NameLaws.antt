@@ -31,18 +31,18 @@ use Rattle.buffer.specs.declared.Loaded.the-variants.{All, Refused}
 use Rattle.buffer.specs.Loaded.{Bound, Loads, LoadReady}
 use Rattle.conforms.specs.Conforming.{HasWritten, Conforming}
 use Rattle.buffer.specs.Buffer.{cellsAtMost}
-use Rattle.conforms.specs.Rows.{RowOf, SomeRow, OfRow, NameReady, NameHas, AllStand, AllReady, Fits, Typed, AllHave}
+use Rattle.conforms.specs.Rows.{RowOf, SomeTypeRow, OfRow, NameRowReady, NameHas, AllStand, AllReady, SheetFits, AllOfRows, AllConform}
 use Rattle.conforms.proofs.RowLaws.{agrees, decided-no, row-stands, row-there}
 use Rattle.rules.proofs.Basics.{absurd01}
 
 -- The type of a row, which q says is one.
-pub row-type-there : (sheet : List ℕ) (from : ℕ) (q : Bool) → Decides q (SomeRow sheet from) → q ≡ true → SomeType sheet from
+pub row-type-there : (sheet : List ℕ) (from : ℕ) (q : Bool) → Decides q (SomeTypeRow sheet from) → q ≡ true → SomeType sheet from
 row-type-there sheet from q d e = let x = d .sound e in (x .0, row-type sheet from (x .0) (x .1 .codes))
 
 -- A value and the row from `from` on: q says whether that is the row of a type.
-module _ (s : List ℕ) (at : ℕ) (sheet : List ℕ) (from : ℕ) (q : Bool) (d : Decides q (SomeRow sheet from)) where
+module _ (s : List ℕ) (at : ℕ) (sheet : List ℕ) (from : ℕ) (q : Bool) (d : Decides q (SomeTypeRow sheet from)) where
   pub row-no : q ≡ false → OfRow s at sheet from false
-  row-no e v h f = refuses ((t : Ty) × RowOf sheet from t × HasType v t) (λ x. decided-no (SomeRow sheet from) q d e (x .0, x .1))
+  row-no e v h f = refuses ((t : Ty) × RowOf sheet from t × HasType v t) (λ x. decided-no (SomeTypeRow sheet from) q d e (x .0, x .1))
 
   pub row-yes : (r : Bool) → q ≡ true → OfType s at sheet from r → OfRow s at sheet from r
   row-yes r e o v h f = record {
@@ -55,7 +55,7 @@ module _ (bs s : List ℕ) (at : ℕ) (sheet : List ℕ) (x w : ℕ) (word : Wor
   pub name-bound : w ≢ 0 → NameHas bs s at sheet x true
   name-bound n v h f = agrees (Free (tableOf bs) x → HasWritten sheet x v) (λ k. absurd (n (word 1 ∙ k .1)))
 
-  pub name-free : (r : Bool) → w ≡ 0 → NameReady bs s at sheet x → OfRow s at sheet (64 * x) r → NameHas bs s at sheet x r
+  pub name-free : (r : Bool) → w ≡ 0 → NameRowReady bs s at sheet x → OfRow s at sheet (64 * x) r → NameHas bs s at sheet x r
   name-free r e p o v h f = record {
     sound = λ y k. let z = o v h f .sound y in (z .0, row-there sheet x (z .0) (z .1 .light) (p .inside) (z .1 .codes), z .1 .light, z .2);
     complete = λ g.
@@ -73,7 +73,7 @@ module _ (bs s env sheet : List ℕ) where
   have-none = record { have = λ vs a y l. absurd (omega arith) }
 
   module _ (p : AllReady bs s env sheet) (x : ℕ) (below : x < identifierCount bs) where
-    pub name-ready : (at : ℕ) → at ≡ getD env x 0 → NameReady bs s at sheet x
+    pub name-ready : (at : ℕ) → at ≡ getD env x 0 → NameRowReady bs s at sheet x
     name-ready at e = record {
       header = p .header;
       below = below;
@@ -90,8 +90,8 @@ module _ (bs s env sheet : List ℕ) where
       name-of : (vs : List Value) → AllStand s env vs → Decides q (Free (tableOf bs) x → HasWritten sheet x (getD vs x noValue))
       name-of vs a = n (getD vs x noValue) (rw e (a .stands x (omega (arith, p .header .identifiers)))) (a .fits x (omega (arith, p .header .identifiers)))
 
-      pub have-no : q ≡ false → AllHave bs s env sheet false
-      have-no f vs a = refuses (Typed bs sheet vs) (λ k. decided-no (Free (tableOf bs) x → HasWritten sheet x (getD vs x noValue)) q (name-of vs a) f (k x))
+      pub have-no : q ≡ false → AllConform bs s env sheet false
+      have-no f vs a = refuses (AllOfRows bs sheet vs) (λ k. decided-no (Free (tableOf bs) x → HasWritten sheet x (getD vs x noValue)) q (name-of vs a) f (k x))
 
       pub have-more : q ≡ true → HaveBelow bs s env sheet x → HaveBelow bs s env sheet (x + 1)
       have-more f b = record { have = λ vs a y l. go vs a y l (ℕ-discrete y x) }
@@ -100,8 +100,8 @@ module _ (bs s env sheet : List ℕ) where
           go vs a y l (yes i) = rw i (name-of vs a .sound f)
           go vs a y l (no i) = b .have vs a y (omega arith)
 
-  pub have-all : (x : ℕ) → HaveBelow bs s env sheet x → identifierCount bs ≤ x → AllHave bs s env sheet true
-  have-all x b l vs a = agrees (Typed bs sheet vs) (λ y k. b .have vs a y (omega (arith, k .0, binds-length bs)) k)
+  pub have-all : (x : ℕ) → HaveBelow bs s env sheet x → identifierCount bs ≤ x → AllConform bs s env sheet true
+  have-all x b l vs a = agrees (AllOfRows bs sheet vs) (λ y k. b .have vs a y (omega (arith, k .0, binds-length bs)) k)
 
 not-both : {A : Type 0} {a : A} {r p : ℕ} (e : End A) → e ≡ done a → e ≡ refused r p → ⊥
 not-both e f g = absurd01 (cc)
@@ -124,7 +124,7 @@ few-ready bs values s e r l = record { readable = r; room = omega (arith, e, l);
 pub load-ready : (bs values s : List ℕ) → length s ≡ 8193 → Readable bs → LoadReady bs values s
 load-ready bs values s e r = record { readable = r; room = omega (arith, r .header .identifiers); small = omega arith }
 
-pub sheet-fits : (bs sheet : List ℕ) (i n : ℕ) → i ≡ identifierCount bs → n ≡ nodeCount bs → length sheet ≡ 64 * (i + n) → Fits bs sheet
+pub sheet-fits : (bs sheet : List ℕ) (i n : ℕ) → i ≡ identifierCount bs → n ≡ nodeCount bs → length sheet ≡ 64 * (i + n) → SheetFits bs sheet
 sheet-fits bs sheet i n e f g = record { rows = omega (arith, binds-length bs, nodes-length bs) }
 
 -- The answer as a whole.
@@ -149,7 +149,7 @@ module _ (bs sheet buffer : List ℕ) where
   no-values x e = refuses (Conforming bs sheet buffer)
       (λ k. not-both (valuesFrom (tableOf bs .sizes) (tableOf bs .binds) 0 buffer) (the-values k) e)
 
-  module _ (fits : Fits bs sheet) (readable : Readable bs) (s env : List ℕ) (end : ℕ)
+  module _ (fits : SheetFits bs sheet) (readable : Readable bs) (s env : List ℕ) (end : ℕ)
       (b : Bound (tableOf bs .sizes) (tableOf bs .binds) buffer s env 0 end) where
     all-stand : AllStand s env (b .values)
     all-stand = record { stands = λ x l. b .at x l .stands; fits = λ x l. b .at x l .fits }
@@ -157,7 +157,7 @@ module _ (bs sheet buffer : List ℕ) where
     pub all-ready : AllReady bs s env sheet
     all-ready = record { header = readable .header; fits = fits; values = b .values; stand = all-stand }
 
-    pub all-values : (r : Bool) → AllHave bs s env sheet r → Decides r (Conforming bs sheet buffer)
+    pub all-values : (r : Bool) → AllConform bs s env sheet r → Decides r (Conforming bs sheet buffer)
     unfolding valuesIn
     all-values r h = record {
       sound = λ y. record {
@@ -168,6 +168,6 @@ module _ (bs sheet buffer : List ℕ) where
         loads = b .reads;
         types = h (b .values) all-stand .sound y;
       };
-      complete = λ k. h (b .values) all-stand .complete (subst (Typed bs sheet) (done-same _ (the-values k) (b .reads))
+      complete = λ k. h (b .values) all-stand .complete (subst (AllOfRows bs sheet) (done-same _ (the-values k) (b .reads))
           (subst (λ (tb : Table). (x : ℕ) → Free tb x → HasWritten sheet x (getD (k .values) x noValue)) (the-table k) (k .types)));
     }

@@ -19,7 +19,7 @@ use Rattle.arena.proofs.Standing.{stands-head, stands-append, stands-back}
 use Rattle.fitting.specs.Types.{TypeAt, typeParts, Decides}
 use Rattle.fitting.proofs.Types.{widths, PendingTypes, types-start, types-step, types-end, parts-pow, parts-product, parts-atom, row-type}
 use Rattle.conforms.specs.Conforming.{rowAt}
-use Rattle.conforms.specs.Rows.{Code, Blank, SomeRow}
+use Rattle.conforms.specs.Rows.{Code, Blank, SomeTypeRow}
 
 -- An answer that is true, by what it decides.
 pub agrees : (A : Type 0) → A → Decides true A
@@ -185,7 +185,7 @@ module _ (sheet : List ℕ) (at i left : ℕ) (b : Begun sheet at i left) where
     })
 
     -- A type's row goes on with a code, within 64 bytes.
-    pub begun-goes : SomeRow sheet at → (i < at + 64) × Code (getD sheet i 0)
+    pub begun-goes : SomeTypeRow sheet at → (i < at + 64) × Code (getD sheet i 0)
     begun-goes x =
         let f = pending-first sheet i left (at + weightᵀ (x .0)) (b .forth (x .0) (row-type sheet at (x .0) (x .1 .codes))) l in
         (omega (arith, f .0, x .1 .light), f .1)
@@ -199,7 +199,7 @@ module _ (sheet : List ℕ) (at i left : ℕ) (b : Begun sheet at i left) where
           k .zeros (i + j) (omega arith) (omega arith) ∙ sym (getD-replicate {A = ℕ} n j 0 0 q);
     }
 
-    row-whole : Blank sheet i (at + 64) → SomeRow sheet at
+    row-whole : Blank sheet i (at + 64) → SomeTypeRow sheet at
     unfolding row
     row-whole k =
         let p : PendingTypes sheet i left i = rw z (pending-none sheet i (omega (arith, b .to-end))) in
@@ -215,7 +215,7 @@ module _ (sheet : List ℕ) (at i left : ℕ) (b : Begun sheet at i left) where
           },
         )
 
-    row-blank : SomeRow sheet at → Blank sheet i (at + 64)
+    row-blank : SomeTypeRow sheet at → Blank sheet i (at + 64)
     unfolding row
     row-blank x =
         let t = x .0 in
@@ -229,7 +229,7 @@ module _ (sheet : List ℕ) (at i left : ℕ) (b : Begun sheet at i left) where
               ap (λ (k : ℕ). getD sheet k 0) (sym f) ∙ h .cells (j - i) (omega (arith, length-replicate {A = ℕ} n 0)) ∙ getD-replicate {A = ℕ} n (j - i) 0 0 m;
         }
 
-    pub begun-end : (r : Bool) → Decides r (Blank sheet i (at + 64)) → Decides r (SomeRow sheet at)
+    pub begun-end : (r : Bool) → Decides r (Blank sheet i (at + 64)) → Decides r (SomeTypeRow sheet at)
     begun-end r d = record { sound = λ e. row-whole (d .sound e); complete = λ x. d .complete (row-blank x) }
 
 -- Zeros, one after the other.

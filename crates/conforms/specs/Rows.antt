@@ -30,8 +30,8 @@ pub record RowOf (sheet : List ℕ) (at : ℕ) (t : Ty) : Type 0 where
   pub codes : Stands sheet at (row t)
   pub light : weightᵀ t ≤ typeLimit
 
-abbrev pub SomeRow : List ℕ → ℕ → Type 0
-SomeRow sheet at = (t : Ty) × RowOf sheet at t
+abbrev pub SomeTypeRow : List ℕ → ℕ → Type 0
+SomeTypeRow sheet at = (t : Ty) × RowOf sheet at t
 
 -- A value, and bytes enough for a row.
 pub record ValueAndRow (s : List ℕ) (at : ℕ) (sheet : List ℕ) (from : ℕ) : Type 0 where
@@ -43,7 +43,7 @@ abbrev pub OfRow : List ℕ → ℕ → List ℕ → ℕ → Bool → Type 0
 OfRow s at sheet from r = (v : Value) → ValueAt s at v → CellsFit v → Decides r ((t : Ty) × RowOf sheet from t × HasType v t)
 
 -- The value at `at` is for the identifier x, whose row is in the sheet.
-pub record NameReady (bs s : List ℕ) (at : ℕ) (sheet : List ℕ) (x : ℕ) : Type 0 where
+pub record NameRowReady (bs s : List ℕ) (at : ℕ) (sheet : List ℕ) (x : ℕ) : Type 0 where
   pub header : Header bs
   pub below : x < identifierCount bs
   pub value : SomeAt s at
@@ -59,18 +59,18 @@ pub record AllStand (s env : List ℕ) (vs : List Value) : Type 0 where
   pub fits : (x : ℕ) → x < 32 → CellsFit (getD vs x noValue)
 
 -- The sheet has a row for each place of the table.
-pub record Fits (bs sheet : List ℕ) : Type 0 where
+pub record SheetFits (bs sheet : List ℕ) : Type 0 where
   pub rows : length sheet ≡ sheetLength (tableOf bs)
 
 pub record AllReady (bs s env sheet : List ℕ) : Type 0 where
   pub header : Header bs
-  pub fits : Fits bs sheet
+  pub fits : SheetFits bs sheet
   pub values : List Value
   pub stand : AllStand s env values
 
 -- Each free identifier has a value of the type in its row.
-abbrev pub Typed : List ℕ → List ℕ → List Value → Type 0
-Typed bs sheet vs = (x : ℕ) → Free (tableOf bs) x → HasWritten sheet x (getD vs x noValue)
+abbrev pub AllOfRows : List ℕ → List ℕ → List Value → Type 0
+AllOfRows bs sheet vs = (x : ℕ) → Free (tableOf bs) x → HasWritten sheet x (getD vs x noValue)
 
-abbrev pub AllHave : List ℕ → List ℕ → List ℕ → List ℕ → Bool → Type 0
-AllHave bs s env sheet r = (vs : List Value) → AllStand s env vs → Decides r (Typed bs sheet vs)
+abbrev pub AllConform : List ℕ → List ℕ → List ℕ → List ℕ → Bool → Type 0
+AllConform bs s env sheet r = (vs : List Value) → AllStand s env vs → Decides r (AllOfRows bs sheet vs)

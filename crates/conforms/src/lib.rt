@@ -10,7 +10,7 @@ ghost use Rattle.buffer.specs.Buffer.{cellsAtMost};
 ghost use Rattle.fitting.specs.Types.{Decides};
 ghost use Rattle.conforms.specs.Conforming.{Conforming, conforming};
 ghost use Rattle.buffer.specs.Loaded.{LoadReady};
-ghost use Rattle.conforms.specs.Rows.{Code, Blank, SomeRow, ValueAndRow, OfRow, NameReady, NameHas, AllReady, AllHave, Fits};
+ghost use Rattle.conforms.specs.Rows.{Code, Blank, SomeTypeRow, ValueAndRow, OfRow, NameRowReady, NameHas, AllReady, AllConform, SheetFits};
 
 // Whether a byte is the code of a type's first constructor.
 fn is_code(c: u8) -> bool
@@ -43,7 +43,7 @@ fn blank(sheet: &[u8], at: usize, end: usize) -> bool
 // Whether the row from `at` on is that of a type: its codes in prefix order, and then zeros.
 fn is_row(sheet: &[u8], at: usize) -> bool
     requires { ⌜ at + 64 ≤ length (now sheet) ⌝ }
-    ensures { λ r. ⌜ Decides r (SomeRow (now (sheet .entry)) at) ⌝ }
+    ensures { λ r. ⌜ Decides r (SomeTypeRow (now (sheet .entry)) at) ⌝ }
 {
     let end = at + 64;
     let mut i = at;
@@ -75,7 +75,7 @@ fn row_has(s: &[u64], at: usize, sheet: &[u8], row: usize) -> bool
 
 // The same for the identifier x, if it is free.
 fn name_has(table: &[u8], s: &[u64], at: usize, sheet: &[u8], x: usize) -> bool
-    requires { ⌜ NameReady (now table) (now s) at (now sheet) x ⌝ }
+    requires { ⌜ NameRowReady (now table) (now s) at (now sheet) x ⌝ }
     ensures { λ r. ⌜ NameHas (now (table .entry)) (now (s .entry)) at (now (sheet .entry)) x r ⌝ }
 {
     if table::bind(table, x) != 0 {
@@ -93,7 +93,7 @@ fn wide(x: u32) -> usize
 // The same for all identifiers.
 fn all_have(table: &[u8], s: &[u64], env: &[u32; 32], sheet: &[u8]) -> bool
     requires { ⌜ AllReady (now table) (now s) (now env) (now sheet) ⌝ }
-    ensures { λ r. ⌜ AllHave (now (table .entry)) (now (s .entry)) (now (env .entry)) (now (sheet .entry)) r ⌝ }
+    ensures { λ r. ⌜ AllConform (now (table .entry)) (now (s .entry)) (now (env .entry)) (now (sheet .entry)) r ⌝ }
 {
     let count = table::identifiers(table);
     let mut x: usize = 0;
@@ -109,7 +109,7 @@ fn all_have(table: &[u8], s: &[u64], env: &[u32; 32], sheet: &[u8]) -> bool
 
 // The same for the values of a buffer, which are read into the arena s.
 fn conforms_in(table: &[u8], sheet: &[u8], values: &[u8], s: &mut [u64]) -> bool
-    requires { ⌜ LoadReady (now table) (now values) (now s) × Fits (now table) (now sheet) ⌝ }
+    requires { ⌜ LoadReady (now table) (now values) (now s) × SheetFits (now table) (now sheet) ⌝ }
     ensures { λ r. ⌜ Decides r (Conforming (now (table .entry)) (now (sheet .entry)) (now (values .entry))) ⌝ }
 {
     let loaded = buffer::load(table, values, s);
@@ -123,7 +123,7 @@ fn conforms_in(table: &[u8], sheet: &[u8], values: &[u8], s: &mut [u64]) -> bool
 
 // Few values, and the value of those that have none.
 fn conforms_small(table: &[u8], sheet: &[u8], values: &[u8]) -> bool
-    requires { ⌜ Readable (now table) × Fits (now table) (now sheet) × (cellsAtMost (identifierCount (now table)) (length (now values)) < 512) ⌝ }
+    requires { ⌜ Readable (now table) × SheetFits (now table) (now sheet) × (cellsAtMost (identifierCount (now table)) (length (now values)) < 512) ⌝ }
     ensures { λ r. ⌜ Decides r (Conforming (now (table .entry)) (now (sheet .entry)) (now (values .entry))) ⌝ }
 {
     let mut s = [0u64; 512];
@@ -132,7 +132,7 @@ fn conforms_small(table: &[u8], sheet: &[u8], values: &[u8]) -> bool
 
 // 32 values, each of at most 256 cells, and the value of those that have none.
 fn conforms_large(table: &[u8], sheet: &[u8], values: &[u8]) -> bool
-    requires { ⌜ Readable (now table) × Fits (now table) (now sheet) ⌝ }
+    requires { ⌜ Readable (now table) × SheetFits (now table) (now sheet) ⌝ }
     ensures { λ r. ⌜ Decides r (Conforming (now (table .entry)) (now (sheet .entry)) (now (values .entry))) ⌝ }
 {
     let mut s = [0u64; 8193];
@@ -140,7 +140,7 @@ fn conforms_large(table: &[u8], sheet: &[u8], values: &[u8]) -> bool
 }
 
 fn conforms_fitting(table: &[u8], sheet: &[u8], values: &[u8]) -> bool
-    requires { ⌜ Readable (now table) × Fits (now table) (now sheet) ⌝ }
+    requires { ⌜ Readable (now table) × SheetFits (now table) (now sheet) ⌝ }
     ensures { λ r. ⌜ Decides r (Conforming (now (table .entry)) (now (sheet .entry)) (now (values .entry))) ⌝ }
 {
     if buffer::cells_at_most(table::identifiers(table), values.len()) < 512 {

@@ -26,7 +26,7 @@ use Rattle.evaluators.specs.declared.Formed.the-variants.{Value as Place
 use Rattle.evaluators.specs.declared.Held.the-variants.{Truth, Refused}
 use Rattle.evaluators.specs.declared.Operands.{Operands}
 use Rattle.evaluators.specs.declared.Operands.the-variants.{Both, Failed}
-use Rattle.evaluators.specs.Answers.{Ends, FormedAs, FormedBounds, SecondFails}
+use Rattle.evaluators.specs.Answers.{EndsWith, FormedAs, FormedBounds, SecondFails}
 use Rattle.evaluators.specs.Cycle.{Binds, Ready, Visited, EvaluatesP, EvaluatesE, EvaluatesBoth}
 use Rattle.evaluators.specs.Nodes.{IsExpr, TwoFields}
 use Rattle.evaluators.proofs.RunLaws.{then-done, then-refused, returns, visited, fitting-done, fitting-refused}
@@ -114,25 +114,25 @@ module _ (budget : ℕ) (gs : List ℕ) (n : ℕ) (j : Test) (e f : Expr) (ρ : 
   abbrev next : Value → M Bool
   next v = valueᵉ budget gs f ρ >>= λ w. last v w
 
-  test-from : {x : End Bool} {t : ℕ} → Ends ((valueᵉ budget gs e ρ >>= next) (suc s)) x t → Ends (holdsᵖ budget gs (testᵖ n j e f) ρ s) x t
+  test-from : {x : End Bool} {t : ℕ} → EndsWith ((valueᵉ budget gs e ρ >>= next) (suc s)) x t → EndsWith (holdsᵖ budget gs (testᵖ n j e f) ρ s) x t
   unfolding holdsᵖ
   test-from h = visited budget n s (valueᵉ budget gs e ρ >>= next) l h
 
-  test-refused : {k p t : ℕ} → Ends (valueᵉ budget gs e ρ (suc s)) (refused k p) t ⊎ SecondFails (valueᵉ budget gs e ρ) (valueᵉ budget gs f ρ) (suc s) k p t →
-      Ends (holdsᵖ budget gs (testᵖ n j e f) ρ s) (refused k p) t
+  test-refused : {k p t : ℕ} → EndsWith (valueᵉ budget gs e ρ (suc s)) (refused k p) t ⊎ SecondFails (valueᵉ budget gs e ρ) (valueᵉ budget gs f ρ) (suc s) k p t →
+      EndsWith (holdsᵖ budget gs (testᵖ n j e f) ρ s) (refused k p) t
   test-refused (inl h) = test-from (then-refused (valueᵉ budget gs e ρ) next (suc s) h)
   test-refused (inr h) =
       test-from (then-done (valueᵉ budget gs e ρ) next (suc s) (h .left)
       (then-refused (valueᵉ budget gs f ρ) (last (h .first)) (h .between) (h .right)))
 
-  module _ {v w : Value} {m t : ℕ} (a : Ends (valueᵉ budget gs e ρ (suc s)) (done v) m) (b : Ends (valueᵉ budget gs f ρ m) (done w) t) where
-    test-last : {x : End Bool} → Ends (last v w t) x t → Ends (holdsᵖ budget gs (testᵖ n j e f) ρ s) x t
+  module _ {v w : Value} {m t : ℕ} (a : EndsWith (valueᵉ budget gs e ρ (suc s)) (done v) m) (b : EndsWith (valueᵉ budget gs f ρ m) (done w) t) where
+    test-last : {x : End Bool} → EndsWith (last v w t) x t → EndsWith (holdsᵖ budget gs (testᵖ n j e f) ρ s) x t
     test-last h = test-from (then-done (valueᵉ budget gs e ρ) next (suc s) a (then-done (valueᵉ budget gs f ρ) (last v) m b h))
 
-    test-unfits : fits (testRule j .takes) (v ∷ w ∷ []) ≡ false → Ends (holdsᵖ budget gs (testᵖ n j e f) ρ s) (refused 15 n) t
+    test-unfits : fits (testRule j .takes) (v ∷ w ∷ []) ≡ false → EndsWith (holdsᵖ budget gs (testᵖ n j e f) ρ s) (refused 15 n) t
     test-unfits q = test-last (then-refused (fitting n (testRule j) (v ∷ w ∷ [])) (λ _. return (holds j v w)) t (fitting-refused n (testRule j) (v ∷ w ∷ []) t q))
 
-    test-fits : fits (testRule j .takes) (v ∷ w ∷ []) ≡ true → Ends (holdsᵖ budget gs (testᵖ n j e f) ρ s) (done (holds j v w)) t
+    test-fits : fits (testRule j .takes) (v ∷ w ∷ []) ≡ true → EndsWith (holdsᵖ budget gs (testᵖ n j e f) ρ s) (done (holds j v w)) t
     test-fits q =
         test-last (then-done (fitting n (testRule j) (v ∷ w ∷ [])) (λ _. return (holds j v w)) t (fitting-done n (testRule j) (v ∷ w ∷ []) t q)
         (returns (holds j v w) t))
@@ -235,6 +235,6 @@ module _ {bs : List ℕ} {base : ℕ} {env s : List ℕ} {top k n steps budget :
                   let v = h .answer g ρ le i in
                   let w = tells-truth j (v .first) (v .second)
                   (sym q ∙ op j e (tableOf bs .sizes) (v .first) (v .second) (sizes-small bs (x .ready .readable)) (v .leftAt) (v .rightAt)) in
-                  subst (λ (z : Bool). Ends (holdsᵖ budget (tableOf bs .sizes) (testᵖ n j (eᵃ g) (eᵇ g)) ρ steps) (done z) t) (w .1)
+                  subst (λ (z : Bool). EndsWith (holdsᵖ budget (tableOf bs .sizes) (testᵖ n j (eᵃ g) (eᵇ g)) ρ steps) (done z) t) (w .1)
                   (test-fits budget (tableOf bs .sizes) n j (eᵃ g) (eᵇ g) ρ steps (x .spent) (v .left) (v .right) (w .0)));
             }

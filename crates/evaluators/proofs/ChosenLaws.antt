@@ -23,7 +23,7 @@ use Rattle.operations.proofs.GoodLaws.{good-fits}
 use Rattle.evaluators.specs.declared.Held.{Held}
 use Rattle.evaluators.specs.declared.Held.the-variants.{Truth, Refused}
 use Rattle.evaluators.specs.declared.Formed.the-variants.{Value as Placed, Stopped}
-use Rattle.evaluators.specs.Answers.{Ends, Listed, SelectedAs}
+use Rattle.evaluators.specs.Answers.{EndsWith, Listed, SelectedAs}
 use Rattle.evaluators.specs.Nodes.{IsPred, ChooseReady, Chooses}
 use Rattle.evaluators.specs.Cycle.{Binds, Ready, bodyAt, EvaluatesP, EachReady, EvaluatesChosen}
 use Rattle.evaluators.proofs.RunLaws.{then-done, then-refused, returns}
@@ -37,7 +37,7 @@ picked b v = cond b (v ∷ []) []
 
 module _ (g : Value → M Bool) where
   -- No members are left.
-  pub select-none : (m : ℕ) → Ends (select g [] m) (done []) m
+  pub select-none : (m : ℕ) → EndsWith (select g [] m) (done []) m
   unfolding select
   select-none m = returns [] m
 
@@ -47,18 +47,18 @@ module _ (g : Value → M Bool) where
     onward b = select g vs >>= λ ws. elim b [ true ↦ return (v ∷ ws) | false ↦ return ws ]
 
     -- The body is refused there.
-    pub select-refused : {k p t : ℕ} → Ends (g v m) (refused k p) t → Ends (select g (v ∷ vs) m) (refused k p) t
+    pub select-refused : {k p t : ℕ} → EndsWith (g v m) (refused k p) t → EndsWith (select g (v ∷ vs) m) (refused k p) t
     unfolding select
     select-refused h = then-refused (g v) onward m h
 
     -- It ends there, and the run goes on to the other members.
-    pub select-on : (b : Bool) {t : ℕ} {ws : List Value} {u : ℕ} → Ends (g v m) (done b) t → Ends (select g vs t) (done ws) u →
-        Ends (select g (v ∷ vs) m) (done (picked b v ++ ws)) u
+    pub select-on : (b : Bool) {t : ℕ} {ws : List Value} {u : ℕ} → EndsWith (g v m) (done b) t → EndsWith (select g vs t) (done ws) u →
+        EndsWith (select g (v ∷ vs) m) (done (picked b v ++ ws)) u
     unfolding select
     select-on true {t} {ws} {u} h k = then-done (g v) onward m h (then-done (select g vs) (λ ws. return (v ∷ ws)) t k (returns (v ∷ ws) u))
     select-on false {t} {ws} {u} h k = then-done (g v) onward m h (then-done (select g vs) (λ ws. return ws) t k (returns ws u))
 
-    pub select-stops : (b : Bool) {t k p u : ℕ} → Ends (g v m) (done b) t → Ends (select g vs t) (refused k p) u → Ends (select g (v ∷ vs) m) (refused k p) u
+    pub select-stops : (b : Bool) {t k p u : ℕ} → EndsWith (g v m) (done b) t → EndsWith (select g vs t) (refused k p) u → EndsWith (select g (v ∷ vs) m) (refused k p) u
     unfolding select
     select-stops true {t} h k = then-done (g v) onward m h (then-refused (select g vs) (λ ws. return (v ∷ ws)) t k)
     select-stops false {t} h k = then-done (g v) onward m h (then-refused (select g vs) (λ ws. return ws) t k)
@@ -72,8 +72,8 @@ pub record Selecting (g : Value → M Bool) (whole : List Value) (steps : ℕ) (
   pub ends : to ≡ top + 1 + weights (values taken)
   pub counted : chosen ≡ count (values taken)
   pub light : weights (values taken) + weights rest ≤ 255
-  pub goes : {ws : List Value} {t : ℕ} → Ends (select g (members rest) m) (done ws) t → Ends (select g whole steps) (done (taken ++ ws)) t
-  pub stops : {k p t : ℕ} → Ends (select g (members rest) m) (refused k p) t → Ends (select g whole steps) (refused k p) t
+  pub goes : {ws : List Value} {t : ℕ} → EndsWith (select g (members rest) m) (done ws) t → EndsWith (select g whole steps) (done (taken ++ ws)) t
+  pub stops : {k p t : ℕ} → EndsWith (select g (members rest) m) (refused k p) t → EndsWith (select g whole steps) (refused k p) t
 
 pub selecting-start : (g : Value → M Bool) (steps : ℕ) (gs s : List ℕ) (top from n : ℕ) (vs : Values) → top + 1 ≤ length s → Listed gs s top from n vs →
     Selecting g (members vs) steps gs s top from n steps (top + 1) 0
@@ -130,14 +130,14 @@ module _ {g : Value → M Bool} {whole : List Value} {steps : ℕ} {gs s : List 
   pub selecting-member : 0 < left → First gs s top at left (h .rest)
   selecting-member more = first-member (h .rest) (h .listed) more
 
-  pub selecting-refused : (more : 0 < left) {k p t : ℕ} → Ends (g (selecting-member more .value) m) (refused k p) t → Ends (select g whole steps) (refused k p) t
+  pub selecting-refused : (more : 0 < left) {k p t : ℕ} → EndsWith (g (selecting-member more .value) m) (refused k p) t → EndsWith (select g whole steps) (refused k p) t
   selecting-refused more {k} {p} {t} e =
       let u = selecting-member more in
-      h .stops (subst (λ (l : List Value). Ends (select g l m) (refused k p) t) (sym (ap members (u .is))) (select-refused g (u .value) (members (u .rest)) m e))
+      h .stops (subst (λ (l : List Value). EndsWith (select g l m) (refused k p) t) (sym (ap members (u .is))) (select-refused g (u .value) (members (u .rest)) m e))
 
   -- After a turn: the arena is s₁ behind the body, and s₂ with the member added if it is chosen.
   pub selecting-turn : (more : 0 < left) (s₁ : List ℕ) (end : ℕ) (b : Bool) (t : ℕ) (s₂ : List ℕ) (r : ℕ) → to + 255 ≤ length s → Same to s s₁ →
-      end ≡ at + weight (selecting-member more .value) → Ends (g (selecting-member more .value) m) (done b) t → Chooses s₁ at end b to s₂ r →
+      end ≡ at + weight (selecting-member more .value) → EndsWith (g (selecting-member more .value) m) (done b) t → Chooses s₁ at end b to s₂ r →
       Selecting g whole steps gs s₂ top end (left - 1) t r (chosen + boolByte b)
   selecting-turn more s₁ end b t s₂ r room same e run c =
       let u = selecting-member more in
@@ -158,9 +158,9 @@ module _ {g : Value → M Bool} {whole : List Value} {steps : ℕ} {gs s : List 
         counted = omega (arith, h .counted, chosen-count b (u .value), count-append (h .taken) (picked b (u .value)));
         light = omega (arith, sum, h .light, chosen-light b (u .value), weights-append (h .taken) (picked b (u .value)));
         goes = λ {ws} {t = q} x.
-            subst (λ (l : List Value). Ends (select g whole steps) (done l) q) (sym (append-assoc (h .taken) (picked b (u .value)) ws))
-            (h .goes (subst (λ (l : List Value). Ends (select g l m) (done (picked b (u .value) ++ ws)) q) (sym is) (select-on g (u .value) (members (u .rest)) m b run x)));
-        stops = λ {k} {p} {t = q} x. h .stops (subst (λ (l : List Value). Ends (select g l m) (refused k p) q) (sym is) (select-stops g (u .value) (members (u .rest)) m b run x));
+            subst (λ (l : List Value). EndsWith (select g whole steps) (done l) q) (sym (append-assoc (h .taken) (picked b (u .value)) ws))
+            (h .goes (subst (λ (l : List Value). EndsWith (select g l m) (done (picked b (u .value) ++ ws)) q) (sym is) (select-on g (u .value) (members (u .rest)) m b run x)));
+        stops = λ {k} {p} {t = q} x. h .stops (subst (λ (l : List Value). EndsWith (select g l m) (refused k p) q) (sym is) (select-stops g (u .value) (members (u .rest)) m b run x));
       }
 
   -- No member is left: the set of those chosen, its cell written last.
@@ -172,8 +172,8 @@ module _ {g : Value → M Bool} {whole : List Value} {steps : ℕ} {gs s : List 
       let l = made .light (omega (arith, h .light)) in
       record {
         chosen = h .taken;
-        ends = subst (λ (l : List Value). Ends (select g whole steps) (done l) m) (append-nil (h .taken))
-            (h .goes (subst (λ (l : List Value). Ends (select g l m) (done []) m) (sym (none-left (h .rest) (h .listed) z)) (select-none g m)));
+        ends = subst (λ (l : List Value). EndsWith (select g whole steps) (done l) m) (append-nil (h .taken))
+            (h .goes (subst (λ (l : List Value). EndsWith (select g l m) (done []) m) (sym (none-left (h .rest) (h .listed) z)) (select-none g m)));
         stands = l .1;
         ending = l .0;
       }

@@ -32,7 +32,7 @@ use Rattle.operations.proofs.KindLaws.{testCode, quantCode, oneCode, twoCode, c
 use Rattle.evaluators.specs.declared.Formed.{Formed}
 use Rattle.evaluators.specs.declared.Formed.the-variants.{Stopped}
 use Rattle.evaluators.specs.declared.Held.the-variants.{Refused}
-use Rattle.evaluators.specs.Answers.{Ends, PlacedAs}
+use Rattle.evaluators.specs.Answers.{EndsWith, PlacedAs}
 use Rattle.evaluators.specs.Nodes.{IsPred, IsExpr, NameReady, NameAt, LeafNode, LeafFormed}
 use Rattle.evaluators.specs.Cycle.{Binds, Ready, Visited, Sort, EvaluatesP, EvaluatesE}
 use Rattle.evaluators.proofs.RunLaws.{visited, unvisited}
@@ -72,14 +72,14 @@ predAt-number (suc f) ns n = predOf-number (kindAt ns n) n (nodeAt ns n) (λ m. 
 
 -- 19: the visits are spent.
 module _ (budget : ℕ) (gs : List ℕ) (ρ : Env) (s : ℕ) (e : s ≡ budget) where
-  pred-spent : (p : Pred) → Ends (holdsᵖ budget gs p ρ s) (refused 19 (numberᵖ p)) s
+  pred-spent : (p : Pred) → EndsWith (holdsᵖ budget gs p ρ s) (refused 19 (numberᵖ p)) s
   unfolding holdsᵖ
   pred-spent (joinᵖ n j p q) = unvisited budget n s _ e
   pred-spent (notᵖ n p) = unvisited budget n s _ e
   pred-spent (testᵖ n j a b) = unvisited budget n s _ e
   pred-spent (quantᵖ n j x r p) = unvisited budget n s _ e
 
-  expr-spent : (a : Expr) → Ends (valueᵉ budget gs a ρ s) (refused 19 (numberᵉ a)) s
+  expr-spent : (a : Expr) → EndsWith (valueᵉ budget gs a ρ s) (refused 19 (numberᵉ a)) s
   unfolding valueᵉ
   expr-spent (leafᵉ n j a b) = unvisited budget n s _ e
   expr-spent (boolᵉ n p) = unvisited budget n s _ e
@@ -93,7 +93,7 @@ module _ {bs : List ℕ} {base : ℕ} {env s : List ℕ} {top n steps budget : �
     frame = same-refl top s;
     bounds = r .unspent;
     answer = λ f ρ l b.
-        subst (λ (m : ℕ). Ends (holdsᵖ budget (tableOf bs .sizes) (predAt f (tableOf bs .nodes) n) ρ steps) (refused 19 m) steps)
+        subst (λ (m : ℕ). EndsWith (holdsᵖ budget (tableOf bs .sizes) (predAt f (tableOf bs .nodes) n) ρ steps) (refused 19 m) steps)
         (predAt-number f (tableOf bs .nodes) n) (pred-spent budget (tableOf bs .sizes) ρ steps e (predAt f (tableOf bs .nodes) n));
   }
 
@@ -102,7 +102,7 @@ module _ {bs : List ℕ} {base : ℕ} {env s : List ℕ} {top n steps budget : �
     frame = same-refl top s;
     bounds = r .unspent;
     answer = λ f ρ l b.
-        subst (λ (m : ℕ). Ends (valueᵉ budget (tableOf bs .sizes) (exprAt f (tableOf bs .nodes) n) ρ steps) (refused 19 m) steps)
+        subst (λ (m : ℕ). EndsWith (valueᵉ budget (tableOf bs .sizes) (exprAt f (tableOf bs .nodes) n) ρ steps) (refused 19 m) steps)
         (number-at f (tableOf bs .nodes) n) (expr-spent budget (tableOf bs .sizes) ρ steps e (exprAt f (tableOf bs .nodes) n));
   }
 
@@ -290,7 +290,7 @@ module _ (bs : List ℕ) (r : Readable bs) (n : ℕ) (lt : n < nodeCount bs) whe
   constant-fits boolSet e d h = tt
 
 -- A value that is not heavy is formed.
-light-form : (n : ℕ) (w : Value) (s : ℕ) → weight w ≤ 256 → Ends (form n (gives w) s) (done w) s
+light-form : (n : ℕ) (w : Value) (s : ℕ) → weight w ≤ 256 → EndsWith (form n (gives w) s) (done w) s
 light-form n w s h = record { end = rw (le-leb (weight w) 256 h); steps = rw (le-leb (weight w) 256 h) }
 
 given-same : (v w : Value) → gives v ≡ gives w → v ≡ w
@@ -337,7 +337,7 @@ module _ {bs : List ℕ} {base : ℕ} {env s : List ℕ} {top k n steps budget :
   -- A leaf's value, which is not heavy, is formed at once.
   leaf-ends : (j : Leaf) → kindAt (tableOf bs .nodes) n ≡ some (leaf j) → (f : ℕ) (ρ : Env) → n < f →
       weight (leafValue (tableOf bs .sizes) j (nodeAt (tableOf bs .nodes) n .a) (nodeAt (tableOf bs .nodes) n .b) ρ) ≤ 256 →
-      Ends (valueᵉ budget (tableOf bs .sizes) (exprAt f (tableOf bs .nodes) n) ρ steps)
+      EndsWith (valueᵉ budget (tableOf bs .sizes) (exprAt f (tableOf bs .nodes) n) ρ steps)
       (done (leafValue (tableOf bs .sizes) j (nodeAt (tableOf bs .nodes) n .a) (nodeAt (tableOf bs .nodes) n .b) ρ)) (steps + 1)
   unfolding valueᵉ
   leaf-ends j e f ρ l light =

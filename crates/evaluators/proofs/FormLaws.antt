@@ -37,7 +37,7 @@ use Rattle.evaluators.specs.declared.Formed.the-variants.{Value as Place
 use Rattle.evaluators.specs.declared.Operands.the-variants.{Both, Failed}
 use Rattle.evaluators.specs.declared.Range.{Range}
 use Rattle.evaluators.specs.declared.Range.the-variants.{Set, Unlike}
-use Rattle.evaluators.specs.Answers.{Ends, PlacedAs, FormedAs, BothAs, SecondFails, Listed, SelectedAs, SettledAs, SettleReady}
+use Rattle.evaluators.specs.Answers.{EndsWith, PlacedAs, FormedAs, BothAs, SecondFails, Listed, SelectedAs, SettledAs, SettleReady}
 use Rattle.evaluators.specs.Nodes.{TwoFields, SomeGood, RangeAt}
 use Rattle.evaluators.specs.Cycle.{Binds, Visited, EvaluatesP, EvaluatesE, EvaluatesBoth, EachReady, bodyAt, EvaluatesChosen, Settles}
 use Rattle.evaluators.proofs.RunLaws.{then-done, then-refused, visited, endOf, form-ends, fitted-ends, fitting-done, fitting-refused, ends-as}
@@ -45,12 +45,12 @@ use Rattle.evaluators.proofs.NodeLaws.{sizes-small, binds-frame, Child,
 use Rattle.evaluators.proofs.RangeLaws.{placed-good, range-fits, range-listed, binder-ready}
 
 -- The visits after one more, as the code counts them.
-next-step : {A : Type 0} (m : M A) (s : ℕ) {e : End A} {t : ℕ} → Ends (m (s + 1)) e t → Ends (m (suc s)) e t
-next-step {A} m s {e} {t} h = let q : s + 1 ≡ suc s = omega arith in subst (λ (z : ℕ). Ends (m z) e t) q h
+next-step : {A : Type 0} (m : M A) (s : ℕ) {e : End A} {t : ℕ} → EndsWith (m (s + 1)) e t → EndsWith (m (suc s)) e t
+next-step {A} m s {e} {t} h = let q : s + 1 ≡ suc s = omega arith in subst (λ (z : ℕ). EndsWith (m z) e t) q h
 
 -- A node's end is what it gives; where that has been settled it is the node's answer.
 module _ (budget : ℕ) (bs : List ℕ) (f n : ℕ) (ρ : Env) (steps : ℕ) (readable : Readable bs) (ok : (x : ℕ) → T (good (tableOf bs .sizes) (ρ x)))
-    (g : Given) (t : ℕ) (e : Ends (valueᵉ budget (tableOf bs .sizes) (exprAt f (tableOf bs .nodes) n) ρ steps) (endOf n g) t) (s′ : List ℕ) where
+    (g : Given) (t : ℕ) (e : EndsWith (valueᵉ budget (tableOf bs .sizes) (exprAt f (tableOf bs .nodes) n) ρ steps) (endOf n g) t) (s′ : List ℕ) where
   pub settled-as : (r : Formed) → SettledAs g s′ n t r →
       FormedAs (valueᵉ budget (tableOf bs .sizes) (exprAt f (tableOf bs .nodes) n) ρ steps) (tableOf bs .sizes) s′ r
   settled-as (Placed at next m) h =
@@ -71,14 +71,14 @@ module _ (budget : ℕ) (bs : List ℕ) (f n : ℕ) (ρ : Env) (steps : ℕ) (re
 
 -- 27, 33, 35, 36, 38 and 43
 module _ (budget : ℕ) (gs : List ℕ) (n : ℕ) (j : One) (e : Expr) (ρ : Env) (s : ℕ) (l : s < budget) where
-  one-done : {v : Value} {t : ℕ} → Ends (valueᵉ budget gs e ρ (s + 1)) (done v) t → Ends (valueᵉ budget gs (oneᵉ n j e) ρ s) (endOf n (oneGiven j v)) t
+  one-done : {v : Value} {t : ℕ} → EndsWith (valueᵉ budget gs e ρ (s + 1)) (done v) t → EndsWith (valueᵉ budget gs (oneᵉ n j e) ρ s) (endOf n (oneGiven j v)) t
   unfolding valueᵉ oneGiven
   one-done {v} {t} h =
       visited budget n s _ l
       (then-done (valueᵉ budget gs e ρ) (λ v. fitting n (oneRule j) (v ∷ []) >> form n (oneValue j v)) (suc s) (next-step (valueᵉ budget gs e ρ) s h)
       (fitted-ends n (oneRule j) (v ∷ []) (oneValue j v) t))
 
-  one-refused : {k p t : ℕ} → Ends (valueᵉ budget gs e ρ (s + 1)) (refused k p) t → Ends (valueᵉ budget gs (oneᵉ n j e) ρ s) (refused k p) t
+  one-refused : {k p t : ℕ} → EndsWith (valueᵉ budget gs e ρ (s + 1)) (refused k p) t → EndsWith (valueᵉ budget gs (oneᵉ n j e) ρ s) (refused k p) t
   unfolding valueᵉ
   one-refused h =
       visited budget n s _ l
@@ -145,16 +145,16 @@ module _ (budget : ℕ) (gs : List ℕ) (n : ℕ) (j : Two) (e f : Expr) (ρ : E
   abbrev formed : Value → Value → M Value
   formed v w = fitting n (twoRule j) (v ∷ w ∷ []) >> form n (twoValue j v w)
 
-  two-done : {v w : Value} {m t : ℕ} → Ends (valueᵉ budget gs e ρ (s + 1)) (done v) m → Ends (valueᵉ budget gs f ρ m) (done w) t →
-      Ends (valueᵉ budget gs (twoᵉ n j e f) ρ s) (endOf n (twoGiven j v w)) t
+  two-done : {v w : Value} {m t : ℕ} → EndsWith (valueᵉ budget gs e ρ (s + 1)) (done v) m → EndsWith (valueᵉ budget gs f ρ m) (done w) t →
+      EndsWith (valueᵉ budget gs (twoᵉ n j e f) ρ s) (endOf n (twoGiven j v w)) t
   unfolding valueᵉ twoGiven
   two-done {v} {w} {m} {t} h k =
       visited budget n s _ l
       (then-done (valueᵉ budget gs e ρ) (λ v. valueᵉ budget gs f ρ >>= λ w. formed v w) (suc s) (next-step (valueᵉ budget gs e ρ) s h)
       (then-done (valueᵉ budget gs f ρ) (λ w. formed v w) m k (fitted-ends n (twoRule j) (v ∷ w ∷ []) (twoValue j v w) t)))
 
-  two-refused : {q p t : ℕ} → Ends (valueᵉ budget gs e ρ (s + 1)) (refused q p) t ⊎ SecondFails (valueᵉ budget gs e ρ) (valueᵉ budget gs f ρ) (s + 1) q p t →
-      Ends (valueᵉ budget gs (twoᵉ n j e f) ρ s) (refused q p) t
+  two-refused : {q p t : ℕ} → EndsWith (valueᵉ budget gs e ρ (s + 1)) (refused q p) t ⊎ SecondFails (valueᵉ budget gs e ρ) (valueᵉ budget gs f ρ) (s + 1) q p t →
+      EndsWith (valueᵉ budget gs (twoᵉ n j e f) ρ s) (refused q p) t
   unfolding valueᵉ
   two-refused (inl h) =
       visited budget n s _ l
@@ -246,14 +246,14 @@ truth-code true = refl
 truth-code false = refl
 
 module _ (budget : ℕ) (gs : List ℕ) (n : ℕ) (p : Pred) (ρ : Env) (s : ℕ) (l : s < budget) where
-  bool-done : {b : Bool} {t : ℕ} → Ends (holdsᵖ budget gs p ρ (s + 1)) (done b) t → Ends (valueᵉ budget gs (boolᵉ n p) ρ s) (done (truthValue b)) t
+  bool-done : {b : Bool} {t : ℕ} → EndsWith (holdsᵖ budget gs p ρ (s + 1)) (done b) t → EndsWith (valueᵉ budget gs (boolᵉ n p) ρ s) (done (truthValue b)) t
   unfolding valueᵉ
   bool-done {b} {t} h =
       visited budget n s _ l
       (then-done (holdsᵖ budget gs p ρ) (λ b. form n (gives (truthValue b))) (suc s) (next-step (holdsᵖ budget gs p ρ) s h)
       (form-ends n (gives (truthValue b)) t))
 
-  bool-refused : {q a t : ℕ} → Ends (holdsᵖ budget gs p ρ (s + 1)) (refused q a) t → Ends (valueᵉ budget gs (boolᵉ n p) ρ s) (refused q a) t
+  bool-refused : {q a t : ℕ} → EndsWith (holdsᵖ budget gs p ρ (s + 1)) (refused q a) t → EndsWith (valueᵉ budget gs (boolᵉ n p) ρ s) (refused q a) t
   unfolding valueᵉ
   bool-refused h =
       visited budget n s _ l
@@ -304,7 +304,7 @@ module _ {bs : List ℕ} {base : ℕ} {env s : List ℕ} {top k n m steps budget
 -- The range of a node, as the set of n members that it is.
 record RangeHere (x : Run Value) (gs s : List ℕ) (at next t n : ℕ) : Type 0 where
   range : Values
-  ends : Ends x (done (set range)) t
+  ends : EndsWith x (done (set range)) t
   listed : Listed gs s next (at + 1) n range
   fit : fits (comprehensionRule .takes) (set range ∷ []) ≡ true
 
@@ -313,7 +313,7 @@ range-here {x} {gs} {s} {at} {next} {t} n z g h =
     let r = g gs next (h .value) z (h .place) in
     record {
       range = r .members;
-      ends = subst (λ (v : Value). Ends x (done v) t) (r .is) (h .ends);
+      ends = subst (λ (v : Value). EndsWith x (done v) t) (r .is) (h .ends);
       listed = range-listed (h .place) r;
       fit = subst (λ (v : Value). fits (comprehensionRule .takes) (v ∷ []) ≡ true) (r .is) (range-fits (h .place) r);
     }
@@ -326,39 +326,39 @@ module _ (budget : ℕ) (gs : List ℕ) (n x : ℕ) (r : Expr) (p : Pred) (ρ : 
   tested v = fitting n comprehensionRule (v ∷ []) >> chosen v
 
   -- After the range.
-  select-after : {v : Value} {m : ℕ} {e : End Value} {t : ℕ} → Ends (valueᵉ budget gs r ρ (s + 1)) (done v) m → Ends (tested v m) e t →
-      Ends (valueᵉ budget gs (comprehensionᵉ n x r p) ρ s) e t
+  select-after : {v : Value} {m : ℕ} {e : End Value} {t : ℕ} → EndsWith (valueᵉ budget gs r ρ (s + 1)) (done v) m → EndsWith (tested v m) e t →
+      EndsWith (valueᵉ budget gs (comprehensionᵉ n x r p) ρ s) e t
   unfolding valueᵉ
   select-after h k = visited budget n s _ l (then-done (valueᵉ budget gs r ρ) tested (suc s) (next-step (valueᵉ budget gs r ρ) s h) k)
 
-  select-refused : {q a t : ℕ} → Ends (valueᵉ budget gs r ρ (s + 1)) (refused q a) t → Ends (valueᵉ budget gs (comprehensionᵉ n x r p) ρ s) (refused q a) t
+  select-refused : {q a t : ℕ} → EndsWith (valueᵉ budget gs r ρ (s + 1)) (refused q a) t → EndsWith (valueᵉ budget gs (comprehensionᵉ n x r p) ρ s) (refused q a) t
   unfolding valueᵉ
   select-refused h = visited budget n s _ l (then-refused (valueᵉ budget gs r ρ) tested (suc s) (next-step (valueᵉ budget gs r ρ) s h))
 
-  select-unlike : {v : Value} {t : ℕ} → Ends (valueᵉ budget gs r ρ (s + 1)) (done v) t → fits (comprehensionRule .takes) (v ∷ []) ≡ false →
-      Ends (valueᵉ budget gs (comprehensionᵉ n x r p) ρ s) (refused 15 n) t
+  select-unlike : {v : Value} {t : ℕ} → EndsWith (valueᵉ budget gs r ρ (s + 1)) (done v) t → fits (comprehensionRule .takes) (v ∷ []) ≡ false →
+      EndsWith (valueᵉ budget gs (comprehensionᵉ n x r p) ρ s) (refused 15 n) t
   select-unlike {v} {t} h f =
       select-after h (then-refused (fitting n comprehensionRule (v ∷ [])) (λ _. chosen v) t (fitting-refused n comprehensionRule (v ∷ []) t f))
 
   -- After the test of the range.
-  select-on : {v : Value} {m : ℕ} {e : End Value} {t : ℕ} → Ends (valueᵉ budget gs r ρ (s + 1)) (done v) m →
-      fits (comprehensionRule .takes) (v ∷ []) ≡ true → Ends (chosen v m) e t → Ends (valueᵉ budget gs (comprehensionᵉ n x r p) ρ s) e t
+  select-on : {v : Value} {m : ℕ} {e : End Value} {t : ℕ} → EndsWith (valueᵉ budget gs r ρ (s + 1)) (done v) m →
+      fits (comprehensionRule .takes) (v ∷ []) ≡ true → EndsWith (chosen v m) e t → EndsWith (valueᵉ budget gs (comprehensionᵉ n x r p) ρ s) e t
   select-on {v} {m} h f k =
       select-after h (then-done (fitting n comprehensionRule (v ∷ [])) (λ _. chosen v) m (fitting-done n comprehensionRule (v ∷ []) m f) k)
 
-  select-stops : {v : Value} {m q a t : ℕ} → Ends (valueᵉ budget gs r ρ (s + 1)) (done v) m → fits (comprehensionRule .takes) (v ∷ []) ≡ true →
-      Ends (select (λ w. holdsᵖ budget gs p (ρ with x ≔ w)) (elems v) m) (refused q a) t →
-      Ends (valueᵉ budget gs (comprehensionᵉ n x r p) ρ s) (refused q a) t
+  select-stops : {v : Value} {m q a t : ℕ} → EndsWith (valueᵉ budget gs r ρ (s + 1)) (done v) m → fits (comprehensionRule .takes) (v ∷ []) ≡ true →
+      EndsWith (select (λ w. holdsᵖ budget gs p (ρ with x ≔ w)) (elems v) m) (refused q a) t →
+      EndsWith (valueᵉ budget gs (comprehensionᵉ n x r p) ρ s) (refused q a) t
   select-stops {v} {m} h f k =
       select-on h f (then-refused (select (λ w. holdsᵖ budget gs p (ρ with x ≔ w)) (elems v)) (λ ws. form n (gives (setOf ws))) m k)
 
-  select-done : {v : Value} {m : ℕ} {ws : List Value} {t : ℕ} → Ends (valueᵉ budget gs r ρ (s + 1)) (done v) m →
-      fits (comprehensionRule .takes) (v ∷ []) ≡ true → Ends (select (λ w. holdsᵖ budget gs p (ρ with x ≔ w)) (elems v) m) (done ws) t →
-      weight (setOf ws) ≤ 256 → Ends (valueᵉ budget gs (comprehensionᵉ n x r p) ρ s) (done (setOf ws)) t
+  select-done : {v : Value} {m : ℕ} {ws : List Value} {t : ℕ} → EndsWith (valueᵉ budget gs r ρ (s + 1)) (done v) m →
+      fits (comprehensionRule .takes) (v ∷ []) ≡ true → EndsWith (select (λ w. holdsᵖ budget gs p (ρ with x ≔ w)) (elems v) m) (done ws) t →
+      weight (setOf ws) ≤ 256 → EndsWith (valueᵉ budget gs (comprehensionᵉ n x r p) ρ s) (done (setOf ws)) t
   select-done {v} {m} {ws} {t} h f k light =
       let q : endOf n (weighed (gives (setOf ws))) ≡ done (setOf ws) = rw (le-leb (weight (setOf ws)) 256 light) in
       select-on h f (then-done (select (λ w. holdsᵖ budget gs p (ρ with x ≔ w)) (elems v)) (λ ws. form n (gives (setOf ws))) m k
-      (subst (λ (e : End Value). Ends (form n (gives (setOf ws)) t) e t) q (form-ends n (gives (setOf ws)) t)))
+      (subst (λ (e : End Value). EndsWith (form n (gives (setOf ws)) t) e t) q (form-ends n (gives (setOf ws)) t)))
 
 -- The same answers under equal names.
 pub range-as : {s : List ℕ} {at : ℕ} {r r′ : Range} → r ≡ r′ → RangeAt s at r → RangeAt s at r′

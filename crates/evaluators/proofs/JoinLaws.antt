@@ -18,7 +18,7 @@ use Rattle.arena.specs.Code.{Same}
 use Rattle.arena.proofs.Standing.{same-refl, same-trans}
 use Rattle.evaluators.specs.declared.Held.{Held}
 use Rattle.evaluators.specs.declared.Held.the-variants.{Truth, Refused}
-use Rattle.evaluators.specs.Answers.{Ends, HeldAs, HeldBounds}
+use Rattle.evaluators.specs.Answers.{EndsWith, HeldAs, HeldBounds}
 use Rattle.evaluators.specs.Cycle.{Binds, Ready, Visited, EvaluatesP}
 use Rattle.evaluators.specs.Nodes.{IsPred, DecidesBy, JoinedBy}
 use Rattle.evaluators.proofs.RunLaws.{then-done, then-refused, returns, visited}
@@ -44,13 +44,13 @@ held-at budget gs ns n x e ρ steps r f l h =
 
 module _ (budget : ℕ) (gs : List ℕ) (n : ℕ) (ρ : Env) (s : ℕ) (l : s < budget) where
   -- 4
-  not-done : (p : Pred) {a : Bool} {t : ℕ} → Ends (holdsᵖ budget gs p ρ (suc s)) (done a) t → Ends (holdsᵖ budget gs (notᵖ n p) ρ s) (done (not a)) t
+  not-done : (p : Pred) {a : Bool} {t : ℕ} → EndsWith (holdsᵖ budget gs p ρ (suc s)) (done a) t → EndsWith (holdsᵖ budget gs (notᵖ n p) ρ s) (done (not a)) t
   unfolding holdsᵖ
   not-done p {a} {t} h =
       visited budget n s (holdsᵖ budget gs p ρ >>= λ a. return (not a)) l
       (then-done (holdsᵖ budget gs p ρ) (λ a. return (not a)) (suc s) h (returns (not a) t))
 
-  not-refused : (p : Pred) {k q t : ℕ} → Ends (holdsᵖ budget gs p ρ (suc s)) (refused k q) t → Ends (holdsᵖ budget gs (notᵖ n p) ρ s) (refused k q) t
+  not-refused : (p : Pred) {k q t : ℕ} → EndsWith (holdsᵖ budget gs p ρ (suc s)) (refused k q) t → EndsWith (holdsᵖ budget gs (notᵖ n p) ρ s) (refused k q) t
   unfolding holdsᵖ
   not-refused p h =
       visited budget n s (holdsᵖ budget gs p ρ >>= λ a. return (not a)) l
@@ -103,11 +103,11 @@ pub not-turns : {bs env s : List ℕ} {top n steps budget : ℕ} {s′ : List �
 not-turns e h = held-as refl (ap negated e) h
 
 -- What decides, and what does not.
-or-decided : {A : Type 0} (o : Option A) (m : M A) (a : A) (t : ℕ) → o ≡ some a → Ends ((o orElse m) t) (done a) t
-or-decided {A} o m a t e = subst (λ (z : Option A). Ends ((z orElse m) t) (done a) t) (sym e) (returns a t)
+or-decided : {A : Type 0} (o : Option A) (m : M A) (a : A) (t : ℕ) → o ≡ some a → EndsWith ((o orElse m) t) (done a) t
+or-decided {A} o m a t e = subst (λ (z : Option A). EndsWith ((z orElse m) t) (done a) t) (sym e) (returns a t)
 
-or-rest : {A : Type 0} (o : Option A) (m : M A) (t : ℕ) {x : End A} {u : ℕ} → o ≡ nothing → Ends (m t) x u → Ends ((o orElse m) t) x u
-or-rest {A} o m t {x} {u} e h = subst (λ (z : Option A). Ends ((z orElse m) t) x u) (sym e) h
+or-rest : {A : Type 0} (o : Option A) (m : M A) (t : ℕ) {x : End A} {u : ℕ} → o ≡ nothing → EndsWith (m t) x u → EndsWith ((o orElse m) t) x u
+or-rest {A} o m t {x} {u} e h = subst (λ (z : Option A). EndsWith ((z orElse m) t) x u) (sym e) h
 
 module _ (budget : ℕ) (gs : List ℕ) (n : ℕ) (j : Join) (p q : Pred) (ρ : Env) (s : ℕ) (l : s < budget) where
   -- 1, 2, 3 and 5
@@ -117,24 +117,24 @@ module _ (budget : ℕ) (gs : List ℕ) (n : ℕ) (j : Join) (p q : Pred) (ρ : 
   abbrev rest : Bool → M Bool
   rest a = rules.decides j a orElse second a
 
-  join-from : {x : End Bool} {t : ℕ} → Ends ((holdsᵖ budget gs p ρ >>= rest) (suc s)) x t → Ends (holdsᵖ budget gs (joinᵖ n j p q) ρ s) x t
+  join-from : {x : End Bool} {t : ℕ} → EndsWith ((holdsᵖ budget gs p ρ >>= rest) (suc s)) x t → EndsWith (holdsᵖ budget gs (joinᵖ n j p q) ρ s) x t
   unfolding holdsᵖ
   join-from h = visited budget n s (holdsᵖ budget gs p ρ >>= rest) l h
 
-  join-refused : {k m t : ℕ} → Ends (holdsᵖ budget gs p ρ (suc s)) (refused k m) t → Ends (holdsᵖ budget gs (joinᵖ n j p q) ρ s) (refused k m) t
+  join-refused : {k m t : ℕ} → EndsWith (holdsᵖ budget gs p ρ (suc s)) (refused k m) t → EndsWith (holdsᵖ budget gs (joinᵖ n j p q) ρ s) (refused k m) t
   join-refused h = join-from (then-refused (holdsᵖ budget gs p ρ) rest (suc s) h)
 
-  module _ {a : Bool} {t : ℕ} (h : Ends (holdsᵖ budget gs p ρ (suc s)) (done a) t) where
-    join-decided : {b : Bool} → rules.decides j a ≡ some b → Ends (holdsᵖ budget gs (joinᵖ n j p q) ρ s) (done b) t
+  module _ {a : Bool} {t : ℕ} (h : EndsWith (holdsᵖ budget gs p ρ (suc s)) (done a) t) where
+    join-decided : {b : Bool} → rules.decides j a ≡ some b → EndsWith (holdsᵖ budget gs (joinᵖ n j p q) ρ s) (done b) t
     join-decided {b} e = join-from (then-done (holdsᵖ budget gs p ρ) rest (suc s) h (or-decided (rules.decides j a) (second a) b t e))
 
-    join-second : {x : End Bool} {u : ℕ} → rules.decides j a ≡ nothing → Ends (second a t) x u → Ends (holdsᵖ budget gs (joinᵖ n j p q) ρ s) x u
+    join-second : {x : End Bool} {u : ℕ} → rules.decides j a ≡ nothing → EndsWith (second a t) x u → EndsWith (holdsᵖ budget gs (joinᵖ n j p q) ρ s) x u
     join-second e d = join-from (then-done (holdsᵖ budget gs p ρ) rest (suc s) h (or-rest (rules.decides j a) (second a) t e d))
 
-    join-fails : {k m u : ℕ} → rules.decides j a ≡ nothing → Ends (holdsᵖ budget gs q ρ t) (refused k m) u → Ends (holdsᵖ budget gs (joinᵖ n j p q) ρ s) (refused k m) u
+    join-fails : {k m u : ℕ} → rules.decides j a ≡ nothing → EndsWith (holdsᵖ budget gs q ρ t) (refused k m) u → EndsWith (holdsᵖ budget gs (joinᵖ n j p q) ρ s) (refused k m) u
     join-fails e d = join-second e (then-refused (holdsᵖ budget gs q ρ) (λ b. return (rules.joined j a b)) t d)
 
-    join-done : {b : Bool} {u : ℕ} → rules.decides j a ≡ nothing → Ends (holdsᵖ budget gs q ρ t) (done b) u → Ends (holdsᵖ budget gs (joinᵖ n j p q) ρ s) (done (rules.joined j a b)) u
+    join-done : {b : Bool} {u : ℕ} → rules.decides j a ≡ nothing → EndsWith (holdsᵖ budget gs q ρ t) (done b) u → EndsWith (holdsᵖ budget gs (joinᵖ n j p q) ρ s) (done (rules.joined j a b)) u
     join-done {b} {u} e d =
         join-second e (then-done (holdsᵖ budget gs q ρ) (λ b. return (rules.joined j a b)) t d (returns (rules.joined j a b) u))
 

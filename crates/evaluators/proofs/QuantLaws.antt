@@ -29,7 +29,7 @@ use Rattle.evaluators.specs.declared.Formed.{Formed}
 use Rattle.evaluators.specs.declared.Formed.the-variants.{Value as Placed, Stopped}
 use Rattle.evaluators.specs.declared.Range.{Range}
 use Rattle.evaluators.specs.declared.Range.the-variants.{Set, Unlike}
-use Rattle.evaluators.specs.Answers.{Ends, HeldAs, PlacedAs, FormedAs, RangeSet, RangeAs, Listed}
+use Rattle.evaluators.specs.Answers.{EndsWith, HeldAs, PlacedAs, FormedAs, RangeSet, RangeAs, Listed}
 use Rattle.evaluators.specs.Nodes.{quantOf, IsPred, IsExpr, SomeGood, RangeAt}
 use Rattle.evaluators.specs.Cycle.{Binds, Ready, Visited, Sort, EachReady, bodyAt, EvaluatesP, EvaluatesE, EvaluatesEach}
 use Rattle.evaluators.proofs.RunLaws.{then-done, then-refused, returns, visited, fitting-done, fitting-refused}
@@ -54,24 +54,24 @@ agree false false e = refl
 -- A member that does not decide, one that does, and no member.
 module _ (g : Value → M Bool) where
   pub quantify-on : (all : Bool) (v : Value) (vs : List Value) (s : ℕ) {m : ℕ} {e : End Bool} {t : ℕ} →
-      Ends (g v s) (done all) m → Ends (quantify (quantOf all) g vs m) e t → Ends (quantify (quantOf all) g (v ∷ vs) s) e t
+      EndsWith (g v s) (done all) m → EndsWith (quantify (quantOf all) g vs m) e t → EndsWith (quantify (quantOf all) g (v ∷ vs) s) e t
   unfolding quantify
   quantify-on true v vs s h k = then-done (g v) (λ b. elim b [ true ↦ quantify forAll g vs | false ↦ return false ]) s h k
   quantify-on false v vs s h k = then-done (g v) (λ b. elim b [ true ↦ return true | false ↦ quantify forSome g vs ]) s h k
 
   pub quantify-stops : (all : Bool) (v : Value) (vs : List Value) (s : ℕ) {m : ℕ} →
-      Ends (g v s) (done (not all)) m → Ends (quantify (quantOf all) g (v ∷ vs) s) (done (not all)) m
+      EndsWith (g v s) (done (not all)) m → EndsWith (quantify (quantOf all) g (v ∷ vs) s) (done (not all)) m
   unfolding quantify
   quantify-stops true v vs s {m} h = then-done (g v) (λ b. elim b [ true ↦ quantify forAll g vs | false ↦ return false ]) s h (returns false m)
   quantify-stops false v vs s {m} h = then-done (g v) (λ b. elim b [ true ↦ return true | false ↦ quantify forSome g vs ]) s h (returns true m)
 
   pub quantify-refused : (all : Bool) (v : Value) (vs : List Value) (s : ℕ) {r p m : ℕ} →
-      Ends (g v s) (refused r p) m → Ends (quantify (quantOf all) g (v ∷ vs) s) (refused r p) m
+      EndsWith (g v s) (refused r p) m → EndsWith (quantify (quantOf all) g (v ∷ vs) s) (refused r p) m
   unfolding quantify
   quantify-refused true v vs s h = then-refused (g v) (λ b. elim b [ true ↦ quantify forAll g vs | false ↦ return false ]) s h
   quantify-refused false v vs s h = then-refused (g v) (λ b. elim b [ true ↦ return true | false ↦ quantify forSome g vs ]) s h
 
-  pub quantify-none : (all : Bool) (s : ℕ) → Ends (quantify (quantOf all) g [] s) (done all) s
+  pub quantify-none : (all : Bool) (s : ℕ) → EndsWith (quantify (quantOf all) g [] s) (done all) s
   unfolding quantify
   quantify-none true s = returns true s
   quantify-none false s = returns false s
@@ -80,7 +80,7 @@ module _ (g : Value → M Bool) where
 pub record Left (gs s : List ℕ) (top at left n : ℕ) (all : Bool) (g : Value → M Bool) (vs : Values) (steps : ℕ) : Type 0 where
   pub rest : Values
   pub listed : Listed gs s top at left rest
-  pub gives : (e : End Bool) (t : ℕ) → Ends (quantify (quantOf all) g (members rest) n) e t → Ends (quantify (quantOf all) g (members vs) steps) e t
+  pub gives : (e : End Bool) (t : ℕ) → EndsWith (quantify (quantOf all) g (members rest) n) e t → EndsWith (quantify (quantOf all) g (members vs) steps) e t
 
 -- Before each turn of the loop.
 pub record Turning (bs env s₀ : List ℕ) (top : ℕ) (all : Bool) (node from count steps budget x : ℕ) (s inner : List ℕ) (at left n : ℕ) : Type 0 where
@@ -169,7 +169,7 @@ module _ {bs : List ℕ} {base : ℕ} {env s₀ : List ℕ} {top : ℕ} {all : B
             let g = bodyAt bs budget node f ρ in
             let u = i .remains f ρ vs d b l in
             let w = next f ρ vs d b l in
-            let a : Ends (g (w .value) n) (refused k q) m = rw e at (body-ends f ρ vs d b l) in
+            let a : EndsWith (g (w .value) n) (refused k q) m = rw e at (body-ends f ρ vs d b l) in
             rw e (u .gives (refused k q) m (rw (w .is) (quantify-refused g all (w .value) (members (w .rest)) n a)));
       }
 
@@ -183,7 +183,7 @@ module _ {bs : List ℕ} {base : ℕ} {env s₀ : List ℕ} {top : ℕ} {all : B
             let g = bodyAt bs budget node f ρ in
             let u = i .remains f ρ vs d b l in
             let w = next f ρ vs d b l in
-            let a : Ends (g (w .value) n) (done (not all)) m = rw (e ∙ ap (λ (z : Bool). Truth z m) q) at (body-ends f ρ vs d b l) in
+            let a : EndsWith (g (w .value) n) (done (not all)) m = rw (e ∙ ap (λ (z : Bool). Truth z m) q) at (body-ends f ρ vs d b l) in
             rw q (u .gives (done (not all)) m (rw (w .is) (quantify-stops g all (w .value) (members (w .rest)) n a)));
       }
 
@@ -198,7 +198,7 @@ module _ {bs : List ℕ} {base : ℕ} {env s₀ : List ℕ} {top : ℕ} {all : B
             let g = bodyAt bs budget node f ρ in
             let u = i .remains f ρ vs d b l in
             let w = next f ρ vs d b l in
-            let a : Ends (g (w .value) n) (done all) m = rw (e ∙ ap (λ (z : Bool). Truth z m) q) at (body-ends f ρ vs d b l) in
+            let a : EndsWith (g (w .value) n) (done all) m = rw (e ∙ ap (λ (z : Bool). Truth z m) q) at (body-ends f ρ vs d b l) in
             let fits = good-fits (sizes-small bs (r .ready .readable)) (w .value) (w .here .good) in
             let y : end ≡ at + weight (w .value) = z (w .value) (good-frame (p .frame) (w .here) .stands) fits in
             record {
@@ -223,18 +223,18 @@ members-done {bs} {env} {s₀} {top} {all} {node} {from} {count} {steps} {budget
 
 -- The quantifier at a node, by how its range ends.
 module _ (budget : ℕ) (gs : List ℕ) (n : ℕ) (j : Quant) (x : ℕ) (e : Expr) (p : Pred) (ρ : Env) (s : ℕ) (lt : s < budget) where
-  quant-refused : {k q t : ℕ} → Ends (valueᵉ budget gs e ρ (suc s)) (refused k q) t → Ends (holdsᵖ budget gs (quantᵖ n j x e p) ρ s) (refused k q) t
+  quant-refused : {k q t : ℕ} → EndsWith (valueᵉ budget gs e ρ (suc s)) (refused k q) t → EndsWith (holdsᵖ budget gs (quantᵖ n j x e p) ρ s) (refused k q) t
   unfolding holdsᵖ
   quant-refused h = visited budget n s _ lt (then-refused (valueᵉ budget gs e ρ) _ (suc s) h)
 
-  quant-unlike : {v : Value} {t : ℕ} → Ends (valueᵉ budget gs e ρ (suc s)) (done v) t → fits (quantRule .takes) (v ∷ []) ≡ false →
-      Ends (holdsᵖ budget gs (quantᵖ n j x e p) ρ s) (refused 15 n) t
+  quant-unlike : {v : Value} {t : ℕ} → EndsWith (valueᵉ budget gs e ρ (suc s)) (done v) t → fits (quantRule .takes) (v ∷ []) ≡ false →
+      EndsWith (holdsᵖ budget gs (quantᵖ n j x e p) ρ s) (refused 15 n) t
   unfolding holdsᵖ
   quant-unlike {v} {t} h f =
       visited budget n s _ lt (then-done (valueᵉ budget gs e ρ) _ (suc s) h (then-refused (fitting n quantRule (v ∷ [])) _ t (fitting-refused n quantRule (v ∷ []) t f)))
 
-  quant-ends : {v : Value} {t : ℕ} {a : End Bool} {u : ℕ} → Ends (valueᵉ budget gs e ρ (suc s)) (done v) t → fits (quantRule .takes) (v ∷ []) ≡ true →
-      Ends (quantify j (λ w. holdsᵖ budget gs p (ρ with x ≔ w)) (elems v) t) a u → Ends (holdsᵖ budget gs (quantᵖ n j x e p) ρ s) a u
+  quant-ends : {v : Value} {t : ℕ} {a : End Bool} {u : ℕ} → EndsWith (valueᵉ budget gs e ρ (suc s)) (done v) t → fits (quantRule .takes) (v ∷ []) ≡ true →
+      EndsWith (quantify j (λ w. holdsᵖ budget gs p (ρ with x ≔ w)) (elems v) t) a u → EndsWith (holdsᵖ budget gs (quantᵖ n j x e p) ρ s) a u
   unfolding holdsᵖ
   quant-ends {v} {t} h f k =
       visited budget n s _ lt (then-done (valueᵉ budget gs e ρ) _ (suc s) h (then-done (fitting n quantRule (v ∷ [])) _ t (fitting-done n quantRule (v ∷ []) t f) k))
@@ -248,7 +248,7 @@ quant-of k j e = rw (code-of k (quant j) e) (go j)
     go forSome = refl
 
 -- Any end of one run is that of the other.
-held-on : {x y : Run Bool} (r : Held) → ((e : End Bool) (t : ℕ) → Ends x e t → Ends y e t) → HeldAs x r → HeldAs y r
+held-on : {x y : Run Bool} (r : Held) → ((e : End Bool) (t : ℕ) → EndsWith x e t → EndsWith y e t) → HeldAs x r → HeldAs y r
 held-on (Truth b n) g h = g (done b) n h
 held-on (Refused k p n) g h = g (refused k p) n h
 

@@ -28,14 +28,14 @@ use Rattle.evaluators.specs.declared.Range.{Range}
 use Rattle.evaluators.specs.declared.Range.the-variants.{Set, Unlike}
 
 -- A run's end and steps.
-pub record Ends {A : Type 0} (x : Run A) (e : End A) (n : ℕ) : Type 0 where
+pub record EndsWith {A : Type 0} (x : Run A) (e : End A) (n : ℕ) : Type 0 where
   pub end : x .end ≡ e
   pub steps : x .steps ≡ n
 
 -- The answer for a condition.
 abbrev pub HeldAs : Run Bool → Held → Type 0
-HeldAs x (Truth b n) = Ends x (done b) n
-HeldAs x (Refused k p n) = Ends x (refused k p) n
+HeldAs x (Truth b n) = EndsWith x (done b) n
+HeldAs x (Refused k p n) = EndsWith x (refused k p) n
 
 abbrev pub HeldBounds : ℕ → Held → Type 0
 HeldBounds budget (Truth b n) = n ≤ budget
@@ -44,12 +44,12 @@ HeldBounds budget (Refused k p n) = n ≤ budget
 -- The answer for an expression: a good value that stands at `at`, below `next`.
 pub record PlacedAs (x : Run Value) (gs s : List ℕ) (at next n : ℕ) : Type 0 where
   pub value : Value
-  pub ends : Ends x (done value) n
+  pub ends : EndsWith x (done value) n
   pub place : GoodAt gs s next at value
 
 abbrev pub FormedAs : Run Value → List ℕ → List ℕ → Formed → Type 0
 FormedAs x gs s (Placed at next n) = PlacedAs x gs s at next n
-FormedAs x gs s (Stopped k p n) = Ends x (refused k p) n
+FormedAs x gs s (Stopped k p n) = EndsWith x (refused k p) n
 
 abbrev pub FormedBounds : ℕ → ℕ → Formed → Type 0
 FormedBounds top budget (Placed at next n) = (top ≤ next) × (next ≤ top + 256) × (n ≤ budget)
@@ -60,8 +60,8 @@ pub record BothAs (e f : M Value) (steps : ℕ) (gs s : List ℕ) (a mid b next 
   pub first : Value
   pub second : Value
   pub between : ℕ
-  pub left : Ends (e steps) (done first) between
-  pub right : Ends (f between) (done second) n
+  pub left : EndsWith (e steps) (done first) between
+  pub right : EndsWith (f between) (done second) n
   pub leftAt : GoodAt gs s mid a first
   pub rightAt : GoodAt gs s next b second
 
@@ -69,12 +69,12 @@ pub record BothAs (e f : M Value) (steps : ℕ) (gs s : List ℕ) (a mid b next 
 pub record SecondFails (e f : M Value) (steps k p n : ℕ) : Type 0 where
   pub first : Value
   pub between : ℕ
-  pub left : Ends (e steps) (done first) between
-  pub right : Ends (f between) (refused k p) n
+  pub left : EndsWith (e steps) (done first) between
+  pub right : EndsWith (f between) (refused k p) n
 
 abbrev pub OperandsAs : M Value → M Value → ℕ → List ℕ → List ℕ → Operands → Type 0
 OperandsAs e f steps gs s (Both a mid b next n) = BothAs e f steps gs s a mid b next n
-OperandsAs e f steps gs s (Failed k p n) = Ends (e steps) (refused k p) n ⊎ SecondFails e f steps k p n
+OperandsAs e f steps gs s (Failed k p n) = EndsWith (e steps) (refused k p) n ⊎ SecondFails e f steps k p n
 
 abbrev pub OperandsBounds : ℕ → ℕ → Operands → Type 0
 OperandsBounds top budget (Both a mid b next n) = (top ≤ mid) × (mid ≤ top + 256) × (mid ≤ next) × (next ≤ mid + 256) × (n ≤ budget)
@@ -101,13 +101,13 @@ pub record Listed (gs s : List ℕ) (top from n : ℕ) (vs : Values) : Type 0 wh
 -- The members that a comprehension selects make a set, built at `top`.
 pub record SelectedAs (x : Run (List Value)) (s : List ℕ) (top end n : ℕ) : Type 0 where
   pub chosen : List Value
-  pub ends : Ends x (done chosen) n
+  pub ends : EndsWith x (done chosen) n
   pub stands : ValueAt s top (setOf chosen)
   pub ending : end ≡ top + weight (setOf chosen)
 
 abbrev pub ChosenAs : Run (List Value) → List ℕ → ℕ → Formed → Type 0
 ChosenAs x s top (Placed at next n) = SelectedAs x s top next n
-ChosenAs x s top (Stopped k p n) = Ends x (refused k p) n
+ChosenAs x s top (Stopped k p n) = EndsWith x (refused k p) n
 
 abbrev pub ChosenBounds : ℕ → ℕ → Formed → Type 0
 ChosenBounds top budget (Placed at next n) = (top < next) × (next ≤ top + 256) × (n ≤ budget)

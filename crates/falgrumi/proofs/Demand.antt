@@ -13,7 +13,7 @@ use Rattle.rules.specs.Cells.{noValue}
 use Rattle.rules.specs.Tables.{Table}
 use Rattle.rules.specs.Reading.{reading}
 use Rattle.rules.specs.Ends.{End, done, refused}
-use Rattle.rules.specs.Verdict.{placeOf, Place, Whole, Light, sheetAfter}
+use Rattle.rules.specs.Verdict.{nodePlace, Place, Whole, Light, sheetAfter}
 use Rattle.rules.specs.Verdict.{Verdict, unreadable, misfit, clash, several, heavy, accepts}
 use Rattle.rules.specs.Evaluation.{evaluation}
 use Rattle.rules.specs.Safety.{Any}
@@ -48,10 +48,10 @@ written (accepts {tb} {θ} e fits only light) =
 module _ {bs rows : List ℕ} (w : Written bs rows) where
   -- A value has its node's type, and the type written for its node.
   abbrev Typed : ℕ × Value → Type 0
-  Typed x = AtNode (IsExpression (w .table)) (λ n. w .θ (placeOf (w .table) n)) x
+  Typed x = AtNode (IsExpression (w .table)) (λ n. w .θ (nodePlace (w .table) n)) x
 
   abbrev TypedAsWritten : ℕ × Value → Type 0
-  TypedAsWritten x = HasWritten rows (placeOf (w .table) (x .0)) (x .1)
+  TypedAsWritten x = HasWritten rows (nodePlace (w .table) (x .0)) (x .1)
 
   -- The type written at a place is the place's type, since a row tells its type.
   has-type : (p : ℕ) (v : Value) → Place (w .table) p → HasWritten rows p v → HasType v (w .θ p)
@@ -59,7 +59,7 @@ module _ {bs rows : List ℕ} (w : Written bs rows) where
 
   has-written : (x : ℕ × Value) → Typed x → TypedAsWritten x
   has-written (n, v) (i, k) =
-      let p = placeOf (w .table) n in
+      let p = nodePlace (w .table) n in
       let h : Place (w .table) p = inr (n, i .0, i .1, refl) in
       (w .θ p, w .typed p h, w .light p h, k)
 

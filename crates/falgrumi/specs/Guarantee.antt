@@ -6,9 +6,9 @@ use lib.ListN.{length}
 use Rattle.rules.specs.Tables.{Table}
 use Rattle.rules.specs.Reading.{reading}
 use Rattle.rules.specs.Ends.{done, refused}
-use Rattle.rules.specs.Verdict.{placeOf}
+use Rattle.rules.specs.Verdict.{nodePlace}
 use Rattle.rules.specs.Evaluation.{evaluation}
-use Rattle.rules.specs.Safety.{Ends, Any, All}
+use Rattle.rules.specs.Safety.{EndsSafely, Any, All}
 use Rattle.conforms.specs.Conforming.{HasWritten, Conforming}
 use Rattle.typing.specs.Model.{verdict}
 use Rattle.evaluate.specs.declared.Evaluation.{Evaluation}
@@ -21,8 +21,8 @@ use Rattle.falgrumi.specs.declared.Guarded.the-variants.{Refused, Unlike
 pub record Guaranteed (bs sheet buffer : List ℕ) (budget : ℕ) : Type 0 where
   pub table : Table
   pub reads : reading bs ≡ done table
-  pub ends : Ends Any (evaluation bs buffer budget .end)
-  pub formed : All (λ x. HasWritten sheet (placeOf table (x .0)) (x .1)) (evaluation bs buffer budget .formed)
+  pub ends : EndsSafely Any (evaluation bs buffer budget .end)
+  pub formed : All (λ x. HasWritten sheet (nodePlace table (x .0)) (x .1)) (evaluation bs buffer budget .formed)
 
 -- A checked evaluation: Check has accepted and written the sheet, the values have the types written in it, and what is
 -- reported is the evaluation, with what is guaranteed of it.

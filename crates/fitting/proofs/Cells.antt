@@ -11,7 +11,7 @@ use lib.Dec.{T, eqb}
 use lib.ListN.{length, getD}
 use Rattle.rules.specs.Types.{whole}
 use Rattle.rules.specs.Values.{Scalar, num, truth, element, Value, scalar, pair, set, Values, none, _▸_, scalarTag, tag, count, weight, weights}
-use Rattle.rules.specs.Fits.{every, shape, shapes, inhabited, typed}
+use Rattle.rules.specs.Fits.{every, typesOf, sharedTypes, inhabited, typed}
 use Rattle.arena.specs.Code.{cellSize, scalarLow, code, codes, Stands, ValueAt, ValuesAt, ScalarFits, CellsFit, SomeAt, EndsAt}
 use Rattle.arena.proofs.CodeLaws.{length-code, bit-small, all-agree}
 use Rattle.arena.proofs.Standing.{stands-head, stands-tail, stands-front, stands-back}
@@ -157,7 +157,7 @@ module _ (s : List ℕ) (a : ℕ) where
 
   typed-parts : (x y : Value) → TypedAt s a (pair x y) → TypedAt s (a + 1) x × TypedAt s (a + 1 + weight x) y
   typed-parts x y h =
-      let p = and-split (inhabited (shape x)) (inhabited (shape y)) (h .typed) in (
+      let p = and-split (inhabited (typesOf x)) (inhabited (typesOf y)) (h .typed) in (
         record { stands = left-stands s a x y (h .stands); fits = h .fits .0; typed = p .0 },
         record { stands = right-stands s a x y (h .stands); fits = h .fits .1; typed = p .1 },
       )
@@ -185,8 +185,8 @@ as-run s a n (x ▸ ys) h l = (
   x,
   ys,
   refl,
-  record { stands = first-stands s a x ys (h .stands); fits = h .fits .0; typed = left-typed (shape x) (shapes ys) (h .typed) },
-  record { stands = rest-stand s a x ys (h .stands); fits = h .fits .1; typed = right-typed (shape x) (shapes ys) (h .typed); counted = omega (arith, h .counted) },
+  record { stands = first-stands s a x ys (h .stands); fits = h .fits .0; typed = left-typed (typesOf x) (sharedTypes ys) (h .typed) },
+  record { stands = rest-stand s a x ys (h .stands); fits = h .fits .1; typed = right-typed (typesOf x) (sharedTypes ys) (h .typed); counted = omega (arith, h .counted) },
 )
 
 pub no-run : {s : List ℕ} {a n : ℕ} (vs : Values) → RunAt s a n vs → n ≡ 0 → vs ≡ none
@@ -196,20 +196,20 @@ no-run (x ▸ ys) h e = absurd (omega (arith, h .counted))
 -- A value against a run, value by value.
 module _ (s : List ℕ) (a j left : ℕ) where
   pub with-end : left ≡ 0 → AgreedWith s a j left true
-  with-end z v ws h k = let e : ws ≡ none = no-run ws k z in rw e (sym (is-true (meets (shape v) every) (meets-every (shape v) (h .typed))))
+  with-end z v ws h k = let e : ws ≡ none = no-run ws k z in rw e (sym (is-true (meets (typesOf v) every) (meets-every (typesOf v) (h .typed))))
 
   pub with-false : 0 < left → Agreed s a j false → AgreedWith s a j left false
   unfolding agree
   with-false l g v ws h k =
       let x = as-run s j left ws k l in
-      let m = meets-both (shape v) (shape (x .0)) (shapes (x .1)) (rw (x .2) at (k .typed)) in
+      let m = meets-both (typesOf v) (typesOf (x .0)) (sharedTypes (x .1)) (rw (x .2) at (k .typed)) in
       rw (x .2, m, ← g v (x .0) h (x .3))
 
   pub with-step : (j2 : ℕ) (r : Bool) → 0 < left → Agreed s a j true → EndsAt s j j2 → AgreedWith s a j2 (left - 1) r → AgreedWith s a j left r
   unfolding agree
   with-step j2 r l g e t v ws h k =
       let x = as-run s j left ws k l in
-      let m = meets-both (shape v) (shape (x .0)) (shapes (x .1)) (rw (x .2) at (k .typed)) in
+      let m = meets-both (typesOf v) (typesOf (x .0)) (sharedTypes (x .1)) (rw (x .2) at (k .typed)) in
       let f : j2 ≡ j + weight (x .0) = end-is e (x .3) in
       rw (x .2, m, ← g v (x .0) h (x .3)) (t v (x .1) h (rw f (x .4)))
 
@@ -218,18 +218,18 @@ module _ (s : List ℕ) (i left b m : ℕ) where
   pub all-end : left ≡ 0 → AgreedAll s i left b m true
   all-end z vs ws h k =
       let e : vs ≡ none = no-run vs h z in
-      rw e (sym (meets-sym every (shapes ws) ∙ is-true (meets (shapes ws) every) (meets-every (shapes ws) (k .typed))))
+      rw e (sym (meets-sym every (sharedTypes ws) ∙ is-true (meets (sharedTypes ws) every) (meets-every (sharedTypes ws) (k .typed))))
 
   pub all-false : 0 < left → AgreedWith s i b m false → AgreedAll s i left b m false
   all-false l g vs ws h k =
       let x = as-run s i left vs h l in
-      let m = meets-first (shape (x .0)) (shapes (x .1)) (shapes ws) (rw (x .2) at (h .typed)) in
+      let m = meets-first (typesOf (x .0)) (sharedTypes (x .1)) (sharedTypes ws) (rw (x .2) at (h .typed)) in
       rw (x .2, m, ← g (x .0) ws (x .3) k)
 
   pub all-step : (i2 : ℕ) (r : Bool) → 0 < left → AgreedWith s i b m true → EndsAt s i i2 → AgreedAll s i2 (left - 1) b m r → AgreedAll s i left b m r
   all-step i2 r l g e t vs ws h k =
       let x = as-run s i left vs h l in
-      let m = meets-first (shape (x .0)) (shapes (x .1)) (shapes ws) (rw (x .2) at (h .typed)) in
+      let m = meets-first (typesOf (x .0)) (sharedTypes (x .1)) (sharedTypes ws) (rw (x .2) at (h .typed)) in
       let f : i2 ≡ i + weight (x .0) = end-is e (x .3) in
       rw (x .2, m, ← g (x .0) ws (x .3) k) (t (x .1) ws (rw f (x .4)) k)
 
@@ -295,7 +295,7 @@ module _ (s : List ℕ) (a b : ℕ) where
       let y = as-set s b w k u in
       let p = c (x .0) (rw (x .1) at h) in
       let q = d (y .0) (rw (y .1) at k) in
-      rw (x .1, y .1) (g (p .few) (q .few) (p .run) (q .run) ∙ meets-same (shapes (p .few)) (shapes (x .0)) (shapes (q .few)) (shapes (y .0)) (p .same) (q .same))
+      rw (x .1, y .1) (g (p .few) (q .few) (p .run) (q .run) ∙ meets-same (sharedTypes (p .few)) (sharedTypes (x .0)) (sharedTypes (q .few)) (sharedTypes (y .0)) (p .same) (q .same))
 
 pub as-scalar : (s : List ℕ) (a : ℕ) (v : Value) → TypedAt s a v → getD s a 0 / cellSize ≢ 4 → getD s a 0 / cellSize ≢ 5 →
     (x : Scalar) × (v ≡ scalar x) × (getD s a 0 / cellSize ≡ scalarTag x)
@@ -343,18 +343,18 @@ few-members s a n r c f vs h = go f
     one none p l u = absurd (omega (arith, p .counted))
     one (v ▸ ws) p l u =
         let st : ValueAt s (a + 1) v = first-stands s (a + 1) v ws (p .stands) in
-        let ty = left-typed (shape v) (shapes ws) (p .typed) in
+        let ty = left-typed (typesOf v) (sharedTypes ws) (p .typed) in
         let fu : Full v = u v (record { stands = st; fits = p .fits .0; typed = ty }) in
         record {
           few = v ▸ none;
           run = record {
             stands = subst (λ (z : List ℕ). Stands s (a + 1) z) (sym (append-nil (code v))) st;
             fits = (p .fits .0, tt);
-            typed = with-every (shape v) ty;
+            typed = with-every (typesOf v) ty;
             counted = refl;
           };
           light = omega arith;
-          same = λ q. sym (full-first v every q fu (with-every (shape v) ty)) ∙ full-first v (shapes ws) q fu (p .typed);
+          same = λ q. sym (full-first v every q fu (with-every (typesOf v) ty)) ∙ full-first v (sharedTypes ws) q fu (p .typed);
         }
 
     go : Few s (a + 1) n r → StandFor s (a + 1) r vs

@@ -11,7 +11,7 @@ use borrow.Author.Tests.{eq-eqb, ne-eqb, eqb-true}
 use Rattle.rules.specs.Types.{whole, Ty, atom, POW, _⊗_, INTEGER}
 use Rattle.rules.specs.Values.{num, truth, element, Value, scalar, pair, set, Values, none, _▸_, tag, weight}
 use Rattle.rules.specs.Rules.{Pattern, t̂, û, P̂, _×̂_, numᵖ, inst}
-use Rattle.rules.specs.Fits.{HasType, Shape, every, clash, _×ˢ_, _⊓_, shape, shapes, inhabited, fits}
+use Rattle.rules.specs.Fits.{HasType, TypeSet, every, noType, _×ˢ_, _⊓_, typesOf, sharedTypes, inhabited, fits}
 use Rattle.rules.proofs.FitsLaws.{_⊑_, ⊓-split, has→shape, shape→has, have→shapes, shapes→have, inhabited→some, some→inhabited, fits-right}
 use Rattle.arena.specs.Code.{cellSize, code, Stands, EndsAt}
 use Rattle.fitting.specs.Agree.{meets, agree, TypedAt, RunAt, SomeTyped, Agreed, AgreedWith, Full, Few, Members, SetHere}
@@ -21,10 +21,10 @@ use Rattle.fitting.proofs.Cells.{first-cell, as-set, as-pair, as-run, n
 use Rattle.rules.proofs.Basics.{absurd01, and-of, and-split}
 
 -- The types of a set's members; none where the value is no set.
-abbrev pub inner : Value → Shape
-inner (scalar x) = clash
-inner (pair v w) = clash
-inner (set vs) = shapes vs
+abbrev pub inner : Value → TypeSet
+inner (scalar x) = noType
+inner (pair v w) = noType
+inner (set vs) = sharedTypes vs
 
 pub of-pow : (v : Value) (t : Ty) → HasType v (POW t) → inner v ⊑ t
 of-pow (scalar x) t h = absurd01 (cc)
@@ -67,24 +67,24 @@ fits-two p q v w b f g =
     (λ h. let x = g h in fits-right (p ∷ q ∷ []) (v ∷ w ∷ []) .1 (x .0, x .1, (x .2, (x .3, tt))))
 
 -- A type of all the pairs is a product.
-as-product : (p q : Shape) (t : Ty) → (p ×ˢ q) ⊑ t → (u : Ty) × (w : Ty) × (t ≡ u ⊗ w) × (p ⊑ u) × (q ⊑ w)
+as-product : (p q : TypeSet) (t : Ty) → (p ×ˢ q) ⊑ t → (u : Ty) × (w : Ty) × (t ≡ u ⊗ w) × (p ⊑ u) × (q ⊑ w)
 as-product p q (atom a) h = absurd h
 as-product p q (POW t) h = absurd h
 as-product p q (t ⊗ u) h = (t, u, refl, h .0, h .1)
 
 -- What each list asks.
 module _ (v w : Value) where
-  pub fits-alike : fits (t̂ ∷ t̂ ∷ []) (v ∷ w ∷ []) ≡ meets (shape v) (shape w)
+  pub fits-alike : fits (t̂ ∷ t̂ ∷ []) (v ∷ w ∷ []) ≡ meets (typesOf v) (typesOf w)
   fits-alike =
-      fits-two t̂ t̂ v w (meets (shape v) (shape w))
-      (λ t u h k. share→meets (shape v) (shape w) (t, has→shape v t h, has→shape w t k))
-      (λ h. let x = meets→share (shape v) (shape w) h in (x .0, INTEGER, shape→has v (x .0) (x .1), shape→has w (x .0) (x .2)))
+      fits-two t̂ t̂ v w (meets (typesOf v) (typesOf w))
+      (λ t u h k. share→meets (typesOf v) (typesOf w) (t, has→shape v t h, has→shape w t k))
+      (λ h. let x = meets→share (typesOf v) (typesOf w) h in (x .0, INTEGER, shape→has v (x .0) (x .1), shape→has w (x .0) (x .2)))
 
-  pub fits-belongs : fits (t̂ ∷ P̂ t̂ ∷ []) (v ∷ w ∷ []) ≡ meets (shape v) (inner w)
+  pub fits-belongs : fits (t̂ ∷ P̂ t̂ ∷ []) (v ∷ w ∷ []) ≡ meets (typesOf v) (inner w)
   fits-belongs =
-      fits-two t̂ (P̂ t̂) v w (meets (shape v) (inner w))
-      (λ t u h k. share→meets (shape v) (inner w) (t, has→shape v t h, of-pow w t k))
-      (λ h. let x = meets→share (shape v) (inner w) h in (x .0, INTEGER, shape→has v (x .0) (x .1), to-pow w (x .0) (x .2)))
+      fits-two t̂ (P̂ t̂) v w (meets (typesOf v) (inner w))
+      (λ t u h k. share→meets (typesOf v) (inner w) (t, has→shape v t h, of-pow w t k))
+      (λ h. let x = meets→share (typesOf v) (inner w) h in (x .0, INTEGER, shape→has v (x .0) (x .1), to-pow w (x .0) (x .2)))
 
   pub fits-alike-sets : fits (P̂ t̂ ∷ P̂ t̂ ∷ []) (v ∷ w ∷ []) ≡ meets (inner v) (inner w)
   fits-alike-sets =
@@ -101,12 +101,12 @@ module _ (v w : Value) where
       let y = inhabited→some (inner w) (k .1) in
       (x .0, y .0, to-pow v (x .0) (x .1), to-pow w (y .0) (y .1)))
 
-  pub fits-applies : fits (P̂ (t̂ ×̂ û) ∷ t̂ ∷ []) (v ∷ w ∷ []) ≡ meets (inner v) (shape w ×ˢ every)
+  pub fits-applies : fits (P̂ (t̂ ×̂ û) ∷ t̂ ∷ []) (v ∷ w ∷ []) ≡ meets (inner v) (typesOf w ×ˢ every)
   fits-applies =
-      fits-two (P̂ (t̂ ×̂ û)) t̂ v w (meets (inner v) (shape w ×ˢ every))
-      (λ t u h k. share→meets (inner v) (shape w ×ˢ every) (t ⊗ u, of-pow v (t ⊗ u) h, (has→shape w t k, tt)))
-      (λ h. let x = meets→share (inner v) (shape w ×ˢ every) h in
-      let y = as-product (shape w) every (x .0) (x .2) in
+      fits-two (P̂ (t̂ ×̂ û)) t̂ v w (meets (inner v) (typesOf w ×ˢ every))
+      (λ t u h k. share→meets (inner v) (typesOf w ×ˢ every) (t ⊗ u, of-pow v (t ⊗ u) h, (has→shape w t k, tt)))
+      (λ h. let x = meets→share (inner v) (typesOf w ×ˢ every) h in
+      let y = as-product (typesOf w) every (x .0) (x .2) in
       (y .0, y .1, to-pow v (y .0 ⊗ y .1) (subst (λ (t : Ty). inner v ⊑ t) (y .2) (x .1)), shape→has w (y .0) (y .3)))
 
   pub fits-numbers : fits (numᵖ whole ∷ numᵖ whole ∷ []) (v ∷ w ∷ []) ≡ (eqb (tag v) 1 && eqb (tag w) 1)
@@ -132,27 +132,27 @@ module _ (v : Value) where
       (y .0, y .1, to-pow v (y .0 ⊗ y .1) (subst (λ (t : Ty). inner v ⊑ t) (y .2) (x .1))))
 
 -- Values of the arena by what the tests ask.
-no-meet : (p q : Shape) → (Share p q → ⊥) → meets p q ≡ false
+no-meet : (p q : TypeSet) → (Share p q → ⊥) → meets p q ≡ false
 no-meet p q n = bool-eq (meets p q) false (λ h. n (meets→share p q h)) (λ h. absurd h)
 
 pub set-cell : (s : List ℕ) (a : ℕ) (v : Value) → TypedAt s a v → eqb (getD s a 0 / cellSize) 5 ≡ inhabited (inner v)
 set-cell s a v h = rw (first-cell s a v (h .stands) (h .fits) .0) (go v (h .typed))
   where
-    go : (v : Value) → T (inhabited (shape v)) → eqb (tag v) 5 ≡ inhabited (inner v)
+    go : (v : Value) → T (inhabited (typesOf v)) → eqb (tag v) 5 ≡ inhabited (inner v)
     go (scalar (num whole i)) k = refl
     go (scalar (truth b)) k = refl
     go (scalar (element g i)) k = refl
     go (pair x y) k = refl
-    go (set vs) k = sym (is-true (inhabited (shapes vs)) k)
+    go (set vs) k = sym (is-true (inhabited (sharedTypes vs)) k)
 
 pub is-set : (s : List ℕ) (a : ℕ) → FitOne (P̂ t̂ ∷ []) s a (eqb (getD s a 0 / cellSize) 5)
 is-set s a v h = set-cell s a v h ∙ sym (fits-set v)
 
 -- A set shares a type with what has members that do.
-inner-agree : (vs : Values) (w : Value) → agree (set vs) w ≡ meets (shapes vs) (inner w)
+inner-agree : (vs : Values) (w : Value) → agree (set vs) w ≡ meets (sharedTypes vs) (inner w)
 unfolding agree meets
-inner-agree vs (scalar x) = sym (no-meet (shapes vs) clash (λ y. y .2))
-inner-agree vs (pair x y) = sym (no-meet (shapes vs) clash (λ y. y .2))
+inner-agree vs (scalar x) = sym (no-meet (sharedTypes vs) noType (λ y. y .2))
+inner-agree vs (pair x y) = sym (no-meet (sharedTypes vs) noType (λ y. y .2))
 inner-agree vs (set ws) = refl
 
 -- From the answer of the test for sets.
@@ -176,15 +176,15 @@ module _ (s : List ℕ) (a b : ℕ) where
   -- membership
   pub belongs-not : (r : Bool) → FitOne (P̂ t̂ ∷ []) s b r → r ≡ false → FitTwo (t̂ ∷ P̂ t̂ ∷ []) s a b false
   belongs-not r f e v w h k =
-      sym (fits-belongs v w ∙ no-meet (shape v) (inner w) (λ x. no-inner s b r f w k e (x .0) (x .2)))
+      sym (fits-belongs v w ∙ no-meet (typesOf v) (inner w) (λ x. no-inner s b r f w k e (x .0) (x .2)))
 
   pub belongs-fits : (m : ℕ) (r : Bool) → SetHere s b → Members s b m → AgreedWith s a (b + 1) m r → FitTwo (t̂ ∷ P̂ t̂ ∷ []) s a b r
   belongs-fits m r p c g v w h k =
       let x = as-set s b w k (p .isSet) in
       let y = c (x .0) (rw (x .1) at k) in
-      let z : meets (shape v) (shapes (y .few)) ≡ meets (shape v) (shapes (x .0)) = meets-sym (shape v) (shapes (y .few)) ∙ y .same (shape v) ∙ meets-sym (shapes (x .0)) (shape v) in
-      let i : inner w ≡ shapes (x .0) = ap inner (x .1) in
-      g v (y .few) h (y .run) ∙ z ∙ ap (meets (shape v)) (sym i) ∙ sym (fits-belongs v w)
+      let z : meets (typesOf v) (sharedTypes (y .few)) ≡ meets (typesOf v) (sharedTypes (x .0)) = meets-sym (typesOf v) (sharedTypes (y .few)) ∙ y .same (typesOf v) ∙ meets-sym (sharedTypes (x .0)) (typesOf v) in
+      let i : inner w ≡ sharedTypes (x .0) = ap inner (x .1) in
+      g v (y .few) h (y .run) ∙ z ∙ ap (meets (typesOf v)) (sym i) ∙ sym (fits-belongs v w)
 
   -- two sets
   pub alike-sets-not : (r : Bool) → FitOne (P̂ t̂ ∷ []) s a r → r ≡ false → FitTwo (P̂ t̂ ∷ P̂ t̂ ∷ []) s a b false
@@ -215,7 +215,7 @@ module _ (s : List ℕ) (a b : ℕ) where
       sym (fits-numbers v w ∙ rw (eq-eqb (tag v) 1 (sym e ∙ m), f))
 
 -- A value with a product type is a pair.
-product-tag : (v : Value) (t : Ty) → shape v ⊑ t → anyPair ⊑ t → tag v ≡ 4
+product-tag : (v : Value) (t : Ty) → typesOf v ⊑ t → anyPair ⊑ t → tag v ≡ 4
 product-tag (scalar x) (atom a) h k = absurd k
 product-tag (scalar x) (POW t) h k = absurd k
 product-tag (scalar x) (t ⊗ u) h k = absurd (absurd01 (cc))
@@ -224,7 +224,7 @@ product-tag (set vs) (atom a) h k = absurd k
 product-tag (set vs) (POW t) h k = absurd k
 product-tag (set vs) (t ⊗ u) h k = absurd h
 
-tag-product : (v : Value) (t : Ty) → tag v ≡ 4 → shape v ⊑ t → anyPair ⊑ t
+tag-product : (v : Value) (t : Ty) → tag v ≡ 4 → typesOf v ⊑ t → anyPair ⊑ t
 tag-product (scalar (num whole i)) t e h = absurd (omega arith)
 tag-product (scalar (truth b)) t e h = absurd (omega arith)
 tag-product (scalar (element g k)) t e h = absurd (omega arith)
@@ -233,13 +233,13 @@ tag-product (pair x y) (POW t) e h = absurd h
 tag-product (pair x y) (t ⊗ u) e h = (tt, tt)
 tag-product (set vs) t e h = absurd (omega arith)
 
-first-pair : (x : Value) (r : Shape) → T (inhabited (shape x ⊓ r)) → eqb (tag x) 4 ≡ meets (shape x ⊓ r) anyPair
+first-pair : (x : Value) (r : TypeSet) → T (inhabited (typesOf x ⊓ r)) → eqb (tag x) 4 ≡ meets (typesOf x ⊓ r) anyPair
 first-pair x r l =
-    bool-eq (eqb (tag x) 4) (meets (shape x ⊓ r) anyPair)
-    (λ h. let y = inhabited→some (shape x ⊓ r) l in
-    share→meets (shape x ⊓ r) anyPair (y .0, y .1, tag-product x (y .0) (eqb→eq (tag x) 4 h) (⊓-split (shape x) r (y .0) (y .1) .0)))
-    (λ h. let y = meets→share (shape x ⊓ r) anyPair h in
-    subst T (sym (eq-eqb (tag x) 4 (product-tag x (y .0) (⊓-split (shape x) r (y .0) (y .1) .0) (y .2)))) tt)
+    bool-eq (eqb (tag x) 4) (meets (typesOf x ⊓ r) anyPair)
+    (λ h. let y = inhabited→some (typesOf x ⊓ r) l in
+    share→meets (typesOf x ⊓ r) anyPair (y .0, y .1, tag-product x (y .0) (eqb→eq (tag x) 4 h) (⊓-split (typesOf x) r (y .0) (y .1) .0)))
+    (λ h. let y = meets→share (typesOf x ⊓ r) anyPair h in
+    subst T (sym (eq-eqb (tag x) 4 (product-tag x (y .0) (⊓-split (typesOf x) r (y .0) (y .1) .0) (y .2)))) tt)
 
 -- Relations.
 module _ (s : List ℕ) (a : ℕ) where
@@ -260,16 +260,16 @@ module _ (s : List ℕ) (a : ℕ) where
       let x = as-set s a v h t in
       let y = as-run s (a + 1) (getD s a 0 % cellSize) (x .0) (x .2) (omega arith) in
       let e = first-cell s (a + 1) (y .0) (y .3 .stands) (y .3 .fits) .0 in
-      rw (fits-relation v, x .1, y .2, e) (first-pair (y .0) (shapes (y .1)) (rw (y .2) at (x .2 .typed)))
+      rw (fits-relation v, x .1, y .2, e) (first-pair (y .0) (sharedTypes (y .1)) (rw (y .2) at (x .2 .typed)))
 
 -- The first of some pairs, and the rest.
-pub as-pairs : (s : List ℕ) (i n : ℕ) (vs : Values) → RunAt s i n vs → T (meets (shapes vs) anyPair) → 0 < n →
-    (y : Value) × (z : Value) × (ys : Values) × (vs ≡ pair y z ▸ ys) × TypedAt s i (pair y z) × TypedAt s (i + 1) y × RunAt s (i + weight (pair y z)) (n - 1) ys × T (meets (shapes ys) anyPair)
+pub as-pairs : (s : List ℕ) (i n : ℕ) (vs : Values) → RunAt s i n vs → T (meets (sharedTypes vs) anyPair) → 0 < n →
+    (y : Value) × (z : Value) × (ys : Values) × (vs ≡ pair y z ▸ ys) × TypedAt s i (pair y z) × TypedAt s (i + 1) y × RunAt s (i + weight (pair y z)) (n - 1) ys × T (meets (sharedTypes ys) anyPair)
 as-pairs s i n vs h k l =
     let x = as-run s i n vs h l in
-    let m : T (meets (shape (x .0) ⊓ shapes (x .1)) anyPair) = rw (x .2) at k in
-    let y = meets→share (shape (x .0) ⊓ shapes (x .1)) anyPair m in
-    let d = ⊓-split (shape (x .0)) (shapes (x .1)) (y .0) (y .1) in
+    let m : T (meets (typesOf (x .0) ⊓ sharedTypes (x .1)) anyPair) = rw (x .2) at k in
+    let y = meets→share (typesOf (x .0) ⊓ sharedTypes (x .1)) anyPair m in
+    let d = ⊓-split (typesOf (x .0)) (sharedTypes (x .1)) (y .0) (y .1) in
     let t = product-tag (x .0) (y .0) (d .0) (y .2) in
     let p = as-pair s i (x .0) (x .3) (first-cell s i (x .0) (x .3 .stands) (x .3 .fits) .0 ∙ t) in (
       p .0,
@@ -279,7 +279,7 @@ as-pairs s i n vs h k l =
       subst (λ (z : Value). TypedAt s i z) (p .2) (x .3),
       p .3,
       subst (λ (z : Value). RunAt s (i + weight z) (n - 1) (x .1)) (p .2) (x .4),
-      share→meets (shapes (x .1)) anyPair (y .0, d .1, y .2),
+      share→meets (sharedTypes (x .1)) anyPair (y .0, d .1, y .2),
     )
 
 and-true : (a b : Bool) → T b → (a && b) ≡ a
@@ -288,29 +288,29 @@ and-true true false h = absurd h
 and-true false b h = refl
 
 -- A pair fits an argument where its left part does.
-left-meets : (y z w : Value) → T (inhabited (shape z)) → meets (shape (pair y z)) (shape w ×ˢ every) ≡ agree y w
+left-meets : (y z w : Value) → T (inhabited (typesOf z)) → meets (typesOf (pair y z)) (typesOf w ×ˢ every) ≡ agree y w
 unfolding agree meets
-left-meets y z w h = and-true (inhabited (shape y ⊓ shape w)) (inhabited (shape z ⊓ every)) (with-every (shape z) h)
+left-meets y z w h = and-true (inhabited (typesOf y ⊓ typesOf w)) (inhabited (typesOf z ⊓ every)) (with-every (typesOf z) h)
 
 module _ (s : List ℕ) (i n b : ℕ) where
   pub lefts-end : n ≡ 0 → AgreedLefts s i n b true
   unfolding meets
   lefts-end e vs w h k q =
       let f : vs ≡ none = no-run vs h e in
-      rw f (sym (is-true (inhabited (shape w) && true) (and-of (inhabited (shape w)) true (q .typed) tt)))
+      rw f (sym (is-true (inhabited (typesOf w) && true) (and-of (inhabited (typesOf w)) true (q .typed) tt)))
 
   pub lefts-false : 0 < n → Agreed s (i + 1) b false → AgreedLefts s i n b false
   lefts-false l g vs w h k q =
       let x = as-pairs s i n vs h k l in
-      let p = and-split (inhabited (shape (x .0))) (inhabited (shape (x .1))) (x .4 .typed) in
-      let m = meets-first (shape (pair (x .0) (x .1))) (shapes (x .2)) (shape w ×ˢ every) (rw (x .3) at (h .typed)) in
+      let p = and-split (inhabited (typesOf (x .0))) (inhabited (typesOf (x .1))) (x .4 .typed) in
+      let m = meets-first (typesOf (pair (x .0) (x .1))) (sharedTypes (x .2)) (typesOf w ×ˢ every) (rw (x .3) at (h .typed)) in
       rw (x .3, m, left-meets (x .0) (x .1) w (p .1), ← g (x .0) w (x .5) q)
 
   pub lefts-step : (j : ℕ) (r : Bool) → 0 < n → Agreed s (i + 1) b true → EndsAt s i j → AgreedLefts s j (n - 1) b r → AgreedLefts s i n b r
   lefts-step j r l g e t vs w h k q =
       let x = as-pairs s i n vs h k l in
-      let p = and-split (inhabited (shape (x .0))) (inhabited (shape (x .1))) (x .4 .typed) in
-      let m = meets-first (shape (pair (x .0) (x .1))) (shapes (x .2)) (shape w ×ˢ every) (rw (x .3) at (h .typed)) in
+      let p = and-split (inhabited (typesOf (x .0))) (inhabited (typesOf (x .1))) (x .4 .typed) in
+      let m = meets-first (typesOf (pair (x .0) (x .1))) (sharedTypes (x .2)) (typesOf w ×ˢ every) (rw (x .3) at (h .typed)) in
       let f : j ≡ i + weight (pair (x .0) (x .1)) = end-is e (x .4) in
       rw (x .3, m, left-meets (x .0) (x .1) w (p .1), ← g (x .0) w (x .5) q) (t (x .2) w (rw f (x .6)) (x .7) q)
 
@@ -324,29 +324,29 @@ module _ (s : List ℕ) (i n b : ℕ) where
       record { values = x .2; run = rw f (x .6); pairs = x .7; second = p .second }
 
 -- Where the left part of a pair is full, what it agrees with agrees with the left parts of all.
-full-left : (y z w : Value) (r : Shape) → Full y → T (inhabited (shape (pair y z) ⊓ r)) →
-    meets (shape (pair y z)) (shape w ×ˢ every) ≡ meets (shape (pair y z) ⊓ r) (shape w ×ˢ every)
+full-left : (y z w : Value) (r : TypeSet) → Full y → T (inhabited (typesOf (pair y z) ⊓ r)) →
+    meets (typesOf (pair y z)) (typesOf w ×ˢ every) ≡ meets (typesOf (pair y z) ⊓ r) (typesOf w ×ˢ every)
 full-left y z w r f l =
-    bool-eq (meets (shape (pair y z)) (shape w ×ˢ every)) (meets (shape (pair y z) ⊓ r) (shape w ×ˢ every))
-    (λ h. let x = meets→share (shape (pair y z)) (shape w ×ˢ every) h in
-    let p = as-product (shape y) (shape z) (x .0) (x .1) in
-    let a = inhabited→some (shape (pair y z) ⊓ r) l in
-    let q = as-product (shape y) (shape z) (a .0) (⊓-split (shape (pair y z)) r (a .0) (a .1) .0) in
+    bool-eq (meets (typesOf (pair y z)) (typesOf w ×ˢ every)) (meets (typesOf (pair y z) ⊓ r) (typesOf w ×ˢ every))
+    (λ h. let x = meets→share (typesOf (pair y z)) (typesOf w ×ˢ every) h in
+    let p = as-product (typesOf y) (typesOf z) (x .0) (x .1) in
+    let a = inhabited→some (typesOf (pair y z) ⊓ r) l in
+    let q = as-product (typesOf y) (typesOf z) (a .0) (⊓-split (typesOf (pair y z)) r (a .0) (a .1) .0) in
     let e : p .0 ≡ q .0 = ground y (p .0) (q .0) f (p .3) (q .3) in
-    let k : (shape w ×ˢ every) ⊑ (p .0 ⊗ p .1) = subst (λ (t : Ty). (shape w ×ˢ every) ⊑ t) (p .2) (x .2) in
-    share→meets (shape (pair y z) ⊓ r) (shape w ×ˢ every)
-    (q .0 ⊗ q .1, subst (λ (t : Ty). shape (pair y z) ⊓ r ⊑ t) (q .2) (a .1), (subst (λ (t : Ty). shape w ⊑ t) e (k .0), tt)))
-    (λ h. let x = meets→share (shape (pair y z) ⊓ r) (shape w ×ˢ every) h in
-    share→meets (shape (pair y z)) (shape w ×ˢ every) (x .0, ⊓-split (shape (pair y z)) r (x .0) (x .1) .0, x .2))
+    let k : (typesOf w ×ˢ every) ⊑ (p .0 ⊗ p .1) = subst (λ (t : Ty). (typesOf w ×ˢ every) ⊑ t) (p .2) (x .2) in
+    share→meets (typesOf (pair y z) ⊓ r) (typesOf w ×ˢ every)
+    (q .0 ⊗ q .1, subst (λ (t : Ty). typesOf (pair y z) ⊓ r ⊑ t) (q .2) (a .1), (subst (λ (t : Ty). typesOf w ⊑ t) e (k .0), tt)))
+    (λ h. let x = meets→share (typesOf (pair y z) ⊓ r) (typesOf w ×ˢ every) h in
+    share→meets (typesOf (pair y z)) (typesOf w ×ˢ every) (x .0, ⊓-split (typesOf (pair y z)) r (x .0) (x .1) .0, x .2))
 
 -- The first k of some pairs have left parts that stand for all.
 record LeftsFor (s : List ℕ) (at k : ℕ) (vs : Values) : Type 0 where
   few : Values
   run : RunAt s at k few
-  pairs : T (meets (shapes few) anyPair)
-  same : (w : Value) → meets (shapes few) (shape w ×ˢ every) ≡ meets (shapes vs) (shape w ×ˢ every)
+  pairs : T (meets (sharedTypes few) anyPair)
+  same : (w : Value) → meets (sharedTypes few) (typesOf w ×ˢ every) ≡ meets (sharedTypes vs) (typesOf w ×ˢ every)
 
-few-lefts : (s : List ℕ) (at n k : ℕ) (vs : Values) → RunAt s at n vs → T (meets (shapes vs) anyPair) → Few s (at + 1) n k → LeftsFor s at k vs
+few-lefts : (s : List ℕ) (at n k : ℕ) (vs : Values) → RunAt s at n vs → T (meets (sharedTypes vs) anyPair) → Few s (at + 1) n k → LeftsFor s at k vs
 unfolding code
 few-lefts s at n k vs h p (inl e) = record { few = vs; run = rw e h; pairs = p; same = λ w. refl }
 few-lefts s at n k vs h p (inr f) =
@@ -354,7 +354,7 @@ few-lefts s at n k vs h p (inr f) =
     let y = x .0 in
     let z = x .1 in
     let u : Full y = f .2 y (x .5) in
-    let l : T (inhabited (shape (pair y z) ⊓ every)) = with-every (shape (pair y z)) (x .4 .typed) in
+    let l : T (inhabited (typesOf (pair y z) ⊓ every)) = with-every (typesOf (pair y z)) (x .4 .typed) in
     record {
       few = pair y z ▸ none;
       run = rw (f .0) (record {
@@ -364,18 +364,18 @@ few-lefts s at n k vs h p (inr f) =
         counted = refl;
       });
       pairs = sym-pair y z l;
-      same = λ w. sym (full-left y z w every u l) ∙ full-left y z w (shapes (x .2)) u (rw (x .3) at (h .typed)) ∙ ap (λ (c : Values). meets (shapes c) (shape w ×ˢ every)) (sym (x .3));
+      same = λ w. sym (full-left y z w every u l) ∙ full-left y z w (sharedTypes (x .2)) u (rw (x .3) at (h .typed)) ∙ ap (λ (c : Values). meets (sharedTypes c) (typesOf w ×ˢ every)) (sym (x .3));
     }
   where
-    sym-pair : (y z : Value) → T (inhabited (shape (pair y z) ⊓ every)) → T (meets (shapes (pair y z ▸ none)) anyPair)
+    sym-pair : (y z : Value) → T (inhabited (typesOf (pair y z) ⊓ every)) → T (meets (sharedTypes (pair y z ▸ none)) anyPair)
     sym-pair y z l = subst T (first-pair (pair y z) every l) tt
 
 -- Relations and arguments.
 module _ (s : List ℕ) (a : ℕ) (q : Bool) (f : FitOne (P̂ (t̂ ×̂ û) ∷ []) s a q) where
   pub applies-not : (b : ℕ) → q ≡ false → FitTwo (P̂ (t̂ ×̂ û) ∷ t̂ ∷ []) s a b false
   applies-not b e v w h k =
-      sym (fits-applies v w ∙ no-meet (inner v) (shape w ×ˢ every) (λ x.
-      let p = as-product (shape w) every (x .0) (x .2) in
+      sym (fits-applies v w ∙ no-meet (inner v) (typesOf w ×ˢ every) (λ x.
+      let p = as-product (typesOf w) every (x .0) (x .2) in
       subst T (sym (f v h ∙ fits-relation v) ∙ e)
       (share→meets (inner v) anyPair (x .0, x .1, subst (λ (t : Ty). anyPair ⊑ t) (sym (p .2)) (tt, tt)))))
 
@@ -386,11 +386,11 @@ module _ (s : List ℕ) (a : ℕ) (q : Bool) (f : FitOne (P̂ (t̂ ×̂ û) ∷ 
         let x = meets→share (inner v) anyPair (subst T (sym (sym (f v h ∙ fits-relation v) ∙ yes)) tt) in
         eqb-true (getD s a 0 / cellSize) 5 (set-cell s a v h ∙ is-true (inhabited (inner v)) (some→inhabited (inner v) (x .0) (x .1)))
 
-    pub relation-pairs : (v : Value) → TypedAt s a v → (vs : Values) × (v ≡ set vs) × RunAt s (a + 1) (getD s a 0 % cellSize) vs × T (meets (shapes vs) anyPair)
+    pub relation-pairs : (v : Value) → TypedAt s a v → (vs : Values) × (v ≡ set vs) × RunAt s (a + 1) (getD s a 0 % cellSize) vs × T (meets (sharedTypes vs) anyPair)
     relation-pairs v h =
         let x = as-set s a v h (relation-set v h) in
-        let e : inner v ≡ shapes (x .0) = ap inner (x .1) in
-        (x .0, x .1, x .2, subst T (sym (sym (f v h ∙ fits-relation v) ∙ yes) ∙ ap (λ (p : Shape). meets p anyPair) e) tt)
+        let e : inner v ≡ sharedTypes (x .0) = ap inner (x .1) in
+        (x .0, x .1, x .2, subst T (sym (sym (f v h ∙ fits-relation v) ∙ yes) ∙ ap (λ (p : TypeSet). meets p anyPair) e) tt)
 
     pub relation-left : (n : ℕ) → n ≡ getD s a 0 % cellSize → SomeTyped s a → 0 < n → SomeTyped s (a + 1 + 1)
     relation-left n e v l =
@@ -408,5 +408,5 @@ module _ (s : List ℕ) (a : ℕ) (q : Bool) (f : FitOne (P̂ (t̂ ×̂ û) ∷ 
     applies-fit b n k r e g t v w h j =
         let x = relation-pairs v h in
         let y = few-lefts s (a + 1) n k (x .0) (rw e (x .2)) (x .3) g in
-        let i : inner v ≡ shapes (x .0) = ap inner (x .1) in
-        t (y .few) w (y .run) (y .pairs) j ∙ y .same w ∙ ap (λ (p : Shape). meets p (shape w ×ˢ every)) (sym i) ∙ sym (fits-applies v w)
+        let i : inner v ≡ sharedTypes (x .0) = ap inner (x .1) in
+        t (y .few) w (y .run) (y .pairs) j ∙ y .same w ∙ ap (λ (p : TypeSet). meets p (typesOf w ×ˢ every)) (sym i) ∙ sym (fits-applies v w)

@@ -8,29 +8,29 @@ use mathlib.Core.Path.{_≡_}
 use lib.Dec.{T, eqb}
 use lib.ListN.{getD}
 use Rattle.rules.specs.Values.{Value, scalar, pair, set, Values, none, _▸_, count, weight, weights}
-use Rattle.rules.specs.Fits.{Shape, _⊓_, shape, shapes, inhabited, typed}
+use Rattle.rules.specs.Fits.{TypeSet, _⊓_, typesOf, sharedTypes, inhabited, typed}
 use Rattle.arena.specs.Code.{ValueAt, ValuesAt, CellsFit, AllFit, EndsAt}
 
 -- Two sets of types have one in common.
-unfoldable pub meets : Shape → Shape → Bool
+unfoldable pub meets : TypeSet → TypeSet → Bool
 meets p q = inhabited (p ⊓ q)
 
 -- Two values share a type.
 unfoldable pub agree : Value → Value → Bool
 unfolding meets
-agree v w = meets (shape v) (shape w)
+agree v w = meets (typesOf v) (typesOf w)
 
 -- A value that fits and has a type stands at `at`.
 pub record TypedAt (s : List ℕ) (at : ℕ) (v : Value) : Type 0 where
   pub stands : ValueAt s at v
   pub fits : CellsFit v
-  pub typed : T (inhabited (shape v))
+  pub typed : T (inhabited (typesOf v))
 
 -- n values that fit and share a type stand from `at` on.
 pub record RunAt (s : List ℕ) (at n : ℕ) (vs : Values) : Type 0 where
   pub stands : ValuesAt s at vs
   pub fits : AllFit vs
-  pub typed : T (inhabited (shapes vs))
+  pub typed : T (inhabited (sharedTypes vs))
   pub counted : count vs ≡ n
 
 abbrev pub SomeTyped : List ℕ → ℕ → Type 0
@@ -45,11 +45,11 @@ Agreed s a b r = (v w : Value) → TypedAt s a v → TypedAt s b w → r ≡ agr
 
 -- r says whether the value at a shares a type with the m values from b on.
 abbrev pub AgreedWith : List ℕ → ℕ → ℕ → ℕ → Bool → Type 0
-AgreedWith s a b m r = (v : Value) (ws : Values) → TypedAt s a v → RunAt s b m ws → r ≡ meets (shape v) (shapes ws)
+AgreedWith s a b m r = (v : Value) (ws : Values) → TypedAt s a v → RunAt s b m ws → r ≡ meets (typesOf v) (sharedTypes ws)
 
 -- r says whether the n values from a on share a type with the m values from b on.
 abbrev pub AgreedAll : List ℕ → ℕ → ℕ → ℕ → ℕ → Bool → Type 0
-AgreedAll s a n b m r = (vs ws : Values) → RunAt s a n vs → RunAt s b m ws → r ≡ meets (shapes vs) (shapes ws)
+AgreedAll s a n b m r = (vs ws : Values) → RunAt s a n vs → RunAt s b m ws → r ≡ meets (sharedTypes vs) (sharedTypes ws)
 
 abbrev pub emptyCell : ℕ
 emptyCell = 21474836480
@@ -63,7 +63,7 @@ pub record StandFor (s : List ℕ) (at r : ℕ) (vs : Values) : Type 0 where
   pub few : Values
   pub run : RunAt s at r few
   pub light : weights few ≤ weights vs
-  pub same : (q : Shape) → meets (shapes few) q ≡ meets (shapes vs) q
+  pub same : (q : TypeSet) → meets (sharedTypes few) q ≡ meets (sharedTypes vs) q
 
 -- So r of the members of the set at `a`.
 abbrev pub Members : List ℕ → ℕ → ℕ → Type 0

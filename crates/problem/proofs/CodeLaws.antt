@@ -44,8 +44,8 @@ codesFrom f zero ns = ns
 codesFrom f (suc n) ns = (f + n) ∷ codesFrom f n ns
 
 -- The kinds whose rules speak of types.
-abbrev typed : List ℕ
-typed = codesFrom 20 24 (codesFrom 6 6 [])
+abbrev expressionCodes : List ℕ
+expressionCodes = codesFrom 20 24 (codesFrom 6 6 [])
 
 abbrev pub NoneOf : ℕ → List ℕ → Type 0
 NoneOf k [] = Unit {0}
@@ -70,17 +70,17 @@ without-other k [] xs h = refl
 without-other k (n ∷ ns) xs h = getD-set-other (without ns xs) n k nothing nothing (h .1) ∙ without-other k ns xs (h .0)
 
 -- The other kinds have the plan of an unknown kind, by computation.
-others : (a : ℕ) → map (λ o. digits (planOf nothing a)) kinds ≡ map (λ o. digits (planOf o a)) (without typed kinds)
+others : (a : ℕ) → map (λ o. digits (planOf nothing a)) kinds ≡ map (λ o. digits (planOf o a)) (without expressionCodes kinds)
 unfolding digits
 others a = refl
 
-plan-else : (k : ℕ) → NoneOf k typed → Digits k (ascii 0)
+plan-else : (k : ℕ) → NoneOf k expressionCodes → Digits k (ascii 0)
 unfolding kindOf
 plan-else k h = like k 0 λ a.
     sym (List·getD-map (λ (o : Option Kind). digits (planOf nothing a)) kinds k nothing) ∙
     ap (λ (l : List (List ℕ)). getD l k (digits (planOf nothing a))) (others a) ∙
-    List·getD-map (λ o. digits (planOf o a)) (without typed kinds) k nothing ∙
-    ap (λ o. digits (planOf o a)) (without-other k typed kinds h)
+    List·getD-map (λ o. digits (planOf o a)) (without expressionCodes kinds) k nothing ∙
+    ap (λ o. digits (planOf o a)) (without-other k expressionCodes kinds h)
 
 none-below : (k f n : ℕ) (ns : List ℕ) → k < f → NoneOf k ns → NoneOf k (codesFrom f n ns)
 none-below k f zero ns l h = h

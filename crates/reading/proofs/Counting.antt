@@ -20,7 +20,7 @@ use Rattle.rules.specs.Reading.{occurrences, parentGood}
 use Rattle.rules.specs.Readable.{Header, FieldRight, FieldsRight}
 use Rattle.rules.proofs.TableLaws.{nodes-length, binds-length, fields-right}
 use Rattle.table.specs.Codes.{fieldOf, categoryCode, DigitOf}
-use Rattle.table.specs.Layout.{NodeIn, Fielded, sortOf, rowAt, fieldAt}
+use Rattle.table.specs.Layout.{NodeIn, Fielded, sortOf, fieldCodesAt, fieldAt}
 use Rattle.reading.specs.Arrays.{FieldIn, more, Room, BumpPre, Bumped, countsAt, Counted}
 use Rattle.table.proofs.Fields.{category-is, code-read, by-fields}
 
@@ -137,7 +137,7 @@ module _ (p : Field → Bool) (none : p unused ≡ false) (m : ℕ) where
       )
 
 -- Whether a field counts, by the codes that the code reads.
-pub counts-read : (b : Bool) (bs : List ℕ) (n i row code : ℕ) (hit : Bool) → row ≡ rowAt bs n → DigitOf row i code →
+pub counts-read : (b : Bool) (bs : List ℕ) (n i row code : ℕ) (hit : Bool) → row ≡ fieldCodesAt bs n → DigitOf row i code →
     hit ≡ sortOf b (fieldOf code) → hit ≡ countsAt b bs n i
 counts-read b bs n i row code hit e d h = h ∙ ap (sortOf b) (code-read bs n row i code e d)
 

@@ -9,7 +9,7 @@ ghost use Rattle.rules.specs.Tables.{identifierCount, nodeCount};
 ghost use Rattle.rules.specs.Ends.{leastFailing};
 ghost use Rattle.rules.specs.Reading.{occursIn, occursStep, occursFree, bindsHere, binders, binding};
 ghost use Rattle.table.specs.Places.{foundOr};
-ghost use Rattle.table.specs.Layout.{NodeIn, Fielded, rowAt, holdsAt, fieldAt};
+ghost use Rattle.table.specs.Layout.{NodeIn, Fielded, fieldCodesAt, holdsAt, fieldAt};
 ghost use Rattle.reading.specs.Arrays.{FieldIn, flag};
 
 // One test or the other, as a value with no branch for the caller's proof.
@@ -21,7 +21,7 @@ fn either(a: bool, b: bool) -> bool
 
 // Whether node n, whose kind has the row, binds x. Only the first field of a kind binds.
 fn binds(table: &[u8], at: usize, n: usize, row: u16, x: usize) -> bool
-    requires { ⌜ NodeIn (now table) at n × (row ≡ rowAt (now table) n) ⌝ }
+    requires { ⌜ NodeIn (now table) at n × (row ≡ fieldCodesAt (now table) n) ⌝ }
     ensures { λ r. ⌜ r ≡ bindsHere x (nodeAt (tableOf (now (table .entry)) .nodes) n) ⌝ }
 {
     if table::counts(table::digit(row, 0), true) {
@@ -42,7 +42,7 @@ fn field_occurs(
     here: bool,
     occurs: &[u8],
 ) -> bool
-    requires { ⌜ FieldIn (now table) at n i × (length (now occurs) ≡ 512) × (row ≡ rowAt (now table) n) ⌝ }
+    requires { ⌜ FieldIn (now table) at n i × (length (now occurs) ≡ 512) × (row ≡ fieldCodesAt (now table) n) ⌝ }
     ensures { λ r. ⌜ r ≡ occursIn x here (flag (now (occurs .entry))) (holdsAt (now (table .entry)) n i) (fieldAt (now (table .entry)) n i) ⌝ }
 {
     let y = table::field(table, at, n, i);

@@ -8,7 +8,7 @@ ghost use Rattle.rules.specs.Tables.{tableOf, nodeAt, held, heldIn, nodeCount};
 ghost use Rattle.rules.specs.Ends.{leastFailing};
 ghost use Rattle.rules.specs.Reading.{parentGood, heightGood, occurrences, tallest};
 ghost use Rattle.table.specs.Places.{foundOr};
-ghost use Rattle.table.specs.Layout.{NodeIn, Fielded, rowAt, fieldAt};
+ghost use Rattle.table.specs.Layout.{NodeIn, Fielded, fieldCodesAt, fieldAt};
 ghost use Rattle.reading.specs.Arrays.{FieldIn, Room, BumpPre, Bumped, countsAt, Counted, Heights};
 
 // Adds 1 to the count at x if the field counts.
@@ -32,7 +32,7 @@ fn count_field(
     counted: &mut [u16],
     binders: bool,
 )
-    requires { ⌜ FieldIn (now table) at n i × (length (now counted) ≡ 512) × Room (now counted) × (row ≡ rowAt (now table) n) ⌝ }
+    requires { ⌜ FieldIn (now table) at n i × (length (now counted) ≡ 512) × Room (now counted) × (row ≡ fieldCodesAt (now table) n) ⌝ }
     ensures { λ _. ⌜ Bumped (now (counted .entry)) (countsAt binders (now (table .entry)) n i) (fieldAt (now (table .entry)) n i) (now (counted .exit)) ⌝ }
 {
     let hit = table::counts(table::digit(row, i), binders);
@@ -101,7 +101,7 @@ fn larger(a: u8, b: u8) -> u8
 
 // The height of the child in field i of a node whose kind has the row, or 0 where the field holds none.
 fn child_height(table: &[u8], at: usize, n: usize, row: u16, i: usize, heights: &[u8]) -> u8
-    requires { ⌜ FieldIn (now table) at n i × (length (now heights) ≡ 512) × (row ≡ rowAt (now table) n) ⌝ }
+    requires { ⌜ FieldIn (now table) at n i × (length (now heights) ≡ 512) × (row ≡ fieldCodesAt (now table) n) ⌝ }
     ensures { λ r. ⌜ r ≡ cond (countsAt false (now (table .entry)) n i) (getD (now (heights .entry)) (fieldAt (now (table .entry)) n i) 0) 0 ⌝ }
 {
     if table::counts(table::digit(row, i), false) {

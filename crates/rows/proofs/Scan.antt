@@ -23,7 +23,7 @@ use Rattle.unification.specs.Solved.{ClassesMatch, Grounded}
 use Rattle.unification.specs.Rows.{roomAfter, Weighed}
 use Rattle.typing.specs.Equations.{base}
 use Rattle.typing.specs.Places.{placeVar, placeCount, LeastPlace, GroundAt}
-use Rattle.rows.specs.Rows.{varAt, Placed, PlaceIn, Typed, FailsAt, Determines, LightAt}
+use Rattle.rows.specs.Rows.{varAt, Placed, PlaceIn, TypedAt, FailsAt, Determines, LightAt}
 use Rattle.typing.proofs.VariableLaws.{base-mono, base-below}
 use Rattle.rules.proofs.Basics.{any-default}
 
@@ -56,16 +56,16 @@ module _ (tb : Table) (p : ℕ) (above : length (tb .binds) ≤ p) where
   place-node (inl l) = absurd (omega arith)
   place-node (inr (n, l, t, e)) = let q : p - length (tb .binds) ≡ n = omega arith in rw q t
 
-  typed-by : p < placeCount tb → (b : Bool) → eqb (categoryCode (kindAt (tb .nodes) (p - length (tb .binds)))) 2 ≡ b → Typed tb p b
+  typed-by : p < placeCount tb → (b : Bool) → eqb (categoryCode (kindAt (tb .nodes) (p - length (tb .binds)))) 2 ≡ b → TypedAt tb p b
   typed-by h true e = node-place h (code-typed (kindAt (tb .nodes) (p - length (tb .binds))) e)
   typed-by h false e = λ w. code-blank (kindAt (tb .nodes) (p - length (tb .binds))) e (place-node w)
 
 -- `has_type` at an identifier and at a node.
-pub typed-name : (bs : List ℕ) (i p : ℕ) → PlaceIn bs i p → p < i → Typed (tableOf bs) p true
+pub typed-name : (bs : List ℕ) (i p : ℕ) → PlaceIn bs i p → p < i → TypedAt (tableOf bs) p true
 typed-name bs i p w h = inl (omega (arith, binds-length bs))
 
 pub typed-node : (bs : List ℕ) (i p k c : ℕ) → PlaceIn bs i p → i ≤ p → k ≡ nodeAt (tableOf bs .nodes) (p - i) .kind →
-    c ≡ categoryCode (kindOf k) → Typed (tableOf bs) p (eqb c 2)
+    c ≡ categoryCode (kindOf k) → TypedAt (tableOf bs) p (eqb c 2)
 typed-node bs i p k c w h e f =
     let q : i ≡ length (tableOf bs .binds) = omega (arith, binds-length bs) in
     let l : p < placeCount (tableOf bs) = omega (arith, binds-length bs, nodes-length bs) in
@@ -115,13 +115,13 @@ module _ {bs : List ℕ} {at : ℕ} {bases : List ℕ} {n : ℕ} (pl : Placed bs
   found-below v e = rw (e ∙ place-var) var-below
 
 -- A place without a type fails nothing.
-pub fails-blank : (tb : Table) (P : ℕ → Type 0) (p : ℕ) (b : Bool) → Typed tb p b → not b ≡ true → FailsAt tb P p false
+pub fails-blank : (tb : Table) (P : ℕ → Type 0) (p : ℕ) (b : Bool) → TypedAt tb p b → not b ≡ true → FailsAt tb P p false
 fails-blank tb P p true w e = absurd (false≢true e)
 fails-blank tb P p false w e = λ h. absurd (w h)
 
-pub typed : (tb : Table) (p : ℕ) (b : Bool) → Typed tb p b → not b ≡ false → Place tb p
-typed tb p true w e = w
-typed tb p false w e = absurd (true≢false e)
+pub is-place : (tb : Table) (p : ℕ) (b : Bool) → TypedAt tb p b → not b ≡ false → Place tb p
+is-place tb p true w e = w
+is-place tb p false w e = absurd (true≢false e)
 
 fails-by : (tb : Table) (P : ℕ → Type 0) (p : ℕ) → Place tb p → (t : Bool) → (t ≡ true → P p → ⊥) → (t ≡ false → P p) → FailsAt tb P p t
 fails-by tb P p w true f g = (w, f refl)
@@ -129,10 +129,10 @@ fails-by tb P p w false f g = λ h. g refl
 
 -- `is_open` at a place with a type.
 pub open-typed : (bs : List ℕ) (at : ℕ) (bases mark : List ℕ) (i p v : ℕ) (b : Bool) → Placed bs at bases (length mark) → PlaceIn bs i p →
-    Typed (tableOf bs) p b → not b ≡ false → v ≡ varAt i bases p →
+    TypedAt (tableOf bs) p b → not b ≡ false → v ≡ varAt i bases p →
     FailsAt (tableOf bs) (GroundAt (tableOf bs) mark) p (ltb (getD mark v 0) 2)
 open-typed bs at bases mark i p v b pl w t e f =
-    fails-by (tableOf bs) (GroundAt (tableOf bs) mark) p (typed (tableOf bs) p b t e) (ltb (getD mark v 0) 2)
+    fails-by (tableOf bs) (GroundAt (tableOf bs) mark) p (is-place (tableOf bs) p b t e) (ltb (getD mark v 0) 2)
     (λ y g. omega (arith, ltb-true (getD mark v 0) 2 y, same, g)) (λ y. omega (arith, ltb-false (getD mark v 0) 2 y, same))
   where
     same : getD mark v 0 ≡ getD mark (placeVar (tableOf bs) p) 1
@@ -140,14 +140,14 @@ open-typed bs at bases mark i p v b pl w t e f =
 
 -- `is_heavy` at a place with a type.
 pub heavy-typed : (bs : List ℕ) (at : ℕ) (bases : List ℕ) (sh : ℕ → Shape) (n : ℕ) (cls : List ℕ) (i p v r : ℕ) (b : Bool) → Placed bs at bases n →
-    PlaceIn bs i p → Typed (tableOf bs) p b → not b ≡ false → v ≡ varAt i bases p → Weighed sh n cls v 64 r → (σ : ℕ → Ty) →
+    PlaceIn bs i p → TypedAt (tableOf bs) p b → not b ≡ false → v ≡ varAt i bases p → Weighed sh n cls v 64 r → (σ : ℕ → Ty) →
     Determines (tableOf bs) sh n cls σ → FailsAt (tableOf bs) (LightAt (tableOf bs) σ) p (eqb r 0)
 heavy-typed bs at bases sh n cls i p v r b pl w t e f g σ d =
     fails-by (tableOf bs) (LightAt (tableOf bs) σ) p here (eqb r 0)
     (λ y l. omega (arith, eqb-true r 0 y, weight)) (λ y. omega (arith, eqb-false r 0 y, weight))
   where
     here : Place (tableOf bs) p
-    here = typed (tableOf bs) p b t e
+    here = is-place (tableOf bs) p b t e
 
     weight : r ≡ roomAfter 64 (weightᵀ (σ (placeVar (tableOf bs) p)))
     weight = g .exact σ (rw (f ∙ place-var pl w) (d p here)) ∙ ap (λ u. roomAfter 64 (weightᵀ (σ u))) (f ∙ place-var pl w)

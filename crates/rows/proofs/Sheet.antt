@@ -16,14 +16,14 @@ use Rattle.rules.specs.Types.{Ty, weightᵀ, prefix, row, emptyRow}
 use Rattle.rules.specs.Kinds.{Kind, Category, predicate, expression, categoryOf}
 use Rattle.rules.specs.Tables.{Table, tableOf, kindAt}
 use Rattle.rules.specs.Readable.{CategoryIs}
-use Rattle.rules.specs.Verdict.{placeOf, Place, Light, categoryRow, kindRow, rowsFrom, sheetOf, sheetLength}
+use Rattle.rules.specs.Verdict.{nodePlace, Place, Light, categoryRow, kindRow, rowsFrom, sheetOf, sheetLength}
 use Rattle.rules.proofs.TypeLaws.{prefix-length, row-length, emptyRow-length}
 use Rattle.unification.specs.Problem.{Shape}
 use Rattle.unification.specs.Rows.{Written}
 use Rattle.typing.specs.Places.{placeCount}
-use Rattle.rows.specs.Rows.{Placed, PlaceIn, varAt, Typed, TypesOf, rowAt, putRow, RowWritten}
+use Rattle.rows.specs.Rows.{Placed, PlaceIn, varAt, TypedAt, TypesOf, placeRow, putRow, RowWritten}
 use Rattle.typing.proofs.Places.{place-below as typed-below}
-use Rattle.rows.proofs.Scan.{place-below, place-var, typed}
+use Rattle.rows.proofs.Scan.{place-below, place-var, is-place}
 
 -- The last row of several.
 pub rows-last : (r : ℕ → List ℕ) (i n : ℕ) → rowsFrom r i (suc n) ≡ rowsFrom r i n ++ r (i + n)
@@ -61,21 +61,21 @@ rows-joined r s t m (suc n) h g =
     ∙ ap (λ k. rowsFrom r 0 k) e
 
 -- The row of an identifier's place, and of a node's.
-row-name : (tb : Table) (θ : ℕ → Ty) (p : ℕ) → p < length (tb .binds) → rowAt tb θ p ≡ row (θ p)
-unfolding rowAt
+row-name : (tb : Table) (θ : ℕ → Ty) (p : ℕ) → p < length (tb .binds) → placeRow tb θ p ≡ row (θ p)
+unfolding placeRow
 row-name tb θ p h = rw (lt-ltb p (length (tb .binds)) h)
 
-row-node : (tb : Table) (θ : ℕ → Ty) (n : ℕ) → rowAt tb θ (placeOf tb n) ≡ kindRow (kindAt (tb .nodes) n) (θ (placeOf tb n))
-unfolding rowAt
+row-node : (tb : Table) (θ : ℕ → Ty) (n : ℕ) → placeRow tb θ (nodePlace tb n) ≡ kindRow (kindAt (tb .nodes) n) (θ (nodePlace tb n))
+unfolding placeRow
 row-node tb θ n =
-    let e : placeOf tb n - length (tb .binds) ≡ n = omega arith in
-    rw (le-ltb (placeOf tb n) (length (tb .binds)) (omega arith), e)
+    let e : nodePlace tb n - length (tb .binds) ≡ n = omega arith in
+    rw (le-ltb (nodePlace tb n) (length (tb .binds)) (omega arith), e)
 
 -- The sheet is the rows of all places.
-pub sheet-rows : (tb : Table) (θ : ℕ → Ty) → sheetOf tb θ ≡ rowsFrom (rowAt tb θ) 0 (placeCount tb)
+pub sheet-rows : (tb : Table) (θ : ℕ → Ty) → sheetOf tb θ ≡ rowsFrom (placeRow tb θ) 0 (placeCount tb)
 unfolding sheetOf
 sheet-rows tb θ =
-    rows-joined (rowAt tb θ) (λ x. row (θ x)) (λ n. kindRow (kindAt (tb .nodes) n) (θ (placeOf tb n))) (length (tb .binds)) (length (tb .nodes))
+    rows-joined (placeRow tb θ) (λ x. row (θ x)) (λ n. kindRow (kindAt (tb .nodes) n) (θ (nodePlace tb n))) (length (tb .binds)) (length (tb .nodes))
     (λ j h. sym (row-name tb θ j h)) (λ j h. sym (row-node tb θ j))
 
 -- The row of a kind: that of the type for an expression, else zeros.
@@ -92,21 +92,21 @@ kind-blank nothing t h = refl
 kind-blank (some k) t h = category-blank (categoryOf k) t h
 
 -- The row of a place with a type, and of one without.
-row-typed : (tb : Table) (θ : ℕ → Ty) (p : ℕ) → Place tb p → rowAt tb θ p ≡ row (θ p)
+row-typed : (tb : Table) (θ : ℕ → Ty) (p : ℕ) → Place tb p → placeRow tb θ p ≡ row (θ p)
 row-typed tb θ p (inl h) = row-name tb θ p h
-row-typed tb θ p (inr (n, h, t, e)) = rw e (row-node tb θ n ∙ kind-typed (kindAt (tb .nodes) n) (θ (placeOf tb n)) t)
+row-typed tb θ p (inr (n, h, t, e)) = rw e (row-node tb θ n ∙ kind-typed (kindAt (tb .nodes) n) (θ (nodePlace tb n)) t)
 
-row-blank : (tb : Table) (θ : ℕ → Ty) (p : ℕ) → p < placeCount tb → (Place tb p → ⊥) → rowAt tb θ p ≡ emptyRow
+row-blank : (tb : Table) (θ : ℕ → Ty) (p : ℕ) → p < placeCount tb → (Place tb p → ⊥) → placeRow tb θ p ≡ emptyRow
 row-blank tb θ p h g = go (decLt p (length (tb .binds)))
   where
     n : ℕ
     n = p - length (tb .binds)
 
-    at-node : p ≡ placeOf tb n → rowAt tb θ p ≡ emptyRow
+    at-node : p ≡ nodePlace tb n → placeRow tb θ p ≡ emptyRow
     at-node e =
-        ap (rowAt tb θ) e ∙ row-node tb θ n ∙ kind-blank (kindAt (tb .nodes) n) (θ (placeOf tb n)) (λ t. g (inr (n, omega arith, t, e)))
+        ap (placeRow tb θ) e ∙ row-node tb θ n ∙ kind-blank (kindAt (tb .nodes) n) (θ (nodePlace tb n)) (λ t. g (inr (n, omega arith, t, e)))
 
-    go : Dec (p < length (tb .binds)) → rowAt tb θ p ≡ emptyRow
+    go : Dec (p < length (tb .binds)) → placeRow tb θ p ≡ emptyRow
     go (yes l) = absurd (g (inl l))
     go (no l) = at-node (omega arith)
 
@@ -118,18 +118,18 @@ kind-length (some k) t h = go (categoryOf k) h
     go predicate h = emptyRow-length
     go expression h = row-length t (h refl)
 
-row-long : (tb : Table) (θ : ℕ → Ty) → ((p : ℕ) → Light tb θ p) → (p : ℕ) → p < placeCount tb → length (rowAt tb θ p) ≡ 64
+row-long : (tb : Table) (θ : ℕ → Ty) → ((p : ℕ) → Light tb θ p) → (p : ℕ) → p < placeCount tb → length (placeRow tb θ p) ≡ 64
 row-long tb θ light p h = go (decLt p (length (tb .binds)))
   where
     n : ℕ
     n = p - length (tb .binds)
 
-    at-node : p ≡ placeOf tb n → length (rowAt tb θ p) ≡ 64
+    at-node : p ≡ nodePlace tb n → length (placeRow tb θ p) ≡ 64
     at-node e =
-        ap (λ q. length (rowAt tb θ q)) e ∙ ap length (row-node tb θ n)
-        ∙ kind-length (kindAt (tb .nodes) n) (θ (placeOf tb n)) (λ t. light (placeOf tb n) (inr (n, omega arith, t, refl)))
+        ap (λ q. length (placeRow tb θ q)) e ∙ ap length (row-node tb θ n)
+        ∙ kind-length (kindAt (tb .nodes) n) (θ (nodePlace tb n)) (λ t. light (nodePlace tb n) (inr (n, omega arith, t, refl)))
 
-    go : Dec (p < length (tb .binds)) → length (rowAt tb θ p) ≡ 64
+    go : Dec (p < length (tb .binds)) → length (placeRow tb θ p) ≡ 64
     go (yes l) = ap length (row-name tb θ p l) ∙ row-length (θ p) (light p (inl l))
     go (no l) = at-node (omega arith)
 
@@ -150,8 +150,8 @@ pub sheet-row : (tb : Table) (θ : ℕ → Ty) → ((p : ℕ) → Light tb θ p)
     take 64 (drop (64 * p) (sheetOf tb θ)) ≡ row (θ p)
 sheet-row tb θ light p h =
     ap (λ l. take 64 (drop (64 * p) l)) (sheet-rows tb θ)
-    ∙ rows-at (rowAt tb θ) 0 (placeCount tb) p (λ j l. row-long tb θ light j (omega arith)) (typed-below tb p h)
-    ∙ ap (rowAt tb θ) (zero-add p) ∙ row-typed tb θ p h
+    ∙ rows-at (placeRow tb θ) 0 (placeCount tb) p (λ j l. row-long tb θ light j (omega arith)) (typed-below tb p h)
+    ∙ ap (placeRow tb θ) (zero-add p) ∙ row-typed tb θ p h
 
 -- The loop of `clear_row`: i zeros are written.
 zero-at : (n j : ℕ) → getD {A = ℕ} (replicate n 0) j 0 ≡ 0
@@ -223,13 +223,13 @@ row-codes sheet at t h l =
 
 -- `write_row` at a place without a type, and at one with a type.
 pub written-blank : (bs : List ℕ) (sh : ℕ → Shape) (n : ℕ) (cls : List ℕ) (i p : ℕ) (b : Bool) (sheet after : List ℕ) → PlaceIn bs i p →
-    Typed (tableOf bs) p b → not b ≡ true → after ≡ putRow sheet (64 * p) emptyRow → RowWritten (tableOf bs) sh n cls sheet p after
+    TypedAt (tableOf bs) p b → not b ≡ true → after ≡ putRow sheet (64 * p) emptyRow → RowWritten (tableOf bs) sh n cls sheet p after
 written-blank bs sh n cls i p true sheet after w t e f = absurd (false≢true e)
 written-blank bs sh n cls i p false sheet after w t e f = λ θ ty.
     f ∙ ap (putRow sheet (64 * p)) (sym (row-blank (tableOf bs) θ p (place-below w) t))
 
 pub written-typed : (bs : List ℕ) (at : ℕ) (bases : List ℕ) (sh : ℕ → Shape) (n : ℕ) (cls : List ℕ) (i p v r : ℕ) (b : Bool)
-    (sheet blank after : List ℕ) → Placed bs at bases n → PlaceIn bs i p → Typed (tableOf bs) p b → not b ≡ false → v ≡ varAt i bases p →
+    (sheet blank after : List ℕ) → Placed bs at bases n → PlaceIn bs i p → TypedAt (tableOf bs) p b → not b ≡ false → v ≡ varAt i bases p →
     64 * p + 64 ≤ length sheet → blank ≡ putRow sheet (64 * p) emptyRow → Written sh n cls v blank (64 * p) (64 * p + 64) r after →
     RowWritten (tableOf bs) sh n cls sheet p after
 written-typed bs at bases sh n cls i p v r b sheet blank after pl w t e f h q g θ ty =
@@ -237,7 +237,7 @@ written-typed bs at bases sh n cls i p v r b sheet blank after pl w t e f h q g 
     ∙ ap (putRow sheet (64 * p)) (sym (row-typed (tableOf bs) θ p here))
   where
     here : Place (tableOf bs) p
-    here = typed (tableOf bs) p b t e
+    here = is-place (tableOf bs) p b t e
 
     same : ty .σ v ≡ θ p
     same = ap (ty .σ) (f ∙ place-var pl w) ∙ ty .agree p here
@@ -248,22 +248,22 @@ written-typed bs at bases sh n cls i p v r b sheet blank after pl w t e f h q g 
 -- The loop of `write_rows`: the rows of the first p places are written.
 module _ (tb : Table) (sh : ℕ → Shape) (n : ℕ) (cls : List ℕ) where
   abbrev pub Filled : List ℕ → ℕ → Type 0
-  Filled sheet p = (θ : ℕ → Ty) → TypesOf tb sh n cls θ → take (64 * p) sheet ≡ rowsFrom (rowAt tb θ) 0 p
+  Filled sheet p = (θ : ℕ → Ty) → TypesOf tb sh n cls θ → take (64 * p) sheet ≡ rowsFrom (placeRow tb θ) 0 p
 
   pub filled-start : (sheet : List ℕ) → Filled sheet 0
-  filled-start sheet θ ty = sym (rows-none (rowAt tb θ))
+  filled-start sheet θ ty = sym (rows-none (placeRow tb θ))
 
   pub filled-turn : (sheet after : List ℕ) (p : ℕ) → p < placeCount tb → 64 * p + 64 ≤ length sheet → Filled sheet p →
       RowWritten tb sh n cls sheet p after → Filled after (p + 1)
   filled-turn sheet after p h l f w θ ty =
-      let r = rowAt tb θ p in
+      let r = placeRow tb θ p in
       let long : length r ≡ 64 = row-long tb θ (ty .light) p h in
       let e : 64 * (p + 1) ≡ 64 * p + 64 = omega arith in
       ap₂ take e (w θ ty) ∙ take-paste sheet (64 * p) r 64 (omega arith) (omega arith)
-      ∙ ap₂ _++_ (f θ ty) (take-all 64 r (omega arith)) ∙ sym (rows-next (rowAt tb θ) p) ∙ ap (λ k. rowsFrom (rowAt tb θ) 0 k) (sym (add-one p))
+      ∙ ap₂ _++_ (f θ ty) (take-all 64 r (omega arith)) ∙ sym (rows-next (placeRow tb θ) p) ∙ ap (λ k. rowsFrom (placeRow tb θ) 0 k) (sym (add-one p))
 
   pub filled-end : (sheet : List ℕ) (p : ℕ) → length sheet ≡ sheetLength tb → p ≤ placeCount tb → placeCount tb ≤ p → Filled sheet p →
       (θ : ℕ → Ty) → TypesOf tb sh n cls θ → sheet ≡ sheetOf tb θ
   filled-end sheet p l h g f θ ty =
       let e : p ≡ placeCount tb = omega arith in
-      sym (take-all (64 * p) sheet (omega arith)) ∙ f θ ty ∙ ap (λ k. rowsFrom (rowAt tb θ) 0 k) e ∙ sym (sheet-rows tb θ)
+      sym (take-all (64 * p) sheet (omega arith)) ∙ f θ ty ∙ ap (λ k. rowsFrom (placeRow tb θ) 0 k) e ∙ sym (sheet-rows tb θ)

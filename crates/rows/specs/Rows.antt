@@ -33,9 +33,9 @@ pub record PlaceIn (bs : List ℕ) (i p : ℕ) : Type 0 where
   pub below : p < i + nodeCount bs
 
 -- Whether a place has a type.
-abbrev pub Typed : Table → ℕ → Bool → Type 0
-Typed tb p true = Place tb p
-Typed tb p false = Place tb p → ⊥
+abbrev pub TypedAt : Table → ℕ → Bool → Type 0
+TypedAt tb p true = Place tb p
+TypedAt tb p false = Place tb p → ⊥
 
 -- Whether a place has a type and P fails there.
 abbrev pub FailsAt : Table → (ℕ → Type 0) → ℕ → Bool → Type 0
@@ -58,9 +58,9 @@ pub record TypesOf (tb : Table) (sh : ℕ → Shape) (n : ℕ) (cls : List ℕ) 
   pub light : (p : ℕ) → Light tb θ p
 
 -- The row of a place in the sheet.
-unfoldable pub rowAt : Table → (ℕ → Ty) → ℕ → List ℕ
+unfoldable pub placeRow : Table → (ℕ → Ty) → ℕ → List ℕ
 unfolding row emptyRow kindOf
-rowAt tb θ p = cond (ltb p (length (tb .binds))) (row (θ p)) (kindRow (kindAt (tb .nodes) (p - length (tb .binds))) (θ p))
+placeRow tb θ p = cond (ltb p (length (tb .binds))) (row (θ p)) (kindRow (kindAt (tb .nodes) (p - length (tb .binds))) (θ p))
 
 -- The 64 bytes from at on are those of the row.
 abbrev pub putRow : List ℕ → ℕ → List ℕ → List ℕ
@@ -68,4 +68,4 @@ putRow sheet at bytes = paste sheet at bytes 64
 
 -- The row of place p is written, and nothing else is changed.
 abbrev pub RowWritten : Table → (ℕ → Shape) → ℕ → List ℕ → List ℕ → ℕ → List ℕ → Type 0
-RowWritten tb sh n cls sheet p after = (θ : ℕ → Ty) → TypesOf tb sh n cls θ → after ≡ putRow sheet (64 * p) (rowAt tb θ p)
+RowWritten tb sh n cls sheet p after = (θ : ℕ → Ty) → TypesOf tb sh n cls θ → after ≡ putRow sheet (64 * p) (placeRow tb θ p)

@@ -10,7 +10,7 @@ ghost use Rattle.rules.specs.Verdict.{sheetOf, sheetLength};
 ghost use Rattle.table.specs.Layout.{Laid};
 ghost use Rattle.unification.specs.Arrays.{shapeAt, ClassArrays};
 ghost use Rattle.typing.specs.Places.{LeastPlace, GroundAt};
-ghost use Rattle.rows.specs.Rows.{varAt, Placed, PlaceIn, Typed, FailsAt, Determines, LightAt, TypesOf, putRow, RowWritten};
+ghost use Rattle.rows.specs.Rows.{varAt, Placed, PlaceIn, TypedAt, FailsAt, Determines, LightAt, TypesOf, putRow, RowWritten};
 
 // The variable of place p.
 fn place_var(identifiers: usize, bases: &[u16], p: usize) -> usize
@@ -26,7 +26,7 @@ fn place_var(identifiers: usize, bases: &[u16], p: usize) -> usize
 // Whether place p has a type: an identifier has one, and a node that is an expression.
 fn has_type(table: &[u8], at: usize, identifiers: usize, p: usize) -> bool
     requires { ⌜ Laid (now table) at × PlaceIn (now table) identifiers p ⌝ }
-    ensures { λ r. ⌜ Typed (tableOf (now (table .entry))) p r ⌝ }
+    ensures { λ r. ⌜ TypedAt (tableOf (now (table .entry))) p r ⌝ }
 {
     if p < identifiers {
         return true;

@@ -15,7 +15,7 @@ use Rattle.rules.specs.Values.{Scalar, num, truth, element, Value, scala
 use Rattle.rules.specs.Values.{scalarTag, scalarPayload, tag, payload, weight, weights, count}
 use Rattle.rules.specs.Tables.{wordAt}
 use Rattle.rules.specs.Cells.{bytes4, twos, signed, inRange, cell, cells, cellsOf, wellFormed, risingAll, precedes, weightLimit, good}
-use Rattle.rules.specs.Cells.{Read, _andThen_, onlyIf, several, byTag, valueTo, value}
+use Rattle.rules.specs.Cells.{Read, _andThen_, onlyIf, readMany, byTag, valueTo, value}
 use Rattle.rules.specs.Fits.{typed}
 use Rattle.rules.proofs.OrderLaws.{and-left, and-right, Small, small-wellFormed}
 use Rattle.rules.proofs.Basics.{and-of}
@@ -172,13 +172,13 @@ pair-cells : (r : List ℕ → Read Value) (v w : Value) (a b : List ℕ) (bs : 
 pair-cells r v w a b bs e f = rw (append-assoc a b bs, e, f)
 
 several-cons : (r : List ℕ → Read Value) (n : ℕ) (v : Value) (vs : Values) (a b : List ℕ) (bs : List ℕ) →
-    r (a ++ (b ++ bs)) ≡ some (v, b ++ bs) → several r n (b ++ bs) ≡ some (vs, bs) →
-    several r (1 + n) ((a ++ b) ++ bs) ≡ some (v ▸ vs, bs)
-unfolding several
+    r (a ++ (b ++ bs)) ≡ some (v, b ++ bs) → readMany r n (b ++ bs) ≡ some (vs, bs) →
+    readMany r (1 + n) ((a ++ b) ++ bs) ≡ some (v ▸ vs, bs)
+unfolding readMany
 several-cons r n v vs a b bs e f = let o : 1 + n ≡ suc n = omega arith in rw (o, append-assoc a b bs, e, f)
 
 set-cells : (r : List ℕ → Read Value) (s : Values) (n : ℕ) (bs rest : List ℕ) →
-    several r n bs ≡ some (s, rest) → byTag r 5 n bs ≡ some (set s, rest)
+    readMany r n bs ≡ some (s, rest) → byTag r 5 n bs ≡ some (set s, rest)
 set-cells r s n bs rest e = rw e
 
 -- a value of one cell
@@ -195,7 +195,7 @@ scalar-cells r (element g k) rest h =
 
 -- The cells of an encodable value are read back as it, at any depth that its weight does not exceed.
 mutual
-  unfolding cells twos several
+  unfolding cells twos readMany
 
   pub valueTo-cells : (v : Value) (d : ℕ) (rest : List ℕ) → weight v ≤ d → Encodable v → valueTo d (cells v ++ rest) ≡ some (v, rest)
   valueTo-cells (scalar s) zero rest l h = absurd (omega arith)
@@ -212,7 +212,7 @@ mutual
       set-cells (λ bs. valueTo d bs) s (count s) (cellsOf s ++ rest) rest (several-cells s d rest (omega arith) (h .1))
 
   pub several-cells : (s : Values) (d : ℕ) (rest : List ℕ) → weights s ≤ d → Encodables s →
-      several (λ bs. valueTo d bs) (count s) (cellsOf s ++ rest) ≡ some (s, rest)
+      readMany (λ bs. valueTo d bs) (count s) (cellsOf s ++ rest) ≡ some (s, rest)
   several-cells none d rest l h = refl
   several-cells (v ▸ vs) d rest l h =
       several-cons (λ bs. valueTo d bs) (count vs) v vs (cells v) (cellsOf vs) rest
@@ -357,15 +357,15 @@ abbrev pub Right : (List ℕ → Read Value) → Type 0
 Right r = (bs : List ℕ) (v : Value) (rest : List ℕ) → Bytes bs → r bs ≡ some (v, rest) → bs ≡ cells v ++ rest
 
 several-right : (r : List ℕ → Read Value) → Right r → (n : ℕ) (bs : List ℕ) (vs : Values) (rest : List ℕ) → Bytes bs →
-    several r n bs ≡ some (vs, rest) → (count vs ≡ n) × (bs ≡ cellsOf vs ++ rest)
-unfolding several cells
+    readMany r n bs ≡ some (vs, rest) → (count vs ≡ n) × (bs ≡ cellsOf vs ++ rest)
+unfolding readMany cells
 several-right r h zero bs vs rest b e =
     read-at (λ ws rest′. (count ws ≡ 0) × (bs ≡ cellsOf ws ++ rest′)) none vs bs rest e (refl, refl)
 several-right r h (suc n) bs vs rest b e =
-    let p = andThen-some (r bs) (λ v bs₁. several r n bs₁ andThen λ ws bs₂. some (v ▸ ws, bs₂)) (vs, rest) e in
+    let p = andThen-some (r bs) (λ v bs₁. readMany r n bs₁ andThen λ ws bs₂. some (v ▸ ws, bs₂)) (vs, rest) e in
     let v = p .0 .0 in
     let bs₁ = p .0 .1 in
-    let q = andThen-some (several r n bs₁) (λ ws bs₂. some (v ▸ ws, bs₂)) (vs, rest) (p .2) in
+    let q = andThen-some (readMany r n bs₁) (λ ws bs₂. some (v ▸ ws, bs₂)) (vs, rest) (p .2) in
     let ws = q .0 .0 in
     let bs₂ = q .0 .1 in
     let a : bs ≡ cells v ++ bs₁ = h bs v bs₁ b (p .1) in
@@ -414,7 +414,7 @@ module _ (r : List ℕ → Read Value) (h : Right r) (p : ℕ) (bs : List ℕ) (
   set-right : Bytes bs → byTag r 5 p bs ≡ some (v, rest) → Shown 5 p bs v rest
   unfolding twos cells
   set-right b e =
-      let f = andThen-some (several r p bs) (λ vs bs₁. some (set vs, bs₁)) (v, rest) e in
+      let f = andThen-some (readMany r p bs) (λ vs bs₁. some (set vs, bs₁)) (v, rest) e in
       let vs = f .0 .0 in
       let bs₁ = f .0 .1 in
       let q = several-right r h p bs vs bs₁ b (f .1) in

@@ -8,15 +8,15 @@ use lib.Dec.{T, eqb→eq, eqb-refl}
 use Rattle.rules.specs.Types.{whole, Atom, number, bool, given, Ty, atom, POW, _⊗_, INTEGER}
 use Rattle.rules.specs.Values.{Value, scalar, pair, set, Values, none, _▸_}
 use Rattle.rules.specs.Rules.{Pattern, t̂, û, atom̂, P̂, _×̂_, inst}
-use Rattle.rules.specs.Fits.{IfPow, IfProduct, HasType, HaveType, FitAt, Fits, sameAtom, Shape, every, clash, atomˢ, powˢ, _×ˢ_, _⊓_}
-use Rattle.rules.specs.Fits.{shape, shapes, inhabited, typed, Asked, anything, nothing-fits, askAtom, asked, askedAll, fits, exactly, hasType}
+use Rattle.rules.specs.Fits.{IfPow, IfProduct, HasType, HaveType, FitAt, Fits, sameAtom, TypeSet, every, noType, atomˢ, powˢ, _×ˢ_, _⊓_}
+use Rattle.rules.specs.Fits.{typesOf, sharedTypes, inhabited, typed, Asked, anything, nothing-fits, askAtom, asked, askedAll, fits, exactly, hasType}
 use Rattle.rules.proofs.Basics.{and-of, and-split}
 
 infix 30 _⊑_
 -- A type is one of a shape's.
-abbrev pub _⊑_ : Shape → Ty → Type 0
+abbrev pub _⊑_ : TypeSet → Ty → Type 0
 every ⊑ t = Unit {0}
-clash ⊑ t = ⊥
+noType ⊑ t = ⊥
 atomˢ a ⊑ t = t ≡ atom a
 powˢ p ⊑ t = IfPow (λ t₁. p ⊑ t₁) t
 (p ×ˢ q) ⊑ t = IfProduct (λ t₁ t₂. p ⊑ t₁ × q ⊑ t₂) t
@@ -61,23 +61,23 @@ cond-atoms a b t x y h k =
     cond-true (sameAtom a b) x y (subst (λ (c : Atom). T (sameAtom a c)) e (atom-same a))
 
 -- A type of both p and q is one of p ⊓ q.
-pub ⊓-join : (p q : Shape) (t : Ty) → p ⊑ t → q ⊑ t → p ⊓ q ⊑ t
+pub ⊓-join : (p q : TypeSet) (t : Ty) → p ⊑ t → q ⊑ t → p ⊓ q ⊑ t
 ⊓-join every q t h k = k
-⊓-join clash q t h k = h
+⊓-join noType q t h k = h
 ⊓-join (atomˢ a) every t h k = h
-⊓-join (atomˢ a) clash t h k = k
-⊓-join (atomˢ a) (atomˢ b) t h k = rw (cond-atoms a b t (atomˢ a) clash h k) h
+⊓-join (atomˢ a) noType t h k = k
+⊓-join (atomˢ a) (atomˢ b) t h k = rw (cond-atoms a b t (atomˢ a) noType h k) h
 ⊓-join (atomˢ a) (powˢ q) t h k = atom-pow a _ t h k
 ⊓-join (atomˢ a) (q₁ ×ˢ q₂) t h k = atom-product a _ t h k
 ⊓-join (powˢ p) every t h k = h
-⊓-join (powˢ p) clash t h k = k
+⊓-join (powˢ p) noType t h k = k
 ⊓-join (powˢ p) (atomˢ b) t h k = atom-pow b _ t k h
 ⊓-join (powˢ p) (powˢ q) (atom a) h k = h
 ⊓-join (powˢ p) (powˢ q) (POW t) h k = ⊓-join p q t h k
 ⊓-join (powˢ p) (powˢ q) (t ⊗ u) h k = h
 ⊓-join (powˢ p) (q₁ ×ˢ q₂) t h k = pow-product _ _ t h k
 ⊓-join (p₁ ×ˢ p₂) every t h k = h
-⊓-join (p₁ ×ˢ p₂) clash t h k = k
+⊓-join (p₁ ×ˢ p₂) noType t h k = k
 ⊓-join (p₁ ×ˢ p₂) (atomˢ b) t h k = atom-product b _ t k h
 ⊓-join (p₁ ×ˢ p₂) (powˢ q) t h k = pow-product _ _ t k h
 ⊓-join (p₁ ×ˢ p₂) (q₁ ×ˢ q₂) (atom a) h k = h
@@ -85,27 +85,27 @@ pub ⊓-join : (p q : Shape) (t : Ty) → p ⊑ t → q ⊑ t → p ⊓ q ⊑ t
 ⊓-join (p₁ ×ˢ p₂) (q₁ ×ˢ q₂) (t ⊗ u) h k = (⊓-join p₁ q₁ t (h .0) (k .0), ⊓-join p₂ q₂ u (h .1) (k .1))
 
 -- A type of p ⊓ q is one of p and one of q.
-pub ⊓-split : (p q : Shape) (t : Ty) → p ⊓ q ⊑ t → p ⊑ t × q ⊑ t
+pub ⊓-split : (p q : TypeSet) (t : Ty) → p ⊓ q ⊑ t → p ⊑ t × q ⊑ t
 ⊓-split every q t h = (tt, h)
-⊓-split clash q t h = absurd h
+⊓-split noType q t h = absurd h
 ⊓-split (atomˢ a) every t h = (h, tt)
-⊓-split (atomˢ a) clash t h = absurd h
+⊓-split (atomˢ a) noType t h = absurd h
 ⊓-split (atomˢ a) (atomˢ b) t h = go (sameAtom a b) (same-atom a b) h
   where
-    go : (c : Bool) → (T c → a ≡ b) → cond c (atomˢ a) clash ⊑ t → (t ≡ atom a) × (t ≡ atom b)
+    go : (c : Bool) → (T c → a ≡ b) → cond c (atomˢ a) noType ⊑ t → (t ≡ atom a) × (t ≡ atom b)
     go true e k = (k, k ∙ ap atom (e tt))
     go false e k = absurd k
 ⊓-split (atomˢ a) (powˢ q) t h = absurd h
 ⊓-split (atomˢ a) (q₁ ×ˢ q₂) t h = absurd h
 ⊓-split (powˢ p) every t h = (h, tt)
-⊓-split (powˢ p) clash t h = absurd h
+⊓-split (powˢ p) noType t h = absurd h
 ⊓-split (powˢ p) (atomˢ b) t h = absurd h
 ⊓-split (powˢ p) (powˢ q) (atom a) h = absurd h
 ⊓-split (powˢ p) (powˢ q) (POW t) h = ⊓-split p q t h
 ⊓-split (powˢ p) (powˢ q) (t ⊗ u) h = absurd h
 ⊓-split (powˢ p) (q₁ ×ˢ q₂) t h = absurd h
 ⊓-split (p₁ ×ˢ p₂) every t h = (h, tt)
-⊓-split (p₁ ×ˢ p₂) clash t h = absurd h
+⊓-split (p₁ ×ˢ p₂) noType t h = absurd h
 ⊓-split (p₁ ×ˢ p₂) (atomˢ b) t h = absurd h
 ⊓-split (p₁ ×ˢ p₂) (powˢ q) t h = absurd h
 ⊓-split (p₁ ×ˢ p₂) (q₁ ×ˢ q₂) (atom a) h = absurd h
@@ -117,7 +117,7 @@ pub ⊓-split : (p q : Shape) (t : Ty) → p ⊓ q ⊑ t → p ⊑ t × q ⊑ t
 
 -- The types of a value are its shape's.
 mutual
-  pub has→shape : (v : Value) (t : Ty) → HasType v t → shape v ⊑ t
+  pub has→shape : (v : Value) (t : Ty) → HasType v t → typesOf v ⊑ t
   has→shape (scalar s) t h = h
   has→shape (pair v w) (atom a) h = h
   has→shape (pair v w) (POW t) h = h
@@ -126,13 +126,13 @@ mutual
   has→shape (set s) (POW t) h = have→shapes s t h
   has→shape (set s) (t ⊗ u) h = h
 
-  pub have→shapes : (s : Values) (t : Ty) → HaveType s t → shapes s ⊑ t
+  pub have→shapes : (s : Values) (t : Ty) → HaveType s t → sharedTypes s ⊑ t
   have→shapes none t h = tt
-  have→shapes (v ▸ vs) t h = ⊓-join (shape v) (shapes vs) t (has→shape v t (h .0)) (have→shapes vs t (h .1))
+  have→shapes (v ▸ vs) t h = ⊓-join (typesOf v) (sharedTypes vs) t (has→shape v t (h .0)) (have→shapes vs t (h .1))
 
 -- The types of its shape are the value's.
 mutual
-  pub shape→has : (v : Value) (t : Ty) → shape v ⊑ t → HasType v t
+  pub shape→has : (v : Value) (t : Ty) → typesOf v ⊑ t → HasType v t
   shape→has (scalar s) t h = h
   shape→has (pair v w) (atom a) h = h
   shape→has (pair v w) (POW t) h = h
@@ -141,16 +141,16 @@ mutual
   shape→has (set s) (POW t) h = shapes→have s t h
   shape→has (set s) (t ⊗ u) h = h
 
-  pub shapes→have : (s : Values) (t : Ty) → shapes s ⊑ t → HaveType s t
+  pub shapes→have : (s : Values) (t : Ty) → sharedTypes s ⊑ t → HaveType s t
   shapes→have none t h = tt
   shapes→have (v ▸ vs) t h =
-      let k = ⊓-split (shape v) (shapes vs) t h in
+      let k = ⊓-split (typesOf v) (sharedTypes vs) t h in
       (shape→has v t (k .0), shapes→have vs t (k .1))
 
 -- An inhabited shape has a type.
-pub inhabited→some : (p : Shape) → T (inhabited p) → (t : Ty) × p ⊑ t
+pub inhabited→some : (p : TypeSet) → T (inhabited p) → (t : Ty) × p ⊑ t
 inhabited→some every h = (INTEGER, tt)
-inhabited→some clash h = absurd h
+inhabited→some noType h = absurd h
 inhabited→some (atomˢ a) h = (atom a, refl)
 inhabited→some (powˢ p) h = let r = inhabited→some p h in (POW (r .0), r .1)
 inhabited→some (p ×ˢ q) h =
@@ -160,9 +160,9 @@ inhabited→some (p ×ˢ q) h =
     (r .0 ⊗ s .0, (r .1, s .1))
 
 -- A shape with a type is inhabited.
-pub some→inhabited : (p : Shape) (t : Ty) → p ⊑ t → T (inhabited p)
+pub some→inhabited : (p : TypeSet) (t : Ty) → p ⊑ t → T (inhabited p)
 some→inhabited every t h = tt
-some→inhabited clash t h = h
+some→inhabited noType t h = h
 some→inhabited (atomˢ a) t h = tt
 some→inhabited (powˢ p) (atom a) h = absurd h
 some→inhabited (powˢ p) (POW t) h = some→inhabited p t h
@@ -175,24 +175,24 @@ some→inhabited (p ×ˢ q) (t ⊗ u) h = and-of (inhabited p) (inhabited q) (so
 pub typed-right : (v : Value) → T (typed v) ↔ ((t : Ty) × HasType v t)
 unfolding typed
 typed-right v = (
-  (λ h. let r = inhabited→some (shape v) h in (r .0, shape→has v (r .0) (r .1))),
-  (λ x. some→inhabited (shape v) (x .0) (has→shape v (x .0) (x .1))),
+  (λ h. let r = inhabited→some (typesOf v) h in (r .0, shape→has v (r .0) (r .1))),
+  (λ x. some→inhabited (typesOf v) (x .0) (has→shape v (x .0) (x .1))),
 )
 
 -- A pair of types is among those left for t and u.
 abbrev pub Leaves : Asked → Ty → Ty → Type 0
 Leaves a t u = (a .0 ⊑ t) × (a .1 ⊑ u)
 
-ask-atom : (a : Atom) (s : Shape) (t u : Ty) → s ⊑ atom a → Leaves (askAtom a s) t u
+ask-atom : (a : Atom) (s : TypeSet) (t u : Ty) → s ⊑ atom a → Leaves (askAtom a s) t u
 ask-atom a every t u h = (tt, tt)
-ask-atom a clash t u h = absurd h
+ask-atom a noType t u h = absurd h
 ask-atom a (atomˢ b) t u h = rw (cond-atoms a b (atom a) anything nothing-fits refl h) (tt, tt)
 ask-atom a (powˢ q) t u h = absurd h
 ask-atom a (q₁ ×ˢ q₂) t u h = absurd h
 
-atom-ask : (a : Atom) (s : Shape) (t u : Ty) → Leaves (askAtom a s) t u → s ⊑ atom a
+atom-ask : (a : Atom) (s : TypeSet) (t u : Ty) → Leaves (askAtom a s) t u → s ⊑ atom a
 atom-ask a every t u h = tt
-atom-ask a clash t u h = h .0
+atom-ask a noType t u h = h .0
 atom-ask a (atomˢ b) t u h = go (sameAtom a b) (same-atom a b) h
   where
     go : (c : Bool) → (T c → a ≡ b) → Leaves (cond c anything nothing-fits) t u → atom a ≡ atom b
@@ -211,33 +211,33 @@ each a b t u h =
     ((k .0, l .0), (k .1, l .1))
 
 -- Where a pattern is at t and u a type of the shape, t and u are as it asks.
-pub asked-of : (p : Pattern) (s : Shape) (t u : Ty) → s ⊑ inst p t u → Leaves (asked p s) t u
+pub asked-of : (p : Pattern) (s : TypeSet) (t u : Ty) → s ⊑ inst p t u → Leaves (asked p s) t u
 asked-of t̂ s t u h = (h, tt)
 asked-of û s t u h = (tt, h)
 asked-of (atom̂ a) s t u h = ask-atom a s t u h
 asked-of (P̂ p) every t u h = (tt, tt)
-asked-of (P̂ p) clash t u h = absurd h
+asked-of (P̂ p) noType t u h = absurd h
 asked-of (P̂ p) (atomˢ a) t u h = absurd (atom-pow a (λ _. Unit {0}) _ h tt)
 asked-of (P̂ p) (powˢ q) t u h = asked-of p q t u h
 asked-of (P̂ p) (q₁ ×ˢ q₂) t u h = absurd h
 asked-of (p₁ ×̂ p₂) every t u h = (tt, tt)
-asked-of (p₁ ×̂ p₂) clash t u h = absurd h
+asked-of (p₁ ×̂ p₂) noType t u h = absurd h
 asked-of (p₁ ×̂ p₂) (atomˢ a) t u h = absurd (atom-product a (λ _ _. Unit {0}) _ h tt)
 asked-of (p₁ ×̂ p₂) (powˢ q) t u h = absurd h
 asked-of (p₁ ×̂ p₂) (q₁ ×ˢ q₂) t u h = both (asked p₁ q₁) (asked p₂ q₂) t u (asked-of p₁ q₁ t u (h .0)) (asked-of p₂ q₂ t u (h .1))
 
 -- Where t and u are as a pattern asks, it is at t and u a type of the shape.
-pub of-asked : (p : Pattern) (s : Shape) (t u : Ty) → Leaves (asked p s) t u → s ⊑ inst p t u
+pub of-asked : (p : Pattern) (s : TypeSet) (t u : Ty) → Leaves (asked p s) t u → s ⊑ inst p t u
 of-asked t̂ s t u h = h .0
 of-asked û s t u h = h .1
 of-asked (atom̂ a) s t u h = atom-ask a s t u h
 of-asked (P̂ p) every t u h = tt
-of-asked (P̂ p) clash t u h = h .0
+of-asked (P̂ p) noType t u h = h .0
 of-asked (P̂ p) (atomˢ a) t u h = absurd (h .0)
 of-asked (P̂ p) (powˢ q) t u h = of-asked p q t u h
 of-asked (P̂ p) (q₁ ×ˢ q₂) t u h = absurd (h .0)
 of-asked (p₁ ×̂ p₂) every t u h = tt
-of-asked (p₁ ×̂ p₂) clash t u h = h .0
+of-asked (p₁ ×̂ p₂) noType t u h = h .0
 of-asked (p₁ ×̂ p₂) (atomˢ a) t u h = absurd (h .0)
 of-asked (p₁ ×̂ p₂) (powˢ q) t u h = absurd (h .0)
 of-asked (p₁ ×̂ p₂) (q₁ ×ˢ q₂) t u h =
@@ -248,14 +248,14 @@ fit-asked : (ps : List Pattern) (vs : List Value) (t u : Ty) → FitAt ps vs t u
 fit-asked [] vs t u h = (tt, tt)
 fit-asked (p ∷ ps) [] t u h = absurd h
 fit-asked (p ∷ ps) (v ∷ vs) t u h =
-    both (asked p (shape v)) (askedAll ps vs) t u (asked-of p (shape v) t u (has→shape v (inst p t u) (h .0))) (fit-asked ps vs t u (h .1))
+    both (asked p (typesOf v)) (askedAll ps vs) t u (asked-of p (typesOf v) t u (has→shape v (inst p t u) (h .0))) (fit-asked ps vs t u (h .1))
 
 asked-fit : (ps : List Pattern) (vs : List Value) (t u : Ty) → Leaves (askedAll ps vs) t u → FitAt ps vs t u
 asked-fit [] vs t u h = tt
 asked-fit (p ∷ ps) [] t u h = h .0
 asked-fit (p ∷ ps) (v ∷ vs) t u h =
-    let k = each (asked p (shape v)) (askedAll ps vs) t u h in
-    (shape→has v (inst p t u) (of-asked p (shape v) t u (k .0)), asked-fit ps vs t u (k .1))
+    let k = each (asked p (typesOf v)) (askedAll ps vs) t u h in
+    (shape→has v (inst p t u) (of-asked p (typesOf v) t u (k .0)), asked-fit ps vs t u (k .1))
 
 -- The test of refusal 15 says for every rule that some t and u fit.
 pub fits-right : (ps : List Pattern) (vs : List Value) → T (fits ps vs) ↔ Fits ps vs

@@ -18,7 +18,7 @@ use Rattle.rules.specs.Rules.{Pattern, inst, Rule, Says, testRule, oneRu
 use Rattle.rules.specs.Fits.{HasType, Fits, fits, typed}
 use Rattle.rules.specs.Tables.{Node, Table, nodeAt, kindAt, fieldWords, noNode, predOf, exprOf, predAt, exprAt, lastNode, root}
 use Rattle.rules.specs.Tables.{Pred, joinᵖ, notᵖ, testᵖ, quantᵖ, Expr, leafᵉ, boolᵉ, oneᵉ, twoᵉ, comprehensionᵉ}
-use Rattle.rules.specs.Ends as Ends
+use Rattle.rules.specs.Ends as EndsSafely
 use Rattle.rules.specs.Ends.{End, done, refused, require}
 use Rattle.rules.specs.Reading.{reading}
 use Rattle.rules.specs.Readable.{Records, FieldsRight}
@@ -413,7 +413,7 @@ value-good budget tb r f n ρ s v h e =
 
 -- Refusal 14: the values that it lets through.
 ended-bind : {A B : Type 0} (P : A → Type 0) (Q : B → Type 0) (m : End A) (f : A → End B) →
-    Ended P m → ((a : A) → P a → Ended Q (f a)) → Ended Q (Ends._>>=_ m f)
+    Ended P m → ((a : A) → P a → Ended Q (f a)) → Ended Q (EndsSafely._>>=_ m f)
 ended-bind P Q (done a) f h k = k a h
 ended-bind P Q (refused r p) f h k = tt
 

@@ -21,8 +21,8 @@ use Rattle.rules.specs.Cells.{weightLimit, noValue, valuesIn}
 use Rattle.rules.specs.Runs.{Trace, Run, M, goOn, _>>=_, _>>_, demand, counted, visit, emit, form, _orElse_, Given, gives, lacks}
 use Rattle.rules.specs.Operations.{Env, _with_≔_, decides, elems, setOf, leafValue, oneValue, twoValue}
 use Rattle.rules.specs.Evaluation.{fitting, quantify, select, holdsᵖ, valueᵉ, run, evaluation}
-use Rattle.rules.specs.Verdict.{placeOf, Whole}
-use Rattle.rules.specs.Safety.{Free, Left, Ends, Any, All}
+use Rattle.rules.specs.Verdict.{nodePlace, Whole}
+use Rattle.rules.specs.Safety.{Free, Left, EndsSafely, Any, All}
 use Rattle.rules.proofs.FitsLaws.{fits-right}
 use Rattle.rules.proofs.ReadingLaws.{reading-table, reading-readable}
 use Rattle.rules.proofs.TableLaws.{nodes-length}
@@ -31,7 +31,7 @@ use Rattle.rules.proofs.SetOrder.{all-append}
 use Rattle.rules.proofs.SetTypes.{AllHave, GivenHas, values-have, elems-have, one-has, two-has, leaf-has}
 
 -- It is not refusal 15.
-pub not-15 : {A : Type 0} (Q : A → Type 0) (e : End A) (n : ℕ) → Ends Q e → e ≡ refused 15 n → ⊥
+pub not-15 : {A : Type 0} (Q : A → Type 0) (e : End A) (n : ℕ) → EndsSafely Q e → e ≡ refused 15 n → ⊥
 not-15 Q e n h p = let k : Left 15 = rw p at h in omega arith
 
 -- Values have the types of a list, one by one.
@@ -73,10 +73,10 @@ module _ (E : ℕ → Type 0) (ν : ℕ → Ty) where
 
   -- From any number of visits, a run ends with Q or in a refusal that is left, and forms only values of their nodes' types.
   abbrev pub Sound : {A : Type 0} → (A → Type 0) → M A → Type 0
-  Sound Q m = (s : ℕ) → Ends Q (m s .end) × All AtNode (m s .formed)
+  Sound Q m = (s : ℕ) → EndsSafely Q (m s .end) × All AtNode (m s .formed)
 
-  goOn-sound : {A B : Type 0} (P : A → Type 0) (Q : B → Type 0) (e : End A) (s : ℕ) (tr : Trace) (f : A → M B) → Ends P e → All AtNode tr →
-      ((a : A) → P a → Sound Q (f a)) → Ends Q (goOn e s tr f .end) × All AtNode (goOn e s tr f .formed)
+  goOn-sound : {A B : Type 0} (P : A → Type 0) (Q : B → Type 0) (e : End A) (s : ℕ) (tr : Trace) (f : A → M B) → EndsSafely P e → All AtNode tr →
+      ((a : A) → P a → Sound Q (f a)) → EndsSafely Q (goOn e s tr f .end) × All AtNode (goOn e s tr f .formed)
   goOn-sound P Q (done a) s tr f h k hf = (hf a h s .0, all-append AtNode tr (f a s .formed) k (hf a h s .1))
   goOn-sound P Q (refused r n) s tr f h k hf = (h, k)
 
@@ -208,7 +208,7 @@ module _ (E : ℕ → Type 0) (ν : ℕ → Ty) where
 
 -- A run ends in a truth or in a refusal of 16 to 19, and each value is formed at an expression and has its type at θ.
 abbrev pub SoundRun : Table → (ℕ → Ty) → Run Bool → Type 0
-SoundRun tb θ r = Ends Any (r .end) × All (AtNode (IsExpression tb) (λ n. θ (placeOf tb n))) (r .formed)
+SoundRun tb θ r = EndsSafely Any (r .end) × All (AtNode (IsExpression tb) (λ n. θ (nodePlace tb n))) (r .formed)
 
 -- The run of a table with a whole typing θ, at values of θ's types for the free identifiers, is never refused by 15.
 pub run-sound : (tb : Table) (θ : ℕ → Ty) (vs : List Value) (budget : ℕ) → 0 < length (tb .nodes) → Records tb → Whole tb θ →
@@ -216,7 +216,7 @@ pub run-sound : (tb : Table) (θ : ℕ → Ty) (vs : List Value) (budget : ℕ) 
     SoundRun tb θ (run tb vs budget)
 unfolding run
 run-sound tb θ vs budget some-node r w e =
-    pred-sound (IsExpression tb) (λ n. θ (placeOf tb n)) θ budget (tb .sizes) (root tb) (Free tb) (λ x. getD vs x noValue)
+    pred-sound (IsExpression tb) (λ n. θ (nodePlace tb n)) θ budget (tb .sizes) (root tb) (Free tb) (λ x. getD vs x noValue)
     (typed-root tb θ r w some-node) (scoped-root tb r some-node) e 0
 
 -- Evaluate is the run of the table and the values that its bytes hold.

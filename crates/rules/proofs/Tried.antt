@@ -14,7 +14,7 @@ use Rattle.rules.specs.Ends.{done, refused}
 use Rattle.rules.specs.Readable.{CategoryIs}
 use Rattle.rules.specs.Reading.{reading}
 use Rattle.rules.specs.Evaluation.{evaluation}
-use Rattle.rules.specs.Verdict.{placeOf, Place, ObeysKind, Typing, AgreeAt, Only, sheetOf, sheetLength}
+use Rattle.rules.specs.Verdict.{nodePlace, Place, ObeysKind, Typing, AgreeAt, Only, sheetOf, sheetLength}
 use Rattle.rules.specs.Verdict.{Verdict, unreadable, misfit, clash, several, accepts}
 use Rattle.rules.specs.Safety.{All}
 use Rattle.rules.proofs.TypeLaws.{no-cycle}
@@ -55,7 +55,7 @@ ifExpression (some k) A h e = rw e at h
 
 -- What is asked of the identifiers and of the expressions holds of the places.
 abbrev Places : Table → (ℕ → Type 0) → Type 0
-Places tb F = Below F (length (tb .binds)) × Below (λ n. IfExpression (kindAt (tb .nodes) n) (F (placeOf tb n))) (length (tb .nodes))
+Places tb F = Below F (length (tb .binds)) × Below (λ n. IfExpression (kindAt (tb .nodes) n) (F (nodePlace tb n))) (length (tb .nodes))
 
 at-place : (tb : Table) (F : ℕ → Type 0) → Places tb F → (p : ℕ) → Place tb p → F p
 at-place tb F h p (inl l) = each F (length (tb .binds)) (h .0) p l

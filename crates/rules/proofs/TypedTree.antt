@@ -18,7 +18,7 @@ use Rattle.rules.specs.Tables.{Pred, joinᵖ, notᵖ, testᵖ, quantᵖ,
 use Rattle.rules.specs.Tables.{predOf, exprOf, predAt, exprAt}
 use Rattle.rules.specs.Reading.{occurrences, upward, occursIn, occursInAny, occursStep, occursFree, binders}
 use Rattle.rules.specs.Readable.{CategoryIs, KindRight, BindingRight, Records}
-use Rattle.rules.specs.Verdict.{placeOf, ObeysKind, Whole}
+use Rattle.rules.specs.Verdict.{nodePlace, ObeysKind, Whole}
 use Rattle.rules.specs.Safety.{Free}
 use Rattle.rules.proofs.Basics.{absurd01, any-default}
 
@@ -105,10 +105,10 @@ IsExpression tb n = (n < length (tb .nodes)) × CategoryIs expression (kindAt (t
 
 -- The tree obeys the rules at the types θ of the table's places.
 abbrev pub Typedᵖ-at : Table → (ℕ → Ty) → Pred → Type 0
-Typedᵖ-at tb θ = Typedᵖ (IsExpression tb) θ (λ n. θ (placeOf tb n))
+Typedᵖ-at tb θ = Typedᵖ (IsExpression tb) θ (λ n. θ (nodePlace tb n))
 
 abbrev pub Typedᵉ-at : Table → (ℕ → Ty) → Expr → Type 0
-Typedᵉ-at tb θ = Typedᵉ (IsExpression tb) θ (λ n. θ (placeOf tb n))
+Typedᵉ-at tb θ = Typedᵉ (IsExpression tb) θ (λ n. θ (nodePlace tb n))
 
 module _ (tb : Table) (θ : ℕ → Ty) where
   abbrev record-of : ℕ → Node

@@ -13,7 +13,7 @@ use Rattle.rules.specs.Kinds.{Kind, Category, predicate, expression, cat
 use Rattle.rules.specs.Tables.{Table, kindAt}
 use Rattle.rules.specs.Ends.{End, done, refused}
 use Rattle.rules.specs.Readable.{CategoryIs}
-use Rattle.rules.specs.Verdict.{placeOf, Place, Typing, Whole, AgreeAt, Only, typeLimit, Light}
+use Rattle.rules.specs.Verdict.{nodePlace, Place, Typing, Whole, AgreeAt, Only, typeLimit, Light}
 use Rattle.rules.specs.Verdict.{categoryRow, kindRow, rowsFrom, sheetOf, sheetLength}
 use Rattle.rules.specs.Verdict.{Verdict, unreadable, misfit, clash, several, heavy, accepts, sheetAfter}
 use Rattle.rules.proofs.Basics.{absurd01}
@@ -55,7 +55,7 @@ unfolding sheetOf
 sheetOf-same tb θ κ h = ap₂ _++_
     (rowsFrom-same _ _ 0 (length (tb .binds)) (λ j l. ap row (h j (inl (omega arith)))))
     (rowsFrom-same _ _ 0 (length (tb .nodes))
-    (λ n l. kindRow-same (kindAt (tb .nodes) n) _ _ (λ c. h (placeOf tb n) (inr (n, omega arith, c, refl)))))
+    (λ n l. kindRow-same (kindAt (tb .nodes) n) _ _ (λ c. h (nodePlace tb n) (inr (n, omega arith, c, refl)))))
 
 -- A reading gives one table, or none.
 pub one-table : {o : End Table} {tb tb′ : Table} → o ≡ done tb → o ≡ done tb′ → tb′ ≡ tb

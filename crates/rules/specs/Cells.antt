@@ -59,9 +59,9 @@ onlyIf true r = r
 onlyIf false r = nothing
 
 -- n values that follow one another
-unfoldable pub several : (List ℕ → Read Value) → ℕ → List ℕ → Read Values
-several r zero bs = some (none, bs)
-several r (suc n) bs = r bs andThen λ v bs₁. several r n bs₁ andThen λ vs bs₂. some (v ▸ vs, bs₂)
+unfoldable pub readMany : (List ℕ → Read Value) → ℕ → List ℕ → Read Values
+readMany r zero bs = some (none, bs)
+readMany r (suc n) bs = r bs andThen λ v bs₁. readMany r n bs₁ andThen λ vs bs₂. some (v ▸ vs, bs₂)
 
 -- A value whose first cell has the tag and the payload word p; r reads its parts.
 abbrev pub byTag : (List ℕ → Read Value) → ℕ → ℕ → List ℕ → Read Value
@@ -71,12 +71,12 @@ byTag r (suc (suc zero)) p bs = onlyIf (ltb p 2) (some (truthValue (eqb p 1), bs
 byTag r (suc (suc (suc zero))) p bs = some (scalar (element (p / 256) (p % 256)), bs)
 byTag r (suc (suc (suc (suc zero)))) p bs =
     let parts : Read Value = (r bs andThen λ v bs₁. r bs₁ andThen λ w bs₂. some (pair v w, bs₂)) in onlyIf (eqb p 0) parts
-byTag r (suc (suc (suc (suc (suc zero))))) p bs = several r p bs andThen λ vs bs₁. some (set vs, bs₁)
+byTag r (suc (suc (suc (suc (suc zero))))) p bs = readMany r p bs andThen λ vs bs₁. some (set vs, bs₁)
 byTag r (suc (suc (suc (suc (suc (suc n)))))) p bs = nothing
 
 -- A value of at most d levels from the front of a run of bytes.
 unfoldable pub valueTo : ℕ → List ℕ → Read Value
-unfolding signed several
+unfolding signed readMany
 valueTo zero bs = nothing
 valueTo (suc d) bs =
     let v = byTag (λ bs₁. valueTo d bs₁) (getD bs 4 0) (wordAt bs 0) (drop 8 bs) in

@@ -58,47 +58,47 @@ sameAtom (given g) a = elim a [ number m ↦ false | bool ↦ false | given h �
 
 infixr 60 _×ˢ_
 -- A set of types: all, none, one without parts, the powers of a set's types, the products of two sets' types.
-pub data Shape : Type 0 where
-  every clash : Shape
-  atomˢ : Atom → Shape
-  powˢ : Shape → Shape
-  _×ˢ_ : Shape → Shape → Shape
+pub data TypeSet : Type 0 where
+  every noType : TypeSet
+  atomˢ : Atom → TypeSet
+  powˢ : TypeSet → TypeSet
+  _×ˢ_ : TypeSet → TypeSet → TypeSet
 
 infixr 50 _⊓_
 -- The types in both of two sets.
-abbrev pub _⊓_ : Shape → Shape → Shape
+abbrev pub _⊓_ : TypeSet → TypeSet → TypeSet
 every ⊓ q = q
-clash ⊓ q = clash
-atomˢ a ⊓ q = elim q [ every ↦ atomˢ a | clash ↦ clash | atomˢ b ↦ cond (sameAtom a b) (atomˢ a) clash | powˢ q₁ ↦ clash | q₁ ×ˢ q₂ ↦ clash ]
-powˢ p ⊓ q = elim q [ every ↦ powˢ p | clash ↦ clash | atomˢ b ↦ clash | powˢ q₁ ↦ powˢ (p ⊓ q₁) | q₁ ×ˢ q₂ ↦ clash ]
-(p₁ ×ˢ p₂) ⊓ q = elim q [ every ↦ p₁ ×ˢ p₂ | clash ↦ clash | atomˢ b ↦ clash | powˢ q₁ ↦ clash | q₁ ×ˢ q₂ ↦ (p₁ ⊓ q₁) ×ˢ (p₂ ⊓ q₂) ]
+noType ⊓ q = noType
+atomˢ a ⊓ q = elim q [ every ↦ atomˢ a | noType ↦ noType | atomˢ b ↦ cond (sameAtom a b) (atomˢ a) noType | powˢ q₁ ↦ noType | q₁ ×ˢ q₂ ↦ noType ]
+powˢ p ⊓ q = elim q [ every ↦ powˢ p | noType ↦ noType | atomˢ b ↦ noType | powˢ q₁ ↦ powˢ (p ⊓ q₁) | q₁ ×ˢ q₂ ↦ noType ]
+(p₁ ×ˢ p₂) ⊓ q = elim q [ every ↦ p₁ ×ˢ p₂ | noType ↦ noType | atomˢ b ↦ noType | powˢ q₁ ↦ noType | q₁ ×ˢ q₂ ↦ (p₁ ⊓ q₁) ×ˢ (p₂ ⊓ q₂) ]
 
 -- The types of a value.
 abbrev mutual
-  pub shape : Value → Shape
-  shape (scalar s) = atomˢ (atomOf s)
-  shape (pair v w) = shape v ×ˢ shape w
-  shape (set s) = powˢ (shapes s)
+  pub typesOf : Value → TypeSet
+  typesOf (scalar s) = atomˢ (atomOf s)
+  typesOf (pair v w) = typesOf v ×ˢ typesOf w
+  typesOf (set s) = powˢ (sharedTypes s)
 
-  pub shapes : Values → Shape
-  shapes none = every
-  shapes (v ▸ vs) = shape v ⊓ shapes vs
+  pub sharedTypes : Values → TypeSet
+  sharedTypes none = every
+  sharedTypes (v ▸ vs) = typesOf v ⊓ sharedTypes vs
 
 -- A set has a type in it.
-abbrev pub inhabited : Shape → Bool
+abbrev pub inhabited : TypeSet → Bool
 inhabited every = true
-inhabited clash = false
+inhabited noType = false
 inhabited (atomˢ a) = true
 inhabited (powˢ p) = inhabited p
 inhabited (p ×ˢ q) = inhabited p && inhabited q
 
 -- A value has a type: at no depth do the members of a set share none.
 unfoldable pub typed : Value → Bool
-typed v = inhabited (shape v)
+typed v = inhabited (typesOf v)
 
 -- The types that are left for t and for u.
 abbrev pub Asked : Type 0
-Asked = Shape × Shape
+Asked = TypeSet × TypeSet
 
 infixr 50 _⊓ᵃ_
 abbrev pub _⊓ᵃ_ : Asked → Asked → Asked
@@ -108,27 +108,27 @@ abbrev pub anything : Asked
 anything = (every, every)
 
 abbrev pub nothing-fits : Asked
-nothing-fits = (clash, every)
+nothing-fits = (noType, every)
 
-abbrev pub askAtom : Atom → Shape → Asked
+abbrev pub askAtom : Atom → TypeSet → Asked
 askAtom a every = anything
-askAtom a clash = nothing-fits
+askAtom a noType = nothing-fits
 askAtom a (atomˢ b) = cond (sameAtom a b) anything nothing-fits
 askAtom a (powˢ q) = nothing-fits
 askAtom a (q₁ ×ˢ q₂) = nothing-fits
 
 -- What a pattern asks of t and u where the value's types are those of a shape.
-abbrev pub asked : Pattern → Shape → Asked
+abbrev pub asked : Pattern → TypeSet → Asked
 asked t̂ s = (s, every)
 asked û s = (every, s)
 asked (atom̂ a) s = askAtom a s
-asked (P̂ p) s = elim s [ every ↦ anything | clash ↦ nothing-fits | atomˢ a ↦ nothing-fits | powˢ q ↦ asked p q | q₁ ×ˢ q₂ ↦ nothing-fits ]
-asked (p₁ ×̂ p₂) s = elim s [ every ↦ anything | clash ↦ nothing-fits | atomˢ a ↦ nothing-fits | powˢ q ↦ nothing-fits | q₁ ×ˢ q₂ ↦ asked p₁ q₁ ⊓ᵃ asked p₂ q₂ ]
+asked (P̂ p) s = elim s [ every ↦ anything | noType ↦ nothing-fits | atomˢ a ↦ nothing-fits | powˢ q ↦ asked p q | q₁ ×ˢ q₂ ↦ nothing-fits ]
+asked (p₁ ×̂ p₂) s = elim s [ every ↦ anything | noType ↦ nothing-fits | atomˢ a ↦ nothing-fits | powˢ q ↦ nothing-fits | q₁ ×ˢ q₂ ↦ asked p₁ q₁ ⊓ᵃ asked p₂ q₂ ]
 
 abbrev pub askedAll : List Pattern → List Value → Asked
 askedAll [] vs = anything
 askedAll (p ∷ ps) [] = nothing-fits
-askedAll (p ∷ ps) (v ∷ vs) = asked p (shape v) ⊓ᵃ askedAll ps vs
+askedAll (p ∷ ps) (v ∷ vs) = asked p (typesOf v) ⊓ᵃ askedAll ps vs
 
 -- The test of refusal 15.
 unfoldable pub fits : List Pattern → List Value → Bool

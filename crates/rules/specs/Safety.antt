@@ -15,9 +15,9 @@ abbrev pub Left : ℕ → Type 0
 Left r = (16 ≤ r) × (r ≤ 19)
 
 -- An answer with Q, or a refusal that is left.
-abbrev pub Ends : {A : Type 0} → (A → Type 0) → End A → Type 0
-Ends Q (done a) = Q a
-Ends Q (refused r n) = Left r
+abbrev pub EndsSafely : {A : Type 0} → (A → Type 0) → End A → Type 0
+EndsSafely Q (done a) = Q a
+EndsSafely Q (refused r n) = Left r
 
 -- The property that everything has.
 abbrev pub Any : {A : Type 0} → A → Type 0

@@ -14,21 +14,21 @@ use Rattle.rules.specs.Readable.{CategoryIs}
 use Rattle.rules.specs.Reading.{reading}
 
 -- Places: identifiers first, then nodes.
-abbrev pub placeOf : Table → ℕ → ℕ
-placeOf tb n = length (tb .binds) + n
+abbrev pub nodePlace : Table → ℕ → ℕ
+nodePlace tb n = length (tb .binds) + n
 
 -- The places that have a type: identifiers, and nodes that are expressions.
 abbrev pub Place : Table → ℕ → Type 0
 Place tb p =
     (p < length (tb .binds)) ⊎
-    ((n : ℕ) × (n < length (tb .nodes)) × CategoryIs expression (kindAt (tb .nodes) n) × (p ≡ placeOf tb n))
+    ((n : ℕ) × (n < length (tb .nodes)) × CategoryIs expression (kindAt (tb .nodes) n) × (p ≡ nodePlace tb n))
 
 -- The rule of node n, of kind k, at the types θ of the places.
 abbrev pub ObeysKind : Table → (ℕ → Ty) → ℕ → Option Kind → Type 0
 ObeysKind tb θ n nothing = ⊥
 ObeysKind tb θ n (some k) =
     let d = nodeAt (tb .nodes) n in
-    Obeys (rule k (d .a)) (θ (d .a)) (map (λ m. θ (placeOf tb m)) (operands k d)) (θ (placeOf tb n))
+    Obeys (rule k (d .a)) (θ (d .a)) (map (λ m. θ (nodePlace tb m)) (operands k d)) (θ (nodePlace tb n))
 
 -- θ gives each place a type of the table, and the nodes below k obey their rules.
 pub record Typing (tb : Table) (k : ℕ) (θ : ℕ → Ty) : Type 0 where
@@ -73,7 +73,7 @@ unfoldable pub sheetOf : Table → (ℕ → Ty) → List ℕ
 unfolding rowsFrom row emptyRow kindOf
 sheetOf tb θ =
     rowsFrom (λ x. row (θ x)) 0 (length (tb .binds)) ++
-    rowsFrom (λ n. kindRow (kindAt (tb .nodes) n) (θ (placeOf tb n))) 0 (length (tb .nodes))
+    rowsFrom (λ n. kindRow (kindAt (tb .nodes) n) (θ (nodePlace tb n))) 0 (length (tb .nodes))
 
 abbrev pub sheetLength : Table → ℕ
 sheetLength tb = 64 * (length (tb .binds) + length (tb .nodes))

@@ -17,7 +17,7 @@ use Rattle.rules.specs.Tables.{Table, tableOf, nodeAt, kindAt, fieldsIf, givenC
 use Rattle.rules.specs.Reading.{sizeGood, bindGood, categoryIs, fieldGood, fieldsGood, known, nodeGood}
 use Rattle.rules.proofs.TableLaws.{sizes-length, binds-length}
 use Rattle.table.specs.Codes.{fieldOf, codeOf, categoryCode, rowOf, DigitOf}
-use Rattle.table.specs.Layout.{rowAt, holdsAt, fieldAt, WordOf}
+use Rattle.table.specs.Layout.{fieldCodesAt, holdsAt, fieldAt, WordOf}
 use Rattle.table.proofs.Access.{field-far}
 
 -- Refusals 4 and 5 at one place.
@@ -153,17 +153,17 @@ fields-known tb n (some k) x y z h = and-three (good 0 x) (good 1 y) (good 2 z)
     good i x = fieldGood tb n (getD (fieldsOf k) i unused) x
 
 -- What field i of node n holds, by the row and the code that the code reads.
-pub row-read : (bs : List ℕ) (n k row : ℕ) → k ≡ nodeAt (tableOf bs .nodes) n .kind → row ≡ rowOf (kindOf k) → row ≡ rowAt bs n
+pub row-read : (bs : List ℕ) (n k row : ℕ) → k ≡ nodeAt (tableOf bs .nodes) n .kind → row ≡ rowOf (kindOf k) → row ≡ fieldCodesAt bs n
 row-read bs n k row ek er = er ∙ ap (λ j. rowOf (kindOf j)) ek
 
-pub code-read : (bs : List ℕ) (n row i c : ℕ) → row ≡ rowAt bs n → DigitOf row i c → fieldOf c ≡ holdsAt bs n i
+pub code-read : (bs : List ℕ) (n row i c : ℕ) → row ≡ fieldCodesAt bs n → DigitOf row i c → fieldOf c ≡ holdsAt bs n i
 code-read bs n row i c er ec = ec (kindAt (tableOf bs .nodes) n) er
 
 -- The test of field i of node n.
 abbrev pub fieldTest : List ℕ → ℕ → ℕ → Bool
 fieldTest bs n i = fieldGood (tableOf bs) n (holdsAt bs n i) (fieldAt bs n i)
 
-pub field-test : (bs : List ℕ) (n row i c x : ℕ) (r : Bool) → row ≡ rowAt bs n → DigitOf row i c →
+pub field-test : (bs : List ℕ) (n row i c x : ℕ) (r : Bool) → row ≡ fieldCodesAt bs n → DigitOf row i c →
     x ≡ fieldAt bs n i → r ≡ fieldGood (tableOf bs) n (fieldOf c) x → r ≡ fieldTest bs n i
 field-test bs n row i c x r e ec ex er = er ∙ ap₂ (fieldGood (tableOf bs) n) (code-read bs n row i c e ec) ex
 

@@ -30,8 +30,8 @@ sortOf true f = isBinder f
 sortOf false f = isChild f
 
 -- The row of node n's kind, what field i of the node holds, and the word in it.
-abbrev pub rowAt : List ℕ → ℕ → ℕ
-rowAt bs n = rowOf (kindAt (tableOf bs .nodes) n)
+abbrev pub fieldCodesAt : List ℕ → ℕ → ℕ
+fieldCodesAt bs n = rowOf (kindAt (tableOf bs .nodes) n)
 
 abbrev pub holdsAt : List ℕ → ℕ → ℕ → Field
 holdsAt bs n i = getD (fieldsAt (nodeAt (tableOf bs .nodes) n)) i unused

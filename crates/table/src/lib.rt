@@ -11,7 +11,7 @@ ghost use Rattle.rules.specs.Ends.{leastFailing};
 ghost use Rattle.rules.specs.Readable.{Header};
 ghost use Rattle.rules.specs.Reading.{headed, limited, laidOut, sizeGood, bindGood, nodeGood, fieldGood};
 ghost use Rattle.table.specs.Codes.{fieldOf, rowOf, DigitOf, categoryCode};
-ghost use Rattle.table.specs.Layout.{Laid, NodeIn, rowAt, holdsAt, fieldAt, sortOf, WordOf};
+ghost use Rattle.table.specs.Layout.{Laid, NodeIn, fieldCodesAt, holdsAt, fieldAt, sortOf, WordOf};
 ghost use Rattle.table.specs.Places.{foundOr};
 
 // What the fields a, b and c of each kind code hold, a hexadecimal digit each: 0 nothing, 1 a predicate, 2 an expression,
@@ -223,7 +223,7 @@ pub fn digit(row: u16, i: usize) -> u8
 // The row of a node's kind. A constant table is made anew where it is read, so a node's row is read once.
 pub fn node_row(table: &[u8], at: usize, n: usize) -> u16
     requires { ⌜ NodeIn (now table) at n ⌝ }
-    ensures { λ r. ⌜ r ≡ rowAt (now (table .entry)) n ⌝ }
+    ensures { λ r. ⌜ r ≡ fieldCodesAt (now (table .entry)) n ⌝ }
 {
     field_codes(kind(table, at, n))
 }
@@ -257,7 +257,7 @@ fn field_is_good(table: &[u8], at: usize, n: usize, code: u8, x: usize) -> bool
 
 // Whether field i of node n, whose kind has the row, holds its word rightly.
 fn field_at_is_good(table: &[u8], at: usize, n: usize, row: u16, i: usize) -> bool
-    requires { ⌜ NodeIn (now table) at n × (i < 3) × (row ≡ rowAt (now table) n) ⌝ }
+    requires { ⌜ NodeIn (now table) at n × (i < 3) × (row ≡ fieldCodesAt (now table) n) ⌝ }
     ensures { λ r. ⌜ r ≡ fieldGood (tableOf (now (table .entry))) n (holdsAt (now (table .entry)) n i) (fieldAt (now (table .entry)) n i) ⌝ }
 {
     field_is_good(table, at, n, digit(row, i), field(table, at, n, i))

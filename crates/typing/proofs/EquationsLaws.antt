@@ -12,7 +12,7 @@ use Rattle.rules.specs.Types.{Ty, Declared, INTEGER}
 use Rattle.rules.specs.Kinds.{Kind}
 use Rattle.rules.specs.Tables.{Table, nodeAt, kindAt, fieldWords}
 use Rattle.rules.specs.Readable.{KindRight}
-use Rattle.rules.specs.Verdict.{placeOf, ObeysKind, Typing}
+use Rattle.rules.specs.Verdict.{nodePlace, ObeysKind, Typing}
 use Rattle.unification.specs.Problem.{Solves}
 use Rattle.typing.specs.Plan.{Ref, self, first, second, name, slot, Meets, refs}
 use Rattle.typing.specs.Equations.{planOf, planAt, slotCount, base, varOf, shapeAt, equations, RightNodes, back}
@@ -41,11 +41,11 @@ pub back-name : (tb : Table) (k : ℕ) (σ : ℕ → Ty) (x : ℕ) → x < lengt
 unfolding back
 back-name tb k σ x h = rw (less x (length (tb .binds)) h) refl
 
-pub back-node : (tb : Table) (k : ℕ) (σ : ℕ → Ty) (n : ℕ) → n < k → back tb k σ (placeOf tb n) ≡ σ (base tb n)
+pub back-node : (tb : Table) (k : ℕ) (σ : ℕ → Ty) (n : ℕ) → n < k → back tb k σ (nodePlace tb n) ≡ σ (base tb n)
 unfolding back
 back-node tb k σ n h =
-    let e : placeOf tb n - length (tb .binds) ≡ n = omega arith in
-    rw (not-less (placeOf tb n) (length (tb .binds)) (omega arith), e, less n k h) refl
+    let e : nodePlace tb n - length (tb .binds) ≡ n = omega arith in
+    rw (not-less (nodePlace tb n) (length (tb .binds)) (omega arith), e, less n k h) refl
 
 back-other : (tb : Table) (k : ℕ) (σ : ℕ → Ty) (p : ℕ) → length (tb .binds) + k ≤ p → back tb k σ p ≡ INTEGER
 unfolding back
@@ -56,11 +56,11 @@ back-other tb k σ p h =
 abbrev nodeRefs : Table → (ℕ → Ty) → ℕ → (ℕ → Ty) → Ref → Ty
 nodeRefs tb θ n s =
     let d = nodeAt (tb .nodes) n in
-    refs (θ (d .a)) (θ (placeOf tb (d .a))) (θ (placeOf tb (d .b))) (θ (placeOf tb n)) s
+    refs (θ (d .a)) (θ (nodePlace tb (d .a))) (θ (nodePlace tb (d .b))) (θ (nodePlace tb n)) s
 
 -- They are the variables' types, where those are the places' types.
 module _ (tb : Table) (n : ℕ) (σ θ s : ℕ → Ty) (names : (x : ℕ) → x < length (tb .binds) → σ x ≡ θ x)
-    (nodes : (m : ℕ) → m < suc n → σ (base tb m) ≡ θ (placeOf tb m)) (slots : (i : ℕ) → σ (base tb n + 1 + i) ≡ s i) where
+    (nodes : (m : ℕ) → m < suc n → σ (base tb m) ≡ θ (nodePlace tb m)) (slots : (i : ℕ) → σ (base tb n + 1 + i) ≡ s i) where
   refs-agree : (r : Ref) → RefRight tb n (nodeAt (tb .nodes) n) (slotCount tb n) r → σ (varOf tb n r) ≡ nodeRefs tb θ n s r
   unfolding varOf
   refs-agree self w = nodes n (omega arith)
@@ -73,12 +73,12 @@ module _ (tb : Table) (n : ℕ) (σ θ s : ℕ → Ty) (names : (x : ℕ) → x 
 module _ (tb : Table) (θ : ℕ → Ty) (n : ℕ) where
   kind-meets : (o : Option Kind) → ObeysKind tb θ n o → (s : ℕ → Ty) × Meets (planOf o (nodeAt (tb .nodes) n .a)) (nodeRefs tb θ n s)
   kind-meets nothing h = absurd h
-  kind-meets (some k) h = obeys→meets (nodeAt (tb .nodes) n) _ (λ m. θ (placeOf tb m)) _ k h
+  kind-meets (some k) h = obeys→meets (nodeAt (tb .nodes) n) _ (λ m. θ (nodePlace tb m)) _ k h
 
   kind-obeys : (o : Option Kind) → KindRight tb n o (fieldWords (nodeAt (tb .nodes) n)) →
       (s : ℕ → Ty) → Meets (planOf o (nodeAt (tb .nodes) n .a)) (nodeRefs tb θ n s) → ObeysKind tb θ n o
   kind-obeys nothing r s h = absurd r
-  kind-obeys (some k) r s h = meets→obeys (nodeAt (tb .nodes) n) _ (λ m. θ (placeOf tb m)) _ k (s, h)
+  kind-obeys (some k) r s h = meets→obeys (nodeAt (tb .nodes) n) _ (λ m. θ (nodePlace tb m)) _ k (s, h)
 
 -- Types σ of the variables below b, with z at b and s behind it.
 abbrev behind : Ty → (ℕ → Ty) → ℕ → Ty
@@ -105,7 +105,7 @@ module _ (b : ℕ) (σ : ℕ → Ty) (z : Ty) (s : ℕ → Ty) where
 record Found (tb : Table) (k : ℕ) (θ σ : ℕ → Ty) : Type 0 where
   meets : MeetsBelow tb k σ
   names : (x : ℕ) → x < length (tb .binds) → σ x ≡ θ x
-  nodes : (n : ℕ) → n < k → σ (base tb n) ≡ θ (placeOf tb n)
+  nodes : (n : ℕ) → n < k → σ (base tb n) ≡ θ (nodePlace tb n)
 
 module _ (tb : Table) (right : RightNodes tb) (θ : ℕ → Ty) where
   found-none : Found tb 0 θ θ
@@ -114,20 +114,20 @@ module _ (tb : Table) (right : RightNodes tb) (θ : ℕ → Ty) where
   module _ (k : ℕ) (h : k < length (tb .nodes)) (σ s : ℕ → Ty) (f : Found tb k θ σ)
       (m : Meets (planAt tb k) (nodeRefs tb θ k s)) where
     abbrev next : ℕ → Ty
-    next = extend (base tb k) σ (θ (placeOf tb k)) s
+    next = extend (base tb k) σ (θ (nodePlace tb k)) s
 
     next-old : (v : ℕ) → v < base tb k → next v ≡ σ v
-    next-old v l = extend-old (base tb k) σ (θ (placeOf tb k)) s v l
+    next-old v l = extend-old (base tb k) σ (θ (nodePlace tb k)) s v l
 
     next-names : (x : ℕ) → x < length (tb .binds) → next x ≡ θ x
     unfolding base
     next-names x l = next-old x (omega (arith, base-mono tb {n = 0} k (omega arith))) ∙ f .names x l
 
-    next-nodes : (n : ℕ) → n < suc k → next (base tb n) ≡ θ (placeOf tb n)
+    next-nodes : (n : ℕ) → n < suc k → next (base tb n) ≡ θ (nodePlace tb n)
     next-nodes n l = go (ℕ-discrete n k)
       where
-        go : Dec (n ≡ k) → next (base tb n) ≡ θ (placeOf tb n)
-        go (yes e) = rw e (extend-self (base tb k) σ (θ (placeOf tb k)) s)
+        go : Dec (n ≡ k) → next (base tb n) ≡ θ (nodePlace tb n)
+        go (yes e) = rw e (extend-self (base tb k) σ (θ (nodePlace tb k)) s)
         go (no g) = next-old (base tb n) (omega (arith, base-below tb {n = n} {m = k} (omega arith))) ∙ f .nodes n (omega arith)
 
     next-meets : MeetsBelow tb (suc k) next
@@ -137,7 +137,7 @@ module _ (tb : Table) (right : RightNodes tb) (θ : ℕ → Ty) where
         go (yes e) = subst (λ j. Meets (planAt tb j) (λ r. next (varOf tb j r))) (sym e)
             (meets-same (node-plan tb right h) (nodeRefs tb θ k s) (λ r. next (varOf tb k r))
             (λ r w. sym (refs-agree tb k next θ s next-names next-nodes
-            (extend-slot (base tb k) σ (θ (placeOf tb k)) s) r w)) m)
+            (extend-slot (base tb k) σ (θ (nodePlace tb k)) s) r w)) m)
         go (no g) = meets-same (node-plan tb right {n = n} (omega arith)) (λ r. σ (varOf tb n r)) (λ r. next (varOf tb n r))
             (λ r w. sym (next-old (varOf tb n r) (ref-below tb (omega arith) r w))) (f .meets n (omega arith))
 
@@ -155,7 +155,7 @@ module _ (tb : Table) (right : RightNodes tb) (θ : ℕ → Ty) where
   -- A typing of the nodes below k gives a solution of their problem, which is the same at the places.
   pub typing→solves : (k : ℕ) → k ≤ length (tb .nodes) → Typing tb k θ → (σ : ℕ → Ty) ×
       Solves (shapeAt tb) (base tb k) (equations tb k) σ × ((x : ℕ) → x < length (tb .binds) → σ x ≡ θ x) ×
-      ((n : ℕ) → n < k → σ (base tb n) ≡ θ (placeOf tb n))
+      ((n : ℕ) → n < k → σ (base tb n) ≡ θ (nodePlace tb n))
   typing→solves k h t =
       let r = found k h (t .obeyed) in (r .0, meets→solves tb k (r .0) h (r .1 .meets), r .1 .names, r .1 .nodes)
 
@@ -169,7 +169,7 @@ module _ (tb : Table) (right : RightNodes tb) (k : ℕ) (h : k ≤ length (tb .n
       go (yes l) e = subst (λ t. Declared (length (tb .sizes)) t) (sym (back-name tb k σ p l))
           (d p (omega (arith, base-mono tb {n = 0} k (omega arith))))
       go (no g) (yes l) =
-          let e : placeOf tb (p - length (tb .binds)) ≡ p = omega arith in
+          let e : nodePlace tb (p - length (tb .binds)) ≡ p = omega arith in
           subst (λ t. Declared (length (tb .sizes)) t) (sym (rw e at (back-node tb k σ (p - length (tb .binds)) l)))
           (d (base tb (p - length (tb .binds))) (omega (arith, base-below tb l)))
       go (no g) (no f) = subst (λ t. Declared (length (tb .sizes)) t) (sym (back-other tb k σ p (omega arith))) tt

@@ -10,7 +10,7 @@ use lib.ListN.{length}
 use Rattle.rules.specs.Types.{Ty}
 use Rattle.rules.specs.Kinds.{expression}
 use Rattle.rules.specs.Tables.{Table, kindAt}
-use Rattle.rules.specs.Verdict.{placeOf, Place}
+use Rattle.rules.specs.Verdict.{nodePlace, Place}
 use Rattle.rules.proofs.ReadingLaws.{categoryIs-right}
 use Rattle.typing.specs.Equations.{base, back}
 use Rattle.typing.specs.Model.{isPlace}
@@ -20,13 +20,13 @@ use Rattle.typing.proofs.EquationsLaws.{less, not-less, back-name, back
 
 -- A place below I + k is an identifier or a node below k.
 pub each-place : (tb : Table) (P : ℕ → Type 0) (k : ℕ) → ((x : ℕ) → x < length (tb .binds) → P x) →
-    ((n : ℕ) → n < k → P (placeOf tb n)) → (p : ℕ) → p < length (tb .binds) + k → P p
+    ((n : ℕ) → n < k → P (nodePlace tb n)) → (p : ℕ) → p < length (tb .binds) + k → P p
 each-place tb P k names nodes p h = go (decLt p (length (tb .binds)))
   where
     go : Dec (p < length (tb .binds)) → P p
     go (yes l) = names p l
     go (no g) =
-        let e : placeOf tb (p - length (tb .binds)) ≡ p = omega arith in
+        let e : nodePlace tb (p - length (tb .binds)) ≡ p = omega arith in
         subst P e (nodes (p - length (tb .binds)) (omega arith))
 
 pub place-below : (tb : Table) (p : ℕ) → Place tb p → p < placeCount tb
@@ -36,10 +36,10 @@ place-below tb p (inr h) = omega (arith, h .1, h .3)
 pub var-name : (tb : Table) (x : ℕ) → x < length (tb .binds) → placeVar tb x ≡ x
 var-name tb x h = rw (less x (length (tb .binds)) h) refl
 
-pub var-node : (tb : Table) (n : ℕ) → placeVar tb (placeOf tb n) ≡ base tb n
+pub var-node : (tb : Table) (n : ℕ) → placeVar tb (nodePlace tb n) ≡ base tb n
 var-node tb n =
-    let e : placeOf tb n - length (tb .binds) ≡ n = omega arith in
-    rw (not-less (placeOf tb n) (length (tb .binds)) (omega arith), e) refl
+    let e : nodePlace tb n - length (tb .binds) ≡ n = omega arith in
+    rw (not-less (nodePlace tb n) (length (tb .binds)) (omega arith), e) refl
 
 name-below : (tb : Table) (k x : ℕ) → x < length (tb .binds) → x < base tb k
 unfolding base
@@ -55,7 +55,7 @@ back-at tb k σ = each-place tb (λ p. back tb k σ p ≡ σ (placeVar tb p)) k
     (λ x h. back-name tb k σ x h ∙ ap σ (sym (var-name tb x h))) (λ n h. back-node tb k σ n h ∙ ap σ (sym (var-node tb n)))
 
 pub types-at : (tb : Table) (k : ℕ) (σ θ : ℕ → Ty) → ((x : ℕ) → x < length (tb .binds) → σ x ≡ θ x) →
-    ((n : ℕ) → n < k → σ (base tb n) ≡ θ (placeOf tb n)) → (p : ℕ) → p < length (tb .binds) + k → σ (placeVar tb p) ≡ θ p
+    ((n : ℕ) → n < k → σ (base tb n) ≡ θ (nodePlace tb n)) → (p : ℕ) → p < length (tb .binds) + k → σ (placeVar tb p) ≡ θ p
 types-at tb k σ θ names nodes = each-place tb (λ p. σ (placeVar tb p) ≡ θ p) k
     (λ x h. ap σ (var-name tb x h) ∙ names x h) (λ n h. ap σ (var-node tb n) ∙ nodes n h)
 

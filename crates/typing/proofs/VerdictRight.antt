@@ -21,7 +21,7 @@ use Rattle.unification.proofs.ModelLaws.{Answers, modelSolve-right, typeFrom-is
 use Rattle.typing.specs.Equations.{base, shapes, shapeAt, equations, RightNodes}
 use Rattle.typing.specs.Model.{isPlace, solveBelow, isSome, solvable}
 use Rattle.typing.specs.Places.{placeCount, placeVar}
-use Rattle.typing.specs.Model.{settled, types, light, typed, checked, verdict}
+use Rattle.typing.specs.Model.{settled, types, light, sheetOrRefusal, checked, verdict}
 use Rattle.typing.proofs.ProblemLaws.{well-formed}
 use Rattle.typing.proofs.Places.{place-below, var-below, isPlace-place, place-isPlace}
 use Rattle.typing.proofs.Verdicts.{right-nodes, SolvesBelow, SolvedBelow, GroundPlaces}
@@ -151,8 +151,8 @@ module _ {bs : List ℕ} {room : ℕ} {tb : Table} (e : reading bs ≡ done tb) 
       clash-verdict e fits (suc k) h (r .0 .0) (r .0 .1) (r .2) (unsolvable tb (right-nodes bs tb e) (suc (suc k)) h f)
 
   -- 12, 13 and acceptance
-  typed-right : (r : List ℕ × List ℕ) → SolvedBelow tb (length (tb .nodes)) (r .0) (r .1) → Verdict bs room (typed (shapeAt tb) tb (some r))
-  unfolding typed
+  typed-right : (r : List ℕ × List ℕ) → SolvedBelow tb (length (tb .nodes)) (r .0) (r .1) → Verdict bs room (sheetOrRefusal (shapeAt tb) tb (some r))
+  unfolding sheetOrRefusal
   typed-right r s =
       requireAll-cases (Verdict bs room) 12 (settled tb (r .1)) (placeCount tb) _
       (λ all. rest (λ p w. settled-true tb (r .1) p w (all p (place-below tb p w))))
@@ -180,7 +180,7 @@ module _ {bs : List ℕ} {room : ℕ} {tb : Table} (e : reading bs ≡ done tb) 
   unfolding checked shapeAt
   checked-right =
       requireAll-cases (Verdict bs room) 11 (λ k. solvable (shapeAt tb) tb (suc k)) (length (tb .nodes))
-      (typed (shapeAt tb) tb (solveBelow (shapeAt tb) tb (length (tb .nodes))))
+      (sheetOrRefusal (shapeAt tb) tb (solveBelow (shapeAt tb) tb (length (tb .nodes))))
       (λ all. let r = solvable-solved tb (right-nodes bs tb e) (length (tb .nodes)) (omega arith) (last all) in
       rw (r .1) (typed-right (r .0) (r .2)))
       clash-right

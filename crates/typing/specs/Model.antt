@@ -52,20 +52,20 @@ unfolding isPlace
 light tb θ p = not (isPlace tb p) || leb (weightᵀ (θ p)) typeLimit
 
 -- Refusals 12 and 13, or the sheet, from the classes and marks of the whole table.
-unfoldable pub typed : (ℕ → Shape) → Table → Option (List ℕ × List ℕ) → End (List ℕ)
+unfoldable pub sheetOrRefusal : (ℕ → Shape) → Table → Option (List ℕ × List ℕ) → End (List ℕ)
 unfolding settled types light requireAll sheetOf
-typed sh tb nothing = refused 11 0  -- not reached: refusal 11 comes before
-typed sh tb (some r) = do
+sheetOrRefusal sh tb nothing = refused 11 0  -- not reached: refusal 11 comes before
+sheetOrRefusal sh tb (some r) = do
   _ ← requireAll 12 (settled tb (r .1)) (placeCount tb)
   _ ← requireAll 13 (light tb (types sh tb (r .0))) (placeCount tb)
   done (sheetOf tb (types sh tb (r .0)))
 
 -- Refusals 11 to 13, or the sheet.
 unfoldable pub checked : List Shape → Table → End (List ℕ)
-unfolding solvable solveBelow typed requireAll
+unfolding solvable solveBelow sheetOrRefusal requireAll
 checked shs tb = do
   _ ← requireAll 11 (λ k. solvable (λ v. getD shs v unknown) tb (suc k)) (length (tb .nodes))
-  typed (λ v. getD shs v unknown) tb (solveBelow (λ v. getD shs v unknown) tb (length (tb .nodes)))
+  sheetOrRefusal (λ v. getD shs v unknown) tb (solveBelow (λ v. getD shs v unknown) tb (length (tb .nodes)))
 
 unfoldable pub verdict : List ℕ → ℕ → End (List ℕ)
 unfolding reading shapes checked

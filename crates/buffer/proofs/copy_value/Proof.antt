@@ -4,7 +4,7 @@ use mathlib.Core.Path.{subst}
 use native.Mathlib.Omega.{arith}
 use denote.Ref.{now}
 use Rattle.buffer.specs.declared.Step.{Step}
-use Rattle.buffer.specs.Buffer.{Takes}
+use Rattle.buffer.specs.Buffer.{StepTakes}
 use Rattle.buffer.proofs.Walk.{Walk, bytes-all, walk-start, walk-room, walk-step, walk-none, walk-heavy, walk-end}
 use Rattle.buffer.proofs.copy_value.Statement.{statement}
 use Rattle.buffer.proofs.copy_value.Tie as tie
@@ -40,7 +40,7 @@ same-length-2 : tie.Need-same-length-2 Inv-loop μ-loop
 same-length-2 c = c .before .before .before .before .before .loop .inv .2 .frame .kept
 
 returns-2 : tie.Need-returns-2 Inv-loop μ-loop
-returns-2 c = (c .before .before .before .before .before .loop .inv .2 .frame, walk-none (now (c .before .before .before .before .before .before .before .before .before .args .sizes)) (now (c .before .before .before .before .before .before .before .before .before .args .values)) (bytes-all (now (c .before .before .before .before .before .before .before .before .before .args .values)) (λ i l. omega (arith, c .before .before .before .before .before .before .before .before .shared-slice-known .given i))) _ _ _ _ _ _ _ (c .before .before .before .before .before .loop .inv .2) (c .before .before .before .before .loop-test .taken) (subst (λ (r : Step). Takes (now (c .before .before .before .before .before .before .before .before .before .args .sizes)) (now (c .before .before .before .before .before .before .before .before .before .args .values)) (c .before .before .before .before .before .loop .c .at) r) (c .enum-told .given .1) (c .before .before .take .ensures)))
+returns-2 c = (c .before .before .before .before .before .loop .inv .2 .frame, walk-none (now (c .before .before .before .before .before .before .before .before .before .args .sizes)) (now (c .before .before .before .before .before .before .before .before .before .args .values)) (bytes-all (now (c .before .before .before .before .before .before .before .before .before .args .values)) (λ i l. omega (arith, c .before .before .before .before .before .before .before .before .shared-slice-known .given i))) _ _ _ _ _ _ _ (c .before .before .before .before .before .loop .inv .2) (c .before .before .before .before .loop-test .taken) (subst (λ (r : Step). StepTakes (now (c .before .before .before .before .before .before .before .before .before .args .sizes)) (now (c .before .before .before .before .before .before .before .before .before .args .values)) (c .before .before .before .before .before .loop .c .at) r) (c .enum-told .given .1) (c .before .before .take .ensures)))
 
 code-cell-requires : tie.Need-code-cell-requires Inv-loop μ-loop
 code-cell-requires c κs = search needs
@@ -58,7 +58,7 @@ slice-write-s c =
     let i = t .before in
     let l = i .before .before in
     let start = l .before .before .before .before in
-    let g = subst (λ (r : Step). Takes (now (start .args .sizes)) (now (start .args .values)) (l .loop .c .at) r) (x .x .given .1) (t .take .ensures) in
+    let g = subst (λ (r : Step). StepTakes (now (start .args .sizes)) (now (start .args .values)) (l .loop .c .at) r) (x .x .given .1) (t .take .ensures) in
     walk-room (l .loop .inv .2) g (omega (arith, i .if1 .left, i .before .loop-test .taken)) (start .pre)
 
 sub-left : tie.Need-sub-left Inv-loop μ-loop
@@ -84,7 +84,7 @@ loop-again c =
     let l = i .before .before in
     let start = l .before .before .before .before in
     let values = now (start .args .values) in
-    let g = subst (λ (r : Step). Takes (now (start .args .sizes)) values (l .loop .c .at) r) (x .x .given .1) (t .take .ensures) in (
+    let g = subst (λ (r : Step). StepTakes (now (start .args .sizes)) values (l .loop .c .at) r) (x .x .given .1) (t .take .ensures) in (
       omega (arith, i .if1 .left, i .before .loop-test .taken),
       omega (arith, i .if1 .left, c .parts .ensures .1),
       walk-step (now (start .args .sizes)) values (bytes-all values (λ j m. omega (arith, l .before .before .before .shared-slice-known .given j)))

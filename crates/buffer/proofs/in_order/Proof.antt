@@ -1,13 +1,13 @@
 use borrow.Author.Needs.{needs}
 use native.Mathlib.Omega.{arith}
 use Rattle.rules.specs.Values.{Values}
-use Rattle.buffer.specs.Ordered.{Row}
+use Rattle.buffer.specs.Ordered.{MembersAt}
 use Rattle.buffer.proofs.Ordering.{Checked, checked-start, checked-at, checked-second, checked-next, checked-fails, checked-end}
 use Rattle.buffer.proofs.in_order.Statement.{statement}
 use Rattle.buffer.proofs.in_order.Tie as tie
 
 abbrev Inv-loop : tie.InvT-loop
-Inv-loop s at n i₀ left₀ i left = (vs : Values) → Row s at n vs → Checked s i left vs
+Inv-loop s at n i₀ left₀ i left = (vs : Values) → MembersAt s at n vs → Checked s i left vs
 
 abbrev μ-loop : tie.MeasureT-loop
 μ-loop s at n i₀ left₀ i left = left

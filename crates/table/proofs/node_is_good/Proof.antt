@@ -1,7 +1,7 @@
 -- A known kind has three fields.
 use mathlib.Core.Path.{_≡_}
 use lib.Dec.{lit<}
-use Rattle.table.specs.Layout.{rowAt}
+use Rattle.table.specs.Layout.{fieldCodesAt}
 use Rattle.table.proofs.Fields.{node-unknown, node-read, row-read}
 use Rattle.table.proofs.node_is_good.Statement.{statement}
 use Rattle.table.proofs.node_is_good.Tie as tie
@@ -23,7 +23,7 @@ returns c =
 field-codes-requires : tie.Need-field-codes-requires
 field-codes-requires c κs = tt
 
-row : (c : tie.After-field-codes) → c .field-codes .result ≡ rowAt (start c .args .table .now) (start c .args .n)
+row : (c : tie.After-field-codes) → c .field-codes .result ≡ fieldCodesAt (start c .args .table .now) (start c .args .n)
 row c = row-read (start c .args .table .now) (start c .args .n) _ _ (c .before .before .before .kind .ensures) (c .field-codes .ensures)
 
 field-at-is-good-requires : tie.Need-field-at-is-good-requires
