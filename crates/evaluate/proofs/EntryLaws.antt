@@ -28,7 +28,7 @@ use Rattle.buffer.specs.Loaded.{Bound, Loads, LoadReady}
 use Rattle.evaluators.proofs.NodeLaws.{node-tall}
 use Rattle.evaluate.specs.declared.Evaluation.{Evaluation}
 use Rattle.evaluators.specs.declared.Held.{Held}
-use Rattle.evaluators.specs.Answers.{EndsSafely}
+use Rattle.evaluators.specs.Answers.{EndsWith}
 use Rattle.evaluators.specs.Cycle.{Binds, Ready, EvaluatesP}
 use Rattle.evaluators.specs.Nodes.{IsPred}
 use Rattle.evaluate.specs.Result.{RefusedAt, Reported, Reports}
@@ -42,16 +42,16 @@ pub some-node : {bs : List ℕ} {n : ℕ} → Readable bs → n ≡ nodeCount bs
 some-node q e = omega (arith, e, q .header .some-node)
 
 -- Refusals 1 to 9, and 14: no visit is made.
-unread-ends : (bs buffer : List ℕ) (budget k p : ℕ) → reading bs ≡ refused k p → EndsSafely (evaluation bs buffer budget) (refused k p) 0
+unread-ends : (bs buffer : List ℕ) (budget k p : ℕ) → reading bs ≡ refused k p → EndsWith (evaluation bs buffer budget) (refused k p) 0
 unfolding evaluation
 unread-ends bs buffer budget k p e = record { end = rw e; steps = rw e }
 
 unloaded-ends : (bs buffer : List ℕ) (budget k p : ℕ) (tb : Table) → reading bs ≡ done tb → valuesIn tb buffer ≡ refused k p →
-    EndsSafely (evaluation bs buffer budget) (refused k p) 0
+    EndsWith (evaluation bs buffer budget) (refused k p) 0
 unfolding evaluation
 unloaded-ends bs buffer budget k p tb e f = record { end = rw (e, f); steps = rw (e, f) }
 
-refusal-reported : {x : Run Bool} {k p : ℕ} {r : Evaluation} → EndsSafely x (refused k p) 0 → RefusedAt k p 0 r → Reported x r
+refusal-reported : {x : Run Bool} {k p : ℕ} {r : Evaluation} → EndsWith x (refused k p) 0 → RefusedAt k p 0 r → Reported x r
 refusal-reported e d = record { ending = d .ending ∙ sym (e .end); spent = d .spent ∙ sym (e .steps) }
 
 module _ (bs buffer s env : List ℕ) (a : Loaded) (h : Loads (tableOf bs .sizes) (tableOf bs .binds) buffer s env 0 a) where
