@@ -15,3 +15,4 @@ pub mod TypeLaws
 pub mod VerdictLaws
 pub mod Rows
 pub mod Tried
+pub mod TraceLaws
