@@ -1,33 +1,55 @@
 -- The values that a run forms are exactly those of its visits to expressions that are not refused, in the order in which the
 -- visits end, each at its node; and its steps are the number of its visits. Each rule of Runs.antt is said with the visits that it
 -- makes (`Makes`), then the value rules by induction on the tree.
-use Prim.Native.Nat.{ℕ, suc, _+_, _<_}
+use Prim.Native.Nat.{ℕ, suc, _+_, _≤_, _<_}
 use mathlib.Core.List.{List, [], _∷_, _++_, map, append-nil, append-assoc}
 use mathlib.Core.Bool.{Bool, true, false, not, cond}
 use mathlib.Core.Option.{Option, none as nothing, some}
 use mathlib.Core.Path.{_≡_, refl, sym, subst, ap, _∙_}
 use native.Mathlib.Omega.{arith}
-use lib.Dec.{ltb, leb, eqb}
+use lib.Dec.{T, ltb, leb, eqb, ltb→lt, lt→ltb}
 use lib.ListN.{getD, length, length-append}
+use Rattle.rules.specs.Types.{Ty}
 use Rattle.rules.specs.Values.{Value, truthValue, weight}
 use Rattle.rules.specs.Kinds.{Quant, forAll, forSome}
 use Rattle.rules.specs.Rules.{Rule, testRule, oneRule, twoRule, quantRule, comprehensionRule}
-use Rattle.rules.specs.Fits.{fits}
+use Rattle.rules.specs.Fits.{HasType, fits}
 use Rattle.rules.specs.Tables.{Table, Pred, joinᵖ, notᵖ, testᵖ, quantᵖ, Expr, leafᵉ, boolᵉ, oneᵉ, twoᵉ, comprehensionᵉ, root}
 use Rattle.rules.specs.Ends.{End, done, refused}
-use Rattle.rules.specs.Cells.{weightLimit, noValue}
+use Rattle.rules.specs.Reading.{occurrences, reading}
+use Rattle.rules.specs.Cells.{weightLimit, noValue, valuesIn}
 use Rattle.rules.specs.Runs.{Trace, Run, M, lift, goOn, _>>=_, _>>_, demand, counted, visit, emit, form, _orElse_, Given, gives, lacks}
 use Rattle.rules.specs.Operations.{Env, _with_≔_, decides, elems, setOf, leafValue, oneValue, twoValue}
 use Rattle.rules.specs.Evaluation.{fitting, quantify, select, holdsᵖ, valueᵉ, run, evaluation}
-use Rattle.rules.specs.Visits.{Visit, toPred, toExpr, completed, ifDone, thereafter, unlessDecided, ifFits, stopsAt, memberVisits}
+use Rattle.rules.specs.Verdict.{nodePlace, Whole}
+use Rattle.rules.specs.Safety.{Free, All}
+use Rattle.rules.specs.Visits.{Visit, toPred, toExpr, completed, completedAt, Completes, ifDone, thereafter, unlessDecided, ifFits, stopsAt, memberVisits}
 use Rattle.rules.specs.Visits.{visitTo, visitsᵖ, visitsᵉ, runVisits, evaluationVisits}
-use Rattle.rules.proofs.TypedTree.{numberᵉ}
+use Rattle.rules.proofs.Basics.{absurd01}
+use Rattle.rules.proofs.EndLaws.{T-true}
+use Rattle.rules.proofs.TypedTree.{numberᵉ, IsExpression}
+use Rattle.rules.proofs.Soundness.{AtNode, evaluation-sound}
 
 completed-append : (vs ws : List Visit) → completed (vs ++ ws) ≡ completed vs ++ completed ws
 completed-append [] ws = refl
 completed-append (toPred n e ∷ vs) ws = completed-append vs ws
 completed-append (toExpr n (done v) ∷ vs) ws = ap (λ (tr : Trace). (n, v) ∷ tr) (completed-append vs ws)
 completed-append (toExpr n (refused r p) ∷ vs) ws = completed-append vs ws
+
+-- As many values at a node as completed visits to it.
+pub completed-counts : (n : ℕ) (vs : List Visit) → occurrences n (map (λ x. x .0) (completed vs)) ≡ completedAt n vs
+unfolding occurrences
+completed-counts n [] = refl
+completed-counts n (toPred m e ∷ vs) = completed-counts n vs
+completed-counts n (toExpr m (done v) ∷ vs) = ap (λ (k : ℕ). cond (eqb n m) 1 0 + k) (completed-counts n vs)
+completed-counts n (toExpr m (refused r p) ∷ vs) = completed-counts n vs
+
+-- What all values formed have, all completed visits have.
+pub all-completes : (P : ℕ × Value → Type 0) (vs : List Visit) → All P (completed vs) → All (Completes P) vs
+all-completes P [] h = tt
+all-completes P (toPred n e ∷ vs) h = (tt, all-completes P vs h)
+all-completes P (toExpr n (done v) ∷ vs) h = (h .0, all-completes P vs (h .1))
+all-completes P (toExpr n (refused r p) ∷ vs) h = (tt, all-completes P vs h)
 
 done-nothing : {A : Type 0} (e : End A) → ifDone e (λ _. []) ≡ []
 done-nothing (done a) = refl
@@ -217,3 +239,93 @@ module _ (budget : ℕ) (sizes : List ℕ) where
   pub expr-steps : (a : Expr) (ρ : Env) (s : ℕ) → valueᵉ budget sizes a ρ s .steps ≡ length (visitsᵉ budget sizes a ρ s) + s
   expr-steps a ρ s = expr-makes a ρ .makes .counts s
 
+
+  -- The visit to a itself, with the end e, is the last of a's visits, and what it forms itself is the last that is formed.
+  abbrev pub OwnVisit : Expr → Env → ℕ → End Value → Trace → Type 0
+  OwnVisit a ρ s e own =
+      (parts : List Visit) × (visitsᵉ budget sizes a ρ s ≡ parts ++ (toExpr (numberᵉ a) e ∷ [])) ×
+      (valueᵉ budget sizes a ρ s .formed ≡ completed parts ++ own)
+
+  own-visit : (a : Expr) (ρ : Env) (s : ℕ) (e : End Value) → valueᵉ budget sizes a ρ s .end ≡ e →
+      OwnLast true (numberᵉ a) (valueᵉ budget sizes a ρ s .end) (visitsᵉ budget sizes a ρ s) →
+      OwnVisit a ρ s e (completed (toExpr (numberᵉ a) e ∷ []))
+  own-visit a ρ s e q (parts, o) =
+      let w = o ∙ ap (λ (z : End Value). parts ++ (toExpr (numberᵉ a) z ∷ [])) q in
+      (parts, w, expr-trace a ρ s ∙ ap completed w ∙ completed-append parts (toExpr (numberᵉ a) e ∷ []))
+
+  -- A visit to an expression that is not refused forms its value, at its node and after the values of its parts.
+  pub value-recorded : (a : Expr) (ρ : Env) (s : ℕ) (v : Value) → valueᵉ budget sizes a ρ s .end ≡ done v →
+      OwnVisit a ρ s (done v) ((numberᵉ a, v) ∷ [])
+  value-recorded a ρ s v e = go (ltb s budget) (expr-makes a ρ .own-last s)
+    where
+      go : (b : Bool) → OwnLast b (numberᵉ a) (valueᵉ budget sizes a ρ s .end) (visitsᵉ budget sizes a ρ s) →
+          OwnVisit a ρ s (done v) ((numberᵉ a, v) ∷ [])
+      go true o = own-visit a ρ s (done v) e o
+      go false o = absurd01 (cc (e, o .0))
+
+  -- One that is refused forms nothing itself,
+  pub refusal-unrecorded : (a : Expr) (ρ : Env) (s r p : ℕ) → s < budget → valueᵉ budget sizes a ρ s .end ≡ refused r p →
+      OwnVisit a ρ s (refused r p) []
+  refusal-unrecorded a ρ s r p l e =
+      own-visit a ρ s (refused r p) e (rw (T-true (ltb s budget) .0 (lt→ltb s budget l)) at (expr-makes a ρ .own-last s))
+
+  -- and where the budget has no step left there is no visit.
+  pub no-visit : (a : Expr) (ρ : Env) (s : ℕ) → budget ≤ s → (visitsᵉ budget sizes a ρ s ≡ []) × (valueᵉ budget sizes a ρ s .formed ≡ [])
+  no-visit a ρ s l = go (ltb s budget) (ltb→lt s budget) (expr-makes a ρ .own-last s)
+    where
+      go : (b : Bool) → (T b → s < budget) → OwnLast b (numberᵉ a) (valueᵉ budget sizes a ρ s .end) (visitsᵉ budget sizes a ρ s) →
+          (visitsᵉ budget sizes a ρ s ≡ []) × (valueᵉ budget sizes a ρ s .formed ≡ [])
+      go true h o = absurd (omega (arith, h tt))
+      go false h o = (o .1, expr-trace a ρ s ∙ ap completed (o .1))
+
+-- So for a whole run: what it forms, how often at each node, and its steps.
+pub run-trace : (tb : Table) (vs : List Value) (budget : ℕ) → run tb vs budget .formed ≡ completed (runVisits tb vs budget)
+unfolding run runVisits
+run-trace tb vs budget = pred-trace budget (tb .sizes) (root tb) (λ x. getD vs x noValue) 0
+
+pub run-counts : (tb : Table) (vs : List Value) (budget n : ℕ) →
+    occurrences n (map (λ x. x .0) (run tb vs budget .formed)) ≡ completedAt n (runVisits tb vs budget)
+run-counts tb vs budget n =
+    ap (λ (tr : Trace). occurrences n (map (λ x. x .0) tr)) (run-trace tb vs budget) ∙ completed-counts n (runVisits tb vs budget)
+
+pub run-steps : (tb : Table) (vs : List Value) (budget : ℕ) → run tb vs budget .steps ≡ length (runVisits tb vs budget)
+unfolding run runVisits
+run-steps tb vs budget = omega (arith, pred-steps budget (tb .sizes) (root tb) (λ x. getD vs x noValue) 0)
+
+module _ (bs buffer : List ℕ) (budget : ℕ) where
+  evaluation-makes : (evaluation bs buffer budget .formed ≡ completed (evaluationVisits bs buffer budget)) ×
+      (evaluation bs buffer budget .steps ≡ length (evaluationVisits bs buffer budget))
+  unfolding evaluation evaluationVisits
+  evaluation-makes = go (reading bs)
+    where
+      valued : (tb : Table) (e : End (List Value)) → let r = (lift e >>= λ vs _. run tb vs budget) 0 in
+          let ws = ifDone e (λ vs. runVisits tb vs budget) in (r .formed ≡ completed ws) × (r .steps ≡ length ws)
+      valued tb (done vs) = (run-trace tb vs budget, run-steps tb vs budget)
+      valued tb (refused r p) = (refl, refl)
+      go : (e : End Table) → let r = (lift e >>= λ tb. lift (valuesIn tb buffer) >>= λ vs _. run tb vs budget) 0 in
+          let ws = ifDone e (λ tb. ifDone (valuesIn tb buffer) λ vs. runVisits tb vs budget) in
+          (r .formed ≡ completed ws) × (r .steps ≡ length ws)
+      go (done tb) = valued tb (valuesIn tb buffer)
+      go (refused r p) = (refl, refl)
+
+  -- The values that Evaluate forms are those of its completed visits, and its steps are its visits.
+  pub evaluation-trace : evaluation bs buffer budget .formed ≡ completed (evaluationVisits bs buffer budget)
+  evaluation-trace = evaluation-makes .0
+
+  pub evaluation-steps : evaluation bs buffer budget .steps ≡ length (evaluationVisits bs buffer budget)
+  evaluation-steps = evaluation-makes .1
+
+  -- So it forms as many values at a node as there are completed visits to it.
+  pub evaluation-counts : (n : ℕ) → occurrences n (map (λ x. x .0) (evaluation bs buffer budget .formed)) ≡
+      completedAt n (evaluationVisits bs buffer budget)
+  evaluation-counts n = ap (λ (tr : Trace). occurrences n (map (λ x. x .0) tr)) evaluation-trace ∙ completed-counts n (evaluationVisits bs buffer budget)
+
+-- Demand 3 of the visits: where `evaluation-sound` holds, each completed visit is to an expression and its value has the type there.
+pub visits-sound : (bs buffer : List ℕ) (budget : ℕ) (tb : Table) (θ : ℕ → Ty) (vs : List Value) →
+    reading bs ≡ done tb → valuesIn tb buffer ≡ done vs → Whole tb θ →
+    ((x : ℕ) → Free tb x → HasType (getD vs x noValue) (θ x)) →
+    All (Completes (AtNode (IsExpression tb) (λ n. θ (nodePlace tb n)))) (evaluationVisits bs buffer budget)
+visits-sound bs buffer budget tb θ vs e f w h =
+    let P = AtNode (IsExpression tb) (λ n. θ (nodePlace tb n)) in
+    all-completes P (evaluationVisits bs buffer budget)
+    (subst (All P) (evaluation-trace bs buffer budget) (evaluation-sound bs buffer budget tb θ vs e f w h .1))
