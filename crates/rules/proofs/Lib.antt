@@ -11,8 +11,8 @@ pub mod SetTypes
 pub mod Soundness
 pub mod SetOrder
 pub mod FormedLaws
+pub mod TraceLaws
 pub mod TypeLaws
 pub mod VerdictLaws
 pub mod Rows
 pub mod Tried
-pub mod TraceLaws

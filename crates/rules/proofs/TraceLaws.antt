@@ -1,8 +1,8 @@
 -- The values that a run forms are exactly those of its visits to expressions that are not refused, in the order in which the
 -- visits end, each at its node; and its steps are the number of its visits. Each rule of Runs.antt is said with the visits that it
--- makes (`Makes`), then the value rules by induction on the tree.
+-- makes (`MakesVisits`), then the value rules by induction on the tree.
 use Prim.Native.Nat.{ℕ, suc, _+_, _≤_, _<_}
-use mathlib.Core.List.{List, [], _∷_, _++_, map, append-nil, append-assoc}
+use mathlib.Core.List.{List, [], _∷_, _++_, append-nil, append-assoc}
 use mathlib.Core.Bool.{Bool, true, false, not, cond}
 use mathlib.Core.Option.{Option, none as nothing, some}
 use mathlib.Core.Path.{_≡_, refl, sym, subst, ap, _∙_}
@@ -23,8 +23,8 @@ use Rattle.rules.specs.Operations.{Env, _with_≔_, decides, elems, setO
 use Rattle.rules.specs.Evaluation.{fitting, quantify, select, holdsᵖ, valueᵉ, run, evaluation}
 use Rattle.rules.specs.Verdict.{nodePlace, Whole}
 use Rattle.rules.specs.Safety.{Free, All}
-use Rattle.rules.specs.Visits.{Visit, toPred, toExpr, completed, completedAt, Completes, ifDone, thereafter, unlessDecided, ifFits, stopsAt, memberVisits}
-use Rattle.rules.specs.Visits.{visitTo, visitsᵖ, visitsᵉ, runVisits, evaluationVisits}
+use Rattle.rules.specs.Visits.{Visit, toPred, toExpr, completed, completedAt, formedAt, Completes}
+use Rattle.rules.specs.Visits.{ifDone, thereafter, unlessDecided, ifFits, stopsAt, memberVisits, visitTo, visitsᵖ, visitsᵉ, runVisits, evaluationVisits}
 use Rattle.rules.proofs.Basics.{absurd01}
 use Rattle.rules.proofs.EndLaws.{T-true}
 use Rattle.rules.proofs.TypedTree.{numberᵉ, IsExpression}
@@ -36,16 +36,16 @@ completed-append (toPred n e ∷ vs) ws = completed-append vs ws
 completed-append (toExpr n (done v) ∷ vs) ws = ap (λ (tr : Trace). (n, v) ∷ tr) (completed-append vs ws)
 completed-append (toExpr n (refused r p) ∷ vs) ws = completed-append vs ws
 
--- As many values at a node as completed visits to it.
-pub completed-counts : (n : ℕ) (vs : List Visit) → occurrences n (map (λ x. x .0) (completed vs)) ≡ completedAt n vs
+-- Of the completed visits there are as many values at a node as visits to it.
+completed-at : (n : ℕ) (vs : List Visit) → formedAt n (completed vs) ≡ completedAt n vs
 unfolding occurrences
-completed-counts n [] = refl
-completed-counts n (toPred m e ∷ vs) = completed-counts n vs
-completed-counts n (toExpr m (done v) ∷ vs) = ap (λ (k : ℕ). cond (eqb n m) 1 0 + k) (completed-counts n vs)
-completed-counts n (toExpr m (refused r p) ∷ vs) = completed-counts n vs
+completed-at n [] = refl
+completed-at n (toPred m e ∷ vs) = completed-at n vs
+completed-at n (toExpr m (done v) ∷ vs) = ap (λ (k : ℕ). cond (eqb n m) 1 0 + k) (completed-at n vs)
+completed-at n (toExpr m (refused r p) ∷ vs) = completed-at n vs
 
 -- What all values formed have, all completed visits have.
-pub all-completes : (P : ℕ × Value → Type 0) (vs : List Visit) → All P (completed vs) → All (Completes P) vs
+all-completes : (P : ℕ × Value → Type 0) (vs : List Visit) → All P (completed vs) → All (Completes P) vs
 all-completes P [] h = tt
 all-completes P (toPred n e ∷ vs) h = (tt, all-completes P vs h)
 all-completes P (toExpr n (done v) ∷ vs) h = (h .0, all-completes P vs (h .1))
@@ -55,83 +55,85 @@ done-nothing : {A : Type 0} (e : End A) → ifDone e (λ _. []) ≡ []
 done-nothing (done a) = refl
 done-nothing (refused r p) = refl
 
--- From any steps s, a part of an evaluation makes the visits `vs s`: it forms their values, then `own` by its end, and takes their steps.
-record Makes {A : Type 0} (own : End A → Trace) (m : M A) (vs : ℕ → List Visit) : Type 0 where
-  values : (s : ℕ) → m s .formed ≡ completed (vs s) ++ own (m s .end)
-  counts : (s : ℕ) → m s .steps ≡ length (vs s) + s
+-- From any steps s, a part of an evaluation makes the visits `vs s`: it forms their values, then by its end what is `own`, and
+-- takes a step for each.
+record MakesVisits {A : Type 0} (own : End A → Trace) (m : M A) (vs : ℕ → List Visit) : Type 0 where
+  forms : (s : ℕ) → m s .formed ≡ completed (vs s) ++ own (m s .end)
+  takes-steps : (s : ℕ) → m s .steps ≡ length (vs s) + s
 
 -- Nothing of its own.
-abbrev none : {A : Type 0} → End A → Trace
-none e = []
+abbrev silent : {A : Type 0} → End A → Trace
+silent e = []
 
 -- What makes no visit and forms nothing.
-return-makes : {A : Type 0} {e : End A} → Makes none (lift e) (λ _. [])
-return-makes = record { values = λ s. refl; counts = λ s. omega arith }
+return-makes : {A : Type 0} {e : End A} → MakesVisits silent (lift e) (λ _. [])
+return-makes = record { forms = λ s. refl; takes-steps = λ s. omega arith }
 
+-- For what is own of an answer only.
 module _ {B : Type 0} {own : End B → Trace} (quiet : (r p : ℕ) → own (refused r p) ≡ []) where
   goOn-makes : {A : Type 0} (e : End A) (s t : ℕ) (tr : Trace) (f : A → M B) (vs : List Visit) (h : A → ℕ → List Visit) →
-      tr ≡ completed vs ++ [] → t ≡ length vs + s → ((a : A) → Makes own (f a) (h a)) →
+      tr ≡ completed vs ++ [] → t ≡ length vs + s → ((a : A) → MakesVisits own (f a) (h a)) →
       (goOn e t tr f .formed ≡ completed (vs ++ ifDone e (λ a. h a t)) ++ own (goOn e t tr f .end)) ×
       (goOn e t tr f .steps ≡ length (vs ++ ifDone e (λ a. h a t)) + s)
   goOn-makes (done a) s t tr f vs h k l hf = (
-    rw (k, append-nil (completed vs), hf a .values t, completed-append vs (h a t))
+    rw (k, append-nil (completed vs), hf a .forms t, completed-append vs (h a t))
         (sym (append-assoc (completed vs) (completed (h a t)) (own (f a t .end)))),
-    omega (arith, l, hf a .counts t, length-append vs (h a t)),
+    omega (arith, l, hf a .takes-steps t, length-append vs (h a t)),
   )
   goOn-makes (refused r p) s t tr f vs h k l hf = (rw (append-nil vs, quiet r p) k, rw (append-nil vs) l)
 
   -- A run and what goes on from its answer.
   bind : {A : Type 0} {m : M A} {vs : ℕ → List Visit} {f : A → M B} {h : A → ℕ → List Visit} →
-      Makes none m vs → ((a : A) → Makes own (f a) (h a)) → Makes own (m >>= f) (λ s. vs s ++ thereafter (m s) h)
-  bind {A} {m} {vs} {f} {h} hm hf = record { values = λ s. both s .0; counts = λ s. both s .1 }
+      MakesVisits silent m vs → ((a : A) → MakesVisits own (f a) (h a)) → MakesVisits own (m >>= f) (λ s. vs s ++ thereafter (m s) h)
+  bind {A} {m} {vs} {f} {h} hm hf = record { forms = λ s. both s .0; takes-steps = λ s. both s .1 }
     where
       both : (s : ℕ) → ((m >>= f) s .formed ≡ completed (vs s ++ thereafter (m s) h) ++ own ((m >>= f) s .end)) ×
           ((m >>= f) s .steps ≡ length (vs s ++ thereafter (m s) h) + s)
-      both s = goOn-makes (m s .end) s (m s .steps) (m s .formed) f (vs s) h (hm .values s) (hm .counts s) hf
+      both s = goOn-makes (m s .end) s (m s .steps) (m s .formed) f (vs s) h (hm .forms s) (hm .takes-steps s) hf
 
   -- So too where no visit follows.
   bind-last : {A : Type 0} {m : M A} {vs : ℕ → List Visit} {f : A → M B} →
-      Makes none m vs → ((a : A) → Makes own (f a) (λ _. [])) → Makes own (m >>= f) vs
+      MakesVisits silent m vs → ((a : A) → MakesVisits own (f a) (λ _. [])) → MakesVisits own (m >>= f) vs
   bind-last {A} {m} {vs} {f} hm hf = record {
-    values = λ s. subst (λ (ws : List Visit). (m >>= f) s .formed ≡ completed ws ++ own ((m >>= f) s .end)) (none-after s) (bound .values s);
-    counts = λ s. subst (λ (ws : List Visit). (m >>= f) s .steps ≡ length ws + s) (none-after s) (bound .counts s);
+    forms = λ s. subst (λ (ws : List Visit). (m >>= f) s .formed ≡ completed ws ++ own ((m >>= f) s .end)) (none-after s) (bound .forms s);
+    takes-steps = λ s. subst (λ (ws : List Visit). (m >>= f) s .steps ≡ length ws + s) (none-after s) (bound .takes-steps s);
   }
     where
-      bound : Makes own (m >>= f) (λ s. vs s ++ thereafter (m s) (λ _ _. []))
+      bound : MakesVisits own (m >>= f) (λ s. vs s ++ thereafter (m s) (λ _ _. []))
       bound = bind {h = λ _ _. []} hm hf
       none-after : (s : ℕ) → vs s ++ thereafter (m s) (λ _ _. []) ≡ vs s
       none-after s = ap (λ (ws : List Visit). vs s ++ ws) (done-nothing (m s .end)) ∙ append-nil (vs s)
 
   -- 15, where no visit follows, and of a range.
-  fits-last : (n : ℕ) (r : Rule) (xs : List Value) {m : M B} → Makes own m (λ _. []) → Makes own (fitting n r xs >> m) (λ _. [])
+  fits-last : (n : ℕ) (r : Rule) (xs : List Value) {m : M B} → MakesVisits own m (λ _. []) → MakesVisits own (fitting n r xs >> m) (λ _. [])
   fits-last n r xs {m} h = bind-last (go (fits (r .takes) xs)) (λ _. h)
     where
-      go : (b : Bool) → Makes none (demand b 15 n) (λ _. [])
+      go : (b : Bool) → MakesVisits silent (demand b 15 n) (λ _. [])
       go true = return-makes
       go false = return-makes
 
-  range-fits : (n : ℕ) (r : Rule) (v : Value) {m : M B} {vs : ℕ → List Visit} → Makes own m vs →
-      Makes own (fitting n r (v ∷ []) >> m) (λ s. ifFits r v (vs s))
-  range-fits n r v {m} {vs} h = go (fits (r .takes) (v ∷ []))
+  range-makes : (n : ℕ) (r : Rule) (v : Value) {m : M B} {vs : ℕ → List Visit} → MakesVisits own m vs →
+      MakesVisits own (fitting n r (v ∷ []) >> m) (λ s. ifFits r v (vs s))
+  range-makes n r v {m} {vs} h = go (fits (r .takes) (v ∷ []))
     where
-      go : (b : Bool) → Makes own (demand b 15 n >> m) (λ s. cond b (vs s) [])
-      go true = record { values = h .values; counts = h .counts }
-      go false = record { values = λ s. sym (quiet 15 n); counts = λ s. omega arith }
+      go : (b : Bool) → MakesVisits own (demand b 15 n >> m) (λ s. cond b (vs s) [])
+      go true = record { forms = h .forms; takes-steps = h .takes-steps }
+      go false = record { forms = λ s. sym (quiet 15 n); takes-steps = λ s. omega arith }
 
--- A visit whose step is counted or not.
+-- A visit whose step is counted (`true`) or not, and what follows it.
 abbrev stepped : {B : Type 0} → ℕ → M B → ℕ → Bool → Run B
 stepped n m s b = goOn (counted b n s .end) (counted b n s .steps) (counted b n s .formed) (λ _. m)
 
 -- A visit ends after its parts, with what its end completes.
 visit-makes : {B : Type 0} (budget n : ℕ) (own : End B → Visit) {m : M B} {vs : ℕ → List Visit} →
-    Makes (λ e. completed (own e ∷ [])) m vs → Makes none (visit budget n >> m) (visitTo budget own (visit budget n >> m) vs)
-visit-makes budget n own {m} {vs} h = record { values = λ s. go s (ltb s budget) .0; counts = λ s. go s (ltb s budget) .1 }
+    MakesVisits (λ e. completed (own e ∷ [])) m vs → MakesVisits silent (visit budget n >> m) (visitTo budget own (visit budget n >> m) vs)
+visit-makes budget n own {m} {vs} h = record { forms = λ s. go s (ltb s budget) .0; takes-steps = λ s. go s (ltb s budget) .1 }
   where
     go : (s : ℕ) (b : Bool) → let ws = cond b (vs (suc s) ++ (own (stepped n m s b .end) ∷ [])) [] in
         (stepped n m s b .formed ≡ completed ws ++ []) × (stepped n m s b .steps ≡ length ws + s)
     go s true = (
-      h .values (suc s) ∙ sym (completed-append (vs (suc s)) (own (m (suc s) .end) ∷ [])) ∙ sym (append-nil _),
-      omega (arith, h .counts (suc s), length-append (vs (suc s)) (own (m (suc s) .end) ∷ [])),
+      h .forms (suc s) ∙ sym (completed-append (vs (suc s)) (own (m (suc s) .end) ∷ [])) ∙ sym (append-nil _),
+      omega (arith, h .takes-steps (suc s), length-append (vs (suc s)) (own (m (suc s) .end) ∷ [])),
     )
     go s false = (refl, omega arith)
 
@@ -140,13 +142,13 @@ abbrev OwnLast : Bool → ℕ → End Value → List Visit → Type 0
 OwnLast true n e vs = (parts : List Visit) × (vs ≡ parts ++ (toExpr n e ∷ []))
 OwnLast false n e vs = (e ≡ refused 19 n) × (vs ≡ [])
 
--- The visits of an expression with the number n.
-record MakesLast (budget n : ℕ) (m : M Value) (vs : ℕ → List Visit) : Type 0 where
-  makes : Makes none m vs
+-- An expression with the number n makes the visits vs, the last to itself.
+record EndsOwn (budget n : ℕ) (m : M Value) (vs : ℕ → List Visit) : Type 0 where
+  makes : MakesVisits silent m vs
   own-last : (s : ℕ) → OwnLast (ltb s budget) n (m s .end) (vs s)
 
-expr-visit : (budget n : ℕ) {m : M Value} {vs : ℕ → List Visit} → Makes (λ e. completed (toExpr n e ∷ [])) m vs →
-    MakesLast budget n (visit budget n >> m) (visitTo budget (toExpr n) (visit budget n >> m) vs)
+expr-visit : (budget n : ℕ) {m : M Value} {vs : ℕ → List Visit} → MakesVisits (λ e. completed (toExpr n e ∷ [])) m vs →
+    EndsOwn budget n (visit budget n >> m) (visitTo budget (toExpr n) (visit budget n >> m) vs)
 expr-visit budget n {m} {vs} h = record { makes = visit-makes budget n (toExpr n) h; own-last = λ s. go s (ltb s budget) }
   where
     go : (s : ℕ) (b : Bool) → let e = stepped n m s b .end in OwnLast b n e (cond b (vs (suc s) ++ (toExpr n e ∷ [])) [])
@@ -154,21 +156,22 @@ expr-visit budget n {m} {vs} h = record { makes = visit-makes budget n (toExpr n
     go s false = (refl, refl)
 
 -- An expression records the value that it forms at its node; where it is refused, nothing.
-form-makes : (n : ℕ) (g : Given) → Makes (λ e. completed (toExpr n e ∷ [])) (form n g) (λ _. [])
-form-makes n (lacks r) = record { values = λ s. refl; counts = λ s. omega arith }
+form-makes : (n : ℕ) (g : Given) → MakesVisits (λ e. completed (toExpr n e ∷ [])) (form n g) (λ _. [])
+form-makes n (lacks r) = record { forms = λ s. refl; takes-steps = λ s. omega arith }
 form-makes n (gives v) = go (leb (weight v) weightLimit)
   where
-    go : (b : Bool) → Makes (λ e. completed (toExpr n e ∷ [])) (demand b 18 n >> emit n v) (λ _. [])
-    go true = record { values = λ s. refl; counts = λ s. omega arith }
-    go false = record { values = λ s. refl; counts = λ s. omega arith }
+    go : (b : Bool) → MakesVisits (λ e. completed (toExpr n e ∷ [])) (demand b 18 n >> emit n v) (λ _. [])
+    go true = record { forms = λ s. refl; takes-steps = λ s. omega arith }
+    go false = record { forms = λ s. refl; takes-steps = λ s. omega arith }
 
-orElse-makes : (o : Option Bool) {m : M Bool} {vs : ℕ → List Visit} → Makes none m vs → Makes none (o orElse m) (λ s. unlessDecided o (vs s))
+orElse-makes : (o : Option Bool) {m : M Bool} {vs : ℕ → List Visit} → MakesVisits silent m vs →
+    MakesVisits silent (o orElse m) (λ s. unlessDecided o (vs s))
 orElse-makes nothing h = h
 orElse-makes (some b) h = return-makes
 
 -- The body at the members of a range.
-module _ {f : Value → M Bool} {vs : Value → ℕ → List Visit} (hf : (w : Value) → Makes none (f w) (vs w)) where
-  quantify-makes : (j : Quant) (ws : List Value) → Makes none (quantify j f ws) (memberVisits (stopsAt j) f vs ws)
+module _ {f : Value → M Bool} {vs : Value → ℕ → List Visit} (hf : (w : Value) → MakesVisits silent (f w) (vs w)) where
+  quantify-makes : (j : Quant) (ws : List Value) → MakesVisits silent (quantify j f ws) (memberVisits (stopsAt j) f vs ws)
   unfolding quantify memberVisits
   quantify-makes forAll [] = return-makes
   quantify-makes forAll (w ∷ ws) =
@@ -181,7 +184,7 @@ module _ {f : Value → M Bool} {vs : Value → ℕ → List Visit} (hf : (w : V
       bind (λ _ _. refl) {h = λ b t. cond b [] (memberVisits (stopsAt forSome) f vs ws t)} (hf w)
       (λ b. elim b [ true ↦ return-makes | false ↦ r ])
 
-  select-makes : (ws : List Value) → Makes none (select f ws) (memberVisits (λ _. false) f vs ws)
+  select-makes : (ws : List Value) → MakesVisits silent (select f ws) (memberVisits (λ _. false) f vs ws)
   unfolding select memberVisits
   select-makes [] = return-makes
   select-makes (w ∷ ws) =
@@ -192,7 +195,7 @@ module _ (budget : ℕ) (sizes : List ℕ) where
     unfolding holdsᵖ visitsᵖ
 
     -- The value rules make the visits of Visits.antt.
-    pred-makes : (p : Pred) (ρ : Env) → Makes none (holdsᵖ budget sizes p ρ) (visitsᵖ budget sizes p ρ)
+    pred-makes : (p : Pred) (ρ : Env) → MakesVisits silent (holdsᵖ budget sizes p ρ) (visitsᵖ budget sizes p ρ)
     pred-makes (joinᵖ n j p q) ρ =
         visit-makes budget n (toPred n)
         (bind (λ _ _. refl) (pred-makes p ρ) λ a. orElse-makes (decides j a) (bind-last (λ _ _. refl) (pred-makes q ρ) λ b. return-makes))
@@ -205,9 +208,9 @@ module _ (budget : ℕ) (sizes : List ℕ) where
     pred-makes (quantᵖ n j x r p) ρ =
         visit-makes budget n (toPred n)
         (bind (λ _ _. refl) (expr-makes r ρ .makes) λ v.
-        range-fits (λ _ _. refl) n quantRule v (quantify-makes (λ w. pred-makes p (ρ with x ≔ w)) j (elems v)))
+        range-makes (λ _ _. refl) n quantRule v (quantify-makes (λ w. pred-makes p (ρ with x ≔ w)) j (elems v)))
 
-    expr-makes : (a : Expr) (ρ : Env) → MakesLast budget (numberᵉ a) (valueᵉ budget sizes a ρ) (visitsᵉ budget sizes a ρ)
+    expr-makes : (a : Expr) (ρ : Env) → EndsOwn budget (numberᵉ a) (valueᵉ budget sizes a ρ) (visitsᵉ budget sizes a ρ)
     expr-makes (leafᵉ n j a b) ρ = expr-visit budget n (form-makes n (gives (leafValue sizes j a b ρ)))
     expr-makes (boolᵉ n p) ρ =
         expr-visit budget n (bind-last (λ _ _. refl) (pred-makes p ρ) λ b. form-makes n (gives (truthValue b)))
@@ -222,25 +225,24 @@ module _ (budget : ℕ) (sizes : List ℕ) where
     expr-makes (comprehensionᵉ n x r p) ρ =
         expr-visit budget n
         (bind (λ _ _. refl) (expr-makes r ρ .makes) λ v.
-        range-fits (λ _ _. refl) n comprehensionRule v
+        range-makes (λ _ _. refl) n comprehensionRule v
         (bind-last (λ _ _. refl) (select-makes (λ w. pred-makes p (ρ with x ≔ w)) (elems v)) λ ws. form-makes n (gives (setOf ws))))
 
   -- What a predicate forms: the values of the completed visits that it makes. Its steps are all visits that it makes.
   pub pred-trace : (p : Pred) (ρ : Env) (s : ℕ) → holdsᵖ budget sizes p ρ s .formed ≡ completed (visitsᵖ budget sizes p ρ s)
-  pred-trace p ρ s = pred-makes p ρ .values s ∙ append-nil (completed (visitsᵖ budget sizes p ρ s))
+  pred-trace p ρ s = pred-makes p ρ .forms s ∙ append-nil (completed (visitsᵖ budget sizes p ρ s))
 
   pub pred-steps : (p : Pred) (ρ : Env) (s : ℕ) → holdsᵖ budget sizes p ρ s .steps ≡ length (visitsᵖ budget sizes p ρ s) + s
-  pred-steps p ρ s = pred-makes p ρ .counts s
+  pred-steps p ρ s = pred-makes p ρ .takes-steps s
 
   -- So too an expression.
   pub expr-trace : (a : Expr) (ρ : Env) (s : ℕ) → valueᵉ budget sizes a ρ s .formed ≡ completed (visitsᵉ budget sizes a ρ s)
-  expr-trace a ρ s = expr-makes a ρ .makes .values s ∙ append-nil (completed (visitsᵉ budget sizes a ρ s))
+  expr-trace a ρ s = expr-makes a ρ .makes .forms s ∙ append-nil (completed (visitsᵉ budget sizes a ρ s))
 
   pub expr-steps : (a : Expr) (ρ : Env) (s : ℕ) → valueᵉ budget sizes a ρ s .steps ≡ length (visitsᵉ budget sizes a ρ s) + s
-  expr-steps a ρ s = expr-makes a ρ .makes .counts s
+  expr-steps a ρ s = expr-makes a ρ .makes .takes-steps s
 
-
-  -- The visit to a itself, with the end e, is the last of a's visits, and what it forms itself is the last that is formed.
+  -- The visit to a itself, with the end e, is the last of a's visits; `own` is formed after what its parts form.
   abbrev pub OwnVisit : Expr → Env → ℕ → End Value → Trace → Type 0
   OwnVisit a ρ s e own =
       (parts : List Visit) × (visitsᵉ budget sizes a ρ s ≡ parts ++ (toExpr (numberᵉ a) e ∷ [])) ×
@@ -284,9 +286,8 @@ unfolding run runVisits
 run-trace tb vs budget = pred-trace budget (tb .sizes) (root tb) (λ x. getD vs x noValue) 0
 
 pub run-counts : (tb : Table) (vs : List Value) (budget n : ℕ) →
-    occurrences n (map (λ x. x .0) (run tb vs budget .formed)) ≡ completedAt n (runVisits tb vs budget)
-run-counts tb vs budget n =
-    ap (λ (tr : Trace). occurrences n (map (λ x. x .0) tr)) (run-trace tb vs budget) ∙ completed-counts n (runVisits tb vs budget)
+    formedAt n (run tb vs budget .formed) ≡ completedAt n (runVisits tb vs budget)
+run-counts tb vs budget n = ap (formedAt n) (run-trace tb vs budget) ∙ completed-at n (runVisits tb vs budget)
 
 pub run-steps : (tb : Table) (vs : List Value) (budget : ℕ) → run tb vs budget .steps ≡ length (runVisits tb vs budget)
 unfolding run runVisits
@@ -316,9 +317,12 @@ module _ (bs buffer : List ℕ) (budget : ℕ) where
   evaluation-steps = evaluation-makes .1
 
   -- So it forms as many values at a node as there are completed visits to it.
-  pub evaluation-counts : (n : ℕ) → occurrences n (map (λ x. x .0) (evaluation bs buffer budget .formed)) ≡
-      completedAt n (evaluationVisits bs buffer budget)
-  evaluation-counts n = ap (λ (tr : Trace). occurrences n (map (λ x. x .0) tr)) evaluation-trace ∙ completed-counts n (evaluationVisits bs buffer budget)
+  pub evaluation-counts : (n : ℕ) → formedAt n (evaluation bs buffer budget .formed) ≡ completedAt n (evaluationVisits bs buffer budget)
+  evaluation-counts n = ap (formedAt n) evaluation-trace ∙ completed-at n (evaluationVisits bs buffer budget)
+
+  -- What every value formed has, the value of every completed visit has.
+  pub completed-have : (P : ℕ × Value → Type 0) → All P (evaluation bs buffer budget .formed) → All (Completes P) (evaluationVisits bs buffer budget)
+  completed-have P h = all-completes P (evaluationVisits bs buffer budget) (subst (All P) evaluation-trace h)
 
 -- Demand 3 of the visits: where `evaluation-sound` holds, each completed visit is to an expression and its value has the type there.
 pub visits-sound : (bs buffer : List ℕ) (budget : ℕ) (tb : Table) (θ : ℕ → Ty) (vs : List Value) →
@@ -326,6 +330,4 @@ pub visits-sound : (bs buffer : List ℕ) (budget : ℕ) (tb : Table) (θ : ℕ 
     ((x : ℕ) → Free tb x → HasType (getD vs x noValue) (θ x)) →
     All (Completes (AtNode (IsExpression tb) (λ n. θ (nodePlace tb n)))) (evaluationVisits bs buffer budget)
 visits-sound bs buffer budget tb θ vs e f w h =
-    let P = AtNode (IsExpression tb) (λ n. θ (nodePlace tb n)) in
-    all-completes P (evaluationVisits bs buffer budget)
-    (subst (All P) (evaluation-trace bs buffer budget) (evaluation-sound bs buffer budget tb θ vs e f w h .1))
+    completed-have bs buffer budget (AtNode (IsExpression tb) (λ n. θ (nodePlace tb n))) (evaluation-sound bs buffer budget tb θ vs e f w h .1)

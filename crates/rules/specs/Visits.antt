@@ -2,7 +2,7 @@
 -- how runs end and from their steps, never from the values formed: `TraceLaws` proves that those are the completed visits' values.
 use Prim.Native.Nat.{ℕ, suc, _+_}
 use mathlib.Core.Bool.{Bool, false, not, cond}
-use mathlib.Core.List.{List, [], _∷_, _++_}
+use mathlib.Core.List.{List, [], _∷_, _++_, map}
 use mathlib.Core.Option.{Option, none as nothing, some}
 use lib.Dec.{ltb, eqb}
 use lib.ListN.{getD}
@@ -12,7 +12,7 @@ use Rattle.rules.specs.Rules.{Rule, quantRule, comprehensionRule}
 use Rattle.rules.specs.Fits.{fits}
 use Rattle.rules.specs.Tables.{Table, Pred, joinᵖ, notᵖ, testᵖ, quantᵖ, Expr, leafᵉ, boolᵉ, oneᵉ, twoᵉ, comprehensionᵉ, root}
 use Rattle.rules.specs.Ends.{End, done, refused}
-use Rattle.rules.specs.Reading.{reading}
+use Rattle.rules.specs.Reading.{occurrences, reading}
 use Rattle.rules.specs.Cells.{valuesIn, noValue}
 use Rattle.rules.specs.Runs.{Trace, Run, M}
 use Rattle.rules.specs.Operations.{Env, _with_≔_, decides, elems}
@@ -30,12 +30,15 @@ completed (toPred n e ∷ vs) = completed vs
 completed (toExpr n (done v) ∷ vs) = (n, v) ∷ completed vs
 completed (toExpr n (refused r p) ∷ vs) = completed vs
 
--- How many of them are visits to node n.
+-- How many of them are visits to node n; and how many values a trace holds for it.
 abbrev pub completedAt : ℕ → List Visit → ℕ
 completedAt n [] = 0
 completedAt n (toPred m e ∷ vs) = completedAt n vs
 completedAt n (toExpr m (done v) ∷ vs) = cond (eqb n m) 1 0 + completedAt n vs
 completedAt n (toExpr m (refused r p) ∷ vs) = completedAt n vs
+
+abbrev pub formedAt : ℕ → Trace → ℕ
+formedAt n tr = occurrences n (map (λ x. x .0) tr)
 
 -- A completed visit has the property P; of the other visits nothing is said.
 abbrev pub Completes : (ℕ × Value → Type 0) → Visit → Type 0
