@@ -64,7 +64,7 @@ unlessDecided (some b) vs = []
 abbrev pub ifFits : Rule → Value → List Visit → List Visit
 ifFits r v vs = cond (fits (r .takes) (v ∷ [])) vs []
 
--- The truth of the body that decides 10 and 11.
+-- The truth of the body that decides 10 and 11; none stops 34.
 abbrev pub stopsAt : Quant → Bool → Bool
 stopsAt forAll b = not b
 stopsAt forSome b = b
