@@ -11,6 +11,7 @@ pub mod SetTypes
 pub mod Soundness
 pub mod SetOrder
 pub mod FormedLaws
+pub mod TraceLaws
 pub mod TypeLaws
 pub mod VerdictLaws
 pub mod Rows

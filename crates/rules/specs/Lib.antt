@@ -12,5 +12,6 @@ pub mod Cells
 pub mod Runs
 pub mod Operations
 pub mod Evaluation
+pub mod Visits
 pub mod Verdict
 pub mod Safety
