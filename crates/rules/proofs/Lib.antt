@@ -3,6 +3,7 @@ pub mod Basics
 pub mod EndLaws
 pub mod TableLaws
 pub mod ReadingLaws
+pub mod BindingLaws
 pub mod OrderLaws
 pub mod CellsLaws
 pub mod FitsLaws
