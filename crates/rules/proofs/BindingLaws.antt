@@ -8,20 +8,20 @@ use mathlib.Core.Bool.{Bool, true, false, not, _&&_, _||_}
 use mathlib.Core.List.{List, [], _∷_, _++_}
 use mathlib.Core.Logic.{_↔_, _⊎_, inl, inr}
 use mathlib.Core.Option.{Option, none as nothing, some}
-use mathlib.Core.Path.{_≡_, refl, sym, subst₂, _∙_}
+use mathlib.Core.Path.{_≡_, refl, sym, subst, subst₂, _∙_}
 use native.Mathlib.Decide.{ℕ-discrete, decLt}
 use native.Mathlib.Omega.{arith}
 use lib.Dec.{T, eqb, eqb→eq, eqb-refl}
 use lib.ListN.{getD, length}
 use Rattle.rules.specs.Kinds.{Kind, join, negation, test, quant, leaf, boolOf, one, two, comprehension}
-use Rattle.rules.specs.Kinds.{identifier, givenSet, elementOf, literal, truthConst, emptySet, boolSet, predicate, expression, isChild, isBinder}
+use Rattle.rules.specs.Kinds.{identifier, givenSet, elementOf, literal, truthConst, emptySet, boolSet, Category, predicate, expression, isChild, isBinder}
 use Rattle.rules.specs.Kinds.{Field, unused, child, use-of, binder-of, setNumber, elementNumber, anyWord, truthBit}
 use Rattle.rules.specs.Tables.{Node, Table, nodeAt, kindAt, fieldsIf, fieldsAt, fieldWords, keptIf, pick, held, heldIn, lastNode}
 use Rattle.rules.specs.Reading.{occurrences, binders, occursIn, occursInAny, bindsHere, occursFree, binding}
-use Rattle.rules.specs.Readable.{FieldRight, FieldsRight, NodeRight, BindingRight}
+use Rattle.rules.specs.Readable.{CategoryIs, FieldRight, FieldsRight, NodeRight, BindingRight}
 use Rattle.rules.specs.Binding.{ChildOf, InTree, top, under, UsesAt, BinderKind, BindsAt, InBody, UsedInBody, WrittenFor, BindingWritten}
 use Rattle.rules.proofs.Basics.{absurd01}
-use Rattle.rules.proofs.EndLaws.{T-true, T-false, T-leb, T-eqb}
+use Rattle.rules.proofs.EndLaws.{T-true, T-false, T-and, T-leb, T-eqb}
 use Rattle.rules.proofs.TableLaws.{fields-right, child-below, occursFree-at}
 
 T-or : (a b : Bool) → T (a || b) ↔ (T a ⊎ T b)
@@ -230,3 +230,276 @@ module _ (k : Option Kind) (a b c : ℕ) where
 
   kind-binds : (x : ℕ) → BinderKind k → a ≡ x → occurrences x (pick isBinder (fieldsIf k) (a ∷ b ∷ c ∷ [])) ≡ 1
   kind-binds x h e = rw (binder-fields h, ← e) (first-once a)
+
+-- The field f of node n holds y.
+abbrev HasField : List Node → ℕ → Field → ℕ → Type 0
+HasField ns n f y = InFields f y (fieldsAt (nodeAt ns n)) (fieldWords (nodeAt ns n))
+
+-- A node is a binder of x where it holds x in a binder's field, as the definitions count it, and where they test it.
+module _ (ns : List Node) (x b : ℕ) where
+  held-binds : b < length ns → 1 ≤ occurrences x (held isBinder (nodeAt ns b)) → BindsAt ns x b
+  unfolding held
+  held-binds l h = let r = binder-kind (kindAt ns b) (nodeAt ns b .a) (nodeAt ns b .b) (nodeAt ns b .c) x h in (l, r .0, r .1)
+
+  binds-held : BindsAt ns x b → occurrences x (held isBinder (nodeAt ns b)) ≡ 1
+  unfolding held
+  binds-held h = kind-binds (kindAt ns b) (nodeAt ns b .a) (nodeAt ns b .b) (nodeAt ns b .c) x (h .1) (h .2)
+
+-- The count of binders against the nodes that bind.
+pub binders-none : (ns : List Node) (x : ℕ) → (binders ns x ≡ 0) ↔ ((b : ℕ) → BindsAt ns x b → ⊥)
+unfolding binders
+binders-none ns x = (
+  λ e b h. omega (arith, binds-held ns x b h, one-held isBinder x ns b (h .0)),
+  λ f. go f (decLt 0 (occurrences x (heldIn isBinder ns))),
+)
+  where
+    go : ((b : ℕ) → BindsAt ns x b → ⊥) → Dec (0 < occurrences x (heldIn isBinder ns)) → occurrences x (heldIn isBinder ns) ≡ 0
+    go f (yes l) = let r = holder isBinder x ns l in absurd (f (r .0) (held-binds ns x (r .0) (r .1) (r .2)))
+    go f (no l) = omega arith
+
+pub binders-one : (ns : List Node) (x : ℕ) → (binders ns x ≡ 1) ↔ ((b : ℕ) × BindsAt ns x b × ((d : ℕ) → BindsAt ns x d → d ≡ b))
+unfolding binders
+binders-one ns x = (to, from)
+  where
+    same : occurrences x (heldIn isBinder ns) ≡ 1 → (b d : ℕ) → BindsAt ns x b → BindsAt ns x d → Dec (d ≡ b) → d ≡ b
+    same e b d g h (yes q) = q
+    same e b d g h (no q) =
+        absurd (omega (arith, two-held isBinder x ns d b (h .0) (g .0) q (omega (arith, binds-held ns x d h)) (omega (arith, binds-held ns x b g))))
+
+    to : occurrences x (heldIn isBinder ns) ≡ 1 → (b : ℕ) × BindsAt ns x b × ((d : ℕ) → BindsAt ns x d → d ≡ b)
+    to e =
+        let r = holder isBinder x ns (omega arith) in
+        let g : BindsAt ns x (r .0) = held-binds ns x (r .0) (r .1) (r .2) in
+        (r .0, g, λ d h. same e (r .0) d g h (ℕ-discrete d (r .0)))
+
+    from : (b : ℕ) × BindsAt ns x b × ((d : ℕ) → BindsAt ns x d → d ≡ b) → occurrences x (heldIn isBinder ns) ≡ 1
+    from (b, g, f) = only-held isBinder x ns b (g .0) (λ j l h. f j (held-binds ns x j l h)) ∙ binds-held ns x b g
+
+-- A tree grows at its top.
+pub tree-above : (ns : List Node) {p n m : ℕ} → ChildOf ns p n → InTree ns n m → InTree ns p m
+tree-above ns h top = under top h
+tree-above ns h (under t k) = under (tree-above ns h t) k
+
+-- A node in a tree is its top or a child in it.
+tree-split : (ns : List Node) {n m : ℕ} → InTree ns n m → (n ≡ m) ⊎ ((p : ℕ) × InTree ns n p × ChildOf ns p m)
+tree-split ns top = inl refl
+tree-split ns (under {p} t k) = inr (p, t, k)
+
+-- A child in a body is the word in field c.
+body-child : (a b c m : ℕ) → InFields (child predicate) m binderFields (a ∷ b ∷ c ∷ []) → c ≡ m
+body-child a b c m (inl q) = absurd01 (cc (q .0))
+body-child a b c m (inr (inl q)) = absurd01 (cc (q .0))
+body-child a b c m (inr (inr (inl q))) = q .1
+body-child a b c m (inr (inr (inr q))) = absurd q
+
+one-category : (k : Option Kind) → CategoryIs predicate k → CategoryIs expression k → ⊥
+one-category nothing p e = p
+one-category (some k) p e = absurd01 (cc)
+
+last-in : (ns : List Node) → 0 < length ns → lastNode ns < length ns
+unfolding lastNode
+last-in ns l = omega arith
+
+-- Where there is no node, nothing occurs.
+no-nodes : (ns : List Node) (x : ℕ) → length ns ≡ 0 → T (occursFree ns x (lastNode ns)) → ⊥
+unfolding occursFree lastNode
+no-nodes [] x e t = t
+no-nodes (d ∷ ns) x e t = omega arith
+
+-- A table whose nodes pass 6, and 7 but for the root's category.
+module _ (tb : Table) (right : (n : ℕ) → n < length (tb .nodes) → NodeRight tb n)
+    (once : (n : ℕ) → n < lastNode (tb .nodes) → occurrences n (heldIn isChild (tb .nodes)) ≡ 1) where
+  -- A child is below its parent, so it is not the last node,
+  child-lower : (p m : ℕ) → ChildOf (tb .nodes) p m → (m < p) × (m < lastNode (tb .nodes))
+  unfolding lastNode
+  child-lower p m h = let l : m < p = child-below tb p m (right p (h .0)) (h .1) in (l, omega arith)
+
+  -- it has one parent,
+  one-parent : (p q m : ℕ) → ChildOf (tb .nodes) p m → ChildOf (tb .nodes) q m → p ≡ q
+  one-parent p q m g h = go (ℕ-discrete p q)
+    where
+      go : Dec (p ≡ q) → p ≡ q
+      go (yes e) = e
+      go (no e) =
+          absurd (omega (arith, two-held isChild m (tb .nodes) p q (g .0) (h .0) e (g .1) (h .1), once m (child-lower p m g .1)))
+
+  -- and every node but the last has one.
+  parent : (m : ℕ) → m < lastNode (tb .nodes) → (p : ℕ) × ChildOf (tb .nodes) p m
+  parent m l = let r = holder isChild m (tb .nodes) (omega (arith, once m l)) in (r .0, (r .1, r .2))
+
+  field-child : (n y : ℕ) (c : Category) → n < length (tb .nodes) → HasField (tb .nodes) n (child c) y → ChildOf (tb .nodes) n y
+  unfolding held
+  field-child n y c l i =
+      let d : Node = nodeAt (tb .nodes) n in (l, field-picked isChild (child c) y refl (fieldsAt d) (fieldWords d) i)
+
+  module _ (x : ℕ) where
+    abbrev Free : ℕ → Type 0
+    Free n = T (occursFree (tb .nodes) x n)
+
+    -- Free occurrence in a node of the table, by its fields.
+    free-field : (n : ℕ) → n < length (tb .nodes) → Free n →
+        (f : Field) × (y : ℕ) × HasField (tb .nodes) n f y
+        × T (occursIn x (bindsHere x (nodeAt (tb .nodes) n)) (occursFree (tb .nodes) x) f y)
+    free-field n l t =
+        let d : Node = nodeAt (tb .nodes) n in
+        occurs-field x (bindsHere x d) (occursFree (tb .nodes) x) (fieldsAt d) (fieldWords d) (rw (occursFree-at tb right x n l) at t)
+
+    field-free : (n : ℕ) → n < length (tb .nodes) → (f : Field) (y : ℕ) →
+        HasField (tb .nodes) n f y →
+        T (occursIn x (bindsHere x (nodeAt (tb .nodes) n)) (occursFree (tb .nodes) x) f y) → Free n
+    field-free n l f y h t =
+        let d : Node = nodeAt (tb .nodes) n in
+        rw (occursFree-at tb right x n l) (field-occurs x (bindsHere x d) (occursFree (tb .nodes) x) f y t (fieldsAt d) (fieldWords d) h)
+
+    -- x occurs free where it is used.
+    free-use : (u : ℕ) → UsesAt (tb .nodes) x u → Free u
+    free-use u h =
+        field-free u (h .0) use-of x
+        (subst (λ k. InFields use-of x (fieldsIf k) (fieldWords (nodeAt (tb .nodes) u))) (sym (h .1)) (inl (refl, h .2)))
+        (eqb-refl x)
+
+    -- A binder of x tests so; its field c is a child.
+    binds-here : (n : ℕ) → BindsAt (tb .nodes) x n → bindsHere x (nodeAt (tb .nodes) n) ≡ true
+    binds-here n h = rw (binds-held (tb .nodes) x n h) refl
+
+    here-binds : (n : ℕ) → n < length (tb .nodes) → bindsHere x (nodeAt (tb .nodes) n) ≡ true → BindsAt (tb .nodes) x n
+    here-binds n l e = held-binds (tb .nodes) x n l (T-leb 1 (occurrences x (held isBinder (nodeAt (tb .nodes) n))) .0 (rw e tt))
+
+    body-field : (n : ℕ) → BindsAt (tb .nodes) x n →
+        HasField (tb .nodes) n (child predicate) (nodeAt (tb .nodes) n .c)
+    body-field n h =
+        let d : Node = nodeAt (tb .nodes) n in
+        rw (binder-fields (kindAt (tb .nodes) n) (d .a) (d .b) (d .c) (h .1)) (inr (inr (inl (refl, refl))))
+
+    -- The body, a predicate, is not the range, an expression.
+    apart : (n m : ℕ) → BindsAt (tb .nodes) x n → HasField (tb .nodes) n (child expression) m → nodeAt (tb .nodes) n .c ≡ m → ⊥
+    apart n m g i e =
+        let d : Node = nodeAt (tb .nodes) n in
+        let w : FieldsRight tb n (fieldsAt d) (fieldWords d) = fields-right tb n (kindAt (tb .nodes) n) (fieldWords d) (right n (g .0)) in
+        let q = field-right tb n (child predicate) (d .c) (fieldsAt d) (fieldWords d) w (body-field n g) .1 in
+        one-category (kindAt (tb .nodes) m) (rw e at q) (field-right tb n (child expression) m (fieldsAt d) (fieldWords d) w i .1)
+
+    -- Upward: it then occurs free in the parent too, unless the parent binds it and the child is its body.
+    free-up : (p m : ℕ) → ChildOf (tb .nodes) p m → Free m → Free p ⊎ (BindsAt (tb .nodes) x p × (nodeAt (tb .nodes) p .c ≡ m))
+    unfolding held
+    free-up p m h t =
+        let d : Node = nodeAt (tb .nodes) p in
+        let r = picked-field isChild m (fieldsAt d) (fieldWords d) (h .1) in
+        go (r .0) (r .1) (r .2) (bindsHere x d) refl
+      where
+        go : (f : Field) → isChild f ≡ true → HasField (tb .nodes) p f m →
+            (b : Bool) → bindsHere x (nodeAt (tb .nodes) p) ≡ b → Free p ⊎ (BindsAt (tb .nodes) x p × (nodeAt (tb .nodes) p .c ≡ m))
+        go unused e i b q = absurd01 (cc)
+        go (child expression) e i b q = inl (field-free p (h .0) (child expression) m i t)
+        go (child predicate) e i true q =
+            let d : Node = nodeAt (tb .nodes) p in
+            let g : BindsAt (tb .nodes) x p = here-binds p (h .0) q in
+            inr (g, body-child (d .a) (d .b) (d .c) m (rw (binder-fields (kindAt (tb .nodes) p) (d .a) (d .b) (d .c) (g .1)) at i))
+        go (child predicate) e i false q = inl (field-free p (h .0) (child predicate) m i (rw q t))
+        go use-of e i b q = absurd01 (cc)
+        go binder-of e i b q = absurd01 (cc)
+        go setNumber e i b q = absurd01 (cc)
+        go elementNumber e i b q = absurd01 (cc)
+        go anyWord e i b q = absurd01 (cc)
+        go truthBit e i b q = absurd01 (cc)
+
+    -- Downward: the node uses it, or it occurs free in a child that is not the body of a binder of x.
+    free-down : (n : ℕ) → n < length (tb .nodes) → Free n →
+        UsesAt (tb .nodes) x n ⊎ ((m : ℕ) × ChildOf (tb .nodes) n m × Free m × (BindsAt (tb .nodes) x n → nodeAt (tb .nodes) n .c ≡ m → ⊥))
+    free-down n l t = let r = free-field n l t in go (r .0) (r .1) (r .2) (r .3)
+      where
+        go : (f : Field) (y : ℕ) → HasField (tb .nodes) n f y →
+            T (occursIn x (bindsHere x (nodeAt (tb .nodes) n)) (occursFree (tb .nodes) x) f y) →
+            UsesAt (tb .nodes) x n ⊎ ((m : ℕ) × ChildOf (tb .nodes) n m × Free m × (BindsAt (tb .nodes) x n → nodeAt (tb .nodes) n .c ≡ m → ⊥))
+        go unused y i t = absurd t
+        go (child expression) y i t = inr (y, field-child n y expression l i, t, λ g e. apart n y g i e)
+        go (child predicate) y i t =
+            let w = T-and (not (bindsHere x (nodeAt (tb .nodes) n))) (occursFree (tb .nodes) x y) .0 t in
+            inr (y, field-child n y predicate l i, w .1, λ g e. rw (binds-here n g) at (w .0))
+        go use-of y i t =
+            let d : Node = nodeAt (tb .nodes) n in
+            let r = use-kind (kindAt (tb .nodes) n) (d .a) (d .b) (d .c) y i in
+            inl (l, r .0, r .1 ∙ sym (eqb→eq x y t))
+        go binder-of y i t = absurd t
+        go setNumber y i t = absurd t
+        go elementNumber y i t = absurd t
+        go anyWord y i t = absurd t
+        go truthBit y i t = absurd t
+
+    -- A node outside the bodies of all binders of x.
+    abbrev Outside : ℕ → Type 0
+    Outside n = (b : ℕ) → BindsAt (tb .nodes) x b → InBody (tb .nodes) b n → ⊥
+
+    body-of : (b : ℕ) → BindsAt (tb .nodes) x b → ChildOf (tb .nodes) b (nodeAt (tb .nodes) b .c)
+    body-of b g = field-child b (nodeAt (tb .nodes) b .c) predicate (g .0) (body-field b g)
+
+    -- The last node is one: it is no child. A child of one is one too, unless it is a body: its parent would be in the same body.
+    root-outside : Outside (lastNode (tb .nodes))
+    root-outside b g t = go (tree-split (tb .nodes) t)
+      where
+        go : (nodeAt (tb .nodes) b .c ≡ lastNode (tb .nodes))
+            ⊎ ((p : ℕ) × InBody (tb .nodes) b p × ChildOf (tb .nodes) p (lastNode (tb .nodes))) → ⊥
+        go (inl e) = omega (arith, child-lower b (nodeAt (tb .nodes) b .c) (body-of b g))
+        go (inr (p, s, h)) = omega (arith, child-lower p (lastNode (tb .nodes)) h)
+
+    child-outside : (n m : ℕ) → ChildOf (tb .nodes) n m → Outside n → (BindsAt (tb .nodes) x n → nodeAt (tb .nodes) n .c ≡ m → ⊥) → Outside m
+    child-outside n m h o f b g t = go (tree-split (tb .nodes) t)
+      where
+        go : (nodeAt (tb .nodes) b .c ≡ m) ⊎ ((p : ℕ) × InBody (tb .nodes) b p × ChildOf (tb .nodes) p m) → ⊥
+        go (inl e) =
+            let q : b ≡ n = one-parent b n m (rw e at (body-of b g)) h in
+            subst (λ n. (BindsAt (tb .nodes) x n → nodeAt (tb .nodes) n .c ≡ m → ⊥)) (sym q) f g e
+        go (inr (p, s, k)) = o b g (subst (λ n. InBody (tb .nodes) b n) (one-parent p n m k h) s)
+
+    -- Where each use of x stands in a body, x does not occur free outside the bodies.
+    outside-free : UsedInBody (tb .nodes) x → (k n : ℕ) → n < k → n < length (tb .nodes) → Outside n → Free n → ⊥
+    outside-free w zero n q l o t = absurd (omega arith)
+    outside-free w (suc k) n q l o t = go (free-down n l t) (outside-free w k)
+      where
+        go : UsesAt (tb .nodes) x n ⊎ ((m : ℕ) × ChildOf (tb .nodes) n m × Free m × (BindsAt (tb .nodes) x n → nodeAt (tb .nodes) n .c ≡ m → ⊥)) →
+            ((m : ℕ) → m < k → m < length (tb .nodes) → Outside m → Free m → ⊥) → ⊥
+        go (inl u) f = let r = w n u in o (r .0) (r .1) (r .2)
+        go (inr r) f =
+            let e = child-lower n (r .0) (r .1) in
+            f (r .0) (omega arith) (omega arith) (child-outside n (r .0) (r .1) o (r .3)) (r .2)
+
+    -- A use stands in a body, or x occurs free in the root: by the nodes above it, k of them at most.
+    use-above : (u k m : ℕ) → lastNode (tb .nodes) - m ≤ k → m < length (tb .nodes) → InTree (tb .nodes) m u → Free m →
+        Free (lastNode (tb .nodes)) ⊎ ((b : ℕ) × BindsAt (tb .nodes) x b × InBody (tb .nodes) b u)
+    unfolding lastNode
+    use-above u zero m q l t free = inl (subst Free (omega arith) free)
+    use-above u (suc k) m q l t free = go (ℕ-discrete m (lastNode (tb .nodes))) (λ p. use-above u k p)
+      where
+        go : Dec (m ≡ lastNode (tb .nodes)) →
+            ((p : ℕ) → lastNode (tb .nodes) - p ≤ k → p < length (tb .nodes) → InTree (tb .nodes) p u → Free p →
+            Free (lastNode (tb .nodes)) ⊎ ((b : ℕ) × BindsAt (tb .nodes) x b × InBody (tb .nodes) b u)) →
+            Free (lastNode (tb .nodes)) ⊎ ((b : ℕ) × BindsAt (tb .nodes) x b × InBody (tb .nodes) b u)
+        go (yes e) f = inl (subst Free e free)
+        go (no e) f =
+            let r = parent m (omega arith) in
+            let c = child-lower (r .0) m (r .1) in
+            step (r .0) (r .1) (free-up (r .0) m (r .1) free) (f (r .0) (omega arith) (r .1 .0) (tree-above (tb .nodes) (r .1) t))
+          where
+            step : (p : ℕ) → ChildOf (tb .nodes) p m → Free p ⊎ (BindsAt (tb .nodes) x p × (nodeAt (tb .nodes) p .c ≡ m)) →
+                (Free p → Free (lastNode (tb .nodes)) ⊎ ((b : ℕ) × BindsAt (tb .nodes) x b × InBody (tb .nodes) b u)) →
+                Free (lastNode (tb .nodes)) ⊎ ((b : ℕ) × BindsAt (tb .nodes) x b × InBody (tb .nodes) b u)
+            step p h (inl s) f = f s
+            step p h (inr (g, e)) f = inr (p, g, rw e t)
+
+    pub used-in-body : (occursFree (tb .nodes) x (lastNode (tb .nodes)) ≡ false) ↔ UsedInBody (tb .nodes) x
+    used-in-body = (to, from)
+      where
+        to : occursFree (tb .nodes) x (lastNode (tb .nodes)) ≡ false → UsedInBody (tb .nodes) x
+        to e u h = go (use-above u (lastNode (tb .nodes)) u (omega arith) (h .0) top (free-use u h))
+          where
+            go : Free (lastNode (tb .nodes)) ⊎ ((b : ℕ) × BindsAt (tb .nodes) x b × InBody (tb .nodes) b u) →
+                (b : ℕ) × BindsAt (tb .nodes) x b × InBody (tb .nodes) b u
+            go (inl t) = absurd (rw e at t)
+            go (inr r) = r
+
+        from : UsedInBody (tb .nodes) x → occursFree (tb .nodes) x (lastNode (tb .nodes)) ≡ false
+        from w = T-false (occursFree (tb .nodes) x (lastNode (tb .nodes))) .0 (go (decLt 0 (length (tb .nodes))))
+          where
+            go : Dec (0 < length (tb .nodes)) → Free (lastNode (tb .nodes)) → ⊥
+            go (yes l) t = outside-free w (length (tb .nodes)) (lastNode (tb .nodes)) (last-in (tb .nodes) l) (last-in (tb .nodes) l) root-outside t
+            go (no l) t = no-nodes (tb .nodes) x (omega arith) t
