@@ -6,7 +6,7 @@
 use Prim.Native.Nat.{ℕ, zero, suc, _+_, _-_, _≤_, _<_}
 use mathlib.Core.Bool.{Bool, true, false, not, _&&_, _||_}
 use mathlib.Core.List.{List, [], _∷_, _++_}
-use mathlib.Core.Logic.{_↔_, _⊎_, inl, inr}
+use mathlib.Core.Logic.{_↔_, Iff·trans, _⊎_, inl, inr}
 use mathlib.Core.Option.{Option, none as nothing, some}
 use mathlib.Core.Path.{_≡_, refl, sym, subst, subst₂, _∙_}
 use native.Mathlib.Decide.{ℕ-discrete, decLt}
@@ -19,10 +19,11 @@ use Rattle.rules.specs.Kinds.{Field, unused, child, use-of, binder-of, s
 use Rattle.rules.specs.Tables.{Node, Table, nodeAt, kindAt, fieldsIf, fieldsAt, fieldWords, keptIf, pick, held, heldIn, lastNode}
 use Rattle.rules.specs.Reading.{occurrences, binders, occursIn, occursInAny, bindsHere, occursFree, binding}
 use Rattle.rules.specs.Readable.{CategoryIs, FieldRight, FieldsRight, NodeRight, BindingRight}
-use Rattle.rules.specs.Binding.{ChildOf, InTree, top, under, UsesAt, BinderKind, BindsAt, InBody, UsedInBody, WrittenFor, BindingWritten}
+use Rattle.rules.specs.Binding.{ChildOf, InTree, top, under, UsesAt, BinderKind, BindsAt, InRange, InBody, UsedInBody, WrittenFor, BindingWritten}
 use Rattle.rules.proofs.Basics.{absurd01}
 use Rattle.rules.proofs.EndLaws.{T-true, T-false, T-and, T-leb, T-eqb}
 use Rattle.rules.proofs.TableLaws.{fields-right, child-below, occursFree-at}
+use Rattle.rules.proofs.ReadingLaws.{binding-right}
 
 T-or : (a b : Bool) → T (a || b) ↔ (T a ⊎ T b)
 T-or true b = (λ t. inl tt, λ s. tt)
@@ -332,6 +333,24 @@ module _ (tb : Table) (right : (n : ℕ) → n < length (tb .nodes) → NodeRigh
   field-child n y c l i =
       let d : Node = nodeAt (tb .nodes) n in (l, field-picked isChild (child c) y refl (fieldsAt d) (fieldWords d) i)
 
+  -- A tree holds no node above its top, and the trees of two children of a node have no node in common.
+  tree-lower : (n m : ℕ) → InTree (tb .nodes) n m → m ≤ n
+  tree-lower n m top = omega arith
+  tree-lower n m (under {p} t k) = omega (arith, tree-lower n p t, child-lower p m k)
+
+  trees-apart : (n i j u : ℕ) → ChildOf (tb .nodes) n i → ChildOf (tb .nodes) n j → (i ≡ j → ⊥) →
+      InTree (tb .nodes) i u → InTree (tb .nodes) j u → ⊥
+  trees-apart n i j u g h e top t = go (tree-split (tb .nodes) t)
+    where
+      go : (j ≡ i) ⊎ ((p : ℕ) × InTree (tb .nodes) j p × ChildOf (tb .nodes) p i) → ⊥
+      go (inl q) = e (sym q)
+      go (inr (p, s, k)) = omega (arith, tree-lower j p s, one-parent p n i k g, child-lower n j h)
+  trees-apart n i j u g h e (under {p} s k) t = go (tree-split (tb .nodes) t) (trees-apart n i j p g h e s)
+    where
+      go : (j ≡ u) ⊎ ((q : ℕ) × InTree (tb .nodes) j q × ChildOf (tb .nodes) q u) → (InTree (tb .nodes) j p → ⊥) → ⊥
+      go (inl q) f = omega (arith, tree-lower i p s, one-parent p n j (rw q k) h, child-lower n i g)
+      go (inr (q, r, l)) f = f (subst (λ q. InTree (tb .nodes) j q) (one-parent q p u l k) r)
+
   module _ (x : ℕ) where
     abbrev Free : ℕ → Type 0
     Free n = T (occursFree (tb .nodes) x n)
@@ -370,6 +389,14 @@ module _ (tb : Table) (right : (n : ℕ) → n < length (tb .nodes) → NodeRigh
     body-field n h =
         let d : Node = nodeAt (tb .nodes) n in
         rw (binder-fields (kindAt (tb .nodes) n) (d .a) (d .b) (d .c) (h .1)) (inr (inr (inl (refl, refl))))
+
+    range-field : (n : ℕ) → BindsAt (tb .nodes) x n → HasField (tb .nodes) n (child expression) (nodeAt (tb .nodes) n .b)
+    range-field n h =
+        let d : Node = nodeAt (tb .nodes) n in
+        rw (binder-fields (kindAt (tb .nodes) n) (d .a) (d .b) (d .c) (h .1)) (inr (inl (refl, refl)))
+
+    body-of : (b : ℕ) → BindsAt (tb .nodes) x b → ChildOf (tb .nodes) b (nodeAt (tb .nodes) b .c)
+    body-of b g = field-child b (nodeAt (tb .nodes) b .c) predicate (g .0) (body-field b g)
 
     -- The body, a predicate, is not the range, an expression.
     apart : (n m : ℕ) → BindsAt (tb .nodes) x n → HasField (tb .nodes) n (child expression) m → nodeAt (tb .nodes) n .c ≡ m → ⊥
@@ -426,12 +453,15 @@ module _ (tb : Table) (right : (n : ℕ) → n < length (tb .nodes) → NodeRigh
         go anyWord y i t = absurd t
         go truthBit y i t = absurd t
 
+    -- So no node stands in both.
+    pub not-in-range : (b u : ℕ) → BindsAt (tb .nodes) x b → InBody (tb .nodes) b u → InRange (tb .nodes) b u → ⊥
+    not-in-range b u g s t =
+        let d : Node = nodeAt (tb .nodes) b in
+        trees-apart b (d .c) (d .b) u (body-of b g) (field-child b (d .b) expression (g .0) (range-field b g)) (apart b (d .b) g (range-field b g)) s t
+
     -- A node outside the bodies of all binders of x.
     abbrev Outside : ℕ → Type 0
     Outside n = (b : ℕ) → BindsAt (tb .nodes) x b → InBody (tb .nodes) b n → ⊥
-
-    body-of : (b : ℕ) → BindsAt (tb .nodes) x b → ChildOf (tb .nodes) b (nodeAt (tb .nodes) b .c)
-    body-of b g = field-child b (nodeAt (tb .nodes) b .c) predicate (g .0) (body-field b g)
 
     -- The last node is one: it is no child. A child of one is one too, unless it is a body: its parent would be in the same body.
     root-outside : Outside (lastNode (tb .nodes))
@@ -486,6 +516,7 @@ module _ (tb : Table) (right : (n : ℕ) → n < length (tb .nodes) → NodeRigh
             step p h (inl s) f = f s
             step p h (inr (g, e)) f = inr (p, g, rw e t)
 
+    -- x does not occur free in the root exactly where each use of x stands in the body of a binder of x.
     pub used-in-body : (occursFree (tb .nodes) x (lastNode (tb .nodes)) ≡ false) ↔ UsedInBody (tb .nodes) x
     used-in-body = (to, from)
       where
@@ -503,3 +534,23 @@ module _ (tb : Table) (right : (n : ℕ) → n < length (tb .nodes) → NodeRigh
             go : Dec (0 < length (tb .nodes)) → Free (lastNode (tb .nodes)) → ⊥
             go (yes l) t = outside-free w (length (tb .nodes)) (lastNode (tb .nodes)) (last-in (tb .nodes) l) (last-in (tb .nodes) l) root-outside t
             go (no l) t = no-nodes (tb .nodes) x (omega arith) t
+
+    -- Refusal 9 for one identifier, by its word.
+    written : (w : ℕ) → BindingRight w (binders (tb .nodes) x) (occursFree (tb .nodes) x (lastNode (tb .nodes))) ↔ WrittenFor w (tb .nodes) x
+    written zero = binders-none (tb .nodes) x
+    written (suc w) = (to, from)
+      where
+        to : BindingRight (suc w) (binders (tb .nodes) x) (occursFree (tb .nodes) x (lastNode (tb .nodes))) → WrittenFor (suc w) (tb .nodes) x
+        to (e, f) = let r = binders-one (tb .nodes) x .0 e in (r .0, r .1, r .2, λ u h. go (r .0) (r .1) (r .2) u (used-in-body .0 f u h))
+          where
+            go : (b : ℕ) → BindsAt (tb .nodes) x b → ((d : ℕ) → BindsAt (tb .nodes) x d → d ≡ b) →
+                (u : ℕ) → (d : ℕ) × BindsAt (tb .nodes) x d × InBody (tb .nodes) d u →
+                InBody (tb .nodes) b u × (InRange (tb .nodes) b u → ⊥)
+            go b g same u (d, h, t) =
+                let s : InBody (tb .nodes) b u = subst (λ b. InBody (tb .nodes) b u) (same d h) t in (s, λ r. not-in-range b u g s r)
+
+        from : WrittenFor (suc w) (tb .nodes) x → BindingRight (suc w) (binders (tb .nodes) x) (occursFree (tb .nodes) x (lastNode (tb .nodes)))
+        from (b, g, same, f) = (binders-one (tb .nodes) x .1 (b, g, same), used-in-body .1 (λ u h. (b, g, f u h .0)))
+
+    pub binding-written : T (binding tb x) ↔ BindingWritten tb x
+    binding-written = Iff·trans (binding-right tb x) (written (getD (tb .binds) x 0))

@@ -49,11 +49,12 @@ InBody ns b u = InTree ns (nodeAt ns b .c) u
 abbrev pub UsedInBody : List Node → ℕ → Type 0
 UsedInBody ns x = (u : ℕ) → UsesAt ns x u → (b : ℕ) × BindsAt ns x b × InBody ns b u
 
--- The binding rules for x by its word: a free identifier has no binder; a bound one has exactly one, and is used only in that one's body.
+-- The binding rules for x by its word: a free identifier has no binder; a bound one has exactly one, and every use of it
+-- stands in that binder's body and not in its range.
 abbrev pub WrittenFor : ℕ → List Node → ℕ → Type 0
 WrittenFor zero ns x = (b : ℕ) → BindsAt ns x b → ⊥
 WrittenFor (suc w) ns x =
-    (b : ℕ) × BindsAt ns x b × ((d : ℕ) → BindsAt ns x d → d ≡ b) × ((u : ℕ) → UsesAt ns x u → InBody ns b u)
+    (b : ℕ) × BindsAt ns x b × ((d : ℕ) → BindsAt ns x d → d ≡ b) × ((u : ℕ) → UsesAt ns x u → InBody ns b u × (InRange ns b u → ⊥))
 
 abbrev pub BindingWritten : Table → ℕ → Type 0
 BindingWritten tb x = WrittenFor (getD (tb .binds) x 0) (tb .nodes) x
