@@ -11,19 +11,22 @@ use mathlib.Core.Option.{Option, none as nothing, some}
 use mathlib.Core.Path.{_≡_, refl, sym, subst, subst₂, _∙_}
 use native.Mathlib.Decide.{ℕ-discrete, decLt}
 use native.Mathlib.Omega.{arith}
-use lib.Dec.{T, eqb, eqb→eq, eqb-refl}
-use lib.ListN.{getD, length}
+use lib.Dec.{T, ltb, ltb→lt, eqb, eqb→eq, eqb-refl}
+use lib.ListN.{getD, length, take}
 use Rattle.rules.specs.Kinds.{Kind, join, negation, test, quant, leaf, boolOf, one, two, comprehension}
 use Rattle.rules.specs.Kinds.{identifier, givenSet, elementOf, literal, truthConst, emptySet, boolSet, Category, predicate, expression, isChild, isBinder}
 use Rattle.rules.specs.Kinds.{Field, unused, child, use-of, binder-of, setNumber, elementNumber, anyWord, truthBit}
 use Rattle.rules.specs.Tables.{Node, Table, nodeAt, kindAt, fieldsIf, fieldsAt, fieldWords, keptIf, pick, held, heldIn, lastNode}
-use Rattle.rules.specs.Reading.{occurrences, binders, occursIn, occursInAny, bindsHere, occursFree, binding}
-use Rattle.rules.specs.Readable.{CategoryIs, FieldRight, FieldsRight, NodeRight, BindingRight}
+use Rattle.rules.specs.Tables.{tableOf, identifierCount, nodeCount}
+use Rattle.rules.specs.Ends.{End, done, refused, require, unlessFound, requireAll}
+use Rattle.rules.specs.Reading.{headed, limited, laidOut, nodeGood, parentGood, occurrences, binders, occursIn, occursInAny, bindsHere, occursFree, binding, reading}
+use Rattle.rules.specs.Readable.{CategoryIs, FieldRight, FieldsRight, NodeRight, BindingRight, Readable}
 use Rattle.rules.specs.Binding.{ChildOf, InTree, top, under, UsesAt, BinderKind, BindsAt, InRange, InBody, UsedInBody, WrittenFor, BindingWritten}
 use Rattle.rules.proofs.Basics.{absurd01}
-use Rattle.rules.proofs.EndLaws.{T-true, T-false, T-and, T-leb, T-eqb}
-use Rattle.rules.proofs.TableLaws.{fields-right, child-below, occursFree-at}
-use Rattle.rules.proofs.ReadingLaws.{binding-right}
+use Rattle.rules.proofs.EndLaws.{T-true, T-false, T-and, T-leb, require-refused, unlessFound-refused, requireAll-done, requireAll-refused, Each, inTurn}
+use Rattle.rules.proofs.TableLaws.{binds-length, nodes-length, fields-right, child-below, occursFree-at}
+use Rattle.rules.proofs.ReadingLaws.{nodeGood-right, parentGood-right, binding-right, stages, reading-stages}
+use Rattle.rules.proofs.ReadingLaws.{badSize, badWord, badNode, badParent, badHeight, badBinding}
 
 T-or : (a b : Bool) → T (a || b) ↔ (T a ⊎ T b)
 T-or true b = (λ t. inl tt, λ s. tt)
@@ -554,3 +557,95 @@ module _ (tb : Table) (right : (n : ℕ) → n < length (tb .nodes) → NodeRigh
 
     pub binding-written : T (binding tb x) ↔ BindingWritten tb x
     binding-written = Iff·trans (binding-right tb x) (written (getD (tb .binds) x 0))
+
+-- A row of tests ends with a refusal that only its last test gives exactly where those before it go on and the last one refuses.
+inTurn-last : {A : Type 0} (ms : List (End (Unit {0}))) (m : End (Unit {0})) (a : A) (r p : ℕ) → Each (λ m. m ≡ refused r p → ⊥) ms →
+    (inTurn (ms ++ m ∷ []) a ≡ refused r p) ↔ (Each (λ m. m ≡ done tt) ms × (m ≡ refused r p))
+inTurn-last [] (done u) a r p n = (λ e. absurd01 (cc), λ h. absurd01 (cc (h .1)))
+inTurn-last [] (refused s q) a r p n = (λ e. (tt, cc), λ h. cc (h .1))
+inTurn-last (done u ∷ ms) m a r p n =
+    let i = inTurn-last ms m a r p (n .1) in (λ e. let t = i .0 e in ((refl, t .0), t .1), λ h. i .1 (h .0 .1, h .1))
+inTurn-last (refused s q ∷ ms) m a r p n = (λ e. absurd (n .0 (cc)), λ h. absurd01 (cc (h .0 .0)))
+
+module _ (bs : List ℕ) where
+  -- The tests of refusals 1 to 8 go on.
+  abbrev pub PassesEight : Type 0
+  PassesEight = Each (λ m. m ≡ done tt) (take 8 (stages bs))
+
+  eight-others : (x : ℕ) → Each (λ m. m ≡ refused 9 x → ⊥) (take 8 (stages bs))
+  eight-others x = (
+    single 1 (headed bs) tt,
+    (
+      single 2 (limited bs) tt,
+      (
+        single 3 (laidOut bs) tt,
+        (least 4 (badSize bs) tt, (least 5 (badWord bs) tt, (least 6 (badNode bs) tt, (least 7 (badParent bs) tt, (least 8 (badHeight bs) tt, tt))))),
+      ),
+    ),
+  )
+    where
+      single : (k : ℕ) (b : Bool) → T (ltb k 9) → require k 0 b ≡ refused 9 x → ⊥
+      single k b l e = omega (arith, ltb→lt k 9 l, require-refused k 0 b 9 x e .0)
+
+      least : (k : ℕ) (o : Option ℕ) → T (ltb k 9) → unlessFound k o ≡ refused 9 x → ⊥
+      least k o l e = omega (arith, ltb→lt k 9 l, unlessFound-refused k o 9 x e .0)
+
+  -- So the nodes are right, and each but the last is a child once.
+  eight-fields : PassesEight → (n : ℕ) → n < length (tableOf bs .nodes) → NodeRight (tableOf bs) n
+  unfolding requireAll
+  eight-fields (_, (_, (_, (_, (_, (h, _)))))) n l =
+      let e = requireAll-done 6 (nodeGood (tableOf bs)) (nodeCount bs) .0 h n (rw (nodes-length bs) at l) in
+      nodeGood-right (tableOf bs) n .0 (rw e tt)
+
+  eight-once : PassesEight → (n : ℕ) → n < lastNode (tableOf bs .nodes) → occurrences n (heldIn isChild (tableOf bs .nodes)) ≡ 1
+  unfolding requireAll lastNode
+  eight-once (_, (_, (_, (_, (_, (_, (h, _))))))) n l =
+      let e = requireAll-done 7 (parentGood (tableOf bs)) (nodeCount bs) .0 h n (omega (arith, nodes-length bs)) in
+      parentGood-right (tableOf bs) n .0 (rw e tt) .1 (λ q. omega arith)
+
+  -- Refusal 9 is given at x exactly where 1 to 8 are not and x is the least identifier that breaks the binding rules.
+  pub refused-9-written : (x : ℕ) → (reading bs ≡ refused 9 x) ↔
+      (PassesEight × (x < identifierCount bs) × (BindingWritten (tableOf bs) x → ⊥) × ((y : ℕ) → y < x → BindingWritten (tableOf bs) y))
+  unfolding requireAll
+  refused-9-written x = (to, from)
+    where
+      last : (inTurn (stages bs) (tableOf bs) ≡ refused 9 x) ↔ (PassesEight × (unlessFound 9 (badBinding bs) ≡ refused 9 x))
+      last = inTurn-last (take 8 (stages bs)) (unlessFound 9 (badBinding bs)) (tableOf bs) 9 x (eight-others x)
+
+      least : (requireAll 9 (binding (tableOf bs)) (identifierCount bs) ≡ refused 9 x) ↔
+          ((x < identifierCount bs) × (binding (tableOf bs) x ≡ false) × ((y : ℕ) → y < x → binding (tableOf bs) y ≡ true))
+      least = requireAll-refused 9 (binding (tableOf bs)) (identifierCount bs) x
+
+      says : PassesEight → (y : ℕ) → T (binding (tableOf bs) y) ↔ BindingWritten (tableOf bs) y
+      says h y = binding-written (tableOf bs) (eight-fields h) (eight-once h) y
+
+      to : reading bs ≡ refused 9 x →
+          PassesEight × (x < identifierCount bs) × (BindingWritten (tableOf bs) x → ⊥) × ((y : ℕ) → y < x → BindingWritten (tableOf bs) y)
+      to e =
+          let r = last .0 (sym (reading-stages bs) ∙ e) in
+          let b = least .0 (r .1) in
+          (
+            r .0,
+            b .0,
+            λ w. rw (b .1) at (says (r .0) x .1 w),
+            λ y l. says (r .0) y .0 (rw (b .2 y l) tt),
+          )
+
+      from : PassesEight × (x < identifierCount bs) × (BindingWritten (tableOf bs) x → ⊥) × ((y : ℕ) → y < x → BindingWritten (tableOf bs) y) →
+          reading bs ≡ refused 9 x
+      from (h, l, f, g) =
+          reading-stages bs
+          ∙ last .1 (
+            h,
+            least .1 (
+              l,
+              T-false (binding (tableOf bs) x) .0 (λ t. f (says h x .0 t)),
+              λ y q. T-true (binding (tableOf bs) y) .0 (says h y .1 (g y q)),
+            ),
+          )
+
+  -- A readable table keeps them for all its identifiers.
+  pub readable-written : Readable bs → (x : ℕ) → x < identifierCount bs → BindingWritten (tableOf bs) x
+  readable-written r x l =
+      binding-written (tableOf bs) (r .records .fields) (r .records .once) x .0
+      (binding-right (tableOf bs) x .1 (r .records .bindings x (rw (binds-length bs) l)))
