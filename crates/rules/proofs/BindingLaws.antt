@@ -152,6 +152,23 @@ module _ (x : ℕ) (b : Bool) (occ : ℕ → Bool) where
       go (inl s) k = (g, z, inl (refl, refl), s)
       go (inr s) k = let r = k s in (r .0, r .1, inr (r .2), r .3)
 
+  -- A child makes it do so where x occurs free in the child, unless the node binds x and the child is a predicate.
+  child-occurs : (c : Category) (y : ℕ) → T (occ y) → T (occursIn x b occ (child c) y) ⊎ ((b ≡ true) × (c ≡ predicate))
+  child-occurs c y t = go c b
+    where
+      go : (c : Category) (b : Bool) → T (occursIn x b occ (child c) y) ⊎ ((b ≡ true) × (c ≡ predicate))
+      go expression b = inl t
+      go predicate true = inr (refl, refl)
+      go predicate false = inl t
+
+  occurs-child : (c : Category) (y : ℕ) → T (occursIn x b occ (child c) y) → T (occ y) × (b ≡ true → c ≡ predicate → ⊥)
+  occurs-child c y t = go c b t
+    where
+      go : (c : Category) (b : Bool) → T (occursIn x b occ (child c) y) → T (occ y) × (b ≡ true → c ≡ predicate → ⊥)
+      go expression b t = (t, λ e q. absurd01 (cc))
+      go predicate true t = absurd t
+      go predicate false t = (t, λ e q. absurd01 (cc))
+
 isUse : Field → Bool
 isUse unused = false
 isUse (child c) = false
@@ -239,6 +256,26 @@ module _ (k : Option Kind) (a b c : ℕ) where
 abbrev HasField : List Node → ℕ → Field → ℕ → Type 0
 HasField ns n f y = InFields f y (fieldsAt (nodeAt ns n)) (fieldWords (nodeAt ns n))
 
+-- A child is what a field for a child holds.
+module _ (ns : List Node) (n m : ℕ) where
+  child-field : ChildOf ns n m → (c : Category) × HasField ns n (child c) m
+  unfolding held
+  child-field h = let r = picked-field isChild m (fieldsAt (nodeAt ns n)) (fieldWords (nodeAt ns n)) (h .1) in go (r .0) (r .1) (r .2)
+    where
+      go : (f : Field) → isChild f ≡ true → HasField ns n f m → (c : Category) × HasField ns n (child c) m
+      go unused e i = absurd01 (cc)
+      go (child c) e i = (c, i)
+      go use-of e i = absurd01 (cc)
+      go binder-of e i = absurd01 (cc)
+      go setNumber e i = absurd01 (cc)
+      go elementNumber e i = absurd01 (cc)
+      go anyWord e i = absurd01 (cc)
+      go truthBit e i = absurd01 (cc)
+
+  field-child : (c : Category) → n < length ns → HasField ns n (child c) m → ChildOf ns n m
+  unfolding held
+  field-child c l i = (l, field-picked isChild (child c) m refl (fieldsAt (nodeAt ns n)) (fieldWords (nodeAt ns n)) i)
+
 -- A node is a binder of x where it holds x in a binder's field, as the definitions count it, and where they test it.
 module _ (ns : List Node) (x b : ℕ) where
   held-binds : b < length ns → 1 ≤ occurrences x (held isBinder (nodeAt ns b)) → BindsAt ns x b
@@ -296,9 +333,9 @@ body-child a b c m (inr (inl q)) = absurd01 (cc (q .0))
 body-child a b c m (inr (inr (inl q))) = q .1
 body-child a b c m (inr (inr (inr q))) = absurd q
 
-one-category : (k : Option Kind) → CategoryIs predicate k → CategoryIs expression k → ⊥
-one-category nothing p e = p
-one-category (some k) p e = absurd01 (cc)
+one-category : (k : Option Kind) (c e : Category) → CategoryIs c k → CategoryIs e k → c ≡ e
+one-category nothing c e p q = absurd p
+one-category (some k) c e p q = sym p ∙ q
 
 last-in : (ns : List Node) → 0 < length ns → lastNode ns < length ns
 unfolding lastNode
@@ -330,11 +367,6 @@ module _ (tb : Table) (right : (n : ℕ) → n < length (tb .nodes) → NodeRigh
   -- and every node but the last has one.
   parent : (m : ℕ) → m < lastNode (tb .nodes) → (p : ℕ) × ChildOf (tb .nodes) p m
   parent m l = let r = holder isChild m (tb .nodes) (omega (arith, once m l)) in (r .0, (r .1, r .2))
-
-  field-child : (n y : ℕ) (c : Category) → n < length (tb .nodes) → HasField (tb .nodes) n (child c) y → ChildOf (tb .nodes) n y
-  unfolding held
-  field-child n y c l i =
-      let d : Node = nodeAt (tb .nodes) n in (l, field-picked isChild (child c) y refl (fieldsAt d) (fieldWords d) i)
 
   -- A tree holds no node above its top, and the trees of two children of a node have no node in common.
   tree-lower : (n m : ℕ) → InTree (tb .nodes) n m → m ≤ n
@@ -399,39 +431,31 @@ module _ (tb : Table) (right : (n : ℕ) → n < length (tb .nodes) → NodeRigh
         rw (binder-fields (kindAt (tb .nodes) n) (d .a) (d .b) (d .c) (h .1)) (inr (inl (refl, refl)))
 
     body-of : (b : ℕ) → BindsAt (tb .nodes) x b → ChildOf (tb .nodes) b (nodeAt (tb .nodes) b .c)
-    body-of b g = field-child b (nodeAt (tb .nodes) b .c) predicate (g .0) (body-field b g)
+    body-of b g = field-child (tb .nodes) b (nodeAt (tb .nodes) b .c) predicate (g .0) (body-field b g)
 
-    -- The body, a predicate, is not the range, an expression.
-    apart : (n m : ℕ) → BindsAt (tb .nodes) x n → HasField (tb .nodes) n (child expression) m → nodeAt (tb .nodes) n .c ≡ m → ⊥
-    apart n m g i e =
+    -- The body is a predicate, so what a field for an expression holds is not the body.
+    body-category : (n m : ℕ) (c : Category) → BindsAt (tb .nodes) x n → HasField (tb .nodes) n (child c) m → nodeAt (tb .nodes) n .c ≡ m → c ≡ predicate
+    body-category n m c g i e =
         let d : Node = nodeAt (tb .nodes) n in
         let w : FieldsRight tb n (fieldsAt d) (fieldWords d) = fields-right tb n (kindAt (tb .nodes) n) (fieldWords d) (right n (g .0)) in
         let q = field-right tb n (child predicate) (d .c) (fieldsAt d) (fieldWords d) w (body-field n g) .1 in
-        one-category (kindAt (tb .nodes) m) (rw e at q) (field-right tb n (child expression) m (fieldsAt d) (fieldWords d) w i .1)
+        one-category (kindAt (tb .nodes) m) c predicate (field-right tb n (child c) m (fieldsAt d) (fieldWords d) w i .1) (rw e at q)
 
-    -- Upward: it then occurs free in the parent too, unless the parent binds it and the child is its body.
+    -- Upward: where it occurs free in a child it does in the parent, unless the parent binds it and the child is its body.
     free-up : (p m : ℕ) → ChildOf (tb .nodes) p m → Free m → Free p ⊎ (BindsAt (tb .nodes) x p × (nodeAt (tb .nodes) p .c ≡ m))
-    unfolding held
     free-up p m h t =
-        let d : Node = nodeAt (tb .nodes) p in
-        let r = picked-field isChild m (fieldsAt d) (fieldWords d) (h .1) in
-        go (r .0) (r .1) (r .2) (bindsHere x d) refl
+        let r = child-field (tb .nodes) p m h in
+        go (r .0) (r .1) (child-occurs x (bindsHere x (nodeAt (tb .nodes) p)) (occursFree (tb .nodes) x) (r .0) m t)
       where
-        go : (f : Field) → isChild f ≡ true → HasField (tb .nodes) p f m →
-            (b : Bool) → bindsHere x (nodeAt (tb .nodes) p) ≡ b → Free p ⊎ (BindsAt (tb .nodes) x p × (nodeAt (tb .nodes) p .c ≡ m))
-        go unused e i b q = absurd01 (cc)
-        go (child expression) e i b q = inl (field-free p (h .0) (child expression) m i t)
-        go (child predicate) e i true q =
+        go : (c : Category) → HasField (tb .nodes) p (child c) m →
+            T (occursIn x (bindsHere x (nodeAt (tb .nodes) p)) (occursFree (tb .nodes) x) (child c) m)
+            ⊎ ((bindsHere x (nodeAt (tb .nodes) p) ≡ true) × (c ≡ predicate)) →
+            Free p ⊎ (BindsAt (tb .nodes) x p × (nodeAt (tb .nodes) p .c ≡ m))
+        go c i (inl s) = inl (field-free p (h .0) (child c) m i s)
+        go c i (inr (q, e)) =
             let d : Node = nodeAt (tb .nodes) p in
             let g : BindsAt (tb .nodes) x p = here-binds p (h .0) q in
-            inr (g, body-child (d .a) (d .b) (d .c) m (rw (binder-fields (kindAt (tb .nodes) p) (d .a) (d .b) (d .c) (g .1)) at i))
-        go (child predicate) e i false q = inl (field-free p (h .0) (child predicate) m i (rw q t))
-        go use-of e i b q = absurd01 (cc)
-        go binder-of e i b q = absurd01 (cc)
-        go setNumber e i b q = absurd01 (cc)
-        go elementNumber e i b q = absurd01 (cc)
-        go anyWord e i b q = absurd01 (cc)
-        go truthBit e i b q = absurd01 (cc)
+            inr (g, body-child (d .a) (d .b) (d .c) m (rw (e, binder-fields (kindAt (tb .nodes) p) (d .a) (d .b) (d .c) (g .1)) at i))
 
     -- Downward: the node uses it, or it occurs free in a child that is not the body of a binder of x.
     free-down : (n : ℕ) → n < length (tb .nodes) → Free n →
@@ -442,10 +466,9 @@ module _ (tb : Table) (right : (n : ℕ) → n < length (tb .nodes) → NodeRigh
             T (occursIn x (bindsHere x (nodeAt (tb .nodes) n)) (occursFree (tb .nodes) x) f y) →
             UsesAt (tb .nodes) x n ⊎ ((m : ℕ) × ChildOf (tb .nodes) n m × Free m × (BindsAt (tb .nodes) x n → nodeAt (tb .nodes) n .c ≡ m → ⊥))
         go unused y i t = absurd t
-        go (child expression) y i t = inr (y, field-child n y expression l i, t, λ g e. apart n y g i e)
-        go (child predicate) y i t =
-            let w = T-and (not (bindsHere x (nodeAt (tb .nodes) n))) (occursFree (tb .nodes) x y) .0 t in
-            inr (y, field-child n y predicate l i, w .1, λ g e. rw (binds-here n g) at (w .0))
+        go (child c) y i t =
+            let w = occurs-child x (bindsHere x (nodeAt (tb .nodes) n)) (occursFree (tb .nodes) x) c y t in
+            inr (y, field-child (tb .nodes) n y c l i, w .0, λ g e. w .1 (binds-here n g) (body-category n y c g i e))
         go use-of y i t =
             let d : Node = nodeAt (tb .nodes) n in
             let r = use-kind (kindAt (tb .nodes) n) (d .a) (d .b) (d .c) y i in
@@ -456,11 +479,12 @@ module _ (tb : Table) (right : (n : ℕ) → n < length (tb .nodes) → NodeRigh
         go anyWord y i t = absurd t
         go truthBit y i t = absurd t
 
-    -- So no node stands in both.
+    -- No node stands both in the body and in the range.
     pub not-in-range : (b u : ℕ) → BindsAt (tb .nodes) x b → InBody (tb .nodes) b u → InRange (tb .nodes) b u → ⊥
     not-in-range b u g s t =
         let d : Node = nodeAt (tb .nodes) b in
-        trees-apart b (d .c) (d .b) u (body-of b g) (field-child b (d .b) expression (g .0) (range-field b g)) (apart b (d .b) g (range-field b g)) s t
+        trees-apart b (d .c) (d .b) u (body-of b g) (field-child (tb .nodes) b (d .b) expression (g .0) (range-field b g))
+        (λ e. absurd01 (cc (body-category b (d .b) expression g (range-field b g) e))) s t
 
     -- A node outside the bodies of all binders of x.
     abbrev Outside : ℕ → Type 0
