@@ -2,6 +2,7 @@
 pub mod Basics
 pub mod EndLaws
 pub mod TableLaws
+pub mod TreeLaws
 pub mod ReadingLaws
 pub mod BindingLaws
 pub mod OrderLaws

@@ -45,9 +45,12 @@ InRange ns b u = InTree ns (nodeAt ns b .b) u
 abbrev pub InBody : List Node → ℕ → ℕ → Type 0
 InBody ns b u = InTree ns (nodeAt ns b .c) u
 
--- Each use of x stands in the body of a binder of x.
+-- The node u stands in the scope of x, the body of a binder of x; and each use of x does.
+abbrev pub InScopeOf : List Node → ℕ → ℕ → Type 0
+InScopeOf ns x u = (b : ℕ) × BindsAt ns x b × InBody ns b u
+
 abbrev pub UsedInBody : List Node → ℕ → Type 0
-UsedInBody ns x = (u : ℕ) → UsesAt ns x u → (b : ℕ) × BindsAt ns x b × InBody ns b u
+UsedInBody ns x = (u : ℕ) → UsesAt ns x u → InScopeOf ns x u
 
 -- The binding rules for x by its word: a free identifier has no binder; a bound one has exactly one, and every use of it
 -- stands in that binder's body and not in its range.
