@@ -27,11 +27,11 @@ use Rattle.rules.specs.Binding.{ChildOf, InTree, top, UsesAt, BinderKind
 use Rattle.rules.specs.Binding.{UsedInBody, WrittenFor, BindingWritten}
 use Rattle.rules.proofs.Basics.{absurd01}
 use Rattle.rules.proofs.EndLaws.{T-true, T-false, T-leb, require-refused, unlessFound-refused}
-use Rattle.rules.proofs.EndLaws.{requireAll-done, requireAll-refused, Each, inTurn}
-use Rattle.rules.proofs.TableLaws.{binds-length, nodes-length, fields-right, occursFree-at}
+use Rattle.rules.proofs.EndLaws.{requireAll-done, requireAll-refused, Each, inTurn, inTurn-done, inTurn-passed}
+use Rattle.rules.proofs.TableLaws.{nodes-length, fields-right, occursFree-at}
 use Rattle.rules.proofs.TreeLaws.{holder, one-held, two-held, only-held, InFields, field-picked, in-right, HasField, held-field, field-held}
 use Rattle.rules.proofs.TreeLaws.{tree-above, tree-split, child-lower, one-parent, parent, trees-apart}
-use Rattle.rules.proofs.ReadingLaws.{nodeGood-right, parentGood-right, binding-right, stages, reading-stages}
+use Rattle.rules.proofs.ReadingLaws.{nodeGood-right, parentGood-right, binding-right, stages, reading-stages, reading-right}
 use Rattle.rules.proofs.ReadingLaws.{badSize, badWord, badNode, badParent, badHeight, badBinding}
 
 T-or : (a b : Bool) → T (a || b) ↔ (T a ⊎ T b)
@@ -417,6 +417,15 @@ inTurn-last (done u ∷ ms) m a r p n =
     let i = inTurn-last ms m a r p (n .1) in (λ e. let t = i .0 e in ((refl, t .0), t .1), λ h. i .1 (h .0 .1, h .1))
 inTurn-last (refused s q ∷ ms) m a r p n = (λ e. absurd (n .0 (cc)), λ h. absurd01 (cc (h .0 .0)))
 
+each-take : {A : Type 0} (P : A → Type 0) (k : ℕ) (xs : List A) → Each P xs → Each P (take k xs)
+each-take P zero xs h = tt
+each-take P (suc k) [] h = tt
+each-take P (suc k) (x ∷ xs) h = (h .0, each-take P k xs (h .1))
+
+each-append : {A : Type 0} (P : A → Type 0) (xs : List A) (y : A) → Each P xs → P y → Each P (xs ++ y ∷ [])
+each-append P [] y h q = (q, tt)
+each-append P (x ∷ xs) y h q = (h .0, each-append P xs y (h .1) q)
+
 module _ (bs : List ℕ) where
   -- The tests of refusals 1 to 8 go on.
   abbrev pub PassesEight : Type 0
@@ -453,6 +462,9 @@ module _ (bs : List ℕ) where
       let e = requireAll-done 7 (parentGood (tableOf bs)) (nodeCount bs) .0 h n (omega (arith, nodes-length bs)) in
       parentGood-right (tableOf bs) n .0 (rw e tt) .1 (λ q. omega arith)
 
+  eight-written : PassesEight → (x : ℕ) → T (binding (tableOf bs) x) ↔ BindingWritten (tableOf bs) x
+  eight-written h x = binding-written (tableOf bs) (eight-fields h) (eight-once h) x
+
   -- Refusal 9 is given at x exactly where 1 to 8 are not and x is the least identifier that breaks the binding rules.
   pub refused-9-written : (x : ℕ) → (reading bs ≡ refused 9 x) ↔
       (PassesEight × (x < identifierCount bs) × (BindingWritten (tableOf bs) x → ⊥) × ((y : ℕ) → y < x → BindingWritten (tableOf bs) y))
@@ -466,36 +478,40 @@ module _ (bs : List ℕ) where
           ((x < identifierCount bs) × (binding (tableOf bs) x ≡ false) × ((y : ℕ) → y < x → binding (tableOf bs) y ≡ true))
       least = requireAll-refused 9 (binding (tableOf bs)) (identifierCount bs) x
 
-      says : PassesEight → (y : ℕ) → T (binding (tableOf bs) y) ↔ BindingWritten (tableOf bs) y
-      says h y = binding-written (tableOf bs) (eight-fields h) (eight-once h) y
-
       to : reading bs ≡ refused 9 x →
           PassesEight × (x < identifierCount bs) × (BindingWritten (tableOf bs) x → ⊥) × ((y : ℕ) → y < x → BindingWritten (tableOf bs) y)
       to e =
           let r = last .0 (sym (reading-stages bs) ∙ e) in
           let b = least .0 (r .1) in
-          (
-            r .0,
-            b .0,
-            λ w. rw (b .1) at (says (r .0) x .1 w),
-            λ y l. says (r .0) y .0 (rw (b .2 y l) tt),
-          )
+          (r .0, b .0, λ w. rw (b .1) at (eight-written (r .0) x .1 w), λ y l. eight-written (r .0) y .0 (rw (b .2 y l) tt))
 
       from : PassesEight × (x < identifierCount bs) × (BindingWritten (tableOf bs) x → ⊥) × ((y : ℕ) → y < x → BindingWritten (tableOf bs) y) →
           reading bs ≡ refused 9 x
       from (h, l, f, g) =
-          reading-stages bs
-          ∙ last .1 (
-            h,
-            least .1 (
-              l,
-              T-false (binding (tableOf bs) x) .0 (λ t. f (says h x .0 t)),
-              λ y q. T-true (binding (tableOf bs) y) .0 (says h y .1 (g y q)),
-            ),
-          )
+          let b : binding (tableOf bs) x ≡ false = T-false (binding (tableOf bs) x) .0 (λ t. f (eight-written h x .0 t)) in
+          reading-stages bs ∙ last .1 (h, least .1 (l, b, λ y q. T-true (binding (tableOf bs) y) .0 (eight-written h y .1 (g y q))))
 
-  -- A readable table keeps them for all its identifiers.
+  -- The table is given exactly where 1 to 8 are not and all identifiers keep the binding rules.
+  pub reading-written : (reading bs ≡ done (tableOf bs)) ↔
+      (PassesEight × ((x : ℕ) → x < identifierCount bs → BindingWritten (tableOf bs) x))
+  unfolding requireAll
+  reading-written = (to, from)
+    where
+      all : (requireAll 9 (binding (tableOf bs)) (identifierCount bs) ≡ done tt) ↔ ((x : ℕ) → x < identifierCount bs → binding (tableOf bs) x ≡ true)
+      all = requireAll-done 9 (binding (tableOf bs)) (identifierCount bs)
+
+      to : reading bs ≡ done (tableOf bs) → PassesEight × ((x : ℕ) → x < identifierCount bs → BindingWritten (tableOf bs) x)
+      to e =
+          let s = inTurn-done (stages bs) (tableOf bs) (tableOf bs) (sym (reading-stages bs) ∙ e) .0 in
+          let h : PassesEight = each-take (λ m. m ≡ done tt) 8 (stages bs) s in
+          (h, λ x l. eight-written h x .0 (rw (all .0 (s .1 .1 .1 .1 .1 .1 .1 .1 .0) x l) tt))
+
+      from : PassesEight × ((x : ℕ) → x < identifierCount bs → BindingWritten (tableOf bs) x) → reading bs ≡ done (tableOf bs)
+      from (h, w) =
+          reading-stages bs
+          ∙ inTurn-passed (stages bs) (tableOf bs) (each-append (λ m. m ≡ done tt) (take 8 (stages bs)) (unlessFound 9 (badBinding bs)) h
+          (all .1 (λ x l. T-true (binding (tableOf bs) x) .0 (eight-written h x .1 (w x l)))))
+
+  -- So a readable table keeps them.
   pub readable-written : Readable bs → (x : ℕ) → x < identifierCount bs → BindingWritten (tableOf bs) x
-  readable-written r x l =
-      binding-written (tableOf bs) (r .records .fields) (r .records .once) x .0
-      (binding-right (tableOf bs) x .1 (r .records .bindings x (rw (binds-length bs) l)))
+  readable-written r = reading-written .0 (reading-right bs .1 r) .1

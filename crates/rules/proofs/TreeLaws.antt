@@ -113,6 +113,7 @@ picked-field p y (g ∷ fs) (z ∷ ys) h = go (p g) refl (eqb y z) refl (λ q. p
     go true e true q k = (g, e, inl (refl, sym (eqb→eq y z (rw q tt))))
     go true e false q k = later (k (omega (arith, rw (e, q) at h)))
 
+-- Among right fields it is right.
 pub in-right : (tb : Table) (n : ℕ) (f : Field) (y : ℕ) (fs : List Field) (ys : List ℕ) → FieldsRight tb n fs ys → InFields f y fs ys → FieldRight tb n f y
 in-right tb n f y [] ys r h = absurd h
 in-right tb n f y (g ∷ fs) [] r h = absurd h

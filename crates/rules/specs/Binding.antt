@@ -1,5 +1,5 @@
 -- Document 01, the binding rules of refusal 9, as they are said of places in the tree of nodes: which nodes use and bind
--- an identifier, and where the uses may stand. `binding` in Reading.antt decides this; proofs/BindingLaws.antt shows it.
+-- an identifier, and where its uses may stand. `binding` in Reading.antt decides it: see proofs/BindingLaws.antt.
 use Prim.Native.Nat.{ℕ, zero, suc, _≤_, _<_}
 use mathlib.Core.Option.{Option, none as nothing, some}
 use mathlib.Core.List.{List}
@@ -45,10 +45,11 @@ InRange ns b u = InTree ns (nodeAt ns b .b) u
 abbrev pub InBody : List Node → ℕ → ℕ → Type 0
 InBody ns b u = InTree ns (nodeAt ns b .c) u
 
--- The node u stands in the scope of x, the body of a binder of x; and each use of x does.
+-- The node u stands in the scope of x: in the body of a binder of x.
 abbrev pub InScopeOf : List Node → ℕ → ℕ → Type 0
 InScopeOf ns x u = (b : ℕ) × BindsAt ns x b × InBody ns b u
 
+-- Each use of x does.
 abbrev pub UsedInBody : List Node → ℕ → Type 0
 UsedInBody ns x = (u : ℕ) → UsesAt ns x u → InScopeOf ns x u
 
