@@ -2,7 +2,9 @@
 pub mod Basics
 pub mod EndLaws
 pub mod TableLaws
+pub mod TreeLaws
 pub mod ReadingLaws
+pub mod BindingLaws
 pub mod OrderLaws
 pub mod CellsLaws
 pub mod FitsLaws

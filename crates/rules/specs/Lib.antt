@@ -8,6 +8,7 @@ pub mod Tables
 pub mod Ends
 pub mod Reading
 pub mod Readable
+pub mod Binding
 pub mod Cells
 pub mod Runs
 pub mod Operations
