@@ -23,7 +23,7 @@ use Rattle.rules.specs.Ends.{End, done, refused, require, unlessFound, r
 use Rattle.rules.specs.Reading.{headed, limited, laidOut, nodeGood, parentGood, occurrences, binders}
 use Rattle.rules.specs.Reading.{occursIn, occursInAny, bindsHere, occursFree, binding, reading}
 use Rattle.rules.specs.Readable.{CategoryIs, FieldsRight, NodeRight, BindingRight, Readable}
-use Rattle.rules.specs.Binding.{ChildOf, InTree, top, UsesAt, BinderKind, BindsAt, InRange, InBody, InScopeOf}
+use Rattle.rules.specs.Binding.{ChildOf, InTree, top, UsesAt, BinderKind, BindsAt, InRangeTree, InBodyTree, InScopeOf}
 use Rattle.rules.specs.Binding.{UsedInBody, WrittenFor, BindingWritten}
 use Rattle.rules.proofs.Basics.{absurd01}
 use Rattle.rules.proofs.EndLaws.{T-true, T-false, T-leb, require-refused, unlessFound-refused}
@@ -275,7 +275,7 @@ module _ (tb : Table) (right : (n : ℕ) → n < length (tb .nodes) → NodeRigh
       same-category (kindAt (tb .nodes) m) c predicate (in-right tb n (child c) m (fieldsAt d) (fieldWords d) w i .1) (rw e at q)
 
   -- Range and body have no node in common.
-  pub not-in-range : (b u : ℕ) → BindsAt (tb .nodes) x b → InBody (tb .nodes) b u → InRange (tb .nodes) b u → ⊥
+  pub not-in-range : (b u : ℕ) → BindsAt (tb .nodes) x b → InBodyTree (tb .nodes) b u → InRangeTree (tb .nodes) b u → ⊥
   not-in-range b u g s t =
       let d : Node = nodeAt (tb .nodes) b in
       trees-apart tb right once b (d .c) (d .b) u (body-of b g) (field-held (tb .nodes) b (d .b) expression (g .0) (range-field b g))
@@ -325,7 +325,7 @@ module _ (tb : Table) (right : (n : ℕ) → n < length (tb .nodes) → NodeRigh
   root-outside : InScopeOf (tb .nodes) x (lastNode (tb .nodes)) → ⊥
   root-outside (b, g, t) = go (tree-split (tb .nodes) t)
     where
-      go : (nodeAt (tb .nodes) b .c ≡ lastNode (tb .nodes)) ⊎ ((p : ℕ) × InBody (tb .nodes) b p × ChildOf (tb .nodes) p (lastNode (tb .nodes))) → ⊥
+      go : (nodeAt (tb .nodes) b .c ≡ lastNode (tb .nodes)) ⊎ ((p : ℕ) × InBodyTree (tb .nodes) b p × ChildOf (tb .nodes) p (lastNode (tb .nodes))) → ⊥
       go (inl e) = omega (arith, child-lower tb right once b (nodeAt (tb .nodes) b .c) (body-of b g))
       go (inr (p, s, h)) = omega (arith, child-lower tb right once p (lastNode (tb .nodes)) h)
 
@@ -333,11 +333,11 @@ module _ (tb : Table) (right : (n : ℕ) → n < length (tb .nodes) → NodeRigh
   parent-inside : (n m : ℕ) → ChildOf (tb .nodes) n m → (BodyHere n m → ⊥) → InScopeOf (tb .nodes) x m → InScopeOf (tb .nodes) x n
   parent-inside n m h f (b, g, t) = go (tree-split (tb .nodes) t)
     where
-      go : (nodeAt (tb .nodes) b .c ≡ m) ⊎ ((p : ℕ) × InBody (tb .nodes) b p × ChildOf (tb .nodes) p m) → InScopeOf (tb .nodes) x n
+      go : (nodeAt (tb .nodes) b .c ≡ m) ⊎ ((p : ℕ) × InBodyTree (tb .nodes) b p × ChildOf (tb .nodes) p m) → InScopeOf (tb .nodes) x n
       go (inl e) =
           let q : b ≡ n = one-parent tb right once b n m (rw e at (body-of b g)) h in
           absurd (f (subst (λ n. BodyHere n m) q (g, e)))
-      go (inr (p, s, k)) = (b, g, subst (λ n. InBody (tb .nodes) b n) (one-parent tb right once p n m k h) s)
+      go (inr (p, s, k)) = (b, g, subst (λ n. InBodyTree (tb .nodes) b n) (one-parent tb right once p n m k h) s)
 
   -- So where each use of x stands in a body, x occurs free in no node outside the bodies.
   outside-free : UsedInBody (tb .nodes) x → (k n : ℕ) → n < k → n < length (tb .nodes) → (InScopeOf (tb .nodes) x n → ⊥) → FreeIn n → ⊥
@@ -397,9 +397,9 @@ module _ (tb : Table) (right : (n : ℕ) → n < length (tb .nodes) → NodeRigh
       to (e, f) = let r = binders-one (tb .nodes) x .0 e in (r .0, r .1, r .2, λ u h. go (r .0) (r .1) (r .2) u (used-in-body .0 f u h))
         where
           go : (b : ℕ) → BindsAt (tb .nodes) x b → ((d : ℕ) → BindsAt (tb .nodes) x d → d ≡ b) → (u : ℕ) → InScopeOf (tb .nodes) x u →
-              InBody (tb .nodes) b u × (InRange (tb .nodes) b u → ⊥)
+              InBodyTree (tb .nodes) b u × (InRangeTree (tb .nodes) b u → ⊥)
           go b g same u (d, h, t) =
-              let s : InBody (tb .nodes) b u = subst (λ b. InBody (tb .nodes) b u) (same d h) t in (s, not-in-range b u g s)
+              let s : InBodyTree (tb .nodes) b u = subst (λ b. InBodyTree (tb .nodes) b u) (same d h) t in (s, not-in-range b u g s)
 
       from : WrittenFor (suc w) (tb .nodes) x → BindingRight (suc w) (binders (tb .nodes) x) (occursFree (tb .nodes) x (lastNode (tb .nodes)))
       from (b, g, same, f) = (binders-one (tb .nodes) x .1 (b, g, same), used-in-body .1 (λ u h. (b, g, f u h .0)))

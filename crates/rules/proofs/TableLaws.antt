@@ -133,8 +133,8 @@ tallest-below n h k e (m ∷ ms) b = ap₂ max (e m (b .0)) (tallest-below n h k
 occursIn-below : (tb : Table) (n x : ℕ) (b : Bool) (h k : ℕ → Bool) → ((m : ℕ) → m < n → h m ≡ k m) →
     (f : Field) (y : ℕ) → FieldRight tb n f y → occursIn x b h f y ≡ occursIn x b k f y
 occursIn-below tb n x b h k e unused y r = refl
-occursIn-below tb n x b h k e (child predicate) y r = ap (λ o. not b && o) (e y (r .0))
-occursIn-below tb n x b h k e (child expression) y r = e y (r .0)
+occursIn-below tb n x b h k e (child predicate) y r = rw (e y (r .0))
+occursIn-below tb n x b h k e (child expression) y r = rw (e y (r .0))
 occursIn-below tb n x b h k e use-of y r = refl
 occursIn-below tb n x b h k e binder-of y r = refl
 occursIn-below tb n x b h k e setNumber y r = refl

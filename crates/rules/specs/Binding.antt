@@ -39,15 +39,15 @@ BinderKind (some comprehension) = Unit {0}
 abbrev pub BindsAt : List Node → ℕ → ℕ → Type 0
 BindsAt ns x b = (b < length ns) × BinderKind (kindAt ns b) × (nodeAt ns b .a ≡ x)
 
-abbrev pub InRange : List Node → ℕ → ℕ → Type 0
-InRange ns b u = InTree ns (nodeAt ns b .b) u
+abbrev pub InRangeTree : List Node → ℕ → ℕ → Type 0
+InRangeTree ns b u = InTree ns (nodeAt ns b .b) u
 
-abbrev pub InBody : List Node → ℕ → ℕ → Type 0
-InBody ns b u = InTree ns (nodeAt ns b .c) u
+abbrev pub InBodyTree : List Node → ℕ → ℕ → Type 0
+InBodyTree ns b u = InTree ns (nodeAt ns b .c) u
 
 -- The node u stands in the scope of x: in the body of a binder of x.
 abbrev pub InScopeOf : List Node → ℕ → ℕ → Type 0
-InScopeOf ns x u = (b : ℕ) × BindsAt ns x b × InBody ns b u
+InScopeOf ns x u = (b : ℕ) × BindsAt ns x b × InBodyTree ns b u
 
 -- Each use of x does.
 abbrev pub UsedInBody : List Node → ℕ → Type 0
@@ -58,7 +58,7 @@ UsedInBody ns x = (u : ℕ) → UsesAt ns x u → InScopeOf ns x u
 abbrev pub WrittenFor : ℕ → List Node → ℕ → Type 0
 WrittenFor zero ns x = (b : ℕ) → BindsAt ns x b → ⊥
 WrittenFor (suc w) ns x =
-    (b : ℕ) × BindsAt ns x b × ((d : ℕ) → BindsAt ns x d → d ≡ b) × ((u : ℕ) → UsesAt ns x u → InBody ns b u × (InRange ns b u → ⊥))
+    (b : ℕ) × BindsAt ns x b × ((d : ℕ) → BindsAt ns x d → d ≡ b) × ((u : ℕ) → UsesAt ns x u → InBodyTree ns b u × (InRangeTree ns b u → ⊥))
 
 abbrev pub BindingWritten : Table → ℕ → Type 0
 BindingWritten tb x = WrittenFor (getD (tb .binds) x 0) (tb .nodes) x
