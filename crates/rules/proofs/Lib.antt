@@ -10,6 +10,7 @@ pub mod TypedTree
 pub mod SetTypes
 pub mod Soundness
 pub mod SetOrder
+pub mod Membership
 pub mod FormedLaws
 pub mod TypeLaws
 pub mod VerdictLaws
