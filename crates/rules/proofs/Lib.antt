@@ -11,6 +11,7 @@ pub mod SetTypes
 pub mod Soundness
 pub mod SetOrder
 pub mod Membership
+pub mod SetMeaning
 pub mod FormedLaws
 pub mod TypeLaws
 pub mod VerdictLaws

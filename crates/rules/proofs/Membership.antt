@@ -137,6 +137,11 @@ set-small (v ∷ vs) h = (h .0, set-small vs (h .1))
 pub small-sets : (ss : List (List Value)) → All (All Small) ss → All Small (map setOf ss)
 small-sets ss h = all-map (All Small) Small setOf (λ s k. set-small s k) ss h
 
+-- A set's members as a list, and back.
+pub values-members : (vs : Values) → values (members vs) ≡ vs
+values-members none = refl
+values-members (v ▸ vs) = ap (λ (ws : Values). v ▸ ws) (values-members vs)
+
 pub members-values : (vs : List Value) → members (values vs) ≡ vs
 members-values [] = refl
 members-values (v ∷ vs) = ap (λ (ws : List Value). v ∷ ws) (members-values vs)
