@@ -68,7 +68,7 @@ says-result nothing t u = tt
 says-result (some p) t u = refl
 
 -- An answer has Q.
-abbrev Ended : {A : Type 0} → (A → Type 0) → End A → Type 0
+abbrev pub Ended : {A : Type 0} → (A → Type 0) → End A → Type 0
 Ended Q (done a) = Q a
 Ended Q (refused k n) = Unit {0}
 
@@ -142,7 +142,7 @@ module _ (gs : List ℕ) where
   LeafRight boolSet a b = Unit {0}
 
   -- An environment of good values.
-  abbrev EnvGood : Env → Type 0
+  abbrev pub EnvGood : Env → Type 0
   EnvGood ρ = (x : ℕ) → Good (ρ x)
 
   -- An environment of good values with one more.
@@ -295,7 +295,7 @@ module _ (budget : ℕ) (gs : List ℕ) where
         quantify-forms gs j (λ w. holdsᵖ budget gs p (ρ with x ≔ w)) (elems v)
         (λ w hw. pred-forms p (ρ with x ≔ w) (h .1) (with-good gs ρ x w e hw)) (elems-good gs v hv)
 
-    expr-forms : (a : Expr) (ρ : Env) → Leavesᵉ gs a → EnvGood gs ρ → Forms gs (Good gs) (valueᵉ budget gs a ρ)
+    pub expr-forms : (a : Expr) (ρ : Env) → Leavesᵉ gs a → EnvGood gs ρ → Forms gs (Good gs) (valueᵉ budget gs a ρ)
     expr-forms (leafᵉ n j a b) ρ h e =
         bind gs Any (Good gs) (visit budget n) _ (visit-forms gs budget n) λ _ _.
         form-forms gs n (gives (leafValue gs j a b ρ)) (leaf-well-typed gs j a b ρ h e)
@@ -386,7 +386,7 @@ module _ (tb : Table) (r : Records tb) where
   mutual
     unfolding predAt
 
-    predAt-leaves : (f n : ℕ) → Leavesᵖ (tb .sizes) (predAt f (tb .nodes) n)
+    pub predAt-leaves : (f n : ℕ) → Leavesᵖ (tb .sizes) (predAt f (tb .nodes) n)
     predAt-leaves zero n = (tt, tt)
     predAt-leaves (suc f) n =
         predOf-leaves (tb .sizes) (kindAt (tb .nodes) n) n (nodeAt (tb .nodes) n)

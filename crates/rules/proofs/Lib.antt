@@ -13,6 +13,7 @@ pub mod SetOrder
 pub mod Membership
 pub mod SetMeaning
 pub mod FormedLaws
+pub mod ConditionMeaning
 pub mod TypeLaws
 pub mod VerdictLaws
 pub mod Rows

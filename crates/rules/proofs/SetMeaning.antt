@@ -125,7 +125,7 @@ LeafMeans sizes boolSet a b ρ = IsSetOf (λ x. (q : Bool) × (x ≡ truthValue 
 
 -- Sets and their members.
 
-set-of : (P : Value → Type 0) (xs : List Value) → Rising xs → ((x : Value) → In x xs ↔ P x) → IsSetOf P (setOf xs)
+pub set-of : (P : Value → Type 0) (xs : List Value) → Rising xs → ((x : Value) → In x xs ↔ P x) → IsSetOf P (setOf xs)
 set-of P xs h f = ((xs, refl, h), subst (λ (ys : List Value). (x : Value) → In x ys ↔ P x) (sym (members-values xs)) f)
 
 -- A well formed value of type POW(t) is a set.
@@ -150,7 +150,7 @@ set-only v w p q s =
     let j = included w v (q .0) (p .0) f e (λ x. s x .1) in
     p .1 ∙ ap setOf (same-members (p .0) (q .0) (p .2) (q .2) i j) ∙ sym (q .1)
 
-setOf-only : (P : Value → Type 0) (v w : Value) → IsSetOf P v → IsSetOf P w → v ≡ w
+pub setOf-only : (P : Value → Type 0) (v w : Value) → IsSetOf P v → IsSetOf P w → v ≡ w
 setOf-only P v w h k = set-only v w (h .0) (k .0) (λ x. (λ i. k .1 x .1 (h .1 x .0 i), λ i. h .1 x .1 (k .1 x .0 i)))
 
 -- 38: no member stands twice, so that the length of the list of members counts them.
