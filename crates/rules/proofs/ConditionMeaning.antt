@@ -244,13 +244,13 @@ module _ (budget : ℕ) (gs : List ℕ) (few : (g : ℕ) → getD gs g 0 ≤ 256
   abbrev ValueOf : Expr → Env → Value → Type 0
   ValueOf a ρ v = Good gs v × Denotes gs a ρ v
 
-  valued : (a : Expr) (ρ : Env) → Leavesᵉ gs a → EnvGood gs ρ → AnswerHas (Denotes gs a ρ) (valueᵉ budget gs a ρ) →
+  value-known : (a : Expr) (ρ : Env) → Leavesᵉ gs a → EnvGood gs ρ → AnswerHas (Denotes gs a ρ) (valueᵉ budget gs a ρ) →
       AnswerHas (ValueOf a ρ) (valueᵉ budget gs a ρ)
-  valued a ρ h e k s = ended-both (Good gs) (Denotes gs a ρ) (valueᵉ budget gs a ρ s .end) (expr-forms budget gs a ρ h e s .0) (k s)
+  value-known a ρ h e k s = ended-both (Good gs) (Denotes gs a ρ) (valueᵉ budget gs a ρ s .end) (expr-forms budget gs a ρ h e s .0) (k s)
 
   -- 6 to 9
-  tested : (n : ℕ) (j : Test) (a b : Expr) (ρ : Env) (v w : Value) → ValueOf a ρ v → ValueOf b ρ w → TruthOf (testᵖ n j a b) ρ (holds j v w)
-  tested n j a b ρ v w h k =
+  test-known : (n : ℕ) (j : Test) (a b : Expr) (ρ : Env) (v w : Value) → ValueOf a ρ v → ValueOf b ρ w → TruthOf (testᵖ n j a b) ρ (holds j v w)
+  test-known n j a b ρ v w h k =
       let m = test-means gs few j v w (good-wellFormed gs v (h .0)) (good-wellFormed gs w (k .0)) in
       (
         λ t. (v, w, h .1, k .1, m .0 t),
@@ -258,9 +258,9 @@ module _ (budget : ℕ) (gs : List ℕ) (few : (g : ℕ) → getD gs g 0 ≤ 256
       )
 
   -- 10 and 11
-  quantified : (n : ℕ) (j : Quant) (x : ℕ) (r : Expr) (p : Pred) (ρ : Env) (v : Value) → Denotes gs r ρ v → (b : Bool) →
+  quant-known : (n : ℕ) (j : Quant) (x : ℕ) (r : Expr) (p : Pred) (ρ : Env) (v : Value) → Denotes gs r ρ v → (b : Bool) →
       T b ↔ QuantMeans j (elems v) (λ w. Trueᵖ gs p (ρ with x ≔ w)) → TruthOf (quantᵖ n j x r p) ρ b
-  quantified n j x r p ρ v d b k = (
+  quant-known n j x r p ρ v d b k = (
     λ t. (v, d, k .0 t),
     λ y. k .1 (subst (λ (s : Value). QuantMeans j (elems s) (λ w. Trueᵖ gs p (ρ with x ≔ w))) (denotes-only gs r ρ (y .0) v (y .1) d) (y .2)),
   )
@@ -287,15 +287,15 @@ module _ (budget : ℕ) (gs : List ℕ) (few : (g : ℕ) → getD gs g 0 ≤ 256
         (λ t x. T-not a t (k .1 x), λ r. not-T a (λ t. r (k .0 t))))
     pred-means (testᵖ n j a b) ρ h e =
         visited-has (TruthOf (testᵖ n j a b) ρ) budget n _
-        (then-has (ValueOf a ρ) (TruthOf (testᵖ n j a b) ρ) (valueᵉ budget gs a ρ) _ (valued a ρ (h .0) e (value-means a ρ (h .0) e)) λ v x.
-        then-has (ValueOf b ρ) (TruthOf (testᵖ n j a b) ρ) (valueᵉ budget gs b ρ) _ (valued b ρ (h .1) e (value-means b ρ (h .1) e)) λ w y.
-        fitted-has (TruthOf (testᵖ n j a b) ρ) n (testRule j) (v ∷ w ∷ []) _ λ _ s. tested n j a b ρ v w x y)
+        (then-has (ValueOf a ρ) (TruthOf (testᵖ n j a b) ρ) (valueᵉ budget gs a ρ) _ (value-known a ρ (h .0) e (value-means a ρ (h .0) e)) λ v x.
+        then-has (ValueOf b ρ) (TruthOf (testᵖ n j a b) ρ) (valueᵉ budget gs b ρ) _ (value-known b ρ (h .1) e (value-means b ρ (h .1) e)) λ w y.
+        fitted-has (TruthOf (testᵖ n j a b) ρ) n (testRule j) (v ∷ w ∷ []) _ λ _ s. test-known n j a b ρ v w x y)
     pred-means (quantᵖ n j x r p) ρ h e =
         visited-has (TruthOf (quantᵖ n j x r p) ρ) budget n _
-        (then-has (ValueOf r ρ) (TruthOf (quantᵖ n j x r p) ρ) (valueᵉ budget gs r ρ) _ (valued r ρ (h .0) e (value-means r ρ (h .0) e)) λ v y.
+        (then-has (ValueOf r ρ) (TruthOf (quantᵖ n j x r p) ρ) (valueᵉ budget gs r ρ) _ (value-known r ρ (h .0) e (value-means r ρ (h .0) e)) λ v y.
         fitted-has (TruthOf (quantᵖ n j x r p) ρ) n quantRule (v ∷ []) _ λ _ s.
         ended-imp (λ b. T b ↔ QuantMeans j (elems v) (λ w. Trueᵖ gs p (ρ with x ≔ w))) (TruthOf (quantᵖ n j x r p) ρ)
-        (quantified n j x r p ρ v (y .1)) (quantify j (λ w. holdsᵖ budget gs p (ρ with x ≔ w)) (elems v) s .end)
+        (quant-known n j x r p ρ v (y .1)) (quantify j (λ w. holdsᵖ budget gs p (ρ with x ≔ w)) (elems v) s .end)
         (quantify-has j (λ w. holdsᵖ budget gs p (ρ with x ≔ w)) (λ w. Trueᵖ gs p (ρ with x ≔ w)) (elems v)
         (bodies p x ρ v e (y .0) (λ ρ₁ g. pred-means p ρ₁ (h .1) g)) s))
 
@@ -310,20 +310,20 @@ module _ (budget : ℕ) (gs : List ℕ) (few : (g : ℕ) → getD gs g 0 ≤ 256
         form-has n (gives (truthValue b)) (Denotes gs (boolᵉ n p) ρ) (λ v q. (b, sym (gives-eq (truthValue b) v q), k)))
     value-means (oneᵉ n j a) ρ h e =
         visited-has (Denotes gs (oneᵉ n j a) ρ) budget n _
-        (then-has (ValueOf a ρ) (Denotes gs (oneᵉ n j a) ρ) (valueᵉ budget gs a ρ) _ (valued a ρ h e (value-means a ρ h e)) λ v x.
+        (then-has (ValueOf a ρ) (Denotes gs (oneᵉ n j a) ρ) (valueᵉ budget gs a ρ) _ (value-known a ρ h e (value-means a ρ h e)) λ v x.
         fitted-has (Denotes gs (oneᵉ n j a) ρ) n (oneRule j) (v ∷ []) _ λ f.
         form-has n (oneValue j v) (Denotes gs (oneᵉ n j a) ρ)
         (λ r q. (v, x .1, subst (OneMeans j v) q (one-means gs few j v (good-wellFormed gs v (x .0)) f))))
     value-means (twoᵉ n j a b) ρ h e =
         visited-has (Denotes gs (twoᵉ n j a b) ρ) budget n _
-        (then-has (ValueOf a ρ) (Denotes gs (twoᵉ n j a b) ρ) (valueᵉ budget gs a ρ) _ (valued a ρ (h .0) e (value-means a ρ (h .0) e)) λ v x.
-        then-has (ValueOf b ρ) (Denotes gs (twoᵉ n j a b) ρ) (valueᵉ budget gs b ρ) _ (valued b ρ (h .1) e (value-means b ρ (h .1) e)) λ w y.
+        (then-has (ValueOf a ρ) (Denotes gs (twoᵉ n j a b) ρ) (valueᵉ budget gs a ρ) _ (value-known a ρ (h .0) e (value-means a ρ (h .0) e)) λ v x.
+        then-has (ValueOf b ρ) (Denotes gs (twoᵉ n j a b) ρ) (valueᵉ budget gs b ρ) _ (value-known b ρ (h .1) e (value-means b ρ (h .1) e)) λ w y.
         fitted-has (Denotes gs (twoᵉ n j a b) ρ) n (twoRule j) (v ∷ w ∷ []) _ λ f.
         form-has n (twoValue j v w) (Denotes gs (twoᵉ n j a b) ρ) (λ r q.
         (v, w, x .1, y .1, subst (TwoMeans j v w) q (two-means gs few j v w (good-wellFormed gs v (x .0)) (good-wellFormed gs w (y .0)) f))))
     value-means (comprehensionᵉ n x r p) ρ h e =
         visited-has (Denotes gs (comprehensionᵉ n x r p) ρ) budget n _
-        (then-has (ValueOf r ρ) (Denotes gs (comprehensionᵉ n x r p) ρ) (valueᵉ budget gs r ρ) _ (valued r ρ (h .0) e (value-means r ρ (h .0) e)) λ v y.
+        (then-has (ValueOf r ρ) (Denotes gs (comprehensionᵉ n x r p) ρ) (valueᵉ budget gs r ρ) _ (value-known r ρ (h .0) e (value-means r ρ (h .0) e)) λ v y.
         fitted-has (Denotes gs (comprehensionᵉ n x r p) ρ) n comprehensionRule (v ∷ []) _ λ _.
         then-has (Selected (λ w. Trueᵖ gs p (ρ with x ≔ w)) (elems v)) (Denotes gs (comprehensionᵉ n x r p) ρ)
         (select (λ w. holdsᵖ budget gs p (ρ with x ≔ w)) (elems v)) _

@@ -10,7 +10,7 @@ use native.Mathlib.Decide.{ℕ-discrete}
 use lib.IntN.{ℤ, pos, _+ℤ_, +ℤ-idr, +ℤ-assoc}
 use lib.Dec.{T}
 use Rattle.rules.specs.Values.{element, Value, scalar, pair, set, Values, none, _▸_, int, members, values, order, same}
-use Rattle.rules.specs.Operations.{elems, setOf, placed, insert, rising, isIn, allIn, keptValue, keep, pairsOf, subsets, upFrom, elementsFrom}
+use Rattle.rules.specs.Operations.{left, right, elems, setOf, placed, insert, rising, isIn, allIn, keptValue, keep, pairsOf, subsets, upFrom, elementsFrom}
 use Rattle.rules.proofs.Basics.{and-of, and-split}
 use Rattle.rules.proofs.OrderLaws.{Small, Smalls, order-eq, same-eq, same-refl, before-trans, before-irrefl}
 use Rattle.rules.proofs.SetOrder.{All, Before, Rising, all-imp, all-map, rising-all, subsets-all, subsets-rising}
@@ -120,7 +120,17 @@ same-members (v ∷ vs) (w ∷ ws) h k a b =
     go f (inr i) (inl e) = equal f (sym e)
     go f (inr i) (inr j) = absurd (before-irrefl v (before-trans v w v (all-in (Before v) w vs (h .0) j) (all-in (Before w) v ws (k .0) i)))
 
--- The members of small values, and the set of small values.
+-- The parts and members of small values, and the sets of small values.
+pub left-small : (v : Value) → Small v → Small (left v)
+left-small (scalar s) h = h
+left-small (pair v w) h = h .0
+left-small (set s) h = h
+
+pub right-small : (v : Value) → Small v → Small (right v)
+right-small (scalar s) h = h
+right-small (pair v w) h = h .1
+right-small (set s) h = h
+
 pub elems-small : (v : Value) → Small v → All Small (elems v)
 elems-small (scalar s) h = tt
 elems-small (pair v w) h = tt

@@ -34,7 +34,7 @@ use Rattle.rules.proofs.SetTypes.{AllHave, elems-have}
 use Rattle.rules.proofs.SetOrder.{All, Before, Rising, all-both, all-map, all-append, rising-rising, keep-rising}
 use Rattle.rules.proofs.SetOrder.{right-before, pairs-rising, up-rising, elements-rising, subsets-all, Well, elems-well}
 use Rattle.rules.proofs.Membership.{In, all-in, in-all, in-append, in-left, in-right, in-map, map-in, in-rising, rising-in, same-members}
-use Rattle.rules.proofs.Membership.{elems-small, small-sets, values-members, members-values, isIn-right, allIn-right, keep-in, pairs-in}
+use Rattle.rules.proofs.Membership.{left-small, right-small, elems-small, small-sets, values-members, members-values, isIn-right, allIn-right, keep-in, pairs-in}
 use Rattle.rules.proofs.Membership.{subsets-in, up-in, elements-in}
 
 -- The terms of the meanings.
@@ -47,7 +47,7 @@ x ∈ v = In x (elems v)
 abbrev pub _⊆_ : Value → Value → Type 0
 v ⊆ w = (x : Value) → x ∈ v → x ∈ w
 
--- A set: its members rise, so that none stands twice. The members alone decide which it is (`set-only`).
+-- A set: its members rise, so that none stands twice. The members alone decide which it is (`set-extensional`).
 abbrev pub SetValue : Value → Type 0
 SetValue v = (vs : List Value) × (v ≡ setOf vs) × Rising vs
 
@@ -142,8 +142,8 @@ included v w vs ws e f s =
     in-all (λ x. In x ws) vs (λ x i. subst (λ (l : List Value). In x l) f (s x (subst (λ (l : List Value). In x l) (sym e) i)))
 
 -- Two sets with the same members are equal.
-pub set-only : (v w : Value) → SetValue v → SetValue w → ((x : Value) → x ∈ v ↔ x ∈ w) → v ≡ w
-set-only v w p q s =
+pub set-extensional : (v w : Value) → SetValue v → SetValue w → ((x : Value) → x ∈ v ↔ x ∈ w) → v ≡ w
+set-extensional v w p q s =
     let e = elems-of v (p .0) (p .1) in
     let f = elems-of w (q .0) (q .1) in
     let i = included v w (p .0) (q .0) e f (λ x. s x .0) in
@@ -151,7 +151,7 @@ set-only v w p q s =
     p .1 ∙ ap setOf (same-members (p .0) (q .0) (p .2) (q .2) i j) ∙ sym (q .1)
 
 pub setOf-only : (P : Value → Type 0) (v w : Value) → IsSetOf P v → IsSetOf P w → v ≡ w
-setOf-only P v w h k = set-only v w (h .0) (k .0) (λ x. (λ i. k .1 x .1 (h .1 x .0 i), λ i. h .1 x .1 (k .1 x .0 i)))
+setOf-only P v w h k = set-extensional v w (h .0) (k .0) (λ x. (λ i. k .1 x .1 (h .1 x .0 i), λ i. h .1 x .1 (k .1 x .0 i)))
 
 -- 38: no member stands twice, so that the length of the list of members counts them.
 
@@ -293,24 +293,14 @@ ranged-means n i = go (inRange i) refl
     go false e = (refl, λ h. subst T e (bounds-right i .1 h))
 
 -- Sets of pairs: a value of type t × u is the pair of its parts.
-pair-parts : (t u : Ty) (x : Value) → HasType x (t ⊗ u) → x ≡ pair (left x) (right x)
-pair-parts t u (scalar s) h = absurd01 (cc)
-pair-parts t u (pair a b) h = refl
-pair-parts t u (set s) h = absurd h
+pair-of-parts : (t u : Ty) (x : Value) → HasType x (t ⊗ u) → x ≡ pair (left x) (right x)
+pair-of-parts t u (scalar s) h = absurd01 (cc)
+pair-of-parts t u (pair a b) h = refl
+pair-of-parts t u (set s) h = absurd h
 
 all-parts : (xs : List Value) (t u : Ty) → AllHave xs (t ⊗ u) → All (λ x. x ≡ pair (left x) (right x)) xs
 all-parts [] t u h = tt
-all-parts (x ∷ xs) t u h = (pair-parts t u x (h .0), all-parts xs t u (h .1))
-
-left-small : (v : Value) → Small v → Small (left v)
-left-small (scalar s) h = h
-left-small (pair v w) h = h .0
-left-small (set s) h = h
-
-right-small : (v : Value) → Small v → Small (right v)
-right-small (scalar s) h = h
-right-small (pair v w) h = h .1
-right-small (set s) h = h
+all-parts (x ∷ xs) t u h = (pair-of-parts t u x (h .0), all-parts xs t u (h .1))
 
 -- 35 and 36, for either part: f gives this part, g the other, and `both` makes the pair.
 module _ (f g : Value → Value) (both : Value → Value → Value) where
