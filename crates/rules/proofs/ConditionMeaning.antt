@@ -8,30 +8,29 @@ use mathlib.Core.List.{List, [], _∷_}
 use mathlib.Core.Logic.{_↔_, _⊎_, inl, inr}
 use mathlib.Core.Path.{_≡_, refl, sym, ap, _∙_, subst, subst₂}
 use native.Mathlib.Omega.{arith}
-use lib.Dec.{T, leb, T-not, not-T}
+use lib.Dec.{T, T-not, not-T}
 use lib.ListN.{getD, length}
-use Rattle.rules.specs.Values.{Value, truthValue, weight}
+use Rattle.rules.specs.Values.{Value, truthValue}
 use Rattle.rules.specs.Kinds.{Join, and, or, implies, iff, Test, Quant, forAll, forSome}
 use Rattle.rules.specs.Kinds.{Leaf, identifier, givenSet, elementOf, literal, truthConst, emptySet, boolSet}
 use Rattle.rules.specs.Rules.{Rule, testRule, oneRule, twoRule, quantRule, comprehensionRule}
-use Rattle.rules.specs.Fits.{Fits, fits}
+use Rattle.rules.specs.Fits.{Fits}
 use Rattle.rules.specs.Tables.{Table, Pred, joinᵖ, notᵖ, testᵖ, quantᵖ, Expr, leafᵉ, boolᵉ, oneᵉ, twoᵉ, comprehensionᵉ, lastNode, root}
 use Rattle.rules.specs.Ends.{End, done, refused}
 use Rattle.rules.specs.Reading.{reading}
 use Rattle.rules.specs.Readable.{Records}
-use Rattle.rules.specs.Cells.{weightLimit, noValue, valuesIn}
-use Rattle.rules.specs.Runs.{M, Trace, return, goOn, _>>=_, demand, visit, emit, form, _orElse_, Given, gives, lacks}
+use Rattle.rules.specs.Cells.{noValue, valuesIn}
+use Rattle.rules.specs.Runs.{M, return, _>>=_, visit, form, _orElse_, Given, gives}
 use Rattle.rules.specs.Operations.{elems, setOf, Env, _with_≔_, decides, joined, holds, leafValue, oneValue, twoValue}
 use Rattle.rules.specs.Evaluation.{fitting, quantify, select, holdsᵖ, valueᵉ, run, evaluation}
 use Rattle.rules.proofs.CellsLaws.{good-wellFormed, size-below}
 use Rattle.rules.proofs.ReadingLaws.{reading-table, reading-readable}
 use Rattle.rules.proofs.Soundness.{evaluation-run}
-use Rattle.rules.proofs.FitsLaws.{fits-right}
 use Rattle.rules.proofs.SetOrder.{All, Any, Before, Rising, all-imp, elems-well}
 use Rattle.rules.proofs.Membership.{In, all-in, in-all}
 use Rattle.rules.proofs.SetMeaning.{_∈_, IsSetOf, TestMeans, OneMeans, TwoMeans, LeafMeans}
 use Rattle.rules.proofs.SetMeaning.{set-of, setOf-only, test-means, one-means, two-means, leaf-means, one-only, two-only}
-use Rattle.rules.proofs.FormedLaws.{Ended, Good, EnvGood, Leavesᵖ, Leavesᵉ, elems-good, with-good, expr-forms, predAt-leaves, valuesIn-good}
+use Rattle.rules.proofs.FormedLaws.{Ended, Forms, bind, visit-forms, fitting-forms, given-forms, Good, EnvGood, Leavesᵖ, Leavesᵉ, elems-good, with-good, expr-forms, predAt-leaves, valuesIn-good}
 
 -- 1, 2, 3 and 5
 abbrev pub JoinMeans : Join → Type 0 → Type 0 → Type 0
@@ -98,18 +97,19 @@ module _ (sizes : List ℕ) where
       setOf-only (λ y. (y ∈ k .0) × Trueᵖ p (ρ with x ≔ y)) v w
       (subst (λ (s : Value). IsSetOf (λ y. (y ∈ s) × Trueᵖ p (ρ with x ≔ y)) v) q (h .2)) (k .2)
 
--- A run's answer, if it has one, has Q.
+-- The answer of a run, if it has one, has Q; the values formed do not matter.
 abbrev AnswerHas : {A : Type 0} → (A → Type 0) → M A → Type 0
-AnswerHas Q m = (s : ℕ) → Ended Q (m s .end)
+AnswerHas Q m = Forms Any Q m
 
-goOn-has : {A B : Type 0} (P : A → Type 0) (Q : B → Type 0) (e : End A) (s : ℕ) (tr : Trace) (f : A → M B) →
-    Ended P e → ((a : A) → P a → AnswerHas Q (f a)) → Ended Q (goOn e s tr f .end)
-goOn-has P Q (done a) s tr f h k = k a h s
-goOn-has P Q (refused r n) s tr f h k = tt
+visited-has : {B : Type 0} (Q : B → Type 0) (budget n : ℕ) (f : Unit {0} → M B) → AnswerHas Q (f tt) → AnswerHas Q (visit budget n >>= f)
+visited-has Q budget n f h = bind Any Any Q (visit budget n) f (visit-forms Any budget n) (λ _ _. h)
 
-then-has : {A B : Type 0} (P : A → Type 0) (Q : B → Type 0) (m : M A) (f : A → M B) →
-    AnswerHas P m → ((a : A) → P a → AnswerHas Q (f a)) → AnswerHas Q (m >>= f)
-then-has P Q m f h k s = goOn-has P Q (m s .end) (m s .steps) (m s .formed) f (h s) k
+fitted-has : {B : Type 0} (Q : B → Type 0) (n : ℕ) (r : Rule) (vs : List Value) (f : Unit {0} → M B) →
+    (Fits (r .takes) vs → AnswerHas Q (f tt)) → AnswerHas Q (fitting n r vs >>= f)
+fitted-has Q n r vs f h = bind Any (λ _. Fits (r .takes) vs) Q (fitting n r vs) f (fitting-forms Any n r vs) (λ _ k. h k)
+
+form-has : (n : ℕ) (g : Given) (Q : Value → Type 0) → ((v : Value) → g ≡ gives v → Q v) → AnswerHas Q (form n g)
+form-has n g Q h = given-forms Any Q n g (λ v e _. (h v e, tt))
 
 ended-both : {A : Type 0} (P Q : A → Type 0) (e : End A) → Ended P e → Ended Q e → Ended (λ a. P a × Q a) e
 ended-both P Q (done a) h k = (h, k)
@@ -119,46 +119,25 @@ ended-imp : {A : Type 0} (P Q : A → Type 0) → ((a : A) → P a → Q a) → 
 ended-imp P Q f (done a) h = f a h
 ended-imp P Q f (refused r n) h = tt
 
-any-has : {A : Type 0} (m : M A) → AnswerHas Any m
-any-has m s = go (m s .end)
-  where
-    go : {A : Type 0} (e : End A) → Ended Any e
-    go (done a) = tt
-    go (refused r n) = tt
-
--- What a visit, and operands that fit, leave to show.
-visited-has : {B : Type 0} (Q : B → Type 0) (budget n : ℕ) (f : Unit {0} → M B) → AnswerHas Q (f tt) → AnswerHas Q (visit budget n >>= f)
-visited-has Q budget n f h = then-has Any Q (visit budget n) f (any-has (visit budget n)) (λ _ _. h)
-
-fitted-has : {B : Type 0} (Q : B → Type 0) (n : ℕ) (r : Rule) (vs : List Value) (f : Unit {0} → M B) →
-    (Fits (r .takes) vs → AnswerHas Q (f tt)) → AnswerHas Q (fitting n r vs >>= f)
-fitted-has Q n r vs f h = go (fits (r .takes) vs) (fits-right (r .takes) vs .0)
-  where
-    go : (b : Bool) → (T b → Fits (r .takes) vs) → AnswerHas Q (demand b 15 n >>= f)
-    go true k = h (k tt)
-    go false k = λ s. tt
-
-form-has : (n : ℕ) (g : Given) (Q : Value → Type 0) → ((v : Value) → g ≡ gives v → Q v) → AnswerHas Q (form n g)
-form-has n (lacks r) Q h = λ s. tt
-form-has n (gives v) Q h =
-    then-has Any Q (demand (leb (weight v) weightLimit) 18 n) (λ _. emit n v) (any-has (demand (leb (weight v) weightLimit) 18 n)) (λ _ _ s. h v refl)
+imp-has : {A : Type 0} (P Q : A → Type 0) (m : M A) → ((a : A) → P a → Q a) → AnswerHas P m → AnswerHas Q m
+imp-has P Q m f h s = (ended-imp P Q f (m s .end) (h s .0), h s .1)
 
 -- 1, 2, 3 and 5: q is skipped only where p decides.
 join-has : (j : Join) (a : Bool) (P Q : Type 0) (m : M Bool) → (T a ↔ P) → AnswerHas (λ b. T b ↔ Q) m →
     AnswerHas (λ c. T c ↔ JoinMeans j P Q) (decides j a orElse (m >>= λ b. return (joined j a b)))
 join-has and true P Q m h k =
-    then-has (λ b. T b ↔ Q) (λ c. T c ↔ (P × Q)) m _ k (λ b q s. (λ t. (h .0 tt, q .0 t), λ r. q .1 (r .1)))
-join-has and false P Q m h k = λ s. (λ t. absurd t, λ r. h .1 (r .0))
-join-has or true P Q m h k = λ s. (λ t. inl (h .0 tt), λ r. tt)
-join-has or false P Q m h k = then-has (λ b. T b ↔ Q) (λ c. T c ↔ (P ⊎ Q)) m _ k (λ b q s. (λ t. inr (q .0 t), λ r. go b q r))
+    bind Any (λ b. T b ↔ Q) (λ c. T c ↔ (P × Q)) m _ k (λ b q s. ((λ t. (h .0 tt, q .0 t), λ r. q .1 (r .1)), tt))
+join-has and false P Q m h k = λ s. ((λ t. absurd t, λ r. h .1 (r .0)), tt)
+join-has or true P Q m h k = λ s. ((λ t. inl (h .0 tt), λ r. tt), tt)
+join-has or false P Q m h k = bind Any (λ b. T b ↔ Q) (λ c. T c ↔ (P ⊎ Q)) m _ k (λ b q s. ((λ t. inr (q .0 t), λ r. go b q r), tt))
   where
     go : (b : Bool) → (T b ↔ Q) → P ⊎ Q → T b
     go b q (inl p) = absurd (h .1 p)
     go b q (inr r) = q .1 r
 join-has implies true P Q m h k =
-    then-has (λ b. T b ↔ Q) (λ c. T c ↔ (P → Q)) m _ k (λ b q s. (λ t p. q .0 t, λ r. q .1 (r (h .0 tt))))
-join-has implies false P Q m h k = λ s. (λ t p. absurd (h .1 p), λ r. tt)
-join-has iff a P Q m h k = then-has (λ b. T b ↔ Q) (λ c. T c ↔ (P ↔ Q)) m _ k (λ b q s. go a b h q)
+    bind Any (λ b. T b ↔ Q) (λ c. T c ↔ (P → Q)) m _ k (λ b q s. ((λ t p. q .0 t, λ r. q .1 (r (h .0 tt))), tt))
+join-has implies false P Q m h k = λ s. ((λ t p. absurd (h .1 p), λ r. tt), tt)
+join-has iff a P Q m h k = bind Any (λ b. T b ↔ Q) (λ c. T c ↔ (P ↔ Q)) m _ k (λ b q s. (go a b h q, tt))
   where
     go : (a b : Bool) → (T a ↔ P) → (T b ↔ Q) → T (Bool·beq a b) ↔ (P ↔ Q)
     go true true p q = (λ t. (λ x. q .0 tt, λ y. p .0 tt), λ r. tt)
@@ -170,40 +149,36 @@ join-has iff a P Q m h k = then-has (λ b. T b ↔ Q) (λ c. T c ↔ (P ↔ Q)) 
 quantify-has : (j : Quant) (f : Value → M Bool) (P : Value → Type 0) (vs : List Value) → All (λ w. AnswerHas (λ b. T b ↔ P w) (f w)) vs →
     AnswerHas (λ b. T b ↔ QuantMeans j vs P) (quantify j f vs)
 unfolding quantify
-quantify-has forAll f P [] h = λ s. (λ t w i. absurd i, λ r. tt)
+quantify-has forAll f P [] h = λ s. ((λ t w i. absurd i, λ r. tt), tt)
 quantify-has forAll f P (v ∷ vs) h =
     let rest = quantify-has forAll f P vs (h .1) in
-    then-has (λ b. T b ↔ P v) (λ b. T b ↔ QuantMeans forAll (v ∷ vs) P) (f v) _ (h .0) (λ b q. go b q rest)
+    bind Any (λ b. T b ↔ P v) (λ b. T b ↔ QuantMeans forAll (v ∷ vs) P) (f v) _ (h .0) λ b q.
+    elim b as (λ c. T c ↔ P v → AnswerHas (λ b. T b ↔ QuantMeans forAll (v ∷ vs) P) (elim c [ true ↦ quantify forAll f vs | false ↦ return false ])) [
+      true ↦ λ x. imp-has (λ b. T b ↔ QuantMeans forAll vs P) (λ b. T b ↔ QuantMeans forAll (v ∷ vs) P) (quantify forAll f vs) (passed x) rest
+      | false ↦ λ x s. ((λ t. absurd t, λ r. x .1 (r v (inl refl))), tt)
+    ] q
   where
-    more : P v → QuantMeans forAll vs P → (w : Value) → (w ≡ v) ⊎ In w vs → P w
-    more p r w (inl e) = subst P (sym e) p
-    more p r w (inr i) = r w i
-
-    weaken : T true ↔ P v → (e : End Bool) → Ended (λ b. T b ↔ QuantMeans forAll vs P) e → Ended (λ b. T b ↔ QuantMeans forAll (v ∷ vs) P) e
-    weaken q (done b) k = (λ t. more (q .0 tt) (k .0 t), λ r. k .1 (λ w i. r w (inr i)))
-    weaken q (refused r n) k = tt
-
-    go : (b : Bool) → T b ↔ P v → AnswerHas (λ c. T c ↔ QuantMeans forAll vs P) (quantify forAll f vs) →
-        AnswerHas (λ c. T c ↔ QuantMeans forAll (v ∷ vs) P) (elim b [ true ↦ quantify forAll f vs | false ↦ return false ])
-    go true q rest = λ s. weaken q (quantify forAll f vs s .end) (rest s)
-    go false q rest = λ s. (λ t. absurd t, λ r. q .1 (r v (inl refl)))
-quantify-has forSome f P [] h = λ s. (λ t. absurd t, λ r. r .1)
+    passed : T true ↔ P v → (b : Bool) → T b ↔ QuantMeans forAll vs P → T b ↔ QuantMeans forAll (v ∷ vs) P
+    passed q b k = (λ t w i. go (k .0 t) w i, λ r. k .1 (λ w i. r w (inr i)))
+      where
+        go : QuantMeans forAll vs P → (w : Value) → (w ≡ v) ⊎ In w vs → P w
+        go r w (inl e) = subst P (sym e) (q .0 tt)
+        go r w (inr i) = r w i
+quantify-has forSome f P [] h = λ s. ((λ t. absurd t, λ r. r .1), tt)
 quantify-has forSome f P (v ∷ vs) h =
     let rest = quantify-has forSome f P vs (h .1) in
-    then-has (λ b. T b ↔ P v) (λ b. T b ↔ QuantMeans forSome (v ∷ vs) P) (f v) _ (h .0) (λ b q. go b q rest)
+    bind Any (λ b. T b ↔ P v) (λ b. T b ↔ QuantMeans forSome (v ∷ vs) P) (f v) _ (h .0) λ b q.
+    elim b as (λ c. T c ↔ P v → AnswerHas (λ b. T b ↔ QuantMeans forSome (v ∷ vs) P) (elim c [ true ↦ return true | false ↦ quantify forSome f vs ])) [
+      true ↦ λ x s. ((λ t. (v, inl refl, x .0 tt), λ r. tt), tt)
+      | false ↦ λ x. imp-has (λ b. T b ↔ QuantMeans forSome vs P) (λ b. T b ↔ QuantMeans forSome (v ∷ vs) P) (quantify forSome f vs) (passed x) rest
+    ] q
   where
-    less : (P v → ⊥) → (w : Value) → (w ≡ v) ⊎ In w vs → P w → QuantMeans forSome vs P
-    less n w (inl e) p = absurd (n (subst P e p))
-    less n w (inr i) p = (w, i, p)
-
-    weaken : T false ↔ P v → (e : End Bool) → Ended (λ b. T b ↔ QuantMeans forSome vs P) e → Ended (λ b. T b ↔ QuantMeans forSome (v ∷ vs) P) e
-    weaken q (done b) k = (λ t. let r = k .0 t in (r .0, inr (r .1), r .2), λ r. k .1 (less (λ p. q .1 p) (r .0) (r .1) (r .2)))
-    weaken q (refused r n) k = tt
-
-    go : (b : Bool) → T b ↔ P v → AnswerHas (λ c. T c ↔ QuantMeans forSome vs P) (quantify forSome f vs) →
-        AnswerHas (λ c. T c ↔ QuantMeans forSome (v ∷ vs) P) (elim b [ true ↦ return true | false ↦ quantify forSome f vs ])
-    go true q rest = λ s. (λ t. (v, inl refl, q .0 tt), λ r. tt)
-    go false q rest = λ s. weaken q (quantify forSome f vs s .end) (rest s)
+    passed : T false ↔ P v → (b : Bool) → T b ↔ QuantMeans forSome vs P → T b ↔ QuantMeans forSome (v ∷ vs) P
+    passed q b k = (λ t. let r = k .0 t in (r .0, inr (r .1), r .2), λ r. k .1 (go (r .0) (r .1) (r .2)))
+      where
+        go : (w : Value) → (w ≡ v) ⊎ In w vs → P w → QuantMeans forSome vs P
+        go w (inl e) p = absurd (q .1 (subst P e p))
+        go w (inr i) p = (w, i, p)
 
 -- 34: the members at which the body is true, rising as the range does.
 abbrev Selected : (Value → Type 0) → List Value → List Value → Type 0
@@ -212,14 +187,16 @@ Selected P vs ws = Rising ws × ((w : Value) → In w ws ↔ (In w vs × P w))
 select-has : (f : Value → M Bool) (P : Value → Type 0) (vs : List Value) → Rising vs → All (λ w. AnswerHas (λ b. T b ↔ P w) (f w)) vs →
     AnswerHas (Selected P vs) (select f vs)
 unfolding select
-select-has f P [] r h = λ s. (tt, λ w. (λ i. absurd i, λ k. k .0))
+select-has f P [] r h = λ s. ((tt, λ w. (λ i. absurd i, λ k. k .0)), tt)
 select-has f P (v ∷ vs) r h =
-    then-has (λ b. T b ↔ P v) (Selected P (v ∷ vs)) (f v) _ (h .0) λ b q.
-    then-has (Selected P vs) (Selected P (v ∷ vs)) (select f vs) _ (select-has f P vs (r .1) (h .1)) λ ws k. go b q ws k
+    bind Any (λ b. T b ↔ P v) (Selected P (v ∷ vs)) (f v) _ (h .0) λ b q.
+    bind Any (Selected P vs) (Selected P (v ∷ vs)) (select f vs) _ (select-has f P vs (r .1) (h .1)) λ ws k. go b q ws k
   where
     go : (b : Bool) → T b ↔ P v → (ws : List Value) → Selected P vs ws →
         AnswerHas (Selected P (v ∷ vs)) (elim b [ true ↦ return (v ∷ ws) | false ↦ return ws ])
-    go true q ws k = λ s. ((in-all (Before v) ws (λ w i. all-in (Before v) w vs (r .0) (k .1 w .0 i .0)), k .0), λ w. (there w, λ x. back w (x .0) (x .1)))
+    go true q ws k =
+        let l = in-all (Before v) ws (λ w i. all-in (Before v) w vs (r .0) (k .1 w .0 i .0)) in
+        λ s. (((l, k .0), λ w. (there w, λ x. back w (x .0) (x .1))), tt)
       where
         there : (w : Value) → (w ≡ v) ⊎ In w ws → ((w ≡ v) ⊎ In w vs) × P w
         there w (inl e) = (inl e, subst P (sym e) (q .0 tt))
@@ -228,7 +205,7 @@ select-has f P (v ∷ vs) r h =
         back : (w : Value) → (w ≡ v) ⊎ In w vs → P w → (w ≡ v) ⊎ In w ws
         back w (inl e) p = inl e
         back w (inr i) p = inr (k .1 w .1 (i, p))
-    go false q ws k = λ s. (k .0, λ w. (λ i. let x = k .1 w .0 i in (inr (x .0), x .1), λ x. back w (x .0) (x .1)))
+    go false q ws k = λ s. ((k .0, λ w. (λ i. let x = k .1 w .0 i in (inr (x .0), x .1), λ x. back w (x .0) (x .1))), tt)
       where
         back : (w : Value) → (w ≡ v) ⊎ In w vs → P w → In w ws
         back w (inl e) p = absurd (q .1 (subst P e p))
@@ -246,7 +223,8 @@ module _ (budget : ℕ) (gs : List ℕ) (few : (g : ℕ) → getD gs g 0 ≤ 256
 
   value-known : (a : Expr) (ρ : Env) → Leavesᵉ gs a → EnvGood gs ρ → AnswerHas (Denotes gs a ρ) (valueᵉ budget gs a ρ) →
       AnswerHas (ValueOf a ρ) (valueᵉ budget gs a ρ)
-  value-known a ρ h e k s = ended-both (Good gs) (Denotes gs a ρ) (valueᵉ budget gs a ρ s .end) (expr-forms budget gs a ρ h e s .0) (k s)
+  value-known a ρ h e k s =
+      (ended-both (Good gs) (Denotes gs a ρ) (valueᵉ budget gs a ρ s .end) (expr-forms budget gs a ρ h e s .0) (k s .0), k s .1)
 
   -- 6 to 9
   test-known : (n : ℕ) (j : Test) (a b : Expr) (ρ : Env) (v w : Value) → ValueOf a ρ v → ValueOf b ρ w → TruthOf (testᵖ n j a b) ρ (holds j v w)
@@ -279,25 +257,25 @@ module _ (budget : ℕ) (gs : List ℕ) (few : (g : ℕ) → getD gs g 0 ≤ 256
     pub pred-means : (p : Pred) (ρ : Env) → Leavesᵖ gs p → EnvGood gs ρ → AnswerHas (TruthOf p ρ) (holdsᵖ budget gs p ρ)
     pred-means (joinᵖ n j p q) ρ h e =
         visited-has (TruthOf (joinᵖ n j p q) ρ) budget n _
-        (then-has (TruthOf p ρ) (TruthOf (joinᵖ n j p q) ρ) (holdsᵖ budget gs p ρ) _ (pred-means p ρ (h .0) e) λ a k.
+        (bind Any (TruthOf p ρ) (TruthOf (joinᵖ n j p q) ρ) (holdsᵖ budget gs p ρ) _ (pred-means p ρ (h .0) e) λ a k.
         join-has j a (Trueᵖ gs p ρ) (Trueᵖ gs q ρ) (holdsᵖ budget gs q ρ) k (pred-means q ρ (h .1) e))
     pred-means (notᵖ n p) ρ h e =
         visited-has (TruthOf (notᵖ n p) ρ) budget n _
-        (then-has (TruthOf p ρ) (TruthOf (notᵖ n p) ρ) (holdsᵖ budget gs p ρ) _ (pred-means p ρ h e) λ a k s.
-        (λ t x. T-not a t (k .1 x), λ r. not-T a (λ t. r (k .0 t))))
+        (bind Any (TruthOf p ρ) (TruthOf (notᵖ n p) ρ) (holdsᵖ budget gs p ρ) _ (pred-means p ρ h e) λ a k s.
+        ((λ t x. T-not a t (k .1 x), λ r. not-T a (λ t. r (k .0 t))), tt))
     pred-means (testᵖ n j a b) ρ h e =
         visited-has (TruthOf (testᵖ n j a b) ρ) budget n _
-        (then-has (ValueOf a ρ) (TruthOf (testᵖ n j a b) ρ) (valueᵉ budget gs a ρ) _ (value-known a ρ (h .0) e (value-means a ρ (h .0) e)) λ v x.
-        then-has (ValueOf b ρ) (TruthOf (testᵖ n j a b) ρ) (valueᵉ budget gs b ρ) _ (value-known b ρ (h .1) e (value-means b ρ (h .1) e)) λ w y.
-        fitted-has (TruthOf (testᵖ n j a b) ρ) n (testRule j) (v ∷ w ∷ []) _ λ _ s. test-known n j a b ρ v w x y)
+        (bind Any (ValueOf a ρ) (TruthOf (testᵖ n j a b) ρ) (valueᵉ budget gs a ρ) _ (value-known a ρ (h .0) e (value-means a ρ (h .0) e)) λ v x.
+        bind Any (ValueOf b ρ) (TruthOf (testᵖ n j a b) ρ) (valueᵉ budget gs b ρ) _ (value-known b ρ (h .1) e (value-means b ρ (h .1) e)) λ w y.
+        fitted-has (TruthOf (testᵖ n j a b) ρ) n (testRule j) (v ∷ w ∷ []) _ λ _ s. (test-known n j a b ρ v w x y, tt))
     pred-means (quantᵖ n j x r p) ρ h e =
         visited-has (TruthOf (quantᵖ n j x r p) ρ) budget n _
-        (then-has (ValueOf r ρ) (TruthOf (quantᵖ n j x r p) ρ) (valueᵉ budget gs r ρ) _ (value-known r ρ (h .0) e (value-means r ρ (h .0) e)) λ v y.
-        fitted-has (TruthOf (quantᵖ n j x r p) ρ) n quantRule (v ∷ []) _ λ _ s.
-        ended-imp (λ b. T b ↔ QuantMeans j (elems v) (λ w. Trueᵖ gs p (ρ with x ≔ w))) (TruthOf (quantᵖ n j x r p) ρ)
-        (quant-known n j x r p ρ v (y .1)) (quantify j (λ w. holdsᵖ budget gs p (ρ with x ≔ w)) (elems v) s .end)
+        (bind Any (ValueOf r ρ) (TruthOf (quantᵖ n j x r p) ρ) (valueᵉ budget gs r ρ) _ (value-known r ρ (h .0) e (value-means r ρ (h .0) e)) λ v y.
+        fitted-has (TruthOf (quantᵖ n j x r p) ρ) n quantRule (v ∷ []) _ λ _.
+        imp-has (λ b. T b ↔ QuantMeans j (elems v) (λ w. Trueᵖ gs p (ρ with x ≔ w))) (TruthOf (quantᵖ n j x r p) ρ)
+        (quantify j (λ w. holdsᵖ budget gs p (ρ with x ≔ w)) (elems v)) (quant-known n j x r p ρ v (y .1))
         (quantify-has j (λ w. holdsᵖ budget gs p (ρ with x ≔ w)) (λ w. Trueᵖ gs p (ρ with x ≔ w)) (elems v)
-        (bodies p x ρ v e (y .0) (λ ρ₁ g. pred-means p ρ₁ (h .1) g)) s))
+        (bodies p x ρ v e (y .0) (λ ρ₁ g. pred-means p ρ₁ (h .1) g))))
 
     pub value-means : (a : Expr) (ρ : Env) → Leavesᵉ gs a → EnvGood gs ρ → AnswerHas (Denotes gs a ρ) (valueᵉ budget gs a ρ)
     value-means (leafᵉ n j a b) ρ h e =
@@ -306,26 +284,26 @@ module _ (budget : ℕ) (gs : List ℕ) (few : (g : ℕ) → getD gs g 0 ≤ 256
         (λ v q. subst (LeafMeans gs j a b ρ) (gives-eq (leafValue gs j a b ρ) v q) (leaf-means gs j a b ρ)))
     value-means (boolᵉ n p) ρ h e =
         visited-has (Denotes gs (boolᵉ n p) ρ) budget n _
-        (then-has (TruthOf p ρ) (Denotes gs (boolᵉ n p) ρ) (holdsᵖ budget gs p ρ) _ (pred-means p ρ h e) λ b k.
+        (bind Any (TruthOf p ρ) (Denotes gs (boolᵉ n p) ρ) (holdsᵖ budget gs p ρ) _ (pred-means p ρ h e) λ b k.
         form-has n (gives (truthValue b)) (Denotes gs (boolᵉ n p) ρ) (λ v q. (b, sym (gives-eq (truthValue b) v q), k)))
     value-means (oneᵉ n j a) ρ h e =
         visited-has (Denotes gs (oneᵉ n j a) ρ) budget n _
-        (then-has (ValueOf a ρ) (Denotes gs (oneᵉ n j a) ρ) (valueᵉ budget gs a ρ) _ (value-known a ρ h e (value-means a ρ h e)) λ v x.
+        (bind Any (ValueOf a ρ) (Denotes gs (oneᵉ n j a) ρ) (valueᵉ budget gs a ρ) _ (value-known a ρ h e (value-means a ρ h e)) λ v x.
         fitted-has (Denotes gs (oneᵉ n j a) ρ) n (oneRule j) (v ∷ []) _ λ f.
         form-has n (oneValue j v) (Denotes gs (oneᵉ n j a) ρ)
         (λ r q. (v, x .1, subst (OneMeans j v) q (one-means gs few j v (good-wellFormed gs v (x .0)) f))))
     value-means (twoᵉ n j a b) ρ h e =
         visited-has (Denotes gs (twoᵉ n j a b) ρ) budget n _
-        (then-has (ValueOf a ρ) (Denotes gs (twoᵉ n j a b) ρ) (valueᵉ budget gs a ρ) _ (value-known a ρ (h .0) e (value-means a ρ (h .0) e)) λ v x.
-        then-has (ValueOf b ρ) (Denotes gs (twoᵉ n j a b) ρ) (valueᵉ budget gs b ρ) _ (value-known b ρ (h .1) e (value-means b ρ (h .1) e)) λ w y.
+        (bind Any (ValueOf a ρ) (Denotes gs (twoᵉ n j a b) ρ) (valueᵉ budget gs a ρ) _ (value-known a ρ (h .0) e (value-means a ρ (h .0) e)) λ v x.
+        bind Any (ValueOf b ρ) (Denotes gs (twoᵉ n j a b) ρ) (valueᵉ budget gs b ρ) _ (value-known b ρ (h .1) e (value-means b ρ (h .1) e)) λ w y.
         fitted-has (Denotes gs (twoᵉ n j a b) ρ) n (twoRule j) (v ∷ w ∷ []) _ λ f.
         form-has n (twoValue j v w) (Denotes gs (twoᵉ n j a b) ρ) (λ r q.
         (v, w, x .1, y .1, subst (TwoMeans j v w) q (two-means gs few j v w (good-wellFormed gs v (x .0)) (good-wellFormed gs w (y .0)) f))))
     value-means (comprehensionᵉ n x r p) ρ h e =
         visited-has (Denotes gs (comprehensionᵉ n x r p) ρ) budget n _
-        (then-has (ValueOf r ρ) (Denotes gs (comprehensionᵉ n x r p) ρ) (valueᵉ budget gs r ρ) _ (value-known r ρ (h .0) e (value-means r ρ (h .0) e)) λ v y.
+        (bind Any (ValueOf r ρ) (Denotes gs (comprehensionᵉ n x r p) ρ) (valueᵉ budget gs r ρ) _ (value-known r ρ (h .0) e (value-means r ρ (h .0) e)) λ v y.
         fitted-has (Denotes gs (comprehensionᵉ n x r p) ρ) n comprehensionRule (v ∷ []) _ λ _.
-        then-has (Selected (λ w. Trueᵖ gs p (ρ with x ≔ w)) (elems v)) (Denotes gs (comprehensionᵉ n x r p) ρ)
+        bind Any (Selected (λ w. Trueᵖ gs p (ρ with x ≔ w)) (elems v)) (Denotes gs (comprehensionᵉ n x r p) ρ)
         (select (λ w. holdsᵖ budget gs p (ρ with x ≔ w)) (elems v)) _
         (select-has (λ w. holdsᵖ budget gs p (ρ with x ≔ w)) (λ w. Trueᵖ gs p (ρ with x ≔ w)) (elems v)
         (elems-well gs v (good-wellFormed gs v (y .0)) .1) (bodies p x ρ v e (y .0) (λ ρ₁ g. pred-means p ρ₁ (h .1) g))) λ ws k.
@@ -343,5 +321,5 @@ evaluation-means bs buffer budget tb vs b e f a =
     let few : (g : ℕ) → getD (tb .sizes) g 0 ≤ 256 = size-below (tb .sizes) 256 (λ g l. omega (arith, r .sizes g l .1)) in
     let c : run tb vs budget .end ≡ done b = rw (evaluation-run bs buffer budget tb vs e f) at a in
     let k = pred-means budget (tb .sizes) few (root tb) (λ x. getD vs x noValue)
-        (predAt-leaves tb r (length (tb .nodes)) (lastNode (tb .nodes))) (valuesIn-good tb buffer vs f) 0 in
+        (predAt-leaves tb r (length (tb .nodes)) (lastNode (tb .nodes))) (valuesIn-good tb buffer vs f) 0 .0 in
     rw c at k
