@@ -1,8 +1,8 @@
--- Document 01, "Values and evaluation": operations have their set meaning; choice gives the least member; f(e) is the least u with
--- (e,u) in f; an interval with e above f is empty. For each kind, by clauses: what its operands say of the truth that a test has
--- (`TestMeans`) and of the value that an operation gives (`OneMeans`, `TwoMeans`, `LeafMeans`), in terms of membership alone.
--- `test-means`, `one-means`, `two-means` and `leaf-means` say that the definitions of specs/Operations.antt have these meanings,
--- `one-only` and `two-only` that nothing else has them.
+-- Document 01, "Values and evaluation": the operations' meaning for sets, with choice, application and intervals. For each kind, by
+-- clauses: what its operands say of the truth that a test has (`TestMeans`) and of the value that an operation gives (`OneMeans`,
+-- `TwoMeans`, `LeafMeans`), by membership alone. `test-means`, `one-means`, `two-means` and `leaf-means` say that the definitions of
+-- specs/Operations.antt have these meanings, `one-only` and `two-only` that nothing else has them. ConditionMeaning.antt joins them
+-- to the meaning of a whole condition.
 --
 -- The operands are well formed and fit the kind's rule. Every value that an evaluation forms is well formed (FormedLaws.evaluation-good,
 -- CellsLaws.good-wellFormed), and what does not fit is refused by 15. No given set has over 256 elements (`few`), as refusal 4 sees to.
@@ -153,6 +153,14 @@ set-extensional v w p q s =
 pub setOf-only : (P : Value → Type 0) (v w : Value) → IsSetOf P v → IsSetOf P w → v ≡ w
 setOf-only P v w h k = set-extensional v w (h .0) (k .0) (λ x. (λ i. k .1 x .1 (h .1 x .0 i), λ i. h .1 x .1 (k .1 x .0 i)))
 
+-- 27: a list of one value
+one-in : (v x : Value) → In x (v ∷ []) ↔ (x ≡ v)
+one-in v x = (λ i. go i, λ e. inl e)
+  where
+    go : (x ≡ v) ⊎ ⊥ → x ≡ v
+    go (inl e) = e
+    go (inr i) = absurd i
+
 -- 38: no member stands twice, so that the length of the list of members counts them.
 
 rising-distinct : (vs : List Value) → Rising vs → Distinct vs
@@ -195,9 +203,9 @@ count-only v n m h k =
     let b = distinct-length (k .0) (h .0) (k .1) (λ x i. h .2 x .1 (k .2 x .0 i)) in
     omega (arith, a, b, h .3, k .3)
 
--- 41: i ≤ j where j is i and a natural number.
+-- 41: i ≤ j exactly where j is i plus a natural number (`le-plus`, `le-distance`).
 
-le-plus : (i : ℤ) (m : ℕ) → i ≤ℤ (i +ℤ pos m)
+pub le-plus : (i : ℤ) (m : ℕ) → i ≤ℤ (i +ℤ pos m)
 le-plus (pos a) m = leZ-yes (le→leb a (a + m) (omega arith))
 le-plus (negsuc a) m = leZ-yes (go (ltb m (suc a)))
   where
@@ -205,7 +213,7 @@ le-plus (negsuc a) m = leZ-yes (go (ltb m (suc a)))
     go true = le→leb (suc a - suc m) a (omega arith)
     go false = tt
 
-le-distance : (i j : ℤ) → i ≤ℤ j → (m : ℕ) × (j ≡ i +ℤ pos m)
+pub le-distance : (i j : ℤ) → i ≤ℤ j → (m : ℕ) × (j ≡ i +ℤ pos m)
 le-distance (pos a) (pos b) h = (b - a, ap pos (omega (arith, leb→le a b (h .le))))
 le-distance (pos a) (negsuc b) h = absurd (h .le)
 le-distance (negsuc a) (pos b) h = (b + suc a, go (ltb (b + suc a) (suc a)) refl)
@@ -219,6 +227,7 @@ le-distance (negsuc a) (negsuc b) h = (a - b, go (ltb (a - b) (suc a)) refl)
     go true e = ap negsuc (omega (arith, leb→le b a (h .le)))
     go false e = absurd (omega (arith, nltb→le (a - b) (suc a) (rw e tt)))
 
+-- where i + m does not exceed d + i, d is m plus a natural number
 distance : (d i : ℤ) (m : ℕ) → (i +ℤ pos m) ≤ℤ (d +ℤ i) → (k : ℕ) × (d ≡ pos (m + k))
 distance d i m h =
     let q = le-distance (i +ℤ pos m) (d +ℤ i) h in
@@ -308,7 +317,8 @@ module _ (f g : Value → Value) (both : Value → Value → Value) where
       In a (map f xs) ↔ ((b : Value) × In (both a b) xs)
   part-in p a xs h = (
     λ i. let m = map-in f a xs i in
-        (g (m .0), subst (λ (x : Value). In x xs) (all-in (λ x. x ≡ both (f x) (g x)) (m .0) xs h (m .2) ∙ ap (λ y. both y (g (m .0))) (sym (m .1))) (m .2)),
+        let e = all-in (λ x. x ≡ both (f x) (g x)) (m .0) xs h (m .2) ∙ ap (λ y. both y (g (m .0))) (sym (m .1)) in
+        (g (m .0), subst (λ (x : Value). In x xs) e (m .2)),
     λ k. subst (λ (x : Value). In x (map f xs)) (p a (k .0)) (in-map f (both a (k .0)) xs (k .1)),
   )
 
@@ -337,13 +347,15 @@ module _ (gs : List ℕ) (few : (g : ℕ) → getD gs g 0 ≤ 256) where
       (λ t x i. all-in (λ y. y ∈ w) x (elems v) (r .0 t) i, λ s. r .1 (in-all (λ y. y ∈ w) (elems v) s))
   test-means (atMost n) v w h k = (λ t. leZ-yes t, λ l. l .le)
 
-  -- 27: a list of one value
-  one-in : (v x : Value) → In x (v ∷ []) ↔ (x ≡ v)
-  one-in v x = (λ i. go i, λ e. inl e)
-    where
-      go : (x ≡ v) ⊎ ⊥ → x ≡ v
-      go (inl e) = e
-      go (inr i) = absurd i
+  -- 6, for sets: they are equal where they have the same members.
+  pub equal-sets : (v w : Value) (t u : Ty) → Well gs v → Well gs w → HasType v (POW t) → HasType w (POW u) →
+      T (holds equal v w) ↔ ((x : Value) → x ∈ v ↔ x ∈ w)
+  equal-sets v w t u h k a b =
+      let m = test-means equal v w h k in
+      (
+        λ q x. subst (λ (z : Value). x ∈ v ↔ x ∈ z) (m .0 q) (λ i. i, λ i. i),
+        λ q. m .1 (set-extensional v w (well-set gs v t h a) (well-set gs w u k b) q),
+      )
 
   -- 33: the sublists of the members are the rising lists of members.
   power-in : (v : Value) → Well gs v → (s : Value) → In s (rising (map setOf (subsets (elems v)))) ↔ (SetValue s × s ⊆ v)
