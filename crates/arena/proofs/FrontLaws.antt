@@ -29,10 +29,6 @@ pub single : (v : Value) → codes (v ▸ none) ≡ code v
 unfolding code
 single v = append-nil (code v)
 
-pub values-members : (vs : Values) → values (members vs) ≡ vs
-values-members none = refl
-values-members (v ▸ vs) = ap (λ (ws : Values). v ▸ ws) (values-members vs)
-
 -- The members of a set that rises rise, and are small.
 pub rises-rising : (vs : Values) → Rises vs → Rising (members vs)
 rises-rising none h = tt

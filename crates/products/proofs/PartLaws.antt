@@ -10,7 +10,8 @@ use lib.Dec.{T, isEq}
 use Rattle.rules.specs.Values.{Value, scalar, pair, set, Values, none, _▸_, members, values, weight, weights, order, same, _then_}
 use Rattle.rules.specs.Operations.{left, right, placed, insert, rising}
 use Rattle.rules.proofs.OrderLaws.{flip, Small, order-flip, order-eq, order-pair, before-order, before-trans, before-irrefl}
-use Rattle.rules.proofs.SetOrder.{All, Before, Rising, all-imp, all-append, rising-all, rising-rising}
+use Rattle.rules.proofs.SetOrder.{All, Before, Rising, all-imp, all-append, rising-rising}
+use Rattle.rules.proofs.Membership.{In, all-in, in-append, in-left, in-right, in-rising, rising-in}
 use Rattle.products.specs.Parts.{isLast, isAbove, isBelow, lesser, choose}
 
 -- The weight and the number of members of a rising list.
@@ -152,76 +153,6 @@ then-notGt Ordering·gt p e = let z : _≡_ {A = ℕ} 0 1 = cc in absurd (omega 
 
 pub before-lefts : (a b c d : Value) → Before (pair a b) (pair c d) → NotGt (order a c)
 before-lefts a b c d h = then-notGt (order a c) (order b d) (sym (order-pair a b c d) ∙ before-order (pair a b) (pair c d) h)
-
--- Membership.
-abbrev pub In : {A : Type 0} → A → List A → Type 0
-In x [] = ⊥
-In x (y ∷ ys) = (x ≡ y) ⊎ In x ys
-
-module _ {A : Type 0} where
-  pub all-in : (P : A → Type 0) (x : A) (ys : List A) → All P ys → In x ys → P x
-  all-in P x [] h i = absurd i
-  all-in P x (y ∷ ys) h (inl e) = subst P (sym e) (h .0)
-  all-in P x (y ∷ ys) h (inr i) = all-in P x ys (h .1) i
-
-  pub all-self : (ys : List A) → All (λ x. In x ys) ys
-  all-self [] = tt
-  all-self (y ∷ ys) = (inl refl, all-imp (λ x. In x ys) (λ x. In x (y ∷ ys)) (λ x h. inr h) ys (all-self ys))
-
-  pub in-append : (x : A) (ys zs : List A) → In x (ys ++ zs) → In x ys ⊎ In x zs
-  in-append x [] zs i = inr i
-  in-append x (y ∷ ys) zs (inl e) = inl (inl e)
-  in-append x (y ∷ ys) zs (inr i) = go (in-append x ys zs i)
-    where
-      go : In x ys ⊎ In x zs → ((x ≡ y) ⊎ In x ys) ⊎ In x zs
-      go (inl h) = inl (inr h)
-      go (inr h) = inr h
-
-  pub in-left : (x : A) (ys zs : List A) → In x ys → In x (ys ++ zs)
-  in-left x [] zs i = absurd i
-  in-left x (y ∷ ys) zs (inl e) = inl e
-  in-left x (y ∷ ys) zs (inr i) = inr (in-left x ys zs i)
-
-  pub in-right : (x : A) (ys zs : List A) → In x zs → In x (ys ++ zs)
-  in-right x [] zs i = i
-  in-right x (y ∷ ys) zs i = inr (in-right x ys zs i)
-
-pub in-map : {A B : Type 0} (f : A → B) (x : A) (ys : List A) → In x ys → In (f x) (map f ys)
-in-map f x [] i = absurd i
-in-map f x (y ∷ ys) (inl e) = inl (ap f e)
-in-map f x (y ∷ ys) (inr i) = inr (in-map f x ys i)
-
--- `insert` keeps the members, and adds one.
-placed-old : (o : Ordering) (x v w : Value) (ws r : List Value) → In x (w ∷ ws) → (In x ws → In x r) → In x (placed o v w ws r)
-placed-old Ordering·lt x v w ws r i k = inr i
-placed-old Ordering·eq x v w ws r i k = i
-placed-old Ordering·gt x v w ws r (inl e) k = inl e
-placed-old Ordering·gt x v w ws r (inr i) k = inr (k i)
-
-insert-old : (x v : Value) (ws : List Value) → In x ws → In x (insert v ws)
-unfolding insert
-insert-old x v [] i = absurd i
-insert-old x v (w ∷ ws) i = placed-old (order v w) x v w ws (insert v ws) i (λ j. insert-old x v ws j)
-
-placed-new : (o : Ordering) (v w : Value) (ws r : List Value) → (o ≡ Ordering·eq → v ≡ w) → In v r → In v (placed o v w ws r)
-placed-new Ordering·lt v w ws r e i = inl refl
-placed-new Ordering·eq v w ws r e i = inl (e refl)
-placed-new Ordering·gt v w ws r e i = inr i
-
-insert-new : (v : Value) (ws : List Value) → Small v → All Small ws → In v (insert v ws)
-unfolding insert
-insert-new v [] h k = inl refl
-insert-new v (w ∷ ws) h k = placed-new (order v w) v w ws (insert v ws) (λ e. order-eq v w h (k .0) e) (insert-new v ws h (k .1))
-
--- A list and its rising list have the same members.
-pub in-rising : (x : Value) (vs : List Value) → All Small vs → In x vs → In x (rising vs)
-unfolding rising
-in-rising x [] h i = absurd i
-in-rising x (v ∷ vs) h (inl e) = subst (λ (z : Value). In z (insert v (rising vs))) (sym e) (insert-new v (rising vs) (h .0) (rising-all Small vs (h .1)))
-in-rising x (v ∷ vs) h (inr i) = insert-old x v (rising vs) (in-rising x vs (h .1) i)
-
-pub rising-in : (x : Value) (vs : List Value) → In x (rising vs) → In x vs
-rising-in x vs i = all-in (λ z. In z vs) x (rising vs) (rising-all (λ z. In z vs) vs (all-self vs)) i
 
 -- Choosing the least value above l.
 -- Of the values seen, b is the least above l.

@@ -17,7 +17,8 @@ use Rattle.rules.specs.Values.{Value, Values, none, _▸_, members, values, cou
 use Rattle.rules.specs.Operations.{setOf, rising, subsets, keptValue}
 use Rattle.arena.specs.Code.{code, codes, Same, SomeAt, EndsAt, SetBelow, ValueBelow, Made, Front}
 use Rattle.arena.proofs.CodeLaws.{length-code, length-codes}
-use Rattle.arena.proofs.FrontLaws.{values-members, rises-rising, fit-small, front-start, front-value, front-next, front-below, front-some, front-frame, set-end}
+use Rattle.rules.proofs.Membership.{values-members}
+use Rattle.arena.proofs.FrontLaws.{rises-rising, fit-small, front-start, front-value, front-next, front-below, front-some, front-frame, set-end}
 use Rattle.products.specs.Growing.{Appended, Grown}
 use Rattle.products.specs.Parts.{AddPre}
 use Rattle.products.specs.Power.{masks, subsetCount, subsetCounts, pick, picked, AddedIf, SubsetPre, Subsets, SubsetIf, AllPre, AllSubsets}

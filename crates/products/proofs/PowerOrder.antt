@@ -8,36 +8,11 @@ use native.Mathlib.Decide.{ℕ-discrete}
 use lib.ListN.{length}
 use Rattle.rules.specs.Values.{Value, set, Values, _▸_, values, count, weights, order, _then_, lex, keys}
 use Rattle.rules.specs.Operations.{setOf, rising, subsets}
-use Rattle.rules.proofs.OrderLaws.{Small, Smalls, order-refl, order-before, before-order, before-trans, before-irrefl, lt-compare, compare-refl, key-delimited}
+use Rattle.rules.proofs.OrderLaws.{Small, order-refl, order-before, before-order, lt-compare, compare-refl, key-delimited}
 use Rattle.rules.proofs.SetOrder.{All, Before, Rising, all-imp, all-map, all-append, all-both, append-rising, rising-rising, subsets-all}
 use Rattle.products.specs.Power.{masks, subsetCount, picked}
-use Rattle.products.proofs.PartLaws.{In, all-in, all-self, in-append, in-left, in-right, in-map, in-rising, rising-in}
 use Rattle.rules.proofs.CellsLaws.{weight-some}
-
--- What is in y ∷ ys and follows x, which is y, is in ys.
-in-rest : (x y : Value) (xs ys : List Value) → All (Before x) xs → y ≡ x → All (λ z. In z (y ∷ ys)) xs → All (λ z. In z ys) xs
-in-rest x y [] ys p e q = tt
-in-rest x y (z ∷ xs) ys p e q = (one (q .0), in-rest x y xs ys (p .1) e (q .1))
-  where
-    one : (z ≡ y) ⊎ In z ys → In z ys
-    one (inl f) = absurd (before-irrefl x (subst (λ (u : Value). Before x u) (f ∙ e) (p .0)))
-    one (inr i) = i
-
--- Two rising lists with the same members are equal.
-pub rising-same : (vs ws : List Value) → Rising vs → Rising ws → All (λ x. In x ws) vs → All (λ x. In x vs) ws → vs ≡ ws
-rising-same [] [] h k a b = refl
-rising-same [] (w ∷ ws) h k a b = absurd (b .0)
-rising-same (v ∷ vs) [] h k a b = absurd (a .0)
-rising-same (v ∷ vs) (w ∷ ws) h k a b =
-    go (λ e. rising-same vs ws (h .1) (k .1) (in-rest v w vs ws (h .0) (sym e) (a .1)) (in-rest w v ws vs (k .0) e (b .1))) (a .0) (b .0)
-  where
-    equal : (v ≡ w → vs ≡ ws) → v ≡ w → v ∷ vs ≡ w ∷ ws
-    equal f e = let r : vs ≡ ws = f e in cc
-
-    go : (v ≡ w → vs ≡ ws) → (v ≡ w) ⊎ In v ws → (w ≡ v) ⊎ In w vs → v ∷ vs ≡ w ∷ ws
-    go f (inl e) j = equal f e
-    go f (inr i) (inl e) = equal f (sym e)
-    go f (inr i) (inr j) = absurd (before-irrefl v (before-trans v w v (all-in (Before v) w vs (h .0) j) (all-in (Before w) v ws (k .0) i)))
+use Rattle.rules.proofs.Membership.{In, all-in, all-self, in-append, in-left, in-right, in-map, map-in, in-rising, rising-in, same-members, small-sets, nil-subset}
 
 -- The order of two sets: fewer members first, then by the first members that differ.
 order-fewer : (s r : Values) → count s < count r → order (set s) (set r) ≡ Ordering·lt
@@ -158,16 +133,6 @@ powers-rising (suc k) vs h =
     each (s ∷ ss) l = (fewer-all s k (combos (suc k) vs) (l .0) (combos-length (suc k) vs), each ss (l .1))
 
 -- They are the sublists.
-unmap : (v : Value) (s : List Value) (ss : List (List Value)) (P : List Value → Type 0) → ((t : List Value) → In t ss → P (v ∷ t)) → In s (map (λ t. v ∷ t) ss) → P s
-unmap v s [] P f i = absurd i
-unmap v s (t ∷ ss) P f (inl e) = subst P (sym e) (f t (inl refl))
-unmap v s (t ∷ ss) P f (inr i) = unmap v s ss P (λ u j. f u (inr j)) i
-
-nil-subset : (vs : List Value) → In [] (subsets vs)
-unfolding subsets
-nil-subset [] = inl refl
-nil-subset (v ∷ vs) = in-left [] (subsets vs) (map (λ s. v ∷ s) (subsets vs)) (nil-subset vs)
-
 combos-subset : (k : ℕ) (vs s : List Value) → In s (combos k vs) → In s (subsets vs)
 unfolding combos subsets
 combos-subset zero vs s (inl e) = subst (λ (t : List Value). In t (subsets vs)) (sym e) (nil-subset vs)
@@ -179,8 +144,9 @@ combos-subset (suc k) (v ∷ vs) s i =
     go : ((t : List Value) → In t (combos k vs) → In t (subsets vs)) → (In s (combos (suc k) vs) → In s (subsets vs)) →
         In s (map (λ t. v ∷ t) (combos k vs)) ⊎ In s (combos (suc k) vs) → In s (subsets vs ++ map (λ t. v ∷ t) (subsets vs))
     go f g (inl j) =
-        unmap v s (combos k vs) (λ t. In t (subsets vs ++ map (λ u. v ∷ u) (subsets vs)))
-        (λ t m. in-right (v ∷ t) (subsets vs) (map (λ u. v ∷ u) (subsets vs)) (in-map (λ u. v ∷ u) t (subsets vs) (f t m))) j
+        let m = map-in (λ t. v ∷ t) s (combos k vs) j in
+        in-right s (subsets vs) (map (λ t. v ∷ t) (subsets vs))
+        (subst (λ (t : List Value). In t (map (λ u. v ∷ u) (subsets vs))) (sym (m .1)) (in-map (λ u. v ∷ u) (m .0) (subsets vs) (f (m .0) (m .2))))
     go f g (inr j) = in-left s (subsets vs) (map (λ t. v ∷ t) (subsets vs)) (g j)
 
 combos-more : (k : ℕ) (v : Value) (vs s : List Value) → In s (combos k vs) → In s (combos k (v ∷ vs))
@@ -238,20 +204,13 @@ powers-all vs =
 mapped : (ss ts : List (List Value)) → All (λ s. In s ts) ss → All (λ x. In x (map setOf ts)) (map setOf ss)
 mapped ss ts h = all-map (λ s. In s ts) (λ x. In x (map setOf ts)) setOf (λ s i. in-map setOf s ts i) ss h
 
-small-sets : (ss : List (List Value)) → All (All Small) ss → All Small (map setOf ss)
-small-sets ss h = all-map (All Small) Small setOf (λ s k. smalls s k) ss h
-  where
-    smalls : (s : List Value) → All Small s → Smalls (values s)
-    smalls [] k = tt
-    smalls (v ∷ s) k = (k .0, smalls s (k .1))
-
 pub power-rising : (vs : List Value) → Rising vs → All Small vs → rising (map setOf (subsets vs)) ≡ map setOf (powers (length vs) vs)
 power-rising vs h small =
     let ys = map setOf (subsets vs) in
     let zs = map setOf (powers (length vs) vs) in
     let little = small-sets (subsets vs) (subsets-all Small vs small) in
     let there : All (λ x. In x ys) zs = mapped (powers (length vs) vs) (subsets vs) (all-imp (λ s. In s (powers (length vs) vs)) (λ s. In s (subsets vs)) (λ s i. powers-subset (length vs) vs s i) (powers (length vs) vs) (all-self (powers (length vs) vs))) in
-    rising-same (rising ys) zs (rising-rising ys) (powers-rising (length vs) vs h)
+    same-members (rising ys) zs (rising-rising ys) (powers-rising (length vs) vs h)
     (all-imp (λ x. In x ys) (λ x. In x zs) (λ x i. all-in (λ y. In y zs) x ys (mapped (subsets vs) (powers (length vs) vs) (powers-all vs)) i) (rising ys)
     (all-imp (λ x. In x (rising ys)) (λ x. In x ys) (λ x i. rising-in x ys i) (rising ys) (all-self (rising ys))))
     (all-imp (λ x. In x ys) (λ x. In x (rising ys)) (λ x i. in-rising x ys little i) zs there)

@@ -13,7 +13,7 @@ use Rattle.rules.specs.Values.{Value, scalar, pair, set, Values, none, _▸_, m
 use Rattle.rules.specs.Operations.{left, right, setOf, rising}
 use Rattle.rules.proofs.OrderLaws.{flip, Small, order-flip}
 use Rattle.rules.proofs.SetOrder.{All}
-use Rattle.arena.specs.Code.{cellSize, code, codes, ValueAt, Same, CellsFit, AllFit, Rises, orderCode, SomeAt, EndsAt, Compared, Copied, SetBelow, ValueBelow, Made, Front, AllPairs}
+use Rattle.arena.specs.Code.{cellSize, code, codes, ValueAt, Same, AllFit, Rises, orderCode, SomeAt, EndsAt, Compared, Copied, SetBelow, ValueBelow, Made, Front, AllPairs}
 use Rattle.arena.proofs.CodeLaws.{length-code, length-codes, fits-small}
 use Rattle.arena.proofs.Standing.{stands-tail, stands-front, stands-back}
 use Rattle.arena.proofs.FrontLaws.{front-start, front-next, front-below, front-frame, value-frame, value-some}
@@ -21,6 +21,7 @@ use Rattle.products.specs.Growing.{Grown}
 use Rattle.products.specs.Parts.{Maybe, AddPre, Added, related, ComparePre, Compares, isLast, NewPre, AddedNew, isAbove, isBelow, lesser, choose, BetterPre, Betters, NextPre, Nexts}
 use Rattle.products.specs.declared.Out.{Out}
 use Rattle.products.proofs.GrowLaws.{appended-copy, grown-start, grown-step, grown-end, grown-left, made-set}
+use Rattle.rules.proofs.Membership.{left-small, right-small}
 use Rattle.products.proofs.PartLaws.{afterLast, Steps, rising-weighs, lefts-weigh, rights-weigh, rising-afterLast, lastThen, AllOf, afterLast-none, afterLast-skip, afterLast-take, before-lefts, Taking, taking-start, taking-next, firstOf, choose-next}
 use Rattle.rules.proofs.CellsLaws.{count-weights, weight-some}
 
@@ -307,23 +308,13 @@ module _ (s₀ : List ℕ) (top : ℕ) (s : List ℕ) (o : Out) (whole : List Va
         }
 
 -- `range`
-right-small : (v : Value) → CellsFit v → Small (right v)
-right-small (scalar x) h = fits-small (scalar x) h
-right-small (pair a b) h = fits-small b (h .1)
-right-small (set ms) h = fits-small (set ms) h
-
 rights-small : (vs : Values) → AllFit vs → All Small (map right (members vs))
 rights-small none h = tt
-rights-small (v ▸ vs) h = (right-small v (h .0), rights-small vs (h .1))
-
-left-small : (v : Value) → CellsFit v → Small (left v)
-left-small (scalar x) h = fits-small (scalar x) h
-left-small (pair a b) h = fits-small a (h .0)
-left-small (set ms) h = fits-small (set ms) h
+rights-small (v ▸ vs) h = (right-small v (fits-small v (h .0)), rights-small vs (h .1))
 
 lefts-small : (vs : Values) → AllFit vs → All Small (map left (members vs))
 lefts-small none h = tt
-lefts-small (v ▸ vs) h = (left-small v (h .0), lefts-small vs (h .1))
+lefts-small (v ▸ vs) h = (left-small v (fits-small v (h .0)), lefts-small vs (h .1))
 
 pub record RangeAt (s₀ : List ℕ) (top : ℕ) (vs : Values) (s : List ℕ) (o : Out) (p : ℕ) : Type 0 where
   pub last : Option Value

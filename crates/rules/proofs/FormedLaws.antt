@@ -4,7 +4,7 @@ use Prim.Native.Nat.{ℕ, zero, suc, _≤_, _<_}
 use mathlib.Core.List.{List, [], _∷_}
 use mathlib.Core.Bool.{Bool, true, false, _&&_}
 use mathlib.Core.Option.{Option, none as nothing, some}
-use mathlib.Core.Path.{_≡_, refl, ap}
+use mathlib.Core.Path.{_≡_, refl, ap, subst}
 use native.Mathlib.Omega.{arith}
 use native.Mathlib.Decide.{decLt}
 use lib.Dec.{T, leb, ltb, eqb, leb→le, le→leb, lt→ltb}
@@ -68,9 +68,54 @@ says-result nothing t u = tt
 says-result (some p) t u = refl
 
 -- An answer has Q.
-abbrev Ended : {A : Type 0} → (A → Type 0) → End A → Type 0
+abbrev pub Ended : {A : Type 0} → (A → Type 0) → End A → Type 0
 Ended Q (done a) = Q a
 Ended Q (refused k n) = Unit {0}
+
+-- The answer of a run, if it has one, has Q, and each value that the run forms has, with its node, R.
+module _ (R : ℕ × Value → Type 0) where
+  abbrev pub Forms : {A : Type 0} → (A → Type 0) → M A → Type 0
+  Forms Q m = (s : ℕ) → Ended Q (m s .end) × All R (m s .formed)
+
+  goOn-forms : {A B : Type 0} (P : A → Type 0) (Q : B → Type 0) (e : End A) (s : ℕ) (tr : Trace) (f : A → M B) →
+      Ended P e → All R tr → ((a : A) → P a → Forms Q (f a)) → Ended Q (goOn e s tr f .end) × All R (goOn e s tr f .formed)
+  goOn-forms P Q (done a) s tr f h k hf = (hf a h s .0, all-append R tr (f a s .formed) k (hf a h s .1))
+  goOn-forms P Q (refused x n) s tr f h k hf = (h, k)
+
+  pub bind : {A B : Type 0} (P : A → Type 0) (Q : B → Type 0) (m : M A) (f : A → M B) →
+      Forms P m → ((a : A) → P a → Forms Q (f a)) → Forms Q (m >>= f)
+  bind P Q m f hm hf s = goOn-forms P Q (m s .end) (m s .steps) (m s .formed) f (hm s .0) (hm s .1) hf
+
+  demand-forms : (b : Bool) (k n : ℕ) → Forms (λ _. T b) (demand b k n)
+  demand-forms true k n s = (tt, tt)
+  demand-forms false k n s = (tt, tt)
+
+  pub visit-forms : (budget n : ℕ) → Forms Any (visit budget n)
+  visit-forms budget n s = go (ltb s budget)
+    where
+      go : (b : Bool) → Ended Any (counted b n s .end) × All R (counted b n s .formed)
+      go true = (tt, tt)
+      go false = (tt, tt)
+
+  -- Operands that pass 15 fit.
+  pub fitting-forms : (n : ℕ) (r : Rule) (vs : List Value) → Forms (λ _. Fits (r .takes) vs) (fitting n r vs)
+  fitting-forms n r vs = go (fits (r .takes) vs) (fits-right (r .takes) vs .0)
+    where
+      go : (b : Bool) → (T b → Fits (r .takes) vs) → Forms (λ _. Fits (r .takes) vs) (demand b 15 n)
+      go true h = λ s. (h tt, tt)
+      go false h = λ s. (tt, tt)
+
+  -- A value formed has passed 18.
+  pub given-forms : (Q : Value → Type 0) (n : ℕ) (g : Given) →
+      ((v : Value) → g ≡ gives v → T (leb (weight v) weightLimit) → Q v × R (n, v)) → Forms Q (form n g)
+  given-forms Q n (lacks r) h = λ s. (tt, tt)
+  given-forms Q n (gives v) h =
+      bind (λ _. T (leb (weight v) weightLimit)) Q (demand (leb (weight v) weightLimit) 18 n) (λ _. emit n v)
+      (demand-forms (leb (weight v) weightLimit) 18 n) (λ _ l s. let k = h v refl l in (k .0, (k .1, tt)))
+
+  orElse-forms : (o : Option Bool) (m : M Bool) → Forms Any m → Forms Any (o orElse m)
+  orElse-forms nothing m h = h
+  orElse-forms (some b) m h = λ s. (tt, tt)
 
 module _ (gs : List ℕ) where
   -- A value that is good if it weighs at most 256.
@@ -142,7 +187,7 @@ module _ (gs : List ℕ) where
   LeafRight boolSet a b = Unit {0}
 
   -- An environment of good values.
-  abbrev EnvGood : Env → Type 0
+  abbrev pub EnvGood : Env → Type 0
   EnvGood ρ = (x : ℕ) → Good (ρ x)
 
   -- An environment of good values with one more.
@@ -168,77 +213,40 @@ module _ (gs : List ℕ) where
   leaf-well-typed boolSet a b ρ h e = (tt, tt)
 
   -- Every value of a trace is good.
+  abbrev GoodAt : ℕ × Value → Type 0
+  GoodAt x = Good (x .1)
+
   abbrev pub FormedGood : Trace → Type 0
-  FormedGood tr = All (λ x. Good (x .1)) tr
+  FormedGood tr = All GoodAt tr
 
-  -- A run's answer, if it has one, has Q, and every value that it forms is good.
-  abbrev Forms : {A : Type 0} → (A → Type 0) → M A → Type 0
-  Forms Q m = (s : ℕ) → Ended Q (m s .end) × FormedGood (m s .formed)
-
-  goOn-forms : {A B : Type 0} (P : A → Type 0) (Q : B → Type 0) (e : End A) (s : ℕ) (tr : Trace) (f : A → M B) →
-      Ended P e → FormedGood tr → ((a : A) → P a → Forms Q (f a)) → Ended Q (goOn e s tr f .end) × FormedGood (goOn e s tr f .formed)
-  goOn-forms P Q (done a) s tr f h k hf = (hf a h s .0, all-append (λ x. Good (x .1)) tr (f a s .formed) k (hf a h s .1))
-  goOn-forms P Q (refused x n) s tr f h k hf = (h, k)
-
-  bind : {A B : Type 0} (P : A → Type 0) (Q : B → Type 0) (m : M A) (f : A → M B) →
-      Forms P m → ((a : A) → P a → Forms Q (f a)) → Forms Q (m >>= f)
-  bind P Q m f hm hf s = goOn-forms P Q (m s .end) (m s .steps) (m s .formed) f (hm s .0) (hm s .1) hf
-
-  demand-forms : (b : Bool) (k n : ℕ) → Forms (λ _. T b) (demand b k n)
-  demand-forms true k n s = (tt, tt)
-  demand-forms false k n s = (tt, tt)
-
-  visit-forms : (budget n : ℕ) → Forms Any (visit budget n)
-  visit-forms budget n s = go (ltb s budget)
-    where
-      go : (b : Bool) → Ended Any (counted b n s .end) × FormedGood (counted b n s .formed)
-      go true = (tt, tt)
-      go false = (tt, tt)
-
-  -- A value formed has passed 18.
-  form-forms : (n : ℕ) (g : Given) → GivenWellTyped g → Forms Good (form n g)
-  form-forms n (lacks r) h = λ s. (tt, tt)
-  form-forms n (gives v) h =
-      bind (λ _. T (leb (weight v) weightLimit)) Good (demand (leb (weight v) weightLimit) 18 n) (λ _. emit n v)
-      (demand-forms (leb (weight v) weightLimit) 18 n) (λ _ l s. (light-good v h l, (light-good v h l, tt)))
+  form-forms : (n : ℕ) (g : Given) → GivenWellTyped g → Forms GoodAt Good (form n g)
+  form-forms n g h = given-forms GoodAt Good n g (λ v e l. let k = light-good v (subst GivenWellTyped e h) l in (k, k))
 
   quantify-forms : (j : Quant) (f : Value → M Bool) (vs : List Value) →
-      ((w : Value) → Good w → Forms Any (f w)) → All Good vs → Forms Any (quantify j f vs)
+      ((w : Value) → Good w → Forms GoodAt Any (f w)) → All Good vs → Forms GoodAt Any (quantify j f vs)
   unfolding quantify
   quantify-forms forAll f [] hf h = λ s. (tt, tt)
   quantify-forms forAll f (v ∷ vs) hf h =
       let r = quantify-forms forAll f vs hf (h .1) in
-      bind Any Any (f v) _ (hf v (h .0)) (λ b _. elim b [ true ↦ r | false ↦ λ s. (tt, tt) ])
+      bind GoodAt Any Any (f v) _ (hf v (h .0)) (λ b _. elim b [ true ↦ r | false ↦ λ s. (tt, tt) ])
   quantify-forms forSome f [] hf h = λ s. (tt, tt)
   quantify-forms forSome f (v ∷ vs) hf h =
       let r = quantify-forms forSome f vs hf (h .1) in
-      bind Any Any (f v) _ (hf v (h .0)) (λ b _. elim b [ true ↦ λ s. (tt, tt) | false ↦ r ])
+      bind GoodAt Any Any (f v) _ (hf v (h .0)) (λ b _. elim b [ true ↦ λ s. (tt, tt) | false ↦ r ])
 
   -- What `select` gives has P where its list has, and rises where its list does.
-  select-forms : (f : Value → M Bool) (vs : List Value) (P : Value → Type 0) → ((w : Value) → Good w → Forms Any (f w)) →
-      All Good vs → All P vs → Rising vs → Forms (λ ws. All P ws × Rising ws) (select f vs)
+  select-forms : (f : Value → M Bool) (vs : List Value) (P : Value → Type 0) → ((w : Value) → Good w → Forms GoodAt Any (f w)) →
+      All Good vs → All P vs → Rising vs → Forms GoodAt (λ ws. All P ws × Rising ws) (select f vs)
   unfolding select
   select-forms f [] P hf h k r = λ s. ((tt, tt), tt)
   select-forms f (v ∷ vs) P hf h k r =
       let Q : List Value → Type 0 = λ ws. All (λ w. P w × Before v w) ws × Rising ws in
       let rest = select-forms f vs (λ w. P w × Before v w) hf (h .1) (all-both P (Before v) vs (k .1) (r .0)) (r .1) in
-      bind Any (λ ws. All P ws × Rising ws) (f v) _ (hf v (h .0)) λ b _.
-      bind Q (λ ws. All P ws × Rising ws) (select f vs) _ rest λ ws q.
+      bind GoodAt Any (λ ws. All P ws × Rising ws) (f v) _ (hf v (h .0)) λ b _.
+      bind GoodAt Q (λ ws. All P ws × Rising ws) (select f vs) _ rest λ ws q.
       let p = all-imp (λ w. P w × Before v w) P (λ w x. x .0) ws (q .0) in
       let l = all-imp (λ w. P w × Before v w) (Before v) (λ w x. x .1) ws (q .0) in
       elim b [ true ↦ λ s. (((k .0, p), (l, q .1)), tt) | false ↦ λ s. ((p, q .1), tt) ]
-
-  orElse-forms : (o : Option Bool) (m : M Bool) → Forms Any m → Forms Any (o orElse m)
-  orElse-forms nothing m h = h
-  orElse-forms (some b) m h = λ s. (tt, tt)
-
-  -- Operands that pass 15 fit.
-  fitting-forms : (n : ℕ) (r : Rule) (vs : List Value) → Forms (λ _. Fits (r .takes) vs) (fitting n r vs)
-  fitting-forms n r vs = go (fits (r .takes) vs) (fits-right (r .takes) vs .0)
-    where
-      go : (b : Bool) → (T b → Fits (r .takes) vs) → Forms (λ _. Fits (r .takes) vs) (demand b 15 n)
-      go true h = λ s. (h tt, tt)
-      go false h = λ s. (tt, tt)
 
   -- The leaves of a tree name only elements that exist.
   abbrev mutual
@@ -272,56 +280,56 @@ module _ (budget : ℕ) (gs : List ℕ) where
   mutual
     unfolding holdsᵖ
 
-    pred-forms : (p : Pred) (ρ : Env) → Leavesᵖ gs p → EnvGood gs ρ → Forms gs Any (holdsᵖ budget gs p ρ)
+    pred-forms : (p : Pred) (ρ : Env) → Leavesᵖ gs p → EnvGood gs ρ → Forms (GoodAt gs) Any (holdsᵖ budget gs p ρ)
     pred-forms (joinᵖ n j p q) ρ h e =
-        bind gs Any Any (visit budget n) _ (visit-forms gs budget n) λ _ _.
-        bind gs Any Any (holdsᵖ budget gs p ρ) _ (pred-forms p ρ (h .0) e) λ a _.
-        orElse-forms gs (decides j a) _
-        (bind gs Any Any (holdsᵖ budget gs q ρ) _ (pred-forms q ρ (h .1) e) λ b _ s. (tt, tt))
+        bind (GoodAt gs) Any Any (visit budget n) _ (visit-forms (GoodAt gs) budget n) λ _ _.
+        bind (GoodAt gs) Any Any (holdsᵖ budget gs p ρ) _ (pred-forms p ρ (h .0) e) λ a _.
+        orElse-forms (GoodAt gs) (decides j a) _
+        (bind (GoodAt gs) Any Any (holdsᵖ budget gs q ρ) _ (pred-forms q ρ (h .1) e) λ b _ s. (tt, tt))
     pred-forms (notᵖ n p) ρ h e =
-        bind gs Any Any (visit budget n) _ (visit-forms gs budget n) λ _ _.
-        bind gs Any Any (holdsᵖ budget gs p ρ) _ (pred-forms p ρ h e) λ a _ s. (tt, tt)
+        bind (GoodAt gs) Any Any (visit budget n) _ (visit-forms (GoodAt gs) budget n) λ _ _.
+        bind (GoodAt gs) Any Any (holdsᵖ budget gs p ρ) _ (pred-forms p ρ h e) λ a _ s. (tt, tt)
     pred-forms (testᵖ n j a b) ρ h e =
-        bind gs Any Any (visit budget n) _ (visit-forms gs budget n) λ _ _.
-        bind gs (Good gs) Any (valueᵉ budget gs a ρ) _ (expr-forms a ρ (h .0) e) λ v _.
-        bind gs (Good gs) Any (valueᵉ budget gs b ρ) _ (expr-forms b ρ (h .1) e) λ w _.
-        bind gs (λ _. Fits (testRule j .takes) (v ∷ w ∷ [])) Any (fitting n (testRule j) (v ∷ w ∷ [])) _
-        (fitting-forms gs n (testRule j) (v ∷ w ∷ [])) λ _ _ s. (tt, tt)
+        bind (GoodAt gs) Any Any (visit budget n) _ (visit-forms (GoodAt gs) budget n) λ _ _.
+        bind (GoodAt gs) (Good gs) Any (valueᵉ budget gs a ρ) _ (expr-forms a ρ (h .0) e) λ v _.
+        bind (GoodAt gs) (Good gs) Any (valueᵉ budget gs b ρ) _ (expr-forms b ρ (h .1) e) λ w _.
+        bind (GoodAt gs) (λ _. Fits (testRule j .takes) (v ∷ w ∷ [])) Any (fitting n (testRule j) (v ∷ w ∷ [])) _
+        (fitting-forms (GoodAt gs) n (testRule j) (v ∷ w ∷ [])) λ _ _ s. (tt, tt)
     pred-forms (quantᵖ n j x r p) ρ h e =
-        bind gs Any Any (visit budget n) _ (visit-forms gs budget n) λ _ _.
-        bind gs (Good gs) Any (valueᵉ budget gs r ρ) _ (expr-forms r ρ (h .0) e) λ v hv.
-        bind gs (λ _. Fits (quantRule .takes) (v ∷ [])) Any (fitting n quantRule (v ∷ [])) _
-        (fitting-forms gs n quantRule (v ∷ [])) λ _ _.
+        bind (GoodAt gs) Any Any (visit budget n) _ (visit-forms (GoodAt gs) budget n) λ _ _.
+        bind (GoodAt gs) (Good gs) Any (valueᵉ budget gs r ρ) _ (expr-forms r ρ (h .0) e) λ v hv.
+        bind (GoodAt gs) (λ _. Fits (quantRule .takes) (v ∷ [])) Any (fitting n quantRule (v ∷ [])) _
+        (fitting-forms (GoodAt gs) n quantRule (v ∷ [])) λ _ _.
         quantify-forms gs j (λ w. holdsᵖ budget gs p (ρ with x ≔ w)) (elems v)
         (λ w hw. pred-forms p (ρ with x ≔ w) (h .1) (with-good gs ρ x w e hw)) (elems-good gs v hv)
 
-    expr-forms : (a : Expr) (ρ : Env) → Leavesᵉ gs a → EnvGood gs ρ → Forms gs (Good gs) (valueᵉ budget gs a ρ)
+    pub expr-forms : (a : Expr) (ρ : Env) → Leavesᵉ gs a → EnvGood gs ρ → Forms (GoodAt gs) (Good gs) (valueᵉ budget gs a ρ)
     expr-forms (leafᵉ n j a b) ρ h e =
-        bind gs Any (Good gs) (visit budget n) _ (visit-forms gs budget n) λ _ _.
+        bind (GoodAt gs) Any (Good gs) (visit budget n) _ (visit-forms (GoodAt gs) budget n) λ _ _.
         form-forms gs n (gives (leafValue gs j a b ρ)) (leaf-well-typed gs j a b ρ h e)
     expr-forms (boolᵉ n p) ρ h e =
-        bind gs Any (Good gs) (visit budget n) _ (visit-forms gs budget n) λ _ _.
-        bind gs Any (Good gs) (holdsᵖ budget gs p ρ) _ (pred-forms p ρ h e) λ b _.
+        bind (GoodAt gs) Any (Good gs) (visit budget n) _ (visit-forms (GoodAt gs) budget n) λ _ _.
+        bind (GoodAt gs) Any (Good gs) (holdsᵖ budget gs p ρ) _ (pred-forms p ρ h e) λ b _.
         form-forms gs n (gives (truthValue b)) (tt, has-typed (truthValue b) BOOL refl)
     expr-forms (oneᵉ n j a) ρ h e =
-        bind gs Any (Good gs) (visit budget n) _ (visit-forms gs budget n) λ _ _.
-        bind gs (Good gs) (Good gs) (valueᵉ budget gs a ρ) _ (expr-forms a ρ h e) λ v hv.
-        bind gs (λ _. Fits (oneRule j .takes) (v ∷ [])) (Good gs) (fitting n (oneRule j) (v ∷ [])) _
-        (fitting-forms gs n (oneRule j) (v ∷ [])) λ _ f.
+        bind (GoodAt gs) Any (Good gs) (visit budget n) _ (visit-forms (GoodAt gs) budget n) λ _ _.
+        bind (GoodAt gs) (Good gs) (Good gs) (valueᵉ budget gs a ρ) _ (expr-forms a ρ h e) λ v hv.
+        bind (GoodAt gs) (λ _. Fits (oneRule j .takes) (v ∷ [])) (Good gs) (fitting n (oneRule j) (v ∷ [])) _
+        (fitting-forms (GoodAt gs) n (oneRule j) (v ∷ [])) λ _ f.
         form-forms gs n (oneValue j v) (one-well-typed gs j v hv f)
     expr-forms (twoᵉ n j a b) ρ h e =
-        bind gs Any (Good gs) (visit budget n) _ (visit-forms gs budget n) λ _ _.
-        bind gs (Good gs) (Good gs) (valueᵉ budget gs a ρ) _ (expr-forms a ρ (h .0) e) λ v hv.
-        bind gs (Good gs) (Good gs) (valueᵉ budget gs b ρ) _ (expr-forms b ρ (h .1) e) λ w hw.
-        bind gs (λ _. Fits (twoRule j .takes) (v ∷ w ∷ [])) (Good gs) (fitting n (twoRule j) (v ∷ w ∷ [])) _
-        (fitting-forms gs n (twoRule j) (v ∷ w ∷ [])) λ _ f.
+        bind (GoodAt gs) Any (Good gs) (visit budget n) _ (visit-forms (GoodAt gs) budget n) λ _ _.
+        bind (GoodAt gs) (Good gs) (Good gs) (valueᵉ budget gs a ρ) _ (expr-forms a ρ (h .0) e) λ v hv.
+        bind (GoodAt gs) (Good gs) (Good gs) (valueᵉ budget gs b ρ) _ (expr-forms b ρ (h .1) e) λ w hw.
+        bind (GoodAt gs) (λ _. Fits (twoRule j .takes) (v ∷ w ∷ [])) (Good gs) (fitting n (twoRule j) (v ∷ w ∷ [])) _
+        (fitting-forms (GoodAt gs) n (twoRule j) (v ∷ w ∷ [])) λ _ f.
         form-forms gs n (twoValue j v w) (two-well-typed gs j v w hv hw f)
     expr-forms (comprehensionᵉ n x r p) ρ h e =
-        bind gs Any (Good gs) (visit budget n) _ (visit-forms gs budget n) λ _ _.
-        bind gs (Good gs) (Good gs) (valueᵉ budget gs r ρ) _ (expr-forms r ρ (h .0) e) λ v hv.
-        bind gs (λ _. Fits (comprehensionRule .takes) (v ∷ [])) (Good gs) (fitting n comprehensionRule (v ∷ [])) _
-        (fitting-forms gs n comprehensionRule (v ∷ [])) λ _ f.
-        bind gs (λ ws. All (λ w. Well gs w × HasType w (f .0)) ws × Rising ws) (Good gs)
+        bind (GoodAt gs) Any (Good gs) (visit budget n) _ (visit-forms (GoodAt gs) budget n) λ _ _.
+        bind (GoodAt gs) (Good gs) (Good gs) (valueᵉ budget gs r ρ) _ (expr-forms r ρ (h .0) e) λ v hv.
+        bind (GoodAt gs) (λ _. Fits (comprehensionRule .takes) (v ∷ [])) (Good gs) (fitting n comprehensionRule (v ∷ [])) _
+        (fitting-forms (GoodAt gs) n comprehensionRule (v ∷ [])) λ _ f.
+        bind (GoodAt gs) (λ ws. All (λ w. Well gs w × HasType w (f .0)) ws × Rising ws) (Good gs)
         (select (λ w. holdsᵖ budget gs p (ρ with x ≔ w)) (elems v)) _
         (select-forms gs (λ w. holdsᵖ budget gs p (ρ with x ≔ w)) (elems v) (λ w. Well gs w × HasType w (f .0))
         (λ w hw. pred-forms p (ρ with x ≔ w) (h .1) (with-good gs ρ x w e hw)) (elems-good gs v hv)
@@ -386,7 +394,7 @@ module _ (tb : Table) (r : Records tb) where
   mutual
     unfolding predAt
 
-    predAt-leaves : (f n : ℕ) → Leavesᵖ (tb .sizes) (predAt f (tb .nodes) n)
+    pub predAt-leaves : (f n : ℕ) → Leavesᵖ (tb .sizes) (predAt f (tb .nodes) n)
     predAt-leaves zero n = (tt, tt)
     predAt-leaves (suc f) n =
         predOf-leaves (tb .sizes) (kindAt (tb .nodes) n) n (nodeAt (tb .nodes) n)

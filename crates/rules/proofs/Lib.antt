@@ -12,8 +12,11 @@ pub mod TypedTree
 pub mod SetTypes
 pub mod Soundness
 pub mod SetOrder
+pub mod Membership
+pub mod SetMeaning
 pub mod FormedLaws
 pub mod TraceLaws
+pub mod ConditionMeaning
 pub mod TypeLaws
 pub mod VerdictLaws
 pub mod Rows

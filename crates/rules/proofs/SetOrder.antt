@@ -4,7 +4,7 @@
 use Prim.Native.Nat.{ℕ, zero, suc, _+_, _-_, _≤_, Ordering, Ordering·lt, Ordering·eq, Ordering·gt}
 use mathlib.Core.List.{List, [], _∷_, _++_, map}
 use mathlib.Core.Bool.{Bool, true, false, not, cond, _&&_}
-use mathlib.Core.Path.{_≡_, refl, ap, _∙_}
+use mathlib.Core.Path.{_≡_, refl, sym, ap, _∙_}
 use native.Mathlib.Omega.{arith}
 use lib.IntN.{ℤ, pos, negsuc, _+ℤ_, _-ℤ_, sucℤ, +ℤ-one, -ℤ-+ℤ-cancel}
 use lib.Dec.{T, ltb, leb→le, le→leb, ltb→lt, lt→ltb, nltb→le}
@@ -143,6 +143,11 @@ before-left a b c d h = order-before (pair a b) (pair c d) (order-pair a b c d �
 before-right : (a b d : Value) → Before b d → Before (pair a b) (pair a d)
 before-right a b d h =
     order-before (pair a b) (pair a d) (order-pair a b a d ∙ ap (λ o. o then order b d) (order-refl a) ∙ before-order b d h)
+
+-- Pairs with the same left part are ordered by their right parts only.
+pub right-before : (a b d : Value) → Before (pair a b) (pair a d) → Before b d
+right-before a b d h =
+    order-before b d (sym (order-pair a b a d ∙ ap (λ o. o then order b d) (order-refl a)) ∙ before-order (pair a b) (pair a d) h)
 
 -- Each member of a list has the property that everything has.
 pub all-any : {A : Type 0} (xs : List A) → All Any xs

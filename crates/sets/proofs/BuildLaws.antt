@@ -12,7 +12,8 @@ use Rattle.rules.specs.Operations.{keptValue, setOf}
 use Rattle.arena.specs.Code.{cellSize, code, codes, Stands, ValueAt, Same, Copied, SetBelow, SomeSet, Made, Front}
 use Rattle.arena.proofs.CodeLaws.{length-codes}
 use Rattle.arena.proofs.Standing.{stands-append, stands-frame, copied-stands, same-refl, same-trans}
-use Rattle.arena.proofs.FrontLaws.{codes-append, count-append, weights-append, single, values-members, front-start, front-frame}
+use Rattle.rules.proofs.Membership.{values-members}
+use Rattle.arena.proofs.FrontLaws.{codes-append, count-append, weights-append, single, front-start, front-frame}
 use Rattle.sets.specs.declared.Turn.{Turn}
 use Rattle.sets.specs.declared.Out.{Out}
 use Rattle.sets.specs.declared.Walk.{Walk}
