@@ -1,4 +1,4 @@
 -- Laws of the answers.
 pub mod Numbers
 pub mod Demand
-pub mod Guarding
+pub mod CheckedLaws

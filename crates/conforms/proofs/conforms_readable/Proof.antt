@@ -25,8 +25,9 @@ conforms-fitting-requires c κs =
 
 returns-2 : tie.Need-returns-2
 returns-2 c =
-    let i = c .before .before .before in
-    sized-decides _ _ _ _ (sheet-fits _ _ _ _ (i .identifiers .ensures) (c .before .before .nodes .ensures) (c .before .if1 .left)) (c .conforms-fitting .ensures)
+    let n = c .before .before in
+    let fits = sheet-fits _ _ _ _ (n .before .identifiers .ensures) (n .nodes .ensures) (c .before .if1 .left) in
+    sized-decides _ _ _ _ fits (c .conforms-fitting .ensures)
 
 pub conforms-readable-spec : {M : Type 1} → statement M
 conforms-readable-spec =
