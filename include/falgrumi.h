@@ -45,8 +45,8 @@ enum falgrumi_size {
     FALGRUMI_MAX_VALUES_BYTES = 65536
 };
 
-/* The answers. Check gives 0 to 13, Evaluate 0 to 9 and 14 to 19, a checked evaluation 0 to 19. In brackets: what the place counts; it is 0 where nothing is
- * said. Where several things of one kind are wrong, the place is the least. */
+/* The answers. Check gives 0 to 13, Evaluate 0 to 9 and 14 to 19, a checked evaluation 0 to 19. In brackets: what the place
+ * counts; it is 0 where nothing is said. Where several things of one kind are wrong, the place is the least. */
 enum falgrumi_refusal {
     /* The table is accepted, or the condition has a truth. */
     FALGRUMI_NO_REFUSAL = 0,
@@ -136,8 +136,8 @@ uint8_t falgrumi_conforms(const uint8_t *table, size_t table_length, const uint8
  *   values, budget         as for falgrumi_evaluate.
  *   truth, place, steps    as for falgrumi_evaluate, written at every return; 0 steps where Check refuses.
  *   conforms               written at every return: 1 where Check accepts the table and the values have the types that it has
- *                          written for the free identifiers, else 0. Where it is 1 the guarantee holds: the answer is 0 or 16 to
- *                          19, and every value that the evaluation forms has the type in its node's row.
+ *                          written for the free identifiers, else 0. Where it is 1 the guarantee holds: the answer is 0 or 16
+ *                          to 19, and every value that the evaluation forms has the type in its node's row.
  *
  * Answers a number of enum falgrumi_refusal: 1 to 13 is Check's refusal, 0 and 14 to 19 the evaluation's answer, whether or not
  * the values conform. */
