@@ -1,5 +1,5 @@
--- A checked evaluation: its report tells exactly whether demand 3's guarantee applies, and its answer is made of those of its
--- three calls.
+-- A checked evaluation: its report tells exactly whether demand 3's guarantee applies, its numbers tell who refuses, and its
+-- answer is made of those of its three calls.
 use Prim.Native.Nat.{ℕ}
 use mathlib.Core.Bool.{Bool, true}
 use mathlib.Core.List.{List}
@@ -20,6 +20,7 @@ use Rattle.conforms.specs.Conforming.{conforming}
 use Rattle.conforms.proofs.ConformingLaws.{conforming-right}
 use Rattle.falgrumi.specs.Guarantee.{Report, checkedEvaluation, TellsGuarantee}
 use Rattle.falgrumi.proofs.Demand.{guarantee, accepted-fits}
+use Rattle.falgrumi.proofs.EndNumbers.{NumberFrom, verdict-numbers, accepted-numbers}
 
 -- The report that is made of rows: `checkedEvaluation` is the verdict, and then this.
 module _ (bs buffer : List ℕ) (budget : ℕ) where
@@ -58,6 +59,24 @@ checked-guaranteed bs sheet buffer budget x e = go (verdict bs (length sheet)) r
 pub checked-never-15 : (bs sheet buffer : List ℕ) (budget : ℕ) (x : Report) (n : ℕ) → checkedEvaluation bs (length sheet) buffer budget ≡ done x →
     x .conforms ≡ true → x .end ≡ refused 15 n → ⊥
 checked-never-15 bs sheet buffer budget x n e c f = not-15 Any (x .end) n (checked-guaranteed bs sheet buffer budget x e .safe c) f
+
+-- By its number a refusal is Check's, 1 to 13, or that of the evaluation reported, 14 to 19.
+pub checked-numbers : (bs buffer : List ℕ) (room budget : ℕ) → NumberFrom 1 13 (checkedEvaluation bs room buffer budget)
+checked-numbers bs buffer room budget =
+    subst (NumberFrom 1 13) (sym (checked-is bs buffer budget room)) (go (verdict bs room) (verdict-numbers bs room))
+  where
+    go : (v : End (List ℕ)) → NumberFrom 1 13 v → NumberFrom 1 13 (v >>= λ rows. done (reportOf bs buffer budget rows))
+    go (done rows) h = tt
+    go (refused r p) h = h
+
+pub report-numbers : (bs buffer : List ℕ) (room budget : ℕ) (x : Report) → checkedEvaluation bs room buffer budget ≡ done x → NumberFrom 14 19 (x .end)
+report-numbers bs buffer room budget x e = go (verdict bs room) refl (sym (checked-is bs buffer budget room) ∙ e)
+  where
+    go : (v : End (List ℕ)) → verdict bs room ≡ v → (v >>= λ rows. done (reportOf bs buffer budget rows)) ≡ done x → NumberFrom 14 19 (x .end)
+    go (done rows) f h =
+        let i : evaluation bs buffer budget .end ≡ x .end = cc in
+        subst (NumberFrom 14 19) i (accepted-numbers bs buffer rows room budget f)
+    go (refused r p) f h = absurd (absurd01 (cc))
 
 -- The answer, by that of Check.
 module _ (bs sheet buffer : List ℕ) (budget : ℕ) (after : List ℕ) (r : Checked)

@@ -13,11 +13,10 @@ use Rattle.rules.specs.Cells.{noValue}
 use Rattle.rules.specs.Tables.{Table}
 use Rattle.rules.specs.Reading.{reading}
 use Rattle.rules.specs.Ends.{End, done, refused}
-use Rattle.rules.specs.Verdict.{nodePlace, Place, Whole, sheetLength, sheetAfter}
-use Rattle.rules.specs.Verdict.{Verdict, unreadable, misfit, clash, several, heavy, accepts}
+use Rattle.rules.specs.Verdict.{nodePlace, Place, Whole, sheetLength, Verdict, accepts, sheetAfter}
 use Rattle.rules.specs.Evaluation.{evaluation}
 use Rattle.rules.specs.Safety.{Any}
-use Rattle.rules.proofs.ReadingLaws.{reading-numbers, reading-table}
+use Rattle.rules.proofs.ReadingLaws.{reading-table}
 use Rattle.rules.proofs.TypeLaws.{row-injective}
 use Rattle.rules.proofs.SetOrder.{all-imp}
 use Rattle.rules.proofs.TypedTree.{IsExpression}
@@ -30,6 +29,7 @@ use Rattle.conforms.specs.Conforming.{rowAt, HasWritten, Conforming, conforming
 use Rattle.conforms.specs.Rows.{SheetFits}
 use Rattle.conforms.proofs.ConformingLaws.{conforming-right}
 use Rattle.falgrumi.specs.Guarantee.{Guaranteed}
+use Rattle.falgrumi.proofs.EndNumbers.{NumberFrom, verdict-numbers}
 use Rattle.rules.proofs.VerdictLaws.{one-table}
 
 -- The rows are those of a typing of the table.
@@ -104,13 +104,9 @@ pub never-15 : (bs rows buffer : List ℕ) (budget n : ℕ) → Guaranteed bs ro
 never-15 bs rows buffer budget n g e = not-15 Any (evaluation bs buffer budget .end) n (g .ends) e
 
 -- Only acceptance has the number 0, and then the sheet at exit is the rows.
-zero-accepts : {bs : List ℕ} {room : ℕ} {a : End (List ℕ)} → Verdict bs room a → (sheet : List ℕ) → numberOf a ≡ 0 → a ≡ done (sheetAfter a sheet)
-zero-accepts {bs} (unreadable {r} {p} e) sheet z = absurd (omega (arith, reading-numbers bs r p e))
-zero-accepts (misfit e n) sheet z = absurd (omega arith)
-zero-accepts (clash e f l w n) sheet z = absurd (omega arith)
-zero-accepts (several e f h w w₁ d g) sheet z = absurd (omega arith)
-zero-accepts (heavy e f h o l g) sheet z = absurd (omega arith)
-zero-accepts (accepts e f o g) sheet z = refl
+zero-accepts : (a : End (List ℕ)) (sheet : List ℕ) → NumberFrom 1 13 a → numberOf a ≡ 0 → a ≡ done (sheetAfter a sheet)
+zero-accepts (done rows) sheet h z = refl
+zero-accepts (refused r p) sheet h z = absurd (omega (arith, h .0))
 
 -- The claim in the terms of the calls' contracts: the number that Check answers, the sheet at its exit, and the truth that
 -- `conforms` answers for that sheet.
@@ -119,4 +115,4 @@ pub guarantee-calls : (bs sheet buffer : List ℕ) (budget : ℕ) → numberOf (
     Guaranteed bs (sheetAfter (verdict bs (length sheet)) sheet) buffer budget
 guarantee-calls bs sheet buffer budget z c =
     guarantee bs buffer (sheetAfter (verdict bs (length sheet)) sheet) (length sheet) budget
-    (zero-accepts (verdict-right bs (length sheet)) sheet z) (conforming-right bs _ buffer .sound c .1)
+    (zero-accepts _ sheet (verdict-numbers bs (length sheet)) z) (conforming-right bs _ buffer .sound c .1)

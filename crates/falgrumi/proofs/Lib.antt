@@ -1,4 +1,5 @@
--- Laws of the answers.
-pub mod Numbers
+-- Demand 3, and laws of the answers.
+pub mod EndNumbers
 pub mod Demand
 pub mod CheckedLaws
+pub mod Numbers
