@@ -2,4 +2,5 @@
 pub mod EndNumbers
 pub mod Demand
 pub mod CheckedLaws
+pub mod CheckedTrials
 pub mod Numbers
