@@ -12,7 +12,7 @@ use Rattle.evaluate.specs.declared.Ending.the-variants.{Decided}
 use Rattle.evaluate.specs.Result.{endingOf}
 use Rattle.falgrumi.specs.declared.Guarded.{Guarded}
 use Rattle.falgrumi.specs.Guarantee.{Report, guardedOf}
-use Rattle.falgrumi.specs.Answers.{numberOf, placeOf, byteOf, endOf, stepsOf, conformsOf, TellsEnd, TellsRun, TellsReport}
+use Rattle.falgrumi.specs.Answers.{numberOf, placeOf, byteOf, reportedEnd, reportedSteps, reportedConforms, TellsEnd, TellsRun, TellsReport}
 
 -- An answer has the number and the place of its verdict.
 pub answered-told : (v : End (List ℕ)) (a : End (Unit {0})) → a ≡ answered v → TellsEnd v (numberOf a) (placeOf a)
@@ -32,5 +32,5 @@ module _ {r t p s : ℕ} where
 
   -- A checked evaluation is told by its answer x, which has the form y.
   pub report-told : {c : ℕ} {g : End Report} (x y : Guarded) → guardedOf x ≡ g → x ≡ y →
-      TellsRun (endOf (guardedOf y)) (stepsOf (guardedOf y)) r t p s → c ≡ conformsOf (guardedOf y) → TellsReport g r t p s c
+      TellsRun (reportedEnd (guardedOf y)) (reportedSteps (guardedOf y)) r t p s → c ≡ reportedConforms (guardedOf y) → TellsReport g r t p s c
   report-told {c} x y h q k l = subst (λ (a : End Report). TellsReport a r t p s c) (sym (ap guardedOf q) ∙ h) (record { run = k; conform = l })

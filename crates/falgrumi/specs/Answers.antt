@@ -27,16 +27,16 @@ byteOf True = 1
 byteOf False = 0
 
 -- A checked evaluation as one end: the first refusal decides. Check's makes no visits, and no guarantee applies there.
-abbrev pub endOf : End Report → End Bool
-endOf g = g >>= λ x. x .end
+abbrev pub reportedEnd : End Report → End Bool
+reportedEnd g = g >>= λ x. x .end
 
-abbrev pub stepsOf : End Report → ℕ
-stepsOf (done x) = x .steps
-stepsOf (refused r p) = 0
+abbrev pub reportedSteps : End Report → ℕ
+reportedSteps (done x) = x .steps
+reportedSteps (refused r p) = 0
 
-abbrev pub conformsOf : End Report → ℕ
-conformsOf (done x) = bit (x .conforms)
-conformsOf (refused r p) = 0
+abbrev pub reportedConforms : End Report → ℕ
+reportedConforms (done x) = bit (x .conforms)
+reportedConforms (refused r p) = 0
 
 -- The answer r, and what stands at `place`.
 pub record TellsEnd {A : Type 0} (e : End A) (r place : ℕ) : Type 0 where
@@ -51,5 +51,5 @@ pub record TellsRun (e : End Bool) (visits r truth place steps : ℕ) : Type 0 w
 
 -- The same of a checked evaluation, and what stands at `conforms`.
 pub record TellsReport (g : End Report) (r truth place steps conforms : ℕ) : Type 0 where
-  pub run : TellsRun (endOf g) (stepsOf g) r truth place steps
-  pub conform : conforms ≡ conformsOf g
+  pub run : TellsRun (reportedEnd g) (reportedSteps g) r truth place steps
+  pub conform : conforms ≡ reportedConforms g
