@@ -4,13 +4,15 @@
  *
  * Pointers and lengths. Bytes are lent as a pointer and then their number. Every pointer must be valid and not NULL, for
  *   length 0 too (any object's address will do there: such a pointer is never read). `place` and `steps` must be aligned as
- *   their types are. What a function writes (the sheet, *truth, *place, *steps) must not overlap anything else that is lent.
+ *   their types are. What a function writes (the sheet, *truth, *place, *steps, *conforms) must not overlap anything else that
+ *   is lent.
  * Lifetimes. A function keeps no pointer: all that is lent is the caller's again when the call returns.
  * Any bytes will do. Whatever the table, sheet and values hold, a call ends, stays inside what it was lent, and answers.
  * Threads. Nothing is kept between calls, and there is no shared state: calls may run at the same time, if no one writes
  *   what another reads or writes.
  * Stack. The functions allocate nothing and work on the caller's stack. The most that was measured (x86-64; tall tables over
- *   deeply nested values, and generated ones) is 75 KB for falgrumi_check and 283 KB for falgrumi_evaluate; lend 0.4 MB.
+ *   deeply nested values, and generated ones) is 75 KB for falgrumi_check and 283 KB for falgrumi_evaluate, and
+ *   falgrumi_checked_evaluate takes what the larger of its calls takes; lend 0.4 MB.
  * Bytes. A word is 4 bytes, least byte first. */
 #ifndef FALGRUMI_H
 #define FALGRUMI_H
@@ -43,8 +45,8 @@ enum falgrumi_size {
     FALGRUMI_MAX_VALUES_BYTES = 65536
 };
 
-/* The answers. Check gives 0 to 13, Evaluate 0 to 9 and 14 to 19. In brackets: what the place counts; it is 0 where nothing is
- * said. Where several things of one kind are wrong, the place is the least. */
+/* The answers. Check gives 0 to 13, Evaluate 0 to 9 and 14 to 19, a checked evaluation 0 to 19. In brackets: what the place
+ * counts; it is 0 where nothing is said. Where several things of one kind are wrong, the place is the least. */
 enum falgrumi_refusal {
     /* The table is accepted, or the condition has a truth. */
     FALGRUMI_NO_REFUSAL = 0,
@@ -123,10 +125,25 @@ uint8_t falgrumi_evaluate(const uint8_t *table, size_t table_length, const uint8
                           uint32_t budget, uint8_t *truth, uint64_t *place, uint32_t *steps);
 
 /* Whether the values have the types that the sheet gives to the free identifiers. Where falgrumi_check has accepted the table
- * and written the sheet, no evaluation at such values ends in refusal 15. Answers 1 where the table is readable, the sheet has its length, the values pass refusal
- * 14 and each has the type in its identifier's row; 0 otherwise. Everything is read only. */
+ * and written the sheet, no evaluation at such values ends in refusal 15. Answers 1 where the table is readable, the sheet has
+ * its length, the values pass refusal 14 and each has the type in its identifier's row; 0 otherwise. Everything is read only. */
 uint8_t falgrumi_conforms(const uint8_t *table, size_t table_length, const uint8_t *sheet, size_t sheet_length,
                           const uint8_t *values, size_t values_length);
+
+/* A checked evaluation: Check, and where it accepts the table, Evaluate, with whether the guarantee holds of it.
+ *
+ *   table, sheet           as for falgrumi_check: the sheet is written only where Check accepts the table.
+ *   values, budget         as for falgrumi_evaluate.
+ *   truth, place, steps    as for falgrumi_evaluate, written at every return; 0 steps where Check refuses.
+ *   conforms               written at every return: 1 where Check accepts the table and the values have the types that it has
+ *                          written for the free identifiers, else 0. Where it is 1 the guarantee holds: the answer is 0 or 16
+ *                          to 19, and every value that the evaluation forms has the type in its node's row.
+ *
+ * Answers a number of enum falgrumi_refusal: 1 to 13 is Check's refusal, 0 and 14 to 19 the evaluation's answer, whether or not
+ * the values conform. */
+uint8_t falgrumi_checked_evaluate(const uint8_t *table, size_t table_length, uint8_t *sheet, size_t sheet_length,
+                                  const uint8_t *values, size_t values_length, uint32_t budget, uint8_t *truth,
+                                  uint64_t *place, uint32_t *steps, uint8_t *conforms);
 
 #ifdef __cplusplus
 }

@@ -10,9 +10,11 @@ usage:
       says whether the table is accepted, with the type of each identifier and node
   falgrumi show FILE
       draws the table as a tree, with types where it is accepted and else the refused place marked
-  falgrumi evaluate FILE [--values FILE] [--budget N]
+  falgrumi evaluate FILE [--values FILE] [--budget N] [--checked]
       says whether the condition is true or false, with the steps made; the values are those of
-      the free identifiers, and a table without any needs none; N is 1000000 unless told
+      the free identifiers, and a table without any needs none; N is 1000000 unless told;
+      --checked checks the table first, and says whether the values have its types, so that the
+      guarantee applies: no refusal 15, and every value formed has the type of its node
   falgrumi -h | --help
 
 A FILE `-` is standard input. Exit status: 0 accepted or evaluated, 1 refused, 2 bad file or
@@ -32,6 +34,7 @@ pub struct Evaluate {
     pub table: OsString,
     pub values: Option<OsString>,
     pub budget: u32,
+    pub checked: bool,
 }
 
 pub fn parse(arguments: &[OsString]) -> Result<Command, String> {
@@ -63,11 +66,18 @@ fn is_option(word: &OsStr) -> bool {
 
 fn evaluate(words: &[OsString]) -> Result<Evaluate, String> {
     let (mut files, mut values, mut budget) = (Vec::new(), None, None);
+    let mut checked = false;
     let mut words = words.iter();
     while let Some(word) = words.next() {
         let slot = match word.to_str() {
             Some("--values") => &mut values,
             Some("--budget") => &mut budget,
+            Some("--checked") => {
+                if std::mem::replace(&mut checked, true) {
+                    return Err(format!("{word:?} is given twice"));
+                }
+                continue;
+            }
             _ => {
                 files.push(word.clone());
                 continue;
@@ -86,6 +96,7 @@ fn evaluate(words: &[OsString]) -> Result<Evaluate, String> {
         table,
         values,
         budget: budget.map_or(Ok(1_000_000), number)?,
+        checked,
     })
 }
 
@@ -112,24 +123,29 @@ mod tests {
 
     #[test]
     fn commands_are_understood() {
-        let evaluate = |values: Option<&str>, budget| {
+        let evaluate = |values: Option<&str>, budget, checked| {
             let (table, values) = ("t".into(), values.map(OsString::from));
             Ok(Command::Evaluate(Evaluate {
                 table,
                 values,
                 budget,
+                checked,
             }))
         };
         assert_eq!(parsed("check -"), Ok(Command::Check("-".into())));
         assert_eq!(parsed("show t"), Ok(Command::Show("t".into())));
-        assert_eq!(parsed("evaluate t"), evaluate(None, 1_000_000));
+        assert_eq!(parsed("evaluate t"), evaluate(None, 1_000_000, false));
+        assert_eq!(
+            parsed("evaluate --checked t"),
+            evaluate(None, 1_000_000, true)
+        );
         assert_eq!(
             parsed("evaluate --budget 0 t --values v"),
-            evaluate(Some("v"), 0)
+            evaluate(Some("v"), 0, false)
         );
         assert_eq!(
             parsed("evaluate t --budget 4294967295"),
-            evaluate(None, u32::MAX)
+            evaluate(None, u32::MAX, false)
         );
         assert_eq!(parsed("-h"), Ok(Command::Help));
         assert_eq!(parsed("check t --help"), Ok(Command::Help));
@@ -151,6 +167,7 @@ mod tests {
             "evaluate t --budget -1",
             "evaluate t --budget 4294967296",
             "evaluate t --budget 1 --budget 2",
+            "evaluate t --checked --checked",
             "evaluate - --values -",
             "evaluate --fast",
         ];

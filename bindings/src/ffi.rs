@@ -30,6 +30,20 @@ mod c {
             values: *const u8,
             values_length: usize,
         ) -> u8;
+
+        pub fn falgrumi_checked_evaluate(
+            table: *const u8,
+            table_length: usize,
+            sheet: *mut u8,
+            sheet_length: usize,
+            values: *const u8,
+            values_length: usize,
+            budget: u32,
+            truth: *mut u8,
+            place: *mut u64,
+            steps: *mut u32,
+            conforms: *mut u8,
+        ) -> u8;
     }
 }
 
@@ -89,4 +103,32 @@ pub fn conforms(table: &[u8], sheet: &[u8], values: &[u8]) -> bool {
         )
     };
     answer == 1
+}
+
+/// The answer, and whether the values conform.
+pub fn checked_evaluate(
+    table: &[u8],
+    sheet: &mut [u8],
+    values: &[u8],
+    budget: u32,
+) -> (Answer, bool) {
+    let mut answer = Answer::default();
+    let mut conforms = 0;
+    // SAFETY: as for `check`; only the sheet and the four numbers are written.
+    answer.number = unsafe {
+        c::falgrumi_checked_evaluate(
+            table.as_ptr(),
+            table.len(),
+            sheet.as_mut_ptr(),
+            sheet.len(),
+            values.as_ptr(),
+            values.len(),
+            budget,
+            &mut answer.truth,
+            &mut answer.place,
+            &mut answer.steps,
+            &mut conforms,
+        )
+    };
+    (answer, conforms == 1)
 }

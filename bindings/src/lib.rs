@@ -30,6 +30,15 @@ pub struct Evaluation {
     pub steps: u32,
 }
 
+/// What a checked evaluation answers where Check accepts the table.
+#[derive(Clone, Copy, PartialEq, Eq, Debug)]
+pub struct GuardedRun {
+    pub evaluation: Evaluation,
+    /// Whether the values have the types that Check gives to the free identifiers. Then the guarantee holds: the evaluation does
+    /// not end in refusal 14 or 15, and every value that it forms has the type in its node's row.
+    pub conforms: bool,
+}
+
 /// Checks a table: the types of its identifiers and nodes, or the refusal.
 pub fn check(table: &[u8]) -> Result<Sheet, Refusal> {
     let mut rows = vec![0; sheet_length(table)];
@@ -47,11 +56,26 @@ pub fn check_into(table: &[u8], sheet: &mut [u8]) -> Result<(), Refusal> {
 
 /// Evaluates a table at the values of its free identifiers, with at most `budget` visits.
 pub fn evaluate(table: &[u8], values: &[u8], budget: u32) -> Evaluation {
-    let answer = ffi::evaluate(table, values, budget);
-    let outcome = refused(answer.number, answer.place).map_or(Ok(answer.truth == 1), Err);
-    Evaluation {
-        outcome,
-        steps: answer.steps,
+    ended(ffi::evaluate(table, values, budget))
+}
+
+/// Checks a table, writes its rows as `check_into` does, and evaluates it: Check's refusal, or the evaluation, with whether the
+/// guarantee holds of it.
+pub fn checked_evaluation(
+    table: &[u8],
+    sheet: &mut [u8],
+    values: &[u8],
+    budget: u32,
+) -> Result<GuardedRun, Refusal> {
+    let (answer, conforms) = ffi::checked_evaluate(table, sheet, values, budget);
+    let evaluation = ended(answer);
+    match evaluation.outcome {
+        // Check's numbers; an evaluation of an accepted table has 14 to 19.
+        Err(refusal) if refusal.number <= 13 => Err(refusal),
+        _ => Ok(GuardedRun {
+            evaluation,
+            conforms,
+        }),
     }
 }
 
@@ -76,6 +100,14 @@ pub fn sheet_length(table: &[u8]) -> usize {
 pub fn word(bytes: &[u8], number: usize) -> Option<u32> {
     let four = bytes.chunks_exact(4).nth(number)?;
     Some(u32::from_le_bytes([four[0], four[1], four[2], four[3]]))
+}
+
+fn ended(answer: ffi::Answer) -> Evaluation {
+    let outcome = refused(answer.number, answer.place).map_or(Ok(answer.truth == 1), Err);
+    Evaluation {
+        outcome,
+        steps: answer.steps,
+    }
 }
 
 fn refused(number: u8, place: u64) -> Option<Refusal> {

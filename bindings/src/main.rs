@@ -87,13 +87,45 @@ fn show(table: &[u8]) -> Report {
 fn evaluate(wanted: &Evaluate) -> Result<Report, String> {
     let table = read(&wanted.table)?;
     let values = wanted.values.as_deref().map_or(Ok(Vec::new()), read)?;
-    let evaluation = falgrumi::evaluate(&table, &values, wanted.budget);
+    if !wanted.checked {
+        let evaluation = falgrumi::evaluate(&table, &values, wanted.budget);
+        return ended(&table, wanted, &evaluation);
+    }
+    let mut sheet = vec![0; falgrumi::sheet_length(&table)];
+    match falgrumi::checked_evaluation(&table, &mut sheet, &values, wanted.budget) {
+        Ok(run) => {
+            let report = ended(&table, wanted, &run.evaluation)?;
+            let guarantee = match run.conforms {
+                true => {
+                    "the guarantee applies: the table is accepted, and the values have its types"
+                }
+                false => {
+                    "the guarantee does not apply: the values do not have the types of the table"
+                }
+            };
+            Ok(Report {
+                text: format!("{}{guarantee}\n", report.text),
+                refused: report.refused,
+            })
+        }
+        Err(refusal) => Ok(Report {
+            text: show::refusal(&table, &refusal) + "not evaluated: the table is not accepted\n",
+            refused: true,
+        }),
+    }
+}
+
+fn ended(
+    table: &[u8],
+    wanted: &Evaluate,
+    evaluation: &falgrumi::Evaluation,
+) -> Result<Report, String> {
     let answer = match evaluation.outcome {
         Ok(truth) => format!("{truth}\n"),
         Err(refusal) if refusal.number == 14 && wanted.values.is_none() => {
-            return Err(missing_values(&table));
+            return Err(missing_values(table));
         }
-        Err(refusal) => show::refusal(&table, &refusal),
+        Err(refusal) => show::refusal(table, &refusal),
     };
     Ok(Report {
         text: format!("{answer}steps: {}\n", evaluation.steps),

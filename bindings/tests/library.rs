@@ -1,6 +1,9 @@
 //! The library through its safe calls: document 01's conditions, and what the wrapper adds.
 
-use falgrumi::{check, check_into, conforms, evaluate, sheet_length, Evaluation, Refusal};
+use falgrumi::{
+    check, check_into, checked_evaluation, conforms, evaluate, sheet_length, Evaluation,
+    GuardedRun, Refusal,
+};
 
 const P1: &[u8] = include_bytes!("../../tables/p1");
 const P2: &[u8] = include_bytes!("../../tables/p2");
@@ -207,4 +210,51 @@ fn values_conform_to_the_sheet() {
     );
     sheet[0] ^= 1;
     assert!(!conforms(GATE, &sheet, open), "another type");
+}
+
+/// A checked evaluation is Check's refusal with the sheet left alone, or the sheet written, the evaluation's own answer, and
+/// whether the values conform.
+#[test]
+fn a_checked_evaluation_is_its_three_calls() {
+    let (one, yes) = ([23, 1, 0, 0], [24, 1, 0, 0]);
+    let p4 = table(&[], &[one, yes, [6, 0, 1, 0]]);
+    let p8 = table(&[], &[[26, 0, 0, 0], [43, 0, 0, 0], one, [6, 1, 2, 0]]);
+    let (integer, surplus) = ([1, 0, 0, 0, 1, 0, 0, 0], [ELEMENT, &[0]].concat());
+    let open = include_bytes!("../../tests/values/gate-open");
+    let cases: [(&[u8], &[u8], u32); 12] = [
+        (P1, ELEMENT, 100),
+        (P1, ELEMENT, 2),
+        (P1, &integer, 100),
+        (P1, &[], 100),
+        (P1, &surplus, 100),
+        (P2, &[], 100),
+        (P3, ELEMENT, 100),
+        (&p4, &[], 100),
+        (&p8, &[], 100),
+        (GATE, open, 100),
+        (GATE, &open[1..], 100),
+        (&P1[..87], ELEMENT, 100),
+    ];
+    let mut applied = 0;
+    for (table, values, budget) in cases {
+        let length = sheet_length(table);
+        for room in [length, length + 1] {
+            let (mut wanted, mut sheet) = (vec![0xA5; room], vec![0xA5; room]);
+            let answer = checked_evaluation(table, &mut sheet, values, budget);
+            let calls = check_into(table, &mut wanted).map(|()| GuardedRun {
+                evaluation: evaluate(table, values, budget),
+                conforms: conforms(table, &wanted, values),
+            });
+            assert_eq!((answer, &sheet), (calls, &wanted));
+            applied += usize::from(answer.is_ok_and(|run| run.conforms));
+        }
+    }
+    assert_eq!(applied, 4, "P1 twice, P8 and the gate");
+    let mut sheet = vec![0; sheet_length(P1)];
+    let unlike = checked_evaluation(P1, &mut sheet, &integer, 100).expect("P1 is accepted");
+    assert_eq!(unlike.evaluation, ends(Err(refused(15, 2)), 3));
+    assert!(!unlike.conforms);
+    let cut = checked_evaluation(P1, &mut sheet, &[], 100).expect("P1 is accepted");
+    assert_eq!(cut.evaluation, ends(Err(refused(14, 0)), 0));
+    assert!(!cut.conforms);
 }

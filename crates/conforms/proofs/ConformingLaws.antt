@@ -1,10 +1,11 @@
--- `conforming` is true exactly where `Conforming` holds; so an answer that decides `Conforming` is `conforming`.
+-- `conforming` is true exactly where the sheet has the table's length and `Conforming` holds; so an answer that decides this is
+-- `conforming`.
 use Prim.Native.Nat.{ℕ, zero, suc, _+_, _*_, _≤_}
 use mathlib.Core.Bool.{Bool, _&&_}
 use mathlib.Core.List.{List}
 use mathlib.Core.Logic.{_↔_}
 use mathlib.Core.Option.{Option, none as nothing, some}
-use mathlib.Core.Path.{_≡_, refl}
+use mathlib.Core.Path.{_≡_, refl, sym, ap, _∙_}
 use native.Mathlib.Omega.{arith}
 use lib.Dec.{T, eqb}
 use lib.ListN.{length, getD}
@@ -18,10 +19,12 @@ use Rattle.rules.specs.Ends.{allBelow, doneWith}
 use Rattle.rules.specs.Verdict.{sheetLength}
 use Rattle.rules.specs.Safety.{Free}
 use Rattle.rules.proofs.EndLaws.{T-and, T-eqb, T-allBelow, T-doneWith}
-use Rattle.rules.proofs.TypeLaws.{typeOfRow-right}
+use Rattle.rules.proofs.TypeLaws.{typeOfRow-right, row-read}
 use Rattle.rules.proofs.FitsLaws.{hasType-right}
+use Rattle.rules.proofs.ReadingLaws.{reading-table}
 use Rattle.fitting.specs.Types.{Decides}
 use Rattle.conforms.specs.Conforming.{rowAt, HasWritten, Conforming, hasTypeRead, hasWritten, ifFree, freeHas, conforming}
+use Rattle.conforms.specs.Rows.{SheetFits}
 use Rattle.conforms.proofs.RowLaws.{test-decides, decides-same, row-long}
 use Rattle.rules.proofs.Basics.{absurd01}
 
@@ -33,32 +36,29 @@ type-read (some t) v = (
 )
 
 -- A value of the type that is written at a place.
-module _ (sheet : List ℕ) (p : ℕ) (v : Value) (room : 64 * p + 64 ≤ length sheet) where
-  written-there : T (hasWritten sheet p v) → HasWritten sheet p v
-  written-there h =
-      let x = type-read (typeOfRow (rowAt sheet p)) v .0 h in
-      let y = typeOfRow-right (rowAt sheet p) (x .0) (row-long sheet p room) .0 (x .1) in
-      (x .0, y .0, y .1, x .2)
+written-there : (sheet : List ℕ) (p : ℕ) (v : Value) → 64 * p + 64 ≤ length sheet → T (hasWritten sheet p v) → HasWritten sheet p v
+written-there sheet p v room h =
+    let x = type-read (typeOfRow (rowAt sheet p)) v .0 h in
+    (x .0, typeOfRow-right (rowAt sheet p) (x .0) (row-long sheet p room) .0 (x .1) .0, x .2)
 
-  written-back : HasWritten sheet p v → T (hasWritten sheet p v)
-  written-back x =
-      let y = typeOfRow-right (rowAt sheet p) (x .0) (row-long sheet p room) .1 (x .1, x .2) in
-      type-read (typeOfRow (rowAt sheet p)) v .1 (x .0, y, x .3)
+written-back : (sheet : List ℕ) (p : ℕ) (v : Value) → HasWritten sheet p v → T (hasWritten sheet p v)
+written-back sheet p v x = type-read (typeOfRow (rowAt sheet p)) v .1 (x .0, ap typeOfRow (x .1) ∙ row-read (x .0), x .2)
 
 if-free : (w : ℕ) (b : Bool) → T (ifFree w b) ↔ (w ≡ 0 → T b)
 if-free zero b = (λ t e. t, λ f. f refl)
 if-free (suc w) b = (λ t e. absurd (omega arith), λ f. tt)
 
 -- The values of the free identifiers.
-module _ (tb : Table) (sheet : List ℕ) (vs : List Value) (fits : length sheet ≡ sheetLength tb) where
-  all-there : T (allBelow (freeHas tb sheet vs) (length (tb .binds))) → (x : ℕ) → Free tb x → HasWritten sheet x (getD vs x noValue)
-  all-there h x f =
+module _ (tb : Table) (sheet : List ℕ) (vs : List Value) where
+  all-there : length sheet ≡ sheetLength tb → T (allBelow (freeHas tb sheet vs) (length (tb .binds))) →
+      (x : ℕ) → Free tb x → HasWritten sheet x (getD vs x noValue)
+  all-there fits h x f =
       let y = T-allBelow (freeHas tb sheet vs) (length (tb .binds)) .0 h x (f .0) in
       written-there sheet x _ (omega (arith, f .0)) (if-free (getD (tb .binds) x 1) _ .0 y (f .1))
 
   all-back : ((x : ℕ) → Free tb x → HasWritten sheet x (getD vs x noValue)) → T (allBelow (freeHas tb sheet vs) (length (tb .binds)))
   all-back h = T-allBelow (freeHas tb sheet vs) (length (tb .binds)) .1
-      (λ x l. if-free (getD (tb .binds) x 1) _ .1 (λ e. written-back sheet x _ (omega arith) (h x (l, e))))
+      (λ x l. if-free (getD (tb .binds) x 1) _ .1 (λ e. written-back sheet x _ (h x (l, e))))
 
 module _ (bs sheet buffer : List ℕ) where
   -- What `conforming` tests of the table: the sheet's length, and the values.
@@ -68,27 +68,30 @@ module _ (bs sheet buffer : List ℕ) where
   abbrev loaded : Table → Bool
   loaded tb = doneWith (valuesIn tb buffer) λ vs. allBelow (freeHas tb sheet vs) (length (tb .binds))
 
-  conforming-there : T (conforming bs sheet buffer) → Conforming bs sheet buffer
+  conforming-there : T (conforming bs sheet buffer) → SheetFits bs sheet × Conforming bs sheet buffer
   unfolding conforming
   conforming-there h =
       let x = T-doneWith (reading bs) (λ tb. sized tb && loaded tb) .0 h in
       let y = T-and (sized (x .0)) (loaded (x .0)) .0 (x .2) in
       let f = T-eqb _ _ .0 (y .0) in
-      let z = T-doneWith (valuesIn (x .0) buffer) (λ vs. allBelow (freeHas (x .0) sheet vs) (length (x .0 .binds))) .0 (y .1) in
-      record { table = x .0; reads = x .1; fits = f; values = z .0; loads = z .1; types = all-there (x .0) sheet (z .0) f (z .2) }
+      let z = T-doneWith (valuesIn (x .0) buffer) (λ vs. allBelow (freeHas (x .0) sheet vs) (length (x .0 .binds))) .0 (y .1) in (
+        record { rows = f ∙ ap sheetLength (reading-table bs (x .0) (x .1)) },
+        record { table = x .0; reads = x .1; values = z .0; loads = z .1; types = all-there (x .0) sheet (z .0) f (z .2) },
+      )
 
-  conforming-back : Conforming bs sheet buffer → T (conforming bs sheet buffer)
+  conforming-back : SheetFits bs sheet × Conforming bs sheet buffer → T (conforming bs sheet buffer)
   unfolding conforming
-  conforming-back k =
+  conforming-back (f, k) =
       let tb = k .table in
       let z = T-doneWith (valuesIn tb buffer) (λ vs. allBelow (freeHas tb sheet vs) (length (tb .binds))) .1
-      (k .values, k .loads, all-back tb sheet (k .values) (k .fits) (k .types)) in
-      T-doneWith (reading bs) (λ tb. sized tb && loaded tb) .1 (tb, k .reads, T-and (sized tb) (loaded tb) .1 (T-eqb _ _ .1 (k .fits), z))
+      (k .values, k .loads, all-back tb sheet (k .values) (k .types)) in
+      let s = T-eqb _ _ .1 (f .rows ∙ sym (ap sheetLength (reading-table bs tb (k .reads)))) in
+      T-doneWith (reading bs) (λ tb. sized tb && loaded tb) .1 (tb, k .reads, T-and (sized tb) (loaded tb) .1 (s, z))
 
-  -- The computing definition says what the other does.
-  pub conforming-right : Decides (conforming bs sheet buffer) (Conforming bs sheet buffer)
+  -- The computing definition says what the other does, and that the sheet has the table's length.
+  pub conforming-right : Decides (conforming bs sheet buffer) (SheetFits bs sheet × Conforming bs sheet buffer)
   conforming-right = test-decides _ _ (conforming-there, conforming-back)
 
-  -- An answer that decides `Conforming` is `conforming`.
-  pub conforming-is : (r : Bool) → Decides r (Conforming bs sheet buffer) → r ≡ conforming bs sheet buffer
+  -- An answer that decides the same is `conforming`.
+  pub conforming-is : (r : Bool) → Decides r (SheetFits bs sheet × Conforming bs sheet buffer) → r ≡ conforming bs sheet buffer
   conforming-is r d = decides-same _ r _ d conforming-right

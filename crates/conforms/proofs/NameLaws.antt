@@ -3,7 +3,7 @@ use Prim.Native.Nat.{ℕ, _+_, _*_, _≤_, _<_}
 use mathlib.Core.Bool.{Bool, true, false}
 use mathlib.Core.List.{List}
 use mathlib.Core.Logic.{_≢_}
-use mathlib.Core.Path.{_≡_, sym, ap, _∙_, subst}
+use mathlib.Core.Path.{_≡_, sym, _∙_, subst}
 use native.Mathlib.Omega.{arith}
 use native.Mathlib.Decide.{ℕ-discrete}
 use lib.ListN.{length, getD}
@@ -15,7 +15,6 @@ use Rattle.rules.specs.Ends.{End, done, refused}
 use Rattle.rules.specs.Tables.{Table, tableOf, identifierCount, nodeCount}
 use Rattle.rules.specs.Reading.{reading}
 use Rattle.rules.specs.Readable.{Readable}
-use Rattle.rules.specs.Verdict.{sheetLength}
 use Rattle.rules.proofs.ReadingLaws.{reading-right, reading-table}
 use Rattle.rules.proofs.TableLaws.{binds-length, nodes-length}
 use Rattle.rules.specs.Safety.{Free}
@@ -32,7 +31,7 @@ use Rattle.buffer.specs.Loaded.{Bound, Loads, LoadReady}
 use Rattle.conforms.specs.Conforming.{HasWritten, Conforming}
 use Rattle.buffer.specs.Buffer.{cellsAtMost}
 use Rattle.conforms.specs.Rows.{RowOf, SomeTypeRow, OfRow, NameRowReady, NameHas, AllStand, AllReady, SheetFits, AllOfRows, AllConform}
-use Rattle.conforms.proofs.RowLaws.{agrees, decided-no, row-stands, row-there}
+use Rattle.conforms.proofs.RowLaws.{agrees, decided-no, row-light, row-stands, row-there}
 use Rattle.rules.proofs.Basics.{absurd01}
 
 -- The type of a row, which q says is one.
@@ -57,11 +56,12 @@ module _ (bs s : List ℕ) (at : ℕ) (sheet : List ℕ) (x w : ℕ) (word : Wor
 
   pub name-free : (r : Bool) → w ≡ 0 → NameRowReady bs s at sheet x → OfRow s at sheet (64 * x) r → NameHas bs s at sheet x r
   name-free r e p o v h f = record {
-    sound = λ y k. let z = o v h f .sound y in (z .0, row-there sheet x (z .0) (z .1 .light) (p .inside) (z .1 .codes), z .1 .light, z .2);
+    sound = λ y k. let z = o v h f .sound y in (z .0, row-there sheet x (z .0) (z .1 .light) (p .inside) (z .1 .codes), z .2);
     complete = λ g.
         let k : Free (tableOf bs) x = (omega (arith, p .below, binds-length bs), sym (word 1) ∙ e) in
         let z = g k in
-        o v h f .complete (z .0, record { codes = row-stands sheet x (z .0) (z .2) (p .inside) (z .1); light = z .2 }, z .3);
+        let l = row-light sheet x (z .0) (z .1) in
+        o v h f .complete (z .0, record { codes = row-stands sheet x (z .0) l (p .inside) (z .1); light = l }, z .2);
   }
 
 -- The identifiers below x have values of their types.
@@ -129,9 +129,10 @@ sheet-fits bs sheet i n e f g = record { rows = omega (arith, binds-length bs, n
 
 -- The answer as a whole.
 module _ (bs sheet buffer : List ℕ) where
-  pub no-reading : (a : Reading) (x : Refusal) → readingOf bs a ≡ reading bs → a ≡ Unreadable x → Decides false (Conforming bs sheet buffer)
-  no-reading a x e f = refuses (Conforming bs sheet buffer)
-      (λ k. not-both (reading bs) (k .reads) (sym (subst (λ (b : Reading). readingOf bs b ≡ reading bs) f e)))
+  pub no-reading : (a : Reading) (x : Refusal) → readingOf bs a ≡ reading bs → a ≡ Unreadable x →
+      Decides false (SheetFits bs sheet × Conforming bs sheet buffer)
+  no-reading a x e f = refuses (SheetFits bs sheet × Conforming bs sheet buffer)
+      (λ k. not-both (reading bs) (k .1 .reads) (sym (subst (λ (b : Reading). readingOf bs b ≡ reading bs) f e)))
 
   the-table : (k : Conforming bs sheet buffer) → k .table ≡ tableOf bs
   the-table k = reading-table bs (k .table) (k .reads)
@@ -141,9 +142,12 @@ module _ (bs sheet buffer : List ℕ) where
   unfolding valuesIn
   the-values k = subst (λ (tb : Table). valuesIn tb buffer ≡ done (k .values)) (the-table k) (k .loads)
 
-  pub misfits : (i n : ℕ) → i ≡ identifierCount bs → n ≡ nodeCount bs → length sheet ≢ 64 * (i + n) → Decides false (Conforming bs sheet buffer)
-  misfits i n e f ne = refuses (Conforming bs sheet buffer)
-      (λ k. let g : length sheet ≡ sheetLength (tableOf bs) = k .fits ∙ ap sheetLength (the-table k) in ne (omega (arith, binds-length bs, nodes-length bs)))
+  pub misfits : (i n : ℕ) → i ≡ identifierCount bs → n ≡ nodeCount bs → length sheet ≢ 64 * (i + n) →
+      Decides false (SheetFits bs sheet × Conforming bs sheet buffer)
+  misfits i n e f ne = refuses (SheetFits bs sheet × Conforming bs sheet buffer) (λ k. ne (omega (arith, k .0 .rows, binds-length bs, nodes-length bs)))
+
+  pub sized-decides : (r : Bool) → SheetFits bs sheet → Decides r (Conforming bs sheet buffer) → Decides r (SheetFits bs sheet × Conforming bs sheet buffer)
+  sized-decides r f d = record { sound = λ y. (f, d .sound y); complete = λ k. d .complete (k .1) }
 
   pub no-values : (x : ℕ) → valuesFrom (tableOf bs .sizes) (tableOf bs .binds) 0 buffer ≡ refused 14 x → Decides false (Conforming bs sheet buffer)
   no-values x e = refuses (Conforming bs sheet buffer)
@@ -163,7 +167,6 @@ module _ (bs sheet buffer : List ℕ) where
       sound = λ y. record {
         table = tableOf bs;
         reads = reading-right bs .1 readable;
-        fits = fits .rows;
         values = b .values;
         loads = b .reads;
         types = h (b .values) all-stand .sound y;

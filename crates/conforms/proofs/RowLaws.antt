@@ -9,7 +9,7 @@ use native.Mathlib.Nat.{add-zero}
 use native.Mathlib.Decide.{ℕ-discrete, decLt}
 use lib.Dec.{T, leb}
 use borrow.Author.Tests.{leb-true, le-leb}
-use lib.ListN.{length, getD, drop, replicate, length-take, length-drop, length-replicate, getD-replicate}
+use lib.ListN.{length, getD, drop, replicate, length-append, length-take, length-drop, length-replicate, getD-replicate}
 use lib.Seq.{getD-take, getD-drop, ext-getD}
 use Rattle.rules.specs.Types.{whole, Atom, number, bool, given, Ty, atom, POW, _⊗_, atomCode, weightᵀ, prefix, row}
 use Rattle.rules.proofs.TypeLaws.{weight-positive, prefix-length, row-length, prefixes}
@@ -249,6 +249,12 @@ blank-end sheet at i end b e = rw (sym e) b
 -- The row of a place has 64 bytes, and stands from those of the place on.
 pub row-long : (sheet : List ℕ) (p : ℕ) → 64 * p + 64 ≤ length sheet → length (rowAt sheet p) ≡ 64
 row-long sheet p room = omega (arith, length-take 64 (drop (64 * p) sheet), length-drop (64 * p) sheet)
+
+-- A type whose row is that of a place weighs at most 64, since a row is no shorter than its type's codes.
+pub row-light : (sheet : List ℕ) (p : ℕ) (t : Ty) → rowAt sheet p ≡ row t → weightᵀ t ≤ 64
+unfolding row
+row-light sheet p t e =
+    omega (arith, ap length e, length-take 64 (drop (64 * p) sheet), length-append (prefix t) (replicate (64 - weightᵀ t) 0), prefix-length t)
 
 module _ (sheet : List ℕ) (p : ℕ) (t : Ty) (w : weightᵀ t ≤ 64) (room : 64 * p + 64 ≤ length sheet) where
   pub row-stands : rowAt sheet p ≡ row t → Stands sheet (64 * p) (row t)

@@ -151,7 +151,9 @@ fn conforms_fitting(table: &[u8], sheet: &[u8], values: &[u8]) -> bool
 
 fn conforms_readable(table: &[u8], sheet: &[u8], values: &[u8]) -> bool
     requires { ⌜ Readable (now table) ⌝ }
-    ensures { λ r. ⌜ Decides r (Conforming (now (table .entry)) (now (sheet .entry)) (now (values .entry))) ⌝ }
+    ensures { λ r. ⌜
+        Decides r (SheetFits (now (table .entry)) (now (sheet .entry)) × Conforming (now (table .entry)) (now (sheet .entry)) (now (values .entry)))
+        ⌝ }
 {
     if sheet.len() != 64 * (table::identifiers(table) + table::nodes(table)) {
         return false;

@@ -1,4 +1,6 @@
--- Laws of the answers.
-pub mod Numbers
+-- Demand 3, and laws of the answers.
+pub mod EndNumbers
 pub mod Demand
-pub mod Guarding
+pub mod CheckedLaws
+pub mod CheckedTrials
+pub mod Numbers

@@ -1,28 +1,36 @@
--- The number, the place and the truth of an answer.
+-- The answers of the calls in numbers, as the exported functions tell them.
 use Prim.Native.Nat.{ℕ}
 use mathlib.Core.Bool.{Bool}
 use mathlib.Core.List.{List}
-use mathlib.Core.Path.{_≡_, ap, sym, _∙_}
+use mathlib.Core.Path.{_≡_, refl, ap, sym, _∙_, subst}
 use Rattle.rules.specs.Ends.{End, done, refused}
 use Rattle.checker.specs.Answers.{answered}
-use Rattle.reading.specs.declared.Refusal.{Refusal}
 use Rattle.evaluate.specs.declared.Truth.{Truth}
 use Rattle.evaluate.specs.declared.Truth.the-variants.{True, False}
 use Rattle.evaluate.specs.declared.Ending.{Ending}
-use Rattle.evaluate.specs.declared.Ending.the-variants.{Decided, Refused}
+use Rattle.evaluate.specs.declared.Ending.the-variants.{Decided}
 use Rattle.evaluate.specs.Result.{endingOf}
-use Rattle.falgrumi.specs.Answers.{numberOf, placeOf, truthOf, byteOf}
+use Rattle.falgrumi.specs.declared.Guarded.{Guarded}
+use Rattle.falgrumi.specs.Guarantee.{Report, guardedOf}
+use Rattle.falgrumi.specs.Answers.{numberOf, placeOf, byteOf, reportedEnd, reportedSteps, reportedConforms, TellsEnd, TellsRun, TellsReport}
 
 -- An answer has the number and the place of its verdict.
-pub number-answered : (v : End (List ℕ)) (a : End (Unit {0})) → a ≡ answered v → (numberOf a ≡ numberOf v) × (placeOf a ≡ placeOf v)
-number-answered (done rows) a e = (ap numberOf e, ap placeOf e)
-number-answered (refused r p) a e = (ap numberOf e, ap placeOf e)
+pub answered-told : (v : End (List ℕ)) (a : End (Unit {0})) → a ≡ answered v → TellsEnd v (numberOf a) (placeOf a)
+answered-told (done rows) a e = record { number = ap numberOf e; at = ap placeOf e }
+answered-told (refused r p) a e = record { number = ap numberOf e; at = ap placeOf e }
 
--- The report of an evaluation's end.
-module _ {e : End Bool} {x : Ending} (h : endingOf x ≡ e) where
-  pub decided-told : (t : Truth) → x ≡ Decided t → (0 ≡ numberOf e) × (byteOf t ≡ truthOf e) × (0 ≡ placeOf e)
-  decided-told True q = let d = sym (ap endingOf q) ∙ h in (ap numberOf d, ap truthOf d, ap placeOf d)
-  decided-told False q = let d = sym (ap endingOf q) ∙ h in (ap numberOf d, ap truthOf d, ap placeOf d)
+-- A truth has no number and no place.
+pub decided-told : (x : Ending) (steps b : ℕ) (t : Truth) → x ≡ Decided t → b ≡ byteOf t → TellsRun (endingOf x) steps 0 b 0 steps
+decided-told x steps b True q h = rw q (record { ended = record { number = refl; at = refl }; decided = h; spent = refl })
+decided-told x steps b False q h = rw q (record { ended = record { number = refl; at = refl }; decided = h; spent = refl })
 
-  pub refused-told : (r : Refusal) → x ≡ Refused r → (r .number ≡ numberOf e) × (0 ≡ truthOf e) × (r .place ≡ placeOf e)
-  refused-told r q = let d = sym (ap endingOf q) ∙ h in (ap numberOf d, ap truthOf d, ap placeOf d)
+module _ {r t p s : ℕ} where
+  -- What is told of an end and of visits is told of the same end and visits.
+  pub run-told : {e f : End Bool} {m n : ℕ} → e ≡ f → m ≡ n → TellsRun e m r t p s → TellsRun f n r t p s
+  run-told {e} {f} {m} {n} q k h =
+      subst (λ (x : ℕ). TellsRun f x r t p s) k (subst (λ (x : End Bool). TellsRun x m r t p s) q h)
+
+  -- A checked evaluation is told by its answer x, which has the form y.
+  pub report-told : {c : ℕ} {g : End Report} (x y : Guarded) → guardedOf x ≡ g → x ≡ y →
+      TellsRun (reportedEnd (guardedOf y)) (reportedSteps (guardedOf y)) r t p s → c ≡ reportedConforms (guardedOf y) → TellsReport g r t p s c
+  report-told {c} x y h q k l = subst (λ (a : End Report). TellsReport a r t p s c) (sym (ap guardedOf q) ∙ h) (record { run = k; conform = l })

@@ -1,20 +1,21 @@
--- Demand 3 of document 01: what acceptance by Check guarantees of every evaluation of the same table.
+-- Demand 3 of document 01: what acceptance by Check guarantees of every evaluation of the same table; and a checked evaluation,
+-- which tells whether the guarantee applies.
 use Prim.Native.Nat.{ℕ}
+use mathlib.Core.Bool.{Bool, true}
 use mathlib.Core.List.{List}
+use mathlib.Core.Logic.{_↔_}
 use mathlib.Core.Path.{_≡_}
-use lib.ListN.{length}
 use Rattle.rules.specs.Tables.{Table}
 use Rattle.rules.specs.Reading.{reading}
-use Rattle.rules.specs.Ends.{done, refused}
+use Rattle.rules.specs.Ends.{End, done, refused, _>>=_}
 use Rattle.rules.specs.Verdict.{nodePlace}
 use Rattle.rules.specs.Evaluation.{evaluation}
 use Rattle.rules.specs.Safety.{EndsSafely, Any, All}
-use Rattle.conforms.specs.Conforming.{HasWritten, Conforming}
+use Rattle.conforms.specs.Conforming.{HasWritten, Conforming, conforming}
 use Rattle.typing.specs.Model.{verdict}
-use Rattle.evaluate.specs.declared.Evaluation.{Evaluation}
-use Rattle.evaluate.specs.Result.{Reported}
+use Rattle.evaluate.specs.Result.{endingOf}
 use Rattle.falgrumi.specs.declared.Guarded.{Guarded}
-use Rattle.falgrumi.specs.declared.Guarded.the-variants.{Refused, Unlike, Evaluated}
+use Rattle.falgrumi.specs.declared.Guarded.the-variants.{Refused, Evaluated}
 
 -- The evaluation ends in a truth or in a refusal of 16 to 19, never in 15, and every value that it forms has the type written
 -- for its node.
@@ -24,16 +25,33 @@ pub record Guaranteed (bs sheet buffer : List ℕ) (budget : ℕ) : Type 0 where
   pub ends : EndsSafely Any (evaluation bs buffer budget .end)
   pub formed : All (λ x. HasWritten sheet (nodePlace table (x .0)) (x .1)) (evaluation bs buffer budget .formed)
 
--- A checked evaluation: Check has accepted and written the sheet, the values have the types written in it, and what is
--- reported is the evaluation, with what is guaranteed of it.
-pub record GuardedRun (bs sheet buffer : List ℕ) (budget : ℕ) (written : List ℕ) (e : Evaluation) : Type 0 where
-  pub accepted : verdict bs (length sheet) ≡ done written
-  pub conforming : Conforming bs written buffer
-  pub reported : Reported (evaluation bs buffer budget) e
-  pub guaranteed : Guaranteed bs written buffer budget
+-- What a checked evaluation of an accepted table tells: the evaluation's end and steps, and whether the values conform to the
+-- rows that Check has written.
+pub record Report : Type 0 where
+  pub end : End Bool
+  pub steps : ℕ
+  pub conforms : Bool
 
--- Check's refusal, with the sheet as it was lent; or values of other types than those written; or a checked evaluation.
-abbrev pub GuardedAs : List ℕ → List ℕ → List ℕ → ℕ → List ℕ → Guarded → Type 0
-GuardedAs bs sheet buffer budget written (Refused r) = (verdict bs (length sheet) ≡ refused (r .number) (r .place)) × (written ≡ sheet)
-GuardedAs bs sheet buffer budget written Unlike = (verdict bs (length sheet) ≡ done written) × (Conforming bs written buffer → ⊥)
-GuardedAs bs sheet buffer budget written (Evaluated e) = GuardedRun bs sheet buffer budget written e
+-- Check's refusal, or the evaluation, whether or not the values conform.
+unfoldable pub checkedEvaluation : List ℕ → ℕ → List ℕ → ℕ → End Report
+unfolding verdict evaluation conforming
+checkedEvaluation bs room buffer budget = do
+  rows ← verdict bs room
+  done (record {
+    end = evaluation bs buffer budget .end;
+    steps = evaluation bs buffer budget .steps;
+    conforms = conforming bs rows buffer;
+  })
+
+-- What `checked_evaluation` answers, in these terms.
+abbrev pub guardedOf : Guarded → End Report
+guardedOf (Refused r) = refused (r .number) (r .place)
+guardedOf (Evaluated e) =
+    done (record { end = endingOf (e .evaluation .ending); steps = e .evaluation .steps; conforms = e .conforms })
+
+-- The report tells exactly whether the values conform to the sheet that Check has written; where they do, the guarantee holds,
+-- and the end reported is a truth or a refusal of 16 to 19.
+pub record TellsGuarantee (bs sheet buffer : List ℕ) (budget : ℕ) (x : Report) : Type 0 where
+  pub exact : (x .conforms ≡ true) ↔ Conforming bs sheet buffer
+  pub holds : x .conforms ≡ true → Guaranteed bs sheet buffer budget
+  pub safe : x .conforms ≡ true → EndsSafely Any (x .end)

@@ -1,3 +1,3 @@
--- What the exported functions answer.
-pub mod Answers
+-- What the public functions answer, and what demand 3 says of it.
 pub mod Guarantee
+pub mod Answers

@@ -6,17 +6,22 @@ use evaluate::Truth;
 use reading::Refusal;
 ghost use mathlib.Core.Path.{_≡_};
 ghost use lib.ListN.{length};
+ghost use Rattle.rules.specs.Values.{bit};
 ghost use Rattle.rules.specs.Verdict.{sheetAfter};
 ghost use Rattle.typing.specs.Model.{verdict};
 ghost use Rattle.rules.specs.Evaluation.{evaluation};
+ghost use Rattle.evaluate.specs.Result.{endingOf};
 ghost use Rattle.conforms.specs.Conforming.{conforming};
-ghost use Rattle.falgrumi.specs.Guarantee.{GuardedAs};
-ghost use Rattle.falgrumi.specs.Answers.{numberOf, placeOf, truthOf, byteOf};
+ghost use Rattle.falgrumi.specs.Guarantee.{checkedEvaluation, guardedOf};
+ghost use Rattle.falgrumi.specs.Answers.{byteOf, TellsEnd, TellsRun, TellsReport};
 
 // Check: the refusal's number, 0 where the table is accepted; its place goes to `place`.
 #[no_mangle]
 pub extern "C" fn falgrumi_check(table: &[u8], sheet: &mut [u8], place: &mut u64) -> u8
-    ensures { λ r. ⌜ (r ≡ numberOf (verdict (now (table .entry)) (length (now (sheet .entry))))) × (now (place .exit) ≡ placeOf (verdict (now (table .entry)) (length (now (sheet .entry))))) × (now (sheet .exit) ≡ sheetAfter (verdict (now (table .entry)) (length (now (sheet .entry)))) (now (sheet .entry))) ⌝ }
+    ensures { λ r. ⌜
+        TellsEnd (verdict (now (table .entry)) (length (now (sheet .entry)))) r (now (place .exit)) ×
+        (now (sheet .exit) ≡ sheetAfter (verdict (now (table .entry)) (length (now (sheet .entry)))) (now (sheet .entry)))
+        ⌝ }
 {
     let checked = checker::check(table, sheet);
     match checked {
@@ -41,20 +46,16 @@ fn truth_byte(t: Truth) -> u8
     }
 }
 
-// Evaluate: the refusal's number, 0 where there is none. Its place goes to `place`, the condition's truth to `truth`, the
-// visits made to `steps`.
-#[no_mangle]
-pub extern "C" fn falgrumi_evaluate(
-    table: &[u8],
-    values: &[u8],
-    budget: u32,
-    truth: &mut u8,
-    place: &mut u64,
-    steps: &mut u32,
-) -> u8
-    ensures { λ r. ⌜ (r ≡ numberOf (evaluation (now (table .entry)) (now (values .entry)) budget .end)) × (now (truth .exit) ≡ truthOf (evaluation (now (table .entry)) (now (values .entry)) budget .end)) × (now (place .exit) ≡ placeOf (evaluation (now (table .entry)) (now (values .entry)) budget .end)) × (now (steps .exit) ≡ evaluation (now (table .entry)) (now (values .entry)) budget .steps) ⌝ }
+fn bool_byte(b: bool) -> u8
+    ensures { λ r. ⌜ r ≡ bit b ⌝ }
 {
-    let e = evaluate::evaluate(table, values, budget);
+    if b { 1 } else { 0 }
+}
+
+// Answers the number of an evaluation's refusal, 0 where there is none, and writes the rest.
+fn tell(e: Evaluation, truth: &mut u8, place: &mut u64, steps: &mut u32) -> u8
+    ensures { λ r. ⌜ TellsRun (endingOf (e .ending)) (e .steps) r (now (truth .exit)) (now (place .exit)) (now (steps .exit)) ⌝ }
+{
     *steps = e.steps;
     let ending = e.ending;
     match ending {
@@ -71,6 +72,26 @@ pub extern "C" fn falgrumi_evaluate(
     }
 }
 
+// Evaluate: the refusal's number, 0 where there is none. Its place goes to `place`, the condition's truth to `truth`, the
+// visits made to `steps`.
+#[no_mangle]
+pub extern "C" fn falgrumi_evaluate(
+    table: &[u8],
+    values: &[u8],
+    budget: u32,
+    truth: &mut u8,
+    place: &mut u64,
+    steps: &mut u32,
+) -> u8
+    ensures { λ r. ⌜
+        TellsRun (evaluation (now (table .entry)) (now (values .entry)) budget .end) (evaluation (now (table .entry)) (now (values .entry)) budget .steps)
+        r (now (truth .exit)) (now (place .exit)) (now (steps .exit))
+        ⌝ }
+{
+    let e = evaluate::evaluate(table, values, budget);
+    tell(e, truth, place, steps)
+}
+
 // Whether the values give each free identifier a value of the type in its row of the sheet.
 #[no_mangle]
 pub extern "C" fn falgrumi_conforms(table: &[u8], sheet: &[u8], values: &[u8]) -> bool
@@ -79,26 +100,73 @@ pub extern "C" fn falgrumi_conforms(table: &[u8], sheet: &[u8], values: &[u8]) -
     conforms::conforms(table, sheet, values)
 }
 
-// A checked evaluation: Check's refusal, or values that have other types than those written, or the evaluation.
-pub enum Guarded {
-    Refused(Refusal),
-    Unlike,
-    Evaluated(Evaluation),
+// An evaluation of an accepted table, and whether the values have the types that Check wrote: then demand 3's guarantee holds
+// of it.
+pub struct GuardedRun {
+    pub evaluation: Evaluation,
+    pub conforms: bool,
 }
 
-// Checks the table, tests the values against the sheet, and evaluates: what demand 3 guarantees holds of the answer.
+// A checked evaluation: Check's refusal, or the evaluation.
+pub enum Guarded {
+    Refused(Refusal),
+    Evaluated(GuardedRun),
+}
+
+// Checks the table, and where it is accepted evaluates it and tests the values against the sheet.
 pub fn checked_evaluation(table: &[u8], sheet: &mut [u8], values: &[u8], budget: u32) -> Guarded
-    ensures { λ r. ⌜ GuardedAs (now (table .entry)) (now (sheet .entry)) (now (values .entry)) budget (now (sheet .exit)) r ⌝ }
+    ensures { λ r. ⌜
+        (guardedOf r ≡ checkedEvaluation (now (table .entry)) (length (now (sheet .entry))) (now (values .entry)) budget) ×
+        (now (sheet .exit) ≡ sheetAfter (verdict (now (table .entry)) (length (now (sheet .entry)))) (now (sheet .entry)))
+        ⌝ }
 {
     let checked = checker::check(table, sheet);
     match checked {
         Checked::Refused(r) => Guarded::Refused(r),
         Checked::Accepted => {
-            if !conforms::conforms(table, sheet, values) {
-                return Guarded::Unlike;
-            }
             let e = evaluate::evaluate(table, values, budget);
-            Guarded::Evaluated(e)
+            let c = conforms::conforms(table, sheet, values);
+            Guarded::Evaluated(GuardedRun {
+                evaluation: e,
+                conforms: c,
+            })
+        }
+    }
+}
+
+// A checked evaluation: the number of Check's refusal, else of the evaluation's, 0 where there is none. Whether the values
+// conform goes to `conforms`, the rest as in `falgrumi_evaluate`.
+#[no_mangle]
+pub extern "C" fn falgrumi_checked_evaluate(
+    table: &[u8],
+    sheet: &mut [u8],
+    values: &[u8],
+    budget: u32,
+    truth: &mut u8,
+    place: &mut u64,
+    steps: &mut u32,
+    conforms: &mut u8,
+) -> u8
+    ensures { λ r. ⌜
+        TellsReport (checkedEvaluation (now (table .entry)) (length (now (sheet .entry))) (now (values .entry)) budget)
+        r (now (truth .exit)) (now (place .exit)) (now (steps .exit)) (now (conforms .exit)) ×
+        (now (sheet .exit) ≡ sheetAfter (verdict (now (table .entry)) (length (now (sheet .entry)))) (now (sheet .entry)))
+        ⌝ }
+{
+    let guarded = checked_evaluation(table, sheet, values, budget);
+    match guarded {
+        Guarded::Refused(r) => {
+            *conforms = 0;
+            let e = Evaluation {
+                ending: Ending::Refused(r),
+                steps: 0,
+            };
+            tell(e, truth, place, steps)
+        }
+        Guarded::Evaluated(g) => {
+            *conforms = bool_byte(g.conforms);
+            let e = g.evaluation;
+            tell(e, truth, place, steps)
         }
     }
 }

@@ -145,6 +145,17 @@ rows-at r i (suc n) (suc k) h l =
     ∙ ap (take 64) (drop-append-add (r i) (rowsFrom r (suc i) n) (64 * k))
     ∙ rows-at r (suc i) n k (λ j g. h j (omega arith)) (omega arith) ∙ ap r f
 
+rows-length : (r : ℕ → List ℕ) (i n : ℕ) → ((j : ℕ) → j < i + n → length (r j) ≡ 64) → length (rowsFrom r i n) ≡ 64 * n
+unfolding rowsFrom
+rows-length r i zero h = refl
+rows-length r i (suc n) h =
+    omega (arith, length-append (r i) (rowsFrom r (suc i) n), h i (omega arith), rows-length r (suc i) n (λ j g. h j (omega arith)))
+
+-- Where no type is too heavy, the sheet has 64 bytes for each place.
+pub sheetOf-length : (tb : Table) (θ : ℕ → Ty) → ((p : ℕ) → Light tb θ p) → length (sheetOf tb θ) ≡ sheetLength tb
+sheetOf-length tb θ light =
+    ap length (sheet-rows tb θ) ∙ rows-length (placeRow tb θ) 0 (placeCount tb) (λ j l. row-long tb θ light j (omega arith))
+
 -- Where no type is too heavy, the row of a place with a type stands in the sheet at 64 times the place.
 pub sheet-row : (tb : Table) (θ : ℕ → Ty) → ((p : ℕ) → Light tb θ p) → (p : ℕ) → Place tb p →
     take 64 (drop (64 * p) (sheetOf tb θ)) ≡ row (θ p)

@@ -1,5 +1,5 @@
-//! stack [COUNT]: the most stack that Check and Evaluate were seen to take, over tall tables made by hand and COUNT generated
-//! cases (5,000). The stack below the caller is painted, and after the call the lowest byte that has changed is looked for.
+//! stack [COUNT]: the most stack that Check, Evaluate and both in one call were seen to take, over tall tables made by hand and
+//! COUNT generated cases (5,000). The stack below the caller is painted, and after the call the lowest byte that has changed is looked for.
 
 use differential::{case, sheet_length, Case};
 use reference::build::Draft;
@@ -91,7 +91,7 @@ fn measure(count: u64) {
         };
         (sample.sheet as usize, case)
     });
-    let (mut check, mut evaluate) = (0, 0);
+    let (mut check, mut evaluate, mut both) = (0, 0, 0);
     for (length, case) in made.chain(generated) {
         let sheet = std::cell::RefCell::new(vec![0; length]);
         check = check.max(taken(&|| {
@@ -100,8 +100,11 @@ fn measure(count: u64) {
         evaluate = evaluate.max(taken(&|| {
             let _ = falgrumi::evaluate(&case.table, &case.values, 10_000);
         }));
+        both = both.max(taken(&|| {
+            let _ = falgrumi::checked_evaluation(&case.table, &mut sheet.borrow_mut(), &case.values, 10_000);
+        }));
     }
-    println!("stack: Check {check} bytes, Evaluate {evaluate} bytes");
+    println!("stack: Check {check} bytes, Evaluate {evaluate} bytes, a checked evaluation {both} bytes");
 }
 
 fn main() {

@@ -1,5 +1,5 @@
 use borrow.Author.Needs.{needs}
-use Rattle.conforms.proofs.NameLaws.{misfits, sheet-fits}
+use Rattle.conforms.proofs.NameLaws.{misfits, sized-decides, sheet-fits}
 use Rattle.conforms.proofs.conforms_readable.Statement.{statement}
 use Rattle.conforms.proofs.conforms_readable.Tie as tie
 
@@ -24,7 +24,10 @@ conforms-fitting-requires c κs =
     (i .before .before .before .before .pre, sheet-fits _ _ _ _ (i .identifiers .ensures) (c .before .nodes .ensures) (c .if1 .left))
 
 returns-2 : tie.Need-returns-2
-returns-2 c = search needs
+returns-2 c =
+    let n = c .before .before in
+    let fits = sheet-fits _ _ _ _ (n .before .identifiers .ensures) (n .nodes .ensures) (c .before .if1 .left) in
+    sized-decides _ _ _ _ fits (c .conforms-fitting .ensures)
 
 pub conforms-readable-spec : {M : Type 1} → statement M
 conforms-readable-spec =

@@ -1,8 +1,7 @@
--- `checked_evaluation`: what demand 3 guarantees holds of the evaluation that it reports.
+-- `checked_evaluation`: Check's answer, and those of the other two calls where it accepts.
+use Rattle.falgrumi.proofs.CheckedLaws.{checked-refused, checked-accepted}
 use denote.Ref.{now}
 use borrow.Author.Needs.{needs}
-use borrow.Author.Tests.{not-true, not-false}
-use Rattle.falgrumi.proofs.Guarding.{check-accepted, check-refused, alike, unlike, guarded}
 use Rattle.falgrumi.proofs.checked_evaluation.Statement.{statement}
 use Rattle.falgrumi.proofs.checked_evaluation.Tie as tie
 
@@ -15,6 +14,9 @@ enum-known-checked c = search needs
 enum-told : tie.Need-enum-told
 enum-told c = search needs
 
+evaluate-requires : tie.Need-evaluate-requires
+evaluate-requires c κs = search needs
+
 conforms-requires : tie.Need-conforms-requires
 conforms-requires c κs = search needs
 
@@ -23,29 +25,24 @@ same-length c = search needs
 
 returns : tie.Need-returns
 returns c =
-    let b = c .before .before .before .before .before .before .before in
-    (check-accepted _ (now (c .before .before .before .before .before .before .before .before .before .before .before .before .args .sheet)) _ _ (b .check .ensures .0) (b .check .ensures .1) (c .before .before .before .enum-told .given .1), unlike _ _ _ _ (c .before .conforms .ensures) (not-true _ (c .if1 .taken)))
-
-evaluate-requires : tie.Need-evaluate-requires
-evaluate-requires c κs = search needs
+    let b = c .before .before .before .before .before in
+    let a = b .before .before .before .before .before .args in
+    let v = b .check .ensures in
+    (checked-refused _ (now (a .sheet)) (now (a .values)) (a .budget) _ _ (v .0) (v .1) _ (c .before .checked .given .1), v .1)
 
 same-length-2 : tie.Need-same-length-2
 same-length-2 c = search needs
 
 returns-2 : tie.Need-returns-2
 returns-2 c =
-    let b = c .before .before .before .before .before in
-    check-refused _ _ _ _ (b .check .ensures .0) (b .check .ensures .1) _ (c .before .checked .given .1)
-
-same-length-3 : tie.Need-same-length-3
-same-length-3 c = search needs
-
-returns-3 : tie.Need-returns-3
-returns-3 c =
-    let b = c .before .before .before .before .before .before .before .before in
-    guarded _ _ _ _ _ _
-    (check-accepted _ (now (c .before .before .before .before .before .before .before .before .before .before .before .before .before .args .sheet)) _ _ (b .check .ensures .0) (b .check .ensures .1) (c .before .before .before .before .enum-told .given .1))
-    (alike _ _ _ _ (c .before .before .conforms .ensures) (not-false _ (c .before .if1 .left))) (c .evaluate .ensures)
+    let b = c .before .before .before .before .before .before .before in
+    let a = b .before .before .before .before .before .args in
+    let e = c .before .before .evaluate .ensures in
+    let v = b .check .ensures in (
+      checked-accepted _ (now (a .sheet)) (now (a .values)) (a .budget) _ _ (v .0) (v .1) _ _ _
+          (c .before .before .before .enum-told .given .1) (e .0) (e .1) (c .conforms .ensures),
+      v .1,
+    )
 
 pub checked-evaluation-spec : {M : Type 1} → statement M
 checked-evaluation-spec =
@@ -54,11 +51,9 @@ checked-evaluation-spec =
     check-requires
     enum-known-checked
     enum-told
+    evaluate-requires
     conforms-requires
     same-length
     returns
-    evaluate-requires
     same-length-2
-    returns-2
-    same-length-3
-    returns-3)
+    returns-2)

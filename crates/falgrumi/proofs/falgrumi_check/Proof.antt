@@ -1,12 +1,9 @@
-use mathlib.Core.Path.{_≡_, sym, ap, _∙_}
-use denote.Ref.{now}
-use lib.ListN.{length}
-use Rattle.rules.specs.Ends.{done}
-use Rattle.typing.specs.Model.{verdict}
-use Rattle.checker.specs.Answers.{answerOf}
-use Rattle.falgrumi.specs.Answers.{numberOf, placeOf}
-use Rattle.falgrumi.proofs.Numbers.{number-answered}
+-- `falgrumi_check`: the answer of `check`, as numbers.
+use mathlib.Core.Path.{sym, ap, _∙_}
 use borrow.Author.Needs.{needs}
+use Rattle.rules.specs.Ends.{done}
+use Rattle.checker.specs.Answers.{answerOf}
+use Rattle.falgrumi.proofs.Numbers.{answered-told}
 use Rattle.falgrumi.proofs.falgrumi_check.Statement.{statement}
 use Rattle.falgrumi.proofs.falgrumi_check.Tie as tie
 
@@ -23,13 +20,17 @@ same-length : tie.Need-same-length
 same-length c = search needs
 
 returns : tie.Need-returns
-returns c = let e = number-answered (verdict (now (c .before .before .before .before .before .before .before .before .args .table)) (length (now (c .before .before .before .before .before .before .before .before .args .sheet)))) (answerOf (c .before .before .before .before .check .result)) (c .before .before .before .before .check .ensures .0) in let f : answerOf (c .before .before .before .before .check .result) ≡ done tt = ap answerOf (c .enum-told .given .1) in (sym (ap numberOf f) ∙ e .0, sym (ap placeOf f) ∙ e .1, c .before .before .before .before .check .ensures .1)
+returns c =
+    let e = c .before .before .before .before .check .ensures in
+    (answered-told _ (done tt) (sym (ap answerOf (c .enum-told .given .1)) ∙ e .0), e .1)
 
 same-length-2 : tie.Need-same-length-2
 same-length-2 c = search needs
 
 returns-2 : tie.Need-returns-2
-returns-2 c = let e = number-answered (verdict (now (c .before .before .before .before .before .before .before .before .before .args .table)) (length (now (c .before .before .before .before .before .before .before .before .before .args .sheet)))) (answerOf (c .before .before .before .before .before .check .result)) (c .before .before .before .before .before .check .ensures .0) in let f = ap answerOf (c .before .checked .given .1) in (sym (ap numberOf f) ∙ e .0, sym (ap placeOf f) ∙ e .1, c .before .before .before .before .before .check .ensures .1)
+returns-2 c =
+    let e = c .before .before .before .before .before .check .ensures in
+    (answered-told _ _ (sym (ap answerOf (c .before .checked .given .1)) ∙ e .0), e .1)
 
 pub falgrumi-check-spec : {M : Type 1} → statement M
 falgrumi-check-spec =
