@@ -6,6 +6,7 @@ pub mod ReadingLaws
 pub mod OrderLaws
 pub mod CellsLaws
 pub mod FitsLaws
+pub mod TreeInduction
 pub mod TypedTree
 pub mod SetTypes
 pub mod Soundness

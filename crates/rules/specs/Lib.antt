@@ -14,3 +14,4 @@ pub mod Operations
 pub mod Evaluation
 pub mod Verdict
 pub mod Safety
+pub mod Refusals
