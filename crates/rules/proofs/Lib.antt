@@ -14,5 +14,6 @@ pub mod SetOrder
 pub mod FormedLaws
 pub mod TypeLaws
 pub mod VerdictLaws
+pub mod RefusalLaws
 pub mod Rows
 pub mod Tried
