@@ -93,22 +93,22 @@ unfolding valuesIn
 valuesIn-refuses tb buffer = valuesFrom-refuses (tb .sizes) (tb .binds) 0 buffer
 
 -- What an operation lacks is 16 or 17.
-abbrev Lacks : Given → Type 0
-Lacks (gives v) = Unit {0}
-Lacks (lacks r) = (16 ≤ r) × (r ≤ 17)
+abbrev LacksOnly : Given → Type 0
+LacksOnly (gives v) = Unit {0}
+LacksOnly (lacks r) = (16 ≤ r) × (r ≤ 17)
 
-least-lacks : (vs : List Value) → Lacks (least vs)
+least-lacks : (vs : List Value) → LacksOnly (least vs)
 least-lacks [] = (omega arith, omega arith)
 least-lacks (v ∷ vs) = tt
 
-ranged-lacks : (n : Number) (i : ℤ) → Lacks (ranged n i)
+ranged-lacks : (n : Number) (i : ℤ) → LacksOnly (ranged n i)
 ranged-lacks n i = go (inRange i)
   where
-    go : (b : Bool) → Lacks (cond b (gives (scalar (num n i))) (lacks 17))
+    go : (b : Bool) → LacksOnly (cond b (gives (scalar (num n i))) (lacks 17))
     go true = tt
     go false = (omega arith, omega arith)
 
-one-lacks : (j : One) (v : Value) → Lacks (oneValue j v)
+one-lacks : (j : One) (v : Value) → LacksOnly (oneValue j v)
 unfolding oneValue
 one-lacks singleton v = tt
 one-lacks power v = tt
@@ -117,7 +117,7 @@ one-lacks ran v = tt
 one-lacks card v = tt
 one-lacks choice v = least-lacks (elems v)
 
-two-lacks : (j : Two) (v w : Value) → Lacks (twoValue j v w)
+two-lacks : (j : Two) (v w : Value) → LacksOnly (twoValue j v w)
 unfolding twoValue applied
 two-lacks pairing v w = tt
 two-lacks union v w = tt
@@ -169,7 +169,7 @@ module _ (N budget : ℕ) where
       bind (fitting n r vs) (λ _. m) (demand-stays (fits (r .takes) vs) 15 n (omega arith) (omega arith) i) (λ _. h)
 
   -- 16 to 18, or a value.
-  form-stays : (n : ℕ) (g : Given) → n < N → Lacks g → Stays (form n g)
+  form-stays : (n : ℕ) (g : Given) → n < N → LacksOnly g → Stays (form n g)
   form-stays n (lacks r) i h = λ s l. (l, (omega arith, omega arith, i, λ e. absurd (omega arith)))
   form-stays n (gives v) i h =
       bind (demand (leb (weight v) weightLimit) 18 n) (λ _. emit n v)

@@ -1,9 +1,13 @@
--- What demand 1 speaks of: document 01, "Refusal list", as the places that each refusal may name.
-use Prim.Native.Nat.{ℕ, _+_, _<_}
+-- What demands 1 and 2 speak of, after document 01, "Refusal list": the places that each refusal may name, and what refusals 11 to 13
+-- find there.
+use Prim.Native.Nat.{ℕ, suc, _+_, _<_}
 use mathlib.Core.List.{List, [], _∷_}
-use lib.ListN.{getD}
-use Rattle.rules.specs.Tables.{givenCount, identifierCount, nodeCount}
+use mathlib.Core.Path.{_≡_}
+use lib.ListN.{getD, length}
+use Rattle.rules.specs.Types.{Ty, weightᵀ}
+use Rattle.rules.specs.Tables.{Table, givenCount, identifierCount, nodeCount}
 use Rattle.rules.specs.Ends.{End, done, refused}
+use Rattle.rules.specs.Verdict.{Place, Typing, Whole, Only, typeLimit}
 
 -- How many places a refusal has to name, in the order of the refusals' numbers, from 0 on: there is no refusal 0, and none above 19.
 -- 1, 2, 3 and 10 name the place 0; 4 a given set; 5 and 9 an identifier; 6, 7, 8, 11 and 15 to 19 a node; 12 and 13 an identifier or,
@@ -23,3 +27,19 @@ PlaceInRange bs r p = p < getD (refusalPlaces bs) r 0
 abbrev pub RefusesOnly : {A : Type 0} → (ℕ → ℕ → Type 0) → End A → Type 0
 RefusesOnly R (done a) = Unit {0}
 RefusesOnly R (refused r p) = R r p
+
+-- 11: the rules of the nodes 0 to k have no typing.
+abbrev pub ClashesAt : Table → ℕ → Type 0
+ClashesAt tb k = (k < length (tb .nodes)) × ((θ : ℕ → Ty) → Typing tb (suc k) θ → ⊥)
+
+-- 12: two typings give the place p different types.
+abbrev pub DifferAt : Table → ℕ → Type 0
+DifferAt tb p = (θ : ℕ → Ty) × (κ : ℕ → Ty) × Whole tb θ × Whole tb κ × Place tb p × (θ p ≡ κ p → ⊥)
+
+-- 13: the only typing gives the place p a type above the limit.
+abbrev pub TooHeavyAt : Table → ℕ → Type 0
+TooHeavyAt tb p = (θ : ℕ → Ty) × Only tb θ × Place tb p × (typeLimit < weightᵀ (θ p))
+
+-- p has P, and no lower number has it.
+abbrev pub IsLeast : (ℕ → Type 0) → ℕ → Type 0
+IsLeast P p = P p × ((q : ℕ) → q < p → P q → ⊥)
