@@ -5,7 +5,6 @@
 -- or `refused r p`, refusal r at place p, and `sheetAfter` is the sheet at exit. `evaluation bs buffer budget` has Evaluate's end,
 -- `done` with a truth or `refused r p`, its steps, and the values that it forms. `reading bs` is `done tb` where bs is a readable table.
 use Prim.Native.Nat.{ℕ, _≤_, _<_}
-use mathlib.Core.Bool.{Bool}
 use mathlib.Core.List.{List}
 use mathlib.Core.Logic.{_⊎_, _↔_}
 use mathlib.Core.Path.{_≡_, ap}
@@ -17,11 +16,11 @@ use Rattle.rules.specs.Reading.{reading}
 use Rattle.rules.specs.Evaluation.{evaluation}
 use Rattle.rules.specs.Verdict.{nodePlace, Whole, Only, Light, sheetOf, sheetLength, sheetAfter}
 use Rattle.rules.specs.Refusals.{PlaceInRange, RefusesOnly, ClashesAt, DifferAt, TooHeavyAt, IsLeast}
-use Rattle.rules.specs.Safety.{All}
+use Rattle.rules.specs.Safety.{Any, All}
 use Rattle.typing.specs.Model.{verdict}
 use Rattle.conforms.specs.Conforming.{HasWritten, Conforming}
 use Rattle.rules.proofs.VerdictLaws.{one-table, accepted-where, rows-where, untyped-where, different-where, heavy-where, clash-at, different-at, heavy-at}
-use Rattle.rules.proofs.RefusalLaws.{verdict-refuses, evaluation-refuses}
+use Rattle.rules.proofs.RefusalLaws.{verdict-refuses, evaluation-refuses, safe-refuses}
 use Rattle.typing.proofs.VerdictRight.{verdict-right}
 use Rattle.falgrumi.proofs.Demand.{guarantee}
 
@@ -44,7 +43,7 @@ Demand1-Sheet = (bs sheet : List ℕ) (r p : ℕ) → verdict bs (length sheet) 
 
 -- DEMAND 2 speaks of Check's answer on a readable table with a sheet of the right length.
 abbrev pub OnReadable : (End (List ℕ) → Table → Type 0) → Type 0
-OnReadable Says = (bs : List ℕ) (room : ℕ) (tb : Table) → reading bs ≡ done tb → room ≡ sheetLength tb → Says (verdict bs room) tb
+OnReadable Claim = (bs : List ℕ) (room : ℕ) (tb : Table) → reading bs ≡ done tb → room ≡ sheetLength tb → Claim (verdict bs room) tb
 
 -- It accepts exactly where one and only one typing exists and none of its types weighs over 64. `Only tb θ` says "one and only one": θ is a
 -- typing of the whole table, and any other is the same at each identifier and each expression, which are all that a typing gives a type to.
@@ -114,4 +113,5 @@ demand2-places bs room tb e fit p =
 
 pub demand3 : Demand3
 demand3 bs buffer rows room budget tb accepted reads typed =
-    let g = guarantee bs buffer rows room budget accepted typed in (g .ends, rw (one-table (g .reads) reads) (g .formed))
+    let g = guarantee bs buffer rows room budget accepted typed in
+    (safe-refuses Any (evaluation bs buffer budget .end) (g .ends), rw (one-table (g .reads) reads) (g .formed))

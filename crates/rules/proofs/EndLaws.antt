@@ -112,11 +112,6 @@ pub require-done : (r p : ℕ) (b : Bool) → (require r p b ≡ done tt) ↔ (b
 require-done r p true = (λ e. refl, λ e. refl)
 require-done r p false = (λ e. cc, λ e. cc)
 
--- It refuses with its own number and place.
-pub require-refused : (r p : ℕ) (b : Bool) (s q : ℕ) → require r p b ≡ refused s q → (s ≡ r) × (q ≡ p) × (b ≡ false)
-require-refused r p true s q e = (cc, cc, cc)
-require-refused r p false s q e = (cc, cc, refl)
-
 -- So too for a search: it goes on where nothing was found.
 pub unlessFound-done : (r : ℕ) (o : Option ℕ) → (unlessFound r o ≡ done tt) ↔ (o ≡ nothing)
 unlessFound-done r nothing = (λ e. refl, λ e. refl)
@@ -171,6 +166,11 @@ module _ {A : Type 0} where
   pub inTurn-passed : (ms : List (End (Unit {0}))) (a : A) → Each (λ m. m ≡ done tt) ms → inTurn ms a ≡ done a
   inTurn-passed [] a h = refl
   inTurn-passed (m ∷ ms) a h = rw (h .0) (inTurn-passed ms a (h .1))
+
+-- What refuses only with R refuses only with what follows from R.
+pub refuses-imp : {A : Type 0} (R S : ℕ → ℕ → Type 0) → ((r p : ℕ) → R r p → S r p) → (e : End A) → RefusesOnly R e → RefusesOnly S e
+refuses-imp R S f (done a) h = tt
+refuses-imp R S f (refused r p) h = f r p h
 
 -- What refuses only with R: an answer and what follows it, a single test, a test of each number below n, a row of tests.
 module _ (R : ℕ → ℕ → Type 0) where

@@ -1,5 +1,5 @@
--- Demand 1 of the rules: every refusal of Check has a number of 1 to 13 and a place in that number's range, and every refusal of an
--- evaluation one of 1 to 9 and 14 to 19; an evaluation's steps are at most its budget. Runs by induction over the condition.
+-- Every refusal of Check has a number of 1 to 13 and a place in that number's range, and every refusal of an evaluation one of 1 to 9 and 14
+-- to 19; an evaluation's steps are at most its budget. What is said of runs is by induction over the condition (TreeInduction.antt).
 use Prim.Native.Nat.{ℕ, zero, suc, _+_, _-_, _≤_, _<_}
 use mathlib.Core.Bool.{Bool, true, false, cond}
 use mathlib.Core.List.{List, [], _∷_, map}
@@ -7,7 +7,7 @@ use mathlib.Core.Logic.{_⊎_, inl, inr}
 use mathlib.Core.Option.{Option, none as nothing, some}
 use mathlib.Core.Path.{_≡_, refl, subst}
 use native.Mathlib.Omega.{arith}
-use lib.Dec.{T, ltb, leb}
+use lib.Dec.{ltb, leb}
 use lib.ListN.{getD, length}
 use lib.IntN.{ℤ, _+ℤ_, _-ℤ_}
 use Rattle.rules.specs.Types.{Number}
@@ -16,8 +16,7 @@ use Rattle.rules.specs.Kinds.{Quant, forAll, forSome, One, singleton, po
 use Rattle.rules.specs.Kinds.{Two, pairing, union, inter, diff, product, apply, plus, minus, interval}
 use Rattle.rules.specs.Rules.{Rule, testRule, oneRule, twoRule, quantRule, comprehensionRule}
 use Rattle.rules.specs.Fits.{fits}
-use Rattle.rules.specs.Tables.{Table, Pred, Expr, root, givenCount, identifierCount, nodeCount}
-use Rattle.rules.specs.Ends as Ends
+use Rattle.rules.specs.Tables.{Table, identifierCount, nodeCount}
 use Rattle.rules.specs.Ends.{End, done, refused, require}
 use Rattle.rules.specs.Reading.{reading}
 use Rattle.rules.specs.Readable.{Records}
@@ -26,8 +25,9 @@ use Rattle.rules.specs.Runs.{Trace, Run, M, goOn, _>>=_, _>>_, demand, c
 use Rattle.rules.specs.Operations.{Env, _with_≔_, decides, elems, right, keep, pairedWith, setOf, least, applied, ranged, leafValue, oneValue, twoValue}
 use Rattle.rules.specs.Evaluation.{fitting, quantify, select, holdsᵖ, valueᵉ, run, evaluation}
 use Rattle.rules.specs.Refusals.{PlaceInRange, RefusesOnly}
+use Rattle.rules.specs.Safety.{EndsSafely}
 use Rattle.rules.specs.Verdict.{Place, Verdict, unreadable, misfit, clash, several, heavy, accepts}
-use Rattle.rules.proofs.EndLaws.{T-ltb, T-false, refuses-bind, require-refuses}
+use Rattle.rules.proofs.EndLaws.{T-ltb, T-false, refuses-imp, refuses-bind, require-refuses}
 use Rattle.rules.proofs.TableLaws.{binds-length, nodes-length}
 use Rattle.rules.proofs.ReadingLaws.{reading-table, reading-readable, reading-refuses}
 use Rattle.rules.proofs.TreeInduction.{HandsOn, root-has}
@@ -74,10 +74,6 @@ valueFor-refuses gs (suc w) ws x bs = tt
 nothingLeft-refuses : (x : ℕ) (bs : List ℕ) → RefusesOnly (FaultFrom x []) (nothingLeft x bs)
 nothingLeft-refuses x [] = tt
 nothingLeft-refuses x (b ∷ bs) = (refl, omega arith)
-
-refuses-imp : {A : Type 0} (R S : ℕ → ℕ → Type 0) → ((r p : ℕ) → R r p → S r p) → (e : End A) → RefusesOnly R e → RefusesOnly S e
-refuses-imp R S f (done a) h = tt
-refuses-imp R S f (refused r p) h = f r p h
 
 valuesFrom-refuses : (gs ws : List ℕ) (x : ℕ) (bs : List ℕ) → RefusesOnly (FaultFrom x ws) (valuesFrom gs ws x bs)
 unfolding valuesFrom
@@ -273,3 +269,8 @@ evaluation-refuses bs buffer budget = read (reading bs) refl
     read (refused r p) e =
         let h : (1 ≤ r) × (r ≤ 9) × PlaceInRange bs r p = rw e at (reading-refuses bs) in
         (omega arith, (inl (h .0, h .1), h .2, λ _. refl, λ q. absurd (omega arith)))
+
+-- The ends that demand 3 leaves are truths and refusals of 16 to 19.
+pub safe-refuses : {A : Type 0} (Q : A → Type 0) (e : End A) → EndsSafely Q e → RefusesOnly (λ r n. (16 ≤ r) × (r ≤ 19)) e
+safe-refuses Q (done a) h = tt
+safe-refuses Q (refused r n) h = h

@@ -1,7 +1,6 @@
 -- Induction over the condition of a readable table: what every node below N hands on from its children holds of the root,
 -- `root-has`. By the depth of the tree: a right node's children have lower numbers.
 use Prim.Native.Nat.{ℕ, zero, suc, _<_}
-use mathlib.Core.List.{List}
 use mathlib.Core.Option.{Option, none as nothing, some}
 use native.Mathlib.Omega.{arith}
 use lib.ListN.{length}

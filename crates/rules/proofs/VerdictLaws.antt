@@ -228,44 +228,44 @@ at-least r p some-refused found = (found p, λ h. let x = some-refused p (h .0) 
 -- Check on a readable table with a sheet of the right length: acceptance exactly where there is one typing only and no type in it is too
 -- heavy, 11 exactly where there is no typing, 12 exactly where there are several, 13 exactly where the only one is too heavy.
 module _ (bs : List ℕ) {room : ℕ} {tb : Table} {a : End (List ℕ)} (v : Verdict bs room a) (e : reading bs ≡ done tb) (fit : room ≡ sheetLength tb) where
-  this : {b : End (List ℕ)} → a ≡ b → Verdict bs room b
-  this q = subst (Verdict bs room) q v
+  as-said : {b : End (List ℕ)} → a ≡ b → Verdict bs room b
+  as-said q = subst (Verdict bs room) q v
 
   pub accepted-where : ((rows : List ℕ) × (a ≡ done rows)) ↔ ((θ : ℕ → Ty) × Only tb θ × ((p : ℕ) → Light tb θ p))
   accepted-where = (
-    λ x. let w = accepts-only bs e (this (x .1)) in (w .0, w .1, w .2),
+    λ x. let w = accepts-only bs e (as-said (x .1)) in (w .0, w .1, w .2),
     λ x. (sheetOf tb (x .0), verdict-one v (accepts e fit (x .1) (x .2))),
   )
 
   pub rows-where : (rows : List ℕ) (θ : ℕ → Ty) → a ≡ done rows → Only tb θ → rows ≡ sheetOf tb θ
   rows-where rows θ q o =
-      let w = accepts-only bs e (this q) in w .3 ∙ same-sheet e e (w .1) o
+      let w = accepts-only bs e (as-said q) in w .3 ∙ same-sheet e e (w .1) o
 
   pub untyped-where : ((k : ℕ) × (a ≡ refused 11 k)) ↔ ((θ : ℕ → Ty) → Whole tb θ → ⊥)
   untyped-where = (
-    λ x θ w. whole-typed w (clash-least bs e (this (x .1)) .0),
+    λ x θ w. whole-typed w (clash-least bs e (as-said (x .1)) .0),
     λ h. untyped-refused bs e fit v h,
   )
 
   pub different-where : ((p : ℕ) × (a ≡ refused 12 p)) ↔ ((p : ℕ) × DifferAt tb p)
   different-where = (
-    λ x. (x .0, several-least bs e (this (x .1)) .0),
+    λ x. (x .0, several-least bs e (as-said (x .1)) .0),
     λ x. different-refused bs e fit v (x .1),
   )
 
   pub heavy-where : ((p : ℕ) × (a ≡ refused 13 p)) ↔ ((p : ℕ) × TooHeavyAt tb p)
   heavy-where = (
-    λ x. (x .0, heavy-least bs e (this (x .1)) .0),
+    λ x. (x .0, heavy-least bs e (as-said (x .1)) .0),
     λ x. heavy-refused bs e fit v (x .1),
   )
 
   -- The places.
   pub clash-at : (k : ℕ) → (a ≡ refused 11 k) ↔ IsLeast (ClashesAt tb) k
   clash-at k = at-least 11 k (λ q u. untyped-refused bs e fit v (λ θ w. whole-typed w u))
-      (λ q x. clash-least bs e (this x))
+      (λ q x. clash-least bs e (as-said x))
 
   pub different-at : (p : ℕ) → (a ≡ refused 12 p) ↔ IsLeast (DifferAt tb) p
-  different-at p = at-least 12 p (λ q u. different-refused bs e fit v u) (λ q x. several-least bs e (this x))
+  different-at p = at-least 12 p (λ q u. different-refused bs e fit v u) (λ q x. several-least bs e (as-said x))
 
   pub heavy-at : (p : ℕ) → (a ≡ refused 13 p) ↔ IsLeast (TooHeavyAt tb) p
-  heavy-at p = at-least 13 p (λ q u. heavy-refused bs e fit v u) (λ q x. heavy-least bs e (this x))
+  heavy-at p = at-least 13 p (λ q u. heavy-refused bs e fit v u) (λ q x. heavy-least bs e (as-said x))
