@@ -325,6 +325,7 @@ reading-refuses bs =
     least : (k : ℕ) (ok : ℕ → Bool) → T (leb 1 k && leb k 9) → RefusesOnly R (unlessFound k (leastFailing ok 0 (getD (refusalPlaces bs) k 0)))
     least k ok l = requireAll-refuses R k ok (getD (refusalPlaces bs) k 0) (λ p h. listed k p l h)
 
+-- The numbers alone.
 pub reading-numbers : (bs : List ℕ) (r p : ℕ) → reading bs ≡ refused r p → (1 ≤ r) × (r ≤ 9)
 reading-numbers bs r p e = let h : (1 ≤ r) × (r ≤ 9) × PlaceInRange bs r p = rw e at (reading-refuses bs) in (h .0, h .1)
 

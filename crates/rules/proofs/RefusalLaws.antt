@@ -60,7 +60,7 @@ verdict-refuses (accepts e f o g) = tt
 abbrev FaultFrom : ℕ → List ℕ → ℕ → ℕ → Type 0
 FaultFrom x ws r p = (r ≡ 14) × (p < x + length ws + 1)
 
-fault-refuses : (x : ℕ) (w : ℕ) (ws : List ℕ) (r : Read Value) → RefusesOnly (FaultFrom x (w ∷ ws)) (orFault x r)
+fault-refuses : (x w : ℕ) (ws : List ℕ) (r : Read Value) → RefusesOnly (FaultFrom x (w ∷ ws)) (orFault x r)
 fault-refuses x w ws nothing = (refl, omega arith)
 fault-refuses x w ws (some r) = tt
 
@@ -88,7 +88,7 @@ valuesIn-refuses : (tb : Table) (buffer : List ℕ) → RefusesOnly (FaultFrom 0
 unfolding valuesIn
 valuesIn-refuses tb buffer = valuesFrom-refuses (tb .sizes) (tb .binds) 0 buffer
 
--- What an operation lacks is 16 or 17.
+-- An operation gives a value, or lacks one by 16 or 17.
 abbrev LacksOnly : Given → Type 0
 LacksOnly (gives v) = Unit {0}
 LacksOnly (lacks r) = (16 ≤ r) × (r ≤ 17)
@@ -134,7 +134,7 @@ module _ (N budget : ℕ) where
   abbrev pub RunRefuses : {A : Type 0} → Run A → Type 0
   RunRefuses x = (x .steps ≤ budget) × RefusesOnly (RunRefusal (x .steps)) (x .end)
 
-  -- From any number of visits within the budget.
+  -- So ends a part of an evaluation from any number of visits within the budget.
   abbrev Stays : {A : Type 0} → M A → Type 0
   Stays m = (s : ℕ) → s ≤ budget → RunRefuses (m s)
 
@@ -192,7 +192,7 @@ module _ (N budget : ℕ) where
     select-stays (v ∷ vs) =
         bind (f v) _ (hf v) λ b. bind (select f vs) _ (select-stays vs) λ ws. elim b [ true ↦ λ s l. (l, tt) | false ↦ λ s l. (l, tt) ]
 
-  -- By the value rules, at every environment.
+  -- The value rules at a node, at every environment.
   module _ (sizes : List ℕ) where
     nodes-stay : HandsOn N (λ p. (ρ : Env) → Stays (holdsᵖ budget sizes p ρ)) (λ e. (ρ : Env) → Stays (valueᵉ budget sizes e ρ))
     unfolding holdsᵖ
@@ -225,7 +225,7 @@ unfolding run
 run-refuses tb vs budget some-node r =
     root-has tb _ _ (nodes-stay (length (tb .nodes)) budget (tb .sizes)) (r .fields) some-node (λ x. getD vs x noValue) 0 (omega arith)
 
--- The nodes that 15 to 19 may name.
+-- 15 to 19 may name any node.
 node-range : (bs : List ℕ) (k n : ℕ) → k < 5 → n < nodeCount bs → PlaceInRange bs (15 + k) n
 node-range bs zero n l h = h
 node-range bs (suc zero) n l h = h

@@ -9,7 +9,7 @@ use Rattle.rules.specs.Tables.{Table, givenCount, identifierCount, nodeC
 use Rattle.rules.specs.Ends.{End, done, refused}
 use Rattle.rules.specs.Verdict.{Place, Typing, Whole, Only, typeLimit}
 
--- How many places a refusal has to name, in the order of the refusals' numbers, from 0 on: there is no refusal 0, and none above 19.
+-- The number of places that each refusal may name, by the refusals' numbers from 0 on: there is no refusal 0, and none above 19.
 -- 1, 2, 3 and 10 name the place 0; 4 a given set; 5 and 9 an identifier; 6, 7, 8, 11 and 15 to 19 a node; 12 and 13 an identifier or,
 -- behind these, a node; 14 an identifier, or I for surplus bytes.
 abbrev pub refusalPlaces : List ℕ → List ℕ
