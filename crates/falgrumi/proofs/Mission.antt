@@ -4,6 +4,8 @@
 -- crates/evaluate/src/lib.rt). For the bytes bs of a table and a sheet of room bytes, `verdict bs room` is Check's answer, `done rows`
 -- or `refused r p`, refusal r at place p, and `sheetAfter` is the sheet at exit. `evaluation bs buffer budget` has Evaluate's end,
 -- `done` with a truth or `refused r p`, its steps, and the values that it forms. `reading bs` is `done tb` where bs is a readable table.
+-- What the statements name stands in crates/rules/specs (Ends, Refusals, Reading, Verdict, Evaluation), `verdict` computed in
+-- crates/typing/specs/Model.antt, `Conforming` and `HasWritten` in crates/conforms/specs/Conforming.antt.
 use Prim.Native.Nat.{ℕ, _≤_, _<_}
 use mathlib.Core.List.{List}
 use mathlib.Core.Logic.{_⊎_, _↔_}
@@ -19,6 +21,7 @@ use Rattle.rules.specs.Refusals.{PlaceInRange, RefusesOnly, ClashesAt, DifferAt
 use Rattle.rules.specs.Safety.{Any, All}
 use Rattle.typing.specs.Model.{verdict}
 use Rattle.conforms.specs.Conforming.{HasWritten, Conforming}
+use Rattle.rules.proofs.EndLaws.{refuses-imp}
 use Rattle.rules.proofs.VerdictLaws.{one-table, accepted-where, rows-where, untyped-where, different-where, heavy-where, clash-at, different-at, heavy-at}
 use Rattle.rules.proofs.RefusalLaws.{verdict-refuses, evaluation-refuses, safe-refuses}
 use Rattle.typing.proofs.VerdictRight.{verdict-right}
@@ -28,14 +31,18 @@ use Rattle.falgrumi.proofs.Demand.{guarantee}
 abbrev pub Demand1-Check : Type 0
 Demand1-Check = (bs : List ℕ) (room : ℕ) → RefusesOnly (λ r p. (1 ≤ r) × (r ≤ 13) × PlaceInRange bs r p) (verdict bs room)
 
--- Every answer of Evaluate is a truth or one of the refusals 1 to 9 and 14 to 19, and its place is one that this refusal may name. Its
--- steps are at most the budget: none in a refusal before 15, all of the budget in 19.
+-- Every answer of Evaluate is a truth or one of the refusals 1 to 9 and 14 to 19, and its place is one that this refusal may name; the
+-- steps are at most the budget.
 abbrev pub Demand1-Evaluate : Type 0
 Demand1-Evaluate = (bs buffer : List ℕ) (budget : ℕ) →
     let x = evaluation bs buffer budget in
-    (x .steps ≤ budget)
-    × RefusesOnly (λ r p.
-    (((1 ≤ r) × (r ≤ 9)) ⊎ ((14 ≤ r) × (r ≤ 19))) × PlaceInRange bs r p × (r < 15 → x .steps ≡ 0) × (r ≡ 19 → x .steps ≡ budget)) (x .end)
+    RefusesOnly (λ r p. (((1 ≤ r) × (r ≤ 9)) ⊎ ((14 ≤ r) × (r ≤ 19))) × PlaceInRange bs r p) (x .end) × (x .steps ≤ budget)
+
+-- A refusal before 15 comes with no steps, and 19 with all steps of the budget.
+abbrev pub Demand1-Steps : Type 0
+Demand1-Steps = (bs buffer : List ℕ) (budget : ℕ) →
+    let x = evaluation bs buffer budget in
+    RefusesOnly (λ r p. (r < 15 → x .steps ≡ 0) × (r ≡ 19 → x .steps ≡ budget)) (x .end)
 
 -- A refusal by Check leaves every byte of the sheet as it was lent.
 abbrev pub Demand1-Sheet : Type 0
@@ -87,7 +94,13 @@ pub demand1-check : Demand1-Check
 demand1-check bs room = verdict-refuses (verdict-right bs room)
 
 pub demand1-evaluate : Demand1-Evaluate
-demand1-evaluate = evaluation-refuses
+demand1-evaluate bs buffer budget =
+    let h = evaluation-refuses bs buffer budget in
+    (refuses-imp _ _ (λ r p k. (k .0, k .1)) (evaluation bs buffer budget .end) (h .1), h .0)
+
+pub demand1-steps : Demand1-Steps
+demand1-steps bs buffer budget =
+    refuses-imp _ _ (λ r p k. (k .2, k .3)) (evaluation bs buffer budget .end) (evaluation-refuses bs buffer budget .1)
 
 pub demand1-sheet : Demand1-Sheet
 demand1-sheet bs sheet r p e = ap (λ (a : End (List ℕ)). sheetAfter a sheet) e
