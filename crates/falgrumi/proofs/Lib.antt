@@ -1,4 +1,5 @@
--- Demand 3, and laws of the answers.
+-- The mission's demands, and laws of the answers.
+pub mod Mission
 pub mod EndNumbers
 pub mod Demand
 pub mod CheckedLaws

@@ -10,6 +10,7 @@ use native.Mathlib.Decide.{ℕ-discrete, decLt}
 use native.Mathlib.Omega.{arith}
 use lib.Dec.{T, leb, ltb, eqb, leb→le, le→leb, ltb→lt, lt→ltb, eqb→eq, eqb-refl}
 use Rattle.rules.specs.Ends.{End, done, refused, _>>=_, require, unlessFound, pickFirst, leastFailing, requireAll, allBelow, doneWith}
+use Rattle.rules.specs.Refusals.{RefusesOnly}
 use Rattle.rules.proofs.Basics.{absurd01}
 
 -- A test that passes, in both writings.
@@ -171,9 +172,29 @@ module _ {A : Type 0} where
   inTurn-passed [] a h = refl
   inTurn-passed (m ∷ ms) a h = rw (h .0) (inTurn-passed ms a (h .1))
 
-  -- A refusal is that of one of the tests.
-  pub inTurn-refused : (ms : List (End (Unit {0}))) (a : A) (r p : ℕ) (Q : Type 0) →
-      inTurn ms a ≡ refused r p → Each (λ m. m ≡ refused r p → Q) ms → Q
-  inTurn-refused [] a r p Q e h = absurd (absurd01 (cc))
-  inTurn-refused (done u ∷ ms) a r p Q e h = inTurn-refused ms a r p Q e (h .1)
-  inTurn-refused (refused s q ∷ ms) a r p Q e h = h .0 (cc)
+-- What refuses only with R refuses only with what follows from R.
+pub refuses-imp : {A : Type 0} (R S : ℕ → ℕ → Type 0) → ((r p : ℕ) → R r p → S r p) → (e : End A) → RefusesOnly R e → RefusesOnly S e
+refuses-imp R S f (done a) h = tt
+refuses-imp R S f (refused r p) h = f r p h
+
+-- What refuses only with R: an answer and what follows it, a single test, a test of each number below n, a row of tests.
+module _ (R : ℕ → ℕ → Type 0) where
+  pub refuses-bind : {A B : Type 0} (m : End A) (f : A → End B) → RefusesOnly R m → ((a : A) → RefusesOnly R (f a)) → RefusesOnly R (m >>= f)
+  refuses-bind (done a) f h k = k a
+  refuses-bind (refused r p) f h k = h
+
+  pub require-refuses : (r p : ℕ) (b : Bool) → R r p → RefusesOnly R (require r p b)
+  require-refuses r p true h = tt
+  require-refuses r p false h = h
+
+  unlessFound-refuses : (r : ℕ) (ok : ℕ → Bool) (n : ℕ) (o : Option ℕ) → Sought ok 0 n o → ((p : ℕ) → p < n → R r p) → RefusesOnly R (unlessFound r o)
+  unlessFound-refuses r ok n nothing s h = tt
+  unlessFound-refuses r ok n (some p) s h = h p (omega arith)
+
+  pub requireAll-refuses : (r : ℕ) (ok : ℕ → Bool) (n : ℕ) → ((p : ℕ) → p < n → R r p) → RefusesOnly R (requireAll r ok n)
+  unfolding requireAll
+  requireAll-refuses r ok n h = unlessFound-refuses r ok n (leastFailing ok 0 n) (sought ok 0 n) h
+
+  pub inTurn-refuses : {A : Type 0} (ms : List (End (Unit {0}))) (a : A) → Each (RefusesOnly R) ms → RefusesOnly R (inTurn ms a)
+  inTurn-refuses [] a h = tt
+  inTurn-refuses (m ∷ ms) a h = refuses-bind m (λ _. inTurn ms a) (h .0) (λ _. inTurn-refuses ms a (h .1))

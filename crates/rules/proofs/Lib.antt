@@ -8,6 +8,7 @@ pub mod BindingLaws
 pub mod OrderLaws
 pub mod CellsLaws
 pub mod FitsLaws
+pub mod TreeInduction
 pub mod TypedTree
 pub mod SetTypes
 pub mod Soundness
@@ -19,5 +20,6 @@ pub mod TraceLaws
 pub mod ConditionMeaning
 pub mod TypeLaws
 pub mod VerdictLaws
+pub mod RefusalLaws
 pub mod Rows
 pub mod Tried

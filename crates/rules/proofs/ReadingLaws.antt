@@ -7,7 +7,7 @@ use mathlib.Core.Logic.{_↔_, Iff·trans, Iff·and, Iff·rfl}
 use mathlib.Core.Option.{Option, none as nothing, some}
 use mathlib.Core.Path.{_≡_, refl, sym, _∙_}
 use native.Mathlib.Omega.{arith}
-use lib.Dec.{T, leb}
+use lib.Dec.{T, leb, ltb}
 use lib.ListN.{getD, length}
 use Rattle.rules.specs.Kinds.{Kind}
 use Rattle.rules.specs.Kinds.{Category, predicate, expression, categoryOf, isPredicate, isExpression, fieldsOf, isChild}
@@ -19,8 +19,9 @@ use Rattle.rules.specs.Reading.{headed, limited, laidOut, sizeGood, bind
 use Rattle.rules.specs.Reading.{occurrences, parentGood, height, heightLimit, heightGood, binders, occursFree, boundRight, binding}
 use Rattle.rules.specs.Reading.{reading}
 use Rattle.rules.specs.Readable.{CategoryIs, FieldRight, FieldsRight, KindRight, NodeRight, BindingRight, Header, Records, Readable}
-use Rattle.rules.proofs.EndLaws.{T-true, T-and, T-leb, T-ltb, T-eqb, requireAll-done, unlessFound-refused}
-use Rattle.rules.proofs.EndLaws.{require-done, require-refused, Each, inTurn, inTurn-done, inTurn-passed, inTurn-refused}
+use Rattle.rules.specs.Refusals.{refusalPlaces, PlaceInRange, RefusesOnly}
+use Rattle.rules.proofs.EndLaws.{T-true, T-and, T-leb, T-ltb, T-eqb, requireAll-done}
+use Rattle.rules.proofs.EndLaws.{require-done, require-refuses, requireAll-refuses, Each, inTurn, inTurn-done, inTurn-passed, inTurn-refuses}
 use Rattle.rules.proofs.TableLaws.{sizes-length, binds-length, nodes-length}
 use Rattle.rules.proofs.Basics.{absurd01}
 
@@ -302,37 +303,31 @@ reading-table bs tb e = sym (inTurn-done (stages bs) (tableOf bs) tb (sym (readi
 pub reading-readable : (bs : List ℕ) (tb : Table) → reading bs ≡ done tb → Readable bs
 reading-readable bs tb e = stages-right bs .0 (inTurn-done (stages bs) (tableOf bs) tb (sym (reading-stages bs) ∙ e) .0)
 
--- Its refusals have the numbers 1 to 9.
-pub reading-numbers : (bs : List ℕ) (r p : ℕ) → reading bs ≡ refused r p → (1 ≤ r) × (r ≤ 9)
-reading-numbers bs r p e =
-    inTurn-refused (stages bs) (tableOf bs) r p ((1 ≤ r) × (r ≤ 9)) (sym (reading-stages bs) ∙ e) (
-      single 1 (headed bs) tt,
-      (
-        single 2 (limited bs) tt,
-        (
-          single 3 (laidOut bs) tt,
-          (
-            least 4 (badSize bs) tt,
-            (
-              least 5 (badWord bs) tt,
-              (
-                least 6 (badNode bs) tt,
-                (least 7 (badParent bs) tt, (least 8 (badHeight bs) tt, (least 9 (badBinding bs) tt, tt))),
-              ),
-            ),
-          ),
-        ),
-      ),
-    )
+-- Its refusals have the numbers 1 to 9, each with a place in its range.
+pub reading-refuses : (bs : List ℕ) → RefusesOnly (λ r p. (1 ≤ r) × (r ≤ 9) × PlaceInRange bs r p) (reading bs)
+unfolding requireAll
+reading-refuses bs =
+    let tb = tableOf bs in
+    rw reading-stages (inTurn-refuses R (stages bs) tb
+    (single 1 (headed bs) tt, (single 2 (limited bs) tt, (single 3 (laidOut bs) tt,
+    (least 4 (sizeGood tb) tt, (least 5 (bindGood tb) tt, (least 6 (nodeGood tb) tt,
+    (least 7 (parentGood tb) tt, (least 8 (heightGood tb) tt, (least 9 (binding tb) tt, tt))))))))))
   where
-    within : (k : ℕ) → T (leb 1 k && leb k 9) → r ≡ k → (1 ≤ r) × (r ≤ 9)
-    within k l q = let b : (1 ≤ k) × (k ≤ 9) = simp (T-and, T-leb) at l in omega arith
+    R : ℕ → ℕ → Type 0
+    R r p = (1 ≤ r) × (r ≤ 9) × PlaceInRange bs r p
 
-    single : (k : ℕ) (b : Bool) → T (leb 1 k && leb k 9) → require k 0 b ≡ refused r p → (1 ≤ r) × (r ≤ 9)
-    single k b l q = within k l (require-refused k 0 b r p q .0)
+    listed : (k p : ℕ) → T (leb 1 k && leb k 9) → PlaceInRange bs k p → R k p
+    listed k p l h = let b : (1 ≤ k) × (k ≤ 9) = simp (T-and, T-leb) at l in (b .0, b .1, h)
 
-    least : (k : ℕ) (o : Option ℕ) → T (leb 1 k && leb k 9) → unlessFound k o ≡ refused r p → (1 ≤ r) × (r ≤ 9)
-    least k o l q = within k l (unlessFound-refused k o r p q .0)
+    single : (k : ℕ) (b : Bool) → T (leb 1 k && leb k 9 && ltb 0 (getD (refusalPlaces bs) k 0)) → RefusesOnly R (require k 0 b)
+    single k b l = let w = T-and (leb 1 k && leb k 9) _ .0 l in require-refuses R k 0 b (listed k 0 (w .0) (T-ltb 0 _ .0 (w .1)))
+
+    least : (k : ℕ) (ok : ℕ → Bool) → T (leb 1 k && leb k 9) → RefusesOnly R (unlessFound k (leastFailing ok 0 (getD (refusalPlaces bs) k 0)))
+    least k ok l = requireAll-refuses R k ok (getD (refusalPlaces bs) k 0) (λ p h. listed k p l h)
+
+-- The numbers alone.
+pub reading-numbers : (bs : List ℕ) (r p : ℕ) → reading bs ≡ refused r p → (1 ≤ r) × (r ≤ 9)
+reading-numbers bs r p e = let h : (1 ≤ r) × (r ≤ 9) × PlaceInRange bs r p = rw e at (reading-refuses bs) in (h .0, h .1)
 
 -- The first test that fails decides. Of stage k the tests of the stages before are given as passed.
 module _ (bs : List ℕ) where

@@ -1,10 +1,10 @@
 -- The typing rules determine Check's answer: two verdicts on the same bytes and sheet length are the same, and so is the
--- sheet at exit.
+-- sheet at exit. On a readable table with a sheet of the right length it is acceptance, 11, 12 or 13 exactly where document 01 says.
 use Prim.Native.Nat.{ℕ, zero, suc, _+_, _≤_, _<_}
 use mathlib.Core.List.{List, _++_}
 use mathlib.Core.Option.{Option, none as nothing, some}
-use mathlib.Core.Path.{_≡_, refl, ap, ap₂, subst, sym}
-use mathlib.Core.Logic.{inl, inr}
+use mathlib.Core.Path.{_≡_, refl, ap, ap₂, subst, sym, _∙_}
+use mathlib.Core.Logic.{_↔_, inl, inr}
 use native.Mathlib.Omega.{arith}
 use native.Mathlib.Decide.{decLt}
 use lib.ListN.{length}
@@ -16,6 +16,8 @@ use Rattle.rules.specs.Readable.{CategoryIs}
 use Rattle.rules.specs.Verdict.{nodePlace, Place, Typing, Whole, AgreeAt, Only, typeLimit, Light}
 use Rattle.rules.specs.Verdict.{categoryRow, kindRow, rowsFrom, sheetOf, sheetLength}
 use Rattle.rules.specs.Verdict.{Verdict, unreadable, misfit, clash, several, heavy, accepts, sheetAfter}
+use Rattle.rules.specs.Reading.{reading}
+use Rattle.rules.specs.Refusals.{ClashesAt, DifferAt, TooHeavyAt, IsLeast}
 use Rattle.rules.proofs.Basics.{absurd01}
 
 -- A typing of some nodes is one of fewer.
@@ -154,3 +156,116 @@ verdict-only bs room a b v w = verdict-one v w
 pub sheet-only : (bs sheet : List ℕ) (a b : End (List ℕ)) →
     Verdict bs (length sheet) a → Verdict bs (length sheet) b → sheetAfter a sheet ≡ sheetAfter b sheet
 sheet-only bs sheet a b v w = ap (λ (r : End (List ℕ)). sheetAfter r sheet) (verdict-one v w)
+
+-- A typing of the whole table leaves no node for 11, and an only one no place for 12.
+whole-typed : {tb : Table} {θ : ℕ → Ty} {k : ℕ} → Whole tb θ → ClashesAt tb k → ⊥
+whole-typed {θ = θ} w u = u .1 θ (restrict (u .0) w)
+
+only-same : {tb : Table} {θ : ℕ → Ty} {p : ℕ} → Only tb θ → DifferAt tb p → ⊥
+only-same o (κ, κ′, w, w′, h, d) = d (only-agrees o h κ κ′ w w′)
+
+-- What a verdict on a readable table says:
+module _ (bs : List ℕ) {room : ℕ} {tb : Table} (e : reading bs ≡ done tb) where
+  -- 11 at the least node that leaves no typing,
+  clash-least : {k : ℕ} → Verdict bs room (refused 11 k) → IsLeast (ClashesAt tb) k
+  clash-least (unreadable e′) = read-or-not e′ e
+  clash-least {k} (clash {θ = θ} e′ f l w n) =
+      move (λ t. IsLeast (ClashesAt t) k) e e′ ((l, n), λ j m u. u .1 θ (restrict m w))
+
+  -- 12 at the least place where typings differ,
+  several-least : {p : ℕ} → Verdict bs room (refused 12 p) → IsLeast (DifferAt tb) p
+  several-least (unreadable e′) = read-or-not e′ e
+  several-least {p} (several {θ = θ} {κ = κ} e′ f h w w′ d g) =
+      move (λ t. IsLeast (DifferAt t) p) e e′ ((θ, κ, w, w′, h, d), λ q m u. u .5 (g q m (u .4) (u .0) (u .1) (u .2) (u .3)))
+
+  -- 13 at the least place where the only typing is too heavy,
+  heavy-least : {p : ℕ} → Verdict bs room (refused 13 p) → IsLeast (TooHeavyAt tb) p
+  heavy-least (unreadable e′) = read-or-not e′ e
+  heavy-least {p} (heavy {θ = θ} e′ f h o l g) =
+      move (λ t. IsLeast (TooHeavyAt t) p) e e′ ((θ, o, h, l), λ q m u. absurd (heavy-light e′ e′ (u .2) (u .1) (u .3) o (g q m)))
+
+  -- or acceptance of the only typing, whose sheet is written.
+  accepts-only : {rows : List ℕ} → Verdict bs room (done rows) →
+      (θ : ℕ → Ty) × Only tb θ × ((p : ℕ) → Light tb θ p) × (rows ≡ sheetOf tb θ)
+  accepts-only (accepts {tb = tb′} {θ = θ} e′ f o g) =
+      move (λ t. (κ : ℕ → Ty) × Only t κ × ((p : ℕ) → Light t κ p) × (sheetOf tb′ θ ≡ sheetOf t κ)) e e′ (θ, o, g, refl)
+
+  -- Which refusal it is, where the sheet has the right length.
+  module _ (fit : room ≡ sheetLength tb) where
+    untyped-refused : {a : End (List ℕ)} → Verdict bs room a → ((θ : ℕ → Ty) → Whole tb θ → ⊥) → (k : ℕ) × (a ≡ refused 11 k)
+    untyped-refused (unreadable e′) h = read-or-not e′ e
+    untyped-refused (misfit e′ n) h = misfit-fits e′ e n fit
+    untyped-refused (clash {k = k} e′ f l w n) h = (k, refl)
+    untyped-refused (several {θ = θ} e′ f p w w′ d g) h = absurd (h θ (move (λ t. Whole t θ) e e′ w))
+    untyped-refused (heavy {θ = θ} e′ f p o l g) h = absurd (h θ (move (λ t. Whole t θ) e e′ (o .typing)))
+    untyped-refused (accepts {θ = θ} e′ f o g) h = absurd (h θ (move (λ t. Whole t θ) e e′ (o .typing)))
+
+    different-refused : {a : End (List ℕ)} {q : ℕ} → Verdict bs room a → DifferAt tb q → (p : ℕ) × (a ≡ refused 12 p)
+    different-refused (unreadable e′) h = read-or-not e′ e
+    different-refused (misfit e′ n) h = misfit-fits e′ e n fit
+    different-refused (clash e′ f l w n) h = clash-whole e′ e n l (h .2)
+    different-refused (several {p = p} e′ f k w w′ d g) h = (p, refl)
+    different-refused (heavy {θ = θ} e′ f k o l g) h = absurd (only-same (move (λ t. Only t θ) e e′ o) h)
+    different-refused (accepts {θ = θ} e′ f o g) h = absurd (only-same (move (λ t. Only t θ) e e′ o) h)
+
+    heavy-refused : {a : End (List ℕ)} {q : ℕ} → Verdict bs room a → TooHeavyAt tb q → (p : ℕ) × (a ≡ refused 13 p)
+    heavy-refused (unreadable e′) h = read-or-not e′ e
+    heavy-refused (misfit e′ n) h = misfit-fits e′ e n fit
+    heavy-refused (clash e′ f l w n) h = clash-whole e′ e n l (h .1 .typing)
+    heavy-refused (several e′ f k w w′ d g) h = several-only e′ e k w w′ d (h .1)
+    heavy-refused (heavy {p = p} e′ f k o l g) h = (p, refl)
+    heavy-refused {q = q} (accepts e′ f o g) h = heavy-light e e′ (h .2) (h .1) (h .3) o (g q)
+
+-- There is at most one least number with a property.
+least-one : {P : ℕ → Type 0} {i j : ℕ} → IsLeast P i → IsLeast P j → i ≡ j
+least-one {P} {i} {j} h k = first-only (λ m. k .1 i m (h .0)) (λ m. h .1 j m (k .0))
+
+-- So a refusal that comes wherever some number has the property, at the least one, comes at p exactly where p is the least.
+at-least : {P : ℕ → Type 0} {a : End (List ℕ)} (r p : ℕ) → ((q : ℕ) → P q → (i : ℕ) × (a ≡ refused r i)) →
+    ((q : ℕ) → a ≡ refused r q → IsLeast P q) → (a ≡ refused r p) ↔ IsLeast P p
+at-least r p some-refused found = (found p, λ h. let x = some-refused p (h .0) in x .1 ∙ ap (refused r) (least-one (found (x .0) (x .1)) h))
+
+-- Check on a readable table with a sheet of the right length: acceptance exactly where there is one typing only and no type in it is too
+-- heavy, 11 exactly where there is no typing, 12 exactly where there are several, 13 exactly where the only one is too heavy.
+module _ (bs : List ℕ) {room : ℕ} {tb : Table} {a : End (List ℕ)} (v : Verdict bs room a) (e : reading bs ≡ done tb) (fit : room ≡ sheetLength tb) where
+  as-said : {b : End (List ℕ)} → a ≡ b → Verdict bs room b
+  as-said q = subst (Verdict bs room) q v
+
+  pub accepted-where : ((rows : List ℕ) × (a ≡ done rows)) ↔ ((θ : ℕ → Ty) × Only tb θ × ((p : ℕ) → Light tb θ p))
+  accepted-where = (
+    λ x. let w = accepts-only bs e (as-said (x .1)) in (w .0, w .1, w .2),
+    λ x. (sheetOf tb (x .0), verdict-one v (accepts e fit (x .1) (x .2))),
+  )
+
+  pub rows-where : (rows : List ℕ) (θ : ℕ → Ty) → a ≡ done rows → Only tb θ → rows ≡ sheetOf tb θ
+  rows-where rows θ q o =
+      let w = accepts-only bs e (as-said q) in w .3 ∙ same-sheet e e (w .1) o
+
+  pub untyped-where : ((k : ℕ) × (a ≡ refused 11 k)) ↔ ((θ : ℕ → Ty) → Whole tb θ → ⊥)
+  untyped-where = (
+    λ x θ w. whole-typed w (clash-least bs e (as-said (x .1)) .0),
+    λ h. untyped-refused bs e fit v h,
+  )
+
+  pub different-where : ((p : ℕ) × (a ≡ refused 12 p)) ↔ ((p : ℕ) × DifferAt tb p)
+  different-where = (
+    λ x. (x .0, several-least bs e (as-said (x .1)) .0),
+    λ x. different-refused bs e fit v (x .1),
+  )
+
+  pub heavy-where : ((p : ℕ) × (a ≡ refused 13 p)) ↔ ((p : ℕ) × TooHeavyAt tb p)
+  heavy-where = (
+    λ x. (x .0, heavy-least bs e (as-said (x .1)) .0),
+    λ x. heavy-refused bs e fit v (x .1),
+  )
+
+  -- The places.
+  pub clash-at : (k : ℕ) → (a ≡ refused 11 k) ↔ IsLeast (ClashesAt tb) k
+  clash-at k = at-least 11 k (λ q u. untyped-refused bs e fit v (λ θ w. whole-typed w u))
+      (λ q x. clash-least bs e (as-said x))
+
+  pub different-at : (p : ℕ) → (a ≡ refused 12 p) ↔ IsLeast (DifferAt tb) p
+  different-at p = at-least 12 p (λ q u. different-refused bs e fit v u) (λ q x. several-least bs e (as-said x))
+
+  pub heavy-at : (p : ℕ) → (a ≡ refused 13 p) ↔ IsLeast (TooHeavyAt tb) p
+  heavy-at p = at-least 13 p (λ q u. heavy-refused bs e fit v u) (λ q x. heavy-least bs e (as-said x))

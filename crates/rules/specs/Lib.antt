@@ -16,3 +16,4 @@ pub mod Evaluation
 pub mod Visits
 pub mod Verdict
 pub mod Safety
+pub mod Refusals
