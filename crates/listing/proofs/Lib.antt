@@ -1,0 +1,3 @@
+-- Laws of the listing's text.
+pub mod TextLaws
+pub mod ListingLaws

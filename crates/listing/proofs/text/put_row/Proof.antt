@@ -1,0 +1,34 @@
+-- The codes, and p where there were none.
+use mathlib.Core.Path.{sym}
+use native.Mathlib.Omega.{arith}
+use borrow.Author.Needs.{needs}
+use Rattle.listing.proofs.TextLaws.{appends-then, appends-as, codes-within, rowText-none, rowText-some, row-none-extent, none-written, some-written}
+use Rattle.listing.proofs.text.put_row.Statement.{statement}
+use Rattle.listing.proofs.text.put_row.Tie as tie
+
+put-codes-requires : tie.Need-put-codes-requires
+put-codes-requires c κs = omega (arith, codes-within (c .before .before .before .args .row .now), c .before .before .before .pre)
+
+put-requires : tie.Need-put-requires
+put-requires c κs =
+    let e = c .before .before .before .before .put-codes .ensures in
+    omega (arith, row-none-extent (c .before .before .before .before .before .before .before .before .args .row .now) (none-written e (c .before .if1 .taken)), none-written e (c .before .if1 .taken), e .next, e .kept, c .before .before .before .before .before .before .before .before .pre)
+
+same-length : tie.Need-same-length
+same-length c = search needs
+
+returns : tie.Need-returns
+returns c =
+    let e = c .before .before .before .before .before .before .before .put-codes .ensures in
+    appends-as (sym (rowText-none (c .before .before .before .before .before .before .before .before .before .before .before .args .row .now) (none-written e (c .before .before .before .before .if1 .taken)))) (appends-then e (c .before .before .put .ensures))
+
+same-length-2 : tie.Need-same-length-2
+same-length-2 c = search needs
+
+returns-2 : tie.Need-returns-2
+returns-2 c =
+    let e = c .before .before .before .put-codes .ensures in
+    appends-as (sym (rowText-some (c .before .before .before .before .before .before .before .args .row .now) (some-written e (c .if1 .left)))) e
+
+pub put-row-spec : {M : Type 1} → statement M
+put-row-spec = tie.close (tie.spec put-codes-requires put-requires same-length returns same-length-2 returns-2)
