@@ -2,19 +2,21 @@
 use Prim.Native.Nat.{ℕ, zero, suc, _+_, _*_, _-_, _<_, _≤_}
 use mathlib.Core.Bool.{Bool, true, false, not, cond, _&&_}
 use mathlib.Core.List.{List, [], _∷_, _++_}
-use mathlib.Core.Path.{_≡_, refl, _∙_, ap, ap₂, subst}
+use mathlib.Core.Path.{_≡_, refl, sym, _∙_, ap, ap₂, subst}
 use native.Mathlib.Nat.{suc-mul}
 use native.Mathlib.Omega.{arith}
 use lib.Dec.{T, ltb}
 use lib.ListN.{length, take, drop, length-append, length-take}
+use lib.Seq.{take-at, length-take-le}
 use Rattle.rules.specs.Ends.{End, done, refused}
 use Rattle.rules.specs.Tables.{identifierCount, nodeCount}
 use Rattle.rules.specs.Reading.{headed, limited}
 use Rattle.rules.specs.Verdict.{rowsFrom, sheetAfter}
 use Rattle.rules.proofs.Basics.{absurd01, and-split}
 use Rattle.rules.proofs.ReadingLaws.{headed-right, limited-right}
+use Rattle.typing.specs.Model.{verdict}
 use Rattle.checker.specs.Answers.{answered}
-use Rattle.listing.specs.Text.{hexOf, unfilled, codesText, rowText, indexOf, lineOf, sheetRow, linesOf, acceptedLine, refusalLine, answerText, identifiersOf, placesOf, Appends}
+use Rattle.listing.specs.Text.{hexOf, unfilled, codesText, rowText, indexOf, lineOf, sheetRow, linesOf, acceptedLine, refusalLine, answerText, identifiersOf, placesOf, listingOf, Appends}
 use Rattle.listing.proofs.TextLaws.{decimal-short, line-extent, refusal-extent}
 
 -- What the tests of a header say.
@@ -110,5 +112,34 @@ unfolding answerText
 refused-text i count r p (done s) e = absurd01 (cc)
 refused-text i count r p (refused q m) e = let f : r ≡ q = cc in let g : p ≡ m = cc in ap₂ refusalLine f g
 
-pub whole-text : {s t : List ℕ} {r : ℕ} {xs : List ℕ} → Appends s 0 xs r t → length xs ≤ length s → (r ≤ length t) × (take r t ≡ xs)
-whole-text a h = (omega (arith, a .next, a .kept), a .stands)
+-- A listing has room in 83241 bytes.
+pub accepted-short : (i count : ℕ) (sheet : List ℕ) → count ≤ 544 → length (linesOf i count sheet ++ acceptedLine) ≤ 83241
+accepted-short i count sheet h = omega (arith, length-append (linesOf i count sheet) acceptedLine, lines-short i count sheet h)
+
+listing-is : (bs : List ℕ) → listingOf bs ≡ answerText (identifiersOf bs) (placesOf bs) (verdict bs (64 * placesOf bs))
+unfolding listingOf
+listing-is bs = refl
+
+-- The counts and the length of the sheet that the code has are those of the definition.
+pub listing-refused : (bs : List ℕ) (count room r p : ℕ) → count ≡ placesOf bs → 64 * count ≡ room → refused r p ≡ answered (verdict bs room) →
+    refusalLine r p ≡ listingOf bs
+listing-refused bs count room r p e f a =
+    let v = subst (λ (n : ℕ). refused r p ≡ answered (verdict bs n)) (sym f ∙ ap (λ (n : ℕ). 64 * n) e) a in
+    refused-text (identifiersOf bs) (placesOf bs) r p (verdict bs (64 * placesOf bs)) v ∙ sym (listing-is bs)
+
+pub listing-accepted : (bs : List ℕ) (i count room : ℕ) (rows sheet : List ℕ) → i ≡ identifiersOf bs → count ≡ placesOf bs → 64 * count ≡ room →
+    done tt ≡ answered (verdict bs room) → rows ≡ sheetAfter (verdict bs room) sheet → linesOf i count rows ++ acceptedLine ≡ listingOf bs
+listing-accepted bs i count room rows sheet g e f a w =
+    let k = sym f ∙ ap (λ (n : ℕ). 64 * n) e in
+    ap₂ (λ (j n : ℕ). linesOf j n rows ++ acceptedLine) g e
+    ∙ accepted-text (identifiersOf bs) (placesOf bs) (verdict bs (64 * placesOf bs)) rows sheet
+    (subst (λ (n : ℕ). done tt ≡ answered (verdict bs n)) k a) (subst (λ (n : ℕ). rows ≡ sheetAfter (verdict bs n) sheet) k w)
+    ∙ sym (listing-is bs)
+
+-- The part of a sheet that Check wrote.
+pub front-written : (rows sheet : List ℕ) (n : ℕ) → length rows ≡ length (take n sheet) → n ≤ length sheet → take n (rows ++ drop n sheet) ≡ rows
+front-written rows sheet n e h = take-at rows (drop n sheet) n (e ∙ length-take-le n sheet h)
+
+-- A whole text in the buffer.
+pub whole-text : {s t : List ℕ} {r : ℕ} {xs ys : List ℕ} → Appends s 0 xs r t → length xs ≤ length s → xs ≡ ys → (r ≤ length t) × (take r t ≡ ys)
+whole-text a h e = (omega (arith, a .next, a .kept), a .stands ∙ e)

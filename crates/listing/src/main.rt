@@ -42,7 +42,7 @@ fn places(table: &[u8]) -> usize
 // Writes the listing of a table at the start of `out`, and answers its length. A part of the right length is lent to Check as its
 // sheet.
 fn list(table: &[u8], sheet: &mut [u8], out: &mut [u8]) -> usize
-    requires { ⌜ (34816 ≤ length (now sheet)) × (82697 ≤ length (now out)) ⌝ }
+    requires { ⌜ (34816 ≤ length (now sheet)) × (83241 ≤ length (now out)) ⌝ }
     ensures { λ r. ⌜ (r ≤ length (now (out .exit))) × (take r (now (out .exit)) ≡ listingOf (now (table .entry))) ⌝ }
 {
     let count = places(table);

@@ -1,30 +1,26 @@
+-- The lines, and the last line after them.
+use native.Mathlib.Omega.{arith}
+use lib.ListN.{length-append}
+use Rattle.listing.specs.Text.{linesOf, acceptedLine}
+use Rattle.listing.proofs.TextLaws.{appends-then}
 use borrow.Author.Needs.{needs}
 use Rattle.listing.proofs.text.accepted.Statement.{statement}
 use Rattle.listing.proofs.text.accepted.Tie as tie
-use Rattle.listing.proofs.text.accepted.Reads as reads
-use Rattle.listing.proofs.text.accepted.Lts as lts
-use Rattle.listing.proofs.text.lines.Reads as lines-reads
-use Rattle.listing.proofs.text.put_all.Reads as put-all-reads
 
--- src/text.rt:142:9
 lines-requires : tie.Need-lines-requires
-lines-requires c κs = ?
+lines-requires c κs = (c .before .before .before .pre .0, omega (arith, length-append (linesOf (c .before .before .before .args .identifiers) (c .before .before .before .args .count) (c .before .before .before .args .sheet .now)) acceptedLine, c .before .before .before .pre .1))
 
--- src/text.rt:143:22
 slice-aggregate-put-all : tie.Need-slice-aggregate-put-all
 slice-aggregate-put-all c = search needs
 
--- src/text.rt:143:5
 put-all-requires : tie.Need-put-all-requires
-put-all-requires c κs = ?
+put-all-requires c κs = omega (arith, length-append (linesOf (c .before .before .before .before .before .before .before .before .args .identifiers) (c .before .before .before .before .before .before .before .before .args .count) (c .before .before .before .before .before .before .before .before .args .sheet .now)) acceptedLine, c .before .before .before .before .before .before .before .before .pre .1, c .before .before .before .before .lines .ensures .next, c .before .before .before .before .lines .ensures .kept)
 
--- src/text.rt:138:1
 same-length : tie.Need-same-length
 same-length c = search needs
 
--- src/text.rt:138:1
 returns : tie.Need-returns
-returns c = ?
+returns c = appends-then (c .before .before .before .before .before .before .before .lines .ensures) (c .before .before .put-all .ensures)
 
 pub accepted-spec : {M : Type 1} → statement M
 accepted-spec =
