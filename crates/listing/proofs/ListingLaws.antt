@@ -94,7 +94,7 @@ pub lines-short : (i count : ℕ) (sheet : List ℕ) → count ≤ 544 → lengt
 unfolding linesOf
 lines-short i count sheet h =
     let s = rows-short (λ p. lineOf i p (sheetRow sheet p)) 153 0 count
-            (λ p l. line-short i p (sheetRow sheet p) (omega arith) (omega (arith, length-take 64 (drop (64 * p) sheet)))) in
+    (λ p l. line-short i p (sheetRow sheet p) (omega arith) (omega (arith, length-take 64 (drop (64 * p) sheet)))) in
     omega arith
 
 pub refusal-short : (r p : ℕ) → r < 256 → p < 18446744073709551616 → length (refusalLine r p) ≤ 50

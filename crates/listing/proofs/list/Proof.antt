@@ -6,6 +6,7 @@ use native.Mathlib.Omega.{arith}
 use lib.ListN.{length, take, drop}
 use lib.Seq.{length-take-le}
 use Rattle.checker.specs.Answers.{answerOf}
+use Rattle.listing.specs.Text.{linesOf, acceptedLine}
 use Rattle.listing.proofs.ListingLaws.{accepted-short, refusal-short, listing-refused, listing-accepted, front-written, whole-text}
 use borrow.Author.Needs.{needs}
 use Rattle.listing.proofs.list.Statement.{statement}
@@ -22,7 +23,11 @@ slice-relend-prefix-check c = search needs
 
 slice-aggregate-check : tie.Need-slice-aggregate-check
 slice-aggregate-check c =
-    sym (length-take-le (64 * c .before .places .result) (c .before .before .before .before .before .args .sheet .now) (omega (arith, c .before .places .ensures .1, c .before .before .before .before .before .pre .0)))
+    let a = c .before .before .before .before .before in
+    let count = c .before .places .result in
+    let sheet = a .args .sheet .now in
+    let fits : 64 * count ≤ length sheet = omega (arith, c .before .places .ensures .1, a .pre .0) in
+    sym (length-take-le (64 * count) sheet fits)
 
 check-requires : tie.Need-check-requires
 check-requires c κs = search needs
@@ -32,7 +37,10 @@ enum-known-checked c = search needs
 
 refused-requires : tie.Need-refused-requires
 refused-requires c κs =
-    omega (arith, refusal-short (c .before .before .checked .given .0 .0 .number) (c .before .before .checked .given .0 .0 .place) (search needs) (search needs), c .before .before .before .before .before .before .before .before .before .before .before .before .pre .1)
+    let a = c .before .before in
+    let b = a .before .before .before .before .before .before .before .before .before .before in
+    let r = a .checked .given .0 .0 in
+    omega (arith, refusal-short (r .number) (r .place) (search needs) (search needs), b .pre .1)
 
 enum-told : tie.Need-enum-told
 enum-told c = search needs
@@ -45,14 +53,30 @@ slice-reshare-prefix-accepted c = search needs
 
 slice-aggregate-accepted : tie.Need-slice-aggregate-accepted
 slice-aggregate-accepted c =
-    sym (ap length (front-written (c .before .before .before .before .before .before .before .check .last .1 .0) (c .before .before .before .before .before .before .before .before .before .before .before .before .before .args .sheet .now) (64 * c .before .before .before .before .before .before .before .before .before .places .result) (c .before .before .before .before .before .before .before .check .kept .1 .0) (omega (arith, c .before .before .before .before .before .before .before .before .before .places .ensures .1, c .before .before .before .before .before .before .before .before .before .before .before .before .before .pre .0))) ∙ c .before .before .before .before .before .before .before .check .kept .1 .0 ∙ length-take-le (64 * c .before .before .before .before .before .before .before .before .before .places .result) (c .before .before .before .before .before .before .before .before .before .before .before .before .before .args .sheet .now) (omega (arith, c .before .before .before .before .before .before .before .before .before .places .ensures .1, c .before .before .before .before .before .before .before .before .before .before .before .before .before .pre .0)))
+    let a = c .before .before .before .before .before .before .before in
+    let b = a .before .before in
+    let d = b .before .before .before .before in
+    let count = b .places .result in
+    let sheet = d .args .sheet .now in
+    let fits : 64 * count ≤ length sheet = omega (arith, b .places .ensures .1, d .pre .0) in
+    let rows = a .check .last .1 .0 in
+    let kept = a .check .kept .1 .0 in
+    let front = front-written rows sheet (64 * count) kept fits in
+    sym (ap length front ∙ kept ∙ length-take-le (64 * count) sheet fits)
 
 accepted-requires : tie.Need-accepted-requires
 accepted-requires c κs =
-    (
-      omega (arith, ap length (front-written (c .before .before .before .before .before .before .before .check .last .1 .0) (c .before .before .before .before .before .before .before .before .before .before .before .before .before .args .sheet .now) (64 * c .before .before .before .before .before .before .before .before .before .places .result) (c .before .before .before .before .before .before .before .check .kept .1 .0) (omega (arith, c .before .before .before .before .before .before .before .before .before .places .ensures .1, c .before .before .before .before .before .before .before .before .before .before .before .before .before .pre .0))), c .before .before .before .before .before .before .before .check .kept .1 .0, length-take-le (64 * c .before .before .before .before .before .before .before .before .before .places .result) (c .before .before .before .before .before .before .before .before .before .before .before .before .before .args .sheet .now) (omega (arith, c .before .before .before .before .before .before .before .before .before .places .ensures .1, c .before .before .before .before .before .before .before .before .before .before .before .before .before .pre .0))),
-      omega (arith, accepted-short (c .before .identifiers .result) (c .before .before .before .before .before .before .before .before .before .places .result) (take (64 * c .before .before .before .before .before .before .before .before .before .places .result) (c .before .before .before .before .before .before .before .check .last .1 .0 ++ drop (64 * c .before .before .before .before .before .before .before .before .before .places .result) (c .before .before .before .before .before .before .before .before .before .before .before .before .before .args .sheet .now))) (c .before .before .before .before .before .before .before .before .before .places .ensures .1), c .before .before .before .before .before .before .before .before .before .before .before .before .before .pre .1),
-    )
+    let a = c .before .before .before .before .before .before .before in
+    let b = a .before .before in
+    let d = b .before .before .before .before in
+    let count = b .places .result in
+    let sheet = d .args .sheet .now in
+    let fits : 64 * count ≤ length sheet = omega (arith, b .places .ensures .1, d .pre .0) in
+    let rows = a .check .last .1 .0 in
+    let kept = a .check .kept .1 .0 in
+    let front = front-written rows sheet (64 * count) kept fits in
+    let short = accepted-short (c .before .identifiers .result) count (take (64 * count) (rows ++ drop (64 * count) sheet)) (b .places .ensures .1) in
+    (omega (arith, ap length front, kept, length-take-le (64 * count) sheet fits), omega (arith, short, d .pre .1))
 
 same-length : tie.Need-same-length
 same-length c = search needs
@@ -62,10 +86,20 @@ same-length-2 c = search needs
 
 returns : tie.Need-returns
 returns c =
-    whole-text (c .before .before .refused .ensures)
-    (omega (arith, refusal-short (c .before .before .before .before .before .checked .given .0 .0 .number) (c .before .before .before .before .before .checked .given .0 .0 .place) (search needs) (search needs), c .before .before .before .before .before .before .before .before .before .before .before .before .before .before .before .pre .1))
-    (listing-refused (c .before .before .before .before .before .before .before .before .before .before .before .before .before .before .before .args .table .now) (c .before .before .before .before .before .before .before .before .before .before .before .places .result) _ _ _ (c .before .before .before .before .before .before .before .before .before .before .before .places .ensures .0) (sym (length-take-le (64 * c .before .before .before .before .before .before .before .before .before .before .before .places .result) (c .before .before .before .before .before .before .before .before .before .before .before .before .before .before .before .args .sheet .now) (omega (arith, c .before .before .before .before .before .before .before .before .before .before .before .places .ensures .1, c .before .before .before .before .before .before .before .before .before .before .before .before .before .before .before .pre .0))))
-    (sym (ap answerOf (c .before .before .before .before .before .checked .given .1)) ∙ c .before .before .before .before .before .before .before .before .before .check .ensures .0))
+    let a = c .before .before in
+    let b = a .before .before in
+    let d = b .before in
+    let e = d .before .before .before .before in
+    let f = e .before .before in
+    let g = f .before .before .before .before in
+    let r = d .checked .given .0 .0 in
+    let short = refusal-short (r .number) (r .place) (omega (arith, b .known-told .given)) (omega (arith, b .known-told .given)) in
+    let count = f .places .result in
+    let sheet = g .args .sheet .now in
+    let fits : 64 * count ≤ length sheet = omega (arith, f .places .ensures .1, g .pre .0) in
+    whole-text (a .refused .ensures) (omega (arith, short, g .pre .1))
+    (listing-refused (g .args .table .now) count _ _ _ (f .places .ensures .0) (sym (length-take-le (64 * count) sheet fits))
+    (sym (ap answerOf (d .checked .given .1)) ∙ e .check .ensures .0))
 
 same-length-3 : tie.Need-same-length-3
 same-length-3 c = search needs
@@ -75,12 +109,25 @@ same-length-4 c = search needs
 
 returns-2 : tie.Need-returns-2
 returns-2 c =
-    whole-text (c .before .before .accepted .ensures)
-    (omega (arith, accepted-short (c .before .before .before .before .identifiers .result) (c .before .before .before .before .before .before .before .before .before .before .before .before .places .result) (take (64 * c .before .before .before .before .before .before .before .before .before .before .before .before .places .result) (c .before .before .before .before .before .before .before .before .before .before .check .last .1 .0 ++ drop (64 * c .before .before .before .before .before .before .before .before .before .before .before .before .places .result) (c .before .before .before .before .before .before .before .before .before .before .before .before .before .before .before .before .args .sheet .now))) (c .before .before .before .before .before .before .before .before .before .before .before .before .places .ensures .1), c .before .before .before .before .before .before .before .before .before .before .before .before .before .before .before .before .pre .1))
-    (listing-accepted (c .before .before .before .before .before .before .before .before .before .before .before .before .before .before .before .before .args .table .now) (c .before .before .before .before .identifiers .result) (c .before .before .before .before .before .before .before .before .before .before .before .before .places .result) _ _ (take (64 * c .before .before .before .before .before .before .before .before .before .before .before .before .places .result) (c .before .before .before .before .before .before .before .before .before .before .before .before .before .before .before .before .args .sheet .now))
-    (c .before .before .before .before .identifiers .ensures) (c .before .before .before .before .before .before .before .before .before .before .before .before .places .ensures .0) (sym (length-take-le (64 * c .before .before .before .before .before .before .before .before .before .before .before .before .places .result) (c .before .before .before .before .before .before .before .before .before .before .before .before .before .before .before .before .args .sheet .now) (omega (arith, c .before .before .before .before .before .before .before .before .before .before .before .before .places .ensures .1, c .before .before .before .before .before .before .before .before .before .before .before .before .before .before .before .before .pre .0))))
-    (sym (ap answerOf (c .before .before .before .before .before .before .enum-told .given .1)) ∙ c .before .before .before .before .before .before .before .before .before .before .check .ensures .0)
-    (front-written (c .before .before .before .before .before .before .before .before .before .before .check .last .1 .0) (c .before .before .before .before .before .before .before .before .before .before .before .before .before .before .before .before .args .sheet .now) (64 * c .before .before .before .before .before .before .before .before .before .before .before .before .places .result) (c .before .before .before .before .before .before .before .before .before .before .check .kept .1 .0) (omega (arith, c .before .before .before .before .before .before .before .before .before .before .before .before .places .ensures .1, c .before .before .before .before .before .before .before .before .before .before .before .before .before .before .before .before .pre .0)) ∙ c .before .before .before .before .before .before .before .before .before .before .check .ensures .1))
+    let a = c .before .before in
+    let b = a .before .before in
+    let d = b .before .before in
+    let e = d .before .before .before .before in
+    let f = e .before .before in
+    let g = f .before .before .before .before in
+    let count = f .places .result in
+    let sheet = g .args .sheet .now in
+    let fits : 64 * count ≤ length sheet = omega (arith, f .places .ensures .1, g .pre .0) in
+    let rows = e .check .last .1 .0 in
+    let kept = e .check .kept .1 .0 in
+    let front = front-written rows sheet (64 * count) kept fits in
+    let i = b .identifiers .result in
+    let short = accepted-short i count (take (64 * count) (rows ++ drop (64 * count) sheet)) (f .places .ensures .1) in
+    let written = ap (λ l. linesOf i count l ++ acceptedLine) front in
+    whole-text (a .accepted .ensures) (omega (arith, short, g .pre .1))
+    (written ∙ listing-accepted (g .args .table .now) i count _ rows (take (64 * count) sheet) (b .identifiers .ensures) (f .places .ensures .0)
+    (sym (length-take-le (64 * count) sheet fits)) (sym (ap answerOf (d .enum-told .given .1)) ∙ e .check .ensures .0)
+    (e .check .ensures .1))
 
 pub list-spec : {M : Type 1} → statement M
 list-spec =

@@ -36,7 +36,9 @@ array-share-prefix-out : tie.Need-array-share-prefix-out
 array-share-prefix-out c = search needs
 
 slice-aggregate-write-all : tie.Need-slice-aggregate-write-all
-slice-aggregate-write-all c = sym (length-take-le (c .before .before .before .list .result) (c .before .before .before .list .last .1 .1 .0) (c .before .before .before .list .ensures .0))
+slice-aggregate-write-all c =
+    let a = c .before .before .before in
+    sym (length-take-le (a .list .result) (a .list .last .1 .1 .0) (a .list .ensures .0))
 
 write-all-requires : tie.Need-write-all-requires
 write-all-requires c κs = search needs

@@ -26,9 +26,11 @@ add-result c =
 
 returns-2 : tie.Need-returns-2
 returns-2 c =
-    let h = counts-header _ _ (c .before .before .before .has-counts .ensures) (c .before .before .if1 .left) in
-    (
-      ap₂ (λ (i n : ℕ). i + n) (c .before .identifiers .ensures) (c .nodes .ensures) ∙ with-counts _ _ (c .before .before .before .has-counts .ensures) (c .before .before .if1 .left) .1,
+    let a = c .before .before in
+    let b = a .before in
+    let h = counts-header _ _ (b .has-counts .ensures) (a .if1 .left) in (
+      ap₂ (λ (i n : ℕ). i + n) (c .before .identifiers .ensures) (c .nodes .ensures)
+          ∙ with-counts _ _ (b .has-counts .ensures) (a .if1 .left) .1,
       omega (arith, c .nodes .ensures, c .before .identifiers .ensures, h .1, h .2),
     )
 

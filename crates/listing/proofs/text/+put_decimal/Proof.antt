@@ -47,7 +47,9 @@ put-decimal-put-requires : (t : ℕ) → put-decimal-lts.Need-put-requires (
   put-decimal.Post,
 ) (put-decimal-at t) put-decimal.Post
 put-decimal-put-requires t c κs =
-    omega (arith, ap length (decimal-digit (c .before .before .before .before .args .n) (c .before .before .if1 .taken)), c .before .before .before .before .pre .1)
+    let a = c .before .before in
+    let b = a .before .before in
+    omega (arith, ap length (decimal-digit (b .args .n) (a .if1 .taken)), b .pre .1)
 
 put-decimal-same-length : (t : ℕ) → put-decimal-lts.Need-same-length (
   glyph-reads.Asked,
@@ -69,7 +71,11 @@ put-decimal-returns : (t : ℕ) → put-decimal-lts.Need-returns (
   put-decimal.Post,
 ) (put-decimal-at t) put-decimal.Post
 put-decimal-returns t c =
-    appends-as (ap (λ (x : ℕ). x ∷ []) (c .before .before .before .glyph .ensures) ∙ sym (decimal-digit (c .before .before .before .before .before .before .before .args .n) (c .before .before .before .before .before .if1 .taken))) (c .before .before .put .ensures)
+    let a = c .before .before in
+    let b = a .before in
+    let d = b .before .before in
+    let e = d .before .before in
+    appends-as (ap (λ (x : ℕ). x ∷ []) (b .glyph .ensures) ∙ sym (decimal-digit (e .args .n) (d .if1 .taken))) (a .put .ensures)
 
 put-decimal-put-decimal-requires : (t : ℕ) → put-decimal-lts.Need-put-decimal-requires (
   glyph-reads.Asked,
@@ -80,9 +86,9 @@ put-decimal-put-decimal-requires : (t : ℕ) → put-decimal-lts.Need-put-decima
   put-decimal.Post,
 ) (put-decimal-at t) put-decimal.Post
 put-decimal-put-decimal-requires t c κs =
-    (
-      subst (λ (j : ℕ). c .before .before .before .args .n / 10 < j) (c .before .before .before .pre .0) (omega (arith, c .before .if1 .left)),
-      decimal-room (c .before .before .before .args .n) (c .before .before .before .args .at) _ (c .before .if1 .left) (c .before .before .before .pre .1) .0,
+    let a = c .before .before .before in (
+      subst (λ (j : ℕ). a .args .n / 10 < j) (a .pre .0) (omega (arith, c .before .if1 .left)),
+      decimal-room (a .args .n) (a .args .at) _ (c .before .if1 .left) (a .pre .1) .0,
     )
 
 put-decimal-glyph-requires-2 : (t : ℕ) → put-decimal-lts.Need-glyph-requires-2 (
@@ -105,8 +111,11 @@ put-decimal-put-requires-2 : (t : ℕ) → put-decimal-lts.Need-put-requires-2 (
   put-decimal.Post,
 ) (put-decimal-at t) put-decimal.Post
 put-decimal-put-requires-2 t c κs =
-    let e = c .before .before .before .before .put-decimal .ensures in
-    omega (arith, e .next, e .kept, decimal-room (c .before .before .before .before .before .before .before .before .args .n) (c .before .before .before .before .before .before .before .before .args .at) _ (c .before .before .before .before .before .before .if1 .left) (c .before .before .before .before .before .before .before .before .pre .1) .1)
+    let a = c .before .before .before .before in
+    let b = a .before .before in
+    let d = b .before .before in
+    let tenth = a .put-decimal .ensures in
+    omega (arith, tenth .next, tenth .kept, decimal-room (d .args .n) (d .args .at) _ (b .if1 .left) (d .pre .1) .1)
 
 put-decimal-same-length-2 : (t : ℕ) → put-decimal-lts.Need-same-length-2 (
   glyph-reads.Asked,
@@ -128,8 +137,14 @@ put-decimal-returns-2 : (t : ℕ) → put-decimal-lts.Need-returns-2 (
   put-decimal.Post,
 ) (put-decimal-at t) put-decimal.Post
 put-decimal-returns-2 t c =
-    appends-as (ap (λ (x : ℕ). decimalOf (c .before .before .before .before .before .before .before .before .before .before .before .args .n / 10) ++ (x ∷ [])) (c .before .before .before .glyph2 .ensures) ∙ sym (decimal-more (c .before .before .before .before .before .before .before .before .before .before .before .args .n) (c .before .before .before .before .before .before .before .before .before .if1 .left)))
-    (appends-then (c .before .before .before .before .before .before .before .put-decimal .ensures) (c .before .before .put2 .ensures))
+    let a = c .before .before in
+    let b = a .before in
+    let d = b .before .before .before .before in
+    let e = d .before .before in
+    let f = e .before .before in
+    appends-as
+    (ap (λ (x : ℕ). decimalOf (f .args .n / 10) ++ (x ∷ [])) (b .glyph2 .ensures) ∙ sym (decimal-more (f .args .n) (e .if1 .left)))
+    (appends-then (d .put-decimal .ensures) (a .put2 .ensures))
 
 pub +put-decimal-spec : {M : Type 1} → statement M
 +put-decimal-spec = close μ-put-decimal λ t. put-decimal-lts.spec (

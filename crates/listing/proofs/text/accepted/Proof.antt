@@ -8,13 +8,24 @@ use Rattle.listing.proofs.text.accepted.Statement.{statement}
 use Rattle.listing.proofs.text.accepted.Tie as tie
 
 lines-requires : tie.Need-lines-requires
-lines-requires c κs = (c .before .before .before .pre .0, omega (arith, length-append (linesOf (c .before .before .before .args .identifiers) (c .before .before .before .args .count) (c .before .before .before .args .sheet .now)) acceptedLine, c .before .before .before .pre .1))
+lines-requires c κs =
+    let a = c .before .before .before in
+    (a .pre .0, omega (arith, length-append (linesOf (a .args .identifiers) (a .args .count) (a .args .sheet .now)) acceptedLine, a .pre .1))
 
 slice-aggregate-put-all : tie.Need-slice-aggregate-put-all
 slice-aggregate-put-all c = search needs
 
 put-all-requires : tie.Need-put-all-requires
-put-all-requires c κs = omega (arith, length-append (linesOf (c .before .before .before .before .before .before .before .before .args .identifiers) (c .before .before .before .before .before .before .before .before .args .count) (c .before .before .before .before .before .before .before .before .args .sheet .now)) acceptedLine, c .before .before .before .before .before .before .before .before .pre .1, c .before .before .before .before .lines .ensures .next, c .before .before .before .before .lines .ensures .kept)
+put-all-requires c κs =
+    let a = c .before .before .before .before in
+    let b = a .before .before .before .before in
+    omega (
+      arith,
+      length-append (linesOf (b .args .identifiers) (b .args .count) (b .args .sheet .now)) acceptedLine,
+      b .pre .1,
+      a .lines .ensures .next,
+      a .lines .ensures .kept,
+    )
 
 same-length : tie.Need-same-length
 same-length c = search needs

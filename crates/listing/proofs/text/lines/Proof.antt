@@ -36,13 +36,16 @@ part-line-end c = search needs
 
 line-requires : tie.Need-line-requires Inv-loop μ-loop
 line-requires c κs =
-    let p = c .before .before .before .loop .p in
-    let sheet = c .before .before .before .before .before .before .args .sheet .now in
-    let i = c .before .before .before .before .before .before .args .identifiers in
-    let count = c .before .before .before .before .before .before .args .count in
+    let a = c .before .before in
+    let b = a .before in
+    let d = b .before .before .before in
+    let p = b .loop .p in
+    let sheet = d .args .sheet .now in
+    let i = d .args .identifiers in
+    let count = d .args .count in
     let row = take ((64 * p + 64) - 64 * p) (drop (64 * p) sheet) in
-    remains-room (lineOf i p row) (linesFrom i sheet (p + 1) (count - (p + 1))) (c .before .before .before .loop .inv .1) (omega (arith, c .before .before .before .before .before .before .pre .1))
-    (lines-more i count sheet row p (c .before .before .loop-test .taken) (part-row sheet p))
+    remains-room (lineOf i p row) (linesFrom i sheet (p + 1) (count - (p + 1))) (b .loop .inv .1) (omega (arith, d .pre .1))
+    (lines-more i count sheet row p (a .loop-test .taken) (part-row sheet p))
 
 add-p : tie.Need-add-p Inv-loop μ-loop
 add-p c = search needs
@@ -52,14 +55,23 @@ loop-less c = search needs
 
 loop-again : tie.Need-loop-again Inv-loop μ-loop
 loop-again c =
-    (search needs, remains-turn (c .before .before .before .before .before .before .loop .inv .1) (lines-more _ _ _ _ _ (c .before .before .before .before .before .loop-test .taken) (part-row (c .before .before .before .before .before .before .before .before .before .args .sheet .now) (c .before .before .before .before .before .before .loop .p))) (c .before .before .line .ensures))
+    let a = c .before .before in
+    let b = a .before .before .before in
+    let d = b .before in
+    let e = d .before .before .before in (
+      search needs,
+      remains-turn (d .loop .inv .1) (lines-more _ _ _ _ _ (b .loop-test .taken) (part-row (e .args .sheet .now) (d .loop .p)))
+          (a .line .ensures),
+    )
 
 same-length : tie.Need-same-length Inv-loop μ-loop
 same-length c = c .before .loop .inv .1 .kept
 
 returns : tie.Need-returns Inv-loop μ-loop
 returns c =
-    remains-end (c .before .loop .inv .1) (lines-end (c .before .before .before .before .args .identifiers) (c .before .before .before .before .args .count) (c .before .before .before .before .args .sheet .now) (c .before .loop .p) (c .loop-test .left))
+    let a = c .before .before .before .before in
+    remains-end (c .before .loop .inv .1)
+    (lines-end (a .args .identifiers) (a .args .count) (a .args .sheet .now) (c .before .loop .p) (c .loop-test .left))
 
 pub lines-spec : {M : Type 1} → statement M
 lines-spec =

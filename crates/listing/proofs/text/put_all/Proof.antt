@@ -22,7 +22,12 @@ shared-slice-read-b c = search needs
 
 put-requires : tie.Need-put-requires Inv-loop μ-loop
 put-requires c κs =
-    omega (arith, remains-room (getD (c .before .before .before .before .before .before .args .text .now) (c .before .before .before .loop .i) 0 ∷ []) (drop (c .before .before .before .loop .i + 1) (c .before .before .before .before .before .before .args .text .now)) (c .before .before .before .loop .inv .1) (c .before .before .before .before .before .before .pre) (text-more _ _ (c .before .before .loop-test .taken)))
+    let a = c .before .before in
+    let b = a .before in
+    let d = b .before .before .before in
+    let i = b .loop .i in
+    let text = d .args .text .now in
+    omega (arith, remains-room (getD text i 0 ∷ []) (drop (i + 1) text) (b .loop .inv .1) (d .pre) (text-more text i (a .loop-test .taken)))
 
 add-i : tie.Need-add-i Inv-loop μ-loop
 add-i c = search needs
@@ -31,7 +36,11 @@ loop-less : tie.Need-loop-less Inv-loop μ-loop
 loop-less c = search needs
 
 loop-again : tie.Need-loop-again Inv-loop μ-loop
-loop-again c = (search needs, remains-turn (c .before .before .before .before .before .before .loop .inv .1) (text-more _ _ (c .before .before .before .before .before .loop-test .taken)) (c .before .before .put .ensures))
+loop-again c =
+    let a = c .before .before in
+    let b = a .before .before .before in
+    let d = b .before in
+    (search needs, remains-turn (d .loop .inv .1) (text-more _ _ (b .loop-test .taken)) (a .put .ensures))
 
 same-length : tie.Need-same-length Inv-loop μ-loop
 same-length c = c .before .loop .inv .1 .kept

@@ -28,8 +28,13 @@ returns c = remains-end (c .before .before .before .loop .inv .1) (codes-filled 
 
 put-hex-requires : tie.Need-put-hex-requires Inv-loop μ-loop
 put-hex-requires c κs =
-    remains-room (hexByte (getD (c .before .before .before .before .before .before .before .args .row .now) (c .before .before .before .before .loop .i) 0)) (hexOf (unfilled (drop (c .before .before .before .before .loop .i + 1) (c .before .before .before .before .before .before .before .args .row .now))))
-    (c .before .before .before .before .loop .inv .1) (c .before .before .before .before .before .before .before .pre) (codes-more _ _ (c .before .before .before .loop-test .taken) (c .before .if1 .left))
+    let a = c .before .before .before in
+    let b = a .before in
+    let d = b .before .before .before in
+    let i = b .loop .i in
+    let row = d .args .row .now in
+    remains-room (hexByte (getD row i 0)) (hexOf (unfilled (drop (i + 1) row))) (b .loop .inv .1) (d .pre)
+    (codes-more row i (a .loop-test .taken) (c .before .if1 .left))
 
 add-i : tie.Need-add-i Inv-loop μ-loop
 add-i c = search needs
@@ -38,7 +43,12 @@ loop-less : tie.Need-loop-less Inv-loop μ-loop
 loop-less c = search needs
 
 loop-again : tie.Need-loop-again Inv-loop μ-loop
-loop-again c = (search needs, remains-turn (c .before .before .before .before .before .before .before .loop .inv .1) (codes-more _ _ (c .before .before .before .before .before .before .loop-test .taken) (c .before .before .before .before .if1 .left)) (c .before .before .put-hex .ensures))
+loop-again c =
+    let a = c .before .before in
+    let b = a .before .before in
+    let d = b .before .before in
+    let e = d .before in
+    (search needs, remains-turn (e .loop .inv .1) (codes-more _ _ (d .loop-test .taken) (b .if1 .left)) (a .put-hex .ensures))
 
 same-length-2 : tie.Need-same-length-2 Inv-loop μ-loop
 same-length-2 c = c .before .loop .inv .1 .kept

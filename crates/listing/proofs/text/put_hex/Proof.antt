@@ -29,8 +29,14 @@ same-length c = search needs
 
 returns : tie.Need-returns
 returns c =
-    appends-as (λ i. ((c .before .before .before .before .before .before .before .before .glyph .ensures ∙ ap (λ (n : ℕ). glyph (n / 16)) (c .before .before .before .before .before .before .before .before .before .before .wide .ensures .0)) i) ∷ ((c .before .before .before .glyph2 .ensures ∙ ap (λ (n : ℕ). glyph (n % 16)) (c .before .before .before .before .before .before .before .before .before .before .wide .ensures .0)) i) ∷ [])
-    (appends-then (c .before .before .before .before .before .before .before .put .ensures) (c .before .before .put2 .ensures))
+    let a = c .before .before in
+    let b = a .before in
+    let d = b .before .before .before .before in
+    let e = d .before in
+    let f = e .before .before in
+    let high = e .glyph .ensures ∙ ap (λ (n : ℕ). glyph (n / 16)) (f .wide .ensures .0) in
+    let low = b .glyph2 .ensures ∙ ap (λ (n : ℕ). glyph (n % 16)) (f .wide .ensures .0) in
+    appends-as (ap₂ (λ (x y : ℕ). x ∷ y ∷ []) high low) (appends-then (d .put .ensures) (a .put2 .ensures))
 
 pub put-hex-spec : {M : Type 1} → statement M
 put-hex-spec =

@@ -11,16 +11,23 @@ put-codes-requires c κs = omega (arith, codes-within (c .before .before .before
 
 put-requires : tie.Need-put-requires
 put-requires c κs =
-    let e = c .before .before .before .before .put-codes .ensures in
-    omega (arith, row-none-extent (c .before .before .before .before .before .before .before .before .args .row .now) (none-written e (c .before .if1 .taken)), none-written e (c .before .if1 .taken), e .next, e .kept, c .before .before .before .before .before .before .before .before .pre)
+    let a = c .before .before .before .before in
+    let b = a .before .before .before .before in
+    let codes = a .put-codes .ensures in
+    let none = none-written codes (c .before .if1 .taken) in
+    omega (arith, row-none-extent (b .args .row .now) none, none, codes .next, codes .kept, b .pre)
 
 same-length : tie.Need-same-length
 same-length c = search needs
 
 returns : tie.Need-returns
 returns c =
-    let e = c .before .before .before .before .before .before .before .put-codes .ensures in
-    appends-as (sym (rowText-none (c .before .before .before .before .before .before .before .before .before .before .before .args .row .now) (none-written e (c .before .before .before .before .if1 .taken)))) (appends-then e (c .before .before .put .ensures))
+    let a = c .before .before in
+    let b = a .before .before in
+    let d = b .before .before .before in
+    let e = d .before .before .before .before in
+    let codes = d .put-codes .ensures in
+    appends-as (sym (rowText-none (e .args .row .now) (none-written codes (b .if1 .taken)))) (appends-then codes (a .put .ensures))
 
 same-length-2 : tie.Need-same-length-2
 same-length-2 c = search needs

@@ -14,35 +14,110 @@ slice-aggregate-put-all c = search needs
 
 put-all-requires : tie.Need-put-all-requires
 put-all-requires c κs =
-    omega (arith, refusal-extent (c .before .before .before .args .number) (c .before .before .before .args .place), c .before .before .before .pre)
+    let a = c .before .before .before in
+    omega (arith, refusal-extent (a .args .number) (a .args .place), a .pre)
 
 wide-requires : tie.Need-wide-requires
 wide-requires c κs = search needs
 
 put-decimal-requires : tie.Need-put-decimal-requires
 put-decimal-requires c κs =
-    omega (arith, refusal-extent (c .before .before .before .before .before .before .before .before .args .number) (c .before .before .before .before .before .before .before .before .args .place), c .before .before .before .before .before .before .before .before .pre, c .before .before .before .before .put-all .ensures .next, c .before .before .before .before .put-all .ensures .kept, ap (λ n. length (decimalOf n)) (c .wide .ensures .0))
+    let a = c .before .before .before .before in
+    let b = a .before .before .before .before in
+    omega (
+      arith,
+      refusal-extent (b .args .number) (b .args .place),
+      b .pre,
+      a .put-all .ensures .next,
+      a .put-all .ensures .kept,
+      ap (λ n. length (decimalOf n)) (c .wide .ensures .0),
+    )
 
 put-requires : tie.Need-put-requires
 put-requires c κs =
-    omega (arith, refusal-extent (c .before .before .before .before .before .before .before .before .before .before .before .before .args .number) (c .before .before .before .before .before .before .before .before .before .before .before .before .args .place), c .before .before .before .before .before .before .before .before .before .before .before .before .pre, c .before .before .before .before .before .before .before .before .put-all .ensures .next, c .before .before .before .before .before .before .before .before .put-all .ensures .kept, ap (λ n. length (decimalOf n)) (c .before .before .before .before .wide .ensures .0), c .before .before .before .put-decimal .ensures .next, c .before .before .before .put-decimal .ensures .kept)
+    let a = c .before .before .before in
+    let b = a .before in
+    let d = b .before .before .before .before in
+    let e = d .before .before .before .before in
+    omega (
+      arith,
+      refusal-extent (e .args .number) (e .args .place),
+      e .pre,
+      d .put-all .ensures .next,
+      d .put-all .ensures .kept,
+      ap (λ n. length (decimalOf n)) (b .wide .ensures .0),
+      a .put-decimal .ensures .next,
+      a .put-decimal .ensures .kept,
+    )
 
 put-decimal-requires-2 : tie.Need-put-decimal-requires-2
 put-decimal-requires-2 c κs =
-    omega (arith, refusal-extent (c .before .before .before .before .before .before .before .before .before .before .before .before .before .before .before .before .args .number) (c .before .before .before .before .before .before .before .before .before .before .before .before .before .before .before .before .args .place), c .before .before .before .before .before .before .before .before .before .before .before .before .before .before .before .before .pre, c .before .before .before .before .before .before .before .before .before .before .before .before .put-all .ensures .next, c .before .before .before .before .before .before .before .before .before .before .before .before .put-all .ensures .kept, ap (λ n. length (decimalOf n)) (c .before .before .before .before .before .before .before .before .wide .ensures .0), c .before .before .before .before .before .before .before .put-decimal .ensures .next, c .before .before .before .before .before .before .before .put-decimal .ensures .kept, c .before .before .before .put .ensures .next, c .before .before .before .put .ensures .kept)
+    let a = c .before .before .before in
+    let b = a .before .before .before .before in
+    let d = b .before in
+    let e = d .before .before .before .before in
+    let f = e .before .before .before .before in
+    omega (
+      arith,
+      refusal-extent (f .args .number) (f .args .place),
+      f .pre,
+      e .put-all .ensures .next,
+      e .put-all .ensures .kept,
+      ap (λ n. length (decimalOf n)) (d .wide .ensures .0),
+      b .put-decimal .ensures .next,
+      b .put-decimal .ensures .kept,
+      a .put .ensures .next,
+      a .put .ensures .kept,
+    )
 
 put-requires-2 : tie.Need-put-requires-2
 put-requires-2 c κs =
-    omega (arith, refusal-extent (c .before .before .before .before .before .before .before .before .before .before .before .before .before .before .before .before .before .before .before .before .args .number) (c .before .before .before .before .before .before .before .before .before .before .before .before .before .before .before .before .before .before .before .before .args .place), c .before .before .before .before .before .before .before .before .before .before .before .before .before .before .before .before .before .before .before .before .pre, c .before .before .before .before .before .before .before .before .before .before .before .before .before .before .before .before .put-all .ensures .next, c .before .before .before .before .before .before .before .before .before .before .before .before .before .before .before .before .put-all .ensures .kept, ap (λ n. length (decimalOf n)) (c .before .before .before .before .before .before .before .before .before .before .before .before .wide .ensures .0), c .before .before .before .before .before .before .before .before .before .before .before .put-decimal .ensures .next, c .before .before .before .before .before .before .before .before .before .before .before .put-decimal .ensures .kept, c .before .before .before .before .before .before .before .put .ensures .next, c .before .before .before .before .before .before .before .put .ensures .kept, c .before .before .before .put-decimal2 .ensures .next, c .before .before .before .put-decimal2 .ensures .kept)
+    let a = c .before .before .before in
+    let b = a .before .before .before .before in
+    let d = b .before .before .before .before in
+    let e = d .before in
+    let f = e .before .before .before .before in
+    let g = f .before .before .before .before in
+    omega (
+      arith,
+      refusal-extent (g .args .number) (g .args .place),
+      g .pre,
+      f .put-all .ensures .next,
+      f .put-all .ensures .kept,
+      ap (λ n. length (decimalOf n)) (e .wide .ensures .0),
+      d .put-decimal .ensures .next,
+      d .put-decimal .ensures .kept,
+      b .put .ensures .next,
+      b .put .ensures .kept,
+      a .put-decimal2 .ensures .next,
+      a .put-decimal2 .ensures .kept,
+    )
 
 same-length : tie.Need-same-length
 same-length c =
-    c .before .before .put2 .ensures .kept ∙ c .before .before .before .before .before .before .put-decimal2 .ensures .kept ∙ c .before .before .before .before .before .before .before .before .before .before .put .ensures .kept ∙ c .before .before .before .before .before .before .before .before .before .before .before .before .before .before .put-decimal .ensures .kept ∙ c .before .before .before .before .before .before .before .before .before .before .before .before .before .before .before .before .before .before .before .put-all .ensures .kept
+    let a = c .before .before in
+    let b = a .before .before .before .before in
+    let d = b .before .before .before .before in
+    let e = d .before .before .before .before in
+    let f = e .before .before .before .before .before in
+    a .put2 .ensures .kept ∙ b .put-decimal2 .ensures .kept ∙ d .put .ensures .kept ∙ e .put-decimal .ensures .kept
+    ∙ f .put-all .ensures .kept
 
 returns : tie.Need-returns
 returns c =
-    appends-as (ap (λ n. (((refusedWord ++ decimalOf n) ++ (space ∷ [])) ++ decimalOf (c .before .before .before .before .before .before .before .before .before .before .before .before .before .before .before .before .before .before .before .before .before .before .before .args .place)) ++ (newline ∷ [])) (c .before .before .before .before .before .before .before .before .before .before .before .before .before .before .before .wide .ensures .0) ∙ refusal-text (c .before .before .before .before .before .before .before .before .before .before .before .before .before .before .before .before .before .before .before .before .before .before .before .args .number) (c .before .before .before .before .before .before .before .before .before .before .before .before .before .before .before .before .before .before .before .before .before .before .before .args .place))
-    (appends-then (appends-then (appends-then (appends-then (c .before .before .before .before .before .before .before .before .before .before .before .before .before .before .before .before .before .before .before .put-all .ensures) (c .before .before .before .before .before .before .before .before .before .before .before .before .before .before .put-decimal .ensures)) (c .before .before .before .before .before .before .before .before .before .before .put .ensures)) (c .before .before .before .before .before .before .put-decimal2 .ensures)) (c .before .before .put2 .ensures))
+    let a = c .before .before in
+    let b = a .before .before .before .before in
+    let d = b .before .before .before .before in
+    let e = d .before .before .before .before in
+    let f = e .before in
+    let g = f .before .before .before .before in
+    let h = g .before .before .before .before in
+    let numbered = appends-then (g .put-all .ensures) (e .put-decimal .ensures) in
+    let placed = appends-then (appends-then numbered (d .put .ensures)) (b .put-decimal2 .ensures) in
+    appends-as
+    (ap (λ n. (((refusedWord ++ decimalOf n) ++ (space ∷ [])) ++ decimalOf (h .args .place)) ++ (newline ∷ [])) (f .wide .ensures .0)
+    ∙ refusal-text (h .args .number) (h .args .place))
+    (appends-then placed (a .put2 .ensures))
 
 pub refused-spec : {M : Type 1} → statement M
 refused-spec =
