@@ -9,11 +9,13 @@ use lib.Dec.{T, ltb}
 use lib.ListN.{length, take, drop, length-append, length-take}
 use lib.Seq.{take-at, length-take-le}
 use Rattle.rules.specs.Ends.{End, done, refused}
-use Rattle.rules.specs.Tables.{identifierCount, nodeCount}
-use Rattle.rules.specs.Reading.{headed, limited}
-use Rattle.rules.specs.Verdict.{rowsFrom, sheetAfter}
-use Rattle.rules.proofs.Basics.{absurd01, and-split}
-use Rattle.rules.proofs.ReadingLaws.{headed-right, limited-right}
+use Rattle.rules.specs.Tables.{Table, identifierCount, nodeCount}
+use Rattle.rules.specs.Reading.{headed, limited, reading}
+use Rattle.rules.specs.Verdict.{rowsFrom, sheetAfter, sheetLength}
+use Rattle.rules.proofs.Basics.{absurd01, and-of, and-split}
+use Rattle.rules.proofs.EndLaws.{T-true}
+use Rattle.rules.proofs.TableLaws.{binds-length, nodes-length}
+use Rattle.rules.proofs.ReadingLaws.{headed-right, limited-right, header-right, reading-readable, reading-table}
 use Rattle.typing.specs.Model.{verdict}
 use Rattle.checker.specs.Answers.{answered}
 use Rattle.listing.specs.Text.{hexOf, unfilled, codesText, rowText, indexOf, lineOf, sheetRow, linesOf, acceptedLine, refusalLine, answerText, identifiersOf, placesOf, listingOf, Appends}
@@ -143,3 +145,11 @@ front-written rows sheet n e h = take-at rows (drop n sheet) n (e ∙ length-tak
 -- A whole text in the buffer.
 pub whole-text : {s t : List ℕ} {r : ℕ} {xs ys : List ℕ} → Appends s 0 xs r t → length xs ≤ length s → xs ≡ ys → (r ≤ length t) × (take r t ≡ ys)
 whole-text a h e = (omega (arith, a .next, a .kept), a .stands ∙ e)
+
+-- A readable table is listed with a sheet of the length that refusal 10 asks for.
+pub places-right : (bs : List ℕ) (tb : Table) → reading bs ≡ done tb → 64 * placesOf bs ≡ sheetLength tb
+places-right bs tb e =
+    let h = header-right bs .1 (reading-readable bs tb e .header) in
+    let t = reading-table bs tb e in
+    let c = with-counts bs true (sym (T-true (headed bs && limited bs) .0 (and-of (headed bs) (limited bs) (h .0) (h .1)))) refl .1 in
+    omega (arith, c, binds-length bs, nodes-length bs, ap (λ (u : Table). length (u .binds)) t, ap (λ (u : Table). length (u .nodes)) t)
