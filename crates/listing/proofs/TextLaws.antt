@@ -1,7 +1,7 @@
 -- How a text grows in a lent buffer, and how long the parts of a listing are. A loop keeps `Remains`: what stands with what is yet to
 -- be written is the whole text; a turn takes the front of the rest.
 use Prim.Native.Nat.{ℕ, zero, suc, _+_, _*_, _-_, _/_, _%_, _^_, _<_, _≤_}
-use mathlib.Core.Bool.{Bool, true, false, cond, _&&_}
+use mathlib.Core.Bool.{Bool, true, false, cond}
 use mathlib.Core.List.{List, [], _∷_, _++_, append-nil, append-assoc}
 use mathlib.Core.Path.{_≡_, refl, sym, _∙_, ap, subst}
 use native.Mathlib.Nat.{pow-succ'}
@@ -9,10 +9,9 @@ use native.Mathlib.Numerals.{add-one}
 use native.Mathlib.Omega.{arith}
 use lib.Dec.{ltb}
 use lib.ListN.{length, take, drop, set, getD, length-append, length-set}
-use lib.Seq.{take-suc-set, drop-cons, take-all, drop-length}
-use borrow.Author.Tests.{ltb-true, ltb-false, lt-ltb, le-ltb}
+use lib.Seq.{take-suc-set, drop-cons, drop-length}
+use borrow.Author.Tests.{ltb-false, lt-ltb, le-ltb}
 use Rattle.io.specs.Digits.{glyph}
-use Rattle.rules.proofs.Basics.{absurd01}
 use Rattle.rules.specs.Verdict.{rowsFrom}
 use Rattle.listing.specs.Text.{space, newline, decimalIn, decimalOf, hexByte, hexOf, unfilled, codesText, rowText, letterOf, indexOf, lineOf, sheetRow, linesOf, refusedWord, refusalLine, Appends}
 

@@ -1,10 +1,9 @@
 -- The invariant: the lines from place p on remain to be written.
-use Prim.Native.Nat.{ℕ, _+_, _*_, _-_, _≤_}
-use mathlib.Core.Path.{_≡_, ap}
+use Prim.Native.Nat.{_+_, _*_, _-_, _≤_}
 use native.Mathlib.Omega.{arith}
-use lib.ListN.{length, take, drop}
+use lib.ListN.{take, drop}
 use borrow.Author.Needs.{needs}
-use Rattle.listing.specs.Text.{lineOf, linesOf, sheetRow}
+use Rattle.listing.specs.Text.{lineOf, linesOf}
 use Rattle.listing.proofs.TextLaws.{Remains, remains-turn, remains-end, remains-room, linesFrom, lines-start, lines-more, lines-end, part-row}
 use Rattle.listing.proofs.text.lines.Statement.{statement}
 use Rattle.listing.proofs.text.lines.Tie as tie

@@ -1,8 +1,7 @@
 -- Both digits, one after the other.
-use mathlib.Core.List.{List, [], _∷_}
-use mathlib.Core.Path.{_≡_, ap, ap₂, _∙_}
+use mathlib.Core.List.{[], _∷_}
+use mathlib.Core.Path.{ap, ap₂, _∙_}
 use Prim.Native.Nat.{ℕ, _/_, _%_}
-use native.Mathlib.Omega.{arith}
 use borrow.Author.Needs.{needs}
 use Rattle.io.specs.Digits.{glyph}
 use Rattle.listing.proofs.TextLaws.{appends-then, appends-as}

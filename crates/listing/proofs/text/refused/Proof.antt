@@ -15,93 +15,37 @@ slice-aggregate-put-all c = search needs
 put-all-requires : tie.Need-put-all-requires
 put-all-requires c κs =
     let a = c .before .before .before in
-    omega (arith, refusal-extent (a .args .number) (a .args .place), a .pre)
+    omega (arith, refusal-extent (a .args .number) (a .args .place))
 
 wide-requires : tie.Need-wide-requires
 wide-requires c κs = search needs
 
 put-decimal-requires : tie.Need-put-decimal-requires
 put-decimal-requires c κs =
-    let a = c .before .before .before .before in
-    let b = a .before .before .before .before in
-    omega (
-      arith,
-      refusal-extent (b .args .number) (b .args .place),
-      b .pre,
-      a .put-all .ensures .next,
-      a .put-all .ensures .kept,
-      ap (λ n. length (decimalOf n)) (c .wide .ensures .0),
-    )
+    let a = c .before .before .before .before .before .before .before .before in
+    omega (arith, refusal-extent (a .args .number) (a .args .place), ap (λ n. length (decimalOf n)) (c .wide .ensures .0))
 
 put-requires : tie.Need-put-requires
 put-requires c κs =
-    let a = c .before .before .before in
-    let b = a .before in
-    let d = b .before .before .before .before in
-    let e = d .before .before .before .before in
-    omega (
-      arith,
-      refusal-extent (e .args .number) (e .args .place),
-      e .pre,
-      d .put-all .ensures .next,
-      d .put-all .ensures .kept,
-      ap (λ n. length (decimalOf n)) (b .wide .ensures .0),
-      a .put-decimal .ensures .next,
-      a .put-decimal .ensures .kept,
-    )
+    let a = c .before .before .before .before in
+    let b = a .before .before .before .before .before .before .before .before in
+    omega (arith, refusal-extent (b .args .number) (b .args .place), ap (λ n. length (decimalOf n)) (a .wide .ensures .0))
 
 put-decimal-requires-2 : tie.Need-put-decimal-requires-2
 put-decimal-requires-2 c κs =
-    let a = c .before .before .before in
-    let b = a .before .before .before .before in
-    let d = b .before in
-    let e = d .before .before .before .before in
-    let f = e .before .before .before .before in
-    omega (
-      arith,
-      refusal-extent (f .args .number) (f .args .place),
-      f .pre,
-      e .put-all .ensures .next,
-      e .put-all .ensures .kept,
-      ap (λ n. length (decimalOf n)) (d .wide .ensures .0),
-      b .put-decimal .ensures .next,
-      b .put-decimal .ensures .kept,
-      a .put .ensures .next,
-      a .put .ensures .kept,
-    )
+    let a = c .before .before .before .before .before .before .before .before in
+    let b = a .before .before .before .before .before .before .before .before in
+    omega (arith, refusal-extent (b .args .number) (b .args .place), ap (λ n. length (decimalOf n)) (a .wide .ensures .0))
 
 put-requires-2 : tie.Need-put-requires-2
 put-requires-2 c κs =
-    let a = c .before .before .before in
-    let b = a .before .before .before .before in
-    let d = b .before .before .before .before in
-    let e = d .before in
-    let f = e .before .before .before .before in
-    let g = f .before .before .before .before in
-    omega (
-      arith,
-      refusal-extent (g .args .number) (g .args .place),
-      g .pre,
-      f .put-all .ensures .next,
-      f .put-all .ensures .kept,
-      ap (λ n. length (decimalOf n)) (e .wide .ensures .0),
-      d .put-decimal .ensures .next,
-      d .put-decimal .ensures .kept,
-      b .put .ensures .next,
-      b .put .ensures .kept,
-      a .put-decimal2 .ensures .next,
-      a .put-decimal2 .ensures .kept,
-    )
+    let a = c .before .before .before .before .before .before .before .before .before .before .before .before in
+    let b = a .before .before .before .before .before .before .before .before in
+    omega (arith, refusal-extent (b .args .number) (b .args .place), ap (λ n. length (decimalOf n)) (a .wide .ensures .0))
 
 same-length : tie.Need-same-length
 same-length c =
-    let a = c .before .before in
-    let b = a .before .before .before .before in
-    let d = b .before .before .before .before in
-    let e = d .before .before .before .before in
-    let f = e .before .before .before .before .before in
-    a .put2 .ensures .kept ∙ b .put-decimal2 .ensures .kept ∙ d .put .ensures .kept ∙ e .put-decimal .ensures .kept
-    ∙ f .put-all .ensures .kept
+    search needs
 
 returns : tie.Need-returns
 returns c =
