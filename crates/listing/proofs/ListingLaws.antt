@@ -1,14 +1,15 @@
 -- The counts of a header, how long a listing can be, and the text for Check's answer.
 use Prim.Native.Nat.{ℕ, zero, suc, _+_, _*_, _-_, _<_, _≤_}
 use mathlib.Core.Bool.{Bool, true, false, not, cond, _&&_}
-use mathlib.Core.List.{List, [], _∷_, _++_}
+use mathlib.Core.List.{List, [], _∷_, _++_, append-nil, append-assoc}
 use mathlib.Core.Path.{_≡_, refl, sym, _∙_, ap, ap₂, subst}
 use native.Mathlib.Nat.{suc-mul}
 use native.Mathlib.Omega.{arith}
 use lib.Dec.{T, ltb}
-use lib.ListN.{length, take, drop, length-append, length-take}
+use lib.ListN.{length, take, drop, replicate, length-append, length-take}
 use lib.Seq.{take-at, length-take-le}
 use Rattle.rules.specs.Ends.{End, done, refused}
+use Rattle.rules.specs.Types.{whole, Atom, number, bool, given, atomCode, Ty, atom, POW, _⊗_, weightᵀ, prefix, row, emptyRow}
 use Rattle.rules.specs.Tables.{Table, identifierCount, nodeCount}
 use Rattle.rules.specs.Reading.{headed, limited, reading}
 use Rattle.rules.specs.Verdict.{rowsFrom, sheetAfter, sheetLength}
@@ -19,7 +20,7 @@ use Rattle.rules.proofs.ReadingLaws.{headed-right, limited-right, header-right,
 use Rattle.typing.specs.Model.{verdict}
 use Rattle.checker.specs.Answers.{answered}
 use Rattle.listing.specs.Text.{hexOf, unfilled, codesText, rowText, indexOf, lineOf, sheetRow, linesOf, acceptedLine, refusalLine, answerText, identifiersOf, placesOf, listingOf, Appends}
-use Rattle.listing.proofs.TextLaws.{decimal-short, line-extent, refusal-extent}
+use Rattle.listing.proofs.TextLaws.{decimal-short, unfilled-more, line-extent, refusal-extent}
 
 -- What the tests of a header say.
 pub unheaded : (bs : List ℕ) (r : Bool) → r ≡ headed bs → not r ≡ true → false ≡ (headed bs && limited bs)
@@ -153,3 +154,39 @@ places-right bs tb e =
     let t = reading-table bs tb e in
     let c = with-counts bs true (sym (T-true (headed bs && limited bs) .0 (and-of (headed bs) (limited bs) (h .0) (h .1)))) refl .1 in
     omega (arith, c, binds-length bs, nodes-length bs, ap (λ (u : Table). length (u .binds)) t, ap (λ (u : Table). length (u .nodes)) t)
+
+-- The row of a type is printed as the type's codes, the row of a predicate as p.
+atom-code : (a : Atom) → atomCode a ≡ 0 → ⊥
+atom-code (number whole) e = absurd01 (cc)
+atom-code bool e = absurd01 (cc)
+atom-code (given g) e = absurd (omega arith)
+
+unfilled-prefix : (t : Ty) (rest : List ℕ) → unfilled (prefix t ++ rest) ≡ prefix t ++ unfilled rest
+unfilled-prefix (atom a) rest = unfilled-more (atomCode a) rest (atom-code a)
+unfilled-prefix (POW t) rest =
+    unfilled-more 3 (prefix t ++ rest) (λ e. absurd (omega arith)) ∙ ap (λ (l : List ℕ). 3 ∷ l) (unfilled-prefix t rest)
+unfilled-prefix (t ⊗ u) rest =
+    unfilled-more 4 ((prefix t ++ prefix u) ++ rest) (λ e. absurd (omega arith))
+    ∙ ap (λ (l : List ℕ). 4 ∷ l)
+    (ap unfilled (append-assoc (prefix t) (prefix u) rest) ∙ unfilled-prefix t (prefix u ++ rest)
+    ∙ ap (λ (l : List ℕ). prefix t ++ l) (unfilled-prefix u rest) ∙ sym (append-assoc (prefix t) (prefix u) (unfilled rest)))
+
+unfilled-zeros : (n : ℕ) → unfilled (replicate n 0) ≡ []
+unfolding unfilled
+unfilled-zeros zero = refl
+unfilled-zeros (suc n) = refl
+
+some-codes : (t : Ty) → codesText (prefix t) ≡ hexOf (prefix t)
+some-codes (atom a) = refl
+some-codes (POW t) = refl
+some-codes (t ⊗ u) = refl
+
+pub type-text : (t : Ty) → rowText (row t) ≡ hexOf (prefix t)
+unfolding rowText row
+type-text t =
+    ap codesText (unfilled-prefix t (replicate (64 - weightᵀ t) 0) ∙ ap (λ (l : List ℕ). prefix t ++ l) (unfilled-zeros (64 - weightᵀ t)) ∙ append-nil (prefix t))
+    ∙ some-codes t
+
+pub predicate-text : rowText emptyRow ≡ 112 ∷ []
+unfolding rowText emptyRow
+predicate-text = refl

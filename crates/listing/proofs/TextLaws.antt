@@ -107,7 +107,7 @@ unfolding decimalOf
 decimal-short n h = decimal-length (suc n) 19 n (omega arith)
 
 -- A row's codes: one more, and none where the fill or the end is reached.
-unfilled-more : (b : ℕ) (bs : List ℕ) → (b ≡ 0 → ⊥) → unfilled (b ∷ bs) ≡ b ∷ unfilled bs
+pub unfilled-more : (b : ℕ) (bs : List ℕ) → (b ≡ 0 → ⊥) → unfilled (b ∷ bs) ≡ b ∷ unfilled bs
 unfolding unfilled
 unfilled-more zero bs h = absurd (h refl)
 unfilled-more (suc c) bs h = refl
