@@ -184,8 +184,8 @@ some-codes (t ⊗ u) = refl
 pub type-text : (t : Ty) → rowText (row t) ≡ hexOf (prefix t)
 unfolding rowText row
 type-text t =
-    ap codesText (unfilled-prefix t (replicate (64 - weightᵀ t) 0) ∙ ap (λ (l : List ℕ). prefix t ++ l) (unfilled-zeros (64 - weightᵀ t)) ∙ append-nil (prefix t))
-    ∙ some-codes t
+    let fill = ap (λ (l : List ℕ). prefix t ++ l) (unfilled-zeros (64 - weightᵀ t)) ∙ append-nil (prefix t) in
+    ap codesText (unfilled-prefix t (replicate (64 - weightᵀ t) 0) ∙ fill) ∙ some-codes t
 
 pub predicate-text : rowText emptyRow ≡ 112 ∷ []
 unfolding rowText emptyRow
