@@ -1,9 +1,9 @@
-//! The commands: batch, cases, answers, listing, stats.
+//! The commands: batch, cases, answers, listing, listings, stats.
 
 use reference::batch::{self, Case};
 use reference::generate::{Class, Generator};
 use reference::stats::Stats;
-use reference::{examples, listing};
+use reference::{examples, listing, table};
 use std::io::{self, BufWriter, Read, Write};
 use std::process::ExitCode;
 
@@ -11,6 +11,7 @@ const USAGE: &str = "usage:
   reference batch --seed S --count N --stdin FILE --stdout FILE [--class NAME]
   reference cases --seed S --count N [--small] [--class NAME]
   reference stats --seed S --count N [--small] [--class NAME]
+  reference listings --seed S --count N
   reference answers    (a batch on standard input)
   reference listing    (a table on standard input)
 classes: typed mutated mixture ambiguous cyclic unused damaged buffers boundary";
@@ -50,6 +51,7 @@ fn run(arguments: &[String]) -> Result<(), Fault> {
     match command.as_str() {
         "batch" => write_batch(&Options::parse(rest, &["--stdin", "--stdout"], false)?),
         "cases" => print_cases(&Options::parse(rest, &[], true)?),
+        "listings" => print_listings(&Options::parse(rest, &[], false)?),
         "stats" => print_stats(&Options::parse(rest, &[], true)?),
         "answers" | "listing" if !rest.is_empty() => {
             Err(Fault::Usage(format!("{command} takes no arguments")))
@@ -147,6 +149,21 @@ fn print_cases(options: &Options) -> Result<(), Fault> {
     let mut out = BufWriter::new(io::stdout().lock());
     for _ in 0..options.count() {
         writeln!(out, "{}", generator.case().line())?;
+    }
+    out.flush()?;
+    Ok(())
+}
+
+/// Tables of 1 to 512 nodes, the sizes evenly spread and rising, every second one with a fault, each before its listing.
+fn print_listings(options: &Options) -> Result<(), Fault> {
+    let mut generator = options.generator();
+    let mut out = BufWriter::new(io::stdout().lock());
+    let most = table::MAX_NODES as usize - 1;
+    let last = options.count().saturating_sub(1).max(1);
+    for i in 0..options.count() {
+        let table = generator.sized(1 + i * most / last, i % 2 == 1);
+        let listing = listing::listing(&table);
+        write!(out, "table {}\n{listing}", batch::hex(&table))?;
     }
     out.flush()?;
     Ok(())

@@ -99,3 +99,26 @@ fn cases_have_the_stated_form() {
         assert!(known.contains(&answer), "{line}");
     }
 }
+
+#[test]
+fn listings_have_tables_of_all_sizes() {
+    let output = run(&["listings", "--seed", "2", "--count", "15"], &[]);
+    let text = String::from_utf8_lossy(&output.stdout);
+    let parts: Vec<&str> = text.split("table ").skip(1).collect();
+    assert_eq!(parts.len(), 15);
+    for (i, part) in parts.iter().enumerate() {
+        let (_, listing) = part
+            .split_once('\n')
+            .expect("a listing stands below its table");
+        if i > 0 && i % 2 == 0 {
+            assert!(listing.ends_with("accepted\n"), "{part}");
+            let nodes = listing
+                .lines()
+                .filter(|line| line.starts_with("n "))
+                .count();
+            assert_eq!(nodes, 1 + i * 511 / 14);
+        } else {
+            assert!(listing.ends_with("accepted\n") || listing.starts_with("refused "));
+        }
+    }
+}

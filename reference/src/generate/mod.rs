@@ -3,6 +3,7 @@
 mod boundary;
 mod buffers;
 mod damage;
+mod sized;
 mod templates;
 mod typed;
 
@@ -222,11 +223,16 @@ impl Generator {
         }
     }
 
-    /// Gives one node another kind of the same category and fields.
     fn mutated(&mut self) -> Condition {
         let mut condition = self.well_typed();
-        let node = self.rng.below(condition.draft.nodes.len());
-        let record = &mut condition.draft.nodes[node];
+        self.mutate(&mut condition.draft);
+        condition
+    }
+
+    /// Gives one node another kind of the same category and fields.
+    fn mutate(&mut self, draft: &mut Draft) {
+        let node = self.rng.below(draft.nodes.len());
+        let record = &mut draft.nodes[node];
         let row = crate::kinds::row(record[0]).expect("a written kind is known");
         let alike: Vec<Kind> = KINDS
             .iter()
@@ -234,7 +240,6 @@ impl Generator {
             .map(|other| other.kind)
             .collect();
         record[0] = *self.rng.pick(&alike) as u32;
-        condition
     }
 
     /// Adds identifiers without a use: free ones are ambiguous, bound ones

@@ -1,0 +1,4 @@
+-- Laws of the listing's text.
+pub mod TextLaws
+pub mod ListingLaws
+pub mod Tried

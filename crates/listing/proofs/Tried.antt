@@ -1,0 +1,15 @@
+-- Document 01, "Conditions tried": what the listing program prints for P1, whole, by computation.
+use mathlib.Core.List.{[], _∷_}
+use mathlib.Core.Path.{_≡_, refl}
+use Rattle.rules.proofs.Rows.{p1, wordsOf, toBytes}
+use Rattle.listing.specs.Text.{newline, listingOf}
+
+-- i 0 10, n 0 10, n 1 0310, n 2 p, accepted
+pub p1-listing : listingOf (toBytes (wordsOf p1)) ≡
+    105 ∷ 32 ∷ 48 ∷ 32 ∷ 49 ∷ 48 ∷ newline ∷
+    110 ∷ 32 ∷ 48 ∷ 32 ∷ 49 ∷ 48 ∷ newline ∷
+    110 ∷ 32 ∷ 49 ∷ 32 ∷ 48 ∷ 51 ∷ 49 ∷ 48 ∷ newline ∷
+    110 ∷ 32 ∷ 50 ∷ 32 ∷ 112 ∷ newline ∷
+    97 ∷ 99 ∷ 99 ∷ 101 ∷ 112 ∷ 116 ∷ 101 ∷ 100 ∷ newline ∷ []
+unfolding listingOf
+p1-listing = refl

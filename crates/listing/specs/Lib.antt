@@ -1,0 +1,2 @@
+-- The listing of a table.
+pub mod Text
