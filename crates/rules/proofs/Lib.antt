@@ -14,4 +14,5 @@ pub mod FormedLaws
 pub mod TypeLaws
 pub mod VerdictLaws
 pub mod Rows
+pub mod Cases
 pub mod Tried

@@ -1,0 +1,293 @@
+-- Further cases, each of which keeps a wrong definition out that no law refuses. First the cases of the typing rules, with what
+-- Check says of them too: Evaluate's side is proved here by computation, Check's side over the same list in `typing`
+-- (proofs/RuleChecks.antt). Then cases of Evaluate only. All other cases go through the program `answers`.
+use Prim.Native.Nat.{ℕ, zero, suc}
+use mathlib.Core.List.{List, [], _∷_, _++_, map}
+use mathlib.Core.Bool.{Bool, true, false}
+use mathlib.Core.Path.{_≡_, refl}
+use lib.ListN.{set, take}
+use Rattle.rules.specs.Tables.{Node, Table}
+use Rattle.rules.specs.Ends.{End, done, refused}
+use Rattle.rules.specs.Evaluation.{evaluation}
+use Rattle.rules.proofs.Rows.{toBytes, node₃, node₂, node₁, node, table, closed, wordsOf, p1, p1-words, element1, sheet, z, pz, zz, pzz}
+
+-- A condition without free identifiers, what Check says of it, and how Evaluate ends with the budget 100, with the steps.
+pub record RuleCase : Type 0 where
+  pub condition : Table
+  pub checks : End (List ℕ)
+  pub ends : End Bool
+  pub steps : ℕ
+
+-- Accepted with these codes in the rows of the sheet.
+abbrev accepted : Table → List (List ℕ) → Bool → ℕ → RuleCase
+accepted tb rs b s = record { condition = tb; checks = done (sheet rs); ends = done b; steps = s }
+
+-- Only the rule of node n refuses: 11 and 15 there.
+abbrev refusedAt : ℕ → Table → ℕ → RuleCase
+refusedAt n tb s = record { condition = tb; checks = refused 11 n; ends = refused 15 n; steps = s }
+
+-- The codes of BOOL, POW(BOOL), G0, INTEGER × BOOL and POW(INTEGER × BOOL).
+abbrev b : List ℕ
+b = 2 ∷ []
+
+abbrev pb : List ℕ
+pb = 3 ∷ 2 ∷ []
+
+abbrev g0 : List ℕ
+g0 = 16 ∷ []
+
+abbrev zb : List ℕ
+zb = 4 ∷ 1 ∷ 2 ∷ []
+
+abbrev pzb : List ℕ
+pzb = 3 ∷ 4 ∷ 1 ∷ 2 ∷ []
+
+-- Leaves: an integer by its word, TRUE, ∅, the sets BOOL and G0.
+abbrev lit : ℕ → Node
+lit w = node₁ 23 w
+
+abbrev yes : Node
+yes = node₁ 24 1
+
+abbrev empty : Node
+empty = node 26
+
+abbrev bools : Node
+bools = node 42
+
+abbrev givens : Node
+givens = node₁ 21 0
+
+-- The test k of two leaves; the operation k of a leaf, or of two, is a third leaf. G0 has one element.
+abbrev testLeaves : ℕ → Node → Node → Table
+testLeaves k e f = table (1 ∷ []) [] (e ∷ f ∷ node₂ k 0 1 ∷ [])
+
+abbrev ofLeaf : ℕ → Node → Node → Table
+ofLeaf k e f = table (1 ∷ []) [] (e ∷ node₁ k 0 ∷ f ∷ node₂ 6 1 2 ∷ [])
+
+abbrev ofLeaves : ℕ → Node → Node → Node → Table
+ofLeaves k e f g = table (1 ∷ []) [] (e ∷ f ∷ node₂ k 0 1 ∷ g ∷ node₂ 6 2 3 ∷ [])
+
+-- The binder k of x over a leaf, with the body e=1 for a leaf e; and a comprehension so, which is ∅.
+abbrev bindingOver : ℕ → Node → Node → List Node
+bindingOver k r e = r ∷ e ∷ lit 1 ∷ node₂ 6 1 2 ∷ node₃ k 0 0 3 ∷ []
+
+abbrev quantified : ℕ → Node → Node → Table
+quantified k r e = table [] (1 ∷ []) (bindingOver k r e)
+
+abbrev comprehended : Node → Node → Table
+comprehended r e = table [] (1 ∷ []) (bindingOver 34 r e ++ (empty ∷ node₂ 6 4 5 ∷ []))
+
+-- The name of a binder has the type of the range's members: over BOOL, x=1 fits no x, and Check refuses the binder.
+abbrev unlikeName : Table → ℕ → RuleCase
+unlikeName tb s = record { condition = tb; checks = refused 11 4; ends = refused 15 3; steps = s }
+
+-- The test k of 1..m and 1..n; the operation k of 1..3 and 2..4 is m..n.
+abbrev testRanges : ℕ → ℕ → ℕ → Table
+testRanges k m n = closed (lit 1 ∷ lit m ∷ node₂ 41 0 1 ∷ lit 1 ∷ lit n ∷ node₂ 41 3 4 ∷ node₂ k 2 5 ∷ [])
+
+abbrev joinRanges : ℕ → ℕ → ℕ → Table
+joinRanges k m n = closed
+    (lit 1 ∷ lit 3 ∷ node₂ 41 0 1 ∷ lit 2 ∷ lit 4 ∷ node₂ 41 3 4 ∷ node₂ k 2 5 ∷ lit m ∷ lit n ∷ node₂ 41 7 8 ∷ node₂ 6 6 9 ∷ [])
+
+-- The operation k of m..n is i.
+abbrev ofRange : ℕ → ℕ → ℕ → ℕ → Table
+ofRange k m n i = closed (lit m ∷ lit n ∷ node₂ 41 0 1 ∷ node₁ k 2 ∷ lit i ∷ node₂ 6 3 4 ∷ [])
+
+-- (m,n)∈(1..2)×(1..1)
+abbrev inProduct : ℕ → ℕ → Table
+inProduct m n = closed
+    (lit m ∷ lit n ∷ node₂ 28 0 1 ∷ lit 1 ∷ lit 2 ∷ node₂ 41 3 4 ∷ lit 1 ∷ lit 1 ∷ node₂ 41 6 7 ∷ node₂ 32 5 8 ∷ node₂ 7 2 9 ∷ [])
+
+-- The binder k over x∈1..3 with the test j of x and n; {x∈1..3|x=2}={2}.
+abbrev overRange : ℕ → ℕ → ℕ → List Node
+overRange k j n = lit 1 ∷ lit 3 ∷ node₂ 41 0 1 ∷ node₁ 20 0 ∷ lit n ∷ node₂ j 3 4 ∷ node₃ k 0 2 5 ∷ []
+
+abbrev quantifiedRange : ℕ → ℕ → ℕ → Table
+quantifiedRange k j n = table [] (1 ∷ []) (overRange k j n)
+
+abbrev chosenTwo : Table
+chosenTwo = table [] (1 ∷ []) (overRange 34 6 2 ++ (lit 2 ∷ node₁ 27 7 ∷ node₂ 6 6 8 ∷ []))
+
+-- {(1,TRUE)}; its dom or ran is {e}, its value at e is TRUE, for a leaf e
+abbrev onePair : List Node
+onePair = lit 1 ∷ yes ∷ node₂ 28 0 1 ∷ node₁ 27 2 ∷ []
+
+abbrev halfOf : ℕ → Node → Table
+halfOf k e = closed (onePair ++ (node₁ k 3 ∷ e ∷ node₁ 27 5 ∷ node₂ 6 4 6 ∷ []))
+
+abbrev appliedTo : Node → Table
+appliedTo e = closed (onePair ++ (e ∷ node₂ 37 3 4 ∷ yes ∷ node₂ 6 5 6 ∷ []))
+
+-- For each rule, conditions that it accepts, whose truth and sheet also tell what the kind gives, and conditions that it alone
+-- refuses, one for each way to let more through. Of 6 P4 is refused; of 7, 10, 20, 21, 23, 26 to 28, 33 and 38 rows of P1 to P12
+-- are accepted.
+abbrev pub ruleCases : List RuleCase
+ruleCases =
+    -- 7: 1∈BOOL; (1,2)∈(1..2)×(1..1) is false
+    refusedAt 2 (testLeaves 7 (lit 1) bools) 3 ∷
+    accepted (inProduct 1 2) (z ∷ z ∷ zz ∷ z ∷ z ∷ pz ∷ z ∷ z ∷ pz ∷ pzz ∷ [] ∷ []) false 11 ∷
+    -- 8: BOOL⊆G0, 1⊆1; 1..2⊆1..3, 1..3⊆1..2
+    refusedAt 2 (testLeaves 8 bools givens) 3 ∷ refusedAt 2 (testLeaves 8 (lit 1) (lit 1)) 3 ∷
+    accepted (testRanges 8 2 3) (z ∷ z ∷ pz ∷ z ∷ z ∷ pz ∷ [] ∷ []) true 7 ∷
+    accepted (testRanges 8 3 2) (z ∷ z ∷ pz ∷ z ∷ z ∷ pz ∷ [] ∷ []) false 7 ∷
+    -- 9: TRUE≤TRUE, TRUE≤1, 1≤TRUE; 0≤−1 is false
+    refusedAt 2 (testLeaves 9 yes yes) 3 ∷ refusedAt 2 (testLeaves 9 yes (lit 1)) 3 ∷ refusedAt 2 (testLeaves 9 (lit 1) yes) 3 ∷
+    accepted (testLeaves 9 (lit 0) (lit 4294967295)) (z ∷ z ∷ [] ∷ []) false 3 ∷
+    -- 10 and 11: a range that is no set, and x=1 over BOOL
+    refusedAt 4 (quantified 10 (lit 1) (lit 1)) 2 ∷ unlikeName (quantified 10 bools (node₁ 20 0)) 5 ∷
+    refusedAt 4 (quantified 11 (lit 1) (lit 1)) 2 ∷ unlikeName (quantified 11 bools (node₁ 20 0)) 5 ∷
+    -- ∀x∈1..3·x=2 stops at the first member, ∀x∈1..3·x≤3 at none; ∃x∈1..3·x=1 and ∃x∈1..3·x=4 likewise
+    accepted (quantifiedRange 10 6 2) (z ∷ z ∷ z ∷ pz ∷ z ∷ z ∷ [] ∷ [] ∷ []) false 7 ∷
+    accepted (quantifiedRange 10 9 3) (z ∷ z ∷ z ∷ pz ∷ z ∷ z ∷ [] ∷ [] ∷ []) true 13 ∷
+    accepted (quantifiedRange 11 6 1) (z ∷ z ∷ z ∷ pz ∷ z ∷ z ∷ [] ∷ [] ∷ []) true 7 ∷
+    accepted (quantifiedRange 11 6 4) (z ∷ z ∷ z ∷ pz ∷ z ∷ z ∷ [] ∷ [] ∷ []) false 13 ∷
+    -- 22: elements 0 and 1 of G0 differ; 24 and 25: bool(1=2)=FALSE; 42: card(BOOL)=2
+    accepted (table (2 ∷ []) [] (node₂ 22 0 0 ∷ node₂ 22 0 1 ∷ node₂ 6 0 1 ∷ [])) (g0 ∷ g0 ∷ [] ∷ []) false 3 ∷
+    accepted (closed (lit 1 ∷ lit 2 ∷ node₂ 6 0 1 ∷ node₁ 25 2 ∷ node₁ 24 0 ∷ node₂ 6 3 4 ∷ [])) (z ∷ z ∷ [] ∷ b ∷ b ∷ [] ∷ []) true 6 ∷
+    accepted (closed (bools ∷ node₁ 38 0 ∷ lit 2 ∷ node₂ 6 1 2 ∷ [])) (pb ∷ z ∷ z ∷ [] ∷ []) true 4 ∷
+    -- 29 to 31: BOOL and G0, 1 and 1; 1..3 and 2..4
+    refusedAt 2 (ofLeaves 29 bools givens empty) 4 ∷ refusedAt 2 (ofLeaves 29 (lit 1) (lit 1) empty) 4 ∷
+    refusedAt 2 (ofLeaves 30 bools givens empty) 4 ∷ refusedAt 2 (ofLeaves 30 (lit 1) (lit 1) empty) 4 ∷
+    refusedAt 2 (ofLeaves 31 bools givens empty) 4 ∷ refusedAt 2 (ofLeaves 31 (lit 1) (lit 1) empty) 4 ∷
+    accepted (joinRanges 29 1 4) (z ∷ z ∷ pz ∷ z ∷ z ∷ pz ∷ pz ∷ z ∷ z ∷ pz ∷ [] ∷ []) true 11 ∷
+    accepted (joinRanges 30 2 3) (z ∷ z ∷ pz ∷ z ∷ z ∷ pz ∷ pz ∷ z ∷ z ∷ pz ∷ [] ∷ []) true 11 ∷
+    accepted (joinRanges 31 1 1) (z ∷ z ∷ pz ∷ z ∷ z ∷ pz ∷ pz ∷ z ∷ z ∷ pz ∷ [] ∷ []) true 11 ∷
+    -- 32: 1 and BOOL, BOOL and 1; (2,1)∈(1..2)×(1..1)
+    refusedAt 2 (ofLeaves 32 (lit 1) bools empty) 4 ∷ refusedAt 2 (ofLeaves 32 bools (lit 1) empty) 4 ∷
+    accepted (inProduct 2 1) (z ∷ z ∷ zz ∷ z ∷ z ∷ pz ∷ z ∷ z ∷ pz ∷ pzz ∷ [] ∷ []) true 11 ∷
+    -- 33: of 1; 35 and 36: of BOOL; dom({(1,TRUE)})={1}, ran({(1,TRUE)})={TRUE}
+    refusedAt 1 (ofLeaf 33 (lit 1) empty) 3 ∷ refusedAt 1 (ofLeaf 35 bools empty) 3 ∷ refusedAt 1 (ofLeaf 36 bools empty) 3 ∷
+    accepted (halfOf 35 (lit 1)) (z ∷ b ∷ zb ∷ pzb ∷ pz ∷ z ∷ pz ∷ [] ∷ []) true 8 ∷
+    accepted (halfOf 36 yes) (z ∷ b ∷ zb ∷ pzb ∷ pb ∷ b ∷ pb ∷ [] ∷ []) true 8 ∷
+    -- 34: as 10; {x∈1..3|x=2}={2} goes on to the last member
+    refusedAt 4 (comprehended (lit 1) (lit 1)) 3 ∷ unlikeName (comprehended bools (node₁ 20 0)) 6 ∷
+    accepted chosenTwo (z ∷ z ∷ z ∷ pz ∷ z ∷ z ∷ [] ∷ pz ∷ z ∷ pz ∷ [] ∷ []) true 16 ∷
+    -- 37: {(1,TRUE)} at TRUE, BOOL at TRUE; {(1,TRUE)} at 1
+    refusedAt 5 (appliedTo yes) 7 ∷ refusedAt 2 (ofLeaves 37 bools yes yes) 4 ∷
+    accepted (appliedTo (lit 1)) (z ∷ b ∷ zb ∷ pzb ∷ z ∷ b ∷ b ∷ [] ∷ []) true 8 ∷
+    -- 38 and 43: of 1; card(3..1)=0, as an interval may end more than one below its start; choice(1..2)=1
+    refusedAt 1 (ofLeaf 38 (lit 1) (lit 1)) 3 ∷ refusedAt 1 (ofLeaf 43 (lit 1) (lit 1)) 3 ∷
+    accepted (ofRange 38 3 1 0) (z ∷ z ∷ pz ∷ z ∷ z ∷ [] ∷ []) true 6 ∷
+    accepted (ofRange 43 1 2 1) (z ∷ z ∷ pz ∷ z ∷ z ∷ [] ∷ []) true 6 ∷
+    -- 39 to 41: TRUE and TRUE, TRUE and 1, 1 and TRUE, of which 2147483647+TRUE is tested before its sum; 1+2=3, 2−3=−1
+    refusedAt 2 (ofLeaves 39 yes yes (lit 1)) 4 ∷ refusedAt 2 (ofLeaves 39 yes (lit 1) (lit 1)) 4 ∷
+    refusedAt 2 (ofLeaves 39 (lit 2147483647) yes (lit 1)) 4 ∷
+    refusedAt 2 (ofLeaves 40 yes yes (lit 1)) 4 ∷ refusedAt 2 (ofLeaves 40 yes (lit 1) (lit 1)) 4 ∷
+    refusedAt 2 (ofLeaves 40 (lit 1) yes (lit 1)) 4 ∷
+    refusedAt 2 (ofLeaves 41 yes yes empty) 4 ∷ refusedAt 2 (ofLeaves 41 yes (lit 1) empty) 4 ∷
+    refusedAt 2 (ofLeaves 41 (lit 1) yes empty) 4 ∷
+    accepted (ofLeaves 39 (lit 1) (lit 2) (lit 3)) (z ∷ z ∷ z ∷ z ∷ [] ∷ []) true 5 ∷
+    accepted (ofLeaves 40 (lit 2) (lit 3) (lit 4294967295)) (z ∷ z ∷ z ∷ z ∷ [] ∷ []) true 5 ∷ []
+
+-- A case of Evaluate: the words of a table, the bytes of the values buffer, the end with the budget 100, and the steps.
+pub record Case : Type 0 where
+  pub words : List ℕ
+  pub buffer : List ℕ
+  pub ends : End Bool
+  pub steps : ℕ
+
+-- A table with values, and one without.
+abbrev valued : Table → List ℕ → End Bool → ℕ → Case
+valued tb vs e s = record { words = wordsOf tb; buffer = vs; ends = e; steps = s }
+
+abbrev plain : Table → End Bool → ℕ → Case
+plain tb e s = valued tb [] e s
+
+-- P1 with one word changed, refused with r at p.
+abbrev spoilt : ℕ → ℕ → ℕ → ℕ → Case
+spoilt i w r p = record { words = set p1-words i w; buffer = element1; ends = refused r p; steps = 0 }
+
+-- n negations from node i on, each over the node before; n negations over 1=1
+abbrev negations : ℕ → ℕ → List Node
+negations i zero = []
+negations i (suc n) = node₁ 4 i ∷ negations (suc i) n
+
+abbrev pub negated : ℕ → Table
+negated n = closed ((lit 1 ∷ lit 1 ∷ node₂ 6 0 1 ∷ []) ++ negations 2 n)
+
+abbrev unreadable : List Case
+unreadable =
+    -- `kinds` with a kind at 0, 12, 19 or 44
+    spoilt 10 0 6 0 ∷ spoilt 10 12 6 0 ∷ spoilt 10 19 6 0 ∷ spoilt 10 44 6 0 ∷
+    -- `leafFields` with a field that is not 0 unless used: c of a given set
+    spoilt 17 1 6 1 ∷
+    -- `occurrences` that counts a child once however often it stands
+    spoilt 20 0 7 0 ∷
+    -- another `heightLimit`, a `height` that is off by one: heights 40 and 41
+    plain (negated 38) (done true) 41 ∷ plain (negated 39) (refused 8 41) 0 ∷
+    -- `occursIn` that takes the range for a part of the body: ∀x∈{x}·1=1
+    plain (table [] (1 ∷ []) (node₁ 20 0 ∷ node₁ 27 0 ∷ lit 1 ∷ lit 1 ∷ node₂ 6 2 3 ∷ node₃ 10 0 1 4 ∷ [])) (refused 9 0) 0 ∷ []
+
+-- The cells of n integers from i on.
+abbrev integerCells : ℕ → ℕ → List ℕ
+integerCells i zero = []
+integerCells i (suc n) = i ∷ 1 ∷ integerCells (suc i) n
+
+-- x≤y, and ∀x∈1..2·y≤x
+abbrev twoFree : Table
+twoFree = table [] (0 ∷ 0 ∷ []) (node₁ 20 0 ∷ node₁ 20 1 ∷ node₂ 9 0 1 ∷ [])
+
+abbrev boundFirst : Table
+boundFirst = table [] (1 ∷ 0 ∷ []) (lit 1 ∷ lit 2 ∷ node₂ 41 0 1 ∷ node₁ 20 1 ∷ node₁ 20 0 ∷ node₂ 9 3 4 ∷ node₃ 10 0 2 5 ∷ [])
+
+-- P1 at values that pass 14 is refused with 15 where they are no elements.
+abbrev buffers : List Case
+buffers =
+    -- `nothingLeft` that lets a byte too many through, or has another place
+    valued p1 (element1 ++ (0 ∷ [])) (refused 14 1) 0 ∷
+    -- `valuesFrom` with another order or place: x≤y at 1 and 2, and y cut short
+    valued twoFree (toBytes (1 ∷ 1 ∷ 2 ∷ 1 ∷ [])) (done true) 3 ∷ valued twoFree (toBytes (1 ∷ 1 ∷ [])) (refused 14 1) 0 ∷
+    -- `valueFor` that takes a value for a bound identifier, `_with_≔_` that changes the others: ∀x∈1..2·y≤x at 2
+    valued boundFirst (toBytes (2 ∷ 1 ∷ [])) (done false) 7 ∷
+    -- `scalarGood` that has an element for the size, or for a set beyond G
+    valued p1 (toBytes (2 ∷ 3 ∷ [])) (refused 14 0) 0 ∷ valued p1 (toBytes (256 ∷ 3 ∷ [])) (refused 14 0) 0 ∷
+    -- `precedes` that asks for no order, or lets repeats through: {2,1} and {1,1}
+    valued p1 (toBytes (2 ∷ 5 ∷ 2 ∷ 1 ∷ 1 ∷ 1 ∷ [])) (refused 14 0) 0 ∷ valued p1 (toBytes (2 ∷ 5 ∷ 1 ∷ 1 ∷ 1 ∷ 1 ∷ [])) (refused 14 0) 0 ∷
+    -- `good` that refuses the weight 256
+    valued p1 (toBytes (255 ∷ 5 ∷ integerCells 0 255)) (refused 15 2) 3 ∷ []
+
+-- (1=m) with kind k and (1=n); (1=m) with kind k and (1=TRUE), which is not reached
+abbrev both : ℕ → ℕ → ℕ → Table
+both k m n = closed (lit 1 ∷ lit m ∷ node₂ 6 0 1 ∷ lit 1 ∷ lit n ∷ node₂ 6 3 4 ∷ node₂ k 2 5 ∷ [])
+
+abbrev skipped : ℕ → ℕ → Table
+skipped k m = closed (lit 1 ∷ lit m ∷ node₂ 6 0 1 ∷ lit 1 ∷ yes ∷ node₂ 6 3 4 ∷ node₂ k 2 5 ∷ [])
+
+-- f(2)=6 for f = {(1,5),(2,6)}, and its cells
+abbrev secondOfTwo : Table
+secondOfTwo = table [] (0 ∷ []) (node₁ 20 0 ∷ lit 2 ∷ node₂ 37 0 1 ∷ lit 6 ∷ node₂ 6 2 3 ∷ [])
+
+abbrev twoPairs : List ℕ
+twoPairs = toBytes (2 ∷ 5 ∷ 0 ∷ 4 ∷ 1 ∷ 1 ∷ 5 ∷ 1 ∷ 0 ∷ 4 ∷ 2 ∷ 1 ∷ 6 ∷ 1 ∷ [])
+
+abbrev evaluations : List Case
+evaluations =
+    -- `decides` and `joined` with another truth: ∧ and ⇒ skip (∨ does in P5), and the truths where nothing is skipped
+    plain (skipped 1 2) (done false) 4 ∷ plain (skipped 3 2) (done true) 4 ∷
+    plain (both 1 1 1) (done true) 7 ∷ plain (both 1 1 2) (done false) 7 ∷
+    plain (both 2 2 1) (done true) 7 ∷ plain (both 2 2 2) (done false) 7 ∷
+    plain (both 3 1 1) (done true) 7 ∷ plain (both 3 1 2) (done false) 7 ∷
+    plain (both 5 1 1) (done true) 7 ∷ plain (both 5 1 2) (done false) 7 ∷
+    plain (both 5 2 1) (done false) 7 ∷ plain (both 5 2 2) (done true) 7 ∷
+    -- a negation that hands its operand on
+    plain (negated 1) (done false) 4 ∷
+    -- `applied` that takes the first pair whatever its first part is
+    valued secondOfTwo twoPairs (done true) 5 ∷
+    -- `weightLimit` below 256: 1..255 weighs 256
+    plain (testRanges 6 255 1) (done false) 7 ∷ []
+
+abbrev asCase : RuleCase → Case
+asCase r = plain (r .condition) (r .ends) (r .steps)
+
+abbrev pub cases : List Case
+cases = map asCase ruleCases ++ (unreadable ++ (buffers ++ evaluations))
+
+abbrev pub evaluated : Case → End Bool × ℕ
+unfolding evaluation
+evaluated c = let r = evaluation (toBytes (c .words)) (c .buffer) 100 in (r .end, r .steps)
+
+-- Each case ends as the rules say.
+pub cases-right : map evaluated cases ≡ map (λ c. (c .ends, c .steps)) cases
+unfolding evaluation
+cases-right = refl
