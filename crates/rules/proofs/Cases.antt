@@ -19,8 +19,8 @@ pub record RuleCase : Type 0 where
   pub steps : ℕ
 
 -- Accepted with these codes in the rows of the sheet.
-abbrev accepted : Table → List (List ℕ) → Bool → ℕ → RuleCase
-accepted tb rs b s = record { condition = tb; checks = done (sheet rs); ends = done b; steps = s }
+abbrev acceptedWith : Table → List (List ℕ) → Bool → ℕ → RuleCase
+acceptedWith tb rs t s = record { condition = tb; checks = done (sheet rs); ends = done t; steps = s }
 
 -- Only the rule of node n refuses: 11 and 15 there.
 abbrev refusedAt : ℕ → Table → ℕ → RuleCase
@@ -46,17 +46,17 @@ pzb = 3 ∷ 4 ∷ 1 ∷ 2 ∷ []
 abbrev lit : ℕ → Node
 lit w = node₁ 23 w
 
-abbrev yes : Node
-yes = node₁ 24 1
+abbrev TRUE : Node
+TRUE = node₁ 24 1
 
 abbrev empty : Node
 empty = node 26
 
-abbrev bools : Node
-bools = node 42
+abbrev truths : Node
+truths = node 42
 
-abbrev givens : Node
-givens = node₁ 21 0
+abbrev given0 : Node
+given0 = node₁ 21 0
 
 -- The test k of two leaves; the operation k of a leaf, or of two, is a third leaf. G0 has one element.
 abbrev testLeaves : ℕ → Node → Node → Table
@@ -111,13 +111,13 @@ chosenTwo = table [] (1 ∷ []) (overRange 34 6 2 ++ (lit 2 ∷ node₁ 27 7 ∷
 
 -- {(1,TRUE)}; its dom or ran is {e}, its value at e is TRUE, for a leaf e
 abbrev onePair : List Node
-onePair = lit 1 ∷ yes ∷ node₂ 28 0 1 ∷ node₁ 27 2 ∷ []
+onePair = lit 1 ∷ TRUE ∷ node₂ 28 0 1 ∷ node₁ 27 2 ∷ []
 
 abbrev halfOf : ℕ → Node → Table
 halfOf k e = closed (onePair ++ (node₁ k 3 ∷ e ∷ node₁ 27 5 ∷ node₂ 6 4 6 ∷ []))
 
 abbrev appliedTo : Node → Table
-appliedTo e = closed (onePair ++ (e ∷ node₂ 37 3 4 ∷ yes ∷ node₂ 6 5 6 ∷ []))
+appliedTo e = closed (onePair ++ (e ∷ node₂ 37 3 4 ∷ TRUE ∷ node₂ 6 5 6 ∷ []))
 
 -- For each rule, conditions that it accepts, whose truth and sheet also tell what the kind gives, and conditions that it alone
 -- refuses, one for each way to let more through. Of 6 P4 is refused; of 7, 10, 20, 21, 23, 26 to 28, 33 and 38 rows of P1 to P12
@@ -125,60 +125,60 @@ appliedTo e = closed (onePair ++ (e ∷ node₂ 37 3 4 ∷ yes ∷ node₂ 6 5 6
 abbrev pub ruleCases : List RuleCase
 ruleCases =
     -- 7: 1∈BOOL; (1,2)∈(1..2)×(1..1) is false
-    refusedAt 2 (testLeaves 7 (lit 1) bools) 3 ∷
-    accepted (inProduct 1 2) (z ∷ z ∷ zz ∷ z ∷ z ∷ pz ∷ z ∷ z ∷ pz ∷ pzz ∷ [] ∷ []) false 11 ∷
+    refusedAt 2 (testLeaves 7 (lit 1) truths) 3 ∷
+    acceptedWith (inProduct 1 2) (z ∷ z ∷ zz ∷ z ∷ z ∷ pz ∷ z ∷ z ∷ pz ∷ pzz ∷ [] ∷ []) false 11 ∷
     -- 8: BOOL⊆G0, 1⊆1; 1..2⊆1..3, 1..3⊆1..2
-    refusedAt 2 (testLeaves 8 bools givens) 3 ∷ refusedAt 2 (testLeaves 8 (lit 1) (lit 1)) 3 ∷
-    accepted (testRanges 8 2 3) (z ∷ z ∷ pz ∷ z ∷ z ∷ pz ∷ [] ∷ []) true 7 ∷
-    accepted (testRanges 8 3 2) (z ∷ z ∷ pz ∷ z ∷ z ∷ pz ∷ [] ∷ []) false 7 ∷
+    refusedAt 2 (testLeaves 8 truths given0) 3 ∷ refusedAt 2 (testLeaves 8 (lit 1) (lit 1)) 3 ∷
+    acceptedWith (testRanges 8 2 3) (z ∷ z ∷ pz ∷ z ∷ z ∷ pz ∷ [] ∷ []) true 7 ∷
+    acceptedWith (testRanges 8 3 2) (z ∷ z ∷ pz ∷ z ∷ z ∷ pz ∷ [] ∷ []) false 7 ∷
     -- 9: TRUE≤TRUE, TRUE≤1, 1≤TRUE; 0≤−1 is false
-    refusedAt 2 (testLeaves 9 yes yes) 3 ∷ refusedAt 2 (testLeaves 9 yes (lit 1)) 3 ∷ refusedAt 2 (testLeaves 9 (lit 1) yes) 3 ∷
-    accepted (testLeaves 9 (lit 0) (lit 4294967295)) (z ∷ z ∷ [] ∷ []) false 3 ∷
+    refusedAt 2 (testLeaves 9 TRUE TRUE) 3 ∷ refusedAt 2 (testLeaves 9 TRUE (lit 1)) 3 ∷ refusedAt 2 (testLeaves 9 (lit 1) TRUE) 3 ∷
+    acceptedWith (testLeaves 9 (lit 0) (lit 4294967295)) (z ∷ z ∷ [] ∷ []) false 3 ∷
     -- 10 and 11: a range that is no set, and x=1 over BOOL
-    refusedAt 4 (quantified 10 (lit 1) (lit 1)) 2 ∷ unlikeName (quantified 10 bools (node₁ 20 0)) 5 ∷
-    refusedAt 4 (quantified 11 (lit 1) (lit 1)) 2 ∷ unlikeName (quantified 11 bools (node₁ 20 0)) 5 ∷
+    refusedAt 4 (quantified 10 (lit 1) (lit 1)) 2 ∷ unlikeName (quantified 10 truths (node₁ 20 0)) 5 ∷
+    refusedAt 4 (quantified 11 (lit 1) (lit 1)) 2 ∷ unlikeName (quantified 11 truths (node₁ 20 0)) 5 ∷
     -- ∀x∈1..3·x=2 stops at the first member, ∀x∈1..3·x≤3 at none; ∃x∈1..3·x=1 and ∃x∈1..3·x=4 likewise
-    accepted (quantifiedRange 10 6 2) (z ∷ z ∷ z ∷ pz ∷ z ∷ z ∷ [] ∷ [] ∷ []) false 7 ∷
-    accepted (quantifiedRange 10 9 3) (z ∷ z ∷ z ∷ pz ∷ z ∷ z ∷ [] ∷ [] ∷ []) true 13 ∷
-    accepted (quantifiedRange 11 6 1) (z ∷ z ∷ z ∷ pz ∷ z ∷ z ∷ [] ∷ [] ∷ []) true 7 ∷
-    accepted (quantifiedRange 11 6 4) (z ∷ z ∷ z ∷ pz ∷ z ∷ z ∷ [] ∷ [] ∷ []) false 13 ∷
+    acceptedWith (quantifiedRange 10 6 2) (z ∷ z ∷ z ∷ pz ∷ z ∷ z ∷ [] ∷ [] ∷ []) false 7 ∷
+    acceptedWith (quantifiedRange 10 9 3) (z ∷ z ∷ z ∷ pz ∷ z ∷ z ∷ [] ∷ [] ∷ []) true 13 ∷
+    acceptedWith (quantifiedRange 11 6 1) (z ∷ z ∷ z ∷ pz ∷ z ∷ z ∷ [] ∷ [] ∷ []) true 7 ∷
+    acceptedWith (quantifiedRange 11 6 4) (z ∷ z ∷ z ∷ pz ∷ z ∷ z ∷ [] ∷ [] ∷ []) false 13 ∷
     -- 22: elements 0 and 1 of G0 differ; 24 and 25: bool(1=2)=FALSE; 42: card(BOOL)=2
-    accepted (table (2 ∷ []) [] (node₂ 22 0 0 ∷ node₂ 22 0 1 ∷ node₂ 6 0 1 ∷ [])) (g0 ∷ g0 ∷ [] ∷ []) false 3 ∷
-    accepted (closed (lit 1 ∷ lit 2 ∷ node₂ 6 0 1 ∷ node₁ 25 2 ∷ node₁ 24 0 ∷ node₂ 6 3 4 ∷ [])) (z ∷ z ∷ [] ∷ b ∷ b ∷ [] ∷ []) true 6 ∷
-    accepted (closed (bools ∷ node₁ 38 0 ∷ lit 2 ∷ node₂ 6 1 2 ∷ [])) (pb ∷ z ∷ z ∷ [] ∷ []) true 4 ∷
+    acceptedWith (table (2 ∷ []) [] (node₂ 22 0 0 ∷ node₂ 22 0 1 ∷ node₂ 6 0 1 ∷ [])) (g0 ∷ g0 ∷ [] ∷ []) false 3 ∷
+    acceptedWith (closed (lit 1 ∷ lit 2 ∷ node₂ 6 0 1 ∷ node₁ 25 2 ∷ node₁ 24 0 ∷ node₂ 6 3 4 ∷ [])) (z ∷ z ∷ [] ∷ b ∷ b ∷ [] ∷ []) true 6 ∷
+    acceptedWith (closed (truths ∷ node₁ 38 0 ∷ lit 2 ∷ node₂ 6 1 2 ∷ [])) (pb ∷ z ∷ z ∷ [] ∷ []) true 4 ∷
     -- 29 to 31: BOOL and G0, 1 and 1; 1..3 and 2..4
-    refusedAt 2 (ofLeaves 29 bools givens empty) 4 ∷ refusedAt 2 (ofLeaves 29 (lit 1) (lit 1) empty) 4 ∷
-    refusedAt 2 (ofLeaves 30 bools givens empty) 4 ∷ refusedAt 2 (ofLeaves 30 (lit 1) (lit 1) empty) 4 ∷
-    refusedAt 2 (ofLeaves 31 bools givens empty) 4 ∷ refusedAt 2 (ofLeaves 31 (lit 1) (lit 1) empty) 4 ∷
-    accepted (joinRanges 29 1 4) (z ∷ z ∷ pz ∷ z ∷ z ∷ pz ∷ pz ∷ z ∷ z ∷ pz ∷ [] ∷ []) true 11 ∷
-    accepted (joinRanges 30 2 3) (z ∷ z ∷ pz ∷ z ∷ z ∷ pz ∷ pz ∷ z ∷ z ∷ pz ∷ [] ∷ []) true 11 ∷
-    accepted (joinRanges 31 1 1) (z ∷ z ∷ pz ∷ z ∷ z ∷ pz ∷ pz ∷ z ∷ z ∷ pz ∷ [] ∷ []) true 11 ∷
+    refusedAt 2 (ofLeaves 29 truths given0 empty) 4 ∷ refusedAt 2 (ofLeaves 29 (lit 1) (lit 1) empty) 4 ∷
+    refusedAt 2 (ofLeaves 30 truths given0 empty) 4 ∷ refusedAt 2 (ofLeaves 30 (lit 1) (lit 1) empty) 4 ∷
+    refusedAt 2 (ofLeaves 31 truths given0 empty) 4 ∷ refusedAt 2 (ofLeaves 31 (lit 1) (lit 1) empty) 4 ∷
+    acceptedWith (joinRanges 29 1 4) (z ∷ z ∷ pz ∷ z ∷ z ∷ pz ∷ pz ∷ z ∷ z ∷ pz ∷ [] ∷ []) true 11 ∷
+    acceptedWith (joinRanges 30 2 3) (z ∷ z ∷ pz ∷ z ∷ z ∷ pz ∷ pz ∷ z ∷ z ∷ pz ∷ [] ∷ []) true 11 ∷
+    acceptedWith (joinRanges 31 1 1) (z ∷ z ∷ pz ∷ z ∷ z ∷ pz ∷ pz ∷ z ∷ z ∷ pz ∷ [] ∷ []) true 11 ∷
     -- 32: 1 and BOOL, BOOL and 1; (2,1)∈(1..2)×(1..1)
-    refusedAt 2 (ofLeaves 32 (lit 1) bools empty) 4 ∷ refusedAt 2 (ofLeaves 32 bools (lit 1) empty) 4 ∷
-    accepted (inProduct 2 1) (z ∷ z ∷ zz ∷ z ∷ z ∷ pz ∷ z ∷ z ∷ pz ∷ pzz ∷ [] ∷ []) true 11 ∷
+    refusedAt 2 (ofLeaves 32 (lit 1) truths empty) 4 ∷ refusedAt 2 (ofLeaves 32 truths (lit 1) empty) 4 ∷
+    acceptedWith (inProduct 2 1) (z ∷ z ∷ zz ∷ z ∷ z ∷ pz ∷ z ∷ z ∷ pz ∷ pzz ∷ [] ∷ []) true 11 ∷
     -- 33: of 1; 35 and 36: of BOOL; dom({(1,TRUE)})={1}, ran({(1,TRUE)})={TRUE}
-    refusedAt 1 (ofLeaf 33 (lit 1) empty) 3 ∷ refusedAt 1 (ofLeaf 35 bools empty) 3 ∷ refusedAt 1 (ofLeaf 36 bools empty) 3 ∷
-    accepted (halfOf 35 (lit 1)) (z ∷ b ∷ zb ∷ pzb ∷ pz ∷ z ∷ pz ∷ [] ∷ []) true 8 ∷
-    accepted (halfOf 36 yes) (z ∷ b ∷ zb ∷ pzb ∷ pb ∷ b ∷ pb ∷ [] ∷ []) true 8 ∷
+    refusedAt 1 (ofLeaf 33 (lit 1) empty) 3 ∷ refusedAt 1 (ofLeaf 35 truths empty) 3 ∷ refusedAt 1 (ofLeaf 36 truths empty) 3 ∷
+    acceptedWith (halfOf 35 (lit 1)) (z ∷ b ∷ zb ∷ pzb ∷ pz ∷ z ∷ pz ∷ [] ∷ []) true 8 ∷
+    acceptedWith (halfOf 36 TRUE) (z ∷ b ∷ zb ∷ pzb ∷ pb ∷ b ∷ pb ∷ [] ∷ []) true 8 ∷
     -- 34: as 10; {x∈1..3|x=2}={2} goes on to the last member
-    refusedAt 4 (comprehended (lit 1) (lit 1)) 3 ∷ unlikeName (comprehended bools (node₁ 20 0)) 6 ∷
-    accepted chosenTwo (z ∷ z ∷ z ∷ pz ∷ z ∷ z ∷ [] ∷ pz ∷ z ∷ pz ∷ [] ∷ []) true 16 ∷
+    refusedAt 4 (comprehended (lit 1) (lit 1)) 3 ∷ unlikeName (comprehended truths (node₁ 20 0)) 6 ∷
+    acceptedWith chosenTwo (z ∷ z ∷ z ∷ pz ∷ z ∷ z ∷ [] ∷ pz ∷ z ∷ pz ∷ [] ∷ []) true 16 ∷
     -- 37: {(1,TRUE)} at TRUE, BOOL at TRUE; {(1,TRUE)} at 1
-    refusedAt 5 (appliedTo yes) 7 ∷ refusedAt 2 (ofLeaves 37 bools yes yes) 4 ∷
-    accepted (appliedTo (lit 1)) (z ∷ b ∷ zb ∷ pzb ∷ z ∷ b ∷ b ∷ [] ∷ []) true 8 ∷
+    refusedAt 5 (appliedTo TRUE) 7 ∷ refusedAt 2 (ofLeaves 37 truths TRUE TRUE) 4 ∷
+    acceptedWith (appliedTo (lit 1)) (z ∷ b ∷ zb ∷ pzb ∷ z ∷ b ∷ b ∷ [] ∷ []) true 8 ∷
     -- 38 and 43: of 1; card(3..1)=0, as an interval may end more than one below its start; choice(1..2)=1
     refusedAt 1 (ofLeaf 38 (lit 1) (lit 1)) 3 ∷ refusedAt 1 (ofLeaf 43 (lit 1) (lit 1)) 3 ∷
-    accepted (ofRange 38 3 1 0) (z ∷ z ∷ pz ∷ z ∷ z ∷ [] ∷ []) true 6 ∷
-    accepted (ofRange 43 1 2 1) (z ∷ z ∷ pz ∷ z ∷ z ∷ [] ∷ []) true 6 ∷
+    acceptedWith (ofRange 38 3 1 0) (z ∷ z ∷ pz ∷ z ∷ z ∷ [] ∷ []) true 6 ∷
+    acceptedWith (ofRange 43 1 2 1) (z ∷ z ∷ pz ∷ z ∷ z ∷ [] ∷ []) true 6 ∷
     -- 39 to 41: TRUE and TRUE, TRUE and 1, 1 and TRUE, of which 2147483647+TRUE is tested before its sum; 1+2=3, 2−3=−1
-    refusedAt 2 (ofLeaves 39 yes yes (lit 1)) 4 ∷ refusedAt 2 (ofLeaves 39 yes (lit 1) (lit 1)) 4 ∷
-    refusedAt 2 (ofLeaves 39 (lit 2147483647) yes (lit 1)) 4 ∷
-    refusedAt 2 (ofLeaves 40 yes yes (lit 1)) 4 ∷ refusedAt 2 (ofLeaves 40 yes (lit 1) (lit 1)) 4 ∷
-    refusedAt 2 (ofLeaves 40 (lit 1) yes (lit 1)) 4 ∷
-    refusedAt 2 (ofLeaves 41 yes yes empty) 4 ∷ refusedAt 2 (ofLeaves 41 yes (lit 1) empty) 4 ∷
-    refusedAt 2 (ofLeaves 41 (lit 1) yes empty) 4 ∷
-    accepted (ofLeaves 39 (lit 1) (lit 2) (lit 3)) (z ∷ z ∷ z ∷ z ∷ [] ∷ []) true 5 ∷
-    accepted (ofLeaves 40 (lit 2) (lit 3) (lit 4294967295)) (z ∷ z ∷ z ∷ z ∷ [] ∷ []) true 5 ∷ []
+    refusedAt 2 (ofLeaves 39 TRUE TRUE (lit 1)) 4 ∷ refusedAt 2 (ofLeaves 39 TRUE (lit 1) (lit 1)) 4 ∷
+    refusedAt 2 (ofLeaves 39 (lit 2147483647) TRUE (lit 1)) 4 ∷
+    refusedAt 2 (ofLeaves 40 TRUE TRUE (lit 1)) 4 ∷ refusedAt 2 (ofLeaves 40 TRUE (lit 1) (lit 1)) 4 ∷
+    refusedAt 2 (ofLeaves 40 (lit 1) TRUE (lit 1)) 4 ∷
+    refusedAt 2 (ofLeaves 41 TRUE TRUE empty) 4 ∷ refusedAt 2 (ofLeaves 41 TRUE (lit 1) empty) 4 ∷
+    refusedAt 2 (ofLeaves 41 (lit 1) TRUE empty) 4 ∷
+    acceptedWith (ofLeaves 39 (lit 1) (lit 2) (lit 3)) (z ∷ z ∷ z ∷ z ∷ [] ∷ []) true 5 ∷
+    acceptedWith (ofLeaves 40 (lit 2) (lit 3) (lit 4294967295)) (z ∷ z ∷ z ∷ z ∷ [] ∷ []) true 5 ∷ []
 
 -- A case of Evaluate: the words of a table, the bytes of the values buffer, the end with the budget 100, and the steps.
 pub record Case : Type 0 where
@@ -206,8 +206,8 @@ negations i (suc n) = node₁ 4 i ∷ negations (suc i) n
 abbrev pub negated : ℕ → Table
 negated n = closed ((lit 1 ∷ lit 1 ∷ node₂ 6 0 1 ∷ []) ++ negations 2 n)
 
-abbrev unreadable : List Case
-unreadable =
+abbrev unreadableCases : List Case
+unreadableCases =
     -- `kinds` with a kind at 0, 12, 19 or 44
     spoilt 10 0 6 0 ∷ spoilt 10 12 6 0 ∷ spoilt 10 19 6 0 ∷ spoilt 10 44 6 0 ∷
     -- `leafFields` with a field that is not 0 unless used: c of a given set
@@ -232,8 +232,8 @@ abbrev boundFirst : Table
 boundFirst = table [] (1 ∷ 0 ∷ []) (lit 1 ∷ lit 2 ∷ node₂ 41 0 1 ∷ node₁ 20 1 ∷ node₁ 20 0 ∷ node₂ 9 3 4 ∷ node₃ 10 0 2 5 ∷ [])
 
 -- P1 at values that pass 14 is refused with 15 where they are no elements.
-abbrev buffers : List Case
-buffers =
+abbrev bufferCases : List Case
+bufferCases =
     -- `nothingLeft` that lets a byte too many through, or has another place
     valued p1 (element1 ++ (0 ∷ [])) (refused 14 1) 0 ∷
     -- `valuesFrom` with another order or place: x≤y at 1 and 2, and y cut short
@@ -252,7 +252,7 @@ abbrev both : ℕ → ℕ → ℕ → Table
 both k m n = closed (lit 1 ∷ lit m ∷ node₂ 6 0 1 ∷ lit 1 ∷ lit n ∷ node₂ 6 3 4 ∷ node₂ k 2 5 ∷ [])
 
 abbrev skipped : ℕ → ℕ → Table
-skipped k m = closed (lit 1 ∷ lit m ∷ node₂ 6 0 1 ∷ lit 1 ∷ yes ∷ node₂ 6 3 4 ∷ node₂ k 2 5 ∷ [])
+skipped k m = closed (lit 1 ∷ lit m ∷ node₂ 6 0 1 ∷ lit 1 ∷ TRUE ∷ node₂ 6 3 4 ∷ node₂ k 2 5 ∷ [])
 
 -- f(2)=6 for f = {(1,5),(2,6)}, and its cells
 abbrev secondOfTwo : Table
@@ -261,8 +261,8 @@ secondOfTwo = table [] (0 ∷ []) (node₁ 20 0 ∷ lit 2 ∷ node₂ 37 0 1 ∷
 abbrev twoPairs : List ℕ
 twoPairs = toBytes (2 ∷ 5 ∷ 0 ∷ 4 ∷ 1 ∷ 1 ∷ 5 ∷ 1 ∷ 0 ∷ 4 ∷ 2 ∷ 1 ∷ 6 ∷ 1 ∷ [])
 
-abbrev evaluations : List Case
-evaluations =
+abbrev runCases : List Case
+runCases =
     -- `decides` and `joined` with another truth: ∧ and ⇒ skip (∨ does in P5), and the truths where nothing is skipped
     plain (skipped 1 2) (done false) 4 ∷ plain (skipped 3 2) (done true) 4 ∷
     plain (both 1 1 1) (done true) 7 ∷ plain (both 1 1 2) (done false) 7 ∷
@@ -281,7 +281,7 @@ abbrev asCase : RuleCase → Case
 asCase r = plain (r .condition) (r .ends) (r .steps)
 
 abbrev pub cases : List Case
-cases = map asCase ruleCases ++ (unreadable ++ (buffers ++ evaluations))
+cases = map asCase ruleCases ++ (unreadableCases ++ (bufferCases ++ runCases))
 
 abbrev pub evaluated : Case → End Bool × ℕ
 unfolding evaluation
