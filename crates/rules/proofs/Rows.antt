@@ -1,6 +1,6 @@
 -- Document 01, "Conditions tried": P1 to P12 as the rows of one table, with what Check and Evaluate say of them: Check's answer
 -- with the sheet, the end, the steps, and the values formed in their order. `conditions-right` in Tried.antt is the theorem over
--- these rows. What builds tables serves the further cases of Cases.antt too.
+-- these rows; its part for Evaluate is computed here. What builds tables serves the further cases of Cases.antt too.
 use Prim.Native.Nat.{ℕ, _+_, _*_, _-_}
 use mathlib.Core.List.{List, [], _∷_, _++_, map}
 use mathlib.Core.Bool.{Bool, true}
@@ -12,6 +12,8 @@ use Rattle.rules.specs.Tables.{Node, Table}
 use Rattle.rules.specs.Ends.{End, done, refused}
 use Rattle.rules.specs.Cells.{bytes4}
 use Rattle.rules.specs.Runs.{Trace, Run}
+use Rattle.rules.specs.Evaluation.{evaluation}
+use Rattle.rules.specs.Safety.{All}
 
 -- The bytes of words.
 abbrev pub toBytes : List ℕ → List ℕ
@@ -211,3 +213,15 @@ conditions =
     ((0, integer 1) ∷ (1, integer 3) ∷ (2, oneWith 3) ∷ (3, setWith (oneWith 3 ∷ [])) ∷
     (4, integer 1) ∷ (5, integer 2) ∷ (6, oneWith 2) ∷ (7, setWith (oneWith 2 ∷ [])) ∷
     (8, setWith (oneWith 2 ∷ oneWith 3 ∷ [])) ∷ (9, integer 1) ∷ (10, integer 2) ∷ (11, integer 2) ∷ []) ∷ []
+
+infixr 5 _&_
+abbrev pub _&_ : {A B : Type 0} → A → B → A × B
+a & b = (a, b)
+
+-- Evaluate's run of a condition is what its row tells.
+abbrev pub RunsAsTold : Condition → Type 0
+RunsAsTold c = evaluation (toBytes (c .words)) (c .buffer) (c .budget) ≡ c .runs
+
+pub conditions-run : All RunsAsTold conditions
+unfolding evaluation
+conditions-run = refl & refl & refl & refl & refl & refl & refl & refl & refl & refl & refl & refl & tt

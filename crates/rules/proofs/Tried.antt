@@ -16,18 +16,14 @@ use Rattle.rules.specs.Readable.{CategoryIs}
 use Rattle.rules.specs.Reading.{reading}
 use Rattle.rules.specs.Runs.{gives}
 use Rattle.rules.specs.Operations.{oneValue}
-use Rattle.rules.specs.Evaluation.{evaluation}
 use Rattle.rules.specs.Verdict.{nodePlace, Place, ObeysKind, Typing, AgreeAt, Only, typeLimit, sheetOf, sheetLength}
 use Rattle.rules.specs.Verdict.{Verdict, unreadable, misfit, clash, several, accepts}
 use Rattle.rules.specs.Safety.{All}
 use Rattle.rules.proofs.TypeLaws.{no-cycle}
 use Rattle.rules.proofs.Rows.{toBytes, wordsOf, sheet, z, pz, ppz, zz, pzz, p1, p2, p3, p4, p5, cardPower, p8, p9, p10, p12}
-use Rattle.rules.proofs.Rows.{Condition, conditions, oneToSix}
+use Rattle.rules.proofs.Rows.{_&_, oneToSix, Condition, conditions, RunsAsTold, conditions-run}
+use Rattle.rules.proofs.SetOrder.{all-both}
 use Rattle.rules.proofs.Basics.{absurd01}
-
-infixr 5 _&_
-abbrev _&_ : {A B : Type 0} → A → B → A × B
-a & b = (a, b)
 
 -- What holds of each number below n, one after the other.
 abbrev Below : (ℕ → Type 0) → ℕ → Type 0
@@ -244,19 +240,19 @@ p12-checks = accepted p12 refl
     (INTEGER, BOOL, tt, refl & refl & tt, tt) & tt)
     p12-alone
 
--- Check and Evaluate say of a condition what its row tells.
-abbrev pub AsTold : Condition → Type 0
-AsTold c =
-    Verdict (toBytes (c .words)) (c .room) (c .checks) ×
-    (evaluation (toBytes (c .words)) (c .buffer) (c .budget) ≡ c .runs)
+-- Check's answer for a condition is what its row tells.
+abbrev pub ChecksAsTold : Condition → Type 0
+ChecksAsTold c = Verdict (toBytes (c .words)) (c .room) (c .checks)
 
--- Each of P1 to P12 is what the rules give.
-pub conditions-right : All AsTold conditions
-unfolding evaluation
-conditions-right =
-    (p1-checks, refl) & (p2-checks, refl) & (p3-checks, refl) & (p4-checks, refl) & (p5-checks, refl) &
-    (power-checks 5 refl, refl) & (power-checks 6 refl, refl) & (p8-checks, refl) & (p9-checks, refl) &
-    (p10-checks, refl) & (p10-checks, refl) & (p12-checks, refl) & tt
+conditions-check : All ChecksAsTold conditions
+unfolding reading
+conditions-check =
+    p1-checks & p2-checks & p3-checks & p4-checks & p5-checks & power-checks 5 refl & power-checks 6 refl & p8-checks & p9-checks &
+    p10-checks & p10-checks & p12-checks & tt
+
+-- Each of P1 to P12 is what the rules give, for Check and for Evaluate.
+pub conditions-right : All (λ c. ChecksAsTold c × RunsAsTold c) conditions
+conditions-right = all-both ChecksAsTold RunsAsTold conditions conditions-check conditions-run
 
 -- The value that P7's node 3 would have weighs 257.
 pub p7-weight : (v : Value) × (oneValue power oneToSix ≡ gives v) × (weight v ≡ 257)
