@@ -1,11 +1,13 @@
 -- Further cases, each of which keeps a wrong definition out that no law refuses. First the cases of the typing rules, with what
 -- Check says of them too: Evaluate's side is proved here by computation, Check's side over the same list in `typing`
 -- (proofs/RuleChecks.antt). Then cases of Evaluate only. All other cases go through the program `answers`.
-use Prim.Native.Nat.{ℕ, zero, suc}
+use Prim.Native.Nat.{ℕ, zero, suc, _+_}
 use mathlib.Core.List.{List, [], _∷_, _++_, map}
 use mathlib.Core.Bool.{Bool, true, false}
+use mathlib.Core.Option.{Option, none as nothing, some}
 use mathlib.Core.Path.{_≡_, refl}
-use lib.ListN.{set, take}
+use lib.ListN.{set}
+use Rattle.rules.specs.Kinds.{Kind, kinds, Field, unused, child, use-of, binder-of, setNumber, elementNumber, anyWord, truthBit, fieldsOf}
 use Rattle.rules.specs.Tables.{Node, Table}
 use Rattle.rules.specs.Ends.{End, done, refused}
 use Rattle.rules.specs.Evaluation.{evaluation}
@@ -99,15 +101,15 @@ abbrev inProduct : ℕ → ℕ → Table
 inProduct m n = closed
     (lit m ∷ lit n ∷ node₂ 28 0 1 ∷ lit 1 ∷ lit 2 ∷ node₂ 41 3 4 ∷ lit 1 ∷ lit 1 ∷ node₂ 41 6 7 ∷ node₂ 32 5 8 ∷ node₂ 7 2 9 ∷ [])
 
--- The binder k over x∈1..3 with the test j of x and n; {x∈1..3|x=2}={2}.
+-- The binder k over x∈1..3 with the test j of x and n; {x∈1..3|x≤2}=1..2.
 abbrev overRange : ℕ → ℕ → ℕ → List Node
 overRange k j n = lit 1 ∷ lit 3 ∷ node₂ 41 0 1 ∷ node₁ 20 0 ∷ lit n ∷ node₂ j 3 4 ∷ node₃ k 0 2 5 ∷ []
 
 abbrev quantifiedRange : ℕ → ℕ → ℕ → Table
 quantifiedRange k j n = table [] (1 ∷ []) (overRange k j n)
 
-abbrev chosenTwo : Table
-chosenTwo = table [] (1 ∷ []) (overRange 34 6 2 ++ (lit 2 ∷ node₁ 27 7 ∷ node₂ 6 6 8 ∷ []))
+abbrev lowTwo : Table
+lowTwo = table [] (1 ∷ []) (overRange 34 9 2 ++ (lit 1 ∷ lit 2 ∷ node₂ 41 7 8 ∷ node₂ 6 6 9 ∷ []))
 
 -- {(1,TRUE)}; its dom or ran is {e}, its value at e is TRUE, for a leaf e
 abbrev onePair : List Node
@@ -160,9 +162,9 @@ ruleCases =
     refusedAt 1 (ofLeaf 33 (lit 1) empty) 3 ∷ refusedAt 1 (ofLeaf 35 truths empty) 3 ∷ refusedAt 1 (ofLeaf 36 truths empty) 3 ∷
     acceptedWith (halfOf 35 (lit 1)) (z ∷ b ∷ zb ∷ pzb ∷ pz ∷ z ∷ pz ∷ [] ∷ []) true 8 ∷
     acceptedWith (halfOf 36 TRUE) (z ∷ b ∷ zb ∷ pzb ∷ pb ∷ b ∷ pb ∷ [] ∷ []) true 8 ∷
-    -- 34: as 10; {x∈1..3|x=2}={2} goes on to the last member
+    -- 34: as 10; {x∈1..3|x≤2}=1..2 goes on to the last member
     refusedAt 4 (comprehended (lit 1) (lit 1)) 3 ∷ unlikeName (comprehended truths (node₁ 20 0)) 6 ∷
-    acceptedWith chosenTwo (z ∷ z ∷ z ∷ pz ∷ z ∷ z ∷ [] ∷ pz ∷ z ∷ pz ∷ [] ∷ []) true 16 ∷
+    acceptedWith lowTwo (z ∷ z ∷ z ∷ pz ∷ z ∷ z ∷ [] ∷ pz ∷ z ∷ z ∷ pz ∷ [] ∷ []) true 17 ∷
     -- 37: {(1,TRUE)} at TRUE, BOOL at TRUE; {(1,TRUE)} at 1
     refusedAt 5 (appliedTo TRUE) 7 ∷ refusedAt 2 (ofLeaves 37 truths TRUE TRUE) 4 ∷
     acceptedWith (appliedTo (lit 1)) (z ∷ b ∷ zb ∷ pzb ∷ z ∷ b ∷ b ∷ [] ∷ []) true 8 ∷
@@ -194,10 +196,6 @@ valued tb vs e s = record { words = wordsOf tb; buffer = vs; ends = e; steps = s
 abbrev plain : Table → End Bool → ℕ → Case
 plain tb e s = valued tb [] e s
 
--- P1 with one word changed, refused with r at p.
-abbrev spoilt : ℕ → ℕ → ℕ → ℕ → Case
-spoilt i w r p = record { words = set p1-words i w; buffer = element1; ends = refused r p; steps = 0 }
-
 -- n negations from node i on, each over the node before; n negations over 1=1
 abbrev negations : ℕ → ℕ → List Node
 negations i zero = []
@@ -208,16 +206,10 @@ negated n = closed ((lit 1 ∷ lit 1 ∷ node₂ 6 0 1 ∷ []) ++ negations 2 n)
 
 abbrev unreadableCases : List Case
 unreadableCases =
-    -- `kinds` with a kind at 0, 12, 19 or 44
-    spoilt 10 0 6 0 ∷ spoilt 10 12 6 0 ∷ spoilt 10 19 6 0 ∷ spoilt 10 44 6 0 ∷
-    -- `leafFields` with a field that is not 0 unless used: c of a given set
-    spoilt 17 1 6 1 ∷
-    -- `occurrences` that counts a child once however often it stands
-    spoilt 20 0 7 0 ∷
+    -- `occurrences` that counts a child once however often it stands: x∈x with one node for both
+    record { words = set p1-words 20 0; buffer = element1; ends = refused 7 0; steps = 0 } ∷
     -- another `heightLimit`, a `height` that is off by one: heights 40 and 41
-    plain (negated 38) (done true) 41 ∷ plain (negated 39) (refused 8 41) 0 ∷
-    -- `occursIn` that takes the range for a part of the body: ∀x∈{x}·1=1
-    plain (table [] (1 ∷ []) (node₁ 20 0 ∷ node₁ 27 0 ∷ lit 1 ∷ lit 1 ∷ node₂ 6 2 3 ∷ node₃ 10 0 1 4 ∷ [])) (refused 9 0) 0 ∷ []
+    plain (negated 38) (done true) 41 ∷ plain (negated 39) (refused 8 41) 0 ∷ []
 
 -- The cells of n integers from i on.
 abbrev integerCells : ℕ → ℕ → List ℕ
@@ -242,14 +234,12 @@ bufferCases =
     valued boundFirst (toBytes (2 ∷ 1 ∷ [])) (done false) 7 ∷
     -- `scalarGood` that has an element for the size, or for a set beyond G
     valued p1 (toBytes (2 ∷ 3 ∷ [])) (refused 14 0) 0 ∷ valued p1 (toBytes (256 ∷ 3 ∷ [])) (refused 14 0) 0 ∷
-    -- `precedes` that asks for no order, or lets repeats through: {2,1} and {1,1}
-    valued p1 (toBytes (2 ∷ 5 ∷ 2 ∷ 1 ∷ 1 ∷ 1 ∷ [])) (refused 14 0) 0 ∷ valued p1 (toBytes (2 ∷ 5 ∷ 1 ∷ 1 ∷ 1 ∷ 1 ∷ [])) (refused 14 0) 0 ∷
     -- `good` that refuses the weight 256
     valued p1 (toBytes (255 ∷ 5 ∷ integerCells 0 255)) (refused 15 2) 3 ∷ []
 
 -- (1=m) with kind k and (1=n); (1=m) with kind k and (1=TRUE), which is not reached
-abbrev both : ℕ → ℕ → ℕ → Table
-both k m n = closed (lit 1 ∷ lit m ∷ node₂ 6 0 1 ∷ lit 1 ∷ lit n ∷ node₂ 6 3 4 ∷ node₂ k 2 5 ∷ [])
+abbrev joinedTests : ℕ → ℕ → ℕ → Table
+joinedTests k m n = closed (lit 1 ∷ lit m ∷ node₂ 6 0 1 ∷ lit 1 ∷ lit n ∷ node₂ 6 3 4 ∷ node₂ k 2 5 ∷ [])
 
 abbrev skipped : ℕ → ℕ → Table
 skipped k m = closed (lit 1 ∷ lit m ∷ node₂ 6 0 1 ∷ lit 1 ∷ TRUE ∷ node₂ 6 3 4 ∷ node₂ k 2 5 ∷ [])
@@ -265,11 +255,11 @@ abbrev runCases : List Case
 runCases =
     -- `decides` and `joined` with another truth: ∧ and ⇒ skip (∨ does in P5), and the truths where nothing is skipped
     plain (skipped 1 2) (done false) 4 ∷ plain (skipped 3 2) (done true) 4 ∷
-    plain (both 1 1 1) (done true) 7 ∷ plain (both 1 1 2) (done false) 7 ∷
-    plain (both 2 2 1) (done true) 7 ∷ plain (both 2 2 2) (done false) 7 ∷
-    plain (both 3 1 1) (done true) 7 ∷ plain (both 3 1 2) (done false) 7 ∷
-    plain (both 5 1 1) (done true) 7 ∷ plain (both 5 1 2) (done false) 7 ∷
-    plain (both 5 2 1) (done false) 7 ∷ plain (both 5 2 2) (done true) 7 ∷
+    plain (joinedTests 1 1 1) (done true) 7 ∷ plain (joinedTests 1 1 2) (done false) 7 ∷
+    plain (joinedTests 2 2 1) (done true) 7 ∷ plain (joinedTests 2 2 2) (done false) 7 ∷
+    plain (joinedTests 3 1 1) (done true) 7 ∷ plain (joinedTests 3 1 2) (done false) 7 ∷
+    plain (joinedTests 5 1 1) (done true) 7 ∷ plain (joinedTests 5 1 2) (done false) 7 ∷
+    plain (joinedTests 5 2 1) (done false) 7 ∷ plain (joinedTests 5 2 2) (done true) 7 ∷
     -- a negation that hands its operand on
     plain (negated 1) (done false) 4 ∷
     -- `applied` that takes the first pair whatever its first part is
@@ -291,3 +281,21 @@ evaluated c = let r = evaluation (toBytes (c .words)) (c .buffer) 100 in (r .end
 pub cases-right : map evaluated cases ≡ map (λ c. (c .ends, c .steps)) cases
 unfolding evaluation
 cases-right = refl
+
+abbrev unusedIn : List Field → ℕ
+unusedIn [] = 0
+unusedIn (f ∷ fs) =
+    elim f [ unused ↦ 1 | child c ↦ 0 | use-of ↦ 0 | binder-of ↦ 0 | setNumber ↦ 0 | elementNumber ↦ 0 | anyWord ↦ 0 | truthBit ↦ 0 ] +
+    unusedIn fs
+
+-- How many fields a node of a kind leaves unused; 4 where the code has no kind.
+abbrev pub unusedFields : Option Kind → ℕ
+unusedFields nothing = 4
+unusedFields (some k) = unusedIn (fieldsOf k)
+
+-- The codes from 0 on that have a kind, 1 to 11 and 20 to 43, with the fields that must be 0. No law refuses a kind more, or a
+-- field of any word where it should be unused.
+pub kinds-right : map unusedFields kinds ≡
+    4 ∷ 1 ∷ 1 ∷ 1 ∷ 2 ∷ 1 ∷ 1 ∷ 1 ∷ 1 ∷ 1 ∷ 0 ∷ 0 ∷ 4 ∷ 4 ∷ 4 ∷ 4 ∷ 4 ∷ 4 ∷ 4 ∷ 4 ∷
+    2 ∷ 2 ∷ 1 ∷ 2 ∷ 2 ∷ 2 ∷ 3 ∷ 2 ∷ 1 ∷ 1 ∷ 1 ∷ 1 ∷ 1 ∷ 2 ∷ 0 ∷ 2 ∷ 2 ∷ 1 ∷ 2 ∷ 1 ∷ 1 ∷ 1 ∷ 3 ∷ 2 ∷ []
+kinds-right = refl
