@@ -265,7 +265,70 @@ fn operations() -> Vec<Answered> {
         let nodes = [int(m), int(n), two(kind, 0, 1), int(i), two(6, 2, 3)];
         plain(closed(&nodes), answer)
     };
-    let mut found = vec![
+    // choice({0}∪{−1})=−1.
+    let least = [
+        int(0),
+        one(27, 0),
+        int(-1),
+        one(27, 2),
+        two(29, 1, 3),
+        one(43, 4),
+        int(-1),
+        two(6, 5, 6),
+    ];
+    // card({x∈1..3|x=2})=1.
+    let chosen = [
+        int(1),
+        int(3),
+        two(41, 0, 1),
+        one(20, 0),
+        int(2),
+        two(6, 3, 4),
+        [34, 0, 2, 5],
+        one(38, 6),
+        int(1),
+        two(6, 7, 8),
+    ];
+    // {1}∪{TRUE}={1}: unlike sets.
+    let unlike = [
+        int(1),
+        one(27, 0),
+        TRUE,
+        one(27, 2),
+        two(29, 1, 3),
+        int(1),
+        one(27, 5),
+        two(6, 4, 6),
+    ];
+    // {TRUE}∪∅={TRUE}: ∅ is like each set.
+    let like = [
+        TRUE,
+        one(27, 0),
+        EMPTY,
+        two(29, 1, 2),
+        TRUE,
+        one(27, 4),
+        two(6, 3, 5),
+    ];
+    // 1..2∈POW(1..3).
+    let in_power = [
+        int(1),
+        int(2),
+        two(41, 0, 1),
+        int(1),
+        int(3),
+        two(41, 3, 4),
+        one(33, 5),
+        two(7, 2, 6),
+    ];
+    // choice(1)=1, card(G0)=2, element 1 of G0 is in G0, elements of G0 and
+    // G1 are unlike, 2147483647+TRUE=0: 15 comes before 17.
+    let no_set = [int(1), one(43, 0), int(1), two(6, 1, 2)];
+    let given = [one(21, 0), one(38, 0), int(2), two(6, 1, 2)];
+    let element = [two(22, 0, 1), one(21, 0), two(7, 0, 1)];
+    let elements = [two(22, 0, 0), two(22, 1, 0), two(6, 0, 1)];
+    let no_sum = [int(i32::MAX), TRUE, two(39, 0, 1), int(0), two(6, 2, 3)];
+    vec![
         applied(int(1), "false 5"),
         applied(int(3), "refused 16 2 4"),
         applied(TRUE, "refused 15 2 4"),
@@ -276,127 +339,15 @@ fn operations() -> Vec<Answered> {
         arithmetic(40, 2, 3, -1, "true 5"),
         arithmetic(40, i32::MIN, 1, 0, "refused 17 2 4"),
         arithmetic(39, i32::MIN, 0, i32::MIN, "true 5"),
-    ];
-    // Tables by themselves: sizes, identifiers' words, nodes.
-    let single: [(&[u32], &[u32], &[Node], &'static str); 10] = [
-        // choice({0}∪{−1})=−1, choice(1)=1.
-        (
-            &[],
-            &[],
-            &[
-                int(0),
-                one(27, 0),
-                int(-1),
-                one(27, 2),
-                two(29, 1, 3),
-                one(43, 4),
-                int(-1),
-                two(6, 5, 6),
-            ],
-            "true 8",
-        ),
-        (
-            &[],
-            &[],
-            &[int(1), one(43, 0), int(1), two(6, 1, 2)],
-            "refused 15 1 3",
-        ),
-        // card({x∈1..3|x=2})=1.
-        (
-            &[],
-            &[1],
-            &[
-                int(1),
-                int(3),
-                two(41, 0, 1),
-                one(20, 0),
-                int(2),
-                two(6, 3, 4),
-                [34, 0, 2, 5],
-                one(38, 6),
-                int(1),
-                two(6, 7, 8),
-            ],
-            "true 16",
-        ),
-        // {1}∪{TRUE}={1}: unlike sets; {TRUE}∪∅={TRUE}: ∅ is like each set.
-        (
-            &[],
-            &[],
-            &[
-                int(1),
-                one(27, 0),
-                TRUE,
-                one(27, 2),
-                two(29, 1, 3),
-                int(1),
-                one(27, 5),
-                two(6, 4, 6),
-            ],
-            "refused 15 4 6",
-        ),
-        (
-            &[],
-            &[],
-            &[
-                TRUE,
-                one(27, 0),
-                EMPTY,
-                two(29, 1, 2),
-                TRUE,
-                one(27, 4),
-                two(6, 3, 5),
-            ],
-            "true 7",
-        ),
-        // 1..2∈POW(1..3).
-        (
-            &[],
-            &[],
-            &[
-                int(1),
-                int(2),
-                two(41, 0, 1),
-                int(1),
-                int(3),
-                two(41, 3, 4),
-                one(33, 5),
-                two(7, 2, 6),
-            ],
-            "true 8",
-        ),
-        // card(G0)=2; element 1 of G0 is in G0; elements of G0 and G1 are
-        // unlike.
-        (
-            &[2],
-            &[],
-            &[one(21, 0), one(38, 0), int(2), two(6, 1, 2)],
-            "true 4",
-        ),
-        (
-            &[2],
-            &[],
-            &[two(22, 0, 1), one(21, 0), two(7, 0, 1)],
-            "true 3",
-        ),
-        (
-            &[1, 1],
-            &[],
-            &[two(22, 0, 0), two(22, 1, 0), two(6, 0, 1)],
-            "refused 15 2 3",
-        ),
-        // 2147483647+TRUE=0: 15 comes before 17.
-        (
-            &[],
-            &[],
-            &[int(i32::MAX), TRUE, two(39, 0, 1), int(0), two(6, 2, 3)],
-            "refused 15 2 4",
-        ),
-    ];
-    found.extend(
-        single
-            .into_iter()
-            .map(|(sizes, flags, nodes, answer)| plain(table(sizes, flags, nodes), answer)),
-    );
-    found
+        plain(closed(&least), "true 8"),
+        plain(closed(&no_set), "refused 15 1 3"),
+        plain(table(&[], &[1], &chosen), "true 16"),
+        plain(closed(&unlike), "refused 15 4 6"),
+        plain(closed(&like), "true 7"),
+        plain(closed(&in_power), "true 8"),
+        plain(table(&[2], &[], &given), "true 4"),
+        plain(table(&[2], &[], &element), "true 3"),
+        plain(table(&[1, 1], &[], &elements), "refused 15 2 3"),
+        plain(closed(&no_sum), "refused 15 2 4"),
+    ]
 }
