@@ -122,8 +122,8 @@ abbrev appliedTo : Node → Table
 appliedTo e = closed (onePair ++ (e ∷ node₂ 37 3 4 ∷ TRUE ∷ node₂ 6 5 6 ∷ []))
 
 -- For each rule, conditions that it accepts, whose truth and sheet also tell what the kind gives, and conditions that it alone
--- refuses, one for each way to let more through. Of 6 P4 is refused; of 7, 10, 20, 21, 23, 26 to 28, 33 and 38 rows of P1 to P12
--- are accepted.
+-- refuses, one for each way to let more through. P4 is the one that 6 refuses; P1, P6 and P8 have 21, 33 and 26 accepted. The
+-- leaves, 25, 27 and 28 take whatever they are given.
 abbrev pub ruleCases : List RuleCase
 ruleCases =
     -- 7: 1∈BOOL; (1,2)∈(1..2)×(1..1) is false
