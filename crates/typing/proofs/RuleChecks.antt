@@ -6,7 +6,7 @@ use Rattle.rules.specs.Ends.{End, done, refused}
 use Rattle.rules.specs.Tables.{Node, Table}
 use Rattle.rules.specs.Verdict.{sheetLength}
 use Rattle.rules.proofs.Rows.{toBytes, wordsOf, node₁, node₂, table, sheet, z}
-use Rattle.rules.proofs.Cases.{RuleCase, ruleCases}
+use Rattle.rules.proofs.Cases.{ruleCases}
 use Rattle.typing.specs.Model.{verdict}
 
 -- Check's answer for a table, where the sheet has the length that it asks for.
