@@ -265,6 +265,23 @@ fn operations() -> Vec<Answered> {
         let nodes = [int(m), int(n), two(kind, 0, 1), int(i), two(6, 2, 3)];
         plain(closed(&nodes), answer)
     };
+    // (m,n)∈(1..2)×(1..1).
+    let in_product = |m, n, answer| {
+        let nodes = [
+            int(m),
+            int(n),
+            two(28, 0, 1),
+            int(1),
+            int(2),
+            two(41, 3, 4),
+            int(1),
+            int(1),
+            two(41, 6, 7),
+            two(32, 5, 8),
+            two(7, 2, 9),
+        ];
+        plain(closed(&nodes), answer)
+    };
     // choice({0}∪{−1})=−1.
     let least = [
         int(0),
@@ -336,6 +353,8 @@ fn operations() -> Vec<Answered> {
         half(36, 5, 6),
         ranges(6, 2, 3, "false 7"),
         ranges(6, 256, 1, "refused 18 2 4"),
+        in_product(2, 1, "true 11"),
+        in_product(1, 2, "false 11"),
         arithmetic(40, 2, 3, -1, "true 5"),
         arithmetic(40, i32::MIN, 1, 0, "refused 17 2 4"),
         arithmetic(39, i32::MIN, 0, i32::MIN, "true 5"),
