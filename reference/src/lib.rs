@@ -6,6 +6,7 @@
 
 pub mod batch;
 pub mod build;
+pub mod cases;
 pub mod check;
 pub mod evaluate;
 pub mod examples;

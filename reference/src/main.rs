@@ -3,7 +3,7 @@
 use reference::batch::{self, Case};
 use reference::generate::{Class, Generator};
 use reference::stats::Stats;
-use reference::{examples, listing, table};
+use reference::{cases, examples, listing, table};
 use std::io::{self, BufWriter, Read, Write};
 use std::process::ExitCode;
 
@@ -136,9 +136,10 @@ fn example_cases() -> Vec<Case> {
 
 fn write_batch(options: &Options) -> Result<(), Fault> {
     let mut generator = options.generator();
-    let mut cases = example_cases();
-    cases.extend((0..options.count()).map(|_| generator.batch_case()));
-    let (bytes, text) = batch::make(&cases);
+    let mut batch = example_cases();
+    batch.extend(cases::all().into_iter().map(|answered| answered.case));
+    batch.extend((0..options.count()).map(|_| generator.batch_case()));
+    let (bytes, text) = batch::make(&batch);
     std::fs::write(options.stdin.as_deref().unwrap_or_default(), bytes)?;
     std::fs::write(options.stdout.as_deref().unwrap_or_default(), text)?;
     Ok(())

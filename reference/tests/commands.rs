@@ -1,6 +1,6 @@
 //! The commands of the binary.
 
-use reference::examples;
+use reference::{cases, examples};
 use std::io::Write;
 use std::process::{Command, Output, Stdio};
 
@@ -70,7 +70,7 @@ fn a_written_batch_is_answered_alike() {
     let (batch, expected) = written("9", "300");
     assert_eq!(run(&["answers"], &batch).stdout, expected);
     let text = String::from_utf8_lossy(&expected);
-    assert_eq!(text.lines().count(), 300 + 32);
+    assert_eq!(text.lines().count(), 32 + cases::all().len() + 300);
     assert!(text.starts_with("accepted 10 10 0310 p\ntrue 3\nrefused 12 0\n"));
 }
 

@@ -4,6 +4,7 @@ mod common;
 
 use common::checked;
 use reference::batch::{evaluate_answer, hex};
+use reference::cases;
 use reference::examples::{all, Example};
 use reference::listing::listing;
 
@@ -81,4 +82,11 @@ fn pairing_of_32_integers_weighs_64_in_one_singleton() {
 fn negations_pass_up_to_38() {
     assert!(checked(&named("38 negations").draft).starts_with("accepted "));
     assert_eq!(checked(&named("39 negations").draft), "refused 8 41");
+}
+
+#[test]
+fn every_further_case_has_its_answer() {
+    for (i, answered) in cases::all().iter().enumerate() {
+        assert_eq!(answered.case.answer(), answered.answer, "case {i}");
+    }
 }

@@ -22,4 +22,5 @@ pub mod TypeLaws
 pub mod VerdictLaws
 pub mod RefusalLaws
 pub mod Rows
+pub mod Cases
 pub mod Tried

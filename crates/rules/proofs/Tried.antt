@@ -1,5 +1,5 @@
 -- Document 01, "Conditions tried": P1 to P12 from the rules themselves, for Check by the typings of each table, for Evaluate
--- by computation; one theorem over the rows.
+-- by computation; one theorem over the rows. Then P7's weight, refusals 3 and 10 of P1, and the types of weight 64 and 65.
 use Prim.Native.Nat.{ℕ, zero, suc, _≤_, _<_}
 use mathlib.Core.List.{List, [], _∷_}
 use mathlib.Core.Option.{Option, none as nothing, some}
@@ -8,23 +8,22 @@ use mathlib.Core.Logic.{inl, inr}
 use native.Mathlib.Omega.{arith}
 use lib.ListN.{length, getD, take}
 use Rattle.rules.specs.Types.{Ty, POW, _⊗_, INTEGER, BOOL, G, weightᵀ, Declared}
-use Rattle.rules.specs.Kinds.{Kind, kindOf, Category, predicate, expression, categoryOf}
+use Rattle.rules.specs.Values.{Value, weight}
+use Rattle.rules.specs.Kinds.{Kind, kindOf, Category, predicate, expression, categoryOf, power}
 use Rattle.rules.specs.Tables.{Table, kindAt}
 use Rattle.rules.specs.Ends.{done, refused}
 use Rattle.rules.specs.Readable.{CategoryIs}
 use Rattle.rules.specs.Reading.{reading}
-use Rattle.rules.specs.Evaluation.{evaluation}
-use Rattle.rules.specs.Verdict.{nodePlace, Place, ObeysKind, Typing, AgreeAt, Only, sheetOf, sheetLength}
+use Rattle.rules.specs.Runs.{gives}
+use Rattle.rules.specs.Operations.{oneValue}
+use Rattle.rules.specs.Verdict.{nodePlace, Place, ObeysKind, Typing, AgreeAt, Only, typeLimit, sheetOf, sheetLength}
 use Rattle.rules.specs.Verdict.{Verdict, unreadable, misfit, clash, several, accepts}
 use Rattle.rules.specs.Safety.{All}
 use Rattle.rules.proofs.TypeLaws.{no-cycle}
 use Rattle.rules.proofs.Rows.{toBytes, wordsOf, sheet, z, pz, ppz, zz, pzz, p1, p2, p3, p4, p5, cardPower, p8, p9, p10, p12}
-use Rattle.rules.proofs.Rows.{Condition, conditions, evaluated, expected}
+use Rattle.rules.proofs.Rows.{_&_, oneToSix, Condition, conditions, RunsAsTold, conditions-run}
+use Rattle.rules.proofs.SetOrder.{all-both}
 use Rattle.rules.proofs.Basics.{absurd01}
-
-infixr 5 _&_
-abbrev _&_ : {A B : Type 0} → A → B → A × B
-a & b = (a, b)
 
 -- What holds of each number below n, one after the other.
 abbrev Below : (ℕ → Type 0) → ℕ → Type 0
@@ -102,9 +101,9 @@ only tb ts d o u = record {
 
 abbrev AllLight : List Ty → Type 0
 AllLight [] = Unit {0}
-AllLight (t ∷ ts) = (weightᵀ t ≤ 64) × AllLight ts
+AllLight (t ∷ ts) = (weightᵀ t ≤ typeLimit) × AllLight ts
 
-light-types : (ts : List Ty) → AllLight ts → (p : ℕ) → weightᵀ (types ts p) ≤ 64
+light-types : (ts : List Ty) → AllLight ts → (p : ℕ) → weightᵀ (types ts p) ≤ typeLimit
 light-types [] h p = omega arith
 light-types (t ∷ ts) h zero = h .0
 light-types (t ∷ ts) h (suc p) = light-types ts (h .1) p
@@ -241,17 +240,24 @@ p12-checks = accepted p12 refl
     (INTEGER, BOOL, tt, refl & refl & tt, tt) & tt)
     p12-alone
 
--- Check and Evaluate say of a condition what its row tells.
-abbrev pub Right : Condition → Type 0
-Right c = Verdict (toBytes (c .row .words)) (c .room) (c .checks) × (evaluated (c .row) ≡ expected (c .row))
+-- Check's answer for a condition is what its row tells.
+abbrev pub ChecksAsTold : Condition → Type 0
+ChecksAsTold c = Verdict (toBytes (c .words)) (c .room) (c .checks)
 
--- Each of P1 to P12 is what the rules give.
-pub conditions-right : All Right conditions
-unfolding evaluation
-conditions-right =
-    (p1-checks, refl) & (p2-checks, refl) & (p3-checks, refl) & (p4-checks, refl) & (p5-checks, refl) &
-    (power-checks 5 refl, refl) & (power-checks 6 refl, refl) & (p8-checks, refl) & (p9-checks, refl) &
-    (p10-checks, refl) & (p10-checks, refl) & (p12-checks, refl) & tt
+conditions-check : All ChecksAsTold conditions
+unfolding reading
+conditions-check =
+    p1-checks & p2-checks & p3-checks & p4-checks & p5-checks & power-checks 5 refl & power-checks 6 refl & p8-checks & p9-checks &
+    p10-checks & p10-checks & p12-checks & tt
+
+-- Each of P1 to P12 is what the rules give, for Check and for Evaluate.
+pub conditions-right : All (λ c. ChecksAsTold c × RunsAsTold c) conditions
+conditions-right = all-both ChecksAsTold RunsAsTold conditions conditions-check conditions-run
+
+-- The value that P7's node 3 would have weighs 257.
+pub p7-weight : (v : Value) × (oneValue power oneToSix ≡ gives v) × (weight v ≡ 257)
+unfolding oneValue
+p7-weight = (_, refl, refl)
 
 -- P1 with a sheet that is a byte short, and without its last byte.
 pub p1-misfit : Verdict (bytesOf p1) 255 (refused 10 0)
@@ -267,6 +273,6 @@ abbrev balanced : ℕ → Ty
 balanced zero = INTEGER
 balanced (suc n) = balanced n ⊗ balanced n
 
--- Of 32 integers: in one singleton the type weighs 64, in two 65.
-pub pairing-weights : (weightᵀ (POW (balanced 5)) ≡ 64) × (weightᵀ (POW (POW (balanced 5))) ≡ 65)
-pairing-weights = (refl, refl)
+-- Of 32 integers: in one singleton the type weighs 64, which is not too much, in two 65, which is.
+pub pairing-weights : (weightᵀ (POW (balanced 5)) ≡ 64) × (64 ≤ typeLimit) × (weightᵀ (POW (POW (balanced 5))) ≡ 65) × (typeLimit < 65)
+pairing-weights = (refl, omega arith, refl, omega arith)

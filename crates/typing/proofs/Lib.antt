@@ -9,4 +9,4 @@ pub mod Verdicts
 pub mod VerdictRight
 pub mod SameProblem
 pub mod Examples
-pub mod Conditions
+pub mod RuleChecks

@@ -1,0 +1,372 @@
+//! Cases beyond P1 to P12, each with Evaluate's answer: damaged tables,
+//! values buffers, and what the kinds give. The batch has them after the
+//! conditions of document 01. Nodes stand as in the document: kind, a, b, c.
+
+use crate::batch::Case;
+use crate::build::Draft;
+
+pub struct Answered {
+    pub case: Case,
+    pub answer: &'static str,
+}
+
+type Node = [u32; 4];
+
+fn one(kind: u32, a: u32) -> Node {
+    [kind, a, 0, 0]
+}
+
+fn two(kind: u32, a: u32, b: u32) -> Node {
+    [kind, a, b, 0]
+}
+
+fn int(n: i32) -> Node {
+    one(23, n as u32)
+}
+
+const TRUE: Node = [24, 1, 0, 0];
+const EMPTY: Node = [26, 0, 0, 0];
+
+/// A cell as two words, its payload and its tag.
+const ELEMENT_1: [u32; 2] = [1, 3];
+
+fn bytes(words: &[u32]) -> Vec<u8> {
+    words.iter().flat_map(|word| word.to_le_bytes()).collect()
+}
+
+fn table(sizes: &[u32], flags: &[u32], nodes: &[Node]) -> Vec<u8> {
+    let draft = Draft {
+        sizes: sizes.to_vec(),
+        flags: flags.to_vec(),
+        nodes: nodes.to_vec(),
+    };
+    draft.bytes()
+}
+
+fn closed(nodes: &[Node]) -> Vec<u8> {
+    table(&[], &[], nodes)
+}
+
+fn answered(table: Vec<u8>, values: Vec<u8>, budget: u32, answer: &'static str) -> Answered {
+    let case = Case::Evaluate {
+        table,
+        values,
+        budget,
+    };
+    Answered { case, answer }
+}
+
+/// Without values, budget 100.
+fn plain(table: Vec<u8>, answer: &'static str) -> Answered {
+    answered(table, Vec::new(), 100, answer)
+}
+
+fn with_cells(table: Vec<u8>, words: &[u32], answer: &'static str) -> Answered {
+    answered(table, bytes(words), 100, answer)
+}
+
+pub fn all() -> Vec<Answered> {
+    let mut found = damaged();
+    found.extend(buffers());
+    found.extend(predicates());
+    found.extend(operations());
+    found
+}
+
+const P1: [u32; 22] = [
+    1, 1, 1, 3, 32, 36, 40, 88, 2, 0, 20, 0, 0, 0, 21, 0, 0, 0, 7, 0, 1, 0,
+];
+
+/// P1 with words changed, shortened or lengthened: refusals 1 to 7 and 9.
+fn damaged() -> Vec<Answered> {
+    let spoilt = |i: usize, word: u32, answer| {
+        let mut words = P1;
+        words[i] = word;
+        with_cells(bytes(&words), &ELEMENT_1, answer)
+    };
+    let longer: Vec<u32> = P1.iter().copied().chain([0]).collect();
+    vec![
+        spoilt(0, 2, "refused 1 0 0"),
+        with_cells(bytes(&P1[..7]), &ELEMENT_1, "refused 1 0 0"),
+        spoilt(1, 17, "refused 2 0 0"),
+        spoilt(2, 33, "refused 2 0 0"),
+        spoilt(3, 0, "refused 2 0 0"),
+        spoilt(3, 513, "refused 2 0 0"),
+        spoilt(4, 36, "refused 3 0 0"),
+        spoilt(5, 40, "refused 3 0 0"),
+        spoilt(6, 44, "refused 3 0 0"),
+        spoilt(7, 92, "refused 3 0 0"),
+        with_cells(bytes(&longer), &ELEMENT_1, "refused 3 0 0"),
+        spoilt(8, 0, "refused 4 0 0"),
+        spoilt(8, 33, "refused 4 0 0"),
+        spoilt(9, 2, "refused 5 0 0"),
+        // An unknown kind, no such identifier, a nonzero unused field, a
+        // child that is not lower, one of the wrong category.
+        spoilt(10, 12, "refused 6 0 0"),
+        spoilt(11, 1, "refused 6 0 0"),
+        spoilt(17, 1, "refused 6 1 0"),
+        spoilt(20, 2, "refused 6 2 0"),
+        spoilt(18, 1, "refused 6 2 0"),
+        // An expression last, and an identifier bound without a binder.
+        spoilt(18, 28, "refused 7 2 0"),
+        spoilt(9, 1, "refused 9 0 0"),
+    ]
+}
+
+/// P1 at other values: refusal 14, and values that pass it and then are no
+/// elements, which is refusal 15.
+fn buffers() -> Vec<Answered> {
+    let p1 = |words: &[u32], answer| with_cells(bytes(&P1), words, answer);
+    let three_pairs = |tag: u32, payload: u32, answer| {
+        // {(1,{1}),(2,∅),(3,{x})} for a cell x.
+        let mut words = vec![3, 5, 0, 4, 1, 1, 1, 5, 1, 1];
+        words.extend([0, 4, 2, 1, 0, 5, 0, 4, 3, 1, 1, 5, payload, tag]);
+        p1(&words, answer)
+    };
+    let mut heavy = vec![256, 5];
+    heavy.extend((0..256).flat_map(|n| [n, 1]));
+    let cut = bytes(&ELEMENT_1)[..7].to_vec();
+    let minus_1 = u32::MAX;
+    vec![
+        p1(&[], "refused 14 0 0"),
+        answered(bytes(&P1), cut, 100, "refused 14 0 0"),
+        // An unknown tag, a nonzero byte behind the tag, a truth 2, a pair
+        // with a payload.
+        p1(&[1, 6], "refused 14 0 0"),
+        p1(&[1, 259], "refused 14 0 0"),
+        p1(&[2, 2], "refused 14 0 0"),
+        p1(&[1, 4, 1, 1, 1, 1], "refused 14 0 0"),
+        // {2,1}, {1,1}, {0,−1}, and {−1,0}, which rises.
+        p1(&[2, 5, 2, 1, 1, 1], "refused 14 0 0"),
+        p1(&[2, 5, 1, 1, 1, 1], "refused 14 0 0"),
+        p1(&[2, 5, 0, 1, minus_1, 1], "refused 14 0 0"),
+        p1(&[2, 5, minus_1, 1, 0, 1], "refused 15 2 3"),
+        // Members without a common type, and with one.
+        p1(&[2, 5, 1, 1, 1, 2], "refused 14 0 0"),
+        three_pairs(2, 1, "refused 14 0 0"),
+        three_pairs(1, 2, "refused 15 2 3"),
+        p1(&heavy, "refused 14 0 0"),
+    ]
+}
+
+fn predicates() -> Vec<Answered> {
+    // (1=m) with a kind and (1=TRUE).
+    let partly = |kind, m, answer| {
+        let nodes = [
+            int(1),
+            int(m),
+            two(6, 0, 1),
+            int(1),
+            TRUE,
+            two(6, 3, 4),
+            two(kind, 2, 5),
+        ];
+        plain(closed(&nodes), answer)
+    };
+    // The quantifier over x∈1..3 with a test of x and n.
+    let over_range = |kind, test, n, answer| {
+        let nodes = [
+            int(1),
+            int(3),
+            two(41, 0, 1),
+            one(20, 0),
+            int(n),
+            two(test, 3, 4),
+            [kind, 0, 2, 5],
+        ];
+        plain(table(&[], &[1], &nodes), answer)
+    };
+    let at_most = |m, n, answer| plain(closed(&[int(m), int(n), two(9, 0, 1)]), answer);
+    // ∀x∈1·1=TRUE.
+    let no_range = [int(1), int(1), TRUE, two(6, 1, 2), [10, 0, 0, 3]];
+    // ∀x∈{x}·1=1: used in its own range.
+    let own_range = [
+        one(20, 0),
+        one(27, 0),
+        int(1),
+        int(1),
+        two(6, 2, 3),
+        [10, 0, 1, 4],
+    ];
+    // ∀x∈1..2·x≤y, where x has no value in the buffer.
+    let bound_first = [
+        int(1),
+        int(2),
+        two(41, 0, 1),
+        one(20, 0),
+        one(20, 1),
+        two(9, 3, 4),
+        [10, 0, 2, 5],
+    ];
+    let p4 = || closed(&[int(1), TRUE, two(6, 0, 1)]);
+    let p6 = || {
+        closed(&[
+            int(1),
+            int(5),
+            two(41, 0, 1),
+            one(33, 2),
+            one(38, 3),
+            int(32),
+            two(6, 4, 5),
+        ])
+    };
+    vec![
+        partly(1, 1, "refused 15 5 7"),
+        partly(2, 2, "refused 15 5 7"),
+        partly(3, 1, "refused 15 5 7"),
+        partly(5, 2, "refused 15 5 7"),
+        partly(5, 1, "refused 15 5 7"),
+        over_range(10, 9, 2, "false 13"),
+        over_range(11, 6, 2, "true 10"),
+        plain(table(&[], &[1], &no_range), "refused 15 4 2"),
+        plain(table(&[], &[1], &own_range), "refused 9 0 0"),
+        with_cells(table(&[], &[1, 0], &bound_first), &[2, 1], "true 10"),
+        at_most(-1, 0, "true 3"),
+        at_most(0, -1, "false 3"),
+        // No budget, and one that ends before the last node.
+        answered(p4(), Vec::new(), 0, "refused 19 2 0"),
+        answered(p6(), Vec::new(), 6, "refused 19 5 6"),
+        answered(p6(), Vec::new(), 7, "true 7"),
+    ]
+}
+
+fn operations() -> Vec<Answered> {
+    // {(1,5),(2,6)} as f: f(e)=6 for a node e, and dom(f) or ran(f) is m..n.
+    let two_pairs = [2, 5, 0, 4, 1, 1, 5, 1, 0, 4, 2, 1, 6, 1];
+    let applied = |e, answer| {
+        let nodes = [one(20, 0), e, two(37, 0, 1), int(6), two(6, 2, 3)];
+        with_cells(table(&[], &[0], &nodes), &two_pairs, answer)
+    };
+    let half = |kind, m, n| {
+        let nodes = [
+            one(20, 0),
+            one(kind, 0),
+            int(m),
+            int(n),
+            two(41, 2, 3),
+            two(6, 1, 4),
+        ];
+        with_cells(table(&[], &[0], &nodes), &two_pairs, "true 6")
+    };
+    // The test of 1..m and 1..n.
+    let ranges = |test, m, n, answer| {
+        let nodes = [
+            int(1),
+            int(m),
+            two(41, 0, 1),
+            int(1),
+            int(n),
+            two(41, 3, 4),
+            two(test, 2, 5),
+        ];
+        plain(closed(&nodes), answer)
+    };
+    let arithmetic = |kind, m, n, i, answer| {
+        let nodes = [int(m), int(n), two(kind, 0, 1), int(i), two(6, 2, 3)];
+        plain(closed(&nodes), answer)
+    };
+    // (m,n)∈(1..2)×(1..1).
+    let in_product = |m, n, answer| {
+        let nodes = [
+            int(m),
+            int(n),
+            two(28, 0, 1),
+            int(1),
+            int(2),
+            two(41, 3, 4),
+            int(1),
+            int(1),
+            two(41, 6, 7),
+            two(32, 5, 8),
+            two(7, 2, 9),
+        ];
+        plain(closed(&nodes), answer)
+    };
+    // choice({0}∪{−1})=−1.
+    let least = [
+        int(0),
+        one(27, 0),
+        int(-1),
+        one(27, 2),
+        two(29, 1, 3),
+        one(43, 4),
+        int(-1),
+        two(6, 5, 6),
+    ];
+    // card({x∈1..3|x=2})=1.
+    let chosen = [
+        int(1),
+        int(3),
+        two(41, 0, 1),
+        one(20, 0),
+        int(2),
+        two(6, 3, 4),
+        [34, 0, 2, 5],
+        one(38, 6),
+        int(1),
+        two(6, 7, 8),
+    ];
+    // {1}∪{TRUE}={1}: unlike sets.
+    let unlike = [
+        int(1),
+        one(27, 0),
+        TRUE,
+        one(27, 2),
+        two(29, 1, 3),
+        int(1),
+        one(27, 5),
+        two(6, 4, 6),
+    ];
+    // {TRUE}∪∅={TRUE}: ∅ is like each set.
+    let like = [
+        TRUE,
+        one(27, 0),
+        EMPTY,
+        two(29, 1, 2),
+        TRUE,
+        one(27, 4),
+        two(6, 3, 5),
+    ];
+    // 1..2∈POW(1..3).
+    let in_power = [
+        int(1),
+        int(2),
+        two(41, 0, 1),
+        int(1),
+        int(3),
+        two(41, 3, 4),
+        one(33, 5),
+        two(7, 2, 6),
+    ];
+    // choice(1)=1, card(G0)=2, element 1 of G0 is in G0, elements of G0 and
+    // G1 are unlike, 2147483647+TRUE=0: 15 comes before 17.
+    let no_set = [int(1), one(43, 0), int(1), two(6, 1, 2)];
+    let given = [one(21, 0), one(38, 0), int(2), two(6, 1, 2)];
+    let element = [two(22, 0, 1), one(21, 0), two(7, 0, 1)];
+    let elements = [two(22, 0, 0), two(22, 1, 0), two(6, 0, 1)];
+    let no_sum = [int(i32::MAX), TRUE, two(39, 0, 1), int(0), two(6, 2, 3)];
+    vec![
+        applied(int(1), "false 5"),
+        applied(int(3), "refused 16 2 4"),
+        applied(TRUE, "refused 15 2 4"),
+        half(35, 1, 2),
+        half(36, 5, 6),
+        ranges(6, 2, 3, "false 7"),
+        ranges(6, 256, 1, "refused 18 2 4"),
+        in_product(2, 1, "true 11"),
+        in_product(1, 2, "false 11"),
+        arithmetic(40, 2, 3, -1, "true 5"),
+        arithmetic(40, i32::MIN, 1, 0, "refused 17 2 4"),
+        arithmetic(39, i32::MIN, 0, i32::MIN, "true 5"),
+        plain(closed(&least), "true 8"),
+        plain(closed(&no_set), "refused 15 1 3"),
+        plain(table(&[], &[1], &chosen), "true 16"),
+        plain(closed(&unlike), "refused 15 4 6"),
+        plain(closed(&like), "true 7"),
+        plain(closed(&in_power), "true 8"),
+        plain(table(&[2], &[], &given), "true 4"),
+        plain(table(&[2], &[], &element), "true 3"),
+        plain(table(&[1, 1], &[], &elements), "refused 15 2 3"),
+        plain(closed(&no_sum), "refused 15 2 4"),
+    ]
+}
