@@ -90,17 +90,19 @@ none-above : (k f n : ℕ) (ns : List ℕ) → f + n ≤ k → NoneOf k ns → N
 none-above k f zero ns l h = h
 none-above k f (suc n) ns l h = (none-above k f n ns (omega arith) h, λ e. omega arith)
 
-none-of-both : (k f n : ℕ) (ns : List ℕ) → NoneOf k (codesFrom f n []) → NoneOf k ns → NoneOf k (codesFrom f n ns)
-none-of-both k f zero ns g h = h
-none-of-both k f (suc n) ns g h = (none-of-both k f n ns (g .0) h, g .1)
+-- The predicates whose rules do not speak of types, and the codes below, between and above those of the kinds.
+module _ (k : ℕ) where
+  pub plan-low : k ≤ 11 → NoneOf k (codesFrom 6 6 []) → Digits k (ascii 0)
+  plan-low l h = plan-else k (none-below k 20 24 (codesFrom 6 6 []) (omega arith) h)
 
-pub plan-low : (k : ℕ) → k < 20 → NoneOf k (codesFrom 6 6 []) → Digits k (ascii 0)
-plan-low k l h = plan-else k (none-below k 20 24 (codesFrom 6 6 []) l h)
+  pub plan-below : k < 1 → Digits k (ascii 0)
+  plan-below h = plan-low (omega arith) (none-below k 6 6 [] (omega arith) tt)
 
-pub plan-high : (k : ℕ) → 35 ≤ k → NoneOf k (codesFrom 35 9 []) → Digits k (ascii 0)
-plan-high k l h = plan-else k
-    (none-of-both k 35 9 (codesFrom 20 15 (codesFrom 6 6 [])) h
-    (none-above k 20 15 (codesFrom 6 6 []) l (none-above k 6 6 [] (omega arith) tt)))
+  pub plan-between : 12 ≤ k → k < 20 → Digits k (ascii 0)
+  plan-between l h = plan-else k (none-below k 20 24 (codesFrom 6 6 []) h (none-above k 6 6 [] l tt))
+
+  pub plan-above : 44 ≤ k → Digits k (ascii 0)
+  plan-above l = plan-else k (none-above k 20 24 (codesFrom 6 6 []) l (none-above k 6 6 [] (omega arith) tt))
 
 -- The given sets in a plan are the one in field a.
 abbrev pub withSet : ℕ → Form → Form
