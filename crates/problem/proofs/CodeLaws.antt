@@ -14,14 +14,7 @@ use Rattle.typing.specs.Plan.{Form, openᶠ, atomᶠ, powᶠ, prodᶠ, Plan}
 use Rattle.problem.specs.Codes.{refCode, formKind, formLeft, formRight, formsOf, formAt, pairAt, digits, CodeOf, Digits}
 use Rattle.typing.specs.Equations.{planOf}
 use Rattle.problem.specs.Entries.{side}
-use Rattle.typing.proofs.RefLaws.{few-slots, few-equations}
-
--- What holds of every kind's plan, by computation over the list of kinds.
-by-kinds : {A : Type 0} (f g : Option Kind → A) → f nothing ≡ g nothing → map f kinds ≡ map g kinds → (k : ℕ) →
-    f (kindOf k) ≡ g (kindOf k)
-unfolding kindOf
-by-kinds f g e h k =
-    sym (List·getD-map f kinds k nothing) ∙ ap (λ l. getD l k (f nothing)) h ∙ rw e (List·getD-map g kinds k nothing)
+use Rattle.typing.proofs.RefLaws.{by-kinds, few-slots, few-equations}
 
 -- The plan of the kind with code n in ASCII digits, which are the same whatever stands in field a.
 abbrev pub ascii : ℕ → List ℕ
@@ -148,7 +141,7 @@ module _ (p : Plan) where
   side-digits (suc (suc i)) h = absurd (omega arith)
 
 pub slots-few : (k c : ℕ) → CodeOf k 0 c → c ≤ 5
-slots-few k c e = omega (arith, e 0, slots-digit (planOf (kindOf k) 0), few-slots (kindOf k) 0)
+slots-few k c e = omega (arith, e 0, slots-digit (planOf (kindOf k) 0), few-slots k 0)
 
 pub equations-few : (k c : ℕ) → CodeOf k 19 c → c ≤ 2
-equations-few k c e = omega (arith, e 0, equations-digit (planOf (kindOf k) 0), few-equations (kindOf k) 0)
+equations-few k c e = omega (arith, e 0, equations-digit (planOf (kindOf k) 0), few-equations k 0)
