@@ -63,11 +63,11 @@ use Rattle.evaluators.proofs.+each_chosen+each_member+eval_bool+eval_bo
 use Rattle.evaluators.proofs.+each_chosen+each_member+eval_bool+eval_both+eval_expr+eval_join+eval_not+eval_one+eval_pred+eval_quant+eval_select+eval_test+eval_two.Proof.EachMember.{each-member-Inv-loop, each-member-μ-loop, each-member-field-requires, each-member-field-requires-2, each-member-loop-holds, each-member-cast-inner, each-member-mul-inner, each-member-array-write-inner, each-member-eval-pred-requires, each-member-enum-known-held, each-member-enum-told, each-member-same-length, each-member-returns, each-member-same-length-2, each-member-returns-2, each-member-end-of-requires, each-member-sub-left, each-member-loop-less, each-member-loop-again, each-member-same-length-3, each-member-returns-3}
 use Rattle.evaluators.proofs.+each_chosen+each_member+eval_bool+eval_both+eval_expr+eval_join+eval_not+eval_one+eval_pred+eval_quant+eval_select+eval_test+eval_two.Proof.EvalBool.{eval-bool-field-requires, eval-bool-add-eval-pred, eval-bool-eval-pred-requires, eval-bool-enum-known-k, eval-bool-enum-known-yes, eval-bool-cast-put-cell, eval-bool-add-put-cell, eval-bool-put-cell-requires, eval-bool-same-length, eval-bool-returns, eval-bool-same-length-2, eval-bool-returns-2}
 use Rattle.evaluators.proofs.+each_chosen+each_member+eval_bool+eval_both+eval_expr+eval_join+eval_not+eval_one+eval_pred+eval_quant+eval_select+eval_test+eval_two.Proof.EvalBoth.{eval-both-field-requires, eval-both-eval-expr-requires, eval-both-enum-known-k, eval-both-enum-known-at, eval-both-field-requires-2, eval-both-eval-expr-requires-2, eval-both-enum-known-k-2, eval-both-enum-known-other, eval-both-same-length, eval-both-returns, eval-both-same-length-2, eval-both-returns-2, eval-both-same-length-3, eval-both-returns-3}
-use Rattle.evaluators.proofs.+each_chosen+each_member+eval_bool+eval_both+eval_expr+eval_join+eval_not+eval_one+eval_pred+eval_quant+eval_select+eval_test+eval_two.Proof.EvalExpr.{eval-expr-returns, eval-expr-kind-requires, eval-expr-add-eval-name, eval-expr-eval-name-requires, eval-expr-eval-bool-requires, eval-expr-eval-select-requires, eval-expr-add-eval-leaf, eval-expr-eval-leaf-requires, eval-expr-eval-two-requires, eval-expr-eval-one-requires, eval-expr-returns-2, eval-expr-same-length, eval-expr-returns-3, eval-expr-same-length-2, eval-expr-returns-4, eval-expr-same-length-3, eval-expr-returns-5, eval-expr-same-length-4, eval-expr-returns-6, eval-expr-same-length-5, eval-expr-returns-7}
+use Rattle.evaluators.proofs.+each_chosen+each_member+eval_bool+eval_both+eval_expr+eval_join+eval_not+eval_one+eval_pred+eval_quant+eval_select+eval_test+eval_two.Proof.EvalExpr.{eval-expr-returns, eval-expr-kind-requires, eval-expr-add-eval-name, eval-expr-eval-name-requires, eval-expr-eval-bool-requires, eval-expr-eval-select-requires, eval-expr-add-eval-leaf, eval-expr-eval-leaf-requires, eval-expr-eval-two-requires, eval-expr-eval-one-requires, eval-expr-returns-2, eval-expr-same-length, eval-expr-returns-3, eval-expr-same-length-2, eval-expr-returns-4, eval-expr-same-length-3, eval-expr-returns-5, eval-expr-same-length-4, eval-expr-returns-6, eval-expr-same-length-5, eval-expr-returns-7, eval-expr-returns-8, eval-expr-returns-9}
 use Rattle.evaluators.proofs.+each_chosen+each_member+eval_bool+eval_both+eval_expr+eval_join+eval_not+eval_one+eval_pred+eval_quant+eval_select+eval_test+eval_two.Proof.EvalJoin.{eval-join-field-requires, eval-join-add-eval-pred, eval-join-eval-pred-requires, eval-join-enum-known-first, eval-join-enum-told, eval-join-same-length, eval-join-returns, eval-join-decides-requires, eval-join-same-length-2, eval-join-returns-2, eval-join-field-requires-2, eval-join-eval-pred-requires-2, eval-join-enum-known-second, eval-join-enum-told-2, eval-join-same-length-3, eval-join-returns-3, eval-join-joined-requires, eval-join-same-length-4, eval-join-returns-4}
 use Rattle.evaluators.proofs.+each_chosen+each_member+eval_bool+eval_both+eval_expr+eval_join+eval_not+eval_one+eval_pred+eval_quant+eval_select+eval_test+eval_two.Proof.EvalNot.{eval-not-field-requires, eval-not-add-eval-pred, eval-not-eval-pred-requires, eval-not-enum-known-first, eval-not-enum-told, eval-not-same-length, eval-not-returns, eval-not-same-length-2, eval-not-returns-2}
 use Rattle.evaluators.proofs.+each_chosen+each_member+eval_bool+eval_both+eval_expr+eval_join+eval_not+eval_one+eval_pred+eval_quant+eval_select+eval_test+eval_two.Proof.EvalOne.{eval-one-field-requires, eval-one-add-eval-expr, eval-one-eval-expr-requires, eval-one-enum-known-formed, eval-one-enum-told, eval-one-same-length, eval-one-returns, eval-one-one-requires, eval-one-settle-requires, eval-one-same-length-2, eval-one-returns-2}
-use Rattle.evaluators.proofs.+each_chosen+each_member+eval_bool+eval_both+eval_expr+eval_join+eval_not+eval_one+eval_pred+eval_quant+eval_select+eval_test+eval_two.Proof.EvalPred.{eval-pred-returns, eval-pred-kind-requires, eval-pred-eval-not-requires, eval-pred-eval-test-requires, eval-pred-eval-quant-requires, eval-pred-eval-join-requires, eval-pred-same-length, eval-pred-returns-2, eval-pred-same-length-2, eval-pred-returns-3, eval-pred-same-length-3, eval-pred-returns-4, eval-pred-same-length-4, eval-pred-returns-5}
+use Rattle.evaluators.proofs.+each_chosen+each_member+eval_bool+eval_both+eval_expr+eval_join+eval_not+eval_one+eval_pred+eval_quant+eval_select+eval_test+eval_two.Proof.EvalPred.{eval-pred-returns, eval-pred-kind-requires, eval-pred-eval-not-requires, eval-pred-eval-test-requires, eval-pred-eval-quant-requires, eval-pred-eval-join-requires, eval-pred-same-length, eval-pred-returns-2, eval-pred-same-length-2, eval-pred-returns-3, eval-pred-same-length-3, eval-pred-returns-4, eval-pred-same-length-4, eval-pred-returns-5, eval-pred-returns-6, eval-pred-returns-7}
 use Rattle.evaluators.proofs.+each_chosen+each_member+eval_bool+eval_both+eval_expr+eval_join+eval_not+eval_one+eval_pred+eval_quant+eval_select+eval_test+eval_two.Proof.EvalQuant.{eval-quant-field-requires, eval-quant-add-eval-expr, eval-quant-eval-expr-requires, eval-quant-enum-known-k, eval-quant-enum-known-at, eval-quant-range-of-requires, eval-quant-enum-told, eval-quant-enum-known-count, eval-quant-add-each-member, eval-quant-each-member-requires, eval-quant-same-length, eval-quant-returns, eval-quant-same-length-2, eval-quant-returns-2, eval-quant-same-length-3, eval-quant-returns-3}
 use Rattle.evaluators.proofs.+each_chosen+each_member+eval_bool+eval_both+eval_expr+eval_join+eval_not+eval_one+eval_pred+eval_quant+eval_select+eval_test+eval_two.Proof.EvalSelect.{eval-select-field-requires, eval-select-add-eval-expr, eval-select-eval-expr-requires, eval-select-enum-known-formed, eval-select-enum-told, eval-select-same-length, eval-select-returns, eval-select-range-of-requires, eval-select-enum-known-range, eval-select-enum-told-2, eval-select-same-length-2, eval-select-returns-2, eval-select-add-each-chosen, eval-select-each-chosen-requires, eval-select-enum-known-chosen, eval-select-enum-told-3, eval-select-same-length-3, eval-select-returns-3, eval-select-settle-requires, eval-select-same-length-4, eval-select-returns-4}
 use Rattle.evaluators.proofs.+each_chosen+each_member+eval_bool+eval_both+eval_expr+eval_join+eval_not+eval_one+eval_pred+eval_quant+eval_select+eval_test+eval_two.Proof.EvalTest.{eval-test-add-eval-both, eval-test-eval-both-requires, eval-test-enum-known-k, eval-test-enum-known-a, eval-test-test-requires, eval-test-enum-told, eval-test-enum-known-yes, eval-test-same-length, eval-test-returns, eval-test-same-length-2, eval-test-returns-2, eval-test-same-length-3, eval-test-returns-3}
@@ -241,7 +241,9 @@ pub +each-chosen+each-member+eval-bool+eval-both+eval-expr+eval-join+eval-not+ev
     (eval-expr-same-length-4 t)
     (eval-expr-returns-6 t)
     (eval-expr-same-length-5 t)
-    (eval-expr-returns-7 t))
+    (eval-expr-returns-7 t)
+    (eval-expr-returns-8 t)
+    (eval-expr-returns-9 t))
     (λ t. eval-join-lts.spec (
       field-reads.Asked,
       field-reads.Learnt,
@@ -340,7 +342,9 @@ pub +each-chosen+each-member+eval-bool+eval-both+eval-expr+eval-join+eval-not+ev
     (eval-pred-same-length-3 t)
     (eval-pred-returns-4 t)
     (eval-pred-same-length-4 t)
-    (eval-pred-returns-5 t))
+    (eval-pred-returns-5 t)
+    (eval-pred-returns-6 t)
+    (eval-pred-returns-7 t))
     (λ t. eval-quant-lts.spec (
       field-reads.Asked,
       field-reads.Learnt,

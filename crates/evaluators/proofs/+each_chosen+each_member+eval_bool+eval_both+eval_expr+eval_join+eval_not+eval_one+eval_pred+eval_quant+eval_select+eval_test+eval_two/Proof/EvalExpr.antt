@@ -13,7 +13,7 @@ use Rattle.evaluators.proofs.eval_name.Reads as eval-name-reads
 use Rattle.table.proofs.kind.Reads as kind-reads
 use Rattle.evaluators.proofs.+each_chosen+each_member+eval_bool+eval_both+eval_expr+eval_join+eval_not+eval_one+eval_pred+eval_quant+eval_select+eval_test+eval_two.Proof.Base.{eval-bool-below, eval-expr-at, eval-one-below, eval-select-below, eval-two-below}
 use mathlib.Core.Logic.{⊎-elim}
-use Rattle.evaluators.proofs.DispatchLaws.{spent-expr, counted, one-keys, one-range, two-key, two-low, two-high, name-ready, name-answer, leaf-node, leaf-answer}
+use Rattle.evaluators.proofs.DispatchLaws.{spent-expr, counted, expression-code, one-keys, one-range, two-key, two-low, two-high, name-ready, name-answer, leaf-node, leaf-answer}
 
 pub eval-expr-returns : (t : ℕ) → eval-expr-lts.Need-returns (
   kind-reads.Asked,
@@ -70,7 +70,7 @@ pub eval-expr-add-eval-name : (t : ℕ) → eval-expr-lts.Need-add-eval-name (
   eval-one.Post,
 ) (eval-expr-at t) eval-expr.Post
 eval-expr-add-eval-name t c =
-    count-fits (counted (c .before .before .before .before .before .pre .1 .0) _ (c .before .before .if1 .left) (c .before .kind .ensures) .spent) (c .before .before .before .before .before .fits .budget)
+    count-fits (counted (c .before .before .before .before .before .before .before .pre .1 .0) _ (c .before .before .before .before .if1 .left) (c .before .before .before .kind .ensures) .spent) (c .before .before .before .before .before .before .before .fits .budget)
 
 pub eval-expr-eval-name-requires : (t : ℕ) → eval-expr-lts.Need-eval-name-requires (
   kind-reads.Asked,
@@ -89,8 +89,8 @@ pub eval-expr-eval-name-requires : (t : ℕ) → eval-expr-lts.Need-eval-name-re
   eval-one.Post,
 ) (eval-expr-at t) eval-expr.Post
 eval-expr-eval-name-requires t c κs =
-    let c1 = c .before .before .before .before .before in
-    let v = counted (c1 .pre .1 .0) _ (c .before .before .if1 .left) (c .before .kind .ensures) in
+    let c1 = c .before .before .before .before .before .before .before in
+    let v = counted (c1 .pre .1 .0) _ (c .before .before .before .before .if1 .left) (c .before .before .before .kind .ensures) in
     name-ready v (c .match .keys1)
 
 pub eval-expr-eval-bool-requires : (t : ℕ) → eval-expr-lts.Need-eval-bool-requires (
@@ -110,8 +110,8 @@ pub eval-expr-eval-bool-requires : (t : ℕ) → eval-expr-lts.Need-eval-bool-re
   eval-one.Post,
 ) (eval-expr-at t) eval-expr.Post
 eval-expr-eval-bool-requires t c κs =
-    let c1 = c .before .before .before .before .before .before in
-    let v = counted (c1 .pre .1 .0) _ (c .before .before .before .if1 .left) (c .before .before .kind .ensures) in
+    let c1 = c .before .before .before .before .before .before .before .before in
+    let v = counted (c1 .pre .1 .0) _ (c .before .before .before .before .before .if1 .left) (c .before .before .before .before .kind .ensures) in
     (omega (arith, c1 .pre .0), (v, c .before .match .keys2))
 
 pub eval-expr-eval-select-requires : (t : ℕ) → eval-expr-lts.Need-eval-select-requires (
@@ -131,8 +131,8 @@ pub eval-expr-eval-select-requires : (t : ℕ) → eval-expr-lts.Need-eval-selec
   eval-one.Post,
 ) (eval-expr-at t) eval-expr.Post
 eval-expr-eval-select-requires t c κs =
-    let c1 = c .before .before .before .before .before .before in
-    let v = counted (c1 .pre .1 .0) _ (c .before .before .before .if1 .left) (c .before .before .kind .ensures) in
+    let c1 = c .before .before .before .before .before .before .before .before in
+    let v = counted (c1 .pre .1 .0) _ (c .before .before .before .before .before .if1 .left) (c .before .before .before .before .kind .ensures) in
     (omega (arith, c1 .pre .0), (v, c .before .match .keys5))
 
 pub eval-expr-add-eval-leaf : (t : ℕ) → eval-expr-lts.Need-add-eval-leaf (
@@ -152,7 +152,7 @@ pub eval-expr-add-eval-leaf : (t : ℕ) → eval-expr-lts.Need-add-eval-leaf (
   eval-one.Post,
 ) (eval-expr-at t) eval-expr.Post
 eval-expr-add-eval-leaf t c =
-    count-fits (counted (c .before .before .before .before .before .before .before .pre .1 .0) _ (c .before .before .before .before .if1 .left) (c .before .before .before .kind .ensures) .spent) (c .before .before .before .before .before .before .before .fits .budget)
+    count-fits (counted (c .before .before .before .before .before .before .before .before .before .pre .1 .0) _ (c .before .before .before .before .before .before .if1 .left) (c .before .before .before .before .before .kind .ensures) .spent) (c .before .before .before .before .before .before .before .before .before .fits .budget)
 
 pub eval-expr-eval-leaf-requires : (t : ℕ) → eval-expr-lts.Need-eval-leaf-requires (
   kind-reads.Asked,
@@ -171,12 +171,12 @@ pub eval-expr-eval-leaf-requires : (t : ℕ) → eval-expr-lts.Need-eval-leaf-re
   eval-one.Post,
 ) (eval-expr-at t) eval-expr.Post
 eval-expr-eval-leaf-requires t c κs =
-    let c1 = c .before .before .before .before .before .before .before in
-    let v = counted (c1 .pre .1 .0) _ (c .before .before .before .before .if1 .left) (c .before .before .before .kind .ensures) in
+    let c1 = c .before .before .before .before .before .before .before .before .before in
+    let v = counted (c1 .pre .1 .0) _ (c .before .before .before .before .before .before .if1 .left) (c .before .before .before .before .before .kind .ensures) in
     let m = c .before .before .match .rest in
-    leaf-node v (c1 .pre .1 .1) (m .0 .0 .0 .0 .1) (m .0 .0 .0 .1) (m .0 .0 .1) (m .1)
-    (λ l. ⊎-elim (λ w. absurd (omega (arith, w .taken))) (λ w. w .3 .left) (c .before .if2 .came))
-    (λ i. omega (arith, c .before .before .before .before .before .before .shared-slice-known .given i))
+    leaf-node v (c1 .pre .1 .1) (m .0 .0 .0 .0 .1) (m .0 .0 .0 .1) (m .0 .0 .1)
+    (λ l. ⊎-elim (λ w. absurd (omega (arith, w .taken))) (λ w. w .3 .left) (c .before .if4 .came))
+    (λ i. omega (arith, c .before .before .before .before .before .before .before .before .shared-slice-known .given i))
 
 pub eval-expr-eval-two-requires : (t : ℕ) → eval-expr-lts.Need-eval-two-requires (
   kind-reads.Asked,
@@ -195,8 +195,8 @@ pub eval-expr-eval-two-requires : (t : ℕ) → eval-expr-lts.Need-eval-two-requ
   eval-one.Post,
 ) (eval-expr-at t) eval-expr.Post
 eval-expr-eval-two-requires t c κs =
-    let c1 = c .before .before .before .before .before .before in
-    let v = counted (c1 .pre .1 .0) _ (c .before .before .before .if1 .left) (c .before .before .kind .ensures) in (
+    let c1 = c .before .before .before .before .before .before .before .before in
+    let v = counted (c1 .pre .1 .0) _ (c .before .before .before .before .before .if1 .left) (c .before .before .before .before .kind .ensures) in (
       omega (arith, c1 .pre .0),
       (
         v,
@@ -223,8 +223,8 @@ pub eval-expr-eval-one-requires : (t : ℕ) → eval-expr-lts.Need-eval-one-requ
   eval-one.Post,
 ) (eval-expr-at t) eval-expr.Post
 eval-expr-eval-one-requires t c κs =
-    let c1 = c .before .before .before .before .before .before in
-    let v = counted (c1 .pre .1 .0) _ (c .before .before .before .if1 .left) (c .before .before .kind .ensures) in (
+    let c1 = c .before .before .before .before .before .before .before .before in
+    let v = counted (c1 .pre .1 .0) _ (c .before .before .before .before .before .if1 .left) (c .before .before .before .before .kind .ensures) in (
       omega (arith, c1 .pre .0),
       (
         v,
@@ -250,8 +250,8 @@ pub eval-expr-returns-2 : (t : ℕ) → eval-expr-lts.Need-returns-2 (
   eval-one.Post,
 ) (eval-expr-at t) eval-expr.Post
 eval-expr-returns-2 t c =
-    let c1 = c .before .before .before .before .before .before in
-    let v = counted (c1 .pre .1 .0) _ (c .before .before .before .if1 .left) (c .before .before .kind .ensures) in
+    let c1 = c .before .before .before .before .before .before .before .before in
+    let v = counted (c1 .pre .1 .0) _ (c .before .before .before .before .before .if1 .left) (c .before .before .before .before .kind .ensures) in
     name-answer v (c .before .match .keys1) _ (c .eval-name .ensures)
 
 pub eval-expr-same-length : (t : ℕ) → eval-expr-lts.Need-same-length (
@@ -361,12 +361,12 @@ pub eval-expr-returns-5 : (t : ℕ) → eval-expr-lts.Need-returns-5 (
   eval-one.Post,
 ) (eval-expr-at t) eval-expr.Post
 eval-expr-returns-5 t c =
-    let c1 = c .before .before .before .before .before .before .before .before .before .before in
-    let v = counted (c1 .pre .1 .0) _ (c .before .before .before .before .before .before .before .if1 .left) (c .before .before .before .before .before .before .kind .ensures) in
+    let c1 = c .before .before .before .before .before .before .before .before .before .before .before .before in
+    let v = counted (c1 .pre .1 .0) _ (c .before .before .before .before .before .before .before .before .before .if1 .left) (c .before .before .before .before .before .before .before .before .kind .ensures) in
     let m = c .before .before .before .before .before .match .rest in
-    let p = leaf-node v (c1 .pre .1 .1) (m .0 .0 .0 .0 .1) (m .0 .0 .0 .1) (m .0 .0 .1) (m .1)
-    (λ l. ⊎-elim (λ w. absurd (omega (arith, w .taken))) (λ w. w .3 .left) (c .before .before .before .before .if2 .came))
-    (λ i. omega (arith, c .before .before .before .before .before .before .before .before .before .shared-slice-known .given i)) in
+    let p = leaf-node v (c1 .pre .1 .1) (m .0 .0 .0 .0 .1) (m .0 .0 .0 .1) (m .0 .0 .1)
+    (λ l. ⊎-elim (λ w. absurd (omega (arith, w .taken))) (λ w. w .3 .left) (c .before .before .before .before .if4 .came))
+    (λ i. omega (arith, c .before .before .before .before .before .before .before .before .before .before .before .shared-slice-known .given i)) in
     leaf-answer v p _ _ (c .before .before .eval-leaf .ensures)
 
 pub eval-expr-same-length-4 : (t : ℕ) → eval-expr-lts.Need-same-length-4 (
@@ -440,3 +440,45 @@ pub eval-expr-returns-7 : (t : ℕ) → eval-expr-lts.Need-returns-7 (
   eval-one.Post,
 ) (eval-expr-at t) eval-expr.Post
 eval-expr-returns-7 t c = c .before .before .eval-one .ensures
+
+pub eval-expr-returns-8 : (t : ℕ) → eval-expr-lts.Need-returns-8 (
+  kind-reads.Asked,
+  kind-reads.Learnt,
+  eval-name-reads.Asked,
+  eval-name-reads.Learnt,
+  eval-bool-below t,
+  eval-bool.Post,
+  eval-select-below t,
+  eval-select.Post,
+  eval-leaf-reads.Asked,
+  eval-leaf-reads.Learnt,
+  eval-two-below t,
+  eval-two.Post,
+  eval-one-below t,
+  eval-one.Post,
+) (eval-expr-at t) eval-expr.Post
+eval-expr-returns-8 t c =
+    let c1 = c .before .before .before .before .before in
+    let v = counted (c1 .pre .1 .0) _ (c .before .before .if1 .left) (c .before .kind .ensures) in
+    absurd (omega (arith, expression-code v (c1 .pre .1 .1), c .if2 .taken))
+
+pub eval-expr-returns-9 : (t : ℕ) → eval-expr-lts.Need-returns-9 (
+  kind-reads.Asked,
+  kind-reads.Learnt,
+  eval-name-reads.Asked,
+  eval-name-reads.Learnt,
+  eval-bool-below t,
+  eval-bool.Post,
+  eval-select-below t,
+  eval-select.Post,
+  eval-leaf-reads.Asked,
+  eval-leaf-reads.Learnt,
+  eval-two-below t,
+  eval-two.Post,
+  eval-one-below t,
+  eval-one.Post,
+) (eval-expr-at t) eval-expr.Post
+eval-expr-returns-9 t c =
+    let c1 = c .before .before .before .before .before .before in
+    let v = counted (c1 .pre .1 .0) _ (c .before .before .before .if1 .left) (c .before .before .kind .ensures) in
+    absurd (omega (arith, expression-code v (c1 .pre .1 .1), c .if3 .left))

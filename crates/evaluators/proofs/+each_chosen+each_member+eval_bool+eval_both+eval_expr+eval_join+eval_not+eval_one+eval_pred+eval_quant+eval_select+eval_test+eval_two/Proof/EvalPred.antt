@@ -11,7 +11,7 @@ use Rattle.evaluators.proofs.eval_test.Reads as eval-test
 use Rattle.table.proofs.kind.Reads as kind-reads
 use Rattle.evaluators.proofs.+each_chosen+each_member+eval_bool+eval_both+eval_expr+eval_join+eval_not+eval_one+eval_pred+eval_quant+eval_select+eval_test+eval_two.Proof.Base.{eval-join-below, eval-not-below, eval-pred-at, eval-quant-below, eval-test-below}
 use mathlib.Core.Logic.{⊎-elim}
-use Rattle.evaluators.proofs.DispatchLaws.{spent-pred, counted, test-sort, quant-sort, join-kind}
+use Rattle.evaluators.proofs.DispatchLaws.{spent-pred, counted, predicate-code, test-sort, quant-sort, join-kind}
 
 pub eval-pred-returns : (t : ℕ) → eval-pred-lts.Need-returns (
   kind-reads.Asked,
@@ -56,8 +56,8 @@ pub eval-pred-eval-not-requires : (t : ℕ) → eval-pred-lts.Need-eval-not-requ
   eval-join.Post,
 ) (eval-pred-at t) eval-pred.Post
 eval-pred-eval-not-requires t c κs =
-    let c1 = c .before .before .before .before .before .before in
-    let v = counted (c1 .pre .1 .0) _ (c .before .before .before .if1 .left) (c .before .before .kind .ensures) in
+    let c1 = c .before .before .before .before .before .before .before .before in
+    let v = counted (c1 .pre .1 .0) _ (c .before .before .before .before .before .if1 .left) (c .before .before .before .before .kind .ensures) in
     (omega (arith, c1 .pre .0), (v, c .before .match .keys1))
 
 pub eval-pred-eval-test-requires : (t : ℕ) → eval-pred-lts.Need-eval-test-requires (
@@ -73,9 +73,9 @@ pub eval-pred-eval-test-requires : (t : ℕ) → eval-pred-lts.Need-eval-test-re
   eval-join.Post,
 ) (eval-pred-at t) eval-pred.Post
 eval-pred-eval-test-requires t c κs =
-    let c1 = c .before .before .before .before .before .before .before .before in
-    let v = counted (c1 .pre .1 .0) _ (c .before .before .before .before .before .if1 .left) (c .before .before .before .before .kind .ensures) in
-    (omega (arith, c1 .pre .0), (v, test-sort _ (c .before .before .if2 .left) (c .before .if3 .taken)))
+    let c1 = c .before .before .before .before .before .before .before .before .before .before in
+    let v = counted (c1 .pre .1 .0) _ (c .before .before .before .before .before .before .before .if1 .left) (c .before .before .before .before .before .before .kind .ensures) in
+    (omega (arith, c1 .pre .0), (v, test-sort _ (c .before .before .if4 .left) (c .before .if5 .taken)))
 
 pub eval-pred-eval-quant-requires : (t : ℕ) → eval-pred-lts.Need-eval-quant-requires (
   kind-reads.Asked,
@@ -90,9 +90,9 @@ pub eval-pred-eval-quant-requires : (t : ℕ) → eval-pred-lts.Need-eval-quant-
   eval-join.Post,
 ) (eval-pred-at t) eval-pred.Post
 eval-pred-eval-quant-requires t c κs =
-    let c1 = c .before .before .before .before .before .before .before .before .before in
-    let v = counted (c1 .pre .1 .0) _ (c .before .before .before .before .before .before .if1 .left) (c .before .before .before .before .before .kind .ensures) in
-    (omega (arith, c1 .pre .0), (v, quant-sort _ (c .before .before .if3 .left) (c .before .if4 .taken)))
+    let c1 = c .before .before .before .before .before .before .before .before .before .before .before in
+    let v = counted (c1 .pre .1 .0) _ (c .before .before .before .before .before .before .before .before .if1 .left) (c .before .before .before .before .before .before .before .kind .ensures) in
+    (omega (arith, c1 .pre .0), (v, quant-sort _ (c .before .before .if5 .left) (c .before .if6 .taken)))
 
 pub eval-pred-eval-join-requires : (t : ℕ) → eval-pred-lts.Need-eval-join-requires (
   kind-reads.Asked,
@@ -107,9 +107,10 @@ pub eval-pred-eval-join-requires : (t : ℕ) → eval-pred-lts.Need-eval-join-re
   eval-join.Post,
 ) (eval-pred-at t) eval-pred.Post
 eval-pred-eval-join-requires t c κs =
-    let c1 = c .before .before .before .before .before .before .before in
-    let v = counted (c1 .pre .1 .0) _ (c .before .before .before .before .if1 .left) (c .before .before .before .kind .ensures) in
-    (omega (arith, c1 .pre .0), (v, join-kind v (c1 .pre .1 .1) (c .before .before .match .rest .1) (λ l. ⊎-elim (λ w. absurd (omega (arith, w .taken))) (λ w. w .2 .left) (c .before .if2 .came))))
+    let c1 = c .before .before .before .before .before .before .before .before .before in
+    let v = counted (c1 .pre .1 .0) _ (c .before .before .before .before .before .before .if1 .left) (c .before .before .before .before .before .kind .ensures) in
+    let below = ⊎-elim (λ w. w .taken) (λ w. absurd (omega (arith, w .2 .left, c .before .before .before .if3 .taken))) (c .before .if4 .came) in
+    (omega (arith, c1 .pre .0), (v, join-kind v (c1 .pre .1 .1) (c .before .before .match .rest .1) below))
 
 pub eval-pred-same-length : (t : ℕ) → eval-pred-lts.Need-same-length (
   kind-reads.Asked,
@@ -222,3 +223,37 @@ pub eval-pred-returns-5 : (t : ℕ) → eval-pred-lts.Need-returns-5 (
   eval-join.Post,
 ) (eval-pred-at t) eval-pred.Post
 eval-pred-returns-5 t c = c .before .before .eval-join .ensures
+
+pub eval-pred-returns-6 : (t : ℕ) → eval-pred-lts.Need-returns-6 (
+  kind-reads.Asked,
+  kind-reads.Learnt,
+  eval-not-below t,
+  eval-not.Post,
+  eval-test-below t,
+  eval-test.Post,
+  eval-quant-below t,
+  eval-quant.Post,
+  eval-join-below t,
+  eval-join.Post,
+) (eval-pred-at t) eval-pred.Post
+eval-pred-returns-6 t c =
+    let c1 = c .before .before .before .before .before in
+    let v = counted (c1 .pre .1 .0) _ (c .before .before .if1 .left) (c .before .kind .ensures) in
+    absurd (omega (arith, predicate-code v (c1 .pre .1 .1), c .if2 .taken))
+
+pub eval-pred-returns-7 : (t : ℕ) → eval-pred-lts.Need-returns-7 (
+  kind-reads.Asked,
+  kind-reads.Learnt,
+  eval-not-below t,
+  eval-not.Post,
+  eval-test-below t,
+  eval-test.Post,
+  eval-quant-below t,
+  eval-quant.Post,
+  eval-join-below t,
+  eval-join.Post,
+) (eval-pred-at t) eval-pred.Post
+eval-pred-returns-7 t c =
+    let c1 = c .before .before .before .before .before .before in
+    let v = counted (c1 .pre .1 .0) _ (c .before .before .before .if1 .left) (c .before .before .kind .ensures) in
+    absurd (omega (arith, predicate-code v (c1 .pre .1 .1), c .if3 .left))
