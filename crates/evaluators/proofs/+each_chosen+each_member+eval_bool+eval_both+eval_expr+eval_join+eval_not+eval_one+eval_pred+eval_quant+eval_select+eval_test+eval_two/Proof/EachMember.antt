@@ -20,45 +20,20 @@ abbrev pub each-member-μ-loop : each-member-lts.MeasureT-loop
 each-member-μ-loop table base env s₀ top all node from count steps budget x body inner₀ at₀ left₀ n₀ s inner at left n =
     left
 
-pub each-member-field-requires : (t : ℕ) → each-member-lts.Need-field-requires (
-  field-reads.Asked,
-  field-reads.Learnt,
-  eval-pred-below t,
-  eval-pred.Post,
-  end-of-reads.Asked,
-  end-of-reads.Learnt,
-) (each-member-at t) each-member.Post each-member-Inv-loop each-member-μ-loop
+abbrev pub each-member-claims : ℕ → each-member-lts.Claims
+each-member-claims t = (field-reads.Asked, field-reads.Learnt, eval-pred-below t, eval-pred.Post, end-of-reads.Asked, end-of-reads.Learnt)
+
+pub each-member-field-requires : (t : ℕ) → each-member-lts.Need-field-requires (each-member-claims t) (each-member-at t) each-member.Post each-member-Inv-loop each-member-μ-loop
 each-member-field-requires t c κs = (binder-node (c .before .before .pre .1), lit< tt)
 
-pub each-member-field-requires-2 : (t : ℕ) → each-member-lts.Need-field-requires-2 (
-  field-reads.Asked,
-  field-reads.Learnt,
-  eval-pred-below t,
-  eval-pred.Post,
-  end-of-reads.Asked,
-  end-of-reads.Learnt,
-) (each-member-at t) each-member.Post each-member-Inv-loop each-member-μ-loop
+pub each-member-field-requires-2 : (t : ℕ) → each-member-lts.Need-field-requires-2 (each-member-claims t) (each-member-at t) each-member.Post each-member-Inv-loop each-member-μ-loop
 each-member-field-requires-2 t c κs = (binder-node (c .before .before .before .pre .1), lit< tt)
 
-pub each-member-loop-holds : (t : ℕ) → each-member-lts.Need-loop-holds (
-  field-reads.Asked,
-  field-reads.Learnt,
-  eval-pred-below t,
-  eval-pred.Post,
-  end-of-reads.Asked,
-  end-of-reads.Learnt,
-) (each-member-at t) each-member.Post each-member-Inv-loop each-member-μ-loop
+pub each-member-loop-holds : (t : ℕ) → each-member-lts.Need-loop-holds (each-member-claims t) (each-member-at t) each-member.Post each-member-Inv-loop each-member-μ-loop
 each-member-loop-holds t c =
     turning-start _ _ (c .before .before .before .before .before .pre .1)
 
-pub each-member-cast-inner : (t : ℕ) → each-member-lts.Need-cast-inner (
-  field-reads.Asked,
-  field-reads.Learnt,
-  eval-pred-below t,
-  eval-pred.Post,
-  end-of-reads.Asked,
-  end-of-reads.Learnt,
-) (each-member-at t) each-member.Post each-member-Inv-loop each-member-μ-loop
+pub each-member-cast-inner : (t : ℕ) → each-member-lts.Need-cast-inner (each-member-claims t) (each-member-at t) each-member.Post each-member-Inv-loop each-member-μ-loop
 each-member-cast-inner t c =
     let l = c .before in
     let g = l .before .before in
@@ -66,34 +41,13 @@ each-member-cast-inner t c =
     let a = f .before .before .before in
     record { fits = member-low (a .pre .1) (l .loop .inv) (omega (arith, c .loop-test .taken)) }
 
-pub each-member-mul-inner : (t : ℕ) → each-member-lts.Need-mul-inner (
-  field-reads.Asked,
-  field-reads.Learnt,
-  eval-pred-below t,
-  eval-pred.Post,
-  end-of-reads.Asked,
-  end-of-reads.Learnt,
-) (each-member-at t) each-member.Post each-member-Inv-loop each-member-μ-loop
+pub each-member-mul-inner : (t : ℕ) → each-member-lts.Need-mul-inner (each-member-claims t) (each-member-at t) each-member.Post each-member-Inv-loop each-member-μ-loop
 each-member-mul-inner t c = entry-scaled (c .before .before .before .before .field .ensures) (c .before .before .before .before .before .before .before .pre .1 .name)
 
-pub each-member-array-write-inner : (t : ℕ) → each-member-lts.Need-array-write-inner (
-  field-reads.Asked,
-  field-reads.Learnt,
-  eval-pred-below t,
-  eval-pred.Post,
-  end-of-reads.Asked,
-  end-of-reads.Learnt,
-) (each-member-at t) each-member.Post each-member-Inv-loop each-member-μ-loop
+pub each-member-array-write-inner : (t : ℕ) → each-member-lts.Need-array-write-inner (each-member-claims t) (each-member-at t) each-member.Post each-member-Inv-loop each-member-μ-loop
 each-member-array-write-inner t c = entry-below (c .before .before .before .before .field .ensures) (c .before .before .before .before .before .before .before .pre .1 .name)
 
-pub each-member-eval-pred-requires : (t : ℕ) → each-member-lts.Need-eval-pred-requires (
-  field-reads.Asked,
-  field-reads.Learnt,
-  eval-pred-below t,
-  eval-pred.Post,
-  end-of-reads.Asked,
-  end-of-reads.Learnt,
-) (each-member-at t) each-member.Post each-member-Inv-loop each-member-μ-loop
+pub each-member-eval-pred-requires : (t : ℕ) → each-member-lts.Need-eval-pred-requires (each-member-claims t) (each-member-at t) each-member.Post each-member-Inv-loop each-member-μ-loop
 each-member-eval-pred-requires t c κs =
     let w = c .before .before in
     let l = w .before in
@@ -102,44 +56,16 @@ each-member-eval-pred-requires t c κs =
     let a = f .before .before .before in
     (omega (arith, a .pre .0, a .pre .1 .deeper, g .field2 .ensures), body-ready (a .pre .1) (l .loop .inv) (omega (arith, w .loop-test .taken)) (f .field .ensures) (g .field2 .ensures))
 
-pub each-member-enum-known-held : (t : ℕ) → each-member-lts.Need-enum-known-held (
-  field-reads.Asked,
-  field-reads.Learnt,
-  eval-pred-below t,
-  eval-pred.Post,
-  end-of-reads.Asked,
-  end-of-reads.Learnt,
-) (each-member-at t) each-member.Post each-member-Inv-loop each-member-μ-loop
+pub each-member-enum-known-held : (t : ℕ) → each-member-lts.Need-enum-known-held (each-member-claims t) (each-member-at t) each-member.Post each-member-Inv-loop each-member-μ-loop
 each-member-enum-known-held t c = c .match .keys1
 
-pub each-member-enum-told : (t : ℕ) → each-member-lts.Need-enum-told (
-  field-reads.Asked,
-  field-reads.Learnt,
-  eval-pred-below t,
-  eval-pred.Post,
-  end-of-reads.Asked,
-  end-of-reads.Learnt,
-) (each-member-at t) each-member.Post each-member-Inv-loop each-member-μ-loop
+pub each-member-enum-told : (t : ℕ) → each-member-lts.Need-enum-told (each-member-claims t) (each-member-at t) each-member.Post each-member-Inv-loop each-member-μ-loop
 each-member-enum-told t c = c .match .keys2
 
-pub each-member-same-length : (t : ℕ) → each-member-lts.Need-same-length (
-  field-reads.Asked,
-  field-reads.Learnt,
-  eval-pred-below t,
-  eval-pred.Post,
-  end-of-reads.Asked,
-  end-of-reads.Learnt,
-) (each-member-at t) each-member.Post each-member-Inv-loop each-member-μ-loop
+pub each-member-same-length : (t : ℕ) → each-member-lts.Need-same-length (each-member-claims t) (each-member-at t) each-member.Post each-member-Inv-loop each-member-μ-loop
 each-member-same-length t c = c .before .before .before .before .eval-pred .kept .1 .1 .1 .0 ∙ c .before .before .before .before .before .before .before .before .loop .inv .frame .kept
 
-pub each-member-returns : (t : ℕ) → each-member-lts.Need-returns (
-  field-reads.Asked,
-  field-reads.Learnt,
-  eval-pred-below t,
-  eval-pred.Post,
-  end-of-reads.Asked,
-  end-of-reads.Learnt,
-) (each-member-at t) each-member.Post each-member-Inv-loop each-member-μ-loop
+pub each-member-returns : (t : ℕ) → each-member-lts.Need-returns (each-member-claims t) (each-member-at t) each-member.Post each-member-Inv-loop each-member-μ-loop
 each-member-returns t c =
     let p = c .before .before .before .before in
     let w = p .before .before .before in
@@ -149,25 +75,11 @@ each-member-returns t c =
     let a = f .before .before .before in
     member-refused (a .pre .1) (l .loop .inv) (omega (arith, w .loop-test .taken)) (f .field .ensures) (g .field2 .ensures) (p .eval-pred .ensures) _ _ _ (c .enum-told .given .1)
 
-pub each-member-same-length-2 : (t : ℕ) → each-member-lts.Need-same-length-2 (
-  field-reads.Asked,
-  field-reads.Learnt,
-  eval-pred-below t,
-  eval-pred.Post,
-  end-of-reads.Asked,
-  end-of-reads.Learnt,
-) (each-member-at t) each-member.Post each-member-Inv-loop each-member-μ-loop
+pub each-member-same-length-2 : (t : ℕ) → each-member-lts.Need-same-length-2 (each-member-claims t) (each-member-at t) each-member.Post each-member-Inv-loop each-member-μ-loop
 each-member-same-length-2 t c =
     c .before .before .before .before .before .before .eval-pred .kept .1 .1 .1 .0 ∙ c .before .before .before .before .before .before .before .before .before .before .loop .inv .frame .kept
 
-pub each-member-returns-2 : (t : ℕ) → each-member-lts.Need-returns-2 (
-  field-reads.Asked,
-  field-reads.Learnt,
-  eval-pred-below t,
-  eval-pred.Post,
-  end-of-reads.Asked,
-  end-of-reads.Learnt,
-) (each-member-at t) each-member.Post each-member-Inv-loop each-member-μ-loop
+pub each-member-returns-2 : (t : ℕ) → each-member-lts.Need-returns-2 (each-member-claims t) (each-member-at t) each-member.Post each-member-Inv-loop each-member-μ-loop
 each-member-returns-2 t c =
     let p = c .before .before .before .before .before .before in
     let w = p .before .before .before in
@@ -177,14 +89,7 @@ each-member-returns-2 t c =
     let a = f .before .before .before in
     member-decides (a .pre .1) (l .loop .inv) (omega (arith, w .loop-test .taken)) (f .field .ensures) (g .field2 .ensures) (p .eval-pred .ensures) _ _ (c .before .before .held .given .1) (differ _ _ (c .if1 .taken))
 
-pub each-member-end-of-requires : (t : ℕ) → each-member-lts.Need-end-of-requires (
-  field-reads.Asked,
-  field-reads.Learnt,
-  eval-pred-below t,
-  eval-pred.Post,
-  end-of-reads.Asked,
-  end-of-reads.Learnt,
-) (each-member-at t) each-member.Post each-member-Inv-loop each-member-μ-loop
+pub each-member-end-of-requires : (t : ℕ) → each-member-lts.Need-end-of-requires (each-member-claims t) (each-member-at t) each-member.Post each-member-Inv-loop each-member-μ-loop
 each-member-end-of-requires t c κs =
     let p = c .before .before .before .before .before .before .before in
     let w = p .before .before .before in
@@ -194,34 +99,13 @@ each-member-end-of-requires t c κs =
     let a = f .before .before .before in
     member-stands (a .pre .1) (l .loop .inv) (omega (arith, w .loop-test .taken)) _ (p .eval-pred .ensures .frame)
 
-pub each-member-sub-left : (t : ℕ) → each-member-lts.Need-sub-left (
-  field-reads.Asked,
-  field-reads.Learnt,
-  eval-pred-below t,
-  eval-pred.Post,
-  end-of-reads.Asked,
-  end-of-reads.Learnt,
-) (each-member-at t) each-member.Post each-member-Inv-loop each-member-μ-loop
+pub each-member-sub-left : (t : ℕ) → each-member-lts.Need-sub-left (each-member-claims t) (each-member-at t) each-member.Post each-member-Inv-loop each-member-μ-loop
 each-member-sub-left t c = c .before .before .before .before .before .before .before .before .before .before .before .loop-test .taken
 
-pub each-member-loop-less : (t : ℕ) → each-member-lts.Need-loop-less (
-  field-reads.Asked,
-  field-reads.Learnt,
-  eval-pred-below t,
-  eval-pred.Post,
-  end-of-reads.Asked,
-  end-of-reads.Learnt,
-) (each-member-at t) each-member.Post each-member-Inv-loop each-member-μ-loop
+pub each-member-loop-less : (t : ℕ) → each-member-lts.Need-loop-less (each-member-claims t) (each-member-at t) each-member.Post each-member-Inv-loop each-member-μ-loop
 each-member-loop-less t c = one-less (c .before .before .before .before .before .before .before .before .before .before .before .loop-test .taken)
 
-pub each-member-loop-again : (t : ℕ) → each-member-lts.Need-loop-again (
-  field-reads.Asked,
-  field-reads.Learnt,
-  eval-pred-below t,
-  eval-pred.Post,
-  end-of-reads.Asked,
-  end-of-reads.Learnt,
-) (each-member-at t) each-member.Post each-member-Inv-loop each-member-μ-loop
+pub each-member-loop-again : (t : ℕ) → each-member-lts.Need-loop-again (each-member-claims t) (each-member-at t) each-member.Post each-member-Inv-loop each-member-μ-loop
 each-member-loop-again t c =
     let p = c .before .before .before .before .before .before .before .before in
     let w = p .before .before .before in
@@ -232,23 +116,9 @@ each-member-loop-again t c =
     turning-on (a .pre .1) (l .loop .inv) (omega (arith, w .loop-test .taken)) (f .field .ensures) (g .field2 .ensures) (p .eval-pred .ensures) _ _ _ (c .before .before .before .before .held .given .1)
     (agree _ _ (c .before .before .if1 .left)) (c .end-of .ensures)
 
-pub each-member-same-length-3 : (t : ℕ) → each-member-lts.Need-same-length-3 (
-  field-reads.Asked,
-  field-reads.Learnt,
-  eval-pred-below t,
-  eval-pred.Post,
-  end-of-reads.Asked,
-  end-of-reads.Learnt,
-) (each-member-at t) each-member.Post each-member-Inv-loop each-member-μ-loop
+pub each-member-same-length-3 : (t : ℕ) → each-member-lts.Need-same-length-3 (each-member-claims t) (each-member-at t) each-member.Post each-member-Inv-loop each-member-μ-loop
 each-member-same-length-3 t c = c .before .loop .inv .frame .kept
 
-pub each-member-returns-3 : (t : ℕ) → each-member-lts.Need-returns-3 (
-  field-reads.Asked,
-  field-reads.Learnt,
-  eval-pred-below t,
-  eval-pred.Post,
-  end-of-reads.Asked,
-  end-of-reads.Learnt,
-) (each-member-at t) each-member.Post each-member-Inv-loop each-member-μ-loop
+pub each-member-returns-3 : (t : ℕ) → each-member-lts.Need-returns-3 (each-member-claims t) (each-member-at t) each-member.Post each-member-Inv-loop each-member-μ-loop
 each-member-returns-3 t c =
     members-done (c .before .loop .inv) (omega (arith, c .loop-test .left))

@@ -15,7 +15,8 @@ use Rattle.evaluators.proofs.+each_chosen+each_member+eval_bool+eval_bo
 use mathlib.Core.Logic.{⊎-elim}
 use Rattle.evaluators.proofs.DispatchLaws.{spent-expr, counted, expression-code, one-keys, one-range, two-key, two-low, two-high, name-ready, name-answer, leaf-node, leaf-answer}
 
-pub eval-expr-returns : (t : ℕ) → eval-expr-lts.Need-returns (
+abbrev pub eval-expr-claims : ℕ → eval-expr-lts.Claims
+eval-expr-claims t = (
   kind-reads.Asked,
   kind-reads.Learnt,
   eval-name-reads.Asked,
@@ -30,146 +31,43 @@ pub eval-expr-returns : (t : ℕ) → eval-expr-lts.Need-returns (
   eval-two.Post,
   eval-one-below t,
   eval-one.Post,
-) (eval-expr-at t) eval-expr.Post
+)
+
+pub eval-expr-returns : (t : ℕ) → eval-expr-lts.Need-returns (eval-expr-claims t) (eval-expr-at t) eval-expr.Post
 eval-expr-returns t c =
     let c1 = c .before .before .before in
     spent-expr (c1 .pre .1 .0) (c .if1 .taken)
 
-pub eval-expr-kind-requires : (t : ℕ) → eval-expr-lts.Need-kind-requires (
-  kind-reads.Asked,
-  kind-reads.Learnt,
-  eval-name-reads.Asked,
-  eval-name-reads.Learnt,
-  eval-bool-below t,
-  eval-bool.Post,
-  eval-select-below t,
-  eval-select.Post,
-  eval-leaf-reads.Asked,
-  eval-leaf-reads.Learnt,
-  eval-two-below t,
-  eval-two.Post,
-  eval-one-below t,
-  eval-one.Post,
-) (eval-expr-at t) eval-expr.Post
+pub eval-expr-kind-requires : (t : ℕ) → eval-expr-lts.Need-kind-requires (eval-expr-claims t) (eval-expr-at t) eval-expr.Post
 eval-expr-kind-requires t c κs = ready-node (c .before .before .before .pre .1 .0)
 
-pub eval-expr-add-eval-name : (t : ℕ) → eval-expr-lts.Need-add-eval-name (
-  kind-reads.Asked,
-  kind-reads.Learnt,
-  eval-name-reads.Asked,
-  eval-name-reads.Learnt,
-  eval-bool-below t,
-  eval-bool.Post,
-  eval-select-below t,
-  eval-select.Post,
-  eval-leaf-reads.Asked,
-  eval-leaf-reads.Learnt,
-  eval-two-below t,
-  eval-two.Post,
-  eval-one-below t,
-  eval-one.Post,
-) (eval-expr-at t) eval-expr.Post
+pub eval-expr-add-eval-name : (t : ℕ) → eval-expr-lts.Need-add-eval-name (eval-expr-claims t) (eval-expr-at t) eval-expr.Post
 eval-expr-add-eval-name t c =
     count-fits (counted (c .before .before .before .before .before .before .before .pre .1 .0) _ (c .before .before .before .before .if1 .left) (c .before .before .before .kind .ensures) .spent) (c .before .before .before .before .before .before .before .fits .budget)
 
-pub eval-expr-eval-name-requires : (t : ℕ) → eval-expr-lts.Need-eval-name-requires (
-  kind-reads.Asked,
-  kind-reads.Learnt,
-  eval-name-reads.Asked,
-  eval-name-reads.Learnt,
-  eval-bool-below t,
-  eval-bool.Post,
-  eval-select-below t,
-  eval-select.Post,
-  eval-leaf-reads.Asked,
-  eval-leaf-reads.Learnt,
-  eval-two-below t,
-  eval-two.Post,
-  eval-one-below t,
-  eval-one.Post,
-) (eval-expr-at t) eval-expr.Post
+pub eval-expr-eval-name-requires : (t : ℕ) → eval-expr-lts.Need-eval-name-requires (eval-expr-claims t) (eval-expr-at t) eval-expr.Post
 eval-expr-eval-name-requires t c κs =
     let c1 = c .before .before .before .before .before .before .before in
     let v = counted (c1 .pre .1 .0) _ (c .before .before .before .before .if1 .left) (c .before .before .before .kind .ensures) in
     name-ready v (c .match .keys1)
 
-pub eval-expr-eval-bool-requires : (t : ℕ) → eval-expr-lts.Need-eval-bool-requires (
-  kind-reads.Asked,
-  kind-reads.Learnt,
-  eval-name-reads.Asked,
-  eval-name-reads.Learnt,
-  eval-bool-below t,
-  eval-bool.Post,
-  eval-select-below t,
-  eval-select.Post,
-  eval-leaf-reads.Asked,
-  eval-leaf-reads.Learnt,
-  eval-two-below t,
-  eval-two.Post,
-  eval-one-below t,
-  eval-one.Post,
-) (eval-expr-at t) eval-expr.Post
+pub eval-expr-eval-bool-requires : (t : ℕ) → eval-expr-lts.Need-eval-bool-requires (eval-expr-claims t) (eval-expr-at t) eval-expr.Post
 eval-expr-eval-bool-requires t c κs =
     let c1 = c .before .before .before .before .before .before .before .before in
     let v = counted (c1 .pre .1 .0) _ (c .before .before .before .before .before .if1 .left) (c .before .before .before .before .kind .ensures) in
     (omega (arith, c1 .pre .0), (v, c .before .match .keys2))
 
-pub eval-expr-eval-select-requires : (t : ℕ) → eval-expr-lts.Need-eval-select-requires (
-  kind-reads.Asked,
-  kind-reads.Learnt,
-  eval-name-reads.Asked,
-  eval-name-reads.Learnt,
-  eval-bool-below t,
-  eval-bool.Post,
-  eval-select-below t,
-  eval-select.Post,
-  eval-leaf-reads.Asked,
-  eval-leaf-reads.Learnt,
-  eval-two-below t,
-  eval-two.Post,
-  eval-one-below t,
-  eval-one.Post,
-) (eval-expr-at t) eval-expr.Post
+pub eval-expr-eval-select-requires : (t : ℕ) → eval-expr-lts.Need-eval-select-requires (eval-expr-claims t) (eval-expr-at t) eval-expr.Post
 eval-expr-eval-select-requires t c κs =
     let c1 = c .before .before .before .before .before .before .before .before in
     let v = counted (c1 .pre .1 .0) _ (c .before .before .before .before .before .if1 .left) (c .before .before .before .before .kind .ensures) in
     (omega (arith, c1 .pre .0), (v, c .before .match .keys5))
 
-pub eval-expr-add-eval-leaf : (t : ℕ) → eval-expr-lts.Need-add-eval-leaf (
-  kind-reads.Asked,
-  kind-reads.Learnt,
-  eval-name-reads.Asked,
-  eval-name-reads.Learnt,
-  eval-bool-below t,
-  eval-bool.Post,
-  eval-select-below t,
-  eval-select.Post,
-  eval-leaf-reads.Asked,
-  eval-leaf-reads.Learnt,
-  eval-two-below t,
-  eval-two.Post,
-  eval-one-below t,
-  eval-one.Post,
-) (eval-expr-at t) eval-expr.Post
+pub eval-expr-add-eval-leaf : (t : ℕ) → eval-expr-lts.Need-add-eval-leaf (eval-expr-claims t) (eval-expr-at t) eval-expr.Post
 eval-expr-add-eval-leaf t c =
     count-fits (counted (c .before .before .before .before .before .before .before .before .before .pre .1 .0) _ (c .before .before .before .before .before .before .if1 .left) (c .before .before .before .before .before .kind .ensures) .spent) (c .before .before .before .before .before .before .before .before .before .fits .budget)
 
-pub eval-expr-eval-leaf-requires : (t : ℕ) → eval-expr-lts.Need-eval-leaf-requires (
-  kind-reads.Asked,
-  kind-reads.Learnt,
-  eval-name-reads.Asked,
-  eval-name-reads.Learnt,
-  eval-bool-below t,
-  eval-bool.Post,
-  eval-select-below t,
-  eval-select.Post,
-  eval-leaf-reads.Asked,
-  eval-leaf-reads.Learnt,
-  eval-two-below t,
-  eval-two.Post,
-  eval-one-below t,
-  eval-one.Post,
-) (eval-expr-at t) eval-expr.Post
+pub eval-expr-eval-leaf-requires : (t : ℕ) → eval-expr-lts.Need-eval-leaf-requires (eval-expr-claims t) (eval-expr-at t) eval-expr.Post
 eval-expr-eval-leaf-requires t c κs =
     let c1 = c .before .before .before .before .before .before .before .before .before in
     let v = counted (c1 .pre .1 .0) _ (c .before .before .before .before .before .before .if1 .left) (c .before .before .before .before .before .kind .ensures) in
@@ -178,22 +76,7 @@ eval-expr-eval-leaf-requires t c κs =
     (λ l. ⊎-elim (λ w. absurd (omega (arith, w .taken))) (λ w. w .3 .left) (c .before .if4 .came))
     (λ i. omega (arith, c .before .before .before .before .before .before .before .before .shared-slice-known .given i))
 
-pub eval-expr-eval-two-requires : (t : ℕ) → eval-expr-lts.Need-eval-two-requires (
-  kind-reads.Asked,
-  kind-reads.Learnt,
-  eval-name-reads.Asked,
-  eval-name-reads.Learnt,
-  eval-bool-below t,
-  eval-bool.Post,
-  eval-select-below t,
-  eval-select.Post,
-  eval-leaf-reads.Asked,
-  eval-leaf-reads.Learnt,
-  eval-two-below t,
-  eval-two.Post,
-  eval-one-below t,
-  eval-one.Post,
-) (eval-expr-at t) eval-expr.Post
+pub eval-expr-eval-two-requires : (t : ℕ) → eval-expr-lts.Need-eval-two-requires (eval-expr-claims t) (eval-expr-at t) eval-expr.Post
 eval-expr-eval-two-requires t c κs =
     let c1 = c .before .before .before .before .before .before .before .before in
     let v = counted (c1 .pre .1 .0) _ (c .before .before .before .before .before .if1 .left) (c .before .before .before .before .kind .ensures) in (
@@ -206,22 +89,7 @@ eval-expr-eval-two-requires t c κs =
       ),
     )
 
-pub eval-expr-eval-one-requires : (t : ℕ) → eval-expr-lts.Need-eval-one-requires (
-  kind-reads.Asked,
-  kind-reads.Learnt,
-  eval-name-reads.Asked,
-  eval-name-reads.Learnt,
-  eval-bool-below t,
-  eval-bool.Post,
-  eval-select-below t,
-  eval-select.Post,
-  eval-leaf-reads.Asked,
-  eval-leaf-reads.Learnt,
-  eval-two-below t,
-  eval-two.Post,
-  eval-one-below t,
-  eval-one.Post,
-) (eval-expr-at t) eval-expr.Post
+pub eval-expr-eval-one-requires : (t : ℕ) → eval-expr-lts.Need-eval-one-requires (eval-expr-claims t) (eval-expr-at t) eval-expr.Post
 eval-expr-eval-one-requires t c κs =
     let c1 = c .before .before .before .before .before .before .before .before in
     let v = counted (c1 .pre .1 .0) _ (c .before .before .before .before .before .if1 .left) (c .before .before .before .before .kind .ensures) in (
@@ -233,133 +101,28 @@ eval-expr-eval-one-requires t c κs =
       ),
     )
 
-pub eval-expr-returns-2 : (t : ℕ) → eval-expr-lts.Need-returns-2 (
-  kind-reads.Asked,
-  kind-reads.Learnt,
-  eval-name-reads.Asked,
-  eval-name-reads.Learnt,
-  eval-bool-below t,
-  eval-bool.Post,
-  eval-select-below t,
-  eval-select.Post,
-  eval-leaf-reads.Asked,
-  eval-leaf-reads.Learnt,
-  eval-two-below t,
-  eval-two.Post,
-  eval-one-below t,
-  eval-one.Post,
-) (eval-expr-at t) eval-expr.Post
+pub eval-expr-returns-2 : (t : ℕ) → eval-expr-lts.Need-returns-2 (eval-expr-claims t) (eval-expr-at t) eval-expr.Post
 eval-expr-returns-2 t c =
     let c1 = c .before .before .before .before .before .before .before .before in
     let v = counted (c1 .pre .1 .0) _ (c .before .before .before .before .before .if1 .left) (c .before .before .before .before .kind .ensures) in
     name-answer v (c .before .match .keys1) _ (c .eval-name .ensures)
 
-pub eval-expr-same-length : (t : ℕ) → eval-expr-lts.Need-same-length (
-  kind-reads.Asked,
-  kind-reads.Learnt,
-  eval-name-reads.Asked,
-  eval-name-reads.Learnt,
-  eval-bool-below t,
-  eval-bool.Post,
-  eval-select-below t,
-  eval-select.Post,
-  eval-leaf-reads.Asked,
-  eval-leaf-reads.Learnt,
-  eval-two-below t,
-  eval-two.Post,
-  eval-one-below t,
-  eval-one.Post,
-) (eval-expr-at t) eval-expr.Post
+pub eval-expr-same-length : (t : ℕ) → eval-expr-lts.Need-same-length (eval-expr-claims t) (eval-expr-at t) eval-expr.Post
 eval-expr-same-length t c = c .before .before .eval-bool .kept .1 .1 .1 .0
 
-pub eval-expr-returns-3 : (t : ℕ) → eval-expr-lts.Need-returns-3 (
-  kind-reads.Asked,
-  kind-reads.Learnt,
-  eval-name-reads.Asked,
-  eval-name-reads.Learnt,
-  eval-bool-below t,
-  eval-bool.Post,
-  eval-select-below t,
-  eval-select.Post,
-  eval-leaf-reads.Asked,
-  eval-leaf-reads.Learnt,
-  eval-two-below t,
-  eval-two.Post,
-  eval-one-below t,
-  eval-one.Post,
-) (eval-expr-at t) eval-expr.Post
+pub eval-expr-returns-3 : (t : ℕ) → eval-expr-lts.Need-returns-3 (eval-expr-claims t) (eval-expr-at t) eval-expr.Post
 eval-expr-returns-3 t c = c .before .before .eval-bool .ensures
 
-pub eval-expr-same-length-2 : (t : ℕ) → eval-expr-lts.Need-same-length-2 (
-  kind-reads.Asked,
-  kind-reads.Learnt,
-  eval-name-reads.Asked,
-  eval-name-reads.Learnt,
-  eval-bool-below t,
-  eval-bool.Post,
-  eval-select-below t,
-  eval-select.Post,
-  eval-leaf-reads.Asked,
-  eval-leaf-reads.Learnt,
-  eval-two-below t,
-  eval-two.Post,
-  eval-one-below t,
-  eval-one.Post,
-) (eval-expr-at t) eval-expr.Post
+pub eval-expr-same-length-2 : (t : ℕ) → eval-expr-lts.Need-same-length-2 (eval-expr-claims t) (eval-expr-at t) eval-expr.Post
 eval-expr-same-length-2 t c = c .before .before .eval-select .kept .1 .1 .1 .0
 
-pub eval-expr-returns-4 : (t : ℕ) → eval-expr-lts.Need-returns-4 (
-  kind-reads.Asked,
-  kind-reads.Learnt,
-  eval-name-reads.Asked,
-  eval-name-reads.Learnt,
-  eval-bool-below t,
-  eval-bool.Post,
-  eval-select-below t,
-  eval-select.Post,
-  eval-leaf-reads.Asked,
-  eval-leaf-reads.Learnt,
-  eval-two-below t,
-  eval-two.Post,
-  eval-one-below t,
-  eval-one.Post,
-) (eval-expr-at t) eval-expr.Post
+pub eval-expr-returns-4 : (t : ℕ) → eval-expr-lts.Need-returns-4 (eval-expr-claims t) (eval-expr-at t) eval-expr.Post
 eval-expr-returns-4 t c = c .before .before .eval-select .ensures
 
-pub eval-expr-same-length-3 : (t : ℕ) → eval-expr-lts.Need-same-length-3 (
-  kind-reads.Asked,
-  kind-reads.Learnt,
-  eval-name-reads.Asked,
-  eval-name-reads.Learnt,
-  eval-bool-below t,
-  eval-bool.Post,
-  eval-select-below t,
-  eval-select.Post,
-  eval-leaf-reads.Asked,
-  eval-leaf-reads.Learnt,
-  eval-two-below t,
-  eval-two.Post,
-  eval-one-below t,
-  eval-one.Post,
-) (eval-expr-at t) eval-expr.Post
+pub eval-expr-same-length-3 : (t : ℕ) → eval-expr-lts.Need-same-length-3 (eval-expr-claims t) (eval-expr-at t) eval-expr.Post
 eval-expr-same-length-3 t c = c .before .before .eval-leaf .kept .1 .1 .0
 
-pub eval-expr-returns-5 : (t : ℕ) → eval-expr-lts.Need-returns-5 (
-  kind-reads.Asked,
-  kind-reads.Learnt,
-  eval-name-reads.Asked,
-  eval-name-reads.Learnt,
-  eval-bool-below t,
-  eval-bool.Post,
-  eval-select-below t,
-  eval-select.Post,
-  eval-leaf-reads.Asked,
-  eval-leaf-reads.Learnt,
-  eval-two-below t,
-  eval-two.Post,
-  eval-one-below t,
-  eval-one.Post,
-) (eval-expr-at t) eval-expr.Post
+pub eval-expr-returns-5 : (t : ℕ) → eval-expr-lts.Need-returns-5 (eval-expr-claims t) (eval-expr-at t) eval-expr.Post
 eval-expr-returns-5 t c =
     let c1 = c .before .before .before .before .before .before .before .before .before .before .before .before in
     let v = counted (c1 .pre .1 .0) _ (c .before .before .before .before .before .before .before .before .before .if1 .left) (c .before .before .before .before .before .before .before .before .kind .ensures) in
@@ -369,115 +132,25 @@ eval-expr-returns-5 t c =
     (λ i. omega (arith, c .before .before .before .before .before .before .before .before .before .before .before .shared-slice-known .given i)) in
     leaf-answer v p _ _ (c .before .before .eval-leaf .ensures)
 
-pub eval-expr-same-length-4 : (t : ℕ) → eval-expr-lts.Need-same-length-4 (
-  kind-reads.Asked,
-  kind-reads.Learnt,
-  eval-name-reads.Asked,
-  eval-name-reads.Learnt,
-  eval-bool-below t,
-  eval-bool.Post,
-  eval-select-below t,
-  eval-select.Post,
-  eval-leaf-reads.Asked,
-  eval-leaf-reads.Learnt,
-  eval-two-below t,
-  eval-two.Post,
-  eval-one-below t,
-  eval-one.Post,
-) (eval-expr-at t) eval-expr.Post
+pub eval-expr-same-length-4 : (t : ℕ) → eval-expr-lts.Need-same-length-4 (eval-expr-claims t) (eval-expr-at t) eval-expr.Post
 eval-expr-same-length-4 t c = c .before .before .eval-two .kept .1 .1 .1 .0
 
-pub eval-expr-returns-6 : (t : ℕ) → eval-expr-lts.Need-returns-6 (
-  kind-reads.Asked,
-  kind-reads.Learnt,
-  eval-name-reads.Asked,
-  eval-name-reads.Learnt,
-  eval-bool-below t,
-  eval-bool.Post,
-  eval-select-below t,
-  eval-select.Post,
-  eval-leaf-reads.Asked,
-  eval-leaf-reads.Learnt,
-  eval-two-below t,
-  eval-two.Post,
-  eval-one-below t,
-  eval-one.Post,
-) (eval-expr-at t) eval-expr.Post
+pub eval-expr-returns-6 : (t : ℕ) → eval-expr-lts.Need-returns-6 (eval-expr-claims t) (eval-expr-at t) eval-expr.Post
 eval-expr-returns-6 t c = c .before .before .eval-two .ensures
 
-pub eval-expr-same-length-5 : (t : ℕ) → eval-expr-lts.Need-same-length-5 (
-  kind-reads.Asked,
-  kind-reads.Learnt,
-  eval-name-reads.Asked,
-  eval-name-reads.Learnt,
-  eval-bool-below t,
-  eval-bool.Post,
-  eval-select-below t,
-  eval-select.Post,
-  eval-leaf-reads.Asked,
-  eval-leaf-reads.Learnt,
-  eval-two-below t,
-  eval-two.Post,
-  eval-one-below t,
-  eval-one.Post,
-) (eval-expr-at t) eval-expr.Post
+pub eval-expr-same-length-5 : (t : ℕ) → eval-expr-lts.Need-same-length-5 (eval-expr-claims t) (eval-expr-at t) eval-expr.Post
 eval-expr-same-length-5 t c = c .before .before .eval-one .kept .1 .1 .1 .0
 
-pub eval-expr-returns-7 : (t : ℕ) → eval-expr-lts.Need-returns-7 (
-  kind-reads.Asked,
-  kind-reads.Learnt,
-  eval-name-reads.Asked,
-  eval-name-reads.Learnt,
-  eval-bool-below t,
-  eval-bool.Post,
-  eval-select-below t,
-  eval-select.Post,
-  eval-leaf-reads.Asked,
-  eval-leaf-reads.Learnt,
-  eval-two-below t,
-  eval-two.Post,
-  eval-one-below t,
-  eval-one.Post,
-) (eval-expr-at t) eval-expr.Post
+pub eval-expr-returns-7 : (t : ℕ) → eval-expr-lts.Need-returns-7 (eval-expr-claims t) (eval-expr-at t) eval-expr.Post
 eval-expr-returns-7 t c = c .before .before .eval-one .ensures
 
-pub eval-expr-returns-8 : (t : ℕ) → eval-expr-lts.Need-returns-8 (
-  kind-reads.Asked,
-  kind-reads.Learnt,
-  eval-name-reads.Asked,
-  eval-name-reads.Learnt,
-  eval-bool-below t,
-  eval-bool.Post,
-  eval-select-below t,
-  eval-select.Post,
-  eval-leaf-reads.Asked,
-  eval-leaf-reads.Learnt,
-  eval-two-below t,
-  eval-two.Post,
-  eval-one-below t,
-  eval-one.Post,
-) (eval-expr-at t) eval-expr.Post
+pub eval-expr-returns-8 : (t : ℕ) → eval-expr-lts.Need-returns-8 (eval-expr-claims t) (eval-expr-at t) eval-expr.Post
 eval-expr-returns-8 t c =
     let c1 = c .before .before .before .before .before in
     let v = counted (c1 .pre .1 .0) _ (c .before .before .if1 .left) (c .before .kind .ensures) in
     absurd (omega (arith, expression-code v (c1 .pre .1 .1), c .if2 .taken))
 
-pub eval-expr-returns-9 : (t : ℕ) → eval-expr-lts.Need-returns-9 (
-  kind-reads.Asked,
-  kind-reads.Learnt,
-  eval-name-reads.Asked,
-  eval-name-reads.Learnt,
-  eval-bool-below t,
-  eval-bool.Post,
-  eval-select-below t,
-  eval-select.Post,
-  eval-leaf-reads.Asked,
-  eval-leaf-reads.Learnt,
-  eval-two-below t,
-  eval-two.Post,
-  eval-one-below t,
-  eval-one.Post,
-) (eval-expr-at t) eval-expr.Post
+pub eval-expr-returns-9 : (t : ℕ) → eval-expr-lts.Need-returns-9 (eval-expr-claims t) (eval-expr-at t) eval-expr.Post
 eval-expr-returns-9 t c =
     let c1 = c .before .before .before .before .before .before in
     let v = counted (c1 .pre .1 .0) _ (c .before .before .before .if1 .left) (c .before .before .kind .ensures) in
