@@ -15,24 +15,6 @@ ghost use mathlib.Core.Path.{_≡_};
 ghost use lib.ListN.{length};
 ghost use Rattle.io.specs.Counts.{Counts};
 
-fn wide(x: u8) -> u64
-    ensures { λ r. ⌜ r < 256 ⌝ }
-{
-    x as u64
-}
-
-// The word at an offset of a case's header.
-fn word(head: &[u8], at: usize) -> u64
-    requires { ⌜ (at ≤ 12) × (16 ≤ length (now head)) ⌝ }
-    ensures { λ r. ⌜ r < 4294967296 ⌝ }
-{
-    let a = wide(head[at]);
-    let b = wide(head[at + 1]);
-    let c = wide(head[at + 2]);
-    let d = wide(head[at + 3]);
-    a + 256 * b + 65536 * c + 16777216 * d
-}
-
 fn say(text: &[u8]) {
     io::write_all(STDOUT_FILENO, text);
 }
@@ -50,11 +32,11 @@ fn print_row(row: &[u8]) {
     say(b" ");
     let mut i: usize = 0;
     while i < row.len() {
-        let code = wide(row[i]);
+        let code = table::wide(row[i]);
         if code == 0 {
             break;
         }
-        io::print_hex(STDOUT_FILENO, code, 2);
+        io::print_hex(STDOUT_FILENO, code as u64, 2);
         i += 1;
     }
     if i == 0 {
@@ -138,8 +120,8 @@ fn next_check(table: &mut [u8], sheet: &mut [u8]) -> bool
     if !take(&mut head, 8) {
         return stop(b"cut\n");
     }
-    let t = word(&head, 0) as usize;
-    let n = word(&head, 4) as usize;
+    let t = table::word(&head, 0);
+    let n = table::word(&head, 4);
     if t > 16384 {
         return stop(b"long\n");
     }
@@ -172,9 +154,9 @@ fn next_evaluation(table: &mut [u8], values: &mut [u8]) -> bool
     if !take(&mut head, 12) {
         return stop(b"cut\n");
     }
-    let t = word(&head, 0) as usize;
-    let v = word(&head, 4) as usize;
-    let budget = word(&head, 8) as u32;
+    let t = table::word(&head, 0);
+    let v = table::word(&head, 4);
+    let budget = table::word(&head, 8) as u32;
     if t > 16384 {
         return stop(b"long\n");
     }
@@ -196,7 +178,7 @@ fn next_case(table: &mut [u8], values: &mut [u8], sheet: &mut [u8]) -> bool
     if n < 4 {
         return stop(b"cut\n");
     }
-    let kind = word(&head, 0);
+    let kind = table::word(&head, 0);
     if kind == 1 {
         return next_check(table, sheet);
     }

@@ -6,7 +6,7 @@ ghost use Rattle.rules.specs.Tables.{tableOf, nodeCount};
 ghost use Rattle.checker.specs.Prefix.{Ready, Room, PrefixAnswer, Unsolvable, FirstClash};
 
 // Decides the problem of the nodes below k. The table stands here for the contract only.
-pub fn solve_prefix(
+pub(crate) fn solve_prefix(
     table: &[u8],
     kind: &[u8],
     left: &[u16],
@@ -43,7 +43,7 @@ pub fn solve_prefix(
 
 // The first node whose rule leaves no typing, where the nodes below n have none. The nodes below lo always have a typing,
 // those below hi none.
-pub fn first_clash(
+pub(crate) fn first_clash(
     table: &[u8],
     kind: &[u8],
     left: &[u16],

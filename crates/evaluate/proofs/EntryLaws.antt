@@ -18,9 +18,10 @@ use Rattle.rules.proofs.TableLaws.{binds-length, nodes-length}
 use Rattle.rules.proofs.ReadingLaws.{reading-right}
 use Rattle.rules.proofs.FormedLaws.{valuesIn-good}
 use Rattle.rules.proofs.Soundness.{evaluation-run}
-use Rattle.reading.specs.Answers.{readingOf}
-use Rattle.reading.specs.declared.Reading.{Reading}
-use Rattle.reading.specs.declared.Reading.the-variants.{Refused as Unreadable}
+use Rattle.reading.specs.Answers.{heightOf, readingHeight}
+use Rattle.reading.specs.declared.Height.{Height}
+use Rattle.reading.specs.declared.Height.the-variants.{Refused as Unmeasured}
+use Rattle.reading.proofs.Promise.{unmeasured-refused}
 use Rattle.reading.specs.declared.Refusal.{Refusal}
 use Rattle.buffer.specs.declared.Loaded.{Loaded}
 use Rattle.buffer.specs.declared.Loaded.the-variants.{All, Refused as Lacking}
@@ -125,7 +126,7 @@ needed-most {bs} values q =
     )
 
 -- 1 to 9 refuse.
-pub unread-reported : (bs buffer : List ℕ) (budget : ℕ) (a : Reading) {f : Refusal} {r : Evaluation} → readingOf bs a ≡ reading bs → a ≡ Unreadable f →
+pub unread-reported : (bs buffer : List ℕ) (budget : ℕ) (a : Height) {f : Refusal} {r : Evaluation} → heightOf a ≡ readingHeight bs → a ≡ Unmeasured f →
     RefusedAt (f .number) (f .place) 0 r → Reported (evaluation bs buffer budget) r
 unread-reported bs buffer budget a {f} h e d =
-    refusal-reported (unread-ends bs buffer budget (f .number) (f .place) (sym h ∙ ap (readingOf bs) e)) d
+    refusal-reported (unread-ends bs buffer budget (f .number) (f .place) (unmeasured-refused bs (sym (ap heightOf e) ∙ h))) d

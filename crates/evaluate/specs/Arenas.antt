@@ -3,10 +3,10 @@ use Prim.Native.Nat.{ℕ, _+_, _*_, _≤_, _<_}
 use mathlib.Core.List.{List, [], _∷_}
 use mathlib.Core.Path.{_≡_}
 use lib.ListN.{length, getD}
-use Rattle.rules.specs.Tables.{tableOf, identifierCount, lastNode}
-use Rattle.rules.specs.Reading.{height}
+use Rattle.rules.specs.Tables.{tableOf, identifierCount}
 use Rattle.rules.specs.Readable.{Readable}
 use Rattle.rules.specs.Evaluation.{evaluation}
+use Rattle.reading.specs.Answers.{rootHeight}
 use Rattle.buffer.specs.Buffer.{cellsAtMost}
 use Rattle.evaluate.specs.declared.arenas.Attempt.{Attempt}
 use Rattle.evaluate.specs.declared.arenas.Attempt.the-variants.{Made, NoRoom}
@@ -14,7 +14,7 @@ use Rattle.evaluate.specs.Result.{Reported}
 
 -- What a readable table and its values ask of the arena: the values' cells, 512 a level, and 3 more.
 abbrev pub needed : List ℕ → List ℕ → ℕ
-needed bs values = 3 + cellsAtMost (identifierCount bs) (length values) + 512 * height (tableOf bs .nodes) (lastNode (tableOf bs .nodes))
+needed bs values = 3 + cellsAtMost (identifierCount bs) (length values) + 512 * rootHeight (tableOf bs)
 
 pub record Needs (bs values : List ℕ) (size : ℕ) : Type 0 where
   pub readable : Readable bs

@@ -67,7 +67,7 @@ fn size(k: usize) -> usize
 
 // Evaluates in the smallest of the arenas 0 to k that has room. The recursion keeps their frames apart: without it the
 // compiler makes one frame of all, and each call touches every page of the largest.
-pub fn smallest(table: &[u8], values: &[u8], budget: u32, need: usize, k: usize) -> Attempt
+pub(crate) fn smallest(table: &[u8], values: &[u8], budget: u32, need: usize, k: usize) -> Attempt
     requires { ⌜ Measured (now table) (now values) need ⌝ }
     ensures { λ r. ⌜ Attempts (now (table .entry)) (now (values .entry)) budget k r ⌝ }
 {

@@ -1,10 +1,12 @@
 // Evaluate: refusals 1 to 9, then 14, then the condition in an arena with room for it, and the report.
 ghost use mathlib.Core.Path.{_≡_};
+ghost use Rattle.rules.specs.Tables.{tableOf};
 ghost use Rattle.rules.specs.Readable.{Readable};
 ghost use Rattle.rules.specs.Ends.{done};
 ghost use Rattle.rules.specs.Evaluation.{evaluation};
 ghost use Rattle.evaluate.specs.declared.Ending.the-variants.{Decided};
 ghost use Rattle.evaluate.specs.Result.{endingOf, RefusedAt, Reported, Reports};
+ghost use Rattle.reading.specs.Answers.{rootHeight};
 ghost use Rattle.evaluate.specs.Arenas.{ArenaReady};
 
 mod arenas;
@@ -12,7 +14,7 @@ mod arenas;
 use arenas::Attempt;
 use buffer::Loaded;
 use evaluators::Held;
-use reading::Reading;
+use reading::Height;
 use reading::Refusal;
 
 pub enum Truth {
@@ -80,13 +82,13 @@ fn evaluate_in(table: &[u8], values: &[u8], budget: u32, s: &mut [u64]) -> Evalu
     }
 }
 
-// Evaluates a readable table over an arena of its size.
-fn evaluate_sized(table: &[u8], values: &[u8], budget: u32) -> Evaluation
-    requires { ⌜ Readable (now table) ⌝ }
+// Evaluates a readable table, whose root has the height, over an arena of its size.
+fn evaluate_sized(table: &[u8], values: &[u8], budget: u32, height: usize) -> Evaluation
+    requires { ⌜ Readable (now table) × (height ≡ rootHeight (tableOf (now table))) ⌝ }
     ensures { λ r. ⌜ Reported (evaluation (now (table .entry)) (now (values .entry)) budget) r ⌝ }
 {
     let held = buffer::cells_at_most(table::identifiers(table), values.len());
-    let need = 3 + held + 512 * reading::root_height(table);
+    let need = 3 + held + 512 * height;
     match arenas::smallest(table, values, budget, need, 4) {
         Attempt::Made(e) => e,
         // Never: the last arena has room for each readable table.
@@ -98,12 +100,12 @@ fn evaluate_sized(table: &[u8], values: &[u8], budget: u32) -> Evaluation
 pub fn evaluate(table: &[u8], values: &[u8], budget: u32) -> Evaluation
     ensures { λ r. ⌜ (endingOf (r .ending) ≡ evaluation (now (table .entry)) (now (values .entry)) budget .end) × (r .steps ≡ evaluation (now (table .entry)) (now (values .entry)) budget .steps) ⌝ }
 {
-    let reading = reading::read(table);
-    match reading {
-        Reading::Refused(r) => {
+    let height = reading::read_height(table);
+    match height {
+        Height::Refused(r) => {
             let e = refused(r.number, r.place, 0);
             e
         }
-        Reading::Passed => evaluate_sized(table, values, budget),
+        Height::Root(h) => evaluate_sized(table, values, budget, h),
     }
 }

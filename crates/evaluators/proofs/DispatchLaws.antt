@@ -1,5 +1,6 @@
 -- Where a node's visit goes: the refusal of a visit beyond the budget, the evaluator by the kind's code, and the leaves.
 use Prim.Native.Nat.{ℕ, zero, suc, _+_, _*_, _≤_, _<_}
+use mathlib.Core.Bool.{Bool, true, false, _&&_, cond}
 use mathlib.Core.List.{List}
 use mathlib.Core.Logic.{_≢_, _⊎_, inl, inr}
 use mathlib.Core.Option.{Option, none as nothing, some}
@@ -7,15 +8,16 @@ use mathlib.Core.Path.{_≡_, refl, sym, ap, _∙_, subst}
 use native.Mathlib.Omega.{arith}
 use native.Mathlib.Decide.{decLt}
 use borrow.Author.Tests.{le-leb}
+use lib.Dec.{leb}
 use lib.ListN.{getD}
 use Rattle.rules.specs.Types.{whole}
 use Rattle.rules.specs.Values.{Value, weight}
-use Rattle.rules.specs.Kinds.{Test, equal, member, subset, atMost, Quant, forAll, forSome}
+use Rattle.rules.specs.Kinds.{and, or, implies, iff, equal, member, subset, atMost, forAll, forSome}
 use Rattle.rules.specs.Kinds.{Leaf, identifier, givenSet, elementOf, literal, truthConst, emptySet, boolSet}
 use Rattle.rules.specs.Kinds.{One, singleton, power, dom, ran, card, choice}
-use Rattle.rules.specs.Kinds.{Two, pairing, union, inter, diff, product, apply, plus, minus, interval}
+use Rattle.rules.specs.Kinds.{pairing, union, inter, diff, product, apply, plus, minus, interval}
 use Rattle.rules.specs.Kinds.{Kind, join, negation, test, quant, leaf, boolOf, one, two, comprehension, kindOf}
-use Rattle.rules.specs.Kinds.{Category, predicate, expression, categoryOf}
+use Rattle.rules.specs.Kinds.{Category, predicate, expression}
 use Rattle.rules.specs.Tables.{Node, Pred, joinᵖ, notᵖ, testᵖ, quantᵖ, Expr, leafᵉ, boolᵉ, oneᵉ, twoᵉ, comprehensionᵉ}
 use Rattle.rules.specs.Tables.{wordAt, nodeFrom, tableOf, nodeAt, kindAt, predOf, predAt, exprAt, nodeCount, nodesAt}
 use Rattle.rules.specs.Readable.{Readable, CategoryIs}
@@ -26,9 +28,12 @@ use Rattle.rules.specs.Evaluation.{holdsᵖ, valueᵉ}
 use Rattle.rules.proofs.TableLaws.{sizes-length, binds-length, nodes-entry}
 use Rattle.rules.proofs.CellsLaws.{good-weight}
 use Rattle.rules.proofs.FormedLaws.{value-good}
+use Rattle.rules.proofs.EndLaws.{T-true, T-and, T-leb}
+use Rattle.table.specs.Codes.{codeOf as categoryNumber, categoryCode}
+use Rattle.table.proofs.Access.{by-range}
 use Rattle.arena.proofs.Standing.{same-refl}
 use Rattle.operations.specs.Outcomes.{BuiltAt, LeafFits}
-use Rattle.operations.proofs.KindLaws.{testCode, quantCode, oneCode, twoCode, code-of, kind-of}
+use Rattle.operations.proofs.KindLaws.{oneCode, code-of, kind-of}
 use Rattle.evaluators.specs.declared.Formed.{Formed}
 use Rattle.evaluators.specs.declared.Formed.the-variants.{Stopped}
 use Rattle.evaluators.specs.declared.Held.the-variants.{Refused}
@@ -170,62 +175,43 @@ module _ (k : ℕ) where
       along (λ (m : ℕ). Sort two m) 39 3 ((plus whole, refl), ((minus whole, refl), ((interval, refl), tt))) k
       (let d : k ≢ 38 = λ e. n (inr (inr (inl e))) in omega (arith, d, m)) (omega arith)
 
--- The codes of a sort.
-test-codes : (j : Test) → (6 ≤ testCode j) × (testCode j < 10)
-test-codes equal = (omega arith, omega arith)
-test-codes member = (omega arith, omega arith)
-test-codes subset = (omega arith, omega arith)
-test-codes (atMost whole) = (omega arith, omega arith)
+-- The ranges of the codes of predicates and of expressions.
+codes-within : (k lo hi : ℕ) → leb lo k && leb k hi ≡ true → (lo ≤ k) × (k ≤ hi)
+codes-within k lo hi e = let t = T-and (leb lo k) (leb k hi) .0 (T-true (leb lo k && leb k hi) .1 e) in (T-leb lo k .0 (t .0), T-leb k hi .0 (t .1))
 
-quant-codes : (j : Quant) → (10 ≤ quantCode j) × (quantCode j < 12)
-quant-codes forAll = (omega arith, omega arith)
-quant-codes forSome = (omega arith, omega arith)
+in-first : (a b : Bool) → _≡_ {A = ℕ} (cond a 1 (cond b 2 0)) 1 → a ≡ true
+in-first true b e = refl
+in-first false true e = absurd (omega arith)
+in-first false false e = absurd (omega arith)
 
-one-codes : (j : One) → (27 ≤ oneCode j) × (oneCode j ≢ 43 → oneCode j < 42)
-one-codes singleton = (omega arith, λ n. omega arith)
-one-codes power = (omega arith, λ n. omega arith)
-one-codes dom = (omega arith, λ n. omega arith)
-one-codes ran = (omega arith, λ n. omega arith)
-one-codes card = (omega arith, λ n. omega arith)
-one-codes choice = (omega arith, λ n. absurd (n refl))
+in-second : (a b : Bool) → _≡_ {A = ℕ} (cond a 1 (cond b 2 0)) 2 → b ≡ true
+in-second true b e = absurd (omega arith)
+in-second false true e = refl
+in-second false false e = absurd (omega arith)
 
-two-codes : (j : Two) → (27 ≤ twoCode j) × (twoCode j < 42)
-two-codes pairing = (omega arith, omega arith)
-two-codes union = (omega arith, omega arith)
-two-codes inter = (omega arith, omega arith)
-two-codes diff = (omega arith, omega arith)
-two-codes product = (omega arith, omega arith)
-two-codes apply = (omega arith, omega arith)
-two-codes (plus whole) = (omega arith, omega arith)
-two-codes (minus whole) = (omega arith, omega arith)
-two-codes interval = (omega arith, omega arith)
+category-is : (c : Category) (o : Option Kind) → CategoryIs c o → categoryCode o ≡ categoryNumber c
+category-is c nothing h = absurd h
+category-is c (some x) h = ap categoryNumber h
 
-other : expression ≡ predicate → ⊥
-other e = let z : _≡_ {A = ℕ} 0 1 = cc in absurd (omega arith)
-
--- The kinds of the last arms are those that no arm before has.
 module _ (k : ℕ) where
-  last-join : (x : Kind) → kindOf k ≡ some x → categoryOf x ≡ predicate → k ≢ 4 → (6 ≤ k → 12 ≤ k) → Sort join k
-  last-join (join j) e c n l = (j, e)
-  last-join negation e c n l = absurd (n (code-of k negation e))
-  last-join (test j) e c n l =
-      let q = code-of k (test j) e in
-      let r = test-codes j in absurd (omega (arith, q, r .0, r .1, l (omega (arith, q, r .0))))
-  last-join (quant j) e c n l =
-      let q = code-of k (quant j) e in
-      let r = quant-codes j in absurd (omega (arith, q, r .0, r .1, l (omega (arith, q, r .0))))
-  last-join (leaf j) e c n l = absurd (other c)
-  last-join boolOf e c n l = absurd (other c)
-  last-join (one j) e c n l = absurd (other c)
-  last-join (two j) e c n l = absurd (other c)
-  last-join comprehension e c n l = absurd (other c)
+  predicate-range : CategoryIs predicate (kindOf k) → (1 ≤ k) × (k ≤ 11)
+  predicate-range h = codes-within k 1 11 (in-first _ (leb 20 k && leb k 43) (by-range k ∙ category-is predicate (kindOf k) h))
 
-  join-rest : CategoryIs predicate (kindOf k) → k ≢ 4 → (6 ≤ k → 12 ≤ k) → Sort join k
-  join-rest h n l = go (kindOf k) refl h
-    where
-      go : (o : Option Kind) → kindOf k ≡ o → CategoryIs predicate o → Sort join k
-      go nothing e h = absurd h
-      go (some x) e h = last-join x e h n l
+  expression-range : CategoryIs expression (kindOf k) → (20 ≤ k) × (k ≤ 43)
+  expression-range h = codes-within k 20 43 (in-second (leb 1 k && leb k 11) _ (by-range k ∙ category-is expression (kindOf k) h))
+
+  -- The kinds of the last arms.
+  join-sort : 1 ≤ k → k < 6 → k ≢ 4 → Sort join k
+  unfolding kindOf
+  join-sort a b n =
+      along (λ (m : ℕ). m ≢ 4 → Sort join m) 1 5
+      ((λ d. (and, refl)), ((λ d. (or, refl)), ((λ d. (implies, refl)), ((λ d. absurd (d refl)), ((λ d. (iff, refl)), tt))))) k a (omega arith) n
+
+  leaf-sort : 21 ≤ k → k < 27 → k ≢ 25 → Sort leaf k
+  unfolding kindOf
+  leaf-sort a b n =
+      along (λ (m : ℕ). m ≢ 25 → Sort leaf m) 21 6
+      ((λ d. (givenSet, refl)), ((λ d. (elementOf, refl)), ((λ d. (literal whole, refl)), ((λ d. (truthConst, refl)), ((λ d. absurd (d refl)), ((λ d. (emptySet, refl)), tt)))))) k a (omega arith) n
 
   -- A leaf that is no identifier.
   record Constant : Type 0 where
@@ -233,32 +219,17 @@ module _ (k : ℕ) where
     is : kindOf k ≡ some (leaf kind)
     no-name : kind ≢ identifier
 
-  last-leaf : (x : Kind) → kindOf k ≡ some x → categoryOf x ≡ expression → k ≢ 20 → k ≢ 25 → k ≢ 34 → k ≢ 43 → (27 ≤ k → 42 ≤ k) → Constant
-  last-leaf (join j) e c n20 n25 n34 n43 l = absurd (other (sym c))
-  last-leaf negation e c n20 n25 n34 n43 l = absurd (other (sym c))
-  last-leaf (test j) e c n20 n25 n34 n43 l = absurd (other (sym c))
-  last-leaf (quant j) e c n20 n25 n34 n43 l = absurd (other (sym c))
-  last-leaf (leaf j) e c n20 n25 n34 n43 l = record {
-    kind = j;
-    is = e;
-    no-name = λ d. n20 (code-of k (leaf identifier) (e ∙ ap (λ (i : Leaf). some (leaf i)) d));
-  }
-  last-leaf boolOf e c n20 n25 n34 n43 l = absurd (n25 (code-of k boolOf e))
-  last-leaf (one j) e c n20 n25 n34 n43 l =
-      let q = code-of k (one j) e in
-      let r = one-codes j in
-      absurd (omega (arith, q, r .1 (λ d. n43 (q ∙ d)), l (omega (arith, q, r .0))))
-  last-leaf (two j) e c n20 n25 n34 n43 l =
-      let q = code-of k (two j) e in
-      let r = two-codes j in absurd (omega (arith, q, r .1, l (omega (arith, q, r .0))))
-  last-leaf comprehension e c n20 n25 n34 n43 l = absurd (n34 (code-of k comprehension e))
+  constant : k ≢ 20 → Sort leaf k → Constant
+  constant n s = record { kind = s .0; is = s .1; no-name = λ d. n (code-of k (leaf identifier) (s .1 ∙ ap (λ (i : Leaf). some (leaf i)) d)) }
 
-  leaf-rest : CategoryIs expression (kindOf k) → k ≢ 20 → k ≢ 25 → k ≢ 34 → (Some-one k → ⊥) → (27 ≤ k → 42 ≤ k) → Constant
-  leaf-rest h n20 n25 n34 n l = go (kindOf k) refl h
+  leaf-rest : (20 ≤ k) × (k ≤ 43) → k ≢ 20 → k ≢ 25 → (Some-one k → ⊥) → (27 ≤ k → 42 ≤ k) → Constant
+  leaf-rest r n20 n25 n l = constant n20 (go (decLt k 27))
     where
-      go : (o : Option Kind) → kindOf k ≡ o → CategoryIs expression o → Constant
-      go nothing e h = absurd h
-      go (some x) e h = last-leaf x e h n20 n25 n34 (λ d. n (inr (inr (inr d)))) l
+      go : Dec (k < 27) → Sort leaf k
+      go (yes h) = leaf-sort (omega (arith, r .0, n20)) h n25
+      go (no h) =
+          let n43 : k ≢ 43 = λ d. n (inr (inr (inr d))) in
+          (boolSet, kind-of k (leaf boolSet) (omega (arith, l (omega arith), r .1, n43)))
 
 -- A word of a node.
 node-word : (bs : List ℕ) (n : ℕ) → n < nodeCount bs → ((i : ℕ) → getD bs i 0 < 256) → nodeAt (tableOf bs .nodes) n .a < 4294967296
@@ -323,16 +294,18 @@ module _ {bs : List ℕ} {base : ℕ} {env s : List ℕ} {top k n steps budget :
     };
   }
 
-  -- The last arms.
-  category : (c : Category) → CategoryIs c (kindAt (tableOf bs .nodes) n) → CategoryIs c (kindOf k)
-  category c h = subst (λ (m : ℕ). CategoryIs c (kindOf m)) (sym (v .kind)) h
+  -- A node's kind is in the range of its category, and so the last arms.
+  pub predicate-code : IsPred bs n → (1 ≤ k) × (k ≤ 11)
+  predicate-code h = predicate-range k (rw (v .kind) h)
 
-  pub join-kind : IsPred bs n → k ≢ 4 → (6 ≤ k → 12 ≤ k) → Sort join k
-  join-kind h d l = join-rest k (category predicate h) d l
+  pub expression-code : IsExpr bs n → (20 ≤ k) × (k ≤ 43)
+  expression-code h = expression-range k (rw (v .kind) h)
 
-  pub leaf-node : IsExpr bs n → k ≢ 20 → k ≢ 25 → (Some-one k → ⊥) → k ≢ 34 → (27 ≤ k → 42 ≤ k) → ((i : ℕ) → getD bs i 0 < 256) →
-      LeafNode bs base s top k n
-  leaf-node h n20 n25 d n34 l bytes = constant-node (leaf-rest k (category expression h) n20 n25 n34 d l) bytes
+  pub join-kind : IsPred bs n → k ≢ 4 → k < 6 → Sort join k
+  join-kind h d l = join-sort k (predicate-code h .0) l d
+
+  pub leaf-node : IsExpr bs n → k ≢ 20 → k ≢ 25 → (Some-one k → ⊥) → (27 ≤ k → 42 ≤ k) → ((i : ℕ) → getD bs i 0 < 256) → LeafNode bs base s top k n
+  leaf-node h n20 n25 d l bytes = constant-node (leaf-rest k (expression-code h) n20 n25 d l) bytes
 
   -- A leaf's value, which is not heavy, is formed at once.
   leaf-ends : (j : Leaf) → kindAt (tableOf bs .nodes) n ≡ some (leaf j) → (f : ℕ) (ρ : Env) → n < f →

@@ -50,10 +50,14 @@ pub fn eval_pred(
     }
     let kind = table::kind(table, base, node);
     match kind {
-        4 => eval_not(table, base, env, s, top, kind, node, steps, budget),
-        6..=9 => eval_test(table, base, env, s, top, kind, node, steps, budget),
-        10..=11 => eval_quant(table, base, env, s, top, kind, node, steps, budget),
-        _ => eval_join(table, base, env, s, top, kind, node, steps, budget),
+        1..=11 => match kind {
+            4 => eval_not(table, base, env, s, top, kind, node, steps, budget),
+            6..=9 => eval_test(table, base, env, s, top, kind, node, steps, budget),
+            10..=11 => eval_quant(table, base, env, s, top, kind, node, steps, budget),
+            _ => eval_join(table, base, env, s, top, kind, node, steps, budget),
+        },
+        // Never: no other kind is a predicate.
+        _ => Held::Refused(6, node, steps),
     }
 }
 
@@ -294,22 +298,26 @@ fn eval_expr(
     }
     let kind = table::kind(table, base, node);
     match kind {
-        20 => eval_name(table, base, env, top, node, steps + 1),
-        25 => eval_bool(table, base, env, s, top, kind, node, steps, budget),
-        27 | 33 | 35 | 36 | 38 | 43 => eval_one(
-            table,
-            base,
-            env,
-            s,
-            top,
-            kind,
-            node,
-            steps,
-            budget,
-        ),
-        28..=32 | 37 | 39..=41 => eval_two(table, base, env, s, top, kind, node, steps, budget),
-        34 => eval_select(table, base, env, s, top, kind, node, steps, budget),
-        _ => eval_leaf(table, base, s, top, kind, node, steps + 1),
+        20..=43 => match kind {
+            20 => eval_name(table, base, env, top, node, steps + 1),
+            25 => eval_bool(table, base, env, s, top, kind, node, steps, budget),
+            27 | 33 | 35 | 36 | 38 | 43 => eval_one(
+                table,
+                base,
+                env,
+                s,
+                top,
+                kind,
+                node,
+                steps,
+                budget,
+            ),
+            28..=32 | 37 | 39..=41 => eval_two(table, base, env, s, top, kind, node, steps, budget),
+            34 => eval_select(table, base, env, s, top, kind, node, steps, budget),
+            _ => eval_leaf(table, base, s, top, kind, node, steps + 1),
+        },
+        // Never: no other kind is an expression.
+        _ => Formed::Stopped(6, node, steps),
     }
 }
 

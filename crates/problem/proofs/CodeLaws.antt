@@ -14,14 +14,7 @@ use Rattle.typing.specs.Plan.{Form, openᶠ, atomᶠ, powᶠ, prodᶠ, Plan}
 use Rattle.problem.specs.Codes.{refCode, formKind, formLeft, formRight, formsOf, formAt, pairAt, digits, CodeOf, Digits}
 use Rattle.typing.specs.Equations.{planOf}
 use Rattle.problem.specs.Entries.{side}
-use Rattle.typing.proofs.RefLaws.{few-slots, few-equations}
-
--- What holds of every kind's plan, by computation over the list of kinds.
-by-kinds : {A : Type 0} (f g : Option Kind → A) → f nothing ≡ g nothing → map f kinds ≡ map g kinds → (k : ℕ) →
-    f (kindOf k) ≡ g (kindOf k)
-unfolding kindOf
-by-kinds f g e h k =
-    sym (List·getD-map f kinds k nothing) ∙ ap (λ l. getD l k (f nothing)) h ∙ rw e (List·getD-map g kinds k nothing)
+use Rattle.typing.proofs.RefLaws.{by-kinds, few-slots, few-equations}
 
 -- The plan of the kind with code n in ASCII digits, which are the same whatever stands in field a.
 abbrev pub ascii : ℕ → List ℕ
@@ -90,17 +83,19 @@ none-above : (k f n : ℕ) (ns : List ℕ) → f + n ≤ k → NoneOf k ns → N
 none-above k f zero ns l h = h
 none-above k f (suc n) ns l h = (none-above k f n ns (omega arith) h, λ e. omega arith)
 
-none-of-both : (k f n : ℕ) (ns : List ℕ) → NoneOf k (codesFrom f n []) → NoneOf k ns → NoneOf k (codesFrom f n ns)
-none-of-both k f zero ns g h = h
-none-of-both k f (suc n) ns g h = (none-of-both k f n ns (g .0) h, g .1)
+-- The predicates whose rules do not speak of types, and the codes below, between and above those of the kinds.
+module _ (k : ℕ) where
+  pub plan-low : k ≤ 11 → NoneOf k (codesFrom 6 6 []) → Digits k (ascii 0)
+  plan-low l h = plan-else k (none-below k 20 24 (codesFrom 6 6 []) (omega arith) h)
 
-pub plan-low : (k : ℕ) → k < 20 → NoneOf k (codesFrom 6 6 []) → Digits k (ascii 0)
-plan-low k l h = plan-else k (none-below k 20 24 (codesFrom 6 6 []) l h)
+  pub plan-below : k < 1 → Digits k (ascii 0)
+  plan-below h = plan-low (omega arith) (none-below k 6 6 [] (omega arith) tt)
 
-pub plan-high : (k : ℕ) → 35 ≤ k → NoneOf k (codesFrom 35 9 []) → Digits k (ascii 0)
-plan-high k l h = plan-else k
-    (none-of-both k 35 9 (codesFrom 20 15 (codesFrom 6 6 [])) h
-    (none-above k 20 15 (codesFrom 6 6 []) l (none-above k 6 6 [] (omega arith) tt)))
+  pub plan-between : 12 ≤ k → k < 20 → Digits k (ascii 0)
+  plan-between l h = plan-else k (none-below k 20 24 (codesFrom 6 6 []) h (none-above k 6 6 [] l tt))
+
+  pub plan-above : 44 ≤ k → Digits k (ascii 0)
+  plan-above l = plan-else k (none-above k 20 24 (codesFrom 6 6 []) l (none-above k 6 6 [] (omega arith) tt))
 
 -- The given sets in a plan are the one in field a.
 abbrev pub withSet : ℕ → Form → Form
@@ -146,7 +141,7 @@ module _ (p : Plan) where
   side-digits (suc (suc i)) h = absurd (omega arith)
 
 pub slots-few : (k c : ℕ) → CodeOf k 0 c → c ≤ 5
-slots-few k c e = omega (arith, e 0, slots-digit (planOf (kindOf k) 0), few-slots (kindOf k) 0)
+slots-few k c e = omega (arith, e 0, slots-digit (planOf (kindOf k) 0), few-slots k 0)
 
 pub equations-few : (k c : ℕ) → CodeOf k 19 c → c ≤ 2
-equations-few k c e = omega (arith, e 0, equations-digit (planOf (kindOf k) 0), few-equations (kindOf k) 0)
+equations-few k c e = omega (arith, e 0, equations-digit (planOf (kindOf k) 0), few-equations k 0)

@@ -104,7 +104,7 @@ equations-bound tb (suc k) =
       equations-bound tb k,
       length-append (equations tb k) (nodeEquations tb k),
       length-map (planAt tb k .equations) (eqnFrom (varOf tb k)),
-      few-equations (kindAt (tb .nodes) k) (nodeAt (tb .nodes) k .a),
+      few-equations (nodeAt (tb .nodes) k .kind) (nodeAt (tb .nodes) k .a),
     )
 
 module _ (tb : Table) (n : ℕ) (s : NodeVars) (vars : VarsOf tb n s) where
@@ -173,7 +173,7 @@ module _ (tb : Table) (n : ℕ) (s : NodeVars) (vars : VarsOf tb n s) where
           counts-are = rw e (append-turn counts (λ k. length (equations tb k)) n (m + c) hc whole (q .counts-are));
           equations-are = rw (equations-next tb n)
               (eqns-turn (equations tb n) (nodeEquations tb n) lhs rhs lhs′ rhs′ m _ _ _ _ first-m
-              (omega (arith, own, few-equations (kindAt (tb .nodes) n) a)) hl hr (rw same-plan at el) (rw same-plan at er)
+              (omega (arith, own, few-equations (nodeAt (tb .nodes) n .kind) a)) hl hr (rw same-plan at el) (rw same-plan at er)
               (λ l. pair-entry 0 (omega (arith, own))) (λ l. pair-entry 1 (omega (arith, own))) (q .equations-are));
         }
 

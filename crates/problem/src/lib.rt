@@ -27,9 +27,9 @@ struct NodeVars {
 // references, or for a form without parts 1 INTEGER, 2 BOOL, 3 the given set in field a. References: 0 the node, 1 and 2 the
 // operands in fields a and b, 3 the identifier in field a, 4 and more the slots.
 
-// Below 20: tests and quantifiers (6 to 11). The kinds 1 to 5 say nothing of types, nor does an unknown kind.
+// 1 to 11: the tests and quantifiers, 6 to 11. The others say nothing of types.
 fn condition_plan(kind: usize) -> [u8; 24]
-    requires { ⌜ kind < 20 ⌝ }
+    requires { ⌜ (1 ≤ kind) × (kind ≤ 11) ⌝ }
     ensures { λ p. ⌜ Digits kind p ⌝ }
 {
     match kind {
@@ -76,9 +76,9 @@ fn set_plan(kind: usize) -> [u8; 24]
     }
 }
 
-// From 35 on: relations, numbers, BOOL and choice (35 to 43).
+// 35 to 43: relations, numbers, BOOL and choice
 fn value_plan(kind: usize) -> [u8; 24]
-    requires { ⌜ 35 ≤ kind ⌝ }
+    requires { ⌜ (35 ≤ kind) × (kind ≤ 43) ⌝ }
     ensures { λ p. ⌜ Digits kind p ⌝ }
 {
     match kind {
@@ -90,20 +90,30 @@ fn value_plan(kind: usize) -> [u8; 24]
         40 => *b"011000000000000000021020",
         41 => *b"124011000000000000021424",
         42 => *b"124012000000000000000000",
-        43 => *b"100020000000000000011400",
-        _ => *b"000000000000000000000000",
+        _ => *b"100020000000000000011400",
     }
 }
 
-// The plan of each kind. The arms are in four functions, since a match with many arms that give arrays is slow to prove.
+// 20 to 43. The codes are in three functions, since a match with many arms that give arrays is slow to prove.
+fn expression_plan(kind: usize) -> [u8; 24]
+    requires { ⌜ (20 ≤ kind) × (kind ≤ 43) ⌝ }
+    ensures { λ p. ⌜ Digits kind p ⌝ }
+{
+    match kind {
+        20..=26 => leaf_plan(kind),
+        27..=34 => set_plan(kind),
+        _ => value_plan(kind),
+    }
+}
+
+// The plan of each kind. An unknown kind says nothing of types.
 fn plan_of(kind: usize) -> [u8; 24]
     ensures { λ p. ⌜ Digits kind p ⌝ }
 {
     match kind {
-        0..=19 => condition_plan(kind),
-        20..=26 => leaf_plan(kind),
-        27..=34 => set_plan(kind),
-        _ => value_plan(kind),
+        1..=11 => condition_plan(kind),
+        20..=43 => expression_plan(kind),
+        _ => *b"000000000000000000000000",
     }
 }
 

@@ -1,15 +1,19 @@
 -- What the crates above rest on: a table that `read` passes is readable, and so its records may be read.
 use Prim.Native.Nat.{ℕ}
 use mathlib.Core.List.{List}
-use mathlib.Core.Path.{_≡_, refl, sym, subst}
-use Rattle.rules.specs.Tables.{nodesAt}
+use mathlib.Core.Path.{_≡_, refl, sym, ap, _∙_, subst}
+use Rattle.rules.specs.Ends.{End, done, refused, _>>=_}
+use Rattle.rules.specs.Tables.{Table, tableOf, nodesAt}
 use Rattle.rules.specs.Reading.{reading}
 use Rattle.rules.specs.Readable.{Readable}
-use Rattle.rules.proofs.ReadingLaws.{reading-right}
+use Rattle.rules.proofs.ReadingLaws.{reading-right, reading-table, reading-readable}
 use Rattle.rules.proofs.TableLaws.{nodes-length}
+use Rattle.rules.proofs.Basics.{absurd01}
 use Rattle.reading.specs.declared.Reading.{Reading}
-use Rattle.reading.specs.declared.Reading.the-variants.{Passed}
-use Rattle.reading.specs.Answers.{readingOf}
+use Rattle.reading.specs.declared.Reading.the-variants.{Passed, Refused}
+use Rattle.reading.specs.declared.Refusal.{Refusal}
+use Rattle.reading.specs.declared.Height.the-variants.{Root, Refused as Unmeasured}
+use Rattle.reading.specs.Answers.{readingOf, heightOf, rootHeight, readingHeight}
 use Rattle.table.specs.Layout.{Laid, Fielded}
 
 module _ (bs : List ℕ) where
@@ -25,3 +29,30 @@ module _ (bs : List ℕ) where
 -- What reading the table has answered.
 pub read-readable : (bs : List ℕ) (a : Reading) → readingOf bs a ≡ reading bs → a ≡ Passed → Readable bs
 read-readable bs a e f = passed-readable bs (subst (λ (b : Reading). readingOf bs b ≡ reading bs) f e)
+
+-- What `read_height` answers from that,
+module _ (bs : List ℕ) where
+  pub refused-height : (a : Reading) (f : Refusal) → readingOf bs a ≡ reading bs → a ≡ Refused f → heightOf (Unmeasured f) ≡ readingHeight bs
+  unfolding readingHeight
+  refused-height a f e g = ap (λ (x : End Table). x >>= λ t. done (rootHeight t)) (sym (ap (readingOf bs) g) ∙ e)
+
+  pub root-measured : Readable bs → (h : ℕ) → h ≡ rootHeight (tableOf bs) → heightOf (Root h) ≡ readingHeight bs
+  unfolding readingHeight
+  root-measured r h e = rw (reading-right bs .1 r) (ap done e)
+
+  -- and what its answer tells: the table is readable and its root has the height, or the refusal is that of `reading`.
+  pub measured-readable : {h : ℕ} → heightOf (Root h) ≡ readingHeight bs → Readable bs × (h ≡ rootHeight (tableOf bs))
+  unfolding readingHeight
+  measured-readable {h} e = go (reading bs) refl e
+    where
+      go : (x : End Table) → reading bs ≡ x → heightOf (Root h) ≡ (x >>= λ t. done (rootHeight t)) → Readable bs × (h ≡ rootHeight (tableOf bs))
+      go (done t) q e = (reading-readable bs t q, (let d : h ≡ rootHeight t = cc in d) ∙ ap rootHeight (reading-table bs t q))
+      go (refused k p) q e = absurd (absurd01 (cc))
+
+  pub unmeasured-refused : {f : Refusal} → heightOf (Unmeasured f) ≡ readingHeight bs → reading bs ≡ refused (f .number) (f .place)
+  unfolding readingHeight
+  unmeasured-refused {f} e = go (reading bs) refl e
+    where
+      go : (x : End Table) → reading bs ≡ x → heightOf (Unmeasured f) ≡ (x >>= λ t. done (rootHeight t)) → reading bs ≡ refused (f .number) (f .place)
+      go (done t) q e = absurd (absurd01 (cc))
+      go (refused k p) q e = cc

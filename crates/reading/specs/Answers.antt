@@ -2,8 +2,10 @@
 use Prim.Native.Nat.{ℕ}
 use mathlib.Core.List.{List}
 use Rattle.rules.specs.Ends.{End, done, refused, _>>=_, requireAll}
-use Rattle.rules.specs.Tables.{Table, tableOf, givenCount, identifierCount, nodeCount}
-use Rattle.rules.specs.Reading.{sizeGood, bindGood, nodeGood, parentGood, heightGood, binding}
+use Rattle.rules.specs.Tables.{Table, tableOf, givenCount, identifierCount, nodeCount, lastNode}
+use Rattle.rules.specs.Reading.{sizeGood, bindGood, nodeGood, parentGood, heightGood, binding, height, reading}
+use Rattle.reading.specs.declared.Height.{Height}
+use Rattle.reading.specs.declared.Height.the-variants.{Root, Refused as Unmeasured}
 use Rattle.reading.specs.declared.Reading.{Reading}
 use Rattle.reading.specs.declared.Reading.the-variants.{Passed, Refused}
 
@@ -28,3 +30,18 @@ readingRecords bs = do
   _ ← requireAll 5 (bindGood (tableOf bs)) (identifierCount bs)
   _ ← requireAll 6 (nodeGood (tableOf bs)) (nodeCount bs)
   readingTree bs
+
+-- A height, or the refusal of a table.
+abbrev pub heightOf : Height → End ℕ
+heightOf (Root h) = done h
+heightOf (Unmeasured r) = refused (r .number) (r .place)
+
+abbrev pub rootHeight : Table → ℕ
+rootHeight t = height (t .nodes) (lastNode (t .nodes))
+
+-- Refusals 1 to 9, and then the root's height.
+unfoldable pub readingHeight : List ℕ → End ℕ
+unfolding reading
+readingHeight bs = do
+  t ← reading bs
+  done (rootHeight t)

@@ -104,7 +104,7 @@ fn binding_is_good(table: &[u8], at: usize, x: usize, times: u16) -> bool
 }
 
 // Refusal 9: the least identifier that breaks the binding rules, or I.
-pub fn first_bad_binding(table: &[u8], at: usize) -> usize
+pub(crate) fn first_bad_binding(table: &[u8], at: usize) -> usize
     requires { ⌜ Fielded (now table) at ⌝ }
     ensures { λ r. ⌜ r ≡ foundOr (identifierCount (now (table .entry))) (leastFailing (binding (tableOf (now (table .entry)))) 0 (identifierCount (now (table .entry)))) ⌝ }
 {

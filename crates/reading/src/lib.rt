@@ -1,10 +1,10 @@
 // Reading a table: refusals 1 to 9 of document 01.
 ghost use mathlib.Core.Path.{_≡_};
-ghost use Rattle.rules.specs.Tables.{tableOf, lastNode};
+ghost use Rattle.rules.specs.Tables.{tableOf};
 ghost use Rattle.rules.specs.Readable.{Header, Readable};
-ghost use Rattle.rules.specs.Reading.{reading, height};
+ghost use Rattle.rules.specs.Reading.{reading};
 ghost use Rattle.table.specs.Layout.{Fielded};
-ghost use Rattle.reading.specs.Answers.{readingOf, readingRecords, readingTree};
+ghost use Rattle.reading.specs.Answers.{readingOf, readingRecords, readingTree, heightOf, rootHeight, readingHeight};
 
 mod binding;
 mod tree;
@@ -17,6 +17,12 @@ pub struct Refusal {
 
 pub enum Reading {
     Passed,
+    Refused(Refusal),
+}
+
+// The height of a table's root, where it passes.
+pub enum Height {
+    Root(usize),
     Refused(Refusal),
 }
 
@@ -83,14 +89,28 @@ pub fn read(table: &[u8]) -> Reading
     read_records(table)
 }
 
-// The height of the root of a table that `read` passes.
-pub fn root_height(table: &[u8]) -> usize
+// The height of the root of a readable table.
+fn root_height(table: &[u8]) -> usize
     requires { ⌜ Readable (now table) ⌝ }
-    ensures { λ r. ⌜ r ≡ height (tableOf (now (table .entry)) .nodes) (lastNode (tableOf (now (table .entry)) .nodes)) ⌝ }
+    ensures { λ r. ⌜ r ≡ rootHeight (tableOf (now (table .entry))) ⌝ }
 {
     let at = table::nodes_offset(table);
     let root = table::nodes(table) - 1;
     let mut heights = [0u8; 512];
     tree::set_heights(table, at, &mut heights);
     table::wide(heights[root])
+}
+
+// Refusals 1 to 9, or the root's height.
+pub fn read_height(table: &[u8]) -> Height
+    ensures { λ r. ⌜ heightOf r ≡ readingHeight (now (table .entry)) ⌝ }
+{
+    let reading = read(table);
+    match reading {
+        Reading::Refused(r) => Height::Refused(r),
+        Reading::Passed => {
+            let h = root_height(table);
+            Height::Root(h)
+        }
+    }
 }

@@ -51,7 +51,7 @@ fn count_node(table: &[u8], at: usize, n: usize, counted: &mut [u16], binders: b
 }
 
 // How often each number stands in the fields of a sort.
-pub fn count_nodes(table: &[u8], at: usize, counted: &mut [u16], binders: bool)
+pub(crate) fn count_nodes(table: &[u8], at: usize, counted: &mut [u16], binders: bool)
     requires { ⌜ Fielded (now table) at × (length (now counted) ≡ 512) × Counted binders (now table) 0 (now counted) ⌝ }
     ensures { λ _. ⌜ Counted binders (now (table .entry)) (nodeCount (now (table .entry))) (now (counted .exit)) ⌝ }
 {
@@ -75,7 +75,7 @@ fn parent_is_good(table: &[u8], at: usize, n: usize, times: u16) -> bool
 }
 
 // Refusal 7: the least node with a fault, or N.
-pub fn first_bad_parent(table: &[u8], at: usize) -> usize
+pub(crate) fn first_bad_parent(table: &[u8], at: usize) -> usize
     requires { ⌜ Fielded (now table) at ⌝ }
     ensures { λ r. ⌜ r ≡ foundOr (nodeCount (now (table .entry))) (leastFailing (parentGood (tableOf (now (table .entry)))) 0 (nodeCount (now (table .entry)))) ⌝ }
 {
@@ -123,7 +123,7 @@ fn tallest_child(table: &[u8], at: usize, n: usize, heights: &[u8]) -> u8
 }
 
 // Sets the heights of the nodes below the first that is above the limit, and answers that node, or N.
-pub fn set_heights(table: &[u8], at: usize, heights: &mut [u8]) -> usize
+pub(crate) fn set_heights(table: &[u8], at: usize, heights: &mut [u8]) -> usize
     requires { ⌜ Fielded (now table) at × (length (now heights) ≡ 512) ⌝ }
     ensures { λ r. ⌜ (r ≡ foundOr (nodeCount (now (table .entry))) (leastFailing (heightGood (tableOf (now (table .entry)))) 0 (nodeCount (now (table .entry))))) × Heights (now (table .entry)) r (now (heights .exit)) ⌝ }
 {
@@ -141,7 +141,7 @@ pub fn set_heights(table: &[u8], at: usize, heights: &mut [u8]) -> usize
 }
 
 // Refusal 8: the least node whose height is above the limit, or N.
-pub fn first_bad_height(table: &[u8], at: usize) -> usize
+pub(crate) fn first_bad_height(table: &[u8], at: usize) -> usize
     requires { ⌜ Fielded (now table) at ⌝ }
     ensures { λ r. ⌜ r ≡ foundOr (nodeCount (now (table .entry))) (leastFailing (heightGood (tableOf (now (table .entry)))) 0 (nodeCount (now (table .entry)))) ⌝ }
 {

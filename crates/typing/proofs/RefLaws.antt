@@ -1,81 +1,38 @@
 -- What a plan speaks of: in a readable table every reference of a node's plan is a variable below the next node's, and a
 -- plan's meaning depends on its references' types only.
 use Prim.Native.Nat.{ℕ, suc, _≤_, _<_}
-use mathlib.Core.List.{List, [], _∷_}
+use mathlib.Core.Bool.{true}
+use mathlib.Core.List.{List, [], _∷_, map}
 use mathlib.Core.Option.{Option, none as nothing, some}
-use mathlib.Core.Path.{_≡_}
+use mathlib.Core.Path.{_≡_, refl, sym, ap, _∙_}
 use native.Mathlib.Omega.{arith}
-use lib.ListN.{length}
+use lib.Dec.{leb, leb→le}
+use lib.ListN.{length, getD, List·getD-map}
 use Rattle.rules.specs.Types.{Ty, DeclaredAtom}
 use Rattle.rules.specs.Kinds.{Test, equal, member, subset, atMost}
 use Rattle.rules.specs.Kinds.{Leaf, identifier, givenSet, elementOf, literal, truthConst, emptySet, boolSet}
 use Rattle.rules.specs.Kinds.{One, singleton, power, dom, ran, card, choice}
 use Rattle.rules.specs.Kinds.{Two, pairing, union, inter, diff, product, apply, plus, minus, interval}
-use Rattle.rules.specs.Kinds.{Kind, join, negation, test, quant, leaf, boolOf, one, two, comprehension, fieldsOf}
+use Rattle.rules.specs.Kinds.{Kind, join, negation, test, quant, leaf, boolOf, one, two, comprehension, kinds, kindOf, fieldsOf}
 use Rattle.rules.specs.Tables.{Node, Table, fieldWords}
 use Rattle.rules.specs.Readable.{FieldsRight, KindRight}
 use Rattle.typing.specs.Plan.{Ref, self, first, second, name, slot, Form, openᶠ, atomᶠ, powᶠ, prodᶠ, Plan, plan}
 use Rattle.typing.specs.Plan.{MatchesForm, MatchesSlots, HoldsRefs, Meets}
 use Rattle.typing.specs.Equations.{planOf}
 
+-- What holds of every kind's plan, by computation over the list of kinds.
+pub by-kinds : {A : Type 0} (f g : Option Kind → A) → f nothing ≡ g nothing → map f kinds ≡ map g kinds → (k : ℕ) → f (kindOf k) ≡ g (kindOf k)
+unfolding kindOf
+by-kinds f g e h k =
+    sym (List·getD-map f kinds k nothing) ∙ ap (λ l. getD l k (f nothing)) h ∙ rw e (List·getD-map g kinds k nothing)
+
 -- A plan has at most 5 slots and 2 equations.
-abbrev Few : Plan → Type 0
-Few p = (length (p .slots) ≤ 5) × (length (p .equations) ≤ 2)
+module _ (k a : ℕ) where
+  pub few-slots : length (planOf (kindOf k) a .slots) ≤ 5
+  few-slots = leb→le _ 5 (rw (by-kinds (λ o. leb (length (planOf o a .slots)) 5) (λ o. true) refl refl k) tt)
 
-few : (o : Option Kind) (a : ℕ) → Few (planOf o a)
-few nothing a = omega arith
-few (some k) a = go k
-  where
-    tests : (j : Test) → Few (plan (test j) a)
-    tests equal = omega arith
-    tests member = omega arith
-    tests subset = omega arith
-    tests (atMost n) = omega arith
-
-    leaves : (j : Leaf) → Few (plan (leaf j) a)
-    leaves identifier = omega arith
-    leaves givenSet = omega arith
-    leaves elementOf = omega arith
-    leaves (literal n) = omega arith
-    leaves truthConst = omega arith
-    leaves emptySet = omega arith
-    leaves boolSet = omega arith
-
-    ones : (j : One) → Few (plan (one j) a)
-    ones singleton = omega arith
-    ones power = omega arith
-    ones dom = omega arith
-    ones ran = omega arith
-    ones card = omega arith
-    ones choice = omega arith
-
-    twos : (j : Two) → Few (plan (two j) a)
-    twos pairing = omega arith
-    twos union = omega arith
-    twos inter = omega arith
-    twos diff = omega arith
-    twos product = omega arith
-    twos apply = omega arith
-    twos (plus n) = omega arith
-    twos (minus n) = omega arith
-    twos interval = omega arith
-
-    go : (k : Kind) → Few (plan k a)
-    go (join j) = omega arith
-    go negation = omega arith
-    go (test j) = tests j
-    go (quant j) = omega arith
-    go (leaf j) = leaves j
-    go boolOf = omega arith
-    go (one j) = ones j
-    go (two j) = twos j
-    go comprehension = omega arith
-
-pub few-slots : (o : Option Kind) (a : ℕ) → length (planOf o a .slots) ≤ 5
-few-slots o a = few o a .0
-
-pub few-equations : (o : Option Kind) (a : ℕ) → length (planOf o a .equations) ≤ 2
-few-equations o a = few o a .1
+  pub few-equations : length (planOf (kindOf k) a .equations) ≤ 2
+  few-equations = leb→le _ 2 (rw (by-kinds (λ o. leb (length (planOf o a .equations)) 2) (λ o. true) refl refl k) tt)
 
 -- What a plan of node n, whose record is d, may speak of: children below n, the table's identifiers and given sets, and m slots.
 module _ (tb : Table) (n : ℕ) (d : Node) (m : ℕ) where

@@ -8,7 +8,7 @@ use native.Mathlib.Nat.{add-zero}
 use native.Mathlib.Omega.{arith}
 use lib.ListN.{getD, length, length-append, length-map, length-replicate, getD-replicate, List·getD-append, List·getD-map}
 use lib.Seq.{getD-append-add}
-use Rattle.rules.specs.Tables.{Table, nodeAt, kindAt}
+use Rattle.rules.specs.Tables.{Table, nodeAt}
 use Rattle.unification.specs.Problem.{Shape, unknown}
 use Rattle.typing.specs.Plan.{Ref, self, first, second, name, slot, openᶠ}
 use Rattle.typing.specs.Equations.{planAt, slotCount, base, varOf, shapeFrom, nodeShapes, shapes, shapeAt}
@@ -32,7 +32,7 @@ base-below tb {n} {m} h = base-mono tb {n = suc n} m h
 pub base-bound : (tb : Table) (k : ℕ) → base tb k ≤ length (tb .binds) + 6 * k
 unfolding base
 base-bound tb zero = omega arith
-base-bound tb (suc k) = omega (arith, base-bound tb k, few-slots (kindAt (tb .nodes) k) (nodeAt (tb .nodes) k .a))
+base-bound tb (suc k) = omega (arith, base-bound tb k, few-slots (nodeAt (tb .nodes) k .kind) (nodeAt (tb .nodes) k .a))
 
 -- One shape for each variable.
 pub length-shapes : (tb : Table) (k : ℕ) → length (shapes tb k) ≡ base tb k

@@ -15,16 +15,13 @@ cells-at-most-requires c κs = search needs
 add-need : tie.Need-add-need
 add-need c = search needs
 
-root-height-requires : tie.Need-root-height-requires
-root-height-requires c κs = search needs
-
 mul-need : tie.Need-mul-need
-mul-need c = let start = c .before .before .before .before .before in omega (arith, c .root-height .ensures, needed-most (start .args .values .now) (start .pre))
+mul-need c = let start = c .before .before .before .before in omega (arith, start .pre .1, needed-most (start .args .values .now) (start .pre .0))
 
 add-need-2 : tie.Need-add-need-2
 add-need-2 c =
-    let start = c .before .before .before .before .before in
-    omega (arith, c .before .cells-at-most .ensures, c .before .before .identifiers .ensures, c .root-height .ensures, needed-most (start .args .values .now) (start .pre))
+    let start = c .before .before .before .before in
+    omega (arith, c .cells-at-most .ensures, c .before .identifiers .ensures, start .pre .1, needed-most (start .args .values .now) (start .pre .0))
 
 smallest-requires : tie.Need-smallest-requires
 smallest-requires c κs = search needs
@@ -40,15 +37,15 @@ refused-requires c κs = search needs
 
 returns : tie.Need-returns
 returns c =
-    let start = c .before .before .before .before .before .before .before .before .before in
+    let start = c .before .before .before .before .before .before .before .before in
     let made = c .before .before .before .smallest in
     made-now (start .args .table .now) (start .args .values .now) (start .args .budget) 4 (made .result) (c .before .e .given .1) (made .ensures)
 
 returns-2 : tie.Need-returns-2
 returns-2 c =
-    let start = c .before .before .before .before .before .before .before .before .before in
+    let start = c .before .before .before .before .before .before .before .before in
     let made = c .before .before .before .smallest in
-    absurd (some-room (start .args .table .now) (start .args .values .now) (start .args .budget) (made .result) (c .before .enum-told .given .1) (made .ensures) (start .pre))
+    absurd (some-room (start .args .table .now) (start .args .values .now) (start .args .budget) (made .result) (c .before .enum-told .given .1) (made .ensures) (start .pre .0))
 
 pub evaluate-sized-spec : {M : Type 1} → statement M
 evaluate-sized-spec =
@@ -57,7 +54,6 @@ evaluate-sized-spec =
     identifiers-requires
     cells-at-most-requires
     add-need
-    root-height-requires
     mul-need
     add-need-2
     smallest-requires

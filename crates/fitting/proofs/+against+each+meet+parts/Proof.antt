@@ -72,74 +72,37 @@ against-Inv-loop s a end b m j₀ left₀ j left = SomeRun s j left × ((r : Boo
 abbrev against-μ-loop : against-lts.MeasureT-loop
 against-μ-loop s a end b m j₀ left₀ j left = left
 
-against-loop-holds : (t : ℕ) → against-lts.Need-loop-holds (
-  meet-below t,
-  meet.Post,
-  end-of-reads.Asked,
-  end-of-reads.Learnt,
-) (against-at t) against.Post against-Inv-loop against-μ-loop
+abbrev against-claims : ℕ → against-lts.Claims
+against-claims t = (meet-below t, meet.Post, end-of-reads.Asked, end-of-reads.Learnt)
+
+against-loop-holds : (t : ℕ) → against-lts.Need-loop-holds (against-claims t) (against-at t) against.Post against-Inv-loop against-μ-loop
 against-loop-holds t c = (c .before .pre .1 .second, λ r g. g)
 
-against-meet-requires : (t : ℕ) → against-lts.Need-meet-requires (
-  meet-below t,
-  meet.Post,
-  end-of-reads.Asked,
-  end-of-reads.Learnt,
-) (against-at t) against.Post against-Inv-loop against-μ-loop
+against-meet-requires : (t : ℕ) → against-lts.Need-meet-requires (against-claims t) (against-at t) against.Post against-Inv-loop against-μ-loop
 against-meet-requires t c κs = (
   omega (arith, c .before .before .before .pre .0),
   record { first = c .before .before .before .pre .1 .first; ends = c .before .before .before .pre .1 .ends; second = run-first _ _ _ (c .before .loop .inv .0) (c .loop-test .taken) },
 )
 
-against-returns : (t : ℕ) → against-lts.Need-returns (
-  meet-below t,
-  meet.Post,
-  end-of-reads.Asked,
-  end-of-reads.Learnt,
-) (against-at t) against.Post against-Inv-loop against-μ-loop
+against-returns : (t : ℕ) → against-lts.Need-returns (against-claims t) (against-at t) against.Post against-Inv-loop against-μ-loop
 against-returns t c = c .before .before .before .loop .inv .1 false (with-false _ _ _ _ (c .before .before .loop-test .taken) (λ v w h k. sym (not-true _ (c .if1 .taken)) ∙ c .before .meet .ensures v w h k))
 
-against-end-of-requires : (t : ℕ) → against-lts.Need-end-of-requires (
-  meet-below t,
-  meet.Post,
-  end-of-reads.Asked,
-  end-of-reads.Learnt,
-) (against-at t) against.Post against-Inv-loop against-μ-loop
+against-end-of-requires : (t : ℕ) → against-lts.Need-end-of-requires (against-claims t) (against-at t) against.Post against-Inv-loop against-μ-loop
 against-end-of-requires t c κs = some-at (run-first _ _ _ (c .before .before .before .loop .inv .0) (c .before .before .loop-test .taken))
 
-against-sub-left : (t : ℕ) → against-lts.Need-sub-left (
-  meet-below t,
-  meet.Post,
-  end-of-reads.Asked,
-  end-of-reads.Learnt,
-) (against-at t) against.Post against-Inv-loop against-μ-loop
+against-sub-left : (t : ℕ) → against-lts.Need-sub-left (against-claims t) (against-at t) against.Post against-Inv-loop against-μ-loop
 against-sub-left t c = omega (arith, c .before .before .before .loop-test .taken)
 
-against-loop-less : (t : ℕ) → against-lts.Need-loop-less (
-  meet-below t,
-  meet.Post,
-  end-of-reads.Asked,
-  end-of-reads.Learnt,
-) (against-at t) against.Post against-Inv-loop against-μ-loop
+against-loop-less : (t : ℕ) → against-lts.Need-loop-less (against-claims t) (against-at t) against.Post against-Inv-loop against-μ-loop
 against-loop-less t c = omega (arith, c .before .before .before .loop-test .taken)
 
-against-loop-again : (t : ℕ) → against-lts.Need-loop-again (
-  meet-below t,
-  meet.Post,
-  end-of-reads.Asked,
-  end-of-reads.Learnt,
-) (against-at t) against.Post against-Inv-loop against-μ-loop
+against-loop-again : (t : ℕ) → against-lts.Need-loop-again (against-claims t) (against-at t) against.Post against-Inv-loop against-μ-loop
 against-loop-again t c = (
   run-rest _ _ _ _ (c .before .before .before .before .loop .inv .0) (c .before .before .before .loop-test .taken) (c .end-of .ensures),
   λ r g. c .before .before .before .before .loop .inv .1 r (with-step _ _ _ _ _ r (c .before .before .before .loop-test .taken) (λ v w h k. sym (not-false _ (c .before .if1 .left)) ∙ c .before .before .meet .ensures v w h k) (c .end-of .ensures) g),
 )
 
-against-returns-2 : (t : ℕ) → against-lts.Need-returns-2 (
-  meet-below t,
-  meet.Post,
-  end-of-reads.Asked,
-  end-of-reads.Learnt,
-) (against-at t) against.Post against-Inv-loop against-μ-loop
+against-returns-2 : (t : ℕ) → against-lts.Need-returns-2 (against-claims t) (against-at t) against.Post against-Inv-loop against-μ-loop
 against-returns-2 t c = c .before .loop .inv .1 true (with-end _ _ _ _ (omega (arith, c .loop-test .left)))
 
 abbrev each-Inv-loop : each-lts.InvT-loop
@@ -148,74 +111,38 @@ each-Inv-loop s a end n b m i₀ left₀ i left = Turn s a end n b m i left
 abbrev each-μ-loop : each-lts.MeasureT-loop
 each-μ-loop s a end n b m i₀ left₀ i left = left
 
-each-loop-holds : (t : ℕ) → each-lts.Need-loop-holds (
-  end-of-reads.Asked,
-  end-of-reads.Learnt,
-  against-below t,
-  against.Post,
-) (each-at t) each.Post each-Inv-loop each-μ-loop
+abbrev each-claims : ℕ → each-lts.Claims
+each-claims t = (end-of-reads.Asked, end-of-reads.Learnt, against-below t, against.Post)
+
+each-loop-holds : (t : ℕ) → each-lts.Need-loop-holds (each-claims t) (each-at t) each.Post each-Inv-loop each-μ-loop
 each-loop-holds t c = turn-start (c .before .pre .1)
 
-each-end-of-requires : (t : ℕ) → each-lts.Need-end-of-requires (
-  end-of-reads.Asked,
-  end-of-reads.Learnt,
-  against-below t,
-  against.Post,
-) (each-at t) each.Post each-Inv-loop each-μ-loop
+each-end-of-requires : (t : ℕ) → each-lts.Need-end-of-requires (each-claims t) (each-at t) each.Post each-Inv-loop each-μ-loop
 each-end-of-requires t c κs = some-at (turn-first _ _ _ _ _ _ _ _ (c .before .loop .inv) (c .loop-test .taken))
 
-each-against-requires : (t : ℕ) → each-lts.Need-against-requires (
-  end-of-reads.Asked,
-  end-of-reads.Learnt,
-  against-below t,
-  against.Post,
-) (each-at t) each.Post each-Inv-loop each-μ-loop
+each-against-requires : (t : ℕ) → each-lts.Need-against-requires (each-claims t) (each-at t) each.Post each-Inv-loop each-μ-loop
 each-against-requires t c κs = (
   omega (arith, c .before .before .before .before .pre .0, c .before .before .loop .inv .from, turn-within _ _ _ _ _ _ _ _ (c .before .before .loop .inv) (c .before .loop-test .taken) _ (c .end-of .ensures)),
   record { first = turn-first _ _ _ _ _ _ _ _ (c .before .before .loop .inv) (c .before .loop-test .taken); ends = c .end-of .ensures; second = c .before .before .before .before .pre .1 .second },
 )
 
-each-returns : (t : ℕ) → each-lts.Need-returns (
-  end-of-reads.Asked,
-  end-of-reads.Learnt,
-  against-below t,
-  against.Post,
-) (each-at t) each.Post each-Inv-loop each-μ-loop
+each-returns : (t : ℕ) → each-lts.Need-returns (each-claims t) (each-at t) each.Post each-Inv-loop each-μ-loop
 each-returns t c = c .before .before .before .before .loop .inv .rest false (all-false _ _ _ _ _ (c .before .before .before .loop-test .taken) (λ v ws h k. sym (not-true _ (c .if1 .taken)) ∙ c .before .against .ensures v ws h k))
 
-each-sub-left : (t : ℕ) → each-lts.Need-sub-left (
-  end-of-reads.Asked,
-  end-of-reads.Learnt,
-  against-below t,
-  against.Post,
-) (each-at t) each.Post each-Inv-loop each-μ-loop
+each-sub-left : (t : ℕ) → each-lts.Need-sub-left (each-claims t) (each-at t) each.Post each-Inv-loop each-μ-loop
 each-sub-left t c = omega (arith, c .before .before .before .loop-test .taken)
 
-each-loop-less : (t : ℕ) → each-lts.Need-loop-less (
-  end-of-reads.Asked,
-  end-of-reads.Learnt,
-  against-below t,
-  against.Post,
-) (each-at t) each.Post each-Inv-loop each-μ-loop
+each-loop-less : (t : ℕ) → each-lts.Need-loop-less (each-claims t) (each-at t) each.Post each-Inv-loop each-μ-loop
 each-loop-less t c = omega (arith, c .before .before .before .loop-test .taken)
 
-each-loop-again : (t : ℕ) → each-lts.Need-loop-again (
-  end-of-reads.Asked,
-  end-of-reads.Learnt,
-  against-below t,
-  against.Post,
-) (each-at t) each.Post each-Inv-loop each-μ-loop
+each-loop-again : (t : ℕ) → each-lts.Need-loop-again (each-claims t) (each-at t) each.Post each-Inv-loop each-μ-loop
 each-loop-again t c = turn-step _ _ _ _ _ _ _ _ (c .before .before .before .before .loop .inv) (c .before .before .before .loop-test .taken) _ (c .before .before .end-of .ensures) (λ v ws h k. sym (not-false _ (c .if1 .left)) ∙ c .before .against .ensures v ws h k)
 
-each-returns-2 : (t : ℕ) → each-lts.Need-returns-2 (
-  end-of-reads.Asked,
-  end-of-reads.Learnt,
-  against-below t,
-  against.Post,
-) (each-at t) each.Post each-Inv-loop each-μ-loop
+each-returns-2 : (t : ℕ) → each-lts.Need-returns-2 (each-claims t) (each-at t) each.Post each-Inv-loop each-μ-loop
 each-returns-2 t c = c .before .loop .inv .rest true (all-end _ _ _ _ _ (omega (arith, c .loop-test .left)))
 
-meet-mul-x : (t : ℕ) → meet-lts.Need-mul-x (
+abbrev meet-claims : ℕ → meet-lts.Claims
+meet-claims t = (
   tag-reads.Asked,
   tag-reads.Learnt,
   members-reads.Asked,
@@ -226,329 +153,101 @@ meet-mul-x : (t : ℕ) → meet-lts.Need-mul-x (
   parts.Post,
   same-kind-reads.Asked,
   same-kind-reads.Learnt,
-) (meet-at t) meet.Post
+)
+
+meet-mul-x : (t : ℕ) → meet-lts.Need-mul-x (meet-claims t) (meet-at t) meet.Post
 meet-mul-x t c = omega (arith, inside _ _ (c .before .pre .1 .first))
 
-meet-shared-slice-read-x : (t : ℕ) → meet-lts.Need-shared-slice-read-x (
-  tag-reads.Asked,
-  tag-reads.Learnt,
-  members-reads.Asked,
-  members-reads.Learnt,
-  each-below t,
-  each.Post,
-  parts-below t,
-  parts.Post,
-  same-kind-reads.Asked,
-  same-kind-reads.Learnt,
-) (meet-at t) meet.Post
+meet-shared-slice-read-x : (t : ℕ) → meet-lts.Need-shared-slice-read-x (meet-claims t) (meet-at t) meet.Post
 meet-shared-slice-read-x t c = inside _ _ (c .before .before .pre .1 .first)
 
-meet-mul-y : (t : ℕ) → meet-lts.Need-mul-y (
-  tag-reads.Asked,
-  tag-reads.Learnt,
-  members-reads.Asked,
-  members-reads.Learnt,
-  each-below t,
-  each.Post,
-  parts-below t,
-  parts.Post,
-  same-kind-reads.Asked,
-  same-kind-reads.Learnt,
-) (meet-at t) meet.Post
+meet-mul-y : (t : ℕ) → meet-lts.Need-mul-y (meet-claims t) (meet-at t) meet.Post
 meet-mul-y t c = omega (arith, inside _ _ (c .before .before .pre .1 .second))
 
-meet-shared-slice-read-y : (t : ℕ) → meet-lts.Need-shared-slice-read-y (
-  tag-reads.Asked,
-  tag-reads.Learnt,
-  members-reads.Asked,
-  members-reads.Learnt,
-  each-below t,
-  each.Post,
-  parts-below t,
-  parts.Post,
-  same-kind-reads.Asked,
-  same-kind-reads.Learnt,
-) (meet-at t) meet.Post
+meet-shared-slice-read-y : (t : ℕ) → meet-lts.Need-shared-slice-read-y (meet-claims t) (meet-at t) meet.Post
 meet-shared-slice-read-y t c = inside _ _ (c .before .before .before .pre .1 .second)
 
-meet-tag-requires : (t : ℕ) → meet-lts.Need-tag-requires (
-  tag-reads.Asked,
-  tag-reads.Learnt,
-  members-reads.Asked,
-  members-reads.Learnt,
-  each-below t,
-  each.Post,
-  parts-below t,
-  parts.Post,
-  same-kind-reads.Asked,
-  same-kind-reads.Learnt,
-) (meet-at t) meet.Post
+meet-tag-requires : (t : ℕ) → meet-lts.Need-tag-requires (meet-claims t) (meet-at t) meet.Post
 meet-tag-requires t c κs = search needs
 
-meet-tag-requires-2 : (t : ℕ) → meet-lts.Need-tag-requires-2 (
-  tag-reads.Asked,
-  tag-reads.Learnt,
-  members-reads.Asked,
-  members-reads.Learnt,
-  each-below t,
-  each.Post,
-  parts-below t,
-  parts.Post,
-  same-kind-reads.Asked,
-  same-kind-reads.Learnt,
-) (meet-at t) meet.Post
+meet-tag-requires-2 : (t : ℕ) → meet-lts.Need-tag-requires-2 (meet-claims t) (meet-at t) meet.Post
 meet-tag-requires-2 t c κs = search needs
 
-meet-returns : (t : ℕ) → meet-lts.Need-returns (
-  tag-reads.Asked,
-  tag-reads.Learnt,
-  members-reads.Asked,
-  members-reads.Learnt,
-  each-below t,
-  each.Post,
-  parts-below t,
-  parts.Post,
-  same-kind-reads.Asked,
-  same-kind-reads.Learnt,
-) (meet-at t) meet.Post
+meet-returns : (t : ℕ) → meet-lts.Need-returns (meet-claims t) (meet-at t) meet.Post
 meet-returns t c = unlike _ _ _ (λ e. c .if1 .taken (c .before .before .tag .ensures ∙ e ∙ sym (c .before .tag2 .ensures)))
 
-meet-members-requires : (t : ℕ) → meet-lts.Need-members-requires (
-  tag-reads.Asked,
-  tag-reads.Learnt,
-  members-reads.Asked,
-  members-reads.Learnt,
-  each-below t,
-  each.Post,
-  parts-below t,
-  parts.Post,
-  same-kind-reads.Asked,
-  same-kind-reads.Learnt,
-) (meet-at t) meet.Post
+meet-members-requires : (t : ℕ) → meet-lts.Need-members-requires (meet-claims t) (meet-at t) meet.Post
 meet-members-requires t c κs = record { value = c .before .before .before .before .before .before .before .pre .1 .first; isSet = omega (arith, c .if2 .taken, c .before .before .before .tag .ensures) }
 
-meet-members-requires-2 : (t : ℕ) → meet-lts.Need-members-requires-2 (
-  tag-reads.Asked,
-  tag-reads.Learnt,
-  members-reads.Asked,
-  members-reads.Learnt,
-  each-below t,
-  each.Post,
-  parts-below t,
-  parts.Post,
-  same-kind-reads.Asked,
-  same-kind-reads.Learnt,
-) (meet-at t) meet.Post
+meet-members-requires-2 : (t : ℕ) → meet-lts.Need-members-requires-2 (meet-claims t) (meet-at t) meet.Post
 meet-members-requires-2 t c κs = record { value = c .before .before .before .before .before .before .before .before .pre .1 .second; isSet = omega (arith, c .before .if2 .taken, c .before .before .if1 .left, c .before .before .before .tag2 .ensures) }
 
-meet-add-each : (t : ℕ) → meet-lts.Need-add-each (
-  tag-reads.Asked,
-  tag-reads.Learnt,
-  members-reads.Asked,
-  members-reads.Learnt,
-  each-below t,
-  each.Post,
-  parts-below t,
-  parts.Post,
-  same-kind-reads.Asked,
-  same-kind-reads.Learnt,
-) (meet-at t) meet.Post
+meet-add-each : (t : ℕ) → meet-lts.Need-add-each (meet-claims t) (meet-at t) meet.Post
 meet-add-each t c = omega (arith, inside _ _ (c .before .before .before .before .before .before .before .before .before .pre .1 .first))
 
-meet-add-each-2 : (t : ℕ) → meet-lts.Need-add-each-2 (
-  tag-reads.Asked,
-  tag-reads.Learnt,
-  members-reads.Asked,
-  members-reads.Learnt,
-  each-below t,
-  each.Post,
-  parts-below t,
-  parts.Post,
-  same-kind-reads.Asked,
-  same-kind-reads.Learnt,
-) (meet-at t) meet.Post
+meet-add-each-2 : (t : ℕ) → meet-lts.Need-add-each-2 (meet-claims t) (meet-at t) meet.Post
 meet-add-each-2 t c = omega (arith, inside _ _ (c .before .before .before .before .before .before .before .before .before .pre .1 .second))
 
-meet-each-requires : (t : ℕ) → meet-lts.Need-each-requires (
-  tag-reads.Asked,
-  tag-reads.Learnt,
-  members-reads.Asked,
-  members-reads.Learnt,
-  each-below t,
-  each.Post,
-  parts-below t,
-  parts.Post,
-  same-kind-reads.Asked,
-  same-kind-reads.Learnt,
-) (meet-at t) meet.Post
+meet-each-requires : (t : ℕ) → meet-lts.Need-each-requires (meet-claims t) (meet-at t) meet.Post
 meet-each-requires t c κs = (
   omega (arith, c .before .before .before .before .before .before .before .before .before .pre .0, end-bounds _ _ _ (c .before .before .before .before .before .before .before .before .before .pre .1 .first) (c .before .before .before .before .before .before .before .before .before .pre .1 .ends)),
   set-runs _ _ _ _ _ _ (c .before .before .before .before .before .before .before .before .before .pre .1) (omega (arith, c .before .before .if2 .taken, c .before .before .before .before .before .tag .ensures)) (omega (arith, c .before .before .if2 .taken, c .before .before .before .if1 .left, c .before .before .before .before .tag2 .ensures)) (c .before .members .ensures) (c .members2 .ensures),
 )
 
-meet-returns-2 : (t : ℕ) → meet-lts.Need-returns-2 (
-  tag-reads.Asked,
-  tag-reads.Learnt,
-  members-reads.Asked,
-  members-reads.Learnt,
-  each-below t,
-  each.Post,
-  parts-below t,
-  parts.Post,
-  same-kind-reads.Asked,
-  same-kind-reads.Learnt,
-) (meet-at t) meet.Post
+meet-returns-2 : (t : ℕ) → meet-lts.Need-returns-2 (meet-claims t) (meet-at t) meet.Post
 meet-returns-2 t c = sets-agree _ _ _ _ _ _ (omega (arith, c .before .before .before .if2 .taken, c .before .before .before .before .before .before .tag .ensures)) (omega (arith, c .before .before .before .if2 .taken, c .before .before .before .before .if1 .left, c .before .before .before .before .before .tag2 .ensures)) (c .before .before .members .ensures) (c .before .members2 .ensures) (c .each .ensures)
 
-meet-add-parts : (t : ℕ) → meet-lts.Need-add-parts (
-  tag-reads.Asked,
-  tag-reads.Learnt,
-  members-reads.Asked,
-  members-reads.Learnt,
-  each-below t,
-  each.Post,
-  parts-below t,
-  parts.Post,
-  same-kind-reads.Asked,
-  same-kind-reads.Learnt,
-) (meet-at t) meet.Post
+meet-add-parts : (t : ℕ) → meet-lts.Need-add-parts (meet-claims t) (meet-at t) meet.Post
 meet-add-parts t c = omega (arith, inside _ _ (c .before .before .before .before .before .before .before .before .pre .1 .first))
 
-meet-add-parts-2 : (t : ℕ) → meet-lts.Need-add-parts-2 (
-  tag-reads.Asked,
-  tag-reads.Learnt,
-  members-reads.Asked,
-  members-reads.Learnt,
-  each-below t,
-  each.Post,
-  parts-below t,
-  parts.Post,
-  same-kind-reads.Asked,
-  same-kind-reads.Learnt,
-) (meet-at t) meet.Post
+meet-add-parts-2 : (t : ℕ) → meet-lts.Need-add-parts-2 (meet-claims t) (meet-at t) meet.Post
 meet-add-parts-2 t c = omega (arith, inside _ _ (c .before .before .before .before .before .before .before .before .pre .1 .second))
 
-meet-parts-requires : (t : ℕ) → meet-lts.Need-parts-requires (
-  tag-reads.Asked,
-  tag-reads.Learnt,
-  members-reads.Asked,
-  members-reads.Learnt,
-  each-below t,
-  each.Post,
-  parts-below t,
-  parts.Post,
-  same-kind-reads.Asked,
-  same-kind-reads.Learnt,
-) (meet-at t) meet.Post
+meet-parts-requires : (t : ℕ) → meet-lts.Need-parts-requires (meet-claims t) (meet-at t) meet.Post
 meet-parts-requires t c κs = (
   omega (arith, c .before .before .before .before .before .before .before .before .pre .0, end-bounds _ _ _ (c .before .before .before .before .before .before .before .before .pre .1 .first) (c .before .before .before .before .before .before .before .before .pre .1 .ends)),
   pair-parts _ _ _ _ (c .before .before .before .before .before .before .before .before .pre .1) (omega (arith, c .if3 .taken, c .before .before .before .before .tag .ensures)) (omega (arith, c .if3 .taken, c .before .before .if1 .left, c .before .before .before .tag2 .ensures)),
 )
 
-meet-returns-3 : (t : ℕ) → meet-lts.Need-returns-3 (
-  tag-reads.Asked,
-  tag-reads.Learnt,
-  members-reads.Asked,
-  members-reads.Learnt,
-  each-below t,
-  each.Post,
-  parts-below t,
-  parts.Post,
-  same-kind-reads.Asked,
-  same-kind-reads.Learnt,
-) (meet-at t) meet.Post
+meet-returns-3 : (t : ℕ) → meet-lts.Need-returns-3 (meet-claims t) (meet-at t) meet.Post
 meet-returns-3 t c = pairs-agree _ _ _ _ (omega (arith, c .before .if3 .taken, c .before .before .before .before .before .tag .ensures)) (omega (arith, c .before .if3 .taken, c .before .before .before .if1 .left, c .before .before .before .before .tag2 .ensures)) (c .parts .ensures)
 
-meet-same-kind-requires : (t : ℕ) → meet-lts.Need-same-kind-requires (
-  tag-reads.Asked,
-  tag-reads.Learnt,
-  members-reads.Asked,
-  members-reads.Learnt,
-  each-below t,
-  each.Post,
-  parts-below t,
-  parts.Post,
-  same-kind-reads.Asked,
-  same-kind-reads.Learnt,
-) (meet-at t) meet.Post
+meet-same-kind-requires : (t : ℕ) → meet-lts.Need-same-kind-requires (meet-claims t) (meet-at t) meet.Post
 meet-same-kind-requires t c κs = search needs
 
-meet-returns-4 : (t : ℕ) → meet-lts.Need-returns-4 (
-  tag-reads.Asked,
-  tag-reads.Learnt,
-  members-reads.Asked,
-  members-reads.Learnt,
-  each-below t,
-  each.Post,
-  parts-below t,
-  parts.Post,
-  same-kind-reads.Asked,
-  same-kind-reads.Learnt,
-) (meet-at t) meet.Post
+meet-returns-4 : (t : ℕ) → meet-lts.Need-returns-4 (meet-claims t) (meet-at t) meet.Post
 meet-returns-4 t c = λ v w h k. c .same-kind .ensures
     ∙ kinds-agree _ _ _ (omega (arith, c .before .before .before .if1 .left, c .before .before .before .before .tag2 .ensures, c .before .before .before .before .before .tag .ensures)) (λ e. c .before .if3 .left (c .before .before .before .before .before .tag .ensures ∙ e)) (λ e. c .before .before .if2 .left (c .before .before .before .before .before .tag .ensures ∙ e)) v w h k
 
-parts-end-of-requires : (t : ℕ) → parts-lts.Need-end-of-requires (
-  end-of-reads.Asked,
-  end-of-reads.Learnt,
-  meet-below t,
-  meet.Post,
-) (parts-at t) parts.Post
+abbrev parts-claims : ℕ → parts-lts.Claims
+parts-claims t = (end-of-reads.Asked, end-of-reads.Learnt, meet-below t, meet.Post)
+
+parts-end-of-requires : (t : ℕ) → parts-lts.Need-end-of-requires (parts-claims t) (parts-at t) parts.Post
 parts-end-of-requires t c κs = some-at (c .before .pre .1 .left)
 
-parts-meet-requires : (t : ℕ) → parts-lts.Need-meet-requires (
-  end-of-reads.Asked,
-  end-of-reads.Learnt,
-  meet-below t,
-  meet.Post,
-) (parts-at t) parts.Post
+parts-meet-requires : (t : ℕ) → parts-lts.Need-meet-requires (parts-claims t) (parts-at t) parts.Post
 parts-meet-requires t c κs = (
   omega (arith, c .before .before .pre .0, parts-bounds _ _ _ _ (c .before .before .pre .1) _ (c .end-of .ensures)),
   record { first = c .before .before .pre .1 .left; ends = c .end-of .ensures; second = c .before .before .pre .1 .otherLeft },
 )
 
-parts-returns : (t : ℕ) → parts-lts.Need-returns (
-  end-of-reads.Asked,
-  end-of-reads.Learnt,
-  meet-below t,
-  meet.Post,
-) (parts-at t) parts.Post
+parts-returns : (t : ℕ) → parts-lts.Need-returns (parts-claims t) (parts-at t) parts.Post
 parts-returns t c = parts-false _ _ _ (λ v w h k. sym (not-true _ (c .if1 .taken)) ∙ c .before .meet .ensures v w h k)
 
-parts-end-of-requires-2 : (t : ℕ) → parts-lts.Need-end-of-requires-2 (
-  end-of-reads.Asked,
-  end-of-reads.Learnt,
-  meet-below t,
-  meet.Post,
-) (parts-at t) parts.Post
+parts-end-of-requires-2 : (t : ℕ) → parts-lts.Need-end-of-requires-2 (parts-claims t) (parts-at t) parts.Post
 parts-end-of-requires-2 t c κs = some-at (c .before .before .before .before .pre .1 .otherLeft)
 
-parts-meet-requires-2 : (t : ℕ) → parts-lts.Need-meet-requires-2 (
-  end-of-reads.Asked,
-  end-of-reads.Learnt,
-  meet-below t,
-  meet.Post,
-) (parts-at t) parts.Post
+parts-meet-requires-2 : (t : ℕ) → parts-lts.Need-meet-requires-2 (parts-claims t) (parts-at t) parts.Post
 parts-meet-requires-2 t c κs = (
   omega (arith, c .before .before .before .before .before .pre .0, parts-bounds _ _ _ _ (c .before .before .before .before .before .pre .1) _ (c .before .before .before .end-of .ensures)),
   record { first = c .before .before .before .before .before .pre .1 .right _ (c .before .before .before .end-of .ensures) .0; ends = c .before .before .before .before .before .pre .1 .right _ (c .before .before .before .end-of .ensures) .1; second = c .before .before .before .before .before .pre .1 .otherRight _ (c .end-of2 .ensures) },
 )
 
-parts-returns-2 : (t : ℕ) → parts-lts.Need-returns-2 (
-  end-of-reads.Asked,
-  end-of-reads.Learnt,
-  meet-below t,
-  meet.Post,
-) (parts-at t) parts.Post
+parts-returns-2 : (t : ℕ) → parts-lts.Need-returns-2 (parts-claims t) (parts-at t) parts.Post
 parts-returns-2 t c = parts-true _ _ _ _ _ _ (c .before .before .before .before .end-of .ensures) (c .before .end-of2 .ensures) (λ v w h k. sym (not-false _ (c .before .before .if1 .left)) ∙ c .before .before .before .meet .ensures v w h k) (c .meet2 .ensures)
 
 pub +against+each+meet+parts-spec : {M : Type 1} → statement M
-+against+each+meet+parts-spec = close μ-against μ-each μ-meet μ-parts (λ t. against-lts.spec (
-  meet-below t,
-  meet.Post,
-  end-of-reads.Asked,
-  end-of-reads.Learnt,
-)
++against+each+meet+parts-spec = close μ-against μ-each μ-meet μ-parts (λ t. against-lts.spec (against-claims t)
     (against-at t)
     against.Post
     against-Inv-loop
@@ -575,18 +274,7 @@ pub +against+each+meet+parts-spec : {M : Type 1} → statement M
     (each-loop-less t)
     (each-loop-again t)
     (each-returns-2 t))
-    (λ t. meet-lts.spec (
-      tag-reads.Asked,
-      tag-reads.Learnt,
-      members-reads.Asked,
-      members-reads.Learnt,
-      each-below t,
-      each.Post,
-      parts-below t,
-      parts.Post,
-      same-kind-reads.Asked,
-      same-kind-reads.Learnt,
-    )
+    (λ t. meet-lts.spec (meet-claims t)
     (meet-at t)
     meet.Post
     (meet-mul-x t)

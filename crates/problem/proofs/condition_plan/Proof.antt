@@ -31,7 +31,7 @@ returns-6 c = plan-at 11 (c .before .before .match .keys6)
 
 returns-7 : tie.Need-returns-7
 unfolding digits kindOf
-returns-7 c = plan-low _ (c .before .before .before .pre) (c .before .before .match .rest)
+returns-7 c = plan-low _ (c .before .before .before .pre .1) (c .before .before .match .rest)
 
 pub condition-plan-spec : {M : Type 1} → statement M
 condition-plan-spec =

@@ -1,7 +1,7 @@
 -- By kind codes.
 use Rattle.rules.specs.Kinds.{kindOf}
 use Rattle.problem.specs.Codes.{digits}
-use Rattle.problem.proofs.CodeLaws.{plan-at, plan-high}
+use Rattle.problem.proofs.CodeLaws.{plan-at, last-code}
 use Rattle.problem.proofs.value_plan.Statement.{statement}
 use Rattle.problem.proofs.value_plan.Tie as tie
 
@@ -39,11 +39,7 @@ returns-8 c = plan-at 42 (c .before .before .match .keys8)
 
 returns-9 : tie.Need-returns-9
 unfolding digits kindOf
-returns-9 c = plan-at 43 (c .before .before .match .keys9)
-
-returns-10 : tie.Need-returns-10
-unfolding digits kindOf
-returns-10 c = plan-high _ (c .before .before .before .pre) (c .before .before .match .rest)
+returns-9 c = plan-at 43 (last-code _ 35 8 (c .before .before .before .pre .0) (c .before .before .before .pre .1) (c .before .before .match .rest))
 
 pub value-plan-spec : {M : Type 1} → statement M
 value-plan-spec =
@@ -57,5 +53,4 @@ value-plan-spec =
     returns-6
     returns-7
     returns-8
-    returns-9
-    returns-10)
+    returns-9)

@@ -13,324 +13,154 @@ use Rattle.evaluators.proofs.choose.Reads as choose-reads
 use Rattle.table.proofs.field.Reads as field-reads
 use Rattle.evaluators.proofs.+each_chosen+each_member+eval_bool+eval_both+eval_expr+eval_join+eval_not+eval_one+eval_pred+eval_quant+eval_select+eval_test+eval_two.Proof.Base.{each-chosen-at, eval-pred-below}
 
-abbrev pub each-chosen-Inv-loop : each-chosen-lts.InvT-loop
+abbrev each-chosen-Inv-loop : each-chosen-lts.InvT-loop
 each-chosen-Inv-loop table base env s₀ top node from count steps budget x body inner₀ at₀ left₀ n₀ to₀ chosen₀ s inner at left n to chosen =
     Choosing table env s₀ top node from count steps budget s inner at left n to chosen
 
-abbrev pub each-chosen-μ-loop : each-chosen-lts.MeasureT-loop
+abbrev each-chosen-μ-loop : each-chosen-lts.MeasureT-loop
 each-chosen-μ-loop table base env s₀ top node from count steps budget x body inner₀ at₀ left₀ n₀ to₀ chosen₀ s inner at left n to chosen =
     left
 
-pub each-chosen-field-requires : (t : ℕ) → each-chosen-lts.Need-field-requires (
-  field-reads.Asked,
-  field-reads.Learnt,
-  eval-pred-below t,
-  eval-pred.Post,
-  end-of-reads.Asked,
-  end-of-reads.Learnt,
-  choose-reads.Asked,
-  choose-reads.Learnt,
-) (each-chosen-at t) each-chosen.Post each-chosen-Inv-loop each-chosen-μ-loop
-each-chosen-field-requires t c κs = (binder-node (c .before .before .pre .1), lit< tt)
+module _ (t : ℕ) where
+  abbrev claims : each-chosen-lts.Claims
+  claims = (
+    field-reads.Asked,
+    field-reads.Learnt,
+    eval-pred-below t,
+    eval-pred.Post,
+    end-of-reads.Asked,
+    end-of-reads.Learnt,
+    choose-reads.Asked,
+    choose-reads.Learnt,
+  )
 
-pub each-chosen-field-requires-2 : (t : ℕ) → each-chosen-lts.Need-field-requires-2 (
-  field-reads.Asked,
-  field-reads.Learnt,
-  eval-pred-below t,
-  eval-pred.Post,
-  end-of-reads.Asked,
-  end-of-reads.Learnt,
-  choose-reads.Asked,
-  choose-reads.Learnt,
-) (each-chosen-at t) each-chosen.Post each-chosen-Inv-loop each-chosen-μ-loop
-each-chosen-field-requires-2 t c κs = (binder-node (c .before .before .before .pre .1), lit< tt)
+  field-requires : each-chosen-lts.Need-field-requires claims (each-chosen-at t) each-chosen.Post each-chosen-Inv-loop each-chosen-μ-loop
+  field-requires c κs = (binder-node (c .before .before .pre .1), lit< tt)
 
-pub each-chosen-add-to : (t : ℕ) → each-chosen-lts.Need-add-to (
-  field-reads.Asked,
-  field-reads.Learnt,
-  eval-pred-below t,
-  eval-pred.Post,
-  end-of-reads.Asked,
-  end-of-reads.Learnt,
-  choose-reads.Asked,
-  choose-reads.Learnt,
-) (each-chosen-at t) each-chosen.Post each-chosen-Inv-loop each-chosen-μ-loop
-each-chosen-add-to t c = above-fits (c .before .before .before .before .before .pre .1)
+  field-requires-2 : each-chosen-lts.Need-field-requires-2 claims (each-chosen-at t) each-chosen.Post each-chosen-Inv-loop each-chosen-μ-loop
+  field-requires-2 c κs = (binder-node (c .before .before .before .pre .1), lit< tt)
 
-pub each-chosen-loop-holds : (t : ℕ) → each-chosen-lts.Need-loop-holds (
-  field-reads.Asked,
-  field-reads.Learnt,
-  eval-pred-below t,
-  eval-pred.Post,
-  end-of-reads.Asked,
-  end-of-reads.Learnt,
-  choose-reads.Asked,
-  choose-reads.Learnt,
-) (each-chosen-at t) each-chosen.Post each-chosen-Inv-loop each-chosen-μ-loop
-each-chosen-loop-holds t c = choosing-start (c .before .before .before .before .before .pre .1)
+  add-to : each-chosen-lts.Need-add-to claims (each-chosen-at t) each-chosen.Post each-chosen-Inv-loop each-chosen-μ-loop
+  add-to c = above-fits (c .before .before .before .before .before .pre .1)
 
-pub each-chosen-cast-inner : (t : ℕ) → each-chosen-lts.Need-cast-inner (
-  field-reads.Asked,
-  field-reads.Learnt,
-  eval-pred-below t,
-  eval-pred.Post,
-  end-of-reads.Asked,
-  end-of-reads.Learnt,
-  choose-reads.Asked,
-  choose-reads.Learnt,
-) (each-chosen-at t) each-chosen.Post each-chosen-Inv-loop each-chosen-μ-loop
-each-chosen-cast-inner t c =
-    let start = c .before .before .before .before .before .before .before .pre .1 in
-    let inv = c .before .loop .inv in
-    omega (arith, choosing-below start inv (omega (arith, c .loop-test .taken)), start .space, start .ready .small)
+  loop-holds : each-chosen-lts.Need-loop-holds claims (each-chosen-at t) each-chosen.Post each-chosen-Inv-loop each-chosen-μ-loop
+  loop-holds c = choosing-start (c .before .before .before .before .before .pre .1)
 
-pub each-chosen-mul-inner : (t : ℕ) → each-chosen-lts.Need-mul-inner (
-  field-reads.Asked,
-  field-reads.Learnt,
-  eval-pred-below t,
-  eval-pred.Post,
-  end-of-reads.Asked,
-  end-of-reads.Learnt,
-  choose-reads.Asked,
-  choose-reads.Learnt,
-) (each-chosen-at t) each-chosen.Post each-chosen-Inv-loop each-chosen-μ-loop
-each-chosen-mul-inner t c = entry-scaled (c .before .before .before .before .field .ensures) (c .before .before .before .before .before .before .before .pre .1 .name)
+  cast-inner : each-chosen-lts.Need-cast-inner claims (each-chosen-at t) each-chosen.Post each-chosen-Inv-loop each-chosen-μ-loop
+  cast-inner c =
+      let start = c .before .before .before .before .before .before .before .pre .1 in
+      let inv = c .before .loop .inv in
+      omega (arith, choosing-below start inv (omega (arith, c .loop-test .taken)), start .space, start .ready .small)
 
-pub each-chosen-array-write-inner : (t : ℕ) → each-chosen-lts.Need-array-write-inner (
-  field-reads.Asked,
-  field-reads.Learnt,
-  eval-pred-below t,
-  eval-pred.Post,
-  end-of-reads.Asked,
-  end-of-reads.Learnt,
-  choose-reads.Asked,
-  choose-reads.Learnt,
-) (each-chosen-at t) each-chosen.Post each-chosen-Inv-loop each-chosen-μ-loop
-each-chosen-array-write-inner t c = entry-below (c .before .before .before .before .field .ensures) (c .before .before .before .before .before .before .before .pre .1 .name)
+  mul-inner : each-chosen-lts.Need-mul-inner claims (each-chosen-at t) each-chosen.Post each-chosen-Inv-loop each-chosen-μ-loop
+  mul-inner c = entry-scaled (c .before .before .before .before .field .ensures) (c .before .before .before .before .before .before .before .pre .1 .name)
 
-pub each-chosen-eval-pred-requires : (t : ℕ) → each-chosen-lts.Need-eval-pred-requires (
-  field-reads.Asked,
-  field-reads.Learnt,
-  eval-pred-below t,
-  eval-pred.Post,
-  end-of-reads.Asked,
-  end-of-reads.Learnt,
-  choose-reads.Asked,
-  choose-reads.Learnt,
-) (each-chosen-at t) each-chosen.Post each-chosen-Inv-loop each-chosen-μ-loop
-each-chosen-eval-pred-requires t c κs =
-    let start = c .before .before .before .before .before .before .before .before .before .pre in
-    let inv = c .before .before .before .loop .inv in
-    let body = c .before .before .before .before .before .field2 .ensures in
-    let more : 0 < c .before .before .before .loop .left = omega (arith, c .before .before .loop-test .taken) in
-    (omega (arith, start .0, start .1 .deeper, body), choosing-ready (start .1) inv more (c .before .before .before .before .before .before .field .ensures) body)
+  array-write-inner : each-chosen-lts.Need-array-write-inner claims (each-chosen-at t) each-chosen.Post each-chosen-Inv-loop each-chosen-μ-loop
+  array-write-inner c = entry-below (c .before .before .before .before .field .ensures) (c .before .before .before .before .before .before .before .pre .1 .name)
 
-pub each-chosen-enum-known-k : (t : ℕ) → each-chosen-lts.Need-enum-known-k (
-  field-reads.Asked,
-  field-reads.Learnt,
-  eval-pred-below t,
-  eval-pred.Post,
-  end-of-reads.Asked,
-  end-of-reads.Learnt,
-  choose-reads.Asked,
-  choose-reads.Learnt,
-) (each-chosen-at t) each-chosen.Post each-chosen-Inv-loop each-chosen-μ-loop
-each-chosen-enum-known-k t c = c .match .keys1
+  eval-pred-requires : each-chosen-lts.Need-eval-pred-requires claims (each-chosen-at t) each-chosen.Post each-chosen-Inv-loop each-chosen-μ-loop
+  eval-pred-requires c κs =
+      let start = c .before .before .before .before .before .before .before .before .before .pre in
+      let inv = c .before .before .before .loop .inv in
+      let body = c .before .before .before .before .before .field2 .ensures in
+      let more : 0 < c .before .before .before .loop .left = omega (arith, c .before .before .loop-test .taken) in
+      (omega (arith, start .0, start .1 .deeper, body), choosing-ready (start .1) inv more (c .before .before .before .before .before .before .field .ensures) body)
 
-pub each-chosen-same-length : (t : ℕ) → each-chosen-lts.Need-same-length (
-  field-reads.Asked,
-  field-reads.Learnt,
-  eval-pred-below t,
-  eval-pred.Post,
-  end-of-reads.Asked,
-  end-of-reads.Learnt,
-  choose-reads.Asked,
-  choose-reads.Learnt,
-) (each-chosen-at t) each-chosen.Post each-chosen-Inv-loop each-chosen-μ-loop
-each-chosen-same-length t c = c .before .before .before .before .before .eval-pred .kept .1 .1 .1 .0 ∙ c .before .before .before .before .before .before .before .before .before .loop .inv .frame .kept
+  enum-known-k : each-chosen-lts.Need-enum-known-k claims (each-chosen-at t) each-chosen.Post each-chosen-Inv-loop each-chosen-μ-loop
+  enum-known-k c = c .match .keys1
 
-pub each-chosen-returns : (t : ℕ) → each-chosen-lts.Need-returns (
-  field-reads.Asked,
-  field-reads.Learnt,
-  eval-pred-below t,
-  eval-pred.Post,
-  end-of-reads.Asked,
-  end-of-reads.Learnt,
-  choose-reads.Asked,
-  choose-reads.Learnt,
-) (each-chosen-at t) each-chosen.Post each-chosen-Inv-loop each-chosen-μ-loop
-each-chosen-returns t c =
-    let start = c .before .before .before .before .before .before .before .before .before .before .before .before .before .before .before .pre .1 in
-    let inv = c .before .before .before .before .before .before .before .before .before .loop .inv in
-    let more : 0 < c .before .before .before .before .before .before .before .before .before .loop .left = omega (arith, c .before .before .before .before .before .before .before .before .loop-test .taken) in
-    choosing-refused start inv more (c .before .before .before .before .before .before .before .before .before .before .before .before .field .ensures) (c .before .before .before .before .before .before .before .before .before .before .before .field2 .ensures) (c .before .before .before .before .before .eval-pred .ensures) (c .before .k .given .1)
+  same-length : each-chosen-lts.Need-same-length claims (each-chosen-at t) each-chosen.Post each-chosen-Inv-loop each-chosen-μ-loop
+  same-length c = c .before .before .before .before .before .eval-pred .kept .1 .1 .1 .0 ∙ c .before .before .before .before .before .before .before .before .before .loop .inv .frame .kept
 
-pub each-chosen-enum-known-yes : (t : ℕ) → each-chosen-lts.Need-enum-known-yes (
-  field-reads.Asked,
-  field-reads.Learnt,
-  eval-pred-below t,
-  eval-pred.Post,
-  end-of-reads.Asked,
-  end-of-reads.Learnt,
-  choose-reads.Asked,
-  choose-reads.Learnt,
-) (each-chosen-at t) each-chosen.Post each-chosen-Inv-loop each-chosen-μ-loop
-each-chosen-enum-known-yes t c = c .match .keys2
+  returns : each-chosen-lts.Need-returns claims (each-chosen-at t) each-chosen.Post each-chosen-Inv-loop each-chosen-μ-loop
+  returns c =
+      let start = c .before .before .before .before .before .before .before .before .before .before .before .before .before .before .before .pre .1 in
+      let inv = c .before .before .before .before .before .before .before .before .before .loop .inv in
+      let more : 0 < c .before .before .before .before .before .before .before .before .before .loop .left = omega (arith, c .before .before .before .before .before .before .before .before .loop-test .taken) in
+      choosing-refused start inv more (c .before .before .before .before .before .before .before .before .before .before .before .before .field .ensures) (c .before .before .before .before .before .before .before .before .before .before .before .field2 .ensures) (c .before .before .before .before .before .eval-pred .ensures) (c .before .k .given .1)
 
-pub each-chosen-end-of-requires : (t : ℕ) → each-chosen-lts.Need-end-of-requires (
-  field-reads.Asked,
-  field-reads.Learnt,
-  eval-pred-below t,
-  eval-pred.Post,
-  end-of-reads.Asked,
-  end-of-reads.Learnt,
-  choose-reads.Asked,
-  choose-reads.Learnt,
-) (each-chosen-at t) each-chosen.Post each-chosen-Inv-loop each-chosen-μ-loop
-each-chosen-end-of-requires t c κs =
-    let start = c .before .before .before .before .before .before .before .before .before .before .before .before .before .before .before .before .pre .1 in
-    let inv = c .before .before .before .before .before .before .before .before .before .before .loop .inv in
-    let more : 0 < c .before .before .before .before .before .before .before .before .before .before .loop .left = omega (arith, c .before .before .before .before .before .before .before .before .before .loop-test .taken) in
-    choosing-some start inv more (c .before .before .before .before .before .before .before .before .before .before .before .before .before .field .ensures) (c .before .before .before .before .before .before .before .before .before .before .before .before .field2 .ensures) (c .before .before .before .before .before .before .eval-pred .ensures)
+  enum-known-yes : each-chosen-lts.Need-enum-known-yes claims (each-chosen-at t) each-chosen.Post each-chosen-Inv-loop each-chosen-μ-loop
+  enum-known-yes c = c .match .keys2
 
-pub each-chosen-choose-requires : (t : ℕ) → each-chosen-lts.Need-choose-requires (
-  field-reads.Asked,
-  field-reads.Learnt,
-  eval-pred-below t,
-  eval-pred.Post,
-  end-of-reads.Asked,
-  end-of-reads.Learnt,
-  choose-reads.Asked,
-  choose-reads.Learnt,
-) (each-chosen-at t) each-chosen.Post each-chosen-Inv-loop each-chosen-μ-loop
-each-chosen-choose-requires t c κs =
-    let start = c .before .before .before .before .before .before .before .before .before .before .before .before .before .before .before .before .before .before .pre .1 in
-    let inv = c .before .before .before .before .before .before .before .before .before .before .before .before .loop .inv in
-    let more : 0 < c .before .before .before .before .before .before .before .before .before .before .before .before .loop .left = omega (arith, c .before .before .before .before .before .before .before .before .before .before .before .loop-test .taken) in
-    choosing-choose start inv more (c .before .before .before .before .before .before .before .before .before .before .before .before .before .before .before .field .ensures) (c .before .before .before .before .before .before .before .before .before .before .before .before .before .before .field2 .ensures) (c .before .before .before .before .before .before .before .before .eval-pred .ensures) (c .before .end-of .ensures)
+  end-of-requires : each-chosen-lts.Need-end-of-requires claims (each-chosen-at t) each-chosen.Post each-chosen-Inv-loop each-chosen-μ-loop
+  end-of-requires c κs =
+      let start = c .before .before .before .before .before .before .before .before .before .before .before .before .before .before .before .before .pre .1 in
+      let inv = c .before .before .before .before .before .before .before .before .before .before .loop .inv in
+      let more : 0 < c .before .before .before .before .before .before .before .before .before .before .loop .left = omega (arith, c .before .before .before .before .before .before .before .before .before .loop-test .taken) in
+      choosing-some start inv more (c .before .before .before .before .before .before .before .before .before .before .before .before .before .field .ensures) (c .before .before .before .before .before .before .before .before .before .before .before .before .field2 .ensures) (c .before .before .before .before .before .before .eval-pred .ensures)
 
-pub each-chosen-cast-chosen : (t : ℕ) → each-chosen-lts.Need-cast-chosen (
-  field-reads.Asked,
-  field-reads.Learnt,
-  eval-pred-below t,
-  eval-pred.Post,
-  end-of-reads.Asked,
-  end-of-reads.Learnt,
-  choose-reads.Asked,
-  choose-reads.Learnt,
-) (each-chosen-at t) each-chosen.Post each-chosen-Inv-loop each-chosen-μ-loop
-each-chosen-cast-chosen t c = tt
+  choose-requires : each-chosen-lts.Need-choose-requires claims (each-chosen-at t) each-chosen.Post each-chosen-Inv-loop each-chosen-μ-loop
+  choose-requires c κs =
+      let start = c .before .before .before .before .before .before .before .before .before .before .before .before .before .before .before .before .before .before .pre .1 in
+      let inv = c .before .before .before .before .before .before .before .before .before .before .before .before .loop .inv in
+      let more : 0 < c .before .before .before .before .before .before .before .before .before .before .before .before .loop .left = omega (arith, c .before .before .before .before .before .before .before .before .before .before .before .loop-test .taken) in
+      choosing-choose start inv more (c .before .before .before .before .before .before .before .before .before .before .before .before .before .before .before .field .ensures) (c .before .before .before .before .before .before .before .before .before .before .before .before .before .before .field2 .ensures) (c .before .before .before .before .before .before .before .before .eval-pred .ensures) (c .before .end-of .ensures)
 
-pub each-chosen-add-chosen : (t : ℕ) → each-chosen-lts.Need-add-chosen (
-  field-reads.Asked,
-  field-reads.Learnt,
-  eval-pred-below t,
-  eval-pred.Post,
-  end-of-reads.Asked,
-  end-of-reads.Learnt,
-  choose-reads.Asked,
-  choose-reads.Learnt,
-) (each-chosen-at t) each-chosen.Post each-chosen-Inv-loop each-chosen-μ-loop
-each-chosen-add-chosen t c =
-    record { fits = choosing-few (c .before .before .before .before .before .before .before .before .before .before .before .before .before .before .before .before .before .before .before .before .before .pre .1) (c .before .before .before .before .before .before .before .before .before .before .before .before .before .before .before .loop .inv) (c .before .before .before .before .before .before .before .yes .given .0 .0) }
+  cast-chosen : each-chosen-lts.Need-cast-chosen claims (each-chosen-at t) each-chosen.Post each-chosen-Inv-loop each-chosen-μ-loop
+  cast-chosen c = tt
 
-pub each-chosen-sub-left : (t : ℕ) → each-chosen-lts.Need-sub-left (
-  field-reads.Asked,
-  field-reads.Learnt,
-  eval-pred-below t,
-  eval-pred.Post,
-  end-of-reads.Asked,
-  end-of-reads.Learnt,
-  choose-reads.Asked,
-  choose-reads.Learnt,
-) (each-chosen-at t) each-chosen.Post each-chosen-Inv-loop each-chosen-μ-loop
-each-chosen-sub-left t c = c .before .before .before .before .before .before .before .before .before .before .before .before .before .before .loop-test .taken
+  add-chosen : each-chosen-lts.Need-add-chosen claims (each-chosen-at t) each-chosen.Post each-chosen-Inv-loop each-chosen-μ-loop
+  add-chosen c =
+      record { fits = choosing-few (c .before .before .before .before .before .before .before .before .before .before .before .before .before .before .before .before .before .before .before .before .before .pre .1) (c .before .before .before .before .before .before .before .before .before .before .before .before .before .before .before .loop .inv) (c .before .before .before .before .before .before .before .yes .given .0 .0) }
 
-pub each-chosen-loop-less : (t : ℕ) → each-chosen-lts.Need-loop-less (
-  field-reads.Asked,
-  field-reads.Learnt,
-  eval-pred-below t,
-  eval-pred.Post,
-  end-of-reads.Asked,
-  end-of-reads.Learnt,
-  choose-reads.Asked,
-  choose-reads.Learnt,
-) (each-chosen-at t) each-chosen.Post each-chosen-Inv-loop each-chosen-μ-loop
-each-chosen-loop-less t c = one-less (c .before .before .before .before .before .before .before .before .before .before .before .before .before .before .loop-test .taken)
+  sub-left : each-chosen-lts.Need-sub-left claims (each-chosen-at t) each-chosen.Post each-chosen-Inv-loop each-chosen-μ-loop
+  sub-left c = c .before .before .before .before .before .before .before .before .before .before .before .before .before .before .loop-test .taken
 
-pub each-chosen-loop-again : (t : ℕ) → each-chosen-lts.Need-loop-again (
-  field-reads.Asked,
-  field-reads.Learnt,
-  eval-pred-below t,
-  eval-pred.Post,
-  end-of-reads.Asked,
-  end-of-reads.Learnt,
-  choose-reads.Asked,
-  choose-reads.Learnt,
-) (each-chosen-at t) each-chosen.Post each-chosen-Inv-loop each-chosen-μ-loop
-each-chosen-loop-again t c =
-    let start = c .before .before .before .before .before .before .before .before .before .before .before .before .before .before .before .before .before .before .before .before .before .pre .1 in
-    let inv = c .before .before .before .before .before .before .before .before .before .before .before .before .before .before .before .loop .inv in
-    let more : 0 < c .before .before .before .before .before .before .before .before .before .before .before .before .before .before .before .loop .left = omega (arith, c .before .before .before .before .before .before .before .before .before .before .before .before .before .before .loop-test .taken) in
-    choosing-next start inv more (c .before .before .before .before .before .before .before .before .before .before .before .before .before .before .before .before .before .before .field .ensures) (c .before .before .before .before .before .before .before .before .before .before .before .before .before .before .before .before .before .field2 .ensures) (c .before .before .before .before .before .before .before .before .before .before .before .eval-pred .ensures) (c .before .before .before .before .end-of .ensures) (c .before .before .before .before .before .before .before .yes .given .1)
-    (c .before .before .choose .ensures)
+  loop-less : each-chosen-lts.Need-loop-less claims (each-chosen-at t) each-chosen.Post each-chosen-Inv-loop each-chosen-μ-loop
+  loop-less c = one-less (c .before .before .before .before .before .before .before .before .before .before .before .before .before .before .loop-test .taken)
 
-pub each-chosen-add-s : (t : ℕ) → each-chosen-lts.Need-add-s (
-  field-reads.Asked,
-  field-reads.Learnt,
-  eval-pred-below t,
-  eval-pred.Post,
-  end-of-reads.Asked,
-  end-of-reads.Learnt,
-  choose-reads.Asked,
-  choose-reads.Learnt,
-) (each-chosen-at t) each-chosen.Post each-chosen-Inv-loop each-chosen-μ-loop
-each-chosen-add-s t c = omega (arith, choosing-near (c .before .before .before .before .before .before .before .pre .1) (c .before .loop .inv) .2)
+  loop-again : each-chosen-lts.Need-loop-again claims (each-chosen-at t) each-chosen.Post each-chosen-Inv-loop each-chosen-μ-loop
+  loop-again c =
+      let start = c .before .before .before .before .before .before .before .before .before .before .before .before .before .before .before .before .before .before .before .before .before .pre .1 in
+      let inv = c .before .before .before .before .before .before .before .before .before .before .before .before .before .before .before .loop .inv in
+      let more : 0 < c .before .before .before .before .before .before .before .before .before .before .before .before .before .before .before .loop .left = omega (arith, c .before .before .before .before .before .before .before .before .before .before .before .before .before .before .loop-test .taken) in
+      choosing-next start inv more (c .before .before .before .before .before .before .before .before .before .before .before .before .before .before .before .before .before .before .field .ensures) (c .before .before .before .before .before .before .before .before .before .before .before .before .before .before .before .before .before .field2 .ensures) (c .before .before .before .before .before .before .before .before .before .before .before .eval-pred .ensures) (c .before .before .before .before .end-of .ensures) (c .before .before .before .before .before .before .before .yes .given .1)
+      (c .before .before .choose .ensures)
 
-pub each-chosen-mul-s : (t : ℕ) → each-chosen-lts.Need-mul-s (
-  field-reads.Asked,
-  field-reads.Learnt,
-  eval-pred-below t,
-  eval-pred.Post,
-  end-of-reads.Asked,
-  end-of-reads.Learnt,
-  choose-reads.Asked,
-  choose-reads.Learnt,
-) (each-chosen-at t) each-chosen.Post each-chosen-Inv-loop each-chosen-μ-loop
-each-chosen-mul-s t c = top-scaled (c .before .before .before .before .before .before .before .pre .1)
+  add-s : each-chosen-lts.Need-add-s claims (each-chosen-at t) each-chosen.Post each-chosen-Inv-loop each-chosen-μ-loop
+  add-s c = omega (arith, choosing-near (c .before .before .before .before .before .before .before .pre .1) (c .before .loop .inv) .2)
 
-pub each-chosen-slice-write-s : (t : ℕ) → each-chosen-lts.Need-slice-write-s (
-  field-reads.Asked,
-  field-reads.Learnt,
-  eval-pred-below t,
-  eval-pred.Post,
-  end-of-reads.Asked,
-  end-of-reads.Learnt,
-  choose-reads.Asked,
-  choose-reads.Learnt,
-) (each-chosen-at t) each-chosen.Post each-chosen-Inv-loop each-chosen-μ-loop
-each-chosen-slice-write-s t c = top-inside (c .before .before .before .before .before .before .before .pre .1) (c .before .loop .inv .frame)
+  mul-s : each-chosen-lts.Need-mul-s claims (each-chosen-at t) each-chosen.Post each-chosen-Inv-loop each-chosen-μ-loop
+  mul-s c = top-scaled (c .before .before .before .before .before .before .before .pre .1)
 
-pub each-chosen-same-length-2 : (t : ℕ) → each-chosen-lts.Need-same-length-2 (
-  field-reads.Asked,
-  field-reads.Learnt,
-  eval-pred-below t,
-  eval-pred.Post,
-  end-of-reads.Asked,
-  end-of-reads.Learnt,
-  choose-reads.Asked,
-  choose-reads.Learnt,
-) (each-chosen-at t) each-chosen.Post each-chosen-Inv-loop each-chosen-μ-loop
-each-chosen-same-length-2 t c = written-kept _ (c .before .loop .inv .frame)
+  slice-write-s : each-chosen-lts.Need-slice-write-s claims (each-chosen-at t) each-chosen.Post each-chosen-Inv-loop each-chosen-μ-loop
+  slice-write-s c = top-inside (c .before .before .before .before .before .before .before .pre .1) (c .before .loop .inv .frame)
 
-pub each-chosen-returns-2 : (t : ℕ) → each-chosen-lts.Need-returns-2 (
-  field-reads.Asked,
-  field-reads.Learnt,
-  eval-pred-below t,
-  eval-pred.Post,
-  end-of-reads.Asked,
-  end-of-reads.Learnt,
-  choose-reads.Asked,
-  choose-reads.Learnt,
-) (each-chosen-at t) each-chosen.Post each-chosen-Inv-loop each-chosen-μ-loop
-each-chosen-returns-2 t c = choosing-end (c .before .before .before .before .before .before .before .pre .1) (c .before .loop .inv) (omega (arith, c .loop-test .left))
+  same-length-2 : each-chosen-lts.Need-same-length-2 claims (each-chosen-at t) each-chosen.Post each-chosen-Inv-loop each-chosen-μ-loop
+  same-length-2 c = written-kept _ (c .before .loop .inv .frame)
+
+  returns-2 : each-chosen-lts.Need-returns-2 claims (each-chosen-at t) each-chosen.Post each-chosen-Inv-loop each-chosen-μ-loop
+  returns-2 c = choosing-end (c .before .before .before .before .before .before .before .pre .1) (c .before .loop .inv) (omega (arith, c .loop-test .left))
+
+  pub each-chosen-closed : {M : Type 1} → each-chosen-lts.Closed claims (each-chosen-at t) each-chosen.Post M
+  each-chosen-closed =
+      each-chosen-lts.spec
+      claims
+      (each-chosen-at t)
+      each-chosen.Post
+      each-chosen-Inv-loop
+      each-chosen-μ-loop
+      field-requires
+      field-requires-2
+      add-to
+      loop-holds
+      cast-inner
+      mul-inner
+      array-write-inner
+      eval-pred-requires
+      enum-known-k
+      same-length
+      returns
+      enum-known-yes
+      end-of-requires
+      choose-requires
+      cast-chosen
+      add-chosen
+      sub-left
+      loop-less
+      loop-again
+      add-s
+      mul-s
+      slice-write-s
+      same-length-2
+      returns-2

@@ -15,134 +15,73 @@ use Rattle.arena.proofs.Standing.{same-refl}
 use Rattle.evaluators.proofs.NodeLaws.{ready-child, held-as}
 use Rattle.evaluators.proofs.FormLaws.{byte-small, bool-child, bool-fails, bool-evaluates}
 
-pub eval-bool-field-requires : (t : ℕ) → eval-bool-lts.Need-field-requires (
-  field-reads.Asked,
-  field-reads.Learnt,
-  eval-pred-below t,
-  eval-pred.Post,
-  put-cell-reads.Asked,
-  put-cell-reads.Learnt,
-) (eval-bool-at t) eval-bool.Post
-eval-bool-field-requires t c κs = (ready-node (c .before .before .pre .1 .0 .ready), lit< tt)
+module _ (t : ℕ) where
+  abbrev claims : eval-bool-lts.Claims
+  claims = (field-reads.Asked, field-reads.Learnt, eval-pred-below t, eval-pred.Post, put-cell-reads.Asked, put-cell-reads.Learnt)
 
-pub eval-bool-add-eval-pred : (t : ℕ) → eval-bool-lts.Need-add-eval-pred (
-  field-reads.Asked,
-  field-reads.Learnt,
-  eval-pred-below t,
-  eval-pred.Post,
-  put-cell-reads.Asked,
-  put-cell-reads.Learnt,
-) (eval-bool-at t) eval-bool.Post
-eval-bool-add-eval-pred t c = count-fits (c .before .before .before .before .pre .1 .0 .spent) (c .before .before .before .before .fits .budget)
+  field-requires : eval-bool-lts.Need-field-requires claims (eval-bool-at t) eval-bool.Post
+  field-requires c κs = (ready-node (c .before .before .pre .1 .0 .ready), lit< tt)
 
-pub eval-bool-eval-pred-requires : (t : ℕ) → eval-bool-lts.Need-eval-pred-requires (
-  field-reads.Asked,
-  field-reads.Learnt,
-  eval-pred-below t,
-  eval-pred.Post,
-  put-cell-reads.Asked,
-  put-cell-reads.Learnt,
-) (eval-bool-at t) eval-bool.Post
-eval-bool-eval-pred-requires t c κs =
-    let b = c .before .before .before .before in
-    let d = bool-child (b .pre .1 .0) (b .pre .1 .1) (c .before .field .ensures) in
-    (omega (arith, b .pre .0, d .below), (ready-child _ _ _ _ (b .pre .1 .0 .ready) d (same-refl _ _) (omega arith) (omega arith) (omega (arith, b .pre .1 .0 .spent)), d .is))
+  add-eval-pred : eval-bool-lts.Need-add-eval-pred claims (eval-bool-at t) eval-bool.Post
+  add-eval-pred c = count-fits (c .before .before .before .before .pre .1 .0 .spent) (c .before .before .before .before .fits .budget)
 
-pub eval-bool-enum-known-k : (t : ℕ) → eval-bool-lts.Need-enum-known-k (
-  field-reads.Asked,
-  field-reads.Learnt,
-  eval-pred-below t,
-  eval-pred.Post,
-  put-cell-reads.Asked,
-  put-cell-reads.Learnt,
-) (eval-bool-at t) eval-bool.Post
-eval-bool-enum-known-k t c = c .match .keys1
+  eval-pred-requires : eval-bool-lts.Need-eval-pred-requires claims (eval-bool-at t) eval-bool.Post
+  eval-pred-requires c κs =
+      let b = c .before .before .before .before in
+      let d = bool-child (b .pre .1 .0) (b .pre .1 .1) (c .before .field .ensures) in
+      (omega (arith, b .pre .0, d .below), (ready-child _ _ _ _ (b .pre .1 .0 .ready) d (same-refl _ _) (omega arith) (omega arith) (omega (arith, b .pre .1 .0 .spent)), d .is))
 
-pub eval-bool-enum-known-yes : (t : ℕ) → eval-bool-lts.Need-enum-known-yes (
-  field-reads.Asked,
-  field-reads.Learnt,
-  eval-pred-below t,
-  eval-pred.Post,
-  put-cell-reads.Asked,
-  put-cell-reads.Learnt,
-) (eval-bool-at t) eval-bool.Post
-eval-bool-enum-known-yes t c = c .match .keys2
+  enum-known-k : eval-bool-lts.Need-enum-known-k claims (eval-bool-at t) eval-bool.Post
+  enum-known-k c = c .match .keys1
 
-pub eval-bool-cast-put-cell : (t : ℕ) → eval-bool-lts.Need-cast-put-cell (
-  field-reads.Asked,
-  field-reads.Learnt,
-  eval-pred-below t,
-  eval-pred.Post,
-  put-cell-reads.Asked,
-  put-cell-reads.Learnt,
-) (eval-bool-at t) eval-bool.Post
-eval-bool-cast-put-cell t c = tt
+  enum-known-yes : eval-bool-lts.Need-enum-known-yes claims (eval-bool-at t) eval-bool.Post
+  enum-known-yes c = c .match .keys2
 
-pub eval-bool-add-put-cell : (t : ℕ) → eval-bool-lts.Need-add-put-cell (
-  field-reads.Asked,
-  field-reads.Learnt,
-  eval-pred-below t,
-  eval-pred.Post,
-  put-cell-reads.Asked,
-  put-cell-reads.Learnt,
-) (eval-bool-at t) eval-bool.Post
-eval-bool-add-put-cell t c = omega (arith, byte-small (c .before .before .yes .given .0 .0))
+  cast-put-cell : eval-bool-lts.Need-cast-put-cell claims (eval-bool-at t) eval-bool.Post
+  cast-put-cell c = tt
 
-pub eval-bool-put-cell-requires : (t : ℕ) → eval-bool-lts.Need-put-cell-requires (
-  field-reads.Asked,
-  field-reads.Learnt,
-  eval-pred-below t,
-  eval-pred.Post,
-  put-cell-reads.Asked,
-  put-cell-reads.Learnt,
-) (eval-bool-at t) eval-bool.Post
-eval-bool-put-cell-requires t c κs =
-    cell-room (c .before .before .before .before .before .before .before .before .before .before .before .pre .1 .0 .ready) (c .before .before .before .before .before .before .eval-pred .ensures .frame)
+  add-put-cell : eval-bool-lts.Need-add-put-cell claims (eval-bool-at t) eval-bool.Post
+  add-put-cell c = omega (arith, byte-small (c .before .before .yes .given .0 .0))
 
-pub eval-bool-same-length : (t : ℕ) → eval-bool-lts.Need-same-length (
-  field-reads.Asked,
-  field-reads.Learnt,
-  eval-pred-below t,
-  eval-pred.Post,
-  put-cell-reads.Asked,
-  put-cell-reads.Learnt,
-) (eval-bool-at t) eval-bool.Post
-eval-bool-same-length t c = c .before .before .before .before .before .eval-pred .kept .1 .1 .1 .0
+  put-cell-requires : eval-bool-lts.Need-put-cell-requires claims (eval-bool-at t) eval-bool.Post
+  put-cell-requires c κs =
+      cell-room (c .before .before .before .before .before .before .before .before .before .before .before .pre .1 .0 .ready) (c .before .before .before .before .before .before .eval-pred .ensures .frame)
 
-pub eval-bool-returns : (t : ℕ) → eval-bool-lts.Need-returns (
-  field-reads.Asked,
-  field-reads.Learnt,
-  eval-pred-below t,
-  eval-pred.Post,
-  put-cell-reads.Asked,
-  put-cell-reads.Learnt,
-) (eval-bool-at t) eval-bool.Post
-eval-bool-returns t c =
-    let a = c .before .before .before .before .before in
-    let b = a .before .before .before .before .before in
-    bool-fails (b .pre .1 .0) (b .pre .1 .1) (a .before .before .field .ensures) (held-as refl (c .before .k .given .1) (a .eval-pred .ensures))
+  same-length : eval-bool-lts.Need-same-length claims (eval-bool-at t) eval-bool.Post
+  same-length c = c .before .before .before .before .before .eval-pred .kept .1 .1 .1 .0
 
-pub eval-bool-same-length-2 : (t : ℕ) → eval-bool-lts.Need-same-length-2 (
-  field-reads.Asked,
-  field-reads.Learnt,
-  eval-pred-below t,
-  eval-pred.Post,
-  put-cell-reads.Asked,
-  put-cell-reads.Learnt,
-) (eval-bool-at t) eval-bool.Post
-eval-bool-same-length-2 t c = c .before .before .put-cell .kept .0 ∙ c .before .before .before .before .before .before .before .before .before .eval-pred .kept .1 .1 .1 .0
+  returns : eval-bool-lts.Need-returns claims (eval-bool-at t) eval-bool.Post
+  returns c =
+      let a = c .before .before .before .before .before in
+      let b = a .before .before .before .before .before in
+      bool-fails (b .pre .1 .0) (b .pre .1 .1) (a .before .before .field .ensures) (held-as refl (c .before .k .given .1) (a .eval-pred .ensures))
 
-pub eval-bool-returns-2 : (t : ℕ) → eval-bool-lts.Need-returns-2 (
-  field-reads.Asked,
-  field-reads.Learnt,
-  eval-pred-below t,
-  eval-pred.Post,
-  put-cell-reads.Asked,
-  put-cell-reads.Learnt,
-) (eval-bool-at t) eval-bool.Post
-eval-bool-returns-2 t c =
-    let g = c .before .before .before .before .before in
-    let a = g .before .before .before .before in
-    let b = a .before .before .before .before .before in
-    bool-evaluates (b .pre .1 .0) (b .pre .1 .1) (a .before .before .field .ensures) (held-as refl (g .yes .given .1) (a .eval-pred .ensures))
-    (c .before .before .put-cell .ensures)
+  same-length-2 : eval-bool-lts.Need-same-length-2 claims (eval-bool-at t) eval-bool.Post
+  same-length-2 c = c .before .before .put-cell .kept .0 ∙ c .before .before .before .before .before .before .before .before .before .eval-pred .kept .1 .1 .1 .0
+
+  returns-2 : eval-bool-lts.Need-returns-2 claims (eval-bool-at t) eval-bool.Post
+  returns-2 c =
+      let g = c .before .before .before .before .before in
+      let a = g .before .before .before .before in
+      let b = a .before .before .before .before .before in
+      bool-evaluates (b .pre .1 .0) (b .pre .1 .1) (a .before .before .field .ensures) (held-as refl (g .yes .given .1) (a .eval-pred .ensures))
+      (c .before .before .put-cell .ensures)
+
+  pub eval-bool-closed : {M : Type 1} → eval-bool-lts.Closed claims (eval-bool-at t) eval-bool.Post M
+  eval-bool-closed =
+      eval-bool-lts.spec
+      claims
+      (eval-bool-at t)
+      eval-bool.Post
+      field-requires
+      add-eval-pred
+      eval-pred-requires
+      enum-known-k
+      enum-known-yes
+      cast-put-cell
+      add-put-cell
+      put-cell-requires
+      same-length
+      returns
+      same-length-2
+      returns-2

@@ -13,430 +13,176 @@ use Rattle.evaluators.proofs.eval_name.Reads as eval-name-reads
 use Rattle.table.proofs.kind.Reads as kind-reads
 use Rattle.evaluators.proofs.+each_chosen+each_member+eval_bool+eval_both+eval_expr+eval_join+eval_not+eval_one+eval_pred+eval_quant+eval_select+eval_test+eval_two.Proof.Base.{eval-bool-below, eval-expr-at, eval-one-below, eval-select-below, eval-two-below}
 use mathlib.Core.Logic.{⊎-elim}
-use Rattle.evaluators.proofs.DispatchLaws.{spent-expr, counted, one-keys, one-range, two-key, two-low, two-high, name-ready, name-answer, leaf-node, leaf-answer}
+use Rattle.evaluators.proofs.DispatchLaws.{spent-expr, counted, expression-code, one-keys, one-range, two-key, two-low, two-high, name-ready, name-answer, leaf-node, leaf-answer}
 
-pub eval-expr-returns : (t : ℕ) → eval-expr-lts.Need-returns (
-  kind-reads.Asked,
-  kind-reads.Learnt,
-  eval-name-reads.Asked,
-  eval-name-reads.Learnt,
-  eval-bool-below t,
-  eval-bool.Post,
-  eval-select-below t,
-  eval-select.Post,
-  eval-leaf-reads.Asked,
-  eval-leaf-reads.Learnt,
-  eval-two-below t,
-  eval-two.Post,
-  eval-one-below t,
-  eval-one.Post,
-) (eval-expr-at t) eval-expr.Post
-eval-expr-returns t c =
-    let c1 = c .before .before .before in
-    spent-expr (c1 .pre .1 .0) (c .if1 .taken)
+module _ (t : ℕ) where
+  abbrev claims : eval-expr-lts.Claims
+  claims = (
+    kind-reads.Asked,
+    kind-reads.Learnt,
+    eval-name-reads.Asked,
+    eval-name-reads.Learnt,
+    eval-bool-below t,
+    eval-bool.Post,
+    eval-select-below t,
+    eval-select.Post,
+    eval-leaf-reads.Asked,
+    eval-leaf-reads.Learnt,
+    eval-two-below t,
+    eval-two.Post,
+    eval-one-below t,
+    eval-one.Post,
+  )
 
-pub eval-expr-kind-requires : (t : ℕ) → eval-expr-lts.Need-kind-requires (
-  kind-reads.Asked,
-  kind-reads.Learnt,
-  eval-name-reads.Asked,
-  eval-name-reads.Learnt,
-  eval-bool-below t,
-  eval-bool.Post,
-  eval-select-below t,
-  eval-select.Post,
-  eval-leaf-reads.Asked,
-  eval-leaf-reads.Learnt,
-  eval-two-below t,
-  eval-two.Post,
-  eval-one-below t,
-  eval-one.Post,
-) (eval-expr-at t) eval-expr.Post
-eval-expr-kind-requires t c κs = ready-node (c .before .before .before .pre .1 .0)
+  returns : eval-expr-lts.Need-returns claims (eval-expr-at t) eval-expr.Post
+  returns c =
+      let c1 = c .before .before .before in
+      spent-expr (c1 .pre .1 .0) (c .if1 .taken)
 
-pub eval-expr-add-eval-name : (t : ℕ) → eval-expr-lts.Need-add-eval-name (
-  kind-reads.Asked,
-  kind-reads.Learnt,
-  eval-name-reads.Asked,
-  eval-name-reads.Learnt,
-  eval-bool-below t,
-  eval-bool.Post,
-  eval-select-below t,
-  eval-select.Post,
-  eval-leaf-reads.Asked,
-  eval-leaf-reads.Learnt,
-  eval-two-below t,
-  eval-two.Post,
-  eval-one-below t,
-  eval-one.Post,
-) (eval-expr-at t) eval-expr.Post
-eval-expr-add-eval-name t c =
-    count-fits (counted (c .before .before .before .before .before .pre .1 .0) _ (c .before .before .if1 .left) (c .before .kind .ensures) .spent) (c .before .before .before .before .before .fits .budget)
+  kind-requires : eval-expr-lts.Need-kind-requires claims (eval-expr-at t) eval-expr.Post
+  kind-requires c κs = ready-node (c .before .before .before .pre .1 .0)
 
-pub eval-expr-eval-name-requires : (t : ℕ) → eval-expr-lts.Need-eval-name-requires (
-  kind-reads.Asked,
-  kind-reads.Learnt,
-  eval-name-reads.Asked,
-  eval-name-reads.Learnt,
-  eval-bool-below t,
-  eval-bool.Post,
-  eval-select-below t,
-  eval-select.Post,
-  eval-leaf-reads.Asked,
-  eval-leaf-reads.Learnt,
-  eval-two-below t,
-  eval-two.Post,
-  eval-one-below t,
-  eval-one.Post,
-) (eval-expr-at t) eval-expr.Post
-eval-expr-eval-name-requires t c κs =
-    let c1 = c .before .before .before .before .before in
-    let v = counted (c1 .pre .1 .0) _ (c .before .before .if1 .left) (c .before .kind .ensures) in
-    name-ready v (c .match .keys1)
+  add-eval-name : eval-expr-lts.Need-add-eval-name claims (eval-expr-at t) eval-expr.Post
+  add-eval-name c =
+      count-fits (counted (c .before .before .before .before .before .before .before .pre .1 .0) _ (c .before .before .before .before .if1 .left) (c .before .before .before .kind .ensures) .spent) (c .before .before .before .before .before .before .before .fits .budget)
 
-pub eval-expr-eval-bool-requires : (t : ℕ) → eval-expr-lts.Need-eval-bool-requires (
-  kind-reads.Asked,
-  kind-reads.Learnt,
-  eval-name-reads.Asked,
-  eval-name-reads.Learnt,
-  eval-bool-below t,
-  eval-bool.Post,
-  eval-select-below t,
-  eval-select.Post,
-  eval-leaf-reads.Asked,
-  eval-leaf-reads.Learnt,
-  eval-two-below t,
-  eval-two.Post,
-  eval-one-below t,
-  eval-one.Post,
-) (eval-expr-at t) eval-expr.Post
-eval-expr-eval-bool-requires t c κs =
-    let c1 = c .before .before .before .before .before .before in
-    let v = counted (c1 .pre .1 .0) _ (c .before .before .before .if1 .left) (c .before .before .kind .ensures) in
-    (omega (arith, c1 .pre .0), (v, c .before .match .keys2))
+  eval-name-requires : eval-expr-lts.Need-eval-name-requires claims (eval-expr-at t) eval-expr.Post
+  eval-name-requires c κs =
+      let c1 = c .before .before .before .before .before .before .before in
+      let v = counted (c1 .pre .1 .0) _ (c .before .before .before .before .if1 .left) (c .before .before .before .kind .ensures) in
+      name-ready v (c .match .keys1)
 
-pub eval-expr-eval-select-requires : (t : ℕ) → eval-expr-lts.Need-eval-select-requires (
-  kind-reads.Asked,
-  kind-reads.Learnt,
-  eval-name-reads.Asked,
-  eval-name-reads.Learnt,
-  eval-bool-below t,
-  eval-bool.Post,
-  eval-select-below t,
-  eval-select.Post,
-  eval-leaf-reads.Asked,
-  eval-leaf-reads.Learnt,
-  eval-two-below t,
-  eval-two.Post,
-  eval-one-below t,
-  eval-one.Post,
-) (eval-expr-at t) eval-expr.Post
-eval-expr-eval-select-requires t c κs =
-    let c1 = c .before .before .before .before .before .before in
-    let v = counted (c1 .pre .1 .0) _ (c .before .before .before .if1 .left) (c .before .before .kind .ensures) in
-    (omega (arith, c1 .pre .0), (v, c .before .match .keys5))
+  eval-bool-requires : eval-expr-lts.Need-eval-bool-requires claims (eval-expr-at t) eval-expr.Post
+  eval-bool-requires c κs =
+      let c1 = c .before .before .before .before .before .before .before .before in
+      let v = counted (c1 .pre .1 .0) _ (c .before .before .before .before .before .if1 .left) (c .before .before .before .before .kind .ensures) in
+      (omega (arith, c1 .pre .0), (v, c .before .match .keys2))
 
-pub eval-expr-add-eval-leaf : (t : ℕ) → eval-expr-lts.Need-add-eval-leaf (
-  kind-reads.Asked,
-  kind-reads.Learnt,
-  eval-name-reads.Asked,
-  eval-name-reads.Learnt,
-  eval-bool-below t,
-  eval-bool.Post,
-  eval-select-below t,
-  eval-select.Post,
-  eval-leaf-reads.Asked,
-  eval-leaf-reads.Learnt,
-  eval-two-below t,
-  eval-two.Post,
-  eval-one-below t,
-  eval-one.Post,
-) (eval-expr-at t) eval-expr.Post
-eval-expr-add-eval-leaf t c =
-    count-fits (counted (c .before .before .before .before .before .before .before .pre .1 .0) _ (c .before .before .before .before .if1 .left) (c .before .before .before .kind .ensures) .spent) (c .before .before .before .before .before .before .before .fits .budget)
+  eval-select-requires : eval-expr-lts.Need-eval-select-requires claims (eval-expr-at t) eval-expr.Post
+  eval-select-requires c κs =
+      let c1 = c .before .before .before .before .before .before .before .before in
+      let v = counted (c1 .pre .1 .0) _ (c .before .before .before .before .before .if1 .left) (c .before .before .before .before .kind .ensures) in
+      (omega (arith, c1 .pre .0), (v, c .before .match .keys5))
 
-pub eval-expr-eval-leaf-requires : (t : ℕ) → eval-expr-lts.Need-eval-leaf-requires (
-  kind-reads.Asked,
-  kind-reads.Learnt,
-  eval-name-reads.Asked,
-  eval-name-reads.Learnt,
-  eval-bool-below t,
-  eval-bool.Post,
-  eval-select-below t,
-  eval-select.Post,
-  eval-leaf-reads.Asked,
-  eval-leaf-reads.Learnt,
-  eval-two-below t,
-  eval-two.Post,
-  eval-one-below t,
-  eval-one.Post,
-) (eval-expr-at t) eval-expr.Post
-eval-expr-eval-leaf-requires t c κs =
-    let c1 = c .before .before .before .before .before .before .before in
-    let v = counted (c1 .pre .1 .0) _ (c .before .before .before .before .if1 .left) (c .before .before .before .kind .ensures) in
-    let m = c .before .before .match .rest in
-    leaf-node v (c1 .pre .1 .1) (m .0 .0 .0 .0 .1) (m .0 .0 .0 .1) (m .0 .0 .1) (m .1)
-    (λ l. ⊎-elim (λ w. absurd (omega (arith, w .taken))) (λ w. w .3 .left) (c .before .if2 .came))
-    (λ i. omega (arith, c .before .before .before .before .before .before .shared-slice-known .given i))
+  add-eval-leaf : eval-expr-lts.Need-add-eval-leaf claims (eval-expr-at t) eval-expr.Post
+  add-eval-leaf c =
+      count-fits (counted (c .before .before .before .before .before .before .before .before .before .pre .1 .0) _ (c .before .before .before .before .before .before .if1 .left) (c .before .before .before .before .before .kind .ensures) .spent) (c .before .before .before .before .before .before .before .before .before .fits .budget)
 
-pub eval-expr-eval-two-requires : (t : ℕ) → eval-expr-lts.Need-eval-two-requires (
-  kind-reads.Asked,
-  kind-reads.Learnt,
-  eval-name-reads.Asked,
-  eval-name-reads.Learnt,
-  eval-bool-below t,
-  eval-bool.Post,
-  eval-select-below t,
-  eval-select.Post,
-  eval-leaf-reads.Asked,
-  eval-leaf-reads.Learnt,
-  eval-two-below t,
-  eval-two.Post,
-  eval-one-below t,
-  eval-one.Post,
-) (eval-expr-at t) eval-expr.Post
-eval-expr-eval-two-requires t c κs =
-    let c1 = c .before .before .before .before .before .before in
-    let v = counted (c1 .pre .1 .0) _ (c .before .before .before .if1 .left) (c .before .before .kind .ensures) in (
-      omega (arith, c1 .pre .0),
-      (
-        v,
-        ⊎-elim (λ w. two-key _ (w .keys4))
-            (⊎-elim (λ w. two-low _ (w .0 .rest .0 .0 .1) (w .1 .left) (w .2 .taken))
-            (λ w. two-high _ (w .0 .rest .0 .0 .1) (w .0 .rest .0 .1) (w .3 .left) (w .4 .taken))) (c .before .match .came),
-      ),
-    )
+  eval-leaf-requires : eval-expr-lts.Need-eval-leaf-requires claims (eval-expr-at t) eval-expr.Post
+  eval-leaf-requires c κs =
+      let c1 = c .before .before .before .before .before .before .before .before .before in
+      let v = counted (c1 .pre .1 .0) _ (c .before .before .before .before .before .before .if1 .left) (c .before .before .before .before .before .kind .ensures) in
+      let m = c .before .before .match .rest in
+      leaf-node v (c1 .pre .1 .1) (m .0 .0 .0 .0 .1) (m .0 .0 .0 .1) (m .0 .0 .1)
+      (λ l. ⊎-elim (λ w. absurd (omega (arith, w .taken))) (λ w. w .3 .left) (c .before .if4 .came))
+      (λ i. omega (arith, c .before .before .before .before .before .before .before .before .shared-slice-known .given i))
 
-pub eval-expr-eval-one-requires : (t : ℕ) → eval-expr-lts.Need-eval-one-requires (
-  kind-reads.Asked,
-  kind-reads.Learnt,
-  eval-name-reads.Asked,
-  eval-name-reads.Learnt,
-  eval-bool-below t,
-  eval-bool.Post,
-  eval-select-below t,
-  eval-select.Post,
-  eval-leaf-reads.Asked,
-  eval-leaf-reads.Learnt,
-  eval-two-below t,
-  eval-two.Post,
-  eval-one-below t,
-  eval-one.Post,
-) (eval-expr-at t) eval-expr.Post
-eval-expr-eval-one-requires t c κs =
-    let c1 = c .before .before .before .before .before .before in
-    let v = counted (c1 .pre .1 .0) _ (c .before .before .before .if1 .left) (c .before .before .kind .ensures) in (
-      omega (arith, c1 .pre .0),
-      (
-        v,
-        ⊎-elim (λ w. one-keys _ (w .keys3))
-            (λ w. one-range _ (w .0 .rest .0 .0 .1) (w .0 .rest .1) (w .2 .left) (w .3 .taken)) (c .before .match .came),
-      ),
-    )
+  eval-two-requires : eval-expr-lts.Need-eval-two-requires claims (eval-expr-at t) eval-expr.Post
+  eval-two-requires c κs =
+      let c1 = c .before .before .before .before .before .before .before .before in
+      let v = counted (c1 .pre .1 .0) _ (c .before .before .before .before .before .if1 .left) (c .before .before .before .before .kind .ensures) in (
+        omega (arith, c1 .pre .0),
+        (
+          v,
+          ⊎-elim (λ w. two-key _ (w .keys4))
+              (⊎-elim (λ w. two-low _ (w .0 .rest .0 .0 .1) (w .1 .left) (w .2 .taken))
+              (λ w. two-high _ (w .0 .rest .0 .0 .1) (w .0 .rest .0 .1) (w .3 .left) (w .4 .taken))) (c .before .match .came),
+        ),
+      )
 
-pub eval-expr-returns-2 : (t : ℕ) → eval-expr-lts.Need-returns-2 (
-  kind-reads.Asked,
-  kind-reads.Learnt,
-  eval-name-reads.Asked,
-  eval-name-reads.Learnt,
-  eval-bool-below t,
-  eval-bool.Post,
-  eval-select-below t,
-  eval-select.Post,
-  eval-leaf-reads.Asked,
-  eval-leaf-reads.Learnt,
-  eval-two-below t,
-  eval-two.Post,
-  eval-one-below t,
-  eval-one.Post,
-) (eval-expr-at t) eval-expr.Post
-eval-expr-returns-2 t c =
-    let c1 = c .before .before .before .before .before .before in
-    let v = counted (c1 .pre .1 .0) _ (c .before .before .before .if1 .left) (c .before .before .kind .ensures) in
-    name-answer v (c .before .match .keys1) _ (c .eval-name .ensures)
+  eval-one-requires : eval-expr-lts.Need-eval-one-requires claims (eval-expr-at t) eval-expr.Post
+  eval-one-requires c κs =
+      let c1 = c .before .before .before .before .before .before .before .before in
+      let v = counted (c1 .pre .1 .0) _ (c .before .before .before .before .before .if1 .left) (c .before .before .before .before .kind .ensures) in (
+        omega (arith, c1 .pre .0),
+        (
+          v,
+          ⊎-elim (λ w. one-keys _ (w .keys3))
+              (λ w. one-range _ (w .0 .rest .0 .0 .1) (w .0 .rest .1) (w .2 .left) (w .3 .taken)) (c .before .match .came),
+        ),
+      )
 
-pub eval-expr-same-length : (t : ℕ) → eval-expr-lts.Need-same-length (
-  kind-reads.Asked,
-  kind-reads.Learnt,
-  eval-name-reads.Asked,
-  eval-name-reads.Learnt,
-  eval-bool-below t,
-  eval-bool.Post,
-  eval-select-below t,
-  eval-select.Post,
-  eval-leaf-reads.Asked,
-  eval-leaf-reads.Learnt,
-  eval-two-below t,
-  eval-two.Post,
-  eval-one-below t,
-  eval-one.Post,
-) (eval-expr-at t) eval-expr.Post
-eval-expr-same-length t c = c .before .before .eval-bool .kept .1 .1 .1 .0
+  returns-2 : eval-expr-lts.Need-returns-2 claims (eval-expr-at t) eval-expr.Post
+  returns-2 c =
+      let c1 = c .before .before .before .before .before .before .before .before in
+      let v = counted (c1 .pre .1 .0) _ (c .before .before .before .before .before .if1 .left) (c .before .before .before .before .kind .ensures) in
+      name-answer v (c .before .match .keys1) _ (c .eval-name .ensures)
 
-pub eval-expr-returns-3 : (t : ℕ) → eval-expr-lts.Need-returns-3 (
-  kind-reads.Asked,
-  kind-reads.Learnt,
-  eval-name-reads.Asked,
-  eval-name-reads.Learnt,
-  eval-bool-below t,
-  eval-bool.Post,
-  eval-select-below t,
-  eval-select.Post,
-  eval-leaf-reads.Asked,
-  eval-leaf-reads.Learnt,
-  eval-two-below t,
-  eval-two.Post,
-  eval-one-below t,
-  eval-one.Post,
-) (eval-expr-at t) eval-expr.Post
-eval-expr-returns-3 t c = c .before .before .eval-bool .ensures
+  same-length : eval-expr-lts.Need-same-length claims (eval-expr-at t) eval-expr.Post
+  same-length c = c .before .before .eval-bool .kept .1 .1 .1 .0
 
-pub eval-expr-same-length-2 : (t : ℕ) → eval-expr-lts.Need-same-length-2 (
-  kind-reads.Asked,
-  kind-reads.Learnt,
-  eval-name-reads.Asked,
-  eval-name-reads.Learnt,
-  eval-bool-below t,
-  eval-bool.Post,
-  eval-select-below t,
-  eval-select.Post,
-  eval-leaf-reads.Asked,
-  eval-leaf-reads.Learnt,
-  eval-two-below t,
-  eval-two.Post,
-  eval-one-below t,
-  eval-one.Post,
-) (eval-expr-at t) eval-expr.Post
-eval-expr-same-length-2 t c = c .before .before .eval-select .kept .1 .1 .1 .0
+  returns-3 : eval-expr-lts.Need-returns-3 claims (eval-expr-at t) eval-expr.Post
+  returns-3 c = c .before .before .eval-bool .ensures
 
-pub eval-expr-returns-4 : (t : ℕ) → eval-expr-lts.Need-returns-4 (
-  kind-reads.Asked,
-  kind-reads.Learnt,
-  eval-name-reads.Asked,
-  eval-name-reads.Learnt,
-  eval-bool-below t,
-  eval-bool.Post,
-  eval-select-below t,
-  eval-select.Post,
-  eval-leaf-reads.Asked,
-  eval-leaf-reads.Learnt,
-  eval-two-below t,
-  eval-two.Post,
-  eval-one-below t,
-  eval-one.Post,
-) (eval-expr-at t) eval-expr.Post
-eval-expr-returns-4 t c = c .before .before .eval-select .ensures
+  same-length-2 : eval-expr-lts.Need-same-length-2 claims (eval-expr-at t) eval-expr.Post
+  same-length-2 c = c .before .before .eval-select .kept .1 .1 .1 .0
 
-pub eval-expr-same-length-3 : (t : ℕ) → eval-expr-lts.Need-same-length-3 (
-  kind-reads.Asked,
-  kind-reads.Learnt,
-  eval-name-reads.Asked,
-  eval-name-reads.Learnt,
-  eval-bool-below t,
-  eval-bool.Post,
-  eval-select-below t,
-  eval-select.Post,
-  eval-leaf-reads.Asked,
-  eval-leaf-reads.Learnt,
-  eval-two-below t,
-  eval-two.Post,
-  eval-one-below t,
-  eval-one.Post,
-) (eval-expr-at t) eval-expr.Post
-eval-expr-same-length-3 t c = c .before .before .eval-leaf .kept .1 .1 .0
+  returns-4 : eval-expr-lts.Need-returns-4 claims (eval-expr-at t) eval-expr.Post
+  returns-4 c = c .before .before .eval-select .ensures
 
-pub eval-expr-returns-5 : (t : ℕ) → eval-expr-lts.Need-returns-5 (
-  kind-reads.Asked,
-  kind-reads.Learnt,
-  eval-name-reads.Asked,
-  eval-name-reads.Learnt,
-  eval-bool-below t,
-  eval-bool.Post,
-  eval-select-below t,
-  eval-select.Post,
-  eval-leaf-reads.Asked,
-  eval-leaf-reads.Learnt,
-  eval-two-below t,
-  eval-two.Post,
-  eval-one-below t,
-  eval-one.Post,
-) (eval-expr-at t) eval-expr.Post
-eval-expr-returns-5 t c =
-    let c1 = c .before .before .before .before .before .before .before .before .before .before in
-    let v = counted (c1 .pre .1 .0) _ (c .before .before .before .before .before .before .before .if1 .left) (c .before .before .before .before .before .before .kind .ensures) in
-    let m = c .before .before .before .before .before .match .rest in
-    let p = leaf-node v (c1 .pre .1 .1) (m .0 .0 .0 .0 .1) (m .0 .0 .0 .1) (m .0 .0 .1) (m .1)
-    (λ l. ⊎-elim (λ w. absurd (omega (arith, w .taken))) (λ w. w .3 .left) (c .before .before .before .before .if2 .came))
-    (λ i. omega (arith, c .before .before .before .before .before .before .before .before .before .shared-slice-known .given i)) in
-    leaf-answer v p _ _ (c .before .before .eval-leaf .ensures)
+  same-length-3 : eval-expr-lts.Need-same-length-3 claims (eval-expr-at t) eval-expr.Post
+  same-length-3 c = c .before .before .eval-leaf .kept .1 .1 .0
 
-pub eval-expr-same-length-4 : (t : ℕ) → eval-expr-lts.Need-same-length-4 (
-  kind-reads.Asked,
-  kind-reads.Learnt,
-  eval-name-reads.Asked,
-  eval-name-reads.Learnt,
-  eval-bool-below t,
-  eval-bool.Post,
-  eval-select-below t,
-  eval-select.Post,
-  eval-leaf-reads.Asked,
-  eval-leaf-reads.Learnt,
-  eval-two-below t,
-  eval-two.Post,
-  eval-one-below t,
-  eval-one.Post,
-) (eval-expr-at t) eval-expr.Post
-eval-expr-same-length-4 t c = c .before .before .eval-two .kept .1 .1 .1 .0
+  returns-5 : eval-expr-lts.Need-returns-5 claims (eval-expr-at t) eval-expr.Post
+  returns-5 c =
+      let c1 = c .before .before .before .before .before .before .before .before .before .before .before .before in
+      let v = counted (c1 .pre .1 .0) _ (c .before .before .before .before .before .before .before .before .before .if1 .left) (c .before .before .before .before .before .before .before .before .kind .ensures) in
+      let m = c .before .before .before .before .before .match .rest in
+      let p = leaf-node v (c1 .pre .1 .1) (m .0 .0 .0 .0 .1) (m .0 .0 .0 .1) (m .0 .0 .1)
+      (λ l. ⊎-elim (λ w. absurd (omega (arith, w .taken))) (λ w. w .3 .left) (c .before .before .before .before .if4 .came))
+      (λ i. omega (arith, c .before .before .before .before .before .before .before .before .before .before .before .shared-slice-known .given i)) in
+      leaf-answer v p _ _ (c .before .before .eval-leaf .ensures)
 
-pub eval-expr-returns-6 : (t : ℕ) → eval-expr-lts.Need-returns-6 (
-  kind-reads.Asked,
-  kind-reads.Learnt,
-  eval-name-reads.Asked,
-  eval-name-reads.Learnt,
-  eval-bool-below t,
-  eval-bool.Post,
-  eval-select-below t,
-  eval-select.Post,
-  eval-leaf-reads.Asked,
-  eval-leaf-reads.Learnt,
-  eval-two-below t,
-  eval-two.Post,
-  eval-one-below t,
-  eval-one.Post,
-) (eval-expr-at t) eval-expr.Post
-eval-expr-returns-6 t c = c .before .before .eval-two .ensures
+  same-length-4 : eval-expr-lts.Need-same-length-4 claims (eval-expr-at t) eval-expr.Post
+  same-length-4 c = c .before .before .eval-two .kept .1 .1 .1 .0
 
-pub eval-expr-same-length-5 : (t : ℕ) → eval-expr-lts.Need-same-length-5 (
-  kind-reads.Asked,
-  kind-reads.Learnt,
-  eval-name-reads.Asked,
-  eval-name-reads.Learnt,
-  eval-bool-below t,
-  eval-bool.Post,
-  eval-select-below t,
-  eval-select.Post,
-  eval-leaf-reads.Asked,
-  eval-leaf-reads.Learnt,
-  eval-two-below t,
-  eval-two.Post,
-  eval-one-below t,
-  eval-one.Post,
-) (eval-expr-at t) eval-expr.Post
-eval-expr-same-length-5 t c = c .before .before .eval-one .kept .1 .1 .1 .0
+  returns-6 : eval-expr-lts.Need-returns-6 claims (eval-expr-at t) eval-expr.Post
+  returns-6 c = c .before .before .eval-two .ensures
 
-pub eval-expr-returns-7 : (t : ℕ) → eval-expr-lts.Need-returns-7 (
-  kind-reads.Asked,
-  kind-reads.Learnt,
-  eval-name-reads.Asked,
-  eval-name-reads.Learnt,
-  eval-bool-below t,
-  eval-bool.Post,
-  eval-select-below t,
-  eval-select.Post,
-  eval-leaf-reads.Asked,
-  eval-leaf-reads.Learnt,
-  eval-two-below t,
-  eval-two.Post,
-  eval-one-below t,
-  eval-one.Post,
-) (eval-expr-at t) eval-expr.Post
-eval-expr-returns-7 t c = c .before .before .eval-one .ensures
+  same-length-5 : eval-expr-lts.Need-same-length-5 claims (eval-expr-at t) eval-expr.Post
+  same-length-5 c = c .before .before .eval-one .kept .1 .1 .1 .0
+
+  returns-7 : eval-expr-lts.Need-returns-7 claims (eval-expr-at t) eval-expr.Post
+  returns-7 c = c .before .before .eval-one .ensures
+
+  returns-8 : eval-expr-lts.Need-returns-8 claims (eval-expr-at t) eval-expr.Post
+  returns-8 c =
+      let c1 = c .before .before .before .before .before in
+      let v = counted (c1 .pre .1 .0) _ (c .before .before .if1 .left) (c .before .kind .ensures) in
+      absurd (omega (arith, expression-code v (c1 .pre .1 .1), c .if2 .taken))
+
+  returns-9 : eval-expr-lts.Need-returns-9 claims (eval-expr-at t) eval-expr.Post
+  returns-9 c =
+      let c1 = c .before .before .before .before .before .before in
+      let v = counted (c1 .pre .1 .0) _ (c .before .before .before .if1 .left) (c .before .before .kind .ensures) in
+      absurd (omega (arith, expression-code v (c1 .pre .1 .1), c .if3 .left))
+
+  pub eval-expr-closed : {M : Type 1} → eval-expr-lts.Closed claims (eval-expr-at t) eval-expr.Post M
+  eval-expr-closed =
+      eval-expr-lts.spec
+      claims
+      (eval-expr-at t)
+      eval-expr.Post
+      returns
+      kind-requires
+      add-eval-name
+      eval-name-requires
+      eval-bool-requires
+      eval-select-requires
+      add-eval-leaf
+      eval-leaf-requires
+      eval-two-requires
+      eval-one-requires
+      returns-2
+      same-length
+      returns-3
+      same-length-2
+      returns-4
+      same-length-3
+      returns-5
+      same-length-4
+      returns-6
+      same-length-5
+      returns-7
+      returns-8
+      returns-9

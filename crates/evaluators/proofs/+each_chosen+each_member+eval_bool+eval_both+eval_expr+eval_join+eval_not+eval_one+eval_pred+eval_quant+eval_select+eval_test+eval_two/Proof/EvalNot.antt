@@ -14,86 +14,61 @@ use Rattle.operations.proofs.KindLaws.{kind-of}
 use Rattle.evaluators.proofs.NodeLaws.{visited-child}
 use Rattle.evaluators.proofs.JoinLaws.{first-ready, not-held, not-stays, not-turns}
 
-pub eval-not-field-requires : (t : ℕ) → eval-not-lts.Need-field-requires (
-  field-reads.Asked,
-  field-reads.Learnt,
-  eval-pred-below t,
-  eval-pred.Post,
-) (eval-not-at t) eval-not.Post
-eval-not-field-requires t c κs = (ready-node (c .before .before .pre .1 .0 .ready), lit< tt)
+module _ (t : ℕ) where
+  abbrev claims : eval-not-lts.Claims
+  claims = (field-reads.Asked, field-reads.Learnt, eval-pred-below t, eval-pred.Post)
 
-pub eval-not-add-eval-pred : (t : ℕ) → eval-not-lts.Need-add-eval-pred (
-  field-reads.Asked,
-  field-reads.Learnt,
-  eval-pred-below t,
-  eval-pred.Post,
-) (eval-not-at t) eval-not.Post
-eval-not-add-eval-pred t c = count-fits (c .before .before .before .before .pre .1 .0 .spent) (c .before .before .before .before .fits .budget)
+  field-requires : eval-not-lts.Need-field-requires claims (eval-not-at t) eval-not.Post
+  field-requires c κs = (ready-node (c .before .before .pre .1 .0 .ready), lit< tt)
 
-pub eval-not-eval-pred-requires : (t : ℕ) → eval-not-lts.Need-eval-pred-requires (
-  field-reads.Asked,
-  field-reads.Learnt,
-  eval-pred-below t,
-  eval-pred.Post,
-) (eval-not-at t) eval-not.Post
-eval-not-eval-pred-requires t c κs =
-    let c1 = c .before in
-    let c2 = c1 .before .before .before in
-    let d = visited-child (c2 .pre .1 .0) negation (kind-of _ negation (c2 .pre .1 .1)) predicate 0 _ (omega arith) (omega arith) refl (c1 .field .ensures) in
-    (omega (arith, c2 .pre .0, d .below), first-ready (c2 .pre .1 .0) d)
+  add-eval-pred : eval-not-lts.Need-add-eval-pred claims (eval-not-at t) eval-not.Post
+  add-eval-pred c = count-fits (c .before .before .before .before .pre .1 .0 .spent) (c .before .before .before .before .fits .budget)
 
-pub eval-not-enum-known-first : (t : ℕ) → eval-not-lts.Need-enum-known-first (
-  field-reads.Asked,
-  field-reads.Learnt,
-  eval-pred-below t,
-  eval-pred.Post,
-) (eval-not-at t) eval-not.Post
-eval-not-enum-known-first t c = c .match .keys1
+  eval-pred-requires : eval-not-lts.Need-eval-pred-requires claims (eval-not-at t) eval-not.Post
+  eval-pred-requires c κs =
+      let c1 = c .before in
+      let c2 = c1 .before .before .before in
+      let d = visited-child (c2 .pre .1 .0) negation (kind-of _ negation (c2 .pre .1 .1)) predicate 0 _ (omega arith) (omega arith) refl (c1 .field .ensures) in
+      (omega (arith, c2 .pre .0, d .below), first-ready (c2 .pre .1 .0) d)
 
-pub eval-not-enum-told : (t : ℕ) → eval-not-lts.Need-enum-told (
-  field-reads.Asked,
-  field-reads.Learnt,
-  eval-pred-below t,
-  eval-pred.Post,
-) (eval-not-at t) eval-not.Post
-eval-not-enum-told t c = c .match .keys2
+  enum-known-first : eval-not-lts.Need-enum-known-first claims (eval-not-at t) eval-not.Post
+  enum-known-first c = c .match .keys1
 
-pub eval-not-same-length : (t : ℕ) → eval-not-lts.Need-same-length (
-  field-reads.Asked,
-  field-reads.Learnt,
-  eval-pred-below t,
-  eval-pred.Post,
-) (eval-not-at t) eval-not.Post
-eval-not-same-length t c = c .before .before .before .before .eval-pred .kept .1 .1 .1 .0
+  enum-told : eval-not-lts.Need-enum-told claims (eval-not-at t) eval-not.Post
+  enum-told c = c .match .keys2
 
-pub eval-not-returns : (t : ℕ) → eval-not-lts.Need-returns (
-  field-reads.Asked,
-  field-reads.Learnt,
-  eval-pred-below t,
-  eval-pred.Post,
-) (eval-not-at t) eval-not.Post
-eval-not-returns t c =
-    let c1 = c .before .before .before .before in
-    let c2 = c1 .before .before in
-    let c3 = c2 .before .before .before in
-    not-stays (c .enum-told .given .1) (not-held (c3 .pre .1 .0) (kind-of _ negation (c3 .pre .1 .1)) (c2 .field .ensures) (c1 .eval-pred .ensures))
+  same-length : eval-not-lts.Need-same-length claims (eval-not-at t) eval-not.Post
+  same-length c = c .before .before .before .before .eval-pred .kept .1 .1 .1 .0
 
-pub eval-not-same-length-2 : (t : ℕ) → eval-not-lts.Need-same-length-2 (
-  field-reads.Asked,
-  field-reads.Learnt,
-  eval-pred-below t,
-  eval-pred.Post,
-) (eval-not-at t) eval-not.Post
-eval-not-same-length-2 t c = c .before .before .before .before .before .eval-pred .kept .1 .1 .1 .0
+  returns : eval-not-lts.Need-returns claims (eval-not-at t) eval-not.Post
+  returns c =
+      let c1 = c .before .before .before .before in
+      let c2 = c1 .before .before in
+      let c3 = c2 .before .before .before in
+      not-stays (c .enum-told .given .1) (not-held (c3 .pre .1 .0) (kind-of _ negation (c3 .pre .1 .1)) (c2 .field .ensures) (c1 .eval-pred .ensures))
 
-pub eval-not-returns-2 : (t : ℕ) → eval-not-lts.Need-returns-2 (
-  field-reads.Asked,
-  field-reads.Learnt,
-  eval-pred-below t,
-  eval-pred.Post,
-) (eval-not-at t) eval-not.Post
-eval-not-returns-2 t c =
-    let c1 = c .before .before .before .before .before in
-    let c2 = c1 .before .before in
-    let c3 = c2 .before .before .before in
-    not-turns (c .before .first .given .1) (not-held (c3 .pre .1 .0) (kind-of _ negation (c3 .pre .1 .1)) (c2 .field .ensures) (c1 .eval-pred .ensures))
+  same-length-2 : eval-not-lts.Need-same-length-2 claims (eval-not-at t) eval-not.Post
+  same-length-2 c = c .before .before .before .before .before .eval-pred .kept .1 .1 .1 .0
+
+  returns-2 : eval-not-lts.Need-returns-2 claims (eval-not-at t) eval-not.Post
+  returns-2 c =
+      let c1 = c .before .before .before .before .before in
+      let c2 = c1 .before .before in
+      let c3 = c2 .before .before .before in
+      not-turns (c .before .first .given .1) (not-held (c3 .pre .1 .0) (kind-of _ negation (c3 .pre .1 .1)) (c2 .field .ensures) (c1 .eval-pred .ensures))
+
+  pub eval-not-closed : {M : Type 1} → eval-not-lts.Closed claims (eval-not-at t) eval-not.Post M
+  eval-not-closed =
+      eval-not-lts.spec
+      claims
+      (eval-not-at t)
+      eval-not.Post
+      field-requires
+      add-eval-pred
+      eval-pred-requires
+      enum-known-first
+      enum-told
+      same-length
+      returns
+      same-length-2
+      returns-2

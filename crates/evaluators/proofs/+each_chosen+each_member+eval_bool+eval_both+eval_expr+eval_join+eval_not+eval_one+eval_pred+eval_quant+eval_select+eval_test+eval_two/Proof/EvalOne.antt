@@ -16,158 +16,90 @@ use Rattle.arena.proofs.Standing.{same-refl}
 use Rattle.evaluators.proofs.NodeLaws.{ready-child, formed-as}
 use Rattle.evaluators.proofs.FormLaws.{one-child, one-fails, one-ready, one-settles, one-evaluates}
 
-pub eval-one-field-requires : (t : ℕ) → eval-one-lts.Need-field-requires (
-  field-reads.Asked,
-  field-reads.Learnt,
-  eval-expr-below t,
-  eval-expr.Post,
-  one-reads.Asked,
-  one-reads.Learnt,
-  settle-reads.Asked,
-  settle-reads.Learnt,
-) (eval-one-at t) eval-one.Post
-eval-one-field-requires t c κs = (ready-node (c .before .before .pre .1 .0 .ready), lit< tt)
+module _ (t : ℕ) where
+  abbrev claims : eval-one-lts.Claims
+  claims = (
+    field-reads.Asked,
+    field-reads.Learnt,
+    eval-expr-below t,
+    eval-expr.Post,
+    one-reads.Asked,
+    one-reads.Learnt,
+    settle-reads.Asked,
+    settle-reads.Learnt,
+  )
 
-pub eval-one-add-eval-expr : (t : ℕ) → eval-one-lts.Need-add-eval-expr (
-  field-reads.Asked,
-  field-reads.Learnt,
-  eval-expr-below t,
-  eval-expr.Post,
-  one-reads.Asked,
-  one-reads.Learnt,
-  settle-reads.Asked,
-  settle-reads.Learnt,
-) (eval-one-at t) eval-one.Post
-eval-one-add-eval-expr t c = count-fits (c .before .before .before .before .pre .1 .0 .spent) (c .before .before .before .before .fits .budget)
+  field-requires : eval-one-lts.Need-field-requires claims (eval-one-at t) eval-one.Post
+  field-requires c κs = (ready-node (c .before .before .pre .1 .0 .ready), lit< tt)
 
-pub eval-one-eval-expr-requires : (t : ℕ) → eval-one-lts.Need-eval-expr-requires (
-  field-reads.Asked,
-  field-reads.Learnt,
-  eval-expr-below t,
-  eval-expr.Post,
-  one-reads.Asked,
-  one-reads.Learnt,
-  settle-reads.Asked,
-  settle-reads.Learnt,
-) (eval-one-at t) eval-one.Post
-eval-one-eval-expr-requires t c κs =
-    let b = c .before .before .before .before in
-    let d = one-child (b .pre .1 .0) (b .pre .1 .1 .0) (b .pre .1 .1 .1) (c .before .field .ensures) in
-    (omega (arith, b .pre .0, d .below), (ready-child _ _ _ _ (b .pre .1 .0 .ready) d (same-refl _ _) (omega arith) (omega arith) (omega (arith, b .pre .1 .0 .spent)), d .is))
+  add-eval-expr : eval-one-lts.Need-add-eval-expr claims (eval-one-at t) eval-one.Post
+  add-eval-expr c = count-fits (c .before .before .before .before .pre .1 .0 .spent) (c .before .before .before .before .fits .budget)
 
-pub eval-one-enum-known-formed : (t : ℕ) → eval-one-lts.Need-enum-known-formed (
-  field-reads.Asked,
-  field-reads.Learnt,
-  eval-expr-below t,
-  eval-expr.Post,
-  one-reads.Asked,
-  one-reads.Learnt,
-  settle-reads.Asked,
-  settle-reads.Learnt,
-) (eval-one-at t) eval-one.Post
-eval-one-enum-known-formed t c = c .match .keys1
+  eval-expr-requires : eval-one-lts.Need-eval-expr-requires claims (eval-one-at t) eval-one.Post
+  eval-expr-requires c κs =
+      let b = c .before .before .before .before in
+      let d = one-child (b .pre .1 .0) (b .pre .1 .1 .0) (b .pre .1 .1 .1) (c .before .field .ensures) in
+      (omega (arith, b .pre .0, d .below), (ready-child _ _ _ _ (b .pre .1 .0 .ready) d (same-refl _ _) (omega arith) (omega arith) (omega (arith, b .pre .1 .0 .spent)), d .is))
 
-pub eval-one-enum-told : (t : ℕ) → eval-one-lts.Need-enum-told (
-  field-reads.Asked,
-  field-reads.Learnt,
-  eval-expr-below t,
-  eval-expr.Post,
-  one-reads.Asked,
-  one-reads.Learnt,
-  settle-reads.Asked,
-  settle-reads.Learnt,
-) (eval-one-at t) eval-one.Post
-eval-one-enum-told t c = c .match .keys2
+  enum-known-formed : eval-one-lts.Need-enum-known-formed claims (eval-one-at t) eval-one.Post
+  enum-known-formed c = c .match .keys1
 
-pub eval-one-same-length : (t : ℕ) → eval-one-lts.Need-same-length (
-  field-reads.Asked,
-  field-reads.Learnt,
-  eval-expr-below t,
-  eval-expr.Post,
-  one-reads.Asked,
-  one-reads.Learnt,
-  settle-reads.Asked,
-  settle-reads.Learnt,
-) (eval-one-at t) eval-one.Post
-eval-one-same-length t c = c .before .before .before .before .eval-expr .kept .1 .1 .1 .0
+  enum-told : eval-one-lts.Need-enum-told claims (eval-one-at t) eval-one.Post
+  enum-told c = c .match .keys2
 
-pub eval-one-returns : (t : ℕ) → eval-one-lts.Need-returns (
-  field-reads.Asked,
-  field-reads.Learnt,
-  eval-expr-below t,
-  eval-expr.Post,
-  one-reads.Asked,
-  one-reads.Learnt,
-  settle-reads.Asked,
-  settle-reads.Learnt,
-) (eval-one-at t) eval-one.Post
-eval-one-returns t c =
-    let a = c .before .before .before .before in
-    let b = a .before .before .before .before .before in
-    let e = c .enum-told .given .1 in
-    formed-as refl (sym e)
-    (one-fails (b .pre .1 .0) (b .pre .1 .1 .0) (b .pre .1 .1 .1) (a .before .before .field .ensures) (formed-as refl e (a .eval-expr .ensures)))
+  same-length : eval-one-lts.Need-same-length claims (eval-one-at t) eval-one.Post
+  same-length c = c .before .before .before .before .eval-expr .kept .1 .1 .1 .0
 
-pub eval-one-one-requires : (t : ℕ) → eval-one-lts.Need-one-requires (
-  field-reads.Asked,
-  field-reads.Learnt,
-  eval-expr-below t,
-  eval-expr.Post,
-  one-reads.Asked,
-  one-reads.Learnt,
-  settle-reads.Asked,
-  settle-reads.Learnt,
-) (eval-one-at t) eval-one.Post
-eval-one-one-requires t c κs =
-    let a = c .before .before .before .before .before .before in
-    let b = a .before .before .before .before .before in
-    one-ready (b .pre .1 .0) (b .pre .1 .1 .0) (b .pre .1 .1 .1) (a .before .before .field .ensures)
-    (formed-as refl (c .before .before .formed .given .1) (a .eval-expr .ensures))
+  returns : eval-one-lts.Need-returns claims (eval-one-at t) eval-one.Post
+  returns c =
+      let a = c .before .before .before .before in
+      let b = a .before .before .before .before .before in
+      let e = c .enum-told .given .1 in
+      formed-as refl (sym e)
+      (one-fails (b .pre .1 .0) (b .pre .1 .1 .0) (b .pre .1 .1 .1) (a .before .before .field .ensures) (formed-as refl e (a .eval-expr .ensures)))
 
-pub eval-one-settle-requires : (t : ℕ) → eval-one-lts.Need-settle-requires (
-  field-reads.Asked,
-  field-reads.Learnt,
-  eval-expr-below t,
-  eval-expr.Post,
-  one-reads.Asked,
-  one-reads.Learnt,
-  settle-reads.Asked,
-  settle-reads.Learnt,
-) (eval-one-at t) eval-one.Post
-eval-one-settle-requires t c κs =
-    let g = c .before .before .before .before .before .before in
-    let a = g .before .before .before .before in
-    let b = a .before .before .before .before .before in
-    one-settles (b .pre .1 .0) (b .pre .1 .1 .0) (b .pre .1 .1 .1) (a .before .before .field .ensures)
-    (formed-as refl (g .formed .given .1) (a .eval-expr .ensures)) (c .before .before .before .one .ensures)
+  one-requires : eval-one-lts.Need-one-requires claims (eval-one-at t) eval-one.Post
+  one-requires c κs =
+      let a = c .before .before .before .before .before .before in
+      let b = a .before .before .before .before .before in
+      one-ready (b .pre .1 .0) (b .pre .1 .1 .0) (b .pre .1 .1 .1) (a .before .before .field .ensures)
+      (formed-as refl (c .before .before .formed .given .1) (a .eval-expr .ensures))
 
-pub eval-one-same-length-2 : (t : ℕ) → eval-one-lts.Need-same-length-2 (
-  field-reads.Asked,
-  field-reads.Learnt,
-  eval-expr-below t,
-  eval-expr.Post,
-  one-reads.Asked,
-  one-reads.Learnt,
-  settle-reads.Asked,
-  settle-reads.Learnt,
-) (eval-one-at t) eval-one.Post
-eval-one-same-length-2 t c =
-    c .before .before .settle .kept .0 ∙ c .before .before .before .before .before .before .one .kept .0 ∙ c .before .before .before .before .before .before .before .before .before .before .before .before .before .eval-expr .kept .1 .1 .1 .0
+  settle-requires : eval-one-lts.Need-settle-requires claims (eval-one-at t) eval-one.Post
+  settle-requires c κs =
+      let g = c .before .before .before .before .before .before in
+      let a = g .before .before .before .before in
+      let b = a .before .before .before .before .before in
+      one-settles (b .pre .1 .0) (b .pre .1 .1 .0) (b .pre .1 .1 .1) (a .before .before .field .ensures)
+      (formed-as refl (g .formed .given .1) (a .eval-expr .ensures)) (c .before .before .before .one .ensures)
 
-pub eval-one-returns-2 : (t : ℕ) → eval-one-lts.Need-returns-2 (
-  field-reads.Asked,
-  field-reads.Learnt,
-  eval-expr-below t,
-  eval-expr.Post,
-  one-reads.Asked,
-  one-reads.Learnt,
-  settle-reads.Asked,
-  settle-reads.Learnt,
-) (eval-one-at t) eval-one.Post
-eval-one-returns-2 t c =
-    let o = c .before .before .before .before .before .before in
-    let g = o .before .before .before in
-    let a = g .before .before .before .before in
-    let b = a .before .before .before .before .before in
-    one-evaluates (b .pre .1 .0) (b .pre .1 .1 .0) (b .pre .1 .1 .1) (a .before .before .field .ensures)
-    (formed-as refl (g .formed .given .1) (a .eval-expr .ensures)) (o .one .ensures) (c .before .before .settle .ensures)
+  same-length-2 : eval-one-lts.Need-same-length-2 claims (eval-one-at t) eval-one.Post
+  same-length-2 c =
+      c .before .before .settle .kept .0 ∙ c .before .before .before .before .before .before .one .kept .0 ∙ c .before .before .before .before .before .before .before .before .before .before .before .before .before .eval-expr .kept .1 .1 .1 .0
+
+  returns-2 : eval-one-lts.Need-returns-2 claims (eval-one-at t) eval-one.Post
+  returns-2 c =
+      let o = c .before .before .before .before .before .before in
+      let g = o .before .before .before in
+      let a = g .before .before .before .before in
+      let b = a .before .before .before .before .before in
+      one-evaluates (b .pre .1 .0) (b .pre .1 .1 .0) (b .pre .1 .1 .1) (a .before .before .field .ensures)
+      (formed-as refl (g .formed .given .1) (a .eval-expr .ensures)) (o .one .ensures) (c .before .before .settle .ensures)
+
+  pub eval-one-closed : {M : Type 1} → eval-one-lts.Closed claims (eval-one-at t) eval-one.Post M
+  eval-one-closed =
+      eval-one-lts.spec
+      claims
+      (eval-one-at t)
+      eval-one.Post
+      field-requires
+      add-eval-expr
+      eval-expr-requires
+      enum-known-formed
+      enum-told
+      same-length
+      returns
+      one-requires
+      settle-requires
+      same-length-2
+      returns-2

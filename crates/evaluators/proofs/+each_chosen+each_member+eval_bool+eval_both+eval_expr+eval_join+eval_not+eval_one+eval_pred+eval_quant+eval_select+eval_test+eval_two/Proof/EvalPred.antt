@@ -11,214 +11,111 @@ use Rattle.evaluators.proofs.eval_test.Reads as eval-test
 use Rattle.table.proofs.kind.Reads as kind-reads
 use Rattle.evaluators.proofs.+each_chosen+each_member+eval_bool+eval_both+eval_expr+eval_join+eval_not+eval_one+eval_pred+eval_quant+eval_select+eval_test+eval_two.Proof.Base.{eval-join-below, eval-not-below, eval-pred-at, eval-quant-below, eval-test-below}
 use mathlib.Core.Logic.{⊎-elim}
-use Rattle.evaluators.proofs.DispatchLaws.{spent-pred, counted, test-sort, quant-sort, join-kind}
+use Rattle.evaluators.proofs.DispatchLaws.{spent-pred, counted, predicate-code, test-sort, quant-sort, join-kind}
 
-pub eval-pred-returns : (t : ℕ) → eval-pred-lts.Need-returns (
-  kind-reads.Asked,
-  kind-reads.Learnt,
-  eval-not-below t,
-  eval-not.Post,
-  eval-test-below t,
-  eval-test.Post,
-  eval-quant-below t,
-  eval-quant.Post,
-  eval-join-below t,
-  eval-join.Post,
-) (eval-pred-at t) eval-pred.Post
-eval-pred-returns t c =
-    let c1 = c .before .before .before in
-    spent-pred (c1 .pre .1 .0) (c .if1 .taken)
+module _ (t : ℕ) where
+  abbrev claims : eval-pred-lts.Claims
+  claims = (
+    kind-reads.Asked,
+    kind-reads.Learnt,
+    eval-not-below t,
+    eval-not.Post,
+    eval-test-below t,
+    eval-test.Post,
+    eval-quant-below t,
+    eval-quant.Post,
+    eval-join-below t,
+    eval-join.Post,
+  )
 
-pub eval-pred-kind-requires : (t : ℕ) → eval-pred-lts.Need-kind-requires (
-  kind-reads.Asked,
-  kind-reads.Learnt,
-  eval-not-below t,
-  eval-not.Post,
-  eval-test-below t,
-  eval-test.Post,
-  eval-quant-below t,
-  eval-quant.Post,
-  eval-join-below t,
-  eval-join.Post,
-) (eval-pred-at t) eval-pred.Post
-eval-pred-kind-requires t c κs = ready-node (c .before .before .before .pre .1 .0)
+  returns : eval-pred-lts.Need-returns claims (eval-pred-at t) eval-pred.Post
+  returns c =
+      let c1 = c .before .before .before in
+      spent-pred (c1 .pre .1 .0) (c .if1 .taken)
 
-pub eval-pred-eval-not-requires : (t : ℕ) → eval-pred-lts.Need-eval-not-requires (
-  kind-reads.Asked,
-  kind-reads.Learnt,
-  eval-not-below t,
-  eval-not.Post,
-  eval-test-below t,
-  eval-test.Post,
-  eval-quant-below t,
-  eval-quant.Post,
-  eval-join-below t,
-  eval-join.Post,
-) (eval-pred-at t) eval-pred.Post
-eval-pred-eval-not-requires t c κs =
-    let c1 = c .before .before .before .before .before .before in
-    let v = counted (c1 .pre .1 .0) _ (c .before .before .before .if1 .left) (c .before .before .kind .ensures) in
-    (omega (arith, c1 .pre .0), (v, c .before .match .keys1))
+  kind-requires : eval-pred-lts.Need-kind-requires claims (eval-pred-at t) eval-pred.Post
+  kind-requires c κs = ready-node (c .before .before .before .pre .1 .0)
 
-pub eval-pred-eval-test-requires : (t : ℕ) → eval-pred-lts.Need-eval-test-requires (
-  kind-reads.Asked,
-  kind-reads.Learnt,
-  eval-not-below t,
-  eval-not.Post,
-  eval-test-below t,
-  eval-test.Post,
-  eval-quant-below t,
-  eval-quant.Post,
-  eval-join-below t,
-  eval-join.Post,
-) (eval-pred-at t) eval-pred.Post
-eval-pred-eval-test-requires t c κs =
-    let c1 = c .before .before .before .before .before .before .before .before in
-    let v = counted (c1 .pre .1 .0) _ (c .before .before .before .before .before .if1 .left) (c .before .before .before .before .kind .ensures) in
-    (omega (arith, c1 .pre .0), (v, test-sort _ (c .before .before .if2 .left) (c .before .if3 .taken)))
+  eval-not-requires : eval-pred-lts.Need-eval-not-requires claims (eval-pred-at t) eval-pred.Post
+  eval-not-requires c κs =
+      let c1 = c .before .before .before .before .before .before .before .before in
+      let v = counted (c1 .pre .1 .0) _ (c .before .before .before .before .before .if1 .left) (c .before .before .before .before .kind .ensures) in
+      (omega (arith, c1 .pre .0), (v, c .before .match .keys1))
 
-pub eval-pred-eval-quant-requires : (t : ℕ) → eval-pred-lts.Need-eval-quant-requires (
-  kind-reads.Asked,
-  kind-reads.Learnt,
-  eval-not-below t,
-  eval-not.Post,
-  eval-test-below t,
-  eval-test.Post,
-  eval-quant-below t,
-  eval-quant.Post,
-  eval-join-below t,
-  eval-join.Post,
-) (eval-pred-at t) eval-pred.Post
-eval-pred-eval-quant-requires t c κs =
-    let c1 = c .before .before .before .before .before .before .before .before .before in
-    let v = counted (c1 .pre .1 .0) _ (c .before .before .before .before .before .before .if1 .left) (c .before .before .before .before .before .kind .ensures) in
-    (omega (arith, c1 .pre .0), (v, quant-sort _ (c .before .before .if3 .left) (c .before .if4 .taken)))
+  eval-test-requires : eval-pred-lts.Need-eval-test-requires claims (eval-pred-at t) eval-pred.Post
+  eval-test-requires c κs =
+      let c1 = c .before .before .before .before .before .before .before .before .before .before in
+      let v = counted (c1 .pre .1 .0) _ (c .before .before .before .before .before .before .before .if1 .left) (c .before .before .before .before .before .before .kind .ensures) in
+      (omega (arith, c1 .pre .0), (v, test-sort _ (c .before .before .if4 .left) (c .before .if5 .taken)))
 
-pub eval-pred-eval-join-requires : (t : ℕ) → eval-pred-lts.Need-eval-join-requires (
-  kind-reads.Asked,
-  kind-reads.Learnt,
-  eval-not-below t,
-  eval-not.Post,
-  eval-test-below t,
-  eval-test.Post,
-  eval-quant-below t,
-  eval-quant.Post,
-  eval-join-below t,
-  eval-join.Post,
-) (eval-pred-at t) eval-pred.Post
-eval-pred-eval-join-requires t c κs =
-    let c1 = c .before .before .before .before .before .before .before in
-    let v = counted (c1 .pre .1 .0) _ (c .before .before .before .before .if1 .left) (c .before .before .before .kind .ensures) in
-    (omega (arith, c1 .pre .0), (v, join-kind v (c1 .pre .1 .1) (c .before .before .match .rest .1) (λ l. ⊎-elim (λ w. absurd (omega (arith, w .taken))) (λ w. w .2 .left) (c .before .if2 .came))))
+  eval-quant-requires : eval-pred-lts.Need-eval-quant-requires claims (eval-pred-at t) eval-pred.Post
+  eval-quant-requires c κs =
+      let c1 = c .before .before .before .before .before .before .before .before .before .before .before in
+      let v = counted (c1 .pre .1 .0) _ (c .before .before .before .before .before .before .before .before .if1 .left) (c .before .before .before .before .before .before .before .kind .ensures) in
+      (omega (arith, c1 .pre .0), (v, quant-sort _ (c .before .before .if5 .left) (c .before .if6 .taken)))
 
-pub eval-pred-same-length : (t : ℕ) → eval-pred-lts.Need-same-length (
-  kind-reads.Asked,
-  kind-reads.Learnt,
-  eval-not-below t,
-  eval-not.Post,
-  eval-test-below t,
-  eval-test.Post,
-  eval-quant-below t,
-  eval-quant.Post,
-  eval-join-below t,
-  eval-join.Post,
-) (eval-pred-at t) eval-pred.Post
-eval-pred-same-length t c = c .before .before .eval-not .kept .1 .1 .1 .0
+  eval-join-requires : eval-pred-lts.Need-eval-join-requires claims (eval-pred-at t) eval-pred.Post
+  eval-join-requires c κs =
+      let c1 = c .before .before .before .before .before .before .before .before .before in
+      let v = counted (c1 .pre .1 .0) _ (c .before .before .before .before .before .before .if1 .left) (c .before .before .before .before .before .kind .ensures) in
+      let below = ⊎-elim (λ w. w .taken) (λ w. absurd (omega (arith, w .2 .left, c .before .before .before .if3 .taken))) (c .before .if4 .came) in
+      (omega (arith, c1 .pre .0), (v, join-kind v (c1 .pre .1 .1) (c .before .before .match .rest .1) below))
 
-pub eval-pred-returns-2 : (t : ℕ) → eval-pred-lts.Need-returns-2 (
-  kind-reads.Asked,
-  kind-reads.Learnt,
-  eval-not-below t,
-  eval-not.Post,
-  eval-test-below t,
-  eval-test.Post,
-  eval-quant-below t,
-  eval-quant.Post,
-  eval-join-below t,
-  eval-join.Post,
-) (eval-pred-at t) eval-pred.Post
-eval-pred-returns-2 t c = c .before .before .eval-not .ensures
+  same-length : eval-pred-lts.Need-same-length claims (eval-pred-at t) eval-pred.Post
+  same-length c = c .before .before .eval-not .kept .1 .1 .1 .0
 
-pub eval-pred-same-length-2 : (t : ℕ) → eval-pred-lts.Need-same-length-2 (
-  kind-reads.Asked,
-  kind-reads.Learnt,
-  eval-not-below t,
-  eval-not.Post,
-  eval-test-below t,
-  eval-test.Post,
-  eval-quant-below t,
-  eval-quant.Post,
-  eval-join-below t,
-  eval-join.Post,
-) (eval-pred-at t) eval-pred.Post
-eval-pred-same-length-2 t c = c .before .before .eval-test .kept .1 .1 .1 .0
+  returns-2 : eval-pred-lts.Need-returns-2 claims (eval-pred-at t) eval-pred.Post
+  returns-2 c = c .before .before .eval-not .ensures
 
-pub eval-pred-returns-3 : (t : ℕ) → eval-pred-lts.Need-returns-3 (
-  kind-reads.Asked,
-  kind-reads.Learnt,
-  eval-not-below t,
-  eval-not.Post,
-  eval-test-below t,
-  eval-test.Post,
-  eval-quant-below t,
-  eval-quant.Post,
-  eval-join-below t,
-  eval-join.Post,
-) (eval-pred-at t) eval-pred.Post
-eval-pred-returns-3 t c = c .before .before .eval-test .ensures
+  same-length-2 : eval-pred-lts.Need-same-length-2 claims (eval-pred-at t) eval-pred.Post
+  same-length-2 c = c .before .before .eval-test .kept .1 .1 .1 .0
 
-pub eval-pred-same-length-3 : (t : ℕ) → eval-pred-lts.Need-same-length-3 (
-  kind-reads.Asked,
-  kind-reads.Learnt,
-  eval-not-below t,
-  eval-not.Post,
-  eval-test-below t,
-  eval-test.Post,
-  eval-quant-below t,
-  eval-quant.Post,
-  eval-join-below t,
-  eval-join.Post,
-) (eval-pred-at t) eval-pred.Post
-eval-pred-same-length-3 t c = c .before .before .eval-quant .kept .1 .1 .1 .0
+  returns-3 : eval-pred-lts.Need-returns-3 claims (eval-pred-at t) eval-pred.Post
+  returns-3 c = c .before .before .eval-test .ensures
 
-pub eval-pred-returns-4 : (t : ℕ) → eval-pred-lts.Need-returns-4 (
-  kind-reads.Asked,
-  kind-reads.Learnt,
-  eval-not-below t,
-  eval-not.Post,
-  eval-test-below t,
-  eval-test.Post,
-  eval-quant-below t,
-  eval-quant.Post,
-  eval-join-below t,
-  eval-join.Post,
-) (eval-pred-at t) eval-pred.Post
-eval-pred-returns-4 t c = c .before .before .eval-quant .ensures
+  same-length-3 : eval-pred-lts.Need-same-length-3 claims (eval-pred-at t) eval-pred.Post
+  same-length-3 c = c .before .before .eval-quant .kept .1 .1 .1 .0
 
-pub eval-pred-same-length-4 : (t : ℕ) → eval-pred-lts.Need-same-length-4 (
-  kind-reads.Asked,
-  kind-reads.Learnt,
-  eval-not-below t,
-  eval-not.Post,
-  eval-test-below t,
-  eval-test.Post,
-  eval-quant-below t,
-  eval-quant.Post,
-  eval-join-below t,
-  eval-join.Post,
-) (eval-pred-at t) eval-pred.Post
-eval-pred-same-length-4 t c = c .before .before .eval-join .kept .1 .1 .1 .0
+  returns-4 : eval-pred-lts.Need-returns-4 claims (eval-pred-at t) eval-pred.Post
+  returns-4 c = c .before .before .eval-quant .ensures
 
-pub eval-pred-returns-5 : (t : ℕ) → eval-pred-lts.Need-returns-5 (
-  kind-reads.Asked,
-  kind-reads.Learnt,
-  eval-not-below t,
-  eval-not.Post,
-  eval-test-below t,
-  eval-test.Post,
-  eval-quant-below t,
-  eval-quant.Post,
-  eval-join-below t,
-  eval-join.Post,
-) (eval-pred-at t) eval-pred.Post
-eval-pred-returns-5 t c = c .before .before .eval-join .ensures
+  same-length-4 : eval-pred-lts.Need-same-length-4 claims (eval-pred-at t) eval-pred.Post
+  same-length-4 c = c .before .before .eval-join .kept .1 .1 .1 .0
+
+  returns-5 : eval-pred-lts.Need-returns-5 claims (eval-pred-at t) eval-pred.Post
+  returns-5 c = c .before .before .eval-join .ensures
+
+  returns-6 : eval-pred-lts.Need-returns-6 claims (eval-pred-at t) eval-pred.Post
+  returns-6 c =
+      let c1 = c .before .before .before .before .before in
+      let v = counted (c1 .pre .1 .0) _ (c .before .before .if1 .left) (c .before .kind .ensures) in
+      absurd (omega (arith, predicate-code v (c1 .pre .1 .1), c .if2 .taken))
+
+  returns-7 : eval-pred-lts.Need-returns-7 claims (eval-pred-at t) eval-pred.Post
+  returns-7 c =
+      let c1 = c .before .before .before .before .before .before in
+      let v = counted (c1 .pre .1 .0) _ (c .before .before .before .if1 .left) (c .before .before .kind .ensures) in
+      absurd (omega (arith, predicate-code v (c1 .pre .1 .1), c .if3 .left))
+
+  pub eval-pred-closed : {M : Type 1} → eval-pred-lts.Closed claims (eval-pred-at t) eval-pred.Post M
+  eval-pred-closed =
+      eval-pred-lts.spec
+      claims
+      (eval-pred-at t)
+      eval-pred.Post
+      returns
+      kind-requires
+      eval-not-requires
+      eval-test-requires
+      eval-quant-requires
+      eval-join-requires
+      same-length
+      returns-2
+      same-length-2
+      returns-3
+      same-length-3
+      returns-4
+      same-length-4
+      returns-5
+      returns-6
+      returns-7

@@ -17,354 +17,166 @@ use Rattle.arena.proofs.Standing.{same-refl}
 use Rattle.evaluators.proofs.NodeLaws.{ready-child, formed-as}
 use Rattle.evaluators.proofs.FormLaws.{range-as, chosen-as, select-child, select-fails, range-good, range-low, range-fails, select-each, chosen-fails, select-settles, select-evaluates}
 
-pub eval-select-field-requires : (t : ℕ) → eval-select-lts.Need-field-requires (
-  field-reads.Asked,
-  field-reads.Learnt,
-  eval-expr-below t,
-  eval-expr.Post,
-  range-of-reads.Asked,
-  range-of-reads.Learnt,
-  each-chosen-below t,
-  each-chosen.Post,
-  settle-reads.Asked,
-  settle-reads.Learnt,
-) (eval-select-at t) eval-select.Post
-eval-select-field-requires t c κs = (ready-node (c .before .before .pre .1 .0 .ready), lit< tt)
+module _ (t : ℕ) where
+  abbrev claims : eval-select-lts.Claims
+  claims = (
+    field-reads.Asked,
+    field-reads.Learnt,
+    eval-expr-below t,
+    eval-expr.Post,
+    range-of-reads.Asked,
+    range-of-reads.Learnt,
+    each-chosen-below t,
+    each-chosen.Post,
+    settle-reads.Asked,
+    settle-reads.Learnt,
+  )
 
-pub eval-select-add-eval-expr : (t : ℕ) → eval-select-lts.Need-add-eval-expr (
-  field-reads.Asked,
-  field-reads.Learnt,
-  eval-expr-below t,
-  eval-expr.Post,
-  range-of-reads.Asked,
-  range-of-reads.Learnt,
-  each-chosen-below t,
-  each-chosen.Post,
-  settle-reads.Asked,
-  settle-reads.Learnt,
-) (eval-select-at t) eval-select.Post
-eval-select-add-eval-expr t c = count-fits (c .before .before .before .before .pre .1 .0 .spent) (c .before .before .before .before .fits .budget)
+  field-requires : eval-select-lts.Need-field-requires claims (eval-select-at t) eval-select.Post
+  field-requires c κs = (ready-node (c .before .before .pre .1 .0 .ready), lit< tt)
 
-pub eval-select-eval-expr-requires : (t : ℕ) → eval-select-lts.Need-eval-expr-requires (
-  field-reads.Asked,
-  field-reads.Learnt,
-  eval-expr-below t,
-  eval-expr.Post,
-  range-of-reads.Asked,
-  range-of-reads.Learnt,
-  each-chosen-below t,
-  each-chosen.Post,
-  settle-reads.Asked,
-  settle-reads.Learnt,
-) (eval-select-at t) eval-select.Post
-eval-select-eval-expr-requires t c κs =
-    let b = c .before .before .before .before in
-    let d = select-child (b .pre .1 .0) (b .pre .1 .1) (c .before .field .ensures) in
-    (omega (arith, b .pre .0, d .below), (ready-child _ _ _ _ (b .pre .1 .0 .ready) d (same-refl _ _) (omega arith) (omega arith) (omega (arith, b .pre .1 .0 .spent)), d .is))
+  add-eval-expr : eval-select-lts.Need-add-eval-expr claims (eval-select-at t) eval-select.Post
+  add-eval-expr c = count-fits (c .before .before .before .before .pre .1 .0 .spent) (c .before .before .before .before .fits .budget)
 
-pub eval-select-enum-known-formed : (t : ℕ) → eval-select-lts.Need-enum-known-formed (
-  field-reads.Asked,
-  field-reads.Learnt,
-  eval-expr-below t,
-  eval-expr.Post,
-  range-of-reads.Asked,
-  range-of-reads.Learnt,
-  each-chosen-below t,
-  each-chosen.Post,
-  settle-reads.Asked,
-  settle-reads.Learnt,
-) (eval-select-at t) eval-select.Post
-eval-select-enum-known-formed t c = c .match .keys1
+  eval-expr-requires : eval-select-lts.Need-eval-expr-requires claims (eval-select-at t) eval-select.Post
+  eval-expr-requires c κs =
+      let b = c .before .before .before .before in
+      let d = select-child (b .pre .1 .0) (b .pre .1 .1) (c .before .field .ensures) in
+      (omega (arith, b .pre .0, d .below), (ready-child _ _ _ _ (b .pre .1 .0 .ready) d (same-refl _ _) (omega arith) (omega arith) (omega (arith, b .pre .1 .0 .spent)), d .is))
 
-pub eval-select-enum-told : (t : ℕ) → eval-select-lts.Need-enum-told (
-  field-reads.Asked,
-  field-reads.Learnt,
-  eval-expr-below t,
-  eval-expr.Post,
-  range-of-reads.Asked,
-  range-of-reads.Learnt,
-  each-chosen-below t,
-  each-chosen.Post,
-  settle-reads.Asked,
-  settle-reads.Learnt,
-) (eval-select-at t) eval-select.Post
-eval-select-enum-told t c = c .match .keys2
+  enum-known-formed : eval-select-lts.Need-enum-known-formed claims (eval-select-at t) eval-select.Post
+  enum-known-formed c = c .match .keys1
 
-pub eval-select-same-length : (t : ℕ) → eval-select-lts.Need-same-length (
-  field-reads.Asked,
-  field-reads.Learnt,
-  eval-expr-below t,
-  eval-expr.Post,
-  range-of-reads.Asked,
-  range-of-reads.Learnt,
-  each-chosen-below t,
-  each-chosen.Post,
-  settle-reads.Asked,
-  settle-reads.Learnt,
-) (eval-select-at t) eval-select.Post
-eval-select-same-length t c = c .before .before .before .before .eval-expr .kept .1 .1 .1 .0
+  enum-told : eval-select-lts.Need-enum-told claims (eval-select-at t) eval-select.Post
+  enum-told c = c .match .keys2
 
-pub eval-select-returns : (t : ℕ) → eval-select-lts.Need-returns (
-  field-reads.Asked,
-  field-reads.Learnt,
-  eval-expr-below t,
-  eval-expr.Post,
-  range-of-reads.Asked,
-  range-of-reads.Learnt,
-  each-chosen-below t,
-  each-chosen.Post,
-  settle-reads.Asked,
-  settle-reads.Learnt,
-) (eval-select-at t) eval-select.Post
-eval-select-returns t c =
-    let a = c .before .before .before .before in
-    let b = a .before .before .before .before .before in
-    let e = c .enum-told .given .1 in
-    formed-as refl (sym e) (select-fails (b .pre .1 .0) (b .pre .1 .1) (a .before .before .field .ensures) (formed-as refl e (a .eval-expr .ensures)))
+  same-length : eval-select-lts.Need-same-length claims (eval-select-at t) eval-select.Post
+  same-length c = c .before .before .before .before .eval-expr .kept .1 .1 .1 .0
 
-pub eval-select-range-of-requires : (t : ℕ) → eval-select-lts.Need-range-of-requires (
-  field-reads.Asked,
-  field-reads.Learnt,
-  eval-expr-below t,
-  eval-expr.Post,
-  range-of-reads.Asked,
-  range-of-reads.Learnt,
-  each-chosen-below t,
-  each-chosen.Post,
-  settle-reads.Asked,
-  settle-reads.Learnt,
-) (eval-select-at t) eval-select.Post
-eval-select-range-of-requires t c κs =
-    let a = c .before .before .before .before .before .before in
-    let b = a .before .before .before .before .before in
-    range-good (b .pre .1 .0) (b .pre .1 .1) (a .before .before .field .ensures) (formed-as refl (c .before .before .formed .given .1) (a .eval-expr .ensures))
+  returns : eval-select-lts.Need-returns claims (eval-select-at t) eval-select.Post
+  returns c =
+      let a = c .before .before .before .before in
+      let b = a .before .before .before .before .before in
+      let e = c .enum-told .given .1 in
+      formed-as refl (sym e) (select-fails (b .pre .1 .0) (b .pre .1 .1) (a .before .before .field .ensures) (formed-as refl e (a .eval-expr .ensures)))
 
-pub eval-select-enum-known-range : (t : ℕ) → eval-select-lts.Need-enum-known-range (
-  field-reads.Asked,
-  field-reads.Learnt,
-  eval-expr-below t,
-  eval-expr.Post,
-  range-of-reads.Asked,
-  range-of-reads.Learnt,
-  each-chosen-below t,
-  each-chosen.Post,
-  settle-reads.Asked,
-  settle-reads.Learnt,
-) (eval-select-at t) eval-select.Post
-eval-select-enum-known-range t c = c .match2 .keys1
+  range-of-requires : eval-select-lts.Need-range-of-requires claims (eval-select-at t) eval-select.Post
+  range-of-requires c κs =
+      let a = c .before .before .before .before .before .before in
+      let b = a .before .before .before .before .before in
+      range-good (b .pre .1 .0) (b .pre .1 .1) (a .before .before .field .ensures) (formed-as refl (c .before .before .formed .given .1) (a .eval-expr .ensures))
 
-pub eval-select-enum-told-2 : (t : ℕ) → eval-select-lts.Need-enum-told-2 (
-  field-reads.Asked,
-  field-reads.Learnt,
-  eval-expr-below t,
-  eval-expr.Post,
-  range-of-reads.Asked,
-  range-of-reads.Learnt,
-  each-chosen-below t,
-  each-chosen.Post,
-  settle-reads.Asked,
-  settle-reads.Learnt,
-) (eval-select-at t) eval-select.Post
-eval-select-enum-told-2 t c = c .match2 .keys2
+  enum-known-range : eval-select-lts.Need-enum-known-range claims (eval-select-at t) eval-select.Post
+  enum-known-range c = c .match2 .keys1
 
-pub eval-select-same-length-2 : (t : ℕ) → eval-select-lts.Need-same-length-2 (
-  field-reads.Asked,
-  field-reads.Learnt,
-  eval-expr-below t,
-  eval-expr.Post,
-  range-of-reads.Asked,
-  range-of-reads.Learnt,
-  each-chosen-below t,
-  each-chosen.Post,
-  settle-reads.Asked,
-  settle-reads.Learnt,
-) (eval-select-at t) eval-select.Post
-eval-select-same-length-2 t c = c .before .before .before .before .before .before .before .before .before .eval-expr .kept .1 .1 .1 .0
+  enum-told-2 : eval-select-lts.Need-enum-told-2 claims (eval-select-at t) eval-select.Post
+  enum-told-2 c = c .match2 .keys2
 
-pub eval-select-returns-2 : (t : ℕ) → eval-select-lts.Need-returns-2 (
-  field-reads.Asked,
-  field-reads.Learnt,
-  eval-expr-below t,
-  eval-expr.Post,
-  range-of-reads.Asked,
-  range-of-reads.Learnt,
-  each-chosen-below t,
-  each-chosen.Post,
-  settle-reads.Asked,
-  settle-reads.Learnt,
-) (eval-select-at t) eval-select.Post
-eval-select-returns-2 t c =
-    let g = c .before .before .before .before .before in
-    let a = g .before .before .before .before in
-    let b = a .before .before .before .before .before in
-    range-fails (b .pre .1 .0) (b .pre .1 .1) (a .before .before .field .ensures) (formed-as refl (g .formed .given .1) (a .eval-expr .ensures))
-    (range-as (c .enum-told2 .given .1) (c .before .before .range-of .ensures))
+  same-length-2 : eval-select-lts.Need-same-length-2 claims (eval-select-at t) eval-select.Post
+  same-length-2 c = c .before .before .before .before .before .before .before .before .before .eval-expr .kept .1 .1 .1 .0
 
-pub eval-select-add-each-chosen : (t : ℕ) → eval-select-lts.Need-add-each-chosen (
-  field-reads.Asked,
-  field-reads.Learnt,
-  eval-expr-below t,
-  eval-expr.Post,
-  range-of-reads.Asked,
-  range-of-reads.Learnt,
-  each-chosen-below t,
-  each-chosen.Post,
-  settle-reads.Asked,
-  settle-reads.Learnt,
-) (eval-select-at t) eval-select.Post
-eval-select-add-each-chosen t c =
-    let g = c .before .before .before .before .before .before .before in
-    let a = g .before .before .before .before in
-    let b = a .before .before .before .before .before in
-    omega (
-      arith,
-      range-low (b .pre .1 .0) (b .pre .1 .1) (a .before .before .field .ensures) (formed-as refl (g .formed .given .1) (a .eval-expr .ensures)),
-    )
+  returns-2 : eval-select-lts.Need-returns-2 claims (eval-select-at t) eval-select.Post
+  returns-2 c =
+      let g = c .before .before .before .before .before in
+      let a = g .before .before .before .before in
+      let b = a .before .before .before .before .before in
+      range-fails (b .pre .1 .0) (b .pre .1 .1) (a .before .before .field .ensures) (formed-as refl (g .formed .given .1) (a .eval-expr .ensures))
+      (range-as (c .enum-told2 .given .1) (c .before .before .range-of .ensures))
 
-pub eval-select-each-chosen-requires : (t : ℕ) → eval-select-lts.Need-each-chosen-requires (
-  field-reads.Asked,
-  field-reads.Learnt,
-  eval-expr-below t,
-  eval-expr.Post,
-  range-of-reads.Asked,
-  range-of-reads.Learnt,
-  each-chosen-below t,
-  each-chosen.Post,
-  settle-reads.Asked,
-  settle-reads.Learnt,
-) (eval-select-at t) eval-select.Post
-eval-select-each-chosen-requires t c κs =
-    let n = c .before .before in
-    let g = n .before .before .before .before .before in
-    let a = g .before .before .before .before in
-    let b = a .before .before .before .before .before in (
-      omega (arith, b .pre .0),
-      select-each (b .pre .1 .0) (b .pre .1 .1) (a .before .before .field .ensures) (formed-as refl (g .formed .given .1) (a .eval-expr .ensures))
-          (range-as (n .range .given .1) (n .before .before .range-of .ensures)),
-    )
+  add-each-chosen : eval-select-lts.Need-add-each-chosen claims (eval-select-at t) eval-select.Post
+  add-each-chosen c =
+      let g = c .before .before .before .before .before .before .before in
+      let a = g .before .before .before .before in
+      let b = a .before .before .before .before .before in
+      omega (
+        arith,
+        range-low (b .pre .1 .0) (b .pre .1 .1) (a .before .before .field .ensures) (formed-as refl (g .formed .given .1) (a .eval-expr .ensures)),
+      )
 
-pub eval-select-enum-known-chosen : (t : ℕ) → eval-select-lts.Need-enum-known-chosen (
-  field-reads.Asked,
-  field-reads.Learnt,
-  eval-expr-below t,
-  eval-expr.Post,
-  range-of-reads.Asked,
-  range-of-reads.Learnt,
-  each-chosen-below t,
-  each-chosen.Post,
-  settle-reads.Asked,
-  settle-reads.Learnt,
-) (eval-select-at t) eval-select.Post
-eval-select-enum-known-chosen t c = c .match3 .keys1
+  each-chosen-requires : eval-select-lts.Need-each-chosen-requires claims (eval-select-at t) eval-select.Post
+  each-chosen-requires c κs =
+      let n = c .before .before in
+      let g = n .before .before .before .before .before in
+      let a = g .before .before .before .before in
+      let b = a .before .before .before .before .before in (
+        omega (arith, b .pre .0),
+        select-each (b .pre .1 .0) (b .pre .1 .1) (a .before .before .field .ensures) (formed-as refl (g .formed .given .1) (a .eval-expr .ensures))
+            (range-as (n .range .given .1) (n .before .before .range-of .ensures)),
+      )
 
-pub eval-select-enum-told-3 : (t : ℕ) → eval-select-lts.Need-enum-told-3 (
-  field-reads.Asked,
-  field-reads.Learnt,
-  eval-expr-below t,
-  eval-expr.Post,
-  range-of-reads.Asked,
-  range-of-reads.Learnt,
-  each-chosen-below t,
-  each-chosen.Post,
-  settle-reads.Asked,
-  settle-reads.Learnt,
-) (eval-select-at t) eval-select.Post
-eval-select-enum-told-3 t c = c .match3 .keys2
+  enum-known-chosen : eval-select-lts.Need-enum-known-chosen claims (eval-select-at t) eval-select.Post
+  enum-known-chosen c = c .match3 .keys1
 
-pub eval-select-same-length-3 : (t : ℕ) → eval-select-lts.Need-same-length-3 (
-  field-reads.Asked,
-  field-reads.Learnt,
-  eval-expr-below t,
-  eval-expr.Post,
-  range-of-reads.Asked,
-  range-of-reads.Learnt,
-  each-chosen-below t,
-  each-chosen.Post,
-  settle-reads.Asked,
-  settle-reads.Learnt,
-) (eval-select-at t) eval-select.Post
-eval-select-same-length-3 t c =
-    c .before .before .before .before .each-chosen .kept .1 .1 .1 .0 ∙ c .before .before .before .before .before .before .before .before .before .before .before .before .before .before .before .before .eval-expr .kept .1 .1 .1 .0
+  enum-told-3 : eval-select-lts.Need-enum-told-3 claims (eval-select-at t) eval-select.Post
+  enum-told-3 c = c .match3 .keys2
 
-pub eval-select-returns-3 : (t : ℕ) → eval-select-lts.Need-returns-3 (
-  field-reads.Asked,
-  field-reads.Learnt,
-  eval-expr-below t,
-  eval-expr.Post,
-  range-of-reads.Asked,
-  range-of-reads.Learnt,
-  each-chosen-below t,
-  each-chosen.Post,
-  settle-reads.Asked,
-  settle-reads.Learnt,
-) (eval-select-at t) eval-select.Post
-eval-select-returns-3 t c =
-    let e = c .before .before .before .before in
-    let n = e .before .before .before in
-    let g = n .before .before .before .before .before in
-    let a = g .before .before .before .before in
-    let b = a .before .before .before .before .before in
-    let q = c .enum-told3 .given .1 in
-    formed-as refl (sym q)
-    (chosen-fails (b .pre .1 .0) (b .pre .1 .1) (a .before .before .field .ensures) (formed-as refl (g .formed .given .1) (a .eval-expr .ensures))
-    (range-as (n .range .given .1) (n .before .before .range-of .ensures)) (chosen-as q (e .each-chosen .ensures)))
+  same-length-3 : eval-select-lts.Need-same-length-3 claims (eval-select-at t) eval-select.Post
+  same-length-3 c =
+      c .before .before .before .before .each-chosen .kept .1 .1 .1 .0 ∙ c .before .before .before .before .before .before .before .before .before .before .before .before .before .before .before .before .eval-expr .kept .1 .1 .1 .0
 
-pub eval-select-settle-requires : (t : ℕ) → eval-select-lts.Need-settle-requires (
-  field-reads.Asked,
-  field-reads.Learnt,
-  eval-expr-below t,
-  eval-expr.Post,
-  range-of-reads.Asked,
-  range-of-reads.Learnt,
-  each-chosen-below t,
-  each-chosen.Post,
-  settle-reads.Asked,
-  settle-reads.Learnt,
-) (eval-select-at t) eval-select.Post
-eval-select-settle-requires t c κs =
-    let v = c .before .before in
-    let e = v .before .before .before .before in
-    let n = e .before .before .before in
-    let g = n .before .before .before .before .before in
-    let a = g .before .before .before .before in
-    let b = a .before .before .before .before .before in
-    select-settles (b .pre .1 .0) (b .pre .1 .1) (a .before .before .field .ensures) (formed-as refl (g .formed .given .1) (a .eval-expr .ensures))
-    (range-as (n .range .given .1) (n .before .before .range-of .ensures)) (chosen-as (v .chosen .given .1) (e .each-chosen .ensures))
+  returns-3 : eval-select-lts.Need-returns-3 claims (eval-select-at t) eval-select.Post
+  returns-3 c =
+      let e = c .before .before .before .before in
+      let n = e .before .before .before in
+      let g = n .before .before .before .before .before in
+      let a = g .before .before .before .before in
+      let b = a .before .before .before .before .before in
+      let q = c .enum-told3 .given .1 in
+      formed-as refl (sym q)
+      (chosen-fails (b .pre .1 .0) (b .pre .1 .1) (a .before .before .field .ensures) (formed-as refl (g .formed .given .1) (a .eval-expr .ensures))
+      (range-as (n .range .given .1) (n .before .before .range-of .ensures)) (chosen-as q (e .each-chosen .ensures)))
 
-pub eval-select-same-length-4 : (t : ℕ) → eval-select-lts.Need-same-length-4 (
-  field-reads.Asked,
-  field-reads.Learnt,
-  eval-expr-below t,
-  eval-expr.Post,
-  range-of-reads.Asked,
-  range-of-reads.Learnt,
-  each-chosen-below t,
-  each-chosen.Post,
-  settle-reads.Asked,
-  settle-reads.Learnt,
-) (eval-select-at t) eval-select.Post
-eval-select-same-length-4 t c =
-    c .before .before .settle .kept .0 ∙ c .before .before .before .before .before .before .before .before .before .each-chosen .kept .1 .1 .1 .0 ∙ c .before .before .before .before .before .before .before .before .before .before .before .before .before .before .before .before .before .before .before .before .before .eval-expr .kept .1 .1 .1 .0
+  settle-requires : eval-select-lts.Need-settle-requires claims (eval-select-at t) eval-select.Post
+  settle-requires c κs =
+      let v = c .before .before in
+      let e = v .before .before .before .before in
+      let n = e .before .before .before in
+      let g = n .before .before .before .before .before in
+      let a = g .before .before .before .before in
+      let b = a .before .before .before .before .before in
+      select-settles (b .pre .1 .0) (b .pre .1 .1) (a .before .before .field .ensures) (formed-as refl (g .formed .given .1) (a .eval-expr .ensures))
+      (range-as (n .range .given .1) (n .before .before .range-of .ensures)) (chosen-as (v .chosen .given .1) (e .each-chosen .ensures))
 
-pub eval-select-returns-4 : (t : ℕ) → eval-select-lts.Need-returns-4 (
-  field-reads.Asked,
-  field-reads.Learnt,
-  eval-expr-below t,
-  eval-expr.Post,
-  range-of-reads.Asked,
-  range-of-reads.Learnt,
-  each-chosen-below t,
-  each-chosen.Post,
-  settle-reads.Asked,
-  settle-reads.Learnt,
-) (eval-select-at t) eval-select.Post
-eval-select-returns-4 t c =
-    let v = c .before .before .before .before .before in
-    let e = v .before .before .before .before in
-    let n = e .before .before .before in
-    let g = n .before .before .before .before .before in
-    let a = g .before .before .before .before in
-    let b = a .before .before .before .before .before in
-    select-evaluates (b .pre .1 .0) (b .pre .1 .1) (a .before .before .field .ensures) (formed-as refl (g .formed .given .1) (a .eval-expr .ensures))
-    (range-as (n .range .given .1) (n .before .before .range-of .ensures)) (chosen-as (v .chosen .given .1) (e .each-chosen .ensures))
-    (c .before .before .settle .ensures)
+  same-length-4 : eval-select-lts.Need-same-length-4 claims (eval-select-at t) eval-select.Post
+  same-length-4 c =
+      c .before .before .settle .kept .0 ∙ c .before .before .before .before .before .before .before .before .before .each-chosen .kept .1 .1 .1 .0 ∙ c .before .before .before .before .before .before .before .before .before .before .before .before .before .before .before .before .before .before .before .before .before .eval-expr .kept .1 .1 .1 .0
+
+  returns-4 : eval-select-lts.Need-returns-4 claims (eval-select-at t) eval-select.Post
+  returns-4 c =
+      let v = c .before .before .before .before .before in
+      let e = v .before .before .before .before in
+      let n = e .before .before .before in
+      let g = n .before .before .before .before .before in
+      let a = g .before .before .before .before in
+      let b = a .before .before .before .before .before in
+      select-evaluates (b .pre .1 .0) (b .pre .1 .1) (a .before .before .field .ensures) (formed-as refl (g .formed .given .1) (a .eval-expr .ensures))
+      (range-as (n .range .given .1) (n .before .before .range-of .ensures)) (chosen-as (v .chosen .given .1) (e .each-chosen .ensures))
+      (c .before .before .settle .ensures)
+
+  pub eval-select-closed : {M : Type 1} → eval-select-lts.Closed claims (eval-select-at t) eval-select.Post M
+  eval-select-closed =
+      eval-select-lts.spec
+      claims
+      (eval-select-at t)
+      eval-select.Post
+      field-requires
+      add-eval-expr
+      eval-expr-requires
+      enum-known-formed
+      enum-told
+      same-length
+      returns
+      range-of-requires
+      enum-known-range
+      enum-told-2
+      same-length-2
+      returns-2
+      add-each-chosen
+      each-chosen-requires
+      enum-known-chosen
+      enum-told-3
+      same-length-3
+      returns-3
+      settle-requires
+      same-length-4
+      returns-4

@@ -12,123 +12,74 @@ use Rattle.evaluators.proofs.+each_chosen+each_member+eval_bool+eval_bo
 use Rattle.evaluators.proofs.NodeLaws.{ready-on, both-as}
 use Rattle.evaluators.proofs.FormLaws.{two-fields, two-fails, two-ready, two-settles, two-evaluates}
 
-pub eval-two-add-eval-both : (t : ℕ) → eval-two-lts.Need-add-eval-both (
-  eval-both-below t,
-  eval-both.Post,
-  two-reads.Asked,
-  two-reads.Learnt,
-  settle-reads.Asked,
-  settle-reads.Learnt,
-) (eval-two-at t) eval-two.Post
-eval-two-add-eval-both t c = count-fits (c .before .before .before .pre .1 .0 .spent) (c .before .before .before .fits .budget)
+module _ (t : ℕ) where
+  abbrev claims : eval-two-lts.Claims
+  claims = (eval-both-below t, eval-both.Post, two-reads.Asked, two-reads.Learnt, settle-reads.Asked, settle-reads.Learnt)
 
-pub eval-two-eval-both-requires : (t : ℕ) → eval-two-lts.Need-eval-both-requires (
-  eval-both-below t,
-  eval-both.Post,
-  two-reads.Asked,
-  two-reads.Learnt,
-  settle-reads.Asked,
-  settle-reads.Learnt,
-) (eval-two-at t) eval-two.Post
-eval-two-eval-both-requires t c κs =
-    let b = c .before .before .before in (
-      omega (arith, b .pre .0),
-      (ready-on _ (b .pre .1 .0 .ready) (omega (arith, b .pre .1 .0 .spent)), two-fields (b .pre .1 .0) (b .pre .1 .1 .0) (b .pre .1 .1 .1)),
-    )
+  add-eval-both : eval-two-lts.Need-add-eval-both claims (eval-two-at t) eval-two.Post
+  add-eval-both c = count-fits (c .before .before .before .pre .1 .0 .spent) (c .before .before .before .fits .budget)
 
-pub eval-two-enum-known-k : (t : ℕ) → eval-two-lts.Need-enum-known-k (
-  eval-both-below t,
-  eval-both.Post,
-  two-reads.Asked,
-  two-reads.Learnt,
-  settle-reads.Asked,
-  settle-reads.Learnt,
-) (eval-two-at t) eval-two.Post
-eval-two-enum-known-k t c = c .match .keys1
+  eval-both-requires : eval-two-lts.Need-eval-both-requires claims (eval-two-at t) eval-two.Post
+  eval-both-requires c κs =
+      let b = c .before .before .before in (
+        omega (arith, b .pre .0),
+        (ready-on _ (b .pre .1 .0 .ready) (omega (arith, b .pre .1 .0 .spent)), two-fields (b .pre .1 .0) (b .pre .1 .1 .0) (b .pre .1 .1 .1)),
+      )
 
-pub eval-two-enum-known-a : (t : ℕ) → eval-two-lts.Need-enum-known-a (
-  eval-both-below t,
-  eval-both.Post,
-  two-reads.Asked,
-  two-reads.Learnt,
-  settle-reads.Asked,
-  settle-reads.Learnt,
-) (eval-two-at t) eval-two.Post
-eval-two-enum-known-a t c = c .match .keys2
+  enum-known-k : eval-two-lts.Need-enum-known-k claims (eval-two-at t) eval-two.Post
+  enum-known-k c = c .match .keys1
 
-pub eval-two-two-requires : (t : ℕ) → eval-two-lts.Need-two-requires (
-  eval-both-below t,
-  eval-both.Post,
-  two-reads.Asked,
-  two-reads.Learnt,
-  settle-reads.Asked,
-  settle-reads.Learnt,
-) (eval-two-at t) eval-two.Post
-eval-two-two-requires t c κs =
-    let a = c .before .before .before .before .before .before in
-    let b = a .before .before .before .before in
-    two-ready (b .pre .1 .0) (b .pre .1 .1 .0) (b .pre .1 .1 .1) (both-as (c .before .before .a .given .1) (a .eval-both .ensures))
+  enum-known-a : eval-two-lts.Need-enum-known-a claims (eval-two-at t) eval-two.Post
+  enum-known-a c = c .match .keys2
 
-pub eval-two-settle-requires : (t : ℕ) → eval-two-lts.Need-settle-requires (
-  eval-both-below t,
-  eval-both.Post,
-  two-reads.Asked,
-  two-reads.Learnt,
-  settle-reads.Asked,
-  settle-reads.Learnt,
-) (eval-two-at t) eval-two.Post
-eval-two-settle-requires t c κs =
-    let g = c .before .before .before .before .before .before in
-    let a = g .before .before .before .before in
-    let b = a .before .before .before .before in
-    two-settles (b .pre .1 .0) (b .pre .1 .1 .0) (b .pre .1 .1 .1) (both-as (g .a .given .1) (a .eval-both .ensures)) (c .before .before .before .two .ensures)
+  two-requires : eval-two-lts.Need-two-requires claims (eval-two-at t) eval-two.Post
+  two-requires c κs =
+      let a = c .before .before .before .before .before .before in
+      let b = a .before .before .before .before in
+      two-ready (b .pre .1 .0) (b .pre .1 .1 .0) (b .pre .1 .1 .1) (both-as (c .before .before .a .given .1) (a .eval-both .ensures))
 
-pub eval-two-same-length : (t : ℕ) → eval-two-lts.Need-same-length (
-  eval-both-below t,
-  eval-both.Post,
-  two-reads.Asked,
-  two-reads.Learnt,
-  settle-reads.Asked,
-  settle-reads.Learnt,
-) (eval-two-at t) eval-two.Post
-eval-two-same-length t c = c .before .before .before .before .before .eval-both .kept .1 .1 .1 .0
+  settle-requires : eval-two-lts.Need-settle-requires claims (eval-two-at t) eval-two.Post
+  settle-requires c κs =
+      let g = c .before .before .before .before .before .before in
+      let a = g .before .before .before .before in
+      let b = a .before .before .before .before in
+      two-settles (b .pre .1 .0) (b .pre .1 .1 .0) (b .pre .1 .1 .1) (both-as (g .a .given .1) (a .eval-both .ensures)) (c .before .before .before .two .ensures)
 
-pub eval-two-returns : (t : ℕ) → eval-two-lts.Need-returns (
-  eval-both-below t,
-  eval-both.Post,
-  two-reads.Asked,
-  two-reads.Learnt,
-  settle-reads.Asked,
-  settle-reads.Learnt,
-) (eval-two-at t) eval-two.Post
-eval-two-returns t c =
-    let a = c .before .before .before .before .before in
-    let b = a .before .before .before .before in
-    two-fails (b .pre .1 .0) (b .pre .1 .1 .0) (b .pre .1 .1 .1) (both-as (c .before .k .given .1) (a .eval-both .ensures))
+  same-length : eval-two-lts.Need-same-length claims (eval-two-at t) eval-two.Post
+  same-length c = c .before .before .before .before .before .eval-both .kept .1 .1 .1 .0
 
-pub eval-two-same-length-2 : (t : ℕ) → eval-two-lts.Need-same-length-2 (
-  eval-both-below t,
-  eval-both.Post,
-  two-reads.Asked,
-  two-reads.Learnt,
-  settle-reads.Asked,
-  settle-reads.Learnt,
-) (eval-two-at t) eval-two.Post
-eval-two-same-length-2 t c =
-    c .before .before .settle .kept .0 ∙ c .before .before .before .before .before .before .two .kept .0 ∙ c .before .before .before .before .before .before .before .before .before .before .before .before .before .eval-both .kept .1 .1 .1 .0
+  returns : eval-two-lts.Need-returns claims (eval-two-at t) eval-two.Post
+  returns c =
+      let a = c .before .before .before .before .before in
+      let b = a .before .before .before .before in
+      two-fails (b .pre .1 .0) (b .pre .1 .1 .0) (b .pre .1 .1 .1) (both-as (c .before .k .given .1) (a .eval-both .ensures))
 
-pub eval-two-returns-2 : (t : ℕ) → eval-two-lts.Need-returns-2 (
-  eval-both-below t,
-  eval-both.Post,
-  two-reads.Asked,
-  two-reads.Learnt,
-  settle-reads.Asked,
-  settle-reads.Learnt,
-) (eval-two-at t) eval-two.Post
-eval-two-returns-2 t c =
-    let o = c .before .before .before .before .before .before in
-    let g = o .before .before .before in
-    let a = g .before .before .before .before in
-    let b = a .before .before .before .before in
-    two-evaluates (b .pre .1 .0) (b .pre .1 .1 .0) (b .pre .1 .1 .1)
-    (both-as (g .a .given .1) (a .eval-both .ensures)) (o .two .ensures) (c .before .before .settle .ensures)
+  same-length-2 : eval-two-lts.Need-same-length-2 claims (eval-two-at t) eval-two.Post
+  same-length-2 c =
+      c .before .before .settle .kept .0 ∙ c .before .before .before .before .before .before .two .kept .0 ∙ c .before .before .before .before .before .before .before .before .before .before .before .before .before .eval-both .kept .1 .1 .1 .0
+
+  returns-2 : eval-two-lts.Need-returns-2 claims (eval-two-at t) eval-two.Post
+  returns-2 c =
+      let o = c .before .before .before .before .before .before in
+      let g = o .before .before .before in
+      let a = g .before .before .before .before in
+      let b = a .before .before .before .before in
+      two-evaluates (b .pre .1 .0) (b .pre .1 .1 .0) (b .pre .1 .1 .1)
+      (both-as (g .a .given .1) (a .eval-both .ensures)) (o .two .ensures) (c .before .before .settle .ensures)
+
+  pub eval-two-closed : {M : Type 1} → eval-two-lts.Closed claims (eval-two-at t) eval-two.Post M
+  eval-two-closed =
+      eval-two-lts.spec
+      claims
+      (eval-two-at t)
+      eval-two.Post
+      add-eval-both
+      eval-both-requires
+      enum-known-k
+      enum-known-a
+      two-requires
+      settle-requires
+      same-length
+      returns
+      same-length-2
+      returns-2
