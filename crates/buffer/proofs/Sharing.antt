@@ -24,17 +24,17 @@ use Rattle.rules.proofs.Basics.{and-of, and-split}
 use Rattle.rules.proofs.CellsLaws.{weight-some}
 
 -- Types of values that follow one another.
-shapes-join : (vs ws : Values) (t : Ty) → sharedTypes vs ⊑ t → sharedTypes ws ⊑ t → sharedTypes (vs before ws) ⊑ t
-shapes-join none ws t h k = k
-shapes-join (v ▸ vs) ws t h k =
+sharedTypes-join : (vs ws : Values) (t : Ty) → sharedTypes vs ⊑ t → sharedTypes ws ⊑ t → sharedTypes (vs before ws) ⊑ t
+sharedTypes-join none ws t h k = k
+sharedTypes-join (v ▸ vs) ws t h k =
     let p = ⊓-split (typesOf v) (sharedTypes vs) t h in
-    ⊓-join (typesOf v) (sharedTypes (vs before ws)) t (p .0) (shapes-join vs ws t (p .1) k)
+    ⊓-join (typesOf v) (sharedTypes (vs before ws)) t (p .0) (sharedTypes-join vs ws t (p .1) k)
 
-shapes-split : (vs ws : Values) (t : Ty) → sharedTypes (vs before ws) ⊑ t → sharedTypes vs ⊑ t × sharedTypes ws ⊑ t
-shapes-split none ws t h = (tt, h)
-shapes-split (v ▸ vs) ws t h =
+sharedTypes-split : (vs ws : Values) (t : Ty) → sharedTypes (vs before ws) ⊑ t → sharedTypes vs ⊑ t × sharedTypes ws ⊑ t
+sharedTypes-split none ws t h = (tt, h)
+sharedTypes-split (v ▸ vs) ws t h =
     let p = ⊓-split (typesOf v) (sharedTypes (vs before ws)) t h in
-    let q = shapes-split vs ws t (p .1) in
+    let q = sharedTypes-split vs ws t (p .1) in
     (⊓-join (typesOf v) (sharedTypes vs) t (p .0) (q .0), q .1)
 
 before-assoc : (us vs ws : Values) → (us before vs) before ws ≡ us before (vs before ws)
@@ -176,7 +176,7 @@ module _ (s : List ℕ) (at n i k : ℕ) (vs : Values) (row : TypedRow s at n vs
         go (w ▸ ws) e b =
             none-left (inhabited (sharedTypes vs)) (λ t.
             let x = inhabited→some (sharedTypes vs) t in
-            let p = shapes-split (h .front) (w ▸ ws) (x .0) (subst (λ (us : Values). sharedTypes us ⊑ x .0) e (x .1)) in
+            let p = sharedTypes-split (h .front) (w ▸ ws) (x .0) (subst (λ (us : Values). sharedTypes us ⊑ x .0) e (x .1)) in
             let q = ⊓-split (typesOf w) (sharedTypes ws) (x .0) (p .1) in
             subst T (sym (next-meets false a w ws b)) (share→meets (sharedTypes (h .front)) (typesOf w) (x .0, p .0, q .0)))
 
@@ -194,7 +194,7 @@ module _ (s : List ℕ) (at n i k : ℕ) (vs : Values) (row : TypedRow s at n vs
               back = ws;
               whole = q ∙ sym (before-assoc (h .front) (w ▸ none) ws);
               counted = omega (arith, count-before (h .front) (w ▸ none), h .counted);
-              shares = some→inhabited (sharedTypes f) (x .0) (shapes-join (h .front) (w ▸ none) (x .0) (x .1) (⊓-join (typesOf w) every (x .0) (x .2) tt));
+              shares = some→inhabited (sharedTypes f) (x .0) (sharedTypes-join (h .front) (w ▸ none) (x .0) (x .1) (⊓-join (typesOf w) every (x .0) (x .2) tt));
               there = omega (arith, h .there, weights-before (h .front) (w ▸ none), ends w (stands-front s i (code w) (codes ws) (b .stands)) (b .fits .0));
             }
 

@@ -193,7 +193,7 @@ mutual
   ground-set (v ▸ vs) t u f h k =
       ground v t u (f .0) (⊓-split (typesOf v) (sharedTypes vs) t h .0) (⊓-split (typesOf v) (sharedTypes vs) u k .0)
 
--- The shape of a full value that has a type has no other: what meets it meets all that share its type.
+-- The types of a full value that has a type are that one: what meets it meets all that share its type.
 pub full-first : (v : Value) (r q : TypeSet) → Full v → T (inhabited (typesOf v ⊓ r)) → meets (typesOf v) q ≡ meets (typesOf v ⊓ r) q
 full-first v r q f l = bool-eq (meets (typesOf v) q) (meets (typesOf v ⊓ r) q) there back
   where

@@ -12,7 +12,7 @@ use Rattle.rules.specs.Types.{whole, Ty, atom, POW, _⊗_, INTEGER}
 use Rattle.rules.specs.Values.{num, truth, element, Value, scalar, pair, set, Values, none, _▸_, tag, weight}
 use Rattle.rules.specs.Rules.{Pattern, t̂, û, P̂, _×̂_, numᵖ, inst}
 use Rattle.rules.specs.Fits.{HasType, TypeSet, every, noType, _×ˢ_, _⊓_, typesOf, sharedTypes, inhabited, fits}
-use Rattle.rules.proofs.FitsLaws.{_⊑_, ⊓-split, has→shape, shape→has, have→shapes, shapes→have, inhabited→some, some→inhabited, fits-right}
+use Rattle.rules.proofs.FitsLaws.{_⊑_, ⊓-split, has→types, types→has, have→sharedTypes, sharedTypes→have, inhabited→some, some→inhabited, fits-right}
 use Rattle.arena.specs.Code.{cellSize, code, Stands, EndsAt}
 use Rattle.fitting.specs.Agree.{meets, agree, TypedAt, RunAt, SomeTyped, Agreed, AgreedWith, Full, Few, Members, SetHere}
 use Rattle.fitting.specs.Tests.{FitOne, FitTwo, Both, anyPair, Pairs, AgreedLefts}
@@ -29,12 +29,12 @@ inner (set vs) = sharedTypes vs
 pub of-pow : (v : Value) (t : Ty) → HasType v (POW t) → inner v ⊑ t
 of-pow (scalar x) t h = absurd01 (cc)
 of-pow (pair v w) t h = h
-of-pow (set vs) t h = have→shapes vs t h
+of-pow (set vs) t h = have→sharedTypes vs t h
 
 pub to-pow : (v : Value) (t : Ty) → inner v ⊑ t → HasType v (POW t)
 to-pow (scalar x) t h = absurd h
 to-pow (pair v w) t h = h
-to-pow (set vs) t h = shapes→have vs t h
+to-pow (set vs) t h = sharedTypes→have vs t h
 
 -- Numbers.
 number-asked : (v : Value) → HasType v INTEGER → T (eqb (tag v) 1)
@@ -77,14 +77,14 @@ module _ (v w : Value) where
   pub fits-alike : fits (t̂ ∷ t̂ ∷ []) (v ∷ w ∷ []) ≡ meets (typesOf v) (typesOf w)
   fits-alike =
       fits-two t̂ t̂ v w (meets (typesOf v) (typesOf w))
-      (λ t u h k. share→meets (typesOf v) (typesOf w) (t, has→shape v t h, has→shape w t k))
-      (λ h. let x = meets→share (typesOf v) (typesOf w) h in (x .0, INTEGER, shape→has v (x .0) (x .1), shape→has w (x .0) (x .2)))
+      (λ t u h k. share→meets (typesOf v) (typesOf w) (t, has→types v t h, has→types w t k))
+      (λ h. let x = meets→share (typesOf v) (typesOf w) h in (x .0, INTEGER, types→has v (x .0) (x .1), types→has w (x .0) (x .2)))
 
   pub fits-belongs : fits (t̂ ∷ P̂ t̂ ∷ []) (v ∷ w ∷ []) ≡ meets (typesOf v) (inner w)
   fits-belongs =
       fits-two t̂ (P̂ t̂) v w (meets (typesOf v) (inner w))
-      (λ t u h k. share→meets (typesOf v) (inner w) (t, has→shape v t h, of-pow w t k))
-      (λ h. let x = meets→share (typesOf v) (inner w) h in (x .0, INTEGER, shape→has v (x .0) (x .1), to-pow w (x .0) (x .2)))
+      (λ t u h k. share→meets (typesOf v) (inner w) (t, has→types v t h, of-pow w t k))
+      (λ h. let x = meets→share (typesOf v) (inner w) h in (x .0, INTEGER, types→has v (x .0) (x .1), to-pow w (x .0) (x .2)))
 
   pub fits-alike-sets : fits (P̂ t̂ ∷ P̂ t̂ ∷ []) (v ∷ w ∷ []) ≡ meets (inner v) (inner w)
   fits-alike-sets =
@@ -104,10 +104,10 @@ module _ (v w : Value) where
   pub fits-applies : fits (P̂ (t̂ ×̂ û) ∷ t̂ ∷ []) (v ∷ w ∷ []) ≡ meets (inner v) (typesOf w ×ˢ every)
   fits-applies =
       fits-two (P̂ (t̂ ×̂ û)) t̂ v w (meets (inner v) (typesOf w ×ˢ every))
-      (λ t u h k. share→meets (inner v) (typesOf w ×ˢ every) (t ⊗ u, of-pow v (t ⊗ u) h, (has→shape w t k, tt)))
+      (λ t u h k. share→meets (inner v) (typesOf w ×ˢ every) (t ⊗ u, of-pow v (t ⊗ u) h, (has→types w t k, tt)))
       (λ h. let x = meets→share (inner v) (typesOf w ×ˢ every) h in
       let y = as-product (typesOf w) every (x .0) (x .2) in
-      (y .0, y .1, to-pow v (y .0 ⊗ y .1) (subst (λ (t : Ty). inner v ⊑ t) (y .2) (x .1)), shape→has w (y .0) (y .3)))
+      (y .0, y .1, to-pow v (y .0 ⊗ y .1) (subst (λ (t : Ty). inner v ⊑ t) (y .2) (x .1)), types→has w (y .0) (y .3)))
 
   pub fits-numbers : fits (numᵖ whole ∷ numᵖ whole ∷ []) (v ∷ w ∷ []) ≡ (eqb (tag v) 1 && eqb (tag w) 1)
   fits-numbers =

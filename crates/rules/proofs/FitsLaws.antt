@@ -13,7 +13,7 @@ use Rattle.rules.specs.Fits.{typesOf, sharedTypes, inhabited, typed, Ask
 use Rattle.rules.proofs.Basics.{and-of, and-split}
 
 infix 30 _⊑_
--- A type is one of a shape's.
+-- A type is in a set of types.
 abbrev pub _⊑_ : TypeSet → Ty → Type 0
 every ⊑ t = Unit {0}
 noType ⊑ t = ⊥
@@ -115,39 +115,39 @@ pub ⊓-split : (p q : TypeSet) (t : Ty) → p ⊓ q ⊑ t → p ⊑ t × q ⊑ 
     let b = ⊓-split p₂ q₂ u (h .1) in
     ((a .0, b .0), (a .1, b .1))
 
--- The types of a value are its shape's.
+-- The types of a value are in its set of types.
 mutual
-  pub has→shape : (v : Value) (t : Ty) → HasType v t → typesOf v ⊑ t
-  has→shape (scalar s) t h = h
-  has→shape (pair v w) (atom a) h = h
-  has→shape (pair v w) (POW t) h = h
-  has→shape (pair v w) (t ⊗ u) h = (has→shape v t (h .0), has→shape w u (h .1))
-  has→shape (set s) (atom a) h = h
-  has→shape (set s) (POW t) h = have→shapes s t h
-  has→shape (set s) (t ⊗ u) h = h
+  pub has→types : (v : Value) (t : Ty) → HasType v t → typesOf v ⊑ t
+  has→types (scalar s) t h = h
+  has→types (pair v w) (atom a) h = h
+  has→types (pair v w) (POW t) h = h
+  has→types (pair v w) (t ⊗ u) h = (has→types v t (h .0), has→types w u (h .1))
+  has→types (set s) (atom a) h = h
+  has→types (set s) (POW t) h = have→sharedTypes s t h
+  has→types (set s) (t ⊗ u) h = h
 
-  pub have→shapes : (s : Values) (t : Ty) → HaveType s t → sharedTypes s ⊑ t
-  have→shapes none t h = tt
-  have→shapes (v ▸ vs) t h = ⊓-join (typesOf v) (sharedTypes vs) t (has→shape v t (h .0)) (have→shapes vs t (h .1))
+  pub have→sharedTypes : (s : Values) (t : Ty) → HaveType s t → sharedTypes s ⊑ t
+  have→sharedTypes none t h = tt
+  have→sharedTypes (v ▸ vs) t h = ⊓-join (typesOf v) (sharedTypes vs) t (has→types v t (h .0)) (have→sharedTypes vs t (h .1))
 
--- The types of its shape are the value's.
+-- The types in its set are the value's.
 mutual
-  pub shape→has : (v : Value) (t : Ty) → typesOf v ⊑ t → HasType v t
-  shape→has (scalar s) t h = h
-  shape→has (pair v w) (atom a) h = h
-  shape→has (pair v w) (POW t) h = h
-  shape→has (pair v w) (t ⊗ u) h = (shape→has v t (h .0), shape→has w u (h .1))
-  shape→has (set s) (atom a) h = h
-  shape→has (set s) (POW t) h = shapes→have s t h
-  shape→has (set s) (t ⊗ u) h = h
+  pub types→has : (v : Value) (t : Ty) → typesOf v ⊑ t → HasType v t
+  types→has (scalar s) t h = h
+  types→has (pair v w) (atom a) h = h
+  types→has (pair v w) (POW t) h = h
+  types→has (pair v w) (t ⊗ u) h = (types→has v t (h .0), types→has w u (h .1))
+  types→has (set s) (atom a) h = h
+  types→has (set s) (POW t) h = sharedTypes→have s t h
+  types→has (set s) (t ⊗ u) h = h
 
-  pub shapes→have : (s : Values) (t : Ty) → sharedTypes s ⊑ t → HaveType s t
-  shapes→have none t h = tt
-  shapes→have (v ▸ vs) t h =
+  pub sharedTypes→have : (s : Values) (t : Ty) → sharedTypes s ⊑ t → HaveType s t
+  sharedTypes→have none t h = tt
+  sharedTypes→have (v ▸ vs) t h =
       let k = ⊓-split (typesOf v) (sharedTypes vs) t h in
-      (shape→has v t (k .0), shapes→have vs t (k .1))
+      (types→has v t (k .0), sharedTypes→have vs t (k .1))
 
--- An inhabited shape has a type.
+-- An inhabited set has a type.
 pub inhabited→some : (p : TypeSet) → T (inhabited p) → (t : Ty) × p ⊑ t
 inhabited→some every h = (INTEGER, tt)
 inhabited→some noType h = absurd h
@@ -159,7 +159,7 @@ inhabited→some (p ×ˢ q) h =
     let s = inhabited→some q (k .1) in
     (r .0 ⊗ s .0, (r .1, s .1))
 
--- A shape with a type is inhabited.
+-- A set with a type is inhabited.
 pub some→inhabited : (p : TypeSet) (t : Ty) → p ⊑ t → T (inhabited p)
 some→inhabited every t h = tt
 some→inhabited noType t h = h
@@ -175,8 +175,8 @@ some→inhabited (p ×ˢ q) (t ⊗ u) h = and-of (inhabited p) (inhabited q) (so
 pub typed-right : (v : Value) → T (typed v) ↔ ((t : Ty) × HasType v t)
 unfolding typed
 typed-right v = (
-  (λ h. let r = inhabited→some (typesOf v) h in (r .0, shape→has v (r .0) (r .1))),
-  (λ x. some→inhabited (typesOf v) (x .0) (has→shape v (x .0) (x .1))),
+  (λ h. let r = inhabited→some (typesOf v) h in (r .0, types→has v (r .0) (r .1))),
+  (λ x. some→inhabited (typesOf v) (x .0) (has→types v (x .0) (x .1))),
 )
 
 -- A pair of types is among those left for t and u.
@@ -210,7 +210,7 @@ each a b t u h =
     let l = ⊓-split (a .1) (b .1) u (h .1) in
     ((k .0, l .0), (k .1, l .1))
 
--- Where a pattern is at t and u a type of the shape, t and u are as it asks.
+-- Where a pattern is at t and u in the set, t and u are as it asks.
 pub asked-of : (p : Pattern) (s : TypeSet) (t u : Ty) → s ⊑ inst p t u → Leaves (asked p s) t u
 asked-of t̂ s t u h = (h, tt)
 asked-of û s t u h = (tt, h)
@@ -226,7 +226,7 @@ asked-of (p₁ ×̂ p₂) (atomˢ a) t u h = absurd (atom-product a (λ _ _. Uni
 asked-of (p₁ ×̂ p₂) (powˢ q) t u h = absurd h
 asked-of (p₁ ×̂ p₂) (q₁ ×ˢ q₂) t u h = both (asked p₁ q₁) (asked p₂ q₂) t u (asked-of p₁ q₁ t u (h .0)) (asked-of p₂ q₂ t u (h .1))
 
--- Where t and u are as a pattern asks, it is at t and u a type of the shape.
+-- Where t and u are as a pattern asks, it is at t and u in the set.
 pub of-asked : (p : Pattern) (s : TypeSet) (t u : Ty) → Leaves (asked p s) t u → s ⊑ inst p t u
 of-asked t̂ s t u h = h .0
 of-asked û s t u h = h .1
@@ -248,14 +248,14 @@ fit-asked : (ps : List Pattern) (vs : List Value) (t u : Ty) → FitAt ps vs t u
 fit-asked [] vs t u h = (tt, tt)
 fit-asked (p ∷ ps) [] t u h = absurd h
 fit-asked (p ∷ ps) (v ∷ vs) t u h =
-    both (asked p (typesOf v)) (askedAll ps vs) t u (asked-of p (typesOf v) t u (has→shape v (inst p t u) (h .0))) (fit-asked ps vs t u (h .1))
+    both (asked p (typesOf v)) (askedAll ps vs) t u (asked-of p (typesOf v) t u (has→types v (inst p t u) (h .0))) (fit-asked ps vs t u (h .1))
 
 asked-fit : (ps : List Pattern) (vs : List Value) (t u : Ty) → Leaves (askedAll ps vs) t u → FitAt ps vs t u
 asked-fit [] vs t u h = tt
 asked-fit (p ∷ ps) [] t u h = h .0
 asked-fit (p ∷ ps) (v ∷ vs) t u h =
     let k = each (asked p (typesOf v)) (askedAll ps vs) t u h in
-    (shape→has v (inst p t u) (of-asked p (typesOf v) t u (k .0)), asked-fit ps vs t u (k .1))
+    (types→has v (inst p t u) (of-asked p (typesOf v) t u (k .0)), asked-fit ps vs t u (k .1))
 
 -- The test of refusal 15 says for every rule that some t and u fit.
 pub fits-right : (ps : List Pattern) (vs : List Value) → T (fits ps vs) ↔ Fits ps vs

@@ -117,13 +117,14 @@ askAtom a (atomˢ b) = cond (sameAtom a b) anything nothing-fits
 askAtom a (powˢ q) = nothing-fits
 askAtom a (q₁ ×ˢ q₂) = nothing-fits
 
--- What a pattern asks of t and u where the value's types are those of a shape.
+-- What a pattern asks of t and u where the value's types are those of a set.
 abbrev pub asked : Pattern → TypeSet → Asked
 asked t̂ s = (s, every)
 asked û s = (every, s)
 asked (atom̂ a) s = askAtom a s
 asked (P̂ p) s = elim s [ every ↦ anything | noType ↦ nothing-fits | atomˢ a ↦ nothing-fits | powˢ q ↦ asked p q | q₁ ×ˢ q₂ ↦ nothing-fits ]
-asked (p₁ ×̂ p₂) s = elim s [ every ↦ anything | noType ↦ nothing-fits | atomˢ a ↦ nothing-fits | powˢ q ↦ nothing-fits | q₁ ×ˢ q₂ ↦ asked p₁ q₁ ⊓ᵃ asked p₂ q₂ ]
+asked (p₁ ×̂ p₂) s =
+    elim s [ every ↦ anything | noType ↦ nothing-fits | atomˢ a ↦ nothing-fits | powˢ q ↦ nothing-fits | q₁ ×ˢ q₂ ↦ asked p₁ q₁ ⊓ᵃ asked p₂ q₂ ]
 
 abbrev pub askedAll : List Pattern → List Value → Asked
 askedAll [] vs = anything
