@@ -135,5 +135,5 @@ pub demand3 : Demand3
 demand3 bs buffer rows room budget tb vs accepted reads loads types =
     let g = guarantee bs buffer rows room budget accepted (record { table = tb; reads = reads; values = vs; loads = loads; types = types }) in
     let formed : All (λ x. HasWritten rows (nodePlace tb (x .0)) (x .1)) (evaluation bs buffer budget .formed) =
-        rw (one-table (g .reads) reads) (g .formed) in
+    rw (one-table (g .reads) reads) (g .formed) in
     (safe-refuses Any (evaluation bs buffer budget .end) (g .ends), formed, completed-have bs buffer budget _ formed)

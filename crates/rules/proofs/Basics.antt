@@ -12,6 +12,11 @@ use lib.ListN.{getD, length}
 pub absurd01 : {A : Type 0} → _≡_ {A = ℕ} 0 1 → A
 absurd01 e = absurd (omega arith)
 
+infixr 5 _&_
+-- A pair, for pairs that nest to the right.
+abbrev pub _&_ : {A B : Type 0} → A → B → A × B
+a & b = (a, b)
+
 -- Two tests pass where each does.
 pub and-of : (a b : Bool) → T a → T b → T (a && b)
 and-of true b h k = k

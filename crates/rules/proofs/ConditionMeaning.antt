@@ -154,7 +154,7 @@ quantify-has forAll f P (v ∷ vs) h =
     let rest = quantify-has forAll f P vs (h .1) in
     bind Any (λ b. T b ↔ P v) (λ b. T b ↔ QuantMeans forAll (v ∷ vs) P) (f v) _ (h .0) λ b q.
     elim b as (λ c. T c ↔ P v → AnswerHas (λ b. T b ↔ QuantMeans forAll (v ∷ vs) P) (elim c [ true ↦ quantify forAll f vs | false ↦ return false ])) [
-      true ↦ λ x. imp-has (λ b. T b ↔ QuantMeans forAll vs P) (λ b. T b ↔ QuantMeans forAll (v ∷ vs) P) (quantify forAll f vs) (passed x) rest
+      | true ↦ λ x. imp-has (λ b. T b ↔ QuantMeans forAll vs P) (λ b. T b ↔ QuantMeans forAll (v ∷ vs) P) (quantify forAll f vs) (passed x) rest
       | false ↦ λ x s. ((λ t. absurd t, λ r. x .1 (r v (inl refl))), tt)
     ] q
   where
@@ -169,7 +169,7 @@ quantify-has forSome f P (v ∷ vs) h =
     let rest = quantify-has forSome f P vs (h .1) in
     bind Any (λ b. T b ↔ P v) (λ b. T b ↔ QuantMeans forSome (v ∷ vs) P) (f v) _ (h .0) λ b q.
     elim b as (λ c. T c ↔ P v → AnswerHas (λ b. T b ↔ QuantMeans forSome (v ∷ vs) P) (elim c [ true ↦ return true | false ↦ quantify forSome f vs ])) [
-      true ↦ λ x s. ((λ t. (v, inl refl, x .0 tt), λ r. tt), tt)
+      | true ↦ λ x s. ((λ t. (v, inl refl, x .0 tt), λ r. tt), tt)
       | false ↦ λ x. imp-has (λ b. T b ↔ QuantMeans forSome vs P) (λ b. T b ↔ QuantMeans forSome (v ∷ vs) P) (quantify forSome f vs) (passed x) rest
     ] q
   where
@@ -229,8 +229,7 @@ module _ (budget : ℕ) (gs : List ℕ) (few : (g : ℕ) → getD gs g 0 ≤ 256
   -- 6 to 9
   test-known : (n : ℕ) (j : Test) (a b : Expr) (ρ : Env) (v w : Value) → ValueOf a ρ v → ValueOf b ρ w → TruthOf (testᵖ n j a b) ρ (holds j v w)
   test-known n j a b ρ v w h k =
-      let m = test-means gs few j v w (good-wellFormed gs v (h .0)) (good-wellFormed gs w (k .0)) in
-      (
+      let m = test-means gs few j v w (good-wellFormed gs v (h .0)) (good-wellFormed gs w (k .0)) in (
         λ t. (v, w, h .1, k .1, m .0 t),
         λ x. m .1 (subst₂ (TestMeans j) (denotes-only gs a ρ (x .0) v (x .2) (h .1)) (denotes-only gs b ρ (x .1) w (x .3) (k .1)) (x .4)),
       )
@@ -307,9 +306,12 @@ module _ (budget : ℕ) (gs : List ℕ) (few : (g : ℕ) → getD gs g 0 ≤ 256
         (select (λ w. holdsᵖ budget gs p (ρ with x ≔ w)) (elems v)) _
         (select-has (λ w. holdsᵖ budget gs p (ρ with x ≔ w)) (λ w. Trueᵖ gs p (ρ with x ≔ w)) (elems v)
         (elems-well gs v (good-wellFormed gs v (y .0)) .1) (bodies p x ρ v e (y .0) (λ ρ₁ g. pred-means p ρ₁ (h .1) g))) λ ws k.
-        form-has n (gives (setOf ws)) (Denotes gs (comprehensionᵉ n x r p) ρ) (λ z q.
-        (v, y .1, subst (IsSetOf (λ w. (w ∈ v) × Trueᵖ gs p (ρ with x ≔ w))) (gives-eq (setOf ws) z q)
-        (set-of (λ w. (w ∈ v) × Trueᵖ gs p (ρ with x ≔ w)) ws (k .0) (k .1)))))
+        form-has n (gives (setOf ws)) (Denotes gs (comprehensionᵉ n x r p) ρ) (λ z q. (
+          v,
+          y .1,
+          subst (IsSetOf (λ w. (w ∈ v) × Trueᵖ gs p (ρ with x ≔ w))) (gives-eq (setOf ws) z q)
+              (set-of (λ w. (w ∈ v) × Trueᵖ gs p (ρ with x ≔ w)) ws (k .0) (k .1)),
+        )))
 
 -- The truth that Evaluate answers is that of the condition, at the values of the buffer.
 pub evaluation-means : (bs buffer : List ℕ) (budget : ℕ) (tb : Table) (vs : List Value) (b : Bool) →
@@ -321,5 +323,5 @@ evaluation-means bs buffer budget tb vs b e f a =
     let few : (g : ℕ) → getD (tb .sizes) g 0 ≤ 256 = size-below (tb .sizes) 256 (λ g l. omega (arith, r .sizes g l .1)) in
     let c : run tb vs budget .end ≡ done b = rw (evaluation-run bs buffer budget tb vs e f) at a in
     let k = pred-means budget (tb .sizes) few (root tb) (λ x. getD vs x noValue)
-        (predAt-leaves tb r (length (tb .nodes)) (lastNode (tb .nodes))) (valuesIn-good tb buffer vs f) 0 .0 in
+    (predAt-leaves tb r (length (tb .nodes)) (lastNode (tb .nodes))) (valuesIn-good tb buffer vs f) 0 .0 in
     rw c at k

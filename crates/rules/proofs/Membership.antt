@@ -185,8 +185,7 @@ unfolding allIn
 allIn-right [] ws h k = (λ t. tt, λ a. tt)
 allIn-right (v ∷ vs) ws h k =
     let r = allIn-right vs ws (h .1) k in
-    let i = isIn-right v ws (h .0) k in
-    (
+    let i = isIn-right v ws (h .0) k in (
       λ t. let q = and-split (isIn v ws) (allIn vs ws) t in (i .0 (q .0), r .0 (q .1)),
       λ a. and-of (isIn v ws) (allIn vs ws) (i .1 (a .0)) (r .1 (a .1)),
     )
@@ -219,8 +218,7 @@ pub pairs-in : (x : Value) (vs ws : List Value) →
 unfolding pairsOf
 pairs-in x [] ws = (λ i. absurd i, λ h. h .3)
 pairs-in x (v ∷ vs) ws =
-    let r = pairs-in x vs ws in
-    (
+    let r = pairs-in x vs ws in (
       λ i. there (r .0) (in-append x (map (pair v) ws) (pairsOf vs ws) i),
       λ h. back (λ j. r .1 (h .0, h .1, h .2, j, h .4)) (h .1) (h .2) (h .3) (h .4),
     )
@@ -261,8 +259,10 @@ in-subsets (v ∷ vs) (x ∷ s) h r a =
 
 pub subsets-in : (s vs : List Value) → Rising vs → In s (subsets vs) ↔ (Rising s × All (λ x. In x vs) s)
 subsets-in s vs h = (
-  λ i. (all-in Rising s (subsets vs) (subsets-rising vs h) i,
-      all-in (All (λ x. In x vs)) s (subsets vs) (subsets-all (λ x. In x vs) vs (all-self vs)) i),
+  λ i. (
+    all-in Rising s (subsets vs) (subsets-rising vs h) i,
+    all-in (All (λ x. In x vs)) s (subsets vs) (subsets-all (λ x. In x vs) vs (all-self vs)) i,
+  ),
   λ k. in-subsets vs s h (k .0) (k .1),
 )
 

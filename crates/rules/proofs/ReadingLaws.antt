@@ -23,7 +23,7 @@ use Rattle.rules.specs.Refusals.{refusalPlaces, PlaceInRange, RefusesOnl
 use Rattle.rules.proofs.EndLaws.{T-true, T-and, T-leb, T-ltb, T-eqb, requireAll-done}
 use Rattle.rules.proofs.EndLaws.{require-done, require-refuses, requireAll-refuses, Each, inTurn, inTurn-done, inTurn-passed, inTurn-refuses}
 use Rattle.rules.proofs.TableLaws.{sizes-length, binds-length, nodes-length}
-use Rattle.rules.proofs.Basics.{absurd01}
+use Rattle.rules.proofs.Basics.{_&_, absurd01}
 
 -- Refusals 1 to 3.
 pub headed-right : (bs : List ℕ) → T (headed bs) ↔ ((32 ≤ length bs) × (wordAt bs 0 ≡ 1))
@@ -309,9 +309,8 @@ unfolding requireAll
 reading-refuses bs =
     let tb = tableOf bs in
     rw reading-stages (inTurn-refuses R (stages bs) tb
-    (single 1 (headed bs) tt, (single 2 (limited bs) tt, (single 3 (laidOut bs) tt,
-    (least 4 (sizeGood tb) tt, (least 5 (bindGood tb) tt, (least 6 (nodeGood tb) tt,
-    (least 7 (parentGood tb) tt, (least 8 (heightGood tb) tt, (least 9 (binding tb) tt, tt))))))))))
+    (single 1 (headed bs) tt & single 2 (limited bs) tt & single 3 (laidOut bs) tt & least 4 (sizeGood tb) tt & least 5 (bindGood tb) tt &
+    least 6 (nodeGood tb) tt & least 7 (parentGood tb) tt & least 8 (heightGood tb) tt & least 9 (binding tb) tt & tt))
   where
     R : ℕ → ℕ → Type 0
     R r p = (1 ≤ r) × (r ≤ 9) × PlaceInRange bs r p

@@ -14,6 +14,7 @@ use Rattle.rules.specs.Cells.{bytes4}
 use Rattle.rules.specs.Runs.{Trace, Run}
 use Rattle.rules.specs.Evaluation.{evaluation}
 use Rattle.rules.specs.Safety.{All}
+use Rattle.rules.proofs.Basics.{_&_}
 
 -- The bytes of words.
 abbrev pub toBytes : List ℕ → List ℕ
@@ -213,10 +214,6 @@ conditions =
     ((0, integer 1) ∷ (1, integer 3) ∷ (2, oneWith 3) ∷ (3, setWith (oneWith 3 ∷ [])) ∷
     (4, integer 1) ∷ (5, integer 2) ∷ (6, oneWith 2) ∷ (7, setWith (oneWith 2 ∷ [])) ∷
     (8, setWith (oneWith 2 ∷ oneWith 3 ∷ [])) ∷ (9, integer 1) ∷ (10, integer 2) ∷ (11, integer 2) ∷ []) ∷ []
-
-infixr 5 _&_
-abbrev pub _&_ : {A B : Type 0} → A → B → A × B
-a & b = (a, b)
 
 -- Evaluate's run of a condition is what its row tells.
 abbrev pub RunsAsTold : Condition → Type 0

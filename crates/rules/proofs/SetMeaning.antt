@@ -351,8 +351,7 @@ module _ (gs : List ℕ) (few : (g : ℕ) → getD gs g 0 ≤ 256) where
   pub equal-sets : (v w : Value) (t u : Ty) → Well gs v → Well gs w → HasType v (POW t) → HasType w (POW u) →
       T (holds equal v w) ↔ ((x : Value) → x ∈ v ↔ x ∈ w)
   equal-sets v w t u h k a b =
-      let m = test-means equal v w h k in
-      (
+      let m = test-means equal v w h k in (
         λ q x. subst (λ (z : Value). x ∈ v ↔ x ∈ z) (m .0 q) (λ i. i, λ i. i),
         λ q. m .1 (set-extensional v w (well-set gs v t h a) (well-set gs w u k b) q),
       )
@@ -398,8 +397,7 @@ module _ (gs : List ℕ) (few : (g : ℕ) → getD gs g 0 ≤ 256) where
       IsSetOf (λ x. (x ∈ v) × Q x) (setOf (keep p (elems v)))
   keep-means p Q v h q =
       set-of (λ x. (x ∈ v) × Q x) (keep p (elems v)) (keep-rising p (elems v) (elems-well gs v h .1)) λ x.
-      let r = keep-in p x (elems v) in
-      (
+      let r = keep-in p x (elems v) in (
         λ i. let k = r .0 i in (k .0, q x (all-in Small x (elems v) (smalls v h) (k .0)) .0 (k .1)),
         λ k. r .1 (k .0, q x (all-in Small x (elems v) (smalls v h) (k .0)) .1 (k .1)),
       )
@@ -417,8 +415,7 @@ module _ (gs : List ℕ) (few : (g : ℕ) → getD gs g 0 ≤ 256) where
     image-in : (u : Value) → In u (map right (keep (pairedWith e) (elems f))) ↔ (pair e u ∈ f)
     unfolding pairedWith
     image-in u =
-        let ks = keep (pairedWith e) (elems f) in
-        (
+        let ks = keep (pairedWith e) (elems f) in (
           λ i. there (map-in right u ks i),
           λ i. in-map right (pair e u) ks (keep-in (pairedWith e) (pair e u) (elems f) .1 (i, same-refl e)),
         )
@@ -442,8 +439,7 @@ module _ (gs : List ℕ) (few : (g : ℕ) → getD gs g 0 ≤ 256) where
   two-means pairing v w h k f = refl
   two-means union v w h k f =
       let xs = elems v ++ elems w in
-      set-of (λ x. (x ∈ v) ⊎ (x ∈ w)) (rising xs) (rising-rising xs) λ x.
-      (
+      set-of (λ x. (x ∈ v) ⊎ (x ∈ w)) (rising xs) (rising-rising xs) λ x. (
         λ i. in-append x (elems v) (elems w) (rising-in x xs i),
         λ i. in-rising x xs (all-append Small (elems v) (elems w) (smalls v h) (smalls w k)) (go x i),
       )

@@ -101,6 +101,7 @@ module _ {B : Type 0} {own : End B → Trace} (quiet : (r p : ℕ) → own (refu
     where
       bound : MakesVisits own (m >>= f) (λ s. vs s ++ thereafter (m s) (λ _ _. []))
       bound = bind {h = λ _ _. []} hm hf
+
       none-after : (s : ℕ) → vs s ++ thereafter (m s) (λ _ _. []) ≡ vs s
       none-after s = ap (λ (ws : List Visit). vs s ++ ws) (done-nothing (m s .end)) ∙ append-nil (vs s)
 
@@ -303,6 +304,7 @@ module _ (bs buffer : List ℕ) (budget : ℕ) where
           let ws = ifDone e (λ vs. runVisits tb vs budget) in (r .formed ≡ completed ws) × (r .steps ≡ length ws)
       valued tb (done vs) = (run-trace tb vs budget, run-steps tb vs budget)
       valued tb (refused r p) = (refl, refl)
+
       go : (e : End Table) → let r = (lift e >>= λ tb. lift (valuesIn tb buffer) >>= λ vs _. run tb vs budget) 0 in
           let ws = ifDone e (λ tb. ifDone (valuesIn tb buffer) λ vs. runVisits tb vs budget) in
           (r .formed ≡ completed ws) × (r .steps ≡ length ws)
