@@ -163,6 +163,17 @@ module _ (k : ℕ) where
   pub two-key : k ≡ 37 → Sort two k
   two-key e = (apply, kind-of k (two apply) e)
 
+  -- From 25 on, with 25, 26 and 42 met before, 27 is the first code.
+  pub from-27 : 25 ≤ k → k ≢ 25 → ((k ≡ 26) ⊎ (k ≡ 42) → ⊥) → 27 ≤ k
+  from-27 a n25 n = let n26 : k ≢ 26 = λ e. n (inl e) in omega (arith, n25, n26)
+
+  -- No expression's code is left at the last arm.
+  pub no-other : {A : Type 0} → (20 ≤ k) × (k ≤ 43) → 42 ≤ k → (Some-one → ⊥) → ((k ≡ 26) ⊎ (k ≡ 42) → ⊥) → A
+  no-other r a n m =
+      let n42 : k ≢ 42 = λ e. m (inr e) in
+      let n43 : k ≢ 43 = λ e. n (inr (inr (inr e))) in
+      absurd (omega (arith, r .1, n42, n43))
+
   pub two-low : (Some-one → ⊥) → 27 ≤ k → k < 33 → Sort two k
   unfolding kindOf
   two-low n a b =
@@ -222,14 +233,14 @@ module _ (k : ℕ) where
   constant : k ≢ 20 → Sort leaf k → Constant
   constant n s = record { kind = s .0; is = s .1; no-name = λ d. n (code-of k (leaf identifier) (s .1 ∙ ap (λ (i : Leaf). some (leaf i)) d)) }
 
-  leaf-rest : (20 ≤ k) × (k ≤ 43) → k ≢ 20 → k ≢ 25 → (Some-one k → ⊥) → (27 ≤ k → 42 ≤ k) → Constant
-  leaf-rest r n20 n25 n l = constant n20 (go (decLt k 27))
-    where
-      go : Dec (k < 27) → Sort leaf k
-      go (yes h) = leaf-sort (omega (arith, r .0, n20)) h n25
-      go (no h) =
-          let n43 : k ≢ 43 = λ d. n (inr (inr (inr d))) in
-          (boolSet, kind-of k (leaf boolSet) (omega (arith, l (omega arith), r .1, n43)))
+  -- The codes of leaves but for identifiers: 26 and 42, and 21 to 24.
+  abbrev pub LeafCode : Type 0
+  LeafCode = ((k ≡ 26) ⊎ (k ≡ 42)) ⊎ ((k ≢ 20) × (20 ≤ k) × (k < 25))
+
+  leaf-rest : LeafCode → Constant
+  leaf-rest (inl (inl e)) = constant (λ d. omega arith) (leaf-sort (omega arith) (omega arith) (λ d. omega arith))
+  leaf-rest (inl (inr e)) = constant (λ d. omega arith) (boolSet, kind-of k (leaf boolSet) e)
+  leaf-rest (inr (n20, a, b)) = constant n20 (leaf-sort (omega (arith, a, n20)) (omega arith) (λ d. omega arith))
 
 -- A word of a node.
 node-word : (bs : List ℕ) (n : ℕ) → n < nodeCount bs → ((i : ℕ) → getD bs i 0 < 256) → nodeAt (tableOf bs .nodes) n .a < 4294967296
@@ -304,8 +315,8 @@ module _ {bs : List ℕ} {base : ℕ} {env s : List ℕ} {top k n steps budget :
   pub join-kind : IsPred bs n → k ≢ 4 → k < 6 → Sort join k
   join-kind h d l = join-sort k (predicate-code h .0) l d
 
-  pub leaf-node : IsExpr bs n → k ≢ 20 → k ≢ 25 → (Some-one k → ⊥) → (27 ≤ k → 42 ≤ k) → ((i : ℕ) → getD bs i 0 < 256) → LeafNode bs base s top k n
-  leaf-node h n20 n25 d l bytes = constant-node (leaf-rest k (expression-code h) n20 n25 d l) bytes
+  pub leaf-node : LeafCode k → ((i : ℕ) → getD bs i 0 < 256) → LeafNode bs base s top k n
+  leaf-node h bytes = constant-node (leaf-rest k h) bytes
 
   -- A leaf's value, which is not heavy, is formed at once.
   leaf-ends : (j : Leaf) → kindAt (tableOf bs .nodes) n ≡ some (leaf j) → (f : ℕ) (ρ : Env) → n < f →

@@ -298,24 +298,22 @@ fn eval_expr(
     }
     let kind = table::kind(table, base, node);
     match kind {
-        20..=43 => match kind {
-            20 => eval_name(table, base, env, top, node, steps + 1),
-            25 => eval_bool(table, base, env, s, top, kind, node, steps, budget),
-            27 | 33 | 35 | 36 | 38 | 43 => eval_one(
-                table,
-                base,
-                env,
-                s,
-                top,
-                kind,
-                node,
-                steps,
-                budget,
-            ),
-            28..=32 | 37 | 39..=41 => eval_two(table, base, env, s, top, kind, node, steps, budget),
-            34 => eval_select(table, base, env, s, top, kind, node, steps, budget),
-            _ => eval_leaf(table, base, s, top, kind, node, steps + 1),
-        },
+        20 => eval_name(table, base, env, top, node, steps + 1),
+        25 => eval_bool(table, base, env, s, top, kind, node, steps, budget),
+        27 | 33 | 35 | 36 | 38 | 43 => eval_one(
+            table,
+            base,
+            env,
+            s,
+            top,
+            kind,
+            node,
+            steps,
+            budget,
+        ),
+        28..=32 | 37 | 39..=41 => eval_two(table, base, env, s, top, kind, node, steps, budget),
+        34 => eval_select(table, base, env, s, top, kind, node, steps, budget),
+        20..=43 => eval_leaf(table, base, s, top, kind, node, steps + 1),
         // Never: no other kind is an expression.
         _ => Formed::Stopped(6, node, steps),
     }
