@@ -3,7 +3,7 @@ use Prim.Native.Nat.{ℕ, zero, suc, _+_, _*_, _/_, _%_, _≤_, _<_}
 use mathlib.Core.Bool.{Bool, true, false, _&&_, _||_, cond, true≢false, false≢true}
 use mathlib.Core.List.{List, map}
 use mathlib.Core.Logic.{_≢_}
-use mathlib.Core.Option.{Option, none as nothing, some}
+use mathlib.Core.Option.{Option, none as nothing}
 use mathlib.Core.Path.{_≡_, refl, sym, ap, ap₂, _∙_}
 use native.Mathlib.Omega.{arith}
 use native.Mathlib.Nat.{le-trans, add-comm}
@@ -11,14 +11,14 @@ use native.Mathlib.Decide.{decLt}
 use lib.Dec.{T, eqb, leb, eqb→eq, lit≤}
 use lib.ListN.{length, getD, List·getD-eq-default, List·getD-map}
 use borrow.Author.Tests.{le-leb, lt-leb, ne-eqb}
-use Rattle.rules.specs.Kinds.{Kind, kinds, kindOf, Category, predicate, expression, categoryOf, isChild, isBinder}
+use Rattle.rules.specs.Kinds.{Kind, kinds, kindOf, predicate, expression, isChild, isBinder}
 use Rattle.rules.specs.Kinds.{Field, unused, child, use-of, binder-of, setNumber, elementNumber, anyWord, truthBit}
 use Rattle.rules.specs.Tables.{wordAt, nodeFrom, tableOf, nodeAt, fieldsIf, fieldWords, givenCount, identifierCount, nodeCount, nodesAt}
 use Rattle.rules.proofs.TableLaws.{sizes-length, binds-entry, nodes-entry}
 use Rattle.rules.specs.Reading.{headed, limited, laidOut}
 use Rattle.rules.proofs.EndLaws.{T-allBelow}
 use Rattle.table.specs.Layout.{WordOf, sortOf}
-use Rattle.table.specs.Codes.{fieldCodes, fieldOf, fieldCode, codeAt, rowOf, codeOf, categoryCode}
+use Rattle.table.specs.Codes.{fieldCodes, fieldOf, fieldCode, codeAt, rowOf, categoryCode}
 
 pub size-none : (bs : List ℕ) (g n : ℕ) → n ≡ givenCount bs → n ≤ g → 0 ≡ getD (tableOf bs .sizes) g 0
 size-none bs g n e h = sym (List·getD-eq-default (tableOf bs .sizes) 0 (omega (arith, sizes-length bs)))
@@ -146,13 +146,8 @@ pub row-known : (k : ℕ) → getD (map rowOf kinds) k 0 ≡ rowOf (kindOf k)
 unfolding kindOf
 row-known k = List·getD-map rowOf kinds k nothing
 
-pub row-unknown : (o : Option Kind) → 0 ≡ categoryCode o → 0 ≡ rowOf o
-row-unknown nothing e = refl
-row-unknown (some k) e = absurd (go (categoryOf k) e)
-  where
-    go : (c : Category) → 0 ≡ codeOf c → ⊥
-    go predicate e = omega arith
-    go expression e = omega arith
+pub row-unknown : (k : ℕ) → length kinds ≤ k → 0 ≡ rowOf (kindOf k)
+row-unknown k h = rw (far-kind k h)
 
 -- Four bytes make a word.
 pub word-sum : (bs : List ℕ) (at a b c d : ℕ) → a ≡ getD bs at 0 → b ≡ getD bs (at + 1) 0 → c ≡ getD bs (at + 2) 0 → d ≡ getD bs (at + 3) 0 →

@@ -202,10 +202,10 @@ pub fn category(kind: usize) -> u8
 fn field_codes(kind: usize) -> u16
     ensures { λ r. ⌜ r ≡ rowOf (kindOf kind) ⌝ }
 {
-    match kind {
-        1..=11 | 20..=43 => FIELDS[kind],
-        _ => 0,
+    if 44 <= kind {
+        return 0;
     }
+    FIELDS[kind]
 }
 
 // The code of what field i holds, from the row of a kind.
