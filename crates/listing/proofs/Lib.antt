@@ -1,4 +1,3 @@
--- Laws of the listing's text.
-pub mod TextLaws
+-- Laws of the listing.
 pub mod ListingLaws
 pub mod Tried

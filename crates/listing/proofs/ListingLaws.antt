@@ -19,8 +19,9 @@ use Rattle.rules.proofs.TableLaws.{binds-length, nodes-length}
 use Rattle.rules.proofs.ReadingLaws.{headed-right, limited-right, header-right, reading-readable, reading-table}
 use Rattle.typing.specs.Model.{verdict}
 use Rattle.checker.specs.Answers.{answered}
-use Rattle.listing.specs.Text.{hexOf, unfilled, codesText, rowText, indexOf, lineOf, sheetRow, linesOf, acceptedLine, refusalLine, answerText, identifiersOf, placesOf, listingOf, Appends}
-use Rattle.listing.proofs.TextLaws.{decimal-short, unfilled-more, line-extent, refusal-extent}
+use Rattle.text.specs.Text.{hexOf, unfilled, codesText, rowText, indexOf, lineOf, sheetRow, linesOf, acceptedLine, refusalLine, Appends}
+use Rattle.text.proofs.TextLaws.{decimal-short, unfilled-more, line-extent, refusal-extent}
+use Rattle.listing.specs.Listing.{answerText, identifiersOf, placesOf, listingOf}
 
 -- What the tests of a header say.
 pub unheaded : (bs : List ℕ) (r : Bool) → r ≡ headed bs → not r ≡ true → false ≡ (headed bs && limited bs)

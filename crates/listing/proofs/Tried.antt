@@ -2,7 +2,8 @@
 use mathlib.Core.List.{[], _∷_}
 use mathlib.Core.Path.{_≡_, refl}
 use Rattle.rules.proofs.Rows.{p1, wordsOf, toBytes}
-use Rattle.listing.specs.Text.{newline, listingOf}
+use Rattle.text.specs.Text.{newline}
+use Rattle.listing.specs.Listing.{listingOf}
 
 -- i 0 10, n 0 10, n 1 0310, n 2 p, accepted
 pub p1-listing : listingOf (toBytes (wordsOf p1)) ≡

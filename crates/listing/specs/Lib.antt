@@ -1,2 +1,2 @@
 -- The listing of a table.
-pub mod Text
+pub mod Listing

@@ -1,6 +1,4 @@
 // The listing of document 01: a table on standard input, whole, checked, with the type of each place.
-mod text;
-
 use checker::Checked;
 use libc::STDIN_FILENO;
 use libc::STDOUT_FILENO;
@@ -9,7 +7,7 @@ ghost use mathlib.Core.Path.{_≡_};
 ghost use Prim.Native.Nat.{_≤_};
 ghost use lib.ListN.{length, take};
 ghost use Rattle.rules.specs.Reading.{headed, limited};
-ghost use Rattle.listing.specs.Text.{identifiersOf, placesOf, listingOf};
+ghost use Rattle.listing.specs.Listing.{identifiersOf, placesOf, listingOf};
 
 // Refusals 1 and 2.
 fn has_counts(table: &[u8]) -> bool

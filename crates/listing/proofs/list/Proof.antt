@@ -6,7 +6,7 @@ use native.Mathlib.Omega.{arith}
 use lib.ListN.{length, take, drop}
 use lib.Seq.{length-take-le}
 use Rattle.checker.specs.Answers.{answerOf}
-use Rattle.listing.specs.Text.{linesOf, acceptedLine}
+use Rattle.text.specs.Text.{linesOf, acceptedLine}
 use Rattle.listing.proofs.ListingLaws.{accepted-short, refusal-short, listing-refused, listing-accepted, front-written, whole-text}
 use borrow.Author.Needs.{needs}
 use Rattle.listing.proofs.list.Statement.{statement}

@@ -1,0 +1,2 @@
+-- Laws of the lines.
+pub mod TextLaws

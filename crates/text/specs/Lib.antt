@@ -1,0 +1,2 @@
+-- The lines of a listing.
+pub mod Text
