@@ -42,21 +42,14 @@ use Rattle.evaluators.specs.Nodes.{IsPred, IsExpr, NameReady, NameAt, Le
 use Rattle.evaluators.specs.Cycle.{Binds, Ready, Visited, Sort, EvaluatesP, EvaluatesE}
 use Rattle.evaluators.proofs.RunLaws.{visited, unvisited}
 use Rattle.evaluators.proofs.NodeLaws.{sizes-small, field-holds, expr-at, visited-kind}
-use Rattle.rules.proofs.TypedTree.{number-at}
+use Rattle.rules.proofs.TypedTree.{numberᵉ, number-at}
 
--- The number of a tree's own node.
+-- The number of a condition's own node.
 abbrev numberᵖ : Pred → ℕ
 numberᵖ (joinᵖ n j p q) = n
 numberᵖ (notᵖ n p) = n
 numberᵖ (testᵖ n j e f) = n
 numberᵖ (quantᵖ n j x r p) = n
-
-abbrev numberᵉ : Expr → ℕ
-numberᵉ (leafᵉ n j a b) = n
-numberᵉ (boolᵉ n p) = n
-numberᵉ (oneᵉ n j e) = n
-numberᵉ (twoᵉ n j e f) = n
-numberᵉ (comprehensionᵉ n x r p) = n
 
 predOf-number : (k : Option Kind) (n : ℕ) (d : Node) (p : ℕ → Pred) (e : ℕ → Expr) → numberᵖ (predOf k n d p e) ≡ n
 predOf-number nothing n d p e = refl

@@ -9,12 +9,13 @@ use lib.Dec.{T}
 use lib.ListN.{length}
 use Rattle.rules.specs.Types.{Ty, atom, POW, _⊗_}
 use Rattle.rules.specs.Values.{Value, set, Values, count}
-use Rattle.rules.specs.Kinds.{Kind, Field, expression, predicate, child, binder-of, fieldsOf}
+use Rattle.rules.specs.Kinds.{Kind, expression, predicate, fieldsOf}
 use Rattle.rules.specs.Rules.{P̂, t̂}
 use Rattle.rules.specs.Fits.{HasType, Fits, typed, fits}
 use Rattle.rules.specs.Tables.{tableOf, nodeAt, kindAt}
 use Rattle.rules.specs.Runs.{Run}
 use Rattle.rules.proofs.TableLaws.{binds-length}
+use Rattle.rules.proofs.BindingLaws.{binderFields}
 use Rattle.rules.proofs.CellsLaws.{good-weight, good-typed}
 use Rattle.rules.proofs.FitsLaws.{typed-right}
 use Rattle.rules.proofs.FormedLaws.{elems-good}
@@ -56,10 +57,6 @@ range-fits {gs} {s} {top} {at} {n} {v} h r = rw (r .is) (set-fits (r .members) (
 
 pub range-listed : {gs s : List ℕ} {top at n : ℕ} {v : Value} → GoodAt gs s top at v → (r : RangeSet v n) → Listed gs s top (at + 1) n (r .members)
 range-listed {gs} {s} {top} {at} {n} {v} h r = set-listed (rw (r .is) at h) (r .counted)
-
--- The fields of a binder: a name, a range and a body.
-abbrev pub binderFields : List Field
-binderFields = binder-of ∷ child expression ∷ child predicate ∷ []
 
 module _ {bs : List ℕ} {base : ℕ} {env s : List ℕ} {top n steps budget : ℕ} (r : Ready bs base env s top n steps budget)
     {k : Kind} (e : kindAt (tableOf bs .nodes) n ≡ some k) (q : fieldsOf k ≡ binderFields) where

@@ -1,7 +1,7 @@
 -- The fields of a node one by one: how often a number stands in those of a sort, and how large it is there.
 use Prim.Native.Nat.{ℕ, zero, suc, _+_, _*_, _-_, _≤_, _<_, max}
 use mathlib.Core.Bool.{Bool, true, false, cond, false≢true}
-use mathlib.Core.List.{List, [], _∷_, _++_}
+use mathlib.Core.List.{List, [], _∷_}
 use mathlib.Core.Option.{Option}
 use mathlib.Core.Path.{_≡_, refl, sym, ap, _∙_}
 use native.Mathlib.Decide.{ℕ-discrete}
@@ -19,6 +19,7 @@ use Rattle.rules.specs.Tables.{nodeCount}
 use Rattle.rules.specs.Reading.{occurrences, parentGood}
 use Rattle.rules.specs.Readable.{Header, FieldRight, FieldsRight}
 use Rattle.rules.proofs.TableLaws.{nodes-length, binds-length, fields-right}
+use Rattle.rules.proofs.TreeLaws.{occurrences-append}
 use Rattle.table.specs.Codes.{fieldOf, categoryCode, DigitOf}
 use Rattle.table.specs.Layout.{NodeIn, Fielded, sortOf, fieldCodesAt, fieldAt}
 use Rattle.reading.specs.Arrays.{FieldIn, more, Room, BumpPre, Bumped, countsAt, Counted}
@@ -68,11 +69,6 @@ module _ (p : Field → Bool) (none : p unused ≡ false) where
   field-right tb n (f ∷ fs) [] i h e = absurd h
   field-right tb n (f ∷ fs) (x ∷ xs) zero h e = h .0
   field-right tb n (f ∷ fs) (x ∷ xs) (suc i) h e = field-right tb n fs xs i (h .1) e
-
-occurrences-append : (m : ℕ) (xs ys : List ℕ) → occurrences m (xs ++ ys) ≡ occurrences m xs + occurrences m ys
-unfolding occurrences
-occurrences-append m [] ys = omega arith
-occurrences-append m (x ∷ xs) ys = omega (arith, occurrences-append m xs ys)
 
 -- A word in a field that counts is one more.
 occurrences-kept : (m : ℕ) (b : Bool) (x : ℕ) (xs : List ℕ) → occurrences m (keptIf b x xs) ≡ more b x m + occurrences m xs

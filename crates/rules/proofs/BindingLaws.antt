@@ -87,8 +87,9 @@ isUse elementNumber = false
 isUse anyWord = false
 isUse truthBit = false
 
--- The kinds by what they do with an identifier: kind 20 uses it, three bind it, the others have no field for one.
-abbrev binderFields : List Field
+-- The kinds by what they do with an identifier: kind 20 uses it, three bind it and have a range and a body, the others have no field
+-- for one.
+abbrev pub binderFields : List Field
 binderFields = binder-of ∷ child expression ∷ child predicate ∷ []
 
 abbrev NoIdentifier : List Field → Type 0
