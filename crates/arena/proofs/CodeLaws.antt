@@ -12,8 +12,8 @@ use lib.ListN.{length, getD, drop, length-append}
 use borrow.Author.Tests.{lt-ltb, le-ltb}
 use Rattle.rules.specs.Types.{whole}
 use Rattle.rules.specs.Values.{Scalar, num, truth, element, Value, scalar, pair, set, Values, none, _▸_, scalarTag, scalarPayload, bit, count, weight, weights, compareℤ, _then_, lex, key, keys, order}
-use Rattle.rules.proofs.OrderLaws.{flip, Small, Smalls, key-eq, compare-refl, lt-compare, compare-flip}
-use Rattle.rules.proofs.CellsLaws.{Encodable, Encodables}
+use Rattle.laws.proofs.OrderLaws.{flip, Small, Smalls, key-eq, compare-refl, lt-compare, compare-flip}
+use Rattle.laws.proofs.CellsLaws.{Encodable, Encodables}
 use Rattle.arena.specs.Code.{cellSize, excess, scalarLow, code, codes, ScalarFits, CellsFit, AllFit}
 
 mutual

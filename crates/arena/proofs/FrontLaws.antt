@@ -5,8 +5,8 @@ use mathlib.Core.Path.{_≡_, refl, sym, ap, _∙_}
 use native.Mathlib.Omega.{arith}
 use lib.ListN.{length, getD}
 use Rattle.rules.specs.Values.{Value, set, Values, none, _▸_, members, values, count, weight, weights}
-use Rattle.rules.proofs.OrderLaws.{Small}
-use Rattle.rules.proofs.SetOrder.{All, Rising, rising-cons}
+use Rattle.laws.proofs.OrderLaws.{Small}
+use Rattle.laws.proofs.SetOrder.{All, Rising, rising-cons}
 use Rattle.arena.specs.Code.{cellSize, code, codes, ValueAt, Same, AllFit, orderCode, SomeAt, EndsAt, Rises, SetBelow, ValueBelow, Front}
 use Rattle.arena.proofs.CodeLaws.{length-code, length-codes, fits-small}
 use Rattle.arena.proofs.Standing.{stands-head, stands-tail, stands-front, stands-back, stands-frame}

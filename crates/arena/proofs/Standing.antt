@@ -11,10 +11,10 @@ use lib.Seq.{getD-append-add, getD-set-same, getD-set-other}
 use borrow.Author.Tests.{eq-eqb, ne-eqb}
 use Rattle.rules.specs.Types.{whole}
 use Rattle.rules.specs.Values.{Scalar, num, truth, element, Value, scalar, pair, set, Values, none, _▸_, scalarTag, bit, count, weight, weights}
-use Rattle.rules.proofs.OrderLaws.{order-refl}
+use Rattle.laws.proofs.OrderLaws.{order-refl}
 use Rattle.arena.specs.Code.{cellSize, excess, scalarLow, code, codes, Stands, ValueAt, ValuesAt, Same, ScalarFits, CellsFit, AllFit, SomeAt, EndsAt, Compared, Copied, partsOf}
 use Rattle.arena.proofs.CodeLaws.{length-code, length-codes, bit-small, first-less, first-greater, all-agree}
-use Rattle.rules.proofs.CellsLaws.{count-weights, weight-some}
+use Rattle.laws.proofs.CellsLaws.{count-weights, weight-some}
 
 -- The first cell of a run, and the rest of it.
 pub stands-head : (s : List ℕ) (at x : ℕ) (xs : List ℕ) → Stands s at (x ∷ xs) → getD s at 0 ≡ x

@@ -14,8 +14,8 @@ use Rattle.rules.specs.Values.{Scalar, num, truth, element, Value, scalar, pair
 use Rattle.rules.specs.Values.{scalarTag, scalarPayload, tag, payload, count, weight}
 use Rattle.rules.specs.Tables.{wordAt}
 use Rattle.rules.specs.Cells.{bytes4, twos, signed, inRange, cell, cells, cellsOf, scalarGood, value}
-use Rattle.rules.proofs.OrderLaws.{and-left, and-right}
-use Rattle.rules.proofs.CellsLaws.{Word, Bytes, EncodableScalar, Encodable, Encodables, byte-at, word-at, word-bytes, bytes-word, twos-signed, signed-range, payload-word, cells-value, value-encodable, count-weights, bit-eqb, cell-parts, eight}
+use Rattle.laws.proofs.OrderLaws.{and-left, and-right}
+use Rattle.laws.proofs.CellsLaws.{Word, Bytes, EncodableScalar, Encodable, Encodables, byte-at, word-at, word-bytes, bytes-word, twos-signed, signed-range, payload-word, cells-value, value-encodable, count-weights, bit-eqb, cell-parts, eight}
 use Rattle.arena.specs.Code.{cellSize, excess, code, codes, CellsFit, partsOf}
 use Rattle.arena.proofs.CodeLaws.{length-code, length-codes, encodable-fits}
 use Rattle.arena.proofs.Standing.{_before_, codes-before, count-before}

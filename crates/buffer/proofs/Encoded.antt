@@ -10,7 +10,7 @@ use lib.ListN.{length, getD, drop}
 use Rattle.rules.specs.Values.{element, Value, scalar, pair, set, Values, none, _▸_, int, truthValue, count}
 use Rattle.rules.specs.Tables.{wordAt}
 use Rattle.rules.specs.Cells.{signed, cells, Read, _andThen_, onlyIf, readMany, byTag, valueTo, value, weightLimit}
-use Rattle.rules.proofs.CellsLaws.{Word, Bytes, Encodable, Encodables, signed-range, word-at, bytes-after, bytes-drop, Right, valueTo-right, andThen-some}
+use Rattle.laws.proofs.CellsLaws.{Word, Bytes, Encodable, Encodables, signed-range, word-at, bytes-after, bytes-drop, Right, valueTo-right, andThen-some}
 
 onlyIf-some : {A : Type 0} (b : Bool) (r : Read A) (y : A × List ℕ) → onlyIf b r ≡ some y → r ≡ some y
 onlyIf-some true r y e = e

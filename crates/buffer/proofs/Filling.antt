@@ -8,8 +8,8 @@ use lib.ListN.{length, getD, take, set as setAt, length-set}
 use lib.Seq.{getD-take, length-take-le, ext-getD, getD-set-same, getD-set-other}
 use Rattle.rules.specs.Tables.{tableOf, givenCount, identifierCount}
 use Rattle.rules.specs.Readable.{Readable}
-use Rattle.rules.proofs.TableLaws.{binds-length}
-use Rattle.rules.proofs.CellsLaws.{size-below}
+use Rattle.laws.proofs.TableLaws.{binds-length}
+use Rattle.laws.proofs.CellsLaws.{size-below}
 use Rattle.table.specs.Layout.{WordOf}
 use Rattle.buffer.specs.declared.Loaded.{Loaded}
 use Rattle.buffer.specs.Loaded.{Room, Loads, Begins, LoadReady}

@@ -14,8 +14,8 @@ use Rattle.rules.specs.Values.{Value, scalar, pair, set, Values, none, _▸_, w
 use Rattle.rules.specs.Ends.{End, done, refused, _>>=_, require}
 use Rattle.rules.specs.Fits.{typed}
 use Rattle.rules.specs.Cells.{value, good, wellFormed, risingAll, precedes, weightLimit, noValue, orFault, valueFor, nothingLeft, valuesFrom}
-use Rattle.rules.proofs.OrderLaws.{and-left, and-right}
-use Rattle.rules.proofs.CellsLaws.{good-wellFormed, good-weight, good-typed}
+use Rattle.laws.proofs.OrderLaws.{and-left, and-right}
+use Rattle.laws.proofs.CellsLaws.{good-wellFormed, good-weight, good-typed}
 use Rattle.arena.specs.Code.{excess, code, EndsAt, Same, ValueBelow}
 use Rattle.arena.proofs.CodeLaws.{length-code}
 use Rattle.arena.proofs.Standing.{same-refl, stands-frame}

@@ -12,7 +12,7 @@ use Rattle.arena.proofs.CodeLaws.{length-code, length-codes, bit-small}
 use Rattle.arena.proofs.Standing.{stands-head, stands-tail, stands-front, stands-back, _before_, codes-before, weights-before, fit-before}
 use Rattle.buffer.specs.Ordered.{inOrder, ordered, orderedAll, MembersAt, SomeMembersAt, InOrder}
 use Rattle.buffer.proofs.Ahead.{inner}
-use Rattle.rules.proofs.CellsLaws.{weight-some}
+use Rattle.laws.proofs.CellsLaws.{weight-some}
 
 and-false : (a : Bool) → (a && false) ≡ false
 and-false true = refl

@@ -10,7 +10,7 @@ use lib.ListN.{length, getD}
 use Rattle.rules.specs.Types.{whole, Ty}
 use Rattle.rules.specs.Values.{Value, scalar, pair, set, Values, none, _▸_, tag, count, weights}
 use Rattle.rules.specs.Fits.{every, typesOf, sharedTypes, inhabited, typed}
-use Rattle.rules.proofs.FitsLaws.{_⊑_, ⊓-join, ⊓-split, inhabited→some, some→inhabited}
+use Rattle.laws.proofs.FitsLaws.{_⊑_, ⊓-join, ⊓-split, inhabited→some, some→inhabited}
 use Rattle.arena.specs.Code.{cellSize, code, codes, Stands, ValueAt, ValuesAt, CellsFit, AllFit, SomeAt, EndsAt}
 use Rattle.arena.proofs.CodeLaws.{length-code, length-codes}
 use Rattle.arena.proofs.Standing.{stands-front, stands-back, _before_, codes-before, count-before, weights-before}
@@ -21,7 +21,7 @@ use Rattle.buffer.specs.Shared.{AllTyped, TypedRow, SomeTypedRow, Shares
 use Rattle.buffer.proofs.Ahead.{inner}
 use Rattle.buffer.proofs.Ordering.{tag-cell, Left, left-start, scalar-tag, left-head, left-next}
 use Rattle.rules.proofs.Basics.{and-of, and-split}
-use Rattle.rules.proofs.CellsLaws.{weight-some}
+use Rattle.laws.proofs.CellsLaws.{weight-some}
 
 -- Types of values that follow one another.
 sharedTypes-join : (vs ws : Values) (t : Ty) → sharedTypes vs ⊑ t → sharedTypes ws ⊑ t → sharedTypes (vs before ws) ⊑ t

@@ -10,8 +10,8 @@ use lib.ListN.{length, getD, drop, set as setAt, length-append, length-set, leng
 use lib.Seq.{drop-drop, getD-set-same, getD-set-other, getD-append-add}
 use borrow.Author.Tests.{ne-eqb}
 use Rattle.rules.specs.Values.{weight}
-use Rattle.rules.proofs.OrderLaws.{and-left}
-use Rattle.rules.proofs.CellsLaws.{Bytes, bytes-drop}
+use Rattle.laws.proofs.OrderLaws.{and-left}
+use Rattle.laws.proofs.CellsLaws.{Bytes, bytes-drop}
 use Rattle.arena.specs.Code.{code, Stands, Same, partsOf}
 use Rattle.arena.proofs.CodeLaws.{length-code}
 use Rattle.buffer.specs.declared.Cursor.{Cursor}

@@ -11,7 +11,7 @@ use lib.Seq.{getD-take, length-take-le}
 use Rattle.rules.specs.Types.{INTEGER}
 use Rattle.rules.specs.Tables.{Table, tableOf, nodeCount}
 use Rattle.rules.specs.Readable.{Readable}
-use Rattle.rules.proofs.TableLaws.{binds-length, nodes-length}
+use Rattle.laws.proofs.TableLaws.{binds-length, nodes-length}
 use Rattle.unification.specs.Problem.{eqn, PartsBelow}
 use Rattle.unification.specs.Arrays.{Arrays, Equations, ClassArrays, shapeAt as arrayShape, equations as arrayEquations}
 use Rattle.unification.specs.Solved.{Solved, Answer}

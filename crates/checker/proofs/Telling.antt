@@ -9,8 +9,8 @@ use Rattle.rules.specs.Ends.{End, done, refused}
 use Rattle.rules.specs.Tables.{tableOf, identifierCount, nodeCount}
 use Rattle.rules.specs.Reading.{reading}
 use Rattle.rules.specs.Verdict.{Verdict, unreadable, misfit, Place, sheetAfter, sheetLength, sheetOf, typeLimit}
-use Rattle.rules.proofs.VerdictLaws.{verdict-only}
-use Rattle.rules.proofs.TableLaws.{binds-length, nodes-length}
+use Rattle.laws.proofs.VerdictLaws.{verdict-only}
+use Rattle.laws.proofs.TableLaws.{binds-length, nodes-length}
 use Rattle.reading.specs.declared.Refusal.{Refusal}
 use Rattle.reading.specs.Answers.{readingOf}
 use Rattle.reading.proofs.Promise.{passed-readable}

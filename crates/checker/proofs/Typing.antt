@@ -10,8 +10,8 @@ use Rattle.rules.specs.Ends.{refused}
 use Rattle.rules.specs.Tables.{tableOf, nodeCount, nodesAt}
 use Rattle.rules.specs.Readable.{Readable}
 use Rattle.rules.specs.Verdict.{clash}
-use Rattle.rules.proofs.ReadingLaws.{reading-readable}
-use Rattle.rules.proofs.TableLaws.{nodes-length}
+use Rattle.laws.proofs.ReadingLaws.{reading-readable}
+use Rattle.laws.proofs.TableLaws.{nodes-length}
 use Rattle.table.specs.Layout.{Laid, Fielded}
 use Rattle.unification.specs.Problem.{Shape, Eqn, PartsBelow}
 use Rattle.unification.specs.Solved.{Solved}

@@ -18,10 +18,10 @@ use Rattle.rules.specs.Reading.{reading}
 use Rattle.rules.specs.Ends.{allBelow, doneWith}
 use Rattle.rules.specs.Verdict.{sheetLength}
 use Rattle.rules.specs.Safety.{Free}
-use Rattle.rules.proofs.EndLaws.{T-and, T-eqb, T-allBelow, T-doneWith}
+use Rattle.laws.proofs.EndLaws.{T-and, T-eqb, T-allBelow, T-doneWith}
 use Rattle.rules.proofs.TypeLaws.{typeOfRow-right, row-read}
-use Rattle.rules.proofs.FitsLaws.{hasType-right}
-use Rattle.rules.proofs.ReadingLaws.{reading-table}
+use Rattle.laws.proofs.FitsLaws.{hasType-right}
+use Rattle.laws.proofs.ReadingLaws.{reading-table}
 use Rattle.fitting.specs.Types.{Decides}
 use Rattle.conforms.specs.Conforming.{rowAt, HasWritten, Conforming, hasTypeRead, hasWritten, ifFree, freeHas, conforming}
 use Rattle.conforms.specs.Rows.{SheetFits}

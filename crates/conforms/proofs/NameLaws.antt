@@ -15,8 +15,8 @@ use Rattle.rules.specs.Ends.{End, done, refused}
 use Rattle.rules.specs.Tables.{Table, tableOf, identifierCount, nodeCount}
 use Rattle.rules.specs.Reading.{reading}
 use Rattle.rules.specs.Readable.{Readable}
-use Rattle.rules.proofs.ReadingLaws.{reading-right, reading-table}
-use Rattle.rules.proofs.TableLaws.{binds-length, nodes-length}
+use Rattle.laws.proofs.ReadingLaws.{reading-right, reading-table}
+use Rattle.laws.proofs.TableLaws.{binds-length, nodes-length}
 use Rattle.rules.specs.Safety.{Free}
 use Rattle.reading.specs.declared.Refusal.{Refusal}
 use Rattle.reading.specs.declared.Reading.{Reading}

@@ -13,7 +13,7 @@ use lib.ListN.{length, getD, drop, replicate, length-append, length-take, length
 use lib.Seq.{getD-take, getD-drop, ext-getD}
 use Rattle.rules.specs.Types.{whole, Atom, number, bool, given, Ty, atom, POW, _⊗_, atomCode, weightᵀ, prefix, row}
 use Rattle.rules.proofs.TypeLaws.{weight-positive, prefix-length, row-length, prefixes}
-use Rattle.rules.proofs.EndLaws.{T-true}
+use Rattle.laws.proofs.EndLaws.{T-true}
 use Rattle.arena.specs.Code.{Stands}
 use Rattle.arena.proofs.Standing.{stands-head, stands-append, stands-back}
 use Rattle.fitting.specs.Types.{TypeAt, typeParts, Decides}

@@ -14,10 +14,10 @@ use Rattle.rules.specs.Readable.{Readable, CategoryIs}
 use Rattle.rules.specs.Runs.{Run}
 use Rattle.rules.specs.Operations.{Env}
 use Rattle.rules.specs.Evaluation.{run, evaluation}
-use Rattle.rules.proofs.TableLaws.{binds-length, nodes-length}
-use Rattle.rules.proofs.ReadingLaws.{reading-right}
-use Rattle.rules.proofs.FormedLaws.{valuesIn-good}
-use Rattle.rules.proofs.Soundness.{evaluation-run}
+use Rattle.laws.proofs.TableLaws.{binds-length, nodes-length}
+use Rattle.laws.proofs.ReadingLaws.{reading-right}
+use Rattle.laws.proofs.FormedLaws.{valuesIn-good}
+use Rattle.laws.proofs.Soundness.{evaluation-run}
 use Rattle.reading.specs.Answers.{heightOf, readingHeight}
 use Rattle.reading.specs.declared.Height.{Height}
 use Rattle.reading.specs.declared.Height.the-variants.{Refused as Unmeasured}

@@ -9,7 +9,7 @@ use lib.ListN.{length, getD, set as setAt, length-set}
 use lib.Seq.{getD-set-same, getD-set-other}
 use Rattle.rules.specs.Values.{Value, Values, none, _▸_, weight, members}
 use Rattle.rules.specs.Operations.{Env, _with_≔_}
-use Rattle.rules.proofs.FormedLaws.{with-good}
+use Rattle.laws.proofs.FormedLaws.{with-good}
 use Rattle.arena.specs.Code.{code, codes, Stands, Same}
 use Rattle.arena.proofs.Standing.{stands-frame, stands-front, stands-back}
 use Rattle.arena.proofs.CodeLaws.{length-code, length-codes}

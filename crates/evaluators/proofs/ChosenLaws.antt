@@ -29,7 +29,7 @@ use Rattle.evaluators.specs.Cycle.{Binds, Ready, bodyAt, EvaluatesP, Eac
 use Rattle.evaluators.proofs.RunLaws.{then-done, then-refused, returns}
 use Rattle.evaluators.proofs.NodeLaws.{sizes-small, binds-frame, good-frame}
 use Rattle.evaluators.proofs.BodyLaws.{Inner, inner-start, inner-set, binds-body, First, first-member, listed-frame, none-left}
-use Rattle.rules.proofs.CellsLaws.{count-weights, weight-some}
+use Rattle.laws.proofs.CellsLaws.{count-weights, weight-some}
 
 -- What a member adds to those chosen.
 abbrev pub picked : Bool → Value → List Value

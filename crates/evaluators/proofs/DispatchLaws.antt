@@ -25,10 +25,10 @@ use Rattle.rules.specs.Ends.{done, refused}
 use Rattle.rules.specs.Runs.{form, gives}
 use Rattle.rules.specs.Operations.{Env, leafValue}
 use Rattle.rules.specs.Evaluation.{holdsᵖ, valueᵉ}
-use Rattle.rules.proofs.TableLaws.{sizes-length, binds-length, nodes-entry}
-use Rattle.rules.proofs.CellsLaws.{good-weight}
-use Rattle.rules.proofs.FormedLaws.{value-good}
-use Rattle.rules.proofs.EndLaws.{T-true, T-and, T-leb}
+use Rattle.laws.proofs.TableLaws.{sizes-length, binds-length, nodes-entry}
+use Rattle.laws.proofs.CellsLaws.{good-weight}
+use Rattle.laws.proofs.FormedLaws.{value-good}
+use Rattle.laws.proofs.EndLaws.{T-true, T-and, T-leb}
 use Rattle.table.specs.Codes.{codeOf as categoryNumber, categoryCode}
 use Rattle.table.proofs.Access.{by-range}
 use Rattle.arena.proofs.Standing.{same-refl}
@@ -42,7 +42,7 @@ use Rattle.evaluators.specs.Nodes.{IsPred, IsExpr, NameReady, NameAt, Le
 use Rattle.evaluators.specs.Cycle.{Binds, Ready, Visited, Sort, EvaluatesP, EvaluatesE}
 use Rattle.evaluators.proofs.RunLaws.{visited, unvisited}
 use Rattle.evaluators.proofs.NodeLaws.{sizes-small, field-holds, expr-at, visited-kind}
-use Rattle.rules.proofs.TypedTree.{numberᵉ, number-at}
+use Rattle.laws.proofs.TypedTree.{numberᵉ, number-at}
 
 -- The number of a condition's own node.
 abbrev numberᵖ : Pred → ℕ

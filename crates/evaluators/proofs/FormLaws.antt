@@ -22,7 +22,7 @@ use Rattle.rules.specs.Ends.{End, done, refused}
 use Rattle.rules.specs.Runs.{Run, M, _>>=_, _>>_, form, Given, gives}
 use Rattle.rules.specs.Operations.{Env, _with_≔_, elems, setOf, oneValue, twoValue}
 use Rattle.rules.specs.Evaluation.{fitting, select, holdsᵖ, valueᵉ}
-use Rattle.rules.proofs.FormedLaws.{value-good}
+use Rattle.laws.proofs.FormedLaws.{value-good}
 use Rattle.arena.specs.Code.{code}
 use Rattle.arena.proofs.Standing.{same-trans}
 use Rattle.products.specs.Growing.{PutsCell}

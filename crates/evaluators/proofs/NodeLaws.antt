@@ -13,8 +13,8 @@ use Rattle.rules.specs.Tables.{Node, Table, Pred, Expr, tableOf, nodeAt, kindAt
 use Rattle.rules.specs.Reading.{height, tallest}
 use Rattle.rules.specs.Readable.{Readable, FieldRight, FieldsRight, KindRight, NodeRight, CategoryIs}
 use Rattle.rules.specs.Operations.{Env}
-use Rattle.rules.proofs.TableLaws.{nodes-length, sizes-length, height-at}
-use Rattle.rules.proofs.CellsLaws.{size-below}
+use Rattle.laws.proofs.TableLaws.{nodes-length, sizes-length, height-at}
+use Rattle.laws.proofs.CellsLaws.{size-below}
 use Rattle.arena.specs.Code.{Same}
 use Rattle.arena.proofs.Standing.{stands-frame}
 use Rattle.arena.proofs.CodeLaws.{length-code}

@@ -36,7 +36,7 @@ use Rattle.evaluators.proofs.RunLaws.{then-done, then-refused, returns,
 use Rattle.evaluators.proofs.NodeLaws.{sizes-small, good-frame, binds-frame, pred-at, ready-child, visited-kind}
 use Rattle.evaluators.proofs.BodyLaws.{Inner, inner-start, inner-set, binds-body, First, first-member, none-left, listed-frame}
 use Rattle.evaluators.proofs.RangeLaws.{placed-good, binder-range, binder-ready, range-fits, range-listed}
-use Rattle.rules.proofs.CellsLaws.{weight-some}
+use Rattle.laws.proofs.CellsLaws.{weight-some}
 
 -- Two truths differ, or are the same.
 pub differ : (a b : Bool) → not (Bool·beq a b) ≡ true → a ≡ not b

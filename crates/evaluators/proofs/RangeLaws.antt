@@ -14,11 +14,11 @@ use Rattle.rules.specs.Rules.{P̂, t̂}
 use Rattle.rules.specs.Fits.{HasType, Fits, typed, fits}
 use Rattle.rules.specs.Tables.{tableOf, nodeAt, kindAt}
 use Rattle.rules.specs.Runs.{Run}
-use Rattle.rules.proofs.TableLaws.{binds-length}
-use Rattle.rules.proofs.BindingLaws.{binderFields}
-use Rattle.rules.proofs.CellsLaws.{good-weight, good-typed}
-use Rattle.rules.proofs.FitsLaws.{typed-right}
-use Rattle.rules.proofs.FormedLaws.{elems-good}
+use Rattle.laws.proofs.TableLaws.{binds-length}
+use Rattle.laws.proofs.BindingLaws.{binderFields}
+use Rattle.laws.proofs.CellsLaws.{good-weight, good-typed}
+use Rattle.laws.proofs.FitsLaws.{typed-right}
+use Rattle.laws.proofs.FormedLaws.{elems-good}
 use Rattle.arena.specs.Code.{cellSize, code, codes, Same}
 use Rattle.arena.proofs.Standing.{stands-tail}
 use Rattle.operations.specs.Good.{Sizes, GoodAt}

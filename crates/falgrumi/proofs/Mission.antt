@@ -24,10 +24,10 @@ use Rattle.rules.specs.Refusals.{PlaceInRange, RefusesOnly, ClashesAt, DifferAt
 use Rattle.rules.specs.Safety.{Free, Any, All}
 use Rattle.typing.specs.Model.{verdict}
 use Rattle.conforms.specs.Conforming.{HasWritten}
-use Rattle.rules.proofs.EndLaws.{refuses-imp}
-use Rattle.rules.proofs.VerdictLaws.{one-table, accepted-where, rows-where, untyped-where, different-where, heavy-where, clash-at, different-at, heavy-at}
-use Rattle.rules.proofs.RefusalLaws.{verdict-refuses, evaluation-refuses, safe-refuses}
-use Rattle.rules.proofs.TraceLaws.{completed-have}
+use Rattle.laws.proofs.EndLaws.{refuses-imp}
+use Rattle.laws.proofs.VerdictLaws.{one-table, accepted-where, rows-where, untyped-where, different-where, heavy-where, clash-at, different-at, heavy-at}
+use Rattle.laws.proofs.RefusalLaws.{verdict-refuses, evaluation-refuses, safe-refuses}
+use Rattle.laws.proofs.TraceLaws.{completed-have}
 use Rattle.typing.proofs.VerdictRight.{verdict-right}
 use Rattle.falgrumi.proofs.Demand.{guarantee}
 

@@ -18,7 +18,7 @@ use Rattle.arena.proofs.Standing.{stands-head, stands-tail, stands-front, stand
 use Rattle.fitting.specs.Agree.{meets, agree, TypedAt, RunAt, SomeTyped, SomeRun, Agreed, AgreedWith, AgreedAll, emptyCell, NoEmpty, StandFor, Members, Full, FullSet, FullAll, Few, sameKind, SetHere, Two, Parts, AgreedParts, Runs}
 use Rattle.fitting.proofs.Sharing.{is-true, full-first, meets-both, meets-sym, meets-same, with-every, meets-every, meets-first, tags-differ, scalars-agree, elements-agree, left-typed, right-typed}
 use Rattle.rules.proofs.Basics.{and-split}
-use Rattle.rules.proofs.CellsLaws.{weight-some}
+use Rattle.laws.proofs.CellsLaws.{weight-some}
 
 -- No empty set among the cells passed.
 pub no-empty-none : (s : List ℕ) (at : ℕ) → NoEmpty s at at

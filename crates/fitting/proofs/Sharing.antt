@@ -8,7 +8,7 @@ use lib.Dec.{T, eqb}
 use Rattle.rules.specs.Types.{whole, Atom, given, Ty, atom, POW, _⊗_}
 use Rattle.rules.specs.Values.{Scalar, num, truth, element, scalarTag, tag, Value, scalar, pair, set, Values, none, _▸_}
 use Rattle.rules.specs.Fits.{sameAtom, TypeSet, every, noType, atomˢ, powˢ, _×ˢ_, _⊓_, typesOf, sharedTypes, inhabited, typed}
-use Rattle.rules.proofs.FitsLaws.{_⊑_, ⊓-join, ⊓-split, inhabited→some, some→inhabited}
+use Rattle.laws.proofs.FitsLaws.{_⊑_, ⊓-join, ⊓-split, inhabited→some, some→inhabited}
 use Rattle.fitting.specs.Agree.{meets, agree, Full, FullSet}
 use Rattle.rules.proofs.Basics.{and-of, and-split}
 

@@ -12,7 +12,7 @@ use Rattle.rules.specs.Types.{whole, Ty, atom, POW, _⊗_, INTEGER}
 use Rattle.rules.specs.Values.{num, truth, element, Value, scalar, pair, set, Values, none, _▸_, tag, weight}
 use Rattle.rules.specs.Rules.{Pattern, t̂, û, P̂, _×̂_, numᵖ, inst}
 use Rattle.rules.specs.Fits.{HasType, TypeSet, every, noType, _×ˢ_, _⊓_, typesOf, sharedTypes, inhabited, fits}
-use Rattle.rules.proofs.FitsLaws.{_⊑_, ⊓-split, has→types, types→has, have→sharedTypes, sharedTypes→have, inhabited→some, some→inhabited, fits-right}
+use Rattle.laws.proofs.FitsLaws.{_⊑_, ⊓-split, has→types, types→has, have→sharedTypes, sharedTypes→have, inhabited→some, some→inhabited, fits-right}
 use Rattle.arena.specs.Code.{cellSize, code, Stands, EndsAt}
 use Rattle.fitting.specs.Agree.{meets, agree, TypedAt, RunAt, SomeTyped, Agreed, AgreedWith, Full, Few, Members, SetHere}
 use Rattle.fitting.specs.Tests.{FitOne, FitTwo, Both, anyPair, Pairs, AgreedLefts}

@@ -14,9 +14,9 @@ use Rattle.rules.specs.Tables.{Table, identifierCount, nodeCount}
 use Rattle.rules.specs.Reading.{headed, limited, reading}
 use Rattle.rules.specs.Verdict.{rowsFrom, sheetAfter, sheetLength}
 use Rattle.rules.proofs.Basics.{absurd01, and-of, and-split}
-use Rattle.rules.proofs.EndLaws.{T-true}
-use Rattle.rules.proofs.TableLaws.{binds-length, nodes-length}
-use Rattle.rules.proofs.ReadingLaws.{headed-right, limited-right, header-right, reading-readable, reading-table}
+use Rattle.laws.proofs.EndLaws.{T-true}
+use Rattle.laws.proofs.TableLaws.{binds-length, nodes-length}
+use Rattle.laws.proofs.ReadingLaws.{headed-right, limited-right, header-right, reading-readable, reading-table}
 use Rattle.typing.specs.Model.{verdict}
 use Rattle.checker.specs.Answers.{answered}
 use Rattle.text.specs.Text.{hexOf, unfilled, codesText, rowText, indexOf, lineOf, sheetRow, linesOf, acceptedLine, refusalLine, Appends}

@@ -19,8 +19,8 @@ use Rattle.rules.specs.Fits.{fits, typed}
 use Rattle.rules.specs.Cells.{good}
 use Rattle.rules.specs.Runs.{Given, gives, lacks}
 use Rattle.rules.specs.Operations.{elems, setOf, pairsOf, upFrom, toCount, applied, ranged, twoValue}
-use Rattle.rules.proofs.FitsLaws.{typed-right}
-use Rattle.rules.proofs.CellsLaws.{good-typed}
+use Rattle.laws.proofs.FitsLaws.{typed-right}
+use Rattle.laws.proofs.CellsLaws.{good-typed}
 use Rattle.arena.specs.Code.{cellSize, excess, code, CellsFit, FineSet, SomeSet, SomeValue, SetBelow, Made, AllPairs}
 use Rattle.arena.proofs.Standing.{same-refl}
 use Rattle.sets.specs.Merged.{merged}

@@ -8,7 +8,7 @@ use Rattle.rules.specs.Types.{whole, Ty, POW, _⊗_, INTEGER}
 use Rattle.rules.specs.Values.{num, truth, element, Value, scalar, pair, set, Values, none, _▸_, int}
 use Rattle.rules.specs.Rules.{Pattern}
 use Rattle.rules.specs.Fits.{HasType, HaveType, Fits, fits}
-use Rattle.rules.proofs.FitsLaws.{fits-right}
+use Rattle.laws.proofs.FitsLaws.{fits-right}
 use Rattle.fitting.specs.Tests.{FitOne, FitTwo, Both}
 use Rattle.fitting.proofs.Sharing.{is-true}
 use Rattle.arena.specs.Code.{IsPair, AllPairs}

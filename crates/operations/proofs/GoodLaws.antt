@@ -7,8 +7,8 @@ use lib.Dec.{T}
 use lib.ListN.{length}
 use Rattle.rules.specs.Values.{Value, set, Values, none, _▸_}
 use Rattle.rules.specs.Cells.{wellFormed, risingAll, precedes, good}
-use Rattle.rules.proofs.OrderLaws.{and-left, and-right}
-use Rattle.rules.proofs.CellsLaws.{encodable-wellFormed, few-sizes, good-wellFormed, good-weight, good-typed, weight-some}
+use Rattle.laws.proofs.OrderLaws.{and-left, and-right}
+use Rattle.laws.proofs.CellsLaws.{encodable-wellFormed, few-sizes, good-wellFormed, good-weight, good-typed, weight-some}
 use Rattle.arena.specs.Code.{CellsFit, SomeAt, Rises, FineSet, SetBelow, ValueBelow}
 use Rattle.arena.proofs.CodeLaws.{length-code, encodable-fits}
 use Rattle.fitting.specs.Agree.{TypedAt}

@@ -13,7 +13,7 @@ use Rattle.rules.specs.Kinds.{Leaf, identifier, givenSet, elementOf, literal, t
 use Rattle.rules.specs.Kinds.{One, singleton, power, dom, ran, card, choice}
 use Rattle.rules.specs.Kinds.{Two, pairing, union, inter, diff, product, apply, plus, minus, interval}
 use Rattle.rules.specs.Kinds.{Kind, join, negation, test, quant, leaf, boolOf, one, two, comprehension, kinds, kindOf}
-use Rattle.rules.proofs.OrderLaws.{and-left, and-right}
+use Rattle.laws.proofs.OrderLaws.{and-left, and-right}
 use Rattle.rules.proofs.Basics.{absurd01}
 
 abbrev pub joinCode : Join → ℕ

@@ -20,7 +20,7 @@ use Rattle.products.specs.Growing.{PutsCell}
 use Rattle.operations.specs.Outcomes.{BuiltAt, LeafFits, LeafReady, LeafDone}
 use Rattle.operations.specs.Leaves.{scalarCell, Narrow}
 use Rattle.operations.proofs.KindLaws.{leafCode, code-of, same-leaf}
-use Rattle.rules.proofs.CellsLaws.{bit-eqb, signed-high, signed-low}
+use Rattle.laws.proofs.CellsLaws.{bit-eqb, signed-high, signed-low}
 
 -- The cell by the kind's code.
 pub cell-element : (k a b : ℕ) → k ≡ 22 → 12884901888 + 256 * a + b ≡ scalarCell k a b

@@ -17,7 +17,7 @@ use Rattle.operations.specs.declared.Outcome.{Outcome}
 use Rattle.operations.specs.declared.Outcome.the-variants.{Built, Lacks}
 use Rattle.operations.specs.declared.Tested.the-variants.{Truth, Unlike}
 use Rattle.operations.specs.Outcomes.{weighed, fitted, oneGiven, twoGiven, tested, ended, Gives}
-use Rattle.rules.proofs.CellsLaws.{weight-some}
+use Rattle.laws.proofs.CellsLaws.{weight-some}
 
 pub ended-none : (end : ℕ) → end ≡ 0 → Lacks 18 ≡ ended end
 unfolding ended

@@ -16,8 +16,8 @@ use Rattle.rules.specs.Rules.{t̂, û, P̂, _×̂_, oneRule}
 use Rattle.rules.specs.Fits.{typed, fits}
 use Rattle.rules.specs.Runs.{gives, lacks}
 use Rattle.rules.specs.Operations.{oneValue}
-use Rattle.rules.proofs.CellsLaws.{good-typed}
-use Rattle.rules.proofs.FitsLaws.{typed-right}
+use Rattle.laws.proofs.CellsLaws.{good-typed}
+use Rattle.laws.proofs.FitsLaws.{typed-right}
 use Rattle.arena.specs.Code.{code, SetBelow, SomeSet, SomeValue, Made, AllPairs}
 use Rattle.arena.proofs.Standing.{same-refl}
 use Rattle.products.specs.Growing.{PutsCell, Singles}

@@ -6,7 +6,7 @@ use native.Mathlib.Omega.{arith}
 use lib.ListN.{length, getD, set}
 use Rattle.rules.specs.Readable.{Header}
 use Rattle.rules.specs.Tables.{Table, tableOf, nodeAt, nodeCount}
-use Rattle.rules.proofs.TableLaws.{sizes-length, binds-length, nodes-length}
+use Rattle.laws.proofs.TableLaws.{sizes-length, binds-length, nodes-length}
 use Rattle.problem.specs.Codes.{CodeOf}
 use Rattle.problem.specs.Entries.{Sound, Forms, FormsTo, FormRoom, Sides, VarsOf, VariablesTo, EquationsTo, NextVariables, NextEquations, planFor}
 use Rattle.problem.specs.Built.{Built}

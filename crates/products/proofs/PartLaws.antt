@@ -9,9 +9,9 @@ use native.Mathlib.Omega.{arith}
 use lib.Dec.{T, isEq}
 use Rattle.rules.specs.Values.{Value, scalar, pair, set, Values, none, _▸_, members, values, weight, weights, order, same, _then_}
 use Rattle.rules.specs.Operations.{left, right, placed, insert, rising}
-use Rattle.rules.proofs.OrderLaws.{flip, Small, order-flip, order-eq, order-pair, before-order, before-trans, before-irrefl}
-use Rattle.rules.proofs.SetOrder.{All, Before, Rising, all-imp, all-append, rising-rising}
-use Rattle.rules.proofs.Membership.{In, all-in, in-append, in-left, in-right, in-rising, rising-in}
+use Rattle.laws.proofs.OrderLaws.{flip, Small, order-flip, order-eq, order-pair, before-order, before-trans, before-irrefl}
+use Rattle.laws.proofs.SetOrder.{All, Before, Rising, all-imp, all-append, rising-rising}
+use Rattle.laws.proofs.Membership.{In, all-in, in-append, in-left, in-right, in-rising, rising-in}
 use Rattle.products.specs.Parts.{isLast, isAbove, isBelow, lesser, choose}
 
 -- The weight and the number of members of a rising list.

@@ -17,7 +17,7 @@ use Rattle.rules.specs.Values.{Value, Values, none, _▸_, members, values, cou
 use Rattle.rules.specs.Operations.{setOf, rising, subsets, keptValue}
 use Rattle.arena.specs.Code.{code, codes, Same, SomeAt, EndsAt, SetBelow, ValueBelow, Made, Front}
 use Rattle.arena.proofs.CodeLaws.{length-code, length-codes}
-use Rattle.rules.proofs.Membership.{values-members}
+use Rattle.laws.proofs.Membership.{values-members}
 use Rattle.arena.proofs.FrontLaws.{rises-rising, fit-small, front-start, front-value, front-next, front-below, front-some, front-frame, set-end}
 use Rattle.products.specs.Growing.{Appended, Grown}
 use Rattle.products.specs.Parts.{AddPre}
@@ -26,7 +26,7 @@ use Rattle.products.specs.declared.Out.{Out}
 use Rattle.products.proofs.GrowLaws.{appended-none, grown-start, grown-step, grown-end, grown-left, made-set, made-heavy}
 use Rattle.products.proofs.TakeLaws.{Putting, putting-start, putting-near, putting-end, putting-pre, putting-add}
 use Rattle.products.proofs.PowerOrder.{powers, powerWeight, power-rising, power-weighs, power-count, power-picked, power-heavy}
-use Rattle.rules.proofs.CellsLaws.{count-weights}
+use Rattle.laws.proofs.CellsLaws.{count-weights}
 
 -- `subset_count`
 pub count-many : (n : ℕ) → 5 < n → 64 ≡ subsetCount n

@@ -8,11 +8,12 @@ use native.Mathlib.Decide.{ℕ-discrete}
 use lib.ListN.{length}
 use Rattle.rules.specs.Values.{Value, set, Values, _▸_, values, count, weights, order, _then_, lex, keys}
 use Rattle.rules.specs.Operations.{setOf, rising, subsets}
-use Rattle.rules.proofs.OrderLaws.{Small, order-refl, order-before, before-order, lt-compare, compare-refl, key-delimited}
-use Rattle.rules.proofs.SetOrder.{All, Before, Rising, all-imp, all-map, all-append, all-both, append-rising, rising-rising, subsets-all}
+use Rattle.rules.proofs.Basics.{all-both}
+use Rattle.laws.proofs.OrderLaws.{Small, order-refl, order-before, before-order, lt-compare, compare-refl, key-delimited}
+use Rattle.laws.proofs.SetOrder.{All, Before, Rising, all-imp, all-map, all-append, append-rising, rising-rising, subsets-all}
 use Rattle.products.specs.Power.{masks, subsetCount, picked}
-use Rattle.rules.proofs.CellsLaws.{weight-some}
-use Rattle.rules.proofs.Membership.{In, all-in, all-self, in-append, in-left, in-right, in-map, map-in, in-rising, rising-in, same-members, small-sets, nil-subset}
+use Rattle.laws.proofs.CellsLaws.{weight-some}
+use Rattle.laws.proofs.Membership.{In, all-in, all-self, in-append, in-left, in-right, in-map, map-in, in-rising, rising-in, same-members, small-sets, nil-subset}
 
 -- The order of two sets: fewer members first, then by the first members that differ.
 order-fewer : (s r : Values) → count s < count r → order (set s) (set r) ≡ Ordering·lt

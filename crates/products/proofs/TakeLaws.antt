@@ -11,8 +11,8 @@ use lib.Dec.{eqb, isEq}
 use lib.ListN.{length, getD, set as setAt}
 use Rattle.rules.specs.Values.{Value, scalar, pair, set, Values, none, _▸_, members, values, count, weight, weights, order, same, before, isLt}
 use Rattle.rules.specs.Operations.{left, right, setOf, rising}
-use Rattle.rules.proofs.OrderLaws.{flip, Small, order-flip}
-use Rattle.rules.proofs.SetOrder.{All}
+use Rattle.laws.proofs.OrderLaws.{flip, Small, order-flip}
+use Rattle.laws.proofs.SetOrder.{All}
 use Rattle.arena.specs.Code.{cellSize, code, codes, ValueAt, Same, AllFit, Rises, orderCode, SomeAt, EndsAt, Compared, Copied, SetBelow, ValueBelow, Made, Front, AllPairs}
 use Rattle.arena.proofs.CodeLaws.{length-code, length-codes, fits-small}
 use Rattle.arena.proofs.Standing.{stands-tail, stands-front, stands-back}
@@ -21,9 +21,9 @@ use Rattle.products.specs.Growing.{Grown}
 use Rattle.products.specs.Parts.{Maybe, AddPre, Added, related, ComparePre, Compares, isLast, NewPre, AddedNew, isAbove, isBelow, lesser, choose, BetterPre, Betters, NextPre, Nexts}
 use Rattle.products.specs.declared.Out.{Out}
 use Rattle.products.proofs.GrowLaws.{appended-copy, grown-start, grown-step, grown-end, grown-left, made-set}
-use Rattle.rules.proofs.Membership.{left-small, right-small}
+use Rattle.laws.proofs.Membership.{left-small, right-small}
 use Rattle.products.proofs.PartLaws.{afterLast, Steps, rising-weighs, lefts-weigh, rights-weigh, rising-afterLast, lastThen, AllOf, afterLast-none, afterLast-skip, afterLast-take, before-lefts, Taking, taking-start, taking-next, firstOf, choose-next}
-use Rattle.rules.proofs.CellsLaws.{count-weights, weight-some}
+use Rattle.laws.proofs.CellsLaws.{count-weights, weight-some}
 
 -- The parts of a pair.
 module _ (s : List ℕ) (top i : ℕ) (a b : Value) (h : ValueBelow s top i (pair a b)) where

@@ -18,8 +18,8 @@ use Rattle.rules.specs.Tables.{Node, Table, tableOf, nodeAt, kindAt, lastNode, 
 use Rattle.rules.specs.Tables.{nodeCount}
 use Rattle.rules.specs.Reading.{occurrences, parentGood}
 use Rattle.rules.specs.Readable.{Header, FieldRight, FieldsRight}
-use Rattle.rules.proofs.TableLaws.{nodes-length, binds-length, fields-right}
-use Rattle.rules.proofs.TreeLaws.{occurrences-append}
+use Rattle.laws.proofs.TableLaws.{nodes-length, binds-length, fields-right}
+use Rattle.laws.proofs.TreeLaws.{occurrences-append}
 use Rattle.table.specs.Codes.{fieldOf, categoryCode, DigitOf}
 use Rattle.table.specs.Layout.{NodeIn, Fielded, sortOf, fieldCodesAt, fieldAt}
 use Rattle.reading.specs.Arrays.{FieldIn, more, Room, BumpPre, Bumped, countsAt, Counted}

@@ -13,7 +13,7 @@ use Rattle.rules.specs.Tables.{Node, tableOf, nodeAt, fieldsAt, keptIf, held, n
 use Rattle.rules.specs.Reading.{tallest, height, heightGood}
 use Rattle.rules.specs.Ends.{leastFailing}
 use Rattle.rules.specs.Readable.{NodeRight, Readable}
-use Rattle.rules.proofs.TableLaws.{nodes-length, held-below, height-at, tallest-below}
+use Rattle.laws.proofs.TableLaws.{nodes-length, held-below, height-at, tallest-below}
 use Rattle.table.specs.Layout.{Fielded, fieldAt}
 use Rattle.reading.specs.Arrays.{countsAt, Heights}
 use Rattle.table.specs.Places.{foundOr}

@@ -16,7 +16,7 @@ use Rattle.rules.specs.Kinds.{Field, unused, child, use-of, binder-of, setNumbe
 use Rattle.rules.specs.Tables.{Node, tableOf, nodeAt, fieldsAt, fieldsIf, fieldWords, keptIf, pick, held, lastNode, identifierCount, nodeCount}
 use Rattle.rules.specs.Reading.{occurrences, occursIn, occursInAny, bindsHere, occursStep, occursFree, boundRight, binders, binding}
 use Rattle.rules.specs.Readable.{Header}
-use Rattle.rules.proofs.TableLaws.{fields-right, nodes-length, occursFree-at}
+use Rattle.laws.proofs.TableLaws.{fields-right, nodes-length, occursFree-at}
 use Rattle.table.specs.Codes.{fieldOf}
 use Rattle.table.specs.Layout.{Fielded, holdsAt, fieldAt, WordOf}
 use Rattle.reading.specs.Arrays.{flag, Occurs, FieldIn, countsAt, Counted}

@@ -6,8 +6,8 @@ use Rattle.rules.specs.Ends.{End, done, refused, _>>=_}
 use Rattle.rules.specs.Tables.{Table, tableOf, nodesAt}
 use Rattle.rules.specs.Reading.{reading}
 use Rattle.rules.specs.Readable.{Readable}
-use Rattle.rules.proofs.ReadingLaws.{reading-right, reading-table, reading-readable}
-use Rattle.rules.proofs.TableLaws.{nodes-length}
+use Rattle.laws.proofs.ReadingLaws.{reading-right, reading-table, reading-readable}
+use Rattle.laws.proofs.TableLaws.{nodes-length}
 use Rattle.rules.proofs.Basics.{absurd01}
 use Rattle.reading.specs.declared.Reading.{Reading}
 use Rattle.reading.specs.declared.Reading.the-variants.{Passed, Refused}

@@ -11,8 +11,8 @@ use Rattle.rules.specs.Ends.{End, done, _>>=_, leastFailing, requireAll}
 use Rattle.rules.specs.Tables.{Table, tableOf, nodeCount, nodesAt}
 use Rattle.rules.specs.Reading.{headed, limited, laidOut, nodeGood, reading}
 use Rattle.rules.specs.Readable.{Header}
-use Rattle.rules.proofs.EndLaws.{sought, Sought, T-true, requireAll-done}
-use Rattle.rules.proofs.ReadingLaws.{header-right, headed-right, nodeGood-right}
+use Rattle.laws.proofs.EndLaws.{sought, Sought, T-true, requireAll-done}
+use Rattle.laws.proofs.ReadingLaws.{header-right, headed-right, nodeGood-right}
 use Rattle.reading.specs.declared.Reading.{Reading}
 use Rattle.reading.specs.declared.Reading.the-variants.{Refused}
 use Rattle.table.specs.Places.{foundOr}

@@ -16,7 +16,7 @@ use Rattle.rules.specs.Kinds.{Kind, kindOf, Category, predicate, expression, ca
 use Rattle.rules.specs.Tables.{Table, tableOf, nodeAt, kindAt, identifierCount, nodeCount}
 use Rattle.rules.specs.Readable.{CategoryIs}
 use Rattle.rules.specs.Verdict.{Place}
-use Rattle.rules.proofs.TableLaws.{binds-length, nodes-length}
+use Rattle.laws.proofs.TableLaws.{binds-length, nodes-length}
 use Rattle.table.specs.Codes.{codeOf, categoryCode}
 use Rattle.unification.specs.Problem.{Shape}
 use Rattle.unification.specs.Solved.{ClassesMatch, Grounded}

@@ -7,6 +7,7 @@ use native.Mathlib.Nat.{le-of-suc-le-suc}
 use native.Mathlib.Omega.{arith}
 use lib.Dec.{T}
 use lib.ListN.{getD, length}
+use Rattle.rules.specs.Safety.{All}
 
 -- Anything follows from 0 = 1, which `cc` proves of things that cannot be equal.
 pub absurd01 : {A : Type 0} → _≡_ {A = ℕ} 0 1 → A
@@ -31,3 +32,8 @@ pub any-default : (l : List ℕ) (x d e : ℕ) → x < length l → getD l x d �
 any-default [] x d e h = absurd (omega arith)
 any-default (y ∷ l) zero d e h = refl
 any-default (y ∷ l) (suc x) d e h = any-default l x d e (le-of-suc-le-suc h)
+
+-- Both P and Q hold where each does.
+pub all-both : {A : Type 0} (P Q : A → Type 0) (xs : List A) → All P xs → All Q xs → All (λ x. P x × Q x) xs
+all-both P Q [] h k = tt
+all-both P Q (x ∷ xs) h k = ((h .0, k .0), all-both P Q xs (h .1) (k .1))

@@ -1,5 +1,5 @@
--- Further cases, each of which keeps a wrong definition out that no law refuses. First the cases of the typing rules, with what
--- Check says of them too: Evaluate's side is proved here by computation, Check's side over the same list in `typing`
+-- Further cases, each of which keeps a wrong definition out that P1 to P12 let through. First the cases of the typing rules, with
+-- what Check says of them too: Evaluate's side is proved here by computation, Check's side over the same list in `typing`
 -- (proofs/RuleChecks.antt). Then cases of Evaluate only. All other cases go through the program `answers`.
 use Prim.Native.Nat.{ℕ, zero, suc, _+_}
 use mathlib.Core.List.{List, [], _∷_, _++_, map}
@@ -236,10 +236,16 @@ negations i (suc n) = node₁ 4 i ∷ negations (suc i) n
 abbrev pub negated : ℕ → Table
 negated n = closed ((lit 1 ∷ lit 1 ∷ node₂ 6 0 1 ∷ []) ++ negations 2 n)
 
+-- ∀x∈{x}·1=1
+abbrev usedInRange : Table
+usedInRange = table [] (1 ∷ []) (x₀ ∷ node₁ 27 0 ∷ lit 1 ∷ lit 1 ∷ node₂ 6 2 3 ∷ node₃ 10 0 1 4 ∷ [])
+
 abbrev unreadableCases : List Case
 unreadableCases =
     -- `occurrences` that counts a child once however often it stands: x∈x with one node for both
     record { words = set p1-words 20 0; buffer = element1; ends = refused 7 0; steps = 0 } ∷
+    -- `occursIn` that takes a binder's range for its scope
+    plain usedInRange (refused 9 0) 0 ∷
     -- another `heightLimit`, a `height` that is off by one: heights 40 and 41
     plain (negated 38) (done true) 41 ∷ plain (negated 39) (refused 8 41) 0 ∷ []
 

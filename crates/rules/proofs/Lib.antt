@@ -1,26 +1,6 @@
--- The laws that everything above rests on.
+-- What the definitions give, computed: document 01's conditions and further cases.
 pub mod Basics
-pub mod EndLaws
-pub mod TableLaws
-pub mod TreeLaws
-pub mod ReadingLaws
-pub mod BindingLaws
-pub mod OrderLaws
-pub mod CellsLaws
-pub mod FitsLaws
-pub mod TreeInduction
-pub mod TypedTree
-pub mod SetTypes
-pub mod Soundness
-pub mod SetOrder
-pub mod Membership
-pub mod SetMeaning
-pub mod FormedLaws
-pub mod TraceLaws
-pub mod ConditionMeaning
 pub mod TypeLaws
-pub mod VerdictLaws
-pub mod RefusalLaws
 pub mod Rows
 pub mod Cases
 pub mod Tried

@@ -22,8 +22,7 @@ use Rattle.rules.specs.Safety.{All}
 use Rattle.rules.proofs.TypeLaws.{no-cycle}
 use Rattle.rules.proofs.Rows.{toBytes, wordsOf, sheet, z, pz, ppz, zz, pzz, p1, p2, p3, p4, p5, cardPower, p8, p9, p10, p12}
 use Rattle.rules.proofs.Rows.{oneToSix, Condition, conditions, RunsAsTold, conditions-run}
-use Rattle.rules.proofs.SetOrder.{all-both}
-use Rattle.rules.proofs.Basics.{_&_, absurd01}
+use Rattle.rules.proofs.Basics.{_&_, absurd01, all-both}
 
 -- What holds of each number below n, one after the other.
 abbrev Below : (ℕ → Type 0) → ℕ → Type 0

@@ -1,1 +1,1 @@
-// Document 01 as definitions (specs/) and their laws (proofs/). There is no code here.
+// Document 01 as definitions (specs/), and what they give for its conditions (proofs/). There is no code here.

@@ -12,7 +12,7 @@ use Rattle.rules.specs.Operations.{keptValue, setOf}
 use Rattle.arena.specs.Code.{cellSize, code, codes, Stands, ValueAt, Same, Copied, SetBelow, SomeSet, Made, Front}
 use Rattle.arena.proofs.CodeLaws.{length-codes}
 use Rattle.arena.proofs.Standing.{stands-append, stands-frame, copied-stands, same-refl, same-trans}
-use Rattle.rules.proofs.Membership.{values-members}
+use Rattle.laws.proofs.Membership.{values-members}
 use Rattle.arena.proofs.FrontLaws.{codes-append, count-append, weights-append, single, front-start, front-frame}
 use Rattle.sets.specs.declared.Turn.{Turn}
 use Rattle.sets.specs.declared.Out.{Out}
@@ -23,7 +23,7 @@ use Rattle.sets.specs.Fronts.{keepOf, firstOf, restLeft, restRight, Turn
 use Rattle.sets.specs.Fronts.{Merging, StepPre, Stepped, GoesOn, RestOf, EndPre, Ended}
 use Rattle.sets.proofs.MergedLaws.{merged-nil, merged-less, merged-equal, merged-greater}
 use Rattle.sets.proofs.TurnLaws.{two-fronts, turn-fewer}
-use Rattle.rules.proofs.CellsLaws.{count-weights}
+use Rattle.laws.proofs.CellsLaws.{count-weights}
 
 -- `put`
 

@@ -11,14 +11,14 @@ use Rattle.rules.specs.Types.{whole}
 use Rattle.rules.specs.Values.{Scalar, num, truth, element, Value, scalar, pair, set, Values, none, _▸_, members, count, weight, order, same, scalarTag}
 use Rattle.rules.specs.Runs.{Given, gives, lacks}
 use Rattle.rules.specs.Operations.{left, keep, applied, pairedWith}
-use Rattle.rules.proofs.OrderLaws.{Small, flip, order-flip, order-trans, order-eq, order-pair, before-order, then-lt}
-use Rattle.rules.proofs.SetOrder.{All, Before}
+use Rattle.laws.proofs.OrderLaws.{Small, flip, order-flip, order-trans, order-eq, order-pair, before-order, then-lt}
+use Rattle.laws.proofs.SetOrder.{All, Before}
 use Rattle.arena.specs.Code.{cellSize, scalarLow, code, codes, ValueAt, ScalarFits, CellsFit, AllFit, orderCode, SomeAt, EndsAt, Compared, SetBelow, ValueBelow, Front, AllPairs}
 use Rattle.arena.proofs.CodeLaws.{length-code, fits-small}
 use Rattle.arena.proofs.Standing.{stands-head, stands-tail, stands-front, stands-back}
 use Rattle.arena.proofs.FrontLaws.{rises-rising, front-start, front-value, front-next, front-some, code-less, code-equal, code-greater}
 use Rattle.sets.specs.Fronts.{LeftCompared, ImageAt}
-use Rattle.rules.proofs.CellsLaws.{weight-some}
+use Rattle.laws.proofs.CellsLaws.{weight-some}
 
 -- The parts of a pair.
 module _ (s : List ℕ) (i : ℕ) (a b : Value) (h : ValueAt s i (pair a b)) where

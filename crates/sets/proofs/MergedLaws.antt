@@ -5,8 +5,8 @@ use mathlib.Core.List.{List, [], _∷_, _++_}
 use mathlib.Core.Path.{_≡_, refl, sym, ap, _∙_, subst}
 use Rattle.rules.specs.Values.{Value, order}
 use Rattle.rules.specs.Operations.{keptValue, insert, rising, isIn, keep}
-use Rattle.rules.proofs.OrderLaws.{Small, flip, order-refl, order-flip, order-eq, before-order, order-before, before-trans}
-use Rattle.rules.proofs.SetOrder.{All, Before, Rising, all-imp, kept-all}
+use Rattle.laws.proofs.OrderLaws.{Small, flip, order-refl, order-flip, order-eq, before-order, order-before, before-trans}
+use Rattle.laws.proofs.SetOrder.{All, Before, Rising, all-imp, kept-all}
 use Rattle.sets.specs.Merged.{turned, mergedFrom, merged}
 
 -- Of two values that are before one another one is greater.

@@ -8,13 +8,13 @@ use Rattle.rules.specs.Kinds.{union, inter, diff}
 use Rattle.rules.specs.Values.{Value, set, Values, none, _▸_, members, values, weight, order}
 use Rattle.rules.specs.Runs.{gives}
 use Rattle.rules.specs.Operations.{setOf, twoValue}
-use Rattle.rules.proofs.OrderLaws.{Small, flip, order-eq, order-flip, order-before}
-use Rattle.rules.proofs.SetOrder.{All, Before, Rising, kept-rising}
+use Rattle.laws.proofs.OrderLaws.{Small, flip, order-eq, order-flip, order-before}
+use Rattle.laws.proofs.SetOrder.{All, Before, Rising, kept-rising}
 use Rattle.arena.specs.Code.{CellsFit, AllFit, Rises, FineSet}
 use Rattle.arena.proofs.FrontLaws.{rises-rising, fit-small}
 use Rattle.sets.specs.Merged.{merged}
 use Rattle.sets.proofs.MergedLaws.{merged-union, merged-inter, merged-diff, merged-all, merged-less, merged-equal, merged-greater, merged-nil, before-all}
-use Rattle.rules.proofs.CellsLaws.{count-weights}
+use Rattle.laws.proofs.CellsLaws.{count-weights}
 
 module _ (vs ws : Values) (f : FineSet vs) (g : FineSet ws) where
   pub union-merged : twoValue union (set vs) (set ws) ≡ gives (setOf (merged true true true (members vs) (members ws)))

@@ -7,7 +7,7 @@ use native.Mathlib.Omega.{arith}
 use lib.ListN.{length, getD}
 use Rattle.rules.specs.Values.{Value, Values, none, _▸_, members, weight, weights, order}
 use Rattle.rules.specs.Operations.{isIn}
-use Rattle.rules.proofs.OrderLaws.{order-before}
+use Rattle.laws.proofs.OrderLaws.{order-before}
 use Rattle.arena.specs.Code.{orderCode, SomeAt, EndsAt, Compared, SetBelow, ValueBelow, Front}
 use Rattle.arena.proofs.FrontLaws.{rises-rising, front-start, front-value, front-next, front-some, code-less, code-equal, code-greater}
 use Rattle.sets.proofs.MergedLaws.{isIn-equal, isIn-greater, isIn-before, before-all}

@@ -7,8 +7,8 @@ use native.Mathlib.Omega.{arith}
 use lib.ListN.{length, getD}
 use Rattle.rules.specs.Values.{Value, Values, none, _▸_, members, count, weight, order}
 use Rattle.rules.specs.Operations.{allIn}
-use Rattle.rules.proofs.OrderLaws.{flip, order-eq, order-flip, order-before}
-use Rattle.rules.proofs.SetOrder.{All, Before, Rising}
+use Rattle.laws.proofs.OrderLaws.{flip, order-eq, order-flip, order-before}
+use Rattle.laws.proofs.SetOrder.{All, Before, Rising}
 use Rattle.arena.specs.Code.{orderCode, SomeAt, EndsAt, Compared, SetBelow, Front}
 use Rattle.arena.proofs.CodeLaws.{fits-small}
 use Rattle.arena.proofs.FrontLaws.{rises-rising, front-start, front-value, front-below, front-next, front-at, code-less, code-equal, code-greater}

@@ -14,9 +14,9 @@ use borrow.Author.Tests.{le-leb, lt-leb, ne-eqb}
 use Rattle.rules.specs.Kinds.{Kind, kinds, kindOf, predicate, expression, isChild, isBinder}
 use Rattle.rules.specs.Kinds.{Field, unused, child, use-of, binder-of, setNumber, elementNumber, anyWord, truthBit}
 use Rattle.rules.specs.Tables.{wordAt, nodeFrom, tableOf, nodeAt, fieldsIf, fieldWords, givenCount, identifierCount, nodeCount, nodesAt}
-use Rattle.rules.proofs.TableLaws.{sizes-length, binds-entry, nodes-entry}
+use Rattle.laws.proofs.TableLaws.{sizes-length, binds-entry, nodes-entry}
 use Rattle.rules.specs.Reading.{headed, limited, laidOut}
-use Rattle.rules.proofs.EndLaws.{T-allBelow}
+use Rattle.laws.proofs.EndLaws.{T-allBelow}
 use Rattle.table.specs.Layout.{WordOf, sortOf}
 use Rattle.table.specs.Codes.{fieldCodes, fieldOf, fieldCode, codeAt, rowOf, categoryCode}
 

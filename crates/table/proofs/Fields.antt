@@ -15,7 +15,7 @@ use Rattle.rules.specs.Kinds.{Category, predicate, expression, isPredicate, isE
 use Rattle.rules.specs.Kinds.{Field, unused, child, use-of, binder-of, setNumber, elementNumber, anyWord, truthBit}
 use Rattle.rules.specs.Tables.{Table, tableOf, nodeAt, kindAt, fieldsIf, givenCount, identifierCount}
 use Rattle.rules.specs.Reading.{sizeGood, bindGood, categoryIs, fieldGood, fieldsGood, known, nodeGood}
-use Rattle.rules.proofs.TableLaws.{sizes-length, binds-length}
+use Rattle.laws.proofs.TableLaws.{sizes-length, binds-length}
 use Rattle.table.specs.Codes.{fieldOf, codeOf, categoryCode, rowOf, DigitOf}
 use Rattle.table.specs.Layout.{fieldCodesAt, holdsAt, fieldAt, WordOf}
 use Rattle.table.proofs.Access.{field-far}

@@ -10,7 +10,7 @@ use lib.Dec.{T, ltb, lit<}
 use mir.Syntax.{Width}
 use mir.Val.{Fits, bits}
 use Rattle.rules.specs.Ends.{leastFailing}
-use Rattle.rules.proofs.EndLaws.{leastFailing-none, leastFailing-some}
+use Rattle.laws.proofs.EndLaws.{leastFailing-none, leastFailing-some}
 use Rattle.table.specs.Places.{foundOr}
 
 -- The loop's invariant: i is at most the bound, and each number below i passes.

@@ -11,7 +11,7 @@ use Rattle.rules.specs.Types.{Ty}
 use Rattle.rules.specs.Kinds.{expression}
 use Rattle.rules.specs.Tables.{Table, kindAt}
 use Rattle.rules.specs.Verdict.{nodePlace, Place}
-use Rattle.rules.proofs.ReadingLaws.{categoryIs-right}
+use Rattle.laws.proofs.ReadingLaws.{categoryIs-right}
 use Rattle.typing.specs.Equations.{base, back}
 use Rattle.typing.specs.Model.{isPlace}
 use Rattle.typing.specs.Places.{placeCount, placeVar}

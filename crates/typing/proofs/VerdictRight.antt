@@ -13,9 +13,9 @@ use Rattle.rules.specs.Tables.{Table}
 use Rattle.rules.specs.Ends.{End, done, refused, _>>=_, require, requireAll}
 use Rattle.rules.specs.Reading.{reading}
 use Rattle.rules.specs.Verdict.{Place, typeLimit, sheetOf, sheetLength, Verdict, unreadable, misfit}
-use Rattle.rules.proofs.EndLaws.{T-true, T-false, requireAll-done, requireAll-number, requireAll-refused}
-use Rattle.rules.proofs.ReadingLaws.{reading-table, reading-readable}
-use Rattle.rules.proofs.TableLaws.{nodes-length}
+use Rattle.laws.proofs.EndLaws.{T-true, T-false, requireAll-done, requireAll-number, requireAll-refused}
+use Rattle.laws.proofs.ReadingLaws.{reading-table, reading-readable}
+use Rattle.laws.proofs.TableLaws.{nodes-length}
 use Rattle.unification.specs.Problem.{Shape}
 use Rattle.unification.proofs.ModelLaws.{Answers, modelSolve-right, typeFrom-is}
 use Rattle.typing.specs.Equations.{base, shapes, shapeAt, equations, RightNodes}

@@ -11,7 +11,7 @@ use Rattle.rules.specs.Ends.{done, refused}
 use Rattle.rules.specs.Reading.{reading}
 use Rattle.rules.specs.Verdict.{Place, Typing, AgreeAt, Only, typeLimit, sheetOf, sheetLength}
 use Rattle.rules.specs.Verdict.{Verdict, clash, several, heavy, accepts}
-use Rattle.rules.proofs.ReadingLaws.{reading-table, reading-readable}
+use Rattle.laws.proofs.ReadingLaws.{reading-table, reading-readable}
 use Rattle.unification.specs.Problem.{Solves}
 use Rattle.unification.specs.Solved.{Solved}
 use Rattle.typing.specs.Equations.{base, shapeAt, equations, RightNodes, back}
@@ -19,7 +19,7 @@ use Rattle.typing.specs.Places.{placeCount, placeVar}
 use Rattle.typing.proofs.ProblemLaws.{well-formed}
 use Rattle.typing.proofs.EquationsLaws.{typing→solves, solves→typing}
 use Rattle.typing.proofs.Places.{place-below, var-below, back-at, types-at}
-use Rattle.rules.proofs.VerdictLaws.{sheetOf-same}
+use Rattle.laws.proofs.VerdictLaws.{sheetOf-same}
 
 -- The nodes of a table that was read hold what their kinds say.
 pub right-nodes : (bs : List ℕ) (tb : Table) → reading bs ≡ done tb → RightNodes tb

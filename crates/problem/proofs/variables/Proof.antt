@@ -6,7 +6,7 @@ use lib.ListN.{length-set}
 use lib.Seq.{getD-set-same}
 use borrow.Author.Needs.{needs}
 use Rattle.rules.specs.Tables.{tableOf, nodeCount}
-use Rattle.rules.proofs.TableLaws.{binds-length}
+use Rattle.laws.proofs.TableLaws.{binds-length}
 use Rattle.problem.specs.Entries.{VariablesTo, VariableRoom}
 use Rattle.problem.proofs.NodeLaws.{variables-start}
 use Rattle.problem.proofs.variables.Statement.{statement}

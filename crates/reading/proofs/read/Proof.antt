@@ -1,6 +1,6 @@
 -- Stages 1 to 3 of `reading`, then the records.
 use mathlib.Core.Path.{ap, sym, _∙_}
-use Rattle.rules.proofs.ReadingLaws.{refused-1, refused-2, refused-3}
+use Rattle.laws.proofs.ReadingLaws.{refused-1, refused-2, refused-3}
 use Rattle.reading.specs.Answers.{readingOf}
 use Rattle.reading.proofs.Stages.{fails, passes, long, header-read, records-left}
 use Rattle.reading.proofs.read.Statement.{statement}

@@ -1,7 +1,7 @@
 -- The word at a given set's place, or none.
 use mathlib.Core.Path.{sym, _∙_}
 use native.Mathlib.Omega.{arith}
-use Rattle.rules.proofs.TableLaws.{sizes-entry}
+use Rattle.laws.proofs.TableLaws.{sizes-entry}
 use Rattle.table.proofs.Least.{below}
 use Rattle.table.proofs.Access.{size-none}
 use Rattle.table.proofs.size.Statement.{statement}

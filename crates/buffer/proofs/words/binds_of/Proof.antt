@@ -4,7 +4,7 @@ use mathlib.Core.Path.{refl}
 use native.Mathlib.Omega.{arith}
 use borrow.Author.Needs.{needs}
 use Rattle.rules.specs.Tables.{tableOf, identifierCount}
-use Rattle.rules.proofs.TableLaws.{binds-length}
+use Rattle.laws.proofs.TableLaws.{binds-length}
 use Rattle.buffer.proofs.Filling.{Filled, filled-start, filled-turn, filled-end, bind-bound, bind-fits}
 use Rattle.buffer.proofs.words.binds_of.Statement.{statement}
 use Rattle.buffer.proofs.words.binds_of.Tie as tie

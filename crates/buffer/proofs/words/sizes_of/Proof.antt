@@ -4,7 +4,7 @@ use mathlib.Core.Path.{refl}
 use native.Mathlib.Omega.{arith}
 use borrow.Author.Needs.{needs}
 use Rattle.rules.specs.Tables.{tableOf, givenCount}
-use Rattle.rules.proofs.TableLaws.{sizes-length}
+use Rattle.laws.proofs.TableLaws.{sizes-length}
 use Rattle.buffer.proofs.Filling.{Filled, filled-start, filled-turn, filled-end, size-bound, size-fits}
 use Rattle.buffer.proofs.words.sizes_of.Statement.{statement}
 use Rattle.buffer.proofs.words.sizes_of.Tie as tie

@@ -8,27 +8,27 @@ use mathlib.Core.Logic.{_⊎_, inl, inr}
 use native.Mathlib.Omega.{arith}
 use lib.ListN.{getD, length}
 use lib.Dec.{T, ltb, leb, eqb, eqb→eq, eqb-refl}
 use Rattle.rules.specs.Types.{Ty, POW}
 use Rattle.rules.specs.Values.{Value, truthValue, weight}
 use Rattle.rules.specs.Kinds.{Quant, forAll, forSome}
 use Rattle.rules.specs.Rules.{Rule, Pattern, testRule, oneRule, twoRule, quantRule, comprehensionRule, Takes}
 use Rattle.rules.specs.Fits.{HasType, FitAt, fits}
 use Rattle.rules.specs.Tables.{Table, Pred, joinᵖ, notᵖ, testᵖ, quantᵖ, Expr, leafᵉ, boolᵉ, oneᵉ, twoᵉ, comprehensionᵉ, root}
 use Rattle.rules.specs.Ends.{End, done, refused}
 use Rattle.rules.specs.Reading.{reading}
 use Rattle.rules.specs.Readable.{Records}
 use Rattle.rules.specs.Cells.{weightLimit, noValue, valuesIn}
 use Rattle.rules.specs.Runs.{Trace, Run, M, goOn, _>>=_, _>>_, demand, counted, visit, emit, form, _orElse_, Given, gives, lacks}
 use Rattle.rules.specs.Operations.{Env, _with_≔_, decides, elems, setOf, leafValue, oneValue, twoValue}
 use Rattle.rules.specs.Evaluation.{fitting, quantify, select, holdsᵖ, valueᵉ, run, evaluation}
 use Rattle.rules.specs.Verdict.{nodePlace, Whole}
 use Rattle.rules.specs.Safety.{Free, Left, EndsSafely, Any, All}
-use Rattle.rules.proofs.FitsLaws.{fits-right}
-use Rattle.rules.proofs.ReadingLaws.{reading-table, reading-readable}
-use Rattle.rules.proofs.TableLaws.{nodes-length}
-use Rattle.rules.proofs.TypedTree.{numberᵉ, Typedᵖ, Typedᵉ, IsExpression, _adding_, Scopedᵖ, Scopedᵉ, typed-root, scoped-root}
-use Rattle.rules.proofs.SetOrder.{all-append}
-use Rattle.rules.proofs.SetTypes.{AllHave, GivenHas, values-have, elems-have, one-has, two-has, leaf-has}
+use Rattle.laws.proofs.FitsLaws.{fits-right}
+use Rattle.laws.proofs.ReadingLaws.{reading-table, reading-readable}
+use Rattle.laws.proofs.TableLaws.{nodes-length}
+use Rattle.laws.proofs.TypedTree.{numberᵉ, Typedᵖ, Typedᵉ, IsExpression, _adding_, Scopedᵖ, Scopedᵉ, typed-root, scoped-root}
+use Rattle.laws.proofs.SetOrder.{all-append}
+use Rattle.laws.proofs.SetTypes.{AllHave, GivenHas, values-have, elems-have, one-has, two-has, leaf-has}
 
 -- It is not refusal 15.
 pub not-15 : {A : Type 0} (Q : A → Type 0) (e : End A) (n : ℕ) → EndsSafely Q e → e ≡ refused 15 n → ⊥

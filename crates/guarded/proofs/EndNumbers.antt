@@ -7,8 +7,8 @@ use Rattle.rules.specs.Ends.{End, done}
 use Rattle.rules.specs.Evaluation.{evaluation}
 use Rattle.rules.specs.Refusals.{RefusesOnly}
 use Rattle.rules.specs.Verdict.{Verdict, accepts}
-use Rattle.rules.proofs.EndLaws.{refuses-imp}
-use Rattle.rules.proofs.RefusalLaws.{verdict-refuses, readable-refuses}
+use Rattle.laws.proofs.EndLaws.{refuses-imp}
+use Rattle.laws.proofs.RefusalLaws.{verdict-refuses, readable-refuses}
 use Rattle.typing.specs.Model.{verdict}
 use Rattle.typing.proofs.VerdictRight.{verdict-right}
 

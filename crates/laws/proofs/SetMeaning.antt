@@ -16,26 +16,26 @@ use lib.IntN.{ℤ, pos, negsuc, _+ℤ_, _-ℤ_, sucℤ, +ℤ-one, +ℤ-assoc, +�
 use lib.Signed.{leZ, _≤ℤ_, leZ-yes}
 use lib.Dec.{T, eqb, ltb, leb→le, le→leb, ltb→lt, nltb→le, T-not, not-T}
 use lib.ListN.{getD, length}
 use Rattle.rules.specs.Types.{Number, Ty, POW, _⊗_}
 use Rattle.rules.specs.Values.{num, element, Value, scalar, pair, set, int, truthValue, payload, same, before}
 use Rattle.rules.specs.Kinds.{Test, equal, member, subset, atMost}
 use Rattle.rules.specs.Kinds.{Leaf, identifier, givenSet, elementOf, literal, truthConst, emptySet, boolSet}
 use Rattle.rules.specs.Kinds.{One, singleton, power, dom, ran, card, choice}
 use Rattle.rules.specs.Kinds.{Two, pairing, union, inter, diff, product, apply, plus, minus, interval}
 use Rattle.rules.specs.Rules.{oneRule, twoRule}
 use Rattle.rules.specs.Fits.{HasType, Fits}
 use Rattle.rules.specs.Cells.{signed, inRange}
 use Rattle.rules.specs.Runs.{Given, gives, lacks}
 use Rattle.rules.specs.Operations.{left, right, elems, setOf, rising, isIn, keep, pairsOf, subsets, upFrom, toCount}
 use Rattle.rules.specs.Operations.{Env, elementsFrom, leafValue, holds, least, pairedWith, applied, ranged, oneValue, twoValue}
-use Rattle.rules.proofs.Basics.{absurd01}
-use Rattle.rules.proofs.OrderLaws.{Small, same-eq, same-refl, before-trans, before-irrefl, small-wellFormed}
-use Rattle.rules.proofs.SetTypes.{AllHave, elems-have}
-use Rattle.rules.proofs.SetOrder.{All, Before, Rising, all-both, all-map, all-append, rising-rising, keep-rising}
-use Rattle.rules.proofs.SetOrder.{right-before, pairs-rising, up-rising, elements-rising, subsets-all, Well, elems-well}
-use Rattle.rules.proofs.Membership.{In, all-in, in-all, in-append, in-left, in-right, in-map, map-in, in-rising, rising-in, same-members}
-use Rattle.rules.proofs.Membership.{left-small, right-small, elems-small, small-sets, values-members, members-values, isIn-right, allIn-right, keep-in, pairs-in}
-use Rattle.rules.proofs.Membership.{subsets-in, up-in, elements-in}
+use Rattle.rules.proofs.Basics.{absurd01, all-both}
+use Rattle.laws.proofs.OrderLaws.{Small, same-eq, same-refl, before-trans, before-irrefl, small-wellFormed}
+use Rattle.laws.proofs.SetTypes.{AllHave, elems-have}
+use Rattle.laws.proofs.SetOrder.{All, Before, Rising, all-map, all-append, rising-rising, keep-rising}
+use Rattle.laws.proofs.SetOrder.{right-before, pairs-rising, up-rising, elements-rising, subsets-all, Well, elems-well}
+use Rattle.laws.proofs.Membership.{In, all-in, in-all, in-append, in-left, in-right, in-map, map-in, in-rising, rising-in, same-members}
+use Rattle.laws.proofs.Membership.{left-small, right-small, elems-small, small-sets, values-members, members-values, isIn-right, allIn-right, keep-in, pairs-in}
+use Rattle.laws.proofs.Membership.{subsets-in, up-in, elements-in}
 
 -- The terms of the meanings.
 

@@ -10,7 +10,7 @@ use Rattle.rules.specs.Evaluation.{evaluation}
 use Rattle.rules.specs.Safety.{Any}
 use Rattle.rules.specs.Verdict.{sheetAfter}
 use Rattle.rules.proofs.Basics.{absurd01}
-use Rattle.rules.proofs.Soundness.{not-15}
+use Rattle.laws.proofs.Soundness.{not-15}
 use Rattle.reading.specs.declared.Refusal.{Refusal}
 use Rattle.checker.specs.declared.Checked.{Checked}
 use Rattle.checker.specs.declared.Checked.the-variants.{Accepted, Refused}

@@ -9,30 +9,30 @@ use native.Mathlib.Omega.{arith}
 use native.Mathlib.Decide.{decLt}
 use lib.Dec.{T, leb, ltb, eqb, leb→le, le→leb, lt→ltb}
 use lib.ListN.{getD, length, List·getD-eq-default}
 use Rattle.rules.specs.Types.{Ty, atom, POW, _⊗_, BOOL, G}
 use Rattle.rules.specs.Values.{Value, scalar, pair, set, Values, truthValue, members, weight, before}
 use Rattle.rules.specs.Kinds.{Quant, forAll, forSome, One, Two}
 use Rattle.rules.specs.Kinds.{Leaf, identifier, givenSet, elementOf, literal, truthConst, emptySet, boolSet, leafFields}
 use Rattle.rules.specs.Kinds.{Kind, join, negation, test, quant, leaf, boolOf, one, two, comprehension, kindOf}
 use Rattle.rules.specs.Rules.{Pattern, inst, Rule, Says, testRule, oneRule, twoRule, quantRule, comprehensionRule}
 use Rattle.rules.specs.Fits.{HasType, Fits, fits, typed}
 use Rattle.rules.specs.Tables.{Node, Table, nodeAt, kindAt, fieldWords, noNode, predOf, exprOf, predAt, exprAt, lastNode, root}
 use Rattle.rules.specs.Tables.{Pred, joinᵖ, notᵖ, testᵖ, quantᵖ, Expr, leafᵉ, boolᵉ, oneᵉ, twoᵉ, comprehensionᵉ}
 use Rattle.rules.specs.Ends as EndsSafely
 use Rattle.rules.specs.Ends.{End, done, refused, require}
 use Rattle.rules.specs.Reading.{reading}
 use Rattle.rules.specs.Readable.{Records, FieldsRight}
 use Rattle.rules.specs.Cells.{wellFormed, good, weightLimit, noValue, Read, value}
 use Rattle.rules.specs.Cells.{orFault, valueFor, nothingLeft, valuesFrom, valuesIn}
 use Rattle.rules.specs.Runs.{Trace, M, goOn, _>>=_, demand, counted, visit, emit, form, _orElse_, Given, gives, lacks}
 use Rattle.rules.specs.Operations.{elems, setOf, elementsFrom, Env, _with_≔_, decides, leafValue, oneValue, twoValue}
 use Rattle.rules.specs.Evaluation.{fitting, quantify, select, holdsᵖ, valueᵉ, run, evaluation}
-use Rattle.rules.proofs.OrderLaws.{and-left, and-right}
-use Rattle.rules.proofs.FitsLaws.{fits-right, typed-right}
-use Rattle.rules.proofs.SetTypes.{AllHave, GivenHas, elems-have, values-have, elements-have, one-has, two-has}
-use Rattle.rules.proofs.SetOrder.{All, all-imp, all-both, all-append, all-at, Any, Before, Rising, signed-right}
-use Rattle.rules.proofs.SetOrder.{elements-rising, elems-light, Well, elems-well, setOf-well, elements-well, GivenWell, one-well, two-well}
-use Rattle.rules.proofs.Basics.{and-of}
+use Rattle.laws.proofs.OrderLaws.{and-left, and-right}
+use Rattle.laws.proofs.FitsLaws.{fits-right, typed-right}
+use Rattle.laws.proofs.SetTypes.{AllHave, GivenHas, elems-have, values-have, elements-have, one-has, two-has}
+use Rattle.laws.proofs.SetOrder.{All, all-imp, all-append, all-at, Any, Before, Rising, signed-right}
+use Rattle.laws.proofs.SetOrder.{elements-rising, elems-light, Well, elems-well, setOf-well, elements-well, GivenWell, one-well, two-well}
+use Rattle.rules.proofs.Basics.{and-of, all-both}
 
 -- `AllHave` of the types' laws is `All` of `HasType`.
 all-of-have : (vs : List Value) (t : Ty) → AllHave vs t → All (λ v. HasType v t) vs

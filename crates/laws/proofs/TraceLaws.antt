@@ -9,26 +9,26 @@ use mathlib.Core.Path.{_≡_, refl, sym, subst, ap, _∙_}
 use native.Mathlib.Omega.{arith}
 use lib.Dec.{T, ltb, leb, eqb, ltb→lt, lt→ltb}
 use lib.ListN.{getD, length, length-append}
 use Rattle.rules.specs.Types.{Ty}
 use Rattle.rules.specs.Values.{Value, truthValue, weight}
 use Rattle.rules.specs.Kinds.{Quant, forAll, forSome}
 use Rattle.rules.specs.Rules.{Rule, testRule, oneRule, twoRule, quantRule, comprehensionRule}
 use Rattle.rules.specs.Fits.{HasType, fits}
 use Rattle.rules.specs.Tables.{Table, Pred, joinᵖ, notᵖ, testᵖ, quantᵖ, Expr, leafᵉ, boolᵉ, oneᵉ, twoᵉ, comprehensionᵉ, root}
 use Rattle.rules.specs.Ends.{End, done, refused}
 use Rattle.rules.specs.Reading.{occurrences, reading}
 use Rattle.rules.specs.Cells.{weightLimit, noValue, valuesIn}
 use Rattle.rules.specs.Runs.{Trace, Run, M, lift, goOn, _>>=_, _>>_, demand, counted, visit, emit, form, _orElse_, Given, gives, lacks}
 use Rattle.rules.specs.Operations.{Env, _with_≔_, decides, elems, setOf, leafValue, oneValue, twoValue}
 use Rattle.rules.specs.Evaluation.{fitting, quantify, select, holdsᵖ, valueᵉ, run, evaluation}
 use Rattle.rules.specs.Verdict.{nodePlace, Whole}
 use Rattle.rules.specs.Safety.{Free, All}
 use Rattle.rules.specs.Visits.{Visit, toPred, toExpr, completed, completedAt, formedAt, Completes}
 use Rattle.rules.specs.Visits.{ifDone, thereafter, unlessDecided, ifFits, stopsAt, memberVisits, visitTo, visitsᵖ, visitsᵉ, runVisits, evaluationVisits}
 use Rattle.rules.proofs.Basics.{absurd01}
-use Rattle.rules.proofs.EndLaws.{T-true}
-use Rattle.rules.proofs.TypedTree.{numberᵉ, IsExpression}
-use Rattle.rules.proofs.Soundness.{AtNode, evaluation-sound}
+use Rattle.laws.proofs.EndLaws.{T-true}
+use Rattle.laws.proofs.TypedTree.{numberᵉ, IsExpression}
+use Rattle.laws.proofs.Soundness.{AtNode, evaluation-sound}
 
 completed-append : (vs ws : List Visit) → completed (vs ++ ws) ≡ completed vs ++ completed ws
 completed-append [] ws = refl

@@ -6,19 +6,19 @@ use mathlib.Core.Path.{refl, sym, subst, _∙_}
 use native.Mathlib.Omega.{arith}
 use lib.IntN.{ℤ, pos, _+ℤ_, _-ℤ_}
 use lib.ListN.{getD}
 use Rattle.rules.specs.Types.{Number, number, Ty, atom, POW, _⊗_, INTEGER, G}
 use Rattle.rules.specs.Values.{num, Value, scalar, pair, set, Values, none, _▸_, members, values, payload, order}
 use Rattle.rules.specs.Kinds.{Leaf, identifier, givenSet, elementOf, literal, truthConst, emptySet, boolSet}
 use Rattle.rules.specs.Kinds.{One, singleton, power, dom, ran, card, choice}
 use Rattle.rules.specs.Kinds.{Two, pairing, union, inter, diff, product, apply, plus, minus, interval}
 use Rattle.rules.specs.Rules.{leafRule, oneRule, twoRule, Says, Obeys}
 use Rattle.rules.specs.Fits.{HasType, HaveType, FitAt}
 use Rattle.rules.specs.Cells.{inRange}
 use Rattle.rules.specs.Runs.{Given, gives, lacks}
 use Rattle.rules.specs.Operations.{left, right, elems, setOf, placed, insert, rising, isIn, keptValue, keep, pairedWith}
 use Rattle.rules.specs.Operations.{pairsOf, subsets, upFrom, toCount, elementsFrom}
 use Rattle.rules.specs.Operations.{Env, leafValue, least, ranged, oneValue, twoValue}
-use Rattle.rules.proofs.TypedTree.{Uses}
+use Rattle.laws.proofs.TypedTree.{Uses}
 
 -- All values of a list have a type.
 abbrev pub AllHave : List Value → Ty → Type 0

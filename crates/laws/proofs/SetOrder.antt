@@ -9,32 +9,27 @@ use native.Mathlib.Omega.{arith}
 use lib.IntN.{ℤ, pos, negsuc, _+ℤ_, _-ℤ_, sucℤ, +ℤ-one, -ℤ-+ℤ-cancel}
 use lib.Dec.{T, ltb, leb→le, le→leb, ltb→lt, lt→ltb, nltb→le}
 use lib.ListN.{getD, length}
 use Rattle.rules.specs.Types.{Number, whole, number, Ty, atom}
 use Rattle.rules.specs.Kinds.{One, singleton, power, dom, ran, card, choice}
 use Rattle.rules.specs.Kinds.{Two, pairing, union, inter, diff, product, apply, plus, minus, interval}
 use Rattle.rules.specs.Rules.{twoRule}
 use Rattle.rules.specs.Values.{num, truth, element, Value, scalar, pair, set, Values, none, _▸_, int}
 use Rattle.rules.specs.Values.{members, values, weight, weights, payload, order, before, compareℤ, _then_}
 use Rattle.rules.specs.Fits.{HasType, FitAt}
 use Rattle.rules.specs.Cells.{signed, inRange, precedes, wellFormed, risingAll}
 use Rattle.rules.specs.Runs.{Given, gives, lacks}
 use Rattle.rules.specs.Operations.{left, right, elems, setOf, placed, insert, rising, isIn, keptValue, keep, pairsOf, subsets, pairedWith}
 use Rattle.rules.specs.Operations.{upFrom, toCount, elementsFrom, least, ranged, oneValue, twoValue}
 pub use Rattle.rules.specs.Safety.{All, Any}
-use Rattle.rules.proofs.OrderLaws.{flip, lt-compare, order-refl, order-flip, order-pair, order-int, order-element}
-use Rattle.rules.proofs.OrderLaws.{before-order, order-before, before-trans, and-left, and-right}
-use Rattle.rules.proofs.Basics.{and-of}
-use Rattle.rules.proofs.CellsLaws.{weight-some}
+use Rattle.laws.proofs.OrderLaws.{flip, lt-compare, order-refl, order-flip, order-pair, order-int, order-element}
+use Rattle.laws.proofs.OrderLaws.{before-order, order-before, before-trans, and-left, and-right}
+use Rattle.rules.proofs.Basics.{and-of, all-both}
+use Rattle.laws.proofs.CellsLaws.{weight-some}
 
 -- What follows from P holds where P does.
 pub all-imp : {A : Type 0} (P Q : A → Type 0) → ((x : A) → P x → Q x) → (xs : List A) → All P xs → All Q xs
 all-imp P Q f [] h = tt
 all-imp P Q f (x ∷ xs) h = (f x (h .0), all-imp P Q f xs (h .1))
-
--- Both P and Q hold where each does.
-pub all-both : {A : Type 0} (P Q : A → Type 0) (xs : List A) → All P xs → All Q xs → All (λ x. P x × Q x) xs
-all-both P Q [] h k = tt
-all-both P Q (x ∷ xs) h k = ((h .0, k .0), all-both P Q xs (h .1) (k .1))
 
 -- The images have Q where f takes P to Q.
 pub all-map : {A B : Type 0} (P : A → Type 0) (Q : B → Type 0) (f : A → B) → ((x : A) → P x → Q (f x)) →

@@ -10,27 +10,27 @@ use native.Mathlib.Omega.{arith}
 use lib.Dec.{ltb, leb}
 use lib.ListN.{getD, length}
 use lib.IntN.{ℤ, _+ℤ_, _-ℤ_}
 use Rattle.rules.specs.Types.{Number}
 use Rattle.rules.specs.Values.{Value, scalar, num, truthValue, payload, weight}
 use Rattle.rules.specs.Kinds.{Quant, forAll, forSome, One, singleton, power, dom, ran, card, choice}
 use Rattle.rules.specs.Kinds.{Two, pairing, union, inter, diff, product, apply, plus, minus, interval}
 use Rattle.rules.specs.Rules.{Rule, testRule, oneRule, twoRule, quantRule, comprehensionRule}
 use Rattle.rules.specs.Fits.{fits}
 use Rattle.rules.specs.Tables.{Table, identifierCount, nodeCount}
 use Rattle.rules.specs.Ends.{End, done, refused, require}
 use Rattle.rules.specs.Reading.{reading}
 use Rattle.rules.specs.Readable.{Records}
 use Rattle.rules.specs.Cells.{inRange, weightLimit, noValue, Read, value, good, orFault, valueFor, nothingLeft, valuesFrom, valuesIn}
 use Rattle.rules.specs.Runs.{Trace, Run, M, goOn, _>>=_, _>>_, demand, counted, visit, emit, form, _orElse_, Given, gives, lacks}
 use Rattle.rules.specs.Operations.{Env, _with_≔_, decides, elems, right, keep, pairedWith, setOf, least, applied, ranged, leafValue, oneValue, twoValue}
 use Rattle.rules.specs.Evaluation.{fitting, quantify, select, holdsᵖ, valueᵉ, run, evaluation}
 use Rattle.rules.specs.Refusals.{PlaceInRange, RefusesOnly}
 use Rattle.rules.specs.Safety.{EndsSafely}
 use Rattle.rules.specs.Verdict.{Place, Verdict, unreadable, misfit, clash, several, heavy, accepts}
-use Rattle.rules.proofs.EndLaws.{T-ltb, T-false, refuses-imp, refuses-bind, require-refuses}
-use Rattle.rules.proofs.TableLaws.{binds-length, nodes-length}
-use Rattle.rules.proofs.ReadingLaws.{reading-table, reading-readable, reading-refuses}
-use Rattle.rules.proofs.TreeInduction.{HandsOn, root-has}
+use Rattle.laws.proofs.EndLaws.{T-ltb, T-false, refuses-imp, refuses-bind, require-refuses}
+use Rattle.laws.proofs.TableLaws.{binds-length, nodes-length}
+use Rattle.laws.proofs.ReadingLaws.{reading-table, reading-readable, reading-refuses}
+use Rattle.laws.proofs.TreeInduction.{HandsOn, root-has}
 
 -- A table has as many identifiers and nodes as the header of its bytes says.
 module _ (bs : List ℕ) {tb : Table} (e : reading bs ≡ done tb) where

@@ -10,15 +10,15 @@ use lib.IntN.{ℤ, pos, negsuc}
 use lib.Dec.{T, eqb, leb, ltb, leb→le, le→leb, ltb→lt, lt→ltb, eqb→eq}
 use lib.ListN.{getD, length, drop, length-append, List·getD-eq-default}
 use lib.Seq.{drop-cons}
 use Rattle.rules.specs.Types.{whole}
 use Rattle.rules.specs.Values.{Scalar, num, truth, element, Value, scalar, pair, set, Values, none, _▸_, int, truthValue, bit}
 use Rattle.rules.specs.Values.{scalarTag, scalarPayload, tag, payload, weight, weights, count}
 use Rattle.rules.specs.Tables.{wordAt}
 use Rattle.rules.specs.Cells.{bytes4, twos, signed, inRange, cell, cells, cellsOf, wellFormed, risingAll, precedes, weightLimit, good}
 use Rattle.rules.specs.Cells.{Read, _andThen_, onlyIf, readMany, byTag, valueTo, value}
 use Rattle.rules.specs.Fits.{typed}
-use Rattle.rules.proofs.OrderLaws.{and-left, and-right, Small, small-wellFormed}
+use Rattle.laws.proofs.OrderLaws.{and-left, and-right, Small, small-wellFormed}
 use Rattle.rules.proofs.Basics.{and-of}
 
 -- A number that a word holds.
 abbrev pub Word : ℕ → Type 0

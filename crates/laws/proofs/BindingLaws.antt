@@ -13,26 +13,26 @@ use native.Mathlib.Decide.{ℕ-discrete, decLt}
 use native.Mathlib.Omega.{arith}
 use lib.Dec.{T, ltb, ltb→lt, eqb, eqb→eq, eqb-refl}
 use lib.ListN.{getD, length, take}
 use Rattle.rules.specs.Kinds.{Kind, join, negation, test, quant, leaf, boolOf, one, two, comprehension}
 use Rattle.rules.specs.Kinds.{identifier, givenSet, elementOf, literal, truthConst, emptySet, boolSet}
 use Rattle.rules.specs.Kinds.{Category, predicate, expression, isChild, isBinder}
 use Rattle.rules.specs.Kinds.{Field, unused, child, use-of, binder-of, setNumber, elementNumber, anyWord, truthBit}
 use Rattle.rules.specs.Tables.{Node, Table, nodeAt, kindAt, fieldsIf, fieldsAt, fieldWords, pick, held, heldIn, lastNode}
 use Rattle.rules.specs.Tables.{tableOf, identifierCount, nodeCount}
 use Rattle.rules.specs.Ends.{End, done, refused, require, unlessFound, requireAll}
 use Rattle.rules.specs.Reading.{headed, limited, laidOut, nodeGood, parentGood, occurrences, binders}
 use Rattle.rules.specs.Reading.{occursIn, occursInAny, bindsHere, occursFree, binding, reading}
 use Rattle.rules.specs.Readable.{CategoryIs, FieldsRight, NodeRight, BindingRight, Readable}
 use Rattle.rules.specs.Binding.{ChildOf, InTree, top, UsesAt, BinderKind, BindsAt, InRangeTree, InBodyTree, InScopeOf}
 use Rattle.rules.specs.Binding.{UsedInBody, WrittenFor, BindingWritten}
 use Rattle.rules.proofs.Basics.{absurd01}
-use Rattle.rules.proofs.EndLaws.{T-true, T-false, T-leb, require-refused, unlessFound-refused}
-use Rattle.rules.proofs.EndLaws.{requireAll-done, requireAll-refused, Each, inTurn, inTurn-done, inTurn-passed}
-use Rattle.rules.proofs.TableLaws.{nodes-length, fields-right, occursFree-at}
-use Rattle.rules.proofs.TreeLaws.{holder, one-held, two-held, only-held, InFields, field-picked, in-right, HasField, held-field, field-held}
-use Rattle.rules.proofs.TreeLaws.{tree-above, tree-split, child-lower, one-parent, parent, trees-apart}
-use Rattle.rules.proofs.ReadingLaws.{nodeGood-right, parentGood-right, binding-right, stages, reading-stages, reading-right}
-use Rattle.rules.proofs.ReadingLaws.{badSize, badWord, badNode, badParent, badHeight, badBinding}
+use Rattle.laws.proofs.EndLaws.{T-true, T-false, T-leb, require-refused, unlessFound-refused}
+use Rattle.laws.proofs.EndLaws.{requireAll-done, requireAll-refused, Each, inTurn, inTurn-done, inTurn-passed}
+use Rattle.laws.proofs.TableLaws.{nodes-length, fields-right, occursFree-at}
+use Rattle.laws.proofs.TreeLaws.{holder, one-held, two-held, only-held, InFields, field-picked, in-right, HasField, held-field, field-held}
+use Rattle.laws.proofs.TreeLaws.{tree-above, tree-split, child-lower, one-parent, parent, trees-apart}
+use Rattle.laws.proofs.ReadingLaws.{nodeGood-right, parentGood-right, binding-right, stages, reading-stages, reading-right}
+use Rattle.laws.proofs.ReadingLaws.{badSize, badWord, badNode, badParent, badHeight, badBinding}
 
 T-or : (a b : Bool) → T (a || b) ↔ (T a ⊎ T b)
 T-or true b = (λ t. inl tt, λ s. tt)

@@ -9,11 +9,11 @@ use native.Mathlib.Omega.{arith}
 use native.Mathlib.Decide.{ℕ-discrete}
 use lib.IntN.{ℤ, pos, _+ℤ_, +ℤ-idr, +ℤ-assoc}
 use lib.Dec.{T}
 use Rattle.rules.specs.Values.{element, Value, scalar, pair, set, Values, none, _▸_, int, members, values, order, same}
 use Rattle.rules.specs.Operations.{left, right, elems, setOf, placed, insert, rising, isIn, allIn, keptValue, keep, pairsOf, subsets, upFrom, elementsFrom}
 use Rattle.rules.proofs.Basics.{and-of, and-split}
-use Rattle.rules.proofs.OrderLaws.{Small, Smalls, order-eq, same-eq, same-refl, before-trans, before-irrefl}
-use Rattle.rules.proofs.SetOrder.{All, Before, Rising, all-imp, all-map, rising-all, subsets-all, subsets-rising}
+use Rattle.laws.proofs.OrderLaws.{Small, Smalls, order-eq, same-eq, same-refl, before-trans, before-irrefl}
+use Rattle.laws.proofs.SetOrder.{All, Before, Rising, all-imp, all-map, rising-all, subsets-all, subsets-rising}
 
 -- Membership.
 abbrev pub In : {A : Type 0} → A → List A → Type 0

@@ -16,11 +16,11 @@ use Rattle.rules.specs.Ends.{End, done, refused}
 use Rattle.rules.specs.Verdict.{nodePlace, Place, Whole, sheetLength, Verdict, accepts, sheetAfter}
 use Rattle.rules.specs.Evaluation.{evaluation}
 use Rattle.rules.specs.Safety.{Any}
-use Rattle.rules.proofs.ReadingLaws.{reading-table}
+use Rattle.laws.proofs.ReadingLaws.{reading-table}
 use Rattle.rules.proofs.TypeLaws.{row-injective}
-use Rattle.rules.proofs.SetOrder.{all-imp}
-use Rattle.rules.proofs.TypedTree.{IsExpression}
-use Rattle.rules.proofs.Soundness.{AtNode, not-15, evaluation-sound}
+use Rattle.laws.proofs.SetOrder.{all-imp}
+use Rattle.laws.proofs.TypedTree.{IsExpression}
+use Rattle.laws.proofs.Soundness.{AtNode, not-15, evaluation-sound}
 use Rattle.typing.specs.Model.{verdict}
 use Rattle.typing.proofs.VerdictRight.{verdict-right}
 use Rattle.rows.proofs.Sheet.{sheet-row, sheetOf-length}
@@ -30,7 +30,7 @@ use Rattle.conforms.specs.Rows.{SheetFits}
 use Rattle.conforms.proofs.ConformingLaws.{conforming-right}
 use Rattle.falgrumi.specs.Guarantee.{Guaranteed}
 use Rattle.falgrumi.proofs.EndNumbers.{NumberFrom, verdict-numbers}
-use Rattle.rules.proofs.VerdictLaws.{one-table}
+use Rattle.laws.proofs.VerdictLaws.{one-table}
 
 -- The rows are those of a typing of the table.
 record RowsOfTyping (bs rows : List ℕ) : Type 0 where

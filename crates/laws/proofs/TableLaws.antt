@@ -8,15 +8,15 @@ use mathlib.Core.Path.{_≡_, refl, ap, ap₂, _∙_}
 use native.Mathlib.Omega.{arith}
 use lib.Dec.{eqb, eqb→eq}
 use lib.ListN.{getD, length}
 use Rattle.rules.specs.Kinds.{Kind, predicate, expression, isChild}
 use Rattle.rules.specs.Kinds.{Field, unused, child, use-of, binder-of, setNumber, elementNumber, anyWord, truthBit}
 use Rattle.rules.specs.Tables.{wordAt, wordsFrom, Node, nodeFrom, nodesFrom, Table, tableOf, nodeAt, kindAt, noNode}
 use Rattle.rules.specs.Tables.{givenCount, identifierCount, nodeCount, identifiersAt, nodesAt}
 use Rattle.rules.specs.Tables.{fieldsAt, fieldsIf, fieldWords, pick, held}
 use Rattle.rules.specs.Reading.{occurrences, upward, tallest, heightStep, height}
 use Rattle.rules.specs.Reading.{occursIn, occursInAny, bindsHere, occursStep, occursFree}
 use Rattle.rules.specs.Readable.{FieldRight, FieldsRight, KindRight, NodeRight}
-use Rattle.rules.proofs.EndLaws.{Each}
+use Rattle.laws.proofs.EndLaws.{Each}
 
 wordsFrom-length : (bs : List ℕ) (i n : ℕ) → length (wordsFrom bs i n) ≡ n
 unfolding wordsFrom

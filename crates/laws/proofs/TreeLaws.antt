@@ -10,15 +10,15 @@ use native.Mathlib.Decide.{ℕ-discrete, decLt}
 use native.Mathlib.Omega.{arith}
 use lib.Dec.{eqb, eqb→eq, eqb-refl}
 use lib.ListN.{length}
 use Rattle.rules.specs.Kinds.{Category, isChild}
 use Rattle.rules.specs.Kinds.{Field, unused, child, use-of, binder-of, setNumber, elementNumber, anyWord, truthBit}
 use Rattle.rules.specs.Tables.{Node, Table, nodeAt, fieldsAt, fieldWords, keptIf, pick, held, heldIn, lastNode}
 use Rattle.rules.specs.Reading.{occurrences}
 use Rattle.rules.specs.Readable.{FieldRight, FieldsRight, NodeRight}
 use Rattle.rules.specs.Binding.{ChildOf, InTree, top, under}
 use Rattle.rules.proofs.Basics.{absurd01}
-use Rattle.rules.proofs.EndLaws.{T-true}
-use Rattle.rules.proofs.TableLaws.{child-below}
+use Rattle.laws.proofs.EndLaws.{T-true}
+use Rattle.laws.proofs.TableLaws.{child-below}
 
 pub occurrences-append : (m : ℕ) (xs ys : List ℕ) → occurrences m (xs ++ ys) ≡ occurrences m xs + occurrences m ys
 unfolding occurrences

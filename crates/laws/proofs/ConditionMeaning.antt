@@ -10,27 +10,27 @@ use mathlib.Core.Path.{_≡_, refl, sym, ap, _∙_, subst, subst₂}
 use native.Mathlib.Omega.{arith}
 use lib.Dec.{T, T-not, not-T}
 use lib.ListN.{getD, length}
 use Rattle.rules.specs.Values.{Value, truthValue}
 use Rattle.rules.specs.Kinds.{Join, and, or, implies, iff, Test, Quant, forAll, forSome}
 use Rattle.rules.specs.Kinds.{Leaf, identifier, givenSet, elementOf, literal, truthConst, emptySet, boolSet}
 use Rattle.rules.specs.Rules.{Rule, testRule, oneRule, twoRule, quantRule, comprehensionRule}
 use Rattle.rules.specs.Fits.{Fits}
 use Rattle.rules.specs.Tables.{Table, Pred, joinᵖ, notᵖ, testᵖ, quantᵖ, Expr, leafᵉ, boolᵉ, oneᵉ, twoᵉ, comprehensionᵉ, lastNode, root}
 use Rattle.rules.specs.Ends.{End, done, refused}
 use Rattle.rules.specs.Reading.{reading}
 use Rattle.rules.specs.Readable.{Records}
 use Rattle.rules.specs.Cells.{noValue, valuesIn}
 use Rattle.rules.specs.Runs.{M, return, _>>=_, visit, form, _orElse_, Given, gives}
 use Rattle.rules.specs.Operations.{elems, setOf, Env, _with_≔_, decides, joined, holds, leafValue, oneValue, twoValue}
 use Rattle.rules.specs.Evaluation.{fitting, quantify, select, holdsᵖ, valueᵉ, run, evaluation}
-use Rattle.rules.proofs.CellsLaws.{good-wellFormed, size-below}
-use Rattle.rules.proofs.ReadingLaws.{reading-table, reading-readable}
-use Rattle.rules.proofs.Soundness.{evaluation-run}
-use Rattle.rules.proofs.SetOrder.{All, Any, Before, Rising, all-imp, elems-well}
-use Rattle.rules.proofs.Membership.{In, all-in, in-all}
-use Rattle.rules.proofs.SetMeaning.{_∈_, IsSetOf, TestMeans, OneMeans, TwoMeans, LeafMeans}
-use Rattle.rules.proofs.SetMeaning.{set-of, setOf-only, test-means, one-means, two-means, leaf-means, one-only, two-only}
-use Rattle.rules.proofs.FormedLaws.{Ended, Forms, bind, visit-forms, fitting-forms, given-forms, Good, EnvGood, Leavesᵖ, Leavesᵉ, elems-good, with-good, expr-forms, predAt-leaves, valuesIn-good}
+use Rattle.laws.proofs.CellsLaws.{good-wellFormed, size-below}
+use Rattle.laws.proofs.ReadingLaws.{reading-table, reading-readable}
+use Rattle.laws.proofs.Soundness.{evaluation-run}
+use Rattle.laws.proofs.SetOrder.{All, Any, Before, Rising, all-imp, elems-well}
+use Rattle.laws.proofs.Membership.{In, all-in, in-all}
+use Rattle.laws.proofs.SetMeaning.{_∈_, IsSetOf, TestMeans, OneMeans, TwoMeans, LeafMeans}
+use Rattle.laws.proofs.SetMeaning.{set-of, setOf-only, test-means, one-means, two-means, leaf-means, one-only, two-only}
+use Rattle.laws.proofs.FormedLaws.{Ended, Forms, bind, visit-forms, fitting-forms, given-forms, Good, EnvGood, Leavesᵖ, Leavesᵉ, elems-good, with-good, expr-forms, predAt-leaves, valuesIn-good}
 
 -- 1, 2, 3 and 5
 abbrev pub JoinMeans : Join → Type 0 → Type 0 → Type 0

@@ -9,21 +9,21 @@ use mathlib.Core.Path.{_≡_, refl, sym, _∙_}
 use native.Mathlib.Omega.{arith}
 use lib.Dec.{T, leb, ltb}
 use lib.ListN.{getD, length}
 use Rattle.rules.specs.Kinds.{Kind}
 use Rattle.rules.specs.Kinds.{Category, predicate, expression, categoryOf, isPredicate, isExpression, fieldsOf, isChild}
 use Rattle.rules.specs.Kinds.{Field, unused, child, use-of, binder-of, setNumber, elementNumber, anyWord, truthBit}
 use Rattle.rules.specs.Tables.{wordAt, Table, tableOf, nodeAt, kindAt, fieldsIf, fieldWords, heldIn, lastNode}
 use Rattle.rules.specs.Tables.{givenCount, identifierCount, nodeCount, givensAt, identifiersAt, nodesAt, wholeLength}
 use Rattle.rules.specs.Ends.{End, done, refused, require, unlessFound, leastFailing, requireAll}
 use Rattle.rules.specs.Reading.{headed, limited, laidOut, sizeGood, bindGood, categoryIs, fieldGood, fieldsGood, known, nodeGood}
 use Rattle.rules.specs.Reading.{occurrences, parentGood, height, heightLimit, heightGood, binders, occursFree, boundRight, binding}
 use Rattle.rules.specs.Reading.{reading}
 use Rattle.rules.specs.Readable.{CategoryIs, FieldRight, FieldsRight, KindRight, NodeRight, BindingRight, Header, Records, Readable}
 use Rattle.rules.specs.Refusals.{refusalPlaces, PlaceInRange, RefusesOnly}
-use Rattle.rules.proofs.EndLaws.{T-true, T-and, T-leb, T-ltb, T-eqb, requireAll-done}
-use Rattle.rules.proofs.EndLaws.{require-done, require-refuses, requireAll-refuses, Each, inTurn, inTurn-done, inTurn-passed, inTurn-refuses}
-use Rattle.rules.proofs.TableLaws.{sizes-length, binds-length, nodes-length}
+use Rattle.laws.proofs.EndLaws.{T-true, T-and, T-leb, T-ltb, T-eqb, requireAll-done}
+use Rattle.laws.proofs.EndLaws.{require-done, require-refuses, requireAll-refuses, Each, inTurn, inTurn-done, inTurn-passed, inTurn-refuses}
+use Rattle.laws.proofs.TableLaws.{sizes-length, binds-length, nodes-length}
 use Rattle.rules.proofs.Basics.{_&_, absurd01}
 
 -- Refusals 1 to 3.
 pub headed-right : (bs : List ℕ) → T (headed bs) ↔ ((32 ≤ length bs) × (wordAt bs 0 ≡ 1))

@@ -1,0 +1,21 @@
+-- The laws of the definitions, which everything above rests on.
+pub mod EndLaws
+pub mod TableLaws
+pub mod TreeLaws
+pub mod ReadingLaws
+pub mod BindingLaws
+pub mod OrderLaws
+pub mod CellsLaws
+pub mod FitsLaws
+pub mod TreeInduction
+pub mod TypedTree
+pub mod SetTypes
+pub mod Soundness
+pub mod SetOrder
+pub mod Membership
+pub mod SetMeaning
+pub mod FormedLaws
+pub mod TraceLaws
+pub mod ConditionMeaning
+pub mod VerdictLaws
+pub mod RefusalLaws
