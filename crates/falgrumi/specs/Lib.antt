@@ -1,3 +1,2 @@
--- What the public functions answer, and what demand 3 says of it.
-pub mod Guarantee
+-- What the public functions answer.
 pub mod Answers

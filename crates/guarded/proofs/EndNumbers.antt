@@ -1,5 +1,5 @@
 -- The numbers of refusals: Check's are 1 to 13, and those of an evaluation of a table that Check accepts 14 to 19, whatever the values. So
--- the number of a checked evaluation tells which of the two has refused. From the laws of all refusals (rules/proofs/RefusalLaws.antt).
+-- the number of a checked evaluation tells which of the two has refused. From the laws of all refusals (laws/proofs/RefusalLaws.antt).
 use Prim.Native.Nat.{ℕ, _≤_}
 use mathlib.Core.List.{List}
 use mathlib.Core.Path.{_≡_, subst}

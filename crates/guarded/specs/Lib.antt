@@ -1,0 +1,2 @@
+-- Demand 3's guarantee, and the checked evaluation.
+pub mod Guarantee
