@@ -15,6 +15,13 @@ use Rattle.io.specs.Digits.{glyph}
 use Rattle.rules.specs.Verdict.{rowsFrom}
 use Rattle.text.specs.Text.{space, newline, decimalIn, decimalOf, hexByte, hexOf, unfilled, codesText, rowText, letterOf, indexOf, lineOf, sheetRow, linesOf, refusedWord, refusalLine, Appends}
 
+-- The character of a digit below 10, and of one from 10 on.
+pub glyph-low : (d : ℕ) → d < 10 → 48 + d ≡ glyph d
+glyph-low d h = simp (lt-ltb d 10 h)
+
+pub glyph-high : (d : ℕ) → 10 ≤ d → 87 + d ≡ glyph d
+glyph-high d h = simp (le-ltb d 10 h)
+
 -- A byte, then a text after a text.
 pub put-appends : (l : List ℕ) (i b : ℕ) → i < length l → Appends l i (b ∷ []) (i + 1) (set l i b)
 put-appends l i b h = record {
