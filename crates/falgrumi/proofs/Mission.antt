@@ -29,7 +29,7 @@ use Rattle.laws.proofs.VerdictLaws.{one-table, accepted-where, rows-where, unty
 use Rattle.laws.proofs.RefusalLaws.{verdict-refuses, evaluation-refuses, safe-refuses}
 use Rattle.laws.proofs.TraceLaws.{completed-have}
 use Rattle.typing.proofs.VerdictRight.{verdict-right}
-use Rattle.guarded.proofs.Demand.{guarantee}
+use Rattle.falgrumi.proofs.Demand.{guarantee}
 
 -- DEMAND 1. Every answer of Check is acceptance or one of the refusals 1 to 13, and its place is one that this refusal may name.
 abbrev pub Demand1-Check : Type 0

@@ -7,7 +7,7 @@ use Rattle.rules.specs.Values.{bit}
 use Rattle.rules.specs.Ends.{End, done, refused, _>>=_}
 use Rattle.evaluate.specs.declared.Truth.{Truth}
 use Rattle.evaluate.specs.declared.Truth.the-variants.{True, False}
-use Rattle.guarded.specs.Guarantee.{Report}
+use Rattle.falgrumi.specs.Guarantee.{Report}
 
 abbrev pub numberOf : {A : Type 0} → End A → ℕ
 numberOf (done a) = 0

@@ -1,2 +1,3 @@
--- What the public functions answer.
+-- What the public functions answer, and what demand 3 says of it.
+pub mod Guarantee
 pub mod Answers

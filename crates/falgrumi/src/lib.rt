@@ -3,7 +3,7 @@ use checker::Checked;
 use evaluate::Ending;
 use evaluate::Evaluation;
 use evaluate::Truth;
-use guarded::Guarded;
+use reading::Refusal;
 ghost use mathlib.Core.Path.{_≡_};
 ghost use lib.ListN.{length};
 ghost use Rattle.rules.specs.Values.{bit};
@@ -12,7 +12,7 @@ ghost use Rattle.typing.specs.Model.{verdict};
 ghost use Rattle.rules.specs.Evaluation.{evaluation};
 ghost use Rattle.evaluate.specs.Result.{endingOf};
 ghost use Rattle.conforms.specs.Conforming.{conforming};
-ghost use Rattle.guarded.specs.Guarantee.{checkedEvaluation};
+ghost use Rattle.falgrumi.specs.Guarantee.{checkedEvaluation, guardedOf};
 ghost use Rattle.falgrumi.specs.Answers.{byteOf, TellsEnd, TellsRun, TellsReport};
 
 // Check: the refusal's number, 0 where the table is accepted; its place goes to `place`.
@@ -100,6 +100,40 @@ pub extern "C" fn falgrumi_conforms(table: &[u8], sheet: &[u8], values: &[u8]) -
     conforms::conforms(table, sheet, values)
 }
 
+// An evaluation of an accepted table, and whether the values have the types that Check wrote: then demand 3's guarantee holds
+// of it.
+pub struct GuardedRun {
+    pub evaluation: Evaluation,
+    pub conforms: bool,
+}
+
+// A checked evaluation: Check's refusal, or the evaluation.
+pub enum Guarded {
+    Refused(Refusal),
+    Evaluated(GuardedRun),
+}
+
+// Checks the table, and where it is accepted evaluates it and tests the values against the sheet.
+pub fn checked_evaluation(table: &[u8], sheet: &mut [u8], values: &[u8], budget: u32) -> Guarded
+    ensures { λ r. ⌜
+        (guardedOf r ≡ checkedEvaluation (now (table .entry)) (length (now (sheet .entry))) (now (values .entry)) budget) ×
+        (now (sheet .exit) ≡ sheetAfter (verdict (now (table .entry)) (length (now (sheet .entry)))) (now (sheet .entry)))
+        ⌝ }
+{
+    let checked = checker::check(table, sheet);
+    match checked {
+        Checked::Refused(r) => Guarded::Refused(r),
+        Checked::Accepted => {
+            let e = evaluate::evaluate(table, values, budget);
+            let c = conforms::conforms(table, sheet, values);
+            Guarded::Evaluated(GuardedRun {
+                evaluation: e,
+                conforms: c,
+            })
+        }
+    }
+}
+
 // A checked evaluation: the number of Check's refusal, else of the evaluation's, 0 where there is none. Whether the values
 // conform goes to `conforms`, the rest as in `falgrumi_evaluate`.
 #[no_mangle]
@@ -119,7 +153,7 @@ pub extern "C" fn falgrumi_checked_evaluate(
         (now (sheet .exit) ≡ sheetAfter (verdict (now (table .entry)) (length (now (sheet .entry)))) (now (sheet .entry)))
         ⌝ }
 {
-    let guarded = guarded::checked_evaluation(table, sheet, values, budget);
+    let guarded = checked_evaluation(table, sheet, values, budget);
     match guarded {
         Guarded::Refused(r) => {
             *conforms = 0;

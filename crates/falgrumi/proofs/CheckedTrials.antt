@@ -7,7 +7,7 @@ use Rattle.rules.specs.Ends.{End, done, refused}
 use Rattle.rules.specs.Tables.{Table}
 use Rattle.rules.specs.Verdict.{sheetLength}
 use Rattle.rules.proofs.Rows.{toBytes, wordsOf, p1, p2, p4, p8}
-use Rattle.guarded.specs.Guarantee.{Report, checkedEvaluation}
+use Rattle.falgrumi.specs.Guarantee.{Report, checkedEvaluation}
 
 -- A table, the length of the sheet lent, the words of the values' cells, and the answer; the budget is 100.
 record Trial : Type 0 where

@@ -1,9 +1,9 @@
 -- `checked_evaluation`: Check's answer, and those of the other two calls where it accepts.
-use Rattle.guarded.proofs.CheckedLaws.{checked-refused, checked-accepted}
+use Rattle.falgrumi.proofs.CheckedLaws.{checked-refused, checked-accepted}
 use denote.Ref.{now}
 use borrow.Author.Needs.{needs}
-use Rattle.guarded.proofs.checked_evaluation.Statement.{statement}
-use Rattle.guarded.proofs.checked_evaluation.Tie as tie
+use Rattle.falgrumi.proofs.checked_evaluation.Statement.{statement}
+use Rattle.falgrumi.proofs.checked_evaluation.Tie as tie
 
 check-requires : tie.Need-check-requires
 check-requires c κs = search needs

@@ -18,9 +18,9 @@ use Rattle.checker.specs.Answers.{answerOf, answered}
 use Rattle.typing.specs.Model.{verdict}
 use Rattle.conforms.specs.Conforming.{conforming}
 use Rattle.conforms.proofs.ConformingLaws.{conforming-right}
-use Rattle.guarded.specs.Guarantee.{Report, checkedEvaluation, TellsGuarantee}
-use Rattle.guarded.proofs.Demand.{guarantee, accepted-fits}
-use Rattle.guarded.proofs.EndNumbers.{NumberFrom, verdict-numbers, accepted-numbers}
+use Rattle.falgrumi.specs.Guarantee.{Report, checkedEvaluation, TellsGuarantee}
+use Rattle.falgrumi.proofs.Demand.{guarantee, accepted-fits}
+use Rattle.falgrumi.proofs.EndNumbers.{NumberFrom, verdict-numbers, accepted-numbers}
 
 -- The report that is made of rows: `checkedEvaluation` is the verdict, and then this.
 module _ (bs buffer : List ℕ) (budget : ℕ) where

@@ -1,8 +1,10 @@
--- Demand 3 of document 01 as one claim, `guarantee`.
+-- Demand 3 of document 01 as one claim, `guarantee`, and what it says of the calls.
 use Prim.Native.Nat.{ℕ}
+use mathlib.Core.Bool.{true}
 use mathlib.Core.List.{List}
 use mathlib.Core.Path.{_≡_, refl, sym, ap, subst, _∙_}
 use mathlib.Core.Logic.{inl, inr}
+use native.Mathlib.Omega.{arith}
 use lib.ListN.{getD, length}
 use Rattle.rules.specs.Types.{Ty, row}
 use Rattle.rules.specs.Values.{Value}
@@ -11,7 +13,7 @@ use Rattle.rules.specs.Cells.{noValue}
 use Rattle.rules.specs.Tables.{Table}
 use Rattle.rules.specs.Reading.{reading}
 use Rattle.rules.specs.Ends.{End, done, refused}
-use Rattle.rules.specs.Verdict.{nodePlace, Place, Whole, sheetLength, Verdict, accepts}
+use Rattle.rules.specs.Verdict.{nodePlace, Place, Whole, sheetLength, Verdict, accepts, sheetAfter}
 use Rattle.rules.specs.Evaluation.{evaluation}
 use Rattle.rules.specs.Safety.{Any}
 use Rattle.laws.proofs.ReadingLaws.{reading-table}
@@ -22,9 +24,12 @@ use Rattle.laws.proofs.Soundness.{AtNode, not-15, evaluation-sound}
 use Rattle.typing.specs.Model.{verdict}
 use Rattle.typing.proofs.VerdictRight.{verdict-right}
 use Rattle.rows.proofs.Sheet.{sheet-row, sheetOf-length}
-use Rattle.conforms.specs.Conforming.{rowAt, HasWritten, Conforming}
+use Rattle.falgrumi.specs.Answers.{numberOf}
+use Rattle.conforms.specs.Conforming.{rowAt, HasWritten, Conforming, conforming}
 use Rattle.conforms.specs.Rows.{SheetFits}
-use Rattle.guarded.specs.Guarantee.{Guaranteed}
+use Rattle.conforms.proofs.ConformingLaws.{conforming-right}
+use Rattle.falgrumi.specs.Guarantee.{Guaranteed}
+use Rattle.falgrumi.proofs.EndNumbers.{NumberFrom, verdict-numbers}
 use Rattle.laws.proofs.VerdictLaws.{one-table}
 
 -- The rows are those of a typing of the table.
@@ -97,3 +102,17 @@ guarantee bs buffer rows room budget e c =
 pub never-15 : (bs rows buffer : List ℕ) (budget n : ℕ) → Guaranteed bs rows buffer budget →
     evaluation bs buffer budget .end ≡ refused 15 n → ⊥
 never-15 bs rows buffer budget n g e = not-15 Any (evaluation bs buffer budget .end) n (g .ends) e
+
+-- Only acceptance has the number 0, and then the sheet at exit is the rows.
+zero-accepts : (a : End (List ℕ)) (sheet : List ℕ) → NumberFrom 1 13 a → numberOf a ≡ 0 → a ≡ done (sheetAfter a sheet)
+zero-accepts (done rows) sheet h z = refl
+zero-accepts (refused r p) sheet h z = absurd (omega (arith, h .0))
+
+-- The claim in the terms of the calls' contracts: the number that Check answers, the sheet at its exit, and the truth that
+-- `conforms` answers for that sheet.
+pub guarantee-calls : (bs sheet buffer : List ℕ) (budget : ℕ) → numberOf (verdict bs (length sheet)) ≡ 0 →
+    conforming bs (sheetAfter (verdict bs (length sheet)) sheet) buffer ≡ true →
+    Guaranteed bs (sheetAfter (verdict bs (length sheet)) sheet) buffer budget
+guarantee-calls bs sheet buffer budget z c =
+    guarantee bs buffer (sheetAfter (verdict bs (length sheet)) sheet) (length sheet) budget
+    (zero-accepts _ sheet (verdict-numbers bs (length sheet)) z) (conforming-right bs _ buffer .sound c .1)

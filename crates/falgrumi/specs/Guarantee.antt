@@ -14,8 +14,8 @@ use Rattle.rules.specs.Safety.{EndsSafely, Any, All}
 use Rattle.conforms.specs.Conforming.{HasWritten, Conforming, conforming}
 use Rattle.typing.specs.Model.{verdict}
 use Rattle.evaluate.specs.Result.{endingOf}
-use Rattle.guarded.specs.declared.Guarded.{Guarded}
-use Rattle.guarded.specs.declared.Guarded.the-variants.{Refused, Evaluated}
+use Rattle.falgrumi.specs.declared.Guarded.{Guarded}
+use Rattle.falgrumi.specs.declared.Guarded.the-variants.{Refused, Evaluated}
 
 -- The evaluation ends in a truth or in a refusal of 16 to 19, never in 15, and every value that it forms has the type written
 -- for its node.
