@@ -10,7 +10,7 @@ use lib.ListN.{set}
 use Rattle.rules.specs.Kinds.{Kind, kinds, Field, unused, child, use-of, binder-of, setNumber, elementNumber, anyWord, truthBit, fieldsOf}
 use Rattle.rules.specs.Tables.{Node, Table}
 use Rattle.rules.specs.Ends.{End, done, refused}
-use Rattle.rules.specs.Evaluation.{evaluation}
+use Rattle.rules.specs.Evaluation.{run, evaluation}
 use Rattle.rules.proofs.Rows.{toBytes, node₃, node₂, node₁, node, table, closed, wordsOf, p1, p1-words, element1, sheet, z, pz}
 
 -- A condition without free identifiers, what Check says of it, and how Evaluate ends with the budget 100, with the steps.
@@ -214,6 +214,15 @@ ruleCases =
     acceptedWith (ofLeaves 39 (lit 1) (lit 2) (lit 3)) (z ∷ z ∷ z ∷ z ∷ [] ∷ []) true 5 ∷
     acceptedWith (ofLeaves 40 (lit 2) (lit 3) (lit 4294967295)) (z ∷ z ∷ z ∷ z ∷ [] ∷ []) true 5 ∷ []
 
+-- Each ends as the rules say: the run of its table.
+abbrev pub ran : RuleCase → End Bool × ℕ
+unfolding run
+ran r = let x = run (r .condition) [] 100 in (x .end, x .steps)
+
+pub rule-cases-right : map ran ruleCases ≡ map (λ r. (r .ends, r .steps)) ruleCases
+unfolding run
+rule-cases-right = refl
+
 -- A case of Evaluate: the words of a table, the bytes of the values buffer, the end with the budget 100, and the steps.
 pub record Case : Type 0 where
   pub words : List ℕ
@@ -305,11 +314,8 @@ runCases =
     -- `weightLimit` below 256: 1..255 weighs 256
     plain (testRanges 6 255 1) (done false) 7 ∷ []
 
-abbrev asCase : RuleCase → Case
-asCase r = plain (r .condition) (r .ends) (r .steps)
-
 abbrev pub cases : List Case
-cases = map asCase ruleCases ++ (unreadableCases ++ (bufferCases ++ runCases))
+cases = unreadableCases ++ (bufferCases ++ runCases)
 
 abbrev pub evaluated : Case → End Bool × ℕ
 unfolding evaluation

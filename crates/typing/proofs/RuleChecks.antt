@@ -2,21 +2,28 @@
 use Prim.Native.Nat.{ℕ, zero, suc, _+_}
 use mathlib.Core.List.{List, [], _∷_, _++_, map}
 use mathlib.Core.Path.{_≡_, refl}
+use lib.ListN.{length}
 use Rattle.rules.specs.Ends.{End, done, refused}
 use Rattle.rules.specs.Tables.{Node, Table}
 use Rattle.rules.specs.Verdict.{sheetLength}
 use Rattle.rules.proofs.Rows.{toBytes, wordsOf, node₁, node₂, table, sheet, z}
 use Rattle.rules.proofs.Cases.{ruleCases}
-use Rattle.typing.specs.Model.{verdict}
+use Rattle.typing.specs.Equations.{shapes}
+use Rattle.typing.specs.Model.{checked, verdict}
 
 -- Check's answer for a table, where the sheet has the length that it asks for.
 abbrev pub verdictOn : Table → End (List ℕ)
 unfolding verdict
 verdictOn tb = verdict (toBytes (wordsOf tb)) (sheetLength tb)
 
+-- The same once the table has been read and the sheet's length tested.
+abbrev pub typesOn : Table → End (List ℕ)
+unfolding shapes checked
+typesOn tb = checked (shapes tb (length (tb .nodes))) tb
+
 -- Check says of each case what its row tells.
-pub rule-cases-checked : map (λ r. verdictOn (r .condition)) ruleCases ≡ map (λ r. r .checks) ruleCases
-unfolding verdict
+pub rule-cases-checked : map (λ r. typesOn (r .condition)) ruleCases ≡ map (λ r. r .checks) ruleCases
+unfolding shapes checked
 rule-cases-checked = refl
 
 -- x=(e,f), from node n on, for leaves e and f.
