@@ -35,7 +35,7 @@ const SENTENCES: [&str; 19] = [
     "the node has an unknown kind, a field out of range, a nonzero unused field, or a child that is \
      a predicate where an expression belongs or the other way round",
     "the node is not the child of exactly one field, or it is the last and not a predicate",
-    "the tree under the node is more than 40 nodes high",
+    "the tree under the node is more than 27 nodes high",
     "the identifier is free and has a binder, or is bound and has not exactly one, or is used \
      outside its binder's body",
     "the sheet does not have 64 bytes for each identifier and each node",

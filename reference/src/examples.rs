@@ -56,7 +56,7 @@ pub fn all() -> Vec<Example> {
     found.extend([p8(), p9(), p10("P10", 100).evaluates("true 4")]);
     found.extend([p10("P11", 3).evaluates("refused 19 1 3"), p12()]);
     found.extend([singletons("weight 64", 1), singletons("weight 65", 2)]);
-    found.extend([negations("38 negations", 38), negations("39 negations", 39)]);
+    found.extend([negations("25 negations", 25), negations("26 negations", 26)]);
     found
 }
 
@@ -226,7 +226,7 @@ fn negations(name: &'static str, count: u32) -> Example {
         }
     });
     match count {
-        39 => example.checks("refused 8 41").evaluates("refused 8 41 0"),
-        _ => example.evaluates("true 41"),
+        26 => example.checks("refused 8 28").evaluates("refused 8 28 0"),
+        _ => example.evaluates("false 28"),
     }
 }

@@ -12,7 +12,7 @@ pub const MIN_NODES: u32 = 1;
 pub const MAX_NODES: u32 = 512;
 pub const MAX_SET_SIZE: u32 = 32;
 /// The limit of refusal 8.
-pub const MAX_HEIGHT: u32 = 40;
+pub const MAX_HEIGHT: u32 = 27;
 
 #[derive(Clone, Copy, PartialEq, Eq, Debug)]
 pub struct Node {

@@ -78,7 +78,7 @@ fn a_written_batch_is_answered_alike() {
 #[test]
 fn the_stored_batch_is_of_this_reference() {
     let stored = |name| std::fs::read(format!("../crates/answers/{name}")).expect("it is stored");
-    let (batch, expected) = written("106", "2970");
+    let (batch, expected) = written("107", "2970");
     assert!(batch == stored("stdin"), "stdin differs");
     assert!(expected == stored("stdout"), "stdout differs");
 }

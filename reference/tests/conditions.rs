@@ -79,9 +79,9 @@ fn pairing_of_32_integers_weighs_64_in_one_singleton() {
 }
 
 #[test]
-fn negations_pass_up_to_38() {
-    assert!(checked(&named("38 negations").draft).starts_with("accepted "));
-    assert_eq!(checked(&named("39 negations").draft), "refused 8 41");
+fn negations_pass_up_to_25() {
+    assert!(checked(&named("25 negations").draft).starts_with("accepted "));
+    assert_eq!(checked(&named("26 negations").draft), "refused 8 28");
 }
 
 #[test]

@@ -53,7 +53,7 @@ fn every_kind_and_every_answer_is_reached() {
 /// Of the generated cases alone, without the conditions of document 01.
 #[test]
 fn the_stored_batch_reaches_every_kind_and_every_answer() {
-    let mut generator = Generator::new(106, false, None);
+    let mut generator = Generator::new(107, false, None);
     let mut stats = Stats::default();
     (0..2_970).for_each(|_| stats.add(&generator.batch_case()));
     assert_reaches_all(&stats);

@@ -191,7 +191,7 @@ fn r06_10_comes_after_9_and_before_11() {
 #[test]
 fn r06_heavy_tables_run() {
     let example = examples::all().pop().expect("there are examples");
-    assert_eq!(example.name, "39 negations");
+    assert_eq!(example.name, "26 negations");
     let heavy = &examples::all()[13];
     assert_eq!(heavy.name, "weight 65");
     assert_eq!(evaluated(&heavy.draft, &[]), "true 68");
@@ -527,7 +527,7 @@ fn r17_least_node_above_the_height() {
             p = d.one(Kind::Not, p);
         }
     });
-    assert_eq!(checked(&d), "refused 8 41");
+    assert_eq!(checked(&d), "refused 8 28");
 }
 
 #[test]

@@ -10,7 +10,7 @@ use lib.Seq.{getD-set-same, getD-set-other}
 use borrow.Author.Tests.{le-leb, lt-leb}
 use Rattle.rules.specs.Kinds.{unused, isChild, kindOf}
 use Rattle.rules.specs.Tables.{Node, tableOf, nodeAt, fieldsAt, keptIf, held, nodeCount, lastNode}
-use Rattle.rules.specs.Reading.{tallest, height, heightGood}
+use Rattle.rules.specs.Reading.{tallest, height, heightLimit, heightGood}
 use Rattle.rules.specs.Ends.{leastFailing}
 use Rattle.rules.specs.Readable.{NodeRight, Readable}
 use Rattle.laws.proofs.TableLaws.{nodes-length, held-below, height-at, tallest-below}
@@ -68,13 +68,13 @@ module _ (bs : List ℕ) (at n : ℕ) (f : Fielded bs at) (below : n < nodeCount
       )
 
   -- whether it is good,
-  pub height-high : 40 ≤ t → heightGood (tableOf bs) n ≡ false
+  pub height-high : heightLimit ≤ t → heightGood (tableOf bs) n ≡ false
   unfolding heightGood
-  height-high l = lt-leb (height (tableOf bs .nodes) n) 40 (omega (arith, height-next))
+  height-high l = lt-leb (height (tableOf bs .nodes) n) heightLimit (omega (arith, height-next))
 
-  pub height-low : t < 40 → heightGood (tableOf bs) n ≡ true
+  pub height-low : t < heightLimit → heightGood (tableOf bs) n ≡ true
   unfolding heightGood
-  height-low l = le-leb (height (tableOf bs .nodes) n) 40 (omega (arith, height-next))
+  height-low l = le-leb (height (tableOf bs .nodes) n) heightLimit (omega (arith, height-next))
 
   -- and the heights with it.
   pub heights-more : n < length hs → Heights bs (n + 1) (set hs n (t + 1))
@@ -90,7 +90,7 @@ module _ (bs : List ℕ) (r : Readable bs) where
   unfolding heightGood
   all-low =
       sym (least-none (heightGood (tableOf bs)) (nodeCount bs) (nodeCount bs)
-      (record { within = omega arith; passed = λ n l. le-leb (height (tableOf bs .nodes) n) 40 (r .records .heights n (omega (arith, nodes-length bs))) })
+      (record { within = omega arith; passed = λ n l. le-leb (height (tableOf bs .nodes) n) heightLimit (r .records .heights n (omega (arith, nodes-length bs))) })
       (omega arith))
 
   pub root-height : (hs : List ℕ) (n count : ℕ) → n ≡ foundOr (nodeCount bs) (leastFailing (heightGood (tableOf bs)) 0 (nodeCount bs)) → Heights bs n hs →

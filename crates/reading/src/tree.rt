@@ -122,6 +122,9 @@ fn tallest_child(table: &[u8], at: usize, n: usize, heights: &[u8]) -> u8
     larger(a, larger(b, c))
 }
 
+// Refusal 8: no node is higher.
+const HEIGHT_LIMIT: u8 = 27;
+
 // Sets the heights of the nodes below the first that is above the limit, and answers that node, or N.
 pub(crate) fn set_heights(table: &[u8], at: usize, heights: &mut [u8]) -> usize
     requires { ⌜ Fielded (now table) at × (length (now heights) ≡ 512) ⌝ }
@@ -131,7 +134,7 @@ pub(crate) fn set_heights(table: &[u8], at: usize, heights: &mut [u8]) -> usize
     let mut n: usize = 0;
     while n < count {
         let h = tallest_child(table, at, n, heights);
-        if 40 <= h {
+        if HEIGHT_LIMIT <= h {
             return n;
         }
         heights[n] = h + 1;

@@ -255,8 +255,8 @@ unreadableCases =
     record { words = set p1-words 20 0; buffer = element1; ends = refused 7 0; steps = 0 } ∷
     -- `occursIn` that takes a binder's range for its scope
     plain usedInRange (refused 9 0) 0 ∷
-    -- another `heightLimit`, a `height` that is off by one: heights 40 and 41
-    plain (negated 38) (done true) 41 ∷ plain (negated 39) (refused 8 41) 0 ∷ []
+    -- another `heightLimit`, a `height` that is off by one: heights 27 and 28 (document 02, N11)
+    plain (negated 25) (done false) 28 ∷ plain (negated 26) (refused 8 28) 0 ∷ []
 
 -- The cells of n integers from i on.
 abbrev integerCells : ℕ → ℕ → List ℕ

@@ -78,9 +78,9 @@ unfoldable pub upward : {A : Type 0} → A → ((ℕ → A) → ℕ → A) → �
 upward z step zero n = z
 upward z step (suc f) n = step (λ m. upward z step f m) n
 
--- 8: no height is above 40.
+-- 8: no height is above the limit, which document 02, N11 sets to 27.
 abbrev pub heightLimit : ℕ
-heightLimit = 40
+heightLimit = 27
 
 unfoldable pub tallest : (ℕ → ℕ) → List ℕ → ℕ
 tallest h [] = 0

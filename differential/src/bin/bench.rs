@@ -56,15 +56,15 @@ fn clash(draft: &mut Draft) -> u32 {
     draft.two(Kind::Equal, a, b)
 }
 
-/// Singletons nested 35 deep on both sides of equalities.
+/// Singletons nested 21 deep on both sides of equalities: as high as a table may be.
 fn deep() -> Vec<Vec<u8>> {
     let mut draft = Draft::default();
     let x = draft.identifier(0);
     let mut tests = Vec::new();
-    for _ in 0..7 {
+    for _ in 0..11 {
         let mut sides = [draft.using(x), draft.integer(1)];
         for side in &mut sides {
-            for _ in 0..33 {
+            for _ in 0..21 {
                 *side = draft.one(Kind::Singleton, *side);
             }
         }

@@ -5,6 +5,7 @@ use differential::{case, sheet_length, Case};
 use reference::build::Draft;
 use reference::generate::{Class, Generator};
 use reference::kinds::Kind;
+use reference::table::{MAX_HEIGHT, MAX_IDENTIFIERS};
 use reference::values::{pair, set, Value};
 
 const PAINT: u8 = 0xA5;
@@ -37,8 +38,18 @@ fn chain() -> Value {
     (0..127).fold(Value::Integer(1), |value, _| pair(Value::Integer(1), value))
 }
 
+/// The case with a value for each free identifier; with `more`, unused identifiers that have the first value too, as many as the table can
+/// have, so that the values take the most room.
+fn filled(mut draft: Draft, mut values: Vec<Value>, more: bool) -> Case {
+    while more && draft.flags.len() < MAX_IDENTIFIERS as usize {
+        draft.identifier(0);
+        values.push(values[0].clone());
+    }
+    case(&draft, &values)
+}
+
 /// x = y under `count` negations.
-fn negations(count: usize, value: &Value) -> Case {
+fn negations(count: usize, value: &Value, more: bool) -> Case {
     let mut draft = Draft::default();
     let names = [draft.identifier(0), draft.identifier(0)];
     let sides = names.map(|x| draft.using(x));
@@ -46,18 +57,19 @@ fn negations(count: usize, value: &Value) -> Case {
     for _ in 0..count {
         root = draft.one(Kind::Not, root);
     }
-    case(&draft, &[value.clone(), value.clone()])
+    filled(draft, vec![value.clone(), value.clone()], more)
 }
 
 /// A quantifier or comprehension in the body of another, as deep as the height allows, over x = y.
-fn binders(select: bool, value: &Value) -> Case {
+fn binders(select: bool, value: &Value, more: bool) -> Case {
     let mut draft = Draft::default();
     let names = [draft.identifier(0), draft.identifier(0)];
     let range = draft.identifier(0);
     let sides = names.map(|x| draft.using(x));
     let mut body = draft.two(Kind::Equal, sides[0], sides[1]);
     // A comprehension stands in its parent's body as one side of an equality.
-    for _ in 0..if select { 19 } else { 29 } {
+    let levels = MAX_HEIGHT as usize - 2;
+    for _ in 0..if select { levels / 2 } else { levels } {
         let members = draft.using(range);
         let bound = draft.identifier(1);
         if select {
@@ -68,14 +80,16 @@ fn binders(select: bool, value: &Value) -> Case {
             body = draft.node(Kind::ForAll, bound, members, body);
         }
     }
-    case(&draft, &[value.clone(), value.clone(), set(vec![Value::Integer(1)])])
+    filled(draft, vec![value.clone(), value.clone(), set(vec![Value::Integer(1)])], more)
 }
 
 fn made() -> Vec<Case> {
     let mut cases = Vec::new();
     for value in [Value::Integer(1), nested(), chain()] {
-        cases.extend([0, 38].map(|count| negations(count, &value)));
-        cases.extend([false, true].map(|select| binders(select, &value)));
+        for more in [false, true] {
+            cases.extend([0, MAX_HEIGHT as usize - 2].map(|count| negations(count, &value, more)));
+            cases.extend([false, true].map(|select| binders(select, &value, more)));
+        }
     }
     cases
 }

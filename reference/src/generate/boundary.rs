@@ -4,6 +4,7 @@ use super::{templates, typed, Condition};
 use crate::build::Draft;
 use crate::kinds::Kind;
 use crate::random::Random;
+use crate::table::MAX_HEIGHT;
 use crate::types::{pow, Type};
 use crate::values::{self, Value};
 
@@ -288,10 +289,11 @@ fn type_weights(rng: &mut Random) -> Condition {
     closed(d)
 }
 
-/// Chains whose root has height 39 to 42.
+/// Chains whose root is one node lower than the limit to two higher.
 fn heights(rng: &mut Random) -> Condition {
     let mut d = Draft::default();
-    let height = rng.between(39, 42) as usize;
+    let limit = MAX_HEIGHT as i32;
+    let height = rng.between(limit - 1, limit + 2) as usize;
     let e = d.integer(0);
     match rng.below(3) {
         0 => {
