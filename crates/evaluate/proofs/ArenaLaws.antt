@@ -10,11 +10,11 @@ use Rattle.evaluate.specs.declared.arenas.Attempt.{Attempt}
 use Rattle.evaluate.specs.declared.arenas.Attempt.the-variants.{Made, NoRoom}
 use Rattle.evaluate.specs.declared.Evaluation.{Evaluation}
 use Rattle.evaluate.specs.Result.{Reported}
-use Rattle.evaluate.specs.Arenas.{needed, Needs, Measured, Attempts, arenaSize}
+use Rattle.evaluate.specs.Arenas.{needed, Needs, Measured, Attempts, largestArena, arenaSize}
 use Rattle.evaluate.proofs.EntryLaws.{needed-most}
 
 -- From 4 on an arena is the largest.
-pub size-last : (k : ℕ) → k ≢ 0 → k ≢ 1 → k ≢ 2 → k ≢ 3 → 28675 ≡ arenaSize k
+pub size-last : (k : ℕ) → k ≢ 0 → k ≢ 1 → k ≢ 2 → k ≢ 3 → largestArena ≡ arenaSize k
 size-last zero a b c d = absurd (a refl)
 size-last (suc zero) a b c d = absurd (b refl)
 size-last (suc (suc zero)) a b c d = absurd (c refl)
@@ -37,5 +37,5 @@ made-now bs values budget k r q h = subst (λ (z : Attempt). Attempts bs values 
 -- The largest arena has room for each readable table.
 pub some-room : (bs values : List ℕ) (budget : ℕ) (r : Attempt) → r ≡ NoRoom → Attempts bs values budget 4 r → Readable bs → ⊥
 some-room bs values budget r q h y =
-    let l : 28675 < needed bs values = subst (λ (z : Attempt). Attempts bs values budget 4 z) q h in
+    let l : largestArena < needed bs values = subst (λ (z : Attempt). Attempts bs values budget 4 z) q h in
     omega (arith, l, needed-most values y)

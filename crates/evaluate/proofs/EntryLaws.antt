@@ -26,14 +26,14 @@ use Rattle.reading.specs.declared.Refusal.{Refusal}
 use Rattle.buffer.specs.declared.Loaded.{Loaded}
 use Rattle.buffer.specs.declared.Loaded.the-variants.{All, Refused as Lacking}
 use Rattle.buffer.specs.Loaded.{Bound, Loads, LoadReady}
-use Rattle.evaluators.proofs.NodeLaws.{node-tall}
+use Rattle.evaluators.proofs.NodeLaws.{node-tall, condition-cells}
 use Rattle.evaluate.specs.declared.Evaluation.{Evaluation}
 use Rattle.evaluators.specs.declared.Held.{Held}
 use Rattle.evaluators.specs.Answers.{EndsWith}
-use Rattle.evaluators.specs.Cycle.{Binds, Ready, EvaluatesP}
+use Rattle.evaluators.specs.Cycle.{expressionCells, Binds, Ready, EvaluatesP}
 use Rattle.evaluators.specs.Nodes.{IsPred}
 use Rattle.evaluate.specs.Result.{RefusedAt, Reported, Reports}
-use Rattle.evaluate.specs.Arenas.{needed, ArenaReady}
+use Rattle.evaluate.specs.Arenas.{needed, largestArena, ArenaReady}
 
 -- The arena has room for the values, and the table a node.
 pub load-ready : {bs buffer s : List ℕ} → ArenaReady bs buffer s → LoadReady bs buffer s
@@ -85,6 +85,9 @@ module _ (bs : List ℕ) {buffer s env : List ℕ} {top : ℕ} (b : Bound (table
     unfolding lastNode
     root-last = omega (arith, e, nodes-length bs)
 
+    root-cells : expressionCells (kindAt (tableOf bs .nodes) (n - 1)) ≡ 0
+    root-cells = rw root-last (condition-cells (kindAt (tableOf bs .nodes) (lastNode (tableOf bs .nodes))) (q .records .root))
+
     -- The condition at the root may be evaluated.
     pub root-ready : {s₀ : List ℕ} {base budget : ℕ} → ArenaReady bs buffer s₀ → length s ≡ length s₀ → length env ≡ 32 → base ≡ nodesAt bs →
         Ready bs base env s top (n - 1) 0 budget × IsPred bs (n - 1)
@@ -94,7 +97,7 @@ module _ (bs : List ℕ) {buffer s env : List ℕ} {top : ℕ} (b : Bound (table
         offset = o;
         node = omega (arith, e, q .header .some-node);
         unspent = omega arith;
-        room = omega (arith, b .room, binds-length bs, r .needs .enough, k, ap (height (tableOf bs .nodes)) root-last);
+        room = omega (arith, b .room, binds-length bs, r .needs .enough, k, ap (height (tableOf bs .nodes)) root-last, root-cells);
         tall = node-tall bs q _ (omega (arith, e, q .header .some-node));
         small = omega (arith, r .small, k);
         entries = l;
@@ -114,7 +117,7 @@ module _ (bs : List ℕ) {buffer s env : List ℕ} {top : ℕ} (b : Bound (table
         subst (λ (z : Run Bool). Reported z r) (sym (evaluation-run bs buffer budget (tableOf bs) (b .values) (reading-right bs .1 q) read-all)) y
 
 -- No table needs more than the large arena.
-pub needed-most : {bs : List ℕ} (values : List ℕ) → Readable bs → needed bs values ≤ 28675
+pub needed-most : {bs : List ℕ} (values : List ℕ) → Readable bs → needed bs values ≤ largestArena
 unfolding lastNode
 needed-most {bs} values q =
     omega (

@@ -4,7 +4,7 @@ use crate::evaluate_in;
 ghost use mathlib.Core.Path.{_≡_};
 ghost use Rattle.rules.specs.Evaluation.{evaluation};
 ghost use Rattle.evaluate.specs.Result.{Reported};
-ghost use Rattle.evaluate.specs.Arenas.{Needs, arenaSize, Measured, Attempts};
+ghost use Rattle.evaluate.specs.Arenas.{Needs, largestArena, arenaSize, Measured, Attempts};
 
 // An evaluation, or that no arena had room for it.
 pub enum Attempt {
@@ -45,10 +45,10 @@ fn large(table: &[u8], values: &[u8], budget: u32) -> Evaluation
 }
 
 fn largest(table: &[u8], values: &[u8], budget: u32) -> Evaluation
-    requires { ⌜ Needs (now table) (now values) 28675 ⌝ }
+    requires { ⌜ Needs (now table) (now values) largestArena ⌝ }
     ensures { λ r. ⌜ Reported (evaluation (now (table .entry)) (now (values .entry)) budget) r ⌝ }
 {
-    let mut s = [0u64; 28675];
+    let mut s = [0u64; 18821];
     evaluate_in(table, values, budget, &mut s)
 }
 
@@ -61,7 +61,7 @@ fn size(k: usize) -> usize
         1 => 2304,
         2 => 4864,
         3 => 12544,
-        _ => 28675,
+        _ => 18821,
     }
 }
 

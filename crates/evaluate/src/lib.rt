@@ -88,7 +88,7 @@ fn evaluate_sized(table: &[u8], values: &[u8], budget: u32, height: usize) -> Ev
     ensures { λ r. ⌜ Reported (evaluation (now (table .entry)) (now (values .entry)) budget) r ⌝ }
 {
     let held = buffer::cells_at_most(table::identifiers(table), values.len());
-    let need = 3 + held + 512 * height;
+    let need = 261 + held + 384 * height;
     match arenas::smallest(table, values, budget, need, 4) {
         Attempt::Made(e) => e,
         // Never: the last arena has room for each readable table.

@@ -186,7 +186,7 @@ pub record Choosing (bs env s₀ : List ℕ) (top n from count steps budget : �
   pub on : (f : ℕ) (ρ : Env) (vs : Values) → n ≤ f → Binds (tableOf bs .sizes) s₀ top env ρ → Listed (tableOf bs .sizes) s₀ top from count vs →
       Selecting (bodyAt bs budget n f ρ) (members vs) steps (tableOf bs .sizes) s top at left m to chosen
 
-module _ {bs : List ℕ} {base : ℕ} {env s₀ : List ℕ} {top n from count steps budget : ℕ} (pre : EachReady bs base env s₀ top n from count steps budget) where
+module _ {bs : List ℕ} {base : ℕ} {env s₀ : List ℕ} {top n from count steps budget : ℕ} (pre : EachReady bs base env s₀ top n from count steps budget 256) where
   pub choosing-start : Choosing bs env s₀ top n from count steps budget s₀ env from count steps (top + 1) 0
   choosing-start = record {
     frame = same-refl top s₀;

@@ -418,10 +418,10 @@ module _ {bs : List ℕ} {base : ℕ} {env s : List ℕ} {top k n m steps budget
     }
 
     module _ {count : ℕ} (g : RangeAt s₁ at (Set count)) where
-      pub select-each : EachReady bs base env s₁ next n (at + 1) count t budget
+      pub select-each : EachReady bs base env s₁ next n (at + 1) count t budget 256
       select-each =
           let v = range-at in
-          binder-ready (x .ready) (visited-kind x comprehension (kind-of k comprehension e)) refl (h .frame) (h .bounds .0) (h .bounds .1) (h .bounds .2) (v .place)
+          binder-ready (x .ready) (visited-kind x comprehension (kind-of k comprehension e)) refl 256 (omega arith) (h .frame) (h .bounds .0) (h .bounds .1) (h .bounds .2) (v .place)
           (g (tableOf bs .sizes) next (v .value) (sizes-small bs (x .ready .readable)) (v .place))
 
       -- The range at an environment, and the members of it that the body selects.

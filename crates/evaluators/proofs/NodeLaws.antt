@@ -2,13 +2,13 @@
 use Prim.Native.Nat.{ℕ, zero, suc, _+_, _≤_, _<_}
 use mathlib.Core.Bool.{Bool, true, false, false≢true}
 use mathlib.Core.List.{List, [], _∷_}
-use mathlib.Core.Option.{Option, some}
+use mathlib.Core.Option.{Option, none as nothing, some}
 use mathlib.Core.Path.{_≡_, refl, sym, ap, _∙_, subst}
 use native.Mathlib.Omega.{arith}
 use lib.ListN.{length, getD}
 use Rattle.rules.specs.Values.{Value}
 use Rattle.rules.specs.Cells.{good}
-use Rattle.rules.specs.Kinds.{Kind, Category, expression, Field, unused, child, kindOf, fieldsOf, isChild}
+use Rattle.rules.specs.Kinds.{Kind, Category, categoryOf, predicate, expression, Field, unused, child, kindOf, fieldsOf, isChild}
 use Rattle.rules.specs.Tables.{Node, Table, Pred, Expr, tableOf, nodeAt, kindAt, fieldWords, fieldsIf, keptIf, pick, held, predOf, exprOf, predAt, exprAt, nodeCount}
 use Rattle.rules.specs.Reading.{height, tallest}
 use Rattle.rules.specs.Readable.{Readable, FieldRight, FieldsRight, KindRight, NodeRight, CategoryIs}
@@ -23,7 +23,7 @@ use Rattle.evaluators.specs.declared.Held.{Held}
 use Rattle.evaluators.specs.declared.Formed.{Formed}
 use Rattle.evaluators.specs.declared.Operands.{Operands}
 use Rattle.evaluators.specs.Nodes.{TwoFields}
-use Rattle.evaluators.specs.Cycle.{Binds, Ready, Visited, EvaluatesP, EvaluatesE, EvaluatesBoth}
+use Rattle.evaluators.specs.Cycle.{expressionCells, Binds, Ready, Visited, EvaluatesP, EvaluatesE, EvaluatesBoth}
 
 -- The sizes of a readable table are small.
 pub sizes-small : (bs : List ℕ) → Readable bs → Sizes (tableOf bs .sizes)
@@ -129,16 +129,29 @@ module _ (ns : List Node) (n : ℕ) (k : Kind) (e : kindAt ns n ≡ some k) wher
   expr-at zero l = absurd (omega arith)
   expr-at (suc f) l = record { depth = f; enough = omega arith; is = rw e }
 
+-- What an expression takes more than a condition.
+pub expression-cells : (k : Option Kind) → expressionCells k ≤ 128
+expression-cells nothing = omega arith
+expression-cells (some k) = go (categoryOf k)
+  where
+    go : (c : Category) → elim c [ predicate ↦ 0 | expression ↦ 128 ] ≤ 128
+    go predicate = omega arith
+    go expression = omega arith
+
+pub condition-cells : (k : Option Kind) → CategoryIs predicate k → expressionCells k ≡ 0
+condition-cells nothing e = absurd e
+condition-cells (some k) e = ap (λ (c : Category). elim c [ predicate ↦ 0 | expression ↦ 128 ]) e
+
 -- What a node's evaluator may pass on to that of a child, over an arena that is the same below `top`.
 pub ready-child : {bs : List ℕ} {base : ℕ} {env s : List ℕ} {top n steps budget : ℕ} {c : Category} (s′ : List ℕ) (m k steps′ : ℕ) →
-    Ready bs base env s top n steps budget → Child bs n m c → Same top s s′ → top ≤ k → k ≤ top + 512 → steps′ ≤ budget →
+    Ready bs base env s top n steps budget → Child bs n m c → Same top s s′ → top ≤ k → k ≤ top + 256 → steps′ ≤ budget →
     Ready bs base env s′ k m steps′ budget
 ready-child {bs} {base} {env} {s} {top} {n} s′ m k steps′ r c e le near within = record {
   readable = r .readable;
   offset = r .offset;
   node = omega (arith, c .below, r .node);
   unspent = within;
-  room = omega (arith, c .lower, r .room, e .kept);
+  room = omega (arith, c .lower, r .room, e .kept, expression-cells (kindAt (tableOf bs .nodes) m));
   tall = c .tall;
   small = omega (arith, r .small, e .kept);
   entries = r .entries;

@@ -92,7 +92,7 @@ pub record Turning (bs env s₀ : List ℕ) (top : ℕ) (all : Bool) (node from 
 
 -- Before the first turn.
 pub turning-start : {bs : List ℕ} {base : ℕ} {env s : List ℕ} {top node from count steps budget : ℕ} (all : Bool) (x : ℕ) →
-    EachReady bs base env s top node from count steps budget →
+    EachReady bs base env s top node from count steps budget 0 →
     Turning bs env s top all node from count steps budget x s env from count steps
 turning-start {bs} {base} {env} {s} {top} all x r = record {
   frame = same-refl top s;
@@ -103,7 +103,7 @@ turning-start {bs} {base} {env} {s} {top} all x r = record {
 
 -- A turn: the member at `at` is bound to x, and the body runs.
 module _ {bs : List ℕ} {base : ℕ} {env s₀ : List ℕ} {top : ℕ} {all : Bool} {node from count steps budget x : ℕ} {s inner : List ℕ} {at left n : ℕ}
-    (r : EachReady bs base env s₀ top node from count steps budget)
+    (r : EachReady bs base env s₀ top node from count steps budget 0)
     (i : Turning bs env s₀ top all node from count steps budget x s inner at left n) (more : 0 < left) where
   next : (f : ℕ) (ρ : Env) (vs : Values) (d : node ≤ f) (b : Binds (tableOf bs .sizes) s₀ top env ρ) (l : Listed (tableOf bs .sizes) s₀ top from count vs) →
       First (tableOf bs .sizes) s top at left (i .remains f ρ vs d b l .rest)
@@ -316,9 +316,9 @@ module _ {bs : List ℕ} {base : ℕ} {env s : List ℕ} {top k n steps budget :
             range-set : (v : Value) → GoodAt (tableOf bs .sizes) s′ next at v → RangeSet v m
             range-set v h = rw z at (g (tableOf bs .sizes) next v (sizes-small bs (d .ready .readable)) h)
 
-            pub quant-ready : EachReady bs base env s′ next n (at + 1) m t budget
+            pub quant-ready : EachReady bs base env s′ next n (at + 1) m t budget 0
             quant-ready =
-                binder-ready (d .ready) quant-kind refl (p .frame) (range-bounds .0) (range-bounds .1) (range-bounds .2) (some-range .place)
+                binder-ready (d .ready) quant-kind refl 0 (omega arith) (p .frame) (range-bounds .0) (range-bounds .1) (range-bounds .2) (some-range .place)
                 (range-set (some-range .value) (some-range .place))
 
             pub quant-done : {s″ : List ℕ} {h : Held} → EvaluatesEach bs env s′ next n (at + 1) m t budget (quantOf (eqb k 10)) s″ h →

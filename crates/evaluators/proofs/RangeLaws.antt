@@ -13,6 +13,7 @@ use Rattle.rules.specs.Kinds.{Kind, expression, predicate, fieldsOf}
 use Rattle.rules.specs.Rules.{P̂, t̂}
 use Rattle.rules.specs.Fits.{HasType, Fits, typed, fits}
 use Rattle.rules.specs.Tables.{tableOf, nodeAt, kindAt}
+use Rattle.rules.specs.Reading.{height}
 use Rattle.rules.specs.Runs.{Run}
 use Rattle.laws.proofs.TableLaws.{binds-length}
 use Rattle.laws.proofs.BindingLaws.{binderFields}
@@ -25,8 +26,8 @@ use Rattle.operations.specs.Good.{Sizes, GoodAt}
 use Rattle.operations.proofs.FitLaws.{types-fit}
 use Rattle.evaluators.specs.Answers.{PlacedAs, RangeSet, Listed}
 use Rattle.evaluators.specs.Nodes.{SomeGood}
-use Rattle.evaluators.specs.Cycle.{Ready, EachReady}
-use Rattle.evaluators.proofs.NodeLaws.{Child, field-holds, field-child, ready-child}
+use Rattle.evaluators.specs.Cycle.{expressionCells, Ready, EachReady}
+use Rattle.evaluators.proofs.NodeLaws.{Child, field-holds, field-child, condition-cells, ready-child}
 
 -- The range is a good value.
 pub placed-good : {x : Run Value} {gs s : List ℕ} {at next t : ℕ} → Sizes gs → PlacedAs x gs s at next t → SomeGood s at
@@ -71,16 +72,23 @@ module _ {bs : List ℕ} {base : ℕ} {env s : List ℕ} {top n steps budget : �
   pub binder-body : Child bs n (nodeAt (tableOf bs .nodes) n .c) predicate
   binder-body = field-child bs (r .readable) n (r .node) k e predicate 2 (omega arith) (rw q (omega arith)) (rw q)
 
+  own-room : top + (384 * height (tableOf bs .nodes) n + expressionCells (some k) + 260) ≤ length s
+  own-room = rw e at (r .room)
+
+  body-cells : expressionCells (kindAt (tableOf bs .nodes) (nodeAt (tableOf bs .nodes) n .c)) ≡ 0
+  body-cells = condition-cells (kindAt (tableOf bs .nodes) (nodeAt (tableOf bs .nodes) n .c)) (binder-body .is)
+
   -- The range is a set of m members, that stands at `at`.
-  pub binder-ready : {s′ : List ℕ} {at next m t : ℕ} {v : Value} → Same top s s′ → top ≤ next → next ≤ top + 256 → t ≤ budget →
-      GoodAt (tableOf bs .sizes) s′ next at v → RangeSet v m → EachReady bs base env s′ next n (at + 1) m t budget
-  binder-ready {s′} {at} {next} {m} {t} {v} f low high within g x = record {
+  pub binder-ready : {s′ : List ℕ} {at next m t : ℕ} {v : Value} (spare : ℕ) → spare ≤ 128 + expressionCells (some k) →
+      Same top s s′ → top ≤ next → next ≤ top + 256 → t ≤ budget →
+      GoodAt (tableOf bs .sizes) s′ next at v → RangeSet v m → EachReady bs base env s′ next n (at + 1) m t budget spare
+  binder-ready {s′} {at} {next} {m} {t} {v} spare enough f low high within g x = record {
     ready = ready-child s′ (nodeAt (tableOf bs .nodes) n .c) next t r binder-body f low (omega arith) within;
     binder = r .node;
     deeper = binder-body .below;
     is = binder-body .is;
     name = binder-name;
-    space = omega (arith, binder-body .lower, r .room, f .kept);
+    space = omega (arith, binder-body .lower, own-room, body-cells, f .kept);
     range = x .members;
     listed = range-listed g x;
   }

@@ -41,7 +41,7 @@ module _ {bs : List ℕ} {base : ℕ} {env s : List ℕ} {top n steps budget : �
   pub cell-room : {s′ : List ℕ} → Same top s s′ → top + 514 ≤ length s′
   cell-room e = omega (arith, r .room, r .tall, e .kept)
 
-module _ {bs : List ℕ} {base : ℕ} {env s : List ℕ} {top n from count steps budget : ℕ} (r : EachReady bs base env s top n from count steps budget) where
+module _ {bs : List ℕ} {base : ℕ} {env s : List ℕ} {top n from count steps budget spare : ℕ} (r : EachReady bs base env s top n from count steps budget spare) where
   pub binder-node : NodeIn bs base n
   binder-node = node-in (r .ready .readable) (r .ready .offset) (r .binder)
 

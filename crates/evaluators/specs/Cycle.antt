@@ -3,14 +3,14 @@
 use Prim.Native.Nat.{ℕ, _+_, _*_, _≤_, _<_}
 use mathlib.Core.Bool.{Bool}
 use mathlib.Core.List.{List}
-use mathlib.Core.Option.{some}
+use mathlib.Core.Option.{Option, none as nothing, some}
 use mathlib.Core.Path.{_≡_}
 use lib.Dec.{T}
 use lib.ListN.{length, getD}
 use Rattle.rules.specs.Values.{Value, Values, members}
-use Rattle.rules.specs.Kinds.{Kind, Quant, kindOf}
+use Rattle.rules.specs.Kinds.{Kind, Quant, kindOf, categoryOf, predicate, expression}
 use Rattle.rules.specs.Cells.{good}
-use Rattle.rules.specs.Tables.{tableOf, nodeAt, predAt, exprAt, nodeCount, nodesAt}
+use Rattle.rules.specs.Tables.{tableOf, nodeAt, kindAt, predAt, exprAt, nodeCount, nodesAt}
 use Rattle.rules.specs.Reading.{height}
 use Rattle.rules.specs.Readable.{Readable}
 use Rattle.rules.specs.Runs.{M, Given}
@@ -31,13 +31,22 @@ pub record Binds (gs s : List ℕ) (top : ℕ) (env : List ℕ) (ρ : Env) : Typ
   pub at : (x : ℕ) → x < 32 → GoodAt gs s top (getD env x 0) (ρ x)
   pub good : (x : ℕ) → T (good gs (ρ x))
 
--- The node's own room and that of the nodes below: 512 cells a level, for two operands or for what is built, and 2 more.
+-- The cells that the evaluation of a node takes above its top. While a child is evaluated a node holds one value, of at most 256 cells,
+-- and a comprehension holds two; but the child of a comprehension that they stand below is a condition. So a level takes 384, an expression
+-- 128 more, and an operation at the highest node 260 more than two levels give.
+abbrev pub expressionCells : Option Kind → ℕ
+expressionCells nothing = 0
+expressionCells (some k) = elim (categoryOf k) [ predicate ↦ 0 | expression ↦ 128 ]
+
+abbrev pub cellsFor : List ℕ → ℕ → ℕ
+cellsFor bs n = 384 * height (tableOf bs .nodes) n + expressionCells (kindAt (tableOf bs .nodes) n) + 260
+
 pub record Ready (bs : List ℕ) (base : ℕ) (env s : List ℕ) (top n steps budget : ℕ) : Type 0 where
   pub readable : Readable bs
   pub offset : base ≡ nodesAt bs
   pub node : n < nodeCount bs
   pub unspent : steps ≤ budget
-  pub room : top + 512 * height (tableOf bs .nodes) n + 2 ≤ length s
+  pub room : top + cellsFor bs n ≤ length s
   pub tall : 1 ≤ height (tableOf bs .nodes) n
   pub small : length s < 4294967296
   pub entries : length env ≡ 32
@@ -81,13 +90,14 @@ abbrev pub bodyAt : List ℕ → ℕ → ℕ → ℕ → Env → Value → M Boo
 bodyAt bs budget n f ρ w =
     holdsᵖ budget (tableOf bs .sizes) (predAt f (tableOf bs .nodes) (nodeAt (tableOf bs .nodes) n .c)) (ρ with nodeAt (tableOf bs .nodes) n .a ≔ w)
 
-pub record EachReady (bs : List ℕ) (base : ℕ) (env s : List ℕ) (top n from count steps budget : ℕ) : Type 0 where
+-- The loop over a range may itself build a set of `spare` cells.
+pub record EachReady (bs : List ℕ) (base : ℕ) (env s : List ℕ) (top n from count steps budget spare : ℕ) : Type 0 where
   pub ready : Ready bs base env s top (nodeAt (tableOf bs .nodes) n .c) steps budget
   pub binder : n < nodeCount bs
   pub deeper : nodeAt (tableOf bs .nodes) n .c < n
   pub is : IsPred bs (nodeAt (tableOf bs .nodes) n .c)
   pub name : nodeAt (tableOf bs .nodes) n .a < 32
-  pub space : top + 256 + 512 * height (tableOf bs .nodes) (nodeAt (tableOf bs .nodes) n .c) + 2 ≤ length s
+  pub space : top + spare + cellsFor bs (nodeAt (tableOf bs .nodes) n .c) ≤ length s
   pub range : Values
   pub listed : Listed (tableOf bs .sizes) s top from count range
 

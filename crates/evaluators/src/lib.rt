@@ -254,7 +254,7 @@ fn each_member(
     steps: u32,
     budget: u32,
 ) -> Held
-    requires { ⌜ EachReady (now table) base (now env) (now s) top node from count steps budget ⌝ }
+    requires { ⌜ EachReady (now table) base (now env) (now s) top node from count steps budget 0 ⌝ }
     ensures { λ r. ⌜ EvaluatesEach (now (table .entry)) (now (env .entry)) (now (s .entry)) top node from count steps budget (quantOf all) (now (s .exit)) r ⌝ }
 {
     let x = table::field(table, base, node, 0);
@@ -516,7 +516,7 @@ fn each_chosen(
     steps: u32,
     budget: u32,
 ) -> Formed
-    requires { ⌜ EachReady (now table) base (now env) (now s) top node from count steps budget ⌝ }
+    requires { ⌜ EachReady (now table) base (now env) (now s) top node from count steps budget 256 ⌝ }
     ensures { λ r. ⌜ EvaluatesChosen (now (table .entry)) (now (env .entry)) (now (s .entry)) top node from count steps budget (now (s .exit)) r ⌝ }
 {
     let x = table::field(table, base, node, 0);
