@@ -11,8 +11,8 @@
  * Threads. Nothing is kept between calls, and there is no shared state: calls may run at the same time, if no one writes
  *   what another reads or writes.
  * Stack. The functions allocate nothing and work on the caller's stack. The most that was measured (x86-64; tall tables over
- *   deeply nested values, and generated ones) is 75 KB for falgrumi_check and 284 KB for falgrumi_evaluate, and
- *   falgrumi_checked_evaluate takes what the larger of its calls takes; lend 0.4 MB.
+ *   deeply nested values, and generated ones) is 75 KB for falgrumi_check and 196 KB for falgrumi_evaluate, and
+ *   falgrumi_checked_evaluate takes what the larger of its calls takes; lend 0.3 MB.
  * Bytes. A word is 4 bytes, least byte first. */
 #ifndef FALGRUMI_H
 #define FALGRUMI_H
@@ -37,7 +37,7 @@ enum falgrumi_size {
     FALGRUMI_MAX_ELEMENTS = 32,
     FALGRUMI_MAX_IDENTIFIERS = 32,
     FALGRUMI_MAX_NODES = 512,
-    FALGRUMI_MAX_HEIGHT = 40,
+    FALGRUMI_MAX_HEIGHT = 27,
     FALGRUMI_MAX_VALUE_CELLS = 256,
     /* No readable table, sheet or values buffer is longer than these. */
     FALGRUMI_MAX_TABLE_BYTES = 8416,
@@ -65,7 +65,7 @@ enum falgrumi_refusal {
     FALGRUMI_REFUSED_NODE = 6,
     /* A node is not the child of exactly one field, or the last node is not a predicate. [node] */
     FALGRUMI_REFUSED_TREE = 7,
-    /* The tree under a node is more than 40 nodes high. [node] */
+    /* The tree under a node is more than 27 nodes high. [node] */
     FALGRUMI_REFUSED_HEIGHT = 8,
     /* A free identifier has a binder, or a bound one does not have exactly one, or is used outside its binder's body.
      * [identifier] */
