@@ -67,6 +67,7 @@ fn with_cells(table: Vec<u8>, words: &[u32], answer: &'static str) -> Answered {
 
 pub fn all() -> Vec<Answered> {
     let mut found = damaged();
+    found.extend(without_nodes());
     found.extend(buffers());
     found.extend(predicates());
     found.extend(operations());
@@ -90,7 +91,8 @@ fn damaged() -> Vec<Answered> {
         with_cells(bytes(&P1[..7]), &ELEMENT_1, "refused 1 0 0"),
         spoilt(1, 17, "refused 2 0 0"),
         spoilt(2, 33, "refused 2 0 0"),
-        spoilt(3, 0, "refused 2 0 0"),
+        // The offsets and the length are still those of three nodes.
+        spoilt(3, 0, "refused 3 0 0"),
         spoilt(3, 513, "refused 2 0 0"),
         spoilt(4, 36, "refused 3 0 0"),
         spoilt(5, 40, "refused 3 0 0"),
@@ -110,6 +112,43 @@ fn damaged() -> Vec<Answered> {
         // An expression last, and an identifier bound without a binder.
         spoilt(18, 28, "refused 7 2 0"),
         spoilt(9, 1, "refused 9 0 0"),
+    ]
+}
+
+/// Tables of given sets and identifiers alone: refusals 3, 4, 5, 9 and 14,
+/// and otherwise true under every budget.
+fn without_nodes() -> Vec<Answered> {
+    let at_budget = |flags: &[u32], words: &[u32], budget, answer| {
+        answered(table(&[2], flags, &[]), bytes(words), budget, answer)
+    };
+    // No given sets and no identifiers, with a word changed.
+    let spoilt = |i: usize, word: u32, answer| {
+        let mut words = [1, 0, 0, 0, 32, 32, 32, 32];
+        words[i] = word;
+        plain(bytes(&words), answer)
+    };
+    let longer = [1, 0, 0, 0, 32, 32, 32, 32, 0];
+    vec![
+        at_budget(&[], &[], 0, "true 0"),
+        at_budget(&[], &[], u32::MAX, "true 0"),
+        at_budget(&[0], &ELEMENT_1, 0, "true 0"),
+        at_budget(&[0], &ELEMENT_1, u32::MAX, "true 0"),
+        at_budget(&[0, 0], &[1, 3, 7, 1], 1, "true 0"),
+        // A value too few, one that is malformed, and one too many.
+        at_budget(&[0, 0], &ELEMENT_1, 0, "refused 14 1 0"),
+        at_budget(&[0], &[2, 3], 0, "refused 14 0 0"),
+        at_budget(&[], &ELEMENT_1, 0, "refused 14 0 0"),
+        at_budget(&[1], &[], 0, "refused 9 0 0"),
+        at_budget(&[0, 1], &ELEMENT_1, 0, "refused 9 1 0"),
+        at_budget(&[2], &[], 0, "refused 5 0 0"),
+        plain(table(&[0], &[], &[]), "refused 4 0 0"),
+        spoilt(3, 1, "refused 3 0 0"),
+        spoilt(4, 36, "refused 3 0 0"),
+        spoilt(5, 36, "refused 3 0 0"),
+        spoilt(6, 48, "refused 3 0 0"),
+        spoilt(7, 48, "refused 3 0 0"),
+        plain(bytes(&longer), "refused 3 0 0"),
+        plain(bytes(&longer)[..31].to_vec(), "refused 1 0 0"),
     ]
 }
 

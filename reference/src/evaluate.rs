@@ -57,7 +57,8 @@ fn run(bytes: &[u8], buffer: &[u8], budget: u32, seen: Option<&mut Observations>
                 budget,
                 seen,
             };
-            let outcome = match run.predicate(table.root()) {
+            // A condition that is absent is true.
+            let outcome = match table.root().map_or(Ok(true), |root| run.predicate(root)) {
                 Ok(truth) => Outcome::Truth(truth),
                 Err(refusal) => Outcome::Refused(refusal),
             };

@@ -1,4 +1,5 @@
-//! The conditions that document 01 tries: P1 to P12 and the lines after them.
+//! The conditions that document 01 tries: P1 to P12 and the lines after them,
+//! and those of document 02.
 
 use crate::build::Draft;
 use crate::kinds::Kind;
@@ -57,6 +58,14 @@ pub fn all() -> Vec<Example> {
     found.extend([p10("P11", 3).evaluates("refused 19 1 3"), p12()]);
     found.extend([singletons("weight 64", 1), singletons("weight 65", 2)]);
     found.extend([negations("25 negations", 25), negations("26 negations", 26)]);
+    found.extend([
+        no_clauses("no clauses", &[]),
+        no_clauses("no clauses, free", &[0]),
+    ]);
+    found.extend([
+        no_clauses("no clauses, bound", &[1]),
+        no_clauses("no clauses, both", &[0, 1]),
+    ]);
     found
 }
 
@@ -215,6 +224,22 @@ fn singletons(name: &'static str, depth: u32) -> Example {
     match depth {
         2 => example.checks("refused 13 64"),
         _ => example,
+    }
+}
+
+/// A gate with no clauses yet, with identifiers of these flags (document 02,
+/// N1); the budget is 0.
+fn no_clauses(name: &'static str, flags: &[u32]) -> Example {
+    let mut example = example(name, |d| d.flags.extend(flags));
+    example.budget = 0;
+    if flags.contains(&0) {
+        example = example.with_value(Value::Integer(1));
+    }
+    match flags {
+        [] => example.checks("accepted").evaluates("true 0"),
+        [0] => example.checks("refused 12 0").evaluates("true 0"),
+        [1] => example.checks("refused 9 0").evaluates("refused 9 0 0"),
+        _ => example.checks("refused 9 1").evaluates("refused 9 1 0"),
     }
 }
 

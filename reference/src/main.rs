@@ -155,14 +155,14 @@ fn print_cases(options: &Options) -> Result<(), Fault> {
     Ok(())
 }
 
-/// Tables of 1 to 512 nodes, the sizes evenly spread and rising, every second one with a fault, each before its listing.
+/// Tables of 0 to 512 nodes, the sizes evenly spread and rising, every second one with a fault, each before its listing.
 fn print_listings(options: &Options) -> Result<(), Fault> {
     let mut generator = options.generator();
     let mut out = BufWriter::new(io::stdout().lock());
-    let most = table::MAX_NODES as usize - 1;
+    let most = table::MAX_NODES as usize;
     let last = options.count().saturating_sub(1).max(1);
     for i in 0..options.count() {
-        let table = generator.sized(1 + i * most / last, i % 2 == 1);
+        let table = generator.sized(i * most / last, i % 2 == 1);
         let listing = listing::listing(&table);
         write!(out, "table {}\n{listing}", batch::hex(&table))?;
     }

@@ -8,7 +8,6 @@ pub const HEADER_WORDS: usize = 8;
 pub const HEADER_BYTES: usize = 4 * HEADER_WORDS;
 pub const MAX_GIVEN_SETS: u32 = 16;
 pub const MAX_IDENTIFIERS: u32 = 32;
-pub const MIN_NODES: u32 = 1;
 pub const MAX_NODES: u32 = 512;
 pub const MAX_SET_SIZE: u32 = 32;
 /// The limit of refusal 8.
@@ -52,8 +51,9 @@ impl Table {
         self.bound.len()
     }
 
-    pub fn root(&self) -> usize {
-        self.nodes.len() - 1
+    /// The last node; None where the table has no nodes.
+    pub fn root(&self) -> Option<usize> {
+        self.nodes.len().checked_sub(1)
     }
 
     /// Identifiers and nodes together: the number of rows of a sheet.
@@ -112,7 +112,7 @@ fn read_header(bytes: &[u8]) -> Result<Counts, Refusal> {
         return Err(Refusal::new(1, 0));
     }
     let (g, i, n) = (word(bytes, 1), word(bytes, 2), word(bytes, 3));
-    if g > MAX_GIVEN_SETS || i > MAX_IDENTIFIERS || !(MIN_NODES..=MAX_NODES).contains(&n) {
+    if g > MAX_GIVEN_SETS || i > MAX_IDENTIFIERS || n > MAX_NODES {
         return Err(Refusal::new(2, 0));
     }
     let identifiers_at = 32 + 4 * g;
@@ -209,7 +209,9 @@ fn read_parents(table: &Table) -> Result<Vec<Parent>, Refusal> {
             found[child].push(Parent { node, field });
         }
     }
-    let root = table.root();
+    let Some(root) = table.root() else {
+        return Ok(Vec::new());
+    };
     if let Some(place) = (0..root).find(|&node| found[node].len() != 1) {
         return Err(Refusal::new(7, place));
     }
@@ -265,7 +267,7 @@ fn binding_is_sound(table: &Table, parents: &[Parent], identifier: usize) -> boo
 fn stands_in_body(table: &Table, parents: &[Parent], node: usize, binder: usize) -> bool {
     const BODY: usize = 2;
     let mut at = node;
-    while at != table.root() {
+    while Some(at) != table.root() {
         let parent = parents[at];
         if parent.node == binder {
             return parent.field == BODY;

@@ -16,7 +16,7 @@ fn named(name: &str) -> Example {
 #[test]
 fn every_answer_of_the_document_holds() {
     let examples = all();
-    assert_eq!(examples.len(), 16);
+    assert_eq!(examples.len(), 20);
     for e in &examples {
         if let Some(answer) = e.checked {
             assert_eq!(checked(&e.draft), answer, "{}", e.name);
@@ -82,6 +82,15 @@ fn pairing_of_32_integers_weighs_64_in_one_singleton() {
 fn negations_pass_up_to_25() {
     assert!(checked(&named("25 negations").draft).starts_with("accepted "));
     assert_eq!(checked(&named("26 negations").draft), "refused 8 28");
+}
+
+#[test]
+fn a_gate_with_no_clauses_is_listed_in_one_line() {
+    assert_eq!(listing(&named("no clauses").draft.bytes()), "accepted\n");
+    assert_eq!(
+        listing(&named("no clauses, free").draft.bytes()),
+        "refused 12 0\n"
+    );
 }
 
 #[test]

@@ -50,6 +50,22 @@ fn every_kind_and_every_answer_is_reached() {
     assert_reaches_all(&stats);
 }
 
+#[test]
+fn tables_without_nodes_reach_every_answer_that_they_can_have() {
+    let mut generator = Generator::new(2, false, None);
+    let mut stats = Stats::default();
+    (0..12_000)
+        .map(|_| generator.case())
+        .filter(|case| case.table().get(12..16) == Some(&[0; 4]))
+        .for_each(|case| stats.add(&case));
+    assert_reaches(&stats, "check", &refusals([3, 4, 5, 9, 10, 12].into_iter()));
+    assert_reaches(&stats, "check", &["accepted".to_string()]);
+    assert_reaches(&stats, "evaluate", &refusals([3, 4, 5, 9, 14].into_iter()));
+    assert_reaches(&stats, "evaluate", &["true".to_string()]);
+    let spent = ("evaluate", "refused 19".to_string());
+    assert!(!stats.answers.contains_key(&spent));
+}
+
 /// Of the generated cases alone, without the conditions of document 01.
 #[test]
 fn the_stored_batch_reaches_every_kind_and_every_answer() {

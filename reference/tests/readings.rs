@@ -65,7 +65,7 @@ fn r01_a_refusal_leaves_the_sheet_untouched() {
             assert!(sheet.iter().all(|&byte| byte == 0xaa));
         }
     }
-    assert_eq!(refused, 8);
+    assert_eq!(refused, 11);
 }
 
 #[test]
@@ -190,8 +190,6 @@ fn r06_10_comes_after_9_and_before_11() {
 
 #[test]
 fn r06_heavy_tables_run() {
-    let example = examples::all().pop().expect("there are examples");
-    assert_eq!(example.name, "26 negations");
     let heavy = &examples::all()[13];
     assert_eq!(heavy.name, "weight 65");
     assert_eq!(evaluated(&heavy.draft, &[]), "true 68");
@@ -592,7 +590,7 @@ fn r19_words_are_unsigned_and_2_precedes_3() {
     for index in 1..4 {
         assert_eq!(with(index, u32::MAX), "refused 2 0");
     }
-    assert_eq!(with(3, 0), "refused 2 0");
+    assert_eq!(with(3, 0), "refused 3 0");
     assert_eq!(with(3, 513), "refused 2 0");
     assert_eq!(with(3, 4), "refused 3 0");
     for index in 4..8 {
@@ -786,5 +784,46 @@ fn r24_every_line_of_a_listing_ends() {
         assert!(text.ends_with('\n'));
         let last = text.lines().last().expect("there is a line");
         assert!(last == "accepted" || last.starts_with("refused "));
+    }
+}
+
+/// Document 02, N1: a table of given sets and identifiers alone.
+fn no_clauses(flags: &[u32]) -> Draft {
+    draft(|d| {
+        d.sizes.push(3);
+        d.flags.extend(flags);
+    })
+}
+
+#[test]
+fn n1_check_tests_the_sheet_first_and_then_the_identifiers() {
+    let table = |flags: &[u32]| no_clauses(flags).bytes();
+    assert_eq!(check_answer(&table(&[]), 0), "accepted");
+    assert_eq!(check_answer(&table(&[]), 1), "refused 10 0");
+    assert_eq!(check_answer(&table(&[]), 64), "refused 10 0");
+    for flags in [&[0][..], &[0; 2], &[0; 32]] {
+        let room = 64 * flags.len();
+        assert_eq!(check_answer(&table(flags), room), "refused 12 0");
+        assert_eq!(check_answer(&table(flags), room - 1), "refused 10 0");
+        assert_eq!(check_answer(&table(flags), 0), "refused 10 0");
+    }
+    assert_eq!(check_answer(&table(&[1]), 64), "refused 9 0");
+    assert_eq!(check_answer(&table(&[0, 1, 1]), 192), "refused 9 1");
+}
+
+#[test]
+fn n1_evaluate_tests_the_values_first_and_then_is_true() {
+    let one = cell(1, 7);
+    for budget in [0, 1, u32::MAX] {
+        let answer = |flags: &[u32], buffer: &[u8]| {
+            evaluate_answer(&no_clauses(flags).bytes(), buffer, budget)
+        };
+        assert_eq!(answer(&[], &[]), "true 0");
+        assert_eq!(answer(&[0], &one), "true 0");
+        assert_eq!(answer(&[0], &[]), "refused 14 0 0");
+        assert_eq!(answer(&[0], &cell(3, 3)), "refused 14 0 0");
+        assert_eq!(answer(&[0], &cell(3, 2)), "true 0");
+        assert_eq!(answer(&[], &one), "refused 14 0 0");
+        assert_eq!(answer(&[1], &one), "refused 9 0 0");
     }
 }

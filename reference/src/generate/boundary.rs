@@ -15,6 +15,7 @@ pub fn condition(rng: &mut Random, small: bool) -> Condition {
         integers,
         integers,
         integers,
+        no_nodes,
         integer_ends,
         order,
         shared_empty,
@@ -35,7 +36,7 @@ pub fn condition(rng: &mut Random, small: bool) -> Condition {
         loops,
     ];
     // The small ones stand first.
-    let some = if small { &limits[..10] } else { limits };
+    let some = if small { &limits[..11] } else { limits };
     rng.pick(some)(rng)
 }
 
@@ -49,6 +50,21 @@ fn with_value(draft: Draft, value: Value) -> Condition {
         draft,
         values: vec![Some(value)],
     }
+}
+
+/// A gate with no clauses yet: given sets, and identifiers of either sort.
+pub fn no_nodes(rng: &mut Random) -> Condition {
+    let mut d = Draft::default();
+    let sets = rng.below(3);
+    d.sizes.extend((0..sets).map(|_| rng.between(1, 32) as u32));
+    let mut values = Vec::new();
+    for _ in 0..rng.below(3) {
+        let flag = u32::from(rng.chance(30));
+        d.identifier(flag);
+        let value = typed::random_value(rng, &Type::Integer, &[], true);
+        values.push((flag == 0).then_some(value));
+    }
+    Condition { draft: d, values }
 }
 
 const ENDS: [i32; 8] = [i32::MIN, i32::MIN + 1, -1, 0, 1, 2, i32::MAX - 1, i32::MAX];

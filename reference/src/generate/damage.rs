@@ -37,11 +37,11 @@ pub fn draft(rng: &mut Random, sound: &Draft) -> Draft {
             let x = rng.below(d.flags.len());
             d.flags[x] ^= 1;
         }
-        2 => other_child(rng, &mut d),
+        2 if !d.nodes.is_empty() => other_child(rng, &mut d),
         3 => {
             d.nodes.pop();
         }
-        4 => {
+        4 if !d.nodes.is_empty() => {
             // A tail that makes the last node an expression.
             let root = d.nodes.len() as u32 - 1;
             d.one(Kind::Bool, root);
@@ -84,7 +84,7 @@ fn other_child(rng: &mut Random, d: &mut Draft) {
 
 /// Wraps the condition into a binder of an identifier that is there already.
 fn second_binder(rng: &mut Random, d: &mut Draft) {
-    if d.flags.is_empty() {
+    if d.flags.is_empty() || d.nodes.is_empty() {
         return;
     }
     let x = rng.below(d.flags.len()) as u32;
@@ -125,13 +125,11 @@ pub fn bytes(rng: &mut Random, table: &mut Vec<u8>) {
 /// Replaces one word; each section gets its share.
 fn damaged_word(rng: &mut Random, table: &mut [u8]) {
     let words = table.len() / 4;
-    let header = |rng: &mut Random| rng.below(8);
     let records = words - 8;
-    let first = 8 + rng.below(records.min(8));
     let at = match rng.below(3) {
-        0 => header(rng),
-        1 => first,
-        _ => 8 + rng.below(records),
+        1 if records > 0 => 8 + rng.below(records.min(8)),
+        2 if records > 0 => 8 + rng.below(records),
+        _ => rng.below(8),
     };
     let old = u32::from_le_bytes(table[4 * at..4 * at + 4].try_into().expect("four bytes"));
     let new = match rng.below(4) {

@@ -255,8 +255,16 @@ impl Generator {
         condition
     }
 
+    /// A condition that Check accepts, or a gate with no clauses yet.
+    fn sound(&mut self) -> Condition {
+        match self.rng.chance(10) {
+            true => boundary::no_nodes(&mut self.rng),
+            false => self.well_typed(),
+        }
+    }
+
     fn damaged(&mut self) -> Sample {
-        let base = self.well_typed();
+        let base = self.sound();
         let draft = damage::draft(&mut self.rng, &base.draft);
         let condition = Condition {
             draft,
@@ -269,9 +277,9 @@ impl Generator {
     }
 
     fn buffers(&mut self) -> Sample {
-        let mut condition = self.well_typed();
+        let mut condition = self.sound();
         while condition.values.iter().flatten().next().is_none() && self.rng.chance(90) {
-            condition = self.well_typed();
+            condition = self.sound();
         }
         let values = buffers::damaged(&mut self.rng, &condition);
         let mut sample = self.finished(&condition);
@@ -379,7 +387,8 @@ fn shuffled(rng: &mut Random, draft: &Draft) -> Draft {
         }
     }
     // A draft that is no tree keeps its numbers.
-    match order.len() == count && order.last() == Some(&(count as u32 - 1)) {
+    let root_last = order.last().map(|&last| last as usize) == count.checked_sub(1);
+    match order.len() == count && root_last {
         true => draft.renumbered(&order),
         false => draft.clone(),
     }

@@ -33,7 +33,7 @@ fn append(draft: &mut Draft, other: &Draft) {
 }
 
 impl Generator {
-    /// A table with that many nodes; without a fault Check accepts it where it has three nodes or more.
+    /// A table with that many nodes; without a fault Check accepts it where it has none, or three and more.
     pub fn sized(&mut self, nodes: usize, fault: bool) -> Vec<u8> {
         let mut draft = self.filled(nodes);
         if self.rng.chance(50) {
@@ -43,7 +43,7 @@ impl Generator {
             return draft.bytes();
         }
         match self.rng.below(3) {
-            0 => self.mutate(&mut draft),
+            0 if nodes > 0 => self.mutate(&mut draft),
             1 => draft = damage::draft(&mut self.rng, &draft),
             _ => {}
         }
