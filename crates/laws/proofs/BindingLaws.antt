@@ -21,14 +21,14 @@ use Rattle.rules.specs.Tables.{Node, Table, nodeAt, kindAt, fieldsIf, fieldsAt,
 use Rattle.rules.specs.Tables.{tableOf, identifierCount, nodeCount}
 use Rattle.rules.specs.Ends.{End, done, refused, require, unlessFound, requireAll}
 use Rattle.rules.specs.Reading.{headed, limited, laidOut, nodeGood, parentGood, occurrences, binders}
-use Rattle.rules.specs.Reading.{occursIn, occursInAny, bindsHere, occursFree, binding, reading}
+use Rattle.rules.specs.Reading.{occursIn, occursInAny, bindsHere, occursFree, occursInRoot, binding, reading}
 use Rattle.rules.specs.Readable.{CategoryIs, FieldsRight, NodeRight, BindingRight, Readable}
 use Rattle.rules.specs.Binding.{ChildOf, InTree, top, UsesAt, BinderKind, BindsAt, InRangeTree, InBodyTree, InScopeOf}
 use Rattle.rules.specs.Binding.{UsedInBody, WrittenFor, BindingWritten}
 use Rattle.rules.proofs.Basics.{absurd01}
 use Rattle.laws.proofs.EndLaws.{T-true, T-false, T-leb, require-refused, unlessFound-refused}
 use Rattle.laws.proofs.EndLaws.{requireAll-done, requireAll-refused, Each, inTurn, inTurn-done, inTurn-passed}
-use Rattle.laws.proofs.TableLaws.{nodes-length, fields-right, occursFree-at}
+use Rattle.laws.proofs.TableLaws.{nodes-length, fields-right, occursFree-at, some-root, by-root}
 use Rattle.laws.proofs.TreeLaws.{holder, one-held, two-held, only-held, InFields, field-picked, in-right, HasField, held-field, field-held}
 use Rattle.laws.proofs.TreeLaws.{tree-above, tree-split, child-lower, one-parent, parent, trees-apart}
 use Rattle.laws.proofs.ReadingLaws.{nodeGood-right, parentGood-right, binding-right, stages, reading-stages, reading-right}
@@ -217,12 +217,6 @@ last-in : (ns : List Node) → 0 < length ns → lastNode ns < length ns
 unfolding lastNode
 last-in ns l = omega arith
 
--- Where there is no node, nothing occurs.
-no-nodes : (ns : List Node) (x : ℕ) → length ns ≡ 0 → T (occursFree ns x (lastNode ns)) → ⊥
-unfolding occursFree lastNode
-no-nodes [] x e t = t
-no-nodes (d ∷ ns) x e t = omega arith
-
 -- A table whose nodes pass 6, and 7 but for the root's category; of the other refusals nothing is asked.
 module _ (tb : Table) (right : (n : ℕ) → n < length (tb .nodes) → NodeRight tb n)
     (once : (n : ℕ) → n < lastNode (tb .nodes) → occurrences n (heldIn isChild (tb .nodes)) ≡ 1) (x : ℕ) where
@@ -372,29 +366,28 @@ module _ (tb : Table) (right : (n : ℕ) → n < length (tb .nodes) → NodeRigh
           step p (inl s) f = f s
           step p (inr (g, e)) f = inr (p, g, rw e t)
 
-  -- x does not occur free in the root exactly where each use of x stands in the body of a binder of x.
-  pub used-in-body : (occursFree (tb .nodes) x (lastNode (tb .nodes)) ≡ false) ↔ UsedInBody (tb .nodes) x
+  -- x does not occur free in the whole condition exactly where each use of x stands in the body of a binder of x.
+  pub used-in-body : (occursInRoot (tb .nodes) x ≡ false) ↔ UsedInBody (tb .nodes) x
   used-in-body = (to, from)
     where
-      to : occursFree (tb .nodes) x (lastNode (tb .nodes)) ≡ false → UsedInBody (tb .nodes) x
+      to : occursInRoot (tb .nodes) x ≡ false → UsedInBody (tb .nodes) x
       to e u h = go (above u (lastNode (tb .nodes)) u (omega arith) (h .0) top (free-use u h))
         where
           go : FreeIn (lastNode (tb .nodes)) ⊎ InScopeOf (tb .nodes) x u → InScopeOf (tb .nodes) x u
-          go (inl t) = absurd (rw e at t)
+          go (inl t) = absurd (rw (← some-root false (occursFree (tb .nodes) x) (tb .nodes) (omega (arith, h .0)), e) at t)
           go (inr r) = r
 
-      from : UsedInBody (tb .nodes) x → occursFree (tb .nodes) x (lastNode (tb .nodes)) ≡ false
-      from w = T-false (occursFree (tb .nodes) x (lastNode (tb .nodes))) .0 (go (decLt 0 (length (tb .nodes))))
-        where
-          go : Dec (0 < length (tb .nodes)) → FreeIn (lastNode (tb .nodes)) → ⊥
-          go (yes l) t = outside-free w (length (tb .nodes)) (lastNode (tb .nodes)) (last-in (tb .nodes) l) (last-in (tb .nodes) l) root-outside t
-          go (no l) t = no-nodes (tb .nodes) x (omega arith) t
+      from : UsedInBody (tb .nodes) x → occursInRoot (tb .nodes) x ≡ false
+      from w =
+          by-root false (occursFree (tb .nodes) x) (λ b. b ≡ false) (tb .nodes) refl λ l.
+          let i = last-in (tb .nodes) l in
+          T-false (occursFree (tb .nodes) x (lastNode (tb .nodes))) .0 (outside-free w (length (tb .nodes)) (lastNode (tb .nodes)) i i root-outside)
 
-  by-word : (w : ℕ) → BindingRight w (binders (tb .nodes) x) (occursFree (tb .nodes) x (lastNode (tb .nodes))) ↔ WrittenFor w (tb .nodes) x
+  by-word : (w : ℕ) → BindingRight w (binders (tb .nodes) x) (occursInRoot (tb .nodes) x) ↔ WrittenFor w (tb .nodes) x
   by-word zero = binders-none (tb .nodes) x
   by-word (suc w) = (to, from)
     where
-      to : BindingRight (suc w) (binders (tb .nodes) x) (occursFree (tb .nodes) x (lastNode (tb .nodes))) → WrittenFor (suc w) (tb .nodes) x
+      to : BindingRight (suc w) (binders (tb .nodes) x) (occursInRoot (tb .nodes) x) → WrittenFor (suc w) (tb .nodes) x
       to (e, f) = let r = binders-one (tb .nodes) x .0 e in (r .0, r .1, r .2, λ u h. go (r .0) (r .1) (r .2) u (used-in-body .0 f u h))
         where
           go : (b : ℕ) → BindsAt (tb .nodes) x b → ((d : ℕ) → BindsAt (tb .nodes) x d → d ≡ b) → (u : ℕ) → InScopeOf (tb .nodes) x u →
@@ -402,7 +395,7 @@ module _ (tb : Table) (right : (n : ℕ) → n < length (tb .nodes) → NodeRigh
           go b g same u (d, h, t) =
               let s : InBodyTree (tb .nodes) b u = subst (λ b. InBodyTree (tb .nodes) b u) (same d h) t in (s, not-in-range b u g s)
 
-      from : WrittenFor (suc w) (tb .nodes) x → BindingRight (suc w) (binders (tb .nodes) x) (occursFree (tb .nodes) x (lastNode (tb .nodes)))
+      from : WrittenFor (suc w) (tb .nodes) x → BindingRight (suc w) (binders (tb .nodes) x) (occursInRoot (tb .nodes) x)
       from (b, g, same, f) = (binders-one (tb .nodes) x .1 (b, g, same), used-in-body .1 (λ u h. (b, g, f u h .0)))
 
   -- The test of refusal 9 passes exactly where the binding rules hold.

@@ -6,31 +6,34 @@ use Prim.Native.Nat.{ℕ, _≤_}
 use mathlib.Core.Bool.{Bool, true, false, Bool·beq}
 use mathlib.Core.List.{List, [], _∷_}
 use mathlib.Core.Logic.{_↔_, _⊎_, inl, inr}
+use mathlib.Core.Option.{Option, none as nothing, some}
 use mathlib.Core.Path.{_≡_, refl, sym, ap, _∙_, subst, subst₂}
 use native.Mathlib.Omega.{arith}
 use lib.Dec.{T, T-not, not-T}
-use lib.ListN.{getD, length}
+use lib.ListN.{getD}
 use Rattle.rules.specs.Values.{Value, truthValue}
 use Rattle.rules.specs.Kinds.{Join, and, or, implies, iff, Test, Quant, forAll, forSome}
 use Rattle.rules.specs.Kinds.{Leaf, identifier, givenSet, elementOf, literal, truthConst, emptySet, boolSet}
 use Rattle.rules.specs.Rules.{Rule, testRule, oneRule, twoRule, quantRule, comprehensionRule}
 use Rattle.rules.specs.Fits.{Fits}
-use Rattle.rules.specs.Tables.{Table, Pred, joinᵖ, notᵖ, testᵖ, quantᵖ, Expr, leafᵉ, boolᵉ, oneᵉ, twoᵉ, comprehensionᵉ, lastNode, root}
+use Rattle.rules.specs.Tables.{Table, Pred, joinᵖ, notᵖ, testᵖ, quantᵖ, Expr, leafᵉ, boolᵉ, oneᵉ, twoᵉ, comprehensionᵉ, conditionOf}
 use Rattle.rules.specs.Ends.{End, done, refused}
 use Rattle.rules.specs.Reading.{reading}
 use Rattle.rules.specs.Readable.{Records}
 use Rattle.rules.specs.Cells.{noValue, valuesIn}
 use Rattle.rules.specs.Runs.{M, return, _>>=_, visit, form, _orElse_, Given, gives}
 use Rattle.rules.specs.Operations.{elems, setOf, Env, _with_≔_, decides, joined, holds, leafValue, oneValue, twoValue}
-use Rattle.rules.specs.Evaluation.{fitting, quantify, select, holdsᵖ, valueᵉ, run, evaluation}
+use Rattle.rules.specs.Evaluation.{fitting, quantify, select, holdsᵖ, valueᵉ, holdsᶜ, run, evaluation}
 use Rattle.laws.proofs.CellsLaws.{good-wellFormed, size-below}
+use Rattle.laws.proofs.TableLaws.{IfSome}
 use Rattle.laws.proofs.ReadingLaws.{reading-table, reading-readable}
 use Rattle.laws.proofs.Soundness.{evaluation-run}
 use Rattle.laws.proofs.SetOrder.{All, Any, Before, Rising, all-imp, elems-well}
 use Rattle.laws.proofs.Membership.{In, all-in, in-all}
 use Rattle.laws.proofs.SetMeaning.{_∈_, IsSetOf, TestMeans, OneMeans, TwoMeans, LeafMeans}
 use Rattle.laws.proofs.SetMeaning.{set-of, setOf-only, test-means, one-means, two-means, leaf-means, one-only, two-only}
-use Rattle.laws.proofs.FormedLaws.{Ended, Forms, bind, visit-forms, fitting-forms, given-forms, Good, EnvGood, Leavesᵖ, Leavesᵉ, elems-good, with-good, expr-forms, predAt-leaves, valuesIn-good}
+use Rattle.laws.proofs.FormedLaws.{Ended, Forms, bind, visit-forms, fitting-forms, given-forms}
+use Rattle.laws.proofs.FormedLaws.{Good, EnvGood, Leavesᵖ, Leavesᵉ, elems-good, with-good, expr-forms, condition-leaves, valuesIn-good}
 
 -- 1, 2, 3 and 5
 abbrev pub JoinMeans : Join → Type 0 → Type 0 → Type 0
@@ -70,6 +73,11 @@ module _ (sizes : List ℕ) where
     Denotes (oneᵉ n j e) ρ v = (x : Value) × Denotes e ρ x × OneMeans j x (gives v)
     Denotes (twoᵉ n j e f) ρ v = (x : Value) × (y : Value) × Denotes e ρ x × Denotes f ρ y × TwoMeans j x y (gives v)
     Denotes (comprehensionᵉ n x r p) ρ v = (s : Value) × Denotes r ρ s × IsSetOf (λ w. (w ∈ s) × Trueᵖ p (ρ with x ≔ w)) v
+
+  -- A condition that is absent is true.
+  abbrev pub Trueᶜ : Option Pred → Env → Type 0
+  Trueᶜ nothing ρ = Unit {0}
+  Trueᶜ (some p) ρ = Trueᵖ p ρ
 
   leaf-only : (j : Leaf) (a b : ℕ) (ρ : Env) (v w : Value) → LeafMeans sizes j a b ρ v → LeafMeans sizes j a b ρ w → v ≡ w
   leaf-only identifier a b ρ v w h k = h ∙ sym k
@@ -316,12 +324,20 @@ module _ (budget : ℕ) (gs : List ℕ) (few : (g : ℕ) → getD gs g 0 ≤ 256
 -- The truth that Evaluate answers is that of the condition, at the values of the buffer.
 pub evaluation-means : (bs buffer : List ℕ) (budget : ℕ) (tb : Table) (vs : List Value) (b : Bool) →
     reading bs ≡ done tb → valuesIn tb buffer ≡ done vs → evaluation bs buffer budget .end ≡ done b →
-    T b ↔ Trueᵖ (tb .sizes) (root tb) (λ x. getD vs x noValue)
-unfolding run root
+    T b ↔ Trueᶜ (tb .sizes) (conditionOf tb) (λ x. getD vs x noValue)
+unfolding run
 evaluation-means bs buffer budget tb vs b e f a =
-    let r : Records tb = rw (reading-table bs tb e) (reading-readable bs tb e .records) in
-    let few : (g : ℕ) → getD (tb .sizes) g 0 ≤ 256 = size-below (tb .sizes) 256 (λ g l. omega (arith, r .sizes g l .1)) in
-    let c : run tb vs budget .end ≡ done b = rw (evaluation-run bs buffer budget tb vs e f) at a in
-    let k = pred-means budget (tb .sizes) few (root tb) (λ x. getD vs x noValue)
-    (predAt-leaves tb r (length (tb .nodes)) (lastNode (tb .nodes))) (valuesIn-good tb buffer vs f) 0 .0 in
-    rw c at k
+    go (conditionOf tb) (condition-leaves tb right) (rw (evaluation-run bs buffer budget tb vs e f) at a)
+  where
+    right : Records tb
+    right = rw (reading-table bs tb e) (reading-readable bs tb e .records)
+
+    few : (g : ℕ) → getD (tb .sizes) g 0 ≤ 256
+    few = size-below (tb .sizes) 256 (λ g l. omega (arith, right .sizes g l .1))
+
+    ρ : Env
+    ρ x = getD vs x noValue
+
+    go : (c : Option Pred) → IfSome (Leavesᵖ (tb .sizes)) c → holdsᶜ budget (tb .sizes) c ρ 0 .end ≡ done b → T b ↔ Trueᶜ (tb .sizes) c ρ
+    go nothing l q = let t : b ≡ true = cc in rw t (λ _. tt, λ _. tt)
+    go (some p) l q = let k = pred-means budget (tb .sizes) few p ρ l (valuesIn-good tb buffer vs f) 0 .0 in rw q at k

@@ -16,7 +16,7 @@ use Rattle.rules.specs.Kinds.{Leaf, identifier, givenSet, elementOf, literal, t
 use Rattle.rules.specs.Kinds.{Kind, join, negation, test, quant, leaf, boolOf, one, two, comprehension, kindOf}
 use Rattle.rules.specs.Rules.{Pattern, inst, Rule, Says, testRule, oneRule, twoRule, quantRule, comprehensionRule}
 use Rattle.rules.specs.Fits.{HasType, Fits, fits, typed}
-use Rattle.rules.specs.Tables.{Node, Table, nodeAt, kindAt, fieldWords, noNode, predOf, exprOf, predAt, exprAt, lastNode, root}
+use Rattle.rules.specs.Tables.{Node, Table, nodeAt, kindAt, fieldWords, noNode, predOf, exprOf, predAt, exprAt, lastNode, conditionOf}
 use Rattle.rules.specs.Tables.{Pred, joinᵖ, notᵖ, testᵖ, quantᵖ, Expr, leafᵉ, boolᵉ, oneᵉ, twoᵉ, comprehensionᵉ}
 use Rattle.rules.specs.Ends as EndsSafely
 use Rattle.rules.specs.Ends.{End, done, refused, require}
@@ -26,7 +26,8 @@ use Rattle.rules.specs.Cells.{wellFormed, good, weightLimit, noValue, Read, val
 use Rattle.rules.specs.Cells.{orFault, valueFor, nothingLeft, valuesFrom, valuesIn}
 use Rattle.rules.specs.Runs.{Trace, M, goOn, _>>=_, demand, counted, visit, emit, form, _orElse_, Given, gives, lacks}
 use Rattle.rules.specs.Operations.{elems, setOf, elementsFrom, Env, _with_≔_, decides, leafValue, oneValue, twoValue}
-use Rattle.rules.specs.Evaluation.{fitting, quantify, select, holdsᵖ, valueᵉ, run, evaluation}
+use Rattle.rules.specs.Evaluation.{fitting, quantify, select, holdsᵖ, valueᵉ, holdsᶜ, run, evaluation}
+use Rattle.laws.proofs.TableLaws.{IfSome, condition-has}
 use Rattle.laws.proofs.OrderLaws.{and-left, and-right}
 use Rattle.laws.proofs.FitsLaws.{fits-right, typed-right}
 use Rattle.laws.proofs.SetTypes.{AllHave, GivenHas, elems-have, values-have, elements-have, one-has, two-has}
@@ -406,12 +407,18 @@ module _ (tb : Table) (r : Records tb) where
         exprOf-leaves (tb .sizes) (kindAt (tb .nodes) n) n (nodeAt (tb .nodes) n)
         (λ m. predAt f (tb .nodes) m) (λ m. exprAt f (tb .nodes) m) (node-leaf tb r n) (λ m. predAt-leaves f m) (λ m. exprAt-leaves f m)
 
+pub condition-leaves : (tb : Table) → Records tb → IfSome (Leavesᵖ (tb .sizes)) (conditionOf tb)
+condition-leaves tb r = condition-has tb (Leavesᵖ (tb .sizes)) (λ _. predAt-leaves tb r (length (tb .nodes)) (lastNode (tb .nodes)))
+
 -- Every value that a run forms is good.
-pub run-good : (tb : Table) (vs : List Value) (budget : ℕ) → 0 < length (tb .nodes) → Records tb →
+pub run-good : (tb : Table) (vs : List Value) (budget : ℕ) → Records tb →
     ((x : ℕ) → T (good (tb .sizes) (getD vs x noValue))) → FormedGood (tb .sizes) (run tb vs budget .formed)
-unfolding run root
-run-good tb vs budget some-node r h =
-    pred-forms budget (tb .sizes) (root tb) (λ x. getD vs x noValue) (predAt-leaves tb r (length (tb .nodes)) (lastNode (tb .nodes))) h 0 .1
+unfolding run
+run-good tb vs budget r h = go (conditionOf tb) (condition-leaves tb r)
+  where
+    go : (c : Option Pred) → IfSome (Leavesᵖ (tb .sizes)) c → FormedGood (tb .sizes) (holdsᶜ budget (tb .sizes) c (λ x. getD vs x noValue) 0 .formed)
+    go nothing l = tt
+    go (some p) l = pred-forms budget (tb .sizes) p (λ x. getD vs x noValue) l h 0 .1
 
 -- The value of an expression of the tree is good where the identifiers' values are.
 pub value-good : (budget : ℕ) (tb : Table) → Records tb → (f n : ℕ) (ρ : Env) (s : ℕ) (v : Value) →
@@ -475,11 +482,11 @@ pub valuesIn-length : (tb : Table) (bs : List ℕ) (vs : List Value) → valuesI
 valuesIn-length tb bs vs e = valuesIn-ended tb bs vs e .1
 
 -- Every value that an evaluation forms is good; where 14 refuses there is none.
-pub evaluation-good : (bs buffer : List ℕ) (budget : ℕ) (tb : Table) → reading bs ≡ done tb → 0 < length (tb .nodes) → Records tb →
+pub evaluation-good : (bs buffer : List ℕ) (budget : ℕ) (tb : Table) → reading bs ≡ done tb → Records tb →
     FormedGood (tb .sizes) (evaluation bs buffer budget .formed)
 unfolding evaluation
-evaluation-good bs buffer budget tb e some-node r = rw e (go (valuesIn tb buffer) refl)
+evaluation-good bs buffer budget tb e r = rw e (go (valuesIn tb buffer) refl)
   where
     go : (v : End (List Value)) → valuesIn tb buffer ≡ v → FormedGood (tb .sizes) (goOn v 0 [] (λ vs _. run tb vs budget) .formed)
-    go (done vs) h = run-good tb vs budget some-node r (valuesIn-good tb buffer vs h)
+    go (done vs) h = run-good tb vs budget r (valuesIn-good tb buffer vs h)
     go (refused k p) h = tt

@@ -19,3 +19,4 @@ pub mod TraceLaws
 pub mod ConditionMeaning
 pub mod VerdictLaws
 pub mod RefusalLaws
+pub mod NoClauses

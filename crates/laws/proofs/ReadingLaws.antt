@@ -16,7 +16,7 @@ use Rattle.rules.specs.Tables.{wordAt, Table, tableOf, nodeAt, kindAt, fieldsIf
 use Rattle.rules.specs.Tables.{givenCount, identifierCount, nodeCount, givensAt, identifiersAt, nodesAt, wholeLength}
 use Rattle.rules.specs.Ends.{End, done, refused, require, unlessFound, leastFailing, requireAll}
 use Rattle.rules.specs.Reading.{headed, limited, laidOut, sizeGood, bindGood, categoryIs, fieldGood, fieldsGood, known, nodeGood}
-use Rattle.rules.specs.Reading.{occurrences, parentGood, height, heightLimit, heightGood, binders, occursFree, boundRight, binding}
+use Rattle.rules.specs.Reading.{occurrences, parentGood, height, heightLimit, heightGood, binders, occursInRoot, boundRight, binding}
 use Rattle.rules.specs.Reading.{reading}
 use Rattle.rules.specs.Readable.{CategoryIs, FieldRight, FieldsRight, KindRight, NodeRight, BindingRight, Header, Records, Readable}
 use Rattle.rules.specs.Refusals.{refusalPlaces, PlaceInRange, RefusesOnly}
@@ -31,10 +31,9 @@ unfolding headed
 headed-right bs = simp (T-and, T-leb, T-eqb) Iff·rfl
 
 pub limited-right : (bs : List ℕ) → T (limited bs) ↔
-    ((givenCount bs ≤ 16) × (identifierCount bs ≤ 32) × (1 ≤ nodeCount bs) × (nodeCount bs ≤ 512))
+    ((givenCount bs ≤ 16) × (identifierCount bs ≤ 32) × (nodeCount bs ≤ 512))
 unfolding limited
-limited-right bs = simp (T-and, T-leb)
-    (λ h. (h .0 .0 .0, h .0 .0 .1, h .0 .1, h .1), λ h. (((h .0, h .1), h .2), h .3))
+limited-right bs = simp (T-and, T-leb) (λ h. (h .0 .0, h .0 .1, h .1), λ h. ((h .0, h .1), h .2))
 
 pub laidOut-right : (bs : List ℕ) → T (laidOut bs) ↔
     ((wordAt bs 16 ≡ givensAt) × (wordAt bs 20 ≡ identifiersAt bs) × (wordAt bs 24 ≡ nodesAt bs)
@@ -56,8 +55,7 @@ header-right bs = (to, from)
           form = h .1;
           givens = l .0;
           identifiers = l .1;
-          some-node = l .2;
-          few-nodes = l .3;
+          few-nodes = l .2;
           givens-at = o .0;
           identifiers-at = o .1;
           nodes-at = o .2;
@@ -68,7 +66,7 @@ header-right bs = (to, from)
     from : Header bs → T (headed bs) × T (limited bs) × T (laidOut bs)
     from r = (
       headed-right bs .1 (r .long, r .form),
-      limited-right bs .1 (r .givens, r .identifiers, r .some-node, r .few-nodes),
+      limited-right bs .1 (r .givens, r .identifiers, r .few-nodes),
       laidOut-right bs .1 (r .givens-at, r .identifiers-at, r .nodes-at, r .ends-at, r .extent),
     )
 
@@ -146,11 +144,11 @@ boundRight-right zero n occ = T-eqb n 0
 boundRight-right (suc w) n occ = simp (T-and, T-eqb, T-not) Iff·rfl
 
 pub binding-right : (tb : Table) (x : ℕ) → T (binding tb x) ↔
-    BindingRight (getD (tb .binds) x 0) (binders (tb .nodes) x) (occursFree (tb .nodes) x (lastNode (tb .nodes)))
+    BindingRight (getD (tb .binds) x 0) (binders (tb .nodes) x) (occursInRoot (tb .nodes) x)
 unfolding binding
-binding-right tb x = boundRight-right (getD (tb .binds) x 0) (binders (tb .nodes) x) (occursFree (tb .nodes) x (lastNode (tb .nodes)))
+binding-right tb x = boundRight-right (getD (tb .binds) x 0) (binders (tb .nodes) x) (occursInRoot (tb .nodes) x)
 
--- Refusals 4 to 9 together. Where there is a node, the last one is among those that refusal 7 asks about.
+-- Refusals 4 to 9 together. Where there are nodes, the last one is among those that refusal 7 asks about.
 abbrev pub AllGood : Table → Type 0
 AllGood tb =
     ((g : ℕ) → g < length (tb .sizes) → T (sizeGood tb g))
@@ -160,9 +158,9 @@ AllGood tb =
     × ((n : ℕ) → n < length (tb .nodes) → T (heightGood tb n))
     × ((x : ℕ) → x < length (tb .binds) → T (binding tb x))
 
-pub records-right : (tb : Table) → 1 ≤ length (tb .nodes) → AllGood tb ↔ Records tb
+pub records-right : (tb : Table) → AllGood tb ↔ Records tb
 unfolding lastNode
-records-right tb some-node = (to, from)
+records-right tb = (to, from)
   where
     to : AllGood tb → Records tb
     to t = record {
@@ -170,7 +168,7 @@ records-right tb some-node = (to, from)
       words = λ x p. bindGood-right tb x .0 (t .1 x p);
       fields = λ n p. nodeGood-right tb n .0 (t .2 n p);
       once = λ n p. parentGood-right tb n .0 (t .3 n (omega arith)) .1 (λ e. omega arith);
-      root = parentGood-right tb (lastNode (tb .nodes)) .0 (t .3 (lastNode (tb .nodes)) (omega arith)) .0 refl;
+      root = λ l. parentGood-right tb (lastNode (tb .nodes)) .0 (t .3 (lastNode (tb .nodes)) (omega arith)) .0 refl;
       heights = λ n p. heightGood-right tb n .0 (t .4 n p);
       bindings = λ x p. binding-right tb x .0 (t .5 x p);
     }
@@ -180,7 +178,7 @@ records-right tb some-node = (to, from)
       λ g p. sizeGood-right tb g .1 (r .sizes g p),
       λ x p. bindGood-right tb x .1 (r .words x p),
       λ n p. nodeGood-right tb n .1 (r .fields n p),
-      λ n p. parentGood-right tb n .1 (λ e. rw e (r .root), λ e. r .once n (omega arith)),
+      λ n p. parentGood-right tb n .1 (λ e. rw e (r .root (omega arith)), λ e. r .once n (omega arith)),
       λ n p. heightGood-right tb n .1 (r .heights n p),
       λ x p. binding-right tb x .1 (r .bindings x p),
     )
@@ -277,17 +275,14 @@ stages-good bs = (to, from)
 stages-right : (bs : List ℕ) → Each (λ m. m ≡ done tt) (stages bs) ↔ Readable bs
 stages-right bs = (to, from)
   where
-    nodes : Header bs → 1 ≤ length (tableOf bs .nodes)
-    nodes h = rw (nodes-length bs) (h .some-node)
-
     to : Each (λ m. m ≡ done tt) (stages bs) → Readable bs
     to s =
         let t = stages-good bs .0 s in
         let h : Header bs = header-right bs .0 (t .0) in
-        record { header = h; records = records-right (tableOf bs) (nodes h) .0 (t .1) }
+        record { header = h; records = records-right (tableOf bs) .0 (t .1) }
 
     from : Readable bs → Each (λ m. m ≡ done tt) (stages bs)
-    from r = stages-good bs .1 (header-right bs .1 (r .header), records-right (tableOf bs) (nodes (r .header)) .1 (r .records))
+    from r = stages-good bs .1 (header-right bs .1 (r .header), records-right (tableOf bs) .1 (r .records))
 
 -- `reading` gives the table exactly where the bytes are readable.
 pub reading-right : (bs : List ℕ) → (reading bs ≡ done (tableOf bs)) ↔ Readable bs

@@ -16,19 +16,19 @@ use Rattle.rules.specs.Kinds.{Quant, forAll, forSome, One, singleton, power, do
 use Rattle.rules.specs.Kinds.{Two, pairing, union, inter, diff, product, apply, plus, minus, interval}
 use Rattle.rules.specs.Rules.{Rule, testRule, oneRule, twoRule, quantRule, comprehensionRule}
 use Rattle.rules.specs.Fits.{fits}
-use Rattle.rules.specs.Tables.{Table, identifierCount, nodeCount}
+use Rattle.rules.specs.Tables.{Table, identifierCount, nodeCount, Pred, conditionOf}
 use Rattle.rules.specs.Ends.{End, done, refused, require}
 use Rattle.rules.specs.Reading.{reading}
 use Rattle.rules.specs.Readable.{Records}
 use Rattle.rules.specs.Cells.{inRange, weightLimit, noValue, Read, value, good, orFault, valueFor, nothingLeft, valuesFrom, valuesIn}
 use Rattle.rules.specs.Runs.{Trace, Run, M, goOn, _>>=_, _>>_, demand, counted, visit, emit, form, _orElse_, Given, gives, lacks}
 use Rattle.rules.specs.Operations.{Env, _with_≔_, decides, elems, right, keep, pairedWith, setOf, least, applied, ranged, leafValue, oneValue, twoValue}
-use Rattle.rules.specs.Evaluation.{fitting, quantify, select, holdsᵖ, valueᵉ, run, evaluation}
+use Rattle.rules.specs.Evaluation.{fitting, quantify, select, holdsᵖ, valueᵉ, holdsᶜ, run, evaluation}
 use Rattle.rules.specs.Refusals.{PlaceInRange, RefusesOnly}
 use Rattle.rules.specs.Safety.{EndsSafely}
 use Rattle.rules.specs.Verdict.{Place, Verdict, unreadable, misfit, clash, several, heavy, accepts}
 use Rattle.laws.proofs.EndLaws.{T-ltb, T-false, refuses-imp, refuses-bind, require-refuses}
-use Rattle.laws.proofs.TableLaws.{binds-length, nodes-length}
+use Rattle.laws.proofs.TableLaws.{binds-length, nodes-length, IfSome}
 use Rattle.laws.proofs.ReadingLaws.{reading-table, reading-readable, reading-refuses}
 use Rattle.laws.proofs.TreeInduction.{HandsOn, root-has}
 
@@ -219,11 +219,15 @@ module _ (N budget : ℕ) where
     }
 
 -- The run of a readable table.
-pub run-refuses : (tb : Table) (vs : List Value) (budget : ℕ) → 0 < length (tb .nodes) → Records tb →
-    RunRefuses (length (tb .nodes)) budget (run tb vs budget)
+pub run-refuses : (tb : Table) (vs : List Value) (budget : ℕ) → Records tb → RunRefuses (length (tb .nodes)) budget (run tb vs budget)
 unfolding run
-run-refuses tb vs budget some-node r =
-    root-has tb _ _ (nodes-stay (length (tb .nodes)) budget (tb .sizes)) (r .fields) some-node (λ x. getD vs x noValue) 0 (omega arith)
+run-refuses tb vs budget r =
+    go (conditionOf tb) (root-has tb _ _ (nodes-stay (length (tb .nodes)) budget (tb .sizes)) (r .fields))
+  where
+    go : (c : Option Pred) → IfSome (λ p. (ρ : Env) → Stays (length (tb .nodes)) budget (holdsᵖ budget (tb .sizes) p ρ)) c →
+        RunRefuses (length (tb .nodes)) budget (holdsᶜ budget (tb .sizes) c (λ x. getD vs x noValue) 0)
+    go nothing h = (omega arith, tt)
+    go (some p) h = h (λ x. getD vs x noValue) 0 (omega arith)
 
 -- 15 to 19 may name any node.
 node-range : (bs : List ℕ) (k n : ℕ) → k < 5 → n < nodeCount bs → PlaceInRange bs (15 + k) n
@@ -252,7 +256,7 @@ readable-run : (bs : List ℕ) (tb : Table) (vs : List Value) (budget : ℕ) →
     RunRefuses (length (tb .nodes)) budget (run tb vs budget)
 readable-run bs tb vs budget e =
     let r = reading-readable bs tb e in
-    run-refuses tb vs budget (rw (nodes-read bs e) (r .header .some-node)) (rw (reading-table bs tb e) (r .records))
+    run-refuses tb vs budget (rw (reading-table bs tb e) (r .records))
 
 pub evaluation-refuses : (bs buffer : List ℕ) (budget : ℕ) → EvaluationRefuses bs budget (evaluation bs buffer budget)
 unfolding evaluation

@@ -1,32 +1,32 @@
 -- A typed condition is never refused by 15, and every value that its evaluation forms has its node's type: `run-sound`.
-use Prim.Native.Nat.{ℕ, _<_}
+use Prim.Native.Nat.{ℕ}
 use mathlib.Core.List.{List, [], _∷_}
 use mathlib.Core.Bool.{Bool, true, false}
 use mathlib.Core.Option.{Option, none as nothing, some}
 use mathlib.Core.Path.{_≡_, sym, subst, ap, _∙_}
 use mathlib.Core.Logic.{_⊎_, inl, inr}
 use native.Mathlib.Omega.{arith}
-use lib.ListN.{getD, length}
+use lib.ListN.{getD}
 use lib.Dec.{T, ltb, leb, eqb, eqb→eq, eqb-refl}
 use Rattle.rules.specs.Types.{Ty, POW}
 use Rattle.rules.specs.Values.{Value, truthValue, weight}
 use Rattle.rules.specs.Kinds.{Quant, forAll, forSome}
 use Rattle.rules.specs.Rules.{Rule, Pattern, testRule, oneRule, twoRule, quantRule, comprehensionRule, Takes}
 use Rattle.rules.specs.Fits.{HasType, FitAt, fits}
-use Rattle.rules.specs.Tables.{Table, Pred, joinᵖ, notᵖ, testᵖ, quantᵖ, Expr, leafᵉ, boolᵉ, oneᵉ, twoᵉ, comprehensionᵉ, root}
+use Rattle.rules.specs.Tables.{Table, Pred, joinᵖ, notᵖ, testᵖ, quantᵖ, Expr, leafᵉ, boolᵉ, oneᵉ, twoᵉ, comprehensionᵉ, conditionOf}
 use Rattle.rules.specs.Ends.{End, done, refused}
 use Rattle.rules.specs.Reading.{reading}
 use Rattle.rules.specs.Readable.{Records}
 use Rattle.rules.specs.Cells.{weightLimit, noValue, valuesIn}
 use Rattle.rules.specs.Runs.{Trace, Run, M, goOn, _>>=_, _>>_, demand, counted, visit, emit, form, _orElse_, Given, gives, lacks}
 use Rattle.rules.specs.Operations.{Env, _with_≔_, decides, elems, setOf, leafValue, oneValue, twoValue}
-use Rattle.rules.specs.Evaluation.{fitting, quantify, select, holdsᵖ, valueᵉ, run, evaluation}
+use Rattle.rules.specs.Evaluation.{fitting, quantify, select, holdsᵖ, valueᵉ, holdsᶜ, run, evaluation}
 use Rattle.rules.specs.Verdict.{nodePlace, Whole}
 use Rattle.rules.specs.Safety.{Free, Left, EndsSafely, Any, All}
 use Rattle.laws.proofs.FitsLaws.{fits-right}
 use Rattle.laws.proofs.ReadingLaws.{reading-table, reading-readable}
-use Rattle.laws.proofs.TableLaws.{nodes-length}
-use Rattle.laws.proofs.TypedTree.{numberᵉ, Typedᵖ, Typedᵉ, IsExpression, _adding_, Scopedᵖ, Scopedᵉ, typed-root, scoped-root}
+use Rattle.laws.proofs.TableLaws.{IfSome}
+use Rattle.laws.proofs.TypedTree.{numberᵉ, Typedᵖ, Typedᵉ, Typedᵖ-at, IsExpression, _adding_, Scopedᵖ, Scopedᵉ, typed-root, scoped-root}
 use Rattle.laws.proofs.SetOrder.{all-append}
 use Rattle.laws.proofs.SetTypes.{AllHave, GivenHas, values-have, elems-have, one-has, two-has, leaf-has}
 
@@ -211,13 +211,17 @@ abbrev pub SoundRun : Table → (ℕ → Ty) → Run Bool → Type 0
 SoundRun tb θ r = EndsSafely Any (r .end) × All (AtNode (IsExpression tb) (λ n. θ (nodePlace tb n))) (r .formed)
 
 -- The run of a table with a whole typing θ, at values of θ's types for the free identifiers, is never refused by 15.
-pub run-sound : (tb : Table) (θ : ℕ → Ty) (vs : List Value) (budget : ℕ) → 0 < length (tb .nodes) → Records tb → Whole tb θ →
+pub run-sound : (tb : Table) (θ : ℕ → Ty) (vs : List Value) (budget : ℕ) → Records tb → Whole tb θ →
     ((x : ℕ) → Free tb x → HasType (getD vs x noValue) (θ x)) →
     SoundRun tb θ (run tb vs budget)
 unfolding run
-run-sound tb θ vs budget some-node r w e =
-    pred-sound (IsExpression tb) (λ n. θ (nodePlace tb n)) θ budget (tb .sizes) (root tb) (Free tb) (λ x. getD vs x noValue)
-    (typed-root tb θ r w some-node) (scoped-root tb r some-node) e 0
+run-sound tb θ vs budget r w e = go (conditionOf tb) (typed-root tb θ r w) (scoped-root tb r)
+  where
+    go : (c : Option Pred) → IfSome (Typedᵖ-at tb θ) c → IfSome (λ p. Scopedᵖ p (Free tb)) c →
+        SoundRun tb θ (holdsᶜ budget (tb .sizes) c (λ x. getD vs x noValue) 0)
+    go nothing t s = (tt, tt)
+    go (some p) t s =
+        pred-sound (IsExpression tb) (λ n. θ (nodePlace tb n)) θ budget (tb .sizes) p (Free tb) (λ x. getD vs x noValue) t s e 0
 
 -- Evaluate is the run of the table and the values that its bytes hold.
 pub evaluation-run : (bs buffer : List ℕ) (budget : ℕ) (tb : Table) (vs : List Value) →
@@ -233,5 +237,4 @@ pub evaluation-sound : (bs buffer : List ℕ) (budget : ℕ) (tb : Table) (θ : 
 evaluation-sound bs buffer budget tb θ vs e f w h =
     let q = reading-table bs tb e in
     let r = reading-readable bs tb e in
-    rw (evaluation-run bs buffer budget tb vs e f)
-    (run-sound tb θ vs budget (rw (q, nodes-length bs) (r .header .some-node)) (rw q (r .records)) w h)
+    rw (evaluation-run bs buffer budget tb vs e f) (run-sound tb θ vs budget (rw q (r .records)) w h)

@@ -1,5 +1,5 @@
 -- Laws of Tables.antt and of `upward`: how many records a table has and where each stands in the bytes; the children of
--- a right node are below it; height and free occurrence at a node, by those of its children.
+-- a right node are below it; height and free occurrence at a node, by those of its children; the root, where there is one.
 use Prim.Native.Nat.{ℕ, zero, suc, _+_, _*_, _≤_, _<_, max}
 use mathlib.Core.Bool.{Bool, true, false, not, _&&_, _||_}
 use mathlib.Core.List.{List, [], _∷_}
@@ -12,7 +12,7 @@ use Rattle.rules.specs.Kinds.{Kind, predicate, expression, isChild}
 use Rattle.rules.specs.Kinds.{Field, unused, child, use-of, binder-of, setNumber, elementNumber, anyWord, truthBit}
 use Rattle.rules.specs.Tables.{wordAt, wordsFrom, Node, nodeFrom, nodesFrom, Table, tableOf, nodeAt, kindAt, noNode}
 use Rattle.rules.specs.Tables.{givenCount, identifierCount, nodeCount, identifiersAt, nodesAt}
-use Rattle.rules.specs.Tables.{fieldsAt, fieldsIf, fieldWords, pick, held}
+use Rattle.rules.specs.Tables.{fieldsAt, fieldsIf, fieldWords, pick, held, Pred, predAt, lastNode, ofRoot, conditionOf}
 use Rattle.rules.specs.Reading.{occurrences, upward, tallest, heightStep, height}
 use Rattle.rules.specs.Reading.{occursIn, occursInAny, bindsHere, occursStep, occursFree}
 use Rattle.rules.specs.Readable.{FieldRight, FieldsRight, KindRight, NodeRight}
@@ -169,3 +169,39 @@ module _ (tb : Table) (right : (n : ℕ) → n < length (tb .nodes) → NodeRigh
           let d : Node = nodeAt (tb .nodes) n in
           occursInAny-below tb n x (bindsHere x d) h k e (fieldsAt d) (fieldWords d)
           (fields-right tb n (kindAt (tb .nodes) n) (fieldWords d) (right n p))
+
+-- What is said of the root: z without nodes, otherwise what f says of the last node.
+module _ {A : Type 0} (z : A) (f : ℕ → A) where
+  pub no-root : (ns : List Node) → length ns ≡ 0 → ofRoot ns z f ≡ z
+  no-root [] e = refl
+  no-root (d ∷ ns) e = absurd (omega arith)
+
+  pub some-root : (ns : List Node) → 0 < length ns → ofRoot ns z f ≡ f (lastNode ns)
+  some-root [] l = absurd (omega arith)
+  some-root (d ∷ ns) l = refl
+
+  pub by-root : (P : A → Type 0) (ns : List Node) → P z → (0 < length ns → P (f (lastNode ns))) → P (ofRoot ns z f)
+  by-root P [] h k = h
+  by-root P (d ∷ ns) h k = k (omega arith)
+
+-- So too of the condition.
+module _ (tb : Table) where
+  abbrev pub rootTree : Pred
+  rootTree = predAt (length (tb .nodes)) (tb .nodes) (lastNode (tb .nodes))
+
+  pub no-condition : length (tb .nodes) ≡ 0 → conditionOf tb ≡ nothing
+  unfolding conditionOf
+  no-condition = no-root nothing (λ n. some (predAt (length (tb .nodes)) (tb .nodes) n)) (tb .nodes)
+
+  pub some-condition : 0 < length (tb .nodes) → conditionOf tb ≡ some rootTree
+  unfolding conditionOf
+  some-condition = some-root nothing (λ n. some (predAt (length (tb .nodes)) (tb .nodes) n)) (tb .nodes)
+
+-- A property of the condition, where there is one.
+abbrev pub IfSome : {A : Type 0} → (A → Type 0) → Option A → Type 0
+IfSome P nothing = Unit {0}
+IfSome P (some a) = P a
+
+pub condition-has : (tb : Table) (P : Pred → Type 0) → (0 < length (tb .nodes) → P (rootTree tb)) → IfSome P (conditionOf tb)
+unfolding conditionOf
+condition-has tb P h = by-root nothing (λ n. some (predAt (length (tb .nodes)) (tb .nodes) n)) (IfSome P) (tb .nodes) tt h

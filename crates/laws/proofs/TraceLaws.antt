@@ -14,17 +14,18 @@ use Rattle.rules.specs.Values.{Value, truthValue, weight}
 use Rattle.rules.specs.Kinds.{Quant, forAll, forSome}
 use Rattle.rules.specs.Rules.{Rule, testRule, oneRule, twoRule, quantRule, comprehensionRule}
 use Rattle.rules.specs.Fits.{HasType, fits}
-use Rattle.rules.specs.Tables.{Table, Pred, joinᵖ, notᵖ, testᵖ, quantᵖ, Expr, leafᵉ, boolᵉ, oneᵉ, twoᵉ, comprehensionᵉ, root}
+use Rattle.rules.specs.Tables.{Table, Pred, joinᵖ, notᵖ, testᵖ, quantᵖ, Expr, leafᵉ, boolᵉ, oneᵉ, twoᵉ, comprehensionᵉ, conditionOf}
 use Rattle.rules.specs.Ends.{End, done, refused}
 use Rattle.rules.specs.Reading.{occurrences, reading}
 use Rattle.rules.specs.Cells.{weightLimit, noValue, valuesIn}
 use Rattle.rules.specs.Runs.{Trace, Run, M, lift, goOn, _>>=_, _>>_, demand, counted, visit, emit, form, _orElse_, Given, gives, lacks}
 use Rattle.rules.specs.Operations.{Env, _with_≔_, decides, elems, setOf, leafValue, oneValue, twoValue}
-use Rattle.rules.specs.Evaluation.{fitting, quantify, select, holdsᵖ, valueᵉ, run, evaluation}
+use Rattle.rules.specs.Evaluation.{fitting, quantify, select, holdsᵖ, valueᵉ, holdsᶜ, run, evaluation}
 use Rattle.rules.specs.Verdict.{nodePlace, Whole}
 use Rattle.rules.specs.Safety.{Free, All}
 use Rattle.rules.specs.Visits.{Visit, toPred, toExpr, completed, completedAt, formedAt, Completes}
-use Rattle.rules.specs.Visits.{ifDone, thereafter, unlessDecided, ifFits, stopsAt, memberVisits, visitTo, visitsᵖ, visitsᵉ, runVisits, evaluationVisits}
+use Rattle.rules.specs.Visits.{ifDone, thereafter, unlessDecided, ifFits, stopsAt, memberVisits, visitTo}
+use Rattle.rules.specs.Visits.{visitsᵖ, visitsᵉ, visitsᶜ, runVisits, evaluationVisits}
 use Rattle.rules.proofs.Basics.{absurd01}
 use Rattle.laws.proofs.EndLaws.{T-true}
 use Rattle.laws.proofs.TypedTree.{numberᵉ, IsExpression}
@@ -282,17 +283,28 @@ module _ (budget : ℕ) (sizes : List ℕ) where
       go false h o = (o .1, expr-trace a ρ s ∙ ap completed (o .1))
 
 -- So for a whole run: what it forms, how often at each node, and its steps.
-pub run-trace : (tb : Table) (vs : List Value) (budget : ℕ) → run tb vs budget .formed ≡ completed (runVisits tb vs budget)
+run-makes : (tb : Table) (vs : List Value) (budget : ℕ) →
+    (run tb vs budget .formed ≡ completed (runVisits tb vs budget)) × (run tb vs budget .steps ≡ length (runVisits tb vs budget))
 unfolding run runVisits
-run-trace tb vs budget = pred-trace budget (tb .sizes) (root tb) (λ x. getD vs x noValue) 0
+run-makes tb vs budget = go (conditionOf tb)
+  where
+    ρ : Env
+    ρ x = getD vs x noValue
+
+    go : (c : Option Pred) → (holdsᶜ budget (tb .sizes) c ρ 0 .formed ≡ completed (visitsᶜ budget (tb .sizes) c ρ 0)) ×
+        (holdsᶜ budget (tb .sizes) c ρ 0 .steps ≡ length (visitsᶜ budget (tb .sizes) c ρ 0))
+    go nothing = (refl, refl)
+    go (some p) = (pred-trace budget (tb .sizes) p ρ 0, omega (arith, pred-steps budget (tb .sizes) p ρ 0))
+
+pub run-trace : (tb : Table) (vs : List Value) (budget : ℕ) → run tb vs budget .formed ≡ completed (runVisits tb vs budget)
+run-trace tb vs budget = run-makes tb vs budget .0
 
 pub run-counts : (tb : Table) (vs : List Value) (budget n : ℕ) →
     formedAt n (run tb vs budget .formed) ≡ completedAt n (runVisits tb vs budget)
 run-counts tb vs budget n = ap (formedAt n) (run-trace tb vs budget) ∙ completed-at n (runVisits tb vs budget)
 
 pub run-steps : (tb : Table) (vs : List Value) (budget : ℕ) → run tb vs budget .steps ≡ length (runVisits tb vs budget)
-unfolding run runVisits
-run-steps tb vs budget = omega (arith, pred-steps budget (tb .sizes) (root tb) (λ x. getD vs x noValue) 0)
+run-steps tb vs budget = run-makes tb vs budget .1
 
 module _ (bs buffer : List ℕ) (budget : ℕ) where
   evaluation-makes : (evaluation bs buffer budget .formed ≡ completed (evaluationVisits bs buffer budget)) ×

@@ -1,4 +1,4 @@
--- Induction over the condition of a readable table: what every node below N hands on from its children holds of the root,
+-- Induction over the condition of a readable table: what every node below N hands on from its children holds of its tree,
 -- `root-has`. By the depth of the tree: a right node's children have lower numbers.
 use Prim.Native.Nat.{ℕ, zero, suc, _<_}
 use mathlib.Core.Option.{Option, none as nothing, some}
@@ -6,9 +6,10 @@ use native.Mathlib.Omega.{arith}
 use lib.ListN.{length}
 use Rattle.rules.specs.Kinds.{Join, Test, equal, Quant, Leaf, emptySet, One, Two}
 use Rattle.rules.specs.Kinds.{Kind, join, negation, test, quant, leaf, boolOf, one, two, comprehension}
-use Rattle.rules.specs.Tables.{Table, nodeAt, kindAt, fieldWords, lastNode, root, noExpr, noPred, predOf, exprOf, predAt, exprAt}
+use Rattle.rules.specs.Tables.{Table, nodeAt, kindAt, fieldWords, lastNode, conditionOf, noExpr, noPred, predOf, exprOf, predAt, exprAt}
 use Rattle.rules.specs.Tables.{Pred, joinᵖ, notᵖ, testᵖ, quantᵖ, Expr, leafᵉ, boolᵉ, oneᵉ, twoᵉ, comprehensionᵉ}
 use Rattle.rules.specs.Readable.{KindRight, NodeRight}
+use Rattle.laws.proofs.TableLaws.{IfSome, condition-has}
 
 -- Each node below N hands P, of conditions, and Q, of expressions, on from its children.
 pub record HandsOn (N : ℕ) (P : Pred → Type 0) (Q : Expr → Type 0) : Type 0 where
@@ -71,7 +72,7 @@ module _ (tb : Table) (P : Pred → Type 0) (Q : Expr → Type 0) (h : HandsOn (
           expr-has n (λ m. predAt f (tb .nodes) m) (λ m. exprAt f (tb .nodes) m) l
           (λ m q. predAt-has f m (omega arith)) (λ m q. exprAt-has f m (omega arith)) (kindAt (tb .nodes) n) (right n l)
 
-    -- The condition of a table with a node, all of them right.
-    pub root-has : 0 < length (tb .nodes) → P (root tb)
-    unfolding root
-    root-has some-node = predAt-has (length (tb .nodes)) (lastNode (tb .nodes)) (omega arith)
+    -- The condition of a table whose nodes are right.
+    pub root-has : IfSome P (conditionOf tb)
+    unfolding lastNode
+    root-has = condition-has tb P (λ l. predAt-has (length (tb .nodes)) (lastNode (tb .nodes)) (omega arith))

@@ -13,14 +13,15 @@ use Rattle.rules.specs.Kinds.{Leaf, identifier, givenSet, elementOf, literal, t
 use Rattle.rules.specs.Kinds.{Kind, join, negation, test, quant, leaf, boolOf, one, two, comprehension}
 use Rattle.rules.specs.Kinds.{predicate, expression, Field, fieldsOf, isBinder}
 use Rattle.rules.specs.Rules.{testRule, leafRule, oneRule, twoRule, quantRule, comprehensionRule, _gives_, boolᵖ, Obeys}
-use Rattle.rules.specs.Tables.{Node, Table, nodeAt, kindAt, fieldsIf, fieldWords, pick, lastNode, root}
+use Rattle.rules.specs.Tables.{Node, Table, nodeAt, kindAt, fieldsIf, fieldWords, pick, lastNode, conditionOf}
 use Rattle.rules.specs.Tables.{Pred, joinᵖ, notᵖ, testᵖ, quantᵖ, Expr, leafᵉ, boolᵉ, oneᵉ, twoᵉ, comprehensionᵉ}
 use Rattle.rules.specs.Tables.{predOf, exprOf, predAt, exprAt}
-use Rattle.rules.specs.Reading.{occurrences, upward, occursIn, occursInAny, occursStep, occursFree, binders}
+use Rattle.rules.specs.Reading.{occurrences, upward, occursIn, occursInAny, occursStep, occursFree, occursInRoot, binders}
 use Rattle.rules.specs.Readable.{CategoryIs, KindRight, BindingRight, Records}
 use Rattle.rules.specs.Verdict.{nodePlace, ObeysKind, Whole}
 use Rattle.rules.specs.Safety.{Free}
 use Rattle.rules.proofs.Basics.{absurd01, any-default}
+use Rattle.laws.proofs.TableLaws.{some-root, rootTree, IfSome, condition-has}
 
 -- The number of an expression's node.
 abbrev pub numberᵉ : Expr → ℕ
@@ -183,11 +184,11 @@ module _ (tb : Table) (θ : ℕ → Ty) where
           (λ m. number-at f (tb .nodes) m)
 
 -- A whole typing of a table types the tree of its condition.
-pub typed-root : (tb : Table) (θ : ℕ → Ty) → Records tb → Whole tb θ → 0 < length (tb .nodes) →
-    Typedᵖ-at tb θ (root tb)
-unfolding root
-typed-root tb θ r w h =
-    typed-predAt tb θ r w (length (tb .nodes)) (lastNode (tb .nodes)) (omega arith) (omega arith) (r .root)
+pub typed-root : (tb : Table) (θ : ℕ → Ty) → Records tb → Whole tb θ → IfSome (Typedᵖ-at tb θ) (conditionOf tb)
+unfolding lastNode
+typed-root tb θ r w =
+    condition-has tb (Typedᵖ-at tb θ)
+    (λ h. typed-predAt tb θ r w (length (tb .nodes)) (lastNode (tb .nodes)) (omega arith) (omega arith) (r .root h))
 
 or-false : (a b : Bool) → a || b ≡ false → (a ≡ false) × (b ≡ false)
 or-false true b h = absurd01 (cc)
@@ -356,19 +357,24 @@ module _ (tb : Table) where
           (λ x m. occursTo f x m) (r .fields n l) h
           (λ m τ q k. scoped-predAt f m τ (omega arith) k) (λ m τ q k. scoped-exprAt f m τ (omega arith) k)
 
--- An identifier is free or does not occur free at the root.
-free-or-bound : (tb : Table) → Records tb → InScope (length (tb .binds)) (Free tb) (λ x. occursFree (tb .nodes) x (lastNode (tb .nodes)))
+-- An identifier is free or does not occur free in the whole condition.
+free-or-bound : (tb : Table) → Records tb → InScope (length (tb .binds)) (Free tb) (λ x. occursInRoot (tb .nodes) x)
 free-or-bound tb r x l = go (getD (tb .binds) x 0) (any-default (tb .binds) x 1 0 l) (r .bindings x l)
   where
-    go : (w : ℕ) → getD (tb .binds) x 1 ≡ w → BindingRight w (binders (tb .nodes) x) (occursFree (tb .nodes) x (lastNode (tb .nodes))) →
-        Free tb x ⊎ (occursFree (tb .nodes) x (lastNode (tb .nodes)) ≡ false)
+    go : (w : ℕ) → getD (tb .binds) x 1 ≡ w → BindingRight w (binders (tb .nodes) x) (occursInRoot (tb .nodes) x) →
+        Free tb x ⊎ (occursInRoot (tb .nodes) x ≡ false)
     go zero e b = inl (l, e)
     go (suc w) e b = inr (b .1)
 
 -- The tree of a readable table's condition uses only its free identifiers, and bound ones in their binders' bodies.
-pub scoped-root : (tb : Table) → Records tb → 0 < length (tb .nodes) → Scopedᵖ (root tb) (Free tb)
-unfolding root occursFree
-scoped-root tb r h =
-    let e : suc (lastNode (tb .nodes)) ≡ length (tb .nodes) = omega arith in
-    scoped-predAt tb r (length (tb .nodes)) (lastNode (tb .nodes)) (Free tb) (omega arith)
-    (subst (λ (f : ℕ). Below tb (Free tb) (λ x. occursTo tb f x (lastNode (tb .nodes)))) e (free-or-bound tb r))
+pub scoped-root : (tb : Table) → Records tb → IfSome (λ p. Scopedᵖ p (Free tb)) (conditionOf tb)
+unfolding lastNode occursFree
+scoped-root tb r = condition-has tb (λ p. Scopedᵖ p (Free tb)) whole
+  where
+    whole : 0 < length (tb .nodes) → Scopedᵖ (rootTree tb) (Free tb)
+    whole h =
+        let e : suc (lastNode (tb .nodes)) ≡ length (tb .nodes) = omega arith in
+        let free : Below tb (Free tb) (λ x. occursFree (tb .nodes) x (lastNode (tb .nodes))) =
+        λ x l. rw (some-root false (occursFree (tb .nodes) x) (tb .nodes) h) at (free-or-bound tb r x l) in
+        scoped-predAt tb r (length (tb .nodes)) (lastNode (tb .nodes)) (Free tb) (omega arith)
+        (subst (λ (f : ℕ). Below tb (Free tb) (λ x. occursTo tb f x (lastNode (tb .nodes)))) e free)

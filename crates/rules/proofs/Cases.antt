@@ -11,7 +11,7 @@ use Rattle.rules.specs.Kinds.{Kind, kinds, Field, unused, child, use-of,
 use Rattle.rules.specs.Tables.{Node, Table}
 use Rattle.rules.specs.Ends.{End, done, refused}
 use Rattle.rules.specs.Evaluation.{run, evaluation}
-use Rattle.rules.proofs.Rows.{toBytes, node₃, node₂, node₁, node, table, closed, wordsOf, p1, p1-words, element1, sheet, z, pz}
+use Rattle.rules.proofs.Rows.{toBytes, node₃, node₂, node₁, node, table, closed, noClauses, wordsOf, p1, p1-words, element1, sheet, z, pz}
 
 -- A condition without free identifiers, what Check says of it, and how Evaluate ends with the budget 100, with the steps.
 pub record RuleCase : Type 0 where
@@ -223,16 +223,20 @@ pub rule-cases-right : map ran ruleCases ≡ map (λ r. (r .ends, r .steps)) rul
 unfolding run
 rule-cases-right = refl
 
--- A case of Evaluate: the words of a table, the bytes of the values buffer, the end with the budget 100, and the steps.
+-- A case of Evaluate: the words of a table, the bytes of the values buffer, the budget, the end, and the steps.
 pub record Case : Type 0 where
   pub words : List ℕ
   pub buffer : List ℕ
+  pub budget : ℕ
   pub ends : End Bool
   pub steps : ℕ
 
--- A table with values, and one without.
+-- A table with values, at a budget and at 100, and one without values.
+abbrev atBudget : ℕ → Table → List ℕ → End Bool → ℕ → Case
+atBudget n tb vs e s = record { words = wordsOf tb; buffer = vs; budget = n; ends = e; steps = s }
+
 abbrev valued : Table → List ℕ → End Bool → ℕ → Case
-valued tb vs e s = record { words = wordsOf tb; buffer = vs; ends = e; steps = s }
+valued tb vs e s = atBudget 100 tb vs e s
 
 abbrev plain : Table → End Bool → ℕ → Case
 plain tb e s = valued tb [] e s
@@ -252,11 +256,23 @@ usedInRange = table [] (1 ∷ []) (x₀ ∷ node₁ 27 0 ∷ lit 1 ∷ lit 1 ∷
 abbrev unreadableCases : List Case
 unreadableCases =
     -- `occurrences` that counts a child once however often it stands: x∈x with one node for both
-    record { words = set p1-words 20 0; buffer = element1; ends = refused 7 0; steps = 0 } ∷
+    record { words = set p1-words 20 0; buffer = element1; budget = 100; ends = refused 7 0; steps = 0 } ∷
     -- `occursIn` that takes a binder's range for its scope
     plain usedInRange (refused 9 0) 0 ∷
     -- another `heightLimit`, a `height` that is off by one: heights 27 and 28 (document 02, N11)
     plain (negated 25) (done false) 28 ∷ plain (negated 26) (refused 8 28) 0 ∷ []
+
+-- Document 02, N1
+abbrev noClausesCases : List Case
+noClausesCases =
+    -- `limited` that asks for a node, `holdsᶜ` that is false or takes a visit where the condition is absent; first a table of nothing
+    atBudget 0 (closed []) [] (done true) 0 ∷ atBudget 0 (noClauses []) [] (done true) 0 ∷
+    atBudget 4294967295 (noClauses (0 ∷ [])) element1 (done true) 0 ∷
+    -- a run that does not wait for 14, or for 9 at a bound identifier
+    atBudget 0 (noClauses (0 ∷ [])) [] (refused 14 0) 0 ∷ atBudget 0 (noClauses []) element1 (refused 14 0) 0 ∷
+    atBudget 0 (noClauses (0 ∷ 1 ∷ [])) element1 (refused 9 1) 0 ∷
+    -- `laidOut` that does not look at the length: a word too many
+    record { words = wordsOf (noClauses []) ++ (0 ∷ []); buffer = []; budget = 0; ends = refused 3 0; steps = 0 } ∷ []
 
 -- The cells of n integers from i on.
 abbrev integerCells : ℕ → ℕ → List ℕ
@@ -319,12 +335,16 @@ cases = unreadableCases ++ (bufferCases ++ runCases)
 
 abbrev pub evaluated : Case → End Bool × ℕ
 unfolding evaluation
-evaluated c = let r = evaluation (toBytes (c .words)) (c .buffer) 100 in (r .end, r .steps)
+evaluated c = let r = evaluation (toBytes (c .words)) (c .buffer) (c .budget) in (r .end, r .steps)
 
 -- Each case ends as the rules say.
 pub cases-right : map evaluated cases ≡ map (λ c. (c .ends, c .steps)) cases
 unfolding evaluation
 cases-right = refl
+
+pub no-clauses-right : map evaluated noClausesCases ≡ map (λ c. (c .ends, c .steps)) noClausesCases
+unfolding evaluation
+no-clauses-right = refl
 
 abbrev unusedIn : List Field → ℕ
 unusedIn [] = 0

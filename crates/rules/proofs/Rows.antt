@@ -41,6 +41,10 @@ table gs is ns = record { sizes = gs; binds = is; nodes = ns }
 abbrev pub closed : List Node → Table
 closed ns = table [] [] ns
 
+-- A gate with no clauses yet (document 02, N1): a given set of two elements, and identifiers by their words.
+abbrev pub noClauses : List ℕ → Table
+noClauses is = table (2 ∷ []) is []
+
 abbrev pub nodeWords : List Node → List ℕ
 nodeWords [] = []
 nodeWords (d ∷ ds) = d .kind ∷ d .a ∷ d .b ∷ d .c ∷ nodeWords ds

@@ -2,12 +2,13 @@
 use Prim.Native.Nat.{ℕ}
 use mathlib.Core.List.{List, [], _∷_}
 use mathlib.Core.Bool.{Bool, true, false, not}
+use mathlib.Core.Option.{Option, none as nothing, some}
 use lib.ListN.{getD}
 use Rattle.rules.specs.Values.{Value, truthValue}
 use Rattle.rules.specs.Kinds.{Quant, forAll, forSome}
 use Rattle.rules.specs.Rules.{Rule, testRule, oneRule, twoRule, quantRule, comprehensionRule}
 use Rattle.rules.specs.Fits.{fits}
-use Rattle.rules.specs.Tables.{Table, Pred, joinᵖ, notᵖ, testᵖ, quantᵖ, Expr, leafᵉ, boolᵉ, oneᵉ, twoᵉ, comprehensionᵉ, root}
+use Rattle.rules.specs.Tables.{Table, Pred, joinᵖ, notᵖ, testᵖ, quantᵖ, Expr, leafᵉ, boolᵉ, oneᵉ, twoᵉ, comprehensionᵉ, conditionOf}
 use Rattle.rules.specs.Reading.{reading}
 use Rattle.rules.specs.Cells.{valuesIn, noValue}
 use Rattle.rules.specs.Runs.{Run, M, lift, return, _>>=_, _>>_, demand, visit, form, _orElse_, gives}
@@ -91,10 +92,15 @@ module _ (budget : ℕ) (sizes : List ℕ) where
       ws ← select (λ w. holdsᵖ p (ρ with x ≔ w)) (elems v)
       form n (gives (setOf ws))
 
+  -- A condition that is absent is true, and nothing is visited (document 02, N1).
+  abbrev pub holdsᶜ : Option Pred → Env → M Bool
+  holdsᶜ nothing ρ = return true
+  holdsᶜ (some p) ρ = holdsᵖ p ρ
+
 -- The run of a table at values for its identifiers, from no visits.
 unfoldable pub run : Table → List Value → ℕ → Run Bool
-unfolding root holdsᵖ
-run tb vs budget = holdsᵖ budget (tb .sizes) (root tb) (λ x. getD vs x noValue) 0
+unfolding conditionOf holdsᵖ
+run tb vs budget = holdsᶜ budget (tb .sizes) (conditionOf tb) (λ x. getD vs x noValue) 0
 
 -- Evaluate: refusals 1 to 9, then 14, both with 0 steps, then the run.
 unfoldable pub evaluation : List ℕ → List ℕ → ℕ → Run Bool

@@ -10,7 +10,7 @@ use Rattle.rules.specs.Kinds.{Kind, Category, categoryOf, predicate, fie
 use Rattle.rules.specs.Kinds.{Field, unused, child, use-of, binder-of, setNumber, elementNumber, anyWord, truthBit}
 use Rattle.rules.specs.Tables.{wordAt, Table, tableOf, nodeAt, kindAt, fieldWords, heldIn, lastNode}
 use Rattle.rules.specs.Tables.{givenCount, identifierCount, nodeCount, givensAt, identifiersAt, nodesAt, wholeLength}
-use Rattle.rules.specs.Reading.{occurrences, height, heightLimit, binders, occursFree}
+use Rattle.rules.specs.Reading.{occurrences, height, heightLimit, binders, occursInRoot}
 
 abbrev pub CategoryIs : Category → Option Kind → Type 0
 CategoryIs c nothing = ⊥
@@ -50,7 +50,6 @@ pub record Header (bs : List ℕ) : Type 0 where
   pub form : wordAt bs 0 ≡ 1
   pub givens : givenCount bs ≤ 16
   pub identifiers : identifierCount bs ≤ 32
-  pub some-node : 1 ≤ nodeCount bs
   pub few-nodes : nodeCount bs ≤ 512
   pub givens-at : wordAt bs 16 ≡ givensAt
   pub identifiers-at : wordAt bs 20 ≡ identifiersAt bs
@@ -64,10 +63,10 @@ pub record Records (tb : Table) : Type 0 where
   pub words : (x : ℕ) → x < length (tb .binds) → getD (tb .binds) x 2 ≤ 1
   pub fields : (n : ℕ) → n < length (tb .nodes) → NodeRight tb n
   pub once : (n : ℕ) → n < lastNode (tb .nodes) → occurrences n (heldIn isChild (tb .nodes)) ≡ 1
-  pub root : CategoryIs predicate (kindAt (tb .nodes) (lastNode (tb .nodes)))
+  pub root : 0 < length (tb .nodes) → CategoryIs predicate (kindAt (tb .nodes) (lastNode (tb .nodes)))
   pub heights : (n : ℕ) → n < length (tb .nodes) → height (tb .nodes) n ≤ heightLimit
   pub bindings : (x : ℕ) → x < length (tb .binds) →
-      BindingRight (getD (tb .binds) x 0) (binders (tb .nodes) x) (occursFree (tb .nodes) x (lastNode (tb .nodes)))
+      BindingRight (getD (tb .binds) x 0) (binders (tb .nodes) x) (occursInRoot (tb .nodes) x)
 
 pub record Readable (bs : List ℕ) : Type 0 where
   pub header : Header bs

@@ -7,7 +7,7 @@ use lib.Dec.{eqb, leb, ltb}
 use lib.ListN.{getD, length}
 use Rattle.rules.specs.Kinds.{Kind, kindOf, Category, predicate, expression, categoryOf, isPredicate, isExpression}
 use Rattle.rules.specs.Kinds.{Field, unused, child, use-of, binder-of, setNumber, elementNumber, anyWord, truthBit, isChild, isBinder}
-use Rattle.rules.specs.Tables.{wordAt, Node, Table, tableOf, nodeAt, kindAt, fieldsAt, fieldWords, held, heldIn, lastNode}
+use Rattle.rules.specs.Tables.{wordAt, Node, Table, tableOf, nodeAt, kindAt, fieldsAt, fieldWords, held, heldIn, lastNode, ofRoot}
 use Rattle.rules.specs.Tables.{givenCount, identifierCount, nodeCount, givensAt, identifiersAt, nodesAt, wholeLength}
 use Rattle.rules.specs.Ends.{End, done, _>>=_, require, requireAll}
 
@@ -15,9 +15,9 @@ use Rattle.rules.specs.Ends.{End, done, _>>=_, require, requireAll}
 unfoldable pub headed : List ℕ → Bool
 headed bs = leb 32 (length bs) && eqb (wordAt bs 0) 1
 
--- 2: the limits of G, I and N.
+-- 2: the limits of G, I and N; N may be 0 (document 02, N1).
 unfoldable pub limited : List ℕ → Bool
-limited bs = leb (givenCount bs) 16 && leb (identifierCount bs) 32 && leb 1 (nodeCount bs) && leb (nodeCount bs) 512
+limited bs = leb (givenCount bs) 16 && leb (identifierCount bs) 32 && leb (nodeCount bs) 512
 
 -- 3: the offset words, the length word and the length itself.
 unfoldable pub laidOut : List ℕ → Bool
@@ -129,6 +129,10 @@ unfoldable pub occursFree : List Node → ℕ → ℕ → Bool
 unfolding upward held kindOf occurrences
 occursFree ns x n = upward false (occursStep ns x) (suc n) n
 
+-- Whether x occurs free in the whole condition, which is its root's tree.
+abbrev pub occursInRoot : List Node → ℕ → Bool
+occursInRoot ns x = ofRoot ns false (occursFree ns x)
+
 -- A free identifier has no binder; a bound one has one, and does not occur free in the whole condition.
 abbrev pub boundRight : ℕ → ℕ → Bool → Bool
 boundRight zero n occ = eqb n 0
@@ -136,7 +140,7 @@ boundRight (suc w) n occ = eqb n 1 && not occ
 
 unfoldable pub binding : Table → ℕ → Bool
 unfolding binders occursFree lastNode
-binding tb x = boundRight (getD (tb .binds) x 0) (binders (tb .nodes) x) (occursFree (tb .nodes) x (lastNode (tb .nodes)))
+binding tb x = boundRight (getD (tb .binds) x 0) (binders (tb .nodes) x) (occursInRoot (tb .nodes) x)
 
 -- Refusals 1 to 9 in order, or the table. A table that passes is readable.
 unfoldable pub reading : List ℕ → End Table

@@ -173,10 +173,16 @@ unfoldable mutual
   exprAt zero ns n = noExpr n
   exprAt (suc f) ns n = exprOf (kindAt ns n) n (nodeAt ns n) (λ m. predAt f ns m) (λ m. exprAt f ns m)
 
--- The last node is the root.
+-- The last node, where there are nodes, is the root.
 unfoldable pub lastNode : List Node → ℕ
 lastNode ns = length ns - 1
 
-unfoldable pub root : Table → Pred
+-- What is said of the root, or z where there are no nodes (document 02, N1).
+abbrev pub ofRoot : {A : Type 0} → List Node → A → (ℕ → A) → A
+ofRoot [] z f = z
+ofRoot (d ∷ ds) z f = f (lastNode (d ∷ ds))
+
+-- The condition of a table: the tree of the root; none where there are no nodes.
+unfoldable pub conditionOf : Table → Option Pred
 unfolding predAt lastNode
-root tb = predAt (length (tb .nodes)) (tb .nodes) (lastNode (tb .nodes))
+conditionOf tb = ofRoot (tb .nodes) nothing λ n. some (predAt (length (tb .nodes)) (tb .nodes) n)

@@ -10,7 +10,7 @@ use Rattle.rules.specs.Values.{Value}
 use Rattle.rules.specs.Kinds.{Quant, forAll, forSome}
 use Rattle.rules.specs.Rules.{Rule, quantRule, comprehensionRule}
 use Rattle.rules.specs.Fits.{fits}
-use Rattle.rules.specs.Tables.{Table, Pred, joinᵖ, notᵖ, testᵖ, quantᵖ, Expr, leafᵉ, boolᵉ, oneᵉ, twoᵉ, comprehensionᵉ, root}
+use Rattle.rules.specs.Tables.{Table, Pred, joinᵖ, notᵖ, testᵖ, quantᵖ, Expr, leafᵉ, boolᵉ, oneᵉ, twoᵉ, comprehensionᵉ, conditionOf}
 use Rattle.rules.specs.Ends.{End, done, refused}
 use Rattle.rules.specs.Reading.{occurrences, reading}
 use Rattle.rules.specs.Cells.{valuesIn, noValue}
@@ -116,10 +116,14 @@ module _ (budget : ℕ) (sizes : List ℕ) where
         ifFits comprehensionRule v
         (memberVisits (λ _. false) (λ w. holdsᵖ budget sizes p (ρ with x ≔ w)) (λ w u. visitsᵖ p (ρ with x ≔ w) u) (elems v) t)
 
+  abbrev pub visitsᶜ : Option Pred → Env → ℕ → List Visit
+  visitsᶜ nothing ρ s = []
+  visitsᶜ (some p) ρ s = visitsᵖ p ρ s
+
 -- The visits of `run` and of `evaluation`.
 unfoldable pub runVisits : Table → List Value → ℕ → List Visit
-unfolding root visitsᵖ
-runVisits tb vs budget = visitsᵖ budget (tb .sizes) (root tb) (λ x. getD vs x noValue) 0
+unfolding conditionOf visitsᵖ
+runVisits tb vs budget = visitsᶜ budget (tb .sizes) (conditionOf tb) (λ x. getD vs x noValue) 0
 
 unfoldable pub evaluationVisits : List ℕ → List ℕ → ℕ → List Visit
 unfolding reading valuesIn runVisits
