@@ -5,7 +5,7 @@ use mathlib.Core.List.{List, [], _∷_, _++_, map}
 use mathlib.Core.Path.{_≡_, refl}
 use lib.ListN.{replicate}
 use Rattle.rules.specs.Tables.{Table}
-use Rattle.rules.proofs.Rows.{toBytes, wordsOf, sheet, table, node₁, node₂, p1, p10}
+use Rattle.rules.proofs.Rows.{toBytes, wordsOf, sheet, table, noClauses, node₁, node₂, p1, p10}
 use Rattle.conforms.specs.Conforming.{conforming}
 
 -- The bytes of a table, a sheet and values, and the answer.
@@ -47,7 +47,10 @@ trials =
     record { words = []; rows = []; buffer = []; answer = false } ∷
     -- two identifiers, of which the second has another type; one that is bound, whatever its row
     trial at-most at-most-sheet (1 ∷ 1 ∷ 2 ∷ 1 ∷ []) true ∷ trial at-most at-most-sheet (1 ∷ 1 ∷ 1 ∷ 2 ∷ []) false ∷
-    trial p10 (replicate 512 7) [] true ∷ []
+    trial p10 (replicate 512 7) [] true ∷
+    -- no nodes: without identifiers, with the integer x, without its value (document 02, N1)
+    trial (noClauses []) [] [] true ∷ trial (noClauses (0 ∷ [])) (sheet ((1 ∷ []) ∷ [])) (1 ∷ 1 ∷ []) true ∷
+    trial (noClauses (0 ∷ [])) (sheet ((1 ∷ []) ∷ [])) [] false ∷ []
 
 trials-right : map (λ t. conforming (toBytes (t .words)) (t .rows) (t .buffer)) trials ≡ map (λ t. t .answer) trials
 unfolding conforming

@@ -1,24 +1,25 @@
 -- From the bytes of a table and its values to the run at the root, and what each refusal before it reports.
-use Prim.Native.Nat.{ℕ, _-_, _≤_}
-use mathlib.Core.Bool.{Bool}
+use Prim.Native.Nat.{ℕ, _-_, _≤_, _<_}
+use mathlib.Core.Bool.{Bool, true}
 use mathlib.Core.List.{List}
+use mathlib.Core.Logic.{_≢_}
 use mathlib.Core.Path.{_≡_, sym, ap, _∙_, subst}
 use native.Mathlib.Omega.{arith}
 use lib.ListN.{length, getD}
 use Rattle.rules.specs.Cells.{noValue, valuesIn}
 use Rattle.rules.specs.Ends.{done, refused}
-use Rattle.rules.specs.Tables.{Table, tableOf, root, lastNode, nodeCount, nodesAt, kindAt}
+use Rattle.rules.specs.Tables.{Table, tableOf, lastNode, nodeCount, nodesAt, kindAt}
 use Rattle.rules.specs.Kinds.{predicate}
-use Rattle.rules.specs.Reading.{reading, height}
+use Rattle.rules.specs.Reading.{reading, height, heightLimit}
 use Rattle.rules.specs.Readable.{Readable, CategoryIs}
 use Rattle.rules.specs.Runs.{Run}
 use Rattle.rules.specs.Operations.{Env}
 use Rattle.rules.specs.Evaluation.{run, evaluation}
-use Rattle.laws.proofs.TableLaws.{binds-length, nodes-length}
+use Rattle.laws.proofs.TableLaws.{binds-length, nodes-length, some-root, by-root, no-condition, some-condition}
 use Rattle.laws.proofs.ReadingLaws.{reading-right}
 use Rattle.laws.proofs.FormedLaws.{valuesIn-good}
 use Rattle.laws.proofs.Soundness.{evaluation-run}
-use Rattle.reading.specs.Answers.{heightOf, readingHeight}
+use Rattle.reading.specs.Answers.{heightOf, rootHeight, readingHeight}
 use Rattle.reading.specs.declared.Height.{Height}
 use Rattle.reading.specs.declared.Height.the-variants.{Refused as Unmeasured}
 use Rattle.reading.proofs.Promise.{unmeasured-refused}
@@ -32,15 +33,12 @@ use Rattle.evaluators.specs.declared.Held.{Held}
 use Rattle.evaluators.specs.Answers.{EndsWith}
 use Rattle.evaluators.specs.Cycle.{expressionCells, Binds, Ready, EvaluatesP}
 use Rattle.evaluators.specs.Nodes.{IsPred}
-use Rattle.evaluate.specs.Result.{RefusedAt, Reported, Reports}
+use Rattle.evaluate.specs.Result.{endingOf, RefusedAt, Reported, Reports}
 use Rattle.evaluate.specs.Arenas.{needed, largestArena, ArenaReady}
 
--- The arena has room for the values, and the table a node.
+-- The arena has room for the values.
 pub load-ready : {bs buffer s : List ℕ} → ArenaReady bs buffer s → LoadReady bs buffer s
 load-ready r = record { readable = r .needs .readable; room = omega (arith, r .needs .enough); small = r .small }
-
-pub some-node : {bs : List ℕ} {n : ℕ} → Readable bs → n ≡ nodeCount bs → 1 ≤ n
-some-node q e = omega (arith, e, q .header .some-node)
 
 -- Refusals 1 to 9, and 14: no visit is made.
 unread-ends : (bs buffer : List ℕ) (budget k p : ℕ) → reading bs ≡ refused k p → EndsWith (evaluation bs buffer budget) (refused k p) 0
@@ -80,13 +78,32 @@ module _ (bs : List ℕ) {buffer s env : List ℕ} {top : ℕ} (b : Bound (table
       let g = valuesIn-good (tableOf bs) buffer (b .values) read-all in
       record { at = λ x l. record { stands = b .at x l .stands; below = b .at x l .below; good = g x }; good = g }
 
-  module _ (q : Readable bs) {n : ℕ} (e : n ≡ nodeCount bs) where
+  -- The end of the run at these values is that of the evaluation.
+  run-reported : (budget : ℕ) {r : Evaluation} → Readable bs → Reported (run (tableOf bs) (b .values) budget) r →
+      Reported (evaluation bs buffer budget) r
+  run-reported budget {r} q y =
+      subst (λ (z : Run Bool). Reported z r) (sym (evaluation-run bs buffer budget (tableOf bs) (b .values) (reading-right bs .1 q) read-all)) y
+
+  -- Without nodes it is true, with no steps.
+  pub absent-reported : (budget : ℕ) {n : ℕ} {r : Evaluation} → Readable bs → n ≡ nodeCount bs → n ≡ 0 →
+      endingOf (r .ending) ≡ done true → r .steps ≡ 0 → Reported (evaluation bs buffer budget) r
+  unfolding run
+  absent-reported budget q e none ending spent =
+      run-reported budget q (rw (no-condition (tableOf bs) (omega (arith, nodes-length bs))) (record { ending = ending; spent = spent }))
+
+  module _ (q : Readable bs) {n : ℕ} (e : n ≡ nodeCount bs) (filled : n ≢ 0) where
+    nodes-here : 0 < length (tableOf bs .nodes)
+    nodes-here = omega (arith, e, filled, nodes-length bs)
+
     root-last : n - 1 ≡ lastNode (tableOf bs .nodes)
     unfolding lastNode
     root-last = omega (arith, e, nodes-length bs)
 
     root-cells : expressionCells (kindAt (tableOf bs .nodes) (n - 1)) ≡ 0
-    root-cells = rw root-last (condition-cells (kindAt (tableOf bs .nodes) (lastNode (tableOf bs .nodes))) (q .records .root))
+    root-cells = rw root-last (condition-cells (kindAt (tableOf bs .nodes) (lastNode (tableOf bs .nodes))) (q .records .root nodes-here))
+
+    root-tall : height (tableOf bs .nodes) (n - 1) ≡ rootHeight (tableOf bs)
+    root-tall = ap (height (tableOf bs .nodes)) root-last ∙ sym (some-root 0 (height (tableOf bs .nodes)) (tableOf bs .nodes) nodes-here)
 
     -- The condition at the root may be evaluated.
     pub root-ready : {s₀ : List ℕ} {base budget : ℕ} → ArenaReady bs buffer s₀ → length s ≡ length s₀ → length env ≡ 32 → base ≡ nodesAt bs →
@@ -95,38 +112,35 @@ module _ (bs : List ℕ) {buffer s env : List ℕ} {top : ℕ} (b : Bound (table
       record {
         readable = q;
         offset = o;
-        node = omega (arith, e, q .header .some-node);
+        node = omega (arith, e, filled);
         unspent = omega arith;
-        room = omega (arith, b .room, binds-length bs, r .needs .enough, k, ap (height (tableOf bs .nodes)) root-last, root-cells);
-        tall = node-tall bs q _ (omega (arith, e, q .header .some-node));
+        room = omega (arith, b .room, binds-length bs, r .needs .enough, k, root-tall, root-cells);
+        tall = node-tall bs q _ (omega (arith, e, filled));
         small = omega (arith, r .small, k);
         entries = l;
         values = valueOf;
         binds = bound-binds;
       },
-      subst (λ (m : ℕ). CategoryIs predicate (kindAt (tableOf bs .nodes) m)) (sym root-last) (q .records .root),
+      subst (λ (m : ℕ). CategoryIs predicate (kindAt (tableOf bs .nodes) m)) (sym root-last) (q .records .root nodes-here),
     )
 
     -- Its end is that of the evaluation.
     pub root-reported : {s′ : List ℕ} {budget : ℕ} {held : Held} {r : Evaluation} → EvaluatesP bs env s top (n - 1) 0 budget s′ held → Reports held r →
         Reported (evaluation bs buffer budget) r
-    unfolding run root
+    unfolding run
     root-reported {s′} {budget} {held} {r} p f =
-        let x = p .answer (length (tableOf bs .nodes)) valueOf (omega (arith, e, q .header .some-node, nodes-length bs)) bound-binds in
-        let y : Reported (run (tableOf bs) (b .values) budget) r = f _ (rw root-last at x) in
-        subst (λ (z : Run Bool). Reported z r) (sym (evaluation-run bs buffer budget (tableOf bs) (b .values) (reading-right bs .1 q) read-all)) y
+        let x = p .answer (length (tableOf bs .nodes)) valueOf (omega (arith, e, filled, nodes-length bs)) bound-binds in
+        run-reported budget q (rw (some-condition (tableOf bs) nodes-here) (f _ (rw root-last at x)))
 
 -- No table needs more than the large arena.
 pub needed-most : {bs : List ℕ} (values : List ℕ) → Readable bs → needed bs values ≤ largestArena
 unfolding lastNode
-needed-most {bs} values q =
-    omega (
-      arith,
-      q .header .identifiers,
-      q .header .some-node,
-      nodes-length bs,
-      q .records .heights (lastNode (tableOf bs .nodes)) (omega (arith, q .header .some-node, nodes-length bs)),
-    )
+needed-most {bs} values q = omega (arith, q .header .identifiers, low)
+  where
+    low : rootHeight (tableOf bs) ≤ heightLimit
+    low =
+        let ns = tableOf bs .nodes in
+        by-root 0 (height ns) (λ h. h ≤ heightLimit) ns (omega arith) (λ l. q .records .heights (lastNode ns) (omega arith))
 
 -- 1 to 9 refuse.
 pub unread-reported : (bs buffer : List ℕ) (budget : ℕ) (a : Height) {f : Refusal} {r : Evaluation} → heightOf a ≡ readingHeight bs → a ≡ Unmeasured f →

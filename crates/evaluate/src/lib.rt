@@ -64,7 +64,7 @@ fn ended(held: Held) -> Evaluation
     }
 }
 
-// Evaluates a readable table over the arena s.
+// Evaluates a readable table over the arena s. Without nodes its condition is absent, which is true.
 fn evaluate_in(table: &[u8], values: &[u8], budget: u32, s: &mut [u64]) -> Evaluation
     requires { ⌜ ArenaReady (now table) (now values) (now s) ⌝ }
     ensures { λ r. ⌜ Reported (evaluation (now (table .entry)) (now (values .entry)) budget) r ⌝ }
@@ -75,9 +75,15 @@ fn evaluate_in(table: &[u8], values: &[u8], budget: u32, s: &mut [u64]) -> Evalu
     match answer {
         Loaded::Refused(x) => refused(14, x, 0),
         Loaded::All(top) => {
+            let count = table::nodes(table);
+            if count == 0 {
+                return Evaluation {
+                    ending: Ending::Decided(Truth::True),
+                    steps: 0,
+                };
+            }
             let base = table::nodes_offset(table);
-            let root = table::nodes(table) - 1;
-            ended(evaluators::eval_pred(table, base, &env, s, top, root, 0, budget))
+            ended(evaluators::eval_pred(table, base, &env, s, top, count - 1, 0, budget))
         }
     }
 }

@@ -57,7 +57,7 @@ module _ (bs : List ℕ) where
   counts-header true e n =
       let s = and-split (headed bs) (limited bs) (subst T e tt) in
       let l = limited-right bs .0 (s .1) in
-      (headed-right bs .0 (s .0) .0, l .1, l .3)
+      (headed-right bs .0 (s .0) .0, omega (arith, l), omega (arith, l))
   counts-header false e n = absurd (subst T n tt)
 
 -- How long a listing can be: a line has at most 153 bytes, a refusal 50.

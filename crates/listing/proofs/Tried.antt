@@ -1,7 +1,7 @@
--- Document 01, "Conditions tried": what the listing program prints for P1, whole, by computation.
+-- Document 01, "Conditions tried": what the listing program prints for P1, whole, by computation; and for a gate with no clauses yet.
 use mathlib.Core.List.{[], _∷_}
 use mathlib.Core.Path.{_≡_, refl}
-use Rattle.rules.proofs.Rows.{p1, wordsOf, toBytes}
+use Rattle.rules.proofs.Rows.{p1, noClauses, wordsOf, toBytes}
 use Rattle.text.specs.Text.{newline}
 use Rattle.listing.specs.Listing.{listingOf}
 
@@ -14,3 +14,8 @@ pub p1-listing : listingOf (toBytes (wordsOf p1)) ≡
     97 ∷ 99 ∷ 99 ∷ 101 ∷ 112 ∷ 116 ∷ 101 ∷ 100 ∷ newline ∷ []
 unfolding listingOf
 p1-listing = refl
+
+-- accepted (document 02, N1)
+pub no-clauses-listing : listingOf (toBytes (wordsOf (noClauses []))) ≡ 97 ∷ 99 ∷ 99 ∷ 101 ∷ 112 ∷ 116 ∷ 101 ∷ 100 ∷ newline ∷ []
+unfolding listingOf
+no-clauses-listing = refl

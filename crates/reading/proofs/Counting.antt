@@ -36,13 +36,9 @@ module _ {bs : List ℕ} {at n : ℕ} where
   pub field-asks : {i : ℕ} → FieldIn bs at n i → NodeIn bs at n × (i < 3)
   field-asks f = (node-in (f .fielded) (f .below), f .inside)
 
--- There is a last node, and an array of length 512 reaches it.
-module _ {bs : List ℕ} {i : ℕ} (e : i ≡ nodeCount bs) (h : Header bs) where
-  pub last-here : 1 ≤ i
-  last-here = omega (arith, h .some-node)
-
-  pub last-inside : i - 1 < 512
-  last-inside = omega (arith, h .some-node, h .few-nodes)
+-- An array of length 512 reaches the last node.
+pub last-inside : {bs : List ℕ} {i : ℕ} → i ≡ nodeCount bs → Header bs → i - 1 < 512
+last-inside e h = omega (arith, e, h .few-nodes)
 
 -- A field that is not used is of no sort that is counted.
 pub sort-unused : (b : Bool) → sortOf b unused ≡ false

@@ -2,6 +2,7 @@
 use Prim.Native.Nat.{ℕ, _+_, _-_, _≤_, _<_, max}
 use mathlib.Core.Bool.{Bool, true, false, cond}
 use mathlib.Core.List.{List, []}
+use mathlib.Core.Logic.{_≢_}
 use mathlib.Core.Path.{_≡_, refl, sym, ap, _∙_}
 use native.Mathlib.Decide.{ℕ-discrete}
 use native.Mathlib.Omega.{arith}
@@ -13,9 +14,10 @@ use Rattle.rules.specs.Tables.{Node, tableOf, nodeAt, fieldsAt, keptIf, held, n
 use Rattle.rules.specs.Reading.{tallest, height, heightLimit, heightGood}
 use Rattle.rules.specs.Ends.{leastFailing}
 use Rattle.rules.specs.Readable.{NodeRight, Readable}
-use Rattle.laws.proofs.TableLaws.{nodes-length, held-below, height-at, tallest-below}
+use Rattle.laws.proofs.TableLaws.{nodes-length, held-below, height-at, tallest-below, no-root, some-root}
 use Rattle.table.specs.Layout.{Fielded, fieldAt}
 use Rattle.reading.specs.Arrays.{countsAt, Heights}
+use Rattle.reading.specs.Answers.{rootHeight}
 use Rattle.table.specs.Places.{foundOr}
 use Rattle.table.proofs.Least.{least-none}
 use Rattle.reading.proofs.Counting.{pick-three}
@@ -84,7 +86,7 @@ module _ (bs : List ℕ) (at n : ℕ) (f : Fielded bs at) (below : n < nodeCount
       go (yes e) = rw (e, getD-set-same hs n (t + 1) 0 long) (sym height-next)
       go (no e) = getD-set-other hs n m (t + 1) 0 e ∙ heights m (omega arith)
 
--- Where the table is readable, all nodes have their heights, and so has the root.
+-- Where the table is readable, all nodes have their heights, and so has the root, if there is one.
 module _ (bs : List ℕ) (r : Readable bs) where
   all-low : foundOr (nodeCount bs) (leastFailing (heightGood (tableOf bs)) 0 (nodeCount bs)) ≡ nodeCount bs
   unfolding heightGood
@@ -94,8 +96,13 @@ module _ (bs : List ℕ) (r : Readable bs) where
       (omega arith))
 
   pub root-height : (hs : List ℕ) (n count : ℕ) → n ≡ foundOr (nodeCount bs) (leastFailing (heightGood (tableOf bs)) 0 (nodeCount bs)) → Heights bs n hs →
-      count ≡ nodeCount bs → getD hs (count - 1) 0 ≡ height (tableOf bs .nodes) (lastNode (tableOf bs .nodes))
+      count ≡ nodeCount bs → count ≢ 0 → getD hs (count - 1) 0 ≡ rootHeight (tableOf bs)
   unfolding lastNode
-  root-height hs n count e heights is =
-      let last : count - 1 ≡ length (tableOf bs .nodes) - 1 = omega (arith, nodes-length bs) in
-      heights (count - 1) (omega (arith, all-low, r .header .some-node)) ∙ ap (height (tableOf bs .nodes)) last
+  root-height hs n count e heights is some =
+      let ns = tableOf bs .nodes in
+      let last : count - 1 ≡ length ns - 1 = omega (arith, nodes-length bs) in
+      heights (count - 1) (omega (arith, all-low, some)) ∙ ap (height ns) last
+      ∙ sym (some-root 0 (height ns) ns (omega (arith, nodes-length bs, some)))
+
+  pub no-height : (count : ℕ) → count ≡ nodeCount bs → count ≡ 0 → 0 ≡ rootHeight (tableOf bs)
+  no-height count is none = sym (no-root 0 (height (tableOf bs .nodes)) (tableOf bs .nodes) (omega (arith, nodes-length bs)))

@@ -14,9 +14,9 @@ use mir.Val.{boolByte}
 use Rattle.rules.specs.Kinds.{Kind, kindOf, predicate, expression, isChild, isBinder}
 use Rattle.rules.specs.Kinds.{Field, unused, child, use-of, binder-of, setNumber, elementNumber, anyWord, truthBit}
 use Rattle.rules.specs.Tables.{Node, tableOf, nodeAt, fieldsAt, fieldsIf, fieldWords, keptIf, pick, held, lastNode, identifierCount, nodeCount}
-use Rattle.rules.specs.Reading.{occurrences, occursIn, occursInAny, bindsHere, occursStep, occursFree, boundRight, binders, binding}
+use Rattle.rules.specs.Reading.{occurrences, occursIn, occursInAny, bindsHere, occursStep, occursFree, occursInRoot, boundRight, binders, binding}
 use Rattle.rules.specs.Readable.{Header}
-use Rattle.laws.proofs.TableLaws.{fields-right, nodes-length, occursFree-at}
+use Rattle.laws.proofs.TableLaws.{fields-right, nodes-length, occursFree-at, some-root}
 use Rattle.table.specs.Codes.{fieldOf}
 use Rattle.table.specs.Layout.{Fielded, holdsAt, fieldAt, WordOf}
 use Rattle.reading.specs.Arrays.{flag, Occurs, FieldIn, countsAt, Counted}
@@ -134,10 +134,12 @@ occurs-turn bs at x n c o p h l s e m m< = go (ℕ-discrete m n)
     go (no q) = rw (getD-set-other c n m (boolByte o) 0 q) (s m (omega arith))
 
 -- The last node is the root.
-pub occurs-root : (bs : List ℕ) (at x i n : ℕ) (c : List ℕ) → Fielded bs at → i ≡ nodeCount bs → i ≤ n → Occurs bs x n c →
-    eqb (getD c (i - 1) 0) 1 ≡ occursFree (tableOf bs .nodes) x (lastNode (tableOf bs .nodes))
+pub occurs-root : (bs : List ℕ) (x i n : ℕ) (c : List ℕ) → 0 < nodeCount bs → i ≡ nodeCount bs → i ≤ n → Occurs bs x n c →
+    eqb (getD c (i - 1) 0) 1 ≡ occursInRoot (tableOf bs .nodes) x
 unfolding lastNode
-occurs-root bs at x i n c p e h s = rw (nodes-length bs, ← e) (s (i - 1) (omega (arith, p .laid .header .some-node)))
+occurs-root bs x i n c l e h s =
+    rw (some-root false (occursFree (tableOf bs .nodes) x) (tableOf bs .nodes) (omega (arith, nodes-length bs)), nodes-length bs, ← e)
+    (s (i - 1) (omega arith))
 
 -- The fields in which no identifier occurs free.
 occurs-none : (x : ℕ) (b : Bool) (occ : ℕ → Bool) (y c : ℕ) → (c ≡ 1 → ⊥) → (c ≡ 2 → ⊥) → (c ≡ 3 → ⊥) → false ≡ occursIn x b occ (fieldOf c) y
@@ -182,20 +184,29 @@ bound-once : (w t : ℕ) (o : Bool) → (w ≡ 0 → ⊥) → (eqb t 1 && not o)
 bound-once zero t o e = absurd (e refl)
 bound-once (suc w) t o e = refl
 
+-- Where an identifier is bound there are nodes.
+no-binders : (ns : List Node) (x : ℕ) → binders ns x ≡ 1 → 0 < length ns
+unfolding binders
+no-binders [] x e = absurd (omega (arith, e))
+no-binders (d ∷ ns) x e = omega arith
+
+pub bound-nodes : (bs : List ℕ) (x t : ℕ) → t ≡ binders (tableOf bs .nodes) x → t ≡ 1 → 0 < nodeCount bs
+bound-nodes bs x t e f = omega (arith, nodes-length bs, no-binders (tableOf bs .nodes) x (sym e ∙ f))
+
 -- The rule for an identifier that is bound t times, by its word.
 module _ (bs : List ℕ) (x w t : ℕ) (word : WordOf bs x w) (times : t ≡ binders (tableOf bs .nodes) x) where
   pub binding-free : w ≡ 0 → eqb t 0 ≡ binding (tableOf bs) x
   unfolding binding
   binding-free e = rw (← word 0, ← times) (bound-free w t _ e)
 
-  pub binding-once : (o : Bool) → (w ≡ 0 → ⊥) → t ≡ 1 → o ≡ occursFree (tableOf bs .nodes) x (lastNode (tableOf bs .nodes)) → not o ≡ binding (tableOf bs) x
+  pub binding-once : (o : Bool) → (w ≡ 0 → ⊥) → t ≡ 1 → o ≡ occursInRoot (tableOf bs .nodes) x → not o ≡ binding (tableOf bs) x
   unfolding binding
   binding-once o ne e q = rw (← word 0, ← times, ← q) (rw (eq-eqb t 1 e) at (bound-once w t o ne))
 
   pub binding-wrong : (w ≡ 0 → ⊥) → (t ≡ 1 → ⊥) → false ≡ binding (tableOf bs) x
   unfolding binding
   binding-wrong ne e =
-      rw (← word 0, ← times) (rw (ne-eqb t 1 e) at (bound-once w t (occursFree (tableOf bs .nodes) x (lastNode (tableOf bs .nodes))) ne))
+      rw (← word 0, ← times) (rw (ne-eqb t 1 e) at (bound-once w t (occursInRoot (tableOf bs .nodes) x) ne))
 
 -- How often an identifier is bound.
 pub counted-binders : (bs c : List ℕ) (x : ℕ) → Header bs → x < identifierCount bs → length c ≡ 512 → Counted true bs (nodeCount bs) c →

@@ -2,7 +2,7 @@
 use Prim.Native.Nat.{ℕ}
 use mathlib.Core.List.{List}
 use Rattle.rules.specs.Ends.{End, done, refused, _>>=_, requireAll}
-use Rattle.rules.specs.Tables.{Table, tableOf, givenCount, identifierCount, nodeCount, lastNode}
+use Rattle.rules.specs.Tables.{Table, tableOf, givenCount, identifierCount, nodeCount, ofRoot}
 use Rattle.rules.specs.Reading.{sizeGood, bindGood, nodeGood, parentGood, heightGood, binding, height, reading}
 use Rattle.reading.specs.declared.Height.{Height}
 use Rattle.reading.specs.declared.Height.the-variants.{Root, Refused as Unmeasured}
@@ -36,8 +36,9 @@ abbrev pub heightOf : Height → End ℕ
 heightOf (Root h) = done h
 heightOf (Unmeasured r) = refused (r .number) (r .place)
 
+-- 0 where there is no root.
 abbrev pub rootHeight : Table → ℕ
-rootHeight t = height (t .nodes) (lastNode (t .nodes))
+rootHeight t = ofRoot (t .nodes) 0 (height (t .nodes))
 
 -- Refusals 1 to 9, and then the root's height.
 unfoldable pub readingHeight : List ℕ → End ℕ

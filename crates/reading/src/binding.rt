@@ -4,10 +4,10 @@ ghost use mathlib.Core.Path.{_≡_};
 ghost use mathlib.Core.Bool.{_||_};
 ghost use Prim.Native.Nat.{_<_};
 ghost use lib.ListN.{length};
-ghost use Rattle.rules.specs.Tables.{tableOf, nodeAt, lastNode};
+ghost use Rattle.rules.specs.Tables.{tableOf, nodeAt};
 ghost use Rattle.rules.specs.Tables.{identifierCount, nodeCount};
 ghost use Rattle.rules.specs.Ends.{leastFailing};
-ghost use Rattle.rules.specs.Reading.{occursIn, occursStep, occursFree, bindsHere, binders, binding};
+ghost use Rattle.rules.specs.Reading.{occursIn, occursStep, occursInRoot, bindsHere, binders, binding};
 ghost use Rattle.table.specs.Places.{foundOr};
 ghost use Rattle.table.specs.Layout.{NodeIn, Fielded, fieldCodesAt, holdsAt, fieldAt};
 ghost use Rattle.reading.specs.Arrays.{FieldIn, flag};
@@ -73,10 +73,10 @@ fn node_occurs(table: &[u8], at: usize, n: usize, x: usize, occurs: &[u8]) -> bo
     either(a, either(b, c))
 }
 
-// Whether x occurs free in the whole condition.
+// Whether x occurs free in the whole condition of a table with nodes.
 fn occurs_free(table: &[u8], at: usize, x: usize) -> bool
-    requires { ⌜ Fielded (now table) at ⌝ }
-    ensures { λ r. ⌜ r ≡ occursFree (tableOf (now (table .entry)) .nodes) x (lastNode (tableOf (now (table .entry)) .nodes)) ⌝ }
+    requires { ⌜ Fielded (now table) at × (0 < nodeCount (now table)) ⌝ }
+    ensures { λ r. ⌜ r ≡ occursInRoot (tableOf (now (table .entry)) .nodes) x ⌝ }
 {
     let count = table::nodes(table);
     let mut occurs = [0u8; 512];

@@ -20,7 +20,7 @@ pub enum Reading {
     Refused(Refusal),
 }
 
-// The height of a table's root, where it passes.
+// The height of a table's root, where it passes; 0 where it has none.
 pub enum Height {
     Root(usize),
     Refused(Refusal),
@@ -89,16 +89,19 @@ pub fn read(table: &[u8]) -> Reading
     read_records(table)
 }
 
-// The height of the root of a readable table.
+// The height of the root of a readable table, 0 where there is none.
 fn root_height(table: &[u8]) -> usize
     requires { ⌜ Readable (now table) ⌝ }
     ensures { λ r. ⌜ r ≡ rootHeight (tableOf (now (table .entry))) ⌝ }
 {
+    let count = table::nodes(table);
+    if count == 0 {
+        return 0;
+    }
     let at = table::nodes_offset(table);
-    let root = table::nodes(table) - 1;
     let mut heights = [0u8; 512];
     tree::set_heights(table, at, &mut heights);
-    table::wide(heights[root])
+    table::wide(heights[count - 1])
 }
 
 // Refusals 1 to 9, or the root's height.

@@ -167,10 +167,10 @@ pub headed-read : (bs : List ℕ) (w : ℕ) → 32 ≤ length bs → w ≡ wordA
 unfolding headed
 headed-read bs w h e = rw (le-leb 32 (length bs) h, e)
 
-pub limited-read : (bs : List ℕ) (g i n : ℕ) (p q r : Bool) → g ≡ givenCount bs → i ≡ identifierCount bs → n ≡ nodeCount bs →
-    p ≡ (leb g 16 && leb i 32) → q ≡ (p && leb 1 n) → r ≡ (q && leb n 512) → r ≡ limited bs
+pub limited-read : (bs : List ℕ) (g i n : ℕ) (p q : Bool) → g ≡ givenCount bs → i ≡ identifierCount bs → n ≡ nodeCount bs →
+    p ≡ (leb g 16 && leb i 32) → q ≡ (p && leb n 512) → q ≡ limited bs
 unfolding limited
-limited-read bs g i n p q r eg ei en ep eq er = cc
+limited-read bs g i n p q eg ei en ep eq = cc
 
 pub laid-read : (bs : List ℕ) (g i n a b d e : ℕ) (p q r s : Bool) → g ≡ givenCount bs → i ≡ identifierCount bs → n ≡ nodeCount bs →
     a ≡ wordAt bs 16 → b ≡ wordAt bs 20 → d ≡ wordAt bs 24 → e ≡ wordAt bs 28 →

@@ -105,8 +105,7 @@ pub fn is_limited(table: &[u8]) -> bool
     let g = word(table, 4);
     let i = word(table, 8);
     let n = word(table, 12);
-    let few_records = both(g <= 16, i <= 32);
-    both(both(few_records, 1 <= n), n <= 512)
+    both(both(g <= 16, i <= 32), n <= 512)
 }
 
 // Refusal 3.

@@ -8,14 +8,12 @@ use native.Mathlib.Decide.{decLt}
 use native.Mathlib.Omega.{arith}
 use lib.Dec.{T, eqb, eqb→eq, eqb-refl, leb→le, le→leb}
 use lib.ListN.{length, getD}
-use Rattle.rules.specs.Types.{Ty, weightᵀ}
+use Rattle.rules.specs.Types.{Ty, weightᵀ, INTEGER}
 use Rattle.rules.specs.Tables.{Table}
 use Rattle.rules.specs.Ends.{End, done, refused, _>>=_, require, requireAll}
 use Rattle.rules.specs.Reading.{reading}
 use Rattle.rules.specs.Verdict.{Place, typeLimit, sheetOf, sheetLength, Verdict, unreadable, misfit}
 use Rattle.laws.proofs.EndLaws.{T-true, T-false, requireAll-done, requireAll-number, requireAll-refused}
-use Rattle.laws.proofs.ReadingLaws.{reading-table, reading-readable}
-use Rattle.laws.proofs.TableLaws.{nodes-length}
 use Rattle.unification.specs.Problem.{Shape}
 use Rattle.unification.proofs.ModelLaws.{Answers, modelSolve-right, typeFrom-is}
 use Rattle.typing.specs.Equations.{base, shapes, shapeAt, equations, RightNodes}
@@ -24,8 +22,8 @@ use Rattle.typing.specs.Places.{placeCount, placeVar}
 use Rattle.typing.specs.Model.{settled, types, light, sheetOrRefusal, checked, verdict}
 use Rattle.typing.proofs.ProblemLaws.{well-formed}
 use Rattle.typing.proofs.Places.{place-below, var-below, isPlace-place, place-isPlace}
-use Rattle.typing.proofs.Verdicts.{right-nodes, SolvesBelow, SolvedBelow, GroundPlaces}
-use Rattle.typing.proofs.Verdicts.{clash-first, clash-verdict, several-verdict, heavy-verdict, accepts-verdict}
+use Rattle.typing.proofs.Verdicts.{right-nodes, SolvesBelow, SolvedBelow, GroundPlaces, none-typed, typing-none}
+use Rattle.typing.proofs.Verdicts.{clash-verdict, several-verdict, heavy-verdict, accepts-verdict}
 
 -- A property of `requireAll` and what follows: it holds of the rest where each number passes, and of the refusal at the
 -- least that fails.
@@ -138,17 +136,24 @@ module _ (tb : Table) (right : RightNodes tb) (k : ℕ) (h : k ≤ length (tb .n
   pub unsolvable : solvable (shapeAt tb) tb k ≡ false → (σ : ℕ → Ty) → SolvesBelow tb k σ → ⊥
   unsolvable t = rw (solvable-none (shapeAt tb) tb k t) at (solveBelow-right tb right k h)
 
-some-nodes : (bs : List ℕ) (tb : Table) → reading bs ≡ done tb → 0 < length (tb .nodes)
-some-nodes bs tb e = rw (reading-table bs tb e, nodes-length bs) (reading-readable bs tb e .header .some-node)
+-- The problem of no nodes has a solution, so that of n nodes has one where each node with those below it passes.
+solvable-all : (tb : Table) → RightNodes tb → (n : ℕ) → ((j : ℕ) → j < n → solvable (shapeAt tb) tb (suc j) ≡ true) →
+    solvable (shapeAt tb) tb n ≡ true
+solvable-all tb right zero all = go (solvable (shapeAt tb) tb 0) refl
+  where
+    go : (b : Bool) → solvable (shapeAt tb) tb 0 ≡ b → b ≡ true
+    go true e = refl
+    go false e = absurd (none-typed tb right 0 (omega arith) (unsolvable tb right 0 (omega arith) e) (λ p. INTEGER) (typing-none tb))
+solvable-all tb right (suc n) all = all n (omega arith)
 
 module _ {bs : List ℕ} {room : ℕ} {tb : Table} (e : reading bs ≡ done tb) (fits : room ≡ sheetLength tb) where
   -- 11
   clash-right : (k : ℕ) → k < length (tb .nodes) → solvable (shapeAt tb) tb (suc k) ≡ false →
       ((j : ℕ) → j < k → solvable (shapeAt tb) tb (suc j) ≡ true) → Verdict bs room (refused 11 k)
-  clash-right zero h f below = clash-first e fits h (unsolvable tb (right-nodes bs tb e) 1 h f)
-  clash-right (suc k) h f below =
-      let r = solvable-solved tb (right-nodes bs tb e) (suc k) (omega arith) (below k (omega arith)) in
-      clash-verdict e fits (suc k) h (r .0 .0) (r .0 .1) (r .2) (unsolvable tb (right-nodes bs tb e) (suc (suc k)) h f)
+  clash-right k h f below =
+      let right = right-nodes bs tb e in
+      let r = solvable-solved tb right k (omega arith) (solvable-all tb right k below) in
+      clash-verdict e fits k h (r .0 .0) (r .0 .1) (r .2) (unsolvable tb right (suc k) h f)
 
   -- 12, 13 and acceptance
   typed-right : (r : List ℕ × List ℕ) → SolvedBelow tb (length (tb .nodes)) (r .0) (r .1) → Verdict bs room (sheetOrRefusal (shapeAt tb) tb (some r))
@@ -181,17 +186,10 @@ module _ {bs : List ℕ} {room : ℕ} {tb : Table} (e : reading bs ≡ done tb) 
   checked-right =
       requireAll-cases (Verdict bs room) 11 (λ k. solvable (shapeAt tb) tb (suc k)) (length (tb .nodes))
       (sheetOrRefusal (shapeAt tb) tb (solveBelow (shapeAt tb) tb (length (tb .nodes))))
-      (λ all. let r = solvable-solved tb (right-nodes bs tb e) (length (tb .nodes)) (omega arith) (last all) in
+      (λ all. let right = right-nodes bs tb e in
+      let r = solvable-solved tb right (length (tb .nodes)) (omega arith) (solvable-all tb right (length (tb .nodes)) all) in
       rw (r .1) (typed-right (r .0) (r .2)))
       clash-right
-    where
-      last : ((j : ℕ) → j < length (tb .nodes) → solvable (shapeAt tb) tb (suc j) ≡ true) →
-          solvable (shapeAt tb) tb (length (tb .nodes)) ≡ true
-      last all = go (length (tb .nodes)) (some-nodes bs tb e) all
-        where
-          go : (n : ℕ) → 0 < n → ((j : ℕ) → j < n → solvable (shapeAt tb) tb (suc j) ≡ true) → solvable (shapeAt tb) tb n ≡ true
-          go zero h f = absurd (omega arith)
-          go (suc n) h f = f n (omega arith)
 
 -- Check's answer, computed.
 pub verdict-right : (bs : List ℕ) (room : ℕ) → Verdict bs room (verdict bs room)

@@ -91,10 +91,6 @@ module _ (tb : Table) (right : RightNodes tb) (cls mark : List ℕ) (s : SolvedB
 
 -- ---- the answers
 module _ {bs : List ℕ} {room : ℕ} {tb : Table} (e : reading bs ≡ done tb) (fits : room ≡ sheetLength tb) where
-  -- 11 at 0: the problem of the first node has no solution.
-  pub clash-first : 0 < length (tb .nodes) → ((σ : ℕ → Ty) → SolvesBelow tb 1 σ → ⊥) → Verdict bs room (refused 11 0)
-  clash-first h none = clash e fits h (typing-none tb) (none-typed tb (right-nodes bs tb e) 1 h none)
-
   -- 11 at k: that of the nodes below k is solved, and that with k has no solution.
   pub clash-verdict : (k : ℕ) → k < length (tb .nodes) → (cls mark : List ℕ) → SolvedBelow tb k cls mark →
       ((σ : ℕ → Ty) → SolvesBelow tb (suc k) σ → ⊥) → Verdict bs room (refused 11 k)

@@ -1,11 +1,39 @@
--- `evaluate_in`: refusal 14, or the run at the root.
+-- `evaluate_in`: refusal 14, or the run of the condition, which without nodes is true at once. Landmarks: what was lent, the reading of
+-- the values, and the count of the nodes, where the values stand in the arena.
 use borrow.Author.Needs.{length-unmapped}
 use Prim.Native.Nat.{ℕ}
-use mathlib.Core.Path.{_≡_, _∙_}
+use mathlib.Core.Path.{_≡_, _∙_, refl}
+use native.Mathlib.Omega.{arith}
 use lib.ListN.{length}
-use Rattle.evaluate.proofs.EntryLaws.{load-ready, some-node, lacking-reported, all-bound, root-ready, root-reported}
+use Rattle.rules.specs.Tables.{tableOf}
+use Rattle.buffer.specs.Loaded.{Bound}
+use Rattle.evaluate.proofs.EntryLaws.{load-ready, lacking-reported, all-bound, absent-reported, root-ready, root-reported}
 use Rattle.evaluate.proofs.evaluate_in.Statement.{statement}
 use Rattle.evaluate.proofs.evaluate_in.Tie as tie
+
+abbrev lent : tie.After-load → tie.Start
+lent l = l .before .before .before .before .before
+
+abbrev found : tie.After-answer2 → tie.After-load
+found a = a .before .before .before .before .before
+
+abbrev valued : tie.After-nodes → tie.After-answer2
+valued n = n .before .before
+
+abbrev loaded : tie.After-nodes → tie.After-load
+loaded n = found (valued n)
+
+-- The arena keeps its length.
+kept : (l : tie.After-load) → length (l .load .last .1 .1 .0) ≡ length (lent l .args .s .now)
+kept l = l .load .kept .1 .1 .0
+
+-- The values of the buffer stand in it.
+abbrev standing : (n : tie.After-nodes) →
+    Bound (tableOf (lent (loaded n) .args .table .now) .sizes) (tableOf (lent (loaded n) .args .table .now) .binds)
+    (lent (loaded n) .args .values .now) (loaded n .load .last .1 .1 .0) (loaded n .load .result .at) 0 (valued n .answer2 .given .0 .0)
+standing n =
+    all-bound (lent (loaded n) .args .table .now) (lent (loaded n) .args .values .now) (loaded n .load .last .1 .1 .0) (loaded n .load .result .at)
+    (loaded n .load .result .answer) (loaded n .load .ensures) (valued n .answer2 .given .1)
 
 load-requires : tie.Need-load-requires
 load-requires c κs = load-ready (c .before .before .before .before .pre)
@@ -19,52 +47,60 @@ refused-requires c κs = tt
 enum-known-answer-2 : tie.Need-enum-known-answer-2
 enum-known-answer-2 c = c .match .keys2
 
-nodes-offset-requires : tie.Need-nodes-offset-requires
-nodes-offset-requires c κs = c .before .before .before .before .before .before .before .before .before .before .before .pre .needs .readable .header .long
-
 nodes-requires : tie.Need-nodes-requires
-nodes-requires c κs = c .before .before .before .before .before .before .before .before .before .before .before .before .pre .needs .readable .header .long
+nodes-requires c κs = lent (found (c .before)) .pre .needs .readable .header .long
 
-sub-root : tie.Need-sub-root
-sub-root c = some-node (c .before .before .before .before .before .before .before .before .before .before .before .before .before .pre .needs .readable) (c .nodes .ensures)
+same-length : tie.Need-same-length
+same-length c = kept (loaded (c .before))
+
+returns : tie.Need-returns
+returns c =
+    let n = c .before in
+    let start = lent (loaded n) in
+    absent-reported (start .args .table .now) (standing n) (start .args .budget) (start .pre .needs .readable) (n .nodes .ensures) (c .if1 .taken) refl refl
+
+nodes-offset-requires : tie.Need-nodes-offset-requires
+nodes-offset-requires c κs = lent (loaded (c .before)) .pre .needs .readable .header .long
+
+sub-eval-pred : tie.Need-sub-eval-pred
+sub-eval-pred c = omega (arith, c .before .before .before .if1 .left)
 
 eval-pred-requires : tie.Need-eval-pred-requires
 eval-pred-requires c κs =
-    let n = c .before .before in
-    let a = n .before .before .before in
-    let l = a .before .before .before .before .before in
-    let start = l .before .before .before .before .before in
-    let b = all-bound (start .args .table .now) (start .args .values .now) (l .load .last .1 .1 .0) (l .load .result .at) (l .load .result .answer) (l .load .ensures) (a .answer2 .given .1) in
-    let kept : length (l .load .last .1 .1 .0) ≡ length (start .args .s .now) = l .load .kept .1 .1 .0 in
-    let entries : length (l .load .result .at) ≡ 32 = length-unmapped ℕ (l .load .result .at) 32 (l .load .ok .1 .1 .0 .1 .0 .1) in
-    root-ready (start .args .table .now) b (start .pre .needs .readable) (n .nodes .ensures) (start .pre) kept entries (n .before .nodes-offset .ensures)
+    let test = c .before .before .before in
+    let n = test .before in
+    let start = lent (loaded n) in
+    let at = loaded n .load in
+    let entries : length (at .result .at) ≡ 32 = length-unmapped ℕ (at .result .at) 32 (at .ok .1 .1 .0 .1 .0 .1) in
+    root-ready (start .args .table .now) (standing n) (start .pre .needs .readable) (n .nodes .ensures) (test .if1 .left)
+    (start .pre) (kept (loaded n)) entries (c .before .before .nodes-offset .ensures)
 
 ended-requires : tie.Need-ended-requires
 ended-requires c κs = tt
 
-same-length : tie.Need-same-length
-same-length c = c .before .before .before .before .before .before .before .load .kept .1 .1 .0
-
-returns : tie.Need-returns
-returns c =
-    let a = c .before .before in
-    let l = a .before .before .before .before .before in
-    let start = l .before .before .before .before .before in
-    lacking-reported (start .args .table .now) (start .args .values .now) (l .load .last .1 .1 .0) (l .load .result .at) (l .load .result .answer) (l .load .ensures)
-    (start .args .budget) (start .pre .needs .readable) (a .answer .given .1) (c .refused .ensures)
-
 same-length-2 : tie.Need-same-length-2
-same-length-2 c = c .before .before .before .eval-pred .kept .1 .1 .1 .0 ∙ c .before .before .before .before .before .before .before .before .before .before .before .before .before .before .load .kept .1 .1 .0
+same-length-2 c = kept (c .before .before .before .before .before .before .before)
 
 returns-2 : tie.Need-returns-2
 returns-2 c =
-    let p = c .before .before .before in
-    let n = p .before .before .before in
-    let a = n .before .before .before in
+    let a = c .before .before in
     let l = a .before .before .before .before .before in
-    let start = l .before .before .before .before .before in
-    let b = all-bound (start .args .table .now) (start .args .values .now) (l .load .last .1 .1 .0) (l .load .result .at) (l .load .result .answer) (l .load .ensures) (a .answer2 .given .1) in
-    root-reported (start .args .table .now) b (start .pre .needs .readable) (n .nodes .ensures) (p .eval-pred .ensures) (c .ended .ensures)
+    let start = lent l in
+    lacking-reported (start .args .table .now) (start .args .values .now) (l .load .last .1 .1 .0) (l .load .result .at) (l .load .result .answer) (l .load .ensures)
+    (start .args .budget) (start .pre .needs .readable) (a .answer .given .1) (c .refused .ensures)
+
+same-length-3 : tie.Need-same-length-3
+same-length-3 c =
+    let p = c .before .before .before in p .eval-pred .kept .1 .1 .1 .0 ∙ kept (loaded (p .before .before .before .before .before))
+
+returns-3 : tie.Need-returns-3
+returns-3 c =
+    let p = c .before .before .before in
+    let test = p .before .before .before .before in
+    let n = test .before in
+    let start = lent (loaded n) in
+    root-reported (start .args .table .now) (standing n) (start .pre .needs .readable) (n .nodes .ensures) (test .if1 .left)
+    (p .eval-pred .ensures) (c .ended .ensures)
 
 pub evaluate-in-spec : {M : Type 1} → statement M
 evaluate-in-spec =
@@ -74,12 +110,14 @@ evaluate-in-spec =
     enum-known-answer
     refused-requires
     enum-known-answer-2
-    nodes-offset-requires
     nodes-requires
-    sub-root
-    eval-pred-requires
-    ended-requires
     same-length
     returns
+    nodes-offset-requires
+    sub-eval-pred
+    eval-pred-requires
+    ended-requires
     same-length-2
-    returns-2)
+    returns-2
+    same-length-3
+    returns-3)

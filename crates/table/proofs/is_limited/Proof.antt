@@ -18,14 +18,11 @@ both-requires c κs = tt
 both-requires-2 : tie.Need-both-requires-2
 both-requires-2 c κs = tt
 
-both-requires-3 : tie.Need-both-requires-3
-both-requires-3 c κs = tt
-
 returns : tie.Need-returns
 returns c =
-    let t = c .before .before .before in
-    limited-read _ _ _ _ _ _ _ (t .before .before .word .ensures .0) (t .before .word2 .ensures .0) (t .word3 .ensures .0)
-    (c .before .before .both .ensures) (c .before .both2 .ensures) (c .both3 .ensures)
+    let t = c .before .before in
+    limited-read _ _ _ _ _ _ (t .before .before .word .ensures .0) (t .before .word2 .ensures .0) (t .word3 .ensures .0)
+    (c .before .both .ensures) (c .both2 .ensures)
 
 pub is-limited-spec : {M : Type 1} → statement M
 is-limited-spec =
@@ -36,5 +33,4 @@ is-limited-spec =
     word-requires-3
     both-requires
     both-requires-2
-    both-requires-3
     returns)

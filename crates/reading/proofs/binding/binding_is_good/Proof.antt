@@ -1,5 +1,5 @@
 -- By the identifier's word and by how often it is bound.
-use Rattle.reading.proofs.Occurs.{binding-free, binding-once, binding-wrong}
+use Rattle.reading.proofs.Occurs.{binding-free, binding-once, binding-wrong, bound-nodes}
 use Rattle.reading.proofs.binding.binding_is_good.Statement.{statement}
 use Rattle.reading.proofs.binding.binding_is_good.Tie as tie
 
@@ -10,7 +10,7 @@ returns : tie.Need-returns
 returns c = binding-free _ _ _ _ (c .before .bind .ensures) (c .before .before .before .pre .2) (c .if1 .taken)
 
 occurs-free-requires : tie.Need-occurs-free-requires
-occurs-free-requires c κs = c .before .before .before .before .pre .0
+occurs-free-requires c κs = let p = c .before .before .before .before .pre in (p .0, bound-nodes _ _ _ (p .2) (c .if2 .taken))
 
 returns-2 : tie.Need-returns-2
 returns-2 c = binding-once _ _ _ _ (c .before .before .before .bind .ensures) (c .before .before .before .before .before .pre .2) _ (c .before .before .if1 .left) (c .before .if2 .taken) (c .occurs-free .ensures)

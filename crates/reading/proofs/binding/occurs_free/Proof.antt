@@ -8,7 +8,7 @@ use borrow.Author.Count.{falls}
 use Rattle.rules.specs.Tables.{nodeCount}
 use Rattle.table.proofs.Least.{below, next-fits}
 use Rattle.reading.specs.Arrays.{Occurs}
-use Rattle.reading.proofs.Counting.{last-here, last-inside}
+use Rattle.reading.proofs.Counting.{last-inside}
 use Rattle.reading.proofs.Occurs.{occurs-turn, occurs-root}
 use Rattle.reading.proofs.binding.occurs_free.Statement.{statement}
 use Rattle.reading.proofs.binding.occurs_free.Tie as tie
@@ -24,10 +24,10 @@ inside : (c : tie.In-loop Inv-loop μ-loop) → c .before .loop .n < nodeCount (
 inside c = below (c .loop-test .taken) (c .before .before .nodes .ensures)
 
 few : (c : tie.In-loop Inv-loop μ-loop) → c .before .loop .n < 512
-few c = lt-of-lt-of-le (inside c) (c .before .before .before .before .pre .laid .header .few-nodes)
+few c = lt-of-lt-of-le (inside c) (c .before .before .before .before .pre .0 .laid .header .few-nodes)
 
 nodes-requires : tie.Need-nodes-requires Inv-loop μ-loop
-nodes-requires c κs = c .before .pre .laid .header .long
+nodes-requires c κs = c .before .pre .0 .laid .header .long
 
 loop-holds : tie.Need-loop-holds Inv-loop μ-loop
 loop-holds c = (zero-le, refl, λ m h. absurd (not-suc-le-zero h))
@@ -36,7 +36,7 @@ slice-aggregate-node-occurs : tie.Need-slice-aggregate-node-occurs Inv-loop μ-l
 slice-aggregate-node-occurs c = sym (c .before .before .loop .inv .1)
 
 node-occurs-requires : tie.Need-node-occurs-requires Inv-loop μ-loop
-node-occurs-requires c κs = (c .before .before .before .before .before .pre, inside (c .before), c .before .before .loop .inv .1)
+node-occurs-requires c κs = (c .before .before .before .before .before .pre .0, inside (c .before), c .before .before .loop .inv .1)
 
 cast-occurs : tie.Need-cast-occurs Inv-loop μ-loop
 cast-occurs c = tt
@@ -56,17 +56,20 @@ loop-again c =
     let l = t .before .loop in (
       add-one-le (t .loop-test .taken),
       simp length-set (l .inv .1),
-      occurs-turn _ _ _ _ (l .occurs) _ (c .before .before .before .before .before .before .pre) (inside t) (below (few t) (sym (l .inv .1))) (l .inv .2) (c .node-occurs .ensures),
+      occurs-turn _ _ _ _ (l .occurs) _ (t .before .before .before .before .pre .0) (inside t) (below (few t) (sym (l .inv .1)))
+          (l .inv .2) (c .node-occurs .ensures),
     )
 
 sub-result : tie.Need-sub-result Inv-loop μ-loop
-sub-result c = last-here (c .before .before .nodes .ensures) (c .before .before .before .before .pre .laid .header)
+sub-result c = below (c .before .before .before .before .pre .1) (sym (c .before .before .nodes .ensures))
 
 array-read-result : tie.Need-array-read-result Inv-loop μ-loop
-array-read-result c = last-inside (c .before .before .nodes .ensures) (c .before .before .before .before .pre .laid .header)
+array-read-result c = last-inside (c .before .before .nodes .ensures) (c .before .before .before .before .pre .0 .laid .header)
 
 returns : tie.Need-returns Inv-loop μ-loop
-returns c = occurs-root _ _ _ _ _ (c .before .loop .occurs) (c .before .before .before .before .pre) (c .before .before .nodes .ensures) (c .loop-test .left) (c .before .loop .inv .2)
+returns c =
+    occurs-root _ _ _ _ (c .before .loop .occurs) (c .before .before .before .before .pre .1) (c .before .before .nodes .ensures) (c .loop-test .left)
+    (c .before .loop .inv .2)
 
 pub occurs-free-spec : {M : Type 1} → statement M
 occurs-free-spec =
