@@ -26,8 +26,9 @@ extern "C" {
 
 /* Sizes and limits. A table is a header of eight words (form 1; the numbers of given sets, identifiers and nodes; the offsets
  * of their records; the whole length), then one word for each given set (its element count, 1 to 32), one for each identifier
- * (0 free, 1 bound) and four for each node (kind and three fields). A sheet has one row for each identifier, then one for each
- * node. A value is a run of cells, and its weight is their number. */
+ * (0 free, 1 bound) and four for each node (kind and three fields). A table may have no nodes: a gate with no clauses yet, which
+ * is true, with no visit. A sheet has one row for each identifier, then one for each node. A value is a run of cells, and its
+ * weight is their number. */
 enum falgrumi_size {
     FALGRUMI_HEADER_BYTES = 32,
     FALGRUMI_NODE_BYTES = 16,
@@ -52,7 +53,7 @@ enum falgrumi_refusal {
     FALGRUMI_NO_REFUSAL = 0,
     /* The table is shorter than its header, or its first word is not 1. */
     FALGRUMI_REFUSED_FORM = 1,
-    /* There are more than 16 given sets, more than 32 identifiers, or not 1 to 512 nodes. */
+    /* There are more than 16 given sets, 32 identifiers or 512 nodes. */
     FALGRUMI_REFUSED_COUNTS = 2,
     /* An offset or the length in the header is wrong, or the table's length is not the number of bytes lent. */
     FALGRUMI_REFUSED_LAYOUT = 3,
@@ -115,7 +116,7 @@ uint8_t falgrumi_check(const uint8_t *table, size_t table_length, uint8_t *sheet
  *                          cell is 4 bytes payload, least byte first, 1 byte tag, 3 zero bytes. Tags: 1 integer (signed), 2
  *                          truth (0 or 1), 3 element k of given set g (payload 256 g + k), 4 pair (payload 0, then both
  *                          parts), 5 set (payload the number of members, then the members, rising, none twice).
- *   budget                 the most visits of nodes that may be made.
+ *   budget                 the most visits of nodes that may be made; 0 is enough for a table without nodes.
  *   truth                  written at every return: 1 for true, 0 for false, 0 for a refusal.
  *   place                  written at every return: the refusal's place, 0 where the answer is 0.
  *   steps                  written at every return: the visits made, 0 for refusals 1 to 14.

@@ -28,7 +28,7 @@ pub enum Subject {
 /// What each number says, 1 first.
 const SENTENCES: [&str; 19] = [
     "the table is shorter than its header of 32 bytes, or its first word is not 1",
-    "there are more than 16 given sets, more than 32 identifiers, or not 1 to 512 nodes",
+    "there are more than 16 given sets, 32 identifiers or 512 nodes",
     "an offset or the length in the header is wrong, or the length is not that of the bytes given",
     "the given set does not have 1 to 32 elements",
     "the identifier is marked neither free (0) nor bound (1)",

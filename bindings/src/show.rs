@@ -105,6 +105,9 @@ impl Drawing<'_> {
 
     /// The tree of the last node, then those of nodes that are in no tree above; a readable table has none.
     fn trees(&mut self) {
+        if self.table.nodes.is_empty() {
+            self.out += "the gate has no clauses yet\n";
+        }
         for node in (0..self.table.nodes.len()).rev() {
             if !self.drawn[node] {
                 self.tree(node, "", "");
@@ -185,7 +188,7 @@ fn header(bytes: &[u8]) -> String {
             0 => " (must be 1)".to_string(),
             1 => " (must be 0 to 16)".to_string(),
             2 => " (must be 0 to 32)".to_string(),
-            3 => " (must be 1 to 512)".to_string(),
+            3 => " (must be 0 to 512)".to_string(),
             _ => must(k),
         };
         out += &format!("{name}: {found}{limits}\n");
@@ -246,6 +249,13 @@ mod tests {
             show(&bytes(&[], &[], &doubled)).lines().count(),
             512 + 511 + 2
         );
+    }
+
+    #[test]
+    fn a_gate_with_no_clauses_says_so() {
+        assert_eq!(show(&bytes(&[], &[], &[])), "the gate has no clauses yet\n");
+        let marked = "identifier x0, bound  ◄ refused 9\nthe gate has no clauses yet\n";
+        assert_eq!(show(&bytes(&[], &[1], &[])), marked);
     }
 
     #[test]

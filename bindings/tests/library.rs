@@ -112,6 +112,44 @@ fn evaluate_answers_as_document_01_says() {
     );
 }
 
+/// A gate with no clauses yet: the values are tested, and then it is true whatever the budget.
+#[test]
+fn no_clauses_are_true() {
+    let (bare, free, bound) = (table(&[], &[]), table(&[0], &[]), table(&[0, 1], &[]));
+    let sheet = check(&bare).expect("it is accepted");
+    assert_eq!(
+        (sheet.identifiers(), sheet.nodes(), sheet.bytes().len()),
+        (0, 0, 0)
+    );
+    assert_eq!(check_into(&bare, &mut [0; 64]).err(), Some(refused(10, 0)));
+    assert_eq!(check(&free).err(), Some(refused(12, 0)));
+    assert_eq!(check(&bound).err(), Some(refused(9, 1)));
+    let one: &[u8] = &[7, 0, 0, 0, 1, 0, 0, 0];
+    for budget in [0, 1, u32::MAX] {
+        assert_eq!(evaluate(&bare, &[], budget), ends(Ok(true), 0));
+        assert_eq!(evaluate(&free, one, budget), ends(Ok(true), 0));
+        let unvalued = ends(Err(refused(14, 0)), 0);
+        assert_eq!(evaluate(&free, &[], budget), unvalued);
+        assert_eq!(evaluate(&bare, one, budget), unvalued);
+        assert_eq!(evaluate(&bound, one, budget), ends(Err(refused(9, 1)), 0));
+        let guarded = |evaluation, conforms| {
+            Ok(GuardedRun {
+                evaluation,
+                conforms,
+            })
+        };
+        let run = |table: &[u8], values| {
+            checked_evaluation(table, &mut vec![0; sheet_length(table)], values, budget)
+        };
+        assert_eq!(run(&bare, &[]), guarded(ends(Ok(true), 0), true));
+        assert_eq!(run(&bare, one), guarded(unvalued, false));
+        assert_eq!(run(&free, one), Err(refused(12, 0)));
+    }
+    assert!(conforms(&bare, &[], &[]) && !conforms(&bare, &[0; 64], &[]));
+    let integer = [&[1][..], &[0; 63]].concat();
+    assert!(conforms(&free, &integer, one) && !conforms(&free, &integer, &[]));
+}
+
 #[test]
 fn application_gives_the_least_image() {
     let number = |n| [23, n, 0, 0];
