@@ -26,7 +26,7 @@ use Rattle.rules.specs.Operations.{elems, setOf, Env, _with_≔_, decides, join
 use Rattle.rules.specs.Evaluation.{fitting, quantify, select, holdsᵖ, valueᵉ, holdsᶜ, run, evaluation}
 use Rattle.laws.proofs.CellsLaws.{good-wellFormed, size-below}
 use Rattle.laws.proofs.TableLaws.{IfSome}
-use Rattle.laws.proofs.ReadingLaws.{reading-table, reading-readable}
+use Rattle.laws.proofs.ReadingLaws.{reading-records}
 use Rattle.laws.proofs.Soundness.{evaluation-run}
 use Rattle.laws.proofs.SetOrder.{All, Any, Before, Rising, all-imp, elems-well}
 use Rattle.laws.proofs.Membership.{In, all-in, in-all}
@@ -330,7 +330,7 @@ evaluation-means bs buffer budget tb vs b e f a =
     go (conditionOf tb) (condition-leaves tb right) (rw (evaluation-run bs buffer budget tb vs e f) at a)
   where
     right : Records tb
-    right = rw (reading-table bs tb e) (reading-readable bs tb e .records)
+    right = reading-records bs tb e
 
     few : (g : ℕ) → getD (tb .sizes) g 0 ≤ 256
     few = size-below (tb .sizes) 256 (λ g l. omega (arith, right .sizes g l .1))

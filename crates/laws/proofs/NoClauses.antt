@@ -1,31 +1,27 @@
 -- Document 02, N1, sentence by sentence: a readable table without nodes, which is a gate with no clauses yet.
 use Prim.Native.Nat.{ℕ, zero, suc, _*_, _<_}
 use mathlib.Core.Bool.{true}
-use mathlib.Core.List.{List, [], _∷_}
+use mathlib.Core.List.{List, []}
 use mathlib.Core.Logic.{inl, inr}
 use mathlib.Core.Path.{_≡_, refl, _∙_, subst}
 use native.Mathlib.Omega.{arith}
 use lib.ListN.{getD, length}
 use Rattle.rules.specs.Types.{Ty, Declared, INTEGER, BOOL}
 use Rattle.rules.specs.Values.{Value}
-use Rattle.rules.specs.Tables.{Node, Table}
+use Rattle.rules.specs.Tables.{Table}
 use Rattle.rules.specs.Ends.{done, refused}
 use Rattle.rules.specs.Cells.{valuesIn}
 use Rattle.rules.specs.Reading.{reading, binders, occursInRoot}
-use Rattle.rules.specs.Readable.{BindingRight, Records}
+use Rattle.rules.specs.Readable.{BindingRight}
 use Rattle.rules.specs.Runs.{return}
 use Rattle.rules.specs.Evaluation.{run, evaluation}
 use Rattle.rules.specs.Verdict.{Place, Whole, Only, sheetOf, rowsFrom, Verdict, several, accepts}
 use Rattle.rules.specs.Safety.{Free}
 use Rattle.rules.proofs.Basics.{absurd01, any-default}
 use Rattle.laws.proofs.TableLaws.{no-condition}
-use Rattle.laws.proofs.ReadingLaws.{reading-table, reading-readable}
+use Rattle.laws.proofs.ReadingLaws.{reading-records}
+use Rattle.laws.proofs.BindingLaws.{binders-one}
 use Rattle.laws.proofs.Soundness.{evaluation-run}
-
-none-bound : (ns : List Node) (x : ℕ) → length ns ≡ 0 → binders ns x ≡ 0
-unfolding binders
-none-bound [] x e = refl
-none-bound (d ∷ ns) x e = absurd (omega arith)
 
 module _ (bs : List ℕ) (tb : Table) (e : reading bs ≡ done tb) (none : length (tb .nodes) ≡ 0) where
   -- Evaluation gives true with 0 steps under every budget, once 14 passes the values; nothing is formed.
@@ -35,14 +31,11 @@ module _ (bs : List ℕ) (tb : Table) (e : reading bs ≡ done tb) (none : lengt
 
   -- A bound identifier would have broken 9: all are free.
   pub no-clauses-free : (x : ℕ) → x < length (tb .binds) → Free tb x
-  no-clauses-free x l = (l, any-default (tb .binds) x 1 0 l ∙ go (getD (tb .binds) x 0) (right .bindings x l))
+  no-clauses-free x l = (l, any-default (tb .binds) x 1 0 l ∙ go (getD (tb .binds) x 0) (reading-records bs tb e .bindings x l))
     where
-      right : Records tb
-      right = rw (reading-table bs tb e) (reading-readable bs tb e .records)
-
       go : (w : ℕ) → BindingRight w (binders (tb .nodes) x) (occursInRoot (tb .nodes) x) → w ≡ 0
       go zero b = refl
-      go (suc w) b = absurd (omega (arith, none-bound (tb .nodes) x none, b .0))
+      go (suc w) b = absurd (omega (arith, none, binders-one (tb .nodes) x .0 (b .0) .1 .0))
 
   -- Any types of the identifiers are a typing.
   alike : (t : Ty) → Declared (length (tb .sizes)) t → Whole tb (λ _. t)

@@ -298,6 +298,9 @@ reading-table bs tb e = sym (inTurn-done (stages bs) (tableOf bs) tb (sym (readi
 pub reading-readable : (bs : List ℕ) (tb : Table) → reading bs ≡ done tb → Readable bs
 reading-readable bs tb e = stages-right bs .0 (inTurn-done (stages bs) (tableOf bs) tb (sym (reading-stages bs) ∙ e) .0)
 
+pub reading-records : (bs : List ℕ) (tb : Table) → reading bs ≡ done tb → Records tb
+reading-records bs tb e = rw (reading-table bs tb e) (reading-readable bs tb e .records)
+
 -- Its refusals have the numbers 1 to 9, each with a place in its range.
 pub reading-refuses : (bs : List ℕ) → RefusesOnly (λ r p. (1 ≤ r) × (r ≤ 9) × PlaceInRange bs r p) (reading bs)
 unfolding requireAll

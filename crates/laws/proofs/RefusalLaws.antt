@@ -29,7 +29,7 @@ use Rattle.rules.specs.Safety.{EndsSafely}
 use Rattle.rules.specs.Verdict.{Place, Verdict, unreadable, misfit, clash, several, heavy, accepts}
 use Rattle.laws.proofs.EndLaws.{T-ltb, T-false, refuses-imp, refuses-bind, require-refuses}
 use Rattle.laws.proofs.TableLaws.{binds-length, nodes-length, IfSome}
-use Rattle.laws.proofs.ReadingLaws.{reading-table, reading-readable, reading-refuses}
+use Rattle.laws.proofs.ReadingLaws.{reading-table, reading-records, reading-refuses}
 use Rattle.laws.proofs.TreeInduction.{HandsOn, root-has}
 
 -- A table has as many identifiers and nodes as the header of its bytes says.
@@ -254,9 +254,7 @@ run-refusal bs budget s r n h =
 
 readable-run : (bs : List ℕ) (tb : Table) (vs : List Value) (budget : ℕ) → reading bs ≡ done tb →
     RunRefuses (length (tb .nodes)) budget (run tb vs budget)
-readable-run bs tb vs budget e =
-    let r = reading-readable bs tb e in
-    run-refuses tb vs budget (rw (reading-table bs tb e) (r .records))
+readable-run bs tb vs budget e = run-refuses tb vs budget (reading-records bs tb e)
 
 pub evaluation-refuses : (bs buffer : List ℕ) (budget : ℕ) → EvaluationRefuses bs budget (evaluation bs buffer budget)
 unfolding evaluation

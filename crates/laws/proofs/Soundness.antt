@@ -24,7 +24,7 @@ use Rattle.rules.specs.Evaluation.{fitting, quantify, select, holdsᵖ, value�
 use Rattle.rules.specs.Verdict.{nodePlace, Whole}
 use Rattle.rules.specs.Safety.{Free, Left, EndsSafely, Any, All}
 use Rattle.laws.proofs.FitsLaws.{fits-right}
-use Rattle.laws.proofs.ReadingLaws.{reading-table, reading-readable}
+use Rattle.laws.proofs.ReadingLaws.{reading-records}
 use Rattle.laws.proofs.TableLaws.{IfSome}
 use Rattle.laws.proofs.TypedTree.{numberᵉ, Typedᵖ, Typedᵉ, Typedᵖ-at, IsExpression, _adding_, Scopedᵖ, Scopedᵉ, typed-root, scoped-root}
 use Rattle.laws.proofs.SetOrder.{all-append}
@@ -235,6 +235,4 @@ pub evaluation-sound : (bs buffer : List ℕ) (budget : ℕ) (tb : Table) (θ : 
     ((x : ℕ) → Free tb x → HasType (getD vs x noValue) (θ x)) →
     SoundRun tb θ (evaluation bs buffer budget)
 evaluation-sound bs buffer budget tb θ vs e f w h =
-    let q = reading-table bs tb e in
-    let r = reading-readable bs tb e in
-    rw (evaluation-run bs buffer budget tb vs e f) (run-sound tb θ vs budget (rw q (r .records)) w h)
+    rw (evaluation-run bs buffer budget tb vs e f) (run-sound tb θ vs budget (reading-records bs tb e) w h)

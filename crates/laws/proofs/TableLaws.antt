@@ -184,24 +184,27 @@ module _ {A : Type 0} (z : A) (f : ℕ → A) where
   by-root P [] h k = h
   by-root P (d ∷ ns) h k = k (omega arith)
 
--- So too of the condition.
-module _ (tb : Table) where
-  abbrev pub rootTree : Pred
-  rootTree = predAt (length (tb .nodes)) (tb .nodes) (lastNode (tb .nodes))
-
-  pub no-condition : length (tb .nodes) ≡ 0 → conditionOf tb ≡ nothing
-  unfolding conditionOf
-  no-condition = no-root nothing (λ n. some (predAt (length (tb .nodes)) (tb .nodes) n)) (tb .nodes)
-
-  pub some-condition : 0 < length (tb .nodes) → conditionOf tb ≡ some rootTree
-  unfolding conditionOf
-  some-condition = some-root nothing (λ n. some (predAt (length (tb .nodes)) (tb .nodes) n)) (tb .nodes)
-
--- A property of the condition, where there is one.
+-- A property of what may be absent, where it is there.
 abbrev pub IfSome : {A : Type 0} → (A → Type 0) → Option A → Type 0
 IfSome P nothing = Unit {0}
 IfSome P (some a) = P a
 
-pub condition-has : (tb : Table) (P : Pred → Type 0) → (0 < length (tb .nodes) → P (rootTree tb)) → IfSome P (conditionOf tb)
-unfolding conditionOf
-condition-has tb P h = by-root nothing (λ n. some (predAt (length (tb .nodes)) (tb .nodes) n)) (IfSome P) (tb .nodes) tt h
+-- So too of the condition, which is the root's tree.
+module _ (tb : Table) where
+  abbrev treeAt : ℕ → Pred
+  treeAt n = predAt (length (tb .nodes)) (tb .nodes) n
+
+  abbrev pub rootTree : Pred
+  rootTree = treeAt (lastNode (tb .nodes))
+
+  pub no-condition : length (tb .nodes) ≡ 0 → conditionOf tb ≡ nothing
+  unfolding conditionOf
+  no-condition = no-root nothing (λ n. some (treeAt n)) (tb .nodes)
+
+  pub some-condition : 0 < length (tb .nodes) → conditionOf tb ≡ some rootTree
+  unfolding conditionOf
+  some-condition = some-root nothing (λ n. some (treeAt n)) (tb .nodes)
+
+  pub condition-has : (P : Pred → Type 0) → (0 < length (tb .nodes) → P rootTree) → IfSome P (conditionOf tb)
+  unfolding conditionOf
+  condition-has P h = by-root nothing (λ n. some (treeAt n)) (IfSome P) (tb .nodes) tt h

@@ -17,6 +17,7 @@ use Rattle.rules.specs.Tables.{Node, tableOf, nodeAt, fieldsAt, fieldsIf, field
 use Rattle.rules.specs.Reading.{occurrences, occursIn, occursInAny, bindsHere, occursStep, occursFree, occursInRoot, boundRight, binders, binding}
 use Rattle.rules.specs.Readable.{Header}
 use Rattle.laws.proofs.TableLaws.{fields-right, nodes-length, occursFree-at, some-root}
+use Rattle.laws.proofs.BindingLaws.{binders-one}
 use Rattle.table.specs.Codes.{fieldOf}
 use Rattle.table.specs.Layout.{Fielded, holdsAt, fieldAt, WordOf}
 use Rattle.reading.specs.Arrays.{flag, Occurs, FieldIn, countsAt, Counted}
@@ -185,13 +186,8 @@ bound-once zero t o e = absurd (e refl)
 bound-once (suc w) t o e = refl
 
 -- Where an identifier is bound there are nodes.
-no-binders : (ns : List Node) (x : ℕ) → binders ns x ≡ 1 → 0 < length ns
-unfolding binders
-no-binders [] x e = absurd (omega (arith, e))
-no-binders (d ∷ ns) x e = omega arith
-
 pub bound-nodes : (bs : List ℕ) (x t : ℕ) → t ≡ binders (tableOf bs .nodes) x → t ≡ 1 → 0 < nodeCount bs
-bound-nodes bs x t e f = omega (arith, nodes-length bs, no-binders (tableOf bs .nodes) x (sym e ∙ f))
+bound-nodes bs x t e f = omega (arith, nodes-length bs, binders-one (tableOf bs .nodes) x .0 (sym e ∙ f) .1 .0)
 
 -- The rule for an identifier that is bound t times, by its word.
 module _ (bs : List ℕ) (x w t : ℕ) (word : WordOf bs x w) (times : t ≡ binders (tableOf bs .nodes) x) where

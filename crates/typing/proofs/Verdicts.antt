@@ -2,7 +2,7 @@
 -- of the refusals 11 to 13, and one for acceptance.
 use Prim.Native.Nat.{ℕ, suc, _+_, _≤_, _<_}
 use mathlib.Core.List.{List}
-use mathlib.Core.Path.{_≡_, sym, _∙_, subst}
+use mathlib.Core.Path.{_≡_, sym, _∙_}
 use native.Mathlib.Omega.{arith}
 use lib.ListN.{length, getD}
 use Rattle.rules.specs.Types.{Ty, weightᵀ, Declared, INTEGER}
@@ -11,7 +11,7 @@ use Rattle.rules.specs.Ends.{done, refused}
 use Rattle.rules.specs.Reading.{reading}
 use Rattle.rules.specs.Verdict.{Place, Typing, AgreeAt, Only, typeLimit, sheetOf, sheetLength}
 use Rattle.rules.specs.Verdict.{Verdict, clash, several, heavy, accepts}
-use Rattle.laws.proofs.ReadingLaws.{reading-table, reading-readable}
+use Rattle.laws.proofs.ReadingLaws.{reading-records}
 use Rattle.unification.specs.Problem.{Solves}
 use Rattle.unification.specs.Solved.{Solved}
 use Rattle.typing.specs.Equations.{base, shapeAt, equations, RightNodes, back}
@@ -23,7 +23,7 @@ use Rattle.laws.proofs.VerdictLaws.{sheetOf-same}
 
 -- The nodes of a table that was read hold what their kinds say.
 pub right-nodes : (bs : List ℕ) (tb : Table) → reading bs ≡ done tb → RightNodes tb
-right-nodes bs tb e = subst RightNodes (sym (reading-table bs tb e)) (reading-readable bs tb e .records .fields)
+right-nodes bs tb e = reading-records bs tb e .fields
 
 -- σ solves the problem of the nodes below k.
 abbrev pub SolvesBelow : Table → ℕ → (ℕ → Ty) → Type 0
