@@ -4,7 +4,6 @@ use mathlib.Core.Bool.{Bool, true, false, true≢false, false≢true}
 use mathlib.Core.List.{List, _++_}
 use mathlib.Core.Path.{_≡_, refl, sym, subst, _∙_}
 use native.Mathlib.Decide.{decLt}
-use native.Mathlib.Nat.{not-suc-le-zero}
 use native.Mathlib.Omega.{arith}
 use lib.ListN.{getD, length, take, drop, length-append, length-map, List·getD-append}
 use lib.Seq.{getD-take, length-take-le}
@@ -21,6 +20,7 @@ use Rattle.typing.proofs.VariableLaws.{base-mono, base-bound}
 use Rattle.typing.proofs.ProblemLaws.{well-formed}
 use Rattle.problem.proofs.NodeLaws.{equations-bound}
 use Rattle.typing.proofs.EquationsLaws.{typing→solves, solves→typing}
+use Rattle.typing.proofs.Verdicts.{typing-none}
 use Rattle.typing.proofs.SameProblem.{Same, answer-same, array→list, list→array, array-below}
 
 -- Later nodes leave the equations as they are.
@@ -79,7 +79,7 @@ module _ {bs : List ℕ} (r : Readable bs) {k : ℕ} (h : k ≤ nodeCount bs) wh
 
 -- No rule, no clash.
 pub typable-none : (tb : Table) → Typable tb 0
-typable-none tb = ((λ p. INTEGER), record { declared = λ p w. tt; obeyed = λ n l. absurd (not-suc-le-zero l) })
+typable-none tb = ((λ p. INTEGER), typing-none tb)
 
 -- The bisection starts, goes on with either answer for the nodes below m, and ends.
 module _ {bs : List ℕ} (r : Readable bs) {n : ℕ} (h : n ≤ nodeCount bs) where

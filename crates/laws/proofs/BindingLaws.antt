@@ -316,9 +316,9 @@ module _ (tb : Table) (right : (n : ℕ) → n < length (tb .nodes) → NodeRigh
       go anyWord y i t = absurd t
       go truthBit y i t = absurd t
 
-  -- The last node is in no body: it is no child.
-  root-outside : InScopeOf (tb .nodes) x (lastNode (tb .nodes)) → ⊥
-  root-outside (b, g, t) = go (tree-split (tb .nodes) t)
+  -- The last node, where there is one, is in no body: it is no child.
+  root-outside : 0 < length (tb .nodes) → InScopeOf (tb .nodes) x (lastNode (tb .nodes)) → ⊥
+  root-outside l (b, g, t) = go (tree-split (tb .nodes) t)
     where
       go : (nodeAt (tb .nodes) b .c ≡ lastNode (tb .nodes)) ⊎ ((p : ℕ) × InBodyTree (tb .nodes) b p × ChildOf (tb .nodes) p (lastNode (tb .nodes))) → ⊥
       go (inl e) = omega (arith, child-lower tb right once b (nodeAt (tb .nodes) b .c) (body-of b g))
@@ -381,7 +381,7 @@ module _ (tb : Table) (right : (n : ℕ) → n < length (tb .nodes) → NodeRigh
       from w =
           by-root false (occursFree (tb .nodes) x) (λ b. b ≡ false) (tb .nodes) refl λ l.
           let i = last-in (tb .nodes) l in
-          T-false (occursFree (tb .nodes) x (lastNode (tb .nodes))) .0 (outside-free w (length (tb .nodes)) (lastNode (tb .nodes)) i i root-outside)
+          T-false (occursFree (tb .nodes) x (lastNode (tb .nodes))) .0 (outside-free w (length (tb .nodes)) (lastNode (tb .nodes)) i i (root-outside l))
 
   by-word : (w : ℕ) → BindingRight w (binders (tb .nodes) x) (occursInRoot (tb .nodes) x) ↔ WrittenFor w (tb .nodes) x
   by-word zero = binders-none (tb .nodes) x
