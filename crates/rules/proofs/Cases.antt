@@ -11,7 +11,11 @@ use Rattle.rules.specs.Kinds.{Kind, kinds, Field, unused, child, use-of,
 use Rattle.rules.specs.Tables.{Node, Table}
 use Rattle.rules.specs.Ends.{End, done, refused}
 use Rattle.rules.specs.Evaluation.{run, evaluation}
-use Rattle.rules.proofs.Rows.{toBytes, node₃, node₂, node₁, node, table, closed, noClauses, wordsOf, p1, p1-words, element1, sheet, z, pz}
+use Rattle.rules.specs.Safety.{All}
+use Rattle.rules.specs.Values.{pair}
+use Rattle.rules.specs.Operations.{isFunction}
+use Rattle.rules.proofs.Rows.{toBytes, node₃, node₂, node₁, node, table, closed, noClauses, wordsOf, p1, p1-words, unionAtOne}
+use Rattle.rules.proofs.Rows.{element1, sheet, z, pz, integer, setWith}
 
 -- A condition without free identifiers, what Check says of it, and how Evaluate ends with the budget 100, with the steps.
 pub record RuleCase : Type 0 where
@@ -307,12 +311,52 @@ joinedTests k m n = closed (lit 1 ∷ lit m ∷ node₂ 6 0 1 ∷ lit 1 ∷ lit 
 abbrev skipped : ℕ → ℕ → Table
 skipped k m = closed (lit 1 ∷ lit m ∷ node₂ 6 0 1 ∷ lit 1 ∷ TRUE ∷ node₂ 6 3 4 ∷ node₂ k 2 5 ∷ [])
 
--- f(2)=6 for f = {(1,5),(2,6)}, and its cells
-abbrev secondOfTwo : Table
-secondOfTwo = table [] (0 ∷ []) (node₁ 20 0 ∷ lit 2 ∷ node₂ 37 0 1 ∷ lit 6 ∷ node₂ 6 2 3 ∷ [])
+-- Cells as words: an integer, a pair, a set of one or two members.
+abbrev integerCell : ℕ → List ℕ
+integerCell n = n ∷ 1 ∷ []
 
-abbrev twoPairs : List ℕ
-twoPairs = toBytes (2 ∷ 5 ∷ 0 ∷ 4 ∷ 1 ∷ 1 ∷ 5 ∷ 1 ∷ 0 ∷ 4 ∷ 2 ∷ 1 ∷ 6 ∷ 1 ∷ [])
+abbrev pairCells : List ℕ → List ℕ → List ℕ
+pairCells v w = 0 ∷ 4 ∷ (v ++ w)
+
+abbrev oneInSet : List ℕ → List ℕ
+oneInSet v = 1 ∷ 5 ∷ v
+
+-- Two and three pairs, by their first parts and the integers that these stand with.
+abbrev twoPairs : List ℕ → ℕ → List ℕ → ℕ → List ℕ
+twoPairs v m w n = 2 ∷ 5 ∷ (pairCells v (integerCell m) ++ pairCells w (integerCell n))
+
+abbrev threePairs : ℕ → ℕ → ℕ → ℕ → ℕ → ℕ → List ℕ
+threePairs a m b n c k = set (twoPairs (integerCell a) m (integerCell b) n) 0 3 ++ pairCells (integerCell c) (integerCell k)
+
+-- f(e)=6, for the cells of f and e
+abbrev appliedAt : List ℕ → List ℕ → End Bool → ℕ → Case
+appliedAt f e =
+    valued (table [] (0 ∷ 0 ∷ []) (node₁ 20 0 ∷ node₁ 20 1 ∷ node₂ 37 0 1 ∷ lit 6 ∷ node₂ 6 2 3 ∷ [])) (toBytes (f ++ e))
+
+-- Document 02, N2
+abbrev applicationCases : List Case
+applicationCases =
+    -- `pairedWith` that takes any first part; equal second parts, as any function may have
+    appliedAt (twoPairs (integerCell 1) 5 (integerCell 2) 6) (integerCell 2) (done true) 5 ∷
+    appliedAt (twoPairs (integerCell 1) 6 (integerCell 2) 6) (integerCell 1) (done true) 5 ∷
+    -- outside the domain of a function, and of one that has no pairs
+    appliedAt (twoPairs (integerCell 1) 5 (integerCell 2) 6) (integerCell 3) (refused 16 2) 4 ∷
+    appliedAt (0 ∷ 5 ∷ []) (integerCell 3) (refused 16 2) 4 ∷
+    -- `applied` that looks at the pairs of e only: {(1,6),(2,5),(2,7)}(1) and {(1,5),(1,7),(2,6)}(2)
+    appliedAt (threePairs 1 6 2 5 2 7) (integerCell 1) (refused 16 2) 4 ∷
+    appliedAt (threePairs 1 5 1 7 2 6) (integerCell 2) (refused 16 2) 4 ∷
+    -- `applied` that gives a value outside the domain of a relation that is no function; 15 comes first
+    appliedAt (twoPairs (integerCell 1) 5 (integerCell 1) 6) (integerCell 2) (refused 16 2) 4 ∷
+    appliedAt (twoPairs (integerCell 1) 5 (integerCell 1) 6) (1 ∷ 2 ∷ []) (refused 15 2) 4 ∷
+    -- `sharesFirst` that compares less than the whole first part: (1,2) and (1,3), ∅ and {1}; the same first part twice
+    appliedAt (twoPairs (pairCells (integerCell 1) (integerCell 2)) 5 (pairCells (integerCell 1) (integerCell 3)) 6)
+    (pairCells (integerCell 1) (integerCell 3)) (done true) 5 ∷
+    appliedAt (twoPairs (pairCells (integerCell 1) (integerCell 2)) 5 (pairCells (integerCell 1) (integerCell 2)) 6)
+    (pairCells (integerCell 1) (integerCell 2)) (refused 16 2) 4 ∷
+    appliedAt (twoPairs (0 ∷ 5 ∷ []) 5 (oneInSet (integerCell 1)) 6) (oneInSet (integerCell 1)) (done true) 5 ∷
+    appliedAt (twoPairs (oneInSet (integerCell 1)) 5 (oneInSet (integerCell 1)) 6) (oneInSet (integerCell 1)) (refused 16 2) 4 ∷
+    -- a pair that both sides of a union have is one pair: ({(1,2)}∪{(1,2)})(1)=2
+    plain (unionAtOne 2 2) (done true) 13 ∷ []
 
 abbrev runCases : List Case
 runCases =
@@ -325,8 +369,6 @@ runCases =
     plain (joinedTests 5 2 1) (done false) 7 ∷ plain (joinedTests 5 2 2) (done true) 7 ∷
     -- a negation that hands its operand on
     plain (negated 1) (done false) 4 ∷
-    -- `applied` that takes the first pair whatever its first part is
-    valued secondOfTwo twoPairs (done true) 5 ∷
     -- `weightLimit` below 256: 1..255 weighs 256
     plain (testRanges 6 255 1) (done false) 7 ∷ []
 
@@ -345,6 +387,20 @@ cases-right = refl
 pub no-clauses-right : map evaluated noClausesCases ≡ map (λ c. (c .ends, c .steps)) noClausesCases
 unfolding evaluation
 no-clauses-right = refl
+
+-- These one by one, so that a wrong definition is refused at the case that it gets wrong.
+abbrev EndsAsTold : Case → Type 0
+EndsAsTold c = evaluated c ≡ (c .ends, c .steps)
+
+pub application-right : All EndsAsTold applicationCases
+unfolding evaluation
+application-right = (refl, (refl, (refl, (refl, (refl, (refl, (refl, (refl, (refl, (refl, (refl, (refl, (refl, tt)))))))))))))
+
+-- `isFunction` does not rely on the order of the members: here the pairs that share a first part are no neighbours.
+pub apart-no-function :
+    isFunction (setWith (pair (integer 2) (integer 5) ∷ pair (integer 1) (integer 6) ∷ pair (integer 2) (integer 7) ∷ [])) ≡ false
+unfolding isFunction
+apart-no-function = refl
 
 abbrev unusedIn : List Field → ℕ
 unusedIn [] = 0

@@ -107,11 +107,14 @@ abbrev pub p10 : Table
 p10 = table [] (1 ∷ [])
     (node₁ 23 2 ∷ node₁ 23 1 ∷ node₂ 41 0 1 ∷ node₁ 20 0 ∷ node₁ 20 0 ∷ node₂ 6 3 4 ∷ node₃ 10 0 2 5 ∷ [])
 
--- ({(1,3)}∪{(1,2)})(1)=2
-abbrev pub p12 : Table
-p12 = closed
-    (node₁ 23 1 ∷ node₁ 23 3 ∷ node₂ 28 0 1 ∷ node₁ 27 2 ∷ node₁ 23 1 ∷ node₁ 23 2 ∷ node₂ 28 4 5 ∷ node₁ 27 6 ∷
+-- ({(1,m)}∪{(1,n)})(1)=2
+abbrev pub unionAtOne : ℕ → ℕ → Table
+unionAtOne m n = closed
+    (node₁ 23 1 ∷ node₁ 23 m ∷ node₂ 28 0 1 ∷ node₁ 27 2 ∷ node₁ 23 1 ∷ node₁ 23 n ∷ node₂ 28 4 5 ∷ node₁ 27 6 ∷
     node₂ 29 3 7 ∷ node₁ 23 1 ∷ node₂ 37 8 9 ∷ node₁ 23 2 ∷ node₂ 6 10 11 ∷ [])
+
+abbrev pub p12 : Table
+p12 = unionAtOne 3 2
 
 -- A cell as two words is its payload, then its tag: element 1 of G0, and the integer 1.
 abbrev pub element1 : List ℕ
@@ -194,8 +197,8 @@ tried tb n vs l a e s f = record {
 abbrev plainly : Table → ℕ → End (List ℕ) → End Bool → ℕ → Trace → Condition
 plainly tb l a e s f = tried tb 100 [] l a e s f
 
--- P1 to P12. The document gives no evaluation of P2 and P3, no check of P6, P7, P9 to P12, and no values formed: these are what
--- the rules give.
+-- P1 to P12, the last as document 02, N2 has it. The documents give no evaluation of P2 and P3, no check of P6, P7, P9 to P12,
+-- and no values formed: these are what the rules give.
 abbrev pub conditions : List Condition
 conditions =
     tried p1 100 element1 256 (done (sheet ((16 ∷ []) ∷ (16 ∷ []) ∷ (3 ∷ 16 ∷ []) ∷ [] ∷ []))) (done true) 3
@@ -214,10 +217,10 @@ conditions =
     plainly p10 512 (done (sheet (z ∷ z ∷ z ∷ pz ∷ z ∷ z ∷ [] ∷ [] ∷ []))) (done true) 4
     ((0, integer 2) ∷ (1, integer 1) ∷ (2, setWith []) ∷ []) ∷
     tried p10 3 [] 512 (done (sheet (z ∷ z ∷ z ∷ pz ∷ z ∷ z ∷ [] ∷ [] ∷ []))) (refused 19 1) 3 ((0, integer 2) ∷ []) ∷
-    plainly p12 832 (done (sheet (z ∷ z ∷ zz ∷ pzz ∷ z ∷ z ∷ zz ∷ pzz ∷ pzz ∷ z ∷ z ∷ z ∷ [] ∷ []))) (done true) 13
+    plainly p12 832 (done (sheet (z ∷ z ∷ zz ∷ pzz ∷ z ∷ z ∷ zz ∷ pzz ∷ pzz ∷ z ∷ z ∷ z ∷ [] ∷ []))) (refused 16 10) 12
     ((0, integer 1) ∷ (1, integer 3) ∷ (2, oneWith 3) ∷ (3, setWith (oneWith 3 ∷ [])) ∷
     (4, integer 1) ∷ (5, integer 2) ∷ (6, oneWith 2) ∷ (7, setWith (oneWith 2 ∷ [])) ∷
-    (8, setWith (oneWith 2 ∷ oneWith 3 ∷ [])) ∷ (9, integer 1) ∷ (10, integer 2) ∷ (11, integer 2) ∷ []) ∷ []
+    (8, setWith (oneWith 2 ∷ oneWith 3 ∷ [])) ∷ (9, integer 1) ∷ []) ∷ []
 
 -- Evaluate's run of a condition is what its row tells.
 abbrev pub RunsAsTold : Condition → Type 0

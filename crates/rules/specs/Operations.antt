@@ -1,5 +1,6 @@
--- Document 01, "Values and evaluation": what each kind gives for its operands' values, with refusals 16 and 17.
-use Prim.Native.Nat.{ℕ, zero, suc, _+_, _-_, Ordering, Ordering·lt, Ordering·eq, Ordering·gt}
+-- Document 01, "Values and evaluation": what each kind gives for its operands' values, with refusals 16 and 17. Application is
+-- document 02's, N2.
+use Prim.Native.Nat.{ℕ, zero, suc, Ordering, Ordering·lt, Ordering·eq, Ordering·gt}
 use mathlib.Core.List.{List, [], _∷_, _++_, map}
 use mathlib.Core.Bool.{Bool, true, false, _&&_, _||_, not, cond, Bool·beq}
 use mathlib.Core.Option.{Option, none as nothing, some}
@@ -70,6 +71,11 @@ keptValue false v r = r
 unfoldable pub keep : (Value → Bool) → List Value → List Value
 keep p [] = []
 keep p (v ∷ vs) = keptValue (p v) v (keep p vs)
+
+-- Whether some value of a list passes a test.
+unfoldable pub anyOf : (Value → Bool) → List Value → Bool
+anyOf p [] = false
+anyOf p (v ∷ vs) = let r = anyOf p vs in p v || r
 
 unfoldable pub pairsOf : List Value → List Value → List Value
 pairsOf [] ws = []
@@ -145,10 +151,26 @@ unfoldable pub pairedWith : Value → Value → Bool
 unfolding same
 pairedWith e x = same (left x) e
 
--- 37: the least u with (e, u) in f.
+-- Document 02, N2: two different pairs that share a first part.
+unfoldable pub sharesFirst : Value → Value → Bool
+unfolding same
+sharesFirst x y = not (same x y) && same (left x) (left y)
+
+-- A function: no two different pairs of it share a first part, wherever they stand.
+unfoldable pub isFunction : Value → Bool
+unfolding anyOf sharesFirst
+isFunction f = not (anyOf (λ x. anyOf (sharesFirst x) (elems f)) (elems f))
+
+-- The value of a list of one; 16 where there is none, or more than one.
+abbrev pub onlyOne : List Value → Given
+onlyOne [] = lacks 16
+onlyOne (v ∷ []) = gives v
+onlyOne (v ∷ w ∷ ws) = lacks 16
+
+-- 37: 16 unless f is a function and e is in its domain; otherwise the only u with (e, u) in f.
 unfoldable pub applied : Value → Value → Given
-unfolding keep pairedWith
-applied f e = least (map right (keep (pairedWith e) (elems f)))
+unfolding isFunction keep pairedWith
+applied f e = cond (isFunction f) (onlyOne (map right (keep (pairedWith e) (elems f)))) (lacks 16)
 
 -- 17: a sum or difference stays within 32 bits.
 abbrev pub ranged : Number → ℤ → Given
