@@ -30,19 +30,10 @@ use Rattle.rules.specs.Evaluation.{fitting, quantify, select, holdsᵖ, value�
 use Rattle.laws.proofs.TableLaws.{IfSome, condition-has}
 use Rattle.laws.proofs.OrderLaws.{and-left, and-right}
 use Rattle.laws.proofs.FitsLaws.{fits-right, typed-right}
-use Rattle.laws.proofs.SetTypes.{AllHave, GivenHas, elems-have, values-have, elements-have, one-has, two-has}
+use Rattle.laws.proofs.SetTypes.{GivenHas, elems-have, values-have, elements-have, one-has, two-has}
 use Rattle.laws.proofs.SetOrder.{All, all-imp, all-append, all-at, Any, Before, Rising, signed-right}
 use Rattle.laws.proofs.SetOrder.{elements-rising, elems-light, Well, elems-well, setOf-well, elements-well, GivenWell, one-well, two-well}
 use Rattle.rules.proofs.Basics.{and-of, all-both}
-
--- `AllHave` of the types' laws is `All` of `HasType`.
-all-of-have : (vs : List Value) (t : Ty) → AllHave vs t → All (λ v. HasType v t) vs
-all-of-have [] t h = tt
-all-of-have (v ∷ vs) t h = (h .0, all-of-have vs t (h .1))
-
-have-of-all : (vs : List Value) (t : Ty) → All (λ v. HasType v t) vs → AllHave vs t
-have-of-all [] t h = tt
-have-of-all (v ∷ vs) t h = (h .0, have-of-all vs t (h .1))
 
 has-typed : (v : Value) (t : Ty) → HasType v t → T (typed v)
 has-typed v t h = typed-right v .1 (t, h)
@@ -50,7 +41,7 @@ has-typed v t h = typed-right v .1 (t, h)
 members-typed : (s : Values) (t : Ty) → HasType (set s) t → All (λ w. T (typed w)) (members s)
 members-typed s (atom a) h = absurd h
 members-typed s (POW t) h =
-    all-imp (λ w. HasType w t) (λ w. T (typed w)) (λ w k. has-typed w t k) (members s) (all-of-have (members s) t (elems-have (set s) t h))
+    all-imp (λ w. HasType w t) (λ w. T (typed w)) (λ w k. has-typed w t k) (members s) (elems-have (set s) t h)
 members-typed s (t ⊗ u) h = absurd h
 
 -- The members of a set that has a type have one.
@@ -269,12 +260,12 @@ module _ (gs : List ℕ) where
   selected-well-typed t ws h = (
     setOf-well gs ws (all-imp (λ w. Well gs w × HasType w t) (Well gs) (λ w x. x .0) ws (h .0)) (h .1),
     has-typed (setOf ws) (POW t)
-        (values-have ws t (have-of-all ws t (all-imp (λ w. Well gs w × HasType w t) (λ w. HasType w t) (λ w x. x .1) ws (h .0)))),
+        (values-have ws t (all-imp (λ w. Well gs w × HasType w t) (λ w. HasType w t) (λ w x. x .1) ws (h .0))),
   )
 
   range-typed : (v : Value) (t : Ty) → Good v → HasType v (POW t) → All (λ w. Well gs w × HasType w t) (elems v)
   range-typed v t h k =
-      all-both (Well gs) (λ w. HasType w t) (elems v) (elems-well gs v (good-well v h) .0) (all-of-have (elems v) t (elems-have v t k))
+      all-both (Well gs) (λ w. HasType w t) (elems v) (elems-well gs v (good-well v h) .0) (elems-have v t k)
 
 -- By the value rules: a condition forms only good values, and so does an expression, whose own value is good.
 module _ (budget : ℕ) (gs : List ℕ) where

@@ -13,6 +13,7 @@ pub mod SetTypes
 pub mod Soundness
 pub mod SetOrder
 pub mod Membership
+pub mod FunctionLaws
 pub mod SetMeaning
 pub mod FormedLaws
 pub mod TraceLaws

@@ -10,7 +10,8 @@ use native.Mathlib.Decide.{ℕ-discrete}
 use lib.IntN.{ℤ, pos, _+ℤ_, +ℤ-idr, +ℤ-assoc}
 use lib.Dec.{T}
 use Rattle.rules.specs.Values.{element, Value, scalar, pair, set, Values, none, _▸_, int, members, values, order, same}
-use Rattle.rules.specs.Operations.{left, right, elems, setOf, placed, insert, rising, isIn, allIn, keptValue, keep, pairsOf, subsets, upFrom, elementsFrom}
+use Rattle.rules.specs.Operations.{left, right, elems, setOf, placed, insert, rising, isIn, allIn, keptValue, keep, anyOf, pairsOf, subsets, upFrom}
+use Rattle.rules.specs.Operations.{elementsFrom}
 use Rattle.rules.proofs.Basics.{and-of, and-split}
 use Rattle.laws.proofs.OrderLaws.{Small, Smalls, order-eq, same-eq, same-refl, before-trans, before-irrefl}
 use Rattle.laws.proofs.SetOrder.{All, Before, Rising, all-imp, all-map, rising-all, subsets-all, subsets-rising}
@@ -189,6 +190,23 @@ allIn-right (v ∷ vs) ws h k =
       λ t. let q = and-split (isIn v ws) (allIn vs ws) t in (i .0 (q .0), r .0 (q .1)),
       λ a. and-of (isIn v ws) (allIn vs ws) (i .1 (a .0)) (r .1 (a .1)),
     )
+
+-- `anyOf` finds a member that passes its test.
+pub anyOf-right : (p : Value → Bool) (vs : List Value) → T (anyOf p vs) ↔ ((x : Value) × In x vs × T (p x))
+unfolding anyOf
+anyOf-right p [] = (λ t. absurd t, λ h. absurd (h .1))
+anyOf-right p (v ∷ vs) =
+    let r = anyOf-right p vs in
+    let o = or-iff (p v) (anyOf p vs) in
+    (λ t. there (r .0) (o .0 t), λ h. o .1 (back (h .0) (λ i. r .1 (h .0, i, h .2)) (h .1) (h .2)))
+  where
+    there : (T (anyOf p vs) → (x : Value) × In x vs × T (p x)) → T (p v) ⊎ T (anyOf p vs) → (x : Value) × ((x ≡ v) ⊎ In x vs) × T (p x)
+    there f (inl t) = (v, inl refl, t)
+    there f (inr t) = let m = f t in (m .0, inr (m .1), m .2)
+
+    back : (x : Value) → (In x vs → T (anyOf p vs)) → (x ≡ v) ⊎ In x vs → T (p x) → T (p v) ⊎ T (anyOf p vs)
+    back x f (inl e) t = inl (subst (λ (z : Value). T (p z)) e t)
+    back x f (inr i) t = inr (f i)
 
 -- `keep` has the members that pass its test.
 pub keep-in : (p : Value → Bool) (x : Value) (vs : List Value) → In x (keep p vs) ↔ (In x vs × T (p x))

@@ -2,7 +2,7 @@
 -- to 19; an evaluation's steps are at most its budget. What is said of runs is by induction over the condition (TreeInduction.antt).
 use Prim.Native.Nat.{ℕ, zero, suc, _+_, _-_, _≤_, _<_}
 use mathlib.Core.Bool.{Bool, true, false, cond}
-use mathlib.Core.List.{List, [], _∷_, map}
+use mathlib.Core.List.{List, [], _∷_}
 use mathlib.Core.Logic.{_⊎_, inl, inr}
 use mathlib.Core.Option.{Option, none as nothing, some}
 use mathlib.Core.Path.{_≡_, refl, subst}
@@ -22,7 +22,7 @@ use Rattle.rules.specs.Reading.{reading}
 use Rattle.rules.specs.Readable.{Records}
 use Rattle.rules.specs.Cells.{inRange, weightLimit, noValue, Read, value, good, orFault, valueFor, nothingLeft, valuesFrom, valuesIn}
 use Rattle.rules.specs.Runs.{Trace, Run, M, goOn, _>>=_, _>>_, demand, counted, visit, emit, form, _orElse_, Given, gives, lacks}
-use Rattle.rules.specs.Operations.{Env, _with_≔_, decides, elems, right, keep, pairedWith, setOf, least, applied, ranged, leafValue, oneValue, twoValue}
+use Rattle.rules.specs.Operations.{Env, _with_≔_, decides, elems, setOf, least, applied, ranged, leafValue, oneValue, twoValue}
 use Rattle.rules.specs.Evaluation.{fitting, quantify, select, holdsᵖ, valueᵉ, holdsᶜ, run, evaluation}
 use Rattle.rules.specs.Refusals.{PlaceInRange, RefusesOnly}
 use Rattle.rules.specs.Safety.{EndsSafely}
@@ -31,6 +31,7 @@ use Rattle.laws.proofs.EndLaws.{T-ltb, T-false, refuses-imp, refuses-bi
 use Rattle.laws.proofs.TableLaws.{binds-length, nodes-length, IfSome}
 use Rattle.laws.proofs.ReadingLaws.{reading-table, reading-records, reading-refuses}
 use Rattle.laws.proofs.TreeInduction.{HandsOn, root-has}
+use Rattle.laws.proofs.SetOrder.{Any, all-any, OrUndefined, least-from, applied-from}
 
 -- A table has as many identifiers and nodes as the header of its bytes says.
 module _ (bs : List ℕ) {tb : Table} (e : reading bs ≡ done tb) where
@@ -93,9 +94,9 @@ abbrev LacksOnly : Given → Type 0
 LacksOnly (gives v) = Unit {0}
 LacksOnly (lacks r) = (16 ≤ r) × (r ≤ 17)
 
-least-lacks : (vs : List Value) → LacksOnly (least vs)
-least-lacks [] = (omega arith, omega arith)
-least-lacks (v ∷ vs) = tt
+taken-lacks : (g : Given) → OrUndefined Any g → LacksOnly g
+taken-lacks (gives v) h = tt
+taken-lacks (lacks r) h = (omega (arith, h), omega (arith, h))
 
 ranged-lacks : (n : Number) (i : ℤ) → LacksOnly (ranged n i)
 ranged-lacks n i = go (inRange i)
@@ -111,16 +112,16 @@ one-lacks power v = tt
 one-lacks dom v = tt
 one-lacks ran v = tt
 one-lacks card v = tt
-one-lacks choice v = least-lacks (elems v)
+one-lacks choice v = taken-lacks (least (elems v)) (least-from Any (elems v) (all-any (elems v)))
 
 two-lacks : (j : Two) (v w : Value) → LacksOnly (twoValue j v w)
-unfolding twoValue applied
+unfolding twoValue
 two-lacks pairing v w = tt
 two-lacks union v w = tt
 two-lacks inter v w = tt
 two-lacks diff v w = tt
 two-lacks product v w = tt
-two-lacks apply v w = least-lacks (map right (keep (pairedWith w) (elems v)))
+two-lacks apply v w = taken-lacks (applied v w) (applied-from Any v w (all-any (elems v)))
 two-lacks (plus n) v w = ranged-lacks n (payload v +ℤ payload w)
 two-lacks (minus n) v w = ranged-lacks n (payload v -ℤ payload w)
 two-lacks interval v w = tt

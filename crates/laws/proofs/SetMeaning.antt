@@ -1,8 +1,8 @@
--- Document 01, "Values and evaluation": the operations' meaning for sets, with choice, application and intervals. For each kind, by
--- clauses: what its operands say of the truth that a test has (`TestMeans`) and of the value that an operation gives (`OneMeans`,
--- `TwoMeans`, `LeafMeans`), by membership alone. `test-means`, `one-means`, `two-means` and `leaf-means` say that the definitions of
--- specs/Operations.antt have these meanings, `one-only` and `two-only` that nothing else has them. ConditionMeaning.antt joins them
--- to the meaning of a whole condition.
+-- Document 01, "Values and evaluation", with document 02's N2: the operations' meaning for sets, with choice, application and
+-- intervals. For each kind, by clauses: what its operands say of the truth that a test has (`TestMeans`) and of the value that an
+-- operation gives (`OneMeans`, `TwoMeans`, `LeafMeans`), by membership alone. `test-means`, `one-means`, `two-means` and `leaf-means`
+-- say that the definitions of specs/Operations.antt have these meanings, `one-only` and `two-only` that nothing else has them.
+-- ConditionMeaning.antt joins them to the meaning of a whole condition.
 --
 -- The operands are well formed and fit the kind's rule. Every value that an evaluation forms is well formed (FormedLaws.evaluation-good,
 -- CellsLaws.good-wellFormed), and what does not fit is refused by 15. No given set has over 256 elements (`few`), as refusal 4 sees to.
@@ -10,7 +10,7 @@ use Prim.Native.Nat.{ℕ, zero, suc, _+_, _-_, _≤_, _<_}
 use mathlib.Core.Bool.{Bool, true, false, not, cond}
 use mathlib.Core.List.{List, [], _∷_, _++_, map}
 use mathlib.Core.Logic.{_↔_, _⊎_, inl, inr}
-use mathlib.Core.Path.{_≡_, refl, sym, ap, _∙_, subst, subst₂}
+use mathlib.Core.Path.{_≡_, refl, sym, ap, _∙_, subst}
 use native.Mathlib.Omega.{arith}
 use lib.IntN.{ℤ, pos, negsuc, _+ℤ_, _-ℤ_, sucℤ, +ℤ-one, +ℤ-assoc, +ℤ-comm, +ℤ-negℤ-cancel, -ℤ-+ℤ-cancel}
 use lib.Signed.{leZ, _≤ℤ_, leZ-yes}
@@ -27,15 +27,16 @@ use Rattle.rules.specs.Fits.{HasType, Fits}
 use Rattle.rules.specs.Cells.{signed, inRange}
 use Rattle.rules.specs.Runs.{Given, gives, lacks}
 use Rattle.rules.specs.Operations.{left, right, elems, setOf, rising, isIn, keep, pairsOf, subsets, upFrom, toCount}
-use Rattle.rules.specs.Operations.{Env, elementsFrom, leafValue, holds, least, pairedWith, applied, ranged, oneValue, twoValue}
-use Rattle.rules.proofs.Basics.{absurd01, all-both}
+use Rattle.rules.specs.Operations.{Env, elementsFrom, leafValue, holds, least, pairedWith, isFunction, onlyOne, applied, ranged, oneValue, twoValue}
+use Rattle.rules.proofs.Basics.{absurd01}
 use Rattle.laws.proofs.OrderLaws.{Small, same-eq, same-refl, before-trans, before-irrefl, small-wellFormed}
 use Rattle.laws.proofs.SetTypes.{AllHave, elems-have}
 use Rattle.laws.proofs.SetOrder.{All, Before, Rising, all-map, all-append, rising-rising, keep-rising}
-use Rattle.laws.proofs.SetOrder.{right-before, pairs-rising, up-rising, elements-rising, subsets-all, Well, elems-well}
+use Rattle.laws.proofs.SetOrder.{pairs-rising, up-rising, elements-rising, subsets-all, Well, elems-well}
 use Rattle.laws.proofs.Membership.{In, all-in, in-all, in-append, in-left, in-right, in-map, map-in, in-rising, rising-in, same-members}
-use Rattle.laws.proofs.Membership.{left-small, right-small, elems-small, small-sets, values-members, members-values, isIn-right, allIn-right, keep-in, pairs-in}
-use Rattle.laws.proofs.Membership.{subsets-in, up-in, elements-in}
+use Rattle.laws.proofs.Membership.{left-small, right-small, elems-small, small-sets, values-members, members-values}
+use Rattle.laws.proofs.Membership.{isIn-right, allIn-right, keep-in, pairs-in, subsets-in, up-in, elements-in}
+use Rattle.laws.proofs.FunctionLaws.{function-right}
 
 -- The terms of the meanings.
 
@@ -74,6 +75,15 @@ abbrev pub GivesLeast : (Value → Type 0) → Given → Type 0
 GivesLeast P (gives u) = P u × ((x : Value) → P x → (x ≡ u) ⊎ Before u x)
 GivesLeast P (lacks k) = (k ≡ 16) × ((x : Value) → P x → ⊥)
 
+-- A function (document 02, N2): no two different pairs share a first part.
+abbrev pub Functional : Value → Type 0
+Functional f = (a b c : Value) → pair a b ∈ f → pair a c ∈ f → b ≡ c
+
+-- The u with (e, u) in f is given where f is a function and has one, and 16 elsewhere.
+abbrev pub GivesImage : Value → Value → Given → Type 0
+GivesImage f e (gives u) = Functional f × (pair e u ∈ f)
+GivesImage f e (lacks k) = (k ≡ 16) × (Functional f → (u : Value) → pair e u ∈ f → ⊥)
+
 -- From −2,147,483,648 to 2,147,483,647.
 abbrev pub WithinBounds : ℤ → Type 0
 WithinBounds i = (negsuc 2147483647 ≤ℤ i) × (i ≤ℤ pos 2147483647)
@@ -108,7 +118,7 @@ TwoMeans union v w = Always (IsSetOf (λ x. (x ∈ v) ⊎ (x ∈ w)))
 TwoMeans inter v w = Always (IsSetOf (λ x. (x ∈ v) × (x ∈ w)))
 TwoMeans diff v w = Always (IsSetOf (λ x. (x ∈ v) × (x ∈ w → ⊥)))
 TwoMeans product v w = Always (IsSetOf (λ x. (a : Value) × (b : Value) × (x ≡ pair a b) × (a ∈ v) × (b ∈ w)))
-TwoMeans apply f e = GivesLeast (λ u. pair e u ∈ f)
+TwoMeans apply f e = GivesImage f e
 TwoMeans (plus n) e f = GivesNumber n (payload e +ℤ payload f)
 TwoMeans (minus n) e f = GivesNumber n (payload e -ℤ payload f)
 TwoMeans interval e f = Always (IsSetOf (λ x. (i : ℤ) × (x ≡ int i) × (payload e ≤ℤ i) × (i ≤ℤ payload f)))
@@ -265,7 +275,7 @@ interval-in i j x =
         let q = le-distance i k a in
         up-in x i (toCount (j -ℤ i +ℤ pos 1)) .1 (q .0, e ∙ ap int (q .1), fits-in (q .0) .1 (subst (λ (z : ℤ). z ≤ℤ j) (q .1) b))
 
--- 37 and 43: the least member of a rising list is its first.
+-- 43: the least member of a rising list is its first.
 
 least-gives : (xs : List Value) → Rising xs → GivesLeast (λ x. In x xs) (least xs)
 least-gives [] h = (refl, λ x i. i)
@@ -274,20 +284,6 @@ least-gives (v ∷ vs) h = (inl refl, λ x i. go x i)
     go : (x : Value) → (x ≡ v) ⊎ In x vs → (x ≡ v) ⊎ Before v x
     go x (inl e) = inl e
     go x (inr i) = inr (all-in (Before v) x vs (h .0) i)
-
-least-iff : (P Q : Value → Type 0) → ((x : Value) → P x ↔ Q x) → (g : Given) → GivesLeast P g → GivesLeast Q g
-least-iff P Q f (gives u) h = (f u .0 (h .0), λ x q. h .1 x (f x .1 q))
-least-iff P Q f (lacks k) h = (h .0, λ x q. h .1 x (f x .1 q))
-
--- 37: of the pairs with the first part e, the second parts rise.
-rights-rise : (e : Value) (xs : List Value) → All (λ x. x ≡ pair e (right x)) xs → Rising xs → Rising (map right xs)
-rights-rise e [] h r = tt
-rights-rise e (x ∷ xs) h r = (
-  all-map (λ y. Before x y × (y ≡ pair e (right y))) (Before (right x)) right
-      (λ y k. right-before e (right x) (right y) (subst₂ Before (h .0) (k .1) (k .0))) xs
-      (all-both (Before x) (λ y. y ≡ pair e (right y)) xs (r .0) (h .1)),
-  rights-rise e xs (h .1) (r .1),
-)
 
 -- 39 and 40: the bounds are those of 32 bits.
 bounds-right : (i : ℤ) → T (inRange i) ↔ WithinBounds i
@@ -402,36 +398,59 @@ module _ (gs : List ℕ) (few : (g : ℕ) → getD gs g 0 ≤ 256) where
         λ k. r .1 (k .0, q x (all-in Small x (elems v) (smalls v h) (k .0)) .1 (k .1)),
       )
 
-  -- 37: the pairs kept are those with the first part e.
-  module _ (f e : Value) (hf : Well gs f) (he : Well gs e) (ps : All (λ x. x ≡ pair (left x) (right x)) (elems f)) where
-    kept-pairs : (x : Value) → In x (keep (pairedWith e) (elems f)) → (x ∈ f) × (x ≡ pair e (right x))
-    unfolding pairedWith
-    kept-pairs x i =
-        let k = keep-in (pairedWith e) x (elems f) .0 i in
-        let s = all-in Small x (elems f) (smalls f hf) (k .0) in
-        let l : left x ≡ e = same-eq (left x) e (left-small x s) (small e he) (k .1) in
-        (k .0, all-in (λ y. y ≡ pair (left y) (right y)) x (elems f) ps (k .0) ∙ ap (λ y. pair y (right x)) l)
+  -- 37, where all members of f are pairs.
+  module _ (f : Value) (hf : Well gs f) (ps : All (λ x. x ≡ pair (left x) (right x)) (elems f)) where
+    pair-is : (x : Value) → x ∈ f → x ≡ pair (left x) (right x)
+    pair-is x i = all-in (λ y. y ≡ pair (left y) (right y)) x (elems f) ps i
 
-    image-in : (u : Value) → In u (map right (keep (pairedWith e) (elems f))) ↔ (pair e u ∈ f)
-    unfolding pairedWith
-    image-in u =
-        let ks = keep (pairedWith e) (elems f) in (
-          λ i. there (map-in right u ks i),
-          λ i. in-map right (pair e u) ks (keep-in (pairedWith e) (pair e u) (elems f) .1 (i, same-refl e)),
+    pub functional-right : T (isFunction f) ↔ Functional f
+    functional-right =
+        let r = function-right f (smalls f hf) in (
+          λ t a b c i j. ap right (r .0 t (pair a b) (pair a c) i j refl),
+          λ g. r .1 (λ x y i j e. one g x y i j e),
         )
       where
-        there : (x : Value) × (u ≡ right x) × In x (keep (pairedWith e) (elems f)) → pair e u ∈ f
-        there m =
-            let k = kept-pairs (m .0) (m .2) in
-            subst (λ (x : Value). x ∈ f) (k .1 ∙ ap (pair e) (sym (m .1))) (k .0)
+        one : Functional f → (x y : Value) → x ∈ f → y ∈ f → left x ≡ left y → x ≡ y
+        one g x y i j e =
+            let p = pair-is x i in
+            let q = pair-is y j ∙ ap (λ z. pair z (right y)) (sym e) in
+            let r = g (left x) (right x) (right y) (subst (λ (z : Value). z ∈ f) p i) (subst (λ (z : Value). z ∈ f) q j) in
+            p ∙ ap (pair (left x)) r ∙ sym q
 
-    apply-means : GivesLeast (λ u. pair e u ∈ f) (applied f e)
-    unfolding applied
-    apply-means =
-        let ks = keep (pairedWith e) (elems f) in
-        least-iff (λ u. In u (map right ks)) (λ u. pair e u ∈ f) image-in (least (map right ks))
-        (least-gives (map right ks) (rights-rise e ks (in-all (λ x. x ≡ pair e (right x)) ks (λ x i. kept-pairs x i .1))
-        (keep-rising (pairedWith e) (elems f) (elems-well gs f hf .1))))
+    module _ (e : Value) (he : Well gs e) where
+      -- The members kept are the pairs with the first part e.
+      kept-pair : (x : Value) → In x (keep (pairedWith e) (elems f)) → (x ∈ f) × (x ≡ pair e (right x))
+      unfolding pairedWith
+      kept-pair x i =
+          let k = keep-in (pairedWith e) x (elems f) .0 i in
+          let s = all-in Small x (elems f) (smalls f hf) (k .0) in
+          let l : left x ≡ e = same-eq (left x) e (left-small x s) (small e he) (k .1) in
+          (k .0, pair-is x (k .0) ∙ ap (λ y. pair y (right x)) l)
+
+      pair-kept : (u : Value) → pair e u ∈ f → In (pair e u) (keep (pairedWith e) (elems f))
+      unfolding pairedWith
+      pair-kept u i = keep-in (pairedWith e) (pair e u) (elems f) .1 (i, same-refl e)
+
+      -- Of a function at most one is kept.
+      only-means : (xs : List Value) → Rising xs → ((x : Value) → In x xs → (x ∈ f) × (x ≡ pair e (right x))) →
+          ((u : Value) → pair e u ∈ f → In (pair e u) xs) → Functional f → GivesImage f e (onlyOne (map right xs))
+      only-means [] r k i g = (refl, λ _ u j. i u j)
+      only-means (x ∷ []) r k i g = let m = k x (inl refl) in (g, subst (λ (z : Value). z ∈ f) (m .1) (m .0))
+      only-means (x ∷ y ∷ ys) r k i g =
+          let m = k x (inl refl) in
+          let n = k y (inr (inl refl)) in
+          let q = g e (right x) (right y) (subst (λ (z : Value). z ∈ f) (m .1) (m .0)) (subst (λ (z : Value). z ∈ f) (n .1) (n .0)) in
+          absurd (before-irrefl x (subst (Before x) (n .1 ∙ ap (pair e) (sym q) ∙ sym (m .1)) (r .0 .0)))
+
+      apply-means : GivesImage f e (applied f e)
+      unfolding applied
+      apply-means = go (isFunction f) refl
+        where
+          go : (b : Bool) → isFunction f ≡ b → GivesImage f e (cond b (onlyOne (map right (keep (pairedWith e) (elems f)))) (lacks 16))
+          go true q =
+              only-means (keep (pairedWith e) (elems f)) (keep-rising (pairedWith e) (elems f) (elems-well gs f hf .1)) kept-pair pair-kept
+              (functional-right .0 (rw q tt))
+          go false q = (refl, λ g u i. subst T q (functional-right .1 g))
 
   -- 28 to 32, 37 and 39 to 41
   pub two-means : (j : Two) (v w : Value) → Well gs v → Well gs w → Fits (twoRule j .takes) (v ∷ w ∷ []) → TwoMeans j v w (twoValue j v w)
@@ -457,7 +476,7 @@ module _ (gs : List ℕ) (few : (g : ℕ) → getD gs g 0 ≤ 256) where
       set-of (λ x. (a : Value) × (b : Value) × (x ≡ pair a b) × (a ∈ v) × (b ∈ w)) (pairsOf (elems v) (elems w))
       (pairs-rising (elems v) (elems w) (elems-well gs v h .1) (elems-well gs w k .1)) (λ x. pairs-in x (elems v) (elems w))
   two-means apply v w h k f =
-      apply-means v w h k (all-parts (elems v) (f .0) (f .1) (elems-have v (f .0 ⊗ f .1) (f .2 .0)))
+      apply-means v h (all-parts (elems v) (f .0) (f .1) (elems-have v (f .0 ⊗ f .1) (f .2 .0))) w k
   two-means (plus n) v w h k f = ranged-means n (payload v +ℤ payload w)
   two-means (minus n) v w h k f = ranged-means n (payload v -ℤ payload w)
   two-means interval v w h k f =
@@ -509,6 +528,12 @@ least-only P (gives r) (lacks k) p q = absurd (q .1 r (p .0))
 least-only P (lacks k) (gives s) p q = absurd (p .1 s (q .0))
 least-only P (lacks k) (lacks m) p q = ap lacks (p .0 ∙ sym (q .0))
 
+image-only : (f e : Value) (g h : Given) → GivesImage f e g → GivesImage f e h → g ≡ h
+image-only f e (gives u) (gives v) p q = ap gives (p .0 e u v (p .1) (q .1))
+image-only f e (gives u) (lacks k) p q = absurd (q .1 (p .0) u (p .1))
+image-only f e (lacks k) (gives v) p q = absurd (p .1 (q .0) v (q .1))
+image-only f e (lacks k) (lacks m) p q = ap lacks (p .0 ∙ sym (q .0))
+
 number-only : (n : Number) (i : ℤ) (g h : Given) → GivesNumber n i g → GivesNumber n i h → g ≡ h
 number-only n i (gives r) (gives s) p q = ap gives (p .0 ∙ sym (q .0))
 number-only n i (gives r) (lacks k) p q = absurd (q .1 (p .1))
@@ -534,7 +559,7 @@ two-only union v w g h p q = sets-only (λ x. (x ∈ v) ⊎ (x ∈ w)) g h p q
 two-only inter v w g h p q = sets-only (λ x. (x ∈ v) × (x ∈ w)) g h p q
 two-only diff v w g h p q = sets-only (λ x. (x ∈ v) × (x ∈ w → ⊥)) g h p q
 two-only product v w g h p q = sets-only (λ x. (a : Value) × (b : Value) × (x ≡ pair a b) × (a ∈ v) × (b ∈ w)) g h p q
-two-only apply v w g h p q = least-only (λ u. pair w u ∈ v) g h p q
+two-only apply v w g h p q = image-only v w g h p q
 two-only (plus n) v w g h p q = number-only n (payload v +ℤ payload w) g h p q
 two-only (minus n) v w g h p q = number-only n (payload v -ℤ payload w) g h p q
 two-only interval v w g h p q = sets-only (λ x. (i : ℤ) × (x ≡ int i) × (payload v ≤ℤ i) × (i ≤ℤ payload w)) g h p q

@@ -4,7 +4,7 @@
 use Prim.Native.Nat.{ℕ, zero, suc, _+_, _-_, _≤_, Ordering, Ordering·lt, Ordering·eq, Ordering·gt}
 use mathlib.Core.List.{List, [], _∷_, _++_, map}
 use mathlib.Core.Bool.{Bool, true, false, not, cond, _&&_}
-use mathlib.Core.Path.{_≡_, refl, sym, ap, _∙_}
+use mathlib.Core.Path.{_≡_, refl, ap, _∙_}
 use native.Mathlib.Omega.{arith}
 use lib.IntN.{ℤ, pos, negsuc, _+ℤ_, _-ℤ_, sucℤ, +ℤ-one, -ℤ-+ℤ-cancel}
 use lib.Dec.{T, ltb, leb→le, le→leb, ltb→lt, lt→ltb, nltb→le}
@@ -18,8 +18,8 @@ use Rattle.rules.specs.Values.{members, values, weight, weights, payload, order
 use Rattle.rules.specs.Fits.{HasType, FitAt}
 use Rattle.rules.specs.Cells.{signed, inRange, precedes, wellFormed, risingAll}
 use Rattle.rules.specs.Runs.{Given, gives, lacks}
-use Rattle.rules.specs.Operations.{left, right, elems, setOf, placed, insert, rising, isIn, keptValue, keep, pairsOf, subsets, pairedWith}
-use Rattle.rules.specs.Operations.{upFrom, toCount, elementsFrom, least, ranged, oneValue, twoValue}
+use Rattle.rules.specs.Operations.{left, right, elems, setOf, placed, insert, rising, isIn, keptValue, keep, pairsOf, subsets}
+use Rattle.rules.specs.Operations.{upFrom, toCount, elementsFrom, least, pairedWith, isFunction, onlyOne, applied, ranged, oneValue, twoValue}
 pub use Rattle.rules.specs.Safety.{All, Any}
 use Rattle.laws.proofs.OrderLaws.{flip, lt-compare, order-refl, order-flip, order-pair, order-int, order-element}
 use Rattle.laws.proofs.OrderLaws.{before-order, order-before, before-trans, and-left, and-right}
@@ -123,6 +123,33 @@ unfolding keep
 keep-rising p [] h = tt
 keep-rising p (v ∷ vs) h = kept-rising (p v) v (keep p vs) (keep-all (Before v) p vs (h .0)) (keep-rising p vs (h .1))
 
+-- 43 and 37: what choice and application give is taken from a list, or it is 16.
+abbrev pub OrUndefined : (Value → Type 0) → Given → Type 0
+OrUndefined P (gives v) = P v
+OrUndefined P (lacks k) = k ≡ 16
+
+-- A member.
+pub least-from : (P : Value → Type 0) (vs : List Value) → All P vs → OrUndefined P (least vs)
+least-from P [] h = refl
+least-from P (v ∷ vs) h = h .0
+
+onlyOne-from : (P : Value → Type 0) (vs : List Value) → All P vs → OrUndefined P (onlyOne vs)
+onlyOne-from P [] h = refl
+onlyOne-from P (v ∷ []) h = h .0
+onlyOne-from P (v ∷ w ∷ ws) h = refl
+
+-- The right part of a member.
+pub applied-from : (P : Value → Type 0) (f e : Value) → All (λ x. P (right x)) (elems f) → OrUndefined P (applied f e)
+unfolding applied
+applied-from P f e h = go (isFunction f)
+  where
+    go : (b : Bool) → OrUndefined P (cond b (onlyOne (map right (keep (pairedWith e) (elems f)))) (lacks 16))
+    go true =
+        let ks = keep (pairedWith e) (elems f) in
+        onlyOne-from P (map right ks)
+        (all-map (λ x. P (right x)) P right (λ x k. k) ks (keep-all (λ x. P (right x)) (pairedWith e) (elems f) h))
+    go false = refl
+
 -- The pairs have R where their parts have P and Q.
 pub pairs-all : (P Q R : Value → Type 0) → ((v w : Value) → P v → Q w → R (pair v w)) →
     (vs ws : List Value) → All P vs → All Q ws → All R (pairsOf vs ws)
@@ -138,11 +165,6 @@ before-left a b c d h = order-before (pair a b) (pair c d) (order-pair a b c d �
 before-right : (a b d : Value) → Before b d → Before (pair a b) (pair a d)
 before-right a b d h =
     order-before (pair a b) (pair a d) (order-pair a b a d ∙ ap (λ o. o then order b d) (order-refl a) ∙ before-order b d h)
-
--- Pairs with the same left part are ordered by their right parts only.
-pub right-before : (a b d : Value) → Before (pair a b) (pair a d) → Before b d
-right-before a b d h =
-    order-before b d (sym (order-pair a b a d ∙ ap (λ o. o then order b d) (order-refl a)) ∙ before-order (pair a b) (pair a d) h)
 
 -- Each member of a list has the property that everything has.
 pub all-any : {A : Type 0} (xs : List A) → All Any xs
@@ -347,9 +369,9 @@ module _ (gs : List ℕ) where
   keep-well p v h =
       let e = elems-well v h in setOf-well (keep p (elems v)) (keep-all Well p (elems v) (e .0)) (keep-rising p (elems v) (e .1))
 
-  least-well : (vs : List Value) → All Well vs → GivenWell (least vs)
-  least-well [] h = tt
-  least-well (v ∷ vs) h = h .0
+  taken-well : (g : Given) → OrUndefined Well g → GivenWell g
+  taken-well (gives v) h = h
+  taken-well (lacks k) h = tt
 
   ranged-well : (n : Number) (i : ℤ) → GivenWell (ranged n i)
   ranged-well n i = go (inRange i) refl
@@ -375,7 +397,7 @@ module _ (gs : List ℕ) where
   one-well dom v h l = rising-well (map left (elems v)) (map-well left left-well (elems v) (elems-well v h .0))
   one-well ran v h l = rising-well (map right (elems v)) (map-well right right-well (elems v) (elems-well v h .0))
   one-well card v h l = le→leb (length (elems v)) 2147483647 (omega (arith, elems-count v))
-  one-well choice v h l = least-well (elems v) (elems-well v h .0)
+  one-well choice v h l = taken-well (least (elems v)) (least-from Well (elems v) (elems-well v h .0))
 
   -- An interval is in range because its bounds are numbers in range.
   pub two-well : (j : Two) (v w : Value) (t u : Ty) → FitAt (twoRule j .takes) (v ∷ w ∷ []) t u → Well v → Well w →
@@ -393,9 +415,7 @@ module _ (gs : List ℕ) where
       (pairs-all Well Well Well (λ x y p q. and-of (wellFormed gs x) (wellFormed gs y) p q) (elems v) (elems w) (e .0) (d .0))
       (pairs-rising (elems v) (elems w) (e .1) (d .1))
   two-well apply v w t u f h k =
-      let p : Value → Bool = pairedWith w in
-      least-well (map right (keep p (elems v)))
-      (map-well right right-well (keep p (elems v)) (keep-all Well p (elems v) (elems-well v h .0)))
+      taken-well (applied v w) (applied-from Well v w (all-imp Well (λ x. Well (right x)) right-well (elems v) (elems-well v h .0)))
   two-well (plus n) v w t u f h k = ranged-well n (payload v +ℤ payload w)
   two-well (minus n) v w t u f h k = ranged-well n (payload v -ℤ payload w)
   two-well interval v w t u f h k =
