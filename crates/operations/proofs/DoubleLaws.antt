@@ -24,7 +24,8 @@ use Rattle.laws.proofs.CellsLaws.{good-typed}
 use Rattle.arena.specs.Code.{cellSize, excess, code, CellsFit, FineSet, SomeSet, SomeValue, SetBelow, Made, AllPairs}
 use Rattle.arena.proofs.Standing.{same-refl}
 use Rattle.sets.specs.Merged.{merged}
-use Rattle.sets.specs.Fronts.{Merges, Applies, ImageAt, Within as WithinSet}
+use Rattle.sets.specs.Fronts.{Merges}
+use Rattle.sets.specs.Pairs.{SomeRelation, Applies, ImageAt, Within as WithinSet}
 use Rattle.sets.proofs.OperationLaws.{union-merged, inter-merged, diff-merged}
 use Rattle.products.specs.Growing.{PutsCell, Pairs, Intervals, Multiplies}
 use Rattle.fitting.specs.Tests.{FitTwo}
@@ -91,14 +92,16 @@ module _ {s : List ℕ} {a mid b top : ℕ} (ready : TwoReady s a mid b top) whe
           (x .1 .0, good-set-at (ready .small) (x .1 .0) (subst (λ (z : Value). GoodAt (ready .sizes) s top b z) (x .1 .1) (ready .right))),
         )
 
-  pub ready-function : {r : Bool} → FitTwo (P̂ (t̂ ×̂ û) ∷ t̂ ∷ []) s a b r → r ≡ true → SomeValue s (length s) b × SomeSet s (length s) a
+  pub ready-function : {r : Bool} → FitTwo (P̂ (t̂ ×̂ û) ∷ t̂ ∷ []) s a b r → r ≡ true → SomeValue s (length s) b × SomeRelation s (length s) a
   ready-function f e =
       let x = fit-applies (ready .first) (ready .second) (ready-fits (P̂ (t̂ ×̂ û) ∷ t̂ ∷ []) f e) in (
         (ready .second, good-value (ready .small) (good-above (ready .small) (ready .right) (length s) (omega (arith, ready .room)))),
         (
           x .0,
           good-set-at (ready .small) (x .0)
-              (subst (λ (z : Value). GoodAt (ready .sizes) s (length s) a z) (x .1) (good-above (ready .small) (ready .left) (length s) (omega (arith, ready .order, ready .room)))),
+              (subst (λ (z : Value). GoodAt (ready .sizes) s (length s) a z) (x .1)
+              (good-above (ready .small) (ready .left) (length s) (omega (arith, ready .order, ready .room)))),
+          x .2,
         ),
       )
 
@@ -232,7 +235,7 @@ module _ {s : List ℕ} {a mid b top : ℕ} {s′ : List ℕ} {o : Outcome} wher
   pub diff-done : MergeDone true false false s a mid b top s′ o → TwoDone diff s a mid b top s′ o
   diff-done m = merge-as diff true false false refl diff-merged m
 
--- Application: the image within the function, or none.
+-- Application: the second part within the function, or none.
 image-none : (s : List ℕ) (f : ℕ) (vs : Values) (r : ℕ) (g : Given) → ImageAt s f vs r g → r ≡ 0 → g ≡ lacks 16
 image-none s f vs r (lacks k) h z = ap lacks (h .0)
 image-none s f vs r (gives u) h z = absurd (omega (arith, h .positive))

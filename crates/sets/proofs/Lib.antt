@@ -2,6 +2,7 @@
 pub mod MergedLaws
 pub mod SearchLaws
 pub mod TurnLaws
+pub mod PairLaws
 pub mod ImageLaws
 pub mod BuildLaws
 pub mod OperationLaws

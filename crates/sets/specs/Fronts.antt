@@ -5,10 +5,9 @@ use mathlib.Core.List.{List, [], _++_}
 use mathlib.Core.Logic.{_⊎_}
 use mathlib.Core.Path.{_≡_}
 use lib.ListN.{length}
-use Rattle.rules.specs.Values.{Value, pair, set, Values, _▸_, members, values, count, weight, weights, order}
-use Rattle.rules.specs.Runs.{Given, gives, lacks}
-use Rattle.rules.specs.Operations.{isIn, allIn, applied, setOf}
-use Rattle.arena.specs.Code.{ValueAt, ValuesAt, CellsFit, orderCode, SomeAt, SetBelow, ValueBelow, Same, Made, Front, AllPairs}
+use Rattle.rules.specs.Values.{Value, Values, _▸_, members, values, count, weight, weights, order}
+use Rattle.rules.specs.Operations.{isIn, allIn, setOf}
+use Rattle.arena.specs.Code.{ValuesAt, SetBelow, ValueBelow, Same, Made, Front}
 use Rattle.sets.specs.declared.Turn.{Turn}
 use Rattle.sets.specs.declared.Out.{Out}
 use Rattle.sets.specs.declared.Walk.{Walk}
@@ -159,23 +158,3 @@ Ended l r s w top s′ k = (b : Bool) (whole : List Value) → Merging l b r s t
 abbrev pub Merges : Bool → Bool → Bool → List ℕ → ℕ → ℕ → ℕ → List ℕ → ℕ → Type 0
 Merges l e r s a b top s′ k =
     (vs ws : Values) → SetBelow s top a vs → SetBelow s top b ws → Made top s s′ (setOf (merged l e r (members vs) (members ws))) k
-
--- Application. The order of the value at e and the left part of the pair at i.
-pub record LeftCompared (s : List ℕ) (e i r : ℕ) : Type 0 where
-  pub order-is : (v a b : Value) → ValueAt s e v → CellsFit v → ValueAt s i (pair a b) → CellsFit (pair a b) → r ≡ orderCode (order v a)
-  pub is-pair : r ≡ 1 → SomeAt s (i + 1)
-
--- u stands at r, within the set vs at f.
-pub record Within (s : List ℕ) (f : ℕ) (vs : Values) (r : ℕ) (u : Value) : Type 0 where
-  pub positive : 0 < r
-  pub behind : f < r
-  pub value : ValueBelow s (f + weight (set vs)) r u
-
--- r is where the answer of an application stands, or 0 where there is none (16).
-abbrev pub ImageAt : List ℕ → ℕ → Values → ℕ → Given → Type 0
-ImageAt s f vs r (lacks k) = (k ≡ 16) × (r ≡ 0)
-ImageAt s f vs r (gives u) = Within s f vs r u
-
-abbrev pub Applies : List ℕ → ℕ → ℕ → ℕ → Type 0
-Applies s f e r =
-    (vs : Values) (v : Value) → SetBelow s (length s) f vs → ValueBelow s (length s) e v → AllPairs vs → ImageAt s f vs r (applied (set vs) v)

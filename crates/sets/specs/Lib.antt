@@ -1,3 +1,4 @@
 -- Sets in the arena.
 pub mod Merged
 pub mod Fronts
+pub mod Pairs

@@ -2,7 +2,8 @@
 ghost use Prim.Native.Nat.{_+_, _-_, _≤_};
 ghost use lib.ListN.{length};
 ghost use Rattle.arena.specs.Code.{SomeAt, EndsAt, SomeSet, SomeValue};
-ghost use Rattle.sets.specs.Fronts.{Contains, Includes, LeftCompared, Applies, TwoFronts, TurnAt, SomeFront, RunEnds, PutPre, Put};
+ghost use Rattle.sets.specs.Fronts.{Contains, Includes, TwoFronts, TurnAt, SomeFront, RunEnds, PutPre, Put};
+ghost use Rattle.sets.specs.Pairs.{PairFirst, NextPair, SomePairs, FunctionAt, SomeRelation, Applies};
 ghost use Rattle.sets.specs.Fronts.{TailPre, Tailed, StepPre, Stepped, GoesOn, RestOf, EndPre, Ended, Merges};
 
 // A turn of a walk over two sets: the first of their members stands between `from` and `end` and is kept or not; what is
@@ -138,36 +139,74 @@ pub fn included(s: &[u64], a: usize, b: usize) -> bool
     true
 }
 
-// The order of the value at e, which ends at `end`, and the left part of the pair at i; 2 where there is no pair.
-fn left_order(s: &[u64], e: usize, end: usize, i: usize) -> u8
-    requires { ⌜ SomeAt (now s) e × SomeAt (now s) i × EndsAt (now s) e end ⌝ }
-    ensures { λ r. ⌜ LeftCompared (now (s .entry)) e i r ⌝ }
+// Where the value at `at` ends; a scalar is one cell.
+fn past(s: &[u64], at: usize) -> usize
+    requires { ⌜ SomeAt (now s) at ⌝ }
+    ensures { λ r. ⌜ EndsAt (now (s .entry)) at r ⌝ }
 {
-    let t = arena::tag(s[i]);
-    if t == 4 {
-        return arena::compare(s, e, end, i + 1);
+    if arena::tag(s[at]) < 4 {
+        return at + 1;
     }
-    2
+    arena::end_of(s, at)
 }
 
-// Where the right part of the first pair in the set at f stands whose left part is the value at e; 0 where there is none.
+// Where the pair at i, the first of n, ends and the next one begins; 0 where the two share a first part.
+fn next_pair(s: &[u64], i: usize, n: u64) -> usize
+    requires { ⌜ PairFirst (now s) i n ⌝ }
+    ensures { λ r. ⌜ NextPair (now (s .entry)) i n r ⌝ }
+{
+    let right = past(s, i + 1);
+    let next = past(s, right);
+    if n > 1 {
+        if arena::compare(s, i + 1, right, next + 1) == 1 {
+            return 0;
+        }
+    }
+    next
+}
+
+// Whether no two of n pairs from `at` on share a first part. They rise by first parts, so that neighbours decide.
+fn is_function(s: &[u64], at: usize, n: u64) -> bool
+    requires { ⌜ SomePairs (now s) at n ⌝ }
+    ensures { λ r. ⌜ FunctionAt (now (s .entry)) at n r ⌝ }
+{
+    let mut i = at;
+    let mut left = n;
+    while left > 0 {
+        i = next_pair(s, i, left);
+        if i == 0 {
+            return false;
+        }
+        left -= 1;
+    }
+    true
+}
+
+// Application in one pass over the pairs of f: where the second part stands that goes with the value at e; 0 where there is none,
+// or where two pairs of f share a first part.
 pub fn image(s: &[u64], f: usize, e: usize) -> usize
-    requires { ⌜ SomeValue (now s) (length (now s)) e × SomeSet (now s) (length (now s)) f ⌝ }
+    requires { ⌜ SomeValue (now s) (length (now s)) e × SomeRelation (now s) (length (now s)) f ⌝ }
     ensures { λ r. ⌜ Applies (now (s .entry)) f e r ⌝ }
 {
     let end = arena::end_of(s, e);
     let mut left = arena::low(s[f]);
     let mut i = f + 1;
     while left > 0 {
-        let c = left_order(s, e, end, i);
-        if c == 1 {
-            return arena::end_of(s, i + 1);
-        }
-        // Pairs rise by their left parts.
-        if c == 0 {
+        let order = arena::compare(s, e, end, i + 1);
+        if order == 1 {
+            if is_function(s, i, left) {
+                return past(s, i + 1);
+            }
             return 0;
         }
-        i = arena::end_of(s, i);
+        // The first parts that follow are greater still: whether f is a function or not, e is not in its domain.
+        if order == 0 {
+            return 0;
+        }
+        i = next_pair(s, i, left);
+        if i == 0 {
+            return 0;
+        }
         left -= 1;
     }
     0

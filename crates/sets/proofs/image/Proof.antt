@@ -1,19 +1,53 @@
--- `image`: the first pair with the argument as its left part is among the members that are left, or there is none.
+-- `image`: the pairs that are left decide; those passed have other first parts, each less than the next.
+use Prim.Native.Nat.{_<_}
 use borrow.Author.Needs.{needs}
 use native.Mathlib.Omega.{arith}
 use lib.ListN.{length}
 use Rattle.rules.specs.Values.{Value, Values}
-use Rattle.arena.specs.Code.{ValueBelow, SetBelow}
+use Rattle.arena.specs.Code.{ValueBelow, SetBelow, AllPairs}
 use Rattle.arena.proofs.FrontLaws.{set-inside, value-some}
-use Rattle.sets.proofs.ImageLaws.{some-inside, Applying, applying-start, applying-at, applying-end, applying-found, applying-past, applying-next}
+use Rattle.sets.specs.Pairs.{PairFirst}
+use Rattle.sets.proofs.ImageLaws.{some-inside, first-some, Applying, applying-start, applied-at, applying-first, applying-pairs}
+use Rattle.sets.proofs.ImageLaws.{applying-end, applying-past, applying-none, applying-found, applying-shared, applying-next}
 use Rattle.sets.proofs.image.Statement.{statement}
 use Rattle.sets.proofs.image.Tie as tie
 
 abbrev Inv-loop : tie.InvT-loop
-Inv-loop s f e end left₀ i₀ left i = (vs : Values) (v : Value) → SetBelow s (length s) f vs → ValueBelow s (length s) e v → Applying s f vs i left v
+Inv-loop s f e end left₀ i₀ left i =
+    (vs : Values) (v : Value) → SetBelow s (length s) f vs → ValueBelow s (length s) e v → AllPairs vs → Applying s f vs i left v
 
 abbrev μ-loop : tie.MeasureT-loop
 μ-loop s f e end left₀ i₀ left i = left
+
+-- A turn of the loop, what it was lent, and the first of the pairs that are left.
+abbrev Turn : Type 0
+Turn = tie.At-loop Inv-loop μ-loop
+
+abbrev lent : Turn → tie.Start Inv-loop μ-loop
+lent l = l .before .before .before .before .before
+
+abbrev applying : (l : Turn) → Applying (lent l .args .s .now) (lent l .args .f) (lent l .pre .1 .0) (l .loop .i) (l .loop .left) (lent l .pre .0 .0)
+applying l = let q = lent l .pre in l .loop .inv (q .1 .0) (q .0 .0) (q .1 .1) (q .0 .1) (q .1 .2)
+
+first : (l : Turn) → 0 < l .loop .left → PairFirst (lent l .args .s .now) (l .loop .i) (l .loop .left)
+first l t = applying-first _ _ _ _ _ _ (applying l) t
+
+-- The order of the argument and the first part is known; where they are equal, it is asked whether the rest is a function; where the
+-- argument is greater, the next pair is found.
+abbrev Ordered : Type 0
+Ordered = tie.After-compare Inv-loop μ-loop
+
+abbrev turn : Ordered → Turn
+turn m = m .before .before
+
+abbrev some-left : (m : Ordered) → 0 < turn m .loop .left
+some-left m = m .before .loop-test .taken
+
+abbrev equal : tie.After-is-function Inv-loop μ-loop → Ordered
+equal c = c .before .before
+
+abbrev greater : tie.After-next-pair Inv-loop μ-loop → Ordered
+greater c = c .before .before .before
 
 end-of-requires : tie.Need-end-of-requires Inv-loop μ-loop
 end-of-requires c κs = value-some _ _ _ _ (c .before .pre .0 .1)
@@ -31,37 +65,74 @@ add-i : tie.Need-add-i Inv-loop μ-loop
 add-i c = omega (arith, set-inside _ _ _ _ (c .before .before .before .before .pre .1 .1))
 
 loop-holds : tie.Need-loop-holds Inv-loop μ-loop
-loop-holds c = λ vs v h k. applying-start _ _ _ vs v h (c .low .ensures .0)
+loop-holds c = λ vs v h k p. applying-start _ _ _ vs v h p (c .low .ensures .0)
 
-left-order-requires : tie.Need-left-order-requires Inv-loop μ-loop
-left-order-requires c κs = (value-some _ _ _ _ (c .before .before .before .before .before .before .pre .0 .1), applying-at _ _ _ _ _ _ (c .before .loop .inv _ _ (c .before .before .before .before .before .before .pre .1 .1) (c .before .before .before .before .before .before .pre .0 .1)) (c .loop-test .taken), c .before .before .before .before .end-of .ensures)
+add-compare : tie.Need-add-compare Inv-loop μ-loop
+add-compare c = omega (arith, some-inside _ _ (first-some _ _ _ (first (c .before) (c .loop-test .taken))))
 
-add-end-of : tie.Need-add-end-of Inv-loop μ-loop
-add-end-of c = omega (arith, some-inside _ _ (applying-at _ _ _ _ _ _ (c .before .before .before .loop .inv _ _ (c .before .before .before .before .before .before .before .before .pre .1 .1) (c .before .before .before .before .before .before .before .before .pre .0 .1)) (c .before .before .loop-test .taken)))
+compare-requires : tie.Need-compare-requires Inv-loop μ-loop
+compare-requires c κs =
+    let l = c .before in
+    (value-some _ _ _ _ (lent l .pre .0 .1), first-some _ _ _ (first l (c .loop-test .taken)), l .before .before .before .end-of .ensures)
 
-end-of-requires-2 : tie.Need-end-of-requires-2 Inv-loop μ-loop
-end-of-requires-2 c κs = c .before .left-order .ensures .is-pair (c .if1 .taken)
+is-function-requires : tie.Need-is-function-requires Inv-loop μ-loop
+is-function-requires c κs = applying-pairs _ _ _ _ _ _ (applying (c .before .before .before))
+
+add-past : tie.Need-add-past Inv-loop μ-loop
+add-past c =
+    let m = equal (c .before) in omega (arith, some-inside _ _ (first-some _ _ _ (first (turn m) (some-left m))))
+
+past-requires : tie.Need-past-requires Inv-loop μ-loop
+past-requires c κs = let m = equal (c .before) in first-some _ _ _ (first (turn m) (some-left m))
 
 returns : tie.Need-returns Inv-loop μ-loop
-returns c = λ vs v h k p. applying-found _ _ vs _ _ v (c .before .before .before .before .loop .inv vs v h k) _ _ k (c .before .before .left-order .ensures) (c .before .before .before .loop-test .taken) _ (c .before .if1 .taken) (c .end-of2 .ensures) p
+returns c = λ vs v h k p.
+    let q = c .before .before in
+    let m = equal q in
+    applied-at _ _ _ _ vs v h k p
+    (applying-found _ _ vs _ _ v (turn m .loop .inv vs v h k p) _ _ k (m .compare .ensures) (some-left m)
+    (omega (arith, q .before .if1 .taken)) _ (q .is-function .ensures) (c .before .if2 .taken) _ (c .past .ensures))
 
 returns-2 : tie.Need-returns-2 Inv-loop μ-loop
-returns-2 c = λ vs v h k p. applying-past _ _ vs _ _ v (c .before .before .before .before .loop .inv vs v h k) _ _ k (c .before .before .left-order .ensures) (c .before .before .before .loop-test .taken) (c .if2 .taken) p
-
-end-of-requires-3 : tie.Need-end-of-requires-3 Inv-loop μ-loop
-end-of-requires-3 c κs = applying-at _ _ _ _ _ _ (c .before .before .before .before .loop .inv _ _ (c .before .before .before .before .before .before .before .before .before .pre .1 .1) (c .before .before .before .before .before .before .before .before .before .pre .0 .1)) (c .before .before .before .loop-test .taken)
-
-sub-left : tie.Need-sub-left Inv-loop μ-loop
-sub-left c = omega (arith, c .before .before .before .before .loop-test .taken)
-
-loop-less : tie.Need-loop-less Inv-loop μ-loop
-loop-less c = omega (arith, c .before .before .before .before .loop-test .taken)
-
-loop-again : tie.Need-loop-again Inv-loop μ-loop
-loop-again c = λ vs v h k. applying-next _ _ vs _ _ v (c .before .before .before .before .before .loop .inv vs v h k) _ _ k (c .before .before .before .left-order .ensures) (c .before .before .before .before .loop-test .taken) _ (c .before .before .if1 .left) (c .before .if2 .left) (c .end-of3 .ensures)
+returns-2 c = λ vs v h k p.
+    let q = c .before in
+    let m = equal q in
+    applied-at _ _ _ _ vs v h k p
+    (applying-none _ _ vs _ _ v (turn m .loop .inv vs v h k p) _ _ k (m .compare .ensures) (some-left m)
+    (omega (arith, q .before .if1 .taken)) _ (q .is-function .ensures) (c .if2 .left))
 
 returns-3 : tie.Need-returns-3 Inv-loop μ-loop
-returns-3 c = λ vs v h k p. applying-end _ _ vs _ _ v (c .before .loop .inv vs v h k) (c .loop-test .left) p
+returns-3 c = λ vs v h k p.
+    let m = c .before .before in
+    applied-at _ _ _ _ vs v h k p
+    (applying-past _ _ vs _ _ v (turn m .loop .inv vs v h k p) _ _ k (m .compare .ensures) (some-left m) (c .if3 .taken))
+
+next-pair-requires : tie.Need-next-pair-requires Inv-loop μ-loop
+next-pair-requires c κs = let m = c .before .before in first (turn m) (some-left m)
+
+returns-4 : tie.Need-returns-4 Inv-loop μ-loop
+returns-4 c = λ vs v h k p.
+    let q = c .before in
+    let m = greater q in
+    applied-at _ _ _ _ vs v h k p
+    (applying-shared _ _ vs _ _ v (turn m .loop .inv vs v h k p) _ _ k (m .compare .ensures) (some-left m)
+    (q .before .before .if1 .left) (q .before .if3 .left) _ (q .next-pair .ensures) (c .if4 .taken))
+
+sub-left : tie.Need-sub-left Inv-loop μ-loop
+sub-left c = omega (arith, some-left (greater (c .before)))
+
+loop-less : tie.Need-loop-less Inv-loop μ-loop
+loop-less c = omega (arith, some-left (greater (c .before)))
+
+loop-again : tie.Need-loop-again Inv-loop μ-loop
+loop-again c = λ vs v h k p.
+    let q = c .before in
+    let m = greater q in
+    applying-next _ _ vs _ _ v (turn m .loop .inv vs v h k p) _ _ k (m .compare .ensures) (some-left m)
+    (q .before .before .if1 .left) (q .before .if3 .left) _ (q .next-pair .ensures) (c .if4 .left)
+
+returns-5 : tie.Need-returns-5 Inv-loop μ-loop
+returns-5 c = λ vs v h k p. applied-at _ _ _ _ vs v h k p (applying-end _ _ vs _ _ v (c .before .loop .inv vs v h k p) (c .loop-test .left))
 
 pub image-spec : {M : Type 1} → statement M
 image-spec =
@@ -75,13 +146,17 @@ image-spec =
     low-requires
     add-i
     loop-holds
-    left-order-requires
-    add-end-of
-    end-of-requires-2
+    add-compare
+    compare-requires
+    is-function-requires
+    add-past
+    past-requires
     returns
     returns-2
-    end-of-requires-3
+    returns-3
+    next-pair-requires
+    returns-4
     sub-left
     loop-less
     loop-again
-    returns-3)
+    returns-5)

@@ -1,0 +1,64 @@
+-- `next_pair`: where both parts of the pair end; where another pair follows, the order of both first parts.
+use Prim.Native.Nat.{_+_, _<_}
+use native.Mathlib.Omega.{arith}
+use borrow.Author.Needs.{needs}
+use Rattle.arena.specs.Code.{SomeAt}
+use Rattle.sets.proofs.ImageLaws.{some-inside, first-some, second-some, next-some, next-shared, next-new, next-last}
+use Rattle.sets.proofs.next_pair.Statement.{statement}
+use Rattle.sets.proofs.next_pair.Tie as tie
+
+-- The pair's end is known.
+abbrev lent : tie.After-past2 → tie.Start
+lent p = p .before .before .before
+
+-- The first part of the pair that follows.
+follows : (p : tie.After-past2) → 1 < lent p .args .n → SomeAt (lent p .args .s .now) (p .past2 .result + 1)
+follows p l = next-some _ _ _ (lent p .pre) _ _ (p .before .past .ensures) (p .past2 .ensures) l
+
+add-past : tie.Need-add-past
+add-past c = search needs
+
+past-requires : tie.Need-past-requires
+past-requires c κs = first-some _ _ _ (c .before .pre)
+
+past-requires-2 : tie.Need-past-requires-2
+past-requires-2 c κs = second-some _ _ _ (c .before .before .pre) _ (c .past .ensures)
+
+add-compare : tie.Need-add-compare
+add-compare c = search needs
+
+add-compare-2 : tie.Need-add-compare-2
+add-compare-2 c = omega (arith, some-inside _ _ (follows (c .before) (omega (arith, c .if1 .taken))))
+
+compare-requires : tie.Need-compare-requires
+compare-requires c κs =
+    let p = c .before in (first-some _ _ _ (lent p .pre), follows p (omega (arith, c .if1 .taken)), p .before .past .ensures)
+
+returns : tie.Need-returns
+returns c =
+    let f = c .before .before in
+    next-shared _ _ _ _ _ (f .before .before .past .ensures) (f .before .past2 .ensures) _ (c .before .compare .ensures)
+    (omega (arith, f .if1 .taken)) (c .if2 .taken)
+
+returns-2 : tie.Need-returns-2
+returns-2 c =
+    let f = c .before .before in
+    next-new _ _ _ _ _ (f .before .before .past .ensures) (f .before .past2 .ensures) _ (c .before .compare .ensures)
+    (omega (arith, f .if1 .taken)) (c .if2 .left)
+
+returns-3 : tie.Need-returns-3
+returns-3 c = next-last _ _ _ _ _ (c .before .before .past .ensures) (c .before .past2 .ensures) (omega (arith, c .if1 .left))
+
+pub next-pair-spec : {M : Type 1} → statement M
+next-pair-spec =
+    tie.close
+    (tie.spec
+    add-past
+    past-requires
+    past-requires-2
+    add-compare
+    add-compare-2
+    compare-requires
+    returns
+    returns-2
+    returns-3)

@@ -1,0 +1,72 @@
+-- Application in one pass over the pairs of f. They rise by their first parts, so that two pairs that share one are neighbours, and
+-- a first part greater than e ends the search. `walked` is that pass; that it gives what `applied` says is `walked-right`.
+use Prim.Native.Nat.{ℕ, _+_, _<_, Ordering, Ordering·lt, Ordering·eq, Ordering·gt}
+use mathlib.Core.Bool.{Bool, true, not, cond, _&&_}
+use mathlib.Core.List.{List, [], _∷_}
+use mathlib.Core.Path.{_≡_}
+use lib.ListN.{length}
+use Rattle.rules.specs.Values.{Value, pair, set, Values, _▸_, members, weight, order, same}
+use Rattle.rules.specs.Runs.{Given, gives, lacks}
+use Rattle.rules.specs.Operations.{left, right, applied}
+use Rattle.arena.specs.Code.{SetBelow, ValueBelow, Front, AllPairs}
+
+-- The pair x does not share its first part with the next one.
+abbrev pub newFirst : Value → List Value → Bool
+newFirst x [] = true
+newFirst x (y ∷ ys) = not (same (left x) (left y))
+
+-- No pair shares its first part with the next one.
+abbrev pub newFirsts : List Value → Bool
+newFirsts [] = true
+newFirsts (x ∷ xs) = newFirst x xs && newFirsts xs
+
+-- What the order of e and the first part of x says: e is in the domain no more; x is the pair; the pairs behind x decide.
+abbrev pub atPair : Ordering → Value → List Value → Given → Given
+atPair Ordering·lt x xs g = lacks 16
+atPair Ordering·eq x xs g = cond (newFirsts (x ∷ xs)) (gives (right x)) (lacks 16)
+atPair Ordering·gt x xs g = cond (newFirst x xs) g (lacks 16)
+
+abbrev pub walked : Value → List Value → Given
+walked e [] = lacks 16
+walked e (x ∷ xs) = atPair (order e (left x)) x xs (walked e xs)
+
+-- n pairs that rise stand from `at` on; of some of them, the first.
+abbrev pub SomePairs : List ℕ → ℕ → ℕ → Type 0
+SomePairs s at n = (top : ℕ) × (vs : Values) × Front s top at n vs × AllPairs vs
+
+pub record PairFirst (s : List ℕ) (i n : ℕ) : Type 0 where
+  pub top : ℕ
+  pub first : Value
+  pub second : Value
+  pub rest : Values
+  pub front : Front s top i n (pair first second ▸ rest)
+  pub pairs : AllPairs rest
+
+-- r is where the pair at i ends, or 0 where it shares its first part with the next one.
+abbrev pub NextPair : List ℕ → ℕ → ℕ → ℕ → Type 0
+NextPair s i n r =
+    (top : ℕ) (a b : Value) (vs : Values) → Front s top i n (pair a b ▸ vs) → AllPairs vs →
+    r ≡ cond (newFirst (pair a b) (members vs)) (i + weight (pair a b)) 0
+
+-- r says whether none of n pairs from `at` on shares its first part with the next one.
+abbrev pub FunctionAt : List ℕ → ℕ → ℕ → Bool → Type 0
+FunctionAt s at n r = (top : ℕ) (vs : Values) → Front s top at n vs → AllPairs vs → r ≡ newFirsts (members vs)
+
+-- A set of pairs stands at `at`, below `top`.
+abbrev pub SomeRelation : List ℕ → ℕ → ℕ → Type 0
+SomeRelation s top at = (vs : Values) × SetBelow s top at vs × AllPairs vs
+
+-- u stands at r, within the set vs at f.
+pub record Within (s : List ℕ) (f : ℕ) (vs : Values) (r : ℕ) (u : Value) : Type 0 where
+  pub positive : 0 < r
+  pub behind : f < r
+  pub value : ValueBelow s (f + weight (set vs)) r u
+
+-- r is where the answer of an application stands, or 0 where there is none (16).
+abbrev pub ImageAt : List ℕ → ℕ → Values → ℕ → Given → Type 0
+ImageAt s f vs r (lacks k) = (k ≡ 16) × (r ≡ 0)
+ImageAt s f vs r (gives u) = Within s f vs r u
+
+abbrev pub Applies : List ℕ → ℕ → ℕ → ℕ → Type 0
+Applies s f e r =
+    (vs : Values) (v : Value) → SetBelow s (length s) f vs → ValueBelow s (length s) e v → AllPairs vs → ImageAt s f vs r (applied (set vs) v)
