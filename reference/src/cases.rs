@@ -70,6 +70,7 @@ pub fn all() -> Vec<Answered> {
     found.extend(without_nodes());
     found.extend(buffers());
     found.extend(predicates());
+    found.extend(applications());
     found.extend(operations());
     found
 }
@@ -266,6 +267,58 @@ fn predicates() -> Vec<Answered> {
         answered(p4(), Vec::new(), 0, "refused 19 2 0"),
         answered(p6(), Vec::new(), 6, "refused 19 5 6"),
         answered(p6(), Vec::new(), 7, "true 7"),
+    ]
+}
+
+/// Document 02, N2: f(e)=6 for values of f and e. The pairs of f have
+/// integers as their second parts.
+fn applications() -> Vec<Answered> {
+    let nodes = [one(20, 0), one(20, 1), two(37, 0, 1), int(6), two(6, 2, 3)];
+    let at = |pairs: &[(&[u32], u32)], e: &[u32], answer| {
+        let mut words = vec![pairs.len() as u32, 5];
+        for (first, second) in pairs {
+            words.extend([0, 4]);
+            words.extend(*first);
+            words.extend([*second, 1]);
+        }
+        words.extend(e);
+        with_cells(table(&[], &[0, 0], &nodes), &words, answer)
+    };
+    // 1, 2, 3 and TRUE; (1,2) and (1,3); ∅, {1} and {2}.
+    let [one, two, three, truth] = [&[1, 1], &[2, 1], &[3, 1], &[1, 2]].map(|cell| &cell[..]);
+    let [pair, other] = [&[0, 4, 1, 1, 2, 1], &[0, 4, 1, 1, 3, 1]].map(|cells| &cells[..]);
+    let (none, in_set, other_set): (&[u32], &[u32], &[u32]) =
+        (&[0, 5], &[1, 5, 1, 1], &[1, 5, 2, 1]);
+    const UNDEFINED: &str = "refused 16 2 4";
+    vec![
+        at(&[], one, UNDEFINED),
+        at(&[], truth, UNDEFINED),
+        at(&[(one, 6), (two, 6)], two, "true 5"),
+        at(&[(one, 6), (two, 6)], three, UNDEFINED),
+        at(&[(one, 5), (one, 6)], one, UNDEFINED),
+        at(&[(one, 5), (one, 6)], two, UNDEFINED),
+        at(&[(two, 5), (two, 6)], one, UNDEFINED),
+        at(&[(one, 5), (one, 6)], truth, "refused 15 2 4"),
+        at(&[(one, 6), (two, 5), (two, 7)], one, UNDEFINED),
+        at(&[(one, 5), (one, 7), (two, 6)], two, UNDEFINED),
+        at(
+            &[(one, 5), (two, 5), (two, 6), (three, 6)],
+            three,
+            UNDEFINED,
+        ),
+        at(&[(one, 5), (one, 6), (one, 7)], one, UNDEFINED),
+        at(&[(pair, 5), (other, 6)], other, "true 5"),
+        at(&[(pair, 5), (other, 5), (other, 6)], pair, UNDEFINED),
+        at(&[(pair, 6)], other, UNDEFINED),
+        at(&[(none, 5), (in_set, 6)], in_set, "true 5"),
+        at(
+            &[(none, 5), (in_set, 6), (other_set, 7)],
+            other_set,
+            "false 5",
+        ),
+        at(&[(in_set, 5), (in_set, 6)], in_set, UNDEFINED),
+        at(&[(none, 6), (in_set, 5), (in_set, 6)], none, UNDEFINED),
+        at(&[(none, 6), (in_set, 5), (in_set, 6)], other_set, UNDEFINED),
     ]
 }
 

@@ -5,6 +5,7 @@ use crate::rules::{rule, Pattern};
 use crate::table::{self, Node, Table};
 use crate::values::{self, join, members_weight, Shape, Value, CELL_BYTES, MAX_VALUE_WEIGHT};
 use crate::Refusal;
+use std::collections::BTreeSet;
 
 #[derive(Clone, Copy, PartialEq, Eq, Debug)]
 pub enum Outcome {
@@ -406,13 +407,16 @@ fn integer_operation(kind: Kind, m: i32, n: i32) -> Result<Value, Fault> {
     made.map(Value::Integer).ok_or(Fault::OutsideIntegers)
 }
 
-/// Application: the least second part that stands with the argument in f.
+/// Application: no two members of f share a first part, and one of them begins
+/// with the argument.
 pub fn apply(f: &[Value], argument: &Value) -> Option<Value> {
-    f.iter()
-        .map(|member| split(member.clone()))
-        .filter(|(first, _)| first == argument)
-        .map(|(_, second)| second)
-        .min()
+    let pairs: Vec<_> = f.iter().map(|member| split(member.clone())).collect();
+    let firsts: BTreeSet<_> = pairs.iter().map(|(first, _)| first).collect();
+    if firsts.len() < pairs.len() {
+        return None;
+    }
+    let mut found = pairs.into_iter().filter(|(first, _)| first == argument);
+    found.next().map(|(_, second)| second)
 }
 
 fn interval_count(low: i32, high: i32) -> i64 {

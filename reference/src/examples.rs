@@ -189,7 +189,7 @@ fn p12() -> Example {
         let n = d.integer(2);
         d.two(Kind::Equal, value, n);
     });
-    example.evaluates("true 13")
+    example.evaluates("refused 16 10 12")
 }
 
 impl Draft {

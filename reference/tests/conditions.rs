@@ -66,7 +66,7 @@ fn steps_and_ends_of_the_document() {
     assert_eq!(answer("P9"), "refused 17 2 4");
     assert_eq!(answer("P10"), "true 4");
     assert_eq!(answer("P11"), "refused 19 1 3");
-    assert_eq!(answer("P12"), "true 13");
+    assert_eq!(answer("P12"), "refused 16 10 12");
 }
 
 #[test]

@@ -4,10 +4,12 @@ use reference::batch::{self, Case};
 use reference::check::{check, sheet_length};
 use reference::evaluate::{evaluate, observe, Outcome};
 use reference::generate::{Class, Generator, Sample};
-use reference::kinds::KINDS;
+use reference::kinds::{Kind, KINDS};
 use reference::stats::Stats;
-use reference::table;
+use reference::table::{self, Node};
 use reference::types::{Type, ROW_BYTES};
+use reference::values::Value;
+use reference::Refusal;
 
 fn stats(seed: u64, count: usize, small: bool) -> Stats {
     let mut generator = Generator::new(seed, small, None);
@@ -195,6 +197,63 @@ fn accepted_conditions_never_meet_unlike_operands() {
         }
     }
     assert!(formed > 50_000, "{formed}");
+}
+
+/// Whether no two different pairs of f share a first part, and the second parts
+/// that stand with e in f.
+fn application(f: &Value, e: &Value) -> (bool, Vec<Value>) {
+    let Value::Set(members) = f else {
+        panic!("{f:?} is no set");
+    };
+    let pairs: Vec<(&Value, &Value)> = members
+        .iter()
+        .map(|member| match member {
+            Value::Pair(first, second) => (&**first, &**second),
+            _ => panic!("{member:?} is no pair"),
+        })
+        .collect();
+    let shared = |x: &(&Value, &Value)| pairs.iter().any(|y| x != y && x.0 == y.0);
+    let found = pairs.iter().filter(|x| x.0 == e).map(|x| x.1.clone());
+    (!pairs.iter().any(shared), found.collect())
+}
+
+/// Document 02, N2, wherever a generated case comes to an application.
+#[test]
+fn application_means_a_function() {
+    let mut generator = Generator::new(41, false, None);
+    let (mut given, mut refused) = (0, [[0; 2]; 2]);
+    for _ in 0..8_000 {
+        let class = Class::ALL[generator_class(&mut generator)];
+        let sample = generator.sample(class);
+        let (evaluation, seen) = observe(&sample.table, &sample.values, sample.budget);
+        let Ok(table) = table::read(&sample.table) else {
+            continue;
+        };
+        let mut latest = vec![None; table.nodes.len()];
+        let operands = |latest: &[Option<Value>], node: &Node| {
+            let [f, e] = [0, 1].map(|i| latest[node.fields[i] as usize].clone());
+            application(&f.expect("f is formed"), &e.expect("e is formed"))
+        };
+        for (node, value) in &seen.formed {
+            let operation = &table.nodes[*node];
+            if operation.kind == Kind::Application {
+                assert_eq!(operands(&latest, operation), (true, vec![value.clone()]));
+                given += 1;
+            }
+            latest[*node] = Some(value.clone());
+        }
+        if let Outcome::Refused(Refusal { number: 16, place }) = evaluation.outcome {
+            let operation = &table.nodes[place as usize];
+            if operation.kind == Kind::Application {
+                let (function, found) = operands(&latest, operation);
+                assert!(!function || found.is_empty());
+                refused[usize::from(function)][usize::from(!found.is_empty())] += 1;
+            }
+        }
+    }
+    assert!(given > 300, "{given} values");
+    let [[outside, inside], [undefined, _]] = refused;
+    assert!(outside > 15 && inside > 30 && undefined > 30, "{refused:?}");
 }
 
 #[test]

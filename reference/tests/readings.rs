@@ -274,10 +274,10 @@ fn r09_application_shares_one_type_with_all_first_parts() {
             .map(|(e, n)| both(e.clone(), int(*n)))
             .collect())
     };
-    let numbers = relation(&[(int(1), 2), (int(1), 1), (int(3), 4)]);
+    let numbers = relation(&[(int(1), 1), (int(2), 2), (int(3), 4)]);
     assert_eq!(applied(&numbers, &int(1)), "true 5");
     assert_eq!(applied(&numbers, &int(3)), "false 5");
-    assert_eq!(applied(&numbers, &int(2)), "refused 16 2 4");
+    assert_eq!(applied(&numbers, &int(4)), "refused 16 2 4");
     assert_eq!(applied(&numbers, &truth(true)), "refused 15 2 4");
     assert_eq!(applied(&ints(&[]), &truth(true)), "refused 16 2 4");
     assert_eq!(applied(&ints(&[1]), &int(1)), "refused 15 2 4");
@@ -285,6 +285,47 @@ fn r09_application_shares_one_type_with_all_first_parts() {
     assert_eq!(applied(&sets, &ints(&[])), "true 5");
     assert_eq!(applied(&sets, &ints(&[7])), "refused 16 2 4");
     assert_eq!(applied(&sets, &set(vec![truth(true)])), "refused 15 2 4");
+}
+
+/// The relation of the pairs, applied at each first part that it has and at
+/// `outside`: a function gives values at the former and 16 at the latter,
+/// any other relation 16 throughout.
+fn applied_throughout(pairs: &[(Value, i32)], outside: &Value, function: bool) {
+    let f = set(pairs
+        .iter()
+        .map(|(e, n)| both(e.clone(), int(*n)))
+        .collect());
+    for (e, n) in pairs {
+        let told = match (function, n) {
+            (false, _) => "refused 16 2 4",
+            (true, 1) => "true 5",
+            (true, _) => "false 5",
+        };
+        assert_eq!(applied(&f, e), told, "{f:?} at {e:?}");
+    }
+    assert_eq!(
+        applied(&f, outside),
+        "refused 16 2 4",
+        "{f:?} at {outside:?}"
+    );
+}
+
+#[test]
+fn n2_application_means_a_function() {
+    applied_throughout(&[], &int(1), true);
+    applied_throughout(&[(int(1), 1), (int(2), 1), (int(3), 2)], &int(0), true);
+    // The two pairs that share a first part stand below and above others.
+    applied_throughout(&[(int(1), 1), (int(1), 2), (int(3), 1)], &int(2), false);
+    applied_throughout(&[(int(1), 1), (int(3), 1), (int(3), 2)], &int(4), false);
+    applied_throughout(&[(int(1), 1), (int(1), 2), (int(1), 3)], &int(0), false);
+    let pairs = |m, n| both(int(m), int(n));
+    applied_throughout(&[(pairs(1, 2), 1), (pairs(1, 3), 1)], &pairs(2, 2), true);
+    applied_throughout(&[(pairs(1, 2), 1), (pairs(1, 2), 2)], &pairs(1, 3), false);
+    applied_throughout(&[(ints(&[]), 1), (ints(&[1, 2]), 2)], &ints(&[1]), true);
+    applied_throughout(&[(ints(&[1, 2]), 1), (ints(&[1, 2]), 2)], &ints(&[]), false);
+    // 15 comes first.
+    let twice = set(vec![both(int(1), int(1)), both(int(1), int(2))]);
+    assert_eq!(applied(&twice, &truth(true)), "refused 15 2 4");
 }
 
 #[test]

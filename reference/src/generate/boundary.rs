@@ -16,6 +16,8 @@ pub fn condition(rng: &mut Random, small: bool) -> Condition {
         integers,
         integers,
         no_nodes,
+        applications,
+        applications,
         integer_ends,
         order,
         shared_empty,
@@ -36,7 +38,7 @@ pub fn condition(rng: &mut Random, small: bool) -> Condition {
         loops,
     ];
     // The small ones stand first.
-    let some = if small { &limits[..11] } else { limits };
+    let some = if small { &limits[..13] } else { limits };
     rng.pick(some)(rng)
 }
 
@@ -117,6 +119,35 @@ fn order(rng: &mut Random) -> Condition {
     let f = d.literal(&guess);
     d.two(Kind::Equal, least, f);
     with_value(d, values::set(members))
+}
+
+/// f(e)=n for values of f and e, f of few pairs: e stands outside the domain
+/// as often as not, and so often do two pairs share a first part.
+fn applications(rng: &mut Random) -> Condition {
+    let integers: Vec<Value> = (0..4).map(Value::Integer).collect();
+    let firsts: Vec<Value> = match rng.below(4) {
+        0 => (0..4)
+            .map(|i| values::pair(integers[i / 2].clone(), integers[i % 2].clone()))
+            .collect(),
+        1 => (0..4)
+            .map(|i| values::set(integers[i / 2..i].to_vec()))
+            .collect(),
+        _ => integers.clone(),
+    };
+    let pairs = (0..rng.below(5))
+        .map(|_| values::pair(rng.pick(&firsts).clone(), rng.pick(&integers).clone()))
+        .collect();
+    let mut d = Draft::default();
+    let (x, y) = (d.identifier(0), d.identifier(0));
+    let (f, e) = (d.using(x), d.using(y));
+    let value = d.two(Kind::Application, f, e);
+    let n = d.integer(rng.below(4) as i32);
+    d.two(Kind::Equal, value, n);
+    let values = [values::set(pairs), rng.pick(&firsts).clone()];
+    Condition {
+        draft: d,
+        values: values.into_iter().map(Some).collect(),
+    }
 }
 
 /// One empty set that serves at two types, or meets unlike sets.
