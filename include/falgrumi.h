@@ -84,7 +84,8 @@ enum falgrumi_refusal {
     FALGRUMI_REFUSED_VALUES = 14,
     /* The values of the node's operands have no types that its rule allows. [node] */
     FALGRUMI_REFUSED_OPERANDS = 15,
-    /* Choice has an empty set, or an application has no pair for its argument. [node] */
+    /* Choice has an empty set, or an application has a relation that is no function, since two of its pairs share a first part,
+     * or an argument outside its domain. [node] */
     FALGRUMI_REFUSED_UNDEFINED = 16,
     /* A sum or difference does not fit in 32 bits. [node] */
     FALGRUMI_REFUSED_OVERFLOW = 17,

@@ -45,7 +45,8 @@ const SENTENCES: [&str; 19] = [
     "the identifier's value is malformed, cut short, over 256 cells, a set of mixed types or an \
      element that is not there, or bytes are left behind the last value",
     "the operands' values have no types that the node's rule allows",
-    "choice has an empty set, or the application has no pair for its argument",
+    "choice has an empty set, or the application has a relation that is no function (two of its \
+     pairs share a first part) or an argument outside its domain",
     "the sum or difference does not fit in 32 bits",
     "the node's value would weigh more than 256 cells",
     "the step budget is spent before the visit of this node",

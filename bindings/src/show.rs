@@ -12,7 +12,8 @@ pub fn refusal(bytes: &[u8], refusal: &Refusal) -> String {
         return format!("{refusal}\n");
     };
     let number = refusal.number;
-    let owner = match Place::of(&table, refusal) {
+    let place = Place::of(&table, refusal);
+    let owner = match place {
         Place::None => String::new(),
         Place::GivenSet(g) => format!(" at given set G{g}"),
         Place::Identifier(x) if x == table.marks.len() => " behind the last value".to_string(),
@@ -22,7 +23,26 @@ pub fn refusal(bytes: &[u8], refusal: &Refusal) -> String {
             None => format!(" at node {n}"),
         },
     };
-    format!("refused {number}{owner}: {}\n", refusal.sentence())
+    format!(
+        "refused {number}{owner}: {}\n",
+        reason(&table, refusal, place)
+    )
+}
+
+/// What the refusal says, of 16 only what concerns the node's kind.
+fn reason(table: &Table, refusal: &Refusal, place: Place) -> &'static str {
+    let node = match place {
+        Place::Node(n) => table.nodes.get(n),
+        _ => None,
+    };
+    match (refusal.number, node.map(|node| node[0])) {
+        (16, Some(37)) => {
+            "the relation is no function (two of its pairs share a first part), or the argument is \
+             outside its domain"
+        }
+        (16, Some(43)) => "the set is empty",
+        _ => refusal.sentence(),
+    }
 }
 
 /// What a refusal's place names in a table.

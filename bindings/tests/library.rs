@@ -150,26 +150,61 @@ fn no_clauses_are_true() {
     assert!(conforms(&free, &integer, one) && !conforms(&free, &integer, &[]));
 }
 
+/// Document 02, N2: P12, and the gate with the positions of its valves. Valve 1
+/// is not open, so that nobody asks for its position; but it has two.
 #[test]
-fn application_gives_the_least_image() {
+fn application_means_a_function() {
     let number = |n| [23, n, 0, 0];
-    let pair = |first| [28, first, first + 1, 0];
-    let nodes = [
-        number(1),
-        number(3),
-        pair(0),
-        [27, 2, 0, 0],
-        number(1),
-        number(2),
-        pair(4),
-        [27, 6, 0, 0],
-        [29, 3, 7, 0],
-        number(1),
-        [37, 8, 9, 0],
-        number(2),
-        [6, 10, 11, 0],
-    ];
-    assert_eq!(evaluate(&table(&[], &nodes), &[], 100), ends(Ok(true), 13));
+    let union = |m, n| {
+        let pair = |first| [28, first, first + 1, 0];
+        let nodes = [
+            number(1),
+            number(m),
+            pair(0),
+            [27, 2, 0, 0],
+            number(1),
+            number(n),
+            pair(4),
+            [27, 6, 0, 0],
+            [29, 3, 7, 0],
+            number(1),
+            [37, 8, 9, 0],
+            number(2),
+            [6, 10, 11, 0],
+        ];
+        evaluate(&table(&[], &nodes), &[], 100)
+    };
+    assert_eq!(union(3, 2), ends(Err(refused(16, 10)), 12));
+    assert_eq!(union(2, 2), ends(Ok(true), 13));
+    let element = |g: u8, k: u8| [k, g, 0, 0, 3, 0, 0, 0];
+    let set = |n: u8| [n, 0, 0, 0, 5, 0, 0, 0];
+    let gate = |positions: &[(u8, u8)]| {
+        let mut cells = vec![
+            set(2),
+            element(0, 0),
+            element(0, 2),
+            set(positions.len() as u8),
+        ];
+        for (valve, position) in positions {
+            cells.extend([
+                [0, 0, 0, 0, 4, 0, 0, 0],
+                element(0, *valve),
+                element(1, *position),
+            ]);
+        }
+        evaluate(GATE, &cells.concat(), 100)
+    };
+    assert_eq!(gate(&[(0, 0), (1, 2), (2, 0)]), ends(Ok(true), 30));
+    assert_eq!(
+        gate(&[(0, 0), (1, 1), (1, 2), (2, 0)]),
+        ends(Err(refused(16, 3)), 7)
+    );
+    assert_eq!(
+        gate(&[(0, 0), (1, 1), (1, 2)]),
+        ends(Err(refused(16, 3)), 7)
+    );
+    assert_eq!(gate(&[(0, 0)]), ends(Err(refused(16, 3)), 12));
+    assert_eq!(gate(&[]), ends(Err(refused(16, 3)), 7));
 }
 
 #[test]
