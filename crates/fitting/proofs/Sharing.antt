@@ -10,14 +10,7 @@ use Rattle.rules.specs.Values.{Scalar, num, truth, element, scalarTag, tag, Val
 use Rattle.rules.specs.Fits.{sameAtom, TypeSet, every, noType, atomˢ, powˢ, _×ˢ_, _⊓_, typesOf, sharedTypes, inhabited, typed}
 use Rattle.laws.proofs.FitsLaws.{_⊑_, ⊓-join, ⊓-split, inhabited→some, some→inhabited}
 use Rattle.fitting.specs.Agree.{meets, agree, Full, FullSet}
-use Rattle.rules.proofs.Basics.{and-of, and-split}
-
--- Booleans.
-pub bool-eq : (a b : Bool) → (T a → T b) → (T b → T a) → a ≡ b
-bool-eq true true f g = refl
-bool-eq true false f g = absurd (f tt)
-bool-eq false true f g = absurd (g tt)
-bool-eq false false f g = refl
+use Rattle.rules.proofs.Basics.{and-of, and-split, bool-eq}
 
 pub is-true : (a : Bool) → T a → a ≡ true
 is-true true h = refl

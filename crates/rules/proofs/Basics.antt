@@ -27,6 +27,13 @@ pub and-split : (a b : Bool) → T (a && b) → T a × T b
 and-split true b h = (tt, h)
 and-split false b h = absurd h
 
+-- Two tests of which each passes where the other does.
+pub bool-eq : (a b : Bool) → (T a → T b) → (T b → T a) → a ≡ b
+bool-eq true true f g = refl
+bool-eq true false f g = absurd (f tt)
+bool-eq false true f g = absurd (g tt)
+bool-eq false false f g = refl
+
 -- Within a list the default does not matter.
 pub any-default : (l : List ℕ) (x d e : ℕ) → x < length l → getD l x d ≡ getD l x e
 any-default [] x d e h = absurd (omega arith)

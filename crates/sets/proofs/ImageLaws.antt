@@ -220,11 +220,14 @@ applied-at s f e r vs v h k p i =
     (walked-right v vs (fits-small v (k .fits)) p (fit-small vs (h .fine .fits .1)) (rises-rising vs (h .fine .rises))) i
 
 module _ (s : List ℕ) (f : ℕ) (vs : Values) (i left : ℕ) (v : Value) (h : Applying s f vs i left v) where
+  abbrev top : ℕ
+  top = f + weight (set vs)
+
   pub applying-first : 0 < left → PairFirst s i left
-  applying-first l = pair-first s (f + weight (set vs)) i left (h .rest) (h .front) (h .pairs) l
+  applying-first l = pair-first s top i left (h .rest) (h .front) (h .pairs) l
 
   pub applying-pairs : SomePairs s i left
-  applying-pairs = (f + weight (set vs), h .rest, h .front, h .pairs)
+  applying-pairs = (top, h .rest, h .front, h .pairs)
 
   lacks-at : (g : Given) → walked v (members vs) ≡ g → g ≡ lacks 16 → ImageAt s f vs 0 (walked v (members vs))
   lacks-at g q e = subst (ImageAt s f vs 0) (sym (q ∙ e)) (refl, refl)
@@ -232,22 +235,22 @@ module _ (s : List ℕ) (f : ℕ) (vs : Values) (i left : ℕ) (v : Value) (h : 
   pub applying-end : left ≤ 0 → ImageAt s f vs 0 (walked v (members vs))
   applying-end l = go (h .rest) (h .front) (h .result)
     where
-      go : (ws : Values) → Front s (f + weight (set vs)) i left ws → walked v (members vs) ≡ walked v (members ws) → ImageAt s f vs 0 (walked v (members vs))
+      go : (ws : Values) → Front s top i left ws → walked v (members vs) ≡ walked v (members ws) → ImageAt s f vs 0 (walked v (members vs))
       go none g q = lacks-at (lacks 16) q refl
       go (w ▸ ws) g q = absurd (omega (arith, g .counted))
 
   module _ (e c : ℕ) (at : ValueBelow s (length s) e v) (compared : Compared s e (i + 1) c) (l : 0 < left) where
-    order-first : (a b : Value) (ws : Values) → Front s (f + weight (set vs)) i left (pair a b ▸ ws) → c ≡ orderCode (order v a)
+    order-first : (a b : Value) (ws : Values) → Front s top i left (pair a b ▸ ws) → c ≡ orderCode (order v a)
     order-first a b ws g =
-        compared v a (at .stands) (first-at s (f + weight (set vs)) i left a b ws g) (at .fits) (g .fits .0 .0)
+        compared v a (at .stands) (first-at s top i left a b ws g) (at .fits) (g .fits .0 .0)
 
     -- a turn, by the first pair and the order of v and its first part
     by-order : (P : Given → Type 0) →
-        ((a b : Value) (ws : Values) → Front s (f + weight (set vs)) i left (pair a b ▸ ws) → AllPairs ws → c ≡ orderCode (order v a) →
+        ((a b : Value) (ws : Values) → Front s top i left (pair a b ▸ ws) → AllPairs ws → c ≡ orderCode (order v a) →
         walked v (members vs) ≡ atPair (order v a) (pair a b) (members ws) (walked v (members ws)) → P (walked v (members vs))) →
         P (walked v (members vs))
     by-order P k =
-        by-pair s (f + weight (set vs)) i left (λ ws. walked v (members vs) ≡ walked v (members ws) → P (walked v (members vs)))
+        by-pair s top i left (λ ws. walked v (members vs) ≡ walked v (members ws) → P (walked v (members vs)))
         (λ a b ws g p q. k a b ws g p (order-first a b ws g) q) (h .rest) (h .front) (h .pairs) l (h .result)
 
     -- where v is less than the first parts that are left
@@ -260,14 +263,14 @@ module _ (s : List ℕ) (f : ℕ) (vs : Values) (i left : ℕ) (v : Value) (h : 
     applying-none z t d u =
         by-order (ImageAt s f vs 0) λ a b ws g p o q.
         lacks-at (walked v (members (pair a b ▸ ws))) q
-        (rw (code-equal (order v a) c o z, ← d (f + weight (set vs)) (pair a b ▸ ws) g (tt, p), u))
+        (rw (code-equal (order v a) c o z, ← d top (pair a b ▸ ws) g (tt, p), u))
 
     pub applying-found : c ≡ 1 → (t : Bool) → FunctionAt s i left t → t ≡ true → (r : ℕ) → EndsAt s (i + 1) r → ImageAt s f vs r (walked v (members vs))
     applying-found z t d u r ends =
         by-order (ImageAt s f vs r) λ a b ws g p o q.
-        let x = second-at s (f + weight (set vs)) i left a b ws g r ends in
+        let x = second-at s top i left a b ws g r ends in
         let y : walked v (members (pair a b ▸ ws)) ≡ gives b =
-        rw (code-equal (order v a) c o z, ← d (f + weight (set vs)) (pair a b ▸ ws) g (tt, p), u) in
+        rw (code-equal (order v a) c o z, ← d top (pair a b ▸ ws) g (tt, p), u) in
         subst (ImageAt s f vs r) (sym (q ∙ y)) (record {
           positive = omega (arith, x .0);
           behind = omega (arith, h .behind, x .0);
@@ -279,12 +282,12 @@ module _ (s : List ℕ) (f : ℕ) (vs : Values) (i left : ℕ) (v : Value) (h : 
       applying-shared z =
           by-order (ImageAt s f vs 0) λ a b ws g p o q.
           lacks-at (walked v (members (pair a b ▸ ws))) q
-          (rw (code-greater (order v a) c o n1 n0, turn-shared s (f + weight (set vs)) i left r next a b ws g p z))
+          (rw (code-greater (order v a) c o n1 n0, turn-shared s top i left r next a b ws g p z))
 
       pub applying-next : (r ≡ 0 → ⊥) → Applying s f vs r (left - 1) v
       applying-next z =
           by-order (λ _. Applying s f vs r (left - 1) v) λ a b ws g p o q.
-          let x = turn-new s (f + weight (set vs)) i left r next a b ws g p z in
+          let x = turn-new s top i left r next a b ws g p z in
           record {
             rest = ws;
             front = x .2;

@@ -10,7 +10,7 @@ use lib.Dec.{T, T-not, not-T, isEq}
 use Rattle.rules.specs.Values.{Value, scalar, pair, set, Values, none, _▸_, members, order, same}
 use Rattle.rules.specs.Runs.{Given, gives, lacks}
 use Rattle.rules.specs.Operations.{left, right, keep, pairedWith, isFunction, onlyOne, applied}
-use Rattle.rules.proofs.Basics.{and-of, and-split}
+use Rattle.rules.proofs.Basics.{and-of, and-split, bool-eq}
 use Rattle.laws.proofs.OrderLaws.{Small, flip, order-flip, order-eq, order-pair, before-order, order-before, before-trans, before-irrefl}
 use Rattle.laws.proofs.OrderLaws.{same-eq, same-refl, then-lt}
 use Rattle.laws.proofs.SetOrder.{All, Before, Rising}
@@ -55,15 +55,15 @@ new-less x (y ∷ ys) p r n =
     go (inl b) = b
     go (inr e) = absurd (T-not (same (left x) (left y)) n (subst (λ (z : Value). T (same (left x) z)) e (same-refl (left x))))
 
--- No two different members share a first part.
-abbrev Functions : List Value → Type 0
-Functions xs = (x y : Value) → In x xs → In y xs → left x ≡ left y → x ≡ y
+-- Members that share a first part are equal.
+abbrev FirstsTell : List Value → Type 0
+FirstsTell xs = (x y : Value) → In x xs → In y xs → left x ≡ left y → x ≡ y
 
 -- Neighbours decide.
-firsts-functions : (xs : List Value) → All SmallPair xs → Rising xs → T (newFirsts xs) ↔ Functions xs
-firsts-functions [] p r = (λ t x y i. absurd i, λ f. tt)
-firsts-functions (x ∷ xs) p r =
-    let q = firsts-functions xs (p .1) (r .1) in (
+firsts-tell : (xs : List Value) → All SmallPair xs → Rising xs → T (newFirsts xs) ↔ FirstsTell xs
+firsts-tell [] p r = (λ t x y i. absurd i, λ f. tt)
+firsts-tell (x ∷ xs) p r =
+    let q = firsts-tell xs (p .1) (r .1) in (
       λ t. let n = and-split (newFirst x xs) (newFirsts xs) t in there (new-less x xs p r (n .0)) (q .0 (n .1)),
       λ f. and-of (newFirst x xs) (newFirsts xs) (new xs p r f) (q .1 (λ y z i j. f y z (inr i) (inr j))),
     )
@@ -72,24 +72,18 @@ firsts-functions (x ∷ xs) p r =
     apart l y z e j k =
         before-irrefl (left x) (subst (Before (left x)) (sym k ∙ ap left e) (all-in (λ w. Before (left x) (left w)) z xs l j))
 
-    there : All (λ z. Before (left x) (left z)) xs → Functions xs → (y z : Value) → (y ≡ x) ⊎ In y xs → (z ≡ x) ⊎ In z xs → left y ≡ left z → y ≡ z
+    there : All (λ z. Before (left x) (left z)) xs → FirstsTell xs → (y z : Value) → (y ≡ x) ⊎ In y xs → (z ≡ x) ⊎ In z xs → left y ≡ left z → y ≡ z
     there l f y z (inl d) (inl e) k = d ∙ sym e
     there l f y z (inl d) (inr j) k = absurd (apart l y z d j k)
     there l f y z (inr i) (inl e) k = absurd (apart l z y e i (sym k))
     there l f y z (inr i) (inr j) k = f y z i j k
 
-    new : (ys : List Value) → All SmallPair (x ∷ ys) → Rising (x ∷ ys) → Functions (x ∷ ys) → T (newFirst x ys)
+    new : (ys : List Value) → All SmallPair (x ∷ ys) → Rising (x ∷ ys) → FirstsTell (x ∷ ys) → T (newFirst x ys)
     new [] p r f = tt
     new (y ∷ ys) p r f =
         not-T (same (left x) (left y)) λ t.
         let e = f x y (inl refl) (inr (inl refl)) (same-eq (left x) (left y) (left-small x (p .0 .1)) (left-small y (p .1 .0 .1)) t) in
         before-irrefl x (subst (Before x) (sym e) (r .0 .0))
-
-test-eq : (a b : Bool) → (T a → T b) → (T b → T a) → a ≡ b
-test-eq true true f g = refl
-test-eq true false f g = absurd (f tt)
-test-eq false true f g = absurd (g tt)
-test-eq false false f g = refl
 
 -- Pairs of a set, as a list.
 pairs-small : (vs : Values) → AllPairs vs → All Small (members vs) → All SmallPair (members vs)
@@ -98,9 +92,9 @@ pairs-small (v ▸ vs) p h = ((p .0, h .0), pairs-small vs (p .1) (h .1))
 
 pub firsts-right : (vs : Values) → AllPairs vs → All Small (members vs) → Rising (members vs) → newFirsts (members vs) ≡ isFunction (set vs)
 firsts-right vs p h r =
-    let a = firsts-functions (members vs) (pairs-small vs p h) r in
+    let a = firsts-tell (members vs) (pairs-small vs p h) r in
     let b = function-right (set vs) h in
-    test-eq (newFirsts (members vs)) (isFunction (set vs)) (λ t. b .1 (a .0 t)) (λ t. a .1 (b .0 t))
+    bool-eq (newFirsts (members vs)) (isFunction (set vs)) (λ t. b .1 (a .0 t)) (λ t. a .1 (b .0 t))
 
 -- Whether a pair's first part is e, by the order of e and it.
 paired-order : (e x : Value) (o : Ordering) → order e (left x) ≡ o → pairedWith e x ≡ isEq (flip o)
