@@ -83,8 +83,27 @@ fn binders(select: bool, value: &Value, more: bool) -> Case {
     filled(draft, vec![value.clone(), value.clone(), set(vec![Value::Integer(1)])], more)
 }
 
+/// x0 = 1, and three more identifiers, each the one before in 21 singletons: the type of the last weighs 64, as deep as a type can be.
+fn deep_types() -> Case {
+    let mut draft = Draft::default();
+    let mut last = draft.identifier(0);
+    let (name, one) = (draft.using(last), draft.integer(1));
+    let mut root = draft.two(Kind::Equal, name, one);
+    for _ in 0..3 {
+        let mut inner = draft.using(last);
+        for _ in 0..21 {
+            inner = draft.one(Kind::Singleton, inner);
+        }
+        last = draft.identifier(0);
+        let name = draft.using(last);
+        let equal = draft.two(Kind::Equal, name, inner);
+        root = draft.two(Kind::And, root, equal);
+    }
+    case(&draft, &[])
+}
+
 fn made() -> Vec<Case> {
-    let mut cases = Vec::new();
+    let mut cases = vec![deep_types()];
     for value in [Value::Integer(1), nested(), chain()] {
         for more in [false, true] {
             cases.extend([0, MAX_HEIGHT as usize - 2].map(|count| negations(count, &value, more)));
