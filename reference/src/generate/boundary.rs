@@ -16,6 +16,7 @@ pub fn condition(rng: &mut Random, small: bool) -> Condition {
         integers,
         integers,
         no_nodes,
+        // Functions and other relations, arguments inside and outside.
         applications,
         applications,
         integer_ends,
