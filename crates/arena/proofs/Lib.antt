@@ -1,4 +1,5 @@
 -- Laws of values in the arena.
 pub mod CodeLaws
 pub mod Standing
+pub mod ValueParts
 pub mod FrontLaws

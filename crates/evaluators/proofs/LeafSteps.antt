@@ -15,7 +15,7 @@ use Rattle.rules.specs.Operations as rules
 use Rattle.rules.specs.Tables.{tableOf, nodeAt}
 use Rattle.fitting.specs.Agree.{SomeTyped}
 use Rattle.fitting.specs.Tests.{FitOne}
-use Rattle.fitting.proofs.Cells.{first-cell}
+use Rattle.arena.proofs.ValueParts.{first-cell}
 use Rattle.operations.specs.Good.{GoodAt}
 use Rattle.operations.specs.Outcomes.{LeafReady, LeafDone}
 use Rattle.operations.proofs.GoodLaws.{good-fits, good-typed-at, good-inside}

@@ -1,7 +1,7 @@
 -- Values that stand in the arena: what their cells tell of the types that they share.
 use Prim.Native.Nat.{ℕ, _+_, _*_, _-_, _/_, _%_, _≤_, _<_}
 use mathlib.Core.Bool.{Bool, true, false}
-use mathlib.Core.List.{List, _++_, append-nil}
+use mathlib.Core.List.{List, append-nil}
 use mathlib.Core.Logic.{_≢_, inl, inr}
 use borrow.Author.Tests.{eq-eqb, ne-eqb}
 use mathlib.Core.Path.{_≡_, refl, sym, ap, _∙_, subst}
@@ -10,11 +10,12 @@ use native.Mathlib.Decide.{ℕ-discrete, decLt}
 use lib.Dec.{T, eqb}
 use lib.ListN.{length, getD}
 use Rattle.rules.specs.Types.{whole}
-use Rattle.rules.specs.Values.{Scalar, num, truth, element, Value, scalar, pair, set, Values, none, _▸_, scalarTag, tag, count, weight, weights}
+use Rattle.rules.specs.Values.{Scalar, num, truth, element, Value, scalar, pair, set, Values, none, _▸_, scalarTag, count, weight, weights}
 use Rattle.rules.specs.Fits.{every, typesOf, sharedTypes, inhabited, typed}
-use Rattle.arena.specs.Code.{cellSize, scalarLow, code, codes, Stands, ValueAt, ValuesAt, ScalarFits, CellsFit, SomeAt, EndsAt}
-use Rattle.arena.proofs.CodeLaws.{length-code, bit-small, all-agree}
+use Rattle.arena.specs.Code.{cellSize, code, codes, Stands, ValueAt, ValuesAt, CellsFit, SomeAt, EndsAt}
+use Rattle.arena.proofs.CodeLaws.{length-code, all-agree}
 use Rattle.arena.proofs.Standing.{stands-head, stands-tail, stands-front, stands-back}
+use Rattle.arena.proofs.ValueParts.{first-cell, left-stands, right-stands}
 use Rattle.fitting.specs.Agree.{meets, agree, TypedAt, RunAt, SomeTyped, SomeRun, Agreed, AgreedWith, AgreedAll, emptyCell, NoEmpty, StandFor, Members, Full, FullSet, FullAll, Few, sameKind, SetHere, Two, Parts, AgreedParts, Runs}
 use Rattle.fitting.proofs.Sharing.{is-true, full-first, meets-both, meets-sym, meets-same, with-every, meets-every, meets-first, tags-differ, scalars-agree, elements-agree, left-typed, right-typed}
 use Rattle.rules.proofs.Basics.{and-split}
@@ -42,40 +43,7 @@ value-eq s at v w h k p q = go (decLt (weight v) (weight w))
     go (yes y) = sym (all-agree w v q p (omega arith) (λ j m. sym (k .cells j (omega (arith, length-code w))) ∙ h .cells j (omega (arith, length-code v))))
     go (no n) = all-agree v w p q (omega arith) (λ j m. sym (h .cells j (omega (arith, length-code v))) ∙ k .cells j (omega (arith, length-code w)))
 
--- The first cell of a value.
-scalar-tag : (x : Scalar) → ScalarFits x → ((scalarTag x * cellSize + scalarLow x) / cellSize ≡ scalarTag x) × ((scalarTag x * cellSize + scalarLow x) % cellSize ≡ scalarLow x)
-scalar-tag (num whole i) h = (omega (arith, h .0), omega (arith, h .0))
-scalar-tag (truth b) h = (omega (arith, bit-small b), omega (arith, bit-small b))
-scalar-tag (element g k) h = (omega (arith, h .1), omega (arith, h .1))
-
--- the tag and the payload of the first cell
-abbrev low : Value → ℕ
-low (scalar x) = scalarLow x
-low (pair v w) = 0
-low (set vs) = count vs
-
-pub first-cell : (s : List ℕ) (at : ℕ) (v : Value) → ValueAt s at v → CellsFit v → (getD s at 0 / cellSize ≡ tag v) × (getD s at 0 % cellSize ≡ low v)
-unfolding code
-first-cell s at (scalar x) h f =
-    let e : getD s at 0 ≡ scalarTag x * cellSize + scalarLow x = stands-head s at _ _ h in
-    rw e (scalar-tag x f)
-first-cell s at (pair v w) h f =
-    let e : getD s at 0 ≡ 4 * cellSize = stands-head s at _ _ h in
-    (omega arith, omega arith)
-first-cell s at (set vs) h f =
-    let e : getD s at 0 ≡ 5 * cellSize + count vs = stands-head s at _ _ h in
-    (omega (arith, f .0), omega (arith, f .0))
-
--- The parts of a pair and the members of a set.
-module _ (s : List ℕ) (at : ℕ) (v w : Value) (h : ValueAt s at (pair v w)) where
-  pub left-stands : ValueAt s (at + 1) v
-  unfolding code
-  left-stands = stands-front s (at + 1) (code v) (code w) (stands-tail s at (4 * cellSize) (code v ++ code w) h)
-
-  pub right-stands : ValueAt s (at + 1 + weight v) w
-  unfolding code
-  right-stands = rw (← length-code v) (stands-back s (at + 1) (code v) (code w) (stands-tail s at (4 * cellSize) (code v ++ code w) h))
-
+-- The members of a set.
 pub members-stand : (s : List ℕ) (at : ℕ) (vs : Values) → ValueAt s at (set vs) → ValuesAt s (at + 1) vs
 unfolding code
 members-stand s at vs h = stands-tail s at (5 * cellSize + count vs) (codes vs) h

@@ -17,7 +17,8 @@ use Rattle.arena.specs.Code.{cellSize, code, Stands, EndsAt}
 use Rattle.fitting.specs.Agree.{meets, agree, TypedAt, RunAt, SomeTyped, Agreed, AgreedWith, Full, Few, Members, SetHere}
 use Rattle.fitting.specs.Tests.{FitOne, FitTwo, Both, anyPair, Pairs, AgreedLefts}
 use Rattle.fitting.proofs.Sharing.{is-true, Share, meets→share, share→meets, meets-sym, meets-first, with-every, ground}
-use Rattle.fitting.proofs.Cells.{first-cell, as-set, as-pair, as-run, no-run, end-is}
+use Rattle.arena.proofs.ValueParts.{first-cell}
+use Rattle.fitting.proofs.Cells.{as-set, as-pair, as-run, no-run, end-is}
 use Rattle.rules.proofs.Basics.{absurd01, and-of, and-split, bool-eq}
 
 -- The types of a set's members; none where the value is no set.

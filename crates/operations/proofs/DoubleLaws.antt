@@ -29,7 +29,7 @@ use Rattle.sets.specs.Pairs.{SomeRelation, Applies, ImageAt, Within as WithinSe
 use Rattle.sets.proofs.OperationLaws.{union-merged, inter-merged, diff-merged}
 use Rattle.products.specs.Growing.{PutsCell, Pairs, Intervals, Multiplies}
 use Rattle.fitting.specs.Tests.{FitTwo}
-use Rattle.fitting.proofs.Cells.{first-cell}
+use Rattle.arena.proofs.ValueParts.{first-cell}
 use Rattle.operations.specs.declared.Outcome.{Outcome}
 use Rattle.operations.specs.declared.Outcome.the-variants.{Within, Lacks}
 use Rattle.operations.specs.Good.{Sizes, GoodAt}

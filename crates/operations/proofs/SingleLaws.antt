@@ -25,7 +25,8 @@ use Rattle.products.specs.Parts.{SomePairs, Domains, Ranges}
 use Rattle.products.specs.Power.{Powers}
 use Rattle.fitting.specs.Agree.{SomeTyped}
 use Rattle.fitting.specs.Tests.{FitOne}
-use Rattle.fitting.proofs.Cells.{first-cell, members-stand, first-stands}
+use Rattle.arena.proofs.ValueParts.{first-cell}
+use Rattle.fitting.proofs.Cells.{members-stand, first-stands}
 use Rattle.operations.specs.Good.{Sizes, GoodAt}
 use Rattle.operations.specs.Outcomes.{weighed, oneGiven, ended, Gives, OneReady, OneDone, OneOf}
 use Rattle.operations.specs.declared.Outcome.{Outcome}

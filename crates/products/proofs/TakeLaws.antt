@@ -1,5 +1,5 @@
 -- Domain and range in the arena: comparing parts, and putting them one behind the other.
-use Prim.Native.Nat.{ℕ, _+_, _*_, _-_, _%_, _≤_, _<_, Ordering, Ordering·lt, Ordering·eq, Ordering·gt}
+use Prim.Native.Nat.{ℕ, _+_, _-_, _%_, _≤_, _<_, Ordering, Ordering·lt, Ordering·eq, Ordering·gt}
 use mathlib.Core.Bool.{Bool, true, false, not}
 use mathlib.Core.List.{List, [], _∷_, _++_, map}
 use mathlib.Core.Logic.{_⊎_, inl, inr}
@@ -13,9 +13,9 @@ use Rattle.rules.specs.Values.{Value, scalar, pair, set, Values, none, _▸_, m
 use Rattle.rules.specs.Operations.{left, right, setOf, rising}
 use Rattle.laws.proofs.OrderLaws.{flip, Small, order-flip}
 use Rattle.laws.proofs.SetOrder.{All}
-use Rattle.arena.specs.Code.{cellSize, code, codes, ValueAt, Same, AllFit, Rises, orderCode, SomeAt, EndsAt, Compared, Copied, SetBelow, ValueBelow, Made, Front, AllPairs}
+use Rattle.arena.specs.Code.{code, codes, ValueAt, Same, AllFit, Rises, orderCode, SomeAt, EndsAt, Compared, Copied, SetBelow, ValueBelow, Made, Front, AllPairs}
 use Rattle.arena.proofs.CodeLaws.{length-code, length-codes, fits-small}
-use Rattle.arena.proofs.Standing.{stands-tail, stands-front, stands-back}
+use Rattle.arena.proofs.ValueParts.{left-stands, right-stands}
 use Rattle.arena.proofs.FrontLaws.{front-start, front-next, front-below, front-frame, value-frame, value-some}
 use Rattle.products.specs.Growing.{Grown}
 use Rattle.products.specs.Parts.{Maybe, AddPre, Added, related, ComparePre, Compares, isLast, NewPre, AddedNew, isAbove, isBelow, lesser, choose, BetterPre, Betters, NextPre, Nexts}
@@ -28,18 +28,11 @@ use Rattle.laws.proofs.CellsLaws.{count-weights, weight-some}
 -- The parts of a pair.
 module _ (s : List ℕ) (top i : ℕ) (a b : Value) (h : ValueBelow s top i (pair a b)) where
   pub pair-left : ValueBelow s top (i + 1) a
-  unfolding code
-  pair-left = record {
-    stands = stands-front s (i + 1) (code a) (code b) (stands-tail s i (4 * cellSize) (code a ++ code b) (h .stands));
-    below = omega (arith, h .below);
-    fits = h .fits .0;
-    light = omega (arith, h .light);
-  }
+  pair-left = record { stands = left-stands s i a b (h .stands); below = omega (arith, h .below); fits = h .fits .0; light = omega (arith, h .light) }
 
   pub pair-right : (e : ℕ) → e ≡ i + 1 + weight a → ValueBelow s top e b
-  unfolding code
   pair-right e q = record {
-    stands = rw (q, ← length-code a) (stands-back s (i + 1) (code a) (code b) (stands-tail s i (4 * cellSize) (code a ++ code b) (h .stands)));
+    stands = rw q (right-stands s i a b (h .stands));
     below = omega (arith, h .below);
     fits = h .fits .1;
     light = omega (arith, h .light);

@@ -1,7 +1,7 @@
 -- Application: the pass over the pairs of a set in the arena. At each turn the pairs that are left decide (`Checking`, `Applying`).
-use Prim.Native.Nat.{ℕ, _+_, _*_, _-_, _/_, _%_, _≤_, _<_, Ordering, Ordering·lt, Ordering·eq, Ordering·gt}
+use Prim.Native.Nat.{ℕ, _+_, _-_, _/_, _%_, _≤_, _<_, Ordering, Ordering·lt, Ordering·eq, Ordering·gt}
 use mathlib.Core.Bool.{Bool, true, false, not, cond}
-use mathlib.Core.List.{List, _++_}
+use mathlib.Core.List.{List}
 use mathlib.Core.Path.{_≡_, refl, sym, _∙_, subst}
 use native.Mathlib.Omega.{arith}
 use lib.Dec.{isEq}
@@ -10,39 +10,21 @@ use Rattle.rules.specs.Values.{Value, scalar, pair, set, Values, none, _▸_, m
 use Rattle.rules.specs.Runs.{Given, gives, lacks}
 use Rattle.rules.specs.Operations.{applied}
 use Rattle.laws.proofs.CellsLaws.{weight-some}
-use Rattle.arena.specs.Code.{cellSize, code, codes, ValueAt, CellsFit, orderCode, SomeAt, EndsAt, Compared, SetBelow, ValueBelow, Front, AllPairs}
+use Rattle.arena.specs.Code.{ValueAt, CellsFit, orderCode, SomeAt, EndsAt, Compared, SetBelow, ValueBelow, Front, AllPairs}
 use Rattle.arena.proofs.CodeLaws.{length-code, fits-small}
-use Rattle.arena.proofs.Standing.{stands-head, stands-tail, stands-front, stands-back}
+use Rattle.arena.proofs.ValueParts.{first-cell, left-stands, right-stands}
 use Rattle.arena.proofs.FrontLaws.{rises-rising, fit-small, front-start, front-value, front-next, code-less, code-equal, code-greater}
 use Rattle.sets.specs.Pairs.{newFirst, newFirsts, atPair, walked, SomePairs, PairFirst, NextPair, FunctionAt, ImageAt}
 use Rattle.sets.proofs.PairLaws.{walked-right}
 
--- The parts of a pair.
-module _ (s : List ℕ) (i : ℕ) (a b : Value) (h : ValueAt s i (pair a b)) where
-  pair-cell : getD s i 0 ≡ 4 * cellSize
-  unfolding code
-  pair-cell = stands-head s i (4 * cellSize) (code a ++ code b) h
-
-  pair-left : ValueAt s (i + 1) a
-  unfolding code
-  pair-left = stands-front s (i + 1) (code a) (code b) (stands-tail s i (4 * cellSize) (code a ++ code b) h)
-
-  pair-right : ValueAt s (i + 1 + weight a) b
-  unfolding code
-  pair-right = rw (← length-code a) (stands-back s (i + 1) (code a) (code b) (stands-tail s i (4 * cellSize) (code a ++ code b) h))
-
 pub some-inside : (s : List ℕ) (at : ℕ) → SomeAt s at → at < length s
 some-inside s at h = omega (arith, h .stands .inside, length-code (h .value), weight-some (h .value))
-
-set-first : (s : List ℕ) (i : ℕ) (vs : Values) → ValueAt s i (set vs) → getD s i 0 ≡ 5 * cellSize + count vs
-unfolding code
-set-first s i vs h = stands-head s i (5 * cellSize + count vs) (codes vs) h
 
 -- A cell with a tag below 4 is a whole value.
 pub one-cell : (s : List ℕ) (at t : ℕ) → t ≡ getD s at 0 / 4294967296 → t < 4 → EndsAt s at (at + 1)
 one-cell s at t e l (scalar x) h f = refl
-one-cell s at t e l (pair a b) h f = absurd (omega (arith, pair-cell s at a b h))
-one-cell s at t e l (set vs) h f = absurd (omega (arith, set-first s at vs h))
+one-cell s at t e l (pair a b) h f = absurd (omega (arith, first-cell s at (pair a b) h f .0))
+one-cell s at t e l (set vs) h f = absurd (omega (arith, first-cell s at (set vs) h f .0))
 
 -- What is shown of a first pair and the rest is shown of pairs, if there are any.
 some-pairs : (P : Values → Type 0) → ((a b : Value) (ws : Values) → AllPairs ws → P (pair a b ▸ ws)) → (vs : Values) → AllPairs vs → 0 < count vs → P vs
@@ -65,12 +47,12 @@ pair-first s top i n vs f p l =
 -- The next pair. The first part stands behind the cell of its pair, then the second.
 module _ (s : List ℕ) (top i n : ℕ) (a b : Value) (vs : Values) (f : Front s top i n (pair a b ▸ vs)) where
   first-at : ValueAt s (i + 1) a
-  first-at = pair-left s i a b (front-value s top i n (pair a b) vs f)
+  first-at = left-stands s i a b (front-value s top i n (pair a b) vs f)
 
   second-at : (r : ℕ) → EndsAt s (i + 1) r → (r ≡ i + 1 + weight a) × ValueAt s r b
   second-at r e =
       let x = e a first-at (f .fits .0 .0) in
-      (x, subst (λ (z : ℕ). ValueAt s z b) (sym x) (pair-right s i a b (front-value s top i n (pair a b) vs f)))
+      (x, subst (λ (z : ℕ). ValueAt s z b) (sym x) (right-stands s i a b (front-value s top i n (pair a b) vs f)))
 
   next-at : (r k : ℕ) → EndsAt s (i + 1) r → EndsAt s r k → k ≡ i + weight (pair a b)
   next-at r k e g = let x = second-at r e in omega (arith, x .0, g b (x .1) (f .fits .0 .1))
@@ -80,7 +62,7 @@ next-first : (s : List ℕ) (top i n : ℕ) (a b c d : Value) (vs : Values) → 
     EndsAt s (i + 1) r → EndsAt s r k → ValueAt s (k + 1) c × CellsFit c
 next-first s top i n a b c d vs f r k e g =
     let h = front-next s top i n (pair a b) (pair c d ▸ vs) f k (n - 1) (next-at s top i n a b (pair c d ▸ vs) f r k e g) (omega (arith, f .counted)) in
-    (pair-left s k c d (front-value s top k (n - 1) (pair c d) vs h), h .fits .0 .0)
+    (left-stands s k c d (front-value s top k (n - 1) (pair c d) vs h), h .fits .0 .0)
 
 -- Whether two values are the same, by the number of their order.
 same-code : (a c : Value) (k : ℕ) → k ≡ orderCode (order a c) → k ≡ 1 → same a c ≡ true
