@@ -16,7 +16,7 @@ use Rattle.rules.specs.Ends.{leastFailing}
 use Rattle.rules.specs.Readable.{NodeRight, Readable}
 use Rattle.laws.proofs.TableLaws.{nodes-length, held-below, height-at, tallest-below, no-root, some-root}
 use Rattle.table.specs.Layout.{Fielded, fieldAt}
-use Rattle.reading.specs.Arrays.{countsAt, Heights}
+use Rattle.reading.specs.Arrays.{childAt, Heights}
 use Rattle.reading.specs.Answers.{rootHeight}
 use Rattle.table.specs.Places.{foundOr}
 use Rattle.table.proofs.Least.{least-none}
@@ -35,8 +35,8 @@ kept-three h b c d x y z =
 
 -- The tallest child is the tallest of those in the three fields.
 pub tallest-held : (h : ℕ → ℕ) (bs : List ℕ) (n p q r s t : ℕ) →
-    p ≡ cond (countsAt false bs n 0) (h (fieldAt bs n 0)) 0 → q ≡ cond (countsAt false bs n 1) (h (fieldAt bs n 1)) 0 →
-    r ≡ cond (countsAt false bs n 2) (h (fieldAt bs n 2)) 0 → s ≡ max q r → t ≡ max p s →
+    p ≡ cond (childAt bs n 0) (h (fieldAt bs n 0)) 0 → q ≡ cond (childAt bs n 1) (h (fieldAt bs n 1)) 0 →
+    r ≡ cond (childAt bs n 2) (h (fieldAt bs n 2)) 0 → s ≡ max q r → t ≡ max p s →
     t ≡ tallest h (held isChild (nodeAt (tableOf bs .nodes) n))
 unfolding held
 tallest-held h bs n p q r s t ep eq er es et =

@@ -4,7 +4,7 @@ use mathlib.Core.Path.{_≡_, _∙_}
 use lib.Dec.{lit<}
 use lib.ListN.{length}
 use Rattle.table.specs.Layout.{fieldAt}
-use Rattle.reading.specs.Arrays.{countsAt}
+use Rattle.reading.specs.Arrays.{childAt}
 use Rattle.reading.proofs.Counting.{Low, low-room, counted-low, bumped-low, counted-more, node-in, field-in}
 use Rattle.reading.proofs.tree.count_node.Statement.{statement}
 use Rattle.reading.proofs.tree.count_node.Tie as tie
@@ -29,18 +29,18 @@ long₂ c = c .count-field2 .kept .1 .1 .1 .1 .1 .0 ∙ long₁ (turn₂ c)
 
 -- No count is above three for each node before, and one for each field before.
 low₀ : (s : tie.Start) → Low 1536 (s .args .counted .now)
-low₀ s = counted-low (s .args .binders) (s .args .table .now) (s .args .n) (s .args .counted .now) (s .pre .0 .laid .header .few-nodes) (s .pre .1) (s .pre .3)
+low₀ s = counted-low (s .args .table .now) (s .args .n) (s .args .counted .now) (s .pre .0 .laid .header .few-nodes) (s .pre .1) (s .pre .3)
 
 low₁ : (c : tie.After-count-field) → Low 1537 (counted₁ c)
 low₁ c =
     let s = turn₁ c in
-    bumped-low 1536 (s .args .counted .now) (counted₁ c) (countsAt (s .args .binders) (s .args .table .now) (s .args .n) 0) (fieldAt (s .args .table .now) (s .args .n) 0)
+    bumped-low 1536 (s .args .counted .now) (counted₁ c) (childAt (s .args .table .now) (s .args .n) 0) (fieldAt (s .args .table .now) (s .args .n) 0)
     (c .count-field .kept .1 .1 .1 .1 .1 .0) (low₀ s) (c .count-field .ensures)
 
 low₂ : (c : tie.After-count-field2) → Low 1538 (counted₂ c)
 low₂ c =
     let s = turn₁ (turn₂ c) in
-    bumped-low 1537 (counted₁ (turn₂ c)) (counted₂ c) (countsAt (s .args .binders) (s .args .table .now) (s .args .n) 1) (fieldAt (s .args .table .now) (s .args .n) 1)
+    bumped-low 1537 (counted₁ (turn₂ c)) (counted₂ c) (childAt (s .args .table .now) (s .args .n) 1) (fieldAt (s .args .table .now) (s .args .n) 1)
     (c .count-field2 .kept .1 .1 .1 .1 .1 .0) (low₁ (turn₂ c)) (c .count-field2 .ensures)
 
 node-row-requires : tie.Need-node-row-requires
@@ -72,7 +72,7 @@ returns c =
     let b₁ = b₂ .before .before .before .before in
     let b₀ = turn₂ b₁ in
     let s = turn₁ b₀ in
-    counted-more (s .args .binders) (s .args .table .now) (s .args .n) (s .args .counted .now)
+    counted-more (s .args .table .now) (s .args .n) (s .args .counted .now)
     (counted₁ b₀) (counted₂ b₁) (b₂ .count-field3 .last .1 .1 .1 .1 .1 .0) (s .pre .1)
     (b₀ .count-field .kept .1 .1 .1 .1 .1 .0) (b₁ .count-field2 .kept .1 .1 .1 .1 .1 .0) (b₂ .count-field3 .kept .1 .1 .1 .1 .1 .0)
     (s .pre .3) (b₀ .count-field .ensures) (b₁ .count-field2 .ensures) (b₂ .count-field3 .ensures)

@@ -11,10 +11,10 @@ use Rattle.reading.proofs.tree.count_nodes.Statement.{statement}
 use Rattle.reading.proofs.tree.count_nodes.Tie as tie
 
 abbrev Inv-loop : tie.InvT-loop
-Inv-loop table at counted₀ binders count n₀ counted n = (n ≤ count) × (length counted ≡ length counted₀) × Counted binders table n counted
+Inv-loop table at counted₀ count n₀ counted n = (n ≤ count) × (length counted ≡ length counted₀) × Counted table n counted
 
 abbrev μ-loop : tie.MeasureT-loop
-μ-loop table at counted₀ binders count n₀ counted n = count - n
+μ-loop table at counted₀ count n₀ counted n = count - n
 
 -- The loop is at a node, of which there are few.
 inside : (c : tie.In-loop Inv-loop μ-loop) → c .before .loop .n < nodeCount (c .before .before .before .before .before .args .table .now)
@@ -51,7 +51,7 @@ returns : tie.Need-returns Inv-loop μ-loop
 returns c =
     let l = c .before .loop in
     let s = c .before .before .before .before .before in
-    subst (λ (i : ℕ). Counted (s .args .binders) (s .args .table .now) i (l .counted)) (at-end (l .inv .0) (c .loop-test .left) (c .before .before .nodes .ensures)) (l .inv .2)
+    subst (λ (i : ℕ). Counted (s .args .table .now) i (l .counted)) (at-end (l .inv .0) (c .loop-test .left) (c .before .before .nodes .ensures)) (l .inv .2)
 
 pub count-nodes-spec : {M : Type 1} → statement M
 count-nodes-spec =

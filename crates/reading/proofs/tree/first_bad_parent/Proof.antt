@@ -1,5 +1,4 @@
 use Prim.Native.Nat.{_-_, _<_}
-use mathlib.Core.Bool.{false}
 use mathlib.Core.Path.{sym, _∙_, refl}
 use native.Mathlib.Nat.{lt-of-lt-of-le}
 use lib.Dec.{lit<}
@@ -33,7 +32,7 @@ slice-aggregate-count-nodes : tie.Need-slice-aggregate-count-nodes Inv-loop μ-l
 slice-aggregate-count-nodes c = refl
 
 count-nodes-requires : tie.Need-count-nodes-requires Inv-loop μ-loop
-count-nodes-requires c κs = (c .before .before .before .pre, refl, counted-none false (c .before .before .before .args .table .now) 512)
+count-nodes-requires c κs = (c .before .before .before .pre, refl, counted-none (c .before .before .before .args .table .now) 512)
 
 loop-holds : tie.Need-loop-holds Inv-loop μ-loop
 loop-holds c = least-start _ _
@@ -48,7 +47,7 @@ parent-is-good-requires : tie.Need-parent-is-good-requires Inv-loop μ-loop
 parent-is-good-requires c κs =
     let called = c .before .before .before .count-nodes in (
       node-in (c .before .before .before .before .before .before .before .pre) (inside c),
-      counted-all false _ (called .last .1 .1 .0) (called .ensures) (c .before .loop .n) (below (few c) (sym (called .kept .1 .1 .0))),
+      counted-all _ (called .last .1 .1 .0) (called .ensures) (c .before .loop .n) (below (few c) (sym (called .kept .1 .1 .0))),
     )
 
 returns : tie.Need-returns Inv-loop μ-loop
