@@ -117,7 +117,7 @@ fn tallest_child(table: &[u8], at: usize, n: usize, heights: &[u8]) -> u8
 // Refusal 8: no node is higher.
 const HEIGHT_LIMIT: u8 = 27;
 
-// Sets the heights of the nodes below the first that is above the limit, and answers that node, or N.
+// Refusal 8: the least node whose height is above the limit, or N. Sets the heights of the nodes below it.
 pub(crate) fn set_heights(table: &[u8], at: usize, heights: &mut [u8]) -> usize
     requires { ⌜ Fielded (now table) at × (length (now heights) ≡ 512) ⌝ }
     ensures { λ r. ⌜ (r ≡ foundOr (nodeCount (now (table .entry))) (leastFailing (heightGood (tableOf (now (table .entry)))) 0 (nodeCount (now (table .entry))))) × Heights (now (table .entry)) r (now (heights .exit)) ⌝ }
@@ -133,13 +133,4 @@ pub(crate) fn set_heights(table: &[u8], at: usize, heights: &mut [u8]) -> usize
         n += 1;
     }
     count
-}
-
-// Refusal 8: the least node whose height is above the limit, or N.
-pub(crate) fn first_bad_height(table: &[u8], at: usize) -> usize
-    requires { ⌜ Fielded (now table) at ⌝ }
-    ensures { λ r. ⌜ r ≡ foundOr (nodeCount (now (table .entry))) (leastFailing (heightGood (tableOf (now (table .entry)))) 0 (nodeCount (now (table .entry)))) ⌝ }
-{
-    let mut heights = [0u8; 512];
-    set_heights(table, at, &mut heights)
 }
