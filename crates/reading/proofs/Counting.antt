@@ -1,6 +1,6 @@
 -- The fields of a node one by one: what those that pass a test hold, how often a number stands there, and that a child is below its parent.
 -- Refusal 7 from the counts.
-use Prim.Native.Nat.{ℕ, zero, suc, _+_, _*_, _-_, _≤_, _<_, max}
+use Prim.Native.Nat.{ℕ, zero, suc, _+_, _*_, _-_, _≤_, _<_}
 use mathlib.Core.Bool.{Bool, true, false, cond, false≢true}
 use mathlib.Core.List.{List, [], _∷_}
 use mathlib.Core.Option.{Option}
@@ -14,12 +14,12 @@ use lib.Seq.{getD-set-same, getD-set-other, set-getD, take-all}
 use borrow.Author.Tests.{eq-eqb, ne-eqb}
 use Rattle.rules.specs.Kinds.{Kind, kindOf}
 use Rattle.rules.specs.Kinds.{predicate}
-use Rattle.rules.specs.Kinds.{Field, unused, child, use-of, binder-of, setNumber, elementNumber, anyWord, truthBit, isChild, isBinder}
+use Rattle.rules.specs.Kinds.{Field, unused, child, use-of, binder-of, setNumber, elementNumber, anyWord, truthBit, isChild}
 use Rattle.rules.specs.Tables.{Node, Table, tableOf, nodeAt, kindAt, lastNode, fieldsAt, fieldsIf, fieldWords, keptIf, pick, held, heldIn}
 use Rattle.rules.specs.Tables.{nodeCount}
 use Rattle.rules.specs.Reading.{occurrences, parentGood}
 use Rattle.rules.specs.Readable.{Header, FieldRight, FieldsRight}
-use Rattle.laws.proofs.TableLaws.{nodes-length, binds-length, fields-right}
+use Rattle.laws.proofs.TableLaws.{nodes-length, fields-right}
 use Rattle.laws.proofs.TreeLaws.{occurrences-append}
 use Rattle.table.specs.Codes.{fieldOf, categoryCode, DigitOf}
 use Rattle.table.specs.Layout.{NodeIn, Fielded, fieldCodesAt, fieldAt}

@@ -1,6 +1,6 @@
 -- Refusal 9: which identifier a node binds, which occur free there, and what the pass has after n nodes (`Passed`), bit by bit.
 -- A node binds by its first field alone, so a binder more is one more at most. At the last node the bits decide the rule.
-use Prim.Native.Nat.{ℕ, zero, suc, _+_, _≤_, _<_}
+use Prim.Native.Nat.{ℕ, zero, suc, _+_, _<_}
 use mathlib.Core.Bool.{Bool, true, false, not, _&&_, _||_, cond, false≢true}
 use mathlib.Core.List.{List, [], _∷_}
 use mathlib.Core.Option.{Option}
@@ -15,9 +15,9 @@ use lib.Seq.{getD-set-same, getD-set-other, take-all}
 use borrow.Author.Tests.{eq-eqb, ne-eqb, le-leb}
 use Rattle.rules.specs.Kinds.{Kind, kindOf, predicate, expression, isChild, isBinder}
 use Rattle.rules.specs.Kinds.{Field, unused, child, use-of, binder-of, setNumber, elementNumber, anyWord, truthBit}
-use Rattle.rules.specs.Tables.{Node, Table, tableOf, nodeAt, kindAt, fieldsAt, fieldsIf, fieldWords, keptIf, pick, held, heldIn, ofRoot, lastNode, identifierCount, nodeCount}
+use Rattle.rules.specs.Tables.{Node, Table, tableOf, nodeAt, kindAt, fieldsAt, fieldsIf, fieldWords, keptIf, pick, held, heldIn, ofRoot, lastNode, nodeCount}
 use Rattle.rules.specs.Reading.{occurrences, occursIn, occursInAny, bindsHere, occursStep, occursFree, occursInRoot, boundRight, binders, binding}
-use Rattle.rules.specs.Readable.{Header, FieldRight}
+use Rattle.rules.specs.Readable.{FieldRight}
 use Rattle.laws.proofs.TableLaws.{fields-right, nodes-length, binds-length, occursFree-at}
 use Rattle.table.specs.Codes.{fieldOf}
 use Rattle.table.specs.Layout.{Fielded, holdsAt, fieldAt}

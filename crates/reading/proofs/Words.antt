@@ -1,7 +1,7 @@
 -- The bits of a word: of a word with another, of what both have, of one without the other, and of a power of 2.
 -- A shift passes through the operations, and the last bit of each is decided by those of its operands.
-use Prim.Native.Nat.{ℕ, zero, suc, _+_, _*_, _/_, _%_, _^_, _<_, min, max}
-use mathlib.Core.Bool.{Bool, true, false, not, _&&_, _||_}
+use Prim.Native.Nat.{ℕ, zero, suc, _*_, _/_, _%_, _^_, _<_, min, max}
+use mathlib.Core.Bool.{Bool, false, not, _&&_, _||_}
 use mathlib.Core.Path.{_≡_, refl, sym, ap, _∙_}
 use native.Mathlib.Omega.{arith}
 use native.Mathlib.Nat.{div-eq-of-lt, div-div-eq-div-mul, zero-div, zero-lt-suc, pow-suc, pow-succ'}

@@ -39,7 +39,8 @@ returns : tie.Need-returns
 unfolding readingHeight
 returns c =
     let t = c .before in
-    ap heightOf (c .refused .ensures) ∙ sym (ap measured (refused-1 (lent (t .before) .args .table .now) (fails _ _ (t .before .is-headed .ensures) (t .if1 .taken))))
+    ap heightOf (c .refused .ensures)
+    ∙ sym (ap measured (refused-1 (lent (t .before) .args .table .now) (fails _ _ (t .before .is-headed .ensures) (t .if1 .taken))))
 
 is-limited-requires : tie.Need-is-limited-requires
 is-limited-requires c κs = long _ (passed₁ c)
@@ -52,7 +53,8 @@ unfolding readingHeight
 returns-2 c =
     let t = c .before in
     let h = t .before in
-    ap heightOf (c .refused2 .ensures) ∙ sym (ap measured (refused-2 (lent₁ (h .before) .args .table .now) (passed₁ (h .before)) (fails _ _ (h .is-limited .ensures) (t .if2 .taken))))
+    ap heightOf (c .refused2 .ensures)
+    ∙ sym (ap measured (refused-2 (lent₁ (h .before) .args .table .now) (passed₁ (h .before)) (fails _ _ (h .is-limited .ensures) (t .if2 .taken))))
 
 is-laid-out-requires : tie.Need-is-laid-out-requires
 is-laid-out-requires c κs = long _ (passed₁ (c .before .before))

@@ -1,6 +1,5 @@
 -- Only the first field of a kind binds; the landmark is its code.
 use mathlib.Core.Path.{_≡_, ap}
-use native.Mathlib.Omega.{arith}
 use lib.Dec.{lit<}
 use Prim.Native.Nat.{ℕ}
 use Rattle.table.specs.Codes.{fieldOf}

@@ -4,7 +4,6 @@ use mathlib.Core.Bool.{true}
 use mathlib.Core.Path.{_≡_, refl, sym, ap, _∙_}
 use borrow.Author.Needs.{scaled-fits}
 use lib.Dec.{lit<}
-use lib.ListN.{length}
 use Rattle.rules.specs.Kinds.{isChild}
 use Rattle.table.specs.Codes.{fieldOf}
 use Rattle.table.specs.Layout.{holdsAt}
@@ -14,9 +13,12 @@ use Rattle.reading.proofs.Occurs.{isName, name-inside, names-coded, nam
 use Rattle.reading.proofs.binding.field_names.Statement.{statement}
 use Rattle.reading.proofs.binding.field_names.Tie as tie
 
--- What was lent, where the word and the code of the field are known.
+-- What was lent, where the word of the field is known, and where its code is.
+abbrev start : tie.After-field → tie.Start
+start f = f .before .before .before
+
 abbrev lent : tie.After-digit → tie.Start
-lent d = d .before .before .before .before
+lent d = start (d .before)
 
 code : (d : tie.After-digit) → fieldOf (d .digit .result) ≡ holdsAt (lent d .args .table .now) (lent d .args .n) (lent d .args .i)
 code d =
@@ -63,25 +65,33 @@ returns : tie.Need-returns
 returns c =
     let m = c .before .before in
     let d = m .before in
-    names-coded (lent d .args .table .now) (lent d .args .names .now) (lent d .args .here) _ _ (d .digit .result) _ (code d) (d .before .field .ensures) _ 1 (m .match .keys1) (c .without .ensures)
+    let s = lent d in
+    names-coded (s .args .table .now) (s .args .names .now) (s .args .here) _ _ (d .digit .result) _ (code d) (d .before .field .ensures)
+    _ 1 (m .match .keys1) (c .without .ensures)
 
 returns-2 : tie.Need-returns-2
 returns-2 c =
     let m = c .before in
     let d = m .before in
-    names-coded (lent d .args .table .now) (lent d .args .names .now) (lent d .args .here) _ _ (d .digit .result) _ (code d) (d .before .field .ensures) _ 2 (m .match .keys2) (λ x. refl)
+    let s = lent d in
+    names-coded (s .args .table .now) (s .args .names .now) (s .args .here) _ _ (d .digit .result) _ (code d) (d .before .field .ensures)
+    _ 2 (m .match .keys2) (λ x. refl)
 
 returns-3 : tie.Need-returns-3
 returns-3 c =
     let m = c .before in
     let d = m .before in
-    names-coded (lent d .args .table .now) (lent d .args .names .now) (lent d .args .here) _ _ (d .digit .result) _ (code d) (d .before .field .ensures) _ 3 (m .match .keys3) (c .bit .ensures)
+    let s = lent d in
+    names-coded (s .args .table .now) (s .args .names .now) (s .args .here) _ _ (d .digit .result) _ (code d) (d .before .field .ensures)
+    _ 3 (m .match .keys3) (c .bit .ensures)
 
 returns-4 : tie.Need-returns-4
 returns-4 c =
     let d = c .before in
+    let s = lent d in
     let none = c .match .rest in
-    names-none (lent d .args .table .now) (lent d .args .names .now) (lent d .args .here) _ _ (d .digit .result) _ (code d) (d .before .field .ensures) (none .0 .0 .1) (none .0 .1) (none .1)
+    names-none (s .args .table .now) (s .args .names .now) (s .args .here) _ _ (d .digit .result) _ (code d) (d .before .field .ensures)
+    (none .0 .0 .1) (none .0 .1) (none .1)
 
 pub field-names-spec : {M : Type 1} → statement M
 field-names-spec =

@@ -21,7 +21,9 @@ returns : tie.Need-returns
 returns c =
     let b = c .before in
     let a = b .before in
-    names-three (lent a .args .table .now) (lent a .args .names .now) (lent a .args .n) (lent a .args .here) (a .field-names .result) (b .field-names2 .result) (c .field-names3 .result) (lent a .pre .3)
+    let s = lent a in
+    names-three (s .args .table .now) (s .args .names .now) (s .args .n) (s .args .here)
+    (a .field-names .result) (b .field-names2 .result) (c .field-names3 .result) (s .pre .3)
     (a .field-names .ensures) (b .field-names2 .ensures) (c .field-names3 .ensures)
 
 pub node-names-spec : {M : Type 1} → statement M

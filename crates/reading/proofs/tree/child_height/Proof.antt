@@ -1,3 +1,4 @@
+-- By whether the field holds a child, which is below its parent, so the array reaches it. Landmark: that is known.
 use mathlib.Core.Path.{_≡_, sym, _∙_}
 use lib.ListN.{getD}
 use Rattle.reading.specs.Arrays.{childAt}
@@ -6,8 +7,11 @@ use Rattle.reading.proofs.Heights.{child-here, child-none}
 use Rattle.reading.proofs.tree.child_height.Statement.{statement}
 use Rattle.reading.proofs.tree.child_height.Tie as tie
 
+abbrev digit : tie.After-holds-child → tie.After-digit
+digit c = c .before
+
 abbrev start : tie.After-holds-child → tie.Start
-start c = c .before .before .before .before
+start c = digit c .before .before .before
 
 hit : (c : tie.After-holds-child) → c .holds-child .result ≡ childAt (start c .args .table .now) (start c .args .n) (start c .args .i)
 hit c =
@@ -21,7 +25,7 @@ holds-child-requires : tie.Need-holds-child-requires
 holds-child-requires c κs = tt
 
 field-requires : tie.Need-field-requires
-field-requires c κs = field-asks (c .before .before .before .before .before .pre .0)
+field-requires c κs = field-asks (start (c .before) .pre .0)
 
 shared-slice-read-result : tie.Need-shared-slice-read-result
 shared-slice-read-result c =

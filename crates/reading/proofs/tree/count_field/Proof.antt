@@ -1,17 +1,24 @@
+-- By whether the field holds a child. Landmarks: that is known, and the field's word.
 use mathlib.Core.Path.{_≡_}
 use Rattle.reading.specs.Arrays.{childAt}
 use Rattle.reading.proofs.Counting.{child-read, bump-pre, bumped-field, field-asks}
 use Rattle.reading.proofs.tree.count_field.Statement.{statement}
 use Rattle.reading.proofs.tree.count_field.Tie as tie
 
-abbrev start : tie.After-field → tie.Start
-start c = c .before .before .before .before .before .before
+abbrev lent : tie.After-digit → tie.Start
+lent d = d .before .before .before
 
-hit : (c : tie.After-field) → c .before .before .holds-child .result ≡ childAt (start c .args .table .now) (start c .args .n) (start c .args .i)
+abbrev known : tie.After-field → tie.After-holds-child
+known c = c .before .before
+
+abbrev start : tie.After-field → tie.Start
+start c = lent (known c .before)
+
+hit : (c : tie.After-field) → known c .holds-child .result ≡ childAt (start c .args .table .now) (start c .args .n) (start c .args .i)
 hit c =
-    let r = c .before .before .before .digit in
-    child-read (start c .args .table .now) (start c .args .n) (start c .args .i) (start c .args .row) (r .result) _
-    (start c .pre .3) (r .ensures) (c .before .before .holds-child .ensures)
+    let d = known c .before .digit in
+    child-read (start c .args .table .now) (start c .args .n) (start c .args .i) (start c .args .row) (d .result) _
+    (start c .pre .3) (d .ensures) (known c .holds-child .ensures)
 
 digit-requires : tie.Need-digit-requires
 digit-requires c κs = c .before .before .pre .0 .inside
@@ -20,7 +27,7 @@ holds-child-requires : tie.Need-holds-child-requires
 holds-child-requires c κs = tt
 
 field-requires : tie.Need-field-requires
-field-requires c κs = field-asks (c .before .before .before .before .before .pre .0)
+field-requires c κs = field-asks (lent (c .before .before) .pre .0)
 
 bump-requires : tie.Need-bump-requires
 bump-requires c κs =
