@@ -1,7 +1,7 @@
 // Sets in the arena, whose members rise: membership, inclusion, union, intersection, difference, application.
 ghost use Prim.Native.Nat.{_+_, _-_, _≤_};
 ghost use lib.ListN.{length};
-ghost use Rattle.arena.specs.Code.{SomeAt, EndsAt, SomeSet, SomeValue};
+ghost use Rattle.arena.specs.Code.{SomeSet, SomeValue};
 ghost use Rattle.sets.specs.Fronts.{Contains, Includes, TwoFronts, TurnAt, SomeFront, RunEnds, PutPre, Put};
 ghost use Rattle.sets.specs.Pairs.{PairFirst, NextPair, SomePairs, FunctionAt, SomeRelation, Applies};
 ghost use Rattle.sets.specs.Fronts.{TailPre, Tailed, StepPre, Stepped, GoesOn, RestOf, EndPre, Ended, Merges};
@@ -139,24 +139,13 @@ pub fn included(s: &[u64], a: usize, b: usize) -> bool
     true
 }
 
-// Where the value at `at` ends; a scalar is one cell.
-fn past(s: &[u64], at: usize) -> usize
-    requires { ⌜ SomeAt (now s) at ⌝ }
-    ensures { λ r. ⌜ EndsAt (now (s .entry)) at r ⌝ }
-{
-    if arena::tag(s[at]) < 4 {
-        return at + 1;
-    }
-    arena::end_of(s, at)
-}
-
 // Where the pair at i, the first of n, ends and the next one begins; 0 where the two share a first part.
 fn next_pair(s: &[u64], i: usize, n: u64) -> usize
     requires { ⌜ PairFirst (now s) i n ⌝ }
     ensures { λ r. ⌜ NextPair (now (s .entry)) i n r ⌝ }
 {
-    let right = past(s, i + 1);
-    let next = past(s, right);
+    let right = arena::end_of(s, i + 1);
+    let next = arena::end_of(s, right);
     if n > 1 {
         if arena::compare(s, i + 1, right, next + 1) == 1 {
             return 0;
@@ -195,7 +184,7 @@ pub fn image(s: &[u64], f: usize, e: usize) -> usize
         let order = arena::compare(s, e, end, i + 1);
         if order == 1 {
             if is_function(s, i, left) {
-                return past(s, i + 1);
+                return arena::end_of(s, i + 1);
             }
             return 0;
         }
@@ -337,7 +326,7 @@ fn finish(s: &mut [u64], w: Walk, top: usize, left: bool, right: bool) -> usize
     if o.to > limit {
         return 0;
     }
-    s[top] = 21474836480 + o.count;
+    s[top] = arena::SET + o.count;
     o.to
 }
 

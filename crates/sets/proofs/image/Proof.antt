@@ -6,8 +6,9 @@ use lib.ListN.{length}
 use Rattle.rules.specs.Values.{Value, Values}
 use Rattle.arena.specs.Code.{ValueBelow, SetBelow, AllPairs}
 use Rattle.arena.proofs.FrontLaws.{set-inside, value-some}
+use Rattle.arena.proofs.ValueParts.{some-inside}
 use Rattle.sets.specs.Pairs.{PairFirst}
-use Rattle.sets.proofs.ImageLaws.{some-inside, first-some, Applying, applying-start, applied-at, applying-first, applying-pairs}
+use Rattle.sets.proofs.ImageLaws.{first-some, Applying, applying-start, applied-at, applying-first, applying-pairs}
 use Rattle.sets.proofs.ImageLaws.{applying-end, applying-past, applying-none, applying-found, applying-shared, applying-next}
 use Rattle.sets.proofs.image.Statement.{statement}
 use Rattle.sets.proofs.image.Tie as tie
@@ -78,12 +79,12 @@ compare-requires c κs =
 is-function-requires : tie.Need-is-function-requires Inv-loop μ-loop
 is-function-requires c κs = applying-pairs _ _ _ _ _ _ (applying (c .before .before .before))
 
-add-past : tie.Need-add-past Inv-loop μ-loop
-add-past c =
+add-end-of : tie.Need-add-end-of Inv-loop μ-loop
+add-end-of c =
     let m = equal (c .before) in omega (arith, some-inside _ _ (first-some _ _ _ (first (turn m) (some-left m))))
 
-past-requires : tie.Need-past-requires Inv-loop μ-loop
-past-requires c κs = let m = equal (c .before) in first-some _ _ _ (first (turn m) (some-left m))
+end-of-requires-2 : tie.Need-end-of-requires-2 Inv-loop μ-loop
+end-of-requires-2 c κs = let m = equal (c .before) in first-some _ _ _ (first (turn m) (some-left m))
 
 returns : tie.Need-returns Inv-loop μ-loop
 returns c = λ vs v h k p.
@@ -91,7 +92,7 @@ returns c = λ vs v h k p.
     let m = equal q in
     applied-at _ _ _ _ vs v h k p
     (applying-found _ _ vs _ _ v (turn m .loop .inv vs v h k p) _ _ k (m .compare .ensures) (some-left m)
-    (omega (arith, q .before .if1 .taken)) _ (q .is-function .ensures) (c .before .if2 .taken) _ (c .past .ensures))
+    (omega (arith, q .before .if1 .taken)) _ (q .is-function .ensures) (c .before .if2 .taken) _ (c .end-of2 .ensures))
 
 returns-2 : tie.Need-returns-2 Inv-loop μ-loop
 returns-2 c = λ vs v h k p.
@@ -149,8 +150,8 @@ image-spec =
     add-compare
     compare-requires
     is-function-requires
-    add-past
-    past-requires
+    add-end-of
+    end-of-requires-2
     returns
     returns-2
     returns-3
