@@ -5,12 +5,13 @@ ghost use Prim.Native.Nat.{ℕ, _+_, _*_, _-_, _<_, _≤_, _/_, _%_};
 ghost use lib.ListN.{length, getD, set};
 ghost use Rattle.arena.specs.Code.{SomeAt, EndsAt, Compared, Copied, partsOf};
 
-// A cell is its tag times CELL and its payload. The cell of a pair, and that of a set without its number of members; the cell of a
-// scalar is below both.
+// A cell is its tag times CELL, and its payload.
 pub const CELL: u64 = 4294967296;
 
+// The cell of a pair. That of a scalar is less.
 pub const PAIR: u64 = 4 * CELL;
 
+// The cell of the empty set; that of another has the number of its members as payload.
 pub const SET: u64 = 5 * CELL;
 
 // The tag of a cell, and its payload (numbers in excess form).
