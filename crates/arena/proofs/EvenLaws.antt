@@ -85,7 +85,7 @@ behind s top at n k vs f h (suc i) l = go (behind s top at n k vs f h i (omega a
 
 -- The order of two values, the second of one cell.
 module _ (s : List ℕ) (a b : ℕ) where
-  cell-order : (v w : Value) → ValueAt s a v → ValueAt s b w → CellsFit v → CellsFit w → weight w ≡ 1 →
+  pub cell-order : (v w : Value) → ValueAt s a v → ValueAt s b w → CellsFit v → CellsFit w → weight w ≡ 1 →
       order v w ≡ compare (getD s a 0) (getD s b 0)
   cell-order v w h k p q one = go (decLt (getD s a 0) (getD s b 0)) (decLt (getD s b 0) (getD s a 0))
     where

@@ -1,6 +1,7 @@
 -- Laws of sets in the arena.
 pub mod MergedLaws
 pub mod SearchLaws
+pub mod RowLaws
 pub mod TurnLaws
 pub mod PairLaws
 pub mod ImageLaws

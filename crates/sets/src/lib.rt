@@ -3,6 +3,7 @@ ghost use Prim.Native.Nat.{_+_, _-_, _≤_};
 ghost use lib.ListN.{length};
 ghost use Rattle.arena.specs.Code.{SomeSet, SomeValue};
 ghost use Rattle.sets.specs.Fronts.{Contains, Includes, TwoFronts, TurnAt, SomeFront, RunEnds, PutPre, Put};
+ghost use Rattle.sets.specs.Rows.{Row, LowerBound, HasCell, SetAt, OfCells};
 ghost use Rattle.sets.specs.Pairs.{PairFirst, NextPair, SomePairs, FunctionAt, SomeRelation, Applies};
 ghost use Rattle.sets.specs.Fronts.{TailPre, Tailed, StepPre, Stepped, GoesOn, RestOf, EndPre, Ended, Merges};
 
@@ -41,8 +42,51 @@ struct Rest {
     keep: bool,
 }
 
-// Whether the value at e is a member of the set at a.
-pub fn contains(s: &[u64], e: usize, a: usize) -> bool
+// The first of n cells from `at` on, every step-th one, that is not below x; n where all are. They do not fall.
+fn lower_bound(s: &[u64], at: usize, step: usize, n: usize, x: u64) -> usize
+    requires { ⌜ Row (now s) at step n ⌝ }
+    ensures { λ r. ⌜ LowerBound (now (s .entry)) at step n x r ⌝ }
+{
+    let mut from: usize = 0;
+    let mut left = n;
+    while left > 0 {
+        let half = left / 2;
+        let middle = from + half;
+        if s[at + step * middle] < x {
+            from = middle + 1;
+            left = left - half - 1;
+        } else {
+            left = half;
+        }
+    }
+    from
+}
+
+// Whether x is one of n rising cells from `at` on.
+fn has_cell(s: &[u64], at: usize, n: usize, x: u64) -> bool
+    requires { ⌜ Row (now s) at 1 n ⌝ }
+    ensures { λ r. ⌜ HasCell (now (s .entry)) at n x r ⌝ }
+{
+    let i = lower_bound(s, at, 1, n, x);
+    if i == n {
+        return false;
+    }
+    s[at + i] == x
+}
+
+// Whether each member of the set at a is one cell. The members share a type, so that the first one decides.
+fn of_cells(s: &[u64], a: usize) -> bool
+    requires { ⌜ SetAt (now s) a ⌝ }
+    ensures { λ r. ⌜ OfCells (now (s .entry)) a r ⌝ }
+{
+    if arena::low(s[a]) == 0 {
+        return true;
+    }
+    s[a + 1] < arena::PAIR
+}
+
+// Whether the value at e is a member of the set at a, member by member.
+fn walk_contains(s: &[u64], e: usize, a: usize) -> bool
     requires { ⌜ SomeValue (now s) (length (now s)) e × SomeSet (now s) (length (now s)) a ⌝ }
     ensures { λ r. ⌜ Contains (now (s .entry)) e a r ⌝ }
 {
@@ -62,6 +106,18 @@ pub fn contains(s: &[u64], e: usize, a: usize) -> bool
         left -= 1;
     }
     false
+}
+
+// Whether the value at e is a member of the set at a.
+pub fn contains(s: &[u64], e: usize, a: usize) -> bool
+    requires { ⌜ SomeValue (now s) (length (now s)) e × SomeSet (now s) (length (now s)) a ⌝ }
+    ensures { λ r. ⌜ Contains (now (s .entry)) e a r ⌝ }
+{
+    if of_cells(s, a) {
+        let n = arena::low(s[a]) as usize;
+        return has_cell(s, a + 1, n, s[e]);
+    }
+    walk_contains(s, e, a)
 }
 
 // The turn at two sets that both have members left: which of the first members comes first, and what is left then.
