@@ -3,6 +3,7 @@ pub mod MergedLaws
 pub mod SearchLaws
 pub mod RowLaws
 pub mod TurnLaws
+pub mod CellLaws
 pub mod PairLaws
 pub mod ImageLaws
 pub mod BuildLaws

@@ -4,7 +4,10 @@ use mathlib.Core.Bool.{Bool, true, false}
 use mathlib.Core.List.{List}
 use mathlib.Core.Path.{_≡_}
 use lib.ListN.{length, getD}
-use Rattle.arena.specs.Code.{EndsAt, SomeSet}
+use Rattle.rules.specs.Values.{Values, members}
+use Rattle.rules.specs.Operations.{allIn}
+use Rattle.arena.specs.Code.{EndsAt, SomeSet, Front}
+use Rattle.sets.specs.Fronts.{SomeFront}
 
 -- n cells from `at` on, every step-th one, that do not fall.
 pub record Row (s : List ℕ) (at step n : ℕ) : Type 0 where
@@ -33,3 +36,18 @@ OfCells s a r = r ≡ true → Cells s (a + 1) (getD s a 0 % 4294967296)
 
 abbrev pub SetAt : List ℕ → ℕ → Type 0
 SetAt s a = (top : ℕ) × SomeSet s top a
+
+abbrev pub BothOfCells : List ℕ → ℕ → ℕ → Bool → Type 0
+BothOfCells s a b r = r ≡ true → Cells s (a + 1) (getD s a 0 % 4294967296) × Cells s (b + 1) (getD s b 0 % 4294967296)
+
+-- m members from a on and n from b on, one cell each.
+pub record TwoRows (s : List ℕ) (a m b n : ℕ) : Type 0 where
+  pub onLeft : SomeFront s a m
+  pub onRight : SomeFront s b n
+  pub left : Cells s a m
+  pub right : Cells s b n
+
+-- r says whether the former are among the latter.
+abbrev pub RowIn : List ℕ → ℕ → ℕ → ℕ → ℕ → Bool → Type 0
+RowIn s a m b n r =
+    (vs ws : Values) → Front s (length s) a m vs → Front s (length s) b n ws → r ≡ allIn (members vs) (members ws)

@@ -3,9 +3,12 @@ ghost use Prim.Native.Nat.{_+_, _-_, _≤_};
 ghost use lib.ListN.{length};
 ghost use Rattle.arena.specs.Code.{SomeSet, SomeValue};
 ghost use Rattle.sets.specs.Fronts.{Contains, Includes, TwoFronts, TurnAt, SomeFront, RunEnds, PutPre, Put};
-ghost use Rattle.sets.specs.Rows.{Row, LowerBound, HasCell, SetAt, OfCells};
+ghost use Rattle.sets.specs.Rows.{Row, LowerBound, HasCell, SetAt, OfCells, BothOfCells, TwoRows, RowIn};
 ghost use Rattle.sets.specs.Pairs.{PairFirst, NextPair, SomePairs, FunctionAt, SomeRelation, Applies};
 ghost use Rattle.sets.specs.Fronts.{TailPre, Tailed, StepPre, Stepped, GoesOn, RestOf, EndPre, Ended, Merges};
+
+// A set with fewer than one member for FEW of another is small beside it: a search for each member is quicker than a walk over both.
+const FEW: usize = 8;
 
 // A turn of a walk over two sets: the first of their members stands between `from` and `end` and is kept or not; what is
 // left are m members from a on and n from b on.
@@ -83,6 +86,16 @@ fn of_cells(s: &[u64], a: usize) -> bool
         return true;
     }
     s[a + 1] < arena::PAIR
+}
+
+fn both_of_cells(s: &[u64], a: usize, b: usize) -> bool
+    requires { ⌜ SetAt (now s) a × SetAt (now s) b ⌝ }
+    ensures { λ r. ⌜ BothOfCells (now (s .entry)) a b r ⌝ }
+{
+    if of_cells(s, a) {
+        return of_cells(s, b);
+    }
+    false
 }
 
 // Whether the value at e is a member of the set at a, member by member.
@@ -170,8 +183,63 @@ fn turn_at(
     }
 }
 
-// Whether each member of the set at a is one of the set at b.
-pub fn included(s: &[u64], a: usize, b: usize) -> bool
+// Whether each of m cells from a on is one of n from b on, by a search for each.
+fn search_cells(s: &[u64], a: usize, m: usize, b: usize, n: usize) -> bool
+    requires { ⌜ TwoRows (now s) a m b n ⌝ }
+    ensures { λ r. ⌜ RowIn (now (s .entry)) a m b n r ⌝ }
+{
+    let mut i = a;
+    let mut left = m;
+    while left > 0 {
+        if !has_cell(s, b, n, s[i]) {
+            return false;
+        }
+        i += 1;
+        left -= 1;
+    }
+    true
+}
+
+// The same by a walk over both. A step takes no branch on whether two cells are equal.
+fn walk_cells(s: &[u64], a: usize, m: usize, b: usize, n: usize) -> bool
+    requires { ⌜ TwoRows (now s) a m b n ⌝ }
+    ensures { λ r. ⌜ RowIn (now (s .entry)) a m b n r ⌝ }
+{
+    let mut i = a;
+    let mut left = m;
+    let mut j = b;
+    let mut others = n;
+    while left > 0 {
+        if others < left {
+            return false;
+        }
+        let x = s[i];
+        let y = s[j];
+        if x < y {
+            return false;
+        }
+        let equal = (x == y) as usize;
+        i += equal;
+        left -= equal;
+        j += 1;
+        others -= 1;
+    }
+    true
+}
+
+// Whether each of m cells from a on is one of n from b on.
+fn cells_included(s: &[u64], a: usize, m: usize, b: usize, n: usize) -> bool
+    requires { ⌜ TwoRows (now s) a m b n ⌝ }
+    ensures { λ r. ⌜ RowIn (now (s .entry)) a m b n r ⌝ }
+{
+    if m < n / FEW {
+        return search_cells(s, a, m, b, n);
+    }
+    walk_cells(s, a, m, b, n)
+}
+
+// Whether each member of the set at a is one of the set at b, member by member.
+fn walk_included(s: &[u64], a: usize, b: usize) -> bool
     requires { ⌜ SomeSet (now s) (length (now s)) a × SomeSet (now s) (length (now s)) b ⌝ }
     ensures { λ r. ⌜ Includes (now (s .entry)) a b r ⌝ }
 {
@@ -193,6 +261,22 @@ pub fn included(s: &[u64], a: usize, b: usize) -> bool
         n = t.n;
     }
     true
+}
+
+// Whether each member of the set at a is one of the set at b.
+pub fn included(s: &[u64], a: usize, b: usize) -> bool
+    requires { ⌜ SomeSet (now s) (length (now s)) a × SomeSet (now s) (length (now s)) b ⌝ }
+    ensures { λ r. ⌜ Includes (now (s .entry)) a b r ⌝ }
+{
+    let m = arena::low(s[a]);
+    let n = arena::low(s[b]);
+    if m > n {
+        return false;
+    }
+    if both_of_cells(s, a, b) {
+        return cells_included(s, a + 1, m as usize, b + 1, n as usize);
+    }
+    walk_included(s, a, b)
 }
 
 // Where the pair at i, the first of n, ends and the next one begins; 0 where the two share a first part.
