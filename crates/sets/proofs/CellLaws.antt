@@ -16,8 +16,8 @@ use Rattle.arena.specs.Code.{EndsAt, Rises, AllFit, SetBelow, Front}
 use Rattle.arena.proofs.CodeLaws.{fits-small}
 use Rattle.arena.proofs.FrontLaws.{rises-rising, front-start, front-value, front-next}
 use Rattle.arena.proofs.EvenLaws.{cell-less, cell-equal, cell-greater}
-use Rattle.sets.specs.Fronts.{TurnAt}
-use Rattle.sets.specs.Rows.{HasCell, Cells, TwoRows}
+use Rattle.sets.specs.Fronts.{Cells}
+use Rattle.sets.specs.Rows.{HasCell, TwoRows}
 use Rattle.sets.proofs.TurnLaws.{allIn-less, allIn-equal, allIn-greater, turn-less, turn-equal, turn-greater}
 use Rattle.sets.proofs.TurnLaws.{Including, including-turn}
 use Rattle.sets.proofs.RowLaws.{cells-first, cells-next, cells-weigh, cell-in}
@@ -117,16 +117,18 @@ pub record RowWalk (s : List ℕ) (a m b n i left j others : ℕ) : Type 0 where
 -- Two sets of them.
 pub two-rows : (s : List ℕ) (top a b m n : ℕ) (vs ws : Values) → SetBelow s top a vs → SetBelow s top b ws →
     m ≡ getD s a 0 % 4294967296 → n ≡ getD s b 0 % 4294967296 →
-    Cells s (a + 1) (getD s a 0 % 4294967296) × Cells s (b + 1) (getD s b 0 % 4294967296) → TwoRows s (a + 1) m (b + 1) n
+    Cells s (a + 1) (getD s a 0 % 4294967296) × Cells s (b + 1) (getD s b 0 % 4294967296) → TwoRows s (a + 1) m (b + 1) n top
 two-rows s top a b m n vs ws h k d e c = record {
-  onLeft = (top, vs, front-start s top a vs h m d);
-  onRight = (top, ws, front-start s top b ws k n e);
+  first = vs;
+  second = ws;
+  onLeft = front-start s top a vs h m d;
+  onRight = front-start s top b ws k n e;
   left = subst (Cells s (a + 1)) (sym d) (c .0);
   right = subst (Cells s (b + 1)) (sym e) (c .1);
 }
 
-pub row-start : (s : List ℕ) (a m b n : ℕ) → TwoRows s a m b n → RowWalk s a m b n a m b n
-row-start s a m b n h = record {
+pub row-start : (s : List ℕ) (a m b n top : ℕ) → TwoRows s a m b n top → RowWalk s a m b n a m b n
+row-start s a m b n top h = record {
   cells = h .left;
   otherCells = h .right;
   on = λ vs ws f g. record { left = vs; right = ws; onLeft = f; onRight = g; same = refl };

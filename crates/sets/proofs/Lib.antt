@@ -7,4 +7,5 @@ pub mod CellLaws
 pub mod PairLaws
 pub mod ImageLaws
 pub mod BuildLaws
+pub mod CellMerge
 pub mod OperationLaws

@@ -13,12 +13,14 @@ use Rattle.rules.specs.Values.{Value, scalar, pair, set, Values, none, _▸_, m
 use Rattle.rules.specs.Operations.{isIn}
 use Rattle.laws.proofs.OrderLaws.{compare-eq, compare-refl, compare-lt, before-order}
 use Rattle.laws.proofs.CellsLaws.{count-weights}
-use Rattle.arena.specs.Code.{cellSize, ValueAt, CellsFit, EndsAt, AllWeigh, EvenSet, SetBelow, Front}
+use Rattle.arena.specs.Code.{cellSize, ValueAt, Same, CellsFit, EndsAt, partsOf, AllWeigh, EvenSet, SetBelow, Front}
 use Rattle.arena.proofs.CodeLaws.{length-codes}
-use Rattle.arena.proofs.ValueParts.{ends-at, first-cell}
+use Rattle.arena.proofs.Standing.{leaf-ends, leaf-parts}
+use Rattle.arena.proofs.ValueParts.{first-cell}
 use Rattle.arena.proofs.FrontLaws.{set-inside, front-start, front-value, front-next}
 use Rattle.arena.proofs.EvenLaws.{weights-even, Behind, behind, cell-order}
-use Rattle.sets.specs.Rows.{Row, LowerBound, HasCell, Cells}
+use Rattle.sets.specs.Fronts.{Cells, RunEnds}
+use Rattle.sets.specs.Rows.{Row, LowerBound, HasCell}
 use Rattle.sets.proofs.MergedLaws.{isIn-less, isIn-equal, isIn-greater}
 
 -- `lower_bound`: of the cells passed, those before `from` are below x and those from `from + left` on are not.
@@ -99,24 +101,28 @@ cells-of s top at n vs f h = record {
   each = λ i l. each i l (behind s top at n 1 vs f h i (omega arith));
 }
   where
-    first : (i : ℕ) (ws : Values) → i < n → Front s top (at + 1 * i) (n - i) ws → AllWeigh 1 ws → EndsAt s (at + 1 * i) (at + 1 * i + 1)
+    first : (i : ℕ) (ws : Values) → i < n → Front s top (at + 1 * i) (n - i) ws → AllWeigh 1 ws → partsOf (getD s (at + 1 * i) 0) ≡ 0
     first i none l g e = absurd (omega (arith, g .counted))
-    first i (w ▸ ws) l g e =
-        subst (λ (k : ℕ). EndsAt s (at + 1 * i) (at + 1 * i + k)) (e .0)
-        (ends-at s (at + 1 * i) w (front-value s top (at + 1 * i) (n - i) w ws g) (g .fits .0))
+    first i (w ▸ ws) l g e = leaf-parts s (at + 1 * i) w (front-value s top (at + 1 * i) (n - i) w ws g) (g .fits .0) (e .0)
 
-    each : (i : ℕ) → i < n → Behind s top at n 1 i → EndsAt s (at + i) (at + i + 1)
+    each : (i : ℕ) → i < n → Behind s top at n 1 i → partsOf (getD s (at + i) 0) ≡ 0
     each i l b =
-        subst (λ (j : ℕ). EndsAt s j (j + 1)) (let e : at + 1 * i ≡ at + i = omega arith in e) (first i (b .rest) l (b .front) (b .even))
+        subst (λ (j : ℕ). partsOf (getD s j 0) ≡ 0) (let e : at + 1 * i ≡ at + i = omega arith in e) (first i (b .rest) l (b .front) (b .even))
 
 pub cells-next : (s : List ℕ) (at n m : ℕ) → Cells s at n → suc m ≡ n → Cells s (at + 1) m
 cells-next s at n m c e = record {
   inside = omega (arith, c .inside);
-  each = λ i l. subst (λ (j : ℕ). EndsAt s j (j + 1)) (let d : at + suc i ≡ at + 1 + i = omega arith in d) (c .each (suc i) (omega arith));
+  each = λ i l. subst (λ (j : ℕ). partsOf (getD s j 0) ≡ 0) (let d : at + suc i ≡ at + 1 + i = omega arith in d) (c .each (suc i) (omega arith));
 }
 
 pub cells-first : (s : List ℕ) (at n : ℕ) → Cells s at n → 0 < n → EndsAt s at (at + 1)
-cells-first s at n c l = subst (λ (j : ℕ). EndsAt s j (j + 1)) (let d : at + 0 ≡ at = omega arith in d) (c .each 0 l)
+cells-first s at n c l = leaf-ends s at (subst (λ (j : ℕ). partsOf (getD s j 0) ≡ 0) (let d : at + 0 ≡ at = omega arith in d) (c .each 0 l))
+
+pub cells-frame : (k : ℕ) (s s′ : List ℕ) (at n : ℕ) → Same k s s′ → at + n ≤ k → Cells s at n → Cells s′ at n
+cells-frame k s s′ at n f l c = record {
+  inside = omega (arith, c .inside, f .kept);
+  each = λ i p. ap partsOf (f .same (at + i) (omega arith)) ∙ c .each i p;
+}
 
 pub cells-weigh : (s : List ℕ) (top at n : ℕ) (vs : Values) → Front s top at n vs → Cells s at n → AllWeigh 1 vs
 cells-weigh s top at n none f c = tt
@@ -126,6 +132,9 @@ cells-weigh s top at n (v ▸ vs) f c =
       cells-weigh s top (at + 1) (n - 1) vs (front-next s top at n v vs f (at + 1) (n - 1) (omega arith) (omega (arith, f .counted)))
           (cells-next s at n (n - 1) c (omega (arith, f .counted))),
     )
+
+pub cells-end : (s : List ℕ) (at n : ℕ) → Cells s at n → RunEnds s at n (at + n)
+cells-end s at n c top vs f = omega (arith, weights-even 1 vs (cells-weigh s top at n vs f c), f .counted)
 
 -- The first member's cell tells that all members are one cell each.
 module _ (s : List ℕ) (top a : ℕ) (vs : Values) (h : SetBelow s top a vs) where

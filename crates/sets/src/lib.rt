@@ -1,11 +1,13 @@
 // Sets in the arena, whose members rise: membership, inclusion, union, intersection, difference, application.
-ghost use Prim.Native.Nat.{_+_, _-_, _≤_};
+ghost use Prim.Native.Nat.{_+_, _-_, _≤_, compare};
+ghost use mathlib.Core.Path.{_≡_};
+ghost use mir.Val.{boolByte};
 ghost use lib.ListN.{length};
 ghost use Rattle.arena.specs.Code.{SomeSet, SomeValue};
 ghost use Rattle.sets.specs.Fronts.{Contains, Includes, TwoFronts, TurnAt, SomeFront, RunEnds, PutPre, Put};
-ghost use Rattle.sets.specs.Rows.{Row, LowerBound, HasCell, SetAt, OfCells, BothOfCells, TwoRows, RowIn};
+ghost use Rattle.sets.specs.Rows.{Row, LowerBound, HasCell, SetAt, OfCells, BothOfCells, TwoRows, RowIn, lesserOf, CellTurned, RowsBelow, RowsMerge};
 ghost use Rattle.sets.specs.Pairs.{PairFirst, NextPair, SomePairs, FunctionAt, SomeRelation, Applies};
-ghost use Rattle.sets.specs.Fronts.{TailPre, Tailed, StepPre, Stepped, GoesOn, RestOf, EndPre, Ended, Merges};
+ghost use Rattle.sets.specs.Fronts.{RestThere, TailPre, Tailed, StepPre, Stepped, GoesOn, RestOf, EndPre, Ended, Merges, keepOf};
 
 // A set with fewer than one member for FEW of another is small beside it: a search for each member is quicker than a walk over both.
 const FEW: usize = 8;
@@ -43,6 +45,14 @@ struct Rest {
     at: usize,
     n: u64,
     keep: bool,
+}
+
+// A turn of a walk over two sets of cells: the lesser of the first cells, and by how many cells what is built and both sets move on.
+struct CellTurn {
+    cell: u64,
+    keep: usize,
+    left: usize,
+    right: usize,
 }
 
 // The first of n cells from `at` on, every step-th one, that is not below x; n where all are. They do not fall.
@@ -185,7 +195,7 @@ fn turn_at(
 
 // Whether each of m cells from a on is one of n from b on, by a search for each.
 fn search_cells(s: &[u64], a: usize, m: usize, b: usize, n: usize) -> bool
-    requires { ⌜ TwoRows (now s) a m b n ⌝ }
+    requires { ⌜ TwoRows (now s) a m b n (length (now s)) ⌝ }
     ensures { λ r. ⌜ RowIn (now (s .entry)) a m b n r ⌝ }
 {
     let mut i = a;
@@ -202,7 +212,7 @@ fn search_cells(s: &[u64], a: usize, m: usize, b: usize, n: usize) -> bool
 
 // The same by a walk over both. A step takes no branch on whether two cells are equal.
 fn walk_cells(s: &[u64], a: usize, m: usize, b: usize, n: usize) -> bool
-    requires { ⌜ TwoRows (now s) a m b n ⌝ }
+    requires { ⌜ TwoRows (now s) a m b n (length (now s)) ⌝ }
     ensures { λ r. ⌜ RowIn (now (s .entry)) a m b n r ⌝ }
 {
     let mut i = a;
@@ -229,7 +239,7 @@ fn walk_cells(s: &[u64], a: usize, m: usize, b: usize, n: usize) -> bool
 
 // Whether each of m cells from a on is one of n from b on.
 fn cells_included(s: &[u64], a: usize, m: usize, b: usize, n: usize) -> bool
-    requires { ⌜ TwoRows (now s) a m b n ⌝ }
+    requires { ⌜ TwoRows (now s) a m b n (length (now s)) ⌝ }
     ensures { λ r. ⌜ RowIn (now (s .entry)) a m b n r ⌝ }
 {
     if m < n / FEW {
@@ -355,6 +365,17 @@ fn run_end(s: &[u64], at: usize, n: u64) -> usize
     i
 }
 
+// Where n members from `at` on end; members of one cell each need no walk.
+fn rest_end(s: &[u64], at: usize, n: u64, cells: bool) -> usize
+    requires { ⌜ RestThere (now s) at n cells ⌝ }
+    ensures { λ r. ⌜ RunEnds (now (s .entry)) at n r ⌝ }
+{
+    if cells {
+        return at + n as usize;
+    }
+    run_end(s, at, n)
+}
+
 // Puts the run from `from` to `end`, of k members, behind what has been built, if it is kept.
 fn put(s: &mut [u64], from: usize, end: usize, k: u64, keep: bool, o: Out) -> Out
     requires { ⌜ PutPre (now s) from end k o ⌝ }
@@ -372,13 +393,13 @@ fn put(s: &mut [u64], from: usize, end: usize, k: u64, keep: bool, o: Out) -> Ou
     o
 }
 
-// Puts the rest of a set, n members from `at` on, behind what has been built, if it is kept.
-fn tail(s: &mut [u64], at: usize, n: u64, keep: bool, o: Out) -> Out
-    requires { ⌜ TailPre (now s) at n o ⌝ }
+// Puts the rest of a set, n members from `at` on, of one cell each or not, behind what has been built, if it is kept.
+fn tail(s: &mut [u64], at: usize, n: u64, keep: bool, cells: bool, o: Out) -> Out
+    requires { ⌜ TailPre (now s) at n cells o ⌝ }
     ensures { λ r. ⌜ Tailed keep (now (s .entry)) at n o (now (s .exit)) r ⌝ }
 {
     if keep {
-        let end = run_end(s, at, n);
+        let end = rest_end(s, at, n, cells);
         return put(s, at, end, n, true, o);
     }
     o
@@ -444,8 +465,8 @@ fn rest_of(w: Walk, left: bool, right: bool) -> Rest
 }
 
 // The end of a merge: the rest of the set that is not exhausted, and the cell of the set that has been built.
-fn finish(s: &mut [u64], w: Walk, top: usize, left: bool, right: bool) -> usize
-    requires { ⌜ EndPre left right (now s) w top ⌝ }
+fn finish(s: &mut [u64], w: Walk, top: usize, left: bool, right: bool, cells: bool) -> usize
+    requires { ⌜ EndPre left right (now s) w top cells ⌝ }
     ensures { λ r. ⌜ Ended left right (now (s .entry)) w top (now (s .exit)) r ⌝ }
 {
     let limit = top + 256;
@@ -458,6 +479,7 @@ fn finish(s: &mut [u64], w: Walk, top: usize, left: bool, right: bool) -> usize
         q.at,
         q.n,
         q.keep,
+        cells,
         Out {
             to: w.to,
             count: w.count,
@@ -470,9 +492,81 @@ fn finish(s: &mut [u64], w: Walk, top: usize, left: bool, right: bool) -> usize
     o.to
 }
 
+fn lesser(x: u64, y: u64) -> u64
+    ensures { λ r. ⌜ r ≡ lesserOf (compare x y) x y ⌝ }
+{
+    if y < x {
+        return y;
+    }
+    x
+}
+
+// 1 if the lesser of the first cells x and y is kept, 0 if not.
+fn kept(x: u64, y: u64, left: bool, both: bool, right: bool) -> usize
+    ensures { λ r. ⌜ r ≡ boolByte (keepOf left both right (compare x y)) ⌝ }
+{
+    if x < y {
+        return left as usize;
+    }
+    if y < x {
+        return right as usize;
+    }
+    both as usize
+}
+
+// The turn at two sets of cells whose first ones are x and y, with no branch on their order.
+fn cell_turn(x: u64, y: u64, left: bool, both: bool, right: bool) -> CellTurn
+    ensures { λ r. ⌜ CellTurned left both right (compare x y) x y r ⌝ }
+{
+    CellTurn {
+        cell: lesser(x, y),
+        keep: kept(x, y, left, both, right),
+        left: (x <= y) as usize,
+        right: (y <= x) as usize,
+    }
+}
+
+// Builds at top the set as `merge` does, of m cells from a on and n from b on. The cell of a turn is stored whether it is kept or not.
+fn merge_cells(
+    s: &mut [u64],
+    a: usize,
+    m: usize,
+    b: usize,
+    n: usize,
+    top: usize,
+    left: bool,
+    both: bool,
+    right: bool,
+) -> usize
+    requires { ⌜ RowsBelow (now s) a m b n top ⌝ }
+    ensures { λ r. ⌜ RowsMerge left both right (now (s .entry)) a m b n top (now (s .exit)) r ⌝ }
+{
+    let end = a + m;
+    let end2 = b + n;
+    let mut i = a;
+    let mut j = b;
+    let mut to = top + 1;
+    while i < end && j < end2 {
+        let t = cell_turn(s[i], s[j], left, both, right);
+        s[to] = t.cell;
+        to += t.keep;
+        i += t.left;
+        j += t.right;
+    }
+    let w = Walk {
+        a: i,
+        m: (end - i) as u64,
+        b: j,
+        n: (end2 - j) as u64,
+        to: to,
+        count: (to - top - 1) as u64,
+    };
+    finish(s, w, top, left, right, true)
+}
+
 // Builds at top the set of the members that are only in the set at a (if left), in both (if both), only in the set at b (if right);
-// answers where it ends, or 0 where it weighs over 256.
-pub fn merge(
+// answers where it ends, or 0 where it weighs over 256. Member by member.
+fn walk_merge(
     s: &mut [u64],
     a: usize,
     b: usize,
@@ -498,5 +592,26 @@ pub fn merge(
     while goes_on(w, limit) {
         w = step(s, w, left, both, right);
     }
-    finish(s, w, top, left, right)
+    finish(s, w, top, left, right, false)
+}
+
+// The same; by cells where the members of both sets are one cell each.
+pub fn merge(
+    s: &mut [u64],
+    a: usize,
+    b: usize,
+    top: usize,
+    left: bool,
+    both: bool,
+    right: bool,
+) -> usize
+    requires { ⌜ SomeSet (now s) top a × SomeSet (now s) top b × (top + 514 ≤ length (now s)) ⌝ }
+    ensures { λ r. ⌜ Merges left both right (now (s .entry)) a b top (now (s .exit)) r ⌝ }
+{
+    if both_of_cells(s, a, b) {
+        let m = arena::low(s[a]) as usize;
+        let n = arena::low(s[b]) as usize;
+        return merge_cells(s, a + 1, m, b + 1, n, top, left, both, right);
+    }
+    walk_merge(s, a, b, top, left, both, right)
 }

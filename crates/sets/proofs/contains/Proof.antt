@@ -7,7 +7,7 @@ use Rattle.rules.specs.Values.{Values}
 use Rattle.arena.specs.Code.{SetBelow, Front}
 use Rattle.arena.proofs.ValueParts.{some-inside}
 use Rattle.arena.proofs.FrontLaws.{front-start, value-some}
-use Rattle.sets.specs.Rows.{Cells}
+use Rattle.sets.specs.Fronts.{Cells}
 use Rattle.sets.proofs.RowLaws.{cells-row, cell-in}
 use Rattle.sets.proofs.contains.Statement.{statement}
 use Rattle.sets.proofs.contains.Tie as tie

@@ -16,7 +16,7 @@ rest-of-requires : tie.Need-rest-of-requires
 rest-of-requires c κs = search needs
 
 tail-requires : tie.Need-tail-requires
-tail-requires c κs = end-tail _ _ _ _ _ _ (c .before .before .before .before .before .pre .over) (c .before .before .if1 .left) (c .before .rest-of .ensures) (c .before .before .before .before .before .pre)
+tail-requires c κs = end-tail _ _ _ _ _ _ (c .before .before .before .before .before .pre .over) (c .before .before .if1 .left) (c .before .rest-of .ensures) _ (c .before .before .before .before .before .pre)
 
 same-length : tie.Need-same-length
 same-length c = search needs
@@ -25,7 +25,7 @@ returns-2 : tie.Need-returns-2
 returns-2 c = end-over _ _ _ _ _ _ (c .before .before .before .before .before .before .before .before .before .before .pre .over) (c .before .before .before .before .before .before .before .if1 .left) (c .before .before .before .before .before .before .rest-of .ensures) _ _ (c .before .before .before .before .tail .ensures) (c .if2 .taken)
 
 add-s : tie.Need-add-s
-add-s c = omega (arith, end-count _ _ _ _ _ _ (c .before .before .before .before .before .before .before .before .before .before .before .pre .over) (c .before .before .before .before .before .before .before .before .if1 .left) (c .before .before .before .before .before .before .before .rest-of .ensures) _ _ (c .before .before .before .before .before .tail .ensures) (c .before .before .before .before .before .before .before .before .before .before .before .pre) (c .before .if2 .left))
+add-s c = omega (arith, end-count _ _ _ _ _ _ (c .before .before .before .before .before .before .before .before .before .before .before .pre .over) (c .before .before .before .before .before .before .before .before .if1 .left) (c .before .before .before .before .before .before .before .rest-of .ensures) _ _ (c .before .before .before .before .before .tail .ensures) _ (c .before .before .before .before .before .before .before .before .before .before .before .pre) (c .before .if2 .left))
 
 mul-s : tie.Need-mul-s
 mul-s c = search needs
@@ -37,7 +37,7 @@ same-length-2 : tie.Need-same-length-2
 same-length-2 c = search needs
 
 returns-3 : tie.Need-returns-3
-returns-3 c = end-made _ _ _ _ _ _ (c .before .before .before .before .before .before .before .before .before .before .before .pre .over) (c .before .before .before .before .before .before .before .before .if1 .left) (c .before .before .before .before .before .before .before .rest-of .ensures) _ _ (c .before .before .before .before .before .tail .ensures) (c .before .before .before .before .before .before .before .before .before .before .before .pre) (c .before .if2 .left)
+returns-3 c = end-made _ _ _ _ _ _ (c .before .before .before .before .before .before .before .before .before .before .before .pre .over) (c .before .before .before .before .before .before .before .before .if1 .left) (c .before .before .before .before .before .before .before .rest-of .ensures) _ _ (c .before .before .before .before .before .tail .ensures) _ (c .before .before .before .before .before .before .before .before .before .before .before .pre) (c .before .if2 .left)
 
 pub finish-spec : {M : Type 1} → statement M
 finish-spec =

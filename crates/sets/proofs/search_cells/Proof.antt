@@ -21,7 +21,7 @@ abbrev turn : Sought → tie.In-loop Inv-loop μ-loop
 turn h = h .before .before
 
 loop-holds : tie.Need-loop-holds Inv-loop μ-loop
-loop-holds c = row-start _ _ _ _ _ (c .before .pre)
+loop-holds c = row-start _ _ _ _ _ _ (c .before .pre)
 
 mul-has-cell : tie.Need-mul-has-cell Inv-loop μ-loop
 mul-has-cell c = omega (arith, c .loop-test .taken, c .before .loop .inv .cells .inside)
@@ -30,7 +30,7 @@ shared-slice-read-has-cell : tie.Need-shared-slice-read-has-cell Inv-loop μ-loo
 shared-slice-read-has-cell c = let t = c .before in omega (arith, t .loop-test .taken, t .before .loop .inv .cells .inside)
 
 has-cell-requires : tie.Need-has-cell-requires Inv-loop μ-loop
-has-cell-requires c κs = let q = c .before .before .before .before .pre in cells-row _ _ _ _ _ (q .onRight .2) (q .right)
+has-cell-requires c κs = let q = c .before .before .before .before .pre in cells-row _ _ _ _ _ (q .onRight) (q .right)
 
 returns : tie.Need-returns Inv-loop μ-loop
 returns c = λ vs ws f g.

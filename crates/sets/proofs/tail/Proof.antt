@@ -5,20 +5,20 @@ use borrow.Author.Needs.{needs}
 use Rattle.sets.proofs.tail.Statement.{statement}
 use Rattle.sets.proofs.tail.Tie as tie
 
-run-end-requires : tie.Need-run-end-requires
-run-end-requires c κs = search needs
+rest-end-requires : tie.Need-rest-end-requires
+rest-end-requires c κs = search needs
 
 put-requires : tie.Need-put-requires
-put-requires c κs = tail-put _ _ _ _ _ (c .before .before .before .before .before .pre) (c .before .run-end .ensures)
+put-requires c κs = tail-put _ _ _ _ _ _ (c .before .before .before .before .before .pre) (c .before .rest-end .ensures)
 
 same-length : tie.Need-same-length
 same-length c = search needs
 
 returns : tie.Need-returns
-returns c = tail-if _ _ _ _ _ _ _ _ (c .before .before .before .before .before .before .if1 .taken) (c .before .before .before .before .run-end .ensures) (c .before .before .put .ensures)
+returns c = tail-if _ _ _ _ _ _ _ _ (c .before .before .before .before .before .before .if1 .taken) (c .before .before .before .before .rest-end .ensures) (c .before .before .put .ensures)
 
 returns-2 : tie.Need-returns-2
 returns-2 c = tail-else _ _ _ _ _ (c .if1 .left)
 
 pub tail-spec : {M : Type 1} → statement M
-tail-spec = tie.close (tie.spec run-end-requires put-requires same-length returns returns-2)
+tail-spec = tie.close (tie.spec rest-end-requires put-requires same-length returns returns-2)

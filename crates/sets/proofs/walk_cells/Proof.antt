@@ -35,7 +35,7 @@ abbrev two : tie.Else2 Inv-loop μ-loop → Two
 two c = c .before .before .before
 
 loop-holds : tie.Need-loop-holds Inv-loop μ-loop
-loop-holds c = row-start _ _ _ _ _ (c .pre)
+loop-holds c = row-start _ _ _ _ _ _ (c .pre)
 
 returns : tie.Need-returns Inv-loop μ-loop
 returns c = λ vs ws f g. including-fewer _ _ _ _ _ _ (c .before .before .loop .inv .on vs ws f g) (c .if1 .taken)
