@@ -1,5 +1,5 @@
 -- Members of one weight. Values of one type, one of them flat, weigh the same; in a row of values that each weigh k, value i stands
--- k · i cells behind the first; a value of one cell compares with another by its cell.
+-- k · i cells behind the first (`value-at`); a value of one cell compares with another by its cell.
 use Prim.Native.Nat.{ℕ, zero, suc, _+_, _*_, _-_, _≤_, _<_, compare}
 use mathlib.Core.List.{List}
 use mathlib.Core.Path.{_≡_, refl, sym, ap, _∙_, subst}
@@ -54,34 +54,47 @@ typed-even (v ▸ vs) h = go (typed-right (set (v ▸ vs)) .0 h)
     go : (t : Ty) × HasType (set (v ▸ vs)) t → EvenSet (v ▸ vs)
     go x = of (x .0) (x .1)
 
--- The values behind the first i of a row.
-pub record Behind (s : List ℕ) (top at n k i : ℕ) : Type 0 where
-  pub rest : Values
-  pub front : Front s top (at + k * i) (n - i) rest
-  pub even : AllWeigh k rest
-
 pub weights-even : (k : ℕ) (vs : Values) → AllWeigh k vs → weights vs ≡ k * count vs
 weights-even k none h = omega arith
 weights-even k (v ▸ vs) h = omega (arith, weights-even k vs (h .1))
 
-pub behind : (s : List ℕ) (top at n k : ℕ) (vs : Values) → Front s top at n vs → AllWeigh k vs → (i : ℕ) → i ≤ n → Behind s top at n k i
-behind s top at n k vs f h zero l = record {
-  rest = vs;
-  front = rw (let e : at + k * 0 ≡ at = omega arith in e, let e : n - 0 ≡ n = omega arith in e) f;
-  even = h;
-}
-behind s top at n k vs f h (suc i) l = go (behind s top at n k vs f h i (omega arith))
-  where
-    next : (ws : Values) → Front s top (at + k * i) (n - i) ws → AllWeigh k ws → Behind s top at n k (suc i)
-    next none g e = absurd (omega (arith, g .counted))
-    next (w ▸ ws) g e = record {
-      rest = ws;
-      front = front-next s top (at + k * i) (n - i) w ws g (at + k * suc i) (n - suc i) (omega (arith, e .0)) (omega arith);
-      even = e .1;
-    }
+-- The values behind the first i of a row, in which Q holds of what is left.
+pub record Behind (s : List ℕ) (top at n k : ℕ) (Q : Values → Type 0) (i : ℕ) : Type 0 where
+  pub rest : Values
+  pub front : Front s top (at + k * i) (n - i) rest
+  pub row : Q rest
 
-    go : Behind s top at n k i → Behind s top at n k (suc i)
-    go b = next (b .rest) (b .front) (b .even)
+module _ (s : List ℕ) (top at n k : ℕ) (Q : Values → Type 0) (one : (v : Value) (vs : Values) → Q (v ▸ vs) → (weight v ≡ k) × Q vs) where
+  pub behind : (vs : Values) → Front s top at n vs → Q vs → (i : ℕ) → i ≤ n → Behind s top at n k Q i
+  behind vs f h zero l = record {
+    rest = vs;
+    front = rw (let e : at + k * 0 ≡ at = omega arith in e, let e : n - 0 ≡ n = omega arith in e) f;
+    row = h;
+  }
+  behind vs f h (suc i) l = go (behind vs f h i (omega arith))
+    where
+      next : (ws : Values) → Front s top (at + k * i) (n - i) ws → Q ws → Behind s top at n k Q (suc i)
+      next none g e = absurd (omega (arith, g .counted))
+      next (w ▸ ws) g e = record {
+        rest = ws;
+        front = front-next s top (at + k * i) (n - i) w ws g (at + k * suc i) (n - suc i) (omega (arith, one w ws e .0)) (omega arith);
+        row = one w ws e .1;
+      }
+
+      go : Behind s top at n k Q i → Behind s top at n k Q (suc i)
+      go b = next (b .rest) (b .front) (b .row)
+
+  -- Value i of a row, and what stands behind it.
+  pub value-at : (P : ℕ → Type 0) → ((j m : ℕ) (v : Value) (vs : Values) → Front s top j m (v ▸ vs) → Q (v ▸ vs) → P j) →
+      (vs : Values) → Front s top at n vs → Q vs → (i : ℕ) → i < n → P (at + k * i)
+  value-at P p vs f h i l = go (behind vs f h i (omega arith))
+    where
+      first : (ws : Values) → Front s top (at + k * i) (n - i) ws → Q ws → P (at + k * i)
+      first none g e = absurd (omega (arith, g .counted))
+      first (w ▸ ws) g e = p (at + k * i) (n - i) w ws g e
+
+      go : Behind s top at n k Q i → P (at + k * i)
+      go b = first (b .rest) (b .front) (b .row)
 
 -- The order of two values, the second of one cell.
 module _ (s : List ℕ) (a b : ℕ) where

@@ -9,7 +9,7 @@ use lib.ListN.{length, getD}
 use Rattle.rules.specs.Types.{whole}
 use Rattle.rules.specs.Values.{Scalar, num, truth, element, Value, scalar, pair, set, scalarTag, tag, count, weight}
 use Rattle.laws.proofs.CellsLaws.{weight-some}
-use Rattle.arena.specs.Code.{cellSize, scalarLow, code, ValueAt, ScalarFits, CellsFit, SomeAt, EndsAt}
+use Rattle.arena.specs.Code.{cellSize, scalarLow, code, ValueAt, ScalarFits, CellsFit, SomeAt, EndsAt, IsScalar, Flat}
 use Rattle.arena.proofs.CodeLaws.{length-code, bit-small, all-agree}
 use Rattle.arena.proofs.Standing.{stands-head, stands-tail, stands-front, stands-back}
 
@@ -52,10 +52,18 @@ first-cell s at (set vs) h f =
     (omega (arith, f .0), omega (arith, f .0))
 
 -- A cell below that of a pair is a scalar's, a whole value.
+pub scalar-cell : (s : List ℕ) (at : ℕ) (v : Value) → ValueAt s at v → CellsFit v → getD s at 0 < 4 * cellSize → IsScalar v
+scalar-cell s at (scalar x) h f l = tt
+scalar-cell s at (pair a b) h f l = absurd (omega (arith, first-cell s at (pair a b) h f .0))
+scalar-cell s at (set vs) h f l = absurd (omega (arith, first-cell s at (set vs) h f .0))
+
+pub scalar-one : (v : Value) → IsScalar v → (weight v ≡ 1) × Flat v
+scalar-one (scalar x) h = (refl, tt)
+scalar-one (pair a b) h = absurd h
+scalar-one (set vs) h = absurd h
+
 pub one-cell : (s : List ℕ) (at : ℕ) → getD s at 0 < 4 * cellSize → EndsAt s at (at + 1)
-one-cell s at l (scalar x) h f = refl
-one-cell s at l (pair a b) h f = absurd (omega (arith, first-cell s at (pair a b) h f .0))
-one-cell s at l (set vs) h f = absurd (omega (arith, first-cell s at (set vs) h f .0))
+one-cell s at l v h f = omega (arith, scalar-one v (scalar-cell s at v h f l) .0)
 
 -- The parts of a pair stand behind its cell.
 module _ (s : List ℕ) (at : ℕ) (v w : Value) (h : ValueAt s at (pair v w)) where

@@ -6,6 +6,7 @@ pub mod TurnLaws
 pub mod CellLaws
 pub mod PairLaws
 pub mod ImageLaws
+pub mod PairRows
 pub mod BuildLaws
 pub mod CellMerge
 pub mod OperationLaws

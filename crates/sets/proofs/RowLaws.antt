@@ -9,16 +9,16 @@ use native.Mathlib.Decide.{ℕ-discrete, decLt}
 use lib.Dec.{eqb}
 use lib.ListN.{length, getD}
 use borrow.Author.Tests.{eqb-true, eqb-false}
-use Rattle.rules.specs.Values.{Value, scalar, pair, set, Values, none, _▸_, members, weight, order}
+use Rattle.rules.specs.Values.{Value, Values, none, _▸_, members, weight, order}
 use Rattle.rules.specs.Operations.{isIn}
 use Rattle.laws.proofs.OrderLaws.{compare-eq, compare-refl, compare-lt, before-order}
 use Rattle.laws.proofs.CellsLaws.{count-weights}
 use Rattle.arena.specs.Code.{cellSize, ValueAt, Same, CellsFit, EndsAt, partsOf, AllWeigh, EvenSet, SetBelow, Front}
 use Rattle.arena.proofs.CodeLaws.{length-codes}
 use Rattle.arena.proofs.Standing.{leaf-ends, leaf-parts}
-use Rattle.arena.proofs.ValueParts.{first-cell}
+use Rattle.arena.proofs.ValueParts.{scalar-cell, scalar-one}
 use Rattle.arena.proofs.FrontLaws.{set-inside, front-start, front-value, front-next}
-use Rattle.arena.proofs.EvenLaws.{weights-even, Behind, behind, cell-order}
+use Rattle.arena.proofs.EvenLaws.{weights-even, Behind, behind, value-at, cell-order}
 use Rattle.sets.specs.Fronts.{Cells, RunEnds}
 use Rattle.sets.specs.Rows.{Row, LowerBound, HasCell}
 use Rattle.sets.proofs.MergedLaws.{isIn-less, isIn-equal, isIn-greater}
@@ -52,27 +52,36 @@ module _ (s : List ℕ) (at step n x from left : ℕ) (h : Halving s at step n x
       above = λ i p q. omega (arith, row .rises m i (omega arith) q);
     }
 
--- `has_cell`: the first cell that is not below x is x, or none is.
+-- x is not in the row where all cells are below it, or where the first that is not is another.
+module _ (s : List ℕ) (at step n x r : ℕ) (h : LowerBound s at step n x r) where
+  pub bound-none : r ≡ n → (i : ℕ) → i < n → getD s (at + step * i) 0 ≡ x → ⊥
+  bound-none e i l q = omega (arith, h .below i (omega arith))
+
+  pub bound-other : Row s at step n → r < n → (getD s (at + step * r) 0 ≡ x → ⊥) → (i : ℕ) → i < n → getD s (at + step * i) 0 ≡ x → ⊥
+  bound-other row l d i k q = go (decLt i r)
+    where
+      go : Dec (i < r) → ⊥
+      go (yes p) = omega (arith, h .below i p)
+      go (no p) = d (omega (arith, h .above r (omega arith) l, row .rises r i (omega arith) k))
+
+-- `has_cell`.
 module _ (s : List ℕ) (at n x r : ℕ) (h : LowerBound s at 1 n x r) where
-  place : (i : ℕ) → getD s (at + i) 0 ≡ getD s (at + 1 * i) 0
-  place i = ap (λ (j : ℕ). getD s j 0) (let e : at + i ≡ at + 1 * i = omega arith in e)
+  place : (i : ℕ) → getD s (at + 1 * i) 0 ≡ getD s (at + i) 0
+  place i = ap (λ (j : ℕ). getD s j 0) (let e : at + 1 * i ≡ at + i = omega arith in e)
 
   pub cell-none : r ≡ n → HasCell s at n x false
-  cell-none e i l q = omega (arith, place i, h .below i (omega arith))
+  cell-none e i l q = bound-none s at 1 n x r h e i l (place i ∙ q)
 
   pub cell-here : Row s at 1 n → r < n → HasCell s at n x (eqb (getD s (at + r) 0) x)
   cell-here row l = go (eqb (getD s (at + r) 0) x) refl
     where
-      other : (getD s (at + r) 0 ≡ x → ⊥) → (i : ℕ) → Dec (i < r) → i < n → getD s (at + i) 0 ≡ x → ⊥
-      other d i (yes p) q e = omega (arith, place i, h .below i p)
-      other d i (no p) q e = d (omega (arith, place i, place r, h .above r (omega arith) l, row .rises r i (omega arith) q))
-
       go : (b : Bool) → eqb (getD s (at + r) 0) x ≡ b → HasCell s at n x b
       go true e = (r, l, eqb-true (getD s (at + r) 0) x e)
-      go false e = λ i q k. other (eqb-false (getD s (at + r) 0) x e) i (decLt i r) q k
+      go false e = λ i k q.
+          bound-other s at 1 n x r h row l (λ z. eqb-false (getD s (at + r) 0) x e (sym (place r) ∙ z)) i k (place i ∙ q)
 
 -- A row of numbers, each no less than the one before it.
-climb : (f : ℕ → ℕ) (n : ℕ) → ((i : ℕ) → suc i < n → f i ≤ f (suc i)) → (i j : ℕ) → i ≤ j → j < n → f i ≤ f j
+pub climb : (f : ℕ → ℕ) (n : ℕ) → ((i : ℕ) → suc i < n → f i ≤ f (suc i)) → (i j : ℕ) → i ≤ j → j < n → f i ≤ f j
 climb f n h i zero l k = let e : i ≡ 0 = omega arith in rw e (omega arith)
 climb f n h i (suc j) l k = go (ℕ-discrete i (suc j)) (λ p. climb f n h i j p (omega arith))
   where
@@ -80,34 +89,31 @@ climb f n h i (suc j) l k = go (ℕ-discrete i (suc j)) (λ p. climb f n h i j p
     go (yes e) rec = rw e (omega arith)
     go (no d) rec = omega (arith, rec (omega arith), h j k)
 
--- Two neighbours in a row of values that each weigh k.
-pub neighbours : (s : List ℕ) (top at n k : ℕ) (vs : Values) → Front s top at n vs → AllWeigh k vs → (P : ℕ → ℕ → Type 0) →
-    ((i m : ℕ) (v w : Value) (ws : Values) → Front s top i m (v ▸ w ▸ ws) → AllWeigh k (v ▸ w ▸ ws) → P i (i + k)) →
-    (i : ℕ) → suc i < n → P (at + k * i) (at + k * suc i)
-neighbours s top at n k vs f h P p i l = go (behind s top at n k vs f h i (omega arith))
+-- What holds of two neighbours in a row of values that each weigh k.
+pub neighbours : (s : List ℕ) (top at n k : ℕ) (Q : Values → Type 0) (one : (v : Value) (vs : Values) → Q (v ▸ vs) → (weight v ≡ k) × Q vs)
+    (P : ℕ → ℕ → Type 0) → ((i m : ℕ) (v w : Value) (ws : Values) → Front s top i m (v ▸ w ▸ ws) → Q (v ▸ w ▸ ws) → P i (i + k)) →
+    (vs : Values) → Front s top at n vs → Q vs → (i : ℕ) → suc i < n → P (at + k * i) (at + k * suc i)
+neighbours s top at n k Q one P p vs f h i l = go (behind s top at n k Q one vs f h i (omega arith))
   where
-    two : (ws : Values) → Front s top (at + k * i) (n - i) ws → AllWeigh k ws → P (at + k * i) (at + k * i + k)
+    two : (ws : Values) → Front s top (at + k * i) (n - i) ws → Q ws → P (at + k * i) (at + k * i + k)
     two none g e = absurd (omega (arith, g .counted))
     two (v ▸ none) g e = absurd (omega (arith, g .counted))
     two (v ▸ w ▸ ws) g e = p (at + k * i) (n - i) v w ws g e
 
-    go : Behind s top at n k i → P (at + k * i) (at + k * suc i)
-    go b = subst (P (at + k * i)) (let e : at + k * i + k ≡ at + k * suc i = omega arith in e) (two (b .rest) (b .front) (b .even))
+    go : Behind s top at n k Q i → P (at + k * i) (at + k * suc i)
+    go b = subst (P (at + k * i)) (let e : at + k * i + k ≡ at + k * suc i = omega arith in e) (two (b .rest) (b .front) (b .row))
+
+one-each : (v : Value) (vs : Values) → AllWeigh 1 (v ▸ vs) → (weight v ≡ 1) × AllWeigh 1 vs
+one-each v vs h = h
 
 -- Members of one cell each, told by their weight or by their places.
 pub cells-of : (s : List ℕ) (top at n : ℕ) (vs : Values) → Front s top at n vs → AllWeigh 1 vs → Cells s at n
 cells-of s top at n vs f h = record {
   inside = omega (arith, f .stands .inside, length-codes vs, weights-even 1 vs h, f .counted);
-  each = λ i l. each i l (behind s top at n 1 vs f h i (omega arith));
+  each = λ i l. subst (λ (j : ℕ). partsOf (getD s j 0) ≡ 0) (let e : at + 1 * i ≡ at + i = omega arith in e)
+      (value-at s top at n 1 (AllWeigh 1) one-each (λ j. partsOf (getD s j 0) ≡ 0)
+      (λ j m w ws g e. leaf-parts s j w (front-value s top j m w ws g) (g .fits .0) (e .0)) vs f h i l);
 }
-  where
-    first : (i : ℕ) (ws : Values) → i < n → Front s top (at + 1 * i) (n - i) ws → AllWeigh 1 ws → partsOf (getD s (at + 1 * i) 0) ≡ 0
-    first i none l g e = absurd (omega (arith, g .counted))
-    first i (w ▸ ws) l g e = leaf-parts s (at + 1 * i) w (front-value s top (at + 1 * i) (n - i) w ws g) (g .fits .0) (e .0)
-
-    each : (i : ℕ) → i < n → Behind s top at n 1 i → partsOf (getD s (at + i) 0) ≡ 0
-    each i l b =
-        subst (λ (j : ℕ). partsOf (getD s j 0) ≡ 0) (let e : at + 1 * i ≡ at + i = omega arith in e) (first i (b .rest) l (b .front) (b .even))
 
 pub cells-next : (s : List ℕ) (at n m : ℕ) → Cells s at n → suc m ≡ n → Cells s (at + 1) m
 cells-next s at n m c e = record {
@@ -146,11 +152,9 @@ module _ (s : List ℕ) (top a : ℕ) (vs : Values) (h : SetBelow s top a vs) wh
     where
       go : (ws : Values) → Front s top (a + 1) listed ws → EvenSet ws → Cells s (a + 1) listed
       go none f e = cells-of s top (a + 1) listed none f tt
-      go (scalar x ▸ ws) f e = cells-of s top (a + 1) listed (scalar x ▸ ws) f (refl, e tt)
-      go (pair b c ▸ ws) f e =
-          absurd (omega (arith, first-cell s (a + 1) (pair b c) (front-value s top (a + 1) listed (pair b c) ws f) (f .fits .0) .0))
-      go (set xs ▸ ws) f e =
-          absurd (omega (arith, first-cell s (a + 1) (set xs) (front-value s top (a + 1) listed (set xs) ws f) (f .fits .0) .0))
+      go (v ▸ ws) f e =
+          let q = scalar-one v (scalar-cell s (a + 1) v (front-value s top (a + 1) listed v ws f) (f .fits .0) l) in
+          cells-of s top (a + 1) listed (v ▸ ws) f (q .0, subst (λ (k : ℕ). AllWeigh k ws) (q .0) (e (q .1)))
 
   pub no-cells : listed ≡ 0 → Cells s (a + 1) listed
   no-cells e = record { inside = omega (arith, set-inside s top a vs h); each = λ i l. absurd (omega arith) }
@@ -165,7 +169,8 @@ module _ (s : List ℕ) (top a : ℕ) (vs : Values) (h : SetBelow s top a vs) wh
 pub cells-row : (s : List ℕ) (top at n : ℕ) (vs : Values) → Front s top at n vs → Cells s at n → Row s at 1 n
 cells-row s top at n vs f c = record {
   inside = λ i l. omega (arith, c .inside);
-  rises = climb (λ i. getD s (at + 1 * i) 0) n (neighbours s top at n 1 vs f (cells-weigh s top at n vs f c) (λ i j. getD s i 0 ≤ getD s j 0) rise);
+  rises = climb (λ i. getD s (at + 1 * i) 0) n
+      (neighbours s top at n 1 (AllWeigh 1) one-each (λ i j. getD s i 0 ≤ getD s j 0) rise vs f (cells-weigh s top at n vs f c));
 }
   where
     rise : (i m : ℕ) (v w : Value) (ws : Values) → Front s top i m (v ▸ w ▸ ws) → AllWeigh 1 (v ▸ w ▸ ws) → getD s i 0 ≤ getD s (i + 1) 0

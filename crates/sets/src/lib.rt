@@ -6,11 +6,14 @@ ghost use lib.ListN.{length};
 ghost use Rattle.arena.specs.Code.{SomeSet, SomeValue};
 ghost use Rattle.sets.specs.Fronts.{Contains, Includes, TwoFronts, TurnAt, SomeFront, RunEnds, PutPre, Put};
 ghost use Rattle.sets.specs.Rows.{Row, LowerBound, HasCell, SetAt, OfCells, BothOfCells, TwoRows, RowIn, lesserOf, CellTurned, RowsBelow, RowsMerge};
-ghost use Rattle.sets.specs.Pairs.{PairFirst, NextPair, SomePairs, FunctionAt, SomeRelation, Applies};
+ghost use Rattle.sets.specs.Pairs.{PairFirst, NextPair, SomePairs, FunctionAt, SomeRelation, Applies, PairCells, OfFlatPairs, FlatRelation};
 ghost use Rattle.sets.specs.Fronts.{RestThere, TailPre, Tailed, StepPre, Stepped, GoesOn, RestOf, EndPre, Ended, Merges, keepOf};
 
 // A set with fewer than one member for FEW of another is small beside it: a search for each member is quicker than a walk over both.
 const FEW: usize = 8;
+
+// The cells of a pair of two values of one cell each.
+const FLAT_PAIR: usize = 3;
 
 // A turn of a walk over two sets: the first of their members stands between `from` and `end` and is kept or not; what is
 // left are m members from a on and n from b on.
@@ -321,9 +324,62 @@ fn is_function(s: &[u64], at: usize, n: u64) -> bool
     true
 }
 
+// Whether each member of the relation at f is a pair of two values of one cell each. The pairs share a type, so that the first one
+// decides.
+fn of_flat_pairs(s: &[u64], f: usize) -> bool
+    requires { ⌜ SomeRelation (now s) (length (now s)) f ⌝ }
+    ensures { λ r. ⌜ OfFlatPairs (now (s .entry)) f r ⌝ }
+{
+    if arena::low(s[f]) == 0 {
+        return true;
+    }
+    if s[f + 2] < arena::PAIR {
+        return s[f + 3] < arena::PAIR;
+    }
+    false
+}
+
+// `is_function` for such pairs.
+fn flat_function(s: &[u64], at: usize, n: usize) -> bool
+    requires { ⌜ PairCells (now s) at n ⌝ }
+    ensures { λ r. ⌜ FunctionAt (now (s .entry)) at n r ⌝ }
+{
+    let mut i = at;
+    let mut left = n;
+    while left > 1 {
+        if s[i + 1] == s[i + FLAT_PAIR + 1] {
+            return false;
+        }
+        i += FLAT_PAIR;
+        left -= 1;
+    }
+    true
+}
+
+// `image` for n such pairs: e is looked for among the first parts; whether f is a function is asked where e is found.
+fn flat_image(s: &[u64], f: usize, n: usize, e: usize) -> usize
+    requires { ⌜ FlatRelation (now s) f n e ⌝ }
+    ensures { λ r. ⌜ Applies (now (s .entry)) f e r ⌝ }
+{
+    let x = s[e];
+    let at = f + 1;
+    let k = lower_bound(s, at + 1, FLAT_PAIR, n, x);
+    if k == n {
+        return 0;
+    }
+    let i = at + 1 + FLAT_PAIR * k;
+    if s[i] != x {
+        return 0;
+    }
+    if flat_function(s, at, n) {
+        return i + 1;
+    }
+    0
+}
+
 // Application in one pass over the pairs of f: where the second part stands that goes with the value at e; 0 where there is none,
 // or where two pairs of f share a first part.
-pub fn image(s: &[u64], f: usize, e: usize) -> usize
+fn walk_image(s: &[u64], f: usize, e: usize) -> usize
     requires { ⌜ SomeValue (now s) (length (now s)) e × SomeRelation (now s) (length (now s)) f ⌝ }
     ensures { λ r. ⌜ Applies (now (s .entry)) f e r ⌝ }
 {
@@ -349,6 +405,18 @@ pub fn image(s: &[u64], f: usize, e: usize) -> usize
         left -= 1;
     }
     0
+}
+
+// The same; by cells where the parts of the pairs are one cell each.
+pub fn image(s: &[u64], f: usize, e: usize) -> usize
+    requires { ⌜ SomeValue (now s) (length (now s)) e × SomeRelation (now s) (length (now s)) f ⌝ }
+    ensures { λ r. ⌜ Applies (now (s .entry)) f e r ⌝ }
+{
+    if of_flat_pairs(s, f) {
+        let n = arena::low(s[f]) as usize;
+        return flat_image(s, f, n, e);
+    }
+    walk_image(s, f, e)
 }
 
 // Where n members from `at` on end.
