@@ -7,10 +7,10 @@ use native.Mathlib.Omega.{arith}
 use native.Mathlib.Nat.{add-zero}
 use native.Mathlib.Decide.{decLt}
 use lib.Dec.{T}
-use lib.ListN.{length, getD}
+use lib.ListN.{getD}
 use Rattle.rules.specs.Types.{Ty, atom, POW, _⊗_}
 use Rattle.rules.specs.Values.{Value, scalar, pair, set, Values, none, _▸_, count, weight, weights, order}
-use Rattle.rules.specs.Fits.{HasType, HaveType, atomOf, typed}
+use Rattle.rules.specs.Fits.{HasType, HaveType, typed}
 use Rattle.laws.proofs.OrderLaws.{order-refl, compare-refl, lt-compare}
 use Rattle.laws.proofs.CellsLaws.{weight-some}
 use Rattle.laws.proofs.FitsLaws.{typed-right}

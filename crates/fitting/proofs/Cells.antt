@@ -6,14 +6,14 @@ use mathlib.Core.Logic.{_≢_, inl, inr}
 use borrow.Author.Tests.{eq-eqb, ne-eqb}
 use mathlib.Core.Path.{_≡_, refl, sym, ap, _∙_, subst}
 use native.Mathlib.Omega.{arith}
-use native.Mathlib.Decide.{ℕ-discrete, decLt}
+use native.Mathlib.Decide.{ℕ-discrete}
 use lib.Dec.{T, eqb}
 use lib.ListN.{length, getD}
 use Rattle.rules.specs.Types.{whole}
 use Rattle.rules.specs.Values.{Scalar, num, truth, element, Value, scalar, pair, set, Values, none, _▸_, scalarTag, count, weight, weights}
 use Rattle.rules.specs.Fits.{every, typesOf, sharedTypes, inhabited, typed}
 use Rattle.arena.specs.Code.{cellSize, code, codes, Stands, ValueAt, ValuesAt, CellsFit, SomeAt, EndsAt}
-use Rattle.arena.proofs.CodeLaws.{length-code, all-agree}
+use Rattle.arena.proofs.CodeLaws.{length-code}
 use Rattle.arena.proofs.Standing.{stands-head, stands-tail, stands-front, stands-back}
 use Rattle.arena.proofs.ValueParts.{ends-at, first-cell, left-stands, right-stands}
 use Rattle.fitting.specs.Agree.{meets, agree, TypedAt, RunAt, SomeTyped, SomeRun, Agreed, AgreedWith, AgreedAll, emptyCell, NoEmpty, StandFor, Members, Full, FullSet, FullAll, Few, sameKind, SetHere, Two, Parts, AgreedParts, Runs}

@@ -268,7 +268,7 @@ module _ (l r : Bool) (s : List ℕ) (w : Walk) (top : ℕ) (q : Rest) (over : (
   thin-rest : (cells : Bool) → (cells ≡ true → Cells s (w .a) (w .m) × Cells s (w .b) (w .n)) → cells ≡ true → Cells s (q .at) (q .n)
   thin-rest cells c e = go rest
     where
-      go : ((0 < w .m) × (q .at ≡ w .a) × (q .n ≡ w .m) × (q .keep ≡ l)) ⊎ ((w .m ≡ 0) × (q .at ≡ w .b) × (q .n ≡ w .n) × (q .keep ≡ r)) → Cells s (q .at) (q .n)
+      go : RestOf w l r q → Cells s (q .at) (q .n)
       go (inl x) = rw (x .1, x .2) (c e .0)
       go (inr x) = rw (x .1, x .2) (c e .1)
 

@@ -9,7 +9,7 @@ use lib.Dec.{eqb}
 use lib.ListN.{length, getD}
 use borrow.Author.Tests.{eqb-true, eqb-false}
 use mir.Val.{boolByte}
-use Rattle.rules.specs.Values.{Value, Values, none, _▸_, members, count, order}
+use Rattle.rules.specs.Values.{Values, none, _▸_, members, count, order}
 use Rattle.rules.specs.Operations.{allIn}
 use Rattle.laws.proofs.OrderLaws.{order-eq}
 use Rattle.arena.specs.Code.{EndsAt, Rises, AllFit, SetBelow, Front}
@@ -105,8 +105,8 @@ module _ (s : List ℕ) (a m b n : ℕ) (whole : Bool) (h : Including s a m b n 
         go false e =
             rw (let z : a + 0 ≡ a = omega arith in z, let z : m - 0 ≡ m = omega arith in z)
             (including-turn s a m b n whole h l some _
-            (turn-greater s a m b n false true true (a + 1) 2 ends (cell-greater s a b ends2 (omega (arith, eqb-false (getD s a 0) (getD s b 0) e))) (b + 1) ends2
-            (λ z. omega arith) (λ z. omega arith)) .0 refl .0)
+            (turn-greater s a m b n false true true (a + 1) 2 ends (cell-greater s a b ends2 (omega (arith, eqb-false (getD s a 0) (getD s b 0) e)))
+            (b + 1) ends2 (λ z. omega arith) (λ z. omega arith)) .0 refl .0)
 
 -- A walk over m cells from a on and n from b on: those that are left decide.
 pub record RowWalk (s : List ℕ) (a m b n i left j others : ℕ) : Type 0 where
@@ -135,7 +135,7 @@ row-start s a m b n top h = record {
 }
 
 -- The cells that are left after a step.
-pub cells-step : (s : List ℕ) (at n : ℕ) (b : Bool) → Cells s at n → 0 < n → Cells s (at + boolByte b) (n - boolByte b)
+cells-step : (s : List ℕ) (at n : ℕ) (b : Bool) → Cells s at n → 0 < n → Cells s (at + boolByte b) (n - boolByte b)
 cells-step s at n true c l = cells-next s at n (n - 1) c (omega arith)
 cells-step s at n false c l = rw (let z : at + 0 ≡ at = omega arith in z, let z : n - 0 ≡ n = omega arith in z) c
 

@@ -12,11 +12,11 @@ use lib.ListN.{length, getD, set as setAt, length-set}
 use lib.Seq.{getD-set-same, getD-set-other}
 use borrow.Author.Tests.{le-leb, lt-leb}
 use mir.Val.{boolByte}
-use Rattle.rules.specs.Values.{Value, Values, members}
+use Rattle.rules.specs.Values.{Values, members}
 use Rattle.rules.specs.Operations.{setOf}
 use Rattle.laws.proofs.OrderLaws.{compare-refl, lt-compare}
 use Rattle.laws.proofs.CellsLaws.{count-weights}
-use Rattle.arena.specs.Code.{Same, EndsAt, Copied, Made, Front}
+use Rattle.arena.specs.Code.{Same, EndsAt, Made, Front}
 use Rattle.arena.proofs.CodeLaws.{gt-compare}
 use Rattle.arena.proofs.Standing.{same-refl, same-trans}
 use Rattle.arena.proofs.EvenLaws.{cell-less, cell-equal, cell-greater}
@@ -25,7 +25,7 @@ use Rattle.sets.specs.declared.Out.{Out}
 use Rattle.sets.specs.declared.Walk.{Walk}
 use Rattle.sets.specs.declared.CellTurn.{CellTurn}
 use Rattle.sets.specs.Merged.{merged}
-use Rattle.sets.specs.Fronts.{keepOf, TurnAt, Cells, Put, Merging, EndPre, Ended}
+use Rattle.sets.specs.Fronts.{TurnAt, Cells, Put, Merging, EndPre, Ended}
 use Rattle.sets.specs.Rows.{lesserOf, moveLeft, moveRight, CellTurned, RowsBelow}
 use Rattle.sets.proofs.TurnLaws.{turn-less, turn-equal, turn-greater}
 use Rattle.sets.proofs.BuildLaws.{put-kept, put-none, after, step-on, built-none}
@@ -159,13 +159,16 @@ module _ (l e r : Bool) (s₀ : List ℕ) (a m b n top : ℕ) (p : RowsBelow s�
   here = record { a = i; m = h .left; b = j; n = h .others; to = to; count = h .count }
 
   -- a turn t that takes the cell at `from`
-  module _ (t : Turn) (turn : TurnAt s i (h .left) j (h .others) l e r t) (from : ℕ) (here-from : t .from ≡ from) (one : t .end ≡ from + 1) (low : from < top) where
+  module _ (t : Turn) (turn : TurnAt s i (h .left) j (h .others) l e r t) (from : ℕ) (starts : t .from ≡ from) (stops : t .end ≡ from + 1)
+      (low : from < top) where
     abbrev stored : List ℕ
     stored = setAt s to (getD s from 0)
 
-    put : Put (t .keep) s (t .from) (t .end) 1 (record { to = to; count = h .count }) stored
-        (record { to = to + boolByte (t .keep); count = h .count + boolByte (t .keep) })
-    put = rw (here-from, one)
+    abbrev out : Out
+    out = record { to = to + boolByte (t .keep); count = h .count + boolByte (t .keep) }
+
+    put : Put (t .keep) s (t .from) (t .end) 1 (record { to = to; count = h .count }) stored out
+    put = rw (starts, stops)
         (cell-put (t .keep) s from to (h .count) (omega (arith, h .countIs)) (merge-inside .2) (omega (arith, merge-inside .3, h .countIs)))
 
     stored-frame : Same top s stored
@@ -176,10 +179,9 @@ module _ (l e r : Bool) (s₀ : List ℕ) (a m b n top : ℕ) (p : RowsBelow s�
     stay at k q c = cells-frame top s stored at k stored-frame q c
 
     turned : (vs ws : Values) → Front s₀ top a m vs → Front s₀ top b n ws →
-        Merging l e r stored top (after t (record { to = to + boolByte (t .keep); count = h .count + boolByte (t .keep) })) (merged l e r (members vs) (members ws))
+        Merging l e r stored top (after t out) (merged l e r (members vs) (members ws))
     turned vs ws f g =
-        step-on l e r s stored here t (record { to = to + boolByte (t .keep); count = h .count + boolByte (t .keep) }) turn put top
-        (merged l e r (members vs) (members ws)) (h .on vs ws f g) some-left some-others
+        step-on l e r s stored here t out turn put top (merged l e r (members vs) (members ws)) (h .on vs ws f g) some-left some-others
 
     next : t .a + t .m ≡ a + m → t .b + t .n ≡ b + n → t .m + t .n < h .left + h .others → Cells s (t .a) (t .m) → Cells s (t .b) (t .n) →
         RowMerge l e r s₀ a m b n top stored (t .a) (t .b) (to + boolByte (t .keep))
@@ -233,7 +235,8 @@ module _ (l e r : Bool) (s₀ : List ℕ) (a m b n top : ℕ) (p : RowsBelow s�
       (λ d c. (omega (arith, c .left), omega (arith, c .right), omega (arith, c .right), omega (arith, c .keep, byte-small r)))
 
 -- The end of the merge.
-module _ (l e r : Bool) (s₀ : List ℕ) (a m b n top : ℕ) (p : RowsBelow s₀ a m b n top) (s : List ℕ) (i j to : ℕ) (h : RowMerge l e r s₀ a m b n top s i j to) where
+module _ (l e r : Bool) (s₀ : List ℕ) (a m b n top : ℕ) (p : RowsBelow s₀ a m b n top) (s : List ℕ) (i j to : ℕ)
+    (h : RowMerge l e r s₀ a m b n top s i j to) where
   pub merge-near : (i ≤ a + m) × (j ≤ b + n) × (top + 1 ≤ to)
   merge-near = (omega (arith, h .leftIs), omega (arith, h .othersIs), omega (arith, h .countIs))
 

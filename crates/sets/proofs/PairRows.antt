@@ -1,23 +1,23 @@
 -- Relations whose pairs are of two values of one cell each: three cells a pair. Their first parts make a row (`pair-row`); where e is
 -- not in the row, or two neighbours share a first part, application gives nothing; otherwise it gives the part behind e's.
 use Prim.Native.Nat.{ℕ, zero, suc, _+_, _*_, _-_, _%_, _≤_, _<_, compare, Ordering, Ordering·lt, Ordering·eq, Ordering·gt}
-use mathlib.Core.Bool.{Bool, true, false, cond, _&&_}
-use mathlib.Core.List.{List, [], _∷_}
+use mathlib.Core.Bool.{Bool, true, false, _&&_}
+use mathlib.Core.List.{List}
 use mathlib.Core.Logic.{_⊎_, inl, inr}
 use mathlib.Core.Path.{_≡_, refl, sym, ap, _∙_, subst}
 use native.Mathlib.Omega.{arith}
 use native.Mathlib.Decide.{ℕ-discrete}
 use lib.ListN.{length, getD}
-use Rattle.rules.specs.Values.{Value, scalar, pair, set, Values, none, _▸_, members, count, weight, order}
+use Rattle.rules.specs.Values.{Value, scalar, pair, set, Values, none, _▸_, members, weight, order}
 use Rattle.rules.specs.Runs.{Given, gives, lacks}
 use Rattle.rules.specs.Operations.{applied}
-use Rattle.laws.proofs.OrderLaws.{then-lt, order-pair, before-order, compare-lt, compare-eq, lt-compare, compare-refl}
+use Rattle.laws.proofs.OrderLaws.{then-lt, order-pair, before-order, compare-lt, compare-eq, compare-refl}
 use Rattle.laws.proofs.CellsLaws.{weight-some}
 use Rattle.arena.specs.Code.{cellSize, ValueAt, CellsFit, orderCode, EndsAt, partsOf, AllWeigh, EvenSet, SetBelow, ValueBelow, Front, IsPair, AllPairs}
 use Rattle.arena.proofs.CodeLaws.{length-codes, gt-compare}
 use Rattle.arena.proofs.Standing.{leaf-ends, leaf-parts}
 use Rattle.arena.proofs.ValueParts.{scalar-cell, scalar-one, left-stands, right-stands}
-use Rattle.arena.proofs.FrontLaws.{set-inside, front-start, front-value, front-next, code-equal}
+use Rattle.arena.proofs.FrontLaws.{front-start, front-value, front-next, code-equal}
 use Rattle.arena.proofs.EvenLaws.{weights-even, value-at, cell-order, cell-compared, cell-equal}
 use Rattle.sets.specs.Rows.{Row, LowerBound}
 use Rattle.sets.specs.Pairs.{newFirst, newFirsts, atPair, walked, NextPair, FunctionAt, ImageAt, PairCells}
@@ -50,7 +50,7 @@ module _ (s : List ℕ) (top j m : ℕ) (v : Value) (vs : Values) (g : Front s t
                 (subst (λ (i : ℕ). ValueAt s i b) (let z : j + 1 + weight a ≡ j + 2 = omega (arith, w .0) in z) (right-stands s j a b k)) (f .1) (w .1),
           )
 
-pub pair-cells-of : (s : List ℕ) (top at n : ℕ) (vs : Values) → Front s top at n vs → FlatPairs vs → PairCells s at n
+pair-cells-of : (s : List ℕ) (top at n : ℕ) (vs : Values) → Front s top at n vs → FlatPairs vs → PairCells s at n
 pair-cells-of s top at n vs f h = record {
   inside = omega (arith, f .stands .inside, length-codes vs, weights-even 3 vs (h .0), f .counted);
   firsts = λ i l. subst (λ (j : ℕ). partsOf (getD s j 0) ≡ 0) (let e : at + 3 * i + 1 ≡ at + 1 + 3 * i = omega arith in e)
@@ -118,8 +118,8 @@ flat-pairs-of s top at n (pair a b ▸ vs) f p c =
 pub pair-row : (s : List ℕ) (top at n : ℕ) (vs : Values) → Front s top at n vs → AllPairs vs → PairCells s at n → Row s (at + 1) 3 n
 pair-row s top at n vs f p c = record {
   inside = λ i l. omega (arith, c .inside);
-  rises = climb (λ i. getD s (at + 1 + 3 * i) 0) n (λ i l. rising i (neighbours s top at n 3 FlatPairs three-each (λ i j. getD s (i + 1) 0 ≤ getD s (j + 1) 0) rise
-      vs f (flat-pairs-of s top at n vs f p c) i l));
+  rises = climb (λ i. getD s (at + 1 + 3 * i) 0) n (λ i l. rising i
+      (neighbours s top at n 3 FlatPairs three-each (λ i j. getD s (i + 1) 0 ≤ getD s (j + 1) 0) rise vs f (flat-pairs-of s top at n vs f p c) i l));
 }
   where
     rising : (i : ℕ) → getD s (at + 3 * i + 1) 0 ≤ getD s (at + 3 * suc i + 1) 0 → getD s (at + 1 + 3 * i) 0 ≤ getD s (at + 1 + 3 * suc i) 0
@@ -170,13 +170,6 @@ module _ (s : List ℕ) (top f : ℕ) (vs : Values) (h : SetBelow s top f vs) (p
           (omega (arith, ap (λ (i : ℕ). getD s i 0) (let z : f + 1 + 1 + weight a ≡ f + 3 = omega (arith, scalar-one a x .0) in z))) in
           let w : weight (pair a b) ≡ 3 = omega (arith, scalar-one a x .0, scalar-one b y .0) in
           pair-cells-of s top (f + 1) listed (pair a b ▸ ws) g ((w, subst (λ (n : ℕ). AllWeigh n ws) w (e (x, y))), q)
-
-  pub no-pairs : listed ≡ 0 → PairCells s (f + 1) listed
-  no-pairs e = record {
-    inside = omega (arith, set-inside s top f vs h);
-    firsts = λ i l. absurd (omega arith);
-    seconds = λ i l. absurd (omega arith);
-  }
 
   pub pair-inside : (listed ≡ 0 → ⊥) → f + 3 < length s
   pair-inside e = go vs fronted p
@@ -282,7 +275,8 @@ module _ (s : List ℕ) (e : ℕ) (v : Value) (here-v : ValueAt s e v) (fits : C
       greater : order v a ≡ Ordering·gt
       greater =
           first-order s top at n a b vs f c e v here-v fits
-          ∙ gt-compare (getD s e 0) (getD s (at + 1) 0) (omega (arith, d 0 (omega arith), ap (λ (j : ℕ). getD s j 0) (let y : at + 1 + 3 * 0 ≡ at + 1 = omega arith in y)))
+          ∙ gt-compare (getD s e 0) (getD s (at + 1) 0)
+          (omega (arith, d 0 (omega arith), ap (λ (j : ℕ). getD s j 0) (let y : at + 1 + 3 * 0 ≡ at + 1 = omega arith in y)))
 
       next : Found (at + 3 + 2 + 3 * k) (walked v (members vs)) → Found (at + 2 + 3 * suc k) (walked v (members (pair a b ▸ vs)))
       next r = record {

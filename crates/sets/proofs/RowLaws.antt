@@ -107,7 +107,7 @@ one-each : (v : Value) (vs : Values) → AllWeigh 1 (v ▸ vs) → (weight v ≡
 one-each v vs h = h
 
 -- Members of one cell each, told by their weight or by their places.
-pub cells-of : (s : List ℕ) (top at n : ℕ) (vs : Values) → Front s top at n vs → AllWeigh 1 vs → Cells s at n
+cells-of : (s : List ℕ) (top at n : ℕ) (vs : Values) → Front s top at n vs → AllWeigh 1 vs → Cells s at n
 cells-of s top at n vs f h = record {
   inside = omega (arith, f .stands .inside, length-codes vs, weights-even 1 vs h, f .counted);
   each = λ i l. subst (λ (j : ℕ). partsOf (getD s j 0) ≡ 0) (let e : at + 1 * i ≡ at + i = omega arith in e)
@@ -210,7 +210,8 @@ pub cell-in : (s : List ℕ) (e : ℕ) (v : Value) → ValueAt s e v → CellsFi
     (r : Bool) → HasCell s at n (getD s e 0) r → r ≡ isIn v (members vs)
 unfolding isIn
 cell-in s e v h p top at n none f c r d = has-none s at n (getD s e 0) r d (omega (arith, f .counted))
-cell-in s e v h p top at n (w ▸ ws) f c r d = go (ℕ-discrete (getD s at 0) (getD s e 0)) (cell-in s e v h p top (at + 1) (n - 1) ws g (cells-next s at n (n - 1) c some) r)
+cell-in s e v h p top at n (w ▸ ws) f c r d =
+    go (ℕ-discrete (getD s at 0) (getD s e 0)) (cell-in s e v h p top (at + 1) (n - 1) ws g (cells-next s at n (n - 1) c some) r)
   where
     some : suc (n - 1) ≡ n
     some = omega (arith, f .counted)

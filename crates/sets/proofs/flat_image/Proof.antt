@@ -6,7 +6,7 @@ use native.Mathlib.Omega.{arith}
 use Rattle.arena.proofs.ValueParts.{some-inside}
 use Rattle.arena.proofs.FrontLaws.{front-start, value-some}
 use Rattle.sets.specs.Rows.{Row}
-use Rattle.sets.specs.Pairs.{FlatRelation, FunctionAt}
+use Rattle.sets.specs.Pairs.{FunctionAt}
 use Rattle.sets.proofs.RowLaws.{bound-none, bound-other}
 use Rattle.sets.proofs.PairRows.{pair-row, image-none, image-shared, image-found}
 use Rattle.sets.proofs.flat_image.Statement.{statement}
@@ -16,9 +16,12 @@ use Rattle.sets.proofs.flat_image.Tie as tie
 row : (t : tie.Start) → Row (t .args .s .now) (t .args .f + 1 + 1) 3 (t .args .n)
 row t = let q = t .pre in pair-row _ _ _ _ _ (front-start _ _ _ _ (q .relation .1) _ (q .counted)) (q .relation .2) (q .cells)
 
+abbrev started : tie.After-lower-bound → tie.Start
+started b = b .before .before .before
+
 -- The search has found a cell that is not below e's.
 abbrev lent : tie.Else1 → tie.Start
-lent t = t .before .before .before .before
+lent t = started (t .before)
 
 few : (t : tie.Else1) → t .before .lower-bound .result < lent t .args .n
 few t = omega (arith, t .if1 .left, t .before .lower-bound .ensures .few)
@@ -43,7 +46,7 @@ lower-bound-requires c κs = row (c .before .before)
 
 returns : tie.Need-returns
 returns c = λ vs v h k p.
-    let q = c .before .before .before .before .pre in
+    let q = started (c .before) .pre in
     image-none _ _ _ _ vs v h k p (q .counted) (q .cells) (bound-none _ _ _ _ _ _ (c .before .lower-bound .ensures) (c .if1 .taken))
 
 add-i : tie.Need-add-i

@@ -1,7 +1,6 @@
 -- `kept`: by the order of both cells.
 use borrow.Author.Needs.{needs}
-use mathlib.Core.Path.{_≡_, sym, ap}
-use native.Mathlib.Omega.{arith}
+use mathlib.Core.Path.{sym, ap}
 use mir.Val.{boolByte}
 use Rattle.laws.proofs.OrderLaws.{lt-compare}
 use Rattle.arena.proofs.CodeLaws.{gt-compare}

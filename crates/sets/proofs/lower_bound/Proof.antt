@@ -61,7 +61,8 @@ loop-less c = omega (arith, c .before .before .loop-test .taken)
 loop-again : tie.Need-loop-again Inv-loop μ-loop
 loop-again c =
     let t = c .before .before in
-    halving-up _ _ _ _ _ _ _ (t .before .loop .inv) (lent t .pre) (middle t) (few t) _ (omega (arith, t .loop-test .taken)) (c .if1 .taken)
+    halving-up _ _ _ _ _ _ _ (t .before .loop .inv) (lent t .pre) (middle t) (few t) _ (omega (arith, t .loop-test .taken))
+    (omega (arith, c .if1 .taken))
 
 loop-less-2 : tie.Need-loop-less-2 Inv-loop μ-loop
 loop-less-2 c = omega (arith, c .before .before .loop-test .taken)
@@ -69,7 +70,7 @@ loop-less-2 c = omega (arith, c .before .before .loop-test .taken)
 loop-again-2 : tie.Need-loop-again-2 Inv-loop μ-loop
 loop-again-2 c =
     let t = c .before .before in
-    halving-down _ _ _ _ _ _ _ (t .before .loop .inv) (lent t .pre) (middle t) (few t) _ (omega arith) (c .if1 .left)
+    halving-down _ _ _ _ _ _ _ (t .before .loop .inv) (lent t .pre) (middle t) (few t) _ (omega arith) (omega (arith, c .if1 .left))
 
 returns : tie.Need-returns Inv-loop μ-loop
 returns c = halving-end _ _ _ _ _ _ _ (c .before .loop .inv) (c .loop-test .left)

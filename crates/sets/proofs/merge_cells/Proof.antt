@@ -53,6 +53,9 @@ moves c =
 abbrev Left : Type 0
 Left = tie.Left-loop Inv-loop μ-loop
 
+abbrev left : tie.After-finish Inv-loop μ-loop → Left
+left f = f .before .before
+
 exhausted : (c : Left) → let l = c .before in
     (lent l .args .a + lent l .args .m ≤ l .loop .i) ⊎ (lent l .args .b + lent l .args .n ≤ l .loop .j)
 exhausted c = elim (c .loop-test .came) [ inl x ↦ inr (ltb-false _ _ (x .1 .left)) | inr x ↦ inl (x .left) ]
@@ -135,8 +138,10 @@ same-length : tie.Need-same-length Inv-loop μ-loop
 same-length c = search needs
 
 returns : tie.Need-returns Inv-loop μ-loop
-returns c = let l = c .before .before .before .before .before in
-    merge-made _ _ _ _ _ _ _ _ _ (lent l .pre) _ _ _ _ (l .loop .inv) _ _ (c .before .before .finish .ensures)
+returns c =
+    let f = c .before .before in
+    let l = left f .before in
+    merge-made _ _ _ _ _ _ _ _ _ (lent l .pre) _ _ _ _ (l .loop .inv) _ _ (f .finish .ensures)
 
 pub merge-cells-spec : {M : Type 1} → statement M
 merge-cells-spec =

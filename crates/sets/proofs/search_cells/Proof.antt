@@ -20,6 +20,9 @@ Sought = tie.After-has-cell Inv-loop μ-loop
 abbrev turn : Sought → tie.In-loop Inv-loop μ-loop
 turn h = h .before .before
 
+abbrev lent : tie.At-loop Inv-loop μ-loop → tie.Start Inv-loop μ-loop
+lent l = l .before .before
+
 loop-holds : tie.Need-loop-holds Inv-loop μ-loop
 loop-holds c = row-start _ _ _ _ _ _ (c .before .pre)
 
@@ -30,7 +33,7 @@ shared-slice-read-has-cell : tie.Need-shared-slice-read-has-cell Inv-loop μ-loo
 shared-slice-read-has-cell c = let t = c .before in omega (arith, t .loop-test .taken, t .before .loop .inv .cells .inside)
 
 has-cell-requires : tie.Need-has-cell-requires Inv-loop μ-loop
-has-cell-requires c κs = let q = c .before .before .before .before .pre in cells-row _ _ _ _ _ (q .onRight) (q .right)
+has-cell-requires c κs = let q = lent (c .before .before) .pre in cells-row _ _ _ _ _ (q .onRight) (q .right)
 
 returns : tie.Need-returns Inv-loop μ-loop
 returns c = λ vs ws f g.

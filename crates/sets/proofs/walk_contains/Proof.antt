@@ -15,6 +15,28 @@ Inv-loop s e a end left₀ i₀ left i = (v : Value) (vs : Values) → ValueBelo
 abbrev μ-loop : tie.MeasureT-loop
 μ-loop s e a end left₀ i₀ left i = left
 
+-- A turn of the loop; the end of the value and the number of members are known before it. Then the order of the value and a member is.
+abbrev Turn : Type 0
+Turn = tie.At-loop Inv-loop μ-loop
+
+abbrev ended : Turn → tie.After-end-of Inv-loop μ-loop
+ended l = l .before .before .before
+
+abbrev lent : Turn → tie.Start Inv-loop μ-loop
+lent l = ended l .before .before
+
+searched : (l : Turn) → Searched (lent l .args .s .now) (l .loop .i) (l .loop .left) (lent l .pre .0 .0) (lent l .pre .1 .0)
+searched l = let q = lent l .pre in l .loop .inv _ _ (q .0 .1) (q .1 .1)
+
+abbrev Ordered : Type 0
+Ordered = tie.After-compare Inv-loop μ-loop
+
+abbrev turn : Ordered → Turn
+turn o = o .before .before
+
+abbrev greater : tie.After-end-of2 Inv-loop μ-loop → Ordered
+greater c = c .before .before .before
+
 end-of-requires : tie.Need-end-of-requires Inv-loop μ-loop
 end-of-requires c κs = value-some _ _ _ _ (c .before .pre .0 .1)
 
@@ -28,31 +50,41 @@ low-requires : tie.Need-low-requires Inv-loop μ-loop
 low-requires c κs = search needs
 
 add-i : tie.Need-add-i Inv-loop μ-loop
-add-i c = omega (arith, set-inside _ _ _ _ (c .before .before .before .before .pre .1 .1))
+add-i c = let e = c .before .before in omega (arith, set-inside _ _ _ _ (e .before .before .pre .1 .1))
 
 loop-holds : tie.Need-loop-holds Inv-loop μ-loop
 loop-holds c = λ v vs h k. searched-start _ _ _ v vs k (c .low .ensures .0)
 
 compare-requires : tie.Need-compare-requires Inv-loop μ-loop
-compare-requires c κs = (value-some _ _ _ _ (c .before .before .before .before .before .before .pre .0 .1), searched-at _ _ _ _ _ (c .before .loop .inv _ _ (c .before .before .before .before .before .before .pre .0 .1) (c .before .before .before .before .before .before .pre .1 .1)) (c .loop-test .taken), c .before .before .before .before .end-of .ensures)
+compare-requires c κs =
+    let l = c .before in
+    (value-some _ _ _ _ (lent l .pre .0 .1), searched-at _ _ _ _ _ (searched l) (c .loop-test .taken), ended l .end-of .ensures)
 
 returns : tie.Need-returns Inv-loop μ-loop
-returns c = λ v vs h k. searched-found _ _ _ v vs (c .before .before .before .loop .inv v vs h k) _ _ h (c .before .compare .ensures) (c .before .before .loop-test .taken) (c .if1 .taken)
+returns c = λ v vs h k.
+    let o = c .before in
+    searched-found _ _ _ v vs (turn o .loop .inv v vs h k) _ _ h (o .compare .ensures) (o .before .loop-test .taken) (c .if1 .taken)
 
 returns-2 : tie.Need-returns-2 Inv-loop μ-loop
-returns-2 c = λ v vs h k. searched-past _ _ _ v vs (c .before .before .before .before .loop .inv v vs h k) _ _ h (c .before .before .compare .ensures) (c .before .before .before .loop-test .taken) (c .if2 .taken)
+returns-2 c = λ v vs h k.
+    let o = c .before .before in
+    searched-past _ _ _ v vs (turn o .loop .inv v vs h k) _ _ h (o .compare .ensures) (o .before .loop-test .taken) (c .if2 .taken)
 
 end-of-requires-2 : tie.Need-end-of-requires-2 Inv-loop μ-loop
-end-of-requires-2 c κs = searched-at _ _ _ _ _ (c .before .before .before .before .loop .inv _ _ (c .before .before .before .before .before .before .before .before .before .pre .0 .1) (c .before .before .before .before .before .before .before .before .before .pre .1 .1)) (c .before .before .before .loop-test .taken)
+end-of-requires-2 c κs =
+    let o = c .before .before in searched-at _ _ _ _ _ (searched (turn o)) (o .before .loop-test .taken)
 
 sub-left : tie.Need-sub-left Inv-loop μ-loop
-sub-left c = omega (arith, c .before .before .before .before .loop-test .taken)
+sub-left c = omega (arith, greater c .before .loop-test .taken)
 
 loop-less : tie.Need-loop-less Inv-loop μ-loop
-loop-less c = omega (arith, c .before .before .before .before .loop-test .taken)
+loop-less c = omega (arith, greater c .before .loop-test .taken)
 
 loop-again : tie.Need-loop-again Inv-loop μ-loop
-loop-again c = λ v vs h k. searched-next _ _ _ v vs (c .before .before .before .before .before .loop .inv v vs h k) _ _ h (c .before .before .before .compare .ensures) (c .before .before .before .before .loop-test .taken) _ (c .before .before .if1 .left) (c .before .if2 .left) (c .end-of2 .ensures)
+loop-again c = λ v vs h k.
+    let o = greater c in
+    searched-next _ _ _ v vs (turn o .loop .inv v vs h k) _ _ h (o .compare .ensures) (o .before .loop-test .taken) _
+    (c .before .before .if1 .left) (c .before .if2 .left) (c .end-of2 .ensures)
 
 returns-3 : tie.Need-returns-3 Inv-loop μ-loop
 returns-3 c = λ v vs h k. searched-end _ _ _ v vs (c .before .loop .inv v vs h k) (c .loop-test .left)
