@@ -82,7 +82,7 @@ mutual
   keys-code (v ▸ vs) h = uncode-append (code v) (codes vs) ∙ rw (key-code v (h .0), keys-code vs (h .1))
 
 -- Comparing numbers.
-gt-compare : (m n : ℕ) → n < m → compare m n ≡ Ordering·gt
+pub gt-compare : (m n : ℕ) → n < m → compare m n ≡ Ordering·gt
 gt-compare m n h = compare-flip n m ∙ ap flip (lt-compare n m h)
 
 -- two pairs of numbers in the same relation compare alike

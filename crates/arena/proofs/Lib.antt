@@ -3,3 +3,4 @@ pub mod CodeLaws
 pub mod Standing
 pub mod ValueParts
 pub mod FrontLaws
+pub mod EvenLaws

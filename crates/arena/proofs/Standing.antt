@@ -93,6 +93,9 @@ parts-set c t l e n h k = rw (ne-eqb (c / 4294967296) 4 (λ f. n (e ∙ f)), eq-
 pub parts-scalar : (c t : ℕ) → t ≡ c / 4294967296 → (t ≡ 4 → ⊥) → (t ≡ 5 → ⊥) → 0 ≡ partsOf c
 parts-scalar c t e n m = rw (ne-eqb (c / 4294967296) 4 (λ f. n (e ∙ f)), ne-eqb (c / 4294967296) 5 (λ f. m (e ∙ f)))
 
+parts-of-set : (n : ℕ) → n < cellSize → partsOf (5 * cellSize + n) ≡ n
+parts-of-set n h = sym (parts-set (5 * cellSize + n) 5 n (omega arith) (λ e. omega arith) refl (omega arith))
+
 parts-cell : (t l : ℕ) → l < cellSize → (t < 4) → partsOf (t * cellSize + l) ≡ 0
 parts-cell t l h p = sym (parts-scalar (t * cellSize + l) t (omega arith) (λ e. omega arith) (λ e. omega arith))
 
@@ -100,6 +103,27 @@ parts-of-scalar : (s : Scalar) → ScalarFits s → partsOf (scalarTag s * cellS
 parts-of-scalar (num whole i) h = parts-cell 1 (excess i) (h .0) (omega arith)
 parts-of-scalar (truth b) h = parts-cell 2 (bit b) (bit-small b) (omega arith)
 parts-of-scalar (element g k) h = parts-cell 3 (256 * g + k) (h .1) (omega arith)
+
+-- A cell that no parts follow is a whole value.
+pub leaf-ends : (s : List ℕ) (at : ℕ) → partsOf (getD s at 0) ≡ 0 → EndsAt s at (at + 1)
+unfolding code
+leaf-ends s at e (scalar x) h f = refl
+leaf-ends s at e (pair v w) h f =
+    let c : getD s at 0 ≡ 4 * cellSize = stands-head s at _ _ h in
+    absurd (let z : _≡_ {A = ℕ} 2 0 = sym (ap partsOf c) ∙ e in omega arith)
+leaf-ends s at e (set none) h f = refl
+leaf-ends s at e (set (v ▸ vs)) h f =
+    let c : getD s at 0 ≡ 5 * cellSize + count (v ▸ vs) = stands-head s at _ _ h in
+    absurd (omega (arith, sym (parts-of-set (count (v ▸ vs)) (f .0)) ∙ sym (ap partsOf c) ∙ e))
+
+pub leaf-parts : (s : List ℕ) (at : ℕ) (v : Value) → ValueAt s at v → CellsFit v → weight v ≡ 1 → partsOf (getD s at 0) ≡ 0
+unfolding code
+leaf-parts s at (scalar x) h f e =
+    let c : getD s at 0 ≡ scalarTag x * cellSize + scalarLow x = stands-head s at _ _ h in ap partsOf c ∙ parts-of-scalar x f
+leaf-parts s at (pair v w) h f e = absurd (omega (arith, weight-some v))
+leaf-parts s at (set none) h f e =
+    let c : getD s at 0 ≡ 5 * cellSize + 0 = stands-head s at _ _ h in ap partsOf c ∙ parts-of-set 0 (f .0)
+leaf-parts s at (set (v ▸ vs)) h f e = absurd (omega (arith, weight-some v))
 
 pub pending-start : (s : List ℕ) (at : ℕ) (v : Value) → ValueAt s at v → CellsFit v → Pending s at 1 (at + weight v)
 unfolding code
@@ -137,7 +161,7 @@ module _ (s : List ℕ) (i e : ℕ) where
       }
   step-on (set ms) vs left c h f fs en =
       let hd = stands-head s i (5 * cellSize + count ms) (codes ms ++ codes vs) h in
-      let p : partsOf (5 * cellSize + count ms) ≡ count ms = sym (parts-set (5 * cellSize + count ms) 5 (count ms) (omega arith) (λ e. omega arith) refl (omega arith)) in
+      let p : partsOf (5 * cellSize + count ms) ≡ count ms = parts-of-set (count ms) (f .0) in
       record {
         values = ms before vs;
         counted = rw (hd, p) (omega (arith, count-before ms vs));

@@ -1,14 +1,31 @@
--- A value that stands in the arena: the tag and the payload of its first cell, and where the parts of a pair stand.
-use Prim.Native.Nat.{ℕ, _+_, _*_, _/_, _%_}
+-- A value that stands in the arena: that its place tells it, the tag and the payload of its first cell, and where the parts of a
+-- pair stand.
+use Prim.Native.Nat.{ℕ, _+_, _*_, _/_, _%_, _<_}
 use mathlib.Core.List.{List, _++_}
-use mathlib.Core.Path.{_≡_}
+use mathlib.Core.Path.{_≡_, refl, sym, _∙_}
 use native.Mathlib.Omega.{arith}
-use lib.ListN.{getD}
+use native.Mathlib.Decide.{decLt}
+use lib.ListN.{length, getD}
 use Rattle.rules.specs.Types.{whole}
 use Rattle.rules.specs.Values.{Scalar, num, truth, element, Value, scalar, pair, set, scalarTag, tag, count, weight}
-use Rattle.arena.specs.Code.{cellSize, scalarLow, code, ValueAt, ScalarFits, CellsFit}
-use Rattle.arena.proofs.CodeLaws.{length-code, bit-small}
+use Rattle.laws.proofs.CellsLaws.{weight-some}
+use Rattle.arena.specs.Code.{cellSize, scalarLow, code, ValueAt, ScalarFits, CellsFit, SomeAt, EndsAt, IsScalar, Flat}
+use Rattle.arena.proofs.CodeLaws.{length-code, bit-small, all-agree}
 use Rattle.arena.proofs.Standing.{stands-head, stands-tail, stands-front, stands-back}
+
+-- Two values that stand at one place are the same.
+pub value-eq : (s : List ℕ) (at : ℕ) (v w : Value) → ValueAt s at v → ValueAt s at w → CellsFit v → CellsFit w → v ≡ w
+value-eq s at v w h k p q = go (decLt (weight v) (weight w))
+  where
+    go : Dec (weight v < weight w) → v ≡ w
+    go (yes y) = sym (all-agree w v q p (omega arith) (λ j m. sym (k .cells j (omega (arith, length-code w))) ∙ h .cells j (omega (arith, length-code v))))
+    go (no n) = all-agree v w p q (omega arith) (λ j m. sym (h .cells j (omega (arith, length-code v))) ∙ k .cells j (omega (arith, length-code w)))
+
+pub ends-at : (s : List ℕ) (at : ℕ) (v : Value) → ValueAt s at v → CellsFit v → EndsAt s at (at + weight v)
+ends-at s at v h f w k q = let e : v ≡ w = value-eq s at v w h k f q in rw e
+
+pub some-inside : (s : List ℕ) (at : ℕ) → SomeAt s at → at < length s
+some-inside s at h = omega (arith, h .stands .inside, length-code (h .value), weight-some (h .value))
 
 -- The first cell of a value.
 scalar-tag : (x : Scalar) → ScalarFits x → ((scalarTag x * cellSize + scalarLow x) / cellSize ≡ scalarTag x) × ((scalarTag x * cellSize + scalarLow x) % cellSize ≡ scalarLow x)
@@ -33,6 +50,20 @@ first-cell s at (pair v w) h f =
 first-cell s at (set vs) h f =
     let e : getD s at 0 ≡ 5 * cellSize + count vs = stands-head s at _ _ h in
     (omega (arith, f .0), omega (arith, f .0))
+
+-- A cell below that of a pair is a scalar's, a whole value.
+pub scalar-cell : (s : List ℕ) (at : ℕ) (v : Value) → ValueAt s at v → CellsFit v → getD s at 0 < 4 * cellSize → IsScalar v
+scalar-cell s at (scalar x) h f l = tt
+scalar-cell s at (pair a b) h f l = absurd (omega (arith, first-cell s at (pair a b) h f .0))
+scalar-cell s at (set vs) h f l = absurd (omega (arith, first-cell s at (set vs) h f .0))
+
+pub scalar-one : (v : Value) → IsScalar v → (weight v ≡ 1) × Flat v
+scalar-one (scalar x) h = (refl, tt)
+scalar-one (pair a b) h = absurd h
+scalar-one (set vs) h = absurd h
+
+pub one-cell : (s : List ℕ) (at : ℕ) → getD s at 0 < 4 * cellSize → EndsAt s at (at + 1)
+one-cell s at l v h f = omega (arith, scalar-one v (scalar-cell s at v h f l) .0)
 
 -- The parts of a pair stand behind its cell.
 module _ (s : List ℕ) (at : ℕ) (v w : Value) (h : ValueAt s at (pair v w)) where

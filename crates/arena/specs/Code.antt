@@ -107,11 +107,33 @@ abbrev pub Rises : Values → Type 0
 Rises none = Unit {0}
 Rises (v ▸ vs) = T (precedes v vs) × Rises vs
 
--- A set that evaluation may have formed: its cells fit, it weighs at most 256, its members rise.
+-- A scalar, or a pair of two scalars.
+abbrev pub IsScalar : Value → Type 0
+IsScalar (scalar x) = Unit {0}
+IsScalar (pair v w) = ⊥
+IsScalar (set vs) = ⊥
+
+abbrev pub Flat : Value → Type 0
+Flat (scalar x) = Unit {0}
+Flat (pair v w) = IsScalar v × IsScalar w
+Flat (set vs) = ⊥
+
+-- Each of the values weighs n.
+abbrev pub AllWeigh : ℕ → Values → Type 0
+AllWeigh n none = Unit {0}
+AllWeigh n (v ▸ vs) = (weight v ≡ n) × AllWeigh n vs
+
+-- What the members' type tells of their weight: where the first is flat, all weigh the same.
+abbrev pub EvenSet : Values → Type 0
+EvenSet none = Unit {0}
+EvenSet (v ▸ vs) = Flat v → AllWeigh (weight v) vs
+
+-- A set that evaluation may have formed: its cells fit, it weighs at most 256, its members rise and share a type.
 pub record FineSet (vs : Values) : Type 0 where
   pub fits : CellsFit (set vs)
   pub light : weight (set vs) ≤ 256
   pub rises : Rises vs
+  pub even : EvenSet vs
 
 -- Such a set stands at `at`, below `top`.
 pub record SetBelow (s : List ℕ) (top at : ℕ) (vs : Values) : Type 0 where

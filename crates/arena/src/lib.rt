@@ -5,17 +5,26 @@ ghost use Prim.Native.Nat.{ℕ, _+_, _*_, _-_, _<_, _≤_, _/_, _%_};
 ghost use lib.ListN.{length, getD, set};
 ghost use Rattle.arena.specs.Code.{SomeAt, EndsAt, Compared, Copied, partsOf};
 
+// A cell is its tag times CELL, and its payload.
+pub const CELL: u64 = 4294967296;
+
+// The cell of a pair. That of a scalar is less.
+pub const PAIR: u64 = 4 * CELL;
+
+// The cell of the empty set; that of another has the number of its members as payload.
+pub const SET: u64 = 5 * CELL;
+
 // The tag of a cell, and its payload (numbers in excess form).
 pub fn tag(cell: u64) -> u64
     ensures { λ r. ⌜ r ≡ cell / 4294967296 ⌝ }
 {
-    cell / 4294967296
+    cell / CELL
 }
 
 pub fn low(cell: u64) -> u64
     ensures { λ r. ⌜ (r ≡ cell % 4294967296) × (r < 4294967296) ⌝ }
 {
-    cell % 4294967296
+    cell % CELL
 }
 
 // How many values follow a cell as its parts or members.
@@ -32,8 +41,8 @@ pub fn parts(cell: u64) -> usize
     0
 }
 
-// Where the value that begins at `at` ends.
-pub fn end_of(s: &[u64], at: usize) -> usize
+// Where the value that begins at `at` ends, cell by cell.
+fn walk_end(s: &[u64], at: usize) -> usize
     requires { ⌜ SomeAt (now s) at ⌝ }
     ensures { λ r. ⌜ EndsAt (now (s .entry)) at r ⌝ }
 {
@@ -45,6 +54,17 @@ pub fn end_of(s: &[u64], at: usize) -> usize
         i += 1;
     }
     i
+}
+
+// Where the value that begins at `at` ends.
+pub fn end_of(s: &[u64], at: usize) -> usize
+    requires { ⌜ SomeAt (now s) at ⌝ }
+    ensures { λ r. ⌜ EndsAt (now (s .entry)) at r ⌝ }
+{
+    if s[at] < PAIR {
+        return at + 1;
+    }
+    walk_end(s, at)
 }
 
 // The order of the values at a and b: 0 less, 1 equal, 2 greater. The first ends at `end`.

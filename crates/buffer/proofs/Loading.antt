@@ -19,7 +19,7 @@ use Rattle.laws.proofs.CellsLaws.{good-wellFormed, good-weight, good-typed}
 use Rattle.arena.specs.Code.{excess, code, EndsAt, Same, ValueBelow}
 use Rattle.arena.proofs.CodeLaws.{length-code}
 use Rattle.arena.proofs.Standing.{same-refl, stands-frame}
-use Rattle.fitting.proofs.Cells.{ends-at}
+use Rattle.arena.proofs.ValueParts.{ends-at}
 use Rattle.buffer.specs.Buffer.{scalarsGood, allGood, cellsAtMost, ReadAt, Unread}
 use Rattle.buffer.specs.Ordered.{inOrder, ordered, orderedAll, WholeValue, Ordered}
 use Rattle.buffer.specs.Shared.{TypedHere}

@@ -6,16 +6,16 @@ use mathlib.Core.Logic.{_≢_, inl, inr}
 use borrow.Author.Tests.{eq-eqb, ne-eqb}
 use mathlib.Core.Path.{_≡_, refl, sym, ap, _∙_, subst}
 use native.Mathlib.Omega.{arith}
-use native.Mathlib.Decide.{ℕ-discrete, decLt}
+use native.Mathlib.Decide.{ℕ-discrete}
 use lib.Dec.{T, eqb}
 use lib.ListN.{length, getD}
 use Rattle.rules.specs.Types.{whole}
 use Rattle.rules.specs.Values.{Scalar, num, truth, element, Value, scalar, pair, set, Values, none, _▸_, scalarTag, count, weight, weights}
 use Rattle.rules.specs.Fits.{every, typesOf, sharedTypes, inhabited, typed}
 use Rattle.arena.specs.Code.{cellSize, code, codes, Stands, ValueAt, ValuesAt, CellsFit, SomeAt, EndsAt}
-use Rattle.arena.proofs.CodeLaws.{length-code, all-agree}
+use Rattle.arena.proofs.CodeLaws.{length-code}
 use Rattle.arena.proofs.Standing.{stands-head, stands-tail, stands-front, stands-back}
-use Rattle.arena.proofs.ValueParts.{first-cell, left-stands, right-stands}
+use Rattle.arena.proofs.ValueParts.{ends-at, first-cell, left-stands, right-stands}
 use Rattle.fitting.specs.Agree.{meets, agree, TypedAt, RunAt, SomeTyped, SomeRun, Agreed, AgreedWith, AgreedAll, emptyCell, NoEmpty, StandFor, Members, Full, FullSet, FullAll, Few, sameKind, SetHere, Two, Parts, AgreedParts, Runs}
 use Rattle.fitting.proofs.Sharing.{is-true, full-first, meets-both, meets-sym, meets-same, with-every, meets-every, meets-first, tags-differ, scalars-agree, elements-agree, left-typed, right-typed}
 use Rattle.rules.proofs.Basics.{and-split}
@@ -34,14 +34,6 @@ no-empty-more s at i h n = record { none = λ j p q. go j p q (ℕ-discrete j i)
 
 pub no-empty-end : (s : List ℕ) (at i end : ℕ) → NoEmpty s at i → end ≤ i → NoEmpty s at end
 no-empty-end s at i end h l = record { none = λ j p q. h .none j p (omega arith) }
-
--- Two values that stand at one place are the same.
-pub value-eq : (s : List ℕ) (at : ℕ) (v w : Value) → ValueAt s at v → ValueAt s at w → CellsFit v → CellsFit w → v ≡ w
-value-eq s at v w h k p q = go (decLt (weight v) (weight w))
-  where
-    go : Dec (weight v < weight w) → v ≡ w
-    go (yes y) = sym (all-agree w v q p (omega arith) (λ j m. sym (k .cells j (omega (arith, length-code w))) ∙ h .cells j (omega (arith, length-code v))))
-    go (no n) = all-agree v w p q (omega arith) (λ j m. sym (h .cells j (omega (arith, length-code v))) ∙ k .cells j (omega (arith, length-code w)))
 
 -- The members of a set.
 pub members-stand : (s : List ℕ) (at : ℕ) (vs : Values) → ValueAt s at (set vs) → ValuesAt s (at + 1) vs
@@ -95,9 +87,6 @@ some-at x = record { value = x .0; stands = x .1 .stands; fits = x .1 .fits }
 
 pub inside : (s : List ℕ) (at : ℕ) → SomeTyped s at → at < length s
 inside s at x = omega (arith, x .1 .stands .inside, length-code (x .0), weight-some (x .0))
-
-pub ends-at : (s : List ℕ) (at : ℕ) (v : Value) → ValueAt s at v → CellsFit v → EndsAt s at (at + weight v)
-ends-at s at v h f w k q = let e : v ≡ w = value-eq s at v w h k f q in rw e
 
 pub end-is : {s : List ℕ} {at end : ℕ} {v : Value} → EndsAt s at end → TypedAt s at v → end ≡ at + weight v
 end-is {v = v} e h = e v (h .stands) (h .fits)

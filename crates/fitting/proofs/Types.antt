@@ -16,8 +16,8 @@ use Rattle.arena.specs.Code.{cellSize, scalarLow, Stands, ValueAt, ValuesAt, Sc
 use Rattle.arena.proofs.CodeLaws.{length-code}
 use Rattle.arena.proofs.Standing.{stands-head, stands-tail, stands-front, stands-back}
 use Rattle.fitting.specs.Types.{TypeAt, SomeType, TypeEnds, typeParts, Decides, atomIs, OfType, AllOfType, PartsOfType, ValueAndType, ValuesAndType, PartsAndTypes}
-use Rattle.arena.proofs.ValueParts.{first-cell, left-stands, right-stands}
-use Rattle.fitting.proofs.Cells.{ends-at, set-only, pair-only, members-stand, first-stands, rest-stand}
+use Rattle.arena.proofs.ValueParts.{ends-at, first-cell, left-stands, right-stands}
+use Rattle.fitting.proofs.Cells.{set-only, pair-only, members-stand, first-stands, rest-stand}
 use Rattle.laws.proofs.CellsLaws.{weight-some}
 
 -- The first code of a type.

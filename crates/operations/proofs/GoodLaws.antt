@@ -11,6 +11,7 @@ use Rattle.laws.proofs.OrderLaws.{and-left, and-right}
 use Rattle.laws.proofs.CellsLaws.{encodable-wellFormed, few-sizes, good-wellFormed, good-weight, good-typed, weight-some}
 use Rattle.arena.specs.Code.{CellsFit, SomeAt, Rises, FineSet, SetBelow, ValueBelow}
 use Rattle.arena.proofs.CodeLaws.{length-code, encodable-fits}
+use Rattle.arena.proofs.EvenLaws.{typed-even}
 use Rattle.fitting.specs.Agree.{TypedAt}
 use Rattle.fitting.proofs.Cells.{typed-at}
 use Rattle.operations.specs.Good.{Sizes, GoodAt}
@@ -34,6 +35,7 @@ module _ {gs : List ℕ} (small : Sizes gs) where
     fits = good-fits (set vs) h;
     light = good-weight gs (set vs) h;
     rises = rising-rises gs vs (good-wellFormed gs (set vs) h);
+    even = typed-even vs (good-typed gs (set vs) h);
   }
 
   module _ {s : List ℕ} {top at : ℕ} {v : Value} (h : GoodAt gs s top at v) where

@@ -19,7 +19,7 @@ use Rattle.sets.specs.declared.Out.{Out}
 use Rattle.sets.specs.declared.Walk.{Walk}
 use Rattle.sets.specs.declared.Rest.{Rest}
 use Rattle.sets.specs.Merged.{merged}
-use Rattle.sets.specs.Fronts.{keepOf, firstOf, restLeft, restRight, TurnAt, TwoFronts, RunEnds, Built, PutPre, Put, TailPre, Tailed}
+use Rattle.sets.specs.Fronts.{keepOf, firstOf, restLeft, restRight, TurnAt, TwoFronts, RunEnds, Cells, Built, PutPre, Put, TailPre, Tailed}
 use Rattle.sets.specs.Fronts.{Merging, StepPre, Stepped, GoesOn, RestOf, EndPre, Ended}
 use Rattle.sets.proofs.MergedLaws.{merged-nil, merged-less, merged-equal, merged-greater}
 use Rattle.sets.proofs.TurnLaws.{two-fronts, turn-fewer}
@@ -27,7 +27,7 @@ use Rattle.laws.proofs.CellsLaws.{count-weights}
 
 -- `put`
 
-put-kept : (s : List ℕ) (from end k : ℕ) (o : Out) (s′ : List ℕ) → PutPre s from end k o → Copied s from (end - from) (o .to) s′ →
+pub put-kept : (s : List ℕ) (from end k : ℕ) (o : Out) (s′ : List ℕ) → PutPre s from end k o → Copied s from (end - from) (o .to) s′ →
     Put true s from end k o s′ (record { to = o .to + (end - from); count = o .count + k })
 put-kept s from end k o s′ p c = record {
   frame = f;
@@ -47,11 +47,20 @@ put-kept s from end k o s′ p c = record {
     f : Same (o .to) s s′
     f = record { same = c .before; kept = c .kept }
 
-put-none : (s : List ℕ) (from end k : ℕ) (o : Out) → Put false s from end k o s o
-put-none s from end k o = record {
-  frame = same-refl (o .to) s;
+-- what has been built stays where nothing below its end is changed
+built-frame : (s s′ : List ℕ) (top : ℕ) (o : Out) (zs : List Value) → Same (o .to) s s′ → Built s top (o .to) (o .count) zs →
+    Built s′ top (o .to) (o .count) (zs ++ [])
+built-frame s s′ top o zs f b = rw (append-nil zs) (record {
+  stands = stands-frame (o .to) s s′ (top + 1) (codes (values zs)) f (omega (arith, length-codes (values zs), b .ends)) (b .stands);
+  ends = b .ends;
+  counted = b .counted;
+})
+
+pub put-none : (s : List ℕ) (from end k : ℕ) (o : Out) (s′ : List ℕ) → Same (o .to) s s′ → Put false s from end k o s′ o
+put-none s from end k o s′ f = record {
+  frame = f;
   near = omega arith;
-  on = λ top zs vs b at e n. subst (λ (l : List Value). Built s top (o .to) (o .count) l) (sym (append-nil zs)) b;
+  on = λ top zs vs b at e n. built-frame s s′ top o zs f b;
 }
 
 pub put-if : (keep : Bool) (s : List ℕ) (from end k : ℕ) (o : Out) (s′ : List ℕ) → keep ≡ true → PutPre s from end k o → Copied s from (end - from) (o .to) s′ →
@@ -60,12 +69,12 @@ put-if keep s from end k o s′ e p c =
     subst (λ (b : Bool). Put b s from end k o s′ (record { to = o .to + (end - from); count = o .count + k })) (sym e) (put-kept s from end k o s′ p c)
 
 pub put-else : (keep : Bool) (s : List ℕ) (from end k : ℕ) (o : Out) → keep ≡ false → Put keep s from end k o s o
-put-else keep s from end k o e = subst (λ (b : Bool). Put b s from end k o s o) (sym e) (put-none s from end k o)
+put-else keep s from end k o e = subst (λ (b : Bool). Put b s from end k o s o) (sym e) (put-none s from end k o s (same-refl (o .to) s))
 
 -- `tail`
 
-pub tail-put : (s : List ℕ) (at n end : ℕ) (o : Out) → TailPre s at n o → RunEnds s at n end → PutPre s at end n o
-tail-put s at n end o p e =
+pub tail-put : (s : List ℕ) (at n end : ℕ) (cells : Bool) (o : Out) → TailPre s at n cells o → RunEnds s at n end → PutPre s at end n o
+tail-put s at n end cells o p e =
     let x : end ≡ at + weights (p .rest) = e (p .top) (p .rest) (p .front) in
     record {
       forward = omega arith;
@@ -86,7 +95,7 @@ tail-if keep s at n end o s′ r k e p = subst (λ (b : Bool). Tailed b s at n o
 pub tail-else : (keep : Bool) (s : List ℕ) (at n : ℕ) (o : Out) → keep ≡ false → Tailed keep s at n o s o
 tail-else keep s at n o e = subst (λ (b : Bool). Tailed b s at n o s o) (sym e) (record {
   frame = same-refl (o .to) s;
-  on = λ top zs vs b f. subst (λ (l : List Value). Built s top (o .to) (o .count) l) (sym (append-nil zs)) b;
+  on = λ top zs vs b f. built-frame s s top o zs (same-refl (o .to) s) b;
 })
 
 -- `step`
@@ -131,7 +140,7 @@ module _ (l e r : Bool) (s s′ : List ℕ) (w : Walk) (t : Turn) (o : Out) (tur
             ∙ kept-append (t .keep) (firstOf (order v x) v x) (h .done) (merged l e r (members (restLeft (order v x) v vs)) (members (restRight (order v x) x xs)));
       }
 
-  step-on : 0 < w .m → 0 < w .n → Merging l e r s′ top (after t o) whole
+  pub step-on : 0 < w .m → 0 < w .n → Merging l e r s′ top (after t o) whole
   step-on i j = go (h .left) (h .right) (h .onLeft) (h .onRight) (h .all)
     where
       go : (vs xs : Values) → Front s top (w .a) (w .m) vs → Front s top (w .b) (w .n) xs → whole ≡ h .done ++ merged l e r (members vs) (members xs) →
@@ -256,8 +265,15 @@ module _ (l r : Bool) (s : List ℕ) (w : Walk) (top : ℕ) (q : Rest) (over : (
             ∙ merged-none l e r (members (h .right))));
       }
 
-  pub end-tail : EndPre l r s w top → TailPre s (q .at) (q .n) (outOf w)
-  end-tail p =
+  thin-rest : (cells : Bool) → (cells ≡ true → Cells s (w .a) (w .m) × Cells s (w .b) (w .n)) → cells ≡ true → Cells s (q .at) (q .n)
+  thin-rest cells c e = go rest
+    where
+      go : RestOf w l r q → Cells s (q .at) (q .n)
+      go (inl x) = rw (x .1, x .2) (c e .0)
+      go (inr x) = rw (x .1, x .2) (c e .1)
+
+  pub end-tail : (cells : Bool) → EndPre l r s w top cells → TailPre s (q .at) (q .n) cells (outOf w)
+  end-tail cells p =
       let z = rested (p .both) (p .whole) (p .merging) in
       record {
         room = omega (arith, p .room);
@@ -265,6 +281,7 @@ module _ (l r : Bool) (s : List ℕ) (w : Walk) (top : ℕ) (q : Rest) (over : (
         top = top;
         rest = z .rest;
         front = z .front;
+        thin = thin-rest cells (p .thin);
         behind = omega (arith, p .merging .built .ends);
       }
 
@@ -285,13 +302,13 @@ module _ (l r : Bool) (s : List ℕ) (w : Walk) (top : ℕ) (q : Rest) (over : (
       heavy = λ k. refl;
     }
 
-    pub end-count : EndPre l r s w top → o .to ≤ top + 256 → o .count ≤ 256
-    end-count p g =
+    pub end-count : (cells : Bool) → EndPre l r s w top cells → o .to ≤ top + 256 → o .count ≤ 256
+    end-count cells p g =
         let b = all-built (p .both) (p .whole) (p .merging) in
         omega (arith, b .ends, b .counted, count-weights (values (p .whole)))
 
-    pub end-made : EndPre l r s w top → o .to ≤ top + 256 → Ended l r s w top (setAt s′ top (21474836480 + o .count)) (o .to)
-    end-made p g e whole h =
+    pub end-made : (cells : Bool) → EndPre l r s w top cells → o .to ≤ top + 256 → Ended l r s w top (setAt s′ top (21474836480 + o .count)) (o .to)
+    end-made cells p g e whole h =
         let b = all-built e whole h in
         record {
           frame = record {
@@ -309,7 +326,7 @@ pub record Walking (l e r : Bool) (s₀ : List ℕ) (a b top : ℕ) (s : List �
   pub frame : Same top s₀ s
   pub on : (vs ws : Values) → SetBelow s₀ top a vs → SetBelow s₀ top b ws → Merging l e r s top w (merged l e r (members vs) (members ws))
 
-built-none : (s : List ℕ) (top : ℕ) → top + 1 ≤ length s → Built s top (top + 1) 0 []
+pub built-none : (s : List ℕ) (top : ℕ) → top + 1 ≤ length s → Built s top (top + 1) 0 []
 unfolding code
 built-none s top l = record {
   stands = record { inside = omega arith; cells = λ i p. absurd (omega arith) };
@@ -358,13 +375,14 @@ module _ (l e r : Bool) (s₀ : List ℕ) (a b top : ℕ) (s : List ℕ) (w : Wa
     on = λ vs ws x y. t .on top (merged l e r (members vs) (members ws)) (h .on vs ws x y);
   }
 
-  pub walking-end : (c : Bool) → GoesOn w (top + 256) c → c ≡ false → EndPre l r s w top
+  pub walking-end : (c : Bool) → GoesOn w (top + 256) c → c ≡ false → EndPre l r s w top false
   walking-end c goes z = record {
     both = e;
     whole = merged l e r (members (p .0 .0)) (members (p .1 .0));
     merging = some-merging;
     room = omega (arith, p .2, h .frame .kept);
     over = goes-if w (top + 256) c false z goes;
+    thin = λ e. absurd (let y : _≡_ {A = ℕ} 0 1 = cc e in omega arith);
   }
 
   pub walking-made : (s′ : List ℕ) (k : ℕ) → Ended l r s w top s′ k → (vs ws : Values) → SetBelow s₀ top a vs → SetBelow s₀ top b ws →

@@ -1,5 +1,5 @@
 -- Application: the pass over the pairs of a set in the arena. At each turn the pairs that are left decide (`Checking`, `Applying`).
-use Prim.Native.Nat.{ℕ, _+_, _-_, _/_, _%_, _≤_, _<_, Ordering, Ordering·lt, Ordering·eq, Ordering·gt}
+use Prim.Native.Nat.{ℕ, _+_, _-_, _%_, _≤_, _<_, Ordering, Ordering·lt, Ordering·eq, Ordering·gt}
 use mathlib.Core.Bool.{Bool, true, false, not, cond}
 use mathlib.Core.List.{List}
 use mathlib.Core.Path.{_≡_, refl, sym, _∙_, subst}
@@ -9,22 +9,12 @@ use lib.ListN.{length, getD}
 use Rattle.rules.specs.Values.{Value, scalar, pair, set, Values, none, _▸_, members, count, weight, order, same}
 use Rattle.rules.specs.Runs.{Given, gives, lacks}
 use Rattle.rules.specs.Operations.{applied}
-use Rattle.laws.proofs.CellsLaws.{weight-some}
 use Rattle.arena.specs.Code.{ValueAt, CellsFit, orderCode, SomeAt, EndsAt, Compared, SetBelow, ValueBelow, Front, AllPairs}
-use Rattle.arena.proofs.CodeLaws.{length-code, fits-small}
-use Rattle.arena.proofs.ValueParts.{first-cell, left-stands, right-stands}
+use Rattle.arena.proofs.CodeLaws.{fits-small}
+use Rattle.arena.proofs.ValueParts.{left-stands, right-stands}
 use Rattle.arena.proofs.FrontLaws.{rises-rising, fit-small, front-start, front-value, front-next, code-less, code-equal, code-greater}
 use Rattle.sets.specs.Pairs.{newFirst, newFirsts, atPair, walked, SomePairs, PairFirst, NextPair, FunctionAt, ImageAt}
 use Rattle.sets.proofs.PairLaws.{walked-right}
-
-pub some-inside : (s : List ℕ) (at : ℕ) → SomeAt s at → at < length s
-some-inside s at h = omega (arith, h .stands .inside, length-code (h .value), weight-some (h .value))
-
--- A cell with a tag below 4 is a whole value.
-pub one-cell : (s : List ℕ) (at t : ℕ) → t ≡ getD s at 0 / 4294967296 → t < 4 → EndsAt s at (at + 1)
-one-cell s at t e l (scalar x) h f = refl
-one-cell s at t e l (pair a b) h f = absurd (omega (arith, first-cell s at (pair a b) h f .0))
-one-cell s at t e l (set vs) h f = absurd (omega (arith, first-cell s at (set vs) h f .0))
 
 -- What is shown of a first pair and the rest is shown of pairs, if there are any.
 some-pairs : (P : Values → Type 0) → ((a b : Value) (ws : Values) → AllPairs ws → P (pair a b ▸ ws)) → (vs : Values) → AllPairs vs → 0 < count vs → P vs

@@ -106,7 +106,7 @@ unfolding keep
 keep-none e [] h = refl
 keep-none e (x ∷ xs) h = rw (paired-order e x Ordering·lt (before-order e (left x) (h .0))) (keep-none e xs (h .1))
 
-always-lacks : (b : Bool) → cond b (lacks 16) (lacks 16) ≡ lacks 16
+pub always-lacks : (b : Bool) → cond b (lacks 16) (lacks 16) ≡ lacks 16
 always-lacks true = refl
 always-lacks false = refl
 
@@ -160,3 +160,17 @@ unfolding applied
 walked-right e vs small p h r =
     walked-applied e small (members vs) (pairs-small vs p h) r ∙
     ap (λ b. cond b (onlyOne (map right (keep (pairedWith e) (members vs)))) (lacks 16)) (firsts-right vs p h r)
+
+-- Where two neighbours share a first part, the pass gives nothing.
+pub walked-shared : (e : Value) (xs : List Value) → newFirsts xs ≡ false → walked e xs ≡ lacks 16
+walked-shared e [] h = absurd (T-not false tt (subst T h tt))
+walked-shared e (x ∷ xs) h = go (order e (left x)) (walked-shared e xs)
+  where
+    behind : (b : Bool) → b && newFirsts xs ≡ false → (newFirsts xs ≡ false → walked e xs ≡ lacks 16) → cond b (walked e xs) (lacks 16) ≡ lacks 16
+    behind true z rec = rec z
+    behind false z rec = refl
+
+    go : (o : Ordering) → (newFirsts xs ≡ false → walked e xs ≡ lacks 16) → atPair o x xs (walked e xs) ≡ lacks 16
+    go Ordering·lt rec = refl
+    go Ordering·eq rec = rw h refl
+    go Ordering·gt rec = behind (newFirst x xs) h rec

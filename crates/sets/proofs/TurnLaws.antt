@@ -93,15 +93,15 @@ unfolding allIn
 allIn-drop [] w ws h = refl
 allIn-drop (v ∷ vs) w ws h = rw (isIn-greater v w ws (after-order v w (h .0)), allIn-drop vs w ws (h .1))
 
-allIn-less : (v w : Value) (vs ws : List Value) → order v w ≡ Ordering·lt → Rising (w ∷ ws) → allIn (v ∷ vs) (w ∷ ws) ≡ false
+pub allIn-less : (v w : Value) (vs ws : List Value) → order v w ≡ Ordering·lt → Rising (w ∷ ws) → allIn (v ∷ vs) (w ∷ ws) ≡ false
 unfolding allIn
 allIn-less v w vs ws e k = rw (isIn-before v (w ∷ ws) (before-all v w ws (order-before v w e) k))
 
-allIn-equal : (v w : Value) (vs ws : List Value) → order v w ≡ Ordering·eq → v ≡ w → Rising (v ∷ vs) → allIn (v ∷ vs) (w ∷ ws) ≡ allIn vs ws
+pub allIn-equal : (v w : Value) (vs ws : List Value) → order v w ≡ Ordering·eq → v ≡ w → Rising (v ∷ vs) → allIn (v ∷ vs) (w ∷ ws) ≡ allIn vs ws
 unfolding allIn
 allIn-equal v w vs ws e q h = rw (isIn-equal v w ws e) (allIn-drop vs w ws (subst (λ (x : Value). All (Before x) vs) q (h .0)))
 
-allIn-greater : (v w : Value) (vs ws : List Value) → order v w ≡ Ordering·gt → Rising (v ∷ vs) → allIn (v ∷ vs) (w ∷ ws) ≡ allIn (v ∷ vs) ws
+pub allIn-greater : (v w : Value) (vs ws : List Value) → order v w ≡ Ordering·gt → Rising (v ∷ vs) → allIn (v ∷ vs) (w ∷ ws) ≡ allIn (v ∷ vs) ws
 allIn-greater v w vs ws e h = allIn-drop (v ∷ vs) w ws (before-all w v vs (order-before w v (order-flip v w ∙ ap flip e)) h)
 
 -- The answer is whether the members left of the first set are in the second.

@@ -4,10 +4,10 @@ use mathlib.Core.Bool.{Bool, true, false, cond}
 use mathlib.Core.List.{List, [], _++_}
 use mathlib.Core.Logic.{_⊎_}
 use mathlib.Core.Path.{_≡_}
-use lib.ListN.{length}
+use lib.ListN.{length, getD}
 use Rattle.rules.specs.Values.{Value, Values, _▸_, members, values, count, weight, weights, order}
 use Rattle.rules.specs.Operations.{isIn, allIn, setOf}
-use Rattle.arena.specs.Code.{ValuesAt, SetBelow, ValueBelow, Same, Made, Front}
+use Rattle.arena.specs.Code.{ValuesAt, SetBelow, ValueBelow, Same, partsOf, Made, Front}
 use Rattle.sets.specs.declared.Turn.{Turn}
 use Rattle.sets.specs.declared.Out.{Out}
 use Rattle.sets.specs.declared.Walk.{Walk}
@@ -70,6 +70,11 @@ pub record TwoFronts (s : List ℕ) (a m b n : ℕ) : Type 0 where
 abbrev pub SomeFront : List ℕ → ℕ → ℕ → Type 0
 SomeFront s at n = (top : ℕ) × (vs : Values) × Front s top at n vs
 
+-- No parts follow the n cells from `at` on: each is a whole value.
+pub record Cells (s : List ℕ) (at n : ℕ) : Type 0 where
+  pub inside : at + n ≤ length s
+  pub each : (i : ℕ) → i < n → partsOf (getD s (at + i) 0) ≡ 0
+
 -- r is where it ends.
 abbrev pub RunEnds : List ℕ → ℕ → ℕ → ℕ → Type 0
 RunEnds s at n r = (top : ℕ) (vs : Values) → Front s top at n vs → r ≡ at + weights vs
@@ -93,13 +98,18 @@ pub record Put (keep : Bool) (s : List ℕ) (from end k : ℕ) (o : Out) (s′ :
   pub on : (top : ℕ) (zs : List Value) (vs : Values) → Built s top (o .to) (o .count) zs → ValuesAt s from vs → end ≡ from + weights vs → k ≡ count vs →
       Built s′ top (r .to) (r .count) (zs ++ cond keep (members vs) [])
 
+-- The rest of a set, of one cell each or not.
+abbrev pub RestThere : List ℕ → ℕ → ℕ → Bool → Type 0
+RestThere s at n cells = SomeFront s at n × (cells ≡ true → Cells s at n)
+
 -- The same for the rest of a set.
-pub record TailPre (s : List ℕ) (at n : ℕ) (o : Out) : Type 0 where
+pub record TailPre (s : List ℕ) (at n : ℕ) (cells : Bool) (o : Out) : Type 0 where
   pub room : o .to + 255 ≤ length s
   pub few : o .count ≤ 512
   pub top : ℕ
   pub rest : Values
   pub front : Front s top at n rest
+  pub thin : cells ≡ true → Cells s at n
   pub behind : top ≤ o .to
 
 pub record Tailed (keep : Bool) (s : List ℕ) (at n : ℕ) (o : Out) (s′ : List ℕ) (r : Out) : Type 0 where
@@ -144,12 +154,13 @@ RestOf w l r q =
     ((0 < w .m) × (q .at ≡ w .a) × (q .n ≡ w .m) × (q .keep ≡ l)) ⊎ ((w .m ≡ 0) × (q .at ≡ w .b) × (q .n ≡ w .n) × (q .keep ≡ r))
 
 -- The end of a merge: the rest is put behind what has been built, and the set's cell before it.
-pub record EndPre (l r : Bool) (s : List ℕ) (w : Walk) (top : ℕ) : Type 0 where
+pub record EndPre (l r : Bool) (s : List ℕ) (w : Walk) (top : ℕ) (cells : Bool) : Type 0 where
   pub both : Bool
   pub whole : List Value
   pub merging : Merging l both r s top w whole
   pub room : top + 514 ≤ length s
   pub over : (w .m ≡ 0) ⊎ ((w .n ≡ 0) ⊎ (top + 256 < w .to))
+  pub thin : cells ≡ true → Cells s (w .a) (w .m) × Cells s (w .b) (w .n)
 
 abbrev pub Ended : Bool → Bool → List ℕ → Walk → ℕ → List ℕ → ℕ → Type 0
 Ended l r s w top s′ k = (b : Bool) (whole : List Value) → Merging l b r s top w whole → Made top s s′ (setOf whole) k

@@ -1,4 +1,5 @@
 -- Sets in the arena.
 pub mod Merged
 pub mod Fronts
+pub mod Rows
 pub mod Pairs

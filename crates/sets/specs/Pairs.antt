@@ -1,14 +1,14 @@
 -- Application in one pass over the pairs of f. They rise by their first parts, so that two pairs that share one are neighbours, and
 -- a first part greater than e ends the search. `walked` is that pass; that it gives what `applied` says is `walked-right`.
-use Prim.Native.Nat.{ℕ, _+_, _<_, Ordering, Ordering·lt, Ordering·eq, Ordering·gt}
+use Prim.Native.Nat.{ℕ, _+_, _*_, _%_, _≤_, _<_, Ordering, Ordering·lt, Ordering·eq, Ordering·gt}
 use mathlib.Core.Bool.{Bool, true, not, cond, _&&_}
 use mathlib.Core.List.{List, [], _∷_}
 use mathlib.Core.Path.{_≡_}
-use lib.ListN.{length}
+use lib.ListN.{length, getD}
 use Rattle.rules.specs.Values.{Value, pair, set, Values, _▸_, members, weight, order, same}
 use Rattle.rules.specs.Runs.{Given, gives, lacks}
 use Rattle.rules.specs.Operations.{left, right, applied}
-use Rattle.arena.specs.Code.{SetBelow, ValueBelow, Front, AllPairs}
+use Rattle.arena.specs.Code.{partsOf, SetBelow, SomeValue, ValueBelow, Front, AllPairs}
 
 -- The pair x does not share its first part with the next one.
 abbrev pub newFirst : Value → List Value → Bool
@@ -55,6 +55,23 @@ FunctionAt s at n r = (top : ℕ) (vs : Values) → Front s top at n vs → AllP
 -- A set of pairs stands at `at`, below `top`.
 abbrev pub SomeRelation : List ℕ → ℕ → ℕ → Type 0
 SomeRelation s top at = (vs : Values) × SetBelow s top at vs × AllPairs vs
+
+-- n pairs of two values of one cell each stand from `at` on: no parts follow the second and the third cell of each.
+pub record PairCells (s : List ℕ) (at n : ℕ) : Type 0 where
+  pub inside : at + 3 * n ≤ length s
+  pub firsts : (i : ℕ) → i < n → partsOf (getD s (at + 1 + 3 * i) 0) ≡ 0
+  pub seconds : (i : ℕ) → i < n → partsOf (getD s (at + 2 + 3 * i) 0) ≡ 0
+
+-- Where the answer is `true`, the members of the relation at f are such pairs.
+abbrev pub OfFlatPairs : List ℕ → ℕ → Bool → Type 0
+OfFlatPairs s f r = r ≡ true → PairCells s (f + 1) (getD s f 0 % 4294967296)
+
+-- f is such a relation, of n pairs, and a value stands at e.
+pub record FlatRelation (s : List ℕ) (f n e : ℕ) : Type 0 where
+  pub value : SomeValue s (length s) e
+  pub relation : SomeRelation s (length s) f
+  pub counted : n ≡ getD s f 0 % 4294967296
+  pub cells : PairCells s (f + 1) n
 
 -- u stands at r, within the set vs at f.
 pub record Within (s : List ℕ) (f : ℕ) (vs : Values) (r : ℕ) (u : Value) : Type 0 where

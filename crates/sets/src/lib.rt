@@ -1,10 +1,19 @@
 // Sets in the arena, whose members rise: membership, inclusion, union, intersection, difference, application.
-ghost use Prim.Native.Nat.{_+_, _-_, _≤_};
+ghost use Prim.Native.Nat.{_+_, _-_, _≤_, compare};
+ghost use mathlib.Core.Path.{_≡_};
+ghost use mir.Val.{boolByte};
 ghost use lib.ListN.{length};
-ghost use Rattle.arena.specs.Code.{SomeAt, EndsAt, SomeSet, SomeValue};
+ghost use Rattle.arena.specs.Code.{SomeSet, SomeValue};
 ghost use Rattle.sets.specs.Fronts.{Contains, Includes, TwoFronts, TurnAt, SomeFront, RunEnds, PutPre, Put};
-ghost use Rattle.sets.specs.Pairs.{PairFirst, NextPair, SomePairs, FunctionAt, SomeRelation, Applies};
-ghost use Rattle.sets.specs.Fronts.{TailPre, Tailed, StepPre, Stepped, GoesOn, RestOf, EndPre, Ended, Merges};
+ghost use Rattle.sets.specs.Rows.{Row, LowerBound, HasCell, SetAt, OfCells, BothOfCells, TwoRows, RowIn, lesserOf, CellTurned, RowsBelow, RowsMerge};
+ghost use Rattle.sets.specs.Pairs.{PairFirst, NextPair, SomePairs, FunctionAt, SomeRelation, Applies, PairCells, OfFlatPairs, FlatRelation};
+ghost use Rattle.sets.specs.Fronts.{RestThere, TailPre, Tailed, StepPre, Stepped, GoesOn, RestOf, EndPre, Ended, Merges, keepOf};
+
+// A set with fewer than one member for FEW of another is small beside it: a search for each member is quicker than a walk over both.
+const FEW: usize = 8;
+
+// The cells of a pair of two values of one cell each.
+const FLAT_PAIR: usize = 3;
 
 // A turn of a walk over two sets: the first of their members stands between `from` and `end` and is kept or not; what is
 // left are m members from a on and n from b on.
@@ -41,8 +50,69 @@ struct Rest {
     keep: bool,
 }
 
-// Whether the value at e is a member of the set at a.
-pub fn contains(s: &[u64], e: usize, a: usize) -> bool
+// A turn of a walk over two sets of cells: the lesser of the first cells, and by how many cells what is built and both sets move on.
+struct CellTurn {
+    cell: u64,
+    keep: usize,
+    left: usize,
+    right: usize,
+}
+
+// The first of n cells from `at` on, every step-th one, that is not below x; n where all are. They do not fall.
+fn lower_bound(s: &[u64], at: usize, step: usize, n: usize, x: u64) -> usize
+    requires { ⌜ Row (now s) at step n ⌝ }
+    ensures { λ r. ⌜ LowerBound (now (s .entry)) at step n x r ⌝ }
+{
+    let mut from: usize = 0;
+    let mut left = n;
+    while left > 0 {
+        let half = left / 2;
+        let middle = from + half;
+        if s[at + step * middle] < x {
+            from = middle + 1;
+            left = left - half - 1;
+        } else {
+            left = half;
+        }
+    }
+    from
+}
+
+// Whether x is one of n rising cells from `at` on.
+fn has_cell(s: &[u64], at: usize, n: usize, x: u64) -> bool
+    requires { ⌜ Row (now s) at 1 n ⌝ }
+    ensures { λ r. ⌜ HasCell (now (s .entry)) at n x r ⌝ }
+{
+    let i = lower_bound(s, at, 1, n, x);
+    if i == n {
+        return false;
+    }
+    s[at + i] == x
+}
+
+// Whether each member of the set at a is one cell. The members share a type, so that the first one decides.
+fn of_cells(s: &[u64], a: usize) -> bool
+    requires { ⌜ SetAt (now s) a ⌝ }
+    ensures { λ r. ⌜ OfCells (now (s .entry)) a r ⌝ }
+{
+    if arena::low(s[a]) == 0 {
+        return true;
+    }
+    s[a + 1] < arena::PAIR
+}
+
+fn both_of_cells(s: &[u64], a: usize, b: usize) -> bool
+    requires { ⌜ SetAt (now s) a × SetAt (now s) b ⌝ }
+    ensures { λ r. ⌜ BothOfCells (now (s .entry)) a b r ⌝ }
+{
+    if of_cells(s, a) {
+        return of_cells(s, b);
+    }
+    false
+}
+
+// Whether the value at e is a member of the set at a, member by member.
+fn walk_contains(s: &[u64], e: usize, a: usize) -> bool
     requires { ⌜ SomeValue (now s) (length (now s)) e × SomeSet (now s) (length (now s)) a ⌝ }
     ensures { λ r. ⌜ Contains (now (s .entry)) e a r ⌝ }
 {
@@ -62,6 +132,18 @@ pub fn contains(s: &[u64], e: usize, a: usize) -> bool
         left -= 1;
     }
     false
+}
+
+// Whether the value at e is a member of the set at a.
+pub fn contains(s: &[u64], e: usize, a: usize) -> bool
+    requires { ⌜ SomeValue (now s) (length (now s)) e × SomeSet (now s) (length (now s)) a ⌝ }
+    ensures { λ r. ⌜ Contains (now (s .entry)) e a r ⌝ }
+{
+    if of_cells(s, a) {
+        let n = arena::low(s[a]) as usize;
+        return has_cell(s, a + 1, n, s[e]);
+    }
+    walk_contains(s, e, a)
 }
 
 // The turn at two sets that both have members left: which of the first members comes first, and what is left then.
@@ -114,8 +196,63 @@ fn turn_at(
     }
 }
 
-// Whether each member of the set at a is one of the set at b.
-pub fn included(s: &[u64], a: usize, b: usize) -> bool
+// Whether each of m cells from a on is one of n from b on, by a search for each.
+fn search_cells(s: &[u64], a: usize, m: usize, b: usize, n: usize) -> bool
+    requires { ⌜ TwoRows (now s) a m b n (length (now s)) ⌝ }
+    ensures { λ r. ⌜ RowIn (now (s .entry)) a m b n r ⌝ }
+{
+    let mut i = a;
+    let mut left = m;
+    while left > 0 {
+        if !has_cell(s, b, n, s[i]) {
+            return false;
+        }
+        i += 1;
+        left -= 1;
+    }
+    true
+}
+
+// The same by a walk over both. A step takes no branch on whether two cells are equal.
+fn walk_cells(s: &[u64], a: usize, m: usize, b: usize, n: usize) -> bool
+    requires { ⌜ TwoRows (now s) a m b n (length (now s)) ⌝ }
+    ensures { λ r. ⌜ RowIn (now (s .entry)) a m b n r ⌝ }
+{
+    let mut i = a;
+    let mut left = m;
+    let mut j = b;
+    let mut others = n;
+    while left > 0 {
+        if others < left {
+            return false;
+        }
+        let x = s[i];
+        let y = s[j];
+        if x < y {
+            return false;
+        }
+        let equal = (x == y) as usize;
+        i += equal;
+        left -= equal;
+        j += 1;
+        others -= 1;
+    }
+    true
+}
+
+// Whether each of m cells from a on is one of n from b on.
+fn cells_included(s: &[u64], a: usize, m: usize, b: usize, n: usize) -> bool
+    requires { ⌜ TwoRows (now s) a m b n (length (now s)) ⌝ }
+    ensures { λ r. ⌜ RowIn (now (s .entry)) a m b n r ⌝ }
+{
+    if m < n / FEW {
+        return search_cells(s, a, m, b, n);
+    }
+    walk_cells(s, a, m, b, n)
+}
+
+// Whether each member of the set at a is one of the set at b, member by member.
+fn walk_included(s: &[u64], a: usize, b: usize) -> bool
     requires { ⌜ SomeSet (now s) (length (now s)) a × SomeSet (now s) (length (now s)) b ⌝ }
     ensures { λ r. ⌜ Includes (now (s .entry)) a b r ⌝ }
 {
@@ -139,15 +276,20 @@ pub fn included(s: &[u64], a: usize, b: usize) -> bool
     true
 }
 
-// Where the value at `at` ends; a scalar is one cell.
-fn past(s: &[u64], at: usize) -> usize
-    requires { ⌜ SomeAt (now s) at ⌝ }
-    ensures { λ r. ⌜ EndsAt (now (s .entry)) at r ⌝ }
+// Whether each member of the set at a is one of the set at b.
+pub fn included(s: &[u64], a: usize, b: usize) -> bool
+    requires { ⌜ SomeSet (now s) (length (now s)) a × SomeSet (now s) (length (now s)) b ⌝ }
+    ensures { λ r. ⌜ Includes (now (s .entry)) a b r ⌝ }
 {
-    if arena::tag(s[at]) < 4 {
-        return at + 1;
+    let m = arena::low(s[a]);
+    let n = arena::low(s[b]);
+    if m > n {
+        return false;
     }
-    arena::end_of(s, at)
+    if both_of_cells(s, a, b) {
+        return cells_included(s, a + 1, m as usize, b + 1, n as usize);
+    }
+    walk_included(s, a, b)
 }
 
 // Where the pair at i, the first of n, ends and the next one begins; 0 where the two share a first part.
@@ -155,8 +297,8 @@ fn next_pair(s: &[u64], i: usize, n: u64) -> usize
     requires { ⌜ PairFirst (now s) i n ⌝ }
     ensures { λ r. ⌜ NextPair (now (s .entry)) i n r ⌝ }
 {
-    let right = past(s, i + 1);
-    let next = past(s, right);
+    let right = arena::end_of(s, i + 1);
+    let next = arena::end_of(s, right);
     if n > 1 {
         if arena::compare(s, i + 1, right, next + 1) == 1 {
             return 0;
@@ -182,9 +324,62 @@ fn is_function(s: &[u64], at: usize, n: u64) -> bool
     true
 }
 
+// Whether each member of the relation at f is a pair of two values of one cell each. The pairs share a type, so that the first one
+// decides.
+fn of_flat_pairs(s: &[u64], f: usize) -> bool
+    requires { ⌜ SomeRelation (now s) (length (now s)) f ⌝ }
+    ensures { λ r. ⌜ OfFlatPairs (now (s .entry)) f r ⌝ }
+{
+    if arena::low(s[f]) == 0 {
+        return true;
+    }
+    if s[f + 2] < arena::PAIR {
+        return s[f + 3] < arena::PAIR;
+    }
+    false
+}
+
+// `is_function` for such pairs.
+fn flat_function(s: &[u64], at: usize, n: usize) -> bool
+    requires { ⌜ PairCells (now s) at n ⌝ }
+    ensures { λ r. ⌜ FunctionAt (now (s .entry)) at n r ⌝ }
+{
+    let mut i = at;
+    let mut left = n;
+    while left > 1 {
+        if s[i + 1] == s[i + FLAT_PAIR + 1] {
+            return false;
+        }
+        i += FLAT_PAIR;
+        left -= 1;
+    }
+    true
+}
+
+// `image` for n such pairs: e is looked for among the first parts; whether f is a function is asked where e is found.
+fn flat_image(s: &[u64], f: usize, n: usize, e: usize) -> usize
+    requires { ⌜ FlatRelation (now s) f n e ⌝ }
+    ensures { λ r. ⌜ Applies (now (s .entry)) f e r ⌝ }
+{
+    let x = s[e];
+    let at = f + 1;
+    let k = lower_bound(s, at + 1, FLAT_PAIR, n, x);
+    if k == n {
+        return 0;
+    }
+    let i = at + 1 + FLAT_PAIR * k;
+    if s[i] != x {
+        return 0;
+    }
+    if flat_function(s, at, n) {
+        return i + 1;
+    }
+    0
+}
+
 // Application in one pass over the pairs of f: where the second part stands that goes with the value at e; 0 where there is none,
 // or where two pairs of f share a first part.
-pub fn image(s: &[u64], f: usize, e: usize) -> usize
+fn walk_image(s: &[u64], f: usize, e: usize) -> usize
     requires { ⌜ SomeValue (now s) (length (now s)) e × SomeRelation (now s) (length (now s)) f ⌝ }
     ensures { λ r. ⌜ Applies (now (s .entry)) f e r ⌝ }
 {
@@ -195,7 +390,7 @@ pub fn image(s: &[u64], f: usize, e: usize) -> usize
         let order = arena::compare(s, e, end, i + 1);
         if order == 1 {
             if is_function(s, i, left) {
-                return past(s, i + 1);
+                return arena::end_of(s, i + 1);
             }
             return 0;
         }
@@ -212,6 +407,18 @@ pub fn image(s: &[u64], f: usize, e: usize) -> usize
     0
 }
 
+// The same; by cells where the parts of the pairs are one cell each.
+pub fn image(s: &[u64], f: usize, e: usize) -> usize
+    requires { ⌜ SomeValue (now s) (length (now s)) e × SomeRelation (now s) (length (now s)) f ⌝ }
+    ensures { λ r. ⌜ Applies (now (s .entry)) f e r ⌝ }
+{
+    if of_flat_pairs(s, f) {
+        let n = arena::low(s[f]) as usize;
+        return flat_image(s, f, n, e);
+    }
+    walk_image(s, f, e)
+}
+
 // Where n members from `at` on end.
 fn run_end(s: &[u64], at: usize, n: u64) -> usize
     requires { ⌜ SomeFront (now s) at n ⌝ }
@@ -224,6 +431,17 @@ fn run_end(s: &[u64], at: usize, n: u64) -> usize
         left -= 1;
     }
     i
+}
+
+// Where n members from `at` on end; members of one cell each need no walk.
+fn rest_end(s: &[u64], at: usize, n: u64, cells: bool) -> usize
+    requires { ⌜ RestThere (now s) at n cells ⌝ }
+    ensures { λ r. ⌜ RunEnds (now (s .entry)) at n r ⌝ }
+{
+    if cells {
+        return at + n as usize;
+    }
+    run_end(s, at, n)
 }
 
 // Puts the run from `from` to `end`, of k members, behind what has been built, if it is kept.
@@ -243,13 +461,13 @@ fn put(s: &mut [u64], from: usize, end: usize, k: u64, keep: bool, o: Out) -> Ou
     o
 }
 
-// Puts the rest of a set, n members from `at` on, behind what has been built, if it is kept.
-fn tail(s: &mut [u64], at: usize, n: u64, keep: bool, o: Out) -> Out
-    requires { ⌜ TailPre (now s) at n o ⌝ }
+// Puts the rest of a set, n members from `at` on, of one cell each or not, behind what has been built, if it is kept.
+fn tail(s: &mut [u64], at: usize, n: u64, keep: bool, cells: bool, o: Out) -> Out
+    requires { ⌜ TailPre (now s) at n cells o ⌝ }
     ensures { λ r. ⌜ Tailed keep (now (s .entry)) at n o (now (s .exit)) r ⌝ }
 {
     if keep {
-        let end = run_end(s, at, n);
+        let end = rest_end(s, at, n, cells);
         return put(s, at, end, n, true, o);
     }
     o
@@ -315,8 +533,8 @@ fn rest_of(w: Walk, left: bool, right: bool) -> Rest
 }
 
 // The end of a merge: the rest of the set that is not exhausted, and the cell of the set that has been built.
-fn finish(s: &mut [u64], w: Walk, top: usize, left: bool, right: bool) -> usize
-    requires { ⌜ EndPre left right (now s) w top ⌝ }
+fn finish(s: &mut [u64], w: Walk, top: usize, left: bool, right: bool, cells: bool) -> usize
+    requires { ⌜ EndPre left right (now s) w top cells ⌝ }
     ensures { λ r. ⌜ Ended left right (now (s .entry)) w top (now (s .exit)) r ⌝ }
 {
     let limit = top + 256;
@@ -329,6 +547,7 @@ fn finish(s: &mut [u64], w: Walk, top: usize, left: bool, right: bool) -> usize
         q.at,
         q.n,
         q.keep,
+        cells,
         Out {
             to: w.to,
             count: w.count,
@@ -337,13 +556,85 @@ fn finish(s: &mut [u64], w: Walk, top: usize, left: bool, right: bool) -> usize
     if o.to > limit {
         return 0;
     }
-    s[top] = 21474836480 + o.count;
+    s[top] = arena::SET + o.count;
     o.to
 }
 
+fn lesser(x: u64, y: u64) -> u64
+    ensures { λ r. ⌜ r ≡ lesserOf (compare x y) x y ⌝ }
+{
+    if y < x {
+        return y;
+    }
+    x
+}
+
+// 1 if the lesser of the first cells x and y is kept, 0 if not.
+fn kept(x: u64, y: u64, left: bool, both: bool, right: bool) -> usize
+    ensures { λ r. ⌜ r ≡ boolByte (keepOf left both right (compare x y)) ⌝ }
+{
+    if x < y {
+        return left as usize;
+    }
+    if y < x {
+        return right as usize;
+    }
+    both as usize
+}
+
+// The turn at two sets of cells whose first ones are x and y, with no branch on their order.
+fn cell_turn(x: u64, y: u64, left: bool, both: bool, right: bool) -> CellTurn
+    ensures { λ r. ⌜ CellTurned left both right (compare x y) x y r ⌝ }
+{
+    CellTurn {
+        cell: lesser(x, y),
+        keep: kept(x, y, left, both, right),
+        left: (x <= y) as usize,
+        right: (y <= x) as usize,
+    }
+}
+
+// Builds at top the set as `merge` does, of m cells from a on and n from b on. The cell of a turn is stored whether it is kept or not.
+fn merge_cells(
+    s: &mut [u64],
+    a: usize,
+    m: usize,
+    b: usize,
+    n: usize,
+    top: usize,
+    left: bool,
+    both: bool,
+    right: bool,
+) -> usize
+    requires { ⌜ RowsBelow (now s) a m b n top ⌝ }
+    ensures { λ r. ⌜ RowsMerge left both right (now (s .entry)) a m b n top (now (s .exit)) r ⌝ }
+{
+    let end = a + m;
+    let end2 = b + n;
+    let mut i = a;
+    let mut j = b;
+    let mut to = top + 1;
+    while i < end && j < end2 {
+        let t = cell_turn(s[i], s[j], left, both, right);
+        s[to] = t.cell;
+        to += t.keep;
+        i += t.left;
+        j += t.right;
+    }
+    let w = Walk {
+        a: i,
+        m: (end - i) as u64,
+        b: j,
+        n: (end2 - j) as u64,
+        to: to,
+        count: (to - top - 1) as u64,
+    };
+    finish(s, w, top, left, right, true)
+}
+
 // Builds at top the set of the members that are only in the set at a (if left), in both (if both), only in the set at b (if right);
-// answers where it ends, or 0 where it weighs over 256.
-pub fn merge(
+// answers where it ends, or 0 where it weighs over 256. Member by member.
+fn walk_merge(
     s: &mut [u64],
     a: usize,
     b: usize,
@@ -369,5 +660,26 @@ pub fn merge(
     while goes_on(w, limit) {
         w = step(s, w, left, both, right);
     }
-    finish(s, w, top, left, right)
+    finish(s, w, top, left, right, false)
+}
+
+// The same; by cells where the members of both sets are one cell each.
+pub fn merge(
+    s: &mut [u64],
+    a: usize,
+    b: usize,
+    top: usize,
+    left: bool,
+    both: bool,
+    right: bool,
+) -> usize
+    requires { ⌜ SomeSet (now s) top a × SomeSet (now s) top b × (top + 514 ≤ length (now s)) ⌝ }
+    ensures { λ r. ⌜ Merges left both right (now (s .entry)) a b top (now (s .exit)) r ⌝ }
+{
+    if both_of_cells(s, a, b) {
+        let m = arena::low(s[a]) as usize;
+        let n = arena::low(s[b]) as usize;
+        return merge_cells(s, a + 1, m, b + 1, n, top, left, both, right);
+    }
+    walk_merge(s, a, b, top, left, both, right)
 }

@@ -1,6 +1,7 @@
-use Prim.Native.Nat.{_-_, _≤_}
+-- `compare`: the cells agree so far; the first difference decides, and no value's cells begin another's.
+use Prim.Native.Nat.{_+_, _-_, _≤_, _<_}
 use native.Mathlib.Omega.{arith}
-use denote.Ref.{now}
+use lib.ListN.{length}
 use Rattle.arena.proofs.Standing.{Agree, end-above, first-inside, second-inside, found-less, found-greater, found-equal, agree-next}
 use Rattle.arena.proofs.compare.Statement.{statement}
 use Rattle.arena.proofs.compare.Tie as tie
@@ -11,6 +12,25 @@ Inv-loop s a end b n i₀ i = (i ≤ n) × Agree s a b i
 abbrev μ-loop : tie.MeasureT-loop
 μ-loop s a end b n i₀ i = n - i
 
+-- A turn of the loop, and the cells that it reads.
+abbrev Turn : Type 0
+Turn = tie.In-loop Inv-loop μ-loop
+
+abbrev lent : Turn → tie.Start Inv-loop μ-loop
+lent t = t .before .before
+
+first : (t : Turn) → let q = lent t .args in q .a + t .before .loop .i < length (q .s .now)
+first t = let q = lent t .pre in first-inside _ _ _ _ (q .0) (q .2) (t .loop-test .taken)
+
+second : (t : Turn) → let q = lent t .args in q .b + t .before .loop .i < length (q .s .now)
+second t = let q = lent t .pre in second-inside _ _ _ _ _ (q .0) (q .1) (q .2) (t .loop-test .taken) (t .before .loop .inv .1)
+
+abbrev less : tie.Then1 Inv-loop μ-loop → Turn
+less c = c .before .before .before
+
+abbrev notLess : tie.Else1 Inv-loop μ-loop → Turn
+notLess c = c .before .before .before
+
 sub-n : tie.Need-sub-n Inv-loop μ-loop
 sub-n c = end-above _ _ _ (c .pre .0) (c .pre .2)
 
@@ -18,37 +38,44 @@ loop-holds : tie.Need-loop-holds Inv-loop μ-loop
 loop-holds c = (omega arith, λ j l. absurd (omega arith))
 
 add-x : tie.Need-add-x Inv-loop μ-loop
-add-x c = omega (arith, first-inside _ _ _ _ (c .before .before .pre .0) (c .before .before .pre .2) (c .loop-test .taken))
+add-x c = omega (arith, first c)
 
 mul-x : tie.Need-mul-x Inv-loop μ-loop
-mul-x c = omega (arith, first-inside _ _ _ _ (c .before .before .pre .0) (c .before .before .pre .2) (c .loop-test .taken))
+mul-x c = omega (arith, first c)
 
 shared-slice-read-x : tie.Need-shared-slice-read-x Inv-loop μ-loop
-shared-slice-read-x c = first-inside _ _ _ _ (c .before .before .before .pre .0) (c .before .before .before .pre .2) (c .before .loop-test .taken)
+shared-slice-read-x c = first (c .before)
 
 add-y : tie.Need-add-y Inv-loop μ-loop
-add-y c = omega (arith, second-inside _ _ _ _ _ (c .before .before .before .pre .0) (c .before .before .before .pre .1) (c .before .before .before .pre .2) (c .before .loop-test .taken) (c .before .before .loop .inv .1))
+add-y c = omega (arith, second (c .before))
 
 mul-y : tie.Need-mul-y Inv-loop μ-loop
-mul-y c = omega (arith, second-inside _ _ _ _ _ (c .before .before .before .pre .0) (c .before .before .before .pre .1) (c .before .before .before .pre .2) (c .before .loop-test .taken) (c .before .before .loop .inv .1))
+mul-y c = omega (arith, second (c .before))
 
 shared-slice-read-y : tie.Need-shared-slice-read-y Inv-loop μ-loop
-shared-slice-read-y c = second-inside _ _ _ _ _ (c .before .before .before .before .pre .0) (c .before .before .before .before .pre .1) (c .before .before .before .before .pre .2) (c .before .before .loop-test .taken) (c .before .before .before .loop .inv .1)
+shared-slice-read-y c = second (c .before .before)
 
 returns : tie.Need-returns Inv-loop μ-loop
-returns c = found-less _ _ _ _ _ (c .before .before .before .before .before .pre .2) (c .before .before .before .before .loop .inv .1) (c .before .before .before .loop-test .taken) (c .if1 .taken)
+returns c =
+    let t = less c in found-less _ _ _ _ _ (lent t .pre .2) (t .before .loop .inv .1) (t .loop-test .taken) (c .if1 .taken)
 
 returns-2 : tie.Need-returns-2 Inv-loop μ-loop
-returns-2 c = found-greater _ _ _ _ _ (c .before .before .before .before .before .before .pre .2) (c .before .before .before .before .before .loop .inv .1) (c .before .before .before .before .loop-test .taken) (c .if2 .taken)
+returns-2 c =
+    let t = notLess (c .before) in found-greater _ _ _ _ _ (lent t .pre .2) (t .before .loop .inv .1) (t .loop-test .taken) (c .if2 .taken)
 
 add-i : tie.Need-add-i Inv-loop μ-loop
-add-i c = omega (arith, c .before .before .before .before .loop-test .taken)
+add-i c = omega (arith, notLess (c .before) .loop-test .taken)
 
 loop-less : tie.Need-loop-less Inv-loop μ-loop
-loop-less c = omega (arith, c .before .before .before .before .loop-test .taken)
+loop-less c = omega (arith, notLess (c .before) .loop-test .taken)
 
 loop-again : tie.Need-loop-again Inv-loop μ-loop
-loop-again c = (omega (arith, c .before .before .before .before .loop-test .taken), agree-next (now (c .before .before .before .before .before .before .args .s)) (c .before .before .before .before .before .before .args .a) (c .before .before .before .before .before .before .args .b) (c .before .before .before .before .before .loop .i) (c .before .before .before .before .before .loop .inv .1) (c .before .if1 .left) (c .if2 .left))
+loop-again c =
+    let t = notLess (c .before) in
+    let q = lent t .args in (
+      omega (arith, t .loop-test .taken),
+      agree-next (q .s .now) (q .a) (q .b) (t .before .loop .i) (t .before .loop .inv .1) (c .before .if1 .left) (c .if2 .left),
+    )
 
 returns-3 : tie.Need-returns-3 Inv-loop μ-loop
 returns-3 c = found-equal _ _ _ _ _ (c .before .before .pre .2) (c .before .loop .inv .1) (omega (arith, c .loop-test .left))

@@ -1,3 +1,4 @@
+-- `copy`: the first i cells have been copied, and nothing else is changed.
 use Prim.Native.Nat.{_-_, _≤_}
 use native.Mathlib.Omega.{arith}
 use Rattle.arena.specs.Code.{Copied}
@@ -39,7 +40,11 @@ loop-less : tie.Need-loop-less Inv-loop μ-loop
 loop-less c = omega (arith, c .before .loop-test .taken)
 
 loop-again : tie.Need-loop-again Inv-loop μ-loop
-loop-again c = (omega (arith, c .before .loop-test .taken), copied-step _ _ _ _ _ _ (c .before .before .loop .inv .1) (c .before .before .before .pre .2) (c .before .loop-test .taken) (c .before .before .before .pre .1))
+loop-again c =
+    let t = c .before in
+    let l = t .before in
+    let q = l .before .pre in
+    (omega (arith, t .loop-test .taken), copied-step _ _ _ _ _ _ (l .loop .inv .1) (q .2) (t .loop-test .taken) (q .1))
 
 same-length : tie.Need-same-length Inv-loop μ-loop
 same-length c = c .before .loop .inv .1 .kept

@@ -1,63 +1,28 @@
+-- `end_of`: a cell below that of a pair is a scalar's and so a whole value; any other value is walked.
 use borrow.Author.Needs.{needs}
-use Rattle.arena.proofs.Standing.{Pending, pending-start, pending-step, pending-inside, pending-end, pending-few}
-use Prim.Native.Nat.{_+_, _-_}
-use native.Mathlib.Omega.{arith}
-use lib.ListN.{length}
-use Rattle.arena.specs.Code.{ValueAt, CellsFit}
-use Rattle.rules.specs.Values.{Value, weight}
-use Rattle.arena.proofs.Standing.{Pending, pending-start, pending-step, pending-inside, pending-end}
+use Rattle.arena.proofs.ValueParts.{some-inside, one-cell}
 use Rattle.arena.proofs.end_of.Statement.{statement}
 use Rattle.arena.proofs.end_of.Tie as tie
 
-abbrev Inv-loop : tie.InvT-loop
-Inv-loop s at i₀ left₀ i left = (v : Value) → ValueAt s at v → CellsFit v → Pending s i left (at + weight v)
+mul-if1 : tie.Need-mul-if1
+mul-if1 c = search needs
 
-abbrev μ-loop : tie.MeasureT-loop
-μ-loop s at i₀ left₀ i left = length s - i
+shared-slice-read-if1 : tie.Need-shared-slice-read-if1
+shared-slice-read-if1 c = some-inside _ _ (c .before .before .pre)
 
-loop-holds : tie.Need-loop-holds Inv-loop μ-loop
-loop-holds c = λ v h f. pending-start _ _ v h f
+add-result : tie.Need-add-result
+add-result c = search needs
 
-mul-parts : tie.Need-mul-parts Inv-loop μ-loop
-mul-parts c = let h = pending-inside _ _ _ _ (c .before .loop .inv (c .before .before .before .pre .value) (c .before .before .before .pre .stands) (c .before .before .before .pre .fits)) (c .loop-test .taken) in omega (arith, h .0)
+returns : tie.Need-returns
+returns c = one-cell _ _ (c .if1 .taken)
 
-shared-slice-read-parts : tie.Need-shared-slice-read-parts Inv-loop μ-loop
-shared-slice-read-parts c = pending-inside _ _ _ _ (c .before .before .loop .inv (c .before .before .before .before .pre .value) (c .before .before .before .before .pre .stands) (c .before .before .before .before .pre .fits)) (c .before .loop-test .taken) .0
+walk-end-requires : tie.Need-walk-end-requires
+walk-end-requires c κs = search needs
 
-parts-requires : tie.Need-parts-requires Inv-loop μ-loop
-parts-requires c κs = search needs
-
-sub-left : tie.Need-sub-left Inv-loop μ-loop
-sub-left c = omega (arith, c .before .before .loop-test .taken)
-
-add-left : tie.Need-add-left Inv-loop μ-loop
-add-left c = omega (arith, pending-few _ _ _ _ (pending-step _ _ _ _ (c .before .before .before .loop .inv (c .before .before .before .before .before .pre .value) (c .before .before .before .before .before .pre .stands) (c .before .before .before .before .before .pre .fits)) (c .before .before .loop-test .taken)), c .parts .ensures .0)
-
-add-i : tie.Need-add-i Inv-loop μ-loop
-add-i c = omega (arith, pending-inside _ _ _ _ (c .before .before .before .loop .inv (c .before .before .before .before .before .pre .value) (c .before .before .before .before .before .pre .stands) (c .before .before .before .before .before .pre .fits)) (c .before .before .loop-test .taken) .0)
-
-loop-less : tie.Need-loop-less Inv-loop μ-loop
-loop-less c = omega (arith, pending-inside _ _ _ _ (c .before .before .before .loop .inv (c .before .before .before .before .before .pre .value) (c .before .before .before .before .before .pre .stands) (c .before .before .before .before .before .pre .fits)) (c .before .before .loop-test .taken) .0)
-
-loop-again : tie.Need-loop-again Inv-loop μ-loop
-loop-again c = λ v h f. rw (c .parts .ensures .0) (pending-step _ _ _ _ (c .before .before .before .loop .inv v h f) (c .before .before .loop-test .taken))
-
-returns : tie.Need-returns Inv-loop μ-loop
-returns c = λ v h f. pending-end _ _ _ _ (c .before .loop .inv v h f) (omega (arith, c .loop-test .left))
+returns-2 : tie.Need-returns-2
+returns-2 c = search needs
 
 pub end-of-spec : {M : Type 1} → statement M
 end-of-spec =
     tie.close
-    (tie.spec
-    Inv-loop
-    μ-loop
-    loop-holds
-    mul-parts
-    shared-slice-read-parts
-    parts-requires
-    sub-left
-    add-left
-    add-i
-    loop-less
-    loop-again
-    returns)
+    (tie.spec mul-if1 shared-slice-read-if1 add-result returns walk-end-requires returns-2)

@@ -1,3 +1,4 @@
+-- `parts`: by the tag of the cell.
 use native.Mathlib.Omega.{arith}
 use Rattle.arena.proofs.Standing.{parts-pair, parts-set, parts-scalar}
 use borrow.Author.Needs.{needs}
@@ -14,7 +15,9 @@ low-requires : tie.Need-low-requires
 low-requires c κs = search needs
 
 returns-2 : tie.Need-returns-2
-returns-2 c = (parts-set _ _ _ (c .before .before .before .tag .ensures) (c .before .before .if1 .left) (c .before .if2 .taken) (c .low .ensures .0), c .low .ensures .1)
+returns-2 c =
+    let l = c .before .before in
+    (parts-set _ _ _ (l .before .tag .ensures) (l .if1 .left) (c .before .if2 .taken) (c .low .ensures .0), c .low .ensures .1)
 
 returns-3 : tie.Need-returns-3
 returns-3 c = (parts-scalar _ _ (c .before .before .tag .ensures) (c .before .if1 .left) (c .if2 .left), omega arith)

@@ -1,79 +1,80 @@
--- `contains`: the value is in the set where it is among the members that are left.
+-- `contains`: where the members are one cell each, the value is a member if its cell is one of theirs; other sets are walked.
 use borrow.Author.Needs.{needs}
-use native.Mathlib.Omega.{arith}
+use Prim.Native.Nat.{_+_}
+use mathlib.Core.Path.{sym, subst}
 use lib.ListN.{length}
-use Rattle.rules.specs.Values.{Value, Values}
-use Rattle.arena.specs.Code.{ValueBelow, SetBelow}
-use Rattle.arena.proofs.FrontLaws.{set-inside, value-some}
-use Rattle.sets.proofs.SearchLaws.{Searched, searched-start, searched-at, searched-end, searched-found, searched-past, searched-next}
+use Rattle.rules.specs.Values.{Values}
+use Rattle.arena.specs.Code.{SetBelow, Front}
+use Rattle.arena.proofs.ValueParts.{some-inside}
+use Rattle.arena.proofs.FrontLaws.{front-start, value-some}
+use Rattle.sets.specs.Fronts.{Cells}
+use Rattle.sets.proofs.RowLaws.{cells-row, cell-in}
 use Rattle.sets.proofs.contains.Statement.{statement}
 use Rattle.sets.proofs.contains.Tie as tie
 
-abbrev Inv-loop : tie.InvT-loop
-Inv-loop s e a end left₀ i₀ left i = (v : Value) (vs : Values) → ValueBelow s (length s) e v → SetBelow s (length s) a vs → Searched s i left v vs
+-- The members are one cell each, and their number is known.
+abbrev Listed : Type 0
+Listed = tie.After-low
 
-abbrev μ-loop : tie.MeasureT-loop
-μ-loop s e a end left₀ i₀ left i = left
+abbrev lent : Listed → tie.Start
+lent l = l .before .before .before .before .before
 
-end-of-requires : tie.Need-end-of-requires Inv-loop μ-loop
-end-of-requires c κs = value-some _ _ _ _ (c .before .pre .0 .1)
+cells : (l : Listed) → Cells (lent l .args .s .now) (lent l .args .a + 1) (l .low .result)
+cells l =
+    let o = l .before .before in
+    subst (Cells (lent l .args .s .now) (lent l .args .a + 1)) (sym (l .low .ensures .0)) (o .before .of-cells .ensures (o .if1 .taken))
 
-mul-low : tie.Need-mul-low Inv-loop μ-loop
-mul-low c = omega (arith, set-inside _ _ _ _ (c .before .before .pre .1 .1))
+front : (l : Listed) (vs : Values) → SetBelow (lent l .args .s .now) (length (lent l .args .s .now)) (lent l .args .a) vs →
+    Front (lent l .args .s .now) (length (lent l .args .s .now)) (lent l .args .a + 1) (l .low .result) vs
+front l vs h = front-start _ _ _ vs h _ (l .low .ensures .0)
 
-shared-slice-read-low : tie.Need-shared-slice-read-low Inv-loop μ-loop
-shared-slice-read-low c = set-inside _ _ _ _ (c .before .before .before .pre .1 .1)
+of-cells-requires : tie.Need-of-cells-requires
+of-cells-requires c κs = search needs
 
-low-requires : tie.Need-low-requires Inv-loop μ-loop
+mul-low : tie.Need-mul-low
+mul-low c = search needs
+
+shared-slice-read-low : tie.Need-shared-slice-read-low
+shared-slice-read-low c = search needs
+
+low-requires : tie.Need-low-requires
 low-requires c κs = search needs
 
-add-i : tie.Need-add-i Inv-loop μ-loop
-add-i c = omega (arith, set-inside _ _ _ _ (c .before .before .before .before .pre .1 .1))
+add-has-cell : tie.Need-add-has-cell
+add-has-cell c = search needs
 
-loop-holds : tie.Need-loop-holds Inv-loop μ-loop
-loop-holds c = λ v vs h k. searched-start _ _ _ v vs k (c .low .ensures .0)
+mul-has-cell : tie.Need-mul-has-cell
+mul-has-cell c = search needs
 
-compare-requires : tie.Need-compare-requires Inv-loop μ-loop
-compare-requires c κs = (value-some _ _ _ _ (c .before .before .before .before .before .before .pre .0 .1), searched-at _ _ _ _ _ (c .before .loop .inv _ _ (c .before .before .before .before .before .before .pre .0 .1) (c .before .before .before .before .before .before .pre .1 .1)) (c .loop-test .taken), c .before .before .before .before .end-of .ensures)
+shared-slice-read-has-cell : tie.Need-shared-slice-read-has-cell
+shared-slice-read-has-cell c = some-inside _ _ (value-some _ _ _ _ (lent (c .before) .pre .0 .1))
 
-returns : tie.Need-returns Inv-loop μ-loop
-returns c = λ v vs h k. searched-found _ _ _ v vs (c .before .before .before .loop .inv v vs h k) _ _ h (c .before .compare .ensures) (c .before .before .loop-test .taken) (c .if1 .taken)
+has-cell-requires : tie.Need-has-cell-requires
+has-cell-requires c κs = let l = c .before in cells-row _ _ _ _ _ (front l _ (lent l .pre .1 .1)) (cells l)
 
-returns-2 : tie.Need-returns-2 Inv-loop μ-loop
-returns-2 c = λ v vs h k. searched-past _ _ _ v vs (c .before .before .before .before .loop .inv v vs h k) _ _ h (c .before .before .compare .ensures) (c .before .before .before .loop-test .taken) (c .if2 .taken)
+returns : tie.Need-returns
+returns c = λ v vs h k.
+    let l = c .before .before in
+    cell-in _ _ v (h .stands) (h .fits) _ _ _ vs (front l vs k) (cells l) _ (c .has-cell .ensures)
 
-end-of-requires-2 : tie.Need-end-of-requires-2 Inv-loop μ-loop
-end-of-requires-2 c κs = searched-at _ _ _ _ _ (c .before .before .before .before .loop .inv _ _ (c .before .before .before .before .before .before .before .before .before .pre .0 .1) (c .before .before .before .before .before .before .before .before .before .pre .1 .1)) (c .before .before .before .loop-test .taken)
+walk-contains-requires : tie.Need-walk-contains-requires
+walk-contains-requires c κs = search needs
 
-sub-left : tie.Need-sub-left Inv-loop μ-loop
-sub-left c = omega (arith, c .before .before .before .before .loop-test .taken)
-
-loop-less : tie.Need-loop-less Inv-loop μ-loop
-loop-less c = omega (arith, c .before .before .before .before .loop-test .taken)
-
-loop-again : tie.Need-loop-again Inv-loop μ-loop
-loop-again c = λ v vs h k. searched-next _ _ _ v vs (c .before .before .before .before .before .loop .inv v vs h k) _ _ h (c .before .before .before .compare .ensures) (c .before .before .before .before .loop-test .taken) _ (c .before .before .if1 .left) (c .before .if2 .left) (c .end-of2 .ensures)
-
-returns-3 : tie.Need-returns-3 Inv-loop μ-loop
-returns-3 c = λ v vs h k. searched-end _ _ _ v vs (c .before .loop .inv v vs h k) (c .loop-test .left)
+returns-2 : tie.Need-returns-2
+returns-2 c = search needs
 
 pub contains-spec : {M : Type 1} → statement M
 contains-spec =
     tie.close
     (tie.spec
-    Inv-loop
-    μ-loop
-    end-of-requires
+    of-cells-requires
     mul-low
     shared-slice-read-low
     low-requires
-    add-i
-    loop-holds
-    compare-requires
+    add-has-cell
+    mul-has-cell
+    shared-slice-read-has-cell
+    has-cell-requires
     returns
-    returns-2
-    end-of-requires-2
-    sub-left
-    loop-less
-    loop-again
-    returns-3)
+    walk-contains-requires
+    returns-2)

@@ -1,10 +1,28 @@
 -- `finish`: the rest of one set, then the cell of the set that has been built.
-use borrow.Author.Needs.{needs}
 use native.Mathlib.Omega.{arith}
 use Rattle.sets.proofs.BuildLaws.{end-heavy, end-tail, end-over, end-count, end-made}
 use borrow.Author.Needs.{needs}
 use Rattle.sets.proofs.finish.Statement.{statement}
 use Rattle.sets.proofs.finish.Tie as tie
+
+-- What has been built is not too heavy so far; then the rest is put, and what that has given is light or not.
+abbrev Light : Type 0
+Light = tie.Else1
+
+abbrev lent : Light → tie.Start
+lent l = l .before .before .before
+
+abbrev Put : Type 0
+Put = tie.After-tail
+
+abbrev rest : Put → tie.After-rest-of
+rest q = q .before .before
+
+abbrev light : Put → Light
+light q = rest q .before
+
+abbrev put : tie.After-struct-known2 → Put
+put o = o .before .before .before
 
 add-limit : tie.Need-add-limit
 add-limit c = search needs
@@ -16,16 +34,24 @@ rest-of-requires : tie.Need-rest-of-requires
 rest-of-requires c κs = search needs
 
 tail-requires : tie.Need-tail-requires
-tail-requires c κs = end-tail _ _ _ _ _ _ (c .before .before .before .before .before .pre .over) (c .before .before .if1 .left) (c .before .rest-of .ensures) (c .before .before .before .before .before .pre)
+tail-requires c κs =
+    let l = c .before .before in
+    end-tail _ _ _ _ _ _ (lent l .pre .over) (l .if1 .left) (c .before .rest-of .ensures) _ (lent l .pre)
 
 same-length : tie.Need-same-length
 same-length c = search needs
 
 returns-2 : tie.Need-returns-2
-returns-2 c = end-over _ _ _ _ _ _ (c .before .before .before .before .before .before .before .before .before .before .pre .over) (c .before .before .before .before .before .before .before .if1 .left) (c .before .before .before .before .before .before .rest-of .ensures) _ _ (c .before .before .before .before .tail .ensures) (c .if2 .taken)
+returns-2 c =
+    let q = put (c .before) in
+    let l = light q in
+    end-over _ _ _ _ _ _ (lent l .pre .over) (l .if1 .left) (rest q .rest-of .ensures) _ _ (q .tail .ensures) (c .if2 .taken)
 
 add-s : tie.Need-add-s
-add-s c = omega (arith, end-count _ _ _ _ _ _ (c .before .before .before .before .before .before .before .before .before .before .before .pre .over) (c .before .before .before .before .before .before .before .before .if1 .left) (c .before .before .before .before .before .before .before .rest-of .ensures) _ _ (c .before .before .before .before .before .tail .ensures) (c .before .before .before .before .before .before .before .before .before .before .before .pre) (c .before .if2 .left))
+add-s c =
+    let q = put (c .before .before) in
+    let l = light q in
+    omega (arith, end-count _ _ _ _ _ _ (lent l .pre .over) (l .if1 .left) (rest q .rest-of .ensures) _ _ (q .tail .ensures) _ (lent l .pre) (c .before .if2 .left))
 
 mul-s : tie.Need-mul-s
 mul-s c = search needs
@@ -37,7 +63,10 @@ same-length-2 : tie.Need-same-length-2
 same-length-2 c = search needs
 
 returns-3 : tie.Need-returns-3
-returns-3 c = end-made _ _ _ _ _ _ (c .before .before .before .before .before .before .before .before .before .before .before .pre .over) (c .before .before .before .before .before .before .before .before .if1 .left) (c .before .before .before .before .before .before .before .rest-of .ensures) _ _ (c .before .before .before .before .before .tail .ensures) (c .before .before .before .before .before .before .before .before .before .before .before .pre) (c .before .if2 .left)
+returns-3 c =
+    let q = put (c .before .before) in
+    let l = light q in
+    end-made _ _ _ _ _ _ (lent l .pre .over) (l .if1 .left) (rest q .rest-of .ensures) _ _ (q .tail .ensures) _ (lent l .pre) (c .before .if2 .left)
 
 pub finish-spec : {M : Type 1} → statement M
 finish-spec =

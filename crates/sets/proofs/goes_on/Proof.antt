@@ -1,7 +1,6 @@
 -- `goes_on`: the tests one by one.
 use mathlib.Core.Logic.{inl, inr}
 use borrow.Author.Needs.{needs}
-use borrow.Author.Needs.{needs}
 use Rattle.sets.proofs.goes_on.Statement.{statement}
 use Rattle.sets.proofs.goes_on.Tie as tie
 

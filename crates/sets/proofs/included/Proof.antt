@@ -1,86 +1,85 @@
--- `included`: the answer is whether the members left of the first set are among those left of the second.
-use Prim.Native.Nat.{_+_}
+-- `included`: a set with more members is not included; rows of cells are compared by cells, other sets are walked.
 use borrow.Author.Needs.{needs}
-use borrow.Author.Tests.{not-true, not-false}
-use native.Mathlib.Omega.{arith}
-use lib.ListN.{length}
-use Rattle.rules.specs.Values.{Values, members}
-use Rattle.rules.specs.Operations.{allIn}
-use Rattle.arena.specs.Code.{SetBelow}
-use Rattle.arena.proofs.FrontLaws.{set-inside}
-use Rattle.sets.proofs.TurnLaws.{Including, including-start, including-end, including-short, including-two, including-turn}
+use Rattle.arena.proofs.FrontLaws.{front-start}
+use Rattle.sets.proofs.TurnLaws.{including-start}
+use Rattle.sets.proofs.CellLaws.{including-fewer, two-rows}
 use Rattle.sets.proofs.included.Statement.{statement}
 use Rattle.sets.proofs.included.Tie as tie
 
-abbrev Inv-loop : tie.InvT-loop
-Inv-loop s a b m₀ n₀ i₀ j₀ m n i j = (vs ws : Values) → SetBelow s (length s) a vs → SetBelow s (length s) b ws → Including s i m j n (allIn (members vs) (members ws))
+-- Both numbers of members are known, and both sets are of cells.
+abbrev Listed : Type 0
+Listed = tie.After-low2
 
-abbrev μ-loop : tie.MeasureT-loop
-μ-loop s a b m₀ n₀ i₀ j₀ m n i j = m + n
+abbrev lent : Listed → tie.Start
+lent l = l .before .before .before .before .before
 
-mul-low : tie.Need-mul-low Inv-loop μ-loop
-mul-low c = omega (arith, set-inside _ _ _ _ (c .before .pre .0 .1))
+abbrev listed : tie.Then2 → Listed
+listed t = t .before .before .before
 
-shared-slice-read-low : tie.Need-shared-slice-read-low Inv-loop μ-loop
-shared-slice-read-low c = set-inside _ _ _ _ (c .before .before .pre .0 .1)
+mul-low : tie.Need-mul-low
+mul-low c = search needs
 
-low-requires : tie.Need-low-requires Inv-loop μ-loop
+shared-slice-read-low : tie.Need-shared-slice-read-low
+shared-slice-read-low c = search needs
+
+low-requires : tie.Need-low-requires
 low-requires c κs = search needs
 
-mul-low-2 : tie.Need-mul-low-2 Inv-loop μ-loop
-mul-low-2 c = omega (arith, set-inside _ _ _ _ (c .before .before .before .pre .1 .1))
+mul-low-2 : tie.Need-mul-low-2
+mul-low-2 c = search needs
 
-shared-slice-read-low-2 : tie.Need-shared-slice-read-low-2 Inv-loop μ-loop
-shared-slice-read-low-2 c = set-inside _ _ _ _ (c .before .before .before .before .pre .1 .1)
+shared-slice-read-low-2 : tie.Need-shared-slice-read-low-2
+shared-slice-read-low-2 c = search needs
 
-low-requires-2 : tie.Need-low-requires-2 Inv-loop μ-loop
+low-requires-2 : tie.Need-low-requires-2
 low-requires-2 c κs = search needs
 
-add-i : tie.Need-add-i Inv-loop μ-loop
-add-i c = omega (arith, set-inside _ _ _ _ (c .before .before .before .before .before .pre .0 .1))
+returns : tie.Need-returns
+returns c = λ vs ws h k.
+    let l = c .before in
+    including-fewer _ _ _ _ _ _ (including-start _ _ _ _ _ vs ws h k (l .before .before .low .ensures .0) (l .low2 .ensures .0)) (c .if1 .taken)
 
-add-j : tie.Need-add-j Inv-loop μ-loop
-add-j c = omega (arith, set-inside _ _ _ _ (c .before .before .before .before .before .pre .1 .1))
+both-of-cells-requires : tie.Need-both-of-cells-requires
+both-of-cells-requires c κs = search needs
 
-loop-holds : tie.Need-loop-holds Inv-loop μ-loop
-loop-holds c = λ vs ws h k. including-start _ _ _ _ _ vs ws h k (c .before .before .low .ensures .0) (c .low2 .ensures .0)
+add-cells-included : tie.Need-add-cells-included
+add-cells-included c = search needs
 
-returns : tie.Need-returns Inv-loop μ-loop
-returns c = λ vs ws h k. including-short _ _ _ _ _ _ (c .before .before .loop .inv vs ws h k) (c .before .loop-test .taken) (c .if1 .taken)
+add-cells-included-2 : tie.Need-add-cells-included-2
+add-cells-included-2 c = search needs
 
-turn-at-requires : tie.Need-turn-at-requires Inv-loop μ-loop
-turn-at-requires c κs = including-two _ _ _ _ _ _ (c .before .before .loop .inv _ _ (c .before .before .before .before .before .before .before .before .pre .0 .1) (c .before .before .before .before .before .before .before .before .pre .1 .1)) (c .before .loop-test .taken) (c .if1 .left)
+cells-included-requires : tie.Need-cells-included-requires
+cells-included-requires c κs =
+    let l = listed c in
+    two-rows _ _ _ _ _ _ _ _ (lent l .pre .0 .1) (lent l .pre .1 .1) (l .before .before .low .ensures .0) (l .low2 .ensures .0)
+    (c .before .both-of-cells .ensures (c .if2 .taken))
 
-returns-2 : tie.Need-returns-2 Inv-loop μ-loop
-returns-2 c = λ vs ws h k. including-turn _ _ _ _ _ _ (c .before .before .before .before .before .loop .inv vs ws h k) (c .before .before .before .before .loop-test .taken) (c .before .before .before .if1 .left) _ (c .before .before .turn-at .ensures) .1 (not-true _ (c .if2 .taken))
+returns-2 : tie.Need-returns-2
+returns-2 c = λ vs ws h k.
+    let l = listed (c .before) in
+    c .cells-included .ensures vs ws (front-start _ _ _ vs h _ (l .before .before .low .ensures .0)) (front-start _ _ _ ws k _ (l .low2 .ensures .0))
 
-loop-less : tie.Need-loop-less Inv-loop μ-loop
-loop-less c = including-turn _ _ _ _ _ _ (c .before .before .before .before .before .loop .inv _ _ (c .before .before .before .before .before .before .before .before .before .before .before .pre .0 .1) (c .before .before .before .before .before .before .before .before .before .before .before .pre .1 .1)) (c .before .before .before .before .loop-test .taken) (c .before .before .before .if1 .left) _ (c .before .before .turn-at .ensures) .0 (not-false _ (c .if2 .left)) .1
+walk-included-requires : tie.Need-walk-included-requires
+walk-included-requires c κs = search needs
 
-loop-again : tie.Need-loop-again Inv-loop μ-loop
-loop-again c = λ vs ws h k. including-turn _ _ _ _ _ _ (c .before .before .before .before .before .loop .inv vs ws h k) (c .before .before .before .before .loop-test .taken) (c .before .before .before .if1 .left) _ (c .before .before .turn-at .ensures) .0 (not-false _ (c .if2 .left)) .0
-
-returns-3 : tie.Need-returns-3 Inv-loop μ-loop
-returns-3 c = λ vs ws h k. including-end _ _ _ _ _ _ (c .before .loop .inv vs ws h k) (c .loop-test .left)
+returns-3 : tie.Need-returns-3
+returns-3 c = search needs
 
 pub included-spec : {M : Type 1} → statement M
 included-spec =
     tie.close
     (tie.spec
-    Inv-loop
-    μ-loop
     mul-low
     shared-slice-read-low
     low-requires
     mul-low-2
     shared-slice-read-low-2
     low-requires-2
-    add-i
-    add-j
-    loop-holds
     returns
-    turn-at-requires
+    both-of-cells-requires
+    add-cells-included
+    add-cells-included-2
+    cells-included-requires
     returns-2
-    loop-less
-    loop-again
+    walk-included-requires
     returns-3)

@@ -1,93 +1,92 @@
--- `merge`: the walk goes on while both sets have members left and what is built is not too heavy.
-use Prim.Native.Nat.{_+_}
+-- `merge`: rows of cells are merged by cells, other sets are walked.
 use borrow.Author.Needs.{needs}
-use native.Mathlib.Omega.{arith}
-use Rattle.arena.proofs.FrontLaws.{set-inside}
-use Rattle.sets.proofs.BuildLaws.{Walking, walking-start, walking-step, walking-next, walking-end, walking-made}
+use Rattle.arena.proofs.FrontLaws.{front-start}
+use Rattle.sets.proofs.CellLaws.{two-rows}
 use Rattle.sets.proofs.merge.Statement.{statement}
 use Rattle.sets.proofs.merge.Tie as tie
 
-abbrev Inv-loop : tie.InvT-loop
-Inv-loop s₀ a b top left both right m n limit w₀ s w = Walking left both right s₀ a b top s w
+-- Both sets are of cells, and both numbers of members are known.
+abbrev Listed : Type 0
+Listed = tie.After-low2
 
-abbrev μ-loop : tie.MeasureT-loop
-μ-loop s₀ a b top left both right m n limit w₀ s w = w .m + w .n
+abbrev known : Listed → tie.Then1
+known l = l .before .before .before .before
 
-mul-low : tie.Need-mul-low Inv-loop μ-loop
-mul-low c = omega (arith, set-inside _ _ _ _ (c .before .pre .0 .1))
+abbrev lent : tie.Then1 → tie.Start
+lent t = t .before .before .before .before
 
-slice-read-low : tie.Need-slice-read-low Inv-loop μ-loop
-slice-read-low c = set-inside _ _ _ _ (c .before .before .pre .0 .1)
+both-of-cells-requires : tie.Need-both-of-cells-requires
+both-of-cells-requires c κs = search needs
 
-low-requires : tie.Need-low-requires Inv-loop μ-loop
+mul-low : tie.Need-mul-low
+mul-low c = search needs
+
+slice-read-low : tie.Need-slice-read-low
+slice-read-low c = search needs
+
+low-requires : tie.Need-low-requires
 low-requires c κs = search needs
 
-mul-low-2 : tie.Need-mul-low-2 Inv-loop μ-loop
-mul-low-2 c = omega (arith, set-inside _ _ _ _ (c .before .before .before .pre .1 .1))
+mul-low-2 : tie.Need-mul-low-2
+mul-low-2 c = search needs
 
-slice-read-low-2 : tie.Need-slice-read-low-2 Inv-loop μ-loop
-slice-read-low-2 c = set-inside _ _ _ _ (c .before .before .before .before .pre .1 .1)
+slice-read-low-2 : tie.Need-slice-read-low-2
+slice-read-low-2 c = search needs
 
-low-requires-2 : tie.Need-low-requires-2 Inv-loop μ-loop
+low-requires-2 : tie.Need-low-requires-2
 low-requires-2 c κs = search needs
 
-add-limit : tie.Need-add-limit Inv-loop μ-loop
-add-limit c = omega (arith, c .before .before .before .before .before .pre .2)
+add-merge-cells : tie.Need-add-merge-cells
+add-merge-cells c = search needs
 
-add-t12 : tie.Need-add-t12 Inv-loop μ-loop
-add-t12 c = omega (arith, set-inside _ _ _ _ (c .before .before .before .before .before .pre .0 .1))
+add-merge-cells-2 : tie.Need-add-merge-cells-2
+add-merge-cells-2 c = search needs
 
-add-t16 : tie.Need-add-t16 Inv-loop μ-loop
-add-t16 c = omega (arith, set-inside _ _ _ _ (c .before .before .before .before .before .pre .1 .1))
+merge-cells-requires : tie.Need-merge-cells-requires
+merge-cells-requires c κs =
+    let l = c .before in
+    let t = known l in
+    let q = lent t .pre in
+    record {
+      rows = two-rows _ _ _ _ _ _ _ _ (q .0 .1) (q .1 .1) (l .before .before .low .ensures .0) (l .low2 .ensures .0)
+          (t .before .both-of-cells .ensures (t .if1 .taken));
+      room = q .2;
+    }
 
-add-t17 : tie.Need-add-t17 Inv-loop μ-loop
-add-t17 c = omega (arith, c .before .before .before .before .before .pre .2)
-
-loop-holds : tie.Need-loop-holds Inv-loop μ-loop
-loop-holds c = walking-start _ _ _ _ _ _ _ _ _ (c .before .before .before .before .before .pre) (c .before .before .low .ensures .0) (c .low2 .ensures .0)
-
-goes-on-requires : tie.Need-goes-on-requires Inv-loop μ-loop
-goes-on-requires c κs = search needs
-
-step-requires : tie.Need-step-requires Inv-loop μ-loop
-step-requires c κs = walking-step _ _ _ _ _ _ _ _ _ (c .before .before .before .before .before .before .before .before .before .pre) (c .before .before .before .loop .inv) _ (c .before .before .goes-on .ensures) (c .before .if1 .taken)
-
-loop-less : tie.Need-loop-less Inv-loop μ-loop
-loop-less c = c .before .before .step .ensures .fewer
-
-loop-again : tie.Need-loop-again Inv-loop μ-loop
-loop-again c = walking-next _ _ _ _ _ _ _ _ _ (c .before .before .before .before .before .before .before .before .before .before .before .before .pre) (c .before .before .before .before .before .before .loop .inv) _ _ (c .before .before .step .ensures)
-
-finish-requires : tie.Need-finish-requires Inv-loop μ-loop
-finish-requires c κs = walking-end _ _ _ _ _ _ _ _ _ (c .before .before .before .before .before .before .before .before .before .pre) (c .before .before .before .loop .inv) _ (c .before .before .goes-on .ensures) (c .before .if1 .left)
-
-same-length : tie.Need-same-length Inv-loop μ-loop
+same-length : tie.Need-same-length
 same-length c = search needs
 
-returns : tie.Need-returns Inv-loop μ-loop
-returns c = walking-made _ _ _ _ _ _ _ _ _ (c .before .before .before .before .before .before .before .before .before .before .before .before .pre) (c .before .before .before .before .before .before .loop .inv) _ _ (c .before .before .finish .ensures)
+returns : tie.Need-returns
+returns c = λ vs ws h k.
+    let m = c .before .before in
+    let l = m .before .before in
+    m .merge-cells .ensures vs ws (front-start _ _ _ vs h _ (l .before .before .low .ensures .0)) (front-start _ _ _ ws k _ (l .low2 .ensures .0))
+
+walk-merge-requires : tie.Need-walk-merge-requires
+walk-merge-requires c κs = search needs
+
+same-length-2 : tie.Need-same-length-2
+same-length-2 c = search needs
+
+returns-2 : tie.Need-returns-2
+returns-2 c = search needs
 
 pub merge-spec : {M : Type 1} → statement M
 merge-spec =
     tie.close
     (tie.spec
-    Inv-loop
-    μ-loop
+    both-of-cells-requires
     mul-low
     slice-read-low
     low-requires
     mul-low-2
     slice-read-low-2
     low-requires-2
-    add-limit
-    add-t12
-    add-t16
-    add-t17
-    loop-holds
-    goes-on-requires
-    step-requires
-    loop-less
-    loop-again
-    finish-requires
+    add-merge-cells
+    add-merge-cells-2
+    merge-cells-requires
     same-length
-    returns)
+    returns
+    walk-merge-requires
+    same-length-2
+    returns-2)

@@ -3,26 +3,27 @@ use Prim.Native.Nat.{_+_, _<_}
 use native.Mathlib.Omega.{arith}
 use borrow.Author.Needs.{needs}
 use Rattle.arena.specs.Code.{SomeAt}
-use Rattle.sets.proofs.ImageLaws.{some-inside, first-some, second-some, next-some, next-shared, next-new, next-last}
+use Rattle.arena.proofs.ValueParts.{some-inside}
+use Rattle.sets.proofs.ImageLaws.{first-some, second-some, next-some, next-shared, next-new, next-last}
 use Rattle.sets.proofs.next_pair.Statement.{statement}
 use Rattle.sets.proofs.next_pair.Tie as tie
 
 -- The pair's end is known.
-abbrev lent : tie.After-past2 → tie.Start
+abbrev lent : tie.After-end-of2 → tie.Start
 lent p = p .before .before .before
 
 -- The first part of the pair that follows.
-follows : (p : tie.After-past2) → 1 < lent p .args .n → SomeAt (lent p .args .s .now) (p .past2 .result + 1)
-follows p l = next-some _ _ _ (lent p .pre) _ _ (p .before .past .ensures) (p .past2 .ensures) l
+follows : (p : tie.After-end-of2) → 1 < lent p .args .n → SomeAt (lent p .args .s .now) (p .end-of2 .result + 1)
+follows p l = next-some _ _ _ (lent p .pre) _ _ (p .before .end-of .ensures) (p .end-of2 .ensures) l
 
-add-past : tie.Need-add-past
-add-past c = search needs
+add-end-of : tie.Need-add-end-of
+add-end-of c = search needs
 
-past-requires : tie.Need-past-requires
-past-requires c κs = first-some _ _ _ (c .before .pre)
+end-of-requires : tie.Need-end-of-requires
+end-of-requires c κs = first-some _ _ _ (c .before .pre)
 
-past-requires-2 : tie.Need-past-requires-2
-past-requires-2 c κs = second-some _ _ _ (c .before .before .pre) _ (c .past .ensures)
+end-of-requires-2 : tie.Need-end-of-requires-2
+end-of-requires-2 c κs = second-some _ _ _ (c .before .before .pre) _ (c .end-of .ensures)
 
 add-compare : tie.Need-add-compare
 add-compare c = search needs
@@ -32,30 +33,30 @@ add-compare-2 c = omega (arith, some-inside _ _ (follows (c .before) (omega (ari
 
 compare-requires : tie.Need-compare-requires
 compare-requires c κs =
-    let p = c .before in (first-some _ _ _ (lent p .pre), follows p (omega (arith, c .if1 .taken)), p .before .past .ensures)
+    let p = c .before in (first-some _ _ _ (lent p .pre), follows p (omega (arith, c .if1 .taken)), p .before .end-of .ensures)
 
 returns : tie.Need-returns
 returns c =
     let f = c .before .before in
-    next-shared _ _ _ _ _ (f .before .before .past .ensures) (f .before .past2 .ensures) _ (c .before .compare .ensures)
+    next-shared _ _ _ _ _ (f .before .before .end-of .ensures) (f .before .end-of2 .ensures) _ (c .before .compare .ensures)
     (omega (arith, f .if1 .taken)) (c .if2 .taken)
 
 returns-2 : tie.Need-returns-2
 returns-2 c =
     let f = c .before .before in
-    next-new _ _ _ _ _ (f .before .before .past .ensures) (f .before .past2 .ensures) _ (c .before .compare .ensures)
+    next-new _ _ _ _ _ (f .before .before .end-of .ensures) (f .before .end-of2 .ensures) _ (c .before .compare .ensures)
     (omega (arith, f .if1 .taken)) (c .if2 .left)
 
 returns-3 : tie.Need-returns-3
-returns-3 c = next-last _ _ _ _ _ (c .before .before .past .ensures) (c .before .past2 .ensures) (omega (arith, c .if1 .left))
+returns-3 c = next-last _ _ _ _ _ (c .before .before .end-of .ensures) (c .before .end-of2 .ensures) (omega (arith, c .if1 .left))
 
 pub next-pair-spec : {M : Type 1} → statement M
 next-pair-spec =
     tie.close
     (tie.spec
-    add-past
-    past-requires
-    past-requires-2
+    add-end-of
+    end-of-requires
+    end-of-requires-2
     add-compare
     add-compare-2
     compare-requires

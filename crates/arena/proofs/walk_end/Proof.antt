@@ -1,0 +1,83 @@
+-- `walk_end`: the values that are still to come stand from i on, up to where the value ends.
+use borrow.Author.Needs.{needs}
+use Rattle.arena.proofs.Standing.{Pending, pending-start, pending-step, pending-inside, pending-end, pending-few}
+use Prim.Native.Nat.{_+_, _-_, _<_}
+use native.Mathlib.Omega.{arith}
+use lib.ListN.{length}
+use Rattle.arena.specs.Code.{ValueAt, CellsFit}
+use Rattle.rules.specs.Values.{Value, weight}
+use Rattle.arena.proofs.walk_end.Statement.{statement}
+use Rattle.arena.proofs.walk_end.Tie as tie
+
+abbrev Inv-loop : tie.InvT-loop
+Inv-loop s at i₀ left₀ i left = (v : Value) → ValueAt s at v → CellsFit v → Pending s i left (at + weight v)
+
+abbrev μ-loop : tie.MeasureT-loop
+μ-loop s at i₀ left₀ i left = length s - i
+
+-- A turn of the loop: some value is still to come.
+abbrev Turn : Type 0
+Turn = tie.In-loop Inv-loop μ-loop
+
+abbrev lent : Turn → tie.Start Inv-loop μ-loop
+lent t = t .before .before .before
+
+pending : (t : Turn) → let q = lent t in
+    Pending (q .args .s .now) (t .before .loop .i) (t .before .loop .left) (q .args .at + weight (q .pre .value))
+pending t = let q = lent t .pre in t .before .loop .inv (q .value) (q .stands) (q .fits)
+
+inside : (t : Turn) → t .before .loop .i < length (lent t .args .s .now)
+inside t = pending-inside _ _ _ _ (pending t) (t .loop-test .taken) .0
+
+abbrev turn : tie.After-parts Inv-loop μ-loop → Turn
+turn c = c .before .before
+
+loop-holds : tie.Need-loop-holds Inv-loop μ-loop
+loop-holds c = λ v h f. pending-start _ _ v h f
+
+mul-parts : tie.Need-mul-parts Inv-loop μ-loop
+mul-parts c = omega (arith, inside c)
+
+shared-slice-read-parts : tie.Need-shared-slice-read-parts Inv-loop μ-loop
+shared-slice-read-parts c = inside (c .before)
+
+parts-requires : tie.Need-parts-requires Inv-loop μ-loop
+parts-requires c κs = search needs
+
+sub-left : tie.Need-sub-left Inv-loop μ-loop
+sub-left c = omega (arith, turn c .loop-test .taken)
+
+add-left : tie.Need-add-left Inv-loop μ-loop
+add-left c =
+    let t = turn c in
+    omega (arith, pending-few _ _ _ _ (pending-step _ _ _ _ (pending t) (t .loop-test .taken)), c .parts .ensures .0)
+
+add-i : tie.Need-add-i Inv-loop μ-loop
+add-i c = omega (arith, inside (turn c))
+
+loop-less : tie.Need-loop-less Inv-loop μ-loop
+loop-less c = omega (arith, inside (turn c))
+
+loop-again : tie.Need-loop-again Inv-loop μ-loop
+loop-again c = λ v h f.
+    let t = turn c in rw (c .parts .ensures .0) (pending-step _ _ _ _ (t .before .loop .inv v h f) (t .loop-test .taken))
+
+returns : tie.Need-returns Inv-loop μ-loop
+returns c = λ v h f. pending-end _ _ _ _ (c .before .loop .inv v h f) (omega (arith, c .loop-test .left))
+
+pub walk-end-spec : {M : Type 1} → statement M
+walk-end-spec =
+    tie.close
+    (tie.spec
+    Inv-loop
+    μ-loop
+    loop-holds
+    mul-parts
+    shared-slice-read-parts
+    parts-requires
+    sub-left
+    add-left
+    add-i
+    loop-less
+    loop-again
+    returns)

@@ -1,0 +1,152 @@
+-- Sets whose members are one cell each: a turn of a walk over two of them goes by the order of two cells as numbers, so that inclusion
+-- and merging take the turns of TurnLaws.
+use Prim.Native.Nat.{ℕ, _+_, _-_, _%_, _≤_, _<_, Ordering, Ordering·lt, Ordering·eq, Ordering·gt}
+use mathlib.Core.Bool.{Bool, true, false}
+use mathlib.Core.List.{List, _∷_}
+use mathlib.Core.Path.{_≡_, refl, sym, _∙_, subst}
+use native.Mathlib.Omega.{arith}
+use lib.Dec.{eqb}
+use lib.ListN.{length, getD}
+use borrow.Author.Tests.{eqb-true, eqb-false}
+use mir.Val.{boolByte}
+use Rattle.rules.specs.Values.{Values, none, _▸_, members, count, order}
+use Rattle.rules.specs.Operations.{allIn}
+use Rattle.laws.proofs.OrderLaws.{order-eq}
+use Rattle.arena.specs.Code.{EndsAt, Rises, AllFit, SetBelow, Front}
+use Rattle.arena.proofs.CodeLaws.{fits-small}
+use Rattle.arena.proofs.FrontLaws.{rises-rising, front-start, front-value, front-next}
+use Rattle.arena.proofs.EvenLaws.{cell-less, cell-equal, cell-greater}
+use Rattle.sets.specs.Fronts.{Cells}
+use Rattle.sets.specs.Rows.{HasCell, TwoRows}
+use Rattle.sets.proofs.TurnLaws.{allIn-less, allIn-equal, allIn-greater, turn-less, turn-equal, turn-greater}
+use Rattle.sets.proofs.TurnLaws.{Including, including-turn}
+use Rattle.sets.proofs.RowLaws.{cells-first, cells-next, cells-weigh, cell-in}
+
+-- No more members than in the set that includes them.
+few-in : (vs ws : Values) → Rises vs → Rises ws → AllFit vs → AllFit ws → allIn (members vs) (members ws) ≡ true → count vs ≤ count ws
+unfolding allIn
+few-in none ws p q f g h = omega arith
+few-in (v ▸ vs) none p q f g h = absurd (let z : _≡_ {A = ℕ} 0 1 = cc in omega arith)
+few-in (v ▸ vs) (w ▸ ws) p q f g h =
+    go (order v w) refl (few-in vs ws (p .1) (q .1) (f .1) (g .1)) (few-in (v ▸ vs) ws p (q .1) f (g .1))
+  where
+    go : (o : Ordering) → order v w ≡ o → (allIn (members vs) (members ws) ≡ true → count vs ≤ count ws) →
+        (allIn (v ∷ members vs) (members ws) ≡ true → count (v ▸ vs) ≤ count ws) → count (v ▸ vs) ≤ count (w ▸ ws)
+    go Ordering·lt e i j =
+        absurd (let z : _≡_ {A = ℕ} 0 1 = cc (allIn-less v w (members vs) (members ws) e (rises-rising (w ▸ ws) q), h) in omega arith)
+    go Ordering·eq e i j =
+        let d = order-eq v w (fits-small v (f .0)) (fits-small w (g .0)) e in
+        omega (arith, i (sym (allIn-equal v w (members vs) (members ws) e d (rises-rising (v ▸ vs) p)) ∙ h))
+    go Ordering·gt e i j = omega (arith, j (sym (allIn-greater v w (members vs) (members ws) e (rises-rising (v ▸ vs) p)) ∙ h))
+
+module _ (s : List ℕ) (a m b n : ℕ) (whole : Bool) (h : Including s a m b n whole) where
+  pub including-fewer : n < m → false ≡ whole
+  including-fewer l = go whole refl
+    where
+      go : (c : Bool) → whole ≡ c → false ≡ c
+      go true e =
+          absurd (omega (
+            arith,
+            few-in (h .left) (h .right) (h .onLeft .rises) (h .onRight .rises) (h .onLeft .fits) (h .onRight .fits)
+                (sym (h .same) ∙ e),
+            h .onLeft .counted,
+            h .onRight .counted,
+          ))
+      go false e = refl
+
+  -- A search for the first member.
+  module _ (l : 0 < m) (left : Cells s a m) (right : Cells s b n) (r : Bool) (found : HasCell s b n (getD s a 0) r) where
+    pub including-found : r ≡ true → Including s (a + 1) (m - 1) b n whole
+    unfolding allIn
+    including-found z = go (h .left) (h .onLeft) (h .same)
+      where
+        go : (vs : Values) → Front s (length s) a m vs → whole ≡ allIn (members vs) (members (h .right)) → Including s (a + 1) (m - 1) b n whole
+        go none f q = absurd (omega (arith, f .counted))
+        go (v ▸ vs) f q = record {
+          left = vs;
+          right = h .right;
+          onLeft = front-next s (length s) a m v vs f (a + 1) (m - 1) (omega (arith, cells-weigh s (length s) a m (v ▸ vs) f left .0)) (omega arith);
+          onRight = h .onRight;
+          same = q ∙ rw (← cell-in s a v (front-value s (length s) a m v vs f) (f .fits .0) (length s) b n (h .right) (h .onRight) right r found, z);
+        }
+
+    pub including-lost : r ≡ false → false ≡ whole
+    unfolding allIn
+    including-lost z = go (h .left) (h .onLeft) (h .same)
+      where
+        go : (vs : Values) → Front s (length s) a m vs → whole ≡ allIn (members vs) (members (h .right)) → false ≡ whole
+        go none f q = absurd (omega (arith, f .counted))
+        go (v ▸ vs) f q =
+            sym (q ∙ rw (← cell-in s a v (front-value s (length s) a m v vs f) (f .fits .0) (length s) b n (h .right) (h .onRight) right r found, z))
+
+  -- A turn of the walk over both.
+  module _ (l : 0 < m) (k : 0 < n) (left : Cells s a m) (right : Cells s b n) where
+    ends : EndsAt s a (a + 1)
+    ends = cells-first s a m left l
+
+    ends2 : EndsAt s b (b + 1)
+    ends2 = cells-first s b n right k
+
+    some : n ≡ 0 → ⊥
+    some z = omega arith
+
+    pub including-less : getD s a 0 < getD s b 0 → false ≡ whole
+    including-less d =
+        including-turn s a m b n whole h l some _ (turn-less s a m b n false true true (a + 1) 0 ends (cell-less s a b ends2 d) refl) .1 refl
+
+    pub including-step : getD s b 0 ≤ getD s a 0 →
+        Including s (a + boolByte (eqb (getD s a 0) (getD s b 0))) (m - boolByte (eqb (getD s a 0) (getD s b 0))) (b + 1) (n - 1) whole
+    including-step d = go (eqb (getD s a 0) (getD s b 0)) refl
+      where
+        go : (e : Bool) → eqb (getD s a 0) (getD s b 0) ≡ e → Including s (a + boolByte e) (m - boolByte e) (b + 1) (n - 1) whole
+        go true e =
+            including-turn s a m b n whole h l some _
+            (turn-equal s a m b n false true true (a + 1) 1 ends (cell-equal s a b ends2 (eqb-true _ _ e)) (b + 1) ends2 refl) .0 refl .0
+        go false e =
+            rw (let z : a + 0 ≡ a = omega arith in z, let z : m - 0 ≡ m = omega arith in z)
+            (including-turn s a m b n whole h l some _
+            (turn-greater s a m b n false true true (a + 1) 2 ends (cell-greater s a b ends2 (omega (arith, eqb-false (getD s a 0) (getD s b 0) e)))
+            (b + 1) ends2 (λ z. omega arith) (λ z. omega arith)) .0 refl .0)
+
+-- A walk over m cells from a on and n from b on: those that are left decide.
+pub record RowWalk (s : List ℕ) (a m b n i left j others : ℕ) : Type 0 where
+  pub cells : Cells s i left
+  pub otherCells : Cells s j others
+  pub on : (vs ws : Values) → Front s (length s) a m vs → Front s (length s) b n ws → Including s i left j others (allIn (members vs) (members ws))
+
+-- Two sets of them.
+pub two-rows : (s : List ℕ) (top a b m n : ℕ) (vs ws : Values) → SetBelow s top a vs → SetBelow s top b ws →
+    m ≡ getD s a 0 % 4294967296 → n ≡ getD s b 0 % 4294967296 →
+    Cells s (a + 1) (getD s a 0 % 4294967296) × Cells s (b + 1) (getD s b 0 % 4294967296) → TwoRows s (a + 1) m (b + 1) n top
+two-rows s top a b m n vs ws h k d e c = record {
+  first = vs;
+  second = ws;
+  onLeft = front-start s top a vs h m d;
+  onRight = front-start s top b ws k n e;
+  left = subst (Cells s (a + 1)) (sym d) (c .0);
+  right = subst (Cells s (b + 1)) (sym e) (c .1);
+}
+
+pub row-start : (s : List ℕ) (a m b n top : ℕ) → TwoRows s a m b n top → RowWalk s a m b n a m b n
+row-start s a m b n top h = record {
+  cells = h .left;
+  otherCells = h .right;
+  on = λ vs ws f g. record { left = vs; right = ws; onLeft = f; onRight = g; same = refl };
+}
+
+-- The cells that are left after a step.
+cells-step : (s : List ℕ) (at n : ℕ) (b : Bool) → Cells s at n → 0 < n → Cells s (at + boolByte b) (n - boolByte b)
+cells-step s at n true c l = cells-next s at n (n - 1) c (omega arith)
+cells-step s at n false c l = rw (let z : at + 0 ≡ at = omega arith in z, let z : n - 0 ≡ n = omega arith in z) c
+
+pub byte-small : (b : Bool) → boolByte b ≤ 1
+byte-small true = omega arith
+byte-small false = omega arith
+
+pub row-step : (s : List ℕ) (a m b n i left j others : ℕ) → RowWalk s a m b n i left j others → 0 < left → left ≤ others → getD s j 0 ≤ getD s i 0 →
+    RowWalk s a m b n (i + boolByte (eqb (getD s i 0) (getD s j 0))) (left - boolByte (eqb (getD s i 0) (getD s j 0))) (j + 1) (others - 1)
+row-step s a m b n i left j others w l k d = record {
+  cells = cells-step s i left (eqb (getD s i 0) (getD s j 0)) (w .cells) l;
+  otherCells = cells-next s j others (others - 1) (w .otherCells) (omega arith);
+  on = λ vs ws f g. including-step s i left j others (allIn (members vs) (members ws)) (w .on vs ws f g) l (omega arith) (w .cells) (w .otherCells) d;
+}

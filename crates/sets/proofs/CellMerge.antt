@@ -1,0 +1,275 @@
+-- The merge of two sets whose members are one cell each. A cell that is stored is a value put behind what has been built, or it lies
+-- behind it (`cell-put`); so a turn at two cells is a turn of the merge (`merge-step`).
+use Prim.Native.Nat.{ℕ, _+_, _-_, _≤_, _<_, compare, Ordering, Ordering·lt, Ordering·eq, Ordering·gt}
+use mathlib.Core.Bool.{Bool, true, false}
+use mathlib.Core.List.{List, []}
+use mathlib.Core.Logic.{_⊎_, inl, inr}
+use mathlib.Core.Path.{_≡_, refl, sym, ap, _∙_, subst}
+use native.Mathlib.Omega.{arith}
+use native.Mathlib.Decide.{decLt}
+use lib.Dec.{leb}
+use lib.ListN.{length, getD, set as setAt, length-set}
+use lib.Seq.{getD-set-same, getD-set-other}
+use borrow.Author.Tests.{le-leb, lt-leb}
+use mir.Val.{boolByte}
+use Rattle.rules.specs.Values.{Values, members}
+use Rattle.rules.specs.Operations.{setOf}
+use Rattle.laws.proofs.OrderLaws.{compare-refl, lt-compare}
+use Rattle.laws.proofs.CellsLaws.{count-weights}
+use Rattle.arena.specs.Code.{Same, EndsAt, Made, Front}
+use Rattle.arena.proofs.CodeLaws.{gt-compare}
+use Rattle.arena.proofs.Standing.{same-refl, same-trans}
+use Rattle.arena.proofs.EvenLaws.{cell-less, cell-equal, cell-greater}
+use Rattle.sets.specs.declared.Turn.{Turn}
+use Rattle.sets.specs.declared.Out.{Out}
+use Rattle.sets.specs.declared.Walk.{Walk}
+use Rattle.sets.specs.declared.CellTurn.{CellTurn}
+use Rattle.sets.specs.Merged.{merged}
+use Rattle.sets.specs.Fronts.{TurnAt, Cells, Put, Merging, EndPre, Ended}
+use Rattle.sets.specs.Rows.{lesserOf, moveLeft, moveRight, CellTurned, RowsBelow}
+use Rattle.sets.proofs.TurnLaws.{turn-less, turn-equal, turn-greater}
+use Rattle.sets.proofs.BuildLaws.{put-kept, put-none, after, step-on, built-none}
+use Rattle.sets.proofs.CellLaws.{byte-small}
+use Rattle.sets.proofs.RowLaws.{cells-next, cells-first, cells-frame}
+
+pub eq-compare : (x y : ℕ) → y ≤ x → x ≤ y → compare x y ≡ Ordering·eq
+eq-compare x y l k = let e : x ≡ y = omega arith in ap (λ (z : ℕ). compare z y) e ∙ compare-refl y
+
+-- What holds of the order of two numbers in each case.
+pub by-order : (x y : ℕ) (P : Ordering → Type 0) → (x < y → P Ordering·lt) → (x ≡ y → P Ordering·eq) → (y < x → P Ordering·gt) → P (compare x y)
+by-order x y P a b c = go (decLt x y) (decLt y x)
+  where
+    go : Dec (x < y) → Dec (y < x) → P (compare x y)
+    go (yes l) d = subst P (sym (lt-compare x y l)) (a l)
+    go (no n) (yes l) = subst P (sym (gt-compare x y l)) (c l)
+    go (no n) (no m) = subst P (sym (eq-compare x y (omega arith) (omega arith))) (b (omega arith))
+
+pub lesser-left : (x y : ℕ) → x ≤ y → x ≡ lesserOf (compare x y) x y
+lesser-left x y l = by-order x y (λ o. x ≡ lesserOf o x y) (λ k. refl) (λ e. refl) (λ k. omega arith)
+
+pub lesser-right : (x y : ℕ) → y < x → y ≡ lesserOf (compare x y) x y
+lesser-right x y l = by-order x y (λ o. y ≡ lesserOf o x y) (λ k. omega arith) (λ e. omega arith) (λ k. refl)
+
+pub move-left : (x y : ℕ) → boolByte (leb x y) ≡ moveLeft (compare x y)
+move-left x y =
+    by-order x y (λ o. boolByte (leb x y) ≡ moveLeft o) (λ l. ap boolByte (le-leb x y (omega arith))) (λ e. ap boolByte (le-leb x y (omega arith)))
+    (λ l. ap boolByte (lt-leb x y l))
+
+pub move-right : (x y : ℕ) → boolByte (leb y x) ≡ moveRight (compare x y)
+move-right x y =
+    by-order x y (λ o. boolByte (leb y x) ≡ moveRight o) (λ l. ap boolByte (lt-leb y x l)) (λ e. ap boolByte (le-leb y x (omega arith)))
+    (λ l. ap boolByte (le-leb y x (omega arith)))
+
+-- A cell stored at the end of what has been built is kept or not.
+cell-put : (keep : Bool) (s : List ℕ) (from to count : ℕ) → from < to → to < length s → count < 4294967296 →
+    Put keep s from (from + 1) 1 (record { to = to; count = count }) (setAt s to (getD s from 0))
+    (record { to = to + boolByte keep; count = count + boolByte keep })
+cell-put true s from to count l k f =
+    subst (λ (n : ℕ). Put true s from (from + 1) 1 (record { to = to; count = count }) (setAt s to (getD s from 0)) (record { to = to + n; count = count + 1 }))
+    (let e : from + 1 - from ≡ 1 = omega arith in e)
+    (put-kept s from (from + 1) 1 (record { to = to; count = count }) (setAt s to (getD s from 0))
+    (record { forward = omega arith; behind = omega arith; room = omega arith; few = omega arith })
+    (record {
+      there = λ i p. let e : i ≡ 0 = omega arith in there i e;
+      before = λ i p. getD-set-other s to i (getD s from 0) 0 (λ e. omega arith);
+      after = λ i p. getD-set-other s to i (getD s from 0) 0 (λ e. omega arith);
+      kept = length-set s to (getD s from 0);
+    }))
+  where
+    there : (i : ℕ) → i ≡ 0 → getD (setAt s to (getD s from 0)) (to + i) 0 ≡ getD s (from + i) 0
+    there i e =
+        rw (let z : to + i ≡ to = omega arith in z, let z : from + i ≡ from = omega arith in z) (getD-set-same s to (getD s from 0) 0 k)
+cell-put false s from to count l k f =
+    rw (let e : to + 0 ≡ to = omega arith in e, let e : count + 0 ≡ count = omega arith in e)
+    (put-none s from (from + 1) 1 (record { to = to; count = count }) (setAt s to (getD s from 0))
+    (record { same = λ i p. getD-set-other s to i (getD s from 0) 0 (λ e. omega arith); kept = length-set s to (getD s from 0) }))
+
+-- A merge of m cells from a on and n from b on: `left` and `others` cells are left of them, `count` have been built.
+pub record RowMerge (l e r : Bool) (s₀ : List ℕ) (a m b n top : ℕ) (s : List ℕ) (i j to : ℕ) : Type 0 where
+  pub frame : Same top s₀ s
+  pub left : ℕ
+  pub others : ℕ
+  pub count : ℕ
+  pub leftIs : i + left ≡ a + m
+  pub othersIs : j + others ≡ b + n
+  pub countIs : to ≡ top + 1 + count
+  pub few : count + (left + others) ≤ m + n
+  pub cells : Cells s i left
+  pub otherCells : Cells s j others
+  pub on : (vs ws : Values) → Front s₀ top a m vs → Front s₀ top b n ws →
+      Merging l e r s top (record { a = i; m = left; b = j; n = others; to = to; count = count }) (merged l e r (members vs) (members ws))
+
+module _ (l e r : Bool) (s : List ℕ) (a m b n top : ℕ) (p : RowsBelow s a m b n top) where
+  pub merge-small : (m ≤ 255) × (n ≤ 255) × (a + m ≤ top) × (b + n ≤ top)
+  merge-small = (
+    omega (arith, p .rows .onLeft .counted, p .rows .onLeft .light, count-weights (p .rows .first)),
+    omega (arith, p .rows .onRight .counted, p .rows .onRight .light, count-weights (p .rows .second)),
+    omega (arith, p .rows .onLeft .counted, p .rows .onLeft .below, count-weights (p .rows .first)),
+    omega (arith, p .rows .onRight .counted, p .rows .onRight .below, count-weights (p .rows .second)),
+  )
+
+  pub merge-start : RowMerge l e r s a m b n top s a b (top + 1)
+  merge-start = record {
+    frame = same-refl top s;
+    left = m;
+    others = n;
+    count = 0;
+    leftIs = refl;
+    othersIs = refl;
+    countIs = omega arith;
+    few = omega arith;
+    cells = p .rows .left;
+    otherCells = p .rows .right;
+    on = λ vs ws f g. record {
+      left = vs;
+      right = ws;
+      done = [];
+      onLeft = f;
+      onRight = g;
+      built = built-none s top (omega (arith, p .room));
+      all = refl;
+    };
+  }
+
+-- A turn at two sets that both have cells left.
+module _ (l e r : Bool) (s₀ : List ℕ) (a m b n top : ℕ) (p : RowsBelow s₀ a m b n top) (s : List ℕ) (i j to : ℕ)
+    (h : RowMerge l e r s₀ a m b n top s i j to) (onLeft : i < a + m) (onRight : j < b + n) where
+  pub merge-inside : (i < top) × (j < top) × (to < length s) × (to + 1 ≤ top + 512)
+  merge-inside =
+      let q = merge-small l e r s₀ a m b n top p in (
+        omega (arith, q .2),
+        omega (arith, q .3),
+        omega (arith, q .0, q .1, h .countIs, h .few, h .leftIs, p .room, h .frame .kept),
+        omega (arith, q .0, q .1, h .countIs, h .few, h .leftIs),
+      )
+
+  some-left : 0 < h .left
+  some-left = omega (arith, h .leftIs)
+
+  some-others : 0 < h .others
+  some-others = omega (arith, h .othersIs)
+
+  ends : EndsAt s i (i + 1)
+  ends = cells-first s i (h .left) (h .cells) some-left
+
+  ends2 : EndsAt s j (j + 1)
+  ends2 = cells-first s j (h .others) (h .otherCells) some-others
+
+  abbrev here : Walk
+  here = record { a = i; m = h .left; b = j; n = h .others; to = to; count = h .count }
+
+  -- a turn t that takes the cell at `from`
+  module _ (t : Turn) (turn : TurnAt s i (h .left) j (h .others) l e r t) (from : ℕ) (starts : t .from ≡ from) (stops : t .end ≡ from + 1)
+      (low : from < top) where
+    abbrev stored : List ℕ
+    stored = setAt s to (getD s from 0)
+
+    abbrev out : Out
+    out = record { to = to + boolByte (t .keep); count = h .count + boolByte (t .keep) }
+
+    put : Put (t .keep) s (t .from) (t .end) 1 (record { to = to; count = h .count }) stored out
+    put = rw (starts, stops)
+        (cell-put (t .keep) s from to (h .count) (omega (arith, h .countIs)) (merge-inside .2) (omega (arith, merge-inside .3, h .countIs)))
+
+    stored-frame : Same top s stored
+    stored-frame = record { same = λ k q. getD-set-other s to k (getD s from 0) 0 (λ z. omega (arith, h .countIs)); kept = length-set s to (getD s from 0) }
+
+    -- the cells that are left stay
+    stay : (at k : ℕ) → at + k ≤ top → Cells s at k → Cells stored at k
+    stay at k q c = cells-frame top s stored at k stored-frame q c
+
+    turned : (vs ws : Values) → Front s₀ top a m vs → Front s₀ top b n ws →
+        Merging l e r stored top (after t out) (merged l e r (members vs) (members ws))
+    turned vs ws f g =
+        step-on l e r s stored here t out turn put top (merged l e r (members vs) (members ws)) (h .on vs ws f g) some-left some-others
+
+    next : t .a + t .m ≡ a + m → t .b + t .n ≡ b + n → t .m + t .n < h .left + h .others → Cells s (t .a) (t .m) → Cells s (t .b) (t .n) →
+        RowMerge l e r s₀ a m b n top stored (t .a) (t .b) (to + boolByte (t .keep))
+    next x y z c d = record {
+      frame = same-trans top top s₀ s stored (h .frame) stored-frame (omega arith);
+      left = t .m;
+      others = t .n;
+      count = h .count + boolByte (t .keep);
+      leftIs = x;
+      othersIs = y;
+      countIs = omega (arith, h .countIs);
+      few = omega (arith, h .few, byte-small (t .keep));
+      cells = stay (t .a) (t .m) (omega (arith, merge-small l e r s₀ a m b n top p .2)) c;
+      otherCells = stay (t .b) (t .n) (omega (arith, merge-small l e r s₀ a m b n top p .3)) d;
+      on = turned;
+    }
+
+  fewer-left : Cells s (i + 1) (h .left - 1)
+  fewer-left = cells-next s i (h .left) (h .left - 1) (h .cells) (omega (arith, some-left))
+
+  fewer-others : Cells s (j + 1) (h .others - 1)
+  fewer-others = cells-next s j (h .others) (h .others - 1) (h .otherCells) (omega (arith, some-others))
+
+  pub merge-step : (u : CellTurn) → CellTurned l e r (compare (getD s i 0) (getD s j 0)) (getD s i 0) (getD s j 0) u →
+      RowMerge l e r s₀ a m b n top (setAt s to (u .cell)) (i + u .left) (j + u .right) (to + u .keep)
+  merge-step u =
+      by-order (getD s i 0) (getD s j 0)
+      (λ o. CellTurned l e r o (getD s i 0) (getD s j 0) u → RowMerge l e r s₀ a m b n top (setAt s to (u .cell)) (i + u .left) (j + u .right) (to + u .keep))
+      (λ d c. rw (c .cell, c .keep, c .left, c .right, let z : j + 0 ≡ j = omega arith in z)
+      (next (record { from = i; end = i + 1; keep = l; a = i + 1; m = h .left - 1; b = j; n = h .others })
+      (turn-less s i (h .left) j (h .others) l e r (i + 1) 0 ends (cell-less s i j ends2 d) refl) i refl refl (merge-inside .0)
+      (omega (arith, h .leftIs, some-left)) (h .othersIs) (omega (arith, some-left)) fewer-left (h .otherCells)))
+      (λ d c. rw (c .cell, c .keep, c .left, c .right)
+      (next (record { from = i; end = i + 1; keep = e; a = i + 1; m = h .left - 1; b = j + 1; n = h .others - 1 })
+      (turn-equal s i (h .left) j (h .others) l e r (i + 1) 1 ends (cell-equal s i j ends2 d) (j + 1) ends2 refl) i refl refl (merge-inside .0)
+      (omega (arith, h .leftIs, some-left)) (omega (arith, h .othersIs, some-others)) (omega (arith, some-left)) fewer-left fewer-others))
+      (λ d c. rw (c .cell, c .keep, c .left, c .right, let z : i + 0 ≡ i = omega arith in z)
+      (next (record { from = j; end = j + 1; keep = r; a = i; m = h .left; b = j + 1; n = h .others - 1 })
+      (turn-greater s i (h .left) j (h .others) l e r (i + 1) 2 ends (cell-greater s i j ends2 d) (j + 1) ends2 (λ z. omega arith) (λ z. omega arith))
+      j refl refl (merge-inside .1)
+      (h .leftIs) (omega (arith, h .othersIs, some-others)) (omega (arith, some-others)) (h .cells) fewer-others))
+
+  -- at most one cell further in each set, and further in one
+  pub merge-moves : (u : CellTurn) → CellTurned l e r (compare (getD s i 0) (getD s j 0)) (getD s i 0) (getD s j 0) u →
+      (u .left ≤ 1) × (u .right ≤ 1) × (0 < u .left + u .right) × (u .keep ≤ 1)
+  merge-moves u =
+      by-order (getD s i 0) (getD s j 0)
+      (λ o. CellTurned l e r o (getD s i 0) (getD s j 0) u → (u .left ≤ 1) × (u .right ≤ 1) × (0 < u .left + u .right) × (u .keep ≤ 1))
+      (λ d c. (omega (arith, c .left), omega (arith, c .right), omega (arith, c .left), omega (arith, c .keep, byte-small l)))
+      (λ d c. (omega (arith, c .left), omega (arith, c .right), omega (arith, c .left), omega (arith, c .keep, byte-small e)))
+      (λ d c. (omega (arith, c .left), omega (arith, c .right), omega (arith, c .right), omega (arith, c .keep, byte-small r)))
+
+-- The end of the merge.
+module _ (l e r : Bool) (s₀ : List ℕ) (a m b n top : ℕ) (p : RowsBelow s₀ a m b n top) (s : List ℕ) (i j to : ℕ)
+    (h : RowMerge l e r s₀ a m b n top s i j to) where
+  pub merge-near : (i ≤ a + m) × (j ≤ b + n) × (top + 1 ≤ to)
+  merge-near = (omega (arith, h .leftIs), omega (arith, h .othersIs), omega (arith, h .countIs))
+
+  abbrev last : Walk
+  last = record { a = i; m = a + m - i; b = j; n = b + n - j; to = to; count = to - top - 1 }
+
+  merge-on : (vs ws : Values) → Front s₀ top a m vs → Front s₀ top b n ws → Merging l e r s top last (merged l e r (members vs) (members ws))
+  merge-on vs ws f g =
+      rw (
+        let z : a + m - i ≡ h .left = omega (arith, h .leftIs) in z,
+        let z : b + n - j ≡ h .others = omega (arith, h .othersIs) in z,
+        let z : to - top - 1 ≡ h .count = omega (arith, h .countIs) in z,
+      ) (h .on vs ws f g)
+
+  pub merge-end : (a + m ≤ i) ⊎ (b + n ≤ j) → EndPre l r s last top true
+  merge-end o = record {
+    both = e;
+    whole = merged l e r (members (p .rows .first)) (members (p .rows .second));
+    merging = merge-on (p .rows .first) (p .rows .second) (p .rows .onLeft) (p .rows .onRight);
+    room = omega (arith, p .room, h .frame .kept);
+    over = over o;
+    thin = λ _. (
+      subst (Cells s i) (let z : h .left ≡ a + m - i = omega (arith, h .leftIs) in z) (h .cells),
+      subst (Cells s j) (let z : h .others ≡ b + n - j = omega (arith, h .othersIs) in z) (h .otherCells),
+    );
+  }
+    where
+      over : (a + m ≤ i) ⊎ (b + n ≤ j) → (a + m - i ≡ 0) ⊎ ((b + n - j ≡ 0) ⊎ (top + 256 < to))
+      over (inl z) = inl (omega arith)
+      over (inr z) = inr (inl (omega arith))
+
+  pub merge-made : (s′ : List ℕ) (k : ℕ) → Ended l r s last top s′ k → (vs ws : Values) → Front s₀ top a m vs → Front s₀ top b n ws →
+      Made top s₀ s′ (setOf (merged l e r (members vs) (members ws))) k
+  merge-made s′ k d vs ws f g =
+      let x = d e (merged l e r (members vs) (members ws)) (merge-on vs ws f g) in
+      record { frame = same-trans top top s₀ s s′ (h .frame) (x .frame) (omega arith); light = x .light; heavy = x .heavy }

@@ -1,0 +1,28 @@
+-- `cell_turn`: the four numbers by the order of both cells.
+use borrow.Author.Needs.{needs}
+use Rattle.sets.proofs.CellMerge.{move-left, move-right}
+use Rattle.sets.proofs.cell_turn.Statement.{statement}
+use Rattle.sets.proofs.cell_turn.Tie as tie
+
+lesser-requires : tie.Need-lesser-requires
+lesser-requires c κs = search needs
+
+kept-requires : tie.Need-kept-requires
+kept-requires c κs = search needs
+
+cast-t9 : tie.Need-cast-t9
+cast-t9 c = search needs
+
+cast-t11 : tie.Need-cast-t11
+cast-t11 c = search needs
+
+returns : tie.Need-returns
+returns c = let q = c .before .before .args in record {
+  cell = c .before .lesser .ensures;
+  keep = c .kept .ensures;
+  left = move-left (q .x) (q .y);
+  right = move-right (q .x) (q .y);
+}
+
+pub cell-turn-spec : {M : Type 1} → statement M
+cell-turn-spec = tie.close (tie.spec lesser-requires kept-requires cast-t9 cast-t11 returns)

@@ -1,0 +1,174 @@
+-- `merge_cells`: each turn stores the lesser of the first cells, which is a turn of the merge; at the end one set is exhausted.
+use Prim.Native.Nat.{_+_, _-_, _≤_, _<_}
+use mathlib.Core.Logic.{_⊎_, inl, inr}
+use borrow.Author.Needs.{needs}
+use borrow.Author.Tests.{ltb-true, ltb-false}
+use native.Mathlib.Omega.{arith}
+use lib.ListN.{length}
+use Rattle.sets.proofs.CellMerge.{RowMerge, merge-start, merge-inside, merge-step, merge-moves, merge-near, merge-end, merge-made}
+use Rattle.sets.proofs.merge_cells.Statement.{statement}
+use Rattle.sets.proofs.merge_cells.Tie as tie
+
+abbrev Inv-loop : tie.InvT-loop
+Inv-loop s₀ a m b n top left both right end end2 i₀ j₀ to₀ s i j to = RowMerge left both right s₀ a m b n top s i j to
+
+abbrev μ-loop : tie.MeasureT-loop
+μ-loop s₀ a m b n top left both right end end2 i₀ j₀ to₀ s i j to = (end - i) + (end2 - j)
+
+-- A turn: both sets have cells left.
+abbrev Both : Type 0
+Both = tie.Then1 Inv-loop μ-loop
+
+abbrev lent : tie.At-loop Inv-loop μ-loop → tie.Start Inv-loop μ-loop
+lent l = l .before .before
+
+abbrev loop : Both → tie.At-loop Inv-loop μ-loop
+loop t = t .before .before
+
+others : (t : Both) → let l = loop t in l .loop .j < lent l .args .b + lent l .args .n
+others t = ltb-true _ _ (t .if1 .taken)
+
+inside : (t : Both) → let l = loop t in
+    (l .loop .i < lent l .args .top) × (l .loop .j < lent l .args .top) × (l .loop .to < length (l .loop .s)) × (l .loop .to + 1 ≤ lent l .args .top + 512)
+inside t = let l = loop t in merge-inside _ _ _ _ _ _ _ _ _ (lent l .pre) _ _ _ _ (l .loop .inv) (t .before .loop-test .taken) (others t)
+
+-- `top` and a room above it are inside.
+high : (t : Both) → lent (loop t) .args .top + 514 ≤ length (loop t .loop .s)
+high t = let l = loop t in omega (arith, lent l .pre .room, l .loop .inv .frame .kept)
+
+-- The turn is known.
+abbrev Turned : Type 0
+Turned = tie.After-cell-turn Inv-loop μ-loop
+
+abbrev both : Turned → Both
+both c = c .before .before .before
+
+moves : (c : Turned) → let u = c .cell-turn .result in (u .left ≤ 1) × (u .right ≤ 1) × (0 < u .left + u .right) × (u .keep ≤ 1)
+moves c =
+    let t = both c in
+    let l = loop t in
+    merge-moves _ _ _ _ _ _ _ _ _ (lent l .pre) _ _ _ _ (l .loop .inv) (t .before .loop-test .taken) (others t) _ (c .cell-turn .ensures)
+
+-- One of both sets is exhausted.
+abbrev Left : Type 0
+Left = tie.Left-loop Inv-loop μ-loop
+
+abbrev left : tie.After-finish Inv-loop μ-loop → Left
+left f = f .before .before
+
+exhausted : (c : Left) → let l = c .before in
+    (lent l .args .a + lent l .args .m ≤ l .loop .i) ⊎ (lent l .args .b + lent l .args .n ≤ l .loop .j)
+exhausted c = elim (c .loop-test .came) [ inl x ↦ inr (ltb-false _ _ (x .1 .left)) | inr x ↦ inl (x .left) ]
+
+near : (c : Left) → let l = c .before in
+    (l .loop .i ≤ lent l .args .a + lent l .args .m) × (l .loop .j ≤ lent l .args .b + lent l .args .n) × (lent l .args .top + 1 ≤ l .loop .to)
+near c = let l = c .before in merge-near _ _ _ _ _ _ _ _ _ (lent l .pre) _ _ _ _ (l .loop .inv)
+
+add-end : tie.Need-add-end Inv-loop μ-loop
+add-end c = omega (arith, c .before .pre .rows .left .inside)
+
+add-end2 : tie.Need-add-end2 Inv-loop μ-loop
+add-end2 c = omega (arith, c .before .pre .rows .right .inside)
+
+add-to : tie.Need-add-to Inv-loop μ-loop
+add-to c = omega (arith, c .before .pre .room)
+
+loop-holds : tie.Need-loop-holds Inv-loop μ-loop
+loop-holds c = merge-start _ _ _ _ _ _ _ _ _ (c .before .pre)
+
+mul-cell-turn : tie.Need-mul-cell-turn Inv-loop μ-loop
+mul-cell-turn c = omega (arith, inside c .0, high c)
+
+slice-read-cell-turn : tie.Need-slice-read-cell-turn Inv-loop μ-loop
+slice-read-cell-turn c = let t = c .before in omega (arith, inside t .0, high t)
+
+mul-cell-turn-2 : tie.Need-mul-cell-turn-2 Inv-loop μ-loop
+mul-cell-turn-2 c = let t = c .before in omega (arith, inside t .1, high t)
+
+slice-read-cell-turn-2 : tie.Need-slice-read-cell-turn-2 Inv-loop μ-loop
+slice-read-cell-turn-2 c = let t = c .before .before in omega (arith, inside t .1, high t)
+
+cell-turn-requires : tie.Need-cell-turn-requires Inv-loop μ-loop
+cell-turn-requires c κs = tt
+
+mul-s : tie.Need-mul-s Inv-loop μ-loop
+mul-s c = omega (arith, inside (both c) .2)
+
+slice-write-s : tie.Need-slice-write-s Inv-loop μ-loop
+slice-write-s c = inside (both c) .2
+
+add-to-2 : tie.Need-add-to-2 Inv-loop μ-loop
+add-to-2 c = let u = c .before in omega (arith, inside (both u) .2, moves u .3)
+
+add-i : tie.Need-add-i Inv-loop μ-loop
+add-i c = let u = c .before .before in omega (arith, inside (both u) .0, high (both u), moves u .0)
+
+add-j : tie.Need-add-j Inv-loop μ-loop
+add-j c = let u = c .before .before .before in omega (arith, inside (both u) .1, high (both u), moves u .1)
+
+loop-less : tie.Need-loop-less Inv-loop μ-loop
+loop-less c = let u = c .before .before .before in
+    let t = both u in
+    omega (arith, t .before .loop-test .taken, others t, moves u .2)
+
+loop-again : tie.Need-loop-again Inv-loop μ-loop
+loop-again c = let u = c .before .before .before in
+    let t = both u in
+    let l = loop t in
+    merge-step _ _ _ _ _ _ _ _ _ (lent l .pre) _ _ _ _ (l .loop .inv) (t .before .loop-test .taken) (others t) _ (u .cell-turn .ensures)
+
+sub-t26 : tie.Need-sub-t26 Inv-loop μ-loop
+sub-t26 c = near c .0
+
+sub-t28 : tie.Need-sub-t28 Inv-loop μ-loop
+sub-t28 c = near c .1
+
+sub-t30 : tie.Need-sub-t30 Inv-loop μ-loop
+sub-t30 c = omega (arith, near c .2)
+
+sub-t31 : tie.Need-sub-t31 Inv-loop μ-loop
+sub-t31 c = omega (arith, near c .2)
+
+finish-requires : tie.Need-finish-requires Inv-loop μ-loop
+finish-requires c κs = let k = c .before in
+    let l = k .before in
+    merge-end _ _ _ _ _ _ _ _ _ (lent l .pre) _ _ _ _ (l .loop .inv) (exhausted k)
+
+same-length : tie.Need-same-length Inv-loop μ-loop
+same-length c = search needs
+
+returns : tie.Need-returns Inv-loop μ-loop
+returns c =
+    let f = c .before .before in
+    let l = left f .before in
+    merge-made _ _ _ _ _ _ _ _ _ (lent l .pre) _ _ _ _ (l .loop .inv) _ _ (f .finish .ensures)
+
+pub merge-cells-spec : {M : Type 1} → statement M
+merge-cells-spec =
+    tie.close
+    (tie.spec
+    Inv-loop
+    μ-loop
+    add-end
+    add-end2
+    add-to
+    loop-holds
+    mul-cell-turn
+    slice-read-cell-turn
+    mul-cell-turn-2
+    slice-read-cell-turn-2
+    cell-turn-requires
+    mul-s
+    slice-write-s
+    add-to-2
+    add-i
+    add-j
+    loop-less
+    loop-again
+    sub-t26
+    sub-t28
+    sub-t30
+    sub-t31
+    finish-requires
+    same-length
+    returns)

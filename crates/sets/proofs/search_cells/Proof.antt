@@ -1,0 +1,86 @@
+-- `search_cells`: the first set is included where each of its members that are left is found in the second.
+use borrow.Author.Tests.{not-true, not-false}
+use native.Mathlib.Omega.{arith}
+use Rattle.sets.proofs.RowLaws.{cells-row, cells-next}
+use Rattle.sets.proofs.TurnLaws.{including-end}
+use Rattle.sets.proofs.CellLaws.{RowWalk, row-start, including-found, including-lost}
+use Rattle.sets.proofs.search_cells.Statement.{statement}
+use Rattle.sets.proofs.search_cells.Tie as tie
+
+abbrev Inv-loop : tie.InvT-loop
+Inv-loop s a m b n i₀ left₀ i left = RowWalk s a m b n i left b n
+
+abbrev μ-loop : tie.MeasureT-loop
+μ-loop s a m b n i₀ left₀ i left = left
+
+-- The answer of the search for a member.
+abbrev Sought : Type 0
+Sought = tie.After-has-cell Inv-loop μ-loop
+
+abbrev turn : Sought → tie.In-loop Inv-loop μ-loop
+turn h = h .before .before
+
+abbrev lent : tie.At-loop Inv-loop μ-loop → tie.Start Inv-loop μ-loop
+lent l = l .before .before
+
+loop-holds : tie.Need-loop-holds Inv-loop μ-loop
+loop-holds c = row-start _ _ _ _ _ _ (c .before .pre)
+
+mul-has-cell : tie.Need-mul-has-cell Inv-loop μ-loop
+mul-has-cell c = omega (arith, c .loop-test .taken, c .before .loop .inv .cells .inside)
+
+shared-slice-read-has-cell : tie.Need-shared-slice-read-has-cell Inv-loop μ-loop
+shared-slice-read-has-cell c = let t = c .before in omega (arith, t .loop-test .taken, t .before .loop .inv .cells .inside)
+
+has-cell-requires : tie.Need-has-cell-requires Inv-loop μ-loop
+has-cell-requires c κs = let q = lent (c .before .before) .pre in cells-row _ _ _ _ _ (q .onRight) (q .right)
+
+returns : tie.Need-returns Inv-loop μ-loop
+returns c = λ vs ws f g.
+    let h = c .before in
+    let t = turn h in
+    let w = t .before .loop .inv in
+    including-lost _ _ _ _ _ _ (w .on vs ws f g) (t .loop-test .taken) (w .cells) (w .otherCells)
+    (h .has-cell .result) (h .has-cell .ensures) (not-true _ (c .if1 .taken))
+
+add-i : tie.Need-add-i Inv-loop μ-loop
+add-i c = let t = turn (c .before) in omega (arith, t .loop-test .taken, t .before .loop .inv .cells .inside)
+
+sub-left : tie.Need-sub-left Inv-loop μ-loop
+sub-left c = omega (arith, turn (c .before) .loop-test .taken)
+
+loop-less : tie.Need-loop-less Inv-loop μ-loop
+loop-less c = omega (arith, turn (c .before) .loop-test .taken)
+
+loop-again : tie.Need-loop-again Inv-loop μ-loop
+loop-again c =
+    let h = c .before in
+    let t = turn h in
+    let w = t .before .loop .inv in
+    record {
+      cells = cells-next _ _ _ _ (w .cells) (omega (arith, t .loop-test .taken));
+      otherCells = w .otherCells;
+      on = λ vs ws f g.
+          including-found _ _ _ _ _ _ (w .on vs ws f g) (t .loop-test .taken) (w .cells) (w .otherCells)
+          (h .has-cell .result) (h .has-cell .ensures) (not-false _ (c .if1 .left));
+    }
+
+returns-2 : tie.Need-returns-2 Inv-loop μ-loop
+returns-2 c = λ vs ws f g. including-end _ _ _ _ _ _ (c .before .loop .inv .on vs ws f g) (c .loop-test .left)
+
+pub search-cells-spec : {M : Type 1} → statement M
+search-cells-spec =
+    tie.close
+    (tie.spec
+    Inv-loop
+    μ-loop
+    loop-holds
+    mul-has-cell
+    shared-slice-read-has-cell
+    has-cell-requires
+    returns
+    add-i
+    sub-left
+    loop-less
+    loop-again
+    returns-2)

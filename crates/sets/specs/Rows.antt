@@ -1,0 +1,84 @@
+-- Rows of cells: sets whose members are one cell each. The search in a row is about numbers only.
+use Prim.Native.Nat.{ℕ, _+_, _*_, _%_, _≤_, _<_, Ordering, Ordering·lt, Ordering·eq, Ordering·gt}
+use mathlib.Core.Bool.{Bool, true, false}
+use mathlib.Core.List.{List}
+use mathlib.Core.Path.{_≡_}
+use lib.ListN.{length, getD}
+use mir.Val.{boolByte}
+use Rattle.rules.specs.Values.{Values, members}
+use Rattle.rules.specs.Operations.{allIn, setOf}
+use Rattle.arena.specs.Code.{SomeSet, Made, Front}
+use Rattle.sets.specs.Fronts.{keepOf, Cells}
+use Rattle.sets.specs.Merged.{merged}
+use Rattle.sets.specs.declared.CellTurn.{CellTurn}
+
+-- n cells from `at` on, every step-th one, that do not fall.
+pub record Row (s : List ℕ) (at step n : ℕ) : Type 0 where
+  pub inside : (i : ℕ) → i < n → at + step * i < length s
+  pub rises : (i j : ℕ) → i ≤ j → j < n → getD s (at + step * i) 0 ≤ getD s (at + step * j) 0
+
+-- Cell r is the first of them that is not below x; n where all are.
+pub record LowerBound (s : List ℕ) (at step n x r : ℕ) : Type 0 where
+  pub few : r ≤ n
+  pub below : (i : ℕ) → i < r → getD s (at + step * i) 0 < x
+  pub above : (i : ℕ) → r ≤ i → i < n → x ≤ getD s (at + step * i) 0
+
+-- The answer says whether x is one of n cells from `at` on.
+abbrev pub HasCell : List ℕ → ℕ → ℕ → ℕ → Bool → Type 0
+HasCell s at n x true = (i : ℕ) × (i < n) × (getD s (at + i) 0 ≡ x)
+HasCell s at n x false = (i : ℕ) → i < n → getD s (at + i) 0 ≡ x → ⊥
+
+-- Where the answer is `true`, the members of the set at a are one cell each.
+abbrev pub OfCells : List ℕ → ℕ → Bool → Type 0
+OfCells s a r = r ≡ true → Cells s (a + 1) (getD s a 0 % 4294967296)
+
+abbrev pub SetAt : List ℕ → ℕ → Type 0
+SetAt s a = (top : ℕ) × SomeSet s top a
+
+abbrev pub BothOfCells : List ℕ → ℕ → ℕ → Bool → Type 0
+BothOfCells s a b r = r ≡ true → Cells s (a + 1) (getD s a 0 % 4294967296) × Cells s (b + 1) (getD s b 0 % 4294967296)
+
+-- m members from a on and n from b on, one cell each, stand below `top`.
+pub record TwoRows (s : List ℕ) (a m b n top : ℕ) : Type 0 where
+  pub first : Values
+  pub second : Values
+  pub onLeft : Front s top a m first
+  pub onRight : Front s top b n second
+  pub left : Cells s a m
+  pub right : Cells s b n
+
+-- r says whether the former are among the latter.
+abbrev pub RowIn : List ℕ → ℕ → ℕ → ℕ → ℕ → Bool → Type 0
+RowIn s a m b n r =
+    (vs ws : Values) → Front s (length s) a m vs → Front s (length s) b n ws → r ≡ allIn (members vs) (members ws)
+
+-- A turn of a walk over both at two cells with the order o: the lesser of them, and by how many cells both rows move on.
+abbrev pub lesserOf : Ordering → ℕ → ℕ → ℕ
+lesserOf Ordering·lt x y = x
+lesserOf Ordering·eq x y = x
+lesserOf Ordering·gt x y = y
+
+abbrev pub moveLeft : Ordering → ℕ
+moveLeft Ordering·lt = 1
+moveLeft Ordering·eq = 1
+moveLeft Ordering·gt = 0
+
+abbrev pub moveRight : Ordering → ℕ
+moveRight Ordering·lt = 0
+moveRight Ordering·eq = 1
+moveRight Ordering·gt = 1
+
+pub record CellTurned (l b r : Bool) (o : Ordering) (x y : ℕ) (t : CellTurn) : Type 0 where
+  pub cell : t .cell ≡ lesserOf o x y
+  pub keep : t .keep ≡ boolByte (keepOf l b r o)
+  pub left : t .left ≡ moveLeft o
+  pub right : t .right ≡ moveRight o
+
+-- They are merged above `top`.
+pub record RowsBelow (s : List ℕ) (a m b n top : ℕ) : Type 0 where
+  pub rows : TwoRows s a m b n top
+  pub room : top + 514 ≤ length s
+
+abbrev pub RowsMerge : Bool → Bool → Bool → List ℕ → ℕ → ℕ → ℕ → ℕ → ℕ → List ℕ → ℕ → Type 0
+RowsMerge l e r s a m b n top s′ k =
+    (vs ws : Values) → Front s top a m vs → Front s top b n ws → Made top s s′ (setOf (merged l e r (members vs) (members ws))) k
