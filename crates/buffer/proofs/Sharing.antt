@@ -135,7 +135,7 @@ module _ (s : List ℕ) (at n i k : ℕ) (vs : Values) (row : TypedRow s at n vs
   -- The first m values stand for the first k: all of them, or one that has one type only.
   pub stand-for : (m end : ℕ) (one : Bool) → 0 < k → EndsAt s at end → (one ≡ true → NoEmpty s at end) → m ≡ cond one 1 k → StandFor s at m (h .front)
   unfolding code
-  stand-for m end false l e f c = record { few = h .front; run = rw c front-run; light = omega arith; same = λ q. refl }
+  stand-for m end false l e f c = record { few = h .front; run = rw c front-run; same = λ q. refl }
   stand-for m end true l e f c = go (h .front) front-run
     where
       go : (ws : Values) → RunAt s at k ws → StandFor s at m ws
@@ -152,7 +152,6 @@ module _ (s : List ℕ) (at n i k : ℕ) (vs : Values) (row : TypedRow s at n vs
               typed = with-every (typesOf w) ty;
               counted = sym c;
             };
-            light = omega arith;
             same = λ q. sym (full-first w every q fu (with-every (typesOf w) ty)) ∙ full-first w (sharedTypes ws) q fu (r .typed);
           }
 

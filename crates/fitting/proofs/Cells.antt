@@ -4,7 +4,7 @@ use mathlib.Core.Bool.{Bool, true, false}
 use mathlib.Core.List.{List, append-nil}
 use mathlib.Core.Logic.{_≢_, inl, inr}
 use borrow.Author.Tests.{eq-eqb, ne-eqb}
-use mathlib.Core.Path.{_≡_, refl, sym, ap, _∙_, subst}
+use mathlib.Core.Path.{_≡_, refl, sym, _∙_, subst}
 use native.Mathlib.Omega.{arith}
 use native.Mathlib.Decide.{ℕ-discrete, decLt}
 use lib.Dec.{T, eqb}
@@ -16,7 +16,8 @@ use Rattle.arena.specs.Code.{cellSize, code, codes, Stands, ValueAt, ValuesAt, 
 use Rattle.arena.proofs.CodeLaws.{length-code, all-agree}
 use Rattle.arena.proofs.Standing.{stands-head, stands-tail, stands-front, stands-back}
 use Rattle.arena.proofs.ValueParts.{first-cell, left-stands, right-stands}
-use Rattle.fitting.specs.Agree.{meets, agree, TypedAt, RunAt, SomeTyped, SomeRun, Agreed, AgreedWith, AgreedAll, emptyCell, NoEmpty, StandFor, Members, Full, FullSet, FullAll, Few, sameKind, SetHere, Two, Parts, AgreedParts, Runs}
+use Rattle.fitting.specs.Agree.{meets, agree, TypedAt, RunAt, SomeTyped, SomeRun, Agreed, AgreedWith, AgreedAll, emptyCell, NoEmpty, StandFor, Members, Full, FullSet, FullAll, Few, sameKind, SetHere, Parts, AgreedParts, Runs}
+use Rattle.fitting.specs.Tests.{Both}
 use Rattle.fitting.proofs.Sharing.{is-true, full-first, meets-both, meets-sym, meets-same, with-every, meets-every, meets-first, tags-differ, scalars-agree, elements-agree, left-typed, right-typed}
 use Rattle.rules.proofs.Basics.{and-split}
 use Rattle.laws.proofs.CellsLaws.{weight-some}
@@ -93,8 +94,11 @@ typed-at s at v h f t = record { stands = h; fits = f; typed = t }
 pub some-at : {s : List ℕ} {at : ℕ} → SomeTyped s at → SomeAt s at
 some-at x = record { value = x .0; stands = x .1 .stands; fits = x .1 .fits }
 
+pub some-inside : (s : List ℕ) (at : ℕ) → SomeAt s at → at < length s
+some-inside s at x = omega (arith, x .stands .inside, length-code (x .value), weight-some (x .value))
+
 pub inside : (s : List ℕ) (at : ℕ) → SomeTyped s at → at < length s
-inside s at x = omega (arith, x .1 .stands .inside, length-code (x .0), weight-some (x .0))
+inside s at x = some-inside s at (some-at x)
 
 pub ends-at : (s : List ℕ) (at : ℕ) (v : Value) → ValueAt s at v → CellsFit v → EndsAt s at (at + weight v)
 ends-at s at v h f w k q = let e : v ≡ w = value-eq s at v w h k f q in rw e
@@ -231,29 +235,16 @@ module _ (s : List ℕ) (a b : ℕ) where
       let y = as-pair s b w k u in
       rw (x .2, y .2) (g (x .0) (x .1) (y .0) (y .1) (x .3) (x .4) (y .3) (y .4))
 
-  pub pair-parts : (end : ℕ) → Two s a end b → getD s a 0 / cellSize ≡ 4 → getD s b 0 / cellSize ≡ 4 → Parts s (a + 1) end (b + 1)
-  pair-parts end p t u =
+  pub pair-parts : Both s a b → getD s a 0 / cellSize ≡ 4 → getD s b 0 / cellSize ≡ 4 → Parts s (a + 1) (b + 1)
+  pair-parts p t u =
       let x = as-pair s a (p .first .0) (p .first .1) t in
       let y = as-pair s b (p .second .0) (p .second .1) u in
       record {
         left = (x .0, x .3);
-        right = λ c e. let f : c ≡ a + 1 + weight (x .0) = end-is e (x .3) in
-            let k : TypedAt s c (x .1) = rw f (x .4) in
-            let n : weight (p .first .0) ≡ 1 + (weight (x .0) + weight (x .1)) = ap weight (x .2) in
-            let m : end ≡ c + weight (x .1) = omega (arith, end-is (p .ends) (p .first .1)) in
-            ((x .1, k), rw m (ends-at s c (x .1) (k .stands) (k .fits)));
+        right = λ c e. let f : c ≡ a + 1 + weight (x .0) = end-is e (x .3) in (x .1, rw f (x .4));
         otherLeft = (y .0, y .3);
         otherRight = λ d e. let f : d ≡ b + 1 + weight (y .0) = end-is e (y .3) in (y .1, rw f (y .4));
       }
-
-  pub set-runs : (end n m : ℕ) → Two s a end b → getD s a 0 / cellSize ≡ 5 → getD s b 0 / cellSize ≡ 5 → Members s a n → Members s b m → Runs s (a + 1) end n (b + 1) m
-  set-runs end n m p t u c d =
-      let x = as-set s a (p .first .0) (p .first .1) t in
-      let y = as-set s b (p .second .0) (p .second .1) u in
-      let k = c (x .0) (rw (x .1) at (p .first .1)) in
-      let l = d (y .0) (rw (y .1) at (p .second .1)) in
-      let w : weight (p .first .0) ≡ 1 + weights (x .0) = ap weight (x .1) in
-      record { values = k .few; first = k .run; within = omega (arith, k .light, end-is (p .ends) (p .first .1)); second = (l .few, l .run) }
 
   pub sets-agree : (n m : ℕ) (r : Bool) → getD s a 0 / cellSize ≡ 5 → getD s b 0 / cellSize ≡ 5 →
       Members s a n → Members s b m → AgreedAll s (a + 1) n (b + 1) m r → Agreed s a b r
@@ -321,47 +312,28 @@ few-members s a n r c f vs h = go f
             typed = with-every (typesOf v) ty;
             counted = refl;
           };
-          light = omega arith;
           same = λ q. sym (full-first v every q fu (with-every (typesOf v) ty)) ∙ full-first v (sharedTypes ws) q fu (p .typed);
         }
 
     go : Few s (a + 1) n r → StandFor s (a + 1) r vs
-    go (inl e) = record { few = vs; run = rw e k; light = omega arith; same = λ q. refl }
+    go (inl e) = record { few = vs; run = rw e k; same = λ q. refl }
     go (inr x) = rw (x .0) (one vs k (x .1) (x .2))
 
 -- Going through the first of two runs.
-pub record Turn (s : List ℕ) (a end n b m i left : ℕ) : Type 0 where
-  pub values : Values
-  pub run : RunAt s i left values
-  pub within : i + weights values ≤ end
+pub record Turn (s : List ℕ) (a n b m i left : ℕ) : Type 0 where
+  pub run : SomeRun s i left
   pub from : a ≤ i
   pub rest : (r : Bool) → AgreedAll s i left b m r → AgreedAll s a n b m r
 
-pub turn-start : {s : List ℕ} {a end n b m : ℕ} → Runs s a end n b m → Turn s a end n b m a n
-turn-start p = record { values = p .values; run = p .first; within = p .within; from = omega arith; rest = λ r g. g }
+pub turn-start : {s : List ℕ} {a n b m : ℕ} → Runs s a n b m → Turn s a n b m a n
+turn-start p = record { run = p .first; from = omega arith; rest = λ r g. g }
 
-module _ (s : List ℕ) (a end n b m i left : ℕ) (p : Turn s a end n b m i left) (l : 0 < left) where
-  pub turn-first : SomeTyped s i
-  turn-first = run-first s i left (p .values, p .run) l
-
-  pub turn-within : (e : ℕ) → EndsAt s i e → e ≤ end
-  turn-within e f =
-      let x = as-run s i left (p .values) (p .run) l in
-      let w : weights (p .values) ≡ weight (x .0) + weights (x .1) = ap weights (x .2) in
-      omega (arith, p .within, end-is f (x .3))
-
-  pub turn-step : (e : ℕ) → EndsAt s i e → AgreedWith s i b m true → Turn s a end n b m e (left - 1)
-  turn-step e f g =
-      let x = as-run s i left (p .values) (p .run) l in
-      let w : weights (p .values) ≡ weight (x .0) + weights (x .1) = ap weights (x .2) in
-      let d : e ≡ i + weight (x .0) = end-is f (x .3) in
-      record {
-        values = x .1;
-        run = rw d (x .4);
-        within = omega (arith, p .within);
-        from = omega (arith, p .from);
-        rest = λ r h. p .rest r (all-step s i left b m e r l g f h);
-      }
+pub turn-step : (s : List ℕ) (a n b m i left e : ℕ) → Turn s a n b m i left → 0 < left → EndsAt s i e → AgreedWith s i b m true → Turn s a n b m e (left - 1)
+turn-step s a n b m i left e p l f g = record {
+  run = run-rest s i left e (p .run) l f;
+  from = omega (arith, p .from, end-bounds s i e (run-first s i left (p .run) l) f .0);
+  rest = λ r h. p .rest r (all-step s i left b m e r l g f h);
+}
 
 -- Cells of one tag.
 pub kind-element : (x y t l m : ℕ) → t ≡ x / cellSize → t ≡ 3 → l ≡ x % cellSize → m ≡ y % cellSize → eqb (l / 256) (m / 256) ≡ sameKind x y
@@ -375,11 +347,6 @@ first-member s a h l =
     let x = as-set s a (h .value .0) (h .value .1) (h .isSet) in
     run-first s (a + 1) (getD s a 0 % cellSize) (x .0, x .2) l
 
-pub parts-bounds : (s : List ℕ) (a end b : ℕ) → Parts s a end b → (c : ℕ) → EndsAt s a c → (a < c) × (c < end)
-parts-bounds s a end b p c e =
-    let r = p .right c e in
-    (end-bounds s a c (p .left) e .0, end-bounds s c end (r .0) (r .1) .0)
-
 pub member-inside : (s : List ℕ) (a : ℕ) → SomeTyped s a → getD s a 0 / cellSize ≡ 5 → getD s a 0 % cellSize ≢ 0 → a + 1 < length s
 member-inside s a x t n = inside s (a + 1) (first-member s a (record { value = x; isSet = t }) (omega arith))
 
@@ -388,3 +355,6 @@ members-run s a r h c =
     let x = as-set s a (h .value .0) (h .value .1) (h .isSet) in
     let y = c (x .0) (rw (x .1) at (h .value .1)) in
     (y .few, y .run)
+
+pub set-runs : (s : List ℕ) (a b n m : ℕ) → SetHere s a → SetHere s b → Members s a n → Members s b m → Runs s (a + 1) n (b + 1) m
+set-runs s a b n m h k c d = record { first = members-run s a n h c; second = members-run s b m k d }
