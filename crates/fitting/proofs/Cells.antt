@@ -10,13 +10,13 @@ use native.Mathlib.Decide.{ℕ-discrete, decLt}
 use lib.Dec.{T, eqb}
 use lib.ListN.{length, getD}
 use Rattle.rules.specs.Types.{whole}
-use Rattle.rules.specs.Values.{Scalar, num, truth, element, Value, scalar, pair, set, Values, none, _▸_, scalarTag, count, weight, weights}
+use Rattle.rules.specs.Values.{Scalar, num, truth, element, Value, scalar, pair, set, Values, none, _▸_, scalarTag, tag, count, weight, weights}
 use Rattle.rules.specs.Fits.{every, typesOf, sharedTypes, inhabited, typed}
 use Rattle.arena.specs.Code.{cellSize, code, codes, Stands, ValueAt, ValuesAt, CellsFit, SomeAt, EndsAt}
 use Rattle.arena.proofs.CodeLaws.{length-code, all-agree}
 use Rattle.arena.proofs.Standing.{stands-head, stands-tail, stands-front, stands-back}
 use Rattle.arena.proofs.ValueParts.{first-cell, left-stands, right-stands}
-use Rattle.fitting.specs.Agree.{meets, agree, TypedAt, RunAt, SomeTyped, SomeRun, Agreed, AgreedWith, AgreedAll, emptyCell, NoEmpty, StandFor, Members, Full, FullSet, FullAll, Few, sameKind, SetHere, Parts, AgreedParts, Runs}
+use Rattle.fitting.specs.Agree.{meets, agree, TypedAt, RunAt, SomeTyped, SomeRun, Agreed, AgreedWith, AgreedAll, emptyCell, NoEmpty, StandFor, Members, Full, FullSet, FullAll, Few, atomsAlike, PairOrSet, SetHere, Parts, AgreedParts, Runs}
 use Rattle.fitting.specs.Tests.{Both}
 use Rattle.fitting.proofs.Sharing.{is-true, full-first, meets-both, meets-sym, meets-same, with-every, meets-every, meets-first, tags-differ, scalars-agree, elements-agree, left-typed, right-typed}
 use Rattle.rules.proofs.Basics.{and-split}
@@ -135,7 +135,12 @@ module _ (s : List ℕ) (a : ℕ) where
       )
 
   typed-members : (vs : Values) → TypedAt s a (set vs) → RunAt s (a + 1) (getD s a 0 % cellSize) vs
-  typed-members vs h = record { stands = members-stand s a vs (h .stands); fits = h .fits .1; typed = h .typed; counted = sym (first-cell s a (set vs) (h .stands) (h .fits) .1) }
+  typed-members vs h = record {
+    stands = members-stand s a vs (h .stands);
+    fits = h .fits .1;
+    typed = h .typed;
+    counted = sym (first-cell s a (set vs) (h .stands) (h .fits) .1);
+  }
 
   pub as-pair : (v : Value) → TypedAt s a v → getD s a 0 / cellSize ≡ 4 →
       (x : Value) × (y : Value) × (v ≡ pair x y) × TypedAt s (a + 1) x × TypedAt s (a + 1 + weight x) y
@@ -158,7 +163,12 @@ as-run s a n (x ▸ ys) h l = (
   ys,
   refl,
   record { stands = first-stands s a x ys (h .stands); fits = h .fits .0; typed = left-typed (typesOf x) (sharedTypes ys) (h .typed) },
-  record { stands = rest-stand s a x ys (h .stands); fits = h .fits .1; typed = right-typed (typesOf x) (sharedTypes ys) (h .typed); counted = omega (arith, h .counted) },
+  record {
+    stands = rest-stand s a x ys (h .stands);
+    fits = h .fits .1;
+    typed = right-typed (typesOf x) (sharedTypes ys) (h .typed);
+    counted = omega (arith, h .counted);
+  },
 )
 
 pub no-run : {s : List ℕ} {a n : ℕ} (vs : Values) → RunAt s a n vs → n ≡ 0 → vs ≡ none
@@ -254,7 +264,9 @@ module _ (s : List ℕ) (a b : ℕ) where
       let y = as-set s b w k u in
       let p = c (x .0) (rw (x .1) at h) in
       let q = d (y .0) (rw (y .1) at k) in
-      rw (x .1, y .1) (g (p .few) (q .few) (p .run) (q .run) ∙ meets-same (sharedTypes (p .few)) (sharedTypes (x .0)) (sharedTypes (q .few)) (sharedTypes (y .0)) (p .same) (q .same))
+      rw (x .1, y .1)
+      (g (p .few) (q .few) (p .run) (q .run) ∙
+      meets-same (sharedTypes (p .few)) (sharedTypes (x .0)) (sharedTypes (q .few)) (sharedTypes (y .0)) (p .same) (q .same))
 
 pub as-scalar : (s : List ℕ) (a : ℕ) (v : Value) → TypedAt s a v → getD s a 0 / cellSize ≢ 4 → getD s a 0 / cellSize ≢ 5 →
     (x : Scalar) × (v ≡ scalar x) × (getD s a 0 / cellSize ≡ scalarTag x)
@@ -272,19 +284,46 @@ as-element s a (scalar (element g k)) h t =
 as-element s a (pair x y) h t = absurd (omega (arith, first-cell s a (pair x y) (h .stands) (h .fits) .0))
 as-element s a (set vs) h t = absurd (omega (arith, first-cell s a (set vs) (h .stands) (h .fits) .0))
 
-pub kinds-agree : (s : List ℕ) (a b : ℕ) → getD s a 0 / cellSize ≡ getD s b 0 / cellSize → getD s a 0 / cellSize ≢ 4 → getD s a 0 / cellSize ≢ 5 →
-    Agreed s a b (sameKind (getD s a 0) (getD s b 0))
-kinds-agree s a b e n4 n5 v w h k = go (ℕ-discrete (getD s a 0 / cellSize) 3)
+-- Scalars, by their cells.
+module _ (s : List ℕ) (a b : ℕ) where
+  elements-alike : getD s a 0 / cellSize ≡ 3 → getD s b 0 / cellSize ≡ 3 → Agreed s a b (eqb (getD s a 0 / 256) (getD s b 0 / 256))
+  elements-alike t u v w h k =
+      let x = as-element s a v h t in
+      let y = as-element s b w k u in
+      rw (x .2, y .2, elements-agree (x .0) (x .1) (y .0) (y .1)) (go (x .0) (y .0) (x .3) (y .3) (ℕ-discrete (x .0) (y .0)))
+    where
+      go : (g h : ℕ) → getD s a 0 % cellSize / 256 ≡ g → getD s b 0 % cellSize / 256 ≡ h → Dec (g ≡ h) →
+          eqb (getD s a 0 / 256) (getD s b 0 / 256) ≡ eqb g h
+      go g h p q (yes e) = eq-eqb (getD s a 0 / 256) (getD s b 0 / 256) (omega arith) ∙ sym (eq-eqb g h e)
+      go g h p q (no n) = ne-eqb (getD s a 0 / 256) (getD s b 0 / 256) (λ e. n (omega arith)) ∙ sym (ne-eqb g h n)
+
+  others-alike : getD s a 0 / cellSize < 4 → getD s a 0 / cellSize ≢ 3 → getD s a 0 / cellSize ≡ getD s b 0 / cellSize → Agreed s a b true
+  others-alike l n e v w h k =
+      let x = as-scalar s a v h (λ f. omega arith) (λ f. omega arith) in
+      let y = as-scalar s b w k (λ f. omega arith) (λ f. omega arith) in
+      rw (x .1, y .1) (sym (scalars-agree (x .0) (y .0) (sym (x .2) ∙ e ∙ y .2) (λ f. n (x .2 ∙ f))))
+
+  pub atoms-agree : getD s a 0 < 4 * cellSize → Agreed s a b (atomsAlike (getD s a 0) (getD s b 0))
+  atoms-agree l = go (ℕ-discrete (getD s a 0 / cellSize) 3) (ℕ-discrete (getD s a 0 / cellSize) (getD s b 0 / cellSize))
+    where
+      go : Dec (getD s a 0 / cellSize ≡ 3) → Dec (getD s a 0 / cellSize ≡ getD s b 0 / cellSize) → Agreed s a b (atomsAlike (getD s a 0) (getD s b 0))
+      go (yes t) (yes e) = rw (eq-eqb (getD s a 0 / cellSize) 3 t) (elements-alike t (sym e ∙ t))
+      go (yes t) (no d) =
+          rw (eq-eqb (getD s a 0 / cellSize) 3 t, ne-eqb (getD s a 0 / 256) (getD s b 0 / 256) (λ f. d (omega arith))) (unlike s a b d)
+      go (no n) (yes e) =
+          rw (ne-eqb (getD s a 0 / cellSize) 3 n, eq-eqb (getD s a 0 / cellSize) (getD s b 0 / cellSize) e) (others-alike (omega arith) n e)
+      go (no n) (no d) = rw (ne-eqb (getD s a 0 / cellSize) 3 n, ne-eqb (getD s a 0 / cellSize) (getD s b 0 / cellSize) d) (unlike s a b d)
+
+-- A pair or a set that is no set is a pair.
+pub other-pair : (s : List ℕ) (a : ℕ) → SomeTyped s a → PairOrSet s a → getD s a 0 / cellSize ≢ 5 → getD s a 0 / cellSize ≡ 4
+other-pair s a x l n = go (x .0) (first-cell s a (x .0) (x .1 .stands) (x .1 .fits) .0)
   where
-    go : Dec (getD s a 0 / cellSize ≡ 3) → sameKind (getD s a 0) (getD s b 0) ≡ agree v w
-    go (yes t) =
-        let x = as-element s a v h t in
-        let y = as-element s b w k (sym e ∙ t) in
-        rw (eq-eqb (getD s a 0 / cellSize) 3 t, x .2, y .2, elements-agree (x .0) (x .1) (y .0) (y .1), x .3, y .3)
-    go (no n3) =
-        let x = as-scalar s a v h n4 n5 in
-        let y = as-scalar s b w k (λ f. n4 (e ∙ f)) (λ f. n5 (e ∙ f)) in
-        rw (ne-eqb (getD s a 0 / cellSize) 3 n3, x .1, y .1) (sym (scalars-agree (x .0) (y .0) (sym (x .2) ∙ e ∙ y .2) (λ f. n3 (x .2 ∙ f))))
+    go : (v : Value) → getD s a 0 / cellSize ≡ tag v → getD s a 0 / cellSize ≡ 4
+    go (scalar (num whole i)) e = absurd (omega arith)
+    go (scalar (truth b)) e = absurd (omega arith)
+    go (scalar (element g k)) e = absurd (omega arith)
+    go (pair v w) e = e
+    go (set vs) e = absurd (n e)
 
 -- The cells of a value without an empty set's.
 pub full-typed : (s : List ℕ) (at end : ℕ) → EndsAt s at end → NoEmpty s at end → (v : Value) → TypedAt s at v → Full v
@@ -296,7 +335,7 @@ unfolding code
 few-members s a n r c f vs h = go f
   where
     k : RunAt s (a + 1) n vs
-    k = record { stands = members-stand s a vs (h .stands); fits = h .fits .1; typed = h .typed; counted = sym (first-cell s a (set vs) (h .stands) (h .fits) .1) ∙ c }
+    k = rw c at (typed-members s a vs h)
 
     one : (ws : Values) → RunAt s (a + 1) n ws → 0 < n → ((v : Value) → TypedAt s (a + 1) v → Full v) → StandFor s (a + 1) 1 ws
     one none p l u = absurd (omega (arith, p .counted))
@@ -335,12 +374,12 @@ turn-step s a n b m i left e p l f g = record {
   rest = λ r h. p .rest r (all-step s i left b m e r l g f h);
 }
 
--- Cells of one tag.
-pub kind-element : (x y t l m : ℕ) → t ≡ x / cellSize → t ≡ 3 → l ≡ x % cellSize → m ≡ y % cellSize → eqb (l / 256) (m / 256) ≡ sameKind x y
-kind-element x y t l m e n p q = rw (eq-eqb (x / cellSize) 3 (sym e ∙ n), p, q)
+-- The test of two cells, by the first one's tag.
+pub alike-elements : (x y t : ℕ) → t ≡ x / cellSize → t ≡ 3 → eqb (x / 256) (y / 256) ≡ atomsAlike x y
+alike-elements x y t e n = rw (eq-eqb (x / cellSize) 3 (sym e ∙ n))
 
-pub kind-other : (x y t : ℕ) → t ≡ x / cellSize → t ≢ 3 → true ≡ sameKind x y
-kind-other x y t e n = rw (ne-eqb (x / cellSize) 3 (λ f. n (e ∙ f)))
+pub alike-others : (x y t u : ℕ) → t ≡ x / cellSize → t ≢ 3 → u ≡ y / cellSize → eqb t u ≡ atomsAlike x y
+alike-others x y t u e n f = rw (ne-eqb (x / cellSize) 3 (λ g. n (e ∙ g)), e, f)
 
 pub first-member : (s : List ℕ) (a : ℕ) → SetHere s a → 0 < getD s a 0 % cellSize → SomeTyped s (a + 1)
 first-member s a h l =

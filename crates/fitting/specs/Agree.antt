@@ -1,7 +1,7 @@
 -- Values of the arena that share a type. Every value that is formed or read has a type, so the contracts speak of values
 -- that have one.
-use Prim.Native.Nat.{ℕ, _+_, _/_, _%_, _≤_, _<_}
-use mathlib.Core.Bool.{Bool, true, _&&_, cond}
+use Prim.Native.Nat.{ℕ, _+_, _/_, _≤_, _<_}
+use mathlib.Core.Bool.{Bool, _&&_, cond}
 use mathlib.Core.List.{List}
 use mathlib.Core.Logic.{_≢_, _⊎_}
 use mathlib.Core.Path.{_≡_}
@@ -87,9 +87,13 @@ abbrev mutual
 abbrev pub Few : List ℕ → ℕ → ℕ → ℕ → Type 0
 Few s at n r = (r ≡ n) ⊎ ((r ≡ 1) × (0 < n) × ((v : Value) → TypedAt s at v → Full v))
 
--- The types of two cells of one tag, neither a pair's nor a set's, are the same: elements are of one given set.
-abbrev pub sameKind : ℕ → ℕ → Bool
-sameKind x y = cond (eqb (x / 4294967296) 3) (eqb (x % 4294967296 / 256) (y % 4294967296 / 256)) true
+-- Two cells, the first that of a scalar, are of one type: they have one tag, and elements are of one given set.
+abbrev pub atomsAlike : ℕ → ℕ → Bool
+atomsAlike x y = cond (eqb (x / 4294967296) 3) (eqb (x / 256) (y / 256)) (eqb (x / 4294967296) (y / 4294967296))
+
+-- The value at a is a pair or a set.
+abbrev pub PairOrSet : List ℕ → ℕ → Type 0
+PairOrSet s a = 17179869184 ≤ getD s a 0
 
 -- What the tests of one set ask.
 pub record SetHere (s : List ℕ) (a : ℕ) : Type 0 where

@@ -8,7 +8,10 @@ ghost use Rattle.rules.specs.Rules.{t̂, û, P̂, _×̂_, numᵖ};
 ghost use Rattle.arena.specs.Code.{SomeAt};
 ghost use Rattle.fitting.specs.Types.{Decides, typeParts, SomeType, TypeEnds, atomIs, ValuesAndType, PartsAndTypes, OfType, AllOfType, PartsOfType};
 ghost use Rattle.fitting.specs.Tests.{FitOne, FitTwo, Both, Pairs, AgreedLefts};
-ghost use Rattle.fitting.specs.Agree.{NoEmpty, SomeTyped, SetHere, Few, Members, sameKind, Parts, AgreedParts, OneAndRun, Runs, Agreed, AgreedWith, AgreedAll};
+ghost use Rattle.fitting.specs.Agree.{NoEmpty, SomeTyped, SetHere, Few, Members, atomsAlike, PairOrSet, Parts, AgreedParts, OneAndRun, Runs, Agreed, AgreedWith, AgreedAll};
+
+// The cell of a pair. The cells of scalars are less, those of sets greater.
+pub const PAIR: u64 = 4 * 4294967296;
 
 // Whether no cell from `at` to `end` is that of an empty set.
 pub fn full(s: &[u64], at: usize, end: usize) -> bool
@@ -49,14 +52,15 @@ fn members(s: &[u64], a: usize) -> usize
     few(s, a + 1, n as usize)
 }
 
-// Whether two cells of one tag, not a pair's or a set's, are of one type.
-fn same_kind(x: u64, y: u64) -> bool
-    ensures { λ r. ⌜ r ≡ sameKind x y ⌝ }
+// Whether two cells, the first that of a scalar, are of one type: they have one tag, and elements are of one given set.
+pub fn atoms_alike(x: u64, y: u64) -> bool
+    ensures { λ r. ⌜ r ≡ atomsAlike x y ⌝ }
 {
-    if arena::tag(x) == 3 {
-        return arena::low(x) / 256 == arena::low(y) / 256;
+    let t = arena::tag(x);
+    if t == 3 {
+        return x / 256 == y / 256;
     }
-    true
+    t == arena::tag(y)
 }
 
 // Whether the values at a and b share a type.
@@ -65,9 +69,20 @@ pub fn agree(s: &[u64], a: usize, b: usize) -> bool
     ensures { λ r. ⌜ Agreed (now (s .entry)) a b r ⌝ }
 {
     let x = s[a];
-    let y = s[b];
-    let t = arena::tag(x);
-    if t != arena::tag(y) {
+    // Scalars need no further call.
+    if x < PAIR {
+        return atoms_alike(x, s[b]);
+    }
+    meet(s, a, b)
+}
+
+// So of two values, the first a pair or a set.
+fn meet(s: &[u64], a: usize, b: usize) -> bool
+    requires { ⌜ Both (now s) a b × PairOrSet (now s) a ⌝ }
+    ensures { λ r. ⌜ Agreed (now (s .entry)) a b r ⌝ }
+{
+    let t = arena::tag(s[a]);
+    if t != arena::tag(s[b]) {
         return false;
     }
     if t == 5 {
@@ -75,10 +90,7 @@ pub fn agree(s: &[u64], a: usize, b: usize) -> bool
         let m = members(s, b);
         return each(s, a + 1, n, b + 1, m);
     }
-    if t == 4 {
-        return parts(s, a + 1, b + 1);
-    }
-    same_kind(x, y)
+    parts(s, a + 1, b + 1)
 }
 
 // Whether the parts of a pair, the left one at a, share types with the parts of another, the left one at b.

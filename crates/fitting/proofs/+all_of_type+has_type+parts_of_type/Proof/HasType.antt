@@ -68,7 +68,7 @@ module _ (t : ℕ) where
   shared-slice-read-x c = value-inside (c .before .before .before)
 
   shared-slice-read-c : lts.Need-shared-slice-read-c claims (has-type-at t) has-type.Post
-  shared-slice-read-c c = code-inside (c .before .before .before .before)
+  shared-slice-read-c c = let m = c .before in code-inside (m .before .before .before)
 
   tag-requires : lts.Need-tag-requires claims (has-type-at t) has-type.Post
   tag-requires c κs = search needs

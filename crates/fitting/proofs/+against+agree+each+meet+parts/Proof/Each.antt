@@ -9,8 +9,8 @@ use Rattle.fitting.proofs.Cells.{some-at, run-first, all-end, all-false
 use Rattle.fitting.proofs.against.Reads as against
 use Rattle.fitting.proofs.each.Reads as each
 use Rattle.arena.proofs.end_of.Reads as end-of-reads
-use Rattle.fitting.proofs.+against+agree+each+parts.Lts-each as lts
-use Rattle.fitting.proofs.+against+agree+each+parts.Proof.Base.{against-below, each-at}
+use Rattle.fitting.proofs.+against+agree+each+meet+parts.Lts-each as lts
+use Rattle.fitting.proofs.+against+agree+each+meet+parts.Proof.Base.{against-below, each-at}
 
 abbrev Inv-loop : lts.InvT-loop
 Inv-loop s a n b m i₀ left₀ i left = Turn s a n b m i left

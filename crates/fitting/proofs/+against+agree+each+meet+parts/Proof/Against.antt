@@ -9,8 +9,8 @@ use Rattle.fitting.proofs.Cells.{some-at, run-first, run-rest, with-end
 use Rattle.fitting.proofs.against.Reads as against
 use Rattle.fitting.proofs.agree.Reads as agree
 use Rattle.arena.proofs.end_of.Reads as end-of-reads
-use Rattle.fitting.proofs.+against+agree+each+parts.Lts-against as lts
-use Rattle.fitting.proofs.+against+agree+each+parts.Proof.Base.{against-at, agree-below}
+use Rattle.fitting.proofs.+against+agree+each+meet+parts.Lts-against as lts
+use Rattle.fitting.proofs.+against+agree+each+meet+parts.Proof.Base.{against-at, agree-below}
 
 abbrev Inv-loop : lts.InvT-loop
 Inv-loop s a b m j₀ left₀ j left = SomeRun s j left × ((r : Bool) → AgreedWith s a j left r → AgreedWith s a b m r)

@@ -7,8 +7,8 @@ use Rattle.fitting.proofs.Cells.{some-at, end-bounds, parts-false, part
 use Rattle.fitting.proofs.agree.Reads as agree
 use Rattle.fitting.proofs.parts.Reads as parts
 use Rattle.arena.proofs.end_of.Reads as end-of-reads
-use Rattle.fitting.proofs.+against+agree+each+parts.Lts-parts as lts
-use Rattle.fitting.proofs.+against+agree+each+parts.Proof.Base.{agree-below, parts-at}
+use Rattle.fitting.proofs.+against+agree+each+meet+parts.Lts-parts as lts
+use Rattle.fitting.proofs.+against+agree+each+meet+parts.Proof.Base.{agree-below, parts-at}
 
 module _ (t : ℕ) where
   abbrev claims : lts.Claims
