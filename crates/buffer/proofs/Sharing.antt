@@ -1,5 +1,5 @@
 -- Whether the members of every set in a value share a type, set by set from the innermost outward.
-use Prim.Native.Nat.{ℕ, zero, suc, _+_, _-_, _/_, _%_, _≤_, _<_}
+use Prim.Native.Nat.{ℕ, zero, suc, _+_, _*_, _-_, _/_, _%_, _≤_, _<_}
 use mathlib.Core.Bool.{Bool, true, false, cond}
 use mathlib.Core.List.{List, append-nil}
 use mathlib.Core.Path.{_≡_, refl, sym, ap, subst, _∙_}
@@ -14,14 +14,14 @@ use Rattle.laws.proofs.FitsLaws.{_⊑_, ⊓-join, ⊓-split, inhabited→some, 
 use Rattle.arena.specs.Code.{cellSize, code, codes, Stands, ValueAt, ValuesAt, CellsFit, AllFit, SomeAt, EndsAt}
 use Rattle.arena.proofs.CodeLaws.{length-code, length-codes}
 use Rattle.arena.proofs.Standing.{stands-front, stands-back, _before_, codes-before, count-before, weights-before}
-use Rattle.fitting.specs.Agree.{meets, RunAt, SomeTyped, AgreedWith, NoEmpty, Full, StandFor}
+use Rattle.fitting.specs.Agree.{meets, RunAt, SomeTyped, Agreed, AgreedWith, NoEmpty, Full, StandFor, atomsAlike}
 use Rattle.fitting.proofs.Sharing.{meets→share, share→meets, meets-sym, left-typed, right-typed, with-every, full-first}
-use Rattle.fitting.proofs.Cells.{full-value}
+use Rattle.fitting.proofs.Cells.{full-value, one-cell, with-end, with-false, with-step, atoms-agree, alike-low, agreed-back}
 use Rattle.buffer.specs.Shared.{AllTyped, TypedRow, SomeTypedRow, Shares}
 use Rattle.buffer.proofs.Ahead.{inner}
 use Rattle.buffer.proofs.Ordering.{tag-cell, Left, left-start, scalar-tag, left-head, left-next}
 use Rattle.rules.proofs.Basics.{and-of, and-split}
-use Rattle.laws.proofs.CellsLaws.{weight-some}
+use Rattle.laws.proofs.CellsLaws.{weight-some, count-weights}
 
 -- Types of values that follow one another.
 sharedTypes-join : (vs ws : Values) (t : Ty) → sharedTypes vs ⊑ t → sharedTypes ws ⊑ t → sharedTypes (vs before ws) ⊑ t
@@ -196,6 +196,54 @@ module _ (s : List ℕ) (at n i k : ℕ) (vs : Values) (row : TypedRow s at n vs
               shares = some→inhabited (sharedTypes f) (x .0) (sharedTypes-join (h .front) (w ▸ none) (x .0) (x .1) (⊓-join (typesOf w) every (x .0) (x .2) tt));
               there = omega (arith, h .there, weights-before (h .front) (w ▸ none), ends w (stands-front s i (code w) (codes ws) (b .stands)) (b .fits .0));
             }
+
+-- Scalars, one cell each: x is the cell of the first, and those up to i are alike.
+pub record Cells (s : List ℕ) (at i : ℕ) (vs : Values) : Type 0 where
+  pub past : at < i
+  pub first : Prefix s at i (i - at) vs
+
+module _ (s : List ℕ) (at n : ℕ) (low : getD s at 0 < 4 * cellSize) where
+  no-empty : NoEmpty s at (at + 1)
+  no-empty = record { none = λ j p q e. let f : j ≡ at = omega arith in let g : getD s at 0 ≡ 21474836480 = rw f at e in omega arith }
+
+  pub cells-start : 0 < n → (vs : Values) → TypedRow s at n vs → Cells s at (at + 1) vs
+  cells-start l vs row =
+      let e : at + 1 - at ≡ 1 = omega arith in
+      record { past = omega arith; first = rw e (prefix-start s at n (at + 1) (one-cell s at low) (λ z. omega arith) vs row) }
+
+  -- There are as many cells as values.
+  pub cells-inside : SomeTypedRow s at n → at + n ≤ length s
+  cells-inside r = omega (arith, r .1 .stands .inside, length-codes (r .0), r .1 .counted, count-weights (r .0))
+
+  pub cells-end : (i : ℕ) (vs : Values) → TypedRow s at n vs → Cells s at i vs → at + n ≤ i → true ≡ inhabited (sharedTypes vs)
+  cells-end i vs row h l = prefix-end s at n i (i - at) vs row (h .first) (omega arith)
+
+  module _ (i : ℕ) (vs : Values) (row : TypedRow s at n vs) (h : Cells s at i vs) (l : i < at + n) where
+    one-for-all : StandFor s at 1 (h .first .front)
+    one-for-all =
+        let k = h .past in
+        stand-for s at n i (i - at) vs row (h .first) 1 (at + 1) true (omega arith) (one-cell s at low) (λ e. no-empty) refl
+
+    -- The next value against the first one, by their cells.
+    against-first : (r : Bool) → atomsAlike (getD s at 0) (getD s i 0) ≡ r → AgreedWith s i at 1 r
+    against-first r e = go r (λ v w p q. sym e ∙ atoms-agree s at i low v w p q)
+      where
+        go : (b : Bool) → Agreed s at i b → AgreedWith s i at 1 b
+        go true g = with-step s i at 1 (at + 1) true (omega arith) (agreed-back s at i true g) (one-cell s at low) (with-end s i (at + 1) 0 refl)
+        go false g = with-false s i at 1 (omega arith) (agreed-back s at i false g)
+
+    pub cells-fail : atomsAlike (getD s at 0) (getD s i 0) ≡ false → false ≡ inhabited (sharedTypes vs)
+    cells-fail e = let k = h .past in prefix-fails s at n i (i - at) vs row (h .first) 1 (omega arith) one-for-all (against-first false e)
+
+    pub cells-next : atomsAlike (getD s at 0) (getD s i 0) ≡ true → Cells s at (i + 1) vs
+    cells-next e =
+        let k = h .past in
+        let q : i + 1 - at ≡ i - at + 1 = omega arith in
+        let low′ : getD s i 0 < 4 * cellSize = alike-low (getD s at 0) (getD s i 0) low e in
+        record {
+          past = omega arith;
+          first = rw q (prefix-step s at n i (i - at) vs row (h .first) 1 (omega arith) one-for-all (i + 1) (one-cell s i low′) (against-first true e));
+        }
 
 -- What is left of a value after some cells.
 abbrev next : Values → Values

@@ -7,7 +7,6 @@ use lib.Dec.{T}
 use Rattle.rules.specs.Values.{Value, Values, none, _▸_, count}
 use Rattle.rules.specs.Fits.{typesOf, sharedTypes, inhabited, typed}
 use Rattle.arena.specs.Code.{ValueAt, ValuesAt, CellsFit, AllFit}
-use Rattle.fitting.specs.Agree.{SomeTyped, SomeRun}
 
 -- Each value has a type.
 abbrev pub AllTyped : Values → Type 0
@@ -27,11 +26,6 @@ SomeTypedRow s at n = (vs : Values) × TypedRow s at n vs
 -- r says whether they share one.
 abbrev pub Shares : List ℕ → ℕ → ℕ → Bool → Type 0
 Shares s at n r = (vs : Values) → TypedRow s at n vs → r ≡ inhabited (sharedTypes vs)
-
--- A typed value at a, and m values from b on that share a type.
-pub record ValueAndRun (s : List ℕ) (a b m : ℕ) : Type 0 where
-  pub value : SomeTyped s a
-  pub run : SomeRun s b m
 
 -- r says whether the value at `at` has a type.
 abbrev pub TypedHere : List ℕ → ℕ → Bool → Type 0

@@ -7,9 +7,8 @@ ghost use Rattle.rules.specs.Tables.{wordAt, tableOf};
 ghost use Rattle.buffer.specs.Buffer.{stepAt, zerosAt, codeOf, cellGood, cellsAtMost, StepTakes, Places};
 ghost use Rattle.arena.specs.Code.{Same};
 ghost use Rattle.buffer.specs.Ordered.{SomeMembersAt, InOrder, WholeValue, Ordered};
-ghost use Rattle.buffer.specs.Shared.{SomeTypedRow, Shares, ValueAndRun, TypedHere};
+ghost use Rattle.buffer.specs.Shared.{SomeTypedRow, Shares, TypedHere};
 ghost use Rattle.buffer.specs.Loaded.{ReadsGood, Enters, Room, Loads, LoadReady};
-ghost use Rattle.fitting.specs.Agree.{AgreedWith};
 
 mod words;
 
@@ -230,23 +229,6 @@ pub fn rises(s: &[u64], at: usize, end: usize) -> bool
     true
 }
 
-// Whether the value at a shares a type with m values from b on, which share one.
-fn with_each(s: &[u64], a: usize, b: usize, m: u64) -> bool
-    requires { ⌜ ValueAndRun (now s) a b m ⌝ }
-    ensures { λ r. ⌜ AgreedWith (now (s .entry)) a b m r ⌝ }
-{
-    let mut j = b;
-    let mut left = m;
-    while left > 0 {
-        if !fitting::agree(s, a, j) {
-            return false;
-        }
-        j = arena::end_of(s, j);
-        left -= 1;
-    }
-    true
-}
-
 // How many of k values that share a type stand for all of them: the first, where it has one type only.
 fn few(one: bool, k: u64) -> u64
     ensures { λ r. ⌜ r ≡ cond one 1 k ⌝ }
@@ -257,6 +239,44 @@ fn few(one: bool, k: u64) -> u64
     k
 }
 
+// Whether n values from `at` on, the first a scalar, share a type: all are scalars, one cell each.
+fn cells_share(s: &[u64], at: usize, n: u64) -> bool
+    requires { ⌜ SomeTypedRow (now s) at n × (0 < n) × (getD (now s) at 0 < 17179869184) ⌝ }
+    ensures { λ r. ⌜ Shares (now (s .entry)) at n r ⌝ }
+{
+    let x = s[at];
+    let end = at + n as usize;
+    let mut i = at + 1;
+    while i < end {
+        if !fitting::atoms_alike(x, s[i]) {
+            return false;
+        }
+        i += 1;
+    }
+    true
+}
+
+// Whether n values from `at` on share a type, value by value.
+fn values_share(s: &[u64], at: usize, n: u64) -> bool
+    requires { ⌜ SomeTypedRow (now s) at n × (0 < n) ⌝ }
+    ensures { λ r. ⌜ Shares (now (s .entry)) at n r ⌝ }
+{
+    let end = arena::end_of(s, at);
+    // A value with no empty set in it has one type only.
+    let one = fitting::full(s, at, end);
+    let mut i = end;
+    let mut k: u64 = 1;
+    while k < n {
+        let m = few(one, k);
+        if !fitting::against(s, i, at, m as usize) {
+            return false;
+        }
+        i = arena::end_of(s, i);
+        k += 1;
+    }
+    true
+}
+
 // Whether n values from `at` on share a type.
 fn share(s: &[u64], at: usize, n: u64) -> bool
     requires { ⌜ SomeTypedRow (now s) at n ⌝ }
@@ -265,20 +285,10 @@ fn share(s: &[u64], at: usize, n: u64) -> bool
     if n == 0 {
         return true;
     }
-    let end = arena::end_of(s, at);
-    // A value with no empty set in it has one type only.
-    let one = fitting::full(s, at, end);
-    let mut i = end;
-    let mut k: u64 = 1;
-    while k < n {
-        let m = few(one, k);
-        if !with_each(s, i, at, m) {
-            return false;
-        }
-        i = arena::end_of(s, i);
-        k += 1;
+    if s[at] < fitting::PAIR {
+        return cells_share(s, at, n);
     }
-    true
+    values_share(s, at, n)
 }
 
 // Whether the value from `at` to `end` has a type: in each of its sets, from the innermost outward, the members share one.

@@ -3,7 +3,7 @@ use Prim.Native.Nat.{ℕ, _+_, _*_, _-_, _/_, _%_, _≤_, _<_}
 use mathlib.Core.Bool.{Bool, true, false}
 use mathlib.Core.List.{List, append-nil}
 use mathlib.Core.Logic.{_≢_, inl, inr}
-use borrow.Author.Tests.{eq-eqb, ne-eqb}
+use borrow.Author.Tests.{eq-eqb, ne-eqb, eqb-true}
 use mathlib.Core.Path.{_≡_, refl, sym, _∙_, subst}
 use native.Mathlib.Omega.{arith}
 use native.Mathlib.Decide.{ℕ-discrete, decLt}
@@ -43,6 +43,12 @@ value-eq s at v w h k p q = go (decLt (weight v) (weight w))
     go : Dec (weight v < weight w) → v ≡ w
     go (yes y) = sym (all-agree w v q p (omega arith) (λ j m. sym (k .cells j (omega (arith, length-code w))) ∙ h .cells j (omega (arith, length-code v))))
     go (no n) = all-agree v w p q (omega arith) (λ j m. sym (h .cells j (omega (arith, length-code v))) ∙ k .cells j (omega (arith, length-code w)))
+
+-- A cell below that of a pair is a scalar's, a whole value.
+pub one-cell : (s : List ℕ) (at : ℕ) → getD s at 0 < 4 * cellSize → EndsAt s at (at + 1)
+one-cell s at l (scalar x) h f = refl
+one-cell s at l (pair a b) h f = absurd (omega (arith, first-cell s at (pair a b) h f .0))
+one-cell s at l (set vs) h f = absurd (omega (arith, first-cell s at (set vs) h f .0))
 
 -- The members of a set.
 pub members-stand : (s : List ℕ) (at : ℕ) (vs : Values) → ValueAt s at (set vs) → ValuesAt s (at + 1) vs
@@ -313,6 +319,19 @@ module _ (s : List ℕ) (a b : ℕ) where
       go (no n) (yes e) =
           rw (ne-eqb (getD s a 0 / cellSize) 3 n, eq-eqb (getD s a 0 / cellSize) (getD s b 0 / cellSize) e) (others-alike (omega arith) n e)
       go (no n) (no d) = rw (ne-eqb (getD s a 0 / cellSize) 3 n, ne-eqb (getD s a 0 / cellSize) (getD s b 0 / cellSize) d) (unlike s a b d)
+
+pub alike-low : (x y : ℕ) → x < 4 * cellSize → atomsAlike x y ≡ true → y < 4 * cellSize
+alike-low x y l e = go (ℕ-discrete (x / cellSize) 3) e
+  where
+    go : Dec (x / cellSize ≡ 3) → atomsAlike x y ≡ true → y < 4 * cellSize
+    go (yes t) f = let g : eqb (x / 256) (y / 256) ≡ true = rw (eq-eqb (x / cellSize) 3 t) at f in omega (arith, eqb-true (x / 256) (y / 256) g)
+    go (no n) f =
+        let g : eqb (x / cellSize) (y / cellSize) ≡ true = rw (ne-eqb (x / cellSize) 3 n) at f in
+        omega (arith, eqb-true (x / cellSize) (y / cellSize) g)
+
+pub agreed-back : (s : List ℕ) (a b : ℕ) (r : Bool) → Agreed s a b r → Agreed s b a r
+unfolding agree
+agreed-back s a b r g v w h k = g w v k h ∙ meets-sym (typesOf w) (typesOf v)
 
 -- A pair or a set that is no set is a pair.
 pub other-pair : (s : List ℕ) (a : ℕ) → SomeTyped s a → PairOrSet s a → getD s a 0 / cellSize ≢ 5 → getD s a 0 / cellSize ≡ 4

@@ -107,7 +107,7 @@ fn parts(s: &[u64], a: usize, b: usize) -> bool
 }
 
 // Whether the value at a shares a type with the m values from b on.
-fn against(s: &[u64], a: usize, b: usize, m: usize) -> bool
+pub fn against(s: &[u64], a: usize, b: usize, m: usize) -> bool
     requires { ⌜ OneAndRun (now s) a b m ⌝ }
     ensures { λ r. ⌜ AgreedWith (now (s .entry)) a b m r ⌝ }
 {
