@@ -193,8 +193,8 @@ pub fn copy_value(from: Cursor, values: &[u8], sizes: &[u32], s: &mut [u64], top
     Placed::At(c, top + n)
 }
 
-// Whether n values from `at` on rise.
-fn in_order(s: &[u64], at: usize, n: u64) -> bool
+// Whether n values from `at` on rise, value by value.
+fn values_rise(s: &[u64], at: usize, n: u64) -> bool
     requires { ⌜ SomeMembersAt (now s) at n ⌝ }
     ensures { λ r. ⌜ InOrder (now (s .entry)) at n r ⌝ }
 {
@@ -206,6 +206,27 @@ fn in_order(s: &[u64], at: usize, n: u64) -> bool
             return false;
         }
         i = e;
+        left -= 1;
+    }
+    true
+}
+
+// Whether n values from `at` on rise. Where a scalar's cell is less than the next one, so is the scalar than the next value.
+fn in_order(s: &[u64], at: usize, n: u64) -> bool
+    requires { ⌜ SomeMembersAt (now s) at n ⌝ }
+    ensures { λ r. ⌜ InOrder (now (s .entry)) at n r ⌝ }
+{
+    let mut i = at;
+    let mut left = n;
+    while left > 1 {
+        let x = s[i];
+        if x >= fitting::PAIR {
+            return values_rise(s, i, left);
+        }
+        i += 1;
+        if s[i] <= x {
+            return false;
+        }
         left -= 1;
     }
     true
