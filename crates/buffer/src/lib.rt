@@ -4,13 +4,18 @@ ghost use mathlib.Core.Bool.{true, cond};
 ghost use Prim.Native.Nat.{_+_, _-_, _≤_, _<_};
 ghost use lib.ListN.{length, getD};
 ghost use Rattle.rules.specs.Tables.{wordAt, tableOf};
-ghost use Rattle.buffer.specs.Buffer.{stepAt, zerosAt, codeOf, cellGood, cellsAtMost, StepTakes, Places};
+ghost use Rattle.buffer.specs.Buffer.{stepAt, codeOf, cellGood, cellsAtMost, StepTakes, Places};
 ghost use Rattle.arena.specs.Code.{Same};
 ghost use Rattle.buffer.specs.Ordered.{SomeMembersAt, InOrder, WholeValue, Ordered};
 ghost use Rattle.buffer.specs.Shared.{SomeTypedRow, Shares, TypedHere};
 ghost use Rattle.buffer.specs.Loaded.{ReadsGood, Enters, Room, Loads, LoadReady};
 
 mod words;
+
+// A cell in the buffer: its payload, its tag times WORD, and zero bytes from FREE on.
+const WORD: u64 = 4294967296;
+
+const FREE: u64 = 256 * WORD;
 
 // A place in the values buffer where a cell may begin.
 pub struct Cursor {
@@ -65,17 +70,6 @@ fn word(values: &[u8], at: usize) -> u64
     a + 256 * b + 65536 * c + 16777216 * d
 }
 
-// Whether the three bytes from `at` on are zero.
-fn zeros(values: &[u8], at: usize) -> bool
-    requires { ⌜ at + 3 ≤ length (now values) ⌝ }
-    ensures { λ r. ⌜ r ≡ zerosAt (now (values .entry)) at ⌝ }
-{
-    let a = wide(values[at]);
-    let b = wide(values[at + 1]);
-    let c = wide(values[at + 2]);
-    a + b + c == 0
-}
-
 impl Cursor {
     // The cell at this place: eight bytes, the last three zero.
     pub fn next(self, values: &[u8]) -> Step
@@ -89,12 +83,27 @@ impl Cursor {
         if len - 8 < at {
             return Step::End;
         }
-        if !zeros(values, at + 5) {
+        let x = word(values, at) + WORD * word(values, at + 4);
+        if x >= FREE {
             return Step::End;
         }
-        let payload = word(values, at);
-        let tag = wide(values[at + 4]);
-        Step::Cell(tag * 4294967296 + payload, Cursor { at: at + 8 })
+        Step::Cell(x, Cursor { at: at + 8 })
+    }
+
+    // The good cell at this place.
+    fn take(self, values: &[u8], sizes: &[u32]) -> Step
+        ensures { λ r. ⌜ StepTakes (now (sizes .entry)) (now (values .entry)) (self .at) r ⌝ }
+    {
+        let step = self.next(values);
+        match step {
+            Step::Cell(x, next) => {
+                if good_cell(x, sizes) {
+                    return Step::Cell(x, next);
+                }
+                Step::End
+            }
+            Step::End => Step::End,
+        }
     }
 }
 
@@ -125,35 +134,19 @@ fn good_cell(cell: u64, sizes: &[u32]) -> bool
 {
     let t = arena::tag(cell);
     let p = arena::low(cell);
-    if t == 2 {
-        return p < 2;
+    if t == 1 {
+        return true;
     }
     if t == 3 {
         return p % 256 < size(sizes, p / 256);
     }
+    if t == 2 {
+        return p < 2;
+    }
     if t == 4 {
         return p == 0;
     }
-    if t == 1 {
-        return true;
-    }
     t == 5
-}
-
-// The good cell at a place.
-fn take(from: Cursor, values: &[u8], sizes: &[u32]) -> Step
-    ensures { λ r. ⌜ StepTakes (now (sizes .entry)) (now (values .entry)) (from .at) r ⌝ }
-{
-    let step = from.next(values);
-    match step {
-        Step::Cell(x, next) => {
-            if good_cell(x, sizes) {
-                return Step::Cell(x, next);
-            }
-            Step::End
-        }
-        Step::End => Step::End,
-    }
 }
 
 // The cells that the values of n identifiers take at most: 256 each, and one for 8 bytes of the buffer.
@@ -182,7 +175,7 @@ pub fn copy_value(from: Cursor, values: &[u8], sizes: &[u32], s: &mut [u64], top
         if left > 256 - n {
             return Placed::Fault;
         }
-        let Step::Cell(x, next) = take(c, values, sizes) else {
+        let Step::Cell(x, next) = c.take(values, sizes) else {
             return Placed::Fault;
         };
         s[top + n] = code_cell(x);
