@@ -78,7 +78,7 @@ good-of gs v h k w t =
     and-of (a && b) (typed v) (and-of a b (well-of gs v h k) (le→leb (weight v) 256 w)) t
 
 -- One value.
-module _ (gs bs : List ℕ) (at : ℕ) (s : List ℕ) (top next end : ℕ) (h : ReadAt gs bs at s top next end) where
+module _ {gs bs : List ℕ} {at : ℕ} {s : List ℕ} {top next end : ℕ} (h : ReadAt gs bs at s top next end) where
   pub read-whole : WholeValue s top end
   read-whole = record {
     value = record { value = h .first; stands = h .stands; fits = h .fits };

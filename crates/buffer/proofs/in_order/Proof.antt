@@ -1,7 +1,6 @@
 -- `in_order`: the values that are left rise just where all do. A scalar is one cell, and less than the next value where that cell is.
 use Prim.Native.Nat.{_+_, _*_, _<_}
 use native.Mathlib.Omega.{arith}
-use borrow.Author.Needs.{needs}
 use lib.ListN.{length, getD}
 use Rattle.rules.specs.Values.{Values}
 use Rattle.arena.specs.Code.{cellSize}
