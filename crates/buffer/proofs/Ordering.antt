@@ -223,7 +223,7 @@ left-start s at end v h f e = record {
   ends = omega (arith, e v h f);
 }
 
-pub scalar-tag : (x : Scalar) → scalarTag x ≡ 5 → ⊥
+pub scalar-tag : (x : Scalar) → 5 ≤ scalarTag x → ⊥
 scalar-tag (num whole j) e = omega arith
 scalar-tag (truth b) e = omega arith
 scalar-tag (element g k) e = omega arith
@@ -256,20 +256,23 @@ module _ (s : List ℕ) (i end : ℕ) (v : Value) (h : Sorted s i end v) where
       go none f e = sym e
       go (w ▸ ws) f e = absurd (omega (arith, f .ends, weight-some w))
 
-  module _ (x t : ℕ) (l : i < end) (here : x ≡ getD s i 0) (tagged : t ≡ x / cellSize) where
+  module _ (x : ℕ) (l : i < end) (here : x ≡ getD s i 0) where
+    tag-here : (w : Value) (ws : Values) → Left s i end (w ▸ ws) → x / cellSize ≡ tag w
+    tag-here w ws f = ap (λ (y : ℕ). y / cellSize) (here ∙ left-head s i end w ws f) ∙ tag-cell w (f .fits .0)
+
     -- a cell that is not a set's
-    pub sorted-on : (t ≡ 5 → ⊥) → Sorted s (i + 1) end v
+    pub sorted-on : x < 5 * cellSize → Sorted s (i + 1) end v
     sorted-on n = go (h .rest) (h .left) (h .same)
       where
         go : (ws : Values) → Left s i end ws → ordered v ≡ orderedAll ws → Sorted s (i + 1) end v
         go none f e = absurd (omega (arith, f .ends))
         go (scalar y ▸ ws) f e = record { rest = ws; left = left-next s i end (scalar y) ws f; same = e }
         go (pair a b ▸ ws) f e = record { rest = a ▸ b ▸ ws; left = left-next s i end (pair a b) ws f; same = e ∙ and-assoc (ordered a) (ordered b) (orderedAll ws) }
-        go (set ms ▸ ws) f e = absurd (n (tagged ∙ ap (λ (y : ℕ). y / cellSize) (here ∙ left-head s i end (set ms) ws f) ∙ tag-cell (set ms) (f .fits .0)))
+        go (set ms ▸ ws) f e = absurd (omega (arith, tag-here (set ms) ws f))
 
-    module _ (set-here : t ≡ 5) where
-      not-set : (w : Value) (ws : Values) → Left s i end (w ▸ ws) → tag w ≡ 5
-      not-set w ws f = sym (tagged ∙ ap (λ (y : ℕ). y / cellSize) (here ∙ left-head s i end w ws f) ∙ tag-cell w (f .fits .0)) ∙ set-here
+    module _ (set-here : 5 * cellSize ≤ x) where
+      no-scalar : (y : Scalar) (ws : Values) → Left s i end (scalar y ▸ ws) → ⊥
+      no-scalar y ws f = scalar-tag y (omega (arith, tag-here (scalar y) ws f))
 
       -- its members
       members : (ms ws : Values) (n : ℕ) → Left s i end (set ms ▸ ws) → n ≡ x % cellSize → MembersAt s (i + 1) n ms
@@ -286,8 +289,8 @@ module _ (s : List ℕ) (i end : ℕ) (v : Value) (h : Sorted s i end v) where
         where
           go : (ws : Values) → Left s i end ws → SomeMembersAt s (i + 1) n
           go none f = absurd (omega (arith, f .ends))
-          go (scalar y ▸ ws) f = absurd (scalar-tag y (not-set (scalar y) ws f))
-          go (pair a b ▸ ws) f = absurd (omega (arith, not-set (pair a b) ws f))
+          go (scalar y ▸ ws) f = absurd (no-scalar y ws f)
+          go (pair a b ▸ ws) f = absurd (omega (arith, tag-here (pair a b) ws f))
           go (set ms ▸ ws) f = (ms, members ms ws n f q)
 
       module _ (n : ℕ) (r : Bool) (q : n ≡ x % cellSize) (k : InOrder s (i + 1) n r) where
@@ -296,8 +299,8 @@ module _ (s : List ℕ) (i end : ℕ) (v : Value) (h : Sorted s i end v) where
           where
             go : (ws : Values) → Left s i end ws → ordered v ≡ orderedAll ws → Sorted s (i + 1) end v
             go none f e = absurd (omega (arith, f .ends))
-            go (scalar y ▸ ws) f e = absurd (scalar-tag y (not-set (scalar y) ws f))
-            go (pair a b ▸ ws) f e = absurd (omega (arith, not-set (pair a b) ws f))
+            go (scalar y ▸ ws) f e = absurd (no-scalar y ws f)
+            go (pair a b ▸ ws) f e = absurd (omega (arith, tag-here (pair a b) ws f))
             go (set ms ▸ ws) f e =
                 let o : inOrder ms ≡ true = sym (k ms (members ms ws n f q)) ∙ z in
                 record { rest = ms before ws; left = left-next s i end (set ms) ws f; same = e ∙ rw o (sym (ordered-before ms ws)) }
@@ -307,8 +310,8 @@ module _ (s : List ℕ) (i end : ℕ) (v : Value) (h : Sorted s i end v) where
           where
             go : (ws : Values) → Left s i end ws → ordered v ≡ orderedAll ws → false ≡ ordered v
             go none f e = absurd (omega (arith, f .ends))
-            go (scalar y ▸ ws) f e = absurd (scalar-tag y (not-set (scalar y) ws f))
-            go (pair a b ▸ ws) f e = absurd (omega (arith, not-set (pair a b) ws f))
+            go (scalar y ▸ ws) f e = absurd (no-scalar y ws f)
+            go (pair a b ▸ ws) f e = absurd (omega (arith, tag-here (pair a b) ws f))
             go (set ms ▸ ws) f e =
                 let o : inOrder ms ≡ false = sym (k ms (members ms ws n f q)) ∙ z in
                 sym (e ∙ rw o)

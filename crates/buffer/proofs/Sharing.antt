@@ -4,11 +4,13 @@ use mathlib.Core.Bool.{Bool, true, false, cond}
 use mathlib.Core.List.{List, append-nil}
 use mathlib.Core.Path.{_≡_, refl, sym, ap, subst, _∙_}
 use native.Mathlib.Omega.{arith}
+use native.Mathlib.Decide.{ℕ-discrete}
+use borrow.Author.Tests.{eq-eqb, ne-eqb}
 use native.Mathlib.Nat.{add-zero}
-use lib.Dec.{T}
+use lib.Dec.{T, eqb}
 use lib.ListN.{length, getD}
 use Rattle.rules.specs.Types.{whole, Ty}
-use Rattle.rules.specs.Values.{Value, scalar, pair, set, Values, none, _▸_, tag, count, weights}
+use Rattle.rules.specs.Values.{Scalar, Value, scalar, pair, set, Values, none, _▸_, tag, count, weights}
 use Rattle.rules.specs.Fits.{every, typesOf, sharedTypes, inhabited, typed}
 use Rattle.laws.proofs.FitsLaws.{_⊑_, ⊓-join, ⊓-split, inhabited→some, some→inhabited}
 use Rattle.arena.specs.Code.{cellSize, code, codes, Stands, ValueAt, ValuesAt, CellsFit, AllFit, SomeAt, EndsAt}
@@ -17,7 +19,7 @@ use Rattle.arena.proofs.Standing.{stands-front, stands-back, _before_, codes-be
 use Rattle.fitting.specs.Agree.{meets, RunAt, SomeTyped, Agreed, AgreedWith, NoEmpty, Full, StandFor, atomsAlike}
 use Rattle.fitting.proofs.Sharing.{meets→share, share→meets, meets-sym, left-typed, right-typed, with-every, full-first}
 use Rattle.fitting.proofs.Cells.{full-value, one-cell, with-end, with-false, with-step, atoms-agree, alike-low, agreed-back}
-use Rattle.buffer.specs.Shared.{AllTyped, TypedRow, SomeTypedRow, Shares}
+use Rattle.buffer.specs.Shared.{AllTyped, TypedRow, SomeTypedRow, Shares, leastAlike, mostAlike}
 use Rattle.buffer.proofs.Ahead.{inner}
 use Rattle.buffer.proofs.Ordering.{tag-cell, Left, left-start, scalar-tag, left-head, left-next}
 use Rattle.rules.proofs.Basics.{and-of, and-split}
@@ -197,6 +199,52 @@ module _ (s : List ℕ) (at n i k : ℕ) (vs : Values) (row : TypedRow s at n vs
               there = omega (arith, h .there, weights-before (h .front) (w ▸ none), ends w (stands-front s i (code w) (codes ws) (b .stands)) (b .fits .0));
             }
 
+-- The bounds of the cells that are alike, by the tag.
+module _ (x t : ℕ) (tagged : t ≡ x / cellSize) where
+  module _ (element : t ≡ 3) where
+    pub least-element : x / 256 * 256 ≡ leastAlike x
+    least-element = rw (eq-eqb (x / cellSize) 3 (sym tagged ∙ element))
+
+    pub most-element : x / 256 * 256 + 255 ≡ mostAlike x
+    most-element = rw (eq-eqb (x / cellSize) 3 (sym tagged ∙ element))
+
+  module _ (other : t ≡ 3 → ⊥) where
+    pub least-other : x / cellSize * cellSize ≡ leastAlike x
+    least-other = rw (ne-eqb (x / cellSize) 3 (λ e. other (tagged ∙ e)))
+
+    pub most-other : x / cellSize * cellSize + 4294967295 ≡ mostAlike x
+    most-other = rw (ne-eqb (x / cellSize) 3 (λ e. other (tagged ∙ e)))
+
+-- Two cells are alike where the second lies between the bounds of the first.
+module _ (x y : ℕ) where
+  by-tag : (P : ℕ → ℕ → Bool → Type 0) →
+      P (x / 256 * 256) (x / 256 * 256 + 255) (eqb (x / 256) (y / 256)) →
+      P (x / cellSize * cellSize) (x / cellSize * cellSize + 4294967295) (eqb (x / cellSize) (y / cellSize)) →
+      P (leastAlike x) (mostAlike x) (atomsAlike x y)
+  by-tag P h k = go (ℕ-discrete (x / cellSize) 3)
+    where
+      go : Dec (x / cellSize ≡ 3) → P (leastAlike x) (mostAlike x) (atomsAlike x y)
+      go (yes e) = rw (eq-eqb (x / cellSize) 3 e) h
+      go (no n) = rw (ne-eqb (x / cellSize) 3 n) k
+
+  pub alike-within : leastAlike x ≤ y → y ≤ mostAlike x → atomsAlike x y ≡ true
+  alike-within =
+      by-tag (λ l m b. l ≤ y → y ≤ m → b ≡ true)
+      (λ p q. eq-eqb (x / 256) (y / 256) (omega arith))
+      (λ p q. eq-eqb (x / cellSize) (y / cellSize) (omega arith))
+
+  pub alike-below : y < leastAlike x → atomsAlike x y ≡ false
+  alike-below =
+      by-tag (λ l m b. y < l → b ≡ false)
+      (λ p. ne-eqb (x / 256) (y / 256) (λ e. omega arith))
+      (λ p. ne-eqb (x / cellSize) (y / cellSize) (λ e. omega arith))
+
+  pub alike-above : mostAlike x < y → atomsAlike x y ≡ false
+  alike-above =
+      by-tag (λ l m b. m < y → b ≡ false)
+      (λ p. ne-eqb (x / 256) (y / 256) (λ e. omega arith))
+      (λ p. ne-eqb (x / cellSize) (y / cellSize) (λ e. omega arith))
+
 -- Scalars, one cell each: x is the cell of the first, and those up to i are alike.
 pub record Cells (s : List ℕ) (at i : ℕ) (vs : Values) : Type 0 where
   pub past : at < i
@@ -307,7 +355,7 @@ module _ (s : List ℕ) (at end : ℕ) (v : Value) (h : ValueAt s at v) (f : Cel
       is false t = absurd t
 
   -- one cell back
-  module _ (i x t : ℕ) (low : at < i) (high : i ≤ end) (here : x ≡ getD s (i - 1) 0) (tagged : t ≡ x / cellSize) where
+  module _ (i x : ℕ) (low : at < i) (high : i ≤ end) (here : x ≡ getD s (i - 1) 0) where
     left-here : Left s (i - 1) end (after (v ▸ none) (i - 1 - at))
     left-here = here-left (i - 1) (omega arith) (omega arith)
 
@@ -315,19 +363,22 @@ module _ (s : List ℕ) (at end : ℕ) (v : Value) (h : ValueAt s at v) (f : Cel
     unfolding after
     next-here = let p : i - at ≡ suc (i - 1 - at) = omega arith in ap (after (v ▸ none)) p
 
-    tag-here : (w : Value) (ws : Values) → Left s (i - 1) end (w ▸ ws) → t ≡ tag w
-    tag-here w ws l = tagged ∙ ap (λ (y : ℕ). y / cellSize) (here ∙ left-head s (i - 1) end w ws l) ∙ tag-cell w (l .fits .0)
+    tag-here : (w : Value) (ws : Values) → Left s (i - 1) end (w ▸ ws) → x / cellSize ≡ tag w
+    tag-here w ws l = ap (λ (y : ℕ). y / cellSize) (here ∙ left-head s (i - 1) end w ws l) ∙ tag-cell w (l .fits .0)
 
-    pub from-other : (t ≡ 5 → ⊥) → TypedFrom at i v → TypedFrom at (i - 1) v
+    pub from-other : x < 5 * cellSize → TypedFrom at i v → TypedFrom at (i - 1) v
     from-other n a = go (after (v ▸ none) (i - 1 - at)) left-here (subst AllTyped next-here a)
       where
         go : (ws : Values) → Left s (i - 1) end ws → AllTyped (next ws) → AllTyped ws
         go none l y = tt
         go (scalar z ▸ ws) l y = (tt, y)
         go (pair p q ▸ ws) l y = (and-of (inhabited (typesOf p)) (inhabited (typesOf q)) (y .0) (y .1 .0), y .1 .1)
-        go (set ms ▸ ws) l y = absurd (n (tag-here (set ms) ws l))
+        go (set ms ▸ ws) l y = absurd (omega (arith, tag-here (set ms) ws l))
 
-    module _ (set-here : t ≡ 5) where
+    module _ (set-here : 5 * cellSize ≤ x) where
+      no-scalar : (z : Scalar) (ws : Values) → Left s (i - 1) end (scalar z ▸ ws) → ⊥
+      no-scalar z ws l = scalar-tag z (omega (arith, tag-here (scalar z) ws l))
+
       members : (n : ℕ) → n ≡ x % cellSize → (ms ws : Values) → Left s (i - 1) end (set ms ▸ ws) → AllTyped ms → TypedRow s i n ms
       unfolding code
       members n q ms ws l y =
@@ -345,7 +396,7 @@ module _ (s : List ℕ) (at end : ℕ) (v : Value) (h : ValueAt s at v) (f : Cel
         where
           go : (ws : Values) → Left s (i - 1) end ws → AllTyped (next ws) → SomeTypedRow s i n
           go none l y = absurd (omega (arith, l .ends))
-          go (scalar z ▸ ws) l y = absurd (scalar-tag z (sym (tag-here (scalar z) ws l) ∙ set-here))
+          go (scalar z ▸ ws) l y = absurd (no-scalar z ws l)
           go (pair p r ▸ ws) l y = absurd (omega (arith, tag-here (pair p r) ws l))
           go (set ms ▸ ws) l y = (ms, members n q ms ws l (typed-split ms ws y .0))
 
@@ -355,7 +406,7 @@ module _ (s : List ℕ) (at end : ℕ) (v : Value) (h : ValueAt s at v) (f : Cel
           where
             go : (ws : Values) → Left s (i - 1) end ws → AllTyped (next ws) → AllTyped ws
             go none l y = tt
-            go (scalar b ▸ ws) l y = absurd (scalar-tag b (sym (tag-here (scalar b) ws l) ∙ set-here))
+            go (scalar b ▸ ws) l y = absurd (no-scalar b ws l)
             go (pair p b ▸ ws) l y = absurd (omega (arith, tag-here (pair p b) ws l))
             go (set ms ▸ ws) l y =
                 let p = typed-split ms ws y in
@@ -371,7 +422,7 @@ module _ (s : List ℕ) (at end : ℕ) (v : Value) (h : ValueAt s at v) (f : Cel
 
             go : (ws : Values) → Left s (i - 1) end ws → AllTyped (next ws) → AllTyped ws → ⊥
             go none l y u = omega (arith, l .ends)
-            go (scalar b ▸ ws) l y u = scalar-tag b (sym (tag-here (scalar b) ws l) ∙ set-here)
+            go (scalar b ▸ ws) l y u = no-scalar b ws l
             go (pair p b ▸ ws) l y u = omega (arith, tag-here (pair p b) ws l)
             go (set ms ▸ ws) l y u = subst T (sym (k ms (members n q ms ws l (typed-split ms ws y .0))) ∙ z) (u .0)
 

@@ -7,7 +7,7 @@ ghost use Rattle.rules.specs.Tables.{wordAt, tableOf};
 ghost use Rattle.buffer.specs.Buffer.{stepAt, codeOf, cellGood, cellsAtMost, StepTakes, Places};
 ghost use Rattle.arena.specs.Code.{Same};
 ghost use Rattle.buffer.specs.Ordered.{SomeMembersAt, InOrder, WholeValue, Ordered};
-ghost use Rattle.buffer.specs.Shared.{SomeTypedRow, Shares, TypedHere};
+ghost use Rattle.buffer.specs.Shared.{SomeTypedRow, Shares, leastAlike, mostAlike, TypedHere};
 ghost use Rattle.buffer.specs.Loaded.{ReadsGood, Enters, Room, Loads, LoadReady};
 
 mod words;
@@ -16,6 +16,9 @@ mod words;
 const WORD: u64 = 4294967296;
 
 const FREE: u64 = 256 * WORD;
+
+// The cell of a set of no members, the least of a set.
+const SET: u64 = 5 * WORD;
 
 // A place in the values buffer where a cell may begin.
 pub struct Cursor {
@@ -234,7 +237,7 @@ pub fn rises(s: &[u64], at: usize, end: usize) -> bool
     while i < end {
         let x = s[i];
         i += 1;
-        if arena::tag(x) == 5 {
+        if x >= SET {
             if !in_order(s, i, arena::low(x)) {
                 return false;
             }
@@ -253,16 +256,41 @@ fn few(one: bool, k: u64) -> u64
     k
 }
 
+// The cells of the scalars that share a type with the scalar of the cell x lie from `least` to `most`: elements are of one given set.
+fn least(x: u64) -> u64
+    ensures { λ r. ⌜ r ≡ leastAlike x ⌝ }
+{
+    if arena::tag(x) == 3 {
+        return x / 256 * 256;
+    }
+    x / WORD * WORD
+}
+
+fn most(x: u64) -> u64
+    ensures { λ r. ⌜ r ≡ mostAlike x ⌝ }
+{
+    if arena::tag(x) == 3 {
+        return x / 256 * 256 + 255;
+    }
+    x / WORD * WORD + 4294967295
+}
+
 // Whether n values from `at` on, the first a scalar, share a type: all are scalars, one cell each.
 fn cells_share(s: &[u64], at: usize, n: u64) -> bool
     requires { ⌜ SomeTypedRow (now s) at n × (0 < n) × (getD (now s) at 0 < 17179869184) ⌝ }
     ensures { λ r. ⌜ Shares (now (s .entry)) at n r ⌝ }
 {
     let x = s[at];
+    let low = least(x);
+    let high = most(x);
     let end = at + n as usize;
     let mut i = at + 1;
     while i < end {
-        if !fitting::atoms_alike(x, s[i]) {
+        let y = s[i];
+        if y < low {
+            return false;
+        }
+        if y > high {
             return false;
         }
         i += 1;
@@ -315,7 +343,7 @@ pub fn well_typed(s: &[u64], at: usize, end: usize) -> bool
         let next = i;
         i -= 1;
         let x = s[i];
-        if arena::tag(x) == 5 {
+        if x >= SET {
             if !share(s, next, arena::low(x)) {
                 return false;
             }

@@ -53,7 +53,7 @@ fn members(s: &[u64], a: usize) -> usize
 }
 
 // Whether two cells, the first that of a scalar, are of one type: they have one tag, and elements are of one given set.
-pub fn atoms_alike(x: u64, y: u64) -> bool
+fn atoms_alike(x: u64, y: u64) -> bool
     ensures { λ r. ⌜ r ≡ atomsAlike x y ⌝ }
 {
     let t = arena::tag(x);

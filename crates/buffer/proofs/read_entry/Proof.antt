@@ -40,9 +40,10 @@ same-length c = search needs
 returns-2 : tie.Need-returns-2
 returns-2 c =
     let m = c .before .before in
-    let k = m .before .before .before in
-    (k .read-value .ensures .0,
-    entry-free _ _ _ _ _ _ _ _ _ _ (free k .if1 .left) (subst (Reads k) (c .before .r .given .1) (k .read-value .ensures .1)))
+    let k = m .before .before .before in (
+      k .read-value .ensures .0,
+      entry-free _ _ _ _ _ _ _ _ _ _ (free k .if1 .left) (subst (Reads k) (c .before .r .given .1) (k .read-value .ensures .1)),
+    )
 
 same-length-2 : tie.Need-same-length-2
 same-length-2 c = search needs
@@ -51,9 +52,10 @@ returns-3 : tie.Need-returns-3
 returns-3 c =
     let m = c .before in
     let k = m .before .before .before in
-    let a = lent (free k) .args in
-    (k .read-value .ensures .0,
-    entry-bad (a .sizes .now) _ (a .values .now) (a .from .at) (free k .if1 .left) (subst (Reads k) (c .enum-told .given .1) (k .read-value .ensures .1)))
+    let a = lent (free k) .args in (
+      k .read-value .ensures .0,
+      entry-bad (a .sizes .now) _ (a .values .now) (a .from .at) (free k .if1 .left) (subst (Reads k) (c .enum-told .given .1) (k .read-value .ensures .1)),
+    )
 
 pub read-entry-spec : {M : Type 1} → statement M
 read-entry-spec =

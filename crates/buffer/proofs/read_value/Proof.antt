@@ -48,9 +48,10 @@ same-length c = search needs
 returns : tie.Need-returns
 returns c =
     let e = c .before .before in
-    let m = e .before .before in
-    (copied m .copy-value .ensures .0,
-    read-unordered (value m) (λ v h f. sym (not-true _ (c .if1 .taken)) ∙ c .before .rises .ensures v h f))
+    let m = e .before .before in (
+      copied m .copy-value .ensures .0,
+      read-unordered (value m) (λ v h f. sym (not-true _ (c .if1 .taken)) ∙ c .before .rises .ensures v h f),
+    )
 
 well-typed-requires : tie.Need-well-typed-requires
 well-typed-requires c κs = read-whole (value (ordered (c .before)))
@@ -60,9 +61,10 @@ same-length-2 c = search needs
 
 returns-2 : tie.Need-returns-2
 returns-2 c =
-    let m = ordered (c .before .before .before) in
-    (copied m .copy-value .ensures .0,
-    read-untyped (value m) (λ v h f. sym (not-true _ (c .if2 .taken)) ∙ c .before .well-typed .ensures v h f))
+    let m = ordered (c .before .before .before) in (
+      copied m .copy-value .ensures .0,
+      read-untyped (value m) (λ v h f. sym (not-true _ (c .if2 .taken)) ∙ c .before .well-typed .ensures v h f),
+    )
 
 enum-told : tie.Need-enum-told
 enum-told c = search needs
@@ -73,10 +75,11 @@ same-length-3 c = search needs
 returns-3 : tie.Need-returns-3
 returns-3 c =
     let o = c .before .before .before in
-    let m = ordered o in
-    (copied m .copy-value .ensures .0,
-    read-good (value m) (λ v h f. sym (not-false _ (o .if1 .left)) ∙ o .before .rises .ensures v h f)
-    (λ v h f. sym (not-false _ (c .if2 .left)) ∙ c .before .well-typed .ensures v h f))
+    let m = ordered o in (
+      copied m .copy-value .ensures .0,
+      read-good (value m) (λ v h f. sym (not-false _ (o .if1 .left)) ∙ o .before .rises .ensures v h f)
+          (λ v h f. sym (not-false _ (c .if2 .left)) ∙ c .before .well-typed .ensures v h f),
+    )
 
 same-length-4 : tie.Need-same-length-4
 same-length-4 c = search needs
@@ -85,9 +88,10 @@ returns-4 : tie.Need-returns-4
 returns-4 c =
     let m = c .before in
     let k = m .before .before .before in
-    let a = lent k .args in
-    (k .copy-value .ensures .0,
-    unread-bad (a .sizes .now) (a .values .now) (a .from .at) (subst (Copies k) (c .enum-told .given .1) (k .copy-value .ensures .1)))
+    let a = lent k .args in (
+      k .copy-value .ensures .0,
+      unread-bad (a .sizes .now) (a .values .now) (a .from .at) (subst (Copies k) (c .enum-told .given .1) (k .copy-value .ensures .1)),
+    )
 
 pub read-value-spec : {M : Type 1} → statement M
 read-value-spec =

@@ -30,12 +30,12 @@ rest l = let w = lent l .pre .value in l .before .loop .inv (w .value) (w .stand
 inside : (l : Turn) → lent l .args .end ≤ length (lent l .args .s .now)
 inside l = sorted-inside _ _ _ _ (rest l)
 
--- The tag of the cell is known.
-abbrev Tagged : Type 0
-Tagged = tie.After-tag Inv-loop μ-loop
+-- The cell is a set's, and its number of members is known.
+abbrev Counted : Type 0
+Counted = tie.After-low Inv-loop μ-loop
 
-abbrev turn : Tagged → Turn
-turn m = m .before .before
+abbrev turn : Counted → Turn
+turn m = m .before .before .before
 
 loop-holds : tie.Need-loop-holds Inv-loop μ-loop
 loop-holds c = λ v h f. sorted-start _ _ _ v h f (c .before .pre .ends)
@@ -49,45 +49,37 @@ shared-slice-read-x c = let l = c .before in omega (arith, l .loop-test .taken, 
 add-i : tie.Need-add-i Inv-loop μ-loop
 add-i c = let l = c .before in omega (arith, l .loop-test .taken, inside l)
 
-tag-requires : tie.Need-tag-requires Inv-loop μ-loop
-tag-requires c κs = search needs
-
 low-requires : tie.Need-low-requires Inv-loop μ-loop
 low-requires c κs = search needs
 
 in-order-requires : tie.Need-in-order-requires Inv-loop μ-loop
 in-order-requires c κs =
-    let m = c .before .before in
-    let l = turn m in
-    sorted-members _ _ _ _ (rest l) _ _ (l .loop-test .taken) refl (m .tag .ensures) (c .before .if1 .taken) _ (c .low .ensures .0)
+    let l = turn c in sorted-members _ _ _ _ (rest l) _ (l .loop-test .taken) refl (c .before .if1 .taken) _ (c .low .ensures .0)
 
 returns : tie.Need-returns Inv-loop μ-loop
 returns c = λ v h f.
-    let n = c .before .before in
-    let m = n .before .before in
+    let m = c .before .before in
     let l = turn m in
-    sorted-fails _ _ _ v (l .before .loop .inv v h f) _ _ (l .loop-test .taken) refl (m .tag .ensures) (n .before .if1 .taken)
-    _ _ (n .low .ensures .0) (c .before .in-order .ensures) (not-true _ (c .if2 .taken))
+    sorted-fails _ _ _ v (l .before .loop .inv v h f) _ (l .loop-test .taken) refl (m .before .if1 .taken)
+    _ _ (m .low .ensures .0) (c .before .in-order .ensures) (not-true _ (c .if2 .taken))
 
 loop-less : tie.Need-loop-less Inv-loop μ-loop
-loop-less c = let n = c .before .before in omega (arith, turn (n .before .before) .loop-test .taken)
+loop-less c = omega (arith, turn (c .before .before) .loop-test .taken)
 
 loop-again : tie.Need-loop-again Inv-loop μ-loop
 loop-again c = λ v h f.
-    let n = c .before .before in
-    let m = n .before .before in
+    let m = c .before .before in
     let l = turn m in
-    sorted-past _ _ _ v (l .before .loop .inv v h f) _ _ (l .loop-test .taken) refl (m .tag .ensures) (n .before .if1 .taken)
-    _ _ (n .low .ensures .0) (c .before .in-order .ensures) (not-false _ (c .if2 .left))
+    sorted-past _ _ _ v (l .before .loop .inv v h f) _ (l .loop-test .taken) refl (m .before .if1 .taken)
+    _ _ (m .low .ensures .0) (c .before .in-order .ensures) (not-false _ (c .if2 .left))
 
 loop-less-2 : tie.Need-loop-less-2 Inv-loop μ-loop
-loop-less-2 c = omega (arith, turn (c .before) .loop-test .taken)
+loop-less-2 c = omega (arith, c .before .before .loop-test .taken)
 
 loop-again-2 : tie.Need-loop-again-2 Inv-loop μ-loop
 loop-again-2 c = λ v h f.
-    let m = c .before in
-    let l = turn m in
-    sorted-on _ _ _ v (l .before .loop .inv v h f) _ _ (l .loop-test .taken) refl (m .tag .ensures) (c .if1 .left)
+    let l = c .before .before in
+    sorted-on _ _ _ v (l .before .loop .inv v h f) _ (l .loop-test .taken) refl (omega (arith, c .if1 .left))
 
 returns-2 : tie.Need-returns-2 Inv-loop μ-loop
 returns-2 c = λ v h f. sorted-end _ _ _ v (c .before .loop .inv v h f) (omega (arith, c .loop-test .left))
@@ -102,7 +94,6 @@ rises-spec =
     mul-x
     shared-slice-read-x
     add-i
-    tag-requires
     low-requires
     in-order-requires
     returns

@@ -27,12 +27,12 @@ lent l = l .before .before .before
 inside : (l : Turn) → lent l .args .end ≤ length (lent l .args .s .now)
 inside l = end-inside _ _ _ (lent l .pre .value) (lent l .pre .ends) .1
 
--- The tag of the cell before i is known.
-abbrev Tagged : Type 0
-Tagged = tie.After-tag Inv-loop μ-loop
+-- The cell before i is a set's, and its number of members is known.
+abbrev Counted : Type 0
+Counted = tie.After-low Inv-loop μ-loop
 
-abbrev turn : Tagged → Turn
-turn m = m .before .before
+abbrev turn : Counted → Turn
+turn m = m .before .before .before
 
 loop-holds : tie.Need-loop-holds Inv-loop μ-loop
 loop-holds c = (omega arith, λ v h f. from-end _ _ _ v h f (c .before .pre .ends))
@@ -46,51 +46,48 @@ mul-x c = omega (arith, c .loop-test .taken, c .before .loop .inv .0, inside c)
 shared-slice-read-x : tie.Need-shared-slice-read-x Inv-loop μ-loop
 shared-slice-read-x c = let l = c .before in omega (arith, l .loop-test .taken, l .before .loop .inv .0, inside l)
 
-tag-requires : tie.Need-tag-requires Inv-loop μ-loop
-tag-requires c κs = search needs
-
 low-requires : tie.Need-low-requires Inv-loop μ-loop
 low-requires c κs = search needs
 
 share-requires : tie.Need-share-requires Inv-loop μ-loop
 share-requires c κs =
-    let m = c .before .before in
-    let l = turn m in
+    let l = turn c in
     let p = lent l .pre in
     let w = p .value in
-    from-members _ _ _ (w .value) (w .stands) (w .fits) (p .ends) _ _ _ (l .loop-test .taken) (l .before .loop .inv .0) refl (m .tag .ensures)
+    from-members _ _ _ (w .value) (w .stands) (w .fits) (p .ends) _ _ (l .loop-test .taken) (l .before .loop .inv .0) refl
     (c .before .if1 .taken) _ (c .low .ensures .0) (l .before .loop .inv .1 (w .value) (w .stands) (w .fits))
 
 returns : tie.Need-returns Inv-loop μ-loop
 returns c = λ v h f.
-    let n = c .before .before in
-    let m = n .before .before in
+    let m = c .before .before in
     let l = turn m in
-    from-fails _ _ _ v h f (lent l .pre .ends) _ _ _ (l .loop-test .taken) (l .before .loop .inv .0) refl (m .tag .ensures)
-    (n .before .if1 .taken) _ _ (n .low .ensures .0) (c .before .share .ensures) (l .before .loop .inv .1 v h f) (not-true _ (c .if2 .taken))
+    from-fails _ _ _ v h f (lent l .pre .ends) _ _ (l .loop-test .taken) (l .before .loop .inv .0) refl (m .before .if1 .taken)
+    _ _ (m .low .ensures .0) (c .before .share .ensures) (l .before .loop .inv .1 v h f) (not-true _ (c .if2 .taken))
 
 loop-less : tie.Need-loop-less Inv-loop μ-loop
-loop-less c = let n = c .before .before in omega (arith, turn (n .before .before) .loop-test .taken)
+loop-less c = omega (arith, turn (c .before .before) .loop-test .taken)
 
 loop-again : tie.Need-loop-again Inv-loop μ-loop
 loop-again c =
-    let n = c .before .before in
-    let m = n .before .before in
-    let l = turn m in
-    (omega (arith, l .before .loop .inv .0), λ v h f.
-    from-set _ _ _ v h f (lent l .pre .ends) _ _ _ (l .loop-test .taken) (l .before .loop .inv .0) refl (m .tag .ensures)
-    (n .before .if1 .taken) _ _ (n .low .ensures .0) (c .before .share .ensures) (l .before .loop .inv .1 v h f) (not-false _ (c .if2 .left)))
+    let m = c .before .before in
+    let l = turn m in (
+      omega (arith, l .before .loop .inv .0),
+      λ v h f.
+          from-set _ _ _ v h f (lent l .pre .ends) _ _ (l .loop-test .taken) (l .before .loop .inv .0) refl (m .before .if1 .taken)
+          _ _ (m .low .ensures .0) (c .before .share .ensures) (l .before .loop .inv .1 v h f) (not-false _ (c .if2 .left)),
+    )
 
 loop-less-2 : tie.Need-loop-less-2 Inv-loop μ-loop
-loop-less-2 c = omega (arith, turn (c .before) .loop-test .taken)
+loop-less-2 c = omega (arith, c .before .before .loop-test .taken)
 
 loop-again-2 : tie.Need-loop-again-2 Inv-loop μ-loop
 loop-again-2 c =
-    let m = c .before in
-    let l = turn m in
-    (omega (arith, l .before .loop .inv .0), λ v h f.
-    from-other _ _ _ v h f (lent l .pre .ends) _ _ _ (l .loop-test .taken) (l .before .loop .inv .0) refl (m .tag .ensures) (c .if1 .left)
-    (l .before .loop .inv .1 v h f))
+    let l = c .before .before in (
+      omega (arith, l .before .loop .inv .0),
+      λ v h f.
+          from-other _ _ _ v h f (lent l .pre .ends) _ _ (l .loop-test .taken) (l .before .loop .inv .0) refl (omega (arith, c .if1 .left))
+          (l .before .loop .inv .1 v h f),
+    )
 
 returns-2 : tie.Need-returns-2 Inv-loop μ-loop
 returns-2 c = λ v h f.
@@ -106,7 +103,6 @@ well-typed-spec =
     sub-i
     mul-x
     shared-slice-read-x
-    tag-requires
     low-requires
     share-requires
     returns
