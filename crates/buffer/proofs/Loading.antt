@@ -256,7 +256,7 @@ getD-last front v y e =
     let f : y ≡ length front + 0 = omega arith in
     ap (λ (j : ℕ). getD (front ++ (v ∷ [])) j noValue) f ∙ getD-append-add front (v ∷ []) 0 noValue
 
-module _ (gs ws bs : List ℕ) (x at : ℕ) (s₀ s : List ℕ) (top end : ℕ) (env : List ℕ) (h : Loading gs ws bs x at s₀ s top end env) where
+module _ {gs ws bs : List ℕ} {x at : ℕ} {s₀ s : List ℕ} {top end : ℕ} {env : List ℕ} (h : Loading gs ws bs x at s₀ s top end env) where
   pub loading-step : (w : ℕ) (s′ : List ℕ) (place next e : ℕ) → x < length ws → length ws ≤ 32 → w ≡ getD ws x 0 → Same end s s′ →
       Entered gs w bs at s s′ top end place next e → Loading gs ws bs (x + 1) next s₀ s′ top e (setAt env x place)
   loading-step w s′ place next e l few q f g =
