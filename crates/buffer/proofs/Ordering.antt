@@ -267,7 +267,8 @@ module _ (s : List ℕ) (i end : ℕ) (v : Value) (h : Sorted s i end v) where
         go : (ws : Values) → Left s i end ws → ordered v ≡ orderedAll ws → Sorted s (i + 1) end v
         go none f e = absurd (omega (arith, f .ends))
         go (scalar y ▸ ws) f e = record { rest = ws; left = left-next s i end (scalar y) ws f; same = e }
-        go (pair a b ▸ ws) f e = record { rest = a ▸ b ▸ ws; left = left-next s i end (pair a b) ws f; same = e ∙ and-assoc (ordered a) (ordered b) (orderedAll ws) }
+        go (pair a b ▸ ws) f e =
+            record { rest = a ▸ b ▸ ws; left = left-next s i end (pair a b) ws f; same = e ∙ and-assoc (ordered a) (ordered b) (orderedAll ws) }
         go (set ms ▸ ws) f e = absurd (omega (arith, tag-here (set ms) ws f))
 
     module _ (set-here : 5 * cellSize ≤ x) where

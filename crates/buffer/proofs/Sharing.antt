@@ -108,7 +108,8 @@ module _ (s : List ℕ) (at n i k : ℕ) (vs : Values) (row : TypedRow s at n vs
   back-row =
       let e : i ≡ at + length (codes (h .front)) = omega (arith, h .there, length-codes (h .front)) in
       record {
-        stands = rw e (stands-back s at (codes (h .front)) (codes (h .back)) (subst (λ (l : List ℕ). Stands s at l) (codes-before (h .front) (h .back)) all-stand));
+        stands = rw e (stands-back s at (codes (h .front)) (codes (h .back))
+            (subst (λ (l : List ℕ). Stands s at l) (codes-before (h .front) (h .back)) all-stand));
         fits = fits-split (h .front) (h .back) (subst AllFit (h .whole) (row .fits)) .1;
         counted = omega (arith, row .counted, ap count (h .whole), count-before (h .front) (h .back), h .counted);
         typed = typed-split (h .front) (h .back) (subst AllTyped (h .whole) (row .typed)) .1;
@@ -414,7 +415,9 @@ module _ (s : List ℕ) (at end : ℕ) (v : Value) (h : ValueAt s at v) (f : Cel
 
         pub from-fails : r ≡ false → false ≡ typed v
         unfolding typed
-        from-fails z = none-left (inhabited (typesOf v)) (λ u. go (after (v ▸ none) (i - 1 - at)) left-here (subst AllTyped next-here a) (after-typed (v ▸ none) (u, tt) (i - 1 - at)))
+        from-fails z =
+            none-left (inhabited (typesOf v)) (λ u.
+            go (after (v ▸ none) (i - 1 - at)) left-here (subst AllTyped next-here a) (after-typed (v ▸ none) (u, tt) (i - 1 - at)))
           where
             none-left : (b : Bool) → (T b → ⊥) → false ≡ b
             none-left true y = absurd (y tt)

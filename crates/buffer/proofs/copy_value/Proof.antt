@@ -97,9 +97,10 @@ returns-2 : tie.Need-returns-2 Inv-loop μ-loop
 returns-2 c =
     let k = c .before .before in
     let l = turn k in
-    let i = l .before .loop .inv in
-    (i .2 .frame,
-    walk-none _ _ (bytes (begun l)) _ _ _ _ _ _ _ (i .2) (l .loop-test .taken) (subst (Takes k) (c .enum-told .given .1) (k .take .ensures)))
+    let i = l .before .loop .inv in (
+      i .2 .frame,
+      walk-none _ _ (bytes (begun l)) _ _ _ _ _ _ _ (i .2) (l .loop-test .taken) (subst (Takes k) (c .enum-told .given .1) (k .take .ensures)),
+    )
 
 code-cell-requires : tie.Need-code-cell-requires Inv-loop μ-loop
 code-cell-requires c κs = search needs
@@ -140,8 +141,7 @@ loop-again c =
     let d = c .before in
     let m = coded d in
     let k = taken m in
-    let l = turn k in
-    (
+    let l = turn k in (
       omega (arith, few k),
       omega (arith, k .before .if1 .left, c .parts .ensures .1),
       walk-step _ _ (bytes (begun l)) _ _ _ _ _ _ _ (l .before .loop .inv .2) (l .loop-test .taken)

@@ -12,7 +12,8 @@ use Rattle.buffer.proofs.good_cell.Tie as tie
 abbrev lent : tie.After-low → tie.Start
 lent m = m .before .before .before
 
-by-tag : (m : tie.After-low) (k : ℕ) → m .before .tag .result ≡ k → tagGood (lent m .args .sizes .now) k (m .low .result) ≡ cellGood (lent m .args .sizes .now) (lent m .args .cell)
+by-tag : (m : tie.After-low) (k : ℕ) → m .before .tag .result ≡ k →
+    tagGood (lent m .args .sizes .now) k (m .low .result) ≡ cellGood (lent m .args .sizes .now) (lent m .args .cell)
 by-tag m k e = good-by _ _ _ _ k (m .before .tag .ensures) (m .low .ensures .0) e
 
 abbrev known : tie.Else3 → tie.After-low

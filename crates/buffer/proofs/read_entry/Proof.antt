@@ -1,7 +1,5 @@
 -- `read_entry`: a bound identifier takes nothing from the buffer; a free one takes the good value that is read, if one is.
-use mathlib.Core.List.{List}
 use mathlib.Core.Path.{subst}
-use Prim.Native.Nat.{ℕ}
 use borrow.Author.Needs.{needs}
 use Rattle.arena.proofs.Standing.{same-refl}
 use Rattle.buffer.specs.declared.Placed.{Placed}

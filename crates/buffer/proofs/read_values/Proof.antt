@@ -120,9 +120,10 @@ returns c =
     let m = c .before in
     let k = m .before .before .before in
     let l = turn k in
-    let i = l .before .loop .inv in
-    (frame-all _ _ _ _ (same-both _ _ _ _ _ (i .above) (i .frame) (k .read-entry .ensures .0)),
-    loading-bad i (word k) (l .loop-test .taken) refl (subst (Answers k) (c .enum-told .given .1) (k .read-entry .ensures .1)))
+    let i = l .before .loop .inv in (
+      frame-all _ _ _ _ (same-both _ _ _ _ _ (i .above) (i .frame) (k .read-entry .ensures .0)),
+      loading-bad i (word k) (l .loop-test .taken) refl (subst (Answers k) (c .enum-told .given .1) (k .read-entry .ensures .1)),
+    )
 
 cast-env-2 : tie.Need-cast-env-2 Inv-loop μ-loop
 cast-env-2 c =
