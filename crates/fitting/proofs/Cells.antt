@@ -16,7 +16,7 @@ use Rattle.arena.specs.Code.{cellSize, code, codes, Stands, ValueAt, ValuesAt, 
 use Rattle.arena.proofs.CodeLaws.{length-code, all-agree}
 use Rattle.arena.proofs.Standing.{stands-head, stands-tail, stands-front, stands-back}
 use Rattle.arena.proofs.ValueParts.{first-cell, left-stands, right-stands}
-use Rattle.fitting.specs.Agree.{meets, agree, TypedAt, RunAt, SomeTyped, SomeRun, Agreed, AgreedWith, AgreedAll, emptyCell, NoEmpty, StandFor, Members, Full, FullSet, FullAll, Few, atomsAlike, PairOrSet, SetHere, Parts, AgreedParts, Runs}
+use Rattle.fitting.specs.Agree.{meets, agree, TypedAt, RunAt, SomeTyped, SomeRun, Agreed, AgreedWith, AgreedAll, emptyCell, NoEmpty, StandFor, Members, Full, FullSet, FullAll, Few, atomsAlike, PairOrSet, SetHere, Parts, AgreedParts, OneAndRun, Runs}
 use Rattle.fitting.specs.Tests.{Both}
 use Rattle.fitting.proofs.Sharing.{is-true, full-first, meets-both, meets-sym, meets-same, with-every, meets-every, meets-first, tags-differ, scalars-agree, elements-agree, left-typed, right-typed}
 use Rattle.rules.proofs.Basics.{and-split}
@@ -201,6 +201,13 @@ module _ (s : List ℕ) (a j left : ℕ) where
       let f : j2 ≡ j + weight (x .0) = end-is e (x .3) in
       rw (x .2, m, ← g v (x .0) h (x .3)) (t v (x .1) h (rw f (x .4)))
 
+-- the last of a run
+pub with-last : (s : List ℕ) (a j left : ℕ) → left ≡ 1 → Agreed s a j true → AgreedWith s a j left true
+with-last s a j left e g v ws h k =
+    let x = as-run s j left ws k (omega arith) in
+    let i = j + weight (x .0) in
+    with-step s a j left i true (omega arith) g (ends-at s j (x .0) (x .3 .stands) (x .3 .fits)) (with-end s a i (left - 1) (omega arith)) v ws h k
+
 -- Runs of values against each other.
 module _ (s : List ℕ) (i left b m : ℕ) where
   pub all-end : left ≡ 0 → AgreedAll s i left b m true
@@ -220,6 +227,14 @@ module _ (s : List ℕ) (i left b m : ℕ) where
       let m = meets-first (typesOf (x .0)) (sharedTypes (x .1)) (sharedTypes ws) (rw (x .2) at (h .typed)) in
       let f : i2 ≡ i + weight (x .0) = end-is e (x .3) in
       rw (x .2, m, ← g (x .0) ws (x .3) k) (t (x .1) ws (rw f (x .4)) k)
+
+-- a run of one value
+pub all-one : (s : List ℕ) (a n b m : ℕ) (r : Bool) → n ≡ 1 → AgreedWith s a b m r → AgreedAll s a n b m r
+all-one s a n b m false e g vs ws h k = all-false s a n b m (omega arith) g vs ws h k
+all-one s a n b m true e g vs ws h k =
+    let x = as-run s a n vs h (omega arith) in
+    let i = a + weight (x .0) in
+    all-step s a n b m i true (omega arith) g (ends-at s a (x .0) (x .3 .stands) (x .3 .fits)) (all-end s i (n - 1) b m (omega arith)) vs ws h k
 
 pub run-first : (s : List ℕ) (at n : ℕ) → SomeRun s at n → 0 < n → SomeTyped s at
 run-first s at n r l = let x = as-run s at n (r .0) (r .1) l in (x .0, x .3)
@@ -348,6 +363,11 @@ other-pair s a x l n = go (x .0) (first-cell s a (x .0) (x .1 .stands) (x .1 .fi
 pub full-typed : (s : List ℕ) (at end : ℕ) → EndsAt s at end → NoEmpty s at end → (v : Value) → TypedAt s at v → Full v
 full-typed s at end e f v h = full-value v s at (h .stands) (rw (end-is e h) at f)
 
+pub scalar-full : (s : List ℕ) (at : ℕ) → getD s at 0 < 4 * cellSize → (v : Value) → TypedAt s at v → Full v
+scalar-full s at l (scalar x) h = tt
+scalar-full s at l (pair x y) h = absurd (omega (arith, first-cell s at (pair x y) (h .stands) (h .fits) .0))
+scalar-full s at l (set vs) h = absurd (omega (arith, first-cell s at (set vs) (h .stands) (h .fits) .0))
+
 -- The members that stand for all.
 pub few-members : (s : List ℕ) (a n r : ℕ) → getD s a 0 % cellSize ≡ n → Few s (a + 1) n r → Members s a r
 unfolding code
@@ -416,3 +436,6 @@ members-run s a r h c =
 
 pub set-runs : (s : List ℕ) (a b n m : ℕ) → SetHere s a → SetHere s b → Members s a n → Members s b m → Runs s (a + 1) n (b + 1) m
 set-runs s a b n m h k c d = record { first = members-run s a n h c; second = members-run s b m k d }
+
+pub set-one : (s : List ℕ) (a b n m : ℕ) → SetHere s a → SetHere s b → Members s a n → Members s b m → 0 < n → OneAndRun s (a + 1) (b + 1) m
+set-one s a b n m h k c d l = record { first = run-first s (a + 1) n (members-run s a n h c) l; second = members-run s b m k d }

@@ -36,6 +36,9 @@ fn few(s: &[u64], at: usize, n: usize) -> usize
     if n == 0 {
         return n;
     }
+    if s[at] < PAIR {
+        return 1;
+    }
     let end = arena::end_of(s, at);
     if full(s, at, end) {
         return 1;
@@ -88,6 +91,9 @@ fn meet(s: &[u64], a: usize, b: usize) -> bool
     if t == 5 {
         let n = members(s, a);
         let m = members(s, b);
+        if n == 1 {
+            return against(s, a + 1, b + 1, m);
+        }
         return each(s, a + 1, n, b + 1, m);
     }
     parts(s, a + 1, b + 1)
@@ -116,6 +122,9 @@ pub fn against(s: &[u64], a: usize, b: usize, m: usize) -> bool
     while left > 0 {
         if !agree(s, a, j) {
             return false;
+        }
+        if left == 1 {
+            return true;
         }
         j = arena::end_of(s, j);
         left -= 1;

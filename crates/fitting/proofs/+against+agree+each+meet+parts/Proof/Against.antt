@@ -5,7 +5,7 @@ use mathlib.Core.Path.{sym, _∙_}
 use native.Mathlib.Omega.{arith}
 use borrow.Author.Tests.{not-true, not-false}
 use Rattle.fitting.specs.Agree.{SomeTyped, SomeRun, AgreedWith}
-use Rattle.fitting.proofs.Cells.{some-at, run-first, run-rest, with-end, with-false, with-step}
+use Rattle.fitting.proofs.Cells.{some-at, run-first, run-rest, with-end, with-false, with-step, with-last}
 use Rattle.fitting.proofs.against.Reads as against
 use Rattle.fitting.proofs.agree.Reads as agree
 use Rattle.arena.proofs.end_of.Reads as end-of-reads
@@ -44,27 +44,40 @@ module _ (t : ℕ) where
       l .before .loop .inv .1 false
       (with-false _ _ _ _ (l .loop-test .taken) (λ v w h k. sym (not-true _ (c .if1 .taken)) ∙ c .before .agree .ensures v w h k))
 
+  returns-2 : lts.Need-returns-2 claims (against-at t) against.Post Inv-loop μ-loop
+  returns-2 c =
+      let l = c .before .before .before in
+      l .before .loop .inv .1 true
+      (with-last _ _ _ _ (c .if2 .taken) (λ v w h k. sym (not-false _ (c .before .if1 .left)) ∙ c .before .before .agree .ensures v w h k))
+
   end-of-requires : lts.Need-end-of-requires claims (against-at t) against.Post Inv-loop μ-loop
-  end-of-requires c κs = some-at (next (c .before .before))
+  end-of-requires c κs = some-at (next (c .before .before .before))
+
+  -- The next value is to be tested.
+  abbrev tested : lts.After-end-of claims (against-at t) against.Post Inv-loop μ-loop → lts.Else1 claims (against-at t) against.Post Inv-loop μ-loop
+  tested c = c .before .before
+
+  abbrev turn : lts.Else1 claims (against-at t) against.Post Inv-loop μ-loop → Turn
+  turn m = m .before .before
 
   sub-left : lts.Need-sub-left claims (against-at t) against.Post Inv-loop μ-loop
-  sub-left c = omega (arith, c .before .before .before .loop-test .taken)
+  sub-left c = omega (arith, turn (tested c) .loop-test .taken)
 
   loop-less : lts.Need-loop-less claims (against-at t) against.Post Inv-loop μ-loop
-  loop-less c = omega (arith, c .before .before .before .loop-test .taken)
+  loop-less c = omega (arith, turn (tested c) .loop-test .taken)
 
   loop-again : lts.Need-loop-again claims (against-at t) against.Post Inv-loop μ-loop
   loop-again c =
-      let l = c .before .before .before in
+      let m = tested c in
+      let l = turn m in
       let q = l .loop-test .taken in (
         run-rest _ _ _ _ (l .before .loop .inv .0) q (c .end-of .ensures),
         λ r g. l .before .loop .inv .1 r
-            (with-step _ _ _ _ _ r q (λ v w h k. sym (not-false _ (c .before .if1 .left)) ∙ c .before .before .agree .ensures v w h k)
-            (c .end-of .ensures) g),
+            (with-step _ _ _ _ _ r q (λ v w h k. sym (not-false _ (m .if1 .left)) ∙ m .before .agree .ensures v w h k) (c .end-of .ensures) g),
       )
 
-  returns-2 : lts.Need-returns-2 claims (against-at t) against.Post Inv-loop μ-loop
-  returns-2 c = c .before .loop .inv .1 true (with-end _ _ _ _ (omega (arith, c .loop-test .left)))
+  returns-3 : lts.Need-returns-3 claims (against-at t) against.Post Inv-loop μ-loop
+  returns-3 c = c .before .loop .inv .1 true (with-end _ _ _ _ (omega (arith, c .loop-test .left)))
 
   pub against-closed : {M : Type 1} → lts.Closed claims (against-at t) against.Post M
   against-closed =
@@ -77,8 +90,9 @@ module _ (t : ℕ) where
       loop-holds
       agree-requires
       returns
+      returns-2
       end-of-requires
       sub-left
       loop-less
       loop-again
-      returns-2
+      returns-3

@@ -5,14 +5,15 @@ use native.Mathlib.Omega.{arith}
 use borrow.Author.Needs.{needs}
 use lib.ListN.{getD}
 use Rattle.fitting.specs.Agree.{SetHere}
-use Rattle.fitting.proofs.Cells.{inside, unlike, set-runs, sets-agree, other-pair, pair-parts, pairs-agree}
+use Rattle.fitting.proofs.Cells.{inside, unlike, set-one, set-runs, all-one, sets-agree, other-pair, pair-parts, pairs-agree}
+use Rattle.fitting.proofs.against.Reads as against
 use Rattle.fitting.proofs.meet.Reads as meet
 use Rattle.fitting.proofs.each.Reads as each
 use Rattle.fitting.proofs.parts.Reads as parts
 use Rattle.arena.proofs.tag.Reads as tag-reads
 use Rattle.fitting.proofs.members.Reads as members-reads
 use Rattle.fitting.proofs.+against+agree+each+meet+parts.Lts-meet as lts
-use Rattle.fitting.proofs.+against+agree+each+meet+parts.Proof.Base.{meet-at, each-below, parts-below}
+use Rattle.fitting.proofs.+against+agree+each+meet+parts.Proof.Base.{meet-at, against-below, each-below, parts-below}
 
 module _ (t : ℕ) where
   abbrev claims : lts.Claims
@@ -21,6 +22,8 @@ module _ (t : ℕ) where
     tag-reads.Learnt,
     members-reads.Asked,
     members-reads.Learnt,
+    against-below t,
+    against.Post,
     each-below t,
     each.Post,
     parts-below t,
@@ -88,24 +91,53 @@ module _ (t : ℕ) where
   members-requires-2 : lts.Need-members-requires-2 claims (meet-at t) meet.Post
   members-requires-2 c κs = set-b (c .before)
 
-  add-each : lts.Need-add-each claims (meet-at t) meet.Post
-  add-each c = omega (arith, inside _ _ (set-a (c .before .before) .value))
+  -- It is known how many of the members stand for all.
+  abbrev Counted : Type 0
+  Counted = lts.After-members2 claims (meet-at t) meet.Post
 
-  add-each-2 : lts.Need-add-each-2 claims (meet-at t) meet.Post
-  add-each-2 c = omega (arith, inside _ _ (set-b (c .before .before) .value))
+  abbrev sets : Counted → Sets
+  sets m = m .before .before
 
-  each-requires : lts.Need-each-requires claims (meet-at t) meet.Post
-  each-requires c κs =
-      let m = c .before .before in (
-        omega (arith, lent (m .before) .pre .0, inside _ _ (set-a m .value)),
-        set-runs _ _ _ _ _ (set-a m) (set-b m) (c .before .members .ensures) (c .members2 .ensures),
+  add-against : lts.Need-add-against claims (meet-at t) meet.Post
+  add-against c = omega (arith, inside _ _ (set-a (sets (c .before)) .value))
+
+  add-against-2 : lts.Need-add-against-2 claims (meet-at t) meet.Post
+  add-against-2 c = omega (arith, inside _ _ (set-b (sets (c .before)) .value))
+
+  against-requires : lts.Need-against-requires claims (meet-at t) meet.Post
+  against-requires c κs =
+      let m = c .before in
+      let p = sets m in (
+        omega (arith, lent (p .before) .pre .0, inside _ _ (set-a p .value)),
+        set-one _ _ _ _ _ (set-a p) (set-b p) (m .before .members .ensures) (m .members2 .ensures) (omega (arith, c .if3 .taken)),
       )
 
   returns-2 : lts.Need-returns-2 claims (meet-at t) meet.Post
   returns-2 c =
-      let d = c .before in
-      let m = d .before .before in
-      sets-agree _ _ _ _ _ _ (set-a m .isSet) (set-b m .isSet) (d .before .members .ensures) (d .members2 .ensures) (c .each .ensures)
+      let m = c .before .before in
+      let p = sets m in
+      sets-agree _ _ _ _ _ _ (set-a p .isSet) (set-b p .isSet) (m .before .members .ensures) (m .members2 .ensures)
+      (all-one _ _ _ _ _ _ (c .before .if3 .taken) (c .against .ensures))
+
+  add-each : lts.Need-add-each claims (meet-at t) meet.Post
+  add-each c = omega (arith, inside _ _ (set-a (sets (c .before)) .value))
+
+  add-each-2 : lts.Need-add-each-2 claims (meet-at t) meet.Post
+  add-each-2 c = omega (arith, inside _ _ (set-b (sets (c .before)) .value))
+
+  each-requires : lts.Need-each-requires claims (meet-at t) meet.Post
+  each-requires c κs =
+      let m = c .before in
+      let p = sets m in (
+        omega (arith, lent (p .before) .pre .0, inside _ _ (set-a p .value)),
+        set-runs _ _ _ _ _ (set-a p) (set-b p) (m .before .members .ensures) (m .members2 .ensures),
+      )
+
+  returns-3 : lts.Need-returns-3 claims (meet-at t) meet.Post
+  returns-3 c =
+      let m = c .before .before in
+      let p = sets m in
+      sets-agree _ _ _ _ _ _ (set-a p .isSet) (set-b p .isSet) (m .before .members .ensures) (m .members2 .ensures) (c .each .ensures)
 
   add-parts : lts.Need-add-parts claims (meet-at t) meet.Post
   add-parts c = omega (arith, inside _ _ (lent (c .before) .pre .1 .0 .first))
@@ -118,8 +150,8 @@ module _ (t : ℕ) where
       let p = lent (c .before) .pre in
       (omega (arith, p .0, inside _ _ (p .1 .0 .first)), pair-parts _ _ _ (p .1 .0) (pair-a c) (pair-b c))
 
-  returns-3 : lts.Need-returns-3 claims (meet-at t) meet.Post
-  returns-3 c = pairs-agree _ _ _ _ (pair-a (c .before)) (pair-b (c .before)) (c .parts .ensures)
+  returns-4 : lts.Need-returns-4 claims (meet-at t) meet.Post
+  returns-4 c = pairs-agree _ _ _ _ (pair-a (c .before)) (pair-b (c .before)) (c .parts .ensures)
 
   pub meet-closed : {M : Type 1} → lts.Closed claims (meet-at t) meet.Post M
   meet-closed =
@@ -136,11 +168,15 @@ module _ (t : ℕ) where
       returns
       members-requires
       members-requires-2
+      add-against
+      add-against-2
+      against-requires
+      returns-2
       add-each
       add-each-2
       each-requires
-      returns-2
+      returns-3
       add-parts
       add-parts-2
       parts-requires
-      returns-3
+      returns-4
