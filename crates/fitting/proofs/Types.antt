@@ -112,7 +112,8 @@ module _ (row : List ℕ) (i e : ℕ) where
       record {
         types = u ∷ w ∷ ts;
         counted = rw (hd, parts-product 4 (λ x. omega arith) refl) (omega arith);
-        codes = subst (λ (l : List ℕ). Stands row (i + 1) l) (append-assoc (prefix u) (prefix w) (prefixes ts)) (stands-tail row i 4 ((prefix u ++ prefix w) ++ prefixes ts) h);
+        codes = subst (λ (l : List ℕ). Stands row (i + 1) l) (append-assoc (prefix u) (prefix w) (prefixes ts))
+            (stands-tail row i 4 ((prefix u ++ prefix w) ++ prefixes ts) h);
         ends = omega arith;
       }
 
@@ -181,7 +182,8 @@ head-given (t ⊗ u) g e = absurd (omega arith)
 by-code : (m n : ℕ) (t u : Ty) → (n ≡ m → t ≡ u) → (t ≡ u → m ≡ n) → Decides (eqb m n) (t ≡ u)
 by-code m n t u f g = record { sound = λ e. f (sym (eqb-true m n e)); complete = λ e. eq-eqb m n (g e) }
 
-scalar-decides : (x : Scalar) (t : Ty) (c : ℕ) → ScalarFits x → c / cellSize ≡ scalarTag x → c % cellSize ≡ scalarLow x → Decides (atomIs c (head t)) (t ≡ atom (atomOf x))
+scalar-decides : (x : Scalar) (t : Ty) (c : ℕ) → ScalarFits x → c / cellSize ≡ scalarTag x → c % cellSize ≡ scalarLow x →
+    Decides (atomIs c (head t)) (t ≡ atom (atomOf x))
 scalar-decides (num whole i) t c f e l =
     rw (ne-eqb (c / cellSize) 3 (λ z. omega arith), e) (by-code 1 (head t) t (atom (number whole)) (head-number t) (λ z. sym (ap head z)))
 scalar-decides (truth b) t c f e l =
@@ -232,7 +234,8 @@ module _ (s : List ℕ) (at : ℕ) (row : List ℕ) (from : ℕ) where
       let x = pair-only s at v h f tag in
       refuses (HasType v t) (λ y. n (first-code row from t k ∙ pair-head (x .0) (x .1) t (rw (x .2) at y)))
 
-  pub set-type : (n : ℕ) (r : Bool) → getD s at 0 / cellSize ≡ 5 → getD row from 0 ≡ 3 → n ≡ getD s at 0 % cellSize → AllOfType s (at + 1) n row (from + 1) r → OfType s at row from r
+  pub set-type : (n : ℕ) (r : Bool) → getD s at 0 / cellSize ≡ 5 → getD row from 0 ≡ 3 → n ≡ getD s at 0 % cellSize →
+      AllOfType s (at + 1) n row (from + 1) r → OfType s at row from r
   set-type n r tag c m g v t h f k =
       let x = set-only s at v h f tag in
       let y = is-pow row from t k c in
@@ -249,7 +252,8 @@ module _ (s : List ℕ) (at : ℕ) (row : List ℕ) (from : ℕ) where
       rw (x .2, y .2) (g (x .0) (x .1) (y .0) (y .1) (left-stands s at (x .0) (x .1) h′) (right-stands s at (x .0) (x .1) h′) (f′ .0) (f′ .1) (y .3) (y .4))
 
   -- what the tests of the members and of the parts ask
-  pub set-asks : (n : ℕ) → SomeAt s at → SomeType row from → getD s at 0 / cellSize ≡ 5 → getD row from 0 ≡ 3 → n ≡ getD s at 0 % cellSize → ValuesAndType s (at + 1) n row (from + 1)
+  pub set-asks : (n : ℕ) → SomeAt s at → SomeType row from → getD s at 0 / cellSize ≡ 5 → getD row from 0 ≡ 3 → n ≡ getD s at 0 % cellSize →
+      ValuesAndType s (at + 1) n row (from + 1)
   set-asks n v t tag c m =
       let x = set-only s at (v .value) (v .stands) (v .fits) tag in
       let y = is-pow row from (t .0) (t .1) c in
@@ -282,7 +286,8 @@ module _ (s : List ℕ) (at : ℕ) (row : List ℕ) (from : ℕ) where
   pub parts-no : (q : Bool) → OfType s at row from q → q ≡ false → PartsOfType s at row from false
   parts-no q g e v w t u h k f i a b = both-no (HasType v t) (HasType w u) q (g v t h f a) e
 
-  pub parts-yes : (c e : ℕ) (q r : Bool) → EndsAt s at c → TypeEnds row from e → OfType s at row from q → q ≡ true → OfType s c row e r → PartsOfType s at row from r
+  pub parts-yes : (c e : ℕ) (q r : Bool) → EndsAt s at c → TypeEnds row from e → OfType s at row from q → q ≡ true → OfType s c row e r →
+      PartsOfType s at row from r
   parts-yes c e q r p n g y z v w t u h k f i a b =
       let d : c ≡ at + weight v = p v h f in
       let m : e ≡ from + weightᵀ t = n t a in
@@ -305,7 +310,8 @@ module _ (s : List ℕ) (i left : ℕ) (row : List ℕ) (from : ℕ) where
   all-of-no q l g e none t h f c k = absurd (omega arith)
   all-of-no q l g e (x ▸ ys) t h f c k = both-no (HasType x t) (HaveType ys t) q (g x t (first-stands s i x ys h) (f .0) k) e
 
-  pub all-of-step : (j : ℕ) (q r : Bool) → 0 < left → OfType s i row from q → q ≡ true → EndsAt s i j → AllOfType s j (left - 1) row from r → AllOfType s i left row from r
+  pub all-of-step : (j : ℕ) (q r : Bool) → 0 < left → OfType s i row from q → q ≡ true → EndsAt s i j → AllOfType s j (left - 1) row from r →
+      AllOfType s i left row from r
   all-of-step j q r l g y e z none t h f c k = absurd (omega arith)
   all-of-step j q r l g y e z (x ▸ ys) t h f c k =
       let a = first-stands s i x ys h in
