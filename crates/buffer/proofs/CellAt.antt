@@ -5,14 +5,14 @@ use mathlib.Core.List.{List}
 use mathlib.Core.Path.{_≡_, refl, sym, ap, _∙_}
 use native.Mathlib.Omega.{arith}
 use native.Mathlib.Nat.{add-zero}
-use lib.Dec.{eqb, leb}
+use lib.Dec.{leb}
 use lib.ListN.{length, getD, drop, length-drop}
 use lib.Seq.{getD-drop}
 use borrow.Author.Tests.{le-leb, lt-leb, eq-eqb, ne-eqb}
 use Rattle.rules.specs.Tables.{wordAt}
 use Rattle.buffer.specs.declared.Step.{Step}
 use Rattle.buffer.specs.declared.Step.the-variants.{Cell, End}
-use Rattle.buffer.specs.Buffer.{zerosAt, pickStep, stepAt, codeOf}
+use Rattle.buffer.specs.Buffer.{pickStep, stepAt, codeOf}
 
 -- a byte further on
 ahead : (bs : List ℕ) (i k : ℕ) → getD bs (i + k) 0 ≡ getD bs (k + i) 0
@@ -22,18 +22,6 @@ pub word-is : (bs : List ℕ) (at a b c d : ℕ) → (a ≡ getD bs at 0) × (a 
     (c ≡ getD bs (at + 2) 0) × (c < 256) → (d ≡ getD bs (at + 3) 0) × (d < 256) →
     (a + 256 * b + 65536 * c + 16777216 * d ≡ wordAt bs at) × (a + 256 * b + 65536 * c + 16777216 * d < 4294967296)
 word-is bs at a b c d p q r s = (omega (arith, ahead bs at 1, ahead bs at 2, ahead bs at 3), omega arith)
-
-pub zeros-is : (bs : List ℕ) (at a b c : ℕ) → a ≡ getD bs at 0 → b ≡ getD bs (at + 1) 0 → c ≡ getD bs (at + 2) 0 → eqb (a + b + c) 0 ≡ zerosAt bs at
-zeros-is bs at a b c p q r =
-    let e : a + b + c ≡ getD bs at 0 + getD bs (1 + at) 0 + getD bs (2 + at) 0 = omega (arith, ahead bs at 1, ahead bs at 2) in
-    ap (λ (n : ℕ). eqb n 0) e
-
--- the three last bytes of the eight at `at`
-zeros-drop : (bs : List ℕ) (at : ℕ) → eqb (getD (drop at bs) 5 0 + getD (drop at bs) 6 0 + getD (drop at bs) 7 0) 0 ≡ zerosAt bs (at + 5)
-zeros-drop bs at =
-    let e : 1 + (at + 5) ≡ at + 6 = omega arith in
-    let f : 2 + (at + 5) ≡ at + 7 = omega arith in
-    rw (getD-drop at bs 5 0, getD-drop at bs 6 0, getD-drop at bs 7 0, e, f)
 
 pub word-drop : (bs : List ℕ) (at : ℕ) → wordAt (drop at bs) 0 ≡ wordAt bs at
 word-drop bs at =
@@ -53,20 +41,36 @@ pub step-short : (bs : List ℕ) (at : ℕ) → length bs < at + 8 → End ≡ s
 unfolding stepAt
 step-short bs at h = rw (lt-leb 8 (length (drop at bs)) (omega (arith, length-drop at bs)))
 
+-- The second word of the eight bytes: the tag, and the three bytes that are to be zero.
+high-word : (bs : List ℕ) (at : ℕ) →
+    wordAt bs (at + 4) ≡ getD (drop at bs) 4 0 + 256 * getD (drop at bs) 5 0 + 65536 * getD (drop at bs) 6 0 + 16777216 * getD (drop at bs) 7 0
+high-word bs at =
+    let e : 1 + (at + 4) ≡ at + 5 = omega arith in
+    let f : 2 + (at + 4) ≡ at + 6 = omega arith in
+    let g : 3 + (at + 4) ≡ at + 7 = omega arith in
+    rw (getD-drop at bs 4 0, getD-drop at bs 5 0, getD-drop at bs 6 0, getD-drop at bs 7 0, ← e, ← f, ← g) (omega arith)
+
 pick-and : (a b : Bool) (s : Step) → b ≡ false → End ≡ pickStep (a && b) s
 pick-and true b s e = rw e
 pick-and false b s e = refl
 
-pub step-marked : (bs : List ℕ) (at : ℕ) → zerosAt bs (at + 5) ≡ false → End ≡ stepAt bs at
-unfolding stepAt
-step-marked bs at h = pick-and (leb 8 (length (drop at bs))) _ _ (zeros-drop bs at ∙ h)
+module _ (bs : List ℕ) (at p q : ℕ) (low : p ≡ wordAt bs at) (high : q ≡ wordAt bs (at + 4)) where
+  pub step-marked : getD bs (at + 4) 0 < 256 → 256 ≤ q → End ≡ stepAt bs at
+  unfolding stepAt
+  step-marked l h =
+      pick-and (leb 8 (length (drop at bs))) _ _
+      (ne-eqb (getD (drop at bs) 5 0 + getD (drop at bs) 6 0 + getD (drop at bs) 7 0) 0
+      (λ e. omega (arith, high-word bs at, getD-drop at bs 4 0)))
 
-pub step-cell : (bs : List ℕ) (at t p : ℕ) → at + 8 ≤ length bs → zerosAt bs (at + 5) ≡ true → t ≡ getD bs (at + 4) 0 → p ≡ wordAt bs at →
-    Cell (t * 4294967296 + p) (record { at = at + 8 }) ≡ stepAt bs at
-unfolding stepAt
-step-cell bs at t p h z e f =
-    rw (le-leb 8 (length (drop at bs)) (omega (arith, length-drop at bs)), zeros-drop bs at, z)
-    (ap (λ (x : ℕ). Cell x (record { at = at + 8 })) (omega (arith, getD-drop at bs 4 0, word-drop bs at)))
+  pub step-cell : at + 8 ≤ length bs → q < 256 → Cell (p + 4294967296 * q) (record { at = at + 8 }) ≡ stepAt bs at
+  unfolding stepAt
+  step-cell h z =
+      let w = high-word bs at in
+      rw (
+        le-leb 8 (length (drop at bs)) (omega (arith, length-drop at bs)),
+        eq-eqb (getD (drop at bs) 5 0 + getD (drop at bs) 6 0 + getD (drop at bs) 7 0) 0 (omega arith),
+      )
+      (ap (λ (x : ℕ). Cell x (record { at = at + 8 })) (omega (arith, word-drop bs at)))
 
 pub code-number : (x t l : ℕ) → t ≡ x / 4294967296 → t ≡ 1 → l ≡ x % 4294967296 → 4294967296 + (l + 2147483648) % 4294967296 ≡ codeOf x
 unfolding codeOf

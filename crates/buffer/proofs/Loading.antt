@@ -78,7 +78,7 @@ good-of gs v h k w t =
     and-of (a && b) (typed v) (and-of a b (well-of gs v h k) (le→leb (weight v) 256 w)) t
 
 -- One value.
-module _ (gs bs : List ℕ) (at : ℕ) (s : List ℕ) (top next end : ℕ) (h : ReadAt gs bs at s top next end) where
+module _ {gs bs : List ℕ} {at : ℕ} {s : List ℕ} {top next end : ℕ} (h : ReadAt gs bs at s top next end) where
   pub read-whole : WholeValue s top end
   read-whole = record {
     value = record { value = h .first; stands = h .stands; fits = h .fits };
@@ -256,7 +256,7 @@ getD-last front v y e =
     let f : y ≡ length front + 0 = omega arith in
     ap (λ (j : ℕ). getD (front ++ (v ∷ [])) j noValue) f ∙ getD-append-add front (v ∷ []) 0 noValue
 
-module _ (gs ws bs : List ℕ) (x at : ℕ) (s₀ s : List ℕ) (top end : ℕ) (env : List ℕ) (h : Loading gs ws bs x at s₀ s top end env) where
+module _ {gs ws bs : List ℕ} {x at : ℕ} {s₀ s : List ℕ} {top end : ℕ} {env : List ℕ} (h : Loading gs ws bs x at s₀ s top end env) where
   pub loading-step : (w : ℕ) (s′ : List ℕ) (place next e : ℕ) → x < length ws → length ws ≤ 32 → w ≡ getD ws x 0 → Same end s s′ →
       Entered gs w bs at s s′ top end place next e → Loading gs ws bs (x + 1) next s₀ s′ top e (setAt env x place)
   loading-step w s′ place next e l few q f g =

@@ -4,12 +4,15 @@ use mathlib.Core.Bool.{Bool, true, false, _&&_}
 use mathlib.Core.List.{List, _∷_, _++_, append-nil}
 use mathlib.Core.Path.{_≡_, refl, sym, ap, subst, _∙_}
 use native.Mathlib.Omega.{arith}
+use native.Mathlib.Nat.{add-zero}
+use native.Mathlib.Decide.{decLt}
 use lib.ListN.{length, getD}
 use Rattle.rules.specs.Types.{whole}
 use Rattle.rules.specs.Values.{Scalar, num, truth, element, Value, scalar, pair, set, Values, none, _▸_, scalarTag, tag, bit, count, weight, weights, order, isLt, before}
 use Rattle.arena.specs.Code.{cellSize, excess, scalarLow, code, codes, Stands, ValueAt, ValuesAt, CellsFit, AllFit, orderCode, SomeAt, EndsAt, Compared}
 use Rattle.arena.proofs.CodeLaws.{length-code, length-codes, bit-small}
-use Rattle.arena.proofs.Standing.{stands-head, stands-tail, stands-front, stands-back, _before_, codes-before, weights-before, fit-before}
+use Rattle.arena.proofs.Standing.{stands-head, stands-tail, stands-front, stands-back, _before_, codes-before, weights-before, fit-before, found-less, found-greater, found-equal}
+use Rattle.arena.proofs.ValueParts.{one-cell}
 use Rattle.buffer.specs.Ordered.{inOrder, ordered, orderedAll, MembersAt, SomeMembersAt, InOrder}
 use Rattle.buffer.proofs.Ahead.{inner}
 use Rattle.laws.proofs.CellsLaws.{weight-some}
@@ -56,7 +59,32 @@ more-code Ordering·lt c e z = absurd (z e)
 more-code Ordering·eq c e z = refl
 more-code Ordering·gt c e z = refl
 
+-- A scalar at a and a value at b, by their first cells.
+module _ (s : List ℕ) (a b : ℕ) (low : getD s a 0 < 4 * cellSize) where
+  cell-less : getD s a 0 < getD s b 0 → Compared s a b 0
+  cell-less l = found-less s a b (a + 1) 0 (one-cell s a low) (λ j m. absurd (omega arith)) (omega arith) (rw (add-zero a, add-zero b) l)
+
+  cell-more : getD s b 0 ≤ getD s a 0 → (c : ℕ) × (c ≡ 0 → ⊥) × Compared s a b c
+  cell-more l = go (decLt (getD s b 0) (getD s a 0))
+    where
+      same : getD s a 0 ≡ getD s b 0 → (j : ℕ) → j < 1 → getD s (a + j) 0 ≡ getD s (b + j) 0
+      same e j m = let z : j ≡ 0 = omega arith in rw (z, add-zero a, add-zero b) e
+
+      go : Dec (getD s b 0 < getD s a 0) → (c : ℕ) × (c ≡ 0 → ⊥) × Compared s a b c
+      go (yes k) = (
+        2,
+        (λ e. omega arith),
+        found-greater s a b (a + 1) 0 (one-cell s a low) (λ j m. absurd (omega arith)) (omega arith) (rw (add-zero a, add-zero b) k),
+      )
+      go (no k) = (1, (λ e. omega arith), found-equal s a b (a + 1) 1 (one-cell s a low) (same (omega arith)) (omega arith))
+
 module _ (s : List ℕ) (i left : ℕ) (vs : Values) (h : Checked s i left vs) where
+  pub checked-some : SomeMembersAt s i left
+  checked-some = (h .rest, h .row)
+
+  pub checked-rest : (r : Bool) → InOrder s i left r → r ≡ inOrder vs
+  checked-rest r g = g (h .rest) (h .row) ∙ sym (h .same)
+
   pub checked-at : 1 < left → SomeAt s i
   checked-at l = go (h .rest) (h .row)
     where
@@ -109,6 +137,19 @@ module _ (s : List ℕ) (i left : ℕ) (vs : Values) (h : Checked s i left vs) w
               let n = row-next s i left w (x ▸ ws) r e (ends w f (r .fits .0)) in
               let o = more-code (order w x) c (compared w x f (row-first s e (left - 1) x ws n) (r .fits .0) (n .fits .0)) z in
               sym (q ∙ rw o)
+
+-- the values from a scalar on, by cells
+module _ (s : List ℕ) (i left : ℕ) (vs : Values) (h : Checked s i left vs) (l : 1 < left) (low : getD s i 0 < 4 * cellSize) where
+  pub checked-cell : SomeAt s (i + 1)
+  checked-cell = checked-second s i left vs h (i + 1) (one-cell s i low) l
+
+  pub checked-less : getD s i 0 < getD s (i + 1) 0 → Checked s (i + 1) (left - 1) vs
+  checked-less m = checked-next s i left vs h (i + 1) (one-cell s i low) l 0 (cell-less s i (i + 1) low m) refl
+
+  pub checked-more : getD s (i + 1) 0 ≤ getD s i 0 → false ≡ inOrder vs
+  checked-more m =
+      let x = cell-more s i (i + 1) low m in
+      checked-fails s i left vs h (i + 1) (one-cell s i low) l (x .0) (x .2) (x .1)
 
 -- The first cell of a value, and what follows it.
 abbrev pub cellOf : Value → ℕ
@@ -182,7 +223,7 @@ left-start s at end v h f e = record {
   ends = omega (arith, e v h f);
 }
 
-pub scalar-tag : (x : Scalar) → scalarTag x ≡ 5 → ⊥
+pub scalar-tag : (x : Scalar) → 5 ≤ scalarTag x → ⊥
 scalar-tag (num whole j) e = omega arith
 scalar-tag (truth b) e = omega arith
 scalar-tag (element g k) e = omega arith
@@ -215,20 +256,24 @@ module _ (s : List ℕ) (i end : ℕ) (v : Value) (h : Sorted s i end v) where
       go none f e = sym e
       go (w ▸ ws) f e = absurd (omega (arith, f .ends, weight-some w))
 
-  module _ (x t : ℕ) (l : i < end) (here : x ≡ getD s i 0) (tagged : t ≡ x / cellSize) where
+  module _ (x : ℕ) (l : i < end) (here : x ≡ getD s i 0) where
+    tag-here : (w : Value) (ws : Values) → Left s i end (w ▸ ws) → x / cellSize ≡ tag w
+    tag-here w ws f = ap (λ (y : ℕ). y / cellSize) (here ∙ left-head s i end w ws f) ∙ tag-cell w (f .fits .0)
+
     -- a cell that is not a set's
-    pub sorted-on : (t ≡ 5 → ⊥) → Sorted s (i + 1) end v
+    pub sorted-on : x < 5 * cellSize → Sorted s (i + 1) end v
     sorted-on n = go (h .rest) (h .left) (h .same)
       where
         go : (ws : Values) → Left s i end ws → ordered v ≡ orderedAll ws → Sorted s (i + 1) end v
         go none f e = absurd (omega (arith, f .ends))
         go (scalar y ▸ ws) f e = record { rest = ws; left = left-next s i end (scalar y) ws f; same = e }
-        go (pair a b ▸ ws) f e = record { rest = a ▸ b ▸ ws; left = left-next s i end (pair a b) ws f; same = e ∙ and-assoc (ordered a) (ordered b) (orderedAll ws) }
-        go (set ms ▸ ws) f e = absurd (n (tagged ∙ ap (λ (y : ℕ). y / cellSize) (here ∙ left-head s i end (set ms) ws f) ∙ tag-cell (set ms) (f .fits .0)))
+        go (pair a b ▸ ws) f e =
+            record { rest = a ▸ b ▸ ws; left = left-next s i end (pair a b) ws f; same = e ∙ and-assoc (ordered a) (ordered b) (orderedAll ws) }
+        go (set ms ▸ ws) f e = absurd (omega (arith, tag-here (set ms) ws f))
 
-    module _ (set-here : t ≡ 5) where
-      not-set : (w : Value) (ws : Values) → Left s i end (w ▸ ws) → tag w ≡ 5
-      not-set w ws f = sym (tagged ∙ ap (λ (y : ℕ). y / cellSize) (here ∙ left-head s i end w ws f) ∙ tag-cell w (f .fits .0)) ∙ set-here
+    module _ (set-here : 5 * cellSize ≤ x) where
+      no-scalar : (y : Scalar) (ws : Values) → Left s i end (scalar y ▸ ws) → ⊥
+      no-scalar y ws f = scalar-tag y (omega (arith, tag-here (scalar y) ws f))
 
       -- its members
       members : (ms ws : Values) (n : ℕ) → Left s i end (set ms ▸ ws) → n ≡ x % cellSize → MembersAt s (i + 1) n ms
@@ -245,8 +290,8 @@ module _ (s : List ℕ) (i end : ℕ) (v : Value) (h : Sorted s i end v) where
         where
           go : (ws : Values) → Left s i end ws → SomeMembersAt s (i + 1) n
           go none f = absurd (omega (arith, f .ends))
-          go (scalar y ▸ ws) f = absurd (scalar-tag y (not-set (scalar y) ws f))
-          go (pair a b ▸ ws) f = absurd (omega (arith, not-set (pair a b) ws f))
+          go (scalar y ▸ ws) f = absurd (no-scalar y ws f)
+          go (pair a b ▸ ws) f = absurd (omega (arith, tag-here (pair a b) ws f))
           go (set ms ▸ ws) f = (ms, members ms ws n f q)
 
       module _ (n : ℕ) (r : Bool) (q : n ≡ x % cellSize) (k : InOrder s (i + 1) n r) where
@@ -255,8 +300,8 @@ module _ (s : List ℕ) (i end : ℕ) (v : Value) (h : Sorted s i end v) where
           where
             go : (ws : Values) → Left s i end ws → ordered v ≡ orderedAll ws → Sorted s (i + 1) end v
             go none f e = absurd (omega (arith, f .ends))
-            go (scalar y ▸ ws) f e = absurd (scalar-tag y (not-set (scalar y) ws f))
-            go (pair a b ▸ ws) f e = absurd (omega (arith, not-set (pair a b) ws f))
+            go (scalar y ▸ ws) f e = absurd (no-scalar y ws f)
+            go (pair a b ▸ ws) f e = absurd (omega (arith, tag-here (pair a b) ws f))
             go (set ms ▸ ws) f e =
                 let o : inOrder ms ≡ true = sym (k ms (members ms ws n f q)) ∙ z in
                 record { rest = ms before ws; left = left-next s i end (set ms) ws f; same = e ∙ rw o (sym (ordered-before ms ws)) }
@@ -266,8 +311,8 @@ module _ (s : List ℕ) (i end : ℕ) (v : Value) (h : Sorted s i end v) where
           where
             go : (ws : Values) → Left s i end ws → ordered v ≡ orderedAll ws → false ≡ ordered v
             go none f e = absurd (omega (arith, f .ends))
-            go (scalar y ▸ ws) f e = absurd (scalar-tag y (not-set (scalar y) ws f))
-            go (pair a b ▸ ws) f e = absurd (omega (arith, not-set (pair a b) ws f))
+            go (scalar y ▸ ws) f e = absurd (no-scalar y ws f)
+            go (pair a b ▸ ws) f e = absurd (omega (arith, tag-here (pair a b) ws f))
             go (set ms ▸ ws) f e =
                 let o : inOrder ms ≡ false = sym (k ms (members ms ws n f q)) ∙ z in
                 sym (e ∙ rw o)

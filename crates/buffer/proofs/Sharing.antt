@@ -1,27 +1,30 @@
 -- Whether the members of every set in a value share a type, set by set from the innermost outward.
-use Prim.Native.Nat.{ℕ, zero, suc, _+_, _-_, _/_, _%_, _≤_, _<_}
+use Prim.Native.Nat.{ℕ, zero, suc, _+_, _*_, _-_, _/_, _%_, _≤_, _<_}
 use mathlib.Core.Bool.{Bool, true, false, cond}
 use mathlib.Core.List.{List, append-nil}
 use mathlib.Core.Path.{_≡_, refl, sym, ap, subst, _∙_}
 use native.Mathlib.Omega.{arith}
+use native.Mathlib.Decide.{ℕ-discrete}
+use borrow.Author.Tests.{eq-eqb, ne-eqb}
 use native.Mathlib.Nat.{add-zero}
-use lib.Dec.{T}
+use lib.Dec.{T, eqb}
 use lib.ListN.{length, getD}
 use Rattle.rules.specs.Types.{whole, Ty}
-use Rattle.rules.specs.Values.{Value, scalar, pair, set, Values, none, _▸_, tag, count, weights}
+use Rattle.rules.specs.Values.{Scalar, Value, scalar, pair, set, Values, none, _▸_, tag, count, weights}
 use Rattle.rules.specs.Fits.{every, typesOf, sharedTypes, inhabited, typed}
 use Rattle.laws.proofs.FitsLaws.{_⊑_, ⊓-join, ⊓-split, inhabited→some, some→inhabited}
 use Rattle.arena.specs.Code.{cellSize, code, codes, Stands, ValueAt, ValuesAt, CellsFit, AllFit, SomeAt, EndsAt}
 use Rattle.arena.proofs.CodeLaws.{length-code, length-codes}
 use Rattle.arena.proofs.Standing.{stands-front, stands-back, _before_, codes-before, count-before, weights-before}
-use Rattle.fitting.specs.Agree.{meets, RunAt, SomeTyped, AgreedWith, NoEmpty, Full, StandFor}
+use Rattle.fitting.specs.Agree.{meets, RunAt, SomeTyped, Agreed, AgreedWith, NoEmpty, Full, StandFor, atomsAlike}
 use Rattle.fitting.proofs.Sharing.{meets→share, share→meets, meets-sym, left-typed, right-typed, with-every, full-first}
-use Rattle.fitting.proofs.Cells.{full-value}
-use Rattle.buffer.specs.Shared.{AllTyped, TypedRow, SomeTypedRow, Shares}
+use Rattle.arena.proofs.ValueParts.{one-cell}
+use Rattle.fitting.proofs.Cells.{full-value, with-end, with-false, with-step, atoms-agree, alike-low, agreed-back}
+use Rattle.buffer.specs.Shared.{AllTyped, TypedRow, SomeTypedRow, Shares, leastAlike, mostAlike}
 use Rattle.buffer.proofs.Ahead.{inner}
 use Rattle.buffer.proofs.Ordering.{tag-cell, Left, left-start, scalar-tag, left-head, left-next}
 use Rattle.rules.proofs.Basics.{and-of, and-split}
-use Rattle.laws.proofs.CellsLaws.{weight-some}
+use Rattle.laws.proofs.CellsLaws.{weight-some, count-weights}
 
 -- Types of values that follow one another.
 sharedTypes-join : (vs ws : Values) (t : Ty) → sharedTypes vs ⊑ t → sharedTypes ws ⊑ t → sharedTypes (vs before ws) ⊑ t
@@ -106,7 +109,8 @@ module _ (s : List ℕ) (at n i k : ℕ) (vs : Values) (row : TypedRow s at n vs
   back-row =
       let e : i ≡ at + length (codes (h .front)) = omega (arith, h .there, length-codes (h .front)) in
       record {
-        stands = rw e (stands-back s at (codes (h .front)) (codes (h .back)) (subst (λ (l : List ℕ). Stands s at l) (codes-before (h .front) (h .back)) all-stand));
+        stands = rw e (stands-back s at (codes (h .front)) (codes (h .back))
+            (subst (λ (l : List ℕ). Stands s at l) (codes-before (h .front) (h .back)) all-stand));
         fits = fits-split (h .front) (h .back) (subst AllFit (h .whole) (row .fits)) .1;
         counted = omega (arith, row .counted, ap count (h .whole), count-before (h .front) (h .back), h .counted);
         typed = typed-split (h .front) (h .back) (subst AllTyped (h .whole) (row .typed)) .1;
@@ -135,7 +139,7 @@ module _ (s : List ℕ) (at n i k : ℕ) (vs : Values) (row : TypedRow s at n vs
   -- The first m values stand for the first k: all of them, or one that has one type only.
   pub stand-for : (m end : ℕ) (one : Bool) → 0 < k → EndsAt s at end → (one ≡ true → NoEmpty s at end) → m ≡ cond one 1 k → StandFor s at m (h .front)
   unfolding code
-  stand-for m end false l e f c = record { few = h .front; run = rw c front-run; light = omega arith; same = λ q. refl }
+  stand-for m end false l e f c = record { few = h .front; run = rw c front-run; same = λ q. refl }
   stand-for m end true l e f c = go (h .front) front-run
     where
       go : (ws : Values) → RunAt s at k ws → StandFor s at m ws
@@ -152,7 +156,6 @@ module _ (s : List ℕ) (at n i k : ℕ) (vs : Values) (row : TypedRow s at n vs
               typed = with-every (typesOf w) ty;
               counted = sym c;
             };
-            light = omega arith;
             same = λ q. sym (full-first w every q fu (with-every (typesOf w) ty)) ∙ full-first w (sharedTypes ws) q fu (r .typed);
           }
 
@@ -197,6 +200,100 @@ module _ (s : List ℕ) (at n i k : ℕ) (vs : Values) (row : TypedRow s at n vs
               shares = some→inhabited (sharedTypes f) (x .0) (sharedTypes-join (h .front) (w ▸ none) (x .0) (x .1) (⊓-join (typesOf w) every (x .0) (x .2) tt));
               there = omega (arith, h .there, weights-before (h .front) (w ▸ none), ends w (stands-front s i (code w) (codes ws) (b .stands)) (b .fits .0));
             }
+
+-- The bounds of the cells that are alike, by the tag.
+module _ (x t : ℕ) (tagged : t ≡ x / cellSize) where
+  module _ (element : t ≡ 3) where
+    pub least-element : x / 256 * 256 ≡ leastAlike x
+    least-element = rw (eq-eqb (x / cellSize) 3 (sym tagged ∙ element))
+
+    pub most-element : x / 256 * 256 + 255 ≡ mostAlike x
+    most-element = rw (eq-eqb (x / cellSize) 3 (sym tagged ∙ element))
+
+  module _ (other : t ≡ 3 → ⊥) where
+    pub least-other : x / cellSize * cellSize ≡ leastAlike x
+    least-other = rw (ne-eqb (x / cellSize) 3 (λ e. other (tagged ∙ e)))
+
+    pub most-other : x / cellSize * cellSize + 4294967295 ≡ mostAlike x
+    most-other = rw (ne-eqb (x / cellSize) 3 (λ e. other (tagged ∙ e)))
+
+-- Two cells are alike where the second lies between the bounds of the first.
+module _ (x y : ℕ) where
+  by-tag : (P : ℕ → ℕ → Bool → Type 0) →
+      P (x / 256 * 256) (x / 256 * 256 + 255) (eqb (x / 256) (y / 256)) →
+      P (x / cellSize * cellSize) (x / cellSize * cellSize + 4294967295) (eqb (x / cellSize) (y / cellSize)) →
+      P (leastAlike x) (mostAlike x) (atomsAlike x y)
+  by-tag P h k = go (ℕ-discrete (x / cellSize) 3)
+    where
+      go : Dec (x / cellSize ≡ 3) → P (leastAlike x) (mostAlike x) (atomsAlike x y)
+      go (yes e) = rw (eq-eqb (x / cellSize) 3 e) h
+      go (no n) = rw (ne-eqb (x / cellSize) 3 n) k
+
+  pub alike-within : leastAlike x ≤ y → y ≤ mostAlike x → atomsAlike x y ≡ true
+  alike-within =
+      by-tag (λ l m b. l ≤ y → y ≤ m → b ≡ true)
+      (λ p q. eq-eqb (x / 256) (y / 256) (omega arith))
+      (λ p q. eq-eqb (x / cellSize) (y / cellSize) (omega arith))
+
+  pub alike-below : y < leastAlike x → atomsAlike x y ≡ false
+  alike-below =
+      by-tag (λ l m b. y < l → b ≡ false)
+      (λ p. ne-eqb (x / 256) (y / 256) (λ e. omega arith))
+      (λ p. ne-eqb (x / cellSize) (y / cellSize) (λ e. omega arith))
+
+  pub alike-above : mostAlike x < y → atomsAlike x y ≡ false
+  alike-above =
+      by-tag (λ l m b. m < y → b ≡ false)
+      (λ p. ne-eqb (x / 256) (y / 256) (λ e. omega arith))
+      (λ p. ne-eqb (x / cellSize) (y / cellSize) (λ e. omega arith))
+
+-- Scalars, one cell each: x is the cell of the first, and those up to i are alike.
+pub record Cells (s : List ℕ) (at i : ℕ) (vs : Values) : Type 0 where
+  pub past : at < i
+  pub first : Prefix s at i (i - at) vs
+
+module _ (s : List ℕ) (at n : ℕ) (low : getD s at 0 < 4 * cellSize) where
+  no-empty : NoEmpty s at (at + 1)
+  no-empty = record { none = λ j p q e. let f : j ≡ at = omega arith in let g : getD s at 0 ≡ 21474836480 = rw f at e in omega arith }
+
+  pub cells-start : 0 < n → (vs : Values) → TypedRow s at n vs → Cells s at (at + 1) vs
+  cells-start l vs row =
+      let e : at + 1 - at ≡ 1 = omega arith in
+      record { past = omega arith; first = rw e (prefix-start s at n (at + 1) (one-cell s at low) (λ z. omega arith) vs row) }
+
+  -- There are as many cells as values.
+  pub cells-inside : SomeTypedRow s at n → at + n ≤ length s
+  cells-inside r = omega (arith, r .1 .stands .inside, length-codes (r .0), r .1 .counted, count-weights (r .0))
+
+  pub cells-end : (i : ℕ) (vs : Values) → TypedRow s at n vs → Cells s at i vs → at + n ≤ i → true ≡ inhabited (sharedTypes vs)
+  cells-end i vs row h l = prefix-end s at n i (i - at) vs row (h .first) (omega arith)
+
+  module _ (i : ℕ) (vs : Values) (row : TypedRow s at n vs) (h : Cells s at i vs) (l : i < at + n) where
+    one-for-all : StandFor s at 1 (h .first .front)
+    one-for-all =
+        let k = h .past in
+        stand-for s at n i (i - at) vs row (h .first) 1 (at + 1) true (omega arith) (one-cell s at low) (λ e. no-empty) refl
+
+    -- The next value against the first one, by their cells.
+    against-first : (r : Bool) → atomsAlike (getD s at 0) (getD s i 0) ≡ r → AgreedWith s i at 1 r
+    against-first r e = go r (λ v w p q. sym e ∙ atoms-agree s at i low v w p q)
+      where
+        go : (b : Bool) → Agreed s at i b → AgreedWith s i at 1 b
+        go true g = with-step s i at 1 (at + 1) true (omega arith) (agreed-back s at i true g) (one-cell s at low) (with-end s i (at + 1) 0 refl)
+        go false g = with-false s i at 1 (omega arith) (agreed-back s at i false g)
+
+    pub cells-fail : atomsAlike (getD s at 0) (getD s i 0) ≡ false → false ≡ inhabited (sharedTypes vs)
+    cells-fail e = let k = h .past in prefix-fails s at n i (i - at) vs row (h .first) 1 (omega arith) one-for-all (against-first false e)
+
+    pub cells-next : atomsAlike (getD s at 0) (getD s i 0) ≡ true → Cells s at (i + 1) vs
+    cells-next e =
+        let k = h .past in
+        let q : i + 1 - at ≡ i - at + 1 = omega arith in
+        let low′ : getD s i 0 < 4 * cellSize = alike-low (getD s at 0) (getD s i 0) low e in
+        record {
+          past = omega arith;
+          first = rw q (prefix-step s at n i (i - at) vs row (h .first) 1 (omega arith) one-for-all (i + 1) (one-cell s i low′) (against-first true e));
+        }
 
 -- What is left of a value after some cells.
 abbrev next : Values → Values
@@ -260,7 +357,7 @@ module _ (s : List ℕ) (at end : ℕ) (v : Value) (h : ValueAt s at v) (f : Cel
       is false t = absurd t
 
   -- one cell back
-  module _ (i x t : ℕ) (low : at < i) (high : i ≤ end) (here : x ≡ getD s (i - 1) 0) (tagged : t ≡ x / cellSize) where
+  module _ (i x : ℕ) (low : at < i) (high : i ≤ end) (here : x ≡ getD s (i - 1) 0) where
     left-here : Left s (i - 1) end (after (v ▸ none) (i - 1 - at))
     left-here = here-left (i - 1) (omega arith) (omega arith)
 
@@ -268,19 +365,22 @@ module _ (s : List ℕ) (at end : ℕ) (v : Value) (h : ValueAt s at v) (f : Cel
     unfolding after
     next-here = let p : i - at ≡ suc (i - 1 - at) = omega arith in ap (after (v ▸ none)) p
 
-    tag-here : (w : Value) (ws : Values) → Left s (i - 1) end (w ▸ ws) → t ≡ tag w
-    tag-here w ws l = tagged ∙ ap (λ (y : ℕ). y / cellSize) (here ∙ left-head s (i - 1) end w ws l) ∙ tag-cell w (l .fits .0)
+    tag-here : (w : Value) (ws : Values) → Left s (i - 1) end (w ▸ ws) → x / cellSize ≡ tag w
+    tag-here w ws l = ap (λ (y : ℕ). y / cellSize) (here ∙ left-head s (i - 1) end w ws l) ∙ tag-cell w (l .fits .0)
 
-    pub from-other : (t ≡ 5 → ⊥) → TypedFrom at i v → TypedFrom at (i - 1) v
+    pub from-other : x < 5 * cellSize → TypedFrom at i v → TypedFrom at (i - 1) v
     from-other n a = go (after (v ▸ none) (i - 1 - at)) left-here (subst AllTyped next-here a)
       where
         go : (ws : Values) → Left s (i - 1) end ws → AllTyped (next ws) → AllTyped ws
         go none l y = tt
         go (scalar z ▸ ws) l y = (tt, y)
         go (pair p q ▸ ws) l y = (and-of (inhabited (typesOf p)) (inhabited (typesOf q)) (y .0) (y .1 .0), y .1 .1)
-        go (set ms ▸ ws) l y = absurd (n (tag-here (set ms) ws l))
+        go (set ms ▸ ws) l y = absurd (omega (arith, tag-here (set ms) ws l))
 
-    module _ (set-here : t ≡ 5) where
+    module _ (set-here : 5 * cellSize ≤ x) where
+      no-scalar : (z : Scalar) (ws : Values) → Left s (i - 1) end (scalar z ▸ ws) → ⊥
+      no-scalar z ws l = scalar-tag z (omega (arith, tag-here (scalar z) ws l))
+
       members : (n : ℕ) → n ≡ x % cellSize → (ms ws : Values) → Left s (i - 1) end (set ms ▸ ws) → AllTyped ms → TypedRow s i n ms
       unfolding code
       members n q ms ws l y =
@@ -298,7 +398,7 @@ module _ (s : List ℕ) (at end : ℕ) (v : Value) (h : ValueAt s at v) (f : Cel
         where
           go : (ws : Values) → Left s (i - 1) end ws → AllTyped (next ws) → SomeTypedRow s i n
           go none l y = absurd (omega (arith, l .ends))
-          go (scalar z ▸ ws) l y = absurd (scalar-tag z (sym (tag-here (scalar z) ws l) ∙ set-here))
+          go (scalar z ▸ ws) l y = absurd (no-scalar z ws l)
           go (pair p r ▸ ws) l y = absurd (omega (arith, tag-here (pair p r) ws l))
           go (set ms ▸ ws) l y = (ms, members n q ms ws l (typed-split ms ws y .0))
 
@@ -308,7 +408,7 @@ module _ (s : List ℕ) (at end : ℕ) (v : Value) (h : ValueAt s at v) (f : Cel
           where
             go : (ws : Values) → Left s (i - 1) end ws → AllTyped (next ws) → AllTyped ws
             go none l y = tt
-            go (scalar b ▸ ws) l y = absurd (scalar-tag b (sym (tag-here (scalar b) ws l) ∙ set-here))
+            go (scalar b ▸ ws) l y = absurd (no-scalar b ws l)
             go (pair p b ▸ ws) l y = absurd (omega (arith, tag-here (pair p b) ws l))
             go (set ms ▸ ws) l y =
                 let p = typed-split ms ws y in
@@ -316,7 +416,9 @@ module _ (s : List ℕ) (at end : ℕ) (v : Value) (h : ValueAt s at v) (f : Cel
 
         pub from-fails : r ≡ false → false ≡ typed v
         unfolding typed
-        from-fails z = none-left (inhabited (typesOf v)) (λ u. go (after (v ▸ none) (i - 1 - at)) left-here (subst AllTyped next-here a) (after-typed (v ▸ none) (u, tt) (i - 1 - at)))
+        from-fails z =
+            none-left (inhabited (typesOf v)) (λ u.
+            go (after (v ▸ none) (i - 1 - at)) left-here (subst AllTyped next-here a) (after-typed (v ▸ none) (u, tt) (i - 1 - at)))
           where
             none-left : (b : Bool) → (T b → ⊥) → false ≡ b
             none-left true y = absurd (y tt)
@@ -324,7 +426,7 @@ module _ (s : List ℕ) (at end : ℕ) (v : Value) (h : ValueAt s at v) (f : Cel
 
             go : (ws : Values) → Left s (i - 1) end ws → AllTyped (next ws) → AllTyped ws → ⊥
             go none l y u = omega (arith, l .ends)
-            go (scalar b ▸ ws) l y u = scalar-tag b (sym (tag-here (scalar b) ws l) ∙ set-here)
+            go (scalar b ▸ ws) l y u = no-scalar b ws l
             go (pair p b ▸ ws) l y u = omega (arith, tag-here (pair p b) ws l)
             go (set ms ▸ ws) l y u = subst T (sym (k ms (members n q ms ws l (typed-split ms ws y .0))) ∙ z) (u .0)
 

@@ -9,7 +9,7 @@ use lib.Dec.{T, eqb, leb, leb→le}
 use lib.ListN.{length, getD, drop, set as setAt, length-append, length-set, length-drop, List·getD-append}
 use lib.Seq.{drop-drop, getD-set-same, getD-set-other, getD-append-add}
 use borrow.Author.Tests.{ne-eqb}
-use Rattle.rules.specs.Values.{weight}
+use Rattle.rules.specs.Values.{none, weight}
 use Rattle.laws.proofs.OrderLaws.{and-left}
 use Rattle.laws.proofs.CellsLaws.{Bytes, bytes-drop}
 use Rattle.arena.specs.Code.{code, Stands, Same, partsOf}
@@ -38,7 +38,8 @@ good-last gs (suc (suc (suc (suc zero)))) p a b c d = absurd (d refl)
 good-last gs (suc (suc (suc (suc (suc zero))))) p a b c d = refl
 good-last gs (suc (suc (suc (suc (suc (suc n)))))) p a b c d = ne-eqb (suc (suc (suc (suc (suc (suc n)))))) 5 (λ e. omega arith)
 
-pub good-other : (gs : List ℕ) (x t p : ℕ) → t ≡ x / 4294967296 → p ≡ x % 4294967296 → (t ≡ 2 → ⊥) → (t ≡ 3 → ⊥) → (t ≡ 4 → ⊥) → (t ≡ 1 → ⊥) → eqb t 5 ≡ cellGood gs x
+pub good-other : (gs : List ℕ) (x t p : ℕ) → t ≡ x / 4294967296 → p ≡ x % 4294967296 →
+    (t ≡ 2 → ⊥) → (t ≡ 3 → ⊥) → (t ≡ 4 → ⊥) → (t ≡ 1 → ⊥) → eqb t 5 ≡ cellGood gs x
 unfolding cellGood
 good-other gs x t p e f b c d a = good-last gs t p a b c d ∙ rw (e, f)
 
@@ -100,14 +101,16 @@ cell-held {gs} {bs} {at} g =
     omega (arith, l, length-drop at bs)
 
 -- a cell is written behind
-write-stands : (s : List ℕ) (top n x : ℕ) (xs : List ℕ) → length xs ≡ n → top + n < length s → Stands s top xs → Stands (setAt s (top + n) x) top (xs ++ (x ∷ []))
+write-stands : (s : List ℕ) (top n x : ℕ) (xs : List ℕ) → length xs ≡ n → top + n < length s → Stands s top xs →
+    Stands (setAt s (top + n) x) top (xs ++ (x ∷ []))
 write-stands s top n x xs l b h = record {
   inside = omega (arith, length-append xs (x ∷ []), length-set s (top + n) x);
   cells = λ i p. go i p (decLt i n);
 }
   where
     go : (i : ℕ) → i < length (xs ++ (x ∷ [])) → Dec (i < n) → getD (setAt s (top + n) x) (top + i) 0 ≡ getD (xs ++ (x ∷ [])) i 0
-    go i p (yes y) = getD-set-other s (top + n) (top + i) x 0 (λ e. omega arith) ∙ h .cells i (omega arith) ∙ sym (List·getD-append xs (x ∷ []) 0 i (omega arith))
+    go i p (yes y) =
+        getD-set-other s (top + n) (top + i) x 0 (λ e. omega arith) ∙ h .cells i (omega arith) ∙ sym (List·getD-append xs (x ∷ []) 0 i (omega arith))
     go i p (no y) =
         let e : i ≡ n = omega (arith, length-append xs (x ∷ [])) in
         let f : i ≡ length xs + 0 = omega arith in
@@ -149,7 +152,8 @@ module _ (gs bs : List ℕ) (b : Bytes bs) (from at left n : ℕ) (s₀ s : List
             let p = h .partly es rest a in
             let o = onward gs ds left (p .0) rest (p .2) l in (
               o .left,
-              p .1 ∙ ap (λ (z : List ℕ). h .written ++ z) (o .coded) ∙ ap (λ (z : ℕ). h .written ++ (z ∷ o .left)) (sym c) ∙ sym (append-assoc (h .written) (y ∷ []) (o .left)),
+              p .1 ∙ ap (λ (z : List ℕ). h .written ++ z) (o .coded) ∙ ap (λ (z : ℕ). h .written ++ (z ∷ o .left)) (sym c) ∙
+                  sym (append-assoc (h .written) (y ∷ []) (o .left)),
               rw (d, q) (o .next),
             );
       }
@@ -170,7 +174,7 @@ pub walk-end : (gs bs : List ℕ) (from at left n : ℕ) (s₀ s : List ℕ) (to
     ReadAt gs bs from s top at (top + n)
 unfolding Rattle.rules.specs.Cells.cells code
 walk-end gs bs from at left n s₀ s top h z l =
-    let a : Ahead gs (drop at bs) left [] (drop at bs) = record { values = Rattle.rules.specs.Values.none; counted = sym z; bytes = refl; coded = refl; encodable = tt; good = tt } in
+    let a : Ahead gs (drop at bs) left [] (drop at bs) = record { values = none; counted = sym z; bytes = refl; coded = refl; encodable = tt; good = tt } in
     let r = read-ahead gs (drop from bs) (h .written ++ []) (drop at bs) (omega (arith, length-append (h .written) [], h .long)) (h .whole [] (drop at bs) a) in
     let e : code (r .first) ≡ h .written = r .coded ∙ append-nil (h .written) in
     let w : weight (r .first) ≡ n = sym (length-code (r .first)) ∙ ap length e ∙ h .long in

@@ -15,9 +15,6 @@ use Rattle.buffer.specs.declared.Step.the-variants.{Cell, End}
 use Rattle.buffer.specs.declared.Placed.{Placed}
 use Rattle.buffer.specs.declared.Placed.the-variants.{At, Fault}
 
-abbrev pub zerosAt : List ℕ → ℕ → Bool
-zerosAt bs i = eqb (getD bs i 0 + getD bs (1 + i) 0 + getD bs (2 + i) 0) 0
-
 -- A run of bytes begins with a cell: eight bytes, the last three zero.
 abbrev pub cellFirst : List ℕ → Bool
 cellFirst bs = leb 8 (length bs) && eqb (getD bs 5 0 + getD bs 6 0 + getD bs 7 0) 0

@@ -1,13 +1,12 @@
 -- Members that share a type, in every set of a value.
-use Prim.Native.Nat.{ℕ}
-use mathlib.Core.Bool.{Bool}
+use Prim.Native.Nat.{ℕ, _+_, _*_, _/_}
+use mathlib.Core.Bool.{Bool, cond}
 use mathlib.Core.List.{List}
 use mathlib.Core.Path.{_≡_}
-use lib.Dec.{T}
+use lib.Dec.{T, eqb}
 use Rattle.rules.specs.Values.{Value, Values, none, _▸_, count}
 use Rattle.rules.specs.Fits.{typesOf, sharedTypes, inhabited, typed}
 use Rattle.arena.specs.Code.{ValueAt, ValuesAt, CellsFit, AllFit}
-use Rattle.fitting.specs.Agree.{SomeTyped, SomeRun}
 
 -- Each value has a type.
 abbrev pub AllTyped : Values → Type 0
@@ -28,10 +27,12 @@ SomeTypedRow s at n = (vs : Values) × TypedRow s at n vs
 abbrev pub Shares : List ℕ → ℕ → ℕ → Bool → Type 0
 Shares s at n r = (vs : Values) → TypedRow s at n vs → r ≡ inhabited (sharedTypes vs)
 
--- A typed value at a, and m values from b on that share a type.
-pub record ValueAndRun (s : List ℕ) (a b m : ℕ) : Type 0 where
-  pub value : SomeTyped s a
-  pub run : SomeRun s b m
+-- The cells of the scalars that share a type with the scalar of the cell x lie between these two.
+abbrev pub leastAlike : ℕ → ℕ
+leastAlike x = cond (eqb (x / 4294967296) 3) (x / 256 * 256) (x / 4294967296 * 4294967296)
+
+abbrev pub mostAlike : ℕ → ℕ
+mostAlike x = cond (eqb (x / 4294967296) 3) (x / 256 * 256 + 255) (x / 4294967296 * 4294967296 + 4294967295)
 
 -- r says whether the value at `at` has a type.
 abbrev pub TypedHere : List ℕ → ℕ → Bool → Type 0

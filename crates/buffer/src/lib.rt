@@ -4,14 +4,21 @@ ghost use mathlib.Core.Bool.{true, cond};
 ghost use Prim.Native.Nat.{_+_, _-_, _≤_, _<_};
 ghost use lib.ListN.{length, getD};
 ghost use Rattle.rules.specs.Tables.{wordAt, tableOf};
-ghost use Rattle.buffer.specs.Buffer.{stepAt, zerosAt, codeOf, cellGood, cellsAtMost, StepTakes, Places};
+ghost use Rattle.buffer.specs.Buffer.{stepAt, codeOf, cellGood, cellsAtMost, StepTakes, Places};
 ghost use Rattle.arena.specs.Code.{Same};
 ghost use Rattle.buffer.specs.Ordered.{SomeMembersAt, InOrder, WholeValue, Ordered};
-ghost use Rattle.buffer.specs.Shared.{SomeTypedRow, Shares, ValueAndRun, TypedHere};
+ghost use Rattle.buffer.specs.Shared.{SomeTypedRow, Shares, leastAlike, mostAlike, TypedHere};
 ghost use Rattle.buffer.specs.Loaded.{ReadsGood, Enters, Room, Loads, LoadReady};
-ghost use Rattle.fitting.specs.Agree.{AgreedWith};
 
 mod words;
+
+// A cell in the buffer: its payload, its tag times WORD, and zero bytes from FREE on.
+const WORD: u64 = 4294967296;
+
+const FREE: u64 = 256 * WORD;
+
+// The cell of a set of no members, the least of a set.
+const SET: u64 = 5 * WORD;
 
 // A place in the values buffer where a cell may begin.
 pub struct Cursor {
@@ -66,17 +73,6 @@ fn word(values: &[u8], at: usize) -> u64
     a + 256 * b + 65536 * c + 16777216 * d
 }
 
-// Whether the three bytes from `at` on are zero.
-fn zeros(values: &[u8], at: usize) -> bool
-    requires { ⌜ at + 3 ≤ length (now values) ⌝ }
-    ensures { λ r. ⌜ r ≡ zerosAt (now (values .entry)) at ⌝ }
-{
-    let a = wide(values[at]);
-    let b = wide(values[at + 1]);
-    let c = wide(values[at + 2]);
-    a + b + c == 0
-}
-
 impl Cursor {
     // The cell at this place: eight bytes, the last three zero.
     pub fn next(self, values: &[u8]) -> Step
@@ -90,12 +86,27 @@ impl Cursor {
         if len - 8 < at {
             return Step::End;
         }
-        if !zeros(values, at + 5) {
+        let x = word(values, at) + WORD * word(values, at + 4);
+        if x >= FREE {
             return Step::End;
         }
-        let payload = word(values, at);
-        let tag = wide(values[at + 4]);
-        Step::Cell(tag * 4294967296 + payload, Cursor { at: at + 8 })
+        Step::Cell(x, Cursor { at: at + 8 })
+    }
+
+    // The good cell at this place.
+    fn take(self, values: &[u8], sizes: &[u32]) -> Step
+        ensures { λ r. ⌜ StepTakes (now (sizes .entry)) (now (values .entry)) (self .at) r ⌝ }
+    {
+        let step = self.next(values);
+        match step {
+            Step::Cell(x, next) => {
+                if good_cell(x, sizes) {
+                    return Step::Cell(x, next);
+                }
+                Step::End
+            }
+            Step::End => Step::End,
+        }
     }
 }
 
@@ -126,35 +137,19 @@ fn good_cell(cell: u64, sizes: &[u32]) -> bool
 {
     let t = arena::tag(cell);
     let p = arena::low(cell);
-    if t == 2 {
-        return p < 2;
+    if t == 1 {
+        return true;
     }
     if t == 3 {
         return p % 256 < size(sizes, p / 256);
     }
+    if t == 2 {
+        return p < 2;
+    }
     if t == 4 {
         return p == 0;
     }
-    if t == 1 {
-        return true;
-    }
     t == 5
-}
-
-// The good cell at a place.
-fn take(from: Cursor, values: &[u8], sizes: &[u32]) -> Step
-    ensures { λ r. ⌜ StepTakes (now (sizes .entry)) (now (values .entry)) (from .at) r ⌝ }
-{
-    let step = from.next(values);
-    match step {
-        Step::Cell(x, next) => {
-            if good_cell(x, sizes) {
-                return Step::Cell(x, next);
-            }
-            Step::End
-        }
-        Step::End => Step::End,
-    }
 }
 
 // The cells that the values of n identifiers take at most: 256 each, and one for 8 bytes of the buffer.
@@ -183,7 +178,7 @@ pub fn copy_value(from: Cursor, values: &[u8], sizes: &[u32], s: &mut [u64], top
         if left > 256 - n {
             return Placed::Fault;
         }
-        let Step::Cell(x, next) = take(c, values, sizes) else {
+        let Step::Cell(x, next) = c.take(values, sizes) else {
             return Placed::Fault;
         };
         s[top + n] = code_cell(x);
@@ -194,8 +189,8 @@ pub fn copy_value(from: Cursor, values: &[u8], sizes: &[u32], s: &mut [u64], top
     Placed::At(c, top + n)
 }
 
-// Whether n values from `at` on rise.
-fn in_order(s: &[u64], at: usize, n: u64) -> bool
+// Whether n values from `at` on rise, value by value.
+fn values_rise(s: &[u64], at: usize, n: u64) -> bool
     requires { ⌜ SomeMembersAt (now s) at n ⌝ }
     ensures { λ r. ⌜ InOrder (now (s .entry)) at n r ⌝ }
 {
@@ -212,6 +207,27 @@ fn in_order(s: &[u64], at: usize, n: u64) -> bool
     true
 }
 
+// Whether n values from `at` on rise. Where a scalar's cell is less than the next one, so is the scalar than the next value.
+fn in_order(s: &[u64], at: usize, n: u64) -> bool
+    requires { ⌜ SomeMembersAt (now s) at n ⌝ }
+    ensures { λ r. ⌜ InOrder (now (s .entry)) at n r ⌝ }
+{
+    let mut i = at;
+    let mut left = n;
+    while left > 1 {
+        let x = s[i];
+        if x >= fitting::PAIR {
+            return values_rise(s, i, left);
+        }
+        i += 1;
+        if s[i] <= x {
+            return false;
+        }
+        left -= 1;
+    }
+    true
+}
+
 // Whether the members of every set in the value from `at` to `end` rise.
 pub fn rises(s: &[u64], at: usize, end: usize) -> bool
     requires { ⌜ WholeValue (now s) at end ⌝ }
@@ -221,28 +237,11 @@ pub fn rises(s: &[u64], at: usize, end: usize) -> bool
     while i < end {
         let x = s[i];
         i += 1;
-        if arena::tag(x) == 5 {
+        if x >= SET {
             if !in_order(s, i, arena::low(x)) {
                 return false;
             }
         }
-    }
-    true
-}
-
-// Whether the value at a shares a type with m values from b on, which share one.
-fn with_each(s: &[u64], a: usize, b: usize, m: u64) -> bool
-    requires { ⌜ ValueAndRun (now s) a b m ⌝ }
-    ensures { λ r. ⌜ AgreedWith (now (s .entry)) a b m r ⌝ }
-{
-    let mut j = b;
-    let mut left = m;
-    while left > 0 {
-        if !fitting::agree(s, a, j) {
-            return false;
-        }
-        j = arena::end_of(s, j);
-        left -= 1;
     }
     true
 }
@@ -257,6 +256,69 @@ fn few(one: bool, k: u64) -> u64
     k
 }
 
+// The cells of the scalars that share a type with the scalar of the cell x lie from `least` to `most`: elements are of one given set.
+fn least(x: u64) -> u64
+    ensures { λ r. ⌜ r ≡ leastAlike x ⌝ }
+{
+    if arena::tag(x) == 3 {
+        return x / 256 * 256;
+    }
+    x / WORD * WORD
+}
+
+fn most(x: u64) -> u64
+    ensures { λ r. ⌜ r ≡ mostAlike x ⌝ }
+{
+    if arena::tag(x) == 3 {
+        return x / 256 * 256 + 255;
+    }
+    x / WORD * WORD + 4294967295
+}
+
+// Whether n values from `at` on, the first a scalar, share a type: all are scalars, one cell each.
+fn cells_share(s: &[u64], at: usize, n: u64) -> bool
+    requires { ⌜ SomeTypedRow (now s) at n × (0 < n) × (getD (now s) at 0 < 17179869184) ⌝ }
+    ensures { λ r. ⌜ Shares (now (s .entry)) at n r ⌝ }
+{
+    let x = s[at];
+    let low = least(x);
+    let high = most(x);
+    let end = at + n as usize;
+    let mut i = at + 1;
+    while i < end {
+        let y = s[i];
+        if y < low {
+            return false;
+        }
+        if y > high {
+            return false;
+        }
+        i += 1;
+    }
+    true
+}
+
+// Whether n values from `at` on share a type, value by value.
+fn values_share(s: &[u64], at: usize, n: u64) -> bool
+    requires { ⌜ SomeTypedRow (now s) at n × (0 < n) ⌝ }
+    ensures { λ r. ⌜ Shares (now (s .entry)) at n r ⌝ }
+{
+    let end = arena::end_of(s, at);
+    // A value with no empty set in it has one type only.
+    let one = fitting::full(s, at, end);
+    let mut i = end;
+    let mut k: u64 = 1;
+    while k < n {
+        let m = few(one, k);
+        if !fitting::against(s, i, at, m as usize) {
+            return false;
+        }
+        i = arena::end_of(s, i);
+        k += 1;
+    }
+    true
+}
+
 // Whether n values from `at` on share a type.
 fn share(s: &[u64], at: usize, n: u64) -> bool
     requires { ⌜ SomeTypedRow (now s) at n ⌝ }
@@ -265,20 +327,10 @@ fn share(s: &[u64], at: usize, n: u64) -> bool
     if n == 0 {
         return true;
     }
-    let end = arena::end_of(s, at);
-    // A value with no empty set in it has one type only.
-    let one = fitting::full(s, at, end);
-    let mut i = end;
-    let mut k: u64 = 1;
-    while k < n {
-        let m = few(one, k);
-        if !with_each(s, i, at, m) {
-            return false;
-        }
-        i = arena::end_of(s, i);
-        k += 1;
+    if s[at] < fitting::PAIR {
+        return cells_share(s, at, n);
     }
-    true
+    values_share(s, at, n)
 }
 
 // Whether the value from `at` to `end` has a type: in each of its sets, from the innermost outward, the members share one.
@@ -291,7 +343,7 @@ pub fn well_typed(s: &[u64], at: usize, end: usize) -> bool
         let next = i;
         i -= 1;
         let x = s[i];
-        if arena::tag(x) == 5 {
+        if x >= SET {
             if !share(s, next, arena::low(x)) {
                 return false;
             }

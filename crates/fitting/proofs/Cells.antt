@@ -3,20 +3,21 @@ use Prim.Native.Nat.{ℕ, _+_, _*_, _-_, _/_, _%_, _≤_, _<_}
 use mathlib.Core.Bool.{Bool, true, false}
 use mathlib.Core.List.{List, append-nil}
 use mathlib.Core.Logic.{_≢_, inl, inr}
-use borrow.Author.Tests.{eq-eqb, ne-eqb}
-use mathlib.Core.Path.{_≡_, refl, sym, ap, _∙_, subst}
+use borrow.Author.Tests.{eq-eqb, ne-eqb, eqb-true}
+use mathlib.Core.Path.{_≡_, refl, sym, _∙_, subst}
 use native.Mathlib.Omega.{arith}
 use native.Mathlib.Decide.{ℕ-discrete}
 use lib.Dec.{T, eqb}
 use lib.ListN.{length, getD}
 use Rattle.rules.specs.Types.{whole}
-use Rattle.rules.specs.Values.{Scalar, num, truth, element, Value, scalar, pair, set, Values, none, _▸_, scalarTag, count, weight, weights}
+use Rattle.rules.specs.Values.{Scalar, num, truth, element, Value, scalar, pair, set, Values, none, _▸_, scalarTag, tag, count, weight, weights}
 use Rattle.rules.specs.Fits.{every, typesOf, sharedTypes, inhabited, typed}
 use Rattle.arena.specs.Code.{cellSize, code, codes, Stands, ValueAt, ValuesAt, CellsFit, SomeAt, EndsAt}
 use Rattle.arena.proofs.CodeLaws.{length-code}
 use Rattle.arena.proofs.Standing.{stands-head, stands-tail, stands-front, stands-back}
-use Rattle.arena.proofs.ValueParts.{ends-at, first-cell, left-stands, right-stands}
-use Rattle.fitting.specs.Agree.{meets, agree, TypedAt, RunAt, SomeTyped, SomeRun, Agreed, AgreedWith, AgreedAll, emptyCell, NoEmpty, StandFor, Members, Full, FullSet, FullAll, Few, sameKind, SetHere, Two, Parts, AgreedParts, Runs}
+use Rattle.arena.proofs.ValueParts.{ends-at, some-inside, first-cell, left-stands, right-stands}
+use Rattle.fitting.specs.Agree.{meets, agree, TypedAt, RunAt, SomeTyped, SomeRun, Agreed, AgreedWith, AgreedAll, emptyCell, NoEmpty, StandFor, Members, Full, FullSet, FullAll, Few, atomsAlike, PairOrSet, SetHere, Parts, AgreedParts, OneAndRun, Runs}
+use Rattle.fitting.specs.Tests.{Both}
 use Rattle.fitting.proofs.Sharing.{is-true, full-first, meets-both, meets-sym, meets-same, with-every, meets-every, meets-first, tags-differ, scalars-agree, elements-agree, left-typed, right-typed}
 use Rattle.rules.proofs.Basics.{and-split}
 use Rattle.laws.proofs.CellsLaws.{weight-some}
@@ -86,7 +87,7 @@ pub some-at : {s : List ℕ} {at : ℕ} → SomeTyped s at → SomeAt s at
 some-at x = record { value = x .0; stands = x .1 .stands; fits = x .1 .fits }
 
 pub inside : (s : List ℕ) (at : ℕ) → SomeTyped s at → at < length s
-inside s at x = omega (arith, x .1 .stands .inside, length-code (x .0), weight-some (x .0))
+inside s at x = some-inside s at (some-at x)
 
 pub end-is : {s : List ℕ} {at end : ℕ} {v : Value} → EndsAt s at end → TypedAt s at v → end ≡ at + weight v
 end-is {v = v} e h = e v (h .stands) (h .fits)
@@ -120,7 +121,12 @@ module _ (s : List ℕ) (a : ℕ) where
       )
 
   typed-members : (vs : Values) → TypedAt s a (set vs) → RunAt s (a + 1) (getD s a 0 % cellSize) vs
-  typed-members vs h = record { stands = members-stand s a vs (h .stands); fits = h .fits .1; typed = h .typed; counted = sym (first-cell s a (set vs) (h .stands) (h .fits) .1) }
+  typed-members vs h = record {
+    stands = members-stand s a vs (h .stands);
+    fits = h .fits .1;
+    typed = h .typed;
+    counted = sym (first-cell s a (set vs) (h .stands) (h .fits) .1);
+  }
 
   pub as-pair : (v : Value) → TypedAt s a v → getD s a 0 / cellSize ≡ 4 →
       (x : Value) × (y : Value) × (v ≡ pair x y) × TypedAt s (a + 1) x × TypedAt s (a + 1 + weight x) y
@@ -143,7 +149,12 @@ as-run s a n (x ▸ ys) h l = (
   ys,
   refl,
   record { stands = first-stands s a x ys (h .stands); fits = h .fits .0; typed = left-typed (typesOf x) (sharedTypes ys) (h .typed) },
-  record { stands = rest-stand s a x ys (h .stands); fits = h .fits .1; typed = right-typed (typesOf x) (sharedTypes ys) (h .typed); counted = omega (arith, h .counted) },
+  record {
+    stands = rest-stand s a x ys (h .stands);
+    fits = h .fits .1;
+    typed = right-typed (typesOf x) (sharedTypes ys) (h .typed);
+    counted = omega (arith, h .counted);
+  },
 )
 
 pub no-run : {s : List ℕ} {a n : ℕ} (vs : Values) → RunAt s a n vs → n ≡ 0 → vs ≡ none
@@ -170,6 +181,13 @@ module _ (s : List ℕ) (a j left : ℕ) where
       let f : j2 ≡ j + weight (x .0) = end-is e (x .3) in
       rw (x .2, m, ← g v (x .0) h (x .3)) (t v (x .1) h (rw f (x .4)))
 
+-- the last of a run
+pub with-last : (s : List ℕ) (a j left : ℕ) → left ≡ 1 → Agreed s a j true → AgreedWith s a j left true
+with-last s a j left e g v ws h k =
+    let x = as-run s j left ws k (omega arith) in
+    let i = j + weight (x .0) in
+    with-step s a j left i true (omega arith) g (ends-at s j (x .0) (x .3 .stands) (x .3 .fits)) (with-end s a i (left - 1) (omega arith)) v ws h k
+
 -- Runs of values against each other.
 module _ (s : List ℕ) (i left b m : ℕ) where
   pub all-end : left ≡ 0 → AgreedAll s i left b m true
@@ -189,6 +207,14 @@ module _ (s : List ℕ) (i left b m : ℕ) where
       let m = meets-first (typesOf (x .0)) (sharedTypes (x .1)) (sharedTypes ws) (rw (x .2) at (h .typed)) in
       let f : i2 ≡ i + weight (x .0) = end-is e (x .3) in
       rw (x .2, m, ← g (x .0) ws (x .3) k) (t (x .1) ws (rw f (x .4)) k)
+
+-- a run of one value
+pub all-one : (s : List ℕ) (a n b m : ℕ) (r : Bool) → n ≡ 1 → AgreedWith s a b m r → AgreedAll s a n b m r
+all-one s a n b m false e g vs ws h k = all-false s a n b m (omega arith) g vs ws h k
+all-one s a n b m true e g vs ws h k =
+    let x = as-run s a n vs h (omega arith) in
+    let i = a + weight (x .0) in
+    all-step s a n b m i true (omega arith) g (ends-at s a (x .0) (x .3 .stands) (x .3 .fits)) (all-end s i (n - 1) b m (omega arith)) vs ws h k
 
 pub run-first : (s : List ℕ) (at n : ℕ) → SomeRun s at n → 0 < n → SomeTyped s at
 run-first s at n r l = let x = as-run s at n (r .0) (r .1) l in (x .0, x .3)
@@ -220,29 +246,16 @@ module _ (s : List ℕ) (a b : ℕ) where
       let y = as-pair s b w k u in
       rw (x .2, y .2) (g (x .0) (x .1) (y .0) (y .1) (x .3) (x .4) (y .3) (y .4))
 
-  pub pair-parts : (end : ℕ) → Two s a end b → getD s a 0 / cellSize ≡ 4 → getD s b 0 / cellSize ≡ 4 → Parts s (a + 1) end (b + 1)
-  pair-parts end p t u =
+  pub pair-parts : Both s a b → getD s a 0 / cellSize ≡ 4 → getD s b 0 / cellSize ≡ 4 → Parts s (a + 1) (b + 1)
+  pair-parts p t u =
       let x = as-pair s a (p .first .0) (p .first .1) t in
       let y = as-pair s b (p .second .0) (p .second .1) u in
       record {
         left = (x .0, x .3);
-        right = λ c e. let f : c ≡ a + 1 + weight (x .0) = end-is e (x .3) in
-            let k : TypedAt s c (x .1) = rw f (x .4) in
-            let n : weight (p .first .0) ≡ 1 + (weight (x .0) + weight (x .1)) = ap weight (x .2) in
-            let m : end ≡ c + weight (x .1) = omega (arith, end-is (p .ends) (p .first .1)) in
-            ((x .1, k), rw m (ends-at s c (x .1) (k .stands) (k .fits)));
+        right = λ c e. let f : c ≡ a + 1 + weight (x .0) = end-is e (x .3) in (x .1, rw f (x .4));
         otherLeft = (y .0, y .3);
         otherRight = λ d e. let f : d ≡ b + 1 + weight (y .0) = end-is e (y .3) in (y .1, rw f (y .4));
       }
-
-  pub set-runs : (end n m : ℕ) → Two s a end b → getD s a 0 / cellSize ≡ 5 → getD s b 0 / cellSize ≡ 5 → Members s a n → Members s b m → Runs s (a + 1) end n (b + 1) m
-  set-runs end n m p t u c d =
-      let x = as-set s a (p .first .0) (p .first .1) t in
-      let y = as-set s b (p .second .0) (p .second .1) u in
-      let k = c (x .0) (rw (x .1) at (p .first .1)) in
-      let l = d (y .0) (rw (y .1) at (p .second .1)) in
-      let w : weight (p .first .0) ≡ 1 + weights (x .0) = ap weight (x .1) in
-      record { values = k .few; first = k .run; within = omega (arith, k .light, end-is (p .ends) (p .first .1)); second = (l .few, l .run) }
 
   pub sets-agree : (n m : ℕ) (r : Bool) → getD s a 0 / cellSize ≡ 5 → getD s b 0 / cellSize ≡ 5 →
       Members s a n → Members s b m → AgreedAll s (a + 1) n (b + 1) m r → Agreed s a b r
@@ -252,7 +265,9 @@ module _ (s : List ℕ) (a b : ℕ) where
       let y = as-set s b w k u in
       let p = c (x .0) (rw (x .1) at h) in
       let q = d (y .0) (rw (y .1) at k) in
-      rw (x .1, y .1) (g (p .few) (q .few) (p .run) (q .run) ∙ meets-same (sharedTypes (p .few)) (sharedTypes (x .0)) (sharedTypes (q .few)) (sharedTypes (y .0)) (p .same) (q .same))
+      rw (x .1, y .1)
+      (g (p .few) (q .few) (p .run) (q .run) ∙
+      meets-same (sharedTypes (p .few)) (sharedTypes (x .0)) (sharedTypes (q .few)) (sharedTypes (y .0)) (p .same) (q .same))
 
 pub as-scalar : (s : List ℕ) (a : ℕ) (v : Value) → TypedAt s a v → getD s a 0 / cellSize ≢ 4 → getD s a 0 / cellSize ≢ 5 →
     (x : Scalar) × (v ≡ scalar x) × (getD s a 0 / cellSize ≡ scalarTag x)
@@ -270,23 +285,68 @@ as-element s a (scalar (element g k)) h t =
 as-element s a (pair x y) h t = absurd (omega (arith, first-cell s a (pair x y) (h .stands) (h .fits) .0))
 as-element s a (set vs) h t = absurd (omega (arith, first-cell s a (set vs) (h .stands) (h .fits) .0))
 
-pub kinds-agree : (s : List ℕ) (a b : ℕ) → getD s a 0 / cellSize ≡ getD s b 0 / cellSize → getD s a 0 / cellSize ≢ 4 → getD s a 0 / cellSize ≢ 5 →
-    Agreed s a b (sameKind (getD s a 0) (getD s b 0))
-kinds-agree s a b e n4 n5 v w h k = go (ℕ-discrete (getD s a 0 / cellSize) 3)
+-- Scalars, by their cells.
+module _ (s : List ℕ) (a b : ℕ) where
+  elements-alike : getD s a 0 / cellSize ≡ 3 → getD s b 0 / cellSize ≡ 3 → Agreed s a b (eqb (getD s a 0 / 256) (getD s b 0 / 256))
+  elements-alike t u v w h k =
+      let x = as-element s a v h t in
+      let y = as-element s b w k u in
+      rw (x .2, y .2, elements-agree (x .0) (x .1) (y .0) (y .1)) (go (x .0) (y .0) (x .3) (y .3) (ℕ-discrete (x .0) (y .0)))
+    where
+      go : (g h : ℕ) → getD s a 0 % cellSize / 256 ≡ g → getD s b 0 % cellSize / 256 ≡ h → Dec (g ≡ h) →
+          eqb (getD s a 0 / 256) (getD s b 0 / 256) ≡ eqb g h
+      go g h p q (yes e) = eq-eqb (getD s a 0 / 256) (getD s b 0 / 256) (omega arith) ∙ sym (eq-eqb g h e)
+      go g h p q (no n) = ne-eqb (getD s a 0 / 256) (getD s b 0 / 256) (λ e. n (omega arith)) ∙ sym (ne-eqb g h n)
+
+  others-alike : getD s a 0 / cellSize < 4 → getD s a 0 / cellSize ≢ 3 → getD s a 0 / cellSize ≡ getD s b 0 / cellSize → Agreed s a b true
+  others-alike l n e v w h k =
+      let x = as-scalar s a v h (λ f. omega arith) (λ f. omega arith) in
+      let y = as-scalar s b w k (λ f. omega arith) (λ f. omega arith) in
+      rw (x .1, y .1) (sym (scalars-agree (x .0) (y .0) (sym (x .2) ∙ e ∙ y .2) (λ f. n (x .2 ∙ f))))
+
+  pub atoms-agree : getD s a 0 < 4 * cellSize → Agreed s a b (atomsAlike (getD s a 0) (getD s b 0))
+  atoms-agree l = go (ℕ-discrete (getD s a 0 / cellSize) 3) (ℕ-discrete (getD s a 0 / cellSize) (getD s b 0 / cellSize))
+    where
+      go : Dec (getD s a 0 / cellSize ≡ 3) → Dec (getD s a 0 / cellSize ≡ getD s b 0 / cellSize) → Agreed s a b (atomsAlike (getD s a 0) (getD s b 0))
+      go (yes t) (yes e) = rw (eq-eqb (getD s a 0 / cellSize) 3 t) (elements-alike t (sym e ∙ t))
+      go (yes t) (no d) =
+          rw (eq-eqb (getD s a 0 / cellSize) 3 t, ne-eqb (getD s a 0 / 256) (getD s b 0 / 256) (λ f. d (omega arith))) (unlike s a b d)
+      go (no n) (yes e) =
+          rw (ne-eqb (getD s a 0 / cellSize) 3 n, eq-eqb (getD s a 0 / cellSize) (getD s b 0 / cellSize) e) (others-alike (omega arith) n e)
+      go (no n) (no d) = rw (ne-eqb (getD s a 0 / cellSize) 3 n, ne-eqb (getD s a 0 / cellSize) (getD s b 0 / cellSize) d) (unlike s a b d)
+
+pub alike-low : (x y : ℕ) → x < 4 * cellSize → atomsAlike x y ≡ true → y < 4 * cellSize
+alike-low x y l e = go (ℕ-discrete (x / cellSize) 3) e
   where
-    go : Dec (getD s a 0 / cellSize ≡ 3) → sameKind (getD s a 0) (getD s b 0) ≡ agree v w
-    go (yes t) =
-        let x = as-element s a v h t in
-        let y = as-element s b w k (sym e ∙ t) in
-        rw (eq-eqb (getD s a 0 / cellSize) 3 t, x .2, y .2, elements-agree (x .0) (x .1) (y .0) (y .1), x .3, y .3)
-    go (no n3) =
-        let x = as-scalar s a v h n4 n5 in
-        let y = as-scalar s b w k (λ f. n4 (e ∙ f)) (λ f. n5 (e ∙ f)) in
-        rw (ne-eqb (getD s a 0 / cellSize) 3 n3, x .1, y .1) (sym (scalars-agree (x .0) (y .0) (sym (x .2) ∙ e ∙ y .2) (λ f. n3 (x .2 ∙ f))))
+    go : Dec (x / cellSize ≡ 3) → atomsAlike x y ≡ true → y < 4 * cellSize
+    go (yes t) f = let g : eqb (x / 256) (y / 256) ≡ true = rw (eq-eqb (x / cellSize) 3 t) at f in omega (arith, eqb-true (x / 256) (y / 256) g)
+    go (no n) f =
+        let g : eqb (x / cellSize) (y / cellSize) ≡ true = rw (ne-eqb (x / cellSize) 3 n) at f in
+        omega (arith, eqb-true (x / cellSize) (y / cellSize) g)
+
+pub agreed-back : (s : List ℕ) (a b : ℕ) (r : Bool) → Agreed s a b r → Agreed s b a r
+unfolding agree
+agreed-back s a b r g v w h k = g w v k h ∙ meets-sym (typesOf w) (typesOf v)
+
+-- A pair or a set that is no set is a pair.
+pub other-pair : (s : List ℕ) (a : ℕ) → SomeTyped s a → PairOrSet s a → getD s a 0 / cellSize ≢ 5 → getD s a 0 / cellSize ≡ 4
+other-pair s a x l n = go (x .0) (first-cell s a (x .0) (x .1 .stands) (x .1 .fits) .0)
+  where
+    go : (v : Value) → getD s a 0 / cellSize ≡ tag v → getD s a 0 / cellSize ≡ 4
+    go (scalar (num whole i)) e = absurd (omega arith)
+    go (scalar (truth b)) e = absurd (omega arith)
+    go (scalar (element g k)) e = absurd (omega arith)
+    go (pair v w) e = e
+    go (set vs) e = absurd (n e)
 
 -- The cells of a value without an empty set's.
 pub full-typed : (s : List ℕ) (at end : ℕ) → EndsAt s at end → NoEmpty s at end → (v : Value) → TypedAt s at v → Full v
 full-typed s at end e f v h = full-value v s at (h .stands) (rw (end-is e h) at f)
+
+pub scalar-full : (s : List ℕ) (at : ℕ) → getD s at 0 < 4 * cellSize → (v : Value) → TypedAt s at v → Full v
+scalar-full s at l (scalar x) h = tt
+scalar-full s at l (pair x y) h = absurd (omega (arith, first-cell s at (pair x y) (h .stands) (h .fits) .0))
+scalar-full s at l (set vs) h = absurd (omega (arith, first-cell s at (set vs) (h .stands) (h .fits) .0))
 
 -- The members that stand for all.
 pub few-members : (s : List ℕ) (a n r : ℕ) → getD s a 0 % cellSize ≡ n → Few s (a + 1) n r → Members s a r
@@ -294,7 +354,7 @@ unfolding code
 few-members s a n r c f vs h = go f
   where
     k : RunAt s (a + 1) n vs
-    k = record { stands = members-stand s a vs (h .stands); fits = h .fits .1; typed = h .typed; counted = sym (first-cell s a (set vs) (h .stands) (h .fits) .1) ∙ c }
+    k = rw c at (typed-members s a vs h)
 
     one : (ws : Values) → RunAt s (a + 1) n ws → 0 < n → ((v : Value) → TypedAt s (a + 1) v → Full v) → StandFor s (a + 1) 1 ws
     one none p l u = absurd (omega (arith, p .counted))
@@ -310,64 +370,40 @@ few-members s a n r c f vs h = go f
             typed = with-every (typesOf v) ty;
             counted = refl;
           };
-          light = omega arith;
           same = λ q. sym (full-first v every q fu (with-every (typesOf v) ty)) ∙ full-first v (sharedTypes ws) q fu (p .typed);
         }
 
     go : Few s (a + 1) n r → StandFor s (a + 1) r vs
-    go (inl e) = record { few = vs; run = rw e k; light = omega arith; same = λ q. refl }
+    go (inl e) = record { few = vs; run = rw e k; same = λ q. refl }
     go (inr x) = rw (x .0) (one vs k (x .1) (x .2))
 
 -- Going through the first of two runs.
-pub record Turn (s : List ℕ) (a end n b m i left : ℕ) : Type 0 where
-  pub values : Values
-  pub run : RunAt s i left values
-  pub within : i + weights values ≤ end
+pub record Turn (s : List ℕ) (a n b m i left : ℕ) : Type 0 where
+  pub run : SomeRun s i left
   pub from : a ≤ i
   pub rest : (r : Bool) → AgreedAll s i left b m r → AgreedAll s a n b m r
 
-pub turn-start : {s : List ℕ} {a end n b m : ℕ} → Runs s a end n b m → Turn s a end n b m a n
-turn-start p = record { values = p .values; run = p .first; within = p .within; from = omega arith; rest = λ r g. g }
+pub turn-start : {s : List ℕ} {a n b m : ℕ} → Runs s a n b m → Turn s a n b m a n
+turn-start p = record { run = p .first; from = omega arith; rest = λ r g. g }
 
-module _ (s : List ℕ) (a end n b m i left : ℕ) (p : Turn s a end n b m i left) (l : 0 < left) where
-  pub turn-first : SomeTyped s i
-  turn-first = run-first s i left (p .values, p .run) l
+pub turn-step : (s : List ℕ) (a n b m i left e : ℕ) → Turn s a n b m i left → 0 < left → EndsAt s i e → AgreedWith s i b m true → Turn s a n b m e (left - 1)
+turn-step s a n b m i left e p l f g = record {
+  run = run-rest s i left e (p .run) l f;
+  from = omega (arith, p .from, end-bounds s i e (run-first s i left (p .run) l) f .0);
+  rest = λ r h. p .rest r (all-step s i left b m e r l g f h);
+}
 
-  pub turn-within : (e : ℕ) → EndsAt s i e → e ≤ end
-  turn-within e f =
-      let x = as-run s i left (p .values) (p .run) l in
-      let w : weights (p .values) ≡ weight (x .0) + weights (x .1) = ap weights (x .2) in
-      omega (arith, p .within, end-is f (x .3))
+-- The test of two cells, by the first one's tag.
+pub alike-elements : (x y t : ℕ) → t ≡ x / cellSize → t ≡ 3 → eqb (x / 256) (y / 256) ≡ atomsAlike x y
+alike-elements x y t e n = rw (eq-eqb (x / cellSize) 3 (sym e ∙ n))
 
-  pub turn-step : (e : ℕ) → EndsAt s i e → AgreedWith s i b m true → Turn s a end n b m e (left - 1)
-  turn-step e f g =
-      let x = as-run s i left (p .values) (p .run) l in
-      let w : weights (p .values) ≡ weight (x .0) + weights (x .1) = ap weights (x .2) in
-      let d : e ≡ i + weight (x .0) = end-is f (x .3) in
-      record {
-        values = x .1;
-        run = rw d (x .4);
-        within = omega (arith, p .within);
-        from = omega (arith, p .from);
-        rest = λ r h. p .rest r (all-step s i left b m e r l g f h);
-      }
-
--- Cells of one tag.
-pub kind-element : (x y t l m : ℕ) → t ≡ x / cellSize → t ≡ 3 → l ≡ x % cellSize → m ≡ y % cellSize → eqb (l / 256) (m / 256) ≡ sameKind x y
-kind-element x y t l m e n p q = rw (eq-eqb (x / cellSize) 3 (sym e ∙ n), p, q)
-
-pub kind-other : (x y t : ℕ) → t ≡ x / cellSize → t ≢ 3 → true ≡ sameKind x y
-kind-other x y t e n = rw (ne-eqb (x / cellSize) 3 (λ f. n (e ∙ f)))
+pub alike-others : (x y t u : ℕ) → t ≡ x / cellSize → t ≢ 3 → u ≡ y / cellSize → eqb t u ≡ atomsAlike x y
+alike-others x y t u e n f = rw (ne-eqb (x / cellSize) 3 (λ g. n (e ∙ g)), e, f)
 
 pub first-member : (s : List ℕ) (a : ℕ) → SetHere s a → 0 < getD s a 0 % cellSize → SomeTyped s (a + 1)
 first-member s a h l =
     let x = as-set s a (h .value .0) (h .value .1) (h .isSet) in
     run-first s (a + 1) (getD s a 0 % cellSize) (x .0, x .2) l
-
-pub parts-bounds : (s : List ℕ) (a end b : ℕ) → Parts s a end b → (c : ℕ) → EndsAt s a c → (a < c) × (c < end)
-parts-bounds s a end b p c e =
-    let r = p .right c e in
-    (end-bounds s a c (p .left) e .0, end-bounds s c end (r .0) (r .1) .0)
 
 pub member-inside : (s : List ℕ) (a : ℕ) → SomeTyped s a → getD s a 0 / cellSize ≡ 5 → getD s a 0 % cellSize ≢ 0 → a + 1 < length s
 member-inside s a x t n = inside s (a + 1) (first-member s a (record { value = x; isSet = t }) (omega arith))
@@ -377,3 +413,9 @@ members-run s a r h c =
     let x = as-set s a (h .value .0) (h .value .1) (h .isSet) in
     let y = c (x .0) (rw (x .1) at (h .value .1)) in
     (y .few, y .run)
+
+pub set-runs : (s : List ℕ) (a b n m : ℕ) → SetHere s a → SetHere s b → Members s a n → Members s b m → Runs s (a + 1) n (b + 1) m
+set-runs s a b n m h k c d = record { first = members-run s a n h c; second = members-run s b m k d }
+
+pub set-one : (s : List ℕ) (a b n m : ℕ) → SetHere s a → SetHere s b → Members s a n → Members s b m → 0 < n → OneAndRun s (a + 1) (b + 1) m
+set-one s a b n m h k c d l = record { first = run-first s (a + 1) n (members-run s a n h c) l; second = members-run s b m k d }

@@ -225,7 +225,8 @@ with-each v (w ▸ ws) l m =
       (λ h. subst T (sym e) (and-of (meets (typesOf v) (typesOf w)) (meets (typesOf v) (sharedTypes ws)) (h .0) (r .1 (h .1)))),
     )
 
-each-with-each : (vs ws : Values) → T (inhabited (sharedTypes vs)) → T (inhabited (sharedTypes ws)) → T (meets (sharedTypes vs) (sharedTypes ws)) ↔ EachWithEach vs ws
+each-with-each : (vs ws : Values) → T (inhabited (sharedTypes vs)) → T (inhabited (sharedTypes ws)) →
+    T (meets (sharedTypes vs) (sharedTypes ws)) ↔ EachWithEach vs ws
 each-with-each none ws l m = ((λ h. tt), (λ h. subst T (meets-sym (sharedTypes ws) every) (meets-every (sharedTypes ws) m)))
 each-with-each (v ▸ vs) ws l m =
     let e = meets-first (typesOf v) (sharedTypes vs) (sharedTypes ws) l in

@@ -183,7 +183,8 @@ module _ (s : List ℕ) (a b : ℕ) where
   belongs-fits m r p c g v w h k =
       let x = as-set s b w k (p .isSet) in
       let y = c (x .0) (rw (x .1) at k) in
-      let z : meets (typesOf v) (sharedTypes (y .few)) ≡ meets (typesOf v) (sharedTypes (x .0)) = meets-sym (typesOf v) (sharedTypes (y .few)) ∙ y .same (typesOf v) ∙ meets-sym (sharedTypes (x .0)) (typesOf v) in
+      let z : meets (typesOf v) (sharedTypes (y .few)) ≡ meets (typesOf v) (sharedTypes (x .0)) =
+      meets-sym (typesOf v) (sharedTypes (y .few)) ∙ y .same (typesOf v) ∙ meets-sym (sharedTypes (x .0)) (typesOf v) in
       let i : inner w ≡ sharedTypes (x .0) = ap inner (x .1) in
       g v (y .few) h (y .run) ∙ z ∙ ap (meets (typesOf v)) (sym i) ∙ sym (fits-belongs v w)
 
@@ -195,7 +196,8 @@ module _ (s : List ℕ) (a b : ℕ) where
   pub alike-sets-fit : (r : Bool) → SetHere s a → Agreed s a b r → FitTwo (P̂ t̂ ∷ P̂ t̂ ∷ []) s a b r
   alike-sets-fit r p g v w h k =
       let x = as-set s a v h (p .isSet) in
-      g v w h k ∙ ap (λ (y : Value). agree y w) (x .1) ∙ inner-agree (x .0) w ∙ ap (λ (y : Value). meets (inner y) (inner w)) (sym (x .1)) ∙ sym (fits-alike-sets v w)
+      g v w h k ∙ ap (λ (y : Value). agree y w) (x .1) ∙ inner-agree (x .0) w ∙
+      ap (λ (y : Value). meets (inner y) (inner w)) (sym (x .1)) ∙ sym (fits-alike-sets v w)
 
   pub sets-not : (r : Bool) → FitOne (P̂ t̂ ∷ []) s a r → r ≡ false → FitTwo (P̂ t̂ ∷ P̂ û ∷ []) s a b false
   sets-not r f e v w h k = sym (fits-sets v w ∙ rw (sym (set-inner s a r f v h) ∙ e))
@@ -265,7 +267,8 @@ module _ (s : List ℕ) (a : ℕ) where
 
 -- The first of some pairs, and the rest.
 pub as-pairs : (s : List ℕ) (i n : ℕ) (vs : Values) → RunAt s i n vs → T (meets (sharedTypes vs) anyPair) → 0 < n →
-    (y : Value) × (z : Value) × (ys : Values) × (vs ≡ pair y z ▸ ys) × TypedAt s i (pair y z) × TypedAt s (i + 1) y × RunAt s (i + weight (pair y z)) (n - 1) ys × T (meets (sharedTypes ys) anyPair)
+    (y : Value) × (z : Value) × (ys : Values) × (vs ≡ pair y z ▸ ys) × TypedAt s i (pair y z) ×
+    TypedAt s (i + 1) y × RunAt s (i + weight (pair y z)) (n - 1) ys × T (meets (sharedTypes ys) anyPair)
 as-pairs s i n vs h k l =
     let x = as-run s i n vs h l in
     let m : T (meets (typesOf (x .0) ⊓ sharedTypes (x .1)) anyPair) = rw (x .2) at k in
@@ -365,7 +368,8 @@ few-lefts s at n k vs h p (inr f) =
         counted = refl;
       });
       pairs = sym-pair y z l;
-      same = λ w. sym (full-left y z w every u l) ∙ full-left y z w (sharedTypes (x .2)) u (rw (x .3) at (h .typed)) ∙ ap (λ (c : Values). meets (sharedTypes c) (typesOf w ×ˢ every)) (sym (x .3));
+      same = λ w. sym (full-left y z w every u l) ∙ full-left y z w (sharedTypes (x .2)) u (rw (x .3) at (h .typed)) ∙
+          ap (λ (c : Values). meets (sharedTypes c) (typesOf w ×ˢ every)) (sym (x .3));
     }
   where
     sym-pair : (y z : Value) → T (inhabited (typesOf (pair y z) ⊓ every)) → T (meets (sharedTypes (pair y z ▸ none)) anyPair)
@@ -387,7 +391,8 @@ module _ (s : List ℕ) (a : ℕ) (q : Bool) (f : FitOne (P̂ (t̂ ×̂ û) ∷ 
         let x = meets→share (inner v) anyPair (subst T (sym (sym (f v h ∙ fits-relation v) ∙ yes)) tt) in
         eqb-true (getD s a 0 / cellSize) 5 (set-cell s a v h ∙ is-true (inhabited (inner v)) (some→inhabited (inner v) (x .0) (x .1)))
 
-    pub relation-pairs : (v : Value) → TypedAt s a v → (vs : Values) × (v ≡ set vs) × RunAt s (a + 1) (getD s a 0 % cellSize) vs × T (meets (sharedTypes vs) anyPair)
+    pub relation-pairs : (v : Value) → TypedAt s a v →
+        (vs : Values) × (v ≡ set vs) × RunAt s (a + 1) (getD s a 0 % cellSize) vs × T (meets (sharedTypes vs) anyPair)
     relation-pairs v h =
         let x = as-set s a v h (relation-set v h) in
         let e : inner v ≡ sharedTypes (x .0) = ap inner (x .1) in
@@ -405,7 +410,8 @@ module _ (s : List ℕ) (a : ℕ) (q : Bool) (f : FitOne (P̂ (t̂ ×̂ û) ∷ 
         let y = few-lefts s (a + 1) n k (x .0) (rw e (x .2)) (x .3) g in
         record { values = y .few; run = y .run; pairs = y .pairs; second = p .second }
 
-    pub applies-fit : (b n k : ℕ) (r : Bool) → n ≡ getD s a 0 % cellSize → Few s (a + 1 + 1) n k → AgreedLefts s (a + 1) k b r → FitTwo (P̂ (t̂ ×̂ û) ∷ t̂ ∷ []) s a b r
+    pub applies-fit : (b n k : ℕ) (r : Bool) → n ≡ getD s a 0 % cellSize → Few s (a + 1 + 1) n k → AgreedLefts s (a + 1) k b r →
+        FitTwo (P̂ (t̂ ×̂ û) ∷ t̂ ∷ []) s a b r
     applies-fit b n k r e g t v w h j =
         let x = relation-pairs v h in
         let y = few-lefts s (a + 1) n k (x .0) (rw e (x .2)) (x .3) g in

@@ -9,14 +9,13 @@ use lib.Dec.{eqb}
 use lib.ListN.{length, getD, replicate, length-append}
 use borrow.Author.Tests.{eq-eqb, ne-eqb, eqb-true}
 use Rattle.rules.specs.Types.{whole, Atom, number, bool, given, Ty, atom, POW, _⊗_, atomCode, weightᵀ, prefix, row}
-use Rattle.rules.specs.Values.{Scalar, num, truth, element, Value, scalar, pair, set, Values, none, _▸_, scalarTag, count, weight, weights}
+use Rattle.rules.specs.Values.{Scalar, num, truth, element, Value, scalar, pair, set, Values, none, _▸_, scalarTag, count, weight}
 use Rattle.rules.specs.Fits.{atomOf, HasType, HaveType}
 use Rattle.rules.proofs.TypeLaws.{weight-positive, prefix-length, prefixes}
 use Rattle.arena.specs.Code.{cellSize, scalarLow, Stands, ValueAt, ValuesAt, ScalarFits, CellsFit, AllFit, SomeAt, EndsAt}
-use Rattle.arena.proofs.CodeLaws.{length-code}
 use Rattle.arena.proofs.Standing.{stands-head, stands-tail, stands-front, stands-back}
-use Rattle.fitting.specs.Types.{TypeAt, SomeType, TypeEnds, typeParts, Decides, atomIs, OfType, AllOfType, PartsOfType, ValueAndType, ValuesAndType, PartsAndTypes}
-use Rattle.arena.proofs.ValueParts.{ends-at, first-cell, left-stands, right-stands}
+use Rattle.fitting.specs.Types.{TypeAt, SomeType, TypeEnds, typeParts, Decides, atomIs, OfType, AllOfType, PartsOfType, ValuesAndType, PartsAndTypes}
+use Rattle.arena.proofs.ValueParts.{first-cell, left-stands, right-stands}
 use Rattle.fitting.proofs.Cells.{set-only, pair-only, members-stand, first-stands, rest-stand}
 use Rattle.laws.proofs.CellsLaws.{weight-some}
 
@@ -113,7 +112,8 @@ module _ (row : List ℕ) (i e : ℕ) where
       record {
         types = u ∷ w ∷ ts;
         counted = rw (hd, parts-product 4 (λ x. omega arith) refl) (omega arith);
-        codes = subst (λ (l : List ℕ). Stands row (i + 1) l) (append-assoc (prefix u) (prefix w) (prefixes ts)) (stands-tail row i 4 ((prefix u ++ prefix w) ++ prefixes ts) h);
+        codes = subst (λ (l : List ℕ). Stands row (i + 1) l) (append-assoc (prefix u) (prefix w) (prefixes ts))
+            (stands-tail row i 4 ((prefix u ++ prefix w) ++ prefixes ts) h);
         ends = omega arith;
       }
 
@@ -182,7 +182,8 @@ head-given (t ⊗ u) g e = absurd (omega arith)
 by-code : (m n : ℕ) (t u : Ty) → (n ≡ m → t ≡ u) → (t ≡ u → m ≡ n) → Decides (eqb m n) (t ≡ u)
 by-code m n t u f g = record { sound = λ e. f (sym (eqb-true m n e)); complete = λ e. eq-eqb m n (g e) }
 
-scalar-decides : (x : Scalar) (t : Ty) (c : ℕ) → ScalarFits x → c / cellSize ≡ scalarTag x → c % cellSize ≡ scalarLow x → Decides (atomIs c (head t)) (t ≡ atom (atomOf x))
+scalar-decides : (x : Scalar) (t : Ty) (c : ℕ) → ScalarFits x → c / cellSize ≡ scalarTag x → c % cellSize ≡ scalarLow x →
+    Decides (atomIs c (head t)) (t ≡ atom (atomOf x))
 scalar-decides (num whole i) t c f e l =
     rw (ne-eqb (c / cellSize) 3 (λ z. omega arith), e) (by-code 1 (head t) t (atom (number whole)) (head-number t) (λ z. sym (ap head z)))
 scalar-decides (truth b) t c f e l =
@@ -233,7 +234,8 @@ module _ (s : List ℕ) (at : ℕ) (row : List ℕ) (from : ℕ) where
       let x = pair-only s at v h f tag in
       refuses (HasType v t) (λ y. n (first-code row from t k ∙ pair-head (x .0) (x .1) t (rw (x .2) at y)))
 
-  pub set-type : (n : ℕ) (r : Bool) → getD s at 0 / cellSize ≡ 5 → getD row from 0 ≡ 3 → n ≡ getD s at 0 % cellSize → AllOfType s (at + 1) n row (from + 1) r → OfType s at row from r
+  pub set-type : (n : ℕ) (r : Bool) → getD s at 0 / cellSize ≡ 5 → getD row from 0 ≡ 3 → n ≡ getD s at 0 % cellSize →
+      AllOfType s (at + 1) n row (from + 1) r → OfType s at row from r
   set-type n r tag c m g v t h f k =
       let x = set-only s at v h f tag in
       let y = is-pow row from t k c in
@@ -250,39 +252,32 @@ module _ (s : List ℕ) (at : ℕ) (row : List ℕ) (from : ℕ) where
       rw (x .2, y .2) (g (x .0) (x .1) (y .0) (y .1) (left-stands s at (x .0) (x .1) h′) (right-stands s at (x .0) (x .1) h′) (f′ .0) (f′ .1) (y .3) (y .4))
 
   -- what the tests of the members and of the parts ask
-  pub set-asks : (end n : ℕ) → ValueAndType s at end row from → getD s at 0 / cellSize ≡ 5 → getD row from 0 ≡ 3 → n ≡ getD s at 0 % cellSize → ValuesAndType s (at + 1) end n row (from + 1)
-  set-asks end n p tag c m =
-      let v = p .value in
+  pub set-asks : (n : ℕ) → SomeAt s at → SomeType row from → getD s at 0 / cellSize ≡ 5 → getD row from 0 ≡ 3 → n ≡ getD s at 0 % cellSize →
+      ValuesAndType s (at + 1) n row (from + 1)
+  set-asks n v t tag c m =
       let x = set-only s at (v .value) (v .stands) (v .fits) tag in
-      let y = is-pow row from (p .type .0) (p .type .1) c in
+      let y = is-pow row from (t .0) (t .1) c in
       let h : ValueAt s at (set (x .0)) = rw (x .1) at (v .stands) in
       let f : CellsFit (set (x .0)) = rw (x .1) at (v .fits) in
-      let w : weight (v .value) ≡ 1 + weights (x .0) = ap weight (x .1) in
       record {
         values = x .0;
         stands = members-stand s at (x .0) h;
         fits = f .1;
         counted = sym (m ∙ first-cell s at (set (x .0)) h f .1);
-        within = omega (arith, p .ends (v .value) (v .stands) (v .fits));
         type = (y .0, y .2);
       }
 
-  pub pair-asks : (end : ℕ) → ValueAndType s at end row from → getD s at 0 / cellSize ≡ 4 → getD row from 0 ≡ 4 → PartsAndTypes s (at + 1) end row (from + 1)
-  pair-asks end p tag c =
-      let v = p .value in
+  pub pair-asks : SomeAt s at → SomeType row from → getD s at 0 / cellSize ≡ 4 → getD row from 0 ≡ 4 → PartsAndTypes s (at + 1) row (from + 1)
+  pair-asks v t tag c =
       let x = pair-only s at (v .value) (v .stands) (v .fits) tag in
-      let y = is-product row from (p .type .0) (p .type .1) c in
+      let y = is-product row from (t .0) (t .1) c in
       let h : ValueAt s at (pair (x .0) (x .1)) = rw (x .2) at (v .stands) in
       let f : CellsFit (pair (x .0) (x .1)) = rw (x .2) at (v .fits) in
-      let w : weight (v .value) ≡ 1 + (weight (x .0) + weight (x .1)) = ap weight (x .2) in
       let l = left-stands s at (x .0) (x .1) h in
-      let r = right-stands s at (x .0) (x .1) h in
       record {
         left = record { value = x .0; stands = l; fits = f .0 };
         right = λ d e. let q : d ≡ at + 1 + weight (x .0) = e (x .0) l (f .0) in
-            let k : ValueAt s d (x .1) = rw q r in
-            let m : end ≡ d + weight (x .1) = omega (arith, p .ends (v .value) (v .stands) (v .fits)) in
-            (record { value = x .1; stands = k; fits = f .1 }, rw m (ends-at s d (x .1) k (f .1)));
+            record { value = x .1; stands = rw q (right-stands s at (x .0) (x .1) h); fits = f .1 };
         type = (y .0, y .3);
         next = λ d e. let q : d ≡ from + 1 + weightᵀ (y .0) = e (y .0) (y .3) in (y .1, rw q (y .4));
       }
@@ -291,25 +286,15 @@ module _ (s : List ℕ) (at : ℕ) (row : List ℕ) (from : ℕ) where
   pub parts-no : (q : Bool) → OfType s at row from q → q ≡ false → PartsOfType s at row from false
   parts-no q g e v w t u h k f i a b = both-no (HasType v t) (HasType w u) q (g v t h f a) e
 
-  pub parts-yes : (c e : ℕ) (q r : Bool) → EndsAt s at c → TypeEnds row from e → OfType s at row from q → q ≡ true → OfType s c row e r → PartsOfType s at row from r
+  pub parts-yes : (c e : ℕ) (q r : Bool) → EndsAt s at c → TypeEnds row from e → OfType s at row from q → q ≡ true → OfType s c row e r →
+      PartsOfType s at row from r
   parts-yes c e q r p n g y z v w t u h k f i a b =
       let d : c ≡ at + weight v = p v h f in
       let m : e ≡ from + weightᵀ t = n t a in
       both-yes (HasType v t) (HasType w u) q r (g v t h f a) y (z w u (rw d k) i (rw m b))
 
-pub parts-between : (s : List ℕ) (at end : ℕ) (row : List ℕ) (from : ℕ) → PartsAndTypes s at end row from → (c : ℕ) → EndsAt s at c → (at < c) × (c < end)
-parts-between s at end row from p c e =
-    let x = p .left in
-    let r = p .right c e in (
-      omega (arith, e (x .value) (x .stands) (x .fits), weight-some (x .value)),
-      omega (arith, r .1 (r .0 .value) (r .0 .stands) (r .0 .fits), weight-some (r .0 .value)),
-    )
-
-pub value-between : (s : List ℕ) (at end : ℕ) → SomeAt s at → EndsAt s at end → (at < end) × (end ≤ length s)
-value-between s at end x e = (
-  omega (arith, e (x .value) (x .stands) (x .fits), weight-some (x .value)),
-  omega (arith, e (x .value) (x .stands) (x .fits), x .stands .inside, length-code (x .value)),
-)
+pub ends-behind : (s : List ℕ) (at end : ℕ) → SomeAt s at → EndsAt s at end → at < end
+ends-behind s at end x e = omega (arith, e (x .value) (x .stands) (x .fits), weight-some (x .value))
 
 -- The members of a set, one after the other.
 values-only : (n : ℕ) (vs : Values) → count vs ≡ n → 0 < n → (x : Value) × (ys : Values) × (vs ≡ x ▸ ys) × (count ys ≡ n - 1)
@@ -325,48 +310,43 @@ module _ (s : List ℕ) (i left : ℕ) (row : List ℕ) (from : ℕ) where
   all-of-no q l g e none t h f c k = absurd (omega arith)
   all-of-no q l g e (x ▸ ys) t h f c k = both-no (HasType x t) (HaveType ys t) q (g x t (first-stands s i x ys h) (f .0) k) e
 
-  pub all-of-step : (j : ℕ) (q r : Bool) → 0 < left → OfType s i row from q → q ≡ true → EndsAt s i j → AllOfType s j (left - 1) row from r → AllOfType s i left row from r
+  pub all-of-step : (j : ℕ) (q r : Bool) → 0 < left → OfType s i row from q → q ≡ true → EndsAt s i j → AllOfType s j (left - 1) row from r →
+      AllOfType s i left row from r
   all-of-step j q r l g y e z none t h f c k = absurd (omega arith)
   all-of-step j q r l g y e z (x ▸ ys) t h f c k =
       let a = first-stands s i x ys h in
       let d : j ≡ i + weight x = e x a (f .0) in
       both-yes (HasType x t) (HaveType ys t) q r (g x t a (f .0) k) y (z ys t (rw d (rest-stand s i x ys h)) (f .1) (omega arith) k)
 
-  module _ (end : ℕ) (p : ValuesAndType s i end left row from) (l : 0 < left) where
+  module _ (p : ValuesAndType s i left row from) (l : 0 < left) where
     pub values-first : SomeAt s i
     values-first =
         let x = values-only left (p .values) (p .counted) l in
         let f : AllFit (x .0 ▸ x .1) = rw (x .2) at (p .fits) in
         record { value = x .0; stands = first-stands s i (x .0) (x .1) (rw (x .2) at (p .stands)); fits = f .0 }
 
-    pub values-rest : (j : ℕ) → EndsAt s i j → (j ≤ end) × ValuesAndType s j end (left - 1) row from
+    pub values-rest : (j : ℕ) → EndsAt s i j → ValuesAndType s j (left - 1) row from
     values-rest j e =
         let x = values-only left (p .values) (p .counted) l in
         let h : ValuesAt s i (x .0 ▸ x .1) = rw (x .2) at (p .stands) in
         let f : AllFit (x .0 ▸ x .1) = rw (x .2) at (p .fits) in
-        let w : weights (p .values) ≡ weight (x .0) + weights (x .1) = ap weights (x .2) in
-        let d : j ≡ i + weight (x .0) = e (x .0) (first-stands s i (x .0) (x .1) h) (f .0) in (
-          omega (arith, p .within),
-          record { values = x .1; stands = rw d (rest-stand s i (x .0) (x .1) h); fits = f .1; counted = x .3; within = omega (arith, p .within); type = p .type },
-        )
+        let d : j ≡ i + weight (x .0) = e (x .0) (first-stands s i (x .0) (x .1) h) (f .0) in
+        record { values = x .1; stands = rw d (rest-stand s i (x .0) (x .1) h); fits = f .1; counted = x .3; type = p .type }
 
 -- Going through them.
-pub record Through (s : List ℕ) (at end n : ℕ) (row : List ℕ) (from i left : ℕ) : Type 0 where
-  pub rest : ValuesAndType s i end left row from
+pub record Through (s : List ℕ) (at n : ℕ) (row : List ℕ) (from i left : ℕ) : Type 0 where
+  pub rest : ValuesAndType s i left row from
   pub from-at : at ≤ i
   pub whole-of : (r : Bool) → AllOfType s i left row from r → AllOfType s at n row from r
 
-module _ (s : List ℕ) (at end n : ℕ) (row : List ℕ) (from i left : ℕ) (p : Through s at end n row from i left) (l : 0 < left) where
+module _ (s : List ℕ) (at n : ℕ) (row : List ℕ) (from i left : ℕ) (p : Through s at n row from i left) (l : 0 < left) where
   pub through-first : SomeAt s i
-  through-first = values-first s i left row from end (p .rest) l
+  through-first = values-first s i left row from (p .rest) l
 
-  pub through-within : (j : ℕ) → EndsAt s i j → j ≤ end
-  through-within j e = values-rest s i left row from end (p .rest) l j e .0
-
-  pub through-step : (j : ℕ) (q : Bool) → EndsAt s i j → OfType s i row from q → q ≡ true → Through s at end n row from j (left - 1)
+  pub through-step : (j : ℕ) (q : Bool) → EndsAt s i j → OfType s i row from q → q ≡ true → Through s at n row from j (left - 1)
   through-step j q e g y = record {
-    rest = values-rest s i left row from end (p .rest) l j e .1;
-    from-at = omega (arith, p .from-at, value-between s i j through-first e .0);
+    rest = values-rest s i left row from (p .rest) l j e;
+    from-at = omega (arith, p .from-at, ends-behind s i j through-first e);
     whole-of = λ r z. p .whole-of r (all-of-step s i left row from j q r l g y e z);
   }
 

@@ -1,13 +1,13 @@
 -- Values of the arena that share a type. Every value that is formed or read has a type, so the contracts speak of values
 -- that have one.
-use Prim.Native.Nat.{ℕ, _+_, _/_, _%_, _≤_, _<_}
-use mathlib.Core.Bool.{Bool, true, _&&_, cond}
+use Prim.Native.Nat.{ℕ, _+_, _/_, _≤_, _<_}
+use mathlib.Core.Bool.{Bool, _&&_, cond}
 use mathlib.Core.List.{List}
 use mathlib.Core.Logic.{_≢_, _⊎_}
 use mathlib.Core.Path.{_≡_}
 use lib.Dec.{T, eqb}
 use lib.ListN.{getD}
-use Rattle.rules.specs.Values.{Value, scalar, pair, set, Values, none, _▸_, count, weight, weights}
+use Rattle.rules.specs.Values.{Value, scalar, pair, set, Values, none, _▸_, count, weight}
 use Rattle.rules.specs.Fits.{TypeSet, _⊓_, typesOf, sharedTypes, inhabited, typed}
 use Rattle.arena.specs.Code.{ValueAt, ValuesAt, CellsFit, AllFit, EndsAt}
 
@@ -62,7 +62,6 @@ pub record NoEmpty (s : List ℕ) (at end : ℕ) : Type 0 where
 pub record StandFor (s : List ℕ) (at r : ℕ) (vs : Values) : Type 0 where
   pub few : Values
   pub run : RunAt s at r few
-  pub light : weights few ≤ weights vs
   pub same : (q : TypeSet) → meets (sharedTypes few) q ≡ meets (sharedTypes vs) q
 
 -- So r of the members of the set at `a`.
@@ -88,38 +87,33 @@ abbrev mutual
 abbrev pub Few : List ℕ → ℕ → ℕ → ℕ → Type 0
 Few s at n r = (r ≡ n) ⊎ ((r ≡ 1) × (0 < n) × ((v : Value) → TypedAt s at v → Full v))
 
--- The types of two cells of one tag, neither a pair's nor a set's, are the same: elements are of one given set.
-abbrev pub sameKind : ℕ → ℕ → Bool
-sameKind x y = cond (eqb (x / 4294967296) 3) (eqb (x % 4294967296 / 256) (y % 4294967296 / 256)) true
+-- Two cells, the first that of a scalar, are of one type: they have one tag, and elements are of one given set.
+abbrev pub atomsAlike : ℕ → ℕ → Bool
+atomsAlike x y = cond (eqb (x / 4294967296) 3) (eqb (x / 256) (y / 256)) (eqb (x / 4294967296) (y / 4294967296))
+
+-- The value at a is a pair or a set.
+abbrev pub PairOrSet : List ℕ → ℕ → Type 0
+PairOrSet s a = 17179869184 ≤ getD s a 0
 
 -- What the tests of one set ask.
 pub record SetHere (s : List ℕ) (a : ℕ) : Type 0 where
   pub value : SomeTyped s a
   pub isSet : getD s a 0 / 4294967296 ≡ 5
 
--- What the tests of two values ask: the first ends at `end`.
-pub record Two (s : List ℕ) (a end b : ℕ) : Type 0 where
-  pub first : SomeTyped s a
-  pub ends : EndsAt s a end
-  pub second : SomeTyped s b
-
 -- A value and m values.
-pub record OneAndRun (s : List ℕ) (a end b m : ℕ) : Type 0 where
+pub record OneAndRun (s : List ℕ) (a b m : ℕ) : Type 0 where
   pub first : SomeTyped s a
-  pub ends : EndsAt s a end
   pub second : SomeRun s b m
 
--- n values that end by `end`, and m values.
-pub record Runs (s : List ℕ) (a end n b m : ℕ) : Type 0 where
-  pub values : Values
-  pub first : RunAt s a n values
-  pub within : a + weights values ≤ end
+-- n values and m values.
+pub record Runs (s : List ℕ) (a n b m : ℕ) : Type 0 where
+  pub first : SomeRun s a n
   pub second : SomeRun s b m
 
--- The parts of two pairs, the first of which ends at `end`.
-pub record Parts (s : List ℕ) (a end b : ℕ) : Type 0 where
+-- The parts of two pairs: the right part of each begins where the left one ends.
+pub record Parts (s : List ℕ) (a b : ℕ) : Type 0 where
   pub left : SomeTyped s a
-  pub right : (c : ℕ) → EndsAt s a c → SomeTyped s c × EndsAt s c end
+  pub right : (c : ℕ) → EndsAt s a c → SomeTyped s c
   pub otherLeft : SomeTyped s b
   pub otherRight : (d : ℕ) → EndsAt s b d → SomeTyped s d
 

@@ -1,11 +1,11 @@
 -- A value of the arena against a type in prefix codes.
-use Prim.Native.Nat.{ℕ, _+_, _/_, _%_, _≤_}
+use Prim.Native.Nat.{ℕ, _+_, _/_, _%_}
 use mathlib.Core.Bool.{Bool, true, cond}
 use mathlib.Core.List.{List}
 use mathlib.Core.Path.{_≡_}
 use lib.Dec.{eqb}
 use Rattle.rules.specs.Types.{Ty, weightᵀ, prefix}
-use Rattle.rules.specs.Values.{Value, Values, count, weight, weights}
+use Rattle.rules.specs.Values.{Value, Values, count, weight}
 use Rattle.rules.specs.Fits.{HasType, HaveType}
 use Rattle.arena.specs.Code.{Stands, ValueAt, ValuesAt, CellsFit, AllFit, SomeAt, EndsAt}
 
@@ -49,24 +49,17 @@ PartsOfType s at row from r =
     (v w : Value) (t u : Ty) → ValueAt s at v → ValueAt s (at + weight v) w → CellsFit v → CellsFit w →
     TypeAt row from t → TypeAt row (from + weightᵀ t) u → Decides r (HasType v t × HasType w u)
 
--- A value that ends at `end`, and a type.
-pub record ValueAndType (s : List ℕ) (at end : ℕ) (row : List ℕ) (from : ℕ) : Type 0 where
-  pub value : SomeAt s at
-  pub ends : EndsAt s at end
-  pub type : SomeType row from
-
--- n values that end by `end`, and a type.
-pub record ValuesAndType (s : List ℕ) (at end n : ℕ) (row : List ℕ) (from : ℕ) : Type 0 where
+-- n values and a type.
+pub record ValuesAndType (s : List ℕ) (at n : ℕ) (row : List ℕ) (from : ℕ) : Type 0 where
   pub values : Values
   pub stands : ValuesAt s at values
   pub fits : AllFit values
   pub counted : count values ≡ n
-  pub within : at + weights values ≤ end
   pub type : SomeType row from
 
--- Two values, the second of which ends at `end`, and two types.
-pub record PartsAndTypes (s : List ℕ) (at end : ℕ) (row : List ℕ) (from : ℕ) : Type 0 where
+-- Two values, the second where the first ends, and two types.
+pub record PartsAndTypes (s : List ℕ) (at : ℕ) (row : List ℕ) (from : ℕ) : Type 0 where
   pub left : SomeAt s at
-  pub right : (c : ℕ) → EndsAt s at c → SomeAt s c × EndsAt s c end
+  pub right : (c : ℕ) → EndsAt s at c → SomeAt s c
   pub type : SomeType row from
   pub next : (e : ℕ) → TypeEnds row from e → SomeType row e

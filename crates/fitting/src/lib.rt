@@ -1,14 +1,17 @@
 // Refusal 15 as tests on values of the arena, and values against types.
 ghost use mathlib.Core.List.{[], _∷_};
 ghost use mathlib.Core.Path.{_≡_};
-ghost use Prim.Native.Nat.{ℕ, _+_, _≤_, _<_};
+ghost use Prim.Native.Nat.{_+_, _≤_, _<_};
 ghost use lib.ListN.{length};
 ghost use Rattle.rules.specs.Types.{whole};
 ghost use Rattle.rules.specs.Rules.{t̂, û, P̂, _×̂_, numᵖ};
 ghost use Rattle.arena.specs.Code.{SomeAt};
-ghost use Rattle.fitting.specs.Types.{Decides, typeParts, SomeType, TypeEnds, atomIs, ValueAndType, ValuesAndType, PartsAndTypes, OfType, AllOfType, PartsOfType};
+ghost use Rattle.fitting.specs.Types.{Decides, typeParts, SomeType, TypeEnds, atomIs, ValuesAndType, PartsAndTypes, OfType, AllOfType, PartsOfType};
 ghost use Rattle.fitting.specs.Tests.{FitOne, FitTwo, Both, Pairs, AgreedLefts};
-ghost use Rattle.fitting.specs.Agree.{NoEmpty, SomeTyped, SomeRun, SetHere, Few, Members, sameKind, Two, Parts, AgreedParts, OneAndRun, Runs, Agreed, AgreedWith, AgreedAll};
+ghost use Rattle.fitting.specs.Agree.{NoEmpty, SomeTyped, SetHere, Few, Members, atomsAlike, PairOrSet, Parts, AgreedParts, OneAndRun, Runs, Agreed, AgreedWith, AgreedAll};
+
+// The cell of a pair. The cells of scalars are less, those of sets greater.
+pub const PAIR: u64 = 4 * 4294967296;
 
 // Whether no cell from `at` to `end` is that of an empty set.
 pub fn full(s: &[u64], at: usize, end: usize) -> bool
@@ -33,6 +36,9 @@ fn few(s: &[u64], at: usize, n: usize) -> usize
     if n == 0 {
         return n;
     }
+    if s[at] < PAIR {
+        return 1;
+    }
     let end = arena::end_of(s, at);
     if full(s, at, end) {
         return 1;
@@ -49,84 +55,15 @@ fn members(s: &[u64], a: usize) -> usize
     few(s, a + 1, n as usize)
 }
 
-// Whether two cells of one tag, not a pair's or a set's, are of one type.
-fn same_kind(x: u64, y: u64) -> bool
-    ensures { λ r. ⌜ r ≡ sameKind x y ⌝ }
+// Whether two cells, the first that of a scalar, are of one type: they have one tag, and elements are of one given set.
+fn atoms_alike(x: u64, y: u64) -> bool
+    ensures { λ r. ⌜ r ≡ atomsAlike x y ⌝ }
 {
-    if arena::tag(x) == 3 {
-        return arena::low(x) / 256 == arena::low(y) / 256;
-    }
-    true
-}
-
-// Whether the value at a, which ends at `end`, shares a type with the value at b.
-fn meet(s: &[u64], a: usize, end: usize, b: usize) -> bool
-    requires { ⌜ Two (now s) a end b ⌝ }
-    ensures { λ r. ⌜ Agreed (now (s .entry)) a b r ⌝ }
-{
-    let x = s[a];
-    let y = s[b];
     let t = arena::tag(x);
-    if t != arena::tag(y) {
-        return false;
+    if t == 3 {
+        return x / 256 == y / 256;
     }
-    if t == 5 {
-        let n = members(s, a);
-        let m = members(s, b);
-        return each(s, a + 1, end, n, b + 1, m);
-    }
-    if t == 4 {
-        return parts(s, a + 1, end, b + 1);
-    }
-    same_kind(x, y)
-}
-
-// Whether the parts at a of a pair, which ends at `end`, share types with the parts at b of another.
-fn parts(s: &[u64], a: usize, end: usize, b: usize) -> bool
-    requires { ⌜ Parts (now s) a end b ⌝ }
-    ensures { λ r. ⌜ AgreedParts (now (s .entry)) a b r ⌝ }
-{
-    let c = arena::end_of(s, a);
-    if !meet(s, a, c, b) {
-        return false;
-    }
-    let d = arena::end_of(s, b);
-    meet(s, c, end, d)
-}
-
-// Whether the value at a, which ends at `end`, shares a type with the m values from b on.
-fn against(s: &[u64], a: usize, end: usize, b: usize, m: usize) -> bool
-    requires { ⌜ OneAndRun (now s) a end b m ⌝ }
-    ensures { λ r. ⌜ AgreedWith (now (s .entry)) a b m r ⌝ }
-{
-    let mut j = b;
-    let mut left = m;
-    while left > 0 {
-        if !meet(s, a, end, j) {
-            return false;
-        }
-        j = arena::end_of(s, j);
-        left -= 1;
-    }
-    true
-}
-
-// Whether the n values from a on, which end by `end`, share a type with the m values from b on.
-fn each(s: &[u64], a: usize, end: usize, n: usize, b: usize, m: usize) -> bool
-    requires { ⌜ Runs (now s) a end n b m ⌝ }
-    ensures { λ r. ⌜ AgreedAll (now (s .entry)) a n b m r ⌝ }
-{
-    let mut i = a;
-    let mut left = n;
-    while left > 0 {
-        let e = arena::end_of(s, i);
-        if !against(s, i, e, b, m) {
-            return false;
-        }
-        i = e;
-        left -= 1;
-    }
-    true
+    t == arena::tag(y)
 }
 
 // Whether the values at a and b share a type.
@@ -134,8 +71,82 @@ pub fn agree(s: &[u64], a: usize, b: usize) -> bool
     requires { ⌜ Both (now s) a b ⌝ }
     ensures { λ r. ⌜ Agreed (now (s .entry)) a b r ⌝ }
 {
-    let end = arena::end_of(s, a);
-    meet(s, a, end, b)
+    let x = s[a];
+    // Scalars need no further call.
+    if x < PAIR {
+        return atoms_alike(x, s[b]);
+    }
+    meet(s, a, b)
+}
+
+// So of two values, the first a pair or a set.
+fn meet(s: &[u64], a: usize, b: usize) -> bool
+    requires { ⌜ Both (now s) a b × PairOrSet (now s) a ⌝ }
+    ensures { λ r. ⌜ Agreed (now (s .entry)) a b r ⌝ }
+{
+    let t = arena::tag(s[a]);
+    if t != arena::tag(s[b]) {
+        return false;
+    }
+    if t == 5 {
+        let n = members(s, a);
+        let m = members(s, b);
+        if n == 1 {
+            return against(s, a + 1, b + 1, m);
+        }
+        return each(s, a + 1, n, b + 1, m);
+    }
+    parts(s, a + 1, b + 1)
+}
+
+// Whether the parts of a pair, the left one at a, share types with the parts of another, the left one at b.
+fn parts(s: &[u64], a: usize, b: usize) -> bool
+    requires { ⌜ Parts (now s) a b ⌝ }
+    ensures { λ r. ⌜ AgreedParts (now (s .entry)) a b r ⌝ }
+{
+    if !agree(s, a, b) {
+        return false;
+    }
+    let c = arena::end_of(s, a);
+    let d = arena::end_of(s, b);
+    agree(s, c, d)
+}
+
+// Whether the value at a shares a type with the m values from b on.
+pub fn against(s: &[u64], a: usize, b: usize, m: usize) -> bool
+    requires { ⌜ OneAndRun (now s) a b m ⌝ }
+    ensures { λ r. ⌜ AgreedWith (now (s .entry)) a b m r ⌝ }
+{
+    let mut j = b;
+    let mut left = m;
+    while left > 0 {
+        if !agree(s, a, j) {
+            return false;
+        }
+        if left == 1 {
+            return true;
+        }
+        j = arena::end_of(s, j);
+        left -= 1;
+    }
+    true
+}
+
+// Whether the n values from a on share a type with the m values from b on.
+fn each(s: &[u64], a: usize, n: usize, b: usize, m: usize) -> bool
+    requires { ⌜ Runs (now s) a n b m ⌝ }
+    ensures { λ r. ⌜ AgreedAll (now (s .entry)) a n b m r ⌝ }
+{
+    let mut i = a;
+    let mut left = n;
+    while left > 0 {
+        if !against(s, i, b, m) {
+            return false;
+        }
+        i = arena::end_of(s, i);
+        left -= 1;
+    }
+    true
 }
 
 // The tests of refusal 15, each by the types that a rule asks of its operands: P(t).
@@ -177,9 +188,8 @@ pub fn belongs(s: &[u64], a: usize, b: usize) -> bool
     if !is_set(s, b) {
         return false;
     }
-    let end = arena::end_of(s, a);
     let m = members(s, b);
-    against(s, a, end, b + 1, m)
+    against(s, a, b + 1, m)
 }
 
 // P(t) and P(t)
@@ -285,9 +295,9 @@ fn atom_is(x: u64, c: u8) -> bool
     t == c as u64
 }
 
-// Whether the value at `at`, which ends at `end`, has the type at `from`.
-fn of_type(s: &[u64], at: usize, end: usize, row: &[u8], from: usize) -> bool
-    requires { ⌜ ValueAndType (now s) at end (now row) from ⌝ }
+// Whether the value at `at` has the type whose prefix codes begin at `from`.
+pub fn has_type(s: &[u64], at: usize, row: &[u8], from: usize) -> bool
+    requires { ⌜ SomeAt (now s) at × SomeType (now row) from ⌝ }
     ensures { λ r. ⌜ OfType (now (s .entry)) at (now (row .entry)) from r ⌝ }
 {
     let x = s[at];
@@ -298,53 +308,43 @@ fn of_type(s: &[u64], at: usize, end: usize, row: &[u8], from: usize) -> bool
             return false;
         }
         let n = arena::low(x) as usize;
-        return all_of_type(s, at + 1, end, n, row, from + 1);
+        return all_of_type(s, at + 1, n, row, from + 1);
     }
     if t == 4 {
         if c != 4 {
             return false;
         }
-        return parts_of_type(s, at + 1, end, row, from + 1);
+        return parts_of_type(s, at + 1, row, from + 1);
     }
     atom_is(x, c)
 }
 
-// Whether the two values from `at` on, which end at `end`, have the two types from `from` on.
-fn parts_of_type(s: &[u64], at: usize, end: usize, row: &[u8], from: usize) -> bool
-    requires { ⌜ PartsAndTypes (now s) at end (now row) from ⌝ }
+// Whether the two values from `at` on have the two types from `from` on.
+fn parts_of_type(s: &[u64], at: usize, row: &[u8], from: usize) -> bool
+    requires { ⌜ PartsAndTypes (now s) at (now row) from ⌝ }
     ensures { λ r. ⌜ PartsOfType (now (s .entry)) at (now (row .entry)) from r ⌝ }
 {
-    let c = arena::end_of(s, at);
-    if !of_type(s, at, c, row, from) {
+    if !has_type(s, at, row, from) {
         return false;
     }
+    let c = arena::end_of(s, at);
     let next = type_end(row, from);
-    of_type(s, c, end, row, next)
+    has_type(s, c, row, next)
 }
 
-// Whether the n values from `at` on, which end by `end`, have the type at `from`.
-fn all_of_type(s: &[u64], at: usize, end: usize, n: usize, row: &[u8], from: usize) -> bool
-    requires { ⌜ ValuesAndType (now s) at end n (now row) from ⌝ }
+// Whether the n values from `at` on have the type at `from`.
+fn all_of_type(s: &[u64], at: usize, n: usize, row: &[u8], from: usize) -> bool
+    requires { ⌜ ValuesAndType (now s) at n (now row) from ⌝ }
     ensures { λ r. ⌜ AllOfType (now (s .entry)) at n (now (row .entry)) from r ⌝ }
 {
     let mut i = at;
     let mut left = n;
     while left > 0 {
-        let e = arena::end_of(s, i);
-        if !of_type(s, i, e, row, from) {
+        if !has_type(s, i, row, from) {
             return false;
         }
-        i = e;
+        i = arena::end_of(s, i);
         left -= 1;
     }
     true
-}
-
-// Whether the value at `at` has the type whose prefix codes begin at `from`.
-pub fn has_type(s: &[u64], at: usize, row: &[u8], from: usize) -> bool
-    requires { ⌜ SomeAt (now s) at × SomeType (now row) from ⌝ }
-    ensures { λ r. ⌜ OfType (now (s .entry)) at (now (row .entry)) from r ⌝ }
-{
-    let end = arena::end_of(s, at);
-    of_type(s, at, end, row, from)
 }

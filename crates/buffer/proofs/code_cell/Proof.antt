@@ -1,3 +1,4 @@
+-- `code_cell`: by the tag of the cell.
 use borrow.Author.Needs.{needs}
 use Rattle.buffer.proofs.CellAt.{code-number, code-other}
 use Rattle.buffer.proofs.code_cell.Statement.{statement}

@@ -1,22 +1,73 @@
-use borrow.Author.Needs.{needs}
-use Prim.Native.Nat.{_-_, _≤_, _<_}
+-- `copy_value`: the cells read so far stand in the arena, and a value is read where the values that are left are (`Walk`).
+use Prim.Native.Nat.{_+_, _-_, _≤_, _<_}
 use mathlib.Core.Path.{subst}
 use native.Mathlib.Omega.{arith}
-use denote.Ref.{now}
+use borrow.Author.Needs.{needs}
+use lib.ListN.{length}
+use Rattle.laws.proofs.CellsLaws.{Bytes}
 use Rattle.buffer.specs.declared.Step.{Step}
-use Rattle.buffer.specs.Buffer.{StepTakes}
+use Rattle.buffer.specs.Buffer.{StepTakes, GoodCell}
 use Rattle.buffer.proofs.Walk.{Walk, bytes-all, walk-start, walk-room, walk-step, walk-none, walk-heavy, walk-end}
 use Rattle.buffer.proofs.copy_value.Statement.{statement}
 use Rattle.buffer.proofs.copy_value.Tie as tie
 
 abbrev Inv-loop : tie.InvT-loop
-Inv-loop values sizes s₀ top c₀ n₀ left₀ s c n left = (n ≤ 256) × (left < 8589934592) × Walk sizes values (c₀ .at) (c .at) left n s₀ s top
+Inv-loop values sizes s₀ top c₀ n₀ left₀ s c n left =
+    (n ≤ 256) × (left < 8589934592) × Walk sizes values (c₀ .at) (c .at) left n s₀ s top
 
 abbrev μ-loop : tie.MeasureT-loop
 μ-loop values sizes s₀ top c₀ n₀ left₀ s c n left = 256 - n
 
+-- Before the loop: what was lent, and that the buffer holds bytes.
+abbrev Begun : Type 0
+Begun = tie.After-slice-known Inv-loop μ-loop
+
+abbrev lent : Begun → tie.Start Inv-loop μ-loop
+lent b = b .before .before .before
+
+bytes : (b : Begun) → Bytes (lent b .args .values .now)
+bytes b = bytes-all (lent b .args .values .now) (λ i l. omega (arith, b .before .before .shared-slice-known .given i))
+
+-- A turn of the loop; the cell has been taken, or none is there; it is a good cell.
+abbrev Turn : Type 0
+Turn = tie.In-loop Inv-loop μ-loop
+
+abbrev begun : Turn → Begun
+begun l = l .before .before
+
+abbrev Taken : Type 0
+Taken = tie.After-take Inv-loop μ-loop
+
+abbrev turn : Taken → Turn
+turn k = k .before .before
+
+-- What the answer of `take` says, once it is known.
+abbrev Takes : Taken → Step → Type 0
+Takes k q =
+    let a = lent (begun (turn k)) .args in StepTakes (a .sizes .now) (a .values .now) (turn k .before .loop .c .at) q
+
+abbrev Good : Type 0
+Good = tie.After-x Inv-loop μ-loop
+
+abbrev taken : Good → Taken
+taken m = m .before .before
+
+cell : (m : Good) →
+    GoodCell (lent (begun (turn (taken m))) .args .sizes .now) (lent (begun (turn (taken m))) .args .values .now)
+    (turn (taken m) .before .loop .c .at) (m .x .given .0 .0) (m .x .given .0 .1 .0 .at)
+cell m = let k = taken m in subst (Takes k) (m .x .given .1) (k .take .ensures)
+
+-- There is room for one more.
+few : (k : Taken) → turn k .before .loop .n < 256
+few k = omega (arith, k .before .if1 .left, turn k .loop-test .taken)
+
+abbrev coded : tie.After-code-cell Inv-loop μ-loop → Good
+coded c = c .before .before
+
 loop-holds : tie.Need-loop-holds Inv-loop μ-loop
-loop-holds c = (omega arith, omega arith, walk-start (now (c .before .before .before .args .sizes)) (now (c .before .before .before .args .values)) (c .before .before .before .args .from .at) (now (c .before .before .before .args .s)) (c .before .before .before .args .top) (omega (arith, c .before .before .before .pre)))
+loop-holds c =
+    let p = lent c in
+    (omega arith, omega arith, walk-start _ _ (p .args .from .at) _ _ (omega (arith, p .pre)))
 
 sub-if1 : tie.Need-sub-if1 Inv-loop μ-loop
 sub-if1 c = search needs
@@ -25,7 +76,10 @@ same-length : tie.Need-same-length Inv-loop μ-loop
 same-length c = c .before .before .loop .inv .2 .frame .kept
 
 returns : tie.Need-returns Inv-loop μ-loop
-returns c = (c .before .before .loop .inv .2 .frame, walk-heavy (now (c .before .before .before .before .before .before .args .sizes)) (now (c .before .before .before .before .before .before .args .values)) (bytes-all (now (c .before .before .before .before .before .before .args .values)) (λ i l. omega (arith, c .before .before .before .before .before .shared-slice-known .given i))) _ _ _ _ _ _ _ (c .before .before .loop .inv .2) (c .before .loop-test .taken) (omega (arith, c .if1 .taken, c .before .before .loop .inv .0)))
+returns c =
+    let l = c .before in
+    let i = l .before .loop .inv in
+    (i .2 .frame, walk-heavy _ _ (bytes (begun l)) _ _ _ _ _ _ _ (i .2) (l .loop-test .taken) (omega (arith, c .if1 .taken, i .0)))
 
 take-requires : tie.Need-take-requires Inv-loop μ-loop
 take-requires c κs = search needs
@@ -37,29 +91,35 @@ enum-told : tie.Need-enum-told Inv-loop μ-loop
 enum-told c = search needs
 
 same-length-2 : tie.Need-same-length-2 Inv-loop μ-loop
-same-length-2 c = c .before .before .before .before .before .loop .inv .2 .frame .kept
+same-length-2 c = let l = turn (c .before .before) in l .before .loop .inv .2 .frame .kept
 
 returns-2 : tie.Need-returns-2 Inv-loop μ-loop
-returns-2 c = (c .before .before .before .before .before .loop .inv .2 .frame, walk-none (now (c .before .before .before .before .before .before .before .before .before .args .sizes)) (now (c .before .before .before .before .before .before .before .before .before .args .values)) (bytes-all (now (c .before .before .before .before .before .before .before .before .before .args .values)) (λ i l. omega (arith, c .before .before .before .before .before .before .before .before .shared-slice-known .given i))) _ _ _ _ _ _ _ (c .before .before .before .before .before .loop .inv .2) (c .before .before .before .before .loop-test .taken) (subst (λ (r : Step). StepTakes (now (c .before .before .before .before .before .before .before .before .before .args .sizes)) (now (c .before .before .before .before .before .before .before .before .before .args .values)) (c .before .before .before .before .before .loop .c .at) r) (c .enum-told .given .1) (c .before .before .take .ensures)))
+returns-2 c =
+    let k = c .before .before in
+    let l = turn k in
+    let i = l .before .loop .inv in (
+      i .2 .frame,
+      walk-none _ _ (bytes (begun l)) _ _ _ _ _ _ _ (i .2) (l .loop-test .taken) (subst (Takes k) (c .enum-told .given .1) (k .take .ensures)),
+    )
 
 code-cell-requires : tie.Need-code-cell-requires Inv-loop μ-loop
 code-cell-requires c κs = search needs
 
+room : (c : tie.After-code-cell Inv-loop μ-loop) →
+    lent (begun (turn (taken (coded c)))) .args .top + turn (taken (coded c)) .before .loop .n < length (turn (taken (coded c)) .before .loop .s)
+room c =
+    let m = coded c in
+    let l = turn (taken m) in
+    walk-room (l .before .loop .inv .2) (cell m) (few (taken m)) (lent (begun l) .pre)
+
 add-s : tie.Need-add-s Inv-loop μ-loop
-add-s c = omega (arith, c .before .before .before .before .before .before .before .before .before .before .before .pre, c .before .before .before .before .before .if1 .left, c .before .before .before .before .before .before .loop-test .taken)
+add-s c = omega (arith, room c)
 
 mul-s : tie.Need-mul-s Inv-loop μ-loop
-mul-s c = omega (arith, c .before .before .before .before .before .before .before .before .before .before .before .pre, c .before .before .before .before .before .if1 .left, c .before .before .before .before .before .before .loop-test .taken)
+mul-s c = omega (arith, room c)
 
 slice-write-s : tie.Need-slice-write-s Inv-loop μ-loop
-slice-write-s c =
-    let x = c .before .before in
-    let t = x .before .before in
-    let i = t .before in
-    let l = i .before .before in
-    let start = l .before .before .before .before in
-    let g = subst (λ (r : Step). StepTakes (now (start .args .sizes)) (now (start .args .values)) (l .loop .c .at) r) (x .x .given .1) (t .take .ensures) in
-    walk-room (l .loop .inv .2) g (omega (arith, i .if1 .left, i .before .loop-test .taken)) (start .pre)
+slice-write-s c = room c
 
 sub-left : tie.Need-sub-left Inv-loop μ-loop
 sub-left c = search needs
@@ -74,31 +134,30 @@ add-n : tie.Need-add-n Inv-loop μ-loop
 add-n c = search needs
 
 loop-less : tie.Need-loop-less Inv-loop μ-loop
-loop-less c = omega (arith, c .before .before .before .before .before .before .if1 .left, c .before .before .before .before .before .before .before .loop-test .taken)
+loop-less c = omega (arith, few (taken (coded (c .before))))
 
 loop-again : tie.Need-loop-again Inv-loop μ-loop
 loop-again c =
-    let x = c .before .before .before in
-    let t = x .before .before in
-    let i = t .before in
-    let l = i .before .before in
-    let start = l .before .before .before .before in
-    let values = now (start .args .values) in
-    let g = subst (λ (r : Step). StepTakes (now (start .args .sizes)) values (l .loop .c .at) r) (x .x .given .1) (t .take .ensures) in (
-      omega (arith, i .if1 .left, i .before .loop-test .taken),
-      omega (arith, i .if1 .left, c .parts .ensures .1),
-      walk-step (now (start .args .sizes)) values (bytes-all values (λ j m. omega (arith, l .before .before .before .shared-slice-known .given j)))
-          _ _ _ _ _ _ _ (l .loop .inv .2) (i .before .loop-test .taken) _ _ _ _ g (c .before .code-cell .ensures) (c .parts .ensures .0) (slice-write-s (c .before)),
+    let d = c .before in
+    let m = coded d in
+    let k = taken m in
+    let l = turn k in (
+      omega (arith, few k),
+      omega (arith, k .before .if1 .left, c .parts .ensures .1),
+      walk-step _ _ (bytes (begun l)) _ _ _ _ _ _ _ (l .before .loop .inv .2) (l .loop-test .taken)
+          _ _ _ _ (cell m) (d .code-cell .ensures) (c .parts .ensures .0) (room d),
     )
 
 add-t17 : tie.Need-add-t17 Inv-loop μ-loop
-add-t17 c = omega (arith, c .before .before .before .before .before .pre)
+add-t17 c = omega (arith, lent (c .before .before) .pre)
 
 same-length-3 : tie.Need-same-length-3 Inv-loop μ-loop
 same-length-3 c = c .before .loop .inv .2 .frame .kept
 
 returns-3 : tie.Need-returns-3 Inv-loop μ-loop
-returns-3 c = (c .before .loop .inv .2 .frame, walk-end _ _ _ _ _ _ _ _ _ (c .before .loop .inv .2) (omega (arith, c .loop-test .left)) (c .before .loop .inv .0))
+returns-3 c =
+    let i = c .before .loop .inv in
+    (i .2 .frame, walk-end _ _ _ _ _ _ _ _ _ (i .2) (omega (arith, c .loop-test .left)) (i .0))
 
 pub copy-value-spec : {M : Type 1} → statement M
 copy-value-spec =

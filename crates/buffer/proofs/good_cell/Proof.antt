@@ -1,11 +1,23 @@
+-- `good_cell`: by the cell's tag.
 use Prim.Native.Nat.{ℕ, _%_}
-use mathlib.Core.Path.{ap, _∙_}
+use mathlib.Core.Path.{_≡_, ap, _∙_}
 use lib.Dec.{ltb}
-use denote.Ref.{now}
-use Rattle.buffer.proofs.Walk.{good-by, good-other}
 use borrow.Author.Needs.{needs}
+use Rattle.buffer.specs.Buffer.{tagGood, cellGood}
+use Rattle.buffer.proofs.Walk.{good-by, good-other}
 use Rattle.buffer.proofs.good_cell.Statement.{statement}
 use Rattle.buffer.proofs.good_cell.Tie as tie
+
+-- The tag and the payload are known; the tag is not a number's, nor an element's, nor a truth's.
+abbrev lent : tie.After-low → tie.Start
+lent m = m .before .before .before
+
+by-tag : (m : tie.After-low) (k : ℕ) → m .before .tag .result ≡ k →
+    tagGood (lent m .args .sizes .now) k (m .low .result) ≡ cellGood (lent m .args .sizes .now) (lent m .args .cell)
+by-tag m k e = good-by _ _ _ _ k (m .before .tag .ensures) (m .low .ensures .0) e
+
+abbrev known : tie.Else3 → tie.After-low
+known c = c .before .before .before
 
 tag-requires : tie.Need-tag-requires
 tag-requires c κs = search needs
@@ -14,22 +26,27 @@ low-requires : tie.Need-low-requires
 low-requires c κs = search needs
 
 returns : tie.Need-returns
-returns c = good-by (now (c .before .before .before .before .args .sizes)) (c .before .before .before .before .args .cell) _ _ 2 (c .before .before .tag .ensures) (c .before .low .ensures .0) (c .if1 .taken)
+returns c = by-tag (c .before) 1 (c .if1 .taken)
 
 size-requires : tie.Need-size-requires
 size-requires c κs = search needs
 
 returns-2 : tie.Need-returns-2
-returns-2 c = ap (λ (n : ℕ). ltb (c .before .before .before .low .result % 256) n) (c .size .ensures) ∙ good-by (now (c .before .before .before .before .before .before .args .sizes)) (c .before .before .before .before .before .before .args .cell) _ _ 3 (c .before .before .before .before .tag .ensures) (c .before .before .before .low .ensures .0) (c .before .if2 .taken)
+returns-2 c =
+    let m = c .before .before .before in
+    ap (λ (n : ℕ). ltb (m .low .result % 256) n) (c .size .ensures) ∙ by-tag m 3 (c .before .if2 .taken)
 
 returns-3 : tie.Need-returns-3
-returns-3 c = good-by (now (c .before .before .before .before .before .before .args .sizes)) (c .before .before .before .before .before .before .args .cell) _ _ 4 (c .before .before .before .before .tag .ensures) (c .before .before .before .low .ensures .0) (c .if3 .taken)
+returns-3 c = by-tag (c .before .before .before) 2 (c .if3 .taken)
 
 returns-4 : tie.Need-returns-4
-returns-4 c = good-by (now (c .before .before .before .before .before .before .before .args .sizes)) (c .before .before .before .before .before .before .before .args .cell) _ _ 1 (c .before .before .before .before .before .tag .ensures) (c .before .before .before .before .low .ensures .0) (c .if4 .taken)
+returns-4 c = by-tag (known (c .before)) 4 (c .if4 .taken)
 
 returns-5 : tie.Need-returns-5
-returns-5 c = good-other (now (c .before .before .before .before .before .before .before .args .sizes)) (c .before .before .before .before .before .before .before .args .cell) _ _ (c .before .before .before .before .before .tag .ensures) (c .before .before .before .before .low .ensures .0) (c .before .before .before .if1 .left) (c .before .before .if2 .left) (c .before .if3 .left) (c .if4 .left)
+returns-5 c =
+    let d = c .before in
+    let m = known d in
+    good-other _ _ _ _ (m .before .tag .ensures) (m .low .ensures .0) (d .if3 .left) (d .before .if2 .left) (c .if4 .left) (d .before .before .if1 .left)
 
 pub good-cell-spec : {M : Type 1} → statement M
 good-cell-spec =

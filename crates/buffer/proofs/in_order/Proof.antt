@@ -1,8 +1,13 @@
-use borrow.Author.Needs.{needs}
+-- `in_order`: the values that are left rise just where all do. A scalar is one cell, and less than the next value where that cell is.
+use Prim.Native.Nat.{_+_, _*_, _<_}
 use native.Mathlib.Omega.{arith}
+use lib.ListN.{length, getD}
 use Rattle.rules.specs.Values.{Values}
+use Rattle.arena.specs.Code.{cellSize}
+use Rattle.fitting.proofs.Cells.{some-inside}
 use Rattle.buffer.specs.Ordered.{MembersAt}
-use Rattle.buffer.proofs.Ordering.{Checked, checked-start, checked-at, checked-second, checked-next, checked-fails, checked-end}
+use Rattle.buffer.proofs.Ordering.{Checked, checked-start, checked-at, checked-end}
+use Rattle.buffer.proofs.Ordering.{checked-some, checked-rest, checked-cell, checked-less, checked-more}
 use Rattle.buffer.proofs.in_order.Statement.{statement}
 use Rattle.buffer.proofs.in_order.Tie as tie
 
@@ -12,29 +17,77 @@ Inv-loop s at n i₀ left₀ i left = (vs : Values) → MembersAt s at n vs → 
 abbrev μ-loop : tie.MeasureT-loop
 μ-loop s at n i₀ left₀ i left = left
 
+-- A turn of the loop, what was lent, and the values that are left.
+abbrev Turn : Type 0
+Turn = tie.In-loop Inv-loop μ-loop
+
+abbrev lent : Turn → tie.Start Inv-loop μ-loop
+lent l = l .before .before .before
+
+abbrev rest : (l : Turn) → Checked (lent l .args .s .now) (l .before .loop .i) (l .before .loop .left) (lent l .pre .0)
+rest l = l .before .loop .inv (lent l .pre .0) (lent l .pre .1)
+
+first-inside : (l : Turn) → l .before .loop .i < length (lent l .args .s .now)
+first-inside l = some-inside _ _ (checked-at _ _ _ _ (rest l) (l .loop-test .taken))
+
+-- The first of them is a scalar.
+abbrev Scalar : Type 0
+Scalar = tie.Else1 Inv-loop μ-loop
+
+abbrev turn : Scalar → Turn
+turn m = m .before .before
+
+low : (m : Scalar) → getD (lent (turn m) .args .s .now) (turn m .before .loop .i) 0 < 4 * cellSize
+low m = omega (arith, m .if1 .left)
+
+next-inside : (m : Scalar) → turn m .before .loop .i + 1 < length (lent (turn m) .args .s .now)
+next-inside m = let l = turn m in some-inside _ _ (checked-cell _ _ _ _ (rest l) (l .loop-test .taken) (low m))
+
 loop-holds : tie.Need-loop-holds Inv-loop μ-loop
 loop-holds c = λ vs r. checked-start _ _ _ vs r
 
-end-of-requires : tie.Need-end-of-requires Inv-loop μ-loop
-end-of-requires c κs = checked-at _ _ _ (c .before .before .before .pre .0) (c .before .loop .inv (c .before .before .before .pre .0) (c .before .before .before .pre .1)) (c .loop-test .taken)
+mul-x : tie.Need-mul-x Inv-loop μ-loop
+mul-x c = omega (arith, first-inside c)
 
-compare-requires : tie.Need-compare-requires Inv-loop μ-loop
-compare-requires c κs = (checked-at _ _ _ (c .before .before .before .before .pre .0) (c .before .before .loop .inv (c .before .before .before .before .pre .0) (c .before .before .before .before .pre .1)) (c .before .loop-test .taken), checked-second _ _ _ (c .before .before .before .before .pre .0) (c .before .before .loop .inv (c .before .before .before .before .pre .0) (c .before .before .before .before .pre .1)) _ (c .end-of .ensures) (c .before .loop-test .taken), c .end-of .ensures)
+shared-slice-read-x : tie.Need-shared-slice-read-x Inv-loop μ-loop
+shared-slice-read-x c = first-inside (c .before)
+
+values-rise-requires : tie.Need-values-rise-requires Inv-loop μ-loop
+values-rise-requires c κs = checked-some _ _ _ _ (rest (c .before .before))
 
 returns : tie.Need-returns Inv-loop μ-loop
-returns c = λ vs r. checked-fails _ _ _ vs (c .before .before .before .before .loop .inv vs r) _ (c .before .before .end-of .ensures) (c .before .before .before .loop-test .taken) _ (c .before .compare .ensures) (c .if1 .taken)
+returns c = λ vs r.
+    let l = c .before .before .before in checked-rest _ _ _ vs (l .before .loop .inv vs r) _ (c .values-rise .ensures)
 
-sub-left : tie.Need-sub-left Inv-loop μ-loop
-sub-left c = search needs
+add-i : tie.Need-add-i Inv-loop μ-loop
+add-i c = omega (arith, next-inside c)
 
-loop-less : tie.Need-loop-less Inv-loop μ-loop
-loop-less c = omega (arith, c .before .before .before .loop-test .taken)
+mul-if2 : tie.Need-mul-if2 Inv-loop μ-loop
+mul-if2 c = omega (arith, next-inside c)
 
-loop-again : tie.Need-loop-again Inv-loop μ-loop
-loop-again c = λ vs r. checked-next _ _ _ vs (c .before .before .before .before .loop .inv vs r) _ (c .before .before .end-of .ensures) (c .before .before .before .loop-test .taken) _ (c .before .compare .ensures) (c .if1 .left)
+shared-slice-read-if2 : tie.Need-shared-slice-read-if2 Inv-loop μ-loop
+shared-slice-read-if2 c = next-inside (c .before)
 
 returns-2 : tie.Need-returns-2 Inv-loop μ-loop
-returns-2 c = λ vs r. checked-end _ _ _ vs (c .before .loop .inv vs r) (omega (arith, c .loop-test .left))
+returns-2 c = λ vs r.
+    let m = c .before .before in
+    let l = turn m in
+    checked-more _ _ _ vs (l .before .loop .inv vs r) (l .loop-test .taken) (low m) (omega (arith, c .if2 .taken))
+
+sub-left : tie.Need-sub-left Inv-loop μ-loop
+sub-left c = let m = c .before .before in omega (arith, turn m .loop-test .taken)
+
+loop-less : tie.Need-loop-less Inv-loop μ-loop
+loop-less c = let m = c .before .before in omega (arith, turn m .loop-test .taken)
+
+loop-again : tie.Need-loop-again Inv-loop μ-loop
+loop-again c = λ vs r.
+    let m = c .before .before in
+    let l = turn m in
+    checked-less _ _ _ vs (l .before .loop .inv vs r) (l .loop-test .taken) (low m) (omega (arith, c .if2 .left))
+
+returns-3 : tie.Need-returns-3 Inv-loop μ-loop
+returns-3 c = λ vs r. checked-end _ _ _ vs (c .before .loop .inv vs r) (omega (arith, c .loop-test .left))
 
 pub in-order-spec : {M : Type 1} → statement M
 in-order-spec =
@@ -43,10 +96,15 @@ in-order-spec =
     Inv-loop
     μ-loop
     loop-holds
-    end-of-requires
-    compare-requires
+    mul-x
+    shared-slice-read-x
+    values-rise-requires
     returns
+    add-i
+    mul-if2
+    shared-slice-read-if2
+    returns-2
     sub-left
     loop-less
     loop-again
-    returns-2)
+    returns-3)

@@ -4,6 +4,10 @@ use Rattle.buffer.proofs.Filling.{begins-lent, begins-count, size-bound
 use Rattle.buffer.proofs.load.Statement.{statement}
 use Rattle.buffer.proofs.load.Tie as tie
 
+-- The sizes and the words have been copied; what was lent.
+abbrev lent : tie.After-binds-of → tie.Start
+lent b = b .before .before .before .before .before
+
 sizes-of-requires : tie.Need-sizes-of-requires
 sizes-of-requires c κs = search needs
 
@@ -22,8 +26,8 @@ array-share-prefix-sizes c = search needs
 slice-aggregate-read-values : tie.Need-slice-aggregate-read-values
 slice-aggregate-read-values c =
     let g = c .before .before in
-    let z = g .before .before in
-    begins-count (z .sizes-of .ensures) (g .givens .ensures) (size-bound (z .before .before .before .before .pre .readable))
+    let b = g .before in
+    begins-count (b .before .sizes-of .ensures) (g .givens .ensures) (size-bound (lent b .pre .readable))
 
 array-share-prefix-binds : tie.Need-array-share-prefix-binds
 array-share-prefix-binds c = search needs
@@ -32,13 +36,13 @@ slice-aggregate-read-values-2 : tie.Need-slice-aggregate-read-values-2
 slice-aggregate-read-values-2 c =
     let i = c .before .before in
     let b = i .before .before in
-    begins-count (b .binds-of .ensures) (i .identifiers .ensures) (bind-bound (b .before .before .before .before .before .pre .readable))
+    begins-count (b .binds-of .ensures) (i .identifiers .ensures) (bind-bound (lent b .pre .readable))
 
 read-values-requires : tie.Need-read-values-requires
 read-values-requires c κs =
     let i = c .before .before .before in
     let b = i .before .before in
-    load-room (b .before .before .before .before .before .pre) (begins-lent (b .binds-of .ensures) (i .identifiers .ensures))
+    load-room (lent b .pre) (begins-lent (b .binds-of .ensures) (i .identifiers .ensures))
 
 same-length : tie.Need-same-length
 same-length c = search needs
@@ -46,10 +50,10 @@ same-length c = search needs
 returns : tie.Need-returns
 returns c =
     let v = c .before .before in
-    let i = v .before .before .before .before in
+    let a = v .before in
+    let i = a .before .before .before in
     let b = i .before .before in
-    let start = b .before .before .before .before .before in
-    loads-as (start .args .values .now) (v .read-values .last .1 .1 .1 .0) (v .read-values .result .at) (v .read-values .result .answer)
+    loads-as (lent b .args .values .now) (v .read-values .last .1 .1 .1 .0) (v .read-values .result .at) (v .read-values .result .answer)
     (begins-lent (b .before .sizes-of .ensures) (i .before .givens .ensures))
     (begins-lent (b .binds-of .ensures) (i .identifiers .ensures)) (v .read-values .ensures .1)
 

@@ -1,15 +1,37 @@
-use borrow.Author.Tests.{not-true, not-false}
-use mathlib.Core.Bool.{Bool}
-use mathlib.Core.Path.{subst}
-use denote.Ref.{now}
-use Rattle.buffer.specs.declared.Placed.{Placed}
-use Rattle.buffer.specs.Buffer.{Places}
-use Rattle.buffer.specs.Ordered.{Ordered}
-use Rattle.buffer.specs.Shared.{TypedHere}
-use Rattle.buffer.proofs.Loading.{read-whole, read-unordered, read-untyped, read-good, unread-bad}
+-- `read_value`: the value that has been copied is good where its sets are ordered and it has a type.
+use mathlib.Core.List.{List}
+use mathlib.Core.Path.{sym, subst, _∙_}
+use Prim.Native.Nat.{ℕ}
 use borrow.Author.Needs.{needs}
+use borrow.Author.Tests.{not-true, not-false}
+use Rattle.buffer.specs.declared.Placed.{Placed}
+use Rattle.buffer.specs.Buffer.{ReadAt, Places}
+use Rattle.buffer.proofs.Loading.{read-whole, read-unordered, read-untyped, read-good, unread-bad}
 use Rattle.buffer.proofs.read_value.Statement.{statement}
 use Rattle.buffer.proofs.read_value.Tie as tie
+
+-- The value has been copied, or not; what was lent, and the arena then.
+abbrev lent : tie.After-copy-value → tie.Start
+lent k = k .before .before .before .before .before
+
+abbrev arena : tie.After-copy-value → List ℕ
+arena k = k .copy-value .last .1 .1 .1 .0
+
+-- What the answer of `copy_value` says, once it is known.
+abbrev Copies : tie.After-copy-value → Placed → Type 0
+Copies k q = let a = lent k .args in Places (a .sizes .now) (a .values .now) (a .from .at) (arena k) (a .top) q
+
+-- A value has been copied; it is ordered.
+abbrev copied : tie.After-r → tie.After-copy-value
+copied m = m .before .before .before .before
+
+value : (m : tie.After-r) →
+    ReadAt (lent (copied m) .args .sizes .now) (lent (copied m) .args .values .now) (lent (copied m) .args .from .at) (arena (copied m))
+    (lent (copied m) .args .top) (m .r .given .0 .0 .at) (m .r .given .0 .1 .0)
+value m = let k = copied m in subst (Copies k) (m .r .given .1) (k .copy-value .ensures .1)
+
+abbrev ordered : tie.Else1 → tie.After-r
+ordered o = o .before .before .before .before
 
 copy-value-requires : tie.Need-copy-value-requires
 copy-value-requires c κs = search needs
@@ -18,22 +40,31 @@ enum-known-r : tie.Need-enum-known-r
 enum-known-r c = search needs
 
 rises-requires : tie.Need-rises-requires
-rises-requires c κs = read-whole (now (c .before .before .before .before .before .before .before .before .before .before .before .args .sizes)) (now (c .before .before .before .before .before .before .before .before .before .before .before .args .values)) (c .before .before .before .before .before .before .before .before .before .before .before .args .from .at) (c .before .before .before .before .before .before .copy-value .last .1 .1 .1 .0) (c .before .before .before .before .before .before .before .before .before .before .before .args .top) _ _ (subst (λ (q : Placed). Places (now (c .before .before .before .before .before .before .before .before .before .before .before .args .sizes)) (now (c .before .before .before .before .before .before .before .before .before .before .before .args .values)) (c .before .before .before .before .before .before .before .before .before .before .before .args .from .at) (c .before .before .before .before .before .before .copy-value .last .1 .1 .1 .0) (c .before .before .before .before .before .before .before .before .before .before .before .args .top) q) (c .before .before .r .given .1) (c .before .before .before .before .before .before .copy-value .ensures .1))
+rises-requires c κs = read-whole (value (c .before .before))
 
 same-length : tie.Need-same-length
 same-length c = search needs
 
 returns : tie.Need-returns
-returns c = (c .before .before .before .before .before .before .before .before .copy-value .ensures .0, read-unordered (now (c .before .before .before .before .before .before .before .before .before .before .before .before .before .args .sizes)) (now (c .before .before .before .before .before .before .before .before .before .before .before .before .before .args .values)) (c .before .before .before .before .before .before .before .before .before .before .before .before .before .args .from .at) (c .before .before .before .before .before .before .before .before .copy-value .last .1 .1 .1 .0) (c .before .before .before .before .before .before .before .before .before .before .before .before .before .args .top) _ _ (subst (λ (q : Placed). Places (now (c .before .before .before .before .before .before .before .before .before .before .before .before .before .args .sizes)) (now (c .before .before .before .before .before .before .before .before .before .before .before .before .before .args .values)) (c .before .before .before .before .before .before .before .before .before .before .before .before .before .args .from .at) (c .before .before .before .before .before .before .before .before .copy-value .last .1 .1 .1 .0) (c .before .before .before .before .before .before .before .before .before .before .before .before .before .args .top) q) (c .before .before .before .before .r .given .1) (c .before .before .before .before .before .before .before .before .copy-value .ensures .1)) (subst (λ (q : Bool). Ordered (c .before .before .before .before .before .before .before .before .copy-value .last .1 .1 .1 .0) (c .before .before .before .before .before .before .before .before .before .before .before .before .before .args .top) q) (not-true _ (c .if1 .taken)) (c .before .rises .ensures)))
+returns c =
+    let e = c .before .before in
+    let m = e .before .before in (
+      copied m .copy-value .ensures .0,
+      read-unordered (value m) (λ v h f. sym (not-true _ (c .if1 .taken)) ∙ c .before .rises .ensures v h f),
+    )
 
 well-typed-requires : tie.Need-well-typed-requires
-well-typed-requires c κs = read-whole (now (c .before .before .before .before .before .before .before .before .before .before .before .before .before .before .args .sizes)) (now (c .before .before .before .before .before .before .before .before .before .before .before .before .before .before .args .values)) (c .before .before .before .before .before .before .before .before .before .before .before .before .before .before .args .from .at) (c .before .before .before .before .before .before .before .before .before .copy-value .last .1 .1 .1 .0) (c .before .before .before .before .before .before .before .before .before .before .before .before .before .before .args .top) _ _ (subst (λ (q : Placed). Places (now (c .before .before .before .before .before .before .before .before .before .before .before .before .before .before .args .sizes)) (now (c .before .before .before .before .before .before .before .before .before .before .before .before .before .before .args .values)) (c .before .before .before .before .before .before .before .before .before .before .before .before .before .before .args .from .at) (c .before .before .before .before .before .before .before .before .before .copy-value .last .1 .1 .1 .0) (c .before .before .before .before .before .before .before .before .before .before .before .before .before .before .args .top) q) (c .before .before .before .before .before .r .given .1) (c .before .before .before .before .before .before .before .before .before .copy-value .ensures .1))
+well-typed-requires c κs = read-whole (value (ordered (c .before)))
 
 same-length-2 : tie.Need-same-length-2
 same-length-2 c = search needs
 
 returns-2 : tie.Need-returns-2
-returns-2 c = (c .before .before .before .before .before .before .before .before .before .before .before .copy-value .ensures .0, read-untyped (now (c .before .before .before .before .before .before .before .before .before .before .before .before .before .before .before .before .args .sizes)) (now (c .before .before .before .before .before .before .before .before .before .before .before .before .before .before .before .before .args .values)) (c .before .before .before .before .before .before .before .before .before .before .before .before .before .before .before .before .args .from .at) (c .before .before .before .before .before .before .before .before .before .before .before .copy-value .last .1 .1 .1 .0) (c .before .before .before .before .before .before .before .before .before .before .before .before .before .before .before .before .args .top) _ _ (subst (λ (q : Placed). Places (now (c .before .before .before .before .before .before .before .before .before .before .before .before .before .before .before .before .args .sizes)) (now (c .before .before .before .before .before .before .before .before .before .before .before .before .before .before .before .before .args .values)) (c .before .before .before .before .before .before .before .before .before .before .before .before .before .before .before .before .args .from .at) (c .before .before .before .before .before .before .before .before .before .before .before .copy-value .last .1 .1 .1 .0) (c .before .before .before .before .before .before .before .before .before .before .before .before .before .before .before .before .args .top) q) (c .before .before .before .before .before .before .before .r .given .1) (c .before .before .before .before .before .before .before .before .before .before .before .copy-value .ensures .1)) (subst (λ (q : Bool). TypedHere (c .before .before .before .before .before .before .before .before .before .before .before .copy-value .last .1 .1 .1 .0) (c .before .before .before .before .before .before .before .before .before .before .before .before .before .before .before .before .args .top) q) (not-true _ (c .if2 .taken)) (c .before .well-typed .ensures)))
+returns-2 c =
+    let m = ordered (c .before .before .before) in (
+      copied m .copy-value .ensures .0,
+      read-untyped (value m) (λ v h f. sym (not-true _ (c .if2 .taken)) ∙ c .before .well-typed .ensures v h f),
+    )
 
 enum-told : tie.Need-enum-told
 enum-told c = search needs
@@ -42,13 +73,25 @@ same-length-3 : tie.Need-same-length-3
 same-length-3 c = search needs
 
 returns-3 : tie.Need-returns-3
-returns-3 c = (c .before .before .before .before .before .before .before .before .before .before .before .copy-value .ensures .0, read-good (now (c .before .before .before .before .before .before .before .before .before .before .before .before .before .before .before .before .args .sizes)) (now (c .before .before .before .before .before .before .before .before .before .before .before .before .before .before .before .before .args .values)) (c .before .before .before .before .before .before .before .before .before .before .before .before .before .before .before .before .args .from .at) (c .before .before .before .before .before .before .before .before .before .before .before .copy-value .last .1 .1 .1 .0) (c .before .before .before .before .before .before .before .before .before .before .before .before .before .before .before .before .args .top) _ _ (subst (λ (q : Placed). Places (now (c .before .before .before .before .before .before .before .before .before .before .before .before .before .before .before .before .args .sizes)) (now (c .before .before .before .before .before .before .before .before .before .before .before .before .before .before .before .before .args .values)) (c .before .before .before .before .before .before .before .before .before .before .before .before .before .before .before .before .args .from .at) (c .before .before .before .before .before .before .before .before .before .before .before .copy-value .last .1 .1 .1 .0) (c .before .before .before .before .before .before .before .before .before .before .before .before .before .before .before .before .args .top) q) (c .before .before .before .before .before .before .before .r .given .1) (c .before .before .before .before .before .before .before .before .before .before .before .copy-value .ensures .1)) (subst (λ (q : Bool). Ordered (c .before .before .before .before .before .before .before .before .before .before .before .copy-value .last .1 .1 .1 .0) (c .before .before .before .before .before .before .before .before .before .before .before .before .before .before .before .before .args .top) q) (not-false _ (c .before .before .before .if1 .left)) (c .before .before .before .before .rises .ensures)) (subst (λ (q : Bool). TypedHere (c .before .before .before .before .before .before .before .before .before .before .before .copy-value .last .1 .1 .1 .0) (c .before .before .before .before .before .before .before .before .before .before .before .before .before .before .before .before .args .top) q) (not-false _ (c .if2 .left)) (c .before .well-typed .ensures)))
+returns-3 c =
+    let o = c .before .before .before in
+    let m = ordered o in (
+      copied m .copy-value .ensures .0,
+      read-good (value m) (λ v h f. sym (not-false _ (o .if1 .left)) ∙ o .before .rises .ensures v h f)
+          (λ v h f. sym (not-false _ (c .if2 .left)) ∙ c .before .well-typed .ensures v h f),
+    )
 
 same-length-4 : tie.Need-same-length-4
 same-length-4 c = search needs
 
 returns-4 : tie.Need-returns-4
-returns-4 c = (c .before .before .before .before .copy-value .ensures .0, unread-bad (now (c .before .before .before .before .before .before .before .before .before .args .sizes)) (now (c .before .before .before .before .before .before .before .before .before .args .values)) (c .before .before .before .before .before .before .before .before .before .args .from .at) (subst (λ (q : Placed). Places (now (c .before .before .before .before .before .before .before .before .before .args .sizes)) (now (c .before .before .before .before .before .before .before .before .before .args .values)) (c .before .before .before .before .before .before .before .before .before .args .from .at) (c .before .before .before .before .copy-value .last .1 .1 .1 .0) (c .before .before .before .before .before .before .before .before .before .args .top) q) (c .enum-told .given .1) (c .before .before .before .before .copy-value .ensures .1)))
+returns-4 c =
+    let m = c .before in
+    let k = m .before .before .before in
+    let a = lent k .args in (
+      k .copy-value .ensures .0,
+      unread-bad (a .sizes .now) (a .values .now) (a .from .at) (subst (Copies k) (c .enum-told .given .1) (k .copy-value .ensures .1)),
+    )
 
 pub read-value-spec : {M : Type 1} → statement M
 read-value-spec =

@@ -1,7 +1,7 @@
+-- `size`: the entry of the slice, or 0 behind its end.
 use native.Mathlib.Omega.{arith}
 use mathlib.Core.Path.{sym}
 use lib.ListN.{List·getD-eq-default}
-use denote.Ref.{now}
 use borrow.Author.Needs.{needs}
 use Rattle.buffer.proofs.size.Statement.{statement}
 use Rattle.buffer.proofs.size.Tie as tie
@@ -19,7 +19,7 @@ returns : tie.Need-returns
 returns c = search needs
 
 returns-2 : tie.Need-returns-2
-returns-2 c = sym (List·getD-eq-default (now (c .before .args .sizes)) 0 (c .if1 .left))
+returns-2 c = sym (List·getD-eq-default (c .before .args .sizes .now) 0 (c .if1 .left))
 
 pub size-spec : {M : Type 1} → statement M
 size-spec = tie.close (tie.spec mul-result shared-slice-read-result cast-result returns returns-2)

@@ -1,4 +1,4 @@
-use denote.Ref.{now}
+-- `word`: four bytes, each below 256.
 use borrow.Author.Needs.{needs}
 use Rattle.buffer.proofs.CellAt.{word-is}
 use Rattle.buffer.proofs.word.Statement.{statement}
@@ -56,7 +56,12 @@ add-result-3 : tie.Need-add-result-3
 add-result-3 c = search needs
 
 returns : tie.Need-returns
-returns c = word-is (now (c .before .before .before .before .before .before .before .before .before .args .values)) (c .before .before .before .before .before .before .before .before .before .args .at) _ _ _ _ (c .before .before .before .before .before .before .wide .ensures) (c .before .before .before .before .wide2 .ensures) (c .before .before .wide3 .ensures) (c .wide4 .ensures)
+returns c =
+    let w3 = c .before .before in
+    let w2 = w3 .before .before in
+    let w1 = w2 .before .before in
+    let p = w1 .before .before .before .args in
+    word-is (p .values .now) (p .at) _ _ _ _ (w1 .wide .ensures) (w2 .wide2 .ensures) (w3 .wide3 .ensures) (c .wide4 .ensures)
 
 pub word-spec : {M : Type 1} → statement M
 word-spec =

@@ -1,3 +1,4 @@
+-- `alike`: t and t fit where the values share a type.
 use Rattle.fitting.proofs.Tests.{alike-fits}
 use borrow.Author.Needs.{needs}
 use Rattle.fitting.proofs.alike.Statement.{statement}

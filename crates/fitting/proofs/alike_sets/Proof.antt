@@ -1,3 +1,4 @@
+-- `alike_sets`: P(t) and P(t) fit where the first is a set and the values share a type.
 use borrow.Author.Tests.{not-true, not-false}
 use Rattle.fitting.proofs.Tests.{set-here, alike-sets-not, alike-sets-fit}
 use borrow.Author.Needs.{needs}
@@ -14,7 +15,10 @@ agree-requires : tie.Need-agree-requires
 agree-requires c κs = search needs
 
 returns-2 : tie.Need-returns-2
-returns-2 c = alike-sets-fit _ _ _ _ (set-here _ _ _ (c .before .before .is-set .ensures) (c .before .before .before .before .pre .first) (not-false _ (c .before .if1 .left))) (c .agree .ensures)
+returns-2 c =
+    let m = c .before in
+    alike-sets-fit _ _ _ _
+    (set-here _ _ _ (m .before .is-set .ensures) (m .before .before .before .pre .first) (not-false _ (m .if1 .left))) (c .agree .ensures)
 
 pub alike-sets-spec : {M : Type 1} → statement M
 alike-sets-spec = tie.close (tie.spec is-set-requires returns agree-requires returns-2)

@@ -1,9 +1,17 @@
+-- `applies`: where the first value is a relation, the left parts of its pairs share a type with the argument.
 use borrow.Author.Tests.{not-true, not-false}
 use Rattle.fitting.proofs.Cells.{inside}
 use Rattle.fitting.proofs.Tests.{applies-not, relation-left, relation-few, applies-fit}
 use borrow.Author.Needs.{needs}
 use Rattle.fitting.proofs.applies.Statement.{statement}
 use Rattle.fitting.proofs.applies.Tie as tie
+
+-- The first value is a relation; its number of pairs is known.
+abbrev lent : tie.Else1 → tie.Start
+lent m = m .before .before .before
+
+abbrev relation : tie.After-low → tie.Else1
+relation n = n .before .before
 
 is-relation-requires : tie.Need-is-relation-requires
 is-relation-requires c κs = search needs
@@ -15,7 +23,7 @@ mul-low : tie.Need-mul-low
 mul-low c = search needs
 
 shared-slice-read-low : tie.Need-shared-slice-read-low
-shared-slice-read-low c = inside _ _ (c .before .before .before .before .pre .first)
+shared-slice-read-low c = inside _ _ (lent (c .before) .pre .first)
 
 low-requires : tie.Need-low-requires
 low-requires c κs = search needs
@@ -27,13 +35,22 @@ add-few : tie.Need-add-few
 add-few c = search needs
 
 few-requires : tie.Need-few-requires
-few-requires c κs = λ l. relation-left _ _ _ (c .before .before .before .is-relation .ensures) (not-false _ (c .before .before .if1 .left)) _ (c .low .ensures .0) (c .before .before .before .before .before .pre .first) l
+few-requires c κs = λ l.
+    let m = relation c in
+    relation-left _ _ _ (m .before .is-relation .ensures) (not-false _ (m .if1 .left)) _ (c .low .ensures .0) (lent m .pre .first) l
 
 lefts-requires : tie.Need-lefts-requires
-lefts-requires c κs = relation-few _ _ _ (c .before .before .before .before .is-relation .ensures) (not-false _ (c .before .before .before .if1 .left)) _ _ _ (c .before .low .ensures .0) (c .before .before .before .before .before .before .pre) (c .few .ensures)
+lefts-requires c κs =
+    let n = c .before in
+    let m = relation n in
+    relation-few _ _ _ (m .before .is-relation .ensures) (not-false _ (m .if1 .left)) _ _ _ (n .low .ensures .0) (lent m .pre) (c .few .ensures)
 
 returns-2 : tie.Need-returns-2
-returns-2 c = applies-fit _ _ _ (c .before .before .before .before .before .is-relation .ensures) (not-false _ (c .before .before .before .before .if1 .left)) _ _ _ _ (c .before .before .low .ensures .0) (c .before .few .ensures) (c .lefts .ensures)
+returns-2 c =
+    let n = c .before .before in
+    let m = relation n in
+    applies-fit _ _ _ (m .before .is-relation .ensures) (not-false _ (m .if1 .left)) _ _ _ _ (n .low .ensures .0) (c .before .few .ensures)
+    (c .lefts .ensures)
 
 pub applies-spec : {M : Type 1} → statement M
 applies-spec =

@@ -1,3 +1,4 @@
+-- `atom_is`: by the tag of the cell.
 use Rattle.fitting.proofs.Types.{atom-element, atom-other}
 use borrow.Author.Needs.{needs}
 use Rattle.fitting.proofs.atom_is.Statement.{statement}

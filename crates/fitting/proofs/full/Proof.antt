@@ -1,3 +1,4 @@
+-- `full`: no cell that has been passed is an empty set's.
 use mathlib.Core.Path.{refl}
 use Prim.Native.Nat.{_-_, _≤_}
 use native.Mathlib.Omega.{arith}

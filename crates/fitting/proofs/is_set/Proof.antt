@@ -1,3 +1,4 @@
+-- `is_set`: by the tag of the cell.
 use mathlib.Core.Path.{ap, _∙_}
 use Prim.Native.Nat.{ℕ}
 use lib.Dec.{eqb}

@@ -1,7 +1,10 @@
+-- `lefts`: the pairs that are left decide.
+use Prim.Native.Nat.{_+_}
 use native.Mathlib.Omega.{arith}
 use mathlib.Core.Bool.{Bool, true, false}
 use mathlib.Core.Path.{sym, _∙_}
 use borrow.Author.Tests.{not-true, not-false}
+use Rattle.fitting.specs.Agree.{SomeTyped}
 use Rattle.fitting.specs.Tests.{Pairs, AgreedLefts}
 use Rattle.fitting.proofs.Cells.{inside, some-at}
 use Rattle.fitting.proofs.Tests.{pairs-first, pairs-rest, lefts-end, lefts-false, lefts-step}
@@ -14,20 +17,33 @@ Inv-loop s a n b i₀ left₀ i left = Pairs s i left b × ((r : Bool) → Agree
 abbrev μ-loop : tie.MeasureT-loop
 μ-loop s a n b i₀ left₀ i left = left
 
+-- A turn of the loop, and the first of the pairs that are left.
+abbrev Turn : Type 0
+Turn = tie.In-loop Inv-loop μ-loop
+
+abbrev args : Turn → tie.Start Inv-loop μ-loop
+args l = l .before .before .before
+
+first : (l : Turn) → SomeTyped (args l .args .s .now) (l .before .loop .i) × SomeTyped (args l .args .s .now) (l .before .loop .i + 1)
+first l = pairs-first _ _ _ _ (l .before .loop .inv .0) (l .loop-test .taken)
+
 loop-holds : tie.Need-loop-holds Inv-loop μ-loop
 loop-holds c = (c .before .pre, λ r g. g)
 
 add-agree : tie.Need-add-agree Inv-loop μ-loop
-add-agree c = omega (arith, inside _ _ (pairs-first _ _ _ _ (c .before .loop .inv .0) (c .loop-test .taken) .0))
+add-agree c = omega (arith, inside _ _ (first c .0))
 
 agree-requires : tie.Need-agree-requires Inv-loop μ-loop
-agree-requires c κs = record { first = pairs-first _ _ _ _ (c .before .loop .inv .0) (c .loop-test .taken) .1; second = c .before .loop .inv .0 .second }
+agree-requires c κs = record { first = first c .1; second = c .before .loop .inv .0 .second }
 
 returns : tie.Need-returns Inv-loop μ-loop
-returns c = c .before .before .before .loop .inv .1 false (lefts-false _ _ _ _ (c .before .before .loop-test .taken) (λ v w h k. sym (not-true _ (c .if1 .taken)) ∙ c .before .agree .ensures v w h k))
+returns c =
+    let l = c .before .before in
+    l .before .loop .inv .1 false
+    (lefts-false _ _ _ _ (l .loop-test .taken) (λ v w h k. sym (not-true _ (c .if1 .taken)) ∙ c .before .agree .ensures v w h k))
 
 end-of-requires : tie.Need-end-of-requires Inv-loop μ-loop
-end-of-requires c κs = some-at (pairs-first _ _ _ _ (c .before .before .before .loop .inv .0) (c .before .before .loop-test .taken) .0)
+end-of-requires c κs = some-at (first (c .before .before) .0)
 
 sub-left : tie.Need-sub-left Inv-loop μ-loop
 sub-left c = omega (arith, c .before .before .before .loop-test .taken)
@@ -36,10 +52,14 @@ loop-less : tie.Need-loop-less Inv-loop μ-loop
 loop-less c = omega (arith, c .before .before .before .loop-test .taken)
 
 loop-again : tie.Need-loop-again Inv-loop μ-loop
-loop-again c = (
-  pairs-rest _ _ _ _ _ (c .before .before .before .before .loop .inv .0) (c .before .before .before .loop-test .taken) (c .end-of .ensures),
-  λ r g. c .before .before .before .before .loop .inv .1 r (lefts-step _ _ _ _ _ r (c .before .before .before .loop-test .taken) (λ v w h k. sym (not-false _ (c .before .if1 .left)) ∙ c .before .before .agree .ensures v w h k) (c .end-of .ensures) g),
-)
+loop-again c =
+    let l = c .before .before .before in
+    let q = l .loop-test .taken in (
+      pairs-rest _ _ _ _ _ (l .before .loop .inv .0) q (c .end-of .ensures),
+      λ r g. l .before .loop .inv .1 r
+          (lefts-step _ _ _ _ _ r q (λ v w h k. sym (not-false _ (c .before .if1 .left)) ∙ c .before .before .agree .ensures v w h k)
+          (c .end-of .ensures) g),
+    )
 
 returns-2 : tie.Need-returns-2 Inv-loop μ-loop
 returns-2 c = c .before .loop .inv .1 true (lefts-end _ _ _ _ (omega (arith, c .loop-test .left)))

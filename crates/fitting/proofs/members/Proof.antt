@@ -1,3 +1,4 @@
+-- `members`: the number in the cell, or 1 where the first member stands for all.
 use borrow.Author.Needs.{needs}
 use native.Mathlib.Omega.{arith}
 use mathlib.Core.Path.{sym}

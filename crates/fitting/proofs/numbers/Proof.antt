@@ -1,3 +1,4 @@
+-- `numbers`: by the tags of the two cells.
 use mathlib.Core.Path.{ap, _∙_}
 use Prim.Native.Nat.{ℕ}
 use native.Mathlib.Omega.{arith}
@@ -24,13 +25,17 @@ mul-tag-2 : tie.Need-mul-tag-2
 mul-tag-2 c = search needs
 
 shared-slice-read-tag-2 : tie.Need-shared-slice-read-tag-2
-shared-slice-read-tag-2 c = inside _ _ (c .before .before .before .before .before .pre .second)
+shared-slice-read-tag-2 c =
+    let m = c .before .before in
+    inside _ _ (m .before .before .before .pre .second)
 
 tag-requires-2 : tie.Need-tag-requires-2
 tag-requires-2 c κs = search needs
 
 returns-2 : tie.Need-returns-2
-returns-2 c = λ v w h k. ap (λ (t : ℕ). eqb t 1) (c .tag2 .ensures) ∙ numbers-fit _ _ _ (omega (arith, c .before .before .if1 .left, c .before .before .before .tag .ensures)) v w h k
+returns-2 c = λ v w h k.
+    let m = c .before .before in
+    ap (λ (t : ℕ). eqb t 1) (c .tag2 .ensures) ∙ numbers-fit _ _ _ (omega (arith, m .if1 .left, m .before .tag .ensures)) v w h k
 
 pub numbers-spec : {M : Type 1} → statement M
 numbers-spec =

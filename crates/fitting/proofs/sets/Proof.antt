@@ -1,3 +1,4 @@
+-- `sets`: P(t) and P(u) fit where both values are sets.
 use borrow.Author.Tests.{not-true, not-false}
 use Rattle.fitting.proofs.Tests.{sets-not, sets-fit}
 use borrow.Author.Needs.{needs}

@@ -1,4 +1,5 @@
-use Prim.Native.Nat.{_+_, _-_}
+-- `type_end`: the types that are still to come stand from i on, up to where the type ends.
+use Prim.Native.Nat.{_+_, _-_, _<_}
 use native.Mathlib.Omega.{arith}
 use borrow.Author.Needs.{needs}
 use lib.ListN.{length}
@@ -14,11 +15,25 @@ Inv-loop row from i₀ left₀ i left = (t : Ty) → TypeAt row from t → Pendi
 abbrev μ-loop : tie.MeasureT-loop
 μ-loop row from i₀ left₀ i left = length row - i
 
+-- A turn of the loop, the types that are left, and those behind the next code.
+abbrev Turn : Type 0
+Turn = tie.In-loop Inv-loop μ-loop
+
+abbrev lent : Turn → tie.Start Inv-loop μ-loop
+lent l = l .before .before .before
+
+pending : (l : Turn) →
+    PendingTypes (lent l .args .row .now) (l .before .loop .i) (l .before .loop .left) (lent l .args .from + weightᵀ (lent l .pre .0))
+pending l = l .before .loop .inv (lent l .pre .0) (lent l .pre .1)
+
+inside : (l : Turn) → l .before .loop .i < length (lent l .args .row .now)
+inside l = types-inside _ _ _ _ (pending l) (l .loop-test .taken)
+
 loop-holds : tie.Need-loop-holds Inv-loop μ-loop
 loop-holds c = λ t h. types-start _ _ t h
 
 shared-slice-read-type-parts : tie.Need-shared-slice-read-type-parts Inv-loop μ-loop
-shared-slice-read-type-parts c = types-inside _ _ _ _ (c .before .before .loop .inv (c .before .before .before .before .pre .0) (c .before .before .before .before .pre .1)) (c .before .loop-test .taken)
+shared-slice-read-type-parts c = inside (c .before)
 
 type-parts-requires : tie.Need-type-parts-requires Inv-loop μ-loop
 type-parts-requires c κs = search needs
@@ -27,13 +42,15 @@ sub-left : tie.Need-sub-left Inv-loop μ-loop
 sub-left c = omega (arith, c .before .before .loop-test .taken)
 
 add-left : tie.Need-add-left Inv-loop μ-loop
-add-left c = omega (arith, types-few _ _ _ _ (types-step _ _ _ _ (c .before .before .before .loop .inv (c .before .before .before .before .before .pre .0) (c .before .before .before .before .before .pre .1)) (c .before .before .loop-test .taken)), c .type-parts .ensures)
+add-left c =
+    let l = c .before .before in
+    omega (arith, types-few _ _ _ _ (types-step _ _ _ _ (pending l) (l .loop-test .taken)), c .type-parts .ensures)
 
 add-i : tie.Need-add-i Inv-loop μ-loop
-add-i c = omega (arith, types-inside _ _ _ _ (c .before .before .before .loop .inv (c .before .before .before .before .before .pre .0) (c .before .before .before .before .before .pre .1)) (c .before .before .loop-test .taken))
+add-i c = omega (arith, inside (c .before .before))
 
 loop-less : tie.Need-loop-less Inv-loop μ-loop
-loop-less c = omega (arith, types-inside _ _ _ _ (c .before .before .before .loop .inv (c .before .before .before .before .before .pre .0) (c .before .before .before .before .before .pre .1)) (c .before .before .loop-test .taken))
+loop-less c = omega (arith, inside (c .before .before))
 
 loop-again : tie.Need-loop-again Inv-loop μ-loop
 loop-again c = λ t h. rw (c .type-parts .ensures) (types-step _ _ _ _ (c .before .before .before .loop .inv t h) (c .before .before .loop-test .taken))

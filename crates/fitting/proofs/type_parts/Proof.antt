@@ -1,3 +1,4 @@
+-- `type_parts`: by the code.
 use mathlib.Core.Path.{sym}
 use Rattle.fitting.proofs.Types.{parts-pow, parts-product, parts-atom}
 use Rattle.fitting.proofs.type_parts.Statement.{statement}

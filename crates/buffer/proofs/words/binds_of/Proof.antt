@@ -22,16 +22,23 @@ loop-holds : tie.Need-loop-holds Inv-loop μ-loop
 loop-holds c = filled-start refl
 
 bind-requires : tie.Need-bind-requires Inv-loop μ-loop
-bind-requires c κs = (c .before .before .before .before .pre .header, omega (arith, c .loop-test, c .before .before .identifiers .ensures))
+bind-requires c κs = let b = c .before in (b .before .before .before .pre .header, omega (arith, c .loop-test, c .before .before .identifiers .ensures))
 
 cast-binds : tie.Need-cast-binds Inv-loop μ-loop
-cast-binds c = let b = c .before .before in omega (arith, bind-fits (b .before .before .before .pre) (b .loop .x) (omega (arith, c .before .loop-test, b .before .identifiers .ensures)) (c .bind .ensures))
+cast-binds c =
+    let b = c .before .before in
+    omega (
+      arith,
+      bind-fits (b .before .before .before .pre) (b .loop .x) (omega (arith, c .before .loop-test, b .before .identifiers .ensures)) (c .bind .ensures),
+    )
 
 mul-binds : tie.Need-mul-binds Inv-loop μ-loop
 mul-binds c = let b = c .before .before in omega (arith, c .before .loop-test, b .before .identifiers .ensures, bind-bound (b .before .before .before .pre))
 
 array-write-binds : tie.Need-array-write-binds Inv-loop μ-loop
-array-write-binds c = let b = c .before .before in omega (arith, c .before .loop-test, b .before .identifiers .ensures, bind-bound (b .before .before .before .pre))
+array-write-binds c =
+    let b = c .before .before in
+    omega (arith, c .before .loop-test, b .before .identifiers .ensures, bind-bound (b .before .before .before .pre))
 
 add-x : tie.Need-add-x Inv-loop μ-loop
 add-x c = search needs
@@ -42,7 +49,8 @@ loop-less c = omega (arith, c .before .loop-test)
 loop-again : tie.Need-loop-again Inv-loop μ-loop
 loop-again c =
     let b = c .before .before in
-    filled-turn (b .loop .inv) (omega (arith, c .before .loop-test, b .before .identifiers .ensures)) (bind-bound (b .before .before .before .pre)) (c .bind .ensures 0)
+    filled-turn (b .loop .inv) (omega (arith, c .before .loop-test, b .before .identifiers .ensures)) (bind-bound (b .before .before .before .pre))
+    (c .bind .ensures 0)
 
 returns : tie.Need-returns Inv-loop μ-loop
 returns c =

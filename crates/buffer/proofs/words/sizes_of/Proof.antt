@@ -22,7 +22,7 @@ loop-holds : tie.Need-loop-holds Inv-loop μ-loop
 loop-holds c = filled-start refl
 
 size-requires : tie.Need-size-requires Inv-loop μ-loop
-size-requires c κs = c .before .before .before .before .pre .header
+size-requires c κs = let b = c .before in b .before .before .before .pre .header
 
 cast-sizes : tie.Need-cast-sizes Inv-loop μ-loop
 cast-sizes c = let b = c .before .before in omega (arith, size-fits (b .before .before .before .pre) (b .loop .g) (c .size .ensures))
@@ -42,7 +42,8 @@ loop-less c = omega (arith, c .before .loop-test)
 loop-again : tie.Need-loop-again Inv-loop μ-loop
 loop-again c =
     let b = c .before .before in
-    filled-turn (b .loop .inv) (omega (arith, c .before .loop-test, b .before .givens .ensures)) (size-bound (b .before .before .before .pre)) (c .size .ensures)
+    filled-turn (b .loop .inv) (omega (arith, c .before .loop-test, b .before .givens .ensures)) (size-bound (b .before .before .before .pre))
+    (c .size .ensures)
 
 returns : tie.Need-returns Inv-loop μ-loop
 returns c =

@@ -1,0 +1,123 @@
+-- `values_share`: the first k values share a type; the next is tested against those that stand for them, the first or all.
+use Prim.Native.Nat.{_-_, _<_}
+use mathlib.Core.Path.{sym, _∙_}
+use native.Mathlib.Omega.{arith}
+use borrow.Author.Needs.{needs}
+use borrow.Author.Tests.{not-true, not-false}
+use Rattle.rules.specs.Values.{Values}
+use Rattle.arena.specs.Code.{SomeAt}
+use Rattle.fitting.specs.Agree.{SomeTyped, StandFor}
+use Rattle.fitting.proofs.Cells.{some-at}
+use Rattle.buffer.specs.Shared.{TypedRow}
+use Rattle.buffer.proofs.Sharing.{Prefix, row-some, prefix-start, prefix-end, prefix-next, stand-for, prefix-fails, prefix-step, end-inside}
+use Rattle.buffer.proofs.values_share.Statement.{statement}
+use Rattle.buffer.proofs.values_share.Tie as tie
+
+abbrev Inv-loop : tie.InvT-loop
+Inv-loop s at n end one i₀ k₀ i k = (0 < k) × ((vs : Values) → TypedRow s at n vs → Prefix s at i k vs)
+
+abbrev μ-loop : tie.MeasureT-loop
+μ-loop s at n end one i₀ k₀ i k = n - k
+
+abbrev Start : Type 0
+Start = tie.Start Inv-loop μ-loop
+
+first : (p : Start) → SomeAt (p .args .s .now) (p .args .at)
+first p = row-some _ _ _ (p .pre .0) (λ z. omega (arith, p .pre .1))
+
+-- A turn of the loop: where the first value ends and whether it has one type only, what was lent, and the next value.
+abbrev Turn : Type 0
+Turn = tie.In-loop Inv-loop μ-loop
+
+abbrev begun : Turn → tie.After-full Inv-loop μ-loop
+begun l = l .before .before
+
+abbrev lent : Turn → Start
+lent l = begun l .before .before .before
+
+abbrev so-far : (l : Turn) (vs : Values) → TypedRow (lent l .args .s .now) (lent l .args .at) (lent l .args .n) vs →
+    Prefix (lent l .args .s .now) (lent l .args .at) (l .before .loop .i) (l .before .loop .k) vs
+so-far l vs r = l .before .loop .inv .1 vs r
+
+next : (l : Turn) → SomeTyped (lent l .args .s .now) (l .before .loop .i)
+next l =
+    let p = lent l .pre .0 in prefix-next _ _ _ _ _ (p .0) (p .1) (so-far l (p .0) (p .1)) (l .loop-test .taken)
+
+-- It is known how many of the first values stand for all of them.
+abbrev Few : Type 0
+Few = tie.After-few Inv-loop μ-loop
+
+stand : (m : Few) (vs : Values) (r : TypedRow (lent (m .before) .args .s .now) (lent (m .before) .args .at) (lent (m .before) .args .n) vs) →
+    StandFor (lent (m .before) .args .s .now) (lent (m .before) .args .at) (m .few .result) (so-far (m .before) vs r .front)
+stand m vs r =
+    let l = m .before in
+    let b = begun l in
+    stand-for _ _ _ _ _ vs r (so-far l vs r) _ _ _ (l .before .loop .inv .0) (b .before .end-of .ensures) (b .full .ensures .sound) (m .few .ensures)
+
+end-of-requires : tie.Need-end-of-requires Inv-loop μ-loop
+end-of-requires c κs = first (c .before)
+
+full-requires : tie.Need-full-requires Inv-loop μ-loop
+full-requires c κs = end-inside _ _ _ (first (c .before .before)) (c .end-of .ensures)
+
+loop-holds : tie.Need-loop-holds Inv-loop μ-loop
+loop-holds c =
+    let p = c .before .before .before .pre in
+    (omega arith, λ vs r. prefix-start _ _ _ _ (c .before .end-of .ensures) (λ z. omega (arith, p .1)) vs r)
+
+few-requires : tie.Need-few-requires Inv-loop μ-loop
+few-requires c κs = search needs
+
+against-requires : tie.Need-against-requires Inv-loop μ-loop
+against-requires c κs =
+    let l = c .before in
+    let p = lent l .pre .0 in
+    let g = stand c (p .0) (p .1) in
+    record { first = next l; second = (g .few, g .run) }
+
+returns : tie.Need-returns Inv-loop μ-loop
+returns c = λ vs r.
+    let m = c .before .before in
+    let l = m .before in
+    prefix-fails _ _ _ _ _ vs r (so-far l vs r) _ (l .loop-test .taken) (stand m vs r)
+    (λ v ws h k. sym (not-true _ (c .if1 .taken)) ∙ c .before .against .ensures v ws h k)
+
+end-of-requires-2 : tie.Need-end-of-requires-2 Inv-loop μ-loop
+end-of-requires-2 c κs = some-at (next (c .before .before .before))
+
+add-k : tie.Need-add-k Inv-loop μ-loop
+add-k c = let m = c .before .before .before in omega (arith, m .before .loop-test .taken)
+
+loop-less : tie.Need-loop-less Inv-loop μ-loop
+loop-less c = let m = c .before .before .before in omega (arith, m .before .loop-test .taken)
+
+loop-again : tie.Need-loop-again Inv-loop μ-loop
+loop-again c =
+    let m = c .before .before .before in
+    let l = m .before in (
+      omega arith,
+      λ vs r.
+          prefix-step _ _ _ _ _ vs r (so-far l vs r) _ (l .loop-test .taken) (stand m vs r) _ (c .end-of2 .ensures)
+          (λ v ws h k. sym (not-false _ (c .before .if1 .left)) ∙ c .before .before .against .ensures v ws h k),
+    )
+
+returns-2 : tie.Need-returns-2 Inv-loop μ-loop
+returns-2 c = λ vs r. prefix-end _ _ _ _ _ vs r (c .before .loop .inv .1 vs r) (omega (arith, c .loop-test .left))
+
+pub values-share-spec : {M : Type 1} → statement M
+values-share-spec =
+    tie.close
+    (tie.spec
+    Inv-loop
+    μ-loop
+    end-of-requires
+    full-requires
+    loop-holds
+    few-requires
+    against-requires
+    returns
+    end-of-requires-2
+    add-k
+    loop-less
+    loop-again
+    returns-2)

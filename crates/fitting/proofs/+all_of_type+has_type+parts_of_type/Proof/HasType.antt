@@ -1,0 +1,156 @@
+-- `has_type`: by the tag of the value's cell and the first code of the type.
+use Prim.Native.Nat.{ℕ, _/_, _<_}
+use mathlib.Core.Path.{_≡_, sym, _∙_}
+use native.Mathlib.Omega.{arith}
+use borrow.Author.Needs.{needs}
+use lib.ListN.{length, getD}
+use Rattle.arena.proofs.ValueParts.{some-inside}
+use Rattle.fitting.proofs.Types.{type-inside, is-atom, set-no, pair-no, set-type, pair-type, set-asks, pair-asks}
+use Rattle.fitting.proofs.all_of_type.Reads as all-of-type
+use Rattle.fitting.proofs.has_type.Reads as has-type
+use Rattle.fitting.proofs.parts_of_type.Reads as parts-of-type
+use Rattle.arena.proofs.low.Reads as low-reads
+use Rattle.arena.proofs.tag.Reads as tag-reads
+use Rattle.fitting.proofs.atom_is.Reads as atom-is-reads
+use Rattle.fitting.proofs.+all_of_type+has_type+parts_of_type.Lts-has_type as lts
+use Rattle.fitting.proofs.+all_of_type+has_type+parts_of_type.Proof.Base.{all-of-type-below, has-type-at, parts-of-type-below}
+
+module _ (t : ℕ) where
+  abbrev claims : lts.Claims
+  claims = (
+    tag-reads.Asked,
+    tag-reads.Learnt,
+    low-reads.Asked,
+    low-reads.Learnt,
+    all-of-type-below t,
+    all-of-type.Post,
+    parts-of-type-below t,
+    parts-of-type.Post,
+    atom-is-reads.Asked,
+    atom-is-reads.Learnt,
+  )
+
+  abbrev Start : Type 0
+  Start = lts.Start claims (has-type-at t) has-type.Post
+
+  value-inside : (p : Start) → p .args .at < length (p .args .s .now)
+  value-inside p = some-inside _ _ (p .pre .1 .0)
+
+  code-inside : (p : Start) → p .args .from < length (p .args .row .now)
+  code-inside p = type-inside _ _ (p .pre .1 .1)
+
+  -- The tag is known; it is a set's and the code is POW's, or a pair's and the code a product's.
+  abbrev Tagged : Type 0
+  Tagged = lts.After-tag claims (has-type-at t) has-type.Post
+
+  abbrev lent : Tagged → Start
+  lent m = m .before .before .before .before .before
+
+  abbrev tag-of : (m : Tagged) → m .tag .result ≡ getD (lent m .args .s .now) (lent m .args .at) 0 / 4294967296
+  tag-of m = m .tag .ensures
+
+  abbrev Counted : Type 0
+  Counted = lts.After-low claims (has-type-at t) has-type.Post
+
+  abbrev set-tagged : Counted → Tagged
+  set-tagged c = c .before .before .before
+
+  abbrev Product : Type 0
+  Product = lts.Else4 claims (has-type-at t) has-type.Post
+
+  abbrev pair-tagged : Product → Tagged
+  pair-tagged c = c .before .before .before
+
+  mul-x : lts.Need-mul-x claims (has-type-at t) has-type.Post
+  mul-x c = omega (arith, value-inside (c .before .before))
+
+  shared-slice-read-x : lts.Need-shared-slice-read-x claims (has-type-at t) has-type.Post
+  shared-slice-read-x c = value-inside (c .before .before .before)
+
+  shared-slice-read-c : lts.Need-shared-slice-read-c claims (has-type-at t) has-type.Post
+  shared-slice-read-c c = let m = c .before in code-inside (m .before .before .before)
+
+  tag-requires : lts.Need-tag-requires claims (has-type-at t) has-type.Post
+  tag-requires c κs = search needs
+
+  returns : lts.Need-returns claims (has-type-at t) has-type.Post
+  returns c = set-no _ _ _ _ (sym (tag-of (c .before .before)) ∙ c .before .if1 .taken) (c .if2 .taken)
+
+  low-requires : lts.Need-low-requires claims (has-type-at t) has-type.Post
+  low-requires c κs = search needs
+
+  add-all-of-type : lts.Need-add-all-of-type claims (has-type-at t) has-type.Post
+  add-all-of-type c = omega (arith, value-inside (lent (set-tagged c)))
+
+  add-all-of-type-2 : lts.Need-add-all-of-type-2 claims (has-type-at t) has-type.Post
+  add-all-of-type-2 c = omega (arith, code-inside (lent (set-tagged c)))
+
+  all-of-type-requires : lts.Need-all-of-type-requires claims (has-type-at t) has-type.Post
+  all-of-type-requires c κs =
+      let m = set-tagged c in
+      let p = lent m in (
+        omega (arith, p .pre .0, value-inside p),
+        set-asks _ _ _ _ _ (p .pre .1 .0) (p .pre .1 .1)
+            (sym (tag-of m) ∙ c .before .before .if1 .taken) (c .before .if2 .left) (c .low .ensures .0),
+      )
+
+  returns-2 : lts.Need-returns-2 claims (has-type-at t) has-type.Post
+  returns-2 c =
+      let d = c .before in
+      set-type _ _ _ _ _ _ (sym (tag-of (set-tagged d)) ∙ d .before .before .if1 .taken) (d .before .if2 .left) (d .low .ensures .0)
+      (c .all-of-type .ensures)
+
+  returns-3 : lts.Need-returns-3 claims (has-type-at t) has-type.Post
+  returns-3 c = pair-no _ _ _ _ (sym (tag-of (c .before .before .before)) ∙ c .before .if3 .taken) (c .if4 .taken)
+
+  add-parts-of-type : lts.Need-add-parts-of-type claims (has-type-at t) has-type.Post
+  add-parts-of-type c = omega (arith, value-inside (lent (pair-tagged c)))
+
+  add-parts-of-type-2 : lts.Need-add-parts-of-type-2 claims (has-type-at t) has-type.Post
+  add-parts-of-type-2 c = omega (arith, code-inside (lent (pair-tagged c)))
+
+  parts-of-type-requires : lts.Need-parts-of-type-requires claims (has-type-at t) has-type.Post
+  parts-of-type-requires c κs =
+      let m = pair-tagged c in
+      let p = lent m in (
+        omega (arith, p .pre .0, value-inside p),
+        pair-asks _ _ _ _ (p .pre .1 .0) (p .pre .1 .1) (sym (tag-of m) ∙ c .before .if3 .taken) (c .if4 .left),
+      )
+
+  returns-4 : lts.Need-returns-4 claims (has-type-at t) has-type.Post
+  returns-4 c =
+      let d = c .before in
+      pair-type _ _ _ _ _ (sym (tag-of (pair-tagged d)) ∙ d .before .if3 .taken) (d .if4 .left) (c .parts-of-type .ensures)
+
+  atom-is-requires : lts.Need-atom-is-requires claims (has-type-at t) has-type.Post
+  atom-is-requires c κs = search needs
+
+  returns-5 : lts.Need-returns-5 claims (has-type-at t) has-type.Post
+  returns-5 c =
+      let m = c .before .before .before in
+      is-atom _ _ _ _ _ (c .atom-is .ensures)
+      (λ e. c .before .before .if1 .left (tag-of m ∙ e)) (λ e. c .before .if3 .left (tag-of m ∙ e))
+
+  pub has-type-closed : {M : Type 1} → lts.Closed claims (has-type-at t) has-type.Post M
+  has-type-closed =
+      lts.spec
+      claims
+      (has-type-at t)
+      has-type.Post
+      mul-x
+      shared-slice-read-x
+      shared-slice-read-c
+      tag-requires
+      returns
+      low-requires
+      add-all-of-type
+      add-all-of-type-2
+      all-of-type-requires
+      returns-2
+      returns-3
+      add-parts-of-type
+      add-parts-of-type-2
+      parts-of-type-requires
+      returns-4
+      atom-is-requires
+      returns-5
