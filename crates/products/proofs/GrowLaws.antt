@@ -14,7 +14,7 @@ use Rattle.arena.proofs.FrontLaws.{single, value-end}
 use Rattle.products.specs.Growing.{Appended, Grown, cellsFrom, PairPre}
 
 -- Nothing, a cell, or a copied run, written behind what stands.
-nothing-stands : (s : List ℕ) (to : ℕ) → to ≤ length s → Stands s to []
+pub nothing-stands : (s : List ℕ) (to : ℕ) → to ≤ length s → Stands s to []
 nothing-stands s to l = record { inside = omega arith; cells = λ i p. absurd (omega arith) }
 
 pub appended-none : (s : List ℕ) (to : ℕ) → to ≤ length s → Appended s to s to []

@@ -25,6 +25,9 @@ add-copy c = search needs
 copy-requires : tie.Need-copy-requires
 copy-requires c κs = (omega (arith, value-end _ _ _ _ _ (c .before .before .before .before .before .pre .0 .1) (c .before .before .end-of .ensures), c .before .before .before .before .before .pre .0 .1 .below), omega (arith, c .before .if1 .left), inl (omega (arith, value-end _ _ _ _ _ (c .before .before .before .before .before .pre .0 .1) (c .before .before .end-of .ensures), c .before .before .before .before .before .pre .0 .1 .below)))
 
+add-s : tie.Need-add-s
+add-s c = search needs
+
 mul-s : tie.Need-mul-s
 mul-s c = search needs
 
@@ -53,6 +56,7 @@ singleton-spec =
     returns
     add-copy
     copy-requires
+    add-s
     mul-s
     slice-write-s
     add-result
