@@ -1,6 +1,6 @@
 -- A value put among the rising members that stand in the arena. The members are passed while they are less (`Finding`); what stands from the
 -- place on is moved up, the last cell first (`Shifting`), and the value is copied into the gap (`inserts-put`).
-use Prim.Native.Nat.{ℕ, _+_, _-_, _≤_, _<_, Ordering, Ordering·lt, Ordering·eq, Ordering·gt}
+use Prim.Native.Nat.{ℕ, _+_, _-_, _≤_, _<_}
 use mathlib.Core.Bool.{Bool, true, false, cond}
 use mathlib.Core.List.{List, [], _∷_, _++_, append-assoc, append-nil}
 use mathlib.Core.Path.{_≡_, refl, sym, ap, _∙_, subst}
@@ -13,13 +13,13 @@ use lib.Seq.{getD-set-same, getD-set-other}
 use Rattle.rules.specs.Values.{Value, values, count, weight, weights, order}
 use Rattle.rules.specs.Operations.{insert}
 use Rattle.laws.proofs.OrderLaws.{Small}
-use Rattle.laws.proofs.SetOrder.{All, Rising, all-imp, insert-all, insert-rising}
+use Rattle.laws.proofs.SetOrder.{Rising, all-imp, insert-all, insert-rising}
 use Rattle.laws.proofs.CellsLaws.{weight-some}
-use Rattle.arena.specs.Code.{code, codes, Stands, ValueAt, ValuesAt, Same, CellsFit, orderCode, SomeAt, EndsAt, Compared, Copied, ValueBelow}
+use Rattle.arena.specs.Code.{code, codes, Stands, ValueAt, Same, CellsFit, SomeAt, EndsAt, Compared, Copied, ValueBelow}
 use Rattle.arena.proofs.CodeLaws.{length-code, length-codes, fits-small}
 use Rattle.arena.proofs.Standing.{stands-front, stands-back, stands-append, stands-frame, same-refl, same-trans, copied-stands}
-use Rattle.arena.proofs.FrontLaws.{codes-append, count-append, weights-append, value-some, code-greater}
-use Rattle.products.specs.Parts.{Members, lastOf, LastAt, Built, Placed, FindPre, InsertPre, Places, Inserts, movedLast}
+use Rattle.arena.proofs.FrontLaws.{codes-append, count-append, weights-append, code-greater}
+use Rattle.products.specs.Parts.{Members, lastOf, LastAt, Built, Placed, FindPre, InsertPre, Places, movedLast}
 use Rattle.products.specs.declared.Out.{Out}
 use Rattle.products.specs.declared.Place.{Place}
 use Rattle.products.proofs.PartLaws.{insert-next, insert-here, insert-none, last-append, last-weighs, insert-last}
@@ -42,7 +42,8 @@ shifting-start s from m n = record {
 }
 
 module _ (s₀ : List ℕ) (from m n : ℕ) (s : List ℕ) (left : ℕ) (h : Shifting s₀ from m n s left) where
-  pub shifting-next : 0 < left → from + m + n ≤ length s₀ → (at : ℕ) → at ≡ from + (left - 1) → Shifting s₀ from m n (setAt s (at + n) (getD s at 0)) (left - 1)
+  pub shifting-next : 0 < left → from + m + n ≤ length s₀ → (at : ℕ) → at ≡ from + (left - 1) →
+      Shifting s₀ from m n (setAt s (at + n) (getD s at 0)) (left - 1)
   shifting-next l room at e = record {
     few = omega (arith, h .few);
     there = λ i p q. moved i p q (ℕ-discrete i (left - 1));
@@ -91,41 +92,53 @@ pub finding-start : (s : List ℕ) (v : Value) (from to : ℕ) (zs : List Value)
 finding-start s v from to zs h = record { lo = []; hi = zs; all = refl; at = omega arith; rest = h; inserted = refl }
 
 module _ (s : List ℕ) (v : Value) (from to : ℕ) (zs : List Value) (i : ℕ) (h : Finding s v from to zs i) where
+  -- The members hi follow those that have been passed.
+  abbrev Follow : List Value → Type 0
+  Follow hi = (zs ≡ h .lo ++ hi) × Members s i to hi × (insert v zs ≡ h .lo ++ insert v hi)
+
   pub finding-end : to ≤ i → Placed v from zs (record { at = to; equal = false })
-  finding-end l = go (h .hi) (h .all) (h .rest) (h .inserted)
+  finding-end l = go (h .hi) (h .all, h .rest, h .inserted)
     where
-      go : (hi : List Value) → zs ≡ h .lo ++ hi → Members s i to hi → insert v zs ≡ h .lo ++ insert v hi → Placed v from zs (record { at = to; equal = false })
-      go [] a m e = record { lo = h .lo; hi = []; all = a; at = omega (arith, h .at, m .ends); inserted = e ∙ ap (λ (l : List Value). h .lo ++ l) (insert-none v) }
-      go (z ∷ hi) a m e = absurd (omega (arith, m .ends, weight-some z))
+      go : (hi : List Value) → Follow hi → Placed v from zs (record { at = to; equal = false })
+      go [] (a, m, e) = record {
+        lo = h .lo;
+        hi = [];
+        all = a;
+        at = omega (arith, h .at, m .ends);
+        inserted = e ∙ ap (λ (l : List Value). h .lo ++ l) (insert-none v);
+      }
+      go (z ∷ hi) (a, m, e) = absurd (omega (arith, m .ends, weight-some z))
 
   module _ (l : i < to) where
     -- What is shown where a member follows is shown.
-    finding-by : (P : Type 0) → ((z : Value) (hi : List Value) → zs ≡ h .lo ++ (z ∷ hi) → Members s i to (z ∷ hi) → insert v zs ≡ h .lo ++ insert v (z ∷ hi) → P) → P
-    finding-by P f = go (h .hi) (h .all) (h .rest) (h .inserted)
+    finding-by : (P : Type 0) → ((z : Value) (hi : List Value) → Follow (z ∷ hi) → P) → P
+    finding-by P f = go (h .hi) (h .all, h .rest, h .inserted)
       where
-        go : (hi : List Value) → zs ≡ h .lo ++ hi → Members s i to hi → insert v zs ≡ h .lo ++ insert v hi → P
-        go [] a m e = absurd (omega (arith, m .ends))
-        go (z ∷ hi) a m e = f z hi a m e
+        go : (hi : List Value) → Follow hi → P
+        go [] (a, m, e) = absurd (omega (arith, m .ends))
+        go (z ∷ hi) q = f z hi q
 
     pub finding-some : SomeAt s i
-    finding-some = finding-by (SomeAt s i) λ z hi a m e. record { value = z; stands = members-first s i to z hi m; fits = m .fits .0 }
+    finding-some = finding-by (SomeAt s i) λ z hi q. record { value = z; stands = members-first s i to z hi (q .1); fits = q .1 .fits .0 }
 
     pub finding-on : (e : ℕ) → EndsAt s i e → i < e
-    finding-on e ends = finding-by (i < e) λ z hi a m q. omega (arith, ends z (members-first s i to z hi m) (m .fits .0), weight-some z)
+    finding-on e ends = finding-by (i < e) λ z hi q. omega (arith, ends z (members-first s i to z hi (q .1)) (q .1 .fits .0), weight-some z)
 
     module _ (p c : ℕ) (value : ValueAt s p v) (fits : CellsFit v) (compared : Compared s p i c) where
       pub finding-here : c < 2 → Placed v from zs (record { at = i; equal = eqb c 1 })
-      finding-here k = finding-by (Placed v from zs (record { at = i; equal = eqb c 1 })) λ z hi a m e.
+      finding-here k = finding-by (Placed v from zs (record { at = i; equal = eqb c 1 })) λ z hi q.
+          let o = compared v z value (members-first s i to z hi (q .1)) fits (q .1 .fits .0) in
           record {
             lo = h .lo;
             hi = z ∷ hi;
-            all = a;
+            all = q .0;
             at = h .at;
-            inserted = e ∙ ap (λ (x : List Value). h .lo ++ x) (insert-here v z hi c (compared v z value (members-first s i to z hi m) fits (m .fits .0)) k);
+            inserted = q .2 ∙ ap (λ (x : List Value). h .lo ++ x) (insert-here v z hi c o k);
           }
 
       pub finding-next : 2 ≤ c → (e : ℕ) → EndsAt s i e → Finding s v from to zs e
-      finding-next k e ends = finding-by (Finding s v from to zs e) λ z hi a m q.
+      finding-next k e ends = finding-by (Finding s v from to zs e) λ z hi q.
+          let m = q .1 in
           let x = members-first s i to z hi m in
           let o = compared v z value x fits (m .fits .0) in
           let g = code-greater (order v z) c o (λ f. omega arith) (λ f. omega arith) in
@@ -133,10 +146,10 @@ module _ (s : List ℕ) (v : Value) (from to : ℕ) (zs : List Value) (i : ℕ) 
           record {
             lo = h .lo ++ (z ∷ []);
             hi = hi;
-            all = a ∙ sym (append-assoc (h .lo) (z ∷ []) hi);
+            all = q .0 ∙ sym (append-assoc (h .lo) (z ∷ []) hi);
             at = omega (arith, h .at, weights-append (h .lo) (z ∷ []));
             rest = members-next s i to z hi m e w;
-            inserted = q ∙ ap (λ (l : List Value). h .lo ++ l) (insert-next v z hi g) ∙ sym (append-assoc (h .lo) (z ∷ []) (insert v hi));
+            inserted = q .2 ∙ ap (λ (l : List Value). h .lo ++ l) (insert-next v z hi g) ∙ sym (append-assoc (h .lo) (z ∷ []) (insert v hi));
           }
 
 -- `place_for`: the last member stands before the end.
@@ -198,21 +211,42 @@ last-at : (last to : ℕ) (lo : List Value) (h : Value) (hs : List Value) → la
 last-at last to [] h hs l = l
 last-at last to (z ∷ lo) h hs l = rw (last-append z lo h hs) l
 
-last-moved : (o : Out) (at n : ℕ) (v : Value) (lo hi : List Value) → LastAt (o .last) (o .to) (lo ++ hi) → o .to ≡ at + weights (values hi) → n ≡ weight v →
-    LastAt (movedLast at (o .to) (o .last) n) (o .to + n) (lo ++ (v ∷ hi))
+last-moved : (o : Out) (at n : ℕ) (v : Value) (lo hi : List Value) → LastAt (o .last) (o .to) (lo ++ hi) → o .to ≡ at + weights (values hi) →
+    n ≡ weight v → LastAt (movedLast at (o .to) (o .last) n) (o .to + n) (lo ++ (v ∷ hi))
 last-moved o at n v lo [] l e w = last-at (movedLast at (o .to) (o .last) n) (o .to + n) lo v [] (rw (eq-eqb at (o .to) (omega arith)) (omega arith))
 last-moved o at n v lo (h ∷ hs) l e w =
     let z = last-of (o .last) (o .to) lo h hs l in
     last-at (movedLast at (o .to) (o .last) n) (o .to + n) lo v (h ∷ hs) (rw (ne-eqb at (o .to) (λ q. omega (arith, weight-some h))) (omega arith))
 
--- What stands behind a copied run stays.
-stands-behind : (s : List ℕ) (from n to : ℕ) (s′ : List ℕ) (k : ℕ) (xs : List ℕ) → Copied s from n to s′ → to + n ≤ k → Stands s k xs → Stands s′ k xs
-stands-behind s from n to s′ k xs c l h = record { inside = omega (arith, c .kept, h .inside); cells = λ i p. c .after (k + i) (omega arith) ∙ h .cells i p }
+-- What stands behind a copied run stays, and what is below it.
+stands-behind : (s : List ℕ) (from n to : ℕ) (s′ : List ℕ) (k : ℕ) (xs : List ℕ) → Copied s from n to s′ → to + n ≤ k → Stands s k xs →
+    Stands s′ k xs
+stands-behind s from n to s′ k xs c l h = record {
+  inside = omega (arith, c .kept, h .inside);
+  cells = λ i p. c .after (k + i) (omega arith) ∙ h .cells i p;
+}
 
 copied-same : (s : List ℕ) (from n to : ℕ) (s′ : List ℕ) (k : ℕ) → Copied s from n to s′ → k ≤ to → Same k s s′
 copied-same s from n to s′ k c l = record { same = λ i p. c .before i (omega arith); kept = c .kept }
 
-module _ (s : List ℕ) (p from : ℕ) (o : Out) (v : Value) (zs : List Value) (below : ValueBelow s from p v) (h : Built s from o zs) (q : Place) (d : Placed v from zs q) where
+-- Of the cells lo and hi, those of hi are moved up, and the cells xs, which stand below, are copied into the gap.
+module _ (s s₁ s₂ : List ℕ) (p from at n m : ℕ) (lo xs hi : List ℕ) (shifted : Copied s at m (at + n) s₁) (copied : Copied s₁ p n at s₂)
+    (place : at ≡ from + length lo) (size : length xs ≡ n) (rest : length hi ≡ m) (room : at + m + n ≤ length s) where
+  gap-same : (k : ℕ) → k ≤ at → Same k s s₂
+  gap-same k l = same-trans k k s s₁ s₂ (copied-same s at m (at + n) s₁ k shifted (omega arith)) (copied-same s₁ p n at s₂ k copied l) (omega arith)
+
+  gap-stands : p + n ≤ from → Stands s p xs → Stands s from (lo ++ hi) → Stands s₂ from (lo ++ (xs ++ hi))
+  gap-stands l h k =
+      let low = stands-frame at s s₂ from lo (gap-same at (omega arith)) (omega arith) (stands-front s from lo hi k) in
+      let here = stands-frame at s s₁ p xs (copied-same s at m (at + n) s₁ at shifted (omega arith)) (omega arith) h in
+      let middle = copied-stands s₁ p n at s₂ xs copied size (omega (arith, shifted .kept)) here in
+      let high = rw (← place) at (stands-back s from lo hi k) in
+      let up = stands-behind s₁ p n at s₂ (at + n) hi copied (omega arith) (copied-stands s at m (at + n) s₁ hi shifted rest (omega arith) high) in
+      let back : Stands s₂ at (xs ++ hi) = stands-append s₂ at xs hi middle (rw (← size) at up) in
+      stands-append s₂ from lo (xs ++ hi) low (rw place at back)
+
+module _ (s : List ℕ) (p from : ℕ) (o : Out) (v : Value) (zs : List Value) (below : ValueBelow s from p v) (h : Built s from o zs) (q : Place)
+    (d : Placed v from zs q) where
   pub inserts-none : q .equal ≡ true → Same from s s × Built s from o (insert v zs)
   inserts-none e =
       let z : insert v zs ≡ zs = d .inserted ∙ ap (λ (b : Bool). d .lo ++ cond b (d .hi) (v ∷ d .hi)) e ∙ sym (d .all) in
@@ -234,43 +268,35 @@ module _ (s : List ℕ) (p from : ℕ) (o : Out) (v : Value) (zs : List Value) (
 
   module _ (n : ℕ) (weighs : n ≡ weight v) (room : o .to + n ≤ length s) (s₁ s₂ : List ℕ)
       (shifted : Copied s (q .at) (o .to - q .at) (q .at + n) s₁) (copied : Copied s₁ p n (q .at) s₂) where
-    gap-stands : Stands s₂ from (codes (values (d .lo ++ (v ∷ d .hi))))
+    -- the codes of the members before the place, of the value, and of the members behind it
+    put-stands : Stands s₂ from (codes (values (d .lo ++ (v ∷ d .hi))))
     unfolding code
-    gap-stands =
-        let at = q .at in
+    put-stands =
+        let z = place-near in
         let lo = codes (values (d .lo)) in
         let hi = codes (values (d .hi)) in
-        let x = length-codes (values (d .lo)) in
-        let y = length-codes (values (d .hi)) in
-        let w = length-code v in
-        let z = place-near in
-        let a : Stands s from (lo ++ hi) = subst (λ (l : List ℕ). Stands s from l) (ap (λ (l : List Value). codes (values l)) (d .all) ∙ codes-append (d .lo) (d .hi)) (h .members .stands) in
-        let f = same-trans at at s s₁ s₂ (copied-same s at (o .to - at) (at + n) s₁ at shifted (omega arith)) (copied-same s₁ p n at s₂ at copied (omega arith)) (omega arith) in
-        let b : Stands s₂ from lo = stands-frame at s s₂ from lo f (omega (arith, d .at)) (stands-front s from lo hi a) in
-        let u : Stands s₁ p (code v) = stands-frame at s s₁ p (code v) (copied-same s at (o .to - at) (at + n) s₁ at shifted (omega arith)) (omega (arith, below .below, z .0)) (below .stands) in
-        let e : Stands s₂ at (code v) = copied-stands s₁ p n at s₂ (code v) copied (omega arith) (omega (arith, shifted .kept, z .1)) u in
-        let g : Stands s at hi = subst (λ (j : ℕ). Stands s j hi) (let k : from + length lo ≡ at = omega (arith, d .at) in k) (stands-back s from lo hi a) in
-        let i : Stands s₁ (at + n) hi = copied-stands s at (o .to - at) (at + n) s₁ hi shifted (omega (arith, z .1)) (omega (arith, z .1)) g in
-        let j : Stands s₂ (at + n) hi = stands-behind s₁ p n at s₂ (at + n) hi copied (omega arith) i in
-        let m : Stands s₂ at (code v ++ hi) = stands-append s₂ at (code v) hi e (subst (λ (k : ℕ). Stands s₂ k hi) (let k : at + n ≡ at + length (code v) = omega arith in k) j) in
-        subst (λ (l : List ℕ). Stands s₂ from l) (sym (codes-append (d .lo) (v ∷ d .hi)))
-        (stands-append s₂ from lo (code v ++ hi) b (subst (λ (k : ℕ). Stands s₂ k (code v ++ hi)) (let k : at ≡ from + length lo = omega (arith, d .at) in k) m))
+        let e = ap (λ (l : List Value). codes (values l)) (d .all) ∙ codes-append (d .lo) (d .hi) in
+        let w = length-codes (values (d .lo)) in
+        rw (codes-append (d .lo) (v ∷ d .hi))
+        (gap-stands s s₁ s₂ p from (q .at) n (o .to - q .at) lo (code v) hi shifted copied (omega (arith, d .at))
+        (length-code v ∙ sym weighs) (omega (arith, z .1, length-codes (values (d .hi)))) (omega (arith, z .1)) (omega (arith, below .below))
+        (below .stands) (subst (λ (l : List ℕ). Stands s from l) e (h .members .stands)))
 
     pub inserts-put : q .equal ≡ false → (last : ℕ) → last ≡ movedLast (q .at) (o .to) (o .last) n →
         Same from s s₂ × Built s₂ from (record { last = last; to = o .to + n; count = o .count + 1 }) (insert v zs)
     inserts-put e last f =
         let ins : insert v zs ≡ d .lo ++ (v ∷ d .hi) = d .inserted ∙ ap (λ (b : Bool). d .lo ++ cond b (d .hi) (v ∷ d .hi)) e in
         let z = place-near in (
-          same-trans from (q .at) s s₁ s₂ (copied-same s (q .at) (o .to - q .at) (q .at + n) s₁ from shifted (omega arith)) (copied-same s₁ p n (q .at) s₂ (q .at) copied (omega arith)) (z .0),
+          same-trans from from s s₁ s₂ (copied-same s (q .at) (o .to - q .at) (q .at + n) s₁ from shifted (omega arith))
+              (copied-same s₁ p n (q .at) s₂ from copied (z .0)) (omega arith),
           record {
             members = record {
-              stands = subst (λ (l : List Value). ValuesAt s₂ from (values l)) (sym ins) gap-stands;
+              stands = rw ins put-stands;
               fits = insert-all CellsFit v zs (below .fits) (h .members .fits);
               ends = omega (arith, z .1, d .at, ap (λ (l : List Value). weights (values l)) ins, weights-append (d .lo) (v ∷ d .hi));
             };
             rises = insert-rising v zs (h .rises);
-            last = rw (ins, f)
-                (last-moved o (q .at) n v (d .lo) (d .hi) (subst (LastAt (o .last) (o .to)) (d .all) (h .last)) (z .1) weighs);
+            last = rw (ins, f) (last-moved o (q .at) n v (d .lo) (d .hi) (rw (d .all) at (h .last)) (z .1) weighs);
             counted = omega (
               arith,
               h .counted,

@@ -5,14 +5,14 @@ use Prim.Native.Nat.{ℕ, _+_, _≤_, _<_, Ordering, Ordering·lt, Ordering·eq,
 use mathlib.Core.Bool.{Bool, true, false, cond}
 use mathlib.Core.List.{List, [], _∷_, _++_, append-nil, map}
 use mathlib.Core.Logic.{inl, inr}
-use mathlib.Core.Path.{_≡_, refl, sym, ap, _∙_, subst}
+use mathlib.Core.Path.{_≡_, refl, sym, ap, _∙_}
 use native.Mathlib.Omega.{arith}
 use lib.Dec.{eqb}
 use Rattle.rules.specs.Values.{Value, scalar, pair, set, values, weight, weights, order}
 use Rattle.rules.specs.Operations.{placed, insert, rising}
 use Rattle.laws.proofs.OrderLaws.{flip, Small, order-flip, order-eq, order-refl, before-order, order-before, before-trans}
 use Rattle.laws.proofs.SetOrder.{All, Before, Rising, all-append, rising-rising}
-use Rattle.laws.proofs.Membership.{In, all-self, in-all, all-in, in-append, in-left, in-right, in-rising, rising-in, same-members}
+use Rattle.laws.proofs.Membership.{In, in-all, all-in, in-left, in-right, in-rising, rising-in, same-members}
 use Rattle.arena.specs.Code.{orderCode}
 use Rattle.products.specs.Parts.{part, lastOf}
 
