@@ -1,13 +1,13 @@
 -- What the tests of kinds 6 to 9 answer.
-use Prim.Native.Nat.{ℕ, _+_, _-_, _≤_, _<_}
+use Prim.Native.Nat.{ℕ, _+_, _-_, _≤_, _<_, Ordering, Ordering·lt, Ordering·eq, Ordering·gt}
 use mathlib.Core.Bool.{Bool, true, false}
 use mathlib.Core.Logic.{_≢_}
 use mathlib.Core.List.{List, [], _∷_}
-use mathlib.Core.Path.{_≡_, sym, ap, _∙_, subst}
+use mathlib.Core.Path.{_≡_, refl, sym, ap, _∙_, subst}
 use native.Mathlib.Omega.{arith}
 use native.Mathlib.Decide.{decLt}
 use borrow.Author.Tests.{le-leb, lt-leb}
-use lib.Dec.{leb, eqb}
+use lib.Dec.{leb, eqb, isEq}
 use lib.IntN.{ℤ, pos, negsuc}
 use lib.ListN.{length, getD}
 use lib.Signed.{leZ}
@@ -30,7 +30,6 @@ use Rattle.operations.proofs.GoodLaws.{good-fits, good-value, good-set-
 use Rattle.operations.proofs.OutcomeLaws.{test-unfit, test-fit}
 use Rattle.operations.proofs.FitLaws.{two-fits, fit-types, set-typed, int-typed}
 use Rattle.operations.proofs.KindLaws.{testCode, code-of, same-test}
-use Rattle.products.proofs.TakeLaws.{same-code}
 
 -- Seen from the arena's end.
 good-whole : {gs s : List ℕ} {top at : ℕ} {v : Value} → GoodAt gs s top at v → GoodAt gs s (length s) at v
@@ -59,6 +58,12 @@ set-here : {gs s : List ℕ} {top at : ℕ} (v : Value) (t : Ty) → Sizes gs �
 set-here v t h k q =
     let x = set-typed v t q in
     (x .0, good-set-at h (x .0) (rw (x .1) at (good-whole k)))
+
+-- The number 1 is that of equal values.
+same-code : (o : Ordering) → eqb (orderCode o) 1 ≡ isEq o
+same-code Ordering·lt = refl
+same-code Ordering·eq = refl
+same-code Ordering·gt = refl
 
 holds-equal : (v w : Value) (r : ℕ) → r ≡ orderCode (order v w) → eqb r 1 ≡ holds equal v w
 unfolding holds same

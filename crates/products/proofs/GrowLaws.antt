@@ -14,7 +14,7 @@ use Rattle.arena.proofs.FrontLaws.{single, value-end}
 use Rattle.products.specs.Growing.{Appended, Grown, cellsFrom, PairPre}
 
 -- Nothing, a cell, or a copied run, written behind what stands.
-nothing-stands : (s : List ℕ) (to : ℕ) → to ≤ length s → Stands s to []
+pub nothing-stands : (s : List ℕ) (to : ℕ) → to ≤ length s → Stands s to []
 nothing-stands s to l = record { inside = omega arith; cells = λ i p. absurd (omega arith) }
 
 pub appended-none : (s : List ℕ) (to : ℕ) → to ≤ length s → Appended s to s to []
@@ -31,7 +31,8 @@ appended-cell s to x l = record {
     at zero p = ap (λ (j : ℕ). getD (setAt s to x) j 0) (let z : to + 0 ≡ to = omega arith in z) ∙ getD-set-same s to x 0 l
     at (suc i) p = absurd (omega arith)
 
-pub appended-copy : (s : List ℕ) (from n to : ℕ) (s′ cs : List ℕ) → Copied s from n to s′ → Stands s from cs → length cs ≡ n → to + n ≤ length s → Appended s to s′ (to + n) cs
+pub appended-copy : (s : List ℕ) (from n to : ℕ) (s′ cs : List ℕ) → Copied s from n to s′ → Stands s from cs → length cs ≡ n → to + n ≤ length s →
+    Appended s to s′ (to + n) cs
 appended-copy s from n to s′ cs c h e l = record {
   frame = record { same = c .before; kept = c .kept };
   stands = copied-stands s from n to s′ cs c e l h;
@@ -39,7 +40,8 @@ appended-copy s from n to s′ cs c h e l = record {
 }
 
 -- One behind the other.
-pub appended-then : (s : List ℕ) (to : ℕ) (s′ : List ℕ) (r : ℕ) (xs s″ : List ℕ) (q : ℕ) (ys : List ℕ) → Appended s to s′ r xs → Appended s′ r s″ q ys → Appended s to s″ q (xs ++ ys)
+pub appended-then : (s : List ℕ) (to : ℕ) (s′ : List ℕ) (r : ℕ) (xs s″ : List ℕ) (q : ℕ) (ys : List ℕ) → Appended s to s′ r xs → Appended s′ r s″ q ys →
+    Appended s to s″ q (xs ++ ys)
 appended-then s to s′ r xs s″ q ys a b = record {
   frame = same-trans to r s s′ s″ (a .frame) (b .frame) (omega (arith, a .ends));
   stands = stands-append s″ to xs ys (stands-frame r s′ s″ to xs (b .frame) (omega (arith, a .ends)) (a .stands))
@@ -78,15 +80,18 @@ pub made-heavy : (s : List ℕ) (top : ℕ) (v : Value) → 256 < weight v → M
 made-heavy s top v l = record { frame = same-refl top s; light = λ k. absurd (omega arith); heavy = λ k. refl }
 
 -- A set's cell before its members.
-pub made-set : (s : List ℕ) (top : ℕ) (s′ : List ℕ) (r n : ℕ) (vs : Values) → Appended s (top + 1) s′ r (codes vs) → n ≡ count vs → top < length s → weight (set vs) ≤ 256 →
-    Made top s (setAt s′ top (21474836480 + n)) (set vs) r
+pub made-set : (s : List ℕ) (top : ℕ) (s′ : List ℕ) (r n : ℕ) (vs : Values) → Appended s (top + 1) s′ r (codes vs) → n ≡ count vs → top < length s →
+    weight (set vs) ≤ 256 → Made top s (setAt s′ top (21474836480 + n)) (set vs) r
 unfolding code
 made-set s top s′ r n vs a e l w = record {
   frame = record {
     same = λ i p. getD-set-other s′ top i (21474836480 + n) 0 (λ z. omega arith) ∙ a .frame .same i (omega arith);
     kept = length-set s′ top (21474836480 + n) ∙ a .frame .kept;
   };
-  light = λ k. (omega (arith, a .ends, length-codes vs), record { inside = omega (arith, length-set s′ top (21474836480 + n), a .stands .inside); cells = λ i p. at i p });
+  light = λ k. (
+    omega (arith, a .ends, length-codes vs),
+    record { inside = omega (arith, length-set s′ top (21474836480 + n), a .stands .inside); cells = λ i p. at i p },
+  );
   heavy = λ k. absurd (omega arith);
 }
   where
@@ -122,8 +127,8 @@ pub single-heavy : (s : List ℕ) (a top e : ℕ) → EndsAt s a e → 255 < e -
 single-heavy s a top e x l v h = made-heavy s top (setOf (v ∷ [])) (omega (arith, value-end s top a e v h x))
 
 -- `pair_at`
-pub pair-put : (s : List ℕ) (a n b m to : ℕ) (s₁ s₂ : List ℕ) → PairPre s a n b m to → Copied (setAt s to 17179869184) a n (to + 1) s₁ → Copied s₁ b m (to + 1 + n) s₂ →
-    (v w : Value) → ValueAt s a v → ValueAt s b w → n ≡ weight v → m ≡ weight w → Appended s to s₂ (to + 1 + n + m) (code (pair v w))
+pub pair-put : (s : List ℕ) (a n b m to : ℕ) (s₁ s₂ : List ℕ) → PairPre s a n b m to → Copied (setAt s to 17179869184) a n (to + 1) s₁ →
+    Copied s₁ b m (to + 1 + n) s₂ → (v w : Value) → ValueAt s a v → ValueAt s b w → n ≡ weight v → m ≡ weight w → Appended s to s₂ (to + 1 + n + m) (code (pair v w))
 unfolding code
 pair-put s a n b m to s₁ s₂ p c d v w h k e f =
     let s₀ = setAt s to 17179869184 in
@@ -137,8 +142,8 @@ pair-put s a n b m to s₁ s₂ p c d v w h k e f =
     (appended-then s₀ (to + 1) s₁ (to + 1 + n) (code v) s₂ (to + 1 + n + m) (code w) y z)
 
 -- `pair`
-pub pair-pre : (s : List ℕ) (a b top d e : ℕ) → top + 514 ≤ length s → EndsAt s a d → EndsAt s b e → (d - a) + (e - b) ≤ 255 → (v w : Value) → ValueBelow s top a v → ValueBelow s top b w →
-    PairPre s a (d - a) b (e - b) top
+pub pair-pre : (s : List ℕ) (a b top d e : ℕ) → top + 514 ≤ length s → EndsAt s a d → EndsAt s b e → (d - a) + (e - b) ≤ 255 → (v w : Value) →
+    ValueBelow s top a v → ValueBelow s top b w → PairPre s a (d - a) b (e - b) top
 pair-pre s a b top d e l x y few v w h k =
     let p = value-end s top a d v h x in
     let q = value-end s top b e w k y in
@@ -152,8 +157,8 @@ pair-made s a b top d e s′ r x y few put v w h k =
     let q = value-end s top b e w k y in
     made s top s′ r (pair v w) (put v w (h .stands) (k .stands) (omega arith) (omega arith)) (omega arith)
 
-pub pair-heavy : (s : List ℕ) (a b top d e : ℕ) → EndsAt s a d → EndsAt s b e → 255 < (d - a) + (e - b) → (v w : Value) → ValueBelow s top a v → ValueBelow s top b w →
-    Made top s s (pair v w) 0
+pub pair-heavy : (s : List ℕ) (a b top d e : ℕ) → EndsAt s a d → EndsAt s b e → 255 < (d - a) + (e - b) → (v w : Value) →
+    ValueBelow s top a v → ValueBelow s top b w → Made top s s (pair v w) 0
 pair-heavy s a b top d e x y l v w h k =
     let p = value-end s top a d v h x in
     let q = value-end s top b e w k y in
@@ -168,7 +173,8 @@ pub record Running (s : List ℕ) (cell n top : ℕ) (s′ : List ℕ) (to i : �
 pub running-start : (s : List ℕ) (cell n top : ℕ) → top + 514 ≤ length s → Running s cell n top s (top + 1) 0
 running-start s cell n top l = record {
   grown = subst (λ (c : List ℕ). Grown s (top + 1) s (top + 1) (cellsFrom cell n) c)
-      (ap (λ (c : ℕ). cellsFrom c n) (let z : cell ≡ cell + 0 = omega arith in z) ∙ ap (λ (m : ℕ). cellsFrom (cell + 0) m) (let z : n ≡ n - 0 = omega arith in z))
+      (ap (λ (c : ℕ). cellsFrom c n) (let z : cell ≡ cell + 0 = omega arith in z)
+      ∙ ap (λ (m : ℕ). cellsFrom (cell + 0) m) (let z : n ≡ n - 0 = omega arith in z))
       (grown-start s (top + 1) (cellsFrom cell n) (omega arith));
   near = omega arith;
   few = omega arith;
@@ -178,7 +184,8 @@ cells-next : (c m : ℕ) → 0 < m → cellsFrom c m ≡ (c ∷ []) ++ cellsFrom
 unfolding cellsFrom
 cells-next c zero l = absurd (omega arith)
 cells-next c (suc m) l =
-    ap (λ (k : ℕ). c ∷ cellsFrom k m) (let z : suc c ≡ c + 1 = omega arith in z) ∙ ap (λ (k : ℕ). c ∷ cellsFrom (c + 1) k) (let z : m ≡ suc m - 1 = omega arith in z)
+    ap (λ (k : ℕ). c ∷ cellsFrom k m) (let z : suc c ≡ c + 1 = omega arith in z)
+    ∙ ap (λ (k : ℕ). c ∷ cellsFrom (c + 1) k) (let z : m ≡ suc m - 1 = omega arith in z)
 
 length-cells : (c n : ℕ) → length (cellsFrom c n) ≡ n
 unfolding cellsFrom

@@ -3,6 +3,7 @@ pub mod GrowLaws
 pub mod ScalarLaws
 pub mod WalkLaws
 pub mod PartLaws
+pub mod InsertLaws
 pub mod TakeLaws
 pub mod PowerOrder
 pub mod PowerLaws

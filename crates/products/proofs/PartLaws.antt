@@ -1,20 +1,22 @@
--- The rising list of values that come in non-falling order, and of values that are chosen one by one, the least first.
-use Prim.Native.Nat.{ℕ, _+_, _≤_, Ordering, Ordering·lt, Ordering·eq, Ordering·gt}
-use mathlib.Core.Bool.{Bool, true, false, _&&_, cond}
-use mathlib.Core.List.{List, [], _∷_, _++_, append-assoc, map}
-use mathlib.Core.Logic.{_⊎_, inl, inr}
-use mathlib.Core.Option.{Option, none as nothing, some}
-use mathlib.Core.Path.{_≡_, refl, sym, ap, _∙_, subst}
+-- Lists of parts. `insert` passes the members that are less than its value (`insert-behind`), so the first that is not less decides, and where
+-- none is greater than the last member, that one does (`insert-last`). `rising` of a list with one value more behind it is `insert` of that
+-- value, since both rise and have the same members (`rising-last`).
+use Prim.Native.Nat.{ℕ, _+_, _≤_, _<_, Ordering, Ordering·lt, Ordering·eq, Ordering·gt}
+use mathlib.Core.Bool.{Bool, true, false, cond}
+use mathlib.Core.List.{List, [], _∷_, _++_, append-nil, map}
+use mathlib.Core.Logic.{inl, inr}
+use mathlib.Core.Path.{_≡_, refl, sym, ap, _∙_}
 use native.Mathlib.Omega.{arith}
-use lib.Dec.{T, isEq}
-use Rattle.rules.specs.Values.{Value, scalar, pair, set, Values, none, _▸_, members, values, weight, weights, order, same, _then_}
-use Rattle.rules.specs.Operations.{left, right, placed, insert, rising}
-use Rattle.laws.proofs.OrderLaws.{flip, Small, order-flip, order-eq, order-pair, before-order, before-trans, before-irrefl}
-use Rattle.laws.proofs.SetOrder.{All, Before, Rising, all-imp, all-append, rising-rising}
-use Rattle.laws.proofs.Membership.{In, all-in, in-append, in-left, in-right, in-rising, rising-in}
-use Rattle.products.specs.Parts.{isLast, isAbove, isBelow, lesser, choose}
+use lib.Dec.{eqb}
+use Rattle.rules.specs.Values.{Value, scalar, pair, set, values, weight, weights, order}
+use Rattle.rules.specs.Operations.{placed, insert, rising}
+use Rattle.laws.proofs.OrderLaws.{flip, Small, order-flip, order-eq, order-refl, before-order, order-before, before-trans}
+use Rattle.laws.proofs.SetOrder.{All, Before, Rising, all-append, rising-rising}
+use Rattle.laws.proofs.Membership.{In, in-all, all-in, in-left, in-right, in-rising, rising-in, same-members}
+use Rattle.arena.specs.Code.{orderCode}
+use Rattle.products.specs.Parts.{part, lastOf}
 
--- The weight and the number of members of a rising list.
+-- The weight of a rising list, and of the parts of values.
 placed-weighs : (o : Ordering) (v w : Value) (ws r : List Value) → weights (values r) ≤ weight v + weights (values ws) →
     weights (values (placed o v w ws r)) ≤ weight v + (weight w + weights (values ws))
 placed-weighs Ordering·lt v w ws r h = omega arith
@@ -31,235 +33,101 @@ unfolding rising
 rising-weighs [] = omega arith
 rising-weighs (v ∷ vs) = omega (arith, insert-weighs v (rising vs), rising-weighs vs)
 
-left-weighs : (v : Value) → weight (left v) ≤ weight v
-left-weighs (scalar x) = omega arith
-left-weighs (pair a b) = omega arith
-left-weighs (set ms) = omega arith
+part-weighs : (b : Bool) (v : Value) → weight (part b v) ≤ weight v
+part-weighs false (scalar x) = omega arith
+part-weighs false (pair v w) = omega arith
+part-weighs false (set ms) = omega arith
+part-weighs true (scalar x) = omega arith
+part-weighs true (pair v w) = omega arith
+part-weighs true (set ms) = omega arith
 
-right-weighs : (v : Value) → weight (right v) ≤ weight v
-right-weighs (scalar x) = omega arith
-right-weighs (pair a b) = omega arith
-right-weighs (set ms) = omega arith
+pub parts-weigh : (b : Bool) (vs : List Value) → weights (values (map (part b) vs)) ≤ weights (values vs)
+parts-weigh b [] = omega arith
+parts-weigh b (v ∷ vs) = omega (arith, part-weighs b v, parts-weigh b vs)
 
-pub lefts-weigh : (vs : Values) → weights (values (map left (members vs))) ≤ weights vs
-lefts-weigh none = omega arith
-lefts-weigh (v ▸ vs) = omega (arith, left-weighs v, lefts-weigh vs)
+-- `insert` where the first member decides.
+module _ (v w : Value) (ws : List Value) where
+  pub insert-next : order v w ≡ Ordering·gt → insert v (w ∷ ws) ≡ w ∷ insert v ws
+  unfolding insert
+  insert-next e = ap (λ (o : Ordering). placed o v w ws (insert v ws)) e
 
-pub rights-weigh : (vs : Values) → weights (values (map right (members vs))) ≤ weights vs
-rights-weigh none = omega arith
-rights-weigh (v ▸ vs) = omega (arith, right-weighs v, rights-weigh vs)
-
--- Equal neighbours are skipped: what follows u.
-abbrev skipped : Ordering → Value → List Value → List Value → List Value
-skipped Ordering·lt x p q = x ∷ q
-skipped Ordering·eq x p q = p
-skipped Ordering·gt x p q = x ∷ q
-
-unfoldable pub after : Value → List Value → List Value
-unfolding order
-after u [] = []
-after u (x ∷ xs) =
-    let p = after u xs in
-    let q = after x xs in
-    skipped (order u x) x p q
-
-unfoldable pub afterLast : Option Value → List Value → List Value
-unfolding after
-afterLast nothing [] = []
-afterLast nothing (x ∷ xs) = x ∷ after x xs
-afterLast (some u) xs = after u xs
-
--- A list in non-falling order.
-abbrev NotGt : Ordering → Type 0
-NotGt Ordering·lt = Unit {0}
-NotGt Ordering·eq = Unit {0}
-NotGt Ordering·gt = ⊥
-
-abbrev pub Steps : List Value → Type 0
-Steps [] = Unit {0}
-Steps (x ∷ []) = Unit {0}
-Steps (x ∷ y ∷ ys) = NotGt (order x y) × Steps (y ∷ ys)
-
-after-placed : (o : Ordering) (x y : Value) (ys r : List Value) → order x y ≡ o → NotGt o → (o ≡ Ordering·eq → x ≡ y) →
-    placed o x y (after y ys) r ≡ x ∷ skipped o y (after x ys) (after y ys)
-after-placed Ordering·lt x y ys r e h k = refl
-after-placed Ordering·eq x y ys r e h k = ap (λ (z : Value). z ∷ after z ys) (sym (k refl))
-after-placed Ordering·gt x y ys r e h k = absurd h
-
-pub rising-after : (x : Value) (xs : List Value) → All Small (x ∷ xs) → Steps (x ∷ xs) → rising (x ∷ xs) ≡ x ∷ after x xs
-unfolding rising after
-rising-after x [] h k = refl
-rising-after x (y ∷ ys) h k =
-    ap (insert x) (rising-after y ys (h .1) (k .1))
-    ∙ after-placed (order x y) x y ys (insert x (after y ys)) refl (k .0) (λ e. order-eq x y (h .0) (h .1 .0) e)
-
-pub rising-afterLast : (xs : List Value) → All Small xs → Steps xs → rising xs ≡ afterLast nothing xs
-unfolding rising afterLast
-rising-afterLast [] h k = refl
-rising-afterLast (x ∷ xs) h k = rising-after x xs h k
-
--- One value further: skipped where it is the last, and else taken.
-abbrev pub lastThen : Option Value → List Value → List Value
-lastThen nothing xs = xs
-lastThen (some u) xs = u ∷ xs
-
-abbrev pub AllOf : (Value → Type 0) → Option Value → Type 0
-AllOf P nothing = Unit {0}
-AllOf P (some u) = P u
-
-pub afterLast-none : (l : Option Value) → afterLast l [] ≡ []
-unfolding afterLast
-afterLast-none nothing = refl
-afterLast-none (some u) = refl
-
-same-is : (o : Ordering) → isEq o ≡ true → o ≡ Ordering·eq
-same-is Ordering·lt e = let z : _≡_ {A = ℕ} 0 1 = cc in absurd (omega arith)
-same-is Ordering·eq e = refl
-same-is Ordering·gt e = let z : _≡_ {A = ℕ} 0 1 = cc in absurd (omega arith)
-
-skipped-other : (o : Ordering) (x : Value) (p q : List Value) → isEq (flip o) ≡ false → skipped o x p q ≡ x ∷ q
-skipped-other Ordering·lt x p q e = refl
-skipped-other Ordering·eq x p q e = let z : _≡_ {A = ℕ} 0 1 = cc in absurd (omega arith)
-skipped-other Ordering·gt x p q e = refl
-
-steps-from : (u x : Value) (xs : List Value) → u ≡ x → Steps (x ∷ xs) → Steps (u ∷ xs)
-steps-from u x xs e h = subst (λ (z : Value). Steps (z ∷ xs)) (sym e) h
-
-steps-tail : (x : Value) (xs : List Value) → Steps (x ∷ xs) → Steps xs
-steps-tail x [] h = tt
-steps-tail x (y ∷ ys) h = h .1
-
-pub afterLast-skip : (l : Option Value) (x : Value) (xs : List Value) → isLast l x ≡ true → AllOf Small l → Small x →
-    (afterLast l (x ∷ xs) ≡ afterLast l xs) × (Steps (lastThen l (x ∷ xs)) → Steps (lastThen l xs))
-unfolding afterLast same
-afterLast-skip nothing x xs e m n = absurd (let z : _≡_ {A = ℕ} 0 1 = cc in omega arith)
-afterLast-skip (some u) x xs e m n =
-    let o : order x u ≡ Ordering·eq = same-is (order x u) e in
-    let f : order u x ≡ Ordering·eq = order-flip x u ∙ ap flip o in
-    (ap (λ (k : Ordering). skipped k x (after u xs) (after x xs)) f, λ h. steps-from u x xs (order-eq u x m n f) (h .1))
-
-pub afterLast-take : (l : Option Value) (x : Value) (xs : List Value) → isLast l x ≡ false →
-    (afterLast l (x ∷ xs) ≡ x ∷ afterLast (some x) xs) × (Steps (lastThen l (x ∷ xs)) → Steps (x ∷ xs))
-unfolding afterLast same
-afterLast-take nothing x xs e = (refl, λ h. h)
-afterLast-take (some u) x xs e =
-    (skipped-other (order u x) x (after u xs) (after x xs) (ap isEq (sym (order-flip u x)) ∙ e), λ h. h .1)
-
--- The left parts of rising pairs do not fall.
-then-notGt : (o p : Ordering) → (o then p) ≡ Ordering·lt → NotGt o
-then-notGt Ordering·lt p e = tt
-then-notGt Ordering·eq p e = tt
-then-notGt Ordering·gt p e = let z : _≡_ {A = ℕ} 0 1 = cc in absurd (omega arith)
-
-pub before-lefts : (a b c d : Value) → Before (pair a b) (pair c d) → NotGt (order a c)
-before-lefts a b c d h = then-notGt (order a c) (order b d) (sym (order-pair a b c d) ∙ before-order (pair a b) (pair c d) h)
-
--- Choosing the least value above l.
--- Of the values seen, b is the least above l.
-abbrev Chosen : Option Value → List Value → Option Value → Type 0
-Chosen l seen nothing = All (λ x. T (isAbove l x) → ⊥) seen
-Chosen l seen (some w) = In w seen × T (isAbove l w) × All (λ x. T (isAbove l x) → Before x w → ⊥) seen
-
-true-or-not : (b : Bool) → (b ≡ true) ⊎ (b ≡ false)
-true-or-not true = inl refl
-true-or-not false = inr refl
-
-T-true : (b : Bool) → b ≡ true → T b
-T-true b e = rw e tt
-
-T-false : (b : Bool) → b ≡ false → T b → ⊥
-T-false b e h = subst T e h
-
-module _ (l : Option Value) (seen : List Value) (x : Value) where
-  chosen-skip : (b : Option Value) → (T (isAbove l x) → T (isBelow x b) → ⊥) → Chosen l seen b → Chosen l (seen ++ (x ∷ [])) b
-  chosen-skip nothing n h = all-append (λ y. T (isAbove l y) → ⊥) seen (x ∷ []) h ((λ k. n k tt), tt)
-  chosen-skip (some w) n h = (
-    in-left w seen (x ∷ []) (h .0),
-    h .1,
-    all-append (λ y. T (isAbove l y) → Before y w → ⊥) seen (x ∷ []) (h .2) (n, tt),
-  )
-
-  chosen-take : (b : Option Value) → T (isAbove l x) → T (isBelow x b) → Chosen l seen b → Chosen l (seen ++ (x ∷ [])) (some x)
-  chosen-take nothing k m h = (
-    in-right x seen (x ∷ []) (inl refl),
-    k,
-    all-append (λ y. T (isAbove l y) → Before y x → ⊥) seen (x ∷ [])
-        (all-imp (λ y. T (isAbove l y) → ⊥) (λ y. T (isAbove l y) → Before y x → ⊥) (λ y p q r. p q) seen h) ((λ q r. before-irrefl x r), tt),
-  )
-  chosen-take (some w) k m h = (
-    in-right x seen (x ∷ []) (inl refl),
-    k,
-    all-append (λ y. T (isAbove l y) → Before y x → ⊥) seen (x ∷ [])
-        (all-imp (λ y. T (isAbove l y) → Before y w → ⊥) (λ y. T (isAbove l y) → Before y x → ⊥) (λ y p q r. p q (before-trans y x w r m)) seen (h .2))
-        ((λ q r. before-irrefl x r), tt),
-  )
-
-  chosen-step : (b : Option Value) → Chosen l seen b → Chosen l (seen ++ (x ∷ [])) (lesser l x b)
-  chosen-step b h = go (true-or-not (isAbove l x)) (true-or-not (isBelow x b))
+  pub insert-here : (c : ℕ) → c ≡ orderCode (order v w) → c < 2 → insert v (w ∷ ws) ≡ cond (eqb c 1) (w ∷ ws) (v ∷ w ∷ ws)
+  unfolding insert
+  insert-here c e l = rw e (go (order v w) e)
     where
-      go : (isAbove l x ≡ true) ⊎ (isAbove l x ≡ false) → (isBelow x b ≡ true) ⊎ (isBelow x b ≡ false) → Chosen l (seen ++ (x ∷ [])) (cond (isAbove l x && isBelow x b) (some x) b)
-      go (inl p) (inl q) = rw (p, q) (chosen-take b (T-true (isAbove l x) p) (T-true (isBelow x b) q) h)
-      go (inl p) (inr q) = rw (p, q) (chosen-skip b (λ k m. T-false (isBelow x b) q m) h)
-      go (inr p) q = rw p (chosen-skip b (λ k m. T-false (isAbove l x) p k) h)
+      go : (o : Ordering) → c ≡ orderCode o → placed o v w ws (insert v ws) ≡ cond (eqb (orderCode o) 1) (w ∷ ws) (v ∷ w ∷ ws)
+      go Ordering·lt q = refl
+      go Ordering·eq q = refl
+      go Ordering·gt q = absurd (omega arith)
 
-chosen-all : (l : Option Value) (seen xs : List Value) (b : Option Value) → Chosen l seen b → Chosen l (seen ++ xs) (choose l xs b)
-unfolding choose
-chosen-all l seen [] b h = subst (λ (c : List Value). Chosen l c b) (sym (mathlib.Core.List.append-nil seen)) h
-chosen-all l seen (x ∷ xs) b h =
-    subst (λ (c : List Value). Chosen l c (choose l xs (lesser l x b))) (append-assoc seen (x ∷ []) xs) (chosen-all l (seen ++ (x ∷ [])) xs (lesser l x b) (chosen-step l seen x b h))
+pub insert-none : (v : Value) → insert v [] ≡ v ∷ []
+unfolding insert
+insert-none v = refl
 
--- Of the rising list of xs, `done` has been taken, with l as its last value, and `rest` is left.
-pub record Taking (xs : List Value) (l : Option Value) (rest : List Value) : Type 0 where
-  pub done : List Value
-  pub all : rising xs ≡ done ++ rest
-  pub above : All (λ x. T (isAbove l x)) rest
-  pub passed : All (λ x. T (isAbove l x) → ⊥) done
-  pub rises : Rising rest
+-- v is greater than each of a list.
+abbrev pub Above : Value → List Value → Type 0
+Above v zs = All (λ z. order v z ≡ Ordering·gt) zs
 
-pub taking-start : (xs : List Value) → Taking xs nothing (rising xs)
-taking-start xs = record { done = []; all = refl; above = all-any (rising xs); passed = tt; rises = rising-rising xs }
+pub insert-behind : (v : Value) (lo hi : List Value) → Above v lo → insert v (lo ++ hi) ≡ lo ++ insert v hi
+insert-behind v [] hi h = refl
+insert-behind v (z ∷ lo) hi h = insert-next v z (lo ++ hi) (h .0) ∙ ap (λ (l : List Value). z ∷ l) (insert-behind v lo hi (h .1))
+
+-- The last member.
+pub last-append : (z : Value) (lo : List Value) (h : Value) (hs : List Value) → lastOf z (lo ++ (h ∷ hs)) ≡ lastOf h hs
+last-append z [] h hs = refl
+last-append z (y ∷ lo) h hs = last-append y lo h hs
+
+pub last-weighs : (z : Value) (zs : List Value) → weight (lastOf z zs) ≤ weights (values (z ∷ zs))
+last-weighs z [] = omega arith
+last-weighs z (y ∷ ys) = omega (arith, last-weighs y ys)
+
+last-in : (z : Value) (zs : List Value) → In (lastOf z zs) (z ∷ zs)
+last-in z [] = inl refl
+last-in z (y ∷ ys) = inr (last-in y ys)
+
+before-greater : (z v : Value) → Before z v → order v z ≡ Ordering·gt
+before-greater z v h = order-flip z v ∙ ap flip (before-order z v h)
+
+-- Where v is greater than the last, it is greater than all; where it is the last, it is greater than those before it.
+above-all : (v z : Value) (zs : List Value) → Rising (z ∷ zs) → order v (lastOf z zs) ≡ Ordering·gt → Above v (z ∷ zs)
+above-all v z [] r e = (e, tt)
+above-all v z (y ∷ ys) r e =
+    let h = above-all v y ys (r .1) e in
+    (before-greater z v (before-trans z y v (r .0 .0) (order-before y v (order-flip v y ∙ ap flip (h .0)))), h)
+
+insert-above : (v z : Value) (zs : List Value) → Rising (z ∷ zs) → order v (lastOf z zs) ≡ Ordering·gt → insert v (z ∷ zs) ≡ (z ∷ zs) ++ (v ∷ [])
+insert-above v z zs r e =
+    ap (insert v) (sym (append-nil (z ∷ zs))) ∙ insert-behind v (z ∷ zs) [] (above-all v z zs r e) ∙ ap (λ l. (z ∷ zs) ++ l) (insert-none v)
+
+insert-again : (z : Value) (zs : List Value) → Rising (z ∷ zs) → insert (lastOf z zs) (z ∷ zs) ≡ z ∷ zs
+unfolding insert
+insert-again z [] r = rw (order-refl z)
+insert-again z (y ∷ ys) r =
+    insert-next (lastOf y ys) z (y ∷ ys) (before-greater z (lastOf y ys) (all-in (Before z) (lastOf y ys) (y ∷ ys) (r .0) (last-in y ys)))
+    ∙ ap (λ (l : List Value). z ∷ l) (insert-again y ys (r .1))
+
+module _ (v z : Value) (zs : List Value) (r : Rising (z ∷ zs)) (small : Small v) (smalls : All Small (z ∷ zs)) where
+  pub insert-last : (c : ℕ) → c ≡ orderCode (order v (lastOf z zs)) → 0 < c → insert v (z ∷ zs) ≡ (z ∷ zs) ++ cond (eqb c 1) [] (v ∷ [])
+  insert-last c e l = rw e (go (order v (lastOf z zs)) refl e)
+    where
+      go : (o : Ordering) → order v (lastOf z zs) ≡ o → c ≡ orderCode o → insert v (z ∷ zs) ≡ (z ∷ zs) ++ cond (eqb (orderCode o) 1) [] (v ∷ [])
+      go Ordering·lt q k = absurd (omega arith)
+      go Ordering·eq q k =
+          let d = order-eq v (lastOf z zs) small (all-in Small (lastOf z zs) (z ∷ zs) smalls (last-in z zs)) q in
+          ap (λ (x : Value). insert x (z ∷ zs)) d ∙ insert-again z zs r ∙ sym (append-nil (z ∷ zs))
+      go Ordering·gt q k = insert-above v z zs r q
+
+-- Lists with the same members have the same rising list; so it does not matter whether a value comes first or last.
+rising-same : (xs ys : List Value) → All Small xs → All Small ys → All (λ x. In x ys) xs → All (λ y. In y xs) ys → rising xs ≡ rising ys
+rising-same xs ys h k a b =
+    same-members (rising xs) (rising ys) (rising-rising xs) (rising-rising ys) (into xs ys k a) (into ys xs h b)
   where
-    all-any : (ys : List Value) → All (λ x. T (isAbove nothing x)) ys
-    all-any [] = tt
-    all-any (y ∷ ys) = (tt, all-any ys)
+    into : (us ws : List Value) → All Small ws → All (λ x. In x ws) us → All (λ x. In x (rising ws)) (rising us)
+    into us ws m c = in-all (λ x. In x (rising ws)) (rising us) (λ x i. in-rising x ws m (all-in (λ z. In z ws) x us c (rising-in x us i)))
 
-above-more : (l : Option Value) (w z : Value) → T (isAbove l w) → Before w z → T (isAbove l z)
-above-more nothing w z h k = tt
-above-more (some u) w z h k = before-trans u w z h k
-
-pub taking-next : (xs : List Value) (l : Option Value) (w : Value) (rest : List Value) → Taking xs l (w ∷ rest) → Taking xs (some w) rest
-taking-next xs l w rest h = record {
-  done = h .done ++ (w ∷ []);
-  all = h .all ∙ sym (append-assoc (h .done) (w ∷ []) rest);
-  above = h .rises .0;
-  passed = all-append (λ x. Before w x → ⊥) (h .done) (w ∷ [])
-      (all-imp (λ x. T (isAbove l x) → ⊥) (λ x. Before w x → ⊥) (λ x p q. p (above-more l w x (h .above .0) q)) (h .done) (h .passed)) ((λ q. before-irrefl w q), tt);
-  rises = h .rises .1;
-}
-
-abbrev pub firstOf : List Value → Option Value
-firstOf [] = nothing
-firstOf (x ∷ xs) = some x
-
--- The value chosen is the next of the rising list.
-pub choose-next : (xs : List Value) (l : Option Value) (rest : List Value) → All Small xs → Taking xs l rest → choose l xs nothing ≡ firstOf rest
-choose-next xs l rest small h = go (choose l xs nothing) rest (chosen-all l [] xs nothing tt) (h .all) (h .above) (h .rises)
-  where
-    go : (b : Option Value) (ys : List Value) → Chosen l xs b → rising xs ≡ h .done ++ ys → All (λ x. T (isAbove l x)) ys → Rising ys → b ≡ firstOf ys
-    go nothing [] c e a r = refl
-    go nothing (y ∷ ys) c e a r =
-        absurd (all-in (λ x. T (isAbove l x) → ⊥) y xs c (rising-in y xs (subst (λ (k : List Value). In y k) (sym e) (in-right y (h .done) (y ∷ ys) (inl refl)))) (a .0))
-    go (some w) ys c e a r = pick (in-append w (h .done) ys (subst (λ (k : List Value). In w k) e (in-rising w xs small (c .0))))
-      where
-        first : (zs : List Value) → ys ≡ zs → In w zs → some w ≡ firstOf ys
-        first [] q i = absurd i
-        first (z ∷ zs) q (inl f) = rw q (ap some f)
-        first (z ∷ zs) q (inr i) =
-            let a′ : All (λ x. T (isAbove l x)) (z ∷ zs) = subst (λ (k : List Value). All (λ x. T (isAbove l x)) k) q a in
-            let r′ : Rising (z ∷ zs) = subst Rising q r in
-            let m : In z xs = rising-in z xs (subst (λ (k : List Value). In z k) (sym e) (in-right z (h .done) ys (subst (λ (k : List Value). In z k) (sym q) (inl refl)))) in
-            absurd (all-in (λ x. T (isAbove l x) → Before x w → ⊥) z xs (c .2) m (a′ .0) (all-in (Before z) w zs (r′ .0) i))
-
-        pick : In w (h .done) ⊎ In w ys → some w ≡ firstOf ys
-        pick (inl i) = absurd (all-in (λ x. T (isAbove l x) → ⊥) w (h .done) (h .passed) i (c .1))
-        pick (inr i) = first ys refl i
+pub rising-last : (xs : List Value) (x : Value) → All Small xs → Small x → rising (xs ++ (x ∷ [])) ≡ insert x (rising xs)
+unfolding rising
+rising-last xs x h k =
+    rising-same (xs ++ (x ∷ [])) (x ∷ xs) (all-append Small xs (x ∷ []) h (k, tt)) (k, h)
+    (all-append (λ z. In z (x ∷ xs)) xs (x ∷ []) (in-all (λ z. In z (x ∷ xs)) xs (λ z i. inr i)) (inl refl, tt))
+    (in-right x xs (x ∷ []) (inl refl), in-all (λ z. In z (xs ++ (x ∷ []))) xs (λ z i. in-left z xs (x ∷ []) i))

@@ -3,7 +3,6 @@ use Prim.Native.Nat.{ℕ, zero, suc, _+_, _*_, _-_, _/_, _%_, _≤_, _<_}
 use mathlib.Core.Bool.{Bool, true, false}
 use mathlib.Core.List.{List, [], _∷_, _++_, map, append-nil}
 use mathlib.Core.Logic.{inl, inr}
-use mathlib.Core.Option.{Option, none as nothing, some}
 use mathlib.Core.Path.{_≡_, refl, sym, ap, _∙_, subst}
 use native.Mathlib.Omega.{arith}
 use native.Mathlib.Decide.{decLt}
@@ -15,16 +14,15 @@ use lib.ListN.{length, getD, drop, drop-of-length-le, set as setAt}
 use lib.Seq.{drop-cons}
 use Rattle.rules.specs.Values.{Value, Values, none, _▸_, members, values, count, weight, weights}
 use Rattle.rules.specs.Operations.{setOf, rising, subsets, keptValue}
-use Rattle.arena.specs.Code.{code, codes, Same, SomeAt, EndsAt, SetBelow, ValueBelow, Made, Front}
+use Rattle.arena.specs.Code.{code, codes, Same, SomeAt, EndsAt, Copied, SetBelow, ValueBelow, Made, Front}
 use Rattle.arena.proofs.CodeLaws.{length-code, length-codes}
 use Rattle.laws.proofs.Membership.{values-members}
 use Rattle.arena.proofs.FrontLaws.{rises-rising, fit-small, front-start, front-value, front-next, front-below, front-some, front-frame, set-end}
 use Rattle.products.specs.Growing.{Appended, Grown}
-use Rattle.products.specs.Parts.{AddPre}
+use Rattle.products.specs.Parts.{AddPre, Added}
 use Rattle.products.specs.Power.{masks, subsetCount, subsetCounts, pick, picked, AddedIf, SubsetPre, Subsets, SubsetIf, AllPre, AllSubsets}
 use Rattle.products.specs.declared.Out.{Out}
-use Rattle.products.proofs.GrowLaws.{appended-none, grown-start, grown-step, grown-end, grown-left, made-set, made-heavy}
-use Rattle.products.proofs.TakeLaws.{Putting, putting-start, putting-near, putting-end, putting-pre, putting-add}
+use Rattle.products.proofs.GrowLaws.{appended-none, appended-copy, grown-start, grown-step, grown-end, grown-left, made-set, made-heavy}
 use Rattle.products.proofs.PowerOrder.{powers, powerWeight, power-rising, power-weighs, power-count, power-picked, power-heavy}
 use Rattle.laws.proofs.CellsLaws.{count-weights}
 
@@ -43,6 +41,66 @@ count-small (suc (suc (suc zero))) = omega arith
 count-small (suc (suc (suc (suc zero)))) = omega arith
 count-small (suc (suc (suc (suc (suc zero))))) = omega arith
 count-small (suc (suc (suc (suc (suc (suc n)))))) = omega arith
+
+-- `add`
+pub add-made : (s : List ℕ) (from end : ℕ) (o : Out) (s′ : List ℕ) → AddPre s from end o → Copied s from (end - from) (o .to) s′ →
+    Added s from end o s′ (record { last = o .to; to = o .to + (end - from); count = o .count + 1 })
+add-made s from end o s′ p c = record {
+  cells = λ v h e. appended-copy s from (end - from) (o .to) s′ (code v) c h (omega (arith, length-code v)) (p .room);
+  counted = refl;
+}
+
+-- Of the members `whole`, those before `rest` have been put.
+pub record Putting (s₀ : List ℕ) (top : ℕ) (s : List ℕ) (o : Out) (whole : List Value) (rest : List Value) : Type 0 where
+  pub grown : Grown s₀ (top + 1) s (o .to) (codes (values whole)) (codes (values rest))
+  pub counted : o .count + count (values rest) ≡ count (values whole)
+
+pub putting-start : (s : List ℕ) (top : ℕ) (whole : List Value) → top + 257 ≤ length s →
+    Putting s top s (record { last = 0; to = top + 1; count = 0 }) whole whole
+putting-start s top whole g = record { grown = grown-start s (top + 1) (codes (values whole)) (omega arith); counted = omega arith }
+
+more-codes : (w : Value) (rest : List Value) → codes (values (w ∷ rest)) ≡ code w ++ codes (values rest)
+unfolding code
+more-codes w rest = refl
+
+no-codes : codes (values []) ≡ []
+unfolding code
+no-codes = refl
+
+module _ (s₀ : List ℕ) (top : ℕ) (s : List ℕ) (o : Out) (whole : List Value) (light : weights (values whole) ≤ 255) where
+  -- where they end, and how many they are
+  pub putting-near : (rest : List Value) → Putting s₀ top s o whole rest → (top < o .to) × (o .to + weights (values rest) ≤ top + 256) × (o .count ≤ 255)
+  putting-near rest h = (
+    omega (arith, h .grown .appended .ends),
+    omega (arith, grown-left s₀ (top + 1) s (o .to) (codes (values whole)) (codes (values rest)) (h .grown), length-codes (values whole), length-codes (values rest)),
+    omega (arith, h .counted, count-weights (values whole)),
+  )
+
+  pub putting-end : Putting s₀ top s o whole [] → top + 257 ≤ length s₀ → Made top s₀ (setAt s top (21474836480 + o .count)) (setOf whole) (o .to)
+  putting-end h g =
+      made-set s₀ top s (o .to) (o .count) (values whole)
+      (grown-end s₀ (top + 1) s (o .to) (codes (values whole)) (subst (λ (c : List ℕ). Grown s₀ (top + 1) s (o .to) (codes (values whole)) c) no-codes (h .grown)))
+      (omega (arith, h .counted)) (omega arith) (omega arith)
+
+  module _ (w : Value) (rest : List Value) (h : Putting s₀ top s o whole (w ∷ rest)) (k p e : ℕ) (value : ValueBelow s k p w) (ends : e ≡ p + weight w) where
+    pub putting-pre : k ≤ top + 1 → top + 257 ≤ length s₀ → AddPre s p e o
+    putting-pre g room =
+        let n = putting-near (w ∷ rest) h in
+        record {
+          forward = omega arith;
+          behind = omega (arith, value .below, n .0);
+          room = omega (arith, n .1, h .grown .appended .frame .kept);
+          few = omega (arith, n .2);
+        }
+
+    pub putting-add : (s′ : List ℕ) (r : Out) → Added s p e o s′ r → Putting s₀ top s′ r whole rest
+    putting-add s′ r d =
+        let a = d .cells w (value .stands) ends in
+        record {
+          grown = grown-step s₀ (top + 1) s (o .to) (codes (values whole)) (code w) (codes (values rest)) s′ (r .to)
+              (subst (λ (c : List ℕ). Grown s₀ (top + 1) s (o .to) (codes (values whole)) c) (more-codes w rest) (h .grown)) a;
+          counted = omega (arith, d .counted, h .counted);
+        }
 
 -- `subset`
 kept-weighs : (k : Bool) (v : Value) (r : List Value) → weights (values (keptValue k v r)) ≤ weight v + weights (values r)
@@ -65,15 +123,14 @@ pick-none m = refl
 pub record SubsetAt (s₀ : List ℕ) (top : ℕ) (vs : Values) (mask to : ℕ) (s : List ℕ) (i left m : ℕ) (o : Out) : Type 0 where
   pub rest : Values
   pub front : Front s₀ top i left rest
-  pub last : Option Value
-  pub putting : Putting s₀ to s o (pick mask (members vs)) last (pick m (members rest))
+  pub putting : Putting s₀ to s o (pick mask (members vs)) (pick m (members rest))
 
 module _ (s₀ : List ℕ) (a n mask to top : ℕ) (vs : Values) (whole : Front s₀ top a n vs) (behind : top ≤ to) (room : to + 257 ≤ length s₀) where
   subset-light : weights (values (pick mask (members vs))) ≤ 255
   subset-light = omega (arith, pick-weighs mask vs, whole .light)
 
   pub subset-start : SubsetAt s₀ top vs mask to s₀ a n mask (record { last = 0; to = to + 1; count = 0 })
-  subset-start = record { rest = vs; front = whole; last = nothing; putting = putting-start s₀ to (pick mask (members vs)) room }
+  subset-start = record { rest = vs; front = whole; putting = putting-start s₀ to (pick mask (members vs)) room }
 
   module _ (s : List ℕ) (i left m : ℕ) (o : Out) (h : SubsetAt s₀ top vs mask to s i left m o) where
     subset-frame : Same (to + 1) s₀ s
@@ -83,7 +140,7 @@ module _ (s₀ : List ℕ) (a n mask to top : ℕ) (vs : Values) (whole : Front 
     subset-front = front-frame (to + 1) s₀ s top i left (h .rest) subset-frame (omega arith) (h .front)
 
     pub subset-near : (o .count ≤ 255) × (length s ≡ length s₀)
-    subset-near = (putting-near s₀ to s o (pick mask (members vs)) (h .last) subset-light (pick m (members (h .rest))) (h .putting) .2, subset-frame .kept)
+    subset-near = (putting-near s₀ to s o (pick mask (members vs)) subset-light (pick m (members (h .rest))) (h .putting) .2, subset-frame .kept)
 
     pub subset-some : 0 < left → SomeAt s i
     subset-some l = front-some s top i left (h .rest) subset-front l
@@ -94,12 +151,12 @@ module _ (s₀ : List ℕ) (a n mask to top : ℕ) (vs : Values) (whole : Front 
         made-appended : (v : Value) (s′ : List ℕ) (r : ℕ) → weight v ≤ 256 → Made to s₀ s′ v r → Appended s₀ to s′ r (code v)
         made-appended v s′ r w k = record { frame = k .frame; stands = k .light w .1; ends = k .light w .0 ∙ ap (λ (j : ℕ). to + j) (sym (length-code v)) }
 
-        go : (ws : Values) → Front s₀ top i left ws → Putting s₀ to s o (pick mask (members vs)) (h .last) (pick m (members ws)) →
+        go : (ws : Values) → Front s₀ top i left ws → Putting s₀ to s o (pick mask (members vs)) (pick m (members ws)) →
             Appended s₀ to (setAt s to (21474836480 + o .count)) (o .to) (code (setOf (pick mask (members vs))))
         go none f q =
             made-appended (setOf (pick mask (members vs))) (setAt s to (21474836480 + o .count)) (o .to) (omega (arith, subset-light))
-            (putting-end s₀ to s o (pick mask (members vs)) (h .last) subset-light
-            (subst (λ (c : List Value). Putting s₀ to s o (pick mask (members vs)) (h .last) c) (pick-none m) q) room)
+            (putting-end s₀ to s o (pick mask (members vs)) subset-light
+            (subst (λ (c : List Value). Putting s₀ to s o (pick mask (members vs)) c) (pick-none m) q) room)
         go (w ▸ ws) f q = absurd (omega (arith, f .counted))
 
     module _ (more : 0 < left) (e : ℕ) (ends : EndsAt s i e) where
@@ -110,12 +167,12 @@ module _ (s₀ : List ℕ) (a n mask to top : ℕ) (vs : Values) (whole : Front 
         pub value : ValueBelow s top i one
         pub weighs : e ≡ i + weight one
         pub next : Front s₀ top e (left - 1) rest′
-        pub putting′ : Putting s₀ to s o (pick mask (members vs)) (h .last) (keptValue (eqb (m % 2) 1) one (pick (m / 2) (members rest′)))
+        pub putting′ : Putting s₀ to s o (pick mask (members vs)) (keptValue (eqb (m % 2) 1) one (pick (m / 2) (members rest′)))
 
       subset-first : First
       subset-first = go (h .rest) (h .front) subset-front (h .putting)
         where
-          go : (ws : Values) → Front s₀ top i left ws → Front s top i left ws → Putting s₀ to s o (pick mask (members vs)) (h .last) (pick m (members ws)) → First
+          go : (ws : Values) → Front s₀ top i left ws → Front s top i left ws → Putting s₀ to s o (pick mask (members vs)) (pick m (members ws)) → First
           go none f₀ f q = absurd (omega (arith, f .counted))
           go (w ▸ ws) f₀ f q =
               let z : e ≡ i + weight w = ends w (front-value s top i left w ws f) (f .fits .0) in
@@ -125,18 +182,18 @@ module _ (s₀ : List ℕ) (a n mask to top : ℕ) (vs : Values) (whole : Front 
                 value = front-below s top i left w ws f;
                 weighs = z;
                 next = front-next s₀ top i left w ws f₀ e (left - 1) z (omega arith);
-                putting′ = subst (λ (c : List Value). Putting s₀ to s o (pick mask (members vs)) (h .last) c) (pick-more m w (members ws)) q;
+                putting′ = subst (λ (c : List Value). Putting s₀ to s o (pick mask (members vs)) c) (pick-more m w (members ws)) q;
               }
 
-      kept : eqb (m % 2) 1 ≡ true → Putting s₀ to s o (pick mask (members vs)) (h .last) (subset-first .one ∷ pick (m / 2) (members (subset-first .rest′)))
+      kept : eqb (m % 2) 1 ≡ true → Putting s₀ to s o (pick mask (members vs)) (subset-first .one ∷ pick (m / 2) (members (subset-first .rest′)))
       kept k =
-          subst (λ (b : Bool). Putting s₀ to s o (pick mask (members vs)) (h .last) (keptValue b (subset-first .one) (pick (m / 2) (members (subset-first .rest′))))) k
+          subst (λ (b : Bool). Putting s₀ to s o (pick mask (members vs)) (keptValue b (subset-first .one) (pick (m / 2) (members (subset-first .rest′))))) k
           (subset-first .putting′)
 
       pub subset-add : eqb (m % 2) 1 ≡ true → AddPre s i e o
       subset-add k =
           let d = subset-first in
-          putting-pre s₀ to s o (pick mask (members vs)) (h .last) subset-light (d .one) (pick (m / 2) (members (d .rest′))) (kept k) top i e (d .value) (d .weighs) (omega arith) room
+          putting-pre s₀ to s o (pick mask (members vs)) subset-light (d .one) (pick (m / 2) (members (d .rest′))) (kept k) top i e (d .value) (d .weighs) (omega arith) room
 
       pub subset-again : (s′ : List ℕ) (r : Out) → AddedIf (eqb (m % 2) 1) s i e o s′ r → SubsetAt s₀ top vs mask to s′ e (left - 1) (m / 2) r
       subset-again s′ r (inl x) =
@@ -144,8 +201,7 @@ module _ (s₀ : List ℕ) (a n mask to top : ℕ) (vs : Values) (whole : Front 
           record {
             rest = d .rest′;
             front = d .next;
-            last = some (d .one);
-            putting = putting-add s₀ to s o (pick mask (members vs)) (h .last) subset-light (d .one) (pick (m / 2) (members (d .rest′))) (kept (x .0)) top i e (d .value) (d .weighs) s′ r
+            putting = putting-add s₀ to s o (pick mask (members vs)) subset-light (d .one) (pick (m / 2) (members (d .rest′))) (kept (x .0)) top i e (d .value) (d .weighs) s′ r
                 (x .1);
           }
       subset-again s′ r (inr x) =
@@ -153,9 +209,8 @@ module _ (s₀ : List ℕ) (a n mask to top : ℕ) (vs : Values) (whole : Front 
           record {
             rest = d .rest′;
             front = d .next;
-            last = h .last;
             putting = rw (x .1, x .2)
-                (subst (λ (b : Bool). Putting s₀ to s o (pick mask (members vs)) (h .last) (keptValue b (d .one) (pick (m / 2) (members (d .rest′))))) (x .0) (d .putting′));
+                (subst (λ (b : Bool). Putting s₀ to s o (pick mask (members vs)) (keptValue b (d .one) (pick (m / 2) (members (d .rest′))))) (x .0) (d .putting′));
           }
 
 -- `subset_if`

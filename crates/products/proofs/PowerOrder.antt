@@ -88,7 +88,8 @@ with-rising : (v : Value) (k : ℕ) (ss : List (List Value)) → All (λ s. leng
 with-rising v k [] l h = tt
 with-rising v k (s ∷ ss) l h = (each ss (l .1) (h .0), with-rising v k ss (l .1) (h .1))
   where
-    each : (ts : List (List Value)) → All (λ t. length t ≡ k) ts → All (Before (setOf s)) (map setOf ts) → All (Before (setOf (v ∷ s))) (map setOf (map (λ t. v ∷ t) ts))
+    each : (ts : List (List Value)) → All (λ t. length t ≡ k) ts → All (Before (setOf s)) (map setOf ts) →
+        All (Before (setOf (v ∷ s))) (map setOf (map (λ t. v ∷ t) ts))
     each [] m q = tt
     each (t ∷ ts) m q =
         (rest-before v (values s) (values t) (length-count s ∙ l .0 ∙ sym (m .0) ∙ sym (length-count t)) (q .0), each ts (m .1) (q .1))
@@ -127,7 +128,8 @@ unfolding powers
 powers-rising zero vs h = combos-rising 0 vs h
 powers-rising (suc k) vs h =
     subst Rising (sym (maps (powers k vs) (combos (suc k) vs)))
-    (append-rising (map setOf (powers k vs)) (map setOf (combos (suc k) vs)) (powers-rising k vs h) (combos-rising (suc k) vs h) (each (powers k vs) (powers-length k vs)))
+    (append-rising (map setOf (powers k vs)) (map setOf (combos (suc k) vs)) (powers-rising k vs h) (combos-rising (suc k) vs h)
+    (each (powers k vs) (powers-length k vs)))
   where
     each : (ss : List (List Value)) → All (λ s. length s ≤ k) ss → All (λ x. All (Before x) (map setOf (combos (suc k) vs))) (map setOf ss)
     each [] l = tt
@@ -210,7 +212,9 @@ power-rising vs h small =
     let ys = map setOf (subsets vs) in
     let zs = map setOf (powers (length vs) vs) in
     let little = small-sets (subsets vs) (subsets-all Small vs small) in
-    let there : All (λ x. In x ys) zs = mapped (powers (length vs) vs) (subsets vs) (all-imp (λ s. In s (powers (length vs) vs)) (λ s. In s (subsets vs)) (λ s i. powers-subset (length vs) vs s i) (powers (length vs) vs) (all-self (powers (length vs) vs))) in
+    let ps = powers (length vs) vs in
+    let there : All (λ x. In x ys) zs =
+    mapped ps (subsets vs) (all-imp (λ s. In s ps) (λ s. In s (subsets vs)) (λ s i. powers-subset (length vs) vs s i) ps (all-self ps)) in
     same-members (rising ys) zs (rising-rising ys) (powers-rising (length vs) vs h)
     (all-imp (λ x. In x ys) (λ x. In x zs) (λ x i. all-in (λ y. In y zs) x ys (mapped (subsets vs) (powers (length vs) vs) (powers-all vs)) i) (rising ys)
     (all-imp (λ x. In x (rising ys)) (λ x. In x ys) (λ x i. rising-in x ys i) (rising ys) (all-self (rising ys))))

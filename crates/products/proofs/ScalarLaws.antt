@@ -30,7 +30,8 @@ elements-count g k (suc n) = omega (arith, elements-count g (suc k) n)
 
 pub elements-made : (s : List ℕ) (g n top : ℕ) (s′ : List ℕ) (r : ℕ) → Runs s (12884901888 + 256 * g) n top s′ r → Made top s s′ (setOf (elementsFrom g 0 n)) r
 elements-made s g n top s′ r put =
-    put (values (elementsFrom g 0 n)) (elements-count g 0 n) (elements-cells g 0 n ∙ cells-at (12884901888 + 256 * g + 0) (12884901888 + 256 * g) n (omega arith))
+    put (values (elementsFrom g 0 n)) (elements-count g 0 n)
+    (elements-cells g 0 n ∙ cells-at (12884901888 + 256 * g + 0) (12884901888 + 256 * g) n (omega arith))
 
 pub booleans-cells : codes (values (truthValue false ∷ truthValue true ∷ [])) ≡ cellsFrom 8589934592 2
 unfolding code cellsFrom

@@ -40,7 +40,8 @@ pub record RowAt (s₀ : List ℕ) (top : ℕ) (x : Value) (ws : Values) (to : �
 pub row-start : (s : List ℕ) (top : ℕ) (x : Value) (ws : Values) (b m to : ℕ) → to ≤ length s → Front s top b m ws → RowAt s top x ws to s b m to
 row-start s top x ws b m to l h = record { rest = ws; front = h; grown = grown-start s to (codes (rowOf x ws)) l }
 
-module _ (s₀ : List ℕ) (top : ℕ) (x : Value) (ws : Values) (to : ℕ) (s : List ℕ) (i left at : ℕ) (behind : top ≤ to) (h : RowAt s₀ top x ws to s i left at) where
+module _ (s₀ : List ℕ) (top : ℕ) (x : Value) (ws : Values) (to : ℕ) (s : List ℕ) (i left at : ℕ) (behind : top ≤ to)
+    (h : RowAt s₀ top x ws to s i left at) where
   row-front : Front s top i left (h .rest)
   row-front = front-frame to s₀ s top i left (h .rest) (h .grown .appended .frame) behind (h .front)
 
@@ -79,7 +80,8 @@ module _ (s₀ : List ℕ) (top : ℕ) (x : Value) (ws : Values) (to : ℕ) (s :
     pub row-next : (s′ : List ℕ) (r : ℕ) → PairPut s v k i (e - i) at s′ r → RowAt s₀ top x ws to s′ e (left - 1) r
     row-next s′ r put = go (h .rest) (h .front) row-front (h .grown)
       where
-        go : (vs : Values) → Front s₀ top i left vs → Front s top i left vs → Grown s₀ to s at (codes (rowOf x ws)) (codes (rowOf x vs)) → RowAt s₀ top x ws to s′ e (left - 1) r
+        go : (vs : Values) → Front s₀ top i left vs → Front s top i left vs → Grown s₀ to s at (codes (rowOf x ws)) (codes (rowOf x vs)) →
+            RowAt s₀ top x ws to s′ e (left - 1) r
         go none f₀ f g = absurd (omega (arith, f .counted))
         go (w ▸ vs) f₀ f g =
             let z : e ≡ i + weight w = ends w (front-value s top i left w vs f) (f .fits .0) in
@@ -88,7 +90,8 @@ module _ (s₀ : List ℕ) (top : ℕ) (x : Value) (ws : Values) (to : ℕ) (s :
               front = front-next s₀ top i left w vs f₀ e (left - 1) z (omega arith);
               grown = grown-step s₀ to s at (codes (rowOf x ws)) (code (pair x w)) (codes (rowOf x vs)) s′ r
                   (subst (λ (c : List ℕ). Grown s₀ to s at (codes (rowOf x ws)) c) (row-more x w vs) g)
-                  (put x w (value-frame to s₀ s top v x (h .grown .appended .frame) behind value .stands) (front-value s top i left w vs f) weighs (omega arith));
+                  (put x w (value-frame to s₀ s top v x (h .grown .appended .frame) behind value .stands) (front-value s top i left w vs f)
+                  weighs (omega arith));
             }
 
 -- The pairs of the members of two sets.
@@ -193,15 +196,22 @@ module _ (s₀ : List ℕ) (top : ℕ) (vs ws : Values) (to : ℕ) (s : List ℕ
             }
 
 -- `product`
-module _ (s : List ℕ) (top a b d e n m : ℕ) (ends : EndsAt s a d) (ends′ : EndsAt s b e) (low : n ≡ getD s a 0 % 4294967296) (low′ : m ≡ getD s b 0 % 4294967296) where
+-- Where two sets end, and how many members they have.
+pub record Sizes (s : List ℕ) (a b d e n m : ℕ) : Type 0 where
+  pub ends : EndsAt s a d
+  pub ends′ : EndsAt s b e
+  pub low : n ≡ getD s a 0 % 4294967296
+  pub low′ : m ≡ getD s b 0 % 4294967296
+
+module _ (s : List ℕ) (top a b d e n m : ℕ) (given : Sizes s a b d e n m) where
   -- numbers and cells of the members
   pub product-sizes : (vs ws : Values) → SetBelow s top a vs → SetBelow s top b ws →
       (n ≡ count vs) × (m ≡ count ws) × (d - a - 1 ≡ weights vs) × (e - b - 1 ≡ weights ws) × (n ≤ 255) × (m ≤ 255) × (d - a - 1 ≤ 255) × (e - b - 1 ≤ 255)
   product-sizes vs ws h k =
-      let f = front-start s top a vs h n low in
-      let g = front-start s top b ws k m low′ in
-      let x = set-end s top a vs h d ends in
-      let y = set-end s top b ws k e ends′ in (
+      let f = front-start s top a vs h n (given .low) in
+      let g = front-start s top b ws k m (given .low′) in
+      let x = set-end s top a vs h d (given .ends) in
+      let y = set-end s top b ws k e (given .ends′) in (
         f .counted,
         g .counted,
         omega arith,
@@ -227,8 +237,8 @@ module _ (s : List ℕ) (top a b d e n m : ℕ) (ends : EndsAt s a d) (ends′ :
       top = top;
       lefts = vs;
       rights = ws;
-      front = front-start s top a vs h n low;
-      others = front-start s top b ws k m low′;
+      front = front-start s top a vs h n (given .low);
+      others = front-start s top b ws k m (given .low′);
       behind = omega arith;
       room = omega (arith, product-weighs vs ws h k);
     }
@@ -238,7 +248,7 @@ module _ (s : List ℕ) (top a b d e n m : ℕ) (ends : EndsAt s a d) (ends′ :
     product-made s′ r put vs ws h k =
         let z = product-sizes vs ws h k in
         made-set s top s′ r (n * m) (square vs ws)
-        (put top vs ws (front-start s top a vs h n low) (front-start s top b ws k m low′) (omega arith))
+        (put top vs ws (front-start s top a vs h n (given .low)) (front-start s top b ws k m (given .low′)) (omega arith))
         (sym (square-count vs ws ∙ rw (z .0, z .1))) (omega arith) (omega (arith, product-weighs vs ws h k))
 
 -- products of two numbers that are small

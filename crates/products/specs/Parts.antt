@@ -1,20 +1,29 @@
--- Domain and range: the left or right parts of a set of pairs, put one behind the other in rising order.
-use Prim.Native.Nat.{ℕ, _+_, _-_, _≤_, _<_}
-use mathlib.Core.Bool.{Bool, true, false, _&&_, cond}
-use mathlib.Core.List.{List, [], _∷_, map}
-use mathlib.Core.Logic.{_⊎_}
-use mathlib.Core.Option.{Option, none as nothing, some}
+-- Domain and range: the first or second parts of a set of pairs, each put among the rising members that have been built, unless it is there.
+-- What has been built is always `rising` of the parts so far; `insert` of the rules says what one part more makes of it.
+use Prim.Native.Nat.{ℕ, _+_, _-_, _≤_}
+use mathlib.Core.Bool.{Bool, true, false, cond}
+use mathlib.Core.List.{List, [], _∷_, _++_, map}
 use mathlib.Core.Path.{_≡_}
 use lib.Dec.{eqb}
 use lib.ListN.{length}
-use Rattle.rules.specs.Values.{Value, Values, members, weight, order, same, before}
-use Rattle.rules.specs.Operations.{left, right, setOf, rising}
-use Rattle.arena.specs.Code.{code, orderCode, ValueAt, EndsAt, SetBelow, ValueBelow, Made, Front, AllPairs}
+use Rattle.rules.specs.Values.{Value, Values, members, values, count, weight, weights}
+use Rattle.rules.specs.Operations.{left, right, setOf, insert, rising}
+use Rattle.laws.proofs.SetOrder.{All, Rising}
+use Rattle.arena.specs.Code.{code, ValueAt, ValuesAt, Same, CellsFit, EndsAt, SetBelow, ValueBelow, Made, AllPairs}
 use Rattle.products.specs.Growing.{Appended}
 use Rattle.products.specs.declared.Out.{Out}
+use Rattle.products.specs.declared.Place.{Place}
 
 abbrev pub SomePairs : List ℕ → ℕ → ℕ → Type 0
 SomePairs s top a = (vs : Values) × SetBelow s top a vs × AllPairs vs
+
+-- The first or the second part of a pair.
+abbrev pub part : Bool → Value → Value
+part false v = left v
+part true v = right v
+
+abbrev pub Takes : Bool → List ℕ → ℕ → ℕ → List ℕ → ℕ → Type 0
+Takes b s a top s′ r = (vs : Values) → SetBelow s top a vs → AllPairs vs → Made top s s′ (setOf (rising (map (part b) (members vs)))) r
 
 abbrev pub Domains : List ℕ → ℕ → ℕ → List ℕ → ℕ → Type 0
 Domains s a top s′ r = (vs : Values) → SetBelow s top a vs → AllPairs vs → Made top s s′ (setOf (rising (map left (members vs)))) r
@@ -22,10 +31,8 @@ Domains s a top s′ r = (vs : Values) → SetBelow s top a vs → AllPairs vs �
 abbrev pub Ranges : List ℕ → ℕ → ℕ → List ℕ → ℕ → Type 0
 Ranges s a top s′ r = (vs : Values) → SetBelow s top a vs → AllPairs vs → Made top s s′ (setOf (rising (map right (members vs)))) r
 
--- A value stands at p below `top`, or there is none and p is 0.
-abbrev pub Maybe : List ℕ → ℕ → ℕ → Option Value → Type 0
-Maybe s top p nothing = p ≡ 0
-Maybe s top p (some v) = (0 < p) × ValueBelow s top p v
+abbrev pub chosen : Bool → ℕ → ℕ → ℕ
+chosen b x y = cond b y x
 
 -- A run copied behind what has been built, as its next member.
 pub record AddPre (s : List ℕ) (from end : ℕ) (o : Out) : Type 0 where
@@ -36,84 +43,65 @@ pub record AddPre (s : List ℕ) (from end : ℕ) (o : Out) : Type 0 where
 
 pub record Added (s : List ℕ) (from end : ℕ) (o : Out) (s′ : List ℕ) (r : Out) : Type 0 where
   pub cells : (v : Value) → ValueAt s from v → end ≡ from + weight v → Appended s (o .to) s′ (r .to) (code v)
-  pub last : r .last ≡ o .to
   pub counted : r .count ≡ o .count + 1
 
--- Comparing with a value or with none.
-abbrev pub related : ℕ → Bool → Value → Option Value → Bool
-related c d v nothing = d
-related c d v (some u) = eqb (orderCode (order v u)) c
+-- The values zs stand from `from` to `to`.
+pub record Members (s : List ℕ) (from to : ℕ) (zs : List Value) : Type 0 where
+  pub stands : ValuesAt s from (values zs)
+  pub fits : All CellsFit zs
+  pub ends : to ≡ from + weights (values zs)
 
-pub record ComparePre (s : List ℕ) (p end q : ℕ) : Type 0 where
+-- Where the last of them stands; 0 where there is none.
+abbrev pub lastOf : Value → List Value → Value
+lastOf z [] = z
+lastOf z (y ∷ ys) = lastOf y ys
+
+abbrev pub LastAt : ℕ → ℕ → List Value → Type 0
+LastAt last to [] = last ≡ 0
+LastAt last to (z ∷ zs) = last + weight (lastOf z zs) ≡ to
+
+-- The rising members zs have been built from `from` on.
+pub record Built (s : List ℕ) (from : ℕ) (o : Out) (zs : List Value) : Type 0 where
+  pub members : Members s from (o .to) zs
+  pub rises : Rising zs
+  pub last : LastAt (o .last) (o .to) zs
+  pub counted : o .count ≡ count (values zs)
+
+-- v belongs between lo and hi: it is put there unless it is the first of hi.
+pub record Placed (v : Value) (from : ℕ) (zs : List Value) (r : Place) : Type 0 where
+  pub lo : List Value
+  pub hi : List Value
+  pub all : zs ≡ lo ++ hi
+  pub at : r .at ≡ from + weights (values lo)
+  pub inserted : insert v zs ≡ lo ++ cond (r .equal) hi (v ∷ hi)
+
+pub record FindPre (s : List ℕ) (p end from to : ℕ) : Type 0 where
   pub value : Value
-  pub below : ValueBelow s (length s) p value
+  pub stands : ValueAt s p value
+  pub fits : CellsFit value
   pub ends : EndsAt s p end
-  pub other : Option Value
-  pub otherAt : Maybe s (length s) q other
+  pub others : List Value
+  pub members : Members s from to others
 
-abbrev pub Compares : List ℕ → ℕ → ℕ → ℕ → Bool → Bool → Type 0
-Compares s p q c d r = (v : Value) (l : Option Value) → ValueBelow s (length s) p v → Maybe s (length s) q l → r ≡ related c d v l
+abbrev pub Finds : List ℕ → ℕ → ℕ → ℕ → Place → Type 0
+Finds s p from to r = (v : Value) (zs : List Value) → ValueAt s p v → CellsFit v → Members s from to zs → Placed v from zs r
 
--- The same unless it equals the last member.
-abbrev pub isLast : Option Value → Value → Bool
-isLast nothing v = false
-isLast (some u) v = same v u
-
-pub record NewPre (s : List ℕ) (from end : ℕ) (o : Out) : Type 0 where
-  pub add : AddPre s from end o
+-- A value below `from`, the members built from there on, and room for one more.
+pub record InsertPre (s : List ℕ) (p end from : ℕ) (o : Out) : Type 0 where
   pub value : Value
-  pub below : ValueBelow s (length s) from value
-  pub ends : EndsAt s from end
-  pub lastValue : Option Value
-  pub lastAt : Maybe s (length s) (o .last) lastValue
+  pub below : ValueBelow s from p value
+  pub ends : EndsAt s p end
+  pub others : List Value
+  pub built : Built s from o others
+  pub room : o .to + weight value ≤ length s
+  pub few : o .count ≤ 256
 
-abbrev pub AddedNew : List ℕ → ℕ → ℕ → Out → List ℕ → Out → Type 0
-AddedNew s from end o s′ r =
-    (v : Value) (l : Option Value) → ValueBelow s (length s) from v → Maybe s (length s) (o .last) l →
-    ((isLast l v ≡ true) × (s′ ≡ s) × (r ≡ o)) ⊎ ((isLast l v ≡ false) × Added s from end o s′ r)
+abbrev pub Places : List ℕ → ℕ → ℕ → Out → Place → Type 0
+Places s p from o r = (v : Value) (zs : List Value) → ValueBelow s from p v → Built s from o zs → Placed v from zs r
 
--- x where it is above l and below b, and else b.
-abbrev pub isAbove : Option Value → Value → Bool
-isAbove nothing x = true
-isAbove (some u) x = before u x
+abbrev pub Inserts : List ℕ → ℕ → ℕ → Out → List ℕ → Out → Type 0
+Inserts s p from o s′ r = (v : Value) (zs : List Value) → ValueBelow s from p v → Built s from o zs → Same from s s′ × Built s′ from r (insert v zs)
 
-abbrev pub isBelow : Value → Option Value → Bool
-isBelow x nothing = true
-isBelow x (some w) = before x w
-
-abbrev pub lesser : Option Value → Value → Option Value → Option Value
-lesser l x b = cond (isAbove l x && isBelow x b) (some x) b
-
--- The least of the values above l, or b where that is less.
-unfoldable pub choose : Option Value → List Value → Option Value → Option Value
-unfolding before
-choose l [] b = b
-choose l (x ∷ xs) b = choose l xs (lesser l x b)
-
-pub record BetterPre (s : List ℕ) (p last best : ℕ) : Type 0 where
-  pub value : Value
-  pub below : ValueBelow s (length s) p value
-  pub lastValue : Option Value
-  pub lastAt : Maybe s (length s) last lastValue
-  pub bestValue : Option Value
-  pub bestAt : Maybe s (length s) best bestValue
-
-abbrev pub Betters : List ℕ → ℕ → ℕ → ℕ → ℕ → Type 0
-Betters s p last best r =
-    (top : ℕ) (x : Value) (l b : Option Value) → top ≤ length s → 0 < p → ValueBelow s top p x → Maybe s (length s) last l → Maybe s top best b →
-    Maybe s top r (lesser l x b)
-
--- The least right part above the value at `last`, of n pairs from `at` on.
-pub record NextPre (s : List ℕ) (at n last : ℕ) : Type 0 where
-  pub top : ℕ
-  pub rest : Values
-  pub inside : top ≤ length s
-  pub front : Front s top at n rest
-  pub pairs : AllPairs rest
-  pub lastValue : Option Value
-  pub lastAt : Maybe s (length s) last lastValue
-
-abbrev pub Nexts : List ℕ → ℕ → ℕ → ℕ → ℕ → Type 0
-Nexts s at n last r =
-    (top : ℕ) (vs : Values) (l : Option Value) → top ≤ length s → Front s top at n vs → AllPairs vs → Maybe s (length s) last l →
-    Maybe s top r (choose l (map right (members vs)) nothing)
+-- Where the last member stands after one of n cells has been put at `at` among members that ended at `to`.
+abbrev pub movedLast : ℕ → ℕ → ℕ → ℕ → ℕ
+movedLast at to last n = cond (eqb at to) at (last + n)

@@ -6,10 +6,23 @@ ghost use Prim.Native.Nat.{_+_, _*_, _<_, _≤_};
 ghost use lib.ListN.{length, getD};
 ghost use Rattle.rules.specs.Values.{set, none, truthValue};
 ghost use Rattle.rules.specs.Operations.{setOf, elementsFrom};
-ghost use Rattle.arena.specs.Code.{SomeSet, SomeValue, Made};
+ghost use Rattle.arena.specs.Code.{SomeSet, SomeValue, Made, Copied};
 ghost use Rattle.products.specs.Growing.{PutsCell, RunPre, Runs, Singles, Pairs, PairPre, PairPut, Intervals, RowPre, Rows, SquarePre, Squares, Multiplies};
-ghost use Rattle.products.specs.Parts.{SomePairs, Domains, Ranges, AddPre, Added, ComparePre, Compares, NewPre, AddedNew, BetterPre, Betters, NextPre, Nexts};
+ghost use Rattle.products.specs.Parts.{SomePairs, Takes, Domains, Ranges, chosen, AddPre, Added, FindPre, Finds, InsertPre, Places, Inserts, movedLast};
 ghost use Rattle.products.specs.Power.{Powers, masks, subsetCount, AddedIf, SubsetPre, Subsets, SubsetIf, AllPre, AllSubsets};
+
+// The cells of values by their tags; the payload is added.
+const CELL: u64 = 4294967296;
+
+const NUMBER: u64 = CELL;
+
+const TRUTH: u64 = 2 * CELL;
+
+const ELEMENT: u64 = 3 * CELL;
+
+const PAIR: u64 = 4 * CELL;
+
+const SET: u64 = 5 * CELL;
 
 // Members that have been built: where the last one stands (0 where there is none), where they end, their number.
 struct Out {
@@ -31,7 +44,7 @@ pub fn put_empty(s: &mut [u64], top: usize) -> usize
     requires { ⌜ top + 514 ≤ length (now s) ⌝ }
     ensures { λ r. ⌜ Made top (now (s .entry)) (now (s .exit)) (set none) r ⌝ }
 {
-    put_cell(s, top, 21474836480)
+    put_cell(s, top, SET)
 }
 
 pub fn singleton(s: &mut [u64], a: usize, top: usize) -> usize
@@ -43,7 +56,7 @@ pub fn singleton(s: &mut [u64], a: usize, top: usize) -> usize
         return 0;
     }
     arena::copy(s, a, n, top + 1);
-    s[top] = 21474836481;
+    s[top] = SET + 1;
     top + 1 + n
 }
 
@@ -52,7 +65,7 @@ fn pair_at(s: &mut [u64], a: usize, n: usize, b: usize, m: usize, to: usize) -> 
     requires { ⌜ PairPre (now s) a n b m to ⌝ }
     ensures { λ r. ⌜ PairPut (now (s .entry)) a n b m to (now (s .exit)) r ⌝ }
 {
-    s[to] = 17179869184;
+    s[to] = PAIR;
     arena::copy(s, a, n, to + 1);
     arena::copy(s, b, m, to + 1 + n);
     to + 1 + n + m
@@ -82,7 +95,7 @@ fn run(s: &mut [u64], cell: u64, n: u64, top: usize) -> usize
         to += 1;
         i += 1;
     }
-    s[top] = 21474836480 + n;
+    s[top] = SET + n;
     to
 }
 
@@ -91,14 +104,14 @@ pub fn elements(s: &mut [u64], g: u64, n: u64, top: usize) -> usize
     requires { ⌜ (g < 16777216) × (n ≤ 32) × (top + 514 ≤ length (now s)) ⌝ }
     ensures { λ r. ⌜ Made top (now (s .entry)) (now (s .exit)) (setOf (elementsFrom g 0 n)) r ⌝ }
 {
-    run(s, 12884901888 + 256 * g, n, top)
+    run(s, ELEMENT + 256 * g, n, top)
 }
 
 pub fn booleans(s: &mut [u64], top: usize) -> usize
     requires { ⌜ top + 514 ≤ length (now s) ⌝ }
     ensures { λ r. ⌜ Made top (now (s .entry)) (now (s .exit)) (setOf (truthValue false ∷ truthValue true ∷ [])) r ⌝ }
 {
-    run(s, 8589934592, 2, top)
+    run(s, TRUTH, 2, top)
 }
 
 // The integers from x to y, numbers in excess form.
@@ -107,13 +120,13 @@ pub fn interval(s: &mut [u64], x: u64, y: u64, top: usize) -> usize
     ensures { λ r. ⌜ Intervals (now (s .entry)) x y top (now (s .exit)) r ⌝ }
 {
     if x > y {
-        return run(s, 4294967296 + x, 0, top);
+        return run(s, NUMBER + x, 0, top);
     }
     let n = y - x;
     if n > 254 {
         return 0;
     }
-    run(s, 4294967296 + x, n + 1, top)
+    run(s, NUMBER + x, n + 1, top)
 }
 
 // The pairs of the value at v, of k cells, with each of m members from b on.
@@ -170,8 +183,155 @@ pub fn product(s: &mut [u64], a: usize, b: usize, top: usize) -> usize
         return 0;
     }
     let end = rows(s, a + 1, n, b + 1, m, top + 1);
-    s[top] = 21474836480 + n * m;
+    s[top] = SET + n * m;
     end
+}
+
+// The place of a value among rising members: where the first stands that is not less, and whether it is equal.
+struct Place {
+    at: usize,
+    equal: bool,
+}
+
+// The place of the value from p to `end` among the members from `from` to `to`.
+fn find(s: &[u64], p: usize, end: usize, from: usize, to: usize) -> Place
+    requires { ⌜ FindPre (now s) p end from to ⌝ }
+    ensures { λ r. ⌜ Finds (now (s .entry)) p from to r ⌝ }
+{
+    let mut i = from;
+    while i < to {
+        let c = arena::compare(s, p, end, i);
+        if c < 2 {
+            return Place {
+                at: i,
+                equal: c == 1,
+            };
+        }
+        i = arena::end_of(s, i);
+    }
+    Place {
+        at: to,
+        equal: false,
+    }
+}
+
+// The same among the members that have been built. Parts often come in rising order: the last member is looked at first.
+fn place_for(s: &[u64], p: usize, end: usize, from: usize, o: Out) -> Place
+    requires { ⌜ InsertPre (now s) p end from o ⌝ }
+    ensures { λ r. ⌜ Places (now (s .entry)) p from o r ⌝ }
+{
+    let to = o.to;
+    let last = o.last;
+    if last == 0 {
+        return Place {
+            at: to,
+            equal: false,
+        };
+    }
+    let d = arena::compare(s, p, end, last);
+    if d > 0 {
+        return Place {
+            at: to,
+            equal: d == 1,
+        };
+    }
+    find(s, p, end, from, to)
+}
+
+// Moves m cells up by n, the last one first.
+fn shift(s: &mut [u64], from: usize, m: usize, n: usize)
+    requires { ⌜ from + m + n ≤ length (now s) ⌝ }
+    ensures { λ _. ⌜ Copied (now (s .entry)) from m (from + n) (now (s .exit)) ⌝ }
+{
+    let mut left = m;
+    while left > 0 {
+        left -= 1;
+        let i = from + left;
+        let x = s[i];
+        s[i + n] = x;
+    }
+}
+
+// Where the last member stands after one of n cells has been put at `at` among members that ended at `to`.
+fn moved_last(at: usize, to: usize, last: usize, n: usize) -> usize
+    requires { ⌜ last + n < 18446744073709551616 ⌝ }
+    ensures { λ r. ⌜ r ≡ movedLast at to last n ⌝ }
+{
+    if at == to {
+        return at;
+    }
+    last + n
+}
+
+// Puts the value from p to `end` among the rising members that have been built from `from` on, unless it is there.
+fn insert(s: &mut [u64], p: usize, end: usize, from: usize, o: Out) -> Out
+    requires { ⌜ InsertPre (now s) p end from o ⌝ }
+    ensures { λ r. ⌜ Inserts (now (s .entry)) p from o (now (s .exit)) r ⌝ }
+{
+    let q = place_for(s, p, end, from, o);
+    if q.equal {
+        return o;
+    }
+    let at = q.at;
+    let to = o.to;
+    let n = end - p;
+    shift(s, at, to - at, n);
+    arena::copy(s, p, n, at);
+    Out {
+        last: moved_last(at, to, o.last, n),
+        to: to + n,
+        count: o.count + 1,
+    }
+}
+
+fn pick(second: bool, a: usize, b: usize) -> usize
+    ensures { λ r. ⌜ r ≡ chosen second a b ⌝ }
+{
+    if second {
+        return b;
+    }
+    a
+}
+
+// The set of the first or of the second parts of the pairs of a set.
+fn parts(s: &mut [u64], a: usize, top: usize, second: bool) -> usize
+    requires { ⌜ SomePairs (now s) top a × (top + 514 ≤ length (now s)) ⌝ }
+    ensures { λ r. ⌜ Takes second (now (s .entry)) a top (now (s .exit)) r ⌝ }
+{
+    let from = top + 1;
+    let mut left = arena::low(s[a]);
+    let mut i = a + 1;
+    let mut o = Out {
+        last: 0,
+        to: from,
+        count: 0,
+    };
+    while left > 0 {
+        let x = i + 1;
+        let y = arena::end_of(s, x);
+        let e = arena::end_of(s, y);
+        let p = pick(second, x, y);
+        let end = pick(second, y, e);
+        o = insert(s, p, end, from, o);
+        i = e;
+        left -= 1;
+    }
+    s[top] = SET + o.count;
+    o.to
+}
+
+pub fn domain(s: &mut [u64], a: usize, top: usize) -> usize
+    requires { ⌜ SomePairs (now s) top a × (top + 514 ≤ length (now s)) ⌝ }
+    ensures { λ r. ⌜ Domains (now (s .entry)) a top (now (s .exit)) r ⌝ }
+{
+    parts(s, a, top, false)
+}
+
+pub fn range(s: &mut [u64], a: usize, top: usize) -> usize
+    requires { ⌜ SomePairs (now s) top a × (top + 514 ≤ length (now s)) ⌝ }
+    ensures { λ r. ⌜ Ranges (now (s .entry)) a top (now (s .exit)) r ⌝ }
+{
+    parts(s, a, top, true)
 }
 
 // Copies the run from `from` to `end` behind what has been built, as its next member.
@@ -187,103 +347,6 @@ fn add(s: &mut [u64], from: usize, end: usize, o: Out) -> Out
         to: to + n,
         count: o.count + 1,
     }
-}
-
-// Whether the value at p, which ends at `end`, compares to the one at q with the answer c; `none` where q is 0.
-fn compares(s: &[u64], p: usize, end: usize, q: usize, c: u8, none: bool) -> bool
-    requires { ⌜ ComparePre (now s) p end q ⌝ }
-    ensures { λ r. ⌜ Compares (now (s .entry)) p q c none r ⌝ }
-{
-    if q == 0 {
-        return none;
-    }
-    let d = arena::compare(s, p, end, q);
-    d == c
-}
-
-// The same unless it equals the last member.
-fn add_new(s: &mut [u64], from: usize, end: usize, o: Out) -> Out
-    requires { ⌜ NewPre (now s) from end o ⌝ }
-    ensures { λ r. ⌜ AddedNew (now (s .entry)) from end o (now (s .exit)) r ⌝ }
-{
-    if compares(s, from, end, o.last, 1, false) {
-        return o;
-    }
-    add(s, from, end, o)
-}
-
-// The value at p where it is greater than the one at `last` and less than the one at `best`, and else the one at `best`;
-// 0 stands for none.
-fn better(s: &[u64], p: usize, last: usize, best: usize) -> usize
-    requires { ⌜ BetterPre (now s) p last best ⌝ }
-    ensures { λ r. ⌜ Betters (now (s .entry)) p last best r ⌝ }
-{
-    let end = arena::end_of(s, p);
-    if !compares(s, p, end, last, 2, true) {
-        return best;
-    }
-    if !compares(s, p, end, best, 0, true) {
-        return best;
-    }
-    p
-}
-
-// Where the least right part stands that is greater than the value at `last`, of n pairs from `at` on; 0 where there is none.
-fn next_right(s: &[u64], at: usize, n: u64, last: usize) -> usize
-    requires { ⌜ NextPre (now s) at n last ⌝ }
-    ensures { λ r. ⌜ Nexts (now (s .entry)) at n last r ⌝ }
-{
-    let mut i = at;
-    let mut left = n;
-    let mut best: usize = 0;
-    while left > 0 {
-        let p = arena::end_of(s, i + 1);
-        best = better(s, p, last, best);
-        i = arena::end_of(s, p);
-        left -= 1;
-    }
-    best
-}
-
-pub fn range(s: &mut [u64], a: usize, top: usize) -> usize
-    requires { ⌜ SomePairs (now s) top a × (top + 514 ≤ length (now s)) ⌝ }
-    ensures { λ r. ⌜ Ranges (now (s .entry)) a top (now (s .exit)) r ⌝ }
-{
-    let n = arena::low(s[a]);
-    let mut o = Out {
-        last: 0,
-        to: top + 1,
-        count: 0,
-    };
-    let mut p = next_right(s, a + 1, n, 0);
-    while p > 0 {
-        let e = arena::end_of(s, p);
-        o = add(s, p, e, o);
-        p = next_right(s, a + 1, n, o.last);
-    }
-    s[top] = 21474836480 + o.count;
-    o.to
-}
-
-pub fn domain(s: &mut [u64], a: usize, top: usize) -> usize
-    requires { ⌜ SomePairs (now s) top a × (top + 514 ≤ length (now s)) ⌝ }
-    ensures { λ r. ⌜ Domains (now (s .entry)) a top (now (s .exit)) r ⌝ }
-{
-    let mut left = arena::low(s[a]);
-    let mut i = a + 1;
-    let mut o = Out {
-        last: 0,
-        to: top + 1,
-        count: 0,
-    };
-    while left > 0 {
-        let e = arena::end_of(s, i + 1);
-        o = add_new(s, i + 1, e, o);
-        i = arena::end_of(s, e);
-        left -= 1;
-    }
-    s[top] = 21474836480 + o.count;
-    o.to
 }
 
 // Puts a member if it is kept.
@@ -317,7 +380,7 @@ fn subset(s: &mut [u64], a: usize, n: u64, mask: u64, to: usize) -> usize
         i = e;
         left -= 1;
     }
-    s[to] = 21474836480 + o.count;
+    s[to] = SET + o.count;
     o.to
 }
 
@@ -413,6 +476,6 @@ pub fn power(s: &mut [u64], a: usize, top: usize) -> usize
         return 0;
     }
     let end = all_subsets(s, a + 1, n, p, top + 1);
-    s[top] = 21474836480 + p;
+    s[top] = SET + p;
     end
 }

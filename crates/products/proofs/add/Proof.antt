@@ -1,16 +1,25 @@
 -- `add`: a member copied behind the others.
 use mathlib.Core.Logic.{inl}
 use native.Mathlib.Omega.{arith}
-use Rattle.products.proofs.TakeLaws.{add-made}
+use Rattle.products.proofs.PowerLaws.{add-made}
 use borrow.Author.Needs.{needs}
 use Rattle.products.proofs.add.Statement.{statement}
 use Rattle.products.proofs.add.Tie as tie
+
+-- What was lent; the member has been copied.
+abbrev lent : tie.After-copy-arg → tie.Start
+lent m = m .before .before
+
+abbrev put : tie.After-slice-known2 → tie.After-copy
+put m = m .before .before
 
 sub-n : tie.Need-sub-n
 sub-n c = search needs
 
 copy-requires : tie.Need-copy-requires
-copy-requires c κs = (omega (arith, c .before .before .pre .forward, c .before .before .pre .behind, c .before .before .pre .room), omega (arith, c .before .before .pre .room), inl (omega (arith, c .before .before .pre .forward, c .before .before .pre .behind)))
+copy-requires c κs =
+    let q = lent c .pre in
+    (omega (arith, q .forward, q .behind, q .room), omega (arith, q .room), inl (omega (arith, q .forward, q .behind)))
 
 add-t10 : tie.Need-add-t10
 add-t10 c = search needs
@@ -22,7 +31,7 @@ same-length : tie.Need-same-length
 same-length c = search needs
 
 returns : tie.Need-returns
-returns c = add-made _ _ _ _ _ (c .before .before .before .before .before .before .pre) (c .before .before .before .copy .ensures)
+returns c = let m = put (c .before) in add-made _ _ _ _ _ (lent (m .before) .pre) (m .copy .ensures)
 
 pub add-spec : {M : Type 1} → statement M
 add-spec = tie.close (tie.spec sub-n copy-requires add-t10 add-t11 same-length returns)

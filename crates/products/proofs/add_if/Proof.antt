@@ -5,6 +5,9 @@ use borrow.Author.Needs.{needs}
 use Rattle.products.proofs.add_if.Statement.{statement}
 use Rattle.products.proofs.add_if.Tie as tie
 
+abbrev put : tie.After-slice-known2 → tie.After-add
+put m = m .before .before
+
 add-requires : tie.Need-add-requires
 add-requires c κs = c .before .before .before .pre (c .before .if1 .taken)
 
@@ -12,7 +15,7 @@ same-length : tie.Need-same-length
 same-length c = search needs
 
 returns : tie.Need-returns
-returns c = inl (c .before .before .before .before .if1 .taken, c .before .before .add .ensures)
+returns c = let m = put c in inl (m .before .before .if1 .taken, m .add .ensures)
 
 returns-2 : tie.Need-returns-2
 returns-2 c = inr (c .if1 .left, refl, refl)

@@ -15,7 +15,8 @@ same-length : tie.Need-same-length
 same-length c = search needs
 
 returns : tie.Need-returns
-returns c = interval-made _ _ _ _ _ _ _ (omega (arith, c .before .before .before .before .if1 .taken)) (c .before .before .run .ensures)
+returns c =
+    let m = c .before .before in interval-made _ _ _ _ _ _ _ (omega (arith, m .before .before .if1 .taken)) (m .run .ensures)
 
 returns-2 : tie.Need-returns-2
 returns-2 c = interval-heavy _ _ _ _ (c .if2 .taken)
@@ -33,7 +34,8 @@ same-length-2 : tie.Need-same-length-2
 same-length-2 c = search needs
 
 returns-3 : tie.Need-returns-3
-returns-3 c = interval-made _ _ _ _ _ _ _ (omega (arith, c .before .before .before .before .before .if1 .left)) (c .before .before .run2 .ensures)
+returns-3 c =
+    let m = c .before .before in interval-made _ _ _ _ _ _ _ (omega (arith, m .before .before .before .if1 .left)) (m .run2 .ensures)
 
 pub interval-spec : {M : Type 1} → statement M
 interval-spec =

@@ -6,35 +6,61 @@ use borrow.Author.Needs.{needs}
 use Rattle.products.proofs.pair.Statement.{statement}
 use Rattle.products.proofs.pair.Tie as tie
 
+-- Where both values end is known; what was lent, and how much they weigh.
+abbrev Ended : Type 0
+Ended = tie.After-end-of2
+
+abbrev first : Ended → tie.After-end-of
+first m = m .before .before
+
+abbrev lent : tie.After-end-of → tie.Start
+lent m = m .before .before .before
+
+abbrev put : tie.After-slice-known2 → tie.After-pair-at
+put m = m .before .before
+
+abbrev light : tie.After-pair-at-arg → tie.Else1
+light m = m .before
+
 end-of-requires : tie.Need-end-of-requires
 end-of-requires c κs = value-some _ _ _ _ (c .before .before .pre .0 .1)
 
 sub-n : tie.Need-sub-n
-sub-n c = omega (arith, value-end _ _ _ _ _ (c .before .before .before .pre .0 .1) (c .end-of .ensures))
+sub-n c = omega (arith, value-end _ _ _ _ _ (lent c .pre .0 .1) (c .end-of .ensures))
 
 end-of-requires-2 : tie.Need-end-of-requires-2
-end-of-requires-2 c κs = value-some _ _ _ _ (c .before .before .before .before .pre .1 .1)
+end-of-requires-2 c κs = value-some _ _ _ _ (lent (c .before) .pre .1 .1)
 
 sub-m : tie.Need-sub-m
-sub-m c = omega (arith, value-end _ _ _ _ _ (c .before .before .before .before .before .pre .1 .1) (c .end-of2 .ensures))
+sub-m c = omega (arith, value-end _ _ _ _ _ (lent (first c) .pre .1 .1) (c .end-of2 .ensures))
 
 add-if1 : tie.Need-add-if1
-add-if1 c = omega (arith, value-end _ _ _ _ _ (c .before .before .before .before .before .pre .0 .1) (c .before .before .end-of .ensures), value-end _ _ _ _ _ (c .before .before .before .before .before .pre .1 .1) (c .end-of2 .ensures), c .before .before .before .before .before .pre .0 .1 .light, c .before .before .before .before .before .pre .1 .1 .light)
+add-if1 c =
+    let v = lent (first c) .pre .0 .1 in
+    let w = lent (first c) .pre .1 .1 in
+    omega (arith, value-end _ _ _ _ _ v (first c .end-of .ensures), value-end _ _ _ _ _ w (c .end-of2 .ensures), v .light, w .light)
 
 same-length : tie.Need-same-length
 same-length c = search needs
 
 returns : tie.Need-returns
-returns c = λ v w h k. pair-heavy _ _ _ _ _ _ (c .before .before .before .end-of .ensures) (c .before .end-of2 .ensures) (c .if1 .taken) v w h k
+returns c = λ v w h k.
+    let m = c .before in pair-heavy _ _ _ _ _ _ (first m .end-of .ensures) (m .end-of2 .ensures) (c .if1 .taken) v w h k
 
 pair-at-requires : tie.Need-pair-at-requires
-pair-at-requires c κs = pair-pre _ _ _ _ _ _ (c .before .before .before .before .before .before .before .pre .2) (c .before .before .before .before .end-of .ensures) (c .before .before .end-of2 .ensures) (c .before .if1 .left) _ _ (c .before .before .before .before .before .before .before .pre .0 .1) (c .before .before .before .before .before .before .before .pre .1 .1)
+pair-at-requires c κs =
+    let m = light c .before in
+    let q = lent (first m) .pre in
+    pair-pre _ _ _ _ _ _ (q .2) (first m .end-of .ensures) (m .end-of2 .ensures) (light c .if1 .left) _ _ (q .0 .1) (q .1 .1)
 
 same-length-2 : tie.Need-same-length-2
 same-length-2 c = search needs
 
 returns-2 : tie.Need-returns-2
-returns-2 c = λ v w h k. pair-made _ _ _ _ _ _ _ _ (c .before .before .before .before .before .before .before .end-of .ensures) (c .before .before .before .before .before .end-of2 .ensures) (c .before .before .before .before .if1 .left) (c .before .before .pair-at .ensures) v w h k
+returns-2 c = λ v w h k.
+    let l = light (put c .before) in
+    let m = l .before in
+    pair-made _ _ _ _ _ _ _ _ (first m .end-of .ensures) (m .end-of2 .ensures) (l .if1 .left) (put c .pair-at .ensures) v w h k
 
 pub pair-spec : {M : Type 1} → statement M
 pair-spec =

@@ -1,11 +1,28 @@
 -- `pair_at`: a pair's cell, then both parts copied.
 use mathlib.Core.Logic.{inl}
 use native.Mathlib.Omega.{arith}
-use lib.ListN.{length-set}
+use mathlib.Core.Path.{_≡_}
+use lib.ListN.{length, set as setAt, length-set}
 use Rattle.products.proofs.GrowLaws.{pair-put}
 use borrow.Author.Needs.{needs}
 use Rattle.products.proofs.pair_at.Statement.{statement}
 use Rattle.products.proofs.pair_at.Tie as tie
+
+-- The first part has been copied, then the second; what was lent, and that it keeps its length.
+abbrev First : Type 0
+First = tie.After-copy
+
+abbrev lent : tie.After-copy-arg → tie.Start
+lent m = m .before .before
+
+abbrev first : tie.After-copy-arg2 → First
+first m = m .before .before .before
+
+abbrev both : tie.After-slice-known3 → tie.After-copy2
+both m = m .before .before
+
+kept : (m : tie.After-copy-arg) → (let a = lent m .args in length (setAt (a .s .now) (a .to) 17179869184) ≡ length (a .s .now))
+kept m = let a = lent m .args in length-set (a .s .now) (a .to) 17179869184
 
 mul-s : tie.Need-mul-s
 mul-s c = search needs
@@ -17,7 +34,9 @@ add-copy : tie.Need-add-copy
 add-copy c = search needs
 
 copy-requires : tie.Need-copy-requires
-copy-requires c κs = (omega (arith, c .before .before .pre .left, c .before .before .pre .room, length-set (c .before .before .args .s .now) (c .before .before .args .to) 17179869184), omega (arith, c .before .before .pre .room, length-set (c .before .before .args .s .now) (c .before .before .args .to) 17179869184), inl (omega (arith, c .before .before .pre .left)))
+copy-requires c κs =
+    let q = lent c .pre in
+    (omega (arith, q .left, q .room, kept c), omega (arith, q .room, kept c), inl (omega (arith, q .left)))
 
 add-copy-2 : tie.Need-add-copy-2
 add-copy-2 c = search needs
@@ -26,7 +45,11 @@ add-copy-3 : tie.Need-add-copy-3
 add-copy-3 c = search needs
 
 copy-requires-2 : tie.Need-copy-requires-2
-copy-requires-2 c κs = (omega (arith, c .before .before .before .before .before .before .pre .right, c .before .before .before .before .before .before .pre .room, c .before .before .before .copy .ensures .kept, length-set (c .before .before .before .before .before .before .args .s .now) (c .before .before .before .before .before .before .args .to) 17179869184), omega (arith, c .before .before .before .before .before .before .pre .room, c .before .before .before .copy .ensures .kept, length-set (c .before .before .before .before .before .before .args .s .now) (c .before .before .before .before .before .before .args .to) 17179869184), inl (omega (arith, c .before .before .before .before .before .before .pre .right)))
+copy-requires-2 c κs =
+    let m = first c in
+    let q = lent (m .before) .pre in
+    let k = m .copy .ensures .kept in
+    (omega (arith, q .right, q .room, kept (m .before)), omega (arith, q .room, kept (m .before)), inl (omega (arith, q .right)))
 
 add-result : tie.Need-add-result
 add-result c = search needs
@@ -38,10 +61,13 @@ add-result-3 : tie.Need-add-result-3
 add-result-3 c = search needs
 
 same-length : tie.Need-same-length
-same-length c = omega (arith, c .before .before .before .before .before .before .copy .ensures .kept, c .before .before .copy2 .ensures .kept, length-set (c .before .before .before .before .before .before .before .before .before .args .s .now) (c .before .before .before .before .before .before .before .before .before .args .to) 17179869184)
+same-length c =
+    let m = first (both c .before) in omega (arith, m .copy .ensures .kept, both c .copy2 .ensures .kept, kept (m .before))
 
 returns : tie.Need-returns
-returns c = λ v w h k e f. pair-put _ _ _ _ _ _ _ _ (c .before .before .before .before .before .before .before .before .before .pre) (c .before .before .before .before .before .before .copy .ensures) (c .before .before .copy2 .ensures) v w h k e f
+returns c = λ v w h k e f.
+    let m = first (both c .before) in
+    pair-put _ _ _ _ _ _ _ _ (lent (m .before) .pre) (m .copy .ensures) (both c .copy2 .ensures) v w h k e f
 
 pub pair-at-spec : {M : Type 1} → statement M
 pair-at-spec =

@@ -1,10 +1,42 @@
 -- `product`: all pairs, unless their set is too heavy.
 use native.Mathlib.Omega.{arith}
 use Rattle.arena.proofs.FrontLaws.{set-end}
-use Rattle.products.proofs.WalkLaws.{product-sizes, product-heavy, product-pre, product-made}
+use Rattle.products.proofs.WalkLaws.{Sizes, product-sizes, product-heavy, product-pre, product-made}
 use borrow.Author.Needs.{needs}
 use Rattle.products.proofs.product.Statement.{statement}
 use Rattle.products.proofs.product.Tie as tie
+
+-- Numbers of members and ends of both sets are known; what was lent, and both sets that are there.
+abbrev Ended : Type 0
+Ended = tie.After-end-of2
+
+abbrev first : Ended → tie.After-end-of
+first m = m .before .before
+
+abbrev second : tie.After-end-of → tie.After-low2
+second m = m .before .before
+
+abbrev counted : tie.After-low2 → tie.After-low
+counted m = m .before .before
+
+abbrev lent : tie.After-low → tie.Start
+lent m = m .before .before .before
+
+abbrev given : tie.After-end-of → tie.Start
+given m = lent (counted (second m))
+
+sizes : (m : Ended) → (let a = given (first m) .args in
+    Sizes (a .s .now) (a .a) (a .b) (first m .end-of .result) (m .end-of2 .result) (counted (second (first m)) .low .result) (second (first m) .low2 .result))
+sizes m =
+    let k = second (first m) in
+    record { ends = first m .end-of .ensures; ends′ = m .end-of2 .ensures; low = counted k .low .ensures .0; low′ = k .low2 .ensures .0 }
+
+-- The product is light enough; its pairs have been put.
+abbrev light : tie.After-rows-arg → tie.Else1
+light m = m .before
+
+abbrev put : tie.After-slice-known4 → tie.After-rows
+put m = m .before .before
 
 mul-low : tie.Need-mul-low
 mul-low c = search needs
@@ -28,28 +60,33 @@ end-of-requires : tie.Need-end-of-requires
 end-of-requires c κs = search needs
 
 sub-k : tie.Need-sub-k
-sub-k c = omega (arith, set-end _ _ _ _ (c .before .before .before .before .before .before .before .pre .0 .1) _ (c .end-of .ensures))
+sub-k c = omega (arith, set-end _ _ _ _ (given c .pre .0 .1) _ (c .end-of .ensures))
 
 sub-k-2 : tie.Need-sub-k-2
-sub-k-2 c = omega (arith, set-end _ _ _ _ (c .before .before .before .before .before .before .before .pre .0 .1) _ (c .end-of .ensures))
+sub-k-2 c = omega (arith, set-end _ _ _ _ (given c .pre .0 .1) _ (c .end-of .ensures))
 
 end-of-requires-2 : tie.Need-end-of-requires-2
 end-of-requires-2 c κs = search needs
 
 sub-l : tie.Need-sub-l
-sub-l c = omega (arith, set-end _ _ _ _ (c .before .before .before .before .before .before .before .before .before .pre .1 .1) _ (c .end-of2 .ensures))
+sub-l c = omega (arith, set-end _ _ _ _ (given (first c) .pre .1 .1) _ (c .end-of2 .ensures))
 
 sub-l-2 : tie.Need-sub-l-2
-sub-l-2 c = omega (arith, set-end _ _ _ _ (c .before .before .before .before .before .before .before .before .before .pre .1 .1) _ (c .end-of2 .ensures))
+sub-l-2 c = omega (arith, set-end _ _ _ _ (given (first c) .pre .1 .1) _ (c .end-of2 .ensures))
 
 product-weight-requires : tie.Need-product-weight-requires
-product-weight-requires c κs = let z = product-sizes _ _ _ _ _ _ _ _ (c .before .before .end-of .ensures) (c .end-of2 .ensures) (c .before .before .before .before .before .before .low .ensures .0) (c .before .before .before .before .low2 .ensures .0) _ _ (c .before .before .before .before .before .before .before .before .before .pre .0 .1) (c .before .before .before .before .before .before .before .before .before .pre .1 .1) in (z .4, z .6, z .5, z .7)
+product-weight-requires c κs =
+    let q = given (first c) .pre in
+    let z = product-sizes _ _ _ _ _ _ _ _ (sizes c) _ _ (q .0 .1) (q .1 .1) in
+    (z .4, z .6, z .5, z .7)
 
 same-length : tie.Need-same-length
 same-length c = search needs
 
 returns : tie.Need-returns
-returns c = λ vs ws h k. product-heavy _ _ _ _ _ _ _ _ (c .before .before .before .before .end-of .ensures) (c .before .before .end-of2 .ensures) (c .before .before .before .before .before .before .before .before .low .ensures .0) (c .before .before .before .before .before .before .low2 .ensures .0) (omega (arith, c .before .product-weight .ensures, c .if1 .taken)) vs ws h k
+returns c = λ vs ws h k.
+    let w = c .before in
+    product-heavy _ _ _ _ _ _ _ _ (sizes (w .before)) (omega (arith, w .product-weight .ensures, c .if1 .taken)) vs ws h k
 
 add-rows : tie.Need-add-rows
 add-rows c = search needs
@@ -61,7 +98,11 @@ add-rows-3 : tie.Need-add-rows-3
 add-rows-3 c = search needs
 
 rows-requires : tie.Need-rows-requires
-rows-requires c κs = product-pre _ _ _ _ _ _ _ _ (c .before .before .before .before .before .end-of .ensures) (c .before .before .before .end-of2 .ensures) (c .before .before .before .before .before .before .before .before .before .low .ensures .0) (c .before .before .before .before .before .before .before .low2 .ensures .0) (c .before .before .before .before .before .before .before .before .before .before .before .before .pre .2) (omega (arith, c .before .before .product-weight .ensures, c .before .if1 .left)) _ _ (c .before .before .before .before .before .before .before .before .before .before .before .before .pre .0 .1) (c .before .before .before .before .before .before .before .before .before .before .before .before .pre .1 .1)
+rows-requires c κs =
+    let l = light c in
+    let w = l .before in
+    let q = given (first (w .before)) .pre in
+    product-pre _ _ _ _ _ _ _ _ (sizes (w .before)) (q .2) (omega (arith, w .product-weight .ensures, l .if1 .left)) _ _ (q .0 .1) (q .1 .1)
 
 mul-s : tie.Need-mul-s
 mul-s c = search needs
@@ -79,7 +120,11 @@ same-length-2 : tie.Need-same-length-2
 same-length-2 c = search needs
 
 returns-2 : tie.Need-returns-2
-returns-2 c = λ vs ws h k. product-made _ _ _ _ _ _ _ _ (c .before .before .before .before .before .before .before .before .end-of .ensures) (c .before .before .before .before .before .before .end-of2 .ensures) (c .before .before .before .before .before .before .before .before .before .before .before .before .low .ensures .0) (c .before .before .before .before .before .before .before .before .before .before .low2 .ensures .0) (c .before .before .before .before .before .before .before .before .before .before .before .before .before .before .before .pre .2) (omega (arith, c .before .before .before .before .before .product-weight .ensures, c .before .before .before .before .if1 .left)) _ _ (c .before .before .rows .ensures) vs ws h k
+returns-2 c = λ vs ws h k.
+    let l = light (put c .before) in
+    let w = l .before in
+    product-made _ _ _ _ _ _ _ _ (sizes (w .before)) (given (first (w .before)) .pre .2) (omega (arith, w .product-weight .ensures, l .if1 .left))
+    _ _ (put c .rows .ensures) vs ws h k
 
 pub product-spec : {M : Type 1} → statement M
 product-spec =

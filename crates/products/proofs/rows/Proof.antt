@@ -8,34 +8,69 @@ use Rattle.products.proofs.rows.Statement.{statement}
 use Rattle.products.proofs.rows.Tie as tie
 
 abbrev Inv-loop : tie.InvT-loop
-Inv-loop s₀ a n b m to i₀ left₀ at₀ s i left at = (top : ℕ) (vs ws : Values) → Front s₀ top a n vs → Front s₀ top b m ws → top ≤ to → SquareAt s₀ top vs ws to s i left at
+Inv-loop s₀ a n b m to i₀ left₀ at₀ s i left at =
+    (top : ℕ) (vs ws : Values) → Front s₀ top a n vs → Front s₀ top b m ws → top ≤ to → SquareAt s₀ top vs ws to s i left at
 
 abbrev μ-loop : tie.MeasureT-loop
 μ-loop s₀ a n b m to i₀ left₀ at₀ s i left at = left
+
+-- A turn of the loop, what it was lent, and what it knows.
+abbrev Turn : Type 0
+Turn = tie.At-loop Inv-loop μ-loop
+
+abbrev lent : Turn → tie.Start Inv-loop μ-loop
+lent l = l .before .before
+
+abbrev known : (l : Turn) →
+    (let a = lent l .args in let p = lent l .pre in SquareAt (a .s .now) (p .top) (p .lefts) (p .rights) (a .to) (l .loop .s) (l .loop .i) (l .loop .left) (l .loop .at))
+known l = let p = lent l .pre in l .loop .inv (p .top) (p .lefts) (p .rights) (p .front) (p .others) (p .behind)
+
+-- The member ends; its pairs have been put.
+abbrev Ended : Type 0
+Ended = tie.After-end-of Inv-loop μ-loop
+
+abbrev member : Ended → tie.In-loop Inv-loop μ-loop
+member m = m .before .before
+
+abbrev put : tie.After-slice-known2 Inv-loop μ-loop → tie.After-row Inv-loop μ-loop
+put m = m .before .before
+
+abbrev ended : tie.After-slice-known2 Inv-loop μ-loop → Ended
+ended m = put m .before .before
 
 loop-holds : tie.Need-loop-holds Inv-loop μ-loop
 loop-holds c = λ top vs ws f g l. square-start _ top vs ws _ _ _ (omega (arith, c .before .pre .room)) f
 
 end-of-requires : tie.Need-end-of-requires Inv-loop μ-loop
-end-of-requires c κs = let p = c .before .before .before .before .pre in square-some _ _ _ _ _ _ _ _ _ (p .behind) (c .before .before .loop .inv _ _ _ (p .front) (p .others) (p .behind)) (c .before .loop-test .taken)
+end-of-requires c κs =
+    let l = c .before .before in square-some _ _ _ _ _ _ _ _ _ (lent l .pre .behind) (known l) (c .before .loop-test .taken)
 
 sub-row : tie.Need-sub-row Inv-loop μ-loop
-sub-row c = let p = c .before .before .before .before .before .before .pre in square-forward _ _ _ _ _ _ _ _ _ (p .behind) (c .before .before .before .before .loop .inv _ _ _ (p .front) (p .others) (p .behind)) _ _ (p .others) (c .before .before .before .loop-test .taken) _ (c .before .end-of .ensures)
+sub-row c =
+    let q = member (c .before) in
+    let p = lent (q .before) .pre in
+    square-forward _ _ _ _ _ _ _ _ _ (p .behind) (known (q .before)) _ _ (p .others) (q .loop-test .taken) _ (c .before .end-of .ensures)
 
 row-requires : tie.Need-row-requires Inv-loop μ-loop
-row-requires c κs = let p = c .before .before .before .before .before .before .pre in square-row _ _ _ _ _ _ _ _ _ (p .behind) (c .before .before .before .before .loop .inv _ _ _ (p .front) (p .others) (p .behind)) _ _ (p .others) (c .before .before .before .loop-test .taken) _ (c .before .end-of .ensures) (p .room)
+row-requires c κs =
+    let q = member (c .before) in
+    let p = lent (q .before) .pre in
+    square-row _ _ _ _ _ _ _ _ _ (p .behind) (known (q .before)) _ _ (p .others) (q .loop-test .taken) _ (c .before .end-of .ensures) (p .room)
 
 sub-left : tie.Need-sub-left Inv-loop μ-loop
-sub-left c = omega (arith, c .before .before .before .before .before .before .loop-test .taken)
+sub-left c = omega (arith, member (ended c) .loop-test .taken)
 
 loop-less : tie.Need-loop-less Inv-loop μ-loop
-loop-less c = omega (arith, c .before .before .before .before .before .before .loop-test .taken)
+loop-less c = omega (arith, member (ended c) .loop-test .taken)
 
 loop-again : tie.Need-loop-again Inv-loop μ-loop
-loop-again c = λ top vs ws f g l. square-next _ top vs ws _ _ _ _ _ l (c .before .before .before .before .before .before .before .loop .inv top vs ws f g l) _ _ g (c .before .before .before .before .before .before .loop-test .taken) _ (c .before .before .before .before .end-of .ensures) _ _ (c .before .before .row .ensures)
+loop-again c = λ top vs ws f g l.
+    let m = ended c in
+    let q = member m in
+    square-next _ top vs ws _ _ _ _ _ l (q .before .loop .inv top vs ws f g l) _ _ g (q .loop-test .taken) _ (m .end-of .ensures) _ _ (put c .row .ensures)
 
 same-length : tie.Need-same-length Inv-loop μ-loop
-same-length c = let p = c .before .before .before .pre in c .before .loop .inv _ _ _ (p .front) (p .others) (p .behind) .grown .appended .frame .kept
+same-length c = known (c .before) .grown .appended .frame .kept
 
 returns : tie.Need-returns Inv-loop μ-loop
 returns c = λ top vs ws f g l. square-end _ top vs ws _ _ _ _ _ l (c .before .loop .inv top vs ws f g l) (c .loop-test .left)

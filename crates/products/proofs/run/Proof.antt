@@ -28,7 +28,9 @@ slice-write-s : tie.Need-slice-write-s Inv-loop μ-loop
 slice-write-s c = running-inside _ _ _ _ _ _ _ (c .before .loop .inv) (c .before .before .pre .room) (c .before .before .pre .few) (c .loop-test .taken)
 
 add-to-2 : tie.Need-add-to-2 Inv-loop μ-loop
-add-to-2 c = omega (arith, running-inside _ _ _ _ _ _ _ (c .before .loop .inv) (c .before .before .pre .room) (c .before .before .pre .few) (c .loop-test .taken))
+add-to-2 c =
+    let q = c .before .before .pre in
+    omega (arith, running-inside _ _ _ _ _ _ _ (c .before .loop .inv) (q .room) (q .few) (c .loop-test .taken))
 
 add-i : tie.Need-add-i Inv-loop μ-loop
 add-i c = omega (arith, c .before .before .pre .few, c .loop-test .taken)

@@ -7,11 +7,24 @@ use borrow.Author.Needs.{needs}
 use Rattle.products.proofs.singleton.Statement.{statement}
 use Rattle.products.proofs.singleton.Tie as tie
 
+-- Where the value ends is known; what was lent. The value has been copied.
+abbrev Ended : Type 0
+Ended = tie.After-end-of
+
+abbrev lent : Ended → tie.Start
+lent m = m .before .before .before
+
+abbrev light : tie.After-copy-arg → tie.Else1
+light m = m .before
+
+abbrev put : tie.After-slice-known2 → tie.After-copy
+put m = m .before .before
+
 end-of-requires : tie.Need-end-of-requires
 end-of-requires c κs = value-some _ _ _ _ (c .before .before .pre .0 .1)
 
 sub-n : tie.Need-sub-n
-sub-n c = omega (arith, value-end _ _ _ _ _ (c .before .before .before .pre .0 .1) (c .end-of .ensures))
+sub-n c = omega (arith, value-end _ _ _ _ _ (lent c .pre .0 .1) (c .end-of .ensures))
 
 same-length : tie.Need-same-length
 same-length c = search needs
@@ -23,7 +36,14 @@ add-copy : tie.Need-add-copy
 add-copy c = search needs
 
 copy-requires : tie.Need-copy-requires
-copy-requires c κs = (omega (arith, value-end _ _ _ _ _ (c .before .before .before .before .before .pre .0 .1) (c .before .before .end-of .ensures), c .before .before .before .before .before .pre .0 .1 .below), omega (arith, c .before .if1 .left), inl (omega (arith, value-end _ _ _ _ _ (c .before .before .before .before .before .pre .0 .1) (c .before .before .end-of .ensures), c .before .before .before .before .before .pre .0 .1 .below)))
+copy-requires c κs =
+    let m = light c .before in
+    let v = lent m .pre .0 .1 in
+    let e = value-end _ _ _ _ _ v (m .end-of .ensures) in
+    (omega (arith, v .below), omega (arith, light c .if1 .left), inl (omega (arith, v .below)))
+
+add-s : tie.Need-add-s
+add-s c = search needs
 
 mul-s : tie.Need-mul-s
 mul-s c = search needs
@@ -41,7 +61,10 @@ same-length-2 : tie.Need-same-length-2
 same-length-2 c = search needs
 
 returns-2 : tie.Need-returns-2
-returns-2 c = λ v h. single-made _ _ _ _ _ (c .before .before .before .before .before .before .before .before .pre .1) (c .before .before .before .before .before .end-of .ensures) (c .before .before .before .before .if1 .left) (c .before .before .copy .ensures) v h
+returns-2 c = λ v h.
+    let l = light (put c .before) in
+    let m = l .before in
+    single-made _ _ _ _ _ (lent m .pre .1) (m .end-of .ensures) (l .if1 .left) (put c .copy .ensures) v h
 
 pub singleton-spec : {M : Type 1} → statement M
 singleton-spec =
@@ -53,6 +76,7 @@ singleton-spec =
     returns
     add-copy
     copy-requires
+    add-s
     mul-s
     slice-write-s
     add-result

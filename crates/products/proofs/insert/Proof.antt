@@ -1,0 +1,90 @@
+-- `insert`: a value that is there changes nothing; otherwise the members from its place on are moved up and it is copied into the gap.
+use mathlib.Core.Logic.{inl}
+use borrow.Author.Needs.{needs}
+use native.Mathlib.Omega.{arith}
+use Rattle.products.proofs.InsertLaws.{Near, insert-near, inserts-none, inserts-put}
+use Rattle.products.proofs.insert.Statement.{statement}
+use Rattle.products.proofs.insert.Tie as tie
+
+-- The place is known.
+abbrev Found : Type 0
+Found = tie.After-place-for
+
+abbrev lent : Found → tie.Start
+lent m = m .before .before .before
+
+near : (m : Found) → (let a = lent m .args in Near (a .s .now) (a .p) (a .end) (a .o) (m .place-for .result .at))
+near m = insert-near _ _ _ _ _ _ (lent m .pre) (m .place-for .ensures)
+
+-- The members behind the place have been moved; the value has been copied into the gap.
+abbrev moved : tie.After-shift → Found
+moved m = m .before .before .before
+
+abbrev gap : tie.After-copy-arg → tie.After-shift
+gap m = m .before .before .before
+
+abbrev filled : tie.After-slice-known3 → tie.After-copy
+filled m = m .before .before
+
+place-for-requires : tie.Need-place-for-requires
+place-for-requires c κs = search needs
+
+same-length : tie.Need-same-length
+same-length c = search needs
+
+returns : tie.Need-returns
+returns c = λ v zs h b. let m = c .before in inserts-none _ _ _ _ v zs h b _ (m .place-for .ensures v zs h b) (c .if1 .taken)
+
+sub-n : tie.Need-sub-n
+sub-n c = near (c .before) .forward
+
+sub-shift : tie.Need-sub-shift
+sub-shift c = near (c .before .before) .inside
+
+shift-requires : tie.Need-shift-requires
+shift-requires c κs = let k = near (c .before .before) in omega arith
+
+copy-requires : tie.Need-copy-requires
+copy-requires c κs =
+    let m = gap c in
+    let k = near (moved m) in
+    (omega (arith, m .shift .ensures .kept), omega (arith, m .shift .ensures .kept), inl (omega arith))
+
+moved-last-requires : tie.Need-moved-last-requires
+moved-last-requires c κs = let k = near (moved (gap (filled c .before))) in omega arith
+
+add-t19 : tie.Need-add-t19
+add-t19 c = let k = near (moved (gap (filled (c .before) .before))) in omega arith
+
+add-t20 : tie.Need-add-t20
+add-t20 c = search needs
+
+same-length-2 : tie.Need-same-length-2
+same-length-2 c = search needs
+
+returns-2 : tie.Need-returns-2
+returns-2 c = λ v zs h b.
+    let f = filled (c .before .before) in
+    let g = gap (f .before) in
+    let m = moved g in
+    let k = near m in
+    let e = lent m .pre .ends v (h .stands) (h .fits) in
+    inserts-put _ _ _ _ v zs h b _ (m .place-for .ensures v zs h b) _ (omega arith) (k .room) _ _ (g .shift .ensures) (f .copy .ensures)
+    (g .before .before .if1 .left) _ (c .before .moved-last .ensures)
+
+pub insert-spec : {M : Type 1} → statement M
+insert-spec =
+    tie.close
+    (tie.spec
+    place-for-requires
+    same-length
+    returns
+    sub-n
+    sub-shift
+    shift-requires
+    copy-requires
+    moved-last-requires
+    add-t19
+    add-t20
+    same-length-2
+    returns-2)

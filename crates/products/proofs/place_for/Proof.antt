@@ -1,0 +1,34 @@
+-- `place_for`: the last member decides unless the value is less; then the walk does.
+use native.Mathlib.Omega.{arith}
+use Rattle.arena.proofs.FrontLaws.{value-some}
+use Rattle.products.proofs.InsertLaws.{place-none, place-some, place-last, place-find}
+use Rattle.products.proofs.place_for.Statement.{statement}
+use Rattle.products.proofs.place_for.Tie as tie
+
+-- The order of the value and the last member is known.
+abbrev Ordered : Type 0
+Ordered = tie.After-compare
+
+abbrev lent : Ordered → tie.Start
+lent m = m .before .before .before
+
+returns : tie.Need-returns
+returns c = λ v zs h b. place-none _ _ _ _ v zs h b (c .if1 .taken)
+
+compare-requires : tie.Need-compare-requires
+compare-requires c κs =
+    let q = c .before .before .pre in
+    (value-some _ _ _ _ (q .below), place-some _ _ _ _ _ _ (q .below) (q .built) (c .if1 .left), q .ends)
+
+returns-2 : tie.Need-returns-2
+returns-2 c = λ v zs h b.
+    let m = c .before in place-last _ _ _ _ v zs h b (m .before .if1 .left) _ (m .compare .ensures) (omega (arith, c .if2 .taken))
+
+find-requires : tie.Need-find-requires
+find-requires c κs = place-find _ _ _ _ _ (lent (c .before) .pre)
+
+returns-3 : tie.Need-returns-3
+returns-3 c = λ v zs h b. c .find .ensures v zs (h .stands) (h .fits) (b .members)
+
+pub place-for-spec : {M : Type 1} → statement M
+place-for-spec = tie.close (tie.spec returns compare-requires returns-2 find-requires returns-3)
