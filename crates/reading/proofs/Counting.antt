@@ -1,5 +1,6 @@
--- The fields of a node one by one: how often a number stands in those of a sort, and how large it is there.
-use Prim.Native.Nat.{ℕ, zero, suc, _+_, _*_, _-_, _≤_, _<_, max}
+-- The fields of a node one by one: what those that pass a test hold, how often a number stands there, and that a child is below its parent.
+-- Refusal 7 from the counts.
+use Prim.Native.Nat.{ℕ, zero, suc, _+_, _*_, _-_, _≤_, _<_}
 use mathlib.Core.Bool.{Bool, true, false, cond, false≢true}
 use mathlib.Core.List.{List, [], _∷_}
 use mathlib.Core.Option.{Option}
@@ -13,16 +14,16 @@ use lib.Seq.{getD-set-same, getD-set-other, set-getD, take-all}
 use borrow.Author.Tests.{eq-eqb, ne-eqb}
 use Rattle.rules.specs.Kinds.{Kind, kindOf}
 use Rattle.rules.specs.Kinds.{predicate}
-use Rattle.rules.specs.Kinds.{Field, unused, child, use-of, binder-of, setNumber, elementNumber, anyWord, truthBit, isChild, isBinder}
+use Rattle.rules.specs.Kinds.{Field, unused, child, use-of, binder-of, setNumber, elementNumber, anyWord, truthBit, isChild}
 use Rattle.rules.specs.Tables.{Node, Table, tableOf, nodeAt, kindAt, lastNode, fieldsAt, fieldsIf, fieldWords, keptIf, pick, held, heldIn}
 use Rattle.rules.specs.Tables.{nodeCount}
 use Rattle.rules.specs.Reading.{occurrences, parentGood}
 use Rattle.rules.specs.Readable.{Header, FieldRight, FieldsRight}
-use Rattle.laws.proofs.TableLaws.{nodes-length, binds-length, fields-right}
+use Rattle.laws.proofs.TableLaws.{nodes-length, fields-right}
 use Rattle.laws.proofs.TreeLaws.{occurrences-append}
 use Rattle.table.specs.Codes.{fieldOf, categoryCode, DigitOf}
-use Rattle.table.specs.Layout.{NodeIn, Fielded, sortOf, fieldCodesAt, fieldAt}
-use Rattle.reading.specs.Arrays.{FieldIn, more, Room, BumpPre, Bumped, countsAt, Counted}
+use Rattle.table.specs.Layout.{NodeIn, Fielded, fieldCodesAt, fieldAt}
+use Rattle.reading.specs.Arrays.{FieldIn, more, Room, BumpPre, Bumped, childAt, Counted}
 use Rattle.table.proofs.Fields.{category-is, code-read, by-fields}
 
 -- What may be read of a node whose fields are right.
@@ -40,11 +41,6 @@ module _ {bs : List ℕ} {at n : ℕ} where
 pub last-inside : {bs : List ℕ} {i : ℕ} → i ≡ nodeCount bs → Header bs → i - 1 < 512
 last-inside e h = omega (arith, e, h .few-nodes)
 
--- A field that is not used is of no sort that is counted.
-pub sort-unused : (b : Bool) → sortOf b unused ≡ false
-sort-unused true = refl
-sort-unused false = refl
-
 module _ (p : Field → Bool) (none : p unused ≡ false) where
   -- Three fields, those of an unknown kind not used.
   pub pick-three : (k : Option Kind) (x y z : ℕ) →
@@ -58,7 +54,7 @@ module _ (p : Field → Bool) (none : p unused ≡ false) where
       (rw none)
       k
 
-  -- What a field of a sort holds is right.
+  -- What such a field holds is right.
   pub field-right : (tb : Table) (n : ℕ) (fs : List Field) (xs : List ℕ) (i : ℕ) → FieldsRight tb n fs xs →
       p (getD fs i unused) ≡ true → FieldRight tb n (getD fs i unused) (getD xs i 0)
   field-right tb n [] xs i h e = absurd (false≢true (cc))
@@ -86,7 +82,7 @@ more-one : (b : Bool) (x m : ℕ) → more b x m ≤ 1
 more-one true x m = at-most-one (eqb m x)
 more-one false x m = omega arith
 
--- One more at m, if field i of the node is of the sort and holds m.
+-- One more at m, if field i of the node passes the test and holds m.
 abbrev moreAt : (Field → Bool) → Node → ℕ → ℕ → ℕ
 moreAt p d i m = more (p (getD (fieldsAt d) i unused)) (getD (fieldWords d) i 0) m
 
@@ -99,7 +95,7 @@ module _ (p : Field → Bool) (none : p unused ≡ false) (m : ℕ) where
       ∙ kept-three m (p (getD (fieldsAt d) 0 unused)) (p (getD (fieldsAt d) 1 unused)) (p (getD (fieldsAt d) 2 unused)) (d .a) (d .b) (d .c)
 
   -- with one node more,
-  occurrences-more : (ns : List Node) (i : ℕ) → i < length ns →
+  pub occurrences-more : (ns : List Node) (i : ℕ) → i < length ns →
       occurrences m (heldIn p (take (suc i) ns)) ≡ occurrences m (heldIn p (take i ns)) + occurrences m (held p (nodeAt ns i))
   unfolding heldIn occurrences
   occurrences-more [] i h = absurd (omega arith)
@@ -128,12 +124,12 @@ module _ (p : Field → Bool) (none : p unused ≡ false) (m : ℕ) where
         more-one (p (getD (fieldsAt d) 2 unused)) (d .c) m,
       )
 
--- Whether a field counts, by the codes that the code reads.
-pub counts-read : (b : Bool) (bs : List ℕ) (n i row code : ℕ) (hit : Bool) → row ≡ fieldCodesAt bs n → DigitOf row i code →
-    hit ≡ sortOf b (fieldOf code) → hit ≡ countsAt b bs n i
-counts-read b bs n i row code hit e d h = h ∙ ap (sortOf b) (code-read bs n row i code e d)
+-- Whether a field holds a child, by the code that the code reads.
+pub child-read : (bs : List ℕ) (n i row code : ℕ) (hit : Bool) → row ≡ fieldCodesAt bs n → DigitOf row i code →
+    hit ≡ isChild (fieldOf code) → hit ≡ childAt bs n i
+child-read bs n i row code hit e d h = h ∙ ap isChild (code-read bs n row i code e d)
 
--- A child is below its parent, an identifier below I.
+-- A child is below its parent.
 pub child-lt : (tb : Table) (n : ℕ) (f : Field) (x : ℕ) → isChild f ≡ true → FieldRight tb n f x → x < n
 child-lt tb n unused x e h = absurd (false≢true e)
 child-lt tb n (child c) x e h = h .0
@@ -144,35 +140,17 @@ child-lt tb n elementNumber x e h = absurd (false≢true e)
 child-lt tb n anyWord x e h = absurd (false≢true e)
 child-lt tb n truthBit x e h = absurd (false≢true e)
 
-binder-lt : (tb : Table) (n : ℕ) (f : Field) (x : ℕ) → isBinder f ≡ true → FieldRight tb n f x → x < length (tb .binds)
-binder-lt tb n unused x e h = absurd (false≢true e)
-binder-lt tb n (child c) x e h = absurd (false≢true e)
-binder-lt tb n use-of x e h = absurd (false≢true e)
-binder-lt tb n binder-of x e h = h
-binder-lt tb n setNumber x e h = absurd (false≢true e)
-binder-lt tb n elementNumber x e h = absurd (false≢true e)
-binder-lt tb n anyWord x e h = absurd (false≢true e)
-binder-lt tb n truthBit x e h = absurd (false≢true e)
+pub child-at : (bs : List ℕ) (at n i : ℕ) → Fielded bs at → n < nodeCount bs → childAt bs n i ≡ true → fieldAt bs n i < n
+child-at bs at n i f h e =
+    let d : Node = nodeAt (tableOf bs .nodes) n in
+    child-lt (tableOf bs) n (getD (fieldsAt d) i unused) (getD (fieldWords d) i 0) e
+    (field-right isChild refl (tableOf bs) n (fieldsAt d) (fieldWords d) i
+    (fields-right (tableOf bs) n (kindOf (d .kind)) (fieldWords d) (f .fields n h)) e)
 
-sort-below : (b : Bool) (tb : Table) (n : ℕ) (f : Field) (x : ℕ) → sortOf b f ≡ true → FieldRight tb n f x → x < max n (length (tb .binds))
-sort-below true tb n f x e h = omega (arith, binder-lt tb n f x e h)
-sort-below false tb n f x e h = omega (arith, child-lt tb n f x e h)
-
--- So an array of length 512 reaches a word that counts.
-pub counts-inside : (b : Bool) (bs : List ℕ) (at n i : ℕ) → FieldIn bs at n i → countsAt b bs n i ≡ true → {x m : ℕ} → x ≡ fieldAt bs n i → m ≡ 512 → x < m
-counts-inside b bs at n i f e word long =
-    let tb : Table = tableOf bs in
-    let d : Node = nodeAt (tb .nodes) n in
-    let r : FieldRight tb n (getD (fieldsAt d) i unused) (getD (fieldWords d) i 0) =
-    field-right (sortOf b) (sort-unused b) tb n (fieldsAt d) (fieldWords d) i
-    (fields-right tb n (kindAt (tb .nodes) n) (fieldWords d) (f .fielded .fields n (f .below))) e in
-    omega (
-      arith,
-      binds-length bs,
-      f .fielded .laid .header .few-nodes,
-      f .fielded .laid .header .identifiers,
-      sort-below b tb n (getD (fieldsAt d) i unused) (getD (fieldWords d) i 0) e r,
-    )
+-- So an array of length 512 reaches it.
+pub child-inside : (bs : List ℕ) (at n i : ℕ) → FieldIn bs at n i → childAt bs n i ≡ true → {x m : ℕ} → x ≡ fieldAt bs n i → m ≡ 512 → x < m
+child-inside bs at n i f e word long =
+    omega (arith, f .fielded .laid .header .few-nodes, child-at bs at n i (f .fielded) (f .below) e)
 
 -- No count is above k.
 abbrev pub Low : ℕ → List ℕ → Type 0
@@ -181,31 +159,31 @@ Low k c = (m : ℕ) → m < length c → getD c m 0 ≤ k
 pub low-room : (k : ℕ) (c : List ℕ) → k < 65535 → Low k c → Room c
 low-room k c few low m l = omega (arith, low m l)
 
-pub counted-low : (b : Bool) (bs : List ℕ) (n : ℕ) (c : List ℕ) → nodeCount bs ≤ 512 → n < nodeCount bs → Counted b bs n c → Low 1536 c
-counted-low b bs n c few below k m l =
-    omega (arith, k m l, occurrences-most (sortOf b) (sort-unused b) m (tableOf bs .nodes) n (omega (arith, nodes-length bs)))
+pub counted-low : (bs : List ℕ) (n : ℕ) (c : List ℕ) → nodeCount bs ≤ 512 → n < nodeCount bs → Counted bs n c → Low 1536 c
+counted-low bs n c few below k m l =
+    omega (arith, k m l, occurrences-most isChild refl m (tableOf bs .nodes) n (omega (arith, nodes-length bs)))
 
 pub bumped-low : (k : ℕ) (c c′ : List ℕ) (hit : Bool) (x : ℕ) → length c′ ≡ length c → Low k c → Bumped c hit x c′ → Low (k + 1) c′
 bumped-low k c c′ hit x e low b m l = omega (arith, low m (omega arith), b m (omega arith), more-one hit x m)
 
 -- The store at a field's word, by what the code has read of the field.
-module _ (b : Bool) (bs : List ℕ) (at n i : ℕ) (c : List ℕ) (hit : Bool) (x : ℕ) (eh : hit ≡ countsAt b bs n i) (ex : x ≡ fieldAt bs n i) where
+module _ (bs : List ℕ) (at n i : ℕ) (c : List ℕ) (hit : Bool) (x : ℕ) (eh : hit ≡ childAt bs n i) (ex : x ≡ fieldAt bs n i) where
   pub bump-pre : FieldIn bs at n i → length c ≡ 512 → Room c → BumpPre c hit x
   bump-pre f long room = record {
     some = omega arith;
-    inside = λ e. counts-inside b bs at n i f (sym eh ∙ e) ex long;
+    inside = λ e. child-inside bs at n i f (sym eh ∙ e) ex long;
     room = room;
   }
 
-  pub bumped-field : (c′ : List ℕ) → Bumped c hit x c′ → Bumped c (countsAt b bs n i) (fieldAt bs n i) c′
+  pub bumped-field : (c′ : List ℕ) → Bumped c hit x c′ → Bumped c (childAt bs n i) (fieldAt bs n i) c′
   bumped-field c′ bumped = rw (← eh, ← ex) bumped
 
 -- Where each field of node n is counted, the counts are those of one node more.
-pub counted-more : (b : Bool) (bs : List ℕ) (n : ℕ) (c c₁ c₂ c₃ : List ℕ) →
-    n < nodeCount bs → length c₁ ≡ length c → length c₂ ≡ length c₁ → length c₃ ≡ length c₂ → Counted b bs n c →
-    Bumped c (countsAt b bs n 0) (fieldAt bs n 0) c₁ → Bumped c₁ (countsAt b bs n 1) (fieldAt bs n 1) c₂ →
-    Bumped c₂ (countsAt b bs n 2) (fieldAt bs n 2) c₃ → Counted b bs (n + 1) c₃
-counted-more b bs n c c₁ c₂ c₃ below e₁ e₂ e₃ counted b₁ b₂ b₃ m l =
+pub counted-more : (bs : List ℕ) (n : ℕ) (c c₁ c₂ c₃ : List ℕ) →
+    n < nodeCount bs → length c₁ ≡ length c → length c₂ ≡ length c₁ → length c₃ ≡ length c₂ → Counted bs n c →
+    Bumped c (childAt bs n 0) (fieldAt bs n 0) c₁ → Bumped c₁ (childAt bs n 1) (fieldAt bs n 1) c₂ →
+    Bumped c₂ (childAt bs n 2) (fieldAt bs n 2) c₃ → Counted bs (n + 1) c₃
+counted-more bs n c c₁ c₂ c₃ below e₁ e₂ e₃ counted b₁ b₂ b₃ m l =
     let ns : List Node = tableOf bs .nodes in
     rw (add-one n) (omega (
       arith,
@@ -213,8 +191,8 @@ counted-more b bs n c c₁ c₂ c₃ below e₁ e₂ e₃ counted b₁ b₂ b₃
       b₁ m (omega arith),
       b₂ m (omega arith),
       b₃ m (omega arith),
-      occurrences-more (sortOf b) (sort-unused b) m ns n (omega (arith, nodes-length bs)),
-      occurrences-held (sortOf b) (sort-unused b) m (nodeAt ns n),
+      occurrences-more isChild refl m ns n (omega (arith, nodes-length bs)),
+      occurrences-held isChild refl m (nodeAt ns n),
     ))
 
 -- One store counts a field: one more at its word, or 0 more at place 0.
@@ -241,14 +219,14 @@ pub bump-room : (c : List ℕ) (hit : Bool) (x i d : ℕ) → BumpPre c hit x �
 bump-room c hit x i d pre place step = omega (arith, pre .room i (bump-inside c hit x i pre place), at-most-one hit)
 
 -- No node, and all of them.
-pub counted-none : (b : Bool) (bs : List ℕ) (k : ℕ) → Counted b bs 0 (replicate k 0)
+pub counted-none : (bs : List ℕ) (k : ℕ) → Counted bs 0 (replicate k 0)
 unfolding occurrences heldIn
-counted-none b bs k m l = getD-replicate k m 0 0 (rw length-replicate at l)
+counted-none bs k m l = getD-replicate k m 0 0 (rw length-replicate at l)
 
-pub counted-all : (b : Bool) (bs c : List ℕ) → Counted b bs (nodeCount bs) c → (m : ℕ) → m < length c →
-    getD c m 0 ≡ occurrences m (heldIn (sortOf b) (tableOf bs .nodes))
-counted-all b bs c counted m l =
-    counted m l ∙ ap (λ (ns : List Node). occurrences m (heldIn (sortOf b) ns)) (take-all (nodeCount bs) (tableOf bs .nodes) (omega (arith, nodes-length bs)))
+pub counted-all : (bs c : List ℕ) → Counted bs (nodeCount bs) c → (m : ℕ) → m < length c →
+    getD c m 0 ≡ occurrences m (heldIn isChild (tableOf bs .nodes))
+counted-all bs c counted m l =
+    counted m l ∙ ap (λ (ns : List Node). occurrences m (heldIn isChild ns)) (take-all (nodeCount bs) (tableOf bs .nodes) (omega (arith, nodes-length bs)))
 
 -- Refusal 7 at the last node, and at another.
 pub parent-last : (bs : List ℕ) (n k code : ℕ) → n + 1 ≡ nodeCount bs → k ≡ nodeAt (tableOf bs .nodes) n .kind →

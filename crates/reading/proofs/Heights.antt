@@ -12,14 +12,11 @@ use borrow.Author.Tests.{le-leb, lt-leb}
 use Rattle.rules.specs.Kinds.{unused, isChild, kindOf}
 use Rattle.rules.specs.Tables.{Node, tableOf, nodeAt, fieldsAt, keptIf, held, nodeCount, lastNode}
 use Rattle.rules.specs.Reading.{tallest, height, heightLimit, heightGood}
-use Rattle.rules.specs.Ends.{leastFailing}
-use Rattle.rules.specs.Readable.{NodeRight, Readable}
+use Rattle.rules.specs.Readable.{NodeRight}
 use Rattle.laws.proofs.TableLaws.{nodes-length, held-below, height-at, tallest-below, no-root, some-root}
 use Rattle.table.specs.Layout.{Fielded, fieldAt}
-use Rattle.reading.specs.Arrays.{countsAt, Heights}
+use Rattle.reading.specs.Arrays.{childAt, Heights}
 use Rattle.reading.specs.Answers.{rootHeight}
-use Rattle.table.specs.Places.{foundOr}
-use Rattle.table.proofs.Least.{least-none}
 use Rattle.reading.proofs.Counting.{pick-three}
 
 tallest-kept : (h : ℕ → ℕ) (b : Bool) (x : ℕ) (xs : List ℕ) → tallest h (keptIf b x xs) ≡ max (cond b (h x) 0) (tallest h xs)
@@ -35,8 +32,8 @@ kept-three h b c d x y z =
 
 -- The tallest child is the tallest of those in the three fields.
 pub tallest-held : (h : ℕ → ℕ) (bs : List ℕ) (n p q r s t : ℕ) →
-    p ≡ cond (countsAt false bs n 0) (h (fieldAt bs n 0)) 0 → q ≡ cond (countsAt false bs n 1) (h (fieldAt bs n 1)) 0 →
-    r ≡ cond (countsAt false bs n 2) (h (fieldAt bs n 2)) 0 → s ≡ max q r → t ≡ max p s →
+    p ≡ cond (childAt bs n 0) (h (fieldAt bs n 0)) 0 → q ≡ cond (childAt bs n 1) (h (fieldAt bs n 1)) 0 →
+    r ≡ cond (childAt bs n 2) (h (fieldAt bs n 2)) 0 → s ≡ max q r → t ≡ max p s →
     t ≡ tallest h (held isChild (nodeAt (tableOf bs .nodes) n))
 unfolding held
 tallest-held h bs n p q r s t ep eq er es et =
@@ -86,23 +83,14 @@ module _ (bs : List ℕ) (at n : ℕ) (f : Fielded bs at) (below : n < nodeCount
       go (yes e) = rw (e, getD-set-same hs n (t + 1) 0 long) (sym height-next)
       go (no e) = getD-set-other hs n m (t + 1) 0 e ∙ heights m (omega arith)
 
--- Where the table is readable, all nodes have their heights, and so has the root, if there is one.
-module _ (bs : List ℕ) (r : Readable bs) where
-  all-low : foundOr (nodeCount bs) (leastFailing (heightGood (tableOf bs)) 0 (nodeCount bs)) ≡ nodeCount bs
-  unfolding heightGood
-  all-low =
-      sym (least-none (heightGood (tableOf bs)) (nodeCount bs) (nodeCount bs)
-      (record { within = omega arith; passed = λ n l. le-leb (height (tableOf bs .nodes) n) heightLimit (r .records .heights n (omega (arith, nodes-length bs))) })
-      (omega arith))
-
-  pub root-height : (hs : List ℕ) (n count : ℕ) → n ≡ foundOr (nodeCount bs) (leastFailing (heightGood (tableOf bs)) 0 (nodeCount bs)) → Heights bs n hs →
-      count ≡ nodeCount bs → count ≢ 0 → getD hs (count - 1) 0 ≡ rootHeight (tableOf bs)
+-- Where all nodes have their heights, so has the root, if there is one.
+module _ (bs : List ℕ) (count : ℕ) (is : count ≡ nodeCount bs) where
+  pub root-height : (hs : List ℕ) → Heights bs (nodeCount bs) hs → count ≢ 0 → getD hs (count - 1) 0 ≡ rootHeight (tableOf bs)
   unfolding lastNode
-  root-height hs n count e heights is some =
+  root-height hs heights some =
       let ns = tableOf bs .nodes in
       let last : count - 1 ≡ length ns - 1 = omega (arith, nodes-length bs) in
-      heights (count - 1) (omega (arith, all-low, some)) ∙ ap (height ns) last
-      ∙ sym (some-root 0 (height ns) ns (omega (arith, nodes-length bs, some)))
+      heights (count - 1) (omega (arith, some)) ∙ ap (height ns) last ∙ sym (some-root 0 (height ns) ns (omega (arith, nodes-length bs, some)))
 
-  pub no-height : (count : ℕ) → count ≡ nodeCount bs → count ≡ 0 → 0 ≡ rootHeight (tableOf bs)
-  no-height count is none = sym (no-root 0 (height (tableOf bs .nodes)) (tableOf bs .nodes) (omega (arith, nodes-length bs)))
+  pub no-height : count ≡ 0 → 0 ≡ rootHeight (tableOf bs)
+  no-height none = sym (no-root 0 (height (tableOf bs .nodes)) (tableOf bs .nodes) (omega (arith, nodes-length bs)))

@@ -1,98 +1,136 @@
--- Refusal 9: whether a node binds an identifier, whether the identifier occurs free there, and the rule for its binders.
-use Prim.Native.Nat.{ℕ, zero, suc, _+_, _-_, _≤_, _<_}
-use mathlib.Core.Bool.{Bool, true, false, not, _&&_, _||_, cond}
+-- Refusal 9: which identifier a node binds, which occur free there, and what the pass has after n nodes (`Passed`), bit by bit.
+-- A node binds by its first field alone, so a binder more is one more at most. At the last node the bits decide the rule.
+use Prim.Native.Nat.{ℕ, zero, suc, _+_, _<_}
+use mathlib.Core.Bool.{Bool, true, false, not, _&&_, _||_, cond, false≢true}
 use mathlib.Core.List.{List, [], _∷_}
 use mathlib.Core.Option.{Option}
 use mathlib.Core.Path.{_≡_, refl, sym, ap, ap₂, _∙_}
 use native.Mathlib.Omega.{arith}
 use native.Mathlib.Decide.{ℕ-discrete}
+use native.Mathlib.Numerals.{add-one}
+use lib.Bits.{bitAnd, bitOr}
 use lib.Dec.{eqb, leb}
-use lib.ListN.{length, getD, set}
-use lib.Seq.{getD-set-same, getD-set-other}
-use borrow.Author.Tests.{eq-eqb, ne-eqb}
-use mir.Val.{boolByte}
+use lib.ListN.{length, getD, set, take}
+use lib.Seq.{getD-set-same, getD-set-other, take-all}
+use borrow.Author.Tests.{eq-eqb, ne-eqb, le-leb}
 use Rattle.rules.specs.Kinds.{Kind, kindOf, predicate, expression, isChild, isBinder}
 use Rattle.rules.specs.Kinds.{Field, unused, child, use-of, binder-of, setNumber, elementNumber, anyWord, truthBit}
-use Rattle.rules.specs.Tables.{Node, tableOf, nodeAt, fieldsAt, fieldsIf, fieldWords, keptIf, pick, held, lastNode, identifierCount, nodeCount}
+use Rattle.rules.specs.Tables.{Node, Table, tableOf, nodeAt, kindAt, fieldsAt, fieldsIf, fieldWords, keptIf, pick, held, heldIn, ofRoot, lastNode, nodeCount}
 use Rattle.rules.specs.Reading.{occurrences, occursIn, occursInAny, bindsHere, occursStep, occursFree, occursInRoot, boundRight, binders, binding}
-use Rattle.rules.specs.Readable.{Header}
-use Rattle.laws.proofs.TableLaws.{fields-right, nodes-length, occursFree-at, some-root}
-use Rattle.laws.proofs.BindingLaws.{binders-one}
+use Rattle.rules.specs.Readable.{FieldRight}
+use Rattle.laws.proofs.TableLaws.{fields-right, nodes-length, binds-length, occursFree-at}
 use Rattle.table.specs.Codes.{fieldOf}
-use Rattle.table.specs.Layout.{Fielded, holdsAt, fieldAt, WordOf}
-use Rattle.reading.specs.Arrays.{flag, Occurs, FieldIn, countsAt, Counted}
-use Rattle.table.proofs.Access.{by-code, field-far}
+use Rattle.table.specs.Layout.{Fielded, holdsAt, fieldAt}
+use Rattle.table.specs.Layout.{WordOf}
+use Rattle.table.proofs.Access.{by-code, field-far, binder-code}
 use Rattle.table.proofs.Fields.{by-fields}
-use Rattle.reading.proofs.Counting.{field-right, child-lt, counts-inside, counted-all}
+use Rattle.reading.specs.declared.binding.Names.{Names}
+use Rattle.reading.specs.Arrays.{FieldIn}
+use Rattle.reading.specs.Words.{hasBit, WordIs, freeIn, BoundAt, Named}
+use Rattle.reading.proofs.Counting.{field-right, child-at, occurrences-more}
+use Rattle.reading.proofs.Words.{bit-or, bit-and, bit-none}
 
-kept-once : (p : Bool) (x y : ℕ) → leb 1 (occurrences x (keptIf p y [])) ≡ (p && eqb x y)
+-- How often a node binds x: once or not at all, by its first field.
+kept-once : (p : Bool) (x y : ℕ) → occurrences x (keptIf p y []) ≡ cond (p && eqb x y) 1 0
 unfolding occurrences
 kept-once false x y = refl
-kept-once true x y = go (eqb x y)
-  where
-    go : (b : Bool) → leb 1 (cond b 1 0 + 0) ≡ b
-    go true = refl
-    go false = refl
+kept-once true x y = omega arith
 
--- A node binds x where its first field does.
-binds-first : (d : Node) (x : ℕ) → bindsHere x d ≡ (isBinder (getD (fieldsAt d) 0 unused) && eqb x (d .a))
+binders-first : (d : Node) (x : ℕ) → occurrences x (held isBinder d) ≡ cond (isBinder (getD (fieldsAt d) 0 unused) && eqb x (d .a)) 1 0
 unfolding held
-binds-first d x =
+binders-first d x =
     by-fields
-    (λ fs. leb 1 (occurrences x (pick isBinder fs (fieldWords d))) ≡ (isBinder (getD fs 0 unused) && eqb x (d .a)))
+    (λ fs. occurrences x (pick isBinder fs (fieldWords d)) ≡ cond (isBinder (getD fs 0 unused) && eqb x (d .a)) 1 0)
     (λ f g h eg eh. rw (eg, eh) (kept-once (isBinder f) x (d .a)))
     (kept-once false x (d .a))
     (kindOf (d .kind))
 
-module _ (d : Node) (x c : ℕ) (hit : Bool) (code : fieldOf c ≡ getD (fieldsAt d) 0 unused) (tested : hit ≡ isBinder (fieldOf c)) where
-  pub binds-hit : (y : ℕ) → hit ≡ true → y ≡ d .a → eqb x y ≡ bindsHere x d
-  binds-hit y e w = rw (binds-first d x, ← code, ← tested, e, w)
+some-once : (b : Bool) → leb 1 (cond b 1 0) ≡ b
+some-once true = refl
+some-once false = refl
 
-  pub binds-miss : hit ≡ false → false ≡ bindsHere x d
-  binds-miss e = rw (binds-first d x, ← code, ← tested, e)
+binds-first : (d : Node) (x : ℕ) → bindsHere x d ≡ (isBinder (getD (fieldsAt d) 0 unused) && eqb x (d .a))
+binds-first d x = ap (leb 1) (binders-first d x) ∙ some-once (isBinder (getD (fieldsAt d) 0 unused) && eqb x (d .a))
 
-or-three : (p q r : Bool) → (p || (q || (r || false))) ≡ (p || (q || r))
-or-three p q true = refl
-or-three p q false = refl
+binders-here : (d : Node) (x : ℕ) → occurrences x (held isBinder d) ≡ cond (bindsHere x d) 1 0
+binders-here d x = rw (binds-first d x) (binders-first d x)
 
+-- The word of what a node binds, by the code of its first field.
+module _ (bs : List ℕ) (n c : ℕ) (code : fieldOf c ≡ holdsAt bs n 0) where
+  first-code : isBinder (holdsAt bs n 0) ≡ eqb c 4
+  first-code = ap isBinder (sym code) ∙ sym (binder-code c)
+
+  pub binds-one : (y w : ℕ) → y ≡ fieldAt bs n 0 → c ≡ 4 → WordIs (λ x. eqb x y) w → BoundAt bs n w
+  binds-one y w word e h x = rw (binds-first (nodeAt (tableOf bs .nodes) n) x, first-code, eq-eqb c 4 e, ← word) (h x)
+
+  pub binds-none : (c ≡ 4 → ⊥) → BoundAt bs n 0
+  binds-none e x = rw (binds-first (nodeAt (tableOf bs .nodes) n) x, first-code, ne-eqb c 4 e) (bit-none x)
+
+or-three : (p q r : Bool) → (p || (q || (r || false))) ≡ ((p || q) || r)
+or-three true q r = refl
+or-three false true r = refl
+or-three false false true = refl
+or-three false false false = refl
+
+-- An identifier occurs free in a node where one of its three fields makes it so.
 any-three : (x : ℕ) (h : Bool) (occ : ℕ → Bool) (k : Option Kind) (a b c : ℕ) →
-    (occursIn x h occ (getD (fieldsIf k) 0 unused) a || (occursIn x h occ (getD (fieldsIf k) 1 unused) b || occursIn x h occ (getD (fieldsIf k) 2 unused) c))
+    ((occursIn x h occ (getD (fieldsIf k) 0 unused) a || occursIn x h occ (getD (fieldsIf k) 1 unused) b) || occursIn x h occ (getD (fieldsIf k) 2 unused) c)
     ≡ occursInAny x h occ (fieldsIf k) (a ∷ b ∷ c ∷ [])
 any-three x h occ k a b c =
     by-fields
-    (λ fs. (occursIn x h occ (getD fs 0 unused) a || (occursIn x h occ (getD fs 1 unused) b || occursIn x h occ (getD fs 2 unused) c))
+    (λ fs. ((occursIn x h occ (getD fs 0 unused) a || occursIn x h occ (getD fs 1 unused) b) || occursIn x h occ (getD fs 2 unused) c)
     ≡ occursInAny x h occ fs (a ∷ b ∷ c ∷ []))
     (λ f g i eg ei. sym (or-three (occursIn x h occ f a) (occursIn x h occ g b) (occursIn x h occ i c)))
     refl
     k
 
--- x occurs free in a node where one of its three fields makes it so.
-pub occurs-three : (d : Node) (x : ℕ) (h : Bool) (occ : ℕ → Bool) (p q s e r : Bool) → h ≡ bindsHere x d →
-    p ≡ occursIn x h occ (getD (fieldsAt d) 0 unused) (d .a) →
-    q ≡ occursIn x h occ (getD (fieldsAt d) 1 unused) (d .b) →
-    s ≡ occursIn x h occ (getD (fieldsAt d) 2 unused) (d .c) →
-    e ≡ (q || s) → r ≡ (p || e) → r ≡ occursInAny x (bindsHere x d) occ (fieldsAt d) (fieldWords d)
-occurs-three d x h occ p q s e r hb ep eq es ee er =
-    er ∙ rw (ee, ep, eq, es, ← hb) (any-three x h occ (kindOf (d .kind)) (d .a) (d .b) (d .c))
+-- What field i of node n makes occur free, where the node binds `here` and `names` are the words of the nodes below.
+abbrev FieldNames : List ℕ → List ℕ → ℕ → ℕ → ℕ → ℕ → Type 0
+FieldNames bs names here n i w = WordIs (λ x. occursIn x (hasBit here x) (freeIn names x) (holdsAt bs n i) (fieldAt bs n i)) w
 
--- A field that is a child holds a lower number.
-child-at : (bs : List ℕ) (at n i : ℕ) → Fielded bs at → n < nodeCount bs → countsAt false bs n i ≡ true → fieldAt bs n i < n
-child-at bs at n i p h e =
+pub names-three : (bs names : List ℕ) (n here a b c : ℕ) → BoundAt bs n here →
+    FieldNames bs names here n 0 a → FieldNames bs names here n 1 b → FieldNames bs names here n 2 c →
+    WordIs (λ x. occursStep (tableOf bs .nodes) x (freeIn names x) n) (bitOr (bitOr a b) c)
+names-three bs names n here a b c binds p q r x =
     let d : Node = nodeAt (tableOf bs .nodes) n in
-    child-lt (tableOf bs) n (getD (fieldsAt d) i unused) (getD (fieldWords d) i 0) e
-    (field-right isChild refl (tableOf bs) n (fieldsAt d) (fieldWords d) i
-    (fields-right (tableOf bs) n (kindOf (d .kind)) (fieldWords d) (p .fields n h)) e)
+    rw (bit-or (bitOr a b) c x, bit-or a b x, p x, q x, r x, binds x)
+    (any-three x (bindsHere x d) (freeIn names x) (kindOf (d .kind)) (d .a) (d .b) (d .c))
 
-child-field : (c : ℕ) → 1 ≤ c → c < 3 → isChild (fieldOf c) ≡ true
-child-field zero lo hi = absurd (omega arith)
-child-field (suc zero) lo hi = refl
-child-field (suc (suc zero)) lo hi = refl
-child-field (suc (suc (suc c))) lo hi = absurd (omega arith)
+-- A field that names an identifier holds a word below 32.
+abbrev pub isName : Field → Bool
+isName unused = false
+isName (child c) = false
+isName use-of = true
+isName binder-of = true
+isName setNumber = false
+isName elementNumber = false
+isName anyWord = false
+isName truthBit = false
 
--- A field with the code of a child holds a word below 512.
-pub child-inside : (bs : List ℕ) (at n i c y m : ℕ) → FieldIn bs at n i → 1 ≤ c → c < 3 → fieldOf c ≡ holdsAt bs n i → y ≡ fieldAt bs n i →
-    m ≡ 512 → y < m
-child-inside bs at n i c y m f lo hi code word long = counts-inside false bs at n i f (rw (← code) (child-field c lo hi)) word long
+name-below : (tb : Table) (n : ℕ) (f : Field) (x : ℕ) → isName f ≡ true → FieldRight tb n f x → x < length (tb .binds)
+name-below tb n unused x e h = absurd (false≢true e)
+name-below tb n (child c) x e h = absurd (false≢true e)
+name-below tb n use-of x e h = h
+name-below tb n binder-of x e h = h
+name-below tb n setNumber x e h = absurd (false≢true e)
+name-below tb n elementNumber x e h = absurd (false≢true e)
+name-below tb n anyWord x e h = absurd (false≢true e)
+name-below tb n truthBit x e h = absurd (false≢true e)
+
+pub name-inside : (bs : List ℕ) (at n i c y : ℕ) → FieldIn bs at n i → isName (fieldOf c) ≡ true → fieldOf c ≡ holdsAt bs n i → y ≡ fieldAt bs n i → y < 32
+name-inside bs at n i c y f e code word =
+    let tb : Table = tableOf bs in
+    let d : Node = nodeAt (tb .nodes) n in
+    let q : isName (getD (fieldsAt d) i unused) ≡ true = ap isName (sym code) ∙ e in
+    let r : FieldRight tb n (getD (fieldsAt d) i unused) (getD (fieldWords d) i 0) =
+    field-right isName refl tb n (fieldsAt d) (fieldWords d) i
+    (fields-right tb n (kindAt (tb .nodes) n) (fieldWords d) (f .fielded .fields n (f .below))) q in
+    omega (
+      arith,
+      binds-length bs,
+      f .fielded .laid .header .identifiers,
+      name-below tb n (getD (fieldsAt d) i unused) (getD (fieldWords d) i 0) q r,
+    )
 
 -- Free occurrence in a node asks only for the node's children.
 occursIn-same : (x : ℕ) (b : Bool) (h k : ℕ → Bool) (f : Field) (y : ℕ) → (isChild f ≡ true → h y ≡ k y) → occursIn x b h f y ≡ occursIn x b k f y
@@ -113,35 +151,6 @@ occursInAny-same x b h k (f ∷ fs) [] e = refl
 occursInAny-same x b h k (f ∷ fs) (y ∷ ys) e =
     ap₂ _||_ (occursIn-same x b h k f y (e 0)) (occursInAny-same x b h k fs ys (λ i. e (suc i)))
 
-bit-flag : (o : Bool) → eqb (boolByte o) 1 ≡ o
-bit-flag true = refl
-bit-flag false = refl
-
--- One turn of the loop over the nodes.
-pub occurs-turn : (bs : List ℕ) (at x n : ℕ) (c : List ℕ) (o : Bool) → Fielded bs at → n < nodeCount bs → n < length c → Occurs bs x n c →
-    o ≡ occursStep (tableOf bs .nodes) x (flag c) n → Occurs bs x (n + 1) (set c n (boolByte o))
-occurs-turn bs at x n c o p h l s e m m< = go (ℕ-discrete m n)
-  where
-    here : o ≡ occursFree (tableOf bs .nodes) x n
-    here =
-        e
-        ∙ occursInAny-same x (bindsHere x (nodeAt (tableOf bs .nodes) n)) (flag c) (occursFree (tableOf bs .nodes) x)
-        (fieldsAt (nodeAt (tableOf bs .nodes) n)) (fieldWords (nodeAt (tableOf bs .nodes) n))
-        (λ i q. s _ (child-at bs at n i p h q))
-        ∙ sym (occursFree-at (tableOf bs) (λ k q. p .fields k (omega (arith, nodes-length bs))) x n (omega (arith, nodes-length bs)))
-
-    go : Dec (m ≡ n) → flag (set c n (boolByte o)) m ≡ occursFree (tableOf bs .nodes) x m
-    go (yes q) = rw (q, getD-set-same c n (boolByte o) 0 l) (bit-flag o ∙ here)
-    go (no q) = rw (getD-set-other c n m (boolByte o) 0 q) (s m (omega arith))
-
--- The last node is the root.
-pub occurs-root : (bs : List ℕ) (x i n : ℕ) (c : List ℕ) → 0 < nodeCount bs → i ≡ nodeCount bs → i ≤ n → Occurs bs x n c →
-    eqb (getD c (i - 1) 0) 1 ≡ occursInRoot (tableOf bs .nodes) x
-unfolding lastNode
-occurs-root bs x i n c l e h s =
-    rw (some-root false (occursFree (tableOf bs .nodes) x) (tableOf bs .nodes) (omega (arith, nodes-length bs)), nodes-length bs, ← e)
-    (s (i - 1) (omega arith))
-
 -- The fields in which no identifier occurs free.
 occurs-none : (x : ℕ) (b : Bool) (occ : ℕ → Bool) (y c : ℕ) → (c ≡ 1 → ⊥) → (c ≡ 2 → ⊥) → (c ≡ 3 → ⊥) → false ≡ occursIn x b occ (fieldOf c) y
 occurs-none x b occ y =
@@ -150,62 +159,123 @@ occurs-none x b occ y =
     (λ p q r. refl) (λ p q r. refl) (λ p q r. refl) (λ p q r. refl) (λ p q r. refl)
     (λ c h p q r. rw (field-far c h))
 
--- Those that hold a child: x occurs free there where it does in the child, but not in the body of its own binder.
-occurs-child : (x : ℕ) (b : Bool) (occ : ℕ → Bool) (y c : ℕ) → 1 ≤ c → c < 3 → (not (b && eqb c 1) && occ y) ≡ occursIn x b occ (fieldOf c) y
-occurs-child x b occ y zero lo hi = absurd (omega arith)
-occurs-child x true occ y (suc zero) lo hi = refl
-occurs-child x false occ y (suc zero) lo hi = refl
-occurs-child x true occ y (suc (suc zero)) lo hi = refl
-occurs-child x false occ y (suc (suc zero)) lo hi = refl
-occurs-child x b occ y (suc (suc (suc c))) lo hi = absurd (omega arith)
+-- What a field makes occur free, by its code and its word.
+module _ (bs names : List ℕ) (here n i c y : ℕ) (code : fieldOf c ≡ holdsAt bs n i) (word : y ≡ fieldAt bs n i) where
+  pub names-coded : (w k : ℕ) → c ≡ k → WordIs (λ x. occursIn x (hasBit here x) (freeIn names x) (fieldOf k) y) w → FieldNames bs names here n i w
+  names-coded w k e h x = rw (← code, ← word, e) (h x)
 
--- What a field makes occur free, by its code.
-module _ (x : ℕ) (b : Bool) (occ : ℕ → Bool) (c y v : ℕ) (f : Field) (code : fieldOf c ≡ f) (word : y ≡ v) where
-  module _ (body : Bool) (tested : body ≡ (b && eqb c 1)) (lo : 1 ≤ c) (hi : c < 3) where
-    pub occurs-bound : body ≡ true → false ≡ occursIn x b occ f v
-    occurs-bound e = rw (← code, ← word, ← occurs-child x b occ y c lo hi, ← tested, e)
+  pub names-none : (c ≡ 1 → ⊥) → (c ≡ 2 → ⊥) → (c ≡ 3 → ⊥) → FieldNames bs names here n i 0
+  names-none p q r x = rw (← code, ← word) (bit-none x ∙ occurs-none x (hasBit here x) (freeIn names x) y c p q r)
 
-    pub occurs-below : body ≡ false → occ y ≡ occursIn x b occ f v
-    occurs-below e = rw (← code, ← word, ← occurs-child x b occ y c lo hi, ← tested, e)
+-- What is said of the last of n nodes; false where there are none.
+abbrev ofLast : ℕ → (ℕ → Bool) → Bool
+ofLast zero f = false
+ofLast (suc n) f = f n
 
-  pub occurs-used : c ≡ 3 → eqb x y ≡ occursIn x b occ f v
-  occurs-used e = rw (← code, e, word)
+last-root : (ns : List Node) (f : ℕ → Bool) → ofLast (length ns) f ≡ ofRoot ns false f
+unfolding lastNode
+last-root [] f = refl
+last-root (d ∷ ns) f = ap f (omega arith)
 
-  pub occurs-unused : c < 1 → false ≡ occursIn x b occ f v
-  occurs-unused h = rw (← code, ← word) (occurs-none x b occ y c (λ e. omega arith) (λ e. omega arith) (λ e. omega arith))
+-- After n nodes: the words of these nodes, the identifiers that one and that two of them bind, and the word of the last.
+pub record Passed (bs names : List ℕ) (n b t f : ℕ) : Type 0 where
+  pub words : (m : ℕ) → m < n → WordIs (λ x. occursFree (tableOf bs .nodes) x m) (getD names m 0)
+  pub bound : WordIs (λ x. leb 1 (binders (take n (tableOf bs .nodes)) x)) b
+  pub twice : WordIs (λ x. leb 2 (binders (take n (tableOf bs .nodes)) x)) t
+  pub free : WordIs (λ x. ofLast n (occursFree (tableOf bs .nodes) x)) f
 
-  pub occurs-beyond : 3 ≤ c → (c ≡ 3 → ⊥) → false ≡ occursIn x b occ f v
-  occurs-beyond h e = rw (← code, ← word) (occurs-none x b occ y c (λ q. omega arith) (λ q. omega arith) e)
+pub passed-none : (bs names : List ℕ) → Passed bs names 0 0 0 0
+unfolding binders heldIn occurrences
+passed-none bs names = record { words = λ m h. absurd (omega arith); bound = bit-none; twice = bit-none; free = bit-none }
 
-bound-free : (w t : ℕ) (o : Bool) → w ≡ 0 → eqb t 0 ≡ boundRight w t o
-bound-free zero t o e = refl
-bound-free (suc w) t o e = absurd (omega arith)
-
-bound-once : (w t : ℕ) (o : Bool) → (w ≡ 0 → ⊥) → (eqb t 1 && not o) ≡ boundRight w t o
-bound-once zero t o e = absurd (e refl)
-bound-once (suc w) t o e = refl
-
--- Where an identifier is bound there are nodes.
-pub bound-nodes : (bs : List ℕ) (x t : ℕ) → t ≡ binders (tableOf bs .nodes) x → t ≡ 1 → 0 < nodeCount bs
-bound-nodes bs x t e f = omega (arith, nodes-length bs, binders-one (tableOf bs .nodes) x .0 (sym e ∙ f) .1 .0)
-
--- The rule for an identifier that is bound t times, by its word.
-module _ (bs : List ℕ) (x w t : ℕ) (word : WordOf bs x w) (times : t ≡ binders (tableOf bs .nodes) x) where
-  pub binding-free : w ≡ 0 → eqb t 0 ≡ binding (tableOf bs) x
-  unfolding binding
-  binding-free e = rw (← word 0, ← times) (bound-free w t _ e)
-
-  pub binding-once : (o : Bool) → (w ≡ 0 → ⊥) → t ≡ 1 → o ≡ occursInRoot (tableOf bs .nodes) x → not o ≡ binding (tableOf bs) x
-  unfolding binding
-  binding-once o ne e q = rw (← word 0, ← times, ← q) (rw (eq-eqb t 1 e) at (bound-once w t o ne))
-
-  pub binding-wrong : (w ≡ 0 → ⊥) → (t ≡ 1 → ⊥) → false ≡ binding (tableOf bs) x
-  unfolding binding
-  binding-wrong ne e =
-      rw (← word 0, ← times) (rw (ne-eqb t 1 e) at (bound-once w t (occursInRoot (tableOf bs .nodes) x) ne))
-
--- How often an identifier is bound.
-pub counted-binders : (bs c : List ℕ) (x : ℕ) → Header bs → x < identifierCount bs → length c ≡ 512 → Counted true bs (nodeCount bs) c →
-    getD c x 0 ≡ binders (tableOf bs .nodes) x
+-- One node more binds x once more or not.
+binders-more : (ns : List Node) (n x : ℕ) → n < length ns → binders (take (suc n) ns) x ≡ binders (take n ns) x + cond (bindsHere x (nodeAt ns n)) 1 0
 unfolding binders
-counted-binders bs c x h l long counted = counted-all true bs c counted x (omega (arith, h .identifiers))
+binders-more ns n x h = occurrences-more isBinder refl x ns n h ∙ ap (λ (k : ℕ). occurrences x (heldIn isBinder (take n ns)) + k) (binders-here (nodeAt ns n) x)
+
+one-more : (t : ℕ) (b : Bool) → (leb 1 t || b) ≡ leb 1 (t + cond b 1 0)
+one-more zero true = refl
+one-more zero false = refl
+one-more (suc t) b = rw (le-leb 1 (suc t) (omega arith)) (sym (le-leb 1 (suc t + cond b 1 0) (omega arith)))
+
+two-more : (t : ℕ) (b : Bool) → (leb 2 t || (leb 1 t && b)) ≡ leb 2 (t + cond b 1 0)
+two-more zero true = refl
+two-more zero false = refl
+two-more (suc zero) true = refl
+two-more (suc zero) false = refl
+two-more (suc (suc t)) b = rw (le-leb 2 (suc (suc t)) (omega arith)) (sym (le-leb 2 (suc (suc t) + cond b 1 0) (omega arith)))
+
+-- One turn of the pass.
+module _ (bs names : List ℕ) (at n b t f here w : ℕ) (fielded : Fielded bs at) (below : n < nodeCount bs) (s : Passed bs names n b t f)
+    (binds : BoundAt bs n here) (is : WordIs (λ x. occursStep (tableOf bs .nodes) x (freeIn names x) n) w) where
+  free-here : (x : ℕ) → hasBit w x ≡ occursFree (tableOf bs .nodes) x n
+  free-here x =
+      let d : Node = nodeAt (tableOf bs .nodes) n in
+      is x
+      ∙ occursInAny-same x (bindsHere x d) (freeIn names x) (occursFree (tableOf bs .nodes) x) (fieldsAt d) (fieldWords d)
+      (λ i q. s .words (getD (fieldWords d) i 0) (child-at bs at n i fielded below q) x)
+      ∙ sym (occursFree-at (tableOf bs) (λ k q. fielded .fields k (omega (arith, nodes-length bs))) x n (omega (arith, nodes-length bs)))
+
+  words-more : n < length names → (m : ℕ) → m < n + 1 → WordIs (λ x. occursFree (tableOf bs .nodes) x m) (getD (set names n w) m 0)
+  words-more l m k = go (ℕ-discrete m n)
+    where
+      go : Dec (m ≡ n) → WordIs (λ x. occursFree (tableOf bs .nodes) x m) (getD (set names n w) m 0)
+      go (yes e) x = rw (e, getD-set-same names n w 0 l) (free-here x)
+      go (no e) x = rw (getD-set-other names n m w 0 e) (s .words m (omega arith) x)
+
+  binders-next : (x : ℕ) → binders (take (n + 1) (tableOf bs .nodes)) x ≡ binders (take n (tableOf bs .nodes)) x + cond (hasBit here x) 1 0
+  binders-next x = rw (add-one n, binds x) (binders-more (tableOf bs .nodes) n x (omega (arith, nodes-length bs)))
+
+  pub passed-more : n < length names → Passed bs (set names n w) (n + 1) (bitOr b here) (bitOr t (bitAnd b here)) w
+  passed-more l = record {
+    words = words-more l;
+    bound = λ x. rw (bit-or b here x, s .bound x, binders-next x) (one-more (binders (take n (tableOf bs .nodes)) x) (hasBit here x));
+    twice = λ x. rw (bit-or t (bitAnd b here) x, bit-and b here x, s .bound x, s .twice x, binders-next x)
+        (two-more (binders (take n (tableOf bs .nodes)) x) (hasBit here x));
+    free = λ x. rw (add-one n) (free-here x);
+  }
+
+-- After all nodes.
+pub passed-all : (bs names : List ℕ) (n b t f : ℕ) → n ≡ nodeCount bs → Passed bs names n b t f → Named bs (record { bound = b; twice = t; free = f })
+passed-all bs names n b t f e s =
+    let ns : List Node = tableOf bs .nodes in
+    let all : take n ns ≡ ns = take-all n ns (omega (arith, nodes-length bs)) in
+    record {
+      bound = λ x. rw all at (s .bound x);
+      twice = λ x. rw all at (s .twice x);
+      free = λ x. s .free x ∙ ap (λ (k : ℕ). ofLast k (occursFree ns x)) (e ∙ sym (nodes-length bs)) ∙ last-root ns (occursFree ns x);
+    }
+
+-- The rule for an identifier from the bits.
+none-bound : (t : ℕ) → not (leb 1 t) ≡ eqb t 0
+none-bound zero = refl
+none-bound (suc t) = rw (le-leb 1 (suc t) (omega arith)) (sym (ne-eqb (suc t) 0 (λ e. omega arith)))
+
+one-bound : (t : ℕ) → (leb 1 t && not (leb 2 t)) ≡ eqb t 1
+one-bound zero = refl
+one-bound (suc zero) = refl
+one-bound (suc (suc t)) =
+    rw (le-leb 1 (suc (suc t)) (omega arith), le-leb 2 (suc (suc t)) (omega arith)) (sym (ne-eqb (suc (suc t)) 1 (λ e. omega arith)))
+
+right-free : (w t : ℕ) (o : Bool) → w ≡ 0 → eqb t 0 ≡ boundRight w t o
+right-free zero t o e = refl
+right-free (suc w) t o e = absurd (omega arith)
+
+right-bound : (w t : ℕ) (o : Bool) → (w ≡ 0 → ⊥) → (eqb t 1 && not o) ≡ boundRight w t o
+right-bound zero t o e = absurd (e refl)
+right-bound (suc w) t o e = refl
+
+module _ (bs : List ℕ) (x w : ℕ) (names : Names) (word : WordOf bs x w) (named : Named bs names) where
+  pub binding-free : (b : Bool) → b ≡ hasBit (names .bound) x → w ≡ 0 → not b ≡ binding (tableOf bs) x
+  unfolding binding
+  binding-free b eb e =
+      let t = binders (tableOf bs .nodes) x in
+      rw (eb, named .bound x, none-bound t, ← word 0) (right-free w t (occursInRoot (tableOf bs .nodes) x) e)
+
+  pub binding-bound : (b t o once r : Bool) → b ≡ hasBit (names .bound) x → t ≡ hasBit (names .twice) x → o ≡ hasBit (names .free) x →
+      once ≡ (b && not t) → r ≡ (once && not o) → (w ≡ 0 → ⊥) → r ≡ binding (tableOf bs) x
+  unfolding binding
+  binding-bound b t o once r eb et eo e q ne =
+      let k = binders (tableOf bs .nodes) x in
+      rw (q, e, eb, et, eo, named .bound x, named .twice x, named .free x, one-bound k, ← word 0)
+      (right-bound w k (occursInRoot (tableOf bs .nodes) x) ne)

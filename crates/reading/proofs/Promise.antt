@@ -12,6 +12,7 @@ use Rattle.rules.proofs.Basics.{absurd01}
 use Rattle.reading.specs.declared.Reading.{Reading}
 use Rattle.reading.specs.declared.Reading.the-variants.{Passed, Refused}
 use Rattle.reading.specs.declared.Refusal.{Refusal}
+use Rattle.reading.specs.declared.Height.{Height}
 use Rattle.reading.specs.declared.Height.the-variants.{Root, Refused as Unmeasured}
 use Rattle.reading.specs.Answers.{readingOf, heightOf, rootHeight, readingHeight}
 use Rattle.table.specs.Layout.{Laid, Fielded}
@@ -30,17 +31,8 @@ module _ (bs : List ℕ) where
 pub read-readable : (bs : List ℕ) (a : Reading) → readingOf bs a ≡ reading bs → a ≡ Passed → Readable bs
 read-readable bs a e f = passed-readable bs (subst (λ (b : Reading). readingOf bs b ≡ reading bs) f e)
 
--- What `read_height` answers from that,
+-- What `read_height` tells by its answer: the table is readable and its root has the height, or the refusal is that of `reading`.
 module _ (bs : List ℕ) where
-  pub refused-height : (a : Reading) (f : Refusal) → readingOf bs a ≡ reading bs → a ≡ Refused f → heightOf (Unmeasured f) ≡ readingHeight bs
-  unfolding readingHeight
-  refused-height a f e g = ap (λ (x : End Table). x >>= λ t. done (rootHeight t)) (sym (ap (readingOf bs) g) ∙ e)
-
-  pub root-measured : Readable bs → (h : ℕ) → h ≡ rootHeight (tableOf bs) → heightOf (Root h) ≡ readingHeight bs
-  unfolding readingHeight
-  root-measured r h e = rw (reading-right bs .1 r) (ap done e)
-
-  -- and what its answer tells: the table is readable and its root has the height, or the refusal is that of `reading`.
   pub measured-readable : {h : ℕ} → heightOf (Root h) ≡ readingHeight bs → Readable bs × (h ≡ rootHeight (tableOf bs))
   unfolding readingHeight
   measured-readable {h} e = go (reading bs) refl e
@@ -56,3 +48,10 @@ module _ (bs : List ℕ) where
       go : (x : End Table) → reading bs ≡ x → heightOf (Unmeasured f) ≡ (x >>= λ t. done (rootHeight t)) → reading bs ≡ refused (f .number) (f .place)
       go (done t) q e = absurd (absurd01 (cc))
       go (refused k p) q e = cc
+
+  -- So `read` answers from that.
+  pub height-passed : (a : Height) (h : ℕ) → heightOf a ≡ readingHeight bs → a ≡ Root h → readingOf bs Passed ≡ reading bs
+  height-passed a h e q = sym (reading-right bs .1 (measured-readable (sym (ap heightOf q) ∙ e) .0))
+
+  pub height-refused : (a : Height) (f : Refusal) → heightOf a ≡ readingHeight bs → a ≡ Unmeasured f → readingOf bs (Refused f) ≡ reading bs
+  height-refused a f e q = sym (unmeasured-refused (sym (ap heightOf q) ∙ e))

@@ -13,10 +13,10 @@ use Rattle.rules.specs.Reading.{headed, limited, laidOut, nodeGood, reading}
 use Rattle.rules.specs.Readable.{Header}
 use Rattle.laws.proofs.EndLaws.{sought, Sought, T-true, requireAll-done}
 use Rattle.laws.proofs.ReadingLaws.{header-right, headed-right, nodeGood-right}
-use Rattle.reading.specs.declared.Reading.{Reading}
-use Rattle.reading.specs.declared.Reading.the-variants.{Refused}
+use Rattle.reading.specs.declared.Height.{Height}
+use Rattle.reading.specs.declared.Height.the-variants.{Refused as Unmeasured}
 use Rattle.table.specs.Places.{foundOr}
-use Rattle.reading.specs.Answers.{readingOf, readingRecords}
+use Rattle.reading.specs.Answers.{readingRecords, heightOf, measured}
 use Rattle.table.specs.Layout.{Fielded}
 
 found-lt : (n p : ℕ) (o : Option ℕ) → p ≡ foundOr n o → p < n → o ≡ some p
@@ -29,16 +29,16 @@ found-none ok n p (some q) s e h = absurd (omega (arith, s .1))
 
 -- The stage with number k over the places below n, whose function answers p.
 module _ (k : ℕ) (ok : ℕ → Bool) (n m p : ℕ) (found : p ≡ foundOr n (leastFailing ok 0 n)) (count : m ≡ n) where
-  pub stage-refused : (bs : List ℕ) (r : Reading) (rest : Unit {0} → End Table) → r ≡ Refused (record { number = k; place = p }) → p < m →
-      readingOf bs r ≡ (requireAll k ok n >>= rest)
+  pub stage-refused : (r : Height) (rest : Unit {0} → End Table) → r ≡ Unmeasured (record { number = k; place = p }) → p < m →
+      heightOf r ≡ measured (requireAll k ok n >>= rest)
   unfolding requireAll
-  stage-refused bs r rest e h = rw (e, found-lt n p (leastFailing ok 0 n) found (omega arith))
+  stage-refused r rest e h = rw (e, found-lt n p (leastFailing ok 0 n) found (omega arith))
 
   pub all-pass : m ≤ p → requireAll k ok n ≡ done tt
   unfolding requireAll
   all-pass h = rw (found-none ok n p (leastFailing ok 0 n) (sought ok 0 n) found (omega arith))
 
-  pub stage-passed : (v : End Table) (rest : Unit {0} → End Table) → m ≤ p → v ≡ rest tt → v ≡ (requireAll k ok n >>= rest)
+  pub stage-passed : (v : End ℕ) (rest : Unit {0} → End Table) → m ≤ p → v ≡ measured (rest tt) → v ≡ measured (requireAll k ok n >>= rest)
   stage-passed v rest h e = rw (all-pass h) e
 
 -- Where refusal 6 passes, the fields of each node are right.

@@ -40,6 +40,12 @@ heightOf (Unmeasured r) = refused (r .number) (r .place)
 abbrev pub rootHeight : Table → ℕ
 rootHeight t = ofRoot (t .nodes) 0 (height (t .nodes))
 
+-- The root's height of a table that passes.
+abbrev pub measured : End Table → End ℕ
+measured e = do
+  t ← e
+  done (rootHeight t)
+
 -- Refusals 1 to 9, and then the root's height.
 unfoldable pub readingHeight : List ℕ → End ℕ
 unfolding reading

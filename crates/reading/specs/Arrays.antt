@@ -1,13 +1,14 @@
--- What the arrays of counts, heights and occurrences hold.
+-- What the arrays of counts and heights hold.
 use Prim.Native.Nat.{ℕ, _+_, _<_}
 use mathlib.Core.Bool.{Bool, true, cond}
 use mathlib.Core.List.{List}
 use mathlib.Core.Path.{_≡_}
 use lib.Dec.{eqb}
 use lib.ListN.{length, getD, take}
+use Rattle.rules.specs.Kinds.{isChild}
 use Rattle.rules.specs.Tables.{tableOf, heldIn, nodeCount}
-use Rattle.rules.specs.Reading.{occurrences, height, occursFree}
-use Rattle.table.specs.Layout.{Fielded, sortOf, holdsAt}
+use Rattle.rules.specs.Reading.{occurrences, height}
+use Rattle.table.specs.Layout.{Fielded, holdsAt}
 
 -- Field i of node n may be read, of a table whose nodes' fields are right.
 pub record FieldIn (bs : List ℕ) (at n i : ℕ) : Type 0 where
@@ -15,11 +16,11 @@ pub record FieldIn (bs : List ℕ) (at n i : ℕ) : Type 0 where
   pub below : n < nodeCount bs
   pub inside : i < 3
 
--- Whether field i of node n is of the sort that is counted.
-abbrev pub countsAt : Bool → List ℕ → ℕ → ℕ → Bool
-countsAt b bs n i = sortOf b (holdsAt bs n i)
+-- Whether field i of node n holds a child.
+abbrev pub childAt : List ℕ → ℕ → ℕ → Bool
+childAt bs n i = isChild (holdsAt bs n i)
 
--- One more at x, if the field counts.
+-- One more at x, if the field holds a child.
 abbrev pub more : Bool → ℕ → ℕ → ℕ
 more hit x m = cond hit (cond (eqb m x) 1 0) 0
 
@@ -35,18 +36,10 @@ pub record BumpPre (c : List ℕ) (hit : Bool) (x : ℕ) : Type 0 where
 abbrev pub Bumped : List ℕ → Bool → ℕ → List ℕ → Type 0
 Bumped c hit x c′ = (m : ℕ) → m < length c → getD c′ m 0 ≡ getD c m 0 + more hit x m
 
--- Each number below the length of c has been counted: c holds how often it stands in the fields of a sort, in the first i nodes.
-abbrev pub Counted : Bool → List ℕ → ℕ → List ℕ → Type 0
-Counted b bs i c = (m : ℕ) → m < length c → getD c m 0 ≡ occurrences m (heldIn (sortOf b) (take i (tableOf bs .nodes)))
+-- Each number below the length of c has been counted: c holds how often it is a child of the first i nodes.
+abbrev pub Counted : List ℕ → ℕ → List ℕ → Type 0
+Counted bs i c = (m : ℕ) → m < length c → getD c m 0 ≡ occurrences m (heldIn isChild (take i (tableOf bs .nodes)))
 
 -- The heights of the first i nodes.
 abbrev pub Heights : List ℕ → ℕ → List ℕ → Type 0
 Heights bs i h = (m : ℕ) → m < i → getD h m 0 ≡ height (tableOf bs .nodes) m
-
--- An array of 0 and 1 as a test on numbers.
-abbrev pub flag : List ℕ → ℕ → Bool
-flag c m = eqb (getD c m 0) 1
-
--- Where x occurs free, among the first i nodes.
-abbrev pub Occurs : List ℕ → ℕ → ℕ → List ℕ → Type 0
-Occurs bs x i c = (m : ℕ) → m < i → flag c m ≡ occursFree (tableOf bs .nodes) x m

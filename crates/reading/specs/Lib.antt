@@ -1,3 +1,4 @@
 -- What the functions of this crate compute, in the terms of the rules.
 pub mod Answers
 pub mod Arrays
+pub mod Words

@@ -1,106 +1,130 @@
 // Refusal 9: a bound identifier is named by exactly one binder and used only in its body; a free one has no binder.
-use crate::tree::count_nodes;
 ghost use mathlib.Core.Path.{_≡_};
-ghost use mathlib.Core.Bool.{_||_};
+ghost use mathlib.Core.Bool.{not, _&&_};
 ghost use Prim.Native.Nat.{_<_};
+ghost use lib.Dec.{eqb};
 ghost use lib.ListN.{length};
-ghost use Rattle.rules.specs.Tables.{tableOf, nodeAt};
-ghost use Rattle.rules.specs.Tables.{identifierCount, nodeCount};
+ghost use Rattle.rules.specs.Tables.{tableOf, identifierCount};
+ghost use Rattle.rules.specs.Readable.{Header};
 ghost use Rattle.rules.specs.Ends.{leastFailing};
-ghost use Rattle.rules.specs.Reading.{occursIn, occursStep, occursInRoot, bindsHere, binders, binding};
+ghost use Rattle.rules.specs.Reading.{occursIn, occursStep, binding};
 ghost use Rattle.table.specs.Places.{foundOr};
-ghost use Rattle.table.specs.Layout.{NodeIn, Fielded, fieldCodesAt, holdsAt, fieldAt};
-ghost use Rattle.reading.specs.Arrays.{FieldIn, flag};
+ghost use Rattle.table.specs.Layout.{Fielded, fieldCodesAt, holdsAt, fieldAt};
+ghost use Rattle.reading.specs.Arrays.{FieldIn};
+ghost use Rattle.reading.specs.Words.{hasBit, WordIs, freeIn, BoundAt, Named};
 
-// One test or the other, as a value with no branch for the caller's proof.
-fn either(a: bool, b: bool) -> bool
-    ensures { λ r. ⌜ r ≡ (a || b) ⌝ }
-{
-    a || b
+// The identifiers of a table as bits: named by a binder, named by two, free at the root.
+struct Names {
+    bound: u32,
+    twice: u32,
+    free: u32,
 }
 
-// Whether node n, whose kind has the row, binds x. Only the first field of a kind binds.
-fn binds(table: &[u8], at: usize, n: usize, row: u16, x: usize) -> bool
-    requires { ⌜ NodeIn (now table) at n × (row ≡ fieldCodesAt (now table) n) ⌝ }
-    ensures { λ r. ⌜ r ≡ bindsHere x (nodeAt (tableOf (now (table .entry)) .nodes) n) ⌝ }
+// The word of x alone.
+fn bit(x: usize) -> u32
+    requires { ⌜ x < 32 ⌝ }
+    ensures { λ r. ⌜ WordIs (λ y. eqb y x) r ⌝ }
 {
-    if table::counts(table::digit(row, 0), true) {
-        return x == table::field(table, at, n, 0);
+    1u32 << (x as u32)
+}
+
+// Whether x has its bit.
+fn has(names: u32, x: usize) -> bool
+    requires { ⌜ x < 32 ⌝ }
+    ensures { λ r. ⌜ r ≡ hasBit names x ⌝ }
+{
+    (names >> (x as u32)) % 2 == 1
+}
+
+fn without(names: u32, here: u32) -> u32
+    ensures { λ r. ⌜ WordIs (λ x. not (hasBit here x) && hasBit names x) r ⌝ }
+{
+    names ^ (names & here)
+}
+
+// The identifier that node n, whose kind has the row, binds. Only the first field of a kind binds.
+fn bound_at(table: &[u8], at: usize, n: usize, row: u16) -> u32
+    requires { ⌜ FieldIn (now table) at n 0 × (row ≡ fieldCodesAt (now table) n) ⌝ }
+    ensures { λ r. ⌜ BoundAt (now (table .entry)) n r ⌝ }
+{
+    if table::digit(row, 0) == 4 {
+        return bit(table::field(table, at, n, 0));
     }
-    false
+    0
 }
 
-// Whether a field of node n, whose kind has the row, makes x occur free; `here` tells that the node binds x, `occurs`
-// where x occurs free below.
-fn field_occurs(
+// The identifiers that field i of node n, whose kind has the row, makes occur free; `here` is the one that the node binds,
+// `names` has those that occur free below. A binder binds in its body, a predicate, and not in its range.
+fn field_names(
     table: &[u8],
     at: usize,
     n: usize,
     row: u16,
     i: usize,
-    x: usize,
-    here: bool,
-    occurs: &[u8],
-) -> bool
-    requires { ⌜ FieldIn (now table) at n i × (length (now occurs) ≡ 512) × (row ≡ fieldCodesAt (now table) n) ⌝ }
-    ensures { λ r. ⌜ r ≡ occursIn x here (flag (now (occurs .entry))) (holdsAt (now (table .entry)) n i) (fieldAt (now (table .entry)) n i) ⌝ }
+    here: u32,
+    names: &[u32],
+) -> u32
+    requires { ⌜ FieldIn (now table) at n i × (length (now names) ≡ 512) × (row ≡ fieldCodesAt (now table) n) ⌝ }
+    ensures { λ r. ⌜ WordIs (λ x. occursIn x (hasBit here x) (freeIn (now (names .entry)) x) (holdsAt (now (table .entry)) n i) (fieldAt (now (table .entry)) n i)) r ⌝ }
 {
     let y = table::field(table, at, n, i);
-    let code = table::digit(row, i);
-    match code {
-        1 | 2 => {
-            // A binder binds in its body, a predicate, and not in its range.
-            if table::both(here, code == 1) {
-                return false;
-            }
-            occurs[y] == 1
-        }
-        3 => x == y,
-        _ => false,
+    match table::digit(row, i) {
+        1 => without(names[y], here),
+        2 => names[y],
+        3 => bit(y),
+        _ => 0,
     }
 }
 
-// Whether x occurs free at node n, given where it does below.
-fn node_occurs(table: &[u8], at: usize, n: usize, x: usize, occurs: &[u8]) -> bool
-    requires { ⌜ Fielded (now table) at × (n < nodeCount (now table)) × (length (now occurs) ≡ 512) ⌝ }
-    ensures { λ r. ⌜ r ≡ occursStep (tableOf (now (table .entry)) .nodes) x (flag (now (occurs .entry))) n ⌝ }
+// The identifiers that occur free at node n, given those that do below.
+fn node_names(table: &[u8], at: usize, n: usize, row: u16, here: u32, names: &[u32]) -> u32
+    requires { ⌜ FieldIn (now table) at n 0 × (length (now names) ≡ 512) × (row ≡ fieldCodesAt (now table) n) × BoundAt (now table) n here ⌝ }
+    ensures { λ r. ⌜ WordIs (λ x. occursStep (tableOf (now (table .entry)) .nodes) x (freeIn (now (names .entry)) x) n) r ⌝ }
 {
-    let row = table::node_row(table, at, n);
-    let here = binds(table, at, n, row, x);
-    let a = field_occurs(table, at, n, row, 0, x, here, occurs);
-    let b = field_occurs(table, at, n, row, 1, x, here, occurs);
-    let c = field_occurs(table, at, n, row, 2, x, here, occurs);
-    either(a, either(b, c))
+    let a = field_names(table, at, n, row, 0, here, names);
+    let b = field_names(table, at, n, row, 1, here, names);
+    let c = field_names(table, at, n, row, 2, here, names);
+    a | b | c
 }
 
-// Whether x occurs free in the whole condition of a table with nodes.
-fn occurs_free(table: &[u8], at: usize, x: usize) -> bool
-    requires { ⌜ Fielded (now table) at × (0 < nodeCount (now table)) ⌝ }
-    ensures { λ r. ⌜ r ≡ occursInRoot (tableOf (now (table .entry)) .nodes) x ⌝ }
+// One pass over the nodes. The last node is the root.
+fn names_of(table: &[u8], at: usize) -> Names
+    requires { ⌜ Fielded (now table) at ⌝ }
+    ensures { λ r. ⌜ Named (now (table .entry)) r ⌝ }
 {
     let count = table::nodes(table);
-    let mut occurs = [0u8; 512];
+    let mut names = [0u32; 512];
+    let mut bound: u32 = 0;
+    let mut twice: u32 = 0;
+    let mut free: u32 = 0;
     let mut n: usize = 0;
     while n < count {
-        let o = node_occurs(table, at, n, x, &occurs);
-        occurs[n] = o as u8;
+        let row = table::node_row(table, at, n);
+        let here = bound_at(table, at, n, row);
+        free = node_names(table, at, n, row, here, &names);
+        names[n] = free;
+        twice = twice | (bound & here);
+        bound = bound | here;
         n += 1;
     }
-    occurs[count - 1] == 1
+    Names {
+        bound: bound,
+        twice: twice,
+        free: free,
+    }
 }
 
-// Refusal 9 at one identifier that is bound so many times.
-fn binding_is_good(table: &[u8], at: usize, x: usize, times: u16) -> bool
-    requires { ⌜ Fielded (now table) at × (x < identifierCount (now table)) × (times ≡ binders (tableOf (now table) .nodes) x) ⌝ }
+// Refusal 9 at one identifier.
+fn binding_is_good(table: &[u8], x: usize, names: Names) -> bool
+    requires { ⌜ Header (now table) × (x < identifierCount (now table)) × Named (now table) names ⌝ }
     ensures { λ r. ⌜ r ≡ binding (tableOf (now (table .entry))) x ⌝ }
 {
+    let bound = has(names.bound, x);
     if table::bind(table, x) == 0 {
-        return times == 0;
+        return !bound;
     }
-    if times == 1 {
-        return !occurs_free(table, at, x);
-    }
-    false
+    let once = table::both(bound, !has(names.twice, x));
+    table::both(once, !has(names.free, x))
 }
 
 // Refusal 9: the least identifier that breaks the binding rules, or I.
@@ -109,12 +133,10 @@ pub(crate) fn first_bad_binding(table: &[u8], at: usize) -> usize
     ensures { λ r. ⌜ r ≡ foundOr (identifierCount (now (table .entry))) (leastFailing (binding (tableOf (now (table .entry)))) 0 (identifierCount (now (table .entry)))) ⌝ }
 {
     let count = table::identifiers(table);
-    let mut counted = [0u16; 512];
-    count_nodes(table, at, &mut counted, true);
+    let names = names_of(table, at);
     let mut x: usize = 0;
     while x < count {
-        let times = counted[x];
-        if !binding_is_good(table, at, x, times) {
+        if !binding_is_good(table, x, names) {
             return x;
         }
         x += 1;

@@ -1,10 +1,12 @@
 // Reading a table: refusals 1 to 9 of document 01.
 ghost use mathlib.Core.Path.{_≡_};
-ghost use Rattle.rules.specs.Tables.{tableOf};
-ghost use Rattle.rules.specs.Readable.{Header, Readable};
+ghost use lib.ListN.{length};
+ghost use Rattle.rules.specs.Tables.{tableOf, nodeCount};
+ghost use Rattle.rules.specs.Readable.{Header};
 ghost use Rattle.rules.specs.Reading.{reading};
 ghost use Rattle.table.specs.Layout.{Fielded};
-ghost use Rattle.reading.specs.Answers.{readingOf, readingRecords, readingTree, heightOf, rootHeight, readingHeight};
+ghost use Rattle.reading.specs.Answers.{readingOf, readingRecords, readingTree, heightOf, rootHeight, measured, readingHeight};
+ghost use Rattle.reading.specs.Arrays.{Heights};
 
 mod binding;
 mod tree;
@@ -26,22 +28,35 @@ pub enum Height {
     Refused(Refusal),
 }
 
-fn refused(number: u8, place: usize) -> Reading
-    ensures { λ r. ⌜ r ≡ Reading.Refused (record { number = number; place = place }) ⌝ }
+fn refused(number: u8, place: usize) -> Height
+    ensures { λ r. ⌜ r ≡ Height.Refused (record { number = number; place = place }) ⌝ }
 {
-    Reading::Refused(Refusal { number, place })
+    Height::Refused(Refusal { number, place })
 }
 
-// Refusals 7 to 9 of a table whose records are right.
-fn read_tree(table: &[u8], at: usize) -> Reading
+// The height of the root by those of all nodes, 0 where there is none.
+fn root_height(table: &[u8], heights: &[u8]) -> usize
+    requires { ⌜ Header (now table) × (length (now heights) ≡ 512) × Heights (now table) (nodeCount (now table)) (now heights) ⌝ }
+    ensures { λ r. ⌜ r ≡ rootHeight (tableOf (now (table .entry))) ⌝ }
+{
+    let count = table::nodes(table);
+    if count == 0 {
+        return 0;
+    }
+    table::wide(heights[count - 1])
+}
+
+// Refusals 7 to 9 of a table whose records are right, or the root's height.
+fn read_tree(table: &[u8], at: usize) -> Height
     requires { ⌜ Fielded (now table) at ⌝ }
-    ensures { λ r. ⌜ readingOf (now (table .entry)) r ≡ readingTree (now (table .entry)) ⌝ }
+    ensures { λ r. ⌜ heightOf r ≡ measured (readingTree (now (table .entry))) ⌝ }
 {
     let n = tree::first_bad_parent(table, at);
     if n < table::nodes(table) {
         return refused(7, n);
     }
-    let m = tree::first_bad_height(table, at);
+    let mut heights = [0u8; 512];
+    let m = tree::set_heights(table, at, &mut heights);
     if m < table::nodes(table) {
         return refused(8, m);
     }
@@ -49,13 +64,14 @@ fn read_tree(table: &[u8], at: usize) -> Reading
     if x < table::identifiers(table) {
         return refused(9, x);
     }
-    Reading::Passed
+    let h = root_height(table, &heights);
+    Height::Root(h)
 }
 
-// Refusals 4 to 9 of a table whose header is right.
-fn read_records(table: &[u8]) -> Reading
+// Refusals 4 to 9 of a table whose header is right, or the root's height.
+fn read_records(table: &[u8]) -> Height
     requires { ⌜ Header (now table) ⌝ }
-    ensures { λ r. ⌜ readingOf (now (table .entry)) r ≡ readingRecords (now (table .entry)) ⌝ }
+    ensures { λ r. ⌜ heightOf r ≡ measured (readingRecords (now (table .entry))) ⌝ }
 {
     let at = table::nodes_offset(table);
     let g = table::first_bad_size(table);
@@ -73,9 +89,9 @@ fn read_records(table: &[u8]) -> Reading
     read_tree(table, at)
 }
 
-// Refusals 1 to 9 in order, with the least place of each.
-pub fn read(table: &[u8]) -> Reading
-    ensures { λ r. ⌜ readingOf (now (table .entry)) r ≡ reading (now (table .entry)) ⌝ }
+// Refusals 1 to 9 in order, with the least place of each, or the root's height.
+pub fn read_height(table: &[u8]) -> Height
+    ensures { λ r. ⌜ heightOf r ≡ readingHeight (now (table .entry)) ⌝ }
 {
     if !table::is_headed(table) {
         return refused(1, 0);
@@ -89,31 +105,13 @@ pub fn read(table: &[u8]) -> Reading
     read_records(table)
 }
 
-// The height of the root of a readable table, 0 where there is none.
-fn root_height(table: &[u8]) -> usize
-    requires { ⌜ Readable (now table) ⌝ }
-    ensures { λ r. ⌜ r ≡ rootHeight (tableOf (now (table .entry))) ⌝ }
+// Refusals 1 to 9.
+pub fn read(table: &[u8]) -> Reading
+    ensures { λ r. ⌜ readingOf (now (table .entry)) r ≡ reading (now (table .entry)) ⌝ }
 {
-    let count = table::nodes(table);
-    if count == 0 {
-        return 0;
-    }
-    let at = table::nodes_offset(table);
-    let mut heights = [0u8; 512];
-    tree::set_heights(table, at, &mut heights);
-    table::wide(heights[count - 1])
-}
-
-// Refusals 1 to 9, or the root's height.
-pub fn read_height(table: &[u8]) -> Height
-    ensures { λ r. ⌜ heightOf r ≡ readingHeight (now (table .entry)) ⌝ }
-{
-    let reading = read(table);
-    match reading {
-        Reading::Refused(r) => Height::Refused(r),
-        Reading::Passed => {
-            let h = root_height(table);
-            Height::Root(h)
-        }
+    let height = read_height(table);
+    match height {
+        Height::Refused(r) => Reading::Refused(r),
+        Height::Root(_) => Reading::Passed,
     }
 }

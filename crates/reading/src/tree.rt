@@ -1,6 +1,6 @@
 // Refusals 7 and 8: how often each node is a child, and how high it stands.
 ghost use mathlib.Core.Path.{_≡_};
-ghost use mathlib.Core.Bool.{false, cond};
+ghost use mathlib.Core.Bool.{cond};
 ghost use Prim.Native.Nat.{_+_, _<_, max};
 ghost use lib.ListN.{length, getD};
 ghost use Rattle.rules.specs.Kinds.{isChild};
@@ -9,9 +9,9 @@ ghost use Rattle.rules.specs.Ends.{leastFailing};
 ghost use Rattle.rules.specs.Reading.{parentGood, heightGood, occurrences, tallest};
 ghost use Rattle.table.specs.Places.{foundOr};
 ghost use Rattle.table.specs.Layout.{NodeIn, Fielded, fieldCodesAt, fieldAt};
-ghost use Rattle.reading.specs.Arrays.{FieldIn, Room, BumpPre, Bumped, countsAt, Counted, Heights};
+ghost use Rattle.reading.specs.Arrays.{FieldIn, Room, BumpPre, Bumped, childAt, Counted, Heights};
 
-// Adds 1 to the count at x if the field counts.
+// Adds 1 to the count at x if the field holds a child.
 fn bump(counted: &mut [u16], hit: bool, x: usize)
     requires { ⌜ BumpPre (now counted) hit x ⌝ }
     ensures { λ _. ⌜ Bumped (now (counted .entry)) hit x (now (counted .exit)) ⌝ }
@@ -23,42 +23,34 @@ fn bump(counted: &mut [u16], hit: bool, x: usize)
 }
 
 // Counts field i of a node whose kind has the row.
-fn count_field(
-    table: &[u8],
-    at: usize,
-    n: usize,
-    row: u16,
-    i: usize,
-    counted: &mut [u16],
-    binders: bool,
-)
+fn count_field(table: &[u8], at: usize, n: usize, row: u16, i: usize, counted: &mut [u16])
     requires { ⌜ FieldIn (now table) at n i × (length (now counted) ≡ 512) × Room (now counted) × (row ≡ fieldCodesAt (now table) n) ⌝ }
-    ensures { λ _. ⌜ Bumped (now (counted .entry)) (countsAt binders (now (table .entry)) n i) (fieldAt (now (table .entry)) n i) (now (counted .exit)) ⌝ }
+    ensures { λ _. ⌜ Bumped (now (counted .entry)) (childAt (now (table .entry)) n i) (fieldAt (now (table .entry)) n i) (now (counted .exit)) ⌝ }
 {
-    let hit = table::counts(table::digit(row, i), binders);
+    let hit = table::holds_child(table::digit(row, i));
     bump(counted, hit, table::field(table, at, n, i));
 }
 
 // Counts the fields of one node.
-fn count_node(table: &[u8], at: usize, n: usize, counted: &mut [u16], binders: bool)
-    requires { ⌜ Fielded (now table) at × (n < nodeCount (now table)) × (length (now counted) ≡ 512) × Counted binders (now table) n (now counted) ⌝ }
-    ensures { λ _. ⌜ Counted binders (now (table .entry)) (n + 1) (now (counted .exit)) ⌝ }
+fn count_node(table: &[u8], at: usize, n: usize, counted: &mut [u16])
+    requires { ⌜ Fielded (now table) at × (n < nodeCount (now table)) × (length (now counted) ≡ 512) × Counted (now table) n (now counted) ⌝ }
+    ensures { λ _. ⌜ Counted (now (table .entry)) (n + 1) (now (counted .exit)) ⌝ }
 {
     let row = table::node_row(table, at, n);
-    count_field(table, at, n, row, 0, counted, binders);
-    count_field(table, at, n, row, 1, counted, binders);
-    count_field(table, at, n, row, 2, counted, binders);
+    count_field(table, at, n, row, 0, counted);
+    count_field(table, at, n, row, 1, counted);
+    count_field(table, at, n, row, 2, counted);
 }
 
-// How often each number stands in the fields of a sort.
-pub(crate) fn count_nodes(table: &[u8], at: usize, counted: &mut [u16], binders: bool)
-    requires { ⌜ Fielded (now table) at × (length (now counted) ≡ 512) × Counted binders (now table) 0 (now counted) ⌝ }
-    ensures { λ _. ⌜ Counted binders (now (table .entry)) (nodeCount (now (table .entry))) (now (counted .exit)) ⌝ }
+// How often each node is a child.
+fn count_nodes(table: &[u8], at: usize, counted: &mut [u16])
+    requires { ⌜ Fielded (now table) at × (length (now counted) ≡ 512) × Counted (now table) 0 (now counted) ⌝ }
+    ensures { λ _. ⌜ Counted (now (table .entry)) (nodeCount (now (table .entry))) (now (counted .exit)) ⌝ }
 {
     let count = table::nodes(table);
     let mut n: usize = 0;
     while n < count {
-        count_node(table, at, n, counted, binders);
+        count_node(table, at, n, counted);
         n += 1;
     }
 }
@@ -81,7 +73,7 @@ pub(crate) fn first_bad_parent(table: &[u8], at: usize) -> usize
 {
     let count = table::nodes(table);
     let mut counted = [0u16; 512];
-    count_nodes(table, at, &mut counted, false);
+    count_nodes(table, at, &mut counted);
     let mut n: usize = 0;
     while n < count {
         let times = counted[n];
@@ -102,9 +94,9 @@ fn larger(a: u8, b: u8) -> u8
 // The height of the child in field i of a node whose kind has the row, or 0 where the field holds none.
 fn child_height(table: &[u8], at: usize, n: usize, row: u16, i: usize, heights: &[u8]) -> u8
     requires { ⌜ FieldIn (now table) at n i × (length (now heights) ≡ 512) × (row ≡ fieldCodesAt (now table) n) ⌝ }
-    ensures { λ r. ⌜ r ≡ cond (countsAt false (now (table .entry)) n i) (getD (now (heights .entry)) (fieldAt (now (table .entry)) n i) 0) 0 ⌝ }
+    ensures { λ r. ⌜ r ≡ cond (childAt (now (table .entry)) n i) (getD (now (heights .entry)) (fieldAt (now (table .entry)) n i) 0) 0 ⌝ }
 {
-    if table::counts(table::digit(row, i), false) {
+    if table::holds_child(table::digit(row, i)) {
         return heights[table::field(table, at, n, i)];
     }
     0
@@ -125,7 +117,7 @@ fn tallest_child(table: &[u8], at: usize, n: usize, heights: &[u8]) -> u8
 // Refusal 8: no node is higher.
 const HEIGHT_LIMIT: u8 = 27;
 
-// Sets the heights of the nodes below the first that is above the limit, and answers that node, or N.
+// Refusal 8: the least node whose height is above the limit, or N. Sets the heights of the nodes below it.
 pub(crate) fn set_heights(table: &[u8], at: usize, heights: &mut [u8]) -> usize
     requires { ⌜ Fielded (now table) at × (length (now heights) ≡ 512) ⌝ }
     ensures { λ r. ⌜ (r ≡ foundOr (nodeCount (now (table .entry))) (leastFailing (heightGood (tableOf (now (table .entry)))) 0 (nodeCount (now (table .entry))))) × Heights (now (table .entry)) r (now (heights .exit)) ⌝ }
@@ -141,13 +133,4 @@ pub(crate) fn set_heights(table: &[u8], at: usize, heights: &mut [u8]) -> usize
         n += 1;
     }
     count
-}
-
-// Refusal 8: the least node whose height is above the limit, or N.
-pub(crate) fn first_bad_height(table: &[u8], at: usize) -> usize
-    requires { ⌜ Fielded (now table) at ⌝ }
-    ensures { λ r. ⌜ r ≡ foundOr (nodeCount (now (table .entry))) (leastFailing (heightGood (tableOf (now (table .entry)))) 0 (nodeCount (now (table .entry)))) ⌝ }
-{
-    let mut heights = [0u8; 512];
-    set_heights(table, at, &mut heights)
 }

@@ -1,6 +1,6 @@
 -- What the words of a table are, at the offsets where the code reads them.
 use Prim.Native.Nat.{ℕ, zero, suc, _+_, _*_, _/_, _%_, _≤_, _<_}
-use mathlib.Core.Bool.{Bool, true, false, _&&_, _||_, cond, true≢false, false≢true}
+use mathlib.Core.Bool.{Bool, false, _&&_, _||_, cond}
 use mathlib.Core.List.{List, map}
 use mathlib.Core.Logic.{_≢_}
 use mathlib.Core.Option.{Option, none as nothing}
@@ -17,7 +17,7 @@ use Rattle.rules.specs.Tables.{wordAt, nodeFrom, tableOf, nodeAt, fieldsIf, fie
 use Rattle.laws.proofs.TableLaws.{sizes-length, binds-entry, nodes-entry}
 use Rattle.rules.specs.Reading.{headed, limited, laidOut}
 use Rattle.laws.proofs.EndLaws.{T-allBelow}
-use Rattle.table.specs.Layout.{WordOf, sortOf}
+use Rattle.table.specs.Layout.{WordOf}
 use Rattle.table.specs.Codes.{fieldCodes, fieldOf, fieldCode, codeAt, rowOf, categoryCode}
 
 pub size-none : (bs : List ℕ) (g n : ℕ) → n ≡ givenCount bs → n ≤ g → 0 ≡ getD (tableOf bs .sizes) g 0
@@ -105,13 +105,8 @@ pub child-code : (c : ℕ) → (eqb c 1 || eqb c 2) ≡ isChild (fieldOf c)
 child-code = by-code (λ c. (eqb c 1 || eqb c 2) ≡ isChild (fieldOf c)) refl refl refl refl refl refl refl refl refl
     (λ c h. ap₂ _||_ (ne-eqb c 1 (λ e. omega arith)) (ne-eqb c 2 (λ e. omega arith)) ∙ sym (ap isChild (field-far c h)))
 
-pub counts-binder : (b : Bool) (c : ℕ) → b ≡ true → eqb c 4 ≡ sortOf b (fieldOf c)
-counts-binder false c e = absurd (false≢true e)
-counts-binder true c e = binder-code c
-
-pub counts-child : (b : Bool) (c : ℕ) → b ≡ false → (c ≡ 1 → ⊥) → eqb c 2 ≡ sortOf b (fieldOf c)
-counts-child true c e n = absurd (true≢false e)
-counts-child false c e n = ap (λ o. o || eqb c 2) (sym (ne-eqb c 1 n)) ∙ child-code c
+pub not-body : (c : ℕ) → (c ≡ 1 → ⊥) → eqb c 2 ≡ isChild (fieldOf c)
+not-body c n = ap (λ o. o || eqb c 2) (sym (ne-eqb c 1 n)) ∙ child-code c
 
 -- What a field holds from its code, and the codes of a kind from the digits of its row.
 coded : (f : Field) → (fieldOf (fieldCode f) ≡ f) × (fieldCode f < 16)

@@ -1,10 +1,9 @@
 -- What a function may take for granted once earlier refusals have passed, and the parts of a node.
 use Prim.Native.Nat.{ℕ, _<_}
-use mathlib.Core.Bool.{Bool, true, false}
 use mathlib.Core.List.{List}
 use mathlib.Core.Path.{_≡_}
 use lib.ListN.{getD}
-use Rattle.rules.specs.Kinds.{Field, unused, isChild, isBinder}
+use Rattle.rules.specs.Kinds.{Field, unused}
 use Rattle.rules.specs.Tables.{tableOf, nodeAt, kindAt, fieldsAt, fieldWords, nodeCount, nodesAt}
 use Rattle.rules.specs.Readable.{Header, NodeRight}
 use Rattle.table.specs.Codes.{rowOf}
@@ -23,11 +22,6 @@ pub record NodeIn (bs : List ℕ) (at n : ℕ) : Type 0 where
 pub record Fielded (bs : List ℕ) (at : ℕ) : Type 0 where
   pub laid : Laid bs at
   pub fields : (n : ℕ) → n < nodeCount bs → NodeRight (tableOf bs) n
-
--- The fields that are counted: those that bind, or those that hold children.
-abbrev pub sortOf : Bool → Field → Bool
-sortOf true f = isBinder f
-sortOf false f = isChild f
 
 -- The row of node n's kind, what field i of the node holds, and the word in it.
 abbrev pub fieldCodesAt : List ℕ → ℕ → ℕ

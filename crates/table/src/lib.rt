@@ -4,14 +4,14 @@ ghost use mathlib.Core.Bool.{_&&_};
 ghost use Prim.Native.Nat.{_+_, _<_, _≤_};
 ghost use lib.Dec.{eqb, ltb};
 ghost use lib.ListN.{length, getD};
-ghost use Rattle.rules.specs.Kinds.{kindOf};
+ghost use Rattle.rules.specs.Kinds.{kindOf, isChild};
 ghost use Rattle.rules.specs.Tables.{wordAt, tableOf, nodeAt, fieldWords};
 ghost use Rattle.rules.specs.Tables.{givenCount, identifierCount, nodeCount, nodesAt};
 ghost use Rattle.rules.specs.Ends.{leastFailing};
 ghost use Rattle.rules.specs.Readable.{Header};
 ghost use Rattle.rules.specs.Reading.{headed, limited, laidOut, sizeGood, bindGood, nodeGood, fieldGood};
 ghost use Rattle.table.specs.Codes.{fieldOf, rowOf, DigitOf, categoryCode};
-ghost use Rattle.table.specs.Layout.{Laid, NodeIn, fieldCodesAt, holdsAt, fieldAt, sortOf, WordOf};
+ghost use Rattle.table.specs.Layout.{Laid, NodeIn, fieldCodesAt, holdsAt, fieldAt, WordOf};
 ghost use Rattle.table.specs.Places.{foundOr};
 
 // What the fields a, b and c of each kind code hold, a hexadecimal digit each: 0 nothing, 1 a predicate, 2 an expression,
@@ -327,12 +327,9 @@ pub fn first_bad_node(table: &[u8], at: usize) -> usize
     count
 }
 
-// Whether a field with the code is of the sort that is counted.
-pub fn counts(code: u8, binders: bool) -> bool
-    ensures { λ r. ⌜ r ≡ sortOf binders (fieldOf code) ⌝ }
+// Whether a field with the code holds a child.
+pub fn holds_child(code: u8) -> bool
+    ensures { λ r. ⌜ r ≡ isChild (fieldOf code) ⌝ }
 {
-    if binders {
-        return code == 4;
-    }
     code == 1 || code == 2
 }

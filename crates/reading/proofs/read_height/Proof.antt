@@ -1,30 +1,99 @@
--- The answer of `read`, and the height of a readable table's root.
-use borrow.Author.Needs.{needs}
-use Rattle.reading.proofs.Promise.{read-readable, refused-height, root-measured}
+-- Stages 1 to 3 of `reading`, then the records. Landmarks: the stages that passed.
+use mathlib.Core.Bool.{true}
+use mathlib.Core.Path.{_≡_, ap, sym, _∙_}
+use Rattle.rules.specs.Reading.{headed, limited, laidOut}
+use Rattle.laws.proofs.ReadingLaws.{refused-1, refused-2, refused-3}
+use Rattle.reading.specs.Answers.{heightOf, measured, readingHeight}
+use Rattle.reading.proofs.Stages.{fails, passes, long, header-read, records-left}
 use Rattle.reading.proofs.read_height.Statement.{statement}
 use Rattle.reading.proofs.read_height.Tie as tie
 
-read-requires : tie.Need-read-requires
-read-requires c κs = search needs
+abbrev lent : tie.After-is-headed → tie.Start
+lent h = h .before .before
 
-enum-known-reading : tie.Need-enum-known-reading
-enum-known-reading c = search needs
+abbrev lent₁ : tie.Else1 → tie.Start
+lent₁ e = lent (e .before)
 
-enum-told : tie.Need-enum-told
-enum-told c = search needs
+abbrev lent₂ : tie.Else2 → tie.Start
+lent₂ e = lent₁ (e .before .before)
 
-root-height-requires : tie.Need-root-height-requires
-root-height-requires c κs = read-readable _ _ (c .before .before .read .ensures) (c .enum-told .given .1)
+abbrev lent₃ : tie.Else3 → tie.Start
+lent₃ e = lent₂ (e .before .before)
+
+passed₁ : (e : tie.Else1) → headed (lent₁ e .args .table .now) ≡ true
+passed₁ e = passes _ _ (e .before .is-headed .ensures) (e .if1 .left)
+
+passed₂ : (e : tie.Else2) → limited (lent₂ e .args .table .now) ≡ true
+passed₂ e = passes _ _ (e .before .is-limited .ensures) (e .if2 .left)
+
+passed₃ : (e : tie.Else3) → laidOut (lent₃ e .args .table .now) ≡ true
+passed₃ e = passes _ _ (e .before .is-laid-out .ensures) (e .if3 .left)
+
+is-headed-requires : tie.Need-is-headed-requires
+is-headed-requires c κs = tt
+
+refused-requires : tie.Need-refused-requires
+refused-requires c κs = tt
 
 returns : tie.Need-returns
-returns c = refused-height _ _ _ (c .before .before .before .read .ensures) (c .before .reading .given .1)
+unfolding readingHeight
+returns c =
+    let t = c .before in
+    ap heightOf (c .refused .ensures)
+    ∙ sym (ap measured (refused-1 (lent (t .before) .args .table .now) (fails _ _ (t .before .is-headed .ensures) (t .if1 .taken))))
+
+is-limited-requires : tie.Need-is-limited-requires
+is-limited-requires c κs = long _ (passed₁ c)
+
+refused-requires-2 : tie.Need-refused-requires-2
+refused-requires-2 c κs = tt
 
 returns-2 : tie.Need-returns-2
+unfolding readingHeight
 returns-2 c =
-    let a = c .before in
-    root-measured _ (read-readable _ _ (a .before .before .read .ensures) (a .enum-told .given .1)) _ (c .root-height .ensures)
+    let t = c .before in
+    let h = t .before in
+    ap heightOf (c .refused2 .ensures)
+    ∙ sym (ap measured (refused-2 (lent₁ (h .before) .args .table .now) (passed₁ (h .before)) (fails _ _ (h .is-limited .ensures) (t .if2 .taken))))
+
+is-laid-out-requires : tie.Need-is-laid-out-requires
+is-laid-out-requires c κs = long _ (passed₁ (c .before .before))
+
+refused-requires-3 : tie.Need-refused-requires-3
+refused-requires-3 c κs = tt
+
+returns-3 : tie.Need-returns-3
+unfolding readingHeight
+returns-3 c =
+    let t = c .before in
+    let l = t .before in
+    let e = l .before in
+    ap heightOf (c .refused3 .ensures)
+    ∙ sym (ap measured (refused-3 (lent₂ e .args .table .now) (passed₁ (e .before .before)) (passed₂ e) (fails _ _ (l .is-laid-out .ensures) (t .if3 .taken))))
+
+read-records-requires : tie.Need-read-records-requires
+read-records-requires c κs =
+    let e = c .before .before in header-read _ (passed₁ (e .before .before)) (passed₂ e) (passed₃ c)
+
+returns-4 : tie.Need-returns-4
+unfolding readingHeight
+returns-4 c =
+    let e₃ = c .before in
+    let e₂ = e₃ .before .before in
+    c .read-records .ensures ∙ ap measured (records-left (lent₃ e₃ .args .table .now) (passed₁ (e₂ .before .before)) (passed₂ e₂) (passed₃ e₃))
 
 pub read-height-spec : {M : Type 1} → statement M
 read-height-spec =
     tie.close
-    (tie.spec read-requires enum-known-reading enum-told root-height-requires returns returns-2)
+    (tie.spec
+    is-headed-requires
+    refused-requires
+    returns
+    is-limited-requires
+    refused-requires-2
+    returns-2
+    is-laid-out-requires
+    refused-requires-3
+    returns-3
+    read-records-requires
+    returns-4)

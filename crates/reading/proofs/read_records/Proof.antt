@@ -1,8 +1,23 @@
--- Stages 4 to 6 of `reading`, then the tree.
+-- Stages 4 to 6 of `reading`, then the tree. Landmarks: the stages that passed, and what was lent.
 use Rattle.reading.specs.Answers.{readingRecords}
 use Rattle.reading.proofs.Stages.{stage-refused, stage-passed, nodes-fielded}
 use Rattle.reading.proofs.read_records.Statement.{statement}
 use Rattle.reading.proofs.read_records.Tie as tie
+
+abbrev placed : tie.After-givens → tie.After-nodes-offset
+placed g = g .before .before
+
+abbrev lent : tie.After-givens → tie.Start
+lent g = placed g .before .before
+
+abbrev fourth : tie.After-identifiers → tie.Else1
+fourth i = i .before .before
+
+abbrev fifth : tie.After-nodes → tie.Else2
+fifth n = n .before .before
+
+abbrev givens : tie.Else2 → tie.After-givens
+givens e = fourth (e .before) .before
 
 nodes-offset-requires : tie.Need-nodes-offset-requires
 nodes-offset-requires c κs = c .before .pre .long
@@ -19,14 +34,14 @@ refused-requires c κs = tt
 returns : tie.Need-returns
 unfolding readingRecords
 returns c =
-    let s4 = c .before in
-    stage-refused 4 _ _ _ _ (s4 .before .before .first-bad-size .ensures) (s4 .before .givens .ensures) _ _ _ (c .refused .ensures) (s4 .if1 .taken)
+    let g = c .before .before in
+    stage-refused 4 _ _ _ _ (g .before .first-bad-size .ensures) (g .givens .ensures) _ _ (c .refused .ensures) (c .before .if1 .taken)
 
 first-bad-bind-requires : tie.Need-first-bad-bind-requires
-first-bad-bind-requires c κs = c .before .before .before .before .before .pre
+first-bad-bind-requires c κs = lent (c .before) .pre
 
 identifiers-requires : tie.Need-identifiers-requires
-identifiers-requires c κs = c .before .before .before .before .before .before .pre .long
+identifiers-requires c κs = lent (c .before .before) .pre .long
 
 refused-requires-2 : tie.Need-refused-requires-2
 refused-requires-2 c κs = tt
@@ -34,16 +49,16 @@ refused-requires-2 c κs = tt
 returns-2 : tie.Need-returns-2
 unfolding readingRecords
 returns-2 c =
-    let s4 = c .before .before .before .before in
-    let s5 = c .before in
-    stage-passed 4 _ _ _ _ (s4 .before .before .first-bad-size .ensures) (s4 .before .givens .ensures) _ _ (s4 .if1 .left)
-    (stage-refused 5 _ _ _ _ (s5 .before .before .first-bad-bind .ensures) (s5 .before .identifiers .ensures) _ _ _ (c .refused2 .ensures) (s5 .if2 .taken))
+    let i = c .before .before in
+    let e = fourth i in
+    stage-passed 4 _ _ _ _ (e .before .before .first-bad-size .ensures) (e .before .givens .ensures) _ _ (e .if1 .left)
+    (stage-refused 5 _ _ _ _ (i .before .first-bad-bind .ensures) (i .identifiers .ensures) _ _ (c .refused2 .ensures) (c .before .if2 .taken))
 
 first-bad-node-requires : tie.Need-first-bad-node-requires
-first-bad-node-requires c κs = record { header = c .before .before .before .before .before .before .before .before .pre; base = c .before .before .before .before .before .before .nodes-offset .ensures }
+first-bad-node-requires c κs = let g = givens c in record { header = lent g .pre; base = placed g .nodes-offset .ensures }
 
 nodes-requires : tie.Need-nodes-requires
-nodes-requires c κs = c .before .before .before .before .before .before .before .before .before .pre .long
+nodes-requires c κs = lent (givens (c .before)) .pre .long
 
 refused-requires-3 : tie.Need-refused-requires-3
 refused-requires-3 c κs = tt
@@ -51,28 +66,31 @@ refused-requires-3 c κs = tt
 returns-3 : tie.Need-returns-3
 unfolding readingRecords
 returns-3 c =
-    let s4 = c .before .before .before .before .before .before .before in
-    let s5 = c .before .before .before .before in
-    let s6 = c .before in
-    stage-passed 4 _ _ _ _ (s4 .before .before .first-bad-size .ensures) (s4 .before .givens .ensures) _ _ (s4 .if1 .left)
-    (stage-passed 5 _ _ _ _ (s5 .before .before .first-bad-bind .ensures) (s5 .before .identifiers .ensures) _ _ (s5 .if2 .left)
-    (stage-refused 6 _ _ _ _ (s6 .before .before .first-bad-node .ensures) (s6 .before .nodes .ensures) _ _ _ (c .refused3 .ensures) (s6 .if3 .taken)))
+    let n = c .before .before in
+    let e₅ = fifth n in
+    let i = e₅ .before in
+    let e₄ = fourth i in
+    stage-passed 4 _ _ _ _ (e₄ .before .before .first-bad-size .ensures) (e₄ .before .givens .ensures) _ _ (e₄ .if1 .left)
+    (stage-passed 5 _ _ _ _ (i .before .first-bad-bind .ensures) (i .identifiers .ensures) _ _ (e₅ .if2 .left)
+    (stage-refused 6 _ _ _ _ (n .before .first-bad-node .ensures) (n .nodes .ensures) _ _ (c .refused3 .ensures) (c .before .if3 .taken)))
 
 read-tree-requires : tie.Need-read-tree-requires
 read-tree-requires c κs =
-    let t = c .before .before .before .before .before .before .before .before .before in
-    nodes-fielded _ _ _ _ (t .before .before .pre) (t .nodes-offset .ensures)
-    (c .before .before .first-bad-node .ensures) (c .before .nodes .ensures) (c .if3 .left)
+    let n = c .before in
+    let g = givens (fifth n) in
+    nodes-fielded _ _ _ _ (lent g .pre) (placed g .nodes-offset .ensures) (n .before .first-bad-node .ensures) (n .nodes .ensures) (c .if3 .left)
 
 returns-4 : tie.Need-returns-4
 unfolding readingRecords
 returns-4 c =
-    let s4 = c .before .before .before .before .before .before .before in
-    let s5 = c .before .before .before .before in
-    let s6 = c .before in
-    stage-passed 4 _ _ _ _ (s4 .before .before .first-bad-size .ensures) (s4 .before .givens .ensures) _ _ (s4 .if1 .left)
-    (stage-passed 5 _ _ _ _ (s5 .before .before .first-bad-bind .ensures) (s5 .before .identifiers .ensures) _ _ (s5 .if2 .left)
-    (stage-passed 6 _ _ _ _ (s6 .before .before .first-bad-node .ensures) (s6 .before .nodes .ensures) _ _ (s6 .if3 .left)
+    let e₆ = c .before in
+    let n = e₆ .before in
+    let e₅ = fifth n in
+    let i = e₅ .before in
+    let e₄ = fourth i in
+    stage-passed 4 _ _ _ _ (e₄ .before .before .first-bad-size .ensures) (e₄ .before .givens .ensures) _ _ (e₄ .if1 .left)
+    (stage-passed 5 _ _ _ _ (i .before .first-bad-bind .ensures) (i .identifiers .ensures) _ _ (e₅ .if2 .left)
+    (stage-passed 6 _ _ _ _ (n .before .first-bad-node .ensures) (n .nodes .ensures) _ _ (e₆ .if3 .left)
     (c .read-tree .ensures)))
 
 pub read-records-spec : {M : Type 1} → statement M

@@ -1,9 +1,47 @@
--- Stages 7 to 9 of `reading`, in order.
-use mathlib.Core.Path.{refl}
+-- Stages 7 to 9 of `reading`, in order, and then the height of the root. Landmarks: the stages that passed, and where the heights are set.
+use Prim.Native.Nat.{ℕ}
+use mathlib.Core.List.{List}
+use mathlib.Core.Path.{_≡_, refl, sym, ap}
+use native.Mathlib.Nat.{lt-of-lt-of-le}
+use lib.ListN.{length}
+use Rattle.rules.specs.Ends.{done}
+use Rattle.rules.specs.Tables.{nodeCount}
+use Rattle.table.proofs.Least.{below}
 use Rattle.reading.specs.Answers.{readingTree}
+use Rattle.reading.specs.Arrays.{Heights}
 use Rattle.reading.proofs.Stages.{stage-refused, stage-passed}
 use Rattle.reading.proofs.read_tree.Statement.{statement}
 use Rattle.reading.proofs.read_tree.Tie as tie
+
+abbrev lent : tie.After-nodes → tie.Start
+lent n = n .before .before .before
+
+abbrev seventh : tie.After-set-heights → tie.Else1
+seventh s = s .before .before
+
+abbrev set : tie.After-nodes2 → tie.After-set-heights
+set n = n .before .before
+
+abbrev eighth : tie.After-identifiers → tie.Else2
+eighth i = i .before .before
+
+-- What was lent, where stage 7 and where stage 8 passed, and the heights that are set there.
+abbrev lent₇ : tie.Else1 → tie.Start
+lent₇ e = lent (e .before)
+
+abbrev lent₈ : tie.Else2 → tie.Start
+lent₈ e = lent₇ (seventh (set (e .before)))
+
+abbrev heights : tie.Else2 → List ℕ
+heights e = set (e .before) .set-heights .last .1 .1 .0
+
+long : (e : tie.Else2) → length (heights e) ≡ 512
+long e = set (e .before) .set-heights .kept .1 .1 .0
+
+all-set : (e : tie.Else2) → Heights (lent₈ e .args .table .now) (nodeCount (lent₈ e .args .table .now)) (heights e)
+all-set e m l =
+    let n = e .before in
+    set n .set-heights .ensures .1 m (lt-of-lt-of-le (below l (sym (n .nodes2 .ensures))) (e .if2 .left))
 
 first-bad-parent-requires : tie.Need-first-bad-parent-requires
 first-bad-parent-requires c κs = c .before .pre
@@ -17,14 +55,17 @@ refused-requires c κs = tt
 returns : tie.Need-returns
 unfolding readingTree
 returns c =
-    let s7 = c .before in
-    stage-refused 7 _ _ _ _ (s7 .before .before .first-bad-parent .ensures) (s7 .before .nodes .ensures) _ _ _ (c .refused .ensures) (s7 .if1 .taken)
+    let n = c .before .before in
+    stage-refused 7 _ _ _ _ (n .before .first-bad-parent .ensures) (n .nodes .ensures) _ _ (c .refused .ensures) (c .before .if1 .taken)
 
-first-bad-height-requires : tie.Need-first-bad-height-requires
-first-bad-height-requires c κs = c .before .before .before .before .pre
+slice-aggregate-set-heights : tie.Need-slice-aggregate-set-heights
+slice-aggregate-set-heights c = refl
+
+set-heights-requires : tie.Need-set-heights-requires
+set-heights-requires c κs = (lent₇ (c .before) .pre, refl)
 
 nodes-requires-2 : tie.Need-nodes-requires-2
-nodes-requires-2 c κs = c .before .before .before .before .before .pre .laid .header .long
+nodes-requires-2 c κs = lent₇ (seventh (c .before)) .pre .laid .header .long
 
 refused-requires-2 : tie.Need-refused-requires-2
 refused-requires-2 c κs = tt
@@ -32,16 +73,17 @@ refused-requires-2 c κs = tt
 returns-2 : tie.Need-returns-2
 unfolding readingTree
 returns-2 c =
-    let s7 = c .before .before .before .before in
-    let s8 = c .before in
-    stage-passed 7 _ _ _ _ (s7 .before .before .first-bad-parent .ensures) (s7 .before .nodes .ensures) _ _ (s7 .if1 .left)
-    (stage-refused 8 _ _ _ _ (s8 .before .before .first-bad-height .ensures) (s8 .before .nodes2 .ensures) _ _ _ (c .refused2 .ensures) (s8 .if2 .taken))
+    let n = c .before .before in
+    let s = set n in
+    let e = seventh s in
+    stage-passed 7 _ _ _ _ (e .before .before .first-bad-parent .ensures) (e .before .nodes .ensures) _ _ (e .if1 .left)
+    (stage-refused 8 _ _ _ _ (s .set-heights .ensures .0) (n .nodes2 .ensures) _ _ (c .refused2 .ensures) (c .before .if2 .taken))
 
 first-bad-binding-requires : tie.Need-first-bad-binding-requires
-first-bad-binding-requires c κs = c .before .before .before .before .before .before .before .pre
+first-bad-binding-requires c κs = lent₈ c .pre
 
 identifiers-requires : tie.Need-identifiers-requires
-identifiers-requires c κs = c .before .before .before .before .before .before .before .before .pre .laid .header .long
+identifiers-requires c κs = lent₈ (c .before) .pre .laid .header .long
 
 refused-requires-3 : tie.Need-refused-requires-3
 refused-requires-3 c κs = tt
@@ -49,22 +91,34 @@ refused-requires-3 c κs = tt
 returns-3 : tie.Need-returns-3
 unfolding readingTree
 returns-3 c =
-    let s7 = c .before .before .before .before .before .before .before in
-    let s8 = c .before .before .before .before in
-    let s9 = c .before in
-    stage-passed 7 _ _ _ _ (s7 .before .before .first-bad-parent .ensures) (s7 .before .nodes .ensures) _ _ (s7 .if1 .left)
-    (stage-passed 8 _ _ _ _ (s8 .before .before .first-bad-height .ensures) (s8 .before .nodes2 .ensures) _ _ (s8 .if2 .left)
-    (stage-refused 9 _ _ _ _ (s9 .before .before .first-bad-binding .ensures) (s9 .before .identifiers .ensures) _ _ _ (c .refused3 .ensures) (s9 .if3 .taken)))
+    let i = c .before .before in
+    let e₈ = eighth i in
+    let n = e₈ .before in
+    let e₇ = seventh (set n) in
+    stage-passed 7 _ _ _ _ (e₇ .before .before .first-bad-parent .ensures) (e₇ .before .nodes .ensures) _ _ (e₇ .if1 .left)
+    (stage-passed 8 _ _ _ _ (set n .set-heights .ensures .0) (n .nodes2 .ensures) _ _ (e₈ .if2 .left)
+    (stage-refused 9 _ _ _ _ (i .before .first-bad-binding .ensures) (i .identifiers .ensures) _ _ (c .refused3 .ensures) (c .before .if3 .taken)))
+
+slice-aggregate-root-height : tie.Need-slice-aggregate-root-height
+slice-aggregate-root-height c = sym (long (eighth (c .before .before)))
+
+root-height-requires : tie.Need-root-height-requires
+root-height-requires c κs =
+    let e = eighth (c .before .before) in
+    (lent₈ e .pre .laid .header, long e, all-set e)
 
 returns-4 : tie.Need-returns-4
 unfolding readingTree
 returns-4 c =
-    let s7 = c .before .before .before .before .before .before in
-    let s8 = c .before .before .before in
-    stage-passed 7 _ _ _ _ (s7 .before .before .first-bad-parent .ensures) (s7 .before .nodes .ensures) _ _ (s7 .if1 .left)
-    (stage-passed 8 _ _ _ _ (s8 .before .before .first-bad-height .ensures) (s8 .before .nodes2 .ensures) _ _ (s8 .if2 .left)
-    (stage-passed 9 _ _ _ _ (c .before .before .first-bad-binding .ensures) (c .before .identifiers .ensures) _ _ (c .if3 .left)
-    refl))
+    let e₉ = c .before .before in
+    let i = e₉ .before in
+    let e₈ = eighth i in
+    let n = e₈ .before in
+    let e₇ = seventh (set n) in
+    stage-passed 7 _ _ _ _ (e₇ .before .before .first-bad-parent .ensures) (e₇ .before .nodes .ensures) _ _ (e₇ .if1 .left)
+    (stage-passed 8 _ _ _ _ (set n .set-heights .ensures .0) (n .nodes2 .ensures) _ _ (e₈ .if2 .left)
+    (stage-passed 9 _ _ _ _ (i .before .first-bad-binding .ensures) (i .identifiers .ensures) _ _ (e₉ .if3 .left)
+    (ap done (c .root-height .ensures))))
 
 pub read-tree-spec : {M : Type 1} → statement M
 read-tree-spec =
@@ -74,7 +128,8 @@ read-tree-spec =
     nodes-requires
     refused-requires
     returns
-    first-bad-height-requires
+    slice-aggregate-set-heights
+    set-heights-requires
     nodes-requires-2
     refused-requires-2
     returns-2
@@ -82,4 +137,6 @@ read-tree-spec =
     identifiers-requires
     refused-requires-3
     returns-3
+    slice-aggregate-root-height
+    root-height-requires
     returns-4)

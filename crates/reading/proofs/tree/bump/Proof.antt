@@ -1,3 +1,4 @@
+-- One store: at the word of a field that holds a child, or of the same count at place 0. Landmarks: the place and the step are chosen.
 use Prim.Native.Nat.{_<_}
 use mathlib.Core.Bool.{cond}
 use mathlib.Core.Logic.{⊎-elim}
@@ -18,6 +19,12 @@ step c = ⊎-elim (λ w. rw (w .0 .taken) (w .1)) (λ w. rw (w .0 .left) (w .1))
 inside : (c : tie.Joined1) → c .if1 .i < length (c .before .args .counted .now)
 inside c = bump-inside _ (c .before .args .hit) (c .before .args .x) _ (c .before .pre) (place c)
 
+abbrev stepped : tie.After-row-known2 → tie.Joined2
+stepped c = c .before .before .before
+
+abbrev placed : tie.After-row-known2 → tie.Joined1
+placed c = stepped c .before
+
 mul-c : tie.Need-mul-c
 mul-c c = scaled-fits _ _ 2 (inside (c .before .before)) (c .before .before .before .good .0 .1)
 
@@ -26,22 +33,22 @@ slice-read-c c = inside (c .before .before .before)
 
 add-counted : tie.Need-add-counted
 add-counted c =
-    let j = c .before .before .before in
+    let j = stepped c in
     let s = j .before .before in
     record { fits = bump-room _ (s .args .hit) (s .args .x) _ _ (s .pre) (place (j .before)) (step j) }
 
 mul-counted : tie.Need-mul-counted
-mul-counted c = scaled-fits _ _ 2 (inside (c .before .before .before .before)) (c .before .before .before .before .before .good .0 .1)
+mul-counted c = let p = placed c in scaled-fits _ _ 2 (inside p) (p .before .good .0 .1)
 
 slice-write-counted : tie.Need-slice-write-counted
-slice-write-counted c = inside (c .before .before .before .before)
+slice-write-counted c = inside (placed c)
 
 same-length : tie.Need-same-length
 same-length c = search needs
 
 returns : tie.Need-returns
 returns c =
-    let j = c .before .before .before in
+    let j = stepped c in
     let s = j .before .before in
     bumped _ _ _ _ _ (s .pre) (place (j .before)) (step j)
 

@@ -1,33 +1,36 @@
-use mathlib.Core.Bool.{false}
+-- By whether the field holds a child, which is below its parent, so the array reaches it. Landmark: that is known.
 use mathlib.Core.Path.{_≡_, sym, _∙_}
 use lib.ListN.{getD}
-use Rattle.reading.specs.Arrays.{countsAt}
-use Rattle.reading.proofs.Counting.{counts-read, counts-inside, field-asks}
+use Rattle.reading.specs.Arrays.{childAt}
+use Rattle.reading.proofs.Counting.{child-read, child-inside, field-asks}
 use Rattle.reading.proofs.Heights.{child-here, child-none}
 use Rattle.reading.proofs.tree.child_height.Statement.{statement}
 use Rattle.reading.proofs.tree.child_height.Tie as tie
 
-abbrev start : tie.After-counts → tie.Start
-start c = c .before .before .before .before
+abbrev digit : tie.After-holds-child → tie.After-digit
+digit c = c .before
 
-hit : (c : tie.After-counts) → c .counts .result ≡ countsAt false (start c .args .table .now) (start c .args .n) (start c .args .i)
+abbrev start : tie.After-holds-child → tie.Start
+start c = digit c .before .before .before
+
+hit : (c : tie.After-holds-child) → c .holds-child .result ≡ childAt (start c .args .table .now) (start c .args .n) (start c .args .i)
 hit c =
-    counts-read false (start c .args .table .now) (start c .args .n) (start c .args .i) (start c .args .row) (c .before .digit .result) _
-    (start c .pre .2) (c .before .digit .ensures) (c .counts .ensures)
+    child-read (start c .args .table .now) (start c .args .n) (start c .args .i) (start c .args .row) (c .before .digit .result) _
+    (start c .pre .2) (c .before .digit .ensures) (c .holds-child .ensures)
 
 digit-requires : tie.Need-digit-requires
 digit-requires c κs = c .before .before .pre .0 .inside
 
-counts-requires : tie.Need-counts-requires
-counts-requires c κs = tt
+holds-child-requires : tie.Need-holds-child-requires
+holds-child-requires c κs = tt
 
 field-requires : tie.Need-field-requires
-field-requires c κs = field-asks (c .before .before .before .before .before .pre .0)
+field-requires c κs = field-asks (start (c .before) .pre .0)
 
 shared-slice-read-result : tie.Need-shared-slice-read-result
 shared-slice-read-result c =
     let r = c .before .before .before in
-    counts-inside false _ _ _ _ (start r .pre .0) (sym (hit r) ∙ c .before .before .if1 .taken) (c .before .field .ensures) (start r .pre .1)
+    child-inside _ _ _ _ (start r .pre .0) (sym (hit r) ∙ c .before .before .if1 .taken) (c .before .field .ensures) (start r .pre .1)
 
 returns : tie.Need-returns
 returns c =
@@ -42,7 +45,7 @@ child-height-spec =
     tie.close
     (tie.spec
     digit-requires
-    counts-requires
+    holds-child-requires
     field-requires
     shared-slice-read-result
     returns

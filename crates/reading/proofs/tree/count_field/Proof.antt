@@ -1,31 +1,38 @@
+-- By whether the field holds a child. Landmarks: that is known, and the field's word.
 use mathlib.Core.Path.{_≡_}
-use Rattle.reading.specs.Arrays.{countsAt}
-use Rattle.reading.proofs.Counting.{counts-read, bump-pre, bumped-field, field-asks}
+use Rattle.reading.specs.Arrays.{childAt}
+use Rattle.reading.proofs.Counting.{child-read, bump-pre, bumped-field, field-asks}
 use Rattle.reading.proofs.tree.count_field.Statement.{statement}
 use Rattle.reading.proofs.tree.count_field.Tie as tie
 
-abbrev start : tie.After-field → tie.Start
-start c = c .before .before .before .before .before .before
+abbrev lent : tie.After-digit → tie.Start
+lent d = d .before .before .before
 
-hit : (c : tie.After-field) → c .before .before .counts .result ≡ countsAt (start c .args .binders) (start c .args .table .now) (start c .args .n) (start c .args .i)
+abbrev known : tie.After-field → tie.After-holds-child
+known c = c .before .before
+
+abbrev start : tie.After-field → tie.Start
+start c = lent (known c .before)
+
+hit : (c : tie.After-field) → known c .holds-child .result ≡ childAt (start c .args .table .now) (start c .args .n) (start c .args .i)
 hit c =
-    let r = c .before .before .before .digit in
-    counts-read (start c .args .binders) (start c .args .table .now) (start c .args .n) (start c .args .i) (start c .args .row) (r .result) _
-    (start c .pre .3) (r .ensures) (c .before .before .counts .ensures)
+    let d = known c .before .digit in
+    child-read (start c .args .table .now) (start c .args .n) (start c .args .i) (start c .args .row) (d .result) _
+    (start c .pre .3) (d .ensures) (known c .holds-child .ensures)
 
 digit-requires : tie.Need-digit-requires
 digit-requires c κs = c .before .before .pre .0 .inside
 
-counts-requires : tie.Need-counts-requires
-counts-requires c κs = tt
+holds-child-requires : tie.Need-holds-child-requires
+holds-child-requires c κs = tt
 
 field-requires : tie.Need-field-requires
-field-requires c κs = field-asks (c .before .before .before .before .before .pre .0)
+field-requires c κs = field-asks (lent (c .before .before) .pre .0)
 
 bump-requires : tie.Need-bump-requires
 bump-requires c κs =
     let s = start c in
-    bump-pre (s .args .binders) (s .args .table .now) (s .args .at) (s .args .n) (s .args .i) (s .args .counted .now) _ _ (hit c) (c .field .ensures)
+    bump-pre (s .args .table .now) (s .args .at) (s .args .n) (s .args .i) (s .args .counted .now) _ _ (hit c) (c .field .ensures)
     (s .pre .0) (s .pre .1) (s .pre .2)
 
 same-length : tie.Need-same-length
@@ -35,7 +42,7 @@ returns : tie.Need-returns
 returns c =
     let f = c .before .before .before in
     let s = start f in
-    bumped-field (s .args .binders) (s .args .table .now) (s .args .at) (s .args .n) (s .args .i) (s .args .counted .now) _ _ (hit f) (f .field .ensures)
+    bumped-field (s .args .table .now) (s .args .at) (s .args .n) (s .args .i) (s .args .counted .now) _ _ (hit f) (f .field .ensures)
     (c .before .before .bump .last .0) (c .before .before .bump .ensures)
 
 pub count-field-spec : {M : Type 1} → statement M
@@ -43,7 +50,7 @@ count-field-spec =
     tie.close
     (tie.spec
     digit-requires
-    counts-requires
+    holds-child-requires
     field-requires
     bump-requires
     same-length

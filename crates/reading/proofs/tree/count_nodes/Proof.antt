@@ -1,3 +1,4 @@
+-- The invariant: the children of the nodes passed are counted. Landmarks: what was lent, and the turn in which a node is counted.
 use Prim.Native.Nat.{ℕ, _≤_, _-_, zero-le, _<_}
 use mathlib.Core.Path.{_≡_, subst, refl, _∙_}
 use native.Mathlib.Nat.{lt-of-lt-of-le}
@@ -11,47 +12,59 @@ use Rattle.reading.proofs.tree.count_nodes.Statement.{statement}
 use Rattle.reading.proofs.tree.count_nodes.Tie as tie
 
 abbrev Inv-loop : tie.InvT-loop
-Inv-loop table at counted₀ binders count n₀ counted n = (n ≤ count) × (length counted ≡ length counted₀) × Counted binders table n counted
+Inv-loop table at counted₀ count n₀ counted n = (n ≤ count) × (length counted ≡ length counted₀) × Counted table n counted
 
 abbrev μ-loop : tie.MeasureT-loop
-μ-loop table at counted₀ binders count n₀ counted n = count - n
+μ-loop table at counted₀ count n₀ counted n = count - n
+
+abbrev lent : tie.After-nodes Inv-loop μ-loop → tie.Start Inv-loop μ-loop
+lent n = n .before .before .before
+
+abbrev start : tie.At-loop Inv-loop μ-loop → tie.Start Inv-loop μ-loop
+start l = lent (l .before)
+
+abbrev turn : tie.After-count-node Inv-loop μ-loop → tie.In-loop Inv-loop μ-loop
+turn k = k .before .before
 
 -- The loop is at a node, of which there are few.
-inside : (c : tie.In-loop Inv-loop μ-loop) → c .before .loop .n < nodeCount (c .before .before .before .before .before .args .table .now)
+inside : (c : tie.In-loop Inv-loop μ-loop) → c .before .loop .n < nodeCount (start (c .before) .args .table .now)
 inside c = below (c .loop-test .taken) (c .before .before .nodes .ensures)
 
 few : (c : tie.In-loop Inv-loop μ-loop) → c .before .loop .n < 512
-few c = lt-of-lt-of-le (inside c) (c .before .before .before .before .before .pre .0 .laid .header .few-nodes)
+few c = lt-of-lt-of-le (inside c) (start (c .before) .pre .0 .laid .header .few-nodes)
 
 nodes-requires : tie.Need-nodes-requires Inv-loop μ-loop
 nodes-requires c κs = c .before .before .pre .0 .laid .header .long
 
 loop-holds : tie.Need-loop-holds Inv-loop μ-loop
-loop-holds c = (zero-le, refl, c .before .before .before .pre .2)
+loop-holds c = (zero-le, refl, lent c .pre .2)
 
 count-node-requires : tie.Need-count-node-requires Inv-loop μ-loop
 count-node-requires c κs =
-    let p = c .before .before .before .before .before .before .pre in
-    let l = c .before .before .loop in
-    (p .0, inside (c .before), l .inv .1 ∙ p .1, l .inv .2)
+    let l = c .before .before in
+    let p = start l .pre in
+    (p .0, inside (c .before), l .loop .inv .1 ∙ p .1, l .loop .inv .2)
 
 add-n : tie.Need-add-n Inv-loop μ-loop
-add-n c = next-fits 512 (few (c .before .before .before .before)) tt
+add-n c = next-fits 512 (few (turn (c .before .before))) tt
 
 loop-less : tie.Need-loop-less Inv-loop μ-loop
-loop-less c = falls _ _ (c .before .before .before .before .loop-test .taken)
+loop-less c = falls _ _ (turn (c .before .before) .loop-test .taken)
 
 loop-again : tie.Need-loop-again Inv-loop μ-loop
-loop-again c = (add-one-le (c .before .before .before .before .loop-test .taken), c .before .before .count-node .kept .1 .1 .1 .0 ∙ c .before .before .before .before .before .loop .inv .1, c .before .before .count-node .ensures)
+loop-again c =
+    let k = c .before .before in
+    let t = turn k in
+    (add-one-le (t .loop-test .taken), k .count-node .kept .1 .1 .1 .0 ∙ t .before .loop .inv .1, k .count-node .ensures)
 
 same-length : tie.Need-same-length Inv-loop μ-loop
 same-length c = c .before .loop .inv .1
 
 returns : tie.Need-returns Inv-loop μ-loop
 returns c =
-    let l = c .before .loop in
-    let s = c .before .before .before .before .before in
-    subst (λ (i : ℕ). Counted (s .args .binders) (s .args .table .now) i (l .counted)) (at-end (l .inv .0) (c .loop-test .left) (c .before .before .nodes .ensures)) (l .inv .2)
+    let l = c .before in
+    subst (λ (i : ℕ). Counted (start l .args .table .now) i (l .loop .counted))
+    (at-end (l .loop .inv .0) (c .loop-test .left) (l .before .nodes .ensures)) (l .loop .inv .2)
 
 pub count-nodes-spec : {M : Type 1} → statement M
 count-nodes-spec =

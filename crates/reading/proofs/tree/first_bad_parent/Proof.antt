@@ -1,5 +1,5 @@
+-- The invariant: each node passed keeps refusal 7. Landmarks: what was lent, the count of the nodes, and the children counted.
 use Prim.Native.Nat.{_-_, _<_}
-use mathlib.Core.Bool.{false}
 use mathlib.Core.Path.{sym, _∙_, refl}
 use native.Mathlib.Nat.{lt-of-lt-of-le}
 use lib.Dec.{lit<}
@@ -19,12 +19,21 @@ Inv-loop table at count counted n₀ n = Passing (parentGood (tableOf table)) (n
 abbrev μ-loop : tie.MeasureT-loop
 μ-loop table at count counted n₀ n = count - n
 
+abbrev called : tie.At-loop Inv-loop μ-loop → tie.After-count-nodes Inv-loop μ-loop
+called l = l .before .before
+
+abbrev numbered : tie.At-loop Inv-loop μ-loop → tie.After-nodes Inv-loop μ-loop
+numbered l = called l .before .before
+
+abbrev lent : tie.At-loop Inv-loop μ-loop → tie.Start Inv-loop μ-loop
+lent l = numbered l .before .before
+
 -- The loop is at a node, of which there are few.
-inside : (c : tie.In-loop Inv-loop μ-loop) → c .before .loop .n < nodeCount (c .before .before .before .before .before .before .before .args .table .now)
-inside c = below (c .loop-test .taken) (c .before .before .before .before .before .nodes .ensures)
+inside : (c : tie.In-loop Inv-loop μ-loop) → c .before .loop .n < nodeCount (lent (c .before) .args .table .now)
+inside c = below (c .loop-test .taken) (numbered (c .before) .nodes .ensures)
 
 few : (c : tie.In-loop Inv-loop μ-loop) → c .before .loop .n < 512
-few c = lt-of-lt-of-le (inside c) (c .before .before .before .before .before .before .before .pre .laid .header .few-nodes)
+few c = lt-of-lt-of-le (inside c) (lent (c .before) .pre .laid .header .few-nodes)
 
 nodes-requires : tie.Need-nodes-requires Inv-loop μ-loop
 nodes-requires c κs = c .before .pre .laid .header .long
@@ -33,7 +42,7 @@ slice-aggregate-count-nodes : tie.Need-slice-aggregate-count-nodes Inv-loop μ-l
 slice-aggregate-count-nodes c = refl
 
 count-nodes-requires : tie.Need-count-nodes-requires Inv-loop μ-loop
-count-nodes-requires c κs = (c .before .before .before .pre, refl, counted-none false (c .before .before .before .args .table .now) 512)
+count-nodes-requires c κs = let s = c .before .before .before in (s .pre, refl, counted-none (s .args .table .now) 512)
 
 loop-holds : tie.Need-loop-holds Inv-loop μ-loop
 loop-holds c = least-start _ _
@@ -46,15 +55,16 @@ array-read-times c = few c
 
 parent-is-good-requires : tie.Need-parent-is-good-requires Inv-loop μ-loop
 parent-is-good-requires c κs =
-    let called = c .before .before .before .count-nodes in (
-      node-in (c .before .before .before .before .before .before .before .pre) (inside c),
-      counted-all false _ (called .last .1 .1 .0) (called .ensures) (c .before .loop .n) (below (few c) (sym (called .kept .1 .1 .0))),
+    let l = c .before in
+    let k = called l .count-nodes in (
+      node-in (lent l .pre) (inside c),
+      counted-all _ (k .last .1 .1 .0) (k .ensures) (l .loop .n) (below (few c) (sym (k .kept .1 .1 .0))),
     )
 
 returns : tie.Need-returns Inv-loop μ-loop
 returns c =
-    least-here _ _ _ (c .before .before .before .loop .inv) (inside (c .before .before))
-    (sym (c .before .parent-is-good .ensures) ∙ not-true _ (c .if1 .taken))
+    let t = c .before .before in
+    least-here _ _ _ (t .before .loop .inv) (inside t) (sym (c .before .parent-is-good .ensures) ∙ not-true _ (c .if1 .taken))
 
 add-n : tie.Need-add-n Inv-loop μ-loop
 add-n c = next-fits 512 (few (c .before .before)) tt
@@ -64,11 +74,14 @@ loop-less c = falls _ _ (c .before .before .loop-test .taken)
 
 loop-again : tie.Need-loop-again Inv-loop μ-loop
 loop-again c =
-    least-turn _ _ _ (c .before .before .before .loop .inv) (inside (c .before .before))
-    (sym (c .before .parent-is-good .ensures) ∙ not-false _ (c .if1 .left))
+    let t = c .before .before in
+    least-turn _ _ _ (t .before .loop .inv) (inside t) (sym (c .before .parent-is-good .ensures) ∙ not-false _ (c .if1 .left))
 
 returns-2 : tie.Need-returns-2 Inv-loop μ-loop
-returns-2 c = let e = c .before .before .before .before .before .nodes .ensures in e ∙ least-none _ _ _ (c .before .loop .inv) (past (c .loop-test .left) e)
+returns-2 c =
+    let l = c .before in
+    let e = numbered l .nodes .ensures in
+    e ∙ least-none _ _ _ (l .loop .inv) (past (c .loop-test .left) e)
 
 pub first-bad-parent-spec : {M : Type 1} → statement M
 first-bad-parent-spec =

@@ -1,3 +1,4 @@
+-- The last node by its category, another by how often it is a child.
 use mathlib.Core.Path.{sym, _∙_}
 use native.Mathlib.Nat.{lt-of-lt-of-le}
 use Rattle.table.proofs.Least.{next-fits}

@@ -1,3 +1,5 @@
+-- The invariant: each node passed is within the limit and has its height. Landmarks: what was lent, and the turn in which a node's
+-- tallest child is known.
 use Prim.Native.Nat.{_-_, _<_}
 use mathlib.Core.Path.{_≡_, _∙_, refl, sym}
 use native.Mathlib.Nat.{not-suc-le-zero, lt-of-lt-of-le}
@@ -13,23 +15,34 @@ use Rattle.reading.proofs.tree.set_heights.Statement.{statement}
 use Rattle.reading.proofs.tree.set_heights.Tie as tie
 
 abbrev Inv-loop : tie.InvT-loop
-Inv-loop table at heights₀ count n₀ heights n = (length heights ≡ length heights₀) × Passing (heightGood (tableOf table)) (nodeCount table) n × Heights table n heights
+Inv-loop table at heights₀ count n₀ heights n =
+    (length heights ≡ length heights₀) × Passing (heightGood (tableOf table)) (nodeCount table) n × Heights table n heights
 
 abbrev μ-loop : tie.MeasureT-loop
 μ-loop table at heights₀ count n₀ heights n = count - n
 
+abbrev lent : tie.After-nodes Inv-loop μ-loop → tie.Start Inv-loop μ-loop
+lent n = n .before .before .before
+
+abbrev start : tie.At-loop Inv-loop μ-loop → tie.Start Inv-loop μ-loop
+start l = lent (l .before)
+
+abbrev turn : tie.After-tallest-child Inv-loop μ-loop → tie.In-loop Inv-loop μ-loop
+turn m = m .before .before
+
 -- The loop is at a node, of which there are few.
-inside : (c : tie.In-loop Inv-loop μ-loop) → c .before .loop .n < nodeCount (c .before .before .before .before .before .args .table .now)
+inside : (c : tie.In-loop Inv-loop μ-loop) → c .before .loop .n < nodeCount (start (c .before) .args .table .now)
 inside c = below (c .loop-test .taken) (c .before .before .nodes .ensures)
 
 few : (c : tie.In-loop Inv-loop μ-loop) → c .before .loop .n < 512
-few c = lt-of-lt-of-le (inside c) (c .before .before .before .before .before .pre .0 .laid .header .few-nodes)
+few c = lt-of-lt-of-le (inside c) (start (c .before) .pre .0 .laid .header .few-nodes)
 
 -- The array reaches it.
-reached : (c : tie.Else1 Inv-loop μ-loop) → c .before .before .before .before .loop .n < length (c .before .before .before .before .loop .heights)
-reached c =
-    let l = c .before .before .before .before in
-    below (few (c .before .before .before)) (sym (l .loop .inv .0 ∙ l .before .before .before .before .pre .1))
+long : (l : tie.At-loop Inv-loop μ-loop) → length (l .loop .heights) ≡ 512
+long l = l .loop .inv .0 ∙ start l .pre .1
+
+reached : (c : tie.In-loop Inv-loop μ-loop) → c .before .loop .n < length (c .before .loop .heights)
+reached c = below (few c) (sym (long (c .before)))
 
 nodes-requires : tie.Need-nodes-requires Inv-loop μ-loop
 nodes-requires c κs = c .before .before .pre .0 .laid .header .long
@@ -38,17 +51,19 @@ loop-holds : tie.Need-loop-holds Inv-loop μ-loop
 loop-holds c = (refl, least-start _ _, λ m h. absurd (not-suc-le-zero h))
 
 tallest-child-requires : tie.Need-tallest-child-requires Inv-loop μ-loop
-tallest-child-requires c κs = (c .before .before .before .before .before .before .pre .0, inside (c .before), c .before .before .loop .inv .0 ∙ c .before .before .before .before .before .before .pre .1)
+tallest-child-requires c κs = let l = c .before .before in (start l .pre .0, inside (c .before), long l)
 
 same-length : tie.Need-same-length Inv-loop μ-loop
-same-length c = c .before .before .before .before .loop .inv .0
+same-length c = turn (c .before) .before .loop .inv .0
 
 returns : tie.Need-returns Inv-loop μ-loop
 returns c =
-    let l = c .before .before .before .before .loop in
-    let s = c .before .before .before .before .before .before .before .before in
-    let n< = inside (c .before .before .before) in (
-      least-here _ _ _ (l .inv .1) n< (height-high (s .args .table .now) (s .args .at) (l .n) (s .pre .0) n< (l .heights) (l .inv .2) _ (c .before .tallest-child .ensures) (c .if1 .taken)),
+    let t = turn (c .before) in
+    let l = t .before .loop in
+    let s = start (t .before) in (
+      least-here _ _ _ (l .inv .1) (inside t)
+          (height-high (s .args .table .now) (s .args .at) (l .n) (s .pre .0) (inside t) (l .heights) (l .inv .2) _
+          (c .before .tallest-child .ensures) (c .if1 .taken)),
       l .inv .2,
     )
 
@@ -56,24 +71,25 @@ add-heights : tie.Need-add-heights Inv-loop μ-loop
 add-heights c = omega arith
 
 slice-write-heights : tie.Need-slice-write-heights Inv-loop μ-loop
-slice-write-heights c = reached c
+slice-write-heights c = reached (turn (c .before))
 
 add-n : tie.Need-add-n Inv-loop μ-loop
-add-n c = next-fits 512 (few (c .before .before .before)) tt
+add-n c = next-fits 512 (few (turn (c .before))) tt
 
 loop-less : tie.Need-loop-less Inv-loop μ-loop
-loop-less c = falls _ _ (c .before .before .before .loop-test .taken)
+loop-less c = falls _ _ (turn (c .before) .loop-test .taken)
 
 loop-again : tie.Need-loop-again Inv-loop μ-loop
 loop-again c =
-    let l = c .before .before .before .before .loop in
-    let s = c .before .before .before .before .before .before .before .before in
+    let t = turn (c .before) in
+    let l = t .before .loop in
+    let s = start (t .before) in
     let table = s .args .table .now in
-    let n< = inside (c .before .before .before) in
-    let t = c .before .tallest-child in (
+    let h = c .before .tallest-child in (
       simp length-set (l .inv .0),
-      least-turn _ _ _ (l .inv .1) n< (height-low table (s .args .at) (l .n) (s .pre .0) n< (l .heights) (l .inv .2) (t .result) (t .ensures) (c .if1 .left)),
-      heights-more table (s .args .at) (l .n) (s .pre .0) n< (l .heights) (l .inv .2) (t .result) (t .ensures) (reached c),
+      least-turn _ _ _ (l .inv .1) (inside t)
+          (height-low table (s .args .at) (l .n) (s .pre .0) (inside t) (l .heights) (l .inv .2) (h .result) (h .ensures) (c .if1 .left)),
+      heights-more table (s .args .at) (l .n) (s .pre .0) (inside t) (l .heights) (l .inv .2) (h .result) (h .ensures) (reached t),
     )
 
 same-length-2 : tie.Need-same-length-2 Inv-loop μ-loop

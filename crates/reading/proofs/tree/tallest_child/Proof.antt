@@ -1,3 +1,4 @@
+-- The greatest of the heights that the three fields give. Landmarks: what was lent, and the heights of the fields.
 use Prim.Native.Nat.{ℕ}
 use lib.Dec.{lit<}
 use lib.ListN.{getD}
@@ -6,17 +7,29 @@ use Rattle.reading.proofs.Heights.{tallest-held}
 use Rattle.reading.proofs.tree.tallest_child.Statement.{statement}
 use Rattle.reading.proofs.tree.tallest_child.Tie as tie
 
+abbrev lent : tie.After-node-row → tie.Start
+lent r = r .before .before .before
+
+abbrev row : tie.After-child-height3 → tie.After-node-row
+row h = h .before .before .before
+
 node-row-requires : tie.Need-node-row-requires
 node-row-requires c κs = node-in (c .before .before .pre .0) (c .before .before .pre .1)
 
 child-height-requires : tie.Need-child-height-requires
-child-height-requires c κs = let p = c .before .before .before .pre in (field-in (p .0) (p .1) (lit< tt), p .2, c .node-row .ensures)
+child-height-requires c κs = let p = lent c .pre in (field-in (p .0) (p .1) (lit< tt), p .2, c .node-row .ensures)
 
 child-height-requires-2 : tie.Need-child-height-requires-2
-child-height-requires-2 c κs = let p = c .before .before .before .before .pre in (field-in (p .0) (p .1) (lit< tt), p .2, c .before .node-row .ensures)
+child-height-requires-2 c κs =
+    let r = c .before in
+    let p = lent r .pre in
+    (field-in (p .0) (p .1) (lit< tt), p .2, r .node-row .ensures)
 
 child-height-requires-3 : tie.Need-child-height-requires-3
-child-height-requires-3 c κs = let p = c .before .before .before .before .before .pre in (field-in (p .0) (p .1) (lit< tt), p .2, c .before .before .node-row .ensures)
+child-height-requires-3 c κs =
+    let r = c .before .before in
+    let p = lent r .pre in
+    (field-in (p .0) (p .1) (lit< tt), p .2, r .node-row .ensures)
 
 larger-requires : tie.Need-larger-requires
 larger-requires c κs = tt
@@ -26,11 +39,13 @@ larger-requires-2 c κs = tt
 
 returns : tie.Need-returns
 returns c =
-    let b = c .before .before in
-    let s = b .before .before .before .before .before .before in
+    let h = c .before .before in
+    let g = h .before in
+    let f = g .before in
+    let s = lent (row h) in
     tallest-held (λ (m : ℕ). getD (s .args .heights .now) m 0) (s .args .table .now) (s .args .n)
-    (b .before .before .child-height .result) (b .before .child-height2 .result) (b .child-height3 .result) (c .before .larger .result) (c .larger2 .result)
-    (b .before .before .child-height .ensures) (b .before .child-height2 .ensures) (b .child-height3 .ensures) (c .before .larger .ensures) (c .larger2 .ensures)
+    (f .child-height .result) (g .child-height2 .result) (h .child-height3 .result) (c .before .larger .result) (c .larger2 .result)
+    (f .child-height .ensures) (g .child-height2 .ensures) (h .child-height3 .ensures) (c .before .larger .ensures) (c .larger2 .ensures)
 
 pub tallest-child-spec : {M : Type 1} → statement M
 tallest-child-spec =

@@ -1,0 +1,39 @@
+-- Only the first field of a kind binds; the landmark is its code.
+use mathlib.Core.Path.{_≡_, ap}
+use lib.Dec.{lit<}
+use Prim.Native.Nat.{ℕ}
+use Rattle.table.specs.Codes.{fieldOf}
+use Rattle.table.specs.Layout.{holdsAt}
+use Rattle.table.proofs.Fields.{code-read}
+use Rattle.reading.proofs.Counting.{field-asks}
+use Rattle.reading.proofs.Occurs.{isName, name-inside, binds-one, binds-none}
+use Rattle.reading.proofs.binding.bound_at.Statement.{statement}
+use Rattle.reading.proofs.binding.bound_at.Tie as tie
+
+abbrev lent : tie.After-digit → tie.Start
+lent c = c .before .before
+
+code : (c : tie.After-digit) → fieldOf (c .digit .result) ≡ holdsAt (lent c .args .table .now) (lent c .args .n) 0
+code c = code-read (lent c .args .table .now) (lent c .args .n) (lent c .args .row) 0 (c .digit .result) (lent c .pre .1) (c .digit .ensures)
+
+digit-requires : tie.Need-digit-requires
+digit-requires c κs = lit< tt
+
+field-requires : tie.Need-field-requires
+field-requires c κs = field-asks (lent (c .before) .pre .0)
+
+bit-requires : tie.Need-bit-requires
+bit-requires c κs =
+    let d = c .before .before in
+    name-inside _ _ _ _ (d .digit .result) _ (lent d .pre .0) (ap (λ (k : ℕ). isName (fieldOf k)) (c .before .if1 .taken)) (code d) (c .field .ensures)
+
+returns : tie.Need-returns
+returns c =
+    let d = c .before .before .before in
+    binds-one _ _ (d .digit .result) (code d) _ _ (c .before .field .ensures) (c .before .before .if1 .taken) (c .bit .ensures)
+
+returns-2 : tie.Need-returns-2
+returns-2 c = let d = c .before in binds-none _ _ (d .digit .result) (code d) (c .if1 .left)
+
+pub bound-at-spec : {M : Type 1} → statement M
+bound-at-spec = tie.close (tie.spec digit-requires field-requires bit-requires returns returns-2)

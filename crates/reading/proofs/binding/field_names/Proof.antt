@@ -1,0 +1,111 @@
+-- By the code of what the field holds. A child is below its parent, so the array reaches it; a name is below 32, so a word has its bit.
+use Prim.Native.Nat.{ℕ, _<_}
+use mathlib.Core.Bool.{true}
+use mathlib.Core.Path.{_≡_, refl, sym, ap, _∙_}
+use borrow.Author.Needs.{scaled-fits}
+use lib.Dec.{lit<}
+use Rattle.rules.specs.Kinds.{isChild}
+use Rattle.table.specs.Codes.{fieldOf}
+use Rattle.table.specs.Layout.{holdsAt}
+use Rattle.table.proofs.Fields.{code-read}
+use Rattle.reading.proofs.Counting.{field-asks, child-inside}
+use Rattle.reading.proofs.Occurs.{isName, name-inside, names-coded, names-none}
+use Rattle.reading.proofs.binding.field_names.Statement.{statement}
+use Rattle.reading.proofs.binding.field_names.Tie as tie
+
+-- What was lent, where the word of the field is known, and where its code is.
+abbrev start : tie.After-field → tie.Start
+start f = f .before .before .before
+
+abbrev lent : tie.After-digit → tie.Start
+lent d = start (d .before)
+
+code : (d : tie.After-digit) → fieldOf (d .digit .result) ≡ holdsAt (lent d .args .table .now) (lent d .args .n) (lent d .args .i)
+code d =
+    code-read (lent d .args .table .now) (lent d .args .n) (lent d .args .row) (lent d .args .i) (d .digit .result) (lent d .pre .2)
+    (d .digit .ensures)
+
+child : (d : tie.After-digit) → isChild (fieldOf (d .digit .result)) ≡ true → {m : ℕ} → m ≡ 512 → d .before .field .result < m
+child d e long = child-inside _ _ _ _ (lent d .pre .0) (ap isChild (sym (code d)) ∙ e) (d .before .field .ensures) long
+
+-- The body of a binder, and its range.
+body : (c : tie.At-match-keys1) → {m : ℕ} → m ≡ 512 → c .before .before .field .result < m
+body c = child (c .before) (ap (λ (k : ℕ). isChild (fieldOf k)) (c .match .keys1))
+
+range : (c : tie.At-match-keys2) → {m : ℕ} → m ≡ 512 → c .before .before .field .result < m
+range c = child (c .before) (ap (λ (k : ℕ). isChild (fieldOf k)) (c .match .keys2))
+
+field-requires : tie.Need-field-requires
+field-requires c κs = field-asks (c .before .before .pre .0)
+
+digit-requires : tie.Need-digit-requires
+digit-requires c κs = c .before .before .before .pre .0 .inside
+
+mul-without : tie.Need-mul-without
+mul-without c = scaled-fits _ 512 4 (body c refl) (lit< tt)
+
+shared-slice-read-without : tie.Need-shared-slice-read-without
+shared-slice-read-without c = body (c .before) (lent (c .before .before) .pre .1)
+
+without-requires : tie.Need-without-requires
+without-requires c κs = tt
+
+mul-result : tie.Need-mul-result
+mul-result c = scaled-fits _ 512 4 (range c refl) (lit< tt)
+
+shared-slice-read-result : tie.Need-shared-slice-read-result
+shared-slice-read-result c = range (c .before) (lent (c .before .before) .pre .1)
+
+bit-requires : tie.Need-bit-requires
+bit-requires c κs =
+    let d = c .before in
+    name-inside _ _ _ _ (d .digit .result) _ (lent d .pre .0) (ap (λ (k : ℕ). isName (fieldOf k)) (c .match .keys3)) (code d) (d .before .field .ensures)
+
+returns : tie.Need-returns
+returns c =
+    let m = c .before .before in
+    let d = m .before in
+    let s = lent d in
+    names-coded (s .args .table .now) (s .args .names .now) (s .args .here) _ _ (d .digit .result) _ (code d) (d .before .field .ensures)
+    _ 1 (m .match .keys1) (c .without .ensures)
+
+returns-2 : tie.Need-returns-2
+returns-2 c =
+    let m = c .before in
+    let d = m .before in
+    let s = lent d in
+    names-coded (s .args .table .now) (s .args .names .now) (s .args .here) _ _ (d .digit .result) _ (code d) (d .before .field .ensures)
+    _ 2 (m .match .keys2) (λ x. refl)
+
+returns-3 : tie.Need-returns-3
+returns-3 c =
+    let m = c .before in
+    let d = m .before in
+    let s = lent d in
+    names-coded (s .args .table .now) (s .args .names .now) (s .args .here) _ _ (d .digit .result) _ (code d) (d .before .field .ensures)
+    _ 3 (m .match .keys3) (c .bit .ensures)
+
+returns-4 : tie.Need-returns-4
+returns-4 c =
+    let d = c .before in
+    let s = lent d in
+    let none = c .match .rest in
+    names-none (s .args .table .now) (s .args .names .now) (s .args .here) _ _ (d .digit .result) _ (code d) (d .before .field .ensures)
+    (none .0 .0 .1) (none .0 .1) (none .1)
+
+pub field-names-spec : {M : Type 1} → statement M
+field-names-spec =
+    tie.close
+    (tie.spec
+    field-requires
+    digit-requires
+    mul-without
+    shared-slice-read-without
+    without-requires
+    mul-result
+    shared-slice-read-result
+    bit-requires
+    returns
+    returns-2
+    returns-3
+    returns-4)

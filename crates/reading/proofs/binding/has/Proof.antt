@@ -1,0 +1,18 @@
+-- Bit x is the last one of the word shifted by x.
+use borrow.Author.Needs.{needs}
+use Rattle.reading.specs.Words.{hasBit}
+use Rattle.reading.proofs.binding.has.Statement.{statement}
+use Rattle.reading.proofs.binding.has.Tie as tie
+
+cast-result : tie.Need-cast-result
+cast-result c = search needs
+
+shr-result : tie.Need-shr-result
+shr-result c = search needs
+
+returns : tie.Need-returns
+unfolding hasBit
+returns c = search needs
+
+pub has-spec : {M : Type 1} → statement M
+has-spec = tie.close (tie.spec cast-result shr-result returns)
