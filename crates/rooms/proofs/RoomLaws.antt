@@ -15,61 +15,50 @@ use Rattle.rules.specs.Kinds.{Field, unused, child, use-of, binder-of, setNumbe
 use Rattle.rules.specs.Tables.{Node, Table, tableOf, nodeAt, kindAt, fieldsIf, fieldWords, pick, held, nodeCount, nodesAt, lastNode}
 use Rattle.rules.specs.Reading.{upward, tallest, height, heightLimit}
 use Rattle.rules.specs.Readable.{Readable, KindRight, NodeRight, CategoryIs}
+use Rattle.operations.proofs.KindLaws.{code-of, kind-of}
+use Rattle.rules.specs.Types.{whole}
 use Rattle.laws.proofs.TableLaws.{nodes-length, upward-at, height-at, no-root, some-root}
 use Rattle.table.specs.Codes.{DigitOf, rowOf, fieldOf, codeOf, categoryCode}
 use Rattle.table.specs.Layout.{Fielded, fieldCodesAt, holdsAt, fieldAt}
 use Rattle.reading.specs.Arrays.{childAt}
-use Rattle.rooms.specs.Room.{operationRoom, widthOf, widthAt, roomOf, roomStep, room, conditionRoom}
-use Rattle.rooms.specs.Fields.{WidthBy, OwnBy, ChosenBy, ownOf, chosenOf, childRoom, operandWidth, Rooms}
+use Rattle.rooms.specs.Room.{operationRoom, leafRoom, widthOf, widthAt, roomOf, roomStep, room, conditionRoom}
+use Rattle.rooms.specs.Fields.{OwnBy, ChosenBy, ownOf, chosenOf, childRoom, operandWidth, Rooms}
 
--- The width of a kind is told by what its first field holds.
-abbrev pub fieldWidth : Field → ℕ
-fieldWidth unused = 0
-fieldWidth (child c) = 256
-fieldWidth use-of = 0
-fieldWidth binder-of = 256
-fieldWidth setNumber = 0
-fieldWidth elementNumber = 0
-fieldWidth anyWord = 0
-fieldWidth truthBit = 0
+-- The width by the kind's code.
+pub width-name : (k : ℕ) → k ≡ 20 → 0 ≡ widthOf (kindOf k)
+width-name k e = sym (ap widthOf (kind-of k (leaf identifier) e))
 
-leaf-width : (j : Leaf) → 0 ≡ fieldWidth (getD (fieldsIf (some (leaf j))) 0 unused)
-leaf-width identifier = refl
-leaf-width givenSet = refl
-leaf-width elementOf = refl
-leaf-width (literal n) = refl
-leaf-width truthConst = refl
-leaf-width emptySet = refl
-leaf-width boolSet = refl
+pub width-empty : (k : ℕ) → k ≡ 26 → 0 ≡ widthOf (kindOf k)
+width-empty k e = sym (ap widthOf (kind-of k (leaf emptySet) e))
 
-pub first-width : (o : Option Kind) → widthOf o ≡ fieldWidth (getD (fieldsIf o) 0 unused)
-first-width nothing = refl
-first-width (some (join j)) = refl
-first-width (some negation) = refl
-first-width (some (test j)) = refl
-first-width (some (quant j)) = refl
-first-width (some (leaf j)) = leaf-width j
-first-width (some boolOf) = refl
-first-width (some (one j)) = refl
-first-width (some (two j)) = refl
-first-width (some comprehension) = refl
+pub width-scalar : (k : ℕ) → 22 ≤ k → k < 25 → 0 ≡ widthOf (kindOf k)
+width-scalar k a b = go (ℕ-discrete k 22) (ℕ-discrete k 23)
+  where
+    go : Dec (k ≡ 22) → Dec (k ≡ 23) → 0 ≡ widthOf (kindOf k)
+    go (yes e) d = sym (ap widthOf (kind-of k (leaf elementOf) e))
+    go (no n) (yes e) = sym (ap widthOf (kind-of k (leaf (literal whole)) e))
+    go (no n) (no m) = sym (ap widthOf (kind-of k (leaf truthConst) (omega (arith, n, m))))
 
--- Codes of no child and no binder.
-pub no-width : (c : ℕ) → c ≢ 1 → c ≢ 2 → c ≢ 4 → 0 ≡ fieldWidth (fieldOf c)
-no-width zero p q r = refl
-no-width (suc zero) p q r = absurd (p refl)
-no-width (suc (suc zero)) p q r = absurd (q refl)
-no-width (suc (suc (suc zero))) p q r = refl
-no-width (suc (suc (suc (suc zero)))) p q r = absurd (r refl)
-no-width (suc (suc (suc (suc (suc zero))))) p q r = refl
-no-width (suc (suc (suc (suc (suc (suc zero)))))) p q r = refl
-no-width (suc (suc (suc (suc (suc (suc (suc zero))))))) p q r = refl
-no-width (suc (suc (suc (suc (suc (suc (suc (suc zero)))))))) p q r = refl
-no-width (suc (suc (suc (suc (suc (suc (suc (suc (suc c))))))))) p q r = refl
-
--- So by the code of what the first field holds.
-pub width-by : (row c : ℕ) → DigitOf row 0 c → (r : ℕ) → r ≡ fieldWidth (fieldOf c) → WidthBy row r
-width-by row c d r e o q = e ∙ ap fieldWidth (d o q) ∙ sym (first-width o)
+pub width-other : (k : ℕ) → k ≢ 20 → ((22 ≤ k) × (k < 25) → ⊥) → k ≢ 26 → 256 ≡ widthOf (kindOf k)
+width-other k n20 ns n26 = go (kindOf k) refl
+  where
+    go : (o : Option Kind) → kindOf k ≡ o → 256 ≡ widthOf o
+    go nothing e = refl
+    go (some (join j)) e = refl
+    go (some negation) e = refl
+    go (some (test j)) e = refl
+    go (some (quant j)) e = refl
+    go (some (leaf identifier)) e = absurd (n20 (code-of k (leaf identifier) e))
+    go (some (leaf givenSet)) e = refl
+    go (some (leaf elementOf)) e = let c : k ≡ 22 = code-of k (leaf elementOf) e in absurd (ns (omega arith, omega arith))
+    go (some (leaf (literal whole))) e = let c : k ≡ 23 = code-of k (leaf (literal whole)) e in absurd (ns (omega arith, omega arith))
+    go (some (leaf truthConst)) e = let c : k ≡ 24 = code-of k (leaf truthConst) e in absurd (ns (omega arith, omega arith))
+    go (some (leaf emptySet)) e = absurd (n26 (code-of k (leaf emptySet) e))
+    go (some (leaf boolSet)) e = refl
+    go (some boolOf) e = refl
+    go (some (one j)) e = refl
+    go (some (two j)) e = refl
+    go (some comprehension) e = refl
 
 -- A predicate builds nothing; an expression does where it is no leaf.
 pub own-none : (o : Option Kind) → categoryCode o ≢ 2 → 0 ≡ ownOf o
@@ -78,7 +67,7 @@ own-none (some (join j)) n = refl
 own-none (some negation) n = refl
 own-none (some (test j)) n = refl
 own-none (some (quant j)) n = refl
-own-none (some (leaf j)) n = refl
+own-none (some (leaf j)) n = absurd (n refl)
 own-none (some boolOf) n = absurd (n refl)
 own-none (some (one j)) n = absurd (n refl)
 own-none (some (two j)) n = absurd (n refl)
@@ -90,7 +79,13 @@ own-leaf (some (join j)) e = refl
 own-leaf (some negation) e = refl
 own-leaf (some (test j)) e = refl
 own-leaf (some (quant j)) e = refl
-own-leaf (some (leaf j)) e = refl
+own-leaf (some (leaf identifier)) e = refl
+own-leaf (some (leaf givenSet)) e = absurd (omega arith)
+own-leaf (some (leaf elementOf)) e = refl
+own-leaf (some (leaf (literal n))) e = refl
+own-leaf (some (leaf truthConst)) e = refl
+own-leaf (some (leaf emptySet)) e = refl
+own-leaf (some (leaf boolSet)) e = absurd (omega arith)
 own-leaf (some boolOf) e = absurd (omega arith)
 own-leaf (some (one j)) e = absurd (omega arith)
 own-leaf (some (two j)) e = absurd (omega arith)
@@ -102,7 +97,13 @@ own-some (some (join j)) e n = absurd (omega arith)
 own-some (some negation) e n = absurd (omega arith)
 own-some (some (test j)) e n = absurd (omega arith)
 own-some (some (quant j)) e n = absurd (omega arith)
-own-some (some (leaf j)) e n = absurd (n refl)
+own-some (some (leaf identifier)) e n = absurd (n refl)
+own-some (some (leaf givenSet)) e n = refl
+own-some (some (leaf elementOf)) e n = absurd (n refl)
+own-some (some (leaf (literal i))) e n = absurd (n refl)
+own-some (some (leaf truthConst)) e n = absurd (n refl)
+own-some (some (leaf emptySet)) e n = absurd (n refl)
+own-some (some (leaf boolSet)) e n = refl
 own-some (some boolOf) e n = refl
 own-some (some (one j)) e n = refl
 own-some (some (two j)) e n = refl
@@ -178,7 +179,13 @@ width-most (some (join j)) = omega arith
 width-most (some negation) = omega arith
 width-most (some (test j)) = omega arith
 width-most (some (quant j)) = omega arith
-width-most (some (leaf j)) = omega arith
+width-most (some (leaf identifier)) = omega arith
+width-most (some (leaf givenSet)) = omega arith
+width-most (some (leaf elementOf)) = omega arith
+width-most (some (leaf (literal n))) = omega arith
+width-most (some (leaf truthConst)) = omega arith
+width-most (some (leaf emptySet)) = omega arith
+width-most (some (leaf boolSet)) = omega arith
 width-most (some boolOf) = omega arith
 width-most (some (one j)) = omega arith
 width-most (some (two j)) = omega arith
@@ -190,7 +197,13 @@ own-most (some (join j)) = omega arith
 own-most (some negation) = omega arith
 own-most (some (test j)) = omega arith
 own-most (some (quant j)) = omega arith
-own-most (some (leaf j)) = omega arith
+own-most (some (leaf identifier)) = omega arith
+own-most (some (leaf givenSet)) = omega arith
+own-most (some (leaf elementOf)) = omega arith
+own-most (some (leaf (literal n))) = omega arith
+own-most (some (leaf truthConst)) = omega arith
+own-most (some (leaf emptySet)) = omega arith
+own-most (some (leaf boolSet)) = omega arith
 own-most (some boolOf) = omega arith
 own-most (some (one j)) = omega arith
 own-most (some (two j)) = omega arith
@@ -256,7 +269,7 @@ module _ (d : Node) (w r : ℕ → ℕ) where
   abbrev byFields : Option Kind → ℕ
   byFields o = max (roomAt o 0) (gave o 0 + max (roomAt o 1) (gave o 1 + max (chosenOf o + roomAt o 2) (ownOf o)))
 
-  leaf-fields : (j : Leaf) → byFields (some (leaf j)) ≡ 0
+  leaf-fields : (j : Leaf) → byFields (some (leaf j)) ≡ leafRoom j
   leaf-fields identifier = refl
   leaf-fields givenSet = refl
   leaf-fields elementOf = refl
@@ -278,28 +291,29 @@ module _ (d : Node) (w r : ℕ → ℕ) where
   by-fields (some comprehension) = omega arith
 
 -- What the code has found in the fields of a node is its room.
-module _ (bs : List ℕ) (n row category : ℕ) (r : ℕ → ℕ) (e : row ≡ fieldCodesAt bs n) (k : category ≡ categoryCode (kindAt (tableOf bs .nodes) n)) where
+module _ (bs : List ℕ) (n row category : ℕ) (e : row ≡ fieldCodesAt bs n) (k : category ≡ categoryCode (kindAt (tableOf bs .nodes) n)) where
   abbrev kind : Option Kind
   kind = kindAt (tableOf bs .nodes) n
-
-  own-is : {o : ℕ} → OwnBy category row o → o ≡ ownOf kind
-  own-is h = h kind k e
 
   chosen-is : {o : ℕ} → ChosenBy category row o → o ≡ chosenOf kind
   chosen-is h = h kind k e
 
-  pub own-few : {o : ℕ} → OwnBy category row o → o ≤ operationRoom
-  own-few h = omega (arith, own-is h, own-most kind)
-
   pub chosen-few : {o : ℕ} → ChosenBy category row o → o ≤ 256
   chosen-few h = omega (arith, chosen-is h, chosen-most kind)
 
-  pub found : {a b c first second picked own last most whole : ℕ} →
-      a ≡ childRoom r bs n 0 → b ≡ childRoom r bs n 1 → c ≡ childRoom r bs n 2 → first ≡ operandWidth bs n 0 → second ≡ operandWidth bs n 1 →
-      ChosenBy category row picked → OwnBy category row own → last ≡ max (picked + c) own → most ≡ max b (second + last) → whole ≡ max a (first + most) →
-      whole ≡ roomStep (tableOf bs .nodes) r n
-  found a b c first second picked own last most whole =
-      omega (arith, by-fields (nodeAt (tableOf bs .nodes) n) (widthAt (tableOf bs .nodes)) r kind, a, b, c, first, second, chosen-is picked, own-is own, last, most, whole)
+  module _ (width : ℕ) (w : width ≡ widthAt (tableOf bs .nodes) n) where
+    own-is : {o : ℕ} → OwnBy category width o → o ≡ ownOf kind
+    own-is h = h kind k w
+
+    pub own-few : {o : ℕ} → OwnBy category width o → o ≤ operationRoom
+    own-few h = omega (arith, own-is h, own-most kind)
+
+    pub found : (r : ℕ → ℕ) {a b c first second picked own last most all : ℕ} →
+        a ≡ childRoom r bs n 0 → b ≡ childRoom r bs n 1 → c ≡ childRoom r bs n 2 → first ≡ operandWidth bs n 0 → second ≡ operandWidth bs n 1 →
+        ChosenBy category row picked → OwnBy category width own → last ≡ max (picked + c) own → most ≡ max b (second + last) → all ≡ max a (first + most) →
+        all ≡ roomStep (tableOf bs .nodes) r n
+    found r a b c first second picked own last most all =
+        omega (arith, by-fields (nodeAt (tableOf bs .nodes) n) (widthAt (tableOf bs .nodes)) r kind, a, b, c, first, second, chosen-is picked, own-is own, last, most, all)
 
 -- What a node's room asks of the nodes below it alone.
 module _ (tb : Table) (n : ℕ) (w h k : ℕ → ℕ) (e : (m : ℕ) → m < n → h m ≡ k m) where
@@ -381,7 +395,13 @@ module _ (tb : Table) (n : ℕ) (h r : ℕ → ℕ) (tall : (m : ℕ) → 1 ≤ 
   level-low (some negation) c = omega (arith, condition _ (c .0))
   level-low (some (test j)) c = let p = operand _ (c .0) in let q = operand _ (c .1 .0) in omega (arith, p .0, p .1, q .0, q .1, q .2)
   level-low (some (quant j)) c = let p = operand _ (c .1 .0) in omega (arith, p .0, p .1, condition _ (c .1 .1 .0))
-  level-low (some (leaf j)) c = omega arith
+  level-low (some (leaf identifier)) c = omega arith
+  level-low (some (leaf givenSet)) c = omega arith
+  level-low (some (leaf elementOf)) c = omega arith
+  level-low (some (leaf (literal n))) c = omega arith
+  level-low (some (leaf truthConst)) c = omega arith
+  level-low (some (leaf emptySet)) c = omega arith
+  level-low (some (leaf boolSet)) c = omega arith
   level-low (some boolOf) c = omega (arith, condition _ (c .0), tall (nodeAt ns n .a))
   level-low (some (one j)) c = let p = operand _ (c .0) in omega (arith, p .0, p .1, p .2)
   level-low (some (two j)) c = let p = operand _ (c .0) in let q = operand _ (c .1 .0) in omega (arith, p .0, p .1, p .2, q .0, q .1)

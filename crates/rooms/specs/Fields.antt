@@ -10,11 +10,7 @@ use Rattle.rules.specs.Tables.{tableOf}
 use Rattle.table.specs.Codes.{rowOf, categoryCode}
 use Rattle.table.specs.Layout.{holdsAt, fieldAt}
 use Rattle.reading.specs.Arrays.{childAt}
-use Rattle.rooms.specs.Room.{operationRoom, widthOf, widthAt, room}
-
--- r is the width of each kind that has the row.
-abbrev pub WidthBy : ℕ → ℕ → Type 0
-WidthBy row r = (o : Option Kind) → row ≡ rowOf o → r ≡ widthOf o
+use Rattle.rooms.specs.Room.{operationRoom, leafRoom, widthOf, widthAt, room}
 
 -- What an operation builds above its operands, and what a comprehension has chosen before its body is evaluated.
 abbrev pub ownOf : Option Kind → ℕ
@@ -23,7 +19,7 @@ ownOf (some (join j)) = 0
 ownOf (some negation) = 0
 ownOf (some (test j)) = 0
 ownOf (some (quant j)) = 0
-ownOf (some (leaf j)) = 0
+ownOf (some (leaf j)) = leafRoom j
 ownOf (some boolOf) = operationRoom
 ownOf (some (one j)) = operationRoom
 ownOf (some (two j)) = operationRoom
@@ -42,7 +38,7 @@ chosenOf (some (two j)) = 0
 chosenOf (some comprehension) = 256
 
 abbrev pub OwnBy : ℕ → ℕ → ℕ → Type 0
-OwnBy category row r = (o : Option Kind) → category ≡ categoryCode o → row ≡ rowOf o → r ≡ ownOf o
+OwnBy category width r = (o : Option Kind) → category ≡ categoryCode o → width ≡ widthOf o → r ≡ ownOf o
 
 abbrev pub ChosenBy : ℕ → ℕ → ℕ → Type 0
 ChosenBy category row r = (o : Option Kind) → category ≡ categoryCode o → row ≡ rowOf o → r ≡ chosenOf o

@@ -2,12 +2,13 @@
 ghost use mathlib.Core.Path.{_≡_};
 ghost use Prim.Native.Nat.{_<_, max};
 ghost use lib.ListN.{length, getD};
+ghost use Rattle.rules.specs.Kinds.{kindOf};
 ghost use Rattle.rules.specs.Tables.{tableOf, nodeCount};
 ghost use Rattle.rules.specs.Readable.{Readable};
 ghost use Rattle.table.specs.Layout.{Fielded, fieldCodesAt};
 ghost use Rattle.reading.specs.Arrays.{FieldIn};
-ghost use Rattle.rooms.specs.Room.{roomStep, conditionRoom};
-ghost use Rattle.rooms.specs.Fields.{WidthBy, OwnBy, ChosenBy, childRoom, operandWidth};
+ghost use Rattle.rooms.specs.Room.{widthOf, roomStep, conditionRoom};
+ghost use Rattle.rooms.specs.Fields.{OwnBy, ChosenBy, childRoom, operandWidth};
 
 // The cells of a value at most, and what an operation may ask for above its operands.
 const VALUE: usize = 256;
@@ -15,7 +16,6 @@ const VALUE: usize = 256;
 const OPERATION: usize = 514;
 
 // What fields hold.
-const PREDICATE: u8 = 1;
 
 const EXPRESSION: u8 = 2;
 
@@ -33,31 +33,33 @@ fn larger(a: usize, b: usize) -> usize
     if a < b { b } else { a }
 }
 
-// What the value of an operand takes, by the row of its kind: that of a leaf, whose first field holds neither a child nor a binder, stands already.
-fn width(row: u16) -> usize
-    ensures { λ r. ⌜ WidthBy row r ⌝ }
+// What the value of an operand takes, by its kind's code: those of identifiers (20) and of constants of one cell stand already.
+fn width(kind: usize) -> usize
+    ensures { λ r. ⌜ r ≡ widthOf (kindOf kind) ⌝ }
 {
-    let first = table::digit(row, 0);
-    if first == PREDICATE {
+    if kind == 20 {
+        return 0;
+    }
+    if kind == 26 {
+        return 0;
+    }
+    if kind < 22 {
         return VALUE;
     }
-    if first == EXPRESSION {
-        return VALUE;
+    if kind < 25 {
+        return 0;
     }
-    if first == BINDER {
-        return VALUE;
-    }
-    0
+    VALUE
 }
 
-// What a node of the category builds above its operands.
-fn own(category: u8, row: u16) -> usize
-    ensures { λ r. ⌜ OwnBy category row r ⌝ }
+// What a node of the category, whose own value takes the width, builds above its operands.
+fn own(category: u8, width: usize) -> usize
+    ensures { λ r. ⌜ OwnBy category width r ⌝ }
 {
     if category != EXPRESSION {
         return 0;
     }
-    if width(row) == 0 {
+    if width == 0 {
         return 0;
     }
     OPERATION
@@ -93,7 +95,7 @@ fn operand_width(table: &[u8], at: usize, n: usize, row: u16, i: usize) -> usize
     ensures { λ r. ⌜ r ≡ operandWidth (now (table .entry)) n i ⌝ }
 {
     if table::digit(row, i) == EXPRESSION {
-        return width(table::node_row(table, at, table::field(table, at, n, i)));
+        return width(table::kind(table, at, table::field(table, at, n, i)));
     }
     0
 }
@@ -104,13 +106,14 @@ fn node_room(table: &[u8], at: usize, n: usize, rooms: &[u16]) -> usize
     ensures { λ r. ⌜ r ≡ roomStep (tableOf (now (table .entry)) .nodes) (λ m. getD (now (rooms .entry)) m 0) n ⌝ }
 {
     let row = table::node_row(table, at, n);
-    let category = table::category(table::kind(table, at, n));
+    let kind = table::kind(table, at, n);
+    let category = table::category(kind);
     let a = child_room(table, at, n, row, 0, rooms);
     let b = child_room(table, at, n, row, 1, rooms);
     let c = child_room(table, at, n, row, 2, rooms);
     let first = operand_width(table, at, n, row, 0);
     let second = operand_width(table, at, n, row, 1);
-    let last = larger(chosen(category, row) + c, own(category, row));
+    let last = larger(chosen(category, row) + c, own(category, width(kind)));
     larger(a, first + larger(b, second + last))
 }
 

@@ -1,8 +1,11 @@
--- `operand_width`: a field with the code of an expression holds one, whose row tells its width. Landmark: the field is known to hold one.
-use Prim.Native.Nat.{_<_}
+-- `operand_width`: a field with the code of an expression holds one, whose kind tells its width. Landmark: the field is known to hold one.
+use Prim.Native.Nat.{ℕ, _<_}
 use native.Mathlib.Omega.{arith}
 use borrow.Author.Needs.{needs}
-use Rattle.rules.specs.Tables.{tableOf, kindAt, nodeCount}
+use mathlib.Core.Path.{ap, _∙_}
+use Rattle.rules.specs.Kinds.{kindOf}
+use Rattle.rules.specs.Tables.{nodeCount}
+use Rattle.rooms.specs.Room.{widthOf}
 use Rattle.reading.proofs.Counting.{child-at, field-asks, node-in}
 use Rattle.rooms.proofs.RoomLaws.{operand-child, operand-wide, operand-none}
 use Rattle.rooms.proofs.operand_width.Statement.{statement}
@@ -27,8 +30,8 @@ digit-requires c κs = c .before .pre .0 .inside
 field-requires : tie.Need-field-requires
 field-requires c κs = field-asks (start (c .before) .pre .0)
 
-node-row-requires : tie.Need-node-row-requires
-node-row-requires c κs = node-in (start (known c) .pre .0 .fielded) (below c)
+kind-requires : tie.Need-kind-requires
+kind-requires c κs = node-in (start (known c) .pre .0 .fielded) (below c)
 
 width-requires : tie.Need-width-requires
 width-requires c κs = search needs
@@ -38,8 +41,9 @@ returns c =
     let f = c .before .before in
     let d = known f in
     let s = start d in
+    let k = c .before .kind .ensures in
     operand-wide (s .args .table .now) (s .args .n) (s .args .i) (s .args .row) (d .digit .result) (s .pre .1) (d .digit .ensures) (f .before .if1 .taken)
-    (f .field .result) (c .width .result) (f .field .ensures) (c .width .ensures (kindAt (tableOf (s .args .table .now) .nodes) (f .field .result)) (c .before .node-row .ensures))
+    (f .field .result) (c .width .result) (f .field .ensures) (c .width .ensures ∙ ap (λ (x : ℕ). widthOf (kindOf x)) k)
 
 returns-2 : tie.Need-returns-2
 returns-2 c =
@@ -50,4 +54,4 @@ returns-2 c =
 pub operand-width-spec : {M : Type 1} → statement M
 operand-width-spec =
     tie.close
-    (tie.spec digit-requires field-requires node-row-requires width-requires returns returns-2)
+    (tie.spec digit-requires field-requires kind-requires width-requires returns returns-2)
