@@ -50,7 +50,7 @@ module _ {k a b size : ℕ} {s : List ℕ} {top : ℕ} (p : LeafReady k a b size
   leaf-fits j e = subst (λ (i : Leaf). LeafFits i a b size) (sym (same-leaf k j (p .kind) e (p .is))) (p .fits)
 
 -- The leaves of one cell are those whose code is none of the sets'.
-scalar-code : (j : Leaf) (k a b size : ℕ) → kindOf k ≡ some (leaf j) → LeafFits j a b size → k ≢ 21 → k ≢ 26 → k ≢ 42 →
+pub scalar-code : (j : Leaf) (k a b size : ℕ) → kindOf k ≡ some (leaf j) → LeafFits j a b size → k ≢ 21 → k ≢ 26 → k ≢ 42 →
     (gs : List ℕ) (ρ : Env) → (code (leafValue gs j a b ρ) ≡ scalarCell k a b ∷ []) × (weight (leafValue gs j a b ρ) ≡ 1)
 unfolding leafValue code
 scalar-code identifier k a b size e f n21 n26 n42 gs ρ = absurd f

@@ -3,7 +3,7 @@ ghost use mathlib.Core.Path.{_≡_};
 ghost use Rattle.operations.specs.Outcomes.{ended, OneReady, OneOf, TwoReady, TwoOf, TestOf, LeafReady, LeafDone};
 
 mod double;
-mod leaves;
+pub mod leaves;
 mod single;
 mod tests;
 

@@ -1,0 +1,2 @@
+-- Laws of the constants in the arena.
+pub mod ConstantLaws

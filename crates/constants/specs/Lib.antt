@@ -1,0 +1,2 @@
+-- The constants of a table in the arena.
+pub mod Constants

@@ -1,0 +1,46 @@
+// The constants of one cell of a readable table, put into the arena before it is evaluated.
+ghost use mathlib.Core.Path.{_≡_};
+ghost use Prim.Native.Nat.{_≤_, _<_};
+ghost use lib.ListN.{length};
+ghost use Rattle.rules.specs.Tables.{nodeCount, nodesAt};
+ghost use Rattle.rules.specs.Readable.{Readable};
+ghost use Rattle.constants.specs.Constants.{CellOf, Constants, OnlyBelow};
+
+// The cell of an empty set.
+const EMPTY: u64 = 21474836480;
+
+// The cell of the constant at node n: kinds 22 to 24 and 26. Another node has 0.
+fn constant_cell(table: &[u8], at: usize, n: usize) -> u64
+    requires { ⌜ Readable (now table) × (at ≡ nodesAt (now table)) × (n < nodeCount (now table)) ⌝ }
+    ensures { λ r. ⌜ CellOf (now (table .entry)) n r ⌝ }
+{
+    let kind = table::kind(table, at, n);
+    if kind == 26 {
+        return EMPTY;
+    }
+    if kind < 22 {
+        return 0;
+    }
+    if kind > 24 {
+        return 0;
+    }
+    let a = table::field(table, at, n, 0);
+    let b = table::field(table, at, n, 1);
+    operations::leaves::scalar_cell(kind, a as u64, b as u64)
+}
+
+// Puts each constant into the cell of its node.
+pub fn put_constants(table: &[u8], s: &mut [u64])
+    requires { ⌜ Readable (now table) × (nodeCount (now table) ≤ length (now s)) ⌝ }
+    ensures { λ _. ⌜
+        Constants (now (table .entry)) (nodeCount (now (table .entry))) (now (s .exit)) × OnlyBelow (nodeCount (now (table .entry))) (now (s .entry)) (now (s .exit))
+        ⌝ }
+{
+    let at = table::nodes_offset(table);
+    let count = table::nodes(table);
+    let mut n: usize = 0;
+    while n < count {
+        s[n] = constant_cell(table, at, n);
+        n += 1;
+    }
+}

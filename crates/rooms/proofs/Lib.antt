@@ -1,0 +1,2 @@
+-- Laws of the cells that a condition takes.
+pub mod RoomLaws

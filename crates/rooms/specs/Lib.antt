@@ -1,0 +1,3 @@
+-- The cells that a condition takes in the arena.
+pub mod Room
+pub mod Fields
