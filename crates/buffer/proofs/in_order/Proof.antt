@@ -4,7 +4,7 @@ use native.Mathlib.Omega.{arith}
 use lib.ListN.{length, getD}
 use Rattle.rules.specs.Values.{Values}
 use Rattle.arena.specs.Code.{cellSize}
-use Rattle.fitting.proofs.Cells.{some-inside}
+use Rattle.arena.proofs.ValueParts.{some-inside}
 use Rattle.buffer.specs.Ordered.{MembersAt}
 use Rattle.buffer.proofs.Ordering.{Checked, checked-start, checked-at, checked-end}
 use Rattle.buffer.proofs.Ordering.{checked-some, checked-rest, checked-cell, checked-less, checked-more}

@@ -2,7 +2,7 @@
 use Prim.Native.Nat.{_<_}
 use native.Mathlib.Omega.{arith}
 use lib.ListN.{length}
-use Rattle.fitting.proofs.Cells.{some-inside}
+use Rattle.arena.proofs.ValueParts.{some-inside}
 use Rattle.buffer.proofs.Sharing.{prefix-none, row-some}
 use Rattle.buffer.proofs.share.Statement.{statement}
 use Rattle.buffer.proofs.share.Tie as tie
