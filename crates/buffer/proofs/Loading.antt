@@ -21,8 +21,8 @@ use Rattle.arena.proofs.CodeLaws.{length-code}
 use Rattle.arena.proofs.Standing.{same-refl, stands-frame}
 use Rattle.arena.proofs.ValueParts.{ends-at}
 use Rattle.buffer.specs.Buffer.{scalarsGood, allGood, cellsAtMost, ReadAt, Unread}
-use Rattle.buffer.specs.Ordered.{inOrder, ordered, orderedAll, WholeValue, Ordered}
-use Rattle.buffer.specs.Shared.{TypedHere}
+use Rattle.buffer.specs.Ordered.{inOrder, ordered, orderedAll, WholeValue}
+use Rattle.buffer.specs.Shared.{Fine}
 use Rattle.buffer.specs.Loaded.{GoodRead, Entered, Room, Bound}
 use Rattle.rules.proofs.Basics.{and-of}
 
@@ -91,28 +91,26 @@ module _ {gs bs : List ℕ} {at : ℕ} {s : List ℕ} {top next end : ℕ} (h : 
       let q : _≡_ {A = Value × List ℕ} (v, rest) (h .first, drop next bs) = cc in
       ap (λ (z : Value × List ℕ). z .0) q
 
-  pub read-unordered : Ordered s top false → (v : Value) (rest : List ℕ) → value (drop at bs) ≡ some (v, rest) → T (good gs v) → ⊥
-  read-unordered o v rest e g =
+  pub read-bad : Fine s top false → (v : Value) (rest : List ℕ) → value (drop at bs) ≡ some (v, rest) → T (good gs v) → ⊥
+  read-bad o v rest e g =
       let f = same-read v rest e in
-      let t : T (ordered (h .first)) = subst (λ (w : Value). T (ordered w)) f (of-well gs v (good-wellFormed gs v g) .1) in
-      subst T (sym (o (h .first) (h .stands) (h .fits))) t
+      let a : T (ordered (h .first)) = subst (λ (w : Value). T (ordered w)) f (of-well gs v (good-wellFormed gs v g) .1) in
+      let b : T (typed (h .first)) = subst (λ (w : Value). T (typed w)) f (good-typed gs v g) in
+      subst T (sym (o (h .first) (h .stands) (h .fits))) (and-of (ordered (h .first)) (typed (h .first)) a b)
 
-  pub read-untyped : TypedHere s top false → (v : Value) (rest : List ℕ) → value (drop at bs) ≡ some (v, rest) → T (good gs v) → ⊥
-  read-untyped o v rest e g =
-      let f = same-read v rest e in
-      let t : T (typed (h .first)) = subst (λ (w : Value). T (typed w)) f (good-typed gs v g) in
-      subst T (sym (o (h .first) (h .stands) (h .fits))) t
-
-  pub read-good : Ordered s top true → TypedHere s top true → GoodRead gs bs at s top next end
-  read-good o t = record {
-    first = h .first;
-    reads = h .reads;
-    good = good-of gs (h .first) (h .good) (subst T (o (h .first) (h .stands) (h .fits)) tt) (h .light) (subst T (t (h .first) (h .stands) (h .fits)) tt);
-    below = record { stands = h .stands; below = omega (arith, h .ends); fits = h .fits; light = h .light };
-    grows = omega (arith, h .ends);
-    near = omega (arith, h .ends, h .light, h .held);
-    spent = omega (arith, h .ends, h .spent);
-  }
+  pub read-good : Fine s top true → GoodRead gs bs at s top next end
+  read-good o =
+      let t = subst T (o (h .first) (h .stands) (h .fits)) tt in
+      record {
+        first = h .first;
+        reads = h .reads;
+        good = good-of gs (h .first) (h .good) (and-left (ordered (h .first)) (typed (h .first)) t) (h .light)
+            (and-right (ordered (h .first)) (typed (h .first)) t);
+        below = record { stands = h .stands; below = omega (arith, h .ends); fits = h .fits; light = h .light };
+        grows = omega (arith, h .ends);
+        near = omega (arith, h .ends, h .light, h .held);
+        spent = omega (arith, h .ends, h .spent);
+      }
 
 pub unread-bad : (gs bs : List ℕ) (at : ℕ) → Unread gs bs at → (v : Value) (rest : List ℕ) → value (drop at bs) ≡ some (v, rest) → T (good gs v) → ⊥
 unread-bad gs bs at u v rest e g = u v rest e (good-weight gs v g) (of-well gs v (good-wellFormed gs v g) .0)

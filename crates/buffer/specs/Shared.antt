@@ -1,12 +1,13 @@
 -- Members that share a type, in every set of a value.
-use Prim.Native.Nat.{ℕ, _+_, _*_, _/_}
-use mathlib.Core.Bool.{Bool, cond}
+use Prim.Native.Nat.{ℕ, _+_, _*_, _/_, _%_}
+use mathlib.Core.Bool.{Bool, _&&_, cond}
 use mathlib.Core.List.{List}
 use mathlib.Core.Path.{_≡_}
-use lib.Dec.{T, eqb}
+use lib.Dec.{T, eqb, leb}
 use Rattle.rules.specs.Values.{Value, Values, none, _▸_, count}
 use Rattle.rules.specs.Fits.{typesOf, sharedTypes, inhabited, typed}
 use Rattle.arena.specs.Code.{ValueAt, ValuesAt, CellsFit, AllFit}
+use Rattle.buffer.specs.Ordered.{ordered}
 
 -- Each value has a type.
 abbrev pub AllTyped : Values → Type 0
@@ -37,3 +38,11 @@ mostAlike x = cond (eqb (x / 4294967296) 3) (x / 256 * 256 + 255) (x / 429496729
 -- r says whether the value at `at` has a type.
 abbrev pub TypedHere : List ℕ → ℕ → Bool → Type 0
 TypedHere s at r = (v : Value) → ValueAt s at v → CellsFit v → r ≡ typed v
+
+-- A value of n cells, the first of which is x, is a set with as many members as cells behind the first, so one cell each.
+abbrev pub isFlat : ℕ → ℕ → Bool
+isFlat x n = leb 21474836480 x && eqb (x % 4294967296 + 1) n
+
+-- r says whether the sets in the value at `at` are in order and it has a type.
+abbrev pub Fine : List ℕ → ℕ → Bool → Type 0
+Fine s at r = (v : Value) → ValueAt s at v → CellsFit v → r ≡ (ordered v && typed v)

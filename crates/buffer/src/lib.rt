@@ -7,7 +7,7 @@ ghost use Rattle.rules.specs.Tables.{wordAt, tableOf};
 ghost use Rattle.buffer.specs.Buffer.{stepAt, codeOf, cellGood, cellsAtMost, StepTakes, Places};
 ghost use Rattle.arena.specs.Code.{Same};
 ghost use Rattle.buffer.specs.Ordered.{SomeMembersAt, InOrder, WholeValue, Ordered};
-ghost use Rattle.buffer.specs.Shared.{SomeTypedRow, Shares, leastAlike, mostAlike, TypedHere};
+ghost use Rattle.buffer.specs.Shared.{SomeTypedRow, Shares, leastAlike, mostAlike, TypedHere, isFlat, Fine};
 ghost use Rattle.buffer.specs.Loaded.{ReadsGood, Enters, Room, Loads, LoadReady};
 
 mod words;
@@ -352,6 +352,36 @@ pub fn well_typed(s: &[u64], at: usize, end: usize) -> bool
     true
 }
 
+// Whether a value of n cells, the first of which is x, is a set whose members are one cell each.
+fn flat(x: u64, n: usize) -> bool
+    ensures { λ r. ⌜ r ≡ isFlat x n ⌝ }
+{
+    if x < SET {
+        return false;
+    }
+    arena::low(x) as usize + 1 == n
+}
+
+// Whether the sets in the value from `at` to `end` are in order and it has a type.
+fn fine(s: &[u64], at: usize, end: usize) -> bool
+    requires { ⌜ WholeValue (now s) at end ⌝ }
+    ensures { λ r. ⌜ Fine (now (s .entry)) at r ⌝ }
+{
+    let x = s[at];
+    // In a set whose members are one cell each there is no other set to be tested.
+    if flat(x, end - at) {
+        let n = arena::low(x);
+        if !in_order(s, at + 1, n) {
+            return false;
+        }
+        return share(s, at + 1, n);
+    }
+    if !rises(s, at, end) {
+        return false;
+    }
+    well_typed(s, at, end)
+}
+
 // Reads one value without the faults that refusal 14 names.
 fn read_value(from: Cursor, values: &[u8], sizes: &[u32], s: &mut [u64], top: usize) -> Placed
     requires { ⌜ top + cellsAtMost 1 (length (now values) - from .at) ≤ length (now s) ⌝ }
@@ -360,10 +390,7 @@ fn read_value(from: Cursor, values: &[u8], sizes: &[u32], s: &mut [u64], top: us
     let r = copy_value(from, values, sizes, s, top);
     match r {
         Placed::At(next, end) => {
-            if !rises(s, top, end) {
-                return Placed::Fault;
-            }
-            if !well_typed(s, top, end) {
+            if !fine(s, top, end) {
                 return Placed::Fault;
             }
             Placed::At(next, end)

@@ -1,4 +1,4 @@
--- `read_value`: the value that has been copied is good where its sets are ordered and it has a type.
+-- `read_value`: the value that has been copied is good where its sets are in order and it has a type.
 use mathlib.Core.List.{List}
 use mathlib.Core.Path.{sym, subst, _∙_}
 use Prim.Native.Nat.{ℕ}
@@ -6,7 +6,7 @@ use borrow.Author.Needs.{needs}
 use borrow.Author.Tests.{not-true, not-false}
 use Rattle.buffer.specs.declared.Placed.{Placed}
 use Rattle.buffer.specs.Buffer.{ReadAt, Places}
-use Rattle.buffer.proofs.Loading.{read-whole, read-unordered, read-untyped, read-good, unread-bad}
+use Rattle.buffer.proofs.Loading.{read-whole, read-bad, read-good, unread-bad}
 use Rattle.buffer.proofs.read_value.Statement.{statement}
 use Rattle.buffer.proofs.read_value.Tie as tie
 
@@ -21,7 +21,7 @@ arena k = k .copy-value .last .1 .1 .1 .0
 abbrev Copies : tie.After-copy-value → Placed → Type 0
 Copies k q = let a = lent k .args in Places (a .sizes .now) (a .values .now) (a .from .at) (arena k) (a .top) q
 
--- A value has been copied; it is ordered.
+-- A value has been copied.
 abbrev copied : tie.After-r → tie.After-copy-value
 copied m = m .before .before .before .before
 
@@ -30,17 +30,14 @@ value : (m : tie.After-r) →
     (lent (copied m) .args .top) (m .r .given .0 .0 .at) (m .r .given .0 .1 .0)
 value m = let k = copied m in subst (Copies k) (m .r .given .1) (k .copy-value .ensures .1)
 
-abbrev ordered : tie.Else1 → tie.After-r
-ordered o = o .before .before .before .before
-
 copy-value-requires : tie.Need-copy-value-requires
 copy-value-requires c κs = search needs
 
 enum-known-r : tie.Need-enum-known-r
 enum-known-r c = search needs
 
-rises-requires : tie.Need-rises-requires
-rises-requires c κs = read-whole (value (c .before .before))
+fine-requires : tie.Need-fine-requires
+fine-requires c κs = read-whole (value (c .before .before))
 
 same-length : tie.Need-same-length
 same-length c = search needs
@@ -50,42 +47,28 @@ returns c =
     let e = c .before .before in
     let m = e .before .before in (
       copied m .copy-value .ensures .0,
-      read-unordered (value m) (λ v h f. sym (not-true _ (c .if1 .taken)) ∙ c .before .rises .ensures v h f),
+      read-bad (value m) (λ v h f. sym (not-true _ (c .if1 .taken)) ∙ c .before .fine .ensures v h f),
     )
 
-well-typed-requires : tie.Need-well-typed-requires
-well-typed-requires c κs = read-whole (value (ordered (c .before)))
+enum-told : tie.Need-enum-told
+enum-told c = search needs
 
 same-length-2 : tie.Need-same-length-2
 same-length-2 c = search needs
 
 returns-2 : tie.Need-returns-2
 returns-2 c =
-    let m = ordered (c .before .before .before) in (
+    let e = c .before .before in
+    let m = e .before .before in (
       copied m .copy-value .ensures .0,
-      read-untyped (value m) (λ v h f. sym (not-true _ (c .if2 .taken)) ∙ c .before .well-typed .ensures v h f),
+      read-good (value m) (λ v h f. sym (not-false _ (c .if1 .left)) ∙ c .before .fine .ensures v h f),
     )
-
-enum-told : tie.Need-enum-told
-enum-told c = search needs
 
 same-length-3 : tie.Need-same-length-3
 same-length-3 c = search needs
 
 returns-3 : tie.Need-returns-3
 returns-3 c =
-    let o = c .before .before .before in
-    let m = ordered o in (
-      copied m .copy-value .ensures .0,
-      read-good (value m) (λ v h f. sym (not-false _ (o .if1 .left)) ∙ o .before .rises .ensures v h f)
-          (λ v h f. sym (not-false _ (c .if2 .left)) ∙ c .before .well-typed .ensures v h f),
-    )
-
-same-length-4 : tie.Need-same-length-4
-same-length-4 c = search needs
-
-returns-4 : tie.Need-returns-4
-returns-4 c =
     let m = c .before in
     let k = m .before .before .before in
     let a = lent k .args in (
@@ -99,14 +82,11 @@ read-value-spec =
     (tie.spec
     copy-value-requires
     enum-known-r
-    rises-requires
+    fine-requires
     same-length
     returns
-    well-typed-requires
+    enum-told
     same-length-2
     returns-2
-    enum-told
     same-length-3
-    returns-3
-    same-length-4
-    returns-4)
+    returns-3)
