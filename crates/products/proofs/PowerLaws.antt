@@ -156,8 +156,8 @@ module _ (s : List ℕ) (a top e n p : ℕ) (sized : Sized s a e n p) (vs : Valu
 
     power-picks : picked p masks (members vs) ≡ rising (map setOf (subsets (members vs)))
     power-picks =
-        ap (λ (k : ℕ). picked k masks (members vs)) (sized .is ∙ ap subsetCount (sym power-members)) ∙ power-picked (members vs) (omega (arith, power-members, power-few))
-        ∙ sym power-is
+        ap (λ (k : ℕ). picked k masks (members vs)) (sized .is ∙ ap subsetCount (sym power-members))
+        ∙ power-picked (members vs) (omega (arith, power-members, power-few)) ∙ sym power-is
 
     power-weight : weights (values (picked p masks (members vs))) ≡ p + p / 2 * (e - a - 1)
     power-weight = ap (λ (l : List Value). weights (values l)) (power-picks ∙ power-is) ∙ few-weigh power-few
@@ -182,7 +182,8 @@ module _ (s : List ℕ) (a top e n p : ℕ) (sized : Sized s a e n p) (vs : Valu
     power-made room at m s′ r put =
         made-set s top s′ r p (values (rising (map setOf (subsets (members vs)))))
         (subst (λ (l : List Value). Appended s (top + 1) s′ r (codes (values l))) power-picks (put vs (power-marked at m)))
-        (sym (ap (λ (l : List Value). count (values l)) power-is ∙ power-count (members vs) (omega (arith, power-members, power-few)) ∙ ap subsetCount power-members ∙ sym (sized .is)))
+        (sized .is ∙ sym (ap (λ (l : List Value). count (values l)) power-is ∙ power-count (members vs) (omega (arith, power-members, power-few))
+        ∙ ap subsetCount power-members))
         (omega arith) (omega (arith, ap (λ (l : List Value). weights (values l)) power-picks, power-weight))
 
 -- half of at most 64, times at most 255

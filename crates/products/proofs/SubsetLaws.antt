@@ -105,14 +105,19 @@ module _ (s₀ : List ℕ) (top : ℕ) (s : List ℕ) (o : Out) (whole : List Va
   pub putting-near : (rest : List Value) → Putting s₀ top s o whole rest → (top < o .to) × (o .to + weights (values rest) ≤ top + 256) × (o .count ≤ 255)
   putting-near rest h = (
     omega (arith, h .grown .appended .ends),
-    omega (arith, grown-left s₀ (top + 1) s (o .to) (codes (values whole)) (codes (values rest)) (h .grown), length-codes (values whole), length-codes (values rest)),
+    omega (
+      arith,
+      grown-left s₀ (top + 1) s (o .to) (codes (values whole)) (codes (values rest)) (h .grown),
+      length-codes (values whole),
+      length-codes (values rest),
+    ),
     omega (arith, h .counted, count-weights (values whole)),
   )
 
   pub putting-end : Putting s₀ top s o whole [] → top + 257 ≤ length s₀ → Made top s₀ (setAt s top (21474836480 + o .count)) (setOf whole) (o .to)
   putting-end h g =
       made-set s₀ top s (o .to) (o .count) (values whole)
-      (grown-end s₀ (top + 1) s (o .to) (codes (values whole)) (subst (λ (c : List ℕ). Grown s₀ (top + 1) s (o .to) (codes (values whole)) c) no-codes (h .grown)))
+      (grown-end s₀ (top + 1) s (o .to) (codes (values whole)) (rw no-codes at (h .grown)))
       (omega (arith, h .counted)) (omega arith) (omega arith)
 
   module _ (w : Value) (rest : List Value) (h : Putting s₀ top s o whole (w ∷ rest)) (k p e : ℕ) (value : ValueBelow s k p w) (ends : e ≡ p + weight w) where
