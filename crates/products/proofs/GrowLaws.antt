@@ -128,7 +128,8 @@ single-heavy s a top e x l v h = made-heavy s top (setOf (v ∷ [])) (omega (ari
 
 -- `pair_at`
 pub pair-put : (s : List ℕ) (a n b m to : ℕ) (s₁ s₂ : List ℕ) → PairPre s a n b m to → Copied (setAt s to 17179869184) a n (to + 1) s₁ →
-    Copied s₁ b m (to + 1 + n) s₂ → (v w : Value) → ValueAt s a v → ValueAt s b w → n ≡ weight v → m ≡ weight w → Appended s to s₂ (to + 1 + n + m) (code (pair v w))
+    Copied s₁ b m (to + 1 + n) s₂ → (v w : Value) → ValueAt s a v → ValueAt s b w → n ≡ weight v → m ≡ weight w →
+    Appended s to s₂ (to + 1 + n + m) (code (pair v w))
 unfolding code
 pair-put s a n b m to s₁ s₂ p c d v w h k e f =
     let s₀ = setAt s to 17179869184 in

@@ -5,5 +5,6 @@ pub mod WalkLaws
 pub mod PartLaws
 pub mod InsertLaws
 pub mod TakeLaws
+pub mod SubsetLaws
 pub mod PowerOrder
 pub mod PowerLaws

@@ -6,7 +6,7 @@ use mathlib.Core.Logic.{_⊎_}
 use mathlib.Core.Path.{_≡_}
 use lib.Dec.{eqb, ltb}
 use lib.ListN.{length, getD}
-use Rattle.rules.specs.Values.{Value, Values, members, values, weights}
+use Rattle.rules.specs.Values.{Value, Values, none, _▸_, members, values, weight, weights}
 use Rattle.rules.specs.Operations.{setOf, rising, subsets, keptValue}
 use Rattle.arena.specs.Code.{code, codes, SetBelow, Made, Front}
 use Rattle.products.specs.Growing.{Appended}
@@ -43,31 +43,49 @@ picked p (m ∷ ms) vs = keptValue (ltb m p) (setOf (pick m vs)) (picked p ms vs
 abbrev pub AddedIf : Bool → List ℕ → ℕ → ℕ → Out → List ℕ → Out → Type 0
 AddedIf keep s from end o s′ r = ((keep ≡ true) × Added s from end o s′ r) ⊎ ((keep ≡ false) × (s′ ≡ s) × (r ≡ o))
 
--- n members from a on stand below `to`, where there is room for a subset.
-pub record SubsetPre (s : List ℕ) (a n to : ℕ) : Type 0 where
+-- The members vs stand one behind the other from i on; from its place j on the list `at` says where each begins, and where the last one ends.
+abbrev pub Begin : List ℕ → ℕ → ℕ → Values → Type 0
+Begin at j i none = getD at j 0 ≡ i
+Begin at j i (v ▸ vs) = (getD at j 0 ≡ i) × Begin at (j + 1) (i + weight v) vs
+
+pub record MarkPre (s : List ℕ) (a n : ℕ) : Type 0 where
   pub top : ℕ
   pub whole : Values
   pub front : Front s top a n whole
+  pub few : n ≤ 5
+
+abbrev pub Marks : List ℕ → ℕ → ℕ → List ℕ → Type 0
+Marks s a n at = (top : ℕ) (vs : Values) → Front s top a n vs → Begin at 0 a vs
+
+-- n members stand at the places in `at`, below `to`.
+pub record Marked (s at : List ℕ) (n to : ℕ) (vs : Values) : Type 0 where
+  pub top : ℕ
+  pub from : ℕ
+  pub front : Front s top from n vs
+  pub begin : Begin at 0 from vs
   pub behind : top ≤ to
+
+-- At most five, and room for a subset.
+pub record SubsetPre (s at : List ℕ) (n to : ℕ) : Type 0 where
+  pub whole : Values
+  pub marked : Marked s at n to whole
+  pub few : n ≤ 5
   pub room : to + 257 ≤ length s
 
-abbrev pub Subsets : List ℕ → ℕ → ℕ → ℕ → ℕ → List ℕ → ℕ → Type 0
-Subsets s a n mask to s′ r =
-    (top : ℕ) (vs : Values) → Front s top a n vs → top ≤ to → Appended s to s′ r (code (setOf (pick mask (members vs))))
+abbrev pub Subsets : List ℕ → List ℕ → ℕ → ℕ → ℕ → List ℕ → ℕ → Type 0
+Subsets s at n mask to s′ r = (vs : Values) → Marked s at n to vs → Appended s to s′ r (code (setOf (pick mask (members vs))))
 
-abbrev pub SubsetIf : List ℕ → ℕ → ℕ → ℕ → ℕ → ℕ → List ℕ → ℕ → Type 0
-SubsetIf s a n mask p to s′ r =
-    (top : ℕ) (vs : Values) → Front s top a n vs → top ≤ to → Appended s to s′ r (codes (values (keptValue (ltb mask p) (setOf (pick mask (members vs))) [])))
+abbrev pub SubsetIf : List ℕ → List ℕ → ℕ → ℕ → ℕ → ℕ → List ℕ → ℕ → Type 0
+SubsetIf s at n mask p to s′ r =
+    (vs : Values) → Marked s at n to vs → Appended s to s′ r (codes (values (keptValue (ltb mask p) (setOf (pick mask (members vs))) [])))
 
 -- All subsets for the masks below p.
-pub record AllPre (s : List ℕ) (a n p to : ℕ) : Type 0 where
-  pub top : ℕ
+pub record AllPre (s at : List ℕ) (n p to : ℕ) : Type 0 where
   pub whole : Values
-  pub front : Front s top a n whole
-  pub behind : top ≤ to
+  pub marked : Marked s at n to whole
+  pub few : n ≤ 5
   pub light : weights (values (picked p masks (members whole))) ≤ 255
   pub room : to + 512 ≤ length s
 
-abbrev pub AllSubsets : List ℕ → ℕ → ℕ → ℕ → ℕ → List ℕ → ℕ → Type 0
-AllSubsets s a n p to s′ r =
-    (top : ℕ) (vs : Values) → Front s top a n vs → top ≤ to → Appended s to s′ r (codes (values (picked p masks (members vs))))
+abbrev pub AllSubsets : List ℕ → List ℕ → ℕ → ℕ → ℕ → List ℕ → ℕ → Type 0
+AllSubsets s at n p to s′ r = (vs : Values) → Marked s at n to vs → Appended s to s′ r (codes (values (picked p masks (members vs))))

@@ -9,7 +9,7 @@ ghost use Rattle.rules.specs.Operations.{setOf, elementsFrom};
 ghost use Rattle.arena.specs.Code.{SomeSet, SomeValue, Made, Copied};
 ghost use Rattle.products.specs.Growing.{PutsCell, RunPre, Runs, Singles, Pairs, PairPre, PairPut, Intervals, RowPre, Rows, SquarePre, Squares, Multiplies};
 ghost use Rattle.products.specs.Parts.{SomePairs, Takes, Domains, Ranges, chosen, AddPre, Added, FindPre, Finds, InsertPre, Places, Inserts, movedLast};
-ghost use Rattle.products.specs.Power.{Powers, masks, subsetCount, AddedIf, SubsetPre, Subsets, SubsetIf, AllPre, AllSubsets};
+ghost use Rattle.products.specs.Power.{Powers, masks, subsetCount, AddedIf, MarkPre, Marks, SubsetPre, Subsets, SubsetIf, AllPre, AllSubsets};
 
 // The cells of values by their tags; the payload is added.
 const CELL: u64 = 4294967296;
@@ -360,37 +360,51 @@ fn add_if(s: &mut [u64], from: usize, end: usize, keep: bool, o: Out) -> Out
     o
 }
 
-// The set of those of n members from a on whose bits `mask` has.
-fn subset(s: &mut [u64], a: usize, n: u64, mask: u64, to: usize) -> usize
-    requires { ⌜ SubsetPre (now s) a n to ⌝ }
-    ensures { λ r. ⌜ Subsets (now (s .entry)) a n mask to (now (s .exit)) r ⌝ }
+// Where each of n members from a on begins, at most five, and where the last one ends.
+fn marks(s: &[u64], a: usize, n: usize) -> [usize; 6]
+    requires { ⌜ MarkPre (now s) a n ⌝ }
+    ensures { λ r. ⌜ Marks (now (s .entry)) a n r ⌝ }
 {
-    let mut i = a;
-    let mut left = n;
+    let mut at: [usize; 6] = [a; 6];
+    let mut j: usize = 0;
+    while j < n {
+        let e = arena::end_of(s, at[j]);
+        j += 1;
+        at[j] = e;
+    }
+    at
+}
+
+// The set of those of n members whose bits `mask` has; they begin at the places in `at`.
+fn subset(s: &mut [u64], at: &[usize; 6], n: usize, mask: u64, to: usize) -> usize
+    requires { ⌜ SubsetPre (now s) (now at) n to ⌝ }
+    ensures { λ r. ⌜ Subsets (now (s .entry)) (now (at .entry)) n mask to (now (s .exit)) r ⌝ }
+{
+    let mut j: usize = 0;
     let mut m = mask;
     let mut o = Out {
         last: 0,
         to: to + 1,
         count: 0,
     };
-    while left > 0 {
-        let e = arena::end_of(s, i);
-        o = add_if(s, i, e, m % 2 == 1, o);
+    while j < n {
+        let from = at[j];
+        j += 1;
+        let end = at[j];
+        o = add_if(s, from, end, m % 2 == 1, o);
         m = m / 2;
-        i = e;
-        left -= 1;
     }
     s[to] = SET + o.count;
     o.to
 }
 
 // The same if the mask is below p.
-fn subset_if(s: &mut [u64], a: usize, n: u64, mask: u64, p: u64, to: usize) -> usize
-    requires { ⌜ SubsetPre (now s) a n to ⌝ }
-    ensures { λ r. ⌜ SubsetIf (now (s .entry)) a n mask p to (now (s .exit)) r ⌝ }
+fn subset_if(s: &mut [u64], at: &[usize; 6], n: usize, mask: u64, p: u64, to: usize) -> usize
+    requires { ⌜ SubsetPre (now s) (now at) n to ⌝ }
+    ensures { λ r. ⌜ SubsetIf (now (s .entry)) (now (at .entry)) n mask p to (now (s .exit)) r ⌝ }
 {
     if mask < p {
-        return subset(s, a, n, mask, to);
+        return subset(s, at, n, mask, to);
     }
     to
 }
@@ -450,19 +464,19 @@ fn subset_count(n: u64) -> u64
     SUBSET_COUNTS[n as usize]
 }
 
-// The subsets of n members from a on for the masks below p.
-fn all_subsets(s: &mut [u64], a: usize, n: u64, p: u64, to: usize) -> usize
-    requires { ⌜ AllPre (now s) a n p to ⌝ }
-    ensures { λ r. ⌜ AllSubsets (now (s .entry)) a n p to (now (s .exit)) r ⌝ }
+// The subsets of n members for the masks below p.
+fn all_subsets(s: &mut [u64], at: &[usize; 6], n: usize, p: u64, to: usize) -> usize
+    requires { ⌜ AllPre (now s) (now at) n p to ⌝ }
+    ensures { λ r. ⌜ AllSubsets (now (s .entry)) (now (at .entry)) n p to (now (s .exit)) r ⌝ }
 {
     let mut j: usize = 0;
-    let mut at = to;
+    let mut end = to;
     while j < 32 {
         let mask = mask_at(j);
-        at = subset_if(s, a, n, mask, p, at);
+        end = subset_if(s, at, n, mask, p, end);
         j += 1;
     }
-    at
+    end
 }
 
 pub fn power(s: &mut [u64], a: usize, top: usize) -> usize
@@ -475,7 +489,8 @@ pub fn power(s: &mut [u64], a: usize, top: usize) -> usize
     if 1 + p + p / 2 * k > 256 {
         return 0;
     }
-    let end = all_subsets(s, a + 1, n, p, top + 1);
+    let at = marks(s, a + 1, n as usize);
+    let end = all_subsets(s, &at, n as usize, p, top + 1);
     s[top] = SET + p;
     end
 }

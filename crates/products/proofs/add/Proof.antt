@@ -1,7 +1,7 @@
 -- `add`: a member copied behind the others.
 use mathlib.Core.Logic.{inl}
 use native.Mathlib.Omega.{arith}
-use Rattle.products.proofs.PowerLaws.{add-made}
+use Rattle.products.proofs.SubsetLaws.{add-made}
 use borrow.Author.Needs.{needs}
 use Rattle.products.proofs.add.Statement.{statement}
 use Rattle.products.proofs.add.Tie as tie

@@ -1,10 +1,34 @@
 -- `power`: all subsets, unless their set is too heavy.
 use native.Mathlib.Omega.{arith}
 use Rattle.arena.proofs.FrontLaws.{set-end, set-cells}
-use Rattle.products.proofs.PowerLaws.{power-too-heavy, power-pre, power-made, half-product}
+use Rattle.products.proofs.PowerLaws.{Sized, power-too-heavy, power-mark, power-pre, power-made, half-product}
 use borrow.Author.Needs.{needs}
 use Rattle.products.proofs.power.Statement.{statement}
 use Rattle.products.proofs.power.Tie as tie
+
+-- The number of subsets is known; so are the number of members and where the set ends. What was lent.
+abbrev Counted : Type 0
+Counted = tie.After-subset-count
+
+abbrev low : tie.After-end-of → tie.After-low
+low m = m .before .before
+
+abbrev lent : tie.After-end-of → tie.Start
+lent m = low m .before .before .before
+
+sized : (m : Counted) → (let e = m .before in
+    Sized (lent e .args .s .now) (lent e .args .a) (e .end-of .result) (low e .low .result) (m .subset-count .result))
+sized m = let e = m .before in record { low = low e .low .ensures .0; ends = e .end-of .ensures; is = m .subset-count .ensures .0 }
+
+-- The power set is light enough; the places of the members are known; the subsets have been put.
+abbrev light : tie.After-marks → tie.Else1
+light m = m .before .before
+
+abbrev marked : tie.After-at → tie.After-marks
+marked m = m .before .before
+
+abbrev put : tie.After-slice-known3 → tie.After-all-subsets
+put m = m .before .before
 
 mul-low : tie.Need-mul-low
 mul-low c = search needs
@@ -19,10 +43,10 @@ end-of-requires : tie.Need-end-of-requires
 end-of-requires c κs = search needs
 
 sub-k : tie.Need-sub-k
-sub-k c = omega (arith, set-end _ _ _ _ (c .before .before .before .before .before .pre .0 .1) _ (c .end-of .ensures))
+sub-k c = omega (arith, set-end _ _ _ _ (lent c .pre .0 .1) _ (c .end-of .ensures))
 
 sub-k-2 : tie.Need-sub-k-2
-sub-k-2 c = omega (arith, set-end _ _ _ _ (c .before .before .before .before .before .pre .0 .1) _ (c .end-of .ensures))
+sub-k-2 c = omega (arith, set-end _ _ _ _ (lent c .pre .0 .1) _ (c .end-of .ensures))
 
 subset-count-requires : tie.Need-subset-count-requires
 subset-count-requires c κs = search needs
@@ -31,25 +55,40 @@ add-if1 : tie.Need-add-if1
 add-if1 c = search needs
 
 mul-if1 : tie.Need-mul-if1
-mul-if1 c = omega (arith, half-product _ _ (c .subset-count .ensures .1) (set-cells _ _ _ _ (c .before .before .before .before .before .before .pre .0 .1) _ (c .before .end-of .ensures)))
+mul-if1 c =
+    let e = c .before in
+    omega (arith, half-product _ _ (c .subset-count .ensures .1) (set-cells _ _ _ _ (lent e .pre .0 .1) _ (e .end-of .ensures)))
 
 add-if1-2 : tie.Need-add-if1-2
-add-if1-2 c = omega (arith, c .subset-count .ensures .1, half-product _ _ (c .subset-count .ensures .1) (set-cells _ _ _ _ (c .before .before .before .before .before .before .pre .0 .1) _ (c .before .end-of .ensures)))
+add-if1-2 c =
+    let e = c .before in
+    let n = c .subset-count .ensures .1 in
+    omega (arith, half-product _ _ n (set-cells _ _ _ _ (lent e .pre .0 .1) _ (e .end-of .ensures)))
 
 same-length : tie.Need-same-length
 same-length c = search needs
 
 returns : tie.Need-returns
-returns c = λ vs h. power-too-heavy _ _ _ _ _ _ (c .before .before .before .before .low .ensures .0) (c .before .before .end-of .ensures) (c .before .subset-count .ensures .0) vs h (c .if1 .taken)
+returns c = λ vs h. power-too-heavy _ _ _ _ _ _ (sized (c .before)) vs h (c .if1 .taken)
+
+add-marks : tie.Need-add-marks
+add-marks c = search needs
+
+marks-requires : tie.Need-marks-requires
+marks-requires c κs =
+    let l = c .before in
+    let q = lent (l .before .before) .pre in
+    power-mark _ _ _ _ _ _ (sized (l .before)) _ (q .0 .1) (l .if1 .left)
 
 add-all-subsets : tie.Need-add-all-subsets
 add-all-subsets c = search needs
 
-add-all-subsets-2 : tie.Need-add-all-subsets-2
-add-all-subsets-2 c = search needs
-
 all-subsets-requires : tie.Need-all-subsets-requires
-all-subsets-requires c κs = power-pre _ _ _ _ _ _ (c .before .before .before .before .before .low .ensures .0) (c .before .before .before .end-of .ensures) (c .before .before .subset-count .ensures .0) _ (c .before .before .before .before .before .before .before .before .pre .0 .1) (c .before .if1 .left) (c .before .before .before .before .before .before .before .before .pre .1)
+all-subsets-requires c κs =
+    let m = marked c in
+    let l = light m in
+    let q = lent (l .before .before) .pre in
+    power-pre _ _ _ _ _ _ (sized (l .before)) _ (q .0 .1) (l .if1 .left) (q .1) _ (m .marks .ensures)
 
 add-s : tie.Need-add-s
 add-s c = search needs
@@ -64,7 +103,11 @@ same-length-2 : tie.Need-same-length-2
 same-length-2 c = search needs
 
 returns-2 : tie.Need-returns-2
-returns-2 c = λ vs h. power-made _ _ _ _ _ _ (c .before .before .before .before .before .before .before .before .low .ensures .0) (c .before .before .before .before .before .before .end-of .ensures) (c .before .before .before .before .before .subset-count .ensures .0) vs h (c .before .before .before .before .if1 .left) (c .before .before .before .before .before .before .before .before .before .before .before .pre .1) _ _ (c .before .before .all-subsets .ensures)
+returns-2 c = λ vs h.
+    let m = marked (put c .before) in
+    let l = light m in
+    let q = lent (l .before .before) .pre in
+    power-made _ _ _ _ _ _ (sized (l .before)) vs h (l .if1 .left) (q .1) _ (m .marks .ensures) _ _ (put c .all-subsets .ensures)
 
 pub power-spec : {M : Type 1} → statement M
 power-spec =
@@ -82,8 +125,9 @@ power-spec =
     add-if1-2
     same-length
     returns
+    add-marks
+    marks-requires
     add-all-subsets
-    add-all-subsets-2
     all-subsets-requires
     add-s
     mul-s

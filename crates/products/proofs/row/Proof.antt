@@ -23,7 +23,8 @@ abbrev lent : Turn → tie.Start Inv-loop μ-loop
 lent l = l .before .before
 
 abbrev known : (l : Turn) →
-    (let a = lent l .args in let p = lent l .pre in RowAt (a .s .now) (p .top) (p .first) (p .others) (a .to) (l .loop .s) (l .loop .i) (l .loop .left) (l .loop .at))
+    (let a = lent l .args in let p = lent l .pre in
+    RowAt (a .s .now) (p .top) (p .first) (p .others) (a .to) (l .loop .s) (l .loop .i) (l .loop .left) (l .loop .at))
 known l = let p = lent l .pre in l .loop .inv (p .top) (p .first) (p .others) (p .value) (p .weighs) (p .front) (p .behind)
 
 -- The member ends; its pairs have been put.

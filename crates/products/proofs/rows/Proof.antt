@@ -22,7 +22,8 @@ abbrev lent : Turn → tie.Start Inv-loop μ-loop
 lent l = l .before .before
 
 abbrev known : (l : Turn) →
-    (let a = lent l .args in let p = lent l .pre in SquareAt (a .s .now) (p .top) (p .lefts) (p .rights) (a .to) (l .loop .s) (l .loop .i) (l .loop .left) (l .loop .at))
+    (let a = lent l .args in let p = lent l .pre in
+    SquareAt (a .s .now) (p .top) (p .lefts) (p .rights) (a .to) (l .loop .s) (l .loop .i) (l .loop .left) (l .loop .at))
 known l = let p = lent l .pre in l .loop .inv (p .top) (p .lefts) (p .rights) (p .front) (p .others) (p .behind)
 
 -- The member ends; its pairs have been put.

@@ -1,66 +1,97 @@
 -- `subset`: the members whose bits the mask has.
 use borrow.Author.Needs.{needs}
-use Prim.Native.Nat.{ℕ, _≤_}
+use Prim.Native.Nat.{_-_, _≤_}
+use mathlib.Core.Path.{_≡_}
+use lib.ListN.{length}
 use native.Mathlib.Omega.{arith}
 use Rattle.rules.specs.Values.{Values}
-use Rattle.arena.specs.Code.{Front}
-use Rattle.products.proofs.PowerLaws.{SubsetAt, subset-start, subset-near, subset-some, subset-end, subset-add, subset-again}
+use Rattle.products.specs.Power.{Marked}
+use Rattle.products.proofs.SubsetLaws.{SubsetAt, subset-start, subset-near, subset-end, subset-add, subset-next}
 use Rattle.products.proofs.subset.Statement.{statement}
 use Rattle.products.proofs.subset.Tie as tie
 
 abbrev Inv-loop : tie.InvT-loop
-Inv-loop s₀ a n mask to i₀ left₀ m₀ o₀ s i left m o = (top : ℕ) (vs : Values) → Front s₀ top a n vs → top ≤ to → SubsetAt s₀ top vs mask to s i left m o
+Inv-loop s₀ at n mask to j₀ m₀ o₀ s j m o = (vs : Values) → Marked s₀ at n to vs → SubsetAt s₀ at n vs mask to s j m o
 
 abbrev μ-loop : tie.MeasureT-loop
-μ-loop s₀ a n mask to i₀ left₀ m₀ o₀ s i left m o = left
+μ-loop s₀ at n mask to j₀ m₀ o₀ s j m o = n - j
+
+-- A turn of the loop, what it was lent, and what it knows.
+abbrev Turn : Type 0
+Turn = tie.At-loop Inv-loop μ-loop
+
+abbrev lent : Turn → tie.Start Inv-loop μ-loop
+lent l = l .before .before
+
+abbrev known : (l : Turn) → (let a = lent l .args in
+    SubsetAt (a .s .now) (a .at .now) (a .n) (lent l .pre .whole) (a .mask) (a .to) (l .loop .s) (l .loop .j) (l .loop .m) (l .loop .o))
+known l = let q = lent l .pre in l .loop .inv (q .whole) (q .marked)
+
+near : (l : Turn) → (l .loop .o .count ≤ 255) × (length (l .loop .s) ≡ length (lent l .args .s .now))
+near l = let q = lent l .pre in subset-near _ _ _ _ _ _ (q .marked) (q .room) _ _ _ _ (known l)
+
+-- Where the member ends is read; it has been put.
+abbrev turn : tie.After-from Inv-loop μ-loop → Turn
+turn m = m .before .before
+
+abbrev read : tie.After-add-if Inv-loop μ-loop → tie.After-end Inv-loop μ-loop
+read m = m .before .before
+
+abbrev put : tie.After-slice-known2 Inv-loop μ-loop → tie.After-add-if Inv-loop μ-loop
+put m = m .before .before
 
 add-s : tie.Need-add-s Inv-loop μ-loop
 add-s c = omega (arith, c .before .pre .room)
 
 loop-holds : tie.Need-loop-holds Inv-loop μ-loop
-loop-holds c = λ top vs f g. subset-start _ _ _ _ _ top vs f g (c .before .pre .room)
+loop-holds c = λ vs h. subset-start _ _ _ _ _ vs h (c .before .pre .room)
 
-end-of-requires : tie.Need-end-of-requires Inv-loop μ-loop
-end-of-requires c κs = let q = c .before .before .before .before .pre in subset-some _ _ _ _ _ _ _ (q .front) (q .behind) (q .room) _ _ _ _ _ (c .before .before .loop .inv _ _ (q .front) (q .behind)) (c .before .loop-test .taken)
+mul-from : tie.Need-mul-from Inv-loop μ-loop
+mul-from c = omega (arith, c .loop-test .taken, lent (c .before) .pre .few)
+
+element-copy-out-from : tie.Need-element-copy-out-from Inv-loop μ-loop
+element-copy-out-from c = omega (arith, c .loop-test .taken, lent (c .before) .pre .few)
+
+add-j : tie.Need-add-j Inv-loop μ-loop
+add-j c = omega (arith, c .before .loop-test .taken, lent (turn c) .pre .few)
+
+mul-end : tie.Need-mul-end Inv-loop μ-loop
+mul-end c = omega (arith, c .before .loop-test .taken, lent (turn c) .pre .few)
+
+element-copy-out-end : tie.Need-element-copy-out-end Inv-loop μ-loop
+element-copy-out-end c = omega (arith, c .before .loop-test .taken, lent (turn c) .pre .few)
 
 add-if-requires : tie.Need-add-if-requires Inv-loop μ-loop
-add-if-requires c κs = λ k. (let q = c .before .before .before .before .before .before .pre in subset-add _ _ _ _ _ _ _ (q .front) (q .behind) (q .room) _ _ _ _ _ (c .before .before .before .before .loop .inv _ _ (q .front) (q .behind)) (c .before .before .before .loop-test .taken) _ (c .before .end-of .ensures) k)
-
-sub-left : tie.Need-sub-left Inv-loop μ-loop
-sub-left c = omega (arith, c .before .before .before .before .before .before .loop-test .taken)
+add-if-requires c κs = λ k.
+    let q = c .before .before in
+    let l = turn q in
+    subset-add _ _ _ _ _ _ (lent l .pre .marked) (lent l .pre .room) _ _ _ _ (known l) (q .before .loop-test .taken) k
 
 loop-less : tie.Need-loop-less Inv-loop μ-loop
-loop-less c = omega (arith, c .before .before .before .before .before .before .loop-test .taken)
+loop-less c = omega (arith, read (put c) .before .before .loop-test .taken)
 
 loop-again : tie.Need-loop-again Inv-loop μ-loop
-loop-again c = λ top vs f g. subset-again _ _ _ _ _ top vs f g (c .before .before .before .before .before .before .before .before .before .pre .room) _ _ _ _ _ (c .before .before .before .before .before .before .before .loop .inv top vs f g) (c .before .before .before .before .before .before .loop-test .taken) _ (c .before .before .before .before .end-of .ensures) _ _ (c .before .before .add-if .ensures)
+loop-again c = λ vs h.
+    let q = read (put c) .before in
+    let l = turn q in
+    subset-next _ _ _ _ _ vs h (lent l .pre .room) _ _ _ _ (l .loop .inv vs h) (q .before .loop-test .taken) _ _ (put c .add-if .ensures)
 
 add-s-2 : tie.Need-add-s-2 Inv-loop μ-loop
-add-s-2 c =
-    let q = c .before .before .before .before .pre in
-    let z = subset-near _ _ _ _ _ _ _ (q .front) (q .behind) (q .room) _ _ _ _ _ (c .before .before .loop .inv _ _ (q .front) (q .behind)) in
-    omega (arith, z .0)
+add-s-2 c = omega (arith, near (c .before .before) .0)
 
 mul-s : tie.Need-mul-s Inv-loop μ-loop
-mul-s c =
-    let q = c .before .before .before .before .pre in
-    let z = subset-near _ _ _ _ _ _ _ (q .front) (q .behind) (q .room) _ _ _ _ _ (c .before .before .loop .inv _ _ (q .front) (q .behind)) in
-    omega (arith, z .1, q .room)
+mul-s c = omega (arith, lent (c .before .before) .pre .room)
 
 slice-write-s : tie.Need-slice-write-s Inv-loop μ-loop
-slice-write-s c =
-    let q = c .before .before .before .before .pre in
-    let z = subset-near _ _ _ _ _ _ _ (q .front) (q .behind) (q .room) _ _ _ _ _ (c .before .before .loop .inv _ _ (q .front) (q .behind)) in
-    omega (arith, z .1, q .room)
+slice-write-s c = let l = c .before .before in omega (arith, near l .1, lent l .pre .room)
 
 same-length : tie.Need-same-length Inv-loop μ-loop
-same-length c =
-    let q = c .before .before .before .before .pre in
-    let z = subset-near _ _ _ _ _ _ _ (q .front) (q .behind) (q .room) _ _ _ _ _ (c .before .before .loop .inv _ _ (q .front) (q .behind)) in
-    search (needs, z .1)
+same-length c = let k = near (c .before .before) .1 in search (needs, k)
 
 returns : tie.Need-returns Inv-loop μ-loop
-returns c = λ top vs f g. subset-end _ _ _ _ _ top vs f g (c .before .before .before .before .pre .room) _ _ _ _ _ (c .before .before .loop .inv top vs f g) (c .before .loop-test .left)
+returns c = λ vs h.
+    let l = c .before .before in
+    subset-end _ _ _ _ _ vs h (lent l .pre .room) _ _ _ _ (l .loop .inv vs h) (c .before .loop-test .left)
 
 pub subset-spec : {M : Type 1} → statement M
 subset-spec =
@@ -70,9 +101,12 @@ subset-spec =
     μ-loop
     add-s
     loop-holds
-    end-of-requires
+    mul-from
+    element-copy-out-from
+    add-j
+    mul-end
+    element-copy-out-end
     add-if-requires
-    sub-left
     loop-less
     loop-again
     add-s-2
