@@ -8,7 +8,7 @@ use native.Mathlib.Omega.{arith}
 use lib.ListN.{length, getD}
 use Rattle.rules.specs.Cells.{noValue, valuesIn}
 use Rattle.rules.specs.Ends.{done, refused}
-use Rattle.rules.specs.Tables.{Table, tableOf, lastNode, nodeCount, nodesAt, kindAt}
+use Rattle.rules.specs.Tables.{Table, tableOf, lastNode, nodeCount, kindAt}
 use Rattle.rules.specs.Kinds.{predicate}
 use Rattle.rules.specs.Reading.{reading, height, heightLimit}
 use Rattle.rules.specs.Readable.{Readable, CategoryIs}
@@ -106,12 +106,11 @@ module _ (bs : List ℕ) {buffer s env : List ℕ} {top : ℕ} (b : Bound (table
     root-tall = ap (height (tableOf bs .nodes)) root-last ∙ sym (some-root 0 (height (tableOf bs .nodes)) (tableOf bs .nodes) nodes-here)
 
     -- The condition at the root may be evaluated.
-    pub root-ready : {s₀ : List ℕ} {base budget : ℕ} → ArenaReady bs buffer s₀ → length s ≡ length s₀ → length env ≡ 32 → base ≡ nodesAt bs →
-        Ready bs base env s top (n - 1) 0 budget × IsPred bs (n - 1)
-    root-ready {s₀} {base} {budget} r k l o = (
+    pub root-ready : {s₀ : List ℕ} {budget : ℕ} → ArenaReady bs buffer s₀ → length s ≡ length s₀ → length env ≡ 32 →
+        Ready bs env s top (n - 1) 0 budget × IsPred bs (n - 1)
+    root-ready {s₀} {budget} r k l = (
       record {
         readable = q;
-        offset = o;
         node = omega (arith, e, filled);
         unspent = omega arith;
         room = omega (arith, b .room, binds-length bs, r .needs .enough, k, root-tall, root-cells);

@@ -82,8 +82,7 @@ fn evaluate_in(table: &[u8], values: &[u8], budget: u32, s: &mut [u64]) -> Evalu
                     steps: 0,
                 };
             }
-            let base = table::nodes_offset(table);
-            ended(evaluators::eval_pred(table, base, &env, s, top, count - 1, 0, budget))
+            ended(evaluators::eval_pred(table, &env, s, top, count - 1, 0, budget))
         }
     }
 }

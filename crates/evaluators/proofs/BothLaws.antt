@@ -42,13 +42,13 @@ formed-below : {bs env s : List ℕ} {top n steps budget a : ℕ} {c : Category}
     FormedAs (valueᵉ budget (tableOf bs .sizes) (exprAt g (tableOf bs .nodes) b) ρ steps) (tableOf bs .sizes) s′ r₀
 formed-below r₀ c q e h g le ρ bound = formed-as q e h .answer g ρ (omega (arith, c .below, le, q)) bound
 
-module _ {bs : List ℕ} {base : ℕ} {env s : List ℕ} {top n steps budget : ℕ} (x : Ready bs base env s top n steps budget) (y : TwoFields bs n)
+module _ {bs : List ℕ} {env s : List ℕ} {top n steps budget : ℕ} (x : Ready bs env s top n steps budget) (y : TwoFields bs n)
     {a : ℕ} (q : a ≡ nodeAt (tableOf bs .nodes) n .a) where
   pub left-child : Child bs n a expression
   left-child =
       subst (λ (z : ℕ). Child bs n z expression) (sym q) (record { below = y .left; is = y .leftIs; lower = y .leftLower; tall = node-tall bs (x .readable) _ (omega (arith, y .left, x .node)) })
 
-  pub left-ready : Ready bs base env s top a steps budget × IsExpr bs a
+  pub left-ready : Ready bs env s top a steps budget × IsExpr bs a
   left-ready = (ready-child s a top steps x left-child (same-refl top s) (omega arith) (omega arith) (x .unspent), left-child .is)
 
   module _ {s′ : List ℕ} {r : Formed} (h : EvaluatesE bs env s top a steps budget s′ r) where
@@ -68,7 +68,7 @@ module _ {bs : List ℕ} {base : ℕ} {env s : List ℕ} {top n steps budget : �
       placed-bounds : (top ≤ mid) × (mid ≤ top + 256) × (t ≤ budget)
       placed-bounds = formed-within top budget (Placed at mid t) d (h .bounds)
 
-      pub right-ready : Ready bs base env s′ mid m t budget × IsExpr bs m
+      pub right-ready : Ready bs env s′ mid m t budget × IsExpr bs m
       right-ready =
           let o = placed-bounds in
           (ready-child s′ m mid t x right-child (h .frame) (o .0) (omega (arith, o .1)) (o .2), right-child .is)
@@ -164,11 +164,11 @@ both-next : {bs env s : List ℕ} {top n steps budget : ℕ} {s′ : List ℕ} {
 both-next {bs} {env} {s} {top} {n} {steps} {budget} {s′} r₀ d h =
     subst (λ (z : ℕ). EvaluatesBoth bs env s top n z budget s′ r₀) (add-one steps) (both-as d h)
 
-module _ {bs : List ℕ} {base : ℕ} {env s : List ℕ} {top k n steps budget : ℕ} (x : Visited bs base env s top k n steps budget) (j : Test) (e : kindOf k ≡ some (test j)) where
+module _ {bs : List ℕ} {env s : List ℕ} {top k n steps budget : ℕ} (x : Visited bs env s top k n steps budget) (j : Test) (e : kindOf k ≡ some (test j)) where
   test-fields : TwoFields bs n
   test-fields = visited-operands x (test j) e refl
 
-  pub test-begins : Ready bs base env s top n (steps + 1) budget × TwoFields bs n
+  pub test-begins : Ready bs env s top n (steps + 1) budget × TwoFields bs n
   test-begins = (ready-on (steps + 1) (x .ready) (omega (arith, x .spent)), test-fields)
 
   abbrev eᵃ : ℕ → Expr

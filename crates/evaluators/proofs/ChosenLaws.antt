@@ -186,7 +186,7 @@ pub record Choosing (bs env s₀ : List ℕ) (top n from count steps budget : �
   pub on : (f : ℕ) (ρ : Env) (vs : Values) → n ≤ f → Binds (tableOf bs .sizes) s₀ top env ρ → Listed (tableOf bs .sizes) s₀ top from count vs →
       Selecting (bodyAt bs budget n f ρ) (members vs) steps (tableOf bs .sizes) s top at left m to chosen
 
-module _ {bs : List ℕ} {base : ℕ} {env s₀ : List ℕ} {top n from count steps budget : ℕ} (pre : EachReady bs base env s₀ top n from count steps budget 256) where
+module _ {bs : List ℕ} {env s₀ : List ℕ} {top n from count steps budget : ℕ} (pre : EachReady bs env s₀ top n from count steps budget 256) where
   pub choosing-start : Choosing bs env s₀ top n from count steps budget s₀ env from count steps (top + 1) 0
   choosing-start = record {
     frame = same-refl top s₀;
@@ -238,11 +238,10 @@ module _ {bs : List ℕ} {base : ℕ} {env s₀ : List ℕ} {top n from count st
 
       -- The identifier x and the body c, as they have been read off the node.
       module _ {x c : ℕ} (name : x ≡ nodeAt (tableOf bs .nodes) n .a) (body : c ≡ nodeAt (tableOf bs .nodes) n .c) where
-        pub choosing-ready : Ready bs base (setAt inner x at) s to c m budget × IsPred bs c
+        pub choosing-ready : Ready bs (setAt inner x at) s to c m budget × IsPred bs c
         choosing-ready = rw (name, body) (
           record {
             readable = pre .ready .readable;
-            offset = pre .ready .offset;
             node = pre .ready .node;
             unspent = h .within;
             room = omega (arith, pre .space, choosing-near .1, h .frame .kept);

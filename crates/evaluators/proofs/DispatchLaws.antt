@@ -85,7 +85,7 @@ module _ (budget : ℕ) (gs : List ℕ) (ρ : Env) (s : ℕ) (e : s ≡ budget) 
   expr-spent (twoᵉ n j a b) = unvisited budget n s _ e
   expr-spent (comprehensionᵉ n x r p) = unvisited budget n s _ e
 
-module _ {bs : List ℕ} {base : ℕ} {env s : List ℕ} {top n steps budget : ℕ} (r : Ready bs base env s top n steps budget) where
+module _ {bs : List ℕ} {env s : List ℕ} {top n steps budget : ℕ} (r : Ready bs env s top n steps budget) where
   pub spent-pred : steps ≡ budget → EvaluatesP bs env s top n steps budget s (Refused 19 n steps)
   spent-pred e = record {
     frame = same-refl top s;
@@ -105,8 +105,12 @@ module _ {bs : List ℕ} {base : ℕ} {env s : List ℕ} {top n steps budget : �
   }
 
   -- The visit is counted.
-  pub counted : (k : ℕ) → steps ≢ budget → k ≡ nodeAt (tableOf bs .nodes) n .kind → Visited bs base env s top k n steps budget
+  pub counted : (k : ℕ) → steps ≢ budget → k ≡ nodeAt (tableOf bs .nodes) n .kind → Visited bs env s top k n steps budget
   counted k h e = record { ready = r; spent = omega (arith, r .unspent); kind = e }
+
+-- A visit at a node whose code is known.
+pub visited-as : {bs env s : List ℕ} {top k j n steps budget : ℕ} → Visited bs env s top k n steps budget → k ≡ j → Visited bs env s top j n steps budget
+visited-as v e = record { ready = v .ready; spent = v .spent; kind = sym e ∙ v .kind }
 
 -- What holds at each of n numbers from i on.
 abbrev Along : (ℕ → Type 0) → ℕ → ℕ → Type 0
@@ -272,23 +276,21 @@ given-same : (v w : Value) → gives v ≡ gives w → v ≡ w
 given-same v w e = cc
 
 -- What the evaluators of the leaves take for granted.
-module _ {bs : List ℕ} {base : ℕ} {env s : List ℕ} {top k n steps budget : ℕ} (v : Visited bs base env s top k n steps budget) where
+module _ {bs : List ℕ} {env s : List ℕ} {top k n steps budget : ℕ} (v : Visited bs env s top k n steps budget) where
   name-kind : k ≡ 20 → kindAt (tableOf bs .nodes) n ≡ some (leaf identifier)
   name-kind e = visited-kind v (leaf identifier) (kind-of k (leaf identifier) e)
 
-  pub name-ready : k ≡ 20 → NameReady bs base env n
+  pub name-ready : k ≡ 20 → NameReady bs env n
   name-ready e = record {
     readable = v .ready .readable;
-    offset = v .ready .offset;
     node = v .ready .node;
     name = name-below bs (v .ready .readable) n (v .ready .node) (name-kind e);
     entries = v .ready .entries;
   }
 
-  constant-node : Constant k → ((i : ℕ) → getD bs i 0 < 256) → LeafNode bs base s top k n
+  constant-node : Constant k → ((i : ℕ) → getD bs i 0 < 256) → LeafNode bs s top k n
   constant-node c h = record {
     readable = v .ready .readable;
-    offset = v .ready .offset;
     node = v .ready .node;
     ready = record {
       kind = c .kind;
@@ -308,7 +310,7 @@ module _ {bs : List ℕ} {base : ℕ} {env s : List ℕ} {top k n steps budget :
   pub join-kind : IsPred bs n → k ≢ 4 → k < 6 → Sort join k
   join-kind h d l = join-sort k (predicate-code h .0) l d
 
-  pub leaf-node : LeafCode k → ((i : ℕ) → getD bs i 0 < 256) → LeafNode bs base s top k n
+  pub leaf-node : LeafCode k → ((i : ℕ) → getD bs i 0 < 256) → LeafNode bs s top k n
   leaf-node h bytes = constant-node (leaf-rest k h) bytes
 
   -- A leaf's value, which is not heavy, is formed at once.
@@ -357,11 +359,11 @@ module _ {bs : List ℕ} {base : ℕ} {env s : List ℕ} {top k n steps budget :
         };
       }
 
-  leaf-built : (p : LeafNode bs base s top k n) (s′ : List ℕ) (o : Formed) (h : LeafFormed bs s top k n (steps + 1) s′ o) (ρ : Env) →
+  leaf-built : (p : LeafNode bs s top k n) (s′ : List ℕ) (o : Formed) (h : LeafFormed bs s top k n (steps + 1) s′ o) (ρ : Env) →
       BuiltAt s′ top (gives (leafValue (tableOf bs .sizes) (p .ready .kind) (nodeAt (tableOf bs .nodes) n .a) (nodeAt (tableOf bs .nodes) n .b) ρ)) (h .end)
   leaf-built p s′ o h ρ = h .done .answer (p .ready .kind) (tableOf bs .sizes) ρ (p .ready .is) (p .ready .fits) refl
 
-  pub leaf-answer : LeafNode bs base s top k n → (s′ : List ℕ) (o : Formed) → LeafFormed bs s top k n (steps + 1) s′ o → EvaluatesE bs env s top n steps budget s′ o
+  pub leaf-answer : LeafNode bs s top k n → (s′ : List ℕ) (o : Formed) → LeafFormed bs s top k n (steps + 1) s′ o → EvaluatesE bs env s top n steps budget s′ o
   leaf-answer p s′ o h =
       let x = leaf-built p s′ o h (v .ready .values) in
       subst (λ (x : Formed). EvaluatesE bs env s top n steps budget s′ x) (sym (h .is)) (record {

@@ -85,7 +85,7 @@ module _ (budget : ℕ) (gs : List ℕ) (n : ℕ) (j : One) (e : Expr) (ρ : Env
       (then-refused (valueᵉ budget gs e ρ) (λ v. fitting n (oneRule j) (v ∷ []) >> form n (oneValue j v)) (suc s) (next-step (valueᵉ budget gs e ρ) s h))
 
 -- The node's child m in field a has been evaluated.
-module _ {bs : List ℕ} {base : ℕ} {env s : List ℕ} {top k n m steps budget : ℕ} (x : Visited bs base env s top k n steps budget)
+module _ {bs : List ℕ} {env s : List ℕ} {top k n m steps budget : ℕ} (x : Visited bs env s top k n steps budget)
     (j : One) (e : kindOf k ≡ some (one j)) (w : m ≡ getD (fieldWords (nodeAt (tableOf bs .nodes) n)) 0 0) where
   pub one-child : Child bs n m expression
   one-child = visited-child x (one j) e expression 0 m (omega arith) (omega arith) refl w
@@ -165,7 +165,7 @@ module _ (budget : ℕ) (gs : List ℕ) (n : ℕ) (j : Two) (e f : Expr) (ρ : E
       (then-refused (valueᵉ budget gs f ρ) (λ w. formed (h .first) w) (h .between) (h .right)))
 
 -- The node's operands have been evaluated.
-module _ {bs : List ℕ} {base : ℕ} {env s : List ℕ} {top k n steps budget : ℕ} (x : Visited bs base env s top k n steps budget)
+module _ {bs : List ℕ} {env s : List ℕ} {top k n steps budget : ℕ} (x : Visited bs env s top k n steps budget)
     (j : Two) (e : kindOf k ≡ some (two j)) where
   pub two-fields : TwoFields bs n
   two-fields = visited-operands x (two j) e refl
@@ -260,7 +260,7 @@ module _ (budget : ℕ) (gs : List ℕ) (n : ℕ) (p : Pred) (ρ : Env) (s : ℕ
       (then-refused (holdsᵖ budget gs p ρ) (λ b. form n (gives (truthValue b))) (suc s) (next-step (holdsᵖ budget gs p ρ) s h))
 
 -- The node's condition m in field a has been evaluated.
-module _ {bs : List ℕ} {base : ℕ} {env s : List ℕ} {top k n m steps budget : ℕ} (x : Visited bs base env s top k n steps budget)
+module _ {bs : List ℕ} {env s : List ℕ} {top k n m steps budget : ℕ} (x : Visited bs env s top k n steps budget)
     (e : k ≡ 25) (w : m ≡ getD (fieldWords (nodeAt (tableOf bs .nodes) n)) 0 0) where
   pub bool-child : Child bs n m predicate
   bool-child = visited-child x boolOf (kind-of k boolOf e) predicate 0 m (omega arith) (omega arith) refl w
@@ -370,7 +370,7 @@ chosen-as {bs} {env} {s} {top} {n} {from} {count} {steps} {budget} {s′} {r} {r
     subst (λ (z : Formed). EvaluatesChosen bs env s top n from count steps budget s′ z) q h
 
 -- The node's range m in field b has been evaluated.
-module _ {bs : List ℕ} {base : ℕ} {env s : List ℕ} {top k n m steps budget : ℕ} (x : Visited bs base env s top k n steps budget)
+module _ {bs : List ℕ} {env s : List ℕ} {top k n m steps budget : ℕ} (x : Visited bs env s top k n steps budget)
     (e : k ≡ 34) (w : m ≡ getD (fieldWords (nodeAt (tableOf bs .nodes) n)) 1 0) where
   abbrev tree : ℕ → Expr
   tree f = exprAt f (tableOf bs .nodes) (nodeAt (tableOf bs .nodes) n .b)
@@ -418,7 +418,7 @@ module _ {bs : List ℕ} {base : ℕ} {env s : List ℕ} {top k n m steps budget
     }
 
     module _ {count : ℕ} (g : RangeAt s₁ at (Set count)) where
-      pub select-each : EachReady bs base env s₁ next n (at + 1) count t budget 256
+      pub select-each : EachReady bs env s₁ next n (at + 1) count t budget 256
       select-each =
           let v = range-at in
           binder-ready (x .ready) (visited-kind x comprehension (kind-of k comprehension e)) refl 256 (omega arith) (h .frame) (h .bounds .0) (h .bounds .1) (h .bounds .2) (v .place)

@@ -25,13 +25,13 @@ use Rattle.evaluators.proofs.RunLaws.{then-done, then-refused, returns,
 use Rattle.evaluators.proofs.NodeLaws.{Child, pred-at, ready-child, binds-frame, visited-kind, visited-child, held-as}
 
 -- The evaluator of a child begins where nothing has been changed below `top`.
-pub child-ready : {bs : List ℕ} {base : ℕ} {env s : List ℕ} {top n steps budget : ℕ} {c : Category} {m : ℕ} (s′ : List ℕ) (steps′ : ℕ) →
-    Ready bs base env s top n steps budget → Child bs n m c → Same top s s′ → steps′ ≤ budget → Ready bs base env s′ top m steps′ budget
+pub child-ready : {bs : List ℕ} {env s : List ℕ} {top n steps budget : ℕ} {c : Category} {m : ℕ} (s′ : List ℕ) (steps′ : ℕ) →
+    Ready bs env s top n steps budget → Child bs n m c → Same top s s′ → steps′ ≤ budget → Ready bs env s′ top m steps′ budget
 child-ready {top} {m} s′ steps′ r c e l = ready-child s′ m top steps′ r c e (omega arith) (omega arith) l
 
 -- A child that is a condition, after the visit.
-pub first-ready : {bs : List ℕ} {base : ℕ} {env s : List ℕ} {top n steps budget m : ℕ} {k : ℕ} →
-    Visited bs base env s top k n steps budget → Child bs n m predicate → Ready bs base env s top m (steps + 1) budget × IsPred bs m
+pub first-ready : {bs : List ℕ} {env s : List ℕ} {top n steps budget m : ℕ} {k : ℕ} →
+    Visited bs env s top k n steps budget → Child bs n m predicate → Ready bs env s top m (steps + 1) budget × IsPred bs m
 first-ready {s} {top} {steps} v c = (child-ready s (steps + 1) (v .ready) c (same-refl top s) (omega (arith, v .spent)), c .is)
 
 -- The answer for a node, from the tree one level down.
@@ -79,8 +79,8 @@ held-below : {bs env s : List ℕ} {top n steps budget a : ℕ} {c : Category} {
     HeldAs (holdsᵖ budget (tableOf bs .sizes) (predAt g (tableOf bs .nodes) b) ρ steps) r₀
 held-below r₀ c q e h g le ρ bound = held-as q e h .answer g ρ (omega (arith, c .below, le, q)) bound
 
-pub not-held : {bs : List ℕ} {base : ℕ} {env s : List ℕ} {top k n steps budget a : ℕ} {s′ : List ℕ} {r : Held} →
-    Visited bs base env s top k n steps budget → kindOf k ≡ some negation → a ≡ nodeAt (tableOf bs .nodes) n .a →
+pub not-held : {bs : List ℕ} {env s : List ℕ} {top k n steps budget a : ℕ} {s′ : List ℕ} {r : Held} →
+    Visited bs env s top k n steps budget → kindOf k ≡ some negation → a ≡ nodeAt (tableOf bs .nodes) n .a →
     EvaluatesP bs env s top a (steps + 1) budget s′ r → EvaluatesP bs env s top n steps budget s′ (negated r)
 not-held {bs} {env} {s} {top} {n} {steps} {budget} {a} {r} v e q h =
     let c = visited-child v negation e predicate 0 a (omega arith) (omega arith) refl q in
@@ -141,7 +141,7 @@ module _ (budget : ℕ) (gs : List ℕ) (n : ℕ) (j : Join) (p q : Pred) (ρ : 
 held-within : (budget : ℕ) {r : Held} (r₀ : Held) → r ≡ r₀ → HeldBounds budget r → HeldBounds budget r₀
 held-within budget r₀ e h = subst (λ (z : Held). HeldBounds budget z) e h
 
-module _ {bs : List ℕ} {base : ℕ} {env s : List ℕ} {top k n steps budget : ℕ} (v : Visited bs base env s top k n steps budget) (j : Join) (e : kindOf k ≡ some (join j))
+module _ {bs : List ℕ} {env s : List ℕ} {top k n steps budget : ℕ} (v : Visited bs env s top k n steps budget) (j : Join) (e : kindOf k ≡ some (join j))
     {a : ℕ} (q : a ≡ nodeAt (tableOf bs .nodes) n .a) {s′ : List ℕ} {r : Held} (h : EvaluatesP bs env s top a (steps + 1) budget s′ r) where
   abbrev pᵃ : ℕ → Pred
   pᵃ g = predAt g (tableOf bs .nodes) (nodeAt (tableOf bs .nodes) n .a)
@@ -181,7 +181,7 @@ module _ {bs : List ℕ} {base : ℕ} {env s : List ℕ} {top k n steps budget :
       pub join-next : Child bs n m predicate
       join-next = visited-child v (join j) e predicate 1 m (omega arith) (omega arith) refl qb
 
-      pub join-ready : Ready bs base env s′ top m t budget × IsPred bs m
+      pub join-ready : Ready bs env s′ top m t budget × IsPred bs m
       join-ready = (child-ready s′ t (v .ready) join-next (h .frame) (held-within budget (Truth y t) d (h .bounds)), join-next .is)
 
       open-by : rules.decides j y ≡ nothing

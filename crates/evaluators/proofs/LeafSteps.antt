@@ -114,11 +114,11 @@ module _ {s : List ℕ} {at : ℕ} where
         record { members = x .0; is = x .1; counted = c ∙ first-cell s at (set (x .0)) (g .stands) (good-fits q (set (x .0)) (g .good)) .1 }
 
 -- 20
-pub name-at : {bs env : List ℕ} {base top n steps x r : ℕ} → NameReady bs base env n → x ≡ nodeAt (tableOf bs .nodes) n .a → r ≡ getD env x 0 → NameAt bs env top n steps (Placed r top steps)
-name-at {bs} {env} {base} {top} {n} {steps} {x} {r} p e d = ap (λ (y : ℕ). Placed y top steps) (d ∙ ap (λ (y : ℕ). getD env y 0) e)
+pub name-at : {bs env : List ℕ} {top n steps x r : ℕ} → NameReady bs env n → x ≡ nodeAt (tableOf bs .nodes) n .a → r ≡ getD env x 0 → NameAt bs env top n steps (Placed r top steps)
+name-at {bs} {env} {top} {n} {steps} {x} {r} p e d = ap (λ (y : ℕ). Placed y top steps) (d ∙ ap (λ (y : ℕ). getD env y 0) e)
 
 -- 21 to 24, 26 and 42, with the words that have been read.
-module _ {bs s : List ℕ} {base top k n a b z : ℕ} (p : LeafNode bs base s top k n)
+module _ {bs s : List ℕ} {top k n a b z : ℕ} (p : LeafNode bs s top k n)
     (ea : a ≡ nodeAt (tableOf bs .nodes) n .a) (eb : b ≡ nodeAt (tableOf bs .nodes) n .b) (ez : z ≡ getD (tableOf bs .sizes) a 0) where
   same-size : z ≡ getD (tableOf bs .sizes) (nodeAt (tableOf bs .nodes) n .a) 0
   same-size = ez ∙ ap (λ (y : ℕ). getD (tableOf bs .sizes) y 0) ea

@@ -143,12 +143,11 @@ condition-cells nothing e = absurd e
 condition-cells (some k) e = ap (λ (c : Category). elim c [ predicate ↦ 0 | expression ↦ 128 ]) e
 
 -- What a node's evaluator may pass on to that of a child, over an arena that is the same below `top`.
-pub ready-child : {bs : List ℕ} {base : ℕ} {env s : List ℕ} {top n steps budget : ℕ} {c : Category} (s′ : List ℕ) (m k steps′ : ℕ) →
-    Ready bs base env s top n steps budget → Child bs n m c → Same top s s′ → top ≤ k → k ≤ top + 256 → steps′ ≤ budget →
-    Ready bs base env s′ k m steps′ budget
-ready-child {bs} {base} {env} {s} {top} {n} s′ m k steps′ r c e le near within = record {
+pub ready-child : {bs : List ℕ} {env s : List ℕ} {top n steps budget : ℕ} {c : Category} (s′ : List ℕ) (m k steps′ : ℕ) →
+    Ready bs env s top n steps budget → Child bs n m c → Same top s s′ → top ≤ k → k ≤ top + 256 → steps′ ≤ budget →
+    Ready bs env s′ k m steps′ budget
+ready-child {bs} {env} {s} {top} {n} s′ m k steps′ r c e le near within = record {
   readable = r .readable;
-  offset = r .offset;
   node = omega (arith, c .below, r .node);
   unspent = within;
   room = omega (arith, c .lower, r .room, e .kept, expression-cells (kindAt (tableOf bs .nodes) m));
@@ -160,11 +159,10 @@ ready-child {bs} {base} {env} {s} {top} {n} s′ m k steps′ r c e le near with
 }
 
 -- The same node, after more visits.
-pub ready-on : {bs : List ℕ} {base : ℕ} {env s : List ℕ} {top n steps budget : ℕ} (steps′ : ℕ) → Ready bs base env s top n steps budget → steps′ ≤ budget →
-    Ready bs base env s top n steps′ budget
+pub ready-on : {bs : List ℕ} {env s : List ℕ} {top n steps budget : ℕ} (steps′ : ℕ) → Ready bs env s top n steps budget → steps′ ≤ budget →
+    Ready bs env s top n steps′ budget
 ready-on steps′ r within = record {
   readable = r .readable;
-  offset = r .offset;
   node = r .node;
   unspent = within;
   room = r .room;
@@ -176,7 +174,7 @@ ready-on steps′ r within = record {
 }
 
 -- The kind of a visited node, and its children.
-module _ {bs : List ℕ} {base : ℕ} {env s : List ℕ} {top k n steps budget : ℕ} (v : Visited bs base env s top k n steps budget) (x : Kind) (e : kindOf k ≡ some x) where
+module _ {bs : List ℕ} {env s : List ℕ} {top k n steps budget : ℕ} (v : Visited bs env s top k n steps budget) (x : Kind) (e : kindOf k ≡ some x) where
   pub visited-kind : kindAt (tableOf bs .nodes) n ≡ some x
   visited-kind = ap kindOf (sym (v .kind)) ∙ e
 

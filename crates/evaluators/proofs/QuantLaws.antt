@@ -91,10 +91,10 @@ pub record Turning (bs env s₀ : List ℕ) (top : ℕ) (all : Bool) (node from 
       Left (tableOf bs .sizes) s top at left n all (bodyAt bs budget node f ρ) vs steps
 
 -- Before the first turn.
-pub turning-start : {bs : List ℕ} {base : ℕ} {env s : List ℕ} {top node from count steps budget : ℕ} (all : Bool) (x : ℕ) →
-    EachReady bs base env s top node from count steps budget 0 →
+pub turning-start : {bs : List ℕ} {env s : List ℕ} {top node from count steps budget : ℕ} (all : Bool) (x : ℕ) →
+    EachReady bs env s top node from count steps budget 0 →
     Turning bs env s top all node from count steps budget x s env from count steps
-turning-start {bs} {base} {env} {s} {top} all x r = record {
+turning-start {bs} {env} {s} {top} all x r = record {
   frame = same-refl top s;
   within = r .ready .unspent;
   body = inner-start env x (r .ready .entries);
@@ -102,8 +102,8 @@ turning-start {bs} {base} {env} {s} {top} all x r = record {
 }
 
 -- A turn: the member at `at` is bound to x, and the body runs.
-module _ {bs : List ℕ} {base : ℕ} {env s₀ : List ℕ} {top : ℕ} {all : Bool} {node from count steps budget x : ℕ} {s inner : List ℕ} {at left n : ℕ}
-    (r : EachReady bs base env s₀ top node from count steps budget 0)
+module _ {bs : List ℕ} {env s₀ : List ℕ} {top : ℕ} {all : Bool} {node from count steps budget x : ℕ} {s inner : List ℕ} {at left n : ℕ}
+    (r : EachReady bs env s₀ top node from count steps budget 0)
     (i : Turning bs env s₀ top all node from count steps budget x s inner at left n) (more : 0 < left) where
   next : (f : ℕ) (ρ : Env) (vs : Values) (d : node ≤ f) (b : Binds (tableOf bs .sizes) s₀ top env ρ) (l : Listed (tableOf bs .sizes) s₀ top from count vs) →
       First (tableOf bs .sizes) s top at left (i .remains f ρ vs d b l .rest)
@@ -131,11 +131,10 @@ module _ {bs : List ℕ} {base : ℕ} {env s₀ : List ℕ} {top : ℕ} {all : B
     body-binds f ρ vs d b l =
         binds-body (i .body) (omega (arith, ex, r .name)) (binds-frame top (i .frame) (le-refl top) b) (next f ρ vs d b l .here)
 
-    pub body-ready : Ready bs base (setAt inner x at) s top body n budget × IsPred bs body
+    pub body-ready : Ready bs (setAt inner x at) s top body n budget × IsPred bs body
     body-ready = rw ey (
       record {
         readable = r .ready .readable;
-        offset = r .ready .offset;
         node = r .ready .node;
         unspent = i .within;
         room = omega (arith, r .ready .room, i .frame .kept);
@@ -253,12 +252,12 @@ held-on (Truth b n) g h = g (done b) n h
 held-on (Refused k p n) g h = g (refused k p) n h
 
 -- The evaluation of a quantifier's node.
-module _ {bs : List ℕ} {base : ℕ} {env s : List ℕ} {top k n steps budget : ℕ} (d : Visited bs base env s top k n steps budget) (q : Sort quant k) where
+module _ {bs : List ℕ} {env s : List ℕ} {top k n steps budget : ℕ} (d : Visited bs env s top k n steps budget) (q : Sort quant k) where
   quant-kind : kindAt (tableOf bs .nodes) n ≡ some (quant (q .0))
   quant-kind = visited-kind d (quant (q .0)) (q .1)
 
   module _ {a : ℕ} (ea : a ≡ nodeAt (tableOf bs .nodes) n .b) where
-    pub quant-range : Ready bs base env s top a (steps + 1) budget × IsExpr bs a × (a < n)
+    pub quant-range : Ready bs env s top a (steps + 1) budget × IsExpr bs a × (a < n)
     quant-range =
         let c = binder-range (d .ready) quant-kind refl in
         rw ea (ready-child s _ top (steps + 1) (d .ready) c (same-refl top s) (le-refl top) (omega arith) (omega (arith, d .spent)), c .is, c .below)
@@ -316,7 +315,7 @@ module _ {bs : List ℕ} {base : ℕ} {env s : List ℕ} {top k n steps budget :
             range-set : (v : Value) → GoodAt (tableOf bs .sizes) s′ next at v → RangeSet v m
             range-set v h = rw z at (g (tableOf bs .sizes) next v (sizes-small bs (d .ready .readable)) h)
 
-            pub quant-ready : EachReady bs base env s′ next n (at + 1) m t budget 0
+            pub quant-ready : EachReady bs env s′ next n (at + 1) m t budget 0
             quant-ready =
                 binder-ready (d .ready) quant-kind refl 0 (omega arith) (p .frame) (range-bounds .0) (range-bounds .1) (range-bounds .2) (some-range .place)
                 (range-set (some-range .value) (some-range .place))

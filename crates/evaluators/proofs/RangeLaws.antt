@@ -59,7 +59,7 @@ range-fits {gs} {s} {top} {at} {n} {v} h r = rw (r .is) (set-fits (r .members) (
 pub range-listed : {gs s : List ℕ} {top at n : ℕ} {v : Value} → GoodAt gs s top at v → (r : RangeSet v n) → Listed gs s top (at + 1) n (r .members)
 range-listed {gs} {s} {top} {at} {n} {v} h r = set-listed (rw (r .is) at h) (r .counted)
 
-module _ {bs : List ℕ} {base : ℕ} {env s : List ℕ} {top n steps budget : ℕ} (r : Ready bs base env s top n steps budget)
+module _ {bs : List ℕ} {env s : List ℕ} {top n steps budget : ℕ} (r : Ready bs env s top n steps budget)
     {k : Kind} (e : kindAt (tableOf bs .nodes) n ≡ some k) (q : fieldsOf k ≡ binderFields) where
   pub binder-name : nodeAt (tableOf bs .nodes) n .a < 32
   binder-name =
@@ -81,7 +81,7 @@ module _ {bs : List ℕ} {base : ℕ} {env s : List ℕ} {top n steps budget : �
   -- The range is a set of m members, that stands at `at`.
   pub binder-ready : {s′ : List ℕ} {at next m t : ℕ} {v : Value} (spare : ℕ) → spare ≤ 128 + expressionCells (some k) →
       Same top s s′ → top ≤ next → next ≤ top + 256 → t ≤ budget →
-      GoodAt (tableOf bs .sizes) s′ next at v → RangeSet v m → EachReady bs base env s′ next n (at + 1) m t budget spare
+      GoodAt (tableOf bs .sizes) s′ next at v → RangeSet v m → EachReady bs env s′ next n (at + 1) m t budget spare
   binder-ready {s′} {at} {next} {m} {t} {v} spare enough f low high within g x = record {
     ready = ready-child s′ (nodeAt (tableOf bs .nodes) n .c) next t r binder-body f low (omega arith) within;
     binder = r .node;

@@ -1,7 +1,7 @@
 -- What the code of the evaluators asks to be safe: nodes that may be read, numbers that fit their width, room.
 use Prim.Native.Nat.{ℕ, _+_, _-_, _*_, _≤_, _<_}
 use mathlib.Core.List.{List}
-use mathlib.Core.Path.{_≡_, _∙_}
+use mathlib.Core.Path.{_≡_, refl, _∙_}
 use native.Mathlib.Omega.{arith}
 use borrow.Author.Needs.{scaled-fits, fits-under}
 use mir.Syntax.{w32, w64}
@@ -30,20 +30,20 @@ module _ {x y : ℕ} (e : x ≡ y) (l : y < 32) where
   pub entry-scaled : Fits w64 (x * 4)
   entry-scaled = scaled-fits x 32 4 entry-below (lit< tt)
 
-pub node-in : {bs : List ℕ} {base n : ℕ} → Readable bs → base ≡ nodesAt bs → n < nodeCount bs → NodeIn bs base n
-node-in r o l = record { laid = record { header = r .header; base = o }; below = l }
+pub node-in : {bs : List ℕ} {n : ℕ} → Readable bs → n < nodeCount bs → NodeIn bs (nodesAt bs) n
+node-in r l = record { laid = record { header = r .header; base = refl }; below = l }
 
-module _ {bs : List ℕ} {base : ℕ} {env s : List ℕ} {top n steps budget : ℕ} (r : Ready bs base env s top n steps budget) where
-  pub ready-node : NodeIn bs base n
-  ready-node = node-in (r .readable) (r .offset) (r .node)
+module _ {bs : List ℕ} {env s : List ℕ} {top n steps budget : ℕ} (r : Ready bs env s top n steps budget) where
+  pub ready-node : NodeIn bs (nodesAt bs) n
+  ready-node = node-in (r .readable) (r .node)
 
   -- Room for a cell that is built.
   pub cell-room : {s′ : List ℕ} → Same top s s′ → top + 514 ≤ length s′
   cell-room e = omega (arith, r .room, r .tall, e .kept)
 
-module _ {bs : List ℕ} {base : ℕ} {env s : List ℕ} {top n from count steps budget spare : ℕ} (r : EachReady bs base env s top n from count steps budget spare) where
-  pub binder-node : NodeIn bs base n
-  binder-node = node-in (r .ready .readable) (r .ready .offset) (r .binder)
+module _ {bs : List ℕ} {env s : List ℕ} {top n from count steps budget spare : ℕ} (r : EachReady bs env s top n from count steps budget spare) where
+  pub binder-node : NodeIn bs (nodesAt bs) n
+  binder-node = node-in (r .ready .readable) (r .binder)
 
   -- The first cell of a set that is built.
   pub above-fits : Fits w64 (top + 1)

@@ -10,7 +10,7 @@ use lib.ListN.{length, getD}
 use Rattle.rules.specs.Values.{Value, Values, members}
 use Rattle.rules.specs.Kinds.{Kind, Quant, kindOf, categoryOf, predicate, expression}
 use Rattle.rules.specs.Cells.{good}
-use Rattle.rules.specs.Tables.{tableOf, nodeAt, kindAt, predAt, exprAt, nodeCount, nodesAt}
+use Rattle.rules.specs.Tables.{tableOf, nodeAt, kindAt, predAt, exprAt, nodeCount}
 use Rattle.rules.specs.Reading.{height}
 use Rattle.rules.specs.Readable.{Readable}
 use Rattle.rules.specs.Runs.{M, Given}
@@ -41,9 +41,8 @@ expressionCells (some k) = elim (categoryOf k) [ predicate ↦ 0 | expression �
 abbrev pub cellsFor : List ℕ → ℕ → ℕ
 cellsFor bs n = 384 * height (tableOf bs .nodes) n + expressionCells (kindAt (tableOf bs .nodes) n) + 260
 
-pub record Ready (bs : List ℕ) (base : ℕ) (env s : List ℕ) (top n steps budget : ℕ) : Type 0 where
+pub record Ready (bs : List ℕ) (env s : List ℕ) (top n steps budget : ℕ) : Type 0 where
   pub readable : Readable bs
-  pub offset : base ≡ nodesAt bs
   pub node : n < nodeCount bs
   pub unspent : steps ≤ budget
   pub room : top + cellsFor bs n ≤ length s
@@ -54,8 +53,8 @@ pub record Ready (bs : List ℕ) (base : ℕ) (env s : List ℕ) (top n steps bu
   pub binds : Binds (tableOf bs .sizes) s top env values
 
 -- So too, at a visit that is counted, of a kind k.
-pub record Visited (bs : List ℕ) (base : ℕ) (env s : List ℕ) (top k n steps budget : ℕ) : Type 0 where
-  pub ready : Ready bs base env s top n steps budget
+pub record Visited (bs : List ℕ) (env s : List ℕ) (top k n steps budget : ℕ) : Type 0 where
+  pub ready : Ready bs env s top n steps budget
   pub spent : steps < budget
   pub kind : k ≡ nodeAt (tableOf bs .nodes) n .kind
 
@@ -91,8 +90,8 @@ bodyAt bs budget n f ρ w =
     holdsᵖ budget (tableOf bs .sizes) (predAt f (tableOf bs .nodes) (nodeAt (tableOf bs .nodes) n .c)) (ρ with nodeAt (tableOf bs .nodes) n .a ≔ w)
 
 -- The loop over a range may itself build a set of `spare` cells.
-pub record EachReady (bs : List ℕ) (base : ℕ) (env s : List ℕ) (top n from count steps budget spare : ℕ) : Type 0 where
-  pub ready : Ready bs base env s top (nodeAt (tableOf bs .nodes) n .c) steps budget
+pub record EachReady (bs : List ℕ) (env s : List ℕ) (top n from count steps budget spare : ℕ) : Type 0 where
+  pub ready : Ready bs env s top (nodeAt (tableOf bs .nodes) n .c) steps budget
   pub binder : n < nodeCount bs
   pub deeper : nodeAt (tableOf bs .nodes) n .c < n
   pub is : IsPred bs (nodeAt (tableOf bs .nodes) n .c)

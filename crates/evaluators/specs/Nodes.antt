@@ -8,7 +8,7 @@ use lib.Dec.{eqb}
 use lib.ListN.{length, getD}
 use Rattle.rules.specs.Values.{Value}
 use Rattle.rules.specs.Kinds.{Join, join, Quant, forAll, forSome, predicate, expression, kindOf}
-use Rattle.rules.specs.Tables.{tableOf, nodeAt, kindAt, nodeCount, nodesAt}
+use Rattle.rules.specs.Tables.{tableOf, nodeAt, kindAt, nodeCount}
 use Rattle.rules.specs.Reading.{height}
 use Rattle.rules.specs.Readable.{Readable, CategoryIs}
 use Rattle.rules.specs.Operations as rules
@@ -59,9 +59,8 @@ abbrev pub RangeAt : List ℕ → ℕ → Range → Type 0
 RangeAt s at r = (gs : List ℕ) (top : ℕ) (v : Value) → Sizes gs → GoodAt gs s top at v → RangeAs v r
 
 -- An identifier's node.
-pub record NameReady (bs : List ℕ) (base : ℕ) (env : List ℕ) (n : ℕ) : Type 0 where
+pub record NameReady (bs : List ℕ) (env : List ℕ) (n : ℕ) : Type 0 where
   pub readable : Readable bs
-  pub offset : base ≡ nodesAt bs
   pub node : n < nodeCount bs
   pub name : nodeAt (tableOf bs .nodes) n .a < 32
   pub entries : length env ≡ 32
@@ -70,9 +69,8 @@ abbrev pub NameAt : List ℕ → List ℕ → ℕ → ℕ → ℕ → Formed →
 NameAt bs env top n steps r = r ≡ Placed (getD env (nodeAt (tableOf bs .nodes) n .a) 0) top steps
 
 -- Another leaf's node.
-pub record LeafNode (bs : List ℕ) (base : ℕ) (s : List ℕ) (top k n : ℕ) : Type 0 where
+pub record LeafNode (bs : List ℕ) (s : List ℕ) (top k n : ℕ) : Type 0 where
   pub readable : Readable bs
-  pub offset : base ≡ nodesAt bs
   pub node : n < nodeCount bs
   pub ready : LeafReady k (nodeAt (tableOf bs .nodes) n .a) (nodeAt (tableOf bs .nodes) n .b) (getD (tableOf bs .sizes) (nodeAt (tableOf bs .nodes) n .a) 0) s top
 

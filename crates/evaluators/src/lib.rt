@@ -34,7 +34,6 @@ enum Range {
 // The condition at a node.
 pub fn eval_pred(
     table: &[u8],
-    base: usize,
     env: &[u32; 32],
     s: &mut [u64],
     top: usize,
@@ -42,19 +41,19 @@ pub fn eval_pred(
     steps: u32,
     budget: u32,
 ) -> Held
-    requires { ⌜ Ready (now table) base (now env) (now s) top node steps budget × IsPred (now table) node ⌝ }
+    requires { ⌜ Ready (now table) (now env) (now s) top node steps budget × IsPred (now table) node ⌝ }
     ensures { λ r. ⌜ EvaluatesP (now (table .entry)) (now (env .entry)) (now (s .entry)) top node steps budget (now (s .exit)) r ⌝ }
 {
     if steps == budget {
         return Held::Refused(19, node, steps);
     }
-    let kind = table::kind(table, base, node);
+    let kind = table::node_kind(table, node);
     match kind {
         1..=11 => match kind {
-            4 => eval_not(table, base, env, s, top, kind, node, steps, budget),
-            6..=9 => eval_test(table, base, env, s, top, kind, node, steps, budget),
-            10..=11 => eval_quant(table, base, env, s, top, kind, node, steps, budget),
-            _ => eval_join(table, base, env, s, top, kind, node, steps, budget),
+            4 => eval_not(table, env, s, top, node, steps, budget),
+            6..=9 => eval_test(table, env, s, top, kind, node, steps, budget),
+            10..=11 => eval_quant(table, env, s, top, kind, node, steps, budget),
+            _ => eval_join(table, env, s, top, kind, node, steps, budget),
         },
         // Never: no other kind is a predicate.
         _ => Held::Refused(6, node, steps),
@@ -87,7 +86,6 @@ fn joined(kind: usize, p: bool, q: bool) -> bool
 // 1, 2, 3 and 5
 fn eval_join(
     table: &[u8],
-    base: usize,
     env: &[u32; 32],
     s: &mut [u64],
     top: usize,
@@ -96,19 +94,19 @@ fn eval_join(
     steps: u32,
     budget: u32,
 ) -> Held
-    requires { ⌜ Visited (now table) base (now env) (now s) top kind node steps budget × Sort join kind ⌝ }
+    requires { ⌜ Visited (now table) (now env) (now s) top kind node steps budget × Sort join kind ⌝ }
     ensures { λ r. ⌜ EvaluatesP (now (table .entry)) (now (env .entry)) (now (s .entry)) top node steps budget (now (s .exit)) r ⌝ }
 {
-    let a = table::field(table, base, node, 0);
-    let first = eval_pred(table, base, env, s, top, a, steps + 1, budget);
+    let a = table::node_field(table, node, 0);
+    let first = eval_pred(table, env, s, top, a, steps + 1, budget);
     let Held::Truth(p, n) = first else {
         return first;
     };
     if decides(kind, p) {
         return Held::Truth(kind != 1, n);
     }
-    let b = table::field(table, base, node, 1);
-    let second = eval_pred(table, base, env, s, top, b, n, budget);
+    let b = table::node_field(table, node, 1);
+    let second = eval_pred(table, env, s, top, b, n, budget);
     let Held::Truth(q, m) = second else {
         return second;
     };
@@ -118,20 +116,18 @@ fn eval_join(
 // 4
 fn eval_not(
     table: &[u8],
-    base: usize,
     env: &[u32; 32],
     s: &mut [u64],
     top: usize,
-    kind: usize,
     node: usize,
     steps: u32,
     budget: u32,
 ) -> Held
-    requires { ⌜ Visited (now table) base (now env) (now s) top kind node steps budget × (kind ≡ 4) ⌝ }
+    requires { ⌜ Visited (now table) (now env) (now s) top 4 node steps budget ⌝ }
     ensures { λ r. ⌜ EvaluatesP (now (table .entry)) (now (env .entry)) (now (s .entry)) top node steps budget (now (s .exit)) r ⌝ }
 {
-    let a = table::field(table, base, node, 0);
-    let first = eval_pred(table, base, env, s, top, a, steps + 1, budget);
+    let a = table::node_field(table, node, 0);
+    let first = eval_pred(table, env, s, top, a, steps + 1, budget);
     let Held::Truth(p, n) = first else {
         return first;
     };
@@ -141,7 +137,6 @@ fn eval_not(
 // The two operands of a node, one after the other.
 fn eval_both(
     table: &[u8],
-    base: usize,
     env: &[u32; 32],
     s: &mut [u64],
     top: usize,
@@ -149,15 +144,15 @@ fn eval_both(
     steps: u32,
     budget: u32,
 ) -> Operands
-    requires { ⌜ Ready (now table) base (now env) (now s) top node steps budget × TwoFields (now table) node ⌝ }
+    requires { ⌜ Ready (now table) (now env) (now s) top node steps budget × TwoFields (now table) node ⌝ }
     ensures { λ r. ⌜ EvaluatesBoth (now (table .entry)) (now (env .entry)) (now (s .entry)) top node steps budget (now (s .exit)) r ⌝ }
 {
-    let a = table::field(table, base, node, 0);
-    match eval_expr(table, base, env, s, top, a, steps, budget) {
+    let a = table::node_field(table, node, 0);
+    match eval_expr(table, env, s, top, a, steps, budget) {
         Formed::Stopped(k, p, n) => Operands::Failed(k, p, n),
         Formed::Value(at, mid, n) => {
-            let b = table::field(table, base, node, 1);
-            match eval_expr(table, base, env, s, mid, b, n, budget) {
+            let b = table::node_field(table, node, 1);
+            match eval_expr(table, env, s, mid, b, n, budget) {
                 Formed::Stopped(k, p, m) => Operands::Failed(k, p, m),
                 Formed::Value(other, next, m) => Operands::Both(at, mid, other, next, m),
             }
@@ -168,7 +163,6 @@ fn eval_both(
 // 6 to 9
 fn eval_test(
     table: &[u8],
-    base: usize,
     env: &[u32; 32],
     s: &mut [u64],
     top: usize,
@@ -177,10 +171,10 @@ fn eval_test(
     steps: u32,
     budget: u32,
 ) -> Held
-    requires { ⌜ Visited (now table) base (now env) (now s) top kind node steps budget × Sort test kind ⌝ }
+    requires { ⌜ Visited (now table) (now env) (now s) top kind node steps budget × Sort test kind ⌝ }
     ensures { λ r. ⌜ EvaluatesP (now (table .entry)) (now (env .entry)) (now (s .entry)) top node steps budget (now (s .exit)) r ⌝ }
 {
-    match eval_both(table, base, env, s, top, node, steps + 1, budget) {
+    match eval_both(table, env, s, top, node, steps + 1, budget) {
         Operands::Failed(k, p, n) => Held::Refused(k, p, n),
         Operands::Both(a, mid, b, next, n) => match operations::test(s, kind, a, mid, b, next) {
             Tested::Unlike => Held::Refused(15, node, n),
@@ -203,7 +197,6 @@ fn range_of(s: &[u64], at: usize) -> Range
 // 10 and 11
 fn eval_quant(
     table: &[u8],
-    base: usize,
     env: &[u32; 32],
     s: &mut [u64],
     top: usize,
@@ -212,29 +205,17 @@ fn eval_quant(
     steps: u32,
     budget: u32,
 ) -> Held
-    requires { ⌜ Visited (now table) base (now env) (now s) top kind node steps budget × Sort quant kind ⌝ }
+    requires { ⌜ Visited (now table) (now env) (now s) top kind node steps budget × Sort quant kind ⌝ }
     ensures { λ r. ⌜ EvaluatesP (now (table .entry)) (now (env .entry)) (now (s .entry)) top node steps budget (now (s .exit)) r ⌝ }
 {
-    let a = table::field(table, base, node, 1);
-    match eval_expr(table, base, env, s, top, a, steps + 1, budget) {
+    let a = table::node_field(table, node, 1);
+    match eval_expr(table, env, s, top, a, steps + 1, budget) {
         Formed::Stopped(k, p, n) => Held::Refused(k, p, n),
         Formed::Value(at, next, n) => match range_of(s, at) {
             Range::Unlike => Held::Refused(15, node, n),
             Range::Set(count) => {
                 let all = kind == 10;
-                each_member(
-                    table,
-                    base,
-                    env,
-                    s,
-                    next,
-                    all,
-                    node,
-                    at + 1,
-                    count,
-                    n,
-                    budget,
-                )
+                each_member(table, env, s, next, all, node, at + 1, count, n, budget)
             }
         },
     }
@@ -243,7 +224,6 @@ fn eval_quant(
 // The body of a quantifier at each of `count` members from `from` on; the first that decides ends it.
 fn each_member(
     table: &[u8],
-    base: usize,
     env: &[u32; 32],
     s: &mut [u64],
     top: usize,
@@ -254,18 +234,18 @@ fn each_member(
     steps: u32,
     budget: u32,
 ) -> Held
-    requires { ⌜ EachReady (now table) base (now env) (now s) top node from count steps budget 0 ⌝ }
+    requires { ⌜ EachReady (now table) (now env) (now s) top node from count steps budget 0 ⌝ }
     ensures { λ r. ⌜ EvaluatesEach (now (table .entry)) (now (env .entry)) (now (s .entry)) top node from count steps budget (quantOf all) (now (s .exit)) r ⌝ }
 {
-    let x = table::field(table, base, node, 0);
-    let body = table::field(table, base, node, 2);
+    let x = table::node_field(table, node, 0);
+    let body = table::node_field(table, node, 2);
     let mut inner = *env;
     let mut at = from;
     let mut left = count;
     let mut n = steps;
     while left > 0 {
         inner[x] = at as u32;
-        let held = eval_pred(table, base, &inner, s, top, body, n, budget);
+        let held = eval_pred(table, &inner, s, top, body, n, budget);
         let Held::Truth(yes, m) = held else {
             return held;
         };
@@ -282,7 +262,6 @@ fn each_member(
 // The expression at a node.
 fn eval_expr(
     table: &[u8],
-    base: usize,
     env: &[u32; 32],
     s: &mut [u64],
     top: usize,
@@ -290,30 +269,20 @@ fn eval_expr(
     steps: u32,
     budget: u32,
 ) -> Formed
-    requires { ⌜ Ready (now table) base (now env) (now s) top node steps budget × IsExpr (now table) node ⌝ }
+    requires { ⌜ Ready (now table) (now env) (now s) top node steps budget × IsExpr (now table) node ⌝ }
     ensures { λ r. ⌜ EvaluatesE (now (table .entry)) (now (env .entry)) (now (s .entry)) top node steps budget (now (s .exit)) r ⌝ }
 {
     if steps == budget {
         return Formed::Stopped(19, node, steps);
     }
-    let kind = table::kind(table, base, node);
+    let kind = table::node_kind(table, node);
     match kind {
-        20 => eval_name(table, base, env, top, node, steps + 1),
-        25 => eval_bool(table, base, env, s, top, kind, node, steps, budget),
-        27 | 33 | 35 | 36 | 38 | 43 => eval_one(
-            table,
-            base,
-            env,
-            s,
-            top,
-            kind,
-            node,
-            steps,
-            budget,
-        ),
-        28..=32 | 37 | 39..=41 => eval_two(table, base, env, s, top, kind, node, steps, budget),
-        34 => eval_select(table, base, env, s, top, kind, node, steps, budget),
-        20..=43 => eval_leaf(table, base, s, top, kind, node, steps + 1),
+        20 => eval_name(table, env, top, node, steps + 1),
+        25 => eval_bool(table, env, s, top, node, steps, budget),
+        27 | 33 | 35 | 36 | 38 | 43 => eval_one(table, env, s, top, kind, node, steps, budget),
+        28..=32 | 37 | 39..=41 => eval_two(table, env, s, top, kind, node, steps, budget),
+        34 => eval_select(table, env, s, top, node, steps, budget),
+        20..=43 => eval_leaf(table, s, top, kind, node, steps + 1),
         // Never: no other kind is an expression.
         _ => Formed::Stopped(6, node, steps),
     }
@@ -326,36 +295,28 @@ fn wide(x: u32) -> usize
 }
 
 // 20: the value stays where it is.
-fn eval_name(
-    table: &[u8],
-    base: usize,
-    env: &[u32; 32],
-    top: usize,
-    node: usize,
-    steps: u32,
-) -> Formed
-    requires { ⌜ NameReady (now table) base (now env) node ⌝ }
+fn eval_name(table: &[u8], env: &[u32; 32], top: usize, node: usize, steps: u32) -> Formed
+    requires { ⌜ NameReady (now table) (now env) node ⌝ }
     ensures { λ r. ⌜ NameAt (now (table .entry)) (now (env .entry)) top node steps r ⌝ }
 {
-    let x = table::field(table, base, node, 0);
+    let x = table::node_field(table, node, 0);
     Formed::Value(wide(env[x]), top, steps)
 }
 
 // 21 to 24, 26 and 42
 fn eval_leaf(
     table: &[u8],
-    base: usize,
     s: &mut [u64],
     top: usize,
     kind: usize,
     node: usize,
     steps: u32,
 ) -> Formed
-    requires { ⌜ LeafNode (now table) base (now s) top kind node ⌝ }
+    requires { ⌜ LeafNode (now table) (now s) top kind node ⌝ }
     ensures { λ r. ⌜ LeafFormed (now (table .entry)) (now (s .entry)) top kind node steps (now (s .exit)) r ⌝ }
 {
-    let a = table::field(table, base, node, 0);
-    let b = table::field(table, base, node, 1);
+    let a = table::node_field(table, node, 0);
+    let b = table::node_field(table, node, 1);
     let size = table::size(table, a);
     let end = operations::leaf(s, kind, a as u64, b as u64, size as u64, top);
     Formed::Value(top, end, steps)
@@ -364,20 +325,18 @@ fn eval_leaf(
 // 25
 fn eval_bool(
     table: &[u8],
-    base: usize,
     env: &[u32; 32],
     s: &mut [u64],
     top: usize,
-    kind: usize,
     node: usize,
     steps: u32,
     budget: u32,
 ) -> Formed
-    requires { ⌜ Visited (now table) base (now env) (now s) top kind node steps budget × (kind ≡ 25) ⌝ }
+    requires { ⌜ Visited (now table) (now env) (now s) top 25 node steps budget ⌝ }
     ensures { λ r. ⌜ EvaluatesE (now (table .entry)) (now (env .entry)) (now (s .entry)) top node steps budget (now (s .exit)) r ⌝ }
 {
-    let a = table::field(table, base, node, 0);
-    match eval_pred(table, base, env, s, top, a, steps + 1, budget) {
+    let a = table::node_field(table, node, 0);
+    match eval_pred(table, env, s, top, a, steps + 1, budget) {
         Held::Refused(k, p, n) => Formed::Stopped(k, p, n),
         Held::Truth(yes, n) => {
             let end = products::put_cell(s, top, 8589934592 + yes as u64);
@@ -414,7 +373,6 @@ fn settle(
 // 27, 33, 35, 36, 38 and 43
 fn eval_one(
     table: &[u8],
-    base: usize,
     env: &[u32; 32],
     s: &mut [u64],
     top: usize,
@@ -423,11 +381,11 @@ fn eval_one(
     steps: u32,
     budget: u32,
 ) -> Formed
-    requires { ⌜ Visited (now table) base (now env) (now s) top kind node steps budget × Sort one kind ⌝ }
+    requires { ⌜ Visited (now table) (now env) (now s) top kind node steps budget × Sort one kind ⌝ }
     ensures { λ r. ⌜ EvaluatesE (now (table .entry)) (now (env .entry)) (now (s .entry)) top node steps budget (now (s .exit)) r ⌝ }
 {
-    let a = table::field(table, base, node, 0);
-    let formed = eval_expr(table, base, env, s, top, a, steps + 1, budget);
+    let a = table::node_field(table, node, 0);
+    let formed = eval_expr(table, env, s, top, a, steps + 1, budget);
     let Formed::Value(at, next, n) = formed else {
         return formed;
     };
@@ -438,7 +396,6 @@ fn eval_one(
 // 28 to 32, 37 and 39 to 41
 fn eval_two(
     table: &[u8],
-    base: usize,
     env: &[u32; 32],
     s: &mut [u64],
     top: usize,
@@ -447,10 +404,10 @@ fn eval_two(
     steps: u32,
     budget: u32,
 ) -> Formed
-    requires { ⌜ Visited (now table) base (now env) (now s) top kind node steps budget × Sort two kind ⌝ }
+    requires { ⌜ Visited (now table) (now env) (now s) top kind node steps budget × Sort two kind ⌝ }
     ensures { λ r. ⌜ EvaluatesE (now (table .entry)) (now (env .entry)) (now (s .entry)) top node steps budget (now (s .exit)) r ⌝ }
 {
-    match eval_both(table, base, env, s, top, node, steps + 1, budget) {
+    match eval_both(table, env, s, top, node, steps + 1, budget) {
         Operands::Failed(k, p, n) => Formed::Stopped(k, p, n),
         Operands::Both(a, mid, b, next, n) => {
             let r = operations::two(s, kind, a, mid, b, next);
@@ -462,20 +419,18 @@ fn eval_two(
 // 34
 fn eval_select(
     table: &[u8],
-    base: usize,
     env: &[u32; 32],
     s: &mut [u64],
     top: usize,
-    kind: usize,
     node: usize,
     steps: u32,
     budget: u32,
 ) -> Formed
-    requires { ⌜ Visited (now table) base (now env) (now s) top kind node steps budget × (kind ≡ 34) ⌝ }
+    requires { ⌜ Visited (now table) (now env) (now s) top 34 node steps budget ⌝ }
     ensures { λ r. ⌜ EvaluatesE (now (table .entry)) (now (env .entry)) (now (s .entry)) top node steps budget (now (s .exit)) r ⌝ }
 {
-    let a = table::field(table, base, node, 1);
-    let formed = eval_expr(table, base, env, s, top, a, steps + 1, budget);
+    let a = table::node_field(table, node, 1);
+    let formed = eval_expr(table, env, s, top, a, steps + 1, budget);
     let Formed::Value(at, next, n) = formed else {
         return formed;
     };
@@ -483,7 +438,7 @@ fn eval_select(
     let Range::Set(count) = range else {
         return Formed::Stopped(15, node, n);
     };
-    let chosen = each_chosen(table, base, env, s, next, node, at + 1, count, n, budget);
+    let chosen = each_chosen(table, env, s, next, node, at + 1, count, n, budget);
     let Formed::Value(_, end, m) = chosen else {
         return chosen;
     };
@@ -506,7 +461,6 @@ fn choose(s: &mut [u64], at: usize, end: usize, yes: bool, to: usize) -> usize
 // The members, of `count` from `from` on, at which the body holds, as a set built at top.
 fn each_chosen(
     table: &[u8],
-    base: usize,
     env: &[u32; 32],
     s: &mut [u64],
     top: usize,
@@ -516,11 +470,11 @@ fn each_chosen(
     steps: u32,
     budget: u32,
 ) -> Formed
-    requires { ⌜ EachReady (now table) base (now env) (now s) top node from count steps budget 256 ⌝ }
+    requires { ⌜ EachReady (now table) (now env) (now s) top node from count steps budget 256 ⌝ }
     ensures { λ r. ⌜ EvaluatesChosen (now (table .entry)) (now (env .entry)) (now (s .entry)) top node from count steps budget (now (s .exit)) r ⌝ }
 {
-    let x = table::field(table, base, node, 0);
-    let body = table::field(table, base, node, 2);
+    let x = table::node_field(table, node, 0);
+    let body = table::node_field(table, node, 2);
     let mut inner = *env;
     let mut at = from;
     let mut left = count;
@@ -529,7 +483,7 @@ fn each_chosen(
     let mut chosen: u64 = 0;
     while left > 0 {
         inner[x] = at as u32;
-        match eval_pred(table, base, &inner, s, to, body, n, budget) {
+        match eval_pred(table, &inner, s, to, body, n, budget) {
             Held::Refused(k, p, m) => {
                 return Formed::Stopped(k, p, m);
             }

@@ -17,7 +17,7 @@ use Rattle.rules.specs.Tables.{wordAt, nodeFrom, tableOf, nodeAt, fieldsIf, fie
 use Rattle.laws.proofs.TableLaws.{sizes-length, binds-entry, nodes-entry}
 use Rattle.rules.specs.Reading.{headed, limited, laidOut}
 use Rattle.laws.proofs.EndLaws.{T-allBelow}
-use Rattle.table.specs.Layout.{WordOf}
+use Rattle.table.specs.Layout.{NodeIn, WordOf}
 use Rattle.table.specs.Codes.{fieldCodes, fieldOf, fieldCode, codeAt, rowOf, categoryCode}
 
 pub size-none : (bs : List ℕ) (g n : ℕ) → n ≡ givenCount bs → n ≤ g → 0 ≡ getD (tableOf bs .sizes) g 0
@@ -26,6 +26,10 @@ size-none bs g n e h = sym (List·getD-eq-default (tableOf bs .sizes) 0 (omega (
 pub kind-read : (bs : List ℕ) (at n w : ℕ) → at ≡ nodesAt bs → n < nodeCount bs → w ≡ wordAt bs (at + 16 * n) → w ≡ nodeAt (tableOf bs .nodes) n .kind
 unfolding nodeFrom
 kind-read bs at n w e h r = rw (nodes-entry bs n h, ← e) r
+
+-- The offset that has been read off the header.
+pub node-here : {bs : List ℕ} {at n : ℕ} → NodeIn bs (nodesAt bs) n → at ≡ wordAt bs 24 → NodeIn bs at n
+node-here h e = record { laid = record { header = h .laid .header; base = e ∙ h .laid .header .nodes-at }; below = h .below }
 
 pub bind-read : (bs : List ℕ) (x g w : ℕ) → g ≡ givenCount bs → x < identifierCount bs → w ≡ wordAt bs (32 + 4 * g + 4 * x) → WordOf bs x w
 bind-read bs x g w e h r d = rw e at r ∙ sym (binds-entry bs x d h)

@@ -63,6 +63,9 @@ const FIELDS: [u16; 44] = [
     0x200, // 43 choice: an expression
 ];
 
+// Where the header has the offset of the nodes.
+const NODES_AT: usize = 24;
+
 pub fn wide(x: u8) -> usize
     ensures { λ r. ⌜ (r ≡ x) × (r < 256) ⌝ }
 {
@@ -184,6 +187,21 @@ pub fn field(table: &[u8], at: usize, n: usize, i: usize) -> usize
     ensures { λ r. ⌜ r ≡ getD (fieldWords (nodeAt (tableOf (now (table .entry)) .nodes) n)) i 0 ⌝ }
 {
     word(table, at + 16 * n + 4 + 4 * i)
+}
+
+// The same for a table whose header is right: the offset of the nodes stands in it, at byte 24.
+pub fn node_kind(table: &[u8], n: usize) -> usize
+    requires { ⌜ NodeIn (now table) (nodesAt (now table)) n ⌝ }
+    ensures { λ r. ⌜ r ≡ nodeAt (tableOf (now (table .entry)) .nodes) n .kind ⌝ }
+{
+    kind(table, word(table, NODES_AT), n)
+}
+
+pub fn node_field(table: &[u8], n: usize, i: usize) -> usize
+    requires { ⌜ NodeIn (now table) (nodesAt (now table)) n × (i < 3) ⌝ }
+    ensures { λ r. ⌜ r ≡ getD (fieldWords (nodeAt (tableOf (now (table .entry)) .nodes) n)) i 0 ⌝ }
+{
+    field(table, word(table, NODES_AT), n, i)
 }
 
 // The category of a kind code: 1 predicate, 2 expression, 0 where it is unknown.

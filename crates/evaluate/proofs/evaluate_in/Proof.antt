@@ -59,21 +59,18 @@ returns c =
     let start = lent (loaded n) in
     absent-reported (start .args .table .now) (standing n) (start .args .budget) (start .pre .needs .readable) (n .nodes .ensures) (c .if1 .taken) refl refl
 
-nodes-offset-requires : tie.Need-nodes-offset-requires
-nodes-offset-requires c κs = lent (loaded (c .before)) .pre .needs .readable .header .long
-
 sub-eval-pred : tie.Need-sub-eval-pred
-sub-eval-pred c = omega (arith, c .before .before .before .if1 .left)
+sub-eval-pred c = omega (arith, c .before .before .if1 .left)
 
 eval-pred-requires : tie.Need-eval-pred-requires
 eval-pred-requires c κs =
-    let test = c .before .before .before in
+    let test = c .before .before in
     let n = test .before in
     let start = lent (loaded n) in
     let at = loaded n .load in
     let entries : length (at .result .at) ≡ 32 = length-unmapped ℕ (at .result .at) 32 (at .ok .1 .1 .0 .1 .0 .1) in
     root-ready (start .args .table .now) (standing n) (start .pre .needs .readable) (n .nodes .ensures) (test .if1 .left)
-    (start .pre) (kept (loaded n)) entries (c .before .before .nodes-offset .ensures)
+    (start .pre) (kept (loaded n)) entries
 
 ended-requires : tie.Need-ended-requires
 ended-requires c κs = tt
@@ -91,12 +88,12 @@ returns-2 c =
 
 same-length-3 : tie.Need-same-length-3
 same-length-3 c =
-    let p = c .before .before .before in p .eval-pred .kept .1 .1 .1 .0 ∙ kept (loaded (p .before .before .before .before .before))
+    let p = c .before .before .before in p .eval-pred .kept .1 .1 .0 ∙ kept (loaded (p .before .before .before .before))
 
 returns-3 : tie.Need-returns-3
 returns-3 c =
     let p = c .before .before .before in
-    let test = p .before .before .before .before in
+    let test = p .before .before .before in
     let n = test .before in
     let start = lent (loaded n) in
     root-reported (start .args .table .now) (standing n) (start .pre .needs .readable) (n .nodes .ensures) (test .if1 .left)
@@ -113,7 +110,6 @@ evaluate-in-spec =
     nodes-requires
     same-length
     returns
-    nodes-offset-requires
     sub-eval-pred
     eval-pred-requires
     ended-requires

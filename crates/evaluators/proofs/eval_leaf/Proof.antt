@@ -5,11 +5,11 @@ use lib.Dec.{lit<}
 use Rattle.evaluators.proofs.eval_leaf.Statement.{statement}
 use Rattle.evaluators.proofs.eval_leaf.Tie as tie
 
-field-requires : tie.Need-field-requires
-field-requires c κs = let p = c .before .before .pre in (node-in (p .readable) (p .offset) (p .node), lit< tt)
+node-field-requires : tie.Need-node-field-requires
+node-field-requires c κs = let p = c .before .before .pre in (node-in (p .readable) (p .node), lit< tt)
 
-field-requires-2 : tie.Need-field-requires-2
-field-requires-2 c κs = let p = c .before .before .before .pre in (node-in (p .readable) (p .offset) (p .node), lit< tt)
+node-field-requires-2 : tie.Need-node-field-requires-2
+node-field-requires-2 c κs = let p = c .before .before .before .pre in (node-in (p .readable) (p .node), lit< tt)
 
 size-requires : tie.Need-size-requires
 size-requires c κs = c .before .before .before .before .pre .readable .header
@@ -17,7 +17,7 @@ size-requires c κs = c .before .before .before .before .pre .readable .header
 leaf-requires : tie.Need-leaf-requires
 leaf-requires c κs =
     let f = c .before .before .before in
-    leaf-ready (f .before .before .before .pre) (f .field .ensures) (c .before .before .field2 .ensures) (c .before .size .ensures)
+    leaf-ready (f .before .before .before .pre) (f .node-field .ensures) (c .before .before .node-field2 .ensures) (c .before .size .ensures)
 
 same-length : tie.Need-same-length
 same-length c = c .before .before .leaf .kept .0
@@ -26,9 +26,9 @@ returns : tie.Need-returns
 returns c =
     let l = c .before .before in
     let f = l .before .before .before .before in
-    leaf-formed (f .before .before .before .pre) (f .field .ensures) (l .before .before .before .field2 .ensures) (l .before .before .size .ensures) (l .leaf .ensures)
+    leaf-formed (f .before .before .before .pre) (f .node-field .ensures) (l .before .before .before .node-field2 .ensures) (l .before .before .size .ensures) (l .leaf .ensures)
 
 pub eval-leaf-spec : {M : Type 1} → statement M
 eval-leaf-spec =
     tie.close
-    (tie.spec field-requires field-requires-2 size-requires leaf-requires same-length returns)
+    (tie.spec node-field-requires node-field-requires-2 size-requires leaf-requires same-length returns)

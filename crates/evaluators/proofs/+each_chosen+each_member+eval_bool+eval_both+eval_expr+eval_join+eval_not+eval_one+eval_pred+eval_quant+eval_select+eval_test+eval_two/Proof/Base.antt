@@ -30,43 +30,43 @@ use Rattle.evaluators.proofs.eval_two.Reads as eval-two
 use Rattle.evaluators.proofs.eval_two.Kinds as eval-two-kinds
 
 abbrev pub μ-each-chosen : Measures 3 each-chosen-kinds.ps ℕ
-μ-each-chosen κs a = 3 * a .1 .1 .1 .1 .1 .0
+μ-each-chosen κs a = 3 * a .1 .1 .1 .1 .0
 
 abbrev pub μ-each-member : Measures 3 each-member-kinds.ps ℕ
-μ-each-member κs a = 3 * a .1 .1 .1 .1 .1 .1 .0
+μ-each-member κs a = 3 * a .1 .1 .1 .1 .1 .0
 
 abbrev pub μ-eval-bool : Measures 3 eval-bool-kinds.ps ℕ
-μ-eval-bool κs a = 3 * a .1 .1 .1 .1 .1 .1 .0 + 1
+μ-eval-bool κs a = 3 * a .1 .1 .1 .1 .0 + 1
 
 abbrev pub μ-eval-both : Measures 3 eval-both-kinds.ps ℕ
-μ-eval-both κs a = 3 * a .1 .1 .1 .1 .1 .0
+μ-eval-both κs a = 3 * a .1 .1 .1 .1 .0
 
 abbrev pub μ-eval-expr : Measures 3 eval-expr-kinds.ps ℕ
-μ-eval-expr κs a = 3 * a .1 .1 .1 .1 .1 .0 + 2
+μ-eval-expr κs a = 3 * a .1 .1 .1 .1 .0 + 2
 
 abbrev pub μ-eval-join : Measures 3 eval-join-kinds.ps ℕ
-μ-eval-join κs a = 3 * a .1 .1 .1 .1 .1 .1 .0 + 1
+μ-eval-join κs a = 3 * a .1 .1 .1 .1 .1 .0 + 1
 
 abbrev pub μ-eval-not : Measures 3 eval-not-kinds.ps ℕ
-μ-eval-not κs a = 3 * a .1 .1 .1 .1 .1 .1 .0 + 1
+μ-eval-not κs a = 3 * a .1 .1 .1 .1 .0 + 1
 
 abbrev pub μ-eval-one : Measures 3 eval-one-kinds.ps ℕ
-μ-eval-one κs a = 3 * a .1 .1 .1 .1 .1 .1 .0 + 1
+μ-eval-one κs a = 3 * a .1 .1 .1 .1 .1 .0 + 1
 
 abbrev pub μ-eval-pred : Measures 3 eval-pred-kinds.ps ℕ
-μ-eval-pred κs a = 3 * a .1 .1 .1 .1 .1 .0 + 2
+μ-eval-pred κs a = 3 * a .1 .1 .1 .1 .0 + 2
 
 abbrev pub μ-eval-quant : Measures 3 eval-quant-kinds.ps ℕ
-μ-eval-quant κs a = 3 * a .1 .1 .1 .1 .1 .1 .0 + 1
+μ-eval-quant κs a = 3 * a .1 .1 .1 .1 .1 .0 + 1
 
 abbrev pub μ-eval-select : Measures 3 eval-select-kinds.ps ℕ
-μ-eval-select κs a = 3 * a .1 .1 .1 .1 .1 .1 .0 + 1
+μ-eval-select κs a = 3 * a .1 .1 .1 .1 .0 + 1
 
 abbrev pub μ-eval-test : Measures 3 eval-test-kinds.ps ℕ
-μ-eval-test κs a = 3 * a .1 .1 .1 .1 .1 .1 .0 + 1
+μ-eval-test κs a = 3 * a .1 .1 .1 .1 .1 .0 + 1
 
 abbrev pub μ-eval-two : Measures 3 eval-two-kinds.ps ℕ
-μ-eval-two κs a = 3 * a .1 .1 .1 .1 .1 .1 .0 + 1
+μ-eval-two κs a = 3 * a .1 .1 .1 .1 .1 .0 + 1
 
 abbrev pub each-chosen-at : ℕ → In 3 each-chosen-kinds.ps
 each-chosen-at t =

@@ -7,22 +7,22 @@ use lib.Dec.{lit<}
 use Rattle.evaluators.proofs.eval_both.Reads as eval-both
 use Rattle.evaluators.proofs.+each_chosen+each_member+eval_bool+eval_both+eval_expr+eval_join+eval_not+eval_one+eval_pred+eval_quant+eval_select+eval_test+eval_two.Lts-eval_both as eval-both-lts
 use Rattle.evaluators.proofs.eval_expr.Reads as eval-expr
-use Rattle.table.proofs.field.Reads as field-reads
+use Rattle.table.proofs.node_field.Reads as node-field-reads
 use Rattle.evaluators.proofs.+each_chosen+each_member+eval_bool+eval_both+eval_expr+eval_join+eval_not+eval_one+eval_pred+eval_quant+eval_select+eval_test+eval_two.Proof.Base.{eval-both-at, eval-expr-below}
 use Rattle.evaluators.proofs.BothLaws.{left-child, left-ready, both-stops, right-child, right-ready, both-stops-2, both-formed}
 
 module _ (t : ℕ) where
   abbrev claims : eval-both-lts.Claims
-  claims = (field-reads.Asked, field-reads.Learnt, eval-expr-below t, eval-expr.Post)
+  claims = (node-field-reads.Asked, node-field-reads.Learnt, eval-expr-below t, eval-expr.Post)
 
-  field-requires : eval-both-lts.Need-field-requires claims (eval-both-at t) eval-both.Post
-  field-requires c κs = (ready-node (c .before .before .pre .1 .0), lit< tt)
+  node-field-requires : eval-both-lts.Need-node-field-requires claims (eval-both-at t) eval-both.Post
+  node-field-requires c κs = (ready-node (c .before .before .pre .1 .0), lit< tt)
 
   eval-expr-requires : eval-both-lts.Need-eval-expr-requires claims (eval-both-at t) eval-both.Post
   eval-expr-requires c κs =
       let c1 = c .before in
       let c0 = c1 .before .before .before in
-      (omega (arith, c0 .pre .0, left-child (c0 .pre .1 .0) (c0 .pre .1 .1) (c1 .field .ensures) .below), left-ready (c0 .pre .1 .0) (c0 .pre .1 .1) (c1 .field .ensures))
+      (omega (arith, c0 .pre .0, left-child (c0 .pre .1 .0) (c0 .pre .1 .1) (c1 .node-field .ensures) .below), left-ready (c0 .pre .1 .0) (c0 .pre .1 .1) (c1 .node-field .ensures))
 
   enum-known-k : eval-both-lts.Need-enum-known-k claims (eval-both-at t) eval-both.Post
   enum-known-k c = c .match .keys1
@@ -30,8 +30,8 @@ module _ (t : ℕ) where
   enum-known-at : eval-both-lts.Need-enum-known-at claims (eval-both-at t) eval-both.Post
   enum-known-at c = c .match .keys2
 
-  field-requires-2 : eval-both-lts.Need-field-requires-2 claims (eval-both-at t) eval-both.Post
-  field-requires-2 c κs = (ready-node (c .before .before .before .before .before .before .before .before .before .before .pre .1 .0), lit< tt)
+  node-field-requires-2 : eval-both-lts.Need-node-field-requires-2 claims (eval-both-at t) eval-both.Post
+  node-field-requires-2 c κs = (ready-node (c .before .before .before .before .before .before .before .before .before .before .pre .1 .0), lit< tt)
 
   eval-expr-requires-2 : eval-both-lts.Need-eval-expr-requires-2 claims (eval-both-at t) eval-both.Post
   eval-expr-requires-2 c κs =
@@ -40,8 +40,8 @@ module _ (t : ℕ) where
       let c2 = c3 .before .before .before .before in
       let c1 = c2 .before .before in
       let c0 = c1 .before .before .before in
-      let d = right-child (c0 .pre .1 .0) (c0 .pre .1 .1) (c1 .field .ensures) (c2 .eval-expr .ensures) (c3 .at .given .1) (c4 .field2 .ensures) in
-      (omega (arith, c0 .pre .0, d .below), right-ready (c0 .pre .1 .0) (c0 .pre .1 .1) (c1 .field .ensures) (c2 .eval-expr .ensures) (c3 .at .given .1) (c4 .field2 .ensures))
+      let d = right-child (c0 .pre .1 .0) (c0 .pre .1 .1) (c1 .node-field .ensures) (c2 .eval-expr .ensures) (c3 .at .given .1) (c4 .node-field2 .ensures) in
+      (omega (arith, c0 .pre .0, d .below), right-ready (c0 .pre .1 .0) (c0 .pre .1 .1) (c1 .node-field .ensures) (c2 .eval-expr .ensures) (c3 .at .given .1) (c4 .node-field2 .ensures))
 
   enum-known-k-2 : eval-both-lts.Need-enum-known-k-2 claims (eval-both-at t) eval-both.Post
   enum-known-k-2 c = c .match2 .keys1
@@ -50,7 +50,7 @@ module _ (t : ℕ) where
   enum-known-other c = c .match2 .keys2
 
   same-length : eval-both-lts.Need-same-length claims (eval-both-at t) eval-both.Post
-  same-length c = c .before .before .before .before .before .eval-expr .kept .1 .1 .1 .0
+  same-length c = c .before .before .before .before .before .eval-expr .kept .1 .1 .0
 
   returns : eval-both-lts.Need-returns claims (eval-both-at t) eval-both.Post
   returns c =
@@ -58,11 +58,11 @@ module _ (t : ℕ) where
       let c2 = c3 .before .before .before .before in
       let c1 = c2 .before .before in
       let c0 = c1 .before .before .before in
-      both-stops (c0 .pre .1 .0) (c0 .pre .1 .1) (c1 .field .ensures) (c2 .eval-expr .ensures) (c3 .k .given .1)
+      both-stops (c0 .pre .1 .0) (c0 .pre .1 .1) (c1 .node-field .ensures) (c2 .eval-expr .ensures) (c3 .k .given .1)
 
   same-length-2 : eval-both-lts.Need-same-length-2 claims (eval-both-at t) eval-both.Post
   same-length-2 c =
-      c .before .before .before .before .before .eval-expr2 .kept .1 .1 .1 .0 ∙ c .before .before .before .before .before .before .before .before .before .before .before .before .before .eval-expr .kept .1 .1 .1 .0
+      c .before .before .before .before .before .eval-expr2 .kept .1 .1 .0 ∙ c .before .before .before .before .before .before .before .before .before .before .before .before .before .eval-expr .kept .1 .1 .0
 
   returns-2 : eval-both-lts.Need-returns-2 claims (eval-both-at t) eval-both.Post
   returns-2 c =
@@ -73,11 +73,11 @@ module _ (t : ℕ) where
       let c2 = c3 .before .before .before .before in
       let c1 = c2 .before .before in
       let c0 = c1 .before .before .before in
-      both-stops-2 (c0 .pre .1 .0) (c0 .pre .1 .1) (c1 .field .ensures) (c2 .eval-expr .ensures) (c3 .at .given .1) (c4 .field2 .ensures) (c5 .eval-expr2 .ensures) (c6 .k2 .given .1)
+      both-stops-2 (c0 .pre .1 .0) (c0 .pre .1 .1) (c1 .node-field .ensures) (c2 .eval-expr .ensures) (c3 .at .given .1) (c4 .node-field2 .ensures) (c5 .eval-expr2 .ensures) (c6 .k2 .given .1)
 
   same-length-3 : eval-both-lts.Need-same-length-3 claims (eval-both-at t) eval-both.Post
   same-length-3 c =
-      c .before .before .before .before .before .eval-expr2 .kept .1 .1 .1 .0 ∙ c .before .before .before .before .before .before .before .before .before .before .before .before .before .eval-expr .kept .1 .1 .1 .0
+      c .before .before .before .before .before .eval-expr2 .kept .1 .1 .0 ∙ c .before .before .before .before .before .before .before .before .before .before .before .before .before .eval-expr .kept .1 .1 .0
 
   returns-3 : eval-both-lts.Need-returns-3 claims (eval-both-at t) eval-both.Post
   returns-3 c =
@@ -88,7 +88,7 @@ module _ (t : ℕ) where
       let c2 = c3 .before .before .before .before in
       let c1 = c2 .before .before in
       let c0 = c1 .before .before .before in
-      both-formed (c0 .pre .1 .0) (c0 .pre .1 .1) (c1 .field .ensures) (c2 .eval-expr .ensures) (c3 .at .given .1) (c4 .field2 .ensures) (c5 .eval-expr2 .ensures) (c6 .other .given .1)
+      both-formed (c0 .pre .1 .0) (c0 .pre .1 .1) (c1 .node-field .ensures) (c2 .eval-expr .ensures) (c3 .at .given .1) (c4 .node-field2 .ensures) (c5 .eval-expr2 .ensures) (c6 .other .given .1)
 
   pub eval-both-closed : {M : Type 1} → eval-both-lts.Closed claims (eval-both-at t) eval-both.Post M
   eval-both-closed =
@@ -96,11 +96,11 @@ module _ (t : ℕ) where
       claims
       (eval-both-at t)
       eval-both.Post
-      field-requires
+      node-field-requires
       eval-expr-requires
       enum-known-k
       enum-known-at
-      field-requires-2
+      node-field-requires-2
       eval-expr-requires-2
       enum-known-k-2
       enum-known-other

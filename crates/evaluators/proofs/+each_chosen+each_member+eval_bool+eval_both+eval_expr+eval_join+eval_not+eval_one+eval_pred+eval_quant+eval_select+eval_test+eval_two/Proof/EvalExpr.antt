@@ -11,16 +11,16 @@ use Rattle.evaluators.proofs.eval_select.Reads as eval-select
 use Rattle.evaluators.proofs.eval_two.Reads as eval-two
 use Rattle.evaluators.proofs.eval_leaf.Reads as eval-leaf-reads
 use Rattle.evaluators.proofs.eval_name.Reads as eval-name-reads
-use Rattle.table.proofs.kind.Reads as kind-reads
+use Rattle.table.proofs.node_kind.Reads as node-kind-reads
 use Rattle.evaluators.proofs.+each_chosen+each_member+eval_bool+eval_both+eval_expr+eval_join+eval_not+eval_one+eval_pred+eval_quant+eval_select+eval_test+eval_two.Proof.Base.{eval-bool-below, eval-expr-at, eval-one-below, eval-select-below, eval-two-below}
 use mathlib.Core.Logic.{⊎-elim, inl, inr}
-use Rattle.evaluators.proofs.DispatchLaws.{spent-expr, counted, expression-code, one-keys, one-range, two-key, from-27, two-low, two-high, no-other, name-ready, name-answer, leaf-node, leaf-answer}
+use Rattle.evaluators.proofs.DispatchLaws.{spent-expr, counted, visited-as, expression-code, one-keys, one-range, two-key, from-27, two-low, two-high, no-other, name-ready, name-answer, leaf-node, leaf-answer}
 
 module _ (t : ℕ) where
   abbrev claims : eval-expr-lts.Claims
   claims = (
-    kind-reads.Asked,
-    kind-reads.Learnt,
+    node-kind-reads.Asked,
+    node-kind-reads.Learnt,
     eval-name-reads.Asked,
     eval-name-reads.Learnt,
     eval-bool-below t,
@@ -40,28 +40,28 @@ module _ (t : ℕ) where
       let c1 = c .before .before .before in
       spent-expr (c1 .pre .1 .0) (c .if1 .taken)
 
-  kind-requires : eval-expr-lts.Need-kind-requires claims (eval-expr-at t) eval-expr.Post
-  kind-requires c κs = ready-node (c .before .before .before .pre .1 .0)
+  node-kind-requires : eval-expr-lts.Need-node-kind-requires claims (eval-expr-at t) eval-expr.Post
+  node-kind-requires c κs = ready-node (c .before .before .before .pre .1 .0)
 
   add-eval-name : eval-expr-lts.Need-add-eval-name claims (eval-expr-at t) eval-expr.Post
-  add-eval-name c = count-fits (counted (c .before .before .before .before .before .pre .1 .0) _ (c .before .before .if1 .left) (c .before .kind .ensures) .spent) (c .before .before .before .before .before .fits .budget)
+  add-eval-name c = count-fits (counted (c .before .before .before .before .before .pre .1 .0) _ (c .before .before .if1 .left) (c .before .node-kind .ensures) .spent) (c .before .before .before .before .before .fits .budget)
 
   eval-name-requires : eval-expr-lts.Need-eval-name-requires claims (eval-expr-at t) eval-expr.Post
-  eval-name-requires c κs = name-ready (counted (c .before .before .before .before .before .pre .1 .0) _ (c .before .before .if1 .left) (c .before .kind .ensures)) (c .match .keys1)
+  eval-name-requires c κs = name-ready (counted (c .before .before .before .before .before .pre .1 .0) _ (c .before .before .if1 .left) (c .before .node-kind .ensures)) (c .match .keys1)
 
   eval-bool-requires : eval-expr-lts.Need-eval-bool-requires claims (eval-expr-at t) eval-expr.Post
   eval-bool-requires c κs =
-      let v = counted (c .before .before .before .before .before .before .pre .1 .0) _ (c .before .before .before .if1 .left) (c .before .before .kind .ensures) in
-      (omega (arith, c .before .before .before .before .before .before .pre .0), (v, c .before .match .keys2))
+      let v = counted (c .before .before .before .before .before .before .pre .1 .0) _ (c .before .before .before .if1 .left) (c .before .before .node-kind .ensures) in
+      (omega (arith, c .before .before .before .before .before .before .pre .0), visited-as v (c .before .match .keys2))
 
   eval-select-requires : eval-expr-lts.Need-eval-select-requires claims (eval-expr-at t) eval-expr.Post
   eval-select-requires c κs =
-      let v = counted (c .before .before .before .before .before .before .pre .1 .0) _ (c .before .before .before .if1 .left) (c .before .before .kind .ensures) in
-      (omega (arith, c .before .before .before .before .before .before .pre .0), (v, c .before .match .keys5))
+      let v = counted (c .before .before .before .before .before .before .pre .1 .0) _ (c .before .before .before .if1 .left) (c .before .before .node-kind .ensures) in
+      (omega (arith, c .before .before .before .before .before .before .pre .0), visited-as v (c .before .match .keys5))
 
   eval-two-requires : eval-expr-lts.Need-eval-two-requires claims (eval-expr-at t) eval-expr.Post
   eval-two-requires c κs =
-      let v = counted (c .before .before .before .before .before .before .pre .1 .0) _ (c .before .before .before .if1 .left) (c .before .before .kind .ensures) in (
+      let v = counted (c .before .before .before .before .before .before .pre .1 .0) _ (c .before .before .before .if1 .left) (c .before .before .node-kind .ensures) in (
         omega (arith, c .before .before .before .before .before .before .pre .0),
         (
           v,
@@ -73,7 +73,7 @@ module _ (t : ℕ) where
 
   eval-one-requires : eval-expr-lts.Need-eval-one-requires claims (eval-expr-at t) eval-expr.Post
   eval-one-requires c κs =
-      let v = counted (c .before .before .before .before .before .before .pre .1 .0) _ (c .before .before .before .if1 .left) (c .before .before .kind .ensures) in (
+      let v = counted (c .before .before .before .before .before .before .pre .1 .0) _ (c .before .before .before .if1 .left) (c .before .before .node-kind .ensures) in (
         omega (arith, c .before .before .before .before .before .before .pre .0),
         (
           v,
@@ -83,58 +83,58 @@ module _ (t : ℕ) where
       )
 
   add-eval-leaf : eval-expr-lts.Need-add-eval-leaf claims (eval-expr-at t) eval-expr.Post
-  add-eval-leaf c = count-fits (counted (c .before .before .before .before .before .before .pre .1 .0) _ (c .before .before .before .if1 .left) (c .before .before .kind .ensures) .spent) (c .before .before .before .before .before .before .fits .budget)
+  add-eval-leaf c = count-fits (counted (c .before .before .before .before .before .before .pre .1 .0) _ (c .before .before .before .if1 .left) (c .before .before .node-kind .ensures) .spent) (c .before .before .before .before .before .before .fits .budget)
 
   eval-leaf-requires : eval-expr-lts.Need-eval-leaf-requires claims (eval-expr-at t) eval-expr.Post
   eval-leaf-requires c κs =
-      let v = counted (c .before .before .before .before .before .before .pre .1 .0) _ (c .before .before .before .if1 .left) (c .before .before .kind .ensures) in
+      let v = counted (c .before .before .before .before .before .before .pre .1 .0) _ (c .before .before .before .if1 .left) (c .before .before .node-kind .ensures) in
       leaf-node v (⊎-elim (λ w. inl (w .keys6)) (λ w. inr (w .0 .rest .0 .0 .0 .0 .0 .1, w .1 .left, w .2 .taken)) (c .before .match .came))
       (λ i. omega (arith, c .before .before .before .before .before .shared-slice-known .given i))
 
   returns-2 : eval-expr-lts.Need-returns-2 claims (eval-expr-at t) eval-expr.Post
-  returns-2 c = name-answer (counted (c .before .before .before .before .before .before .pre .1 .0) _ (c .before .before .before .if1 .left) (c .before .before .kind .ensures)) (c .before .match .keys1) _ (c .eval-name .ensures)
+  returns-2 c = name-answer (counted (c .before .before .before .before .before .before .pre .1 .0) _ (c .before .before .before .if1 .left) (c .before .before .node-kind .ensures)) (c .before .match .keys1) _ (c .eval-name .ensures)
 
   same-length : eval-expr-lts.Need-same-length claims (eval-expr-at t) eval-expr.Post
-  same-length c = c .before .before .eval-bool .kept .1 .1 .1 .0
+  same-length c = c .before .before .eval-bool .kept .1 .1 .0
 
   returns-3 : eval-expr-lts.Need-returns-3 claims (eval-expr-at t) eval-expr.Post
   returns-3 c = c .before .before .eval-bool .ensures
 
   same-length-2 : eval-expr-lts.Need-same-length-2 claims (eval-expr-at t) eval-expr.Post
-  same-length-2 c = c .before .before .eval-select .kept .1 .1 .1 .0
+  same-length-2 c = c .before .before .eval-select .kept .1 .1 .0
 
   returns-4 : eval-expr-lts.Need-returns-4 claims (eval-expr-at t) eval-expr.Post
   returns-4 c = c .before .before .eval-select .ensures
 
   returns-5 : eval-expr-lts.Need-returns-5 claims (eval-expr-at t) eval-expr.Post
   returns-5 c =
-      let v = counted (c .before .before .before .before .before .before .pre .1 .0) _ (c .before .before .before .if1 .left) (c .before .before .kind .ensures) in
+      let v = counted (c .before .before .before .before .before .before .pre .1 .0) _ (c .before .before .before .if1 .left) (c .before .before .node-kind .ensures) in
       absurd (omega (arith, expression-code v (c .before .before .before .before .before .before .pre .1 .1), c .if2 .taken))
 
   returns-6 : eval-expr-lts.Need-returns-6 claims (eval-expr-at t) eval-expr.Post
   returns-6 c =
-      let v = counted (c .before .before .before .before .before .before .before .before .before .before .pre .1 .0) _ (c .before .before .before .before .before .before .before .if1 .left) (c .before .before .before .before .before .before .kind .ensures) in
+      let v = counted (c .before .before .before .before .before .before .before .before .before .before .pre .1 .0) _ (c .before .before .before .before .before .before .before .if1 .left) (c .before .before .before .before .before .before .node-kind .ensures) in
       let m = c .before .before .before .before .before .match .rest in
       no-other _ (expression-code v (c .before .before .before .before .before .before .before .before .before .before .pre .1 .1)) (c .if6 .left) (m .0 .0 .0 .1) (m .1)
 
   same-length-3 : eval-expr-lts.Need-same-length-3 claims (eval-expr-at t) eval-expr.Post
-  same-length-3 c = c .before .before .eval-two .kept .1 .1 .1 .0
+  same-length-3 c = c .before .before .eval-two .kept .1 .1 .0
 
   returns-7 : eval-expr-lts.Need-returns-7 claims (eval-expr-at t) eval-expr.Post
   returns-7 c = c .before .before .eval-two .ensures
 
   same-length-4 : eval-expr-lts.Need-same-length-4 claims (eval-expr-at t) eval-expr.Post
-  same-length-4 c = c .before .before .eval-one .kept .1 .1 .1 .0
+  same-length-4 c = c .before .before .eval-one .kept .1 .1 .0
 
   returns-8 : eval-expr-lts.Need-returns-8 claims (eval-expr-at t) eval-expr.Post
   returns-8 c = c .before .before .eval-one .ensures
 
   same-length-5 : eval-expr-lts.Need-same-length-5 claims (eval-expr-at t) eval-expr.Post
-  same-length-5 c = c .before .before .eval-leaf .kept .1 .1 .0
+  same-length-5 c = c .before .before .eval-leaf .kept .1 .0
 
   returns-9 : eval-expr-lts.Need-returns-9 claims (eval-expr-at t) eval-expr.Post
   returns-9 c =
-      let v = counted (c .before .before .before .before .before .before .before .before .before .pre .1 .0) _ (c .before .before .before .before .before .before .if1 .left) (c .before .before .before .before .before .kind .ensures) in
+      let v = counted (c .before .before .before .before .before .before .before .before .before .pre .1 .0) _ (c .before .before .before .before .before .before .if1 .left) (c .before .before .before .before .before .node-kind .ensures) in
       let p = leaf-node v (⊎-elim (λ w. inl (w .keys6)) (λ w. inr (w .0 .rest .0 .0 .0 .0 .0 .1, w .1 .left, w .2 .taken)) (c .before .before .before .before .match .came))
       (λ i. omega (arith, c .before .before .before .before .before .before .before .before .shared-slice-known .given i)) in
       leaf-answer v p _ _ (c .before .before .eval-leaf .ensures)
@@ -146,7 +146,7 @@ module _ (t : ℕ) where
       (eval-expr-at t)
       eval-expr.Post
       returns
-      kind-requires
+      node-kind-requires
       add-eval-name
       eval-name-requires
       eval-bool-requires

@@ -10,7 +10,7 @@ use Rattle.evaluators.proofs.eval_one.Reads as eval-one
 use Rattle.evaluators.proofs.+each_chosen+each_member+eval_bool+eval_both+eval_expr+eval_join+eval_not+eval_one+eval_pred+eval_quant+eval_select+eval_test+eval_two.Lts-eval_one as eval-one-lts
 use Rattle.evaluators.proofs.settle.Reads as settle-reads
 use Rattle.operations.proofs.one.Reads as one-reads
-use Rattle.table.proofs.field.Reads as field-reads
+use Rattle.table.proofs.node_field.Reads as node-field-reads
 use Rattle.evaluators.proofs.+each_chosen+each_member+eval_bool+eval_both+eval_expr+eval_join+eval_not+eval_one+eval_pred+eval_quant+eval_select+eval_test+eval_two.Proof.Base.{eval-expr-below, eval-one-at}
 use Rattle.arena.proofs.Standing.{same-refl}
 use Rattle.evaluators.proofs.NodeLaws.{ready-child, formed-as}
@@ -19,8 +19,8 @@ use Rattle.evaluators.proofs.FormLaws.{one-child, one-fails, one-ready,
 module _ (t : ℕ) where
   abbrev claims : eval-one-lts.Claims
   claims = (
-    field-reads.Asked,
-    field-reads.Learnt,
+    node-field-reads.Asked,
+    node-field-reads.Learnt,
     eval-expr-below t,
     eval-expr.Post,
     one-reads.Asked,
@@ -29,8 +29,8 @@ module _ (t : ℕ) where
     settle-reads.Learnt,
   )
 
-  field-requires : eval-one-lts.Need-field-requires claims (eval-one-at t) eval-one.Post
-  field-requires c κs = (ready-node (c .before .before .pre .1 .0 .ready), lit< tt)
+  node-field-requires : eval-one-lts.Need-node-field-requires claims (eval-one-at t) eval-one.Post
+  node-field-requires c κs = (ready-node (c .before .before .pre .1 .0 .ready), lit< tt)
 
   add-eval-expr : eval-one-lts.Need-add-eval-expr claims (eval-one-at t) eval-one.Post
   add-eval-expr c = count-fits (c .before .before .before .before .pre .1 .0 .spent) (c .before .before .before .before .fits .budget)
@@ -38,7 +38,7 @@ module _ (t : ℕ) where
   eval-expr-requires : eval-one-lts.Need-eval-expr-requires claims (eval-one-at t) eval-one.Post
   eval-expr-requires c κs =
       let b = c .before .before .before .before in
-      let d = one-child (b .pre .1 .0) (b .pre .1 .1 .0) (b .pre .1 .1 .1) (c .before .field .ensures) in
+      let d = one-child (b .pre .1 .0) (b .pre .1 .1 .0) (b .pre .1 .1 .1) (c .before .node-field .ensures) in
       (omega (arith, b .pre .0, d .below), (ready-child _ _ _ _ (b .pre .1 .0 .ready) d (same-refl _ _) (omega arith) (omega arith) (omega (arith, b .pre .1 .0 .spent)), d .is))
 
   enum-known-formed : eval-one-lts.Need-enum-known-formed claims (eval-one-at t) eval-one.Post
@@ -48,7 +48,7 @@ module _ (t : ℕ) where
   enum-told c = c .match .keys2
 
   same-length : eval-one-lts.Need-same-length claims (eval-one-at t) eval-one.Post
-  same-length c = c .before .before .before .before .eval-expr .kept .1 .1 .1 .0
+  same-length c = c .before .before .before .before .eval-expr .kept .1 .1 .0
 
   returns : eval-one-lts.Need-returns claims (eval-one-at t) eval-one.Post
   returns c =
@@ -56,13 +56,13 @@ module _ (t : ℕ) where
       let b = a .before .before .before .before .before in
       let e = c .enum-told .given .1 in
       formed-as refl (sym e)
-      (one-fails (b .pre .1 .0) (b .pre .1 .1 .0) (b .pre .1 .1 .1) (a .before .before .field .ensures) (formed-as refl e (a .eval-expr .ensures)))
+      (one-fails (b .pre .1 .0) (b .pre .1 .1 .0) (b .pre .1 .1 .1) (a .before .before .node-field .ensures) (formed-as refl e (a .eval-expr .ensures)))
 
   one-requires : eval-one-lts.Need-one-requires claims (eval-one-at t) eval-one.Post
   one-requires c κs =
       let a = c .before .before .before .before .before .before in
       let b = a .before .before .before .before .before in
-      one-ready (b .pre .1 .0) (b .pre .1 .1 .0) (b .pre .1 .1 .1) (a .before .before .field .ensures)
+      one-ready (b .pre .1 .0) (b .pre .1 .1 .0) (b .pre .1 .1 .1) (a .before .before .node-field .ensures)
       (formed-as refl (c .before .before .formed .given .1) (a .eval-expr .ensures))
 
   settle-requires : eval-one-lts.Need-settle-requires claims (eval-one-at t) eval-one.Post
@@ -70,12 +70,12 @@ module _ (t : ℕ) where
       let g = c .before .before .before .before .before .before in
       let a = g .before .before .before .before in
       let b = a .before .before .before .before .before in
-      one-settles (b .pre .1 .0) (b .pre .1 .1 .0) (b .pre .1 .1 .1) (a .before .before .field .ensures)
+      one-settles (b .pre .1 .0) (b .pre .1 .1 .0) (b .pre .1 .1 .1) (a .before .before .node-field .ensures)
       (formed-as refl (g .formed .given .1) (a .eval-expr .ensures)) (c .before .before .before .one .ensures)
 
   same-length-2 : eval-one-lts.Need-same-length-2 claims (eval-one-at t) eval-one.Post
   same-length-2 c =
-      c .before .before .settle .kept .0 ∙ c .before .before .before .before .before .before .one .kept .0 ∙ c .before .before .before .before .before .before .before .before .before .before .before .before .before .eval-expr .kept .1 .1 .1 .0
+      c .before .before .settle .kept .0 ∙ c .before .before .before .before .before .before .one .kept .0 ∙ c .before .before .before .before .before .before .before .before .before .before .before .before .before .eval-expr .kept .1 .1 .0
 
   returns-2 : eval-one-lts.Need-returns-2 claims (eval-one-at t) eval-one.Post
   returns-2 c =
@@ -83,7 +83,7 @@ module _ (t : ℕ) where
       let g = o .before .before .before in
       let a = g .before .before .before .before in
       let b = a .before .before .before .before .before in
-      one-evaluates (b .pre .1 .0) (b .pre .1 .1 .0) (b .pre .1 .1 .1) (a .before .before .field .ensures)
+      one-evaluates (b .pre .1 .0) (b .pre .1 .1 .0) (b .pre .1 .1 .1) (a .before .before .node-field .ensures)
       (formed-as refl (g .formed .given .1) (a .eval-expr .ensures)) (o .one .ensures) (c .before .before .settle .ensures)
 
   pub eval-one-closed : {M : Type 1} → eval-one-lts.Closed claims (eval-one-at t) eval-one.Post M
@@ -92,7 +92,7 @@ module _ (t : ℕ) where
       claims
       (eval-one-at t)
       eval-one.Post
-      field-requires
+      node-field-requires
       add-eval-expr
       eval-expr-requires
       enum-known-formed

@@ -11,7 +11,7 @@ use Rattle.evaluators.proofs.eval_select.Reads as eval-select
 use Rattle.evaluators.proofs.+each_chosen+each_member+eval_bool+eval_both+eval_expr+eval_join+eval_not+eval_one+eval_pred+eval_quant+eval_select+eval_test+eval_two.Lts-eval_select as eval-select-lts
 use Rattle.evaluators.proofs.range_of.Reads as range-of-reads
 use Rattle.evaluators.proofs.settle.Reads as settle-reads
-use Rattle.table.proofs.field.Reads as field-reads
+use Rattle.table.proofs.node_field.Reads as node-field-reads
 use Rattle.evaluators.proofs.+each_chosen+each_member+eval_bool+eval_both+eval_expr+eval_join+eval_not+eval_one+eval_pred+eval_quant+eval_select+eval_test+eval_two.Proof.Base.{each-chosen-below, eval-expr-below, eval-select-at}
 use Rattle.arena.proofs.Standing.{same-refl}
 use Rattle.evaluators.proofs.NodeLaws.{ready-child, formed-as}
@@ -20,8 +20,8 @@ use Rattle.evaluators.proofs.FormLaws.{range-as, chosen-as, select-chil
 module _ (t : ℕ) where
   abbrev claims : eval-select-lts.Claims
   claims = (
-    field-reads.Asked,
-    field-reads.Learnt,
+    node-field-reads.Asked,
+    node-field-reads.Learnt,
     eval-expr-below t,
     eval-expr.Post,
     range-of-reads.Asked,
@@ -32,17 +32,17 @@ module _ (t : ℕ) where
     settle-reads.Learnt,
   )
 
-  field-requires : eval-select-lts.Need-field-requires claims (eval-select-at t) eval-select.Post
-  field-requires c κs = (ready-node (c .before .before .pre .1 .0 .ready), lit< tt)
+  node-field-requires : eval-select-lts.Need-node-field-requires claims (eval-select-at t) eval-select.Post
+  node-field-requires c κs = (ready-node (c .before .before .pre .1 .ready), lit< tt)
 
   add-eval-expr : eval-select-lts.Need-add-eval-expr claims (eval-select-at t) eval-select.Post
-  add-eval-expr c = count-fits (c .before .before .before .before .pre .1 .0 .spent) (c .before .before .before .before .fits .budget)
+  add-eval-expr c = count-fits (c .before .before .before .before .pre .1 .spent) (c .before .before .before .before .fits .budget)
 
   eval-expr-requires : eval-select-lts.Need-eval-expr-requires claims (eval-select-at t) eval-select.Post
   eval-expr-requires c κs =
       let b = c .before .before .before .before in
-      let d = select-child (b .pre .1 .0) (b .pre .1 .1) (c .before .field .ensures) in
-      (omega (arith, b .pre .0, d .below), (ready-child _ _ _ _ (b .pre .1 .0 .ready) d (same-refl _ _) (omega arith) (omega arith) (omega (arith, b .pre .1 .0 .spent)), d .is))
+      let d = select-child (b .pre .1) refl (c .before .node-field .ensures) in
+      (omega (arith, b .pre .0, d .below), (ready-child _ _ _ _ (b .pre .1 .ready) d (same-refl _ _) (omega arith) (omega arith) (omega (arith, b .pre .1 .spent)), d .is))
 
   enum-known-formed : eval-select-lts.Need-enum-known-formed claims (eval-select-at t) eval-select.Post
   enum-known-formed c = c .match .keys1
@@ -51,20 +51,20 @@ module _ (t : ℕ) where
   enum-told c = c .match .keys2
 
   same-length : eval-select-lts.Need-same-length claims (eval-select-at t) eval-select.Post
-  same-length c = c .before .before .before .before .eval-expr .kept .1 .1 .1 .0
+  same-length c = c .before .before .before .before .eval-expr .kept .1 .1 .0
 
   returns : eval-select-lts.Need-returns claims (eval-select-at t) eval-select.Post
   returns c =
       let a = c .before .before .before .before in
       let b = a .before .before .before .before .before in
       let e = c .enum-told .given .1 in
-      formed-as refl (sym e) (select-fails (b .pre .1 .0) (b .pre .1 .1) (a .before .before .field .ensures) (formed-as refl e (a .eval-expr .ensures)))
+      formed-as refl (sym e) (select-fails (b .pre .1) refl (a .before .before .node-field .ensures) (formed-as refl e (a .eval-expr .ensures)))
 
   range-of-requires : eval-select-lts.Need-range-of-requires claims (eval-select-at t) eval-select.Post
   range-of-requires c κs =
       let a = c .before .before .before .before .before .before in
       let b = a .before .before .before .before .before in
-      range-good (b .pre .1 .0) (b .pre .1 .1) (a .before .before .field .ensures) (formed-as refl (c .before .before .formed .given .1) (a .eval-expr .ensures))
+      range-good (b .pre .1) refl (a .before .before .node-field .ensures) (formed-as refl (c .before .before .formed .given .1) (a .eval-expr .ensures))
 
   enum-known-range : eval-select-lts.Need-enum-known-range claims (eval-select-at t) eval-select.Post
   enum-known-range c = c .match2 .keys1
@@ -73,14 +73,14 @@ module _ (t : ℕ) where
   enum-told-2 c = c .match2 .keys2
 
   same-length-2 : eval-select-lts.Need-same-length-2 claims (eval-select-at t) eval-select.Post
-  same-length-2 c = c .before .before .before .before .before .before .before .before .before .eval-expr .kept .1 .1 .1 .0
+  same-length-2 c = c .before .before .before .before .before .before .before .before .before .eval-expr .kept .1 .1 .0
 
   returns-2 : eval-select-lts.Need-returns-2 claims (eval-select-at t) eval-select.Post
   returns-2 c =
       let g = c .before .before .before .before .before in
       let a = g .before .before .before .before in
       let b = a .before .before .before .before .before in
-      range-fails (b .pre .1 .0) (b .pre .1 .1) (a .before .before .field .ensures) (formed-as refl (g .formed .given .1) (a .eval-expr .ensures))
+      range-fails (b .pre .1) refl (a .before .before .node-field .ensures) (formed-as refl (g .formed .given .1) (a .eval-expr .ensures))
       (range-as (c .enum-told2 .given .1) (c .before .before .range-of .ensures))
 
   add-each-chosen : eval-select-lts.Need-add-each-chosen claims (eval-select-at t) eval-select.Post
@@ -90,7 +90,7 @@ module _ (t : ℕ) where
       let b = a .before .before .before .before .before in
       omega (
         arith,
-        range-low (b .pre .1 .0) (b .pre .1 .1) (a .before .before .field .ensures) (formed-as refl (g .formed .given .1) (a .eval-expr .ensures)),
+        range-low (b .pre .1) refl (a .before .before .node-field .ensures) (formed-as refl (g .formed .given .1) (a .eval-expr .ensures)),
       )
 
   each-chosen-requires : eval-select-lts.Need-each-chosen-requires claims (eval-select-at t) eval-select.Post
@@ -100,7 +100,7 @@ module _ (t : ℕ) where
       let a = g .before .before .before .before in
       let b = a .before .before .before .before .before in (
         omega (arith, b .pre .0),
-        select-each (b .pre .1 .0) (b .pre .1 .1) (a .before .before .field .ensures) (formed-as refl (g .formed .given .1) (a .eval-expr .ensures))
+        select-each (b .pre .1) refl (a .before .before .node-field .ensures) (formed-as refl (g .formed .given .1) (a .eval-expr .ensures))
             (range-as (n .range .given .1) (n .before .before .range-of .ensures)),
       )
 
@@ -112,7 +112,7 @@ module _ (t : ℕ) where
 
   same-length-3 : eval-select-lts.Need-same-length-3 claims (eval-select-at t) eval-select.Post
   same-length-3 c =
-      c .before .before .before .before .each-chosen .kept .1 .1 .1 .0 ∙ c .before .before .before .before .before .before .before .before .before .before .before .before .before .before .before .before .eval-expr .kept .1 .1 .1 .0
+      c .before .before .before .before .each-chosen .kept .1 .1 .0 ∙ c .before .before .before .before .before .before .before .before .before .before .before .before .before .before .before .before .eval-expr .kept .1 .1 .0
 
   returns-3 : eval-select-lts.Need-returns-3 claims (eval-select-at t) eval-select.Post
   returns-3 c =
@@ -123,7 +123,7 @@ module _ (t : ℕ) where
       let b = a .before .before .before .before .before in
       let q = c .enum-told3 .given .1 in
       formed-as refl (sym q)
-      (chosen-fails (b .pre .1 .0) (b .pre .1 .1) (a .before .before .field .ensures) (formed-as refl (g .formed .given .1) (a .eval-expr .ensures))
+      (chosen-fails (b .pre .1) refl (a .before .before .node-field .ensures) (formed-as refl (g .formed .given .1) (a .eval-expr .ensures))
       (range-as (n .range .given .1) (n .before .before .range-of .ensures)) (chosen-as q (e .each-chosen .ensures)))
 
   settle-requires : eval-select-lts.Need-settle-requires claims (eval-select-at t) eval-select.Post
@@ -134,12 +134,12 @@ module _ (t : ℕ) where
       let g = n .before .before .before .before .before in
       let a = g .before .before .before .before in
       let b = a .before .before .before .before .before in
-      select-settles (b .pre .1 .0) (b .pre .1 .1) (a .before .before .field .ensures) (formed-as refl (g .formed .given .1) (a .eval-expr .ensures))
+      select-settles (b .pre .1) refl (a .before .before .node-field .ensures) (formed-as refl (g .formed .given .1) (a .eval-expr .ensures))
       (range-as (n .range .given .1) (n .before .before .range-of .ensures)) (chosen-as (v .chosen .given .1) (e .each-chosen .ensures))
 
   same-length-4 : eval-select-lts.Need-same-length-4 claims (eval-select-at t) eval-select.Post
   same-length-4 c =
-      c .before .before .settle .kept .0 ∙ c .before .before .before .before .before .before .before .before .before .each-chosen .kept .1 .1 .1 .0 ∙ c .before .before .before .before .before .before .before .before .before .before .before .before .before .before .before .before .before .before .before .before .before .eval-expr .kept .1 .1 .1 .0
+      c .before .before .settle .kept .0 ∙ c .before .before .before .before .before .before .before .before .before .each-chosen .kept .1 .1 .0 ∙ c .before .before .before .before .before .before .before .before .before .before .before .before .before .before .before .before .before .before .before .before .before .eval-expr .kept .1 .1 .0
 
   returns-4 : eval-select-lts.Need-returns-4 claims (eval-select-at t) eval-select.Post
   returns-4 c =
@@ -149,7 +149,7 @@ module _ (t : ℕ) where
       let g = n .before .before .before .before .before in
       let a = g .before .before .before .before in
       let b = a .before .before .before .before .before in
-      select-evaluates (b .pre .1 .0) (b .pre .1 .1) (a .before .before .field .ensures) (formed-as refl (g .formed .given .1) (a .eval-expr .ensures))
+      select-evaluates (b .pre .1) refl (a .before .before .node-field .ensures) (formed-as refl (g .formed .given .1) (a .eval-expr .ensures))
       (range-as (n .range .given .1) (n .before .before .range-of .ensures)) (chosen-as (v .chosen .given .1) (e .each-chosen .ensures))
       (c .before .before .settle .ensures)
 
@@ -159,7 +159,7 @@ module _ (t : ℕ) where
       claims
       (eval-select-at t)
       eval-select.Post
-      field-requires
+      node-field-requires
       add-eval-expr
       eval-expr-requires
       enum-known-formed

@@ -41,7 +41,7 @@ module _ (t : ℕ) where
   enum-known-yes c = c .match2 .keys2
 
   same-length : eval-test-lts.Need-same-length claims (eval-test-at t) eval-test.Post
-  same-length c = c .before .before .before .before .before .eval-both .kept .1 .1 .1 .0
+  same-length c = c .before .before .before .before .before .eval-both .kept .1 .1 .0
 
   returns : eval-test-lts.Need-returns claims (eval-test-at t) eval-test.Post
   returns c =
@@ -51,7 +51,7 @@ module _ (t : ℕ) where
       test-stops (c0 .pre .1 .0) (c0 .pre .1 .1 .0) (c0 .pre .1 .1 .1) (c1 .eval-both .ensures) (c2 .k .given .1)
 
   same-length-2 : eval-test-lts.Need-same-length-2 claims (eval-test-at t) eval-test.Post
-  same-length-2 c = c .before .before .before .before .before .before .before .before .before .eval-both .kept .1 .1 .1 .0
+  same-length-2 c = c .before .before .before .before .before .before .before .before .before .eval-both .kept .1 .1 .0
 
   returns-2 : eval-test-lts.Need-returns-2 claims (eval-test-at t) eval-test.Post
   returns-2 c =
@@ -62,7 +62,7 @@ module _ (t : ℕ) where
       test-unlike (c0 .pre .1 .0) (c0 .pre .1 .1 .0) (c0 .pre .1 .1 .1) (c1 .eval-both .ensures) (c2 .a .given .1) (c3 .test .ensures) (c .enum-told .given .1)
 
   same-length-3 : eval-test-lts.Need-same-length-3 claims (eval-test-at t) eval-test.Post
-  same-length-3 c = c .before .before .before .before .before .before .before .before .before .before .eval-both .kept .1 .1 .1 .0
+  same-length-3 c = c .before .before .before .before .before .before .before .before .before .before .eval-both .kept .1 .1 .0
 
   returns-3 : eval-test-lts.Need-returns-3 claims (eval-test-at t) eval-test.Post
   returns-3 c =

@@ -46,7 +46,7 @@ module _ (t : ℕ) where
       two-settles (b .pre .1 .0) (b .pre .1 .1 .0) (b .pre .1 .1 .1) (both-as (g .a .given .1) (a .eval-both .ensures)) (c .before .before .before .two .ensures)
 
   same-length : eval-two-lts.Need-same-length claims (eval-two-at t) eval-two.Post
-  same-length c = c .before .before .before .before .before .eval-both .kept .1 .1 .1 .0
+  same-length c = c .before .before .before .before .before .eval-both .kept .1 .1 .0
 
   returns : eval-two-lts.Need-returns claims (eval-two-at t) eval-two.Post
   returns c =
@@ -56,7 +56,7 @@ module _ (t : ℕ) where
 
   same-length-2 : eval-two-lts.Need-same-length-2 claims (eval-two-at t) eval-two.Post
   same-length-2 c =
-      c .before .before .settle .kept .0 ∙ c .before .before .before .before .before .before .two .kept .0 ∙ c .before .before .before .before .before .before .before .before .before .before .before .before .before .eval-both .kept .1 .1 .1 .0
+      c .before .before .settle .kept .0 ∙ c .before .before .before .before .before .before .two .kept .0 ∙ c .before .before .before .before .before .before .before .before .before .before .before .before .before .eval-both .kept .1 .1 .0
 
   returns-2 : eval-two-lts.Need-returns-2 claims (eval-two-at t) eval-two.Post
   returns-2 c =
