@@ -107,7 +107,8 @@ module _ (bs : List ℕ) (r : Readable bs) (n : ℕ) (lt : n < nodeCount bs) (by
 
       pub cell-scalar : (c : ℕ) → c ≡ scalarCell k a b → CellOf bs n c
       cell-scalar c q j ρ e o =
-          let v = scalar-code j k (node .a) (node .b) size (at-code e) (constant-fits j e o) (λ d. omega arith) (λ d. omega arith) (λ d. omega arith) (tableOf bs .sizes) ρ in
+          let v = scalar-code j k (node .a) (node .b) size (at-code e) (constant-fits j e o) (λ d. omega arith) (λ d. omega arith) (λ d. omega arith)
+          (tableOf bs .sizes) ρ in
           v .0 ∙ ap (λ (x : ℕ). x ∷ []) (sym (q ∙ ap (λ (x : ℕ). scalarCell k x b) ea ∙ ap (λ (x : ℕ). scalarCell k (node .a) x) eb))
 
 -- The pass over the nodes.

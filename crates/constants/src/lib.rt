@@ -33,7 +33,8 @@ fn constant_cell(table: &[u8], at: usize, n: usize) -> u64
 pub fn put_constants(table: &[u8], s: &mut [u64])
     requires { ⌜ Readable (now table) × (nodeCount (now table) ≤ length (now s)) ⌝ }
     ensures { λ _. ⌜
-        Constants (now (table .entry)) (nodeCount (now (table .entry))) (now (s .exit)) × OnlyBelow (nodeCount (now (table .entry))) (now (s .entry)) (now (s .exit))
+        Constants (now (table .entry)) (nodeCount (now (table .entry))) (now (s .exit)) ×
+        OnlyBelow (nodeCount (now (table .entry))) (now (s .entry)) (now (s .exit))
         ⌝ }
 {
     let at = table::nodes_offset(table);

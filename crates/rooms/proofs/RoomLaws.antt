@@ -313,11 +313,13 @@ module _ (bs : List ℕ) (n row category : ℕ) (e : row ≡ fieldCodesAt bs n) 
         ChosenBy category row picked → OwnBy category width own → last ≡ max (picked + c) own → most ≡ max b (second + last) → all ≡ max a (first + most) →
         all ≡ roomStep (tableOf bs .nodes) r n
     found r a b c first second picked own last most all =
-        omega (arith, by-fields (nodeAt (tableOf bs .nodes) n) (widthAt (tableOf bs .nodes)) r kind, a, b, c, first, second, chosen-is picked, own-is own, last, most, all)
+        let f = by-fields (nodeAt (tableOf bs .nodes) n) (widthAt (tableOf bs .nodes)) r kind in
+        omega (arith, f, a, b, c, first, second, chosen-is picked, own-is own, last, most, all)
 
 -- What a node's room asks of the nodes below it alone.
 module _ (tb : Table) (n : ℕ) (w h k : ℕ → ℕ) (e : (m : ℕ) → m < n → h m ≡ k m) where
-  pub room-below : (o : Option Kind) → KindRight tb n o (fieldWords (nodeAt (tb .nodes) n)) → roomOf o (nodeAt (tb .nodes) n) w h ≡ roomOf o (nodeAt (tb .nodes) n) w k
+  pub room-below : (o : Option Kind) → KindRight tb n o (fieldWords (nodeAt (tb .nodes) n)) →
+      roomOf o (nodeAt (tb .nodes) n) w h ≡ roomOf o (nodeAt (tb .nodes) n) w k
   room-below nothing c = refl
   room-below (some (join j)) c = rw (e _ (c .0 .0), e _ (c .1 .0 .0))
   room-below (some negation) c = e _ (c .0 .0)
@@ -446,7 +448,8 @@ module _ (bs : List ℕ) (r : Readable bs) where
     -- The room of the next node, which is small.
     pub next-room : t ≡ room (tableOf bs .nodes) n
     next-room =
-        is ∙ room-below (tableOf bs) n (widthAt (tableOf bs .nodes)) (λ m. getD rs m 0) (room (tableOf bs .nodes)) (p .rooms) (kindAt (tableOf bs .nodes) n) (rights n inside)
+        let ns = tableOf bs .nodes in
+        is ∙ room-below (tableOf bs) n (widthAt ns) (λ m. getD rs m 0) (room ns) (p .rooms) (kindAt ns n) (rights n inside)
         ∙ sym (room-at (tableOf bs) rights n inside)
 
     pub next-few : t < 65536

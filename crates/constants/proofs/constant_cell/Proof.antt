@@ -53,7 +53,8 @@ scalar-cell-requires c κs =
     let e = scalars c in
     let k = kind e in
     let s = lent k in
-    narrow _ (s .pre .0) _ (s .pre .2) (bytes k) (k .kind .ensures) (omega (arith, e .before .if2 .left)) (omega (arith, e .if3 .left)) (c .before .field .ensures) (c .field2 .ensures)
+    narrow _ (s .pre .0) _ (s .pre .2) (bytes k) (k .kind .ensures) (omega (arith, e .before .if2 .left)) (omega (arith, e .if3 .left))
+    (c .before .field .ensures) (c .field2 .ensures)
 
 returns-4 : tie.Need-returns-4
 returns-4 c =

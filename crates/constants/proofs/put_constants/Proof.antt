@@ -21,8 +21,11 @@ Inv-loop table s₀ at count n₀ s n = (n ≤ count) × Constants table n s × 
 abbrev μ-loop : tie.MeasureT-loop
 μ-loop table s₀ at count n₀ s n = count - n
 
+abbrev placed : tie.At-loop Inv-loop μ-loop → tie.After-nodes-offset Inv-loop μ-loop
+placed l = l .before .before
+
 abbrev lent : tie.At-loop Inv-loop μ-loop → tie.Start Inv-loop μ-loop
-lent l = l .before .before .before .before .before
+lent l = placed l .before .before .before
 
 abbrev turn : tie.After-constant-cell Inv-loop μ-loop → tie.In-loop Inv-loop μ-loop
 turn c = c .before

@@ -16,7 +16,8 @@ digit-requires c κs = search needs
 
 returns-2 : tie.Need-returns-2
 returns-2 c = λ o k q.
-    chosen-by _ (c .before .digit .result) (c .before .digit .ensures) 256 (ap (λ (x : ℕ). cond (isBinding (fieldOf x)) 256 0) (sym (c .if2 .taken))) o (sym k ∙ c .before .before .if1 .left) q
+    chosen-by _ (c .before .digit .result) (c .before .digit .ensures) 256 (ap (λ (x : ℕ). cond (isBinding (fieldOf x)) 256 0) (sym (c .if2 .taken))) o
+    (sym k ∙ c .before .before .if1 .left) q
 
 returns-3 : tie.Need-returns-3
 returns-3 c = λ o k q.

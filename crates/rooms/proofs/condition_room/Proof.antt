@@ -20,8 +20,11 @@ Inv-loop table at count rooms₀ last₀ n₀ rooms last n = (n ≤ count) × (l
 abbrev μ-loop : tie.MeasureT-loop
 μ-loop table at count rooms₀ last₀ n₀ rooms last n = count - n
 
+abbrev placed : tie.At-loop Inv-loop μ-loop → tie.After-nodes-offset Inv-loop μ-loop
+placed l = l .before .before
+
 abbrev lent : tie.At-loop Inv-loop μ-loop → tie.Start Inv-loop μ-loop
-lent l = l .before .before .before .before
+lent l = placed l .before .before
 
 abbrev turn : tie.After-node-room Inv-loop μ-loop → tie.In-loop Inv-loop μ-loop
 turn c = c .before .before

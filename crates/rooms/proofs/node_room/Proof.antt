@@ -121,7 +121,8 @@ add-larger-3 : tie.Need-add-larger-3
 add-larger-3 c =
     let l = c .before in
     let w = operands (picked (l .before .before)) in
-    fits-under w64 _ 4294967296 (omega (arith, first-few (w .before), c .larger2 .ensures, second-few w, last-few l, children w .before .child-room2 .ensures .1)) tt
+    let b = children w .before .child-room2 .ensures .1 in
+    fits-under w64 _ 4294967296 (omega (arith, first-few (w .before), c .larger2 .ensures, second-few w, last-few l, b)) tt
 
 larger-requires-3 : tie.Need-larger-requires-3
 larger-requires-3 c κs = search needs

@@ -21,7 +21,9 @@ below : (c : tie.After-field) → c .field .result < nodeCount (start (known c) 
 below c =
     let s = start (known c) in
     let p = s .pre .0 in
-    let is = operand-child (s .args .table .now) (s .args .n) (s .args .i) (s .args .row) (known c .digit .result) (s .pre .1) (known c .digit .ensures) (c .before .if1 .taken) in
+    let d = known c in
+    let is =
+    operand-child (s .args .table .now) (s .args .n) (s .args .i) (s .args .row) (d .digit .result) (s .pre .1) (d .digit .ensures) (c .before .if1 .taken) in
     omega (arith, c .field .ensures, child-at _ _ _ _ (p .fielded) (p .below) is, p .below)
 
 digit-requires : tie.Need-digit-requires
