@@ -8,6 +8,17 @@ ghost use Rattle.arena.specs.Code.{SomeAt, EndsAt, Compared, Copied, par
 // A cell is its tag times CELL, and its payload.
 pub const CELL: u64 = 4294967296;
 
+// The cells of scalars: numbers in excess form (ZERO is that of 0), truths, elements. Payloads are added.
+pub const NUMBER: u64 = CELL;
+
+pub const EXCESS: u64 = 2147483648;
+
+pub const ZERO: u64 = NUMBER + EXCESS;
+
+pub const TRUTH: u64 = 2 * CELL;
+
+pub const ELEMENT: u64 = 3 * CELL;
+
 // The cell of a pair. That of a scalar is less.
 pub const PAIR: u64 = 4 * CELL;
 

@@ -12,13 +12,8 @@ ghost use Rattle.buffer.specs.Loaded.{ReadsGood, Enters, Room, Loads, Lo
 
 mod words;
 
-// A cell in the buffer: its payload, its tag times WORD, and zero bytes from FREE on.
-const WORD: u64 = 4294967296;
-
-const FREE: u64 = 256 * WORD;
-
-// The cell of a set of no members, the least of a set.
-const SET: u64 = 5 * WORD;
+// A cell in the buffer: its payload, its tag times 2^32, and zero bytes from FREE on.
+const FREE: u64 = 256 * arena::CELL;
 
 // A place in the values buffer where a cell may begin.
 pub struct Cursor {
@@ -86,7 +81,7 @@ impl Cursor {
         if len - 8 < at {
             return Step::End;
         }
-        let x = word(values, at) + WORD * word(values, at + 4);
+        let x = word(values, at) + arena::CELL * word(values, at + 4);
         if x >= FREE {
             return Step::End;
         }
@@ -115,7 +110,7 @@ pub fn code_cell(cell: u64) -> u64
     ensures { λ r. ⌜ r ≡ codeOf cell ⌝ }
 {
     if arena::tag(cell) == 1 {
-        return 4294967296 + (arena::low(cell) + 2147483648) % 4294967296;
+        return arena::NUMBER + (arena::low(cell) + arena::EXCESS) % arena::CELL;
     }
     cell
 }
@@ -216,7 +211,7 @@ fn in_order(s: &[u64], at: usize, n: u64) -> bool
     let mut left = n;
     while left > 1 {
         let x = s[i];
-        if x >= fitting::PAIR {
+        if x >= arena::PAIR {
             return values_rise(s, i, left);
         }
         i += 1;
@@ -237,7 +232,7 @@ pub fn rises(s: &[u64], at: usize, end: usize) -> bool
     while i < end {
         let x = s[i];
         i += 1;
-        if x >= SET {
+        if x >= arena::SET {
             if !in_order(s, i, arena::low(x)) {
                 return false;
             }
@@ -263,7 +258,7 @@ fn least(x: u64) -> u64
     if arena::tag(x) == 3 {
         return x / 256 * 256;
     }
-    x / WORD * WORD
+    x / arena::CELL * arena::CELL
 }
 
 fn most(x: u64) -> u64
@@ -272,7 +267,7 @@ fn most(x: u64) -> u64
     if arena::tag(x) == 3 {
         return x / 256 * 256 + 255;
     }
-    x / WORD * WORD + 4294967295
+    x / arena::CELL * arena::CELL + 4294967295
 }
 
 // Whether n values from `at` on, the first a scalar, share a type: all are scalars, one cell each.
@@ -327,7 +322,7 @@ fn share(s: &[u64], at: usize, n: u64) -> bool
     if n == 0 {
         return true;
     }
-    if s[at] < fitting::PAIR {
+    if s[at] < arena::PAIR {
         return cells_share(s, at, n);
     }
     values_share(s, at, n)
@@ -343,7 +338,7 @@ pub fn well_typed(s: &[u64], at: usize, end: usize) -> bool
         let next = i;
         i -= 1;
         let x = s[i];
-        if x >= SET {
+        if x >= arena::SET {
             if !share(s, next, arena::low(x)) {
                 return false;
             }
@@ -356,7 +351,7 @@ pub fn well_typed(s: &[u64], at: usize, end: usize) -> bool
 fn flat(x: u64, n: usize) -> bool
     ensures { λ r. ⌜ r ≡ isFlat x n ⌝ }
 {
-    if x < SET {
+    if x < arena::SET {
         return false;
     }
     arena::low(x) as usize + 1 == n
@@ -433,7 +428,7 @@ pub fn read_values(
     requires { ⌜ Room (now binds) (now values) (now s) top ⌝ }
     ensures { λ r. ⌜ Same top (now (s .entry)) (now (s .exit)) × Loads (now (sizes .entry)) (now (binds .entry)) (now (values .entry)) (now (s .exit)) (r .at) top (r .answer) ⌝ }
 {
-    s[top] = 6442450944;
+    s[top] = arena::ZERO;
     let mut env = [top as u32; 32];
     let mut c = Cursor { at: 0 };
     let mut end = top + 1;

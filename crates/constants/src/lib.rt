@@ -6,9 +6,6 @@ ghost use Rattle.rules.specs.Tables.{nodeCount, nodesAt};
 ghost use Rattle.rules.specs.Readable.{Readable};
 ghost use Rattle.constants.specs.Constants.{CellOf, Constants, OnlyBelow};
 
-// The cell of an empty set.
-const EMPTY: u64 = 21474836480;
-
 // The cell of the constant at node n: kinds 22 to 24 and 26. Another node has 0.
 fn constant_cell(table: &[u8], at: usize, n: usize) -> u64
     requires { ⌜ Readable (now table) × (at ≡ nodesAt (now table)) × (n < nodeCount (now table)) ⌝ }
@@ -16,7 +13,7 @@ fn constant_cell(table: &[u8], at: usize, n: usize) -> u64
 {
     let kind = table::kind(table, at, n);
     if kind == 26 {
-        return EMPTY;
+        return arena::SET;
     }
     if kind < 22 {
         return 0;

@@ -10,9 +10,6 @@ ghost use Rattle.fitting.specs.Types.{Decides, typeParts, SomeType, Type
 ghost use Rattle.fitting.specs.Tests.{FitOne, FitTwo, Both, Pairs, AgreedLefts};
 ghost use Rattle.fitting.specs.Agree.{NoEmpty, SomeTyped, SetHere, Few, Members, atomsAlike, PairOrSet, Parts, AgreedParts, OneAndRun, Runs, Agreed, AgreedWith, AgreedAll};
 
-// The cell of a pair. The cells of scalars are less, those of sets greater.
-pub const PAIR: u64 = 4 * 4294967296;
-
 // Whether no cell from `at` to `end` is that of an empty set.
 pub fn full(s: &[u64], at: usize, end: usize) -> bool
     requires { ⌜ (at ≤ end) × (end ≤ length (now s)) ⌝ }
@@ -20,7 +17,7 @@ pub fn full(s: &[u64], at: usize, end: usize) -> bool
 {
     let mut i = at;
     while i < end {
-        if s[i] == 21474836480 {
+        if s[i] == arena::SET {
             return false;
         }
         i += 1;
@@ -36,7 +33,7 @@ fn few(s: &[u64], at: usize, n: usize) -> usize
     if n == 0 {
         return n;
     }
-    if s[at] < PAIR {
+    if s[at] < arena::PAIR {
         return 1;
     }
     let end = arena::end_of(s, at);
@@ -73,7 +70,7 @@ pub fn agree(s: &[u64], a: usize, b: usize) -> bool
 {
     let x = s[a];
     // Scalars need no further call.
-    if x < PAIR {
+    if x < arena::PAIR {
         return atoms_alike(x, s[b]);
     }
     meet(s, a, b)

@@ -72,7 +72,7 @@ fn number(s: &mut [u64], x: u64, top: usize) -> Outcome
     if n > 4294967295 {
         return Outcome::Lacks(17);
     }
-    built(products::put_cell(s, top, 4294967296 + n))
+    built(products::put_cell(s, top, arena::NUMBER + n))
 }
 
 pub fn plus(s: &mut [u64], a: usize, mid: usize, b: usize, top: usize) -> Outcome
@@ -96,7 +96,7 @@ pub fn minus(s: &mut [u64], a: usize, mid: usize, b: usize, top: usize) -> Outco
     }
     let x = arena::low(s[a]);
     let y = arena::low(s[b]);
-    number(s, x + 4294967296 - y, top)
+    number(s, x + arena::CELL - y, top)
 }
 
 pub fn interval(s: &mut [u64], a: usize, mid: usize, b: usize, top: usize) -> Outcome

@@ -8,8 +8,8 @@ pub fn scalar_cell(kind: usize, a: u64, b: u64) -> u64
     ensures { λ r. ⌜ r ≡ scalarCell kind a b ⌝ }
 {
     match kind {
-        22 => 12884901888 + 256 * a + b,
-        23 => 4294967296 + (a + 2147483648) % 4294967296,
-        _ => 8589934592 + a,
+        22 => arena::ELEMENT + 256 * a + b,
+        23 => arena::NUMBER + (a + arena::EXCESS) % arena::CELL,
+        _ => arena::TRUTH + a,
     }
 }

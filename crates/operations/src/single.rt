@@ -41,7 +41,6 @@ pub fn range(s: &mut [u64], a: usize, top: usize) -> Outcome
     built(products::range(s, a, top))
 }
 
-// The cell of an integer from 0 on is 2^32 for its tag, 2^31 for the excess form, and itself.
 pub fn card(s: &mut [u64], a: usize, top: usize) -> Outcome
     requires { ⌜ OneReady (now s) a top ⌝ }
     ensures { λ r. ⌜ OneDone card (now (s .entry)) a top (now (s .exit)) r ⌝ }
@@ -50,7 +49,7 @@ pub fn card(s: &mut [u64], a: usize, top: usize) -> Outcome
         return Outcome::Lacks(15);
     }
     let n = arena::low(s[a]);
-    built(products::put_cell(s, top, 6442450944 + n))
+    built(products::put_cell(s, top, arena::ZERO + n))
 }
 
 // The first member is the least, and stays where it is.

@@ -11,19 +11,6 @@ ghost use Rattle.products.specs.Growing.{PutsCell, RunPre, Runs, Singles
 ghost use Rattle.products.specs.Parts.{SomePairs, Takes, Domains, Ranges, chosen, AddPre, Added, FindPre, Finds, InsertPre, Places, Inserts, movedLast};
 ghost use Rattle.products.specs.Power.{Powers, masks, subsetCount, AddedIf, MarkPre, Marks, SubsetPre, Subsets, SubsetIf, AllPre, AllSubsets};
 
-// The cells of values by their tags; the payload is added.
-const CELL: u64 = 4294967296;
-
-const NUMBER: u64 = CELL;
-
-const TRUTH: u64 = 2 * CELL;
-
-const ELEMENT: u64 = 3 * CELL;
-
-const PAIR: u64 = 4 * CELL;
-
-const SET: u64 = 5 * CELL;
-
 // Members that have been built: where the last one stands (0 where there is none), where they end, their number.
 struct Out {
     last: usize,
@@ -44,7 +31,7 @@ pub fn put_empty(s: &mut [u64], top: usize) -> usize
     requires { ⌜ top + 514 ≤ length (now s) ⌝ }
     ensures { λ r. ⌜ Made top (now (s .entry)) (now (s .exit)) (set none) r ⌝ }
 {
-    put_cell(s, top, SET)
+    put_cell(s, top, arena::SET)
 }
 
 pub fn singleton(s: &mut [u64], a: usize, top: usize) -> usize
@@ -56,7 +43,7 @@ pub fn singleton(s: &mut [u64], a: usize, top: usize) -> usize
         return 0;
     }
     arena::copy(s, a, n, top + 1);
-    s[top] = SET + 1;
+    s[top] = arena::SET + 1;
     top + 1 + n
 }
 
@@ -65,7 +52,7 @@ fn pair_at(s: &mut [u64], a: usize, n: usize, b: usize, m: usize, to: usize) -> 
     requires { ⌜ PairPre (now s) a n b m to ⌝ }
     ensures { λ r. ⌜ PairPut (now (s .entry)) a n b m to (now (s .exit)) r ⌝ }
 {
-    s[to] = PAIR;
+    s[to] = arena::PAIR;
     arena::copy(s, a, n, to + 1);
     arena::copy(s, b, m, to + 1 + n);
     to + 1 + n + m
@@ -95,7 +82,7 @@ fn run(s: &mut [u64], cell: u64, n: u64, top: usize) -> usize
         to += 1;
         i += 1;
     }
-    s[top] = SET + n;
+    s[top] = arena::SET + n;
     to
 }
 
@@ -104,14 +91,14 @@ pub fn elements(s: &mut [u64], g: u64, n: u64, top: usize) -> usize
     requires { ⌜ (g < 16777216) × (n ≤ 32) × (top + 514 ≤ length (now s)) ⌝ }
     ensures { λ r. ⌜ Made top (now (s .entry)) (now (s .exit)) (setOf (elementsFrom g 0 n)) r ⌝ }
 {
-    run(s, ELEMENT + 256 * g, n, top)
+    run(s, arena::ELEMENT + 256 * g, n, top)
 }
 
 pub fn booleans(s: &mut [u64], top: usize) -> usize
     requires { ⌜ top + 514 ≤ length (now s) ⌝ }
     ensures { λ r. ⌜ Made top (now (s .entry)) (now (s .exit)) (setOf (truthValue false ∷ truthValue true ∷ [])) r ⌝ }
 {
-    run(s, TRUTH, 2, top)
+    run(s, arena::TRUTH, 2, top)
 }
 
 // The integers from x to y, numbers in excess form.
@@ -120,13 +107,13 @@ pub fn interval(s: &mut [u64], x: u64, y: u64, top: usize) -> usize
     ensures { λ r. ⌜ Intervals (now (s .entry)) x y top (now (s .exit)) r ⌝ }
 {
     if x > y {
-        return run(s, NUMBER + x, 0, top);
+        return run(s, arena::NUMBER + x, 0, top);
     }
     let n = y - x;
     if n > 254 {
         return 0;
     }
-    run(s, NUMBER + x, n + 1, top)
+    run(s, arena::NUMBER + x, n + 1, top)
 }
 
 // The pairs of the value at v, of k cells, with each of m members from b on.
@@ -183,7 +170,7 @@ pub fn product(s: &mut [u64], a: usize, b: usize, top: usize) -> usize
         return 0;
     }
     let end = rows(s, a + 1, n, b + 1, m, top + 1);
-    s[top] = SET + n * m;
+    s[top] = arena::SET + n * m;
     end
 }
 
@@ -316,7 +303,7 @@ fn parts(s: &mut [u64], a: usize, top: usize, second: bool) -> usize
         i = e;
         left -= 1;
     }
-    s[top] = SET + o.count;
+    s[top] = arena::SET + o.count;
     o.to
 }
 
@@ -394,7 +381,7 @@ fn subset(s: &mut [u64], at: &[usize; 6], n: usize, mask: u64, to: usize) -> usi
         o = add_if(s, from, end, m % 2 == 1, o);
         m = m / 2;
     }
-    s[to] = SET + o.count;
+    s[to] = arena::SET + o.count;
     o.to
 }
 
@@ -491,6 +478,6 @@ pub fn power(s: &mut [u64], a: usize, top: usize) -> usize
     }
     let at = marks(s, a + 1, n as usize);
     let end = all_subsets(s, &at, n as usize, p, top + 1);
-    s[top] = SET + p;
+    s[top] = arena::SET + p;
     end
 }
