@@ -141,10 +141,12 @@ unexcess-order : (l m : ℕ) → compareℤ (unexcess l) (unexcess m) ≡ compar
 unexcess-order l m = go (decLt l 2147483648) (decLt m 2147483648)
   where
     go : Dec (l < 2147483648) → Dec (m < 2147483648) → compareℤ (unexcess l) (unexcess m) ≡ compare l m
-    go (yes a) (yes b) = rw (lt-ltb l 2147483648 a, lt-ltb m 2147483648 b) (compare-same (2147483647 - m) (2147483647 - l) l m (omega arith) (omega arith) (omega arith))
+    go (yes a) (yes b) = rw (lt-ltb l 2147483648 a, lt-ltb m 2147483648 b)
+        (compare-same (2147483647 - m) (2147483647 - l) l m (omega arith) (omega arith) (omega arith))
     go (yes a) (no b) = rw (lt-ltb l 2147483648 a, le-ltb m 2147483648 (omega arith)) (sym (lt-compare l m (omega arith)))
     go (no a) (yes b) = rw (le-ltb l 2147483648 (omega arith), lt-ltb m 2147483648 b) (sym (gt-compare l m (omega arith)))
-    go (no a) (no b) = rw (le-ltb l 2147483648 (omega arith), le-ltb m 2147483648 (omega arith)) (compare-same (l - 2147483648) (m - 2147483648) l m (omega arith) (omega arith) (omega arith))
+    go (no a) (no b) = rw (le-ltb l 2147483648 (omega arith), le-ltb m 2147483648 (omega arith))
+        (compare-same (l - 2147483648) (m - 2147483648) l m (omega arith) (omega arith) (omega arith))
 
 -- Cells of one tag compare as their payloads do.
 payload-order : (t l m : ℕ) → compareℤ (payloadOf t l) (payloadOf t m) ≡ compare l m
@@ -156,11 +158,13 @@ payload-order t l m = go (eqb t 1)
 
 -- Cells compare by tag and then by payload.
 cell-order : (c d : ℕ) (o : Ordering) →
-    (compare c d then o) ≡ (compare (c / cellSize) (d / cellSize) then compareℤ (payloadOf (c / cellSize) (c % cellSize)) (payloadOf (d / cellSize) (d % cellSize)) then o)
+    (compare c d then o) ≡ (compare (c / cellSize) (d / cellSize) then compareℤ (payloadOf (c / cellSize) (c % cellSize))
+    (payloadOf (d / cellSize) (d % cellSize)) then o)
 cell-order c d o = go (decLt (c / cellSize) (d / cellSize)) (decLt (d / cellSize) (c / cellSize))
   where
     go : Dec (c / cellSize < d / cellSize) → Dec (d / cellSize < c / cellSize) →
-        (compare c d then o) ≡ (compare (c / cellSize) (d / cellSize) then compareℤ (payloadOf (c / cellSize) (c % cellSize)) (payloadOf (d / cellSize) (d % cellSize)) then o)
+        (compare c d then o) ≡ (compare (c / cellSize) (d / cellSize) then compareℤ (payloadOf (c / cellSize) (c % cellSize))
+        (payloadOf (d / cellSize) (d % cellSize)) then o)
     go (yes a) b = rw (lt-compare (c / cellSize) (d / cellSize) a, lt-compare c d (omega arith))
     go (no a) (yes b) = rw (gt-compare (c / cellSize) (d / cellSize) b, gt-compare c d (omega arith))
     go (no a) (no b) =
@@ -181,7 +185,8 @@ unfolding order
 order-lexN v w h k = rw (← key-code v h, ← key-code w k) (lex-uncode (code v) (code w))
 
 -- The first difference decides.
-lexN-lt : (xs ys : List ℕ) (i : ℕ) → i < length xs → i < length ys → ((j : ℕ) → j < i → getD xs j 0 ≡ getD ys j 0) → getD xs i 0 < getD ys i 0 → lexN xs ys ≡ Ordering·lt
+lexN-lt : (xs ys : List ℕ) (i : ℕ) → i < length xs → i < length ys → ((j : ℕ) → j < i → getD xs j 0 ≡ getD ys j 0) → getD xs i 0 < getD ys i 0 →
+    lexN xs ys ≡ Ordering·lt
 unfolding lexN
 lexN-lt [] ys i a b h l = absurd (omega arith)
 lexN-lt (x ∷ xs) [] i a b h l = absurd (omega arith)
@@ -189,7 +194,8 @@ lexN-lt (x ∷ xs) (y ∷ ys) zero a b h l = rw (lt-compare x y l)
 lexN-lt (x ∷ xs) (y ∷ ys) (suc i) a b h l =
     rw (h 0 (omega arith), compare-refl y) (lexN-lt xs ys i (omega arith) (omega arith) (λ j p. h (suc j) (omega arith)) l)
 
-lexN-gt : (xs ys : List ℕ) (i : ℕ) → i < length xs → i < length ys → ((j : ℕ) → j < i → getD xs j 0 ≡ getD ys j 0) → getD ys i 0 < getD xs i 0 → lexN xs ys ≡ Ordering·gt
+lexN-gt : (xs ys : List ℕ) (i : ℕ) → i < length xs → i < length ys → ((j : ℕ) → j < i → getD xs j 0 ≡ getD ys j 0) → getD ys i 0 < getD xs i 0 →
+    lexN xs ys ≡ Ordering·gt
 unfolding lexN
 lexN-gt [] ys i a b h l = absurd (omega arith)
 lexN-gt (x ∷ xs) [] i a b h l = absurd (omega arith)
@@ -209,9 +215,11 @@ first-greater v w i p q a b h l = order-lexN v w p q ∙ lexN-gt (code v) (code 
 prefix-is : (xs ys : List ℕ) → length ys ≤ length xs → ((j : ℕ) → j < length ys → getD xs j 0 ≡ getD ys j 0) → xs ≡ ys ++ drop (length ys) xs
 prefix-is xs [] l h = refl
 prefix-is [] (y ∷ ys) l h = absurd (omega arith)
-prefix-is (x ∷ xs) (y ∷ ys) l h = let e : x ≡ y = h 0 (omega arith) in rw (← e) (ap (λ (z : List ℕ). x ∷ z) (prefix-is xs ys (omega arith) (λ j p. h (suc j) (omega arith))))
+prefix-is (x ∷ xs) (y ∷ ys) l h = let e : x ≡ y = h 0 (omega arith) in rw (← e)
+    (ap (λ (z : List ℕ). x ∷ z) (prefix-is xs ys (omega arith) (λ j p. h (suc j) (omega arith))))
 
 pub all-agree : (v w : Value) → CellsFit v → CellsFit w → weight w ≤ weight v → ((j : ℕ) → j < weight w → getD (code v) j 0 ≡ getD (code w) j 0) → v ≡ w
 all-agree v w p q l h =
-    let e : code v ≡ code w ++ drop (length (code w)) (code v) = prefix-is (code v) (code w) (rw (length-code v, length-code w) l) (λ j k. h j (omega (arith, length-code w))) in
+    let e : code v ≡ code w ++ drop (length (code w)) (code v) = prefix-is (code v) (code w) (rw (length-code v, length-code w) l)
+    (λ j k. h j (omega (arith, length-code w))) in
     code-eq v w [] (drop (length (code w)) (code v)) p q (append-nil (code v) ∙ e) .0

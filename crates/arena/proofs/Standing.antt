@@ -155,7 +155,8 @@ module _ (s : List ℕ) (i e : ℕ) where
       record {
         values = a ▸ b ▸ vs;
         counted = rw (hd, p) (omega arith);
-        stands = subst (λ (l : List ℕ). Stands s (i + 1) l) (append-assoc (code a) (code b) (codes vs)) (stands-tail s i (4 * cellSize) ((code a ++ code b) ++ codes vs) h);
+        stands = subst (λ (l : List ℕ). Stands s (i + 1) l) (append-assoc (code a) (code b) (codes vs))
+            (stands-tail s i (4 * cellSize) ((code a ++ code b) ++ codes vs) h);
         fit = (f .0, (f .1, fs));
         ends = omega arith;
       }
@@ -207,7 +208,8 @@ in-second s a b i v w h k p q l g = go (decLt i (weight w))
     go : Dec (i < weight w) → i < weight w
     go (yes y) = y
     go (no n) =
-        let e : v ≡ w = all-agree v w p q (omega arith) (λ j m. cells-agree s a b (weight w) v w h k (omega arith) (omega arith) (λ x y. g x (omega arith)) j m) in
+        let e : v ≡ w = all-agree v w p q (omega arith)
+        (λ j m. cells-agree s a b (weight w) v w h k (omega arith) (omega arith) (λ x y. g x (omega arith)) j m) in
         let f : weight v ≡ weight w = ap weight e in
         omega arith
 
@@ -258,13 +260,15 @@ module _ (s : List ℕ) (a b end i : ℕ) (ends : EndsAt s a end) (g : Agree s a
         where
           go : Dec (weight w < weight v) → v ≡ w
           go (yes y) = all-agree v w p q (omega arith) (λ j m. cells-agree s a b (weight w) v w h k (omega arith) (omega arith) (λ x z. g x (omega arith)) j m)
-          go (no n) = sym (all-agree w v q p (omega arith) (λ j m. sym (cells-agree s a b (weight v) v w h k (omega arith) (omega arith) (λ x z. g x (omega arith)) j m)))
+          go (no n) = sym (all-agree w v q p (omega arith)
+              (λ j m. sym (cells-agree s a b (weight v) v w h k (omega arith) (omega arith) (λ x z. g x (omega arith)) j m)))
 
 -- Copying, cell by cell.
 pub copied-start : (s : List ℕ) (from to : ℕ) → Copied s from 0 to s
 copied-start s from to = record { there = λ i p. absurd (omega arith); before = λ i p. refl; after = λ i p. refl; kept = refl }
 
-pub copied-source : (s₀ s : List ℕ) (from n to i : ℕ) → Copied s₀ from i to s → ((from + n ≤ to) ⊎ (to ≤ from)) → i < n → getD s (from + i) 0 ≡ getD s₀ (from + i) 0
+pub copied-source : (s₀ s : List ℕ) (from n to i : ℕ) → Copied s₀ from i to s → ((from + n ≤ to) ⊎ (to ≤ from)) → i < n →
+    getD s (from + i) 0 ≡ getD s₀ (from + i) 0
 copied-source s₀ s from n to i c (inl h) l = c .before (from + i) (omega arith)
 copied-source s₀ s from n to i c (inr h) l = c .after (from + i) (omega arith)
 
@@ -307,7 +311,8 @@ pub same-trans : (k m : ℕ) (s s′ s″ : List ℕ) → Same k s s′ → Same
 same-trans k m s s′ s″ f g l = record { same = λ i p. g .same i (omega arith) ∙ f .same i p; kept = g .kept ∙ f .kept }
 
 -- A run that has been copied stands in its new place.
-pub copied-stands : (s : List ℕ) (from n to : ℕ) (s′ : List ℕ) (xs : List ℕ) → Copied s from n to s′ → length xs ≡ n → to + n ≤ length s → Stands s from xs → Stands s′ to xs
+pub copied-stands : (s : List ℕ) (from n to : ℕ) (s′ : List ℕ) (xs : List ℕ) → Copied s from n to s′ → length xs ≡ n → to + n ≤ length s → Stands s from xs →
+    Stands s′ to xs
 copied-stands s from n to s′ xs c e l h = record {
   inside = omega (arith, c .kept);
   cells = λ i p. c .there i (omega arith) ∙ h .cells i p;

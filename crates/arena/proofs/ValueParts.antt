@@ -28,7 +28,8 @@ pub some-inside : (s : List ℕ) (at : ℕ) → SomeAt s at → at < length s
 some-inside s at h = omega (arith, h .stands .inside, length-code (h .value), weight-some (h .value))
 
 -- The first cell of a value.
-scalar-tag : (x : Scalar) → ScalarFits x → ((scalarTag x * cellSize + scalarLow x) / cellSize ≡ scalarTag x) × ((scalarTag x * cellSize + scalarLow x) % cellSize ≡ scalarLow x)
+scalar-tag : (x : Scalar) → ScalarFits x →
+    ((scalarTag x * cellSize + scalarLow x) / cellSize ≡ scalarTag x) × ((scalarTag x * cellSize + scalarLow x) % cellSize ≡ scalarLow x)
 scalar-tag (num whole i) h = (omega (arith, h .0), omega (arith, h .0))
 scalar-tag (truth b) h = (omega (arith, bit-small b), omega (arith, bit-small b))
 scalar-tag (element g k) h = (omega (arith, h .1), omega (arith, h .1))

@@ -89,7 +89,8 @@ tail-kept s at n end o s′ r e p = record {
   on = λ top zs vs b f. p .on top zs vs b (f .stands) (e top vs f) (f .counted);
 }
 
-pub tail-if : (keep : Bool) (s : List ℕ) (at n end : ℕ) (o : Out) (s′ : List ℕ) (r : Out) → keep ≡ true → RunEnds s at n end → Put true s at end n o s′ r → Tailed keep s at n o s′ r
+pub tail-if : (keep : Bool) (s : List ℕ) (at n end : ℕ) (o : Out) (s′ : List ℕ) (r : Out) → keep ≡ true → RunEnds s at n end →
+    Put true s at end n o s′ r → Tailed keep s at n o s′ r
 tail-if keep s at n end o s′ r k e p = subst (λ (b : Bool). Tailed b s at n o s′ r) (sym k) (tail-kept s at n end o s′ r e p)
 
 pub tail-else : (keep : Bool) (s : List ℕ) (at n : ℕ) (o : Out) → keep ≡ false → Tailed keep s at n o s o
@@ -102,7 +103,8 @@ tail-else keep s at n o e = subst (λ (b : Bool). Tailed b s at n o s o) (sym e)
 
 -- A turn of the walk is a turn of the merge.
 merged-turn : (l b r : Bool) (o : Ordering) (v : Value) (vs : Values) (w : Value) (ws : Values) → order v w ≡ o →
-    merged l b r (v ∷ members vs) (w ∷ members ws) ≡ keptValue (keepOf l b r o) (firstOf o v w) (merged l b r (members (restLeft o v vs)) (members (restRight o w ws)))
+    merged l b r (v ∷ members vs) (w ∷ members ws)
+    ≡ keptValue (keepOf l b r o) (firstOf o v w) (merged l b r (members (restLeft o v vs)) (members (restRight o w ws)))
 merged-turn l b r Ordering·lt v vs w ws e = merged-less l b r v w (members vs) (members ws) e
 merged-turn l b r Ordering·eq v vs w ws e = merged-equal l b r v w (members vs) (members ws) e
 merged-turn l b r Ordering·gt v vs w ws e = merged-greater l b r v w (members vs) (members ws) e
@@ -118,7 +120,8 @@ after t o = record { a = t .a; m = t .m; b = t .b; n = t .n; to = o .to; count =
 abbrev pub outOf : Walk → Out
 outOf w = record { to = w .to; count = w .count }
 
-module _ (l e r : Bool) (s s′ : List ℕ) (w : Walk) (t : Turn) (o : Out) (turn : TurnAt s (w .a) (w .m) (w .b) (w .n) l e r t) (p : Put (t .keep) s (t .from) (t .end) 1 (outOf w) s′ o)
+module _ (l e r : Bool) (s s′ : List ℕ) (w : Walk) (t : Turn) (o : Out)
+    (turn : TurnAt s (w .a) (w .m) (w .b) (w .n) l e r t) (p : Put (t .keep) s (t .from) (t .end) 1 (outOf w) s′ o)
     (top : ℕ) (whole : List Value) (h : Merging l e r s top w whole) where
   step-done : (v : Value) (vs : Values) (x : Value) (xs : Values) → Front s top (w .a) (w .m) (v ▸ vs) → Front s top (w .b) (w .n) (x ▸ xs) →
       whole ≡ h .done ++ merged l e r (v ∷ members vs) (x ∷ members xs) → Merging l e r s′ top (after t o) whole
@@ -136,8 +139,10 @@ module _ (l e r : Bool) (s s′ : List ℕ) (w : Walk) (t : Turn) (o : Out) (tur
         all = q
             ∙ ap (λ (c : List Value). h .done ++ c)
             (merged-turn l e r (order v x) v vs x xs refl
-            ∙ ap (λ (b : Bool). keptValue b (firstOf (order v x) v x) (merged l e r (members (restLeft (order v x) v vs)) (members (restRight (order v x) x xs)))) (sym (d .keeps)))
-            ∙ kept-append (t .keep) (firstOf (order v x) v x) (h .done) (merged l e r (members (restLeft (order v x) v vs)) (members (restRight (order v x) x xs)));
+            ∙ ap (λ (b : Bool). keptValue b (firstOf (order v x) v x)
+            (merged l e r (members (restLeft (order v x) v vs)) (members (restRight (order v x) x xs)))) (sym (d .keeps)))
+            ∙ kept-append (t .keep) (firstOf (order v x) v x) (h .done)
+            (merged l e r (members (restLeft (order v x) v vs)) (members (restRight (order v x) x xs)));
       }
 
   pub step-on : 0 < w .m → 0 < w .n → Merging l e r s′ top (after t o) whole
@@ -152,7 +157,8 @@ module _ (l e r : Bool) (s s′ : List ℕ) (w : Walk) (t : Turn) (o : Out) (tur
 module _ (l e r : Bool) (s : List ℕ) (w : Walk) (h : StepPre l e r s w) where
   pub step-two : TwoFronts s (w .a) (w .m) (w .b) (w .n)
   step-two =
-      two-fronts s (h .top) (w .a) (w .m) (w .b) (w .n) (h .merging .left) (h .merging .right) (h .merging .onLeft) (h .merging .onRight) (h .moreLeft) (h .moreRight)
+      two-fronts s (h .top) (w .a) (w .m) (w .b) (w .n) (h .merging .left) (h .merging .right) (h .merging .onLeft) (h .merging .onRight)
+      (h .moreLeft) (h .moreRight)
 
   module _ (t : Turn) (turn : TurnAt s (w .a) (w .m) (w .b) (w .n) l e r t) where
     -- what a turn takes, and how many members are left
@@ -197,7 +203,8 @@ set-stands s top n to zs b l = record {
   cells = λ i p. at i p;
 }
   where
-    at : (i : ℕ) → i < suc (length (codes (values zs))) → getD (setAt s top (21474836480 + n)) (top + i) 0 ≡ getD ((5 * cellSize + count (values zs)) ∷ codes (values zs)) i 0
+    at : (i : ℕ) → i < suc (length (codes (values zs))) →
+        getD (setAt s top (21474836480 + n)) (top + i) 0 ≡ getD ((5 * cellSize + count (values zs)) ∷ codes (values zs)) i 0
     at zero p =
         ap (λ (j : ℕ). getD (setAt s top (21474836480 + n)) j 0) (let z : top + 0 ≡ top = omega arith in z)
         ∙ getD-set-same s top (21474836480 + n) 0 l ∙ omega (arith, b .counted)
@@ -237,7 +244,8 @@ merged-none : (l b r : Bool) (ws : List Value) → merged l b r [] ws ≡ cond r
 unfolding merged
 merged-none l b r ws = refl
 
-module _ (l r : Bool) (s : List ℕ) (w : Walk) (top : ℕ) (q : Rest) (over : (w .m ≡ 0) ⊎ ((w .n ≡ 0) ⊎ (top + 256 < w .to))) (light : w .to ≤ top + 256) (rest : RestOf w l r q) where
+module _ (l r : Bool) (s : List ℕ) (w : Walk) (top : ℕ) (q : Rest)
+    (over : (w .m ≡ 0) ⊎ ((w .n ≡ 0) ⊎ (top + 256 < w .to))) (light : w .to ≤ top + 256) (rest : RestOf w l r q) where
   right-over : 0 < w .m → w .n ≡ 0
   right-over p = go over
     where
@@ -249,7 +257,7 @@ module _ (l r : Bool) (s : List ℕ) (w : Walk) (top : ℕ) (q : Rest) (over : (
   rested : (e : Bool) (whole : List Value) (h : Merging l e r s top w whole) → Rested s top q (h .done) whole
   rested e whole h = go rest
     where
-      go : ((0 < w .m) × (q .at ≡ w .a) × (q .n ≡ w .m) × (q .keep ≡ l)) ⊎ ((w .m ≡ 0) × (q .at ≡ w .b) × (q .n ≡ w .n) × (q .keep ≡ r)) → Rested s top q (h .done) whole
+      go : RestOf w l r q → Rested s top q (h .done) whole
       go (inl x) = record {
         rest = h .left;
         front = rw (x .1, x .2) (h .onLeft);
@@ -334,7 +342,8 @@ built-none s top l = record {
   counted = refl;
 }
 
-pub walking-start : (l e r : Bool) (s : List ℕ) (a b top m n : ℕ) → SomeSet s top a × SomeSet s top b × (top + 514 ≤ length s) → m ≡ getD s a 0 % 4294967296 → n ≡ getD s b 0 % 4294967296 →
+pub walking-start : (l e r : Bool) (s : List ℕ) (a b top m n : ℕ) → SomeSet s top a × SomeSet s top b × (top + 514 ≤ length s) →
+    m ≡ getD s a 0 % 4294967296 → n ≡ getD s b 0 % 4294967296 →
     Walking l e r s a b top s (record { a = a + 1; m = m; b = b + 1; n = n; to = top + 1; count = 0 })
 walking-start l e r s a b top m n p x y = record {
   frame = same-refl top s;
@@ -352,7 +361,8 @@ walking-start l e r s a b top m n p x y = record {
 goes-if : (w : Walk) (limit : ℕ) (b c : Bool) → b ≡ c → GoesOn w limit b → GoesOn w limit c
 goes-if w limit b c e g = subst (λ (x : Bool). GoesOn w limit x) e g
 
-module _ (l e r : Bool) (s₀ : List ℕ) (a b top : ℕ) (s : List ℕ) (w : Walk) (p : SomeSet s₀ top a × SomeSet s₀ top b × (top + 514 ≤ length s₀)) (h : Walking l e r s₀ a b top s w) where
+module _ (l e r : Bool) (s₀ : List ℕ) (a b top : ℕ) (s : List ℕ) (w : Walk)
+    (p : SomeSet s₀ top a × SomeSet s₀ top b × (top + 514 ≤ length s₀)) (h : Walking l e r s₀ a b top s w) where
   some-merging : Merging l e r s top w (merged l e r (members (p .0 .0)) (members (p .1 .0)))
   some-merging = h .on (p .0 .0) (p .1 .0) (p .0 .1) (p .1 .1)
 

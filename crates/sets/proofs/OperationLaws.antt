@@ -16,16 +16,19 @@ module _ (vs ws : Values) (f : FineSet vs) (g : FineSet ws) where
   unfolding twoValue
   union-merged =
       ap (λ (l : List Value). gives (setOf l))
-      (sym (merged-union (members vs) (members ws) (rises-rising vs (f .rises)) (rises-rising ws (g .rises)) (fit-small vs (f .fits .1)) (fit-small ws (g .fits .1))))
+      (sym (merged-union (members vs) (members ws) (rises-rising vs (f .rises)) (rises-rising ws (g .rises))
+      (fit-small vs (f .fits .1)) (fit-small ws (g .fits .1))))
 
   pub inter-merged : twoValue inter (set vs) (set ws) ≡ gives (setOf (merged false true false (members vs) (members ws)))
   unfolding twoValue
   inter-merged =
       ap (λ (l : List Value). gives (setOf l))
-      (sym (merged-inter (members vs) (members ws) (rises-rising vs (f .rises)) (rises-rising ws (g .rises)) (fit-small vs (f .fits .1)) (fit-small ws (g .fits .1))))
+      (sym (merged-inter (members vs) (members ws) (rises-rising vs (f .rises)) (rises-rising ws (g .rises))
+      (fit-small vs (f .fits .1)) (fit-small ws (g .fits .1))))
 
   pub diff-merged : twoValue diff (set vs) (set ws) ≡ gives (setOf (merged true false false (members vs) (members ws)))
   unfolding twoValue
   diff-merged =
       ap (λ (l : List Value). gives (setOf l))
-      (sym (merged-diff (members vs) (members ws) (rises-rising vs (f .rises)) (rises-rising ws (g .rises)) (fit-small vs (f .fits .1)) (fit-small ws (g .fits .1))))
+      (sym (merged-diff (members vs) (members ws) (rises-rising vs (f .rises)) (rises-rising ws (g .rises))
+      (fit-small vs (f .fits .1)) (fit-small ws (g .fits .1))))

@@ -18,7 +18,8 @@ pub record Searched (s : List ℕ) (i left : ℕ) (v : Value) (vs : Values) : Ty
   pub front : Front s (length s) i left rest
   pub same : isIn v (members vs) ≡ isIn v (members rest)
 
-pub searched-start : (s : List ℕ) (a left : ℕ) (v : Value) (vs : Values) → SetBelow s (length s) a vs → left ≡ getD s a 0 % 4294967296 → Searched s (a + 1) left v vs
+pub searched-start : (s : List ℕ) (a left : ℕ) (v : Value) (vs : Values) →
+    SetBelow s (length s) a vs → left ≡ getD s a 0 % 4294967296 → Searched s (a + 1) left v vs
 searched-start s a left v vs h e = record { rest = vs; front = front-start s (length s) a vs h left e; same = refl }
 
 module _ (s : List ℕ) (i left : ℕ) (v : Value) (vs : Values) (h : Searched s i left v vs) where

@@ -145,7 +145,8 @@ module _ (s : List ℕ) (a m b n : ℕ) (whole : Bool) (h : Including s a m b n 
 
   module _ (l : 0 < m) (z : n ≡ 0 → ⊥) (t : Turn) (turn : TurnAt s a m b n false true true t) where
     -- what a turn does, for each order of the first members
-    including-go : (o : Ordering) (v : Value) (vs : Values) (w : Value) (ws : Values) → order v w ≡ o → Front s (length s) a m (v ▸ vs) → Front s (length s) b n (w ▸ ws) →
+    including-go : (o : Ordering) (v : Value) (vs : Values) (w : Value) (ws : Values) → order v w ≡ o →
+        Front s (length s) a m (v ▸ vs) → Front s (length s) b n (w ▸ ws) →
         whole ≡ allIn (v ∷ members vs) (w ∷ members ws) → Turned s (length s) false true true o v vs w ws t →
         (t .keep ≡ true → Including s (t .a) (t .m) (t .b) (t .n) whole × (t .m + t .n < m + n)) × (t .keep ≡ false → false ≡ whole)
     including-go Ordering·lt v vs w ws e f g q k = (
@@ -159,7 +160,8 @@ module _ (s : List ℕ) (a m b n : ℕ) (whole : Bool) (h : Including s a m b n 
           right = ws;
           onLeft = k .onLeft;
           onRight = k .onRight;
-          same = q ∙ allIn-equal v w (members vs) (members ws) e (order-eq v w (fits-small v (f .fits .0)) (fits-small w (g .fits .0)) e) (rises-rising (v ▸ vs) (f .rises));
+          same = q ∙ allIn-equal v w (members vs) (members ws) e
+              (order-eq v w (fits-small v (f .fits .0)) (fits-small w (g .fits .0)) e) (rises-rising (v ▸ vs) (f .rises));
         },
         omega (arith, turn-fewer s (length s) false true true Ordering·eq v vs w ws t k, f .counted, g .counted),
       ),

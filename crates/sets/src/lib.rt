@@ -9,7 +9,7 @@ ghost use Rattle.sets.specs.Rows.{Row, LowerBound, HasCell, SetAt, OfCel
 ghost use Rattle.sets.specs.Pairs.{PairFirst, NextPair, SomePairs, FunctionAt, SomeRelation, Applies, PairCells, OfFlatPairs, FlatRelation};
 ghost use Rattle.sets.specs.Fronts.{RestThere, TailPre, Tailed, StepPre, Stepped, GoesOn, RestOf, EndPre, Ended, Merges, keepOf};
 
-// A set with fewer than one member for FEW of another is small beside it: a search for each member is quicker than a walk over both.
+// A set is small beside one with more than FEW times its members: a search for each member is quicker than a walk over both.
 const FEW: usize = 8;
 
 // The cells of a pair of two values of one cell each.
@@ -245,7 +245,7 @@ fn cells_included(s: &[u64], a: usize, m: usize, b: usize, n: usize) -> bool
     requires { ⌜ TwoRows (now s) a m b n (length (now s)) ⌝ }
     ensures { λ r. ⌜ RowIn (now (s .entry)) a m b n r ⌝ }
 {
-    if m < n / FEW {
+    if FEW * m < n {
         return search_cells(s, a, m, b, n);
     }
     walk_cells(s, a, m, b, n)

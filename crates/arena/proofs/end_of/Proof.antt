@@ -1,5 +1,6 @@
 -- `end_of`: a cell below that of a pair is a scalar's and so a whole value; any other value is walked.
 use borrow.Author.Needs.{needs}
+use native.Mathlib.Omega.{arith}
 use Rattle.arena.proofs.ValueParts.{some-inside, one-cell}
 use Rattle.arena.proofs.end_of.Statement.{statement}
 use Rattle.arena.proofs.end_of.Tie as tie
@@ -14,7 +15,7 @@ add-result : tie.Need-add-result
 add-result c = search needs
 
 returns : tie.Need-returns
-returns c = one-cell _ _ (c .if1 .taken)
+returns c = one-cell _ _ (omega (arith, c .if1 .taken))
 
 walk-end-requires : tie.Need-walk-end-requires
 walk-end-requires c κs = search needs

@@ -16,12 +16,15 @@ use Rattle.sets.proofs.contains.Tie as tie
 abbrev Listed : Type 0
 Listed = tie.After-low
 
+abbrev known : Listed → tie.Then1
+known l = l .before .before
+
 abbrev lent : Listed → tie.Start
-lent l = l .before .before .before .before .before
+lent l = known l .before .before .before
 
 cells : (l : Listed) → Cells (lent l .args .s .now) (lent l .args .a + 1) (l .low .result)
 cells l =
-    let o = l .before .before in
+    let o = known l in
     subst (Cells (lent l .args .s .now) (lent l .args .a + 1)) (sym (l .low .ensures .0)) (o .before .of-cells .ensures (o .if1 .taken))
 
 front : (l : Listed) (vs : Values) → SetBelow (lent l .args .s .now) (length (lent l .args .s .now)) (lent l .args .a) vs →

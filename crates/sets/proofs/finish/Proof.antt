@@ -51,7 +51,11 @@ add-s : tie.Need-add-s
 add-s c =
     let q = put (c .before .before) in
     let l = light q in
-    omega (arith, end-count _ _ _ _ _ _ (lent l .pre .over) (l .if1 .left) (rest q .rest-of .ensures) _ _ (q .tail .ensures) _ (lent l .pre) (c .before .if2 .left))
+    omega (
+      arith,
+      end-count _ _ _ _ _ _ (lent l .pre .over) (l .if1 .left) (rest q .rest-of .ensures) _ _ (q .tail .ensures) _ (lent l .pre)
+          (c .before .if2 .left),
+    )
 
 mul-s : tie.Need-mul-s
 mul-s c = search needs

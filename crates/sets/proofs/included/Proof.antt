@@ -10,8 +10,11 @@ use Rattle.sets.proofs.included.Tie as tie
 abbrev Listed : Type 0
 Listed = tie.After-low2
 
+abbrev first : Listed → tie.After-low
+first l = l .before .before
+
 abbrev lent : Listed → tie.Start
-lent l = l .before .before .before .before .before
+lent l = first l .before .before .before
 
 abbrev listed : tie.Then2 → Listed
 listed t = t .before .before .before
@@ -37,7 +40,7 @@ low-requires-2 c κs = search needs
 returns : tie.Need-returns
 returns c = λ vs ws h k.
     let l = c .before in
-    including-fewer _ _ _ _ _ _ (including-start _ _ _ _ _ vs ws h k (l .before .before .low .ensures .0) (l .low2 .ensures .0)) (c .if1 .taken)
+    including-fewer _ _ _ _ _ _ (including-start _ _ _ _ _ vs ws h k (first l .low .ensures .0) (l .low2 .ensures .0)) (c .if1 .taken)
 
 both-of-cells-requires : tie.Need-both-of-cells-requires
 both-of-cells-requires c κs = search needs
@@ -51,13 +54,13 @@ add-cells-included-2 c = search needs
 cells-included-requires : tie.Need-cells-included-requires
 cells-included-requires c κs =
     let l = listed c in
-    two-rows _ _ _ _ _ _ _ _ (lent l .pre .0 .1) (lent l .pre .1 .1) (l .before .before .low .ensures .0) (l .low2 .ensures .0)
+    two-rows _ _ _ _ _ _ _ _ (lent l .pre .0 .1) (lent l .pre .1 .1) (first l .low .ensures .0) (l .low2 .ensures .0)
     (c .before .both-of-cells .ensures (c .if2 .taken))
 
 returns-2 : tie.Need-returns-2
 returns-2 c = λ vs ws h k.
     let l = listed (c .before) in
-    c .cells-included .ensures vs ws (front-start _ _ _ vs h _ (l .before .before .low .ensures .0)) (front-start _ _ _ ws k _ (l .low2 .ensures .0))
+    c .cells-included .ensures vs ws (front-start _ _ _ vs h _ (first l .low .ensures .0)) (front-start _ _ _ ws k _ (l .low2 .ensures .0))
 
 walk-included-requires : tie.Need-walk-included-requires
 walk-included-requires c κs = search needs

@@ -9,11 +9,17 @@ use Rattle.sets.proofs.merge.Tie as tie
 abbrev Listed : Type 0
 Listed = tie.After-low2
 
+abbrev first : Listed → tie.After-low
+first l = l .before .before
+
 abbrev known : Listed → tie.Then1
-known l = l .before .before .before .before
+known l = first l .before .before
+
+abbrev asked : tie.Then1 → tie.After-both-of-cells
+asked t = t .before
 
 abbrev lent : tie.Then1 → tie.Start
-lent t = t .before .before .before .before
+lent t = asked t .before .before .before
 
 both-of-cells-requires : tie.Need-both-of-cells-requires
 both-of-cells-requires c κs = search needs
@@ -48,8 +54,8 @@ merge-cells-requires c κs =
     let t = known l in
     let q = lent t .pre in
     record {
-      rows = two-rows _ _ _ _ _ _ _ _ (q .0 .1) (q .1 .1) (l .before .before .low .ensures .0) (l .low2 .ensures .0)
-          (t .before .both-of-cells .ensures (t .if1 .taken));
+      rows = two-rows _ _ _ _ _ _ _ _ (q .0 .1) (q .1 .1) (first l .low .ensures .0) (l .low2 .ensures .0)
+          (asked t .both-of-cells .ensures (t .if1 .taken));
       room = q .2;
     }
 
@@ -60,7 +66,7 @@ returns : tie.Need-returns
 returns c = λ vs ws h k.
     let m = c .before .before in
     let l = m .before .before in
-    m .merge-cells .ensures vs ws (front-start _ _ _ vs h _ (l .before .before .low .ensures .0)) (front-start _ _ _ ws k _ (l .low2 .ensures .0))
+    m .merge-cells .ensures vs ws (front-start _ _ _ vs h _ (first l .low .ensures .0)) (front-start _ _ _ ws k _ (l .low2 .ensures .0))
 
 walk-merge-requires : tie.Need-walk-merge-requires
 walk-merge-requires c κs = search needs

@@ -2,6 +2,7 @@
 use borrow.Author.Needs.{needs}
 use borrow.Author.Tests.{ltb-true}
 use mathlib.Core.Path.{sym, _∙_}
+use native.Mathlib.Omega.{arith}
 use Rattle.arena.proofs.FrontLaws.{set-inside}
 use Rattle.sets.proofs.RowLaws.{flat-cells, no-cells, first-inside}
 use Rattle.sets.proofs.of_cells.Statement.{statement}
@@ -37,7 +38,7 @@ shared-slice-read-result c =
     let l = c .before .before in first-inside _ _ _ _ (lent l .pre .1 .1) (λ e. c .before .if1 .left (l .low .ensures .0 ∙ e))
 
 returns-2 : tie.Need-returns-2
-returns-2 c = λ e. let l = c .before .before in flat-cells _ _ _ _ (lent l .pre .1 .1) (ltb-true _ _ e)
+returns-2 c = λ e. let l = c .before .before in flat-cells _ _ _ _ (lent l .pre .1 .1) (omega (arith, ltb-true))
 
 pub of-cells-spec : {M : Type 1} → statement M
 of-cells-spec =

@@ -10,11 +10,14 @@ use Rattle.sets.proofs.of_flat_pairs.Statement.{statement}
 use Rattle.sets.proofs.of_flat_pairs.Tie as tie
 
 -- There is a first pair.
+abbrev known : tie.Else1 → tie.After-low
+known t = t .before
+
 abbrev lent : tie.Else1 → tie.Start
-lent t = t .before .before .before .before
+lent t = known t .before .before .before
 
 inside : (t : tie.Else1) → lent t .args .f + 3 < length (lent t .args .s .now)
-inside t = let q = lent t .pre in pair-inside _ _ _ _ (q .1) (q .2) (λ e. t .if1 .left (t .before .low .ensures .0 ∙ e))
+inside t = let q = lent t .pre in pair-inside _ _ _ _ (q .1) (q .2) (λ e. t .if1 .left (known t .low .ensures .0 ∙ e))
 
 mul-low : tie.Need-mul-low
 mul-low c = search needs

@@ -4,6 +4,19 @@ use Rattle.sets.proofs.TurnLaws.{turn-less, turn-equal, turn-greater, t
 use Rattle.sets.proofs.turn_at.Statement.{statement}
 use Rattle.sets.proofs.turn_at.Tie as tie
 
+-- The order of the first members is known; where the left one is not less, the end of the right one is found.
+abbrev Ordered : Type 0
+Ordered = tie.After-compare
+
+abbrev lent : Ordered → tie.Start
+lent o = o .before .before .before
+
+abbrev ended : Ordered → tie.After-end-of
+ended o = o .before
+
+abbrev ordered : tie.After-end-of2 → Ordered
+ordered e = e .before .before
+
 end-of-requires : tie.Need-end-of-requires
 end-of-requires c κs = two-left _ _ _ _ _ (c .before .pre)
 
@@ -11,28 +24,35 @@ compare-requires : tie.Need-compare-requires
 compare-requires c κs = (two-left _ _ _ _ _ (c .before .before .pre), two-right _ _ _ _ _ (c .before .before .pre), c .end-of .ensures)
 
 sub-t13 : tie.Need-sub-t13
-sub-t13 c = omega (arith, two-some _ _ _ _ _ (c .before .before .before .before .pre) .0)
+sub-t13 c = omega (arith, two-some _ _ _ _ _ (lent (c .before) .pre) .0)
 
 returns : tie.Need-returns
-returns c = turn-less _ _ _ _ _ _ _ _ _ _ (c .before .before .end-of .ensures) (c .before .compare .ensures) (c .if1 .taken)
+returns c =
+    let o = c .before in turn-less _ _ _ _ _ _ _ _ _ _ (ended o .end-of .ensures) (o .compare .ensures) (c .if1 .taken)
 
 end-of-requires-2 : tie.Need-end-of-requires-2
-end-of-requires-2 c κs = two-right _ _ _ _ _ (c .before .before .before .before .pre)
+end-of-requires-2 c κs = two-right _ _ _ _ _ (lent (c .before) .pre)
 
 sub-t14 : tie.Need-sub-t14
-sub-t14 c = omega (arith, two-some _ _ _ _ _ (c .before .before .before .before .before .before .pre) .0)
+sub-t14 c = omega (arith, two-some _ _ _ _ _ (lent (ordered (c .before)) .pre) .0)
 
 sub-t15 : tie.Need-sub-t15
-sub-t15 c = omega (arith, two-some _ _ _ _ _ (c .before .before .before .before .before .before .pre) .1)
+sub-t15 c = omega (arith, two-some _ _ _ _ _ (lent (ordered (c .before)) .pre) .1)
 
 returns-2 : tie.Need-returns-2
-returns-2 c = turn-equal _ _ _ _ _ _ _ _ _ _ (c .before .before .before .before .end-of .ensures) (c .before .before .before .compare .ensures) _ (c .before .end-of2 .ensures) (c .if2 .taken)
+returns-2 c =
+    let e = c .before in
+    let o = ordered e in
+    turn-equal _ _ _ _ _ _ _ _ _ _ (ended o .end-of .ensures) (o .compare .ensures) _ (e .end-of2 .ensures) (c .if2 .taken)
 
 sub-t16 : tie.Need-sub-t16
-sub-t16 c = omega (arith, two-some _ _ _ _ _ (c .before .before .before .before .before .before .pre) .1)
+sub-t16 c = omega (arith, two-some _ _ _ _ _ (lent (ordered (c .before)) .pre) .1)
 
 returns-3 : tie.Need-returns-3
-returns-3 c = turn-greater _ _ _ _ _ _ _ _ _ _ (c .before .before .before .before .end-of .ensures) (c .before .before .before .compare .ensures) _ (c .before .end-of2 .ensures) (c .before .before .if1 .left) (c .if2 .left)
+returns-3 c =
+    let e = c .before in
+    let o = ordered e in
+    turn-greater _ _ _ _ _ _ _ _ _ _ (ended o .end-of .ensures) (o .compare .ensures) _ (e .end-of2 .ensures) (e .before .if1 .left) (c .if2 .left)
 
 pub turn-at-spec : {M : Type 1} → statement M
 turn-at-spec =

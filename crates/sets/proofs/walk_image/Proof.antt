@@ -24,8 +24,11 @@ abbrev μ-loop : tie.MeasureT-loop
 abbrev Turn : Type 0
 Turn = tie.At-loop Inv-loop μ-loop
 
+abbrev ended : Turn → tie.After-end-of Inv-loop μ-loop
+ended l = l .before .before .before
+
 abbrev lent : Turn → tie.Start Inv-loop μ-loop
-lent l = l .before .before .before .before .before
+lent l = ended l .before .before
 
 abbrev applying : (l : Turn) → Applying (lent l .args .s .now) (lent l .args .f) (lent l .pre .1 .0) (l .loop .i) (l .loop .left) (lent l .pre .0 .0)
 applying l = let q = lent l .pre in l .loop .inv (q .1 .0) (q .0 .0) (q .1 .1) (q .0 .1) (q .1 .2)
@@ -63,7 +66,7 @@ low-requires : tie.Need-low-requires Inv-loop μ-loop
 low-requires c κs = search needs
 
 add-i : tie.Need-add-i Inv-loop μ-loop
-add-i c = omega (arith, set-inside _ _ _ _ (c .before .before .before .before .pre .1 .1))
+add-i c = let e = c .before .before in omega (arith, set-inside _ _ _ _ (e .before .before .pre .1 .1))
 
 loop-holds : tie.Need-loop-holds Inv-loop μ-loop
 loop-holds c = λ vs v h k p. applying-start _ _ _ vs v h p (c .low .ensures .0)
@@ -74,7 +77,7 @@ add-compare c = omega (arith, some-inside _ _ (first-some _ _ _ (first (c .befor
 compare-requires : tie.Need-compare-requires Inv-loop μ-loop
 compare-requires c κs =
     let l = c .before in
-    (value-some _ _ _ _ (lent l .pre .0 .1), first-some _ _ _ (first l (c .loop-test .taken)), l .before .before .before .end-of .ensures)
+    (value-some _ _ _ _ (lent l .pre .0 .1), first-some _ _ _ (first l (c .loop-test .taken)), ended l .end-of .ensures)
 
 is-function-requires : tie.Need-is-function-requires Inv-loop μ-loop
 is-function-requires c κs = applying-pairs _ _ _ _ _ _ (applying (c .before .before .before))

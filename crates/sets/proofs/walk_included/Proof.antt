@@ -23,8 +23,11 @@ abbrev μ-loop : tie.MeasureT-loop
 abbrev Turn : Type 0
 Turn = tie.At-loop Inv-loop μ-loop
 
+abbrev first : tie.After-low2 Inv-loop μ-loop → tie.After-low Inv-loop μ-loop
+first l = l .before .before
+
 abbrev listed : tie.After-low2 Inv-loop μ-loop → tie.Start Inv-loop μ-loop
-listed l = l .before .before .before .before .before
+listed l = first l .before .before .before
 
 abbrev including : (l : Turn) → let q = listed (l .before) in
     Including (q .args .s .now) (l .loop .i) (l .loop .m) (l .loop .j) (l .loop .n) (allIn (members (q .pre .0 .0)) (members (q .pre .1 .0)))
@@ -61,7 +64,7 @@ add-j : tie.Need-add-j Inv-loop μ-loop
 add-j c = omega (arith, set-inside _ _ _ _ (listed c .pre .1 .1))
 
 loop-holds : tie.Need-loop-holds Inv-loop μ-loop
-loop-holds c = λ vs ws h k. including-start _ _ _ _ _ vs ws h k (c .before .before .low .ensures .0) (c .low2 .ensures .0)
+loop-holds c = λ vs ws h k. including-start _ _ _ _ _ vs ws h k (first c .low .ensures .0) (c .low2 .ensures .0)
 
 returns : tie.Need-returns Inv-loop μ-loop
 returns c = λ vs ws h k. including-short _ _ _ _ _ _ (c .before .before .loop .inv vs ws h k) (c .before .loop-test .taken) (c .if1 .taken)

@@ -17,8 +17,11 @@ abbrev μ-loop : tie.MeasureT-loop
 abbrev Turn : Type 0
 Turn = tie.At-loop Inv-loop μ-loop
 
+abbrev first : tie.After-low2 Inv-loop μ-loop → tie.After-low Inv-loop μ-loop
+first l = l .before .before
+
 abbrev listed : tie.After-low2 Inv-loop μ-loop → tie.Start Inv-loop μ-loop
-listed l = l .before .before .before .before .before
+listed l = first l .before .before .before
 
 abbrev lent : Turn → tie.Start Inv-loop μ-loop
 lent t = listed (t .before)
@@ -60,7 +63,7 @@ add-t17 : tie.Need-add-t17 Inv-loop μ-loop
 add-t17 c = omega (arith, listed c .pre .2)
 
 loop-holds : tie.Need-loop-holds Inv-loop μ-loop
-loop-holds c = walking-start _ _ _ _ _ _ _ _ _ (listed c .pre) (c .before .before .low .ensures .0) (c .low2 .ensures .0)
+loop-holds c = walking-start _ _ _ _ _ _ _ _ _ (listed c .pre) (first c .low .ensures .0) (c .low2 .ensures .0)
 
 goes-on-requires : tie.Need-goes-on-requires Inv-loop μ-loop
 goes-on-requires c κs = search needs
