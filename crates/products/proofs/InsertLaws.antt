@@ -11,9 +11,9 @@ use lib.Dec.{eqb}
 use lib.ListN.{length, getD, set as setAt, length-set}
 use lib.Seq.{getD-set-same, getD-set-other}
 use Rattle.rules.specs.Values.{Value, values, count, weight, weights, order}
-use Rattle.rules.specs.Operations.{insert}
+use Rattle.rules.specs.Operations.{insert, rising}
 use Rattle.laws.proofs.OrderLaws.{Small}
-use Rattle.laws.proofs.SetOrder.{Rising, all-imp, insert-all, insert-rising}
+use Rattle.laws.proofs.SetOrder.{Rising, all-imp, insert-all}
 use Rattle.laws.proofs.CellsLaws.{weight-some}
 use Rattle.arena.specs.Code.{code, codes, Stands, ValueAt, Same, CellsFit, SomeAt, EndsAt, Compared, Copied, ValueBelow}
 use Rattle.arena.proofs.CodeLaws.{length-code, length-codes, fits-small}
@@ -175,8 +175,8 @@ module _ (s : List ℕ) (p from : ℕ) (o : Out) (v : Value) (zs : List Value) (
         go [] m l = absurd (n l)
         go (y ∷ ys) m l = let x = last-stands s from (o .to) y ys (o .last) m l in record { value = lastOf y ys; stands = x .0; fits = x .1 }
 
-    pub place-last : (c : ℕ) → Compared s p (o .last) c → 0 < c → Placed v from zs (record { at = o .to; equal = eqb c 1 })
-    place-last c k g = go zs (h .members) (h .last) (h .rises)
+    pub place-last : Rising zs → (c : ℕ) → Compared s p (o .last) c → 0 < c → Placed v from zs (record { at = o .to; equal = eqb c 1 })
+    place-last r c k g = go zs (h .members) (h .last) r
       where
         go : (ys : List Value) → Members s from (o .to) ys → LastAt (o .last) (o .to) ys → Rising ys →
             Placed v from ys (record { at = o .to; equal = eqb c 1 })
@@ -198,7 +198,7 @@ place-find s p end from o h = record {
   stands = h .below .stands;
   fits = h .below .fits;
   ends = h .ends;
-  others = h .others;
+  others = rising (h .others);
   members = h .built .members;
 }
 
@@ -295,7 +295,6 @@ module _ (s : List ℕ) (p from : ℕ) (o : Out) (v : Value) (zs : List Value) (
               fits = insert-all CellsFit v zs (below .fits) (h .members .fits);
               ends = omega (arith, z .1, d .at, ap (λ (l : List Value). weights (values l)) ins, weights-append (d .lo) (v ∷ d .hi));
             };
-            rises = insert-rising v zs (h .rises);
             last = rw (ins, f) (last-moved o (q .at) n v (d .lo) (d .hi) (rw (d .all) at (h .last)) (z .1) weighs);
             counted = omega (
               arith,
@@ -318,13 +317,14 @@ pub record Near (s : List ℕ) (p end : ℕ) (o : Out) (at : ℕ) : Type 0 where
 
 pub insert-near : (s : List ℕ) (p end from : ℕ) (o : Out) (q : Place) → InsertPre s p end from o → Places s p from o q → Near s p end o (q .at)
 insert-near s p end from o q h places =
+    let zs = rising (h .others) in
     let d = places (h .value) (h .others) (h .below) (h .built) in
     let e = h .ends (h .value) (h .below .stands) (h .below .fits) in
-    let z = place-near s p from o (h .value) (h .others) (h .below) (h .built) q d in
+    let z = place-near s p from o (h .value) zs (h .below) (h .built) q d in
     record {
       forward = omega arith;
       behind = omega (arith, h .below .below, z .0);
       inside = omega (arith, z .1);
       room = omega (arith, h .room);
-      last = last-near s p from o (h .value) (h .others) (h .below) (h .built) q d;
+      last = last-near s p from o (h .value) zs (h .below) (h .built) q d;
     }

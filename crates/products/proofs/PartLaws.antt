@@ -65,10 +65,10 @@ unfolding insert
 insert-none v = refl
 
 -- v is greater than each of a list.
-abbrev pub Above : Value → List Value → Type 0
+abbrev Above : Value → List Value → Type 0
 Above v zs = All (λ z. order v z ≡ Ordering·gt) zs
 
-pub insert-behind : (v : Value) (lo hi : List Value) → Above v lo → insert v (lo ++ hi) ≡ lo ++ insert v hi
+insert-behind : (v : Value) (lo hi : List Value) → Above v lo → insert v (lo ++ hi) ≡ lo ++ insert v hi
 insert-behind v [] hi h = refl
 insert-behind v (z ∷ lo) hi h = insert-next v z (lo ++ hi) (h .0) ∙ ap (λ (l : List Value). z ∷ l) (insert-behind v lo hi (h .1))
 

@@ -17,8 +17,7 @@ use Rattle.arena.specs.Code.{code, codes, SomeAt, EndsAt, Copied, ValueBelow, M
 use Rattle.arena.proofs.CodeLaws.{length-code, length-codes}
 use Rattle.arena.proofs.FrontLaws.{front-value, front-next, front-below, front-some, value-frame}
 use Rattle.products.specs.Growing.{Appended, Grown}
-use Rattle.products.specs.Parts.{AddPre, Added}
-use Rattle.products.specs.Power.{pick, Begin, Marked, AddedIf, Subsets, SubsetIf}
+use Rattle.products.specs.Power.{pick, AddPre, Added, AddedIf, Begin, Marked, Subsets, SubsetIf}
 use Rattle.products.specs.declared.Out.{Out}
 use Rattle.products.proofs.GrowLaws.{appended-none, appended-copy, grown-start, grown-step, grown-end, grown-left, made-set}
 
@@ -88,7 +87,7 @@ pub record Putting (s₀ : List ℕ) (top : ℕ) (s : List ℕ) (o : Out) (whole
   pub grown : Grown s₀ (top + 1) s (o .to) (codes (values whole)) (codes (values rest))
   pub counted : o .count + count (values rest) ≡ count (values whole)
 
-pub putting-start : (s : List ℕ) (top : ℕ) (whole : List Value) → top + 257 ≤ length s →
+putting-start : (s : List ℕ) (top : ℕ) (whole : List Value) → top + 257 ≤ length s →
     Putting s top s (record { last = 0; to = top + 1; count = 0 }) whole whole
 putting-start s top whole g = record { grown = grown-start s (top + 1) (codes (values whole)) (omega arith); counted = omega arith }
 
@@ -102,7 +101,7 @@ no-codes = refl
 
 module _ (s₀ : List ℕ) (top : ℕ) (s : List ℕ) (o : Out) (whole : List Value) (light : weights (values whole) ≤ 255) where
   -- where they end, and how many they are
-  pub putting-near : (rest : List Value) → Putting s₀ top s o whole rest → (top < o .to) × (o .to + weights (values rest) ≤ top + 256) × (o .count ≤ 255)
+  putting-near : (rest : List Value) → Putting s₀ top s o whole rest → (top < o .to) × (o .to + weights (values rest) ≤ top + 256) × (o .count ≤ 255)
   putting-near rest h = (
     omega (arith, h .grown .appended .ends),
     omega (
@@ -114,14 +113,14 @@ module _ (s₀ : List ℕ) (top : ℕ) (s : List ℕ) (o : Out) (whole : List Va
     omega (arith, h .counted, count-weights (values whole)),
   )
 
-  pub putting-end : Putting s₀ top s o whole [] → top + 257 ≤ length s₀ → Made top s₀ (setAt s top (21474836480 + o .count)) (setOf whole) (o .to)
+  putting-end : Putting s₀ top s o whole [] → top + 257 ≤ length s₀ → Made top s₀ (setAt s top (21474836480 + o .count)) (setOf whole) (o .to)
   putting-end h g =
       made-set s₀ top s (o .to) (o .count) (values whole)
       (grown-end s₀ (top + 1) s (o .to) (codes (values whole)) (rw no-codes at (h .grown)))
       (omega (arith, h .counted)) (omega arith) (omega arith)
 
   module _ (w : Value) (rest : List Value) (h : Putting s₀ top s o whole (w ∷ rest)) (k p e : ℕ) (value : ValueBelow s k p w) (ends : e ≡ p + weight w) where
-    pub putting-pre : k ≤ top + 1 → top + 257 ≤ length s₀ → AddPre s p e o
+    putting-pre : k ≤ top + 1 → top + 257 ≤ length s₀ → AddPre s p e o
     putting-pre g room =
         let n = putting-near (w ∷ rest) h in
         record {
@@ -131,7 +130,7 @@ module _ (s₀ : List ℕ) (top : ℕ) (s : List ℕ) (o : Out) (whole : List Va
           few = omega (arith, n .2);
         }
 
-    pub putting-add : (s′ : List ℕ) (r : Out) → Added s p e o s′ r → Putting s₀ top s′ r whole rest
+    putting-add : (s′ : List ℕ) (r : Out) → Added s p e o s′ r → Putting s₀ top s′ r whole rest
     putting-add s′ r d =
         let a = d .cells w (value .stands) ends in
         record {

@@ -88,7 +88,6 @@ module _ (b : Bool) (s₀ : List ℕ) (a top n : ℕ) (vs : Values) (g : Given s
     frame = same-refl (top + 1) s₀;
     built = record {
       members = record { stands = nothing-stands s₀ (top + 1) (omega (arith, g .room)); fits = tt; ends = omega arith };
-      rises = tt;
       last = refl;
       counted = refl;
     };
@@ -162,7 +161,7 @@ module _ (b : Bool) (s₀ : List ℕ) (a top n : ℕ) (vs : Values) (g : Given s
                 value = part b (pair x y);
                 below = z .0;
                 ends = z .1;
-                others = rising (h .done);
+                others = h .done;
                 built = h .built;
                 room = omega (arith, z .0 .light, g .room);
                 few = omega arith;
@@ -172,7 +171,7 @@ module _ (b : Bool) (s₀ : List ℕ) (a top n : ℕ) (vs : Values) (g : Given s
           taking-next s′ r put = by-pair (Taking b s₀ top vs s′ (left - 1) e r) λ x y ws f p q v.
               let z = part-at x y v .0 in
               let w = fits-small (part b (pair x y)) (z .fits) in
-              let d = put (part b (pair x y)) (rising (h .done)) z (h .built) in
+              let d = put (part b (pair x y)) (h .done) z (h .built) in
               record {
                 rest = ws;
                 front = front-next s₀ top i left (pair x y) ws f e (left - 1) (pair-ends s top i x y v m e ends ends′) (omega arith);

@@ -1,6 +1,6 @@
 -- Domain and range: the first or second parts of a set of pairs, each put among the rising members that have been built, unless it is there.
 -- What has been built is always `rising` of the parts so far; `insert` of the rules says what one part more makes of it.
-use Prim.Native.Nat.{ℕ, _+_, _-_, _≤_}
+use Prim.Native.Nat.{ℕ, _+_, _≤_}
 use mathlib.Core.Bool.{Bool, true, false, cond}
 use mathlib.Core.List.{List, [], _∷_, _++_, map}
 use mathlib.Core.Path.{_≡_}
@@ -8,9 +8,8 @@ use lib.Dec.{eqb}
 use lib.ListN.{length}
 use Rattle.rules.specs.Values.{Value, Values, members, values, count, weight, weights}
 use Rattle.rules.specs.Operations.{left, right, setOf, insert, rising}
-use Rattle.laws.proofs.SetOrder.{All, Rising}
-use Rattle.arena.specs.Code.{code, ValueAt, ValuesAt, Same, CellsFit, EndsAt, SetBelow, ValueBelow, Made, AllPairs}
-use Rattle.products.specs.Growing.{Appended}
+use Rattle.rules.specs.Safety.{All}
+use Rattle.arena.specs.Code.{ValueAt, ValuesAt, Same, CellsFit, EndsAt, SetBelow, ValueBelow, Made, AllPairs}
 use Rattle.products.specs.declared.Out.{Out}
 use Rattle.products.specs.declared.Place.{Place}
 
@@ -31,19 +30,9 @@ Domains s a top s′ r = (vs : Values) → SetBelow s top a vs → AllPairs vs �
 abbrev pub Ranges : List ℕ → ℕ → ℕ → List ℕ → ℕ → Type 0
 Ranges s a top s′ r = (vs : Values) → SetBelow s top a vs → AllPairs vs → Made top s s′ (setOf (rising (map right (members vs)))) r
 
+-- The first of two numbers, or the second.
 abbrev pub chosen : Bool → ℕ → ℕ → ℕ
 chosen b x y = cond b y x
-
--- A run copied behind what has been built, as its next member.
-pub record AddPre (s : List ℕ) (from end : ℕ) (o : Out) : Type 0 where
-  pub forward : from ≤ end
-  pub behind : end ≤ o .to
-  pub room : o .to + (end - from) ≤ length s
-  pub few : o .count ≤ 256
-
-pub record Added (s : List ℕ) (from end : ℕ) (o : Out) (s′ : List ℕ) (r : Out) : Type 0 where
-  pub cells : (v : Value) → ValueAt s from v → end ≡ from + weight v → Appended s (o .to) s′ (r .to) (code v)
-  pub counted : r .count ≡ o .count + 1
 
 -- The values zs stand from `from` to `to`.
 pub record Members (s : List ℕ) (from to : ℕ) (zs : List Value) : Type 0 where
@@ -60,14 +49,13 @@ abbrev pub LastAt : ℕ → ℕ → List Value → Type 0
 LastAt last to [] = last ≡ 0
 LastAt last to (z ∷ zs) = last + weight (lastOf z zs) ≡ to
 
--- The rising members zs have been built from `from` on.
+-- The members zs have been built from `from` on.
 pub record Built (s : List ℕ) (from : ℕ) (o : Out) (zs : List Value) : Type 0 where
   pub members : Members s from (o .to) zs
-  pub rises : Rising zs
   pub last : LastAt (o .last) (o .to) zs
   pub counted : o .count ≡ count (values zs)
 
--- v belongs between lo and hi: it is put there unless it is the first of hi.
+-- v belongs between lo and hi: it is put there unless it is one of them.
 pub record Placed (v : Value) (from : ℕ) (zs : List Value) (r : Place) : Type 0 where
   pub lo : List Value
   pub hi : List Value
@@ -86,21 +74,22 @@ pub record FindPre (s : List ℕ) (p end from to : ℕ) : Type 0 where
 abbrev pub Finds : List ℕ → ℕ → ℕ → ℕ → Place → Type 0
 Finds s p from to r = (v : Value) (zs : List Value) → ValueAt s p v → CellsFit v → Members s from to zs → Placed v from zs r
 
--- A value below `from`, the members built from there on, and room for one more.
+-- A value below `from`, the rising members built from there on of other values, and room for one more.
 pub record InsertPre (s : List ℕ) (p end from : ℕ) (o : Out) : Type 0 where
   pub value : Value
   pub below : ValueBelow s from p value
   pub ends : EndsAt s p end
   pub others : List Value
-  pub built : Built s from o others
+  pub built : Built s from o (rising others)
   pub room : o .to + weight value ≤ length s
   pub few : o .count ≤ 256
 
 abbrev pub Places : List ℕ → ℕ → ℕ → Out → Place → Type 0
-Places s p from o r = (v : Value) (zs : List Value) → ValueBelow s from p v → Built s from o zs → Placed v from zs r
+Places s p from o r = (v : Value) (xs : List Value) → ValueBelow s from p v → Built s from o (rising xs) → Placed v from (rising xs) r
 
 abbrev pub Inserts : List ℕ → ℕ → ℕ → Out → List ℕ → Out → Type 0
-Inserts s p from o s′ r = (v : Value) (zs : List Value) → ValueBelow s from p v → Built s from o zs → Same from s s′ × Built s′ from r (insert v zs)
+Inserts s p from o s′ r =
+    (v : Value) (xs : List Value) → ValueBelow s from p v → Built s from o (rising xs) → Same from s s′ × Built s′ from r (insert v (rising xs))
 
 -- Where the last member stands after one of n cells has been put at `at` among members that ended at `to`.
 abbrev pub movedLast : ℕ → ℕ → ℕ → ℕ → ℕ

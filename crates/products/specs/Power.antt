@@ -1,5 +1,5 @@
 -- The power set of a set of at most five members: its subsets as bits.
-use Prim.Native.Nat.{ℕ, _+_, _/_, _%_, _≤_}
+use Prim.Native.Nat.{ℕ, _+_, _-_, _/_, _%_, _≤_}
 use mathlib.Core.Bool.{Bool, true, false, cond}
 use mathlib.Core.List.{List, [], _∷_, map}
 use mathlib.Core.Logic.{_⊎_}
@@ -8,9 +8,8 @@ use lib.Dec.{eqb, ltb}
 use lib.ListN.{length, getD}
 use Rattle.rules.specs.Values.{Value, Values, none, _▸_, members, values, weight, weights}
 use Rattle.rules.specs.Operations.{setOf, rising, subsets, keptValue}
-use Rattle.arena.specs.Code.{code, codes, SetBelow, Made, Front}
+use Rattle.arena.specs.Code.{code, codes, ValueAt, SetBelow, Made, Front}
 use Rattle.products.specs.Growing.{Appended}
-use Rattle.products.specs.Parts.{Added}
 use Rattle.products.specs.declared.Out.{Out}
 
 abbrev pub Powers : List ℕ → ℕ → ℕ → List ℕ → ℕ → Type 0
@@ -38,6 +37,17 @@ unfoldable pub picked : ℕ → List ℕ → List Value → List Value
 unfolding pick
 picked p [] vs = []
 picked p (m ∷ ms) vs = keptValue (ltb m p) (setOf (pick m vs)) (picked p ms vs)
+
+-- A run copied behind what has been built, as its next member.
+pub record AddPre (s : List ℕ) (from end : ℕ) (o : Out) : Type 0 where
+  pub forward : from ≤ end
+  pub behind : end ≤ o .to
+  pub room : o .to + (end - from) ≤ length s
+  pub few : o .count ≤ 256
+
+pub record Added (s : List ℕ) (from end : ℕ) (o : Out) (s′ : List ℕ) (r : Out) : Type 0 where
+  pub cells : (v : Value) → ValueAt s from v → end ≡ from + weight v → Appended s (o .to) s′ (r .to) (code v)
+  pub counted : r .count ≡ o .count + 1
 
 -- A member put if it is kept.
 abbrev pub AddedIf : Bool → List ℕ → ℕ → ℕ → Out → List ℕ → Out → Type 0

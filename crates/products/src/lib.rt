@@ -8,8 +8,8 @@ ghost use Rattle.rules.specs.Values.{set, none, truthValue};
 ghost use Rattle.rules.specs.Operations.{setOf, elementsFrom};
 ghost use Rattle.arena.specs.Code.{SomeSet, SomeValue, Made, Copied};
 ghost use Rattle.products.specs.Growing.{PutsCell, RunPre, Runs, Singles, Pairs, PairPre, PairPut, Intervals, RowPre, Rows, SquarePre, Squares, Multiplies};
-ghost use Rattle.products.specs.Parts.{SomePairs, Takes, Domains, Ranges, chosen, AddPre, Added, FindPre, Finds, InsertPre, Places, Inserts, movedLast};
-ghost use Rattle.products.specs.Power.{Powers, masks, subsetCount, AddedIf, MarkPre, Marks, SubsetPre, Subsets, SubsetIf, AllPre, AllSubsets};
+ghost use Rattle.products.specs.Parts.{SomePairs, Takes, Domains, Ranges, chosen, FindPre, Finds, InsertPre, Places, Inserts, movedLast};
+ghost use Rattle.products.specs.Power.{Powers, masks, subsetCount, AddPre, Added, AddedIf, MarkPre, Marks, SubsetPre, Subsets, SubsetIf, AllPre, AllSubsets};
 
 // Members that have been built: where the last one stands (0 where there is none), where they end, their number.
 struct Out {

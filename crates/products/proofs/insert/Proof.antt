@@ -33,7 +33,7 @@ same-length : tie.Need-same-length
 same-length c = search needs
 
 returns : tie.Need-returns
-returns c = λ v zs h b. let m = c .before in inserts-none _ _ _ _ v zs h b _ (m .place-for .ensures v zs h b) (c .if1 .taken)
+returns c = λ v xs h b. let m = c .before in inserts-none _ _ _ _ v _ h b _ (m .place-for .ensures v xs h b) (c .if1 .taken)
 
 sub-n : tie.Need-sub-n
 sub-n c = near (c .before) .forward
@@ -63,13 +63,13 @@ same-length-2 : tie.Need-same-length-2
 same-length-2 c = search needs
 
 returns-2 : tie.Need-returns-2
-returns-2 c = λ v zs h b.
+returns-2 c = λ v xs h b.
     let f = filled (c .before .before) in
     let g = gap (f .before) in
     let m = moved g in
     let k = near m in
     let e = lent m .pre .ends v (h .stands) (h .fits) in
-    inserts-put _ _ _ _ v zs h b _ (m .place-for .ensures v zs h b) _ (omega arith) (k .room) _ _ (g .shift .ensures) (f .copy .ensures)
+    inserts-put _ _ _ _ v _ h b _ (m .place-for .ensures v xs h b) _ (omega arith) (k .room) _ _ (g .shift .ensures) (f .copy .ensures)
     (g .before .before .if1 .left) _ (c .before .moved-last .ensures)
 
 pub insert-spec : {M : Type 1} → statement M

@@ -1,5 +1,7 @@
 -- `place_for`: the last member decides unless the value is less; then the walk does.
 use native.Mathlib.Omega.{arith}
+use Rattle.rules.specs.Operations.{rising}
+use Rattle.laws.proofs.SetOrder.{rising-rising}
 use Rattle.arena.proofs.FrontLaws.{value-some}
 use Rattle.products.proofs.InsertLaws.{place-none, place-some, place-last, place-find}
 use Rattle.products.proofs.place_for.Statement.{statement}
@@ -13,7 +15,7 @@ abbrev lent : Ordered → tie.Start
 lent m = m .before .before .before
 
 returns : tie.Need-returns
-returns c = λ v zs h b. place-none _ _ _ _ v zs h b (c .if1 .taken)
+returns c = λ v xs h b. place-none _ _ _ _ v _ h b (c .if1 .taken)
 
 compare-requires : tie.Need-compare-requires
 compare-requires c κs =
@@ -21,14 +23,14 @@ compare-requires c κs =
     (value-some _ _ _ _ (q .below), place-some _ _ _ _ _ _ (q .below) (q .built) (c .if1 .left), q .ends)
 
 returns-2 : tie.Need-returns-2
-returns-2 c = λ v zs h b.
-    let m = c .before in place-last _ _ _ _ v zs h b (m .before .if1 .left) _ (m .compare .ensures) (omega (arith, c .if2 .taken))
+returns-2 c = λ v xs h b.
+    let m = c .before in place-last _ _ _ _ v _ h b (m .before .if1 .left) (rising-rising xs) _ (m .compare .ensures) (omega (arith, c .if2 .taken))
 
 find-requires : tie.Need-find-requires
 find-requires c κs = place-find _ _ _ _ _ (lent (c .before) .pre)
 
 returns-3 : tie.Need-returns-3
-returns-3 c = λ v zs h b. c .find .ensures v zs (h .stands) (h .fits) (b .members)
+returns-3 c = λ v xs h b. c .find .ensures v (rising xs) (h .stands) (h .fits) (b .members)
 
 pub place-for-spec : {M : Type 1} → statement M
 place-for-spec = tie.close (tie.spec returns compare-requires returns-2 find-requires returns-3)
