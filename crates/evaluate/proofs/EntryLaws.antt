@@ -30,27 +30,32 @@ use Rattle.buffer.specs.Loaded.{Bound, Loads, LoadReady}
 use Rattle.evaluators.proofs.NodeLaws.{node-tall, condition-cells}
 use Rattle.evaluate.specs.declared.Evaluation.{Evaluation}
 use Rattle.evaluators.specs.declared.Held.{Held}
-use Rattle.evaluators.specs.Answers.{EndsWith}
-use Rattle.evaluators.specs.Cycle.{expressionCells, Binds, Ready, EvaluatesP}
+use Rattle.evaluators.specs.Answers.{HeldAs}
+use Rattle.evaluators.specs.Cycle.{expressionCells, Binds, Ready, holdsAt, EvaluatesP}
 use Rattle.evaluators.specs.Nodes.{IsPred}
-use Rattle.evaluate.specs.Result.{endingOf, RefusedAt, Reported, Reports}
+use Rattle.evaluate.specs.Result.{endingOf, RefusedAt, Reported, Within, Reports}
 use Rattle.evaluate.specs.Arenas.{needed, largestArena, ArenaReady}
+use Rattle.evaluate.proofs.ReportLaws.{held-within}
 
 -- The arena has room for the values.
 pub load-ready : {bs buffer s : List ℕ} → ArenaReady bs buffer s → LoadReady bs buffer s
 load-ready r = record { readable = r .needs .readable; room = omega (arith, r .needs .enough); small = r .small }
 
 -- Refusals 1 to 9, and 14: no visit is made.
-unread-ends : (bs buffer : List ℕ) (budget k p : ℕ) → reading bs ≡ refused k p → EndsWith (evaluation bs buffer budget) (refused k p) 0
+record Unvisited (x : Run Bool) (k p : ℕ) : Type 0 where
+  end : x .end ≡ refused k p
+  steps : x .steps ≡ 0
+
+unread-ends : (bs buffer : List ℕ) (budget k p : ℕ) → reading bs ≡ refused k p → Unvisited (evaluation bs buffer budget) k p
 unfolding evaluation
 unread-ends bs buffer budget k p e = record { end = rw e; steps = rw e }
 
 unloaded-ends : (bs buffer : List ℕ) (budget k p : ℕ) (tb : Table) → reading bs ≡ done tb → valuesIn tb buffer ≡ refused k p →
-    EndsWith (evaluation bs buffer budget) (refused k p) 0
+    Unvisited (evaluation bs buffer budget) k p
 unfolding evaluation
 unloaded-ends bs buffer budget k p tb e f = record { end = rw (e, f); steps = rw (e, f) }
 
-refusal-reported : {x : Run Bool} {k p : ℕ} {r : Evaluation} → EndsWith x (refused k p) 0 → RefusedAt k p 0 r → Reported x r
+refusal-reported : {x : Run Bool} {k p : ℕ} {r : Evaluation} → Unvisited x k p → RefusedAt k p 0 r → Reported x r
 refusal-reported e d = record { ending = d .ending ∙ sym (e .end); spent = d .spent ∙ sym (e .steps) }
 
 module _ (bs buffer s env : List ℕ) (a : Loaded) (h : Loads (tableOf bs .sizes) (tableOf bs .binds) buffer s env 0 a) where
@@ -106,13 +111,11 @@ module _ (bs : List ℕ) {buffer s env : List ℕ} {top : ℕ} (b : Bound (table
     root-tall = ap (height (tableOf bs .nodes)) root-last ∙ sym (some-root 0 (height (tableOf bs .nodes)) (tableOf bs .nodes) nodes-here)
 
     -- The condition at the root may be evaluated.
-    pub root-ready : {s₀ : List ℕ} {budget : ℕ} → ArenaReady bs buffer s₀ → length s ≡ length s₀ → length env ≡ 32 →
-        Ready bs env s top (n - 1) 0 budget × IsPred bs (n - 1)
-    root-ready {s₀} {budget} r k l = (
+    pub root-ready : {s₀ : List ℕ} → ArenaReady bs buffer s₀ → length s ≡ length s₀ → length env ≡ 32 → Ready bs env s top (n - 1) × IsPred bs (n - 1)
+    root-ready {s₀} r k l = (
       record {
         readable = q;
         node = omega (arith, e, filled);
-        unspent = omega arith;
         room = omega (arith, b .room, binds-length bs, r .needs .enough, k, root-tall, root-cells);
         tall = node-tall bs q _ (omega (arith, e, filled));
         small = omega (arith, r .small, k);
@@ -123,13 +126,17 @@ module _ (bs : List ℕ) {buffer s env : List ℕ} {top : ℕ} (b : Bound (table
       subst (λ (m : ℕ). CategoryIs predicate (kindAt (tableOf bs .nodes) m)) (sym root-last) (q .records .root nodes-here),
     )
 
-    -- Its end is that of the evaluation.
-    pub root-reported : {s′ : List ℕ} {budget : ℕ} {held : Held} {r : Evaluation} → EvaluatesP bs env s top (n - 1) 0 budget s′ held → Reports held r →
-        Reported (evaluation bs buffer budget) r
-    unfolding run
-    root-reported {s′} {budget} {held} {r} p f =
-        let x = p .answer (length (tableOf bs .nodes)) valueOf (omega (arith, e, filled, nodes-length bs)) bound-binds in
-        run-reported budget q (rw (some-condition (tableOf bs) nodes-here) (f _ (rw root-last at x)))
+    -- The whole budget is left at the start, so what is left at the end is of it, and the end is that of the evaluation.
+    module _ {s′ : List ℕ} {budget : ℕ} {held : Held} (p : EvaluatesP bs env s top (n - 1) budget s′ held) where
+      root-held : HeldAs (holdsAt bs budget (length (tableOf bs .nodes)) (n - 1) valueOf 0) budget held
+      root-held = p .answer (length (tableOf bs .nodes)) valueOf budget 0 (omega (arith, e, filled, nodes-length bs)) (omega arith) bound-binds
+
+      pub root-within : Within budget held
+      root-within = held-within (holdsAt bs budget (length (tableOf bs .nodes)) (n - 1) valueOf 0) budget held root-held
+
+      pub root-reported : {r : Evaluation} → Reports budget held r → Reported (evaluation bs buffer budget) r
+      unfolding run
+      root-reported f = run-reported budget q (rw (some-condition (tableOf bs) nodes-here) (f _ (rw root-last at root-held)))
 
 -- No table needs more than the large arena.
 pub needed-most : {bs : List ℕ} (values : List ℕ) → Readable bs → needed bs values ≤ largestArena

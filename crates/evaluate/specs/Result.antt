@@ -1,20 +1,21 @@
 -- What an evaluation reports, in the terms of document 01.
-use Prim.Native.Nat.{ℕ}
+use Prim.Native.Nat.{ℕ, _≤_}
 use mathlib.Core.Bool.{Bool, true, false}
 use mathlib.Core.Path.{_≡_}
 use Rattle.rules.specs.Ends.{End, done, refused}
 use Rattle.rules.specs.Runs.{Run}
 use Rattle.evaluators.specs.declared.Held.{Held}
+use Rattle.evaluators.specs.declared.Held.the-variants.{Truth, Refused}
 use Rattle.evaluators.specs.Answers.{HeldAs}
 use Rattle.evaluate.specs.declared.Truth.the-variants.{True, False}
 use Rattle.evaluate.specs.declared.Ending.{Ending}
-use Rattle.evaluate.specs.declared.Ending.the-variants.{Decided, Refused}
+use Rattle.evaluate.specs.declared.Ending.the-variants.{Decided, Refused as Ended}
 use Rattle.evaluate.specs.declared.Evaluation.{Evaluation}
 
 abbrev pub endingOf : Ending → End Bool
 endingOf (Decided True) = done true
 endingOf (Decided False) = done false
-endingOf (Refused r) = refused (r .number) (r .place)
+endingOf (Ended r) = refused (r .number) (r .place)
 
 -- The report of a refusal.
 pub record RefusedAt (number place steps : ℕ) (r : Evaluation) : Type 0 where
@@ -26,5 +27,10 @@ pub record Reported (x : Run Bool) (r : Evaluation) : Type 0 where
   pub ending : endingOf (r .ending) ≡ x .end
   pub spent : r .steps ≡ x .steps
 
-abbrev pub Reports : Held → Evaluation → Type 0
-Reports held r = (x : Run Bool) → HeldAs x held → Reported x r
+-- What is left is of the budget.
+abbrev pub Within : ℕ → Held → Type 0
+Within budget (Truth b l) = l ≤ budget
+Within budget (Refused r l) = l ≤ budget
+
+abbrev pub Reports : ℕ → Held → Evaluation → Type 0
+Reports budget held r = (x : Run Bool) → HeldAs x budget held → Reported x r

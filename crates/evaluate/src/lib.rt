@@ -5,7 +5,7 @@ ghost use Rattle.rules.specs.Readable.{Readable};
 ghost use Rattle.rules.specs.Ends.{done};
 ghost use Rattle.rules.specs.Evaluation.{evaluation};
 ghost use Rattle.evaluate.specs.declared.Ending.the-variants.{Decided};
-ghost use Rattle.evaluate.specs.Result.{endingOf, RefusedAt, Reported, Reports};
+ghost use Rattle.evaluate.specs.Result.{endingOf, RefusedAt, Reported, Within, Reports};
 ghost use Rattle.reading.specs.Answers.{rootHeight};
 ghost use Rattle.evaluate.specs.Arenas.{ArenaReady};
 
@@ -52,15 +52,20 @@ fn refused(number: u8, place: usize, steps: u32) -> Evaluation
     }
 }
 
-fn ended(held: Held) -> Evaluation
-    ensures { λ r. ⌜ Reports held r ⌝ }
+// The visits made are those that the budget no longer has.
+fn ended(held: Held, budget: u32) -> Evaluation
+    requires { ⌜ Within budget held ⌝ }
+    ensures { λ r. ⌜ Reports budget held r ⌝ }
 {
     match held {
-        Held::Truth(yes, n) => Evaluation {
+        Held::Truth { yes, left } => Evaluation {
             ending: Ending::Decided(truth_of(yes)),
-            steps: n,
+            steps: budget - left,
         },
-        Held::Refused(k, p, n) => refused(k, p, n),
+        Held::Refused { refusal, left } => {
+            let e = refused(refusal.number, refusal.place, budget - left);
+            e
+        }
     }
 }
 
@@ -82,7 +87,8 @@ fn evaluate_in(table: &[u8], values: &[u8], budget: u32, s: &mut [u64]) -> Evalu
                     steps: 0,
                 };
             }
-            ended(evaluators::eval_pred(table, &env, s, top, count - 1, 0, budget))
+            let held = evaluators::eval_pred(table, &env, s, top, count - 1, budget);
+            ended(held, budget)
         }
     }
 }

@@ -8,6 +8,7 @@ use borrow.Author.Tests.{eq-eqb, ne-eqb}
 use lib.ListN.{length, getD, set as setAt, length-set}
 use lib.Seq.{getD-set-same, getD-set-other}
 use Rattle.rules.specs.Values.{Value, Values, none, _▸_, weight, members}
+use Rattle.rules.specs.Tables.{tableOf}
 use Rattle.rules.specs.Operations.{Env, _with_≔_}
 use Rattle.laws.proofs.FormedLaws.{with-good}
 use Rattle.arena.specs.Code.{code, codes, Stands, Same}
@@ -15,7 +16,7 @@ use Rattle.arena.proofs.Standing.{stands-frame, stands-front, stands-back}
 use Rattle.arena.proofs.CodeLaws.{length-code, length-codes}
 use Rattle.operations.specs.Good.{GoodAt}
 use Rattle.evaluators.specs.Answers.{Listed}
-use Rattle.evaluators.specs.Cycle.{Binds}
+use Rattle.evaluators.specs.Cycle.{Binds, EachReady}
 
 -- The environment of the body: the binder's own, but for its name x.
 pub record Inner (env inner : List ℕ) (x : ℕ) : Type 0 where
@@ -55,6 +56,33 @@ listed-frame {gs} {s} {s′} {top} {from} {n} {vs} k e le l = record {
   below = omega (arith, l .below);
   good = l .good;
   light = l .light;
+}
+
+-- What the answer of a loop over a range is asked for: a depth, an environment, a budget with the visits made, and the members.
+pub record Asked (bs env s : List ℕ) (top n from count left : ℕ) : Type 0 where
+  pub depth : ℕ
+  pub values : Env
+  pub budget : ℕ
+  pub steps : ℕ
+  pub range : Values
+  pub deep : n ≤ depth
+  pub counts : steps + left ≡ budget
+  pub binds : Binds (tableOf bs .sizes) s top env values
+  pub listed : Listed (tableOf bs .sizes) s top from count range
+
+-- The loop may begin, so there is something to ask.
+abbrev pub some-asked : {bs env s : List ℕ} {top n from count spare : ℕ} (left : ℕ) → EachReady bs env s top n from count spare →
+    Asked bs env s top n from count left
+some-asked {n = n} left r = record {
+  depth = n;
+  values = r .ready .values;
+  budget = left;
+  steps = 0;
+  range = r .range;
+  deep = omega arith;
+  counts = omega arith;
+  binds = r .ready .binds;
+  listed = r .listed;
 }
 
 -- The first of the values, and those behind it.

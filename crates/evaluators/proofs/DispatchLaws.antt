@@ -1,5 +1,5 @@
 -- Where a node's visit goes: the refusal of a visit beyond the budget, the evaluator by the kind's code, and the leaves.
-use Prim.Native.Nat.{ℕ, zero, suc, _+_, _*_, _≤_, _<_}
+use Prim.Native.Nat.{ℕ, zero, suc, _+_, _-_, _*_, _≤_, _<_}
 use mathlib.Core.Bool.{Bool, true, false, _&&_, cond}
 use mathlib.Core.List.{List}
 use mathlib.Core.Logic.{_≢_, _⊎_, inl, inr}
@@ -38,10 +38,10 @@ use Rattle.evaluators.specs.declared.Formed.{Formed}
 use Rattle.evaluators.specs.declared.Formed.the-variants.{Stopped}
 use Rattle.evaluators.specs.declared.Held.the-variants.{Refused}
 use Rattle.evaluators.specs.Answers.{EndsWith, PlacedAs}
-use Rattle.evaluators.specs.Nodes.{IsPred, IsExpr, NameReady, NameAt, LeafNode, LeafFormed}
-use Rattle.evaluators.specs.Cycle.{Binds, Ready, Visited, Sort, EvaluatesP, EvaluatesE}
+use Rattle.evaluators.specs.Nodes.{fieldA, fieldB, IsPred, IsExpr, NameReady, NameAt, LeafNode, LeafFormed}
+use Rattle.evaluators.specs.Cycle.{Binds, Ready, Visited, Sort, holdsAt, valueAt, EvaluatesP, EvaluatesE}
 use Rattle.evaluators.proofs.RunLaws.{visited, unvisited}
-use Rattle.evaluators.proofs.NodeLaws.{sizes-small, field-holds, expr-at, visited-kind}
+use Rattle.evaluators.proofs.NodeLaws.{sizes-small, field-holds, expr-at, visited-kind, steps-on}
 use Rattle.laws.proofs.TypedTree.{numberᵉ, number-at}
 
 -- The number of a condition's own node.
@@ -69,48 +69,47 @@ predAt-number zero ns n = refl
 predAt-number (suc f) ns n = predOf-number (kindAt ns n) n (nodeAt ns n) (λ m. predAt f ns m) (λ m. exprAt f ns m)
 
 -- 19: the visits are spent.
-module _ (budget : ℕ) (gs : List ℕ) (ρ : Env) (s : ℕ) (e : s ≡ budget) where
-  pred-spent : (p : Pred) → EndsWith (holdsᵖ budget gs p ρ s) (refused 19 (numberᵖ p)) s
+module _ (budget : ℕ) (gs : List ℕ) (ρ : Env) (s : ℕ) {left : ℕ} (c : s + left ≡ budget) (z : left ≡ 0) where
+  pred-spent : (p : Pred) → EndsWith (holdsᵖ budget gs p ρ s) (refused 19 (numberᵖ p)) budget left
   unfolding holdsᵖ
-  pred-spent (joinᵖ n j p q) = unvisited budget n s _ e
-  pred-spent (notᵖ n p) = unvisited budget n s _ e
-  pred-spent (testᵖ n j a b) = unvisited budget n s _ e
-  pred-spent (quantᵖ n j x r p) = unvisited budget n s _ e
+  pred-spent (joinᵖ n j p q) = unvisited budget n s _ c z
+  pred-spent (notᵖ n p) = unvisited budget n s _ c z
+  pred-spent (testᵖ n j a b) = unvisited budget n s _ c z
+  pred-spent (quantᵖ n j x r p) = unvisited budget n s _ c z
 
-  expr-spent : (a : Expr) → EndsWith (valueᵉ budget gs a ρ s) (refused 19 (numberᵉ a)) s
+  expr-spent : (a : Expr) → EndsWith (valueᵉ budget gs a ρ s) (refused 19 (numberᵉ a)) budget left
   unfolding valueᵉ
-  expr-spent (leafᵉ n j a b) = unvisited budget n s _ e
-  expr-spent (boolᵉ n p) = unvisited budget n s _ e
-  expr-spent (oneᵉ n j a) = unvisited budget n s _ e
-  expr-spent (twoᵉ n j a b) = unvisited budget n s _ e
-  expr-spent (comprehensionᵉ n x r p) = unvisited budget n s _ e
+  expr-spent (leafᵉ n j a b) = unvisited budget n s _ c z
+  expr-spent (boolᵉ n p) = unvisited budget n s _ c z
+  expr-spent (oneᵉ n j a) = unvisited budget n s _ c z
+  expr-spent (twoᵉ n j a b) = unvisited budget n s _ c z
+  expr-spent (comprehensionᵉ n x r p) = unvisited budget n s _ c z
 
-module _ {bs : List ℕ} {env s : List ℕ} {top n steps budget : ℕ} (r : Ready bs env s top n steps budget) where
-  pub spent-pred : steps ≡ budget → EvaluatesP bs env s top n steps budget s (Refused 19 n steps)
-  spent-pred e = record {
+module _ {bs env s : List ℕ} {top n left : ℕ} (r : Ready bs env s top n) where
+  pub spent-pred : left ≡ 0 → EvaluatesP bs env s top n left s (Refused (record { number = 19; place = n }) left)
+  spent-pred z = record {
     frame = same-refl top s;
-    bounds = r .unspent;
-    answer = λ f ρ l b.
-        subst (λ (m : ℕ). EndsWith (holdsᵖ budget (tableOf bs .sizes) (predAt f (tableOf bs .nodes) n) ρ steps) (refused 19 m) steps)
-        (predAt-number f (tableOf bs .nodes) n) (pred-spent budget (tableOf bs .sizes) ρ steps e (predAt f (tableOf bs .nodes) n));
+    answer = λ f ρ budget steps l c b.
+        subst (λ (m : ℕ). EndsWith (holdsAt bs budget f n ρ steps) (refused 19 m) budget left) (predAt-number f (tableOf bs .nodes) n)
+        (pred-spent budget (tableOf bs .sizes) ρ steps c z (predAt f (tableOf bs .nodes) n));
   }
 
-  pub spent-expr : steps ≡ budget → EvaluatesE bs env s top n steps budget s (Stopped 19 n steps)
-  spent-expr e = record {
+  pub spent-expr : left ≡ 0 → EvaluatesE bs env s top n left s (Stopped (record { number = 19; place = n }) left)
+  spent-expr z = record {
     frame = same-refl top s;
-    bounds = r .unspent;
-    answer = λ f ρ l b.
-        subst (λ (m : ℕ). EndsWith (valueᵉ budget (tableOf bs .sizes) (exprAt f (tableOf bs .nodes) n) ρ steps) (refused 19 m) steps)
-        (number-at f (tableOf bs .nodes) n) (expr-spent budget (tableOf bs .sizes) ρ steps e (exprAt f (tableOf bs .nodes) n));
+    bounds = tt;
+    answer = λ f ρ budget steps l c b.
+        subst (λ (m : ℕ). EndsWith (valueAt bs budget f n ρ steps) (refused 19 m) budget left) (number-at f (tableOf bs .nodes) n)
+        (expr-spent budget (tableOf bs .sizes) ρ steps c z (exprAt f (tableOf bs .nodes) n));
   }
 
-  -- The visit is counted.
-  pub counted : (k : ℕ) → steps ≢ budget → k ≡ nodeAt (tableOf bs .nodes) n .kind → Visited bs env s top k n steps budget
-  counted k h e = record { ready = r; spent = omega (arith, r .unspent); kind = e }
+  -- The visit can be made.
+  pub counted : (k : ℕ) → left ≢ 0 → k ≡ nodeAt (tableOf bs .nodes) n .kind → Visited bs env s top k n left
+  counted k h e = record { ready = r; unspent = omega (arith, h); kind = e }
 
 -- A visit at a node whose code is known.
-pub visited-as : {bs env s : List ℕ} {top k j n steps budget : ℕ} → Visited bs env s top k n steps budget → k ≡ j → Visited bs env s top j n steps budget
-visited-as v e = record { ready = v .ready; spent = v .spent; kind = sym e ∙ v .kind }
+pub visited-as : {bs env s : List ℕ} {top k j n left : ℕ} → Visited bs env s top k n left → k ≡ j → Visited bs env s top j n left
+visited-as v e = record { ready = v .ready; unspent = v .unspent; kind = sym e ∙ v .kind }
 
 -- What holds at each of n numbers from i on.
 abbrev Along : (ℕ → Type 0) → ℕ → ℕ → Type 0
@@ -218,8 +217,19 @@ module _ (k : ℕ) where
   leaf-sort : 21 ≤ k → k < 27 → k ≢ 25 → Sort leaf k
   unfolding kindOf
   leaf-sort a b n =
-      along (λ (m : ℕ). m ≢ 25 → Sort leaf m) 21 6
-      ((λ d. (givenSet, refl)), ((λ d. (elementOf, refl)), ((λ d. (literal whole, refl)), ((λ d. (truthConst, refl)), ((λ d. absurd (d refl)), ((λ d. (emptySet, refl)), tt)))))) k a (omega arith) n
+      along (λ (m : ℕ). m ≢ 25 → Sort leaf m) 21 6 (
+        (λ d. (givenSet, refl)),
+        (
+          (λ d. (elementOf, refl)),
+          (
+            (λ d. (literal whole, refl)),
+            (
+              (λ d. (truthConst, refl)),
+              ((λ d. absurd (d refl)), ((λ d. (emptySet, refl)), tt)),
+            ),
+          ),
+        ),
+      ) k a (omega arith) n
 
   -- A leaf that is no identifier.
   record Constant : Type 0 where
@@ -240,28 +250,28 @@ module _ (k : ℕ) where
   leaf-rest (inr (n20, a, b)) = constant n20 (leaf-sort (omega (arith, a, n20)) (omega arith) (λ d. omega arith))
 
 -- A word of a node.
-node-word : (bs : List ℕ) (n : ℕ) → n < nodeCount bs → ((i : ℕ) → getD bs i 0 < 256) → nodeAt (tableOf bs .nodes) n .a < 4294967296
+node-word : (bs : List ℕ) (n : ℕ) → n < nodeCount bs → ((i : ℕ) → getD bs i 0 < 256) → fieldA bs n < 4294967296
 unfolding nodeFrom
 node-word bs n lt h =
     let i = 4 + (nodesAt bs + 16 * n) in
-    let e : nodeAt (tableOf bs .nodes) n .a ≡ wordAt bs i = ap (λ (d : Node). d .a) (nodes-entry bs n lt) in
+    let e : fieldA bs n ≡ wordAt bs i = ap (λ (d : Node). d .a) (nodes-entry bs n lt) in
     omega (arith, e, h i, h (1 + i), h (2 + i), h (3 + i))
 
 module _ (bs : List ℕ) (r : Readable bs) (n : ℕ) (lt : n < nodeCount bs) where
   -- The words of a leaf are in range.
-  pub name-below : kindAt (tableOf bs .nodes) n ≡ some (leaf identifier) → nodeAt (tableOf bs .nodes) n .a < 32
+  pub name-below : kindAt (tableOf bs .nodes) n ≡ some (leaf identifier) → fieldA bs n < 32
   name-below e = omega (arith, field-holds bs r n lt (leaf identifier) e 0 (omega arith), binds-length bs, r .header .identifiers)
 
   constant-fits : (j : Leaf) → kindAt (tableOf bs .nodes) n ≡ some (leaf j) → j ≢ identifier → ((i : ℕ) → getD bs i 0 < 256) →
-      LeafFits j (nodeAt (tableOf bs .nodes) n .a) (nodeAt (tableOf bs .nodes) n .b) (getD (tableOf bs .sizes) (nodeAt (tableOf bs .nodes) n .a) 0)
+      LeafFits j (fieldA bs n) (fieldB bs n) (getD (tableOf bs .sizes) (fieldA bs n) 0)
   constant-fits identifier e d h = absurd (d refl)
   constant-fits givenSet e d h = (
     omega (arith, field-holds bs r n lt (leaf givenSet) e 0 (omega arith), sizes-length bs, r .header .givens),
-    sizes-small bs r .small (nodeAt (tableOf bs .nodes) n .a),
+    sizes-small bs r .small (fieldA bs n),
   )
   constant-fits elementOf e d h = (
     omega (arith, field-holds bs r n lt (leaf elementOf) e 0 (omega arith), sizes-length bs, r .header .givens),
-    omega (arith, field-holds bs r n lt (leaf elementOf) e 1 (omega arith), sizes-small bs r .small (nodeAt (tableOf bs .nodes) n .a)),
+    omega (arith, field-holds bs r n lt (leaf elementOf) e 1 (omega arith), sizes-small bs r .small (fieldA bs n)),
   )
   constant-fits (literal m) e d h = node-word bs n lt h
   constant-fits truthConst e d h = field-holds bs r n lt (leaf truthConst) e 0 (omega arith)
@@ -269,14 +279,14 @@ module _ (bs : List ℕ) (r : Readable bs) (n : ℕ) (lt : n < nodeCount bs) whe
   constant-fits boolSet e d h = tt
 
 -- A value that is not heavy is formed.
-light-form : (n : ℕ) (w : Value) (s : ℕ) → weight w ≤ 256 → EndsWith (form n (gives w) s) (done w) s
-light-form n w s h = record { end = rw (le-leb (weight w) 256 h); steps = rw (le-leb (weight w) 256 h) }
+light-form : {budget left : ℕ} (n : ℕ) (w : Value) (s : ℕ) → weight w ≤ 256 → s + left ≡ budget → EndsWith (form n (gives w) s) (done w) budget left
+light-form n w s h c = record { end = rw (le-leb (weight w) 256 h); steps = rw (le-leb (weight w) 256 h) c }
 
 given-same : (v w : Value) → gives v ≡ gives w → v ≡ w
 given-same v w e = cc
 
 -- What the evaluators of the leaves take for granted.
-module _ {bs : List ℕ} {env s : List ℕ} {top k n steps budget : ℕ} (v : Visited bs env s top k n steps budget) where
+module _ {bs env s : List ℕ} {top k n left : ℕ} (v : Visited bs env s top k n left) where
   name-kind : k ≡ 20 → kindAt (tableOf bs .nodes) n ≡ some (leaf identifier)
   name-kind e = visited-kind v (leaf identifier) (kind-of k (leaf identifier) e)
 
@@ -313,42 +323,41 @@ module _ {bs : List ℕ} {env s : List ℕ} {top k n steps budget : ℕ} (v : Vi
   pub leaf-node : LeafCode k → ((i : ℕ) → getD bs i 0 < 256) → LeafNode bs s top k n
   leaf-node h bytes = constant-node (leaf-rest k h) bytes
 
-  -- A leaf's value, which is not heavy, is formed at once.
-  leaf-ends : (j : Leaf) → kindAt (tableOf bs .nodes) n ≡ some (leaf j) → (f : ℕ) (ρ : Env) → n < f →
-      weight (leafValue (tableOf bs .sizes) j (nodeAt (tableOf bs .nodes) n .a) (nodeAt (tableOf bs .nodes) n .b) ρ) ≤ 256 →
-      EndsWith (valueᵉ budget (tableOf bs .sizes) (exprAt f (tableOf bs .nodes) n) ρ steps)
-      (done (leafValue (tableOf bs .sizes) j (nodeAt (tableOf bs .nodes) n .a) (nodeAt (tableOf bs .nodes) n .b) ρ)) (steps + 1)
+  -- The value of a leaf's node.
+  abbrev here : Leaf → Env → Value
+  here j ρ = leafValue (tableOf bs .sizes) j (fieldA bs n) (fieldB bs n) ρ
+
+  -- It is not heavy, and so formed at once.
+  leaf-ends : (j : Leaf) → kindAt (tableOf bs .nodes) n ≡ some (leaf j) → (f : ℕ) (ρ : Env) (budget steps : ℕ) → n < f → steps + left ≡ budget →
+      weight (here j ρ) ≤ 256 → EndsWith (valueAt bs budget f n ρ steps) (done (here j ρ)) budget (left - 1)
   unfolding valueᵉ
-  leaf-ends j e f ρ l light =
-      let w = leafValue (tableOf bs .sizes) j (nodeAt (tableOf bs .nodes) n .a) (nodeAt (tableOf bs .nodes) n .b) ρ in
+  leaf-ends j e f ρ budget steps l c light =
       let d = expr-at (tableOf bs .nodes) n (leaf j) e f l in
-      let y = visited budget n steps (form n (gives w)) (v .spent) (light-form n w (suc steps) light) in
-      let z : suc steps ≡ steps + 1 = omega arith in
-      record { end = rw (d .is) (y .end); steps = rw (d .is) (y .steps) ∙ z }
+      let o = steps-on v c in
+      let y = visited budget n steps (form n (gives (here j ρ))) (o .0) (light-form n (here j ρ) (suc steps) light (o .1)) in
+      record { end = rw (d .is) (y .end); steps = rw (d .is) (y .steps) }
 
   -- An identifier's value stays where it is.
-  pub name-answer : k ≡ 20 → (o : Formed) → NameAt bs env top n (steps + 1) o → EvaluatesE bs env s top n steps budget s o
+  pub name-answer : k ≡ 20 → (o : Formed) → NameAt bs env top n (left - 1) o → EvaluatesE bs env s top n left s o
   unfolding leafValue
-  name-answer e o h = subst (λ (x : Formed). EvaluatesE bs env s top n steps budget s x) (sym h) (record {
+  name-answer e o h = subst (λ (x : Formed). EvaluatesE bs env s top n left s x) (sym h) (record {
     frame = same-refl top s;
-    bounds = (omega arith, omega arith, omega (arith, v .spent));
-    answer = λ f ρ l b. record {
-      value = ρ (nodeAt (tableOf bs .nodes) n .a);
-      ends = leaf-ends identifier (name-kind e) f ρ l (good-weight (tableOf bs .sizes) (ρ (nodeAt (tableOf bs .nodes) n .a)) (b .good (nodeAt (tableOf bs .nodes) n .a)));
-      place = b .at (nodeAt (tableOf bs .nodes) n .a) (name-below bs (v .ready .readable) n (v .ready .node) (name-kind e));
+    bounds = (omega arith, omega arith);
+    answer = λ f ρ budget steps l c b. record {
+      value = ρ (fieldA bs n);
+      ends = leaf-ends identifier (name-kind e) f ρ budget steps l c (good-weight (tableOf bs .sizes) (ρ (fieldA bs n)) (b .good (fieldA bs n)));
+      place = b .at (fieldA bs n) (name-below bs (v .ready .readable) n (v .ready .node) (name-kind e));
     };
   })
 
   -- Another leaf's value has been built.
   built-answer : (s′ : List ℕ) (end : ℕ) (j : Leaf) → kindAt (tableOf bs .nodes) n ≡ some (leaf j) →
-      (f : ℕ) (ρ : Env) → n < f → Binds (tableOf bs .sizes) s top env ρ →
-      BuiltAt s′ top (gives (leafValue (tableOf bs .sizes) j (nodeAt (tableOf bs .nodes) n .a) (nodeAt (tableOf bs .nodes) n .b) ρ)) end →
-      PlacedAs (valueᵉ budget (tableOf bs .sizes) (exprAt f (tableOf bs .nodes) n) ρ steps) (tableOf bs .sizes) s′ top end (steps + 1)
-  built-answer s′ end j e f ρ l b h =
-      let w = leafValue (tableOf bs .sizes) j (nodeAt (tableOf bs .nodes) n .a) (nodeAt (tableOf bs .nodes) n .b) ρ in
-      let q : w ≡ h .value = given-same w (h .value) (h .is) in
-      let y = leaf-ends j e f ρ l (subst (λ (x : Value). weight x ≤ 256) (sym q) (h .light)) in
-      let z : valueᵉ budget (tableOf bs .sizes) (exprAt f (tableOf bs .nodes) n) ρ steps .end ≡ done (h .value) = y .end ∙ ap done q in
+      (f : ℕ) (ρ : Env) (budget steps : ℕ) → n < f → steps + left ≡ budget → Binds (tableOf bs .sizes) s top env ρ →
+      BuiltAt s′ top (gives (here j ρ)) end → PlacedAs (valueAt bs budget f n ρ steps) budget (tableOf bs .sizes) s′ top end (left - 1)
+  built-answer s′ end j e f ρ budget steps l c b h =
+      let q : here j ρ ≡ h .value = given-same (here j ρ) (h .value) (h .is) in
+      let y = leaf-ends j e f ρ budget steps l c (subst (λ (x : Value). weight x ≤ 256) (sym q) (h .light)) in
+      let z : valueAt bs budget f n ρ steps .end ≡ done (h .value) = y .end ∙ ap done q in
       record {
         value = h .value;
         ends = record { end = z; steps = y .steps };
@@ -359,15 +368,16 @@ module _ {bs : List ℕ} {env s : List ℕ} {top k n steps budget : ℕ} (v : Vi
         };
       }
 
-  leaf-built : (p : LeafNode bs s top k n) (s′ : List ℕ) (o : Formed) (h : LeafFormed bs s top k n (steps + 1) s′ o) (ρ : Env) →
-      BuiltAt s′ top (gives (leafValue (tableOf bs .sizes) (p .ready .kind) (nodeAt (tableOf bs .nodes) n .a) (nodeAt (tableOf bs .nodes) n .b) ρ)) (h .end)
+  leaf-built : (p : LeafNode bs s top k n) (s′ : List ℕ) (o : Formed) (h : LeafFormed bs s top k n (left - 1) s′ o) (ρ : Env) →
+      BuiltAt s′ top (gives (here (p .ready .kind) ρ)) (h .end)
   leaf-built p s′ o h ρ = h .done .answer (p .ready .kind) (tableOf bs .sizes) ρ (p .ready .is) (p .ready .fits) refl
 
-  pub leaf-answer : LeafNode bs s top k n → (s′ : List ℕ) (o : Formed) → LeafFormed bs s top k n (steps + 1) s′ o → EvaluatesE bs env s top n steps budget s′ o
+  pub leaf-answer : LeafNode bs s top k n → (s′ : List ℕ) (o : Formed) → LeafFormed bs s top k n (left - 1) s′ o → EvaluatesE bs env s top n left s′ o
   leaf-answer p s′ o h =
       let x = leaf-built p s′ o h (v .ready .values) in
-      subst (λ (x : Formed). EvaluatesE bs env s top n steps budget s′ x) (sym (h .is)) (record {
+      subst (λ (x : Formed). EvaluatesE bs env s top n left s′ x) (sym (h .is)) (record {
         frame = h .done .frame;
-        bounds = (omega (arith, x .ends), omega (arith, x .ends, x .light), omega (arith, v .spent));
-        answer = λ f ρ l b. built-answer s′ (h .end) (p .ready .kind) (visited-kind v (leaf (p .ready .kind)) (p .ready .is)) f ρ l b (leaf-built p s′ o h ρ);
+        bounds = (omega (arith, x .ends), omega (arith, x .ends, x .light));
+        answer = λ f ρ budget steps l c b.
+            built-answer s′ (h .end) (p .ready .kind) (visited-kind v (leaf (p .ready .kind)) (p .ready .is)) f ρ budget steps l c b (leaf-built p s′ o h ρ);
       })

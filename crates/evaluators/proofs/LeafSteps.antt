@@ -12,7 +12,7 @@ use Rattle.rules.specs.Values.{Value, set}
 use Rattle.rules.specs.Kinds.{Join, and, or, implies, iff, join}
 use Rattle.rules.specs.Rules.{t̂, P̂}
 use Rattle.rules.specs.Operations as rules
-use Rattle.rules.specs.Tables.{tableOf, nodeAt}
+use Rattle.rules.specs.Tables.{tableOf}
 use Rattle.fitting.specs.Agree.{SomeTyped}
 use Rattle.fitting.specs.Tests.{FitOne}
 use Rattle.arena.proofs.ValueParts.{first-cell}
@@ -23,11 +23,12 @@ use Rattle.operations.proofs.KindLaws.{joinCode, code-of, same-join}
 use Rattle.operations.proofs.SingleLaws.{fits-is-set}
 use Rattle.evaluators.specs.declared.Formed.the-variants.{Value as Placed}
 use Rattle.evaluators.specs.declared.Range.the-variants.{Set, Unlike}
-use Rattle.evaluators.specs.Nodes.{DecidesBy, JoinedBy, SomeGood, RangeAt, NameReady, NameAt, LeafNode, LeafFormed}
+use Rattle.evaluators.specs.Nodes.{fieldA, fieldB, DecidesBy, JoinedBy, SomeGood, RangeAt, NameReady, NameAt, LeafNode, LeafFormed}
 
 -- What holds of a join by its own code.
 module _ {k : ℕ} (p : Bool) where
-  decides-by : (r : Bool) → ((j : Join) → k ≡ joinCode j → rules.decides j p ≡ cond r (some (not (eqb (joinCode j) 1))) nothing) → DecidesBy k p r
+  decides-by : (r : Bool) → ((j : Join) → k ≡ joinCode j → rules.decides j p ≡ cond r (some (not (eqb (joinCode j) 1))) nothing) →
+      DecidesBy k p r
   decides-by r h j e =
       let c = code-of k (join j) e in
       subst (λ (n : ℕ). rules.decides j p ≡ cond r (some (not (eqb n 1))) nothing) (sym c) (h j c)
@@ -111,30 +112,35 @@ module _ {s : List ℕ} {at : ℕ} where
     range-set e n c gs top v q h =
         let x = fits-is-set v (sym (f v (good-typed-at q h)) ∙ e) in
         let g = subst (λ (w : Value). GoodAt gs s top at w) (x .1) h in
-        record { members = x .0; is = x .1; counted = c ∙ first-cell s at (set (x .0)) (g .stands) (good-fits q (set (x .0)) (g .good)) .1 }
+        record {
+          members = x .0;
+          is = x .1;
+          counted = c ∙ first-cell s at (set (x .0)) (g .stands) (good-fits q (set (x .0)) (g .good)) .1;
+        }
 
 -- 20
-pub name-at : {bs env : List ℕ} {top n steps x r : ℕ} → NameReady bs env n → x ≡ nodeAt (tableOf bs .nodes) n .a → r ≡ getD env x 0 → NameAt bs env top n steps (Placed r top steps)
-name-at {bs} {env} {top} {n} {steps} {x} {r} p e d = ap (λ (y : ℕ). Placed y top steps) (d ∙ ap (λ (y : ℕ). getD env y 0) e)
+pub name-at : {bs env : List ℕ} {top n left x r : ℕ} → NameReady bs env n → x ≡ fieldA bs n → r ≡ getD env x 0 →
+    NameAt bs env top n left (Placed r top left)
+name-at {bs} {env} {top} {n} {left} {x} {r} p e d = ap (λ (y : ℕ). Placed y top left) (d ∙ ap (λ (y : ℕ). getD env y 0) e)
 
 -- 21 to 24, 26 and 42, with the words that have been read.
 module _ {bs s : List ℕ} {top k n a b z : ℕ} (p : LeafNode bs s top k n)
-    (ea : a ≡ nodeAt (tableOf bs .nodes) n .a) (eb : b ≡ nodeAt (tableOf bs .nodes) n .b) (ez : z ≡ getD (tableOf bs .sizes) a 0) where
-  same-size : z ≡ getD (tableOf bs .sizes) (nodeAt (tableOf bs .nodes) n .a) 0
+    (ea : a ≡ fieldA bs n) (eb : b ≡ fieldB bs n) (ez : z ≡ getD (tableOf bs .sizes) a 0) where
+  same-size : z ≡ getD (tableOf bs .sizes) (fieldA bs n) 0
   same-size = ez ∙ ap (λ (y : ℕ). getD (tableOf bs .sizes) y 0) ea
 
   pub leaf-ready : LeafReady k a b z s top
   leaf-ready =
       subst (λ (x : ℕ). LeafReady k a b x s top) (sym same-size)
-      (subst (λ (x : ℕ). LeafReady k a x (getD (tableOf bs .sizes) (nodeAt (tableOf bs .nodes) n .a) 0) s top) (sym eb)
-      (subst (λ (x : ℕ). LeafReady k x (nodeAt (tableOf bs .nodes) n .b) (getD (tableOf bs .sizes) (nodeAt (tableOf bs .nodes) n .a) 0) s top) (sym ea) (p .ready)))
+      (subst (λ (x : ℕ). LeafReady k a x (getD (tableOf bs .sizes) (fieldA bs n) 0) s top) (sym eb)
+      (subst (λ (x : ℕ). LeafReady k x (fieldB bs n) (getD (tableOf bs .sizes) (fieldA bs n) 0) s top) (sym ea) (p .ready)))
 
-  pub leaf-formed : {s′ : List ℕ} {end steps : ℕ} → LeafDone k a b z s top s′ end → LeafFormed bs s top k n steps s′ (Placed top end steps)
-  leaf-formed {s′} {end} {steps} d = record {
+  pub leaf-formed : {s′ : List ℕ} {end left : ℕ} → LeafDone k a b z s top s′ end → LeafFormed bs s top k n left s′ (Placed top end left)
+  leaf-formed {s′} {end} {left} d = record {
     end = end;
     is = refl;
     done =
-        subst (λ (x : ℕ). LeafDone k x (nodeAt (tableOf bs .nodes) n .b) (getD (tableOf bs .sizes) (nodeAt (tableOf bs .nodes) n .a) 0) s top s′ end) ea
-        (subst (λ (x : ℕ). LeafDone k a x (getD (tableOf bs .sizes) (nodeAt (tableOf bs .nodes) n .a) 0) s top s′ end) eb
+        subst (λ (x : ℕ). LeafDone k x (fieldB bs n) (getD (tableOf bs .sizes) (fieldA bs n) 0) s top s′ end) ea
+        (subst (λ (x : ℕ). LeafDone k a x (getD (tableOf bs .sizes) (fieldA bs n) 0) s top s′ end) eb
         (subst (λ (x : ℕ). LeafDone k a b x s top s′ end) same-size d));
   }

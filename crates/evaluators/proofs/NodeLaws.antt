@@ -1,5 +1,5 @@
 -- The children of a node, its tree, and what its evaluators pass on to theirs.
-use Prim.Native.Nat.{ℕ, zero, suc, _+_, _≤_, _<_}
+use Prim.Native.Nat.{ℕ, zero, suc, _+_, _-_, _≤_, _<_}
 use mathlib.Core.Bool.{Bool, true, false, false≢true}
 use mathlib.Core.List.{List, [], _∷_}
 use mathlib.Core.Option.{Option, none as nothing, some}
@@ -13,17 +13,21 @@ use Rattle.rules.specs.Tables.{Node, Table, Pred, Expr, tableOf, nodeAt, kindAt
 use Rattle.rules.specs.Reading.{height, tallest}
 use Rattle.rules.specs.Readable.{Readable, FieldRight, FieldsRight, KindRight, NodeRight, CategoryIs}
 use Rattle.rules.specs.Operations.{Env}
+use Rattle.rules.specs.Evaluation.{holdsᵖ}
 use Rattle.laws.proofs.TableLaws.{nodes-length, sizes-length, height-at}
 use Rattle.laws.proofs.CellsLaws.{size-below}
 use Rattle.arena.specs.Code.{Same}
-use Rattle.arena.proofs.Standing.{stands-frame}
+use Rattle.arena.proofs.Standing.{stands-frame, same-refl}
 use Rattle.arena.proofs.CodeLaws.{length-code}
 use Rattle.operations.specs.Good.{Sizes, GoodAt}
 use Rattle.evaluators.specs.declared.Held.{Held}
+use Rattle.evaluators.specs.declared.Held.the-variants.{Truth, Refused}
 use Rattle.evaluators.specs.declared.Formed.{Formed}
-use Rattle.evaluators.specs.declared.Operands.{Operands}
-use Rattle.evaluators.specs.Nodes.{TwoFields}
-use Rattle.evaluators.specs.Cycle.{expressionCells, Binds, Ready, Visited, EvaluatesP, EvaluatesE, EvaluatesBoth}
+use Rattle.evaluators.specs.declared.Formed.the-variants.{Value as Placed, Stopped}
+use Rattle.reading.specs.declared.Refusal.{Refusal}
+use Rattle.evaluators.specs.Answers.{HeldAs, FormedAs, FormedBounds, RefusalOf, StopOf}
+use Rattle.evaluators.specs.Nodes.{fieldA, fieldB}
+use Rattle.evaluators.specs.Cycle.{expressionCells, Binds, Ready, Visited, holdsAt, valueAt, EvaluatesP, EvaluatesE}
 
 -- The sizes of a readable table are small.
 pub sizes-small : (bs : List ℕ) → Readable bs → Sizes (tableOf bs .sizes)
@@ -40,7 +44,8 @@ good-frame {gs} {s} {s′} {top} {at} {v} e h = record {
   good = h .good;
 }
 
-pub binds-frame : {gs s s′ : List ℕ} {top : ℕ} {env : List ℕ} {ρ : Env} (k : ℕ) → Same top s s′ → top ≤ k → Binds gs s top env ρ → Binds gs s′ k env ρ
+pub binds-frame : {gs s s′ : List ℕ} {top : ℕ} {env : List ℕ} {ρ : Env} (k : ℕ) → Same top s s′ → top ≤ k →
+    Binds gs s top env ρ → Binds gs s′ k env ρ
 binds-frame {gs} {s} {s′} {top} {env} {ρ} k e le b = record {
   at = λ x h. let g = good-frame e (b .at x h) in record { stands = g .stands; below = omega (arith, g .below); good = g .good };
   good = b .good;
@@ -76,7 +81,8 @@ child-tall h (f ∷ fs) (x ∷ xs) zero a b e = tallest-first h (isChild f) x (p
 child-tall h (f ∷ fs) (x ∷ xs) (suc i) a b e =
     omega (arith, child-tall h fs xs i (omega arith) (omega arith) e, tallest-kept h (isChild f) x (pick isChild fs xs))
 
-field-right : (tb : Table) (n : ℕ) (fs : List Field) (xs : List ℕ) (i : ℕ) → FieldsRight tb n fs xs → i < length fs → FieldRight tb n (getD fs i unused) (getD xs i 0)
+field-right : (tb : Table) (n : ℕ) (fs : List Field) (xs : List ℕ) (i : ℕ) → FieldsRight tb n fs xs → i < length fs →
+    FieldRight tb n (getD fs i unused) (getD xs i 0)
 field-right tb n [] xs i h l = absurd (omega arith)
 field-right tb n (f ∷ fs) [] i h l = absurd h
 field-right tb n (f ∷ fs) (x ∷ xs) zero h l = h .0
@@ -108,9 +114,14 @@ module _ (bs : List ℕ) (r : Readable bs) (n : ℕ) (lt : n < nodeCount bs) (k 
         tall = node-tall bs r _ (omega (arith, f .0));
       }
 
+-- The fields a and b of a node are expressions.
+pub record TwoFields (bs : List ℕ) (n : ℕ) : Type 0 where
+  pub left : Child bs n (fieldA bs n) expression
+  pub right : Child bs n (fieldB bs n) expression
+
 -- A node with operands is above a leaf.
-pub fields-tall : {bs : List ℕ} {n : ℕ} → Readable bs → n < nodeCount bs → TwoFields bs n → 2 ≤ height (tableOf bs .nodes) n
-fields-tall {bs} {n} r l y = omega (arith, y .leftLower, node-tall bs r (nodeAt (tableOf bs .nodes) n .a) (omega (arith, y .left, l)))
+pub fields-tall : {bs : List ℕ} {n : ℕ} → TwoFields bs n → 2 ≤ height (tableOf bs .nodes) n
+fields-tall y = omega (arith, y .left .lower, y .left .tall)
 
 -- The tree at a node, one level down.
 pub record Deeper (A : Type 0) (x : A) (n : ℕ) (tree : ℕ → A) : Type 0 where
@@ -143,13 +154,11 @@ condition-cells nothing e = absurd e
 condition-cells (some k) e = ap (λ (c : Category). elim c [ predicate ↦ 0 | expression ↦ 128 ]) e
 
 -- What a node's evaluator may pass on to that of a child, over an arena that is the same below `top`.
-pub ready-child : {bs : List ℕ} {env s : List ℕ} {top n steps budget : ℕ} {c : Category} (s′ : List ℕ) (m k steps′ : ℕ) →
-    Ready bs env s top n steps budget → Child bs n m c → Same top s s′ → top ≤ k → k ≤ top + 256 → steps′ ≤ budget →
-    Ready bs env s′ k m steps′ budget
-ready-child {bs} {env} {s} {top} {n} s′ m k steps′ r c e le near within = record {
+pub ready-child : {bs env s : List ℕ} {top n : ℕ} {c : Category} (s′ : List ℕ) (m k : ℕ) →
+    Ready bs env s top n → Child bs n m c → Same top s s′ → top ≤ k → k ≤ top + 256 → Ready bs env s′ k m
+ready-child {bs} {env} {s} {top} {n} s′ m k r c e le near = record {
   readable = r .readable;
   node = omega (arith, c .below, r .node);
-  unspent = within;
   room = omega (arith, c .lower, r .room, e .kept, expression-cells (kindAt (tableOf bs .nodes) m));
   tall = c .tall;
   small = omega (arith, r .small, e .kept);
@@ -158,23 +167,12 @@ ready-child {bs} {env} {s} {top} {n} s′ m k steps′ r c e le near within = re
   binds = binds-frame k e le (r .binds);
 }
 
--- The same node, after more visits.
-pub ready-on : {bs : List ℕ} {env s : List ℕ} {top n steps budget : ℕ} (steps′ : ℕ) → Ready bs env s top n steps budget → steps′ ≤ budget →
-    Ready bs env s top n steps′ budget
-ready-on steps′ r within = record {
-  readable = r .readable;
-  node = r .node;
-  unspent = within;
-  room = r .room;
-  tall = r .tall;
-  small = r .small;
-  entries = r .entries;
-  values = r .values;
-  binds = r .binds;
-}
+-- So too to that of its first child, where nothing has been written yet.
+pub ready-first : {bs env s : List ℕ} {top n m : ℕ} {c : Category} → Ready bs env s top n → Child bs n m c → Ready bs env s top m
+ready-first {bs} {env} {s} {top} {n} {m} r c = ready-child s m top r c (same-refl top s) (omega arith) (omega arith)
 
 -- The kind of a visited node, and its children.
-module _ {bs : List ℕ} {env s : List ℕ} {top k n steps budget : ℕ} (v : Visited bs env s top k n steps budget) (x : Kind) (e : kindOf k ≡ some x) where
+module _ {bs env s : List ℕ} {top k n left : ℕ} (v : Visited bs env s top k n left) (x : Kind) (e : kindOf k ≡ some x) where
   pub visited-kind : kindAt (tableOf bs .nodes) n ≡ some x
   visited-kind = ap kindOf (sym (v .kind)) ∙ e
 
@@ -184,24 +182,80 @@ module _ {bs : List ℕ} {env s : List ℕ} {top k n steps budget : ℕ} (v : Vi
       subst (λ (z : ℕ). Child bs n z c) (sym w) (field-child bs (v .ready .readable) n (v .ready .node) x visited-kind c i l l′ q)
 
   pub visited-operands : fieldsOf x ≡ child expression ∷ child expression ∷ unused ∷ [] → TwoFields bs n
-  visited-operands q =
-      let a = visited-child expression 0 (nodeAt (tableOf bs .nodes) n .a) (omega arith) (rw q (omega arith)) (rw q) refl in
-      let b = visited-child expression 1 (nodeAt (tableOf bs .nodes) n .b) (omega arith) (rw q (omega arith)) (rw q) refl in
-      record { left = a .below; right = b .below; leftIs = a .is; rightIs = b .is; leftLower = a .lower; rightLower = b .lower }
+  visited-operands q = record {
+    left = visited-child expression 0 (fieldA bs n) (omega arith) (rw q (omega arith)) (rw q) refl;
+    right = visited-child expression 1 (fieldB bs n) (omega arith) (rw q (omega arith)) (rw q) refl;
+  }
+
+-- A visit is made: one is left less.
+pub steps-on : {bs env s : List ℕ} {top k n left budget steps : ℕ} → Visited bs env s top k n left → steps + left ≡ budget →
+    (steps < budget) × (suc steps + (left - 1) ≡ budget)
+steps-on v c = (omega (arith, v .unspent), omega (arith, v .unspent))
+
+-- A refusal as one of the other kind of node: what the code makes of it, and what is known of that.
+pub refusal-told : {f : Formed} {r : Refusal} {l : ℕ} → f ≡ Stopped r l → RefusalOf f (Refused r l)
+refusal-told {f} {r} {l} e = subst (λ (z : Formed). RefusalOf z (Refused r l)) (sym e) refl
+
+pub refusal-none : {f : Formed} {at end l : ℕ} → f ≡ Placed at end l → RefusalOf f (Truth false l)
+refusal-none {f} {at} {end} {l} e = subst (λ (z : Formed). RefusalOf z (Truth false l)) (sym e) tt
+
+pub stop-told : {h : Held} {r : Refusal} {l : ℕ} → h ≡ Refused r l → StopOf h (Stopped r l)
+stop-told {h} {r} {l} e = subst (λ (z : Held). StopOf z (Stopped r l)) (sym e) refl
+
+pub stop-none : {h : Held} {b : Bool} {l : ℕ} → h ≡ Truth b l → StopOf h (Placed 0 0 l)
+stop-none {h} {b} {l} e = subst (λ (z : Held). StopOf z (Placed 0 0 l)) (sym e) tt
+
+pub refusal-is : {f : Formed} {h : Held} {r : Refusal} {l : ℕ} → f ≡ Stopped r l → RefusalOf f h → Refused r l ≡ h
+refusal-is {f} {h} e k = sym (subst (λ (z : Formed). RefusalOf z h) e k)
+
+pub stop-is : {h : Held} {f : Formed} {r : Refusal} {l : ℕ} → h ≡ Refused r l → StopOf h f → Stopped r l ≡ f
+stop-is {h} {f} e k = sym (subst (λ (z : Held). StopOf z f) e k)
 
 -- The same answer, for the same node.
-pub held-as : {bs env s : List ℕ} {top m m′ steps budget : ℕ} {s′ : List ℕ} {r r′ : Held} → m ≡ m′ → r ≡ r′ →
-    EvaluatesP bs env s top m steps budget s′ r → EvaluatesP bs env s top m′ steps budget s′ r′
-held-as {bs} {env} {s} {top} {m} {m′} {steps} {budget} {s′} {r} {r′} e q h =
-    subst (λ (z : Held). EvaluatesP bs env s top m′ steps budget s′ z) q
-    (subst (λ (z : ℕ). EvaluatesP bs env s top z steps budget s′ r) e h)
+pub held-as : {bs env s : List ℕ} {top m m′ left : ℕ} {s′ : List ℕ} {r r′ : Held} → m ≡ m′ → r ≡ r′ →
+    EvaluatesP bs env s top m left s′ r → EvaluatesP bs env s top m′ left s′ r′
+held-as {bs} {env} {s} {top} {m} {m′} {left} {s′} {r} {r′} e q h =
+    subst (λ (z : Held). EvaluatesP bs env s top m′ left s′ z) q (subst (λ (z : ℕ). EvaluatesP bs env s top z left s′ r) e h)
 
-pub formed-as : {bs env s : List ℕ} {top m m′ steps budget : ℕ} {s′ : List ℕ} {r r′ : Formed} → m ≡ m′ → r ≡ r′ →
-    EvaluatesE bs env s top m steps budget s′ r → EvaluatesE bs env s top m′ steps budget s′ r′
-formed-as {bs} {env} {s} {top} {m} {m′} {steps} {budget} {s′} {r} {r′} e q h =
-    subst (λ (z : Formed). EvaluatesE bs env s top m′ steps budget s′ z) q
-    (subst (λ (z : ℕ). EvaluatesE bs env s top z steps budget s′ r) e h)
+pub formed-as : {bs env s : List ℕ} {top m m′ left : ℕ} {s′ : List ℕ} {r r′ : Formed} → m ≡ m′ → r ≡ r′ →
+    EvaluatesE bs env s top m left s′ r → EvaluatesE bs env s top m′ left s′ r′
+formed-as {bs} {env} {s} {top} {m} {m′} {left} {s′} {r} {r′} e q h =
+    subst (λ (z : Formed). EvaluatesE bs env s top m′ left s′ z) q (subst (λ (z : ℕ). EvaluatesE bs env s top z left s′ r) e h)
 
-pub both-as : {bs env s : List ℕ} {top n steps budget : ℕ} {s′ : List ℕ} {r r′ : Operands} → r ≡ r′ →
-    EvaluatesBoth bs env s top n steps budget s′ r → EvaluatesBoth bs env s top n steps budget s′ r′
-both-as {bs} {env} {s} {top} {n} {steps} {budget} {s′} {r} {r′} q h = subst (λ (z : Operands). EvaluatesBoth bs env s top n steps budget s′ z) q h
+-- The answer for a child, as that of its tree below the node.
+module _ {bs env s : List ℕ} {top n left a b : ℕ} {c : Category} {s′ : List ℕ} (k : Child bs n a c) (q : a ≡ b)
+    (g : ℕ) (le : n ≤ g) (ρ : Env) (budget steps : ℕ) (counts : steps + left ≡ budget) (bound : Binds (tableOf bs .sizes) s top env ρ) where
+  pub held-below : {r : Held} (r₀ : Held) → r ≡ r₀ → EvaluatesP bs env s top a left s′ r → HeldAs (holdsAt bs budget g b ρ steps) budget r₀
+  held-below r₀ e h = held-as q e h .answer g ρ budget steps (omega (arith, k .below, le, q)) counts bound
+
+  pub formed-below : {r : Formed} (r₀ : Formed) → r ≡ r₀ → EvaluatesE bs env s top a left s′ r →
+      FormedAs (valueAt bs budget g b ρ steps) budget (tableOf bs .sizes) s′ r₀
+  formed-below r₀ e h = formed-as q e h .answer g ρ budget steps (omega (arith, k .below, le, q)) counts bound
+
+-- The answer for a node, from its tree, whose children have the depth g.
+abbrev predᵍ : List ℕ → ℕ → Kind → ℕ → Pred
+predᵍ bs n x g = predOf (some x) n (nodeAt (tableOf bs .nodes) n) (λ m. predAt g (tableOf bs .nodes) m) (λ m. exprAt g (tableOf bs .nodes) m)
+
+abbrev exprᵍ : List ℕ → ℕ → Kind → ℕ → Expr
+exprᵍ bs n x g = exprOf (some x) n (nodeAt (tableOf bs .nodes) n) (λ m. predAt g (tableOf bs .nodes) m) (λ m. exprAt g (tableOf bs .nodes) m)
+
+module _ {bs env s : List ℕ} {top n left : ℕ} {s′ : List ℕ} (x : Kind) (e : kindAt (tableOf bs .nodes) n ≡ some x) (same : Same top s s′) where
+  pub held-by : {r : Held} → ((g : ℕ) (ρ : Env) (budget steps : ℕ) → n ≤ g → steps + left ≡ budget → Binds (tableOf bs .sizes) s top env ρ →
+      HeldAs (holdsᵖ budget (tableOf bs .sizes) (predᵍ bs n x g) ρ steps) budget r) → EvaluatesP bs env s top n left s′ r
+  held-by {r} h = record {
+    frame = same;
+    answer = λ f ρ budget steps l c b.
+        let d = pred-at (tableOf bs .nodes) n x e f l in
+        subst (λ (p : Pred). HeldAs (holdsᵖ budget (tableOf bs .sizes) p ρ steps) budget r) (sym (d .is))
+        (h (d .depth) ρ budget steps (d .enough) c b);
+  }
+
+  pub formed-by : {r : Formed} → FormedBounds top r →
+      ((g f : ℕ) (ρ : Env) (budget steps : ℕ) → n ≤ g → exprAt f (tableOf bs .nodes) n ≡ exprᵍ bs n x g → steps + left ≡ budget →
+      Binds (tableOf bs .sizes) s top env ρ → FormedAs (valueAt bs budget f n ρ steps) budget (tableOf bs .sizes) s′ r) →
+      EvaluatesE bs env s top n left s′ r
+  formed-by {r} bounds h = record {
+    frame = same;
+    bounds = bounds;
+    answer = λ f ρ budget steps l c b. let d = expr-at (tableOf bs .nodes) n x e f l in h (d .depth) f ρ budget steps (d .enough) (d .is) c b;
+  }

@@ -3,7 +3,7 @@ use Prim.Native.Nat.{ℕ, _+_, _*_, _≤_, _<_}
 use mathlib.Core.Bool.{true}
 use mathlib.Core.List.{List, [], _∷_}
 use mathlib.Core.Option.{some}
-use mathlib.Core.Path.{_≡_}
+use mathlib.Core.Path.{_≡_, subst}
 use native.Mathlib.Omega.{arith}
 use lib.Dec.{T}
 use lib.ListN.{length}
@@ -12,7 +12,8 @@ use Rattle.rules.specs.Values.{Value, set, Values, count}
 use Rattle.rules.specs.Kinds.{Kind, expression, predicate, fieldsOf}
 use Rattle.rules.specs.Rules.{P̂, t̂}
 use Rattle.rules.specs.Fits.{HasType, Fits, typed, fits}
-use Rattle.rules.specs.Tables.{tableOf, nodeAt, kindAt}
+use Rattle.rules.specs.Tables.{tableOf, kindAt}
+use Rattle.rules.specs.Ends.{done}
 use Rattle.rules.specs.Reading.{height}
 use Rattle.rules.specs.Runs.{Run}
 use Rattle.laws.proofs.TableLaws.{binds-length}
@@ -24,13 +25,15 @@ use Rattle.arena.specs.Code.{cellSize, code, codes, Same}
 use Rattle.arena.proofs.Standing.{stands-tail}
 use Rattle.operations.specs.Good.{Sizes, GoodAt}
 use Rattle.operations.proofs.FitLaws.{types-fit}
-use Rattle.evaluators.specs.Answers.{PlacedAs, RangeSet, Listed}
-use Rattle.evaluators.specs.Nodes.{SomeGood}
+use Rattle.evaluators.specs.declared.Range.{Range}
+use Rattle.evaluators.specs.declared.Range.the-variants.{Set}
+use Rattle.evaluators.specs.Answers.{EndsWith, PlacedAs, RangeSet, Listed}
+use Rattle.evaluators.specs.Nodes.{fieldA, fieldB, fieldC, SomeGood, RangeAt}
 use Rattle.evaluators.specs.Cycle.{expressionCells, Ready, EachReady}
 use Rattle.evaluators.proofs.NodeLaws.{Child, field-holds, field-child, condition-cells, ready-child}
 
 -- The range is a good value.
-pub placed-good : {x : Run Value} {gs s : List ℕ} {at next t : ℕ} → Sizes gs → PlacedAs x gs s at next t → SomeGood s at
+pub placed-good : {x : Run Value} {gs s : List ℕ} {budget at next l : ℕ} → Sizes gs → PlacedAs x budget gs s at next l → SomeGood s at
 placed-good {gs = gs} {next = next} small p = record { sizes = gs; small = small; top = next; value = p .value; stands = p .place }
 
 -- The members of a good set stand behind its own cell.
@@ -53,37 +56,39 @@ set-fits vs h = let x = typed-right (set vs) .0 h in types-fit (P̂ t̂ ∷ []) 
     go (POW u) k = (u, u, (k, tt))
     go (u ⊗ w) k = absurd k
 
-pub range-fits : {gs s : List ℕ} {top at n : ℕ} {v : Value} → GoodAt gs s top at v → RangeSet v n → fits (P̂ t̂ ∷ []) (v ∷ []) ≡ true
-range-fits {gs} {s} {top} {at} {n} {v} h r = rw (r .is) (set-fits (r .members) (good-typed gs (set (r .members)) (rw (r .is) at (h .good))))
+range-fits : {gs s : List ℕ} {top at n : ℕ} {v : Value} → GoodAt gs s top at v → RangeSet v n → fits (P̂ t̂ ∷ []) (v ∷ []) ≡ true
+range-fits {gs} {s} {top} {at} {n} {v} h r =
+    rw (r .is) (set-fits (r .members) (good-typed gs (set (r .members)) (rw (r .is) at (h .good))))
 
-pub range-listed : {gs s : List ℕ} {top at n : ℕ} {v : Value} → GoodAt gs s top at v → (r : RangeSet v n) → Listed gs s top (at + 1) n (r .members)
+range-listed : {gs s : List ℕ} {top at n : ℕ} {v : Value} → GoodAt gs s top at v → (r : RangeSet v n) →
+    Listed gs s top (at + 1) n (r .members)
 range-listed {gs} {s} {top} {at} {n} {v} h r = set-listed (rw (r .is) at h) (r .counted)
 
-module _ {bs : List ℕ} {env s : List ℕ} {top n steps budget : ℕ} (r : Ready bs env s top n steps budget)
-    {k : Kind} (e : kindAt (tableOf bs .nodes) n ≡ some k) (q : fieldsOf k ≡ binderFields) where
-  pub binder-name : nodeAt (tableOf bs .nodes) n .a < 32
+module _ {bs env s : List ℕ} {top n : ℕ} (r : Ready bs env s top n) {k : Kind} (e : kindAt (tableOf bs .nodes) n ≡ some k)
+    (q : fieldsOf k ≡ binderFields) where
+  pub binder-name : fieldA bs n < 32
   binder-name =
-      let h : nodeAt (tableOf bs .nodes) n .a < length (tableOf bs .binds) = rw q at (field-holds bs (r .readable) n (r .node) k e 0 (rw q (omega arith))) in
+      let h : fieldA bs n < length (tableOf bs .binds) = rw q at (field-holds bs (r .readable) n (r .node) k e 0 (rw q (omega arith))) in
       omega (arith, h, binds-length bs, r .readable .header .identifiers)
 
-  pub binder-range : Child bs n (nodeAt (tableOf bs .nodes) n .b) expression
+  pub binder-range : Child bs n (fieldB bs n) expression
   binder-range = field-child bs (r .readable) n (r .node) k e expression 1 (omega arith) (rw q (omega arith)) (rw q)
 
-  pub binder-body : Child bs n (nodeAt (tableOf bs .nodes) n .c) predicate
+  pub binder-body : Child bs n (fieldC bs n) predicate
   binder-body = field-child bs (r .readable) n (r .node) k e predicate 2 (omega arith) (rw q (omega arith)) (rw q)
 
   own-room : top + (384 * height (tableOf bs .nodes) n + expressionCells (some k) + 260) ≤ length s
   own-room = rw e at (r .room)
 
-  body-cells : expressionCells (kindAt (tableOf bs .nodes) (nodeAt (tableOf bs .nodes) n .c)) ≡ 0
-  body-cells = condition-cells (kindAt (tableOf bs .nodes) (nodeAt (tableOf bs .nodes) n .c)) (binder-body .is)
+  body-cells : expressionCells (kindAt (tableOf bs .nodes) (fieldC bs n)) ≡ 0
+  body-cells = condition-cells (kindAt (tableOf bs .nodes) (fieldC bs n)) (binder-body .is)
 
   -- The range is a set of m members, that stands at `at`.
-  pub binder-ready : {s′ : List ℕ} {at next m t : ℕ} {v : Value} (spare : ℕ) → spare ≤ 128 + expressionCells (some k) →
-      Same top s s′ → top ≤ next → next ≤ top + 256 → t ≤ budget →
-      GoodAt (tableOf bs .sizes) s′ next at v → RangeSet v m → EachReady bs env s′ next n (at + 1) m t budget spare
-  binder-ready {s′} {at} {next} {m} {t} {v} spare enough f low high within g x = record {
-    ready = ready-child s′ (nodeAt (tableOf bs .nodes) n .c) next t r binder-body f low (omega arith) within;
+  pub binder-ready : {s′ : List ℕ} {at next m : ℕ} {v : Value} (spare : ℕ) → spare ≤ 128 + expressionCells (some k) →
+      Same top s s′ → top ≤ next → next ≤ top + 256 → GoodAt (tableOf bs .sizes) s′ next at v → RangeSet v m →
+      EachReady bs env s′ next n (at + 1) m spare
+  binder-ready {s′} {at} {next} {m} {v} spare enough f low high g x = record {
+    ready = ready-child s′ (fieldC bs n) next r binder-body f low (omega arith);
     binder = r .node;
     deeper = binder-body .below;
     is = binder-body .is;
@@ -92,3 +97,25 @@ module _ {bs : List ℕ} {env s : List ℕ} {top n steps budget : ℕ} (r : Read
     range = x .members;
     listed = range-listed g x;
   }
+
+-- The range of a node, as the set of n members that it is.
+pub record RangeHere (x : Run Value) (budget : ℕ) (gs s : List ℕ) (at next left n : ℕ) : Type 0 where
+  pub range : Values
+  pub ends : EndsWith x (done (set range)) budget left
+  pub listed : Listed gs s next (at + 1) n range
+  pub fit : fits (P̂ t̂ ∷ []) (set range ∷ []) ≡ true
+
+pub range-here : {x : Run Value} {budget : ℕ} {gs s : List ℕ} {at next left : ℕ} (n : ℕ) → Sizes gs → RangeAt s at (Set n) →
+    PlacedAs x budget gs s at next left → RangeHere x budget gs s at next left n
+range-here {x} {budget} {gs} {s} {at} {next} {left} n z g h =
+    let r = g gs next (h .value) z (h .place) in
+    record {
+      range = r .members;
+      ends = subst (λ (v : Value). EndsWith x (done v) budget left) (r .is) (h .ends);
+      listed = range-listed (h .place) r;
+      fit = subst (λ (v : Value). fits (P̂ t̂ ∷ []) (v ∷ []) ≡ true) (r .is) (range-fits (h .place) r);
+    }
+
+-- The same range under equal names.
+pub range-as : {s : List ℕ} {at : ℕ} {r r′ : Range} → r ≡ r′ → RangeAt s at r → RangeAt s at r′
+range-as {s} {at} {r} {r′} q h = subst (λ (z : Range). RangeAt s at z) q h

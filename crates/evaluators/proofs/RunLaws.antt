@@ -1,5 +1,5 @@
--- Ends and steps of runs, part by part.
-use Prim.Native.Nat.{ℕ, suc, _<_}
+-- Ends of runs, part by part: what follows a part that is done begins at the visits which that part has made.
+use Prim.Native.Nat.{ℕ, suc, _+_, _<_}
 use mathlib.Core.Bool.{Bool, true, false}
 use mathlib.Core.List.{List}
 use mathlib.Core.Path.{_≡_, refl, sym, subst}
@@ -16,66 +16,60 @@ use Rattle.rules.specs.Evaluation.{fitting}
 use Rattle.operations.specs.Outcomes.{weighed, fitted}
 use Rattle.evaluators.specs.Answers.{EndsWith}
 
-module _ {A B : Type 0} (m : M A) (f : A → M B) (s : ℕ) where
-  pub then-done : {a : A} {k : ℕ} {e : End B} {n : ℕ} → EndsWith (m s) (done a) k → EndsWith (f a k) e n → EndsWith ((m >>= f) s) e n
-  then-done h k = record { end = rw (h .end, h .steps) (k .end); steps = rw (h .end, h .steps) (k .steps) }
+module _ {A B : Type 0} (m : M A) (f : A → M B) (s : ℕ) {budget left : ℕ} where
+  pub then-done : {a : A} {e : End B} → m s .end ≡ done a → EndsWith (f a (m s .steps)) e budget left → EndsWith ((m >>= f) s) e budget left
+  then-done h k = record { end = rw h (k .end); steps = rw h (k .steps) }
 
-  pub then-refused : {r p n : ℕ} → EndsWith (m s) (refused r p) n → EndsWith ((m >>= f) s) (refused r p) n
+  pub then-refused : {r p : ℕ} → EndsWith (m s) (refused r p) budget left → EndsWith ((m >>= f) s) (refused r p) budget left
   then-refused h = record { end = rw (h .end); steps = rw (h .end) (h .steps) }
 
-pub returns : {A : Type 0} (a : A) (s : ℕ) → EndsWith (return a s) (done a) s
-returns a s = record { end = refl; steps = refl }
+pub returns : {A : Type 0} {s budget left : ℕ} (a : A) → s + left ≡ budget → EndsWith (return a s) (done a) budget left
+returns a c = record { end = refl; steps = c }
 
 -- A visit within the budget, and one beyond it.
-pub visit-done : (budget n s : ℕ) → s < budget → EndsWith (visit budget n s) (done tt) (suc s)
-visit-done budget n s h = record { end = rw (lt-ltb s budget h); steps = rw (lt-ltb s budget h) }
+module _ {B : Type 0} (budget n s : ℕ) (k : M B) {left : ℕ} where
+  pub visited : {e : End B} → s < budget → EndsWith (k (suc s)) e budget left → EndsWith ((visit budget n >> k) s) e budget left
+  visited h x = record { end = rw (lt-ltb s budget h) (x .end); steps = rw (lt-ltb s budget h) (x .steps) }
 
-pub visit-refused : (budget n s : ℕ) → s ≡ budget → EndsWith (visit budget n s) (refused 19 n) s
-visit-refused budget n s h =
-    let e : ltb s budget ≡ false = le-ltb s budget (omega arith) in
-    record { end = rw e; steps = rw e }
-
--- What follows a visit within the budget.
-pub visited : {B : Type 0} (budget n s : ℕ) (k : M B) {e : End B} {t : ℕ} → s < budget → EndsWith (k (suc s)) e t → EndsWith ((visit budget n >> k) s) e t
-visited budget n s k h x = then-done (visit budget n) (λ _. k) s (visit-done budget n s h) x
-
-pub unvisited : {B : Type 0} (budget n s : ℕ) (k : M B) → s ≡ budget → EndsWith ((visit budget n >> k) s) (refused 19 n) s
-unvisited budget n s k h = then-refused (visit budget n) (λ _. k) s (visit-refused budget n s h)
+  pub unvisited : s + left ≡ budget → left ≡ 0 → EndsWith ((visit budget n >> k) s) (refused 19 n) budget left
+  unvisited c z =
+      let e : ltb s budget ≡ false = le-ltb s budget (omega arith) in
+      record { end = rw e; steps = rw e c }
 
 -- A value that is formed, or the refusal at the node.
 abbrev pub endOf : ℕ → Given → End Value
 endOf n (gives v) = done v
 endOf n (lacks k) = refused k n
 
-pub form-ends : (n : ℕ) (g : Given) (s : ℕ) → EndsWith (form n g s) (endOf n (weighed g)) s
-form-ends n (lacks k) s = record { end = refl; steps = refl }
-form-ends n (gives v) s = go (leb (weight v) weightLimit) refl
+pub form-ends : {budget left : ℕ} (n : ℕ) (g : Given) (s : ℕ) → s + left ≡ budget → EndsWith (form n g s) (endOf n (weighed g)) budget left
+form-ends n (lacks k) s c = record { end = refl; steps = c }
+form-ends {budget} {left} n (gives v) s c = go (leb (weight v) weightLimit) refl
   where
-    go : (b : Bool) → leb (weight v) weightLimit ≡ b → EndsWith (form n (gives v) s) (endOf n (weighed (gives v))) s
-    go true e = record { end = rw e; steps = rw e }
-    go false e = record { end = rw e; steps = rw e }
+    go : (b : Bool) → leb (weight v) weightLimit ≡ b → EndsWith (form n (gives v) s) (endOf n (weighed (gives v))) budget left
+    go true e = record { end = rw e; steps = rw e c }
+    go false e = record { end = rw e; steps = rw e c }
+
+-- What follows where the operands fit, and 15 where they do not.
+module _ {B : Type 0} {budget left : ℕ} (n : ℕ) (r : Rule) (vs : List Value) (k : M B) (s : ℕ) where
+  pub fitting-on : {e : End B} → fits (r .takes) vs ≡ true → EndsWith (k s) e budget left → EndsWith ((fitting n r vs >> k) s) e budget left
+  fitting-on e h = record { end = rw e (h .end); steps = rw e (h .steps) }
+
+  pub fitting-refused : fits (r .takes) vs ≡ false → s + left ≡ budget → EndsWith ((fitting n r vs >> k) s) (refused 15 n) budget left
+  fitting-refused e c = record { end = rw e; steps = rw e c }
 
 -- 15, and then what is given.
-pub fitted-ends : (n : ℕ) (r : Rule) (vs : List Value) (g : Given) (s : ℕ) →
-    EndsWith ((fitting n r vs >> form n g) s) (endOf n (fitted (r .takes) vs g)) s
-fitted-ends n r vs g s = go (fits (r .takes) vs) refl
+pub fitted-ends : {budget left : ℕ} (n : ℕ) (r : Rule) (vs : List Value) (g : Given) (s : ℕ) → s + left ≡ budget →
+    EndsWith ((fitting n r vs >> form n g) s) (endOf n (fitted (r .takes) vs g)) budget left
+fitted-ends {budget} {left} n r vs g s c = go (fits (r .takes) vs) refl
   where
-    go : (b : Bool) → fits (r .takes) vs ≡ b → EndsWith ((fitting n r vs >> form n g) s) (endOf n (fitted (r .takes) vs g)) s
+    go : (b : Bool) → fits (r .takes) vs ≡ b → EndsWith ((fitting n r vs >> form n g) s) (endOf n (fitted (r .takes) vs g)) budget left
     go true e =
-        let f : EndsWith (fitting n r vs s) (done tt) s = record { end = rw e; steps = rw e } in
         let q : endOf n (fitted (r .takes) vs g) ≡ endOf n (weighed g) = rw e in
-        subst (λ (z : End Value). EndsWith ((fitting n r vs >> form n g) s) z s) (sym q) (then-done (fitting n r vs) (λ _. form n g) s f (form-ends n g s))
+        subst (λ (z : End Value). EndsWith ((fitting n r vs >> form n g) s) z budget left) (sym q) (fitting-on n r vs (form n g) s e (form-ends n g s c))
     go false e =
-        let f : EndsWith (fitting n r vs s) (refused 15 n) s = record { end = rw e; steps = rw e } in
         let q : endOf n (fitted (r .takes) vs g) ≡ refused 15 n = rw e in
-        subst (λ (z : End Value). EndsWith ((fitting n r vs >> form n g) s) z s) (sym q) (then-refused (fitting n r vs) (λ _. form n g) s f)
-
-pub fitting-done : (n : ℕ) (r : Rule) (vs : List Value) (s : ℕ) → fits (r .takes) vs ≡ true → EndsWith (fitting n r vs s) (done tt) s
-fitting-done n r vs s e = record { end = rw e; steps = rw e }
-
-pub fitting-refused : (n : ℕ) (r : Rule) (vs : List Value) (s : ℕ) → fits (r .takes) vs ≡ false → EndsWith (fitting n r vs s) (refused 15 n) s
-fitting-refused n r vs s e = record { end = rw e; steps = rw e }
+        subst (λ (z : End Value). EndsWith ((fitting n r vs >> form n g) s) z budget left) (sym q) (fitting-refused n r vs (form n g) s e c)
 
 -- The same run, the same end.
-pub ends-as : {A : Type 0} {x y : Run A} {e : End A} {n : ℕ} → x ≡ y → EndsWith y e n → EndsWith x e n
-ends-as {A} {x} {y} {e} {n} q h = subst (λ (z : Run A). EndsWith z e n) (sym q) h
+pub ends-as : {A : Type 0} {x y : Run A} {e : End A} {budget left : ℕ} → x ≡ y → EndsWith y e budget left → EndsWith x e budget left
+ends-as {A} {x} {y} {e} {budget} {left} q h = subst (λ (z : Run A). EndsWith z e budget left) (sym q) h

@@ -4,9 +4,8 @@ use mathlib.Core.List.{List}
 use mathlib.Core.Path.{_≡_, refl, _∙_}
 use native.Mathlib.Omega.{arith}
 use borrow.Author.Needs.{scaled-fits, fits-under}
-use mir.Syntax.{w32, w64}
+use mir.Syntax.{w64}
 use mir.Val.{Fits}
-use mir.Facts.{fits-le}
 use lib.Dec.{lit<}
 use lib.ListN.{length, set as setAt, length-set}
 use Rattle.rules.specs.Tables.{nodeCount, nodesAt}
@@ -14,10 +13,6 @@ use Rattle.rules.specs.Readable.{Readable}
 use Rattle.table.specs.Layout.{NodeIn}
 use Rattle.arena.specs.Code.{Same}
 use Rattle.evaluators.specs.Cycle.{Ready, EachReady}
-
--- A visit is counted.
-pub count-fits : {steps budget : ℕ} → steps < budget → Fits w32 budget → Fits w32 (steps + 1)
-count-fits l f = fits-le (omega (arith, l)) f
 
 pub one-less : {n : ℕ} → 0 < n → n - 1 < n
 one-less h = omega (arith, h)
@@ -33,7 +28,7 @@ module _ {x y : ℕ} (e : x ≡ y) (l : y < 32) where
 pub node-in : {bs : List ℕ} {n : ℕ} → Readable bs → n < nodeCount bs → NodeIn bs (nodesAt bs) n
 node-in r l = record { laid = record { header = r .header; base = refl }; below = l }
 
-module _ {bs : List ℕ} {env s : List ℕ} {top n steps budget : ℕ} (r : Ready bs env s top n steps budget) where
+module _ {bs env s : List ℕ} {top n : ℕ} (r : Ready bs env s top n) where
   pub ready-node : NodeIn bs (nodesAt bs) n
   ready-node = node-in (r .readable) (r .node)
 
@@ -41,7 +36,7 @@ module _ {bs : List ℕ} {env s : List ℕ} {top n steps budget : ℕ} (r : Read
   pub cell-room : {s′ : List ℕ} → Same top s s′ → top + 514 ≤ length s′
   cell-room e = omega (arith, r .room, r .tall, e .kept)
 
-module _ {bs : List ℕ} {env s : List ℕ} {top n from count steps budget spare : ℕ} (r : EachReady bs env s top n from count steps budget spare) where
+module _ {bs env s : List ℕ} {top n from count spare : ℕ} (r : EachReady bs env s top n from count spare) where
   pub binder-node : NodeIn bs (nodesAt bs) n
   binder-node = node-in (r .ready .readable) (r .binder)
 

@@ -13,6 +13,7 @@ use Rattle.arena.proofs.Standing.{same-refl, copied-stands}
 use Rattle.operations.specs.declared.Outcome.{Outcome}
 use Rattle.operations.specs.declared.Outcome.the-variants.{Built, Within, Lacks}
 use Rattle.operations.specs.Outcomes.{BuiltAt, WithinAt, Gives}
+use Rattle.evaluators.specs.declared.Formed.{Formed}
 use Rattle.evaluators.specs.declared.Formed.the-variants.{Value as Placed, Stopped}
 use Rattle.evaluators.specs.Answers.{SettleReady}
 use Rattle.evaluators.specs.Nodes.{ChooseReady, Chooses}
@@ -24,7 +25,8 @@ copied-frame : {s s′ : List ℕ} {from n to : ℕ} → Copied s from n to s′
 copied-frame c = record { same = c .before; kept = c .kept }
 
 module _ {s : List ℕ} {at end to : ℕ} where
-  pub choose-room : ChooseReady s at end to → (at + (end - at) ≤ length s) × (to + (end - at) ≤ length s) × ((at + (end - at) ≤ to) ⊎ (to ≤ at))
+  pub choose-room : ChooseReady s at end to →
+      (at + (end - at) ≤ length s) × (to + (end - at) ≤ length s) × ((at + (end - at) ≤ to) ⊎ (to ≤ at))
   choose-room p = (omega (arith, p .forward, p .behind, p .room), p .room, inl (omega (arith, p .forward, p .behind)))
 
   module _ {yes : Bool} where
@@ -42,18 +44,19 @@ module _ {s : List ℕ} {at end to : ℕ} where
       ends = subst (λ (b : Bool). to + (end - at) ≡ to + cond b (end - at) 0) (sym e) refl;
     }
 
-module _ {s : List ℕ} {r : Outcome} {mid next top steps budget : ℕ} (p : SettleReady s r mid next top steps budget) where
-  pub settles-lacks : {node k : ℕ} → r ≡ Lacks k → Settles s r mid next top node steps budget s (Stopped k node steps)
-  settles-lacks e = record {
+module _ {s : List ℕ} {r : Outcome} {mid next top : ℕ} (p : SettleReady s r mid next top) where
+  pub settles-lacks : {node left k : ℕ} {x : Formed} → r ≡ Lacks k → x ≡ Stopped (record { number = k; place = node }) left →
+      Settles s r mid next top node left s x
+  settles-lacks {node} {left} e q = subst (λ (z : Formed). Settles s r mid next top node left s z) (sym q) (record {
     frame = same-refl top s;
-    bounds = p .within;
+    bounds = tt;
     answer = λ g h. (subst (λ (o : Outcome). Gives s mid next g o) e h, refl, refl);
-  }
+  })
 
-  pub settles-within : {node at : ℕ} → r ≡ Within at → Settles s r mid next top node steps budget s (Placed at mid steps)
-  settles-within {node} {at} e = record {
+  pub settles-within : {node left at : ℕ} → r ≡ Within at → Settles s r mid next top node left s (Placed at mid left)
+  settles-within {node} {left} {at} e = record {
     frame = same-refl top s;
-    bounds = (p .low, p .high, p .within);
+    bounds = (p .low, p .high);
     answer = λ g h.
         let w : WithinAt s mid g at = subst (λ (o : Outcome). Gives s mid next g o) e h in
         record { value = w .value; is = w .is; stands = w .stands; below = w .below; same = refl };
@@ -68,21 +71,27 @@ module _ {s : List ℕ} {r : Outcome} {mid next top steps budget : ℕ} (p : Set
 
     pub settle-room : (next + (end - next) ≤ length s) × (top + (end - next) ≤ length s) × ((next + (end - next) ≤ top) ⊎ (top ≤ next))
     settle-room =
-        let b = built-as (p .given) (p .gives) in
-        (omega (arith, b .ends, b .light, p .room), omega (arith, b .ends, b .light, p .low, p .order, p .room), inr (omega (arith, p .low, p .order)))
+        let b = built-as (p .given) (p .gives) in (
+          omega (arith, b .ends, b .light, p .room),
+          omega (arith, b .ends, b .light, p .low, p .order, p .room),
+          inr (omega (arith, p .low, p .order)),
+        )
 
-    pub settles-built : {node : ℕ} {s′ : List ℕ} → Copied s next (end - next) top s′ → Settles s r mid next top node steps budget s′ (Placed top (top + (end - next)) steps)
-    settles-built {node} {s′} c =
+    pub settles-built : {node left : ℕ} {s′ : List ℕ} → Copied s next (end - next) top s′ →
+        Settles s r mid next top node left s′ (Placed top (top + (end - next)) left)
+    settles-built {node} {left} {s′} c =
         let b = built-as (p .given) (p .gives) in
         record {
           frame = copied-frame c;
-          bounds = (omega arith, omega (arith, b .ends, b .light), p .within);
+          bounds = (omega arith, omega (arith, b .ends, b .light));
           answer = λ g h.
               let x = built-as g h in
               record {
                 value = x .value;
                 is = x .is;
-                stands = copied-stands s next (end - next) top s′ (code (x .value)) c (omega (arith, x .ends, length-code (x .value))) (settle-room .1) (x .stands);
+                stands =
+                    copied-stands s next (end - next) top s′ (code (x .value)) c (omega (arith, x .ends, length-code (x .value)))
+                    (settle-room .1) (x .stands);
                 below = omega (arith, x .ends);
                 same = refl;
               };

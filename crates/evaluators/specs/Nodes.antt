@@ -9,7 +9,6 @@ use lib.ListN.{length, getD}
 use Rattle.rules.specs.Values.{Value}
 use Rattle.rules.specs.Kinds.{Join, join, Quant, forAll, forSome, predicate, expression, kindOf}
 use Rattle.rules.specs.Tables.{tableOf, nodeAt, kindAt, nodeCount}
-use Rattle.rules.specs.Reading.{height}
 use Rattle.rules.specs.Readable.{Readable, CategoryIs}
 use Rattle.rules.specs.Operations as rules
 use Rattle.arena.specs.Code.{Same, Copied}
@@ -27,14 +26,15 @@ IsPred bs n = CategoryIs predicate (kindAt (tableOf bs .nodes) n)
 abbrev pub IsExpr : List ℕ → ℕ → Type 0
 IsExpr bs n = CategoryIs expression (kindAt (tableOf bs .nodes) n)
 
--- The fields a and b of a node are expressions, lower in number and in height.
-pub record TwoFields (bs : List ℕ) (n : ℕ) : Type 0 where
-  pub left : nodeAt (tableOf bs .nodes) n .a < n
-  pub right : nodeAt (tableOf bs .nodes) n .b < n
-  pub leftIs : IsExpr bs (nodeAt (tableOf bs .nodes) n .a)
-  pub rightIs : IsExpr bs (nodeAt (tableOf bs .nodes) n .b)
-  pub leftLower : height (tableOf bs .nodes) (nodeAt (tableOf bs .nodes) n .a) < height (tableOf bs .nodes) n
-  pub rightLower : height (tableOf bs .nodes) (nodeAt (tableOf bs .nodes) n .b) < height (tableOf bs .nodes) n
+-- The words in the fields of a node.
+abbrev pub fieldA : List ℕ → ℕ → ℕ
+fieldA bs n = nodeAt (tableOf bs .nodes) n .a
+
+abbrev pub fieldB : List ℕ → ℕ → ℕ
+fieldB bs n = nodeAt (tableOf bs .nodes) n .b
+
+abbrev pub fieldC : List ℕ → ℕ → ℕ
+fieldC bs n = nodeAt (tableOf bs .nodes) n .c
 
 -- Whether the first truth of a join decides: it does with any truth but for 1, where it is false.
 abbrev pub DecidesBy : ℕ → Bool → Bool → Type 0
@@ -59,25 +59,25 @@ abbrev pub RangeAt : List ℕ → ℕ → Range → Type 0
 RangeAt s at r = (gs : List ℕ) (top : ℕ) (v : Value) → Sizes gs → GoodAt gs s top at v → RangeAs v r
 
 -- An identifier's node.
-pub record NameReady (bs : List ℕ) (env : List ℕ) (n : ℕ) : Type 0 where
+pub record NameReady (bs env : List ℕ) (n : ℕ) : Type 0 where
   pub readable : Readable bs
   pub node : n < nodeCount bs
-  pub name : nodeAt (tableOf bs .nodes) n .a < 32
+  pub name : fieldA bs n < 32
   pub entries : length env ≡ 32
 
 abbrev pub NameAt : List ℕ → List ℕ → ℕ → ℕ → ℕ → Formed → Type 0
-NameAt bs env top n steps r = r ≡ Placed (getD env (nodeAt (tableOf bs .nodes) n .a) 0) top steps
+NameAt bs env top n left r = r ≡ Placed (getD env (fieldA bs n) 0) top left
 
 -- Another leaf's node.
-pub record LeafNode (bs : List ℕ) (s : List ℕ) (top k n : ℕ) : Type 0 where
+pub record LeafNode (bs s : List ℕ) (top k n : ℕ) : Type 0 where
   pub readable : Readable bs
   pub node : n < nodeCount bs
-  pub ready : LeafReady k (nodeAt (tableOf bs .nodes) n .a) (nodeAt (tableOf bs .nodes) n .b) (getD (tableOf bs .sizes) (nodeAt (tableOf bs .nodes) n .a) 0) s top
+  pub ready : LeafReady k (fieldA bs n) (fieldB bs n) (getD (tableOf bs .sizes) (fieldA bs n) 0) s top
 
-pub record LeafFormed (bs s : List ℕ) (top k n steps : ℕ) (s′ : List ℕ) (r : Formed) : Type 0 where
+pub record LeafFormed (bs s : List ℕ) (top k n left : ℕ) (s′ : List ℕ) (r : Formed) : Type 0 where
   pub end : ℕ
-  pub is : r ≡ Placed top end steps
-  pub done : LeafDone k (nodeAt (tableOf bs .nodes) n .a) (nodeAt (tableOf bs .nodes) n .b) (getD (tableOf bs .sizes) (nodeAt (tableOf bs .nodes) n .a) 0) s top s′ end
+  pub is : r ≡ Placed top end left
+  pub done : LeafDone k (fieldA bs n) (fieldB bs n) (getD (tableOf bs .sizes) (fieldA bs n) 0) s top s′ end
 
 -- A member from `at` to `end`, and room for it from `to` on, behind it.
 pub record ChooseReady (s : List ℕ) (at end to : ℕ) : Type 0 where

@@ -1,34 +1,79 @@
 // The evaluators: the value rules of document 01 at each node of a readable table, over an arena of cells.
 ghost use mathlib.Core.Path.{_≡_};
 ghost use Rattle.rules.specs.Kinds.{join, test, quant, one, two};
-ghost use Rattle.evaluators.specs.Answers.{SettleReady};
-ghost use Rattle.evaluators.specs.Nodes.{IsPred, IsExpr, TwoFields, DecidesBy, JoinedBy, quantOf, SomeGood, RangeAt, NameReady, NameAt, LeafNode, LeafFormed, ChooseReady, Chooses};
-ghost use Rattle.evaluators.specs.Cycle.{Ready, Visited, Sort, EvaluatesP, EvaluatesE, EvaluatesBoth, EachReady, EvaluatesEach, EvaluatesChosen, Settles};
+ghost use Rattle.evaluators.specs.declared.Held.the-variants.{Refused};
+ghost use Rattle.evaluators.specs.declared.Formed.the-variants.{Stopped};
+ghost use Rattle.evaluators.specs.Answers.{RefusalOf, StopOf, SettleReady};
+ghost use Rattle.evaluators.specs.Nodes.{IsPred, IsExpr, DecidesBy, JoinedBy, quantOf, SomeGood, RangeAt, NameReady, NameAt, LeafNode, LeafFormed, ChooseReady, Chooses};
+ghost use Rattle.evaluators.specs.Cycle.{Ready, Visited, Sort, EvaluatesP, EvaluatesE, EachReady, EvaluatesEach, EvaluatesChosen, Settles};
 use operations::Outcome;
 use operations::Tested;
+use reading::Refusal;
 
-// The truth of a condition, or a refusal's number and place; and the visits made.
+// The truth of a condition, or a refusal; and the visits that the budget still has.
 pub enum Held {
-    Truth(bool, u32),
-    Refused(u8, usize, u32),
+    Truth { yes: bool, left: u32 },
+    Refused { refusal: Refusal, left: u32 },
 }
 
-// Where the value of an expression stands and where the cells that it takes end, or a refusal; and the visits made.
+// Where the value of an expression stands and where the cells that it takes end, or a refusal; and the visits that the budget still has.
 enum Formed {
-    Value(usize, usize, u32),
-    Stopped(u8, usize, u32),
-}
-
-// Where the values of two operands stand, each with the end of the cells that it takes, or a refusal; and the visits made.
-enum Operands {
-    Both(usize, usize, usize, usize, u32),
-    Failed(u8, usize, u32),
+    Value { at: usize, end: usize, left: u32 },
+    Stopped { refusal: Refusal, left: u32 },
 }
 
 // The number of members of a binder's range, or that it is no set.
 enum Range {
     Set(u64),
     Unlike,
+}
+
+fn refused(number: u8, place: usize, left: u32) -> Held
+    ensures { λ r. ⌜ r ≡ Refused (record { number = number; place = place }) left ⌝ }
+{
+    Held::Refused {
+        refusal: Refusal { number, place },
+        left,
+    }
+}
+
+fn stopped(number: u8, place: usize, left: u32) -> Formed
+    ensures { λ r. ⌜ r ≡ Stopped (record { number = number; place = place }) left ⌝ }
+{
+    Formed::Stopped {
+        refusal: Refusal { number, place },
+        left,
+    }
+}
+
+// The refusal of an expression as that of a condition.
+fn refusal_of(f: Formed) -> Held
+    ensures { λ r. ⌜ RefusalOf f r ⌝ }
+{
+    match f {
+        Formed::Stopped { refusal, left } => Held::Refused { refusal, left },
+        // Never: it is called for a refusal.
+        Formed::Value {
+            at: _,
+            end: _,
+            left,
+        } => Held::Truth { yes: false, left },
+    }
+}
+
+// The refusal of a condition as that of an expression.
+fn stop_of(h: Held) -> Formed
+    ensures { λ r. ⌜ StopOf h r ⌝ }
+{
+    match h {
+        Held::Refused { refusal, left } => Formed::Stopped { refusal, left },
+        // Never: it is called for a refusal.
+        Held::Truth { yes: _, left } => Formed::Value {
+            at: 0,
+            end: 0,
+            left,
+        },
+    }
 }
 
 // The condition at a node.
@@ -38,25 +83,24 @@ pub fn eval_pred(
     s: &mut [u64],
     top: usize,
     node: usize,
-    steps: u32,
-    budget: u32,
+    left: u32,
 ) -> Held
-    requires { ⌜ Ready (now table) (now env) (now s) top node steps budget × IsPred (now table) node ⌝ }
-    ensures { λ r. ⌜ EvaluatesP (now (table .entry)) (now (env .entry)) (now (s .entry)) top node steps budget (now (s .exit)) r ⌝ }
+    requires { ⌜ Ready (now table) (now env) (now s) top node × IsPred (now table) node ⌝ }
+    ensures { λ r. ⌜ EvaluatesP (now (table .entry)) (now (env .entry)) (now (s .entry)) top node left (now (s .exit)) r ⌝ }
 {
-    if steps == budget {
-        return Held::Refused(19, node, steps);
+    if left == 0 {
+        return refused(19, node, left);
     }
     let kind = table::node_kind(table, node);
     match kind {
         1..=11 => match kind {
-            4 => eval_not(table, env, s, top, node, steps, budget),
-            6..=9 => eval_test(table, env, s, top, kind, node, steps, budget),
-            10..=11 => eval_quant(table, env, s, top, kind, node, steps, budget),
-            _ => eval_join(table, env, s, top, kind, node, steps, budget),
+            4 => eval_not(table, env, s, top, node, left),
+            6..=9 => eval_test(table, env, s, top, kind, node, left),
+            10..=11 => eval_quant(table, env, s, top, kind, node, left),
+            _ => eval_join(table, env, s, top, kind, node, left),
         },
         // Never: no other kind is a predicate.
-        _ => Held::Refused(6, node, steps),
+        _ => refused(6, node, left),
     }
 }
 
@@ -91,26 +135,31 @@ fn eval_join(
     top: usize,
     kind: usize,
     node: usize,
-    steps: u32,
-    budget: u32,
+    left: u32,
 ) -> Held
-    requires { ⌜ Visited (now table) (now env) (now s) top kind node steps budget × Sort join kind ⌝ }
-    ensures { λ r. ⌜ EvaluatesP (now (table .entry)) (now (env .entry)) (now (s .entry)) top node steps budget (now (s .exit)) r ⌝ }
+    requires { ⌜ Visited (now table) (now env) (now s) top kind node left × Sort join kind ⌝ }
+    ensures { λ r. ⌜ EvaluatesP (now (table .entry)) (now (env .entry)) (now (s .entry)) top node left (now (s .exit)) r ⌝ }
 {
     let a = table::node_field(table, node, 0);
-    let first = eval_pred(table, env, s, top, a, steps + 1, budget);
-    let Held::Truth(p, n) = first else {
+    let first = eval_pred(table, env, s, top, a, left - 1);
+    let Held::Truth { yes: p, left: n } = first else {
         return first;
     };
     if decides(kind, p) {
-        return Held::Truth(kind != 1, n);
+        return Held::Truth {
+            yes: kind != 1,
+            left: n,
+        };
     }
     let b = table::node_field(table, node, 1);
-    let second = eval_pred(table, env, s, top, b, n, budget);
-    let Held::Truth(q, m) = second else {
+    let second = eval_pred(table, env, s, top, b, n);
+    let Held::Truth { yes: q, left: m } = second else {
         return second;
     };
-    Held::Truth(joined(kind, p, q), m)
+    Held::Truth {
+        yes: joined(kind, p, q),
+        left: m,
+    }
 }
 
 // 4
@@ -120,44 +169,17 @@ fn eval_not(
     s: &mut [u64],
     top: usize,
     node: usize,
-    steps: u32,
-    budget: u32,
+    left: u32,
 ) -> Held
-    requires { ⌜ Visited (now table) (now env) (now s) top 4 node steps budget ⌝ }
-    ensures { λ r. ⌜ EvaluatesP (now (table .entry)) (now (env .entry)) (now (s .entry)) top node steps budget (now (s .exit)) r ⌝ }
+    requires { ⌜ Visited (now table) (now env) (now s) top 4 node left ⌝ }
+    ensures { λ r. ⌜ EvaluatesP (now (table .entry)) (now (env .entry)) (now (s .entry)) top node left (now (s .exit)) r ⌝ }
 {
     let a = table::node_field(table, node, 0);
-    let first = eval_pred(table, env, s, top, a, steps + 1, budget);
-    let Held::Truth(p, n) = first else {
+    let first = eval_pred(table, env, s, top, a, left - 1);
+    let Held::Truth { yes: p, left: n } = first else {
         return first;
     };
-    Held::Truth(!p, n)
-}
-
-// The two operands of a node, one after the other.
-fn eval_both(
-    table: &[u8],
-    env: &[u32; 32],
-    s: &mut [u64],
-    top: usize,
-    node: usize,
-    steps: u32,
-    budget: u32,
-) -> Operands
-    requires { ⌜ Ready (now table) (now env) (now s) top node steps budget × TwoFields (now table) node ⌝ }
-    ensures { λ r. ⌜ EvaluatesBoth (now (table .entry)) (now (env .entry)) (now (s .entry)) top node steps budget (now (s .exit)) r ⌝ }
-{
-    let a = table::node_field(table, node, 0);
-    match eval_expr(table, env, s, top, a, steps, budget) {
-        Formed::Stopped(k, p, n) => Operands::Failed(k, p, n),
-        Formed::Value(at, mid, n) => {
-            let b = table::node_field(table, node, 1);
-            match eval_expr(table, env, s, mid, b, n, budget) {
-                Formed::Stopped(k, p, m) => Operands::Failed(k, p, m),
-                Formed::Value(other, next, m) => Operands::Both(at, mid, other, next, m),
-            }
-        }
-    }
+    Held::Truth { yes: !p, left: n }
 }
 
 // 6 to 9
@@ -168,19 +190,36 @@ fn eval_test(
     top: usize,
     kind: usize,
     node: usize,
-    steps: u32,
-    budget: u32,
+    left: u32,
 ) -> Held
-    requires { ⌜ Visited (now table) (now env) (now s) top kind node steps budget × Sort test kind ⌝ }
-    ensures { λ r. ⌜ EvaluatesP (now (table .entry)) (now (env .entry)) (now (s .entry)) top node steps budget (now (s .exit)) r ⌝ }
+    requires { ⌜ Visited (now table) (now env) (now s) top kind node left × Sort test kind ⌝ }
+    ensures { λ r. ⌜ EvaluatesP (now (table .entry)) (now (env .entry)) (now (s .entry)) top node left (now (s .exit)) r ⌝ }
 {
-    match eval_both(table, env, s, top, node, steps + 1, budget) {
-        Operands::Failed(k, p, n) => Held::Refused(k, p, n),
-        Operands::Both(a, mid, b, next, n) => match operations::test(s, kind, a, mid, b, next) {
-            Tested::Unlike => Held::Refused(15, node, n),
-            Tested::Truth(yes) => Held::Truth(yes, n),
-        },
-    }
+    let a = table::node_field(table, node, 0);
+    let first = eval_expr(table, env, s, top, a, left - 1);
+    let Formed::Value {
+        at: x,
+        end: mid,
+        left: n,
+    } = first
+    else {
+        return refusal_of(first);
+    };
+    let b = table::node_field(table, node, 1);
+    let second = eval_expr(table, env, s, mid, b, n);
+    let Formed::Value {
+        at: y,
+        end: next,
+        left: m,
+    } = second
+    else {
+        return refusal_of(second);
+    };
+    let tested = operations::test(s, kind, x, mid, y, next);
+    let Tested::Truth(yes) = tested else {
+        return refused(15, node, m);
+    };
+    Held::Truth { yes, left: m }
 }
 
 // How many members the value at `at` has, if it is a set.
@@ -202,23 +241,26 @@ fn eval_quant(
     top: usize,
     kind: usize,
     node: usize,
-    steps: u32,
-    budget: u32,
+    left: u32,
 ) -> Held
-    requires { ⌜ Visited (now table) (now env) (now s) top kind node steps budget × Sort quant kind ⌝ }
-    ensures { λ r. ⌜ EvaluatesP (now (table .entry)) (now (env .entry)) (now (s .entry)) top node steps budget (now (s .exit)) r ⌝ }
+    requires { ⌜ Visited (now table) (now env) (now s) top kind node left × Sort quant kind ⌝ }
+    ensures { λ r. ⌜ EvaluatesP (now (table .entry)) (now (env .entry)) (now (s .entry)) top node left (now (s .exit)) r ⌝ }
 {
     let a = table::node_field(table, node, 1);
-    match eval_expr(table, env, s, top, a, steps + 1, budget) {
-        Formed::Stopped(k, p, n) => Held::Refused(k, p, n),
-        Formed::Value(at, next, n) => match range_of(s, at) {
-            Range::Unlike => Held::Refused(15, node, n),
-            Range::Set(count) => {
-                let all = kind == 10;
-                each_member(table, env, s, next, all, node, at + 1, count, n, budget)
-            }
-        },
-    }
+    let first = eval_expr(table, env, s, top, a, left - 1);
+    let Formed::Value {
+        at,
+        end: next,
+        left: n,
+    } = first
+    else {
+        return refusal_of(first);
+    };
+    let range = range_of(s, at);
+    let Range::Set(count) = range else {
+        return refused(15, node, n);
+    };
+    each_member(table, env, s, next, kind == 10, node, at + 1, count, n)
 }
 
 // The body of a quantifier at each of `count` members from `from` on; the first that decides ends it.
@@ -231,32 +273,31 @@ fn each_member(
     node: usize,
     from: usize,
     count: u64,
-    steps: u32,
-    budget: u32,
+    left: u32,
 ) -> Held
-    requires { ⌜ EachReady (now table) (now env) (now s) top node from count steps budget 0 ⌝ }
-    ensures { λ r. ⌜ EvaluatesEach (now (table .entry)) (now (env .entry)) (now (s .entry)) top node from count steps budget (quantOf all) (now (s .exit)) r ⌝ }
+    requires { ⌜ EachReady (now table) (now env) (now s) top node from count 0 ⌝ }
+    ensures { λ r. ⌜ EvaluatesEach (now (table .entry)) (now (env .entry)) (now (s .entry)) top node from count left (quantOf all) (now (s .exit)) r ⌝ }
 {
     let x = table::node_field(table, node, 0);
     let body = table::node_field(table, node, 2);
     let mut inner = *env;
     let mut at = from;
-    let mut left = count;
-    let mut n = steps;
-    while left > 0 {
+    let mut more = count;
+    let mut n = left;
+    while more > 0 {
         inner[x] = at as u32;
-        let held = eval_pred(table, &inner, s, top, body, n, budget);
-        let Held::Truth(yes, m) = held else {
+        let held = eval_pred(table, &inner, s, top, body, n);
+        let Held::Truth { yes, left: m } = held else {
             return held;
         };
         if yes != all {
-            return Held::Truth(yes, m);
+            return Held::Truth { yes, left: m };
         }
         n = m;
         at = arena::end_of(s, at);
-        left -= 1;
+        more -= 1;
     }
-    Held::Truth(all, n)
+    Held::Truth { yes: all, left: n }
 }
 
 // The expression at a node.
@@ -266,25 +307,24 @@ fn eval_expr(
     s: &mut [u64],
     top: usize,
     node: usize,
-    steps: u32,
-    budget: u32,
+    left: u32,
 ) -> Formed
-    requires { ⌜ Ready (now table) (now env) (now s) top node steps budget × IsExpr (now table) node ⌝ }
-    ensures { λ r. ⌜ EvaluatesE (now (table .entry)) (now (env .entry)) (now (s .entry)) top node steps budget (now (s .exit)) r ⌝ }
+    requires { ⌜ Ready (now table) (now env) (now s) top node × IsExpr (now table) node ⌝ }
+    ensures { λ r. ⌜ EvaluatesE (now (table .entry)) (now (env .entry)) (now (s .entry)) top node left (now (s .exit)) r ⌝ }
 {
-    if steps == budget {
-        return Formed::Stopped(19, node, steps);
+    if left == 0 {
+        return stopped(19, node, left);
     }
     let kind = table::node_kind(table, node);
     match kind {
-        20 => eval_name(table, env, top, node, steps + 1),
-        25 => eval_bool(table, env, s, top, node, steps, budget),
-        27 | 33 | 35 | 36 | 38 | 43 => eval_one(table, env, s, top, kind, node, steps, budget),
-        28..=32 | 37 | 39..=41 => eval_two(table, env, s, top, kind, node, steps, budget),
-        34 => eval_select(table, env, s, top, node, steps, budget),
-        20..=43 => eval_leaf(table, s, top, kind, node, steps + 1),
+        20 => eval_name(table, env, top, node, left - 1),
+        25 => eval_bool(table, env, s, top, node, left),
+        27 | 33 | 35 | 36 | 38 | 43 => eval_one(table, env, s, top, kind, node, left),
+        28..=32 | 37 | 39..=41 => eval_two(table, env, s, top, kind, node, left),
+        34 => eval_select(table, env, s, top, node, left),
+        20..=43 => eval_leaf(table, s, top, kind, node, left - 1),
         // Never: no other kind is an expression.
-        _ => Formed::Stopped(6, node, steps),
+        _ => stopped(6, node, left),
     }
 }
 
@@ -295,31 +335,28 @@ fn wide(x: u32) -> usize
 }
 
 // 20: the value stays where it is.
-fn eval_name(table: &[u8], env: &[u32; 32], top: usize, node: usize, steps: u32) -> Formed
+fn eval_name(table: &[u8], env: &[u32; 32], top: usize, node: usize, left: u32) -> Formed
     requires { ⌜ NameReady (now table) (now env) node ⌝ }
-    ensures { λ r. ⌜ NameAt (now (table .entry)) (now (env .entry)) top node steps r ⌝ }
+    ensures { λ r. ⌜ NameAt (now (table .entry)) (now (env .entry)) top node left r ⌝ }
 {
     let x = table::node_field(table, node, 0);
-    Formed::Value(wide(env[x]), top, steps)
+    Formed::Value {
+        at: wide(env[x]),
+        end: top,
+        left,
+    }
 }
 
 // 21 to 24, 26 and 42
-fn eval_leaf(
-    table: &[u8],
-    s: &mut [u64],
-    top: usize,
-    kind: usize,
-    node: usize,
-    steps: u32,
-) -> Formed
+fn eval_leaf(table: &[u8], s: &mut [u64], top: usize, kind: usize, node: usize, left: u32) -> Formed
     requires { ⌜ LeafNode (now table) (now s) top kind node ⌝ }
-    ensures { λ r. ⌜ LeafFormed (now (table .entry)) (now (s .entry)) top kind node steps (now (s .exit)) r ⌝ }
+    ensures { λ r. ⌜ LeafFormed (now (table .entry)) (now (s .entry)) top kind node left (now (s .exit)) r ⌝ }
 {
     let a = table::node_field(table, node, 0);
     let b = table::node_field(table, node, 1);
     let size = table::size(table, a);
     let end = operations::leaf(s, kind, a as u64, b as u64, size as u64, top);
-    Formed::Value(top, end, steps)
+    Formed::Value { at: top, end, left }
 }
 
 // 25
@@ -329,19 +366,21 @@ fn eval_bool(
     s: &mut [u64],
     top: usize,
     node: usize,
-    steps: u32,
-    budget: u32,
+    left: u32,
 ) -> Formed
-    requires { ⌜ Visited (now table) (now env) (now s) top 25 node steps budget ⌝ }
-    ensures { λ r. ⌜ EvaluatesE (now (table .entry)) (now (env .entry)) (now (s .entry)) top node steps budget (now (s .exit)) r ⌝ }
+    requires { ⌜ Visited (now table) (now env) (now s) top 25 node left ⌝ }
+    ensures { λ r. ⌜ EvaluatesE (now (table .entry)) (now (env .entry)) (now (s .entry)) top node left (now (s .exit)) r ⌝ }
 {
     let a = table::node_field(table, node, 0);
-    match eval_pred(table, env, s, top, a, steps + 1, budget) {
-        Held::Refused(k, p, n) => Formed::Stopped(k, p, n),
-        Held::Truth(yes, n) => {
-            let end = products::put_cell(s, top, 8589934592 + yes as u64);
-            Formed::Value(top, end, n)
-        }
+    let held = eval_pred(table, env, s, top, a, left - 1);
+    let Held::Truth { yes, left: n } = held else {
+        return stop_of(held);
+    };
+    let end = products::put_cell(s, top, arena::TRUTH + yes as u64);
+    Formed::Value {
+        at: top,
+        end,
+        left: n,
     }
 }
 
@@ -353,19 +392,22 @@ fn settle(
     next: usize,
     top: usize,
     node: usize,
-    steps: u32,
-    budget: u32,
+    left: u32,
 ) -> Formed
-    requires { ⌜ SettleReady (now s) r mid next top steps budget ⌝ }
-    ensures { λ x. ⌜ Settles (now (s .entry)) r mid next top node steps budget (now (s .exit)) x ⌝ }
+    requires { ⌜ SettleReady (now s) r mid next top ⌝ }
+    ensures { λ x. ⌜ Settles (now (s .entry)) r mid next top node left (now (s .exit)) x ⌝ }
 {
     match r {
-        Outcome::Lacks(k) => Formed::Stopped(k, node, steps),
-        Outcome::Within(at) => Formed::Value(at, mid, steps),
+        Outcome::Lacks(k) => stopped(k, node, left),
+        Outcome::Within(at) => Formed::Value { at, end: mid, left },
         Outcome::Built(end) => {
             let n = end - next;
             arena::copy(s, next, n, top);
-            Formed::Value(top, top + n, steps)
+            Formed::Value {
+                at: top,
+                end: top + n,
+                left,
+            }
         }
     }
 }
@@ -378,19 +420,23 @@ fn eval_one(
     top: usize,
     kind: usize,
     node: usize,
-    steps: u32,
-    budget: u32,
+    left: u32,
 ) -> Formed
-    requires { ⌜ Visited (now table) (now env) (now s) top kind node steps budget × Sort one kind ⌝ }
-    ensures { λ r. ⌜ EvaluatesE (now (table .entry)) (now (env .entry)) (now (s .entry)) top node steps budget (now (s .exit)) r ⌝ }
+    requires { ⌜ Visited (now table) (now env) (now s) top kind node left × Sort one kind ⌝ }
+    ensures { λ r. ⌜ EvaluatesE (now (table .entry)) (now (env .entry)) (now (s .entry)) top node left (now (s .exit)) r ⌝ }
 {
     let a = table::node_field(table, node, 0);
-    let formed = eval_expr(table, env, s, top, a, steps + 1, budget);
-    let Formed::Value(at, next, n) = formed else {
-        return formed;
+    let first = eval_expr(table, env, s, top, a, left - 1);
+    let Formed::Value {
+        at,
+        end: next,
+        left: n,
+    } = first
+    else {
+        return first;
     };
     let r = operations::one(s, kind, at, next);
-    settle(s, r, next, next, top, node, n, budget)
+    settle(s, r, next, next, top, node, n)
 }
 
 // 28 to 32, 37 and 39 to 41
@@ -401,19 +447,33 @@ fn eval_two(
     top: usize,
     kind: usize,
     node: usize,
-    steps: u32,
-    budget: u32,
+    left: u32,
 ) -> Formed
-    requires { ⌜ Visited (now table) (now env) (now s) top kind node steps budget × Sort two kind ⌝ }
-    ensures { λ r. ⌜ EvaluatesE (now (table .entry)) (now (env .entry)) (now (s .entry)) top node steps budget (now (s .exit)) r ⌝ }
+    requires { ⌜ Visited (now table) (now env) (now s) top kind node left × Sort two kind ⌝ }
+    ensures { λ r. ⌜ EvaluatesE (now (table .entry)) (now (env .entry)) (now (s .entry)) top node left (now (s .exit)) r ⌝ }
 {
-    match eval_both(table, env, s, top, node, steps + 1, budget) {
-        Operands::Failed(k, p, n) => Formed::Stopped(k, p, n),
-        Operands::Both(a, mid, b, next, n) => {
-            let r = operations::two(s, kind, a, mid, b, next);
-            settle(s, r, mid, next, top, node, n, budget)
-        }
-    }
+    let a = table::node_field(table, node, 0);
+    let first = eval_expr(table, env, s, top, a, left - 1);
+    let Formed::Value {
+        at: x,
+        end: mid,
+        left: n,
+    } = first
+    else {
+        return first;
+    };
+    let b = table::node_field(table, node, 1);
+    let second = eval_expr(table, env, s, mid, b, n);
+    let Formed::Value {
+        at: y,
+        end: next,
+        left: m,
+    } = second
+    else {
+        return second;
+    };
+    let r = operations::two(s, kind, x, mid, y, next);
+    settle(s, r, mid, next, top, node, m)
 }
 
 // 34
@@ -423,26 +483,35 @@ fn eval_select(
     s: &mut [u64],
     top: usize,
     node: usize,
-    steps: u32,
-    budget: u32,
+    left: u32,
 ) -> Formed
-    requires { ⌜ Visited (now table) (now env) (now s) top 34 node steps budget ⌝ }
-    ensures { λ r. ⌜ EvaluatesE (now (table .entry)) (now (env .entry)) (now (s .entry)) top node steps budget (now (s .exit)) r ⌝ }
+    requires { ⌜ Visited (now table) (now env) (now s) top 34 node left ⌝ }
+    ensures { λ r. ⌜ EvaluatesE (now (table .entry)) (now (env .entry)) (now (s .entry)) top node left (now (s .exit)) r ⌝ }
 {
     let a = table::node_field(table, node, 1);
-    let formed = eval_expr(table, env, s, top, a, steps + 1, budget);
-    let Formed::Value(at, next, n) = formed else {
-        return formed;
+    let first = eval_expr(table, env, s, top, a, left - 1);
+    let Formed::Value {
+        at,
+        end: next,
+        left: n,
+    } = first
+    else {
+        return first;
     };
     let range = range_of(s, at);
     let Range::Set(count) = range else {
-        return Formed::Stopped(15, node, n);
+        return stopped(15, node, n);
     };
-    let chosen = each_chosen(table, env, s, next, node, at + 1, count, n, budget);
-    let Formed::Value(_, end, m) = chosen else {
+    let chosen = each_chosen(table, env, s, next, node, at + 1, count, n);
+    let Formed::Value {
+        at: _,
+        end,
+        left: m,
+    } = chosen
+    else {
         return chosen;
     };
-    settle(s, Outcome::Built(end), next, next, top, node, m, budget)
+    settle(s, Outcome::Built(end), next, next, top, node, m)
 }
 
 // Copies a member to `to` if it is chosen, and answers where what has been chosen ends.
@@ -467,36 +536,36 @@ fn each_chosen(
     node: usize,
     from: usize,
     count: u64,
-    steps: u32,
-    budget: u32,
+    left: u32,
 ) -> Formed
-    requires { ⌜ EachReady (now table) (now env) (now s) top node from count steps budget 256 ⌝ }
-    ensures { λ r. ⌜ EvaluatesChosen (now (table .entry)) (now (env .entry)) (now (s .entry)) top node from count steps budget (now (s .exit)) r ⌝ }
+    requires { ⌜ EachReady (now table) (now env) (now s) top node from count 256 ⌝ }
+    ensures { λ r. ⌜ EvaluatesChosen (now (table .entry)) (now (env .entry)) (now (s .entry)) top node from count left (now (s .exit)) r ⌝ }
 {
     let x = table::node_field(table, node, 0);
     let body = table::node_field(table, node, 2);
     let mut inner = *env;
     let mut at = from;
-    let mut left = count;
-    let mut n = steps;
+    let mut more = count;
+    let mut n = left;
     let mut to = top + 1;
     let mut chosen: u64 = 0;
-    while left > 0 {
+    while more > 0 {
         inner[x] = at as u32;
-        match eval_pred(table, &inner, s, to, body, n, budget) {
-            Held::Refused(k, p, m) => {
-                return Formed::Stopped(k, p, m);
-            }
-            Held::Truth(yes, m) => {
-                n = m;
-                let end = arena::end_of(s, at);
-                to = choose(s, at, end, yes, to);
-                chosen += yes as u64;
-                at = end;
-            }
-        }
-        left -= 1;
+        let held = eval_pred(table, &inner, s, to, body, n);
+        let Held::Truth { yes, left: m } = held else {
+            return stop_of(held);
+        };
+        n = m;
+        let end = arena::end_of(s, at);
+        to = choose(s, at, end, yes, to);
+        chosen += yes as u64;
+        at = end;
+        more -= 1;
     }
-    s[top] = 21474836480 + chosen;
-    Formed::Value(top, to, n)
+    s[top] = arena::SET + chosen;
+    Formed::Value {
+        at: top,
+        end: to,
+        left: n,
+    }
 }

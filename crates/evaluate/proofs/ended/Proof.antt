@@ -1,34 +1,39 @@
--- `ended`: what is held is what the run ends with.
-use Rattle.evaluate.proofs.ReportLaws.{decided-reports, refused-reports}
-use borrow.Author.Needs.{needs}
+-- `ended`: what is held is what the run ends with, and the visits made are what the budget has no more.
+use Rattle.evaluate.proofs.ReportLaws.{truth-within, refused-within, decided-reports, refused-reports}
 use Rattle.evaluate.proofs.ended.Statement.{statement}
 use Rattle.evaluate.proofs.ended.Tie as tie
 
 enum-known-held : tie.Need-enum-known-held
-enum-known-held c = search needs
+enum-known-held c = c .match .keys1
 
 truth-of-requires : tie.Need-truth-of-requires
-truth-of-requires c κs = search needs
+truth-of-requires c κs = tt
+
+sub-t11 : tie.Need-sub-t11
+sub-t11 c =
+    let h = c .before .before in
+    let v = h .before .before in
+    truth-within (v .args .budget) (h .held .given .1) (v .pre)
 
 enum-known-held-2 : tie.Need-enum-known-held-2
-enum-known-held-2 c = search needs
+enum-known-held-2 c = c .match .keys2
+
+sub-refused : tie.Need-sub-refused
+sub-refused c =
+    let h = c .before in
+    let v = h .before .before in
+    refused-within (v .args .budget) (h .held2 .given .1) (v .pre)
 
 refused-requires : tie.Need-refused-requires
-refused-requires c κs = search needs
+refused-requires c κs = tt
 
 returns : tie.Need-returns
-returns c = decided-reports (c .before .before .held .given .1) (c .truth-of .ensures)
+returns c = let h = c .before .before in decided-reports (h .before .before .args .budget) (h .held .given .1) (c .truth-of .ensures)
 
 returns-2 : tie.Need-returns-2
-returns-2 c = refused-reports (c .before .before .held2 .given .1) (c .refused .ensures)
+returns-2 c = let h = c .before .before in refused-reports (h .before .before .args .budget) (h .held2 .given .1) (c .refused .ensures)
 
 pub ended-spec : {M : Type 1} → statement M
 ended-spec =
     tie.close
-    (tie.spec
-    enum-known-held
-    truth-of-requires
-    enum-known-held-2
-    refused-requires
-    returns
-    returns-2)
+    (tie.spec enum-known-held truth-of-requires sub-t11 enum-known-held-2 sub-refused refused-requires returns returns-2)

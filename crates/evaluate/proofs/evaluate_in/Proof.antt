@@ -7,21 +7,25 @@ use native.Mathlib.Omega.{arith}
 use lib.ListN.{length}
 use Rattle.rules.specs.Tables.{tableOf}
 use Rattle.buffer.specs.Loaded.{Bound}
-use Rattle.evaluate.proofs.EntryLaws.{load-ready, lacking-reported, all-bound, absent-reported, root-ready, root-reported}
+use Rattle.evaluate.proofs.EntryLaws.{load-ready, lacking-reported, all-bound, absent-reported, root-ready, root-within, root-reported}
 use Rattle.evaluate.proofs.evaluate_in.Statement.{statement}
 use Rattle.evaluate.proofs.evaluate_in.Tie as tie
 
 abbrev lent : tie.After-load → tie.Start
-lent l = l .before .before .before .before .before
+lent l = let a = l .before .before in a .before .before .before
 
 abbrev found : tie.After-answer2 → tie.After-load
-found a = a .before .before .before .before .before
+found a = let e = a .before .before in e .before .before .before
 
 abbrev valued : tie.After-nodes → tie.After-answer2
 valued n = n .before .before
 
 abbrev loaded : tie.After-nodes → tie.After-load
 loaded n = found (valued n)
+
+-- Some node is there, and the root has been evaluated.
+abbrev filled : tie.After-eval-pred → tie.Else1
+filled p = p .before .before .before
 
 -- The arena keeps its length.
 kept : (l : tie.After-load) → length (l .load .last .1 .1 .0) ≡ length (lent l .args .s .now)
@@ -36,7 +40,7 @@ standing n =
     (loaded n .load .result .answer) (loaded n .load .ensures) (valued n .answer2 .given .1)
 
 load-requires : tie.Need-load-requires
-load-requires c κs = load-ready (c .before .before .before .before .pre)
+load-requires c κs = let a = c .before in load-ready (a .before .before .before .pre)
 
 enum-known-answer : tie.Need-enum-known-answer
 enum-known-answer c = c .match .keys1
@@ -73,27 +77,36 @@ eval-pred-requires c κs =
     (start .pre) (kept (loaded n)) entries
 
 ended-requires : tie.Need-ended-requires
-ended-requires c κs = tt
+ended-requires c κs =
+    let p = c .before .before in
+    let test = filled p in
+    let n = test .before in
+    let start = lent (loaded n) in
+    root-within (start .args .table .now) (standing n) (start .pre .needs .readable) (n .nodes .ensures) (test .if1 .left) (p .eval-pred .ensures)
 
 same-length-2 : tie.Need-same-length-2
-same-length-2 c = kept (c .before .before .before .before .before .before .before)
+same-length-2 c =
+    let a = c .before .before in
+    let e = a .before .before in
+    kept (e .before .before .before)
 
 returns-2 : tie.Need-returns-2
 returns-2 c =
     let a = c .before .before in
-    let l = a .before .before .before .before .before in
+    let e = a .before .before in
+    let l = e .before .before .before in
     let start = lent l in
-    lacking-reported (start .args .table .now) (start .args .values .now) (l .load .last .1 .1 .0) (l .load .result .at) (l .load .result .answer) (l .load .ensures)
-    (start .args .budget) (start .pre .needs .readable) (a .answer .given .1) (c .refused .ensures)
+    lacking-reported (start .args .table .now) (start .args .values .now) (l .load .last .1 .1 .0) (l .load .result .at) (l .load .result .answer)
+    (l .load .ensures) (start .args .budget) (start .pre .needs .readable) (a .answer .given .1) (c .refused .ensures)
 
 same-length-3 : tie.Need-same-length-3
 same-length-3 c =
-    let p = c .before .before .before in p .eval-pred .kept .1 .1 .0 ∙ kept (loaded (p .before .before .before .before))
+    let p = c .before .before .before in p .eval-pred .kept .1 .1 .0 ∙ kept (loaded (filled p .before))
 
 returns-3 : tie.Need-returns-3
 returns-3 c =
     let p = c .before .before .before in
-    let test = p .before .before .before in
+    let test = filled p in
     let n = test .before in
     let start = lent (loaded n) in
     root-reported (start .args .table .now) (standing n) (start .pre .needs .readable) (n .nodes .ensures) (test .if1 .left)

@@ -21,7 +21,7 @@ same-length : tie.Need-same-length
 same-length c = search needs
 
 returns-2 : tie.Need-returns-2
-returns-2 c = chooses-copy (not-false _ (c .before .before .before .before .if1 .left)) (c .before .before .copy .ensures)
+returns-2 c = let p = c .before .before in chooses-copy (not-false _ (p .before .before .if1 .left)) (p .copy .ensures)
 
 pub choose-spec : {M : Type 1} → statement M
 choose-spec = tie.close (tie.spec returns sub-n copy-requires add-result same-length returns-2)

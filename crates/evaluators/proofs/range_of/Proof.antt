@@ -15,7 +15,7 @@ mul-low : tie.Need-mul-low
 mul-low c = search needs
 
 shared-slice-read-low : tie.Need-shared-slice-read-low
-shared-slice-read-low c = some-inside (c .before .before .before .before .pre)
+shared-slice-read-low c = let i = c .before .before in some-inside (i .before .before .pre)
 
 low-requires : tie.Need-low-requires
 low-requires c κs = search needs

@@ -8,8 +8,6 @@ use Rattle.evaluators.proofs.each_member.Reads as each-member
 use Rattle.evaluators.proofs.each_member.Kinds as each-member-kinds
 use Rattle.evaluators.proofs.eval_bool.Reads as eval-bool
 use Rattle.evaluators.proofs.eval_bool.Kinds as eval-bool-kinds
-use Rattle.evaluators.proofs.eval_both.Reads as eval-both
-use Rattle.evaluators.proofs.eval_both.Kinds as eval-both-kinds
 use Rattle.evaluators.proofs.eval_expr.Reads as eval-expr
 use Rattle.evaluators.proofs.eval_expr.Kinds as eval-expr-kinds
 use Rattle.evaluators.proofs.eval_join.Reads as eval-join
@@ -37,9 +35,6 @@ abbrev pub μ-each-member : Measures 3 each-member-kinds.ps ℕ
 
 abbrev pub μ-eval-bool : Measures 3 eval-bool-kinds.ps ℕ
 μ-eval-bool κs a = 3 * a .1 .1 .1 .1 .0 + 1
-
-abbrev pub μ-eval-both : Measures 3 eval-both-kinds.ps ℕ
-μ-eval-both κs a = 3 * a .1 .1 .1 .1 .0
 
 abbrev pub μ-eval-expr : Measures 3 eval-expr-kinds.ps ℕ
 μ-eval-expr κs a = 3 * a .1 .1 .1 .1 .0 + 2
@@ -69,96 +64,73 @@ abbrev pub μ-eval-two : Measures 3 eval-two-kinds.ps ℕ
 μ-eval-two κs a = 3 * a .1 .1 .1 .1 .1 .0 + 1
 
 abbrev pub each-chosen-at : ℕ → In 3 each-chosen-kinds.ps
-each-chosen-at t =
-    and 3 each-chosen-kinds.ps (is 3 each-chosen-kinds.ps μ-each-chosen t) each-chosen.Pre
+each-chosen-at t = and 3 each-chosen-kinds.ps (is 3 each-chosen-kinds.ps μ-each-chosen t) each-chosen.Pre
 
 abbrev pub each-chosen-below : ℕ → In 3 each-chosen-kinds.ps
-each-chosen-below t =
-    and 3 each-chosen-kinds.ps (falls 3 each-chosen-kinds.ps _<_ μ-each-chosen t) each-chosen.Pre
+each-chosen-below t = and 3 each-chosen-kinds.ps (falls 3 each-chosen-kinds.ps _<_ μ-each-chosen t) each-chosen.Pre
 
 abbrev pub each-member-at : ℕ → In 3 each-member-kinds.ps
-each-member-at t =
-    and 3 each-member-kinds.ps (is 3 each-member-kinds.ps μ-each-member t) each-member.Pre
+each-member-at t = and 3 each-member-kinds.ps (is 3 each-member-kinds.ps μ-each-member t) each-member.Pre
 
 abbrev pub each-member-below : ℕ → In 3 each-member-kinds.ps
-each-member-below t =
-    and 3 each-member-kinds.ps (falls 3 each-member-kinds.ps _<_ μ-each-member t) each-member.Pre
+each-member-below t = and 3 each-member-kinds.ps (falls 3 each-member-kinds.ps _<_ μ-each-member t) each-member.Pre
 
 abbrev pub eval-bool-at : ℕ → In 3 eval-bool-kinds.ps
 eval-bool-at t = and 3 eval-bool-kinds.ps (is 3 eval-bool-kinds.ps μ-eval-bool t) eval-bool.Pre
 
 abbrev pub eval-bool-below : ℕ → In 3 eval-bool-kinds.ps
-eval-bool-below t =
-    and 3 eval-bool-kinds.ps (falls 3 eval-bool-kinds.ps _<_ μ-eval-bool t) eval-bool.Pre
-
-abbrev pub eval-both-at : ℕ → In 3 eval-both-kinds.ps
-eval-both-at t = and 3 eval-both-kinds.ps (is 3 eval-both-kinds.ps μ-eval-both t) eval-both.Pre
-
-abbrev pub eval-both-below : ℕ → In 3 eval-both-kinds.ps
-eval-both-below t =
-    and 3 eval-both-kinds.ps (falls 3 eval-both-kinds.ps _<_ μ-eval-both t) eval-both.Pre
+eval-bool-below t = and 3 eval-bool-kinds.ps (falls 3 eval-bool-kinds.ps _<_ μ-eval-bool t) eval-bool.Pre
 
 abbrev pub eval-expr-at : ℕ → In 3 eval-expr-kinds.ps
 eval-expr-at t = and 3 eval-expr-kinds.ps (is 3 eval-expr-kinds.ps μ-eval-expr t) eval-expr.Pre
 
 abbrev pub eval-expr-below : ℕ → In 3 eval-expr-kinds.ps
-eval-expr-below t =
-    and 3 eval-expr-kinds.ps (falls 3 eval-expr-kinds.ps _<_ μ-eval-expr t) eval-expr.Pre
+eval-expr-below t = and 3 eval-expr-kinds.ps (falls 3 eval-expr-kinds.ps _<_ μ-eval-expr t) eval-expr.Pre
 
 abbrev pub eval-join-at : ℕ → In 3 eval-join-kinds.ps
 eval-join-at t = and 3 eval-join-kinds.ps (is 3 eval-join-kinds.ps μ-eval-join t) eval-join.Pre
 
 abbrev pub eval-join-below : ℕ → In 3 eval-join-kinds.ps
-eval-join-below t =
-    and 3 eval-join-kinds.ps (falls 3 eval-join-kinds.ps _<_ μ-eval-join t) eval-join.Pre
+eval-join-below t = and 3 eval-join-kinds.ps (falls 3 eval-join-kinds.ps _<_ μ-eval-join t) eval-join.Pre
 
 abbrev pub eval-not-at : ℕ → In 3 eval-not-kinds.ps
 eval-not-at t = and 3 eval-not-kinds.ps (is 3 eval-not-kinds.ps μ-eval-not t) eval-not.Pre
 
 abbrev pub eval-not-below : ℕ → In 3 eval-not-kinds.ps
-eval-not-below t =
-    and 3 eval-not-kinds.ps (falls 3 eval-not-kinds.ps _<_ μ-eval-not t) eval-not.Pre
+eval-not-below t = and 3 eval-not-kinds.ps (falls 3 eval-not-kinds.ps _<_ μ-eval-not t) eval-not.Pre
 
 abbrev pub eval-one-at : ℕ → In 3 eval-one-kinds.ps
 eval-one-at t = and 3 eval-one-kinds.ps (is 3 eval-one-kinds.ps μ-eval-one t) eval-one.Pre
 
 abbrev pub eval-one-below : ℕ → In 3 eval-one-kinds.ps
-eval-one-below t =
-    and 3 eval-one-kinds.ps (falls 3 eval-one-kinds.ps _<_ μ-eval-one t) eval-one.Pre
+eval-one-below t = and 3 eval-one-kinds.ps (falls 3 eval-one-kinds.ps _<_ μ-eval-one t) eval-one.Pre
 
 abbrev pub eval-pred-at : ℕ → In 3 eval-pred-kinds.ps
 eval-pred-at t = and 3 eval-pred-kinds.ps (is 3 eval-pred-kinds.ps μ-eval-pred t) eval-pred.Pre
 
 abbrev pub eval-pred-below : ℕ → In 3 eval-pred-kinds.ps
-eval-pred-below t =
-    and 3 eval-pred-kinds.ps (falls 3 eval-pred-kinds.ps _<_ μ-eval-pred t) eval-pred.Pre
+eval-pred-below t = and 3 eval-pred-kinds.ps (falls 3 eval-pred-kinds.ps _<_ μ-eval-pred t) eval-pred.Pre
 
 abbrev pub eval-quant-at : ℕ → In 3 eval-quant-kinds.ps
-eval-quant-at t =
-    and 3 eval-quant-kinds.ps (is 3 eval-quant-kinds.ps μ-eval-quant t) eval-quant.Pre
+eval-quant-at t = and 3 eval-quant-kinds.ps (is 3 eval-quant-kinds.ps μ-eval-quant t) eval-quant.Pre
 
 abbrev pub eval-quant-below : ℕ → In 3 eval-quant-kinds.ps
-eval-quant-below t =
-    and 3 eval-quant-kinds.ps (falls 3 eval-quant-kinds.ps _<_ μ-eval-quant t) eval-quant.Pre
+eval-quant-below t = and 3 eval-quant-kinds.ps (falls 3 eval-quant-kinds.ps _<_ μ-eval-quant t) eval-quant.Pre
 
 abbrev pub eval-select-at : ℕ → In 3 eval-select-kinds.ps
-eval-select-at t =
-    and 3 eval-select-kinds.ps (is 3 eval-select-kinds.ps μ-eval-select t) eval-select.Pre
+eval-select-at t = and 3 eval-select-kinds.ps (is 3 eval-select-kinds.ps μ-eval-select t) eval-select.Pre
 
 abbrev pub eval-select-below : ℕ → In 3 eval-select-kinds.ps
-eval-select-below t =
-    and 3 eval-select-kinds.ps (falls 3 eval-select-kinds.ps _<_ μ-eval-select t) eval-select.Pre
+eval-select-below t = and 3 eval-select-kinds.ps (falls 3 eval-select-kinds.ps _<_ μ-eval-select t) eval-select.Pre
 
 abbrev pub eval-test-at : ℕ → In 3 eval-test-kinds.ps
 eval-test-at t = and 3 eval-test-kinds.ps (is 3 eval-test-kinds.ps μ-eval-test t) eval-test.Pre
 
 abbrev pub eval-test-below : ℕ → In 3 eval-test-kinds.ps
-eval-test-below t =
-    and 3 eval-test-kinds.ps (falls 3 eval-test-kinds.ps _<_ μ-eval-test t) eval-test.Pre
+eval-test-below t = and 3 eval-test-kinds.ps (falls 3 eval-test-kinds.ps _<_ μ-eval-test t) eval-test.Pre
 
 abbrev pub eval-two-at : ℕ → In 3 eval-two-kinds.ps
 eval-two-at t = and 3 eval-two-kinds.ps (is 3 eval-two-kinds.ps μ-eval-two t) eval-two.Pre
 
 abbrev pub eval-two-below : ℕ → In 3 eval-two-kinds.ps
-eval-two-below t =
-    and 3 eval-two-kinds.ps (falls 3 eval-two-kinds.ps _<_ μ-eval-two t) eval-two.Pre
+eval-two-below t = and 3 eval-two-kinds.ps (falls 3 eval-two-kinds.ps _<_ μ-eval-two t) eval-two.Pre

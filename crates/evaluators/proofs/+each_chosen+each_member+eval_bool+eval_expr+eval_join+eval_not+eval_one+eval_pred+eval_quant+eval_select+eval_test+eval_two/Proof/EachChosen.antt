@@ -1,0 +1,246 @@
+-- `each_chosen`: the body at one member after the other, each that it holds at copied behind those before, and the set's own cell last.
+-- Landmarks: what was lent, the words of the fields, the turn, and the answer of the body.
+use Prim.Native.Nat.{ℕ}
+use mathlib.Core.Path.{_∙_}
+use native.Mathlib.Omega.{arith}
+use lib.Dec.{lit<}
+use Rattle.evaluators.proofs.each_chosen.Reads as each-chosen
+use Rattle.evaluators.proofs.eval_pred.Reads as eval-pred
+use Rattle.evaluators.proofs.+each_chosen+each_member+eval_bool+eval_expr+eval_join+eval_not+eval_one+eval_pred+eval_quant+eval_select+eval_test+eval_two.Lts-each_chosen as each-chosen-lts
+use Rattle.evaluators.proofs.choose.Reads as choose-reads
+use Rattle.arena.proofs.end_of.Reads as end-of-reads
+use Rattle.table.proofs.node_field.Reads as node-field-reads
+use Rattle.evaluators.proofs.stop_of.Reads as stop-of-reads
+use Rattle.evaluators.proofs.+each_chosen+each_member+eval_bool+eval_expr+eval_join+eval_not+eval_one+eval_pred+eval_quant+eval_select+eval_test+eval_two.Proof.Base.{each-chosen-at, eval-pred-below}
+use Rattle.evaluators.proofs.SafeLaws.{one-less, binder-node, entry-below, entry-scaled, above-fits, top-scaled, top-inside, written-kept}
+use Rattle.evaluators.proofs.NodeLaws.{stop-is}
+use Rattle.evaluators.proofs.FormLaws.{chosen-as}
+use Rattle.evaluators.proofs.ChosenLaws.{Choosing, choosing-start, choosing-near, choosing-few, choosing-end, choosing-below, choosing-ready, choosing-refused, choosing-some, choosing-choose, choosing-next}
+
+abbrev each-chosen-Inv-loop : each-chosen-lts.InvT-loop
+each-chosen-Inv-loop table env s₀ top node from count left x body inner₀ at₀ more₀ n₀ to₀ chosen₀ s inner at more n to chosen =
+    Choosing table env s₀ top node from count left s inner at more n to chosen
+
+abbrev each-chosen-μ-loop : each-chosen-lts.MeasureT-loop
+each-chosen-μ-loop table env s₀ top node from count left x body inner₀ at₀ more₀ n₀ to₀ chosen₀ s inner at more n to chosen = more
+
+module _ (t : ℕ) where
+  abbrev claims : each-chosen-lts.Claims
+  claims = (
+    node-field-reads.Asked,
+    node-field-reads.Learnt,
+    eval-pred-below t,
+    eval-pred.Post,
+    stop-of-reads.Asked,
+    stop-of-reads.Learnt,
+    end-of-reads.Asked,
+    end-of-reads.Learnt,
+    choose-reads.Asked,
+    choose-reads.Learnt,
+  )
+
+  abbrev lent : each-chosen-lts.After-node-field claims (each-chosen-at t) each-chosen.Post each-chosen-Inv-loop each-chosen-μ-loop →
+      each-chosen-lts.Start claims (each-chosen-at t) each-chosen.Post each-chosen-Inv-loop each-chosen-μ-loop
+  lent c = c .before .before .before
+
+  abbrev words : each-chosen-lts.At-loop claims (each-chosen-at t) each-chosen.Post each-chosen-Inv-loop each-chosen-μ-loop →
+      each-chosen-lts.After-node-field2 claims (each-chosen-at t) each-chosen.Post each-chosen-Inv-loop each-chosen-μ-loop
+  words c = c .before .before
+
+  abbrev turn : each-chosen-lts.After-eval-pred claims (each-chosen-at t) each-chosen.Post each-chosen-Inv-loop each-chosen-μ-loop →
+      each-chosen-lts.In-loop claims (each-chosen-at t) each-chosen.Post each-chosen-Inv-loop each-chosen-μ-loop
+  turn c = c .before .before .before
+
+  abbrev ran : each-chosen-lts.After-slice-known2 claims (each-chosen-at t) each-chosen.Post each-chosen-Inv-loop each-chosen-μ-loop →
+      each-chosen-lts.After-eval-pred claims (each-chosen-at t) each-chosen.Post each-chosen-Inv-loop each-chosen-μ-loop
+  ran c = c .before .before
+
+  node-field-requires : each-chosen-lts.Need-node-field-requires claims (each-chosen-at t) each-chosen.Post each-chosen-Inv-loop each-chosen-μ-loop
+  node-field-requires c κs = (binder-node (c .before .before .pre .1), lit< tt)
+
+  node-field-requires-2 : each-chosen-lts.Need-node-field-requires-2 claims (each-chosen-at t) each-chosen.Post each-chosen-Inv-loop each-chosen-μ-loop
+  node-field-requires-2 c κs = (binder-node (lent c .pre .1), lit< tt)
+
+  add-to : each-chosen-lts.Need-add-to claims (each-chosen-at t) each-chosen.Post each-chosen-Inv-loop each-chosen-μ-loop
+  add-to c = above-fits (lent (c .before .before) .pre .1)
+
+  loop-holds : each-chosen-lts.Need-loop-holds claims (each-chosen-at t) each-chosen.Post each-chosen-Inv-loop each-chosen-μ-loop
+  loop-holds c = choosing-start (lent (c .before .before) .pre .1)
+
+  cast-inner : each-chosen-lts.Need-cast-inner claims (each-chosen-at t) each-chosen.Post each-chosen-Inv-loop each-chosen-μ-loop
+  cast-inner c =
+      let w = c in
+      let l = w .before in
+      let g = words l in
+      let f = g .before in
+      let v = lent f in
+      omega (arith, choosing-below (v .pre .1) (l .loop .inv) (omega (arith, w .loop-test .taken)), v .pre .1 .space, v .pre .1 .ready .small)
+
+  mul-inner : each-chosen-lts.Need-mul-inner claims (each-chosen-at t) each-chosen.Post each-chosen-Inv-loop each-chosen-μ-loop
+  mul-inner c = let f = words (c .before) .before in entry-scaled (f .node-field .ensures) (lent f .pre .1 .name)
+
+  array-write-inner : each-chosen-lts.Need-array-write-inner claims (each-chosen-at t) each-chosen.Post each-chosen-Inv-loop each-chosen-μ-loop
+  array-write-inner c = let f = words (c .before) .before in entry-below (f .node-field .ensures) (lent f .pre .1 .name)
+
+  eval-pred-requires : each-chosen-lts.Need-eval-pred-requires claims (each-chosen-at t) each-chosen.Post each-chosen-Inv-loop each-chosen-μ-loop
+  eval-pred-requires c κs =
+      let w = c .before .before in
+      let l = w .before in
+      let g = words l in
+      let f = g .before in
+      let v = lent f in (
+        omega (arith, v .pre .0, v .pre .1 .deeper, g .node-field2 .ensures),
+        choosing-ready (v .pre .1) (l .loop .inv)
+            (omega (arith, w .loop-test .taken)) (f .node-field .ensures) (g .node-field2 .ensures),
+      )
+
+  enum-known-held : each-chosen-lts.Need-enum-known-held claims (each-chosen-at t) each-chosen.Post each-chosen-Inv-loop each-chosen-μ-loop
+  enum-known-held c = c .match .keys1
+
+  enum-told : each-chosen-lts.Need-enum-told claims (each-chosen-at t) each-chosen.Post each-chosen-Inv-loop each-chosen-μ-loop
+  enum-told c = c .match .keys2
+
+  stop-of-requires : each-chosen-lts.Need-stop-of-requires claims (each-chosen-at t) each-chosen.Post each-chosen-Inv-loop each-chosen-μ-loop
+  stop-of-requires c κs = tt
+
+  same-length : each-chosen-lts.Need-same-length claims (each-chosen-at t) each-chosen.Post each-chosen-Inv-loop each-chosen-μ-loop
+  same-length c =
+      let k = c .before in
+      let p = ran (k .before .before) in
+      p .eval-pred .kept .1 .1 .0 ∙ turn p .before .loop .inv .frame .kept
+
+  returns : each-chosen-lts.Need-returns claims (each-chosen-at t) each-chosen.Post each-chosen-Inv-loop each-chosen-μ-loop
+  returns c =
+      let k = c .before in
+      let p = ran (k .before .before) in
+      let w = turn p in
+      let l = w .before in
+      let g = words l in
+      let f = g .before in
+      let v = lent f in
+      chosen-as (stop-is (k .enum-told .given .1) (c .stop-of .ensures))
+      (choosing-refused (v .pre .1) (l .loop .inv) (omega (arith, w .loop-test .taken)) (f .node-field .ensures) (g .node-field2 .ensures)
+      (p .eval-pred .ensures) (k .enum-told .given .1))
+
+  end-of-requires : each-chosen-lts.Need-end-of-requires claims (each-chosen-at t) each-chosen.Post each-chosen-Inv-loop each-chosen-μ-loop
+  end-of-requires c κs =
+      let h = c .before .before in
+      let p = ran (h .before .before) in
+      let w = turn p in
+      let l = w .before in
+      let g = words l in
+      let f = g .before in
+      let v = lent f in
+      choosing-some (v .pre .1) (l .loop .inv) (omega (arith, w .loop-test .taken)) (f .node-field .ensures) (g .node-field2 .ensures)
+      (p .eval-pred .ensures)
+
+  choose-requires : each-chosen-lts.Need-choose-requires claims (each-chosen-at t) each-chosen.Post each-chosen-Inv-loop each-chosen-μ-loop
+  choose-requires c κs =
+      let o = c .before in
+      let h = o .before .before .before in
+      let p = ran (h .before .before) in
+      let w = turn p in
+      let l = w .before in
+      let g = words l in
+      let f = g .before in
+      let v = lent f in
+      choosing-choose (v .pre .1) (l .loop .inv) (omega (arith, w .loop-test .taken)) (f .node-field .ensures) (g .node-field2 .ensures)
+      (p .eval-pred .ensures) (o .end-of .ensures)
+
+  cast-chosen : each-chosen-lts.Need-cast-chosen claims (each-chosen-at t) each-chosen.Post each-chosen-Inv-loop each-chosen-μ-loop
+  cast-chosen c = tt
+
+  add-chosen : each-chosen-lts.Need-add-chosen claims (each-chosen-at t) each-chosen.Post each-chosen-Inv-loop each-chosen-μ-loop
+  add-chosen c =
+      let q = c .before .before in
+      let o = q .before .before in
+      let h = o .before .before .before in
+      let p = ran (h .before .before) in
+      let w = turn p in
+      let l = w .before in
+      let g = words l in
+      let f = g .before in
+      let v = lent f in
+      record { fits = choosing-few (v .pre .1) (l .loop .inv) (h .held .given .0 .0) }
+
+  sub-more : each-chosen-lts.Need-sub-more claims (each-chosen-at t) each-chosen.Post each-chosen-Inv-loop each-chosen-μ-loop
+  sub-more c =
+      let q = c .before .before in
+      let o = q .before .before in
+      let h = o .before .before .before in
+      let p = ran (h .before .before) in
+      let w = turn p in
+      w .loop-test .taken
+
+  loop-less : each-chosen-lts.Need-loop-less claims (each-chosen-at t) each-chosen.Post each-chosen-Inv-loop each-chosen-μ-loop
+  loop-less c =
+      let q = c .before .before in
+      let o = q .before .before in
+      let h = o .before .before .before in
+      let p = ran (h .before .before) in
+      let w = turn p in
+      one-less (w .loop-test .taken)
+
+  loop-again : each-chosen-lts.Need-loop-again claims (each-chosen-at t) each-chosen.Post each-chosen-Inv-loop each-chosen-μ-loop
+  loop-again c =
+      let q = c .before .before in
+      let o = q .before .before in
+      let h = o .before .before .before in
+      let p = ran (h .before .before) in
+      let w = turn p in
+      let l = w .before in
+      let g = words l in
+      let f = g .before in
+      let v = lent f in
+      choosing-next (v .pre .1) (l .loop .inv) (omega (arith, w .loop-test .taken)) (f .node-field .ensures) (g .node-field2 .ensures)
+      (p .eval-pred .ensures) (o .end-of .ensures)
+      (h .held .given .1) (q .choose .ensures)
+
+  add-s : each-chosen-lts.Need-add-s claims (each-chosen-at t) each-chosen.Post each-chosen-Inv-loop each-chosen-μ-loop
+  add-s c = let l = c .before in let v = lent (words l .before) in omega (arith, choosing-near (v .pre .1) (l .loop .inv) .2)
+
+  mul-s : each-chosen-lts.Need-mul-s claims (each-chosen-at t) each-chosen.Post each-chosen-Inv-loop each-chosen-μ-loop
+  mul-s c = let l = c .before in let v = lent (words l .before) in top-scaled (v .pre .1)
+
+  slice-write-s : each-chosen-lts.Need-slice-write-s claims (each-chosen-at t) each-chosen.Post each-chosen-Inv-loop each-chosen-μ-loop
+  slice-write-s c = let l = c .before in let v = lent (words l .before) in top-inside (v .pre .1) (l .loop .inv .frame)
+
+  same-length-2 : each-chosen-lts.Need-same-length-2 claims (each-chosen-at t) each-chosen.Post each-chosen-Inv-loop each-chosen-μ-loop
+  same-length-2 c = written-kept _ (c .before .loop .inv .frame)
+
+  returns-2 : each-chosen-lts.Need-returns-2 claims (each-chosen-at t) each-chosen.Post each-chosen-Inv-loop each-chosen-μ-loop
+  returns-2 c = let l = c .before in let v = lent (words l .before) in choosing-end (v .pre .1) (l .loop .inv) (omega (arith, c .loop-test .left))
+
+  pub each-chosen-closed : {M : Type 1} → each-chosen-lts.Closed claims (each-chosen-at t) each-chosen.Post M
+  each-chosen-closed =
+      each-chosen-lts.spec
+      claims
+      (each-chosen-at t)
+      each-chosen.Post
+      each-chosen-Inv-loop
+      each-chosen-μ-loop
+      node-field-requires
+      node-field-requires-2
+      add-to
+      loop-holds
+      cast-inner
+      mul-inner
+      array-write-inner
+      eval-pred-requires
+      enum-known-held
+      enum-told
+      stop-of-requires
+      same-length
+      returns
+      end-of-requires
+      choose-requires
+      cast-chosen
+      add-chosen
+      sub-more
+      loop-less
+      loop-again
+      add-s
+      mul-s
+      slice-write-s
+      same-length-2
+      returns-2

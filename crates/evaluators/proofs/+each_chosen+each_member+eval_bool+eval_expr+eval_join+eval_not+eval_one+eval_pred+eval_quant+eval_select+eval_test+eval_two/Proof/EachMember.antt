@@ -1,0 +1,187 @@
+-- `each_member`: the body at one member after the other, until one decides. Landmarks: what was lent, the words of the fields, the turn, and
+-- the answer of the body.
+use Prim.Native.Nat.{ℕ}
+use mathlib.Core.Path.{_∙_}
+use native.Mathlib.Omega.{arith}
+use lib.Dec.{lit<}
+use Rattle.evaluators.proofs.each_member.Reads as each-member
+use Rattle.evaluators.proofs.eval_pred.Reads as eval-pred
+use Rattle.evaluators.proofs.+each_chosen+each_member+eval_bool+eval_expr+eval_join+eval_not+eval_one+eval_pred+eval_quant+eval_select+eval_test+eval_two.Lts-each_member as each-member-lts
+use Rattle.arena.proofs.end_of.Reads as end-of-reads
+use Rattle.table.proofs.node_field.Reads as node-field-reads
+use Rattle.evaluators.proofs.+each_chosen+each_member+eval_bool+eval_expr+eval_join+eval_not+eval_one+eval_pred+eval_quant+eval_select+eval_test+eval_two.Proof.Base.{each-member-at, eval-pred-below}
+use Rattle.evaluators.proofs.SafeLaws.{one-less, binder-node, entry-below, entry-scaled}
+use Rattle.evaluators.proofs.QuantLaws.{differ, agree, Turning, turning-start, member-low, member-stands, body-ready, member-refused, member-decides, turning-on, members-done}
+
+abbrev each-member-Inv-loop : each-member-lts.InvT-loop
+each-member-Inv-loop table env s₀ top all node from count left x body inner₀ at₀ more₀ n₀ s inner at more n =
+    Turning table env s₀ top all node from count left x s inner at more n
+
+abbrev each-member-μ-loop : each-member-lts.MeasureT-loop
+each-member-μ-loop table env s₀ top all node from count left x body inner₀ at₀ more₀ n₀ s inner at more n = more
+
+module _ (t : ℕ) where
+  abbrev claims : each-member-lts.Claims
+  claims = (node-field-reads.Asked, node-field-reads.Learnt, eval-pred-below t, eval-pred.Post, end-of-reads.Asked, end-of-reads.Learnt)
+
+  abbrev lent : each-member-lts.After-node-field claims (each-member-at t) each-member.Post each-member-Inv-loop each-member-μ-loop →
+      each-member-lts.Start claims (each-member-at t) each-member.Post each-member-Inv-loop each-member-μ-loop
+  lent c = c .before .before .before
+
+  abbrev words : each-member-lts.At-loop claims (each-member-at t) each-member.Post each-member-Inv-loop each-member-μ-loop →
+      each-member-lts.After-node-field2 claims (each-member-at t) each-member.Post each-member-Inv-loop each-member-μ-loop
+  words c = c .before .before
+
+  abbrev turn : each-member-lts.After-eval-pred claims (each-member-at t) each-member.Post each-member-Inv-loop each-member-μ-loop →
+      each-member-lts.In-loop claims (each-member-at t) each-member.Post each-member-Inv-loop each-member-μ-loop
+  turn c = c .before .before .before
+
+  abbrev ran : each-member-lts.After-slice-known2 claims (each-member-at t) each-member.Post each-member-Inv-loop each-member-μ-loop →
+      each-member-lts.After-eval-pred claims (each-member-at t) each-member.Post each-member-Inv-loop each-member-μ-loop
+  ran c = c .before .before
+
+  node-field-requires : each-member-lts.Need-node-field-requires claims (each-member-at t) each-member.Post each-member-Inv-loop each-member-μ-loop
+  node-field-requires c κs = (binder-node (c .before .before .pre .1), lit< tt)
+
+  node-field-requires-2 : each-member-lts.Need-node-field-requires-2 claims (each-member-at t) each-member.Post each-member-Inv-loop each-member-μ-loop
+  node-field-requires-2 c κs = (binder-node (lent c .pre .1), lit< tt)
+
+  loop-holds : each-member-lts.Need-loop-holds claims (each-member-at t) each-member.Post each-member-Inv-loop each-member-μ-loop
+  loop-holds c = turning-start _ _ (lent (c .before .before) .pre .1)
+
+  cast-inner : each-member-lts.Need-cast-inner claims (each-member-at t) each-member.Post each-member-Inv-loop each-member-μ-loop
+  cast-inner c =
+      let w = c in
+      let l = w .before in
+      let g = words l in
+      let f = g .before in
+      let v = lent f in
+      record { fits = member-low (v .pre .1) (l .loop .inv) (omega (arith, w .loop-test .taken)) }
+
+  mul-inner : each-member-lts.Need-mul-inner claims (each-member-at t) each-member.Post each-member-Inv-loop each-member-μ-loop
+  mul-inner c = let f = words (c .before) .before in entry-scaled (f .node-field .ensures) (lent f .pre .1 .name)
+
+  array-write-inner : each-member-lts.Need-array-write-inner claims (each-member-at t) each-member.Post each-member-Inv-loop each-member-μ-loop
+  array-write-inner c = let f = words (c .before) .before in entry-below (f .node-field .ensures) (lent f .pre .1 .name)
+
+  eval-pred-requires : each-member-lts.Need-eval-pred-requires claims (each-member-at t) each-member.Post each-member-Inv-loop each-member-μ-loop
+  eval-pred-requires c κs =
+      let w = c .before .before in
+      let l = w .before in
+      let g = words l in
+      let f = g .before in
+      let v = lent f in (
+        omega (arith, v .pre .0, v .pre .1 .deeper, g .node-field2 .ensures),
+        body-ready (v .pre .1) (l .loop .inv) (omega (arith, w .loop-test .taken))
+            (f .node-field .ensures) (g .node-field2 .ensures),
+      )
+
+  enum-known-held : each-member-lts.Need-enum-known-held claims (each-member-at t) each-member.Post each-member-Inv-loop each-member-μ-loop
+  enum-known-held c = c .match .keys1
+
+  enum-told : each-member-lts.Need-enum-told claims (each-member-at t) each-member.Post each-member-Inv-loop each-member-μ-loop
+  enum-told c = c .match .keys2
+
+  same-length : each-member-lts.Need-same-length claims (each-member-at t) each-member.Post each-member-Inv-loop each-member-μ-loop
+  same-length c = let p = ran (c .before .before) in p .eval-pred .kept .1 .1 .0 ∙ turn p .before .loop .inv .frame .kept
+
+  returns : each-member-lts.Need-returns claims (each-member-at t) each-member.Post each-member-Inv-loop each-member-μ-loop
+  returns c =
+      let p = ran (c .before .before) in
+      let w = turn p in
+      let l = w .before in
+      let g = words l in
+      let f = g .before in
+      let v = lent f in
+      member-refused (v .pre .1) (l .loop .inv) (omega (arith, w .loop-test .taken)) (f .node-field .ensures) (g .node-field2 .ensures)
+      (p .eval-pred .ensures) (c .enum-told .given .1)
+
+  same-length-2 : each-member-lts.Need-same-length-2 claims (each-member-at t) each-member.Post each-member-Inv-loop each-member-μ-loop
+  same-length-2 c =
+      let h = c .before .before in
+      let p = ran (h .before .before) in
+      p .eval-pred .kept .1 .1 .0 ∙ turn p .before .loop .inv .frame .kept
+
+  returns-2 : each-member-lts.Need-returns-2 claims (each-member-at t) each-member.Post each-member-Inv-loop each-member-μ-loop
+  returns-2 c =
+      let h = c .before .before in
+      let p = ran (h .before .before) in
+      let w = turn p in
+      let l = w .before in
+      let g = words l in
+      let f = g .before in
+      let v = lent f in
+      member-decides (v .pre .1) (l .loop .inv) (omega (arith, w .loop-test .taken)) (f .node-field .ensures) (g .node-field2 .ensures)
+      (p .eval-pred .ensures) _ _
+      (h .held .given .1) (differ _ _ (c .if1 .taken))
+
+  end-of-requires : each-member-lts.Need-end-of-requires claims (each-member-at t) each-member.Post each-member-Inv-loop each-member-μ-loop
+  end-of-requires c κs =
+      let h = c .before .before .before in
+      let p = ran (h .before .before) in
+      let w = turn p in
+      let l = w .before in
+      let g = words l in
+      let f = g .before in
+      let v = lent f in
+      member-stands (v .pre .1) (l .loop .inv) (omega (arith, w .loop-test .taken)) _ (p .eval-pred .ensures .frame)
+
+  sub-more : each-member-lts.Need-sub-more claims (each-member-at t) each-member.Post each-member-Inv-loop each-member-μ-loop
+  sub-more c =
+      let i = c .before .before in
+      let h = i .before .before in
+      turn (ran (h .before .before)) .loop-test .taken
+
+  loop-less : each-member-lts.Need-loop-less claims (each-member-at t) each-member.Post each-member-Inv-loop each-member-μ-loop
+  loop-less c =
+      let i = c .before .before in
+      let h = i .before .before in
+      one-less (turn (ran (h .before .before)) .loop-test .taken)
+
+  loop-again : each-member-lts.Need-loop-again claims (each-member-at t) each-member.Post each-member-Inv-loop each-member-μ-loop
+  loop-again c =
+      let i = c .before .before in
+      let h = i .before .before in
+      let p = ran (h .before .before) in
+      let w = turn p in
+      let l = w .before in
+      let g = words l in
+      let f = g .before in
+      let v = lent f in
+      turning-on (v .pre .1) (l .loop .inv) (omega (arith, w .loop-test .taken)) (f .node-field .ensures) (g .node-field2 .ensures)
+      (p .eval-pred .ensures) _ _ _
+      (h .held .given .1) (agree _ _ (i .if1 .left)) (c .end-of .ensures)
+
+  same-length-3 : each-member-lts.Need-same-length-3 claims (each-member-at t) each-member.Post each-member-Inv-loop each-member-μ-loop
+  same-length-3 c = c .before .loop .inv .frame .kept
+
+  returns-3 : each-member-lts.Need-returns-3 claims (each-member-at t) each-member.Post each-member-Inv-loop each-member-μ-loop
+  returns-3 c = members-done (c .before .loop .inv) (omega (arith, c .loop-test .left))
+
+  pub each-member-closed : {M : Type 1} → each-member-lts.Closed claims (each-member-at t) each-member.Post M
+  each-member-closed =
+      each-member-lts.spec
+      claims
+      (each-member-at t)
+      each-member.Post
+      each-member-Inv-loop
+      each-member-μ-loop
+      node-field-requires
+      node-field-requires-2
+      loop-holds
+      cast-inner
+      mul-inner
+      array-write-inner
+      eval-pred-requires
+      enum-known-held
+      enum-told
+      same-length
+      returns
+      same-length-2
+      returns-2
+      end-of-requires
+      sub-more
+      loop-less
+      loop-again
+      same-length-3
+      returns-3

@@ -1,0 +1,116 @@
+-- `eval_bool`: the condition, and then the cell of its truth. Landmarks: what was lent, the word of the field, and the answer for the
+-- condition.
+use Prim.Native.Nat.{ℕ}
+use mathlib.Core.Path.{refl, _∙_}
+use native.Mathlib.Omega.{arith}
+use lib.Dec.{lit<}
+use Rattle.evaluators.proofs.eval_bool.Reads as eval-bool
+use Rattle.evaluators.proofs.eval_pred.Reads as eval-pred
+use Rattle.evaluators.proofs.+each_chosen+each_member+eval_bool+eval_expr+eval_join+eval_not+eval_one+eval_pred+eval_quant+eval_select+eval_test+eval_two.Lts-eval_bool as eval-bool-lts
+use Rattle.table.proofs.node_field.Reads as node-field-reads
+use Rattle.products.proofs.put_cell.Reads as put-cell-reads
+use Rattle.evaluators.proofs.stop_of.Reads as stop-of-reads
+use Rattle.evaluators.proofs.+each_chosen+each_member+eval_bool+eval_expr+eval_join+eval_not+eval_one+eval_pred+eval_quant+eval_select+eval_test+eval_two.Proof.Base.{eval-bool-at, eval-pred-below}
+use Rattle.evaluators.proofs.SafeLaws.{ready-node, cell-room}
+use Rattle.evaluators.proofs.NodeLaws.{held-as, formed-as, stop-is}
+use Rattle.evaluators.proofs.FormLaws.{byte-small, bool-child, bool-begins, bool-fails, bool-evaluates}
+
+module _ (t : ℕ) where
+  abbrev claims : eval-bool-lts.Claims
+  claims = (
+    node-field-reads.Asked,
+    node-field-reads.Learnt,
+    eval-pred-below t,
+    eval-pred.Post,
+    stop-of-reads.Asked,
+    stop-of-reads.Learnt,
+    put-cell-reads.Asked,
+    put-cell-reads.Learnt,
+  )
+
+  abbrev lent : eval-bool-lts.After-node-field claims (eval-bool-at t) eval-bool.Post → eval-bool-lts.Start claims (eval-bool-at t) eval-bool.Post
+  lent c = c .before .before .before
+
+  abbrev word : eval-bool-lts.After-eval-pred claims (eval-bool-at t) eval-bool.Post → eval-bool-lts.After-node-field claims (eval-bool-at t) eval-bool.Post
+  word c = c .before .before
+
+  abbrev ran : eval-bool-lts.After-slice-known2 claims (eval-bool-at t) eval-bool.Post → eval-bool-lts.After-eval-pred claims (eval-bool-at t) eval-bool.Post
+  ran c = c .before .before
+
+  node-field-requires : eval-bool-lts.Need-node-field-requires claims (eval-bool-at t) eval-bool.Post
+  node-field-requires c κs = (ready-node (c .before .before .pre .1 .ready), lit< tt)
+
+  sub-eval-pred : eval-bool-lts.Need-sub-eval-pred claims (eval-bool-at t) eval-bool.Post
+  sub-eval-pred c = omega (arith, lent (c .before) .pre .1 .unspent)
+
+  eval-pred-requires : eval-bool-lts.Need-eval-pred-requires claims (eval-bool-at t) eval-bool.Post
+  eval-pred-requires c κs =
+      let f = c .before in
+      let v = lent f in
+      (omega (arith, v .pre .0, bool-child (v .pre .1) (f .node-field .ensures) .below), bool-begins (v .pre .1) (f .node-field .ensures))
+
+  enum-known-held : eval-bool-lts.Need-enum-known-held claims (eval-bool-at t) eval-bool.Post
+  enum-known-held c = c .match .keys1
+
+  enum-told : eval-bool-lts.Need-enum-told claims (eval-bool-at t) eval-bool.Post
+  enum-told c = c .match .keys2
+
+  stop-of-requires : eval-bool-lts.Need-stop-of-requires claims (eval-bool-at t) eval-bool.Post
+  stop-of-requires c κs = tt
+
+  same-length : eval-bool-lts.Need-same-length claims (eval-bool-at t) eval-bool.Post
+  same-length c = let k = c .before in ran (k .before .before) .eval-pred .kept .1 .1 .0
+
+  returns : eval-bool-lts.Need-returns claims (eval-bool-at t) eval-bool.Post
+  returns c =
+      let k = c .before in
+      let e = ran (k .before .before) in
+      let f = word e in
+      let q = k .enum-told .given .1 in
+      formed-as refl (stop-is q (c .stop-of .ensures)) (bool-fails (lent f .pre .1) (f .node-field .ensures) (held-as refl q (e .eval-pred .ensures)))
+
+  cast-put-cell : eval-bool-lts.Need-cast-put-cell claims (eval-bool-at t) eval-bool.Post
+  cast-put-cell c = tt
+
+  add-put-cell : eval-bool-lts.Need-add-put-cell claims (eval-bool-at t) eval-bool.Post
+  add-put-cell c = omega (arith, byte-small (c .before .before .held .given .0 .0))
+
+  put-cell-requires : eval-bool-lts.Need-put-cell-requires claims (eval-bool-at t) eval-bool.Post
+  put-cell-requires c κs =
+      let m = c .before .before in
+      let e = ran (m .before .before) in
+      cell-room (lent (word e) .pre .1 .ready) (e .eval-pred .ensures .frame)
+
+  same-length-2 : eval-bool-lts.Need-same-length-2 claims (eval-bool-at t) eval-bool.Post
+  same-length-2 c =
+      let p = c .before .before in
+      let m = p .before .before .before in
+      p .put-cell .kept .0 ∙ ran (m .before .before) .eval-pred .kept .1 .1 .0
+
+  returns-2 : eval-bool-lts.Need-returns-2 claims (eval-bool-at t) eval-bool.Post
+  returns-2 c =
+      let p = c .before .before in
+      let m = p .before .before .before in
+      let e = ran (m .before .before) in
+      let f = word e in
+      bool-evaluates (lent f .pre .1) (f .node-field .ensures) (held-as refl (m .held .given .1) (e .eval-pred .ensures)) (p .put-cell .ensures)
+
+  pub eval-bool-closed : {M : Type 1} → eval-bool-lts.Closed claims (eval-bool-at t) eval-bool.Post M
+  eval-bool-closed =
+      eval-bool-lts.spec
+      claims
+      (eval-bool-at t)
+      eval-bool.Post
+      node-field-requires
+      sub-eval-pred
+      eval-pred-requires
+      enum-known-held
+      enum-told
+      stop-of-requires
+      same-length
+      returns
+      cast-put-cell
+      add-put-cell
+      put-cell-requires
+      same-length-2
+      returns-2

@@ -1,0 +1,189 @@
+-- `eval_join`: the first operand, and where it does not decide the second. Landmarks: what was lent, the words of the fields, the answers
+-- for the operands, and whether the first decides.
+use Prim.Native.Nat.{ℕ}
+use native.Mathlib.Omega.{arith}
+use mathlib.Core.Path.{_∙_}
+use lib.Dec.{lit<}
+use Rattle.evaluators.proofs.eval_join.Reads as eval-join
+use Rattle.evaluators.proofs.eval_pred.Reads as eval-pred
+use Rattle.evaluators.proofs.+each_chosen+each_member+eval_bool+eval_expr+eval_join+eval_not+eval_one+eval_pred+eval_quant+eval_select+eval_test+eval_two.Lts-eval_join as eval-join-lts
+use Rattle.evaluators.proofs.decides.Reads as decides-reads
+use Rattle.evaluators.proofs.joined.Reads as joined-reads
+use Rattle.table.proofs.node_field.Reads as node-field-reads
+use Rattle.evaluators.proofs.+each_chosen+each_member+eval_bool+eval_expr+eval_join+eval_not+eval_one+eval_pred+eval_quant+eval_select+eval_test+eval_two.Proof.Base.{eval-join-at, eval-pred-below}
+use Rattle.evaluators.proofs.SafeLaws.{ready-node}
+use Rattle.evaluators.proofs.JoinLaws.{join-child, join-begins, join-stays, join-short, join-next, join-ready, join-stays-2, join-both}
+
+module _ (t : ℕ) where
+  abbrev claims : eval-join-lts.Claims
+  claims = (
+    node-field-reads.Asked,
+    node-field-reads.Learnt,
+    eval-pred-below t,
+    eval-pred.Post,
+    decides-reads.Asked,
+    decides-reads.Learnt,
+    joined-reads.Asked,
+    joined-reads.Learnt,
+  )
+
+  abbrev lent : eval-join-lts.After-node-field claims (eval-join-at t) eval-join.Post → eval-join-lts.Start claims (eval-join-at t) eval-join.Post
+  lent c = c .before .before .before
+
+  abbrev word : eval-join-lts.After-eval-pred claims (eval-join-at t) eval-join.Post → eval-join-lts.After-node-field claims (eval-join-at t) eval-join.Post
+  word c = c .before .before
+
+  abbrev ran : eval-join-lts.After-slice-known2 claims (eval-join-at t) eval-join.Post → eval-join-lts.After-eval-pred claims (eval-join-at t) eval-join.Post
+  ran c = c .before .before
+
+  abbrev held : eval-join-lts.After-decides claims (eval-join-at t) eval-join.Post → eval-join-lts.After-first claims (eval-join-at t) eval-join.Post
+  held c = c .before .before
+
+  abbrev decided : eval-join-lts.After-node-field2 claims (eval-join-at t) eval-join.Post → eval-join-lts.After-decides claims (eval-join-at t) eval-join.Post
+  decided c = c .before .before
+
+  abbrev word₂ : eval-join-lts.After-eval-pred2 claims (eval-join-at t) eval-join.Post → eval-join-lts.After-node-field2 claims (eval-join-at t) eval-join.Post
+  word₂ c = c .before .before
+
+  abbrev ran₂ : eval-join-lts.After-slice-known3 claims (eval-join-at t) eval-join.Post → eval-join-lts.After-eval-pred2 claims (eval-join-at t) eval-join.Post
+  ran₂ c = c .before .before
+
+  node-field-requires : eval-join-lts.Need-node-field-requires claims (eval-join-at t) eval-join.Post
+  node-field-requires c κs = (ready-node (c .before .before .pre .1 .0 .ready), lit< tt)
+
+  sub-eval-pred : eval-join-lts.Need-sub-eval-pred claims (eval-join-at t) eval-join.Post
+  sub-eval-pred c = omega (arith, lent (c .before) .pre .1 .0 .unspent)
+
+  eval-pred-requires : eval-join-lts.Need-eval-pred-requires claims (eval-join-at t) eval-join.Post
+  eval-pred-requires c κs =
+      let f = c .before in
+      let v = lent f in
+      let d = join-child (v .pre .1 .0) (v .pre .1 .1 .0) (v .pre .1 .1 .1) (f .node-field .ensures) in
+      (omega (arith, v .pre .0, d .below), join-begins (v .pre .1 .0) (v .pre .1 .1 .0) (v .pre .1 .1 .1) (f .node-field .ensures))
+
+  enum-known-first : eval-join-lts.Need-enum-known-first claims (eval-join-at t) eval-join.Post
+  enum-known-first c = c .match .keys1
+
+  enum-told : eval-join-lts.Need-enum-told claims (eval-join-at t) eval-join.Post
+  enum-told c = c .match .keys2
+
+  same-length : eval-join-lts.Need-same-length claims (eval-join-at t) eval-join.Post
+  same-length c = ran (c .before .before) .eval-pred .kept .1 .1 .0
+
+  returns : eval-join-lts.Need-returns claims (eval-join-at t) eval-join.Post
+  returns c =
+      let e = ran (c .before .before) in
+      let f = word e in
+      let v = lent f in
+      join-stays (v .pre .1 .0) (v .pre .1 .1 .0) (v .pre .1 .1 .1) (f .node-field .ensures) (e .eval-pred .ensures) (c .enum-told .given .1)
+
+  decides-requires : eval-join-lts.Need-decides-requires claims (eval-join-at t) eval-join.Post
+  decides-requires c κs = tt
+
+  same-length-2 : eval-join-lts.Need-same-length-2 claims (eval-join-at t) eval-join.Post
+  same-length-2 c = let m = held (c .before) in ran (m .before .before) .eval-pred .kept .1 .1 .0
+
+  returns-2 : eval-join-lts.Need-returns-2 claims (eval-join-at t) eval-join.Post
+  returns-2 c =
+      let k = c .before in
+      let m = held k in
+      let e = ran (m .before .before) in
+      let f = word e in
+      let v = lent f in
+      join-short (v .pre .1 .0) (v .pre .1 .1 .0) (v .pre .1 .1 .1)
+      (f .node-field .ensures) (e .eval-pred .ensures) (m .first .given .1) (k .decides .ensures) (c .if1 .taken)
+
+  node-field-requires-2 : eval-join-lts.Need-node-field-requires-2 claims (eval-join-at t) eval-join.Post
+  node-field-requires-2 c κs = let m = held (c .before) in (ready-node (lent (word (ran (m .before .before))) .pre .1 .0 .ready), lit< tt)
+
+  eval-pred-requires-2 : eval-join-lts.Need-eval-pred-requires-2 claims (eval-join-at t) eval-join.Post
+  eval-pred-requires-2 c κs =
+      let g = c .before in
+      let k = decided g in
+      let m = held k in
+      let e = ran (m .before .before) in
+      let f = word e in
+      let v = lent f in
+      let d = join-next (v .pre .1 .0) (v .pre .1 .1 .0) (v .pre .1 .1 .1)
+      (f .node-field .ensures) (e .eval-pred .ensures) (m .first .given .1) (k .decides .ensures) (g .before .if1 .left)
+      (g .node-field2 .ensures) in (
+        omega (arith, v .pre .0, d .below),
+        join-ready (v .pre .1 .0) (v .pre .1 .1 .0) (v .pre .1 .1 .1)
+            (f .node-field .ensures) (e .eval-pred .ensures) (m .first .given .1) (k .decides .ensures) (g .before .if1 .left)
+            (g .node-field2 .ensures),
+      )
+
+  enum-known-second : eval-join-lts.Need-enum-known-second claims (eval-join-at t) eval-join.Post
+  enum-known-second c = c .match2 .keys1
+
+  enum-told-2 : eval-join-lts.Need-enum-told-2 claims (eval-join-at t) eval-join.Post
+  enum-told-2 c = c .match2 .keys2
+
+  same-length-3 : eval-join-lts.Need-same-length-3 claims (eval-join-at t) eval-join.Post
+  same-length-3 c =
+      let s = ran₂ (c .before .before) in
+      let m = held (decided (word₂ s)) in
+      s .eval-pred2 .kept .1 .1 .0 ∙ ran (m .before .before) .eval-pred .kept .1 .1 .0
+
+  returns-3 : eval-join-lts.Need-returns-3 claims (eval-join-at t) eval-join.Post
+  returns-3 c =
+      let s = ran₂ (c .before .before) in
+      let g = word₂ s in
+      let k = decided g in
+      let m = held k in
+      let e = ran (m .before .before) in
+      let f = word e in
+      let v = lent f in
+      join-stays-2 (v .pre .1 .0) (v .pre .1 .1 .0) (v .pre .1 .1 .1)
+      (f .node-field .ensures) (e .eval-pred .ensures) (m .first .given .1) (k .decides .ensures) (g .before .if1 .left)
+      (g .node-field2 .ensures) (s .eval-pred2 .ensures) (c .enum-told2 .given .1)
+
+  joined-requires : eval-join-lts.Need-joined-requires claims (eval-join-at t) eval-join.Post
+  joined-requires c κs = tt
+
+  same-length-4 : eval-join-lts.Need-same-length-4 claims (eval-join-at t) eval-join.Post
+  same-length-4 c =
+      let w = c .before .before in
+      let s = ran₂ (w .before .before) in
+      let m = held (decided (word₂ s)) in
+      s .eval-pred2 .kept .1 .1 .0 ∙ ran (m .before .before) .eval-pred .kept .1 .1 .0
+
+  returns-4 : eval-join-lts.Need-returns-4 claims (eval-join-at t) eval-join.Post
+  returns-4 c =
+      let w = c .before .before in
+      let s = ran₂ (w .before .before) in
+      let g = word₂ s in
+      let k = decided g in
+      let m = held k in
+      let e = ran (m .before .before) in
+      let f = word e in
+      let v = lent f in
+      join-both (v .pre .1 .0) (v .pre .1 .1 .0) (v .pre .1 .1 .1)
+      (f .node-field .ensures) (e .eval-pred .ensures) (m .first .given .1) (k .decides .ensures) (g .before .if1 .left)
+      (g .node-field2 .ensures) (s .eval-pred2 .ensures) (w .second .given .1) (c .joined .ensures)
+
+  pub eval-join-closed : {M : Type 1} → eval-join-lts.Closed claims (eval-join-at t) eval-join.Post M
+  eval-join-closed =
+      eval-join-lts.spec
+      claims
+      (eval-join-at t)
+      eval-join.Post
+      node-field-requires
+      sub-eval-pred
+      eval-pred-requires
+      enum-known-first
+      enum-told
+      same-length
+      returns
+      decides-requires
+      same-length-2
+      returns-2
+      node-field-requires-2
+      eval-pred-requires-2
+      enum-known-second
+      enum-told-2
+      same-length-3
+      returns-3
+      joined-requires
+      same-length-4
+      returns-4

@@ -1,0 +1,145 @@
+-- `eval_pred`: no visit is left, or each arm asks what its evaluator asks of the node, by the code that the arm tells; the last arm is met
+-- by no condition. Landmarks: what was lent, the kind, and that it is none of the first arms'.
+use Prim.Native.Nat.{ℕ}
+use mathlib.Core.Path.{refl, sym}
+use mathlib.Core.Logic.{⊎-elim}
+use native.Mathlib.Omega.{arith}
+use Rattle.evaluators.proofs.eval_join.Reads as eval-join
+use Rattle.evaluators.proofs.eval_not.Reads as eval-not
+use Rattle.evaluators.proofs.eval_pred.Reads as eval-pred
+use Rattle.evaluators.proofs.eval_quant.Reads as eval-quant
+use Rattle.evaluators.proofs.eval_test.Reads as eval-test
+use Rattle.evaluators.proofs.+each_chosen+each_member+eval_bool+eval_expr+eval_join+eval_not+eval_one+eval_pred+eval_quant+eval_select+eval_test+eval_two.Lts-eval_pred as eval-pred-lts
+use Rattle.table.proofs.node_kind.Reads as node-kind-reads
+use Rattle.evaluators.proofs.refused.Reads as refused-reads
+use Rattle.evaluators.proofs.+each_chosen+each_member+eval_bool+eval_expr+eval_join+eval_not+eval_one+eval_pred+eval_quant+eval_select+eval_test+eval_two.Proof.Base.{eval-join-below, eval-not-below, eval-pred-at, eval-quant-below, eval-test-below}
+use Rattle.evaluators.proofs.SafeLaws.{ready-node}
+use Rattle.evaluators.proofs.NodeLaws.{held-as}
+use Rattle.evaluators.proofs.DispatchLaws.{spent-pred, counted, visited-as, predicate-code, test-sort, quant-sort, join-kind}
+
+module _ (t : ℕ) where
+  abbrev claims : eval-pred-lts.Claims
+  claims = (
+    refused-reads.Asked,
+    refused-reads.Learnt,
+    node-kind-reads.Asked,
+    node-kind-reads.Learnt,
+    eval-not-below t,
+    eval-not.Post,
+    eval-test-below t,
+    eval-test.Post,
+    eval-quant-below t,
+    eval-quant.Post,
+    eval-join-below t,
+    eval-join.Post,
+  )
+
+  abbrev lent : eval-pred-lts.After-node-kind claims (eval-pred-at t) eval-pred.Post → eval-pred-lts.Start claims (eval-pred-at t) eval-pred.Post
+  lent c = let i = c .before in i .before .before .before
+
+  abbrev kinded : eval-pred-lts.At-match-rest claims (eval-pred-at t) eval-pred.Post → eval-pred-lts.After-node-kind claims (eval-pred-at t) eval-pred.Post
+  kinded c = c .before .before .before
+
+  refused-requires : eval-pred-lts.Need-refused-requires claims (eval-pred-at t) eval-pred.Post
+  refused-requires c κs = tt
+
+  returns : eval-pred-lts.Need-returns claims (eval-pred-at t) eval-pred.Post
+  returns c =
+      let k = c .before in
+      let v = k .before .before .before in
+      held-as refl (sym (c .refused .ensures)) (spent-pred (v .pre .1 .0) (k .if1 .taken))
+
+  node-kind-requires : eval-pred-lts.Need-node-kind-requires claims (eval-pred-at t) eval-pred.Post
+  node-kind-requires c κs = let v = c .before .before .before in ready-node (v .pre .1 .0)
+
+  eval-not-requires : eval-pred-lts.Need-eval-not-requires claims (eval-pred-at t) eval-pred.Post
+  eval-not-requires c κs =
+      let b = c .before in
+      let k = b .before .before .before in
+      let v = lent k in
+      (omega (arith, v .pre .0), visited-as (counted (v .pre .1 .0) _ (k .before .if1 .left) (k .node-kind .ensures)) (b .match .keys1))
+
+  eval-test-requires : eval-pred-lts.Need-eval-test-requires claims (eval-pred-at t) eval-pred.Post
+  eval-test-requires c κs =
+      let a = c .before in
+      let b = a .before in
+      let k = kinded (b .before) in
+      let v = lent k in
+      (omega (arith, v .pre .0), (counted (v .pre .1 .0) _ (k .before .if1 .left) (k .node-kind .ensures), test-sort _ (b .if4 .left) (a .if5 .taken)))
+
+  eval-quant-requires : eval-pred-lts.Need-eval-quant-requires claims (eval-pred-at t) eval-pred.Post
+  eval-quant-requires c κs =
+      let a = c .before in
+      let b = a .before in
+      let k = kinded (b .before .before) in
+      let v = lent k in
+      (omega (arith, v .pre .0), (counted (v .pre .1 .0) _ (k .before .if1 .left) (k .node-kind .ensures), quant-sort _ (b .if5 .left) (a .if6 .taken)))
+
+  eval-join-requires : eval-pred-lts.Need-eval-join-requires claims (eval-pred-at t) eval-pred.Post
+  eval-join-requires c κs =
+      let j = c .before in
+      let r = j .before in
+      let k = kinded r in
+      let v = lent k in
+      let d = counted (v .pre .1 .0) _ (k .before .if1 .left) (k .node-kind .ensures) in
+      let below = ⊎-elim (λ w. w .taken) (λ w. absurd (omega (arith, w .2 .left, r .before .if3 .taken))) (j .if4 .came) in
+      (omega (arith, v .pre .0), (d, join-kind d (v .pre .1 .1) (r .match .rest .1) below))
+
+  refused-requires-2 : eval-pred-lts.Need-refused-requires-2 claims (eval-pred-at t) eval-pred.Post
+  refused-requires-2 c κs = tt
+
+  same-length : eval-pred-lts.Need-same-length claims (eval-pred-at t) eval-pred.Post
+  same-length c = c .before .before .eval-not .kept .1 .1 .0
+
+  returns-2 : eval-pred-lts.Need-returns-2 claims (eval-pred-at t) eval-pred.Post
+  returns-2 c = c .before .before .eval-not .ensures
+
+  same-length-2 : eval-pred-lts.Need-same-length-2 claims (eval-pred-at t) eval-pred.Post
+  same-length-2 c = c .before .before .eval-test .kept .1 .1 .0
+
+  returns-3 : eval-pred-lts.Need-returns-3 claims (eval-pred-at t) eval-pred.Post
+  returns-3 c = c .before .before .eval-test .ensures
+
+  same-length-3 : eval-pred-lts.Need-same-length-3 claims (eval-pred-at t) eval-pred.Post
+  same-length-3 c = c .before .before .eval-quant .kept .1 .1 .0
+
+  returns-4 : eval-pred-lts.Need-returns-4 claims (eval-pred-at t) eval-pred.Post
+  returns-4 c = c .before .before .eval-quant .ensures
+
+  same-length-4 : eval-pred-lts.Need-same-length-4 claims (eval-pred-at t) eval-pred.Post
+  same-length-4 c = c .before .before .eval-join .kept .1 .1 .0
+
+  returns-5 : eval-pred-lts.Need-returns-5 claims (eval-pred-at t) eval-pred.Post
+  returns-5 c = c .before .before .eval-join .ensures
+
+  returns-6 : eval-pred-lts.Need-returns-6 claims (eval-pred-at t) eval-pred.Post
+  returns-6 c =
+      let j = c .before in
+      let k = j .before in
+      let v = lent k in
+      let r = predicate-code (counted (v .pre .1 .0) _ (k .before .if1 .left) (k .node-kind .ensures)) (v .pre .1 .1) in
+      ⊎-elim (λ w. absurd (omega (arith, r, w .taken))) (λ w. absurd (omega (arith, r, w .1 .left))) (j .if2 .came)
+
+  pub eval-pred-closed : {M : Type 1} → eval-pred-lts.Closed claims (eval-pred-at t) eval-pred.Post M
+  eval-pred-closed =
+      eval-pred-lts.spec
+      claims
+      (eval-pred-at t)
+      eval-pred.Post
+      refused-requires
+      returns
+      node-kind-requires
+      eval-not-requires
+      eval-test-requires
+      eval-quant-requires
+      eval-join-requires
+      refused-requires-2
+      same-length
+      returns-2
+      same-length-2
+      returns-3
+      same-length-3
+      returns-4
+      same-length-4
+      returns-5
+      returns-6

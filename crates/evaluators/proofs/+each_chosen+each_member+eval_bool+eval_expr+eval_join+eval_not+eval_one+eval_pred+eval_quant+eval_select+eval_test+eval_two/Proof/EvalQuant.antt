@@ -1,0 +1,188 @@
+-- `eval_quant`: the range, and then the body at each of its members. Landmarks: what was lent, the word of the field, the answer for the
+-- range, and its members.
+use Prim.Native.Nat.{ℕ}
+use mathlib.Core.Path.{refl, sym, _∙_}
+use native.Mathlib.Omega.{arith}
+use lib.Dec.{lit<}
+use Rattle.evaluators.proofs.each_member.Reads as each-member
+use Rattle.evaluators.proofs.eval_expr.Reads as eval-expr
+use Rattle.evaluators.proofs.eval_quant.Reads as eval-quant
+use Rattle.evaluators.proofs.+each_chosen+each_member+eval_bool+eval_expr+eval_join+eval_not+eval_one+eval_pred+eval_quant+eval_select+eval_test+eval_two.Lts-eval_quant as eval-quant-lts
+use Rattle.table.proofs.node_field.Reads as node-field-reads
+use Rattle.evaluators.proofs.range_of.Reads as range-of-reads
+use Rattle.evaluators.proofs.refusal_of.Reads as refusal-of-reads
+use Rattle.evaluators.proofs.refused.Reads as refused-reads
+use Rattle.evaluators.proofs.+each_chosen+each_member+eval_bool+eval_expr+eval_join+eval_not+eval_one+eval_pred+eval_quant+eval_select+eval_test+eval_two.Proof.Base.{each-member-below, eval-expr-below, eval-quant-at}
+use Rattle.evaluators.proofs.SafeLaws.{ready-node}
+use Rattle.evaluators.proofs.NodeLaws.{held-as, refusal-is}
+use Rattle.evaluators.proofs.RangeLaws.{range-as}
+use Rattle.evaluators.proofs.QuantLaws.{quant-child, quant-range, range-refused, range-good, range-low, range-unlike, quant-ready, quant-done}
+
+module _ (t : ℕ) where
+  abbrev claims : eval-quant-lts.Claims
+  claims = (
+    node-field-reads.Asked,
+    node-field-reads.Learnt,
+    eval-expr-below t,
+    eval-expr.Post,
+    refusal-of-reads.Asked,
+    refusal-of-reads.Learnt,
+    range-of-reads.Asked,
+    range-of-reads.Learnt,
+    refused-reads.Asked,
+    refused-reads.Learnt,
+    each-member-below t,
+    each-member.Post,
+  )
+
+  abbrev lent : eval-quant-lts.After-node-field claims (eval-quant-at t) eval-quant.Post → eval-quant-lts.Start claims (eval-quant-at t) eval-quant.Post
+  lent c = c .before .before .before
+
+  abbrev word : eval-quant-lts.After-eval-expr claims (eval-quant-at t) eval-quant.Post →
+      eval-quant-lts.After-node-field claims (eval-quant-at t) eval-quant.Post
+  word c = c .before .before
+
+  abbrev ran : eval-quant-lts.After-slice-known2 claims (eval-quant-at t) eval-quant.Post →
+      eval-quant-lts.After-eval-expr claims (eval-quant-at t) eval-quant.Post
+  ran c = c .before .before
+
+  abbrev asked : eval-quant-lts.After-range-of claims (eval-quant-at t) eval-quant.Post → eval-quant-lts.After-first claims (eval-quant-at t) eval-quant.Post
+  asked c = c .before .before .before
+
+  abbrev counted : eval-quant-lts.After-each-member claims (eval-quant-at t) eval-quant.Post →
+      eval-quant-lts.After-range claims (eval-quant-at t) eval-quant.Post
+  counted c = c .before .before .before
+
+  node-field-requires : eval-quant-lts.Need-node-field-requires claims (eval-quant-at t) eval-quant.Post
+  node-field-requires c κs = (ready-node (c .before .before .pre .1 .0 .ready), lit< tt)
+
+  sub-eval-expr : eval-quant-lts.Need-sub-eval-expr claims (eval-quant-at t) eval-quant.Post
+  sub-eval-expr c = omega (arith, lent (c .before) .pre .1 .0 .unspent)
+
+  eval-expr-requires : eval-quant-lts.Need-eval-expr-requires claims (eval-quant-at t) eval-quant.Post
+  eval-expr-requires c κs =
+      let f = c .before in
+      let v = lent f in (
+        omega (arith, v .pre .0, quant-child (v .pre .1 .0) (v .pre .1 .1) (f .node-field .ensures) .below),
+        quant-range (v .pre .1 .0) (v .pre .1 .1)
+            (f .node-field .ensures),
+      )
+
+  enum-known-first : eval-quant-lts.Need-enum-known-first claims (eval-quant-at t) eval-quant.Post
+  enum-known-first c = c .match .keys1
+
+  enum-told : eval-quant-lts.Need-enum-told claims (eval-quant-at t) eval-quant.Post
+  enum-told c = c .match .keys2
+
+  refusal-of-requires : eval-quant-lts.Need-refusal-of-requires claims (eval-quant-at t) eval-quant.Post
+  refusal-of-requires c κs = tt
+
+  same-length : eval-quant-lts.Need-same-length claims (eval-quant-at t) eval-quant.Post
+  same-length c = let k = c .before in ran (k .before .before) .eval-expr .kept .1 .1 .0
+
+  returns : eval-quant-lts.Need-returns claims (eval-quant-at t) eval-quant.Post
+  returns c =
+      let k = c .before in
+      let e = ran (k .before .before) in
+      let f = word e in
+      let v = lent f in
+      held-as refl (refusal-is (k .enum-told .given .1) (c .refusal-of .ensures))
+      (range-refused (v .pre .1 .0) (v .pre .1 .1) (f .node-field .ensures) (e .eval-expr .ensures) (k .enum-told .given .1))
+
+  range-of-requires : eval-quant-lts.Need-range-of-requires claims (eval-quant-at t) eval-quant.Post
+  range-of-requires c κs =
+      let m = c .before .before in
+      let e = ran (m .before .before) in
+      let f = word e in
+      let v = lent f in
+      range-good (v .pre .1 .0) (v .pre .1 .1) (f .node-field .ensures) (e .eval-expr .ensures) (m .first .given .1)
+
+  enum-known-range : eval-quant-lts.Need-enum-known-range claims (eval-quant-at t) eval-quant.Post
+  enum-known-range c = c .match2 .keys1
+
+  enum-told-2 : eval-quant-lts.Need-enum-told-2 claims (eval-quant-at t) eval-quant.Post
+  enum-told-2 c = c .match2 .keys2
+
+  refused-requires : eval-quant-lts.Need-refused-requires claims (eval-quant-at t) eval-quant.Post
+  refused-requires c κs = tt
+
+  same-length-2 : eval-quant-lts.Need-same-length-2 claims (eval-quant-at t) eval-quant.Post
+  same-length-2 c = let m = asked (c .before .before .before) in ran (m .before .before) .eval-expr .kept .1 .1 .0
+
+  returns-2 : eval-quant-lts.Need-returns-2 claims (eval-quant-at t) eval-quant.Post
+  returns-2 c =
+      let k = c .before in
+      let o = k .before .before in
+      let m = asked o in
+      let e = ran (m .before .before) in
+      let f = word e in
+      let v = lent f in
+      held-as refl (sym (c .refused .ensures))
+      (range-unlike (v .pre .1 .0) (v .pre .1 .1) (f .node-field .ensures) (e .eval-expr .ensures) (m .first .given .1)
+      (range-as (k .enum-told2 .given .1) (o .range-of .ensures)))
+
+  add-each-member : eval-quant-lts.Need-add-each-member claims (eval-quant-at t) eval-quant.Post
+  add-each-member c =
+      let o = c .before .before .before in
+      let m = asked (o .before) in
+      let e = ran (m .before .before) in
+      let f = word e in
+      let v = lent f in
+      record { fits = omega (arith, range-low (v .pre .1 .0) (v .pre .1 .1) (f .node-field .ensures) (e .eval-expr .ensures) (m .first .given .1)) }
+
+  each-member-requires : eval-quant-lts.Need-each-member-requires claims (eval-quant-at t) eval-quant.Post
+  each-member-requires c κs =
+      let a = c .before .before in
+      let o = a .before .before in
+      let m = asked o in
+      let e = ran (m .before .before) in
+      let f = word e in
+      let v = lent f in (
+        omega (arith, v .pre .0),
+        quant-ready (v .pre .1 .0) (v .pre .1 .1) (f .node-field .ensures) (e .eval-expr .ensures) (m .first .given .1)
+            (range-as (a .range .given .1) (o .range-of .ensures)),
+      )
+
+  same-length-3 : eval-quant-lts.Need-same-length-3 claims (eval-quant-at t) eval-quant.Post
+  same-length-3 c =
+      let p = c .before .before in
+      let a = counted p in
+      let m = asked (a .before .before) in
+      p .each-member .kept .1 .1 .0 ∙ ran (m .before .before) .eval-expr .kept .1 .1 .0
+
+  returns-3 : eval-quant-lts.Need-returns-3 claims (eval-quant-at t) eval-quant.Post
+  returns-3 c =
+      let p = c .before .before in
+      let a = counted p in
+      let o = a .before .before in
+      let m = asked o in
+      let e = ran (m .before .before) in
+      let f = word e in
+      let v = lent f in
+      quant-done (v .pre .1 .0) (v .pre .1 .1) (f .node-field .ensures) (e .eval-expr .ensures) (m .first .given .1)
+      (range-as (a .range .given .1) (o .range-of .ensures)) (p .each-member .ensures)
+
+  pub eval-quant-closed : {M : Type 1} → eval-quant-lts.Closed claims (eval-quant-at t) eval-quant.Post M
+  eval-quant-closed =
+      eval-quant-lts.spec
+      claims
+      (eval-quant-at t)
+      eval-quant.Post
+      node-field-requires
+      sub-eval-expr
+      eval-expr-requires
+      enum-known-first
+      enum-told
+      refusal-of-requires
+      same-length
+      returns
+      range-of-requires
+      enum-known-range
+      enum-told-2
+      refused-requires
+      same-length-2
+      returns-2
+      add-each-member
+      each-member-requires
+      same-length-3
+      returns-3

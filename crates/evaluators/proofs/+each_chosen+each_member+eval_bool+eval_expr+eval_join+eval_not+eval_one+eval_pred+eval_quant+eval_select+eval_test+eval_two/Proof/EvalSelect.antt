@@ -1,0 +1,241 @@
+-- `eval_select`: the range, the members of it that the body selects, built above, and these settled. Landmarks: what was lent, the word of
+-- the field, the answer for the range, its members, and those chosen.
+use Prim.Native.Nat.{ℕ}
+use mathlib.Core.Path.{refl, sym, _∙_}
+use native.Mathlib.Omega.{arith}
+use lib.Dec.{lit<}
+use Rattle.evaluators.proofs.each_chosen.Reads as each-chosen
+use Rattle.evaluators.proofs.eval_expr.Reads as eval-expr
+use Rattle.evaluators.proofs.eval_select.Reads as eval-select
+use Rattle.evaluators.proofs.+each_chosen+each_member+eval_bool+eval_expr+eval_join+eval_not+eval_one+eval_pred+eval_quant+eval_select+eval_test+eval_two.Lts-eval_select as eval-select-lts
+use Rattle.table.proofs.node_field.Reads as node-field-reads
+use Rattle.evaluators.proofs.range_of.Reads as range-of-reads
+use Rattle.evaluators.proofs.settle.Reads as settle-reads
+use Rattle.evaluators.proofs.stopped.Reads as stopped-reads
+use Rattle.evaluators.proofs.+each_chosen+each_member+eval_bool+eval_expr+eval_join+eval_not+eval_one+eval_pred+eval_quant+eval_select+eval_test+eval_two.Proof.Base.{each-chosen-below, eval-expr-below, eval-select-at}
+use Rattle.evaluators.proofs.SafeLaws.{ready-node}
+use Rattle.evaluators.proofs.NodeLaws.{formed-as}
+use Rattle.evaluators.proofs.RangeLaws.{range-as}
+use Rattle.evaluators.proofs.FormLaws.{chosen-as, select-child, select-begins, select-fails, range-good, range-low, range-fails, select-each, chosen-fails, select-settles, select-evaluates}
+
+module _ (t : ℕ) where
+  abbrev claims : eval-select-lts.Claims
+  claims = (
+    node-field-reads.Asked,
+    node-field-reads.Learnt,
+    eval-expr-below t,
+    eval-expr.Post,
+    range-of-reads.Asked,
+    range-of-reads.Learnt,
+    stopped-reads.Asked,
+    stopped-reads.Learnt,
+    each-chosen-below t,
+    each-chosen.Post,
+    settle-reads.Asked,
+    settle-reads.Learnt,
+  )
+
+  abbrev lent : eval-select-lts.After-node-field claims (eval-select-at t) eval-select.Post → eval-select-lts.Start claims (eval-select-at t) eval-select.Post
+  lent c = c .before .before .before
+
+  abbrev word : eval-select-lts.After-eval-expr claims (eval-select-at t) eval-select.Post →
+      eval-select-lts.After-node-field claims (eval-select-at t) eval-select.Post
+  word c = c .before .before
+
+  abbrev ran : eval-select-lts.After-slice-known2 claims (eval-select-at t) eval-select.Post →
+      eval-select-lts.After-eval-expr claims (eval-select-at t) eval-select.Post
+  ran c = c .before .before
+
+  abbrev asked : eval-select-lts.After-range-of claims (eval-select-at t) eval-select.Post →
+      eval-select-lts.After-first claims (eval-select-at t) eval-select.Post
+  asked c = c .before .before .before
+
+  abbrev counted : eval-select-lts.After-each-chosen claims (eval-select-at t) eval-select.Post →
+      eval-select-lts.After-range claims (eval-select-at t) eval-select.Post
+  counted c = c .before .before .before
+
+  abbrev chose : eval-select-lts.After-slice-known3 claims (eval-select-at t) eval-select.Post →
+      eval-select-lts.After-each-chosen claims (eval-select-at t) eval-select.Post
+  chose c = c .before .before
+
+  abbrev settled : eval-select-lts.After-settle claims (eval-select-at t) eval-select.Post →
+      eval-select-lts.After-chosen claims (eval-select-at t) eval-select.Post
+  settled c = c .before .before .before
+
+  node-field-requires : eval-select-lts.Need-node-field-requires claims (eval-select-at t) eval-select.Post
+  node-field-requires c κs = (ready-node (c .before .before .pre .1 .ready), lit< tt)
+
+  sub-eval-expr : eval-select-lts.Need-sub-eval-expr claims (eval-select-at t) eval-select.Post
+  sub-eval-expr c = omega (arith, lent (c .before) .pre .1 .unspent)
+
+  eval-expr-requires : eval-select-lts.Need-eval-expr-requires claims (eval-select-at t) eval-select.Post
+  eval-expr-requires c κs =
+      let f = c .before in
+      let v = lent f in
+      (omega (arith, v .pre .0, select-child (v .pre .1) (f .node-field .ensures) .below), select-begins (v .pre .1) (f .node-field .ensures))
+
+  enum-known-first : eval-select-lts.Need-enum-known-first claims (eval-select-at t) eval-select.Post
+  enum-known-first c = c .match .keys1
+
+  enum-told : eval-select-lts.Need-enum-told claims (eval-select-at t) eval-select.Post
+  enum-told c = c .match .keys2
+
+  same-length : eval-select-lts.Need-same-length claims (eval-select-at t) eval-select.Post
+  same-length c = ran (c .before .before) .eval-expr .kept .1 .1 .0
+
+  returns : eval-select-lts.Need-returns claims (eval-select-at t) eval-select.Post
+  returns c =
+      let e = ran (c .before .before) in
+      let f = word e in
+      let v = lent f in
+      let q = c .enum-told .given .1 in
+      formed-as refl (sym q) (select-fails (v .pre .1) (f .node-field .ensures) (formed-as refl q (e .eval-expr .ensures)))
+
+  range-of-requires : eval-select-lts.Need-range-of-requires claims (eval-select-at t) eval-select.Post
+  range-of-requires c κs =
+      let m = c .before .before in
+      let e = ran (m .before .before) in
+      let f = word e in
+      let v = lent f in
+      range-good (v .pre .1) (f .node-field .ensures) (formed-as refl (m .first .given .1) (e .eval-expr .ensures))
+
+  enum-known-range : eval-select-lts.Need-enum-known-range claims (eval-select-at t) eval-select.Post
+  enum-known-range c = c .match2 .keys1
+
+  enum-told-2 : eval-select-lts.Need-enum-told-2 claims (eval-select-at t) eval-select.Post
+  enum-told-2 c = c .match2 .keys2
+
+  stopped-requires : eval-select-lts.Need-stopped-requires claims (eval-select-at t) eval-select.Post
+  stopped-requires c κs = tt
+
+  same-length-2 : eval-select-lts.Need-same-length-2 claims (eval-select-at t) eval-select.Post
+  same-length-2 c = let m = asked (c .before .before .before) in ran (m .before .before) .eval-expr .kept .1 .1 .0
+
+  returns-2 : eval-select-lts.Need-returns-2 claims (eval-select-at t) eval-select.Post
+  returns-2 c =
+      let k = c .before in
+      let o = k .before .before in
+      let m = asked o in
+      let e = ran (m .before .before) in
+      let f = word e in
+      let v = lent f in
+      formed-as refl (sym (c .stopped .ensures))
+      (range-fails (v .pre .1) (f .node-field .ensures) (formed-as refl (m .first .given .1) (e .eval-expr .ensures))
+      (range-as (k .enum-told2 .given .1) (o .range-of .ensures)))
+
+  add-each-chosen : eval-select-lts.Need-add-each-chosen claims (eval-select-at t) eval-select.Post
+  add-each-chosen c =
+      let o = c .before .before .before in
+      let m = asked (o .before) in
+      let e = ran (m .before .before) in
+      let f = word e in
+      let v = lent f in
+      omega (arith, range-low (v .pre .1) (f .node-field .ensures) (formed-as refl (m .first .given .1) (e .eval-expr .ensures)))
+
+  each-chosen-requires : eval-select-lts.Need-each-chosen-requires claims (eval-select-at t) eval-select.Post
+  each-chosen-requires c κs =
+      let a = c .before .before in
+      let o = a .before .before in
+      let m = asked o in
+      let e = ran (m .before .before) in
+      let f = word e in
+      let v = lent f in (
+        omega (arith, v .pre .0),
+        select-each (v .pre .1) (f .node-field .ensures) (formed-as refl (m .first .given .1) (e .eval-expr .ensures))
+            (range-as (a .range .given .1) (o .range-of .ensures)),
+      )
+
+  enum-known-chosen : eval-select-lts.Need-enum-known-chosen claims (eval-select-at t) eval-select.Post
+  enum-known-chosen c = c .match3 .keys1
+
+  enum-told-3 : eval-select-lts.Need-enum-told-3 claims (eval-select-at t) eval-select.Post
+  enum-told-3 c = c .match3 .keys2
+
+  same-length-3 : eval-select-lts.Need-same-length-3 claims (eval-select-at t) eval-select.Post
+  same-length-3 c =
+      let p = chose (c .before .before) in
+      let a = counted p in
+      let m = asked (a .before .before) in
+      p .each-chosen .kept .1 .1 .0 ∙ ran (m .before .before) .eval-expr .kept .1 .1 .0
+
+  returns-3 : eval-select-lts.Need-returns-3 claims (eval-select-at t) eval-select.Post
+  returns-3 c =
+      let p = chose (c .before .before) in
+      let a = counted p in
+      let o = a .before .before in
+      let m = asked o in
+      let e = ran (m .before .before) in
+      let f = word e in
+      let v = lent f in
+      let q = c .enum-told3 .given .1 in
+      formed-as refl (sym q)
+      (chosen-fails (v .pre .1) (f .node-field .ensures) (formed-as refl (m .first .given .1) (e .eval-expr .ensures))
+      (range-as (a .range .given .1) (o .range-of .ensures))
+      (chosen-as q (p .each-chosen .ensures)))
+
+  settle-requires : eval-select-lts.Need-settle-requires claims (eval-select-at t) eval-select.Post
+  settle-requires c κs =
+      let w = c .before .before in
+      let p = chose (w .before .before) in
+      let a = counted p in
+      let o = a .before .before in
+      let m = asked o in
+      let e = ran (m .before .before) in
+      let f = word e in
+      let v = lent f in
+      select-settles (v .pre .1) (f .node-field .ensures) (formed-as refl (m .first .given .1) (e .eval-expr .ensures))
+      (range-as (a .range .given .1) (o .range-of .ensures))
+      (chosen-as (w .chosen .given .1) (p .each-chosen .ensures))
+
+  same-length-4 : eval-select-lts.Need-same-length-4 claims (eval-select-at t) eval-select.Post
+  same-length-4 c =
+      let i = c .before .before in
+      let w = settled i in
+      let p = chose (w .before .before) in
+      let a = counted p in
+      let m = asked (a .before .before) in
+      i .settle .kept .0 ∙ p .each-chosen .kept .1 .1 .0 ∙ ran (m .before .before) .eval-expr .kept .1 .1 .0
+
+  returns-4 : eval-select-lts.Need-returns-4 claims (eval-select-at t) eval-select.Post
+  returns-4 c =
+      let i = c .before .before in
+      let w = settled i in
+      let p = chose (w .before .before) in
+      let a = counted p in
+      let o = a .before .before in
+      let m = asked o in
+      let e = ran (m .before .before) in
+      let f = word e in
+      let v = lent f in
+      select-evaluates (v .pre .1) (f .node-field .ensures) (formed-as refl (m .first .given .1) (e .eval-expr .ensures))
+      (range-as (a .range .given .1) (o .range-of .ensures))
+      (chosen-as (w .chosen .given .1) (p .each-chosen .ensures)) (i .settle .ensures)
+
+  pub eval-select-closed : {M : Type 1} → eval-select-lts.Closed claims (eval-select-at t) eval-select.Post M
+  eval-select-closed =
+      eval-select-lts.spec
+      claims
+      (eval-select-at t)
+      eval-select.Post
+      node-field-requires
+      sub-eval-expr
+      eval-expr-requires
+      enum-known-first
+      enum-told
+      same-length
+      returns
+      range-of-requires
+      enum-known-range
+      enum-told-2
+      stopped-requires
+      same-length-2
+      returns-2
+      add-each-chosen
+      each-chosen-requires
+      enum-known-chosen
+      enum-told-3
+      same-length-3
+      returns-3
+      settle-requires
+      same-length-4
+      returns-4

@@ -1,0 +1,238 @@
+-- `eval_test`: the operands one after the other, and then the test of their values; a refusal of an operand goes on. Landmarks: what was
+-- lent, the words of the fields, the answers for the operands, and the test.
+use Prim.Native.Nat.{ℕ}
+use mathlib.Core.Path.{refl, sym, _∙_}
+use native.Mathlib.Omega.{arith}
+use lib.Dec.{lit<}
+use Rattle.evaluators.proofs.eval_expr.Reads as eval-expr
+use Rattle.evaluators.proofs.eval_test.Reads as eval-test
+use Rattle.evaluators.proofs.+each_chosen+each_member+eval_bool+eval_expr+eval_join+eval_not+eval_one+eval_pred+eval_quant+eval_select+eval_test+eval_two.Lts-eval_test as eval-test-lts
+use Rattle.table.proofs.node_field.Reads as node-field-reads
+use Rattle.evaluators.proofs.refusal_of.Reads as refusal-of-reads
+use Rattle.evaluators.proofs.refused.Reads as refused-reads
+use Rattle.operations.proofs.test.Reads as test-reads
+use Rattle.evaluators.proofs.+each_chosen+each_member+eval_bool+eval_expr+eval_join+eval_not+eval_one+eval_pred+eval_quant+eval_select+eval_test+eval_two.Proof.Base.{eval-expr-below, eval-test-at}
+use Rattle.evaluators.proofs.SafeLaws.{ready-node}
+use Rattle.evaluators.proofs.NodeLaws.{held-as, refusal-is}
+use Rattle.evaluators.proofs.BothLaws.{left-child, left-ready, both-stops, right-child, right-ready, both-stops-2, both-formed, operands-ready, test-fields, test-stops, test-unlike, test-truth}
+
+module _ (t : ℕ) where
+  abbrev claims : eval-test-lts.Claims
+  claims = (
+    node-field-reads.Asked,
+    node-field-reads.Learnt,
+    eval-expr-below t,
+    eval-expr.Post,
+    refusal-of-reads.Asked,
+    refusal-of-reads.Learnt,
+    test-reads.Asked,
+    test-reads.Learnt,
+    refused-reads.Asked,
+    refused-reads.Learnt,
+  )
+
+  abbrev lent : eval-test-lts.After-node-field claims (eval-test-at t) eval-test.Post → eval-test-lts.Start claims (eval-test-at t) eval-test.Post
+  lent c = c .before .before .before
+
+  abbrev word : eval-test-lts.After-eval-expr claims (eval-test-at t) eval-test.Post → eval-test-lts.After-node-field claims (eval-test-at t) eval-test.Post
+  word c = c .before .before
+
+  abbrev ran : eval-test-lts.After-slice-known2 claims (eval-test-at t) eval-test.Post → eval-test-lts.After-eval-expr claims (eval-test-at t) eval-test.Post
+  ran c = c .before .before
+
+  abbrev placed : eval-test-lts.After-node-field2 claims (eval-test-at t) eval-test.Post → eval-test-lts.After-first claims (eval-test-at t) eval-test.Post
+  placed c = c .before .before
+
+  abbrev word₂ : eval-test-lts.After-eval-expr2 claims (eval-test-at t) eval-test.Post → eval-test-lts.After-node-field2 claims (eval-test-at t) eval-test.Post
+  word₂ c = c .before .before
+
+  abbrev ran₂ : eval-test-lts.After-slice-known3 claims (eval-test-at t) eval-test.Post → eval-test-lts.After-eval-expr2 claims (eval-test-at t) eval-test.Post
+  ran₂ c = c .before .before
+
+  abbrev tried : eval-test-lts.After-test claims (eval-test-at t) eval-test.Post → eval-test-lts.After-second claims (eval-test-at t) eval-test.Post
+  tried c = c .before .before .before
+
+  node-field-requires : eval-test-lts.Need-node-field-requires claims (eval-test-at t) eval-test.Post
+  node-field-requires c κs = (ready-node (c .before .before .pre .1 .0 .ready), lit< tt)
+
+  sub-eval-expr : eval-test-lts.Need-sub-eval-expr claims (eval-test-at t) eval-test.Post
+  sub-eval-expr c = omega (arith, lent (c .before) .pre .1 .0 .unspent)
+
+  eval-expr-requires : eval-test-lts.Need-eval-expr-requires claims (eval-test-at t) eval-test.Post
+  eval-expr-requires c κs =
+      let f = c .before in
+      let v = lent f in
+      let y = test-fields (v .pre .1 .0) (v .pre .1 .1 .0) (v .pre .1 .1 .1) in (
+        omega (arith, v .pre .0, left-child (v .pre .1 .0 .ready) y (f .node-field .ensures) .below),
+        left-ready (v .pre .1 .0 .ready) y (f .node-field .ensures),
+      )
+
+  enum-known-first : eval-test-lts.Need-enum-known-first claims (eval-test-at t) eval-test.Post
+  enum-known-first c = c .match .keys1
+
+  enum-told : eval-test-lts.Need-enum-told claims (eval-test-at t) eval-test.Post
+  enum-told c = c .match .keys2
+
+  refusal-of-requires : eval-test-lts.Need-refusal-of-requires claims (eval-test-at t) eval-test.Post
+  refusal-of-requires c κs = tt
+
+  same-length : eval-test-lts.Need-same-length claims (eval-test-at t) eval-test.Post
+  same-length c = let k = c .before in ran (k .before .before) .eval-expr .kept .1 .1 .0
+
+  returns : eval-test-lts.Need-returns claims (eval-test-at t) eval-test.Post
+  returns c =
+      let k = c .before in
+      let e = ran (k .before .before) in
+      let f = word e in
+      let v = lent f in
+      held-as refl (refusal-is (k .enum-told .given .1) (c .refusal-of .ensures))
+      (test-stops (v .pre .1 .0) (v .pre .1 .1 .0) (v .pre .1 .1 .1)
+      (both-stops (v .pre .1 .0 .ready) (test-fields (v .pre .1 .0) (v .pre .1 .1 .0) (v .pre .1 .1 .1)) (f .node-field .ensures) (e .eval-expr .ensures)
+      (k .enum-told .given .1)))
+
+  node-field-requires-2 : eval-test-lts.Need-node-field-requires-2 claims (eval-test-at t) eval-test.Post
+  node-field-requires-2 c κs = let m = c .before in (ready-node (lent (word (ran (m .before .before))) .pre .1 .0 .ready), lit< tt)
+
+  eval-expr-requires-2 : eval-test-lts.Need-eval-expr-requires-2 claims (eval-test-at t) eval-test.Post
+  eval-expr-requires-2 c κs =
+      let g = c .before in
+      let m = placed g in
+      let e = ran (m .before .before) in
+      let f = word e in
+      let v = lent f in
+      let d = right-child (v .pre .1 .0 .ready) (test-fields (v .pre .1 .0) (v .pre .1 .1 .0) (v .pre .1 .1 .1)) (f .node-field .ensures)
+      (e .eval-expr .ensures) (m .first .given .1) (g .node-field2 .ensures) in (
+        omega (arith, v .pre .0, d .below),
+        right-ready (v .pre .1 .0 .ready) (test-fields (v .pre .1 .0) (v .pre .1 .1 .0) (v .pre .1 .1 .1)) (f .node-field .ensures)
+            (e .eval-expr .ensures) (m .first .given .1) (g .node-field2 .ensures),
+      )
+
+  enum-known-second : eval-test-lts.Need-enum-known-second claims (eval-test-at t) eval-test.Post
+  enum-known-second c = c .match2 .keys1
+
+  enum-told-2 : eval-test-lts.Need-enum-told-2 claims (eval-test-at t) eval-test.Post
+  enum-told-2 c = c .match2 .keys2
+
+  refusal-of-requires-2 : eval-test-lts.Need-refusal-of-requires-2 claims (eval-test-at t) eval-test.Post
+  refusal-of-requires-2 c κs = tt
+
+  same-length-2 : eval-test-lts.Need-same-length-2 claims (eval-test-at t) eval-test.Post
+  same-length-2 c =
+      let k = c .before in
+      let s = ran₂ (k .before .before) in
+      let m = placed (word₂ s) in
+      s .eval-expr2 .kept .1 .1 .0 ∙ ran (m .before .before) .eval-expr .kept .1 .1 .0
+
+  returns-2 : eval-test-lts.Need-returns-2 claims (eval-test-at t) eval-test.Post
+  returns-2 c =
+      let k = c .before in
+      let s = ran₂ (k .before .before) in
+      let g = word₂ s in
+      let m = placed g in
+      let e = ran (m .before .before) in
+      let f = word e in
+      let v = lent f in
+      held-as refl (refusal-is (k .enum-told2 .given .1) (c .refusal-of2 .ensures))
+      (test-stops (v .pre .1 .0) (v .pre .1 .1 .0) (v .pre .1 .1 .1)
+      (both-stops-2 (v .pre .1 .0 .ready) (test-fields (v .pre .1 .0) (v .pre .1 .1 .0) (v .pre .1 .1 .1)) (f .node-field .ensures)
+      (e .eval-expr .ensures) (m .first .given .1) (g .node-field2 .ensures)
+      (s .eval-expr2 .ensures) (k .enum-told2 .given .1)))
+
+  test-requires : eval-test-lts.Need-test-requires claims (eval-test-at t) eval-test.Post
+  test-requires c κs =
+      let w = c .before .before in
+      let s = ran₂ (w .before .before) in
+      let g = word₂ s in
+      let m = placed g in
+      let e = ran (m .before .before) in
+      let f = word e in
+      let v = lent f in
+      operands-ready (v .pre .1 .0 .ready) (test-fields (v .pre .1 .0) (v .pre .1 .1 .0) (v .pre .1 .1 .1))
+      (both-formed (v .pre .1 .0 .ready) (test-fields (v .pre .1 .0) (v .pre .1 .1 .0) (v .pre .1 .1 .1)) (f .node-field .ensures)
+      (e .eval-expr .ensures) (m .first .given .1) (g .node-field2 .ensures)
+      (s .eval-expr2 .ensures) (w .second .given .1))
+
+  enum-known-tested : eval-test-lts.Need-enum-known-tested claims (eval-test-at t) eval-test.Post
+  enum-known-tested c = c .match3 .keys1
+
+  enum-told-3 : eval-test-lts.Need-enum-told-3 claims (eval-test-at t) eval-test.Post
+  enum-told-3 c = c .match3 .keys2
+
+  refused-requires : eval-test-lts.Need-refused-requires claims (eval-test-at t) eval-test.Post
+  refused-requires c κs = tt
+
+  same-length-3 : eval-test-lts.Need-same-length-3 claims (eval-test-at t) eval-test.Post
+  same-length-3 c =
+      let w = tried (c .before .before .before) in
+      let s = ran₂ (w .before .before) in
+      let m = placed (word₂ s) in
+      s .eval-expr2 .kept .1 .1 .0 ∙ ran (m .before .before) .eval-expr .kept .1 .1 .0
+
+  returns-3 : eval-test-lts.Need-returns-3 claims (eval-test-at t) eval-test.Post
+  returns-3 c =
+      let k = c .before in
+      let q = k .before .before in
+      let w = tried q in
+      let s = ran₂ (w .before .before) in
+      let g = word₂ s in
+      let m = placed g in
+      let e = ran (m .before .before) in
+      let f = word e in
+      let v = lent f in
+      held-as refl (sym (c .refused .ensures))
+      (test-unlike (v .pre .1 .0) (v .pre .1 .1 .0) (v .pre .1 .1 .1)
+      (both-formed (v .pre .1 .0 .ready) (test-fields (v .pre .1 .0) (v .pre .1 .1 .0) (v .pre .1 .1 .1)) (f .node-field .ensures)
+      (e .eval-expr .ensures) (m .first .given .1) (g .node-field2 .ensures)
+      (s .eval-expr2 .ensures) (w .second .given .1)) (q .test .ensures) (k .enum-told3 .given .1))
+
+  same-length-4 : eval-test-lts.Need-same-length-4 claims (eval-test-at t) eval-test.Post
+  same-length-4 c =
+      let w = tried (c .before .before .before) in
+      let s = ran₂ (w .before .before) in
+      let m = placed (word₂ s) in
+      s .eval-expr2 .kept .1 .1 .0 ∙ ran (m .before .before) .eval-expr .kept .1 .1 .0
+
+  returns-4 : eval-test-lts.Need-returns-4 claims (eval-test-at t) eval-test.Post
+  returns-4 c =
+      let q = c .before .before .before in
+      let w = tried q in
+      let s = ran₂ (w .before .before) in
+      let g = word₂ s in
+      let m = placed g in
+      let e = ran (m .before .before) in
+      let f = word e in
+      let v = lent f in
+      test-truth (v .pre .1 .0) (v .pre .1 .1 .0) (v .pre .1 .1 .1)
+      (both-formed (v .pre .1 .0 .ready) (test-fields (v .pre .1 .0) (v .pre .1 .1 .0) (v .pre .1 .1 .1)) (f .node-field .ensures)
+      (e .eval-expr .ensures) (m .first .given .1) (g .node-field2 .ensures)
+      (s .eval-expr2 .ensures) (w .second .given .1)) (q .test .ensures) (c .before .tested .given .1)
+
+  pub eval-test-closed : {M : Type 1} → eval-test-lts.Closed claims (eval-test-at t) eval-test.Post M
+  eval-test-closed =
+      eval-test-lts.spec
+      claims
+      (eval-test-at t)
+      eval-test.Post
+      node-field-requires
+      sub-eval-expr
+      eval-expr-requires
+      enum-known-first
+      enum-told
+      refusal-of-requires
+      same-length
+      returns
+      node-field-requires-2
+      eval-expr-requires-2
+      enum-known-second
+      enum-told-2
+      refusal-of-requires-2
+      same-length-2
+      returns-2
+      test-requires
+      enum-known-tested
+      enum-told-3
+      refused-requires
+      same-length-3
+      returns-3
+      same-length-4
+      returns-4
