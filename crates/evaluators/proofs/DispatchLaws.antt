@@ -35,10 +35,10 @@ use Rattle.arena.proofs.Standing.{same-refl}
 use Rattle.operations.specs.Outcomes.{BuiltAt, LeafFits}
 use Rattle.operations.proofs.KindLaws.{oneCode, code-of, kind-of}
 use Rattle.evaluators.specs.declared.Formed.{Formed}
-use Rattle.evaluators.specs.declared.Formed.the-variants.{Stopped}
+use Rattle.evaluators.specs.declared.Formed.the-variants.{Value as Placed, Stopped}
 use Rattle.evaluators.specs.declared.Held.the-variants.{Refused}
 use Rattle.evaluators.specs.Answers.{EndsWith, PlacedAs}
-use Rattle.evaluators.specs.Nodes.{fieldA, fieldB, IsPred, IsExpr, NameReady, NameAt, LeafNode, LeafFormed}
+use Rattle.evaluators.specs.Nodes.{fieldA, fieldB, IsPred, IsExpr, PlaceReady, PlacedName, PlaceAt, NameReady, NameAt, LeafNode, LeafFormed}
 use Rattle.evaluators.specs.Cycle.{Binds, Ready, Visited, Sort, holdsAt, valueAt, EvaluatesP, EvaluatesE}
 use Rattle.evaluators.proofs.RunLaws.{visited, unvisited}
 use Rattle.evaluators.proofs.NodeLaws.{sizes-small, field-holds, expr-at, visited-kind, steps-on}
@@ -381,3 +381,23 @@ module _ {bs env s : List ℕ} {top k n left : ℕ} (v : Visited bs env s top k 
         answer = λ f ρ budget steps l c b.
             built-answer s′ (h .end) (p .ready .kind) (visited-kind v (leaf (p .ready .kind)) (p .ready .is)) f ρ budget steps l c b (leaf-built p s′ o h ρ);
       })
+
+-- An operand that is an identifier: what is asked of its node, and what is known of its value's place.
+pub place-ready : {bs env s : List ℕ} {top n : ℕ} → Ready bs env s top n → PlaceReady bs env n
+place-ready r = record { readable = r .readable; node = r .node; entries = r .entries }
+
+module _ {bs env : List ℕ} {n k : ℕ} (p : PlaceReady bs env n) (e : k ≡ nodeAt (tableOf bs .nodes) n .kind) (q : k ≡ 20) where
+  place-kind : kindAt (tableOf bs .nodes) n ≡ some (leaf identifier)
+  place-kind = ap kindOf (sym e) ∙ kind-of k (leaf identifier) q
+
+  pub place-name : fieldA bs n < 32
+  place-name = name-below bs (p .readable) n (p .node) place-kind
+
+  pub place-at : {x at : ℕ} → x ≡ fieldA bs n → at ≡ getD env x 0 → PlaceAt bs env n at
+  place-at ex d = λ _. record { kind = sym e ∙ q; is = d ∙ ap (λ (y : ℕ). getD env y 0) ex }
+
+-- It is the answer, where a visit is left.
+pub placed-answer : {bs env s : List ℕ} {top n at left : ℕ} → Ready bs env s top n → PlacedName bs env n at → left ≢ 0 →
+    EvaluatesE bs env s top n left s (Placed at top (left - 1))
+placed-answer {top = top} {at = at} {left = left} r p h =
+    name-answer (counted r 20 h (sym (p .kind))) refl (Placed at top (left - 1)) (ap (λ (y : ℕ). Placed y top (left - 1)) (p .is))

@@ -2,6 +2,7 @@
 use Prim.Native.Nat.{ℕ, _+_, _-_, _≤_, _<_}
 use mathlib.Core.Bool.{Bool, true, false, cond, not}
 use mathlib.Core.List.{List}
+use mathlib.Core.Logic.{_≢_}
 use mathlib.Core.Option.{none as nothing, some}
 use mathlib.Core.Path.{_≡_}
 use lib.Dec.{eqb}
@@ -57,6 +58,19 @@ pub record SomeGood (s : List ℕ) (at : ℕ) : Type 0 where
 
 abbrev pub RangeAt : List ℕ → ℕ → Range → Type 0
 RangeAt s at r = (gs : List ℕ) (top : ℕ) (v : Value) → Sizes gs → GoodAt gs s top at v → RangeAs v r
+
+-- A node that may be read, and where its value stands if it is an identifier's.
+pub record PlaceReady (bs env : List ℕ) (n : ℕ) : Type 0 where
+  pub readable : Readable bs
+  pub node : n < nodeCount bs
+  pub entries : length env ≡ 32
+
+pub record PlacedName (bs env : List ℕ) (n at : ℕ) : Type 0 where
+  pub kind : nodeAt (tableOf bs .nodes) n .kind ≡ 20
+  pub is : at ≡ getD env (fieldA bs n) 0
+
+abbrev pub PlaceAt : List ℕ → List ℕ → ℕ → ℕ → Type 0
+PlaceAt bs env n at = at ≢ 0 → PlacedName bs env n at
 
 -- An identifier's node.
 pub record NameReady (bs env : List ℕ) (n : ℕ) : Type 0 where

@@ -4,7 +4,7 @@ ghost use Rattle.rules.specs.Kinds.{join, test, quant, one, two};
 ghost use Rattle.evaluators.specs.declared.Held.the-variants.{Refused};
 ghost use Rattle.evaluators.specs.declared.Formed.the-variants.{Stopped};
 ghost use Rattle.evaluators.specs.Answers.{RefusalOf, StopOf, SettleReady};
-ghost use Rattle.evaluators.specs.Nodes.{IsPred, IsExpr, DecidesBy, JoinedBy, quantOf, SomeGood, RangeAt, NameReady, NameAt, LeafNode, LeafFormed, ChooseReady, Chooses};
+ghost use Rattle.evaluators.specs.Nodes.{IsPred, IsExpr, DecidesBy, JoinedBy, quantOf, SomeGood, RangeAt, PlaceReady, PlaceAt, NameReady, NameAt, LeafNode, LeafFormed, ChooseReady, Chooses};
 ghost use Rattle.evaluators.specs.Cycle.{Ready, Visited, Sort, EvaluatesP, EvaluatesE, EachReady, EvaluatesEach, EvaluatesChosen, Settles};
 use operations::Outcome;
 use operations::Tested;
@@ -196,7 +196,7 @@ fn eval_test(
     ensures { λ r. ⌜ EvaluatesP (now (table .entry)) (now (env .entry)) (now (s .entry)) top node left (now (s .exit)) r ⌝ }
 {
     let a = table::node_field(table, node, 0);
-    let first = eval_expr(table, env, s, top, a, left - 1);
+    let first = operand(table, env, s, top, a, left - 1);
     let Formed::Value {
         at: x,
         end: mid,
@@ -206,7 +206,7 @@ fn eval_test(
         return refusal_of(first);
     };
     let b = table::node_field(table, node, 1);
-    let second = eval_expr(table, env, s, mid, b, n);
+    let second = operand(table, env, s, mid, b, n);
     let Formed::Value {
         at: y,
         end: next,
@@ -247,7 +247,7 @@ fn eval_quant(
     ensures { λ r. ⌜ EvaluatesP (now (table .entry)) (now (env .entry)) (now (s .entry)) top node left (now (s .exit)) r ⌝ }
 {
     let a = table::node_field(table, node, 1);
-    let first = eval_expr(table, env, s, top, a, left - 1);
+    let first = operand(table, env, s, top, a, left - 1);
     let Formed::Value {
         at,
         end: next,
@@ -298,6 +298,41 @@ fn each_member(
         more -= 1;
     }
     Held::Truth { yes: all, left: n }
+}
+
+// Where the value of an identifier's node stands; 0 for another kind.
+fn leaf_place(table: &[u8], env: &[u32; 32], node: usize) -> usize
+    requires { ⌜ PlaceReady (now table) (now env) node ⌝ }
+    ensures { λ r. ⌜ PlaceAt (now (table .entry)) (now (env .entry)) node r ⌝ }
+{
+    if table::node_kind(table, node) != 20 {
+        return 0;
+    }
+    let x = table::node_field(table, node, 0);
+    wide(env[x])
+}
+
+// The operand at a node. A call costs more than an identifier's visit, so that is made here. The function stays small enough to be inlined.
+fn operand(
+    table: &[u8],
+    env: &[u32; 32],
+    s: &mut [u64],
+    top: usize,
+    node: usize,
+    left: u32,
+) -> Formed
+    requires { ⌜ Ready (now table) (now env) (now s) top node × IsExpr (now table) node ⌝ }
+    ensures { λ r. ⌜ EvaluatesE (now (table .entry)) (now (env .entry)) (now (s .entry)) top node left (now (s .exit)) r ⌝ }
+{
+    let at = leaf_place(table, env, node);
+    if at == 0 || left == 0 {
+        return eval_expr(table, env, s, top, node, left);
+    }
+    Formed::Value {
+        at,
+        end: top,
+        left: left - 1,
+    }
 }
 
 // The expression at a node.
@@ -426,7 +461,7 @@ fn eval_one(
     ensures { λ r. ⌜ EvaluatesE (now (table .entry)) (now (env .entry)) (now (s .entry)) top node left (now (s .exit)) r ⌝ }
 {
     let a = table::node_field(table, node, 0);
-    let first = eval_expr(table, env, s, top, a, left - 1);
+    let first = operand(table, env, s, top, a, left - 1);
     let Formed::Value {
         at,
         end: next,
@@ -453,7 +488,7 @@ fn eval_two(
     ensures { λ r. ⌜ EvaluatesE (now (table .entry)) (now (env .entry)) (now (s .entry)) top node left (now (s .exit)) r ⌝ }
 {
     let a = table::node_field(table, node, 0);
-    let first = eval_expr(table, env, s, top, a, left - 1);
+    let first = operand(table, env, s, top, a, left - 1);
     let Formed::Value {
         at: x,
         end: mid,
@@ -463,7 +498,7 @@ fn eval_two(
         return first;
     };
     let b = table::node_field(table, node, 1);
-    let second = eval_expr(table, env, s, mid, b, n);
+    let second = operand(table, env, s, mid, b, n);
     let Formed::Value {
         at: y,
         end: next,
@@ -489,7 +524,7 @@ fn eval_select(
     ensures { λ r. ⌜ EvaluatesE (now (table .entry)) (now (env .entry)) (now (s .entry)) top node left (now (s .exit)) r ⌝ }
 {
     let a = table::node_field(table, node, 1);
-    let first = eval_expr(table, env, s, top, a, left - 1);
+    let first = operand(table, env, s, top, a, left - 1);
     let Formed::Value {
         at,
         end: next,

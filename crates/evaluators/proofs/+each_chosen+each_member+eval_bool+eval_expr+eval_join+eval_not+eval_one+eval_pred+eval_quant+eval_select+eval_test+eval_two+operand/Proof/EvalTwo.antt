@@ -4,13 +4,13 @@ use Prim.Native.Nat.{ℕ}
 use mathlib.Core.Path.{refl, sym, _∙_}
 use native.Mathlib.Omega.{arith}
 use lib.Dec.{lit<}
-use Rattle.evaluators.proofs.eval_expr.Reads as eval-expr
 use Rattle.evaluators.proofs.eval_two.Reads as eval-two
-use Rattle.evaluators.proofs.+each_chosen+each_member+eval_bool+eval_expr+eval_join+eval_not+eval_one+eval_pred+eval_quant+eval_select+eval_test+eval_two.Lts-eval_two as eval-two-lts
+use Rattle.evaluators.proofs.operand.Reads as operand
+use Rattle.evaluators.proofs.+each_chosen+each_member+eval_bool+eval_expr+eval_join+eval_not+eval_one+eval_pred+eval_quant+eval_select+eval_test+eval_two+operand.Lts-eval_two as eval-two-lts
 use Rattle.table.proofs.node_field.Reads as node-field-reads
 use Rattle.evaluators.proofs.settle.Reads as settle-reads
 use Rattle.operations.proofs.two.Reads as two-reads
-use Rattle.evaluators.proofs.+each_chosen+each_member+eval_bool+eval_expr+eval_join+eval_not+eval_one+eval_pred+eval_quant+eval_select+eval_test+eval_two.Proof.Base.{eval-expr-below, eval-two-at}
+use Rattle.evaluators.proofs.+each_chosen+each_member+eval_bool+eval_expr+eval_join+eval_not+eval_one+eval_pred+eval_quant+eval_select+eval_test+eval_two+operand.Proof.Base.{eval-two-at, operand-below}
 use Rattle.evaluators.proofs.SafeLaws.{ready-node}
 use Rattle.evaluators.proofs.NodeLaws.{formed-as}
 use Rattle.evaluators.proofs.BothLaws.{left-child, left-ready, both-stops, right-child, right-ready, both-stops-2, both-formed, operands-ready}
@@ -21,8 +21,8 @@ module _ (t : ℕ) where
   claims = (
     node-field-reads.Asked,
     node-field-reads.Learnt,
-    eval-expr-below t,
-    eval-expr.Post,
+    operand-below t,
+    operand.Post,
     two-reads.Asked,
     two-reads.Learnt,
     settle-reads.Asked,
@@ -32,19 +32,19 @@ module _ (t : ℕ) where
   abbrev lent : eval-two-lts.After-node-field claims (eval-two-at t) eval-two.Post → eval-two-lts.Start claims (eval-two-at t) eval-two.Post
   lent c = c .before .before .before
 
-  abbrev word : eval-two-lts.After-eval-expr claims (eval-two-at t) eval-two.Post → eval-two-lts.After-node-field claims (eval-two-at t) eval-two.Post
+  abbrev word : eval-two-lts.After-operand claims (eval-two-at t) eval-two.Post → eval-two-lts.After-node-field claims (eval-two-at t) eval-two.Post
   word c = c .before .before
 
-  abbrev ran : eval-two-lts.After-slice-known2 claims (eval-two-at t) eval-two.Post → eval-two-lts.After-eval-expr claims (eval-two-at t) eval-two.Post
+  abbrev ran : eval-two-lts.After-slice-known2 claims (eval-two-at t) eval-two.Post → eval-two-lts.After-operand claims (eval-two-at t) eval-two.Post
   ran c = c .before .before
 
   abbrev placed : eval-two-lts.After-node-field2 claims (eval-two-at t) eval-two.Post → eval-two-lts.After-first claims (eval-two-at t) eval-two.Post
   placed c = c .before .before
 
-  abbrev word₂ : eval-two-lts.After-eval-expr2 claims (eval-two-at t) eval-two.Post → eval-two-lts.After-node-field2 claims (eval-two-at t) eval-two.Post
+  abbrev word₂ : eval-two-lts.After-operand2 claims (eval-two-at t) eval-two.Post → eval-two-lts.After-node-field2 claims (eval-two-at t) eval-two.Post
   word₂ c = c .before .before
 
-  abbrev ran₂ : eval-two-lts.After-slice-known3 claims (eval-two-at t) eval-two.Post → eval-two-lts.After-eval-expr2 claims (eval-two-at t) eval-two.Post
+  abbrev ran₂ : eval-two-lts.After-slice-known3 claims (eval-two-at t) eval-two.Post → eval-two-lts.After-operand2 claims (eval-two-at t) eval-two.Post
   ran₂ c = c .before .before
 
   abbrev done : eval-two-lts.After-two claims (eval-two-at t) eval-two.Post → eval-two-lts.After-second claims (eval-two-at t) eval-two.Post
@@ -56,11 +56,11 @@ module _ (t : ℕ) where
   node-field-requires : eval-two-lts.Need-node-field-requires claims (eval-two-at t) eval-two.Post
   node-field-requires c κs = (ready-node (c .before .before .pre .1 .0 .ready), lit< tt)
 
-  sub-eval-expr : eval-two-lts.Need-sub-eval-expr claims (eval-two-at t) eval-two.Post
-  sub-eval-expr c = omega (arith, lent (c .before) .pre .1 .0 .unspent)
+  sub-operand : eval-two-lts.Need-sub-operand claims (eval-two-at t) eval-two.Post
+  sub-operand c = omega (arith, lent (c .before) .pre .1 .0 .unspent)
 
-  eval-expr-requires : eval-two-lts.Need-eval-expr-requires claims (eval-two-at t) eval-two.Post
-  eval-expr-requires c κs =
+  operand-requires : eval-two-lts.Need-operand-requires claims (eval-two-at t) eval-two.Post
+  operand-requires c κs =
       let f = c .before in
       let v = lent f in
       let y = two-fields (v .pre .1 .0) (v .pre .1 .1 .0) (v .pre .1 .1 .1) in (
@@ -75,7 +75,7 @@ module _ (t : ℕ) where
   enum-told c = c .match .keys2
 
   same-length : eval-two-lts.Need-same-length claims (eval-two-at t) eval-two.Post
-  same-length c = ran (c .before .before) .eval-expr .kept .1 .1 .0
+  same-length c = ran (c .before .before) .operand .kept .1 .1 .0
 
   returns : eval-two-lts.Need-returns claims (eval-two-at t) eval-two.Post
   returns c =
@@ -84,24 +84,24 @@ module _ (t : ℕ) where
       let v = lent f in
       formed-as refl (sym (c .enum-told .given .1))
       (two-fails (v .pre .1 .0) (v .pre .1 .1 .0) (v .pre .1 .1 .1)
-      (both-stops (v .pre .1 .0 .ready) (two-fields (v .pre .1 .0) (v .pre .1 .1 .0) (v .pre .1 .1 .1)) (f .node-field .ensures) (e .eval-expr .ensures)
+      (both-stops (v .pre .1 .0 .ready) (two-fields (v .pre .1 .0) (v .pre .1 .1 .0) (v .pre .1 .1 .1)) (f .node-field .ensures) (e .operand .ensures)
       (c .enum-told .given .1)))
 
   node-field-requires-2 : eval-two-lts.Need-node-field-requires-2 claims (eval-two-at t) eval-two.Post
   node-field-requires-2 c κs = let m = c .before in (ready-node (lent (word (ran (m .before .before))) .pre .1 .0 .ready), lit< tt)
 
-  eval-expr-requires-2 : eval-two-lts.Need-eval-expr-requires-2 claims (eval-two-at t) eval-two.Post
-  eval-expr-requires-2 c κs =
+  operand-requires-2 : eval-two-lts.Need-operand-requires-2 claims (eval-two-at t) eval-two.Post
+  operand-requires-2 c κs =
       let g = c .before in
       let m = placed g in
       let e = ran (m .before .before) in
       let f = word e in
       let v = lent f in
       let d = right-child (v .pre .1 .0 .ready) (two-fields (v .pre .1 .0) (v .pre .1 .1 .0) (v .pre .1 .1 .1)) (f .node-field .ensures)
-      (e .eval-expr .ensures) (m .first .given .1) (g .node-field2 .ensures) in (
+      (e .operand .ensures) (m .first .given .1) (g .node-field2 .ensures) in (
         omega (arith, v .pre .0, d .below),
         right-ready (v .pre .1 .0 .ready) (two-fields (v .pre .1 .0) (v .pre .1 .1 .0) (v .pre .1 .1 .1)) (f .node-field .ensures)
-            (e .eval-expr .ensures) (m .first .given .1) (g .node-field2 .ensures),
+            (e .operand .ensures) (m .first .given .1) (g .node-field2 .ensures),
       )
 
   enum-known-second : eval-two-lts.Need-enum-known-second claims (eval-two-at t) eval-two.Post
@@ -114,7 +114,7 @@ module _ (t : ℕ) where
   same-length-2 c =
       let s = ran₂ (c .before .before) in
       let m = placed (word₂ s) in
-      s .eval-expr2 .kept .1 .1 .0 ∙ ran (m .before .before) .eval-expr .kept .1 .1 .0
+      s .operand2 .kept .1 .1 .0 ∙ ran (m .before .before) .operand .kept .1 .1 .0
 
   returns-2 : eval-two-lts.Need-returns-2 claims (eval-two-at t) eval-two.Post
   returns-2 c =
@@ -127,8 +127,8 @@ module _ (t : ℕ) where
       formed-as refl (sym (c .enum-told2 .given .1))
       (two-fails (v .pre .1 .0) (v .pre .1 .1 .0) (v .pre .1 .1 .1)
       (both-stops-2 (v .pre .1 .0 .ready) (two-fields (v .pre .1 .0) (v .pre .1 .1 .0) (v .pre .1 .1 .1)) (f .node-field .ensures)
-      (e .eval-expr .ensures) (m .first .given .1) (g .node-field2 .ensures)
-      (s .eval-expr2 .ensures) (c .enum-told2 .given .1)))
+      (e .operand .ensures) (m .first .given .1) (g .node-field2 .ensures)
+      (s .operand2 .ensures) (c .enum-told2 .given .1)))
 
   two-requires : eval-two-lts.Need-two-requires claims (eval-two-at t) eval-two.Post
   two-requires c κs =
@@ -141,8 +141,8 @@ module _ (t : ℕ) where
       let v = lent f in
       operands-ready (v .pre .1 .0 .ready) (two-fields (v .pre .1 .0) (v .pre .1 .1 .0) (v .pre .1 .1 .1))
       (both-formed (v .pre .1 .0 .ready) (two-fields (v .pre .1 .0) (v .pre .1 .1 .0) (v .pre .1 .1 .1)) (f .node-field .ensures)
-      (e .eval-expr .ensures) (m .first .given .1) (g .node-field2 .ensures)
-      (s .eval-expr2 .ensures) (w .second .given .1))
+      (e .operand .ensures) (m .first .given .1) (g .node-field2 .ensures)
+      (s .operand2 .ensures) (w .second .given .1))
 
   settle-requires : eval-two-lts.Need-settle-requires claims (eval-two-at t) eval-two.Post
   settle-requires c κs =
@@ -156,8 +156,8 @@ module _ (t : ℕ) where
       let v = lent f in
       two-settles (v .pre .1 .0) (v .pre .1 .1 .0) (v .pre .1 .1 .1)
       (both-formed (v .pre .1 .0 .ready) (two-fields (v .pre .1 .0) (v .pre .1 .1 .0) (v .pre .1 .1 .1)) (f .node-field .ensures)
-      (e .eval-expr .ensures) (m .first .given .1) (g .node-field2 .ensures)
-      (s .eval-expr2 .ensures) (w .second .given .1)) (q .two .ensures)
+      (e .operand .ensures) (m .first .given .1) (g .node-field2 .ensures)
+      (s .operand2 .ensures) (w .second .given .1)) (q .two .ensures)
 
   same-length-3 : eval-two-lts.Need-same-length-3 claims (eval-two-at t) eval-two.Post
   same-length-3 c =
@@ -166,7 +166,7 @@ module _ (t : ℕ) where
       let w = done q in
       let s = ran₂ (w .before .before) in
       let m = placed (word₂ s) in
-      p .settle .kept .0 ∙ q .two .kept .0 ∙ s .eval-expr2 .kept .1 .1 .0 ∙ ran (m .before .before) .eval-expr .kept .1 .1 .0
+      p .settle .kept .0 ∙ q .two .kept .0 ∙ s .operand2 .kept .1 .1 .0 ∙ ran (m .before .before) .operand .kept .1 .1 .0
 
   returns-3 : eval-two-lts.Need-returns-3 claims (eval-two-at t) eval-two.Post
   returns-3 c =
@@ -181,8 +181,8 @@ module _ (t : ℕ) where
       let v = lent f in
       two-evaluates (v .pre .1 .0) (v .pre .1 .1 .0) (v .pre .1 .1 .1)
       (both-formed (v .pre .1 .0 .ready) (two-fields (v .pre .1 .0) (v .pre .1 .1 .0) (v .pre .1 .1 .1)) (f .node-field .ensures)
-      (e .eval-expr .ensures) (m .first .given .1) (g .node-field2 .ensures)
-      (s .eval-expr2 .ensures) (w .second .given .1)) (q .two .ensures) (p .settle .ensures)
+      (e .operand .ensures) (m .first .given .1) (g .node-field2 .ensures)
+      (s .operand2 .ensures) (w .second .given .1)) (q .two .ensures) (p .settle .ensures)
 
   pub eval-two-closed : {M : Type 1} → eval-two-lts.Closed claims (eval-two-at t) eval-two.Post M
   eval-two-closed =
@@ -191,14 +191,14 @@ module _ (t : ℕ) where
       (eval-two-at t)
       eval-two.Post
       node-field-requires
-      sub-eval-expr
-      eval-expr-requires
+      sub-operand
+      operand-requires
       enum-known-first
       enum-told
       same-length
       returns
       node-field-requires-2
-      eval-expr-requires-2
+      operand-requires-2
       enum-known-second
       enum-told-2
       same-length-2

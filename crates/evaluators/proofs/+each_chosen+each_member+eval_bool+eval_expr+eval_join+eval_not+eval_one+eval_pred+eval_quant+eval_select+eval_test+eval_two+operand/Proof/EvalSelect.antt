@@ -5,14 +5,14 @@ use mathlib.Core.Path.{refl, sym, _∙_}
 use native.Mathlib.Omega.{arith}
 use lib.Dec.{lit<}
 use Rattle.evaluators.proofs.each_chosen.Reads as each-chosen
-use Rattle.evaluators.proofs.eval_expr.Reads as eval-expr
 use Rattle.evaluators.proofs.eval_select.Reads as eval-select
-use Rattle.evaluators.proofs.+each_chosen+each_member+eval_bool+eval_expr+eval_join+eval_not+eval_one+eval_pred+eval_quant+eval_select+eval_test+eval_two.Lts-eval_select as eval-select-lts
+use Rattle.evaluators.proofs.operand.Reads as operand
+use Rattle.evaluators.proofs.+each_chosen+each_member+eval_bool+eval_expr+eval_join+eval_not+eval_one+eval_pred+eval_quant+eval_select+eval_test+eval_two+operand.Lts-eval_select as eval-select-lts
 use Rattle.table.proofs.node_field.Reads as node-field-reads
 use Rattle.evaluators.proofs.range_of.Reads as range-of-reads
 use Rattle.evaluators.proofs.settle.Reads as settle-reads
 use Rattle.evaluators.proofs.stopped.Reads as stopped-reads
-use Rattle.evaluators.proofs.+each_chosen+each_member+eval_bool+eval_expr+eval_join+eval_not+eval_one+eval_pred+eval_quant+eval_select+eval_test+eval_two.Proof.Base.{each-chosen-below, eval-expr-below, eval-select-at}
+use Rattle.evaluators.proofs.+each_chosen+each_member+eval_bool+eval_expr+eval_join+eval_not+eval_one+eval_pred+eval_quant+eval_select+eval_test+eval_two+operand.Proof.Base.{each-chosen-below, eval-select-at, operand-below}
 use Rattle.evaluators.proofs.SafeLaws.{ready-node}
 use Rattle.evaluators.proofs.NodeLaws.{formed-as}
 use Rattle.evaluators.proofs.RangeLaws.{range-as}
@@ -23,8 +23,8 @@ module _ (t : ℕ) where
   claims = (
     node-field-reads.Asked,
     node-field-reads.Learnt,
-    eval-expr-below t,
-    eval-expr.Post,
+    operand-below t,
+    operand.Post,
     range-of-reads.Asked,
     range-of-reads.Learnt,
     stopped-reads.Asked,
@@ -38,12 +38,12 @@ module _ (t : ℕ) where
   abbrev lent : eval-select-lts.After-node-field claims (eval-select-at t) eval-select.Post → eval-select-lts.Start claims (eval-select-at t) eval-select.Post
   lent c = c .before .before .before
 
-  abbrev word : eval-select-lts.After-eval-expr claims (eval-select-at t) eval-select.Post →
+  abbrev word : eval-select-lts.After-operand claims (eval-select-at t) eval-select.Post →
       eval-select-lts.After-node-field claims (eval-select-at t) eval-select.Post
   word c = c .before .before
 
   abbrev ran : eval-select-lts.After-slice-known2 claims (eval-select-at t) eval-select.Post →
-      eval-select-lts.After-eval-expr claims (eval-select-at t) eval-select.Post
+      eval-select-lts.After-operand claims (eval-select-at t) eval-select.Post
   ran c = c .before .before
 
   abbrev asked : eval-select-lts.After-range-of claims (eval-select-at t) eval-select.Post →
@@ -65,11 +65,11 @@ module _ (t : ℕ) where
   node-field-requires : eval-select-lts.Need-node-field-requires claims (eval-select-at t) eval-select.Post
   node-field-requires c κs = (ready-node (c .before .before .pre .1 .ready), lit< tt)
 
-  sub-eval-expr : eval-select-lts.Need-sub-eval-expr claims (eval-select-at t) eval-select.Post
-  sub-eval-expr c = omega (arith, lent (c .before) .pre .1 .unspent)
+  sub-operand : eval-select-lts.Need-sub-operand claims (eval-select-at t) eval-select.Post
+  sub-operand c = omega (arith, lent (c .before) .pre .1 .unspent)
 
-  eval-expr-requires : eval-select-lts.Need-eval-expr-requires claims (eval-select-at t) eval-select.Post
-  eval-expr-requires c κs =
+  operand-requires : eval-select-lts.Need-operand-requires claims (eval-select-at t) eval-select.Post
+  operand-requires c κs =
       let f = c .before in
       let v = lent f in
       (omega (arith, v .pre .0, select-child (v .pre .1) (f .node-field .ensures) .below), select-begins (v .pre .1) (f .node-field .ensures))
@@ -81,7 +81,7 @@ module _ (t : ℕ) where
   enum-told c = c .match .keys2
 
   same-length : eval-select-lts.Need-same-length claims (eval-select-at t) eval-select.Post
-  same-length c = ran (c .before .before) .eval-expr .kept .1 .1 .0
+  same-length c = ran (c .before .before) .operand .kept .1 .1 .0
 
   returns : eval-select-lts.Need-returns claims (eval-select-at t) eval-select.Post
   returns c =
@@ -89,7 +89,7 @@ module _ (t : ℕ) where
       let f = word e in
       let v = lent f in
       let q = c .enum-told .given .1 in
-      formed-as refl (sym q) (select-fails (v .pre .1) (f .node-field .ensures) (formed-as refl q (e .eval-expr .ensures)))
+      formed-as refl (sym q) (select-fails (v .pre .1) (f .node-field .ensures) (formed-as refl q (e .operand .ensures)))
 
   range-of-requires : eval-select-lts.Need-range-of-requires claims (eval-select-at t) eval-select.Post
   range-of-requires c κs =
@@ -97,7 +97,7 @@ module _ (t : ℕ) where
       let e = ran (m .before .before) in
       let f = word e in
       let v = lent f in
-      range-good (v .pre .1) (f .node-field .ensures) (formed-as refl (m .first .given .1) (e .eval-expr .ensures))
+      range-good (v .pre .1) (f .node-field .ensures) (formed-as refl (m .first .given .1) (e .operand .ensures))
 
   enum-known-range : eval-select-lts.Need-enum-known-range claims (eval-select-at t) eval-select.Post
   enum-known-range c = c .match2 .keys1
@@ -109,7 +109,7 @@ module _ (t : ℕ) where
   stopped-requires c κs = tt
 
   same-length-2 : eval-select-lts.Need-same-length-2 claims (eval-select-at t) eval-select.Post
-  same-length-2 c = let m = asked (c .before .before .before) in ran (m .before .before) .eval-expr .kept .1 .1 .0
+  same-length-2 c = let m = asked (c .before .before .before) in ran (m .before .before) .operand .kept .1 .1 .0
 
   returns-2 : eval-select-lts.Need-returns-2 claims (eval-select-at t) eval-select.Post
   returns-2 c =
@@ -120,7 +120,7 @@ module _ (t : ℕ) where
       let f = word e in
       let v = lent f in
       formed-as refl (sym (c .stopped .ensures))
-      (range-fails (v .pre .1) (f .node-field .ensures) (formed-as refl (m .first .given .1) (e .eval-expr .ensures))
+      (range-fails (v .pre .1) (f .node-field .ensures) (formed-as refl (m .first .given .1) (e .operand .ensures))
       (range-as (k .enum-told2 .given .1) (o .range-of .ensures)))
 
   add-each-chosen : eval-select-lts.Need-add-each-chosen claims (eval-select-at t) eval-select.Post
@@ -130,7 +130,7 @@ module _ (t : ℕ) where
       let e = ran (m .before .before) in
       let f = word e in
       let v = lent f in
-      omega (arith, range-low (v .pre .1) (f .node-field .ensures) (formed-as refl (m .first .given .1) (e .eval-expr .ensures)))
+      omega (arith, range-low (v .pre .1) (f .node-field .ensures) (formed-as refl (m .first .given .1) (e .operand .ensures)))
 
   each-chosen-requires : eval-select-lts.Need-each-chosen-requires claims (eval-select-at t) eval-select.Post
   each-chosen-requires c κs =
@@ -141,7 +141,7 @@ module _ (t : ℕ) where
       let f = word e in
       let v = lent f in (
         omega (arith, v .pre .0),
-        select-each (v .pre .1) (f .node-field .ensures) (formed-as refl (m .first .given .1) (e .eval-expr .ensures))
+        select-each (v .pre .1) (f .node-field .ensures) (formed-as refl (m .first .given .1) (e .operand .ensures))
             (range-as (a .range .given .1) (o .range-of .ensures)),
       )
 
@@ -156,7 +156,7 @@ module _ (t : ℕ) where
       let p = chose (c .before .before) in
       let a = counted p in
       let m = asked (a .before .before) in
-      p .each-chosen .kept .1 .1 .0 ∙ ran (m .before .before) .eval-expr .kept .1 .1 .0
+      p .each-chosen .kept .1 .1 .0 ∙ ran (m .before .before) .operand .kept .1 .1 .0
 
   returns-3 : eval-select-lts.Need-returns-3 claims (eval-select-at t) eval-select.Post
   returns-3 c =
@@ -169,7 +169,7 @@ module _ (t : ℕ) where
       let v = lent f in
       let q = c .enum-told3 .given .1 in
       formed-as refl (sym q)
-      (chosen-fails (v .pre .1) (f .node-field .ensures) (formed-as refl (m .first .given .1) (e .eval-expr .ensures))
+      (chosen-fails (v .pre .1) (f .node-field .ensures) (formed-as refl (m .first .given .1) (e .operand .ensures))
       (range-as (a .range .given .1) (o .range-of .ensures))
       (chosen-as q (p .each-chosen .ensures)))
 
@@ -183,7 +183,7 @@ module _ (t : ℕ) where
       let e = ran (m .before .before) in
       let f = word e in
       let v = lent f in
-      select-settles (v .pre .1) (f .node-field .ensures) (formed-as refl (m .first .given .1) (e .eval-expr .ensures))
+      select-settles (v .pre .1) (f .node-field .ensures) (formed-as refl (m .first .given .1) (e .operand .ensures))
       (range-as (a .range .given .1) (o .range-of .ensures))
       (chosen-as (w .chosen .given .1) (p .each-chosen .ensures))
 
@@ -194,7 +194,7 @@ module _ (t : ℕ) where
       let p = chose (w .before .before) in
       let a = counted p in
       let m = asked (a .before .before) in
-      i .settle .kept .0 ∙ p .each-chosen .kept .1 .1 .0 ∙ ran (m .before .before) .eval-expr .kept .1 .1 .0
+      i .settle .kept .0 ∙ p .each-chosen .kept .1 .1 .0 ∙ ran (m .before .before) .operand .kept .1 .1 .0
 
   returns-4 : eval-select-lts.Need-returns-4 claims (eval-select-at t) eval-select.Post
   returns-4 c =
@@ -207,7 +207,7 @@ module _ (t : ℕ) where
       let e = ran (m .before .before) in
       let f = word e in
       let v = lent f in
-      select-evaluates (v .pre .1) (f .node-field .ensures) (formed-as refl (m .first .given .1) (e .eval-expr .ensures))
+      select-evaluates (v .pre .1) (f .node-field .ensures) (formed-as refl (m .first .given .1) (e .operand .ensures))
       (range-as (a .range .given .1) (o .range-of .ensures))
       (chosen-as (w .chosen .given .1) (p .each-chosen .ensures)) (i .settle .ensures)
 
@@ -218,8 +218,8 @@ module _ (t : ℕ) where
       (eval-select-at t)
       eval-select.Post
       node-field-requires
-      sub-eval-expr
-      eval-expr-requires
+      sub-operand
+      operand-requires
       enum-known-first
       enum-told
       same-length

@@ -4,13 +4,13 @@ use Prim.Native.Nat.{ℕ}
 use mathlib.Core.Path.{refl, sym, _∙_}
 use native.Mathlib.Omega.{arith}
 use lib.Dec.{lit<}
-use Rattle.evaluators.proofs.eval_expr.Reads as eval-expr
 use Rattle.evaluators.proofs.eval_one.Reads as eval-one
-use Rattle.evaluators.proofs.+each_chosen+each_member+eval_bool+eval_expr+eval_join+eval_not+eval_one+eval_pred+eval_quant+eval_select+eval_test+eval_two.Lts-eval_one as eval-one-lts
+use Rattle.evaluators.proofs.operand.Reads as operand
+use Rattle.evaluators.proofs.+each_chosen+each_member+eval_bool+eval_expr+eval_join+eval_not+eval_one+eval_pred+eval_quant+eval_select+eval_test+eval_two+operand.Lts-eval_one as eval-one-lts
 use Rattle.table.proofs.node_field.Reads as node-field-reads
 use Rattle.operations.proofs.one.Reads as one-reads
 use Rattle.evaluators.proofs.settle.Reads as settle-reads
-use Rattle.evaluators.proofs.+each_chosen+each_member+eval_bool+eval_expr+eval_join+eval_not+eval_one+eval_pred+eval_quant+eval_select+eval_test+eval_two.Proof.Base.{eval-expr-below, eval-one-at}
+use Rattle.evaluators.proofs.+each_chosen+each_member+eval_bool+eval_expr+eval_join+eval_not+eval_one+eval_pred+eval_quant+eval_select+eval_test+eval_two+operand.Proof.Base.{eval-one-at, operand-below}
 use Rattle.evaluators.proofs.SafeLaws.{ready-node}
 use Rattle.evaluators.proofs.NodeLaws.{formed-as}
 use Rattle.evaluators.proofs.FormLaws.{one-child, one-begins, one-fails, one-ready, one-settles, one-evaluates}
@@ -20,8 +20,8 @@ module _ (t : ℕ) where
   claims = (
     node-field-reads.Asked,
     node-field-reads.Learnt,
-    eval-expr-below t,
-    eval-expr.Post,
+    operand-below t,
+    operand.Post,
     one-reads.Asked,
     one-reads.Learnt,
     settle-reads.Asked,
@@ -31,10 +31,10 @@ module _ (t : ℕ) where
   abbrev lent : eval-one-lts.After-node-field claims (eval-one-at t) eval-one.Post → eval-one-lts.Start claims (eval-one-at t) eval-one.Post
   lent c = c .before .before .before
 
-  abbrev word : eval-one-lts.After-eval-expr claims (eval-one-at t) eval-one.Post → eval-one-lts.After-node-field claims (eval-one-at t) eval-one.Post
+  abbrev word : eval-one-lts.After-operand claims (eval-one-at t) eval-one.Post → eval-one-lts.After-node-field claims (eval-one-at t) eval-one.Post
   word c = c .before .before
 
-  abbrev ran : eval-one-lts.After-slice-known2 claims (eval-one-at t) eval-one.Post → eval-one-lts.After-eval-expr claims (eval-one-at t) eval-one.Post
+  abbrev ran : eval-one-lts.After-slice-known2 claims (eval-one-at t) eval-one.Post → eval-one-lts.After-operand claims (eval-one-at t) eval-one.Post
   ran c = c .before .before
 
   abbrev done : eval-one-lts.After-one claims (eval-one-at t) eval-one.Post → eval-one-lts.After-first claims (eval-one-at t) eval-one.Post
@@ -46,11 +46,11 @@ module _ (t : ℕ) where
   node-field-requires : eval-one-lts.Need-node-field-requires claims (eval-one-at t) eval-one.Post
   node-field-requires c κs = (ready-node (c .before .before .pre .1 .0 .ready), lit< tt)
 
-  sub-eval-expr : eval-one-lts.Need-sub-eval-expr claims (eval-one-at t) eval-one.Post
-  sub-eval-expr c = omega (arith, lent (c .before) .pre .1 .0 .unspent)
+  sub-operand : eval-one-lts.Need-sub-operand claims (eval-one-at t) eval-one.Post
+  sub-operand c = omega (arith, lent (c .before) .pre .1 .0 .unspent)
 
-  eval-expr-requires : eval-one-lts.Need-eval-expr-requires claims (eval-one-at t) eval-one.Post
-  eval-expr-requires c κs =
+  operand-requires : eval-one-lts.Need-operand-requires claims (eval-one-at t) eval-one.Post
+  operand-requires c κs =
       let f = c .before in
       let v = lent f in
       let d = one-child (v .pre .1 .0) (v .pre .1 .1 .0) (v .pre .1 .1 .1) (f .node-field .ensures) in
@@ -63,7 +63,7 @@ module _ (t : ℕ) where
   enum-told c = c .match .keys2
 
   same-length : eval-one-lts.Need-same-length claims (eval-one-at t) eval-one.Post
-  same-length c = ran (c .before .before) .eval-expr .kept .1 .1 .0
+  same-length c = ran (c .before .before) .operand .kept .1 .1 .0
 
   returns : eval-one-lts.Need-returns claims (eval-one-at t) eval-one.Post
   returns c =
@@ -72,7 +72,7 @@ module _ (t : ℕ) where
       let v = lent f in
       let q = c .enum-told .given .1 in
       formed-as refl (sym q)
-      (one-fails (v .pre .1 .0) (v .pre .1 .1 .0) (v .pre .1 .1 .1) (f .node-field .ensures) (formed-as refl q (e .eval-expr .ensures)))
+      (one-fails (v .pre .1 .0) (v .pre .1 .1 .0) (v .pre .1 .1 .1) (f .node-field .ensures) (formed-as refl q (e .operand .ensures)))
 
   one-requires : eval-one-lts.Need-one-requires claims (eval-one-at t) eval-one.Post
   one-requires c κs =
@@ -80,7 +80,7 @@ module _ (t : ℕ) where
       let e = ran (m .before .before) in
       let f = word e in
       let v = lent f in
-      one-ready (v .pre .1 .0) (v .pre .1 .1 .0) (v .pre .1 .1 .1) (f .node-field .ensures) (formed-as refl (m .first .given .1) (e .eval-expr .ensures))
+      one-ready (v .pre .1 .0) (v .pre .1 .1 .0) (v .pre .1 .1 .1) (f .node-field .ensures) (formed-as refl (m .first .given .1) (e .operand .ensures))
 
   settle-requires : eval-one-lts.Need-settle-requires claims (eval-one-at t) eval-one.Post
   settle-requires c κs =
@@ -89,7 +89,7 @@ module _ (t : ℕ) where
       let e = ran (m .before .before) in
       let f = word e in
       let v = lent f in
-      one-settles (v .pre .1 .0) (v .pre .1 .1 .0) (v .pre .1 .1 .1) (f .node-field .ensures) (formed-as refl (m .first .given .1) (e .eval-expr .ensures))
+      one-settles (v .pre .1 .0) (v .pre .1 .1 .0) (v .pre .1 .1 .1) (f .node-field .ensures) (formed-as refl (m .first .given .1) (e .operand .ensures))
       (q .one .ensures)
 
   same-length-2 : eval-one-lts.Need-same-length-2 claims (eval-one-at t) eval-one.Post
@@ -97,7 +97,7 @@ module _ (t : ℕ) where
       let p = c .before .before in
       let q = settled p in
       let m = done q in
-      p .settle .kept .0 ∙ q .one .kept .0 ∙ ran (m .before .before) .eval-expr .kept .1 .1 .0
+      p .settle .kept .0 ∙ q .one .kept .0 ∙ ran (m .before .before) .operand .kept .1 .1 .0
 
   returns-2 : eval-one-lts.Need-returns-2 claims (eval-one-at t) eval-one.Post
   returns-2 c =
@@ -107,8 +107,7 @@ module _ (t : ℕ) where
       let e = ran (m .before .before) in
       let f = word e in
       let v = lent f in
-      one-evaluates (v .pre .1 .0) (v .pre .1 .1 .0) (v .pre .1 .1 .1) (f .node-field .ensures)
-      (formed-as refl (m .first .given .1) (e .eval-expr .ensures))
+      one-evaluates (v .pre .1 .0) (v .pre .1 .1 .0) (v .pre .1 .1 .1) (f .node-field .ensures) (formed-as refl (m .first .given .1) (e .operand .ensures))
       (q .one .ensures) (p .settle .ensures)
 
   pub eval-one-closed : {M : Type 1} → eval-one-lts.Closed claims (eval-one-at t) eval-one.Post M
@@ -118,8 +117,8 @@ module _ (t : ℕ) where
       (eval-one-at t)
       eval-one.Post
       node-field-requires
-      sub-eval-expr
-      eval-expr-requires
+      sub-operand
+      operand-requires
       enum-known-first
       enum-told
       same-length

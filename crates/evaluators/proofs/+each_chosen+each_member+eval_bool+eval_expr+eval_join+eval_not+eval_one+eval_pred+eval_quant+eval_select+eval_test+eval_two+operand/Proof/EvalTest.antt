@@ -4,14 +4,14 @@ use Prim.Native.Nat.{ℕ}
 use mathlib.Core.Path.{refl, sym, _∙_}
 use native.Mathlib.Omega.{arith}
 use lib.Dec.{lit<}
-use Rattle.evaluators.proofs.eval_expr.Reads as eval-expr
 use Rattle.evaluators.proofs.eval_test.Reads as eval-test
-use Rattle.evaluators.proofs.+each_chosen+each_member+eval_bool+eval_expr+eval_join+eval_not+eval_one+eval_pred+eval_quant+eval_select+eval_test+eval_two.Lts-eval_test as eval-test-lts
+use Rattle.evaluators.proofs.operand.Reads as operand
+use Rattle.evaluators.proofs.+each_chosen+each_member+eval_bool+eval_expr+eval_join+eval_not+eval_one+eval_pred+eval_quant+eval_select+eval_test+eval_two+operand.Lts-eval_test as eval-test-lts
 use Rattle.table.proofs.node_field.Reads as node-field-reads
 use Rattle.evaluators.proofs.refusal_of.Reads as refusal-of-reads
 use Rattle.evaluators.proofs.refused.Reads as refused-reads
 use Rattle.operations.proofs.test.Reads as test-reads
-use Rattle.evaluators.proofs.+each_chosen+each_member+eval_bool+eval_expr+eval_join+eval_not+eval_one+eval_pred+eval_quant+eval_select+eval_test+eval_two.Proof.Base.{eval-expr-below, eval-test-at}
+use Rattle.evaluators.proofs.+each_chosen+each_member+eval_bool+eval_expr+eval_join+eval_not+eval_one+eval_pred+eval_quant+eval_select+eval_test+eval_two+operand.Proof.Base.{eval-test-at, operand-below}
 use Rattle.evaluators.proofs.SafeLaws.{ready-node}
 use Rattle.evaluators.proofs.NodeLaws.{held-as, refusal-is}
 use Rattle.evaluators.proofs.BothLaws.{left-child, left-ready, both-stops, right-child, right-ready, both-stops-2, both-formed, operands-ready, test-fields, test-stops, test-unlike, test-truth}
@@ -21,8 +21,8 @@ module _ (t : ℕ) where
   claims = (
     node-field-reads.Asked,
     node-field-reads.Learnt,
-    eval-expr-below t,
-    eval-expr.Post,
+    operand-below t,
+    operand.Post,
     refusal-of-reads.Asked,
     refusal-of-reads.Learnt,
     test-reads.Asked,
@@ -34,19 +34,19 @@ module _ (t : ℕ) where
   abbrev lent : eval-test-lts.After-node-field claims (eval-test-at t) eval-test.Post → eval-test-lts.Start claims (eval-test-at t) eval-test.Post
   lent c = c .before .before .before
 
-  abbrev word : eval-test-lts.After-eval-expr claims (eval-test-at t) eval-test.Post → eval-test-lts.After-node-field claims (eval-test-at t) eval-test.Post
+  abbrev word : eval-test-lts.After-operand claims (eval-test-at t) eval-test.Post → eval-test-lts.After-node-field claims (eval-test-at t) eval-test.Post
   word c = c .before .before
 
-  abbrev ran : eval-test-lts.After-slice-known2 claims (eval-test-at t) eval-test.Post → eval-test-lts.After-eval-expr claims (eval-test-at t) eval-test.Post
+  abbrev ran : eval-test-lts.After-slice-known2 claims (eval-test-at t) eval-test.Post → eval-test-lts.After-operand claims (eval-test-at t) eval-test.Post
   ran c = c .before .before
 
   abbrev placed : eval-test-lts.After-node-field2 claims (eval-test-at t) eval-test.Post → eval-test-lts.After-first claims (eval-test-at t) eval-test.Post
   placed c = c .before .before
 
-  abbrev word₂ : eval-test-lts.After-eval-expr2 claims (eval-test-at t) eval-test.Post → eval-test-lts.After-node-field2 claims (eval-test-at t) eval-test.Post
+  abbrev word₂ : eval-test-lts.After-operand2 claims (eval-test-at t) eval-test.Post → eval-test-lts.After-node-field2 claims (eval-test-at t) eval-test.Post
   word₂ c = c .before .before
 
-  abbrev ran₂ : eval-test-lts.After-slice-known3 claims (eval-test-at t) eval-test.Post → eval-test-lts.After-eval-expr2 claims (eval-test-at t) eval-test.Post
+  abbrev ran₂ : eval-test-lts.After-slice-known3 claims (eval-test-at t) eval-test.Post → eval-test-lts.After-operand2 claims (eval-test-at t) eval-test.Post
   ran₂ c = c .before .before
 
   abbrev tried : eval-test-lts.After-test claims (eval-test-at t) eval-test.Post → eval-test-lts.After-second claims (eval-test-at t) eval-test.Post
@@ -55,11 +55,11 @@ module _ (t : ℕ) where
   node-field-requires : eval-test-lts.Need-node-field-requires claims (eval-test-at t) eval-test.Post
   node-field-requires c κs = (ready-node (c .before .before .pre .1 .0 .ready), lit< tt)
 
-  sub-eval-expr : eval-test-lts.Need-sub-eval-expr claims (eval-test-at t) eval-test.Post
-  sub-eval-expr c = omega (arith, lent (c .before) .pre .1 .0 .unspent)
+  sub-operand : eval-test-lts.Need-sub-operand claims (eval-test-at t) eval-test.Post
+  sub-operand c = omega (arith, lent (c .before) .pre .1 .0 .unspent)
 
-  eval-expr-requires : eval-test-lts.Need-eval-expr-requires claims (eval-test-at t) eval-test.Post
-  eval-expr-requires c κs =
+  operand-requires : eval-test-lts.Need-operand-requires claims (eval-test-at t) eval-test.Post
+  operand-requires c κs =
       let f = c .before in
       let v = lent f in
       let y = test-fields (v .pre .1 .0) (v .pre .1 .1 .0) (v .pre .1 .1 .1) in (
@@ -77,7 +77,7 @@ module _ (t : ℕ) where
   refusal-of-requires c κs = tt
 
   same-length : eval-test-lts.Need-same-length claims (eval-test-at t) eval-test.Post
-  same-length c = let k = c .before in ran (k .before .before) .eval-expr .kept .1 .1 .0
+  same-length c = let k = c .before in ran (k .before .before) .operand .kept .1 .1 .0
 
   returns : eval-test-lts.Need-returns claims (eval-test-at t) eval-test.Post
   returns c =
@@ -87,24 +87,24 @@ module _ (t : ℕ) where
       let v = lent f in
       held-as refl (refusal-is (k .enum-told .given .1) (c .refusal-of .ensures))
       (test-stops (v .pre .1 .0) (v .pre .1 .1 .0) (v .pre .1 .1 .1)
-      (both-stops (v .pre .1 .0 .ready) (test-fields (v .pre .1 .0) (v .pre .1 .1 .0) (v .pre .1 .1 .1)) (f .node-field .ensures) (e .eval-expr .ensures)
+      (both-stops (v .pre .1 .0 .ready) (test-fields (v .pre .1 .0) (v .pre .1 .1 .0) (v .pre .1 .1 .1)) (f .node-field .ensures) (e .operand .ensures)
       (k .enum-told .given .1)))
 
   node-field-requires-2 : eval-test-lts.Need-node-field-requires-2 claims (eval-test-at t) eval-test.Post
   node-field-requires-2 c κs = let m = c .before in (ready-node (lent (word (ran (m .before .before))) .pre .1 .0 .ready), lit< tt)
 
-  eval-expr-requires-2 : eval-test-lts.Need-eval-expr-requires-2 claims (eval-test-at t) eval-test.Post
-  eval-expr-requires-2 c κs =
+  operand-requires-2 : eval-test-lts.Need-operand-requires-2 claims (eval-test-at t) eval-test.Post
+  operand-requires-2 c κs =
       let g = c .before in
       let m = placed g in
       let e = ran (m .before .before) in
       let f = word e in
       let v = lent f in
       let d = right-child (v .pre .1 .0 .ready) (test-fields (v .pre .1 .0) (v .pre .1 .1 .0) (v .pre .1 .1 .1)) (f .node-field .ensures)
-      (e .eval-expr .ensures) (m .first .given .1) (g .node-field2 .ensures) in (
+      (e .operand .ensures) (m .first .given .1) (g .node-field2 .ensures) in (
         omega (arith, v .pre .0, d .below),
         right-ready (v .pre .1 .0 .ready) (test-fields (v .pre .1 .0) (v .pre .1 .1 .0) (v .pre .1 .1 .1)) (f .node-field .ensures)
-            (e .eval-expr .ensures) (m .first .given .1) (g .node-field2 .ensures),
+            (e .operand .ensures) (m .first .given .1) (g .node-field2 .ensures),
       )
 
   enum-known-second : eval-test-lts.Need-enum-known-second claims (eval-test-at t) eval-test.Post
@@ -121,7 +121,7 @@ module _ (t : ℕ) where
       let k = c .before in
       let s = ran₂ (k .before .before) in
       let m = placed (word₂ s) in
-      s .eval-expr2 .kept .1 .1 .0 ∙ ran (m .before .before) .eval-expr .kept .1 .1 .0
+      s .operand2 .kept .1 .1 .0 ∙ ran (m .before .before) .operand .kept .1 .1 .0
 
   returns-2 : eval-test-lts.Need-returns-2 claims (eval-test-at t) eval-test.Post
   returns-2 c =
@@ -135,8 +135,8 @@ module _ (t : ℕ) where
       held-as refl (refusal-is (k .enum-told2 .given .1) (c .refusal-of2 .ensures))
       (test-stops (v .pre .1 .0) (v .pre .1 .1 .0) (v .pre .1 .1 .1)
       (both-stops-2 (v .pre .1 .0 .ready) (test-fields (v .pre .1 .0) (v .pre .1 .1 .0) (v .pre .1 .1 .1)) (f .node-field .ensures)
-      (e .eval-expr .ensures) (m .first .given .1) (g .node-field2 .ensures)
-      (s .eval-expr2 .ensures) (k .enum-told2 .given .1)))
+      (e .operand .ensures) (m .first .given .1) (g .node-field2 .ensures)
+      (s .operand2 .ensures) (k .enum-told2 .given .1)))
 
   test-requires : eval-test-lts.Need-test-requires claims (eval-test-at t) eval-test.Post
   test-requires c κs =
@@ -149,8 +149,8 @@ module _ (t : ℕ) where
       let v = lent f in
       operands-ready (v .pre .1 .0 .ready) (test-fields (v .pre .1 .0) (v .pre .1 .1 .0) (v .pre .1 .1 .1))
       (both-formed (v .pre .1 .0 .ready) (test-fields (v .pre .1 .0) (v .pre .1 .1 .0) (v .pre .1 .1 .1)) (f .node-field .ensures)
-      (e .eval-expr .ensures) (m .first .given .1) (g .node-field2 .ensures)
-      (s .eval-expr2 .ensures) (w .second .given .1))
+      (e .operand .ensures) (m .first .given .1) (g .node-field2 .ensures)
+      (s .operand2 .ensures) (w .second .given .1))
 
   enum-known-tested : eval-test-lts.Need-enum-known-tested claims (eval-test-at t) eval-test.Post
   enum-known-tested c = c .match3 .keys1
@@ -166,7 +166,7 @@ module _ (t : ℕ) where
       let w = tried (c .before .before .before) in
       let s = ran₂ (w .before .before) in
       let m = placed (word₂ s) in
-      s .eval-expr2 .kept .1 .1 .0 ∙ ran (m .before .before) .eval-expr .kept .1 .1 .0
+      s .operand2 .kept .1 .1 .0 ∙ ran (m .before .before) .operand .kept .1 .1 .0
 
   returns-3 : eval-test-lts.Need-returns-3 claims (eval-test-at t) eval-test.Post
   returns-3 c =
@@ -182,15 +182,15 @@ module _ (t : ℕ) where
       held-as refl (sym (c .refused .ensures))
       (test-unlike (v .pre .1 .0) (v .pre .1 .1 .0) (v .pre .1 .1 .1)
       (both-formed (v .pre .1 .0 .ready) (test-fields (v .pre .1 .0) (v .pre .1 .1 .0) (v .pre .1 .1 .1)) (f .node-field .ensures)
-      (e .eval-expr .ensures) (m .first .given .1) (g .node-field2 .ensures)
-      (s .eval-expr2 .ensures) (w .second .given .1)) (q .test .ensures) (k .enum-told3 .given .1))
+      (e .operand .ensures) (m .first .given .1) (g .node-field2 .ensures)
+      (s .operand2 .ensures) (w .second .given .1)) (q .test .ensures) (k .enum-told3 .given .1))
 
   same-length-4 : eval-test-lts.Need-same-length-4 claims (eval-test-at t) eval-test.Post
   same-length-4 c =
       let w = tried (c .before .before .before) in
       let s = ran₂ (w .before .before) in
       let m = placed (word₂ s) in
-      s .eval-expr2 .kept .1 .1 .0 ∙ ran (m .before .before) .eval-expr .kept .1 .1 .0
+      s .operand2 .kept .1 .1 .0 ∙ ran (m .before .before) .operand .kept .1 .1 .0
 
   returns-4 : eval-test-lts.Need-returns-4 claims (eval-test-at t) eval-test.Post
   returns-4 c =
@@ -204,8 +204,8 @@ module _ (t : ℕ) where
       let v = lent f in
       test-truth (v .pre .1 .0) (v .pre .1 .1 .0) (v .pre .1 .1 .1)
       (both-formed (v .pre .1 .0 .ready) (test-fields (v .pre .1 .0) (v .pre .1 .1 .0) (v .pre .1 .1 .1)) (f .node-field .ensures)
-      (e .eval-expr .ensures) (m .first .given .1) (g .node-field2 .ensures)
-      (s .eval-expr2 .ensures) (w .second .given .1)) (q .test .ensures) (c .before .tested .given .1)
+      (e .operand .ensures) (m .first .given .1) (g .node-field2 .ensures)
+      (s .operand2 .ensures) (w .second .given .1)) (q .test .ensures) (c .before .tested .given .1)
 
   pub eval-test-closed : {M : Type 1} → eval-test-lts.Closed claims (eval-test-at t) eval-test.Post M
   eval-test-closed =
@@ -214,15 +214,15 @@ module _ (t : ℕ) where
       (eval-test-at t)
       eval-test.Post
       node-field-requires
-      sub-eval-expr
-      eval-expr-requires
+      sub-operand
+      operand-requires
       enum-known-first
       enum-told
       refusal-of-requires
       same-length
       returns
       node-field-requires-2
-      eval-expr-requires-2
+      operand-requires-2
       enum-known-second
       enum-told-2
       refusal-of-requires-2

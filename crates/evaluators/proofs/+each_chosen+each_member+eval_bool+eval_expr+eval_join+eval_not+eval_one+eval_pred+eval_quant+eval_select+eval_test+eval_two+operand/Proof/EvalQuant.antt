@@ -5,14 +5,14 @@ use mathlib.Core.Path.{refl, sym, _∙_}
 use native.Mathlib.Omega.{arith}
 use lib.Dec.{lit<}
 use Rattle.evaluators.proofs.each_member.Reads as each-member
-use Rattle.evaluators.proofs.eval_expr.Reads as eval-expr
 use Rattle.evaluators.proofs.eval_quant.Reads as eval-quant
-use Rattle.evaluators.proofs.+each_chosen+each_member+eval_bool+eval_expr+eval_join+eval_not+eval_one+eval_pred+eval_quant+eval_select+eval_test+eval_two.Lts-eval_quant as eval-quant-lts
+use Rattle.evaluators.proofs.operand.Reads as operand
+use Rattle.evaluators.proofs.+each_chosen+each_member+eval_bool+eval_expr+eval_join+eval_not+eval_one+eval_pred+eval_quant+eval_select+eval_test+eval_two+operand.Lts-eval_quant as eval-quant-lts
 use Rattle.table.proofs.node_field.Reads as node-field-reads
 use Rattle.evaluators.proofs.range_of.Reads as range-of-reads
 use Rattle.evaluators.proofs.refusal_of.Reads as refusal-of-reads
 use Rattle.evaluators.proofs.refused.Reads as refused-reads
-use Rattle.evaluators.proofs.+each_chosen+each_member+eval_bool+eval_expr+eval_join+eval_not+eval_one+eval_pred+eval_quant+eval_select+eval_test+eval_two.Proof.Base.{each-member-below, eval-expr-below, eval-quant-at}
+use Rattle.evaluators.proofs.+each_chosen+each_member+eval_bool+eval_expr+eval_join+eval_not+eval_one+eval_pred+eval_quant+eval_select+eval_test+eval_two+operand.Proof.Base.{each-member-below, eval-quant-at, operand-below}
 use Rattle.evaluators.proofs.SafeLaws.{ready-node}
 use Rattle.evaluators.proofs.NodeLaws.{held-as, refusal-is}
 use Rattle.evaluators.proofs.RangeLaws.{range-as}
@@ -23,8 +23,8 @@ module _ (t : ℕ) where
   claims = (
     node-field-reads.Asked,
     node-field-reads.Learnt,
-    eval-expr-below t,
-    eval-expr.Post,
+    operand-below t,
+    operand.Post,
     refusal-of-reads.Asked,
     refusal-of-reads.Learnt,
     range-of-reads.Asked,
@@ -38,12 +38,11 @@ module _ (t : ℕ) where
   abbrev lent : eval-quant-lts.After-node-field claims (eval-quant-at t) eval-quant.Post → eval-quant-lts.Start claims (eval-quant-at t) eval-quant.Post
   lent c = c .before .before .before
 
-  abbrev word : eval-quant-lts.After-eval-expr claims (eval-quant-at t) eval-quant.Post →
-      eval-quant-lts.After-node-field claims (eval-quant-at t) eval-quant.Post
+  abbrev word : eval-quant-lts.After-operand claims (eval-quant-at t) eval-quant.Post → eval-quant-lts.After-node-field claims (eval-quant-at t) eval-quant.Post
   word c = c .before .before
 
   abbrev ran : eval-quant-lts.After-slice-known2 claims (eval-quant-at t) eval-quant.Post →
-      eval-quant-lts.After-eval-expr claims (eval-quant-at t) eval-quant.Post
+      eval-quant-lts.After-operand claims (eval-quant-at t) eval-quant.Post
   ran c = c .before .before
 
   abbrev asked : eval-quant-lts.After-range-of claims (eval-quant-at t) eval-quant.Post → eval-quant-lts.After-first claims (eval-quant-at t) eval-quant.Post
@@ -56,11 +55,11 @@ module _ (t : ℕ) where
   node-field-requires : eval-quant-lts.Need-node-field-requires claims (eval-quant-at t) eval-quant.Post
   node-field-requires c κs = (ready-node (c .before .before .pre .1 .0 .ready), lit< tt)
 
-  sub-eval-expr : eval-quant-lts.Need-sub-eval-expr claims (eval-quant-at t) eval-quant.Post
-  sub-eval-expr c = omega (arith, lent (c .before) .pre .1 .0 .unspent)
+  sub-operand : eval-quant-lts.Need-sub-operand claims (eval-quant-at t) eval-quant.Post
+  sub-operand c = omega (arith, lent (c .before) .pre .1 .0 .unspent)
 
-  eval-expr-requires : eval-quant-lts.Need-eval-expr-requires claims (eval-quant-at t) eval-quant.Post
-  eval-expr-requires c κs =
+  operand-requires : eval-quant-lts.Need-operand-requires claims (eval-quant-at t) eval-quant.Post
+  operand-requires c κs =
       let f = c .before in
       let v = lent f in (
         omega (arith, v .pre .0, quant-child (v .pre .1 .0) (v .pre .1 .1) (f .node-field .ensures) .below),
@@ -78,7 +77,7 @@ module _ (t : ℕ) where
   refusal-of-requires c κs = tt
 
   same-length : eval-quant-lts.Need-same-length claims (eval-quant-at t) eval-quant.Post
-  same-length c = let k = c .before in ran (k .before .before) .eval-expr .kept .1 .1 .0
+  same-length c = let k = c .before in ran (k .before .before) .operand .kept .1 .1 .0
 
   returns : eval-quant-lts.Need-returns claims (eval-quant-at t) eval-quant.Post
   returns c =
@@ -87,7 +86,7 @@ module _ (t : ℕ) where
       let f = word e in
       let v = lent f in
       held-as refl (refusal-is (k .enum-told .given .1) (c .refusal-of .ensures))
-      (range-refused (v .pre .1 .0) (v .pre .1 .1) (f .node-field .ensures) (e .eval-expr .ensures) (k .enum-told .given .1))
+      (range-refused (v .pre .1 .0) (v .pre .1 .1) (f .node-field .ensures) (e .operand .ensures) (k .enum-told .given .1))
 
   range-of-requires : eval-quant-lts.Need-range-of-requires claims (eval-quant-at t) eval-quant.Post
   range-of-requires c κs =
@@ -95,7 +94,7 @@ module _ (t : ℕ) where
       let e = ran (m .before .before) in
       let f = word e in
       let v = lent f in
-      range-good (v .pre .1 .0) (v .pre .1 .1) (f .node-field .ensures) (e .eval-expr .ensures) (m .first .given .1)
+      range-good (v .pre .1 .0) (v .pre .1 .1) (f .node-field .ensures) (e .operand .ensures) (m .first .given .1)
 
   enum-known-range : eval-quant-lts.Need-enum-known-range claims (eval-quant-at t) eval-quant.Post
   enum-known-range c = c .match2 .keys1
@@ -107,7 +106,7 @@ module _ (t : ℕ) where
   refused-requires c κs = tt
 
   same-length-2 : eval-quant-lts.Need-same-length-2 claims (eval-quant-at t) eval-quant.Post
-  same-length-2 c = let m = asked (c .before .before .before) in ran (m .before .before) .eval-expr .kept .1 .1 .0
+  same-length-2 c = let m = asked (c .before .before .before) in ran (m .before .before) .operand .kept .1 .1 .0
 
   returns-2 : eval-quant-lts.Need-returns-2 claims (eval-quant-at t) eval-quant.Post
   returns-2 c =
@@ -118,7 +117,7 @@ module _ (t : ℕ) where
       let f = word e in
       let v = lent f in
       held-as refl (sym (c .refused .ensures))
-      (range-unlike (v .pre .1 .0) (v .pre .1 .1) (f .node-field .ensures) (e .eval-expr .ensures) (m .first .given .1)
+      (range-unlike (v .pre .1 .0) (v .pre .1 .1) (f .node-field .ensures) (e .operand .ensures) (m .first .given .1)
       (range-as (k .enum-told2 .given .1) (o .range-of .ensures)))
 
   add-each-member : eval-quant-lts.Need-add-each-member claims (eval-quant-at t) eval-quant.Post
@@ -128,7 +127,7 @@ module _ (t : ℕ) where
       let e = ran (m .before .before) in
       let f = word e in
       let v = lent f in
-      record { fits = omega (arith, range-low (v .pre .1 .0) (v .pre .1 .1) (f .node-field .ensures) (e .eval-expr .ensures) (m .first .given .1)) }
+      record { fits = omega (arith, range-low (v .pre .1 .0) (v .pre .1 .1) (f .node-field .ensures) (e .operand .ensures) (m .first .given .1)) }
 
   each-member-requires : eval-quant-lts.Need-each-member-requires claims (eval-quant-at t) eval-quant.Post
   each-member-requires c κs =
@@ -139,7 +138,7 @@ module _ (t : ℕ) where
       let f = word e in
       let v = lent f in (
         omega (arith, v .pre .0),
-        quant-ready (v .pre .1 .0) (v .pre .1 .1) (f .node-field .ensures) (e .eval-expr .ensures) (m .first .given .1)
+        quant-ready (v .pre .1 .0) (v .pre .1 .1) (f .node-field .ensures) (e .operand .ensures) (m .first .given .1)
             (range-as (a .range .given .1) (o .range-of .ensures)),
       )
 
@@ -148,7 +147,7 @@ module _ (t : ℕ) where
       let p = c .before .before in
       let a = counted p in
       let m = asked (a .before .before) in
-      p .each-member .kept .1 .1 .0 ∙ ran (m .before .before) .eval-expr .kept .1 .1 .0
+      p .each-member .kept .1 .1 .0 ∙ ran (m .before .before) .operand .kept .1 .1 .0
 
   returns-3 : eval-quant-lts.Need-returns-3 claims (eval-quant-at t) eval-quant.Post
   returns-3 c =
@@ -159,7 +158,7 @@ module _ (t : ℕ) where
       let e = ran (m .before .before) in
       let f = word e in
       let v = lent f in
-      quant-done (v .pre .1 .0) (v .pre .1 .1) (f .node-field .ensures) (e .eval-expr .ensures) (m .first .given .1)
+      quant-done (v .pre .1 .0) (v .pre .1 .1) (f .node-field .ensures) (e .operand .ensures) (m .first .given .1)
       (range-as (a .range .given .1) (o .range-of .ensures)) (p .each-member .ensures)
 
   pub eval-quant-closed : {M : Type 1} → eval-quant-lts.Closed claims (eval-quant-at t) eval-quant.Post M
@@ -169,8 +168,8 @@ module _ (t : ℕ) where
       (eval-quant-at t)
       eval-quant.Post
       node-field-requires
-      sub-eval-expr
-      eval-expr-requires
+      sub-operand
+      operand-requires
       enum-known-first
       enum-told
       refusal-of-requires

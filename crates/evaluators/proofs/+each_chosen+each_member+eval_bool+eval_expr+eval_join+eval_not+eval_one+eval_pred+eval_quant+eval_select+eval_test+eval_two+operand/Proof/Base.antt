@@ -26,42 +26,47 @@ use Rattle.evaluators.proofs.eval_test.Reads as eval-test
 use Rattle.evaluators.proofs.eval_test.Kinds as eval-test-kinds
 use Rattle.evaluators.proofs.eval_two.Reads as eval-two
 use Rattle.evaluators.proofs.eval_two.Kinds as eval-two-kinds
+use Rattle.evaluators.proofs.operand.Reads as operand
+use Rattle.evaluators.proofs.operand.Kinds as operand-kinds
 
 abbrev pub μ-each-chosen : Measures 3 each-chosen-kinds.ps ℕ
-μ-each-chosen κs a = 3 * a .1 .1 .1 .1 .0
+μ-each-chosen κs a = 4 * a .1 .1 .1 .1 .0
 
 abbrev pub μ-each-member : Measures 3 each-member-kinds.ps ℕ
-μ-each-member κs a = 3 * a .1 .1 .1 .1 .1 .0
+μ-each-member κs a = 4 * a .1 .1 .1 .1 .1 .0
 
 abbrev pub μ-eval-bool : Measures 3 eval-bool-kinds.ps ℕ
-μ-eval-bool κs a = 3 * a .1 .1 .1 .1 .0 + 1
+μ-eval-bool κs a = 4 * a .1 .1 .1 .1 .0 + 1
 
 abbrev pub μ-eval-expr : Measures 3 eval-expr-kinds.ps ℕ
-μ-eval-expr κs a = 3 * a .1 .1 .1 .1 .0 + 2
+μ-eval-expr κs a = 4 * a .1 .1 .1 .1 .0 + 2
 
 abbrev pub μ-eval-join : Measures 3 eval-join-kinds.ps ℕ
-μ-eval-join κs a = 3 * a .1 .1 .1 .1 .1 .0 + 1
+μ-eval-join κs a = 4 * a .1 .1 .1 .1 .1 .0 + 1
 
 abbrev pub μ-eval-not : Measures 3 eval-not-kinds.ps ℕ
-μ-eval-not κs a = 3 * a .1 .1 .1 .1 .0 + 1
+μ-eval-not κs a = 4 * a .1 .1 .1 .1 .0 + 1
 
 abbrev pub μ-eval-one : Measures 3 eval-one-kinds.ps ℕ
-μ-eval-one κs a = 3 * a .1 .1 .1 .1 .1 .0 + 1
+μ-eval-one κs a = 4 * a .1 .1 .1 .1 .1 .0 + 1
 
 abbrev pub μ-eval-pred : Measures 3 eval-pred-kinds.ps ℕ
-μ-eval-pred κs a = 3 * a .1 .1 .1 .1 .0 + 2
+μ-eval-pred κs a = 4 * a .1 .1 .1 .1 .0 + 2
 
 abbrev pub μ-eval-quant : Measures 3 eval-quant-kinds.ps ℕ
-μ-eval-quant κs a = 3 * a .1 .1 .1 .1 .1 .0 + 1
+μ-eval-quant κs a = 4 * a .1 .1 .1 .1 .1 .0 + 1
 
 abbrev pub μ-eval-select : Measures 3 eval-select-kinds.ps ℕ
-μ-eval-select κs a = 3 * a .1 .1 .1 .1 .0 + 1
+μ-eval-select κs a = 4 * a .1 .1 .1 .1 .0 + 1
 
 abbrev pub μ-eval-test : Measures 3 eval-test-kinds.ps ℕ
-μ-eval-test κs a = 3 * a .1 .1 .1 .1 .1 .0 + 1
+μ-eval-test κs a = 4 * a .1 .1 .1 .1 .1 .0 + 1
 
 abbrev pub μ-eval-two : Measures 3 eval-two-kinds.ps ℕ
-μ-eval-two κs a = 3 * a .1 .1 .1 .1 .1 .0 + 1
+μ-eval-two κs a = 4 * a .1 .1 .1 .1 .1 .0 + 1
+
+abbrev pub μ-operand : Measures 3 operand-kinds.ps ℕ
+μ-operand κs a = 4 * a .1 .1 .1 .1 .0 + 3
 
 abbrev pub each-chosen-at : ℕ → In 3 each-chosen-kinds.ps
 each-chosen-at t = and 3 each-chosen-kinds.ps (is 3 each-chosen-kinds.ps μ-each-chosen t) each-chosen.Pre
@@ -134,3 +139,9 @@ eval-two-at t = and 3 eval-two-kinds.ps (is 3 eval-two-kinds.ps μ-eval-two t) e
 
 abbrev pub eval-two-below : ℕ → In 3 eval-two-kinds.ps
 eval-two-below t = and 3 eval-two-kinds.ps (falls 3 eval-two-kinds.ps _<_ μ-eval-two t) eval-two.Pre
+
+abbrev pub operand-at : ℕ → In 3 operand-kinds.ps
+operand-at t = and 3 operand-kinds.ps (is 3 operand-kinds.ps μ-operand t) operand.Pre
+
+abbrev pub operand-below : ℕ → In 3 operand-kinds.ps
+operand-below t = and 3 operand-kinds.ps (falls 3 operand-kinds.ps _<_ μ-operand t) operand.Pre
