@@ -6,7 +6,7 @@ use native.Mathlib.Omega.{arith}
 use borrow.Author.Needs.{needs}
 use borrow.Author.Tests.{not-true, not-false}
 use lib.ListN.{length, getD}
-use Rattle.fitting.proofs.Cells.{some-inside}
+use Rattle.arena.proofs.ValueParts.{some-inside}
 use Rattle.buffer.specs.Shared.{isFlat}
 use Rattle.buffer.proofs.Sharing.{end-inside}
 use Rattle.buffer.proofs.FlatSets.{flat-members, flat-row, flat-fails, flat-fine, fine-unordered, fine-ordered}
