@@ -259,7 +259,7 @@ node-word bs n lt h =
 
 module _ (bs : List ℕ) (r : Readable bs) (n : ℕ) (lt : n < nodeCount bs) where
   -- The words of a leaf are in range.
-  pub name-below : kindAt (tableOf bs .nodes) n ≡ some (leaf identifier) → fieldA bs n < 32
+  name-below : kindAt (tableOf bs .nodes) n ≡ some (leaf identifier) → fieldA bs n < 32
   name-below e = omega (arith, field-holds bs r n lt (leaf identifier) e 0 (omega arith), binds-length bs, r .header .identifiers)
 
   constant-fits : (j : Leaf) → kindAt (tableOf bs .nodes) n ≡ some (leaf j) → j ≢ identifier → ((i : ℕ) → getD bs i 0 < 256) →

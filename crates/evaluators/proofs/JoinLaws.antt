@@ -26,7 +26,7 @@ use Rattle.evaluators.proofs.NodeLaws.{Child, ready-child, ready-first,
 use Rattle.evaluators.proofs.NodeLaws.{steps-on, held-as, held-below, held-by}
 
 -- 4
-abbrev pub negated : Held → Held
+abbrev negated : Held → Held
 negated (Truth b l) = Truth (not b) l
 negated (Refused r l) = Refused r l
 

@@ -130,7 +130,7 @@ pub record Deeper (A : Type 0) (x : A) (n : ℕ) (tree : ℕ → A) : Type 0 whe
   pub is : x ≡ tree depth
 
 module _ (ns : List Node) (n : ℕ) (k : Kind) (e : kindAt ns n ≡ some k) where
-  pub pred-at : (f : ℕ) → n < f → Deeper Pred (predAt f ns n) n (λ g. predOf (some k) n (nodeAt ns n) (λ m. predAt g ns m) (λ m. exprAt g ns m))
+  pred-at : (f : ℕ) → n < f → Deeper Pred (predAt f ns n) n (λ g. predOf (some k) n (nodeAt ns n) (λ m. predAt g ns m) (λ m. exprAt g ns m))
   unfolding predAt
   pred-at zero l = absurd (omega arith)
   pred-at (suc f) l = record { depth = f; enough = omega arith; is = rw e }
@@ -141,7 +141,7 @@ module _ (ns : List Node) (n : ℕ) (k : Kind) (e : kindAt ns n ≡ some k) wher
   expr-at (suc f) l = record { depth = f; enough = omega arith; is = rw e }
 
 -- What an expression takes more than a condition.
-pub expression-cells : (k : Option Kind) → expressionCells k ≤ 128
+expression-cells : (k : Option Kind) → expressionCells k ≤ 128
 expression-cells nothing = omega arith
 expression-cells (some k) = go (categoryOf k)
   where

@@ -66,7 +66,7 @@ range-listed {gs} {s} {top} {at} {n} {v} h r = set-listed (rw (r .is) at h) (r .
 
 module _ {bs env s : List ℕ} {top n : ℕ} (r : Ready bs env s top n) {k : Kind} (e : kindAt (tableOf bs .nodes) n ≡ some k)
     (q : fieldsOf k ≡ binderFields) where
-  pub binder-name : fieldA bs n < 32
+  binder-name : fieldA bs n < 32
   binder-name =
       let h : fieldA bs n < length (tableOf bs .binds) = rw q at (field-holds bs (r .readable) n (r .node) k e 0 (rw q (omega arith))) in
       omega (arith, h, binds-length bs, r .readable .header .identifiers)
@@ -74,7 +74,7 @@ module _ {bs env s : List ℕ} {top n : ℕ} (r : Ready bs env s top n) {k : Kin
   pub binder-range : Child bs n (fieldB bs n) expression
   binder-range = field-child bs (r .readable) n (r .node) k e expression 1 (omega arith) (rw q (omega arith)) (rw q)
 
-  pub binder-body : Child bs n (fieldC bs n) predicate
+  binder-body : Child bs n (fieldC bs n) predicate
   binder-body = field-child bs (r .readable) n (r .node) k e predicate 2 (omega arith) (rw q (omega arith)) (rw q)
 
   own-room : top + (384 * height (tableOf bs .nodes) n + expressionCells (some k) + 260) ≤ length s

@@ -1,4 +1,5 @@
 -- `ended`: what is held is what the run ends with, and the visits made are what the budget has no more.
+use native.Mathlib.Omega.{arith}
 use Rattle.evaluate.proofs.ReportLaws.{truth-within, refused-within, decided-reports, refused-reports}
 use Rattle.evaluate.proofs.ended.Statement.{statement}
 use Rattle.evaluate.proofs.ended.Tie as tie
@@ -13,7 +14,7 @@ sub-t11 : tie.Need-sub-t11
 sub-t11 c =
     let h = c .before .before in
     let v = h .before .before in
-    truth-within (v .args .budget) (h .held .given .1) (v .pre)
+    omega (arith, truth-within (v .args .budget) (h .held .given .1) (v .pre))
 
 enum-known-held-2 : tie.Need-enum-known-held-2
 enum-known-held-2 c = c .match .keys2
@@ -22,7 +23,7 @@ sub-refused : tie.Need-sub-refused
 sub-refused c =
     let h = c .before in
     let v = h .before .before in
-    refused-within (v .args .budget) (h .held2 .given .1) (v .pre)
+    omega (arith, refused-within (v .args .budget) (h .held2 .given .1) (v .pre))
 
 refused-requires : tie.Need-refused-requires
 refused-requires c κs = tt
