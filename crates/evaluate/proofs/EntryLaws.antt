@@ -35,7 +35,7 @@ use Rattle.evaluators.specs.Cycle.{expressionCells, Binds, Ready, holdsAt, Eval
 use Rattle.evaluators.specs.Nodes.{IsPred}
 use Rattle.evaluate.specs.Result.{endingOf, RefusedAt, Reported, Within, Reports}
 use Rattle.evaluate.specs.Arenas.{needed, largestArena, ArenaReady}
-use Rattle.evaluate.proofs.ReportLaws.{held-within}
+use Rattle.evaluate.proofs.ReportLaws.{held-within, within-more}
 
 -- The arena has room for the values.
 pub load-ready : {bs buffer s : List ℕ} → ArenaReady bs buffer s → LoadReady bs buffer s
@@ -126,13 +126,17 @@ module _ (bs : List ℕ) {buffer s env : List ℕ} {top : ℕ} (b : Bound (table
       subst (λ (m : ℕ). CategoryIs predicate (kindAt (tableOf bs .nodes) m)) (sym root-last) (q .records .root nodes-here),
     )
 
-    -- The whole budget is left at the start, so what is left at the end is of it, and the end is that of the evaluation.
+    -- What is left at the end is of what was left at the start.
+    pub root-within : {s′ : List ℕ} {left budget : ℕ} {held : Held} → left ≤ budget → EvaluatesP bs env s top (n - 1) left s′ held → Within budget held
+    root-within {left = left} {held = held} le p =
+        let f = length (tableOf bs .nodes) in
+        let x = p .answer f valueOf left 0 (omega (arith, e, filled, nodes-length bs)) (omega arith) bound-binds in
+        within-more held le (held-within (holdsAt bs left f (n - 1) valueOf 0) left held x)
+
+    -- That is the whole budget, and so the end is that of the evaluation.
     module _ {s′ : List ℕ} {budget : ℕ} {held : Held} (p : EvaluatesP bs env s top (n - 1) budget s′ held) where
       root-held : HeldAs (holdsAt bs budget (length (tableOf bs .nodes)) (n - 1) valueOf 0) budget held
       root-held = p .answer (length (tableOf bs .nodes)) valueOf budget 0 (omega (arith, e, filled, nodes-length bs)) (omega arith) bound-binds
-
-      pub root-within : Within budget held
-      root-within = held-within (holdsAt bs budget (length (tableOf bs .nodes)) (n - 1) valueOf 0) budget held root-held
 
       pub root-reported : {r : Evaluation} → Reports budget held r → Reported (evaluation bs buffer budget) r
       unfolding run

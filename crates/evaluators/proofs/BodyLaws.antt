@@ -1,4 +1,4 @@
--- The body of a binder: its environment at a member of the range, and the members one after the other.
+-- The body of a binder: its environment at a member of the range, what the loop's answer is asked for, and the members one after the other.
 use Prim.Native.Nat.{ℕ, _+_, _-_, _≤_, _<_}
 use mathlib.Core.List.{List, []}
 use mathlib.Core.Path.{_≡_, refl, sym, _∙_, subst}

@@ -1,4 +1,5 @@
--- Where a node's visit goes: the refusal of a visit beyond the budget, the evaluator by the kind's code, and the leaves.
+-- Where a node's visit goes: the refusal of a visit beyond the budget, the evaluator by the kind's code, the leaves, and an operand that is
+-- an identifier.
 use Prim.Native.Nat.{ℕ, zero, suc, _+_, _-_, _*_, _≤_, _<_}
 use mathlib.Core.Bool.{Bool, true, false, _&&_, cond}
 use mathlib.Core.List.{List}

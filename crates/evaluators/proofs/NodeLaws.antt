@@ -1,4 +1,4 @@
--- The children of a node, its tree, and what its evaluators pass on to theirs.
+-- The children of a node, its tree, what its evaluators pass on to theirs, and its answer from theirs.
 use Prim.Native.Nat.{ℕ, zero, suc, _+_, _-_, _≤_, _<_}
 use mathlib.Core.Bool.{Bool, true, false, false≢true}
 use mathlib.Core.List.{List, [], _∷_}

@@ -82,7 +82,8 @@ ended-requires c κs =
     let test = filled p in
     let n = test .before in
     let start = lent (loaded n) in
-    root-within (start .args .table .now) (standing n) (start .pre .needs .readable) (n .nodes .ensures) (test .if1 .left) (p .eval-pred .ensures)
+    root-within (start .args .table .now) (standing n) (start .pre .needs .readable) (n .nodes .ensures) (test .if1 .left)
+    (omega arith) (p .eval-pred .ensures)
 
 same-length-2 : tie.Need-same-length-2
 same-length-2 c =

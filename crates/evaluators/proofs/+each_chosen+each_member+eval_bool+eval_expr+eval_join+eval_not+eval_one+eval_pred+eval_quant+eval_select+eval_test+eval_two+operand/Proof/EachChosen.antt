@@ -69,12 +69,9 @@ module _ (t : ℕ) where
 
   cast-inner : each-chosen-lts.Need-cast-inner claims (each-chosen-at t) each-chosen.Post each-chosen-Inv-loop each-chosen-μ-loop
   cast-inner c =
-      let w = c in
-      let l = w .before in
-      let g = words l in
-      let f = g .before in
-      let v = lent f in
-      omega (arith, choosing-below (v .pre .1) (l .loop .inv) (omega (arith, w .loop-test .taken)), v .pre .1 .space, v .pre .1 .ready .small)
+      let l = c .before in
+      let v = lent (words l .before) in
+      omega (arith, choosing-below (v .pre .1) (l .loop .inv) (omega (arith, c .loop-test .taken)), v .pre .1 .space, v .pre .1 .ready .small)
 
   mul-inner : each-chosen-lts.Need-mul-inner claims (each-chosen-at t) each-chosen.Post each-chosen-Inv-loop each-chosen-μ-loop
   mul-inner c = let f = words (c .before) .before in entry-scaled (f .node-field .ensures) (lent f .pre .1 .name)

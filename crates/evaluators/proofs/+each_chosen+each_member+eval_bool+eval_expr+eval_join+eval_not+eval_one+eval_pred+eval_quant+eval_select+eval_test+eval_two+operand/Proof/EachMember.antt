@@ -51,12 +51,9 @@ module _ (t : ℕ) where
 
   cast-inner : each-member-lts.Need-cast-inner claims (each-member-at t) each-member.Post each-member-Inv-loop each-member-μ-loop
   cast-inner c =
-      let w = c in
-      let l = w .before in
-      let g = words l in
-      let f = g .before in
-      let v = lent f in
-      record { fits = member-low (v .pre .1) (l .loop .inv) (omega (arith, w .loop-test .taken)) }
+      let l = c .before in
+      let v = lent (words l .before) in
+      record { fits = member-low (v .pre .1) (l .loop .inv) (omega (arith, c .loop-test .taken)) }
 
   mul-inner : each-member-lts.Need-mul-inner claims (each-member-at t) each-member.Post each-member-Inv-loop each-member-μ-loop
   mul-inner c = let f = words (c .before) .before in entry-scaled (f .node-field .ensures) (lent f .pre .1 .name)
