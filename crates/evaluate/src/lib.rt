@@ -40,14 +40,11 @@ fn truth_of(yes: bool) -> Truth
     if yes { Truth::True } else { Truth::False }
 }
 
-fn refused(number: u8, place: usize, steps: u32) -> Evaluation
-    ensures { λ r. ⌜ RefusedAt number place steps r ⌝ }
+fn refused(refusal: Refusal, steps: u32) -> Evaluation
+    ensures { λ r. ⌜ RefusedAt (refusal .number) (refusal .place) steps r ⌝ }
 {
     Evaluation {
-        ending: Ending::Refused(Refusal {
-            number: number,
-            place: place,
-        }),
+        ending: Ending::Refused(refusal),
         steps: steps,
     }
 }
@@ -62,10 +59,7 @@ fn ended(held: Held, budget: u32) -> Evaluation
             ending: Ending::Decided(truth_of(yes)),
             steps: budget - left,
         },
-        Held::Refused { refusal, left } => {
-            let e = refused(refusal.number, refusal.place, budget - left);
-            e
-        }
+        Held::Refused { refusal, left } => refused(refusal, budget - left),
     }
 }
 
@@ -78,7 +72,13 @@ fn evaluate_in(table: &[u8], values: &[u8], budget: u32, s: &mut [u64]) -> Evalu
     let env = loaded.at;
     let answer = loaded.answer;
     match answer {
-        Loaded::Refused(x) => refused(14, x, 0),
+        Loaded::Refused(x) => refused(
+            Refusal {
+                number: 14,
+                place: x,
+            },
+            0,
+        ),
         Loaded::All(top) => {
             let count = table::nodes(table);
             if count == 0 {
@@ -103,7 +103,13 @@ fn evaluate_sized(table: &[u8], values: &[u8], budget: u32, height: usize) -> Ev
     match arenas::smallest(table, values, budget, need, 4) {
         Attempt::Made(e) => e,
         // Never: the last arena has room for each readable table.
-        Attempt::NoRoom => refused(8, 0, 0),
+        Attempt::NoRoom => refused(
+            Refusal {
+                number: 8,
+                place: 0,
+            },
+            0,
+        ),
     }
 }
 
@@ -113,10 +119,7 @@ pub fn evaluate(table: &[u8], values: &[u8], budget: u32) -> Evaluation
 {
     let height = reading::read_height(table);
     match height {
-        Height::Refused(r) => {
-            let e = refused(r.number, r.place, 0);
-            e
-        }
+        Height::Refused(r) => refused(r, 0),
         Height::Root(h) => evaluate_sized(table, values, budget, h),
     }
 }

@@ -10,8 +10,8 @@ enum-known-held c = c .match .keys1
 truth-of-requires : tie.Need-truth-of-requires
 truth-of-requires c κs = tt
 
-sub-t11 : tie.Need-sub-t11
-sub-t11 c =
+sub-t10 : tie.Need-sub-t10
+sub-t10 c =
     let h = c .before .before in
     let v = h .before .before in
     omega (arith, truth-within (v .args .budget) (h .held .given .1) (v .pre))
@@ -37,4 +37,4 @@ returns-2 c = let h = c .before .before in refused-reports (h .before .before .a
 pub ended-spec : {M : Type 1} → statement M
 ended-spec =
     tie.close
-    (tie.spec enum-known-held truth-of-requires sub-t11 enum-known-held-2 sub-refused refused-requires returns returns-2)
+    (tie.spec enum-known-held truth-of-requires sub-t10 enum-known-held-2 sub-refused refused-requires returns returns-2)
