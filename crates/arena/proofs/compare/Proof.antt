@@ -31,30 +31,6 @@ less c = c .before .before .before
 abbrev notLess : tie.Else1 Inv-loop μ-loop → Turn
 notLess c = c .before .before .before
 
-sub-n : tie.Need-sub-n Inv-loop μ-loop
-sub-n c = end-above _ _ _ (c .pre .0) (c .pre .2)
-
-loop-holds : tie.Need-loop-holds Inv-loop μ-loop
-loop-holds c = (omega arith, λ j l. absurd (omega arith))
-
-add-x : tie.Need-add-x Inv-loop μ-loop
-add-x c = omega (arith, first c)
-
-mul-x : tie.Need-mul-x Inv-loop μ-loop
-mul-x c = omega (arith, first c)
-
-shared-slice-read-x : tie.Need-shared-slice-read-x Inv-loop μ-loop
-shared-slice-read-x c = first (c .before)
-
-add-y : tie.Need-add-y Inv-loop μ-loop
-add-y c = omega (arith, second (c .before))
-
-mul-y : tie.Need-mul-y Inv-loop μ-loop
-mul-y c = omega (arith, second (c .before))
-
-shared-slice-read-y : tie.Need-shared-slice-read-y Inv-loop μ-loop
-shared-slice-read-y c = second (c .before .before)
-
 returns : tie.Need-returns Inv-loop μ-loop
 returns c =
     let t = less c in found-less _ _ _ _ _ (lent t .pre .2) (t .before .loop .inv .1) (t .loop-test .taken) (c .if1 .taken)
@@ -62,12 +38,6 @@ returns c =
 returns-2 : tie.Need-returns-2 Inv-loop μ-loop
 returns-2 c =
     let t = notLess (c .before) in found-greater _ _ _ _ _ (lent t .pre .2) (t .before .loop .inv .1) (t .loop-test .taken) (c .if2 .taken)
-
-add-i : tie.Need-add-i Inv-loop μ-loop
-add-i c = omega (arith, notLess (c .before) .loop-test .taken)
-
-loop-less : tie.Need-loop-less Inv-loop μ-loop
-loop-less c = omega (arith, notLess (c .before) .loop-test .taken)
 
 loop-again : tie.Need-loop-again Inv-loop μ-loop
 loop-again c =
@@ -77,26 +47,23 @@ loop-again c =
       agree-next (q .s .now) (q .a) (q .b) (t .before .loop .i) (t .before .loop .inv .1) (c .before .if1 .left) (c .if2 .left),
     )
 
-returns-3 : tie.Need-returns-3 Inv-loop μ-loop
-returns-3 c = found-equal _ _ _ _ _ (c .before .before .pre .2) (c .before .loop .inv .1) (omega (arith, c .loop-test .left))
-
 pub compare-spec : {M : Type 1} → statement M
 compare-spec =
     tie.close
     (tie.spec
     Inv-loop
     μ-loop
-    sub-n
-    loop-holds
-    add-x
-    mul-x
-    shared-slice-read-x
-    add-y
-    mul-y
-    shared-slice-read-y
+    (λ c. end-above _ _ _ (c .pre .0) (c .pre .2))
+    (λ c. (omega arith, λ j l. absurd (omega arith)))
+    (λ c. omega (arith, first c))
+    (λ c. omega (arith, first c))
+    (λ c. first (c .before))
+    (λ c. omega (arith, second (c .before)))
+    (λ c. omega (arith, second (c .before)))
+    (λ c. second (c .before .before))
     returns
     returns-2
-    add-i
-    loop-less
+    (λ c. omega (arith, notLess (c .before) .loop-test .taken))
+    (λ c. omega (arith, notLess (c .before) .loop-test .taken))
     loop-again
-    returns-3)
+    (λ c. found-equal _ _ _ _ _ (c .before .before .pre .2) (c .before .loop .inv .1) (omega (arith, c .loop-test .left))))

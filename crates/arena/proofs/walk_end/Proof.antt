@@ -32,38 +32,14 @@ inside t = pending-inside _ _ _ _ (pending t) (t .loop-test .taken) .0
 abbrev turn : tie.After-parts Inv-loop μ-loop → Turn
 turn c = c .before .before
 
-loop-holds : tie.Need-loop-holds Inv-loop μ-loop
-loop-holds c = λ v h f. pending-start _ _ v h f
-
-mul-parts : tie.Need-mul-parts Inv-loop μ-loop
-mul-parts c = omega (arith, inside c)
-
-shared-slice-read-parts : tie.Need-shared-slice-read-parts Inv-loop μ-loop
-shared-slice-read-parts c = inside (c .before)
-
-parts-requires : tie.Need-parts-requires Inv-loop μ-loop
-parts-requires c κs = search needs
-
-sub-left : tie.Need-sub-left Inv-loop μ-loop
-sub-left c = omega (arith, turn c .loop-test .taken)
-
 add-left : tie.Need-add-left Inv-loop μ-loop
 add-left c =
     let t = turn c in
     omega (arith, pending-few _ _ _ _ (pending-step _ _ _ _ (pending t) (t .loop-test .taken)), c .parts .ensures .0)
 
-add-i : tie.Need-add-i Inv-loop μ-loop
-add-i c = omega (arith, inside (turn c))
-
-loop-less : tie.Need-loop-less Inv-loop μ-loop
-loop-less c = omega (arith, inside (turn c))
-
 loop-again : tie.Need-loop-again Inv-loop μ-loop
 loop-again c = λ v h f.
     let t = turn c in rw (c .parts .ensures .0) (pending-step _ _ _ _ (t .before .loop .inv v h f) (t .loop-test .taken))
-
-returns : tie.Need-returns Inv-loop μ-loop
-returns c = λ v h f. pending-end _ _ _ _ (c .before .loop .inv v h f) (omega (arith, c .loop-test .left))
 
 pub walk-end-spec : {M : Type 1} → statement M
 walk-end-spec =
@@ -71,13 +47,13 @@ walk-end-spec =
     (tie.spec
     Inv-loop
     μ-loop
-    loop-holds
-    mul-parts
-    shared-slice-read-parts
-    parts-requires
-    sub-left
+    (λ c. λ v h f. pending-start _ _ v h f)
+    (λ c. omega (arith, inside c))
+    (λ c. inside (c .before))
+    (λ c κs. search needs)
+    (λ c. omega (arith, turn c .loop-test .taken))
     add-left
-    add-i
-    loop-less
+    (λ c. omega (arith, inside (turn c)))
+    (λ c. omega (arith, inside (turn c)))
     loop-again
-    returns)
+    (λ c. λ v h f. pending-end _ _ _ _ (c .before .loop .inv v h f) (omega (arith, c .loop-test .left))))

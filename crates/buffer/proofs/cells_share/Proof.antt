@@ -44,33 +44,6 @@ x l = getD (lent l .args .s .now) (lent l .args .at) 0
 abbrev y : Turn → ℕ
 y l = getD (lent l .args .s .now) (l .before .loop .i) 0
 
-mul-x : tie.Need-mul-x Inv-loop μ-loop
-mul-x c = let p = c .before in omega (arith, inside p, p .pre .1)
-
-shared-slice-read-x : tie.Need-shared-slice-read-x Inv-loop μ-loop
-shared-slice-read-x c = let p = c .before .before in omega (arith, inside p, p .pre .1)
-
-least-requires : tie.Need-least-requires Inv-loop μ-loop
-least-requires c κs = search needs
-
-most-requires : tie.Need-most-requires Inv-loop μ-loop
-most-requires c κs = search needs
-
-add-end : tie.Need-add-end Inv-loop μ-loop
-add-end c = omega (arith, inside (begun c))
-
-add-i : tie.Need-add-i Inv-loop μ-loop
-add-i c = omega (arith, inside (begun c), begun c .pre .1)
-
-loop-holds : tie.Need-loop-holds Inv-loop μ-loop
-loop-holds c = λ vs r. let p = begun c .pre in cells-start _ _ _ (p .2) (p .1) vs r
-
-mul-y : tie.Need-mul-y Inv-loop μ-loop
-mul-y c = omega (arith, inside (lent c), c .loop-test .taken)
-
-shared-slice-read-y : tie.Need-shared-slice-read-y Inv-loop μ-loop
-shared-slice-read-y c = let l = c .before in omega (arith, inside (lent l), l .loop-test .taken)
-
 returns : tie.Need-returns Inv-loop μ-loop
 returns c = λ vs r.
     let l = c .before .before in
@@ -82,12 +55,6 @@ returns-2 c = λ vs r.
     let l = c .before .before .before in
     cells-fail _ _ _ (lent l .pre .2) _ vs r (l .before .loop .inv vs r) (l .loop-test .taken)
     (alike-above (x l) (y l) (omega (arith, c .if2 .taken, bounds l .most .ensures)))
-
-add-i-2 : tie.Need-add-i-2 Inv-loop μ-loop
-add-i-2 c = let l = c .before .before .before in omega (arith, inside (lent l), l .loop-test .taken)
-
-loop-less : tie.Need-loop-less Inv-loop μ-loop
-loop-less c = omega (arith, c .before .before .before .loop-test .taken)
 
 loop-again : tie.Need-loop-again Inv-loop μ-loop
 loop-again c = λ vs r.
@@ -106,18 +73,18 @@ cells-share-spec =
     (tie.spec
     Inv-loop
     μ-loop
-    mul-x
-    shared-slice-read-x
-    least-requires
-    most-requires
-    add-end
-    add-i
-    loop-holds
-    mul-y
-    shared-slice-read-y
+    (λ c. let p = c .before in omega (arith, inside p, p .pre .1))
+    (λ c. let p = c .before .before in omega (arith, inside p, p .pre .1))
+    (λ c κs. search needs)
+    (λ c κs. search needs)
+    (λ c. omega (arith, inside (begun c)))
+    (λ c. omega (arith, inside (begun c), begun c .pre .1))
+    (λ c. λ vs r. let p = begun c .pre in cells-start _ _ _ (p .2) (p .1) vs r)
+    (λ c. omega (arith, inside (lent c), c .loop-test .taken))
+    (λ c. let l = c .before in omega (arith, inside (lent l), l .loop-test .taken))
     returns
     returns-2
-    add-i-2
-    loop-less
+    (λ c. let l = c .before .before .before in omega (arith, inside (lent l), l .loop-test .taken))
+    (λ c. omega (arith, c .before .before .before .loop-test .taken))
     loop-again
     returns-3)

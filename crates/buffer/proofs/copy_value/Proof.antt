@@ -69,29 +69,11 @@ loop-holds c =
     let p = lent c in
     (omega arith, omega arith, walk-start _ _ (p .args .from .at) _ _ (omega (arith, p .pre)))
 
-sub-if1 : tie.Need-sub-if1 Inv-loop μ-loop
-sub-if1 c = search needs
-
-same-length : tie.Need-same-length Inv-loop μ-loop
-same-length c = c .before .before .loop .inv .2 .frame .kept
-
 returns : tie.Need-returns Inv-loop μ-loop
 returns c =
     let l = c .before in
     let i = l .before .loop .inv in
     (i .2 .frame, walk-heavy _ _ (bytes (begun l)) _ _ _ _ _ _ _ (i .2) (l .loop-test .taken) (omega (arith, c .if1 .taken, i .0)))
-
-take-requires : tie.Need-take-requires Inv-loop μ-loop
-take-requires c κs = search needs
-
-enum-known-x : tie.Need-enum-known-x Inv-loop μ-loop
-enum-known-x c = search needs
-
-enum-told : tie.Need-enum-told Inv-loop μ-loop
-enum-told c = search needs
-
-same-length-2 : tie.Need-same-length-2 Inv-loop μ-loop
-same-length-2 c = let l = turn (c .before .before) in l .before .loop .inv .2 .frame .kept
 
 returns-2 : tie.Need-returns-2 Inv-loop μ-loop
 returns-2 c =
@@ -102,39 +84,12 @@ returns-2 c =
       walk-none _ _ (bytes (begun l)) _ _ _ _ _ _ _ (i .2) (l .loop-test .taken) (subst (Takes k) (c .enum-told .given .1) (k .take .ensures)),
     )
 
-code-cell-requires : tie.Need-code-cell-requires Inv-loop μ-loop
-code-cell-requires c κs = search needs
-
 room : (c : tie.After-code-cell Inv-loop μ-loop) →
     lent (begun (turn (taken (coded c)))) .args .top + turn (taken (coded c)) .before .loop .n < length (turn (taken (coded c)) .before .loop .s)
 room c =
     let m = coded c in
     let l = turn (taken m) in
     walk-room (l .before .loop .inv .2) (cell m) (few (taken m)) (lent (begun l) .pre)
-
-add-s : tie.Need-add-s Inv-loop μ-loop
-add-s c = omega (arith, room c)
-
-mul-s : tie.Need-mul-s Inv-loop μ-loop
-mul-s c = omega (arith, room c)
-
-slice-write-s : tie.Need-slice-write-s Inv-loop μ-loop
-slice-write-s c = room c
-
-sub-left : tie.Need-sub-left Inv-loop μ-loop
-sub-left c = search needs
-
-parts-requires : tie.Need-parts-requires Inv-loop μ-loop
-parts-requires c κs = search needs
-
-add-left : tie.Need-add-left Inv-loop μ-loop
-add-left c = search needs
-
-add-n : tie.Need-add-n Inv-loop μ-loop
-add-n c = search needs
-
-loop-less : tie.Need-loop-less Inv-loop μ-loop
-loop-less c = omega (arith, few (taken (coded (c .before))))
 
 loop-again : tie.Need-loop-again Inv-loop μ-loop
 loop-again c =
@@ -148,12 +103,6 @@ loop-again c =
           _ _ _ _ (cell m) (d .code-cell .ensures) (c .parts .ensures .0) (room d),
     )
 
-add-t17 : tie.Need-add-t17 Inv-loop μ-loop
-add-t17 c = omega (arith, lent (c .before .before) .pre)
-
-same-length-3 : tie.Need-same-length-3 Inv-loop μ-loop
-same-length-3 c = c .before .loop .inv .2 .frame .kept
-
 returns-3 : tie.Need-returns-3 Inv-loop μ-loop
 returns-3 c =
     let i = c .before .loop .inv in
@@ -166,24 +115,24 @@ copy-value-spec =
     Inv-loop
     μ-loop
     loop-holds
-    sub-if1
-    same-length
+    (λ c. search needs)
+    (λ c. c .before .before .loop .inv .2 .frame .kept)
     returns
-    take-requires
-    enum-known-x
-    enum-told
-    same-length-2
+    (λ c κs. search needs)
+    (λ c. search needs)
+    (λ c. search needs)
+    (λ c. let l = turn (c .before .before) in l .before .loop .inv .2 .frame .kept)
     returns-2
-    code-cell-requires
-    add-s
-    mul-s
-    slice-write-s
-    sub-left
-    parts-requires
-    add-left
-    add-n
-    loop-less
+    (λ c κs. search needs)
+    (λ c. omega (arith, room c))
+    (λ c. omega (arith, room c))
+    (λ c. room c)
+    (λ c. search needs)
+    (λ c κs. search needs)
+    (λ c. search needs)
+    (λ c. search needs)
+    (λ c. omega (arith, few (taken (coded (c .before)))))
     loop-again
-    add-t17
-    same-length-3
+    (λ c. omega (arith, lent (c .before .before) .pre))
+    (λ c. c .before .loop .inv .2 .frame .kept)
     returns-3)

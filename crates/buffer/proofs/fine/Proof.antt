@@ -23,24 +23,6 @@ lent m = m .before .before .before .before
 is-flat : (m : tie.Then1) → isFlat (getD (lent m .args .s .now) (lent m .args .at) 0) (lent m .args .end - lent m .args .at) ≡ true
 is-flat m = sym (m .before .flat .ensures) ∙ m .if1 .taken
 
-mul-x : tie.Need-mul-x
-mul-x c = omega (arith, inside (c .before))
-
-shared-slice-read-x : tie.Need-shared-slice-read-x
-shared-slice-read-x c = inside (c .before .before)
-
-sub-flat : tie.Need-sub-flat
-sub-flat c = let p = c .before .before .pre in omega (arith, end-inside _ _ _ (p .value) (p .ends) .0)
-
-flat-requires : tie.Need-flat-requires
-flat-requires c κs = search needs
-
-low-requires : tie.Need-low-requires
-low-requires c κs = search needs
-
-add-in-order : tie.Need-add-in-order
-add-in-order c = omega (arith, inside (lent (c .before)))
-
 in-order-requires : tie.Need-in-order-requires
 in-order-requires c κs =
     let m = c .before in
@@ -52,9 +34,6 @@ returns c =
     let n = c .before .before in
     let m = n .before in
     flat-fails _ _ _ (lent m .pre .ends) (is-flat m) _ (n .low .ensures .0) _ (c .before .in-order .ensures) (not-true _ (c .if2 .taken))
-
-add-share : tie.Need-add-share
-add-share c = let n = c .before .before in omega (arith, inside (lent (n .before)))
 
 share-requires : tie.Need-share-requires
 share-requires c κs =
@@ -71,15 +50,6 @@ returns-2 c =
     flat-fine _ _ _ (lent m .pre .ends) (is-flat m) _ (n .low .ensures .0) _ (o .before .in-order .ensures) _ (not-false _ (o .if2 .left))
     (c .share .ensures)
 
-rises-requires : tie.Need-rises-requires
-rises-requires c κs = search needs
-
-returns-3 : tie.Need-returns-3
-returns-3 c = fine-unordered _ _ _ (c .before .rises .ensures) (not-true _ (c .if3 .taken))
-
-well-typed-requires : tie.Need-well-typed-requires
-well-typed-requires c κs = search needs
-
 returns-4 : tie.Need-returns-4
 returns-4 c =
     let o = c .before in
@@ -89,18 +59,18 @@ pub fine-spec : {M : Type 1} → statement M
 fine-spec =
     tie.close
     (tie.spec
-    mul-x
-    shared-slice-read-x
-    sub-flat
-    flat-requires
-    low-requires
-    add-in-order
+    (λ c. omega (arith, inside (c .before)))
+    (λ c. inside (c .before .before))
+    (λ c. let p = c .before .before .pre in omega (arith, end-inside _ _ _ (p .value) (p .ends) .0))
+    (λ c κs. search needs)
+    (λ c κs. search needs)
+    (λ c. omega (arith, inside (lent (c .before))))
     in-order-requires
     returns
-    add-share
+    (λ c. let n = c .before .before in omega (arith, inside (lent (n .before))))
     share-requires
     returns-2
-    rises-requires
-    returns-3
-    well-typed-requires
+    (λ c κs. search needs)
+    (λ c. fine-unordered _ _ _ (c .before .rises .ensures) (not-true _ (c .if3 .taken)))
+    (λ c κs. search needs)
     returns-4)

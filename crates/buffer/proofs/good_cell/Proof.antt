@@ -19,28 +19,10 @@ by-tag m k e = good-by _ _ _ _ k (m .before .tag .ensures) (m .low .ensures .0) 
 abbrev known : tie.Else3 → tie.After-low
 known c = c .before .before .before
 
-tag-requires : tie.Need-tag-requires
-tag-requires c κs = search needs
-
-low-requires : tie.Need-low-requires
-low-requires c κs = search needs
-
-returns : tie.Need-returns
-returns c = by-tag (c .before) 1 (c .if1 .taken)
-
-size-requires : tie.Need-size-requires
-size-requires c κs = search needs
-
 returns-2 : tie.Need-returns-2
 returns-2 c =
     let m = c .before .before .before in
     ap (λ (n : ℕ). ltb (m .low .result % 256) n) (c .size .ensures) ∙ by-tag m 3 (c .before .if2 .taken)
-
-returns-3 : tie.Need-returns-3
-returns-3 c = by-tag (c .before .before .before) 2 (c .if3 .taken)
-
-returns-4 : tie.Need-returns-4
-returns-4 c = by-tag (known (c .before)) 4 (c .if4 .taken)
 
 returns-5 : tie.Need-returns-5
 returns-5 c =
@@ -52,11 +34,11 @@ pub good-cell-spec : {M : Type 1} → statement M
 good-cell-spec =
     tie.close
     (tie.spec
-    tag-requires
-    low-requires
-    returns
-    size-requires
+    (λ c κs. search needs)
+    (λ c κs. search needs)
+    (λ c. by-tag (c .before) 1 (c .if1 .taken))
+    (λ c κs. search needs)
     returns-2
-    returns-3
-    returns-4
+    (λ c. by-tag (c .before .before .before) 2 (c .if3 .taken))
+    (λ c. by-tag (known (c .before)) 4 (c .if4 .taken))
     returns-5)

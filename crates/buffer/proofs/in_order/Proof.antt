@@ -43,30 +43,9 @@ low m = omega (arith, m .if1 .left)
 next-inside : (m : Scalar) → turn m .before .loop .i + 1 < length (lent (turn m) .args .s .now)
 next-inside m = let l = turn m in some-inside _ _ (checked-cell _ _ _ _ (rest l) (l .loop-test .taken) (low m))
 
-loop-holds : tie.Need-loop-holds Inv-loop μ-loop
-loop-holds c = λ vs r. checked-start _ _ _ vs r
-
-mul-x : tie.Need-mul-x Inv-loop μ-loop
-mul-x c = omega (arith, first-inside c)
-
-shared-slice-read-x : tie.Need-shared-slice-read-x Inv-loop μ-loop
-shared-slice-read-x c = first-inside (c .before)
-
-values-rise-requires : tie.Need-values-rise-requires Inv-loop μ-loop
-values-rise-requires c κs = checked-some _ _ _ _ (rest (c .before .before))
-
 returns : tie.Need-returns Inv-loop μ-loop
 returns c = λ vs r.
     let l = c .before .before .before in checked-rest _ _ _ vs (l .before .loop .inv vs r) _ (c .values-rise .ensures)
-
-add-i : tie.Need-add-i Inv-loop μ-loop
-add-i c = omega (arith, next-inside c)
-
-mul-if2 : tie.Need-mul-if2 Inv-loop μ-loop
-mul-if2 c = omega (arith, next-inside c)
-
-shared-slice-read-if2 : tie.Need-shared-slice-read-if2 Inv-loop μ-loop
-shared-slice-read-if2 c = next-inside (c .before)
 
 returns-2 : tie.Need-returns-2 Inv-loop μ-loop
 returns-2 c = λ vs r.
@@ -74,20 +53,11 @@ returns-2 c = λ vs r.
     let l = turn m in
     checked-more _ _ _ vs (l .before .loop .inv vs r) (l .loop-test .taken) (low m) (omega (arith, c .if2 .taken))
 
-sub-left : tie.Need-sub-left Inv-loop μ-loop
-sub-left c = let m = c .before .before in omega (arith, turn m .loop-test .taken)
-
-loop-less : tie.Need-loop-less Inv-loop μ-loop
-loop-less c = let m = c .before .before in omega (arith, turn m .loop-test .taken)
-
 loop-again : tie.Need-loop-again Inv-loop μ-loop
 loop-again c = λ vs r.
     let m = c .before .before in
     let l = turn m in
     checked-less _ _ _ vs (l .before .loop .inv vs r) (l .loop-test .taken) (low m) (omega (arith, c .if2 .left))
-
-returns-3 : tie.Need-returns-3 Inv-loop μ-loop
-returns-3 c = λ vs r. checked-end _ _ _ vs (c .before .loop .inv vs r) (omega (arith, c .loop-test .left))
 
 pub in-order-spec : {M : Type 1} → statement M
 in-order-spec =
@@ -95,16 +65,16 @@ in-order-spec =
     (tie.spec
     Inv-loop
     μ-loop
-    loop-holds
-    mul-x
-    shared-slice-read-x
-    values-rise-requires
+    (λ c. λ vs r. checked-start _ _ _ vs r)
+    (λ c. omega (arith, first-inside c))
+    (λ c. first-inside (c .before))
+    (λ c κs. checked-some _ _ _ _ (rest (c .before .before)))
     returns
-    add-i
-    mul-if2
-    shared-slice-read-if2
+    (λ c. omega (arith, next-inside c))
+    (λ c. omega (arith, next-inside c))
+    (λ c. next-inside (c .before))
     returns-2
-    sub-left
-    loop-less
+    (λ c. let m = c .before .before in omega (arith, turn m .loop-test .taken))
+    (λ c. let m = c .before .before in omega (arith, turn m .loop-test .taken))
     loop-again
-    returns-3)
+    (λ c. λ vs r. checked-end _ _ _ vs (c .before .loop .inv vs r) (omega (arith, c .loop-test .left))))

@@ -8,29 +8,11 @@ use Rattle.buffer.proofs.load.Tie as tie
 abbrev lent : tie.After-binds-of → tie.Start
 lent b = b .before .before .before .before .before
 
-sizes-of-requires : tie.Need-sizes-of-requires
-sizes-of-requires c κs = search needs
-
-binds-of-requires : tie.Need-binds-of-requires
-binds-of-requires c κs = search needs
-
-givens-requires : tie.Need-givens-requires
-givens-requires c κs = search needs
-
-identifiers-requires : tie.Need-identifiers-requires
-identifiers-requires c κs = search needs
-
-array-share-prefix-sizes : tie.Need-array-share-prefix-sizes
-array-share-prefix-sizes c = search needs
-
 slice-aggregate-read-values : tie.Need-slice-aggregate-read-values
 slice-aggregate-read-values c =
     let g = c .before .before in
     let b = g .before in
     begins-count (b .before .sizes-of .ensures) (g .givens .ensures) (size-bound (lent b .pre .readable))
-
-array-share-prefix-binds : tie.Need-array-share-prefix-binds
-array-share-prefix-binds c = search needs
 
 slice-aggregate-read-values-2 : tie.Need-slice-aggregate-read-values-2
 slice-aggregate-read-values-2 c =
@@ -43,9 +25,6 @@ read-values-requires c κs =
     let i = c .before .before .before in
     let b = i .before .before in
     load-room (lent b .pre) (begins-lent (b .binds-of .ensures) (i .identifiers .ensures))
-
-same-length : tie.Need-same-length
-same-length c = search needs
 
 returns : tie.Need-returns
 returns c =
@@ -61,14 +40,14 @@ pub load-spec : {M : Type 1} → statement M
 load-spec =
     tie.close
     (tie.spec
-    sizes-of-requires
-    binds-of-requires
-    givens-requires
-    identifiers-requires
-    array-share-prefix-sizes
+    (λ c κs. search needs)
+    (λ c κs. search needs)
+    (λ c κs. search needs)
+    (λ c κs. search needs)
+    (λ c. search needs)
     slice-aggregate-read-values
-    array-share-prefix-binds
+    (λ c. search needs)
     slice-aggregate-read-values-2
     read-values-requires
-    same-length
+    (λ c. search needs)
     returns)

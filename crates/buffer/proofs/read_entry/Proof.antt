@@ -20,21 +20,6 @@ abbrev Reads : tie.After-read-value → Placed → Type 0
 Reads k q =
     let a = lent (free k) .args in ReadsGood (a .sizes .now) (a .values .now) (a .from .at) (k .read-value .last .1 .1 .1 .0) (a .top) q
 
-returns : tie.Need-returns
-returns c = let m = c .before in (same-refl _ _, entry-bound _ _ _ (m .before .before .before .args .from .at) _ _ _ (c .if1 .taken))
-
-read-value-requires : tie.Need-read-value-requires
-read-value-requires c κs = search needs
-
-enum-known-r : tie.Need-enum-known-r
-enum-known-r c = search needs
-
-enum-told : tie.Need-enum-told
-enum-told c = search needs
-
-same-length : tie.Need-same-length
-same-length c = search needs
-
 returns-2 : tie.Need-returns-2
 returns-2 c =
     let m = c .before .before in
@@ -42,9 +27,6 @@ returns-2 c =
       k .read-value .ensures .0,
       entry-free _ _ _ _ _ _ _ _ _ _ (free k .if1 .left) (subst (Reads k) (c .before .r .given .1) (k .read-value .ensures .1)),
     )
-
-same-length-2 : tie.Need-same-length-2
-same-length-2 c = search needs
 
 returns-3 : tie.Need-returns-3
 returns-3 c =
@@ -59,11 +41,11 @@ pub read-entry-spec : {M : Type 1} → statement M
 read-entry-spec =
     tie.close
     (tie.spec
-    returns
-    read-value-requires
-    enum-known-r
-    enum-told
-    same-length
+    (λ c. let m = c .before in (same-refl _ _, entry-bound _ _ _ (m .before .before .before .args .from .at) _ _ _ (c .if1 .taken)))
+    (λ c κs. search needs)
+    (λ c. search needs)
+    (λ c. search needs)
+    (λ c. search needs)
     returns-2
-    same-length-2
+    (λ c. search needs)
     returns-3)

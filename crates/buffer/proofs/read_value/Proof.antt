@@ -30,18 +30,6 @@ value : (m : tie.After-r) →
     (lent (copied m) .args .top) (m .r .given .0 .0 .at) (m .r .given .0 .1 .0)
 value m = let k = copied m in subst (Copies k) (m .r .given .1) (k .copy-value .ensures .1)
 
-copy-value-requires : tie.Need-copy-value-requires
-copy-value-requires c κs = search needs
-
-enum-known-r : tie.Need-enum-known-r
-enum-known-r c = search needs
-
-fine-requires : tie.Need-fine-requires
-fine-requires c κs = read-whole (value (c .before .before))
-
-same-length : tie.Need-same-length
-same-length c = search needs
-
 returns : tie.Need-returns
 returns c =
     let e = c .before .before in
@@ -50,12 +38,6 @@ returns c =
       read-bad (value m) (λ v h f. sym (not-true _ (c .if1 .taken)) ∙ c .before .fine .ensures v h f),
     )
 
-enum-told : tie.Need-enum-told
-enum-told c = search needs
-
-same-length-2 : tie.Need-same-length-2
-same-length-2 c = search needs
-
 returns-2 : tie.Need-returns-2
 returns-2 c =
     let e = c .before .before in
@@ -63,9 +45,6 @@ returns-2 c =
       copied m .copy-value .ensures .0,
       read-good (value m) (λ v h f. sym (not-false _ (c .if1 .left)) ∙ c .before .fine .ensures v h f),
     )
-
-same-length-3 : tie.Need-same-length-3
-same-length-3 c = search needs
 
 returns-3 : tie.Need-returns-3
 returns-3 c =
@@ -80,13 +59,13 @@ pub read-value-spec : {M : Type 1} → statement M
 read-value-spec =
     tie.close
     (tie.spec
-    copy-value-requires
-    enum-known-r
-    fine-requires
-    same-length
+    (λ c κs. search needs)
+    (λ c. search needs)
+    (λ c κs. read-whole (value (c .before .before)))
+    (λ c. search needs)
     returns
-    enum-told
-    same-length-2
+    (λ c. search needs)
+    (λ c. search needs)
     returns-2
-    same-length-3
+    (λ c. search needs)
     returns-3)

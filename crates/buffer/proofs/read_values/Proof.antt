@@ -73,41 +73,17 @@ entered : (m : tie.After-place Inv-loop μ-loop) →
     (lent (at m) .args .top) (at m .loop .end) (m .place .given .0 .0) (m .place .given .0 .1 .0 .at) (m .place .given .0 .1 .1 .0)
 entered m = let k = read m in subst (Answers k) (m .place .given .1) (k .read-entry .ensures .1)
 
-mul-s : tie.Need-mul-s Inv-loop μ-loop
-mul-s c = omega (arith, begun c .pre .space)
-
-slice-write-s : tie.Need-slice-write-s Inv-loop μ-loop
-slice-write-s c = omega (arith, begun c .pre .space)
-
-cast-env : tie.Need-cast-env Inv-loop μ-loop
-cast-env c = omega (arith, begun c .pre .space, begun c .pre .small)
-
-add-end : tie.Need-add-end Inv-loop μ-loop
-add-end c = omega (arith, begun c .pre .space)
-
 loop-holds : tie.Need-loop-holds Inv-loop μ-loop
 loop-holds c =
     let p = begun c in
     loading-start _ _ _ _ (p .args .top) (replicate 32 (p .args .top)) (p .pre) (length-replicate 32 (p .args .top))
     (λ y l. getD-replicate 32 y (p .args .top) 0 l)
 
-mul-read-entry : tie.Need-mul-read-entry Inv-loop μ-loop
-mul-read-entry c = omega (arith, c .loop-test .taken, lent (c .before) .pre .few)
-
-shared-slice-read-read-entry : tie.Need-shared-slice-read-read-entry Inv-loop μ-loop
-shared-slice-read-read-entry c = c .before .loop-test .taken
-
 read-entry-requires : tie.Need-read-entry-requires Inv-loop μ-loop
 read-entry-requires c κs =
     let l = c .before .before in
     let a = l .before in
     omega (arith, a .loop .inv .room, lent a .pre .space, l .loop-test .taken, kept a)
-
-enum-known-place : tie.Need-enum-known-place Inv-loop μ-loop
-enum-known-place c = search needs
-
-enum-told : tie.Need-enum-told Inv-loop μ-loop
-enum-told c = search needs
 
 same-length : tie.Need-same-length Inv-loop μ-loop
 same-length c =
@@ -137,18 +113,6 @@ cast-env-2 c =
       lent a .pre .small,
     )
 
-mul-env : tie.Need-mul-env Inv-loop μ-loop
-mul-env c = let m = c .before in omega (arith, turn (read m) .loop-test .taken, lent (at m) .pre .few)
-
-array-write-env : tie.Need-array-write-env Inv-loop μ-loop
-array-write-env c = let m = c .before in omega (arith, turn (read m) .loop-test .taken, lent (at m) .pre .few)
-
-add-x : tie.Need-add-x Inv-loop μ-loop
-add-x c = let m = c .before in omega (arith, turn (read m) .loop-test .taken, lent (at m) .pre .few)
-
-loop-less : tie.Need-loop-less Inv-loop μ-loop
-loop-less c = let m = c .before in omega (arith, turn (read m) .loop-test .taken)
-
 loop-again : tie.Need-loop-again Inv-loop μ-loop
 loop-again c =
     let m = c .before in
@@ -156,17 +120,11 @@ loop-again c =
     let a = at m in
     loading-step (a .loop .inv) (word k) (arena k) _ _ _ (turn k .loop-test .taken) (lent a .pre .few) refl (k .read-entry .ensures .0) (entered m)
 
-same-length-2 : tie.Need-same-length-2 Inv-loop μ-loop
-same-length-2 c = kept (c .before .before .before)
-
 returns-2 : tie.Need-returns-2 Inv-loop μ-loop
 returns-2 c =
     let e = c .before .before in
     let a = e .before in
     (framed a, loading-surplus (a .loop .inv) (omega (arith, e .loop-test .left)) (c .if1 .taken))
-
-same-length-3 : tie.Need-same-length-3 Inv-loop μ-loop
-same-length-3 c = kept (c .before .before .before)
 
 returns-3 : tie.Need-returns-3 Inv-loop μ-loop
 returns-3 c =
@@ -180,25 +138,25 @@ read-values-spec =
     (tie.spec
     Inv-loop
     μ-loop
-    mul-s
-    slice-write-s
-    cast-env
-    add-end
+    (λ c. omega (arith, begun c .pre .space))
+    (λ c. omega (arith, begun c .pre .space))
+    (λ c. omega (arith, begun c .pre .space, begun c .pre .small))
+    (λ c. omega (arith, begun c .pre .space))
     loop-holds
-    mul-read-entry
-    shared-slice-read-read-entry
+    (λ c. omega (arith, c .loop-test .taken, lent (c .before) .pre .few))
+    (λ c. c .before .loop-test .taken)
     read-entry-requires
-    enum-known-place
-    enum-told
+    (λ c. search needs)
+    (λ c. search needs)
     same-length
     returns
     cast-env-2
-    mul-env
-    array-write-env
-    add-x
-    loop-less
+    (λ c. let m = c .before in omega (arith, turn (read m) .loop-test .taken, lent (at m) .pre .few))
+    (λ c. let m = c .before in omega (arith, turn (read m) .loop-test .taken, lent (at m) .pre .few))
+    (λ c. let m = c .before in omega (arith, turn (read m) .loop-test .taken, lent (at m) .pre .few))
+    (λ c. let m = c .before in omega (arith, turn (read m) .loop-test .taken))
     loop-again
-    same-length-2
+    (λ c. kept (c .before .before .before))
     returns-2
-    same-length-3
+    (λ c. kept (c .before .before .before))
     returns-3)

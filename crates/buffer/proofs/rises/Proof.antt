@@ -37,21 +37,6 @@ Counted = tie.After-low Inv-loop μ-loop
 abbrev turn : Counted → Turn
 turn m = m .before .before .before
 
-loop-holds : tie.Need-loop-holds Inv-loop μ-loop
-loop-holds c = λ v h f. sorted-start _ _ _ v h f (c .before .pre .ends)
-
-mul-x : tie.Need-mul-x Inv-loop μ-loop
-mul-x c = omega (arith, c .loop-test .taken, inside c)
-
-shared-slice-read-x : tie.Need-shared-slice-read-x Inv-loop μ-loop
-shared-slice-read-x c = let l = c .before in omega (arith, l .loop-test .taken, inside l)
-
-add-i : tie.Need-add-i Inv-loop μ-loop
-add-i c = let l = c .before in omega (arith, l .loop-test .taken, inside l)
-
-low-requires : tie.Need-low-requires Inv-loop μ-loop
-low-requires c κs = search needs
-
 in-order-requires : tie.Need-in-order-requires Inv-loop μ-loop
 in-order-requires c κs =
     let l = turn c in sorted-members _ _ _ _ (rest l) _ (l .loop-test .taken) refl (c .before .if1 .taken) _ (c .low .ensures .0)
@@ -63,9 +48,6 @@ returns c = λ v h f.
     sorted-fails _ _ _ v (l .before .loop .inv v h f) _ (l .loop-test .taken) refl (m .before .if1 .taken)
     _ _ (m .low .ensures .0) (c .before .in-order .ensures) (not-true _ (c .if2 .taken))
 
-loop-less : tie.Need-loop-less Inv-loop μ-loop
-loop-less c = omega (arith, turn (c .before .before) .loop-test .taken)
-
 loop-again : tie.Need-loop-again Inv-loop μ-loop
 loop-again c = λ v h f.
     let m = c .before .before in
@@ -73,16 +55,10 @@ loop-again c = λ v h f.
     sorted-past _ _ _ v (l .before .loop .inv v h f) _ (l .loop-test .taken) refl (m .before .if1 .taken)
     _ _ (m .low .ensures .0) (c .before .in-order .ensures) (not-false _ (c .if2 .left))
 
-loop-less-2 : tie.Need-loop-less-2 Inv-loop μ-loop
-loop-less-2 c = omega (arith, c .before .before .loop-test .taken)
-
 loop-again-2 : tie.Need-loop-again-2 Inv-loop μ-loop
 loop-again-2 c = λ v h f.
     let l = c .before .before in
     sorted-on _ _ _ v (l .before .loop .inv v h f) _ (l .loop-test .taken) refl (omega (arith, c .if1 .left))
-
-returns-2 : tie.Need-returns-2 Inv-loop μ-loop
-returns-2 c = λ v h f. sorted-end _ _ _ v (c .before .loop .inv v h f) (omega (arith, c .loop-test .left))
 
 pub rises-spec : {M : Type 1} → statement M
 rises-spec =
@@ -90,15 +66,15 @@ rises-spec =
     (tie.spec
     Inv-loop
     μ-loop
-    loop-holds
-    mul-x
-    shared-slice-read-x
-    add-i
-    low-requires
+    (λ c. λ v h f. sorted-start _ _ _ v h f (c .before .pre .ends))
+    (λ c. omega (arith, c .loop-test .taken, inside c))
+    (λ c. let l = c .before in omega (arith, l .loop-test .taken, inside l))
+    (λ c. let l = c .before in omega (arith, l .loop-test .taken, inside l))
+    (λ c κs. search needs)
     in-order-requires
     returns
-    loop-less
+    (λ c. omega (arith, turn (c .before .before) .loop-test .taken))
     loop-again
-    loop-less-2
+    (λ c. omega (arith, c .before .before .loop-test .taken))
     loop-again-2
-    returns-2)
+    (λ c. λ v h f. sorted-end _ _ _ v (c .before .loop .inv v h f) (omega (arith, c .loop-test .left))))

@@ -11,36 +11,18 @@ use Rattle.buffer.proofs.share.Tie as tie
 inside : (m : tie.Else1) → m .before .before .args .at < length (m .before .before .args .s .now)
 inside m = some-inside _ _ (row-some _ _ _ (m .before .before .pre) (m .if1 .left))
 
-returns : tie.Need-returns
-returns c = λ vs r. prefix-none _ _ _ vs r (c .if1 .taken)
-
-mul-if2 : tie.Need-mul-if2
-mul-if2 c = omega (arith, inside c)
-
-shared-slice-read-if2 : tie.Need-shared-slice-read-if2
-shared-slice-read-if2 c = inside (c .before)
-
 cells-share-requires : tie.Need-cells-share-requires
 cells-share-requires c κs =
     let m = c .before .before in (m .before .before .pre, omega (arith, m .if1 .left), c .if2 .taken)
-
-returns-2 : tie.Need-returns-2
-returns-2 c = c .cells-share .ensures
-
-values-share-requires : tie.Need-values-share-requires
-values-share-requires c κs = let m = c .before .before in (m .before .before .pre, omega (arith, m .if1 .left))
-
-returns-3 : tie.Need-returns-3
-returns-3 c = c .values-share .ensures
 
 pub share-spec : {M : Type 1} → statement M
 share-spec =
     tie.close
     (tie.spec
-    returns
-    mul-if2
-    shared-slice-read-if2
+    (λ c. λ vs r. prefix-none _ _ _ vs r (c .if1 .taken))
+    (λ c. omega (arith, inside c))
+    (λ c. inside (c .before))
     cells-share-requires
-    returns-2
-    values-share-requires
-    returns-3)
+    (λ c. c .cells-share .ensures)
+    (λ c κs. let m = c .before .before in (m .before .before .pre, omega (arith, m .if1 .left)))
+    (λ c. c .values-share .ensures))

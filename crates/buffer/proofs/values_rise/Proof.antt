@@ -27,12 +27,6 @@ rest l = l .before .loop .inv (lent l .pre .0) (lent l .pre .1)
 first : (l : Turn) → SomeAt (lent l .args .s .now) (l .before .loop .i)
 first l = checked-at _ _ _ _ (rest l) (l .loop-test .taken)
 
-loop-holds : tie.Need-loop-holds Inv-loop μ-loop
-loop-holds c = λ vs r. checked-start _ _ _ vs r
-
-end-of-requires : tie.Need-end-of-requires Inv-loop μ-loop
-end-of-requires c κs = first c
-
 compare-requires : tie.Need-compare-requires Inv-loop μ-loop
 compare-requires c κs =
     let l = c .before in (first l, checked-second _ _ _ _ (rest l) _ (c .end-of .ensures) (l .loop-test .taken), c .end-of .ensures)
@@ -43,20 +37,11 @@ returns c = λ vs r.
     let l = e .before in
     checked-fails _ _ _ vs (l .before .loop .inv vs r) _ (e .end-of .ensures) (l .loop-test .taken) _ (c .before .compare .ensures) (c .if1 .taken)
 
-sub-left : tie.Need-sub-left Inv-loop μ-loop
-sub-left c = search needs
-
-loop-less : tie.Need-loop-less Inv-loop μ-loop
-loop-less c = omega (arith, c .before .before .before .loop-test .taken)
-
 loop-again : tie.Need-loop-again Inv-loop μ-loop
 loop-again c = λ vs r.
     let e = c .before .before in
     let l = e .before in
     checked-next _ _ _ vs (l .before .loop .inv vs r) _ (e .end-of .ensures) (l .loop-test .taken) _ (c .before .compare .ensures) (c .if1 .left)
-
-returns-2 : tie.Need-returns-2 Inv-loop μ-loop
-returns-2 c = λ vs r. checked-end _ _ _ vs (c .before .loop .inv vs r) (omega (arith, c .loop-test .left))
 
 pub values-rise-spec : {M : Type 1} → statement M
 values-rise-spec =
@@ -64,11 +49,11 @@ values-rise-spec =
     (tie.spec
     Inv-loop
     μ-loop
-    loop-holds
-    end-of-requires
+    (λ c. λ vs r. checked-start _ _ _ vs r)
+    (λ c κs. first c)
     compare-requires
     returns
-    sub-left
-    loop-less
+    (λ c. search needs)
+    (λ c. omega (arith, c .before .before .before .loop-test .taken))
     loop-again
-    returns-2)
+    (λ c. λ vs r. checked-end _ _ _ vs (c .before .loop .inv vs r) (omega (arith, c .loop-test .left))))

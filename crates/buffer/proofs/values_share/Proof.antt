@@ -54,19 +54,10 @@ stand m vs r =
     let b = begun l in
     stand-for _ _ _ _ _ vs r (so-far l vs r) _ _ _ (l .before .loop .inv .0) (b .before .end-of .ensures) (b .full .ensures .sound) (m .few .ensures)
 
-end-of-requires : tie.Need-end-of-requires Inv-loop μ-loop
-end-of-requires c κs = first (c .before)
-
-full-requires : tie.Need-full-requires Inv-loop μ-loop
-full-requires c κs = end-inside _ _ _ (first (c .before .before)) (c .end-of .ensures)
-
 loop-holds : tie.Need-loop-holds Inv-loop μ-loop
 loop-holds c =
     let p = c .before .before .before .pre in
     (omega arith, λ vs r. prefix-start _ _ _ _ (c .before .end-of .ensures) (λ z. omega (arith, p .1)) vs r)
-
-few-requires : tie.Need-few-requires Inv-loop μ-loop
-few-requires c κs = search needs
 
 against-requires : tie.Need-against-requires Inv-loop μ-loop
 against-requires c κs =
@@ -82,15 +73,6 @@ returns c = λ vs r.
     prefix-fails _ _ _ _ _ vs r (so-far l vs r) _ (l .loop-test .taken) (stand m vs r)
     (λ v ws h k. sym (not-true _ (c .if1 .taken)) ∙ c .before .against .ensures v ws h k)
 
-end-of-requires-2 : tie.Need-end-of-requires-2 Inv-loop μ-loop
-end-of-requires-2 c κs = some-at (next (c .before .before .before))
-
-add-k : tie.Need-add-k Inv-loop μ-loop
-add-k c = let m = c .before .before .before in omega (arith, m .before .loop-test .taken)
-
-loop-less : tie.Need-loop-less Inv-loop μ-loop
-loop-less c = let m = c .before .before .before in omega (arith, m .before .loop-test .taken)
-
 loop-again : tie.Need-loop-again Inv-loop μ-loop
 loop-again c =
     let m = c .before .before .before in
@@ -101,23 +83,20 @@ loop-again c =
           (λ v ws h k. sym (not-false _ (c .before .if1 .left)) ∙ c .before .before .against .ensures v ws h k),
     )
 
-returns-2 : tie.Need-returns-2 Inv-loop μ-loop
-returns-2 c = λ vs r. prefix-end _ _ _ _ _ vs r (c .before .loop .inv .1 vs r) (omega (arith, c .loop-test .left))
-
 pub values-share-spec : {M : Type 1} → statement M
 values-share-spec =
     tie.close
     (tie.spec
     Inv-loop
     μ-loop
-    end-of-requires
-    full-requires
+    (λ c κs. first (c .before))
+    (λ c κs. end-inside _ _ _ (first (c .before .before)) (c .end-of .ensures))
     loop-holds
-    few-requires
+    (λ c κs. search needs)
     against-requires
     returns
-    end-of-requires-2
-    add-k
-    loop-less
+    (λ c κs. some-at (next (c .before .before .before)))
+    (λ c. let m = c .before .before .before in omega (arith, m .before .loop-test .taken))
+    (λ c. let m = c .before .before .before in omega (arith, m .before .loop-test .taken))
     loop-again
-    returns-2)
+    (λ c. λ vs r. prefix-end _ _ _ _ _ vs r (c .before .loop .inv .1 vs r) (omega (arith, c .loop-test .left))))

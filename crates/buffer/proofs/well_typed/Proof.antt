@@ -34,21 +34,6 @@ Counted = tie.After-low Inv-loop μ-loop
 abbrev turn : Counted → Turn
 turn m = m .before .before .before
 
-loop-holds : tie.Need-loop-holds Inv-loop μ-loop
-loop-holds c = (omega arith, λ v h f. from-end _ _ _ v h f (c .before .pre .ends))
-
-sub-i : tie.Need-sub-i Inv-loop μ-loop
-sub-i c = search needs
-
-mul-x : tie.Need-mul-x Inv-loop μ-loop
-mul-x c = omega (arith, c .loop-test .taken, c .before .loop .inv .0, inside c)
-
-shared-slice-read-x : tie.Need-shared-slice-read-x Inv-loop μ-loop
-shared-slice-read-x c = let l = c .before in omega (arith, l .loop-test .taken, l .before .loop .inv .0, inside l)
-
-low-requires : tie.Need-low-requires Inv-loop μ-loop
-low-requires c κs = search needs
-
 share-requires : tie.Need-share-requires Inv-loop μ-loop
 share-requires c κs =
     let l = turn c in
@@ -64,9 +49,6 @@ returns c = λ v h f.
     from-fails _ _ _ v h f (lent l .pre .ends) _ _ (l .loop-test .taken) (l .before .loop .inv .0) refl (m .before .if1 .taken)
     _ _ (m .low .ensures .0) (c .before .share .ensures) (l .before .loop .inv .1 v h f) (not-true _ (c .if2 .taken))
 
-loop-less : tie.Need-loop-less Inv-loop μ-loop
-loop-less c = omega (arith, turn (c .before .before) .loop-test .taken)
-
 loop-again : tie.Need-loop-again Inv-loop μ-loop
 loop-again c =
     let m = c .before .before in
@@ -76,9 +58,6 @@ loop-again c =
           from-set _ _ _ v h f (lent l .pre .ends) _ _ (l .loop-test .taken) (l .before .loop .inv .0) refl (m .before .if1 .taken)
           _ _ (m .low .ensures .0) (c .before .share .ensures) (l .before .loop .inv .1 v h f) (not-false _ (c .if2 .left)),
     )
-
-loop-less-2 : tie.Need-loop-less-2 Inv-loop μ-loop
-loop-less-2 c = omega (arith, c .before .before .loop-test .taken)
 
 loop-again-2 : tie.Need-loop-again-2 Inv-loop μ-loop
 loop-again-2 c =
@@ -99,15 +78,15 @@ well-typed-spec =
     (tie.spec
     Inv-loop
     μ-loop
-    loop-holds
-    sub-i
-    mul-x
-    shared-slice-read-x
-    low-requires
+    (λ c. (omega arith, λ v h f. from-end _ _ _ v h f (c .before .pre .ends)))
+    (λ c. search needs)
+    (λ c. omega (arith, c .loop-test .taken, c .before .loop .inv .0, inside c))
+    (λ c. let l = c .before in omega (arith, l .loop-test .taken, l .before .loop .inv .0, inside l))
+    (λ c κs. search needs)
     share-requires
     returns
-    loop-less
+    (λ c. omega (arith, turn (c .before .before) .loop-test .taken))
     loop-again
-    loop-less-2
+    (λ c. omega (arith, c .before .before .loop-test .taken))
     loop-again-2
     returns-2)

@@ -12,21 +12,6 @@ Inv-loop table s env sheet count x₀ x = HaveBelow table s env sheet x
 abbrev μ-loop : tie.MeasureT-loop
 μ-loop table s env sheet count x₀ x = count - x
 
-identifiers-requires : tie.Need-identifiers-requires Inv-loop μ-loop
-identifiers-requires c κs = search needs
-
-loop-holds : tie.Need-loop-holds Inv-loop μ-loop
-loop-holds c = have-none _ _ _ _
-
-mul-wide : tie.Need-mul-wide Inv-loop μ-loop
-mul-wide c = search needs
-
-element-copy-out-wide : tie.Need-element-copy-out-wide Inv-loop μ-loop
-element-copy-out-wide c = search needs
-
-wide-requires : tie.Need-wide-requires Inv-loop μ-loop
-wide-requires c κs = search needs
-
 name-has-requires : tie.Need-name-has-requires Inv-loop μ-loop
 name-has-requires c κs =
     let l = c .before .before .before in
@@ -38,20 +23,11 @@ returns c =
     have-no _ _ _ _ (l .before .before .before .before .before .pre) _ (omega (arith, l .before .identifiers .ensures, c .before .before .before .before .loop-test .taken)) _
     (c .before .before .wide .ensures) _ (c .before .name-has .ensures) (not-true _ (c .if1 .taken))
 
-add-x : tie.Need-add-x Inv-loop μ-loop
-add-x c = search needs
-
-loop-less : tie.Need-loop-less Inv-loop μ-loop
-loop-less c = search needs
-
 loop-again : tie.Need-loop-again Inv-loop μ-loop
 loop-again c =
     let l = c .before .before .before .before .before in
     have-more _ _ _ _ (l .before .before .before .before .before .pre) _ (omega (arith, l .before .identifiers .ensures, c .before .before .before .before .loop-test .taken)) _
     (c .before .before .wide .ensures) _ (c .before .name-has .ensures) (not-false _ (c .if1 .left)) (l .loop .inv)
-
-returns-2 : tie.Need-returns-2 Inv-loop μ-loop
-returns-2 c = have-all _ _ _ _ _ (c .before .loop .inv) (omega (arith, c .loop-test .left, c .before .before .identifiers .ensures))
 
 pub all-have-spec : {M : Type 1} → statement M
 all-have-spec =
@@ -59,14 +35,14 @@ all-have-spec =
     (tie.spec
     Inv-loop
     μ-loop
-    identifiers-requires
-    loop-holds
-    mul-wide
-    element-copy-out-wide
-    wide-requires
+    (λ c κs. search needs)
+    (λ c. have-none _ _ _ _)
+    (λ c. search needs)
+    (λ c. search needs)
+    (λ c κs. search needs)
     name-has-requires
     returns
-    add-x
-    loop-less
+    (λ c. search needs)
+    (λ c. search needs)
     loop-again
-    returns-2)
+    (λ c. have-all _ _ _ _ _ (c .before .loop .inv) (omega (arith, c .loop-test .left, c .before .before .identifiers .ensures))))

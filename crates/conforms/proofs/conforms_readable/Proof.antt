@@ -3,21 +3,6 @@ use Rattle.conforms.proofs.NameLaws.{misfits, sized-decides, sheet-fits
 use Rattle.conforms.proofs.conforms_readable.Statement.{statement}
 use Rattle.conforms.proofs.conforms_readable.Tie as tie
 
-identifiers-requires : tie.Need-identifiers-requires
-identifiers-requires c κs = search needs
-
-nodes-requires : tie.Need-nodes-requires
-nodes-requires c κs = search needs
-
-add-if1 : tie.Need-add-if1
-add-if1 c = search needs
-
-mul-if1 : tie.Need-mul-if1
-mul-if1 c = search needs
-
-returns : tie.Need-returns
-returns c = misfits _ _ _ _ _ (c .before .before .identifiers .ensures) (c .before .nodes .ensures) (c .if1 .taken)
-
 conforms-fitting-requires : tie.Need-conforms-fitting-requires
 conforms-fitting-requires c κs =
     let i = c .before .before in
@@ -33,10 +18,10 @@ pub conforms-readable-spec : {M : Type 1} → statement M
 conforms-readable-spec =
     tie.close
     (tie.spec
-    identifiers-requires
-    nodes-requires
-    add-if1
-    mul-if1
-    returns
+    (λ c κs. search needs)
+    (λ c κs. search needs)
+    (λ c. search needs)
+    (λ c. search needs)
+    (λ c. misfits _ _ _ _ _ (c .before .before .identifiers .ensures) (c .before .nodes .ensures) (c .if1 .taken))
     conforms-fitting-requires
     returns-2)

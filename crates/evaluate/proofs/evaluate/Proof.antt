@@ -7,18 +7,6 @@ use Rattle.evaluate.proofs.evaluate.Tie as tie
 use Rattle.reading.specs.Answers.{heightOf}
 use Rattle.reading.proofs.Promise.{measured-readable}
 
-read-height-requires : tie.Need-read-height-requires
-read-height-requires c κs = search needs
-
-enum-known-height : tie.Need-enum-known-height
-enum-known-height c = search needs
-
-refused-requires : tie.Need-refused-requires
-refused-requires c κs = search needs
-
-enum-known-height-2 : tie.Need-enum-known-height-2
-enum-known-height-2 c = search needs
-
 evaluate-sized-requires : tie.Need-evaluate-sized-requires
 evaluate-sized-requires c κs =
     measured-readable _ (sym (ap heightOf (c .before .height2 .given .1)) ∙ c .before .before .before .read-height .ensures)
@@ -32,17 +20,14 @@ returns c =
     (a .height .given .1) (c .refused .ensures) in
     (r .ending, r .spent)
 
-returns-2 : tie.Need-returns-2
-returns-2 c = search needs
-
 pub evaluate-spec : {M : Type 1} → statement M
 evaluate-spec =
     tie.close
     (tie.spec
-    read-height-requires
-    enum-known-height
-    refused-requires
-    enum-known-height-2
+    (λ c κs. search needs)
+    (λ c. search needs)
+    (λ c κs. search needs)
+    (λ c. search needs)
     evaluate-sized-requires
     returns
-    returns-2)
+    (λ c. search needs))

@@ -39,32 +39,11 @@ standing n =
     all-bound (lent (loaded n) .args .table .now) (lent (loaded n) .args .values .now) (loaded n .load .last .1 .1 .0) (loaded n .load .result .at)
     (loaded n .load .result .answer) (loaded n .load .ensures) (valued n .answer2 .given .1)
 
-load-requires : tie.Need-load-requires
-load-requires c κs = let a = c .before in load-ready (a .before .before .before .pre)
-
-enum-known-answer : tie.Need-enum-known-answer
-enum-known-answer c = c .match .keys1
-
-refused-requires : tie.Need-refused-requires
-refused-requires c κs = tt
-
-enum-known-answer-2 : tie.Need-enum-known-answer-2
-enum-known-answer-2 c = c .match .keys2
-
-nodes-requires : tie.Need-nodes-requires
-nodes-requires c κs = lent (found (c .before)) .pre .needs .readable .header .long
-
-same-length : tie.Need-same-length
-same-length c = kept (loaded (c .before))
-
 returns : tie.Need-returns
 returns c =
     let n = c .before in
     let start = lent (loaded n) in
     absent-reported (start .args .table .now) (standing n) (start .args .budget) (start .pre .needs .readable) (n .nodes .ensures) (c .if1 .taken) refl refl
-
-sub-eval-pred : tie.Need-sub-eval-pred
-sub-eval-pred c = omega (arith, c .before .before .if1 .left)
 
 eval-pred-requires : tie.Need-eval-pred-requires
 eval-pred-requires c κs =
@@ -117,14 +96,14 @@ pub evaluate-in-spec : {M : Type 1} → statement M
 evaluate-in-spec =
     tie.close
     (tie.spec
-    load-requires
-    enum-known-answer
-    refused-requires
-    enum-known-answer-2
-    nodes-requires
-    same-length
+    (λ c κs. let a = c .before in load-ready (a .before .before .before .pre))
+    (λ c. c .match .keys1)
+    (λ c κs. tt)
+    (λ c. c .match .keys2)
+    (λ c κs. lent (found (c .before)) .pre .needs .readable .header .long)
+    (λ c. kept (loaded (c .before)))
     returns
-    sub-eval-pred
+    (λ c. omega (arith, c .before .before .if1 .left))
     eval-pred-requires
     ended-requires
     same-length-2

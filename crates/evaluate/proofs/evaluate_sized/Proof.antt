@@ -6,15 +6,6 @@ use Rattle.evaluate.proofs.ArenaLaws.{made-now, some-room}
 use Rattle.evaluate.proofs.evaluate_sized.Statement.{statement}
 use Rattle.evaluate.proofs.evaluate_sized.Tie as tie
 
-identifiers-requires : tie.Need-identifiers-requires
-identifiers-requires c κs = search needs
-
-cells-at-most-requires : tie.Need-cells-at-most-requires
-cells-at-most-requires c κs = search needs
-
-add-need : tie.Need-add-need
-add-need c = search needs
-
 mul-need : tie.Need-mul-need
 mul-need c = let start = c .before .before .before .before in omega (arith, start .pre .1, needed-most (start .args .values .now) (start .pre .0))
 
@@ -22,18 +13,6 @@ add-need-2 : tie.Need-add-need-2
 add-need-2 c =
     let start = c .before .before .before .before in
     omega (arith, c .cells-at-most .ensures, c .before .identifiers .ensures, start .pre .1, needed-most (start .args .values .now) (start .pre .0))
-
-smallest-requires : tie.Need-smallest-requires
-smallest-requires c κs = search needs
-
-enum-known-e : tie.Need-enum-known-e
-enum-known-e c = search needs
-
-enum-told : tie.Need-enum-told
-enum-told c = search needs
-
-refused-requires : tie.Need-refused-requires
-refused-requires c κs = search needs
 
 returns : tie.Need-returns
 returns c =
@@ -51,14 +30,14 @@ pub evaluate-sized-spec : {M : Type 1} → statement M
 evaluate-sized-spec =
     tie.close
     (tie.spec
-    identifiers-requires
-    cells-at-most-requires
-    add-need
+    (λ c κs. search needs)
+    (λ c κs. search needs)
+    (λ c. search needs)
     mul-need
     add-need-2
-    smallest-requires
-    enum-known-e
-    enum-told
-    refused-requires
+    (λ c κs. search needs)
+    (λ c. search needs)
+    (λ c. search needs)
+    (λ c κs. search needs)
     returns
     returns-2)

@@ -13,27 +13,6 @@ lent m = m .before .before .before
 abbrev relation : tie.After-low → tie.Else1
 relation n = n .before .before
 
-is-relation-requires : tie.Need-is-relation-requires
-is-relation-requires c κs = search needs
-
-returns : tie.Need-returns
-returns c = applies-not _ _ _ (c .before .is-relation .ensures) _ (not-true _ (c .if1 .taken))
-
-mul-low : tie.Need-mul-low
-mul-low c = search needs
-
-shared-slice-read-low : tie.Need-shared-slice-read-low
-shared-slice-read-low c = inside _ _ (lent (c .before) .pre .first)
-
-low-requires : tie.Need-low-requires
-low-requires c κs = search needs
-
-add-first : tie.Need-add-first
-add-first c = search needs
-
-add-few : tie.Need-add-few
-add-few c = search needs
-
 few-requires : tie.Need-few-requires
 few-requires c κs = λ l.
     let m = relation c in
@@ -56,13 +35,13 @@ pub applies-spec : {M : Type 1} → statement M
 applies-spec =
     tie.close
     (tie.spec
-    is-relation-requires
-    returns
-    mul-low
-    shared-slice-read-low
-    low-requires
-    add-first
-    add-few
+    (λ c κs. search needs)
+    (λ c. applies-not _ _ _ (c .before .is-relation .ensures) _ (not-true _ (c .if1 .taken)))
+    (λ c. search needs)
+    (λ c. inside _ _ (lent (c .before) .pre .first))
+    (λ c κs. search needs)
+    (λ c. search needs)
+    (λ c. search needs)
     few-requires
     lefts-requires
     returns-2)

@@ -20,38 +20,11 @@ set-here m = omega (arith, m .if1 .left, m .before .tag .ensures)
 abbrev a-set : tie.Else2 → tie.Else1
 a-set n = n .before .before
 
-mul-x : tie.Need-mul-x
-mul-x c = search needs
-
-shared-slice-read-x : tie.Need-shared-slice-read-x
-shared-slice-read-x c = inside _ _ (c .before .before .pre)
-
-tag-requires : tie.Need-tag-requires
-tag-requires c κs = search needs
-
-returns : tie.Need-returns
-returns c = relation-not _ _ (λ e. c .if1 .taken (c .before .tag .ensures ∙ e))
-
-low-requires : tie.Need-low-requires
-low-requires c κs = search needs
-
-returns-2 : tie.Need-returns-2
-returns-2 c = relation-none _ _ (set-here (c .before .before)) (omega (arith, c .if2 .taken, c .before .low .ensures .0))
-
-add-tag : tie.Need-add-tag
-add-tag c = search needs
-
-mul-tag : tie.Need-mul-tag
-mul-tag c = search needs
-
 shared-slice-read-tag : tie.Need-shared-slice-read-tag
 shared-slice-read-tag c =
     let n = c .before in
     let m = a-set n in
     member-inside _ _ (lent m .pre) (set-here m) (λ e. n .if2 .left (n .before .low .ensures .0 ∙ e))
-
-tag-requires-2 : tie.Need-tag-requires-2
-tag-requires-2 c κs = search needs
 
 returns-3 : tie.Need-returns-3
 returns-3 c = λ v h.
@@ -62,14 +35,14 @@ pub is-relation-spec : {M : Type 1} → statement M
 is-relation-spec =
     tie.close
     (tie.spec
-    mul-x
-    shared-slice-read-x
-    tag-requires
-    returns
-    low-requires
-    returns-2
-    add-tag
-    mul-tag
+    (λ c. search needs)
+    (λ c. inside _ _ (c .before .before .pre))
+    (λ c κs. search needs)
+    (λ c. relation-not _ _ (λ e. c .if1 .taken (c .before .tag .ensures ∙ e)))
+    (λ c κs. search needs)
+    (λ c. relation-none _ _ (set-here (c .before .before)) (omega (arith, c .if2 .taken, c .before .low .ensures .0)))
+    (λ c. search needs)
+    (λ c. search needs)
     shared-slice-read-tag
-    tag-requires-2
+    (λ c κs. search needs)
     returns-3)

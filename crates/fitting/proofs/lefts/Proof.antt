@@ -27,29 +27,11 @@ args l = l .before .before .before
 first : (l : Turn) → SomeTyped (args l .args .s .now) (l .before .loop .i) × SomeTyped (args l .args .s .now) (l .before .loop .i + 1)
 first l = pairs-first _ _ _ _ (l .before .loop .inv .0) (l .loop-test .taken)
 
-loop-holds : tie.Need-loop-holds Inv-loop μ-loop
-loop-holds c = (c .before .pre, λ r g. g)
-
-add-agree : tie.Need-add-agree Inv-loop μ-loop
-add-agree c = omega (arith, inside _ _ (first c .0))
-
-agree-requires : tie.Need-agree-requires Inv-loop μ-loop
-agree-requires c κs = record { first = first c .1; second = c .before .loop .inv .0 .second }
-
 returns : tie.Need-returns Inv-loop μ-loop
 returns c =
     let l = c .before .before in
     l .before .loop .inv .1 false
     (lefts-false _ _ _ _ (l .loop-test .taken) (λ v w h k. sym (not-true _ (c .if1 .taken)) ∙ c .before .agree .ensures v w h k))
-
-end-of-requires : tie.Need-end-of-requires Inv-loop μ-loop
-end-of-requires c κs = some-at (first (c .before .before) .0)
-
-sub-left : tie.Need-sub-left Inv-loop μ-loop
-sub-left c = omega (arith, c .before .before .before .loop-test .taken)
-
-loop-less : tie.Need-loop-less Inv-loop μ-loop
-loop-less c = omega (arith, c .before .before .before .loop-test .taken)
 
 loop-again : tie.Need-loop-again Inv-loop μ-loop
 loop-again c =
@@ -61,21 +43,18 @@ loop-again c =
           (c .end-of .ensures) g),
     )
 
-returns-2 : tie.Need-returns-2 Inv-loop μ-loop
-returns-2 c = c .before .loop .inv .1 true (lefts-end _ _ _ _ (omega (arith, c .loop-test .left)))
-
 pub lefts-spec : {M : Type 1} → statement M
 lefts-spec =
     tie.close
     (tie.spec
     Inv-loop
     μ-loop
-    loop-holds
-    add-agree
-    agree-requires
+    (λ c. (c .before .pre, λ r g. g))
+    (λ c. omega (arith, inside _ _ (first c .0)))
+    (λ c κs. record { first = first c .1; second = c .before .loop .inv .0 .second })
     returns
-    end-of-requires
-    sub-left
-    loop-less
+    (λ c κs. some-at (first (c .before .before) .0))
+    (λ c. omega (arith, c .before .before .before .loop-test .taken))
+    (λ c. omega (arith, c .before .before .before .loop-test .taken))
     loop-again
-    returns-2)
+    (λ c. c .before .loop .inv .1 true (lefts-end _ _ _ _ (omega (arith, c .loop-test .left)))))

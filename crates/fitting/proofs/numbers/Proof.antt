@@ -9,28 +9,10 @@ use borrow.Author.Needs.{needs}
 use Rattle.fitting.proofs.numbers.Statement.{statement}
 use Rattle.fitting.proofs.numbers.Tie as tie
 
-mul-tag : tie.Need-mul-tag
-mul-tag c = search needs
-
-shared-slice-read-tag : tie.Need-shared-slice-read-tag
-shared-slice-read-tag c = inside _ _ (c .before .before .pre .first)
-
-tag-requires : tie.Need-tag-requires
-tag-requires c κs = search needs
-
-returns : tie.Need-returns
-returns c = numbers-not _ _ _ (λ e. c .if1 .taken (c .before .tag .ensures ∙ e))
-
-mul-tag-2 : tie.Need-mul-tag-2
-mul-tag-2 c = search needs
-
 shared-slice-read-tag-2 : tie.Need-shared-slice-read-tag-2
 shared-slice-read-tag-2 c =
     let m = c .before .before in
     inside _ _ (m .before .before .before .pre .second)
-
-tag-requires-2 : tie.Need-tag-requires-2
-tag-requires-2 c κs = search needs
 
 returns-2 : tie.Need-returns-2
 returns-2 c = λ v w h k.
@@ -41,11 +23,11 @@ pub numbers-spec : {M : Type 1} → statement M
 numbers-spec =
     tie.close
     (tie.spec
-    mul-tag
-    shared-slice-read-tag
-    tag-requires
-    returns
-    mul-tag-2
+    (λ c. search needs)
+    (λ c. inside _ _ (c .before .before .pre .first))
+    (λ c κs. search needs)
+    (λ c. numbers-not _ _ _ (λ e. c .if1 .taken (c .before .tag .ensures ∙ e)))
+    (λ c. search needs)
     shared-slice-read-tag-2
-    tag-requires-2
+    (λ c κs. search needs)
     returns-2)

@@ -29,34 +29,13 @@ pending l = l .before .loop .inv (lent l .pre .0) (lent l .pre .1)
 inside : (l : Turn) → l .before .loop .i < length (lent l .args .row .now)
 inside l = types-inside _ _ _ _ (pending l) (l .loop-test .taken)
 
-loop-holds : tie.Need-loop-holds Inv-loop μ-loop
-loop-holds c = λ t h. types-start _ _ t h
-
-shared-slice-read-type-parts : tie.Need-shared-slice-read-type-parts Inv-loop μ-loop
-shared-slice-read-type-parts c = inside (c .before)
-
-type-parts-requires : tie.Need-type-parts-requires Inv-loop μ-loop
-type-parts-requires c κs = search needs
-
-sub-left : tie.Need-sub-left Inv-loop μ-loop
-sub-left c = omega (arith, c .before .before .loop-test .taken)
-
 add-left : tie.Need-add-left Inv-loop μ-loop
 add-left c =
     let l = c .before .before in
     omega (arith, types-few _ _ _ _ (types-step _ _ _ _ (pending l) (l .loop-test .taken)), c .type-parts .ensures)
 
-add-i : tie.Need-add-i Inv-loop μ-loop
-add-i c = omega (arith, inside (c .before .before))
-
-loop-less : tie.Need-loop-less Inv-loop μ-loop
-loop-less c = omega (arith, inside (c .before .before))
-
 loop-again : tie.Need-loop-again Inv-loop μ-loop
 loop-again c = λ t h. rw (c .type-parts .ensures) (types-step _ _ _ _ (c .before .before .before .loop .inv t h) (c .before .before .loop-test .taken))
-
-returns : tie.Need-returns Inv-loop μ-loop
-returns c = λ t h. types-end _ _ _ _ (c .before .loop .inv t h) (omega (arith, c .loop-test .left))
 
 pub type-end-spec : {M : Type 1} → statement M
 type-end-spec =
@@ -64,12 +43,12 @@ type-end-spec =
     (tie.spec
     Inv-loop
     μ-loop
-    loop-holds
-    shared-slice-read-type-parts
-    type-parts-requires
-    sub-left
+    (λ c. λ t h. types-start _ _ t h)
+    (λ c. inside (c .before))
+    (λ c κs. search needs)
+    (λ c. omega (arith, c .before .before .loop-test .taken))
     add-left
-    add-i
-    loop-less
+    (λ c. omega (arith, inside (c .before .before)))
+    (λ c. omega (arith, inside (c .before .before)))
     loop-again
-    returns)
+    (λ c. λ t h. types-end _ _ _ _ (c .before .loop .inv t h) (omega (arith, c .loop-test .left))))

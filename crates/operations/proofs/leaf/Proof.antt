@@ -12,39 +12,9 @@ elements-requires c κs =
     let f = leaf-fits p givenSet (c .before .match .keys1) in
     (omega (arith, f .0), f .1, p .room)
 
-put-empty-requires : tie.Need-put-empty-requires
-put-empty-requires c κs = search needs
-
-booleans-requires : tie.Need-booleans-requires
-booleans-requires c κs = search needs
-
 scalar-cell-requires : tie.Need-scalar-cell-requires
 scalar-cell-requires c κs =
     let n = c .before .match .rest in narrow (c .before .before .before .pre) (n .0 .0 .1) (n .0 .1) (n .1)
-
-put-cell-requires : tie.Need-put-cell-requires
-put-cell-requires c κs = search needs
-
-same-length : tie.Need-same-length
-same-length c = search needs
-
-returns : tie.Need-returns
-returns c = elements-done (c .before .before .before .before .match .keys1) (c .before .before .elements .ensures)
-
-same-length-2 : tie.Need-same-length-2
-same-length-2 c = search needs
-
-returns-2 : tie.Need-returns-2
-returns-2 c = empty-done (c .before .before .before .before .match .keys2) (c .before .before .put-empty .ensures)
-
-same-length-3 : tie.Need-same-length-3
-same-length-3 c = search needs
-
-returns-3 : tie.Need-returns-3
-returns-3 c = booleans-done (c .before .before .before .before .match .keys3) (c .before .before .booleans .ensures)
-
-same-length-4 : tie.Need-same-length-4
-same-length-4 c = search needs
 
 returns-4 : tie.Need-returns-4
 returns-4 c =
@@ -57,15 +27,15 @@ leaf-spec =
     tie.close
     (tie.spec
     elements-requires
-    put-empty-requires
-    booleans-requires
+    (λ c κs. search needs)
+    (λ c κs. search needs)
     scalar-cell-requires
-    put-cell-requires
-    same-length
-    returns
-    same-length-2
-    returns-2
-    same-length-3
-    returns-3
-    same-length-4
+    (λ c κs. search needs)
+    (λ c. search needs)
+    (λ c. elements-done (c .before .before .before .before .match .keys1) (c .before .before .elements .ensures))
+    (λ c. search needs)
+    (λ c. empty-done (c .before .before .before .before .match .keys2) (c .before .before .put-empty .ensures))
+    (λ c. search needs)
+    (λ c. booleans-done (c .before .before .before .before .match .keys3) (c .before .before .booleans .ensures))
+    (λ c. search needs)
     returns-4)

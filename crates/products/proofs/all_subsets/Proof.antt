@@ -32,34 +32,16 @@ put m = m .before .before
 abbrev read : tie.After-slice-known2 Inv-loop μ-loop → tie.After-mask-at Inv-loop μ-loop
 read m = put m .before .before
 
-loop-holds : tie.Need-loop-holds Inv-loop μ-loop
-loop-holds c = λ vs h. all-start _ _ _ vs (omega (arith, c .before .pre .room))
-
-mask-at-requires : tie.Need-mask-at-requires Inv-loop μ-loop
-mask-at-requires c κs = search needs
-
 subset-if-requires : tie.Need-subset-if-requires Inv-loop μ-loop
 subset-if-requires c κs =
     let l = turn (c .before) in
     let q = lent l .pre in
     all-pre _ _ _ (lent l .args .p) _ _ (l .loop .j) _ _ (q .marked) (l .loop .inv (q .whole) (q .marked)) (q .few) (q .light) (q .room)
 
-add-j : tie.Need-add-j Inv-loop μ-loop
-add-j c = omega (arith, read c .before .loop-test .taken)
-
-loop-less : tie.Need-loop-less Inv-loop μ-loop
-loop-less c = omega (arith, read c .before .loop-test .taken)
-
 loop-again : tie.Need-loop-again Inv-loop μ-loop
 loop-again c = λ vs h.
     let m = read c in
     all-next _ _ _ _ _ _ _ _ vs h (turn m .loop .inv vs h) _ _ _ (m .before .loop-test .taken) (m .mask-at .ensures) (put c .subset-if .ensures)
-
-same-length : tie.Need-same-length Inv-loop μ-loop
-same-length c = let q = lent (c .before) .pre in c .before .loop .inv (q .whole) (q .marked) .appended .frame .kept
-
-returns : tie.Need-returns Inv-loop μ-loop
-returns c = λ vs h. all-end _ _ _ _ _ _ _ _ vs h (c .before .loop .inv vs h) (c .loop-test .left)
 
 pub all-subsets-spec : {M : Type 1} → statement M
 all-subsets-spec =
@@ -67,11 +49,11 @@ all-subsets-spec =
     (tie.spec
     Inv-loop
     μ-loop
-    loop-holds
-    mask-at-requires
+    (λ c. λ vs h. all-start _ _ _ vs (omega (arith, c .before .pre .room)))
+    (λ c κs. search needs)
     subset-if-requires
-    add-j
-    loop-less
+    (λ c. omega (arith, read c .before .loop-test .taken))
+    (λ c. omega (arith, read c .before .loop-test .taken))
     loop-again
-    same-length
-    returns)
+    (λ c. let q = lent (c .before) .pre in c .before .loop .inv (q .whole) (q .marked) .appended .frame .kept)
+    (λ c. λ vs h. all-end _ _ _ _ _ _ _ _ vs h (c .before .loop .inv vs h) (c .loop-test .left)))

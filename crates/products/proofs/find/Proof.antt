@@ -32,9 +32,6 @@ Ordered = tie.After-compare Inv-loop μ-loop
 abbrev turn : Ordered → Turn
 turn m = m .before .before
 
-loop-holds : tie.Need-loop-holds Inv-loop μ-loop
-loop-holds c = λ v zs h f m. finding-start _ v _ _ zs m
-
 compare-requires : tie.Need-compare-requires Inv-loop μ-loop
 compare-requires c κs =
     let q = lent (c .before) .pre in
@@ -44,9 +41,6 @@ returns : tie.Need-returns Inv-loop μ-loop
 returns c = λ v zs h f m.
     let q = c .before in
     finding-here _ v _ _ zs _ (turn q .loop .inv v zs h f m) (q .before .loop-test .taken) _ _ h f (q .compare .ensures) (omega (arith, c .if1 .taken))
-
-end-of-requires : tie.Need-end-of-requires Inv-loop μ-loop
-end-of-requires c κs = let q = c .before in finding-some _ _ _ _ _ _ (finding (turn q)) (q .before .loop-test .taken)
 
 loop-less : tie.Need-loop-less Inv-loop μ-loop
 loop-less c =
@@ -59,19 +53,16 @@ loop-again c = λ v zs h f m.
     finding-next _ v _ _ zs _ (turn q .loop .inv v zs h f m) (q .before .loop-test .taken) _ _ h f (q .compare .ensures)
     (omega (arith, c .before .if1 .left)) _ (c .end-of .ensures)
 
-returns-2 : tie.Need-returns-2 Inv-loop μ-loop
-returns-2 c = λ v zs h f m. finding-end _ v _ _ zs _ (c .before .loop .inv v zs h f m) (c .loop-test .left)
-
 pub find-spec : {M : Type 1} → statement M
 find-spec =
     tie.close
     (tie.spec
     Inv-loop
     μ-loop
-    loop-holds
+    (λ c. λ v zs h f m. finding-start _ v _ _ zs m)
     compare-requires
     returns
-    end-of-requires
+    (λ c κs. let q = c .before in finding-some _ _ _ _ _ _ (finding (turn q)) (q .before .loop-test .taken))
     loop-less
     loop-again
-    returns-2)
+    (λ c. λ v zs h f m. finding-end _ v _ _ zs _ (c .before .loop .inv v zs h f m) (c .loop-test .left)))

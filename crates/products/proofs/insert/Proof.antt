@@ -26,41 +26,11 @@ gap m = m .before .before .before
 abbrev filled : tie.After-slice-known3 → tie.After-copy
 filled m = m .before .before
 
-place-for-requires : tie.Need-place-for-requires
-place-for-requires c κs = search needs
-
-same-length : tie.Need-same-length
-same-length c = search needs
-
-returns : tie.Need-returns
-returns c = λ v xs h b. let m = c .before in inserts-none _ _ _ _ v _ h b _ (m .place-for .ensures v xs h b) (c .if1 .taken)
-
-sub-n : tie.Need-sub-n
-sub-n c = near (c .before) .forward
-
-sub-shift : tie.Need-sub-shift
-sub-shift c = near (c .before .before) .inside
-
-shift-requires : tie.Need-shift-requires
-shift-requires c κs = let k = near (c .before .before) in omega arith
-
 copy-requires : tie.Need-copy-requires
 copy-requires c κs =
     let m = gap c in
     let k = near (moved m) in
     (omega (arith, m .shift .ensures .kept), omega (arith, m .shift .ensures .kept), inl (omega arith))
-
-moved-last-requires : tie.Need-moved-last-requires
-moved-last-requires c κs = let k = near (moved (gap (filled c .before))) in omega arith
-
-add-t19 : tie.Need-add-t19
-add-t19 c = let k = near (moved (gap (filled (c .before) .before))) in omega arith
-
-add-t20 : tie.Need-add-t20
-add-t20 c = search needs
-
-same-length-2 : tie.Need-same-length-2
-same-length-2 c = search needs
 
 returns-2 : tie.Need-returns-2
 returns-2 c = λ v xs h b.
@@ -76,15 +46,15 @@ pub insert-spec : {M : Type 1} → statement M
 insert-spec =
     tie.close
     (tie.spec
-    place-for-requires
-    same-length
-    returns
-    sub-n
-    sub-shift
-    shift-requires
+    (λ c κs. search needs)
+    (λ c. search needs)
+    (λ c. λ v xs h b. let m = c .before in inserts-none _ _ _ _ v _ h b _ (m .place-for .ensures v xs h b) (c .if1 .taken))
+    (λ c. near (c .before) .forward)
+    (λ c. near (c .before .before) .inside)
+    (λ c κs. let k = near (c .before .before) in omega arith)
     copy-requires
-    moved-last-requires
-    add-t19
-    add-t20
-    same-length-2
+    (λ c κs. let k = near (moved (gap (filled c .before))) in omega arith)
+    (λ c. let k = near (moved (gap (filled (c .before) .before))) in omega arith)
+    (λ c. search needs)
+    (λ c. search needs)
     returns-2)

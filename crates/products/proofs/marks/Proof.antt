@@ -27,37 +27,10 @@ known l = let q = lent l .pre in l .loop .inv (q .top) (q .whole) (q .front)
 abbrev turn : tie.After-end-of Inv-loop μ-loop → Turn
 turn m = m .before .before
 
-loop-holds : tie.Need-loop-holds Inv-loop μ-loop
-loop-holds c = λ top vs f. marking-start _ top _ _ vs _ refl refl f
-
-mul-end-of : tie.Need-mul-end-of Inv-loop μ-loop
-mul-end-of c = omega (arith, c .loop-test .taken, lent (c .before) .pre .few)
-
-array-read-end-of : tie.Need-array-read-end-of Inv-loop μ-loop
-array-read-end-of c = omega (arith, c .loop-test .taken, lent (c .before) .pre .few)
-
-end-of-requires : tie.Need-end-of-requires Inv-loop μ-loop
-end-of-requires c κs = marking-some _ _ _ _ _ _ _ (known (c .before)) (c .loop-test .taken)
-
-add-j : tie.Need-add-j Inv-loop μ-loop
-add-j c = omega (arith, c .before .loop-test .taken, lent (turn c) .pre .few)
-
-mul-at : tie.Need-mul-at Inv-loop μ-loop
-mul-at c = omega (arith, c .before .loop-test .taken, lent (turn c) .pre .few)
-
-array-write-at : tie.Need-array-write-at Inv-loop μ-loop
-array-write-at c = omega (arith, c .before .loop-test .taken, lent (turn c) .pre .few)
-
-loop-less : tie.Need-loop-less Inv-loop μ-loop
-loop-less c = omega (arith, c .before .loop-test .taken)
-
 loop-again : tie.Need-loop-again Inv-loop μ-loop
 loop-again c = λ top vs f.
     let l = turn c in
     marking-next _ top _ _ vs _ _ (l .loop .inv top vs f) (c .before .loop-test .taken) (lent l .pre .few) _ (c .end-of .ensures)
-
-returns : tie.Need-returns Inv-loop μ-loop
-returns c = λ top vs f. marking-end _ top _ _ vs _ _ (c .before .loop .inv top vs f) (c .loop-test .left)
 
 pub marks-spec : {M : Type 1} → statement M
 marks-spec =
@@ -65,13 +38,13 @@ marks-spec =
     (tie.spec
     Inv-loop
     μ-loop
-    loop-holds
-    mul-end-of
-    array-read-end-of
-    end-of-requires
-    add-j
-    mul-at
-    array-write-at
-    loop-less
+    (λ c. λ top vs f. marking-start _ top _ _ vs _ refl refl f)
+    (λ c. omega (arith, c .loop-test .taken, lent (c .before) .pre .few))
+    (λ c. omega (arith, c .loop-test .taken, lent (c .before) .pre .few))
+    (λ c κs. marking-some _ _ _ _ _ _ _ (known (c .before)) (c .loop-test .taken))
+    (λ c. omega (arith, c .before .loop-test .taken, lent (turn c) .pre .few))
+    (λ c. omega (arith, c .before .loop-test .taken, lent (turn c) .pre .few))
+    (λ c. omega (arith, c .before .loop-test .taken, lent (turn c) .pre .few))
+    (λ c. omega (arith, c .before .loop-test .taken))
     loop-again
-    returns)
+    (λ c. λ top vs f. marking-end _ top _ _ vs _ _ (c .before .loop .inv top vs f) (c .loop-test .left)))

@@ -22,26 +22,11 @@ put m = m .before .before
 abbrev light : tie.After-pair-at-arg → tie.Else1
 light m = m .before
 
-end-of-requires : tie.Need-end-of-requires
-end-of-requires c κs = value-some _ _ _ _ (c .before .before .pre .0 .1)
-
-sub-n : tie.Need-sub-n
-sub-n c = omega (arith, value-end _ _ _ _ _ (lent c .pre .0 .1) (c .end-of .ensures))
-
-end-of-requires-2 : tie.Need-end-of-requires-2
-end-of-requires-2 c κs = value-some _ _ _ _ (lent (c .before) .pre .1 .1)
-
-sub-m : tie.Need-sub-m
-sub-m c = omega (arith, value-end _ _ _ _ _ (lent (first c) .pre .1 .1) (c .end-of2 .ensures))
-
 add-if1 : tie.Need-add-if1
 add-if1 c =
     let v = lent (first c) .pre .0 .1 in
     let w = lent (first c) .pre .1 .1 in
     omega (arith, value-end _ _ _ _ _ v (first c .end-of .ensures), value-end _ _ _ _ _ w (c .end-of2 .ensures), v .light, w .light)
-
-same-length : tie.Need-same-length
-same-length c = search needs
 
 returns : tie.Need-returns
 returns c = λ v w h k.
@@ -53,9 +38,6 @@ pair-at-requires c κs =
     let q = lent (first m) .pre in
     pair-pre _ _ _ _ _ _ (q .2) (first m .end-of .ensures) (m .end-of2 .ensures) (light c .if1 .left) _ _ (q .0 .1) (q .1 .1)
 
-same-length-2 : tie.Need-same-length-2
-same-length-2 c = search needs
-
 returns-2 : tie.Need-returns-2
 returns-2 c = λ v w h k.
     let l = light (put c .before) in
@@ -66,13 +48,13 @@ pub pair-spec : {M : Type 1} → statement M
 pair-spec =
     tie.close
     (tie.spec
-    end-of-requires
-    sub-n
-    end-of-requires-2
-    sub-m
+    (λ c κs. value-some _ _ _ _ (c .before .before .pre .0 .1))
+    (λ c. omega (arith, value-end _ _ _ _ _ (lent c .pre .0 .1) (c .end-of .ensures)))
+    (λ c κs. value-some _ _ _ _ (lent (c .before) .pre .1 .1))
+    (λ c. omega (arith, value-end _ _ _ _ _ (lent (first c) .pre .1 .1) (c .end-of2 .ensures)))
     add-if1
-    same-length
+    (λ c. search needs)
     returns
     pair-at-requires
-    same-length-2
+    (λ c. search needs)
     returns-2)

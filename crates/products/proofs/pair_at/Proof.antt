@@ -24,25 +24,10 @@ both m = m .before .before
 kept : (m : tie.After-copy-arg) → (let a = lent m .args in length (setAt (a .s .now) (a .to) 17179869184) ≡ length (a .s .now))
 kept m = let a = lent m .args in length-set (a .s .now) (a .to) 17179869184
 
-mul-s : tie.Need-mul-s
-mul-s c = search needs
-
-slice-write-s : tie.Need-slice-write-s
-slice-write-s c = search needs
-
-add-copy : tie.Need-add-copy
-add-copy c = search needs
-
 copy-requires : tie.Need-copy-requires
 copy-requires c κs =
     let q = lent c .pre in
     (omega (arith, q .left, q .room, kept c), omega (arith, q .room, kept c), inl (omega (arith, q .left)))
-
-add-copy-2 : tie.Need-add-copy-2
-add-copy-2 c = search needs
-
-add-copy-3 : tie.Need-add-copy-3
-add-copy-3 c = search needs
 
 copy-requires-2 : tie.Need-copy-requires-2
 copy-requires-2 c κs =
@@ -50,15 +35,6 @@ copy-requires-2 c κs =
     let q = lent (m .before) .pre in
     let k = m .copy .ensures .kept in
     (omega (arith, q .right, q .room, kept (m .before)), omega (arith, q .room, kept (m .before)), inl (omega (arith, q .right)))
-
-add-result : tie.Need-add-result
-add-result c = search needs
-
-add-result-2 : tie.Need-add-result-2
-add-result-2 c = search needs
-
-add-result-3 : tie.Need-add-result-3
-add-result-3 c = search needs
 
 same-length : tie.Need-same-length
 same-length c =
@@ -73,15 +49,15 @@ pub pair-at-spec : {M : Type 1} → statement M
 pair-at-spec =
     tie.close
     (tie.spec
-    mul-s
-    slice-write-s
-    add-copy
+    (λ c. search needs)
+    (λ c. search needs)
+    (λ c. search needs)
     copy-requires
-    add-copy-2
-    add-copy-3
+    (λ c. search needs)
+    (λ c. search needs)
     copy-requires-2
-    add-result
-    add-result-2
-    add-result-3
+    (λ c. search needs)
+    (λ c. search needs)
+    (λ c. search needs)
     same-length
     returns)

@@ -58,24 +58,6 @@ put m = m .before .before
 abbrev pair : tie.After-insert Inv-loop μ-loop → Pair
 pair m = first (second (chosen (m .before .before)))
 
-add-from : tie.Need-add-from Inv-loop μ-loop
-add-from c = omega (arith, c .before .pre .1)
-
-mul-low : tie.Need-mul-low Inv-loop μ-loop
-mul-low c = omega (arith, set-inside _ _ _ _ (c .before .pre .0 .1))
-
-slice-read-low : tie.Need-slice-read-low Inv-loop μ-loop
-slice-read-low c = set-inside _ _ _ _ (c .before .before .pre .0 .1)
-
-low-requires : tie.Need-low-requires Inv-loop μ-loop
-low-requires c κs = search needs
-
-add-i : tie.Need-add-i Inv-loop μ-loop
-add-i c = omega (arith, set-inside _ _ _ _ (lent c .pre .0 .1))
-
-loop-holds : tie.Need-loop-holds Inv-loop μ-loop
-loop-holds c = λ vs h p. taking-start _ _ _ _ _ vs (given c vs h p)
-
 add-x : tie.Need-add-x Inv-loop μ-loop
 add-x c =
     let l = c .before in
@@ -94,12 +76,6 @@ end-of-requires-2 c κs =
     let l = q .before in
     taking-second _ _ _ _ _ _ (some l) _ _ _ _ (taking l) (q .loop-test .taken) _ (m .end-of .ensures)
 
-pick-requires : tie.Need-pick-requires Inv-loop μ-loop
-pick-requires c κs = search needs
-
-pick-requires-2 : tie.Need-pick-requires-2 Inv-loop μ-loop
-pick-requires-2 c κs = search needs
-
 insert-requires : tie.Need-insert-requires Inv-loop μ-loop
 insert-requires c κs =
     let k = c .before in
@@ -110,12 +86,6 @@ insert-requires c κs =
     taking-insert _ _ _ _ _ _ (some l) _ _ _ _ (taking l) (q .loop-test .taken) _ (m .end-of .ensures) _ (e .end-of2 .ensures) _ _
     (k .before .pick .ensures) (k .pick2 .ensures)
 
-sub-left : tie.Need-sub-left Inv-loop μ-loop
-sub-left c = omega (arith, pair (put c) .loop-test .taken)
-
-loop-less : tie.Need-loop-less Inv-loop μ-loop
-loop-less c = omega (arith, pair (put c) .loop-test .taken)
-
 loop-again : tie.Need-loop-again Inv-loop μ-loop
 loop-again c = λ vs h p.
     let k = put c .before .before in
@@ -125,18 +95,6 @@ loop-again c = λ vs h p.
     let l = q .before in
     taking-next _ _ _ _ _ vs (given (counted l) vs h p) _ _ _ _ (l .loop .inv vs h p) (q .loop-test .taken) _ (m .end-of .ensures) _ (e .end-of2 .ensures) _ _
     (k .before .pick .ensures) (k .pick2 .ensures) _ _ (put c .insert .ensures)
-
-add-s : tie.Need-add-s Inv-loop μ-loop
-add-s c = omega (arith, near (c .before .before) .few)
-
-mul-s : tie.Need-mul-s Inv-loop μ-loop
-mul-s c = omega (arith, lent (counted (c .before .before)) .pre .1)
-
-slice-write-s : tie.Need-slice-write-s Inv-loop μ-loop
-slice-write-s c = let l = c .before .before in omega (arith, near l .kept, lent (counted l) .pre .1)
-
-same-length : tie.Need-same-length Inv-loop μ-loop
-same-length c = let k = near (c .before .before) .kept in search (needs, k)
 
 returns : tie.Need-returns Inv-loop μ-loop
 returns c = λ vs h p.
@@ -149,23 +107,23 @@ parts-spec =
     (tie.spec
     Inv-loop
     μ-loop
-    add-from
-    mul-low
-    slice-read-low
-    low-requires
-    add-i
-    loop-holds
+    (λ c. omega (arith, c .before .pre .1))
+    (λ c. omega (arith, set-inside _ _ _ _ (c .before .pre .0 .1)))
+    (λ c. set-inside _ _ _ _ (c .before .before .pre .0 .1))
+    (λ c κs. search needs)
+    (λ c. omega (arith, set-inside _ _ _ _ (lent c .pre .0 .1)))
+    (λ c. λ vs h p. taking-start _ _ _ _ _ vs (given c vs h p))
     add-x
     end-of-requires
     end-of-requires-2
-    pick-requires
-    pick-requires-2
+    (λ c κs. search needs)
+    (λ c κs. search needs)
     insert-requires
-    sub-left
-    loop-less
+    (λ c. omega (arith, pair (put c) .loop-test .taken))
+    (λ c. omega (arith, pair (put c) .loop-test .taken))
     loop-again
-    add-s
-    mul-s
-    slice-write-s
-    same-length
+    (λ c. omega (arith, near (c .before .before) .few))
+    (λ c. omega (arith, lent (counted (c .before .before)) .pre .1))
+    (λ c. let l = c .before .before in omega (arith, near l .kept, lent (counted l) .pre .1))
+    (λ c. let k = near (c .before .before) .kept in search (needs, k))
     returns)

@@ -30,30 +30,6 @@ marked m = m .before .before
 abbrev put : tie.After-slice-known3 → tie.After-all-subsets
 put m = m .before .before
 
-mul-low : tie.Need-mul-low
-mul-low c = search needs
-
-slice-read-low : tie.Need-slice-read-low
-slice-read-low c = search needs
-
-low-requires : tie.Need-low-requires
-low-requires c κs = search needs
-
-end-of-requires : tie.Need-end-of-requires
-end-of-requires c κs = search needs
-
-sub-k : tie.Need-sub-k
-sub-k c = omega (arith, set-end _ _ _ _ (lent c .pre .0 .1) _ (c .end-of .ensures))
-
-sub-k-2 : tie.Need-sub-k-2
-sub-k-2 c = omega (arith, set-end _ _ _ _ (lent c .pre .0 .1) _ (c .end-of .ensures))
-
-subset-count-requires : tie.Need-subset-count-requires
-subset-count-requires c κs = search needs
-
-add-if1 : tie.Need-add-if1
-add-if1 c = search needs
-
 mul-if1 : tie.Need-mul-if1
 mul-if1 c =
     let e = c .before in
@@ -65,23 +41,11 @@ add-if1-2 c =
     let n = c .subset-count .ensures .1 in
     omega (arith, half-product _ _ n (set-cells _ _ _ _ (lent e .pre .0 .1) _ (e .end-of .ensures)))
 
-same-length : tie.Need-same-length
-same-length c = search needs
-
-returns : tie.Need-returns
-returns c = λ vs h. power-too-heavy _ _ _ _ _ _ (sized (c .before)) vs h (c .if1 .taken)
-
-add-marks : tie.Need-add-marks
-add-marks c = search needs
-
 marks-requires : tie.Need-marks-requires
 marks-requires c κs =
     let l = c .before in
     let q = lent (l .before .before) .pre in
     power-mark _ _ _ _ _ _ (sized (l .before)) _ (q .0 .1) (l .if1 .left)
-
-add-all-subsets : tie.Need-add-all-subsets
-add-all-subsets c = search needs
 
 all-subsets-requires : tie.Need-all-subsets-requires
 all-subsets-requires c κs =
@@ -89,18 +53,6 @@ all-subsets-requires c κs =
     let l = light m in
     let q = lent (l .before .before) .pre in
     power-pre _ _ _ _ _ _ (sized (l .before)) _ (q .0 .1) (l .if1 .left) (q .1) _ (m .marks .ensures)
-
-add-s : tie.Need-add-s
-add-s c = search needs
-
-mul-s : tie.Need-mul-s
-mul-s c = search needs
-
-slice-write-s : tie.Need-slice-write-s
-slice-write-s c = search needs
-
-same-length-2 : tie.Need-same-length-2
-same-length-2 c = search needs
 
 returns-2 : tie.Need-returns-2
 returns-2 c = λ vs h.
@@ -113,24 +65,24 @@ pub power-spec : {M : Type 1} → statement M
 power-spec =
     tie.close
     (tie.spec
-    mul-low
-    slice-read-low
-    low-requires
-    end-of-requires
-    sub-k
-    sub-k-2
-    subset-count-requires
-    add-if1
+    (λ c. search needs)
+    (λ c. search needs)
+    (λ c κs. search needs)
+    (λ c κs. search needs)
+    (λ c. omega (arith, set-end _ _ _ _ (lent c .pre .0 .1) _ (c .end-of .ensures)))
+    (λ c. omega (arith, set-end _ _ _ _ (lent c .pre .0 .1) _ (c .end-of .ensures)))
+    (λ c κs. search needs)
+    (λ c. search needs)
     mul-if1
     add-if1-2
-    same-length
-    returns
-    add-marks
+    (λ c. search needs)
+    (λ c. λ vs h. power-too-heavy _ _ _ _ _ _ (sized (c .before)) vs h (c .if1 .taken))
+    (λ c. search needs)
     marks-requires
-    add-all-subsets
+    (λ c. search needs)
     all-subsets-requires
-    add-s
-    mul-s
-    slice-write-s
-    same-length-2
+    (λ c. search needs)
+    (λ c. search needs)
+    (λ c. search needs)
+    (λ c. search needs)
     returns-2)

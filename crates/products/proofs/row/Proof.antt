@@ -40,9 +40,6 @@ put m = m .before .before
 abbrev ended : tie.After-slice-known2 Inv-loop μ-loop → Ended
 ended m = put m .before .before
 
-loop-holds : tie.Need-loop-holds Inv-loop μ-loop
-loop-holds c = λ top x ws h e f l. row-start _ top x ws _ _ _ (omega (arith, c .before .pre .room)) f
-
 end-of-requires : tie.Need-end-of-requires Inv-loop μ-loop
 end-of-requires c κs =
     let l = c .before .before in row-some _ _ _ _ _ _ _ _ _ (lent l .pre .behind) (known l) (c .before .loop-test .taken)
@@ -59,12 +56,6 @@ pair-at-requires c κs =
     let p = lent (q .before) .pre in
     row-pair _ _ _ _ _ _ _ _ _ (p .behind) (known (q .before)) _ _ (p .value) (p .weighs) (q .loop-test .taken) _ (c .before .end-of .ensures) (p .room)
 
-sub-left : tie.Need-sub-left Inv-loop μ-loop
-sub-left c = omega (arith, member (ended c) .loop-test .taken)
-
-loop-less : tie.Need-loop-less Inv-loop μ-loop
-loop-less c = omega (arith, member (ended c) .loop-test .taken)
-
 loop-again : tie.Need-loop-again Inv-loop μ-loop
 loop-again c = λ top x ws h e f l.
     let m = ended c in
@@ -72,24 +63,18 @@ loop-again c = λ top x ws h e f l.
     row-next _ top x ws _ _ _ _ _ l (q .before .loop .inv top x ws h e f l) _ _ h e (q .loop-test .taken) _ (m .end-of .ensures) _ _
     (put c .pair-at .ensures)
 
-same-length : tie.Need-same-length Inv-loop μ-loop
-same-length c = known (c .before) .grown .appended .frame .kept
-
-returns : tie.Need-returns Inv-loop μ-loop
-returns c = λ top x ws h e f l. row-end _ top x ws _ _ _ _ _ l (c .before .loop .inv top x ws h e f l) (c .loop-test .left)
-
 pub row-spec : {M : Type 1} → statement M
 row-spec =
     tie.close
     (tie.spec
     Inv-loop
     μ-loop
-    loop-holds
+    (λ c. λ top x ws h e f l. row-start _ top x ws _ _ _ (omega (arith, c .before .pre .room)) f)
     end-of-requires
     sub-pair-at
     pair-at-requires
-    sub-left
-    loop-less
+    (λ c. omega (arith, member (ended c) .loop-test .taken))
+    (λ c. omega (arith, member (ended c) .loop-test .taken))
     loop-again
-    same-length
-    returns)
+    (λ c. known (c .before) .grown .appended .frame .kept)
+    (λ c. λ top x ws h e f l. row-end _ top x ws _ _ _ _ _ l (c .before .loop .inv top x ws h e f l) (c .loop-test .left)))

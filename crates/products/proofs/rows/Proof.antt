@@ -39,9 +39,6 @@ put m = m .before .before
 abbrev ended : tie.After-slice-known2 Inv-loop μ-loop → Ended
 ended m = put m .before .before
 
-loop-holds : tie.Need-loop-holds Inv-loop μ-loop
-loop-holds c = λ top vs ws f g l. square-start _ top vs ws _ _ _ (omega (arith, c .before .pre .room)) f
-
 end-of-requires : tie.Need-end-of-requires Inv-loop μ-loop
 end-of-requires c κs =
     let l = c .before .before in square-some _ _ _ _ _ _ _ _ _ (lent l .pre .behind) (known l) (c .before .loop-test .taken)
@@ -58,23 +55,11 @@ row-requires c κs =
     let p = lent (q .before) .pre in
     square-row _ _ _ _ _ _ _ _ _ (p .behind) (known (q .before)) _ _ (p .others) (q .loop-test .taken) _ (c .before .end-of .ensures) (p .room)
 
-sub-left : tie.Need-sub-left Inv-loop μ-loop
-sub-left c = omega (arith, member (ended c) .loop-test .taken)
-
-loop-less : tie.Need-loop-less Inv-loop μ-loop
-loop-less c = omega (arith, member (ended c) .loop-test .taken)
-
 loop-again : tie.Need-loop-again Inv-loop μ-loop
 loop-again c = λ top vs ws f g l.
     let m = ended c in
     let q = member m in
     square-next _ top vs ws _ _ _ _ _ l (q .before .loop .inv top vs ws f g l) _ _ g (q .loop-test .taken) _ (m .end-of .ensures) _ _ (put c .row .ensures)
-
-same-length : tie.Need-same-length Inv-loop μ-loop
-same-length c = known (c .before) .grown .appended .frame .kept
-
-returns : tie.Need-returns Inv-loop μ-loop
-returns c = λ top vs ws f g l. square-end _ top vs ws _ _ _ _ _ l (c .before .loop .inv top vs ws f g l) (c .loop-test .left)
 
 pub rows-spec : {M : Type 1} → statement M
 rows-spec =
@@ -82,12 +67,12 @@ rows-spec =
     (tie.spec
     Inv-loop
     μ-loop
-    loop-holds
+    (λ c. λ top vs ws f g l. square-start _ top vs ws _ _ _ (omega (arith, c .before .pre .room)) f)
     end-of-requires
     sub-row
     row-requires
-    sub-left
-    loop-less
+    (λ c. omega (arith, member (ended c) .loop-test .taken))
+    (λ c. omega (arith, member (ended c) .loop-test .taken))
     loop-again
-    same-length
-    returns)
+    (λ c. known (c .before) .grown .appended .frame .kept)
+    (λ c. λ top vs ws f g l. square-end _ top vs ws _ _ _ _ _ l (c .before .loop .inv top vs ws f g l) (c .loop-test .left)))

@@ -12,15 +12,6 @@ Inv-loop s₀ cell n top to₀ i₀ s to i = Running s₀ cell n top s to i
 abbrev μ-loop : tie.MeasureT-loop
 μ-loop s₀ cell n top to₀ i₀ s to i = n - i
 
-add-to : tie.Need-add-to Inv-loop μ-loop
-add-to c = search needs
-
-loop-holds : tie.Need-loop-holds Inv-loop μ-loop
-loop-holds c = running-start _ _ _ _ (c .pre .room)
-
-add-s : tie.Need-add-s Inv-loop μ-loop
-add-s c = omega (arith, c .before .before .pre .fits, c .before .before .pre .few, c .loop-test .taken)
-
 mul-s : tie.Need-mul-s Inv-loop μ-loop
 mul-s c = omega (arith, running-inside _ _ _ _ _ _ _ (c .before .loop .inv) (c .before .before .pre .room) (c .before .before .pre .few) (c .loop-test .taken))
 
@@ -32,26 +23,8 @@ add-to-2 c =
     let q = c .before .before .pre in
     omega (arith, running-inside _ _ _ _ _ _ _ (c .before .loop .inv) (q .room) (q .few) (c .loop-test .taken))
 
-add-i : tie.Need-add-i Inv-loop μ-loop
-add-i c = omega (arith, c .before .before .pre .few, c .loop-test .taken)
-
-loop-less : tie.Need-loop-less Inv-loop μ-loop
-loop-less c = omega (arith, c .loop-test .taken)
-
 loop-again : tie.Need-loop-again Inv-loop μ-loop
 loop-again c = running-next _ _ _ _ _ _ _ (c .before .loop .inv) (c .before .before .pre .room) (c .before .before .pre .few) (c .loop-test .taken)
-
-add-s-2 : tie.Need-add-s-2 Inv-loop μ-loop
-add-s-2 c = omega (arith, c .before .before .pre .few)
-
-mul-s-2 : tie.Need-mul-s-2 Inv-loop μ-loop
-mul-s-2 c = omega (arith, c .before .before .pre .room, c .before .loop .inv .grown .appended .frame .kept)
-
-slice-write-s-2 : tie.Need-slice-write-s-2 Inv-loop μ-loop
-slice-write-s-2 c = omega (arith, c .before .before .pre .room, c .before .loop .inv .grown .appended .frame .kept)
-
-same-length : tie.Need-same-length Inv-loop μ-loop
-same-length c = search needs
 
 returns : tie.Need-returns Inv-loop μ-loop
 returns c = λ vs e q. running-end _ _ _ _ _ _ _ (c .before .loop .inv) (c .before .before .pre .room) (c .before .before .pre .few) (c .loop-test .left) vs e q
@@ -62,17 +35,17 @@ run-spec =
     (tie.spec
     Inv-loop
     μ-loop
-    add-to
-    loop-holds
-    add-s
+    (λ c. search needs)
+    (λ c. running-start _ _ _ _ (c .pre .room))
+    (λ c. omega (arith, c .before .before .pre .fits, c .before .before .pre .few, c .loop-test .taken))
     mul-s
     slice-write-s
     add-to-2
-    add-i
-    loop-less
+    (λ c. omega (arith, c .before .before .pre .few, c .loop-test .taken))
+    (λ c. omega (arith, c .loop-test .taken))
     loop-again
-    add-s-2
-    mul-s-2
-    slice-write-s-2
-    same-length
+    (λ c. omega (arith, c .before .before .pre .few))
+    (λ c. omega (arith, c .before .before .pre .room, c .before .loop .inv .grown .appended .frame .kept))
+    (λ c. omega (arith, c .before .before .pre .room, c .before .loop .inv .grown .appended .frame .kept))
+    (λ c. search needs)
     returns)

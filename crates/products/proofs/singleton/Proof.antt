@@ -20,45 +20,12 @@ light m = m .before
 abbrev put : tie.After-slice-known2 → tie.After-copy
 put m = m .before .before
 
-end-of-requires : tie.Need-end-of-requires
-end-of-requires c κs = value-some _ _ _ _ (c .before .before .pre .0 .1)
-
-sub-n : tie.Need-sub-n
-sub-n c = omega (arith, value-end _ _ _ _ _ (lent c .pre .0 .1) (c .end-of .ensures))
-
-same-length : tie.Need-same-length
-same-length c = search needs
-
-returns : tie.Need-returns
-returns c = λ v h. single-heavy _ _ _ _ (c .before .end-of .ensures) (c .if1 .taken) v h
-
-add-copy : tie.Need-add-copy
-add-copy c = search needs
-
 copy-requires : tie.Need-copy-requires
 copy-requires c κs =
     let m = light c .before in
     let v = lent m .pre .0 .1 in
     let e = value-end _ _ _ _ _ v (m .end-of .ensures) in
     (omega (arith, v .below), omega (arith, light c .if1 .left), inl (omega (arith, v .below)))
-
-add-s : tie.Need-add-s
-add-s c = search needs
-
-mul-s : tie.Need-mul-s
-mul-s c = search needs
-
-slice-write-s : tie.Need-slice-write-s
-slice-write-s c = search needs
-
-add-result : tie.Need-add-result
-add-result c = search needs
-
-add-result-2 : tie.Need-add-result-2
-add-result-2 c = search needs
-
-same-length-2 : tie.Need-same-length-2
-same-length-2 c = search needs
 
 returns-2 : tie.Need-returns-2
 returns-2 c = λ v h.
@@ -70,16 +37,16 @@ pub singleton-spec : {M : Type 1} → statement M
 singleton-spec =
     tie.close
     (tie.spec
-    end-of-requires
-    sub-n
-    same-length
-    returns
-    add-copy
+    (λ c κs. value-some _ _ _ _ (c .before .before .pre .0 .1))
+    (λ c. omega (arith, value-end _ _ _ _ _ (lent c .pre .0 .1) (c .end-of .ensures)))
+    (λ c. search needs)
+    (λ c. λ v h. single-heavy _ _ _ _ (c .before .end-of .ensures) (c .if1 .taken) v h)
+    (λ c. search needs)
     copy-requires
-    add-s
-    mul-s
-    slice-write-s
-    add-result
-    add-result-2
-    same-length-2
+    (λ c. search needs)
+    (λ c. search needs)
+    (λ c. search needs)
+    (λ c. search needs)
+    (λ c. search needs)
+    (λ c. search needs)
     returns-2)

@@ -40,53 +40,17 @@ read m = m .before .before
 abbrev put : tie.After-slice-known2 Inv-loop μ-loop → tie.After-add-if Inv-loop μ-loop
 put m = m .before .before
 
-add-s : tie.Need-add-s Inv-loop μ-loop
-add-s c = omega (arith, c .before .pre .room)
-
-loop-holds : tie.Need-loop-holds Inv-loop μ-loop
-loop-holds c = λ vs h. subset-start _ _ _ _ _ vs h (c .before .pre .room)
-
-mul-from : tie.Need-mul-from Inv-loop μ-loop
-mul-from c = omega (arith, c .loop-test .taken, lent (c .before) .pre .few)
-
-element-copy-out-from : tie.Need-element-copy-out-from Inv-loop μ-loop
-element-copy-out-from c = omega (arith, c .loop-test .taken, lent (c .before) .pre .few)
-
-add-j : tie.Need-add-j Inv-loop μ-loop
-add-j c = omega (arith, c .before .loop-test .taken, lent (turn c) .pre .few)
-
-mul-end : tie.Need-mul-end Inv-loop μ-loop
-mul-end c = omega (arith, c .before .loop-test .taken, lent (turn c) .pre .few)
-
-element-copy-out-end : tie.Need-element-copy-out-end Inv-loop μ-loop
-element-copy-out-end c = omega (arith, c .before .loop-test .taken, lent (turn c) .pre .few)
-
 add-if-requires : tie.Need-add-if-requires Inv-loop μ-loop
 add-if-requires c κs = λ k.
     let q = c .before .before in
     let l = turn q in
     subset-add _ _ _ _ _ _ (lent l .pre .marked) (lent l .pre .room) _ _ _ _ (known l) (q .before .loop-test .taken) k
 
-loop-less : tie.Need-loop-less Inv-loop μ-loop
-loop-less c = omega (arith, read (put c) .before .before .loop-test .taken)
-
 loop-again : tie.Need-loop-again Inv-loop μ-loop
 loop-again c = λ vs h.
     let q = read (put c) .before in
     let l = turn q in
     subset-next _ _ _ _ _ vs h (lent l .pre .room) _ _ _ _ (l .loop .inv vs h) (q .before .loop-test .taken) _ _ (put c .add-if .ensures)
-
-add-s-2 : tie.Need-add-s-2 Inv-loop μ-loop
-add-s-2 c = omega (arith, near (c .before .before) .0)
-
-mul-s : tie.Need-mul-s Inv-loop μ-loop
-mul-s c = omega (arith, lent (c .before .before) .pre .room)
-
-slice-write-s : tie.Need-slice-write-s Inv-loop μ-loop
-slice-write-s c = let l = c .before .before in omega (arith, near l .1, lent l .pre .room)
-
-same-length : tie.Need-same-length Inv-loop μ-loop
-same-length c = let k = near (c .before .before) .1 in search (needs, k)
 
 returns : tie.Need-returns Inv-loop μ-loop
 returns c = λ vs h.
@@ -99,18 +63,18 @@ subset-spec =
     (tie.spec
     Inv-loop
     μ-loop
-    add-s
-    loop-holds
-    mul-from
-    element-copy-out-from
-    add-j
-    mul-end
-    element-copy-out-end
+    (λ c. omega (arith, c .before .pre .room))
+    (λ c. λ vs h. subset-start _ _ _ _ _ vs h (c .before .pre .room))
+    (λ c. omega (arith, c .loop-test .taken, lent (c .before) .pre .few))
+    (λ c. omega (arith, c .loop-test .taken, lent (c .before) .pre .few))
+    (λ c. omega (arith, c .before .loop-test .taken, lent (turn c) .pre .few))
+    (λ c. omega (arith, c .before .loop-test .taken, lent (turn c) .pre .few))
+    (λ c. omega (arith, c .before .loop-test .taken, lent (turn c) .pre .few))
     add-if-requires
-    loop-less
+    (λ c. omega (arith, read (put c) .before .before .loop-test .taken))
     loop-again
-    add-s-2
-    mul-s
-    slice-write-s
-    same-length
+    (λ c. omega (arith, near (c .before .before) .0))
+    (λ c. omega (arith, lent (c .before .before) .pre .room))
+    (λ c. let l = c .before .before in omega (arith, near l .1, lent l .pre .room))
+    (λ c. let k = near (c .before .before) .1 in search (needs, k))
     returns)

@@ -31,53 +31,23 @@ front : (l : Listed) (vs : Values) → SetBelow (lent l .args .s .now) (length (
     Front (lent l .args .s .now) (length (lent l .args .s .now)) (lent l .args .a + 1) (l .low .result) vs
 front l vs h = front-start _ _ _ vs h _ (l .low .ensures .0)
 
-of-cells-requires : tie.Need-of-cells-requires
-of-cells-requires c κs = search needs
-
-mul-low : tie.Need-mul-low
-mul-low c = search needs
-
-shared-slice-read-low : tie.Need-shared-slice-read-low
-shared-slice-read-low c = search needs
-
-low-requires : tie.Need-low-requires
-low-requires c κs = search needs
-
-add-has-cell : tie.Need-add-has-cell
-add-has-cell c = search needs
-
-mul-has-cell : tie.Need-mul-has-cell
-mul-has-cell c = search needs
-
-shared-slice-read-has-cell : tie.Need-shared-slice-read-has-cell
-shared-slice-read-has-cell c = some-inside _ _ (value-some _ _ _ _ (lent (c .before) .pre .0 .1))
-
-has-cell-requires : tie.Need-has-cell-requires
-has-cell-requires c κs = let l = c .before in cells-row _ _ _ _ _ (front l _ (lent l .pre .1 .1)) (cells l)
-
 returns : tie.Need-returns
 returns c = λ v vs h k.
     let l = c .before .before in
     cell-in _ _ v (h .stands) (h .fits) _ _ _ vs (front l vs k) (cells l) _ (c .has-cell .ensures)
 
-walk-contains-requires : tie.Need-walk-contains-requires
-walk-contains-requires c κs = search needs
-
-returns-2 : tie.Need-returns-2
-returns-2 c = search needs
-
 pub contains-spec : {M : Type 1} → statement M
 contains-spec =
     tie.close
     (tie.spec
-    of-cells-requires
-    mul-low
-    shared-slice-read-low
-    low-requires
-    add-has-cell
-    mul-has-cell
-    shared-slice-read-has-cell
-    has-cell-requires
+    (λ c κs. search needs)
+    (λ c. search needs)
+    (λ c. search needs)
+    (λ c κs. search needs)
+    (λ c. search needs)
+    (λ c. search needs)
+    (λ c. some-inside _ _ (value-some _ _ _ _ (lent (c .before) .pre .0 .1)))
+    (λ c κs. let l = c .before in cells-row _ _ _ _ _ (front l _ (lent l .pre .1 .1)) (cells l))
     returns
-    walk-contains-requires
-    returns-2)
+    (λ c κs. search needs)
+    (λ c. search needs))

@@ -24,22 +24,10 @@ light q = rest q .before
 abbrev put : tie.After-struct-known2 → Put
 put o = o .before .before .before
 
-add-limit : tie.Need-add-limit
-add-limit c = search needs
-
-returns : tie.Need-returns
-returns c = end-heavy _ _ _ _ _ (c .if1 .taken)
-
-rest-of-requires : tie.Need-rest-of-requires
-rest-of-requires c κs = search needs
-
 tail-requires : tie.Need-tail-requires
 tail-requires c κs =
     let l = c .before .before in
     end-tail _ _ _ _ _ _ (lent l .pre .over) (l .if1 .left) (c .before .rest-of .ensures) _ (lent l .pre)
-
-same-length : tie.Need-same-length
-same-length c = search needs
 
 returns-2 : tie.Need-returns-2
 returns-2 c =
@@ -57,15 +45,6 @@ add-s c =
           (c .before .if2 .left),
     )
 
-mul-s : tie.Need-mul-s
-mul-s c = search needs
-
-slice-write-s : tie.Need-slice-write-s
-slice-write-s c = search needs
-
-same-length-2 : tie.Need-same-length-2
-same-length-2 c = search needs
-
 returns-3 : tie.Need-returns-3
 returns-3 c =
     let q = put (c .before .before) in
@@ -76,14 +55,14 @@ pub finish-spec : {M : Type 1} → statement M
 finish-spec =
     tie.close
     (tie.spec
-    add-limit
-    returns
-    rest-of-requires
+    (λ c. search needs)
+    (λ c. end-heavy _ _ _ _ _ (c .if1 .taken))
+    (λ c κs. search needs)
     tail-requires
-    same-length
+    (λ c. search needs)
     returns-2
     add-s
-    mul-s
-    slice-write-s
-    same-length-2
+    (λ c. search needs)
+    (λ c. search needs)
+    (λ c. search needs)
     returns-3)

@@ -29,52 +29,16 @@ few t = omega (arith, t .if1 .left, t .before .lower-bound .ensures .few)
 abbrev searched : tie.After-flat-function → tie.Else1
 searched c = c .before .before .before
 
-mul-x : tie.Need-mul-x
-mul-x c = search needs
-
-shared-slice-read-x : tie.Need-shared-slice-read-x
-shared-slice-read-x c = some-inside _ _ (value-some _ _ _ _ (c .before .before .pre .value .1))
-
-add-at : tie.Need-add-at
-add-at c = search needs
-
-add-lower-bound : tie.Need-add-lower-bound
-add-lower-bound c = search needs
-
-lower-bound-requires : tie.Need-lower-bound-requires
-lower-bound-requires c κs = row (c .before .before)
-
 returns : tie.Need-returns
 returns c = λ vs v h k p.
     let q = started (c .before) .pre in
     image-none _ _ _ _ vs v h k p (q .counted) (q .cells) (bound-none _ _ _ _ _ _ (c .before .lower-bound .ensures) (c .if1 .taken))
-
-add-i : tie.Need-add-i
-add-i c = search needs
-
-mul-i : tie.Need-mul-i
-mul-i c = search needs
-
-add-i-2 : tie.Need-add-i-2
-add-i-2 c = search needs
-
-mul-if2 : tie.Need-mul-if2
-mul-if2 c = search needs
-
-shared-slice-read-if2 : tie.Need-shared-slice-read-if2
-shared-slice-read-if2 c = search needs
 
 returns-2 : tie.Need-returns-2
 returns-2 c = λ vs v h k p.
     let t = c .before .before in
     let q = lent t .pre in
     image-none _ _ _ _ vs v h k p (q .counted) (q .cells) (bound-other _ _ _ _ _ _ (t .before .lower-bound .ensures) (row (lent t)) (few t) (c .if2 .taken))
-
-flat-function-requires : tie.Need-flat-function-requires
-flat-function-requires c κs = search needs
-
-add-result : tie.Need-add-result
-add-result c = search needs
 
 returns-3 : tie.Need-returns-3
 returns-3 c = λ vs v h k p.
@@ -94,19 +58,19 @@ pub flat-image-spec : {M : Type 1} → statement M
 flat-image-spec =
     tie.close
     (tie.spec
-    mul-x
-    shared-slice-read-x
-    add-at
-    add-lower-bound
-    lower-bound-requires
+    (λ c. search needs)
+    (λ c. some-inside _ _ (value-some _ _ _ _ (c .before .before .pre .value .1)))
+    (λ c. search needs)
+    (λ c. search needs)
+    (λ c κs. row (c .before .before))
     returns
-    add-i
-    mul-i
-    add-i-2
-    mul-if2
-    shared-slice-read-if2
+    (λ c. search needs)
+    (λ c. search needs)
+    (λ c. search needs)
+    (λ c. search needs)
+    (λ c. search needs)
     returns-2
-    flat-function-requires
-    add-result
+    (λ c κs. search needs)
+    (λ c. search needs)
     returns-3
     returns-4)

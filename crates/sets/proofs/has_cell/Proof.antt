@@ -17,31 +17,13 @@ few e = let l = e .before .lower-bound .ensures in omega (arith, l .few, e .if1 
 inside : (e : tie.Else1) → lent e .args .at + e .before .lower-bound .result < length (lent e .args .s .now)
 inside e = omega (arith, lent e .pre .inside (e .before .lower-bound .result) (few e))
 
-lower-bound-requires : tie.Need-lower-bound-requires
-lower-bound-requires c κs = search needs
-
-returns : tie.Need-returns
-returns c = cell-none _ _ _ _ _ (c .before .lower-bound .ensures) (c .if1 .taken)
-
-add-result : tie.Need-add-result
-add-result c = omega (arith, inside c)
-
-mul-result : tie.Need-mul-result
-mul-result c = omega (arith, inside c)
-
-shared-slice-read-result : tie.Need-shared-slice-read-result
-shared-slice-read-result c = inside (c .before)
-
-returns-2 : tie.Need-returns-2
-returns-2 c = let e = c .before in cell-here _ _ _ _ _ (e .before .lower-bound .ensures) (lent e .pre) (few e)
-
 pub has-cell-spec : {M : Type 1} → statement M
 has-cell-spec =
     tie.close
     (tie.spec
-    lower-bound-requires
-    returns
-    add-result
-    mul-result
-    shared-slice-read-result
-    returns-2)
+    (λ c κs. search needs)
+    (λ c. cell-none _ _ _ _ _ (c .before .lower-bound .ensures) (c .if1 .taken))
+    (λ c. omega (arith, inside c))
+    (λ c. omega (arith, inside c))
+    (λ c. inside (c .before))
+    (λ c. let e = c .before in cell-here _ _ _ _ _ (e .before .lower-bound .ensures) (lent e .pre) (few e)))

@@ -13,9 +13,6 @@ Inv-loop s at n i₀ left₀ i left = (top : ℕ) (vs : Values) → Front s top 
 abbrev μ-loop : tie.MeasureT-loop
 μ-loop s at n i₀ left₀ i left = left
 
-loop-holds : tie.Need-loop-holds Inv-loop μ-loop
-loop-holds c = λ top vs f p. checking-start _ top _ _ vs f p
-
 next-pair-requires : tie.Need-next-pair-requires Inv-loop μ-loop
 next-pair-requires c κs =
     let w = c .before .before .before .pre in checking-at _ _ _ _ _ (c .before .loop .inv _ _ (w .2) (w .3)) (c .loop-test .taken)
@@ -25,19 +22,10 @@ returns c = λ top vs f p.
     let l = c .before .before in
     checking-shared _ top vs _ _ (l .before .loop .inv top vs f p) (l .loop-test .taken) _ (c .before .next-pair .ensures) (c .if1 .taken)
 
-sub-left : tie.Need-sub-left Inv-loop μ-loop
-sub-left c = omega (arith, c .before .before .loop-test .taken)
-
-loop-less : tie.Need-loop-less Inv-loop μ-loop
-loop-less c = omega (arith, c .before .before .loop-test .taken)
-
 loop-again : tie.Need-loop-again Inv-loop μ-loop
 loop-again c = λ top vs f p.
     let l = c .before .before in
     checking-next _ top vs _ _ (l .before .loop .inv top vs f p) (l .loop-test .taken) _ (c .before .next-pair .ensures) (c .if1 .left)
-
-returns-2 : tie.Need-returns-2 Inv-loop μ-loop
-returns-2 c = λ top vs f p. checking-end _ top vs _ _ (c .before .loop .inv top vs f p) (c .loop-test .left)
 
 pub is-function-spec : {M : Type 1} → statement M
 is-function-spec =
@@ -45,10 +33,10 @@ is-function-spec =
     (tie.spec
     Inv-loop
     μ-loop
-    loop-holds
+    (λ c. λ top vs f p. checking-start _ top _ _ vs f p)
     next-pair-requires
     returns
-    sub-left
-    loop-less
+    (λ c. omega (arith, c .before .before .loop-test .taken))
+    (λ c. omega (arith, c .before .before .loop-test .taken))
     loop-again
-    returns-2)
+    (λ c. λ top vs f p. checking-end _ top vs _ _ (c .before .loop .inv top vs f p) (c .loop-test .left)))

@@ -28,52 +28,16 @@ few t = omega (arith, t .loop-test .taken, t .before .loop .inv .few)
 inside : (t : Turn) → lent t .args .at + lent t .args .step * middle t < length (lent t .args .s .now)
 inside t = lent t .pre .inside (middle t) (few t)
 
-loop-holds : tie.Need-loop-holds Inv-loop μ-loop
-loop-holds c = halving-start _ _ _ _ _
-
-add-middle : tie.Need-add-middle Inv-loop μ-loop
-add-middle c = omega (arith, few c)
-
-mul-if1 : tie.Need-mul-if1 Inv-loop μ-loop
-mul-if1 c = omega (arith, inside c)
-
-add-if1 : tie.Need-add-if1 Inv-loop μ-loop
-add-if1 c = omega (arith, inside c)
-
-mul-if1-2 : tie.Need-mul-if1-2 Inv-loop μ-loop
-mul-if1-2 c = omega (arith, inside c)
-
-shared-slice-read-if1 : tie.Need-shared-slice-read-if1 Inv-loop μ-loop
-shared-slice-read-if1 c = inside (c .before)
-
-add-from : tie.Need-add-from Inv-loop μ-loop
-add-from c = omega (arith, few (c .before .before))
-
-sub-left : tie.Need-sub-left Inv-loop μ-loop
-sub-left c = omega (arith, c .before .before .loop-test .taken)
-
-sub-left-2 : tie.Need-sub-left-2 Inv-loop μ-loop
-sub-left-2 c = omega (arith, c .before .before .loop-test .taken)
-
-loop-less : tie.Need-loop-less Inv-loop μ-loop
-loop-less c = omega (arith, c .before .before .loop-test .taken)
-
 loop-again : tie.Need-loop-again Inv-loop μ-loop
 loop-again c =
     let t = c .before .before in
     halving-up _ _ _ _ _ _ _ (t .before .loop .inv) (lent t .pre) (middle t) (few t) _ (omega (arith, t .loop-test .taken))
     (omega (arith, c .if1 .taken))
 
-loop-less-2 : tie.Need-loop-less-2 Inv-loop μ-loop
-loop-less-2 c = omega (arith, c .before .before .loop-test .taken)
-
 loop-again-2 : tie.Need-loop-again-2 Inv-loop μ-loop
 loop-again-2 c =
     let t = c .before .before in
     halving-down _ _ _ _ _ _ _ (t .before .loop .inv) (lent t .pre) (middle t) (few t) _ (omega arith) (omega (arith, c .if1 .left))
-
-returns : tie.Need-returns Inv-loop μ-loop
-returns c = halving-end _ _ _ _ _ _ _ (c .before .loop .inv) (c .loop-test .left)
 
 pub lower-bound-spec : {M : Type 1} → statement M
 lower-bound-spec =
@@ -81,17 +45,17 @@ lower-bound-spec =
     (tie.spec
     Inv-loop
     μ-loop
-    loop-holds
-    add-middle
-    mul-if1
-    add-if1
-    mul-if1-2
-    shared-slice-read-if1
-    add-from
-    sub-left
-    sub-left-2
-    loop-less
+    (λ c. halving-start _ _ _ _ _)
+    (λ c. omega (arith, few c))
+    (λ c. omega (arith, inside c))
+    (λ c. omega (arith, inside c))
+    (λ c. omega (arith, inside c))
+    (λ c. inside (c .before))
+    (λ c. omega (arith, few (c .before .before)))
+    (λ c. omega (arith, c .before .before .loop-test .taken))
+    (λ c. omega (arith, c .before .before .loop-test .taken))
+    (λ c. omega (arith, c .before .before .loop-test .taken))
     loop-again
-    loop-less-2
+    (λ c. omega (arith, c .before .before .loop-test .taken))
     loop-again-2
-    returns)
+    (λ c. halving-end _ _ _ _ _ _ _ (c .before .loop .inv) (c .loop-test .left)))

@@ -64,48 +64,6 @@ near : (c : Left) → let l = c .before in
     (l .loop .i ≤ lent l .args .a + lent l .args .m) × (l .loop .j ≤ lent l .args .b + lent l .args .n) × (lent l .args .top + 1 ≤ l .loop .to)
 near c = let l = c .before in merge-near _ _ _ _ _ _ _ _ _ (lent l .pre) _ _ _ _ (l .loop .inv)
 
-add-end : tie.Need-add-end Inv-loop μ-loop
-add-end c = omega (arith, c .before .pre .rows .left .inside)
-
-add-end2 : tie.Need-add-end2 Inv-loop μ-loop
-add-end2 c = omega (arith, c .before .pre .rows .right .inside)
-
-add-to : tie.Need-add-to Inv-loop μ-loop
-add-to c = omega (arith, c .before .pre .room)
-
-loop-holds : tie.Need-loop-holds Inv-loop μ-loop
-loop-holds c = merge-start _ _ _ _ _ _ _ _ _ (c .before .pre)
-
-mul-cell-turn : tie.Need-mul-cell-turn Inv-loop μ-loop
-mul-cell-turn c = omega (arith, inside c .0, high c)
-
-slice-read-cell-turn : tie.Need-slice-read-cell-turn Inv-loop μ-loop
-slice-read-cell-turn c = let t = c .before in omega (arith, inside t .0, high t)
-
-mul-cell-turn-2 : tie.Need-mul-cell-turn-2 Inv-loop μ-loop
-mul-cell-turn-2 c = let t = c .before in omega (arith, inside t .1, high t)
-
-slice-read-cell-turn-2 : tie.Need-slice-read-cell-turn-2 Inv-loop μ-loop
-slice-read-cell-turn-2 c = let t = c .before .before in omega (arith, inside t .1, high t)
-
-cell-turn-requires : tie.Need-cell-turn-requires Inv-loop μ-loop
-cell-turn-requires c κs = tt
-
-mul-s : tie.Need-mul-s Inv-loop μ-loop
-mul-s c = omega (arith, inside (both c) .2)
-
-slice-write-s : tie.Need-slice-write-s Inv-loop μ-loop
-slice-write-s c = inside (both c) .2
-
-add-to-2 : tie.Need-add-to-2 Inv-loop μ-loop
-add-to-2 c = let u = c .before in omega (arith, inside (both u) .2, moves u .3)
-
-add-i : tie.Need-add-i Inv-loop μ-loop
-add-i c = let u = c .before .before in omega (arith, inside (both u) .0, high (both u), moves u .0)
-
-add-j : tie.Need-add-j Inv-loop μ-loop
-add-j c = let u = c .before .before .before in omega (arith, inside (both u) .1, high (both u), moves u .1)
-
 loop-less : tie.Need-loop-less Inv-loop μ-loop
 loop-less c = let u = c .before .before .before in
     let t = both u in
@@ -117,25 +75,10 @@ loop-again c = let u = c .before .before .before in
     let l = loop t in
     merge-step _ _ _ _ _ _ _ _ _ (lent l .pre) _ _ _ _ (l .loop .inv) (t .before .loop-test .taken) (others t) _ (u .cell-turn .ensures)
 
-sub-t26 : tie.Need-sub-t26 Inv-loop μ-loop
-sub-t26 c = near c .0
-
-sub-t28 : tie.Need-sub-t28 Inv-loop μ-loop
-sub-t28 c = near c .1
-
-sub-t30 : tie.Need-sub-t30 Inv-loop μ-loop
-sub-t30 c = omega (arith, near c .2)
-
-sub-t31 : tie.Need-sub-t31 Inv-loop μ-loop
-sub-t31 c = omega (arith, near c .2)
-
 finish-requires : tie.Need-finish-requires Inv-loop μ-loop
 finish-requires c κs = let k = c .before in
     let l = k .before in
     merge-end _ _ _ _ _ _ _ _ _ (lent l .pre) _ _ _ _ (l .loop .inv) (exhausted k)
-
-same-length : tie.Need-same-length Inv-loop μ-loop
-same-length c = search needs
 
 returns : tie.Need-returns Inv-loop μ-loop
 returns c =
@@ -149,26 +92,26 @@ merge-cells-spec =
     (tie.spec
     Inv-loop
     μ-loop
-    add-end
-    add-end2
-    add-to
-    loop-holds
-    mul-cell-turn
-    slice-read-cell-turn
-    mul-cell-turn-2
-    slice-read-cell-turn-2
-    cell-turn-requires
-    mul-s
-    slice-write-s
-    add-to-2
-    add-i
-    add-j
+    (λ c. omega (arith, c .before .pre .rows .left .inside))
+    (λ c. omega (arith, c .before .pre .rows .right .inside))
+    (λ c. omega (arith, c .before .pre .room))
+    (λ c. merge-start _ _ _ _ _ _ _ _ _ (c .before .pre))
+    (λ c. omega (arith, inside c .0, high c))
+    (λ c. let t = c .before in omega (arith, inside t .0, high t))
+    (λ c. let t = c .before in omega (arith, inside t .1, high t))
+    (λ c. let t = c .before .before in omega (arith, inside t .1, high t))
+    (λ c κs. tt)
+    (λ c. omega (arith, inside (both c) .2))
+    (λ c. inside (both c) .2)
+    (λ c. let u = c .before in omega (arith, inside (both u) .2, moves u .3))
+    (λ c. let u = c .before .before in omega (arith, inside (both u) .0, high (both u), moves u .0))
+    (λ c. let u = c .before .before .before in omega (arith, inside (both u) .1, high (both u), moves u .1))
     loop-less
     loop-again
-    sub-t26
-    sub-t28
-    sub-t30
-    sub-t31
+    (λ c. near c .0)
+    (λ c. near c .1)
+    (λ c. omega (arith, near c .2))
+    (λ c. omega (arith, near c .2))
     finish-requires
-    same-length
+    (λ c. search needs)
     returns)

@@ -16,21 +16,6 @@ lent p = p .before .before .before
 follows : (p : tie.After-end-of2) → 1 < lent p .args .n → SomeAt (lent p .args .s .now) (p .end-of2 .result + 1)
 follows p l = next-some _ _ _ (lent p .pre) _ _ (p .before .end-of .ensures) (p .end-of2 .ensures) l
 
-add-end-of : tie.Need-add-end-of
-add-end-of c = search needs
-
-end-of-requires : tie.Need-end-of-requires
-end-of-requires c κs = first-some _ _ _ (c .before .pre)
-
-end-of-requires-2 : tie.Need-end-of-requires-2
-end-of-requires-2 c κs = second-some _ _ _ (c .before .before .pre) _ (c .end-of .ensures)
-
-add-compare : tie.Need-add-compare
-add-compare c = search needs
-
-add-compare-2 : tie.Need-add-compare-2
-add-compare-2 c = omega (arith, some-inside _ _ (follows (c .before) (omega (arith, c .if1 .taken))))
-
 compare-requires : tie.Need-compare-requires
 compare-requires c κs =
     let p = c .before in (first-some _ _ _ (lent p .pre), follows p (omega (arith, c .if1 .taken)), p .before .end-of .ensures)
@@ -47,19 +32,16 @@ returns-2 c =
     next-new _ _ _ _ _ (f .before .before .end-of .ensures) (f .before .end-of2 .ensures) _ (c .before .compare .ensures)
     (omega (arith, f .if1 .taken)) (c .if2 .left)
 
-returns-3 : tie.Need-returns-3
-returns-3 c = next-last _ _ _ _ _ (c .before .before .end-of .ensures) (c .before .end-of2 .ensures) (omega (arith, c .if1 .left))
-
 pub next-pair-spec : {M : Type 1} → statement M
 next-pair-spec =
     tie.close
     (tie.spec
-    add-end-of
-    end-of-requires
-    end-of-requires-2
-    add-compare
-    add-compare-2
+    (λ c. search needs)
+    (λ c κs. first-some _ _ _ (c .before .pre))
+    (λ c κs. second-some _ _ _ (c .before .before .pre) _ (c .end-of .ensures))
+    (λ c. search needs)
+    (λ c. omega (arith, some-inside _ _ (follows (c .before) (omega (arith, c .if1 .taken)))))
     compare-requires
     returns
     returns-2
-    returns-3)
+    (λ c. next-last _ _ _ _ _ (c .before .before .end-of .ensures) (c .before .end-of2 .ensures) (omega (arith, c .if1 .left))))

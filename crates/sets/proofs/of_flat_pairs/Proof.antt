@@ -19,55 +19,22 @@ lent t = known t .before .before .before
 inside : (t : tie.Else1) → lent t .args .f + 3 < length (lent t .args .s .now)
 inside t = let q = lent t .pre in pair-inside _ _ _ _ (q .1) (q .2) (λ e. t .if1 .left (known t .low .ensures .0 ∙ e))
 
-mul-low : tie.Need-mul-low
-mul-low c = search needs
-
-shared-slice-read-low : tie.Need-shared-slice-read-low
-shared-slice-read-low c = search needs
-
-low-requires : tie.Need-low-requires
-low-requires c κs = search needs
-
-returns : tie.Need-returns
-returns c = search needs
-
-add-if2 : tie.Need-add-if2
-add-if2 c = search needs
-
-mul-if2 : tie.Need-mul-if2
-mul-if2 c = search needs
-
-shared-slice-read-if2 : tie.Need-shared-slice-read-if2
-shared-slice-read-if2 c = omega (arith, inside (c .before))
-
-add-result : tie.Need-add-result
-add-result c = search needs
-
-mul-result : tie.Need-mul-result
-mul-result c = search needs
-
-shared-slice-read-result : tie.Need-shared-slice-read-result
-shared-slice-read-result c = inside (c .before .before .before)
-
 returns-2 : tie.Need-returns-2
 returns-2 c = λ e. let i = c .before in let q = lent (i .before .before) .pre in flat-pairs _ _ _ _ (q .1) (q .2) (i .if2 .taken) (ltb-true _ _ e)
-
-returns-3 : tie.Need-returns-3
-returns-3 c = λ e. absurd (let z : _≡_ {A = ℕ} 0 1 = cc e in omega arith)
 
 pub of-flat-pairs-spec : {M : Type 1} → statement M
 of-flat-pairs-spec =
     tie.close
     (tie.spec
-    mul-low
-    shared-slice-read-low
-    low-requires
-    returns
-    add-if2
-    mul-if2
-    shared-slice-read-if2
-    add-result
-    mul-result
-    shared-slice-read-result
+    (λ c. search needs)
+    (λ c. search needs)
+    (λ c κs. search needs)
+    (λ c. search needs)
+    (λ c. search needs)
+    (λ c. search needs)
+    (λ c. omega (arith, inside (c .before)))
+    (λ c. search needs)
+    (λ c. search needs)
+    (λ c. inside (c .before .before .before))
     returns-2
-    returns-3)
+    (λ c. λ e. absurd (let z : _≡_ {A = ℕ} 0 1 = cc e in omega arith)))

@@ -17,36 +17,15 @@ ended o = o .before
 abbrev ordered : tie.After-end-of2 → Ordered
 ordered e = e .before .before
 
-end-of-requires : tie.Need-end-of-requires
-end-of-requires c κs = two-left _ _ _ _ _ (c .before .pre)
-
-compare-requires : tie.Need-compare-requires
-compare-requires c κs = (two-left _ _ _ _ _ (c .before .before .pre), two-right _ _ _ _ _ (c .before .before .pre), c .end-of .ensures)
-
-sub-t13 : tie.Need-sub-t13
-sub-t13 c = omega (arith, two-some _ _ _ _ _ (lent (c .before) .pre) .0)
-
 returns : tie.Need-returns
 returns c =
     let o = c .before in turn-less _ _ _ _ _ _ _ _ _ _ (ended o .end-of .ensures) (o .compare .ensures) (c .if1 .taken)
-
-end-of-requires-2 : tie.Need-end-of-requires-2
-end-of-requires-2 c κs = two-right _ _ _ _ _ (lent (c .before) .pre)
-
-sub-t14 : tie.Need-sub-t14
-sub-t14 c = omega (arith, two-some _ _ _ _ _ (lent (ordered (c .before)) .pre) .0)
-
-sub-t15 : tie.Need-sub-t15
-sub-t15 c = omega (arith, two-some _ _ _ _ _ (lent (ordered (c .before)) .pre) .1)
 
 returns-2 : tie.Need-returns-2
 returns-2 c =
     let e = c .before in
     let o = ordered e in
     turn-equal _ _ _ _ _ _ _ _ _ _ (ended o .end-of .ensures) (o .compare .ensures) _ (e .end-of2 .ensures) (c .if2 .taken)
-
-sub-t16 : tie.Need-sub-t16
-sub-t16 c = omega (arith, two-some _ _ _ _ _ (lent (ordered (c .before)) .pre) .1)
 
 returns-3 : tie.Need-returns-3
 returns-3 c =
@@ -58,13 +37,13 @@ pub turn-at-spec : {M : Type 1} → statement M
 turn-at-spec =
     tie.close
     (tie.spec
-    end-of-requires
-    compare-requires
-    sub-t13
+    (λ c κs. two-left _ _ _ _ _ (c .before .pre))
+    (λ c κs. (two-left _ _ _ _ _ (c .before .before .pre), two-right _ _ _ _ _ (c .before .before .pre), c .end-of .ensures))
+    (λ c. omega (arith, two-some _ _ _ _ _ (lent (c .before) .pre) .0))
     returns
-    end-of-requires-2
-    sub-t14
-    sub-t15
+    (λ c κs. two-right _ _ _ _ _ (lent (c .before) .pre))
+    (λ c. omega (arith, two-some _ _ _ _ _ (lent (ordered (c .before)) .pre) .0))
+    (λ c. omega (arith, two-some _ _ _ _ _ (lent (ordered (c .before)) .pre) .1))
     returns-2
-    sub-t16
+    (λ c. omega (arith, two-some _ _ _ _ _ (lent (ordered (c .before)) .pre) .1))
     returns-3)

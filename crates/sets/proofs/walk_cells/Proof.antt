@@ -34,24 +34,6 @@ equal t = let s = lent t .args .s .now in eqb (getD s (t .before .before .loop .
 abbrev two : tie.Else2 Inv-loop μ-loop → Two
 two c = c .before .before .before
 
-loop-holds : tie.Need-loop-holds Inv-loop μ-loop
-loop-holds c = row-start _ _ _ _ _ _ (c .pre)
-
-returns : tie.Need-returns Inv-loop μ-loop
-returns c = λ vs ws f g. including-fewer _ _ _ _ _ _ (c .before .before .loop .inv .on vs ws f g) (c .if1 .taken)
-
-mul-x : tie.Need-mul-x Inv-loop μ-loop
-mul-x c = omega (arith, first c)
-
-shared-slice-read-x : tie.Need-shared-slice-read-x Inv-loop μ-loop
-shared-slice-read-x c = first (c .before)
-
-mul-y : tie.Need-mul-y Inv-loop μ-loop
-mul-y c = omega (arith, second (c .before))
-
-shared-slice-read-y : tie.Need-shared-slice-read-y Inv-loop μ-loop
-shared-slice-read-y c = second (c .before .before)
-
 returns-2 : tie.Need-returns-2 Inv-loop μ-loop
 returns-2 c = λ vs ws f g.
     let t = c .before .before .before in
@@ -59,30 +41,9 @@ returns-2 c = λ vs ws f g.
     including-less _ _ _ _ _ _ (w .on vs ws f g) (t .before .loop-test .taken) (omega (arith, t .before .loop-test .taken, t .if1 .left))
     (w .cells) (w .otherCells) (c .if2 .taken)
 
-cast-equal : tie.Need-cast-equal Inv-loop μ-loop
-cast-equal c = tt
-
-add-i : tie.Need-add-i Inv-loop μ-loop
-add-i c = let t = two c in omega (arith, first t, byte-small (equal t))
-
-sub-left : tie.Need-sub-left Inv-loop μ-loop
-sub-left c = let t = two c in omega (arith, t .before .loop-test .taken, byte-small (equal t))
-
-add-j : tie.Need-add-j Inv-loop μ-loop
-add-j c = omega (arith, second (two c))
-
-sub-others : tie.Need-sub-others Inv-loop μ-loop
-sub-others c = let t = two c in omega (arith, t .before .loop-test .taken, t .if1 .left)
-
-loop-less : tie.Need-loop-less Inv-loop μ-loop
-loop-less c = let t = two c in omega (arith, t .before .loop-test .taken, t .if1 .left)
-
 loop-again : tie.Need-loop-again Inv-loop μ-loop
 loop-again c = let t = two c in
     row-step _ _ _ _ _ _ _ _ _ (t .before .before .loop .inv) (t .before .loop-test .taken) (t .if1 .left) (c .if2 .left)
-
-returns-3 : tie.Need-returns-3 Inv-loop μ-loop
-returns-3 c = λ vs ws f g. including-end _ _ _ _ _ _ (c .before .loop .inv .on vs ws f g) (c .loop-test .left)
 
 pub walk-cells-spec : {M : Type 1} → statement M
 walk-cells-spec =
@@ -90,18 +51,18 @@ walk-cells-spec =
     (tie.spec
     Inv-loop
     μ-loop
-    loop-holds
-    returns
-    mul-x
-    shared-slice-read-x
-    mul-y
-    shared-slice-read-y
+    (λ c. row-start _ _ _ _ _ _ (c .pre))
+    (λ c. λ vs ws f g. including-fewer _ _ _ _ _ _ (c .before .before .loop .inv .on vs ws f g) (c .if1 .taken))
+    (λ c. omega (arith, first c))
+    (λ c. first (c .before))
+    (λ c. omega (arith, second (c .before)))
+    (λ c. second (c .before .before))
     returns-2
-    cast-equal
-    add-i
-    sub-left
-    add-j
-    sub-others
-    loop-less
+    (λ c. tt)
+    (λ c. let t = two c in omega (arith, first t, byte-small (equal t)))
+    (λ c. let t = two c in omega (arith, t .before .loop-test .taken, byte-small (equal t)))
+    (λ c. omega (arith, second (two c)))
+    (λ c. let t = two c in omega (arith, t .before .loop-test .taken, t .if1 .left))
+    (λ c. let t = two c in omega (arith, t .before .loop-test .taken, t .if1 .left))
     loop-again
-    returns-3)
+    (λ c. λ vs ws f g. including-end _ _ _ _ _ _ (c .before .loop .inv .on vs ws f g) (c .loop-test .left)))

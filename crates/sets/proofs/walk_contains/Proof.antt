@@ -37,24 +37,6 @@ turn o = o .before .before
 abbrev greater : tie.After-end-of2 Inv-loop μ-loop → Ordered
 greater c = c .before .before .before
 
-end-of-requires : tie.Need-end-of-requires Inv-loop μ-loop
-end-of-requires c κs = value-some _ _ _ _ (c .before .pre .0 .1)
-
-mul-low : tie.Need-mul-low Inv-loop μ-loop
-mul-low c = omega (arith, set-inside _ _ _ _ (c .before .before .pre .1 .1))
-
-shared-slice-read-low : tie.Need-shared-slice-read-low Inv-loop μ-loop
-shared-slice-read-low c = set-inside _ _ _ _ (c .before .before .before .pre .1 .1)
-
-low-requires : tie.Need-low-requires Inv-loop μ-loop
-low-requires c κs = search needs
-
-add-i : tie.Need-add-i Inv-loop μ-loop
-add-i c = let e = c .before .before in omega (arith, set-inside _ _ _ _ (e .before .before .pre .1 .1))
-
-loop-holds : tie.Need-loop-holds Inv-loop μ-loop
-loop-holds c = λ v vs h k. searched-start _ _ _ v vs k (c .low .ensures .0)
-
 compare-requires : tie.Need-compare-requires Inv-loop μ-loop
 compare-requires c κs =
     let l = c .before in
@@ -74,20 +56,11 @@ end-of-requires-2 : tie.Need-end-of-requires-2 Inv-loop μ-loop
 end-of-requires-2 c κs =
     let o = c .before .before in searched-at _ _ _ _ _ (searched (turn o)) (o .before .loop-test .taken)
 
-sub-left : tie.Need-sub-left Inv-loop μ-loop
-sub-left c = omega (arith, greater c .before .loop-test .taken)
-
-loop-less : tie.Need-loop-less Inv-loop μ-loop
-loop-less c = omega (arith, greater c .before .loop-test .taken)
-
 loop-again : tie.Need-loop-again Inv-loop μ-loop
 loop-again c = λ v vs h k.
     let o = greater c in
     searched-next _ _ _ v vs (turn o .loop .inv v vs h k) _ _ h (o .compare .ensures) (o .before .loop-test .taken) _
     (c .before .before .if1 .left) (c .before .if2 .left) (c .end-of2 .ensures)
-
-returns-3 : tie.Need-returns-3 Inv-loop μ-loop
-returns-3 c = λ v vs h k. searched-end _ _ _ v vs (c .before .loop .inv v vs h k) (c .loop-test .left)
 
 pub walk-contains-spec : {M : Type 1} → statement M
 walk-contains-spec =
@@ -95,17 +68,17 @@ walk-contains-spec =
     (tie.spec
     Inv-loop
     μ-loop
-    end-of-requires
-    mul-low
-    shared-slice-read-low
-    low-requires
-    add-i
-    loop-holds
+    (λ c κs. value-some _ _ _ _ (c .before .pre .0 .1))
+    (λ c. omega (arith, set-inside _ _ _ _ (c .before .before .pre .1 .1)))
+    (λ c. set-inside _ _ _ _ (c .before .before .before .pre .1 .1))
+    (λ c κs. search needs)
+    (λ c. let e = c .before .before in omega (arith, set-inside _ _ _ _ (e .before .before .pre .1 .1)))
+    (λ c. λ v vs h k. searched-start _ _ _ v vs k (c .low .ensures .0))
     compare-requires
     returns
     returns-2
     end-of-requires-2
-    sub-left
-    loop-less
+    (λ c. omega (arith, greater c .before .loop-test .taken))
+    (λ c. omega (arith, greater c .before .loop-test .taken))
     loop-again
-    returns-3)
+    (λ c. λ v vs h k. searched-end _ _ _ v vs (c .before .loop .inv v vs h k) (c .loop-test .left)))

@@ -53,41 +53,14 @@ equal c = c .before .before
 abbrev greater : tie.After-next-pair Inv-loop μ-loop → Ordered
 greater c = c .before .before .before
 
-end-of-requires : tie.Need-end-of-requires Inv-loop μ-loop
-end-of-requires c κs = value-some _ _ _ _ (c .before .pre .0 .1)
-
-mul-low : tie.Need-mul-low Inv-loop μ-loop
-mul-low c = omega (arith, set-inside _ _ _ _ (c .before .before .pre .1 .1))
-
-shared-slice-read-low : tie.Need-shared-slice-read-low Inv-loop μ-loop
-shared-slice-read-low c = set-inside _ _ _ _ (c .before .before .before .pre .1 .1)
-
-low-requires : tie.Need-low-requires Inv-loop μ-loop
-low-requires c κs = search needs
-
-add-i : tie.Need-add-i Inv-loop μ-loop
-add-i c = let e = c .before .before in omega (arith, set-inside _ _ _ _ (e .before .before .pre .1 .1))
-
-loop-holds : tie.Need-loop-holds Inv-loop μ-loop
-loop-holds c = λ vs v h k p. applying-start _ _ _ vs v h p (c .low .ensures .0)
-
-add-compare : tie.Need-add-compare Inv-loop μ-loop
-add-compare c = omega (arith, some-inside _ _ (first-some _ _ _ (first (c .before) (c .loop-test .taken))))
-
 compare-requires : tie.Need-compare-requires Inv-loop μ-loop
 compare-requires c κs =
     let l = c .before in
     (value-some _ _ _ _ (lent l .pre .0 .1), first-some _ _ _ (first l (c .loop-test .taken)), ended l .end-of .ensures)
 
-is-function-requires : tie.Need-is-function-requires Inv-loop μ-loop
-is-function-requires c κs = applying-pairs _ _ _ _ _ _ (applying (c .before .before .before))
-
 add-end-of : tie.Need-add-end-of Inv-loop μ-loop
 add-end-of c =
     let m = equal (c .before) in omega (arith, some-inside _ _ (first-some _ _ _ (first (turn m) (some-left m))))
-
-end-of-requires-2 : tie.Need-end-of-requires-2 Inv-loop μ-loop
-end-of-requires-2 c κs = let m = equal (c .before) in first-some _ _ _ (first (turn m) (some-left m))
 
 returns : tie.Need-returns Inv-loop μ-loop
 returns c = λ vs v h k p.
@@ -111,9 +84,6 @@ returns-3 c = λ vs v h k p.
     applied-at _ _ _ _ vs v h k p
     (applying-past _ _ vs _ _ v (turn m .loop .inv vs v h k p) _ _ k (m .compare .ensures) (some-left m) (c .if3 .taken))
 
-next-pair-requires : tie.Need-next-pair-requires Inv-loop μ-loop
-next-pair-requires c κs = let m = c .before .before in first (turn m) (some-left m)
-
 returns-4 : tie.Need-returns-4 Inv-loop μ-loop
 returns-4 c = λ vs v h k p.
     let q = c .before in
@@ -122,12 +92,6 @@ returns-4 c = λ vs v h k p.
     (applying-shared _ _ vs _ _ v (turn m .loop .inv vs v h k p) _ _ k (m .compare .ensures) (some-left m)
     (q .before .before .if1 .left) (q .before .if3 .left) _ (q .next-pair .ensures) (c .if4 .taken))
 
-sub-left : tie.Need-sub-left Inv-loop μ-loop
-sub-left c = omega (arith, some-left (greater (c .before)))
-
-loop-less : tie.Need-loop-less Inv-loop μ-loop
-loop-less c = omega (arith, some-left (greater (c .before)))
-
 loop-again : tie.Need-loop-again Inv-loop μ-loop
 loop-again c = λ vs v h k p.
     let q = c .before in
@@ -135,32 +99,29 @@ loop-again c = λ vs v h k p.
     applying-next _ _ vs _ _ v (turn m .loop .inv vs v h k p) _ _ k (m .compare .ensures) (some-left m)
     (q .before .before .if1 .left) (q .before .if3 .left) _ (q .next-pair .ensures) (c .if4 .left)
 
-returns-5 : tie.Need-returns-5 Inv-loop μ-loop
-returns-5 c = λ vs v h k p. applied-at _ _ _ _ vs v h k p (applying-end _ _ vs _ _ v (c .before .loop .inv vs v h k p) (c .loop-test .left))
-
 pub walk-image-spec : {M : Type 1} → statement M
 walk-image-spec =
     tie.close
     (tie.spec
     Inv-loop
     μ-loop
-    end-of-requires
-    mul-low
-    shared-slice-read-low
-    low-requires
-    add-i
-    loop-holds
-    add-compare
+    (λ c κs. value-some _ _ _ _ (c .before .pre .0 .1))
+    (λ c. omega (arith, set-inside _ _ _ _ (c .before .before .pre .1 .1)))
+    (λ c. set-inside _ _ _ _ (c .before .before .before .pre .1 .1))
+    (λ c κs. search needs)
+    (λ c. let e = c .before .before in omega (arith, set-inside _ _ _ _ (e .before .before .pre .1 .1)))
+    (λ c. λ vs v h k p. applying-start _ _ _ vs v h p (c .low .ensures .0))
+    (λ c. omega (arith, some-inside _ _ (first-some _ _ _ (first (c .before) (c .loop-test .taken)))))
     compare-requires
-    is-function-requires
+    (λ c κs. applying-pairs _ _ _ _ _ _ (applying (c .before .before .before)))
     add-end-of
-    end-of-requires-2
+    (λ c κs. let m = equal (c .before) in first-some _ _ _ (first (turn m) (some-left m)))
     returns
     returns-2
     returns-3
-    next-pair-requires
+    (λ c κs. let m = c .before .before in first (turn m) (some-left m))
     returns-4
-    sub-left
-    loop-less
+    (λ c. omega (arith, some-left (greater (c .before))))
+    (λ c. omega (arith, some-left (greater (c .before))))
     loop-again
-    returns-5)
+    (λ c. λ vs v h k p. applied-at _ _ _ _ vs v h k p (applying-end _ _ vs _ _ v (c .before .loop .inv vs v h k p) (c .loop-test .left))))

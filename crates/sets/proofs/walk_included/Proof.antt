@@ -39,39 +39,6 @@ two t = t .before
 abbrev turn : tie.Else1 Inv-loop μ-loop → Turn
 turn e = e .before .before
 
-mul-low : tie.Need-mul-low Inv-loop μ-loop
-mul-low c = omega (arith, set-inside _ _ _ _ (c .before .pre .0 .1))
-
-shared-slice-read-low : tie.Need-shared-slice-read-low Inv-loop μ-loop
-shared-slice-read-low c = set-inside _ _ _ _ (c .before .before .pre .0 .1)
-
-low-requires : tie.Need-low-requires Inv-loop μ-loop
-low-requires c κs = search needs
-
-mul-low-2 : tie.Need-mul-low-2 Inv-loop μ-loop
-mul-low-2 c = omega (arith, set-inside _ _ _ _ (c .before .before .before .pre .1 .1))
-
-shared-slice-read-low-2 : tie.Need-shared-slice-read-low-2 Inv-loop μ-loop
-shared-slice-read-low-2 c = let l = c .before in set-inside _ _ _ _ (l .before .before .before .pre .1 .1)
-
-low-requires-2 : tie.Need-low-requires-2 Inv-loop μ-loop
-low-requires-2 c κs = search needs
-
-add-i : tie.Need-add-i Inv-loop μ-loop
-add-i c = omega (arith, set-inside _ _ _ _ (listed c .pre .0 .1))
-
-add-j : tie.Need-add-j Inv-loop μ-loop
-add-j c = omega (arith, set-inside _ _ _ _ (listed c .pre .1 .1))
-
-loop-holds : tie.Need-loop-holds Inv-loop μ-loop
-loop-holds c = λ vs ws h k. including-start _ _ _ _ _ vs ws h k (first c .low .ensures .0) (c .low2 .ensures .0)
-
-returns : tie.Need-returns Inv-loop μ-loop
-returns c = λ vs ws h k. including-short _ _ _ _ _ _ (c .before .before .loop .inv vs ws h k) (c .before .loop-test .taken) (c .if1 .taken)
-
-turn-at-requires : tie.Need-turn-at-requires Inv-loop μ-loop
-turn-at-requires c κs = including-two _ _ _ _ _ _ (including (turn c)) (c .before .loop-test .taken) (c .if1 .left)
-
 returns-2 : tie.Need-returns-2 Inv-loop μ-loop
 returns-2 c = λ vs ws h k.
     let t = c .before .before in
@@ -92,27 +59,24 @@ loop-again c = λ vs ws h k.
     including-turn _ _ _ _ _ _ (turn e .loop .inv vs ws h k) (e .before .loop-test .taken) (e .if1 .left) _ (t .turn-at .ensures)
     .0 (not-false _ (c .if2 .left)) .0
 
-returns-3 : tie.Need-returns-3 Inv-loop μ-loop
-returns-3 c = λ vs ws h k. including-end _ _ _ _ _ _ (c .before .loop .inv vs ws h k) (c .loop-test .left)
-
 pub walk-included-spec : {M : Type 1} → statement M
 walk-included-spec =
     tie.close
     (tie.spec
     Inv-loop
     μ-loop
-    mul-low
-    shared-slice-read-low
-    low-requires
-    mul-low-2
-    shared-slice-read-low-2
-    low-requires-2
-    add-i
-    add-j
-    loop-holds
-    returns
-    turn-at-requires
+    (λ c. omega (arith, set-inside _ _ _ _ (c .before .pre .0 .1)))
+    (λ c. set-inside _ _ _ _ (c .before .before .pre .0 .1))
+    (λ c κs. search needs)
+    (λ c. omega (arith, set-inside _ _ _ _ (c .before .before .before .pre .1 .1)))
+    (λ c. let l = c .before in set-inside _ _ _ _ (l .before .before .before .pre .1 .1))
+    (λ c κs. search needs)
+    (λ c. omega (arith, set-inside _ _ _ _ (listed c .pre .0 .1)))
+    (λ c. omega (arith, set-inside _ _ _ _ (listed c .pre .1 .1)))
+    (λ c. λ vs ws h k. including-start _ _ _ _ _ vs ws h k (first c .low .ensures .0) (c .low2 .ensures .0))
+    (λ c. λ vs ws h k. including-short _ _ _ _ _ _ (c .before .before .loop .inv vs ws h k) (c .before .loop-test .taken) (c .if1 .taken))
+    (λ c κs. including-two _ _ _ _ _ _ (including (turn c)) (c .before .loop-test .taken) (c .if1 .left))
     returns-2
     loop-less
     loop-again
-    returns-3)
+    (λ c. λ vs ws h k. including-end _ _ _ _ _ _ (c .before .loop .inv vs ws h k) (c .loop-test .left)))

@@ -32,50 +32,11 @@ going d = d .before .before .before
 abbrev asked : tie.After-finish Inv-loop μ-loop → tie.After-goes-on Inv-loop μ-loop
 asked d = d .before .before .before
 
-mul-low : tie.Need-mul-low Inv-loop μ-loop
-mul-low c = omega (arith, set-inside _ _ _ _ (c .before .pre .0 .1))
-
-slice-read-low : tie.Need-slice-read-low Inv-loop μ-loop
-slice-read-low c = set-inside _ _ _ _ (c .before .before .pre .0 .1)
-
-low-requires : tie.Need-low-requires Inv-loop μ-loop
-low-requires c κs = search needs
-
-mul-low-2 : tie.Need-mul-low-2 Inv-loop μ-loop
-mul-low-2 c = omega (arith, set-inside _ _ _ _ (c .before .before .before .pre .1 .1))
-
-slice-read-low-2 : tie.Need-slice-read-low-2 Inv-loop μ-loop
-slice-read-low-2 c = let l = c .before in set-inside _ _ _ _ (l .before .before .before .pre .1 .1)
-
-low-requires-2 : tie.Need-low-requires-2 Inv-loop μ-loop
-low-requires-2 c κs = search needs
-
-add-limit : tie.Need-add-limit Inv-loop μ-loop
-add-limit c = omega (arith, listed c .pre .2)
-
-add-t12 : tie.Need-add-t12 Inv-loop μ-loop
-add-t12 c = omega (arith, set-inside _ _ _ _ (listed c .pre .0 .1))
-
-add-t16 : tie.Need-add-t16 Inv-loop μ-loop
-add-t16 c = omega (arith, set-inside _ _ _ _ (listed c .pre .1 .1))
-
-add-t17 : tie.Need-add-t17 Inv-loop μ-loop
-add-t17 c = omega (arith, listed c .pre .2)
-
-loop-holds : tie.Need-loop-holds Inv-loop μ-loop
-loop-holds c = walking-start _ _ _ _ _ _ _ _ _ (listed c .pre) (first c .low .ensures .0) (c .low2 .ensures .0)
-
-goes-on-requires : tie.Need-goes-on-requires Inv-loop μ-loop
-goes-on-requires c κs = search needs
-
 step-requires : tie.Need-step-requires Inv-loop μ-loop
 step-requires c κs =
     let g = c .before .before in
     let l = g .before in
     walking-step _ _ _ _ _ _ _ _ _ (lent l .pre) (l .loop .inv) _ (g .goes-on .ensures) (c .before .if1 .taken)
-
-loop-less : tie.Need-loop-less Inv-loop μ-loop
-loop-less c = c .before .before .step .ensures .fewer
 
 loop-again : tie.Need-loop-again Inv-loop μ-loop
 loop-again c =
@@ -89,9 +50,6 @@ finish-requires c κs =
     let l = g .before in
     walking-end _ _ _ _ _ _ _ _ _ (lent l .pre) (l .loop .inv) _ (g .goes-on .ensures) (c .before .if1 .left)
 
-same-length : tie.Need-same-length Inv-loop μ-loop
-same-length c = search needs
-
 returns : tie.Need-returns Inv-loop μ-loop
 returns c =
     let d = c .before .before in
@@ -104,21 +62,21 @@ walk-merge-spec =
     (tie.spec
     Inv-loop
     μ-loop
-    mul-low
-    slice-read-low
-    low-requires
-    mul-low-2
-    slice-read-low-2
-    low-requires-2
-    add-limit
-    add-t12
-    add-t16
-    add-t17
-    loop-holds
-    goes-on-requires
+    (λ c. omega (arith, set-inside _ _ _ _ (c .before .pre .0 .1)))
+    (λ c. set-inside _ _ _ _ (c .before .before .pre .0 .1))
+    (λ c κs. search needs)
+    (λ c. omega (arith, set-inside _ _ _ _ (c .before .before .before .pre .1 .1)))
+    (λ c. let l = c .before in set-inside _ _ _ _ (l .before .before .before .pre .1 .1))
+    (λ c κs. search needs)
+    (λ c. omega (arith, listed c .pre .2))
+    (λ c. omega (arith, set-inside _ _ _ _ (listed c .pre .0 .1)))
+    (λ c. omega (arith, set-inside _ _ _ _ (listed c .pre .1 .1)))
+    (λ c. omega (arith, listed c .pre .2))
+    (λ c. walking-start _ _ _ _ _ _ _ _ _ (listed c .pre) (first c .low .ensures .0) (c .low2 .ensures .0))
+    (λ c κs. search needs)
     step-requires
-    loop-less
+    (λ c. c .before .before .step .ensures .fewer)
     loop-again
     finish-requires
-    same-length
+    (λ c. search needs)
     returns)

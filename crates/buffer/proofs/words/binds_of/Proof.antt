@@ -15,12 +15,6 @@ Inv-loop table count binds₀ x₀ binds x = Filled (tableOf table .binds) (iden
 abbrev μ-loop : tie.MeasureT-loop
 μ-loop table count binds₀ x₀ binds x = count - x
 
-identifiers-requires : tie.Need-identifiers-requires Inv-loop μ-loop
-identifiers-requires c κs = c .before .pre .header .long
-
-loop-holds : tie.Need-loop-holds Inv-loop μ-loop
-loop-holds c = filled-start refl
-
 bind-requires : tie.Need-bind-requires Inv-loop μ-loop
 bind-requires c κs = let b = c .before in (b .before .before .before .pre .header, omega (arith, c .loop-test, c .before .before .identifiers .ensures))
 
@@ -40,12 +34,6 @@ array-write-binds c =
     let b = c .before .before in
     omega (arith, c .before .loop-test, b .before .identifiers .ensures, bind-bound (b .before .before .before .pre))
 
-add-x : tie.Need-add-x Inv-loop μ-loop
-add-x c = search needs
-
-loop-less : tie.Need-loop-less Inv-loop μ-loop
-loop-less c = omega (arith, c .before .loop-test)
-
 loop-again : tie.Need-loop-again Inv-loop μ-loop
 loop-again c =
     let b = c .before .before in
@@ -63,13 +51,13 @@ binds-of-spec =
     (tie.spec
     Inv-loop
     μ-loop
-    identifiers-requires
-    loop-holds
+    (λ c κs. c .before .pre .header .long)
+    (λ c. filled-start refl)
     bind-requires
     cast-binds
     mul-binds
     array-write-binds
-    add-x
-    loop-less
+    (λ c. search needs)
+    (λ c. omega (arith, c .before .loop-test))
     loop-again
     returns)

@@ -15,29 +15,11 @@ Inv-loop table count sizes₀ g₀ sizes g = Filled (tableOf table .sizes) (give
 abbrev μ-loop : tie.MeasureT-loop
 μ-loop table count sizes₀ g₀ sizes g = count - g
 
-givens-requires : tie.Need-givens-requires Inv-loop μ-loop
-givens-requires c κs = c .before .pre .header .long
-
-loop-holds : tie.Need-loop-holds Inv-loop μ-loop
-loop-holds c = filled-start refl
-
-size-requires : tie.Need-size-requires Inv-loop μ-loop
-size-requires c κs = let b = c .before in b .before .before .before .pre .header
-
-cast-sizes : tie.Need-cast-sizes Inv-loop μ-loop
-cast-sizes c = let b = c .before .before in omega (arith, size-fits (b .before .before .before .pre) (b .loop .g) (c .size .ensures))
-
 mul-sizes : tie.Need-mul-sizes Inv-loop μ-loop
 mul-sizes c = let b = c .before .before in omega (arith, c .before .loop-test, b .before .givens .ensures, size-bound (b .before .before .before .pre))
 
 array-write-sizes : tie.Need-array-write-sizes Inv-loop μ-loop
 array-write-sizes c = let b = c .before .before in omega (arith, c .before .loop-test, b .before .givens .ensures, size-bound (b .before .before .before .pre))
-
-add-g : tie.Need-add-g Inv-loop μ-loop
-add-g c = search needs
-
-loop-less : tie.Need-loop-less Inv-loop μ-loop
-loop-less c = omega (arith, c .before .loop-test)
 
 loop-again : tie.Need-loop-again Inv-loop μ-loop
 loop-again c =
@@ -56,13 +38,13 @@ sizes-of-spec =
     (tie.spec
     Inv-loop
     μ-loop
-    givens-requires
-    loop-holds
-    size-requires
-    cast-sizes
+    (λ c κs. c .before .pre .header .long)
+    (λ c. filled-start refl)
+    (λ c κs. let b = c .before in b .before .before .before .pre .header)
+    (λ c. let b = c .before .before in omega (arith, size-fits (b .before .before .before .pre) (b .loop .g) (c .size .ensures)))
     mul-sizes
     array-write-sizes
-    add-g
-    loop-less
+    (λ c. search needs)
+    (λ c. omega (arith, c .before .loop-test))
     loop-again
     returns)

@@ -55,29 +55,11 @@ module _ (t : ℕ) where
       each-chosen-lts.After-eval-pred claims (each-chosen-at t) each-chosen.Post each-chosen-Inv-loop each-chosen-μ-loop
   ran c = c .before .before
 
-  node-field-requires : each-chosen-lts.Need-node-field-requires claims (each-chosen-at t) each-chosen.Post each-chosen-Inv-loop each-chosen-μ-loop
-  node-field-requires c κs = (binder-node (c .before .before .pre .1), lit< tt)
-
-  node-field-requires-2 : each-chosen-lts.Need-node-field-requires-2 claims (each-chosen-at t) each-chosen.Post each-chosen-Inv-loop each-chosen-μ-loop
-  node-field-requires-2 c κs = (binder-node (lent c .pre .1), lit< tt)
-
-  add-to : each-chosen-lts.Need-add-to claims (each-chosen-at t) each-chosen.Post each-chosen-Inv-loop each-chosen-μ-loop
-  add-to c = above-fits (lent (c .before .before) .pre .1)
-
-  loop-holds : each-chosen-lts.Need-loop-holds claims (each-chosen-at t) each-chosen.Post each-chosen-Inv-loop each-chosen-μ-loop
-  loop-holds c = choosing-start (lent (c .before .before) .pre .1)
-
   cast-inner : each-chosen-lts.Need-cast-inner claims (each-chosen-at t) each-chosen.Post each-chosen-Inv-loop each-chosen-μ-loop
   cast-inner c =
       let l = c .before in
       let v = lent (words l .before) in
       omega (arith, choosing-below (v .pre .1) (l .loop .inv) (omega (arith, c .loop-test .taken)), v .pre .1 .space, v .pre .1 .ready .small)
-
-  mul-inner : each-chosen-lts.Need-mul-inner claims (each-chosen-at t) each-chosen.Post each-chosen-Inv-loop each-chosen-μ-loop
-  mul-inner c = let f = words (c .before) .before in entry-scaled (f .node-field .ensures) (lent f .pre .1 .name)
-
-  array-write-inner : each-chosen-lts.Need-array-write-inner claims (each-chosen-at t) each-chosen.Post each-chosen-Inv-loop each-chosen-μ-loop
-  array-write-inner c = let f = words (c .before) .before in entry-below (f .node-field .ensures) (lent f .pre .1 .name)
 
   eval-pred-requires : each-chosen-lts.Need-eval-pred-requires claims (each-chosen-at t) each-chosen.Post each-chosen-Inv-loop each-chosen-μ-loop
   eval-pred-requires c κs =
@@ -90,15 +72,6 @@ module _ (t : ℕ) where
         choosing-ready (v .pre .1) (l .loop .inv)
             (omega (arith, w .loop-test .taken)) (f .node-field .ensures) (g .node-field2 .ensures),
       )
-
-  enum-known-held : each-chosen-lts.Need-enum-known-held claims (each-chosen-at t) each-chosen.Post each-chosen-Inv-loop each-chosen-μ-loop
-  enum-known-held c = c .match .keys1
-
-  enum-told : each-chosen-lts.Need-enum-told claims (each-chosen-at t) each-chosen.Post each-chosen-Inv-loop each-chosen-μ-loop
-  enum-told c = c .match .keys2
-
-  stop-of-requires : each-chosen-lts.Need-stop-of-requires claims (each-chosen-at t) each-chosen.Post each-chosen-Inv-loop each-chosen-μ-loop
-  stop-of-requires c κs = tt
 
   same-length : each-chosen-lts.Need-same-length claims (each-chosen-at t) each-chosen.Post each-chosen-Inv-loop each-chosen-μ-loop
   same-length c =
@@ -143,9 +116,6 @@ module _ (t : ℕ) where
       let v = lent f in
       choosing-choose (v .pre .1) (l .loop .inv) (omega (arith, w .loop-test .taken)) (f .node-field .ensures) (g .node-field2 .ensures)
       (p .eval-pred .ensures) (o .end-of .ensures)
-
-  cast-chosen : each-chosen-lts.Need-cast-chosen claims (each-chosen-at t) each-chosen.Post each-chosen-Inv-loop each-chosen-μ-loop
-  cast-chosen c = tt
 
   add-chosen : each-chosen-lts.Need-add-chosen claims (each-chosen-at t) each-chosen.Post each-chosen-Inv-loop each-chosen-μ-loop
   add-chosen c =
@@ -193,21 +163,6 @@ module _ (t : ℕ) where
       (p .eval-pred .ensures) (o .end-of .ensures)
       (h .held .given .1) (q .choose .ensures)
 
-  add-s : each-chosen-lts.Need-add-s claims (each-chosen-at t) each-chosen.Post each-chosen-Inv-loop each-chosen-μ-loop
-  add-s c = let l = c .before in let v = lent (words l .before) in omega (arith, choosing-near (v .pre .1) (l .loop .inv) .2)
-
-  mul-s : each-chosen-lts.Need-mul-s claims (each-chosen-at t) each-chosen.Post each-chosen-Inv-loop each-chosen-μ-loop
-  mul-s c = let l = c .before in let v = lent (words l .before) in top-scaled (v .pre .1)
-
-  slice-write-s : each-chosen-lts.Need-slice-write-s claims (each-chosen-at t) each-chosen.Post each-chosen-Inv-loop each-chosen-μ-loop
-  slice-write-s c = let l = c .before in let v = lent (words l .before) in top-inside (v .pre .1) (l .loop .inv .frame)
-
-  same-length-2 : each-chosen-lts.Need-same-length-2 claims (each-chosen-at t) each-chosen.Post each-chosen-Inv-loop each-chosen-μ-loop
-  same-length-2 c = written-kept _ (c .before .loop .inv .frame)
-
-  returns-2 : each-chosen-lts.Need-returns-2 claims (each-chosen-at t) each-chosen.Post each-chosen-Inv-loop each-chosen-μ-loop
-  returns-2 c = let l = c .before in let v = lent (words l .before) in choosing-end (v .pre .1) (l .loop .inv) (omega (arith, c .loop-test .left))
-
   pub each-chosen-closed : {M : Type 1} → each-chosen-lts.Closed claims (each-chosen-at t) each-chosen.Post M
   each-chosen-closed =
       each-chosen-lts.spec
@@ -216,28 +171,28 @@ module _ (t : ℕ) where
       each-chosen.Post
       each-chosen-Inv-loop
       each-chosen-μ-loop
-      node-field-requires
-      node-field-requires-2
-      add-to
-      loop-holds
+      (λ c κs. (binder-node (c .before .before .pre .1), lit< tt))
+      (λ c κs. (binder-node (lent c .pre .1), lit< tt))
+      (λ c. above-fits (lent (c .before .before) .pre .1))
+      (λ c. choosing-start (lent (c .before .before) .pre .1))
       cast-inner
-      mul-inner
-      array-write-inner
+      (λ c. let f = words (c .before) .before in entry-scaled (f .node-field .ensures) (lent f .pre .1 .name))
+      (λ c. let f = words (c .before) .before in entry-below (f .node-field .ensures) (lent f .pre .1 .name))
       eval-pred-requires
-      enum-known-held
-      enum-told
-      stop-of-requires
+      (λ c. c .match .keys1)
+      (λ c. c .match .keys2)
+      (λ c κs. tt)
       same-length
       returns
       end-of-requires
       choose-requires
-      cast-chosen
+      (λ c. tt)
       add-chosen
       sub-more
       loop-less
       loop-again
-      add-s
-      mul-s
-      slice-write-s
-      same-length-2
-      returns-2
+      (λ c. let l = c .before in let v = lent (words l .before) in omega (arith, choosing-near (v .pre .1) (l .loop .inv) .2))
+      (λ c. let l = c .before in let v = lent (words l .before) in top-scaled (v .pre .1))
+      (λ c. let l = c .before in let v = lent (words l .before) in top-inside (v .pre .1) (l .loop .inv .frame))
+      (λ c. written-kept _ (c .before .loop .inv .frame))
+      (λ c. let l = c .before in let v = lent (words l .before) in choosing-end (v .pre .1) (l .loop .inv) (omega (arith, c .loop-test .left)))

@@ -40,26 +40,11 @@ module _ (t : ℕ) where
       each-member-lts.After-eval-pred claims (each-member-at t) each-member.Post each-member-Inv-loop each-member-μ-loop
   ran c = c .before .before
 
-  node-field-requires : each-member-lts.Need-node-field-requires claims (each-member-at t) each-member.Post each-member-Inv-loop each-member-μ-loop
-  node-field-requires c κs = (binder-node (c .before .before .pre .1), lit< tt)
-
-  node-field-requires-2 : each-member-lts.Need-node-field-requires-2 claims (each-member-at t) each-member.Post each-member-Inv-loop each-member-μ-loop
-  node-field-requires-2 c κs = (binder-node (lent c .pre .1), lit< tt)
-
-  loop-holds : each-member-lts.Need-loop-holds claims (each-member-at t) each-member.Post each-member-Inv-loop each-member-μ-loop
-  loop-holds c = turning-start _ _ (lent (c .before .before) .pre .1)
-
   cast-inner : each-member-lts.Need-cast-inner claims (each-member-at t) each-member.Post each-member-Inv-loop each-member-μ-loop
   cast-inner c =
       let l = c .before in
       let v = lent (words l .before) in
       record { fits = member-low (v .pre .1) (l .loop .inv) (omega (arith, c .loop-test .taken)) }
-
-  mul-inner : each-member-lts.Need-mul-inner claims (each-member-at t) each-member.Post each-member-Inv-loop each-member-μ-loop
-  mul-inner c = let f = words (c .before) .before in entry-scaled (f .node-field .ensures) (lent f .pre .1 .name)
-
-  array-write-inner : each-member-lts.Need-array-write-inner claims (each-member-at t) each-member.Post each-member-Inv-loop each-member-μ-loop
-  array-write-inner c = let f = words (c .before) .before in entry-below (f .node-field .ensures) (lent f .pre .1 .name)
 
   eval-pred-requires : each-member-lts.Need-eval-pred-requires claims (each-member-at t) each-member.Post each-member-Inv-loop each-member-μ-loop
   eval-pred-requires c κs =
@@ -72,15 +57,6 @@ module _ (t : ℕ) where
         body-ready (v .pre .1) (l .loop .inv) (omega (arith, w .loop-test .taken))
             (f .node-field .ensures) (g .node-field2 .ensures),
       )
-
-  enum-known-held : each-member-lts.Need-enum-known-held claims (each-member-at t) each-member.Post each-member-Inv-loop each-member-μ-loop
-  enum-known-held c = c .match .keys1
-
-  enum-told : each-member-lts.Need-enum-told claims (each-member-at t) each-member.Post each-member-Inv-loop each-member-μ-loop
-  enum-told c = c .match .keys2
-
-  same-length : each-member-lts.Need-same-length claims (each-member-at t) each-member.Post each-member-Inv-loop each-member-μ-loop
-  same-length c = let p = ran (c .before .before) in p .eval-pred .kept .1 .1 .0 ∙ turn p .before .loop .inv .frame .kept
 
   returns : each-member-lts.Need-returns claims (each-member-at t) each-member.Post each-member-Inv-loop each-member-μ-loop
   returns c =
@@ -149,12 +125,6 @@ module _ (t : ℕ) where
       (p .eval-pred .ensures) _ _ _
       (h .held .given .1) (agree _ _ (i .if1 .left)) (c .end-of .ensures)
 
-  same-length-3 : each-member-lts.Need-same-length-3 claims (each-member-at t) each-member.Post each-member-Inv-loop each-member-μ-loop
-  same-length-3 c = c .before .loop .inv .frame .kept
-
-  returns-3 : each-member-lts.Need-returns-3 claims (each-member-at t) each-member.Post each-member-Inv-loop each-member-μ-loop
-  returns-3 c = members-done (c .before .loop .inv) (omega (arith, c .loop-test .left))
-
   pub each-member-closed : {M : Type 1} → each-member-lts.Closed claims (each-member-at t) each-member.Post M
   each-member-closed =
       each-member-lts.spec
@@ -163,16 +133,16 @@ module _ (t : ℕ) where
       each-member.Post
       each-member-Inv-loop
       each-member-μ-loop
-      node-field-requires
-      node-field-requires-2
-      loop-holds
+      (λ c κs. (binder-node (c .before .before .pre .1), lit< tt))
+      (λ c κs. (binder-node (lent c .pre .1), lit< tt))
+      (λ c. turning-start _ _ (lent (c .before .before) .pre .1))
       cast-inner
-      mul-inner
-      array-write-inner
+      (λ c. let f = words (c .before) .before in entry-scaled (f .node-field .ensures) (lent f .pre .1 .name))
+      (λ c. let f = words (c .before) .before in entry-below (f .node-field .ensures) (lent f .pre .1 .name))
       eval-pred-requires
-      enum-known-held
-      enum-told
-      same-length
+      (λ c. c .match .keys1)
+      (λ c. c .match .keys2)
+      (λ c. let p = ran (c .before .before) in p .eval-pred .kept .1 .1 .0 ∙ turn p .before .loop .inv .frame .kept)
       returns
       same-length-2
       returns-2
@@ -180,5 +150,5 @@ module _ (t : ℕ) where
       sub-more
       loop-less
       loop-again
-      same-length-3
-      returns-3
+      (λ c. c .before .loop .inv .frame .kept)
+      (λ c. members-done (c .before .loop .inv) (omega (arith, c .loop-test .left)))

@@ -37,29 +37,11 @@ module _ (t : ℕ) where
   abbrev ran : eval-bool-lts.After-slice-known2 claims (eval-bool-at t) eval-bool.Post → eval-bool-lts.After-eval-pred claims (eval-bool-at t) eval-bool.Post
   ran c = c .before .before
 
-  node-field-requires : eval-bool-lts.Need-node-field-requires claims (eval-bool-at t) eval-bool.Post
-  node-field-requires c κs = (ready-node (c .before .before .pre .1 .ready), lit< tt)
-
-  sub-eval-pred : eval-bool-lts.Need-sub-eval-pred claims (eval-bool-at t) eval-bool.Post
-  sub-eval-pred c = omega (arith, lent (c .before) .pre .1 .unspent)
-
   eval-pred-requires : eval-bool-lts.Need-eval-pred-requires claims (eval-bool-at t) eval-bool.Post
   eval-pred-requires c κs =
       let f = c .before in
       let v = lent f in
       (omega (arith, v .pre .0, bool-child (v .pre .1) (f .node-field .ensures) .below), bool-begins (v .pre .1) (f .node-field .ensures))
-
-  enum-known-held : eval-bool-lts.Need-enum-known-held claims (eval-bool-at t) eval-bool.Post
-  enum-known-held c = c .match .keys1
-
-  enum-told : eval-bool-lts.Need-enum-told claims (eval-bool-at t) eval-bool.Post
-  enum-told c = c .match .keys2
-
-  stop-of-requires : eval-bool-lts.Need-stop-of-requires claims (eval-bool-at t) eval-bool.Post
-  stop-of-requires c κs = tt
-
-  same-length : eval-bool-lts.Need-same-length claims (eval-bool-at t) eval-bool.Post
-  same-length c = let k = c .before in ran (k .before .before) .eval-pred .kept .1 .1 .0
 
   returns : eval-bool-lts.Need-returns claims (eval-bool-at t) eval-bool.Post
   returns c =
@@ -68,12 +50,6 @@ module _ (t : ℕ) where
       let f = word e in
       let q = k .enum-told .given .1 in
       formed-as refl (stop-is q (c .stop-of .ensures)) (bool-fails (lent f .pre .1) (f .node-field .ensures) (held-as refl q (e .eval-pred .ensures)))
-
-  cast-put-cell : eval-bool-lts.Need-cast-put-cell claims (eval-bool-at t) eval-bool.Post
-  cast-put-cell c = tt
-
-  add-put-cell : eval-bool-lts.Need-add-put-cell claims (eval-bool-at t) eval-bool.Post
-  add-put-cell c = omega (arith, byte-small (c .before .before .held .given .0 .0))
 
   put-cell-requires : eval-bool-lts.Need-put-cell-requires claims (eval-bool-at t) eval-bool.Post
   put-cell-requires c κs =
@@ -101,16 +77,16 @@ module _ (t : ℕ) where
       claims
       (eval-bool-at t)
       eval-bool.Post
-      node-field-requires
-      sub-eval-pred
+      (λ c κs. (ready-node (c .before .before .pre .1 .ready), lit< tt))
+      (λ c. omega (arith, lent (c .before) .pre .1 .unspent))
       eval-pred-requires
-      enum-known-held
-      enum-told
-      stop-of-requires
-      same-length
+      (λ c. c .match .keys1)
+      (λ c. c .match .keys2)
+      (λ c κs. tt)
+      (λ c. let k = c .before in ran (k .before .before) .eval-pred .kept .1 .1 .0)
       returns
-      cast-put-cell
-      add-put-cell
+      (λ c. tt)
+      (λ c. omega (arith, byte-small (c .before .before .held .given .0 .0)))
       put-cell-requires
       same-length-2
       returns-2

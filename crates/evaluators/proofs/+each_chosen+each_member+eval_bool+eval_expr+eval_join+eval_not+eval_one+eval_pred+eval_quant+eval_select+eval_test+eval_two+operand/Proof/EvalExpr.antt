@@ -43,17 +43,11 @@ module _ (t : ℕ) where
   abbrev lent : eval-expr-lts.After-node-kind claims (eval-expr-at t) eval-expr.Post → eval-expr-lts.Start claims (eval-expr-at t) eval-expr.Post
   lent c = let i = c .before in i .before .before .before
 
-  stopped-requires : eval-expr-lts.Need-stopped-requires claims (eval-expr-at t) eval-expr.Post
-  stopped-requires c κs = tt
-
   returns : eval-expr-lts.Need-returns claims (eval-expr-at t) eval-expr.Post
   returns c =
       let k = c .before in
       let v = k .before .before .before in
       formed-as refl (sym (c .stopped .ensures)) (spent-expr (v .pre .1 .0) (k .if1 .taken))
-
-  node-kind-requires : eval-expr-lts.Need-node-kind-requires claims (eval-expr-at t) eval-expr.Post
-  node-kind-requires c κs = let v = c .before .before .before in ready-node (v .pre .1 .0)
 
   sub-eval-name : eval-expr-lts.Need-sub-eval-name claims (eval-expr-at t) eval-expr.Post
   sub-eval-name c =
@@ -80,9 +74,6 @@ module _ (t : ℕ) where
       let k = b .before in
       let v = lent k in
       (omega (arith, v .pre .0), visited-as (counted (v .pre .1 .0) _ (k .before .if1 .left) (k .node-kind .ensures)) (b .match .keys5))
-
-  stopped-requires-2 : eval-expr-lts.Need-stopped-requires-2 claims (eval-expr-at t) eval-expr.Post
-  stopped-requires-2 c κs = tt
 
   eval-two-requires : eval-expr-lts.Need-eval-two-requires claims (eval-expr-at t) eval-expr.Post
   eval-two-requires c κs =
@@ -126,18 +117,6 @@ module _ (t : ℕ) where
       let v = lent k in
       name-answer (counted (v .pre .1 .0) _ (k .before .if1 .left) (k .node-kind .ensures)) (b .match .keys1) _ (c .eval-name .ensures)
 
-  same-length : eval-expr-lts.Need-same-length claims (eval-expr-at t) eval-expr.Post
-  same-length c = c .before .before .eval-bool .kept .1 .1 .0
-
-  returns-3 : eval-expr-lts.Need-returns-3 claims (eval-expr-at t) eval-expr.Post
-  returns-3 c = c .before .before .eval-bool .ensures
-
-  same-length-2 : eval-expr-lts.Need-same-length-2 claims (eval-expr-at t) eval-expr.Post
-  same-length-2 c = c .before .before .eval-select .kept .1 .1 .0
-
-  returns-4 : eval-expr-lts.Need-returns-4 claims (eval-expr-at t) eval-expr.Post
-  returns-4 c = c .before .before .eval-select .ensures
-
   returns-5 : eval-expr-lts.Need-returns-5 claims (eval-expr-at t) eval-expr.Post
   returns-5 c =
       let j = c .before in
@@ -147,21 +126,6 @@ module _ (t : ℕ) where
       let r = expression-code (counted (v .pre .1 .0) _ (k .before .if1 .left) (k .node-kind .ensures)) (v .pre .1 .1) in
       let n = m .match .rest in
       ⊎-elim (λ w. absurd (omega (arith, r, w .taken))) (λ w. no-other _ r (w .4 .left) (n .0 .0 .0 .1) (n .1)) (j .if2 .came)
-
-  same-length-3 : eval-expr-lts.Need-same-length-3 claims (eval-expr-at t) eval-expr.Post
-  same-length-3 c = c .before .before .eval-two .kept .1 .1 .0
-
-  returns-6 : eval-expr-lts.Need-returns-6 claims (eval-expr-at t) eval-expr.Post
-  returns-6 c = c .before .before .eval-two .ensures
-
-  same-length-4 : eval-expr-lts.Need-same-length-4 claims (eval-expr-at t) eval-expr.Post
-  same-length-4 c = c .before .before .eval-one .kept .1 .1 .0
-
-  returns-7 : eval-expr-lts.Need-returns-7 claims (eval-expr-at t) eval-expr.Post
-  returns-7 c = c .before .before .eval-one .ensures
-
-  same-length-5 : eval-expr-lts.Need-same-length-5 claims (eval-expr-at t) eval-expr.Post
-  same-length-5 c = c .before .before .eval-leaf .kept .1 .0
 
   returns-8 : eval-expr-lts.Need-returns-8 claims (eval-expr-at t) eval-expr.Post
   returns-8 c =
@@ -181,27 +145,27 @@ module _ (t : ℕ) where
       claims
       (eval-expr-at t)
       eval-expr.Post
-      stopped-requires
+      (λ c κs. tt)
       returns
-      node-kind-requires
+      (λ c κs. let v = c .before .before .before in ready-node (v .pre .1 .0))
       sub-eval-name
       eval-name-requires
       eval-bool-requires
       eval-select-requires
-      stopped-requires-2
+      (λ c κs. tt)
       eval-two-requires
       eval-one-requires
       sub-eval-leaf
       eval-leaf-requires
       returns-2
-      same-length
-      returns-3
-      same-length-2
-      returns-4
+      (λ c. c .before .before .eval-bool .kept .1 .1 .0)
+      (λ c. c .before .before .eval-bool .ensures)
+      (λ c. c .before .before .eval-select .kept .1 .1 .0)
+      (λ c. c .before .before .eval-select .ensures)
       returns-5
-      same-length-3
-      returns-6
-      same-length-4
-      returns-7
-      same-length-5
+      (λ c. c .before .before .eval-two .kept .1 .1 .0)
+      (λ c. c .before .before .eval-two .ensures)
+      (λ c. c .before .before .eval-one .kept .1 .1 .0)
+      (λ c. c .before .before .eval-one .ensures)
+      (λ c. c .before .before .eval-leaf .kept .1 .0)
       returns-8

@@ -48,12 +48,6 @@ module _ (t : ℕ) where
   abbrev ran₂ : eval-join-lts.After-slice-known3 claims (eval-join-at t) eval-join.Post → eval-join-lts.After-eval-pred2 claims (eval-join-at t) eval-join.Post
   ran₂ c = c .before .before
 
-  node-field-requires : eval-join-lts.Need-node-field-requires claims (eval-join-at t) eval-join.Post
-  node-field-requires c κs = (ready-node (c .before .before .pre .1 .0 .ready), lit< tt)
-
-  sub-eval-pred : eval-join-lts.Need-sub-eval-pred claims (eval-join-at t) eval-join.Post
-  sub-eval-pred c = omega (arith, lent (c .before) .pre .1 .0 .unspent)
-
   eval-pred-requires : eval-join-lts.Need-eval-pred-requires claims (eval-join-at t) eval-join.Post
   eval-pred-requires c κs =
       let f = c .before in
@@ -61,27 +55,12 @@ module _ (t : ℕ) where
       let d = join-child (v .pre .1 .0) (v .pre .1 .1 .0) (v .pre .1 .1 .1) (f .node-field .ensures) in
       (omega (arith, v .pre .0, d .below), join-begins (v .pre .1 .0) (v .pre .1 .1 .0) (v .pre .1 .1 .1) (f .node-field .ensures))
 
-  enum-known-first : eval-join-lts.Need-enum-known-first claims (eval-join-at t) eval-join.Post
-  enum-known-first c = c .match .keys1
-
-  enum-told : eval-join-lts.Need-enum-told claims (eval-join-at t) eval-join.Post
-  enum-told c = c .match .keys2
-
-  same-length : eval-join-lts.Need-same-length claims (eval-join-at t) eval-join.Post
-  same-length c = ran (c .before .before) .eval-pred .kept .1 .1 .0
-
   returns : eval-join-lts.Need-returns claims (eval-join-at t) eval-join.Post
   returns c =
       let e = ran (c .before .before) in
       let f = word e in
       let v = lent f in
       join-stays (v .pre .1 .0) (v .pre .1 .1 .0) (v .pre .1 .1 .1) (f .node-field .ensures) (e .eval-pred .ensures) (c .enum-told .given .1)
-
-  decides-requires : eval-join-lts.Need-decides-requires claims (eval-join-at t) eval-join.Post
-  decides-requires c κs = tt
-
-  same-length-2 : eval-join-lts.Need-same-length-2 claims (eval-join-at t) eval-join.Post
-  same-length-2 c = let m = held (c .before) in ran (m .before .before) .eval-pred .kept .1 .1 .0
 
   returns-2 : eval-join-lts.Need-returns-2 claims (eval-join-at t) eval-join.Post
   returns-2 c =
@@ -92,9 +71,6 @@ module _ (t : ℕ) where
       let v = lent f in
       join-short (v .pre .1 .0) (v .pre .1 .1 .0) (v .pre .1 .1 .1)
       (f .node-field .ensures) (e .eval-pred .ensures) (m .first .given .1) (k .decides .ensures) (c .if1 .taken)
-
-  node-field-requires-2 : eval-join-lts.Need-node-field-requires-2 claims (eval-join-at t) eval-join.Post
-  node-field-requires-2 c κs = let m = held (c .before) in (ready-node (lent (word (ran (m .before .before))) .pre .1 .0 .ready), lit< tt)
 
   eval-pred-requires-2 : eval-join-lts.Need-eval-pred-requires-2 claims (eval-join-at t) eval-join.Post
   eval-pred-requires-2 c κs =
@@ -112,12 +88,6 @@ module _ (t : ℕ) where
             (f .node-field .ensures) (e .eval-pred .ensures) (m .first .given .1) (k .decides .ensures) (g .before .if1 .left)
             (g .node-field2 .ensures),
       )
-
-  enum-known-second : eval-join-lts.Need-enum-known-second claims (eval-join-at t) eval-join.Post
-  enum-known-second c = c .match2 .keys1
-
-  enum-told-2 : eval-join-lts.Need-enum-told-2 claims (eval-join-at t) eval-join.Post
-  enum-told-2 c = c .match2 .keys2
 
   same-length-3 : eval-join-lts.Need-same-length-3 claims (eval-join-at t) eval-join.Post
   same-length-3 c =
@@ -137,9 +107,6 @@ module _ (t : ℕ) where
       join-stays-2 (v .pre .1 .0) (v .pre .1 .1 .0) (v .pre .1 .1 .1)
       (f .node-field .ensures) (e .eval-pred .ensures) (m .first .given .1) (k .decides .ensures) (g .before .if1 .left)
       (g .node-field2 .ensures) (s .eval-pred2 .ensures) (c .enum-told2 .given .1)
-
-  joined-requires : eval-join-lts.Need-joined-requires claims (eval-join-at t) eval-join.Post
-  joined-requires c κs = tt
 
   same-length-4 : eval-join-lts.Need-same-length-4 claims (eval-join-at t) eval-join.Post
   same-length-4 c =
@@ -168,22 +135,22 @@ module _ (t : ℕ) where
       claims
       (eval-join-at t)
       eval-join.Post
-      node-field-requires
-      sub-eval-pred
+      (λ c κs. (ready-node (c .before .before .pre .1 .0 .ready), lit< tt))
+      (λ c. omega (arith, lent (c .before) .pre .1 .0 .unspent))
       eval-pred-requires
-      enum-known-first
-      enum-told
-      same-length
+      (λ c. c .match .keys1)
+      (λ c. c .match .keys2)
+      (λ c. ran (c .before .before) .eval-pred .kept .1 .1 .0)
       returns
-      decides-requires
-      same-length-2
+      (λ c κs. tt)
+      (λ c. let m = held (c .before) in ran (m .before .before) .eval-pred .kept .1 .1 .0)
       returns-2
-      node-field-requires-2
+      (λ c κs. let m = held (c .before) in (ready-node (lent (word (ran (m .before .before))) .pre .1 .0 .ready), lit< tt))
       eval-pred-requires-2
-      enum-known-second
-      enum-told-2
+      (λ c. c .match2 .keys1)
+      (λ c. c .match2 .keys2)
       same-length-3
       returns-3
-      joined-requires
+      (λ c κs. tt)
       same-length-4
       returns-4

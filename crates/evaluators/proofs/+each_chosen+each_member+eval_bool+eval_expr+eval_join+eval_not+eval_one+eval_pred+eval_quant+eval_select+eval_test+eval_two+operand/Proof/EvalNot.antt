@@ -23,35 +23,17 @@ module _ (t : ℕ) where
   abbrev ran : eval-not-lts.After-slice-known2 claims (eval-not-at t) eval-not.Post → eval-not-lts.After-eval-pred claims (eval-not-at t) eval-not.Post
   ran c = c .before .before
 
-  node-field-requires : eval-not-lts.Need-node-field-requires claims (eval-not-at t) eval-not.Post
-  node-field-requires c κs = (ready-node (c .before .before .pre .1 .ready), lit< tt)
-
-  sub-eval-pred : eval-not-lts.Need-sub-eval-pred claims (eval-not-at t) eval-not.Post
-  sub-eval-pred c = omega (arith, lent (c .before) .pre .1 .unspent)
-
   eval-pred-requires : eval-not-lts.Need-eval-pred-requires claims (eval-not-at t) eval-not.Post
   eval-pred-requires c κs =
       let f = c .before in
       let v = lent f in
       (omega (arith, v .pre .0, not-child (v .pre .1) (f .node-field .ensures) .below), not-ready (v .pre .1) (f .node-field .ensures))
 
-  enum-known-first : eval-not-lts.Need-enum-known-first claims (eval-not-at t) eval-not.Post
-  enum-known-first c = c .match .keys1
-
-  enum-told : eval-not-lts.Need-enum-told claims (eval-not-at t) eval-not.Post
-  enum-told c = c .match .keys2
-
-  same-length : eval-not-lts.Need-same-length claims (eval-not-at t) eval-not.Post
-  same-length c = ran (c .before .before) .eval-pred .kept .1 .1 .0
-
   returns : eval-not-lts.Need-returns claims (eval-not-at t) eval-not.Post
   returns c =
       let e = ran (c .before .before) in
       let f = word e in
       not-stays (lent f .pre .1) (f .node-field .ensures) (e .eval-pred .ensures) (c .enum-told .given .1)
-
-  same-length-2 : eval-not-lts.Need-same-length-2 claims (eval-not-at t) eval-not.Post
-  same-length-2 c = ran (c .before .before .before) .eval-pred .kept .1 .1 .0
 
   returns-2 : eval-not-lts.Need-returns-2 claims (eval-not-at t) eval-not.Post
   returns-2 c =
@@ -65,12 +47,12 @@ module _ (t : ℕ) where
       claims
       (eval-not-at t)
       eval-not.Post
-      node-field-requires
-      sub-eval-pred
+      (λ c κs. (ready-node (c .before .before .pre .1 .ready), lit< tt))
+      (λ c. omega (arith, lent (c .before) .pre .1 .unspent))
       eval-pred-requires
-      enum-known-first
-      enum-told
-      same-length
+      (λ c. c .match .keys1)
+      (λ c. c .match .keys2)
+      (λ c. ran (c .before .before) .eval-pred .kept .1 .1 .0)
       returns
-      same-length-2
+      (λ c. ran (c .before .before .before) .eval-pred .kept .1 .1 .0)
       returns-2

@@ -43,27 +43,12 @@ module _ (t : ℕ) where
   abbrev settled : eval-one-lts.After-settle claims (eval-one-at t) eval-one.Post → eval-one-lts.After-one claims (eval-one-at t) eval-one.Post
   settled c = let s = c .before .before in s .before .before
 
-  node-field-requires : eval-one-lts.Need-node-field-requires claims (eval-one-at t) eval-one.Post
-  node-field-requires c κs = (ready-node (c .before .before .pre .1 .0 .ready), lit< tt)
-
-  sub-operand : eval-one-lts.Need-sub-operand claims (eval-one-at t) eval-one.Post
-  sub-operand c = omega (arith, lent (c .before) .pre .1 .0 .unspent)
-
   operand-requires : eval-one-lts.Need-operand-requires claims (eval-one-at t) eval-one.Post
   operand-requires c κs =
       let f = c .before in
       let v = lent f in
       let d = one-child (v .pre .1 .0) (v .pre .1 .1 .0) (v .pre .1 .1 .1) (f .node-field .ensures) in
       (omega (arith, v .pre .0, d .below), one-begins (v .pre .1 .0) (v .pre .1 .1 .0) (v .pre .1 .1 .1) (f .node-field .ensures))
-
-  enum-known-first : eval-one-lts.Need-enum-known-first claims (eval-one-at t) eval-one.Post
-  enum-known-first c = c .match .keys1
-
-  enum-told : eval-one-lts.Need-enum-told claims (eval-one-at t) eval-one.Post
-  enum-told c = c .match .keys2
-
-  same-length : eval-one-lts.Need-same-length claims (eval-one-at t) eval-one.Post
-  same-length c = ran (c .before .before) .operand .kept .1 .1 .0
 
   returns : eval-one-lts.Need-returns claims (eval-one-at t) eval-one.Post
   returns c =
@@ -116,12 +101,12 @@ module _ (t : ℕ) where
       claims
       (eval-one-at t)
       eval-one.Post
-      node-field-requires
-      sub-operand
+      (λ c κs. (ready-node (c .before .before .pre .1 .0 .ready), lit< tt))
+      (λ c. omega (arith, lent (c .before) .pre .1 .0 .unspent))
       operand-requires
-      enum-known-first
-      enum-told
-      same-length
+      (λ c. c .match .keys1)
+      (λ c. c .match .keys2)
+      (λ c. ran (c .before .before) .operand .kept .1 .1 .0)
       returns
       one-requires
       settle-requires

@@ -40,17 +40,11 @@ module _ (t : ℕ) where
   abbrev kinded : eval-pred-lts.At-match-rest claims (eval-pred-at t) eval-pred.Post → eval-pred-lts.After-node-kind claims (eval-pred-at t) eval-pred.Post
   kinded c = c .before .before .before
 
-  refused-requires : eval-pred-lts.Need-refused-requires claims (eval-pred-at t) eval-pred.Post
-  refused-requires c κs = tt
-
   returns : eval-pred-lts.Need-returns claims (eval-pred-at t) eval-pred.Post
   returns c =
       let k = c .before in
       let v = k .before .before .before in
       held-as refl (sym (c .refused .ensures)) (spent-pred (v .pre .1 .0) (k .if1 .taken))
-
-  node-kind-requires : eval-pred-lts.Need-node-kind-requires claims (eval-pred-at t) eval-pred.Post
-  node-kind-requires c κs = let v = c .before .before .before in ready-node (v .pre .1 .0)
 
   eval-not-requires : eval-pred-lts.Need-eval-not-requires claims (eval-pred-at t) eval-pred.Post
   eval-not-requires c κs =
@@ -85,33 +79,6 @@ module _ (t : ℕ) where
       let below = ⊎-elim (λ w. w .taken) (λ w. absurd (omega (arith, w .2 .left, r .before .if3 .taken))) (j .if4 .came) in
       (omega (arith, v .pre .0), (d, join-kind d (v .pre .1 .1) (r .match .rest .1) below))
 
-  refused-requires-2 : eval-pred-lts.Need-refused-requires-2 claims (eval-pred-at t) eval-pred.Post
-  refused-requires-2 c κs = tt
-
-  same-length : eval-pred-lts.Need-same-length claims (eval-pred-at t) eval-pred.Post
-  same-length c = c .before .before .eval-not .kept .1 .1 .0
-
-  returns-2 : eval-pred-lts.Need-returns-2 claims (eval-pred-at t) eval-pred.Post
-  returns-2 c = c .before .before .eval-not .ensures
-
-  same-length-2 : eval-pred-lts.Need-same-length-2 claims (eval-pred-at t) eval-pred.Post
-  same-length-2 c = c .before .before .eval-test .kept .1 .1 .0
-
-  returns-3 : eval-pred-lts.Need-returns-3 claims (eval-pred-at t) eval-pred.Post
-  returns-3 c = c .before .before .eval-test .ensures
-
-  same-length-3 : eval-pred-lts.Need-same-length-3 claims (eval-pred-at t) eval-pred.Post
-  same-length-3 c = c .before .before .eval-quant .kept .1 .1 .0
-
-  returns-4 : eval-pred-lts.Need-returns-4 claims (eval-pred-at t) eval-pred.Post
-  returns-4 c = c .before .before .eval-quant .ensures
-
-  same-length-4 : eval-pred-lts.Need-same-length-4 claims (eval-pred-at t) eval-pred.Post
-  same-length-4 c = c .before .before .eval-join .kept .1 .1 .0
-
-  returns-5 : eval-pred-lts.Need-returns-5 claims (eval-pred-at t) eval-pred.Post
-  returns-5 c = c .before .before .eval-join .ensures
-
   returns-6 : eval-pred-lts.Need-returns-6 claims (eval-pred-at t) eval-pred.Post
   returns-6 c =
       let j = c .before in
@@ -126,20 +93,20 @@ module _ (t : ℕ) where
       claims
       (eval-pred-at t)
       eval-pred.Post
-      refused-requires
+      (λ c κs. tt)
       returns
-      node-kind-requires
+      (λ c κs. let v = c .before .before .before in ready-node (v .pre .1 .0))
       eval-not-requires
       eval-test-requires
       eval-quant-requires
       eval-join-requires
-      refused-requires-2
-      same-length
-      returns-2
-      same-length-2
-      returns-3
-      same-length-3
-      returns-4
-      same-length-4
-      returns-5
+      (λ c κs. tt)
+      (λ c. c .before .before .eval-not .kept .1 .1 .0)
+      (λ c. c .before .before .eval-not .ensures)
+      (λ c. c .before .before .eval-test .kept .1 .1 .0)
+      (λ c. c .before .before .eval-test .ensures)
+      (λ c. c .before .before .eval-quant .kept .1 .1 .0)
+      (λ c. c .before .before .eval-quant .ensures)
+      (λ c. c .before .before .eval-join .kept .1 .1 .0)
+      (λ c. c .before .before .eval-join .ensures)
       returns-6

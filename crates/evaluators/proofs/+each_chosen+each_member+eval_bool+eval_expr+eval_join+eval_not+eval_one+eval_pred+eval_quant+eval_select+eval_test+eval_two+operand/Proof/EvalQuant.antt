@@ -52,12 +52,6 @@ module _ (t : ℕ) where
       eval-quant-lts.After-range claims (eval-quant-at t) eval-quant.Post
   counted c = c .before .before .before
 
-  node-field-requires : eval-quant-lts.Need-node-field-requires claims (eval-quant-at t) eval-quant.Post
-  node-field-requires c κs = (ready-node (c .before .before .pre .1 .0 .ready), lit< tt)
-
-  sub-operand : eval-quant-lts.Need-sub-operand claims (eval-quant-at t) eval-quant.Post
-  sub-operand c = omega (arith, lent (c .before) .pre .1 .0 .unspent)
-
   operand-requires : eval-quant-lts.Need-operand-requires claims (eval-quant-at t) eval-quant.Post
   operand-requires c κs =
       let f = c .before in
@@ -66,18 +60,6 @@ module _ (t : ℕ) where
         quant-range (v .pre .1 .0) (v .pre .1 .1)
             (f .node-field .ensures),
       )
-
-  enum-known-first : eval-quant-lts.Need-enum-known-first claims (eval-quant-at t) eval-quant.Post
-  enum-known-first c = c .match .keys1
-
-  enum-told : eval-quant-lts.Need-enum-told claims (eval-quant-at t) eval-quant.Post
-  enum-told c = c .match .keys2
-
-  refusal-of-requires : eval-quant-lts.Need-refusal-of-requires claims (eval-quant-at t) eval-quant.Post
-  refusal-of-requires c κs = tt
-
-  same-length : eval-quant-lts.Need-same-length claims (eval-quant-at t) eval-quant.Post
-  same-length c = let k = c .before in ran (k .before .before) .operand .kept .1 .1 .0
 
   returns : eval-quant-lts.Need-returns claims (eval-quant-at t) eval-quant.Post
   returns c =
@@ -95,18 +77,6 @@ module _ (t : ℕ) where
       let f = word e in
       let v = lent f in
       range-good (v .pre .1 .0) (v .pre .1 .1) (f .node-field .ensures) (e .operand .ensures) (m .first .given .1)
-
-  enum-known-range : eval-quant-lts.Need-enum-known-range claims (eval-quant-at t) eval-quant.Post
-  enum-known-range c = c .match2 .keys1
-
-  enum-told-2 : eval-quant-lts.Need-enum-told-2 claims (eval-quant-at t) eval-quant.Post
-  enum-told-2 c = c .match2 .keys2
-
-  refused-requires : eval-quant-lts.Need-refused-requires claims (eval-quant-at t) eval-quant.Post
-  refused-requires c κs = tt
-
-  same-length-2 : eval-quant-lts.Need-same-length-2 claims (eval-quant-at t) eval-quant.Post
-  same-length-2 c = let m = asked (c .before .before .before) in ran (m .before .before) .operand .kept .1 .1 .0
 
   returns-2 : eval-quant-lts.Need-returns-2 claims (eval-quant-at t) eval-quant.Post
   returns-2 c =
@@ -167,19 +137,19 @@ module _ (t : ℕ) where
       claims
       (eval-quant-at t)
       eval-quant.Post
-      node-field-requires
-      sub-operand
+      (λ c κs. (ready-node (c .before .before .pre .1 .0 .ready), lit< tt))
+      (λ c. omega (arith, lent (c .before) .pre .1 .0 .unspent))
       operand-requires
-      enum-known-first
-      enum-told
-      refusal-of-requires
-      same-length
+      (λ c. c .match .keys1)
+      (λ c. c .match .keys2)
+      (λ c κs. tt)
+      (λ c. let k = c .before in ran (k .before .before) .operand .kept .1 .1 .0)
       returns
       range-of-requires
-      enum-known-range
-      enum-told-2
-      refused-requires
-      same-length-2
+      (λ c. c .match2 .keys1)
+      (λ c. c .match2 .keys2)
+      (λ c κs. tt)
+      (λ c. let m = asked (c .before .before .before) in ran (m .before .before) .operand .kept .1 .1 .0)
       returns-2
       add-each-member
       each-member-requires

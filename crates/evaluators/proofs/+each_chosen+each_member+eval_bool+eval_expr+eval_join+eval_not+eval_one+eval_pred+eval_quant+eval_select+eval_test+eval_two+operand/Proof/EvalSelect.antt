@@ -62,26 +62,11 @@ module _ (t : ℕ) where
       eval-select-lts.After-chosen claims (eval-select-at t) eval-select.Post
   settled c = c .before .before .before
 
-  node-field-requires : eval-select-lts.Need-node-field-requires claims (eval-select-at t) eval-select.Post
-  node-field-requires c κs = (ready-node (c .before .before .pre .1 .ready), lit< tt)
-
-  sub-operand : eval-select-lts.Need-sub-operand claims (eval-select-at t) eval-select.Post
-  sub-operand c = omega (arith, lent (c .before) .pre .1 .unspent)
-
   operand-requires : eval-select-lts.Need-operand-requires claims (eval-select-at t) eval-select.Post
   operand-requires c κs =
       let f = c .before in
       let v = lent f in
       (omega (arith, v .pre .0, select-child (v .pre .1) (f .node-field .ensures) .below), select-begins (v .pre .1) (f .node-field .ensures))
-
-  enum-known-first : eval-select-lts.Need-enum-known-first claims (eval-select-at t) eval-select.Post
-  enum-known-first c = c .match .keys1
-
-  enum-told : eval-select-lts.Need-enum-told claims (eval-select-at t) eval-select.Post
-  enum-told c = c .match .keys2
-
-  same-length : eval-select-lts.Need-same-length claims (eval-select-at t) eval-select.Post
-  same-length c = ran (c .before .before) .operand .kept .1 .1 .0
 
   returns : eval-select-lts.Need-returns claims (eval-select-at t) eval-select.Post
   returns c =
@@ -98,18 +83,6 @@ module _ (t : ℕ) where
       let f = word e in
       let v = lent f in
       range-good (v .pre .1) (f .node-field .ensures) (formed-as refl (m .first .given .1) (e .operand .ensures))
-
-  enum-known-range : eval-select-lts.Need-enum-known-range claims (eval-select-at t) eval-select.Post
-  enum-known-range c = c .match2 .keys1
-
-  enum-told-2 : eval-select-lts.Need-enum-told-2 claims (eval-select-at t) eval-select.Post
-  enum-told-2 c = c .match2 .keys2
-
-  stopped-requires : eval-select-lts.Need-stopped-requires claims (eval-select-at t) eval-select.Post
-  stopped-requires c κs = tt
-
-  same-length-2 : eval-select-lts.Need-same-length-2 claims (eval-select-at t) eval-select.Post
-  same-length-2 c = let m = asked (c .before .before .before) in ran (m .before .before) .operand .kept .1 .1 .0
 
   returns-2 : eval-select-lts.Need-returns-2 claims (eval-select-at t) eval-select.Post
   returns-2 c =
@@ -144,12 +117,6 @@ module _ (t : ℕ) where
         select-each (v .pre .1) (f .node-field .ensures) (formed-as refl (m .first .given .1) (e .operand .ensures))
             (range-as (a .range .given .1) (o .range-of .ensures)),
       )
-
-  enum-known-chosen : eval-select-lts.Need-enum-known-chosen claims (eval-select-at t) eval-select.Post
-  enum-known-chosen c = c .match3 .keys1
-
-  enum-told-3 : eval-select-lts.Need-enum-told-3 claims (eval-select-at t) eval-select.Post
-  enum-told-3 c = c .match3 .keys2
 
   same-length-3 : eval-select-lts.Need-same-length-3 claims (eval-select-at t) eval-select.Post
   same-length-3 c =
@@ -217,23 +184,23 @@ module _ (t : ℕ) where
       claims
       (eval-select-at t)
       eval-select.Post
-      node-field-requires
-      sub-operand
+      (λ c κs. (ready-node (c .before .before .pre .1 .ready), lit< tt))
+      (λ c. omega (arith, lent (c .before) .pre .1 .unspent))
       operand-requires
-      enum-known-first
-      enum-told
-      same-length
+      (λ c. c .match .keys1)
+      (λ c. c .match .keys2)
+      (λ c. ran (c .before .before) .operand .kept .1 .1 .0)
       returns
       range-of-requires
-      enum-known-range
-      enum-told-2
-      stopped-requires
-      same-length-2
+      (λ c. c .match2 .keys1)
+      (λ c. c .match2 .keys2)
+      (λ c κs. tt)
+      (λ c. let m = asked (c .before .before .before) in ran (m .before .before) .operand .kept .1 .1 .0)
       returns-2
       add-each-chosen
       each-chosen-requires
-      enum-known-chosen
-      enum-told-3
+      (λ c. c .match3 .keys1)
+      (λ c. c .match3 .keys2)
       same-length-3
       returns-3
       settle-requires

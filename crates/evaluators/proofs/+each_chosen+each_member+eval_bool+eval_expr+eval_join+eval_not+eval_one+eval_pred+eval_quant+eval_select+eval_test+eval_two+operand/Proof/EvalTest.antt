@@ -52,12 +52,6 @@ module _ (t : ℕ) where
   abbrev tried : eval-test-lts.After-test claims (eval-test-at t) eval-test.Post → eval-test-lts.After-second claims (eval-test-at t) eval-test.Post
   tried c = c .before .before .before
 
-  node-field-requires : eval-test-lts.Need-node-field-requires claims (eval-test-at t) eval-test.Post
-  node-field-requires c κs = (ready-node (c .before .before .pre .1 .0 .ready), lit< tt)
-
-  sub-operand : eval-test-lts.Need-sub-operand claims (eval-test-at t) eval-test.Post
-  sub-operand c = omega (arith, lent (c .before) .pre .1 .0 .unspent)
-
   operand-requires : eval-test-lts.Need-operand-requires claims (eval-test-at t) eval-test.Post
   operand-requires c κs =
       let f = c .before in
@@ -66,18 +60,6 @@ module _ (t : ℕ) where
         omega (arith, v .pre .0, left-child (v .pre .1 .0 .ready) y (f .node-field .ensures) .below),
         left-ready (v .pre .1 .0 .ready) y (f .node-field .ensures),
       )
-
-  enum-known-first : eval-test-lts.Need-enum-known-first claims (eval-test-at t) eval-test.Post
-  enum-known-first c = c .match .keys1
-
-  enum-told : eval-test-lts.Need-enum-told claims (eval-test-at t) eval-test.Post
-  enum-told c = c .match .keys2
-
-  refusal-of-requires : eval-test-lts.Need-refusal-of-requires claims (eval-test-at t) eval-test.Post
-  refusal-of-requires c κs = tt
-
-  same-length : eval-test-lts.Need-same-length claims (eval-test-at t) eval-test.Post
-  same-length c = let k = c .before in ran (k .before .before) .operand .kept .1 .1 .0
 
   returns : eval-test-lts.Need-returns claims (eval-test-at t) eval-test.Post
   returns c =
@@ -89,9 +71,6 @@ module _ (t : ℕ) where
       (test-stops (v .pre .1 .0) (v .pre .1 .1 .0) (v .pre .1 .1 .1)
       (both-stops (v .pre .1 .0 .ready) (test-fields (v .pre .1 .0) (v .pre .1 .1 .0) (v .pre .1 .1 .1)) (f .node-field .ensures) (e .operand .ensures)
       (k .enum-told .given .1)))
-
-  node-field-requires-2 : eval-test-lts.Need-node-field-requires-2 claims (eval-test-at t) eval-test.Post
-  node-field-requires-2 c κs = let m = c .before in (ready-node (lent (word (ran (m .before .before))) .pre .1 .0 .ready), lit< tt)
 
   operand-requires-2 : eval-test-lts.Need-operand-requires-2 claims (eval-test-at t) eval-test.Post
   operand-requires-2 c κs =
@@ -106,15 +85,6 @@ module _ (t : ℕ) where
         right-ready (v .pre .1 .0 .ready) (test-fields (v .pre .1 .0) (v .pre .1 .1 .0) (v .pre .1 .1 .1)) (f .node-field .ensures)
             (e .operand .ensures) (m .first .given .1) (g .node-field2 .ensures),
       )
-
-  enum-known-second : eval-test-lts.Need-enum-known-second claims (eval-test-at t) eval-test.Post
-  enum-known-second c = c .match2 .keys1
-
-  enum-told-2 : eval-test-lts.Need-enum-told-2 claims (eval-test-at t) eval-test.Post
-  enum-told-2 c = c .match2 .keys2
-
-  refusal-of-requires-2 : eval-test-lts.Need-refusal-of-requires-2 claims (eval-test-at t) eval-test.Post
-  refusal-of-requires-2 c κs = tt
 
   same-length-2 : eval-test-lts.Need-same-length-2 claims (eval-test-at t) eval-test.Post
   same-length-2 c =
@@ -151,15 +121,6 @@ module _ (t : ℕ) where
       (both-formed (v .pre .1 .0 .ready) (test-fields (v .pre .1 .0) (v .pre .1 .1 .0) (v .pre .1 .1 .1)) (f .node-field .ensures)
       (e .operand .ensures) (m .first .given .1) (g .node-field2 .ensures)
       (s .operand2 .ensures) (w .second .given .1))
-
-  enum-known-tested : eval-test-lts.Need-enum-known-tested claims (eval-test-at t) eval-test.Post
-  enum-known-tested c = c .match3 .keys1
-
-  enum-told-3 : eval-test-lts.Need-enum-told-3 claims (eval-test-at t) eval-test.Post
-  enum-told-3 c = c .match3 .keys2
-
-  refused-requires : eval-test-lts.Need-refused-requires claims (eval-test-at t) eval-test.Post
-  refused-requires c κs = tt
 
   same-length-3 : eval-test-lts.Need-same-length-3 claims (eval-test-at t) eval-test.Post
   same-length-3 c =
@@ -213,25 +174,25 @@ module _ (t : ℕ) where
       claims
       (eval-test-at t)
       eval-test.Post
-      node-field-requires
-      sub-operand
+      (λ c κs. (ready-node (c .before .before .pre .1 .0 .ready), lit< tt))
+      (λ c. omega (arith, lent (c .before) .pre .1 .0 .unspent))
       operand-requires
-      enum-known-first
-      enum-told
-      refusal-of-requires
-      same-length
+      (λ c. c .match .keys1)
+      (λ c. c .match .keys2)
+      (λ c κs. tt)
+      (λ c. let k = c .before in ran (k .before .before) .operand .kept .1 .1 .0)
       returns
-      node-field-requires-2
+      (λ c κs. let m = c .before in (ready-node (lent (word (ran (m .before .before))) .pre .1 .0 .ready), lit< tt))
       operand-requires-2
-      enum-known-second
-      enum-told-2
-      refusal-of-requires-2
+      (λ c. c .match2 .keys1)
+      (λ c. c .match2 .keys2)
+      (λ c κs. tt)
       same-length-2
       returns-2
       test-requires
-      enum-known-tested
-      enum-told-3
-      refused-requires
+      (λ c. c .match3 .keys1)
+      (λ c. c .match3 .keys2)
+      (λ c κs. tt)
       same-length-3
       returns-3
       same-length-4

@@ -53,12 +53,6 @@ module _ (t : ℕ) where
   abbrev settled : eval-two-lts.After-settle claims (eval-two-at t) eval-two.Post → eval-two-lts.After-two claims (eval-two-at t) eval-two.Post
   settled c = let s = c .before .before in s .before .before
 
-  node-field-requires : eval-two-lts.Need-node-field-requires claims (eval-two-at t) eval-two.Post
-  node-field-requires c κs = (ready-node (c .before .before .pre .1 .0 .ready), lit< tt)
-
-  sub-operand : eval-two-lts.Need-sub-operand claims (eval-two-at t) eval-two.Post
-  sub-operand c = omega (arith, lent (c .before) .pre .1 .0 .unspent)
-
   operand-requires : eval-two-lts.Need-operand-requires claims (eval-two-at t) eval-two.Post
   operand-requires c κs =
       let f = c .before in
@@ -67,15 +61,6 @@ module _ (t : ℕ) where
         omega (arith, v .pre .0, left-child (v .pre .1 .0 .ready) y (f .node-field .ensures) .below),
         left-ready (v .pre .1 .0 .ready) y (f .node-field .ensures),
       )
-
-  enum-known-first : eval-two-lts.Need-enum-known-first claims (eval-two-at t) eval-two.Post
-  enum-known-first c = c .match .keys1
-
-  enum-told : eval-two-lts.Need-enum-told claims (eval-two-at t) eval-two.Post
-  enum-told c = c .match .keys2
-
-  same-length : eval-two-lts.Need-same-length claims (eval-two-at t) eval-two.Post
-  same-length c = ran (c .before .before) .operand .kept .1 .1 .0
 
   returns : eval-two-lts.Need-returns claims (eval-two-at t) eval-two.Post
   returns c =
@@ -86,9 +71,6 @@ module _ (t : ℕ) where
       (two-fails (v .pre .1 .0) (v .pre .1 .1 .0) (v .pre .1 .1 .1)
       (both-stops (v .pre .1 .0 .ready) (two-fields (v .pre .1 .0) (v .pre .1 .1 .0) (v .pre .1 .1 .1)) (f .node-field .ensures) (e .operand .ensures)
       (c .enum-told .given .1)))
-
-  node-field-requires-2 : eval-two-lts.Need-node-field-requires-2 claims (eval-two-at t) eval-two.Post
-  node-field-requires-2 c κs = let m = c .before in (ready-node (lent (word (ran (m .before .before))) .pre .1 .0 .ready), lit< tt)
 
   operand-requires-2 : eval-two-lts.Need-operand-requires-2 claims (eval-two-at t) eval-two.Post
   operand-requires-2 c κs =
@@ -103,12 +85,6 @@ module _ (t : ℕ) where
         right-ready (v .pre .1 .0 .ready) (two-fields (v .pre .1 .0) (v .pre .1 .1 .0) (v .pre .1 .1 .1)) (f .node-field .ensures)
             (e .operand .ensures) (m .first .given .1) (g .node-field2 .ensures),
       )
-
-  enum-known-second : eval-two-lts.Need-enum-known-second claims (eval-two-at t) eval-two.Post
-  enum-known-second c = c .match2 .keys1
-
-  enum-told-2 : eval-two-lts.Need-enum-told-2 claims (eval-two-at t) eval-two.Post
-  enum-told-2 c = c .match2 .keys2
 
   same-length-2 : eval-two-lts.Need-same-length-2 claims (eval-two-at t) eval-two.Post
   same-length-2 c =
@@ -190,17 +166,17 @@ module _ (t : ℕ) where
       claims
       (eval-two-at t)
       eval-two.Post
-      node-field-requires
-      sub-operand
+      (λ c κs. (ready-node (c .before .before .pre .1 .0 .ready), lit< tt))
+      (λ c. omega (arith, lent (c .before) .pre .1 .0 .unspent))
       operand-requires
-      enum-known-first
-      enum-told
-      same-length
+      (λ c. c .match .keys1)
+      (λ c. c .match .keys2)
+      (λ c. ran (c .before .before) .operand .kept .1 .1 .0)
       returns
-      node-field-requires-2
+      (λ c κs. let m = c .before in (ready-node (lent (word (ran (m .before .before))) .pre .1 .0 .ready), lit< tt))
       operand-requires-2
-      enum-known-second
-      enum-told-2
+      (λ c. c .match2 .keys1)
+      (λ c. c .match2 .keys2)
       same-length-2
       returns-2
       two-requires

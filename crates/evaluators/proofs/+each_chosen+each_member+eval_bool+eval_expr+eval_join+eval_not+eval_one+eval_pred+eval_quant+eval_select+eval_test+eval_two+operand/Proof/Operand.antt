@@ -16,21 +16,6 @@ module _ (t : ℕ) where
   abbrev lent : operand-lts.After-leaf-place claims (operand-at t) operand.Post → operand-lts.Start claims (operand-at t) operand.Post
   lent c = c .before .before .before
 
-  leaf-place-requires : operand-lts.Need-leaf-place-requires claims (operand-at t) operand.Post
-  leaf-place-requires c κs = place-ready (c .before .before .pre .1 .0)
-
-  eval-expr-requires : operand-lts.Need-eval-expr-requires claims (operand-at t) operand.Post
-  eval-expr-requires c κs = let v = lent (c .before .before) in (omega (arith, v .pre .0), v .pre .1)
-
-  same-length : operand-lts.Need-same-length claims (operand-at t) operand.Post
-  same-length c = c .before .before .eval-expr .kept .1 .1 .0
-
-  returns : operand-lts.Need-returns claims (operand-at t) operand.Post
-  returns c = c .before .before .eval-expr .ensures
-
-  sub-t12 : operand-lts.Need-sub-t12 claims (operand-at t) operand.Post
-  sub-t12 c = let v = lent (c .before .before) in omega (arith, eqb-false (v .args .left) 0 (c .if2 .left))
-
   returns-2 : operand-lts.Need-returns-2 claims (operand-at t) operand.Post
   returns-2 c =
       let i = c .before in
@@ -44,9 +29,9 @@ module _ (t : ℕ) where
       claims
       (operand-at t)
       operand.Post
-      leaf-place-requires
-      eval-expr-requires
-      same-length
-      returns
-      sub-t12
+      (λ c κs. place-ready (c .before .before .pre .1 .0))
+      (λ c κs. let v = lent (c .before .before) in (omega (arith, v .pre .0), v .pre .1))
+      (λ c. c .before .before .eval-expr .kept .1 .1 .0)
+      (λ c. c .before .before .eval-expr .ensures)
+      (λ c. let v = lent (c .before .before) in omega (arith, eqb-false (v .args .left) 0 (c .if2 .left)))
       returns-2

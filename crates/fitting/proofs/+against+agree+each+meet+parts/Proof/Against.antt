@@ -32,12 +32,6 @@ module _ (t : ℕ) where
   next : (l : Turn) → SomeTyped (lent l .args .s .now) (l .before .loop .j)
   next l = run-first _ _ _ (l .before .loop .inv .0) (l .loop-test .taken)
 
-  loop-holds : lts.Need-loop-holds claims (against-at t) against.Post Inv-loop μ-loop
-  loop-holds c = (c .before .pre .1 .second, λ r g. g)
-
-  agree-requires : lts.Need-agree-requires claims (against-at t) against.Post Inv-loop μ-loop
-  agree-requires c κs = let p = lent c .pre in (omega (arith, p .0), record { first = p .1 .first; second = next c })
-
   returns : lts.Need-returns claims (against-at t) against.Post Inv-loop μ-loop
   returns c =
       let l = c .before .before in
@@ -50,21 +44,12 @@ module _ (t : ℕ) where
       l .before .loop .inv .1 true
       (with-last _ _ _ _ (c .if2 .taken) (λ v w h k. sym (not-false _ (c .before .if1 .left)) ∙ c .before .before .agree .ensures v w h k))
 
-  end-of-requires : lts.Need-end-of-requires claims (against-at t) against.Post Inv-loop μ-loop
-  end-of-requires c κs = some-at (next (c .before .before .before))
-
   -- The next value is to be tested.
   abbrev tested : lts.After-end-of claims (against-at t) against.Post Inv-loop μ-loop → lts.Else1 claims (against-at t) against.Post Inv-loop μ-loop
   tested c = c .before .before
 
   abbrev turn : lts.Else1 claims (against-at t) against.Post Inv-loop μ-loop → Turn
   turn m = m .before .before
-
-  sub-left : lts.Need-sub-left claims (against-at t) against.Post Inv-loop μ-loop
-  sub-left c = omega (arith, turn (tested c) .loop-test .taken)
-
-  loop-less : lts.Need-loop-less claims (against-at t) against.Post Inv-loop μ-loop
-  loop-less c = omega (arith, turn (tested c) .loop-test .taken)
 
   loop-again : lts.Need-loop-again claims (against-at t) against.Post Inv-loop μ-loop
   loop-again c =
@@ -76,9 +61,6 @@ module _ (t : ℕ) where
             (with-step _ _ _ _ _ r q (λ v w h k. sym (not-false _ (m .if1 .left)) ∙ m .before .agree .ensures v w h k) (c .end-of .ensures) g),
       )
 
-  returns-3 : lts.Need-returns-3 claims (against-at t) against.Post Inv-loop μ-loop
-  returns-3 c = c .before .loop .inv .1 true (with-end _ _ _ _ (omega (arith, c .loop-test .left)))
-
   pub against-closed : {M : Type 1} → lts.Closed claims (against-at t) against.Post M
   against-closed =
       lts.spec
@@ -87,12 +69,12 @@ module _ (t : ℕ) where
       against.Post
       Inv-loop
       μ-loop
-      loop-holds
-      agree-requires
+      (λ c. (c .before .pre .1 .second, λ r g. g))
+      (λ c κs. let p = lent c .pre in (omega (arith, p .0), record { first = p .1 .first; second = next c }))
       returns
       returns-2
-      end-of-requires
-      sub-left
-      loop-less
+      (λ c κs. some-at (next (c .before .before .before)))
+      (λ c. omega (arith, turn (tested c) .loop-test .taken))
+      (λ c. omega (arith, turn (tested c) .loop-test .taken))
       loop-again
-      returns-3
+      (λ c. c .before .loop .inv .1 true (with-end _ _ _ _ (omega (arith, c .loop-test .left))))

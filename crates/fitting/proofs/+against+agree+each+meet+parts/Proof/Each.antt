@@ -32,9 +32,6 @@ module _ (t : ℕ) where
   next : (l : InTurn) → SomeTyped (lent l .args .s .now) (l .before .loop .i)
   next l = run-first _ _ _ (l .before .loop .inv .run) (l .loop-test .taken)
 
-  loop-holds : lts.Need-loop-holds claims (each-at t) each.Post Inv-loop μ-loop
-  loop-holds c = turn-start (c .before .pre .1)
-
   against-requires : lts.Need-against-requires claims (each-at t) each.Post Inv-loop μ-loop
   against-requires c κs =
       let p = lent c .pre in
@@ -46,23 +43,11 @@ module _ (t : ℕ) where
       l .before .loop .inv .rest false
       (all-false _ _ _ _ _ (l .loop-test .taken) (λ v ws h k. sym (not-true _ (c .if1 .taken)) ∙ c .before .against .ensures v ws h k))
 
-  end-of-requires : lts.Need-end-of-requires claims (each-at t) each.Post Inv-loop μ-loop
-  end-of-requires c κs = some-at (next (c .before .before))
-
-  sub-left : lts.Need-sub-left claims (each-at t) each.Post Inv-loop μ-loop
-  sub-left c = omega (arith, c .before .before .before .loop-test .taken)
-
-  loop-less : lts.Need-loop-less claims (each-at t) each.Post Inv-loop μ-loop
-  loop-less c = omega (arith, c .before .before .before .loop-test .taken)
-
   loop-again : lts.Need-loop-again claims (each-at t) each.Post Inv-loop μ-loop
   loop-again c =
       let l = c .before .before .before in
       turn-step _ _ _ _ _ _ _ _ (l .before .loop .inv) (l .loop-test .taken) (c .end-of .ensures)
       (λ v ws h k. sym (not-false _ (c .before .if1 .left)) ∙ c .before .before .against .ensures v ws h k)
-
-  returns-2 : lts.Need-returns-2 claims (each-at t) each.Post Inv-loop μ-loop
-  returns-2 c = c .before .loop .inv .rest true (all-end _ _ _ _ _ (omega (arith, c .loop-test .left)))
 
   pub each-closed : {M : Type 1} → lts.Closed claims (each-at t) each.Post M
   each-closed =
@@ -72,11 +57,11 @@ module _ (t : ℕ) where
       each.Post
       Inv-loop
       μ-loop
-      loop-holds
+      (λ c. turn-start (c .before .pre .1))
       against-requires
       returns
-      end-of-requires
-      sub-left
-      loop-less
+      (λ c κs. some-at (next (c .before .before)))
+      (λ c. omega (arith, c .before .before .before .loop-test .taken))
+      (λ c. omega (arith, c .before .before .before .loop-test .taken))
       loop-again
-      returns-2
+      (λ c. c .before .loop .inv .rest true (all-end _ _ _ _ _ (omega (arith, c .loop-test .left))))

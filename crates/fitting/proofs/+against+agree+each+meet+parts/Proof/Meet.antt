@@ -64,45 +64,12 @@ module _ (t : ℕ) where
   pair-b : (c : Others) → getD (lent (c .before) .args .s .now) (lent (c .before) .args .b) 0 / 4294967296 ≡ 4
   pair-b c = let m = c .before in sym (tag-b m) ∙ tag-a m ∙ pair-a c
 
-  mul-tag : lts.Need-mul-tag claims (meet-at t) meet.Post
-  mul-tag c = omega (arith, inside _ _ (c .before .pre .1 .0 .first))
-
-  shared-slice-read-tag : lts.Need-shared-slice-read-tag claims (meet-at t) meet.Post
-  shared-slice-read-tag c = inside _ _ (c .before .before .pre .1 .0 .first)
-
-  tag-requires : lts.Need-tag-requires claims (meet-at t) meet.Post
-  tag-requires c κs = search needs
-
-  mul-tag-2 : lts.Need-mul-tag-2 claims (meet-at t) meet.Post
-  mul-tag-2 c = omega (arith, inside _ _ (c .before .before .before .pre .1 .0 .second))
-
-  shared-slice-read-tag-2 : lts.Need-shared-slice-read-tag-2 claims (meet-at t) meet.Post
-  shared-slice-read-tag-2 c = let m = c .before in inside _ _ (m .before .before .before .pre .1 .0 .second)
-
-  tag-requires-2 : lts.Need-tag-requires-2 claims (meet-at t) meet.Post
-  tag-requires-2 c κs = search needs
-
-  returns : lts.Need-returns claims (meet-at t) meet.Post
-  returns c = unlike _ _ _ (λ e. c .if1 .taken (c .before .before .before .tag .ensures ∙ e ∙ sym (c .before .tag2 .ensures)))
-
-  members-requires : lts.Need-members-requires claims (meet-at t) meet.Post
-  members-requires c κs = set-a c
-
-  members-requires-2 : lts.Need-members-requires-2 claims (meet-at t) meet.Post
-  members-requires-2 c κs = set-b (c .before)
-
   -- It is known how many of the members stand for all.
   abbrev Counted : Type 0
   Counted = lts.After-members2 claims (meet-at t) meet.Post
 
   abbrev sets : Counted → Sets
   sets m = m .before .before
-
-  add-against : lts.Need-add-against claims (meet-at t) meet.Post
-  add-against c = omega (arith, inside _ _ (set-a (sets (c .before)) .value))
-
-  add-against-2 : lts.Need-add-against-2 claims (meet-at t) meet.Post
-  add-against-2 c = omega (arith, inside _ _ (set-b (sets (c .before)) .value))
 
   against-requires : lts.Need-against-requires claims (meet-at t) meet.Post
   against-requires c κs =
@@ -119,12 +86,6 @@ module _ (t : ℕ) where
       sets-agree _ _ _ _ _ _ (set-a p .isSet) (set-b p .isSet) (m .before .members .ensures) (m .members2 .ensures)
       (all-one _ _ _ _ _ _ (c .before .if3 .taken) (c .against .ensures))
 
-  add-each : lts.Need-add-each claims (meet-at t) meet.Post
-  add-each c = omega (arith, inside _ _ (set-a (sets (c .before)) .value))
-
-  add-each-2 : lts.Need-add-each-2 claims (meet-at t) meet.Post
-  add-each-2 c = omega (arith, inside _ _ (set-b (sets (c .before)) .value))
-
   each-requires : lts.Need-each-requires claims (meet-at t) meet.Post
   each-requires c κs =
       let m = c .before in
@@ -139,19 +100,10 @@ module _ (t : ℕ) where
       let p = sets m in
       sets-agree _ _ _ _ _ _ (set-a p .isSet) (set-b p .isSet) (m .before .members .ensures) (m .members2 .ensures) (c .each .ensures)
 
-  add-parts : lts.Need-add-parts claims (meet-at t) meet.Post
-  add-parts c = omega (arith, inside _ _ (lent (c .before) .pre .1 .0 .first))
-
-  add-parts-2 : lts.Need-add-parts-2 claims (meet-at t) meet.Post
-  add-parts-2 c = omega (arith, inside _ _ (lent (c .before) .pre .1 .0 .second))
-
   parts-requires : lts.Need-parts-requires claims (meet-at t) meet.Post
   parts-requires c κs =
       let p = lent (c .before) .pre in
       (omega (arith, p .0, inside _ _ (p .1 .0 .first)), pair-parts _ _ _ (p .1 .0) (pair-a c) (pair-b c))
-
-  returns-4 : lts.Need-returns-4 claims (meet-at t) meet.Post
-  returns-4 c = pairs-agree _ _ _ _ (pair-a (c .before)) (pair-b (c .before)) (c .parts .ensures)
 
   pub meet-closed : {M : Type 1} → lts.Closed claims (meet-at t) meet.Post M
   meet-closed =
@@ -159,24 +111,24 @@ module _ (t : ℕ) where
       claims
       (meet-at t)
       meet.Post
-      mul-tag
-      shared-slice-read-tag
-      tag-requires
-      mul-tag-2
-      shared-slice-read-tag-2
-      tag-requires-2
-      returns
-      members-requires
-      members-requires-2
-      add-against
-      add-against-2
+      (λ c. omega (arith, inside _ _ (c .before .pre .1 .0 .first)))
+      (λ c. inside _ _ (c .before .before .pre .1 .0 .first))
+      (λ c κs. search needs)
+      (λ c. omega (arith, inside _ _ (c .before .before .before .pre .1 .0 .second)))
+      (λ c. let m = c .before in inside _ _ (m .before .before .before .pre .1 .0 .second))
+      (λ c κs. search needs)
+      (λ c. unlike _ _ _ (λ e. c .if1 .taken (c .before .before .before .tag .ensures ∙ e ∙ sym (c .before .tag2 .ensures))))
+      (λ c κs. set-a c)
+      (λ c κs. set-b (c .before))
+      (λ c. omega (arith, inside _ _ (set-a (sets (c .before)) .value)))
+      (λ c. omega (arith, inside _ _ (set-b (sets (c .before)) .value)))
       against-requires
       returns-2
-      add-each
-      add-each-2
+      (λ c. omega (arith, inside _ _ (set-a (sets (c .before)) .value)))
+      (λ c. omega (arith, inside _ _ (set-b (sets (c .before)) .value)))
       each-requires
       returns-3
-      add-parts
-      add-parts-2
+      (λ c. omega (arith, inside _ _ (lent (c .before) .pre .1 .0 .first)))
+      (λ c. omega (arith, inside _ _ (lent (c .before) .pre .1 .0 .second)))
       parts-requires
-      returns-4
+      (λ c. pairs-agree _ _ _ _ (pair-a (c .before)) (pair-b (c .before)) (c .parts .ensures))

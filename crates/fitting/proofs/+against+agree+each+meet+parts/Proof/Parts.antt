@@ -21,18 +21,6 @@ module _ (t : ℕ) where
   abbrev lent : Tested → lts.Start claims (parts-at t) parts.Post
   lent m = m .before .before
 
-  agree-requires : lts.Need-agree-requires claims (parts-at t) parts.Post
-  agree-requires c κs = let p = c .before .pre in (omega (arith, p .0), record { first = p .1 .left; second = p .1 .otherLeft })
-
-  returns : lts.Need-returns claims (parts-at t) parts.Post
-  returns c = parts-false _ _ _ (λ v w h k. sym (not-true _ (c .if1 .taken)) ∙ c .before .agree .ensures v w h k)
-
-  end-of-requires : lts.Need-end-of-requires claims (parts-at t) parts.Post
-  end-of-requires c κs = some-at (lent (c .before) .pre .1 .left)
-
-  end-of-requires-2 : lts.Need-end-of-requires-2 claims (parts-at t) parts.Post
-  end-of-requires-2 c κs = some-at (lent (c .before .before) .pre .1 .otherLeft)
-
   agree-requires-2 : lts.Need-agree-requires-2 claims (parts-at t) parts.Post
   agree-requires-2 c κs =
       let p = lent (c .before .before .before) .pre in
@@ -51,9 +39,9 @@ module _ (t : ℕ) where
       claims
       (parts-at t)
       parts.Post
-      agree-requires
-      returns
-      end-of-requires
-      end-of-requires-2
+      (λ c κs. let p = c .before .pre in (omega (arith, p .0), record { first = p .1 .left; second = p .1 .otherLeft }))
+      (λ c. parts-false _ _ _ (λ v w h k. sym (not-true _ (c .if1 .taken)) ∙ c .before .agree .ensures v w h k))
+      (λ c κs. some-at (lent (c .before) .pre .1 .left))
+      (λ c κs. some-at (lent (c .before .before) .pre .1 .otherLeft))
       agree-requires-2
       returns-2

@@ -31,9 +31,6 @@ module _ (t : ℕ) where
   first : (l : Turn) → SomeAt (lent l .args .s .now) (l .before .loop .i)
   first l = through-first _ _ _ _ _ _ _ (l .before .loop .inv) (l .loop-test .taken)
 
-  loop-holds : lts.Need-loop-holds claims (all-of-type-at t) all-of-type.Post Inv-loop μ-loop
-  loop-holds c = record { rest = c .before .before .pre .1; from-at = omega arith; whole-of = λ r g. g }
-
   has-type-requires : lts.Need-has-type-requires claims (all-of-type-at t) all-of-type.Post Inv-loop μ-loop
   has-type-requires c κs =
       let p = c .before .loop .inv in
@@ -45,23 +42,11 @@ module _ (t : ℕ) where
       l .before .loop .inv .whole-of false
       (all-of-no _ _ _ _ _ _ (l .loop-test .taken) (c .before .has-type .ensures) (not-true _ (c .if1 .taken)))
 
-  end-of-requires : lts.Need-end-of-requires claims (all-of-type-at t) all-of-type.Post Inv-loop μ-loop
-  end-of-requires c κs = first (c .before .before)
-
-  sub-left : lts.Need-sub-left claims (all-of-type-at t) all-of-type.Post Inv-loop μ-loop
-  sub-left c = omega (arith, c .before .before .before .loop-test .taken)
-
-  loop-less : lts.Need-loop-less claims (all-of-type-at t) all-of-type.Post Inv-loop μ-loop
-  loop-less c = omega (arith, c .before .before .before .loop-test .taken)
-
   loop-again : lts.Need-loop-again claims (all-of-type-at t) all-of-type.Post Inv-loop μ-loop
   loop-again c =
       let l = c .before .before .before in
       through-step _ _ _ _ _ _ _ (l .before .loop .inv) (l .loop-test .taken)
       _ _ (c .end-of .ensures) (c .before .before .has-type .ensures) (not-false _ (c .before .if1 .left))
-
-  returns-2 : lts.Need-returns-2 claims (all-of-type-at t) all-of-type.Post Inv-loop μ-loop
-  returns-2 c = c .before .loop .inv .whole-of true (all-of-end _ _ _ _ _ (omega (arith, c .loop-test .left)))
 
   pub all-of-type-closed : {M : Type 1} → lts.Closed claims (all-of-type-at t) all-of-type.Post M
   all-of-type-closed =
@@ -71,11 +56,11 @@ module _ (t : ℕ) where
       all-of-type.Post
       Inv-loop
       μ-loop
-      loop-holds
+      (λ c. record { rest = c .before .before .pre .1; from-at = omega arith; whole-of = λ r g. g })
       has-type-requires
       returns
-      end-of-requires
-      sub-left
-      loop-less
+      (λ c κs. first (c .before .before))
+      (λ c. omega (arith, c .before .before .before .loop-test .taken))
+      (λ c. omega (arith, c .before .before .before .loop-test .taken))
       loop-again
-      returns-2
+      (λ c. c .before .loop .inv .whole-of true (all-of-end _ _ _ _ _ (omega (arith, c .loop-test .left))))

@@ -61,30 +61,6 @@ module _ (t : ℕ) where
   abbrev pair-tagged : Product → Tagged
   pair-tagged c = c .before .before .before
 
-  mul-x : lts.Need-mul-x claims (has-type-at t) has-type.Post
-  mul-x c = omega (arith, value-inside (c .before .before))
-
-  shared-slice-read-x : lts.Need-shared-slice-read-x claims (has-type-at t) has-type.Post
-  shared-slice-read-x c = value-inside (c .before .before .before)
-
-  shared-slice-read-c : lts.Need-shared-slice-read-c claims (has-type-at t) has-type.Post
-  shared-slice-read-c c = let m = c .before in code-inside (m .before .before .before)
-
-  tag-requires : lts.Need-tag-requires claims (has-type-at t) has-type.Post
-  tag-requires c κs = search needs
-
-  returns : lts.Need-returns claims (has-type-at t) has-type.Post
-  returns c = set-no _ _ _ _ (sym (tag-of (c .before .before)) ∙ c .before .if1 .taken) (c .if2 .taken)
-
-  low-requires : lts.Need-low-requires claims (has-type-at t) has-type.Post
-  low-requires c κs = search needs
-
-  add-all-of-type : lts.Need-add-all-of-type claims (has-type-at t) has-type.Post
-  add-all-of-type c = omega (arith, value-inside (lent (set-tagged c)))
-
-  add-all-of-type-2 : lts.Need-add-all-of-type-2 claims (has-type-at t) has-type.Post
-  add-all-of-type-2 c = omega (arith, code-inside (lent (set-tagged c)))
-
   all-of-type-requires : lts.Need-all-of-type-requires claims (has-type-at t) has-type.Post
   all-of-type-requires c κs =
       let m = set-tagged c in
@@ -100,15 +76,6 @@ module _ (t : ℕ) where
       set-type _ _ _ _ _ _ (sym (tag-of (set-tagged d)) ∙ d .before .before .if1 .taken) (d .before .if2 .left) (d .low .ensures .0)
       (c .all-of-type .ensures)
 
-  returns-3 : lts.Need-returns-3 claims (has-type-at t) has-type.Post
-  returns-3 c = pair-no _ _ _ _ (sym (tag-of (c .before .before .before)) ∙ c .before .if3 .taken) (c .if4 .taken)
-
-  add-parts-of-type : lts.Need-add-parts-of-type claims (has-type-at t) has-type.Post
-  add-parts-of-type c = omega (arith, value-inside (lent (pair-tagged c)))
-
-  add-parts-of-type-2 : lts.Need-add-parts-of-type-2 claims (has-type-at t) has-type.Post
-  add-parts-of-type-2 c = omega (arith, code-inside (lent (pair-tagged c)))
-
   parts-of-type-requires : lts.Need-parts-of-type-requires claims (has-type-at t) has-type.Post
   parts-of-type-requires c κs =
       let m = pair-tagged c in
@@ -122,9 +89,6 @@ module _ (t : ℕ) where
       let d = c .before in
       pair-type _ _ _ _ _ (sym (tag-of (pair-tagged d)) ∙ d .before .if3 .taken) (d .if4 .left) (c .parts-of-type .ensures)
 
-  atom-is-requires : lts.Need-atom-is-requires claims (has-type-at t) has-type.Post
-  atom-is-requires c κs = search needs
-
   returns-5 : lts.Need-returns-5 claims (has-type-at t) has-type.Post
   returns-5 c =
       let m = c .before .before .before in
@@ -137,20 +101,20 @@ module _ (t : ℕ) where
       claims
       (has-type-at t)
       has-type.Post
-      mul-x
-      shared-slice-read-x
-      shared-slice-read-c
-      tag-requires
-      returns
-      low-requires
-      add-all-of-type
-      add-all-of-type-2
+      (λ c. omega (arith, value-inside (c .before .before)))
+      (λ c. value-inside (c .before .before .before))
+      (λ c. let m = c .before in code-inside (m .before .before .before))
+      (λ c κs. search needs)
+      (λ c. set-no _ _ _ _ (sym (tag-of (c .before .before)) ∙ c .before .if1 .taken) (c .if2 .taken))
+      (λ c κs. search needs)
+      (λ c. omega (arith, value-inside (lent (set-tagged c))))
+      (λ c. omega (arith, code-inside (lent (set-tagged c))))
       all-of-type-requires
       returns-2
-      returns-3
-      add-parts-of-type
-      add-parts-of-type-2
+      (λ c. pair-no _ _ _ _ (sym (tag-of (c .before .before .before)) ∙ c .before .if3 .taken) (c .if4 .taken))
+      (λ c. omega (arith, value-inside (lent (pair-tagged c))))
+      (λ c. omega (arith, code-inside (lent (pair-tagged c))))
       parts-of-type-requires
       returns-4
-      atom-is-requires
+      (λ c κs. search needs)
       returns-5

@@ -21,18 +21,6 @@ module _ (t : ℕ) where
   abbrev lent : Tested → lts.Start claims (parts-of-type-at t) parts-of-type.Post
   lent m = m .before .before .before
 
-  has-type-requires : lts.Need-has-type-requires claims (parts-of-type-at t) parts-of-type.Post
-  has-type-requires c κs = let p = c .before .before .pre in (omega (arith, p .0), (p .1 .left, p .1 .type))
-
-  returns : lts.Need-returns claims (parts-of-type-at t) parts-of-type.Post
-  returns c = parts-no _ _ _ _ _ (c .before .has-type .ensures) (not-true _ (c .if1 .taken))
-
-  end-of-requires : lts.Need-end-of-requires claims (parts-of-type-at t) parts-of-type.Post
-  end-of-requires c κs = lent (c .before) .pre .1 .left
-
-  type-end-requires : lts.Need-type-end-requires claims (parts-of-type-at t) parts-of-type.Post
-  type-end-requires c κs = lent (c .before .before) .pre .1 .type
-
   has-type-requires-2 : lts.Need-has-type-requires-2 claims (parts-of-type-at t) parts-of-type.Post
   has-type-requires-2 c κs =
       let p = lent (c .before .before .before) .pre in
@@ -51,9 +39,9 @@ module _ (t : ℕ) where
       claims
       (parts-of-type-at t)
       parts-of-type.Post
-      has-type-requires
-      returns
-      end-of-requires
-      type-end-requires
+      (λ c κs. let p = c .before .before .pre in (omega (arith, p .0), (p .1 .left, p .1 .type)))
+      (λ c. parts-no _ _ _ _ _ (c .before .has-type .ensures) (not-true _ (c .if1 .taken)))
+      (λ c κs. lent (c .before) .pre .1 .left)
+      (λ c κs. lent (c .before .before) .pre .1 .type)
       has-type-requires-2
       returns-2

@@ -7,26 +7,11 @@ use borrow.Author.Needs.{needs}
 use Rattle.operations.proofs.double.merge.Statement.{statement}
 use Rattle.operations.proofs.double.merge.Tie as tie
 
-alike-sets-requires : tie.Need-alike-sets-requires
-alike-sets-requires c κs = ready-both (c .before .before .pre)
-
-same-length : tie.Need-same-length
-same-length c = search needs
-
-returns : tie.Need-returns
-returns c = merge-unfit (c .before .alike-sets .ensures) (not-true _ (c .if1 .taken))
-
 merge-requires : tie.Need-merge-requires
 merge-requires c κs =
     let p = c .before .before .before .before .before .pre in
     let v = ready-sets p t̂ t̂ (c .before .before .alike-sets .ensures) (not-false _ (c .before .if1 .left)) in
     (v .0, v .1, p .room)
-
-built-requires : tie.Need-built-requires
-built-requires c κs = search needs
-
-same-length-2 : tie.Need-same-length-2
-same-length-2 c = search needs
 
 returns-2 : tie.Need-returns-2
 returns-2 c =
@@ -37,10 +22,10 @@ pub merge-spec : {M : Type 1} → statement M
 merge-spec =
     tie.close
     (tie.spec
-    alike-sets-requires
-    same-length
-    returns
+    (λ c κs. ready-both (c .before .before .pre))
+    (λ c. search needs)
+    (λ c. merge-unfit (c .before .alike-sets .ensures) (not-true _ (c .if1 .taken)))
     merge-requires
-    built-requires
-    same-length-2
+    (λ c κs. search needs)
+    (λ c. search needs)
     returns-2)

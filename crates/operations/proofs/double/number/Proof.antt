@@ -5,24 +5,6 @@ use borrow.Author.Needs.{needs}
 use Rattle.operations.proofs.double.number.Statement.{statement}
 use Rattle.operations.proofs.double.number.Tie as tie
 
-returns : tie.Need-returns
-returns c = number-low _ _ _ (c .if1 .taken)
-
-returns-2 : tie.Need-returns-2
-returns-2 c = number-high _ _ _ (c .if2 .taken)
-
-add-put-cell : tie.Need-add-put-cell
-add-put-cell c = search needs
-
-put-cell-requires : tie.Need-put-cell-requires
-put-cell-requires c κs = search needs
-
-built-requires : tie.Need-built-requires
-built-requires c κs = search needs
-
-same-length : tie.Need-same-length
-same-length c = search needs
-
 returns-3 : tie.Need-returns-3
 returns-3 c =
     let f = c .before .before .before .before .before in
@@ -32,10 +14,10 @@ pub number-spec : {M : Type 1} → statement M
 number-spec =
     tie.close
     (tie.spec
-    returns
-    returns-2
-    add-put-cell
-    put-cell-requires
-    built-requires
-    same-length
+    (λ c. number-low _ _ _ (c .if1 .taken))
+    (λ c. number-high _ _ _ (c .if2 .taken))
+    (λ c. search needs)
+    (λ c κs. search needs)
+    (λ c κs. search needs)
+    (λ c. search needs)
     returns-3)

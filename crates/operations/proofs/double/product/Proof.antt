@@ -8,26 +8,11 @@ use borrow.Author.Needs.{needs}
 use Rattle.operations.proofs.double.product.Statement.{statement}
 use Rattle.operations.proofs.double.product.Tie as tie
 
-sets-requires : tie.Need-sets-requires
-sets-requires c κs = ready-both (c .before .before .pre)
-
-same-length : tie.Need-same-length
-same-length c = search needs
-
-returns : tie.Need-returns
-returns c = unfit-done product (c .before .sets .ensures) (not-true _ (c .if1 .taken))
-
 product-requires : tie.Need-product-requires
 product-requires c κs =
     let p = c .before .before .before .before .before .pre in
     let v = ready-sets p t̂ û (c .before .before .sets .ensures) (not-false _ (c .before .if1 .left)) in
     (v .0, v .1, p .room)
-
-built-requires : tie.Need-built-requires
-built-requires c κs = search needs
-
-same-length-2 : tie.Need-same-length-2
-same-length-2 c = search needs
 
 returns-2 : tie.Need-returns-2
 returns-2 c =
@@ -38,10 +23,10 @@ pub product-spec : {M : Type 1} → statement M
 product-spec =
     tie.close
     (tie.spec
-    sets-requires
-    same-length
-    returns
+    (λ c κs. ready-both (c .before .before .pre))
+    (λ c. search needs)
+    (λ c. unfit-done product (c .before .sets .ensures) (not-true _ (c .if1 .taken)))
     product-requires
-    built-requires
-    same-length-2
+    (λ c κs. search needs)
+    (λ c. search needs)
     returns-2)
