@@ -1,2 +1,3 @@
--- The constants of a table in the arena.
+-- The constants of a table in the arena, and the nodes that build.
+pub mod Built
 pub mod Constants

@@ -1,9 +1,11 @@
-// The constants of one cell of a readable table, put into the arena before it is evaluated.
+// The constants of one cell of a readable table, put into the arena before it is evaluated; and whether any of its nodes builds a value there.
 ghost use mathlib.Core.Path.{_≡_};
 ghost use Prim.Native.Nat.{_≤_, _<_};
 ghost use lib.ListN.{length};
 ghost use Rattle.rules.specs.Tables.{nodeCount, nodesAt};
 ghost use Rattle.rules.specs.Readable.{Readable};
+ghost use Rattle.rules.specs.Kinds.{kindOf};
+ghost use Rattle.constants.specs.Built.{built, DecidesBuilds};
 ghost use Rattle.constants.specs.Constants.{CellOf, Constants, OnlyBelow};
 
 // The cell of the constant at node n: kinds 22 to 24 and 26. Another node has 0.
@@ -41,4 +43,31 @@ pub fn put_constants(table: &[u8], s: &mut [u64])
         s[n] = constant_cell(table, at, n);
         n += 1;
     }
+}
+
+// Whether the value of a node of the kind is built at its visit.
+fn is_built(kind: usize) -> bool
+    ensures { λ r. ⌜ r ≡ built (kindOf kind) ⌝ }
+{
+    match kind {
+        21 | 25 | 27..=43 => true,
+        _ => false,
+    }
+}
+
+// Whether any node's value is.
+pub fn builds(table: &[u8]) -> bool
+    requires { ⌜ Readable (now table) ⌝ }
+    ensures { λ r. ⌜ DecidesBuilds (now (table .entry)) r ⌝ }
+{
+    let at = table::nodes_offset(table);
+    let count = table::nodes(table);
+    let mut n: usize = 0;
+    while n < count {
+        if is_built(table::kind(table, at, n)) {
+            return true;
+        }
+        n += 1;
+    }
+    false
 }

@@ -1,2 +1,0 @@
--- Laws of the cells that a condition takes.
-pub mod RoomLaws
