@@ -78,7 +78,7 @@ module _ (bs : List ℕ) {buffer s env : List ℕ} {top : ℕ} (b : Bound (table
   abbrev pub valueOf : Env
   valueOf x = getD (b .values) x noValue
 
-  pub bound-binds : Binds (tableOf bs .sizes) s top env valueOf
+  pub bound-binds : Binds bs s top env valueOf
   bound-binds =
       let g = valuesIn-good (tableOf bs) buffer (b .values) read-all in
       record { at = λ x l. record { stands = b .at x l .stands; below = b .at x l .below; good = g x }; good = g }

@@ -67,7 +67,7 @@ pub record Asked (bs env s : List ℕ) (top n from count left : ℕ) : Type 0 wh
   pub range : Values
   pub deep : n ≤ depth
   pub counts : steps + left ≡ budget
-  pub binds : Binds (tableOf bs .sizes) s top env values
+  pub binds : Binds bs s top env values
   pub listed : Listed (tableOf bs .sizes) s top from count range
 
 -- The loop may begin, so there is something to ask.

@@ -68,7 +68,7 @@ module _ {B : Type 0} (e f : M Value) (k : Value → Value → M B) (steps : ℕ
 -- The answers for the operands of a node.
 pub record StopsBoth (bs env s : List ℕ) (top n left : ℕ) (s′ : List ℕ) (r : Refusal) (l : ℕ) : Type 0 where
   pub frame : Same top s s′
-  pub answer : (f : ℕ) (ρ : Env) (budget steps : ℕ) → n ≤ f → steps + left ≡ budget → Binds (tableOf bs .sizes) s top env ρ →
+  pub answer : (f : ℕ) (ρ : Env) (budget steps : ℕ) → n ≤ f → steps + left ≡ budget → Binds bs s top env ρ →
       StopsAs (valueAt bs budget f (fieldA bs n) ρ) (valueAt bs budget f (fieldB bs n) ρ) budget steps r l
 
 pub record EvaluatesBoth (bs env s : List ℕ) (top n left : ℕ) (s′ : List ℕ) (a mid b next l : ℕ) : Type 0 where
@@ -77,7 +77,7 @@ pub record EvaluatesBoth (bs env s : List ℕ) (top n left : ℕ) (s′ : List �
   pub high : mid ≤ top + 256
   pub order : mid ≤ next
   pub near : next ≤ mid + 256
-  pub answer : (f : ℕ) (ρ : Env) (budget steps : ℕ) → n ≤ f → steps + left ≡ budget → Binds (tableOf bs .sizes) s top env ρ →
+  pub answer : (f : ℕ) (ρ : Env) (budget steps : ℕ) → n ≤ f → steps + left ≡ budget → Binds bs s top env ρ →
       BothAs (valueAt bs budget f (fieldA bs n) ρ) (valueAt bs budget f (fieldB bs n) ρ) budget steps (tableOf bs .sizes) s′ a mid b next l
 
 formed-within : (top : ℕ) {r : Formed} (r₀ : Formed) → r ≡ r₀ → FormedBounds top r → FormedBounds top r₀

@@ -259,7 +259,7 @@ module _ {bs env s₀ : List ℕ} {top n from count left : ℕ} (pre : EachReady
 
       -- The environment of the body at the next member.
       inside : (k : Asked bs env s₀ top n from count left) →
-          Binds (tableOf bs .sizes) s to (setAt inner (fieldA bs n) at) (k .values with fieldA bs n ≔ selecting-member (h .on k) some .value)
+          Binds bs s to (setAt inner (fieldA bs n) at) (k .values with fieldA bs n ≔ selecting-member (h .on k) some .value)
       inside k =
           let u = selecting-member (h .on k) some in
           binds-body (h .entries) (pre .name) (binds-frame to (h .frame) (omega (arith, choosing-near .0)) (k .binds))

@@ -353,7 +353,7 @@ module _ {bs env s : List ℕ} {top k n left : ℕ} (v : Visited bs env s top k 
 
   -- Another leaf's value has been built.
   built-answer : (s′ : List ℕ) (end : ℕ) (j : Leaf) → kindAt (tableOf bs .nodes) n ≡ some (leaf j) →
-      (f : ℕ) (ρ : Env) (budget steps : ℕ) → n < f → steps + left ≡ budget → Binds (tableOf bs .sizes) s top env ρ →
+      (f : ℕ) (ρ : Env) (budget steps : ℕ) → n < f → steps + left ≡ budget → Binds bs s top env ρ →
       BuiltAt s′ top (gives (here j ρ)) end → PlacedAs (valueAt bs budget f n ρ steps) budget (tableOf bs .sizes) s′ top end (left - 1)
   built-answer s′ end j e f ρ budget steps l c b h =
       let q : here j ρ ≡ h .value = given-same (here j ρ) (h .value) (h .is) in

@@ -403,7 +403,7 @@ module _ {bs env s : List ℕ} {top n m left : ℕ} (x : Visited bs env s top 34
           (y (tableOf bs .sizes) next (v .value) (sizes-small bs (x .ready .readable)) (v .place))
 
       -- The range at an environment, and the members of it that the body selects.
-      range-of : (f : ℕ) (ρ : Env) (budget steps : ℕ) → n ≤ f → steps + left ≡ budget → Binds (tableOf bs .sizes) s top env ρ →
+      range-of : (f : ℕ) (ρ : Env) (budget steps : ℕ) → n ≤ f → steps + left ≡ budget → Binds bs s top env ρ →
           RangeHere (valueAt bs budget f (fieldB bs n) ρ (suc steps)) budget (tableOf bs .sizes) s₁ at next l count
       range-of f ρ budget steps le c b =
           range-here count (sizes-small bs (x .ready .readable)) y
@@ -422,7 +422,7 @@ module _ {bs env s : List ℕ} {top n m left : ℕ} (x : Visited bs env s top 34
 
       module _ {s₂ : List ℕ} {to end u : ℕ} (ch : EvaluatesChosen bs env s₁ next n (at + 1) count l s₂ (Placed to end u)) where
         -- The set has been built at `next`.
-        built : (f : ℕ) (ρ : Env) (budget steps : ℕ) (le : n ≤ f) (c : steps + left ≡ budget) (b : Binds (tableOf bs .sizes) s top env ρ) →
+        built : (f : ℕ) (ρ : Env) (budget steps : ℕ) (le : n ≤ f) (c : steps + left ≡ budget) (b : Binds bs s top env ρ) →
             SelectedAs (select (bodyAt bs budget n f ρ) (members (range-of f ρ budget steps le c b .range))
             (valueAt bs budget f (fieldB bs n) ρ (suc steps) .steps)) budget s₂ next end u
         built f ρ budget steps le c b =

@@ -132,7 +132,7 @@ module _ {bs env s : List ℕ} {top k n left : ℕ} (v : Visited bs env s top k 
   -- It has been evaluated.
   module _ {s′ : List ℕ} {r : Held} (h : EvaluatesP bs env s top a (left - 1) s′ r) where
     join-first : (r₀ : Held) → r ≡ r₀ → (g : ℕ) → n ≤ g → (ρ : Env) (budget steps : ℕ) → steps + left ≡ budget →
-        Binds (tableOf bs .sizes) s top env ρ → HeldAs (holdsAt bs budget g (fieldA bs n) ρ (suc steps)) budget r₀
+        Binds bs s top env ρ → HeldAs (holdsAt bs budget g (fieldA bs n) ρ (suc steps)) budget r₀
     join-first r₀ d g le ρ budget steps c b = held-below join-child q g le ρ budget (suc steps) (steps-on v c .1) b r₀ d h
 
     -- It is refused.
@@ -164,7 +164,7 @@ module _ {bs env s : List ℕ} {top k n left : ℕ} (v : Visited bs env s top k 
 
         module _ {s″ : List ℕ} {r′ : Held} (h′ : EvaluatesP bs env s′ top m l s″ r′) where
           join-last : (r₀ : Held) → r′ ≡ r₀ → (g : ℕ) → n ≤ g → (ρ : Env) (budget steps : ℕ) → steps + left ≡ budget →
-              Binds (tableOf bs .sizes) s top env ρ →
+              Binds bs s top env ρ →
               HeldAs (holdsAt bs budget g (fieldB bs n) ρ (holdsAt bs budget g (fieldA bs n) ρ (suc steps) .steps)) budget r₀
           join-last r₀ d′ g le ρ budget steps c b =
               held-below join-next qb g le ρ budget (holdsAt bs budget g (fieldA bs n) ρ (suc steps) .steps)

@@ -224,7 +224,7 @@ formed-as {bs} {env} {s} {top} {m} {m′} {left} {s′} {r} {r′} e q h =
 
 -- The answer for a child, as that of its tree below the node.
 module _ {bs env s : List ℕ} {top n left a b : ℕ} {c : Category} {s′ : List ℕ} (k : Child bs n a c) (q : a ≡ b)
-    (g : ℕ) (le : n ≤ g) (ρ : Env) (budget steps : ℕ) (counts : steps + left ≡ budget) (bound : Binds (tableOf bs .sizes) s top env ρ) where
+    (g : ℕ) (le : n ≤ g) (ρ : Env) (budget steps : ℕ) (counts : steps + left ≡ budget) (bound : Binds bs s top env ρ) where
   pub held-below : {r : Held} (r₀ : Held) → r ≡ r₀ → EvaluatesP bs env s top a left s′ r → HeldAs (holdsAt bs budget g b ρ steps) budget r₀
   held-below r₀ e h = held-as q e h .answer g ρ budget steps (omega (arith, k .below, le, q)) counts bound
 
@@ -240,7 +240,7 @@ abbrev exprᵍ : List ℕ → ℕ → Kind → ℕ → Expr
 exprᵍ bs n x g = exprOf (some x) n (nodeAt (tableOf bs .nodes) n) (λ m. predAt g (tableOf bs .nodes) m) (λ m. exprAt g (tableOf bs .nodes) m)
 
 module _ {bs env s : List ℕ} {top n left : ℕ} {s′ : List ℕ} (x : Kind) (e : kindAt (tableOf bs .nodes) n ≡ some x) (same : Same top s s′) where
-  pub held-by : {r : Held} → ((g : ℕ) (ρ : Env) (budget steps : ℕ) → n ≤ g → steps + left ≡ budget → Binds (tableOf bs .sizes) s top env ρ →
+  pub held-by : {r : Held} → ((g : ℕ) (ρ : Env) (budget steps : ℕ) → n ≤ g → steps + left ≡ budget → Binds bs s top env ρ →
       HeldAs (holdsᵖ budget (tableOf bs .sizes) (predᵍ bs n x g) ρ steps) budget r) → EvaluatesP bs env s top n left s′ r
   held-by {r} h = record {
     frame = same;
@@ -252,7 +252,7 @@ module _ {bs env s : List ℕ} {top n left : ℕ} {s′ : List ℕ} (x : Kind) (
 
   pub formed-by : {r : Formed} → FormedBounds top r →
       ((g f : ℕ) (ρ : Env) (budget steps : ℕ) → n ≤ g → exprAt f (tableOf bs .nodes) n ≡ exprᵍ bs n x g → steps + left ≡ budget →
-      Binds (tableOf bs .sizes) s top env ρ → FormedAs (valueAt bs budget f n ρ steps) budget (tableOf bs .sizes) s′ r) →
+      Binds bs s top env ρ → FormedAs (valueAt bs budget f n ρ steps) budget (tableOf bs .sizes) s′ r) →
       EvaluatesE bs env s top n left s′ r
   formed-by {r} bounds h = record {
     frame = same;

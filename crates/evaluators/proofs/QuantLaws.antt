@@ -145,7 +145,7 @@ module _ {bs env s₀ : List ℕ} {top : ℕ} {all : Bool} {node from count left
 
   module _ (ex : x ≡ fieldA bs node) {b : ℕ} (ey : b ≡ fieldC bs node) where
     body-binds : (k : Asked bs env s₀ top node from count left) →
-        Binds (tableOf bs .sizes) s top (setAt inner x at) (k .values with x ≔ next k .value)
+        Binds bs s top (setAt inner x at) (k .values with x ≔ next k .value)
     body-binds k = binds-body (i .inside) (omega (arith, ex, r .name)) (binds-frame top (i .frame) (le-refl top) (k .binds)) (next k .here)
 
     pub body-ready : Ready bs (setAt inner x at) s top b × IsPred bs b
@@ -296,7 +296,7 @@ module _ {bs env s : List ℕ} {top k n left : ℕ} (d : Visited bs env s top k 
       (formed-below quant-child ea g le ρ budget (suc steps) (o .1) b (Stopped p l) e h))
 
   module _ {s′ : List ℕ} {r : Formed} (h : EvaluatesE bs env s top a (left - 1) s′ r) {at next l : ℕ} (e : r ≡ Placed at next l) where
-    placed-range : (f : ℕ) (ρ : Env) (budget steps : ℕ) → n ≤ f → steps + left ≡ budget → Binds (tableOf bs .sizes) s top env ρ →
+    placed-range : (f : ℕ) (ρ : Env) (budget steps : ℕ) → n ≤ f → steps + left ≡ budget → Binds bs s top env ρ →
         PlacedAs (valueAt bs budget f (fieldB bs n) ρ (suc steps)) budget (tableOf bs .sizes) s′ at next l
     placed-range f ρ budget steps le c b = formed-below quant-child ea f le ρ budget (suc steps) (steps-on d c .1) b (Placed at next l) e h
 

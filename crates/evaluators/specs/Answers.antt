@@ -1,6 +1,6 @@
 -- What the evaluators answer for a run of the value rules. The values that a run forms do not matter to its answer.
 use Prim.Native.Nat.{ℕ, _+_, _≤_, _<_}
-use mathlib.Core.Bool.{Bool, false}
+use mathlib.Core.Bool.{Bool, false, not, Bool·beq}
 use mathlib.Core.List.{List, [], _∷_}
 use mathlib.Core.Path.{_≡_}
 use lib.Dec.{T}
@@ -56,6 +56,11 @@ RefusalOf (Stopped r l) h = h ≡ Refused r l
 abbrev pub StopOf : Held → Formed → Type 0
 StopOf (Truth b l) f = Unit {0}
 StopOf (Refused r l) f = f ≡ Stopped r l
+
+-- The answer above a number of negations, which is odd where t is true.
+abbrev pub turnedBy : Bool → Held → Held
+turnedBy t (Truth b l) = Truth (not (Bool·beq b t)) l
+turnedBy t (Refused r l) = Refused r l
 
 -- The range of a binder: the number of its members, or no set (15).
 pub record RangeSet (v : Value) (n : ℕ) : Type 0 where

@@ -17,20 +17,25 @@ use Rattle.rules.specs.Runs.{M, Given}
 use Rattle.rules.specs.Operations.{Env, _with_≔_}
 use Rattle.rules.specs.Evaluation.{quantify, select, holdsᵖ, valueᵉ}
 use Rattle.arena.specs.Code.{Same}
+use Rattle.constants.specs.Built.{Builds}
+use Rattle.constants.specs.Constants.{Constants}
 use Rattle.operations.specs.Good.{GoodAt}
 use Rattle.operations.specs.Outcomes.{Gives}
 use Rattle.operations.specs.declared.Outcome.{Outcome}
 use Rattle.evaluators.specs.declared.Held.{Held}
 use Rattle.evaluators.specs.declared.Formed.{Formed}
-use Rattle.evaluators.specs.Nodes.{IsPred, fieldA, fieldC}
-use Rattle.evaluators.specs.Answers.{HeldAs, FormedAs, FormedBounds, Listed, ChosenAs, ChosenBounds, SettledAs}
+use Rattle.evaluators.specs.declared.Bare.{Bare}
+use Rattle.evaluators.specs.Nodes.{IsPred, NoNegation, fieldA, fieldC}
+use Rattle.evaluators.specs.Answers.{HeldAs, turnedBy, FormedAs, FormedBounds, Listed, ChosenAs, ChosenBounds, SettledAs}
 
--- The values of the identifiers are good and stand where the environment says.
-pub record Binds (gs s : List ℕ) (top : ℕ) (env : List ℕ) (ρ : Env) : Type 0 where
-  pub at : (x : ℕ) → x < 32 → GoodAt gs s top (getD env x 0) (ρ x)
-  pub good : (x : ℕ) → T (good gs (ρ x))
+-- The values of the identifiers are good and stand where the environment says; the constants stand in the cells of their nodes.
+pub record Binds (bs s : List ℕ) (top : ℕ) (env : List ℕ) (ρ : Env) : Type 0 where
+  pub at : (x : ℕ) → x < 32 → GoodAt (tableOf bs .sizes) s top (getD env x 0) (ρ x)
+  pub good : (x : ℕ) → T (good (tableOf bs .sizes) (ρ x))
+  pub constants : Constants bs (nodeCount bs) s
+  pub low : nodeCount bs ≤ top
 
--- The cells that the evaluation of a node takes above its top. While a child is evaluated a node holds one value, of at most 256 cells,
+-- The cells that the evaluation of a node takes above its top, where any node of the table builds a value. While a child is evaluated a node holds one value, of at most 256 cells,
 -- and a comprehension holds two; but the child of a comprehension that they stand below is a condition. So a level takes 384, an expression
 -- 128 more, and an operation at the lowest node that has operands 260 more than two levels give.
 abbrev pub expressionCells : Option Kind → ℕ
@@ -43,12 +48,12 @@ cellsFor bs n = 384 * height (tableOf bs .nodes) n + expressionCells (kindAt (ta
 pub record Ready (bs env s : List ℕ) (top n : ℕ) : Type 0 where
   pub readable : Readable bs
   pub node : n < nodeCount bs
-  pub room : top + cellsFor bs n ≤ length s
+  pub room : Builds bs → top + cellsFor bs n ≤ length s
   pub tall : 1 ≤ height (tableOf bs .nodes) n
   pub small : length s < 4294967296
   pub entries : length env ≡ 32
   pub values : Env
-  pub binds : Binds (tableOf bs .sizes) s top env values
+  pub binds : Binds bs s top env values
 
 -- So too, at a node of the kind k that may still be visited.
 pub record Visited (bs env s : List ℕ) (top k n left : ℕ) : Type 0 where
@@ -70,40 +75,50 @@ valueAt bs budget f n ρ = valueᵉ budget (tableOf bs .sizes) (exprAt f (tableO
 -- The answer for the condition at a node.
 pub record EvaluatesP (bs env s : List ℕ) (top n left : ℕ) (s′ : List ℕ) (r : Held) : Type 0 where
   pub frame : Same top s s′
-  pub answer : (f : ℕ) (ρ : Env) (budget steps : ℕ) → n < f → steps + left ≡ budget → Binds (tableOf bs .sizes) s top env ρ →
+  pub answer : (f : ℕ) (ρ : Env) (budget steps : ℕ) → n < f → steps + left ≡ budget → Binds bs s top env ρ →
       HeldAs (holdsAt bs budget f n ρ steps) budget r
+
+-- The node that is reached from node n below negations: a condition no higher, whose answer for what is left tells that for node n.
+pub record Bares (bs : List ℕ) (n left : ℕ) (r : Bare) : Type 0 where
+  pub below : r .node ≤ n
+  pub is : IsPred bs (r .node)
+  pub lower : height (tableOf bs .nodes) (r .node) ≤ height (tableOf bs .nodes) n
+  pub last : 0 < r .left → NoNegation bs (r .node)
+  pub answer : (f : ℕ) (ρ : Env) (budget steps : ℕ) (h : Held) → n < f → steps + left ≡ budget →
+      ((g t : ℕ) → r .node < g → t + r .left ≡ budget → HeldAs (holdsAt bs budget g (r .node) ρ t) budget h) →
+      HeldAs (holdsAt bs budget f n ρ steps) budget (turnedBy (r .turned) h)
 
 -- The answer for the expression at a node.
 pub record EvaluatesE (bs env s : List ℕ) (top n left : ℕ) (s′ : List ℕ) (r : Formed) : Type 0 where
   pub frame : Same top s s′
   pub bounds : FormedBounds top r
-  pub answer : (f : ℕ) (ρ : Env) (budget steps : ℕ) → n < f → steps + left ≡ budget → Binds (tableOf bs .sizes) s top env ρ →
+  pub answer : (f : ℕ) (ρ : Env) (budget steps : ℕ) → n < f → steps + left ≡ budget → Binds bs s top env ρ →
       FormedAs (valueAt bs budget f n ρ steps) budget (tableOf bs .sizes) s′ r
 
 -- The body of a binder at each member of its range.
 abbrev pub bodyAt : List ℕ → ℕ → ℕ → ℕ → Env → Value → M Bool
 bodyAt bs budget n f ρ w = holdsAt bs budget f (fieldC bs n) (ρ with fieldA bs n ≔ w)
 
--- The loop over a range may itself build a set of `spare` cells.
+-- The loop over a range may itself build a set of `spare` cells, if that is not 0.
 pub record EachReady (bs env s : List ℕ) (top n from count spare : ℕ) : Type 0 where
   pub ready : Ready bs env s top (fieldC bs n)
   pub binder : n < nodeCount bs
   pub deeper : fieldC bs n < n
   pub is : IsPred bs (fieldC bs n)
   pub name : fieldA bs n < 32
-  pub space : top + spare + cellsFor bs (fieldC bs n) ≤ length s
+  pub space : 0 < spare → top + spare + cellsFor bs (fieldC bs n) ≤ length s
   pub range : Values
   pub listed : Listed (tableOf bs .sizes) s top from count range
 
 pub record EvaluatesEach (bs env s : List ℕ) (top n from count left : ℕ) (j : Quant) (s′ : List ℕ) (r : Held) : Type 0 where
   pub frame : Same top s s′
-  pub answer : (f : ℕ) (ρ : Env) (budget steps : ℕ) (vs : Values) → n ≤ f → steps + left ≡ budget → Binds (tableOf bs .sizes) s top env ρ →
+  pub answer : (f : ℕ) (ρ : Env) (budget steps : ℕ) (vs : Values) → n ≤ f → steps + left ≡ budget → Binds bs s top env ρ →
       Listed (tableOf bs .sizes) s top from count vs → HeldAs (quantify j (bodyAt bs budget n f ρ) (members vs) steps) budget r
 
 pub record EvaluatesChosen (bs env s : List ℕ) (top n from count left : ℕ) (s′ : List ℕ) (r : Formed) : Type 0 where
   pub frame : Same top s s′
   pub bounds : ChosenBounds top r
-  pub answer : (f : ℕ) (ρ : Env) (budget steps : ℕ) (vs : Values) → n ≤ f → steps + left ≡ budget → Binds (tableOf bs .sizes) s top env ρ →
+  pub answer : (f : ℕ) (ρ : Env) (budget steps : ℕ) (vs : Values) → n ≤ f → steps + left ≡ budget → Binds bs s top env ρ →
       Listed (tableOf bs .sizes) s top from count vs → ChosenAs (select (bodyAt bs budget n f ρ) (members vs) steps) budget s′ top r
 
 -- What a node gives has been settled at `top`.

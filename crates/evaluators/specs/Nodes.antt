@@ -8,11 +8,13 @@ use mathlib.Core.Path.{_≡_}
 use lib.Dec.{eqb}
 use lib.ListN.{length, getD}
 use Rattle.rules.specs.Values.{Value}
-use Rattle.rules.specs.Kinds.{Join, join, Quant, forAll, forSome, predicate, expression, kindOf}
+use Rattle.rules.specs.Kinds.{Join, join, Quant, forAll, forSome, predicate, expression, kindOf, leaf}
+use Rattle.rules.specs.Kinds.{Leaf, identifier, givenSet, elementOf, literal, truthConst, emptySet, boolSet}
 use Rattle.rules.specs.Tables.{tableOf, nodeAt, kindAt, nodeCount}
 use Rattle.rules.specs.Readable.{Readable, CategoryIs}
 use Rattle.rules.specs.Operations as rules
 use Rattle.arena.specs.Code.{Same, Copied}
+use Rattle.constants.specs.Built.{builtLeaf}
 use Rattle.operations.specs.Good.{Sizes, GoodAt}
 use Rattle.operations.specs.Outcomes.{LeafReady, LeafDone}
 use Rattle.evaluators.specs.declared.Formed.{Formed}
@@ -26,6 +28,10 @@ IsPred bs n = CategoryIs predicate (kindAt (tableOf bs .nodes) n)
 
 abbrev pub IsExpr : List ℕ → ℕ → Type 0
 IsExpr bs n = CategoryIs expression (kindAt (tableOf bs .nodes) n)
+
+-- The node is no negation.
+abbrev pub NoNegation : List ℕ → ℕ → Type 0
+NoNegation bs n = nodeAt (tableOf bs .nodes) n .kind ≢ 4
 
 -- The words in the fields of a node.
 abbrev pub fieldA : List ℕ → ℕ → ℕ
@@ -59,30 +65,39 @@ pub record SomeGood (s : List ℕ) (at : ℕ) : Type 0 where
 abbrev pub RangeAt : List ℕ → ℕ → Range → Type 0
 RangeAt s at r = (gs : List ℕ) (top : ℕ) (v : Value) → Sizes gs → GoodAt gs s top at v → RangeAs v r
 
--- A node that may be read, and where its value stands if it is an identifier's.
+-- A node that may be read, in an environment of 32 entries.
 pub record PlaceReady (bs env : List ℕ) (n : ℕ) : Type 0 where
   pub readable : Readable bs
   pub node : n < nodeCount bs
   pub entries : length env ≡ 32
 
-pub record PlacedName (bs env : List ℕ) (n at : ℕ) : Type 0 where
-  pub kind : nodeAt (tableOf bs .nodes) n .kind ≡ 20
-  pub is : at ≡ getD env (fieldA bs n) 0
+-- A leaf whose value is not built, and the place where it stands already.
+abbrev pub leafPlace : Leaf → List ℕ → ℕ → ℕ → ℕ
+leafPlace identifier env n a = getD env a 0
+leafPlace givenSet env n a = n
+leafPlace elementOf env n a = n
+leafPlace (literal m) env n a = n
+leafPlace truthConst env n a = n
+leafPlace emptySet env n a = n
+leafPlace boolSet env n a = n
+
+pub record PlacedLeaf (bs env : List ℕ) (n at : ℕ) : Type 0 where
+  pub kind : Leaf
+  pub is : kindAt (tableOf bs .nodes) n ≡ some (leaf kind)
+  pub unbuilt : builtLeaf kind ≡ false
+  pub place : at ≡ leafPlace kind env n (fieldA bs n)
+
+pub record StandingReady (bs env : List ℕ) (k n : ℕ) : Type 0 where
+  pub node : PlaceReady bs env n
+  pub same : k ≡ nodeAt (tableOf bs .nodes) n .kind
+  pub kind : Leaf
+  pub is : kindOf k ≡ some (leaf kind)
+  pub unbuilt : builtLeaf kind ≡ false
 
 abbrev pub PlaceAt : List ℕ → List ℕ → ℕ → ℕ → Type 0
-PlaceAt bs env n at = at ≢ 0 → PlacedName bs env n at
+PlaceAt bs env n at = at ≢ 0 → PlacedLeaf bs env n at
 
--- An identifier's node.
-pub record NameReady (bs env : List ℕ) (n : ℕ) : Type 0 where
-  pub readable : Readable bs
-  pub node : n < nodeCount bs
-  pub name : fieldA bs n < 32
-  pub entries : length env ≡ 32
-
-abbrev pub NameAt : List ℕ → List ℕ → ℕ → ℕ → ℕ → Formed → Type 0
-NameAt bs env top n left r = r ≡ Placed (getD env (fieldA bs n) 0) top left
-
--- Another leaf's node.
+-- The node of a leaf that is built.
 pub record LeafNode (bs s : List ℕ) (top k n : ℕ) : Type 0 where
   pub readable : Readable bs
   pub node : n < nodeCount bs

@@ -1,11 +1,14 @@
 // The evaluators: the value rules of document 01 at each node of a readable table, over an arena of cells.
 ghost use mathlib.Core.Path.{_≡_};
+ghost use Prim.Native.Nat.{_<_};
 ghost use Rattle.rules.specs.Kinds.{join, test, quant, one, two};
+ghost use Rattle.rules.specs.Tables.{nodeCount};
+ghost use Rattle.rules.specs.Readable.{Readable};
 ghost use Rattle.evaluators.specs.declared.Held.the-variants.{Refused};
 ghost use Rattle.evaluators.specs.declared.Formed.the-variants.{Stopped};
-ghost use Rattle.evaluators.specs.Answers.{RefusalOf, StopOf, SettleReady};
-ghost use Rattle.evaluators.specs.Nodes.{IsPred, IsExpr, DecidesBy, JoinedBy, quantOf, SomeGood, RangeAt, PlaceReady, PlaceAt, NameReady, NameAt, LeafNode, LeafFormed, ChooseReady, Chooses};
-ghost use Rattle.evaluators.specs.Cycle.{Ready, Visited, Sort, EvaluatesP, EvaluatesE, EachReady, EvaluatesEach, EvaluatesChosen, Settles};
+ghost use Rattle.evaluators.specs.Answers.{RefusalOf, StopOf, turnedBy, SettleReady};
+ghost use Rattle.evaluators.specs.Nodes.{IsPred, IsExpr, NoNegation, DecidesBy, JoinedBy, quantOf, SomeGood, RangeAt, StandingReady, PlacedLeaf, PlaceReady, PlaceAt, LeafNode, LeafFormed, ChooseReady, Chooses};
+ghost use Rattle.evaluators.specs.Cycle.{Ready, Visited, Sort, Bares, EvaluatesP, EvaluatesE, EachReady, EvaluatesEach, EvaluatesChosen, Settles};
 use operations::Outcome;
 use operations::Tested;
 use reading::Refusal;
@@ -76,7 +79,54 @@ fn stop_of(h: Held) -> Formed
     }
 }
 
-// The condition at a node.
+// A condition below its negations: its node, the visits left for it, and whether its truth is to be turned.
+struct Bare {
+    node: usize,
+    left: u32,
+    turned: bool,
+}
+
+// Passes the negations from a condition's node down, a visit for each, while one is left.
+fn bare(table: &[u8], node: usize, left: u32) -> Bare
+    requires { ⌜ Readable (now table) × (node < nodeCount (now table)) × IsPred (now table) node ⌝ }
+    ensures { λ r. ⌜ Bares (now (table .entry)) node left r ⌝ }
+{
+    let mut n = node;
+    let mut l = left;
+    let mut turned = false;
+    while l > 0 {
+        if table::node_kind(table, n) != 4 {
+            return Bare {
+                node: n,
+                left: l,
+                turned,
+            };
+        }
+        n = table::node_field(table, n, 0);
+        l -= 1;
+        turned = !turned;
+    }
+    Bare {
+        node: n,
+        left: l,
+        turned,
+    }
+}
+
+// The answer for the condition above the negations.
+fn turn(held: Held, turned: bool) -> Held
+    ensures { λ r. ⌜ r ≡ turnedBy turned held ⌝ }
+{
+    match held {
+        Held::Truth { yes, left } => Held::Truth {
+            yes: yes != turned,
+            left,
+        },
+        Held::Refused { refusal, left } => Held::Refused { refusal, left },
+    }
+}
+
+// The condition at a node. The compiler inlines nothing into a function that calls itself: so this calls `eval_bare`, which calls it.
 pub fn eval_pred(
     table: &[u8],
     env: &[u32; 32],
@@ -88,13 +138,29 @@ pub fn eval_pred(
     requires { ⌜ Ready (now table) (now env) (now s) top node × IsPred (now table) node ⌝ }
     ensures { λ r. ⌜ EvaluatesP (now (table .entry)) (now (env .entry)) (now (s .entry)) top node left (now (s .exit)) r ⌝ }
 {
+    let b = bare(table, node, left);
+    let held = eval_bare(table, env, s, top, b.node, b.left);
+    turn(held, b.turned)
+}
+
+// A condition that is no negation, or for which no visit is left.
+fn eval_bare(
+    table: &[u8],
+    env: &[u32; 32],
+    s: &mut [u64],
+    top: usize,
+    node: usize,
+    left: u32,
+) -> Held
+    requires { ⌜ Ready (now table) (now env) (now s) top node × IsPred (now table) node × (0 < left → NoNegation (now table) node) ⌝ }
+    ensures { λ r. ⌜ EvaluatesP (now (table .entry)) (now (env .entry)) (now (s .entry)) top node left (now (s .exit)) r ⌝ }
+{
     if left == 0 {
         return refused(19, node, left);
     }
     let kind = table::node_kind(table, node);
     match kind {
         1..=11 => match kind {
-            4 => eval_not(table, env, s, top, node, left),
             6..=9 => eval_test(table, env, s, top, kind, node, left),
             10..=11 => eval_quant(table, env, s, top, kind, node, left),
             _ => eval_join(table, env, s, top, kind, node, left),
@@ -160,26 +226,6 @@ fn eval_join(
         yes: joined(kind, p, q),
         left: m,
     }
-}
-
-// 4
-fn eval_not(
-    table: &[u8],
-    env: &[u32; 32],
-    s: &mut [u64],
-    top: usize,
-    node: usize,
-    left: u32,
-) -> Held
-    requires { ⌜ Visited (now table) (now env) (now s) top 4 node left ⌝ }
-    ensures { λ r. ⌜ EvaluatesP (now (table .entry)) (now (env .entry)) (now (s .entry)) top node left (now (s .exit)) r ⌝ }
-{
-    let a = table::node_field(table, node, 0);
-    let first = eval_pred(table, env, s, top, a, left - 1);
-    let Held::Truth { yes: p, left: n } = first else {
-        return first;
-    };
-    Held::Truth { yes: !p, left: n }
 }
 
 // 6 to 9
@@ -300,19 +346,32 @@ fn each_member(
     Held::Truth { yes: all, left: n }
 }
 
-// Where the value of an identifier's node stands; 0 for another kind.
-fn leaf_place(table: &[u8], env: &[u32; 32], node: usize) -> usize
-    requires { ⌜ PlaceReady (now table) (now env) node ⌝ }
-    ensures { λ r. ⌜ PlaceAt (now (table .entry)) (now (env .entry)) node r ⌝ }
+// Where the value of an identifier (20) stands, or that of a constant of one cell, which has the cell of its node.
+fn standing(table: &[u8], env: &[u32; 32], kind: usize, node: usize) -> usize
+    requires { ⌜ StandingReady (now table) (now env) kind node ⌝ }
+    ensures { λ r. ⌜ PlacedLeaf (now (table .entry)) (now (env .entry)) node r ⌝ }
 {
-    if table::node_kind(table, node) != 20 {
-        return 0;
+    if kind != 20 {
+        return node;
     }
     let x = table::node_field(table, node, 0);
     wide(env[x])
 }
 
-// The operand at a node. A call costs more than an identifier's visit, so that is made here. The function stays small enough to be inlined.
+// The same for the operand at a node, or 0: another kind, or the constant at node 0.
+fn leaf_place(table: &[u8], env: &[u32; 32], node: usize) -> usize
+    requires { ⌜ PlaceReady (now table) (now env) node ⌝ }
+    ensures { λ r. ⌜ PlaceAt (now (table .entry)) (now (env .entry)) node r ⌝ }
+{
+    let kind = table::node_kind(table, node);
+    match kind {
+        20 | 22..=24 => standing(table, env, kind, node),
+        _ => 0,
+    }
+}
+
+// The operand at a node. A call costs more than the visit of an identifier or a constant, so that is made here. The function stays small
+// enough to be inlined.
 fn operand(
     table: &[u8],
     env: &[u32; 32],
@@ -335,8 +394,23 @@ fn operand(
     }
 }
 
-// The expression at a node.
+// The expression at a node. It calls `eval_value`, which calls it, as `eval_pred` does.
 fn eval_expr(
+    table: &[u8],
+    env: &[u32; 32],
+    s: &mut [u64],
+    top: usize,
+    node: usize,
+    left: u32,
+) -> Formed
+    requires { ⌜ Ready (now table) (now env) (now s) top node × IsExpr (now table) node ⌝ }
+    ensures { λ r. ⌜ EvaluatesE (now (table .entry)) (now (env .entry)) (now (s .entry)) top node left (now (s .exit)) r ⌝ }
+{
+    eval_value(table, env, s, top, node, left)
+}
+
+// The expression at a node, by its kind.
+fn eval_value(
     table: &[u8],
     env: &[u32; 32],
     s: &mut [u64],
@@ -352,12 +426,16 @@ fn eval_expr(
     }
     let kind = table::node_kind(table, node);
     match kind {
-        20 => eval_name(table, env, top, node, left - 1),
         25 => eval_bool(table, env, s, top, node, left),
         27 | 33 | 35 | 36 | 38 | 43 => eval_one(table, env, s, top, kind, node, left),
         28..=32 | 37 | 39..=41 => eval_two(table, env, s, top, kind, node, left),
         34 => eval_select(table, env, s, top, node, left),
-        20..=43 => eval_leaf(table, s, top, kind, node, left - 1),
+        21 | 42 => eval_leaf(table, s, top, kind, node, left - 1),
+        20..=43 => Formed::Value {
+            at: standing(table, env, kind, node),
+            end: top,
+            left: left - 1,
+        },
         // Never: no other kind is an expression.
         _ => stopped(6, node, left),
     }
@@ -369,20 +447,7 @@ fn wide(x: u32) -> usize
     x as usize
 }
 
-// 20: the value stays where it is.
-fn eval_name(table: &[u8], env: &[u32; 32], top: usize, node: usize, left: u32) -> Formed
-    requires { ⌜ NameReady (now table) (now env) node ⌝ }
-    ensures { λ r. ⌜ NameAt (now (table .entry)) (now (env .entry)) top node left r ⌝ }
-{
-    let x = table::node_field(table, node, 0);
-    Formed::Value {
-        at: wide(env[x]),
-        end: top,
-        left,
-    }
-}
-
-// 21 to 24, 26 and 42
+// 21 and 42
 fn eval_leaf(table: &[u8], s: &mut [u64], top: usize, kind: usize, node: usize, left: u32) -> Formed
     requires { ⌜ LeafNode (now table) (now s) top kind node ⌝ }
     ensures { λ r. ⌜ LeafFormed (now (table .entry)) (now (s .entry)) top kind node left (now (s .exit)) r ⌝ }

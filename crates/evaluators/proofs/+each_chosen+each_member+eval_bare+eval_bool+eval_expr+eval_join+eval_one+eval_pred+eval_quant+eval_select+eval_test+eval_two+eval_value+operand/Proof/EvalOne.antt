@@ -6,11 +6,11 @@ use native.Mathlib.Omega.{arith}
 use lib.Dec.{lit<}
 use Rattle.evaluators.proofs.eval_one.Reads as eval-one
 use Rattle.evaluators.proofs.operand.Reads as operand
-use Rattle.evaluators.proofs.+each_chosen+each_member+eval_bool+eval_expr+eval_join+eval_not+eval_one+eval_pred+eval_quant+eval_select+eval_test+eval_two+operand.Lts-eval_one as eval-one-lts
+use Rattle.evaluators.proofs.+each_chosen+each_member+eval_bare+eval_bool+eval_expr+eval_join+eval_one+eval_pred+eval_quant+eval_select+eval_test+eval_two+eval_value+operand.Lts-eval_one as eval-one-lts
 use Rattle.table.proofs.node_field.Reads as node-field-reads
 use Rattle.operations.proofs.one.Reads as one-reads
 use Rattle.evaluators.proofs.settle.Reads as settle-reads
-use Rattle.evaluators.proofs.+each_chosen+each_member+eval_bool+eval_expr+eval_join+eval_not+eval_one+eval_pred+eval_quant+eval_select+eval_test+eval_two+operand.Proof.Base.{eval-one-at, operand-below}
+use Rattle.evaluators.proofs.+each_chosen+each_member+eval_bare+eval_bool+eval_expr+eval_join+eval_one+eval_pred+eval_quant+eval_select+eval_test+eval_two+eval_value+operand.Proof.Base.{eval-one-at, operand-below}
 use Rattle.evaluators.proofs.SafeLaws.{ready-node}
 use Rattle.evaluators.proofs.NodeLaws.{formed-as}
 use Rattle.evaluators.proofs.FormLaws.{one-child, one-begins, one-fails, one-ready, one-settles, one-evaluates}

@@ -7,12 +7,12 @@ use lib.Dec.{lit<}
 use Rattle.evaluators.proofs.each_member.Reads as each-member
 use Rattle.evaluators.proofs.eval_quant.Reads as eval-quant
 use Rattle.evaluators.proofs.operand.Reads as operand
-use Rattle.evaluators.proofs.+each_chosen+each_member+eval_bool+eval_expr+eval_join+eval_not+eval_one+eval_pred+eval_quant+eval_select+eval_test+eval_two+operand.Lts-eval_quant as eval-quant-lts
+use Rattle.evaluators.proofs.+each_chosen+each_member+eval_bare+eval_bool+eval_expr+eval_join+eval_one+eval_pred+eval_quant+eval_select+eval_test+eval_two+eval_value+operand.Lts-eval_quant as eval-quant-lts
 use Rattle.table.proofs.node_field.Reads as node-field-reads
 use Rattle.evaluators.proofs.range_of.Reads as range-of-reads
 use Rattle.evaluators.proofs.refusal_of.Reads as refusal-of-reads
 use Rattle.evaluators.proofs.refused.Reads as refused-reads
-use Rattle.evaluators.proofs.+each_chosen+each_member+eval_bool+eval_expr+eval_join+eval_not+eval_one+eval_pred+eval_quant+eval_select+eval_test+eval_two+operand.Proof.Base.{each-member-below, eval-quant-at, operand-below}
+use Rattle.evaluators.proofs.+each_chosen+each_member+eval_bare+eval_bool+eval_expr+eval_join+eval_one+eval_pred+eval_quant+eval_select+eval_test+eval_two+eval_value+operand.Proof.Base.{each-member-below, eval-quant-at, operand-below}
 use Rattle.evaluators.proofs.SafeLaws.{ready-node}
 use Rattle.evaluators.proofs.NodeLaws.{held-as, refusal-is}
 use Rattle.evaluators.proofs.RangeLaws.{range-as}

@@ -4,9 +4,9 @@ use native.Mathlib.Omega.{arith}
 use lib.Dec.{lit<}
 use Rattle.evaluators.proofs.eval_not.Reads as eval-not
 use Rattle.evaluators.proofs.eval_pred.Reads as eval-pred
-use Rattle.evaluators.proofs.+each_chosen+each_member+eval_bool+eval_expr+eval_join+eval_not+eval_one+eval_pred+eval_quant+eval_select+eval_test+eval_two+operand.Lts-eval_not as eval-not-lts
+use Rattle.evaluators.proofs.+each_chosen+each_member+eval_bare+eval_bool+eval_expr+eval_join+eval_one+eval_pred+eval_quant+eval_select+eval_test+eval_two+eval_value+operand.Lts-eval_not as eval-not-lts
 use Rattle.table.proofs.node_field.Reads as node-field-reads
-use Rattle.evaluators.proofs.+each_chosen+each_member+eval_bool+eval_expr+eval_join+eval_not+eval_one+eval_pred+eval_quant+eval_select+eval_test+eval_two+operand.Proof.Base.{eval-not-at, eval-pred-below}
+use Rattle.evaluators.proofs.+each_chosen+each_member+eval_bare+eval_bool+eval_expr+eval_join+eval_one+eval_pred+eval_quant+eval_select+eval_test+eval_two+eval_value+operand.Proof.Base.{eval-not-at, eval-pred-below}
 use Rattle.evaluators.proofs.SafeLaws.{ready-node}
 use Rattle.evaluators.proofs.JoinLaws.{not-child, not-ready, not-stays, not-turns}
 

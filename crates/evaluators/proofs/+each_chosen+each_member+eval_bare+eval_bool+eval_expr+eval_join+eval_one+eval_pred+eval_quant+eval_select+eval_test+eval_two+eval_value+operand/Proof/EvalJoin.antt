@@ -6,11 +6,11 @@ use mathlib.Core.Path.{_∙_}
 use lib.Dec.{lit<}
 use Rattle.evaluators.proofs.eval_join.Reads as eval-join
 use Rattle.evaluators.proofs.eval_pred.Reads as eval-pred
-use Rattle.evaluators.proofs.+each_chosen+each_member+eval_bool+eval_expr+eval_join+eval_not+eval_one+eval_pred+eval_quant+eval_select+eval_test+eval_two+operand.Lts-eval_join as eval-join-lts
+use Rattle.evaluators.proofs.+each_chosen+each_member+eval_bare+eval_bool+eval_expr+eval_join+eval_one+eval_pred+eval_quant+eval_select+eval_test+eval_two+eval_value+operand.Lts-eval_join as eval-join-lts
 use Rattle.evaluators.proofs.decides.Reads as decides-reads
 use Rattle.evaluators.proofs.joined.Reads as joined-reads
 use Rattle.table.proofs.node_field.Reads as node-field-reads
-use Rattle.evaluators.proofs.+each_chosen+each_member+eval_bool+eval_expr+eval_join+eval_not+eval_one+eval_pred+eval_quant+eval_select+eval_test+eval_two+operand.Proof.Base.{eval-join-at, eval-pred-below}
+use Rattle.evaluators.proofs.+each_chosen+each_member+eval_bare+eval_bool+eval_expr+eval_join+eval_one+eval_pred+eval_quant+eval_select+eval_test+eval_two+eval_value+operand.Proof.Base.{eval-join-at, eval-pred-below}
 use Rattle.evaluators.proofs.SafeLaws.{ready-node}
 use Rattle.evaluators.proofs.JoinLaws.{join-child, join-begins, join-stays, join-short, join-next, join-ready, join-stays-2, join-both}
 

@@ -6,11 +6,11 @@ use native.Mathlib.Omega.{arith}
 use lib.Dec.{lit<}
 use Rattle.evaluators.proofs.eval_bool.Reads as eval-bool
 use Rattle.evaluators.proofs.eval_pred.Reads as eval-pred
-use Rattle.evaluators.proofs.+each_chosen+each_member+eval_bool+eval_expr+eval_join+eval_not+eval_one+eval_pred+eval_quant+eval_select+eval_test+eval_two+operand.Lts-eval_bool as eval-bool-lts
+use Rattle.evaluators.proofs.+each_chosen+each_member+eval_bare+eval_bool+eval_expr+eval_join+eval_one+eval_pred+eval_quant+eval_select+eval_test+eval_two+eval_value+operand.Lts-eval_bool as eval-bool-lts
 use Rattle.table.proofs.node_field.Reads as node-field-reads
 use Rattle.products.proofs.put_cell.Reads as put-cell-reads
 use Rattle.evaluators.proofs.stop_of.Reads as stop-of-reads
-use Rattle.evaluators.proofs.+each_chosen+each_member+eval_bool+eval_expr+eval_join+eval_not+eval_one+eval_pred+eval_quant+eval_select+eval_test+eval_two+operand.Proof.Base.{eval-bool-at, eval-pred-below}
+use Rattle.evaluators.proofs.+each_chosen+each_member+eval_bare+eval_bool+eval_expr+eval_join+eval_one+eval_pred+eval_quant+eval_select+eval_test+eval_two+eval_value+operand.Proof.Base.{eval-bool-at, eval-pred-below}
 use Rattle.evaluators.proofs.SafeLaws.{ready-node, cell-room}
 use Rattle.evaluators.proofs.NodeLaws.{held-as, formed-as, stop-is}
 use Rattle.evaluators.proofs.FormLaws.{byte-small, bool-child, bool-begins, bool-fails, bool-evaluates}

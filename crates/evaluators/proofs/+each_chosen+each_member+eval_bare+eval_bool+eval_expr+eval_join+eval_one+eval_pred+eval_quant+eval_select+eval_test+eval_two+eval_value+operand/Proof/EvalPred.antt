@@ -9,10 +9,10 @@ use Rattle.evaluators.proofs.eval_not.Reads as eval-not
 use Rattle.evaluators.proofs.eval_pred.Reads as eval-pred
 use Rattle.evaluators.proofs.eval_quant.Reads as eval-quant
 use Rattle.evaluators.proofs.eval_test.Reads as eval-test
-use Rattle.evaluators.proofs.+each_chosen+each_member+eval_bool+eval_expr+eval_join+eval_not+eval_one+eval_pred+eval_quant+eval_select+eval_test+eval_two+operand.Lts-eval_pred as eval-pred-lts
+use Rattle.evaluators.proofs.+each_chosen+each_member+eval_bare+eval_bool+eval_expr+eval_join+eval_one+eval_pred+eval_quant+eval_select+eval_test+eval_two+eval_value+operand.Lts-eval_pred as eval-pred-lts
 use Rattle.table.proofs.node_kind.Reads as node-kind-reads
 use Rattle.evaluators.proofs.refused.Reads as refused-reads
-use Rattle.evaluators.proofs.+each_chosen+each_member+eval_bool+eval_expr+eval_join+eval_not+eval_one+eval_pred+eval_quant+eval_select+eval_test+eval_two+operand.Proof.Base.{eval-join-below, eval-not-below, eval-pred-at, eval-quant-below, eval-test-below}
+use Rattle.evaluators.proofs.+each_chosen+each_member+eval_bare+eval_bool+eval_expr+eval_join+eval_one+eval_pred+eval_quant+eval_select+eval_test+eval_two+eval_value+operand.Proof.Base.{eval-join-below, eval-not-below, eval-pred-at, eval-quant-below, eval-test-below}
 use Rattle.evaluators.proofs.SafeLaws.{ready-node}
 use Rattle.evaluators.proofs.NodeLaws.{held-as}
 use Rattle.evaluators.proofs.DispatchLaws.{spent-pred, counted, visited-as, predicate-code, test-sort, quant-sort, join-kind}

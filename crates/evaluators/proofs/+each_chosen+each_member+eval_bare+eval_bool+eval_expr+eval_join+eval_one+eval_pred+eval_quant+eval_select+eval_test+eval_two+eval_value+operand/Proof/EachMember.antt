@@ -6,10 +6,10 @@ use native.Mathlib.Omega.{arith}
 use lib.Dec.{lit<}
 use Rattle.evaluators.proofs.each_member.Reads as each-member
 use Rattle.evaluators.proofs.eval_pred.Reads as eval-pred
-use Rattle.evaluators.proofs.+each_chosen+each_member+eval_bool+eval_expr+eval_join+eval_not+eval_one+eval_pred+eval_quant+eval_select+eval_test+eval_two+operand.Lts-each_member as each-member-lts
+use Rattle.evaluators.proofs.+each_chosen+each_member+eval_bare+eval_bool+eval_expr+eval_join+eval_one+eval_pred+eval_quant+eval_select+eval_test+eval_two+eval_value+operand.Lts-each_member as each-member-lts
 use Rattle.arena.proofs.end_of.Reads as end-of-reads
 use Rattle.table.proofs.node_field.Reads as node-field-reads
-use Rattle.evaluators.proofs.+each_chosen+each_member+eval_bool+eval_expr+eval_join+eval_not+eval_one+eval_pred+eval_quant+eval_select+eval_test+eval_two+operand.Proof.Base.{each-member-at, eval-pred-below}
+use Rattle.evaluators.proofs.+each_chosen+each_member+eval_bare+eval_bool+eval_expr+eval_join+eval_one+eval_pred+eval_quant+eval_select+eval_test+eval_two+eval_value+operand.Proof.Base.{each-member-at, eval-pred-below}
 use Rattle.evaluators.proofs.SafeLaws.{one-less, binder-node, entry-below, entry-scaled}
 use Rattle.evaluators.proofs.QuantLaws.{differ, agree, Turning, turning-start, member-low, member-stands, body-ready, member-refused, member-decides, turning-on, members-done}
 

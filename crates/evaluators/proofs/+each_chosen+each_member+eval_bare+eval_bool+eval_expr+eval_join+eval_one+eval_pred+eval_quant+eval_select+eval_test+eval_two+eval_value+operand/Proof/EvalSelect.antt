@@ -7,12 +7,12 @@ use lib.Dec.{lit<}
 use Rattle.evaluators.proofs.each_chosen.Reads as each-chosen
 use Rattle.evaluators.proofs.eval_select.Reads as eval-select
 use Rattle.evaluators.proofs.operand.Reads as operand
-use Rattle.evaluators.proofs.+each_chosen+each_member+eval_bool+eval_expr+eval_join+eval_not+eval_one+eval_pred+eval_quant+eval_select+eval_test+eval_two+operand.Lts-eval_select as eval-select-lts
+use Rattle.evaluators.proofs.+each_chosen+each_member+eval_bare+eval_bool+eval_expr+eval_join+eval_one+eval_pred+eval_quant+eval_select+eval_test+eval_two+eval_value+operand.Lts-eval_select as eval-select-lts
 use Rattle.table.proofs.node_field.Reads as node-field-reads
 use Rattle.evaluators.proofs.range_of.Reads as range-of-reads
 use Rattle.evaluators.proofs.settle.Reads as settle-reads
 use Rattle.evaluators.proofs.stopped.Reads as stopped-reads
-use Rattle.evaluators.proofs.+each_chosen+each_member+eval_bool+eval_expr+eval_join+eval_not+eval_one+eval_pred+eval_quant+eval_select+eval_test+eval_two+operand.Proof.Base.{each-chosen-below, eval-select-at, operand-below}
+use Rattle.evaluators.proofs.+each_chosen+each_member+eval_bare+eval_bool+eval_expr+eval_join+eval_one+eval_pred+eval_quant+eval_select+eval_test+eval_two+eval_value+operand.Proof.Base.{each-chosen-below, eval-select-at, operand-below}
 use Rattle.evaluators.proofs.SafeLaws.{ready-node}
 use Rattle.evaluators.proofs.NodeLaws.{formed-as}
 use Rattle.evaluators.proofs.RangeLaws.{range-as}

@@ -9,12 +9,12 @@ use Rattle.evaluators.proofs.eval_expr.Reads as eval-expr
 use Rattle.evaluators.proofs.eval_one.Reads as eval-one
 use Rattle.evaluators.proofs.eval_select.Reads as eval-select
 use Rattle.evaluators.proofs.eval_two.Reads as eval-two
-use Rattle.evaluators.proofs.+each_chosen+each_member+eval_bool+eval_expr+eval_join+eval_not+eval_one+eval_pred+eval_quant+eval_select+eval_test+eval_two+operand.Lts-eval_expr as eval-expr-lts
+use Rattle.evaluators.proofs.+each_chosen+each_member+eval_bare+eval_bool+eval_expr+eval_join+eval_one+eval_pred+eval_quant+eval_select+eval_test+eval_two+eval_value+operand.Lts-eval_expr as eval-expr-lts
 use Rattle.evaluators.proofs.eval_leaf.Reads as eval-leaf-reads
 use Rattle.evaluators.proofs.eval_name.Reads as eval-name-reads
 use Rattle.table.proofs.node_kind.Reads as node-kind-reads
 use Rattle.evaluators.proofs.stopped.Reads as stopped-reads
-use Rattle.evaluators.proofs.+each_chosen+each_member+eval_bool+eval_expr+eval_join+eval_not+eval_one+eval_pred+eval_quant+eval_select+eval_test+eval_two+operand.Proof.Base.{eval-bool-below, eval-expr-at, eval-one-below, eval-select-below, eval-two-below}
+use Rattle.evaluators.proofs.+each_chosen+each_member+eval_bare+eval_bool+eval_expr+eval_join+eval_one+eval_pred+eval_quant+eval_select+eval_test+eval_two+eval_value+operand.Proof.Base.{eval-bool-below, eval-expr-at, eval-one-below, eval-select-below, eval-two-below}
 use Rattle.evaluators.proofs.SafeLaws.{ready-node}
 use Rattle.evaluators.proofs.NodeLaws.{formed-as}
 use Rattle.evaluators.proofs.DispatchLaws.{spent-expr, counted, visited-as, expression-code, one-keys, one-range, two-key, from-27, two-low, two-high, no-other, name-ready, name-answer, leaf-node, leaf-answer}
