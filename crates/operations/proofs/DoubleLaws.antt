@@ -5,7 +5,6 @@ use mathlib.Core.List.{List, [], _∷_}
 use mathlib.Core.Logic.{_≢_}
 use mathlib.Core.Path.{_≡_, refl, sym, ap, _∙_, subst}
 use native.Mathlib.Omega.{arith}
-use native.Mathlib.Decide.{decLt}
 use borrow.Author.Tests.{le-leb, lt-leb}
 use lib.Dec.{T, ltb, ltb→lt, nltb→le}
 use lib.IntN.{ℤ, pos, negsuc, subℕ, _+ℤ_, _-ℤ_}
@@ -27,11 +26,11 @@ use Rattle.sets.specs.Merged.{merged}
 use Rattle.sets.specs.Fronts.{Merges}
 use Rattle.sets.specs.Pairs.{SomeRelation, Applies, ImageAt, Within as WithinSet}
 use Rattle.sets.proofs.OperationLaws.{union-merged, inter-merged, diff-merged}
-use Rattle.products.specs.Growing.{PutsCell, Pairs, Intervals, Multiplies}
+use Rattle.products.specs.Growing.{Pairs, Intervals, Multiplies}
 use Rattle.fitting.specs.Tests.{FitTwo}
 use Rattle.arena.proofs.ValueParts.{first-cell}
 use Rattle.operations.specs.declared.Outcome.{Outcome}
-use Rattle.operations.specs.declared.Outcome.the-variants.{Within, Lacks}
+use Rattle.operations.specs.declared.Outcome.the-variants.{Within, Cell, Lacks}
 use Rattle.operations.specs.Good.{Sizes, GoodAt}
 use Rattle.operations.specs.Outcomes.{weighed, fitted, twoGiven, ended, Gives, TwoReady, TwoDone, TwoOf}
 use Rattle.operations.specs.Double.{MergeDone, Shifted, NumberDone}
@@ -291,24 +290,16 @@ beyond i l = rw (lt-leb (mag i) 2147483647 l)
 within-range : (i : ℤ) → mag i ≤ 2147483647 → ranged whole i ≡ gives (int i)
 within-range i l = rw (le-leb (mag i) 2147483647 l)
 
--- The integer that x stands for.
-shifted-some : (x : ℕ) → (i : ℤ) × Shifted i x
-shifted-some x = go (decLt x 4294967296)
-  where
-    go : Dec (x < 4294967296) → (i : ℤ) × Shifted i x
-    go (yes l) = (negsuc (4294967295 - x), omega arith)
-    go (no l) = (pos (x - 4294967296), omega arith)
-
-module _ (x : ℕ) (s : List ℕ) (top : ℕ) where
-  pub number-low : x < 2147483648 → NumberDone x s top s (Lacks 17)
-  number-low l = record { frame = same-refl top s; answer = λ mid i h. beyond i (go i h) }
+module _ (x : ℕ) where
+  pub number-low : x < 2147483648 → NumberDone x (Lacks 17)
+  number-low l s mid top i h = beyond i (go i h)
     where
       go : (i : ℤ) → Shifted i x → 2147483647 < mag i
       go (pos n) h = omega arith
       go (negsuc n) h = omega arith
 
-  pub number-high : 4294967295 < x - 2147483648 → NumberDone x s top s (Lacks 17)
-  number-high l = record { frame = same-refl top s; answer = λ mid i h. beyond i (go i h) }
+  pub number-high : 4294967295 < x - 2147483648 → NumberDone x (Lacks 17)
+  number-high l s mid top i h = beyond i (go i h)
     where
       go : (i : ℤ) → Shifted i x → 2147483647 < mag i
       go (pos n) h = omega arith
@@ -324,13 +315,8 @@ module _ (x : ℕ) (s : List ℕ) (top : ℕ) where
     cell-is (pos n) h = ap (λ (c : ℕ). c ∷ []) (let z : 4294967296 + (2147483648 + n) ≡ 4294967296 + (x - 2147483648) = omega arith in z)
     cell-is (negsuc n) h = ap (λ (c : ℕ). c ∷ []) (let z : 4294967296 + (2147483647 - n) ≡ 4294967296 + (x - 2147483648) = omega arith in z)
 
-    pub number-made : (s′ : List ℕ) (e : ℕ) (o : Outcome) → PutsCell s top (4294967296 + (x - 2147483648)) s′ e → o ≡ ended e → NumberDone x s top s′ o
-    number-made s′ e o put z = record {
-      frame = let y = shifted-some x in put (int (y .0)) (cell-is (y .0) (y .1)) .frame;
-      answer = λ mid i h.
-          subst (λ (y : Outcome). Gives s′ mid top (weighed (ranged whole i)) y) (sym z)
-          (gives-as s′ mid top (ended e) (ap weighed (within-range i (in-range i h))) (made-gives mid (put (int i) (cell-is i h))));
-    }
+    pub number-cell : NumberDone x (Cell (4294967296 + (x - 2147483648)))
+    number-cell s mid top i h = record { value = int i; is = ap weighed (within-range i (in-range i h)); cell = cell-is i h }
 
 -- Sums and differences.
 shifted-sub : (a b x : ℕ) → x + b ≡ 4294967296 + a → Shifted (subℕ a b) x
@@ -395,22 +381,22 @@ module _ {s : List ℕ} {a mid b top : ℕ} {f : Bool} (fit : FitTwo (numᵖ who
       let m = number-at (n .1 .0) small k (n .1 .1) in
       (n .0 .0, n .1 .0, n .0 .1, n .1 .1, l .0, m .0, sym (xe ∙ l .1), sym (ye ∙ m .1))
 
-  pub plus-done : (s′ : List ℕ) (o : Outcome) → NumberDone (x + y) s top s′ o → TwoDone (plus whole) s a mid b top s′ o
-  plus-done s′ o m = record {
-    frame = m .frame;
+  pub plus-done : (o : Outcome) → NumberDone (x + y) o → TwoDone (plus whole) s a mid b top s o
+  plus-done o m = record {
+    frame = same-refl top s;
     answer = λ gs v w small h k.
         let n = two-numbers gs v w small h k in
-        gives-as s′ mid top o (two-fit (plus whole) v w (number-fits gs v w small h k) (sum-is v w (n .0) (n .1) (n .2) (n .3)))
-        (m .answer mid (n .0 +ℤ n .1) (sum-at (n .0) (n .1) x y (n .4) (n .5) (n .6) (n .7)));
+        gives-as s mid top o (two-fit (plus whole) v w (number-fits gs v w small h k) (sum-is v w (n .0) (n .1) (n .2) (n .3)))
+        (m s mid top (n .0 +ℤ n .1) (sum-at (n .0) (n .1) x y (n .4) (n .5) (n .6) (n .7)));
   }
 
-  pub minus-done : (s′ : List ℕ) (o : Outcome) → NumberDone (x + 4294967296 - y) s top s′ o → TwoDone (minus whole) s a mid b top s′ o
-  minus-done s′ o m = record {
-    frame = m .frame;
+  pub minus-done : (o : Outcome) → NumberDone (x + 4294967296 - y) o → TwoDone (minus whole) s a mid b top s o
+  minus-done o m = record {
+    frame = same-refl top s;
     answer = λ gs v w small h k.
         let n = two-numbers gs v w small h k in
-        gives-as s′ mid top o (two-fit (minus whole) v w (number-fits gs v w small h k) (difference-is v w (n .0) (n .1) (n .2) (n .3)))
-        (m .answer mid (n .0 -ℤ n .1) (difference-at (n .0) (n .1) x y (n .4) (n .5) (n .6) (n .7)));
+        gives-as s mid top o (two-fit (minus whole) v w (number-fits gs v w small h k) (difference-is v w (n .0) (n .1) (n .2) (n .3)))
+        (m s mid top (n .0 -ℤ n .1) (difference-at (n .0) (n .1) x y (n .4) (n .5) (n .6) (n .7)));
   }
 
   pub interval-done : TwoReady s a mid b top → (s′ : List ℕ) (e : ℕ) (o : Outcome) → Intervals s x y top s′ e → o ≡ ended e → TwoDone interval s a mid b top s′ o

@@ -20,7 +20,7 @@ use Rattle.laws.proofs.CellsLaws.{good-typed}
 use Rattle.laws.proofs.FitsLaws.{typed-right}
 use Rattle.arena.specs.Code.{code, SetBelow, SomeSet, SomeValue, Made, AllPairs}
 use Rattle.arena.proofs.Standing.{same-refl}
-use Rattle.products.specs.Growing.{PutsCell, Singles}
+use Rattle.products.specs.Growing.{Singles}
 use Rattle.products.specs.Parts.{SomePairs, Domains, Ranges}
 use Rattle.products.specs.Power.{Powers}
 use Rattle.fitting.specs.Agree.{SomeTyped}
@@ -28,9 +28,9 @@ use Rattle.fitting.specs.Tests.{FitOne}
 use Rattle.arena.proofs.ValueParts.{first-cell}
 use Rattle.fitting.proofs.Cells.{members-stand, first-stands}
 use Rattle.operations.specs.Good.{Sizes, GoodAt}
-use Rattle.operations.specs.Outcomes.{weighed, oneGiven, ended, Gives, OneReady, OneDone, OneOf}
+use Rattle.operations.specs.Outcomes.{weighed, oneGiven, ended, GivenCell, Gives, OneReady, OneDone, OneOf}
 use Rattle.operations.specs.declared.Outcome.{Outcome}
-use Rattle.operations.specs.declared.Outcome.the-variants.{Within, Lacks}
+use Rattle.operations.specs.declared.Outcome.the-variants.{Within, Cell, Lacks}
 use Rattle.operations.proofs.GoodLaws.{good-value, good-typed-at, good-set-at, good-inside}
 use Rattle.operations.proofs.OutcomeLaws.{made-gives, one-unfit, one-fit, gives-as}
 use Rattle.operations.proofs.FitLaws.{one-fits, fit-types, types-fit, set-typed, pairs-typed}
@@ -104,11 +104,6 @@ one-made {s} {s′} {a} {top} {end} {o} j p m e = record {
       (gives-as s′ top top (ended end) (one-fit j v (x .fit) (x .is)) (made-gives top (x .made)));
 }
 
--- The cell of a number of members.
-card-code : (vs : Values) (n : ℕ) → n ≡ count vs → code (int (pos (length (members vs)))) ≡ (6442450944 + n) ∷ []
-unfolding code
-card-code vs n e = ap (λ (x : ℕ). x ∷ []) (omega (arith, members-count vs))
-
 module _ {s s′ : List ℕ} {a top end : ℕ} {o : Outcome} (p : OneReady s a top) where
   pub singleton-done : Singles s a top s′ end → o ≡ ended end → OneDone singleton s a top s′ o
   unfolding oneValue
@@ -126,18 +121,6 @@ module _ {s s′ : List ℕ} {a top end : ℕ} {o : Outcome} (p : OneReady s a t
         let i = one-fits q h (P̂ t̂ ∷ []) f ∙ t in
         let x = fits-is-set v i in
         record { fit = i; value = _; is = ap (oneValue power) (x .1); made = m (x .0) (as-set q h (x .1)) })
-        e
-
-    pub card-done : (n : ℕ) → n ≡ getD s a 0 % 4294967296 → PutsCell s top (6442450944 + n) s′ end → o ≡ ended end → OneDone card s a top s′ o
-    unfolding oneValue
-    card-done n c m e =
-        one-made card p
-        (λ gs v q h.
-        let i = one-fits q h (P̂ t̂ ∷ []) f ∙ t in
-        let x = fits-is-set v i in
-        let b = as-set q h (x .1) in
-        let d : n ≡ count (x .0) = c ∙ first-cell s a (set (x .0)) (b .stands) (b .fine .fits) .1 in
-        record { fit = i; value = _; is = ap (oneValue card) (x .1); made = m _ (card-code (x .0) n d) })
         e
 
   module _ {r : Bool} (f : FitOne (P̂ (t̂ ×̂ û) ∷ []) s a r) (t : r ≡ true) where
@@ -161,6 +144,15 @@ module _ {s s′ : List ℕ} {a top end : ℕ} {o : Outcome} (p : OneReady s a t
         record { fit = i; value = _; is = ap (oneValue ran) (x .1); made = m (x .0) (as-set q h (x .1)) (x .2) })
         e
 
+-- The number of members as a cell.
+card-cell : (vs : Values) (n : ℕ) → n ≡ count vs → GivenCell (weighed (oneValue card (set vs))) (6442450944 + n)
+unfolding oneValue code
+card-cell vs n e = record {
+  value = int (pos (length (members vs)));
+  is = refl;
+  cell = ap (λ (x : ℕ). x ∷ []) (omega (arith, members-count vs));
+}
+
 -- The least member of a set is its first.
 choice-empty : (s : List ℕ) (top : ℕ) (vs : Values) → count vs ≡ 0 → oneValue choice (set vs) ≡ lacks 16
 unfolding oneValue
@@ -178,22 +170,27 @@ choice-first s a top (v ▸ vs) h n = record {
 }
 
 module _ {s : List ℕ} {a top : ℕ} {r : Bool} (f : FitOne (P̂ t̂ ∷ []) s a r) (t : r ≡ true) (n : ℕ) (c : n ≡ getD s a 0 % 4294967296) where
-  chosen : (o : Outcome) → ((vs : Values) → SetBelow s top a vs → n ≡ count vs → Gives s top top (weighed (oneValue choice (set vs))) o) → OneDone choice s a top s o
-  chosen o m = record {
+  -- What is told of a set by the number of its members.
+  counted : (j : One) → oneRule j .takes ≡ P̂ t̂ ∷ [] → (o : Outcome) →
+      ((vs : Values) → SetBelow s top a vs → n ≡ count vs → Gives s top top (weighed (oneValue j (set vs))) o) → OneDone j s a top s o
+  counted j takes o m = record {
     frame = same-refl top s;
     answer = λ gs v q h.
         let i = one-fits q h (P̂ t̂ ∷ []) f ∙ t in
         let x = fits-is-set v i in
         let b = as-set q h (x .1) in
-        gives-as s top top o (one-fit choice v i (ap (oneValue choice) (x .1)))
+        gives-as s top top o (one-fit j v (rw takes i) (ap (oneValue j) (x .1)))
         (m (x .0) b (c ∙ first-cell s a (set (x .0)) (b .stands) (b .fine .fits) .1));
   }
 
+  pub card-done : OneDone card s a top s (Cell (6442450944 + n))
+  card-done = counted card refl (Cell (6442450944 + n)) (λ vs b d. card-cell vs n d)
+
   pub choice-none : n ≡ 0 → OneDone choice s a top s (Lacks 16)
-  choice-none z = chosen (Lacks 16) (λ vs b d. ap weighed (choice-empty s top vs (sym d ∙ z)))
+  choice-none z = counted choice refl (Lacks 16) (λ vs b d. ap weighed (choice-empty s top vs (sym d ∙ z)))
 
   pub choice-some : n ≢ 0 → OneDone choice s a top s (Within (a + 1))
-  choice-some z = chosen (Within (a + 1)) (λ vs b d. choice-first s a top vs b (λ e. z (d ∙ e)))
+  choice-some z = counted choice refl (Within (a + 1)) (λ vs b d. choice-first s a top vs b (λ e. z (d ∙ e)))
 
 -- By kind codes: the code is i's, or that of none but the last.
 module _ {k a top : ℕ} {s s′ : List ℕ} {o : Outcome} where

@@ -28,6 +28,5 @@ Shifted (pos n) x = x ≡ 4294967296 + n
 Shifted (negsuc n) x = x + suc n ≡ 4294967296
 
 -- The integer that x stands for is given, where it has 32 bits (17).
-pub record NumberDone (x : ℕ) (s : List ℕ) (top : ℕ) (s′ : List ℕ) (r : Outcome) : Type 0 where
-  pub frame : Same top s s′
-  pub answer : (mid : ℕ) (i : ℤ) → Shifted i x → Gives s′ mid top (weighed (ranged whole i)) r
+abbrev pub NumberDone : ℕ → Outcome → Type 0
+NumberDone x r = (s : List ℕ) (mid top : ℕ) (i : ℤ) → Shifted i x → Gives s mid top (weighed (ranged whole i)) r

@@ -14,10 +14,10 @@ use Rattle.rules.specs.Fits.{fits}
 use Rattle.rules.specs.Cells.{weightLimit}
 use Rattle.rules.specs.Runs.{Given, gives, lacks}
 use Rattle.rules.specs.Operations.{Env, holds, leafValue, oneValue, twoValue}
-use Rattle.arena.specs.Code.{ValueAt, Same}
+use Rattle.arena.specs.Code.{code, ValueAt, Same}
 use Rattle.operations.specs.Good.{Sizes, GoodAt}
 use Rattle.operations.specs.declared.Outcome.{Outcome}
-use Rattle.operations.specs.declared.Outcome.the-variants.{Built, Within, Lacks}
+use Rattle.operations.specs.declared.Outcome.the-variants.{Built, Within, Cell, Lacks}
 use Rattle.operations.specs.declared.Tested.{Tested}
 use Rattle.operations.specs.declared.Tested.the-variants.{Truth, Unlike}
 
@@ -61,10 +61,17 @@ pub record WithinAt (s : List ℕ) (mid : ℕ) (g : Given) (at : ℕ) : Type 0 w
   pub stands : ValueAt s at value
   pub below : at + weight value ≤ mid
 
--- The answer tells what is given: built at `top`, or a part of the first operand, which ends by `mid`, or the number of a refusal.
+-- A value that is given has the one cell x.
+pub record GivenCell (g : Given) (x : ℕ) : Type 0 where
+  pub value : Value
+  pub is : g ≡ gives value
+  pub cell : code value ≡ x ∷ []
+
+-- The answer tells what is given: built at `top`, or a part of the first operand, which ends by `mid`, or its only cell, or the number of a refusal.
 abbrev pub Gives : List ℕ → ℕ → ℕ → Given → Outcome → Type 0
 Gives s mid top g (Built end) = BuiltAt s top g end
 Gives s mid top g (Within at) = WithinAt s mid g at
+Gives s mid top g (Cell x) = GivenCell g x
 Gives s mid top g (Lacks k) = g ≡ lacks k
 
 -- A good operand stands at a, below `top`, where there is room to build.

@@ -1,8 +1,7 @@
 // Kinds 28 to 32, 37 and 39 to 41: two operands, the first at a and below mid, the second at b.
 use crate::Outcome;
 use crate::built;
-ghost use Prim.Native.Nat.{_+_, _≤_, _<_};
-ghost use lib.ListN.{length};
+ghost use Prim.Native.Nat.{_<_};
 ghost use Rattle.rules.specs.Types.{whole};
 ghost use Rattle.rules.specs.Kinds.{pairing, product, apply, plus, minus, interval};
 ghost use Rattle.operations.specs.Outcomes.{TwoReady, TwoDone};
@@ -61,9 +60,9 @@ pub fn apply(s: &[u64], a: usize, mid: usize, b: usize, top: usize) -> Outcome
 }
 
 // The integer x − 2^32, which has 32 bits where x is from 2^31 to 2^31 + 2^32 − 1 (17).
-fn number(s: &mut [u64], x: u64, top: usize) -> Outcome
-    requires { ⌜ (x < 8589934592) × (top + 514 ≤ length (now s)) ⌝ }
-    ensures { λ r. ⌜ NumberDone x (now (s .entry)) top (now (s .exit)) r ⌝ }
+fn number(x: u64) -> Outcome
+    requires { ⌜ x < 8589934592 ⌝ }
+    ensures { λ r. ⌜ NumberDone x r ⌝ }
 {
     if x < 2147483648 {
         return Outcome::Lacks(17);
@@ -72,31 +71,31 @@ fn number(s: &mut [u64], x: u64, top: usize) -> Outcome
     if n > 4294967295 {
         return Outcome::Lacks(17);
     }
-    built(products::put_cell(s, top, arena::NUMBER + n))
+    Outcome::Cell(arena::NUMBER + n)
 }
 
-pub fn plus(s: &mut [u64], a: usize, mid: usize, b: usize, top: usize) -> Outcome
+pub fn plus(s: &[u64], a: usize, mid: usize, b: usize, top: usize) -> Outcome
     requires { ⌜ TwoReady (now s) a mid b top ⌝ }
-    ensures { λ r. ⌜ TwoDone (plus whole) (now (s .entry)) a mid b top (now (s .exit)) r ⌝ }
+    ensures { λ r. ⌜ TwoDone (plus whole) (now (s .entry)) a mid b top (now (s .entry)) r ⌝ }
 {
     if !fitting::numbers(s, a, b) {
         return Outcome::Lacks(15);
     }
     let x = arena::low(s[a]);
     let y = arena::low(s[b]);
-    number(s, x + y, top)
+    number(x + y)
 }
 
-pub fn minus(s: &mut [u64], a: usize, mid: usize, b: usize, top: usize) -> Outcome
+pub fn minus(s: &[u64], a: usize, mid: usize, b: usize, top: usize) -> Outcome
     requires { ⌜ TwoReady (now s) a mid b top ⌝ }
-    ensures { λ r. ⌜ TwoDone (minus whole) (now (s .entry)) a mid b top (now (s .exit)) r ⌝ }
+    ensures { λ r. ⌜ TwoDone (minus whole) (now (s .entry)) a mid b top (now (s .entry)) r ⌝ }
 {
     if !fitting::numbers(s, a, b) {
         return Outcome::Lacks(15);
     }
     let x = arena::low(s[a]);
     let y = arena::low(s[b]);
-    number(s, x + arena::CELL - y, top)
+    number(x + arena::CELL - y)
 }
 
 pub fn interval(s: &mut [u64], a: usize, mid: usize, b: usize, top: usize) -> Outcome

@@ -7,11 +7,12 @@ pub mod leaves;
 mod single;
 mod tests;
 
-// A value built at the arena's top, with where it ends; or one within the first operand, with where it stands; or the
-// number of a refusal.
+// A value built at the arena's top, with where it ends; or one within the first operand, with where it stands; or the only
+// cell of one that the caller writes; or the number of a refusal.
 pub enum Outcome {
     Built(usize),
     Within(usize),
+    Cell(u64),
     Lacks(u8),
 }
 

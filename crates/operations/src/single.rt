@@ -41,15 +41,15 @@ pub fn range(s: &mut [u64], a: usize, top: usize) -> Outcome
     built(products::range(s, a, top))
 }
 
-pub fn card(s: &mut [u64], a: usize, top: usize) -> Outcome
+pub fn card(s: &[u64], a: usize, top: usize) -> Outcome
     requires { ⌜ OneReady (now s) a top ⌝ }
-    ensures { λ r. ⌜ OneDone card (now (s .entry)) a top (now (s .exit)) r ⌝ }
+    ensures { λ r. ⌜ OneDone card (now (s .entry)) a top (now (s .entry)) r ⌝ }
 {
     if !fitting::is_set(s, a) {
         return Outcome::Lacks(15);
     }
     let n = arena::low(s[a]);
-    built(products::put_cell(s, top, arena::ZERO + n))
+    Outcome::Cell(arena::ZERO + n)
 }
 
 // The first member is the least, and stays where it is.

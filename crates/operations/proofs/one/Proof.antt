@@ -27,6 +27,6 @@ one-spec =
     (λ c. search needs)
     (λ c. one-of ran (c .before .before .before .before .match .keys4) (c .before .before .range .ensures))
     (λ c. search needs)
-    (λ c. one-of card (c .before .before .before .before .match .keys5) (c .before .before .card .ensures))
+    (λ c. one-of card (c .before .before .match .keys5) (c .card .ensures))
     (λ c. search needs)
     returns-6)

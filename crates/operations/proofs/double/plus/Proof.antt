@@ -1,4 +1,4 @@
--- `plus`: on payloads, numbers in excess form.
+-- `plus`: on payloads, numbers in excess form. Landmarks: the first payload, and that both operands are numbers.
 use borrow.Author.Tests.{not-true, not-false}
 use Rattle.rules.specs.Types.{whole}
 use Rattle.rules.specs.Kinds.{plus}
@@ -8,26 +8,30 @@ use borrow.Author.Needs.{needs}
 use Rattle.operations.proofs.double.plus.Statement.{statement}
 use Rattle.operations.proofs.double.plus.Tie as tie
 
+abbrev lent : tie.Else1 → tie.Start
+lent c = c .before .before .before
+
+abbrev numbers : tie.After-low → tie.Else1
+numbers c = c .before .before
+
 returns-2 : tie.Need-returns-2
 returns-2 c =
-    let x = c .before .before .before .before .before .before in
-    let f = x .before .before in
-    plus-done (f .before .numbers .ensures) (not-false _ (f .if1 .left)) _ _ (x .low .ensures .0) (c .before .before .before .before .low2 .ensures .0) _ _ (c .before .before .number .ensures)
+    let x = c .before .before .before in
+    let e = numbers x in
+    plus-done (e .before .numbers .ensures) (not-false _ (e .if1 .left)) _ _ (x .low .ensures .0) (c .before .low2 .ensures .0) _ (c .number .ensures)
 
 pub plus-spec : {M : Type 1} → statement M
 plus-spec =
     tie.close
     (tie.spec
-    (λ c κs. ready-both (c .before .before .pre))
-    (λ c. search needs)
+    (λ c κs. ready-both (c .before .pre))
     (λ c. unfit-done (plus whole) (c .before .numbers .ensures) (not-true _ (c .if1 .taken)))
     (λ c. search needs)
-    (λ c. ready-first (c .before .before .before .before .before .pre))
+    (λ c. ready-first (lent (c .before) .pre))
     (λ c κs. search needs)
     (λ c. search needs)
-    (λ c. ready-second (c .before .before .before .before .before .before .before .pre))
+    (λ c. ready-second (lent (numbers (c .before)) .pre))
     (λ c κs. search needs)
     (λ c. search needs)
     (λ c κs. search needs)
-    (λ c. search needs)
     returns-2)

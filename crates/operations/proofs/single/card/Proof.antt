@@ -1,4 +1,4 @@
--- `card`: the number of members stands in the first cell of a set.
+-- `card`: the number of members stands in the first cell of a set. Landmark: that the operand is a set.
 use borrow.Author.Tests.{not-true, not-false}
 use Rattle.rules.specs.Kinds.{card}
 use Rattle.operations.proofs.SingleLaws.{ready-typed, ready-inside, one-unlike, card-done}
@@ -7,24 +7,16 @@ use Rattle.operations.proofs.single.card.Statement.{statement}
 use Rattle.operations.proofs.single.card.Tie as tie
 
 returns-2 : tie.Need-returns-2
-returns-2 c =
-    let l = c .before .before .before .before .before in
-    let f = l .before .before .before in
-    let p = f .before .before .before .pre in
-    card-done p (f .is-set .ensures) (not-false _ (l .before .before .if1 .left)) _ (l .low .ensures .0) (c .before .before .before .put-cell .ensures) (c .built .ensures)
+returns-2 c = let e = c .before .before in card-done (e .before .is-set .ensures) (not-false _ (e .if1 .left)) _ (c .low .ensures .0)
 
 pub card-spec : {M : Type 1} → statement M
 card-spec =
     tie.close
     (tie.spec
-    (λ c κs. ready-typed (c .before .before .pre))
-    (λ c. search needs)
+    (λ c κs. ready-typed (c .before .pre))
     (λ c. one-unlike card (c .before .is-set .ensures) (not-true _ (c .if1 .taken)))
     (λ c. search needs)
-    (λ c. ready-inside (c .before .before .before .before .before .pre))
-    (λ c κs. search needs)
-    (λ c. search needs)
-    (λ c κs. search needs)
+    (λ c. ready-inside (c .before .before .before .before .pre))
     (λ c κs. search needs)
     (λ c. search needs)
     returns-2)
