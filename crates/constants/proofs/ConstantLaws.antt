@@ -15,7 +15,8 @@ use Rattle.rules.specs.Tables.{Node, tableOf, nodeAt, nodeFrom, kindAt, fieldWo
 use Rattle.rules.specs.Readable.{Readable, KindRight, FieldsRight}
 use Rattle.rules.specs.Operations.{Env, leafValue}
 use Rattle.laws.proofs.TableLaws.{nodes-length, nodes-entry, sizes-length}
-use Rattle.arena.specs.Code.{code, Stands}
+use Rattle.arena.specs.Code.{code, Stands, Same}
+use Rattle.arena.proofs.Standing.{stands-frame}
 use Rattle.operations.specs.Outcomes.{LeafFits}
 use Rattle.operations.specs.Leaves.{Narrow, scalarCell}
 use Rattle.operations.proofs.KindLaws.{code-of, kind-of, same-leaf}
@@ -37,7 +38,7 @@ unfolding code leafValue
 empty-value gs a b ρ = refl
 
 -- A constant is one cell.
-leaf-one : (bs : List ℕ) (n : ℕ) (j : Leaf) (ρ : Env) → OneCell j → length (code (leafAt bs n j ρ)) ≡ 1
+pub leaf-one : (bs : List ℕ) (n : ℕ) (j : Leaf) (ρ : Env) → OneCell j → length (code (leafAt bs n j ρ)) ≡ 1
 unfolding code leafValue
 leaf-one bs n identifier ρ o = absurd o
 leaf-one bs n givenSet ρ o = absurd o
@@ -147,3 +148,8 @@ more-put bs s n x l c h m j ρ p e o = go (ℕ-discrete m n)
         subst (λ (k : ℕ). Stands (set s n x) k (code (leafAt bs m j ρ))) (sym q)
         (cell-stands s n x l (code (leafAt bs m j ρ)) (subst (λ (k : ℕ). CellOf bs k x) (sym q) c j ρ e o))
     go (no q) = cell-stays s n x m q (code (leafAt bs m j ρ)) (leaf-one bs m j ρ o) (h m j ρ (omega (arith, q)) e o)
+
+-- They stay where what is below `top` does.
+pub constants-frame : (bs s s′ : List ℕ) (i top : ℕ) → Same top s s′ → i ≤ top → Constants bs i s → Constants bs i s′
+constants-frame bs s s′ i top e low c n j ρ lt k o =
+    stands-frame top s s′ n (code (leafAt bs n j ρ)) e (omega (arith, leaf-one bs n j ρ o)) (c n j ρ lt k o)

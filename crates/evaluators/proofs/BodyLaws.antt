@@ -33,14 +33,16 @@ inner-set {env} {inner} {x} at h = record {
 }
 
 -- A member's place bound to x.
-pub binds-body : {gs s : List ℕ} {top : ℕ} {env inner : List ℕ} {ρ : Env} {x at : ℕ} {w : Value} → Inner env inner x → x < 32 →
-    Binds gs s top env ρ → GoodAt gs s top at w → Binds gs s top (setAt inner x at) (ρ with x ≔ w)
-binds-body {gs} {s} {top} {env} {inner} {ρ} {x} {at} {w} i l b g = record {
+pub binds-body : {bs s : List ℕ} {top : ℕ} {env inner : List ℕ} {ρ : Env} {x at : ℕ} {w : Value} → Inner env inner x → x < 32 →
+    Binds bs s top env ρ → GoodAt (tableOf bs .sizes) s top at w → Binds bs s top (setAt inner x at) (ρ with x ≔ w)
+binds-body {bs} {s} {top} {env} {inner} {ρ} {x} {at} {w} i l b g = record {
   at = λ y h. go y h (ℕ-discrete y x);
-  good = with-good gs ρ x w (b .good) (g .good);
+  good = with-good (tableOf bs .sizes) ρ x w (b .good) (g .good);
+  constants = b .constants;
+  low = b .low;
 }
   where
-    go : (y : ℕ) → y < 32 → Dec (y ≡ x) → GoodAt gs s top (getD (setAt inner x at) y 0) ((ρ with x ≔ w) y)
+    go : (y : ℕ) → y < 32 → Dec (y ≡ x) → GoodAt (tableOf bs .sizes) s top (getD (setAt inner x at) y 0) ((ρ with x ≔ w) y)
     go y h (yes e) =
         let p : getD (setAt inner x at) y 0 ≡ at = rw e (getD-set-same inner x at 0 (omega (arith, i .long))) in
         rw (p, eq-eqb x y (sym e), _with_≔_) g

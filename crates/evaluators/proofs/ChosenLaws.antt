@@ -218,7 +218,7 @@ module _ {bs env s₀ : List ℕ} {top n from count left : ℕ} (pre : EachReady
     frame = same-refl top s₀;
     entries = inner-start env (fieldA bs n) (pre .ready .entries);
     on = λ k. selecting-start (bodyAt bs (k .budget) n (k .depth) (k .values)) (k .budget) (k .steps) (tableOf bs .sizes) s₀ top from count left
-        (k .range) (omega (arith, pre .space)) (k .listed) (k .counts);
+        (k .range) (omega (arith, pre .space (omega arith))) (k .listed) (k .counts);
   }
 
   module _ {s inner : List ℕ} {at more m to chosen : ℕ} (h : Choosing bs env s₀ top n from count left s inner at more m to chosen) where
@@ -247,7 +247,7 @@ module _ {bs env s₀ : List ℕ} {top n from count left : ℕ} (pre : EachReady
           same = λ i p. getD-set-other s top i (21474836480 + chosen) 0 (λ e. omega arith) ∙ h .frame .same i p;
           kept = length-set s top (21474836480 + chosen) ∙ h .frame .kept;
         })
-        (omega (arith, choosing-near .0), choosing-near .1) (λ k. selecting-end (h .on k) z (omega (arith, pre .space, h .frame .kept)))
+        (omega (arith, choosing-near .0), choosing-near .1) (λ k. selecting-end (h .on k) z (omega (arith, pre .space (omega arith), h .frame .kept)))
 
     module _ (some : 0 < more) where
       -- The next member is a good value.
@@ -272,7 +272,7 @@ module _ {bs env s₀ : List ℕ} {top n from count left : ℕ} (pre : EachReady
           record {
             readable = pre .ready .readable;
             node = pre .ready .node;
-            room = omega (arith, pre .space, choosing-near .1, h .frame .kept);
+            room = omega (arith, pre .space (omega arith), choosing-near .1, h .frame .kept);
             tall = pre .ready .tall;
             small = omega (arith, pre .ready .small, h .frame .kept);
             entries = inner-set at (h .entries) .long;
@@ -322,7 +322,7 @@ module _ {bs env s₀ : List ℕ} {top n from count left : ℕ} (pre : EachReady
                 record {
                   forward = omega arith;
                   behind = omega (arith, u .here .below, choosing-near .0);
-                  room = omega (arith, pre .space, choosing-near .1, h .frame .kept, e .frame .kept, h .on (some-asked left pre) .light, ap weights (u .is));
+                  room = omega (arith, pre .space (omega arith), choosing-near .1, h .frame .kept, e .frame .kept, h .on (some-asked left pre) .light, ap weights (u .is));
                 }
 
             pub choosing-next : {yes : Bool} {l : ℕ} {s₂ : List ℕ} {q : ℕ} → r ≡ Truth yes l → Chooses s₁ at end yes to s₂ q →
@@ -334,6 +334,6 @@ module _ {bs env s₀ : List ℕ} {top n from count left : ℕ} (pre : EachReady
               entries = rw name (inner-set at (h .entries));
               on = λ k.
                   let u = selecting-member (h .on k) some in
-                  selecting-turn (h .on k) some s₁ end yes l s₂ q (omega (arith, pre .space, choosing-near .1, h .frame .kept)) (e .frame)
+                  selecting-turn (h .on k) some s₁ end yes l s₂ q (omega (arith, pre .space (omega arith), choosing-near .1, h .frame .kept)) (e .frame)
                   (ends-at (u .value) (u .here)) (answers (Truth yes l) is k) f;
             }

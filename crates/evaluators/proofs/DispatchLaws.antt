@@ -1,9 +1,9 @@
--- Where a node's visit goes: the refusal of a visit beyond the budget, the evaluator by the kind's code, the leaves, and an operand that is
--- an identifier.
+-- Where a node's visit goes: the refusal of a visit beyond the budget, the evaluator by the kind's code, the leaves that are built, and those that
+-- stand already.
 use Prim.Native.Nat.{ℕ, zero, suc, _+_, _-_, _*_, _≤_, _<_}
-use mathlib.Core.Bool.{Bool, true, false, _&&_, cond}
+use mathlib.Core.Bool.{Bool, true, false, false≢true, _&&_, cond}
 use mathlib.Core.List.{List}
-use mathlib.Core.Logic.{_≢_, _⊎_, inl, inr}
+use mathlib.Core.Logic.{_≢_, _⊎_, inl, inr, ⊎-elim}
 use mathlib.Core.Option.{Option, none as nothing, some}
 use mathlib.Core.Path.{_≡_, refl, sym, ap, _∙_, subst}
 use native.Mathlib.Omega.{arith}
@@ -20,29 +20,35 @@ use Rattle.rules.specs.Kinds.{pairing, union, inter, diff, product, apply, plus
 use Rattle.rules.specs.Kinds.{Kind, join, negation, test, quant, leaf, boolOf, one, two, comprehension, kindOf}
 use Rattle.rules.specs.Kinds.{Category, predicate, expression}
 use Rattle.rules.specs.Tables.{Node, Pred, joinᵖ, notᵖ, testᵖ, quantᵖ, Expr, leafᵉ, boolᵉ, oneᵉ, twoᵉ, comprehensionᵉ}
-use Rattle.rules.specs.Tables.{wordAt, nodeFrom, tableOf, nodeAt, kindAt, predOf, predAt, exprAt, nodeCount, nodesAt}
+use Rattle.rules.specs.Tables.{tableOf, nodeAt, kindAt, predOf, predAt, exprAt, nodeCount}
 use Rattle.rules.specs.Readable.{Readable, CategoryIs}
 use Rattle.rules.specs.Ends.{done, refused}
 use Rattle.rules.specs.Runs.{form, gives}
 use Rattle.rules.specs.Operations.{Env, leafValue}
 use Rattle.rules.specs.Evaluation.{holdsᵖ, valueᵉ}
-use Rattle.laws.proofs.TableLaws.{sizes-length, binds-length, nodes-entry}
+use Rattle.laws.proofs.TableLaws.{sizes-length, binds-length}
 use Rattle.laws.proofs.CellsLaws.{good-weight}
 use Rattle.laws.proofs.FormedLaws.{value-good}
 use Rattle.laws.proofs.EndLaws.{T-true, T-and, T-leb}
 use Rattle.table.specs.Codes.{codeOf as categoryNumber, categoryCode}
 use Rattle.table.proofs.Access.{by-range}
+use Rattle.arena.specs.Code.{ValueAt}
 use Rattle.arena.proofs.Standing.{same-refl}
+use Rattle.arena.proofs.CodeLaws.{length-code}
+use Rattle.constants.specs.Built.{builtLeaf}
+use Rattle.constants.specs.Constants.{OneCell}
+use Rattle.constants.proofs.ConstantLaws.{leaf-one}
 use Rattle.operations.specs.Outcomes.{BuiltAt, LeafFits}
 use Rattle.operations.proofs.KindLaws.{oneCode, code-of, kind-of}
 use Rattle.evaluators.specs.declared.Formed.{Formed}
 use Rattle.evaluators.specs.declared.Formed.the-variants.{Value as Placed, Stopped}
 use Rattle.evaluators.specs.declared.Held.the-variants.{Refused}
 use Rattle.evaluators.specs.Answers.{EndsWith, PlacedAs}
-use Rattle.evaluators.specs.Nodes.{fieldA, fieldB, IsPred, IsExpr, PlaceReady, PlacedName, PlaceAt, NameReady, NameAt, LeafNode, LeafFormed}
+use Rattle.evaluators.specs.Nodes.{fieldA, fieldB, IsPred, IsExpr, leafPlace, PlaceReady, PlacedLeaf, StandingReady, LeafNode, LeafFormed}
 use Rattle.evaluators.specs.Cycle.{Binds, Ready, Visited, Sort, holdsAt, valueAt, EvaluatesP, EvaluatesE}
 use Rattle.evaluators.proofs.RunLaws.{visited, unvisited}
-use Rattle.evaluators.proofs.NodeLaws.{sizes-small, field-holds, expr-at, visited-kind, steps-on}
+use Rattle.evaluators.proofs.NodeLaws.{sizes-small, field-holds, expr-at, visited-kind, visited-builds, steps-on}
+use Rattle.evaluators.proofs.SafeLaws.{cell-room}
 use Rattle.laws.proofs.TypedTree.{numberᵉ, number-at}
 
 -- The number of a condition's own node.
@@ -215,69 +221,51 @@ module _ (k : ℕ) where
       along (λ (m : ℕ). m ≢ 4 → Sort join m) 1 5
       ((λ d. (and, refl)), ((λ d. (or, refl)), ((λ d. (implies, refl)), ((λ d. absurd (d refl)), ((λ d. (iff, refl)), tt))))) k a (omega arith) n
 
-  leaf-sort : 21 ≤ k → k < 27 → k ≢ 25 → Sort leaf k
+  -- A leaf that stands already: an identifier or a constant of one cell; and one that is built.
+  abbrev pub Unbuilt : Type 0
+  Unbuilt = (j : Leaf) × (kindOf k ≡ some (leaf j)) × (builtLeaf j ≡ false)
+
+  pub unbuilt-code : 20 ≤ k → k < 27 → k ≢ 21 → k ≢ 25 → Unbuilt
   unfolding kindOf
-  leaf-sort a b n =
-      along (λ (m : ℕ). m ≢ 25 → Sort leaf m) 21 6 (
-        (λ d. (givenSet, refl)),
+  unbuilt-code a b n21 n25 =
+      along (λ (m : ℕ). m ≢ 21 → m ≢ 25 → (j : Leaf) × (kindOf m ≡ some (leaf j)) × (builtLeaf j ≡ false)) 20 7 (
+        (λ x y. (identifier, refl, refl)),
         (
-          (λ d. (elementOf, refl)),
+          (λ x y. absurd (x refl)),
           (
-            (λ d. (literal whole, refl)),
+            (λ x y. (elementOf, refl, refl)),
             (
-              (λ d. (truthConst, refl)),
-              ((λ d. absurd (d refl)), ((λ d. (emptySet, refl)), tt)),
+              (λ x y. (literal whole, refl, refl)),
+              ((λ x y. (truthConst, refl, refl)), ((λ x y. absurd (y refl)), ((λ x y. (emptySet, refl, refl)), tt))),
             ),
           ),
         ),
-      ) k a (omega arith) n
+      ) k a (omega arith) n21 n25
 
-  -- A leaf that is no identifier.
-  record Constant : Type 0 where
-    kind : Leaf
-    is : kindOf k ≡ some (leaf kind)
-    no-name : kind ≢ identifier
+  abbrev pub BuiltLeaf : Type 0
+  BuiltLeaf = (j : Leaf) × (kindOf k ≡ some (leaf j)) × (builtLeaf j ≡ true)
 
-  constant : k ≢ 20 → Sort leaf k → Constant
-  constant n s = record { kind = s .0; is = s .1; no-name = λ d. n (code-of k (leaf identifier) (s .1 ∙ ap (λ (i : Leaf). some (leaf i)) d)) }
-
-  -- The codes of leaves but for identifiers: 26 and 42, and 21 to 24.
-  abbrev pub LeafCode : Type 0
-  LeafCode = ((k ≡ 26) ⊎ (k ≡ 42)) ⊎ ((k ≢ 20) × (20 ≤ k) × (k < 25))
-
-  leaf-rest : LeafCode → Constant
-  leaf-rest (inl (inl e)) = constant (λ d. omega arith) (leaf-sort (omega arith) (omega arith) (λ d. omega arith))
-  leaf-rest (inl (inr e)) = constant (λ d. omega arith) (boolSet, kind-of k (leaf boolSet) e)
-  leaf-rest (inr (n20, a, b)) = constant n20 (leaf-sort (omega (arith, a, n20)) (omega arith) (λ d. omega arith))
-
--- A word of a node.
-node-word : (bs : List ℕ) (n : ℕ) → n < nodeCount bs → ((i : ℕ) → getD bs i 0 < 256) → fieldA bs n < 4294967296
-unfolding nodeFrom
-node-word bs n lt h =
-    let i = 4 + (nodesAt bs + 16 * n) in
-    let e : fieldA bs n ≡ wordAt bs i = ap (λ (d : Node). d .a) (nodes-entry bs n lt) in
-    omega (arith, e, h i, h (1 + i), h (2 + i), h (3 + i))
+  built-code : (k ≡ 21) ⊎ (k ≡ 42) → BuiltLeaf
+  built-code (inl e) = (givenSet, kind-of k (leaf givenSet) e, refl)
+  built-code (inr e) = (boolSet, kind-of k (leaf boolSet) e, refl)
 
 module _ (bs : List ℕ) (r : Readable bs) (n : ℕ) (lt : n < nodeCount bs) where
   -- The words of a leaf are in range.
   name-below : kindAt (tableOf bs .nodes) n ≡ some (leaf identifier) → fieldA bs n < 32
   name-below e = omega (arith, field-holds bs r n lt (leaf identifier) e 0 (omega arith), binds-length bs, r .header .identifiers)
 
-  constant-fits : (j : Leaf) → kindAt (tableOf bs .nodes) n ≡ some (leaf j) → j ≢ identifier → ((i : ℕ) → getD bs i 0 < 256) →
+  built-fits : (j : Leaf) → kindAt (tableOf bs .nodes) n ≡ some (leaf j) → builtLeaf j ≡ true →
       LeafFits j (fieldA bs n) (fieldB bs n) (getD (tableOf bs .sizes) (fieldA bs n) 0)
-  constant-fits identifier e d h = absurd (d refl)
-  constant-fits givenSet e d h = (
+  built-fits identifier e d = absurd (false≢true d)
+  built-fits givenSet e d = (
     omega (arith, field-holds bs r n lt (leaf givenSet) e 0 (omega arith), sizes-length bs, r .header .givens),
     sizes-small bs r .small (fieldA bs n),
   )
-  constant-fits elementOf e d h = (
-    omega (arith, field-holds bs r n lt (leaf elementOf) e 0 (omega arith), sizes-length bs, r .header .givens),
-    omega (arith, field-holds bs r n lt (leaf elementOf) e 1 (omega arith), sizes-small bs r .small (fieldA bs n)),
-  )
-  constant-fits (literal m) e d h = node-word bs n lt h
-  constant-fits truthConst e d h = field-holds bs r n lt (leaf truthConst) e 0 (omega arith)
-  constant-fits emptySet e d h = tt
-  constant-fits boolSet e d h = tt
+  built-fits elementOf e d = absurd (false≢true d)
+  built-fits (literal m) e d = absurd (false≢true d)
+  built-fits truthConst e d = absurd (false≢true d)
+  built-fits emptySet e d = absurd (false≢true d)
+  built-fits boolSet e d = tt
 
 -- A value that is not heavy is formed.
 light-form : {budget left : ℕ} (n : ℕ) (w : Value) (s : ℕ) → weight w ≤ 256 → s + left ≡ budget → EndsWith (form n (gives w) s) (done w) budget left
@@ -286,29 +274,18 @@ light-form n w s h c = record { end = rw (le-leb (weight w) 256 h); steps = rw (
 given-same : (v w : Value) → gives v ≡ gives w → v ≡ w
 given-same v w e = cc
 
+pub place-ready : {bs env s : List ℕ} {top n : ℕ} → Ready bs env s top n → PlaceReady bs env n
+place-ready r = record { readable = r .readable; node = r .node; entries = r .entries }
+
 -- What the evaluators of the leaves take for granted.
 module _ {bs env s : List ℕ} {top k n left : ℕ} (v : Visited bs env s top k n left) where
-  name-kind : k ≡ 20 → kindAt (tableOf bs .nodes) n ≡ some (leaf identifier)
-  name-kind e = visited-kind v (leaf identifier) (kind-of k (leaf identifier) e)
-
-  pub name-ready : k ≡ 20 → NameReady bs env n
-  name-ready e = record {
-    readable = v .ready .readable;
-    node = v .ready .node;
-    name = name-below bs (v .ready .readable) n (v .ready .node) (name-kind e);
-    entries = v .ready .entries;
-  }
-
-  constant-node : Constant k → ((i : ℕ) → getD bs i 0 < 256) → LeafNode bs s top k n
-  constant-node c h = record {
-    readable = v .ready .readable;
-    node = v .ready .node;
-    ready = record {
-      kind = c .kind;
-      is = c .is;
-      fits = constant-fits bs (v .ready .readable) n (v .ready .node) (c .kind) (visited-kind v (leaf (c .kind)) (c .is)) (c .no-name) h;
-      room = omega (arith, v .ready .room);
-    };
+  pub standing-ready : Unbuilt k → StandingReady bs env k n
+  standing-ready u = record {
+    node = place-ready (v .ready);
+    same = v .kind;
+    kind = u .0;
+    is = u .1 .0;
+    unbuilt = u .1 .1;
   }
 
   -- A node's kind is in the range of its category, and so the last arms.
@@ -321,8 +298,20 @@ module _ {bs env s : List ℕ} {top k n left : ℕ} (v : Visited bs env s top k 
   pub join-kind : IsPred bs n → k ≢ 4 → k < 6 → Sort join k
   join-kind h d l = join-sort k (predicate-code h .0) l d
 
-  pub leaf-node : LeafCode k → ((i : ℕ) → getD bs i 0 < 256) → LeafNode bs s top k n
-  leaf-node h bytes = constant-node (leaf-rest k h) bytes
+  pub leaf-node : (k ≡ 21) ⊎ (k ≡ 42) → LeafNode bs s top k n
+  leaf-node h =
+      let u = built-code k h in
+      let e = visited-kind v (leaf (u .0)) (u .1 .0) in
+      record {
+        readable = v .ready .readable;
+        node = v .ready .node;
+        ready = record {
+          kind = u .0;
+          is = u .1 .0;
+          fits = built-fits bs (v .ready .readable) n (v .ready .node) (u .0) e (u .1 .1);
+          room = cell-room (v .ready) (visited-builds v (leaf (u .0)) (u .1 .0) (u .1 .1)) (same-refl top s);
+        };
+      }
 
   -- The value of a leaf's node.
   abbrev here : Leaf → Env → Value
@@ -338,17 +327,43 @@ module _ {bs env s : List ℕ} {top k n left : ℕ} (v : Visited bs env s top k 
       let y = visited budget n steps (form n (gives (here j ρ))) (o .0) (light-form n (here j ρ) (suc steps) light (o .1)) in
       record { end = rw (d .is) (y .end); steps = rw (d .is) (y .steps) }
 
-  -- An identifier's value stays where it is.
-  pub name-answer : k ≡ 20 → (o : Formed) → NameAt bs env top n (left - 1) o → EvaluatesE bs env s top n left s o
+  constant-good : (j : Leaf) → kindAt (tableOf bs .nodes) n ≡ some (leaf j) → OneCell j → (ρ : Env) → Binds bs s top env ρ →
+      ValueAt s n (here j ρ) × (n + weight (here j ρ) ≤ top) × (weight (here j ρ) ≤ 256)
+  constant-good j e o ρ b =
+      let one = leaf-one bs n j ρ o in
+      let w = length-code (here j ρ) in
+      (b .constants n j ρ (v .ready .node) e o, omega (arith, b .low, v .ready .node, one, w), omega (arith, one, w))
+
+  -- The value of a leaf that is not built: where it stands, and that it is light.
+  standing-good : (j : Leaf) → kindAt (tableOf bs .nodes) n ≡ some (leaf j) → builtLeaf j ≡ false → (ρ : Env) → Binds bs s top env ρ →
+      ValueAt s (leafPlace j env n (fieldA bs n)) (here j ρ) × (leafPlace j env n (fieldA bs n) + weight (here j ρ) ≤ top) × (weight (here j ρ) ≤ 256)
   unfolding leafValue
-  name-answer e o h = subst (λ (x : Formed). EvaluatesE bs env s top n left s x) (sym h) (record {
+  standing-good identifier e d ρ b =
+      let g = b .at (fieldA bs n) (name-below bs (v .ready .readable) n (v .ready .node) e) in
+      (g .stands, g .below, good-weight (tableOf bs .sizes) (ρ (fieldA bs n)) (b .good (fieldA bs n)))
+  standing-good givenSet e d ρ b = absurd (false≢true (sym d))
+  standing-good elementOf e d ρ b = constant-good elementOf e tt ρ b
+  standing-good (literal m) e d ρ b = constant-good (literal m) e tt ρ b
+  standing-good truthConst e d ρ b = constant-good truthConst e tt ρ b
+  standing-good emptySet e d ρ b = constant-good emptySet e tt ρ b
+  standing-good boolSet e d ρ b = absurd (false≢true (sym d))
+
+  pub standing-answer : {at : ℕ} → PlacedLeaf bs env n at → EvaluatesE bs env s top n left s (Placed at top (left - 1))
+  standing-answer {at} p = subst (λ (x : ℕ). EvaluatesE bs env s top n left s (Placed x top (left - 1))) (sym (p .place)) (record {
     frame = same-refl top s;
     bounds = (omega arith, omega arith);
-    answer = λ f ρ budget steps l c b. record {
-      value = ρ (fieldA bs n);
-      ends = leaf-ends identifier (name-kind e) f ρ budget steps l c (good-weight (tableOf bs .sizes) (ρ (fieldA bs n)) (b .good (fieldA bs n)));
-      place = b .at (fieldA bs n) (name-below bs (v .ready .readable) n (v .ready .node) (name-kind e));
-    };
+    answer = λ f ρ budget steps l c b.
+        let g = standing-good (p .kind) (p .is) (p .unbuilt) ρ b in
+        let z = leaf-ends (p .kind) (p .is) f ρ budget steps l c (g .1 .1) in
+        record {
+          value = here (p .kind) ρ;
+          ends = z;
+          place = record {
+            stands = g .0;
+            below = g .1 .0;
+            good = value-good budget (tableOf bs) (v .ready .readable .records) f n ρ steps (here (p .kind) ρ) (b .good) (z .end);
+          };
+        };
   })
 
   -- Another leaf's value has been built.
@@ -383,22 +398,44 @@ module _ {bs env s : List ℕ} {top k n left : ℕ} (v : Visited bs env s top k 
             built-answer s′ (h .end) (p .ready .kind) (visited-kind v (leaf (p .ready .kind)) (p .ready .is)) f ρ budget steps l c b (leaf-built p s′ o h ρ);
       })
 
--- An operand that is an identifier: what is asked of its node, and what is known of its value's place.
-pub place-ready : {bs env s : List ℕ} {top n : ℕ} → Ready bs env s top n → PlaceReady bs env n
-place-ready r = record { readable = r .readable; node = r .node; entries = r .entries }
-
-module _ {bs env : List ℕ} {n k : ℕ} (p : PlaceReady bs env n) (e : k ≡ nodeAt (tableOf bs .nodes) n .kind) (q : k ≡ 20) where
-  place-kind : kindAt (tableOf bs .nodes) n ≡ some (leaf identifier)
-  place-kind = ap kindOf (sym e) ∙ kind-of k (leaf identifier) q
-
-  pub place-name : fieldA bs n < 32
-  place-name = name-below bs (p .readable) n (p .node) place-kind
-
-  pub place-at : {x at : ℕ} → x ≡ fieldA bs n → at ≡ getD env x 0 → PlaceAt bs env n at
-  place-at ex d = λ _. record { kind = sym e ∙ q; is = d ∙ ap (λ (y : ℕ). getD env y 0) ex }
-
--- It is the answer, where a visit is left.
-pub placed-answer : {bs env s : List ℕ} {top n at left : ℕ} → Ready bs env s top n → PlacedName bs env n at → left ≢ 0 →
+-- An operand that stands already, where a visit is left.
+pub placed-answer : {bs env s : List ℕ} {top n at left : ℕ} → Ready bs env s top n → PlacedLeaf bs env n at → left ≢ 0 →
     EvaluatesE bs env s top n left s (Placed at top (left - 1))
-placed-answer {top = top} {at = at} {left = left} r p h =
-    name-answer (counted r 20 h (sym (p .kind))) refl (Placed at top (left - 1)) (ap (λ (y : ℕ). Placed y top (left - 1)) (p .is))
+placed-answer r p h = standing-answer (counted r _ h refl) p
+
+-- Where a leaf stands.
+module _ {bs env : List ℕ} {k n : ℕ} (p : StandingReady bs env k n) where
+  standing-kind : kindAt (tableOf bs .nodes) n ≡ some (leaf (p .kind))
+  standing-kind = ap kindOf (sym (p .same)) ∙ p .is
+
+  -- An identifier has 20, a constant another code.
+  pub standing-name : k ≡ 20 → fieldA bs n < 32
+  standing-name q = name-below bs (p .node .readable) n (p .node .node) (ap kindOf (sym (p .same)) ∙ kind-of k (leaf identifier) q)
+
+  pub placed-name : k ≡ 20 → {x at : ℕ} → x ≡ fieldA bs n → at ≡ getD env x 0 → PlacedLeaf bs env n at
+  placed-name q ex d = record {
+    kind = identifier;
+    is = ap kindOf (sym (p .same)) ∙ kind-of k (leaf identifier) q;
+    unbuilt = refl;
+    place = d ∙ ap (λ (y : ℕ). getD env y 0) ex;
+  }
+
+  pub placed-constant : k ≢ 20 → PlacedLeaf bs env n n
+  placed-constant q = record { kind = p .kind; is = standing-kind; unbuilt = p .unbuilt; place = go (p .kind) (p .is) }
+    where
+      go : (j : Leaf) → kindOf k ≡ some (leaf j) → n ≡ leafPlace j env n (fieldA bs n)
+      go identifier e = absurd (q (code-of k (leaf identifier) e))
+      go givenSet e = refl
+      go elementOf e = refl
+      go (literal m) e = refl
+      go truthConst e = refl
+      go emptySet e = refl
+      go boolSet e = refl
+
+-- The arms of `leaf_place`.
+pub place-standing : {bs env : List ℕ} {n k : ℕ} → PlaceReady bs env n → k ≡ nodeAt (tableOf bs .nodes) n .kind → (k ≡ 20) ⊎ ((22 ≤ k) × (k < 25)) →
+    StandingReady bs env k n
+place-standing {k = k} p e h =
+    let u = unbuilt-code k (⊎-elim (λ q. omega arith) (λ q. omega (arith, q .0)) h) (⊎-elim (λ q. omega arith) (λ q. omega (arith, q .1)) h)
+    (λ z. ⊎-elim (λ q. omega arith) (λ q. omega (arith, q .0)) h) (λ z. ⊎-elim (λ q. omega arith) (λ q. omega (arith, q .1)) h) in
+    record { node = p; same = e; kind = u .0; is = u .1 .0; unbuilt = u .1 .1 }

@@ -28,6 +28,8 @@ use Rattle.operations.specs.Outcomes.{weighed, oneGiven, twoGiven, Gives, OneRe
 use Rattle.operations.specs.declared.Outcome.{Outcome}
 use Rattle.operations.specs.declared.Outcome.the-variants.{Built}
 use Rattle.operations.proofs.KindLaws.{kind-of}
+use Rattle.operations.proofs.GoodLaws.{good-inside}
+use Rattle.constants.specs.Built.{Builds}
 use Rattle.reading.specs.declared.Refusal.{Refusal}
 use Rattle.evaluators.specs.declared.Held.the-variants.{Truth, Refused}
 use Rattle.evaluators.specs.declared.Formed.{Formed}
@@ -37,7 +39,7 @@ use Rattle.evaluators.specs.Answers.{EndsWith, PlacedAs, FormedAs, Selec
 use Rattle.evaluators.specs.Nodes.{fieldA, fieldB, fieldC, IsPred, IsExpr, SomeGood, RangeAt}
 use Rattle.evaluators.specs.Cycle.{Binds, Ready, Visited, valueAt, EvaluatesP, EvaluatesE, EachReady, bodyAt, EvaluatesChosen, Settles}
 use Rattle.evaluators.proofs.RunLaws.{then-done, then-refused, visited, endOf, form-ends, fitted-ends, fitting-on, fitting-refused, ends-as}
-use Rattle.evaluators.proofs.NodeLaws.{Child, TwoFields, sizes-small, binds-frame, fields-tall, ready-first, visited-kind, visited-child, visited-operands}
+use Rattle.evaluators.proofs.NodeLaws.{Child, TwoFields, sizes-small, binds-frame, fields-tall, ready-first, visited-kind, visited-builds, visited-child, visited-operands}
 use Rattle.evaluators.proofs.NodeLaws.{steps-on, held-below, formed-below, formed-by}
 use Rattle.evaluators.proofs.BothLaws.{BothAs, StopsAs, both-refused, both-done, StopsBoth, EvaluatesBoth}
 use Rattle.evaluators.proofs.RangeLaws.{placed-good, RangeHere, range-here, binder-ready}
@@ -118,7 +120,7 @@ module _ {bs env s : List ℕ} {top k n m left : ℕ} (x : Visited bs env s top 
       small = sizes-small bs (x .ready .readable);
       value = operand-at .value;
       operand = operand-at .place;
-      room = omega (arith, x .ready .room, one-child .lower, one-child .tall, h .bounds .1, h .frame .kept);
+      room = omega (arith, x .ready .room (visited-builds x (one j) e refl), one-child .lower, one-child .tall, h .bounds .1, h .frame .kept);
     }
 
     module _ {s₂ : List ℕ} {o : Outcome} (op : OneOf k s₁ at next s₂ o) where
@@ -129,7 +131,8 @@ module _ {bs env s : List ℕ} {top k n m left : ℕ} (x : Visited bs env s top 
         low = h .bounds .0;
         high = h .bounds .1;
         order = omega arith;
-        room = omega (arith, x .ready .room, one-child .lower, one-child .tall, h .bounds .1, h .frame .kept, op j e .frame .kept);
+        room =
+            omega (arith, x .ready .room (visited-builds x (one j) e refl), one-child .lower, one-child .tall, h .bounds .1, h .frame .kept, op j e .frame .kept);
       }
 
       pub one-evaluates : {s₃ : List ℕ} {r : Formed} → Settles s₂ o next next top n l s₃ r → EvaluatesE bs env s top n left s₃ r
@@ -202,7 +205,8 @@ module _ {bs env s : List ℕ} {top k n left : ℕ} (x : Visited bs env s top k 
           low = h .low;
           high = h .high;
           order = h .order;
-          room = omega (arith, x .ready .room, fields-tall two-fields, h .high, h .near, h .frame .kept, op j e .frame .kept);
+          room =
+              omega (arith, x .ready .room (visited-builds x (two j) e refl), fields-tall two-fields, h .high, h .near, h .frame .kept, op j e .frame .kept);
         }
 
     pub two-evaluates : {s₃ : List ℕ} {r : Formed} → Settles s₂ o mid next top n l s₃ r → EvaluatesE bs env s top n left s₃ r
@@ -359,6 +363,9 @@ module _ {bs env s : List ℕ} {top n m left : ℕ} (x : Visited bs env s top 34
   select-kind : kindAt (tableOf bs .nodes) n ≡ some comprehension
   select-kind = visited-kind x comprehension (kind-of 34 comprehension refl)
 
+  select-builds : Builds bs
+  select-builds = visited-builds x comprehension (kind-of 34 comprehension refl) refl
+
   pub select-child : Child bs n m expression
   select-child = visited-child x comprehension (kind-of 34 comprehension refl) expression 1 m (omega arith) (omega arith) refl w
 
@@ -383,7 +390,7 @@ module _ {bs env s : List ℕ} {top n m left : ℕ} (x : Visited bs env s top 34
     range-good = placed-good (sizes-small bs (x .ready .readable)) range-at
 
     pub range-low : at < 4294967296
-    range-low = omega (arith, range-at .place .below, h .bounds .1, x .ready .room, x .ready .small)
+    range-low = omega (arith, good-inside (sizes-small bs (x .ready .readable)) (range-at .place), h .frame .kept, x .ready .small)
 
     pub range-fails : RangeAt s₁ at Unlike → EvaluatesE bs env s top n left s₁ (Stopped (record { number = 15; place = n }) l)
     range-fails y =
@@ -399,7 +406,7 @@ module _ {bs env s : List ℕ} {top n m left : ℕ} (x : Visited bs env s top 34
       pub select-each : EachReady bs env s₁ next n (at + 1) count 256
       select-each =
           let v = range-at in
-          binder-ready (x .ready) select-kind refl 256 (omega arith) (h .frame) (h .bounds .0) (h .bounds .1) (v .place)
+          binder-ready (x .ready) select-kind refl 256 (omega arith) (λ _. refl) (h .frame) (h .bounds .0) (h .bounds .1) (v .place)
           (y (tableOf bs .sizes) next (v .value) (sizes-small bs (x .ready .readable)) (v .place))
 
       -- The range at an environment, and the members of it that the body selects.
@@ -446,7 +453,7 @@ module _ {bs env s : List ℕ} {top n m left : ℕ} (x : Visited bs env s top 34
               low = h .bounds .0;
               high = h .bounds .1;
               order = omega arith;
-              room = omega (arith, x .ready .room, select-child .lower, select-child .tall, h .bounds .1, h .frame .kept, ch .frame .kept);
+              room = omega (arith, x .ready .room select-builds, select-child .lower, select-child .tall, h .bounds .1, h .frame .kept, ch .frame .kept);
             }
 
         pub select-evaluates : {s₃ : List ℕ} {r : Formed} → Settles s₂ (Built end) next next top n u s₃ r → EvaluatesE bs env s top n left s₃ r

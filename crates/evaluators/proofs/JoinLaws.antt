@@ -1,4 +1,4 @@
--- Negations and joins: the run at the node, part by part, and with it what the answers for the conditions below make of the node's.
+-- Joins: the run at the node, part by part, and with it what the answers for the conditions below make of the node's.
 use Prim.Native.Nat.{ℕ, suc, _+_, _-_, _≤_, _<_}
 use mathlib.Core.Bool.{Bool, true, false, not, cond}
 use mathlib.Core.List.{List}
@@ -6,8 +6,8 @@ use mathlib.Core.Option.{Option, none as nothing, some}
 use mathlib.Core.Path.{_≡_, refl, sym, ap, _∙_, subst}
 use native.Mathlib.Omega.{arith}
 use lib.Dec.{eqb}
-use Rattle.rules.specs.Kinds.{predicate, Join, join, negation, kindOf}
-use Rattle.rules.specs.Tables.{Pred, notᵖ, joinᵖ, tableOf, predAt}
+use Rattle.rules.specs.Kinds.{predicate, Join, join, kindOf}
+use Rattle.rules.specs.Tables.{Pred, joinᵖ, tableOf, predAt}
 use Rattle.rules.specs.Ends.{End, done, refused}
 use Rattle.rules.specs.Runs.{M, return, _>>=_, _orElse_}
 use Rattle.rules.specs.Operations.{Env}
@@ -24,44 +24,6 @@ use Rattle.evaluators.specs.Nodes.{fieldA, fieldB, IsPred, DecidesBy, Jo
 use Rattle.evaluators.proofs.RunLaws.{then-done, then-refused, returns, visited}
 use Rattle.evaluators.proofs.NodeLaws.{Child, ready-child, ready-first, binds-frame, visited-kind, visited-child}
 use Rattle.evaluators.proofs.NodeLaws.{steps-on, held-as, held-below, held-by}
-
--- 4
-abbrev negated : Held → Held
-negated (Truth b l) = Truth (not b) l
-negated (Refused r l) = Refused r l
-
-negated-ends : (budget : ℕ) (gs : List ℕ) (n : ℕ) (ρ : Env) (s : ℕ) (p : Pred) (r : Held) → s < budget →
-    HeldAs (holdsᵖ budget gs p ρ (suc s)) budget r → HeldAs (holdsᵖ budget gs (notᵖ n p) ρ s) budget (negated r)
-unfolding holdsᵖ
-negated-ends budget gs n ρ s p (Truth b l) less h =
-    visited budget n s (holdsᵖ budget gs p ρ >>= λ a. return (not a)) less
-    (then-done (holdsᵖ budget gs p ρ) (λ a. return (not a)) (suc s) (h .end) (returns (not b) (h .steps)))
-negated-ends budget gs n ρ s p (Refused r l) less h =
-    visited budget n s (holdsᵖ budget gs p ρ >>= λ a. return (not a)) less
-    (then-refused (holdsᵖ budget gs p ρ) (λ a. return (not a)) (suc s) h)
-
-module _ {bs env s : List ℕ} {top n left a : ℕ} (v : Visited bs env s top 4 n left) (q : a ≡ fieldA bs n) where
-  pub not-child : Child bs n a predicate
-  not-child = visited-child v negation (kind-of 4 negation refl) predicate 0 a (omega arith) (omega arith) refl q
-
-  pub not-ready : Ready bs env s top a × IsPred bs a
-  not-ready = (ready-first (v .ready) not-child, not-child .is)
-
-  not-held : {s′ : List ℕ} {r : Held} → EvaluatesP bs env s top a (left - 1) s′ r → EvaluatesP bs env s top n left s′ (negated r)
-  not-held {s′} {r} h =
-      held-by negation (visited-kind v negation (kind-of 4 negation refl)) (h .frame)
-      (λ g ρ budget steps le c b.
-      let o = steps-on v c in
-      negated-ends budget (tableOf bs .sizes) n ρ steps (predAt g (tableOf bs .nodes) (fieldA bs n)) r (o .0)
-      (held-below not-child q g le ρ budget (suc steps) (o .1) b r refl h))
-
-  -- As the code answers: a refusal is handed on, a truth is turned round.
-  module _ {s′ : List ℕ} {r : Held} (h : EvaluatesP bs env s top a (left - 1) s′ r) where
-    pub not-stays : {p : Refusal} {l : ℕ} → r ≡ Refused p l → EvaluatesP bs env s top n left s′ r
-    not-stays e = held-as refl (ap negated e ∙ sym e) (not-held h)
-
-    pub not-turns : {b : Bool} {l : ℕ} → r ≡ Truth b l → EvaluatesP bs env s top n left s′ (Truth (not b) l)
-    not-turns e = held-as refl (ap negated e) (not-held h)
 
 -- What decides, and what does not.
 or-decided : {A : Type 0} {budget left : ℕ} (o : Option A) (m : M A) (a : A) (t : ℕ) → o ≡ some a → t + left ≡ budget →

@@ -23,7 +23,7 @@ use Rattle.operations.proofs.KindLaws.{joinCode, code-of, same-join}
 use Rattle.operations.proofs.SingleLaws.{fits-is-set}
 use Rattle.evaluators.specs.declared.Formed.the-variants.{Value as Placed}
 use Rattle.evaluators.specs.declared.Range.the-variants.{Set, Unlike}
-use Rattle.evaluators.specs.Nodes.{fieldA, fieldB, DecidesBy, JoinedBy, SomeGood, RangeAt, NameReady, NameAt, LeafNode, LeafFormed}
+use Rattle.evaluators.specs.Nodes.{fieldA, fieldB, DecidesBy, JoinedBy, SomeGood, RangeAt, LeafNode, LeafFormed}
 
 -- What holds of a join by its own code.
 module _ {k : ℕ} (p : Bool) where
@@ -118,12 +118,7 @@ module _ {s : List ℕ} {at : ℕ} where
           counted = c ∙ first-cell s at (set (x .0)) (g .stands) (good-fits q (set (x .0)) (g .good)) .1;
         }
 
--- 20
-pub name-at : {bs env : List ℕ} {top n left x r : ℕ} → NameReady bs env n → x ≡ fieldA bs n → r ≡ getD env x 0 →
-    NameAt bs env top n left (Placed r top left)
-name-at {bs} {env} {top} {n} {left} {x} {r} p e d = ap (λ (y : ℕ). Placed y top left) (d ∙ ap (λ (y : ℕ). getD env y 0) e)
-
--- 21 to 24, 26 and 42, with the words that have been read.
+-- 21 and 42, with the words that have been read.
 module _ {bs s : List ℕ} {top k n a b z : ℕ} (p : LeafNode bs s top k n)
     (ea : a ≡ fieldA bs n) (eb : b ≡ fieldB bs n) (ez : z ≡ getD (tableOf bs .sizes) a 0) where
   same-size : z ≡ getD (tableOf bs .sizes) (fieldA bs n) 0

@@ -4,6 +4,7 @@ pub mod NodeLaws
 pub mod SafeLaws
 pub mod DispatchLaws
 pub mod FormLaws
+pub mod BareLaws
 pub mod BodyLaws
 pub mod ChosenLaws
 pub mod RangeLaws

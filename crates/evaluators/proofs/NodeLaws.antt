@@ -19,6 +19,8 @@ use Rattle.laws.proofs.CellsLaws.{size-below}
 use Rattle.arena.specs.Code.{Same}
 use Rattle.arena.proofs.Standing.{stands-frame, same-refl}
 use Rattle.arena.proofs.CodeLaws.{length-code}
+use Rattle.constants.specs.Built.{built, Builds}
+use Rattle.constants.proofs.ConstantLaws.{constants-frame}
 use Rattle.operations.specs.Good.{Sizes, GoodAt}
 use Rattle.evaluators.specs.declared.Held.{Held}
 use Rattle.evaluators.specs.declared.Held.the-variants.{Truth, Refused}
@@ -44,11 +46,13 @@ good-frame {gs} {s} {s′} {top} {at} {v} e h = record {
   good = h .good;
 }
 
-pub binds-frame : {gs s s′ : List ℕ} {top : ℕ} {env : List ℕ} {ρ : Env} (k : ℕ) → Same top s s′ → top ≤ k →
-    Binds gs s top env ρ → Binds gs s′ k env ρ
-binds-frame {gs} {s} {s′} {top} {env} {ρ} k e le b = record {
+pub binds-frame : {bs s s′ : List ℕ} {top : ℕ} {env : List ℕ} {ρ : Env} (k : ℕ) → Same top s s′ → top ≤ k →
+    Binds bs s top env ρ → Binds bs s′ k env ρ
+binds-frame {bs} {s} {s′} {top} {env} {ρ} k e le b = record {
   at = λ x h. let g = good-frame e (b .at x h) in record { stands = g .stands; below = omega (arith, g .below); good = g .good };
   good = b .good;
+  constants = constants-frame bs s s′ (nodeCount bs) top e (b .low) (b .constants);
+  low = omega (arith, b .low);
 }
 
 -- No node has height 0.
@@ -130,7 +134,7 @@ pub record Deeper (A : Type 0) (x : A) (n : ℕ) (tree : ℕ → A) : Type 0 whe
   pub is : x ≡ tree depth
 
 module _ (ns : List Node) (n : ℕ) (k : Kind) (e : kindAt ns n ≡ some k) where
-  pred-at : (f : ℕ) → n < f → Deeper Pred (predAt f ns n) n (λ g. predOf (some k) n (nodeAt ns n) (λ m. predAt g ns m) (λ m. exprAt g ns m))
+  pub pred-at : (f : ℕ) → n < f → Deeper Pred (predAt f ns n) n (λ g. predOf (some k) n (nodeAt ns n) (λ m. predAt g ns m) (λ m. exprAt g ns m))
   unfolding predAt
   pred-at zero l = absurd (omega arith)
   pred-at (suc f) l = record { depth = f; enough = omega arith; is = rw e }
@@ -159,7 +163,7 @@ pub ready-child : {bs env s : List ℕ} {top n : ℕ} {c : Category} (s′ : Lis
 ready-child {bs} {env} {s} {top} {n} s′ m k r c e le near = record {
   readable = r .readable;
   node = omega (arith, c .below, r .node);
-  room = omega (arith, c .lower, r .room, e .kept, expression-cells (kindAt (tableOf bs .nodes) m));
+  room = λ b. omega (arith, c .lower, r .room b, e .kept, expression-cells (kindAt (tableOf bs .nodes) m));
   tall = c .tall;
   small = omega (arith, r .small, e .kept);
   entries = r .entries;
@@ -175,6 +179,10 @@ ready-first {bs} {env} {s} {top} {n} {m} r c = ready-child s m top r c (same-ref
 module _ {bs env s : List ℕ} {top k n left : ℕ} (v : Visited bs env s top k n left) (x : Kind) (e : kindOf k ≡ some x) where
   pub visited-kind : kindAt (tableOf bs .nodes) n ≡ some x
   visited-kind = ap kindOf (sym (v .kind)) ∙ e
+
+  -- It is built.
+  pub visited-builds : built (some x) ≡ true → Builds bs
+  visited-builds q = record { node = n; below = v .ready .node; is = ap built visited-kind ∙ q }
 
   pub visited-child : (c : Category) (i m : ℕ) → i < 3 → i < length (fieldsOf x) → getD (fieldsOf x) i unused ≡ child c →
       m ≡ getD (fieldWords (nodeAt (tableOf bs .nodes) n)) i 0 → Child bs n m c

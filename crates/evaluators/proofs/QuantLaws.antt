@@ -20,7 +20,7 @@ use Rattle.rules.specs.Operations.{Env, _with_≔_, elems}
 use Rattle.rules.specs.Evaluation.{fitting, quantify, holdsᵖ, valueᵉ}
 use Rattle.arena.specs.Code.{Same, SomeAt, EndsAt}
 use Rattle.arena.proofs.Standing.{same-refl, same-trans}
-use Rattle.operations.proofs.GoodLaws.{good-fits}
+use Rattle.operations.proofs.GoodLaws.{good-fits, good-inside}
 use Rattle.operations.proofs.KindLaws.{quantCode, code-of}
 use Rattle.reading.specs.declared.Refusal.{Refusal}
 use Rattle.evaluators.specs.declared.Held.{Held}
@@ -132,7 +132,7 @@ module _ {bs env s₀ : List ℕ} {top : ℕ} {all : Bool} {node from count left
   some-next = next (some-asked left r)
 
   pub member-low : at < 4294967296
-  member-low = omega (arith, some-next .here .below, weight-some (some-next .value), r .ready .small, r .ready .room)
+  member-low = omega (arith, good-inside (sizes-small bs (r .ready .readable)) (some-next .here), i .frame .kept, r .ready .small)
 
   pub member-stands : (s′ : List ℕ) → Same top s s′ → SomeAt s′ at
   member-stands s′ e =
@@ -153,7 +153,7 @@ module _ {bs env s₀ : List ℕ} {top : ℕ} {all : Bool} {node from count left
       record {
         readable = r .ready .readable;
         node = r .ready .node;
-        room = omega (arith, r .ready .room, i .frame .kept);
+        room = λ b. omega (arith, r .ready .room b, i .frame .kept);
         tall = r .ready .tall;
         small = omega (arith, r .ready .small, i .frame .kept);
         entries = inner-set at (i .inside) .long;
@@ -310,7 +310,7 @@ module _ {bs env s : List ℕ} {top k n left : ℕ} (d : Visited bs env s top k 
     range-good = placed-good (sizes-small bs (d .ready .readable)) some-range
 
     pub range-low : at < 4294967296
-    range-low = omega (arith, some-range .place .below, range-bounds .1, d .ready .room, d .ready .small)
+    range-low = omega (arith, good-inside (sizes-small bs (d .ready .readable)) (some-range .place), h .frame .kept, d .ready .small)
 
     -- The range is no set.
     pub range-unlike : RangeAt s′ at Unlike → EvaluatesP bs env s top n left s′ (Refused (record { number = 15; place = n }) l)
@@ -325,7 +325,7 @@ module _ {bs env s : List ℕ} {top k n left : ℕ} (d : Visited bs env s top k 
       pub quant-ready : EachReady bs env s′ next n (at + 1) m 0
       quant-ready =
           let v = some-range in
-          binder-ready (d .ready) quant-kind refl 0 (omega arith) (h .frame) (range-bounds .0) (range-bounds .1) (v .place)
+          binder-ready (d .ready) quant-kind refl 0 (omega arith) (λ z. absurd (omega arith)) (h .frame) (range-bounds .0) (range-bounds .1) (v .place)
           (g (tableOf bs .sizes) next (v .value) (sizes-small bs (d .ready .readable)) (v .place))
 
       pub quant-done : {s″ : List ℕ} {r′ : Held} → EvaluatesEach bs env s′ next n (at + 1) m l (quantOf (eqb k 10)) s″ r′ →

@@ -3,7 +3,7 @@ use Prim.Native.Nat.{ℕ, _+_, _*_, _≤_, _<_}
 use mathlib.Core.Bool.{true}
 use mathlib.Core.List.{List, [], _∷_}
 use mathlib.Core.Option.{some}
-use mathlib.Core.Path.{_≡_, subst}
+use mathlib.Core.Path.{_≡_, ap, _∙_, subst}
 use native.Mathlib.Omega.{arith}
 use lib.Dec.{T}
 use lib.ListN.{length}
@@ -23,6 +23,7 @@ use Rattle.laws.proofs.FitsLaws.{typed-right}
 use Rattle.laws.proofs.FormedLaws.{elems-good}
 use Rattle.arena.specs.Code.{cellSize, code, codes, Same}
 use Rattle.arena.proofs.Standing.{stands-tail}
+use Rattle.constants.specs.Built.{built}
 use Rattle.operations.specs.Good.{Sizes, GoodAt}
 use Rattle.operations.proofs.FitLaws.{types-fit}
 use Rattle.evaluators.specs.declared.Range.{Range}
@@ -77,23 +78,23 @@ module _ {bs env s : List ℕ} {top n : ℕ} (r : Ready bs env s top n) {k : Kin
   binder-body : Child bs n (fieldC bs n) predicate
   binder-body = field-child bs (r .readable) n (r .node) k e predicate 2 (omega arith) (rw q (omega arith)) (rw q)
 
-  own-room : top + (384 * height (tableOf bs .nodes) n + expressionCells (some k) + 260) ≤ length s
-  own-room = rw e at (r .room)
+  own-room : built (some k) ≡ true → top + (384 * height (tableOf bs .nodes) n + expressionCells (some k) + 260) ≤ length s
+  own-room b = rw e at (r .room (record { node = n; below = r .node; is = ap built e ∙ b }))
 
   body-cells : expressionCells (kindAt (tableOf bs .nodes) (fieldC bs n)) ≡ 0
   body-cells = condition-cells (kindAt (tableOf bs .nodes) (fieldC bs n)) (binder-body .is)
 
   -- The range is a set of m members, that stands at `at`.
-  pub binder-ready : {s′ : List ℕ} {at next m : ℕ} {v : Value} (spare : ℕ) → spare ≤ 128 + expressionCells (some k) →
+  pub binder-ready : {s′ : List ℕ} {at next m : ℕ} {v : Value} (spare : ℕ) → spare ≤ 128 + expressionCells (some k) → (0 < spare → built (some k) ≡ true) →
       Same top s s′ → top ≤ next → next ≤ top + 256 → GoodAt (tableOf bs .sizes) s′ next at v → RangeSet v m →
       EachReady bs env s′ next n (at + 1) m spare
-  binder-ready {s′} {at} {next} {m} {v} spare enough f low high g x = record {
+  binder-ready {s′} {at} {next} {m} {v} spare enough builds f low high g x = record {
     ready = ready-child s′ (fieldC bs n) next r binder-body f low (omega arith);
     binder = r .node;
     deeper = binder-body .below;
     is = binder-body .is;
     name = binder-name;
-    space = omega (arith, binder-body .lower, own-room, body-cells, f .kept);
+    space = λ b. omega (arith, binder-body .lower, own-room (builds b), body-cells, f .kept);
     range = x .members;
     listed = range-listed g x;
   }

@@ -12,6 +12,7 @@ use Rattle.rules.specs.Tables.{nodeCount, nodesAt}
 use Rattle.rules.specs.Readable.{Readable}
 use Rattle.table.specs.Layout.{NodeIn}
 use Rattle.arena.specs.Code.{Same}
+use Rattle.constants.specs.Built.{Builds}
 use Rattle.evaluators.specs.Cycle.{Ready, EachReady}
 
 pub one-less : {n : ℕ} → 0 < n → n - 1 < n
@@ -33,22 +34,23 @@ module _ {bs env s : List ℕ} {top n : ℕ} (r : Ready bs env s top n) where
   ready-node = node-in (r .readable) (r .node)
 
   -- Room for a cell that is built.
-  pub cell-room : {s′ : List ℕ} → Same top s s′ → top + 514 ≤ length s′
-  cell-room e = omega (arith, r .room, r .tall, e .kept)
+  pub cell-room : {s′ : List ℕ} → Builds bs → Same top s s′ → top + 514 ≤ length s′
+  cell-room b e = omega (arith, r .room b, r .tall, e .kept)
 
-module _ {bs env s : List ℕ} {top n from count spare : ℕ} (r : EachReady bs env s top n from count spare) where
+module _ {bs env s : List ℕ} {top n from count : ℕ} {spare : ℕ} (r : EachReady bs env s top n from count spare) where
   pub binder-node : NodeIn bs (nodesAt bs) n
   binder-node = node-in (r .ready .readable) (r .binder)
 
-  -- The first cell of a set that is built.
+-- The first cell of a set that is built.
+module _ {bs env s : List ℕ} {top n from count : ℕ} (r : EachReady bs env s top n from count 256) where
   pub above-fits : Fits w64 (top + 1)
-  above-fits = fits-under w64 (top + 1) 4294967296 (omega (arith, r .space, r .ready .small)) tt
+  above-fits = fits-under w64 (top + 1) 4294967296 (omega (arith, r .space (omega arith), r .ready .small)) tt
 
   pub top-scaled : Fits w64 (top * 8)
-  top-scaled = fits-under w64 (top * 8) 34359738368 (omega (arith, r .space, r .ready .small)) tt
+  top-scaled = fits-under w64 (top * 8) 34359738368 (omega (arith, r .space (omega arith), r .ready .small)) tt
 
   pub top-inside : {s′ : List ℕ} → Same top s s′ → top < length s′
-  top-inside e = omega (arith, r .space, e .kept)
+  top-inside e = omega (arith, r .space (omega arith), e .kept)
 
 -- Writing it keeps the arena as long as it was.
 pub written-kept : {s s′ : List ℕ} {top : ℕ} (x : ℕ) → Same top s s′ → length (setAt s′ top x) ≡ length s

@@ -1,18 +1,20 @@
 -- What a node gives is settled at its top, and a member that is chosen is copied behind those before it.
 use Prim.Native.Nat.{ℕ, _+_, _-_, _≤_}
 use mathlib.Core.Bool.{Bool, true, false, cond}
-use mathlib.Core.List.{List}
+use mathlib.Core.List.{List, [], _∷_}
 use mathlib.Core.Logic.{_⊎_, inl, inr}
-use mathlib.Core.Path.{_≡_, refl, sym, subst}
+use mathlib.Core.Path.{_≡_, refl, sym, ap, _∙_, subst}
 use native.Mathlib.Omega.{arith}
 use lib.ListN.{length}
+use Rattle.rules.specs.Values.{Value, weight}
 use Rattle.rules.specs.Runs.{Given}
 use Rattle.arena.specs.Code.{code, Same, Copied}
 use Rattle.arena.proofs.CodeLaws.{length-code}
 use Rattle.arena.proofs.Standing.{same-refl, copied-stands}
 use Rattle.operations.specs.declared.Outcome.{Outcome}
-use Rattle.operations.specs.declared.Outcome.the-variants.{Built, Within, Lacks}
-use Rattle.operations.specs.Outcomes.{BuiltAt, WithinAt, Gives}
+use Rattle.operations.specs.declared.Outcome.the-variants.{Built, Within, Cell, Lacks}
+use Rattle.products.specs.Growing.{PutsCell}
+use Rattle.operations.specs.Outcomes.{BuiltAt, WithinAt, GivenCell, Gives}
 use Rattle.evaluators.specs.declared.Formed.{Formed}
 use Rattle.evaluators.specs.declared.Formed.the-variants.{Value as Placed, Stopped}
 use Rattle.evaluators.specs.Answers.{SettleReady}
@@ -44,6 +46,9 @@ module _ {s : List ℕ} {at end to : ℕ} where
       ends = subst (λ (b : Bool). to + (end - at) ≡ to + cond b (end - at) 0) (sym e) refl;
     }
 
+one-weighs : (v : Value) {x : ℕ} → code v ≡ x ∷ [] → weight v ≡ 1
+one-weighs v {x} e = sym (length-code v) ∙ ap length e
+
 module _ {s : List ℕ} {r : Outcome} {mid next top : ℕ} (p : SettleReady s r mid next top) where
   pub settles-lacks : {node left k : ℕ} {x : Formed} → r ≡ Lacks k → x ≡ Stopped (record { number = k; place = node }) left →
       Settles s r mid next top node left s x
@@ -61,6 +66,23 @@ module _ {s : List ℕ} {r : Outcome} {mid next top : ℕ} (p : SettleReady s r 
         let w : WithinAt s mid g at = subst (λ (o : Outcome). Gives s mid next g o) e h in
         record { value = w .value; is = w .is; stands = w .stands; below = w .below; same = refl };
   }
+
+  -- The only cell of a value is written.
+  pub settles-cell : {node left x end : ℕ} {s′ : List ℕ} → r ≡ Cell x → PutsCell s top x s′ end → Settles s r mid next top node left s′ (Placed top end left)
+  settles-cell {node} {left} {x} {end} {s′} e put =
+      let cell : (g : Given) → Gives s mid next g r → GivenCell g x = λ g h. subst (λ (o : Outcome). Gives s mid next g o) e h in
+      let some = cell (p .given) (p .gives) in
+      let made = put (some .value) (some .cell) in
+      let one = one-weighs (some .value) (some .cell) in
+      record {
+        frame = made .frame;
+        bounds = (omega (arith, made .light (omega (arith, one)) .0), omega (arith, made .light (omega (arith, one)) .0, one));
+        answer = λ g h.
+            let c = cell g h in
+            let w = one-weighs (c .value) (c .cell) in
+            let m = put (c .value) (c .cell) .light (omega (arith, w)) in
+            record { value = c .value; is = c .is; stands = m .1; below = omega (arith, m .0); same = refl };
+      }
 
   module _ {end : ℕ} (e : r ≡ Built end) where
     built-as : (g : Given) → Gives s mid next g r → BuiltAt s next g end

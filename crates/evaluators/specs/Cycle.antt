@@ -78,15 +78,18 @@ pub record EvaluatesP (bs env s : List ℕ) (top n left : ℕ) (s′ : List ℕ)
   pub answer : (f : ℕ) (ρ : Env) (budget steps : ℕ) → n < f → steps + left ≡ budget → Binds bs s top env ρ →
       HeldAs (holdsAt bs budget f n ρ steps) budget r
 
--- The node that is reached from node n below negations: a condition no higher, whose answer for what is left tells that for node n.
-pub record Bares (bs : List ℕ) (n left : ℕ) (r : Bare) : Type 0 where
-  pub below : r .node ≤ n
-  pub is : IsPred bs (r .node)
-  pub lower : height (tableOf bs .nodes) (r .node) ≤ height (tableOf bs .nodes) n
-  pub last : 0 < r .left → NoNegation bs (r .node)
+-- From node n down negations, a visit for each, to node m, a condition no higher: its answer for the l visits left tells that for node n.
+pub record Passes (bs : List ℕ) (n left m l : ℕ) (t : Bool) : Type 0 where
+  pub below : m ≤ n
+  pub is : IsPred bs m
+  pub lower : height (tableOf bs .nodes) m ≤ height (tableOf bs .nodes) n
   pub answer : (f : ℕ) (ρ : Env) (budget steps : ℕ) (h : Held) → n < f → steps + left ≡ budget →
-      ((g t : ℕ) → r .node < g → t + r .left ≡ budget → HeldAs (holdsAt bs budget g (r .node) ρ t) budget h) →
-      HeldAs (holdsAt bs budget f n ρ steps) budget (turnedBy (r .turned) h)
+      ((g u : ℕ) → m < g → u + l ≡ budget → HeldAs (holdsAt bs budget g m ρ u) budget h) →
+      HeldAs (holdsAt bs budget f n ρ steps) budget (turnedBy t h)
+
+pub record Bares (bs : List ℕ) (n left : ℕ) (r : Bare) : Type 0 where
+  pub passes : Passes bs n left (r .node) (r .left) (r .turned)
+  pub last : 0 < r .left → NoNegation bs (r .node)
 
 -- The answer for the expression at a node.
 pub record EvaluatesE (bs env s : List ℕ) (top n left : ℕ) (s′ : List ℕ) (r : Formed) : Type 0 where

@@ -500,6 +500,10 @@ fn settle(
     match r {
         Outcome::Lacks(k) => stopped(k, node, left),
         Outcome::Within(at) => Formed::Value { at, end: mid, left },
+        Outcome::Cell(cell) => {
+            let end = products::put_cell(s, top, cell);
+            Formed::Value { at: top, end, left }
+        }
         Outcome::Built(end) => {
             let n = end - next;
             arena::copy(s, next, n, top);

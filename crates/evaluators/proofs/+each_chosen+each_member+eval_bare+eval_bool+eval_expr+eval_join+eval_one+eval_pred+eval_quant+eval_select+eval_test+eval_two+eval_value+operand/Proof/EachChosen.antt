@@ -59,7 +59,7 @@ module _ (t : ℕ) where
   cast-inner c =
       let l = c .before in
       let v = lent (words l .before) in
-      omega (arith, choosing-below (v .pre .1) (l .loop .inv) (omega (arith, c .loop-test .taken)), v .pre .1 .space, v .pre .1 .ready .small)
+      omega (arith, choosing-below (v .pre .1) (l .loop .inv) (omega (arith, c .loop-test .taken)), v .pre .1 .space (omega arith), v .pre .1 .ready .small)
 
   eval-pred-requires : each-chosen-lts.Need-eval-pred-requires claims (each-chosen-at t) each-chosen.Post each-chosen-Inv-loop each-chosen-μ-loop
   eval-pred-requires c κs =
