@@ -1,26 +1,27 @@
 -- The cells of constants: the code of a constant's value by its kind's code and its words, which are in range in a readable table; and the cells of
 -- the nodes, one after the other.
-use Prim.Native.Nat.{ℕ, zero, suc, _+_, _*_, _≤_, _<_}
+use Prim.Native.Nat.{ℕ, zero, suc, _+_, _*_, _-_, _%_, _≤_, _<_}
 use mathlib.Core.List.{List, [], _∷_}
 use mathlib.Core.Logic.{_≢_}
 use mathlib.Core.Option.{Option, some}
 use mathlib.Core.Path.{_≡_, refl, sym, ap, _∙_, subst}
 use native.Mathlib.Omega.{arith}
-use native.Mathlib.Decide.{ℕ-discrete}
+use native.Mathlib.Decide.{ℕ-discrete, decLt}
 use lib.ListN.{length, getD, set, length-set}
 use lib.Seq.{getD-set-same, getD-set-other}
 use Rattle.rules.specs.Types.{whole}
 use Rattle.rules.specs.Kinds.{Kind, Leaf, identifier, givenSet, elementOf, literal, truthConst, emptySet, boolSet, leaf, kindOf, leafFields}
 use Rattle.rules.specs.Tables.{Node, tableOf, nodeAt, nodeFrom, kindAt, fieldWords, wordAt, nodeCount, nodesAt}
 use Rattle.rules.specs.Readable.{Readable, KindRight, FieldsRight}
+use Rattle.rules.specs.Cells.{signed}
 use Rattle.rules.specs.Operations.{Env, leafValue}
+use Rattle.laws.proofs.CellsLaws.{bit-eqb, signed-high, signed-low}
 use Rattle.laws.proofs.TableLaws.{nodes-length, nodes-entry, sizes-length}
-use Rattle.arena.specs.Code.{code, Stands, Same}
+use Rattle.arena.specs.Code.{excess, code, Stands, Same}
 use Rattle.arena.proofs.Standing.{stands-frame}
-use Rattle.operations.specs.Outcomes.{LeafFits}
 use Rattle.operations.specs.Leaves.{Narrow, scalarCell}
 use Rattle.operations.proofs.KindLaws.{code-of, kind-of, same-leaf}
-use Rattle.operations.proofs.LeafLaws.{scalar-code}
+use Rattle.operations.proofs.LeafLaws.{cell-element, cell-number, cell-truth}
 use Rattle.constants.specs.Constants.{OneCell, leafAt, CellOf, Constants, OnlyBelow}
 
 -- The code of a constant's kind.
@@ -32,6 +33,18 @@ constant-code (literal whole) k o e = let c : k ≡ 23 = code-of k (leaf (litera
 constant-code truthConst k o e = let c : k ≡ 24 = code-of k (leaf truthConst) e in (λ n. (omega arith, omega arith), omega arith, omega arith)
 constant-code emptySet k o e = let c : k ≡ 26 = code-of k (leaf emptySet) e in (λ n. absurd (n c), omega arith, omega arith)
 constant-code boolSet k o e = absurd o
+
+excess-signed : (a : ℕ) → a < 4294967296 → excess (signed a) ≡ (a + 2147483648) % 4294967296
+unfolding excess
+excess-signed a h = go (decLt a 2147483648)
+  where
+    go : Dec (a < 2147483648) → excess (signed a) ≡ (a + 2147483648) % 4294967296
+    go (yes l) =
+        let e : 2147483648 + a ≡ (a + 2147483648) % 4294967296 = omega arith in
+        ap excess (signed-low a l) ∙ e
+    go (no l) =
+        let e : 2147483647 - (4294967295 - a) ≡ (a + 2147483648) % 4294967296 = omega arith in
+        ap excess (signed-high a (omega arith)) ∙ e
 
 empty-value : (gs : List ℕ) (a b : ℕ) (ρ : Env) → code (leafValue gs emptySet a b ρ) ≡ 21474836480 ∷ []
 unfolding code leafValue
@@ -60,9 +73,6 @@ module _ (bs : List ℕ) (r : Readable bs) (n : ℕ) (lt : n < nodeCount bs) (by
   abbrev node : Node
   node = nodeAt (tableOf bs .nodes) n
 
-  abbrev size : ℕ
-  size = getD (tableOf bs .sizes) (node .a) 0
-
   -- The words of a leaf are in range.
   leaf-right : (j : Leaf) → kindAt (tableOf bs .nodes) n ≡ some (leaf j) → FieldsRight (tableOf bs) n (leafFields j) (fieldWords node)
   leaf-right j e = subst (λ (o : Option Kind). KindRight (tableOf bs) n o (fieldWords node)) e (r .records .fields n (omega (arith, nodes-length bs)))
@@ -72,15 +82,6 @@ module _ (bs : List ℕ) (r : Readable bs) (n : ℕ) (lt : n < nodeCount bs) (by
       let f = leaf-right elementOf e in
       let s = r .records .sizes (node .a) (f .0) .1 in
       (omega (arith, f .0, sizes-length bs, r .header .givens), omega (arith, f .1 .0, s))
-
-  constant-fits : (j : Leaf) → kindAt (tableOf bs .nodes) n ≡ some (leaf j) → OneCell j → LeafFits j (node .a) (node .b) size
-  constant-fits identifier e o = absurd o
-  constant-fits givenSet e o = absurd o
-  constant-fits elementOf e o = element-small e
-  constant-fits (literal m) e o = node-word bs n lt bytes
-  constant-fits truthConst e o = leaf-right truthConst e .0
-  constant-fits emptySet e o = tt
-  constant-fits boolSet e o = absurd o
 
   module _ {k : ℕ} (is : k ≡ node .kind) where
     at-code : {j : Leaf} → kindAt (tableOf bs .nodes) n ≡ some (leaf j) → kindOf k ≡ some (leaf j)
@@ -107,10 +108,20 @@ module _ (bs : List ℕ) (r : Readable bs) (n : ℕ) (lt : n < nodeCount bs) (by
       }
 
       pub cell-scalar : (c : ℕ) → c ≡ scalarCell k a b → CellOf bs n c
-      cell-scalar c q j ρ e o =
-          let v = scalar-code j k (node .a) (node .b) size (at-code e) (constant-fits j e o) (λ d. omega arith) (λ d. omega arith) (λ d. omega arith)
-          (tableOf bs .sizes) ρ in
-          v .0 ∙ ap (λ (x : ℕ). x ∷ []) (sym (q ∙ ap (λ (x : ℕ). scalarCell k x b) ea ∙ ap (λ (x : ℕ). scalarCell k (node .a) x) eb))
+      unfolding leafValue code
+      cell-scalar c q identifier ρ e o = absurd o
+      cell-scalar c q givenSet ρ e o = absurd o
+      cell-scalar c q elementOf ρ e o =
+          ap (λ (x : ℕ). x ∷ []) (omega (arith, q, cell-element k a b (code-of k (leaf elementOf) (at-code e))))
+      cell-scalar c q (literal whole) ρ e o =
+          ap (λ (x : ℕ). x ∷ [])
+          (omega (arith, q, excess-signed (node .a) (node-word bs n lt bytes), cell-number k a b (code-of k (leaf (literal whole)) (at-code e))))
+      cell-scalar c q truthConst ρ e o =
+          let z : k ≡ 24 = code-of k (leaf truthConst) (at-code e) in
+          ap (λ (x : ℕ). x ∷ [])
+          (omega (arith, q, bit-eqb (node .a) (leaf-right truthConst e .0), cell-truth k a b (λ d. omega arith) (λ d. omega arith)))
+      cell-scalar c q emptySet ρ e o = let z : k ≡ 26 = code-of k (leaf emptySet) (at-code e) in absurd (omega arith)
+      cell-scalar c q boolSet ρ e o = absurd o
 
 -- The pass over the nodes.
 pub none-put : (bs s : List ℕ) → Constants bs 0 s

@@ -5,7 +5,7 @@ use mathlib.Core.Option.{some}
 use mathlib.Core.Path.{_≡_}
 use lib.ListN.{length, getD}
 use Rattle.rules.specs.Kinds.{Leaf, identifier, givenSet, elementOf, literal, truthConst, emptySet, boolSet, leaf}
-use Rattle.rules.specs.Tables.{tableOf, nodeAt, kindAt, nodeCount}
+use Rattle.rules.specs.Tables.{tableOf, nodeAt, kindAt}
 use Rattle.rules.specs.Operations.{Env, leafValue}
 use Rattle.rules.specs.Values.{Value}
 use Rattle.arena.specs.Code.{code, ValueAt}

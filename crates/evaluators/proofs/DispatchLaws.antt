@@ -255,7 +255,7 @@ module _ (bs : List ℕ) (r : Readable bs) (n : ℕ) (lt : n < nodeCount bs) whe
   name-below e = omega (arith, field-holds bs r n lt (leaf identifier) e 0 (omega arith), binds-length bs, r .header .identifiers)
 
   built-fits : (j : Leaf) → kindAt (tableOf bs .nodes) n ≡ some (leaf j) → builtLeaf j ≡ true →
-      LeafFits j (fieldA bs n) (fieldB bs n) (getD (tableOf bs .sizes) (fieldA bs n) 0)
+      LeafFits j (fieldA bs n) (getD (tableOf bs .sizes) (fieldA bs n) 0)
   built-fits identifier e d = absurd (false≢true d)
   built-fits givenSet e d = (
     omega (arith, field-holds bs r n lt (leaf givenSet) e 0 (omega arith), sizes-length bs, r .header .givens),
@@ -386,7 +386,7 @@ module _ {bs env s : List ℕ} {top k n left : ℕ} (v : Visited bs env s top k 
 
   leaf-built : (p : LeafNode bs s top k n) (s′ : List ℕ) (o : Formed) (h : LeafFormed bs s top k n (left - 1) s′ o) (ρ : Env) →
       BuiltAt s′ top (gives (here (p .ready .kind) ρ)) (h .end)
-  leaf-built p s′ o h ρ = h .done .answer (p .ready .kind) (tableOf bs .sizes) ρ (p .ready .is) (p .ready .fits) refl
+  leaf-built p s′ o h ρ = h .done .answer (p .ready .kind) (tableOf bs .sizes) (fieldB bs n) ρ (p .ready .is) (p .ready .fits) refl
 
   pub leaf-answer : LeafNode bs s top k n → (s′ : List ℕ) (o : Formed) → LeafFormed bs s top k n (left - 1) s′ o → EvaluatesE bs env s top n left s′ o
   leaf-answer p s′ o h =

@@ -23,7 +23,7 @@ use Rattle.operations.proofs.KindLaws.{joinCode, code-of, same-join}
 use Rattle.operations.proofs.SingleLaws.{fits-is-set}
 use Rattle.evaluators.specs.declared.Formed.the-variants.{Value as Placed}
 use Rattle.evaluators.specs.declared.Range.the-variants.{Set, Unlike}
-use Rattle.evaluators.specs.Nodes.{fieldA, fieldB, DecidesBy, JoinedBy, SomeGood, RangeAt, LeafNode, LeafFormed}
+use Rattle.evaluators.specs.Nodes.{fieldA, DecidesBy, JoinedBy, SomeGood, RangeAt, LeafNode, LeafFormed}
 
 -- What holds of a join by its own code.
 module _ {k : ℕ} (p : Bool) where
@@ -118,24 +118,21 @@ module _ {s : List ℕ} {at : ℕ} where
           counted = c ∙ first-cell s at (set (x .0)) (g .stands) (good-fits q (set (x .0)) (g .good)) .1;
         }
 
--- 21 and 42, with the words that have been read.
-module _ {bs s : List ℕ} {top k n a b z : ℕ} (p : LeafNode bs s top k n)
-    (ea : a ≡ fieldA bs n) (eb : b ≡ fieldB bs n) (ez : z ≡ getD (tableOf bs .sizes) a 0) where
+-- 21 and 42, with the word and the size that have been read.
+module _ {bs s : List ℕ} {top k n a z : ℕ} (p : LeafNode bs s top k n) (ea : a ≡ fieldA bs n) (ez : z ≡ getD (tableOf bs .sizes) a 0) where
   same-size : z ≡ getD (tableOf bs .sizes) (fieldA bs n) 0
   same-size = ez ∙ ap (λ (y : ℕ). getD (tableOf bs .sizes) y 0) ea
 
-  pub leaf-ready : LeafReady k a b z s top
+  pub leaf-ready : LeafReady k a z s top
   leaf-ready =
-      subst (λ (x : ℕ). LeafReady k a b x s top) (sym same-size)
-      (subst (λ (x : ℕ). LeafReady k a x (getD (tableOf bs .sizes) (fieldA bs n) 0) s top) (sym eb)
-      (subst (λ (x : ℕ). LeafReady k x (fieldB bs n) (getD (tableOf bs .sizes) (fieldA bs n) 0) s top) (sym ea) (p .ready)))
+      subst (λ (x : ℕ). LeafReady k a x s top) (sym same-size)
+      (subst (λ (x : ℕ). LeafReady k x (getD (tableOf bs .sizes) (fieldA bs n) 0) s top) (sym ea) (p .ready))
 
-  pub leaf-formed : {s′ : List ℕ} {end left : ℕ} → LeafDone k a b z s top s′ end → LeafFormed bs s top k n left s′ (Placed top end left)
+  pub leaf-formed : {s′ : List ℕ} {end left : ℕ} → LeafDone k a z s top s′ end → LeafFormed bs s top k n left s′ (Placed top end left)
   leaf-formed {s′} {end} {left} d = record {
     end = end;
     is = refl;
     done =
-        subst (λ (x : ℕ). LeafDone k x (fieldB bs n) (getD (tableOf bs .sizes) (fieldA bs n) 0) s top s′ end) ea
-        (subst (λ (x : ℕ). LeafDone k a x (getD (tableOf bs .sizes) (fieldA bs n) 0) s top s′ end) eb
-        (subst (λ (x : ℕ). LeafDone k a b x s top s′ end) same-size d));
+        subst (λ (x : ℕ). LeafDone k x (getD (tableOf bs .sizes) (fieldA bs n) 0) s top s′ end) ea
+        (subst (λ (x : ℕ). LeafDone k a x s top s′ end) same-size d);
   }

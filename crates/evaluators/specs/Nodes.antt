@@ -101,12 +101,12 @@ PlaceAt bs env n at = at ≢ 0 → PlacedLeaf bs env n at
 pub record LeafNode (bs s : List ℕ) (top k n : ℕ) : Type 0 where
   pub readable : Readable bs
   pub node : n < nodeCount bs
-  pub ready : LeafReady k (fieldA bs n) (fieldB bs n) (getD (tableOf bs .sizes) (fieldA bs n) 0) s top
+  pub ready : LeafReady k (fieldA bs n) (getD (tableOf bs .sizes) (fieldA bs n) 0) s top
 
 pub record LeafFormed (bs s : List ℕ) (top k n left : ℕ) (s′ : List ℕ) (r : Formed) : Type 0 where
   pub end : ℕ
   pub is : r ≡ Placed top end left
-  pub done : LeafDone k (fieldA bs n) (fieldB bs n) (getD (tableOf bs .sizes) (fieldA bs n) 0) s top s′ end
+  pub done : LeafDone k (fieldA bs n) (getD (tableOf bs .sizes) (fieldA bs n) 0) s top s′ end
 
 -- A member from `at` to `end`, and room for it from `to` on, behind it.
 pub record ChooseReady (s : List ℕ) (at end to : ℕ) : Type 0 where

@@ -453,9 +453,8 @@ fn eval_leaf(table: &[u8], s: &mut [u64], top: usize, kind: usize, node: usize, 
     ensures { λ r. ⌜ LeafFormed (now (table .entry)) (now (s .entry)) top kind node left (now (s .exit)) r ⌝ }
 {
     let a = table::node_field(table, node, 0);
-    let b = table::node_field(table, node, 1);
     let size = table::size(table, a);
-    let end = operations::leaf(s, kind, a as u64, b as u64, size as u64, top);
+    let end = operations::leaf(s, kind, a as u64, size as u64, top);
     Formed::Value { at: top, end, left }
 }
 

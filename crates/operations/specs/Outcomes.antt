@@ -117,24 +117,24 @@ TwoOf k s a mid b top s′ r = (j : Two) → kindOf k ≡ some (two j) → TwoDo
 abbrev pub TestOf : ℕ → List ℕ → ℕ → ℕ → ℕ → ℕ → Tested → Type 0
 TestOf k s a mid b top r = (j : Test) → kindOf k ≡ some (test j) → TestDone j s a mid b top r
 
--- A leaf other than an identifier, with the words a and b and the size of the given set a, may be built.
-abbrev pub LeafFits : Leaf → ℕ → ℕ → ℕ → Type 0
-LeafFits identifier a b size = ⊥
-LeafFits givenSet a b size = (a < 16) × (size ≤ 32)
-LeafFits elementOf a b size = (a < 16) × (b < 32)
-LeafFits (literal n) a b size = a < 4294967296
-LeafFits truthConst a b size = a < 2
-LeafFits emptySet a b size = Unit {0}
-LeafFits boolSet a b size = Unit {0}
+-- A leaf that is built, a given set a with its size or BOOL, may be. The constants of one cell are never built, nor is an identifier's value.
+abbrev pub LeafFits : Leaf → ℕ → ℕ → Type 0
+LeafFits identifier a size = ⊥
+LeafFits givenSet a size = (a < 16) × (size ≤ 32)
+LeafFits elementOf a size = ⊥
+LeafFits (literal n) a size = ⊥
+LeafFits truthConst a size = ⊥
+LeafFits emptySet a size = ⊥
+LeafFits boolSet a size = Unit {0}
 
-pub record LeafReady (k a b size : ℕ) (s : List ℕ) (top : ℕ) : Type 0 where
+pub record LeafReady (k a size : ℕ) (s : List ℕ) (top : ℕ) : Type 0 where
   pub kind : Leaf
   pub is : kindOf k ≡ some (leaf kind)
-  pub fits : LeafFits kind a b size
+  pub fits : LeafFits kind a size
   pub room : top + 514 ≤ length s
 
--- It has been built at `top` and ends at r.
-pub record LeafDone (k a b size : ℕ) (s : List ℕ) (top : ℕ) (s′ : List ℕ) (r : ℕ) : Type 0 where
+-- It has been built at `top` and ends at r. Its second word does not count.
+pub record LeafDone (k a size : ℕ) (s : List ℕ) (top : ℕ) (s′ : List ℕ) (r : ℕ) : Type 0 where
   pub frame : Same top s s′
-  pub answer : (j : Leaf) (gs : List ℕ) (ρ : Env) → kindOf k ≡ some (leaf j) → LeafFits j a b size → getD gs a 0 ≡ size →
+  pub answer : (j : Leaf) (gs : List ℕ) (b : ℕ) (ρ : Env) → kindOf k ≡ some (leaf j) → LeafFits j a size → getD gs a 0 ≡ size →
       BuiltAt s′ top (gives (leafValue gs j a b ρ)) r

@@ -47,17 +47,15 @@ pub fn one(s: &mut [u64], kind: usize, a: usize, top: usize) -> Outcome
     }
 }
 
-// Kinds 21 to 24, 26 and 42: no operand, with the words a and b and the size of the given set a. Answers where the value
-// ends that has been built at top.
-pub fn leaf(s: &mut [u64], kind: usize, a: u64, b: u64, size: u64, top: usize) -> usize
-    requires { ⌜ LeafReady kind a b size (now s) top ⌝ }
-    ensures { λ r. ⌜ LeafDone kind a b size (now (s .entry)) top (now (s .exit)) r ⌝ }
+// Kinds 21 and 42, the leaves that are built: the given set a, with its size, and BOOL. Answers where the value ends that has
+// been built at top.
+pub fn leaf(s: &mut [u64], kind: usize, a: u64, size: u64, top: usize) -> usize
+    requires { ⌜ LeafReady kind a size (now s) top ⌝ }
+    ensures { λ r. ⌜ LeafDone kind a size (now (s .entry)) top (now (s .exit)) r ⌝ }
 {
     match kind {
         21 => products::elements(s, a, size, top),
-        26 => products::put_empty(s, top),
-        42 => products::booleans(s, top),
-        _ => products::put_cell(s, top, leaves::scalar_cell(kind, a, b)),
+        _ => products::booleans(s, top),
     }
 }
 

@@ -109,10 +109,6 @@ cell-made s top cell l v e =
     made s top (setAt s top cell) (top + 1) v (subst (λ (c : List ℕ). Appended s top (setAt s top cell) (top + 1) c) (sym e) (appended-cell s top cell l))
     (omega (arith, length-code v, ap length e))
 
-pub empty-code : code (set none) ≡ 21474836480 ∷ []
-unfolding code
-empty-code = refl
-
 -- `singleton`
 pub single-made : (s : List ℕ) (a top e : ℕ) (s′ : List ℕ) → top + 514 ≤ length s → EndsAt s a e → e - a ≤ 255 → Copied s a (e - a) (top + 1) s′ →
     (v : Value) → ValueBelow s top a v → Made top s (setAt s′ top 21474836481) (setOf (v ∷ [])) (top + 1 + (e - a))

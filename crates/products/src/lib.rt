@@ -4,7 +4,7 @@ ghost use mathlib.Core.Bool.{true, false};
 ghost use mathlib.Core.Path.{_≡_};
 ghost use Prim.Native.Nat.{_+_, _*_, _<_, _≤_};
 ghost use lib.ListN.{length, getD};
-ghost use Rattle.rules.specs.Values.{set, none, truthValue};
+ghost use Rattle.rules.specs.Values.{truthValue};
 ghost use Rattle.rules.specs.Operations.{setOf, elementsFrom};
 ghost use Rattle.arena.specs.Code.{SomeSet, SomeValue, Made, Copied};
 ghost use Rattle.products.specs.Growing.{PutsCell, RunPre, Runs, Singles, Pairs, PairPre, PairPut, Intervals, RowPre, Rows, SquarePre, Squares, Multiplies};
@@ -25,13 +25,6 @@ pub fn put_cell(s: &mut [u64], top: usize, cell: u64) -> usize
 {
     s[top] = cell;
     top + 1
-}
-
-pub fn put_empty(s: &mut [u64], top: usize) -> usize
-    requires { ⌜ top + 514 ≤ length (now s) ⌝ }
-    ensures { λ r. ⌜ Made top (now (s .entry)) (now (s .exit)) (set none) r ⌝ }
-{
-    put_cell(s, top, arena::SET)
 }
 
 pub fn singleton(s: &mut [u64], a: usize, top: usize) -> usize

@@ -1,7 +1,7 @@
 -- `put_constants`. The invariant: the constants below n stand in the cells of their nodes, and only cells of nodes have been changed. Landmarks: what was
 -- lent, and a turn.
 use Prim.Native.Nat.{ℕ, _≤_, _-_, zero-le, _<_}
-use mathlib.Core.Path.{_≡_, refl, sym, subst}
+use mathlib.Core.Path.{subst}
 use native.Mathlib.Omega.{arith}
 use native.Mathlib.Numerals.{add-one-le}
 use lib.ListN.{length}
