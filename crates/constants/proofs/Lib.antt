@@ -1,2 +1,3 @@
--- Laws of the constants in the arena.
+-- Laws of the constants in the arena, and of the nodes that build.
+pub mod BuiltLaws
 pub mod ConstantLaws

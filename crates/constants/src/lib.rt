@@ -49,10 +49,7 @@ pub fn put_constants(table: &[u8], s: &mut [u64])
 fn is_built(kind: usize) -> bool
     ensures { λ r. ⌜ r ≡ built (kindOf kind) ⌝ }
 {
-    match kind {
-        21 | 25 | 27..=43 => true,
-        _ => false,
-    }
+    (kind <= 43) & ((27 <= kind) | (kind == 25) | (kind == 21))
 }
 
 // Whether any node's value is.
