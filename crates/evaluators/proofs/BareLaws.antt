@@ -68,20 +68,20 @@ module _ {bs : List ℕ} {m k : ℕ} (r : Readable bs) (lt : m < nodeCount bs) (
   not-held : {l : ℕ} (g : ℕ) (ρ : Env) (budget u : ℕ) (h : Held) → m < g → u + l ≡ budget → 0 < l →
       ((g u : ℕ) → fieldA bs m < g → u + (l - 1) ≡ budget → HeldAs (holdsAt bs budget g (fieldA bs m) ρ u) budget h) →
       HeldAs (holdsAt bs budget g m ρ u) budget (turnedBy true h)
-  not-held g ρ budget u h below c some on =
+  not-held g ρ budget u h below c more on =
       let d = pred-at (tableOf bs .nodes) m negation not-kind g below in
       subst (λ (p : Pred). HeldAs (holdsᵖ budget (tableOf bs .sizes) p ρ u) budget (turnedBy true h)) (sym (d .is))
       (negated-ends budget (tableOf bs .sizes) m ρ u (predAt (d .depth) (tableOf bs .nodes) (fieldA bs m)) h (omega arith)
       (on (d .depth) (suc u) (omega (arith, d .enough, not-child .below)) (omega arith)))
 
   pub passes-on : {n left l a : ℕ} {t : Bool} → Passes bs n left m l t → 0 < l → a ≡ fieldA bs m → Passes bs n left a (l - 1) (not t)
-  passes-on {n} {left} {l} {a} {t} p some q = subst (λ (z : ℕ). Passes bs n left z (l - 1) (not t)) (sym q) (record {
+  passes-on {n} {left} {l} {a} {t} p more q = subst (λ (z : ℕ). Passes bs n left z (l - 1) (not t)) (sym q) (record {
     below = omega (arith, p .below, not-child .below);
     is = not-child .is;
     lower = omega (arith, p .lower, not-child .lower);
     answer = λ f ρ budget steps h below c on.
         subst (λ (z : Held). HeldAs (holdsAt bs budget f n ρ steps) budget z) (turned-twice t h)
-        (p .answer f ρ budget steps (turnedBy true h) below c (λ g u l′ c′. not-held g ρ budget u h l′ c′ some on));
+        (p .answer f ρ budget steps (turnedBy true h) below c (λ g u l′ c′. not-held g ρ budget u h l′ c′ more on));
   })
 
 -- What the evaluator of the condition reached is given, and what its answer tells.

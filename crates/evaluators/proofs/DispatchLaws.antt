@@ -166,12 +166,12 @@ module _ (k : ℕ) where
   pub two-key : k ≡ 37 → Sort two k
   two-key e = (apply, kind-of k (two apply) e)
 
-  -- From 25 on, with 25, 26 and 42 met before, 27 is the first code.
-  pub from-27 : 25 ≤ k → k ≢ 25 → ((k ≡ 26) ⊎ (k ≡ 42) → ⊥) → 27 ≤ k
-  from-27 a n25 n = let n26 : k ≢ 26 = λ e. n (inl e) in omega (arith, n25, n26)
+  -- From 25 on, with 25 and 26 met before, 27 is the first code.
+  pub from-27 : 25 ≤ k → k ≢ 25 → ((k ≡ 20) ⊎ (k ≡ 26) → ⊥) → 27 ≤ k
+  from-27 a n25 n = let n26 : k ≢ 26 = λ e. n (inr e) in omega (arith, n25, n26)
 
   -- No expression's code is left at the last arm.
-  pub no-other : {A : Type 0} → (20 ≤ k) × (k ≤ 43) → 42 ≤ k → (Some-one → ⊥) → ((k ≡ 26) ⊎ (k ≡ 42) → ⊥) → A
+  pub no-other : {A : Type 0} → (20 ≤ k) × (k ≤ 43) → 42 ≤ k → (Some-one → ⊥) → ((k ≡ 21) ⊎ (k ≡ 42) → ⊥) → A
   no-other r a n m =
       let n42 : k ≢ 42 = λ e. m (inr e) in
       let n43 : k ≢ 43 = λ e. n (inr (inr (inr e))) in
@@ -242,6 +242,12 @@ module _ (k : ℕ) where
         ),
       ) k a (omega arith) n21 n25
 
+  -- Its arm of `eval_value`.
+  pub standing-code : ((k ≡ 20) ⊎ (k ≡ 26)) ⊎ ((20 ≤ k) × (k < 25) × (k ≢ 21)) → Unbuilt
+  standing-code (inl (inl e)) = unbuilt-code (omega arith) (omega arith) (λ z. absurd (omega arith)) (λ z. absurd (omega arith))
+  standing-code (inl (inr e)) = unbuilt-code (omega arith) (omega arith) (λ z. absurd (omega arith)) (λ z. absurd (omega arith))
+  standing-code (inr (a, b, n)) = unbuilt-code a (omega arith) n (λ z. absurd (omega arith))
+
   abbrev pub BuiltLeaf : Type 0
   BuiltLeaf = (j : Leaf) × (kindOf k ≡ some (leaf j)) × (builtLeaf j ≡ true)
 
@@ -284,8 +290,8 @@ module _ {bs env s : List ℕ} {top k n left : ℕ} (v : Visited bs env s top k 
     node = place-ready (v .ready);
     same = v .kind;
     kind = u .0;
-    is = u .1 .0;
-    unbuilt = u .1 .1;
+    is = u .1;
+    unbuilt = u .2;
   }
 
   -- A node's kind is in the range of its category, and so the last arms.
@@ -301,15 +307,15 @@ module _ {bs env s : List ℕ} {top k n left : ℕ} (v : Visited bs env s top k 
   pub leaf-node : (k ≡ 21) ⊎ (k ≡ 42) → LeafNode bs s top k n
   leaf-node h =
       let u = built-code k h in
-      let e = visited-kind v (leaf (u .0)) (u .1 .0) in
+      let e = visited-kind v (leaf (u .0)) (u .1) in
       record {
         readable = v .ready .readable;
         node = v .ready .node;
         ready = record {
           kind = u .0;
-          is = u .1 .0;
-          fits = built-fits bs (v .ready .readable) n (v .ready .node) (u .0) e (u .1 .1);
-          room = cell-room (v .ready) (visited-builds v (leaf (u .0)) (u .1 .0) (u .1 .1)) (same-refl top s);
+          is = u .1;
+          fits = built-fits bs (v .ready .readable) n (v .ready .node) (u .0) e (u .2);
+          room = cell-room (v .ready) (visited-builds v (leaf (u .0)) (u .1) (u .2)) (same-refl top s);
         };
       }
 
@@ -354,13 +360,13 @@ module _ {bs env s : List ℕ} {top k n left : ℕ} (v : Visited bs env s top k 
     bounds = (omega arith, omega arith);
     answer = λ f ρ budget steps l c b.
         let g = standing-good (p .kind) (p .is) (p .unbuilt) ρ b in
-        let z = leaf-ends (p .kind) (p .is) f ρ budget steps l c (g .1 .1) in
+        let z = leaf-ends (p .kind) (p .is) f ρ budget steps l c (g .2) in
         record {
           value = here (p .kind) ρ;
           ends = z;
           place = record {
             stands = g .0;
-            below = g .1 .0;
+            below = g .1;
             good = value-good budget (tableOf bs) (v .ready .readable .records) f n ρ steps (here (p .kind) ρ) (b .good) (z .end);
           };
         };
@@ -436,6 +442,5 @@ module _ {bs env : List ℕ} {k n : ℕ} (p : StandingReady bs env k n) where
 pub place-standing : {bs env : List ℕ} {n k : ℕ} → PlaceReady bs env n → k ≡ nodeAt (tableOf bs .nodes) n .kind → (k ≡ 20) ⊎ ((22 ≤ k) × (k < 25)) →
     StandingReady bs env k n
 place-standing {k = k} p e h =
-    let u = unbuilt-code k (⊎-elim (λ q. omega arith) (λ q. omega (arith, q .0)) h) (⊎-elim (λ q. omega arith) (λ q. omega (arith, q .1)) h)
-    (λ z. ⊎-elim (λ q. omega arith) (λ q. omega (arith, q .0)) h) (λ z. ⊎-elim (λ q. omega arith) (λ q. omega (arith, q .1)) h) in
-    record { node = p; same = e; kind = u .0; is = u .1 .0; unbuilt = u .1 .1 }
+    let u = standing-code k (⊎-elim (λ q. inl (inl q)) (λ q. inr (omega (arith, q .0), q .1, λ z. absurd (omega (arith, q .0)))) h) in
+    record { node = p; same = e; kind = u .0; is = u .1; unbuilt = u .2 }

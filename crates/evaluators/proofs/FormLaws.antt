@@ -262,6 +262,9 @@ module _ {bs env s : List ℕ} {top n m left : ℕ} (x : Visited bs env s top 25
   pub bool-child : Child bs n m predicate
   bool-child = visited-child x boolOf (kind-of 25 boolOf refl) predicate 0 m (omega arith) (omega arith) refl w
 
+  pub bool-builds : Builds bs
+  bool-builds = visited-builds x boolOf (kind-of 25 boolOf refl) refl
+
   pub bool-begins : Ready bs env s top m × IsPred bs m
   bool-begins = (ready-first (x .ready) bool-child, bool-child .is)
 

@@ -87,7 +87,7 @@ struct Bare {
 }
 
 // Passes the negations from a condition's node down, a visit for each, while one is left.
-fn bare(table: &[u8], node: usize, left: u32) -> Bare
+fn strip(table: &[u8], node: usize, left: u32) -> Bare
     requires { ⌜ Readable (now table) × (node < nodeCount (now table)) × IsPred (now table) node ⌝ }
     ensures { λ r. ⌜ Bares (now (table .entry)) node left r ⌝ }
 {
@@ -138,7 +138,7 @@ pub fn eval_pred(
     requires { ⌜ Ready (now table) (now env) (now s) top node × IsPred (now table) node ⌝ }
     ensures { λ r. ⌜ EvaluatesP (now (table .entry)) (now (env .entry)) (now (s .entry)) top node left (now (s .exit)) r ⌝ }
 {
-    let b = bare(table, node, left);
+    let b = strip(table, node, left);
     let held = eval_bare(table, env, s, top, b.node, b.left);
     turn(held, b.turned)
 }

@@ -13,7 +13,7 @@ use Rattle.evaluators.proofs.stop_of.Reads as stop-of-reads
 use Rattle.evaluators.proofs.+each_chosen+each_member+eval_bare+eval_bool+eval_expr+eval_join+eval_one+eval_pred+eval_quant+eval_select+eval_test+eval_two+eval_value+operand.Proof.Base.{eval-bool-at, eval-pred-below}
 use Rattle.evaluators.proofs.SafeLaws.{ready-node, cell-room}
 use Rattle.evaluators.proofs.NodeLaws.{held-as, formed-as, stop-is}
-use Rattle.evaluators.proofs.FormLaws.{byte-small, bool-child, bool-begins, bool-fails, bool-evaluates}
+use Rattle.evaluators.proofs.FormLaws.{byte-small, bool-child, bool-builds, bool-begins, bool-fails, bool-evaluates}
 
 module _ (t : ℕ) where
   abbrev claims : eval-bool-lts.Claims
@@ -55,7 +55,8 @@ module _ (t : ℕ) where
   put-cell-requires c κs =
       let m = c .before .before in
       let e = ran (m .before .before) in
-      cell-room (lent (word e) .pre .1 .ready) (e .eval-pred .ensures .frame)
+      let f = word e in
+      cell-room (lent f .pre .1 .ready) (bool-builds (lent f .pre .1) (f .node-field .ensures)) (e .eval-pred .ensures .frame)
 
   same-length-2 : eval-bool-lts.Need-same-length-2 claims (eval-bool-at t) eval-bool.Post
   same-length-2 c =

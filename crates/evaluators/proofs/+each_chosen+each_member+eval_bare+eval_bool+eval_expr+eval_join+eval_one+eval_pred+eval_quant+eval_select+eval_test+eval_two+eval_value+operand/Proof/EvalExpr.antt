@@ -1,143 +1,14 @@
--- `eval_expr`: no visit is left, or each arm asks what its evaluator asks of the node, by the code that the arm tells; the last arm is met
--- by no expression. In `m = .. .match .rest`, `m .1` is that the code is neither 26 nor 42, `m .0 .1` not 34, and so on back to 20.
+-- `eval_expr`: what `eval_value` answers.
 use Prim.Native.Nat.{ℕ}
-use mathlib.Core.Path.{refl, sym}
-use mathlib.Core.Logic.{⊎-elim, inl, inr}
 use native.Mathlib.Omega.{arith}
-use Rattle.evaluators.proofs.eval_bool.Reads as eval-bool
 use Rattle.evaluators.proofs.eval_expr.Reads as eval-expr
-use Rattle.evaluators.proofs.eval_one.Reads as eval-one
-use Rattle.evaluators.proofs.eval_select.Reads as eval-select
-use Rattle.evaluators.proofs.eval_two.Reads as eval-two
+use Rattle.evaluators.proofs.eval_value.Reads as eval-value
 use Rattle.evaluators.proofs.+each_chosen+each_member+eval_bare+eval_bool+eval_expr+eval_join+eval_one+eval_pred+eval_quant+eval_select+eval_test+eval_two+eval_value+operand.Lts-eval_expr as eval-expr-lts
-use Rattle.evaluators.proofs.eval_leaf.Reads as eval-leaf-reads
-use Rattle.evaluators.proofs.eval_name.Reads as eval-name-reads
-use Rattle.table.proofs.node_kind.Reads as node-kind-reads
-use Rattle.evaluators.proofs.stopped.Reads as stopped-reads
-use Rattle.evaluators.proofs.+each_chosen+each_member+eval_bare+eval_bool+eval_expr+eval_join+eval_one+eval_pred+eval_quant+eval_select+eval_test+eval_two+eval_value+operand.Proof.Base.{eval-bool-below, eval-expr-at, eval-one-below, eval-select-below, eval-two-below}
-use Rattle.evaluators.proofs.SafeLaws.{ready-node}
-use Rattle.evaluators.proofs.NodeLaws.{formed-as}
-use Rattle.evaluators.proofs.DispatchLaws.{spent-expr, counted, visited-as, expression-code, one-keys, one-range, two-key, from-27, two-low, two-high, no-other, name-ready, name-answer, leaf-node, leaf-answer}
+use Rattle.evaluators.proofs.+each_chosen+each_member+eval_bare+eval_bool+eval_expr+eval_join+eval_one+eval_pred+eval_quant+eval_select+eval_test+eval_two+eval_value+operand.Proof.Base.{eval-expr-at, eval-value-below}
 
 module _ (t : ℕ) where
   abbrev claims : eval-expr-lts.Claims
-  claims = (
-    stopped-reads.Asked,
-    stopped-reads.Learnt,
-    node-kind-reads.Asked,
-    node-kind-reads.Learnt,
-    eval-name-reads.Asked,
-    eval-name-reads.Learnt,
-    eval-bool-below t,
-    eval-bool.Post,
-    eval-select-below t,
-    eval-select.Post,
-    eval-two-below t,
-    eval-two.Post,
-    eval-one-below t,
-    eval-one.Post,
-    eval-leaf-reads.Asked,
-    eval-leaf-reads.Learnt,
-  )
-
-  abbrev lent : eval-expr-lts.After-node-kind claims (eval-expr-at t) eval-expr.Post → eval-expr-lts.Start claims (eval-expr-at t) eval-expr.Post
-  lent c = let i = c .before in i .before .before .before
-
-  returns : eval-expr-lts.Need-returns claims (eval-expr-at t) eval-expr.Post
-  returns c =
-      let k = c .before in
-      let v = k .before .before .before in
-      formed-as refl (sym (c .stopped .ensures)) (spent-expr (v .pre .1 .0) (k .if1 .taken))
-
-  sub-eval-name : eval-expr-lts.Need-sub-eval-name claims (eval-expr-at t) eval-expr.Post
-  sub-eval-name c =
-      let k = c .before in
-      let v = lent k in
-      omega (arith, counted (v .pre .1 .0) _ (k .before .if1 .left) (k .node-kind .ensures) .unspent)
-
-  eval-name-requires : eval-expr-lts.Need-eval-name-requires claims (eval-expr-at t) eval-expr.Post
-  eval-name-requires c κs =
-      let k = c .before in
-      let v = lent k in
-      name-ready (counted (v .pre .1 .0) _ (k .before .if1 .left) (k .node-kind .ensures)) (c .match .keys1)
-
-  eval-bool-requires : eval-expr-lts.Need-eval-bool-requires claims (eval-expr-at t) eval-expr.Post
-  eval-bool-requires c κs =
-      let b = c .before in
-      let k = b .before in
-      let v = lent k in
-      (omega (arith, v .pre .0), visited-as (counted (v .pre .1 .0) _ (k .before .if1 .left) (k .node-kind .ensures)) (b .match .keys2))
-
-  eval-select-requires : eval-expr-lts.Need-eval-select-requires claims (eval-expr-at t) eval-expr.Post
-  eval-select-requires c κs =
-      let b = c .before in
-      let k = b .before in
-      let v = lent k in
-      (omega (arith, v .pre .0), visited-as (counted (v .pre .1 .0) _ (k .before .if1 .left) (k .node-kind .ensures)) (b .match .keys5))
-
-  eval-two-requires : eval-expr-lts.Need-eval-two-requires claims (eval-expr-at t) eval-expr.Post
-  eval-two-requires c κs =
-      let b = c .before in
-      let k = b .before in
-      let v = lent k in
-      let by = ⊎-elim (λ w. two-key _ (w .keys4))
-      (⊎-elim (λ w. let m = w .0 .rest in two-low _ (m .0 .0 .0 .1) (from-27 _ (w .2 .left) (m .0 .0 .0 .0 .1) (m .1)) (w .3 .taken))
-      (λ w. let m = w .0 .rest in two-high _ (m .0 .0 .0 .1) (m .0 .0 .1) (w .4 .left) (w .5 .taken))) (b .match .came) in
-      (omega (arith, v .pre .0), (counted (v .pre .1 .0) _ (k .before .if1 .left) (k .node-kind .ensures), by))
-
-  eval-one-requires : eval-expr-lts.Need-eval-one-requires claims (eval-expr-at t) eval-expr.Post
-  eval-one-requires c κs =
-      let b = c .before in
-      let k = b .before in
-      let v = lent k in
-      let by = ⊎-elim (λ w. one-keys _ (w .keys3))
-      (λ w. let m = w .0 .rest in one-range _ (m .0 .0 .0 .1) (m .0 .1) (w .3 .left) (w .4 .taken)) (b .match .came) in
-      (omega (arith, v .pre .0), (counted (v .pre .1 .0) _ (k .before .if1 .left) (k .node-kind .ensures), by))
-
-  sub-eval-leaf : eval-expr-lts.Need-sub-eval-leaf claims (eval-expr-at t) eval-expr.Post
-  sub-eval-leaf c =
-      let k = c .before .before in
-      let v = lent k in
-      omega (arith, counted (v .pre .1 .0) _ (k .before .if1 .left) (k .node-kind .ensures) .unspent)
-
-  eval-leaf-requires : eval-expr-lts.Need-eval-leaf-requires claims (eval-expr-at t) eval-expr.Post
-  eval-leaf-requires c κs =
-      let b = c .before in
-      let k = b .before in
-      let h = k .before .before .before in
-      let v = lent k in
-      let d = counted (v .pre .1 .0) _ (k .before .if1 .left) (k .node-kind .ensures) in
-      leaf-node d (⊎-elim (λ w. inl (w .keys6)) (λ w. inr (w .0 .rest .0 .0 .0 .0 .0 .1, w .1 .left, w .2 .taken)) (b .match .came))
-      (λ i. omega (arith, h .shared-slice-known .given i))
-
-  returns-2 : eval-expr-lts.Need-returns-2 claims (eval-expr-at t) eval-expr.Post
-  returns-2 c =
-      let b = c .before in
-      let k = b .before in
-      let v = lent k in
-      name-answer (counted (v .pre .1 .0) _ (k .before .if1 .left) (k .node-kind .ensures)) (b .match .keys1) _ (c .eval-name .ensures)
-
-  returns-5 : eval-expr-lts.Need-returns-5 claims (eval-expr-at t) eval-expr.Post
-  returns-5 c =
-      let j = c .before in
-      let m = j .before in
-      let k = m .before in
-      let v = lent k in
-      let r = expression-code (counted (v .pre .1 .0) _ (k .before .if1 .left) (k .node-kind .ensures)) (v .pre .1 .1) in
-      let n = m .match .rest in
-      ⊎-elim (λ w. absurd (omega (arith, r, w .taken))) (λ w. no-other _ r (w .4 .left) (n .0 .0 .0 .1) (n .1)) (j .if2 .came)
-
-  returns-8 : eval-expr-lts.Need-returns-8 claims (eval-expr-at t) eval-expr.Post
-  returns-8 c =
-      let p = c .before .before in
-      let b = p .before .before in
-      let k = b .before in
-      let h = k .before .before .before in
-      let v = lent k in
-      let d = counted (v .pre .1 .0) _ (k .before .if1 .left) (k .node-kind .ensures) in
-      let n = leaf-node d (⊎-elim (λ w. inl (w .keys6)) (λ w. inr (w .0 .rest .0 .0 .0 .0 .0 .1, w .1 .left, w .2 .taken)) (b .match .came))
-      (λ i. omega (arith, h .shared-slice-known .given i)) in
-      leaf-answer d n _ _ (p .eval-leaf .ensures)
+  claims = (eval-value-below t, eval-value.Post)
 
   pub eval-expr-closed : {M : Type 1} → eval-expr-lts.Closed claims (eval-expr-at t) eval-expr.Post M
   eval-expr-closed =
@@ -145,27 +16,6 @@ module _ (t : ℕ) where
       claims
       (eval-expr-at t)
       eval-expr.Post
-      (λ c κs. tt)
-      returns
-      (λ c κs. let v = c .before .before .before in ready-node (v .pre .1 .0))
-      sub-eval-name
-      eval-name-requires
-      eval-bool-requires
-      eval-select-requires
-      (λ c κs. tt)
-      eval-two-requires
-      eval-one-requires
-      sub-eval-leaf
-      eval-leaf-requires
-      returns-2
-      (λ c. c .before .before .eval-bool .kept .1 .1 .0)
-      (λ c. c .before .before .eval-bool .ensures)
-      (λ c. c .before .before .eval-select .kept .1 .1 .0)
-      (λ c. c .before .before .eval-select .ensures)
-      returns-5
-      (λ c. c .before .before .eval-two .kept .1 .1 .0)
-      (λ c. c .before .before .eval-two .ensures)
-      (λ c. c .before .before .eval-one .kept .1 .1 .0)
-      (λ c. c .before .before .eval-one .ensures)
-      (λ c. c .before .before .eval-leaf .kept .1 .0)
-      returns-8
+      (λ c κs. let v = c .before .before .before in (omega (arith, v .pre .0), v .pre .1))
+      (λ c. c .before .before .eval-value .kept .1 .1 .0)
+      (λ c. c .before .before .eval-value .ensures)

@@ -1,91 +1,31 @@
--- `eval_pred`: no visit is left, or each arm asks what its evaluator asks of the node, by the code that the arm tells; the last arm is met
--- by no condition. Landmarks: what was lent, the kind, and that it is none of the first arms'.
+-- `eval_pred`: the answer for the condition below the negations, turned round where their number is odd. Landmarks: what was lent, and the
+-- condition reached.
 use Prim.Native.Nat.{ℕ}
-use mathlib.Core.Path.{refl, sym}
-use mathlib.Core.Logic.{⊎-elim}
 use native.Mathlib.Omega.{arith}
-use Rattle.evaluators.proofs.eval_join.Reads as eval-join
-use Rattle.evaluators.proofs.eval_not.Reads as eval-not
 use Rattle.evaluators.proofs.eval_pred.Reads as eval-pred
-use Rattle.evaluators.proofs.eval_quant.Reads as eval-quant
-use Rattle.evaluators.proofs.eval_test.Reads as eval-test
+use Rattle.evaluators.proofs.eval_bare.Reads as eval-bare
 use Rattle.evaluators.proofs.+each_chosen+each_member+eval_bare+eval_bool+eval_expr+eval_join+eval_one+eval_pred+eval_quant+eval_select+eval_test+eval_two+eval_value+operand.Lts-eval_pred as eval-pred-lts
-use Rattle.table.proofs.node_kind.Reads as node-kind-reads
-use Rattle.evaluators.proofs.refused.Reads as refused-reads
-use Rattle.evaluators.proofs.+each_chosen+each_member+eval_bare+eval_bool+eval_expr+eval_join+eval_one+eval_pred+eval_quant+eval_select+eval_test+eval_two+eval_value+operand.Proof.Base.{eval-join-below, eval-not-below, eval-pred-at, eval-quant-below, eval-test-below}
-use Rattle.evaluators.proofs.SafeLaws.{ready-node}
-use Rattle.evaluators.proofs.NodeLaws.{held-as}
-use Rattle.evaluators.proofs.DispatchLaws.{spent-pred, counted, visited-as, predicate-code, test-sort, quant-sort, join-kind}
+use Rattle.evaluators.proofs.strip.Reads as strip-reads
+use Rattle.evaluators.proofs.turn.Reads as turn-reads
+use Rattle.evaluators.proofs.+each_chosen+each_member+eval_bare+eval_bool+eval_expr+eval_join+eval_one+eval_pred+eval_quant+eval_select+eval_test+eval_two+eval_value+operand.Proof.Base.{eval-pred-at, eval-bare-below}
+use Rattle.evaluators.proofs.BareLaws.{bare-ready, bare-tells}
 
 module _ (t : ℕ) where
   abbrev claims : eval-pred-lts.Claims
-  claims = (
-    refused-reads.Asked,
-    refused-reads.Learnt,
-    node-kind-reads.Asked,
-    node-kind-reads.Learnt,
-    eval-not-below t,
-    eval-not.Post,
-    eval-test-below t,
-    eval-test.Post,
-    eval-quant-below t,
-    eval-quant.Post,
-    eval-join-below t,
-    eval-join.Post,
-  )
+  claims = (strip-reads.Asked, strip-reads.Learnt, eval-bare-below t, eval-bare.Post, turn-reads.Asked, turn-reads.Learnt)
 
-  abbrev lent : eval-pred-lts.After-node-kind claims (eval-pred-at t) eval-pred.Post → eval-pred-lts.Start claims (eval-pred-at t) eval-pred.Post
-  lent c = let i = c .before in i .before .before .before
+  abbrev lent : eval-pred-lts.After-strip claims (eval-pred-at t) eval-pred.Post → eval-pred-lts.Start claims (eval-pred-at t) eval-pred.Post
+  lent c = c .before .before .before
 
-  abbrev kinded : eval-pred-lts.At-match-rest claims (eval-pred-at t) eval-pred.Post → eval-pred-lts.After-node-kind claims (eval-pred-at t) eval-pred.Post
-  kinded c = c .before .before .before
+  eval-bare-requires : eval-pred-lts.Need-eval-bare-requires claims (eval-pred-at t) eval-pred.Post
+  eval-bare-requires c κs =
+      let n = c .before in
+      let v = lent n in
+      let p = n .strip .ensures .passes in
+      (omega (arith, v .pre .0, p .below), bare-ready (v .pre .1 .0) (v .pre .1 .1) p, p .is, n .strip .ensures .last)
 
   returns : eval-pred-lts.Need-returns claims (eval-pred-at t) eval-pred.Post
-  returns c =
-      let k = c .before in
-      let v = k .before .before .before in
-      held-as refl (sym (c .refused .ensures)) (spent-pred (v .pre .1 .0) (k .if1 .taken))
-
-  eval-not-requires : eval-pred-lts.Need-eval-not-requires claims (eval-pred-at t) eval-pred.Post
-  eval-not-requires c κs =
-      let b = c .before in
-      let k = b .before .before .before in
-      let v = lent k in
-      (omega (arith, v .pre .0), visited-as (counted (v .pre .1 .0) _ (k .before .if1 .left) (k .node-kind .ensures)) (b .match .keys1))
-
-  eval-test-requires : eval-pred-lts.Need-eval-test-requires claims (eval-pred-at t) eval-pred.Post
-  eval-test-requires c κs =
-      let a = c .before in
-      let b = a .before in
-      let k = kinded (b .before) in
-      let v = lent k in
-      (omega (arith, v .pre .0), (counted (v .pre .1 .0) _ (k .before .if1 .left) (k .node-kind .ensures), test-sort _ (b .if4 .left) (a .if5 .taken)))
-
-  eval-quant-requires : eval-pred-lts.Need-eval-quant-requires claims (eval-pred-at t) eval-pred.Post
-  eval-quant-requires c κs =
-      let a = c .before in
-      let b = a .before in
-      let k = kinded (b .before .before) in
-      let v = lent k in
-      (omega (arith, v .pre .0), (counted (v .pre .1 .0) _ (k .before .if1 .left) (k .node-kind .ensures), quant-sort _ (b .if5 .left) (a .if6 .taken)))
-
-  eval-join-requires : eval-pred-lts.Need-eval-join-requires claims (eval-pred-at t) eval-pred.Post
-  eval-join-requires c κs =
-      let j = c .before in
-      let r = j .before in
-      let k = kinded r in
-      let v = lent k in
-      let d = counted (v .pre .1 .0) _ (k .before .if1 .left) (k .node-kind .ensures) in
-      let below = ⊎-elim (λ w. w .taken) (λ w. absurd (omega (arith, w .2 .left, r .before .if3 .taken))) (j .if4 .came) in
-      (omega (arith, v .pre .0), (d, join-kind d (v .pre .1 .1) (r .match .rest .1) below))
-
-  returns-6 : eval-pred-lts.Need-returns-6 claims (eval-pred-at t) eval-pred.Post
-  returns-6 c =
-      let j = c .before in
-      let k = j .before in
-      let v = lent k in
-      let r = predicate-code (counted (v .pre .1 .0) _ (k .before .if1 .left) (k .node-kind .ensures)) (v .pre .1 .1) in
-      ⊎-elim (λ w. absurd (omega (arith, r, w .taken))) (λ w. absurd (omega (arith, r, w .1 .left))) (j .if2 .came)
+  returns c = ?
 
   pub eval-pred-closed : {M : Type 1} → eval-pred-lts.Closed claims (eval-pred-at t) eval-pred.Post M
   eval-pred-closed =
@@ -93,20 +33,8 @@ module _ (t : ℕ) where
       claims
       (eval-pred-at t)
       eval-pred.Post
+      (λ c κs. let v = c .before .before in (v .pre .1 .0 .readable, v .pre .1 .0 .node, v .pre .1 .1))
+      eval-bare-requires
       (λ c κs. tt)
+      (λ c. ?)
       returns
-      (λ c κs. let v = c .before .before .before in ready-node (v .pre .1 .0))
-      eval-not-requires
-      eval-test-requires
-      eval-quant-requires
-      eval-join-requires
-      (λ c κs. tt)
-      (λ c. c .before .before .eval-not .kept .1 .1 .0)
-      (λ c. c .before .before .eval-not .ensures)
-      (λ c. c .before .before .eval-test .kept .1 .1 .0)
-      (λ c. c .before .before .eval-test .ensures)
-      (λ c. c .before .before .eval-quant .kept .1 .1 .0)
-      (λ c. c .before .before .eval-quant .ensures)
-      (λ c. c .before .before .eval-join .kept .1 .1 .0)
-      (λ c. c .before .before .eval-join .ensures)
-      returns-6
