@@ -1,21 +1,25 @@
--- Operands that fit: the answers of the tests for good ones, their types, and what values of a type are.
-use Prim.Native.Nat.{ℕ}
+-- Operands that fit. The types that a test of refusal 15 tells, what good values of a type are, and so, for each list of operand types that the rules
+-- have, that what holds of operands of that form (sets, sets of pairs, numbers) holds of all good operands that pass the test.
+use Prim.Native.Nat.{ℕ, _%_}
 use mathlib.Core.Bool.{Bool, true}
 use mathlib.Core.List.{List, [], _∷_}
-use mathlib.Core.Path.{_≡_, refl, sym}
+use mathlib.Core.Path.{_≡_, sym, _∙_}
+use native.Mathlib.Omega.{arith}
 use lib.IntN.{ℤ}
+use lib.ListN.{getD}
 use Rattle.rules.specs.Types.{whole, Ty, POW, _⊗_, INTEGER}
 use Rattle.rules.specs.Values.{num, truth, element, Value, scalar, pair, set, Values, none, _▸_, int}
-use Rattle.rules.specs.Rules.{Pattern}
-use Rattle.rules.specs.Fits.{HasType, HaveType, Fits, fits}
-use Rattle.laws.proofs.FitsLaws.{fits-right}
+use Rattle.rules.specs.Rules.{Pattern, t̂, û, P̂, _×̂_, numᵖ, inst}
+use Rattle.rules.specs.Fits.{HasType, HaveType, Fits, fits, typed}
+use Rattle.rules.proofs.Basics.{absurd01}
+use Rattle.laws.proofs.FitsLaws.{fits-right, typed-right}
 use Rattle.fitting.specs.Tests.{FitOne, FitTwo, Both}
 use Rattle.fitting.proofs.Sharing.{is-true}
-use Rattle.arena.specs.Code.{IsPair, AllPairs}
+use Rattle.arena.specs.Code.{excess, code, IsPair, AllPairs, SetBelow}
+use Rattle.arena.proofs.Standing.{stands-head}
 use Rattle.operations.specs.Good.{Sizes, GoodAt}
-use Rattle.operations.specs.Outcomes.{TwoReady}
-use Rattle.operations.proofs.GoodLaws.{good-typed-at}
-use Rattle.rules.proofs.Basics.{absurd01}
+use Rattle.operations.specs.Outcomes.{Operands, NumberCell}
+use Rattle.operations.proofs.GoodLaws.{good-fits, good-typed-at, good-set-at}
 
 -- Operands that fit have the types of the rule.
 module _ (ps : List Pattern) (vs : List Value) where
@@ -25,35 +29,98 @@ module _ (ps : List Pattern) (vs : List Value) where
   pub types-fit : Fits ps vs → fits ps vs ≡ true
   types-fit h = is-true (fits ps vs) (fits-right ps vs .1 h)
 
--- What a test of operands answers for good ones.
-module _ {gs s : List ℕ} {top a : ℕ} {v : Value} (small : Sizes gs) (h : GoodAt gs s top a v) where
-  pub one-fits : (ps : List Pattern) {r : Bool} → FitOne ps s a r → fits ps (v ∷ []) ≡ r
-  one-fits ps f = sym (f v (good-typed-at small h))
+-- Any value, and any two, fit where all types do.
+pub one-any : {s : List ℕ} {a : ℕ} → FitOne (t̂ ∷ []) s a true
+unfolding typed
+one-any v h = let x = typed-right v .0 (h .typed) in sym (types-fit (t̂ ∷ []) (v ∷ []) (x .0, INTEGER, (x .1, tt)))
 
-  module _ {end b : ℕ} {w : Value} (k : GoodAt gs s end b w) where
-    pub two-fits : (ps : List Pattern) {r : Bool} → FitTwo ps s a b r → fits ps (v ∷ w ∷ []) ≡ r
-    two-fits ps f = sym (f v w (good-typed-at small h) (good-typed-at small k))
+pub two-any : {s : List ℕ} {a b : ℕ} → FitTwo (t̂ ∷ û ∷ []) s a b true
+unfolding typed
+two-any v w h k =
+    let x = typed-right v .0 (h .typed) in
+    let y = typed-right w .0 (k .typed) in
+    sym (types-fit (t̂ ∷ û ∷ []) (v ∷ w ∷ []) (x .0, y .0, (x .1, (y .1, tt))))
 
-pub ready-both : {s : List ℕ} {a mid b top : ℕ} → TwoReady s a mid b top → Both s a b
+pub ready-both : {s : List ℕ} {a mid b top : ℕ} → Operands s a mid b top → Both s a b
 ready-both p = record { first = (p .first, good-typed-at (p .small) (p .left)); second = (p .second, good-typed-at (p .small) (p .right)) }
 
-pub set-typed : (v : Value) (t : Ty) → HasType v (POW t) → (vs : Values) × (v ≡ set vs) × HaveType vs t
-set-typed (scalar x) t h = absurd (absurd01 (cc))
-set-typed (pair v w) t h = absurd h
-set-typed (set vs) t h = (vs, refl, h)
+-- A value of a type POW(t) is a set, and one of the type INTEGER a number.
+module _ (P : Value → Type 0) where
+  pub on-set : (v : Value) (t : Ty) → HasType v (POW t) → ((vs : Values) → HaveType vs t → P (set vs)) → P v
+  on-set (scalar x) t q f = absurd (absurd01 (cc))
+  on-set (pair v w) t q f = absurd q
+  on-set (set vs) t q f = f vs q
 
-pub int-typed : (v : Value) → HasType v INTEGER → (i : ℤ) × (v ≡ int i)
-int-typed (scalar (num whole i)) h = (i, refl)
-int-typed (scalar (truth b)) h = absurd (absurd01 (cc))
-int-typed (scalar (element g k)) h = absurd (absurd01 (cc))
-int-typed (pair v w) h = absurd h
-int-typed (set vs) h = absurd h
+  on-number : (v : Value) → HasType v INTEGER → ((i : ℤ) → P (int i)) → P v
+  on-number (scalar (num whole i)) q f = f i
+  on-number (scalar (truth b)) q f = absurd (absurd01 (cc))
+  on-number (scalar (element g k)) q f = absurd (absurd01 (cc))
+  on-number (pair v w) q f = absurd q
+  on-number (set vs) q f = absurd q
+
+number-cell : {gs s : List ℕ} {top at : ℕ} (i : ℤ) → Sizes gs → GoodAt gs s top at (int i) → NumberCell i (getD s at 0)
+unfolding code
+number-cell {s = s} {at = at} i small h = record { fits = good-fits small (int i) (h .good); is = stands-head s at _ _ (h .stands) }
+
+pub number-low : {i : ℤ} {x y : ℕ} → y ≡ x % 4294967296 → NumberCell i x → excess i ≡ y
+number-low e h = omega (arith, h .is, h .fits .0)
 
 pair-typed : (v : Value) (t u : Ty) → HasType v (t ⊗ u) → IsPair v
 pair-typed (scalar x) t u h = absurd (absurd01 (cc))
 pair-typed (pair v w) t u h = tt
 pair-typed (set vs) t u h = absurd h
 
-pub pairs-typed : (vs : Values) (t u : Ty) → HaveType vs (t ⊗ u) → AllPairs vs
+pairs-typed : (vs : Values) (t u : Ty) → HaveType vs (t ⊗ u) → AllPairs vs
 pairs-typed none t u h = tt
 pairs-typed (v ▸ vs) t u h = (pair-typed v t u (h .0), pairs-typed vs t u (h .1))
+
+-- One operand.
+module _ {gs s : List ℕ} {top a : ℕ} {v : Value} (small : Sizes gs) (h : GoodAt gs s top a v) where
+  pub one-fits : (ps : List Pattern) {r : Bool} → FitOne ps s a r → fits ps (v ∷ []) ≡ r
+  one-fits ps f = sym (f v (good-typed-at small h))
+
+  module _ (P : Value → Type 0) {r : Bool} where
+    pub one-set : FitOne (P̂ t̂ ∷ []) s a r → r ≡ true → ((vs : Values) → SetBelow s top a vs → P (set vs)) → P v
+    one-set f e g =
+        let x = fit-types (P̂ t̂ ∷ []) (v ∷ []) (one-fits (P̂ t̂ ∷ []) f ∙ e) in
+        on-set (λ y. GoodAt gs s top a y → P y) v (x .0) (x .2 .0) (λ vs _ i. g vs (good-set-at small vs i)) h
+
+    pub one-relation : FitOne (P̂ (t̂ ×̂ û) ∷ []) s a r → r ≡ true → ((vs : Values) → SetBelow s top a vs → AllPairs vs → P (set vs)) → P v
+    one-relation f e g =
+        let x = fit-types (P̂ (t̂ ×̂ û) ∷ []) (v ∷ []) (one-fits (P̂ (t̂ ×̂ û) ∷ []) f ∙ e) in
+        on-set (λ y. GoodAt gs s top a y → P y) v (x .0 ⊗ x .1) (x .2 .0) (λ vs q i. g vs (good-set-at small vs i) (pairs-typed vs (x .0) (x .1) q)) h
+
+-- Two operands.
+module _ {gs s : List ℕ} {mid top a b : ℕ} {v w : Value} (small : Sizes gs) (h : GoodAt gs s mid a v) (k : GoodAt gs s top b w) where
+  pub two-fits : (ps : List Pattern) {r : Bool} → FitTwo ps s a b r → fits ps (v ∷ w ∷ []) ≡ r
+  two-fits ps f = sym (f v w (good-typed-at small h) (good-typed-at small k))
+
+  module _ (P : Value → Value → Type 0) {r : Bool} where
+    two-types : (ps : List Pattern) → FitTwo ps s a b r → r ≡ true → Fits ps (v ∷ w ∷ [])
+    two-types ps f e = fit-types ps (v ∷ w ∷ []) (two-fits ps f ∙ e)
+
+    pub two-sets : (u : Pattern) → FitTwo (P̂ t̂ ∷ P̂ u ∷ []) s a b r → r ≡ true →
+        ((vs ws : Values) → SetBelow s mid a vs → SetBelow s top b ws → P (set vs) (set ws)) → P v w
+    two-sets u f e g =
+        let x = two-types (P̂ t̂ ∷ P̂ u ∷ []) f e in
+        on-set (λ y. GoodAt gs s mid a y → P y w) v (x .0) (x .2 .0)
+        (λ vs _ i. on-set (λ y. GoodAt gs s top b y → P (set vs) y) w (inst u (x .0) (x .1)) (x .2 .1 .0)
+        (λ ws _ j. g vs ws (good-set-at small vs i) (good-set-at small ws j)) k) h
+
+    pub two-numbers : FitTwo (numᵖ whole ∷ numᵖ whole ∷ []) s a b r → r ≡ true →
+        ((m n : ℤ) → NumberCell m (getD s a 0) → NumberCell n (getD s b 0) → P (int m) (int n)) → P v w
+    two-numbers f e g =
+        let x = two-types (numᵖ whole ∷ numᵖ whole ∷ []) f e in
+        on-number (λ y. GoodAt gs s mid a y → P y w) v (x .2 .0)
+        (λ m i. on-number (λ y. GoodAt gs s top b y → P (int m) y) w (x .2 .1 .0) (λ n j. g m n (number-cell m small i) (number-cell n small j)) k) h
+
+    pub two-member : FitTwo (t̂ ∷ P̂ t̂ ∷ []) s a b r → r ≡ true → ((ws : Values) → SetBelow s top b ws → P v (set ws)) → P v w
+    two-member f e g =
+        let x = two-types (t̂ ∷ P̂ t̂ ∷ []) f e in
+        on-set (λ y. GoodAt gs s top b y → P v y) w (x .0) (x .2 .1 .0) (λ ws _ j. g ws (good-set-at small ws j)) k
+
+    pub two-function : FitTwo (P̂ (t̂ ×̂ û) ∷ t̂ ∷ []) s a b r → r ≡ true → ((vs : Values) → SetBelow s mid a vs → AllPairs vs → P (set vs) w) → P v w
+    two-function f e g =
+        let x = two-types (P̂ (t̂ ×̂ û) ∷ t̂ ∷ []) f e in
+        on-set (λ y. GoodAt gs s mid a y → P y w) v (x .0 ⊗ x .1) (x .2 .0)
+        (λ vs q i. g vs (good-set-at small vs i) (pairs-typed vs (x .0) (x .1) q)) h

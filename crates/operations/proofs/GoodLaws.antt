@@ -48,9 +48,12 @@ module _ {gs : List ℕ} (small : Sizes gs) where
     pub good-some : SomeAt s at
     good-some = record { value = v; stands = h .stands; fits = good-fits v (h .good) }
 
-    -- Seen from a higher place.
+    -- Seen from a higher place, and from the arena's end.
     pub good-above : (k : ℕ) → top ≤ k → GoodAt gs s k at v
     good-above k le = record { stands = h .stands; below = omega (arith, h .below); good = h .good }
+
+    pub good-whole : GoodAt gs s (length s) at v
+    good-whole = record { stands = h .stands; below = omega (arith, h .stands .inside, length-code v); good = h .good }
 
     pub good-inside : at < length s
     good-inside = omega (arith, h .stands .inside, length-code v, weight-some v)

@@ -5,22 +5,24 @@ use mathlib.Core.List.{List, [], _∷_}
 use mathlib.Core.Path.{_≡_}
 use lib.IntN.{ℤ, pos, negsuc}
 use Rattle.rules.specs.Types.{whole}
-use Rattle.rules.specs.Values.{Value}
-use Rattle.rules.specs.Kinds.{union}
-use Rattle.rules.specs.Rules.{twoRule}
+use Rattle.rules.specs.Values.{set, Values, members}
+use Rattle.rules.specs.Kinds.{Two}
+use Rattle.rules.specs.Rules.{t̂, P̂, twoRule}
 use Rattle.rules.specs.Runs.{gives}
-use Rattle.rules.specs.Operations.{elems, setOf, ranged}
-use Rattle.arena.specs.Code.{Same}
+use Rattle.rules.specs.Operations.{setOf, ranged, twoValue}
+use Rattle.arena.specs.Code.{FineSet}
 use Rattle.sets.specs.Merged.{merged}
 use Rattle.operations.specs.declared.Outcome.{Outcome}
-use Rattle.operations.specs.Good.{Sizes, GoodAt}
-use Rattle.operations.specs.Outcomes.{weighed, fitted, Gives}
+use Rattle.operations.specs.Outcomes.{weighed, Gives, TwoDone}
 
--- Union, intersection and difference take the same operands; their sets are merges.
-pub record MergeDone (left both right : Bool) (s : List ℕ) (a mid b top : ℕ) (s′ : List ℕ) (r : Outcome) : Type 0 where
-  pub frame : Same top s s′
-  pub answer : (gs : List ℕ) (v w : Value) → Sizes gs → GoodAt gs s mid a v → GoodAt gs s top b w →
-      Gives s′ mid top (fitted (twoRule union .takes) (v ∷ w ∷ []) (gives (setOf (merged left both right (elems v) (elems w))))) r
+-- j merges two sets: it gives the members that are only in the left one (if left), in both (if both), only in the right one (if right).
+pub record IsMerge (j : Two) (left both right : Bool) : Type 0 where
+  pub takes : twoRule j .takes ≡ P̂ t̂ ∷ P̂ t̂ ∷ []
+  pub merges : (vs ws : Values) → FineSet vs → FineSet ws → twoValue j (set vs) (set ws) ≡ gives (setOf (merged left both right (members vs) (members ws)))
+
+-- Union, intersection and difference are such.
+abbrev pub MergeDone : Bool → Bool → Bool → List ℕ → ℕ → ℕ → ℕ → ℕ → List ℕ → Outcome → Type 0
+MergeDone left both right s a mid b top s′ r = (j : Two) → IsMerge j left both right → TwoDone j s a mid b top s′ r
 
 -- x is i + 2^32.
 abbrev pub Shifted : ℤ → ℕ → Type 0

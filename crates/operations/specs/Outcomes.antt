@@ -5,8 +5,9 @@ use mathlib.Core.List.{List, [], _∷_}
 use mathlib.Core.Option.{some}
 use mathlib.Core.Path.{_≡_}
 use lib.Dec.{leb, eqb}
+use lib.IntN.{ℤ}
 use lib.ListN.{length, getD}
-use Rattle.rules.specs.Values.{Value, weight}
+use Rattle.rules.specs.Values.{Value, int, weight}
 use Rattle.rules.specs.Kinds.{Test, One, Two, test, leaf, one, two, kindOf}
 use Rattle.rules.specs.Kinds.{Leaf, identifier, givenSet, elementOf, literal, truthConst, emptySet, boolSet}
 use Rattle.rules.specs.Rules.{Pattern, testRule, oneRule, twoRule}
@@ -14,7 +15,7 @@ use Rattle.rules.specs.Fits.{fits}
 use Rattle.rules.specs.Cells.{weightLimit}
 use Rattle.rules.specs.Runs.{Given, gives, lacks}
 use Rattle.rules.specs.Operations.{Env, holds, leafValue, oneValue, twoValue}
-use Rattle.arena.specs.Code.{code, ValueAt, Same}
+use Rattle.arena.specs.Code.{cellSize, excess, code, ValueAt, Same, CellsFit}
 use Rattle.operations.specs.Good.{Sizes, GoodAt}
 use Rattle.operations.specs.declared.Outcome.{Outcome}
 use Rattle.operations.specs.declared.Outcome.the-variants.{Built, Within, Cell, Lacks}
@@ -83,7 +84,7 @@ pub record OneReady (s : List ℕ) (a top : ℕ) : Type 0 where
   pub room : top + 514 ≤ length s
 
 -- Good operands stand at a, below `mid`, and at b, below `top`.
-pub record TwoReady (s : List ℕ) (a mid b top : ℕ) : Type 0 where
+pub record Operands (s : List ℕ) (a mid b top : ℕ) : Type 0 where
   pub sizes : List ℕ
   pub small : Sizes sizes
   pub first : Value
@@ -91,6 +92,10 @@ pub record TwoReady (s : List ℕ) (a mid b top : ℕ) : Type 0 where
   pub left : GoodAt sizes s mid a first
   pub right : GoodAt sizes s top b second
   pub order : mid ≤ top
+
+-- And there is room to build.
+pub record TwoReady (s : List ℕ) (a mid b top : ℕ) : Type 0 where
+  pub operands : Operands s a mid b top
   pub room : top + 514 ≤ length s
 
 -- What an operation of one operand answers; below `top` nothing is changed.
@@ -106,6 +111,16 @@ pub record TwoDone (j : Two) (s : List ℕ) (a mid b top : ℕ) (s′ : List ℕ
 -- What a test answers.
 abbrev pub TestDone : Test → List ℕ → ℕ → ℕ → ℕ → ℕ → Tested → Type 0
 TestDone j s a mid b top r = (gs : List ℕ) (v w : Value) → Sizes gs → GoodAt gs s mid a v → GoodAt gs s top b w → r ≡ tested j v w
+
+-- x is the cell of the number m.
+pub record NumberCell (m : ℤ) (x : ℕ) : Type 0 where
+  pub fits : CellsFit (int m)
+  pub is : x ≡ cellSize + excess m
+
+-- What a test of two numbers answers, by their cells.
+abbrev pub NumbersTold : ℕ → ℕ → ℕ → Tested → Type 0
+NumbersTold k x y r =
+    (j : Test) → kindOf k ≡ some (test j) → (m n : ℤ) → NumberCell m x → NumberCell n y → r ≡ tested j (int m) (int n)
 
 -- The same by kind codes.
 abbrev pub OneOf : ℕ → List ℕ → ℕ → ℕ → List ℕ → Outcome → Type 0

@@ -4,7 +4,7 @@ use crate::built;
 ghost use Prim.Native.Nat.{_<_};
 ghost use Rattle.rules.specs.Types.{whole};
 ghost use Rattle.rules.specs.Kinds.{pairing, product, apply, plus, minus, interval};
-ghost use Rattle.operations.specs.Outcomes.{TwoReady, TwoDone};
+ghost use Rattle.operations.specs.Outcomes.{Operands, TwoReady, TwoDone};
 ghost use Rattle.operations.specs.Double.{MergeDone, NumberDone};
 
 pub fn pair(s: &mut [u64], a: usize, mid: usize, b: usize, top: usize) -> Outcome
@@ -46,7 +46,7 @@ pub fn product(s: &mut [u64], a: usize, mid: usize, b: usize, top: usize) -> Out
 
 // The image stays where it is, within the function.
 pub fn apply(s: &[u64], a: usize, mid: usize, b: usize, top: usize) -> Outcome
-    requires { ⌜ TwoReady (now s) a mid b top ⌝ }
+    requires { ⌜ Operands (now s) a mid b top ⌝ }
     ensures { λ r. ⌜ TwoDone apply (now (s .entry)) a mid b top (now (s .entry)) r ⌝ }
 {
     if !fitting::applies(s, a, b) {
@@ -75,7 +75,7 @@ fn number(x: u64) -> Outcome
 }
 
 pub fn plus(s: &[u64], a: usize, mid: usize, b: usize, top: usize) -> Outcome
-    requires { ⌜ TwoReady (now s) a mid b top ⌝ }
+    requires { ⌜ Operands (now s) a mid b top ⌝ }
     ensures { λ r. ⌜ TwoDone (plus whole) (now (s .entry)) a mid b top (now (s .entry)) r ⌝ }
 {
     if !fitting::numbers(s, a, b) {
@@ -87,7 +87,7 @@ pub fn plus(s: &[u64], a: usize, mid: usize, b: usize, top: usize) -> Outcome
 }
 
 pub fn minus(s: &[u64], a: usize, mid: usize, b: usize, top: usize) -> Outcome
-    requires { ⌜ TwoReady (now s) a mid b top ⌝ }
+    requires { ⌜ Operands (now s) a mid b top ⌝ }
     ensures { λ r. ⌜ TwoDone (minus whole) (now (s .entry)) a mid b top (now (s .entry)) r ⌝ }
 {
     if !fitting::numbers(s, a, b) {

@@ -1,6 +1,6 @@
 // What each kind gives for its operands' values, by kind codes: refusals 15 to 18, and values built in the arena.
 ghost use mathlib.Core.Path.{_≡_};
-ghost use Rattle.operations.specs.Outcomes.{ended, OneReady, OneOf, TwoReady, TwoOf, TestOf, LeafReady, LeafDone};
+ghost use Rattle.operations.specs.Outcomes.{ended, OneReady, OneOf, Operands, TwoReady, TwoOf, TestOf, LeafReady, LeafDone};
 
 mod double;
 pub mod leaves;
@@ -79,13 +79,17 @@ pub fn two(s: &mut [u64], kind: usize, a: usize, mid: usize, b: usize, top: usiz
 
 // What a test of kind 6 to 9 answers for good operands, the first at a and below mid, the second at b and below top.
 pub fn test(s: &[u64], kind: usize, a: usize, mid: usize, b: usize, top: usize) -> Tested
-    requires { ⌜ TwoReady (now s) a mid b top ⌝ }
+    requires { ⌜ Operands (now s) a mid b top ⌝ }
     ensures { λ r. ⌜ TestOf kind (now (s .entry)) a mid b top r ⌝ }
 {
+    // Two numbers need no further call.
+    if fitting::numbers(s, a, b) {
+        return tests::numbers(kind, s[a], s[b]);
+    }
     match kind {
         6 => tests::equal(s, a, mid, b, top),
         7 => tests::member(s, a, mid, b, top),
         8 => tests::subset(s, a, mid, b, top),
-        _ => tests::at_most(s, a, mid, b, top),
+        _ => Tested::Unlike,
     }
 }

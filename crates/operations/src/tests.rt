@@ -1,12 +1,11 @@
 // Kinds 6 to 9: tests of two operands, the first at a and below mid, the second at b and below top.
 use super::Tested;
-ghost use Rattle.rules.specs.Types.{whole};
-ghost use Rattle.rules.specs.Kinds.{equal, member, subset, atMost};
-ghost use Rattle.operations.specs.Outcomes.{TwoReady, TestDone};
+ghost use Rattle.rules.specs.Kinds.{equal, member, subset};
+ghost use Rattle.operations.specs.Outcomes.{Operands, TestDone, NumbersTold};
 
 // 6: the operands are the same.
 pub fn equal(s: &[u64], a: usize, mid: usize, b: usize, top: usize) -> Tested
-    requires { ⌜ TwoReady (now s) a mid b top ⌝ }
+    requires { ⌜ Operands (now s) a mid b top ⌝ }
     ensures { λ r. ⌜ TestDone equal (now (s .entry)) a mid b top r ⌝ }
 {
     if !fitting::alike(s, a, b) {
@@ -18,7 +17,7 @@ pub fn equal(s: &[u64], a: usize, mid: usize, b: usize, top: usize) -> Tested
 
 // 7: the first is a member of the second.
 pub fn member(s: &[u64], a: usize, mid: usize, b: usize, top: usize) -> Tested
-    requires { ⌜ TwoReady (now s) a mid b top ⌝ }
+    requires { ⌜ Operands (now s) a mid b top ⌝ }
     ensures { λ r. ⌜ TestDone member (now (s .entry)) a mid b top r ⌝ }
 {
     if !fitting::belongs(s, a, b) {
@@ -29,7 +28,7 @@ pub fn member(s: &[u64], a: usize, mid: usize, b: usize, top: usize) -> Tested
 
 // 8: the members of the first are members of the second.
 pub fn subset(s: &[u64], a: usize, mid: usize, b: usize, top: usize) -> Tested
-    requires { ⌜ TwoReady (now s) a mid b top ⌝ }
+    requires { ⌜ Operands (now s) a mid b top ⌝ }
     ensures { λ r. ⌜ TestDone subset (now (s .entry)) a mid b top r ⌝ }
 {
     if !fitting::alike_sets(s, a, b) {
@@ -38,13 +37,13 @@ pub fn subset(s: &[u64], a: usize, mid: usize, b: usize, top: usize) -> Tested
     Tested::Truth(sets::included(s, a, b))
 }
 
-// 9: the first is at most the second; the cells of numbers stand in their order.
-pub fn at_most(s: &[u64], a: usize, mid: usize, b: usize, top: usize) -> Tested
-    requires { ⌜ TwoReady (now s) a mid b top ⌝ }
-    ensures { λ r. ⌜ TestDone (atMost whole) (now (s .entry)) a mid b top r ⌝ }
+// 6 and 9 on the cells of two numbers, which stand in the numbers' order. No other test takes numbers.
+pub fn numbers(kind: usize, x: u64, y: u64) -> Tested
+    ensures { λ r. ⌜ NumbersTold kind x y r ⌝ }
 {
-    if !fitting::numbers(s, a, b) {
-        return Tested::Unlike;
+    match kind {
+        6 => Tested::Truth(x == y),
+        9 => Tested::Truth(x <= y),
+        _ => Tested::Unlike,
     }
-    Tested::Truth(s[a] <= s[b])
 }

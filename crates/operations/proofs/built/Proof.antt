@@ -3,11 +3,5 @@ use Rattle.operations.proofs.OutcomeLaws.{ended-none, ended-some}
 use Rattle.operations.proofs.built.Statement.{statement}
 use Rattle.operations.proofs.built.Tie as tie
 
-returns : tie.Need-returns
-returns c = ended-none _ (c .if1 .taken)
-
-returns-2 : tie.Need-returns-2
-returns-2 c = ended-some _ (c .if1 .left)
-
 pub built-spec : {M : Type 1} → statement M
-built-spec = tie.close (tie.spec returns returns-2)
+built-spec = tie.close (tie.spec (λ c. ended-none _ (c .if1 .taken)) (λ c. ended-some _ (c .if1 .left)))

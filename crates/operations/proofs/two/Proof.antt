@@ -1,7 +1,7 @@
 -- `two`: by kind codes.
 use Rattle.rules.specs.Types.{whole}
 use Rattle.rules.specs.Kinds.{pairing, union, inter, diff, product, apply, plus, minus}
-use Rattle.operations.proofs.DoubleLaws.{union-done, inter-done, diff-done, two-of, two-last}
+use Rattle.operations.proofs.DoubleLaws.{union-merge, inter-merge, diff-merge, two-of, two-last}
 use borrow.Author.Needs.{needs}
 use Rattle.operations.proofs.two.Statement.{statement}
 use Rattle.operations.proofs.two.Tie as tie
@@ -29,11 +29,11 @@ two-spec =
     (λ c. search needs)
     (λ c. two-of pairing (c .before .before .before .before .match .keys1) (c .before .before .pair .ensures))
     (λ c. search needs)
-    (λ c. two-of union (c .before .before .before .before .match .keys2) (union-done (c .before .before .merge .ensures)))
+    (λ c. two-of union (c .before .before .before .before .match .keys2) (c .before .before .merge .ensures union union-merge))
     (λ c. search needs)
-    (λ c. two-of inter (c .before .before .before .before .match .keys3) (inter-done (c .before .before .merge2 .ensures)))
+    (λ c. two-of inter (c .before .before .before .before .match .keys3) (c .before .before .merge2 .ensures inter inter-merge))
     (λ c. search needs)
-    (λ c. two-of diff (c .before .before .before .before .match .keys4) (diff-done (c .before .before .merge3 .ensures)))
+    (λ c. two-of diff (c .before .before .before .before .match .keys4) (c .before .before .merge3 .ensures diff diff-merge))
     (λ c. search needs)
     (λ c. two-of product (c .before .before .before .before .match .keys5) (c .before .before .product .ensures))
     (λ c. search needs)

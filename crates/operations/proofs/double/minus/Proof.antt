@@ -1,10 +1,10 @@
--- `minus`: on payloads, numbers in excess form. Landmarks: the first payload, and that both operands are numbers.
+-- `minus`: on payloads, numbers in excess form. Landmarks: the operands that were lent, and that they are numbers.
 use borrow.Author.Tests.{not-true, not-false}
+use borrow.Author.Needs.{needs}
 use Rattle.rules.specs.Types.{whole}
 use Rattle.rules.specs.Kinds.{minus}
 use Rattle.operations.proofs.FitLaws.{ready-both}
-use Rattle.operations.proofs.DoubleLaws.{ready-first, ready-second, unfit-done, minus-done}
-use borrow.Author.Needs.{needs}
+use Rattle.operations.proofs.DoubleLaws.{ready-first, ready-second, two-unlike, minus-done}
 use Rattle.operations.proofs.double.minus.Statement.{statement}
 use Rattle.operations.proofs.double.minus.Tie as tie
 
@@ -18,14 +18,14 @@ returns-2 : tie.Need-returns-2
 returns-2 c =
     let x = c .before .before .before in
     let e = numbers x in
-    minus-done (e .before .numbers .ensures) (not-false _ (e .if1 .left)) _ _ (x .low .ensures .0) (c .before .low2 .ensures .0) _ (c .number .ensures)
+    minus-done (e .before .numbers .ensures) (not-false _ (e .if1 .left)) (x .low .ensures .0) (c .before .low2 .ensures .0) (c .number .ensures)
 
 pub minus-spec : {M : Type 1} → statement M
 minus-spec =
     tie.close
     (tie.spec
     (λ c κs. ready-both (c .before .pre))
-    (λ c. unfit-done (minus whole) (c .before .numbers .ensures) (not-true _ (c .if1 .taken)))
+    (λ c. two-unlike (minus whole) (c .before .numbers .ensures) (not-true _ (c .if1 .taken)))
     (λ c. search needs)
     (λ c. ready-first (lent (c .before) .pre))
     (λ c κs. search needs)

@@ -1,38 +1,26 @@
--- `choice`: the first member of a set, where it has one.
+-- `choice`: the first member of a set, where it has one. Landmarks: the operand that was lent, and that it is a set.
 use borrow.Author.Tests.{not-true, not-false}
+use borrow.Author.Needs.{needs}
 use Rattle.rules.specs.Kinds.{choice}
 use Rattle.operations.proofs.SingleLaws.{ready-typed, ready-inside, one-unlike, choice-none, choice-some}
-use borrow.Author.Needs.{needs}
 use Rattle.operations.proofs.single.choice.Statement.{statement}
 use Rattle.operations.proofs.single.choice.Tie as tie
 
-is-set-requires : tie.Need-is-set-requires
-is-set-requires c κs = ready-typed (c .before .pre)
+abbrev lent : tie.Else1 → tie.Start
+lent c = c .before .before .before
 
-returns : tie.Need-returns
-returns c = one-unlike choice (c .before .is-set .ensures) (not-true _ (c .if1 .taken))
-
-mul-low : tie.Need-mul-low
-mul-low c = search needs
-
-shared-slice-read-low : tie.Need-shared-slice-read-low
-shared-slice-read-low c = ready-inside (c .before .before .before .before .pre)
-
-low-requires : tie.Need-low-requires
-low-requires c κs = search needs
-
-returns-2 : tie.Need-returns-2
-returns-2 c =
-    let b = c .before .before .before in
-    choice-none (b .before .is-set .ensures) (not-false _ (b .if1 .left)) _ (c .before .low .ensures .0) (c .if2 .taken)
-
-add-t7 : tie.Need-add-t7
-add-t7 c = search needs
-
-returns-3 : tie.Need-returns-3
-returns-3 c =
-    let b = c .before .before .before in
-    choice-some (b .before .is-set .ensures) (not-false _ (b .if1 .left)) _ (c .before .low .ensures .0) (c .if2 .left)
+abbrev is-set : tie.After-low → tie.Else1
+is-set c = c .before .before
 
 pub choice-spec : {M : Type 1} → statement M
-choice-spec = tie.close (tie.spec is-set-requires returns mul-low shared-slice-read-low low-requires returns-2 add-t7 returns-3)
+choice-spec =
+    tie.close
+    (tie.spec
+    (λ c κs. ready-typed (c .before .pre))
+    (λ c. one-unlike choice (c .before .is-set .ensures) (not-true _ (c .if1 .taken)))
+    (λ c. search needs)
+    (λ c. ready-inside (lent (c .before) .pre))
+    (λ c κs. search needs)
+    (λ c. let e = is-set (c .before) in choice-none (e .before .is-set .ensures) (not-false _ (e .if1 .left)) _ (c .before .low .ensures .0) (c .if2 .taken))
+    (λ c. search needs)
+    (λ c. let e = is-set (c .before) in choice-some (e .before .is-set .ensures) (not-false _ (e .if1 .left)) _ (c .before .low .ensures .0) (c .if2 .left)))

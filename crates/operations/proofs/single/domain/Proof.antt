@@ -1,36 +1,34 @@
--- `domain`: the left parts of a set of pairs.
+-- `domain`: the left parts of a set of pairs. Landmark: the operand that was lent. Of the names below, m is where the value has been made, e where the operand is a set of pairs.
 use borrow.Author.Tests.{not-true, not-false}
+use borrow.Author.Needs.{needs}
 use Rattle.rules.specs.Kinds.{dom}
 use Rattle.operations.proofs.SingleLaws.{ready-typed, ready-pairs, one-unlike, domain-done}
-use borrow.Author.Needs.{needs}
 use Rattle.operations.proofs.single.domain.Statement.{statement}
 use Rattle.operations.proofs.single.domain.Tie as tie
 
-is-relation-requires : tie.Need-is-relation-requires
-is-relation-requires c κs = ready-typed (c .before .before .pre)
-
-same-length : tie.Need-same-length
-same-length c = search needs
-
-returns : tie.Need-returns
-returns c = one-unlike dom (c .before .is-relation .ensures) (not-true _ (c .if1 .taken))
+abbrev lent : tie.After-is-relation → tie.Start
+lent c = c .before .before .before
 
 domain-requires : tie.Need-domain-requires
 domain-requires c κs =
-    let p = c .before .before .before .before .before .pre in
-    (ready-pairs p (c .before .before .is-relation .ensures) (not-false _ (c .before .if1 .left)), p .room)
-
-built-requires : tie.Need-built-requires
-built-requires c κs = search needs
-
-same-length-2 : tie.Need-same-length-2
-same-length-2 c = search needs
+    let e = c .before in
+    let p = lent (e .before) .pre in
+    (ready-pairs p (e .before .is-relation .ensures) (not-false _ (e .if1 .left)), p .room)
 
 returns-2 : tie.Need-returns-2
 returns-2 c =
-    let f = c .before .before .before .before .before .before in
-    let p = f .before .before .before .pre in
-    domain-done p (f .is-relation .ensures) (not-false _ (c .before .before .before .before .before .if1 .left)) (c .before .before .before .domain .ensures) (c .built .ensures)
+    let m = c .before .before .before in
+    let e = m .before .before in
+    domain-done (lent (e .before) .pre) (e .before .is-relation .ensures) (not-false _ (e .if1 .left)) (m .domain .ensures) (c .built .ensures)
 
 pub domain-spec : {M : Type 1} → statement M
-domain-spec = tie.close (tie.spec is-relation-requires same-length returns domain-requires built-requires same-length-2 returns-2)
+domain-spec =
+    tie.close
+    (tie.spec
+    (λ c κs. ready-typed (c .before .before .pre))
+    (λ c. search needs)
+    (λ c. one-unlike dom (c .before .is-relation .ensures) (not-true _ (c .if1 .taken)))
+    domain-requires
+    (λ c κs. search needs)
+    (λ c. search needs)
+    returns-2)

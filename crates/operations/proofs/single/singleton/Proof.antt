@@ -1,20 +1,17 @@
--- `singleton`: every value is fit.
-use Rattle.operations.proofs.SingleLaws.{ready-value, singleton-done}
+-- `singleton`: every value is fit. Landmark: where the set has been made.
 use borrow.Author.Needs.{needs}
+use Rattle.operations.proofs.SingleLaws.{ready-value, singleton-done}
 use Rattle.operations.proofs.single.singleton.Statement.{statement}
 use Rattle.operations.proofs.single.singleton.Tie as tie
 
-singleton-requires : tie.Need-singleton-requires
-singleton-requires c κs = let p = c .before .before .pre in (ready-value p, p .room)
-
-built-requires : tie.Need-built-requires
-built-requires c κs = search needs
-
-same-length : tie.Need-same-length
-same-length c = search needs
-
-returns : tie.Need-returns
-returns c = singleton-done (c .before .before .before .before .before .before .pre) (c .before .before .before .singleton .ensures) (c .built .ensures)
+abbrev made : tie.After-built → tie.After-singleton
+made c = c .before .before .before
 
 pub singleton-spec : {M : Type 1} → statement M
-singleton-spec = tie.close (tie.spec singleton-requires built-requires same-length returns)
+singleton-spec =
+    tie.close
+    (tie.spec
+    (λ c κs. let p = c .before .before .pre in (ready-value p, p .room))
+    (λ c κs. search needs)
+    (λ c. search needs)
+    (λ c. singleton-done (made c .before .before .before .pre) (made c .singleton .ensures) (c .built .ensures)))

@@ -1,4 +1,4 @@
--- `member`: 7.
+-- `member`: 7. Landmark: the operands that were lent.
 use borrow.Author.Tests.{not-true, not-false}
 use Rattle.rules.specs.Kinds.{member}
 use Rattle.operations.proofs.FitLaws.{ready-both}
@@ -6,17 +6,14 @@ use Rattle.operations.proofs.TestLaws.{test-unlike, member-ready, membe
 use Rattle.operations.proofs.tests.member.Statement.{statement}
 use Rattle.operations.proofs.tests.member.Tie as tie
 
-belongs-requires : tie.Need-belongs-requires
-belongs-requires c κs = ready-both (c .before .pre)
-
-returns : tie.Need-returns
-returns c = test-unlike member (c .before .belongs .ensures) _ _ (not-true _ (c .if1 .taken))
-
-contains-requires : tie.Need-contains-requires
-contains-requires c κs = member-ready (c .before .belongs .ensures) (not-false _ (c .if1 .left)) (c .before .before .before .pre)
-
-returns-2 : tie.Need-returns-2
-returns-2 c = member-told (c .before .before .belongs .ensures) (not-false _ (c .before .if1 .left)) _ (c .contains .ensures)
+abbrev lent : tie.Else1 → tie.Start
+lent c = c .before .before .before
 
 pub member-spec : {M : Type 1} → statement M
-member-spec = tie.close (tie.spec belongs-requires returns contains-requires returns-2)
+member-spec =
+    tie.close
+    (tie.spec
+    (λ c κs. ready-both (c .before .pre))
+    (λ c. test-unlike member (c .before .belongs .ensures) (not-true _ (c .if1 .taken)))
+    (λ c κs. member-ready (c .before .belongs .ensures) (not-false _ (c .if1 .left)) (lent c .pre))
+    (λ c. let e = c .before in member-told (e .before .belongs .ensures) (not-false _ (e .if1 .left)) _ (c .contains .ensures)))
