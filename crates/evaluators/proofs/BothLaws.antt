@@ -19,7 +19,7 @@ use Rattle.rules.proofs.Basics.{absurd01}
 use Rattle.arena.specs.Code.{Same}
 use Rattle.arena.proofs.Standing.{same-trans}
 use Rattle.operations.specs.Good.{GoodAt}
-use Rattle.operations.specs.Outcomes.{TwoReady, TestOf, tested}
+use Rattle.operations.specs.Outcomes.{Operands, TestOf, tested}
 use Rattle.operations.specs.declared.Tested.{Tested}
 use Rattle.operations.specs.declared.Tested.the-variants.{Truth as Tells, Unlike}
 use Rattle.operations.proofs.OutcomeLaws.{test-fit, test-unfit}
@@ -31,7 +31,7 @@ use Rattle.evaluators.specs.Answers.{EndsWith, FormedBounds}
 use Rattle.evaluators.specs.Cycle.{Binds, Ready, Visited, valueAt, EvaluatesP, EvaluatesE}
 use Rattle.evaluators.specs.Nodes.{fieldA, fieldB, IsExpr}
 use Rattle.evaluators.proofs.RunLaws.{then-done, then-refused, returns, visited, fitting-on, fitting-refused}
-use Rattle.evaluators.proofs.NodeLaws.{Child, TwoFields, ready-child, ready-first, binds-frame, good-frame, sizes-small, fields-tall}
+use Rattle.evaluators.proofs.NodeLaws.{Child, TwoFields, ready-child, ready-first, binds-frame, good-frame, sizes-small}
 use Rattle.evaluators.proofs.NodeLaws.{visited-kind, visited-operands, steps-on, formed-below, held-by}
 
 -- Both operands have values: that of e stands at a, below mid, and then that of f at b, below next.
@@ -147,10 +147,10 @@ module _ {bs env s : List ℕ} {top n : ℕ} (x : Ready bs env s top n) (y : Two
                   };
             }
 
--- What a test or an operation may take for granted of its operands.
-pub operands-ready : {bs env s : List ℕ} {top n left : ℕ} {s′ : List ℕ} {a mid b next l : ℕ} → Ready bs env s top n → TwoFields bs n →
-    EvaluatesBoth bs env s top n left s′ a mid b next l → TwoReady s′ a mid b next
-operands-ready {bs} {n = n} {left = left} x y h =
+-- What a test may take for granted of its operands.
+pub operands-ready : {bs env s : List ℕ} {top n left : ℕ} {s′ : List ℕ} {a mid b next l : ℕ} → Ready bs env s top n →
+    EvaluatesBoth bs env s top n left s′ a mid b next l → Operands s′ a mid b next
+operands-ready {bs} {n = n} {left = left} x h =
     let v = h .answer n (x .values) left 0 (omega arith) (omega arith) (x .binds) in
     record {
       sizes = tableOf bs .sizes;
@@ -160,7 +160,6 @@ operands-ready {bs} {n = n} {left = left} x y h =
       left = v .leftAt;
       right = v .rightAt;
       order = h .order;
-      room = omega (arith, x .room, fields-tall y, h .high, h .near, h .frame .kept);
     }
 
 -- 6 to 9

@@ -24,7 +24,7 @@ use Rattle.laws.proofs.FormedLaws.{value-good}
 use Rattle.arena.specs.Code.{code}
 use Rattle.arena.proofs.Standing.{same-trans}
 use Rattle.products.specs.Growing.{PutsCell}
-use Rattle.operations.specs.Outcomes.{weighed, oneGiven, twoGiven, Gives, OneReady, OneOf, TwoOf}
+use Rattle.operations.specs.Outcomes.{weighed, oneGiven, twoGiven, Gives, OneReady, OneOf, TwoReady, TwoOf}
 use Rattle.operations.specs.declared.Outcome.{Outcome}
 use Rattle.operations.specs.declared.Outcome.the-variants.{Built}
 use Rattle.operations.proofs.KindLaws.{kind-of}
@@ -41,7 +41,7 @@ use Rattle.evaluators.specs.Cycle.{Binds, Ready, Visited, valueAt, Evalu
 use Rattle.evaluators.proofs.RunLaws.{then-done, then-refused, visited, endOf, form-ends, fitted-ends, fitting-on, fitting-refused, ends-as}
 use Rattle.evaluators.proofs.NodeLaws.{Child, TwoFields, sizes-small, binds-frame, fields-tall, ready-first, visited-kind, visited-builds, visited-child, visited-operands}
 use Rattle.evaluators.proofs.NodeLaws.{steps-on, held-below, formed-below, formed-by}
-use Rattle.evaluators.proofs.BothLaws.{BothAs, StopsAs, both-refused, both-done, StopsBoth, EvaluatesBoth}
+use Rattle.evaluators.proofs.BothLaws.{operands-ready, BothAs, StopsAs, both-refused, both-done, StopsBoth, EvaluatesBoth}
 use Rattle.evaluators.proofs.RangeLaws.{placed-good, RangeHere, range-here, binder-ready}
 
 -- The run at a node is that of its tree.
@@ -175,6 +175,13 @@ module _ {bs env s : List ℕ} {top k n left : ℕ} (x : Visited bs env s top k 
   pub two-fields : TwoFields bs n
   two-fields = visited-operands x (two j) e refl
 
+  -- What the operation may take for granted of its operands.
+  pub two-ready : {s₁ : List ℕ} {at mid other next l : ℕ} → EvaluatesBoth bs env s top n (left - 1) s₁ at mid other next l → TwoReady s₁ at mid other next
+  two-ready h = record {
+    operands = operands-ready (x .ready) h;
+    room = omega (arith, x .ready .room (visited-builds x (two j) e refl), fields-tall two-fields, h .high, h .near, h .frame .kept);
+  }
+
   abbrev eᵃ : ℕ → Expr
   eᵃ g = exprAt g (tableOf bs .nodes) (fieldA bs n)
 
@@ -205,8 +212,7 @@ module _ {bs env s : List ℕ} {top k n left : ℕ} (x : Visited bs env s top k 
           low = h .low;
           high = h .high;
           order = h .order;
-          room =
-              omega (arith, x .ready .room (visited-builds x (two j) e refl), fields-tall two-fields, h .high, h .near, h .frame .kept, op j e .frame .kept);
+          room = omega (arith, two-ready h .room, op j e .frame .kept);
         }
 
     pub two-evaluates : {s₃ : List ℕ} {r : Formed} → Settles s₂ o mid next top n l s₃ r → EvaluatesE bs env s top n left s₃ r

@@ -17,15 +17,22 @@ module _ (t : ℕ) where
   abbrev lent : eval-pred-lts.After-strip claims (eval-pred-at t) eval-pred.Post → eval-pred-lts.Start claims (eval-pred-at t) eval-pred.Post
   lent c = c .before .before .before
 
+  abbrev ran : eval-pred-lts.After-turn claims (eval-pred-at t) eval-pred.Post → eval-pred-lts.After-eval-bare claims (eval-pred-at t) eval-pred.Post
+  ran c = c .before .before .before
+
   eval-bare-requires : eval-pred-lts.Need-eval-bare-requires claims (eval-pred-at t) eval-pred.Post
   eval-bare-requires c κs =
       let n = c .before in
       let v = lent n in
       let p = n .strip .ensures .passes in
-      (omega (arith, v .pre .0, p .below), bare-ready (v .pre .1 .0) (v .pre .1 .1) p, p .is, n .strip .ensures .last)
+      (omega (arith, v .pre .0, p .below), (bare-ready (v .pre .1 .0) (v .pre .1 .1) p, p .is, n .strip .ensures .last))
 
   returns : eval-pred-lts.Need-returns claims (eval-pred-at t) eval-pred.Post
-  returns c = ?
+  returns c =
+      let e = ran c in
+      let n = e .before .before in
+      let v = lent n in
+      bare-tells (v .pre .1 .0) (v .pre .1 .1) (n .strip .ensures .passes) (e .eval-bare .ensures) (c .turn .ensures)
 
   pub eval-pred-closed : {M : Type 1} → eval-pred-lts.Closed claims (eval-pred-at t) eval-pred.Post M
   eval-pred-closed =
@@ -36,5 +43,5 @@ module _ (t : ℕ) where
       (λ c κs. let v = c .before .before in (v .pre .1 .0 .readable, v .pre .1 .0 .node, v .pre .1 .1))
       eval-bare-requires
       (λ c κs. tt)
-      (λ c. ?)
+      (λ c. ran c .eval-bare .kept .1 .1 .0)
       returns

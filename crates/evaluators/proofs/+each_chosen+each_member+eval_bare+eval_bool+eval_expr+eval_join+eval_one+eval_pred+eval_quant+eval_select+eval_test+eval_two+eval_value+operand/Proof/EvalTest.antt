@@ -117,7 +117,7 @@ module _ (t : ℕ) where
       let e = ran (m .before .before) in
       let f = word e in
       let v = lent f in
-      operands-ready (v .pre .1 .0 .ready) (test-fields (v .pre .1 .0) (v .pre .1 .1 .0) (v .pre .1 .1 .1))
+      operands-ready (v .pre .1 .0 .ready)
       (both-formed (v .pre .1 .0 .ready) (test-fields (v .pre .1 .0) (v .pre .1 .1 .0) (v .pre .1 .1 .1)) (f .node-field .ensures)
       (e .operand .ensures) (m .first .given .1) (g .node-field2 .ensures)
       (s .operand2 .ensures) (w .second .given .1))

@@ -13,8 +13,8 @@ use Rattle.operations.proofs.two.Reads as two-reads
 use Rattle.evaluators.proofs.+each_chosen+each_member+eval_bare+eval_bool+eval_expr+eval_join+eval_one+eval_pred+eval_quant+eval_select+eval_test+eval_two+eval_value+operand.Proof.Base.{eval-two-at, operand-below}
 use Rattle.evaluators.proofs.SafeLaws.{ready-node}
 use Rattle.evaluators.proofs.NodeLaws.{formed-as}
-use Rattle.evaluators.proofs.BothLaws.{left-child, left-ready, both-stops, right-child, right-ready, both-stops-2, both-formed, operands-ready}
-use Rattle.evaluators.proofs.FormLaws.{two-fields, two-fails, two-settles, two-evaluates}
+use Rattle.evaluators.proofs.BothLaws.{left-child, left-ready, both-stops, right-child, right-ready, both-stops-2, both-formed}
+use Rattle.evaluators.proofs.FormLaws.{two-fields, two-ready, two-fails, two-settles, two-evaluates}
 
 module _ (t : ℕ) where
   abbrev claims : eval-two-lts.Claims
@@ -115,7 +115,7 @@ module _ (t : ℕ) where
       let e = ran (m .before .before) in
       let f = word e in
       let v = lent f in
-      operands-ready (v .pre .1 .0 .ready) (two-fields (v .pre .1 .0) (v .pre .1 .1 .0) (v .pre .1 .1 .1))
+      two-ready (v .pre .1 .0) (v .pre .1 .1 .0) (v .pre .1 .1 .1)
       (both-formed (v .pre .1 .0 .ready) (two-fields (v .pre .1 .0) (v .pre .1 .1 .0) (v .pre .1 .1 .1)) (f .node-field .ensures)
       (e .operand .ensures) (m .first .given .1) (g .node-field2 .ensures)
       (s .operand2 .ensures) (w .second .given .1))
