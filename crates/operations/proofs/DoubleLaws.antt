@@ -179,27 +179,22 @@ shifted-sub a b x h = go (ltb a b) refl
     go true e = omega (arith, ltb→lt a b (rw e tt))
     go false e = omega (arith, nltb→le a b (rw e tt))
 
-shifted-sum : (i j : ℤ) → CellsFit (int i) → CellsFit (int j) → Shifted (i +ℤ j) (excess i + excess j)
-unfolding excess
-shifted-sum (pos a) (pos b) h k = omega arith
-shifted-sum (pos a) (negsuc b) h k = shifted-sub a (suc b) (2147483648 + a + (2147483647 - b)) (omega (arith, k .1))
-shifted-sum (negsuc a) (pos b) h k = shifted-sub b (suc a) (2147483647 - a + (2147483648 + b)) (omega (arith, h .1))
-shifted-sum (negsuc a) (negsuc b) h k = omega (arith, h .1, k .1)
+module _ {x y : ℕ} where
+  shifted-sum : (i j : ℤ) → CellsFit (int i) → CellsFit (int j) → excess i ≡ x → excess j ≡ y → Shifted (i +ℤ j) (x + y)
+  unfolding excess
+  shifted-sum (pos a) (pos b) h k p q = omega arith
+  shifted-sum (pos a) (negsuc b) h k p q = shifted-sub a (suc b) (x + y) (omega (arith, k .1))
+  shifted-sum (negsuc a) (pos b) h k p q = shifted-sub b (suc a) (x + y) (omega (arith, h .1))
+  shifted-sum (negsuc a) (negsuc b) h k p q = omega (arith, h .1, k .1)
 
-shifted-difference : (i j : ℤ) → CellsFit (int i) → CellsFit (int j) → Shifted (i -ℤ j) (excess i + 4294967296 - excess j)
-unfolding excess
-shifted-difference (pos a) (pos zero) h k = omega arith
-shifted-difference (pos a) (pos (suc b)) h k = shifted-sub a (suc b) (2147483648 + a + 4294967296 - (2147483648 + suc b)) (omega (arith, h .1, k .1))
-shifted-difference (pos a) (negsuc b) h k = omega (arith, k .1)
-shifted-difference (negsuc a) (pos zero) h k = shifted-sub 0 (suc a) (2147483647 - a + 4294967296 - 2147483648) (omega (arith, h .1))
-shifted-difference (negsuc a) (pos (suc b)) h k = omega (arith, h .1, k .1)
-shifted-difference (negsuc a) (negsuc b) h k = shifted-sub (suc b) (suc a) (2147483647 - a + 4294967296 - (2147483647 - b)) (omega (arith, h .1, k .1))
-
-sum-at : (i j : ℤ) (x y : ℕ) → CellsFit (int i) → CellsFit (int j) → excess i ≡ x → excess j ≡ y → Shifted (i +ℤ j) (x + y)
-sum-at i j x y h k p q = rw (← p, ← q) (shifted-sum i j h k)
-
-difference-at : (i j : ℤ) (x y : ℕ) → CellsFit (int i) → CellsFit (int j) → excess i ≡ x → excess j ≡ y → Shifted (i -ℤ j) (x + 4294967296 - y)
-difference-at i j x y h k p q = rw (← p, ← q) (shifted-difference i j h k)
+  shifted-difference : (i j : ℤ) → CellsFit (int i) → CellsFit (int j) → excess i ≡ x → excess j ≡ y → Shifted (i -ℤ j) (x + 4294967296 - y)
+  unfolding excess
+  shifted-difference (pos a) (pos zero) h k p q = omega arith
+  shifted-difference (pos a) (pos (suc b)) h k p q = shifted-sub a (suc b) (x + 4294967296 - y) (omega (arith, h .1, k .1))
+  shifted-difference (pos a) (negsuc b) h k p q = omega (arith, k .1)
+  shifted-difference (negsuc a) (pos zero) h k p q = shifted-sub 0 (suc a) (x + 4294967296 - y) (omega (arith, h .1))
+  shifted-difference (negsuc a) (pos (suc b)) h k p q = omega (arith, h .1, k .1)
+  shifted-difference (negsuc a) (negsuc b) h k p q = shifted-sub (suc b) (suc a) (x + 4294967296 - y) (omega (arith, h .1, k .1))
 
 -- Two numbers as operands, by the payloads of their cells.
 module _ {s : List ℕ} {a mid b top : ℕ} {r : Bool} (f : FitTwo (numᵖ whole ∷ numᵖ whole ∷ []) s a b r) (e : r ≡ true)
@@ -209,14 +204,14 @@ module _ {s : List ℕ} {a mid b top : ℕ} {r : Bool} (f : FitTwo (numᵖ whole
   plus-done m =
       two-told (plus whole) f e (same-refl top s)
       (λ gs v w small h k. two-numbers small h k (λ v w. Gives s mid top (weighed (twoValue (plus whole) v w)) o) f e
-      (λ i j c d. m s mid top (i +ℤ j) (sum-at i j x y (c .fits) (d .fits) (number-low ex c) (number-low ey d))))
+      (λ i j c d. m s mid top (i +ℤ j) (shifted-sum i j (c .fits) (d .fits) (number-low ex c) (number-low ey d))))
 
   pub minus-done : NumberDone (x + 4294967296 - y) o → TwoDone (minus whole) s a mid b top s o
   unfolding twoValue
   minus-done m =
       two-told (minus whole) f e (same-refl top s)
       (λ gs v w small h k. two-numbers small h k (λ v w. Gives s mid top (weighed (twoValue (minus whole) v w)) o) f e
-      (λ i j c d. m s mid top (i -ℤ j) (difference-at i j x y (c .fits) (d .fits) (number-low ex c) (number-low ey d))))
+      (λ i j c d. m s mid top (i -ℤ j) (shifted-difference i j (c .fits) (d .fits) (number-low ex c) (number-low ey d))))
 
   pub interval-done : {s′ : List ℕ} {end : ℕ} → Operands s a mid b top → Intervals s x y top s′ end → o ≡ ended end → TwoDone interval s a mid b top s′ o
   unfolding twoValue

@@ -136,7 +136,8 @@ module _ {k x y : ℕ} where
 
 -- By kind codes: two numbers, or the code is i's, or that of none but the last, which takes numbers only.
 module _ {s : List ℕ} {a mid b top : ℕ} {o : Tested} where
-  pub test-numbers : (k : ℕ) {r : Bool} → FitTwo (numᵖ whole ∷ numᵖ whole ∷ []) s a b r → r ≡ true → NumbersTold k (getD s a 0) (getD s b 0) o → TestOf k s a mid b top o
+  pub test-numbers : (k : ℕ) {r : Bool} → FitTwo (numᵖ whole ∷ numᵖ whole ∷ []) s a b r → r ≡ true → NumbersTold k (getD s a 0) (getD s b 0) o →
+      TestOf k s a mid b top o
   test-numbers k f e m j q gs v w small h l = two-numbers small h l (λ x y. o ≡ tested j x y) f e (m j q)
 
   pub test-of : {k : ℕ} (i : Test) → k ≡ testCode i → TestDone i s a mid b top o → TestOf k s a mid b top o

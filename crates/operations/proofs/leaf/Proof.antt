@@ -1,4 +1,4 @@
--- `leaf`: each code has its leaf.
+-- `leaf`: each code has its leaf. In a need, m is where it has been built.
 use native.Mathlib.Omega.{arith}
 use Rattle.rules.specs.Kinds.{givenSet}
 use Rattle.operations.proofs.LeafLaws.{leaf-fits, elements-done, booleans-done}
@@ -19,6 +19,6 @@ leaf-spec =
     elements-requires
     (λ c κs. search needs)
     (λ c. search needs)
-    (λ c. elements-done (c .before .before .before .before .match .keys1) (c .before .before .elements .ensures))
+    (λ c. let m = c .before .before in elements-done (m .before .before .match .keys1) (m .elements .ensures))
     (λ c. search needs)
-    (λ c. booleans-done (c .before .before .before .before .match .rest .1) (c .before .before .booleans .ensures)))
+    (λ c. let m = c .before .before in booleans-done (m .before .before .match .rest .1) (m .booleans .ensures)))

@@ -1,4 +1,4 @@
--- `one`: each code has its kind.
+-- `one`: each code has its kind. In a need, m is where the operation has answered.
 use Rattle.rules.specs.Kinds.{singleton, power, dom, ran, card}
 use Rattle.operations.proofs.SingleLaws.{one-of, one-last}
 use borrow.Author.Needs.{needs}
@@ -19,13 +19,13 @@ one-spec =
     (λ c κs. search needs)
     (λ c κs. search needs)
     (λ c. search needs)
-    (λ c. one-of singleton (c .before .before .before .before .match .keys1) (c .before .before .singleton .ensures))
+    (λ c. let m = c .before .before in one-of singleton (m .before .before .match .keys1) (m .singleton .ensures))
     (λ c. search needs)
-    (λ c. one-of power (c .before .before .before .before .match .keys2) (c .before .before .power .ensures))
+    (λ c. let m = c .before .before in one-of power (m .before .before .match .keys2) (m .power .ensures))
     (λ c. search needs)
-    (λ c. one-of dom (c .before .before .before .before .match .keys3) (c .before .before .domain .ensures))
+    (λ c. let m = c .before .before in one-of dom (m .before .before .match .keys3) (m .domain .ensures))
     (λ c. search needs)
-    (λ c. one-of ran (c .before .before .before .before .match .keys4) (c .before .before .range .ensures))
+    (λ c. let m = c .before .before in one-of ran (m .before .before .match .keys4) (m .range .ensures))
     (λ c. search needs)
     (λ c. one-of card (c .before .before .match .keys5) (c .card .ensures))
     (λ c. search needs)

@@ -1,4 +1,4 @@
--- `two`: by kind codes.
+-- `two`: each code has its kind. In a need, m is where the operation has answered.
 use Rattle.rules.specs.Types.{whole}
 use Rattle.rules.specs.Kinds.{pairing, union, inter, diff, product, apply, plus, minus}
 use Rattle.operations.proofs.DoubleLaws.{union-merge, inter-merge, diff-merge, two-of, two-last}
@@ -8,10 +8,10 @@ use Rattle.operations.proofs.two.Tie as tie
 
 returns-9 : tie.Need-returns-9
 returns-9 c =
-    let start = c .before .before .before .before in
-    let n = start .match .rest in
+    let m = c .before .before in
+    let n = m .before .before .match .rest in
     two-last (n .0 .0 .0 .0 .0 .0 .0 .1) (n .0 .0 .0 .0 .0 .0 .1) (n .0 .0 .0 .0 .0 .1) (n .0 .0 .0 .0 .1) (n .0 .0 .0 .1) (n .0 .0 .1) (n .0 .1) (n .1)
-    (c .before .before .interval .ensures)
+    (m .interval .ensures)
 
 pub two-spec : {M : Type 1} → statement M
 two-spec =
@@ -27,15 +27,15 @@ two-spec =
     (λ c κs. search needs)
     (λ c κs. search needs)
     (λ c. search needs)
-    (λ c. two-of pairing (c .before .before .before .before .match .keys1) (c .before .before .pair .ensures))
+    (λ c. let m = c .before .before in two-of pairing (m .before .before .match .keys1) (m .pair .ensures))
     (λ c. search needs)
-    (λ c. two-of union (c .before .before .before .before .match .keys2) (c .before .before .merge .ensures union union-merge))
+    (λ c. let m = c .before .before in two-of union (m .before .before .match .keys2) (m .merge .ensures union union-merge))
     (λ c. search needs)
-    (λ c. two-of inter (c .before .before .before .before .match .keys3) (c .before .before .merge2 .ensures inter inter-merge))
+    (λ c. let m = c .before .before in two-of inter (m .before .before .match .keys3) (m .merge2 .ensures inter inter-merge))
     (λ c. search needs)
-    (λ c. two-of diff (c .before .before .before .before .match .keys4) (c .before .before .merge3 .ensures diff diff-merge))
+    (λ c. let m = c .before .before in two-of diff (m .before .before .match .keys4) (m .merge3 .ensures diff diff-merge))
     (λ c. search needs)
-    (λ c. two-of product (c .before .before .before .before .match .keys5) (c .before .before .product .ensures))
+    (λ c. let m = c .before .before in two-of product (m .before .before .match .keys5) (m .product .ensures))
     (λ c. search needs)
     (λ c. two-of apply (c .before .before .match .keys6) (c .apply .ensures))
     (λ c. search needs)

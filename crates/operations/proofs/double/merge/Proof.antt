@@ -1,4 +1,4 @@
--- `merge`: sets alike, merged. Landmark: the operands that were lent. Of the names below, m is where the set has been made, e where the operands fit.
+-- `merge`: sets alike, merged. Landmark: the operands that were lent. In the needs, m is where the set has been made, e where the operands fit.
 use borrow.Author.Tests.{not-true, not-false}
 use borrow.Author.Needs.{needs}
 use Rattle.rules.specs.Rules.{t̂}

@@ -1,4 +1,4 @@
--- `plus`: on payloads, numbers in excess form. Landmarks: the operands that were lent, and that they are numbers.
+-- `plus`: on payloads, numbers in excess form. Landmarks: the operands that were lent, and that they are numbers. In the last need, x is the first payload.
 use borrow.Author.Tests.{not-true, not-false}
 use borrow.Author.Needs.{needs}
 use Rattle.rules.specs.Types.{whole}

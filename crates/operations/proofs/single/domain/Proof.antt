@@ -1,4 +1,4 @@
--- `domain`: the left parts of a set of pairs. Landmark: the operand that was lent. Of the names below, m is where the value has been made, e where the operand is a set of pairs.
+-- `domain`: the left parts of a set of pairs. Landmark: the operand that was lent. In the needs, m is where the set has been made, e where the operand fits.
 use borrow.Author.Tests.{not-true, not-false}
 use borrow.Author.Needs.{needs}
 use Rattle.rules.specs.Kinds.{dom}
