@@ -1,4 +1,5 @@
--- Application: the pass over the pairs of a set in the arena. At each turn the pairs that are left decide (`Checking`, `Applying`).
+-- Pairs of a relation in the arena: where the next pair stands (`NextPair`), whether none shares its first part with the next one, which
+-- the pairs that are left decide (`Checking`), and what is found as an application (`image-found`).
 use Prim.Native.Nat.{ℕ, _+_, _-_, _%_, _≤_, _<_, Ordering, Ordering·lt, Ordering·eq, Ordering·gt}
 use mathlib.Core.Bool.{Bool, true, false, not, cond}
 use mathlib.Core.List.{List}
@@ -7,14 +8,18 @@ use native.Mathlib.Omega.{arith}
 use lib.Dec.{isEq}
 use lib.ListN.{length, getD}
 use Rattle.rules.specs.Values.{Value, scalar, pair, set, Values, none, _▸_, members, count, weight, order, same}
-use Rattle.rules.specs.Runs.{Given, gives, lacks}
-use Rattle.rules.specs.Operations.{applied}
-use Rattle.arena.specs.Code.{ValueAt, CellsFit, orderCode, SomeAt, EndsAt, Compared, SetBelow, ValueBelow, Front, AllPairs}
+use Rattle.rules.specs.Operations.{left, right, applied}
+use Rattle.laws.proofs.OrderLaws.{Small}
+use Rattle.laws.proofs.SetOrder.{All, Rising}
+use Rattle.laws.proofs.Membership.{all-in}
+use Rattle.arena.specs.Code.{ValueAt, CellsFit, orderCode, SomeAt, EndsAt, Compared, SetBelow, ValueBelow, Front, IsPair, AllPairs}
 use Rattle.arena.proofs.CodeLaws.{fits-small}
 use Rattle.arena.proofs.ValueParts.{left-stands, right-stands}
-use Rattle.arena.proofs.FrontLaws.{rises-rising, fit-small, front-start, front-value, front-next, code-less, code-equal, code-greater}
-use Rattle.sets.specs.Pairs.{newFirst, newFirsts, atPair, walked, SomePairs, PairFirst, NextPair, FunctionAt, ImageAt}
-use Rattle.sets.proofs.PairLaws.{walked-right}
+use Rattle.arena.proofs.FrontLaws.{rises-rising, fit-small, front-start, front-value, front-next, code-equal}
+use Rattle.sets.specs.Fronts.{Member}
+use Rattle.sets.specs.Pairs.{newFirst, newFirsts, PairFirst, NextPair, FunctionAt, Within, ImageAt}
+use Rattle.sets.proofs.PairLaws.{applied-none, applied-shared, applied-found}
+use Rattle.sets.proofs.SearchLaws.{no-front, key-stands}
 
 -- What is shown of a first pair and the rest is shown of pairs, if there are any.
 some-pairs : (P : Values → Type 0) → ((a b : Value) (ws : Values) → AllPairs ws → P (pair a b ▸ ws)) → (vs : Values) → AllPairs vs → 0 < count vs → P vs
@@ -146,11 +151,9 @@ module _ (s : List ℕ) (top : ℕ) (vs : Values) (i left : ℕ) (h : Checking s
   checking-at l = pair-first s top i left (h .rest) (h .front) (h .pairs) l
 
   pub checking-end : left ≤ 0 → true ≡ newFirsts (members vs)
-  checking-end l = go (h .rest) (h .front) (h .result)
-    where
-      go : (ws : Values) → Front s top i left ws → newFirsts (members vs) ≡ newFirsts (members ws) → true ≡ newFirsts (members vs)
-      go none f q = sym q
-      go (w ▸ ws) f q = absurd (omega (arith, f .counted))
+  checking-end l =
+      no-front s top i left (λ ws. newFirsts (members vs) ≡ newFirsts (members ws) → true ≡ newFirsts (members vs)) (λ q. sym q)
+      (h .rest) (h .front) l (h .result)
 
   module _ (l : 0 < left) (r : ℕ) (next : NextPair s i left r) where
     pub checking-shared : r ≡ 0 → false ≡ newFirsts (members vs)
@@ -166,104 +169,55 @@ module _ (s : List ℕ) (top : ℕ) (vs : Values) (i left : ℕ) (h : Checking s
         record { rest = ws; front = x .2; pairs = p; result = q ∙ rw (x .0) })
         (h .rest) (h .front) (h .pairs) l (h .result)
 
--- `image`: the pairs left decide.
-pub record Applying (s : List ℕ) (f : ℕ) (vs : Values) (i left : ℕ) (v : Value) : Type 0 where
-  pub rest : Values
-  pub front : Front s (f + weight (set vs)) i left rest
-  pub pairs : AllPairs rest
-  pub behind : f < i
-  pub result : walked v (members vs) ≡ walked v (members rest)
+pub all-pairs : (vs : Values) → AllPairs vs → All IsPair (members vs)
+all-pairs none p = tt
+all-pairs (v ▸ vs) p = (p .0, all-pairs vs (p .1))
 
-pub applying-start : (s : List ℕ) (f left : ℕ) (vs : Values) (v : Value) → SetBelow s (length s) f vs → AllPairs vs →
-    left ≡ getD s f 0 % 4294967296 → Applying s f vs (f + 1) left v
-applying-start s f left vs v h p e = record {
-  rest = vs;
-  front = front-start s (f + weight (set vs)) f vs (record { stands = h .stands; below = omega arith; fine = h .fine }) left e;
-  pairs = p;
-  behind = omega arith;
-  result = refl;
-}
+-- What is found, as an application.
+module _ (s : List ℕ) (f n e : ℕ) (vs : Values) (v : Value) (h : SetBelow s (length s) f vs) (k : ValueBelow s (length s) e v) (p : AllPairs vs)
+    (counted : n ≡ getD s f 0 % 4294967296) where
+  abbrev within : ℕ
+  within = f + weight (set vs)
 
--- What the pass gives is what the application is.
-pub applied-at : (s : List ℕ) (f e r : ℕ) (vs : Values) (v : Value) → SetBelow s (length s) f vs → ValueBelow s (length s) e v → AllPairs vs →
-    ImageAt s f vs r (walked v (members vs)) → ImageAt s f vs r (applied (set vs) v)
-applied-at s f e r vs v h k p i =
-    subst (ImageAt s f vs r)
-    (walked-right v vs (fits-small v (k .fits)) p (fit-small vs (h .fine .fits .1)) (rises-rising vs (h .fine .rises))) i
+  pub whole : Front s within (f + 1) n vs
+  whole = front-start s within f vs (record { stands = h .stands; below = omega arith; fine = h .fine }) n counted
 
-module _ (s : List ℕ) (f : ℕ) (vs : Values) (i left : ℕ) (v : Value) (h : Applying s f vs i left v) where
-  abbrev top : ℕ
-  top = f + weight (set vs)
+  small : All Small (members vs)
+  small = fit-small vs (h .fine .fits .1)
 
-  pub applying-first : 0 < left → PairFirst s i left
-  applying-first l = pair-first s top i left (h .rest) (h .front) (h .pairs) l
+  rising : Rising (members vs)
+  rising = rises-rising vs (h .fine .rises)
 
-  pub applying-pairs : SomePairs s i left
-  applying-pairs = (top, h .rest, h .front, h .pairs)
+  pub image-none : All (λ w. left w ≡ v → ⊥) (members vs) → ImageAt s f vs 0 (applied (set vs) v)
+  image-none d = rw (applied-none v (fits-small v (k .fits)) vs p small rising d) (refl, refl)
 
-  lacks-at : (g : Given) → walked v (members vs) ≡ g → g ≡ lacks 16 → ImageAt s f vs 0 (walked v (members vs))
-  lacks-at g q e = subst (ImageAt s f vs 0) (sym (q ∙ e)) (refl, refl)
+  pub image-shared : FunctionAt s (f + 1) n false → ImageAt s f vs 0 (applied (set vs) v)
+  image-shared d = rw (applied-shared v (fits-small v (k .fits)) vs p small rising (sym (d within vs whole p))) (refl, refl)
 
-  pub applying-end : left ≤ 0 → ImageAt s f vs 0 (walked v (members vs))
-  applying-end l = go (h .rest) (h .front) (h .result)
+  -- the first part of a member
+  pub first-part : (i : ℕ) → Member s within (f + 1) true v (members vs) i → SomeAt s (i + 1)
+  first-part i m =
+      let x = key-stands true s i (m .is) none (all-in IsPair (m .is) (members vs) (all-pairs vs p) (m .among), tt) (m .value .stands) (m .value .fits) in
+      record { value = left (m .is); stands = x .0; fits = x .1 }
+
+  pub image-found : FunctionAt s (f + 1) n true → (i r : ℕ) → Member s within (f + 1) true v (members vs) i → EndsAt s (i + 1) r →
+      ImageAt s f vs r (applied (set vs) v)
+  image-found d i r m ends =
+      rw (applied-found v (fits-small v (k .fits)) vs p small rising (m .is) (m .among) (m .key) (sym (d within vs whole p)))
+      (go (m .is) (all-in IsPair (m .is) (members vs) (all-pairs vs p) (m .among)) (m .value))
     where
-      go : (ws : Values) → Front s top i left ws → walked v (members vs) ≡ walked v (members ws) → ImageAt s f vs 0 (walked v (members vs))
-      go none g q = lacks-at (lacks 16) q refl
-      go (w ▸ ws) g q = absurd (omega (arith, g .counted))
-
-  module _ (e c : ℕ) (at : ValueBelow s (length s) e v) (compared : Compared s e (i + 1) c) (l : 0 < left) where
-    order-first : (a b : Value) (ws : Values) → Front s top i left (pair a b ▸ ws) → c ≡ orderCode (order v a)
-    order-first a b ws g =
-        compared v a (at .stands) (first-at s top i left a b ws g) (at .fits) (g .fits .0 .0)
-
-    -- a turn, by the first pair and the order of v and its first part
-    by-order : (P : Given → Type 0) →
-        ((a b : Value) (ws : Values) → Front s top i left (pair a b ▸ ws) → AllPairs ws → c ≡ orderCode (order v a) →
-        walked v (members vs) ≡ atPair (order v a) (pair a b) (members ws) (walked v (members ws)) → P (walked v (members vs))) →
-        P (walked v (members vs))
-    by-order P k =
-        by-pair s top i left (λ ws. walked v (members vs) ≡ walked v (members ws) → P (walked v (members vs)))
-        (λ a b ws g p q. k a b ws g p (order-first a b ws g) q) (h .rest) (h .front) (h .pairs) l (h .result)
-
-    -- where v is less than the first parts that are left
-    pub applying-past : c ≡ 0 → ImageAt s f vs 0 (walked v (members vs))
-    applying-past z =
-        by-order (ImageAt s f vs 0) λ a b ws g p o q.
-        lacks-at (walked v (members (pair a b ▸ ws))) q (rw (code-less (order v a) c o z))
-
-    pub applying-none : c ≡ 1 → (t : Bool) → FunctionAt s i left t → t ≡ false → ImageAt s f vs 0 (walked v (members vs))
-    applying-none z t d u =
-        by-order (ImageAt s f vs 0) λ a b ws g p o q.
-        lacks-at (walked v (members (pair a b ▸ ws))) q
-        (rw (code-equal (order v a) c o z, ← d top (pair a b ▸ ws) g (tt, p), u))
-
-    pub applying-found : c ≡ 1 → (t : Bool) → FunctionAt s i left t → t ≡ true → (r : ℕ) → EndsAt s (i + 1) r → ImageAt s f vs r (walked v (members vs))
-    applying-found z t d u r ends =
-        by-order (ImageAt s f vs r) λ a b ws g p o q.
-        let x = second-at s top i left a b ws g r ends in
-        let y : walked v (members (pair a b ▸ ws)) ≡ gives b =
-        rw (code-equal (order v a) c o z, ← d top (pair a b ▸ ws) g (tt, p), u) in
-        subst (ImageAt s f vs r) (sym (q ∙ y)) (record {
-          positive = omega (arith, x .0);
-          behind = omega (arith, h .behind, x .0);
-          value = record { stands = x .1; below = omega (arith, g .below, x .0); fits = g .fits .0 .1; light = omega (arith, g .light) };
-        })
-
-    module _ (n1 : c ≡ 1 → ⊥) (n0 : c ≡ 0 → ⊥) (r : ℕ) (next : NextPair s i left r) where
-      pub applying-shared : r ≡ 0 → ImageAt s f vs 0 (walked v (members vs))
-      applying-shared z =
-          by-order (ImageAt s f vs 0) λ a b ws g p o q.
-          lacks-at (walked v (members (pair a b ▸ ws))) q
-          (rw (code-greater (order v a) c o n1 n0, turn-shared s top i left r next a b ws g p z))
-
-      pub applying-next : (r ≡ 0 → ⊥) → Applying s f vs r (left - 1) v
-      applying-next z =
-          by-order (λ _. Applying s f vs r (left - 1) v) λ a b ws g p o q.
-          let x = turn-new s top i left r next a b ws g p z in
+      go : (w : Value) → IsPair w → ValueBelow s within i w → Within s f vs r (right w)
+      go (scalar x) q b = absurd q
+      go (set x) q b = absurd q
+      go (pair a b) q w =
+          let x : r ≡ i + 1 + weight a = ends a (left-stands s i a b (w .stands)) (w .fits .0) in
           record {
-            rest = ws;
-            front = x .2;
-            pairs = p;
-            behind = omega (arith, h .behind, x .1);
-            result = q ∙ rw (code-greater (order v a) c o n1 n0, x .0);
+            positive = omega arith;
+            behind = omega (arith, m .behind);
+            value = record {
+              stands = rw x (right-stands s i a b (w .stands));
+              below = omega (arith, w .below);
+              fits = w .fits .1;
+              light = omega (arith, w .light);
+            };
           }

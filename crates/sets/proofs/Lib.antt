@@ -1,10 +1,10 @@
 -- Laws of sets in the arena.
 pub mod MergedLaws
+pub mod PairLaws
 pub mod SearchLaws
 pub mod RowLaws
 pub mod TurnLaws
 pub mod CellLaws
-pub mod PairLaws
 pub mod ImageLaws
 pub mod PairRows
 pub mod BuildLaws

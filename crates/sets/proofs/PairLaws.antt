@@ -1,26 +1,25 @@
--- Application in one pass (`walked`) gives what `applied` says, for pairs that rise. A pair whose first part is new has a first part less
--- than all that follow (`new-less`); so neighbours tell whether a set of pairs is a function (`firsts-right`), and no pair behind one
--- with the first part e, or with a greater one, has the first part e (`keep-none`).
-use Prim.Native.Nat.{Ordering, Ordering·lt, Ordering·eq, Ordering·gt}
-use mathlib.Core.Bool.{Bool, true, false, cond, _&&_}
-use mathlib.Core.List.{List, [], _∷_, map}
+-- Pairs that rise. A pair whose first part is new has a first part less than all that follow (`new-less`); so neighbours tell whether a
+-- set of pairs is a function (`firsts-right`), and a function gives the second part of any pair whose first part is e (`applied-found`).
+use Prim.Native.Nat.{Ordering·lt, Ordering·eq}
+use mathlib.Core.Bool.{Bool, true, false, cond}
+use mathlib.Core.List.{List, [], _∷_}
 use mathlib.Core.Logic.{_↔_, _⊎_, inl, inr}
 use mathlib.Core.Path.{_≡_, refl, sym, ap, _∙_, subst}
-use lib.Dec.{T, T-not, not-T, isEq}
+use lib.Dec.{T, T-not, not-T}
 use Rattle.rules.specs.Values.{Value, scalar, pair, set, Values, none, _▸_, members, order, same}
-use Rattle.rules.specs.Runs.{Given, gives, lacks}
-use Rattle.rules.specs.Operations.{left, right, keep, pairedWith, isFunction, onlyOne, applied}
+use Rattle.rules.specs.Runs.{gives, lacks}
+use Rattle.rules.specs.Operations.{left, right, keep, pairedWith, isFunction, applied}
 use Rattle.rules.proofs.Basics.{and-of, and-split, bool-eq}
-use Rattle.laws.proofs.OrderLaws.{Small, flip, order-flip, order-eq, order-pair, before-order, order-before, before-trans, before-irrefl}
-use Rattle.laws.proofs.OrderLaws.{same-eq, same-refl, then-lt}
-use Rattle.laws.proofs.SetOrder.{All, Before, Rising}
-use Rattle.laws.proofs.Membership.{In, all-in, left-small}
+use Rattle.laws.proofs.OrderLaws.{Small, order-eq, order-pair, before-order, order-before, before-trans, before-irrefl, same-eq, same-refl, then-lt}
+use Rattle.laws.proofs.SetOrder.{All, Before, Rising, all-imp, keep-rising}
+use Rattle.laws.proofs.Membership.{In, all-in, in-all, left-small, keep-in, same-members}
 use Rattle.laws.proofs.FunctionLaws.{function-right}
 use Rattle.arena.specs.Code.{IsPair, AllPairs}
-use Rattle.sets.specs.Pairs.{newFirst, newFirsts, atPair, walked}
+use Rattle.sets.specs.Fronts.{keyOf}
+use Rattle.sets.specs.Pairs.{newFirst, newFirsts}
 
 -- A small pair.
-abbrev SmallPair : Value → Type 0
+abbrev pub SmallPair : Value → Type 0
 SmallPair x = IsPair x × Small x
 
 -- The first parts of pairs that rise do not fall.
@@ -35,21 +34,30 @@ first-parts (pair a b) (pair c d) p q h = go (then-lt (order a c) (order b d) (s
 first-parts (pair a b) (set s) p q h = absurd (q .0)
 first-parts (set s) y p q h = absurd (p .0)
 
--- What is less than a pair's first part is less than those of the pairs behind it.
-less-all : (v x : Value) (xs : List Value) → SmallPair x → All SmallPair xs → All (Before x) xs → Before v (left x) →
-    All (λ z. Before v (left z)) xs
-less-all v x [] p q h l = tt
-less-all v x (y ∷ ys) p q h l = (go (first-parts x y p (q .0) (h .0)), less-all v x ys p (q .1) (h .1) l)
+-- What is asked of a member so that its key can be held against a value: of a first part, that it is a small pair's.
+abbrev pub Keeps : Bool → Value → Type 0
+Keeps true x = SmallPair x
+Keeps false x = Unit {0}
+
+-- What is less than a member's key is less than those of the members behind it.
+pub less-all : (first : Bool) (v x : Value) (xs : List Value) → Keeps first x → All (Keeps first) xs → All (Before x) xs → Before v (keyOf first x) →
+    All (λ z. Before v (keyOf first z)) xs
+less-all first v x [] p q h l = tt
+less-all first v x (y ∷ ys) p q h l = (one first p (q .0) l, less-all first v x ys p (q .1) (h .1) l)
   where
-    go : Before (left x) (left y) ⊎ (left x ≡ left y) → Before v (left y)
-    go (inl b) = before-trans v (left x) (left y) l b
-    go (inr e) = subst (Before v) e l
+    one : (f : Bool) → Keeps f x → Keeps f y → Before v (keyOf f x) → Before v (keyOf f y)
+    one true p q l = go (first-parts x y p q (h .0))
+      where
+        go : Before (left x) (left y) ⊎ (left x ≡ left y) → Before v (left y)
+        go (inl b) = before-trans v (left x) (left y) l b
+        go (inr e) = subst (Before v) e l
+    one false p q l = before-trans v x y l (h .0)
 
 -- A new first part is less than all that follow.
 new-less : (x : Value) (xs : List Value) → All SmallPair (x ∷ xs) → Rising (x ∷ xs) → T (newFirst x xs) → All (λ z. Before (left x) (left z)) xs
 new-less x [] p r n = tt
 new-less x (y ∷ ys) p r n =
-    let l = go (first-parts x y (p .0) (p .1 .0) (r .0 .0)) in (l, less-all (left x) y ys (p .1 .0) (p .1 .1) (r .1 .0) l)
+    let l = go (first-parts x y (p .0) (p .1 .0) (r .0 .0)) in (l, less-all true (left x) y ys (p .1 .0) (p .1 .1) (r .1 .0) l)
   where
     go : Before (left x) (left y) ⊎ (left x ≡ left y) → Before (left x) (left y)
     go (inl b) = b
@@ -86,7 +94,7 @@ firsts-tell (x ∷ xs) p r =
         before-irrefl x (subst (Before x) (sym e) (r .0 .0))
 
 -- Pairs of a set, as a list.
-pairs-small : (vs : Values) → AllPairs vs → All Small (members vs) → All SmallPair (members vs)
+pub pairs-small : (vs : Values) → AllPairs vs → All Small (members vs) → All SmallPair (members vs)
 pairs-small none p h = tt
 pairs-small (v ▸ vs) p h = ((p .0, h .0), pairs-small vs (p .1) (h .1))
 
@@ -96,81 +104,34 @@ firsts-right vs p h r =
     let b = function-right (set vs) h in
     bool-eq (newFirsts (members vs)) (isFunction (set vs)) (λ t. b .1 (a .0 t)) (λ t. a .1 (b .0 t))
 
--- Whether a pair's first part is e, by the order of e and it.
-paired-order : (e x : Value) (o : Ordering) → order e (left x) ≡ o → pairedWith e x ≡ isEq (flip o)
-unfolding pairedWith same
-paired-order e x o h = ap isEq (order-flip e (left x) ∙ ap flip h)
+-- What application gives, by the first parts.
+module _ (e : Value) (small : Small e) (vs : Values) (p : AllPairs vs) (h : All Small (members vs)) (r : Rising (members vs)) where
+  -- the pairs that are kept, as a list with the same members
+  kept : (xs : List Value) → Rising xs → ((y : Value) → In y (members vs) → left y ≡ e → In y xs) → All (λ y. In y (members vs) × (left y ≡ e)) xs →
+      keep (pairedWith e) (members vs) ≡ xs
+  unfolding pairedWith
+  kept xs q f g =
+      same-members (keep (pairedWith e) (members vs)) xs (keep-rising (pairedWith e) (members vs) r) q
+      (in-all (λ y. In y xs) (keep (pairedWith e) (members vs)) λ y i.
+      let k = keep-in (pairedWith e) y (members vs) .0 i in
+      f y (k .0) (same-eq (left y) e (left-small y (all-in Small y (members vs) h (k .0))) small (k .1)))
+      (all-imp (λ y. In y (members vs) × (left y ≡ e)) (λ y. In y (keep (pairedWith e) (members vs)))
+      (λ y k. keep-in (pairedWith e) y (members vs) .1 (k .0, subst (λ (z : Value). T (same (left y) z)) (k .1) (same-refl (left y)))) xs g)
 
-keep-none : (e : Value) (xs : List Value) → All (λ z. Before e (left z)) xs → keep (pairedWith e) xs ≡ []
-unfolding keep
-keep-none e [] h = refl
-keep-none e (x ∷ xs) h = rw (paired-order e x Ordering·lt (before-order e (left x) (h .0))) (keep-none e xs (h .1))
-
-pub always-lacks : (b : Bool) → cond b (lacks 16) (lacks 16) ≡ lacks 16
-always-lacks true = refl
-always-lacks false = refl
-
--- The pass by cases on where e stands among the first parts.
-module _ (e : Value) (small : Small e) where
-  -- What application gives for pairs that rise, as neighbours tell it.
-  abbrev Applied : List Value → Given
-  Applied xs = cond (newFirsts xs) (onlyOne (map right (keep (pairedWith e) xs))) (lacks 16)
-
-  module _ (x : Value) (xs : List Value) (p : All SmallPair (x ∷ xs)) (r : Rising (x ∷ xs)) where
-    at-less : order e (left x) ≡ Ordering·lt → Applied (x ∷ xs) ≡ lacks 16
-    at-less q =
-        let l = order-before e (left x) q in
-        rw (keep-none e (x ∷ xs) (l, less-all e x xs (p .0) (p .1) (r .0) l)) (always-lacks (newFirsts (x ∷ xs)))
-
-    at-equal : order e (left x) ≡ Ordering·eq → Applied (x ∷ xs) ≡ cond (newFirsts (x ∷ xs)) (gives (right x)) (lacks 16)
-    unfolding keep
-    at-equal q = go (newFirsts (x ∷ xs)) refl
-      where
-        go : (b : Bool) → newFirsts (x ∷ xs) ≡ b →
-            cond b (onlyOne (map right (keep (pairedWith e) (x ∷ xs)))) (lacks 16) ≡ cond b (gives (right x)) (lacks 16)
-        go true t =
-            let n = and-split (newFirst x xs) (newFirsts xs) (rw t tt) .0 in
-            let d = order-eq e (left x) small (left-small x (p .0 .1)) q in
-            let l = subst (λ (v : Value). All (λ z. Before v (left z)) xs) (sym d) (new-less x xs p r n) in
-            rw (paired-order e x Ordering·eq q, keep-none e xs l) refl
-        go false t = refl
-
-    at-greater : order e (left x) ≡ Ordering·gt → Applied (x ∷ xs) ≡ cond (newFirst x xs) (Applied xs) (lacks 16)
-    unfolding keep
-    at-greater q = rw (paired-order e x Ordering·gt q) (go (newFirst x xs))
-      where
-        go : (b : Bool) → cond (b && newFirsts xs) (onlyOne (map right (keep (pairedWith e) xs))) (lacks 16) ≡ cond b (Applied xs) (lacks 16)
-        go true = refl
-        go false = refl
-
-  walked-applied : (xs : List Value) → All SmallPair xs → Rising xs → walked e xs ≡ Applied xs
-  unfolding keep
-  walked-applied [] p r = refl
-  walked-applied (x ∷ xs) p r = go (walked-applied xs (p .1) (r .1)) (order e (left x)) refl
+  pub applied-none : All (λ w. left w ≡ e → ⊥) (members vs) → applied (set vs) e ≡ lacks 16
+  unfolding applied
+  applied-none d = rw (kept [] tt (λ y i q. all-in (λ w. left w ≡ e → ⊥) y (members vs) d i q) tt) (always-lacks (isFunction (set vs)))
     where
-      go : walked e xs ≡ Applied xs → (o : Ordering) → order e (left x) ≡ o → atPair o x xs (walked e xs) ≡ Applied (x ∷ xs)
-      go h Ordering·lt q = sym (at-less x xs p r q)
-      go h Ordering·eq q = sym (at-equal x xs p r q)
-      go h Ordering·gt q = ap (λ g. cond (newFirst x xs) g (lacks 16)) h ∙ sym (at-greater x xs p r q)
+      always-lacks : (b : Bool) → cond b (lacks 16) (lacks 16) ≡ lacks 16
+      always-lacks true = refl
+      always-lacks false = refl
 
--- The pass gives what the application is.
-pub walked-right : (e : Value) (vs : Values) → Small e → AllPairs vs → All Small (members vs) → Rising (members vs) →
-    walked e (members vs) ≡ applied (set vs) e
-unfolding applied
-walked-right e vs small p h r =
-    walked-applied e small (members vs) (pairs-small vs p h) r ∙
-    ap (λ b. cond b (onlyOne (map right (keep (pairedWith e) (members vs)))) (lacks 16)) (firsts-right vs p h r)
+  pub applied-shared : newFirsts (members vs) ≡ false → applied (set vs) e ≡ lacks 16
+  unfolding applied
+  applied-shared t = rw (← firsts-right vs p h r, t)
 
--- Where two neighbours share a first part, the pass gives nothing.
-pub walked-shared : (e : Value) (xs : List Value) → newFirsts xs ≡ false → walked e xs ≡ lacks 16
-walked-shared e [] h = absurd (T-not false tt (subst T h tt))
-walked-shared e (x ∷ xs) h = go (order e (left x)) (walked-shared e xs)
-  where
-    behind : (b : Bool) → b && newFirsts xs ≡ false → (newFirsts xs ≡ false → walked e xs ≡ lacks 16) → cond b (walked e xs) (lacks 16) ≡ lacks 16
-    behind true z rec = rec z
-    behind false z rec = refl
-
-    go : (o : Ordering) → (newFirsts xs ≡ false → walked e xs ≡ lacks 16) → atPair o x xs (walked e xs) ≡ lacks 16
-    go Ordering·lt rec = refl
-    go Ordering·eq rec = rw h refl
-    go Ordering·gt rec = behind (newFirst x xs) h rec
+  pub applied-found : (x : Value) → In x (members vs) → left x ≡ e → newFirsts (members vs) ≡ true → applied (set vs) e ≡ gives (right x)
+  unfolding applied
+  applied-found x i q t =
+      let tell = firsts-tell (members vs) (pairs-small vs p h) r .0 (rw t tt) in
+      rw (← firsts-right vs p h r, t, kept (x ∷ []) (tt, tt) (λ y j k. inl (tell y x j i (k ∙ sym q))) ((i, q), tt))

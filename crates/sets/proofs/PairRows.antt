@@ -1,7 +1,7 @@
--- Relations whose pairs are of two values of one cell each: three cells a pair. Their first parts make a row (`pair-row`); where e is
--- not in the row, or two neighbours share a first part, application gives nothing; otherwise it gives the part behind e's.
-use Prim.Native.Nat.{ℕ, zero, suc, _+_, _*_, _-_, _%_, _≤_, _<_, compare, Ordering, Ordering·lt, Ordering·eq, Ordering·gt}
-use mathlib.Core.Bool.{Bool, true, false, _&&_}
+-- Relations whose pairs are of two values of one cell each: three cells a pair. Their first parts make a row (`pair-row`); e is a first
+-- part where its cell is in the row (`flat-none`, `flat-found`).
+use Prim.Native.Nat.{ℕ, suc, _+_, _*_, _-_, _%_, _≤_, _<_, compare, Ordering, Ordering·lt, Ordering·eq}
+use mathlib.Core.Bool.{true}
 use mathlib.Core.List.{List}
 use mathlib.Core.Logic.{_⊎_, inl, inr}
 use mathlib.Core.Path.{_≡_, refl, sym, ap, _∙_, subst}
@@ -9,21 +9,22 @@ use native.Mathlib.Omega.{arith}
 use native.Mathlib.Decide.{ℕ-discrete}
 use lib.ListN.{length, getD}
 use Rattle.rules.specs.Values.{Value, scalar, pair, set, Values, none, _▸_, members, weight, order}
-use Rattle.rules.specs.Runs.{Given, gives, lacks}
-use Rattle.rules.specs.Operations.{applied}
-use Rattle.laws.proofs.OrderLaws.{then-lt, order-pair, before-order, compare-lt, compare-eq, compare-refl}
+use Rattle.rules.specs.Operations.{left}
+use Rattle.laws.proofs.OrderLaws.{then-lt, order-pair, before-order, compare-lt, compare-eq}
+use Rattle.laws.proofs.SetOrder.{All}
+use Rattle.laws.proofs.Membership.{In, all-in, in-all}
 use Rattle.laws.proofs.CellsLaws.{weight-some}
-use Rattle.arena.specs.Code.{cellSize, ValueAt, CellsFit, orderCode, EndsAt, partsOf, AllWeigh, EvenSet, SetBelow, ValueBelow, Front, IsPair, AllPairs}
-use Rattle.arena.proofs.CodeLaws.{length-codes, gt-compare}
+use Rattle.arena.specs.Code.{cellSize, ValueAt, CellsFit, orderCode, EndsAt, partsOf, AllWeigh, EvenSet, SetBelow, Front, IsPair, AllPairs}
+use Rattle.arena.proofs.CodeLaws.{length-codes}
 use Rattle.arena.proofs.Standing.{leaf-ends, leaf-parts}
 use Rattle.arena.proofs.ValueParts.{scalar-cell, scalar-one, left-stands, right-stands}
-use Rattle.arena.proofs.FrontLaws.{front-start, front-value, front-next, code-equal}
+use Rattle.arena.proofs.FrontLaws.{front-start, front-value, front-below, front-next, code-equal}
 use Rattle.arena.proofs.EvenLaws.{weights-even, value-at, cell-order, cell-compared, cell-equal}
-use Rattle.sets.specs.Rows.{Row, LowerBound}
-use Rattle.sets.specs.Pairs.{newFirst, newFirsts, atPair, walked, NextPair, FunctionAt, ImageAt, PairCells}
-use Rattle.sets.proofs.RowLaws.{climb, neighbours}
-use Rattle.sets.proofs.ImageLaws.{next-shared, next-new, next-last, Checking, checking-end, checking-next, applied-at}
-use Rattle.sets.proofs.PairLaws.{always-lacks, walked-shared}
+use Rattle.sets.specs.Fronts.{Member}
+use Rattle.sets.specs.Rows.{Row}
+use Rattle.sets.specs.Pairs.{newFirsts, NextPair, PairCells}
+use Rattle.sets.proofs.RowLaws.{climb, neighbours, place-of, same-cell, cell-tells}
+use Rattle.sets.proofs.ImageLaws.{all-pairs, next-shared, next-new, next-last, Checking, checking-end, checking-next}
 
 -- A row of pairs of three cells.
 abbrev FlatPairs : Values → Type 0
@@ -210,108 +211,45 @@ function-end s top vs i left c l h = go (ℕ-discrete left 0)
         let k : 0 < left = omega arith in
         checking-end s top vs (i + 3) (left - 1) (checking-next s top vs i left h k (i + 3) (pair-last s i left c k l) (λ z. omega arith)) (omega arith)
 
-and-true : (a b : Bool) → a && b ≡ true → (a ≡ true) × (b ≡ true)
-and-true true b h = (refl, h)
-and-true false b h = absurd (let z : _≡_ {A = ℕ} 0 1 = cc h in omega arith)
+-- `flat_image`: where the cell of e is in the row of first parts.
+module _ (s : List ℕ) (e : ℕ) (v : Value) (value : ValueAt s e v) (fits : CellsFit v) (top at n : ℕ) (vs : Values) (f : Front s top at n vs)
+    (p : AllPairs vs) (c : PairCells s at n) where
+  flat : FlatPairs vs
+  flat = flat-pairs-of s top at n vs f p c
 
--- `flat_image`: where e is in the row of first parts.
-module _ (s : List ℕ) (e : ℕ) (v : Value) (here-v : ValueAt s e v) (fits : CellsFit v) (top : ℕ) where
-  -- e is no first part
-  walked-none : (vs : Values) (at n : ℕ) → Front s top at n vs → AllPairs vs → PairCells s at n →
-      ((i : ℕ) → i < n → getD s (at + 1 + 3 * i) 0 ≡ getD s e 0 → ⊥) → walked v (members vs) ≡ lacks 16
-  walked-none none at n f p c d = refl
-  walked-none (scalar x ▸ vs) at n f p c d = absurd (p .0)
-  walked-none (set x ▸ vs) at n f p c d = absurd (p .0)
-  walked-none (pair a b ▸ vs) at n f p c d =
-      go (order v a) (first-order s top at n a b vs f c e v here-v fits)
-      (walked-none vs (at + 3) (n - 1) (rest-front s top at n a b vs f c) (p .1) (rest-cells s top at n a b vs f c)
-      (λ i l z. d (suc i) (omega arith) (ap (λ (j : ℕ). getD s j 0) (let y : at + 1 + 3 * suc i ≡ at + 3 + 1 + 3 * i = omega arith in y) ∙ z)))
+  pub flat-none : ((i : ℕ) → i < n → getD s (at + 1 + 3 * i) 0 ≡ getD s e 0 → ⊥) → All (λ w. left w ≡ v → ⊥) (members vs)
+  flat-none d = in-all (λ w. left w ≡ v → ⊥) (members vs) λ w i q.
+      let x = place-of s top 3 FlatPairs three-each w at n vs f flat i in
+      d (x .0) (x .1) (go w (all-in IsPair w (members vs) (all-pairs vs p) i) q (x .0) (x .2))
     where
-      go : (o : Ordering) → o ≡ compare (getD s e 0) (getD s (at + 1) 0) → walked v (members vs) ≡ lacks 16 →
-          atPair o (pair a b) (members vs) (walked v (members vs)) ≡ lacks 16
-      go Ordering·lt q r = refl
-      go Ordering·eq q r =
-          absurd (d 0 (omega (arith, f .counted)) (ap (λ (j : ℕ). getD s j 0) (let y : at + 1 + 3 * 0 ≡ at + 1 = omega arith in y)
-          ∙ sym (compare-eq (getD s e 0) (getD s (at + 1) 0) (sym q))))
-      go Ordering·gt q r = rw r (always-lacks (newFirst (pair a b) (members vs)))
+      go : (w : Value) → IsPair w → left w ≡ v → (i : ℕ) → ValueAt s (at + 3 * i) w → getD s (at + 1 + 3 * i) 0 ≡ getD s e 0
+      go (scalar x) k q i h = absurd k
+      go (set x) k q i h = absurd k
+      go (pair a b) k q i h =
+          same-cell s (at + 1 + 3 * i) e v
+          (subst (λ (j : ℕ). ValueAt s j v) (let z : at + 3 * i + 1 ≡ at + 1 + 3 * i = omega arith in z) (rw (← q) (left-stands s (at + 3 * i) a b h))) value
 
-  -- e is first part k, and those before it are less
-  record Found (r : ℕ) (g : Given) : Type 0 where
-    pub second : Value
-    pub is : g ≡ gives second
-    pub value : ValueBelow s top r second
-
-  walked-found : (k : ℕ) (vs : Values) (at n : ℕ) → Front s top at n vs → AllPairs vs → PairCells s at n → newFirsts (members vs) ≡ true → k < n →
-      ((i : ℕ) → i < k → getD s (at + 1 + 3 * i) 0 < getD s e 0) → getD s (at + 1 + 3 * k) 0 ≡ getD s e 0 → Found (at + 2 + 3 * k) (walked v (members vs))
-  walked-found k none at n f p c t l d q = absurd (omega (arith, f .counted))
-  walked-found k (scalar x ▸ vs) at n f p c t l d q = absurd (p .0)
-  walked-found k (set x ▸ vs) at n f p c t l d q = absurd (p .0)
-  walked-found zero (pair a b ▸ vs) at n f p c t l d q = record {
-    second = b;
-    is = rw (same-first, t) refl;
-    value = subst (λ (r : ℕ). ValueBelow s top r b) (let z : at + 2 ≡ at + 2 + 3 * 0 = omega arith in z) (record {
-      stands = second-at s top at n a b vs f c;
-      below = omega (arith, f .below, one-left s top at n a b vs f c);
-      fits = f .fits .0 .1;
-      light = omega (arith, f .light);
-    });
-  }
+  pub flat-found : (i : ℕ) → i < n → getD s (at + 1 + 3 * i) 0 ≡ getD s e 0 → Member s top at true v (members vs) (at + 3 * i)
+  flat-found i l q =
+      value-at s top at n 3 (λ ws. FlatPairs ws × ((x : Value) → In x (members ws) → In x (members vs)))
+      (λ w ws h. let x = three-each w ws (h .0) in (x .0, (x .1, λ y j. h .1 y (inr j))))
+      (λ j. at ≤ j → getD s (j + 1) 0 ≡ getD s e 0 → Member s top at true v (members vs) j)
+      (λ j m w ws g h b z. record {
+        is = w;
+        among = h .1 w (inl refl);
+        key = go j m w ws g (h .0) z;
+        behind = b;
+        value = front-below s top j m w ws g;
+      }) vs f (flat, λ x j. j) i l (omega arith) (ap (λ (j : ℕ). getD s j 0) (let z : at + 3 * i + 1 ≡ at + 1 + 3 * i = omega arith in z) ∙ q)
     where
-      same-first : order v a ≡ Ordering·eq
-      same-first =
-          first-order s top at n a b vs f c e v here-v fits
-          ∙ ap (λ (x : ℕ). compare (getD s e 0) x) (ap (λ (j : ℕ). getD s j 0) (let y : at + 1 ≡ at + 1 + 3 * 0 = omega arith in y) ∙ q)
-          ∙ compare-refl (getD s e 0)
-  walked-found (suc k) (pair a b ▸ vs) at n f p c t l d q =
-      next (walked-found k vs (at + 3) (n - 1) (rest-front s top at n a b vs f c) (p .1) (rest-cells s top at n a b vs f c) (both .1) (omega arith)
-      (λ i m. omega (arith, d (suc i) (omega arith), place i)) (place k ∙ q))
-    where
-      place : (i : ℕ) → getD s (at + 3 + 1 + 3 * i) 0 ≡ getD s (at + 1 + 3 * suc i) 0
-      place i = ap (λ (j : ℕ). getD s j 0) (omega arith)
+      go : (j m : ℕ) (w : Value) (ws : Values) → Front s top j m (w ▸ ws) → FlatPairs (w ▸ ws) → getD s (j + 1) 0 ≡ getD s e 0 → left w ≡ v
+      go j m (scalar x) ws g h z = absurd (h .1 .0)
+      go j m (set x) ws g h z = absurd (h .1 .0)
+      go j m (pair a b) ws g h z =
+          cell-tells s e (j + 1) v a value (left-stands s j a b (front-value s top j m (pair a b) ws g)) fits (g .fits .0 .0)
+          (parts-one a b (h .0 .0) .0) z
 
-      both : (newFirst (pair a b) (members vs) ≡ true) × (newFirsts (members vs) ≡ true)
-      both = and-true (newFirst (pair a b) (members vs)) (newFirsts (members vs)) t
-
-      greater : order v a ≡ Ordering·gt
-      greater =
-          first-order s top at n a b vs f c e v here-v fits
-          ∙ gt-compare (getD s e 0) (getD s (at + 1) 0)
-          (omega (arith, d 0 (omega arith), ap (λ (j : ℕ). getD s j 0) (let y : at + 1 + 3 * 0 ≡ at + 1 = omega arith in y)))
-
-      next : Found (at + 3 + 2 + 3 * k) (walked v (members vs)) → Found (at + 2 + 3 * suc k) (walked v (members (pair a b ▸ vs)))
-      next r = record {
-        second = r .second;
-        is = rw (greater, both .0) (r .is);
-        value = subst (λ (j : ℕ). ValueBelow s top j (r .second)) (let z : at + 3 + 2 + 3 * k ≡ at + 2 + 3 * suc k = omega arith in z) (r .value);
-      }
-
--- What is found, as an application.
-module _ (s : List ℕ) (f n e : ℕ) (vs : Values) (v : Value) (h : SetBelow s (length s) f vs) (k : ValueBelow s (length s) e v) (p : AllPairs vs)
-    (counted : n ≡ getD s f 0 % 4294967296) (c : PairCells s (f + 1) n) where
-  abbrev within : ℕ
-  within = f + weight (set vs)
-
-  whole : Front s within (f + 1) n vs
-  whole = front-start s within f vs (record { stands = h .stands; below = omega arith; fine = h .fine }) n counted
-
-  lacking : walked v (members vs) ≡ lacks 16 → ImageAt s f vs 0 (applied (set vs) v)
-  lacking q = applied-at s f e 0 vs v h k p (subst (ImageAt s f vs 0) (sym q) (refl, refl))
-
-  pub image-none : ((i : ℕ) → i < n → getD s (f + 1 + 1 + 3 * i) 0 ≡ getD s e 0 → ⊥) → ImageAt s f vs 0 (applied (set vs) v)
-  image-none d = lacking (walked-none s e v (k .stands) (k .fits) within vs (f + 1) n whole p c d)
-
-  pub image-shared : FunctionAt s (f + 1) n false → ImageAt s f vs 0 (applied (set vs) v)
-  image-shared d = lacking (walked-shared v (members vs) (sym (d within vs whole p)))
-
-  pub image-found : FunctionAt s (f + 1) n true → (j : ℕ) → j < n → LowerBound s (f + 1 + 1) 3 n (getD s e 0) j → getD s (f + 1 + 1 + 3 * j) 0 ≡ getD s e 0 →
-      ImageAt s f vs (f + 1 + 1 + 3 * j + 1) (applied (set vs) v)
-  image-found d j l b q = go (walked-found s e v (k .stands) (k .fits) within j vs (f + 1) n whole p c (sym (d within vs whole p)) l (b .below) q)
-    where
-      go : Found s e v (k .stands) (k .fits) within (f + 1 + 2 + 3 * j) (walked v (members vs)) → ImageAt s f vs (f + 1 + 1 + 3 * j + 1) (applied (set vs) v)
-      go r =
-          applied-at s f e (f + 1 + 1 + 3 * j + 1) vs v h k p
-          (subst (ImageAt s f vs (f + 1 + 1 + 3 * j + 1)) (sym (r .is)) (record {
-            positive = omega arith;
-            behind = omega arith;
-            value = subst (λ (i : ℕ). ValueBelow s within i (r .second)) (let z : f + 1 + 2 + 3 * j ≡ f + 1 + 1 + 3 * j + 1 = omega arith in z) (r .value);
-          }))
+pub flat-ends : (s : List ℕ) (at n i : ℕ) → PairCells s at n → i < n → EndsAt s (at + 3 * i + 1) (at + 3 * i + 2)
+flat-ends s at n i c l =
+    subst (EndsAt s (at + 3 * i + 1)) (let z : at + 3 * i + 1 + 1 ≡ at + 3 * i + 2 = omega arith in z)
+    (leaf-ends s (at + 3 * i + 1) (subst (λ (j : ℕ). partsOf (getD s j 0) ≡ 0) (let z : at + 1 + 3 * i ≡ at + 3 * i + 1 = omega arith in z) (c .firsts i l)))

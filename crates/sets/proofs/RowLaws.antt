@@ -1,27 +1,29 @@
 -- Rows of cells. The search halves what is left (`Halving`). The members of a set that weigh one cell each, known by the first
 -- (`flat-cells`), make a row (`cells-row`), and a value is a member where its cell is in the row (`cell-in`).
-use Prim.Native.Nat.{ℕ, zero, suc, _+_, _*_, _-_, _%_, _≤_, _<_, compare, Ordering, Ordering·lt, Ordering·eq, Ordering·gt}
+use Prim.Native.Nat.{ℕ, zero, suc, _+_, _*_, _-_, _%_, _≤_, _<_, compare}
 use mathlib.Core.Bool.{Bool, true, false}
-use mathlib.Core.List.{List, _∷_}
+use mathlib.Core.List.{List}
+use mathlib.Core.Logic.{_↔_, inl, inr}
 use mathlib.Core.Path.{_≡_, refl, sym, ap, _∙_, subst}
 use native.Mathlib.Omega.{arith}
 use native.Mathlib.Decide.{ℕ-discrete, decLt}
-use lib.Dec.{eqb}
+use lib.Dec.{T, ltb}
 use lib.ListN.{length, getD}
-use borrow.Author.Tests.{eqb-true, eqb-false}
+use borrow.Author.Tests.{ltb-true, ltb-false}
 use Rattle.rules.specs.Values.{Value, Values, none, _▸_, members, weight, order}
 use Rattle.rules.specs.Operations.{isIn}
-use Rattle.laws.proofs.OrderLaws.{compare-eq, compare-refl, compare-lt, before-order}
-use Rattle.laws.proofs.CellsLaws.{count-weights}
-use Rattle.arena.specs.Code.{cellSize, ValueAt, Same, CellsFit, EndsAt, partsOf, AllWeigh, EvenSet, SetBelow, Front}
-use Rattle.arena.proofs.CodeLaws.{length-codes}
+use Rattle.rules.proofs.Basics.{bool-eq}
+use Rattle.laws.proofs.OrderLaws.{order-eq, compare-refl, compare-lt, before-order}
+use Rattle.laws.proofs.Membership.{In, isIn-right}
+use Rattle.laws.proofs.CellsLaws.{weight-some, count-weights}
+use Rattle.arena.specs.Code.{cellSize, code, ValueAt, Same, CellsFit, EndsAt, partsOf, AllWeigh, EvenSet, SetBelow, Front}
+use Rattle.arena.proofs.CodeLaws.{length-code, length-codes, fits-small}
 use Rattle.arena.proofs.Standing.{leaf-ends, leaf-parts}
 use Rattle.arena.proofs.ValueParts.{scalar-cell, scalar-one}
-use Rattle.arena.proofs.FrontLaws.{set-inside, front-start, front-value, front-next}
+use Rattle.arena.proofs.FrontLaws.{fit-small, set-inside, front-start, front-value, front-next}
 use Rattle.arena.proofs.EvenLaws.{weights-even, Behind, behind, value-at, cell-order}
 use Rattle.sets.specs.Fronts.{Cells, RunEnds}
-use Rattle.sets.specs.Rows.{Row, LowerBound, HasCell}
-use Rattle.sets.proofs.MergedLaws.{isIn-less, isIn-equal, isIn-greater}
+use Rattle.sets.specs.Rows.{Row, LowerBound, Found, HasCell}
 
 -- `lower_bound`: of the cells passed, those before `from` are below x and those from `from + left` on are not.
 pub record Halving (s : List ℕ) (at step n x from left : ℕ) : Type 0 where
@@ -52,33 +54,38 @@ module _ (s : List ℕ) (at step n x from left : ℕ) (h : Halving s at step n x
       above = λ i p q. omega (arith, row .rises m i (omega arith) q);
     }
 
--- x is not in the row where all cells are below it, or where the first that is not is another.
-module _ (s : List ℕ) (at step n x r : ℕ) (h : LowerBound s at step n x r) where
-  pub bound-none : r ≡ n → (i : ℕ) → i < n → getD s (at + step * i) 0 ≡ x → ⊥
-  bound-none e i l q = omega (arith, h .below i (omega arith))
+-- `find`: x is not in the row where it is below the first cell, or where the first cell that is not below x is another.
+module _ (s : List ℕ) (at step n x : ℕ) (row : Row s at step n) where
+  pub found-here : (k : ℕ) → k < n → getD s (at + step * k) 0 ≡ x → Found s at step n x k
+  found-here k l e = record { few = omega arith; here = λ _. e; lost = λ z. absurd (omega arith) }
 
-  pub bound-other : Row s at step n → r < n → (getD s (at + step * r) 0 ≡ x → ⊥) → (i : ℕ) → i < n → getD s (at + step * i) 0 ≡ x → ⊥
-  bound-other row l d i k q = go (decLt i r)
-    where
-      go : Dec (i < r) → ⊥
-      go (yes p) = omega (arith, h .below i p)
-      go (no p) = d (omega (arith, h .above r (omega arith) l, row .rises r i (omega arith) k))
+  pub found-none : ((i : ℕ) → i < n → getD s (at + step * i) 0 ≡ x → ⊥) → Found s at step n x n
+  found-none d = record { few = omega arith; here = λ l. absurd (omega arith); lost = λ _. d }
+
+  pub found-below : x < getD s at 0 → Found s at step n x n
+  found-below l = found-none λ i k e. omega (arith, row .rises 0 i (omega arith) k, ap (λ (j : ℕ). getD s j 0) (let z : at + step * 0 ≡ at = omega arith in z))
+
+  module _ (r : ℕ) (h : LowerBound s at step n x r) where
+    pub found-over : n ≤ r → Found s at step n x n
+    found-over l = found-none λ i k e. omega (arith, h .below i (omega arith))
+
+    pub found-other : r < n → (getD s (at + step * r) 0 ≡ x → ⊥) → Found s at step n x n
+    found-other l d = found-none λ i k e. go i k e (decLt i r)
+      where
+        go : (i : ℕ) → i < n → getD s (at + step * i) 0 ≡ x → Dec (i < r) → ⊥
+        go i k e (yes p) = omega (arith, h .below i p)
+        go i k e (no p) = d (omega (arith, h .above r (omega arith) l, row .rises r i (omega arith) k))
 
 -- `has_cell`.
-module _ (s : List ℕ) (at n x r : ℕ) (h : LowerBound s at 1 n x r) where
-  place : (i : ℕ) → getD s (at + 1 * i) 0 ≡ getD s (at + i) 0
-  place i = ap (λ (j : ℕ). getD s j 0) (let e : at + 1 * i ≡ at + i = omega arith in e)
+pub found-cell : (s : List ℕ) (at n x r : ℕ) → Found s at 1 n x r → HasCell s at n x (ltb r n)
+found-cell s at n x r h = go (ltb r n) refl
+  where
+    place : (i : ℕ) → getD s (at + 1 * i) 0 ≡ getD s (at + i) 0
+    place i = ap (λ (j : ℕ). getD s j 0) (let e : at + 1 * i ≡ at + i = omega arith in e)
 
-  pub cell-none : r ≡ n → HasCell s at n x false
-  cell-none e i l q = bound-none s at 1 n x r h e i l (place i ∙ q)
-
-  pub cell-here : Row s at 1 n → r < n → HasCell s at n x (eqb (getD s (at + r) 0) x)
-  cell-here row l = go (eqb (getD s (at + r) 0) x) refl
-    where
-      go : (b : Bool) → eqb (getD s (at + r) 0) x ≡ b → HasCell s at n x b
-      go true e = (r, l, eqb-true (getD s (at + r) 0) x e)
-      go false e = λ i k q.
-          bound-other s at 1 n x r h row l (λ z. eqb-false (getD s (at + r) 0) x e (sym (place r) ∙ z)) i k (place i ∙ q)
+    go : (b : Bool) → ltb r n ≡ b → HasCell s at n x b
+    go true e = let l = ltb-true r n e in (r, l, sym (place r) ∙ h .here l)
+    go false e = λ i l q. h .lost (omega (arith, h .few, ltb-false r n e)) i l (place i ∙ q)
 
 -- A row of numbers, each no less than the one before it.
 pub climb : (f : ℕ → ℕ) (n : ℕ) → ((i : ℕ) → suc i < n → f i ≤ f (suc i)) → (i j : ℕ) → i ≤ j → j < n → f i ≤ f j
@@ -180,55 +187,50 @@ cells-row s top at n vs f c = record {
         cell-order s i (i + 1) v w (front-value s top i m v (w ▸ ws) g) (front-value s top (i + 1) (m - 1) w ws k) (g .fits .0) (k .fits .0) (e .1 .0) in
         omega (arith, compare-lt (getD s i 0) (getD s (i + 1) 0) (sym o ∙ before-order v w (g .rises .0)))
 
+-- A member of a row of values that each weigh k stands at one of the places.
+pub place-of : (s : List ℕ) (top k : ℕ) (Q : Values → Type 0) (one : (v : Value) (vs : Values) → Q (v ▸ vs) → (weight v ≡ k) × Q vs) (x : Value)
+    (at n : ℕ) (vs : Values) → Front s top at n vs → Q vs → In x (members vs) → (i : ℕ) × (i < n) × ValueAt s (at + k * i) x
+place-of s top k Q one x at n none f h i = absurd i
+place-of s top k Q one x at n (v ▸ vs) f h (inl e) =
+    (0, omega (arith, f .counted), rw (e, let z : at + k * 0 ≡ at = omega arith in z) (front-value s top at n v vs f))
+place-of s top k Q one x at n (v ▸ vs) f h (inr i) =
+    let w = one v vs h in
+    let g = front-next s top at n v vs f (at + k) (n - 1) (omega (arith, w .0)) (omega (arith, f .counted)) in
+    let r = place-of s top k Q one x (at + k) (n - 1) vs g (w .1) i in
+    (suc (r .0), omega (arith, r .1), subst (λ (j : ℕ). ValueAt s j x) (let z : at + k + k * r .0 ≡ at + k * suc (r .0) = omega arith in z) (r .2))
+
+-- Two places of one value have one cell; a value of one cell is told by it.
+pub same-cell : (s : List ℕ) (a b : ℕ) (v : Value) → ValueAt s a v → ValueAt s b v → getD s a 0 ≡ getD s b 0
+same-cell s a b v h k =
+    let l : 0 < length (code v) = omega (arith, length-code v, weight-some v) in
+    rw (let z : a ≡ a + 0 = omega arith in z, let z : b ≡ b + 0 = omega arith in z) (h .cells 0 l ∙ sym (k .cells 0 l))
+
+pub cell-tells : (s : List ℕ) (a b : ℕ) (v w : Value) → ValueAt s a v → ValueAt s b w → CellsFit v → CellsFit w → weight w ≡ 1 →
+    getD s b 0 ≡ getD s a 0 → w ≡ v
+cell-tells s a b v w h k p q one e =
+    sym (order-eq v w (fits-small v p) (fits-small w q)
+    (cell-order s a b v w h k p q one ∙ ap (compare (getD s a 0)) e ∙ compare-refl (getD s a 0)))
+
 -- A value is a member where its cell is one of the members' cells.
-has-next : (s : List ℕ) (at n x : ℕ) (r : Bool) → HasCell s at n x r → (getD s at 0 ≡ x → ⊥) → HasCell s (at + 1) (n - 1) x r
-has-next s at n x true h d = go (h .0) (h .1) (h .2)
-  where
-    go : (i : ℕ) → i < n → getD s (at + i) 0 ≡ x → (j : ℕ) × (j < n - 1) × (getD s (at + 1 + j) 0 ≡ x)
-    go zero l e = absurd (d (ap (λ (j : ℕ). getD s j 0) (let z : at ≡ at + 0 = omega arith in z) ∙ e))
-    go (suc i) l e = (i, omega arith, ap (λ (j : ℕ). getD s j 0) (let z : at + 1 + i ≡ at + suc i = omega arith in z) ∙ e)
-has-next s at n x false h d = λ i l e.
-    h (suc i) (omega arith) (ap (λ (j : ℕ). getD s j 0) (let z : at + suc i ≡ at + 1 + i = omega arith in z) ∙ e)
+module _ (s : List ℕ) (e : ℕ) (v : Value) (value : ValueAt s e v) (fits : CellsFit v) (top at n : ℕ) (vs : Values) (f : Front s top at n vs)
+    (c : Cells s at n) where
+  among : (i : ℕ) → i < n → getD s (at + i) 0 ≡ getD s e 0 → In v (members vs)
+  among i l q =
+      value-at s top at n 1 (λ ws. AllWeigh 1 ws × ((x : Value) → In x (members ws) → In x (members vs)))
+      (λ w ws h. (h .0 .0, (h .0 .1, λ x j. h .1 x (inr j)))) (λ j. getD s j 0 ≡ getD s e 0 → In v (members vs))
+      (λ j m w ws g h z. h .1 v (inl (sym (cell-tells s e j v w value (front-value s top j m w ws g) fits (g .fits .0) (h .0 .0) z))))
+      vs f (cells-weigh s top at n vs f c, λ x j. j) i l
+      (ap (λ (j : ℕ). getD s j 0) (let z : at + 1 * i ≡ at + i = omega arith in z) ∙ q)
 
-has-first : (s : List ℕ) (at n x : ℕ) (r : Bool) → HasCell s at n x r → 0 < n → getD s at 0 ≡ x → r ≡ true
-has-first s at n x true h l e = refl
-has-first s at n x false h l e = absurd (h 0 l (ap (λ (j : ℕ). getD s j 0) (let z : at + 0 ≡ at = omega arith in z) ∙ e))
+  pub cell-in : (r : Bool) → HasCell s at n (getD s e 0) r → r ≡ isIn v (members vs)
+  cell-in r d = go r d
+    where
+      right : T (isIn v (members vs)) ↔ In v (members vs)
+      right = isIn-right v (members vs) (fits-small v fits) (fit-small vs (f .fits))
 
-has-none : (s : List ℕ) (at n x : ℕ) (r : Bool) → HasCell s at n x r → n ≡ 0 → r ≡ false
-has-none s at n x true h z = absurd (omega (arith, h .1))
-has-none s at n x false h z = refl
-
-other-in : (v w : Value) (ws : List Value) → (order v w ≡ Ordering·eq → ⊥) → isIn v (w ∷ ws) ≡ isIn v ws
-other-in v w ws d = go (order v w) refl
-  where
-    go : (o : Ordering) → order v w ≡ o → isIn v (w ∷ ws) ≡ isIn v ws
-    go Ordering·lt e = isIn-less v w ws e
-    go Ordering·eq e = absurd (d e)
-    go Ordering·gt e = isIn-greater v w ws e
-
-pub cell-in : (s : List ℕ) (e : ℕ) (v : Value) → ValueAt s e v → CellsFit v → (top at n : ℕ) (vs : Values) → Front s top at n vs → Cells s at n →
-    (r : Bool) → HasCell s at n (getD s e 0) r → r ≡ isIn v (members vs)
-unfolding isIn
-cell-in s e v h p top at n none f c r d = has-none s at n (getD s e 0) r d (omega (arith, f .counted))
-cell-in s e v h p top at n (w ▸ ws) f c r d =
-    go (ℕ-discrete (getD s at 0) (getD s e 0)) (cell-in s e v h p top (at + 1) (n - 1) ws g (cells-next s at n (n - 1) c some) r)
-  where
-    some : suc (n - 1) ≡ n
-    some = omega (arith, f .counted)
-
-    one : weight w ≡ 1
-    one = cells-weigh s top at n (w ▸ ws) f c .0
-
-    g : Front s top (at + 1) (n - 1) ws
-    g = front-next s top at n w ws f (at + 1) (n - 1) (omega (arith, one)) some
-
-    o : order v w ≡ compare (getD s e 0) (getD s at 0)
-    o = cell-order s e at v w h (front-value s top at n w ws f) p (f .fits .0) one
-
-    go : Dec (getD s at 0 ≡ getD s e 0) → (HasCell s (at + 1) (n - 1) (getD s e 0) r → r ≡ isIn v (members ws)) → r ≡ isIn v (w ∷ members ws)
-    go (yes q) rec =
-        has-first s at n (getD s e 0) r d (omega arith) q
-        ∙ sym (isIn-equal v w (members ws) (o ∙ ap (λ (x : ℕ). compare (getD s e 0) x) q ∙ compare-refl (getD s e 0)))
-    go (no q) rec =
-        rec (has-next s at n (getD s e 0) r d q)
-        ∙ sym (other-in v w (members ws) (λ z. q (sym (compare-eq (getD s e 0) (getD s at 0) (sym o ∙ z)))))
+      go : (b : Bool) → HasCell s at n (getD s e 0) b → b ≡ isIn v (members vs)
+      go true d = bool-eq true (isIn v (members vs)) (λ _. right .1 (among (d .0) (d .1) (d .2))) (λ _. tt)
+      go false d = bool-eq false (isIn v (members vs)) (λ z. absurd z) λ t.
+          let x = place-of s top 1 (AllWeigh 1) one-each v at n vs f (cells-weigh s top at n vs f c) (right .0 t) in
+          d (x .0) (x .1) (same-cell s (at + x .0) e v
+          (subst (λ (j : ℕ). ValueAt s j v) (let z : at + 1 * x .0 ≡ at + x .0 = omega arith in z) (x .2)) value)

@@ -1,69 +1,146 @@
--- Looking for a value among the members of a set, and where a run of members ends.
-use Prim.Native.Nat.{ℕ, _+_, _-_, _%_, _≤_, _<_, Ordering·lt}
-use mathlib.Core.Bool.{true, false}
+-- Walks over the members that are left of a set, one by one (`by-front`): the search for a value, and where a run of members ends.
+use Prim.Native.Nat.{ℕ, _+_, _-_, _≤_, _<_, Ordering·lt, Ordering·eq, Ordering·gt}
+use mathlib.Core.Bool.{Bool, true, false}
 use mathlib.Core.List.{List, _∷_}
-use mathlib.Core.Path.{_≡_, refl, sym, _∙_}
+use mathlib.Core.Logic.{inl, inr}
+use mathlib.Core.Path.{_≡_, refl, sym, subst}
 use native.Mathlib.Omega.{arith}
-use lib.ListN.{length, getD}
-use Rattle.rules.specs.Values.{Value, Values, none, _▸_, members, weight, weights, order}
+use lib.Dec.{ltb, ltb→lt, lt→ltb}
+use lib.ListN.{length}
+use mir.Val.{boolByte}
+use Rattle.rules.specs.Values.{Value, scalar, pair, set, Values, none, _▸_, members, weight, weights, order}
 use Rattle.rules.specs.Operations.{isIn}
-use Rattle.laws.proofs.OrderLaws.{order-before}
-use Rattle.arena.specs.Code.{orderCode, SomeAt, EndsAt, Compared, SetBelow, ValueBelow, Front}
-use Rattle.arena.proofs.FrontLaws.{rises-rising, front-start, front-value, front-next, front-some, code-less, code-equal, code-greater}
-use Rattle.sets.proofs.MergedLaws.{isIn-equal, isIn-greater, isIn-before, before-all}
+use Rattle.rules.proofs.Basics.{bool-eq}
+use Rattle.laws.proofs.OrderLaws.{Small, order-eq, order-refl, order-before, before-irrefl}
+use Rattle.laws.proofs.SetOrder.{All, Before, all-imp}
+use Rattle.laws.proofs.Membership.{In, all-in, isIn-right}
+use Rattle.arena.specs.Code.{ValueAt, CellsFit, orderCode, SomeAt, EndsAt, Compared, ValueBelow, Front}
+use Rattle.arena.proofs.CodeLaws.{fits-small}
+use Rattle.arena.proofs.ValueParts.{left-stands}
+use Rattle.arena.proofs.FrontLaws.{rises-rising, fit-small, front-value, front-below, front-next, front-some, code-less, code-equal, code-greater}
+use Rattle.sets.specs.Fronts.{keyOf, Keyed, Member, MemberOrNone}
+use Rattle.sets.proofs.PairLaws.{Keeps, pairs-small, less-all}
 
--- Looking for v: it is in the set if it is among the members that are left.
-pub record Searched (s : List ℕ) (i left : ℕ) (v : Value) (vs : Values) : Type 0 where
+module _ (s : List ℕ) (top at n : ℕ) (P : Values → Type 0) where
+  -- What is shown of a first member and the rest is shown of members, if there are any; and what is shown of none, if there are none.
+  pub by-front : ((v : Value) (vs : Values) → Front s top at n (v ▸ vs) → P (v ▸ vs)) → (vs : Values) → Front s top at n vs → 0 < n → P vs
+  by-front h none f l = absurd (omega (arith, f .counted))
+  by-front h (v ▸ vs) f l = h v vs f
+
+  pub no-front : P none → (vs : Values) → Front s top at n vs → n ≤ 0 → P vs
+  no-front h none f l = h
+  no-front h (v ▸ vs) f l = absurd (omega (arith, f .counted))
+
+-- The key of a member that stands.
+pub key-stands : (first : Bool) (s : List ℕ) (i : ℕ) (w : Value) (ws : Values) → Keyed first (w ▸ ws) → ValueAt s i w → CellsFit w →
+    ValueAt s (i + boolByte first) (keyOf first w) × CellsFit (keyOf first w)
+key-stands true s i (scalar x) ws k h f = absurd (k .0)
+key-stands true s i (pair a b) ws k h f = (left-stands s i a b h, f .0)
+key-stands true s i (set x) ws k h f = absurd (k .0)
+key-stands false s i w ws k h f = (subst (λ (j : ℕ). ValueAt s j w) (let e : i ≡ i + 0 = omega arith in e) h, f)
+
+keyed-rest : (first : Bool) (w : Value) (ws : Values) → Keyed first (w ▸ ws) → Keyed first ws
+keyed-rest true w ws k = k .1
+keyed-rest false w ws k = tt
+
+keeps-all : (first : Bool) (vs : Values) → Keyed first vs → All Small (members vs) → All (Keeps first) (members vs)
+keeps-all true vs k h = pairs-small vs k h
+keeps-all false vs k h = all-imp Small (Keeps false) (λ x p. tt) (members vs) h
+
+-- Where v is less than the first member's key, it is no member's.
+keys-past : (s : List ℕ) (top i n : ℕ) (first : Bool) (v w : Value) (ws : Values) → Front s top i n (w ▸ ws) → Keyed first (w ▸ ws) →
+    Before v (keyOf first w) → All (λ z. keyOf first z ≡ v → ⊥) (w ∷ members ws)
+keys-past s top i n first v w ws f k l =
+    let r = rises-rising (w ▸ ws) (f .rises) in
+    let q = keeps-all first (w ▸ ws) k (fit-small (w ▸ ws) (f .fits)) in
+    all-imp (λ z. Before v (keyOf first z)) (λ z. keyOf first z ≡ v → ⊥) (λ z b e. before-irrefl v (subst (Before v) e b)) (w ∷ members ws)
+    (l, less-all first v w (members ws) (q .0) (q .1) (r .0) l)
+
+-- Looking for v: what is found among the members that are left is found in the set.
+pub record Seeking (s : List ℕ) (top at : ℕ) (first : Bool) (v : Value) (vs : List Value) (i left : ℕ) : Type 0 where
   pub rest : Values
-  pub front : Front s (length s) i left rest
-  pub same : isIn v (members vs) ≡ isIn v (members rest)
+  pub front : Front s top i left rest
+  pub keyed : Keyed first rest
+  pub behind : at ≤ i
+  pub on : (r : ℕ) → MemberOrNone s top at first v (members rest) r → MemberOrNone s top at first v vs r
 
-pub searched-start : (s : List ℕ) (a left : ℕ) (v : Value) (vs : Values) →
-    SetBelow s (length s) a vs → left ≡ getD s a 0 % 4294967296 → Searched s (a + 1) left v vs
-searched-start s a left v vs h e = record { rest = vs; front = front-start s (length s) a vs h left e; same = refl }
+pub seeking-start : (s : List ℕ) (top at n : ℕ) (first : Bool) (v : Value) (vs : Values) → Front s top at n vs → Keyed first vs →
+    Seeking s top at first v (members vs) at n
+seeking-start s top at n first v vs f k = record { rest = vs; front = f; keyed = k; behind = omega arith; on = λ r x. x }
 
-module _ (s : List ℕ) (i left : ℕ) (v : Value) (vs : Values) (h : Searched s i left v vs) where
-  pub searched-at : 0 < left → SomeAt s i
-  searched-at l = front-some s (length s) i left (h .rest) (h .front) l
+module _ (s : List ℕ) (top at : ℕ) (first : Bool) (v : Value) (vs : List Value) (i left : ℕ) (h : Seeking s top at first v vs i left) where
+  pub seeking-at : 0 < left → SomeAt s i
+  seeking-at l = front-some s top i left (h .rest) (h .front) l
 
-  pub searched-end : left ≤ 0 → false ≡ isIn v (members vs)
-  unfolding isIn
-  searched-end l = go (h .rest) (h .front) (h .same)
-    where
-      go : (ws : Values) → Front s (length s) i left ws → isIn v (members vs) ≡ isIn v (members ws) → false ≡ isIn v (members vs)
-      go none f e = sym e
-      go (w ▸ ws) f e = absurd (omega (arith, f .counted))
+  pub seeking-key : 0 < left → SomeAt s (i + boolByte first)
+  seeking-key l =
+      by-front s top i left (λ ws. Keyed first ws → SomeAt s (i + boolByte first))
+      (λ w ws f k. let x = key-stands first s i w ws k (front-value s top i left w ws f) (f .fits .0) in
+      record { value = keyOf first w; stands = x .0; fits = x .1 }) (h .rest) (h .front) l (h .keyed)
 
-  module _ (e c : ℕ) (at : ValueBelow s (length s) e v) (compared : Compared s e i c) (l : 0 < left) where
-    order-first : (w : Value) (ws : Values) → Front s (length s) i left (w ▸ ws) → c ≡ orderCode (order v w)
-    order-first w ws f = compared v w (at .stands) (front-value s (length s) i left w ws f) (at .fits) (f .fits .0)
+  pub seeking-end : left ≤ 0 → MemberOrNone s top at first v vs 0
+  seeking-end l =
+      h .on 0 (no-front s top i left (λ ws. MemberOrNone s top at first v (members ws) 0) (inr (refl, tt)) (h .rest) (h .front) l)
 
-    pub searched-found : c ≡ 1 → true ≡ isIn v (members vs)
-    searched-found z = go (h .rest) (h .front) (h .same)
-      where
-        go : (ws : Values) → Front s (length s) i left ws → isIn v (members vs) ≡ isIn v (members ws) → true ≡ isIn v (members vs)
-        go none f q = absurd (omega (arith, f .counted))
-        go (w ▸ ws) f q = sym (q ∙ isIn-equal v w (members ws) (code-equal (order v w) c (order-first w ws f) z))
+  module _ (e c : ℕ) (value : ValueBelow s (length s) e v) (compared : Compared s e (i + boolByte first) c) (l : 0 < left) where
+    -- A turn, by the first of the members that are left and the order of v and its key.
+    by-key : (P : Values → Type 0) →
+        ((w : Value) (ws : Values) → Front s top i left (w ▸ ws) → Keyed first (w ▸ ws) → c ≡ orderCode (order v (keyOf first w)) →
+        CellsFit (keyOf first w) → P (w ▸ ws)) → P (h .rest)
+    by-key P k =
+        by-front s top i left (λ ws. Keyed first ws → P ws)
+        (λ w ws f q. let x = key-stands first s i w ws q (front-value s top i left w ws f) (f .fits .0) in
+        k w ws f q (compared v (keyOf first w) (value .stands) (x .0) (value .fits) (x .1)) (x .1)) (h .rest) (h .front) l (h .keyed)
 
-    pub searched-past : c ≡ 0 → false ≡ isIn v (members vs)
-    searched-past z = go (h .rest) (h .front) (h .same)
-      where
-        go : (ws : Values) → Front s (length s) i left ws → isIn v (members vs) ≡ isIn v (members ws) → false ≡ isIn v (members vs)
-        go none f q = absurd (omega (arith, f .counted))
-        go (w ▸ ws) f q =
-            let o : order v w ≡ Ordering·lt = code-less (order v w) c (order-first w ws f) z in
-            sym (q ∙ isIn-before v (w ∷ members ws) (before-all v w (members ws) (order-before v w o) (rises-rising (w ▸ ws) (f .rises))))
+    pub seeking-found : c ≡ 1 → MemberOrNone s top at first v vs i
+    seeking-found z = h .on i (by-key (λ ws. MemberOrNone s top at first v (members ws) i) λ w ws f q o x.
+        inl (record {
+          is = w;
+          among = inl refl;
+          key = sym (order-eq v (keyOf first w) (fits-small v (value .fits)) (fits-small (keyOf first w) x) (code-equal (order v (keyOf first w)) c o z));
+          behind = h .behind;
+          value = front-below s top i left w ws f;
+        }))
 
-    pub searched-next : (r : ℕ) → (c ≡ 1 → ⊥) → (c ≡ 0 → ⊥) → EndsAt s i r → Searched s r (left - 1) v vs
-    searched-next r p z ends = go (h .rest) (h .front) (h .same)
-      where
-        go : (ws : Values) → Front s (length s) i left ws → isIn v (members vs) ≡ isIn v (members ws) → Searched s r (left - 1) v vs
-        go none f q = absurd (omega (arith, f .counted))
-        go (w ▸ ws) f q = record {
+    pub seeking-past : c ≡ 0 → MemberOrNone s top at first v vs 0
+    seeking-past z = h .on 0 (by-key (λ ws. MemberOrNone s top at first v (members ws) 0) λ w ws f q o x.
+        inr (refl, keys-past s top i left first v w ws f q (order-before v (keyOf first w) (code-less (order v (keyOf first w)) c o z))))
+
+    pub seeking-next : (c ≡ 1 → ⊥) → (r : ℕ) → EndsAt s i r → Seeking s top at first v vs r (left - 1)
+    seeking-next d r ends =
+        by-key (λ ws. ((r : ℕ) → MemberOrNone s top at first v (members ws) r → MemberOrNone s top at first v vs r) → Seeking s top at first v vs r (left - 1))
+        (λ w ws f q o x on. let y : r ≡ i + weight w = ends w (front-value s top i left w ws f) (f .fits .0) in
+        record {
           rest = ws;
-          front = front-next s (length s) i left w ws f r (left - 1) (ends w (front-value s (length s) i left w ws f) (f .fits .0)) (omega arith);
-          same = q ∙ isIn-greater v w (members ws) (code-greater (order v w) c (order-first w ws f) p z);
-        }
+          front = front-next s top i left w ws f r (left - 1) y (omega arith);
+          keyed = keyed-rest first w ws q;
+          behind = omega (arith, h .behind);
+          on = λ k m. on k (further w ws (λ e. d (rw (o, e, order-refl v) refl)) k m);
+        }) (h .on)
+      where
+        further : (w : Value) (ws : Values) → (keyOf first w ≡ v → ⊥) → (k : ℕ) → MemberOrNone s top at first v (members ws) k →
+            MemberOrNone s top at first v (w ∷ members ws) k
+        further w ws n k (inl m) = inl (record { is = m .is; among = inr (m .among); key = m .key; behind = m .behind; value = m .value })
+        further w ws n k (inr m) = inr (m .0, (n, m .1))
+
+-- What the answer tells: there is such a member, or there is none.
+module _ (s : List ℕ) (top at : ℕ) (first : Bool) (v : Value) (vs : List Value) (r : ℕ) where
+  pub sought-some : MemberOrNone s top at first v vs r → (r ≡ 0 → ⊥) → Member s top at first v vs r
+  sought-some (inl m) d = m
+  sought-some (inr n) d = absurd (d (n .0))
+
+  pub sought-none : MemberOrNone s top at first v vs r → r < at → All (λ w. keyOf first w ≡ v → ⊥) vs
+  sought-none (inl m) l = absurd (omega (arith, m .behind))
+  sought-none (inr n) l = n .1
+
+pub sought-in : (s : List ℕ) (top at : ℕ) (v : Value) (vs : List Value) (r : ℕ) → MemberOrNone s top at false v vs r → 0 < at → Small v → All Small vs →
+    ltb 0 r ≡ isIn v vs
+sought-in s top at v vs r (inl m) l p q =
+    bool-eq (ltb 0 r) (isIn v vs) (λ _. isIn-right v vs p q .1 (subst (λ (w : Value). In w vs) (m .key) (m .among)))
+    (λ _. lt→ltb 0 r (omega (arith, m .behind)))
+sought-in s top at v vs r (inr n) l p q =
+    bool-eq (ltb 0 r) (isIn v vs) (λ t. absurd (omega (arith, n .0, ltb→lt 0 r t)))
+    (λ t. absurd (all-in (λ w. w ≡ v → ⊥) v vs (n .1) (isIn-right v vs p q .0 t) refl))
 
 -- Walking a run of members: e is where it ends.
 pub record Running (s : List ℕ) (top i left e : ℕ) : Type 0 where
@@ -71,25 +148,16 @@ pub record Running (s : List ℕ) (top i left e : ℕ) : Type 0 where
   pub front : Front s top i left rest
   pub ends : i + weights rest ≡ e
 
-pub running-start : (s : List ℕ) (top at n : ℕ) (vs : Values) → Front s top at n vs → Running s top at n (at + weights vs)
-running-start s top at n vs h = record { rest = vs; front = h; ends = refl }
-
 module _ (s : List ℕ) (top i left e : ℕ) (h : Running s top i left e) where
   pub running-at : 0 < left → SomeAt s i
   running-at l = front-some s top i left (h .rest) (h .front) l
 
   pub running-next : (r : ℕ) → 0 < left → EndsAt s i r → Running s top r (left - 1) e
-  running-next r l ends = go (h .rest) (h .front) (h .ends)
-    where
-      go : (ws : Values) → Front s top i left ws → i + weights ws ≡ e → Running s top r (left - 1) e
-      go none f q = absurd (omega (arith, f .counted))
-      go (w ▸ ws) f q =
-          let x : r ≡ i + weight w = ends w (front-value s top i left w ws f) (f .fits .0) in
-          record { rest = ws; front = front-next s top i left w ws f r (left - 1) x (omega arith); ends = omega arith }
+  running-next r l ends =
+      by-front s top i left (λ ws. i + weights ws ≡ e → Running s top r (left - 1) e)
+      (λ w ws f q. let x : r ≡ i + weight w = ends w (front-value s top i left w ws f) (f .fits .0) in
+      record { rest = ws; front = front-next s top i left w ws f r (left - 1) x (omega arith); ends = omega arith })
+      (h .rest) (h .front) l (h .ends)
 
   pub running-end : left ≤ 0 → i ≡ e
-  running-end l = go (h .rest) (h .front) (h .ends)
-    where
-      go : (ws : Values) → Front s top i left ws → i + weights ws ≡ e → i ≡ e
-      go none f q = omega arith
-      go (w ▸ ws) f q = absurd (omega (arith, f .counted))
+  running-end l = no-front s top i left (λ ws. i + weights ws ≡ e → i ≡ e) (λ q. omega arith) (h .rest) (h .front) l (h .ends)

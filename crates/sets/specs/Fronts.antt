@@ -6,13 +6,49 @@ use mathlib.Core.Logic.{_⊎_}
 use mathlib.Core.Path.{_≡_}
 use lib.ListN.{length, getD}
 use Rattle.rules.specs.Values.{Value, Values, _▸_, members, values, count, weight, weights, order}
-use Rattle.rules.specs.Operations.{isIn, allIn, setOf}
-use Rattle.arena.specs.Code.{ValuesAt, SetBelow, ValueBelow, Same, partsOf, Made, Front}
+use Rattle.rules.specs.Operations.{left, isIn, allIn, setOf}
+use Rattle.rules.specs.Safety.{All}
+use Rattle.laws.proofs.Membership.{In}
+use Rattle.arena.specs.Code.{ValuesAt, SetBelow, ValueBelow, SomeValue, Same, partsOf, Made, Front, AllPairs}
 use Rattle.sets.specs.declared.Turn.{Turn}
 use Rattle.sets.specs.declared.Out.{Out}
 use Rattle.sets.specs.declared.Walk.{Walk}
 use Rattle.sets.specs.declared.Rest.{Rest}
 use Rattle.sets.specs.Merged.{merged}
+
+-- What is held against a value that is sought: a member, or its first part.
+abbrev pub keyOf : Bool → Value → Value
+keyOf true w = left w
+keyOf false w = w
+
+-- Members that have first parts, if those are asked for.
+abbrev pub Keyed : Bool → Values → Type 0
+Keyed true vs = AllPairs vs
+Keyed false vs = Unit {0}
+
+pub record SeekPre (s : List ℕ) (at n e : ℕ) (first : Bool) : Type 0 where
+  pub value : SomeValue s (length s) e
+  pub top : ℕ
+  pub rest : Values
+  pub front : Front s top at n rest
+  pub keyed : Keyed first rest
+
+-- A member whose key is v stands at r, behind `at`.
+pub record Member (s : List ℕ) (top at : ℕ) (first : Bool) (v : Value) (vs : List Value) (r : ℕ) : Type 0 where
+  pub is : Value
+  pub among : In is vs
+  pub key : keyOf first is ≡ v
+  pub behind : at ≤ r
+  pub value : ValueBelow s top r is
+
+-- r is where such a member stands, or 0 where there is none.
+abbrev pub MemberOrNone : List ℕ → ℕ → ℕ → Bool → Value → List Value → ℕ → Type 0
+MemberOrNone s top at first v vs r = Member s top at first v vs r ⊎ ((r ≡ 0) × All (λ w. keyOf first w ≡ v → ⊥) vs)
+
+abbrev pub Sought : List ℕ → ℕ → ℕ → ℕ → Bool → ℕ → Type 0
+Sought s at n e first r =
+    (top : ℕ) (vs : Values) (v : Value) → Front s top at n vs → Keyed first vs → ValueBelow s (length s) e v →
+    MemberOrNone s top at first v (members vs) r
 
 -- r says whether the value at e is in the set at a.
 abbrev pub Contains : List ℕ → ℕ → ℕ → Bool → Type 0

@@ -1,13 +1,13 @@
--- Application in one pass over the pairs of f. They rise by their first parts, so that two pairs that share one are neighbours, and
--- a first part greater than e ends the search. `walked` is that pass; that it gives what `applied` says is `walked-right`.
-use Prim.Native.Nat.{ℕ, _+_, _*_, _%_, _≤_, _<_, Ordering, Ordering·lt, Ordering·eq, Ordering·gt}
+-- Application of a relation f to e. The pairs of f rise by their first parts, so that two pairs that share one are neighbours; that
+-- neighbours tell whether f is a function is `firsts-right`.
+use Prim.Native.Nat.{ℕ, _+_, _*_, _%_, _≤_, _<_}
 use mathlib.Core.Bool.{Bool, true, not, cond, _&&_}
 use mathlib.Core.List.{List, [], _∷_}
 use mathlib.Core.Path.{_≡_}
 use lib.ListN.{length, getD}
-use Rattle.rules.specs.Values.{Value, pair, set, Values, _▸_, members, weight, order, same}
+use Rattle.rules.specs.Values.{Value, pair, set, Values, _▸_, members, weight, same}
 use Rattle.rules.specs.Runs.{Given, gives, lacks}
-use Rattle.rules.specs.Operations.{left, right, applied}
+use Rattle.rules.specs.Operations.{left, applied}
 use Rattle.arena.specs.Code.{partsOf, SetBelow, SomeValue, ValueBelow, Front, AllPairs}
 
 -- The pair x does not share its first part with the next one.
@@ -19,16 +19,6 @@ newFirst x (y ∷ ys) = not (same (left x) (left y))
 abbrev pub newFirsts : List Value → Bool
 newFirsts [] = true
 newFirsts (x ∷ xs) = newFirst x xs && newFirsts xs
-
--- What the order of e and the first part of x says: e is in the domain no more; x is the pair; the pairs behind x decide.
-abbrev pub atPair : Ordering → Value → List Value → Given → Given
-atPair Ordering·lt x xs g = lacks 16
-atPair Ordering·eq x xs g = cond (newFirsts (x ∷ xs)) (gives (right x)) (lacks 16)
-atPair Ordering·gt x xs g = cond (newFirst x xs) g (lacks 16)
-
-abbrev pub walked : Value → List Value → Given
-walked e [] = lacks 16
-walked e (x ∷ xs) = atPair (order e (left x)) x xs (walked e xs)
 
 -- n pairs that rise stand from `at` on; of some of them, the first.
 abbrev pub SomePairs : List ℕ → ℕ → ℕ → Type 0
@@ -66,11 +56,15 @@ pub record PairCells (s : List ℕ) (at n : ℕ) : Type 0 where
 abbrev pub OfFlatPairs : List ℕ → ℕ → Bool → Type 0
 OfFlatPairs s f r = r ≡ true → PairCells s (f + 1) (getD s f 0 % 4294967296)
 
--- f is such a relation, of n pairs, and a value stands at e.
-pub record FlatRelation (s : List ℕ) (f n e : ℕ) : Type 0 where
+-- f is a relation of n pairs, and a value stands at e.
+pub record Relation (s : List ℕ) (f n e : ℕ) : Type 0 where
   pub value : SomeValue s (length s) e
   pub relation : SomeRelation s (length s) f
   pub counted : n ≡ getD s f 0 % 4294967296
+
+-- The same where the pairs are of two values of one cell each.
+pub record FlatRelation (s : List ℕ) (f n e : ℕ) : Type 0 where
+  pub whole : Relation s f n e
   pub cells : PairCells s (f + 1) n
 
 -- u stands at r, within the set vs at f.

@@ -23,6 +23,12 @@ pub record LowerBound (s : List ℕ) (at step n x r : ℕ) : Type 0 where
   pub below : (i : ℕ) → i < r → getD s (at + step * i) 0 < x
   pub above : (i : ℕ) → r ≤ i → i < n → x ≤ getD s (at + step * i) 0
 
+-- Cell r is x; none is where r is n.
+pub record Found (s : List ℕ) (at step n x r : ℕ) : Type 0 where
+  pub few : r ≤ n
+  pub here : r < n → getD s (at + step * r) 0 ≡ x
+  pub lost : r ≡ n → (i : ℕ) → i < n → getD s (at + step * i) 0 ≡ x → ⊥
+
 -- The answer says whether x is one of n cells from `at` on.
 abbrev pub HasCell : List ℕ → ℕ → ℕ → ℕ → Bool → Type 0
 HasCell s at n x true = (i : ℕ) × (i < n) × (getD s (at + i) 0 ≡ x)

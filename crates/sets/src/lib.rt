@@ -4,9 +4,9 @@ ghost use mathlib.Core.Path.{_≡_};
 ghost use mir.Val.{boolByte};
 ghost use lib.ListN.{length};
 ghost use Rattle.arena.specs.Code.{SomeSet, SomeValue};
-ghost use Rattle.sets.specs.Fronts.{Contains, Includes, TwoFronts, TurnAt, SomeFront, RunEnds, PutPre, Put};
-ghost use Rattle.sets.specs.Rows.{Row, LowerBound, HasCell, SetAt, OfCells, BothOfCells, TwoRows, RowIn, lesserOf, CellTurned, RowsBelow, RowsMerge};
-ghost use Rattle.sets.specs.Pairs.{PairFirst, NextPair, SomePairs, FunctionAt, SomeRelation, Applies, PairCells, OfFlatPairs, FlatRelation};
+ghost use Rattle.sets.specs.Fronts.{SeekPre, Sought, Contains, Includes, TwoFronts, TurnAt, SomeFront, RunEnds, PutPre, Put};
+ghost use Rattle.sets.specs.Rows.{Row, LowerBound, Found, HasCell, SetAt, OfCells, BothOfCells, TwoRows, RowIn, lesserOf, CellTurned, RowsBelow, RowsMerge};
+ghost use Rattle.sets.specs.Pairs.{PairFirst, NextPair, SomePairs, FunctionAt, SomeRelation, Applies, PairCells, OfFlatPairs, Relation, FlatRelation};
 ghost use Rattle.sets.specs.Fronts.{RestThere, TailPre, Tailed, StepPre, Stepped, GoesOn, RestOf, EndPre, Ended, Merges, keepOf};
 
 // A set is small beside one with more than FEW times its members: a search for each member is quicker than a walk over both.
@@ -78,16 +78,41 @@ fn lower_bound(s: &[u64], at: usize, step: usize, n: usize, x: u64) -> usize
     from
 }
 
+// Which of n cells from `at` on, every step-th one, is x; n where none is. They do not fall, and often follow one another with no gap: x
+// is looked for first where it stands then.
+fn find(s: &[u64], at: usize, step: usize, n: usize, x: u64) -> usize
+    requires { ⌜ Row (now s) at step n ⌝ }
+    ensures { λ r. ⌜ Found (now (s .entry)) at step n x r ⌝ }
+{
+    if n == 0 {
+        return n;
+    }
+    let first = s[at];
+    if x < first {
+        return n;
+    }
+    let guess = x - first;
+    if guess < n as u64 {
+        let i = guess as usize;
+        if s[at + step * i] == x {
+            return i;
+        }
+    }
+    let k = lower_bound(s, at, step, n, x);
+    if k < n {
+        if s[at + step * k] == x {
+            return k;
+        }
+    }
+    n
+}
+
 // Whether x is one of n rising cells from `at` on.
 fn has_cell(s: &[u64], at: usize, n: usize, x: u64) -> bool
     requires { ⌜ Row (now s) at 1 n ⌝ }
     ensures { λ r. ⌜ HasCell (now (s .entry)) at n x r ⌝ }
 {
-    let i = lower_bound(s, at, 1, n, x);
-    if i == n {
-        return false;
-    }
-    s[at + i] == x
+    find(s, at, 1, n, x) < n
 }
 
 // Whether each member of the set at a is one cell. The members share a type, so that the first one decides.
@@ -111,27 +136,27 @@ fn both_of_cells(s: &[u64], a: usize, b: usize) -> bool
     false
 }
 
-// Whether the value at e is a member of the set at a, member by member.
-fn walk_contains(s: &[u64], e: usize, a: usize) -> bool
-    requires { ⌜ SomeValue (now s) (length (now s)) e × SomeSet (now s) (length (now s)) a ⌝ }
-    ensures { λ r. ⌜ Contains (now (s .entry)) e a r ⌝ }
+// Where the first of n members from `at` on stands that is the value at e, or (if first) whose first part is; 0 where there is none.
+fn seek(s: &[u64], at: usize, n: u64, e: usize, first: bool) -> usize
+    requires { ⌜ SeekPre (now s) at n e first ⌝ }
+    ensures { λ r. ⌜ Sought (now (s .entry)) at n e first r ⌝ }
 {
     let end = arena::end_of(s, e);
-    let mut left = arena::low(s[a]);
-    let mut i = a + 1;
+    let mut left = n;
+    let mut i = at;
     while left > 0 {
-        let c = arena::compare(s, e, end, i);
-        if c == 1 {
-            return true;
+        let order = arena::compare(s, e, end, i + first as usize);
+        if order == 1 {
+            return i;
         }
-        // The members that follow are greater still.
-        if c == 0 {
-            return false;
+        // The members that follow are greater still, and so are their first parts.
+        if order == 0 {
+            return 0;
         }
         i = arena::end_of(s, i);
         left -= 1;
     }
-    false
+    0
 }
 
 // Whether the value at e is a member of the set at a.
@@ -139,11 +164,11 @@ pub fn contains(s: &[u64], e: usize, a: usize) -> bool
     requires { ⌜ SomeValue (now s) (length (now s)) e × SomeSet (now s) (length (now s)) a ⌝ }
     ensures { λ r. ⌜ Contains (now (s .entry)) e a r ⌝ }
 {
+    let n = arena::low(s[a]);
     if of_cells(s, a) {
-        let n = arena::low(s[a]) as usize;
-        return has_cell(s, a + 1, n, s[e]);
+        return has_cell(s, a + 1, n as usize, s[e]);
     }
-    walk_contains(s, e, a)
+    seek(s, a + 1, n, e, false) > 0
 }
 
 // The turn at two sets that both have members left: which of the first members comes first, and what is left then.
@@ -361,62 +386,44 @@ fn flat_image(s: &[u64], f: usize, n: usize, e: usize) -> usize
     requires { ⌜ FlatRelation (now s) f n e ⌝ }
     ensures { λ r. ⌜ Applies (now (s .entry)) f e r ⌝ }
 {
-    let x = s[e];
     let at = f + 1;
-    let k = lower_bound(s, at + 1, FLAT_PAIR, n, x);
+    let k = find(s, at + 1, FLAT_PAIR, n, s[e]);
     if k == n {
         return 0;
     }
-    let i = at + 1 + FLAT_PAIR * k;
-    if s[i] != x {
-        return 0;
-    }
     if flat_function(s, at, n) {
-        return i + 1;
+        return at + FLAT_PAIR * k + 2;
     }
     0
 }
 
-// Application in one pass over the pairs of f: where the second part stands that goes with the value at e; 0 where there is none,
-// or where two pairs of f share a first part.
-fn walk_image(s: &[u64], f: usize, e: usize) -> usize
-    requires { ⌜ SomeValue (now s) (length (now s)) e × SomeRelation (now s) (length (now s)) f ⌝ }
+// `image` for all other relations, of n pairs.
+fn walk_image(s: &[u64], f: usize, n: u64, e: usize) -> usize
+    requires { ⌜ Relation (now s) f n e ⌝ }
     ensures { λ r. ⌜ Applies (now (s .entry)) f e r ⌝ }
 {
-    let end = arena::end_of(s, e);
-    let mut left = arena::low(s[f]);
-    let mut i = f + 1;
-    while left > 0 {
-        let order = arena::compare(s, e, end, i + 1);
-        if order == 1 {
-            if is_function(s, i, left) {
-                return arena::end_of(s, i + 1);
-            }
-            return 0;
-        }
-        // The first parts that follow are greater still: whether f is a function or not, e is not in its domain.
-        if order == 0 {
-            return 0;
-        }
-        i = next_pair(s, i, left);
-        if i == 0 {
-            return 0;
-        }
-        left -= 1;
+    let at = f + 1;
+    let i = seek(s, at, n, e, true);
+    if i == 0 {
+        return 0;
+    }
+    if is_function(s, at, n) {
+        return arena::end_of(s, i + 1);
     }
     0
 }
 
-// The same; by cells where the parts of the pairs are one cell each.
+// Application: where the second part stands that goes with the value at e; 0 where there is none, or where two pairs of f share a first
+// part.
 pub fn image(s: &[u64], f: usize, e: usize) -> usize
     requires { ⌜ SomeValue (now s) (length (now s)) e × SomeRelation (now s) (length (now s)) f ⌝ }
     ensures { λ r. ⌜ Applies (now (s .entry)) f e r ⌝ }
 {
+    let n = arena::low(s[f]);
     if of_flat_pairs(s, f) {
-        let n = arena::low(s[f]) as usize;
-        return flat_image(s, f, n, e);
+        return flat_image(s, f, n as usize, e);
     }
-    walk_image(s, f, e)
+    walk_image(s, f, n, e)
 }
 
 // Where n members from `at` on end.

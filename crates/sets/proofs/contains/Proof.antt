@@ -1,53 +1,66 @@
 -- `contains`: where the members are one cell each, the value is a member if its cell is one of theirs; other sets are walked.
 use borrow.Author.Needs.{needs}
 use Prim.Native.Nat.{_+_}
+use native.Mathlib.Omega.{arith}
 use mathlib.Core.Path.{sym, subst}
 use lib.ListN.{length}
-use Rattle.rules.specs.Values.{Values}
+use Rattle.rules.specs.Values.{Values, members}
 use Rattle.arena.specs.Code.{SetBelow, Front}
+use Rattle.arena.proofs.CodeLaws.{fits-small}
 use Rattle.arena.proofs.ValueParts.{some-inside}
-use Rattle.arena.proofs.FrontLaws.{front-start, value-some}
+use Rattle.arena.proofs.FrontLaws.{fit-small, set-inside, front-start, value-some}
 use Rattle.sets.specs.Fronts.{Cells}
+use Rattle.sets.proofs.SearchLaws.{sought-in}
 use Rattle.sets.proofs.RowLaws.{cells-row, cell-in}
 use Rattle.sets.proofs.contains.Statement.{statement}
 use Rattle.sets.proofs.contains.Tie as tie
 
--- The members are one cell each, and their number is known.
+-- The number of members is known; then it is asked whether they are one cell each.
 abbrev Listed : Type 0
 Listed = tie.After-low
 
-abbrev known : Listed → tie.Then1
-known l = l .before .before
-
 abbrev lent : Listed → tie.Start
-lent l = known l .before .before .before
-
-cells : (l : Listed) → Cells (lent l .args .s .now) (lent l .args .a + 1) (l .low .result)
-cells l =
-    let o = known l in
-    subst (Cells (lent l .args .s .now) (lent l .args .a + 1)) (sym (l .low .ensures .0)) (o .before .of-cells .ensures (o .if1 .taken))
+lent l = l .before .before .before
 
 front : (l : Listed) (vs : Values) → SetBelow (lent l .args .s .now) (length (lent l .args .s .now)) (lent l .args .a) vs →
     Front (lent l .args .s .now) (length (lent l .args .s .now)) (lent l .args .a + 1) (l .low .result) vs
 front l vs h = front-start _ _ _ vs h _ (l .low .ensures .0)
 
+abbrev listed : tie.Then1 → Listed
+listed t = t .before .before
+
+cells : (t : tie.Then1) → Cells (lent (listed t) .args .s .now) (lent (listed t) .args .a + 1) (listed t .low .result)
+cells t = subst (Cells _ _) (sym (listed t .low .ensures .0)) (t .before .of-cells .ensures (t .if1 .taken))
+
 returns : tie.Need-returns
 returns c = λ v vs h k.
+    let t = c .before .before in
+    cell-in _ _ v (h .stands) (h .fits) _ _ _ vs (front (listed t) vs k) (cells t) _ (c .has-cell .ensures)
+
+seek-requires : tie.Need-seek-requires
+seek-requires c κs =
     let l = c .before .before in
-    cell-in _ _ v (h .stands) (h .fits) _ _ _ vs (front l vs k) (cells l) _ (c .has-cell .ensures)
+    let q = lent l .pre in
+    record { value = q .0; top = _; rest = _; front = front l _ (q .1 .1); keyed = tt }
+
+returns-2 : tie.Need-returns-2
+returns-2 c = λ v vs h k.
+    let l = c .before .before .before in
+    sought-in _ _ _ v (members vs) _ (c .seek .ensures _ vs v (front l vs k) tt h) (omega arith) (fits-small v (h .fits)) (fit-small vs (k .fine .fits .1))
 
 pub contains-spec : {M : Type 1} → statement M
 contains-spec =
     tie.close
     (tie.spec
+    (λ c. omega (arith, set-inside _ _ _ _ (c .before .pre .1 .1)))
+    (λ c. set-inside _ _ _ _ (c .before .before .pre .1 .1))
     (λ c κs. search needs)
-    (λ c. search needs)
-    (λ c. search needs)
     (λ c κs. search needs)
+    (λ c. let l = listed c in omega (arith, set-inside _ _ _ _ (lent l .pre .1 .1)))
     (λ c. search needs)
-    (λ c. search needs)
-    (λ c. some-inside _ _ (value-some _ _ _ _ (lent (c .before) .pre .0 .1)))
-    (λ c κs. let l = c .before in cells-row _ _ _ _ _ (front l _ (lent l .pre .1 .1)) (cells l))
+    (λ c. some-inside _ _ (value-some _ _ _ _ (lent (listed (c .before)) .pre .0 .1)))
+    (λ c κs. let l = listed (c .before) in cells-row _ _ _ _ _ (front l _ (lent l .pre .1 .1)) (cells (c .before)))
     returns
-    (λ c κs. search needs)
-    (λ c. search needs))
+    (λ c. let l = c .before .before in omega (arith, set-inside _ _ _ _ (lent l .pre .1 .1)))
+    seek-requires
+    returns-2)

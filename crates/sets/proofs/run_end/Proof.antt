@@ -1,9 +1,10 @@
 -- `run_end`: where a run of members ends, member by member.
 use Prim.Native.Nat.{ℕ, _+_}
+use mathlib.Core.Path.{refl}
 use native.Mathlib.Omega.{arith}
 use Rattle.rules.specs.Values.{Values, weights}
 use Rattle.arena.specs.Code.{Front}
-use Rattle.sets.proofs.SearchLaws.{Running, running-start, running-at, running-next, running-end}
+use Rattle.sets.proofs.SearchLaws.{Running, running-at, running-next, running-end}
 use Rattle.sets.proofs.run_end.Statement.{statement}
 use Rattle.sets.proofs.run_end.Tie as tie
 
@@ -14,7 +15,7 @@ abbrev μ-loop : tie.MeasureT-loop
 μ-loop s at n left₀ i₀ left i = left
 
 loop-holds : tie.Need-loop-holds Inv-loop μ-loop
-loop-holds c = λ top vs h. running-start _ top _ _ vs h
+loop-holds c = λ top vs h. record { rest = vs; front = h; ends = refl }
 
 end-of-requires : tie.Need-end-of-requires Inv-loop μ-loop
 end-of-requires c κs = running-at _ _ _ _ _ (c .before .loop .inv _ _ (c .before .before .before .pre .2)) (c .loop-test .taken)

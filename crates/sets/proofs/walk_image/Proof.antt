@@ -1,127 +1,70 @@
--- `walk_image`: the pairs that are left decide; those passed have other first parts, each less than the next.
-use Prim.Native.Nat.{_<_}
+-- `walk_image`: the pair with the first part e is looked for; where there is one, f gives its second part if f is a function.
 use borrow.Author.Needs.{needs}
+use Prim.Native.Nat.{_+_}
+use mathlib.Core.Bool.{true}
+use mathlib.Core.Path.{subst}
 use native.Mathlib.Omega.{arith}
 use lib.ListN.{length}
-use Rattle.rules.specs.Values.{Value, Values}
-use Rattle.arena.specs.Code.{ValueBelow, SetBelow, AllPairs}
-use Rattle.arena.proofs.FrontLaws.{set-inside, value-some}
+use Rattle.rules.specs.Values.{Value, Values, set, members, weight}
+use Rattle.arena.specs.Code.{SomeAt, SetBelow, ValueBelow, AllPairs}
 use Rattle.arena.proofs.ValueParts.{some-inside}
-use Rattle.sets.specs.Pairs.{PairFirst}
-use Rattle.sets.proofs.ImageLaws.{first-some, Applying, applying-start, applied-at, applying-first, applying-pairs}
-use Rattle.sets.proofs.ImageLaws.{applying-end, applying-past, applying-none, applying-found, applying-shared, applying-next}
+use Rattle.arena.proofs.FrontLaws.{front-start}
+use Rattle.sets.specs.Fronts.{Member}
+use Rattle.sets.specs.Pairs.{FunctionAt}
+use Rattle.sets.proofs.SearchLaws.{sought-some, sought-none}
+use Rattle.sets.proofs.ImageLaws.{whole, image-none, image-shared, first-part, image-found}
 use Rattle.sets.proofs.walk_image.Statement.{statement}
 use Rattle.sets.proofs.walk_image.Tie as tie
 
-abbrev Inv-loop : tie.InvT-loop
-Inv-loop s f e end left₀ i₀ left i =
-    (vs : Values) (v : Value) → SetBelow s (length s) f vs → ValueBelow s (length s) e v → AllPairs vs → Applying s f vs i left v
+-- The search has ended; then a pair is found, and it is known whether f is a function.
+abbrev lent : tie.After-seek → tie.Start
+lent b = b .before .before
 
-abbrev μ-loop : tie.MeasureT-loop
-μ-loop s f e end left₀ i₀ left i = left
+member : (t : tie.Else1) (vs : Values) (v : Value) → let q = lent (t .before) in
+    SetBelow (q .args .s .now) (length (q .args .s .now)) (q .args .f) vs → ValueBelow (q .args .s .now) (length (q .args .s .now)) (q .args .e) v →
+    AllPairs vs → Member (q .args .s .now) (q .args .f + weight (set vs)) (q .args .f + 1) true v (members vs) (t .before .seek .result)
+member t vs v h k p =
+    let b = t .before in
+    sought-some _ _ _ _ v (members vs) _ (b .seek .ensures _ vs v (whole _ _ _ _ vs v h k p (lent b .pre .counted)) p k) (t .if1 .left)
 
--- A turn of the loop, what it was lent, and the first of the pairs that are left.
-abbrev Turn : Type 0
-Turn = tie.At-loop Inv-loop μ-loop
+some : (t : tie.Else1) → SomeAt (lent (t .before) .args .s .now) (t .before .seek .result + 1)
+some t =
+    let q = lent (t .before) .pre in
+    let h = q .relation .1 in
+    first-part _ _ _ _ _ _ h (q .value .1) (q .relation .2) (q .counted) _ (member t _ _ h (q .value .1) (q .relation .2))
 
-abbrev ended : Turn → tie.After-end-of Inv-loop μ-loop
-ended l = l .before .before .before
+abbrev found : tie.After-is-function → tie.Else1
+found g = g .before
 
-abbrev lent : Turn → tie.Start Inv-loop μ-loop
-lent l = ended l .before .before
-
-abbrev applying : (l : Turn) → Applying (lent l .args .s .now) (lent l .args .f) (lent l .pre .1 .0) (l .loop .i) (l .loop .left) (lent l .pre .0 .0)
-applying l = let q = lent l .pre in l .loop .inv (q .1 .0) (q .0 .0) (q .1 .1) (q .0 .1) (q .1 .2)
-
-first : (l : Turn) → 0 < l .loop .left → PairFirst (lent l .args .s .now) (l .loop .i) (l .loop .left)
-first l t = applying-first _ _ _ _ _ _ (applying l) t
-
--- The order of the argument and the first part is known; where they are equal, it is asked whether the rest is a function; where the
--- argument is greater, the next pair is found.
-abbrev Ordered : Type 0
-Ordered = tie.After-compare Inv-loop μ-loop
-
-abbrev turn : Ordered → Turn
-turn m = m .before .before
-
-abbrev some-left : (m : Ordered) → 0 < turn m .loop .left
-some-left m = m .before .loop-test .taken
-
-abbrev equal : tie.After-is-function Inv-loop μ-loop → Ordered
-equal c = c .before .before
-
-abbrev greater : tie.After-next-pair Inv-loop μ-loop → Ordered
-greater c = c .before .before .before
-
-compare-requires : tie.Need-compare-requires Inv-loop μ-loop
-compare-requires c κs =
-    let l = c .before in
-    (value-some _ _ _ _ (lent l .pre .0 .1), first-some _ _ _ (first l (c .loop-test .taken)), ended l .end-of .ensures)
-
-add-end-of : tie.Need-add-end-of Inv-loop μ-loop
-add-end-of c =
-    let m = equal (c .before) in omega (arith, some-inside _ _ (first-some _ _ _ (first (turn m) (some-left m))))
-
-returns : tie.Need-returns Inv-loop μ-loop
+returns : tie.Need-returns
 returns c = λ vs v h k p.
-    let q = c .before .before in
-    let m = equal q in
-    applied-at _ _ _ _ vs v h k p
-    (applying-found _ _ vs _ _ v (turn m .loop .inv vs v h k p) _ _ k (m .compare .ensures) (some-left m)
-    (omega (arith, q .before .if1 .taken)) _ (q .is-function .ensures) (c .before .if2 .taken) _ (c .end-of2 .ensures))
+    let b = c .before in
+    let q = lent b .pre in
+    image-none _ _ _ _ vs v h k p (q .counted)
+    (sought-none _ _ _ _ v (members vs) _ (b .seek .ensures _ vs v (whole _ _ _ _ vs v h k p (q .counted)) p k) (omega (arith, c .if1 .taken)))
 
-returns-2 : tie.Need-returns-2 Inv-loop μ-loop
+returns-2 : tie.Need-returns-2
 returns-2 c = λ vs v h k p.
-    let q = c .before in
-    let m = equal q in
-    applied-at _ _ _ _ vs v h k p
-    (applying-none _ _ vs _ _ v (turn m .loop .inv vs v h k p) _ _ k (m .compare .ensures) (some-left m)
-    (omega (arith, q .before .if1 .taken)) _ (q .is-function .ensures) (c .if2 .left))
+    let g = c .before .before in
+    let t = found g in
+    image-found _ _ _ _ vs v h k p (lent (t .before) .pre .counted) (subst (FunctionAt _ _ _) (c .before .if2 .taken) (g .is-function .ensures)) _ _
+    (member t vs v h k p) (c .end-of .ensures)
 
-returns-3 : tie.Need-returns-3 Inv-loop μ-loop
+returns-3 : tie.Need-returns-3
 returns-3 c = λ vs v h k p.
-    let m = c .before .before in
-    applied-at _ _ _ _ vs v h k p
-    (applying-past _ _ vs _ _ v (turn m .loop .inv vs v h k p) _ _ k (m .compare .ensures) (some-left m) (c .if3 .taken))
-
-returns-4 : tie.Need-returns-4 Inv-loop μ-loop
-returns-4 c = λ vs v h k p.
-    let q = c .before in
-    let m = greater q in
-    applied-at _ _ _ _ vs v h k p
-    (applying-shared _ _ vs _ _ v (turn m .loop .inv vs v h k p) _ _ k (m .compare .ensures) (some-left m)
-    (q .before .before .if1 .left) (q .before .if3 .left) _ (q .next-pair .ensures) (c .if4 .taken))
-
-loop-again : tie.Need-loop-again Inv-loop μ-loop
-loop-again c = λ vs v h k p.
-    let q = c .before in
-    let m = greater q in
-    applying-next _ _ vs _ _ v (turn m .loop .inv vs v h k p) _ _ k (m .compare .ensures) (some-left m)
-    (q .before .before .if1 .left) (q .before .if3 .left) _ (q .next-pair .ensures) (c .if4 .left)
+    let g = c .before in
+    image-shared _ _ _ _ vs v h k p (lent (found g .before) .pre .counted) (subst (FunctionAt _ _ _) (c .if2 .left) (g .is-function .ensures))
 
 pub walk-image-spec : {M : Type 1} → statement M
 walk-image-spec =
     tie.close
     (tie.spec
-    Inv-loop
-    μ-loop
-    (λ c κs. value-some _ _ _ _ (c .before .pre .0 .1))
-    (λ c. omega (arith, set-inside _ _ _ _ (c .before .before .pre .1 .1)))
-    (λ c. set-inside _ _ _ _ (c .before .before .before .pre .1 .1))
-    (λ c κs. search needs)
-    (λ c. let e = c .before .before in omega (arith, set-inside _ _ _ _ (e .before .before .pre .1 .1)))
-    (λ c. λ vs v h k p. applying-start _ _ _ vs v h p (c .low .ensures .0))
-    (λ c. omega (arith, some-inside _ _ (first-some _ _ _ (first (c .before) (c .loop-test .taken)))))
-    compare-requires
-    (λ c κs. applying-pairs _ _ _ _ _ _ (applying (c .before .before .before)))
-    add-end-of
-    (λ c κs. let m = equal (c .before) in first-some _ _ _ (first (turn m) (some-left m)))
+    (λ c. search needs)
+    (λ c κs. let q = c .before .pre in
+    record { value = q .value; top = _; rest = _; front = front-start _ _ _ _ (q .relation .1) _ (q .counted); keyed = q .relation .2 })
     returns
+    (λ c κs. let q = lent (c .before) .pre in (_, _, front-start _ _ _ _ (q .relation .1) _ (q .counted), q .relation .2))
+    (λ c. omega (arith, some-inside _ _ (some (found (c .before)))))
+    (λ c κs. some (found (c .before)))
     returns-2
-    returns-3
-    (λ c κs. let m = c .before .before in first (turn m) (some-left m))
-    returns-4
-    (λ c. omega (arith, some-left (greater (c .before))))
-    (λ c. omega (arith, some-left (greater (c .before))))
-    loop-again
-    (λ c. λ vs v h k p. applied-at _ _ _ _ vs v h k p (applying-end _ _ vs _ _ v (c .before .loop .inv vs v h k p) (c .loop-test .left))))
+    returns-3)
