@@ -118,10 +118,10 @@ module _ (gs ws bs s env : List ℕ) (a : Loaded) (l : Loads gs ws bs s env 0 a)
   loads-all end e = subst (Loads gs ws bs s env 0) e l
 
 -- An arena of 512 cells has room for few values, one of 8193 for those of 32 identifiers.
-pub few-ready : (bs values s : List ℕ) → length s ≡ 512 → Readable bs → cellsAtMost (identifierCount bs) (length values) < 512 → LoadReady bs values s
+pub few-ready : (bs values s : List ℕ) → length s ≡ 512 → Readable bs → cellsAtMost (identifierCount bs) (length values) < 512 → LoadReady bs values s 0
 few-ready bs values s e r l = record { readable = r; room = omega (arith, e, l); small = omega (arith, e) }
 
-pub load-ready : (bs values s : List ℕ) → length s ≡ 8193 → Readable bs → LoadReady bs values s
+pub load-ready : (bs values s : List ℕ) → length s ≡ 8193 → Readable bs → LoadReady bs values s 0
 load-ready bs values s e r = record { readable = r; room = omega (arith, r .header .identifiers); small = omega arith }
 
 pub sheet-fits : (bs sheet : List ℕ) (i n : ℕ) → i ≡ identifierCount bs → n ≡ nodeCount bs → length sheet ≡ 64 * (i + n) → SheetFits bs sheet

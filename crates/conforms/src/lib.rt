@@ -109,10 +109,10 @@ fn all_have(table: &[u8], s: &[u64], env: &[u32; 32], sheet: &[u8]) -> bool
 
 // The same for the values of a buffer, which are read into the arena s.
 fn conforms_in(table: &[u8], sheet: &[u8], values: &[u8], s: &mut [u64]) -> bool
-    requires { ⌜ LoadReady (now table) (now values) (now s) × SheetFits (now table) (now sheet) ⌝ }
+    requires { ⌜ LoadReady (now table) (now values) (now s) 0 × SheetFits (now table) (now sheet) ⌝ }
     ensures { λ r. ⌜ Decides r (Conforming (now (table .entry)) (now (sheet .entry)) (now (values .entry))) ⌝ }
 {
-    let loaded = buffer::load(table, values, s);
+    let loaded = buffer::load(table, values, s, 0);
     let env = loaded.at;
     let answer = loaded.answer;
     match answer {

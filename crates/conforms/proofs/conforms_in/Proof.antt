@@ -7,17 +7,17 @@ all-have-requires : tie.Need-all-have-requires
 all-have-requires c κs =
     let l = c .before .before .before .before .before .before .before in
     let p = l .before .before .before .before .before .before .pre in
-    all-ready _ _ _ (p .1) (p .0 .readable) _ _ _ (loads-all _ _ _ _ _ _ (l .load .ensures) _ (c .before .before .enum-told2 .given .1))
+    all-ready _ _ _ (p .1) (p .0 .readable) _ _ _ (loads-all _ _ _ _ _ _ (l .load .ensures .1) _ (c .before .before .enum-told2 .given .1))
 
 returns : tie.Need-returns
 returns c =
-    no-values _ _ _ _ (loads-refused _ _ _ _ _ _ (c .before .before .before .before .before .load .ensures) _ (c .enum-told .given .1))
+    no-values _ _ _ _ (loads-refused _ _ _ _ _ _ (c .before .before .before .before .before .load .ensures .1) _ (c .enum-told .given .1))
 
 returns-2 : tie.Need-returns-2
 returns-2 c =
     let l = c .before .before .before .before .before .before .before .before in
     let p = l .before .before .before .before .before .before .pre in
-    all-values _ _ _ (p .1) (p .0 .readable) _ _ _ (loads-all _ _ _ _ _ _ (l .load .ensures) _ (c .before .before .before .enum-told2 .given .1)) _ (c .all-have .ensures)
+    all-values _ _ _ (p .1) (p .0 .readable) _ _ _ (loads-all _ _ _ _ _ _ (l .load .ensures .1) _ (c .before .before .before .enum-told2 .given .1)) _ (c .all-have .ensures)
 
 pub conforms-in-spec : {M : Type 1} → statement M
 conforms-in-spec =
