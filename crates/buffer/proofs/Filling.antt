@@ -65,7 +65,7 @@ module _ {bs : List ℕ} (r : Readable bs) where
   bind-fits x h e = omega (arith, e 2, r .records .words x (omega (arith, binds-length bs)))
 
 -- The arena has room for the values of the identifiers.
-pub load-room : {bs ws buffer s : List ℕ} → LoadReady bs buffer s → ws ≡ tableOf bs .binds → Room ws buffer s 0
+pub load-room : {bs ws buffer s : List ℕ} {top : ℕ} → LoadReady bs buffer s top → ws ≡ tableOf bs .binds → Room ws buffer s top
 load-room {bs} {ws} r e =
     let l : length ws ≡ identifierCount bs = ap length e ∙ binds-length bs in
     record {
@@ -75,6 +75,7 @@ load-room {bs} {ws} r e =
     }
 
 -- What has been read with the words of a table.
-pub loads-as : {gs gs′ ws ws′ : List ℕ} (bs s env : List ℕ) (a : Loaded) → gs ≡ gs′ → ws ≡ ws′ → Loads gs ws bs s env 0 a → Loads gs′ ws′ bs s env 0 a
-loads-as {gs} {gs′} {ws} {ws′} bs s env a e f h =
-    subst (λ (xs : List ℕ). Loads xs ws′ bs s env 0 a) e (subst (λ (xs : List ℕ). Loads gs xs bs s env 0 a) f h)
+pub loads-as : {gs gs′ ws ws′ : List ℕ} (bs s env : List ℕ) (top : ℕ) (a : Loaded) → gs ≡ gs′ → ws ≡ ws′ →
+    Loads gs ws bs s env top a → Loads gs′ ws′ bs s env top a
+loads-as {gs} {gs′} {ws} {ws′} bs s env top a e f h =
+    subst (λ (xs : List ℕ). Loads xs ws′ bs s env top a) e (subst (λ (xs : List ℕ). Loads gs xs bs s env top a) f h)

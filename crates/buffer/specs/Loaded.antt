@@ -72,8 +72,8 @@ pub record Begins (xs : List ℕ) (n size : ℕ) (l : List ℕ) : Type 0 where
   pub first : take n l ≡ xs
   pub whole : length l ≡ size
 
--- What reading the values asks: room for the cells that they may take, and the cell of an identifier without a value.
-pub record LoadReady (bs values s : List ℕ) : Type 0 where
+-- What reading the values asks: room from `top` on for the cells that they may take, and the cell of an identifier without a value.
+pub record LoadReady (bs values s : List ℕ) (top : ℕ) : Type 0 where
   pub readable : Readable bs
-  pub room : 1 + cellsAtMost (identifierCount bs) (length values) ≤ length s
+  pub room : top + 1 + cellsAtMost (identifierCount bs) (length values) ≤ length s
   pub small : length s < 4294967296

@@ -457,14 +457,17 @@ pub fn read_values(
     }
 }
 
-// Reads the values of a readable table's free identifiers into the arena s.
-pub fn load(table: &[u8], values: &[u8], s: &mut [u64]) -> Environment
-    requires { ⌜ LoadReady (now table) (now values) (now s) ⌝ }
-    ensures { λ r. ⌜ Loads (tableOf (now (table .entry)) .sizes) (tableOf (now (table .entry)) .binds) (now (values .entry)) (now (s .exit)) (r .at) 0 (r .answer) ⌝ }
+// Reads the values of a readable table's free identifiers into the arena s, from top on.
+pub fn load(table: &[u8], values: &[u8], s: &mut [u64], top: usize) -> Environment
+    requires { ⌜ LoadReady (now table) (now values) (now s) top ⌝ }
+    ensures { λ r. ⌜
+        Same top (now (s .entry)) (now (s .exit)) ×
+        Loads (tableOf (now (table .entry)) .sizes) (tableOf (now (table .entry)) .binds) (now (values .entry)) (now (s .exit)) (r .at) top (r .answer)
+        ⌝ }
 {
     let sizes = words::sizes_of(table);
     let binds = words::binds_of(table);
     let g = table::givens(table);
     let i = table::identifiers(table);
-    read_values(values, &sizes[..g], &binds[..i], s, 0)
+    read_values(values, &sizes[..g], &binds[..i], s, top)
 }

@@ -1,5 +1,4 @@
--- `conforming` is true exactly where the sheet has the table's length and `Conforming` holds; so an answer that decides this is
--- `conforming`.
+-- `conforming` is true exactly where the sheet has the table's length and `Conforming` holds.
 use Prim.Native.Nat.{ℕ, zero, suc, _+_, _*_, _≤_}
 use mathlib.Core.Bool.{Bool, _&&_}
 use mathlib.Core.List.{List}
@@ -18,14 +17,14 @@ use Rattle.rules.specs.Reading.{reading}
 use Rattle.rules.specs.Ends.{allBelow, doneWith}
 use Rattle.rules.specs.Verdict.{sheetLength}
 use Rattle.rules.specs.Safety.{Free}
-use Rattle.laws.proofs.EndLaws.{T-and, T-eqb, T-allBelow, T-doneWith}
+use Rattle.laws.proofs.EndLaws.{T-true, T-and, T-eqb, T-allBelow, T-doneWith}
 use Rattle.rules.proofs.TypeLaws.{typeOfRow-right, row-read}
 use Rattle.laws.proofs.FitsLaws.{hasType-right}
 use Rattle.laws.proofs.ReadingLaws.{reading-table}
 use Rattle.fitting.specs.Types.{Decides}
 use Rattle.conforms.specs.Conforming.{rowAt, HasWritten, Conforming, hasTypeRead, hasWritten, ifFree, freeHas, conforming}
 use Rattle.conforms.specs.Rows.{SheetFits}
-use Rattle.conforms.proofs.RowLaws.{test-decides, decides-same, row-long}
+use Rattle.conforms.proofs.RowLaws.{row-long}
 use Rattle.rules.proofs.Basics.{absurd01}
 
 type-read : (o : Option Ty) (v : Value) → T (hasTypeRead o v) ↔ ((t : Ty) × (o ≡ some t) × HasType v t)
@@ -90,8 +89,7 @@ module _ (bs sheet buffer : List ℕ) where
 
   -- The computing definition says what the other does, and that the sheet has the table's length.
   pub conforming-right : Decides (conforming bs sheet buffer) (SheetFits bs sheet × Conforming bs sheet buffer)
-  conforming-right = test-decides _ _ (conforming-there, conforming-back)
-
-  -- An answer that decides the same is `conforming`.
-  pub conforming-is : (r : Bool) → Decides r (SheetFits bs sheet × Conforming bs sheet buffer) → r ≡ conforming bs sheet buffer
-  conforming-is r d = decides-same _ r _ d conforming-right
+  conforming-right = record {
+    sound = λ e. conforming-there (T-true (conforming bs sheet buffer) .1 e);
+    complete = λ k. T-true (conforming bs sheet buffer) .0 (conforming-back k);
+  }

@@ -1,57 +1,58 @@
 -- What the functions ask and answer: the row of a type in a sheet, and values against rows.
-use Prim.Native.Nat.{ℕ, _+_, _*_, _≤_, _<_}
+use Prim.Native.Nat.{ℕ, _+_, _*_, _-_, _≤_, _<_}
 use mathlib.Core.Bool.{Bool}
 use mathlib.Core.List.{List}
 use mathlib.Core.Logic.{_⊎_}
+use mathlib.Core.Option.{Option, none as nothing, some}
 use mathlib.Core.Path.{_≡_}
-use lib.ListN.{length, getD}
-use Rattle.rules.specs.Types.{Ty, row, weightᵀ}
+use lib.ListN.{length, getD, take, drop}
+use Rattle.rules.specs.Types.{Ty, typeOfRow}
 use Rattle.rules.specs.Values.{Value}
-use Rattle.rules.specs.Fits.{HasType}
 use Rattle.rules.specs.Cells.{noValue}
 use Rattle.rules.specs.Tables.{tableOf, identifierCount}
-use Rattle.rules.specs.Readable.{Header}
-use Rattle.rules.specs.Verdict.{sheetLength, typeLimit}
-use Rattle.rules.specs.Safety.{Free}
-use Rattle.arena.specs.Code.{Stands, ValueAt, CellsFit, SomeAt}
-use Rattle.fitting.specs.Types.{Decides}
-use Rattle.conforms.specs.Conforming.{HasWritten}
+use Rattle.rules.specs.Ends.{allBelow}
+use Rattle.rules.specs.Readable.{Header, Readable}
+use Rattle.rules.specs.Verdict.{sheetLength}
+use Rattle.arena.specs.Code.{ValueAt, CellsFit, SomeAt}
+use Rattle.buffer.specs.Loaded.{Bound}
+use Rattle.conforms.specs.Conforming.{rowAt, hasWritten, ifFree, freeHas, conforming}
 
 -- The codes that a type may begin with.
 abbrev pub Code : ℕ → Type 0
 Code c = ((0 < c) × (c ≤ 4)) ⊎ (16 ≤ c)
 
--- The bytes from `at` to `end` are zero.
-pub record Blank (sheet : List ℕ) (at end : ℕ) : Type 0 where
-  pub zeros : (i : ℕ) → at ≤ i → i < end → getD sheet i 0 ≡ 0
+-- The bytes from i to `end`.
+abbrev pub span : List ℕ → ℕ → ℕ → List ℕ
+span sheet i end = take (end - i) (drop i sheet)
 
--- The row from `at` on is that of a type.
-pub record RowOf (sheet : List ℕ) (at : ℕ) (t : Ty) : Type 0 where
-  pub codes : Stands sheet at (row t)
-  pub light : weightᵀ t ≤ typeLimit
+-- n types have been read.
+abbrev pub Counted : Option (List Ty) → ℕ → Type 0
+Counted nothing n = ⊥
+Counted (some ts) n = length ts ≡ n
 
-abbrev pub SomeTypeRow : List ℕ → ℕ → Type 0
-SomeTypeRow sheet at = (t : Ty) × RowOf sheet at t
+-- The row of the place p is that of a type.
+pub record TypeRow (sheet : List ℕ) (p : ℕ) : Type 0 where
+  pub type : Ty
+  pub read : typeOfRow (rowAt sheet p) ≡ some type
 
--- A value, and bytes enough for a row.
-pub record ValueAndRow (s : List ℕ) (at : ℕ) (sheet : List ℕ) (from : ℕ) : Type 0 where
+-- A value, and bytes enough for the row of the place p.
+pub record ValueAndRow (s : List ℕ) (at : ℕ) (sheet : List ℕ) (p : ℕ) : Type 0 where
   pub value : SomeAt s at
-  pub inside : from + 64 ≤ length sheet
+  pub inside : 64 * p + 64 ≤ length sheet
 
--- r says whether the value at `at` has the type in the row from `from` on.
+-- r says whether the value at `at` has the type in the row of the place p.
 abbrev pub OfRow : List ℕ → ℕ → List ℕ → ℕ → Bool → Type 0
-OfRow s at sheet from r = (v : Value) → ValueAt s at v → CellsFit v → Decides r ((t : Ty) × RowOf sheet from t × HasType v t)
+OfRow s at sheet p r = (v : Value) → ValueAt s at v → CellsFit v → r ≡ hasWritten sheet p v
 
 -- The value at `at` is for the identifier x, whose row is in the sheet.
-pub record NameRowReady (bs s : List ℕ) (at : ℕ) (sheet : List ℕ) (x : ℕ) : Type 0 where
+pub record NameReady (bs s : List ℕ) (at : ℕ) (sheet : List ℕ) (x : ℕ) : Type 0 where
   pub header : Header bs
   pub below : x < identifierCount bs
-  pub value : SomeAt s at
-  pub inside : 64 * x + 64 ≤ length sheet
+  pub row : ValueAndRow s at sheet x
 
 -- r says whether the value at `at` has the type of x, if x is free.
 abbrev pub NameHas : List ℕ → List ℕ → ℕ → List ℕ → ℕ → Bool → Type 0
-NameHas bs s at sheet x r = (v : Value) → ValueAt s at v → CellsFit v → Decides r (Free (tableOf bs) x → HasWritten sheet x v)
+NameHas bs s at sheet x r = (v : Value) → ValueAt s at v → CellsFit v → r ≡ ifFree (getD (tableOf bs .binds) x 1) (hasWritten sheet x v)
 
 -- The values stand where the environment says.
 pub record AllStand (s env : List ℕ) (vs : List Value) : Type 0 where
@@ -68,9 +69,22 @@ pub record AllReady (bs s env sheet : List ℕ) : Type 0 where
   pub values : List Value
   pub stand : AllStand s env values
 
--- Each free identifier has a value of the type in its row.
-abbrev pub AllOfRows : List ℕ → List ℕ → List Value → Type 0
-AllOfRows bs sheet vs = (x : ℕ) → Free (tableOf bs) x → HasWritten sheet x (getD vs x noValue)
-
+-- r says whether each free identifier has a value of the type in its row.
 abbrev pub AllConform : List ℕ → List ℕ → List ℕ → List ℕ → Bool → Type 0
-AllConform bs s env sheet r = (vs : List Value) → AllStand s env vs → Decides r (AllOfRows bs sheet vs)
+AllConform bs s env sheet r = (vs : List Value) → AllStand s env vs → r ≡ allBelow (freeHas (tableOf bs) sheet vs) (identifierCount bs)
+
+-- The values of a buffer have been read into the arena s from `top` to `end`, and refusal 14 has passed them.
+abbrev pub LoadedFrom : List ℕ → List ℕ → List ℕ → List ℕ → ℕ → ℕ → Type 0
+LoadedFrom bs buffer s env top end = Bound (tableOf bs .sizes) (tableOf bs .binds) buffer s env top end
+
+-- So those of some buffer, from some place on.
+pub record ValuesLoaded (bs s env : List ℕ) : Type 0 where
+  pub readable : Readable bs
+  pub buffer : List ℕ
+  pub top : ℕ
+  pub end : ℕ
+  pub bound : LoadedFrom bs buffer s env top end
+
+-- r says of each buffer whose values these are whether it conforms.
+abbrev pub LoadedConform : List ℕ → List ℕ → List ℕ → List ℕ → Bool → Type 0
+LoadedConform bs s env sheet r = (buffer : List ℕ) (top end : ℕ) → LoadedFrom bs buffer s env top end → r ≡ conforming bs sheet buffer

@@ -2,15 +2,17 @@
 use buffer::Loaded;
 use reading::Reading;
 ghost use mathlib.Core.Path.{_≡_};
-ghost use Prim.Native.Nat.{_+_, _≤_, _<_};
+ghost use Prim.Native.Nat.{_+_, _*_, _≤_, _<_};
 ghost use lib.ListN.{length};
+ghost use Rattle.rules.specs.Types.{typesIn};
 ghost use Rattle.rules.specs.Readable.{Readable};
 ghost use Rattle.rules.specs.Tables.{identifierCount};
 ghost use Rattle.buffer.specs.Buffer.{cellsAtMost};
-ghost use Rattle.fitting.specs.Types.{Decides};
-ghost use Rattle.conforms.specs.Conforming.{Conforming, conforming};
 ghost use Rattle.buffer.specs.Loaded.{LoadReady};
-ghost use Rattle.conforms.specs.Rows.{Code, Blank, SomeTypeRow, ValueAndRow, OfRow, NameRowReady, NameHas, AllReady, AllConform, SheetFits};
+ghost use Rattle.fitting.specs.Types.{Decides};
+ghost use Rattle.conforms.specs.Conforming.{conforming};
+ghost use Rattle.conforms.specs.Rows.{Code, Counted, span, TypeRow, ValueAndRow, OfRow, NameReady, NameHas};
+ghost use Rattle.conforms.specs.Rows.{AllReady, AllConform, ValuesLoaded, LoadedConform};
 
 // Whether a byte is the code of a type's first constructor.
 fn is_code(c: u8) -> bool
@@ -25,10 +27,10 @@ fn is_code(c: u8) -> bool
     c <= 4
 }
 
-// Whether the bytes from `at` to `end` are zero.
+// Whether the bytes from `at` to `end` are zero: they are read as no types.
 fn blank(sheet: &[u8], at: usize, end: usize) -> bool
     requires { ⌜ (at ≤ end) × (end ≤ length (now sheet)) ⌝ }
-    ensures { λ r. ⌜ Decides r (Blank (now (sheet .entry)) at end) ⌝ }
+    ensures { λ r. ⌜ Decides r (Counted (typesIn (span (now (sheet .entry)) at end)) 0) ⌝ }
 {
     let mut i = at;
     while i < end {
@@ -40,13 +42,13 @@ fn blank(sheet: &[u8], at: usize, end: usize) -> bool
     true
 }
 
-// Whether the row from `at` on is that of a type: its codes in prefix order, and then zeros.
-fn is_row(sheet: &[u8], at: usize) -> bool
-    requires { ⌜ at + 64 ≤ length (now sheet) ⌝ }
-    ensures { λ r. ⌜ Decides r (SomeTypeRow (now (sheet .entry)) at) ⌝ }
+// Whether the row of the place p is that of a type: its codes in prefix order, and then zeros.
+fn is_row(sheet: &[u8], p: usize) -> bool
+    requires { ⌜ 64 * p + 64 ≤ length (now sheet) ⌝ }
+    ensures { λ r. ⌜ Decides r (TypeRow (now (sheet .entry)) p) ⌝ }
 {
-    let end = at + 64;
-    let mut i = at;
+    let mut i = 64 * p;
+    let end = i + 64;
     let mut left: usize = 1;
     while left > 0 {
         if i == end {
@@ -62,26 +64,26 @@ fn is_row(sheet: &[u8], at: usize) -> bool
     blank(sheet, i, end)
 }
 
-// Whether the value at `at` has the type in the row from `row` on.
-fn row_has(s: &[u64], at: usize, sheet: &[u8], row: usize) -> bool
-    requires { ⌜ ValueAndRow (now s) at (now sheet) row ⌝ }
-    ensures { λ r. ⌜ OfRow (now (s .entry)) at (now (sheet .entry)) row r ⌝ }
+// Whether the value at `at` has the type in the row of the place p.
+fn row_has(s: &[u64], at: usize, sheet: &[u8], p: usize) -> bool
+    requires { ⌜ ValueAndRow (now s) at (now sheet) p ⌝ }
+    ensures { λ r. ⌜ OfRow (now (s .entry)) at (now (sheet .entry)) p r ⌝ }
 {
-    if !is_row(sheet, row) {
+    if !is_row(sheet, p) {
         return false;
     }
-    fitting::has_type(s, at, sheet, row)
+    fitting::has_type(s, at, sheet, 64 * p)
 }
 
 // The same for the identifier x, if it is free.
 fn name_has(table: &[u8], s: &[u64], at: usize, sheet: &[u8], x: usize) -> bool
-    requires { ⌜ NameRowReady (now table) (now s) at (now sheet) x ⌝ }
+    requires { ⌜ NameReady (now table) (now s) at (now sheet) x ⌝ }
     ensures { λ r. ⌜ NameHas (now (table .entry)) (now (s .entry)) at (now (sheet .entry)) x r ⌝ }
 {
     if table::bind(table, x) != 0 {
         return true;
     }
-    row_has(s, at, sheet, 64 * x)
+    row_has(s, at, sheet, x)
 }
 
 fn wide(x: u32) -> usize
@@ -107,24 +109,35 @@ fn all_have(table: &[u8], s: &[u64], env: &[u32; 32], sheet: &[u8]) -> bool
     true
 }
 
+// The same for the values that `buffer::load` has read into the arena s, from any place on, and for a sheet of any length.
+pub fn loaded_conform(table: &[u8], s: &[u64], env: &[u32; 32], sheet: &[u8]) -> bool
+    requires { ⌜ ValuesLoaded (now table) (now s) (now env) ⌝ }
+    ensures { λ r. ⌜ LoadedConform (now (table .entry)) (now (s .entry)) (now (env .entry)) (now (sheet .entry)) r ⌝ }
+{
+    if sheet.len() != 64 * (table::identifiers(table) + table::nodes(table)) {
+        return false;
+    }
+    all_have(table, s, env, sheet)
+}
+
 // The same for the values of a buffer, which are read into the arena s.
 fn conforms_in(table: &[u8], sheet: &[u8], values: &[u8], s: &mut [u64]) -> bool
-    requires { ⌜ LoadReady (now table) (now values) (now s) × SheetFits (now table) (now sheet) ⌝ }
-    ensures { λ r. ⌜ Decides r (Conforming (now (table .entry)) (now (sheet .entry)) (now (values .entry))) ⌝ }
+    requires { ⌜ LoadReady (now table) (now values) (now s) 0 ⌝ }
+    ensures { λ r. ⌜ r ≡ conforming (now (table .entry)) (now (sheet .entry)) (now (values .entry)) ⌝ }
 {
-    let loaded = buffer::load(table, values, s);
+    let loaded = buffer::load(table, values, s, 0);
     let env = loaded.at;
     let answer = loaded.answer;
     match answer {
         Loaded::Refused(_) => false,
-        Loaded::All(_) => all_have(table, s, &env, sheet),
+        Loaded::All(_) => loaded_conform(table, s, &env, sheet),
     }
 }
 
 // Few values, and the value of those that have none.
 fn conforms_small(table: &[u8], sheet: &[u8], values: &[u8]) -> bool
-    requires { ⌜ Readable (now table) × SheetFits (now table) (now sheet) × (cellsAtMost (identifierCount (now table)) (length (now values)) < 512) ⌝ }
-    ensures { λ r. ⌜ Decides r (Conforming (now (table .entry)) (now (sheet .entry)) (now (values .entry))) ⌝ }
+    requires { ⌜ Readable (now table) × (cellsAtMost (identifierCount (now table)) (length (now values)) < 512) ⌝ }
+    ensures { λ r. ⌜ r ≡ conforming (now (table .entry)) (now (sheet .entry)) (now (values .entry)) ⌝ }
 {
     let mut s = [0u64; 512];
     conforms_in(table, sheet, values, &mut s)
@@ -132,33 +145,21 @@ fn conforms_small(table: &[u8], sheet: &[u8], values: &[u8]) -> bool
 
 // 32 values, each of at most 256 cells, and the value of those that have none.
 fn conforms_large(table: &[u8], sheet: &[u8], values: &[u8]) -> bool
-    requires { ⌜ Readable (now table) × SheetFits (now table) (now sheet) ⌝ }
-    ensures { λ r. ⌜ Decides r (Conforming (now (table .entry)) (now (sheet .entry)) (now (values .entry))) ⌝ }
+    requires { ⌜ Readable (now table) ⌝ }
+    ensures { λ r. ⌜ r ≡ conforming (now (table .entry)) (now (sheet .entry)) (now (values .entry)) ⌝ }
 {
     let mut s = [0u64; 8193];
     conforms_in(table, sheet, values, &mut s)
 }
 
-fn conforms_fitting(table: &[u8], sheet: &[u8], values: &[u8]) -> bool
-    requires { ⌜ Readable (now table) × SheetFits (now table) (now sheet) ⌝ }
-    ensures { λ r. ⌜ Decides r (Conforming (now (table .entry)) (now (sheet .entry)) (now (values .entry))) ⌝ }
+fn conforms_readable(table: &[u8], sheet: &[u8], values: &[u8]) -> bool
+    requires { ⌜ Readable (now table) ⌝ }
+    ensures { λ r. ⌜ r ≡ conforming (now (table .entry)) (now (sheet .entry)) (now (values .entry)) ⌝ }
 {
     if buffer::cells_at_most(table::identifiers(table), values.len()) < 512 {
         return conforms_small(table, sheet, values);
     }
     conforms_large(table, sheet, values)
-}
-
-fn conforms_readable(table: &[u8], sheet: &[u8], values: &[u8]) -> bool
-    requires { ⌜ Readable (now table) ⌝ }
-    ensures { λ r. ⌜
-        Decides r (SheetFits (now (table .entry)) (now (sheet .entry)) × Conforming (now (table .entry)) (now (sheet .entry)) (now (values .entry)))
-        ⌝ }
-{
-    if sheet.len() != 64 * (table::identifiers(table) + table::nodes(table)) {
-        return false;
-    }
-    conforms_fitting(table, sheet, values)
 }
 
 // Whether the values buffer gives each free identifier of the table a value of the type in its row of the sheet.

@@ -32,9 +32,12 @@ returns c =
     let a = v .before in
     let i = a .before .before .before in
     let b = i .before .before in
-    loads-as (lent b .args .values .now) (v .read-values .last .1 .1 .1 .0) (v .read-values .result .at) (v .read-values .result .answer)
-    (begins-lent (b .before .sizes-of .ensures) (i .before .givens .ensures))
-    (begins-lent (b .binds-of .ensures) (i .identifiers .ensures)) (v .read-values .ensures .1)
+    let p = lent b .args in (
+      v .read-values .ensures .0,
+      loads-as (p .values .now) (v .read-values .last .1 .1 .1 .0) (v .read-values .result .at) (p .top) (v .read-values .result .answer)
+          (begins-lent (b .before .sizes-of .ensures) (i .before .givens .ensures))
+          (begins-lent (b .binds-of .ensures) (i .identifiers .ensures)) (v .read-values .ensures .1),
+    )
 
 pub load-spec : {M : Type 1} → statement M
 load-spec =

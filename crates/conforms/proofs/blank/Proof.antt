@@ -1,39 +1,64 @@
-use Prim.Native.Nat.{_-_, _≤_}
+-- `blank`: the bytes from `at` on are read as no types exactly where those from i on are.
+use Prim.Native.Nat.{ℕ, _+_, _-_, _≤_}
+use mathlib.Core.List.{List}
+use mathlib.Core.Logic.{_↔_, Iff·rfl, Iff·trans}
+use mathlib.Core.Path.{_≡_, refl}
 use native.Mathlib.Omega.{arith}
-use Rattle.conforms.specs.Rows.{Blank}
-use Rattle.conforms.proofs.RowLaws.{agrees, blank-none, blank-more, blank-end}
+use lib.ListN.{getD}
+use Rattle.rules.specs.Types.{typesIn}
 use Rattle.fitting.proofs.Types.{refuses}
+use Rattle.conforms.specs.Rows.{Counted, span}
+use Rattle.conforms.proofs.RowLaws.{agrees, next-zero, span-end}
 use Rattle.conforms.proofs.blank.Statement.{statement}
 use Rattle.conforms.proofs.blank.Tie as tie
 
 abbrev Inv-loop : tie.InvT-loop
-Inv-loop sheet at end i₀ i = (at ≤ i) × (i ≤ end) × Blank sheet at i
+Inv-loop sheet at end i₀ i = (i ≤ end) × (Counted (typesIn (span sheet at end)) 0 ↔ Counted (typesIn (span sheet i end)) 0)
 
 abbrev μ-loop : tie.MeasureT-loop
 μ-loop sheet at end i₀ i = end - i
 
-loop-holds : tie.Need-loop-holds Inv-loop μ-loop
-loop-holds c = (omega arith, omega arith, blank-none _ _)
+-- A turn of the loop, the list lent, and what the byte at i says.
+abbrev Turn : Type 0
+Turn = tie.In-loop Inv-loop μ-loop
 
-shared-slice-read-if1 : tie.Need-shared-slice-read-if1 Inv-loop μ-loop
-shared-slice-read-if1 c = omega arith
+abbrev lent : Turn → tie.Start Inv-loop μ-loop
+lent l = l .before .before
+
+abbrev sheet : Turn → List ℕ
+sheet l = lent l .args .sheet .now
+
+goes : (l : Turn) →
+    Counted (typesIn (span (sheet l) (l .before .loop .i) (lent l .args .end))) 0 ↔
+    ((getD (sheet l) (l .before .loop .i) 0 ≡ 0) × Counted (typesIn (span (sheet l) (l .before .loop .i + 1) (lent l .args .end))) 0)
+goes l = next-zero (sheet l) (l .before .loop .i) (lent l .args .end) (l .loop-test .taken) (lent l .pre .1)
 
 returns : tie.Need-returns Inv-loop μ-loop
 returns c =
-    let i = c .before .before .before .loop in
-    refuses _ (λ n. c .if1 .taken (n .zeros (i .i) (i .inv .0) (c .before .before .loop-test .taken)))
-
-add-i : tie.Need-add-i Inv-loop μ-loop
-add-i c = omega arith
-
-loop-less : tie.Need-loop-less Inv-loop μ-loop
-loop-less c = omega arith
+    let l = c .before .before in
+    refuses _ (λ k. c .if1 .taken (goes l .0 (l .before .loop .inv .1 .0 k) .0))
 
 loop-again : tie.Need-loop-again Inv-loop μ-loop
-loop-again c = (omega arith, omega arith, blank-more _ _ _ (c .before .before .before .loop .inv .2) (c .if1 .left))
+loop-again c =
+    let l = c .before .before in
+    (omega (arith, l .loop-test .taken), Iff·trans (l .before .loop .inv .1) (λ k. goes l .0 k .1, λ k. goes l .1 (c .if1 .left, k)))
 
 returns-2 : tie.Need-returns-2 Inv-loop μ-loop
-returns-2 c = agrees _ (blank-end _ _ _ _ (c .before .loop .inv .2) (omega arith))
+returns-2 c =
+    let a = c .before in
+    let p = a .before .args in
+    agrees (a .loop .inv .1 .1 (span-end (p .sheet .now) (a .loop .i) (p .end) 0 (omega (arith, c .loop-test .left)) .1 refl))
 
 pub blank-spec : {M : Type 1} → statement M
-blank-spec = tie.close (tie.spec Inv-loop μ-loop loop-holds shared-slice-read-if1 returns add-i loop-less loop-again returns-2)
+blank-spec =
+    tie.close
+    (tie.spec
+    Inv-loop
+    μ-loop
+    (λ c. (c .pre .0, Iff·rfl))
+    (λ c. omega arith)
+    returns
+    (λ c. omega arith)
+    (λ c. omega arith)
+    loop-again
+    returns-2)

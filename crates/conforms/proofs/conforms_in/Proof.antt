@@ -1,23 +1,47 @@
+-- `conforms_in`: the values are read from 0 on; what refusal 14 refuses does not conform.
 use borrow.Author.Needs.{needs}
-use Rattle.conforms.proofs.NameLaws.{loads-refused, loads-all, no-values, all-ready, all-values}
+use Rattle.conforms.proofs.NameLaws.{refused-not, loads-all}
 use Rattle.conforms.proofs.conforms_in.Statement.{statement}
 use Rattle.conforms.proofs.conforms_in.Tie as tie
 
-all-have-requires : tie.Need-all-have-requires
-all-have-requires c κs =
-    let l = c .before .before .before .before .before .before .before in
-    let p = l .before .before .before .before .before .before .pre in
-    all-ready _ _ _ (p .1) (p .0 .readable) _ _ _ (loads-all _ _ _ _ _ _ (l .load .ensures) _ (c .before .before .enum-told2 .given .1))
+-- The values have been read; what was lent, and what is known with either answer.
+abbrev Read : Type 0
+Read = tie.After-load
+
+abbrev known : Read → tie.After-shared-slice-known3
+known r = r .before .before .before
+
+abbrev lent : Read → tie.Start
+lent r = known r .before .before .before
+
+abbrev read : tie.After-env → Read
+read e = e .before .before .before
+
+abbrev passed : tie.After-env2 → tie.After-enum-told2
+passed c = c .before .before
+
+loaded-conform-requires : tie.Need-loaded-conform-requires
+loaded-conform-requires c κs =
+    let t = passed c in
+    let r = read (t .before .before) in
+    record {
+      readable = lent r .pre .readable;
+      buffer = lent r .args .values .now;
+      top = 0;
+      end = _;
+      bound = loads-all _ _ _ _ _ (r .load .ensures .1) (t .enum-told2 .given .1);
+    }
 
 returns : tie.Need-returns
 returns c =
-    no-values _ _ _ _ (loads-refused _ _ _ _ _ _ (c .before .before .before .before .before .load .ensures) _ (c .enum-told .given .1))
+    let r = read (c .before .before) in
+    refused-not (lent r .pre .readable) _ _ _ _ _ (r .load .ensures .1) (c .enum-told .given .1)
 
 returns-2 : tie.Need-returns-2
 returns-2 c =
-    let l = c .before .before .before .before .before .before .before .before in
-    let p = l .before .before .before .before .before .before .pre in
-    all-values _ _ _ (p .1) (p .0 .readable) _ _ _ (loads-all _ _ _ _ _ _ (l .load .ensures) _ (c .before .before .before .enum-told2 .given .1)) _ (c .all-have .ensures)
+    let t = passed (c .before) in
+    let r = read (t .before .before) in
+    c .loaded-conform .ensures _ _ _ (loads-all _ _ _ _ _ (r .load .ensures .1) (t .enum-told2 .given .1))
 
 pub conforms-in-spec : {M : Type 1} → statement M
 conforms-in-spec =
@@ -26,7 +50,7 @@ conforms-in-spec =
     (λ c κs. search needs)
     (λ c. search needs)
     (λ c. search needs)
-    all-have-requires
+    loaded-conform-requires
     (λ c. search needs)
     returns
     (λ c. search needs)
