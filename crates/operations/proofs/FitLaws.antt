@@ -8,9 +8,9 @@ use Rattle.rules.specs.Types.{whole, Ty, POW, _⊗_, INTEGER}
 use Rattle.rules.specs.Values.{num, truth, element, Value, scalar, pair, set, Values, none, _▸_, int}
 use Rattle.rules.specs.Rules.{Pattern}
 use Rattle.rules.specs.Fits.{HasType, HaveType, Fits, fits}
+use Rattle.laws.proofs.EndLaws.{T-true}
 use Rattle.laws.proofs.FitsLaws.{fits-right}
 use Rattle.fitting.specs.Tests.{FitOne, FitTwo, Both}
-use Rattle.fitting.proofs.Sharing.{is-true}
 use Rattle.arena.specs.Code.{IsPair, AllPairs}
 use Rattle.operations.specs.Good.{Sizes, GoodAt}
 use Rattle.operations.specs.Outcomes.{TwoReady}
@@ -23,7 +23,7 @@ module _ (ps : List Pattern) (vs : List Value) where
   fit-types e = fits-right ps vs .0 (rw e tt)
 
   pub types-fit : Fits ps vs → fits ps vs ≡ true
-  types-fit h = is-true (fits ps vs) (fits-right ps vs .1 h)
+  types-fit h = T-true (fits ps vs) .0 (fits-right ps vs .1 h)
 
 -- What a test of operands answers for good ones.
 module _ {gs s : List ℕ} {top a : ℕ} {v : Value} (small : Sizes gs) (h : GoodAt gs s top a v) where
