@@ -61,8 +61,7 @@ mutual
     full-value v s (at + 1) (left-stands s at v w h) (within n (omega arith) (omega arith)),
     full-value w s (at + 1 + weight v) (right-stands s at v w h) (within n (omega arith) (omega arith)),
   )
-  full-value (set vs) s at h n =
-      not-empty vs s at h n (full-all vs s (at + 1) (members-stand s at vs h) (within n (omega arith) (omega arith)))
+  full-value (set vs) s at h n = not-empty vs s at h n (full-all vs s (at + 1) (members-stand s at vs h) (within n (omega arith) (omega arith)))
 
   full-all : (vs : Values) (s : List ℕ) (at : ℕ) → ValuesAt s at vs → NoEmpty s at (at + weights vs) → FullAll vs
   full-all none s at h n = tt

@@ -153,8 +153,7 @@ mutual
 
   ground-set : (s : Values) (t u : Ty) → FullSet s → sharedTypes s ⊑ t → sharedTypes s ⊑ u → t ≡ u
   ground-set none t u f h k = absurd f
-  ground-set (v ▸ vs) t u f h k =
-      ground v t u (f .0) (⊓-split (typesOf v) (sharedTypes vs) t h .0) (⊓-split (typesOf v) (sharedTypes vs) u k .0)
+  ground-set (v ▸ vs) t u f h k = ground v t u (f .0) (⊓-split (typesOf v) (sharedTypes vs) t h .0) (⊓-split (typesOf v) (sharedTypes vs) u k .0)
 
 -- Types of p that all or none are in q: what meets p meets those of them that are in r.
 pub narrowed : (p r q : TypeSet) → T (inhabited (p ⊓ r)) → ((t u : Ty) → p ⊑ t → p ⊑ u → q ⊑ t → q ⊑ u) → meets p q ≡ meets (p ⊓ r) q

@@ -167,8 +167,7 @@ module _ (s : List ℕ) (a b : ℕ) where
 
   -- membership
   pub belongs-not : (r : Bool) → FitOne (P̂ t̂ ∷ []) s b r → r ≡ false → FitTwo (t̂ ∷ P̂ t̂ ∷ []) s a b false
-  belongs-not r f e v w h k =
-      sym (fits-belongs v w ∙ no-meet (typesOf v) (inner w) (λ x. no-inner s b r f w k e (x .0) (x .2)))
+  belongs-not r f e v w h k = sym (fits-belongs v w ∙ no-meet (typesOf v) (inner w) (λ x. no-inner s b r f w k e (x .0) (x .2)))
 
   pub belongs-fits : (m : ℕ) (r : Bool) → SetHere s b → Members s b m → AgreedWith s a (b + 1) m r → FitTwo (t̂ ∷ P̂ t̂ ∷ []) s a b r
   belongs-fits m r p c g v w h k =
@@ -181,8 +180,7 @@ module _ (s : List ℕ) (a b : ℕ) where
 
   -- two sets
   pub alike-sets-not : (r : Bool) → FitOne (P̂ t̂ ∷ []) s a r → r ≡ false → FitTwo (P̂ t̂ ∷ P̂ t̂ ∷ []) s a b false
-  alike-sets-not r f e v w h k =
-      sym (fits-alike-sets v w ∙ no-meet (inner v) (inner w) (λ x. no-inner s a r f v h e (x .0) (x .1)))
+  alike-sets-not r f e v w h k = sym (fits-alike-sets v w ∙ no-meet (inner v) (inner w) (λ x. no-inner s a r f v h e (x .0) (x .1)))
 
   pub alike-sets-fit : (r : Bool) → SetHere s a → Agreed s a b r → FitTwo (P̂ t̂ ∷ P̂ t̂ ∷ []) s a b r
   alike-sets-fit r p g v w h k =
