@@ -2,19 +2,14 @@
 use Prim.Native.Nat.{ℕ}
 use mathlib.Core.Bool.{Bool, true, false, _&&_, cond}
 use mathlib.Core.Path.{_≡_, refl, sym, ap, _∙_, subst}
-use mathlib.Core.Logic.{_≢_, _↔_}
-use native.Mathlib.Omega.{arith}
-use lib.Dec.{T, eqb}
-use Rattle.rules.specs.Types.{whole, Atom, given, Ty, atom, POW, _⊗_}
-use Rattle.rules.specs.Values.{Scalar, num, truth, element, scalarTag, tag, Value, scalar, pair, set, Values, none, _▸_}
-use Rattle.rules.specs.Fits.{sameAtom, TypeSet, every, noType, atomˢ, powˢ, _×ˢ_, _⊓_, typesOf, sharedTypes, inhabited, typed}
+use mathlib.Core.Logic.{_≢_}
+use lib.Dec.{T}
+use Rattle.rules.specs.Types.{whole, number, bool, given, Ty, atom, POW, _⊗_}
+use Rattle.rules.specs.Values.{num, truth, element, tag, Value, scalar, pair, set, Values, none, _▸_}
+use Rattle.rules.specs.Fits.{sameAtom, TypeSet, every, noType, atomˢ, powˢ, _×ˢ_, _⊓_, typesOf, sharedTypes, inhabited}
 use Rattle.laws.proofs.FitsLaws.{_⊑_, ⊓-join, ⊓-split, inhabited→some, some→inhabited}
 use Rattle.fitting.specs.Agree.{meets, agree, Full, FullSet}
 use Rattle.rules.proofs.Basics.{and-of, and-split, bool-eq}
-
-pub is-true : (a : Bool) → T a → a ≡ true
-is-true true h = refl
-is-true false h = absurd h
 
 -- Two sets of types that have one in common.
 abbrev pub Share : TypeSet → TypeSet → Type 0
@@ -31,9 +26,8 @@ pub share→meets : (p q : TypeSet) → Share p q → T (meets p q)
 unfolding meets
 share→meets p q x = some→inhabited (p ⊓ q) (x .0) (⊓-join p q (x .0) (x .1) (x .2))
 
-cond-atom : (c : Bool) (a : Atom) → T (inhabited (cond c (atomˢ a) noType)) → T c
-cond-atom true a h = tt
-cond-atom false a h = h
+pub no-meet : (p q : TypeSet) → (Share p q → ⊥) → meets p q ≡ false
+no-meet p q n = bool-eq (meets p q) false (λ h. n (meets→share p q h)) (λ h. absurd h)
 
 -- Where each two of three sets of types have one in common, all three have.
 pub pairwise : (p q r : TypeSet) → T (inhabited (p ⊓ q)) → T (inhabited (p ⊓ r)) → T (inhabited (q ⊓ r)) → T (inhabited ((p ⊓ q) ⊓ r))
@@ -97,52 +91,32 @@ meets-sym p q =
     (λ h. let x = meets→share p q h in share→meets q p (x .0, x .2, x .1))
     (λ h. let x = meets→share q p h in share→meets p q (x .0, x .2, x .1))
 
-scalars-differ : (x y : Scalar) → scalarTag x ≢ scalarTag y → agree (scalar x) (scalar y) ≡ false
-unfolding agree meets
-scalars-differ (num whole i) (num whole j) n = absurd (n refl)
-scalars-differ (num whole i) (truth b) n = refl
-scalars-differ (num whole i) (element g k) n = refl
-scalars-differ (truth a) (num whole j) n = refl
-scalars-differ (truth a) (truth b) n = absurd (n refl)
-scalars-differ (truth a) (element g k) n = refl
-scalars-differ (element g k) (num whole j) n = refl
-scalars-differ (element g k) (truth b) n = refl
-scalars-differ (element g k) (element h l) n = absurd (n refl)
-
--- Numbers share a type, truths do, and elements do where their given set is the same.
-pub scalars-agree : (x y : Scalar) → scalarTag x ≡ scalarTag y → scalarTag x ≢ 3 → agree (scalar x) (scalar y) ≡ true
-unfolding agree meets
-scalars-agree (num whole i) (num whole j) e n = refl
-scalars-agree (num whole i) (truth b) e n = absurd (omega arith)
-scalars-agree (num whole i) (element g k) e n = absurd (omega arith)
-scalars-agree (truth a) (num whole j) e n = absurd (omega arith)
-scalars-agree (truth a) (truth b) e n = refl
-scalars-agree (truth a) (element g k) e n = absurd (omega arith)
-scalars-agree (element g k) y e n = absurd (n refl)
-
-pub elements-agree : (g k h l : ℕ) → agree (scalar (element g k)) (scalar (element h l)) ≡ eqb g h
-unfolding agree meets
-elements-agree g k h l = go (eqb g h)
-  where
-    go : (c : Bool) → inhabited (cond c (atomˢ (given g)) noType) ≡ c
-    go true = refl
-    go false = refl
-
 pub meets-first : (q r p : TypeSet) → T (inhabited (q ⊓ r)) → meets (q ⊓ r) p ≡ (meets q p && meets r p)
 meets-first q r p l = meets-sym (q ⊓ r) p ∙ meets-both p q r l ∙ rw (meets-sym p q, meets-sym p r)
 
+-- The tag of the values of a type.
+abbrev tagOf : Ty → ℕ
+tagOf (atom (number whole)) = 1
+tagOf (atom bool) = 2
+tagOf (atom (given g)) = 3
+tagOf (t ⊗ u) = 4
+tagOf (POW t) = 5
+
+pub tag-type : (v : Value) (t : Ty) → typesOf v ⊑ t → tag v ≡ tagOf t
+tag-type (scalar (num whole i)) t h = sym (ap tagOf h)
+tag-type (scalar (truth b)) t h = sym (ap tagOf h)
+tag-type (scalar (element g k)) t h = sym (ap tagOf h)
+tag-type (pair v w) (atom a) h = absurd h
+tag-type (pair v w) (POW t) h = absurd h
+tag-type (pair v w) (t ⊗ u) h = refl
+tag-type (set s) (atom a) h = absurd h
+tag-type (set s) (POW t) h = refl
+tag-type (set s) (t ⊗ u) h = absurd h
+
 -- Values of different tags share no type.
 pub tags-differ : (v w : Value) → tag v ≢ tag w → agree v w ≡ false
-unfolding agree meets
-tags-differ (scalar x) (scalar y) n = scalars-differ x y n
-tags-differ (scalar x) (pair v w) n = refl
-tags-differ (scalar x) (set vs) n = refl
-tags-differ (pair v w) (scalar x) n = refl
-tags-differ (pair v w) (pair x y) n = absurd (n refl)
-tags-differ (pair v w) (set vs) n = refl
-tags-differ (set vs) (scalar x) n = refl
-tags-differ (set vs) (pair v w) n = refl
-tags-differ (set vs) (set ws) n = absurd (n refl)
+unfolding agree
+tags-differ v w n = no-meet (typesOf v) (typesOf w) (λ x. n (tag-type v (x .0) (x .1) ∙ sym (tag-type w (x .0) (x .2))))
 
 -- The parts of two sets of types that have one in common.
 pub left-typed : (p q : TypeSet) → T (inhabited (p ⊓ q)) → T (inhabited p)
@@ -158,10 +132,6 @@ right-typed p q h =
 pub with-every : (p : TypeSet) → T (inhabited p) → T (inhabited (p ⊓ every))
 unfolding meets
 with-every p h = let r = inhabited→some p h in share→meets p every (r .0, r .1, tt)
-
-pub meets-every : (p : TypeSet) → T (inhabited p) → T (meets p every)
-unfolding meets
-meets-every p h = with-every p h
 
 -- A full value has at most one type.
 mutual
@@ -183,59 +153,21 @@ mutual
 
   ground-set : (s : Values) (t u : Ty) → FullSet s → sharedTypes s ⊑ t → sharedTypes s ⊑ u → t ≡ u
   ground-set none t u f h k = absurd f
-  ground-set (v ▸ vs) t u f h k =
-      ground v t u (f .0) (⊓-split (typesOf v) (sharedTypes vs) t h .0) (⊓-split (typesOf v) (sharedTypes vs) u k .0)
+  ground-set (v ▸ vs) t u f h k = ground v t u (f .0) (⊓-split (typesOf v) (sharedTypes vs) t h .0) (⊓-split (typesOf v) (sharedTypes vs) u k .0)
+
+-- Types of p that all or none are in q: what meets p meets those of them that are in r.
+pub narrowed : (p r q : TypeSet) → T (inhabited (p ⊓ r)) → ((t u : Ty) → p ⊑ t → p ⊑ u → q ⊑ t → q ⊑ u) → meets p q ≡ meets (p ⊓ r) q
+narrowed p r q l f =
+    bool-eq (meets p q) (meets (p ⊓ r) q)
+    (λ h. let x = meets→share p q h in
+    let y = inhabited→some (p ⊓ r) l in
+    share→meets (p ⊓ r) q (y .0, y .1, f (x .0) (y .0) (x .1) (⊓-split p r (y .0) (y .1) .0) (x .2)))
+    (λ h. let x = meets→share (p ⊓ r) q h in share→meets p q (x .0, ⊓-split p r (x .0) (x .1) .0, x .2))
 
 -- The types of a full value that has a type are that one: what meets it meets all that share its type.
 pub full-first : (v : Value) (r q : TypeSet) → Full v → T (inhabited (typesOf v ⊓ r)) → meets (typesOf v) q ≡ meets (typesOf v ⊓ r) q
-full-first v r q f l = bool-eq (meets (typesOf v) q) (meets (typesOf v ⊓ r) q) there back
-  where
-    there : T (meets (typesOf v) q) → T (meets (typesOf v ⊓ r) q)
-    there h =
-        let x = meets→share (typesOf v) q h in
-        let y = inhabited→some (typesOf v ⊓ r) l in
-        let e : y .0 ≡ x .0 = ground v (y .0) (x .0) f (⊓-split (typesOf v) r (y .0) (y .1) .0) (x .1) in
-        share→meets (typesOf v ⊓ r) q (x .0, subst (λ (t : Ty). typesOf v ⊓ r ⊑ t) e (y .1), x .2)
-
-    back : T (meets (typesOf v ⊓ r) q) → T (meets (typesOf v) q)
-    back h =
-        let x = meets→share (typesOf v ⊓ r) q h in
-        share→meets (typesOf v) q (x .0, ⊓-split (typesOf v) r (x .0) (x .1) .0, x .2)
+full-first v r q f l = narrowed (typesOf v) r q l (λ t u h k j. subst (λ (z : Ty). q ⊑ z) (ground v t u f h k) j)
 
 -- Sets of types that stand for others.
 pub meets-same : (p p′ q q′ : TypeSet) → ((x : TypeSet) → meets p x ≡ meets p′ x) → ((x : TypeSet) → meets q x ≡ meets q′ x) → meets p q ≡ meets p′ q′
 meets-same p p′ q q′ f g = f q ∙ meets-sym p′ q ∙ g p′ ∙ meets-sym q′ p′
-
--- Two sets share a type exactly where each member of one shares a type with each member of the other.
-abbrev pub WithEach : Value → Values → Type 0
-WithEach v none = Unit {0}
-WithEach v (w ▸ ws) = T (agree v w) × WithEach v ws
-
-abbrev pub EachWithEach : Values → Values → Type 0
-EachWithEach none ws = Unit {0}
-EachWithEach (v ▸ vs) ws = WithEach v ws × EachWithEach vs ws
-
-with-each : (v : Value) (ws : Values) → T (inhabited (typesOf v)) → T (inhabited (sharedTypes ws)) → T (meets (typesOf v) (sharedTypes ws)) ↔ WithEach v ws
-unfolding agree
-with-each v none l m = ((λ h. tt), (λ h. meets-every (typesOf v) l))
-with-each v (w ▸ ws) l m =
-    let e = meets-both (typesOf v) (typesOf w) (sharedTypes ws) m in
-    let r = with-each v ws l (right-typed (typesOf w) (sharedTypes ws) m) in (
-      (λ h. let k = and-split (meets (typesOf v) (typesOf w)) (meets (typesOf v) (sharedTypes ws)) (subst T e h) in (k .0, r .0 (k .1))),
-      (λ h. subst T (sym e) (and-of (meets (typesOf v) (typesOf w)) (meets (typesOf v) (sharedTypes ws)) (h .0) (r .1 (h .1)))),
-    )
-
-each-with-each : (vs ws : Values) → T (inhabited (sharedTypes vs)) → T (inhabited (sharedTypes ws)) →
-    T (meets (sharedTypes vs) (sharedTypes ws)) ↔ EachWithEach vs ws
-each-with-each none ws l m = ((λ h. tt), (λ h. subst T (meets-sym (sharedTypes ws) every) (meets-every (sharedTypes ws) m)))
-each-with-each (v ▸ vs) ws l m =
-    let e = meets-first (typesOf v) (sharedTypes vs) (sharedTypes ws) l in
-    let q = with-each v ws (left-typed (typesOf v) (sharedTypes vs) l) m in
-    let r = each-with-each vs ws (right-typed (typesOf v) (sharedTypes vs) l) m in (
-      (λ h. let k = and-split (meets (typesOf v) (sharedTypes ws)) (meets (sharedTypes vs) (sharedTypes ws)) (subst T e h) in (q .0 (k .0), r .0 (k .1))),
-      (λ h. subst T (sym e) (and-of (meets (typesOf v) (sharedTypes ws)) (meets (sharedTypes vs) (sharedTypes ws)) (q .1 (h .0)) (r .1 (h .1)))),
-    )
-
-pub sets-agree : (vs ws : Values) → T (typed (set vs)) → T (typed (set ws)) → T (agree (set vs) (set ws)) ↔ EachWithEach vs ws
-unfolding agree meets typed
-sets-agree vs ws l m = each-with-each vs ws l m

@@ -1,7 +1,7 @@
 -- Refusal 15 at the lists of operand types that the rules have, as questions on the types of the operands.
 use Prim.Native.Nat.{ℕ, _+_, _-_, _/_, _%_, _<_}
 use mathlib.Core.Bool.{Bool, true, false, _&&_}
-use mathlib.Core.List.{List, [], _∷_, append-nil}
+use mathlib.Core.List.{List, [], _∷_}
 use mathlib.Core.Logic.{_≢_, inl, inr}
 use mathlib.Core.Path.{_≡_, refl, sym, ap, _∙_, subst}
 use native.Mathlib.Omega.{arith}
@@ -9,16 +9,16 @@ use lib.Dec.{T, eqb, eqb→eq}
 use lib.ListN.{getD}
 use borrow.Author.Tests.{eq-eqb, ne-eqb, eqb-true}
 use Rattle.rules.specs.Types.{whole, Ty, atom, POW, _⊗_, INTEGER}
-use Rattle.rules.specs.Values.{num, truth, element, Value, scalar, pair, set, Values, none, _▸_, tag, weight}
+use Rattle.rules.specs.Values.{num, truth, element, Value, scalar, pair, set, Values, none, _▸_, scalarTag, tag, weight}
 use Rattle.rules.specs.Rules.{Pattern, t̂, û, P̂, _×̂_, numᵖ, inst}
 use Rattle.rules.specs.Fits.{HasType, TypeSet, every, noType, _×ˢ_, _⊓_, typesOf, sharedTypes, inhabited, fits}
 use Rattle.laws.proofs.FitsLaws.{_⊑_, ⊓-split, has→types, types→has, have→sharedTypes, sharedTypes→have, inhabited→some, some→inhabited, fits-right}
-use Rattle.arena.specs.Code.{cellSize, code, Stands, EndsAt}
+use Rattle.arena.specs.Code.{cellSize, EndsAt}
 use Rattle.fitting.specs.Agree.{meets, agree, TypedAt, RunAt, SomeTyped, Agreed, AgreedWith, Full, Few, Members, SetHere}
 use Rattle.fitting.specs.Tests.{FitOne, FitTwo, Both, anyPair, Pairs, AgreedLefts}
-use Rattle.fitting.proofs.Sharing.{is-true, Share, meets→share, share→meets, meets-sym, meets-first, with-every, ground}
-use Rattle.arena.proofs.ValueParts.{first-cell}
-use Rattle.fitting.proofs.Cells.{as-set, as-pair, as-run, no-run, end-is}
+use Rattle.fitting.proofs.Sharing.{meets→share, share→meets, no-meet, meets-sym, meets-first, tag-type, with-every, ground, narrowed}
+use Rattle.laws.proofs.EndLaws.{T-true}
+use Rattle.fitting.proofs.Cells.{scalar-low, as-set, as-pair, as-run, no-run, run-of, run-end, end-is, tag-is}
 use Rattle.rules.proofs.Basics.{absurd01, and-of, and-split, bool-eq}
 
 -- The types of a set's members; none where the value is no set.
@@ -39,11 +39,7 @@ to-pow (set vs) t h = sharedTypes→have vs t h
 
 -- Numbers.
 number-asked : (v : Value) → HasType v INTEGER → T (eqb (tag v) 1)
-number-asked (scalar (num whole i)) h = tt
-number-asked (scalar (truth b)) h = absurd (absurd01 (cc))
-number-asked (scalar (element g k)) h = absurd (absurd01 (cc))
-number-asked (pair v w) h = absurd h
-number-asked (set vs) h = absurd h
+number-asked v h = rw (tag-type v INTEGER (has→types v INTEGER h)) tt
 
 asked-number : (v : Value) → tag v ≡ 1 → HasType v INTEGER
 asked-number (scalar (num whole i)) e = refl
@@ -133,18 +129,13 @@ module _ (v : Value) where
       (y .0, y .1, to-pow v (y .0 ⊗ y .1) (subst (λ (t : Ty). inner v ⊑ t) (y .2) (x .1))))
 
 -- Values of the arena by what the tests ask.
-no-meet : (p q : TypeSet) → (Share p q → ⊥) → meets p q ≡ false
-no-meet p q n = bool-eq (meets p q) false (λ h. n (meets→share p q h)) (λ h. absurd h)
-
 pub set-cell : (s : List ℕ) (a : ℕ) (v : Value) → TypedAt s a v → eqb (getD s a 0 / cellSize) 5 ≡ inhabited (inner v)
-set-cell s a v h = rw (first-cell s a v (h .stands) (h .fits) .0) (go v (h .typed))
+set-cell s a v h = rw (tag-is h) (go v (h .typed))
   where
     go : (v : Value) → T (inhabited (typesOf v)) → eqb (tag v) 5 ≡ inhabited (inner v)
-    go (scalar (num whole i)) k = refl
-    go (scalar (truth b)) k = refl
-    go (scalar (element g i)) k = refl
+    go (scalar x) k = ne-eqb (scalarTag x) 5 (λ e. omega (arith, scalar-low x))
     go (pair x y) k = refl
-    go (set vs) k = sym (is-true (inhabited (sharedTypes vs)) k)
+    go (set vs) k = sym (T-true (inhabited (sharedTypes vs)) .0 k)
 
 pub is-set : (s : List ℕ) (a : ℕ) → FitOne (P̂ t̂ ∷ []) s a (eqb (getD s a 0 / cellSize) 5)
 is-set s a v h = set-cell s a v h ∙ sym (fits-set v)
@@ -176,8 +167,7 @@ module _ (s : List ℕ) (a b : ℕ) where
 
   -- membership
   pub belongs-not : (r : Bool) → FitOne (P̂ t̂ ∷ []) s b r → r ≡ false → FitTwo (t̂ ∷ P̂ t̂ ∷ []) s a b false
-  belongs-not r f e v w h k =
-      sym (fits-belongs v w ∙ no-meet (typesOf v) (inner w) (λ x. no-inner s b r f w k e (x .0) (x .2)))
+  belongs-not r f e v w h k = sym (fits-belongs v w ∙ no-meet (typesOf v) (inner w) (λ x. no-inner s b r f w k e (x .0) (x .2)))
 
   pub belongs-fits : (m : ℕ) (r : Bool) → SetHere s b → Members s b m → AgreedWith s a (b + 1) m r → FitTwo (t̂ ∷ P̂ t̂ ∷ []) s a b r
   belongs-fits m r p c g v w h k =
@@ -190,8 +180,7 @@ module _ (s : List ℕ) (a b : ℕ) where
 
   -- two sets
   pub alike-sets-not : (r : Bool) → FitOne (P̂ t̂ ∷ []) s a r → r ≡ false → FitTwo (P̂ t̂ ∷ P̂ t̂ ∷ []) s a b false
-  alike-sets-not r f e v w h k =
-      sym (fits-alike-sets v w ∙ no-meet (inner v) (inner w) (λ x. no-inner s a r f v h e (x .0) (x .1)))
+  alike-sets-not r f e v w h k = sym (fits-alike-sets v w ∙ no-meet (inner v) (inner w) (λ x. no-inner s a r f v h e (x .0) (x .1)))
 
   pub alike-sets-fit : (r : Bool) → SetHere s a → Agreed s a b r → FitTwo (P̂ t̂ ∷ P̂ t̂ ∷ []) s a b r
   alike-sets-fit r p g v w h k =
@@ -207,25 +196,16 @@ module _ (s : List ℕ) (a b : ℕ) where
 
   -- numbers
   pub numbers-not : getD s a 0 / cellSize ≢ 1 → FitTwo (numᵖ whole ∷ numᵖ whole ∷ []) s a b false
-  numbers-not n v w h k =
-      let e = first-cell s a v (h .stands) (h .fits) .0 in
-      sym (fits-numbers v w ∙ rw (ne-eqb (tag v) 1 (λ f. n (e ∙ f))))
+  numbers-not n v w h k = sym (fits-numbers v w ∙ rw (ne-eqb (tag v) 1 (λ f. n (tag-is h ∙ f))))
 
   pub numbers-fit : getD s a 0 / cellSize ≡ 1 → FitTwo (numᵖ whole ∷ numᵖ whole ∷ []) s a b (eqb (getD s b 0 / cellSize) 1)
-  numbers-fit m v w h k =
-      let e = first-cell s a v (h .stands) (h .fits) .0 in
-      let f = first-cell s b w (k .stands) (k .fits) .0 in
-      sym (fits-numbers v w ∙ rw (eq-eqb (tag v) 1 (sym e ∙ m), f))
+  numbers-fit m v w h k = sym (fits-numbers v w ∙ rw (eq-eqb (tag v) 1 (sym (tag-is h) ∙ m), tag-is k))
 
 -- A value with a product type is a pair.
 product-tag : (v : Value) (t : Ty) → typesOf v ⊑ t → anyPair ⊑ t → tag v ≡ 4
-product-tag (scalar x) (atom a) h k = absurd k
-product-tag (scalar x) (POW t) h k = absurd k
-product-tag (scalar x) (t ⊗ u) h k = absurd (absurd01 (cc))
-product-tag (pair x y) t h k = refl
-product-tag (set vs) (atom a) h k = absurd k
-product-tag (set vs) (POW t) h k = absurd k
-product-tag (set vs) (t ⊗ u) h k = absurd h
+product-tag v (atom a) h k = absurd k
+product-tag v (POW t) h k = absurd k
+product-tag v (t ⊗ u) h k = tag-type v (t ⊗ u) h
 
 tag-product : (v : Value) (t : Ty) → tag v ≡ 4 → typesOf v ⊑ t → anyPair ⊑ t
 tag-product (scalar (num whole i)) t e h = absurd (omega arith)
@@ -262,29 +242,7 @@ module _ (s : List ℕ) (a : ℕ) where
   relation-first t n v h =
       let x = as-set s a v h t in
       let y = as-run s (a + 1) (getD s a 0 % cellSize) (x .0) (x .2) (omega arith) in
-      let e = first-cell s (a + 1) (y .0) (y .3 .stands) (y .3 .fits) .0 in
-      rw (fits-relation v, x .1, y .2, e) (first-pair (y .0) (sharedTypes (y .1)) (rw (y .2) at (x .2 .typed)))
-
--- The first of some pairs, and the rest.
-pub as-pairs : (s : List ℕ) (i n : ℕ) (vs : Values) → RunAt s i n vs → T (meets (sharedTypes vs) anyPair) → 0 < n →
-    (y : Value) × (z : Value) × (ys : Values) × (vs ≡ pair y z ▸ ys) × TypedAt s i (pair y z) ×
-    TypedAt s (i + 1) y × RunAt s (i + weight (pair y z)) (n - 1) ys × T (meets (sharedTypes ys) anyPair)
-as-pairs s i n vs h k l =
-    let x = as-run s i n vs h l in
-    let m : T (meets (typesOf (x .0) ⊓ sharedTypes (x .1)) anyPair) = rw (x .2) at k in
-    let y = meets→share (typesOf (x .0) ⊓ sharedTypes (x .1)) anyPair m in
-    let d = ⊓-split (typesOf (x .0)) (sharedTypes (x .1)) (y .0) (y .1) in
-    let t = product-tag (x .0) (y .0) (d .0) (y .2) in
-    let p = as-pair s i (x .0) (x .3) (first-cell s i (x .0) (x .3 .stands) (x .3 .fits) .0 ∙ t) in (
-      p .0,
-      p .1,
-      x .1,
-      x .2 ∙ ap (λ (z : Value). z ▸ x .1) (p .2),
-      subst (λ (z : Value). TypedAt s i z) (p .2) (x .3),
-      p .3,
-      subst (λ (z : Value). RunAt s (i + weight z) (n - 1) (x .1)) (p .2) (x .4),
-      share→meets (sharedTypes (x .1)) anyPair (y .0, d .1, y .2),
-    )
+      rw (fits-relation v, x .1, y .2, tag-is (y .3)) (first-pair (y .0) (sharedTypes (y .1)) (rw (y .2) at (x .2 .typed)))
 
 and-true : (a b : Bool) → T b → (a && b) ≡ a
 and-true true true h = refl
@@ -296,27 +254,43 @@ left-meets : (y z w : Value) → T (inhabited (typesOf z)) → meets (typesOf (p
 unfolding agree meets
 left-meets y z w h = and-true (inhabited (typesOf y ⊓ typesOf w)) (inhabited (typesOf z ⊓ every)) (with-every (typesOf z) h)
 
+-- The first of some pairs, and the rest.
+pub as-pairs : (s : List ℕ) (i n : ℕ) (vs : Values) → RunAt s i n vs → T (meets (sharedTypes vs) anyPair) → 0 < n →
+    (y : Value) × (z : Value) × (ys : Values) × (vs ≡ pair y z ▸ ys) × TypedAt s i (pair y z) ×
+    TypedAt s (i + 1) y × RunAt s (i + weight (pair y z)) (n - 1) ys × T (meets (sharedTypes ys) anyPair) ×
+    ((w : Value) → meets (sharedTypes vs) (typesOf w ×ˢ every) ≡ (agree y w && meets (sharedTypes ys) (typesOf w ×ˢ every)))
+as-pairs s i n vs h k l =
+    let x = as-run s i n vs h l in
+    let m : T (meets (typesOf (x .0) ⊓ sharedTypes (x .1)) anyPair) = rw (x .2) at k in
+    let y = meets→share (typesOf (x .0) ⊓ sharedTypes (x .1)) anyPair m in
+    let d = ⊓-split (typesOf (x .0)) (sharedTypes (x .1)) (y .0) (y .1) in
+    let p = as-pair s i (x .0) (x .3) (tag-is (x .3) ∙ product-tag (x .0) (y .0) (d .0) (y .2)) in
+    let e : vs ≡ pair (p .0) (p .1) ▸ x .1 = x .2 ∙ ap (λ (z : Value). z ▸ x .1) (p .2) in (
+      p .0,
+      p .1,
+      x .1,
+      e,
+      subst (λ (z : Value). TypedAt s i z) (p .2) (x .3),
+      p .3,
+      subst (λ (z : Value). RunAt s (i + weight z) (n - 1) (x .1)) (p .2) (x .4),
+      share→meets (sharedTypes (x .1)) anyPair (y .0, d .1, y .2),
+      λ w. ap (λ (c : Values). meets (sharedTypes c) (typesOf w ×ˢ every)) e ∙
+          meets-first (typesOf (pair (p .0) (p .1))) (sharedTypes (x .1)) (typesOf w ×ˢ every) (rw e at (h .typed)) ∙
+          rw (left-meets (p .0) (p .1) w (p .4 .typed)),
+    )
+
 module _ (s : List ℕ) (i n b : ℕ) where
   pub lefts-end : n ≡ 0 → AgreedLefts s i n b true
-  unfolding meets
-  lefts-end e vs w h k q =
-      let f : vs ≡ none = no-run vs h e in
-      rw f (sym (is-true (inhabited (typesOf w) && true) (and-of (inhabited (typesOf w)) true (q .typed) tt)))
+  lefts-end e vs w h k q = run-end s i n (typesOf w ×ˢ every) e (and-of (inhabited (typesOf w)) true (q .typed) tt) vs h
 
   pub lefts-false : 0 < n → Agreed s (i + 1) b false → AgreedLefts s i n b false
-  lefts-false l g vs w h k q =
-      let x = as-pairs s i n vs h k l in
-      let p = and-split (inhabited (typesOf (x .0))) (inhabited (typesOf (x .1))) (x .4 .typed) in
-      let m = meets-first (typesOf (pair (x .0) (x .1))) (sharedTypes (x .2)) (typesOf w ×ˢ every) (rw (x .3) at (h .typed)) in
-      rw (x .3, m, left-meets (x .0) (x .1) w (p .1), ← g (x .0) w (x .5) q)
+  lefts-false l g vs w h k q = let x = as-pairs s i n vs h k l in rw (x .8 w, ← g (x .0) w (x .5) q)
 
   pub lefts-step : (j : ℕ) (r : Bool) → 0 < n → Agreed s (i + 1) b true → EndsAt s i j → AgreedLefts s j (n - 1) b r → AgreedLefts s i n b r
   lefts-step j r l g e t vs w h k q =
       let x = as-pairs s i n vs h k l in
-      let p = and-split (inhabited (typesOf (x .0))) (inhabited (typesOf (x .1))) (x .4 .typed) in
-      let m = meets-first (typesOf (pair (x .0) (x .1))) (sharedTypes (x .2)) (typesOf w ×ˢ every) (rw (x .3) at (h .typed)) in
       let f : j ≡ i + weight (pair (x .0) (x .1)) = end-is e (x .4) in
-      rw (x .3, m, left-meets (x .0) (x .1) w (p .1), ← g (x .0) w (x .5) q) (t (x .2) w (rw f (x .6)) (x .7) q)
+      rw (x .8 w, ← g (x .0) w (x .5) q) (t (x .2) w (rw f (x .6)) (x .7) q)
 
   pub pairs-first : Pairs s i n b → 0 < n → SomeTyped s i × SomeTyped s (i + 1)
   pairs-first p l = let x = as-pairs s i n (p .values) (p .run) (p .pairs) l in ((pair (x .0) (x .1), x .4), (x .0, x .5))
@@ -330,18 +304,15 @@ module _ (s : List ℕ) (i n b : ℕ) where
 -- Where the left part of a pair is full, what it agrees with agrees with the left parts of all.
 full-left : (y z w : Value) (r : TypeSet) → Full y → T (inhabited (typesOf (pair y z) ⊓ r)) →
     meets (typesOf (pair y z)) (typesOf w ×ˢ every) ≡ meets (typesOf (pair y z) ⊓ r) (typesOf w ×ˢ every)
-full-left y z w r f l =
-    bool-eq (meets (typesOf (pair y z)) (typesOf w ×ˢ every)) (meets (typesOf (pair y z) ⊓ r) (typesOf w ×ˢ every))
-    (λ h. let x = meets→share (typesOf (pair y z)) (typesOf w ×ˢ every) h in
-    let p = as-product (typesOf y) (typesOf z) (x .0) (x .1) in
-    let a = inhabited→some (typesOf (pair y z) ⊓ r) l in
-    let q = as-product (typesOf y) (typesOf z) (a .0) (⊓-split (typesOf (pair y z)) r (a .0) (a .1) .0) in
-    let e : p .0 ≡ q .0 = ground y (p .0) (q .0) f (p .3) (q .3) in
-    let k : (typesOf w ×ˢ every) ⊑ (p .0 ⊗ p .1) = subst (λ (t : Ty). (typesOf w ×ˢ every) ⊑ t) (p .2) (x .2) in
-    share→meets (typesOf (pair y z) ⊓ r) (typesOf w ×ˢ every)
-    (q .0 ⊗ q .1, subst (λ (t : Ty). typesOf (pair y z) ⊓ r ⊑ t) (q .2) (a .1), (subst (λ (t : Ty). typesOf w ⊑ t) e (k .0), tt)))
-    (λ h. let x = meets→share (typesOf (pair y z) ⊓ r) (typesOf w ×ˢ every) h in
-    share→meets (typesOf (pair y z)) (typesOf w ×ˢ every) (x .0, ⊓-split (typesOf (pair y z)) r (x .0) (x .1) .0, x .2))
+full-left y z w r f l = narrowed (typesOf (pair y z)) r (typesOf w ×ˢ every) l lefts
+  where
+    lefts : (t u : Ty) → typesOf (pair y z) ⊑ t → typesOf (pair y z) ⊑ u → (typesOf w ×ˢ every) ⊑ t → (typesOf w ×ˢ every) ⊑ u
+    lefts t u h k j =
+        let p = as-product (typesOf y) (typesOf z) t h in
+        let q = as-product (typesOf y) (typesOf z) u k in
+        let a : (typesOf w ×ˢ every) ⊑ (p .0 ⊗ p .1) = subst (λ (x : Ty). (typesOf w ×ˢ every) ⊑ x) (p .2) j in
+        let e : p .0 ≡ q .0 = ground y (p .0) (q .0) f (p .3) (q .3) in
+        subst (λ (x : Ty). (typesOf w ×ˢ every) ⊑ x) (sym (q .2)) (subst (λ (x : Ty). typesOf w ⊑ x) e (a .0), tt)
 
 -- The first k of some pairs have left parts that stand for all.
 record LeftsFor (s : List ℕ) (at k : ℕ) (vs : Values) : Type 0 where
@@ -351,69 +322,55 @@ record LeftsFor (s : List ℕ) (at k : ℕ) (vs : Values) : Type 0 where
   same : (w : Value) → meets (sharedTypes few) (typesOf w ×ˢ every) ≡ meets (sharedTypes vs) (typesOf w ×ˢ every)
 
 few-lefts : (s : List ℕ) (at n k : ℕ) (vs : Values) → RunAt s at n vs → T (meets (sharedTypes vs) anyPair) → Few s (at + 1) n k → LeftsFor s at k vs
-unfolding code
 few-lefts s at n k vs h p (inl e) = record { few = vs; run = rw e h; pairs = p; same = λ w. refl }
 few-lefts s at n k vs h p (inr f) =
     let x = as-pairs s at n vs h p (f .1) in
     let y = x .0 in
     let z = x .1 in
     let u : Full y = f .2 y (x .5) in
-    let l : T (inhabited (typesOf (pair y z) ⊓ every)) = with-every (typesOf (pair y z)) (x .4 .typed) in
+    let l = run-of (pair y z) (x .4) in
     record {
       few = pair y z ▸ none;
-      run = rw (f .0) (record {
-        stands = subst (λ (c : List ℕ). Stands s at c) (sym (append-nil (code (pair y z)))) (x .4 .stands);
-        fits = (x .4 .fits, tt);
-        typed = l;
-        counted = refl;
-      });
-      pairs = sym-pair y z l;
-      same = λ w. sym (full-left y z w every u l) ∙ full-left y z w (sharedTypes (x .2)) u (rw (x .3) at (h .typed)) ∙
+      run = rw (f .0) l;
+      pairs = subst T (first-pair (pair y z) every (l .typed)) tt;
+      same = λ w. sym (full-left y z w every u (l .typed)) ∙ full-left y z w (sharedTypes (x .2)) u (rw (x .3) at (h .typed)) ∙
           ap (λ (c : Values). meets (sharedTypes c) (typesOf w ×ˢ every)) (sym (x .3));
     }
-  where
-    sym-pair : (y z : Value) → T (inhabited (typesOf (pair y z) ⊓ every)) → T (meets (sharedTypes (pair y z ▸ none)) anyPair)
-    sym-pair y z l = subst T (first-pair (pair y z) every l) tt
 
 -- Relations and arguments.
-module _ (s : List ℕ) (a : ℕ) (q : Bool) (f : FitOne (P̂ (t̂ ×̂ û) ∷ []) s a q) where
-  pub applies-not : (b : ℕ) → q ≡ false → FitTwo (P̂ (t̂ ×̂ û) ∷ t̂ ∷ []) s a b false
-  applies-not b e v w h k =
-      sym (fits-applies v w ∙ no-meet (inner v) (typesOf w ×ˢ every) (λ x.
-      let p = as-product (typesOf w) every (x .0) (x .2) in
-      subst T (sym (f v h ∙ fits-relation v) ∙ e)
-      (share→meets (inner v) anyPair (x .0, x .1, subst (λ (t : Ty). anyPair ⊑ t) (sym (p .2)) (tt, tt)))))
+pub applies-not : (s : List ℕ) (a b : ℕ) → FitOne (P̂ (t̂ ×̂ û) ∷ []) s a false → FitTwo (P̂ (t̂ ×̂ û) ∷ t̂ ∷ []) s a b false
+applies-not s a b f v w h k =
+    sym (fits-applies v w ∙ no-meet (inner v) (typesOf w ×ˢ every) (λ x.
+    let p = as-product (typesOf w) every (x .0) (x .2) in
+    subst T (sym (f v h ∙ fits-relation v)) (share→meets (inner v) anyPair (x .0, x .1, subst (λ (t : Ty). anyPair ⊑ t) (sym (p .2)) (tt, tt)))))
 
-  -- a relation is a set of pairs
-  module _ (yes : q ≡ true) where
-    pub relation-set : (v : Value) → TypedAt s a v → getD s a 0 / cellSize ≡ 5
-    relation-set v h =
-        let x = meets→share (inner v) anyPair (subst T (sym (sym (f v h ∙ fits-relation v) ∙ yes)) tt) in
-        eqb-true (getD s a 0 / cellSize) 5 (set-cell s a v h ∙ is-true (inhabited (inner v)) (some→inhabited (inner v) (x .0) (x .1)))
+-- A relation is a set of pairs.
+module _ (s : List ℕ) (a : ℕ) (f : FitOne (P̂ (t̂ ×̂ û) ∷ []) s a true) where
+  relation-pairs : (v : Value) → TypedAt s a v →
+      (vs : Values) × (v ≡ set vs) × RunAt s (a + 1) (getD s a 0 % cellSize) vs × T (meets (sharedTypes vs) anyPair)
+  relation-pairs v h =
+      let m = subst T (f v h ∙ fits-relation v) tt in
+      let y = meets→share (inner v) anyPair m in
+      let i = T-true (inhabited (inner v)) .0 (some→inhabited (inner v) (y .0) (y .1)) in
+      let x = as-set s a v h (eqb-true (getD s a 0 / cellSize) 5 (set-cell s a v h ∙ i)) in
+      (x .0, x .1, x .2, subst (λ (w : Value). T (meets (inner w) anyPair)) (x .1) m)
 
-    pub relation-pairs : (v : Value) → TypedAt s a v →
-        (vs : Values) × (v ≡ set vs) × RunAt s (a + 1) (getD s a 0 % cellSize) vs × T (meets (sharedTypes vs) anyPair)
-    relation-pairs v h =
-        let x = as-set s a v h (relation-set v h) in
-        let e : inner v ≡ sharedTypes (x .0) = ap inner (x .1) in
-        (x .0, x .1, x .2, subst T (sym (sym (f v h ∙ fits-relation v) ∙ yes) ∙ ap (λ (p : TypeSet). meets p anyPair) e) tt)
+  pub relation-left : (n : ℕ) → n ≡ getD s a 0 % cellSize → SomeTyped s a → 0 < n → SomeTyped s (a + 1 + 1)
+  relation-left n e v l =
+      let x = relation-pairs (v .0) (v .1) in
+      let y = as-pairs s (a + 1) (getD s a 0 % cellSize) (x .0) (x .2) (x .3) (omega arith) in
+      (y .0, y .5)
 
-    pub relation-left : (n : ℕ) → n ≡ getD s a 0 % cellSize → SomeTyped s a → 0 < n → SomeTyped s (a + 1 + 1)
-    relation-left n e v l =
-        let x = relation-pairs (v .0) (v .1) in
-        let y = as-pairs s (a + 1) (getD s a 0 % cellSize) (x .0) (x .2) (x .3) (omega arith) in
-        (y .0, y .5)
+  pub relation-few : (b n k : ℕ) → n ≡ getD s a 0 % cellSize → Both s a b → Few s (a + 1 + 1) n k → Pairs s (a + 1) k b
+  relation-few b n k e p g =
+      let x = relation-pairs (p .first .0) (p .first .1) in
+      let y = few-lefts s (a + 1) n k (x .0) (rw e (x .2)) (x .3) g in
+      record { values = y .few; run = y .run; pairs = y .pairs; second = p .second }
 
-    pub relation-few : (b n k : ℕ) → n ≡ getD s a 0 % cellSize → Both s a b → Few s (a + 1 + 1) n k → Pairs s (a + 1) k b
-    relation-few b n k e p g =
-        let x = relation-pairs (p .first .0) (p .first .1) in
-        let y = few-lefts s (a + 1) n k (x .0) (rw e (x .2)) (x .3) g in
-        record { values = y .few; run = y .run; pairs = y .pairs; second = p .second }
-
-    pub applies-fit : (b n k : ℕ) (r : Bool) → n ≡ getD s a 0 % cellSize → Few s (a + 1 + 1) n k → AgreedLefts s (a + 1) k b r →
-        FitTwo (P̂ (t̂ ×̂ û) ∷ t̂ ∷ []) s a b r
-    applies-fit b n k r e g t v w h j =
-        let x = relation-pairs v h in
-        let y = few-lefts s (a + 1) n k (x .0) (rw e (x .2)) (x .3) g in
-        let i : inner v ≡ sharedTypes (x .0) = ap inner (x .1) in
-        t (y .few) w (y .run) (y .pairs) j ∙ y .same w ∙ ap (λ (p : TypeSet). meets p (typesOf w ×ˢ every)) (sym i) ∙ sym (fits-applies v w)
+  pub applies-fit : (b n k : ℕ) (r : Bool) → n ≡ getD s a 0 % cellSize → Few s (a + 1 + 1) n k → AgreedLefts s (a + 1) k b r →
+      FitTwo (P̂ (t̂ ×̂ û) ∷ t̂ ∷ []) s a b r
+  applies-fit b n k r e g t v w h j =
+      let x = relation-pairs v h in
+      let y = few-lefts s (a + 1) n k (x .0) (rw e (x .2)) (x .3) g in
+      let i : inner v ≡ sharedTypes (x .0) = ap inner (x .1) in
+      t (y .few) w (y .run) (y .pairs) j ∙ y .same w ∙ ap (λ (p : TypeSet). meets p (typesOf w ×ˢ every)) (sym i) ∙ sym (fits-applies v w)

@@ -11,7 +11,7 @@ use borrow.Author.Tests.{eq-eqb, ne-eqb, eqb-true}
 use Rattle.rules.specs.Types.{whole, Atom, number, bool, given, Ty, atom, POW, _⊗_, atomCode, weightᵀ, prefix, row}
 use Rattle.rules.specs.Values.{Scalar, num, truth, element, Value, scalar, pair, set, Values, none, _▸_, scalarTag, count, weight}
 use Rattle.rules.specs.Fits.{atomOf, HasType, HaveType}
-use Rattle.rules.proofs.TypeLaws.{weight-positive, prefix-length, prefixes}
+use Rattle.rules.proofs.TypeLaws.{weight-positive, prefix-length, prefixes, atomCode-injective}
 use Rattle.arena.specs.Code.{cellSize, scalarLow, Stands, ValueAt, ValuesAt, ScalarFits, CellsFit, AllFit, SomeAt, EndsAt}
 use Rattle.arena.proofs.Standing.{stands-head, stands-tail, stands-front, stands-back}
 use Rattle.fitting.specs.Types.{TypeAt, SomeType, TypeEnds, typeParts, Decides, atomIs, OfType, AllOfType, PartsOfType, ValuesAndType, PartsAndTypes}
@@ -92,30 +92,15 @@ module _ (row : List ℕ) (i e : ℕ) where
       PendingTypes row (i + 1) (left - 1 + typeParts (getD row i 0)) e
   unfolding prefixes widths
   step-on (atom a) ts left c h en =
-      let hd = stands-head row i (atomCode a) (prefixes ts) h in
-      record {
-        types = ts;
-        counted = rw (hd, parts-atom (atomCode a) (atom-code a .0) (atom-code a .1)) (omega arith);
-        codes = stands-tail row i (atomCode a) (prefixes ts) h;
-        ends = omega arith;
-      }
+      let q = ap typeParts (stands-head row i (atomCode a) (prefixes ts) h) ∙ parts-atom (atomCode a) (atom-code a .0) (atom-code a .1) in
+      record { types = ts; counted = rw q (omega arith); codes = stands-tail row i (atomCode a) (prefixes ts) h; ends = omega arith }
   step-on (POW u) ts left c h en =
-      let hd = stands-head row i 3 (prefix u ++ prefixes ts) h in
-      record {
-        types = u ∷ ts;
-        counted = rw (hd, parts-pow 3 refl) (omega arith);
-        codes = stands-tail row i 3 (prefix u ++ prefixes ts) h;
-        ends = omega arith;
-      }
+      let q = ap typeParts (stands-head row i 3 (prefix u ++ prefixes ts) h) in
+      record { types = u ∷ ts; counted = rw q (omega arith); codes = stands-tail row i 3 (prefix u ++ prefixes ts) h; ends = omega arith }
   step-on (u ⊗ w) ts left c h en =
-      let hd = stands-head row i 4 ((prefix u ++ prefix w) ++ prefixes ts) h in
-      record {
-        types = u ∷ w ∷ ts;
-        counted = rw (hd, parts-product 4 (λ x. omega arith) refl) (omega arith);
-        codes = subst (λ (l : List ℕ). Stands row (i + 1) l) (append-assoc (prefix u) (prefix w) (prefixes ts))
-            (stands-tail row i 4 ((prefix u ++ prefix w) ++ prefixes ts) h);
-        ends = omega arith;
-      }
+      let q = ap typeParts (stands-head row i 4 ((prefix u ++ prefix w) ++ prefixes ts) h) in
+      let k = stands-tail row i 4 ((prefix u ++ prefix w) ++ prefixes ts) h in
+      record { types = u ∷ w ∷ ts; counted = rw q (omega arith); codes = rw append-assoc at k; ends = omega arith }
 
   pub types-step : (left : ℕ) → PendingTypes row i left e → 0 < left → PendingTypes row (i + 1) (left - 1 + typeParts (getD row i 0)) e
   unfolding prefixes widths
@@ -157,40 +142,24 @@ pub atom-other : (x c t : ℕ) → t ≡ x / cellSize → t ≢ 3 → eqb t c �
 atom-other x c t e n = rw (ne-eqb (x / cellSize) 3 (λ f. n (e ∙ f)), e)
 
 -- The code of a type without parts tells the type.
-head-number : (t : Ty) → head t ≡ 1 → t ≡ atom (number whole)
-head-number (atom (number whole)) e = refl
-head-number (atom bool) e = absurd (omega arith)
-head-number (atom (given g)) e = absurd (omega arith)
-head-number (POW t) e = absurd (omega arith)
-head-number (t ⊗ u) e = absurd (omega arith)
+head-atom : (a : Atom) (t : Ty) → head t ≡ atomCode a → t ≡ atom a
+head-atom a (atom b) e = ap atom (atomCode-injective b a e)
+head-atom a (POW t) e = absurd (atom-code a .0 (sym e))
+head-atom a (t ⊗ u) e = absurd (atom-code a .1 (sym e))
 
-head-bool : (t : Ty) → head t ≡ 2 → t ≡ atom bool
-head-bool (atom (number whole)) e = absurd (omega arith)
-head-bool (atom bool) e = refl
-head-bool (atom (given g)) e = absurd (omega arith)
-head-bool (POW t) e = absurd (omega arith)
-head-bool (t ⊗ u) e = absurd (omega arith)
-
-head-given : (t : Ty) (g : ℕ) → head t ≡ g + 16 → t ≡ atom (given g)
-head-given (atom (number whole)) g e = absurd (omega arith)
-head-given (atom bool) g e = absurd (omega arith)
-head-given (atom (given h)) g e = let f : h ≡ g = omega arith in ap (λ (k : ℕ). atom (given k)) f
-head-given (POW t) g e = absurd (omega arith)
-head-given (t ⊗ u) g e = absurd (omega arith)
-
--- a test of numbers decides an equation
-by-code : (m n : ℕ) (t u : Ty) → (n ≡ m → t ≡ u) → (t ≡ u → m ≡ n) → Decides (eqb m n) (t ≡ u)
-by-code m n t u f g = record { sound = λ e. f (sym (eqb-true m n e)); complete = λ e. eq-eqb m n (g e) }
+code-decides : (a : Atom) (t : Ty) → Decides (eqb (atomCode a) (head t)) (t ≡ atom a)
+code-decides a t = record {
+  sound = λ e. head-atom a t (sym (eqb-true (atomCode a) (head t) e));
+  complete = λ e. eq-eqb (atomCode a) (head t) (sym (ap head e));
+}
 
 scalar-decides : (x : Scalar) (t : Ty) (c : ℕ) → ScalarFits x → c / cellSize ≡ scalarTag x → c % cellSize ≡ scalarLow x →
     Decides (atomIs c (head t)) (t ≡ atom (atomOf x))
-scalar-decides (num whole i) t c f e l =
-    rw (ne-eqb (c / cellSize) 3 (λ z. omega arith), e) (by-code 1 (head t) t (atom (number whole)) (head-number t) (λ z. sym (ap head z)))
-scalar-decides (truth b) t c f e l =
-    rw (ne-eqb (c / cellSize) 3 (λ z. omega arith), e) (by-code 2 (head t) t (atom bool) (head-bool t) (λ z. sym (ap head z)))
+scalar-decides (num whole i) t c f e l = rw e (code-decides (number whole) t)
+scalar-decides (truth b) t c f e l = rw e (code-decides bool t)
 scalar-decides (element g k) t c f e l =
-    let q : c % cellSize / 256 ≡ g = omega (arith, f .0) in
-    rw (eq-eqb (c / cellSize) 3 e, q) (by-code (g + 16) (head t) t (atom (given g)) (head-given t g) (λ z. let y : head t ≡ 16 + g = ap head z in omega arith))
+    let q : c % cellSize / 256 + 16 ≡ 16 + g = omega (arith, f .0) in
+    rw (e, q) (code-decides (given g) t)
 
 pub is-atom : (s : List ℕ) (at : ℕ) (row : List ℕ) (from : ℕ) (r : Bool) → r ≡ atomIs (getD s at 0) (getD row from 0) →
     getD s at 0 / cellSize ≢ 5 → getD s at 0 / cellSize ≢ 4 → OfType s at row from r
@@ -332,23 +301,6 @@ module _ (s : List ℕ) (i left : ℕ) (row : List ℕ) (from : ℕ) where
         let f : AllFit (x .0 ▸ x .1) = rw (x .2) at (p .fits) in
         let d : j ≡ i + weight (x .0) = e (x .0) (first-stands s i (x .0) (x .1) h) (f .0) in
         record { values = x .1; stands = rw d (rest-stand s i (x .0) (x .1) h); fits = f .1; counted = x .3; type = p .type }
-
--- Going through them.
-pub record Through (s : List ℕ) (at n : ℕ) (row : List ℕ) (from i left : ℕ) : Type 0 where
-  pub rest : ValuesAndType s i left row from
-  pub from-at : at ≤ i
-  pub whole-of : (r : Bool) → AllOfType s i left row from r → AllOfType s at n row from r
-
-module _ (s : List ℕ) (at n : ℕ) (row : List ℕ) (from i left : ℕ) (p : Through s at n row from i left) (l : 0 < left) where
-  pub through-first : SomeAt s i
-  through-first = values-first s i left row from (p .rest) l
-
-  pub through-step : (j : ℕ) (q : Bool) → EndsAt s i j → OfType s i row from q → q ≡ true → Through s at n row from j (left - 1)
-  through-step j q e g y = record {
-    rest = values-rest s i left row from (p .rest) l j e;
-    from-at = omega (arith, p .from-at, ends-behind s i j through-first e);
-    whole-of = λ r z. p .whole-of r (all-of-step s i left row from j q r l g y e z);
-  }
 
 -- The row of a type begins with its codes.
 pub row-type : (sheet : List ℕ) (from : ℕ) (t : Ty) → Stands sheet from (row t) → TypeAt sheet from t

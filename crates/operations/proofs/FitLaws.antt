@@ -12,9 +12,9 @@ use Rattle.rules.specs.Values.{num, truth, element, Value, scalar, pair, set, V
 use Rattle.rules.specs.Rules.{Pattern, t̂, û, P̂, _×̂_, numᵖ, inst}
 use Rattle.rules.specs.Fits.{HasType, HaveType, Fits, fits, typed}
 use Rattle.rules.proofs.Basics.{absurd01}
+use Rattle.laws.proofs.EndLaws.{T-true}
 use Rattle.laws.proofs.FitsLaws.{fits-right, typed-right}
 use Rattle.fitting.specs.Tests.{FitOne, FitTwo, Both}
-use Rattle.fitting.proofs.Sharing.{is-true}
 use Rattle.arena.specs.Code.{excess, code, IsPair, AllPairs, SetBelow}
 use Rattle.arena.proofs.Standing.{stands-head}
 use Rattle.operations.specs.Good.{Sizes, GoodAt}
@@ -27,7 +27,7 @@ module _ (ps : List Pattern) (vs : List Value) where
   fit-types e = fits-right ps vs .0 (rw e tt)
 
   pub types-fit : Fits ps vs → fits ps vs ≡ true
-  types-fit h = is-true (fits ps vs) (fits-right ps vs .1 h)
+  types-fit h = T-true (fits ps vs) .0 (fits-right ps vs .1 h)
 
 -- Any value, and any two, fit where all types do.
 pub one-any : {s : List ℕ} {a : ℕ} → FitOne (t̂ ∷ []) s a true

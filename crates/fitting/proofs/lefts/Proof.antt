@@ -1,8 +1,7 @@
 -- `lefts`: the pairs that are left decide.
 use Prim.Native.Nat.{_+_}
-use native.Mathlib.Omega.{arith}
 use mathlib.Core.Bool.{Bool, true, false}
-use mathlib.Core.Path.{sym, _∙_}
+use native.Mathlib.Omega.{arith}
 use borrow.Author.Tests.{not-true, not-false}
 use Rattle.fitting.specs.Agree.{SomeTyped}
 use Rattle.fitting.specs.Tests.{Pairs, AgreedLefts}
@@ -21,34 +20,31 @@ abbrev μ-loop : tie.MeasureT-loop
 abbrev Turn : Type 0
 Turn = tie.In-loop Inv-loop μ-loop
 
-abbrev args : Turn → tie.Start Inv-loop μ-loop
-args l = l .before .before .before
+abbrev lent : Turn → tie.Start Inv-loop μ-loop
+lent l = l .before .before .before
 
-first : (l : Turn) → SomeTyped (args l .args .s .now) (l .before .loop .i) × SomeTyped (args l .args .s .now) (l .before .loop .i + 1)
+first : (l : Turn) → SomeTyped (lent l .args .s .now) (l .before .loop .i) × SomeTyped (lent l .args .s .now) (l .before .loop .i + 1)
 first l = pairs-first _ _ _ _ (l .before .loop .inv .0) (l .loop-test .taken)
 
 returns : tie.Need-returns Inv-loop μ-loop
 returns c =
     let l = c .before .before in
     l .before .loop .inv .1 false
-    (lefts-false _ _ _ _ (l .loop-test .taken) (λ v w h k. sym (not-true _ (c .if1 .taken)) ∙ c .before .agree .ensures v w h k))
+    (lefts-false _ _ _ _ (l .loop-test .taken) (rw (not-true (c .before .agree .result) (c .if1 .taken)) at (c .before .agree .ensures)))
 
 loop-again : tie.Need-loop-again Inv-loop μ-loop
 loop-again c =
-    let l = c .before .before .before in
-    let q = l .loop-test .taken in (
-      pairs-rest _ _ _ _ _ (l .before .loop .inv .0) q (c .end-of .ensures),
-      λ r g. l .before .loop .inv .1 r
-          (lefts-step _ _ _ _ _ r q (λ v w h k. sym (not-false _ (c .before .if1 .left)) ∙ c .before .before .agree .ensures v w h k)
-          (c .end-of .ensures) g),
-    )
+    let m = c .before in
+    let l = m .before .before in
+    let i = l .before .loop .inv in
+    let q = l .loop-test .taken in
+    let g = rw (not-false (m .before .agree .result) (m .if1 .left)) at (m .before .agree .ensures) in
+    (pairs-rest _ _ _ _ _ (i .0) q (c .end-of .ensures), λ r t. i .1 r (lefts-step _ _ _ _ _ r q g (c .end-of .ensures) t))
 
 pub lefts-spec : {M : Type 1} → statement M
 lefts-spec =
     tie.close
-    (tie.spec
-    Inv-loop
-    μ-loop
+    (tie.spec Inv-loop μ-loop
     (λ c. (c .before .pre, λ r g. g))
     (λ c. omega (arith, inside _ _ (first c .0)))
     (λ c κs. record { first = first c .1; second = c .before .loop .inv .0 .second })

@@ -1,18 +1,13 @@
 -- `numbers`: by the tags of the two cells.
-use mathlib.Core.Path.{ap, _∙_}
 use Prim.Native.Nat.{ℕ}
-use native.Mathlib.Omega.{arith}
+use mathlib.Core.Path.{ap, _∙_}
 use lib.Dec.{eqb}
+use native.Mathlib.Omega.{arith}
+use borrow.Author.Needs.{needs}
 use Rattle.fitting.proofs.Cells.{inside}
 use Rattle.fitting.proofs.Tests.{numbers-not, numbers-fit}
-use borrow.Author.Needs.{needs}
 use Rattle.fitting.proofs.numbers.Statement.{statement}
 use Rattle.fitting.proofs.numbers.Tie as tie
-
-shared-slice-read-tag-2 : tie.Need-shared-slice-read-tag-2
-shared-slice-read-tag-2 c =
-    let m = c .before .before in
-    inside _ _ (m .before .before .before .pre .second)
 
 returns-2 : tie.Need-returns-2
 returns-2 c = λ v w h k.
@@ -28,6 +23,6 @@ numbers-spec =
     (λ c κs. search needs)
     (λ c. numbers-not _ _ _ (λ e. c .if1 .taken (c .before .tag .ensures ∙ e)))
     (λ c. search needs)
-    shared-slice-read-tag-2
+    (λ c. let m = c .before .before in inside _ _ (m .before .before .before .pre .second))
     (λ c κs. search needs)
     returns-2)

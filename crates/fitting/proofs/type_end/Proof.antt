@@ -40,9 +40,7 @@ loop-again c = λ t h. rw (c .type-parts .ensures) (types-step _ _ _ _ (c .befor
 pub type-end-spec : {M : Type 1} → statement M
 type-end-spec =
     tie.close
-    (tie.spec
-    Inv-loop
-    μ-loop
+    (tie.spec Inv-loop μ-loop
     (λ c. λ t h. types-start _ _ t h)
     (λ c. inside (c .before))
     (λ c κs. search needs)

@@ -6,20 +6,17 @@ use borrow.Author.Needs.{needs}
 use Rattle.fitting.proofs.Cells.{inside, atoms-agree}
 use Rattle.fitting.proofs.agree.Reads as agree
 use Rattle.fitting.proofs.meet.Reads as meet
-use Rattle.fitting.proofs.atoms_alike.Reads as atoms-alike-reads
+use Rattle.fitting.proofs.atoms_alike.Reads as atoms-alike
 use Rattle.fitting.proofs.+against+agree+each+meet+parts.Lts-agree as lts
 use Rattle.fitting.proofs.+against+agree+each+meet+parts.Proof.Base.{agree-at, meet-below}
 
 module _ (t : ℕ) where
   abbrev claims : lts.Claims
-  claims = (atoms-alike-reads.Asked, atoms-alike-reads.Learnt, meet-below t, meet.Post)
+  claims = (atoms-alike.Asked, atoms-alike.Learnt, meet-below t, meet.Post)
 
   pub agree-closed : {M : Type 1} → lts.Closed claims (agree-at t) agree.Post M
   agree-closed =
-      lts.spec
-      claims
-      (agree-at t)
-      agree.Post
+      lts.spec claims (agree-at t) agree.Post
       (λ c. omega (arith, inside _ _ (c .before .pre .1 .first)))
       (λ c. inside _ _ (c .before .before .pre .1 .first))
       (λ c. omega (arith, inside _ _ (c .before .before .before .pre .1 .second)))

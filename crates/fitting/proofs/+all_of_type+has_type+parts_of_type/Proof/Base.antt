@@ -36,5 +36,4 @@ abbrev pub parts-of-type-at : ℕ → In 2 parts-of-type-kinds.ps
 parts-of-type-at t = and 2 parts-of-type-kinds.ps (is 2 parts-of-type-kinds.ps μ-parts-of-type t) parts-of-type.Pre
 
 abbrev pub parts-of-type-below : ℕ → In 2 parts-of-type-kinds.ps
-parts-of-type-below t =
-    and 2 parts-of-type-kinds.ps (falls 2 parts-of-type-kinds.ps _<_ μ-parts-of-type t) parts-of-type.Pre
+parts-of-type-below t = and 2 parts-of-type-kinds.ps (falls 2 parts-of-type-kinds.ps _<_ μ-parts-of-type t) parts-of-type.Pre

@@ -6,29 +6,18 @@ use borrow.Author.Needs.{needs}
 use lib.ListN.{length, getD}
 use Rattle.arena.proofs.ValueParts.{some-inside}
 use Rattle.fitting.proofs.Types.{type-inside, is-atom, set-no, pair-no, set-type, pair-type, set-asks, pair-asks}
-use Rattle.fitting.proofs.all_of_type.Reads as all-of-type
+use Rattle.fitting.proofs.all_of_type.Reads as all
 use Rattle.fitting.proofs.has_type.Reads as has-type
-use Rattle.fitting.proofs.parts_of_type.Reads as parts-of-type
-use Rattle.arena.proofs.low.Reads as low-reads
-use Rattle.arena.proofs.tag.Reads as tag-reads
-use Rattle.fitting.proofs.atom_is.Reads as atom-is-reads
+use Rattle.fitting.proofs.parts_of_type.Reads as parts
+use Rattle.arena.proofs.low.Reads as low
+use Rattle.arena.proofs.tag.Reads as tag
+use Rattle.fitting.proofs.atom_is.Reads as atom-is
 use Rattle.fitting.proofs.+all_of_type+has_type+parts_of_type.Lts-has_type as lts
 use Rattle.fitting.proofs.+all_of_type+has_type+parts_of_type.Proof.Base.{all-of-type-below, has-type-at, parts-of-type-below}
 
 module _ (t : ℕ) where
   abbrev claims : lts.Claims
-  claims = (
-    tag-reads.Asked,
-    tag-reads.Learnt,
-    low-reads.Asked,
-    low-reads.Learnt,
-    all-of-type-below t,
-    all-of-type.Post,
-    parts-of-type-below t,
-    parts-of-type.Post,
-    atom-is-reads.Asked,
-    atom-is-reads.Learnt,
-  )
+  claims = (tag.Asked, tag.Learnt, low.Asked, low.Learnt, all-of-type-below t, all.Post, parts-of-type-below t, parts.Post, atom-is.Asked, atom-is.Learnt)
 
   abbrev Start : Type 0
   Start = lts.Start claims (has-type-at t) has-type.Post
@@ -43,16 +32,19 @@ module _ (t : ℕ) where
   abbrev Tagged : Type 0
   Tagged = lts.After-tag claims (has-type-at t) has-type.Post
 
+  abbrev read : Tagged → lts.After-shared-slice-known2 claims (has-type-at t) has-type.Post
+  read m = m .before .before .before
+
   abbrev lent : Tagged → Start
-  lent m = m .before .before .before .before .before
+  lent m = read m .before .before
 
-  abbrev tag-of : (m : Tagged) → m .tag .result ≡ getD (lent m .args .s .now) (lent m .args .at) 0 / 4294967296
-  tag-of m = m .tag .ensures
+  is-tag : (m : Tagged) (n : ℕ) → m .tag .result ≡ n → getD (lent m .args .s .now) (lent m .args .at) 0 / 4294967296 ≡ n
+  is-tag m n e = sym (m .tag .ensures) ∙ e
 
-  abbrev Counted : Type 0
-  Counted = lts.After-low claims (has-type-at t) has-type.Post
+  abbrev Power : Type 0
+  Power = lts.After-low claims (has-type-at t) has-type.Post
 
-  abbrev set-tagged : Counted → Tagged
+  abbrev set-tagged : Power → Tagged
   set-tagged c = c .before .before .before
 
   abbrev Product : Type 0
@@ -64,54 +56,46 @@ module _ (t : ℕ) where
   all-of-type-requires : lts.Need-all-of-type-requires claims (has-type-at t) has-type.Post
   all-of-type-requires c κs =
       let m = set-tagged c in
-      let p = lent m in (
-        omega (arith, p .pre .0, value-inside p),
-        set-asks _ _ _ _ _ (p .pre .1 .0) (p .pre .1 .1)
-            (sym (tag-of m) ∙ c .before .before .if1 .taken) (c .before .if2 .left) (c .low .ensures .0),
+      let p = lent m .pre in (
+        omega (arith, p .0, value-inside (lent m)),
+        set-asks _ _ _ _ _ (p .1 .0) (p .1 .1) (is-tag m 5 (c .before .before .if1 .taken)) (c .before .if2 .left) (c .low .ensures .0),
       )
 
   returns-2 : lts.Need-returns-2 claims (has-type-at t) has-type.Post
   returns-2 c =
       let d = c .before in
-      set-type _ _ _ _ _ _ (sym (tag-of (set-tagged d)) ∙ d .before .before .if1 .taken) (d .before .if2 .left) (d .low .ensures .0)
-      (c .all-of-type .ensures)
+      set-type _ _ _ _ _ _ (is-tag (set-tagged d) 5 (d .before .before .if1 .taken)) (d .before .if2 .left) (d .low .ensures .0) (c .all-of-type .ensures)
 
   parts-of-type-requires : lts.Need-parts-of-type-requires claims (has-type-at t) has-type.Post
   parts-of-type-requires c κs =
       let m = pair-tagged c in
-      let p = lent m in (
-        omega (arith, p .pre .0, value-inside p),
-        pair-asks _ _ _ _ (p .pre .1 .0) (p .pre .1 .1) (sym (tag-of m) ∙ c .before .if3 .taken) (c .if4 .left),
-      )
+      let p = lent m .pre in
+      (omega (arith, p .0, value-inside (lent m)), pair-asks _ _ _ _ (p .1 .0) (p .1 .1) (is-tag m 4 (c .before .if3 .taken)) (c .if4 .left))
 
   returns-4 : lts.Need-returns-4 claims (has-type-at t) has-type.Post
   returns-4 c =
       let d = c .before in
-      pair-type _ _ _ _ _ (sym (tag-of (pair-tagged d)) ∙ d .before .if3 .taken) (d .if4 .left) (c .parts-of-type .ensures)
+      pair-type _ _ _ _ _ (is-tag (pair-tagged d) 4 (d .before .if3 .taken)) (d .if4 .left) (c .parts-of-type .ensures)
 
   returns-5 : lts.Need-returns-5 claims (has-type-at t) has-type.Post
   returns-5 c =
-      let m = c .before .before .before in
-      is-atom _ _ _ _ _ (c .atom-is .ensures)
-      (λ e. c .before .before .if1 .left (tag-of m ∙ e)) (λ e. c .before .if3 .left (tag-of m ∙ e))
+      let e = c .before .before .before .tag .ensures in
+      is-atom _ _ _ _ _ (c .atom-is .ensures) (λ q. c .before .before .if1 .left (e ∙ q)) (λ q. c .before .if3 .left (e ∙ q))
 
   pub has-type-closed : {M : Type 1} → lts.Closed claims (has-type-at t) has-type.Post M
   has-type-closed =
-      lts.spec
-      claims
-      (has-type-at t)
-      has-type.Post
+      lts.spec claims (has-type-at t) has-type.Post
       (λ c. omega (arith, value-inside (c .before .before)))
       (λ c. value-inside (c .before .before .before))
       (λ c. let m = c .before in code-inside (m .before .before .before))
       (λ c κs. search needs)
-      (λ c. set-no _ _ _ _ (sym (tag-of (c .before .before)) ∙ c .before .if1 .taken) (c .if2 .taken))
+      (λ c. set-no _ _ _ _ (is-tag (c .before .before) 5 (c .before .if1 .taken)) (c .if2 .taken))
       (λ c κs. search needs)
       (λ c. omega (arith, value-inside (lent (set-tagged c))))
       (λ c. omega (arith, code-inside (lent (set-tagged c))))
       all-of-type-requires
       returns-2
-      (λ c. pair-no _ _ _ _ (sym (tag-of (c .before .before .before)) ∙ c .before .if3 .taken) (c .if4 .taken))
+      (λ c. pair-no _ _ _ _ (is-tag (c .before .before .before) 4 (c .before .if3 .taken)) (c .if4 .taken))
       (λ c. omega (arith, value-inside (lent (pair-tagged c))))
       (λ c. omega (arith, code-inside (lent (pair-tagged c))))
       parts-of-type-requires

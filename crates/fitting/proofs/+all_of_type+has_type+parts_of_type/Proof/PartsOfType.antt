@@ -5,20 +5,17 @@ use borrow.Author.Tests.{not-true, not-false}
 use Rattle.fitting.proofs.Types.{ends-behind, parts-no, parts-yes}
 use Rattle.fitting.proofs.has_type.Reads as has-type
 use Rattle.fitting.proofs.parts_of_type.Reads as parts-of-type
-use Rattle.arena.proofs.end_of.Reads as end-of-reads
-use Rattle.fitting.proofs.type_end.Reads as type-end-reads
+use Rattle.arena.proofs.end_of.Reads as end-of
+use Rattle.fitting.proofs.type_end.Reads as type-end
 use Rattle.fitting.proofs.+all_of_type+has_type+parts_of_type.Lts-parts_of_type as lts
 use Rattle.fitting.proofs.+all_of_type+has_type+parts_of_type.Proof.Base.{has-type-below, parts-of-type-at}
 
 module _ (t : ℕ) where
   abbrev claims : lts.Claims
-  claims = (has-type-below t, has-type.Post, end-of-reads.Asked, end-of-reads.Learnt, type-end-reads.Asked, type-end-reads.Learnt)
+  claims = (has-type-below t, has-type.Post, end-of.Asked, end-of.Learnt, type-end.Asked, type-end.Learnt)
 
   -- The left part has been tested; it has its type.
-  abbrev Tested : Type 0
-  Tested = lts.After-has-type claims (parts-of-type-at t) parts-of-type.Post
-
-  abbrev lent : Tested → lts.Start claims (parts-of-type-at t) parts-of-type.Post
+  abbrev lent : lts.After-has-type claims (parts-of-type-at t) parts-of-type.Post → lts.Start claims (parts-of-type-at t) parts-of-type.Post
   lent m = m .before .before .before
 
   has-type-requires-2 : lts.Need-has-type-requires-2 claims (parts-of-type-at t) parts-of-type.Post
@@ -35,10 +32,7 @@ module _ (t : ℕ) where
 
   pub parts-of-type-closed : {M : Type 1} → lts.Closed claims (parts-of-type-at t) parts-of-type.Post M
   parts-of-type-closed =
-      lts.spec
-      claims
-      (parts-of-type-at t)
-      parts-of-type.Post
+      lts.spec claims (parts-of-type-at t) parts-of-type.Post
       (λ c κs. let p = c .before .before .pre in (omega (arith, p .0), (p .1 .left, p .1 .type)))
       (λ c. parts-no _ _ _ _ _ (c .before .has-type .ensures) (not-true _ (c .if1 .taken)))
       (λ c κs. lent (c .before) .pre .1 .left)
