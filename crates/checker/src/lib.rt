@@ -15,7 +15,7 @@ pub enum Checked {
     Refused(Refusal),
 }
 
-fn refused(number: u8, place: usize) -> Checked
+fn refused(number: usize, place: usize) -> Checked
     ensures { λ r. ⌜ r ≡ Checked.Refused (record { number = number; place = place }) ⌝ }
 {
     Checked::Refused(Refusal { number, place })

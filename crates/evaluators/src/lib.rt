@@ -31,7 +31,7 @@ enum Range {
     Unlike,
 }
 
-fn refused(number: u8, place: usize, left: u32) -> Held
+fn refused(number: usize, place: usize, left: u32) -> Held
     ensures { λ r. ⌜ r ≡ Refused (record { number = number; place = place }) left ⌝ }
 {
     Held::Refused {
@@ -40,7 +40,7 @@ fn refused(number: u8, place: usize, left: u32) -> Held
     }
 }
 
-fn stopped(number: u8, place: usize, left: u32) -> Formed
+fn stopped(number: usize, place: usize, left: u32) -> Formed
     ensures { λ r. ⌜ r ≡ Stopped (record { number = number; place = place }) left ⌝ }
 {
     Formed::Stopped {
@@ -497,7 +497,7 @@ fn settle(
     ensures { λ x. ⌜ Settles (now (s .entry)) r mid next top node left (now (s .exit)) x ⌝ }
 {
     match r {
-        Outcome::Lacks(k) => stopped(k, node, left),
+        Outcome::Lacks(k) => stopped(k as usize, node, left),
         Outcome::Within(at) => Formed::Value { at, end: mid, left },
         Outcome::Cell(cell) => {
             let end = products::put_cell(s, top, cell);

@@ -19,8 +19,9 @@ use Rattle.typing.specs.Model.{verdict}
 use Rattle.conforms.specs.Conforming.{conforming}
 use Rattle.conforms.proofs.ConformingLaws.{conforming-right}
 use Rattle.falgrumi.specs.Guarantee.{Report, checkedEvaluation, TellsGuarantee}
+use Rattle.falgrumi.specs.Answers.{InByte, reportedEnd}
 use Rattle.falgrumi.proofs.Demand.{guarantee, accepted-fits}
-use Rattle.falgrumi.proofs.EndNumbers.{NumberFrom, verdict-numbers, accepted-numbers}
+use Rattle.falgrumi.proofs.EndNumbers.{NumberFrom, verdict-numbers, accepted-numbers, verdict-byte, evaluation-byte}
 
 -- The report that is made of rows: `checkedEvaluation` is the verdict, and then this.
 module _ (bs buffer : List ℕ) (budget : ℕ) where
@@ -77,6 +78,15 @@ report-numbers bs buffer room budget x e = go (verdict bs room) refl (sym (check
         let i : evaluation bs buffer budget .end ≡ x .end = cc in
         subst (NumberFrom 14 19) i (accepted-numbers bs buffer rows room budget f)
     go (refused r p) f h = absurd (absurd01 (cc))
+
+-- Both go into a byte.
+pub reported-byte : (bs buffer : List ℕ) (room budget : ℕ) → InByte (reportedEnd (checkedEvaluation bs room buffer budget))
+reported-byte bs buffer room budget =
+    subst (λ (g : End Report). InByte (reportedEnd g)) (sym (checked-is bs buffer budget room)) (go (verdict bs room) (verdict-byte bs room))
+  where
+    go : (v : End (List ℕ)) → InByte v → InByte (reportedEnd (v >>= λ rows. done (reportOf bs buffer budget rows)))
+    go (done rows) h = evaluation-byte bs buffer budget
+    go (refused r p) h = h
 
 -- The answer, by that of Check.
 module _ (bs sheet buffer : List ℕ) (budget : ℕ) (after : List ℕ) (r : Checked)

@@ -1,10 +1,11 @@
 -- What the exported functions answer and write: a refusal's number, 0 where there is none, its place, the condition's truth, the
 -- visits made, and whether the values conform.
-use Prim.Native.Nat.{ℕ}
+use Prim.Native.Nat.{ℕ, _<_}
 use mathlib.Core.Bool.{Bool}
 use mathlib.Core.Path.{_≡_}
 use Rattle.rules.specs.Values.{bit}
 use Rattle.rules.specs.Ends.{End, done, refused, _>>=_}
+use Rattle.rules.specs.Refusals.{RefusesOnly}
 use Rattle.evaluate.specs.declared.Truth.{Truth}
 use Rattle.evaluate.specs.declared.Truth.the-variants.{True, False}
 use Rattle.falgrumi.specs.Guarantee.{Report}
@@ -12,6 +13,10 @@ use Rattle.falgrumi.specs.Guarantee.{Report}
 abbrev pub numberOf : {A : Type 0} → End A → ℕ
 numberOf (done a) = 0
 numberOf (refused r p) = r
+
+-- The number goes into a byte.
+abbrev pub InByte : {A : Type 0} → End A → Type 0
+InByte e = RefusesOnly (λ r p. r < 256) e
 
 abbrev pub placeOf : {A : Type 0} → End A → ℕ
 placeOf (done a) = 0

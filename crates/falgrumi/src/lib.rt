@@ -4,6 +4,7 @@ use evaluate::Ending;
 use evaluate::Evaluation;
 use evaluate::Truth;
 use reading::Refusal;
+ghost use Prim.Native.Nat.{_<_};
 ghost use mathlib.Core.Path.{_≡_};
 ghost use lib.ListN.{length};
 ghost use Rattle.rules.specs.Values.{bit};
@@ -13,7 +14,15 @@ ghost use Rattle.rules.specs.Evaluation.{evaluation};
 ghost use Rattle.evaluate.specs.Result.{endingOf};
 ghost use Rattle.conforms.specs.Conforming.{conforming};
 ghost use Rattle.falgrumi.specs.Guarantee.{checkedEvaluation, guardedOf};
-ghost use Rattle.falgrumi.specs.Answers.{byteOf, TellsEnd, TellsRun, TellsReport};
+ghost use Rattle.falgrumi.specs.Answers.{byteOf, InByte, TellsEnd, TellsRun, TellsReport};
+
+// A refusal's number as a byte: none is over 19.
+fn number_byte(number: usize) -> u8
+    requires { ⌜ number < 256 ⌝ }
+    ensures { λ r. ⌜ r ≡ number ⌝ }
+{
+    number as u8
+}
 
 // Check: the refusal's number, 0 where the table is accepted; its place goes to `place`.
 #[no_mangle]
@@ -31,7 +40,7 @@ pub extern "C" fn falgrumi_check(table: &[u8], sheet: &mut [u8], place: &mut u64
         }
         Checked::Refused(r) => {
             *place = r.place as u64;
-            r.number
+            number_byte(r.number)
         }
     }
 }
@@ -54,6 +63,7 @@ fn bool_byte(b: bool) -> u8
 
 // Answers the number of an evaluation's refusal, 0 where there is none, and writes the rest.
 fn tell(e: Evaluation, truth: &mut u8, place: &mut u64, steps: &mut u32) -> u8
+    requires { ⌜ InByte (endingOf (e .ending)) ⌝ }
     ensures { λ r. ⌜ TellsRun (endingOf (e .ending)) (e .steps) r (now (truth .exit)) (now (place .exit)) (now (steps .exit)) ⌝ }
 {
     *steps = e.steps;
@@ -67,7 +77,7 @@ fn tell(e: Evaluation, truth: &mut u8, place: &mut u64, steps: &mut u32) -> u8
         Ending::Refused(x) => {
             *truth = 0;
             *place = x.place as u64;
-            x.number
+            number_byte(x.number)
         }
     }
 }

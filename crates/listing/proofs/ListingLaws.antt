@@ -101,8 +101,8 @@ lines-short i count sheet h =
     (λ p l. line-short i p (sheetRow sheet p) (omega arith) (omega (arith, length-take 64 (drop (64 * p) sheet)))) in
     omega arith
 
-pub refusal-short : (r p : ℕ) → r < 256 → p < 18446744073709551616 → length (refusalLine r p) ≤ 50
-refusal-short r p h k = omega (arith, refusal-extent r p, decimal-short r (omega arith), decimal-short p k)
+pub refusal-short : (r p : ℕ) → r < 18446744073709551616 → p < 18446744073709551616 → length (refusalLine r p) ≤ 50
+refusal-short r p h k = omega (arith, refusal-extent r p, decimal-short r h, decimal-short p k)
 
 -- The text for Check's answer, and the whole text as what stands in the buffer.
 pub accepted-text : (i count : ℕ) (v : End (List ℕ)) (rows sheet : List ℕ) → done tt ≡ answered v → rows ≡ sheetAfter v sheet →

@@ -65,7 +65,9 @@ fn field_names(
     names: &[u32],
 ) -> u32
     requires { ⌜ FieldIn (now table) at n i × (length (now names) ≡ 512) × (row ≡ fieldCodesAt (now table) n) ⌝ }
-    ensures { λ r. ⌜ WordIs (λ x. occursIn x (hasBit here x) (freeIn (now (names .entry)) x) (holdsAt (now (table .entry)) n i) (fieldAt (now (table .entry)) n i)) r ⌝ }
+    ensures { λ r. ⌜
+        WordIs (λ x. occursIn x (hasBit here x) (freeIn (now (names .entry)) x) (holdsAt (now (table .entry)) n i) (fieldAt (now (table .entry)) n i)) r
+        ⌝ }
 {
     let y = table::field(table, at, n, i);
     match table::digit(row, i) {
@@ -130,7 +132,9 @@ fn binding_is_good(table: &[u8], x: usize, names: Names) -> bool
 // Refusal 9: the least identifier that breaks the binding rules, or I.
 pub(crate) fn first_bad_binding(table: &[u8], at: usize) -> usize
     requires { ⌜ Fielded (now table) at ⌝ }
-    ensures { λ r. ⌜ r ≡ foundOr (identifierCount (now (table .entry))) (leastFailing (binding (tableOf (now (table .entry)))) 0 (identifierCount (now (table .entry)))) ⌝ }
+    ensures { λ r. ⌜
+        r ≡ foundOr (identifierCount (now (table .entry))) (leastFailing (binding (tableOf (now (table .entry)))) 0 (identifierCount (now (table .entry))))
+        ⌝ }
 {
     let count = table::identifiers(table);
     let names = names_of(table, at);

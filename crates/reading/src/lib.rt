@@ -11,9 +11,9 @@ ghost use Rattle.reading.specs.Arrays.{Heights};
 mod binding;
 mod tree;
 
-// A refusal's number and place.
+// A refusal's number and place. The number is a usize, small as it is: with a u8 the compiler copies the answers that hold it byte by byte.
 pub struct Refusal {
-    pub number: u8,
+    pub number: usize,
     pub place: usize,
 }
 
@@ -28,7 +28,7 @@ pub enum Height {
     Refused(Refusal),
 }
 
-fn refused(number: u8, place: usize) -> Height
+fn refused(number: usize, place: usize) -> Height
     ensures { λ r. ⌜ r ≡ Height.Refused (record { number = number; place = place }) ⌝ }
 {
     Height::Refused(Refusal { number, place })

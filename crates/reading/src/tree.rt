@@ -69,7 +69,9 @@ fn parent_is_good(table: &[u8], at: usize, n: usize, times: u16) -> bool
 // Refusal 7: the least node with a fault, or N.
 pub(crate) fn first_bad_parent(table: &[u8], at: usize) -> usize
     requires { ⌜ Fielded (now table) at ⌝ }
-    ensures { λ r. ⌜ r ≡ foundOr (nodeCount (now (table .entry))) (leastFailing (parentGood (tableOf (now (table .entry)))) 0 (nodeCount (now (table .entry)))) ⌝ }
+    ensures { λ r. ⌜
+        r ≡ foundOr (nodeCount (now (table .entry))) (leastFailing (parentGood (tableOf (now (table .entry)))) 0 (nodeCount (now (table .entry))))
+        ⌝ }
 {
     let count = table::nodes(table);
     let mut counted = [0u16; 512];
@@ -120,7 +122,10 @@ const HEIGHT_LIMIT: u8 = 27;
 // Refusal 8: the least node whose height is above the limit, or N. Sets the heights of the nodes below it.
 pub(crate) fn set_heights(table: &[u8], at: usize, heights: &mut [u8]) -> usize
     requires { ⌜ Fielded (now table) at × (length (now heights) ≡ 512) ⌝ }
-    ensures { λ r. ⌜ (r ≡ foundOr (nodeCount (now (table .entry))) (leastFailing (heightGood (tableOf (now (table .entry)))) 0 (nodeCount (now (table .entry))))) × Heights (now (table .entry)) r (now (heights .exit)) ⌝ }
+    ensures { λ r. ⌜
+        (r ≡ foundOr (nodeCount (now (table .entry))) (leastFailing (heightGood (tableOf (now (table .entry)))) 0 (nodeCount (now (table .entry))))) ×
+        Heights (now (table .entry)) r (now (heights .exit))
+        ⌝ }
 {
     let count = table::nodes(table);
     let mut n: usize = 0;

@@ -299,7 +299,9 @@ fn node_is_good(table: &[u8], at: usize, n: usize) -> bool
 // Refusal 4: the least given set of a wrong size, or G.
 pub fn first_bad_size(table: &[u8]) -> usize
     requires { ⌜ Header (now table) ⌝ }
-    ensures { λ r. ⌜ r ≡ foundOr (givenCount (now (table .entry))) (leastFailing (sizeGood (tableOf (now (table .entry)))) 0 (givenCount (now (table .entry)))) ⌝ }
+    ensures { λ r. ⌜
+        r ≡ foundOr (givenCount (now (table .entry))) (leastFailing (sizeGood (tableOf (now (table .entry)))) 0 (givenCount (now (table .entry))))
+        ⌝ }
 {
     let count = givens(table);
     let mut g: usize = 0;
@@ -316,7 +318,9 @@ pub fn first_bad_size(table: &[u8]) -> usize
 // Refusal 5: the least identifier whose word is neither 0 nor 1, or I.
 pub fn first_bad_bind(table: &[u8]) -> usize
     requires { ⌜ Header (now table) ⌝ }
-    ensures { λ r. ⌜ r ≡ foundOr (identifierCount (now (table .entry))) (leastFailing (bindGood (tableOf (now (table .entry)))) 0 (identifierCount (now (table .entry)))) ⌝ }
+    ensures { λ r. ⌜
+        r ≡ foundOr (identifierCount (now (table .entry))) (leastFailing (bindGood (tableOf (now (table .entry)))) 0 (identifierCount (now (table .entry))))
+        ⌝ }
 {
     let count = identifiers(table);
     let mut x: usize = 0;
@@ -332,7 +336,9 @@ pub fn first_bad_bind(table: &[u8]) -> usize
 // Refusal 6: the least node with a fault, or N.
 pub fn first_bad_node(table: &[u8], at: usize) -> usize
     requires { ⌜ Laid (now table) at ⌝ }
-    ensures { λ r. ⌜ r ≡ foundOr (nodeCount (now (table .entry))) (leastFailing (nodeGood (tableOf (now (table .entry)))) 0 (nodeCount (now (table .entry)))) ⌝ }
+    ensures { λ r. ⌜
+        r ≡ foundOr (nodeCount (now (table .entry))) (leastFailing (nodeGood (tableOf (now (table .entry)))) 0 (nodeCount (now (table .entry))))
+        ⌝ }
 {
     let count = nodes(table);
     let mut n: usize = 0;

@@ -144,12 +144,12 @@ pub fn accepted(out: &mut [u8], identifiers: usize, count: usize, sheet: &[u8]) 
 }
 
 // The line of a refused table.
-pub fn refused(out: &mut [u8], number: u8, place: usize) -> usize
+pub fn refused(out: &mut [u8], number: usize, place: usize) -> usize
     requires { ⌜ length (refusalLine number place) ≤ length (now out) ⌝ }
     ensures { λ r. ⌜ Appends (now (out .entry)) 0 (refusalLine number place) r (now (out .exit)) ⌝ }
 {
     let worded = put_all(out, 0, b"refused ");
-    let numbered = put_decimal(out, worded, wide(number));
+    let numbered = put_decimal(out, worded, number);
     let parted = put(out, numbered, b' ');
     let placed = put_decimal(out, parted, place);
     put(out, placed, b'\n')

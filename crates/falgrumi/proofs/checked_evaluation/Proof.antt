@@ -1,46 +1,33 @@
--- `checked_evaluation`: Check's answer, and those of the other two calls where it accepts.
+-- `checked_evaluation`: Check's answer, and those of the other two calls where it accepts. Landmarks: what was lent, and Check's answer.
 use Rattle.falgrumi.proofs.CheckedLaws.{checked-refused, checked-accepted}
 use denote.Ref.{now}
 use borrow.Author.Needs.{needs}
 use Rattle.falgrumi.proofs.checked_evaluation.Statement.{statement}
 use Rattle.falgrumi.proofs.checked_evaluation.Tie as tie
 
-check-requires : tie.Need-check-requires
-check-requires c κs = search needs
+abbrev lent : tie.After-shared-slice-known2 → tie.Start
+lent c = c .before .before .before
 
-enum-known-checked : tie.Need-enum-known-checked
-enum-known-checked c = search needs
-
-enum-told : tie.Need-enum-told
-enum-told c = search needs
-
-evaluate-requires : tie.Need-evaluate-requires
-evaluate-requires c κs = search needs
-
-conforms-requires : tie.Need-conforms-requires
-conforms-requires c κs = search needs
-
-same-length : tie.Need-same-length
-same-length c = search needs
+abbrev called : tie.After-slice-known2 → tie.After-check
+called c = c .before .before
 
 returns : tie.Need-returns
 returns c =
-    let b = c .before .before .before .before .before in
-    let a = b .before .before .before .before .before .args in
+    let x = c .before in
+    let b = called (x .before .before) in
+    let a = lent (b .before .before) .args in
     let v = b .check .ensures in
-    (checked-refused _ (now (a .sheet)) (now (a .values)) (a .budget) _ _ (v .0) (v .1) _ (c .before .checked .given .1), v .1)
-
-same-length-2 : tie.Need-same-length-2
-same-length-2 c = search needs
+    (checked-refused _ (now (a .sheet)) (now (a .values)) (a .budget) _ _ (v .0) (v .1) _ (x .checked .given .1), v .1)
 
 returns-2 : tie.Need-returns-2
 returns-2 c =
-    let b = c .before .before .before .before .before .before .before in
-    let a = b .before .before .before .before .before .args in
-    let e = c .before .before .evaluate .ensures in
+    let e = c .before .before in
+    let x = e .before in
+    let b = called (x .before .before) in
+    let a = lent (b .before .before) .args in
     let v = b .check .ensures in (
       checked-accepted _ (now (a .sheet)) (now (a .values)) (a .budget) _ _ (v .0) (v .1) _ _ _
-          (c .before .before .before .enum-told .given .1) (e .0) (e .1) (c .conforms .ensures),
+          (x .enum-told .given .1) (e .evaluate .ensures .0) (e .evaluate .ensures .1) (c .conforms .ensures),
       v .1,
     )
 
@@ -48,12 +35,12 @@ pub checked-evaluation-spec : {M : Type 1} → statement M
 checked-evaluation-spec =
     tie.close
     (tie.spec
-    check-requires
-    enum-known-checked
-    enum-told
-    evaluate-requires
-    conforms-requires
-    same-length
+    (λ c κs. search needs)
+    (λ c. search needs)
+    (λ c. search needs)
+    (λ c κs. search needs)
+    (λ c κs. search needs)
+    (λ c. search needs)
     returns
-    same-length-2
+    (λ c. search needs)
     returns-2)

@@ -1,19 +1,20 @@
--- `falgrumi_evaluate`: the end and the steps of `evaluate`, as numbers.
+-- `falgrumi_evaluate`: the end and the steps of `evaluate`, as numbers. Landmark: the evaluation.
+use mathlib.Core.Path.{sym, subst}
+use Rattle.falgrumi.specs.Answers.{InByte}
+use Rattle.falgrumi.proofs.EndNumbers.{evaluation-byte}
 use Rattle.falgrumi.proofs.Numbers.{run-told}
 use borrow.Author.Needs.{needs}
 use Rattle.falgrumi.proofs.falgrumi_evaluate.Statement.{statement}
 use Rattle.falgrumi.proofs.falgrumi_evaluate.Tie as tie
 
-evaluate-requires : tie.Need-evaluate-requires
-evaluate-requires c κs = search needs
+abbrev called : tie.After-tell-arg3 → tie.After-evaluate
+called c = c .before .before .before
 
 tell-requires : tie.Need-tell-requires
-tell-requires c κs = search needs
+tell-requires c κs = subst InByte (sym (called c .evaluate .ensures .0)) (evaluation-byte _ _ _)
 
 returns : tie.Need-returns
-returns c =
-    let e = c .before .before .before .before .evaluate .ensures in
-    run-told (e .0) (e .1) (c .tell .ensures)
+returns c = let e = called (c .before) .evaluate .ensures in run-told (e .0) (e .1) (c .tell .ensures)
 
 pub falgrumi-evaluate-spec : {M : Type 1} → statement M
-falgrumi-evaluate-spec = tie.close (tie.spec evaluate-requires tell-requires returns)
+falgrumi-evaluate-spec = tie.close (tie.spec (λ c κs. search needs) tell-requires returns)

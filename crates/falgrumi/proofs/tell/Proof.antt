@@ -1,25 +1,24 @@
--- `tell`: an evaluation's end and steps, as numbers.
-use Rattle.falgrumi.proofs.Numbers.{decided-told}
+-- `tell`: an evaluation's end and steps, as numbers, by the form of its end.
+use mathlib.Core.Path.{subst}
+use Rattle.evaluate.specs.declared.Ending.{Ending}
+use Rattle.evaluate.specs.Result.{endingOf}
+use Rattle.falgrumi.specs.Answers.{InByte}
+use Rattle.falgrumi.proofs.Numbers.{decided-told, refused-told}
 use borrow.Author.Needs.{needs}
 use Rattle.falgrumi.proofs.tell.Statement.{statement}
 use Rattle.falgrumi.proofs.tell.Tie as tie
 
-enum-known-ending : tie.Need-enum-known-ending
-enum-known-ending c = search needs
-
-truth-byte-requires : tie.Need-truth-byte-requires
-truth-byte-requires c κs = search needs
-
-enum-known-ending-2 : tie.Need-enum-known-ending-2
-enum-known-ending-2 c = search needs
-
-returns : tie.Need-returns
-returns c = decided-told _ _ _ _ (c .before .before .ending .given .1) (c .truth-byte .ensures)
-
-returns-2 : tie.Need-returns-2
-returns-2 c = search needs
+number-byte-requires : tie.Need-number-byte-requires
+number-byte-requires c κs =
+    let x = c .before in subst (λ (e : Ending). InByte (endingOf e)) (x .ending2 .given .1) (x .before .before .pre)
 
 pub tell-spec : {M : Type 1} → statement M
 tell-spec =
     tie.close
-    (tie.spec enum-known-ending truth-byte-requires enum-known-ending-2 returns returns-2)
+    (tie.spec
+    (λ c. search needs)
+    (λ c κs. search needs)
+    (λ c. search needs)
+    number-byte-requires
+    (λ c. decided-told _ _ _ _ (c .before .before .ending .given .1) (c .truth-byte .ensures))
+    (λ c. refused-told _ _ _ _ (c .before .before .ending2 .given .1) (c .number-byte .ensures)))

@@ -29,24 +29,12 @@ passed₂ e = passes _ _ (e .before .is-limited .ensures) (e .if2 .left)
 passed₃ : (e : tie.Else3) → laidOut (lent₃ e .args .table .now) ≡ true
 passed₃ e = passes _ _ (e .before .is-laid-out .ensures) (e .if3 .left)
 
-is-headed-requires : tie.Need-is-headed-requires
-is-headed-requires c κs = tt
-
-refused-requires : tie.Need-refused-requires
-refused-requires c κs = tt
-
 returns : tie.Need-returns
 unfolding readingHeight
 returns c =
     let t = c .before in
     ap heightOf (c .refused .ensures)
     ∙ sym (ap measured (refused-1 (lent (t .before) .args .table .now) (fails _ _ (t .before .is-headed .ensures) (t .if1 .taken))))
-
-is-limited-requires : tie.Need-is-limited-requires
-is-limited-requires c κs = long _ (passed₁ c)
-
-refused-requires-2 : tie.Need-refused-requires-2
-refused-requires-2 c κs = tt
 
 returns-2 : tie.Need-returns-2
 unfolding readingHeight
@@ -56,12 +44,6 @@ returns-2 c =
     ap heightOf (c .refused2 .ensures)
     ∙ sym (ap measured (refused-2 (lent₁ (h .before) .args .table .now) (passed₁ (h .before)) (fails _ _ (h .is-limited .ensures) (t .if2 .taken))))
 
-is-laid-out-requires : tie.Need-is-laid-out-requires
-is-laid-out-requires c κs = long _ (passed₁ (c .before .before))
-
-refused-requires-3 : tie.Need-refused-requires-3
-refused-requires-3 c κs = tt
-
 returns-3 : tie.Need-returns-3
 unfolding readingHeight
 returns-3 c =
@@ -70,10 +52,6 @@ returns-3 c =
     let e = l .before in
     ap heightOf (c .refused3 .ensures)
     ∙ sym (ap measured (refused-3 (lent₂ e .args .table .now) (passed₁ (e .before .before)) (passed₂ e) (fails _ _ (l .is-laid-out .ensures) (t .if3 .taken))))
-
-read-records-requires : tie.Need-read-records-requires
-read-records-requires c κs =
-    let e = c .before .before in header-read _ (passed₁ (e .before .before)) (passed₂ e) (passed₃ c)
 
 returns-4 : tie.Need-returns-4
 unfolding readingHeight
@@ -86,14 +64,14 @@ pub read-height-spec : {M : Type 1} → statement M
 read-height-spec =
     tie.close
     (tie.spec
-    is-headed-requires
-    refused-requires
+    (λ c κs. tt)
+    (λ c κs. tt)
     returns
-    is-limited-requires
-    refused-requires-2
+    (λ c κs. long _ (passed₁ c))
+    (λ c κs. tt)
     returns-2
-    is-laid-out-requires
-    refused-requires-3
+    (λ c κs. long _ (passed₁ (c .before .before)))
+    (λ c κs. tt)
     returns-3
-    read-records-requires
+    (λ c κs. let e = c .before .before in header-read _ (passed₁ (e .before .before)) (passed₂ e) (passed₃ c))
     returns-4)

@@ -19,32 +19,11 @@ fifth n = n .before .before
 abbrev givens : tie.Else2 → tie.After-givens
 givens e = fourth (e .before) .before
 
-nodes-offset-requires : tie.Need-nodes-offset-requires
-nodes-offset-requires c κs = c .before .pre .long
-
-first-bad-size-requires : tie.Need-first-bad-size-requires
-first-bad-size-requires c κs = c .before .before .pre
-
-givens-requires : tie.Need-givens-requires
-givens-requires c κs = c .before .before .before .pre .long
-
-refused-requires : tie.Need-refused-requires
-refused-requires c κs = tt
-
 returns : tie.Need-returns
 unfolding readingRecords
 returns c =
     let g = c .before .before in
     stage-refused 4 _ _ _ _ (g .before .first-bad-size .ensures) (g .givens .ensures) _ _ (c .refused .ensures) (c .before .if1 .taken)
-
-first-bad-bind-requires : tie.Need-first-bad-bind-requires
-first-bad-bind-requires c κs = lent (c .before) .pre
-
-identifiers-requires : tie.Need-identifiers-requires
-identifiers-requires c κs = lent (c .before .before) .pre .long
-
-refused-requires-2 : tie.Need-refused-requires-2
-refused-requires-2 c κs = tt
 
 returns-2 : tie.Need-returns-2
 unfolding readingRecords
@@ -53,15 +32,6 @@ returns-2 c =
     let e = fourth i in
     stage-passed 4 _ _ _ _ (e .before .before .first-bad-size .ensures) (e .before .givens .ensures) _ _ (e .if1 .left)
     (stage-refused 5 _ _ _ _ (i .before .first-bad-bind .ensures) (i .identifiers .ensures) _ _ (c .refused2 .ensures) (c .before .if2 .taken))
-
-first-bad-node-requires : tie.Need-first-bad-node-requires
-first-bad-node-requires c κs = let g = givens c in record { header = lent g .pre; base = placed g .nodes-offset .ensures }
-
-nodes-requires : tie.Need-nodes-requires
-nodes-requires c κs = lent (givens (c .before)) .pre .long
-
-refused-requires-3 : tie.Need-refused-requires-3
-refused-requires-3 c κs = tt
 
 returns-3 : tie.Need-returns-3
 unfolding readingRecords
@@ -97,18 +67,18 @@ pub read-records-spec : {M : Type 1} → statement M
 read-records-spec =
     tie.close
     (tie.spec
-    nodes-offset-requires
-    first-bad-size-requires
-    givens-requires
-    refused-requires
+    (λ c κs. c .before .pre .long)
+    (λ c κs. c .before .before .pre)
+    (λ c κs. c .before .before .before .pre .long)
+    (λ c κs. tt)
     returns
-    first-bad-bind-requires
-    identifiers-requires
-    refused-requires-2
+    (λ c κs. lent (c .before) .pre)
+    (λ c κs. lent (c .before .before) .pre .long)
+    (λ c κs. tt)
     returns-2
-    first-bad-node-requires
-    nodes-requires
-    refused-requires-3
+    (λ c κs. let g = givens c in record { header = lent g .pre; base = placed g .nodes-offset .ensures })
+    (λ c κs. lent (givens (c .before)) .pre .long)
+    (λ c κs. tt)
     returns-3
     read-tree-requires
     returns-4)

@@ -43,32 +43,11 @@ all-set e m l =
     let n = e .before in
     set n .set-heights .ensures .1 m (lt-of-lt-of-le (below l (sym (n .nodes2 .ensures))) (e .if2 .left))
 
-first-bad-parent-requires : tie.Need-first-bad-parent-requires
-first-bad-parent-requires c κs = c .before .pre
-
-nodes-requires : tie.Need-nodes-requires
-nodes-requires c κs = c .before .before .pre .laid .header .long
-
-refused-requires : tie.Need-refused-requires
-refused-requires c κs = tt
-
 returns : tie.Need-returns
 unfolding readingTree
 returns c =
     let n = c .before .before in
     stage-refused 7 _ _ _ _ (n .before .first-bad-parent .ensures) (n .nodes .ensures) _ _ (c .refused .ensures) (c .before .if1 .taken)
-
-slice-aggregate-set-heights : tie.Need-slice-aggregate-set-heights
-slice-aggregate-set-heights c = refl
-
-set-heights-requires : tie.Need-set-heights-requires
-set-heights-requires c κs = (lent₇ (c .before) .pre, refl)
-
-nodes-requires-2 : tie.Need-nodes-requires-2
-nodes-requires-2 c κs = lent₇ (seventh (c .before)) .pre .laid .header .long
-
-refused-requires-2 : tie.Need-refused-requires-2
-refused-requires-2 c κs = tt
 
 returns-2 : tie.Need-returns-2
 unfolding readingTree
@@ -78,15 +57,6 @@ returns-2 c =
     let e = seventh s in
     stage-passed 7 _ _ _ _ (e .before .before .first-bad-parent .ensures) (e .before .nodes .ensures) _ _ (e .if1 .left)
     (stage-refused 8 _ _ _ _ (s .set-heights .ensures .0) (n .nodes2 .ensures) _ _ (c .refused2 .ensures) (c .before .if2 .taken))
-
-first-bad-binding-requires : tie.Need-first-bad-binding-requires
-first-bad-binding-requires c κs = lent₈ c .pre
-
-identifiers-requires : tie.Need-identifiers-requires
-identifiers-requires c κs = lent₈ (c .before) .pre .laid .header .long
-
-refused-requires-3 : tie.Need-refused-requires-3
-refused-requires-3 c κs = tt
 
 returns-3 : tie.Need-returns-3
 unfolding readingTree
@@ -98,14 +68,6 @@ returns-3 c =
     stage-passed 7 _ _ _ _ (e₇ .before .before .first-bad-parent .ensures) (e₇ .before .nodes .ensures) _ _ (e₇ .if1 .left)
     (stage-passed 8 _ _ _ _ (set n .set-heights .ensures .0) (n .nodes2 .ensures) _ _ (e₈ .if2 .left)
     (stage-refused 9 _ _ _ _ (i .before .first-bad-binding .ensures) (i .identifiers .ensures) _ _ (c .refused3 .ensures) (c .before .if3 .taken)))
-
-slice-aggregate-root-height : tie.Need-slice-aggregate-root-height
-slice-aggregate-root-height c = sym (long (eighth (c .before .before)))
-
-root-height-requires : tie.Need-root-height-requires
-root-height-requires c κs =
-    let e = eighth (c .before .before) in
-    (lent₈ e .pre .laid .header, long e, all-set e)
 
 returns-4 : tie.Need-returns-4
 unfolding readingTree
@@ -124,19 +86,19 @@ pub read-tree-spec : {M : Type 1} → statement M
 read-tree-spec =
     tie.close
     (tie.spec
-    first-bad-parent-requires
-    nodes-requires
-    refused-requires
+    (λ c κs. c .before .pre)
+    (λ c κs. c .before .before .pre .laid .header .long)
+    (λ c κs. tt)
     returns
-    slice-aggregate-set-heights
-    set-heights-requires
-    nodes-requires-2
-    refused-requires-2
+    (λ c. refl)
+    (λ c κs. (lent₇ (c .before) .pre, refl))
+    (λ c κs. lent₇ (seventh (c .before)) .pre .laid .header .long)
+    (λ c κs. tt)
     returns-2
-    first-bad-binding-requires
-    identifiers-requires
-    refused-requires-3
+    (λ c κs. lent₈ c .pre)
+    (λ c κs. lent₈ (c .before) .pre .laid .header .long)
+    (λ c κs. tt)
     returns-3
-    slice-aggregate-root-height
-    root-height-requires
+    (λ c. sym (long (eighth (c .before .before))))
+    (λ c κs. let e = eighth (c .before .before) in (lent₈ e .pre .laid .header, long e, all-set e))
     returns-4)

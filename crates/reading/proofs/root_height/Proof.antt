@@ -10,22 +10,6 @@ use Rattle.reading.proofs.root_height.Tie as tie
 abbrev lent : tie.After-nodes → tie.Start
 lent n = n .before .before .before
 
-nodes-requires : tie.Need-nodes-requires
-nodes-requires c κs = c .before .before .pre .0 .long
-
-returns : tie.Need-returns
-returns c = no-height (lent (c .before) .args .table .now) _ (c .before .nodes .ensures) (c .if1 .taken)
-
-sub-wide : tie.Need-sub-wide
-sub-wide c = omega (arith, c .if1 .left)
-
-shared-slice-read-wide : tie.Need-shared-slice-read-wide
-shared-slice-read-wide c =
-    let n = c .before .before in below (last-inside (n .nodes .ensures) (lent n .pre .0)) (sym (lent n .pre .1))
-
-wide-requires : tie.Need-wide-requires
-wide-requires c κs = tt
-
 returns-2 : tie.Need-returns-2
 returns-2 c =
     let e = c .before .before in
@@ -36,4 +20,10 @@ returns-2 c =
 pub root-height-spec : {M : Type 1} → statement M
 root-height-spec =
     tie.close
-    (tie.spec nodes-requires returns sub-wide shared-slice-read-wide wide-requires returns-2)
+    (tie.spec
+    (λ c κs. c .before .before .pre .0 .long)
+    (λ c. no-height (lent (c .before) .args .table .now) _ (c .before .nodes .ensures) (c .if1 .taken))
+    (λ c. omega (arith, c .if1 .left))
+    (λ c. let n = c .before .before in below (last-inside (n .nodes .ensures) (lent n .pre .0)) (sym (lent n .pre .1)))
+    (λ c κs. tt)
+    returns-2)

@@ -1,4 +1,4 @@
--- One case for each code, as in `fieldGood`.
+-- One case for each code, as in `fieldGood`. Landmark: what was lent, from the tests of the ranges of codes on.
 use mathlib.Core.Logic.{⊎-elim, inl, inr}
 use native.Mathlib.Omega.{arith}
 use lib.Dec.{lit<}
@@ -6,20 +6,8 @@ use Rattle.table.proofs.Fields.{good-given, good-element, good-word, go
 use Rattle.table.proofs.field_is_good.Statement.{statement}
 use Rattle.table.proofs.field_is_good.Tie as tie
 
-givens-requires : tie.Need-givens-requires
-givens-requires c κs = c .before .before .pre .laid .header .long
-
-field-requires : tie.Need-field-requires
-field-requires c κs = (c .before .before .pre, lit< tt)
-
-size-requires : tie.Need-size-requires
-size-requires c κs = c .before .before .before .pre .laid .header
-
-is-child-requires : tie.Need-is-child-requires
-is-child-requires c κs = c .before .before .before .before .pre
-
-identifiers-requires : tie.Need-identifiers-requires
-identifiers-requires c κs = c .before .before .before .before .before .pre .laid .header .long
+abbrev lent : tie.Else1 → tie.Start
+lent c = c .before .before .before
 
 returns : tie.Need-returns
 returns c =
@@ -28,24 +16,21 @@ returns c =
 
 returns-2 : tie.Need-returns-2
 returns-2 c =
-    let s = c .before .before .before .before .args in
-    good-element (s .table .now) (s .n) (s .x) (s .code) _ _ (c .before .before .match .keys2) (c .before .field .ensures) (c .size .ensures)
-
-returns-3 : tie.Need-returns-3
-returns-3 c = let s = c .before .before .args in good-word (s .table .now) (s .n) (s .x) (s .code) (c .match .keys3)
-
-returns-4 : tie.Need-returns-4
-returns-4 c = let s = c .before .before .args in good-truth (s .table .now) (s .n) (s .x) (s .code) (c .match .keys4)
+    let m = c .before .before in
+    let s = m .before .before .args in
+    good-element (s .table .now) (s .n) (s .x) (s .code) _ _ (m .match .keys2) (c .before .field .ensures) (c .size .ensures)
 
 returns-5 : tie.Need-returns-5
 returns-5 c =
-    let s = c .before .before .before .before .before .args in
-    good-child (s .table .now) (s .n) (s .x) (s .code) _ (c .before .before .if1 .left) (c .before .if2 .taken) (c .is-child .ensures)
+    let i = c .before .before in
+    let s = lent i .args in
+    good-child (s .table .now) (s .n) (s .x) (s .code) _ (i .if1 .left) (c .before .if2 .taken) (c .is-child .ensures)
 
 returns-6 : tie.Need-returns-6
 returns-6 c =
-    let s = c .before .before .before .before .before .before .args in
-    good-identifier (s .table .now) (s .n) (s .x) (s .code) _ (c .before .before .if2 .left) (c .before .if3 .taken) (c .identifiers .ensures)
+    let i = c .before .before in
+    let s = lent (i .before) .args in
+    good-identifier (s .table .now) (s .n) (s .x) (s .code) _ (i .if2 .left) (c .before .if3 .taken) (c .identifiers .ensures)
 
 returns-7 : tie.Need-returns-7
 returns-7 c =
@@ -56,15 +41,15 @@ pub field-is-good-spec : {M : Type 1} → statement M
 field-is-good-spec =
     tie.close
     (tie.spec
-    givens-requires
-    field-requires
-    size-requires
-    is-child-requires
-    identifiers-requires
+    (λ c κs. c .before .before .pre .laid .header .long)
+    (λ c κs. (c .before .before .pre, lit< tt))
+    (λ c κs. c .before .before .before .pre .laid .header)
+    (λ c κs. lent (c .before) .pre)
+    (λ c κs. lent (c .before .before) .pre .laid .header .long)
     returns
     returns-2
-    returns-3
-    returns-4
+    (λ c. let s = c .before .before .args in good-word (s .table .now) (s .n) (s .x) (s .code) (c .match .keys3))
+    (λ c. let s = c .before .before .args in good-truth (s .table .now) (s .n) (s .x) (s .code) (c .match .keys4))
     returns-5
     returns-6
     returns-7)

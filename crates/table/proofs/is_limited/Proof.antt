@@ -3,21 +3,6 @@ use Rattle.table.proofs.Access.{limited-read, in-header}
 use Rattle.table.proofs.is_limited.Statement.{statement}
 use Rattle.table.proofs.is_limited.Tie as tie
 
-word-requires : tie.Need-word-requires
-word-requires c κs = in-header (c .before .pre) tt
-
-word-requires-2 : tie.Need-word-requires-2
-word-requires-2 c κs = in-header (c .before .before .pre) tt
-
-word-requires-3 : tie.Need-word-requires-3
-word-requires-3 c κs = in-header (c .before .before .before .pre) tt
-
-both-requires : tie.Need-both-requires
-both-requires c κs = tt
-
-both-requires-2 : tie.Need-both-requires-2
-both-requires-2 c κs = tt
-
 returns : tie.Need-returns
 returns c =
     let t = c .before .before in
@@ -28,9 +13,9 @@ pub is-limited-spec : {M : Type 1} → statement M
 is-limited-spec =
     tie.close
     (tie.spec
-    word-requires
-    word-requires-2
-    word-requires-3
-    both-requires
-    both-requires-2
+    (λ c κs. in-header (c .before .pre) tt)
+    (λ c κs. in-header (c .before .before .pre) tt)
+    (λ c κs. in-header (c .before .before .before .pre) tt)
+    (λ c κs. tt)
+    (λ c κs. tt)
     returns)

@@ -4,14 +4,10 @@ use Rattle.table.proofs.Access.{node-here}
 use Rattle.table.proofs.node_field.Statement.{statement}
 use Rattle.table.proofs.node_field.Tie as tie
 
-word-requires : tie.Need-word-requires
-word-requires c κs = omega (arith, c .before .pre .0 .laid .header .long)
-
-field-requires : tie.Need-field-requires
-field-requires c κs = (node-here (c .before .before .pre .0) (c .word .ensures .0), c .before .before .pre .1)
-
-returns : tie.Need-returns
-returns c = c .field .ensures
-
 pub node-field-spec : {M : Type 1} → statement M
-node-field-spec = tie.close (tie.spec word-requires field-requires returns)
+node-field-spec =
+    tie.close
+    (tie.spec
+    (λ c κs. omega (arith, c .before .pre .0 .laid .header .long))
+    (λ c κs. (node-here (c .before .before .pre .0) (c .word .ensures .0), c .before .before .pre .1))
+    (λ c. c .field .ensures))

@@ -3,16 +3,10 @@ use Rattle.table.proofs.Fields.{row-read}
 use Rattle.table.proofs.node_row.Statement.{statement}
 use Rattle.table.proofs.node_row.Tie as tie
 
-kind-requires : tie.Need-kind-requires
-kind-requires c κs = c .before .pre
-
-field-codes-requires : tie.Need-field-codes-requires
-field-codes-requires c κs = tt
-
-returns : tie.Need-returns
-returns c =
-    let s = c .before .before .before .args in
-    row-read (s .table .now) (s .n) _ _ (c .before .kind .ensures) (c .field-codes .ensures)
-
 pub node-row-spec : {M : Type 1} → statement M
-node-row-spec = tie.close (tie.spec kind-requires field-codes-requires returns)
+node-row-spec =
+    tie.close
+    (tie.spec
+    (λ c κs. c .before .pre)
+    (λ c κs. tt)
+    (λ c. let s = c .before .before .before .args in row-read (s .table .now) (s .n) _ _ (c .before .kind .ensures) (c .field-codes .ensures)))

@@ -16,12 +16,6 @@ lent c = c .before .before
 code : (c : tie.After-digit) → fieldOf (c .digit .result) ≡ holdsAt (lent c .args .table .now) (lent c .args .n) 0
 code c = code-read (lent c .args .table .now) (lent c .args .n) (lent c .args .row) 0 (c .digit .result) (lent c .pre .1) (c .digit .ensures)
 
-digit-requires : tie.Need-digit-requires
-digit-requires c κs = lit< tt
-
-field-requires : tie.Need-field-requires
-field-requires c κs = field-asks (lent (c .before) .pre .0)
-
 bit-requires : tie.Need-bit-requires
 bit-requires c κs =
     let d = c .before .before in
@@ -32,8 +26,12 @@ returns c =
     let d = c .before .before .before in
     binds-one _ _ (d .digit .result) (code d) _ _ (c .before .field .ensures) (c .before .before .if1 .taken) (c .bit .ensures)
 
-returns-2 : tie.Need-returns-2
-returns-2 c = let d = c .before in binds-none _ _ (d .digit .result) (code d) (c .if1 .left)
-
 pub bound-at-spec : {M : Type 1} → statement M
-bound-at-spec = tie.close (tie.spec digit-requires field-requires bit-requires returns returns-2)
+bound-at-spec =
+    tie.close
+    (tie.spec
+    (λ c κs. lit< tt)
+    (λ c κs. field-asks (lent (c .before) .pre .0))
+    bit-requires
+    returns
+    (λ c. let d = c .before in binds-none _ _ (d .digit .result) (code d) (c .if1 .left)))

@@ -35,27 +35,6 @@ body c = child (c .before) (ap (λ (k : ℕ). isChild (fieldOf k)) (c .match .ke
 range : (c : tie.At-match-keys2) → {m : ℕ} → m ≡ 512 → c .before .before .field .result < m
 range c = child (c .before) (ap (λ (k : ℕ). isChild (fieldOf k)) (c .match .keys2))
 
-field-requires : tie.Need-field-requires
-field-requires c κs = field-asks (c .before .before .pre .0)
-
-digit-requires : tie.Need-digit-requires
-digit-requires c κs = c .before .before .before .pre .0 .inside
-
-mul-without : tie.Need-mul-without
-mul-without c = scaled-fits _ 512 4 (body c refl) (lit< tt)
-
-shared-slice-read-without : tie.Need-shared-slice-read-without
-shared-slice-read-without c = body (c .before) (lent (c .before .before) .pre .1)
-
-without-requires : tie.Need-without-requires
-without-requires c κs = tt
-
-mul-result : tie.Need-mul-result
-mul-result c = scaled-fits _ 512 4 (range c refl) (lit< tt)
-
-shared-slice-read-result : tie.Need-shared-slice-read-result
-shared-slice-read-result c = range (c .before) (lent (c .before .before) .pre .1)
-
 bit-requires : tie.Need-bit-requires
 bit-requires c κs =
     let d = c .before in
@@ -97,13 +76,13 @@ pub field-names-spec : {M : Type 1} → statement M
 field-names-spec =
     tie.close
     (tie.spec
-    field-requires
-    digit-requires
-    mul-without
-    shared-slice-read-without
-    without-requires
-    mul-result
-    shared-slice-read-result
+    (λ c κs. field-asks (c .before .before .pre .0))
+    (λ c κs. c .before .before .before .pre .0 .inside)
+    (λ c. scaled-fits _ 512 4 (body c refl) (lit< tt))
+    (λ c. body (c .before) (lent (c .before .before) .pre .1))
+    (λ c κs. tt)
+    (λ c. scaled-fits _ 512 4 (range c refl) (lit< tt))
+    (λ c. range (c .before) (lent (c .before .before) .pre .1))
     bit-requires
     returns
     returns-2

@@ -29,28 +29,10 @@ inside c = below (c .loop-test .taken) (counted (c .before) .identifiers .ensure
 few : (c : tie.In-loop Inv-loop μ-loop) → c .before .loop .x < 32
 few c = lt-of-lt-of-le (inside c) (lent (c .before) .pre .laid .header .identifiers)
 
-identifiers-requires : tie.Need-identifiers-requires Inv-loop μ-loop
-identifiers-requires c κs = c .before .pre .laid .header .long
-
-names-of-requires : tie.Need-names-of-requires Inv-loop μ-loop
-names-of-requires c κs = c .before .before .pre
-
-loop-holds : tie.Need-loop-holds Inv-loop μ-loop
-loop-holds c = least-start _ _
-
-binding-is-good-requires : tie.Need-binding-is-good-requires Inv-loop μ-loop
-binding-is-good-requires c κs = let l = c .before in (lent l .pre .laid .header, inside c, l .before .names-of .ensures)
-
 returns : tie.Need-returns Inv-loop μ-loop
 returns c =
     let t = c .before .before in
     least-here _ _ _ (t .before .loop .inv) (inside t) (sym (c .before .binding-is-good .ensures) ∙ not-true _ (c .if1 .taken))
-
-add-x : tie.Need-add-x Inv-loop μ-loop
-add-x c = next-fits 32 (few (c .before .before)) tt
-
-loop-less : tie.Need-loop-less Inv-loop μ-loop
-loop-less c = falls _ _ (c .before .before .loop-test .taken)
 
 loop-again : tie.Need-loop-again Inv-loop μ-loop
 loop-again c =
@@ -69,12 +51,12 @@ first-bad-binding-spec =
     (tie.spec
     Inv-loop
     μ-loop
-    identifiers-requires
-    names-of-requires
-    loop-holds
-    binding-is-good-requires
+    (λ c κs. c .before .pre .laid .header .long)
+    (λ c κs. c .before .before .pre)
+    (λ c. least-start _ _)
+    (λ c κs. let l = c .before in (lent l .pre .laid .header, inside c, l .before .names-of .ensures))
     returns
-    add-x
-    loop-less
+    (λ c. next-fits 32 (few (c .before .before)) tt)
+    (λ c. falls _ _ (c .before .before .loop-test .taken))
     loop-again
     returns-2)

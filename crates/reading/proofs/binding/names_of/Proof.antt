@@ -42,38 +42,11 @@ few c = lt-of-lt-of-le (inside c) (lent (c .before) .pre .laid .header .few-node
 first-field : (c : tie.In-loop Inv-loop μ-loop) → FieldIn (lent (c .before) .args .table .now) (lent (c .before) .args .at) (c .before .loop .n) 0
 first-field c = field-in (lent (c .before) .pre) (inside c) (lit< tt)
 
-nodes-requires : tie.Need-nodes-requires Inv-loop μ-loop
-nodes-requires c κs = c .before .pre .laid .header .long
-
-loop-holds : tie.Need-loop-holds Inv-loop μ-loop
-loop-holds c = (zero-le, refl, passed-none (c .before .before .args .table .now) (replicate 512 0))
-
-node-row-requires : tie.Need-node-row-requires Inv-loop μ-loop
-node-row-requires c κs = node-in (lent (c .before) .pre) (inside c)
-
-bound-at-requires : tie.Need-bound-at-requires Inv-loop μ-loop
-bound-at-requires c κs = (first-field (c .before), c .node-row .ensures)
-
-slice-aggregate-node-names : tie.Need-slice-aggregate-node-names Inv-loop μ-loop
-slice-aggregate-node-names c = sym (binding (c .before) .before .loop .inv .1)
-
 node-names-requires : tie.Need-node-names-requires Inv-loop μ-loop
 node-names-requires c κs =
     let b = c .before in
     let t = binding b in
     (first-field t, t .before .loop .inv .1, b .before .node-row .ensures, b .bound-at .ensures)
-
-mul-names : tie.Need-mul-names Inv-loop μ-loop
-mul-names c = scaled-fits _ 512 4 (few (turn c)) (lit< tt)
-
-array-write-names : tie.Need-array-write-names Inv-loop μ-loop
-array-write-names c = few (turn c)
-
-add-n : tie.Need-add-n Inv-loop μ-loop
-add-n c = next-fits 512 (few (turn c)) tt
-
-loop-less : tie.Need-loop-less Inv-loop μ-loop
-loop-less c = falls _ _ (turn c .loop-test .taken)
 
 loop-again : tie.Need-loop-again Inv-loop μ-loop
 loop-again c =
@@ -97,15 +70,15 @@ names-of-spec =
     (tie.spec
     Inv-loop
     μ-loop
-    nodes-requires
-    loop-holds
-    node-row-requires
-    bound-at-requires
-    slice-aggregate-node-names
+    (λ c κs. c .before .pre .laid .header .long)
+    (λ c. (zero-le, refl, passed-none (c .before .before .args .table .now) (replicate 512 0)))
+    (λ c κs. node-in (lent (c .before) .pre) (inside c))
+    (λ c κs. (first-field (c .before), c .node-row .ensures))
+    (λ c. sym (binding (c .before) .before .loop .inv .1))
     node-names-requires
-    mul-names
-    array-write-names
-    add-n
-    loop-less
+    (λ c. scaled-fits _ 512 4 (few (turn c)) (lit< tt))
+    (λ c. few (turn c))
+    (λ c. next-fits 512 (few (turn c)) tt)
+    (λ c. falls _ _ (turn c .loop-test .taken))
     loop-again
     returns)

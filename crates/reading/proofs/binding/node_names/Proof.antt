@@ -8,15 +8,6 @@ use Rattle.reading.proofs.binding.node_names.Tie as tie
 abbrev lent : tie.After-field-names → tie.Start
 lent a = a .before .before .before
 
-field-names-requires : tie.Need-field-names-requires
-field-names-requires c κs = let p = c .before .before .pre in (p .0, p .1, p .2)
-
-field-names-requires-2 : tie.Need-field-names-requires-2
-field-names-requires-2 c κs = let p = lent c .pre in (field-in (p .0 .fielded) (p .0 .below) (lit< tt), p .1, p .2)
-
-field-names-requires-3 : tie.Need-field-names-requires-3
-field-names-requires-3 c κs = let p = lent (c .before) .pre in (field-in (p .0 .fielded) (p .0 .below) (lit< tt), p .1, p .2)
-
 returns : tie.Need-returns
 returns c =
     let b = c .before in
@@ -28,4 +19,9 @@ returns c =
 
 pub node-names-spec : {M : Type 1} → statement M
 node-names-spec =
-    tie.close (tie.spec field-names-requires field-names-requires-2 field-names-requires-3 returns)
+    tie.close
+    (tie.spec
+    (λ c κs. let p = c .before .before .pre in (p .0, p .1, p .2))
+    (λ c κs. let p = lent c .pre in (field-in (p .0 .fielded) (p .0 .below) (lit< tt), p .1, p .2))
+    (λ c κs. let p = lent (c .before) .pre in (field-in (p .0 .fielded) (p .0 .below) (lit< tt), p .1, p .2))
+    returns)

@@ -25,26 +25,11 @@ stepped c = c .before .before .before
 abbrev placed : tie.After-row-known2 → tie.Joined1
 placed c = stepped c .before
 
-mul-c : tie.Need-mul-c
-mul-c c = scaled-fits _ _ 2 (inside (c .before .before)) (c .before .before .before .good .0 .1)
-
-slice-read-c : tie.Need-slice-read-c
-slice-read-c c = inside (c .before .before .before)
-
 add-counted : tie.Need-add-counted
 add-counted c =
     let j = stepped c in
     let s = j .before .before in
     record { fits = bump-room _ (s .args .hit) (s .args .x) _ _ (s .pre) (place (j .before)) (step j) }
-
-mul-counted : tie.Need-mul-counted
-mul-counted c = let p = placed c in scaled-fits _ _ 2 (inside p) (p .before .good .0 .1)
-
-slice-write-counted : tie.Need-slice-write-counted
-slice-write-counted c = inside (placed c)
-
-same-length : tie.Need-same-length
-same-length c = search needs
 
 returns : tie.Need-returns
 returns c =
@@ -55,4 +40,11 @@ returns c =
 pub bump-spec : {M : Type 1} → statement M
 bump-spec =
     tie.close
-    (tie.spec mul-c slice-read-c add-counted mul-counted slice-write-counted same-length returns)
+    (tie.spec
+    (λ c. scaled-fits _ _ 2 (inside (c .before .before)) (c .before .before .before .good .0 .1))
+    (λ c. inside (c .before .before .before))
+    add-counted
+    (λ c. let p = placed c in scaled-fits _ _ 2 (inside p) (p .before .good .0 .1))
+    (λ c. inside (placed c))
+    (λ c. search needs)
+    returns)

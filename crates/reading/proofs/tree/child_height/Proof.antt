@@ -18,15 +18,6 @@ hit c =
     child-read (start c .args .table .now) (start c .args .n) (start c .args .i) (start c .args .row) (c .before .digit .result) _
     (start c .pre .2) (c .before .digit .ensures) (c .holds-child .ensures)
 
-digit-requires : tie.Need-digit-requires
-digit-requires c κs = c .before .before .pre .0 .inside
-
-holds-child-requires : tie.Need-holds-child-requires
-holds-child-requires c κs = tt
-
-field-requires : tie.Need-field-requires
-field-requires c κs = field-asks (start (c .before) .pre .0)
-
 shared-slice-read-result : tie.Need-shared-slice-read-result
 shared-slice-read-result c =
     let r = c .before .before .before in
@@ -37,16 +28,13 @@ returns c =
     let r = c .before .before .before in
     child-here (λ m. getD (start r .args .heights .now) m 0) _ _ _ _ (hit r) (c .before .field .ensures) (c .before .before .if1 .taken)
 
-returns-2 : tie.Need-returns-2
-returns-2 c = child-none _ _ _ (hit (c .before)) (c .if1 .left)
-
 pub child-height-spec : {M : Type 1} → statement M
 child-height-spec =
     tie.close
     (tie.spec
-    digit-requires
-    holds-child-requires
-    field-requires
+    (λ c κs. c .before .before .pre .0 .inside)
+    (λ c κs. tt)
+    (λ c κs. field-asks (start (c .before) .pre .0))
     shared-slice-read-result
     returns
-    returns-2)
+    (λ c. child-none _ _ _ (hit (c .before)) (c .if1 .left)))

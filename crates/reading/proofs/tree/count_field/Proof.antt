@@ -20,23 +20,11 @@ hit c =
     child-read (start c .args .table .now) (start c .args .n) (start c .args .i) (start c .args .row) (d .result) _
     (start c .pre .3) (d .ensures) (known c .holds-child .ensures)
 
-digit-requires : tie.Need-digit-requires
-digit-requires c κs = c .before .before .pre .0 .inside
-
-holds-child-requires : tie.Need-holds-child-requires
-holds-child-requires c κs = tt
-
-field-requires : tie.Need-field-requires
-field-requires c κs = field-asks (lent (c .before .before) .pre .0)
-
 bump-requires : tie.Need-bump-requires
 bump-requires c κs =
     let s = start c in
     bump-pre (s .args .table .now) (s .args .at) (s .args .n) (s .args .i) (s .args .counted .now) _ _ (hit c) (c .field .ensures)
     (s .pre .0) (s .pre .1) (s .pre .2)
-
-same-length : tie.Need-same-length
-same-length c = c .before .before .bump .kept .0
 
 returns : tie.Need-returns
 returns c =
@@ -49,9 +37,9 @@ pub count-field-spec : {M : Type 1} → statement M
 count-field-spec =
     tie.close
     (tie.spec
-    digit-requires
-    holds-child-requires
-    field-requires
+    (λ c κs. c .before .before .pre .0 .inside)
+    (λ c κs. tt)
+    (λ c κs. field-asks (lent (c .before .before) .pre .0))
     bump-requires
-    same-length
+    (λ c. c .before .before .bump .kept .0)
     returns)

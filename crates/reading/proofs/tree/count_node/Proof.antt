@@ -57,9 +57,6 @@ low₂ f =
     bumped-low 1537 (counted₁ g) (counted₂ f) (childAt (s .args .table .now) (s .args .n) 1) (fieldAt (s .args .table .now) (s .args .n) 1)
     (f .count-field2 .kept .1 .1 .1 .1 .1 .0) (low₁ g) (f .count-field2 .ensures)
 
-node-row-requires : tie.Need-node-row-requires
-node-row-requires c κs = node-in (c .before .before .pre .0) (c .before .before .pre .1)
-
 count-field-requires : tie.Need-count-field-requires
 count-field-requires c κs =
     let r = c .before in
@@ -78,9 +75,6 @@ count-field-requires-3 c κs =
     let p = start₂ f .pre in
     (field-in (p .0) (p .1) (lit< tt), long₂ f ∙ p .2, low-room 1538 (counted₂ f) (lit< tt) (low₂ f), row (first (f .before)) .node-row .ensures)
 
-same-length : tie.Need-same-length
-same-length c = let f = c .before .before in f .count-field3 .kept .1 .1 .1 .1 .1 .0 ∙ long₂ (second (f .before))
-
 returns : tie.Need-returns
 returns c =
     let f₃ = c .before .before in
@@ -96,9 +90,9 @@ pub count-node-spec : {M : Type 1} → statement M
 count-node-spec =
     tie.close
     (tie.spec
-    node-row-requires
+    (λ c κs. node-in (c .before .before .pre .0) (c .before .before .pre .1))
     count-field-requires
     count-field-requires-2
     count-field-requires-3
-    same-length
+    (λ c. let f = c .before .before in f .count-field3 .kept .1 .1 .1 .1 .1 .0 ∙ long₂ (second (f .before)))
     returns)

@@ -33,32 +33,17 @@ inside c = below (c .loop-test .taken) (c .before .before .nodes .ensures)
 few : (c : tie.In-loop Inv-loop μ-loop) → c .before .loop .n < 512
 few c = lt-of-lt-of-le (inside c) (start (c .before) .pre .0 .laid .header .few-nodes)
 
-nodes-requires : tie.Need-nodes-requires Inv-loop μ-loop
-nodes-requires c κs = c .before .before .pre .0 .laid .header .long
-
-loop-holds : tie.Need-loop-holds Inv-loop μ-loop
-loop-holds c = (zero-le, refl, lent c .pre .2)
-
 count-node-requires : tie.Need-count-node-requires Inv-loop μ-loop
 count-node-requires c κs =
     let l = c .before .before in
     let p = start l .pre in
     (p .0, inside (c .before), l .loop .inv .1 ∙ p .1, l .loop .inv .2)
 
-add-n : tie.Need-add-n Inv-loop μ-loop
-add-n c = next-fits 512 (few (turn (c .before .before))) tt
-
-loop-less : tie.Need-loop-less Inv-loop μ-loop
-loop-less c = falls _ _ (turn (c .before .before) .loop-test .taken)
-
 loop-again : tie.Need-loop-again Inv-loop μ-loop
 loop-again c =
     let k = c .before .before in
     let t = turn k in
     (add-one-le (t .loop-test .taken), k .count-node .kept .1 .1 .1 .0 ∙ t .before .loop .inv .1, k .count-node .ensures)
-
-same-length : tie.Need-same-length Inv-loop μ-loop
-same-length c = c .before .loop .inv .1
 
 returns : tie.Need-returns Inv-loop μ-loop
 returns c =
@@ -72,11 +57,11 @@ count-nodes-spec =
     (tie.spec
     Inv-loop
     μ-loop
-    nodes-requires
-    loop-holds
+    (λ c κs. c .before .before .pre .0 .laid .header .long)
+    (λ c. (zero-le, refl, lent c .pre .2))
     count-node-requires
-    add-n
-    loop-less
+    (λ c. next-fits 512 (few (turn (c .before .before))) tt)
+    (λ c. falls _ _ (turn (c .before .before) .loop-test .taken))
     loop-again
-    same-length
+    (λ c. c .before .loop .inv .1)
     returns)

@@ -35,24 +35,6 @@ inside c = below (c .loop-test .taken) (numbered (c .before) .nodes .ensures)
 few : (c : tie.In-loop Inv-loop μ-loop) → c .before .loop .n < 512
 few c = lt-of-lt-of-le (inside c) (lent (c .before) .pre .laid .header .few-nodes)
 
-nodes-requires : tie.Need-nodes-requires Inv-loop μ-loop
-nodes-requires c κs = c .before .pre .laid .header .long
-
-slice-aggregate-count-nodes : tie.Need-slice-aggregate-count-nodes Inv-loop μ-loop
-slice-aggregate-count-nodes c = refl
-
-count-nodes-requires : tie.Need-count-nodes-requires Inv-loop μ-loop
-count-nodes-requires c κs = let s = c .before .before .before in (s .pre, refl, counted-none (s .args .table .now) 512)
-
-loop-holds : tie.Need-loop-holds Inv-loop μ-loop
-loop-holds c = least-start _ _
-
-mul-times : tie.Need-mul-times Inv-loop μ-loop
-mul-times c = scaled-fits _ 512 2 (few c) (lit< tt)
-
-array-read-times : tie.Need-array-read-times Inv-loop μ-loop
-array-read-times c = few c
-
 parent-is-good-requires : tie.Need-parent-is-good-requires Inv-loop μ-loop
 parent-is-good-requires c κs =
     let l = c .before in
@@ -65,12 +47,6 @@ returns : tie.Need-returns Inv-loop μ-loop
 returns c =
     let t = c .before .before in
     least-here _ _ _ (t .before .loop .inv) (inside t) (sym (c .before .parent-is-good .ensures) ∙ not-true _ (c .if1 .taken))
-
-add-n : tie.Need-add-n Inv-loop μ-loop
-add-n c = next-fits 512 (few (c .before .before)) tt
-
-loop-less : tie.Need-loop-less Inv-loop μ-loop
-loop-less c = falls _ _ (c .before .before .loop-test .taken)
 
 loop-again : tie.Need-loop-again Inv-loop μ-loop
 loop-again c =
@@ -89,15 +65,15 @@ first-bad-parent-spec =
     (tie.spec
     Inv-loop
     μ-loop
-    nodes-requires
-    slice-aggregate-count-nodes
-    count-nodes-requires
-    loop-holds
-    mul-times
-    array-read-times
+    (λ c κs. c .before .pre .laid .header .long)
+    (λ c. refl)
+    (λ c κs. let s = c .before .before .before in (s .pre, refl, counted-none (s .args .table .now) 512))
+    (λ c. least-start _ _)
+    (λ c. scaled-fits _ 512 2 (few c) (lit< tt))
+    (λ c. few c)
     parent-is-good-requires
     returns
-    add-n
-    loop-less
+    (λ c. next-fits 512 (few (c .before .before)) tt)
+    (λ c. falls _ _ (c .before .before .loop-test .taken))
     loop-again
     returns-2)

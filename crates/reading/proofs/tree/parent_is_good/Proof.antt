@@ -6,18 +6,6 @@ use Rattle.reading.proofs.Counting.{parent-last, parent-other}
 use Rattle.reading.proofs.tree.parent_is_good.Statement.{statement}
 use Rattle.reading.proofs.tree.parent_is_good.Tie as tie
 
-add-if1 : tie.Need-add-if1
-add-if1 c = next-fits 512 (lt-of-lt-of-le (c .before .pre .0 .below) (c .before .pre .0 .laid .header .few-nodes)) tt
-
-nodes-requires : tie.Need-nodes-requires
-nodes-requires c κs = c .before .pre .0 .laid .header .long
-
-kind-requires : tie.Need-kind-requires
-kind-requires c κs = c .before .before .before .pre .0
-
-category-requires : tie.Need-category-requires
-category-requires c κs = tt
-
 returns : tie.Need-returns
 returns c = parent-last _ _ _ _ (c .before .before .if1 .taken ∙ c .before .before .before .nodes .ensures) (c .before .kind .ensures) (c .category .ensures)
 
@@ -28,4 +16,11 @@ returns-2 c =
 
 pub parent-is-good-spec : {M : Type 1} → statement M
 parent-is-good-spec =
-    tie.close (tie.spec add-if1 nodes-requires kind-requires category-requires returns returns-2)
+    tie.close
+    (tie.spec
+    (λ c. next-fits 512 (lt-of-lt-of-le (c .before .pre .0 .below) (c .before .pre .0 .laid .header .few-nodes)) tt)
+    (λ c κs. c .before .pre .0 .laid .header .long)
+    (λ c κs. c .before .before .before .pre .0)
+    (λ c κs. tt)
+    returns
+    returns-2)

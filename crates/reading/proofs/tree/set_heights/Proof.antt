@@ -44,18 +44,6 @@ long l = l .loop .inv .0 ∙ start l .pre .1
 reached : (c : tie.In-loop Inv-loop μ-loop) → c .before .loop .n < length (c .before .loop .heights)
 reached c = below (few c) (sym (long (c .before)))
 
-nodes-requires : tie.Need-nodes-requires Inv-loop μ-loop
-nodes-requires c κs = c .before .before .pre .0 .laid .header .long
-
-loop-holds : tie.Need-loop-holds Inv-loop μ-loop
-loop-holds c = (refl, least-start _ _, λ m h. absurd (not-suc-le-zero h))
-
-tallest-child-requires : tie.Need-tallest-child-requires Inv-loop μ-loop
-tallest-child-requires c κs = let l = c .before .before in (start l .pre .0, inside (c .before), long l)
-
-same-length : tie.Need-same-length Inv-loop μ-loop
-same-length c = turn (c .before) .before .loop .inv .0
-
 returns : tie.Need-returns Inv-loop μ-loop
 returns c =
     let t = turn (c .before) in
@@ -66,18 +54,6 @@ returns c =
           (c .before .tallest-child .ensures) (c .if1 .taken)),
       l .inv .2,
     )
-
-add-heights : tie.Need-add-heights Inv-loop μ-loop
-add-heights c = omega arith
-
-slice-write-heights : tie.Need-slice-write-heights Inv-loop μ-loop
-slice-write-heights c = reached (turn (c .before))
-
-add-n : tie.Need-add-n Inv-loop μ-loop
-add-n c = next-fits 512 (few (turn (c .before))) tt
-
-loop-less : tie.Need-loop-less Inv-loop μ-loop
-loop-less c = falls _ _ (turn (c .before) .loop-test .taken)
 
 loop-again : tie.Need-loop-again Inv-loop μ-loop
 loop-again c =
@@ -92,9 +68,6 @@ loop-again c =
       heights-more table (s .args .at) (l .n) (s .pre .0) (inside t) (l .heights) (l .inv .2) (h .result) (h .ensures) (reached t),
     )
 
-same-length-2 : tie.Need-same-length-2 Inv-loop μ-loop
-same-length-2 c = c .before .loop .inv .0
-
 returns-2 : tie.Need-returns-2 Inv-loop μ-loop
 returns-2 c =
     let l = c .before .loop .inv in
@@ -107,15 +80,15 @@ set-heights-spec =
     (tie.spec
     Inv-loop
     μ-loop
-    nodes-requires
-    loop-holds
-    tallest-child-requires
-    same-length
+    (λ c κs. c .before .before .pre .0 .laid .header .long)
+    (λ c. (refl, least-start _ _, λ m h. absurd (not-suc-le-zero h)))
+    (λ c κs. let l = c .before .before in (start l .pre .0, inside (c .before), long l))
+    (λ c. turn (c .before) .before .loop .inv .0)
     returns
-    add-heights
-    slice-write-heights
-    add-n
-    loop-less
+    (λ c. omega arith)
+    (λ c. reached (turn (c .before)))
+    (λ c. next-fits 512 (few (turn (c .before))) tt)
+    (λ c. falls _ _ (turn (c .before) .loop-test .taken))
     loop-again
-    same-length-2
+    (λ c. c .before .loop .inv .0)
     returns-2)

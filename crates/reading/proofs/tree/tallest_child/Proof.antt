@@ -13,12 +13,6 @@ lent r = r .before .before .before
 abbrev row : tie.After-child-height3 → tie.After-node-row
 row h = h .before .before .before
 
-node-row-requires : tie.Need-node-row-requires
-node-row-requires c κs = node-in (c .before .before .pre .0) (c .before .before .pre .1)
-
-child-height-requires : tie.Need-child-height-requires
-child-height-requires c κs = let p = lent c .pre in (field-in (p .0) (p .1) (lit< tt), p .2, c .node-row .ensures)
-
 child-height-requires-2 : tie.Need-child-height-requires-2
 child-height-requires-2 c κs =
     let r = c .before in
@@ -30,12 +24,6 @@ child-height-requires-3 c κs =
     let r = c .before .before in
     let p = lent r .pre in
     (field-in (p .0) (p .1) (lit< tt), p .2, r .node-row .ensures)
-
-larger-requires : tie.Need-larger-requires
-larger-requires c κs = tt
-
-larger-requires-2 : tie.Need-larger-requires-2
-larger-requires-2 c κs = tt
 
 returns : tie.Need-returns
 returns c =
@@ -51,10 +39,10 @@ pub tallest-child-spec : {M : Type 1} → statement M
 tallest-child-spec =
     tie.close
     (tie.spec
-    node-row-requires
-    child-height-requires
+    (λ c κs. node-in (c .before .before .pre .0) (c .before .before .pre .1))
+    (λ c κs. let p = lent c .pre in (field-in (p .0) (p .1) (lit< tt), p .2, c .node-row .ensures))
     child-height-requires-2
     child-height-requires-3
-    larger-requires
-    larger-requires-2
+    (λ c κs. tt)
+    (λ c κs. tt)
     returns)
