@@ -50,6 +50,7 @@ module _ {s : List ℕ} {a mid b top : ℕ} (p : Operands s a mid b top) where
     two-function (p .small) (good-whole (p .small) (p .left)) (p .right) (λ _ _. SomeRelation s (length s) a) f e (λ vs i q. (vs, i, q)),
   )
 
+-- And where there is room to build.
 module _ {s : List ℕ} {a mid b top : ℕ} (p : TwoReady s a mid b top) where
   pub ready-values : SomeValue s top a × SomeValue s top b × (top + 514 ≤ length s)
   ready-values =
