@@ -21,16 +21,15 @@ use Rattle.arena.specs.Code.{cellSize, excess, code, CellsFit, SomeSet, SomeVal
 use Rattle.arena.proofs.Standing.{same-refl}
 use Rattle.sets.specs.Fronts.{Merges}
 use Rattle.sets.specs.Pairs.{SomeRelation, Applies, ImageAt}
-use Rattle.sets.proofs.OperationLaws.{union-merged, inter-merged, diff-merged}
 use Rattle.products.specs.Growing.{Pairs, Intervals, Multiplies}
 use Rattle.fitting.specs.Tests.{FitTwo}
 use Rattle.operations.specs.declared.Outcome.{Outcome}
 use Rattle.operations.specs.declared.Outcome.the-variants.{Within, Cell, Lacks}
 use Rattle.operations.specs.Good.{Sizes, GoodAt}
-use Rattle.operations.specs.Outcomes.{weighed, ended, Gives, Operands, TwoDone, TwoOf}
-use Rattle.operations.specs.Double.{IsMerge, MergeDone, Shifted, NumberDone}
+use Rattle.operations.specs.Outcomes.{weighed, twoGiven, ended, Gives, Operands, TwoReady, TwoDone, TwoOf}
+use Rattle.operations.specs.Double.{MergeDone, Shifted, NumberDone}
 use Rattle.operations.proofs.GoodLaws.{good-value, good-above, good-whole, good-inside}
-use Rattle.operations.proofs.OutcomeLaws.{Makes, makes-frame, makes-gives, two-unfit, two-fit, gives-as}
+use Rattle.operations.proofs.OutcomeLaws.{Makes, makes-frame, makes-gives}
 use Rattle.operations.proofs.FitLaws.{two-any, two-fits, two-sets, two-numbers, two-function, number-low}
 use Rattle.operations.proofs.KindLaws.{twoCode, code-of, same-two}
 
@@ -45,36 +44,37 @@ module _ {s : List ℕ} {a mid b top : ℕ} (p : Operands s a mid b top) where
   left-good : GoodAt (p .sizes) s top a (p .first)
   left-good = good-above (p .small) (p .left) top (p .order)
 
-  pub ready-values : SomeValue s top a × SomeValue s top b
-  ready-values = ((p .first, good-value (p .small) left-good), (p .second, good-value (p .small) (p .right)))
+  pub ready-function : {r : Bool} → FitTwo (P̂ (t̂ ×̂ û) ∷ t̂ ∷ []) s a b r → r ≡ true → SomeValue s (length s) b × SomeRelation s (length s) a
+  ready-function f e = (
+    (p .second, good-value (p .small) (good-whole (p .small) (p .right))),
+    two-function (p .small) (good-whole (p .small) (p .left)) (p .right) (λ _ _. SomeRelation s (length s) a) f e (λ vs i q. (vs, i, q)),
+  )
 
-  module _ {r : Bool} where
-    pub ready-sets : (u : Pattern) → FitTwo (P̂ t̂ ∷ P̂ u ∷ []) s a b r → r ≡ true → SomeSet s top a × SomeSet s top b
-    ready-sets u f e =
-        two-sets (p .small) left-good (p .right) (λ _ _. SomeSet s top a × SomeSet s top b) u f e (λ vs ws i j. ((vs, i), (ws, j)))
+-- And where there is room to build.
+module _ {s : List ℕ} {a mid b top : ℕ} (p : TwoReady s a mid b top) where
+  pub ready-values : SomeValue s top a × SomeValue s top b × (top + 514 ≤ length s)
+  ready-values =
+      let o = p .operands in
+      ((o .first, good-value (o .small) (left-good o)), (o .second, good-value (o .small) (o .right)), p .room)
 
-    pub ready-function : FitTwo (P̂ (t̂ ×̂ û) ∷ t̂ ∷ []) s a b r → r ≡ true → SomeValue s (length s) b × SomeRelation s (length s) a
-    ready-function f e = (
-      (p .second, good-value (p .small) (good-whole (p .small) (p .right))),
-      two-function (p .small) (good-whole (p .small) (p .left)) (p .right) (λ _ _. SomeRelation s (length s) a) f e (λ vs i q. (vs, i, q)),
-    )
+  pub ready-sets : (u : Pattern) {r : Bool} → FitTwo (P̂ t̂ ∷ P̂ u ∷ []) s a b r → r ≡ true → SomeSet s top a × SomeSet s top b × (top + 514 ≤ length s)
+  ready-sets u f e =
+      let o = p .operands in
+      two-sets (o .small) (left-good o) (o .right) (λ _ _. SomeSet s top a × SomeSet s top b × (top + 514 ≤ length s)) u f e
+      (λ vs ws i j. ((vs, i), (ws, j), p .room))
 
 -- The answer for operands that do not fit, and for those that do.
 module _ (j : Two) {s : List ℕ} {a mid b top : ℕ} {r : Bool} (f : FitTwo (twoRule j .takes) s a b r) where
   pub two-unlike : r ≡ false → TwoDone j s a mid b top s (Lacks 15)
-  two-unlike e = record {
-    frame = same-refl top s;
-    answer = λ gs v w small h k. two-unfit j v w (two-fits small h k (twoRule j .takes) f ∙ e);
-  }
+  unfolding twoGiven
+  two-unlike e = record { frame = same-refl top s; answer = λ gs v w small h k. rw (two-fits small h k (twoRule j .takes) f ∙ e) }
 
   module _ (e : r ≡ true) {s′ : List ℕ} {o : Outcome} where
     two-told : Same top s s′ →
         ((gs : List ℕ) (v w : Value) → Sizes gs → GoodAt gs s mid a v → GoodAt gs s top b w → Gives s′ mid top (weighed (twoValue j v w)) o) →
         TwoDone j s a mid b top s′ o
-    two-told same m = record {
-      frame = same;
-      answer = λ gs v w small h k. gives-as s′ mid top o (two-fit j v w (two-fits small h k (twoRule j .takes) f ∙ e)) (m gs v w small h k);
-    }
+    unfolding twoGiven
+    two-told same m = record { frame = same; answer = λ gs v w small h k. rw (two-fits small h k (twoRule j .takes) f ∙ e) (m gs v w small h k) }
 
     two-made : (end : ℕ) → Operands s a mid b top →
         ((gs : List ℕ) (v w : Value) → Sizes gs → GoodAt gs s top a v → GoodAt gs s top b w → Makes top s s′ end (twoValue j v w)) →
@@ -105,15 +105,6 @@ module _ {s s′ : List ℕ} {a mid b top end : ℕ} {o : Outcome} (p : Operands
 pub merge-unlike : {s : List ℕ} {a mid b top : ℕ} {l c r t : Bool} → FitTwo (P̂ t̂ ∷ P̂ t̂ ∷ []) s a b t → t ≡ false →
     MergeDone l c r s a mid b top s (Lacks 15)
 merge-unlike {s} {a} {b = b} {t = t} f e j i = two-unlike j (subst (λ (ps : List Pattern). FitTwo ps s a b t) (sym (i .takes)) f) e
-
-pub union-merge : IsMerge union true true true
-union-merge = record { takes = refl; merges = union-merged }
-
-pub inter-merge : IsMerge inter false true false
-inter-merge = record { takes = refl; merges = inter-merged }
-
-pub diff-merge : IsMerge diff true false false
-diff-merge = record { takes = refl; merges = diff-merged }
 
 -- Application: the second part within the function, or none.
 image-none : (s : List ℕ) (a mid top : ℕ) (vs : Values) (r : ℕ) (g : Given) → ImageAt s a vs r g → r ≡ 0 → Gives s mid top (weighed g) (Lacks 16)

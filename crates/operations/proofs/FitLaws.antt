@@ -58,6 +58,7 @@ module _ (P : Value → Type 0) where
   on-number (pair v w) q f = absurd q
   on-number (set vs) q f = absurd q
 
+-- Its cell, and the payload of that.
 number-cell : {gs s : List ℕ} {top at : ℕ} (i : ℤ) → Sizes gs → GoodAt gs s top at (int i) → NumberCell i (getD s at 0)
 unfolding code
 number-cell {s = s} {at = at} i small h = record { fits = good-fits small (int i) (h .good); is = stands-head s at _ _ (h .stands) }

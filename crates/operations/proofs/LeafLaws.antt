@@ -1,11 +1,12 @@
 -- The leaves: their cells, and that what the functions below have built is their value.
-use Prim.Native.Nat.{ℕ, zero, suc, _+_, _*_, _%_, _≤_}
+use Prim.Native.Nat.{ℕ, zero, suc, _+_, _*_, _%_, _≤_, _<_}
 use mathlib.Core.Bool.{true, false}
 use mathlib.Core.List.{List, [], _∷_}
 use mathlib.Core.Logic.{_≢_}
 use mathlib.Core.Option.{some}
 use mathlib.Core.Path.{_≡_, refl, sym, subst}
 use native.Mathlib.Omega.{arith}
+use lib.ListN.{length}
 use borrow.Author.Tests.{eq-eqb, ne-eqb}
 use Rattle.rules.specs.Values.{Value, truthValue, values, weight, weights}
 use Rattle.rules.specs.Kinds.{Leaf, identifier, givenSet, elementOf, literal, truthConst, emptySet, boolSet, leaf, kindOf}
@@ -14,7 +15,7 @@ use Rattle.rules.specs.Operations.{Env, setOf, elementsFrom, leafValue}
 use Rattle.arena.specs.Code.{Made}
 use Rattle.operations.specs.Outcomes.{BuiltAt, LeafFits, LeafReady, LeafDone}
 use Rattle.operations.specs.Leaves.{scalarCell}
-use Rattle.operations.proofs.KindLaws.{leafCode, code-of, same-leaf}
+use Rattle.operations.proofs.KindLaws.{code-of, same-leaf}
 
 -- The cell by the kind's code.
 pub cell-element : (k a b : ℕ) → k ≡ 22 → 12884901888 + 256 * a + b ≡ scalarCell k a b
@@ -26,10 +27,12 @@ cell-number k a b e = rw (ne-eqb k 22 (λ f. omega arith), eq-eqb k 23 e)
 pub cell-truth : (k a b : ℕ) → k ≢ 22 → k ≢ 23 → 8589934592 + a ≡ scalarCell k a b
 cell-truth k a b n m = rw (ne-eqb k 22 n, ne-eqb k 23 m)
 
--- The leaf that the code tells.
-module _ {k a size : ℕ} {s : List ℕ} {top : ℕ} (p : LeafReady k a size s top) where
-  pub leaf-fits : (j : Leaf) → k ≡ leafCode j → LeafFits j a size
-  leaf-fits j e = subst (λ (i : Leaf). LeafFits i a size) (sym (same-leaf k j (p .kind) e (p .is))) (p .fits)
+-- What is asked for a given set.
+pub elements-ready : {k a size : ℕ} {s : List ℕ} {top : ℕ} → LeafReady k a size s top → k ≡ 21 →
+    (a < 16777216) × (size ≤ 32) × (top + 514 ≤ length s)
+elements-ready {k} {a} {size} p e =
+    let f : LeafFits givenSet a size = subst (λ (i : Leaf). LeafFits i a size) (sym (same-leaf k givenSet (p .kind) e (p .is))) (p .fits) in
+    (omega (arith, f .0), f .1, p .room)
 
 built-made : {top r : ℕ} {s s′ : List ℕ} {v : Value} → Made top s s′ v r → weight v ≤ 256 → BuiltAt s′ top (gives v) r
 built-made {v = v} m l = record { value = v; is = refl; stands = m .light l .1; ends = m .light l .0; light = l }

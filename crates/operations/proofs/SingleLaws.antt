@@ -1,6 +1,6 @@
 -- The operations of one operand. For an operand that passes the operation's test it is enough to look at sets, or at sets of pairs; the answer then
 -- tells what the node gives by what has been made, by where the least member stands, or by a cell.
-use Prim.Native.Nat.{ℕ, _+_, _%_, _<_}
+use Prim.Native.Nat.{ℕ, _+_, _%_, _≤_, _<_}
 use mathlib.Core.Bool.{Bool, true, false}
 use mathlib.Core.List.{List, [], _∷_}
 use mathlib.Core.Logic.{_≢_}
@@ -26,21 +26,21 @@ use Rattle.fitting.specs.Agree.{SomeTyped}
 use Rattle.fitting.specs.Tests.{FitOne}
 use Rattle.fitting.proofs.Cells.{members-stand, first-stands}
 use Rattle.operations.specs.Good.{Sizes, GoodAt}
-use Rattle.operations.specs.Outcomes.{weighed, ended, GivenCell, Gives, OneReady, OneDone, OneOf}
+use Rattle.operations.specs.Outcomes.{weighed, oneGiven, ended, GivenCell, Gives, OneReady, OneDone, OneOf}
 use Rattle.operations.specs.declared.Outcome.{Outcome}
 use Rattle.operations.specs.declared.Outcome.the-variants.{Within, Cell, Lacks}
 use Rattle.operations.proofs.GoodLaws.{good-value, good-typed-at, good-inside}
-use Rattle.operations.proofs.OutcomeLaws.{Makes, makes-frame, makes-gives, one-unfit, one-fit, gives-as}
+use Rattle.operations.proofs.OutcomeLaws.{Makes, makes-frame, makes-gives}
 use Rattle.operations.proofs.FitLaws.{fit-types, on-set, one-any, one-fits, one-set, one-relation}
 use Rattle.operations.proofs.KindLaws.{oneCode, code-of, same-one}
 
 pub fits-is-set : (v : Value) → fits (P̂ t̂ ∷ []) (v ∷ []) ≡ true → (vs : Values) × (v ≡ set vs)
 fits-is-set v e = let x = fit-types (P̂ t̂ ∷ []) (v ∷ []) e in on-set (λ y. (vs : Values) × (y ≡ set vs)) v (x .0) (x .2 .0) (λ vs _. (vs, refl))
 
--- The operand that the functions below ask for.
+-- The operand that the functions below ask for, with room to build.
 module _ {s : List ℕ} {a top : ℕ} (p : OneReady s a top) where
-  pub ready-value : SomeValue s top a
-  ready-value = (p .value, good-value (p .small) (p .operand))
+  pub ready-value : SomeValue s top a × (top + 514 ≤ length s)
+  ready-value = ((p .value, good-value (p .small) (p .operand)), p .room)
 
   pub ready-typed : SomeTyped s a
   ready-typed = (p .value, good-typed-at (p .small) (p .operand))
@@ -48,24 +48,23 @@ module _ {s : List ℕ} {a top : ℕ} (p : OneReady s a top) where
   pub ready-inside : a < length s
   ready-inside = good-inside (p .small) (p .operand)
 
-  pub ready-set : {r : Bool} → FitOne (P̂ t̂ ∷ []) s a r → r ≡ true → SomeSet s top a
-  ready-set f e = one-set (p .small) (p .operand) (λ _. SomeSet s top a) f e (λ vs k. (vs, k))
+  pub ready-set : {r : Bool} → FitOne (P̂ t̂ ∷ []) s a r → r ≡ true → SomeSet s top a × (top + 514 ≤ length s)
+  ready-set f e = (one-set (p .small) (p .operand) (λ _. SomeSet s top a) f e (λ vs k. (vs, k)), p .room)
 
-  pub ready-pairs : {r : Bool} → FitOne (P̂ (t̂ ×̂ û) ∷ []) s a r → r ≡ true → SomePairs s top a
-  ready-pairs f e = one-relation (p .small) (p .operand) (λ _. SomePairs s top a) f e (λ vs k q. (vs, k, q))
+  pub ready-pairs : {r : Bool} → FitOne (P̂ (t̂ ×̂ û) ∷ []) s a r → r ≡ true → SomePairs s top a × (top + 514 ≤ length s)
+  ready-pairs f e = (one-relation (p .small) (p .operand) (λ _. SomePairs s top a) f e (λ vs k q. (vs, k, q)), p .room)
 
 -- The answer for an operand that does not fit, and for one that does.
 module _ (j : One) {s : List ℕ} {a top : ℕ} {r : Bool} (f : FitOne (oneRule j .takes) s a r) where
   pub one-unlike : r ≡ false → OneDone j s a top s (Lacks 15)
-  one-unlike e = record { frame = same-refl top s; answer = λ gs v small h. one-unfit j v (one-fits small h (oneRule j .takes) f ∙ e) }
+  unfolding oneGiven
+  one-unlike e = record { frame = same-refl top s; answer = λ gs v small h. rw (one-fits small h (oneRule j .takes) f ∙ e) }
 
   module _ (e : r ≡ true) {s′ : List ℕ} {o : Outcome} where
     one-told : Same top s s′ → ((gs : List ℕ) (v : Value) → Sizes gs → GoodAt gs s top a v → Gives s′ top top (weighed (oneValue j v)) o) →
         OneDone j s a top s′ o
-    one-told same m = record {
-      frame = same;
-      answer = λ gs v small h. gives-as s′ top top o (one-fit j v (one-fits small h (oneRule j .takes) f ∙ e)) (m gs v small h);
-    }
+    unfolding oneGiven
+    one-told same m = record { frame = same; answer = λ gs v small h. rw (one-fits small h (oneRule j .takes) f ∙ e) (m gs v small h) }
 
     one-made : (end : ℕ) → OneReady s a top → ((gs : List ℕ) (v : Value) → Sizes gs → GoodAt gs s top a v → Makes top s s′ end (oneValue j v)) →
         o ≡ ended end → OneDone j s a top s′ o

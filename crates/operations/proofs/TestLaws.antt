@@ -1,6 +1,6 @@
 -- What the tests of kinds 6 to 9 answer: for operands that pass the test's own test it is enough to look at sets, and two numbers are told by their
 -- cells.
-use Prim.Native.Nat.{ℕ, _+_, _-_, _≤_, _<_, Ordering, Ordering·lt, Ordering·eq, Ordering·gt}
+use Prim.Native.Nat.{ℕ, _+_, _≤_, _<_, Ordering, Ordering·lt, Ordering·eq, Ordering·gt}
 use mathlib.Core.Bool.{Bool, true, false}
 use mathlib.Core.Logic.{_≢_}
 use mathlib.Core.List.{List, [], _∷_}
@@ -19,7 +19,7 @@ use Rattle.rules.specs.Rules.{t̂, P̂, numᵖ, testRule}
 use Rattle.rules.specs.Fits.{fits}
 use Rattle.rules.specs.Operations.{holds}
 use Rattle.laws.proofs.OrderLaws.{same-eq, same-refl}
-use Rattle.arena.specs.Code.{excess, code, CellsFit, orderCode, SomeSet, SomeValue, Compared}
+use Rattle.arena.specs.Code.{excess, code, orderCode, SomeSet, SomeValue, Compared}
 use Rattle.arena.proofs.CodeLaws.{all-agree}
 use Rattle.fitting.specs.Tests.{FitTwo}
 use Rattle.sets.specs.Fronts.{Contains, Includes}
@@ -92,13 +92,12 @@ leb-as a b c d f g = go (decLt b a)
     go (yes l) = lt-leb a b l ∙ sym (lt-leb c d (g l))
     go (no n) = let x : a ≤ b = omega arith in le-leb a b x ∙ sym (le-leb c d (f x))
 
-cells-order : (i j : ℤ) → CellsFit (int i) → CellsFit (int j) → leb (4294967296 + excess i) (4294967296 + excess j) ≡ leZ i j
+cells-order : (m n : ℤ) (x y : ℕ) → NumberCell m x → NumberCell n y → leb x y ≡ leZ m n
 unfolding excess
-cells-order (pos m) (pos n) h k = leb-as (4294967296 + (2147483648 + m)) (4294967296 + (2147483648 + n)) m n (λ l. omega arith) (λ l. omega arith)
-cells-order (pos m) (negsuc n) h k = lt-leb (4294967296 + (2147483648 + m)) (4294967296 + (2147483647 - n)) (omega arith)
-cells-order (negsuc m) (pos n) h k = le-leb (4294967296 + (2147483647 - m)) (4294967296 + (2147483648 + n)) (omega arith)
-cells-order (negsuc m) (negsuc n) h k =
-    leb-as (4294967296 + (2147483647 - m)) (4294967296 + (2147483647 - n)) n m (λ l. omega (arith, h .1, k .1)) (λ l. omega (arith, h .1, k .1))
+cells-order (pos m) (pos n) x y c d = leb-as x y m n (λ l. omega arith) (λ l. omega arith)
+cells-order (pos m) (negsuc n) x y c d = lt-leb x y (omega arith)
+cells-order (negsuc m) (pos n) x y c d = le-leb x y (omega arith)
+cells-order (negsuc m) (negsuc n) x y c d = leb-as x y n m (λ l. omega (arith, c .fits .1, d .fits .1)) (λ l. omega (arith, c .fits .1, d .fits .1))
 
 -- Two numbers are equal where their cells are.
 cells-same : (m n : ℤ) (x y : ℕ) → NumberCell m x → NumberCell n y → eqb x y ≡ same (int m) (int n)
@@ -125,7 +124,7 @@ module _ {k x y : ℕ} where
   unfolding tested fits holds
   numbers-at-most e j f m n c d =
       subst (λ (i : Test). Truth (leb x y) ≡ tested i (int m) (int n)) (same-test k (atMost whole) j e f)
-      (ap Truth (rw (c .is, d .is) (cells-order m n (c .fits) (d .fits))))
+      (ap Truth (cells-order m n x y c d))
 
   pub numbers-unlike : k ≢ 6 → k ≢ 9 → NumbersTold k x y Unlike
   unfolding tested fits

@@ -90,6 +90,7 @@ pub fn test(s: &[u64], kind: usize, a: usize, mid: usize, b: usize, top: usize) 
         6 => tests::equal(s, a, mid, b, top),
         7 => tests::member(s, a, mid, b, top),
         8 => tests::subset(s, a, mid, b, top),
+        // 9 takes numbers only.
         _ => Tested::Unlike,
     }
 }

@@ -1,7 +1,9 @@
 -- `two`: each code has its kind. In a need, m is where the operation has answered.
+use mathlib.Core.Path.{refl}
 use Rattle.rules.specs.Types.{whole}
 use Rattle.rules.specs.Kinds.{pairing, union, inter, diff, product, apply, plus, minus}
-use Rattle.operations.proofs.DoubleLaws.{union-merge, inter-merge, diff-merge, two-of, two-last}
+use Rattle.sets.proofs.OperationLaws.{union-merged, inter-merged, diff-merged}
+use Rattle.operations.proofs.DoubleLaws.{two-of, two-last}
 use borrow.Author.Needs.{needs}
 use Rattle.operations.proofs.two.Statement.{statement}
 use Rattle.operations.proofs.two.Tie as tie
@@ -29,11 +31,11 @@ two-spec =
     (λ c. search needs)
     (λ c. let m = c .before .before in two-of pairing (m .before .before .match .keys1) (m .pair .ensures))
     (λ c. search needs)
-    (λ c. let m = c .before .before in two-of union (m .before .before .match .keys2) (m .merge .ensures union union-merge))
+    (λ c. let m = c .before .before in two-of union (m .before .before .match .keys2) (m .merge .ensures _ (record { takes = refl; merges = union-merged })))
     (λ c. search needs)
-    (λ c. let m = c .before .before in two-of inter (m .before .before .match .keys3) (m .merge2 .ensures inter inter-merge))
+    (λ c. let m = c .before .before in two-of inter (m .before .before .match .keys3) (m .merge2 .ensures _ (record { takes = refl; merges = inter-merged })))
     (λ c. search needs)
-    (λ c. let m = c .before .before in two-of diff (m .before .before .match .keys4) (m .merge3 .ensures diff diff-merge))
+    (λ c. let m = c .before .before in two-of diff (m .before .before .match .keys4) (m .merge3 .ensures _ (record { takes = refl; merges = diff-merged })))
     (λ c. search needs)
     (λ c. let m = c .before .before in two-of product (m .before .before .match .keys5) (m .product .ensures))
     (λ c. search needs)

@@ -10,13 +10,6 @@ use Rattle.operations.proofs.double.merge.Tie as tie
 abbrev lent : tie.After-alike-sets → tie.Start
 lent c = c .before .before .before
 
-merge-requires : tie.Need-merge-requires
-merge-requires c κs =
-    let e = c .before in
-    let p = lent (e .before) .pre in
-    let v = ready-sets (p .operands) t̂ (e .before .alike-sets .ensures) (not-false _ (e .if1 .left)) in
-    (v .0, v .1, p .room)
-
 returns-2 : tie.Need-returns-2
 returns-2 c =
     let m = c .before .before .before in
@@ -30,7 +23,7 @@ merge-spec =
     (λ c κs. ready-both (c .before .before .pre .operands))
     (λ c. search needs)
     (λ c. merge-unlike (c .before .alike-sets .ensures) (not-true _ (c .if1 .taken)))
-    merge-requires
+    (λ c κs. let e = c .before in ready-sets (lent (e .before) .pre) t̂ (e .before .alike-sets .ensures) (not-false _ (e .if1 .left)))
     (λ c κs. search needs)
     (λ c. search needs)
     returns-2)

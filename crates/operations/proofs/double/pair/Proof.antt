@@ -11,7 +11,7 @@ pub pair-spec : {M : Type 1} → statement M
 pair-spec =
     tie.close
     (tie.spec
-    (λ c κs. let p = c .before .before .pre in let v = ready-values (p .operands) in (v .0, v .1, p .room))
+    (λ c κs. ready-values (c .before .before .pre))
     (λ c κs. search needs)
     (λ c. search needs)
     (λ c. pair-done (made c .before .before .before .pre .operands) (made c .pair .ensures) (c .built .ensures)))

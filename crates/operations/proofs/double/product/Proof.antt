@@ -11,13 +11,6 @@ use Rattle.operations.proofs.double.product.Tie as tie
 abbrev lent : tie.After-sets → tie.Start
 lent c = c .before .before .before
 
-product-requires : tie.Need-product-requires
-product-requires c κs =
-    let e = c .before in
-    let p = lent (e .before) .pre in
-    let v = ready-sets (p .operands) û (e .before .sets .ensures) (not-false _ (e .if1 .left)) in
-    (v .0, v .1, p .room)
-
 returns-2 : tie.Need-returns-2
 returns-2 c =
     let m = c .before .before .before in
@@ -31,7 +24,7 @@ product-spec =
     (λ c κs. ready-both (c .before .before .pre .operands))
     (λ c. search needs)
     (λ c. two-unlike product (c .before .sets .ensures) (not-true _ (c .if1 .taken)))
-    product-requires
+    (λ c κs. let e = c .before in ready-sets (lent (e .before) .pre) û (e .before .sets .ensures) (not-false _ (e .if1 .left)))
     (λ c κs. search needs)
     (λ c. search needs)
     returns-2)

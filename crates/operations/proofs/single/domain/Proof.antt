@@ -9,12 +9,6 @@ use Rattle.operations.proofs.single.domain.Tie as tie
 abbrev lent : tie.After-is-relation → tie.Start
 lent c = c .before .before .before
 
-domain-requires : tie.Need-domain-requires
-domain-requires c κs =
-    let e = c .before in
-    let p = lent (e .before) .pre in
-    (ready-pairs p (e .before .is-relation .ensures) (not-false _ (e .if1 .left)), p .room)
-
 returns-2 : tie.Need-returns-2
 returns-2 c =
     let m = c .before .before .before in
@@ -28,7 +22,7 @@ domain-spec =
     (λ c κs. ready-typed (c .before .before .pre))
     (λ c. search needs)
     (λ c. one-unlike dom (c .before .is-relation .ensures) (not-true _ (c .if1 .taken)))
-    domain-requires
+    (λ c κs. let e = c .before in ready-pairs (lent (e .before) .pre) (e .before .is-relation .ensures) (not-false _ (e .if1 .left)))
     (λ c κs. search needs)
     (λ c. search needs)
     returns-2)

@@ -9,12 +9,6 @@ use Rattle.operations.proofs.single.power.Tie as tie
 abbrev lent : tie.After-is-set → tie.Start
 lent c = c .before .before .before
 
-power-requires : tie.Need-power-requires
-power-requires c κs =
-    let e = c .before in
-    let p = lent (e .before) .pre in
-    (ready-set p (e .before .is-set .ensures) (not-false _ (e .if1 .left)), p .room)
-
 returns-2 : tie.Need-returns-2
 returns-2 c =
     let m = c .before .before .before in
@@ -28,7 +22,7 @@ power-spec =
     (λ c κs. ready-typed (c .before .before .pre))
     (λ c. search needs)
     (λ c. one-unlike power (c .before .is-set .ensures) (not-true _ (c .if1 .taken)))
-    power-requires
+    (λ c κs. let e = c .before in ready-set (lent (e .before) .pre) (e .before .is-set .ensures) (not-false _ (e .if1 .left)))
     (λ c κs. search needs)
     (λ c. search needs)
     returns-2)

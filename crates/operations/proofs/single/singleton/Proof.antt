@@ -11,7 +11,7 @@ pub singleton-spec : {M : Type 1} → statement M
 singleton-spec =
     tie.close
     (tie.spec
-    (λ c κs. let p = c .before .before .pre in (ready-value p, p .room))
+    (λ c κs. ready-value (c .before .before .pre))
     (λ c κs. search needs)
     (λ c. search needs)
     (λ c. singleton-done (made c .before .before .before .pre) (made c .singleton .ensures) (c .built .ensures)))
