@@ -129,10 +129,10 @@ module _ {bs : List ℕ} (readable : Readable bs) (sheet : List ℕ) where
   unfolding conforming
   table-read buffer = rw (reading-right bs .1 readable)
 
-  pub refused-not : (buffer s env : List ℕ) (a : Loaded) {x : ℕ} → Loads (tableOf bs .sizes) (tableOf bs .binds) buffer s env 0 a → a ≡ Refused x →
+  pub refused-not : (buffer s env : List ℕ) (top : ℕ) (a : Loaded) {x : ℕ} → Loads (tableOf bs .sizes) (tableOf bs .binds) buffer s env top a → a ≡ Refused x →
       false ≡ conforming bs sheet buffer
   unfolding valuesIn
-  refused-not buffer s env a l e = rw (table-read buffer, subst (Loads (tableOf bs .sizes) (tableOf bs .binds) buffer s env 0) e l)
+  refused-not buffer s env top a l e = rw (table-read buffer, subst (Loads (tableOf bs .sizes) (tableOf bs .binds) buffer s env top) e l)
       (go (eqb (length sheet) (sheetLength (tableOf bs))))
     where
       go : (b : Bool) → false ≡ (b && false)
@@ -148,9 +148,9 @@ module _ {bs : List ℕ} (readable : Readable bs) (sheet : List ℕ) where
       rw (table-read buffer, eq-eqb (length sheet) (sheetLength (tableOf bs)) (f .rows), b .reads, binds-length bs) (a (b .values) (bound-stand b))
 
 -- Values that refusal 14 has passed.
-pub loads-all : (bs buffer s env : List ℕ) (a : Loaded) {end : ℕ} → Loads (tableOf bs .sizes) (tableOf bs .binds) buffer s env 0 a → a ≡ All end →
-    LoadedFrom bs buffer s env 0 end
-loads-all bs buffer s env a l e = subst (Loads (tableOf bs .sizes) (tableOf bs .binds) buffer s env 0) e l
+pub loads-all : (bs buffer s env : List ℕ) (top : ℕ) (a : Loaded) {end : ℕ} → Loads (tableOf bs .sizes) (tableOf bs .binds) buffer s env top a → a ≡ All end →
+    LoadedFrom bs buffer s env top end
+loads-all bs buffer s env top a l e = subst (Loads (tableOf bs .sizes) (tableOf bs .binds) buffer s env top) e l
 
 -- A table that is not readable.
 pub unread-not : (bs sheet buffer : List ℕ) (a : Reading) {x : Refusal} → readingOf bs a ≡ reading bs → a ≡ Unreadable x →

@@ -1,5 +1,5 @@
 -- From the bytes of a table and its values to the run at the root, and what each refusal before it reports.
-use Prim.Native.Nat.{ℕ, _-_, _≤_, _<_}
+use Prim.Native.Nat.{ℕ, _+_, _-_, _*_, _≤_, _<_}
 use mathlib.Core.Bool.{Bool, true}
 use mathlib.Core.List.{List}
 use mathlib.Core.Logic.{_≢_}
@@ -8,7 +8,7 @@ use native.Mathlib.Omega.{arith}
 use lib.ListN.{length, getD}
 use Rattle.rules.specs.Cells.{noValue, valuesIn}
 use Rattle.rules.specs.Ends.{done, refused}
-use Rattle.rules.specs.Tables.{Table, tableOf, lastNode, nodeCount, kindAt}
+use Rattle.rules.specs.Tables.{Table, tableOf, lastNode, nodeCount, identifierCount, kindAt}
 use Rattle.rules.specs.Kinds.{predicate}
 use Rattle.rules.specs.Reading.{reading, height, heightLimit}
 use Rattle.rules.specs.Readable.{Readable, CategoryIs}
@@ -27,6 +27,11 @@ use Rattle.reading.specs.declared.Refusal.{Refusal}
 use Rattle.buffer.specs.declared.Loaded.{Loaded}
 use Rattle.buffer.specs.declared.Loaded.the-variants.{All, Refused as Lacking}
 use Rattle.buffer.specs.Loaded.{Bound, Loads, LoadReady}
+use Rattle.arena.specs.Code.{Same}
+use Rattle.buffer.specs.Buffer.{cellsAtMost}
+use Rattle.constants.specs.Built.{Builds}
+use Rattle.constants.specs.Constants.{Constants, OnlyBelow}
+use Rattle.constants.proofs.ConstantLaws.{constants-frame}
 use Rattle.evaluators.proofs.NodeLaws.{node-tall, condition-cells}
 use Rattle.evaluate.specs.declared.Evaluation.{Evaluation}
 use Rattle.evaluators.specs.declared.Held.{Held}
@@ -34,12 +39,19 @@ use Rattle.evaluators.specs.Answers.{HeldAs}
 use Rattle.evaluators.specs.Cycle.{expressionCells, Binds, Ready, holdsAt, EvaluatesP}
 use Rattle.evaluators.specs.Nodes.{IsPred}
 use Rattle.evaluate.specs.Result.{endingOf, RefusedAt, Reported, Within, Reports}
-use Rattle.evaluate.specs.Arenas.{needed, largestArena, ArenaReady}
-use Rattle.evaluate.proofs.ReportLaws.{held-within, within-more}
+use Rattle.evaluate.specs.Arenas.{ArenaReady, RoomFor, Measured, RootReady, RootReported}
+use Rattle.evaluate.proofs.ReportLaws.{held-within}
 
--- The arena has room for the values.
-pub load-ready : {bs buffer s : List ℕ} → ArenaReady bs buffer s → LoadReady bs buffer s
-load-ready r = record { readable = r .needs .readable; room = omega (arith, r .needs .enough); small = r .small }
+-- The arena has room for the constants, and then for the values.
+pub nodes-inside : {bs buffer s : List ℕ} → ArenaReady bs buffer s → nodeCount bs ≤ length s
+nodes-inside r = omega (arith, r .needs .enough)
+
+pub load-ready : {bs buffer s s′ : List ℕ} {n : ℕ} → ArenaReady bs buffer s → OnlyBelow (nodeCount bs) s s′ → n ≡ nodeCount bs → LoadReady bs buffer s′ n
+load-ready r o e = record {
+  readable = r .needs .readable;
+  room = omega (arith, r .needs .enough, o .kept, e);
+  small = omega (arith, r .small, o .kept);
+}
 
 -- Refusals 1 to 9, and 14: no visit is made.
 record Unvisited (x : Run Bool) (k p : ℕ) : Type 0 where
@@ -58,45 +70,57 @@ unloaded-ends bs buffer budget k p tb e f = record { end = rw (e, f); steps = rw
 refusal-reported : {x : Run Bool} {k p : ℕ} {r : Evaluation} → Unvisited x k p → RefusedAt k p 0 r → Reported x r
 refusal-reported e d = record { ending = d .ending ∙ sym (e .end); spent = d .spent ∙ sym (e .steps) }
 
-module _ (bs buffer s env : List ℕ) (a : Loaded) (h : Loads (tableOf bs .sizes) (tableOf bs .binds) buffer s env 0 a) where
-  -- 14 refuses.
-  pub lacking-reported : (budget : ℕ) {x : ℕ} {r : Evaluation} → Readable bs → a ≡ Lacking x → RefusedAt 14 x 0 r → Reported (evaluation bs buffer budget) r
-  unfolding valuesIn
-  lacking-reported budget {x} q e d =
-      let l : valuesIn (tableOf bs) buffer ≡ refused 14 x = subst (λ (z : Loaded). Loads (tableOf bs .sizes) (tableOf bs .binds) buffer s env 0 z) e h in
-      refusal-reported (unloaded-ends bs buffer budget 14 x (tableOf bs) (reading-right bs .1 q) l) d
+-- 14 refuses.
+pub lacking-reported : (bs buffer s env : List ℕ) (top : ℕ) (a : Loaded) → Loads (tableOf bs .sizes) (tableOf bs .binds) buffer s env top a →
+    (budget : ℕ) {x : ℕ} {r : Evaluation} → Readable bs → a ≡ Lacking x → RefusedAt 14 x 0 r → Reported (evaluation bs buffer budget) r
+unfolding valuesIn
+lacking-reported bs buffer s env top a h budget {x} q e d =
+    let l : valuesIn (tableOf bs) buffer ≡ refused 14 x = subst (λ (z : Loaded). Loads (tableOf bs .sizes) (tableOf bs .binds) buffer s env top z) e h in
+    refusal-reported (unloaded-ends bs buffer budget 14 x (tableOf bs) (reading-right bs .1 q) l) d
 
-  pub all-bound : {end : ℕ} → a ≡ All end → Bound (tableOf bs .sizes) (tableOf bs .binds) buffer s env 0 end
-  all-bound e = subst (λ (z : Loaded). Loads (tableOf bs .sizes) (tableOf bs .binds) buffer s env 0 z) e h
-
-module _ (bs : List ℕ) {buffer s env : List ℕ} {top : ℕ} (b : Bound (tableOf bs .sizes) (tableOf bs .binds) buffer s env 0 top) where
+-- The identifiers' values as an environment, over the arena s with the constants that s′ has.
+module _ (bs : List ℕ) {buffer s env : List ℕ} {top n : ℕ} (b : Bound (tableOf bs .sizes) (tableOf bs .binds) buffer s env n top) where
   read-all : valuesIn (tableOf bs) buffer ≡ done (b .values)
   unfolding valuesIn
   read-all = b .reads
 
-  -- The identifiers' values as an environment.
-  abbrev pub valueOf : Env
-  valueOf x = getD (b .values) x noValue
+  module _ {s₀ s₁ : List ℕ} (r : ArenaReady bs buffer s₀) (o : OnlyBelow (nodeCount bs) s₀ s₁) (c : Constants bs (nodeCount bs) s₁) (e : n ≡ nodeCount bs)
+      (same : Same n s₁ s) where
+    pub bound-binds : Binds bs s top env (λ x. getD (b .values) x noValue)
+    bound-binds =
+        let g = valuesIn-good (tableOf bs) buffer (b .values) read-all in
+        record {
+          at = λ x l. record { stands = b .at x l .stands; below = b .at x l .below; good = g x };
+          good = g;
+          constants = constants-frame bs s₁ s (nodeCount bs) n same (omega (arith, e)) c;
+          low = omega (arith, b .above, e);
+        }
 
-  pub bound-binds : Binds bs s top env valueOf
-  bound-binds =
-      let g = valuesIn-good (tableOf bs) buffer (b .values) read-all in
-      record { at = λ x l. record { stands = b .at x l .stands; below = b .at x l .below; good = g x }; good = g }
+    pub root-ready : length env ≡ 32 → RootReady bs env s top
+    root-ready l = record {
+      readable = r .needs .readable;
+      room = λ z. omega (arith, b .room, binds-length bs, r .needs .room z, same .kept, o .kept, e);
+      small = omega (arith, r .small, same .kept, o .kept);
+      entries = l;
+      values = λ x. getD (b .values) x noValue;
+      binds = bound-binds;
+    }
 
-  -- The end of the run at these values is that of the evaluation.
-  run-reported : (budget : ℕ) {r : Evaluation} → Readable bs → Reported (run (tableOf bs) (b .values) budget) r →
-      Reported (evaluation bs buffer budget) r
-  run-reported budget {r} q y =
-      subst (λ (z : Run Bool). Reported z r) (sym (evaluation-run bs buffer budget (tableOf bs) (b .values) (reading-right bs .1 q) read-all)) y
+    -- The end of the run at these values is that of the evaluation.
+    pub run-reported : (budget : ℕ) {x : Evaluation} → RootReported bs env s top budget x → Reported (evaluation bs buffer budget) x
+    run-reported budget {x} h =
+        subst (λ (z : Run Bool). Reported z x)
+        (sym (evaluation-run bs buffer budget (tableOf bs) (b .values) (reading-right bs .1 (r .needs .readable)) read-all)) (h (b .values) bound-binds)
 
+-- The run of the condition.
+module _ {bs env s : List ℕ} {top : ℕ} (r : RootReady bs env s top) {n : ℕ} (e : n ≡ nodeCount bs) where
   -- Without nodes it is true, with no steps.
-  pub absent-reported : (budget : ℕ) {n : ℕ} {r : Evaluation} → Readable bs → n ≡ nodeCount bs → n ≡ 0 →
-      endingOf (r .ending) ≡ done true → r .steps ≡ 0 → Reported (evaluation bs buffer budget) r
+  pub absent-reported : (budget : ℕ) {x : Evaluation} → n ≡ 0 → endingOf (x .ending) ≡ done true → x .steps ≡ 0 → RootReported bs env s top budget x
   unfolding run
-  absent-reported budget q e none ending spent =
-      run-reported budget q (rw (no-condition (tableOf bs) (omega (arith, nodes-length bs))) (record { ending = ending; spent = spent }))
+  absent-reported budget none ending spent vs b =
+      rw (no-condition (tableOf bs) (omega (arith, nodes-length bs))) (record { ending = ending; spent = spent })
 
-  module _ (q : Readable bs) {n : ℕ} (e : n ≡ nodeCount bs) (filled : n ≢ 0) where
+  module _ (filled : n ≢ 0) where
     nodes-here : 0 < length (tableOf bs .nodes)
     nodes-here = omega (arith, e, filled, nodes-length bs)
 
@@ -105,52 +129,58 @@ module _ (bs : List ℕ) {buffer s env : List ℕ} {top : ℕ} (b : Bound (table
     root-last = omega (arith, e, nodes-length bs)
 
     root-cells : expressionCells (kindAt (tableOf bs .nodes) (n - 1)) ≡ 0
-    root-cells = rw root-last (condition-cells (kindAt (tableOf bs .nodes) (lastNode (tableOf bs .nodes))) (q .records .root nodes-here))
+    root-cells = rw root-last (condition-cells (kindAt (tableOf bs .nodes) (lastNode (tableOf bs .nodes))) (r .readable .records .root nodes-here))
 
     root-tall : height (tableOf bs .nodes) (n - 1) ≡ rootHeight (tableOf bs)
     root-tall = ap (height (tableOf bs .nodes)) root-last ∙ sym (some-root 0 (height (tableOf bs .nodes)) (tableOf bs .nodes) nodes-here)
 
     -- The condition at the root may be evaluated.
-    pub root-ready : {s₀ : List ℕ} → ArenaReady bs buffer s₀ → length s ≡ length s₀ → length env ≡ 32 → Ready bs env s top (n - 1) × IsPred bs (n - 1)
-    root-ready {s₀} r k l = (
+    pub node-ready : Ready bs env s top (n - 1) × IsPred bs (n - 1)
+    node-ready = (
       record {
-        readable = q;
+        readable = r .readable;
         node = omega (arith, e, filled);
-        room = omega (arith, b .room, binds-length bs, r .needs .enough, k, root-tall, root-cells);
-        tall = node-tall bs q _ (omega (arith, e, filled));
-        small = omega (arith, r .small, k);
-        entries = l;
-        values = valueOf;
-        binds = bound-binds;
+        room = λ z. omega (arith, r .room z, root-tall, root-cells);
+        tall = node-tall bs (r .readable) _ (omega (arith, e, filled));
+        small = r .small;
+        entries = r .entries;
+        values = r .values;
+        binds = r .binds;
       },
-      subst (λ (m : ℕ). CategoryIs predicate (kindAt (tableOf bs .nodes) m)) (sym root-last) (q .records .root nodes-here),
+      subst (λ (m : ℕ). CategoryIs predicate (kindAt (tableOf bs .nodes) m)) (sym root-last) (r .readable .records .root nodes-here),
     )
 
-    -- What is left at the end is of what was left at the start.
-    pub root-within : {s′ : List ℕ} {left budget : ℕ} {held : Held} → left ≤ budget → EvaluatesP bs env s top (n - 1) left s′ held → Within budget held
-    root-within {left = left} {held = held} le p =
-        let f = length (tableOf bs .nodes) in
-        let x = p .answer f valueOf left 0 (omega (arith, e, filled, nodes-length bs)) (omega arith) bound-binds in
-        within-more held le (held-within (holdsAt bs left f (n - 1) valueOf 0) left held x)
-
-    -- That is the whole budget, and so the end is that of the evaluation.
     module _ {s′ : List ℕ} {budget : ℕ} {held : Held} (p : EvaluatesP bs env s top (n - 1) budget s′ held) where
-      root-held : HeldAs (holdsAt bs budget (length (tableOf bs .nodes)) (n - 1) valueOf 0) budget held
-      root-held = p .answer (length (tableOf bs .nodes)) valueOf budget 0 (omega (arith, e, filled, nodes-length bs)) (omega arith) bound-binds
+      root-held : (ρ : Env) → Binds bs s top env ρ → HeldAs (holdsAt bs budget (length (tableOf bs .nodes)) (n - 1) ρ 0) budget held
+      root-held ρ b = p .answer (length (tableOf bs .nodes)) ρ budget 0 (omega (arith, e, filled, nodes-length bs)) (omega arith) b
 
-      pub root-reported : {r : Evaluation} → Reports budget held r → Reported (evaluation bs buffer budget) r
+      -- What is left at the end is of the budget, and the end is that of the run.
+      pub root-within : Within budget held
+      root-within = held-within (holdsAt bs budget (length (tableOf bs .nodes)) (n - 1) (r .values) 0) budget held (root-held (r .values) (r .binds))
+
+      pub root-reported : {x : Evaluation} → Reports budget held x → RootReported bs env s top budget x
       unfolding run
-      root-reported f = run-reported budget q (rw (some-condition (tableOf bs) nodes-here) (f _ (rw root-last at root-held)))
+      root-reported f vs b = rw (some-condition (tableOf bs) nodes-here) (f _ (rw root-last at (root-held (λ x. getD vs x noValue) b)))
 
--- No table needs more than the large arena.
-pub needed-most : {bs : List ℕ} (values : List ℕ) → Readable bs → needed bs values ≤ largestArena
+-- What is needed has been computed, and the largest arena has it.
+root-low : {bs : List ℕ} → Readable bs → rootHeight (tableOf bs) ≤ heightLimit
 unfolding lastNode
-needed-most {bs} values q = omega (arith, q .header .identifiers, low)
-  where
-    low : rootHeight (tableOf bs) ≤ heightLimit
-    low =
-        let ns = tableOf bs .nodes in
-        by-root 0 (height ns) (λ h. h ≤ heightLimit) ns (omega arith) (λ l. q .records .heights (lastNode ns) (omega arith))
+root-low {bs} q =
+    let ns = tableOf bs .nodes in
+    by-root 0 (height ns) (λ h. h ≤ heightLimit) ns (omega arith) (λ l. q .records .heights (lastNode ns) (omega arith))
+
+pub room-for : {bs : List ℕ} {h : ℕ} → Readable bs → h ≡ rootHeight (tableOf bs) → RoomFor bs (260 + 384 * h)
+room-for q e = record { enough = λ b. omega (arith, e); most = omega (arith, e, root-low q) }
+
+pub no-room : {bs : List ℕ} → (Builds bs → ⊥) → RoomFor bs 0
+no-room none = record { enough = λ b. absurd (none b); most = omega arith }
+
+pub measured : {bs values : List ℕ} {n held r : ℕ} → Readable bs → n ≡ nodeCount bs → held ≡ cellsAtMost (identifierCount bs) (length values) → RoomFor bs r →
+    Measured bs values (1 + n + held + r)
+measured q en eh m = record {
+  needs = record { readable = q; enough = omega (arith, en, eh); room = λ b. omega (arith, en, eh, m .enough b) };
+  most = omega (arith, en, eh, m .most, q .header .identifiers, q .header .few-nodes);
+}
 
 -- 1 to 9 refuse.
 pub unread-reported : (bs buffer : List ℕ) (budget : ℕ) (a : Height) {f : Refusal} {r : Evaluation} → heightOf a ≡ readingHeight bs → a ≡ Unmeasured f →

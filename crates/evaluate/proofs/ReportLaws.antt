@@ -19,10 +19,6 @@ pub held-within : (x : Run Bool) (budget : ℕ) (held : Held) → HeldAs x budge
 held-within x budget (Truth b l) h = omega (arith, h .steps)
 held-within x budget (Refused r l) h = omega (arith, h .steps)
 
-pub within-more : {a b : ℕ} (held : Held) → a ≤ b → Within a held → Within b held
-within-more (Truth c l) le h = omega (arith, le, h)
-within-more (Refused r l) le h = omega (arith, le, h)
-
 module _ {held : Held} (budget : ℕ) where
   pub truth-within : {b : Bool} {l : ℕ} → held ≡ Truth b l → Within budget held → l ≤ budget
   truth-within e h = subst (λ (z : Held). Within budget z) e h

@@ -1,43 +1,69 @@
--- The arenas that an evaluation may be made in, and the room that it needs.
+-- The arenas that an evaluation may be made in, and the room that it needs: a cell for each node's constant, one for identifiers without a value, the
+-- values' cells, and what the condition takes above them.
 use Prim.Native.Nat.{ℕ, _+_, _*_, _≤_, _<_}
 use mathlib.Core.List.{List, [], _∷_}
 use mathlib.Core.Path.{_≡_}
 use lib.ListN.{length, getD}
-use Rattle.rules.specs.Tables.{tableOf, identifierCount}
+use Rattle.rules.specs.Cells.{noValue}
+use Rattle.rules.specs.Tables.{tableOf, nodeCount, identifierCount}
 use Rattle.rules.specs.Reading.{heightLimit}
 use Rattle.rules.specs.Readable.{Readable}
-use Rattle.rules.specs.Evaluation.{evaluation}
+use Rattle.rules.specs.Values.{Value}
+use Rattle.rules.specs.Operations.{Env}
+use Rattle.rules.specs.Evaluation.{run}
 use Rattle.reading.specs.Answers.{rootHeight}
 use Rattle.buffer.specs.Buffer.{cellsAtMost}
-use Rattle.evaluate.specs.declared.arenas.Attempt.{Attempt}
-use Rattle.evaluate.specs.declared.arenas.Attempt.the-variants.{Made, NoRoom}
+use Rattle.constants.specs.Built.{Builds}
+use Rattle.evaluators.specs.Cycle.{Binds}
+use Rattle.evaluate.specs.declared.Evaluation.{Evaluation}
 use Rattle.evaluate.specs.Result.{Reported}
 
--- What a readable table and its values ask of the arena: the values' cells, what the root takes, which is a condition, and 1 more.
-abbrev pub needed : List ℕ → List ℕ → ℕ
-needed bs values = 261 + cellsAtMost (identifierCount bs) (length values) + 384 * rootHeight (tableOf bs)
+-- What the root takes, which is a condition, where any node builds a value.
+abbrev pub rootCells : List ℕ → ℕ
+rootCells bs = 260 + 384 * rootHeight (tableOf bs)
+
+-- The cells of constants and values.
+abbrev pub standingCells : List ℕ → List ℕ → ℕ
+standingCells bs values = 1 + nodeCount bs + cellsAtMost (identifierCount bs) (length values)
 
 pub record Needs (bs values : List ℕ) (size : ℕ) : Type 0 where
   pub readable : Readable bs
-  pub enough : needed bs values ≤ size
+  pub enough : standingCells bs values ≤ size
+  pub room : Builds bs → standingCells bs values + rootCells bs ≤ size
 
 pub record ArenaReady (bs values s : List ℕ) : Type 0 where
   pub needs : Needs bs values (length s)
   pub small : length s < 4294967296
 
--- The cells of the arenas, from the smallest on. The largest has room for 32 values of 256 cells and for the highest root.
+-- The cells of the arenas, from the smallest on. The largest has room for 512 nodes, 32 values of 256 cells and the highest root.
 abbrev pub largestArena : ℕ
-largestArena = 261 + 32 * 256 + 384 * heightLimit
+largestArena = 1 + 512 + 32 * 256 + (260 + 384 * heightLimit)
+
+abbrev pub lastArena : ℕ
+lastArena = 6
 
 abbrev pub arenaSize : ℕ → ℕ
-arenaSize k = getD (1152 ∷ 2304 ∷ 4864 ∷ 12544 ∷ []) k largestArena
+arenaSize k = getD (64 ∷ 320 ∷ 1280 ∷ 2304 ∷ 4864 ∷ 12544 ∷ []) k largestArena
+
+-- Room for what the condition takes.
+pub record RoomFor (bs : List ℕ) (r : ℕ) : Type 0 where
+  pub enough : Builds bs → rootCells bs ≤ r
+  pub most : r ≤ 260 + 384 * heightLimit
 
 -- What a readable table and its values need has been computed.
 pub record Measured (bs values : List ℕ) (need : ℕ) : Type 0 where
-  pub readable : Readable bs
-  pub is : need ≡ needed bs values
+  pub needs : Needs bs values need
+  pub most : need ≤ largestArena
 
--- The evaluation has been made, or arena k has no room for it.
-abbrev pub Attempts : List ℕ → List ℕ → ℕ → ℕ → Attempt → Type 0
-Attempts bs values budget k (Made r) = Reported (evaluation bs values budget) r
-Attempts bs values budget k NoRoom = arenaSize k < needed bs values
+-- The condition may be evaluated over values that stand below `top`, and its end is told for all values that the environment binds so.
+pub record RootReady (bs env s : List ℕ) (top : ℕ) : Type 0 where
+  pub readable : Readable bs
+  pub room : Builds bs → top + rootCells bs ≤ length s
+  pub small : length s < 4294967296
+  pub entries : length env ≡ 32
+  pub values : Env
+  pub binds : Binds bs s top env values
+
+abbrev pub RootReported : List ℕ → List ℕ → List ℕ → ℕ → ℕ → Evaluation → Type 0
+RootReported bs env s top budget r =
+    (vs : List Value) → Binds bs s top env (λ x. getD vs x noValue) → Reported (run (tableOf bs) vs budget) r

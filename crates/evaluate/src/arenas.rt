@@ -1,55 +1,65 @@
-// Arenas of five sizes, so that a call on a small table does not pay for a large one.
-use crate::Evaluation;
+// Arenas of seven sizes, so that a call on a small table does not pay for a large one.
+use crate::GuardedRun;
 use crate::evaluate_in;
+ghost use Prim.Native.Nat.{_≤_};
 ghost use mathlib.Core.Path.{_≡_};
-ghost use Rattle.rules.specs.Evaluation.{evaluation};
-ghost use Rattle.evaluate.specs.Result.{Reported};
-ghost use Rattle.evaluate.specs.Arenas.{Needs, largestArena, arenaSize, Measured, Attempts};
+ghost use Rattle.evaluate.specs.Result.{Judged};
+ghost use Rattle.evaluate.specs.Arenas.{Needs, largestArena, arenaSize, lastArena, Measured};
 
-// An evaluation, or that no arena had room for it.
-pub enum Attempt {
-    Made(Evaluation),
-    NoRoom,
-}
-
-fn tiny(table: &[u8], values: &[u8], budget: u32) -> Evaluation
-    requires { ⌜ Needs (now table) (now values) 1152 ⌝ }
-    ensures { λ r. ⌜ Reported (evaluation (now (table .entry)) (now (values .entry)) budget) r ⌝ }
+fn least(table: &[u8], values: &[u8], sheet: &[u8], budget: u32) -> GuardedRun
+    requires { ⌜ Needs (now table) (now values) 64 ⌝ }
+    ensures { λ r. ⌜ Judged (now (table .entry)) (now (values .entry)) (now (sheet .entry)) budget r ⌝ }
 {
-    let mut s = [0u64; 1152];
-    evaluate_in(table, values, budget, &mut s)
+    let mut s = [0u64; 64];
+    evaluate_in(table, values, sheet, budget, &mut s)
 }
 
-fn small(table: &[u8], values: &[u8], budget: u32) -> Evaluation
+fn tiny(table: &[u8], values: &[u8], sheet: &[u8], budget: u32) -> GuardedRun
+    requires { ⌜ Needs (now table) (now values) 320 ⌝ }
+    ensures { λ r. ⌜ Judged (now (table .entry)) (now (values .entry)) (now (sheet .entry)) budget r ⌝ }
+{
+    let mut s = [0u64; 320];
+    evaluate_in(table, values, sheet, budget, &mut s)
+}
+
+fn small(table: &[u8], values: &[u8], sheet: &[u8], budget: u32) -> GuardedRun
+    requires { ⌜ Needs (now table) (now values) 1280 ⌝ }
+    ensures { λ r. ⌜ Judged (now (table .entry)) (now (values .entry)) (now (sheet .entry)) budget r ⌝ }
+{
+    let mut s = [0u64; 1280];
+    evaluate_in(table, values, sheet, budget, &mut s)
+}
+
+fn middle(table: &[u8], values: &[u8], sheet: &[u8], budget: u32) -> GuardedRun
     requires { ⌜ Needs (now table) (now values) 2304 ⌝ }
-    ensures { λ r. ⌜ Reported (evaluation (now (table .entry)) (now (values .entry)) budget) r ⌝ }
+    ensures { λ r. ⌜ Judged (now (table .entry)) (now (values .entry)) (now (sheet .entry)) budget r ⌝ }
 {
     let mut s = [0u64; 2304];
-    evaluate_in(table, values, budget, &mut s)
+    evaluate_in(table, values, sheet, budget, &mut s)
 }
 
-fn middle(table: &[u8], values: &[u8], budget: u32) -> Evaluation
+fn large(table: &[u8], values: &[u8], sheet: &[u8], budget: u32) -> GuardedRun
     requires { ⌜ Needs (now table) (now values) 4864 ⌝ }
-    ensures { λ r. ⌜ Reported (evaluation (now (table .entry)) (now (values .entry)) budget) r ⌝ }
+    ensures { λ r. ⌜ Judged (now (table .entry)) (now (values .entry)) (now (sheet .entry)) budget r ⌝ }
 {
     let mut s = [0u64; 4864];
-    evaluate_in(table, values, budget, &mut s)
+    evaluate_in(table, values, sheet, budget, &mut s)
 }
 
-fn large(table: &[u8], values: &[u8], budget: u32) -> Evaluation
+fn larger(table: &[u8], values: &[u8], sheet: &[u8], budget: u32) -> GuardedRun
     requires { ⌜ Needs (now table) (now values) 12544 ⌝ }
-    ensures { λ r. ⌜ Reported (evaluation (now (table .entry)) (now (values .entry)) budget) r ⌝ }
+    ensures { λ r. ⌜ Judged (now (table .entry)) (now (values .entry)) (now (sheet .entry)) budget r ⌝ }
 {
     let mut s = [0u64; 12544];
-    evaluate_in(table, values, budget, &mut s)
+    evaluate_in(table, values, sheet, budget, &mut s)
 }
 
-fn largest(table: &[u8], values: &[u8], budget: u32) -> Evaluation
+fn largest(table: &[u8], values: &[u8], sheet: &[u8], budget: u32) -> GuardedRun
     requires { ⌜ Needs (now table) (now values) largestArena ⌝ }
-    ensures { λ r. ⌜ Reported (evaluation (now (table .entry)) (now (values .entry)) budget) r ⌝ }
+    ensures { λ r. ⌜ Judged (now (table .entry)) (now (values .entry)) (now (sheet .entry)) budget r ⌝ }
 {
-    let mut s = [0u64; 18821];
-    evaluate_in(table, values, budget, &mut s)
+    let mut s = [0u64; 19333];
+    evaluate_in(table, values, sheet, budget, &mut s)
 }
 
 // The cells of arena k.
@@ -57,34 +67,39 @@ fn size(k: usize) -> usize
     ensures { λ r. ⌜ r ≡ arenaSize k ⌝ }
 {
     match k {
-        0 => 1152,
-        1 => 2304,
-        2 => 4864,
-        3 => 12544,
-        _ => 18821,
+        0 => 64,
+        1 => 320,
+        2 => 1280,
+        3 => 2304,
+        4 => 4864,
+        5 => 12544,
+        _ => 19333,
     }
 }
 
-// Evaluates in the smallest of the arenas 0 to k that has room. The recursion keeps their frames apart: without it the
-// compiler makes one frame of all, and each call touches every page of the largest.
-pub(crate) fn smallest(table: &[u8], values: &[u8], budget: u32, need: usize, k: usize) -> Attempt
-    requires { ⌜ Measured (now table) (now values) need ⌝ }
-    ensures { λ r. ⌜ Attempts (now (table .entry)) (now (values .entry)) budget k r ⌝ }
+// Evaluates in the smallest of the arenas from k on that has room; the last one has. The recursion keeps their frames apart: without it
+// the compiler makes one frame of all, and each call touches every page of the largest.
+pub(crate) fn smallest(
+    table: &[u8],
+    values: &[u8],
+    sheet: &[u8],
+    budget: u32,
+    need: usize,
+    k: usize,
+) -> GuardedRun
+    requires { ⌜ Measured (now table) (now values) need × (k ≤ lastArena) ⌝ }
+    ensures { λ r. ⌜ Judged (now (table .entry)) (now (values .entry)) (now (sheet .entry)) budget r ⌝ }
 {
-    if k > 0 {
-        let smaller = smallest(table, values, budget, need, k - 1);
-        let Attempt::NoRoom = smaller else {
-            return smaller;
-        };
-    }
     if size(k) < need {
-        return Attempt::NoRoom;
+        return smallest(table, values, sheet, budget, need, k + 1);
     }
     match k {
-        0 => Attempt::Made(tiny(table, values, budget)),
-        1 => Attempt::Made(small(table, values, budget)),
-        2 => Attempt::Made(middle(table, values, budget)),
-        3 => Attempt::Made(large(table, values, budget)),
-        _ => Attempt::Made(largest(table, values, budget)),
+        0 => least(table, values, sheet, budget),
+        1 => tiny(table, values, sheet, budget),
+        2 => small(table, values, sheet, budget),
+        3 => middle(table, values, sheet, budget),
+        4 => large(table, values, sheet, budget),
+        5 => larger(table, values, sheet, budget),
+        _ => largest(table, values, sheet, budget),
     }
 }

@@ -1,17 +1,17 @@
 // Evaluate: refusals 1 to 9, then 14, then the condition in an arena with room for it, and the report.
 ghost use mathlib.Core.Path.{_≡_};
+ghost use mathlib.Core.Bool.{false};
 ghost use Rattle.rules.specs.Tables.{tableOf};
 ghost use Rattle.rules.specs.Readable.{Readable};
 ghost use Rattle.rules.specs.Ends.{done};
 ghost use Rattle.rules.specs.Evaluation.{evaluation};
 ghost use Rattle.evaluate.specs.declared.Ending.the-variants.{Decided};
-ghost use Rattle.evaluate.specs.Result.{endingOf, RefusedAt, Reported, Within, Reports};
+ghost use Rattle.evaluate.specs.Result.{endingOf, RefusedAt, Judged, Within, Reports};
 ghost use Rattle.reading.specs.Answers.{rootHeight};
-ghost use Rattle.evaluate.specs.Arenas.{ArenaReady};
+ghost use Rattle.evaluate.specs.Arenas.{ArenaReady, RoomFor, RootReady, RootReported};
 
 mod arenas;
 
-use arenas::Attempt;
 use buffer::Loaded;
 use evaluators::Held;
 use reading::Height;
@@ -32,6 +32,12 @@ pub enum Ending {
 pub struct Evaluation {
     pub ending: Ending,
     pub steps: u32,
+}
+
+// An evaluation, and whether the values have the types that a sheet gives to the identifiers.
+pub struct GuardedRun {
+    pub evaluation: Evaluation,
+    pub conforms: bool,
 }
 
 fn truth_of(yes: bool) -> Truth
@@ -63,54 +69,96 @@ fn ended(held: Held, budget: u32) -> Evaluation
     }
 }
 
-// Evaluates a readable table over the arena s. Without nodes its condition is absent, which is true.
-fn evaluate_in(table: &[u8], values: &[u8], budget: u32, s: &mut [u64]) -> Evaluation
-    requires { ⌜ ArenaReady (now table) (now values) (now s) ⌝ }
-    ensures { λ r. ⌜ Reported (evaluation (now (table .entry)) (now (values .entry)) budget) r ⌝ }
+// 14 at an identifier.
+fn unloaded(x: usize) -> GuardedRun
+    ensures { λ r. ⌜ RefusedAt 14 x 0 (r .evaluation) × (r .conforms ≡ false) ⌝ }
 {
-    let loaded = buffer::load(table, values, s);
-    let env = loaded.at;
-    let answer = loaded.answer;
-    match answer {
-        Loaded::Refused(x) => refused(
+    GuardedRun {
+        evaluation: refused(
             Refusal {
                 number: 14,
                 place: x,
             },
             0,
         ),
+        conforms: false,
+    }
+}
+
+// The condition of a table whose values stand in the arena; without nodes it is absent, which is true.
+fn evaluate_at(table: &[u8], env: &[u32; 32], s: &mut [u64], top: usize, budget: u32) -> Evaluation
+    requires { ⌜ RootReady (now table) (now env) (now s) top ⌝ }
+    ensures { λ r. ⌜ RootReported (now (table .entry)) (now (env .entry)) (now (s .entry)) top budget r ⌝ }
+{
+    let count = table::nodes(table);
+    if count == 0 {
+        return Evaluation {
+            ending: Ending::Decided(Truth::True),
+            steps: 0,
+        };
+    }
+    let held = evaluators::eval_pred(table, env, s, top, count - 1, budget);
+    ended(held, budget)
+}
+
+// Evaluates a readable table over the arena s, in which its constants stand first, and then the values of its identifiers; and tests these
+// against the sheet.
+fn evaluate_in(table: &[u8], values: &[u8], sheet: &[u8], budget: u32, s: &mut [u64]) -> GuardedRun
+    requires { ⌜ ArenaReady (now table) (now values) (now s) ⌝ }
+    ensures { λ r. ⌜ Judged (now (table .entry)) (now (values .entry)) (now (sheet .entry)) budget r ⌝ }
+{
+    constants::put_constants(table, s);
+    let count = table::nodes(table);
+    let loaded = buffer::load(table, values, s, count);
+    let env = loaded.at;
+    let answer = loaded.answer;
+    match answer {
+        Loaded::Refused(x) => unloaded(x),
         Loaded::All(top) => {
-            let count = table::nodes(table);
-            if count == 0 {
-                return Evaluation {
-                    ending: Ending::Decided(Truth::True),
-                    steps: 0,
-                };
+            let conforms = conforms::loaded_conform(table, s, &env, sheet);
+            let evaluation = evaluate_at(table, &env, s, top, budget);
+            GuardedRun {
+                evaluation,
+                conforms,
             }
-            let held = evaluators::eval_pred(table, &env, s, top, count - 1, budget);
-            ended(held, budget)
         }
     }
 }
 
-// Evaluates a readable table, whose root has the height, over an arena of its size.
-fn evaluate_sized(table: &[u8], values: &[u8], budget: u32, height: usize) -> Evaluation
+// The cells that the condition takes above its values: none where no node of the table builds a value.
+fn room(table: &[u8], height: usize) -> usize
     requires { ⌜ Readable (now table) × (height ≡ rootHeight (tableOf (now table))) ⌝ }
-    ensures { λ r. ⌜ Reported (evaluation (now (table .entry)) (now (values .entry)) budget) r ⌝ }
+    ensures { λ r. ⌜ RoomFor (now (table .entry)) r ⌝ }
+{
+    if constants::builds(table) {
+        return 260 + 384 * height;
+    }
+    0
+}
+
+// Evaluates a readable table, whose root has the height, over an arena of its size.
+fn evaluate_sized(
+    table: &[u8],
+    values: &[u8],
+    sheet: &[u8],
+    budget: u32,
+    height: usize,
+) -> GuardedRun
+    requires { ⌜ Readable (now table) × (height ≡ rootHeight (tableOf (now table))) ⌝ }
+    ensures { λ r. ⌜ Judged (now (table .entry)) (now (values .entry)) (now (sheet .entry)) budget r ⌝ }
 {
     let held = buffer::cells_at_most(table::identifiers(table), values.len());
-    let need = 261 + held + 384 * height;
-    match arenas::smallest(table, values, budget, need, 4) {
-        Attempt::Made(e) => e,
-        // Never: the last arena has room for each readable table.
-        Attempt::NoRoom => refused(
-            Refusal {
-                number: 8,
-                place: 0,
-            },
-            0,
-        ),
-    }
+    let need = 1 + table::nodes(table) + held + room(table, height);
+    arenas::smallest(table, values, sheet, budget, need, 0)
+}
+
+// The same for a readable table whose root's height is not known yet: Check has read it.
+pub fn evaluate_readable(table: &[u8], values: &[u8], sheet: &[u8], budget: u32) -> GuardedRun
+    requires { ⌜ Readable (now table) ⌝ }
+    ensures { λ r. ⌜ Judged (now (table .entry)) (now (values .entry)) (now (sheet .entry)) budget r ⌝ }
+{
+    let height = reading::measure(table);
+    evaluate_sized(table, values, sheet, budget, height)
 }
 
 // Evaluate: refusals 1 to 9, then 14, and then the condition's end.
@@ -120,6 +168,10 @@ pub fn evaluate(table: &[u8], values: &[u8], budget: u32) -> Evaluation
     let height = reading::read_height(table);
     match height {
         Height::Refused(r) => refused(r, 0),
-        Height::Root(h) => evaluate_sized(table, values, budget, h),
+        Height::Root(h) => {
+            // No sheet: whether the values conform is not asked.
+            let run = evaluate_sized(table, values, &table[..0], budget, h);
+            run.evaluation
+        }
     }
 }

@@ -1,112 +1,99 @@
--- `evaluate_in`: refusal 14, or the run of the condition, which without nodes is true at once. Landmarks: what was lent, the reading of
--- the values, and the count of the nodes, where the values stand in the arena.
-use borrow.Author.Needs.{length-unmapped}
+-- `evaluate_in`: the constants, then the values, or refusal 14; then whether the values conform, and the condition. Landmarks: what was lent, the
+-- constants, the count of the nodes, the values.
 use Prim.Native.Nat.{ℕ}
-use mathlib.Core.Path.{_≡_, _∙_, refl}
-use native.Mathlib.Omega.{arith}
+use mathlib.Core.Path.{_≡_, _∙_}
+use borrow.Author.Needs.{needs, length-unmapped}
 use lib.ListN.{length}
 use Rattle.rules.specs.Tables.{tableOf}
 use Rattle.buffer.specs.Loaded.{Bound}
-use Rattle.evaluate.proofs.EntryLaws.{load-ready, lacking-reported, all-bound, absent-reported, root-ready, root-within, root-reported}
+use Rattle.conforms.proofs.NameLaws.{refused-not, loads-all}
+use Rattle.evaluate.proofs.EntryLaws.{nodes-inside, load-ready, lacking-reported, root-ready, run-reported}
 use Rattle.evaluate.proofs.evaluate_in.Statement.{statement}
 use Rattle.evaluate.proofs.evaluate_in.Tie as tie
 
-abbrev lent : tie.After-load → tie.Start
-lent l = let a = l .before .before in a .before .before .before
+abbrev lent : tie.After-put-constants → tie.Start
+lent k = let a = k .before .before in a .before .before .before .before
 
-abbrev found : tie.After-answer2 → tie.After-load
-found a = let e = a .before .before in e .before .before .before
+abbrev put : tie.After-nodes → tie.After-put-constants
+put n = n .before .before .before
 
-abbrev valued : tie.After-nodes → tie.After-answer2
-valued n = n .before .before
+abbrev counted : tie.After-load → tie.After-nodes
+counted l = l .before .before
 
-abbrev loaded : tie.After-nodes → tie.After-load
-loaded n = found (valued n)
+abbrev read : tie.After-env → tie.After-load
+read e = e .before .before .before
 
--- Some node is there, and the root has been evaluated.
-abbrev filled : tie.After-eval-pred → tie.Else1
-filled p = p .before .before .before
+abbrev loaded : tie.After-answer2 → tie.After-load
+loaded a = read (a .before .before)
 
--- The arena keeps its length.
-kept : (l : tie.After-load) → length (l .load .last .1 .1 .0) ≡ length (lent l .args .s .now)
-kept l = l .load .kept .1 .1 .0
+-- The values of the buffer stand in the arena.
+abbrev standing : (a : tie.After-answer2) →
+    let l = loaded a in
+    let v = lent (put (counted l)) in
+    Bound (tableOf (v .args .table .now) .sizes) (tableOf (v .args .table .now) .binds) (v .args .values .now) (l .load .last .1 .1 .0)
+    (l .load .result .at) (counted l .nodes .result) (a .answer2 .given .0 .0)
+standing a = loads-all _ _ _ _ _ _ (loaded a .load .ensures .1) (a .answer2 .given .1)
 
--- The values of the buffer stand in it.
-abbrev standing : (n : tie.After-nodes) →
-    Bound (tableOf (lent (loaded n) .args .table .now) .sizes) (tableOf (lent (loaded n) .args .table .now) .binds)
-    (lent (loaded n) .args .values .now) (loaded n .load .last .1 .1 .0) (loaded n .load .result .at) 0 (valued n .answer2 .given .0 .0)
-standing n =
-    all-bound (lent (loaded n) .args .table .now) (lent (loaded n) .args .values .now) (loaded n .load .last .1 .1 .0) (loaded n .load .result .at)
-    (loaded n .load .result .answer) (loaded n .load .ensures) (valued n .answer2 .given .1)
+abbrev told : tie.After-env2 → tie.After-answer2
+told c = c .before .before .before
+
+abbrev tested : tie.After-evaluate-at-arg → tie.After-env2
+tested c = c .before .before .before
+
+loaded-conform-requires : tie.Need-loaded-conform-requires
+loaded-conform-requires c κs =
+    let a = told c in
+    record { readable = lent (put (counted (loaded a))) .pre .needs .readable; buffer = _; top = _; end = _; bound = standing a }
+
+evaluate-at-requires : tie.Need-evaluate-at-requires
+evaluate-at-requires c κs =
+    let a = told (tested c) in
+    let l = loaded a in
+    let n = counted l in
+    let k = put n in
+    let entries : length (l .load .result .at) ≡ 32 = length-unmapped ℕ (l .load .result .at) 32 (l .load .ok .1 .1 .0 .1 .0 .1) in
+    root-ready _ (standing a) (lent k .pre) (k .put-constants .ensures .1) (k .put-constants .ensures .0) (n .nodes .ensures) (l .load .ensures .0) entries
 
 returns : tie.Need-returns
 returns c =
-    let n = c .before in
-    let start = lent (loaded n) in
-    absent-reported (start .args .table .now) (standing n) (start .args .budget) (start .pre .needs .readable) (n .nodes .ensures) (c .if1 .taken) refl refl
-
-eval-pred-requires : tie.Need-eval-pred-requires
-eval-pred-requires c κs =
-    let test = c .before .before in
-    let n = test .before in
-    let start = lent (loaded n) in
-    let at = loaded n .load in
-    let entries : length (at .result .at) ≡ 32 = length-unmapped ℕ (at .result .at) 32 (at .ok .1 .1 .0 .1 .0 .1) in
-    root-ready (start .args .table .now) (standing n) (start .pre .needs .readable) (n .nodes .ensures) (test .if1 .left)
-    (start .pre) (kept (loaded n)) entries
-
-ended-requires : tie.Need-ended-requires
-ended-requires c κs =
-    let p = c .before .before in
-    let test = filled p in
-    let n = test .before in
-    let start = lent (loaded n) in
-    root-within (start .args .table .now) (standing n) (start .pre .needs .readable) (n .nodes .ensures) (test .if1 .left)
-    (omega arith) (p .eval-pred .ensures)
-
-same-length-2 : tie.Need-same-length-2
-same-length-2 c =
     let a = c .before .before in
-    let e = a .before .before in
-    kept (e .before .before .before)
+    let l = read (a .before .before) in
+    let n = counted l in
+    let v = lent (put n) in
+    record {
+      reported =
+          lacking-reported _ _ _ _ _ _ (l .load .ensures .1) (v .args .budget) (v .pre .needs .readable) (a .answer .given .1) (c .unloaded .ensures .0);
+      conforms = c .unloaded .ensures .1 ∙ refused-not (v .pre .needs .readable) _ _ _ _ _ _ (l .load .ensures .1) (a .answer .given .1);
+    }
 
 returns-2 : tie.Need-returns-2
 returns-2 c =
-    let a = c .before .before in
-    let e = a .before .before in
-    let l = e .before .before .before in
-    let start = lent l in
-    lacking-reported (start .args .table .now) (start .args .values .now) (l .load .last .1 .1 .0) (l .load .result .at) (l .load .result .answer)
-    (l .load .ensures) (start .args .budget) (start .pre .needs .readable) (a .answer .given .1) (c .refused .ensures)
-
-same-length-3 : tie.Need-same-length-3
-same-length-3 c =
-    let p = c .before .before .before in p .eval-pred .kept .1 .1 .0 ∙ kept (loaded (filled p .before))
-
-returns-3 : tie.Need-returns-3
-returns-3 c =
-    let p = c .before .before .before in
-    let test = filled p in
-    let n = test .before in
-    let start = lent (loaded n) in
-    root-reported (start .args .table .now) (standing n) (start .pre .needs .readable) (n .nodes .ensures) (test .if1 .left)
-    (p .eval-pred .ensures) (c .ended .ensures)
+    let e = c .before .before in
+    let b = tested (e .before) in
+    let a = told b in
+    let l = loaded a in
+    let n = counted l in
+    let k = put n in
+    record {
+      reported =
+          run-reported _ (standing a) (lent k .pre) (k .put-constants .ensures .1) (k .put-constants .ensures .0) (n .nodes .ensures) (l .load .ensures .0) _
+          (e .evaluate-at .ensures);
+      conforms = e .before .before .before .loaded-conform .ensures _ _ _ (standing a);
+    }
 
 pub evaluate-in-spec : {M : Type 1} → statement M
 evaluate-in-spec =
     tie.close
     (tie.spec
-    (λ c κs. let a = c .before in load-ready (a .before .before .before .pre))
+    (λ c κs. let v = c .before .before .before .before .before in (v .pre .needs .readable, nodes-inside (v .pre)))
+    (λ c κs. lent (c .before .before) .pre .needs .readable .header .long)
+    (λ c κs. let n = c .before in load-ready (lent (put n) .pre) (put n .put-constants .ensures .1) (n .nodes .ensures))
     (λ c. c .match .keys1)
     (λ c κs. tt)
     (λ c. c .match .keys2)
-    (λ c κs. lent (found (c .before)) .pre .needs .readable .header .long)
-    (λ c. kept (loaded (c .before)))
+    loaded-conform-requires
+    evaluate-at-requires
+    (λ c. search needs)
     returns
-    (λ c. omega (arith, c .before .before .if1 .left))
-    eval-pred-requires
-    ended-requires
-    same-length-2
-    returns-2
-    same-length-3
-    returns-3)
+    (λ c. search needs)
+    returns-2)
