@@ -12,17 +12,15 @@ use lib.Dec.{eqb}
 use lib.ListN.{length, getD, set, take, replicate, length-replicate, getD-replicate}
 use lib.Seq.{getD-set-same, getD-set-other, set-getD, take-all}
 use borrow.Author.Tests.{eq-eqb, ne-eqb}
-use Rattle.rules.specs.Kinds.{Kind, kindOf}
-use Rattle.rules.specs.Kinds.{predicate}
+use Rattle.rules.specs.Kinds.{Kind, kindOf, predicate}
 use Rattle.rules.specs.Kinds.{Field, unused, child, use-of, binder-of, setNumber, elementNumber, anyWord, truthBit, isChild}
-use Rattle.rules.specs.Tables.{Node, Table, tableOf, nodeAt, kindAt, lastNode, fieldsAt, fieldsIf, fieldWords, keptIf, pick, held, heldIn}
-use Rattle.rules.specs.Tables.{nodeCount}
+use Rattle.rules.specs.Tables.{Node, Table, tableOf, nodeAt, kindAt, lastNode, fieldsAt, fieldsIf, fieldWords, keptIf, pick, held, heldIn, nodeCount}
 use Rattle.rules.specs.Reading.{occurrences, parentGood}
 use Rattle.rules.specs.Readable.{Header, FieldRight, FieldsRight}
 use Rattle.laws.proofs.TableLaws.{nodes-length, fields-right}
 use Rattle.laws.proofs.TreeLaws.{occurrences-append}
 use Rattle.table.specs.Codes.{fieldOf, categoryCode, DigitOf}
-use Rattle.table.specs.Layout.{NodeIn, Fielded, fieldCodesAt, fieldAt}
+use Rattle.table.specs.Layout.{NodeIn, Fielded, fieldCodesAt, holdsAt, fieldAt}
 use Rattle.reading.specs.Arrays.{FieldIn, more, Room, BumpPre, Bumped, childAt, Counted}
 use Rattle.table.proofs.Fields.{category-is, code-read, by-fields}
 
@@ -54,13 +52,19 @@ module _ (p : Field → Bool) (none : p unused ≡ false) where
       (rw none)
       k
 
-  -- What such a field holds is right.
-  pub field-right : (tb : Table) (n : ℕ) (fs : List Field) (xs : List ℕ) (i : ℕ) → FieldsRight tb n fs xs →
-      p (getD fs i unused) ≡ true → FieldRight tb n (getD fs i unused) (getD xs i 0)
-  field-right tb n [] xs i h e = absurd (false≢true (cc))
-  field-right tb n (f ∷ fs) [] i h e = absurd h
-  field-right tb n (f ∷ fs) (x ∷ xs) zero h e = h .0
-  field-right tb n (f ∷ fs) (x ∷ xs) (suc i) h e = field-right tb n fs xs i (h .1) e
+-- What a field holds that is used is right.
+field-right : (tb : Table) (n : ℕ) (fs : List Field) (xs : List ℕ) (i : ℕ) → FieldsRight tb n fs xs →
+    (getD fs i unused ≡ unused → ⊥) → FieldRight tb n (getD fs i unused) (getD xs i 0)
+field-right tb n [] xs i h e = absurd (e refl)
+field-right tb n (f ∷ fs) [] i h e = absurd h
+field-right tb n (f ∷ fs) (x ∷ xs) zero h e = h .0
+field-right tb n (f ∷ fs) (x ∷ xs) (suc i) h e = field-right tb n fs xs i (h .1) e
+
+pub field-held : (bs : List ℕ) (at n i : ℕ) → Fielded bs at → n < nodeCount bs → (holdsAt bs n i ≡ unused → ⊥) →
+    FieldRight (tableOf bs) n (holdsAt bs n i) (fieldAt bs n i)
+field-held bs at n i f h e =
+    let d : Node = nodeAt (tableOf bs .nodes) n in
+    field-right (tableOf bs) n (fieldsAt d) (fieldWords d) i (fields-right (tableOf bs) n (kindOf (d .kind)) (fieldWords d) (f .fields n h)) e
 
 -- A word in a field that counts is one more.
 occurrences-kept : (m : ℕ) (b : Bool) (x : ℕ) (xs : List ℕ) → occurrences m (keptIf b x xs) ≡ more b x m + occurrences m xs
@@ -142,10 +146,7 @@ child-lt tb n truthBit x e h = absurd (false≢true e)
 
 pub child-at : (bs : List ℕ) (at n i : ℕ) → Fielded bs at → n < nodeCount bs → childAt bs n i ≡ true → fieldAt bs n i < n
 child-at bs at n i f h e =
-    let d : Node = nodeAt (tableOf bs .nodes) n in
-    child-lt (tableOf bs) n (getD (fieldsAt d) i unused) (getD (fieldWords d) i 0) e
-    (field-right isChild refl (tableOf bs) n (fieldsAt d) (fieldWords d) i
-    (fields-right (tableOf bs) n (kindOf (d .kind)) (fieldWords d) (f .fields n h)) e)
+    child-lt (tableOf bs) n (holdsAt bs n i) (fieldAt bs n i) e (field-held bs at n i f h (λ u. false≢true (sym (ap isChild u) ∙ e)))
 
 -- So an array of length 512 reaches it.
 pub child-inside : (bs : List ℕ) (at n i : ℕ) → FieldIn bs at n i → childAt bs n i ≡ true → {x m : ℕ} → x ≡ fieldAt bs n i → m ≡ 512 → x < m

@@ -1,7 +1,7 @@
 -- Refusal 9: which identifier a node binds, which occur free there, and what the pass has after n nodes (`Passed`), bit by bit.
 -- A node binds by its first field alone, so a binder more is one more at most. At the last node the bits decide the rule.
 use Prim.Native.Nat.{ℕ, zero, suc, _+_, _<_}
-use mathlib.Core.Bool.{Bool, true, false, not, _&&_, _||_, cond, false≢true}
+use mathlib.Core.Bool.{Bool, true, false, not, _&&_, _||_, cond}
 use mathlib.Core.List.{List, [], _∷_}
 use mathlib.Core.Option.{Option}
 use mathlib.Core.Path.{_≡_, refl, sym, ap, ap₂, _∙_}
@@ -15,19 +15,18 @@ use lib.Seq.{getD-set-same, getD-set-other, take-all}
 use borrow.Author.Tests.{eq-eqb, ne-eqb, le-leb}
 use Rattle.rules.specs.Kinds.{Kind, kindOf, predicate, expression, isChild, isBinder}
 use Rattle.rules.specs.Kinds.{Field, unused, child, use-of, binder-of, setNumber, elementNumber, anyWord, truthBit}
-use Rattle.rules.specs.Tables.{Node, Table, tableOf, nodeAt, kindAt, fieldsAt, fieldsIf, fieldWords, keptIf, pick, held, heldIn, ofRoot, lastNode, nodeCount}
+use Rattle.rules.specs.Tables.{Node, tableOf, nodeAt, fieldsAt, fieldsIf, fieldWords, keptIf, pick, held, heldIn, ofRoot, lastNode, nodeCount}
 use Rattle.rules.specs.Reading.{occurrences, occursIn, occursInAny, bindsHere, occursStep, occursFree, occursInRoot, boundRight, binders, binding}
 use Rattle.rules.specs.Readable.{FieldRight}
-use Rattle.laws.proofs.TableLaws.{fields-right, nodes-length, binds-length, occursFree-at}
+use Rattle.laws.proofs.TableLaws.{nodes-length, binds-length, occursFree-at}
 use Rattle.table.specs.Codes.{fieldOf}
-use Rattle.table.specs.Layout.{Fielded, holdsAt, fieldAt}
-use Rattle.table.specs.Layout.{WordOf}
+use Rattle.table.specs.Layout.{Fielded, holdsAt, fieldAt, WordOf}
 use Rattle.table.proofs.Access.{by-code, field-far, binder-code}
 use Rattle.table.proofs.Fields.{by-fields}
 use Rattle.reading.specs.declared.binding.Names.{Names}
 use Rattle.reading.specs.Arrays.{FieldIn}
 use Rattle.reading.specs.Words.{hasBit, WordIs, freeIn, BoundAt, Named}
-use Rattle.reading.proofs.Counting.{field-right, child-at, occurrences-more}
+use Rattle.reading.proofs.Counting.{field-held, child-at, occurrences-more}
 use Rattle.reading.proofs.Words.{bit-or, bit-and, bit-none}
 
 -- How often a node binds x: once or not at all, by its first field.
@@ -85,7 +84,7 @@ any-three x h occ k a b c =
     k
 
 -- What field i of node n makes occur free, where the node binds `here` and `names` are the words of the nodes below.
-abbrev FieldNames : List ℕ → List ℕ → ℕ → ℕ → ℕ → ℕ → Type 0
+abbrev pub FieldNames : List ℕ → List ℕ → ℕ → ℕ → ℕ → ℕ → Type 0
 FieldNames bs names here n i w = WordIs (λ x. occursIn x (hasBit here x) (freeIn names x) (holdsAt bs n i) (fieldAt bs n i)) w
 
 pub names-three : (bs names : List ℕ) (n here a b c : ℕ) → BoundAt bs n here →
@@ -97,40 +96,11 @@ names-three bs names n here a b c binds p q r x =
     (any-three x (bindsHere x d) (freeIn names x) (kindOf (d .kind)) (d .a) (d .b) (d .c))
 
 -- A field that names an identifier holds a word below 32.
-abbrev pub isName : Field → Bool
-isName unused = false
-isName (child c) = false
-isName use-of = true
-isName binder-of = true
-isName setNumber = false
-isName elementNumber = false
-isName anyWord = false
-isName truthBit = false
-
-name-below : (tb : Table) (n : ℕ) (f : Field) (x : ℕ) → isName f ≡ true → FieldRight tb n f x → x < length (tb .binds)
-name-below tb n unused x e h = absurd (false≢true e)
-name-below tb n (child c) x e h = absurd (false≢true e)
-name-below tb n use-of x e h = h
-name-below tb n binder-of x e h = h
-name-below tb n setNumber x e h = absurd (false≢true e)
-name-below tb n elementNumber x e h = absurd (false≢true e)
-name-below tb n anyWord x e h = absurd (false≢true e)
-name-below tb n truthBit x e h = absurd (false≢true e)
-
-pub name-inside : (bs : List ℕ) (at n i c y : ℕ) → FieldIn bs at n i → isName (fieldOf c) ≡ true → fieldOf c ≡ holdsAt bs n i → y ≡ fieldAt bs n i → y < 32
-name-inside bs at n i c y f e code word =
-    let tb : Table = tableOf bs in
-    let d : Node = nodeAt (tb .nodes) n in
-    let q : isName (getD (fieldsAt d) i unused) ≡ true = ap isName (sym code) ∙ e in
-    let r : FieldRight tb n (getD (fieldsAt d) i unused) (getD (fieldWords d) i 0) =
-    field-right isName refl tb n (fieldsAt d) (fieldWords d) i
-    (fields-right tb n (kindAt (tb .nodes) n) (fieldWords d) (f .fielded .fields n (f .below))) q in
-    omega (
-      arith,
-      binds-length bs,
-      f .fielded .laid .header .identifiers,
-      name-below tb n (getD (fieldsAt d) i unused) (getD (fieldWords d) i 0) q r,
-    )
+pub name-inside : (bs : List ℕ) (at n i y : ℕ) (f : Field) → FieldIn bs at n i → f ≡ holdsAt bs n i → (f ≡ unused → ⊥) →
+    ((x : ℕ) → FieldRight (tableOf bs) n f x → x < length (tableOf bs .binds)) → y ≡ fieldAt bs n i → y < 32
+name-inside bs at n i y f r code used names word =
+    let held = field-held bs at n i (r .fielded) (r .below) (λ e. used (code ∙ e)) in
+    omega (arith, binds-length bs, r .fielded .laid .header .identifiers, names (fieldAt bs n i) (rw (← code) at held))
 
 -- Free occurrence in a node asks only for the node's children.
 occursIn-same : (x : ℕ) (b : Bool) (h k : ℕ → Bool) (f : Field) (y : ℕ) → (isChild f ≡ true → h y ≡ k y) → occursIn x b h f y ≡ occursIn x b k f y

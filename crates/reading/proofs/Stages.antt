@@ -1,12 +1,11 @@
 -- One stage of `reading` from the place that its function answers: a place below n was found, n or more says that all pass.
 use Prim.Native.Nat.{ℕ, _≤_, _<_}
-use mathlib.Core.Bool.{Bool, true, false, not}
+use mathlib.Core.Bool.{Bool, true}
 use mathlib.Core.List.{List}
 use mathlib.Core.Option.{Option, none as nothing, some}
-use mathlib.Core.Path.{_≡_, refl, sym, ap, _∙_}
+use mathlib.Core.Path.{_≡_, refl, sym, ap}
 use native.Mathlib.Omega.{arith}
 use lib.ListN.{length}
-use borrow.Author.Tests.{not-true, not-false}
 use Rattle.rules.specs.Ends.{End, done, _>>=_, leastFailing, requireAll}
 use Rattle.rules.specs.Tables.{Table, tableOf, nodeCount, nodesAt}
 use Rattle.rules.specs.Reading.{headed, limited, laidOut, nodeGood, reading}
@@ -50,13 +49,7 @@ nodes-fielded bs at m p h e found count le = record {
       (requireAll-done 6 (nodeGood (tableOf bs)) (nodeCount bs) .0 (all-pass 6 (nodeGood (tableOf bs)) (nodeCount bs) m p found count le) n l));
 }
 
--- What a test of refusals 1 to 3 decides, from the answer that the code branches on.
-pub fails : (b v : Bool) → b ≡ v → not b ≡ true → v ≡ false
-fails b v e h = sym e ∙ not-true b h
-
-pub passes : (b v : Bool) → b ≡ v → not b ≡ false → v ≡ true
-passes b v e h = sym e ∙ not-false b h
-
+-- What refusals 1 to 3 leave.
 module _ (bs : List ℕ) (headed-passes : headed bs ≡ true) where
   pub long : 32 ≤ length bs
   long = headed-right bs .0 (T-true (headed bs) .1 headed-passes) .0

@@ -1,12 +1,13 @@
 -- Loops that look for the least number that fails a test: they end at it, or at the bound where all pass.
 use Prim.Native.Nat.{ℕ, _+_, _≤_, _<_, _^_}
-use mathlib.Core.Bool.{Bool, true, false}
+use mathlib.Core.Bool.{Bool, true, false, not}
 use mathlib.Core.Path.{_≡_, sym, ap, _∙_}
 use native.Mathlib.Decide.{ℕ-discrete}
-use native.Mathlib.Nat.{le-of-eq, le-trans, le-antisymm, lt-of-lt-of-le, lt-of-le-of-lt}
+use native.Mathlib.Nat.{le-of-eq, le-antisymm, lt-of-lt-of-le, lt-of-le-of-lt}
 use native.Mathlib.Numerals.{add-one-le}
 use native.Mathlib.Omega.{arith}
 use lib.Dec.{T, ltb, lit<}
+use borrow.Author.Tests.{not-true, not-false}
 use mir.Syntax.{Width}
 use mir.Val.{Fits, bits}
 use Rattle.rules.specs.Ends.{leastFailing}
@@ -33,16 +34,22 @@ module _ (ok : ℕ → Bool) (n : ℕ) where
   least-here i p h e =
       sym (ap (foundOr n) (leastFailing-some ok 0 n i .1 (omega arith, omega arith, e, λ j lo hi. p .passed j hi)))
 
-  pub least-none : (i : ℕ) → Passing ok n i → n ≤ i → n ≡ foundOr n (leastFailing ok 0 n)
-  least-none i p h = sym (ap (foundOr n) (leastFailing-none ok 0 n .1 (λ j lo hi. p .passed j (omega arith))))
+  -- The bound is told by a call.
+  pub least-none : (i : ℕ) {m : ℕ} → Passing ok n i → m ≤ i → m ≡ n → m ≡ foundOr n (leastFailing ok 0 n)
+  least-none i p h e = e ∙ sym (ap (foundOr n) (leastFailing-none ok 0 n .1 (λ j lo hi. p .passed j (omega arith))))
+
+-- What a test says, from the answer that the code branches on.
+module _ {b v : Bool} (e : b ≡ v) where
+  pub fails : not b ≡ true → v ≡ false
+  fails h = sym e ∙ not-true b h
+
+  pub passes : not b ≡ false → v ≡ true
+  passes h = sym e ∙ not-false b h
 
 -- The counter i of a loop over the m places of which a call tells that they are n.
 module _ {i m n : ℕ} where
   pub below : i < m → m ≡ n → i < n
   below h e = lt-of-lt-of-le h (le-of-eq e)
-
-  pub past : m ≤ i → m ≡ n → n ≤ i
-  past h e = le-trans (le-of-eq (sym e)) h
 
   pub at-end : i ≤ m → m ≤ i → m ≡ n → i ≡ n
   at-end l h e = le-antisymm l h ∙ e

@@ -3,8 +3,9 @@ use mathlib.Core.Bool.{true}
 use mathlib.Core.Path.{_≡_, ap, sym, _∙_}
 use Rattle.rules.specs.Reading.{headed, limited, laidOut}
 use Rattle.laws.proofs.ReadingLaws.{refused-1, refused-2, refused-3}
+use Rattle.table.proofs.Least.{fails, passes}
 use Rattle.reading.specs.Answers.{heightOf, measured, readingHeight}
-use Rattle.reading.proofs.Stages.{fails, passes, long, header-read, records-left}
+use Rattle.reading.proofs.Stages.{long, header-read, records-left}
 use Rattle.reading.proofs.read_height.Statement.{statement}
 use Rattle.reading.proofs.read_height.Tie as tie
 
@@ -21,20 +22,20 @@ abbrev lent₃ : tie.Else3 → tie.Start
 lent₃ e = lent₂ (e .before .before)
 
 passed₁ : (e : tie.Else1) → headed (lent₁ e .args .table .now) ≡ true
-passed₁ e = passes _ _ (e .before .is-headed .ensures) (e .if1 .left)
+passed₁ e = passes (e .before .is-headed .ensures) (e .if1 .left)
 
 passed₂ : (e : tie.Else2) → limited (lent₂ e .args .table .now) ≡ true
-passed₂ e = passes _ _ (e .before .is-limited .ensures) (e .if2 .left)
+passed₂ e = passes (e .before .is-limited .ensures) (e .if2 .left)
 
 passed₃ : (e : tie.Else3) → laidOut (lent₃ e .args .table .now) ≡ true
-passed₃ e = passes _ _ (e .before .is-laid-out .ensures) (e .if3 .left)
+passed₃ e = passes (e .before .is-laid-out .ensures) (e .if3 .left)
 
 returns : tie.Need-returns
 unfolding readingHeight
 returns c =
     let t = c .before in
     ap heightOf (c .refused .ensures)
-    ∙ sym (ap measured (refused-1 (lent (t .before) .args .table .now) (fails _ _ (t .before .is-headed .ensures) (t .if1 .taken))))
+    ∙ sym (ap measured (refused-1 (lent (t .before) .args .table .now) (fails (t .before .is-headed .ensures) (t .if1 .taken))))
 
 returns-2 : tie.Need-returns-2
 unfolding readingHeight
@@ -42,7 +43,7 @@ returns-2 c =
     let t = c .before in
     let h = t .before in
     ap heightOf (c .refused2 .ensures)
-    ∙ sym (ap measured (refused-2 (lent₁ (h .before) .args .table .now) (passed₁ (h .before)) (fails _ _ (h .is-limited .ensures) (t .if2 .taken))))
+    ∙ sym (ap measured (refused-2 (lent₁ (h .before) .args .table .now) (passed₁ (h .before)) (fails (h .is-limited .ensures) (t .if2 .taken))))
 
 returns-3 : tie.Need-returns-3
 unfolding readingHeight
@@ -51,7 +52,7 @@ returns-3 c =
     let l = t .before in
     let e = l .before in
     ap heightOf (c .refused3 .ensures)
-    ∙ sym (ap measured (refused-3 (lent₂ e .args .table .now) (passed₁ (e .before .before)) (passed₂ e) (fails _ _ (l .is-laid-out .ensures) (t .if3 .taken))))
+    ∙ sym (ap measured (refused-3 (lent₂ e .args .table .now) (passed₁ (e .before .before)) (passed₂ e) (fails (l .is-laid-out .ensures) (t .if3 .taken))))
 
 returns-4 : tie.Need-returns-4
 unfolding readingHeight

@@ -4,9 +4,6 @@ use Rattle.table.proofs.Access.{field-read}
 use Rattle.table.proofs.field.Statement.{statement}
 use Rattle.table.proofs.field.Tie as tie
 
-returns : tie.Need-returns
-returns c = field-read _ _ _ _ _ (c .before .before .pre .0 .laid .base) (c .before .before .pre .0 .below) (c .before .before .pre .1) (c .word .ensures .0)
-
 pub field-spec : {M : Type 1} → statement M
 field-spec =
     tie.close
@@ -17,4 +14,4 @@ field-spec =
     (λ c. omega arith)
     (λ c. omega arith)
     (λ c κs. omega arith)
-    returns)
+    (λ c. field-read _ _ _ _ _ (c .before .before .pre .0 .laid .base) (c .before .before .pre .0 .below) (c .before .before .pre .1) (c .word .ensures .0)))

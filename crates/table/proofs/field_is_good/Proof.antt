@@ -9,11 +9,6 @@ use Rattle.table.proofs.field_is_good.Tie as tie
 abbrev lent : tie.Else1 → tie.Start
 lent c = c .before .before .before
 
-returns : tie.Need-returns
-returns c =
-    let s = c .before .before .before .args in
-    good-given (s .table .now) (s .n) (s .x) (s .code) _ (c .before .match .keys1) (c .givens .ensures)
-
 returns-2 : tie.Need-returns-2
 returns-2 c =
     let m = c .before .before in
@@ -46,7 +41,7 @@ field-is-good-spec =
     (λ c κs. c .before .before .before .pre .laid .header)
     (λ c κs. lent (c .before) .pre)
     (λ c κs. lent (c .before .before) .pre .laid .header .long)
-    returns
+    (λ c. let s = c .before .before .before .args in good-given (s .table .now) (s .n) (s .x) (s .code) _ (c .before .match .keys1) (c .givens .ensures))
     returns-2
     (λ c. let s = c .before .before .args in good-word (s .table .now) (s .n) (s .x) (s .code) (c .match .keys3))
     (λ c. let s = c .before .before .args in good-truth (s .table .now) (s .n) (s .x) (s .code) (c .match .keys4))

@@ -1,11 +1,10 @@
 -- The invariant: each identifier passed has the word 0 or 1. Landmark: what was lent.
 use Prim.Native.Nat.{_-_, _<_}
-use mathlib.Core.Path.{_∙_}
 use native.Mathlib.Nat.{lt-of-lt-of-le}
 use borrow.Author.Count.{falls}
 use Rattle.rules.specs.Tables.{tableOf, identifierCount}
 use Rattle.rules.specs.Reading.{bindGood}
-use Rattle.table.proofs.Least.{Passing, least-start, least-turn, least-here, least-none, below, past, next-fits}
+use Rattle.table.proofs.Least.{Passing, least-start, least-turn, least-here, least-none, below, next-fits}
 use Rattle.table.proofs.Fields.{bind-good, bind-bad}
 use Rattle.table.proofs.first_bad_bind.Statement.{statement}
 use Rattle.table.proofs.first_bad_bind.Tie as tie
@@ -26,16 +25,6 @@ inside c = below (c .loop-test .taken) (c .before .before .identifiers .ensures)
 few : (c : tie.In-loop Inv-loop μ-loop) → c .before .loop .x < 32
 few c = lt-of-lt-of-le (inside c) (lent (c .before) .pre .identifiers)
 
-returns : tie.Need-returns Inv-loop μ-loop
-returns c =
-    let t = c .before .before in
-    least-here _ _ _ (t .before .loop .inv) (inside t) (bind-bad _ _ _ (c .before .bind .ensures) (c .if1 .taken))
-
-loop-again : tie.Need-loop-again Inv-loop μ-loop
-loop-again c =
-    let t = c .before .before in
-    least-turn _ _ _ (t .before .loop .inv) (inside t) (bind-good _ _ _ (c .before .bind .ensures) (c .if1 .left))
-
 pub first-bad-bind-spec : {M : Type 1} → statement M
 first-bad-bind-spec =
     tie.close
@@ -45,8 +34,8 @@ first-bad-bind-spec =
     (λ c κs. c .before .pre .long)
     (λ c. least-start _ _)
     (λ c κs. (lent (c .before) .pre, inside c))
-    returns
+    (λ c. let t = c .before .before in least-here _ _ _ (t .before .loop .inv) (inside t) (bind-bad _ _ _ (c .before .bind .ensures) (c .if1 .taken)))
     (λ c. next-fits 32 (few (c .before .before)) tt)
     (λ c. falls _ _ (c .before .before .loop-test .taken))
-    loop-again
-    (λ c. let e = c .before .before .identifiers .ensures in e ∙ least-none _ _ _ (c .before .loop .inv) (past (c .loop-test .left) e)))
+    (λ c. let t = c .before .before in least-turn _ _ _ (t .before .loop .inv) (inside t) (bind-good _ _ _ (c .before .bind .ensures) (c .if1 .left)))
+    (λ c. least-none _ _ _ (c .before .loop .inv) (c .loop-test .left) (c .before .before .identifiers .ensures)))

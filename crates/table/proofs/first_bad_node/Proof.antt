@@ -1,12 +1,10 @@
 -- The invariant: each node passed is good. Landmark: what was lent.
 use Prim.Native.Nat.{_-_, _<_}
-use mathlib.Core.Path.{sym, _∙_}
 use native.Mathlib.Nat.{lt-of-lt-of-le}
 use borrow.Author.Count.{falls}
-use borrow.Author.Tests.{not-true, not-false}
 use Rattle.rules.specs.Tables.{tableOf, nodeCount}
 use Rattle.rules.specs.Reading.{nodeGood}
-use Rattle.table.proofs.Least.{Passing, least-start, least-turn, least-here, least-none, below, past, next-fits}
+use Rattle.table.proofs.Least.{Passing, least-start, least-turn, least-here, least-none, fails, passes, below, next-fits}
 use Rattle.table.proofs.first_bad_node.Statement.{statement}
 use Rattle.table.proofs.first_bad_node.Tie as tie
 
@@ -26,16 +24,6 @@ inside c = below (c .loop-test .taken) (c .before .before .nodes .ensures)
 few : (c : tie.In-loop Inv-loop μ-loop) → c .before .loop .n < 512
 few c = lt-of-lt-of-le (inside c) (lent (c .before) .pre .header .few-nodes)
 
-returns : tie.Need-returns Inv-loop μ-loop
-returns c =
-    let t = c .before .before in
-    least-here _ _ _ (t .before .loop .inv) (inside t) (sym (c .before .node-is-good .ensures) ∙ not-true _ (c .if1 .taken))
-
-loop-again : tie.Need-loop-again Inv-loop μ-loop
-loop-again c =
-    let t = c .before .before in
-    least-turn _ _ _ (t .before .loop .inv) (inside t) (sym (c .before .node-is-good .ensures) ∙ not-false _ (c .if1 .left))
-
 pub first-bad-node-spec : {M : Type 1} → statement M
 first-bad-node-spec =
     tie.close
@@ -45,8 +33,8 @@ first-bad-node-spec =
     (λ c κs. c .before .pre .header .long)
     (λ c. least-start _ _)
     (λ c κs. record { laid = lent (c .before) .pre; below = inside c })
-    returns
+    (λ c. let t = c .before .before in least-here _ _ _ (t .before .loop .inv) (inside t) (fails (c .before .node-is-good .ensures) (c .if1 .taken)))
     (λ c. next-fits 512 (few (c .before .before)) tt)
     (λ c. falls _ _ (c .before .before .loop-test .taken))
-    loop-again
-    (λ c. let e = c .before .before .nodes .ensures in e ∙ least-none _ _ _ (c .before .loop .inv) (past (c .loop-test .left) e)))
+    (λ c. let t = c .before .before in least-turn _ _ _ (t .before .loop .inv) (inside t) (passes (c .before .node-is-good .ensures) (c .if1 .left)))
+    (λ c. least-none _ _ _ (c .before .loop .inv) (c .loop-test .left) (c .before .before .nodes .ensures)))

@@ -1,12 +1,10 @@
 -- The invariant: each given set passed has a right size. Landmark: what was lent.
 use Prim.Native.Nat.{_-_, _<_}
-use mathlib.Core.Path.{sym, _∙_}
 use native.Mathlib.Nat.{lt-of-lt-of-le}
 use borrow.Author.Count.{falls}
-use borrow.Author.Tests.{not-true, not-false}
 use Rattle.rules.specs.Tables.{tableOf, givenCount}
 use Rattle.rules.specs.Reading.{sizeGood}
-use Rattle.table.proofs.Least.{Passing, least-start, least-turn, least-here, least-none, below, past, next-fits}
+use Rattle.table.proofs.Least.{Passing, least-start, least-turn, least-here, least-none, fails, passes, below, next-fits}
 use Rattle.table.proofs.Fields.{size-read}
 use Rattle.table.proofs.first_bad_size.Statement.{statement}
 use Rattle.table.proofs.first_bad_size.Tie as tie
@@ -32,14 +30,14 @@ returns c =
     let z = c .before .before in
     let t = z .before in
     least-here _ _ _ (t .before .loop .inv) (inside t)
-    (sym (size-read _ _ _ _ (z .size .ensures) (c .before .both .ensures)) ∙ not-true _ (c .if1 .taken))
+    (fails (size-read _ _ _ _ (z .size .ensures) (c .before .both .ensures)) (c .if1 .taken))
 
 loop-again : tie.Need-loop-again Inv-loop μ-loop
 loop-again c =
     let z = c .before .before in
     let t = z .before in
     least-turn _ _ _ (t .before .loop .inv) (inside t)
-    (sym (size-read _ _ _ _ (z .size .ensures) (c .before .both .ensures)) ∙ not-false _ (c .if1 .left))
+    (passes (size-read _ _ _ _ (z .size .ensures) (c .before .both .ensures)) (c .if1 .left))
 
 pub first-bad-size-spec : {M : Type 1} → statement M
 first-bad-size-spec =
@@ -55,4 +53,4 @@ first-bad-size-spec =
     (λ c. next-fits 16 (few (c .before .before .before)) tt)
     (λ c. falls _ _ (c .before .before .before .loop-test .taken))
     loop-again
-    (λ c. let e = c .before .before .givens .ensures in e ∙ least-none _ _ _ (c .before .loop .inv) (past (c .loop-test .left) e)))
+    (λ c. least-none _ _ _ (c .before .loop .inv) (c .loop-test .left) (c .before .before .givens .ensures)))

@@ -13,11 +13,6 @@ few s = lt-of-lt-of-le (s .pre .1) (s .pre .0 .identifiers)
 abbrev lent : tie.After-bind → tie.Start
 lent b = b .before .before .before
 
-returns : tie.Need-returns
-returns c =
-    let b = c .before in
-    binding-free _ _ _ (lent b .args .names) (b .bind .ensures) (lent b .pre .2) _ (b .before .has .ensures) (c .if1 .taken)
-
 returns-2 : tie.Need-returns-2
 returns-2 c =
     let o = c .before .before in
@@ -32,7 +27,7 @@ binding-is-good-spec =
     (tie.spec
     (λ c κs. few (c .before))
     (λ c κs. let p = c .before .before .pre in (p .0, p .1))
-    returns
+    (λ c. let b = c .before in binding-free _ _ _ (lent b .args .names) (b .bind .ensures) (lent b .pre .2) _ (b .before .has .ensures) (c .if1 .taken))
     (λ c κs. few (lent (c .before)))
     (λ c κs. tt)
     (λ c κs. few (lent (c .before .before .before)))

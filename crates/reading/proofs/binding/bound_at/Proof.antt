@@ -1,12 +1,13 @@
 -- Only the first field of a kind binds; the landmark is its code.
-use mathlib.Core.Path.{_≡_, ap}
+use mathlib.Core.Path.{_≡_, sym, ap, _∙_}
 use lib.Dec.{lit<}
-use Prim.Native.Nat.{ℕ}
+use Rattle.rules.specs.Kinds.{binder-of}
+use Rattle.rules.proofs.Basics.{absurd01}
 use Rattle.table.specs.Codes.{fieldOf}
 use Rattle.table.specs.Layout.{holdsAt}
 use Rattle.table.proofs.Fields.{code-read}
 use Rattle.reading.proofs.Counting.{field-asks}
-use Rattle.reading.proofs.Occurs.{isName, name-inside, binds-one, binds-none}
+use Rattle.reading.proofs.Occurs.{name-inside, binds-one, binds-none}
 use Rattle.reading.proofs.binding.bound_at.Statement.{statement}
 use Rattle.reading.proofs.binding.bound_at.Tie as tie
 
@@ -19,7 +20,7 @@ code c = code-read (lent c .args .table .now) (lent c .args .n) (lent c .args .r
 bit-requires : tie.Need-bit-requires
 bit-requires c κs =
     let d = c .before .before in
-    name-inside _ _ _ _ (d .digit .result) _ (lent d .pre .0) (ap (λ (k : ℕ). isName (fieldOf k)) (c .before .if1 .taken)) (code d) (c .field .ensures)
+    name-inside _ _ _ _ _ binder-of (lent d .pre .0) (sym (ap fieldOf (c .before .if1 .taken)) ∙ code d) (λ e. absurd01 (cc)) (λ x h. h) (c .field .ensures)
 
 returns : tie.Need-returns
 returns c =

@@ -4,12 +4,15 @@ use mathlib.Core.Bool.{true}
 use mathlib.Core.Path.{_≡_, refl, sym, ap, _∙_}
 use borrow.Author.Needs.{scaled-fits}
 use lib.Dec.{lit<}
-use Rattle.rules.specs.Kinds.{isChild}
+use Rattle.rules.specs.Kinds.{use-of, isChild}
+use Rattle.rules.proofs.Basics.{absurd01}
+use Rattle.rules.specs.Reading.{occursIn}
 use Rattle.table.specs.Codes.{fieldOf}
 use Rattle.table.specs.Layout.{holdsAt}
 use Rattle.table.proofs.Fields.{code-read}
+use Rattle.reading.specs.Words.{hasBit, WordIs, freeIn}
 use Rattle.reading.proofs.Counting.{field-asks, child-inside}
-use Rattle.reading.proofs.Occurs.{isName, name-inside, names-coded, names-none}
+use Rattle.reading.proofs.Occurs.{FieldNames, name-inside, names-coded, names-none}
 use Rattle.reading.proofs.binding.field_names.Statement.{statement}
 use Rattle.reading.proofs.binding.field_names.Tie as tie
 
@@ -38,31 +41,14 @@ range c = child (c .before) (ap (λ (k : ℕ). isChild (fieldOf k)) (c .match .k
 bit-requires : tie.Need-bit-requires
 bit-requires c κs =
     let d = c .before in
-    name-inside _ _ _ _ (d .digit .result) _ (lent d .pre .0) (ap (λ (k : ℕ). isName (fieldOf k)) (c .match .keys3)) (code d) (d .before .field .ensures)
+    name-inside _ _ _ _ _ use-of (lent d .pre .0) (sym (ap fieldOf (c .match .keys3)) ∙ code d) (λ e. absurd01 (cc)) (λ x h. h) (d .before .field .ensures)
 
-returns : tie.Need-returns
-returns c =
-    let m = c .before .before in
-    let d = m .before in
-    let s = lent d in
-    names-coded (s .args .table .now) (s .args .names .now) (s .args .here) _ _ (d .digit .result) _ (code d) (d .before .field .ensures)
-    _ 1 (m .match .keys1) (c .without .ensures)
-
-returns-2 : tie.Need-returns-2
-returns-2 c =
-    let m = c .before in
-    let d = m .before in
-    let s = lent d in
-    names-coded (s .args .table .now) (s .args .names .now) (s .args .here) _ _ (d .digit .result) _ (code d) (d .before .field .ensures)
-    _ 2 (m .match .keys2) (λ x. refl)
-
-returns-3 : tie.Need-returns-3
-returns-3 c =
-    let m = c .before in
-    let d = m .before in
-    let s = lent d in
-    names-coded (s .args .table .now) (s .args .names .now) (s .args .here) _ _ (d .digit .result) _ (code d) (d .before .field .ensures)
-    _ 3 (m .match .keys3) (c .bit .ensures)
+-- What a field with the code k makes occur free.
+coded : (d : tie.After-digit) (w k : ℕ) → d .digit .result ≡ k →
+    let s = lent d .args in
+    WordIs (λ x. occursIn x (hasBit (s .here) x) (freeIn (s .names .now) x) (fieldOf k) (d .before .field .result)) w →
+    FieldNames (s .table .now) (s .names .now) (s .here) (s .n) (s .i) w
+coded d = let s = lent d .args in names-coded (s .table .now) (s .names .now) (s .here) (s .n) (s .i) _ _ (code d) (d .before .field .ensures)
 
 returns-4 : tie.Need-returns-4
 returns-4 c =
@@ -84,7 +70,7 @@ field-names-spec =
     (λ c. scaled-fits _ 512 4 (range c refl) (lit< tt))
     (λ c. range (c .before) (lent (c .before .before) .pre .1))
     bit-requires
-    returns
-    returns-2
-    returns-3
+    (λ c. let m = c .before .before in coded (m .before) _ 1 (m .match .keys1) (c .without .ensures))
+    (λ c. let m = c .before in coded (m .before) _ 2 (m .match .keys2) (λ x. refl))
+    (λ c. let m = c .before in coded (m .before) _ 3 (m .match .keys3) (c .bit .ensures))
     returns-4)

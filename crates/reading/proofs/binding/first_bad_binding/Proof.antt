@@ -1,12 +1,10 @@
 -- The invariant: each identifier passed keeps the binding rules. Landmarks: the count of the identifiers, and what was lent.
 use Prim.Native.Nat.{_-_, _<_}
-use mathlib.Core.Path.{sym, _∙_}
 use native.Mathlib.Nat.{lt-of-lt-of-le}
 use borrow.Author.Count.{falls}
-use borrow.Author.Tests.{not-true, not-false}
 use Rattle.rules.specs.Tables.{tableOf, identifierCount}
 use Rattle.rules.specs.Reading.{binding}
-use Rattle.table.proofs.Least.{Passing, least-start, least-turn, least-here, least-none, below, past, next-fits}
+use Rattle.table.proofs.Least.{Passing, least-start, least-turn, least-here, least-none, fails, passes, below, next-fits}
 use Rattle.reading.proofs.binding.first_bad_binding.Statement.{statement}
 use Rattle.reading.proofs.binding.first_bad_binding.Tie as tie
 
@@ -29,22 +27,6 @@ inside c = below (c .loop-test .taken) (counted (c .before) .identifiers .ensure
 few : (c : tie.In-loop Inv-loop μ-loop) → c .before .loop .x < 32
 few c = lt-of-lt-of-le (inside c) (lent (c .before) .pre .laid .header .identifiers)
 
-returns : tie.Need-returns Inv-loop μ-loop
-returns c =
-    let t = c .before .before in
-    least-here _ _ _ (t .before .loop .inv) (inside t) (sym (c .before .binding-is-good .ensures) ∙ not-true _ (c .if1 .taken))
-
-loop-again : tie.Need-loop-again Inv-loop μ-loop
-loop-again c =
-    let t = c .before .before in
-    least-turn _ _ _ (t .before .loop .inv) (inside t) (sym (c .before .binding-is-good .ensures) ∙ not-false _ (c .if1 .left))
-
-returns-2 : tie.Need-returns-2 Inv-loop μ-loop
-returns-2 c =
-    let l = c .before in
-    let e = counted l .identifiers .ensures in
-    e ∙ least-none _ _ _ (l .loop .inv) (past (c .loop-test .left) e)
-
 pub first-bad-binding-spec : {M : Type 1} → statement M
 first-bad-binding-spec =
     tie.close
@@ -55,8 +37,8 @@ first-bad-binding-spec =
     (λ c κs. c .before .before .pre)
     (λ c. least-start _ _)
     (λ c κs. let l = c .before in (lent l .pre .laid .header, inside c, l .before .names-of .ensures))
-    returns
+    (λ c. let t = c .before .before in least-here _ _ _ (t .before .loop .inv) (inside t) (fails (c .before .binding-is-good .ensures) (c .if1 .taken)))
     (λ c. next-fits 32 (few (c .before .before)) tt)
     (λ c. falls _ _ (c .before .before .loop-test .taken))
-    loop-again
-    returns-2)
+    (λ c. let t = c .before .before in least-turn _ _ _ (t .before .loop .inv) (inside t) (passes (c .before .binding-is-good .ensures) (c .if1 .left)))
+    (λ c. let l = c .before in least-none _ _ _ (l .loop .inv) (c .loop-test .left) (counted l .identifiers .ensures)))

@@ -42,12 +42,6 @@ few c = lt-of-lt-of-le (inside c) (lent (c .before) .pre .laid .header .few-node
 first-field : (c : tie.In-loop Inv-loop μ-loop) → FieldIn (lent (c .before) .args .table .now) (lent (c .before) .args .at) (c .before .loop .n) 0
 first-field c = field-in (lent (c .before) .pre) (inside c) (lit< tt)
 
-node-names-requires : tie.Need-node-names-requires Inv-loop μ-loop
-node-names-requires c κs =
-    let b = c .before in
-    let t = binding b in
-    (first-field t, t .before .loop .inv .1, b .before .node-row .ensures, b .bound-at .ensures)
-
 loop-again : tie.Need-loop-again Inv-loop μ-loop
 loop-again c =
     let t = turn c in
@@ -75,7 +69,7 @@ names-of-spec =
     (λ c κs. node-in (lent (c .before) .pre) (inside c))
     (λ c κs. (first-field (c .before), c .node-row .ensures))
     (λ c. sym (binding (c .before) .before .loop .inv .1))
-    node-names-requires
+    (λ c κs. let b = c .before in let t = binding b in (first-field t, t .before .loop .inv .1, b .before .node-row .ensures, b .bound-at .ensures))
     (λ c. scaled-fits _ 512 4 (few (turn c)) (lit< tt))
     (λ c. few (turn c))
     (λ c. next-fits 512 (few (turn c)) tt)

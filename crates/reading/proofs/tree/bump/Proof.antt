@@ -31,12 +31,6 @@ add-counted c =
     let s = j .before .before in
     record { fits = bump-room _ (s .args .hit) (s .args .x) _ _ (s .pre) (place (j .before)) (step j) }
 
-returns : tie.Need-returns
-returns c =
-    let j = stepped c in
-    let s = j .before .before in
-    bumped _ _ _ _ _ (s .pre) (place (j .before)) (step j)
-
 pub bump-spec : {M : Type 1} → statement M
 bump-spec =
     tie.close
@@ -47,4 +41,4 @@ bump-spec =
     (λ c. let p = placed c in scaled-fits _ _ 2 (inside p) (p .before .good .0 .1))
     (λ c. inside (placed c))
     (λ c. search needs)
-    returns)
+    (λ c. let j = stepped c in let s = j .before .before in bumped _ _ _ _ _ (s .pre) (place (j .before)) (step j)))

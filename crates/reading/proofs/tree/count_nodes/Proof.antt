@@ -33,12 +33,6 @@ inside c = below (c .loop-test .taken) (c .before .before .nodes .ensures)
 few : (c : tie.In-loop Inv-loop μ-loop) → c .before .loop .n < 512
 few c = lt-of-lt-of-le (inside c) (start (c .before) .pre .0 .laid .header .few-nodes)
 
-count-node-requires : tie.Need-count-node-requires Inv-loop μ-loop
-count-node-requires c κs =
-    let l = c .before .before in
-    let p = start l .pre in
-    (p .0, inside (c .before), l .loop .inv .1 ∙ p .1, l .loop .inv .2)
-
 loop-again : tie.Need-loop-again Inv-loop μ-loop
 loop-again c =
     let k = c .before .before in
@@ -59,7 +53,7 @@ count-nodes-spec =
     μ-loop
     (λ c κs. c .before .before .pre .0 .laid .header .long)
     (λ c. (zero-le, refl, lent c .pre .2))
-    count-node-requires
+    (λ c κs. let l = c .before .before in let p = start l .pre in (p .0, inside (c .before), l .loop .inv .1 ∙ p .1, l .loop .inv .2))
     (λ c. next-fits 512 (few (turn (c .before .before))) tt)
     (λ c. falls _ _ (turn (c .before .before) .loop-test .taken))
     loop-again

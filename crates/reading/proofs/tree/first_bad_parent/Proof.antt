@@ -1,14 +1,13 @@
 -- The invariant: each node passed keeps refusal 7. Landmarks: what was lent, the count of the nodes, and the children counted.
 use Prim.Native.Nat.{_-_, _<_}
-use mathlib.Core.Path.{sym, _∙_, refl}
+use mathlib.Core.Path.{sym, refl}
 use native.Mathlib.Nat.{lt-of-lt-of-le}
 use lib.Dec.{lit<}
 use borrow.Author.Needs.{scaled-fits}
 use borrow.Author.Count.{falls}
-use borrow.Author.Tests.{not-true, not-false}
 use Rattle.rules.specs.Tables.{tableOf, nodeCount}
 use Rattle.rules.specs.Reading.{parentGood}
-use Rattle.table.proofs.Least.{Passing, least-start, least-turn, least-here, least-none, below, past, next-fits}
+use Rattle.table.proofs.Least.{Passing, least-start, least-turn, least-here, least-none, fails, passes, below, next-fits}
 use Rattle.reading.proofs.Counting.{counted-none, counted-all, node-in}
 use Rattle.reading.proofs.tree.first_bad_parent.Statement.{statement}
 use Rattle.reading.proofs.tree.first_bad_parent.Tie as tie
@@ -43,22 +42,6 @@ parent-is-good-requires c κs =
       counted-all _ (k .last .1 .1 .0) (k .ensures) (l .loop .n) (below (few c) (sym (k .kept .1 .1 .0))),
     )
 
-returns : tie.Need-returns Inv-loop μ-loop
-returns c =
-    let t = c .before .before in
-    least-here _ _ _ (t .before .loop .inv) (inside t) (sym (c .before .parent-is-good .ensures) ∙ not-true _ (c .if1 .taken))
-
-loop-again : tie.Need-loop-again Inv-loop μ-loop
-loop-again c =
-    let t = c .before .before in
-    least-turn _ _ _ (t .before .loop .inv) (inside t) (sym (c .before .parent-is-good .ensures) ∙ not-false _ (c .if1 .left))
-
-returns-2 : tie.Need-returns-2 Inv-loop μ-loop
-returns-2 c =
-    let l = c .before in
-    let e = numbered l .nodes .ensures in
-    e ∙ least-none _ _ _ (l .loop .inv) (past (c .loop-test .left) e)
-
 pub first-bad-parent-spec : {M : Type 1} → statement M
 first-bad-parent-spec =
     tie.close
@@ -72,8 +55,8 @@ first-bad-parent-spec =
     (λ c. scaled-fits _ 512 2 (few c) (lit< tt))
     (λ c. few c)
     parent-is-good-requires
-    returns
+    (λ c. let t = c .before .before in least-here _ _ _ (t .before .loop .inv) (inside t) (fails (c .before .parent-is-good .ensures) (c .if1 .taken)))
     (λ c. next-fits 512 (few (c .before .before)) tt)
     (λ c. falls _ _ (c .before .before .loop-test .taken))
-    loop-again
-    returns-2)
+    (λ c. let t = c .before .before in least-turn _ _ _ (t .before .loop .inv) (inside t) (passes (c .before .parent-is-good .ensures) (c .if1 .left)))
+    (λ c. let l = c .before in least-none _ _ _ (l .loop .inv) (c .loop-test .left) (numbered l .nodes .ensures)))

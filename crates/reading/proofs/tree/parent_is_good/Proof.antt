@@ -6,14 +6,6 @@ use Rattle.reading.proofs.Counting.{parent-last, parent-other}
 use Rattle.reading.proofs.tree.parent_is_good.Statement.{statement}
 use Rattle.reading.proofs.tree.parent_is_good.Tie as tie
 
-returns : tie.Need-returns
-returns c = parent-last _ _ _ _ (c .before .before .if1 .taken ∙ c .before .before .before .nodes .ensures) (c .before .kind .ensures) (c .category .ensures)
-
-returns-2 : tie.Need-returns-2
-returns-2 c =
-    let s = c .before .before .before in
-    parent-other _ _ _ (s .pre .0 .below) (λ e. c .if1 .left (e ∙ sym (c .before .nodes .ensures))) (s .pre .1)
-
 pub parent-is-good-spec : {M : Type 1} → statement M
 parent-is-good-spec =
     tie.close
@@ -22,5 +14,5 @@ parent-is-good-spec =
     (λ c κs. c .before .pre .0 .laid .header .long)
     (λ c κs. c .before .before .before .pre .0)
     (λ c κs. tt)
-    returns
-    returns-2)
+    (λ c. parent-last _ _ _ _ (c .before .before .if1 .taken ∙ c .before .before .before .nodes .ensures) (c .before .kind .ensures) (c .category .ensures))
+    (λ c. let s = c .before .before .before in parent-other _ _ _ (s .pre .0 .below) (λ e. c .if1 .left (e ∙ sym (c .before .nodes .ensures))) (s .pre .1)))

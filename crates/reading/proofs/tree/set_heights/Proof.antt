@@ -8,7 +8,7 @@ use lib.ListN.{length, length-set}
 use borrow.Author.Count.{falls}
 use Rattle.rules.specs.Tables.{tableOf, nodeCount}
 use Rattle.rules.specs.Reading.{heightGood}
-use Rattle.table.proofs.Least.{Passing, least-start, least-turn, least-here, least-none, below, past, next-fits}
+use Rattle.table.proofs.Least.{Passing, least-start, least-turn, least-here, least-none, below, next-fits}
 use Rattle.reading.specs.Arrays.{Heights}
 use Rattle.reading.proofs.Heights.{height-high, height-low, heights-more}
 use Rattle.reading.proofs.tree.set_heights.Statement.{statement}
@@ -71,8 +71,7 @@ loop-again c =
 returns-2 : tie.Need-returns-2 Inv-loop μ-loop
 returns-2 c =
     let l = c .before .loop .inv in
-    let e = c .before .before .nodes .ensures in
-    (e ∙ least-none _ _ _ (l .1) (past (c .loop-test .left) e), λ m h. l .2 m (lt-of-lt-of-le h (c .loop-test .left)))
+    (least-none _ _ _ (l .1) (c .loop-test .left) (c .before .before .nodes .ensures), λ m h. l .2 m (lt-of-lt-of-le h (c .loop-test .left)))
 
 pub set-heights-spec : {M : Type 1} → statement M
 set-heights-spec =

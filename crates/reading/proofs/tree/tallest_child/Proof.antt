@@ -13,18 +13,6 @@ lent r = r .before .before .before
 abbrev row : tie.After-child-height3 → tie.After-node-row
 row h = h .before .before .before
 
-child-height-requires-2 : tie.Need-child-height-requires-2
-child-height-requires-2 c κs =
-    let r = c .before in
-    let p = lent r .pre in
-    (field-in (p .0) (p .1) (lit< tt), p .2, r .node-row .ensures)
-
-child-height-requires-3 : tie.Need-child-height-requires-3
-child-height-requires-3 c κs =
-    let r = c .before .before in
-    let p = lent r .pre in
-    (field-in (p .0) (p .1) (lit< tt), p .2, r .node-row .ensures)
-
 returns : tie.Need-returns
 returns c =
     let h = c .before .before in
@@ -41,8 +29,8 @@ tallest-child-spec =
     (tie.spec
     (λ c κs. node-in (c .before .before .pre .0) (c .before .before .pre .1))
     (λ c κs. let p = lent c .pre in (field-in (p .0) (p .1) (lit< tt), p .2, c .node-row .ensures))
-    child-height-requires-2
-    child-height-requires-3
+    (λ c κs. let r = c .before in let p = lent r .pre in (field-in (p .0) (p .1) (lit< tt), p .2, r .node-row .ensures))
+    (λ c κs. let r = c .before .before in let p = lent r .pre in (field-in (p .0) (p .1) (lit< tt), p .2, r .node-row .ensures))
     (λ c κs. tt)
     (λ c κs. tt)
     returns)
