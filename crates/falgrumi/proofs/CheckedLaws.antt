@@ -6,6 +6,7 @@ use mathlib.Core.List.{List}
 use mathlib.Core.Path.{_≡_, refl, sym, ap, _∙_, subst}
 use lib.ListN.{length}
 use Rattle.rules.specs.Ends.{End, done, refused, _>>=_}
+use Rattle.rules.specs.Readable.{Readable}
 use Rattle.rules.specs.Evaluation.{evaluation}
 use Rattle.rules.specs.Safety.{Any}
 use Rattle.rules.specs.Verdict.{sheetAfter}
@@ -20,7 +21,7 @@ use Rattle.conforms.specs.Conforming.{conforming}
 use Rattle.conforms.proofs.ConformingLaws.{conforming-right}
 use Rattle.falgrumi.specs.Guarantee.{Report, checkedEvaluation, TellsGuarantee}
 use Rattle.falgrumi.specs.Answers.{InByte, reportedEnd}
-use Rattle.falgrumi.proofs.Demand.{guarantee, accepted-fits}
+use Rattle.falgrumi.proofs.Demand.{guarantee, accepted-fits, accepted-readable}
 use Rattle.falgrumi.proofs.EndNumbers.{NumberFrom, verdict-numbers, accepted-numbers, verdict-byte, evaluation-byte}
 
 -- The report that is made of rows: `checkedEvaluation` is the verdict, and then this.
@@ -99,6 +100,14 @@ module _ (bs sheet buffer : List ℕ) (budget : ℕ) (after : List ℕ) (r : Che
           refused (y .number) (y .place) ≡ (v >>= λ rows. done (reportOf bs buffer budget rows))
       go (done rows) h = absurd (absurd01 (cc))
       go (refused s p) h = cc
+
+  -- An accepted table is readable.
+  pub checked-readable : r ≡ Accepted → Readable bs
+  checked-readable q = go (verdict bs (length sheet)) refl (sym (ap answerOf q) ∙ e)
+    where
+      go : (v : End (List ℕ)) → verdict bs (length sheet) ≡ v → done tt ≡ answered v → Readable bs
+      go (done rows) f h = accepted-readable bs rows (length sheet) f
+      go (refused s p) f h = absurd (absurd01 (cc))
 
   pub checked-accepted : (d : End Bool) (s : ℕ) (c : Bool) → r ≡ Accepted → d ≡ evaluation bs buffer budget .end →
       s ≡ evaluation bs buffer budget .steps → c ≡ conforming bs after buffer →

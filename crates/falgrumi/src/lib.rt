@@ -2,6 +2,7 @@
 use checker::Checked;
 use evaluate::Ending;
 use evaluate::Evaluation;
+use evaluate::GuardedRun;
 use evaluate::Truth;
 use reading::Refusal;
 ghost use Prim.Native.Nat.{_<_};
@@ -110,14 +111,8 @@ pub extern "C" fn falgrumi_conforms(table: &[u8], sheet: &[u8], values: &[u8]) -
     conforms::conforms(table, sheet, values)
 }
 
-// An evaluation of an accepted table, and whether the values have the types that Check wrote: then demand 3's guarantee holds
-// of it.
-pub struct GuardedRun {
-    pub evaluation: Evaluation,
-    pub conforms: bool,
-}
-
-// A checked evaluation: Check's refusal, or the evaluation.
+// A checked evaluation: Check's refusal, or the evaluation of an accepted table, and whether the values have the types that Check wrote: then
+// demand 3's guarantee holds of it.
 pub enum Guarded {
     Refused(Refusal),
     Evaluated(GuardedRun),
@@ -134,12 +129,9 @@ pub fn checked_evaluation(table: &[u8], sheet: &mut [u8], values: &[u8], budget:
     match checked {
         Checked::Refused(r) => Guarded::Refused(r),
         Checked::Accepted => {
-            let e = evaluate::evaluate(table, values, budget);
-            let c = conforms::conforms(table, sheet, values);
-            Guarded::Evaluated(GuardedRun {
-                evaluation: e,
-                conforms: c,
-            })
+            // Check has read the table.
+            let run = evaluate::evaluate_readable(table, values, sheet, budget);
+            Guarded::Evaluated(run)
         }
     }
 }

@@ -3,10 +3,11 @@ use Prim.Native.Nat.{_-_, _<_}
 use mathlib.Core.Bool.{not}
 use mathlib.Core.Path.{_≡_, sym, ap, _∙_}
 use native.Mathlib.Nat.{lt-of-lt-of-le}
+use native.Mathlib.Omega.{arith}
 use borrow.Author.Count.{falls}
 use Rattle.rules.specs.Kinds.{kindOf}
 use Rattle.rules.specs.Tables.{tableOf, kindAt, nodeCount}
-use Rattle.table.proofs.Least.{Passing, least-start, least-turn, below, past, next-fits}
+use Rattle.table.proofs.Least.{Passing, least-start, least-turn, below, next-fits}
 use Rattle.constants.specs.Built.{built}
 use Rattle.constants.proofs.BuiltLaws.{passed, some-built, none-built}
 use Rattle.constants.proofs.builds.Statement.{statement}
@@ -47,4 +48,4 @@ builds-spec =
     (λ c. next-fits 512 (lt-of-lt-of-le (inside (turn (c .before))) (lent (turn (c .before) .before) .pre .header .few-nodes)) tt)
     (λ c. falls _ _ (turn (c .before) .loop-test .taken))
     (λ c. least-turn _ _ _ (turn (c .before) .before .loop .inv) (inside (turn (c .before))) (ap not (told (c .before) ∙ c .if1 .left)))
-    (λ c. none-built _ (c .before .loop .inv) (past (c .loop-test .left) (c .before .before .nodes .ensures))))
+    (λ c. none-built _ (c .before .loop .inv) (omega (arith, c .loop-test .left, c .before .before .nodes .ensures))))
