@@ -31,6 +31,13 @@ module _ (s : List ℕ) (top at n : ℕ) (P : Values → Type 0) where
   no-front h none f l = h
   no-front h (v ▸ vs) f l = absurd (omega (arith, f .counted))
 
+-- The same of two runs of members.
+pub by-fronts : (s : List ℕ) (top a m b n : ℕ) (P : Values → Values → Type 0) →
+    ((v : Value) (vs : Values) (w : Value) (ws : Values) → Front s top a m (v ▸ vs) → Front s top b n (w ▸ ws) → P (v ▸ vs) (w ▸ ws)) →
+    (vs ws : Values) → Front s top a m vs → Front s top b n ws → 0 < m → 0 < n → P vs ws
+by-fronts s top a m b n P h vs ws f g l k =
+    by-front s top a m (λ us. P us ws) (λ v us e. by-front s top b n (P (v ▸ us)) (λ w xs d. h v us w xs e d) ws g k) vs f l
+
 -- The key of a member that stands.
 pub key-stands : (first : Bool) (s : List ℕ) (i : ℕ) (w : Value) (ws : Values) → Keyed first (w ▸ ws) → ValueAt s i w → CellsFit w →
     ValueAt s (i + boolByte first) (keyOf first w) × CellsFit (keyOf first w)
