@@ -64,14 +64,6 @@ put-none s from end k o s′ f = record {
   on = λ top zs vs b at e n. built-frame s s′ top o zs f b;
 }
 
-pub put-if : (keep : Bool) (s : List ℕ) (from end k : ℕ) (o : Out) (s′ : List ℕ) → keep ≡ true → PutPre s from end k o → Copied s from (end - from) (o .to) s′ →
-    Put keep s from end k o s′ (record { to = o .to + (end - from); count = o .count + k })
-put-if keep s from end k o s′ e p c =
-    subst (λ (b : Bool). Put b s from end k o s′ (record { to = o .to + (end - from); count = o .count + k })) (sym e) (put-kept s from end k o s′ p c)
-
-pub put-else : (keep : Bool) (s : List ℕ) (from end k : ℕ) (o : Out) → keep ≡ false → Put keep s from end k o s o
-put-else keep s from end k o e = subst (λ (b : Bool). Put b s from end k o s o) (sym e) (put-none s from end k o s (same-refl (o .to) s))
-
 -- `tail`
 
 pub tail-put : (s : List ℕ) (at n end : ℕ) (cells : Bool) (o : Out) → TailPre s at n cells o → RunEnds s at n end → PutPre s at end n o
@@ -84,21 +76,14 @@ tail-put s at n end cells o p e =
       few = omega (arith, p .few, p .front .counted, count-weights (p .rest), p .front .light);
     }
 
-tail-kept : (s : List ℕ) (at n end : ℕ) (o : Out) (s′ : List ℕ) (r : Out) → RunEnds s at n end → Put true s at end n o s′ r → Tailed true s at n o s′ r
+pub tail-kept : (s : List ℕ) (at n end : ℕ) (o : Out) (s′ : List ℕ) (r : Out) → RunEnds s at n end → Put true s at end n o s′ r → Tailed true s at n o s′ r
 tail-kept s at n end o s′ r e p = record {
   frame = p .frame;
   on = λ top zs vs b f. p .on top zs vs b (f .stands) (e top vs f) (f .counted);
 }
 
-pub tail-if : (keep : Bool) (s : List ℕ) (at n end : ℕ) (o : Out) (s′ : List ℕ) (r : Out) → keep ≡ true → RunEnds s at n end →
-    Put true s at end n o s′ r → Tailed keep s at n o s′ r
-tail-if keep s at n end o s′ r k e p = subst (λ (b : Bool). Tailed b s at n o s′ r) (sym k) (tail-kept s at n end o s′ r e p)
-
-pub tail-else : (keep : Bool) (s : List ℕ) (at n : ℕ) (o : Out) → keep ≡ false → Tailed keep s at n o s o
-tail-else keep s at n o e = subst (λ (b : Bool). Tailed b s at n o s o) (sym e) (record {
-  frame = same-refl (o .to) s;
-  on = λ top zs vs b f. built-frame s s top o zs (same-refl (o .to) s) b;
-})
+pub tail-none : (s : List ℕ) (at n : ℕ) (o : Out) → Tailed false s at n o s o
+tail-none s at n o = record { frame = same-refl (o .to) s; on = λ top zs vs b f. built-frame s s top o zs (same-refl (o .to) s) b }
 
 -- `step`
 
