@@ -3,7 +3,7 @@
 use Prim.Native.Nat.{ℕ, _+_, _-_, _%_, _≤_, _<_, Ordering, Ordering·lt, Ordering·eq, Ordering·gt}
 use mathlib.Core.Bool.{Bool, true, false, not, cond}
 use mathlib.Core.List.{List}
-use mathlib.Core.Path.{_≡_, refl, sym, _∙_, subst}
+use mathlib.Core.Path.{_≡_, refl, sym, ap, _∙_, subst}
 use native.Mathlib.Omega.{arith}
 use lib.Dec.{isEq}
 use lib.ListN.{length, getD}
@@ -17,7 +17,7 @@ use Rattle.arena.proofs.CodeLaws.{fits-small}
 use Rattle.arena.proofs.ValueParts.{left-stands, right-stands}
 use Rattle.arena.proofs.FrontLaws.{rises-rising, fit-small, front-start, front-value, front-next, code-equal}
 use Rattle.sets.specs.Fronts.{Member}
-use Rattle.sets.specs.Pairs.{newFirst, newFirsts, PairFirst, NextPair, FunctionAt, Within, ImageAt}
+use Rattle.sets.specs.Pairs.{newFirst, newFirsts, PairFirst, NextPair, Within, ImageAt}
 use Rattle.sets.proofs.PairLaws.{applied-none, applied-shared, applied-found}
 use Rattle.sets.proofs.SearchLaws.{no-front, key-stands}
 
@@ -59,19 +59,19 @@ next-first s top i n a b c d vs f r k e g =
     let h = front-next s top i n (pair a b) (pair c d ▸ vs) f k (n - 1) (next-at s top i n a b (pair c d ▸ vs) f r k e g) (omega (arith, f .counted)) in
     (left-stands s k c d (front-value s top k (n - 1) (pair c d) vs h), h .fits .0 .0)
 
--- Whether two values are the same, by the number of their order.
-same-code : (a c : Value) (k : ℕ) → k ≡ orderCode (order a c) → k ≡ 1 → same a c ≡ true
+-- Whether two values are the same, by their order.
+pub same-of : (a c : Value) → order a c ≡ Ordering·eq → same a c ≡ true
 unfolding same
-same-code a c k e z = rw (code-equal (order a c) k e z)
+same-of a c e = rw e
 
-other-code : (a c : Value) (k : ℕ) → k ≡ orderCode (order a c) → (k ≡ 1 → ⊥) → same a c ≡ false
+pub other-of : (a c : Value) → (order a c ≡ Ordering·eq → ⊥) → same a c ≡ false
 unfolding same
-other-code a c k e z = go (order a c) e
+other-of a c d = go (order a c) d
   where
-    go : (o : Ordering) → k ≡ orderCode o → isEq o ≡ false
-    go Ordering·lt q = refl
-    go Ordering·eq q = absurd (z q)
-    go Ordering·gt q = refl
+    go : (o : Ordering) → (o ≡ Ordering·eq → ⊥) → isEq o ≡ false
+    go Ordering·lt n = refl
+    go Ordering·eq n = absurd (n refl)
+    go Ordering·gt n = refl
 
 module _ (s : List ℕ) (i n : ℕ) (h : PairFirst s i n) where
   pub first-some : SomeAt s (i + 1)
@@ -107,10 +107,10 @@ module _ (s : List ℕ) (i n r k : ℕ) (e : EndsAt s (i + 1) r) (g : EndsAt s r
       vs p (omega (arith, f .counted)) f
 
   pub next-shared : (o : ℕ) → Compared s (i + 1) (k + 1) o → 1 < n → o ≡ 1 → NextPair s i n 0
-  next-shared o h l z = next-by o 0 h l (λ a c d m q. rw (same-code a c o d z))
+  next-shared o h l z = next-by o 0 h l (λ a c d m q. rw (same-of a c (code-equal (order a c) o d z)))
 
   pub next-new : (o : ℕ) → Compared s (i + 1) (k + 1) o → 1 < n → (o ≡ 1 → ⊥) → NextPair s i n k
-  next-new o h l z = next-by o k h l (λ a c d m q. rw (other-code a c o d z) q)
+  next-new o h l z = next-by o k h l (λ a c d m q. rw (other-of a c (λ e. z (d ∙ ap orderCode e))) q)
 
   pub next-last : n ≤ 1 → NextPair s i n k
   next-last l top a b none f p = next-at s top i n a b none f r k e g
@@ -191,8 +191,8 @@ module _ (s : List ℕ) (f n e : ℕ) (vs : Values) (v : Value) (h : SetBelow s 
   pub image-none : All (λ w. left w ≡ v → ⊥) (members vs) → ImageAt s f vs 0 (applied (set vs) v)
   image-none d = rw (applied-none v (fits-small v (k .fits)) vs p small rising d) (refl, refl)
 
-  pub image-shared : FunctionAt s (f + 1) n false → ImageAt s f vs 0 (applied (set vs) v)
-  image-shared d = rw (applied-shared v (fits-small v (k .fits)) vs p small rising (sym (d within vs whole p))) (refl, refl)
+  pub image-shared : newFirsts (members vs) ≡ false → ImageAt s f vs 0 (applied (set vs) v)
+  image-shared d = rw (applied-shared v (fits-small v (k .fits)) vs p small rising d) (refl, refl)
 
   -- the first part of a member
   pub first-part : (i : ℕ) → Member s within (f + 1) true v (members vs) i → SomeAt s (i + 1)
@@ -200,10 +200,10 @@ module _ (s : List ℕ) (f n e : ℕ) (vs : Values) (v : Value) (h : SetBelow s 
       let x = key-stands true s i (m .is) none (all-in IsPair (m .is) (members vs) (all-pairs vs p) (m .among), tt) (m .value .stands) (m .value .fits) in
       record { value = left (m .is); stands = x .0; fits = x .1 }
 
-  pub image-found : FunctionAt s (f + 1) n true → (i r : ℕ) → Member s within (f + 1) true v (members vs) i → EndsAt s (i + 1) r →
+  pub image-found : newFirsts (members vs) ≡ true → (i r : ℕ) → Member s within (f + 1) true v (members vs) i → EndsAt s (i + 1) r →
       ImageAt s f vs r (applied (set vs) v)
   image-found d i r m ends =
-      rw (applied-found v (fits-small v (k .fits)) vs p small rising (m .is) (m .among) (m .key) (sym (d within vs whole p)))
+      rw (applied-found v (fits-small v (k .fits)) vs p small rising (m .is) (m .among) (m .key) d)
       (go (m .is) (all-in IsPair (m .is) (members vs) (all-pairs vs p) (m .among)) (m .value))
     where
       go : (w : Value) → IsPair w → ValueBelow s within i w → Within s f vs r (right w)

@@ -1,5 +1,6 @@
 // Sets in the arena, whose members rise: membership, inclusion, union, intersection, difference, application.
 ghost use Prim.Native.Nat.{_+_, _-_, _≤_, compare};
+ghost use mathlib.Core.Bool.{true};
 ghost use mathlib.Core.Path.{_≡_};
 ghost use mir.Val.{boolByte};
 ghost use lib.ListN.{length};
@@ -7,7 +8,7 @@ ghost use Rattle.arena.specs.Code.{SomeSet, SomeValue};
 ghost use Rattle.sets.specs.Fronts.{SeekPre, Sought, Contains, Includes, TwoFronts, TurnAt, TwoRuns, RunIn, SomeFront, RunEnds, PutPre, Put};
 ghost use Rattle.sets.specs.Fronts.{RestThere, TailPre, Tailed, StepPre, Stepped, RestOf, EndPre, Ended, RunsBelow, RunsMerge, Merges, keepOf};
 ghost use Rattle.sets.specs.Rows.{Row, LowerBound, Found, HasCell, SetAt, OfCells, TwoRows, lesserOf, CellTurned, RowsBelow};
-ghost use Rattle.sets.specs.Pairs.{PairFirst, NextPair, SomePairs, FunctionAt, SomeRelation, Applies, PairCells, OfFlatPairs, Relation, FlatRelation};
+ghost use Rattle.sets.specs.Pairs.{PairFirst, NextPair, SomePairs, FunctionAt, SomeRelation, Applies, SomeFlat, FlatFunctionAt, FlatAt, Relation, FlatRelation};
 
 // A set is small beside one with more than FEW times its members: a search for each member is quicker than a walk over both.
 const FEW: usize = 8;
@@ -343,7 +344,7 @@ fn is_function(s: &[u64], at: usize, n: u64) -> bool
 // decides.
 fn of_flat_pairs(s: &[u64], f: usize) -> bool
     requires { ⌜ SomeRelation (now s) (length (now s)) f ⌝ }
-    ensures { λ r. ⌜ OfFlatPairs (now (s .entry)) f r ⌝ }
+    ensures { λ r. ⌜ (r ≡ true → FlatAt (now (s .entry)) f) ⌝ }
 {
     if arena::low(s[f]) == 0 {
         return true;
@@ -356,8 +357,8 @@ fn of_flat_pairs(s: &[u64], f: usize) -> bool
 
 // `is_function` for such pairs.
 fn flat_function(s: &[u64], at: usize, n: usize) -> bool
-    requires { ⌜ PairCells (now s) at n ⌝ }
-    ensures { λ r. ⌜ FunctionAt (now (s .entry)) at n r ⌝ }
+    requires { ⌜ SomeFlat (now s) at n ⌝ }
+    ensures { λ r. ⌜ FlatFunctionAt (now (s .entry)) at n r ⌝ }
 {
     let mut i = at;
     let mut left = n;
