@@ -11,7 +11,7 @@ use Rattle.rules.specs.Values.{Value, Values, none, _▸_, members, values, cou
 use Rattle.rules.specs.Operations.{keptValue, setOf}
 use Rattle.laws.proofs.Membership.{values-members}
 use Rattle.laws.proofs.CellsLaws.{count-weights}
-use Rattle.arena.specs.Code.{cellSize, code, codes, Stands, ValueAt, Same, Copied, Made, Front}
+use Rattle.arena.specs.Code.{cellSize, code, codes, Stands, ValueAt, Same, Copied, Front}
 use Rattle.arena.proofs.CodeLaws.{length-codes}
 use Rattle.arena.proofs.Standing.{stands-append, stands-frame, copied-stands, same-refl, same-trans}
 use Rattle.arena.proofs.FrontLaws.{codes-append, count-append, weights-append, single, front-frame}

@@ -1,5 +1,5 @@
 -- Relations whose pairs are of two values of one cell each: three cells a pair. The order of the first parts of two neighbours is that of
--- their cells (`first-order`), so that the first parts make a row (`pair-row`), and cells tell whether neighbours share one (`FlatChecking`);
+-- their cells (`first-order`), so that the first parts make a row (`pair-row`), and cells tell whether neighbours share one (`flat-next`);
 -- e is a first part where its cell is in the row (`flat-none`, `flat-found`).
 use Prim.Native.Nat.{ℕ, suc, _+_, _*_, _-_, _%_, _≤_, _<_, compare, Ordering, Ordering·lt, Ordering·eq}
 use mathlib.Core.Bool.{true, false}
@@ -24,7 +24,7 @@ use Rattle.sets.specs.Rows.{Row}
 use Rattle.sets.specs.Pairs.{newFirsts, FlatPairs}
 use Rattle.sets.proofs.SearchLaws.{no-front}
 use Rattle.sets.proofs.RowLaws.{climb, neighbours, place-of, same-cell, cell-tells}
-use Rattle.sets.proofs.ImageLaws.{all-pairs, same-of, other-of}
+use Rattle.sets.proofs.ImageLaws.{by-two, all-pairs, Checking, checking-shared, checking-next}
 
 three-each : (v : Value) (vs : Values) → FlatPairs (v ▸ vs) → (weight v ≡ 3) × FlatPairs vs
 three-each v vs h = (h .0 .0, (h .0 .1, h .1 .1))
@@ -36,29 +36,13 @@ first-one a b e = omega (arith, weight-some a, weight-some b)
 pub flat-inside : (s : List ℕ) (top at n : ℕ) (vs : Values) → Front s top at n vs → FlatPairs vs → at + 3 * n ≤ length s
 flat-inside s top at n vs f h = omega (arith, f .stands .inside, length-codes vs, weights-even 3 vs (h .0), f .counted)
 
--- What is shown of two pairs and the rest is shown of such pairs, if there are two.
-by-two : (s : List ℕ) (top i n : ℕ) (P : Values → Type 0) →
-    ((a b c d : Value) (ws : Values) → Front s top i n (pair a b ▸ pair c d ▸ ws) → FlatPairs (pair a b ▸ pair c d ▸ ws) → P (pair a b ▸ pair c d ▸ ws)) →
-    (vs : Values) → Front s top i n vs → FlatPairs vs → 1 < n → P vs
-by-two s top i n P k none f h l = absurd (omega (arith, f .counted))
-by-two s top i n P k (v ▸ none) f h l = absurd (omega (arith, f .counted))
-by-two s top i n P k (scalar x ▸ w ▸ ws) f h l = absurd (h .1 .0)
-by-two s top i n P k (set x ▸ w ▸ ws) f h l = absurd (h .1 .0)
-by-two s top i n P k (pair a b ▸ scalar x ▸ ws) f h l = absurd (h .1 .1 .0)
-by-two s top i n P k (pair a b ▸ set x ▸ ws) f h l = absurd (h .1 .1 .0)
-by-two s top i n P k (pair a b ▸ pair c d ▸ ws) f h l = k a b c d ws f h
-
--- The pairs behind the first, and the order of both first parts.
-module _ (s : List ℕ) (top i n : ℕ) (a b c d : Value) (ws : Values) (f : Front s top i n (pair a b ▸ pair c d ▸ ws))
-    (h : FlatPairs (pair a b ▸ pair c d ▸ ws)) where
-  next-front : Front s top (i + 3) (n - 1) (pair c d ▸ ws)
-  next-front = front-next s top i n (pair a b) (pair c d ▸ ws) f (i + 3) (n - 1) (omega (arith, h .0 .0)) (omega (arith, f .counted))
-
-  first-order : order a c ≡ compare (getD s (i + 1) 0) (getD s (i + 3 + 1) 0)
-  first-order =
-      cell-order s (i + 1) (i + 3 + 1) a c (left-stands s i a b (front-value s top i n (pair a b) (pair c d ▸ ws) f))
-      (left-stands s (i + 3) c d (front-value s top (i + 3) (n - 1) (pair c d) ws next-front)) (f .fits .0 .0) (f .fits .1 .0 .0)
-      (first-one c d (h .0 .1 .0))
+-- The order of the first parts of two pairs.
+first-order : (s : List ℕ) (top i n : ℕ) (a b c d : Value) (ws : Values) → Front s top i n (pair a b ▸ pair c d ▸ ws) →
+    AllWeigh 3 (pair a b ▸ pair c d ▸ ws) → order a c ≡ compare (getD s (i + 1) 0) (getD s (i + 3 + 1) 0)
+first-order s top i n a b c d ws f h =
+    let g = front-next s top i n (pair a b) (pair c d ▸ ws) f (i + 3) (n - 1) (omega (arith, h .0)) (omega (arith, f .counted)) in
+    cell-order s (i + 1) (i + 3 + 1) a c (left-stands s i a b (front-value s top i n (pair a b) (pair c d ▸ ws) f))
+    (left-stands s (i + 3) c d (front-value s top (i + 3) (n - 1) (pair c d) ws g)) (f .fits .0 .0) (g .fits .0 .0) (first-one c d (h .1 .0))
 
 -- The first parts do not fall.
 pub pair-row : (s : List ℕ) (top at n : ℕ) (vs : Values) → Front s top at n vs → FlatPairs vs → Row s (at + 1) 3 n
@@ -66,8 +50,8 @@ pair-row s top at n vs f h = record {
   inside = λ i l. omega (arith, flat-inside s top at n vs f h);
   rises = climb (λ i. getD s (at + 1 + 3 * i) 0) n (λ i l. rising i
       (neighbours s top at n 3 FlatPairs three-each (λ i j. getD s (i + 1) 0 ≤ getD s (j + 1) 0)
-      (λ i m v w ws g k. by-two s top i m (λ _. getD s (i + 1) 0 ≤ getD s (i + 3 + 1) 0) (rise i m) (v ▸ w ▸ ws) g k (omega (arith, g .counted)))
-      vs f h i l));
+      (λ i m v w ws g k. by-two s top i m (λ us. AllWeigh 3 us → getD s (i + 1) 0 ≤ getD s (i + 3 + 1) 0) (rise i m) (v ▸ w ▸ ws) g (k .1)
+      (omega (arith, g .counted)) (k .0)) vs f h i l));
 }
   where
     rising : (i : ℕ) → getD s (at + 3 * i + 1) 0 ≤ getD s (at + 3 * suc i + 1) 0 → getD s (at + 1 + 3 * i) 0 ≤ getD s (at + 1 + 3 * suc i) 0
@@ -80,7 +64,7 @@ pair-row s top at n vs f h = record {
     by-parts x y o (inl e) = omega (arith, compare-lt x y e)
     by-parts x y o (inr e) = omega (arith, compare-eq x y (e .0))
 
-    rise : (i m : ℕ) (a b c d : Value) (ws : Values) → Front s top i m (pair a b ▸ pair c d ▸ ws) → FlatPairs (pair a b ▸ pair c d ▸ ws) →
+    rise : (i m : ℕ) (a b c d : Value) (ws : Values) → Front s top i m (pair a b ▸ pair c d ▸ ws) → AllWeigh 3 (pair a b ▸ pair c d ▸ ws) →
         getD s (i + 1) 0 ≤ getD s (i + 3 + 1) 0
     rise i m a b c d ws g k =
         by-parts (getD s (i + 1) 0) (getD s (i + 3 + 1) 0) (order b d)
@@ -123,41 +107,24 @@ module _ (s : List ℕ) (top f : ℕ) (vs : Values) (h : SetBelow s top f vs) (p
       go (set x ▸ ws) g q = absurd (q .0)
       go (pair a b ▸ ws) g q = omega (arith, g .stands .inside, length-codes (pair a b ▸ ws), weight-some a, weight-some b)
 
--- `flat_function`: the pairs left decide.
-pub record FlatChecking (s : List ℕ) (top : ℕ) (vs : Values) (i left : ℕ) : Type 0 where
-  pub rest : Values
-  pub front : Front s top i left rest
-  pub flat : FlatPairs rest
-  pub result : newFirsts (members vs) ≡ newFirsts (members rest)
-
-module _ (s : List ℕ) (top : ℕ) (vs : Values) (i left : ℕ) (h : FlatChecking s top vs i left) where
+-- `flat_function`: cells tell whether two pairs share a first part.
+module _ (s : List ℕ) (top : ℕ) (vs : Values) (i left : ℕ) (h : Checking (AllWeigh 3) s top vs i left) where
   pub checking-inside : i + 3 * left ≤ length s
-  checking-inside = flat-inside s top i left (h .rest) (h .front) (h .flat)
-
-  pub flat-end : left ≤ 1 → true ≡ newFirsts (members vs)
-  flat-end l = go (h .rest) (h .front) (h .result)
-    where
-      go : (ws : Values) → Front s top i left ws → newFirsts (members vs) ≡ newFirsts (members ws) → true ≡ newFirsts (members vs)
-      go none f q = sym q
-      go (v ▸ none) f q = sym q
-      go (v ▸ w ▸ ws) f q = absurd (omega (arith, f .counted))
+  checking-inside = flat-inside s top i left (h .rest) (h .front) (h .known, h .pairs)
 
   module _ (l : 1 < left) where
     pub flat-shared : getD s (i + 1) 0 ≡ getD s (i + 3 + 1) 0 → false ≡ newFirsts (members vs)
     flat-shared e =
-        by-two s top i left (λ ws. newFirsts (members vs) ≡ newFirsts (members ws) → false ≡ newFirsts (members vs))
-        (λ a b c d ws f k q. sym (q ∙ rw (same-of a c (first-order s top i left a b c d ws f k ∙ rw e (compare-refl (getD s (i + 3 + 1) 0))))))
-        (h .rest) (h .front) (h .flat) l (h .result)
+        checking-shared (AllWeigh 3) s top vs i left h l
+        (λ a b c d ws f k. first-order s top i left a b c d ws f k ∙ rw e (compare-refl (getD s (i + 3 + 1) 0)))
 
-    pub flat-next : (getD s (i + 1) 0 ≡ getD s (i + 3 + 1) 0 → ⊥) → FlatChecking s top vs (i + 3) (left - 1)
+    pub flat-next : (getD s (i + 1) 0 ≡ getD s (i + 3 + 1) 0 → ⊥) → Checking (AllWeigh 3) s top vs (i + 3) (left - 1)
     flat-next n =
-        by-two s top i left (λ ws. newFirsts (members vs) ≡ newFirsts (members ws) → FlatChecking s top vs (i + 3) (left - 1))
-        (λ a b c d ws f k q. record {
-          rest = pair c d ▸ ws;
-          front = next-front s top i left a b c d ws f k;
-          flat = (k .0 .1, k .1 .1);
-          result = q ∙ rw (other-of a c (λ z. n (compare-eq (getD s (i + 1) 0) (getD s (i + 3 + 1) 0) (sym (first-order s top i left a b c d ws f k) ∙ z))));
-        }) (h .rest) (h .front) (h .flat) l (h .result)
+        checking-next (AllWeigh 3) s top vs i left h l (i + 3) (λ a b c d ws f k. (
+          λ z. n (compare-eq (getD s (i + 1) 0) (getD s (i + 3 + 1) 0) (sym (first-order s top i left a b c d ws f k) ∙ z)),
+          omega (arith, k .0),
+          k .1,
+        ))
 
 -- `flat_image`: where the cell of e is in the row of first parts.
 module _ (s : List ℕ) (e : ℕ) (v : Value) (value : ValueAt s e v) (fits : CellsFit v) (top at n : ℕ) (vs : Values) (f : Front s top at n vs)

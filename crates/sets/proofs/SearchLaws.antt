@@ -1,5 +1,5 @@
 -- Walks over the members that are left of a set, one by one (`by-front`): the search for a value, and where a run of members ends.
-use Prim.Native.Nat.{ℕ, _+_, _-_, _≤_, _<_, Ordering·lt, Ordering·eq, Ordering·gt}
+use Prim.Native.Nat.{ℕ, _+_, _-_, _≤_, _<_}
 use mathlib.Core.Bool.{Bool, true, false}
 use mathlib.Core.List.{List, _∷_}
 use mathlib.Core.Logic.{inl, inr}
@@ -17,7 +17,7 @@ use Rattle.laws.proofs.Membership.{In, all-in, isIn-right}
 use Rattle.arena.specs.Code.{ValueAt, CellsFit, orderCode, SomeAt, EndsAt, Compared, ValueBelow, Front}
 use Rattle.arena.proofs.CodeLaws.{fits-small}
 use Rattle.arena.proofs.ValueParts.{left-stands}
-use Rattle.arena.proofs.FrontLaws.{rises-rising, fit-small, front-value, front-below, front-next, front-some, code-less, code-equal, code-greater}
+use Rattle.arena.proofs.FrontLaws.{rises-rising, fit-small, front-value, front-below, front-next, front-some, code-less, code-equal}
 use Rattle.sets.specs.Fronts.{keyOf, Keyed, Member, MemberOrNone}
 use Rattle.sets.proofs.PairLaws.{Keeps, pairs-small, less-all}
 

@@ -1,11 +1,11 @@
 -- Application of a relation f to e. The pairs of f rise by their first parts, so that two pairs that share one are neighbours; that
 -- neighbours tell whether f is a function is `firsts-right`.
 use Prim.Native.Nat.{ℕ, _+_, _%_, _<_}
-use mathlib.Core.Bool.{Bool, true, not, cond, _&&_}
+use mathlib.Core.Bool.{Bool, true, not, _&&_}
 use mathlib.Core.List.{List, [], _∷_}
 use mathlib.Core.Path.{_≡_}
 use lib.ListN.{length, getD}
-use Rattle.rules.specs.Values.{Value, pair, set, Values, _▸_, members, weight, same}
+use Rattle.rules.specs.Values.{Value, set, Values, members, weight, same}
 use Rattle.rules.specs.Runs.{Given, gives, lacks}
 use Rattle.rules.specs.Operations.{left, applied}
 use Rattle.arena.specs.Code.{AllWeigh, SetBelow, SomeValue, ValueBelow, Front, AllPairs}
@@ -20,23 +20,9 @@ abbrev pub newFirsts : List Value → Bool
 newFirsts [] = true
 newFirsts (x ∷ xs) = newFirst x xs && newFirsts xs
 
--- n pairs that rise stand from `at` on; of some of them, the first.
+-- n pairs that rise stand from `at` on.
 abbrev pub SomePairs : List ℕ → ℕ → ℕ → Type 0
 SomePairs s at n = (top : ℕ) × (vs : Values) × Front s top at n vs × AllPairs vs
-
-pub record PairFirst (s : List ℕ) (i n : ℕ) : Type 0 where
-  pub top : ℕ
-  pub first : Value
-  pub second : Value
-  pub rest : Values
-  pub front : Front s top i n (pair first second ▸ rest)
-  pub pairs : AllPairs rest
-
--- r is where the pair at i ends, or 0 where it shares its first part with the next one.
-abbrev pub NextPair : List ℕ → ℕ → ℕ → ℕ → Type 0
-NextPair s i n r =
-    (top : ℕ) (a b : Value) (vs : Values) → Front s top i n (pair a b ▸ vs) → AllPairs vs →
-    r ≡ cond (newFirst (pair a b) (members vs)) (i + weight (pair a b)) 0
 
 -- r says whether none of n pairs from `at` on shares its first part with the next one.
 abbrev pub FunctionAt : List ℕ → ℕ → ℕ → Bool → Type 0

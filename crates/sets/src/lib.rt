@@ -8,7 +8,7 @@ ghost use Rattle.arena.specs.Code.{SomeSet, SomeValue};
 ghost use Rattle.sets.specs.Fronts.{SeekPre, Sought, Contains, Includes, TwoFronts, TurnAt, TwoRuns, RunIn, SomeFront, RunEnds, PutPre, Put};
 ghost use Rattle.sets.specs.Fronts.{RestThere, TailPre, Tailed, StepPre, Stepped, RestOf, EndPre, Ended, RunsBelow, RunsMerge, Merges, keepOf};
 ghost use Rattle.sets.specs.Rows.{Row, LowerBound, Found, HasCell, SetAt, OfCells, TwoRows, lesserOf, CellTurned, RowsBelow};
-ghost use Rattle.sets.specs.Pairs.{PairFirst, NextPair, SomePairs, FunctionAt, SomeRelation, Applies, SomeFlat, FlatFunctionAt, FlatAt, Relation, FlatRelation};
+ghost use Rattle.sets.specs.Pairs.{SomePairs, FunctionAt, SomeRelation, Applies, SomeFlat, FlatFunctionAt, FlatAt, Relation, FlatRelation};
 
 // A set is small beside one with more than FEW times its members: a search for each member is quicker than a walk over both.
 const FEW: usize = 8;
@@ -308,21 +308,6 @@ pub fn included(s: &[u64], a: usize, b: usize) -> bool
     walk_included(s, a + 1, m, b + 1, n)
 }
 
-// Where the pair at i, the first of n, ends and the next one begins; 0 where the two share a first part.
-fn next_pair(s: &[u64], i: usize, n: u64) -> usize
-    requires { ⌜ PairFirst (now s) i n ⌝ }
-    ensures { λ r. ⌜ NextPair (now (s .entry)) i n r ⌝ }
-{
-    let right = arena::end_of(s, i + 1);
-    let next = arena::end_of(s, right);
-    if n > 1 {
-        if arena::compare(s, i + 1, right, next + 1) == 1 {
-            return 0;
-        }
-    }
-    next
-}
-
 // Whether no two of n pairs from `at` on share a first part. They rise by first parts, so that neighbours decide.
 fn is_function(s: &[u64], at: usize, n: u64) -> bool
     requires { ⌜ SomePairs (now s) at n ⌝ }
@@ -330,11 +315,13 @@ fn is_function(s: &[u64], at: usize, n: u64) -> bool
 {
     let mut i = at;
     let mut left = n;
-    while left > 0 {
-        i = next_pair(s, i, left);
-        if i == 0 {
+    while left > 1 {
+        let right = arena::end_of(s, i + 1);
+        let next = arena::end_of(s, right);
+        if arena::compare(s, i + 1, right, next + 1) == 1 {
             return false;
         }
+        i = next;
         left -= 1;
     }
     true

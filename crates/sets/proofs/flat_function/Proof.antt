@@ -4,14 +4,15 @@ use mathlib.Core.Path.{refl}
 use native.Mathlib.Omega.{arith}
 use lib.ListN.{length}
 use Rattle.rules.specs.Values.{Values}
-use Rattle.arena.specs.Code.{Front}
+use Rattle.arena.specs.Code.{AllWeigh, Front}
 use Rattle.sets.specs.Pairs.{FlatPairs}
-use Rattle.sets.proofs.PairRows.{FlatChecking, checking-inside, flat-end, flat-shared, flat-next}
+use Rattle.sets.proofs.ImageLaws.{Checking, checking-end}
+use Rattle.sets.proofs.PairRows.{checking-inside, flat-shared, flat-next}
 use Rattle.sets.proofs.flat_function.Statement.{statement}
 use Rattle.sets.proofs.flat_function.Tie as tie
 
 abbrev Inv-loop : tie.InvT-loop
-Inv-loop s at n i₀ left₀ i left = (top : ℕ) (vs : Values) → Front s top at n vs → FlatPairs vs → FlatChecking s top vs i left
+Inv-loop s at n i₀ left₀ i left = (top : ℕ) (vs : Values) → Front s top at n vs → FlatPairs vs → Checking (AllWeigh 3) s top vs i left
 
 abbrev μ-loop : tie.MeasureT-loop
 μ-loop s at n i₀ left₀ i left = left
@@ -39,7 +40,7 @@ flat-function-spec =
     (tie.spec
     Inv-loop
     μ-loop
-    (λ c. λ top vs f p. record { rest = vs; front = f; flat = p; result = refl })
+    (λ c. λ top vs f p. record { rest = vs; front = f; pairs = p .1; known = p .0; result = refl })
     (λ c. omega (arith, inside c))
     (λ c. omega (arith, inside c))
     (λ c. omega (arith, inside (c .before)))
@@ -52,4 +53,4 @@ flat-function-spec =
     (λ c. omega (arith, c .before .before .before .loop-test .taken))
     (λ c. omega (arith, c .before .before .before .loop-test .taken))
     loop-again
-    (λ c. λ top vs f p. flat-end _ top vs _ _ (c .before .loop .inv top vs f p) (c .loop-test .left)))
+    (λ c. λ top vs f p. checking-end _ _ top vs _ _ (c .before .loop .inv top vs f p) (c .loop-test .left)))

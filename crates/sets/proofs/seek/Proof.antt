@@ -1,7 +1,6 @@
 -- `seek`: the value is found in the set where it is found among the members that are left.
 use Prim.Native.Nat.{ℕ}
 use native.Mathlib.Omega.{arith}
-use mathlib.Core.Path.{refl}
 use lib.ListN.{length}
 use Rattle.rules.specs.Values.{Value, Values, members}
 use Rattle.arena.specs.Code.{ValueBelow, Front}
