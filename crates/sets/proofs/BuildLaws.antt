@@ -210,10 +210,11 @@ end-heavy l r s w top g b whole h = record {
 }
 
 -- The rest of the set that is not exhausted is all that is left to merge.
-record Rested (s : List ℕ) (top : ℕ) (q : Rest) (done whole : List Value) : Type 0 where
+record Rested (s : List ℕ) (top : ℕ) (w : Walk) (q : Rest) (done whole : List Value) : Type 0 where
   pub rest : Values
   pub front : Front s top (q .at) (q .n) rest
   pub all : whole ≡ done ++ cond (q .keep) (members rest) []
+  pub thin : Cells s (w .a) (w .m) × Cells s (w .b) (w .n) → Cells s (q .at) (q .n)
 
 merged-none : (l b r : Bool) (ws : List Value) → merged l b r [] ws ≡ cond r ws []
 unfolding merged
@@ -229,31 +230,28 @@ module _ (l r : Bool) (s : List ℕ) (w : Walk) (top : ℕ) (q : Rest)
       go (inr (inl z)) = z
       go (inr (inr z)) = absurd (omega arith)
 
-  rested : (e : Bool) (whole : List Value) (h : Merging l e r s top w whole) → Rested s top q (h .done) whole
+  rested : (e : Bool) (whole : List Value) (h : Merging l e r s top w whole) → Rested s top w q (h .done) whole
   rested e whole h = go rest
     where
-      go : RestOf w l r q → Rested s top q (h .done) whole
-      go (inl x) = record {
-        rest = h .left;
-        front = rw (x .1, x .2) (h .onLeft);
-        all = rw (x .3) (h .all ∙ ap (λ (c : List Value). h .done ++ c)
-            (ap (λ (c : List Value). merged l e r (members (h .left)) c) (no-front s top (w .b) (w .n) (λ ws. members ws ≡ []) refl (h .right) (h .onRight) (omega (arith, right-over (x .0))))
-            ∙ merged-nil l e r (members (h .left))));
-      }
-      go (inr x) = record {
-        rest = h .right;
-        front = rw (x .1, x .2) (h .onRight);
-        all = rw (x .3) (h .all ∙ ap (λ (c : List Value). h .done ++ c)
-            (ap (λ (c : List Value). merged l e r c (members (h .right))) (no-front s top (w .a) (w .m) (λ ws. members ws ≡ []) refl (h .left) (h .onLeft) (omega (arith, x .0)))
-            ∙ merged-none l e r (members (h .right))));
-      }
+      none-left : w .m ≡ 0 → members (h .left) ≡ []
+      none-left z = no-front s top (w .a) (w .m) (λ vs. members vs ≡ []) refl (h .left) (h .onLeft) (omega arith)
 
-  thin-rest : (cells : Bool) → (cells ≡ true → Cells s (w .a) (w .m) × Cells s (w .b) (w .n)) → cells ≡ true → Cells s (q .at) (q .n)
-  thin-rest cells c e = go rest
-    where
-      go : RestOf w l r q → Cells s (q .at) (q .n)
-      go (inl x) = rw (x .1, x .2) (c e .0)
-      go (inr x) = rw (x .1, x .2) (c e .1)
+      none-right : w .n ≡ 0 → members (h .right) ≡ []
+      none-right z = no-front s top (w .b) (w .n) (λ vs. members vs ≡ []) refl (h .right) (h .onRight) (omega arith)
+
+      go : RestOf w l r q → Rested s top w q (h .done) whole
+      go (inl x) = subst (λ (z : Rest). Rested s top w z (h .done) whole) (sym (x .1)) (record {
+        rest = h .left;
+        front = h .onLeft;
+        all = h .all ∙ rw (none-right (right-over (x .0)), merged-nil l e r (members (h .left)));
+        thin = λ c. c .0;
+      })
+      go (inr x) = subst (λ (z : Rest). Rested s top w z (h .done) whole) (sym (x .1)) (record {
+        rest = h .right;
+        front = h .onRight;
+        all = h .all ∙ rw (none-left (x .0), merged-none l e r (members (h .right)));
+        thin = λ c. c .1;
+      })
 
   pub end-tail : (cells : Bool) → EndPre l r s w top cells → TailPre s (q .at) (q .n) cells (outOf w)
   end-tail cells p =
@@ -264,7 +262,7 @@ module _ (l r : Bool) (s : List ℕ) (w : Walk) (top : ℕ) (q : Rest)
         top = top;
         rest = z .rest;
         front = z .front;
-        thin = thin-rest cells (p .thin);
+        thin = λ e. z .thin (p .thin e);
         behind = omega (arith, p .merging .built .ends);
       }
 

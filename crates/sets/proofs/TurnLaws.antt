@@ -18,49 +18,50 @@ use Rattle.sets.proofs.MergedLaws.{after-order, before-all, isIn-equal,
 use Rattle.sets.proofs.SearchLaws.{by-front, no-front, by-fronts}
 
 module _ (s : List ℕ) (a m b n : ℕ) (l e r : Bool) (end c : ℕ) (ends : EndsAt s a end) (compared : Compared s a b c) where
-  order-of : (top : ℕ) (v : Value) (vs : Values) (w : Value) (ws : Values) → Front s top a m (v ▸ vs) → Front s top b n (w ▸ ws) → c ≡ orderCode (order v w)
-  order-of top v vs w ws f g =
-      compared v w (front-value s top a m v vs f) (front-value s top b n w ws g) (f .fits .0) (g .fits .0)
+  -- what is known of both first members
+  module _ (top : ℕ) (v : Value) (vs : Values) (w : Value) (ws : Values) (f : Front s top a m (v ▸ vs)) (g : Front s top b n (w ▸ ws)) where
+    order-of : c ≡ orderCode (order v w)
+    order-of = compared v w (front-value s top a m v vs f) (front-value s top b n w ws g) (f .fits .0) (g .fits .0)
+
+    left-end : end ≡ a + weight v
+    left-end = ends v (front-value s top a m v vs f) (f .fits .0)
+
+    left-rest : Front s top end (m - 1) vs
+    left-rest = front-next s top a m v vs f end (m - 1) left-end (omega (arith, f .counted))
 
   pub turn-less : c ≡ 0 → TurnAt s a m b n l e r (record { from = a; end = end; keep = l; a = end; m = m - 1; b = b; n = n })
   turn-less z top v vs w ws f g =
-      let x : end ≡ a + weight v = ends v (front-value s top a m v vs f) (f .fits .0) in
-      subst (λ (o : Ordering). Turned s top l e r o v vs w ws (record { from = a; end = end; keep = l; a = end; m = m - 1; b = b; n = n }))
-      (sym (code-less (order v w) c (order-of top v vs w ws f g) z))
-      (record {
+      rw (code-less (order v w) c (order-of top v vs w ws f g) z) (record {
         keeps = refl;
         value = front-below s top a m v vs f;
-        ends = x;
-        onLeft = front-next s top a m v vs f end (m - 1) x (omega (arith, f .counted));
+        ends = left-end top v vs w ws f g;
+        onLeft = left-rest top v vs w ws f g;
         onRight = g;
       })
 
   module _ (end2 : ℕ) (ends2 : EndsAt s b end2) where
+    right-end : (top : ℕ) (w : Value) (ws : Values) → Front s top b n (w ▸ ws) → (end2 ≡ b + weight w) × Front s top end2 (n - 1) ws
+    right-end top w ws g =
+        let y = ends2 w (front-value s top b n w ws g) (g .fits .0) in (y, front-next s top b n w ws g end2 (n - 1) y (omega (arith, g .counted)))
+
     pub turn-equal : c ≡ 1 → TurnAt s a m b n l e r (record { from = a; end = end; keep = e; a = end; m = m - 1; b = end2; n = n - 1 })
     turn-equal z top v vs w ws f g =
-        let x : end ≡ a + weight v = ends v (front-value s top a m v vs f) (f .fits .0) in
-        let y : end2 ≡ b + weight w = ends2 w (front-value s top b n w ws g) (g .fits .0) in
-        subst (λ (o : Ordering). Turned s top l e r o v vs w ws (record { from = a; end = end; keep = e; a = end; m = m - 1; b = end2; n = n - 1 }))
-        (sym (code-equal (order v w) c (order-of top v vs w ws f g) z))
-        (record {
+        rw (code-equal (order v w) c (order-of top v vs w ws f g) z) (record {
           keeps = refl;
           value = front-below s top a m v vs f;
-          ends = x;
-          onLeft = front-next s top a m v vs f end (m - 1) x (omega (arith, f .counted));
-          onRight = front-next s top b n w ws g end2 (n - 1) y (omega (arith, g .counted));
+          ends = left-end top v vs w ws f g;
+          onLeft = left-rest top v vs w ws f g;
+          onRight = right-end top w ws g .1;
         })
 
     pub turn-greater : (c ≡ 0 → ⊥) → (c ≡ 1 → ⊥) → TurnAt s a m b n l e r (record { from = b; end = end2; keep = r; a = a; m = m; b = end2; n = n - 1 })
     turn-greater p q top v vs w ws f g =
-        let y : end2 ≡ b + weight w = ends2 w (front-value s top b n w ws g) (g .fits .0) in
-        subst (λ (o : Ordering). Turned s top l e r o v vs w ws (record { from = b; end = end2; keep = r; a = a; m = m; b = end2; n = n - 1 }))
-        (sym (code-greater (order v w) c (order-of top v vs w ws f g) q p))
-        (record {
+        rw (code-greater (order v w) c (order-of top v vs w ws f g) q p) (record {
           keeps = refl;
           value = front-below s top b n w ws g;
-          ends = y;
+          ends = right-end top w ws g .0;
           onLeft = f;
-          onRight = front-next s top b n w ws g end2 (n - 1) y (omega (arith, g .counted));
+          onRight = right-end top w ws g .1;
         })
 
 -- Two sets that both have members left.

@@ -193,7 +193,7 @@ pub record Stepped (l b r : Bool) (s : List ℕ) (w : Walk) (s′ : List ℕ) (w
 -- What is left at the end of a walk, in the left set or in the right.
 abbrev pub RestOf : Walk → Bool → Bool → Rest → Type 0
 RestOf w l r q =
-    ((0 < w .m) × (q .at ≡ w .a) × (q .n ≡ w .m) × (q .keep ≡ l)) ⊎ ((w .m ≡ 0) × (q .at ≡ w .b) × (q .n ≡ w .n) × (q .keep ≡ r))
+    ((0 < w .m) × (q ≡ record { at = w .a; n = w .m; keep = l })) ⊎ ((w .m ≡ 0) × (q ≡ record { at = w .b; n = w .n; keep = r }))
 
 -- The end of a merge: the rest is put behind what has been built, and the set's cell before it.
 pub record EndPre (l r : Bool) (s : List ℕ) (w : Walk) (top : ℕ) (cells : Bool) : Type 0 where

@@ -29,8 +29,8 @@ some t = let r = t .pre .whole .relation in (_, _, front-start _ _ _ _ (r .1) _ 
 room : (t : tie.Start) → t .args .f + 1 + 3 * t .args .n ≤ length (t .args .s .now)
 room t = let q = some t in flat-inside _ _ _ _ _ (q .2) (q .3)
 
-found-inside : (g : tie.Then2) → let t = found (g .before) in lent (t .before) .args .f + 4 + 3 * t .before .find .result ≤ length (lent (t .before) .args .s .now)
-found-inside g = let t = found (g .before) in omega (arith, few t, room (lent (t .before)))
+found-inside : (t : tie.Else1) → lent (t .before) .args .f + 4 + 3 * t .before .find .result ≤ length (lent (t .before) .args .s .now)
+found-inside t = omega (arith, few t, room (lent (t .before)))
 
 returns : tie.Need-returns
 returns c = λ vs v h k p.
@@ -68,8 +68,8 @@ flat-image-spec =
     (λ c κs. let q = some (c .before .before) in pair-row _ _ _ _ _ (q .2) (q .3))
     returns
     (λ c κs. some (lent (c .before)))
-    (λ c. omega (arith, found-inside c))
-    (λ c. omega (arith, found-inside c))
-    (λ c. omega (arith, found-inside c))
+    (λ c. omega (arith, found-inside (found (c .before))))
+    (λ c. omega (arith, found-inside (found (c .before))))
+    (λ c. omega (arith, found-inside (found (c .before))))
     returns-2
     returns-3)

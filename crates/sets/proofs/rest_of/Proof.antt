@@ -7,4 +7,4 @@ use Rattle.sets.proofs.rest_of.Tie as tie
 
 pub rest-of-spec : {M : Type 1} → statement M
 rest-of-spec =
-    tie.close (tie.spec (λ c. inl (c .if1 .taken, refl, refl, refl)) (λ c. inr (omega (arith, c .if1 .left), refl, refl, refl)))
+    tie.close (tie.spec (λ c. inl (c .if1 .taken, refl)) (λ c. inr (omega (arith, c .if1 .left), refl)))

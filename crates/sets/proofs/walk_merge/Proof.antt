@@ -20,8 +20,11 @@ abbrev lent : tie.At-loop Inv-loop μ-loop → tie.Start Inv-loop μ-loop
 lent l = l .before .before
 
 -- A turn: the three tests have passed, one after the other.
+abbrev second : tie.Then3 Inv-loop μ-loop → tie.Then2 Inv-loop μ-loop
+second t = t .before .before
+
 abbrev first : tie.Then3 Inv-loop μ-loop → tie.Then1 Inv-loop μ-loop
-first t = t .before .before .before .before
+first t = second t .before .before
 
 abbrev turn : tie.Then3 Inv-loop μ-loop → tie.At-loop Inv-loop μ-loop
 turn t = first t .before .before
@@ -31,7 +34,7 @@ step-requires c κs =
     let t = c .before in
     let l = turn t in
     let q = lent l .pre in
-    walking-step _ _ _ _ _ _ _ _ _ _ _ (l .loop .inv) (q .runs) (q .room) (first t .if1 .taken) (ltb-true _ _ (t .before .before .if2 .taken))
+    walking-step _ _ _ _ _ _ _ _ _ _ _ (l .loop .inv) (q .runs) (q .room) (first t .if1 .taken) (ltb-true _ _ (second t .if2 .taken))
     (leb-true _ _ (t .if3 .taken))
 
 loop-again : tie.Need-loop-again Inv-loop μ-loop
