@@ -22,7 +22,7 @@ use Rattle.sets.specs.declared.Rest.{Rest}
 use Rattle.sets.specs.Merged.{merged}
 use Rattle.sets.specs.Fronts.{keepOf, firstOf, restLeft, restRight, TurnAt, TwoFronts, TwoRuns, RunEnds, Cells, Built, PutPre, Put, TailPre, Tailed}
 use Rattle.sets.specs.Fronts.{Merging, StepPre, Stepped, RestOf, EndPre, Ended, RunsMerge}
-use Rattle.sets.proofs.MergedLaws.{merged-nil, merged-less, merged-equal, merged-greater}
+use Rattle.sets.proofs.MergedLaws.{merged-nil, merged-turn}
 use Rattle.sets.proofs.SearchLaws.{no-front, by-fronts}
 use Rattle.sets.proofs.TurnLaws.{two-fronts, turn-fewer}
 
@@ -88,12 +88,12 @@ tail-none s at n o = record { frame = same-refl (o .to) s; on = λ top zs vs b f
 -- `step`
 
 -- A turn of the walk is a turn of the merge.
-merged-turn : (l b r : Bool) (o : Ordering) (v : Value) (vs : Values) (w : Value) (ws : Values) → order v w ≡ o →
+turn-merged : (l b r : Bool) (o : Ordering) (v : Value) (vs : Values) (w : Value) (ws : Values) → order v w ≡ o →
     merged l b r (v ∷ members vs) (w ∷ members ws)
     ≡ keptValue (keepOf l b r o) (firstOf o v w) (merged l b r (members (restLeft o v vs)) (members (restRight o w ws)))
-merged-turn l b r Ordering·lt v vs w ws e = merged-less l b r v w (members vs) (members ws) e
-merged-turn l b r Ordering·eq v vs w ws e = merged-equal l b r v w (members vs) (members ws) e
-merged-turn l b r Ordering·gt v vs w ws e = merged-greater l b r v w (members vs) (members ws) e
+turn-merged l b r Ordering·lt v vs w ws e = merged-turn l b r Ordering·lt v w (members vs) (members ws) e
+turn-merged l b r Ordering·eq v vs w ws e = merged-turn l b r Ordering·eq v w (members vs) (members ws) e
+turn-merged l b r Ordering·gt v vs w ws e = merged-turn l b r Ordering·gt v w (members vs) (members ws) e
 
 kept-append : (k : Bool) (v : Value) (zs rest : List Value) → zs ++ keptValue k v rest ≡ (zs ++ cond k (v ∷ []) []) ++ rest
 kept-append true v zs rest = sym (append-assoc zs (v ∷ []) rest)
@@ -113,22 +113,18 @@ module _ (l e r : Bool) (s s′ : List ℕ) (w : Walk) (t : Turn) (o : Out)
       whole ≡ h .done ++ merged l e r (v ∷ members vs) (x ∷ members xs) → Merging l e r s′ top (after t o) whole
   step-done v vs x xs f g q =
       let d = turn top v vs x xs f g in
+      let o = order v x in
+      let first = firstOf o v x in
+      let rest = merged l e r (members (restLeft o v vs)) (members (restRight o x xs)) in
       let k : top ≤ w .to = omega (arith, h .built .ends) in
       record {
-        left = restLeft (order v x) v vs;
-        right = restRight (order v x) x xs;
-        done = h .done ++ cond (t .keep) (firstOf (order v x) v x ∷ []) [];
-        onLeft = front-frame (w .to) s s′ top (t .a) (t .m) (restLeft (order v x) v vs) (p .frame) k (d .onLeft);
-        onRight = front-frame (w .to) s s′ top (t .b) (t .n) (restRight (order v x) x xs) (p .frame) k (d .onRight);
-        built = p .on top (h .done) (firstOf (order v x) v x ▸ none) (h .built)
-            (subst (λ (c : List ℕ). Stands s (t .from) c) (sym (single (firstOf (order v x) v x))) (d .value .stands)) (omega (arith, d .ends)) refl;
-        all = q
-            ∙ ap (λ (c : List Value). h .done ++ c)
-            (merged-turn l e r (order v x) v vs x xs refl
-            ∙ ap (λ (b : Bool). keptValue b (firstOf (order v x) v x)
-            (merged l e r (members (restLeft (order v x) v vs)) (members (restRight (order v x) x xs)))) (sym (d .keeps)))
-            ∙ kept-append (t .keep) (firstOf (order v x) v x) (h .done)
-            (merged l e r (members (restLeft (order v x) v vs)) (members (restRight (order v x) x xs)));
+        left = restLeft o v vs;
+        right = restRight o x xs;
+        done = h .done ++ cond (t .keep) (first ∷ []) [];
+        onLeft = front-frame (w .to) s s′ top (t .a) (t .m) (restLeft o v vs) (p .frame) k (d .onLeft);
+        onRight = front-frame (w .to) s s′ top (t .b) (t .n) (restRight o x xs) (p .frame) k (d .onRight);
+        built = p .on top (h .done) (first ▸ none) (h .built) (rw (single first) (d .value .stands)) (omega (arith, d .ends)) refl;
+        all = q ∙ rw (turn-merged l e r o v vs x xs refl, ← d .keeps) (kept-append (t .keep) first (h .done) rest);
       }
 
   pub step-on : 0 < w .m → 0 < w .n → Merging l e r s′ top (after t o) whole

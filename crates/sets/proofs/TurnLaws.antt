@@ -14,7 +14,7 @@ use Rattle.arena.proofs.CodeLaws.{fits-small}
 use Rattle.arena.proofs.FrontLaws.{rises-rising, front-value, front-below, front-next, front-at, code-less, code-equal, code-greater}
 use Rattle.sets.specs.declared.Turn.{Turn}
 use Rattle.sets.specs.Fronts.{keepOf, restLeft, restRight, Turned, TurnAt, TwoFronts}
-use Rattle.sets.proofs.MergedLaws.{after-order, before-all, isIn-equal, isIn-greater, isIn-before}
+use Rattle.sets.proofs.MergedLaws.{after-order, before-all, isIn-turn, isIn-before}
 use Rattle.sets.proofs.SearchLaws.{by-front, no-front, by-fronts}
 
 module _ (s : List ℕ) (a m b n : ℕ) (l e r : Bool) (end c : ℕ) (ends : EndsAt s a end) (compared : Compared s a b c) where
@@ -93,7 +93,7 @@ turn-fewer s top l e r Ordering·gt v vs w ws t h = omega (arith, h .onLeft .cou
 allIn-drop : (vs : List Value) (w : Value) (ws : List Value) → All (Before w) vs → allIn vs (w ∷ ws) ≡ allIn vs ws
 unfolding allIn
 allIn-drop [] w ws h = refl
-allIn-drop (v ∷ vs) w ws h = rw (isIn-greater v w ws (after-order v w (h .0)), allIn-drop vs w ws (h .1))
+allIn-drop (v ∷ vs) w ws h = rw (isIn-turn Ordering·gt v w ws (after-order v w (h .0)), allIn-drop vs w ws (h .1))
 
 -- a turn, by the order of the first members
 pub allIn-turn : (o : Ordering) (v : Value) (vs : Values) (w : Value) (ws : Values) → order v w ≡ o → Rises (v ▸ vs) → Rises (w ▸ ws) →
@@ -104,7 +104,7 @@ allIn-turn Ordering·lt v vs w ws e f g p q =
     rw (isIn-before v (w ∷ members ws) (before-all v w (members ws) (order-before v w e) (rises-rising (w ▸ ws) g)))
 allIn-turn Ordering·eq v vs w ws e f g p q =
     let d = order-eq v w (fits-small v p) (fits-small w q) e in
-    rw (isIn-equal v w (members ws) e)
+    rw (isIn-turn Ordering·eq v w (members ws) e)
     (allIn-drop (members vs) w (members ws) (subst (λ (x : Value). All (Before x) (members vs)) d (rises-rising (v ▸ vs) f .0)))
 allIn-turn Ordering·gt v vs w ws e f g p q =
     allIn-drop (v ∷ members vs) w (members ws)
