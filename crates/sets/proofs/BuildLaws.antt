@@ -28,14 +28,13 @@ use Rattle.sets.proofs.TurnLaws.{two-fronts, turn-fewer}
 
 -- `put`
 
-pub put-kept : (s : List ℕ) (from end k : ℕ) (o : Out) (s′ : List ℕ) → PutPre s from end k o → Copied s from (end - from) (o .to) s′ →
-    Put true s from end k o s′ (record { to = o .to + (end - from); count = o .count + k })
-put-kept s from end k o s′ p c = record {
+pub put-kept : (s : List ℕ) (from end k : ℕ) (o : Out) (s′ : List ℕ) (r : Out) → PutPre s from end k o → Copied s from (end - from) (o .to) s′ →
+    r .to ≡ o .to + (end - from) → r .count ≡ o .count + k → Put true s from end k o s′ r
+put-kept s from end k o s′ r p c x y = record {
   frame = f;
   near = omega arith;
   on = λ top zs vs b at e n. record {
-    stands = subst (λ (l : List ℕ). Stands s′ (top + 1) l)
-        (ap (λ (ws : Values). codes (values zs) ++ codes ws) (sym (values-members vs)) ∙ sym (codes-append zs (members vs)))
+    stands = rw (codes-append zs (members vs), values-members vs)
         (stands-append s′ (top + 1) (codes (values zs)) (codes vs)
         (stands-frame (o .to) s s′ (top + 1) (codes (values zs)) f (omega (arith, length-codes (values zs), b .ends)) (b .stands))
         (subst (λ (i : ℕ). Stands s′ i (codes vs)) (omega (arith, length-codes (values zs), b .ends))

@@ -64,16 +64,14 @@ cell-put : (keep : Bool) (s : List ℕ) (from to count : ℕ) → from < to → 
     Put keep s from (from + 1) 1 (record { to = to; count = count }) (setAt s to (getD s from 0))
     (record { to = to + boolByte keep; count = count + boolByte keep })
 cell-put true s from to count l k f =
-    subst (λ (n : ℕ). Put true s from (from + 1) 1 (record { to = to; count = count }) (setAt s to (getD s from 0)) (record { to = to + n; count = count + 1 }))
-    (let e : from + 1 - from ≡ 1 = omega arith in e)
-    (put-kept s from (from + 1) 1 (record { to = to; count = count }) (setAt s to (getD s from 0))
+    put-kept s from (from + 1) 1 (record { to = to; count = count }) (setAt s to (getD s from 0)) (record { to = to + 1; count = count + 1 })
     (record { forward = omega arith; behind = omega arith; room = omega arith; few = omega arith })
     (record {
       there = λ i p. let e : i ≡ 0 = omega arith in there i e;
       before = λ i p. getD-set-other s to i (getD s from 0) 0 (λ e. omega arith);
       after = λ i p. getD-set-other s to i (getD s from 0) 0 (λ e. omega arith);
       kept = length-set s to (getD s from 0);
-    }))
+    }) (omega arith) refl
   where
     there : (i : ℕ) → i ≡ 0 → getD (setAt s to (getD s from 0)) (to + i) 0 ≡ getD s (from + i) 0
     there i e =

@@ -40,14 +40,14 @@ returns c = λ top vs f p.
     let e = c .before .before in
     let t = turn e in
     walk-shared _ top vs _ _ (t .before .loop .inv top vs f p) (t .loop-test .taken) _ (e .before .end-of .ensures) _ (e .end-of2 .ensures) _
-    (c .before .compare .ensures) (c .if1 .taken)
+    (c .before .compare .ensures) (omega (arith, c .if1 .taken))
 
 loop-again : tie.Need-loop-again Inv-loop μ-loop
 loop-again c = λ top vs f p.
     let e = c .before .before in
     let t = turn e in
     walk-next _ top vs _ _ (t .before .loop .inv top vs f p) (t .loop-test .taken) _ (e .before .end-of .ensures) _ (e .end-of2 .ensures) _
-    (c .before .compare .ensures) (c .if1 .left)
+    (c .before .compare .ensures) (λ z. omega (arith, c .if1 .left))
 
 pub is-function-spec : {M : Type 1} → statement M
 is-function-spec =

@@ -20,7 +20,7 @@ returns : tie.Need-returns
 returns c =
     let d = c .before .before .before in
     let k = d .before .before in
-    rw (k .if1 .taken) (put-kept _ _ _ _ _ _ (lent k .pre) (d .copy .ensures))
+    rw (k .if1 .taken) (put-kept _ _ _ _ _ _ _ (lent k .pre) (d .copy .ensures) (omega arith) (omega arith))
 
 pub put-spec : {M : Type 1} → statement M
 put-spec =
