@@ -1,5 +1,5 @@
 -- Building a set: members one behind the other, and the walk that merges two sets.
-use Prim.Native.Nat.{ℕ, zero, suc, _+_, _*_, _-_, _%_, _≤_, _<_, Ordering, Ordering·lt, Ordering·eq, Ordering·gt}
+use Prim.Native.Nat.{ℕ, zero, suc, _+_, _*_, _-_, _≤_, _<_, Ordering, Ordering·lt, Ordering·eq, Ordering·gt}
 use mathlib.Core.Bool.{Bool, true, false, cond}
 use mathlib.Core.List.{List, [], _∷_, _++_, append-assoc, append-nil}
 use mathlib.Core.Logic.{_⊎_, inl, inr}
@@ -9,32 +9,32 @@ use lib.ListN.{length, getD, set as setAt, length-set}
 use lib.Seq.{getD-set-same, getD-set-other}
 use Rattle.rules.specs.Values.{Value, Values, none, _▸_, members, values, count, weight, weights, order}
 use Rattle.rules.specs.Operations.{keptValue, setOf}
-use Rattle.arena.specs.Code.{cellSize, code, codes, Stands, ValueAt, Same, Copied, SetBelow, SomeSet, Made, Front}
+use Rattle.laws.proofs.Membership.{values-members}
+use Rattle.laws.proofs.CellsLaws.{count-weights}
+use Rattle.arena.specs.Code.{cellSize, code, codes, Stands, ValueAt, Same, Copied, Front}
 use Rattle.arena.proofs.CodeLaws.{length-codes}
 use Rattle.arena.proofs.Standing.{stands-append, stands-frame, copied-stands, same-refl, same-trans}
-use Rattle.laws.proofs.Membership.{values-members}
-use Rattle.arena.proofs.FrontLaws.{codes-append, count-append, weights-append, single, front-start, front-frame}
+use Rattle.arena.proofs.FrontLaws.{codes-append, count-append, weights-append, single, front-frame}
 use Rattle.sets.specs.declared.Turn.{Turn}
 use Rattle.sets.specs.declared.Out.{Out}
 use Rattle.sets.specs.declared.Walk.{Walk}
 use Rattle.sets.specs.declared.Rest.{Rest}
 use Rattle.sets.specs.Merged.{merged}
-use Rattle.sets.specs.Fronts.{keepOf, firstOf, restLeft, restRight, TurnAt, TwoFronts, RunEnds, Cells, Built, PutPre, Put, TailPre, Tailed}
-use Rattle.sets.specs.Fronts.{Merging, StepPre, Stepped, GoesOn, RestOf, EndPre, Ended}
-use Rattle.sets.proofs.MergedLaws.{merged-nil, merged-less, merged-equal, merged-greater}
+use Rattle.sets.specs.Fronts.{keepOf, firstOf, restLeft, restRight, TurnAt, TwoFronts, TwoRuns, RunEnds, Cells, Built, PutPre, Put, TailPre, Tailed}
+use Rattle.sets.specs.Fronts.{Merging, StepPre, Stepped, RestOf, EndPre, Ended, RunsMerge}
+use Rattle.sets.proofs.MergedLaws.{merged-nil, merged-turn}
+use Rattle.sets.proofs.SearchLaws.{no-front, by-fronts}
 use Rattle.sets.proofs.TurnLaws.{two-fronts, turn-fewer}
-use Rattle.laws.proofs.CellsLaws.{count-weights}
 
 -- `put`
 
-pub put-kept : (s : List ℕ) (from end k : ℕ) (o : Out) (s′ : List ℕ) → PutPre s from end k o → Copied s from (end - from) (o .to) s′ →
-    Put true s from end k o s′ (record { to = o .to + (end - from); count = o .count + k })
-put-kept s from end k o s′ p c = record {
+pub put-kept : (s : List ℕ) (from end k : ℕ) (o : Out) (s′ : List ℕ) (r : Out) → PutPre s from end k o → Copied s from (end - from) (o .to) s′ →
+    r .to ≡ o .to + (end - from) → r .count ≡ o .count + k → Put true s from end k o s′ r
+put-kept s from end k o s′ r p c x y = record {
   frame = f;
   near = omega arith;
   on = λ top zs vs b at e n. record {
-    stands = subst (λ (l : List ℕ). Stands s′ (top + 1) l)
-        (ap (λ (ws : Values). codes (values zs) ++ codes ws) (sym (values-members vs)) ∙ sym (codes-append zs (members vs)))
+    stands = rw (codes-append zs (members vs), values-members vs)
         (stands-append s′ (top + 1) (codes (values zs)) (codes vs)
         (stands-frame (o .to) s s′ (top + 1) (codes (values zs)) f (omega (arith, length-codes (values zs), b .ends)) (b .stands))
         (subst (λ (i : ℕ). Stands s′ i (codes vs)) (omega (arith, length-codes (values zs), b .ends))
@@ -63,14 +63,6 @@ put-none s from end k o s′ f = record {
   on = λ top zs vs b at e n. built-frame s s′ top o zs f b;
 }
 
-pub put-if : (keep : Bool) (s : List ℕ) (from end k : ℕ) (o : Out) (s′ : List ℕ) → keep ≡ true → PutPre s from end k o → Copied s from (end - from) (o .to) s′ →
-    Put keep s from end k o s′ (record { to = o .to + (end - from); count = o .count + k })
-put-if keep s from end k o s′ e p c =
-    subst (λ (b : Bool). Put b s from end k o s′ (record { to = o .to + (end - from); count = o .count + k })) (sym e) (put-kept s from end k o s′ p c)
-
-pub put-else : (keep : Bool) (s : List ℕ) (from end k : ℕ) (o : Out) → keep ≡ false → Put keep s from end k o s o
-put-else keep s from end k o e = subst (λ (b : Bool). Put b s from end k o s o) (sym e) (put-none s from end k o s (same-refl (o .to) s))
-
 -- `tail`
 
 pub tail-put : (s : List ℕ) (at n end : ℕ) (cells : Bool) (o : Out) → TailPre s at n cells o → RunEnds s at n end → PutPre s at end n o
@@ -83,31 +75,24 @@ tail-put s at n end cells o p e =
       few = omega (arith, p .few, p .front .counted, count-weights (p .rest), p .front .light);
     }
 
-tail-kept : (s : List ℕ) (at n end : ℕ) (o : Out) (s′ : List ℕ) (r : Out) → RunEnds s at n end → Put true s at end n o s′ r → Tailed true s at n o s′ r
+pub tail-kept : (s : List ℕ) (at n end : ℕ) (o : Out) (s′ : List ℕ) (r : Out) → RunEnds s at n end → Put true s at end n o s′ r → Tailed true s at n o s′ r
 tail-kept s at n end o s′ r e p = record {
   frame = p .frame;
   on = λ top zs vs b f. p .on top zs vs b (f .stands) (e top vs f) (f .counted);
 }
 
-pub tail-if : (keep : Bool) (s : List ℕ) (at n end : ℕ) (o : Out) (s′ : List ℕ) (r : Out) → keep ≡ true → RunEnds s at n end →
-    Put true s at end n o s′ r → Tailed keep s at n o s′ r
-tail-if keep s at n end o s′ r k e p = subst (λ (b : Bool). Tailed b s at n o s′ r) (sym k) (tail-kept s at n end o s′ r e p)
-
-pub tail-else : (keep : Bool) (s : List ℕ) (at n : ℕ) (o : Out) → keep ≡ false → Tailed keep s at n o s o
-tail-else keep s at n o e = subst (λ (b : Bool). Tailed b s at n o s o) (sym e) (record {
-  frame = same-refl (o .to) s;
-  on = λ top zs vs b f. built-frame s s top o zs (same-refl (o .to) s) b;
-})
+pub tail-none : (s : List ℕ) (at n : ℕ) (o : Out) → Tailed false s at n o s o
+tail-none s at n o = record { frame = same-refl (o .to) s; on = λ top zs vs b f. built-frame s s top o zs (same-refl (o .to) s) b }
 
 -- `step`
 
 -- A turn of the walk is a turn of the merge.
-merged-turn : (l b r : Bool) (o : Ordering) (v : Value) (vs : Values) (w : Value) (ws : Values) → order v w ≡ o →
+turn-merged : (l b r : Bool) (o : Ordering) (v : Value) (vs : Values) (w : Value) (ws : Values) → order v w ≡ o →
     merged l b r (v ∷ members vs) (w ∷ members ws)
     ≡ keptValue (keepOf l b r o) (firstOf o v w) (merged l b r (members (restLeft o v vs)) (members (restRight o w ws)))
-merged-turn l b r Ordering·lt v vs w ws e = merged-less l b r v w (members vs) (members ws) e
-merged-turn l b r Ordering·eq v vs w ws e = merged-equal l b r v w (members vs) (members ws) e
-merged-turn l b r Ordering·gt v vs w ws e = merged-greater l b r v w (members vs) (members ws) e
+turn-merged l b r Ordering·lt v vs w ws e = merged-turn l b r Ordering·lt v w (members vs) (members ws) e
+turn-merged l b r Ordering·eq v vs w ws e = merged-turn l b r Ordering·eq v w (members vs) (members ws) e
+turn-merged l b r Ordering·gt v vs w ws e = merged-turn l b r Ordering·gt v w (members vs) (members ws) e
 
 kept-append : (k : Bool) (v : Value) (zs rest : List Value) → zs ++ keptValue k v rest ≡ (zs ++ cond k (v ∷ []) []) ++ rest
 kept-append true v zs rest = sym (append-assoc zs (v ∷ []) rest)
@@ -127,32 +112,25 @@ module _ (l e r : Bool) (s s′ : List ℕ) (w : Walk) (t : Turn) (o : Out)
       whole ≡ h .done ++ merged l e r (v ∷ members vs) (x ∷ members xs) → Merging l e r s′ top (after t o) whole
   step-done v vs x xs f g q =
       let d = turn top v vs x xs f g in
+      let o = order v x in
+      let first = firstOf o v x in
+      let rest = merged l e r (members (restLeft o v vs)) (members (restRight o x xs)) in
       let k : top ≤ w .to = omega (arith, h .built .ends) in
       record {
-        left = restLeft (order v x) v vs;
-        right = restRight (order v x) x xs;
-        done = h .done ++ cond (t .keep) (firstOf (order v x) v x ∷ []) [];
-        onLeft = front-frame (w .to) s s′ top (t .a) (t .m) (restLeft (order v x) v vs) (p .frame) k (d .onLeft);
-        onRight = front-frame (w .to) s s′ top (t .b) (t .n) (restRight (order v x) x xs) (p .frame) k (d .onRight);
-        built = p .on top (h .done) (firstOf (order v x) v x ▸ none) (h .built)
-            (subst (λ (c : List ℕ). Stands s (t .from) c) (sym (single (firstOf (order v x) v x))) (d .value .stands)) (omega (arith, d .ends)) refl;
-        all = q
-            ∙ ap (λ (c : List Value). h .done ++ c)
-            (merged-turn l e r (order v x) v vs x xs refl
-            ∙ ap (λ (b : Bool). keptValue b (firstOf (order v x) v x)
-            (merged l e r (members (restLeft (order v x) v vs)) (members (restRight (order v x) x xs)))) (sym (d .keeps)))
-            ∙ kept-append (t .keep) (firstOf (order v x) v x) (h .done)
-            (merged l e r (members (restLeft (order v x) v vs)) (members (restRight (order v x) x xs)));
+        left = restLeft o v vs;
+        right = restRight o x xs;
+        done = h .done ++ cond (t .keep) (first ∷ []) [];
+        onLeft = front-frame (w .to) s s′ top (t .a) (t .m) (restLeft o v vs) (p .frame) k (d .onLeft);
+        onRight = front-frame (w .to) s s′ top (t .b) (t .n) (restRight o x xs) (p .frame) k (d .onRight);
+        built = p .on top (h .done) (first ▸ none) (h .built) (rw (single first) (d .value .stands)) (omega (arith, d .ends)) refl;
+        all = q ∙ rw (turn-merged l e r o v vs x xs refl, ← d .keeps) (kept-append (t .keep) first (h .done) rest);
       }
 
   pub step-on : 0 < w .m → 0 < w .n → Merging l e r s′ top (after t o) whole
-  step-on i j = go (h .left) (h .right) (h .onLeft) (h .onRight) (h .all)
-    where
-      go : (vs xs : Values) → Front s top (w .a) (w .m) vs → Front s top (w .b) (w .n) xs → whole ≡ h .done ++ merged l e r (members vs) (members xs) →
-          Merging l e r s′ top (after t o) whole
-      go none xs f g q = absurd (omega (arith, f .counted))
-      go (v ▸ vs) none f g q = absurd (omega (arith, g .counted))
-      go (v ▸ vs) (x ▸ xs) f g q = step-done v vs x xs f g q
+  step-on i j =
+      by-fronts s top (w .a) (w .m) (w .b) (w .n)
+      (λ vs xs. whole ≡ h .done ++ merged l e r (members vs) (members xs) → Merging l e r s′ top (after t o) whole)
+      step-done (h .left) (h .right) (h .onLeft) (h .onRight) i j (h .all)
 
 module _ (l e r : Bool) (s : List ℕ) (w : Walk) (h : StepPre l e r s w) where
   pub step-two : TwoFronts s (w .a) (w .m) (w .b) (w .n)
@@ -163,19 +141,15 @@ module _ (l e r : Bool) (s : List ℕ) (w : Walk) (h : StepPre l e r s w) where
   module _ (t : Turn) (turn : TurnAt s (w .a) (w .m) (w .b) (w .n) l e r t) where
     -- what a turn takes, and how many members are left
     step-took : (t .from ≤ t .end) × (t .end ≤ w .to) × (t .end - t .from ≤ 256) × (t .m + t .n < w .m + w .n)
-    step-took = go (h .merging .left) (h .merging .right) (h .merging .onLeft) (h .merging .onRight)
-      where
-        go : (vs xs : Values) → Front s (h .top) (w .a) (w .m) vs → Front s (h .top) (w .b) (w .n) xs →
-            (t .from ≤ t .end) × (t .end ≤ w .to) × (t .end - t .from ≤ 256) × (t .m + t .n < w .m + w .n)
-        go none xs f g = absurd (omega (arith, f .counted, h .moreLeft))
-        go (v ▸ vs) none f g = absurd (omega (arith, g .counted, h .moreRight))
-        go (v ▸ vs) (x ▸ xs) f g =
-            let d = turn (h .top) v vs x xs f g in (
-              omega (arith, d .ends),
-              omega (arith, d .ends, d .value .below, h .merging .built .ends),
-              omega (arith, d .ends, d .value .light),
-              omega (arith, turn-fewer s (h .top) l e r (order v x) v vs x xs t d, f .counted, g .counted),
-            )
+    step-took =
+        by-fronts s (h .top) (w .a) (w .m) (w .b) (w .n)
+        (λ _ _. (t .from ≤ t .end) × (t .end ≤ w .to) × (t .end - t .from ≤ 256) × (t .m + t .n < w .m + w .n))
+        (λ v vs x xs f g. let d = turn (h .top) v vs x xs f g in (
+          omega (arith, d .ends),
+          omega (arith, d .ends, d .value .below, h .merging .built .ends),
+          omega (arith, d .ends, d .value .light),
+          omega (arith, turn-fewer s (h .top) l e r (order v x) v vs x xs t d, f .counted, g .counted),
+        )) (h .merging .left) (h .merging .right) (h .merging .onLeft) (h .merging .onRight) (h .moreLeft) (h .moreRight)
 
     pub step-put : PutPre s (t .from) (t .end) 1 (outOf w)
     step-put = record {
@@ -231,14 +205,11 @@ end-heavy l r s w top g b whole h = record {
 }
 
 -- The rest of the set that is not exhausted is all that is left to merge.
-record Rested (s : List ℕ) (top : ℕ) (q : Rest) (done whole : List Value) : Type 0 where
+record Rested (s : List ℕ) (top : ℕ) (w : Walk) (q : Rest) (done whole : List Value) : Type 0 where
   pub rest : Values
   pub front : Front s top (q .at) (q .n) rest
   pub all : whole ≡ done ++ cond (q .keep) (members rest) []
-
-exhausted : (s : List ℕ) (top at n : ℕ) (vs : Values) → Front s top at n vs → n ≡ 0 → members vs ≡ []
-exhausted s top at n none f z = refl
-exhausted s top at n (v ▸ vs) f z = absurd (omega (arith, f .counted))
+  pub thin : Cells s (w .a) (w .m) × Cells s (w .b) (w .n) → Cells s (q .at) (q .n)
 
 merged-none : (l b r : Bool) (ws : List Value) → merged l b r [] ws ≡ cond r ws []
 unfolding merged
@@ -254,31 +225,28 @@ module _ (l r : Bool) (s : List ℕ) (w : Walk) (top : ℕ) (q : Rest)
       go (inr (inl z)) = z
       go (inr (inr z)) = absurd (omega arith)
 
-  rested : (e : Bool) (whole : List Value) (h : Merging l e r s top w whole) → Rested s top q (h .done) whole
+  rested : (e : Bool) (whole : List Value) (h : Merging l e r s top w whole) → Rested s top w q (h .done) whole
   rested e whole h = go rest
     where
-      go : RestOf w l r q → Rested s top q (h .done) whole
-      go (inl x) = record {
-        rest = h .left;
-        front = rw (x .1, x .2) (h .onLeft);
-        all = rw (x .3) (h .all ∙ ap (λ (c : List Value). h .done ++ c)
-            (ap (λ (c : List Value). merged l e r (members (h .left)) c) (exhausted s top (w .b) (w .n) (h .right) (h .onRight) (right-over (x .0)))
-            ∙ merged-nil l e r (members (h .left))));
-      }
-      go (inr x) = record {
-        rest = h .right;
-        front = rw (x .1, x .2) (h .onRight);
-        all = rw (x .3) (h .all ∙ ap (λ (c : List Value). h .done ++ c)
-            (ap (λ (c : List Value). merged l e r c (members (h .right))) (exhausted s top (w .a) (w .m) (h .left) (h .onLeft) (x .0))
-            ∙ merged-none l e r (members (h .right))));
-      }
+      none-left : w .m ≡ 0 → members (h .left) ≡ []
+      none-left z = no-front s top (w .a) (w .m) (λ vs. members vs ≡ []) refl (h .left) (h .onLeft) (omega arith)
 
-  thin-rest : (cells : Bool) → (cells ≡ true → Cells s (w .a) (w .m) × Cells s (w .b) (w .n)) → cells ≡ true → Cells s (q .at) (q .n)
-  thin-rest cells c e = go rest
-    where
-      go : RestOf w l r q → Cells s (q .at) (q .n)
-      go (inl x) = rw (x .1, x .2) (c e .0)
-      go (inr x) = rw (x .1, x .2) (c e .1)
+      none-right : w .n ≡ 0 → members (h .right) ≡ []
+      none-right z = no-front s top (w .b) (w .n) (λ vs. members vs ≡ []) refl (h .right) (h .onRight) (omega arith)
+
+      go : RestOf w l r q → Rested s top w q (h .done) whole
+      go (inl x) = subst (λ (z : Rest). Rested s top w z (h .done) whole) (sym (x .1)) (record {
+        rest = h .left;
+        front = h .onLeft;
+        all = h .all ∙ rw (none-right (right-over (x .0)), merged-nil l e r (members (h .left)));
+        thin = λ c. c .0;
+      })
+      go (inr x) = subst (λ (z : Rest). Rested s top w z (h .done) whole) (sym (x .1)) (record {
+        rest = h .right;
+        front = h .onRight;
+        all = h .all ∙ rw (none-left (x .0), merged-none l e r (members (h .right)));
+        thin = λ c. c .1;
+      })
 
   pub end-tail : (cells : Bool) → EndPre l r s w top cells → TailPre s (q .at) (q .n) cells (outOf w)
   end-tail cells p =
@@ -289,7 +257,7 @@ module _ (l r : Bool) (s : List ℕ) (w : Walk) (top : ℕ) (q : Rest)
         top = top;
         rest = z .rest;
         front = z .front;
-        thin = thin-rest cells (p .thin);
+        thin = λ e. z .thin (p .thin e);
         behind = omega (arith, p .merging .built .ends);
       }
 
@@ -327,76 +295,67 @@ module _ (l r : Bool) (s : List ℕ) (w : Walk) (top : ℕ) (q : Rest)
           heavy = λ k. absurd (omega (arith, b .ends));
         }
 
--- `merge`
+-- `walk_merge` and `merge_cells`
 
--- The walk goes on from sets that are unchanged below `top`.
-pub record Walking (l e r : Bool) (s₀ : List ℕ) (a b top : ℕ) (s : List ℕ) (w : Walk) : Type 0 where
+-- The walk goes on from runs that are unchanged below `top`.
+pub record Walking (l e r : Bool) (s₀ : List ℕ) (a m b n top : ℕ) (s : List ℕ) (w : Walk) : Type 0 where
   pub frame : Same top s₀ s
-  pub on : (vs ws : Values) → SetBelow s₀ top a vs → SetBelow s₀ top b ws → Merging l e r s top w (merged l e r (members vs) (members ws))
+  pub on : (vs ws : Values) → Front s₀ top a m vs → Front s₀ top b n ws → Merging l e r s top w (merged l e r (members vs) (members ws))
 
-pub built-none : (s : List ℕ) (top : ℕ) → top + 1 ≤ length s → Built s top (top + 1) 0 []
+pub walking-start : (l e r : Bool) (s : List ℕ) (a m b n top : ℕ) → top + 514 ≤ length s →
+    Walking l e r s a m b n top s (record { a = a; m = m; b = b; n = n; to = top + 1; count = 0 })
 unfolding code
-built-none s top l = record {
-  stands = record { inside = omega arith; cells = λ i p. absurd (omega arith) };
-  ends = omega arith;
-  counted = refl;
-}
-
-pub walking-start : (l e r : Bool) (s : List ℕ) (a b top m n : ℕ) → SomeSet s top a × SomeSet s top b × (top + 514 ≤ length s) →
-    m ≡ getD s a 0 % 4294967296 → n ≡ getD s b 0 % 4294967296 →
-    Walking l e r s a b top s (record { a = a + 1; m = m; b = b + 1; n = n; to = top + 1; count = 0 })
-walking-start l e r s a b top m n p x y = record {
+walking-start l e r s a m b n top p = record {
   frame = same-refl top s;
-  on = λ vs ws h k. record {
+  on = λ vs ws f g. record {
     left = vs;
     right = ws;
     done = [];
-    onLeft = front-start s top a vs h m x;
-    onRight = front-start s top b ws k n y;
-    built = built-none s top (omega (arith, p .2));
+    onLeft = f;
+    onRight = g;
+    built = record {
+      stands = record { inside = omega arith; cells = λ i p. absurd (omega arith) };
+      ends = omega arith;
+      counted = refl;
+    };
     all = refl;
   };
 }
 
-goes-if : (w : Walk) (limit : ℕ) (b c : Bool) → b ≡ c → GoesOn w limit b → GoesOn w limit c
-goes-if w limit b c e g = subst (λ (x : Bool). GoesOn w limit x) e g
+module _ (l e r : Bool) (s₀ : List ℕ) (a m b n top : ℕ) (s : List ℕ) (w : Walk) (h : Walking l e r s₀ a m b n top s w) where
+  pub walking-made : (s′ : List ℕ) (k : ℕ) → Ended l r s w top s′ k → RunsMerge l e r s₀ a m b n top s′ k
+  walking-made s′ k d vs ws f g =
+      let x = d e (merged l e r (members vs) (members ws)) (h .on vs ws f g) in
+      record { frame = same-trans top top s₀ s s′ (h .frame) (x .frame) (omega arith); light = x .light; heavy = x .heavy }
 
-module _ (l e r : Bool) (s₀ : List ℕ) (a b top : ℕ) (s : List ℕ) (w : Walk)
-    (p : SomeSet s₀ top a × SomeSet s₀ top b × (top + 514 ≤ length s₀)) (h : Walking l e r s₀ a b top s w) where
-  some-merging : Merging l e r s top w (merged l e r (members (p .0 .0)) (members (p .1 .0)))
-  some-merging = h .on (p .0 .0) (p .1 .0) (p .0 .1) (p .1 .1)
+  module _ (p : TwoRuns s₀ a m b n top) (room : top + 514 ≤ length s₀) where
+    some-merging : Merging l e r s top w (merged l e r (members (p .first)) (members (p .second)))
+    some-merging = h .on (p .first) (p .second) (p .onLeft) (p .onRight)
 
-  pub walking-step : (c : Bool) → GoesOn w (top + 256) c → c ≡ true → StepPre l e r s w
-  walking-step c goes z =
-      let g = goes-if w (top + 256) c true z goes in
-      record {
-        top = top;
-        whole = merged l e r (members (p .0 .0)) (members (p .1 .0));
-        merging = some-merging;
-        room = omega (arith, p .2, h .frame .kept, g .2);
-        near = g .2;
-        moreLeft = g .0;
-        moreRight = g .1;
-      }
+    pub walking-step : 0 < w .m → 0 < w .n → w .to ≤ top + 256 → StepPre l e r s w
+    walking-step i j k = record {
+      top = top;
+      whole = merged l e r (members (p .first)) (members (p .second));
+      merging = some-merging;
+      room = omega (arith, h .frame .kept);
+      near = k;
+      moreLeft = i;
+      moreRight = j;
+    }
 
-  pub walking-next : (s′ : List ℕ) (w′ : Walk) → Stepped l e r s w s′ w′ → Walking l e r s₀ a b top s′ w′
-  walking-next s′ w′ t = record {
-    frame = same-trans top (w .to) s₀ s s′ (h .frame) (t .frame) (omega (arith, some-merging .built .ends));
-    on = λ vs ws x y. t .on top (merged l e r (members vs) (members ws)) (h .on vs ws x y);
-  }
+    pub walking-next : (s′ : List ℕ) (w′ : Walk) → Stepped l e r s w s′ w′ → Walking l e r s₀ a m b n top s′ w′
+    walking-next s′ w′ t = record {
+      frame = same-trans top (w .to) s₀ s s′ (h .frame) (t .frame) (omega (arith, some-merging .built .ends));
+      on = λ vs ws f g. t .on top (merged l e r (members vs) (members ws)) (h .on vs ws f g);
+    }
 
-  pub walking-end : (c : Bool) → GoesOn w (top + 256) c → c ≡ false → EndPre l r s w top false
-  walking-end c goes z = record {
-    both = e;
-    whole = merged l e r (members (p .0 .0)) (members (p .1 .0));
-    merging = some-merging;
-    room = omega (arith, p .2, h .frame .kept);
-    over = goes-if w (top + 256) c false z goes;
-    thin = λ e. absurd (let y : _≡_ {A = ℕ} 0 1 = cc e in omega arith);
-  }
-
-  pub walking-made : (s′ : List ℕ) (k : ℕ) → Ended l r s w top s′ k → (vs ws : Values) → SetBelow s₀ top a vs → SetBelow s₀ top b ws →
-      Made top s₀ s′ (setOf (merged l e r (members vs) (members ws))) k
-  walking-made s′ k m vs ws x y =
-      let d = m e (merged l e r (members vs) (members ws)) (h .on vs ws x y) in
-      record { frame = same-trans top top s₀ s s′ (h .frame) (d .frame) (omega arith); light = d .light; heavy = d .heavy }
+    pub walking-end : (cells : Bool) → (w .m ≡ 0) ⊎ ((w .n ≡ 0) ⊎ (top + 256 < w .to)) →
+        (cells ≡ true → Cells s (w .a) (w .m) × Cells s (w .b) (w .n)) → EndPre l r s w top cells
+    walking-end cells o c = record {
+      both = e;
+      whole = merged l e r (members (p .first)) (members (p .second));
+      merging = some-merging;
+      room = omega (arith, h .frame .kept);
+      over = o;
+      thin = c;
+    }

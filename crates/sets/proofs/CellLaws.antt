@@ -1,7 +1,7 @@
 -- Sets whose members are one cell each: a turn of a walk over two of them goes by the order of two cells as numbers, so that inclusion
 -- and merging take the turns of TurnLaws.
 use Prim.Native.Nat.{ℕ, _+_, _-_, _%_, _≤_, _<_, Ordering, Ordering·lt, Ordering·eq, Ordering·gt}
-use mathlib.Core.Bool.{Bool, true, false}
+use mathlib.Core.Bool.{Bool, true, false, cond}
 use mathlib.Core.List.{List, _∷_}
 use mathlib.Core.Path.{_≡_, refl, sym, _∙_, subst}
 use native.Mathlib.Omega.{arith}
@@ -9,17 +9,16 @@ use lib.Dec.{eqb}
 use lib.ListN.{length, getD}
 use borrow.Author.Tests.{eqb-true, eqb-false}
 use mir.Val.{boolByte}
-use Rattle.rules.specs.Values.{Values, none, _▸_, members, count, order}
-use Rattle.rules.specs.Operations.{allIn}
-use Rattle.laws.proofs.OrderLaws.{order-eq}
+use Rattle.rules.specs.Values.{Value, Values, none, _▸_, members, count, order}
+use Rattle.rules.specs.Operations.{isIn, allIn}
+use Rattle.rules.proofs.Basics.{absurd01}
 use Rattle.arena.specs.Code.{EndsAt, Rises, AllFit, SetBelow, Front}
-use Rattle.arena.proofs.CodeLaws.{fits-small}
-use Rattle.arena.proofs.FrontLaws.{rises-rising, front-start, front-value, front-next}
+use Rattle.arena.proofs.FrontLaws.{front-start, front-value, front-next}
 use Rattle.arena.proofs.EvenLaws.{cell-less, cell-equal, cell-greater}
-use Rattle.sets.specs.Fronts.{Cells}
+use Rattle.sets.specs.Fronts.{keepOf, restLeft, restRight, TwoRuns, Cells}
 use Rattle.sets.specs.Rows.{HasCell, TwoRows}
-use Rattle.sets.proofs.TurnLaws.{allIn-less, allIn-equal, allIn-greater, turn-less, turn-equal, turn-greater}
-use Rattle.sets.proofs.TurnLaws.{Including, including-turn}
+use Rattle.sets.proofs.TurnLaws.{allIn-turn, turn-less, turn-equal, turn-greater, Including, including-start, including-turn}
+use Rattle.sets.proofs.SearchLaws.{by-front}
 use Rattle.sets.proofs.RowLaws.{cells-first, cells-next, cells-weigh, cell-in}
 
 -- No more members than in the set that includes them.
@@ -28,16 +27,15 @@ unfolding allIn
 few-in none ws p q f g h = omega arith
 few-in (v ▸ vs) none p q f g h = absurd (let z : _≡_ {A = ℕ} 0 1 = cc in omega arith)
 few-in (v ▸ vs) (w ▸ ws) p q f g h =
-    go (order v w) refl (few-in vs ws (p .1) (q .1) (f .1) (g .1)) (few-in (v ▸ vs) ws p (q .1) f (g .1))
+    go (order v w) (sym (allIn-turn (order v w) v vs w ws refl p q (f .0) (g .0)) ∙ h) (few-in vs ws (p .1) (q .1) (f .1) (g .1))
+    (few-in (v ▸ vs) ws p (q .1) f (g .1))
   where
-    go : (o : Ordering) → order v w ≡ o → (allIn (members vs) (members ws) ≡ true → count vs ≤ count ws) →
+    go : (o : Ordering) → cond (keepOf false true true o) (allIn (members (restLeft o v vs)) (members (restRight o w ws))) false ≡ true →
+        (allIn (members vs) (members ws) ≡ true → count vs ≤ count ws) →
         (allIn (v ∷ members vs) (members ws) ≡ true → count (v ▸ vs) ≤ count ws) → count (v ▸ vs) ≤ count (w ▸ ws)
-    go Ordering·lt e i j =
-        absurd (let z : _≡_ {A = ℕ} 0 1 = cc (allIn-less v w (members vs) (members ws) e (rises-rising (w ▸ ws) q), h) in omega arith)
-    go Ordering·eq e i j =
-        let d = order-eq v w (fits-small v (f .0)) (fits-small w (g .0)) e in
-        omega (arith, i (sym (allIn-equal v w (members vs) (members ws) e d (rises-rising (v ▸ vs) p)) ∙ h))
-    go Ordering·gt e i j = omega (arith, j (sym (allIn-greater v w (members vs) (members ws) e (rises-rising (v ▸ vs) p)) ∙ h))
+    go Ordering·lt e i j = absurd01 (cc e)
+    go Ordering·eq e i j = omega (arith, i e)
+    go Ordering·gt e i j = omega (arith, j e)
 
 module _ (s : List ℕ) (a m b n : ℕ) (whole : Bool) (h : Including s a m b n whole) where
   pub including-fewer : n < m → false ≡ whole
@@ -56,28 +54,27 @@ module _ (s : List ℕ) (a m b n : ℕ) (whole : Bool) (h : Including s a m b n 
 
   -- A search for the first member.
   module _ (l : 0 < m) (left : Cells s a m) (right : Cells s b n) (r : Bool) (found : HasCell s b n (getD s a 0) r) where
+    -- what is told by the first member's cell
+    first-in : (v : Value) (vs : Values) → Front s (length s) a m (v ▸ vs) → r ≡ isIn v (members (h .right))
+    first-in v vs f = cell-in s a v (front-value s (length s) a m v vs f) (f .fits .0) (length s) b n (h .right) (h .onRight) right r found
+
     pub including-found : r ≡ true → Including s (a + 1) (m - 1) b n whole
     unfolding allIn
-    including-found z = go (h .left) (h .onLeft) (h .same)
-      where
-        go : (vs : Values) → Front s (length s) a m vs → whole ≡ allIn (members vs) (members (h .right)) → Including s (a + 1) (m - 1) b n whole
-        go none f q = absurd (omega (arith, f .counted))
-        go (v ▸ vs) f q = record {
+    including-found z =
+        by-front s (length s) a m (λ vs. whole ≡ allIn (members vs) (members (h .right)) → Including s (a + 1) (m - 1) b n whole)
+        (λ v vs f q. record {
           left = vs;
           right = h .right;
           onLeft = front-next s (length s) a m v vs f (a + 1) (m - 1) (omega (arith, cells-weigh s (length s) a m (v ▸ vs) f left .0)) (omega arith);
           onRight = h .onRight;
-          same = q ∙ rw (← cell-in s a v (front-value s (length s) a m v vs f) (f .fits .0) (length s) b n (h .right) (h .onRight) right r found, z);
-        }
+          same = q ∙ rw (← first-in v vs f, z);
+        }) (h .left) (h .onLeft) l (h .same)
 
     pub including-lost : r ≡ false → false ≡ whole
     unfolding allIn
-    including-lost z = go (h .left) (h .onLeft) (h .same)
-      where
-        go : (vs : Values) → Front s (length s) a m vs → whole ≡ allIn (members vs) (members (h .right)) → false ≡ whole
-        go none f q = absurd (omega (arith, f .counted))
-        go (v ▸ vs) f q =
-            sym (q ∙ rw (← cell-in s a v (front-value s (length s) a m v vs f) (f .fits .0) (length s) b n (h .right) (h .onRight) right r found, z))
+    including-lost z =
+        by-front s (length s) a m (λ vs. whole ≡ allIn (members vs) (members (h .right)) → false ≡ whole)
+        (λ v vs f q. sym (q ∙ rw (← first-in v vs f, z))) (h .left) (h .onLeft) l (h .same)
 
   -- A turn of the walk over both.
   module _ (l : 0 < m) (k : 0 < n) (left : Cells s a m) (right : Cells s b n) where
@@ -114,24 +111,20 @@ pub record RowWalk (s : List ℕ) (a m b n i left j others : ℕ) : Type 0 where
   pub otherCells : Cells s j others
   pub on : (vs ws : Values) → Front s (length s) a m vs → Front s (length s) b n ws → Including s i left j others (allIn (members vs) (members ws))
 
--- Two sets of them.
-pub two-rows : (s : List ℕ) (top a b m n : ℕ) (vs ws : Values) → SetBelow s top a vs → SetBelow s top b ws →
-    m ≡ getD s a 0 % 4294967296 → n ≡ getD s b 0 % 4294967296 →
-    Cells s (a + 1) (getD s a 0 % 4294967296) × Cells s (b + 1) (getD s b 0 % 4294967296) → TwoRows s (a + 1) m (b + 1) n top
-two-rows s top a b m n vs ws h k d e c = record {
-  first = vs;
-  second = ws;
-  onLeft = front-start s top a vs h m d;
-  onRight = front-start s top b ws k n e;
-  left = subst (Cells s (a + 1)) (sym d) (c .0);
-  right = subst (Cells s (b + 1)) (sym e) (c .1);
-}
+-- Two sets as runs of members, and as rows of cells.
+module _ (s : List ℕ) (top a b m n : ℕ) (vs ws : Values) (h : SetBelow s top a vs) (k : SetBelow s top b ws)
+    (d : m ≡ getD s a 0 % 4294967296) (e : n ≡ getD s b 0 % 4294967296) where
+  pub two-runs : TwoRuns s (a + 1) m (b + 1) n top
+  two-runs = record { first = vs; second = ws; onLeft = front-start s top a vs h m d; onRight = front-start s top b ws k n e }
+
+  pub two-rows : Cells s (a + 1) (getD s a 0 % 4294967296) → Cells s (b + 1) (getD s b 0 % 4294967296) → TwoRows s (a + 1) m (b + 1) n top
+  two-rows c c′ = record { runs = two-runs; left = subst (Cells s (a + 1)) (sym d) c; right = subst (Cells s (b + 1)) (sym e) c′ }
 
 pub row-start : (s : List ℕ) (a m b n top : ℕ) → TwoRows s a m b n top → RowWalk s a m b n a m b n
 row-start s a m b n top h = record {
   cells = h .left;
   otherCells = h .right;
-  on = λ vs ws f g. record { left = vs; right = ws; onLeft = f; onRight = g; same = refl };
+  on = including-start s a m b n;
 }
 
 -- The cells that are left after a step.

@@ -2,7 +2,7 @@
 -- behind it (`cell-put`); so a turn at two cells is a turn of the merge (`merge-step`).
 use Prim.Native.Nat.{ℕ, _+_, _-_, _≤_, _<_, compare, Ordering, Ordering·lt, Ordering·eq, Ordering·gt}
 use mathlib.Core.Bool.{Bool, true, false}
-use mathlib.Core.List.{List, []}
+use mathlib.Core.List.{List}
 use mathlib.Core.Logic.{_⊎_, inl, inr}
 use mathlib.Core.Path.{_≡_, refl, sym, ap, _∙_, subst}
 use native.Mathlib.Omega.{arith}
@@ -12,23 +12,22 @@ use lib.ListN.{length, getD, set as setAt, length-set}
 use lib.Seq.{getD-set-same, getD-set-other}
 use borrow.Author.Tests.{le-leb, lt-leb}
 use mir.Val.{boolByte}
-use Rattle.rules.specs.Values.{Values, members}
-use Rattle.rules.specs.Operations.{setOf}
+use Rattle.rules.specs.Values.{members}
 use Rattle.laws.proofs.OrderLaws.{compare-refl, lt-compare}
 use Rattle.laws.proofs.CellsLaws.{count-weights}
-use Rattle.arena.specs.Code.{Same, EndsAt, Made, Front}
+use Rattle.arena.specs.Code.{Same, EndsAt}
 use Rattle.arena.proofs.CodeLaws.{gt-compare}
-use Rattle.arena.proofs.Standing.{same-refl, same-trans}
+use Rattle.arena.proofs.Standing.{same-trans}
 use Rattle.arena.proofs.EvenLaws.{cell-less, cell-equal, cell-greater}
 use Rattle.sets.specs.declared.Turn.{Turn}
 use Rattle.sets.specs.declared.Out.{Out}
 use Rattle.sets.specs.declared.Walk.{Walk}
 use Rattle.sets.specs.declared.CellTurn.{CellTurn}
 use Rattle.sets.specs.Merged.{merged}
-use Rattle.sets.specs.Fronts.{TurnAt, Cells, Put, Merging, EndPre, Ended}
+use Rattle.sets.specs.Fronts.{TurnAt, Cells, Put, EndPre, Ended, RunsMerge}
 use Rattle.sets.specs.Rows.{lesserOf, moveLeft, moveRight, CellTurned, RowsBelow}
 use Rattle.sets.proofs.TurnLaws.{turn-less, turn-equal, turn-greater}
-use Rattle.sets.proofs.BuildLaws.{put-kept, put-none, after, step-on, built-none}
+use Rattle.sets.proofs.BuildLaws.{put-kept, put-none, after, step-on, Walking, walking-start, walking-made, walking-end}
 use Rattle.sets.proofs.CellLaws.{byte-small}
 use Rattle.sets.proofs.RowLaws.{cells-next, cells-first, cells-frame}
 
@@ -65,16 +64,14 @@ cell-put : (keep : Bool) (s : List ℕ) (from to count : ℕ) → from < to → 
     Put keep s from (from + 1) 1 (record { to = to; count = count }) (setAt s to (getD s from 0))
     (record { to = to + boolByte keep; count = count + boolByte keep })
 cell-put true s from to count l k f =
-    subst (λ (n : ℕ). Put true s from (from + 1) 1 (record { to = to; count = count }) (setAt s to (getD s from 0)) (record { to = to + n; count = count + 1 }))
-    (let e : from + 1 - from ≡ 1 = omega arith in e)
-    (put-kept s from (from + 1) 1 (record { to = to; count = count }) (setAt s to (getD s from 0))
+    put-kept s from (from + 1) 1 (record { to = to; count = count }) (setAt s to (getD s from 0)) (record { to = to + 1; count = count + 1 })
     (record { forward = omega arith; behind = omega arith; room = omega arith; few = omega arith })
     (record {
       there = λ i p. let e : i ≡ 0 = omega arith in there i e;
       before = λ i p. getD-set-other s to i (getD s from 0) 0 (λ e. omega arith);
       after = λ i p. getD-set-other s to i (getD s from 0) 0 (λ e. omega arith);
       kept = length-set s to (getD s from 0);
-    }))
+    }) (omega arith) refl
   where
     there : (i : ℕ) → i ≡ 0 → getD (setAt s to (getD s from 0)) (to + i) 0 ≡ getD s (from + i) 0
     there i e =
@@ -86,7 +83,6 @@ cell-put false s from to count l k f =
 
 -- A merge of m cells from a on and n from b on: `left` and `others` cells are left of them, `count` have been built.
 pub record RowMerge (l e r : Bool) (s₀ : List ℕ) (a m b n top : ℕ) (s : List ℕ) (i j to : ℕ) : Type 0 where
-  pub frame : Same top s₀ s
   pub left : ℕ
   pub others : ℕ
   pub count : ℕ
@@ -96,21 +92,20 @@ pub record RowMerge (l e r : Bool) (s₀ : List ℕ) (a m b n top : ℕ) (s : Li
   pub few : count + (left + others) ≤ m + n
   pub cells : Cells s i left
   pub otherCells : Cells s j others
-  pub on : (vs ws : Values) → Front s₀ top a m vs → Front s₀ top b n ws →
-      Merging l e r s top (record { a = i; m = left; b = j; n = others; to = to; count = count }) (merged l e r (members vs) (members ws))
+  pub walking : Walking l e r s₀ a m b n top s (record { a = i; m = left; b = j; n = others; to = to; count = count })
 
 module _ (l e r : Bool) (s : List ℕ) (a m b n top : ℕ) (p : RowsBelow s a m b n top) where
   pub merge-small : (m ≤ 255) × (n ≤ 255) × (a + m ≤ top) × (b + n ≤ top)
-  merge-small = (
-    omega (arith, p .rows .onLeft .counted, p .rows .onLeft .light, count-weights (p .rows .first)),
-    omega (arith, p .rows .onRight .counted, p .rows .onRight .light, count-weights (p .rows .second)),
-    omega (arith, p .rows .onLeft .counted, p .rows .onLeft .below, count-weights (p .rows .first)),
-    omega (arith, p .rows .onRight .counted, p .rows .onRight .below, count-weights (p .rows .second)),
-  )
+  merge-small =
+      let q = p .rows .runs in (
+        omega (arith, q .onLeft .counted, q .onLeft .light, count-weights (q .first)),
+        omega (arith, q .onRight .counted, q .onRight .light, count-weights (q .second)),
+        omega (arith, q .onLeft .counted, q .onLeft .below, count-weights (q .first)),
+        omega (arith, q .onRight .counted, q .onRight .below, count-weights (q .second)),
+      )
 
   pub merge-start : RowMerge l e r s a m b n top s a b (top + 1)
   merge-start = record {
-    frame = same-refl top s;
     left = m;
     others = n;
     count = 0;
@@ -120,15 +115,7 @@ module _ (l e r : Bool) (s : List ℕ) (a m b n top : ℕ) (p : RowsBelow s a m 
     few = omega arith;
     cells = p .rows .left;
     otherCells = p .rows .right;
-    on = λ vs ws f g. record {
-      left = vs;
-      right = ws;
-      done = [];
-      onLeft = f;
-      onRight = g;
-      built = built-none s top (omega (arith, p .room));
-      all = refl;
-    };
+    walking = walking-start l e r s a m b n top (p .room);
   }
 
 -- A turn at two sets that both have cells left.
@@ -139,7 +126,7 @@ module _ (l e r : Bool) (s₀ : List ℕ) (a m b n top : ℕ) (p : RowsBelow s�
       let q = merge-small l e r s₀ a m b n top p in (
         omega (arith, q .2),
         omega (arith, q .3),
-        omega (arith, q .0, q .1, h .countIs, h .few, h .leftIs, p .room, h .frame .kept),
+        omega (arith, q .0, q .1, h .countIs, h .few, h .leftIs, p .room, h .walking .frame .kept),
         omega (arith, q .0, q .1, h .countIs, h .few, h .leftIs),
       )
 
@@ -178,15 +165,9 @@ module _ (l e r : Bool) (s₀ : List ℕ) (a m b n top : ℕ) (p : RowsBelow s�
     stay : (at k : ℕ) → at + k ≤ top → Cells s at k → Cells stored at k
     stay at k q c = cells-frame top s stored at k stored-frame q c
 
-    turned : (vs ws : Values) → Front s₀ top a m vs → Front s₀ top b n ws →
-        Merging l e r stored top (after t out) (merged l e r (members vs) (members ws))
-    turned vs ws f g =
-        step-on l e r s stored here t out turn put top (merged l e r (members vs) (members ws)) (h .on vs ws f g) some-left some-others
-
     next : t .a + t .m ≡ a + m → t .b + t .n ≡ b + n → t .m + t .n < h .left + h .others → Cells s (t .a) (t .m) → Cells s (t .b) (t .n) →
         RowMerge l e r s₀ a m b n top stored (t .a) (t .b) (to + boolByte (t .keep))
     next x y z c d = record {
-      frame = same-trans top top s₀ s stored (h .frame) stored-frame (omega arith);
       left = t .m;
       others = t .n;
       count = h .count + boolByte (t .keep);
@@ -196,7 +177,11 @@ module _ (l e r : Bool) (s₀ : List ℕ) (a m b n top : ℕ) (p : RowsBelow s�
       few = omega (arith, h .few, byte-small (t .keep));
       cells = stay (t .a) (t .m) (omega (arith, merge-small l e r s₀ a m b n top p .2)) c;
       otherCells = stay (t .b) (t .n) (omega (arith, merge-small l e r s₀ a m b n top p .3)) d;
-      on = turned;
+      walking = record {
+        frame = same-trans top top s₀ s stored (h .walking .frame) stored-frame (omega arith);
+        on = λ vs ws f g. step-on l e r s stored here t out turn put top (merged l e r (members vs) (members ws)) (h .walking .on vs ws f g)
+            some-left some-others;
+      };
     }
 
   fewer-left : Cells s (i + 1) (h .left - 1)
@@ -243,33 +228,23 @@ module _ (l e r : Bool) (s₀ : List ℕ) (a m b n top : ℕ) (p : RowsBelow s�
   abbrev last : Walk
   last = record { a = i; m = a + m - i; b = j; n = b + n - j; to = to; count = to - top - 1 }
 
-  merge-on : (vs ws : Values) → Front s₀ top a m vs → Front s₀ top b n ws → Merging l e r s top last (merged l e r (members vs) (members ws))
-  merge-on vs ws f g =
+  last-walking : Walking l e r s₀ a m b n top s last
+  last-walking =
       rw (
         let z : a + m - i ≡ h .left = omega (arith, h .leftIs) in z,
         let z : b + n - j ≡ h .others = omega (arith, h .othersIs) in z,
         let z : to - top - 1 ≡ h .count = omega (arith, h .countIs) in z,
-      ) (h .on vs ws f g)
+      ) (h .walking)
 
   pub merge-end : (a + m ≤ i) ⊎ (b + n ≤ j) → EndPre l r s last top true
-  merge-end o = record {
-    both = e;
-    whole = merged l e r (members (p .rows .first)) (members (p .rows .second));
-    merging = merge-on (p .rows .first) (p .rows .second) (p .rows .onLeft) (p .rows .onRight);
-    room = omega (arith, p .room, h .frame .kept);
-    over = over o;
-    thin = λ _. (
-      subst (Cells s i) (let z : h .left ≡ a + m - i = omega (arith, h .leftIs) in z) (h .cells),
-      subst (Cells s j) (let z : h .others ≡ b + n - j = omega (arith, h .othersIs) in z) (h .otherCells),
-    );
-  }
+  merge-end o = walking-end l e r s₀ a m b n top s last last-walking (p .rows .runs) (p .room) true (over o) λ _. (
+    subst (Cells s i) (let z : h .left ≡ a + m - i = omega (arith, h .leftIs) in z) (h .cells),
+    subst (Cells s j) (let z : h .others ≡ b + n - j = omega (arith, h .othersIs) in z) (h .otherCells),
+  )
     where
       over : (a + m ≤ i) ⊎ (b + n ≤ j) → (a + m - i ≡ 0) ⊎ ((b + n - j ≡ 0) ⊎ (top + 256 < to))
       over (inl z) = inl (omega arith)
       over (inr z) = inr (inl (omega arith))
 
-  pub merge-made : (s′ : List ℕ) (k : ℕ) → Ended l r s last top s′ k → (vs ws : Values) → Front s₀ top a m vs → Front s₀ top b n ws →
-      Made top s₀ s′ (setOf (merged l e r (members vs) (members ws))) k
-  merge-made s′ k d vs ws f g =
-      let x = d e (merged l e r (members vs) (members ws)) (merge-on vs ws f g) in
-      record { frame = same-trans top top s₀ s s′ (h .frame) (x .frame) (omega arith); light = x .light; heavy = x .heavy }
+  pub merge-made : (s′ : List ℕ) (k : ℕ) → Ended l r s last top s′ k → RunsMerge l e r s₀ a m b n top s′ k
+  merge-made = walking-made l e r s₀ a m b n top s last last-walking

@@ -1,173 +1,142 @@
--- Pairs of a relation in the arena: where the next pair stands (`NextPair`), whether none shares its first part with the next one, which
--- the pairs that are left decide (`Checking`), and what is found as an application (`image-found`).
+-- Pairs of a relation in the arena: whether none shares its first part with the next one, which the pairs that are left decide
+-- (`Checking`), and what is found as an application (`image-found`).
 use Prim.Native.Nat.{ℕ, _+_, _-_, _%_, _≤_, _<_, Ordering, Ordering·lt, Ordering·eq, Ordering·gt}
-use mathlib.Core.Bool.{Bool, true, false, not, cond}
+use mathlib.Core.Bool.{true, false}
 use mathlib.Core.List.{List}
-use mathlib.Core.Path.{_≡_, refl, sym, _∙_, subst}
+use mathlib.Core.Path.{_≡_, refl, sym, ap, _∙_}
 use native.Mathlib.Omega.{arith}
 use lib.Dec.{isEq}
 use lib.ListN.{length, getD}
-use Rattle.rules.specs.Values.{Value, scalar, pair, set, Values, none, _▸_, members, count, weight, order, same}
+use Rattle.rules.specs.Values.{Value, scalar, pair, set, Values, none, _▸_, members, weight, order, same}
 use Rattle.rules.specs.Operations.{left, right, applied}
 use Rattle.laws.proofs.OrderLaws.{Small}
 use Rattle.laws.proofs.SetOrder.{All, Rising}
 use Rattle.laws.proofs.Membership.{all-in}
-use Rattle.arena.specs.Code.{ValueAt, CellsFit, orderCode, SomeAt, EndsAt, Compared, SetBelow, ValueBelow, Front, IsPair, AllPairs}
+use Rattle.arena.specs.Code.{ValueAt, orderCode, SomeAt, EndsAt, Compared, SetBelow, ValueBelow, Front, IsPair, AllPairs}
 use Rattle.arena.proofs.CodeLaws.{fits-small}
 use Rattle.arena.proofs.ValueParts.{left-stands, right-stands}
 use Rattle.arena.proofs.FrontLaws.{rises-rising, fit-small, front-start, front-value, front-next, code-equal}
 use Rattle.sets.specs.Fronts.{Member}
-use Rattle.sets.specs.Pairs.{newFirst, newFirsts, PairFirst, NextPair, FunctionAt, Within, ImageAt}
+use Rattle.sets.specs.Pairs.{newFirsts, Within, ImageAt}
 use Rattle.sets.proofs.PairLaws.{applied-none, applied-shared, applied-found}
-use Rattle.sets.proofs.SearchLaws.{no-front, key-stands}
+use Rattle.sets.proofs.SearchLaws.{key-stands}
 
--- What is shown of a first pair and the rest is shown of pairs, if there are any.
-some-pairs : (P : Values → Type 0) → ((a b : Value) (ws : Values) → AllPairs ws → P (pair a b ▸ ws)) → (vs : Values) → AllPairs vs → 0 < count vs → P vs
-some-pairs P h none p l = absurd (omega arith)
-some-pairs P h (scalar x ▸ ws) p l = absurd (p .0)
-some-pairs P h (pair a b ▸ ws) p l = h a b ws (p .1)
-some-pairs P h (set x ▸ ws) p l = absurd (p .0)
+-- What is shown of two pairs and the rest is shown of pairs, if there are two.
+pub by-two : (s : List ℕ) (top i n : ℕ) (P : Values → Type 0) →
+    ((a b c d : Value) (ws : Values) → Front s top i n (pair a b ▸ pair c d ▸ ws) → P (pair a b ▸ pair c d ▸ ws)) →
+    (vs : Values) → Front s top i n vs → AllPairs vs → 1 < n → P vs
+by-two s top i n P k none f h l = absurd (omega (arith, f .counted))
+by-two s top i n P k (v ▸ none) f h l = absurd (omega (arith, f .counted))
+by-two s top i n P k (scalar x ▸ w ▸ ws) f h l = absurd (h .0)
+by-two s top i n P k (set x ▸ w ▸ ws) f h l = absurd (h .0)
+by-two s top i n P k (pair a b ▸ scalar x ▸ ws) f h l = absurd (h .1 .0)
+by-two s top i n P k (pair a b ▸ set x ▸ ws) f h l = absurd (h .1 .0)
+by-two s top i n P k (pair a b ▸ pair c d ▸ ws) f h l = k a b c d ws f
 
-by-pair : (s : List ℕ) (top i n : ℕ) (P : Values → Type 0) →
-    ((a b : Value) (ws : Values) → Front s top i n (pair a b ▸ ws) → AllPairs ws → P (pair a b ▸ ws)) →
-    (vs : Values) → Front s top i n vs → AllPairs vs → 0 < n → P vs
-by-pair s top i n P h vs f p l =
-    some-pairs (λ ws. Front s top i n ws → P ws) (λ a b ws q g. h a b ws g q) vs p (omega (arith, f .counted)) f
-
-pub pair-first : (s : List ℕ) (top i n : ℕ) (vs : Values) → Front s top i n vs → AllPairs vs → 0 < n → PairFirst s i n
-pair-first s top i n vs f p l =
-    by-pair s top i n (λ _. PairFirst s i n)
-    (λ a b ws g q. record { top = top; first = a; second = b; rest = ws; front = g; pairs = q }) vs f p l
-
--- The next pair. The first part stands behind the cell of its pair, then the second.
-module _ (s : List ℕ) (top i n : ℕ) (a b : Value) (vs : Values) (f : Front s top i n (pair a b ▸ vs)) where
-  first-at : ValueAt s (i + 1) a
-  first-at = left-stands s i a b (front-value s top i n (pair a b) vs f)
-
-  second-at : (r : ℕ) → EndsAt s (i + 1) r → (r ≡ i + 1 + weight a) × ValueAt s r b
-  second-at r e =
-      let x = e a first-at (f .fits .0 .0) in
-      (x, subst (λ (z : ℕ). ValueAt s z b) (sym x) (right-stands s i a b (front-value s top i n (pair a b) vs f)))
-
-  next-at : (r k : ℕ) → EndsAt s (i + 1) r → EndsAt s r k → k ≡ i + weight (pair a b)
-  next-at r k e g = let x = second-at r e in omega (arith, x .0, g b (x .1) (f .fits .0 .1))
-
--- The first part of the pair behind it.
-next-first : (s : List ℕ) (top i n : ℕ) (a b c d : Value) (vs : Values) → Front s top i n (pair a b ▸ pair c d ▸ vs) → (r k : ℕ) →
-    EndsAt s (i + 1) r → EndsAt s r k → ValueAt s (k + 1) c × CellsFit c
-next-first s top i n a b c d vs f r k e g =
-    let h = front-next s top i n (pair a b) (pair c d ▸ vs) f k (n - 1) (next-at s top i n a b (pair c d ▸ vs) f r k e g) (omega (arith, f .counted)) in
-    (left-stands s k c d (front-value s top k (n - 1) (pair c d) vs h), h .fits .0 .0)
-
--- Whether two values are the same, by the number of their order.
-same-code : (a c : Value) (k : ℕ) → k ≡ orderCode (order a c) → k ≡ 1 → same a c ≡ true
+-- Whether two values are the same, by their order.
+same-of : (a c : Value) → order a c ≡ Ordering·eq → same a c ≡ true
 unfolding same
-same-code a c k e z = rw (code-equal (order a c) k e z)
+same-of a c e = rw e
 
-other-code : (a c : Value) (k : ℕ) → k ≡ orderCode (order a c) → (k ≡ 1 → ⊥) → same a c ≡ false
+other-of : (a c : Value) → (order a c ≡ Ordering·eq → ⊥) → same a c ≡ false
 unfolding same
-other-code a c k e z = go (order a c) e
+other-of a c d = go (order a c) d
   where
-    go : (o : Ordering) → k ≡ orderCode o → isEq o ≡ false
-    go Ordering·lt q = refl
-    go Ordering·eq q = absurd (z q)
-    go Ordering·gt q = refl
+    go : (o : Ordering) → (o ≡ Ordering·eq → ⊥) → isEq o ≡ false
+    go Ordering·lt n = refl
+    go Ordering·eq n = absurd (n refl)
+    go Ordering·gt n = refl
 
-module _ (s : List ℕ) (i n : ℕ) (h : PairFirst s i n) where
-  pub first-some : SomeAt s (i + 1)
-  first-some = record {
-    value = h .first;
-    stands = first-at s (h .top) i n (h .first) (h .second) (h .rest) (h .front);
-    fits = h .front .fits .0 .0;
-  }
-
-  pub second-some : (r : ℕ) → EndsAt s (i + 1) r → SomeAt s r
-  second-some r e = record {
-    value = h .second;
-    stands = second-at s (h .top) i n (h .first) (h .second) (h .rest) (h .front) r e .1;
-    fits = h .front .fits .0 .1;
-  }
-
-  pub next-some : (r k : ℕ) → EndsAt s (i + 1) r → EndsAt s r k → 1 < n → SomeAt s (k + 1)
-  next-some r k e g l =
-      some-pairs (λ ws. Front s (h .top) i n (pair (h .first) (h .second) ▸ ws) → SomeAt s (k + 1))
-      (λ c d ws p f. let x = next-first s (h .top) i n (h .first) (h .second) c d ws f r k e g in
-      record { value = c; stands = x .0; fits = x .1 })
-      (h .rest) (h .pairs) (omega (arith, h .front .counted)) (h .front)
-
-module _ (s : List ℕ) (i n r k : ℕ) (e : EndsAt s (i + 1) r) (g : EndsAt s r k) where
-  -- where there is a next pair, by the order of both first parts
-  next-by : (o q : ℕ) → Compared s (i + 1) (k + 1) o → 1 < n →
-      ((a c : Value) → o ≡ orderCode (order a c) → (m : ℕ) → k ≡ m → q ≡ cond (not (same a c)) m 0) → NextPair s i n q
-  next-by o q h l j top a b vs f p =
-      some-pairs (λ ws. Front s top i n (pair a b ▸ ws) → q ≡ cond (newFirst (pair a b) (members ws)) (i + weight (pair a b)) 0)
-      (λ c d ws _ f. let x = next-first s top i n a b c d ws f r k e g in
-      j a c (h a c (first-at s top i n a b (pair c d ▸ ws) f) (x .0) (f .fits .0 .0) (x .1)) (i + weight (pair a b))
-      (next-at s top i n a b (pair c d ▸ ws) f r k e g))
-      vs p (omega (arith, f .counted)) f
-
-  pub next-shared : (o : ℕ) → Compared s (i + 1) (k + 1) o → 1 < n → o ≡ 1 → NextPair s i n 0
-  next-shared o h l z = next-by o 0 h l (λ a c d m q. rw (same-code a c o d z))
-
-  pub next-new : (o : ℕ) → Compared s (i + 1) (k + 1) o → 1 < n → (o ≡ 1 → ⊥) → NextPair s i n k
-  next-new o h l z = next-by o k h l (λ a c d m q. rw (other-code a c o d z) q)
-
-  pub next-last : n ≤ 1 → NextPair s i n k
-  next-last l top a b none f p = next-at s top i n a b none f r k e g
-  next-last l top a b (v ▸ vs) f p = absurd (omega (arith, f .counted))
-
--- What the next pair's place says of the first part.
-not-new : (b : Bool) (m r : ℕ) → r ≡ cond b m 0 → 0 < m → r ≡ 0 → b ≡ false
-not-new true m r e l z = absurd (omega arith)
-not-new false m r e l z = refl
-
-new-at : (b : Bool) (m r : ℕ) → r ≡ cond b m 0 → (r ≡ 0 → ⊥) → (b ≡ true) × (r ≡ m)
-new-at true m r e z = (refl, e)
-new-at false m r e z = absurd (z e)
-
--- One turn of a pass over pairs: the next pair, unless it shares its first part.
-module _ (s : List ℕ) (top i n : ℕ) (r : ℕ) (h : NextPair s i n r) where
-  turn-shared : (a b : Value) (ws : Values) → Front s top i n (pair a b ▸ ws) → AllPairs ws → r ≡ 0 → newFirst (pair a b) (members ws) ≡ false
-  turn-shared a b ws f p z = not-new (newFirst (pair a b) (members ws)) (i + weight (pair a b)) r (h top a b ws f p) (omega arith) z
-
-  turn-new : (a b : Value) (ws : Values) → Front s top i n (pair a b ▸ ws) → AllPairs ws → (r ≡ 0 → ⊥) →
-      (newFirst (pair a b) (members ws) ≡ true) × (i < r) × Front s top r (n - 1) ws
-  turn-new a b ws f p z =
-      let x = new-at (newFirst (pair a b) (members ws)) (i + weight (pair a b)) r (h top a b ws f p) z in
-      (x .0, omega (arith, x .1), front-next s top i n (pair a b) ws f r (n - 1) (x .1) (omega (arith, f .counted)))
-
--- `is_function`: the pairs left decide.
-pub record Checking (s : List ℕ) (top : ℕ) (vs : Values) (i left : ℕ) : Type 0 where
+-- `is_function` and `flat_function`: the pairs left decide. Q is what else is known of them.
+pub record Checking (Q : Values → Type 0) (s : List ℕ) (top : ℕ) (vs : Values) (i left : ℕ) : Type 0 where
   pub rest : Values
   pub front : Front s top i left rest
   pub pairs : AllPairs rest
+  pub known : Q rest
   pub result : newFirsts (members vs) ≡ newFirsts (members rest)
 
-pub checking-start : (s : List ℕ) (top at n : ℕ) (vs : Values) → Front s top at n vs → AllPairs vs → Checking s top vs at n
-checking-start s top at n vs f p = record { rest = vs; front = f; pairs = p; result = refl }
+module _ (Q : Values → Type 0) (s : List ℕ) (top : ℕ) (vs : Values) (i left : ℕ) (h : Checking Q s top vs i left) where
+  pub checking-end : left ≤ 1 → true ≡ newFirsts (members vs)
+  checking-end l = go (h .rest) (h .front) (h .result)
+    where
+      go : (ws : Values) → Front s top i left ws → newFirsts (members vs) ≡ newFirsts (members ws) → true ≡ newFirsts (members vs)
+      go none f q = sym q
+      go (v ▸ none) f q = sym q
+      go (v ▸ w ▸ ws) f q = absurd (omega (arith, f .counted))
 
-module _ (s : List ℕ) (top : ℕ) (vs : Values) (i left : ℕ) (h : Checking s top vs i left) where
-  pub checking-at : 0 < left → PairFirst s i left
-  checking-at l = pair-first s top i left (h .rest) (h .front) (h .pairs) l
+  pub checking-two : (P : Values → Type 0) → ((a b c d : Value) (ws : Values) → Front s top i left (pair a b ▸ pair c d ▸ ws) → P (pair a b ▸ pair c d ▸ ws)) →
+      1 < left → P (h .rest)
+  checking-two P k l = by-two s top i left P k (h .rest) (h .front) (h .pairs) l
 
-  pub checking-end : left ≤ 0 → true ≡ newFirsts (members vs)
-  checking-end l =
-      no-front s top i left (λ ws. newFirsts (members vs) ≡ newFirsts (members ws) → true ≡ newFirsts (members vs)) (λ q. sym q)
-      (h .rest) (h .front) l (h .result)
+  module _ (l : 1 < left) where
+    pub checking-shared : ((a b c d : Value) (ws : Values) → Front s top i left (pair a b ▸ pair c d ▸ ws) → Q (pair a b ▸ pair c d ▸ ws) →
+        order a c ≡ Ordering·eq) → false ≡ newFirsts (members vs)
+    checking-shared o =
+        checking-two (λ ws. Q ws → newFirsts (members vs) ≡ newFirsts (members ws) → false ≡ newFirsts (members vs))
+        (λ a b c d ws f k q. sym (q ∙ rw (same-of a c (o a b c d ws f k)))) l (h .known) (h .result)
 
-  module _ (l : 0 < left) (r : ℕ) (next : NextPair s i left r) where
-    pub checking-shared : r ≡ 0 → false ≡ newFirsts (members vs)
-    checking-shared z =
-        by-pair s top i left (λ ws. newFirsts (members vs) ≡ newFirsts (members ws) → false ≡ newFirsts (members vs))
-        (λ a b ws f p q. sym (q ∙ rw (turn-shared s top i left r next a b ws f p z)))
-        (h .rest) (h .front) (h .pairs) l (h .result)
+    pub checking-next : (k : ℕ) → ((a b c d : Value) (ws : Values) → Front s top i left (pair a b ▸ pair c d ▸ ws) → Q (pair a b ▸ pair c d ▸ ws) →
+        (order a c ≡ Ordering·eq → ⊥) × (k ≡ i + weight (pair a b)) × Q (pair c d ▸ ws)) → Checking Q s top vs k (left - 1)
+    checking-next k o =
+        checking-two (λ ws. AllPairs ws → Q ws → newFirsts (members vs) ≡ newFirsts (members ws) → Checking Q s top vs k (left - 1))
+        (λ a b c d ws f p g q. let x = o a b c d ws f g in record {
+          rest = pair c d ▸ ws;
+          front = front-next s top i left (pair a b) (pair c d ▸ ws) f k (left - 1) (x .1) (omega arith);
+          pairs = p .1;
+          known = x .2;
+          result = q ∙ rw (other-of a c (x .0));
+        }) l (h .pairs) (h .known) (h .result)
 
-    pub checking-next : (r ≡ 0 → ⊥) → Checking s top vs r (left - 1)
-    checking-next z =
-        by-pair s top i left (λ ws. newFirsts (members vs) ≡ newFirsts (members ws) → Checking s top vs r (left - 1))
-        (λ a b ws f p q. let x = turn-new s top i left r next a b ws f p z in
-        record { rest = ws; front = x .2; pairs = p; result = q ∙ rw (x .0) })
-        (h .rest) (h .front) (h .pairs) l (h .result)
+-- The walk over two pairs: where the parts of the first stand, and the first part of the second.
+module _ (s : List ℕ) (top i n : ℕ) (a b c d : Value) (ws : Values) (f : Front s top i n (pair a b ▸ pair c d ▸ ws)) (r : ℕ)
+    (e : EndsAt s (i + 1) r) where
+  first-at : ValueAt s (i + 1) a
+  first-at = left-stands s i a b (front-value s top i n (pair a b) (pair c d ▸ ws) f)
+
+  second-at : ValueAt s r b
+  second-at = rw (e a first-at (f .fits .0 .0)) (right-stands s i a b (front-value s top i n (pair a b) (pair c d ▸ ws) f))
+
+  module _ (k : ℕ) (g : EndsAt s r k) where
+    pair-ends : k ≡ i + weight (pair a b)
+    pair-ends = omega (arith, e a first-at (f .fits .0 .0), g b second-at (f .fits .0 .1))
+
+    next-at : ValueAt s (k + 1) c
+    next-at =
+        let h = front-next s top i n (pair a b) (pair c d ▸ ws) f k (n - 1) pair-ends (omega (arith, f .counted)) in
+        left-stands s k c d (front-value s top k (n - 1) (pair c d) ws h)
+
+module _ (s : List ℕ) (top : ℕ) (vs : Values) (i left : ℕ) (h : Checking (λ _. Unit {0}) s top vs i left) (l : 1 < left) where
+  pub first-some : SomeAt s (i + 1)
+  first-some =
+      checking-two (λ _. Unit {0}) s top vs i left h (λ _. SomeAt s (i + 1)) (λ a b c d ws f.
+      record { value = a; stands = left-stands s i a b (front-value s top i left (pair a b) (pair c d ▸ ws) f); fits = f .fits .0 .0 }) l
+
+  module _ (r : ℕ) (e : EndsAt s (i + 1) r) where
+    pub second-some : SomeAt s r
+    second-some =
+        checking-two (λ _. Unit {0}) s top vs i left h (λ _. SomeAt s r)
+        (λ a b c d ws f. record { value = b; stands = second-at s top i left a b c d ws f r e; fits = f .fits .0 .1 }) l
+
+    module _ (k : ℕ) (g : EndsAt s r k) where
+      pub next-some : SomeAt s (k + 1)
+      next-some =
+          checking-two (λ _. Unit {0}) s top vs i left h (λ _. SomeAt s (k + 1))
+          (λ a b c d ws f. record { value = c; stands = next-at s top i left a b c d ws f r e k g; fits = f .fits .1 .0 .0 }) l
+
+      module _ (o : ℕ) (compared : Compared s (i + 1) (k + 1) o) where
+        first-order : (a b c d : Value) (ws : Values) → Front s top i left (pair a b ▸ pair c d ▸ ws) → o ≡ orderCode (order a c)
+        first-order a b c d ws f =
+            compared a c (first-at s top i left a b c d ws f r e) (next-at s top i left a b c d ws f r e k g) (f .fits .0 .0) (f .fits .1 .0 .0)
+
+        pub walk-shared : o ≡ 1 → false ≡ newFirsts (members vs)
+        walk-shared z =
+            checking-shared (λ _. Unit {0}) s top vs i left h l
+            (λ a b c d ws f _. code-equal (order a c) o (first-order a b c d ws f) z)
+
+        pub walk-next : (o ≡ 1 → ⊥) → Checking (λ _. Unit {0}) s top vs k (left - 1)
+        walk-next z =
+            checking-next (λ _. Unit {0}) s top vs i left h l k
+            (λ a b c d ws f _. (λ q. z (first-order a b c d ws f ∙ ap orderCode q), pair-ends s top i left a b c d ws f r e k g, tt))
 
 pub all-pairs : (vs : Values) → AllPairs vs → All IsPair (members vs)
 all-pairs none p = tt
@@ -191,8 +160,8 @@ module _ (s : List ℕ) (f n e : ℕ) (vs : Values) (v : Value) (h : SetBelow s 
   pub image-none : All (λ w. left w ≡ v → ⊥) (members vs) → ImageAt s f vs 0 (applied (set vs) v)
   image-none d = rw (applied-none v (fits-small v (k .fits)) vs p small rising d) (refl, refl)
 
-  pub image-shared : FunctionAt s (f + 1) n false → ImageAt s f vs 0 (applied (set vs) v)
-  image-shared d = rw (applied-shared v (fits-small v (k .fits)) vs p small rising (sym (d within vs whole p))) (refl, refl)
+  pub image-shared : newFirsts (members vs) ≡ false → ImageAt s f vs 0 (applied (set vs) v)
+  image-shared d = rw (applied-shared v (fits-small v (k .fits)) vs p small rising d) (refl, refl)
 
   -- the first part of a member
   pub first-part : (i : ℕ) → Member s within (f + 1) true v (members vs) i → SomeAt s (i + 1)
@@ -200,10 +169,10 @@ module _ (s : List ℕ) (f n e : ℕ) (vs : Values) (v : Value) (h : SetBelow s 
       let x = key-stands true s i (m .is) none (all-in IsPair (m .is) (members vs) (all-pairs vs p) (m .among), tt) (m .value .stands) (m .value .fits) in
       record { value = left (m .is); stands = x .0; fits = x .1 }
 
-  pub image-found : FunctionAt s (f + 1) n true → (i r : ℕ) → Member s within (f + 1) true v (members vs) i → EndsAt s (i + 1) r →
+  pub image-found : newFirsts (members vs) ≡ true → (i r : ℕ) → Member s within (f + 1) true v (members vs) i → EndsAt s (i + 1) r →
       ImageAt s f vs r (applied (set vs) v)
   image-found d i r m ends =
-      rw (applied-found v (fits-small v (k .fits)) vs p small rising (m .is) (m .among) (m .key) (sym (d within vs whole p)))
+      rw (applied-found v (fits-small v (k .fits)) vs p small rising (m .is) (m .among) (m .key) d)
       (go (m .is) (all-in IsPair (m .is) (members vs) (all-pairs vs p) (m .among)) (m .value))
     where
       go : (w : Value) → IsPair w → ValueBelow s within i w → Within s f vs r (right w)

@@ -1,8 +1,9 @@
 -- Merging rising lists is union, intersection and difference.
 use Prim.Native.Nat.{Ordering, Ordering·lt, Ordering·eq, Ordering·gt}
-use mathlib.Core.Bool.{Bool, true, false, cond, not}
+use mathlib.Core.Bool.{Bool, true, false, cond, not, _||_}
 use mathlib.Core.List.{List, [], _∷_, _++_}
 use mathlib.Core.Path.{_≡_, refl, sym, ap, _∙_, subst}
+use lib.Dec.{isEq}
 use Rattle.rules.specs.Values.{Value, order}
 use Rattle.rules.specs.Operations.{keptValue, insert, rising, isIn, keep}
 use Rattle.laws.proofs.OrderLaws.{Small, flip, order-refl, order-flip, order-eq, before-order, order-before, before-trans}
@@ -22,21 +23,11 @@ merged-nil false b true [] = refl
 merged-nil false b false [] = refl
 merged-nil l b r (v ∷ vs) = refl
 
--- The turns, by the order of the first members.
-pub merged-less : (l b r : Bool) (v w : Value) (vs ws : List Value) → order v w ≡ Ordering·lt →
-    merged l b r (v ∷ vs) (w ∷ ws) ≡ keptValue l v (merged l b r vs (w ∷ ws))
+-- A turn, by the order of the first members.
+pub merged-turn : (l b r : Bool) (o : Ordering) (v w : Value) (vs ws : List Value) → order v w ≡ o →
+    merged l b r (v ∷ vs) (w ∷ ws) ≡ turned l b r o v w (merged l b r vs (w ∷ ws)) (merged l b r vs ws) (merged l b r (v ∷ vs) ws)
 unfolding merged
-merged-less l b r v w vs ws e = rw e
-
-pub merged-equal : (l b r : Bool) (v w : Value) (vs ws : List Value) → order v w ≡ Ordering·eq →
-    merged l b r (v ∷ vs) (w ∷ ws) ≡ keptValue b v (merged l b r vs ws)
-unfolding merged
-merged-equal l b r v w vs ws e = rw e
-
-pub merged-greater : (l b r : Bool) (v w : Value) (vs ws : List Value) → order v w ≡ Ordering·gt →
-    merged l b r (v ∷ vs) (w ∷ ws) ≡ keptValue r w (merged l b r (v ∷ vs) ws)
-unfolding merged
-merged-greater l b r v w vs ws e = rw e
+merged-turn l b r o v w vs ws e = rw e
 
 kept-nil : (r : Bool) (w : Value) (ws : List Value) → cond r (w ∷ ws) [] ≡ keptValue r w (cond r ws [])
 kept-nil true w ws = refl
@@ -47,7 +38,7 @@ merged-first : (l b r : Bool) (vs : List Value) (w : Value) (ws : List Value) �
     merged l b r vs (w ∷ ws) ≡ keptValue r w (merged l b r vs ws)
 unfolding merged
 merged-first l b r [] w ws h = kept-nil r w ws
-merged-first l b r (v ∷ vs) w ws h = merged-greater l b r v w vs ws (after-order v w (h .0))
+merged-first l b r (v ∷ vs) w ws h = merged-turn l b r Ordering·gt v w vs ws (after-order v w (h .0))
 
 cond-all : (P : Value → Type 0) (k : Bool) (vs : List Value) → All P vs → All P (cond k vs [])
 cond-all P true vs h = h
@@ -102,17 +93,17 @@ insert-merged v vs h s (w ∷ ws) k t = go (order v w) refl (insert-merged v vs 
     go Ordering·lt e r =
         insert-first v (merged true true true vs (w ∷ ws))
         (merged-all (Before v) true true true vs (w ∷ ws) (h .0) (before-all v w ws (order-before v w e) k))
-        ∙ sym (merged-less true true true v w vs ws e)
+        ∙ sym (merged-turn true true true Ordering·lt v w vs ws e)
     go Ordering·eq e r =
         let q : v ≡ w = order-eq v w s (t .0) e in
         ap (insert v) (merged-first true true true vs w ws (subst (λ (x : Value). All (Before x) vs) q (h .0)))
         ∙ subst (λ (x : Value). insert v (x ∷ merged true true true vs ws) ≡ v ∷ merged true true true vs ws) q (insert-equal v (merged true true true vs ws))
-        ∙ sym (merged-equal true true true v w vs ws e)
+        ∙ sym (merged-turn true true true Ordering·eq v w vs ws e)
     go Ordering·gt e r =
         let q : Before w v = order-before w v (order-flip v w ∙ ap flip e) in
         ap (insert v) (merged-first true true true vs w ws (before-all w v vs q h .1))
         ∙ insert-greater v w (merged true true true vs ws) q ∙ ap (λ (l : List Value). w ∷ l) r
-        ∙ sym (merged-greater true true true v w vs ws e)
+        ∙ sym (merged-turn true true true Ordering·gt v w vs ws e)
 
 rising-same : (ws : List Value) → Rising ws → rising ws ≡ ws
 unfolding rising
@@ -140,23 +131,15 @@ keep-all-or-none false [] = refl
 keep-all-or-none false (v ∷ vs) = keep-all-or-none false vs
 
 -- the test of the first member
-pub isIn-less : (v w : Value) (ws : List Value) → order v w ≡ Ordering·lt → isIn v (w ∷ ws) ≡ isIn v ws
+pub isIn-turn : (o : Ordering) (v w : Value) (ws : List Value) → order v w ≡ o → isIn v (w ∷ ws) ≡ (isEq o || isIn v ws)
 unfolding isIn
-isIn-less v w ws e = rw e
-
-pub isIn-equal : (v w : Value) (ws : List Value) → order v w ≡ Ordering·eq → isIn v (w ∷ ws) ≡ true
-unfolding isIn
-isIn-equal v w ws e = rw e
-
-pub isIn-greater : (v w : Value) (ws : List Value) → order v w ≡ Ordering·gt → isIn v (w ∷ ws) ≡ isIn v ws
-unfolding isIn
-isIn-greater v w ws e = rw e
+isIn-turn o v w ws e = rw e
 
 -- A value before all is not in.
 pub isIn-before : (v : Value) (ws : List Value) → All (Before v) ws → isIn v ws ≡ false
 unfolding isIn
 isIn-before v [] h = refl
-isIn-before v (w ∷ ws) h = isIn-less v w ws (before-order v w (h .0)) ∙ isIn-before v ws (h .1)
+isIn-before v (w ∷ ws) h = isIn-turn Ordering·lt v w ws (before-order v w (h .0)) ∙ isIn-before v ws (h .1)
 
 -- one member more in the first list
 module _ (l b : Bool) (v : Value) (vs : List Value) (h : Rising (v ∷ vs)) (small : Small v)
@@ -165,16 +148,16 @@ module _ (l b : Bool) (v : Value) (vs : List Value) (h : Rising (v ∷ vs)) (sma
       merged l b false (v ∷ vs) zs ≡ keptValue (cond (isIn v zs) b l) v (filtered l b zs vs) →
       merged l b false (v ∷ vs) (w ∷ zs) ≡ keptValue (cond (isIn v (w ∷ zs)) b l) v (filtered l b (w ∷ zs) vs)
   filter-turn Ordering·lt w zs e j m r =
-      merged-less l b false v w vs zs e
+      merged-turn l b false Ordering·lt v w vs zs e
       ∙ rw (rec (w ∷ zs) j m, isIn-before v (w ∷ zs) (before-all v w zs (order-before v w e) j))
   filter-turn Ordering·eq w zs e j m r =
       let q : All (Before w) vs = subst (λ (x : Value). All (Before x) vs) (order-eq v w small (m .0) e) (h .0) in
-      merged-equal l b false v w vs zs e
-      ∙ rw (← rec (w ∷ zs) j m, merged-first l b false vs w zs q, isIn-equal v w zs e)
+      merged-turn l b false Ordering·eq v w vs zs e
+      ∙ rw (← rec (w ∷ zs) j m, merged-first l b false vs w zs q, isIn-turn Ordering·eq v w zs e)
   filter-turn Ordering·gt w zs e j m r =
       let q : Before w v = order-before w v (order-flip v w ∙ ap flip e) in
-      merged-greater l b false v w vs zs e
-      ∙ rw (r, isIn-greater v w zs e, ← rec (w ∷ zs) j m, merged-first l b false vs w zs (before-all w v vs q h .1), rec zs (j .1) (m .1))
+      merged-turn l b false Ordering·gt v w vs zs e
+      ∙ rw (r, isIn-turn Ordering·gt v w zs e, ← rec (w ∷ zs) j m, merged-first l b false vs w zs (before-all w v vs q h .1), rec zs (j .1) (m .1))
 
   filter-from : (zs : List Value) → Rising zs → All Small zs → merged l b false (v ∷ vs) zs ≡ keptValue (cond (isIn v zs) b l) v (filtered l b zs vs)
   unfolding isIn keep

@@ -1,5 +1,5 @@
 -- Walks over the members that are left of a set, one by one (`by-front`): the search for a value, and where a run of members ends.
-use Prim.Native.Nat.{ℕ, _+_, _-_, _≤_, _<_, Ordering·lt, Ordering·eq, Ordering·gt}
+use Prim.Native.Nat.{ℕ, _+_, _-_, _≤_, _<_}
 use mathlib.Core.Bool.{Bool, true, false}
 use mathlib.Core.List.{List, _∷_}
 use mathlib.Core.Logic.{inl, inr}
@@ -17,7 +17,7 @@ use Rattle.laws.proofs.Membership.{In, all-in, isIn-right}
 use Rattle.arena.specs.Code.{ValueAt, CellsFit, orderCode, SomeAt, EndsAt, Compared, ValueBelow, Front}
 use Rattle.arena.proofs.CodeLaws.{fits-small}
 use Rattle.arena.proofs.ValueParts.{left-stands}
-use Rattle.arena.proofs.FrontLaws.{rises-rising, fit-small, front-value, front-below, front-next, front-some, code-less, code-equal, code-greater}
+use Rattle.arena.proofs.FrontLaws.{rises-rising, fit-small, front-value, front-below, front-next, front-some, code-less, code-equal}
 use Rattle.sets.specs.Fronts.{keyOf, Keyed, Member, MemberOrNone}
 use Rattle.sets.proofs.PairLaws.{Keeps, pairs-small, less-all}
 
@@ -30,6 +30,13 @@ module _ (s : List ℕ) (top at n : ℕ) (P : Values → Type 0) where
   pub no-front : P none → (vs : Values) → Front s top at n vs → n ≤ 0 → P vs
   no-front h none f l = h
   no-front h (v ▸ vs) f l = absurd (omega (arith, f .counted))
+
+-- The same of two runs of members.
+pub by-fronts : (s : List ℕ) (top a m b n : ℕ) (P : Values → Values → Type 0) →
+    ((v : Value) (vs : Values) (w : Value) (ws : Values) → Front s top a m (v ▸ vs) → Front s top b n (w ▸ ws) → P (v ▸ vs) (w ▸ ws)) →
+    (vs ws : Values) → Front s top a m vs → Front s top b n ws → 0 < m → 0 < n → P vs ws
+by-fronts s top a m b n P h vs ws f g l k =
+    by-front s top a m (λ us. P us ws) (λ v us e. by-front s top b n (P (v ▸ us)) (λ w xs d. h v us w xs e d) ws g k) vs f l
 
 -- The key of a member that stands.
 pub key-stands : (first : Bool) (s : List ℕ) (i : ℕ) (w : Value) (ws : Values) → Keyed first (w ▸ ws) → ValueAt s i w → CellsFit w →

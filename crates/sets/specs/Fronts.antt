@@ -58,6 +58,17 @@ Contains s e a r = (v : Value) (vs : Values) → ValueBelow s (length s) e v →
 abbrev pub Includes : List ℕ → ℕ → ℕ → Bool → Type 0
 Includes s a b r = (vs ws : Values) → SetBelow s (length s) a vs → SetBelow s (length s) b ws → r ≡ allIn (members vs) (members ws)
 
+-- m members from a on and n from b on stand below `top`.
+pub record TwoRuns (s : List ℕ) (a m b n top : ℕ) : Type 0 where
+  pub first : Values
+  pub second : Values
+  pub onLeft : Front s top a m first
+  pub onRight : Front s top b n second
+
+-- r says whether the former are among the latter.
+abbrev pub RunIn : List ℕ → ℕ → ℕ → ℕ → ℕ → Bool → Type 0
+RunIn s a m b n r = (vs ws : Values) → Front s (length s) a m vs → Front s (length s) b n ws → r ≡ allIn (members vs) (members ws)
+
 -- A turn of a walk over two sets, at their first members v and w with the order o: the first of the two, whether it is
 -- kept (l where it is only in the left set, b in both, r only in the right), and what is left of both sets.
 abbrev pub keepOf : Bool → Bool → Bool → Ordering → Bool
@@ -179,15 +190,10 @@ pub record Stepped (l b r : Bool) (s : List ℕ) (w : Walk) (s′ : List ℕ) (w
   pub fewer : w′ .m + w′ .n < w .m + w .n
   pub on : (top : ℕ) (whole : List Value) → Merging l b r s top w whole → Merging l b r s′ top w′ whole
 
--- Whether a walk goes on: both sets have members left, and what is built is not past `limit`.
-abbrev pub GoesOn : Walk → ℕ → Bool → Type 0
-GoesOn w limit true = (0 < w .m) × (0 < w .n) × (w .to ≤ limit)
-GoesOn w limit false = (w .m ≡ 0) ⊎ ((w .n ≡ 0) ⊎ (limit < w .to))
-
 -- What is left at the end of a walk, in the left set or in the right.
 abbrev pub RestOf : Walk → Bool → Bool → Rest → Type 0
 RestOf w l r q =
-    ((0 < w .m) × (q .at ≡ w .a) × (q .n ≡ w .m) × (q .keep ≡ l)) ⊎ ((w .m ≡ 0) × (q .at ≡ w .b) × (q .n ≡ w .n) × (q .keep ≡ r))
+    ((0 < w .m) × (q ≡ record { at = w .a; n = w .m; keep = l })) ⊎ ((w .m ≡ 0) × (q ≡ record { at = w .b; n = w .n; keep = r }))
 
 -- The end of a merge: the rest is put behind what has been built, and the set's cell before it.
 pub record EndPre (l r : Bool) (s : List ℕ) (w : Walk) (top : ℕ) (cells : Bool) : Type 0 where
@@ -201,7 +207,15 @@ pub record EndPre (l r : Bool) (s : List ℕ) (w : Walk) (top : ℕ) (cells : Bo
 abbrev pub Ended : Bool → Bool → List ℕ → Walk → ℕ → List ℕ → ℕ → Type 0
 Ended l r s w top s′ k = (b : Bool) (whole : List Value) → Merging l b r s top w whole → Made top s s′ (setOf whole) k
 
--- The result of a merge.
+-- The result of a merge of two runs, and of two sets.
+pub record RunsBelow (s : List ℕ) (a m b n top : ℕ) : Type 0 where
+  pub runs : TwoRuns s a m b n top
+  pub room : top + 514 ≤ length s
+
+abbrev pub RunsMerge : Bool → Bool → Bool → List ℕ → ℕ → ℕ → ℕ → ℕ → ℕ → List ℕ → ℕ → Type 0
+RunsMerge l e r s a m b n top s′ k =
+    (vs ws : Values) → Front s top a m vs → Front s top b n ws → Made top s s′ (setOf (merged l e r (members vs) (members ws))) k
+
 abbrev pub Merges : Bool → Bool → Bool → List ℕ → ℕ → ℕ → ℕ → List ℕ → ℕ → Type 0
 Merges l e r s a b top s′ k =
     (vs ws : Values) → SetBelow s top a vs → SetBelow s top b ws → Made top s s′ (setOf (merged l e r (members vs) (members ws))) k

@@ -1,14 +1,14 @@
 -- Application of a relation f to e. The pairs of f rise by their first parts, so that two pairs that share one are neighbours; that
 -- neighbours tell whether f is a function is `firsts-right`.
-use Prim.Native.Nat.{ℕ, _+_, _*_, _%_, _≤_, _<_}
-use mathlib.Core.Bool.{Bool, true, not, cond, _&&_}
+use Prim.Native.Nat.{ℕ, _+_, _%_, _<_}
+use mathlib.Core.Bool.{Bool, true, not, _&&_}
 use mathlib.Core.List.{List, [], _∷_}
 use mathlib.Core.Path.{_≡_}
 use lib.ListN.{length, getD}
-use Rattle.rules.specs.Values.{Value, pair, set, Values, _▸_, members, weight, same}
+use Rattle.rules.specs.Values.{Value, set, Values, members, weight, same}
 use Rattle.rules.specs.Runs.{Given, gives, lacks}
 use Rattle.rules.specs.Operations.{left, applied}
-use Rattle.arena.specs.Code.{partsOf, SetBelow, SomeValue, ValueBelow, Front, AllPairs}
+use Rattle.arena.specs.Code.{AllWeigh, SetBelow, SomeValue, ValueBelow, Front, AllPairs}
 
 -- The pair x does not share its first part with the next one.
 abbrev pub newFirst : Value → List Value → Bool
@@ -20,23 +20,9 @@ abbrev pub newFirsts : List Value → Bool
 newFirsts [] = true
 newFirsts (x ∷ xs) = newFirst x xs && newFirsts xs
 
--- n pairs that rise stand from `at` on; of some of them, the first.
+-- n pairs that rise stand from `at` on.
 abbrev pub SomePairs : List ℕ → ℕ → ℕ → Type 0
 SomePairs s at n = (top : ℕ) × (vs : Values) × Front s top at n vs × AllPairs vs
-
-pub record PairFirst (s : List ℕ) (i n : ℕ) : Type 0 where
-  pub top : ℕ
-  pub first : Value
-  pub second : Value
-  pub rest : Values
-  pub front : Front s top i n (pair first second ▸ rest)
-  pub pairs : AllPairs rest
-
--- r is where the pair at i ends, or 0 where it shares its first part with the next one.
-abbrev pub NextPair : List ℕ → ℕ → ℕ → ℕ → Type 0
-NextPair s i n r =
-    (top : ℕ) (a b : Value) (vs : Values) → Front s top i n (pair a b ▸ vs) → AllPairs vs →
-    r ≡ cond (newFirst (pair a b) (members vs)) (i + weight (pair a b)) 0
 
 -- r says whether none of n pairs from `at` on shares its first part with the next one.
 abbrev pub FunctionAt : List ℕ → ℕ → ℕ → Bool → Type 0
@@ -46,15 +32,20 @@ FunctionAt s at n r = (top : ℕ) (vs : Values) → Front s top at n vs → AllP
 abbrev pub SomeRelation : List ℕ → ℕ → ℕ → Type 0
 SomeRelation s top at = (vs : Values) × SetBelow s top at vs × AllPairs vs
 
--- n pairs of two values of one cell each stand from `at` on: no parts follow the second and the third cell of each.
-pub record PairCells (s : List ℕ) (at n : ℕ) : Type 0 where
-  pub inside : at + 3 * n ≤ length s
-  pub firsts : (i : ℕ) → i < n → partsOf (getD s (at + 1 + 3 * i) 0) ≡ 0
-  pub seconds : (i : ℕ) → i < n → partsOf (getD s (at + 2 + 3 * i) 0) ≡ 0
+-- Pairs of two values of one cell each: three cells a pair.
+abbrev pub FlatPairs : Values → Type 0
+FlatPairs vs = AllWeigh 3 vs × AllPairs vs
 
--- Where the answer is `true`, the members of the relation at f are such pairs.
-abbrev pub OfFlatPairs : List ℕ → ℕ → Bool → Type 0
-OfFlatPairs s f r = r ≡ true → PairCells s (f + 1) (getD s f 0 % 4294967296)
+abbrev pub SomeFlat : List ℕ → ℕ → ℕ → Type 0
+SomeFlat s at n = (top : ℕ) × (vs : Values) × Front s top at n vs × FlatPairs vs
+
+-- `FunctionAt` for such pairs.
+abbrev pub FlatFunctionAt : List ℕ → ℕ → ℕ → Bool → Type 0
+FlatFunctionAt s at n r = (top : ℕ) (vs : Values) → Front s top at n vs → FlatPairs vs → r ≡ newFirsts (members vs)
+
+-- The members of the relation at f are such pairs.
+abbrev pub FlatAt : List ℕ → ℕ → Type 0
+FlatAt s f = (top : ℕ) (vs : Values) → SetBelow s top f vs → AllPairs vs → FlatPairs vs
 
 -- f is a relation of n pairs, and a value stands at e.
 pub record Relation (s : List ℕ) (f n e : ℕ) : Type 0 where
@@ -62,10 +53,9 @@ pub record Relation (s : List ℕ) (f n e : ℕ) : Type 0 where
   pub relation : SomeRelation s (length s) f
   pub counted : n ≡ getD s f 0 % 4294967296
 
--- The same where the pairs are of two values of one cell each.
 pub record FlatRelation (s : List ℕ) (f n e : ℕ) : Type 0 where
   pub whole : Relation s f n e
-  pub cells : PairCells s (f + 1) n
+  pub flat : FlatAt s f
 
 -- u stands at r, within the set vs at f.
 pub record Within (s : List ℕ) (f : ℕ) (vs : Values) (r : ℕ) (u : Value) : Type 0 where

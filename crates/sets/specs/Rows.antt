@@ -5,11 +5,8 @@ use mathlib.Core.List.{List}
 use mathlib.Core.Path.{_≡_}
 use lib.ListN.{length, getD}
 use mir.Val.{boolByte}
-use Rattle.rules.specs.Values.{Values, members}
-use Rattle.rules.specs.Operations.{allIn, setOf}
-use Rattle.arena.specs.Code.{SomeSet, Made, Front}
-use Rattle.sets.specs.Fronts.{keepOf, Cells}
-use Rattle.sets.specs.Merged.{merged}
+use Rattle.arena.specs.Code.{SomeSet}
+use Rattle.sets.specs.Fronts.{keepOf, Cells, TwoRuns}
 use Rattle.sets.specs.declared.CellTurn.{CellTurn}
 
 -- n cells from `at` on, every step-th one, that do not fall.
@@ -41,22 +38,11 @@ OfCells s a r = r ≡ true → Cells s (a + 1) (getD s a 0 % 4294967296)
 abbrev pub SetAt : List ℕ → ℕ → Type 0
 SetAt s a = (top : ℕ) × SomeSet s top a
 
-abbrev pub BothOfCells : List ℕ → ℕ → ℕ → Bool → Type 0
-BothOfCells s a b r = r ≡ true → Cells s (a + 1) (getD s a 0 % 4294967296) × Cells s (b + 1) (getD s b 0 % 4294967296)
-
 -- m members from a on and n from b on, one cell each, stand below `top`.
 pub record TwoRows (s : List ℕ) (a m b n top : ℕ) : Type 0 where
-  pub first : Values
-  pub second : Values
-  pub onLeft : Front s top a m first
-  pub onRight : Front s top b n second
+  pub runs : TwoRuns s a m b n top
   pub left : Cells s a m
   pub right : Cells s b n
-
--- r says whether the former are among the latter.
-abbrev pub RowIn : List ℕ → ℕ → ℕ → ℕ → ℕ → Bool → Type 0
-RowIn s a m b n r =
-    (vs ws : Values) → Front s (length s) a m vs → Front s (length s) b n ws → r ≡ allIn (members vs) (members ws)
 
 -- A turn of a walk over both at two cells with the order o: the lesser of them, and by how many cells both rows move on.
 abbrev pub lesserOf : Ordering → ℕ → ℕ → ℕ
@@ -84,7 +70,3 @@ pub record CellTurned (l b r : Bool) (o : Ordering) (x y : ℕ) (t : CellTurn) :
 pub record RowsBelow (s : List ℕ) (a m b n top : ℕ) : Type 0 where
   pub rows : TwoRows s a m b n top
   pub room : top + 514 ≤ length s
-
-abbrev pub RowsMerge : Bool → Bool → Bool → List ℕ → ℕ → ℕ → ℕ → ℕ → ℕ → List ℕ → ℕ → Type 0
-RowsMerge l e r s a m b n top s′ k =
-    (vs ws : Values) → Front s top a m vs → Front s top b n ws → Made top s s′ (setOf (merged l e r (members vs) (members ws))) k

@@ -1,13 +1,14 @@
 // Sets in the arena, whose members rise: membership, inclusion, union, intersection, difference, application.
 ghost use Prim.Native.Nat.{_+_, _-_, _≤_, compare};
+ghost use mathlib.Core.Bool.{true};
 ghost use mathlib.Core.Path.{_≡_};
 ghost use mir.Val.{boolByte};
 ghost use lib.ListN.{length};
 ghost use Rattle.arena.specs.Code.{SomeSet, SomeValue};
-ghost use Rattle.sets.specs.Fronts.{SeekPre, Sought, Contains, Includes, TwoFronts, TurnAt, SomeFront, RunEnds, PutPre, Put};
-ghost use Rattle.sets.specs.Rows.{Row, LowerBound, Found, HasCell, SetAt, OfCells, BothOfCells, TwoRows, RowIn, lesserOf, CellTurned, RowsBelow, RowsMerge};
-ghost use Rattle.sets.specs.Pairs.{PairFirst, NextPair, SomePairs, FunctionAt, SomeRelation, Applies, PairCells, OfFlatPairs, Relation, FlatRelation};
-ghost use Rattle.sets.specs.Fronts.{RestThere, TailPre, Tailed, StepPre, Stepped, GoesOn, RestOf, EndPre, Ended, Merges, keepOf};
+ghost use Rattle.sets.specs.Fronts.{SeekPre, Sought, Contains, Includes, TwoFronts, TurnAt, TwoRuns, RunIn, SomeFront, RunEnds, PutPre, Put};
+ghost use Rattle.sets.specs.Fronts.{RestThere, TailPre, Tailed, StepPre, Stepped, RestOf, EndPre, Ended, RunsBelow, RunsMerge, Merges, keepOf};
+ghost use Rattle.sets.specs.Rows.{Row, LowerBound, Found, HasCell, SetAt, OfCells, TwoRows, lesserOf, CellTurned, RowsBelow};
+ghost use Rattle.sets.specs.Pairs.{SomePairs, FunctionAt, SomeRelation, Applies, SomeFlat, FlatFunctionAt, FlatAt, Relation, FlatRelation};
 
 // A set is small beside one with more than FEW times its members: a search for each member is quicker than a walk over both.
 const FEW: usize = 8;
@@ -126,16 +127,6 @@ fn of_cells(s: &[u64], a: usize) -> bool
     s[a + 1] < arena::PAIR
 }
 
-fn both_of_cells(s: &[u64], a: usize, b: usize) -> bool
-    requires { ⌜ SetAt (now s) a × SetAt (now s) b ⌝ }
-    ensures { λ r. ⌜ BothOfCells (now (s .entry)) a b r ⌝ }
-{
-    if of_cells(s, a) {
-        return of_cells(s, b);
-    }
-    false
-}
-
 // Where the first of n members from `at` on stands that is the value at e, or (if first) whose first part is; 0 where there is none.
 fn seek(s: &[u64], at: usize, n: u64, e: usize, first: bool) -> usize
     requires { ⌜ SeekPre (now s) at n e first ⌝ }
@@ -224,7 +215,7 @@ fn turn_at(
 // Whether each of m cells from a on is one of n from b on, by a search for each.
 fn search_cells(s: &[u64], a: usize, m: usize, b: usize, n: usize) -> bool
     requires { ⌜ TwoRows (now s) a m b n (length (now s)) ⌝ }
-    ensures { λ r. ⌜ RowIn (now (s .entry)) a m b n r ⌝ }
+    ensures { λ r. ⌜ RunIn (now (s .entry)) a m b n r ⌝ }
 {
     let mut i = a;
     let mut left = m;
@@ -241,7 +232,7 @@ fn search_cells(s: &[u64], a: usize, m: usize, b: usize, n: usize) -> bool
 // The same by a walk over both. A step takes no branch on whether two cells are equal.
 fn walk_cells(s: &[u64], a: usize, m: usize, b: usize, n: usize) -> bool
     requires { ⌜ TwoRows (now s) a m b n (length (now s)) ⌝ }
-    ensures { λ r. ⌜ RowIn (now (s .entry)) a m b n r ⌝ }
+    ensures { λ r. ⌜ RunIn (now (s .entry)) a m b n r ⌝ }
 {
     let mut i = a;
     let mut left = m;
@@ -268,7 +259,7 @@ fn walk_cells(s: &[u64], a: usize, m: usize, b: usize, n: usize) -> bool
 // Whether each of m cells from a on is one of n from b on.
 fn cells_included(s: &[u64], a: usize, m: usize, b: usize, n: usize) -> bool
     requires { ⌜ TwoRows (now s) a m b n (length (now s)) ⌝ }
-    ensures { λ r. ⌜ RowIn (now (s .entry)) a m b n r ⌝ }
+    ensures { λ r. ⌜ RunIn (now (s .entry)) a m b n r ⌝ }
 {
     if FEW * m < n {
         return search_cells(s, a, m, b, n);
@@ -276,27 +267,27 @@ fn cells_included(s: &[u64], a: usize, m: usize, b: usize, n: usize) -> bool
     walk_cells(s, a, m, b, n)
 }
 
-// Whether each member of the set at a is one of the set at b, member by member.
-fn walk_included(s: &[u64], a: usize, b: usize) -> bool
-    requires { ⌜ SomeSet (now s) (length (now s)) a × SomeSet (now s) (length (now s)) b ⌝ }
-    ensures { λ r. ⌜ Includes (now (s .entry)) a b r ⌝ }
+// Whether each of m members from a on is one of n from b on, member by member.
+fn walk_included(s: &[u64], a: usize, m: u64, b: usize, n: u64) -> bool
+    requires { ⌜ TwoRuns (now s) a m b n (length (now s)) ⌝ }
+    ensures { λ r. ⌜ RunIn (now (s .entry)) a m b n r ⌝ }
 {
-    let mut m = arena::low(s[a]);
-    let mut n = arena::low(s[b]);
-    let mut i = a + 1;
-    let mut j = b + 1;
-    while m > 0 {
-        if n == 0 {
+    let mut i = a;
+    let mut left = m;
+    let mut j = b;
+    let mut others = n;
+    while left > 0 {
+        if others == 0 {
             return false;
         }
-        let t = turn_at(s, i, m, j, n, false, true, true);
+        let t = turn_at(s, i, left, j, others, false, true, true);
         if !t.keep {
             return false;
         }
         i = t.a;
-        m = t.m;
+        left = t.m;
         j = t.b;
-        n = t.n;
+        others = t.n;
     }
     true
 }
@@ -311,25 +302,10 @@ pub fn included(s: &[u64], a: usize, b: usize) -> bool
     if m > n {
         return false;
     }
-    if both_of_cells(s, a, b) {
+    if of_cells(s, a) && of_cells(s, b) {
         return cells_included(s, a + 1, m as usize, b + 1, n as usize);
     }
-    walk_included(s, a, b)
-}
-
-// Where the pair at i, the first of n, ends and the next one begins; 0 where the two share a first part.
-fn next_pair(s: &[u64], i: usize, n: u64) -> usize
-    requires { ⌜ PairFirst (now s) i n ⌝ }
-    ensures { λ r. ⌜ NextPair (now (s .entry)) i n r ⌝ }
-{
-    let right = arena::end_of(s, i + 1);
-    let next = arena::end_of(s, right);
-    if n > 1 {
-        if arena::compare(s, i + 1, right, next + 1) == 1 {
-            return 0;
-        }
-    }
-    next
+    walk_included(s, a + 1, m, b + 1, n)
 }
 
 // Whether no two of n pairs from `at` on share a first part. They rise by first parts, so that neighbours decide.
@@ -339,11 +315,13 @@ fn is_function(s: &[u64], at: usize, n: u64) -> bool
 {
     let mut i = at;
     let mut left = n;
-    while left > 0 {
-        i = next_pair(s, i, left);
-        if i == 0 {
+    while left > 1 {
+        let right = arena::end_of(s, i + 1);
+        let next = arena::end_of(s, right);
+        if arena::compare(s, i + 1, right, next + 1) == 1 {
             return false;
         }
+        i = next;
         left -= 1;
     }
     true
@@ -353,7 +331,7 @@ fn is_function(s: &[u64], at: usize, n: u64) -> bool
 // decides.
 fn of_flat_pairs(s: &[u64], f: usize) -> bool
     requires { ⌜ SomeRelation (now s) (length (now s)) f ⌝ }
-    ensures { λ r. ⌜ OfFlatPairs (now (s .entry)) f r ⌝ }
+    ensures { λ r. ⌜ (r ≡ true → FlatAt (now (s .entry)) f) ⌝ }
 {
     if arena::low(s[f]) == 0 {
         return true;
@@ -366,8 +344,8 @@ fn of_flat_pairs(s: &[u64], f: usize) -> bool
 
 // `is_function` for such pairs.
 fn flat_function(s: &[u64], at: usize, n: usize) -> bool
-    requires { ⌜ PairCells (now s) at n ⌝ }
-    ensures { λ r. ⌜ FunctionAt (now (s .entry)) at n r ⌝ }
+    requires { ⌜ SomeFlat (now s) at n ⌝ }
+    ensures { λ r. ⌜ FlatFunctionAt (now (s .entry)) at n r ⌝ }
 {
     let mut i = at;
     let mut left = n;
@@ -507,21 +485,6 @@ fn step(s: &mut [u64], w: Walk, left: bool, both: bool, right: bool) -> Walk
     }
 }
 
-fn goes_on(w: Walk, limit: usize) -> bool
-    ensures { λ r. ⌜ GoesOn w limit r ⌝ }
-{
-    if w.m == 0 {
-        return false;
-    }
-    if w.n == 0 {
-        return false;
-    }
-    if w.to > limit {
-        return false;
-    }
-    true
-}
-
 fn rest_of(w: Walk, left: bool, right: bool) -> Rest
     ensures { λ r. ⌜ RestOf w left right r ⌝ }
 {
@@ -614,7 +577,7 @@ fn merge_cells(
     right: bool,
 ) -> usize
     requires { ⌜ RowsBelow (now s) a m b n top ⌝ }
-    ensures { λ r. ⌜ RowsMerge left both right (now (s .entry)) a m b n top (now (s .exit)) r ⌝ }
+    ensures { λ r. ⌜ RunsMerge left both right (now (s .entry)) a m b n top (now (s .exit)) r ⌝ }
 {
     let end = a + m;
     let end2 = b + n;
@@ -639,9 +602,39 @@ fn merge_cells(
     finish(s, w, top, left, right, true)
 }
 
-// Builds at top the set of the members that are only in the set at a (if left), in both (if both), only in the set at b (if right);
-// answers where it ends, or 0 where it weighs over 256. Member by member.
+// The same of m members from a on and n from b on, member by member.
 fn walk_merge(
+    s: &mut [u64],
+    a: usize,
+    m: u64,
+    b: usize,
+    n: u64,
+    top: usize,
+    left: bool,
+    both: bool,
+    right: bool,
+) -> usize
+    requires { ⌜ RunsBelow (now s) a m b n top ⌝ }
+    ensures { λ r. ⌜ RunsMerge left both right (now (s .entry)) a m b n top (now (s .exit)) r ⌝ }
+{
+    let limit = top + 256;
+    let mut w = Walk {
+        a: a,
+        m: m,
+        b: b,
+        n: n,
+        to: top + 1,
+        count: 0,
+    };
+    while w.m > 0 && w.n > 0 && w.to <= limit {
+        w = step(s, w, left, both, right);
+    }
+    finish(s, w, top, left, right, false)
+}
+
+// Builds at top the set of the members that are only in the set at a (if left), in both (if both), only in the set at b (if right);
+// answers where it ends, or 0 where it weighs over 256. By cells where the members of both sets are one cell each.
+pub fn merge(
     s: &mut [u64],
     a: usize,
     b: usize,
@@ -655,38 +648,18 @@ fn walk_merge(
 {
     let m = arena::low(s[a]);
     let n = arena::low(s[b]);
-    let limit = top + 256;
-    let mut w = Walk {
-        a: a + 1,
-        m: m,
-        b: b + 1,
-        n: n,
-        to: top + 1,
-        count: 0,
-    };
-    while goes_on(w, limit) {
-        w = step(s, w, left, both, right);
+    if of_cells(s, a) && of_cells(s, b) {
+        return merge_cells(
+            s,
+            a + 1,
+            m as usize,
+            b + 1,
+            n as usize,
+            top,
+            left,
+            both,
+            right,
+        );
     }
-    finish(s, w, top, left, right, false)
-}
-
-// The same; by cells where the members of both sets are one cell each.
-pub fn merge(
-    s: &mut [u64],
-    a: usize,
-    b: usize,
-    top: usize,
-    left: bool,
-    both: bool,
-    right: bool,
-) -> usize
-    requires { ⌜ SomeSet (now s) top a × SomeSet (now s) top b × (top + 514 ≤ length (now s)) ⌝ }
-    ensures { λ r. ⌜ Merges left both right (now (s .entry)) a b top (now (s .exit)) r ⌝ }
-{
-    if both_of_cells(s, a, b) {
-        let m = arena::low(s[a]) as usize;
-        let n = arena::low(s[b]) as usize;
-        return merge_cells(s, a + 1, m, b + 1, n, top, left, both, right);
-    }
-    walk_merge(s, a, b, top, left, both, right)
+    walk_merge(s, a + 1, m, b + 1, n, top, left, both, right)
 }

@@ -4,25 +4,10 @@ use Rattle.sets.proofs.CellMerge.{move-left, move-right}
 use Rattle.sets.proofs.cell_turn.Statement.{statement}
 use Rattle.sets.proofs.cell_turn.Tie as tie
 
-lesser-requires : tie.Need-lesser-requires
-lesser-requires c κs = search needs
-
-kept-requires : tie.Need-kept-requires
-kept-requires c κs = search needs
-
-cast-t9 : tie.Need-cast-t9
-cast-t9 c = search needs
-
-cast-t11 : tie.Need-cast-t11
-cast-t11 c = search needs
-
 returns : tie.Need-returns
-returns c = let q = c .before .before .args in record {
-  cell = c .before .lesser .ensures;
-  keep = c .kept .ensures;
-  left = move-left (q .x) (q .y);
-  right = move-right (q .x) (q .y);
-}
+returns c = let q = c .before .before .args in
+    record { cell = c .before .lesser .ensures; keep = c .kept .ensures; left = move-left (q .x) (q .y); right = move-right (q .x) (q .y) }
 
 pub cell-turn-spec : {M : Type 1} → statement M
-cell-turn-spec = tie.close (tie.spec lesser-requires kept-requires cast-t9 cast-t11 returns)
+cell-turn-spec =
+    tie.close (tie.spec (λ c κs. search needs) (λ c κs. search needs) (λ c. search needs) (λ c. search needs) returns)

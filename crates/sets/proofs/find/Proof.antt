@@ -46,7 +46,7 @@ find-spec =
     (λ c. omega (arith, guess-inside c))
     (λ c. omega (arith, guess-inside c))
     (λ c. guess-inside (c .before))
-    (λ c. let t = c .before .before in found-here _ _ _ _ _ (tried t .pre) _ (t .if3 .taken) (c .if4 .taken))
+    (λ c. let t = c .before .before in found-here _ _ _ _ _ (tried t .pre) _ (t .if3 .taken) (omega (arith, c .if4 .taken)))
     (λ c κs. search needs)
     (λ c. omega (arith, bound-inside c))
     (λ c. omega (arith, bound-inside c))

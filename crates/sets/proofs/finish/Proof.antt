@@ -1,4 +1,5 @@
 -- `finish`: the rest of one set, then the cell of the set that has been built.
+use Prim.Native.Nat.{_≤_}
 use native.Mathlib.Omega.{arith}
 use Rattle.sets.proofs.BuildLaws.{end-heavy, end-tail, end-over, end-count, end-made}
 use borrow.Author.Needs.{needs}
@@ -6,28 +7,17 @@ use Rattle.sets.proofs.finish.Statement.{statement}
 use Rattle.sets.proofs.finish.Tie as tie
 
 -- What has been built is not too heavy so far; then the rest is put, and what that has given is light or not.
-abbrev Light : Type 0
-Light = tie.Else1
-
-abbrev lent : Light → tie.Start
+abbrev lent : tie.Else1 → tie.Start
 lent l = l .before .before .before
 
-abbrev Put : Type 0
-Put = tie.After-tail
-
-abbrev rest : Put → tie.After-rest-of
+abbrev rest : tie.After-tail → tie.After-rest-of
 rest q = q .before .before
 
-abbrev light : Put → Light
+abbrev light : tie.After-tail → tie.Else1
 light q = rest q .before
 
-abbrev put : tie.After-struct-known2 → Put
+abbrev put : tie.After-struct-known2 → tie.After-tail
 put o = o .before .before .before
-
-tail-requires : tie.Need-tail-requires
-tail-requires c κs =
-    let l = c .before .before in
-    end-tail _ _ _ _ _ _ (lent l .pre .over) (l .if1 .left) (c .before .rest-of .ensures) _ (lent l .pre)
 
 returns-2 : tie.Need-returns-2
 returns-2 c =
@@ -35,15 +25,11 @@ returns-2 c =
     let l = light q in
     end-over _ _ _ _ _ _ (lent l .pre .over) (l .if1 .left) (rest q .rest-of .ensures) _ _ (q .tail .ensures) (c .if2 .taken)
 
-add-s : tie.Need-add-s
-add-s c =
-    let q = put (c .before .before) in
+few : (c : tie.Else2) → put (c .before) .tail .result .count ≤ 256
+few c =
+    let q = put (c .before) in
     let l = light q in
-    omega (
-      arith,
-      end-count _ _ _ _ _ _ (lent l .pre .over) (l .if1 .left) (rest q .rest-of .ensures) _ _ (q .tail .ensures) _ (lent l .pre)
-          (c .before .if2 .left),
-    )
+    end-count _ _ _ _ _ _ (lent l .pre .over) (l .if1 .left) (rest q .rest-of .ensures) _ _ (q .tail .ensures) _ (lent l .pre) (c .if2 .left)
 
 returns-3 : tie.Need-returns-3
 returns-3 c =
@@ -58,10 +44,10 @@ finish-spec =
     (λ c. search needs)
     (λ c. end-heavy _ _ _ _ _ (c .if1 .taken))
     (λ c κs. search needs)
-    tail-requires
+    (λ c κs. let l = c .before .before in end-tail _ _ _ _ _ _ (lent l .pre .over) (l .if1 .left) (c .before .rest-of .ensures) _ (lent l .pre))
     (λ c. search needs)
     returns-2
-    add-s
+    (λ c. omega (arith, few (c .before)))
     (λ c. search needs)
     (λ c. search needs)
     (λ c. search needs)

@@ -4,16 +4,15 @@ use mathlib.Core.Path.{refl}
 use native.Mathlib.Omega.{arith}
 use lib.ListN.{length}
 use Rattle.rules.specs.Values.{Values}
-use Rattle.arena.specs.Code.{Front, AllPairs}
-use Rattle.sets.specs.Pairs.{PairCells}
-use Rattle.sets.proofs.ImageLaws.{Checking, checking-start, checking-shared, checking-next}
-use Rattle.sets.proofs.PairRows.{pairs-next, pair-shared, pair-new, function-end}
+use Rattle.arena.specs.Code.{AllWeigh, Front}
+use Rattle.sets.specs.Pairs.{FlatPairs}
+use Rattle.sets.proofs.ImageLaws.{Checking, checking-end}
+use Rattle.sets.proofs.PairRows.{checking-inside, flat-shared, flat-next}
 use Rattle.sets.proofs.flat_function.Statement.{statement}
 use Rattle.sets.proofs.flat_function.Tie as tie
 
 abbrev Inv-loop : tie.InvT-loop
-Inv-loop s at n i₀ left₀ i left =
-    PairCells s i left × ((top : ℕ) (vs : Values) → Front s top at n vs → AllPairs vs → Checking s top vs i left)
+Inv-loop s at n i₀ left₀ i left = (top : ℕ) (vs : Values) → Front s top at n vs → FlatPairs vs → Checking (AllWeigh 3) s top vs i left
 
 abbrev μ-loop : tie.MeasureT-loop
 μ-loop s at n i₀ left₀ i left = left
@@ -23,22 +22,17 @@ abbrev Turn : Type 0
 Turn = tie.In-loop Inv-loop μ-loop
 
 inside : (t : Turn) → t .before .loop .i + 6 ≤ length (t .before .before .args .s .now)
-inside t = omega (arith, t .loop-test .taken, t .before .loop .inv .0 .inside)
+inside t =
+    let q = t .before .before .pre in
+    omega (arith, t .loop-test .taken, checking-inside _ _ _ _ _ (t .before .loop .inv _ _ (q .2) (q .3)))
 
 returns : tie.Need-returns Inv-loop μ-loop
 returns c = λ top vs f p.
-    let t = c .before .before .before in
-    let w = t .before .loop .inv in
-    checking-shared _ top vs _ _ (w .1 top vs f p) (omega (arith, t .loop-test .taken)) _
-    (pair-shared _ _ _ (w .0) (omega (arith, t .loop-test .taken)) (t .loop-test .taken) (c .if1 .taken)) refl
+    let t = c .before .before .before in flat-shared _ top vs _ _ (t .before .loop .inv top vs f p) (t .loop-test .taken) (c .if1 .taken)
 
 loop-again : tie.Need-loop-again Inv-loop μ-loop
-loop-again c = let t = c .before .before .before in
-    let w = t .before .loop .inv in (
-      pairs-next _ _ _ (w .0) _ (omega (arith, t .loop-test .taken)),
-      λ top vs f p. checking-next _ top vs _ _ (w .1 top vs f p) (omega (arith, t .loop-test .taken)) _
-          (pair-new _ _ _ (w .0) (omega (arith, t .loop-test .taken)) (t .loop-test .taken) (c .if1 .left)) (λ z. omega arith),
-    )
+loop-again c = λ top vs f p.
+    let t = c .before .before .before in flat-next _ top vs _ _ (t .before .loop .inv top vs f p) (t .loop-test .taken) (c .if1 .left)
 
 pub flat-function-spec : {M : Type 1} → statement M
 flat-function-spec =
@@ -46,7 +40,7 @@ flat-function-spec =
     (tie.spec
     Inv-loop
     μ-loop
-    (λ c. (c .pre, λ top vs f p. checking-start _ top _ _ vs f p))
+    (λ c. λ top vs f p. record { rest = vs; front = f; pairs = p .1; known = p .0; result = refl })
     (λ c. omega (arith, inside c))
     (λ c. omega (arith, inside c))
     (λ c. omega (arith, inside (c .before)))
@@ -59,4 +53,4 @@ flat-function-spec =
     (λ c. omega (arith, c .before .before .before .loop-test .taken))
     (λ c. omega (arith, c .before .before .before .loop-test .taken))
     loop-again
-    (λ c. λ top vs f p. let w = c .before .loop .inv in function-end _ top vs _ _ (w .0) (c .loop-test .left) (w .1 top vs f p)))
+    (λ c. λ top vs f p. checking-end _ _ top vs _ _ (c .before .loop .inv top vs f p) (c .loop-test .left)))

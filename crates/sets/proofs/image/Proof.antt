@@ -1,7 +1,5 @@
 -- `image`: pairs of three cells are searched, other relations are walked.
 use borrow.Author.Needs.{needs}
-use mathlib.Core.Path.{sym, subst}
-use Rattle.sets.specs.Pairs.{PairCells}
 use Rattle.sets.proofs.image.Statement.{statement}
 use Rattle.sets.proofs.image.Tie as tie
 
@@ -15,7 +13,7 @@ flat-image-requires c κs =
     let q = l .before .before .before .pre in
     record {
       whole = record { value = q .0; relation = q .1; counted = l .low .ensures .0 };
-      cells = subst (PairCells _ _) (sym (l .low .ensures .0)) (c .before .of-flat-pairs .ensures (c .if1 .taken));
+      flat = c .before .of-flat-pairs .ensures (c .if1 .taken);
     }
 
 pub image-spec : {M : Type 1} → statement M

@@ -1,12 +1,15 @@
 -- `included`: a set with more members is not included; rows of cells are compared by cells, other sets are walked.
 use borrow.Author.Needs.{needs}
+use Prim.Native.Nat.{_+_}
+use mathlib.Core.Bool.{Bool}
 use Rattle.arena.proofs.FrontLaws.{front-start}
+use Rattle.sets.specs.Fronts.{Includes, RunIn}
 use Rattle.sets.proofs.TurnLaws.{including-start}
-use Rattle.sets.proofs.CellLaws.{including-fewer, two-rows}
+use Rattle.sets.proofs.CellLaws.{including-fewer, two-runs, two-rows}
 use Rattle.sets.proofs.included.Statement.{statement}
 use Rattle.sets.proofs.included.Tie as tie
 
--- Both numbers of members are known, and both sets are of cells.
+-- Both numbers of members are known; then it is asked whether the first set is of cells, and the second.
 abbrev Listed : Type 0
 Listed = tie.After-low2
 
@@ -16,24 +19,24 @@ first l = l .before .before
 abbrev lent : Listed → tie.Start
 lent l = first l .before .before .before
 
-abbrev listed : tie.Then2 → Listed
-listed t = t .before .before .before
+abbrev asked : tie.Then2 → Listed
+asked t = t .before .before .before
 
-returns : tie.Need-returns
-returns c = λ vs ws h k.
-    let l = c .before in
-    including-fewer _ _ _ _ _ _ (including-start _ _ _ _ _ vs ws h k (first l .low .ensures .0) (l .low2 .ensures .0)) (c .if1 .taken)
+abbrev walked : tie.Joined2 → Listed
+walked t = t .before .before .before
+
+-- What is told of the runs of members is told of the sets.
+of-sets : (l : Listed) (r : Bool) → let q = lent l .args in
+    RunIn (q .s .now) (q .a + 1) (first l .low .result) (q .b + 1) (l .low2 .result) r → Includes (q .s .now) (q .a) (q .b) r
+of-sets l r e vs ws h k = e vs ws (front-start _ _ _ vs h _ (first l .low .ensures .0)) (front-start _ _ _ ws k _ (l .low2 .ensures .0))
 
 cells-included-requires : tie.Need-cells-included-requires
 cells-included-requires c κs =
-    let l = listed c in
-    two-rows _ _ _ _ _ _ _ _ (lent l .pre .0 .1) (lent l .pre .1 .1) (first l .low .ensures .0) (l .low2 .ensures .0)
-    (c .before .both-of-cells .ensures (c .if2 .taken))
-
-returns-2 : tie.Need-returns-2
-returns-2 c = λ vs ws h k.
-    let l = listed (c .before) in
-    c .cells-included .ensures vs ws (front-start _ _ _ vs h _ (first l .low .ensures .0)) (front-start _ _ _ ws k _ (l .low2 .ensures .0))
+    let t = c .before .before in
+    let l = asked t in
+    let q = lent l .pre in
+    two-rows _ _ _ _ _ _ _ _ (q .0 .1) (q .1 .1) (first l .low .ensures .0) (l .low2 .ensures .0) (t .before .of-cells .ensures (t .if2 .taken))
+    (c .before .of-cells2 .ensures (c .if3 .taken))
 
 pub included-spec : {M : Type 1} → statement M
 included-spec =
@@ -45,11 +48,16 @@ included-spec =
     (λ c. search needs)
     (λ c. search needs)
     (λ c κs. search needs)
-    returns
+    (λ c. of-sets (c .before) _ λ vs ws f g. including-fewer _ _ _ _ _ _ (including-start _ _ _ _ _ vs ws f g) (c .if1 .taken))
+    (λ c κs. search needs)
     (λ c κs. search needs)
     (λ c. search needs)
     (λ c. search needs)
     cells-included-requires
-    returns-2
-    (λ c κs. search needs)
-    (λ c. search needs))
+    (λ c. of-sets (asked (c .before .before .before)) _ (c .cells-included .ensures))
+    (λ c. search needs)
+    (λ c. search needs)
+    (λ c κs. let l = walked c in
+    let q = lent l .pre in
+    two-runs _ _ _ _ _ _ _ _ (q .0 .1) (q .1 .1) (first l .low .ensures .0) (l .low2 .ensures .0))
+    (λ c. of-sets (walked (c .before)) _ (c .walk-included .ensures)))

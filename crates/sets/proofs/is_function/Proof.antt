@@ -1,31 +1,53 @@
 -- `is_function`: of the pairs that are left none shares its first part with the next one exactly where none of all does.
-use Prim.Native.Nat.{ℕ}
+use Prim.Native.Nat.{ℕ, _+_}
+use mathlib.Core.Path.{refl}
 use native.Mathlib.Omega.{arith}
 use Rattle.rules.specs.Values.{Values}
-use Rattle.arena.specs.Code.{Front, AllPairs}
-use Rattle.sets.proofs.ImageLaws.{Checking, checking-start, checking-at, checking-end, checking-shared, checking-next}
+use Rattle.arena.specs.Code.{SomeAt, Front, AllPairs}
+use Rattle.arena.proofs.ValueParts.{some-inside}
+use Rattle.sets.proofs.ImageLaws.{Checking, checking-end, first-some, second-some, next-some, walk-shared, walk-next}
 use Rattle.sets.proofs.is_function.Statement.{statement}
 use Rattle.sets.proofs.is_function.Tie as tie
 
 abbrev Inv-loop : tie.InvT-loop
-Inv-loop s at n i₀ left₀ i left = (top : ℕ) (vs : Values) → Front s top at n vs → AllPairs vs → Checking s top vs i left
+Inv-loop s at n i₀ left₀ i left = (top : ℕ) (vs : Values) → Front s top at n vs → AllPairs vs → Checking (λ _. Unit {0}) s top vs i left
 
 abbrev μ-loop : tie.MeasureT-loop
 μ-loop s at n i₀ left₀ i left = left
 
-next-pair-requires : tie.Need-next-pair-requires Inv-loop μ-loop
-next-pair-requires c κs =
-    let w = c .before .before .before .pre in checking-at _ _ _ _ _ (c .before .loop .inv _ _ (w .2) (w .3)) (c .loop-test .taken)
+-- A turn: two pairs are left. Then the end of the first is known.
+abbrev Turn : Type 0
+Turn = tie.In-loop Inv-loop μ-loop
+
+abbrev lent : Turn → tie.Start Inv-loop μ-loop
+lent t = t .before .before .before
+
+checking : (t : Turn) → let q = lent t in
+    Checking (λ _. Unit {0}) (q .args .s .now) (q .pre .0) (q .pre .1) (t .before .loop .i) (t .before .loop .left)
+checking t = let q = lent t .pre in t .before .loop .inv _ _ (q .2) (q .3)
+
+abbrev turn : tie.After-end-of2 Inv-loop μ-loop → Turn
+turn e = e .before .before
+
+first : (t : Turn) → SomeAt (lent t .args .s .now) (t .before .loop .i + 1)
+first t = first-some _ _ _ _ _ (checking t) (t .loop-test .taken)
+
+next : (e : tie.After-end-of2 Inv-loop μ-loop) → SomeAt (lent (turn e) .args .s .now) (e .end-of2 .result + 1)
+next e = let t = turn e in next-some _ _ _ _ _ (checking t) (t .loop-test .taken) _ (e .before .end-of .ensures) _ (e .end-of2 .ensures)
 
 returns : tie.Need-returns Inv-loop μ-loop
 returns c = λ top vs f p.
-    let l = c .before .before in
-    checking-shared _ top vs _ _ (l .before .loop .inv top vs f p) (l .loop-test .taken) _ (c .before .next-pair .ensures) (c .if1 .taken)
+    let e = c .before .before in
+    let t = turn e in
+    walk-shared _ top vs _ _ (t .before .loop .inv top vs f p) (t .loop-test .taken) _ (e .before .end-of .ensures) _ (e .end-of2 .ensures) _
+    (c .before .compare .ensures) (omega (arith, c .if1 .taken))
 
 loop-again : tie.Need-loop-again Inv-loop μ-loop
 loop-again c = λ top vs f p.
-    let l = c .before .before in
-    checking-next _ top vs _ _ (l .before .loop .inv top vs f p) (l .loop-test .taken) _ (c .before .next-pair .ensures) (c .if1 .left)
+    let e = c .before .before in
+    let t = turn e in
+    walk-next _ top vs _ _ (t .before .loop .inv top vs f p) (t .loop-test .taken) _ (e .before .end-of .ensures) _ (e .end-of2 .ensures) _
+    (c .before .compare .ensures) (λ z. omega (arith, c .if1 .left))
 
 pub is-function-spec : {M : Type 1} → statement M
 is-function-spec =
@@ -33,10 +55,15 @@ is-function-spec =
     (tie.spec
     Inv-loop
     μ-loop
-    (λ c. λ top vs f p. checking-start _ top _ _ vs f p)
-    next-pair-requires
+    (λ c. λ top vs f p. record { rest = vs; front = f; pairs = p; known = tt; result = refl })
+    (λ c. omega (arith, some-inside _ _ (first c)))
+    (λ c κs. first c)
+    (λ c κs. let t = c .before in second-some _ _ _ _ _ (checking t) (t .loop-test .taken) _ (c .end-of .ensures))
+    (λ c. omega (arith, some-inside _ _ (first (turn c))))
+    (λ c. omega (arith, some-inside _ _ (next c)))
+    (λ c κs. (first (turn c), next c, c .before .end-of .ensures))
     returns
-    (λ c. omega (arith, c .before .before .loop-test .taken))
-    (λ c. omega (arith, c .before .before .loop-test .taken))
+    (λ c. omega (arith, turn (c .before .before) .loop-test .taken))
+    (λ c. omega (arith, turn (c .before .before) .loop-test .taken))
     loop-again
-    (λ c. λ top vs f p. checking-end _ top vs _ _ (c .before .loop .inv top vs f p) (c .loop-test .left)))
+    (λ c. λ top vs f p. checking-end _ _ top vs _ _ (c .before .loop .inv top vs f p) (c .loop-test .left)))

@@ -34,7 +34,7 @@ inside t = let l = loop t in merge-inside _ _ _ _ _ _ _ _ _ (lent l .pre) _ _ _ 
 
 -- `top` and a room above it are inside.
 high : (t : Both) → lent (loop t) .args .top + 514 ≤ length (loop t .loop .s)
-high t = let l = loop t in omega (arith, lent l .pre .room, l .loop .inv .frame .kept)
+high t = let l = loop t in omega (arith, lent l .pre .room, l .loop .inv .walking .frame .kept)
 
 -- The turn is known.
 abbrev Turned : Type 0

@@ -1,11 +1,12 @@
 -- `of_flat_pairs`: an empty relation has no pairs; where both parts of the first pair are scalars, all pairs weigh three cells.
 use borrow.Author.Needs.{needs}
-use mathlib.Core.Path.{_≡_, _∙_}
+use mathlib.Core.Path.{sym, _∙_}
 use borrow.Author.Tests.{ltb-true}
-use Prim.Native.Nat.{ℕ, _+_, _<_}
+use Prim.Native.Nat.{_+_, _<_}
 use native.Mathlib.Omega.{arith}
 use lib.ListN.{length}
-use Rattle.sets.proofs.PairRows.{flat-pairs, pair-inside}
+use Rattle.rules.proofs.Basics.{absurd01}
+use Rattle.sets.proofs.PairRows.{no-pairs, flat-pairs, pair-inside}
 use Rattle.sets.proofs.of_flat_pairs.Statement.{statement}
 use Rattle.sets.proofs.of_flat_pairs.Tie as tie
 
@@ -20,7 +21,7 @@ inside : (t : tie.Else1) → lent t .args .f + 3 < length (lent t .args .s .now)
 inside t = let q = lent t .pre in pair-inside _ _ _ _ (q .1) (q .2) (λ e. t .if1 .left (known t .low .ensures .0 ∙ e))
 
 returns-2 : tie.Need-returns-2
-returns-2 c = λ e. let i = c .before in let q = lent (i .before .before) .pre in flat-pairs _ _ _ _ (q .1) (q .2) (i .if2 .taken) (ltb-true _ _ e)
+returns-2 c = λ e top vs h p. flat-pairs _ top _ vs h p (c .before .if2 .taken) (ltb-true _ _ e)
 
 pub of-flat-pairs-spec : {M : Type 1} → statement M
 of-flat-pairs-spec =
@@ -29,7 +30,7 @@ of-flat-pairs-spec =
     (λ c. search needs)
     (λ c. search needs)
     (λ c κs. search needs)
-    (λ c. search needs)
+    (λ c. λ e top vs h p. no-pairs _ top _ vs h p (sym (c .before .low .ensures .0) ∙ c .if1 .taken))
     (λ c. search needs)
     (λ c. search needs)
     (λ c. omega (arith, inside (c .before)))
@@ -37,4 +38,4 @@ of-flat-pairs-spec =
     (λ c. search needs)
     (λ c. inside (c .before .before .before))
     returns-2
-    (λ c. λ e. absurd (let z : _≡_ {A = ℕ} 0 1 = cc e in omega arith)))
+    (λ c. λ e. absurd01 (cc e)))

@@ -14,25 +14,15 @@ Inv-loop s at n left₀ i₀ left i = (top : ℕ) (vs : Values) → Front s top 
 abbrev μ-loop : tie.MeasureT-loop
 μ-loop s at n left₀ i₀ left i = left
 
-loop-holds : tie.Need-loop-holds Inv-loop μ-loop
-loop-holds c = λ top vs h. record { rest = vs; front = h; ends = refl }
-
-end-of-requires : tie.Need-end-of-requires Inv-loop μ-loop
-end-of-requires c κs = running-at _ _ _ _ _ (c .before .loop .inv _ _ (c .before .before .before .pre .2)) (c .loop-test .taken)
-
-sub-left : tie.Need-sub-left Inv-loop μ-loop
-sub-left c = omega (arith, c .before .loop-test .taken)
-
-loop-less : tie.Need-loop-less Inv-loop μ-loop
-loop-less c = omega (arith, c .before .loop-test .taken)
-
-loop-again : tie.Need-loop-again Inv-loop μ-loop
-loop-again c = λ top vs h. running-next _ top _ _ _ (c .before .before .loop .inv top vs h) _ (c .before .loop-test .taken) (c .end-of .ensures)
-
-returns : tie.Need-returns Inv-loop μ-loop
-returns c = λ top vs h. running-end _ top _ _ _ (c .before .loop .inv top vs h) (c .loop-test .left)
-
 pub run-end-spec : {M : Type 1} → statement M
 run-end-spec =
     tie.close
-    (tie.spec Inv-loop μ-loop loop-holds end-of-requires sub-left loop-less loop-again returns)
+    (tie.spec
+    Inv-loop
+    μ-loop
+    (λ c. λ top vs h. record { rest = vs; front = h; ends = refl })
+    (λ c κs. running-at _ _ _ _ _ (c .before .loop .inv _ _ (c .before .before .before .pre .2)) (c .loop-test .taken))
+    (λ c. omega (arith, c .before .loop-test .taken))
+    (λ c. omega (arith, c .before .loop-test .taken))
+    (λ c. λ top vs h. running-next _ top _ _ _ (c .before .before .loop .inv top vs h) _ (c .before .loop-test .taken) (c .end-of .ensures))
+    (λ c. λ top vs h. running-end _ top _ _ _ (c .before .loop .inv top vs h) (c .loop-test .left)))

@@ -53,7 +53,7 @@ search-cells-spec =
     (λ c. row-start _ _ _ _ _ _ (c .before .pre))
     (λ c. omega (arith, c .loop-test .taken, c .before .loop .inv .cells .inside))
     (λ c. let t = c .before in omega (arith, t .loop-test .taken, t .before .loop .inv .cells .inside))
-    (λ c κs. let q = lent (c .before .before) .pre in cells-row _ _ _ _ _ (q .onRight) (q .right))
+    (λ c κs. let q = lent (c .before .before) .pre in cells-row _ _ _ _ _ (q .runs .onRight) (q .right))
     returns
     (λ c. let t = turn (c .before) in omega (arith, t .loop-test .taken, t .before .loop .inv .cells .inside))
     (λ c. omega (arith, turn (c .before) .loop-test .taken))

@@ -1,7 +1,6 @@
 -- `seek`: the value is found in the set where it is found among the members that are left.
 use Prim.Native.Nat.{ℕ}
 use native.Mathlib.Omega.{arith}
-use mathlib.Core.Path.{refl}
 use lib.ListN.{length}
 use Rattle.rules.specs.Values.{Value, Values, members}
 use Rattle.arena.specs.Code.{ValueBelow, Front}
@@ -45,7 +44,8 @@ returns : tie.Need-returns Inv-loop μ-loop
 returns c = λ top vs v f k h.
     let o = c .before in
     let t = turn o in
-    seeking-found _ _ _ _ _ _ _ _ (t .before .loop .inv top vs v f k h) _ _ h (o .compare .ensures) (t .loop-test .taken) (c .if1 .taken)
+    seeking-found _ _ _ _ _ _ _ _ (t .before .loop .inv top vs v f k h) _ _ h (o .compare .ensures) (t .loop-test .taken)
+    (omega (arith, c .if1 .taken))
 
 returns-2 : tie.Need-returns-2 Inv-loop μ-loop
 returns-2 c = λ top vs v f k h.
@@ -58,7 +58,7 @@ loop-again c = λ top vs v f k h.
     let o = greater c in
     let t = turn o in
     seeking-next _ _ _ _ _ _ _ _ (t .before .loop .inv top vs v f k h) _ _ h (o .compare .ensures) (t .loop-test .taken)
-    (c .before .before .if1 .left) _ (c .end-of2 .ensures)
+    (λ z. omega (arith, c .before .before .if1 .left)) _ (c .end-of2 .ensures)
 
 pub seek-spec : {M : Type 1} → statement M
 seek-spec =

@@ -43,7 +43,8 @@ returns-2 c = λ vs ws f g.
 
 loop-again : tie.Need-loop-again Inv-loop μ-loop
 loop-again c = let t = two c in
-    row-step _ _ _ _ _ _ _ _ _ (t .before .before .loop .inv) (t .before .loop-test .taken) (t .if1 .left) (c .if2 .left)
+    row-step _ _ _ _ _ _ _ _ _ (t .before .before .loop .inv) (t .before .loop-test .taken)
+    (omega (arith, t .if1 .left)) (c .if2 .left)
 
 pub walk-cells-spec : {M : Type 1} → statement M
 walk-cells-spec =
@@ -52,7 +53,7 @@ walk-cells-spec =
     Inv-loop
     μ-loop
     (λ c. row-start _ _ _ _ _ _ (c .pre))
-    (λ c. λ vs ws f g. including-fewer _ _ _ _ _ _ (c .before .before .loop .inv .on vs ws f g) (c .if1 .taken))
+    (λ c. λ vs ws f g. including-fewer _ _ _ _ _ _ (c .before .before .loop .inv .on vs ws f g) (omega (arith, c .if1 .taken)))
     (λ c. omega (arith, first c))
     (λ c. first (c .before))
     (λ c. omega (arith, second (c .before)))

@@ -2,7 +2,7 @@
 use borrow.Author.Needs.{needs}
 use Prim.Native.Nat.{_+_}
 use mathlib.Core.Bool.{true}
-use mathlib.Core.Path.{subst}
+use mathlib.Core.Path.{sym, _∙_}
 use native.Mathlib.Omega.{arith}
 use lib.ListN.{length}
 use Rattle.rules.specs.Values.{Value, Values, set, members, weight}
@@ -10,7 +10,6 @@ use Rattle.arena.specs.Code.{SomeAt, SetBelow, ValueBelow, AllPairs}
 use Rattle.arena.proofs.ValueParts.{some-inside}
 use Rattle.arena.proofs.FrontLaws.{front-start}
 use Rattle.sets.specs.Fronts.{Member}
-use Rattle.sets.specs.Pairs.{FunctionAt}
 use Rattle.sets.proofs.SearchLaws.{sought-some, sought-none}
 use Rattle.sets.proofs.ImageLaws.{whole, image-none, image-shared, first-part, image-found}
 use Rattle.sets.proofs.walk_image.Statement.{statement}
@@ -47,13 +46,15 @@ returns-2 : tie.Need-returns-2
 returns-2 c = λ vs v h k p.
     let g = c .before .before in
     let t = found g in
-    image-found _ _ _ _ vs v h k p (lent (t .before) .pre .counted) (subst (FunctionAt _ _ _) (c .before .if2 .taken) (g .is-function .ensures)) _ _
+    let q = lent (t .before) .pre .counted in
+    image-found _ _ _ _ vs v h k p q (sym (g .is-function .ensures _ vs (whole _ _ _ _ vs v h k p q) p) ∙ c .before .if2 .taken) _ _
     (member t vs v h k p) (c .end-of .ensures)
 
 returns-3 : tie.Need-returns-3
 returns-3 c = λ vs v h k p.
     let g = c .before in
-    image-shared _ _ _ _ vs v h k p (lent (found g .before) .pre .counted) (subst (FunctionAt _ _ _) (c .if2 .left) (g .is-function .ensures))
+    let q = lent (found g .before) .pre .counted in
+    image-shared _ _ _ _ vs v h k p q (sym (g .is-function .ensures _ vs (whole _ _ _ _ vs v h k p q) p) ∙ c .if2 .left)
 
 pub walk-image-spec : {M : Type 1} → statement M
 walk-image-spec =
