@@ -13,14 +13,14 @@ use Rattle.rules.specs.Types.{whole}
 use Rattle.rules.specs.Values.{Scalar, num, truth, element, Value, scalar, pair, set, Values, none, _▸_, bit}
 use Rattle.rules.specs.Values.{scalarTag, scalarPayload, tag, payload, count, weight}
 use Rattle.rules.specs.Tables.{wordAt}
-use Rattle.rules.specs.Cells.{bytes4, twos, signed, inRange, cell, cells, cellsOf, scalarGood, value}
+use Rattle.rules.specs.Cells.{bytes4, twos, signed, inRange, cell, cells, cellsOf, scalarGood, value, good}
 use Rattle.laws.proofs.OrderLaws.{and-left, and-right}
-use Rattle.laws.proofs.CellsLaws.{Word, Bytes, EncodableScalar, Encodable, Encodables, byte-at, word-at, word-bytes, bytes-word, twos-signed, signed-range, payload-word, cells-value, value-encodable, count-weights, bit-eqb, cell-parts, eight}
+use Rattle.laws.proofs.CellsLaws.{Word, Bytes, EncodableScalar, Encodable, Encodables, byte-at, word-at, word-bytes, bytes-word, twos-signed, signed-range, payload-word, cells-value, value-encodable, count-weights, bit-eqb, cell-parts, eight, Sizes, encodable-wellFormed, good-wellFormed, good-weight}
 use Rattle.arena.specs.Code.{cellSize, excess, code, codes, CellsFit, partsOf}
 use Rattle.arena.proofs.CodeLaws.{length-code, length-codes, encodable-fits}
 use Rattle.arena.proofs.Standing.{_before_, codes-before, count-before}
 use Rattle.buffer.specs.Buffer.{cellFirst, firstCell, codeOf, tagGood, cellGood, scalarsGood, allGood}
-use Rattle.buffer.proofs.Encoded.{value-can}
+use Rattle.buffer.proofs.Goodness.{good-scalars}
 use Rattle.rules.proofs.Basics.{and-of}
 
 cellsOf-before : (vs ws : Values) → cellsOf (vs before ws) ≡ cellsOf vs ++ cellsOf ws
@@ -349,16 +349,17 @@ module _ (gs bs : List ℕ) (p : ℕ) (cs rest : List ℕ) (b : Bytes bs) (k : T
       = h .counted ∙ ap (λ (n : ℕ). p - 1 + n) (parts-by (firstCell bs) (getD bs 4 0) (wordAt bs 0) t q) in
       back-from (h .values) (h .bytes) (h .coded) (build gs (wordAt bs 0) (p - 1) wd (getD bs 4 0) (h .values) g′ c (h .encodable) (h .good))
 
--- A value that is read is ahead, and one that is ahead is read.
-pub ahead-read : (gs bs : List ℕ) (v : Value) (rest : List ℕ) → Bytes bs → value bs ≡ some (v, rest) → T (scalarsGood gs v) → Ahead gs bs 1 (code v) rest
+-- A good value that is read is ahead, and one that is ahead is read.
+pub ahead-read : (gs bs : List ℕ) (v : Value) (rest : List ℕ) → Sizes gs → Bytes bs → value bs ≡ some (v, rest) → T (good gs v) →
+    Ahead gs bs 1 (code v) rest
 unfolding cells code
-ahead-read gs bs v rest b e g = record {
+ahead-read gs bs v rest z b e g = record {
   values = v ▸ none;
   counted = refl;
   bytes = cells-value bs v rest b e ∙ ap (λ (l : List ℕ). l ++ rest) (sym (append-nil (cells v)));
   coded = append-nil (code v);
-  encodable = (value-can bs v rest b e, tt);
-  good = and-of (scalarsGood gs v) true g tt;
+  encodable = (encodable-wellFormed gs z v (omega (arith, good-weight gs v g)) (good-wellFormed gs v g), tt);
+  good = and-of (scalarsGood gs v) true (good-scalars gs v g) tt;
 }
 
 pub record OneRead (gs bs cs rest : List ℕ) : Type 0 where

@@ -1,5 +1,5 @@
 -- A cell at a place of the buffer, and its form in the arena.
-use Prim.Native.Nat.{ℕ, _+_, _*_, _-_, _/_, _%_, _≤_, _<_}
+use Prim.Native.Nat.{ℕ, _+_, _*_, _/_, _%_, _≤_, _<_}
 use mathlib.Core.Bool.{Bool, true, false, _&&_}
 use mathlib.Core.List.{List}
 use mathlib.Core.Path.{_≡_, refl, sym, ap, _∙_}
@@ -17,11 +17,6 @@ use Rattle.buffer.specs.Buffer.{pickStep, stepAt, codeOf}
 -- a byte further on
 ahead : (bs : List ℕ) (i k : ℕ) → getD bs (i + k) 0 ≡ getD bs (k + i) 0
 ahead bs i k = ap (λ (j : ℕ). getD bs j 0) (let e : i + k ≡ k + i = omega arith in e)
-
-pub word-is : (bs : List ℕ) (at a b c d : ℕ) → (a ≡ getD bs at 0) × (a < 256) → (b ≡ getD bs (at + 1) 0) × (b < 256) →
-    (c ≡ getD bs (at + 2) 0) × (c < 256) → (d ≡ getD bs (at + 3) 0) × (d < 256) →
-    (a + 256 * b + 65536 * c + 16777216 * d ≡ wordAt bs at) × (a + 256 * b + 65536 * c + 16777216 * d < 4294967296)
-word-is bs at a b c d p q r s = (omega (arith, ahead bs at 1, ahead bs at 2, ahead bs at 3), omega arith)
 
 pub word-drop : (bs : List ℕ) (at : ℕ) → wordAt (drop at bs) 0 ≡ wordAt bs at
 word-drop bs at =

@@ -9,20 +9,29 @@ use lib.Dec.{T, eqb, leb, leb→le}
 use lib.ListN.{length, getD, drop, set as setAt, length-append, length-set, length-drop, List·getD-append}
 use lib.Seq.{drop-drop, getD-set-same, getD-set-other, getD-append-add}
 use borrow.Author.Tests.{ne-eqb}
-use Rattle.rules.specs.Values.{none, weight}
+use mathlib.Core.Option.{some}
+use Rattle.rules.specs.Values.{Value, none, weight}
+use Rattle.rules.specs.Cells.{value, good}
 use Rattle.laws.proofs.OrderLaws.{and-left}
-use Rattle.laws.proofs.CellsLaws.{Bytes, bytes-drop}
+use Rattle.laws.proofs.CellsLaws.{Bytes, bytes-drop, Sizes, few-sizes, good-weight}
+use Rattle.laws.proofs.TableLaws.{sizes-length}
+use Rattle.rules.specs.Tables.{tableOf}
+use Rattle.rules.specs.Readable.{Readable}
 use Rattle.arena.specs.Code.{code, Stands, Same, partsOf}
 use Rattle.arena.proofs.CodeLaws.{length-code}
 use Rattle.buffer.specs.declared.Cursor.{Cursor}
 use Rattle.buffer.specs.declared.Step.the-variants.{Cell, End}
-use Rattle.buffer.specs.Buffer.{cellFirst, firstCell, pickStep, stepAt, codeOf, tagGood, cellGood, cellsAtMost, GoodCell, StepTakes, ReadAt, Unread}
+use Rattle.buffer.specs.Buffer.{cellFirst, firstCell, pickStep, stepAt, codeOf, tagGood, cellGood, cellsAtMost, GoodCell, StepTakes, ReadAt}
 use Rattle.buffer.proofs.Ahead.{Ahead, onward, back, ahead-read, read-ahead, ahead-long}
 
 -- The entries of a slice of bytes.
 pub bytes-all : (bs : List ℕ) → ((i : ℕ) → i < length bs → getD bs i 0 < 256) → Bytes bs
 bytes-all [] h = tt
 bytes-all (b ∷ bs) h = (h 0 (omega arith), bytes-all bs (λ i l. h (suc i) (omega arith)))
+
+-- The sizes of a readable table's given sets.
+pub readable-sizes : {bs : List ℕ} → Readable bs → Sizes (tableOf bs .sizes)
+readable-sizes {bs} r = few-sizes (tableOf bs .sizes) (omega (arith, sizes-length bs, r .header .givens)) (λ g h. r .records .sizes g h .1)
 
 -- Good cells, by the tag.
 pub good-by : (gs : List ℕ) (x t p k : ℕ) → t ≡ x / 4294967296 → p ≡ x % 4294967296 → t ≡ k → tagGood gs k p ≡ cellGood gs x
@@ -128,7 +137,7 @@ pub walk-room : {gs bs : List ℕ} {from at left n : ℕ} {s₀ s : List ℕ} {t
     GoodCell gs bs at x next → n < 256 → top + cellsAtMost 1 (length bs - from) ≤ length s₀ → top + n < length s
 walk-room h g l r = let m = cell-held g in omega (arith, h .spent, h .frame .kept)
 
-module _ (gs bs : List ℕ) (b : Bytes bs) (from at left n : ℕ) (s₀ s : List ℕ) (top : ℕ) (h : Walk gs bs from at left n s₀ s top) (l : 0 < left) where
+module _ {gs bs : List ℕ} {from at left n : ℕ} {s₀ s : List ℕ} {top : ℕ} (b : Bytes bs) (h : Walk gs bs from at left n s₀ s top) (l : 0 < left) where
   pub walk-step : (x next y k : ℕ) → GoodCell gs bs at x next → y ≡ codeOf x → k ≡ partsOf x → top + n < length s →
       Walk gs bs from next (left - 1 + k) (n + 1) s₀ (setAt s (top + n) y) top
   walk-step x next y k g e f m =
@@ -158,22 +167,30 @@ module _ (gs bs : List ℕ) (b : Bytes bs) (from at left n : ℕ) (s₀ s : List
             );
       }
 
-  -- no value of at most 256 cells is read
-  pub walk-none : StepTakes gs bs at End → Unread gs bs from
-  walk-none t v rest e w g =
-      let p = h .partly (code v) rest (ahead-read gs (drop from bs) v rest (bytes-drop from bs b) e g) in
-      let o = onward gs (drop at bs) left (p .0) rest (p .2) l in
-      t (o .here) (o .good)
+  -- What is left of a good value, where one is read.
+  module _ (z : Sizes gs) (v : Value) (rest : List ℕ) (e : value (drop from bs) ≡ some (v, rest)) (g : T (good gs v)) where
+    ahead : (cs : List ℕ) × (code v ≡ h .written ++ cs) × Ahead gs (drop at bs) left cs rest
+    ahead = h .partly (code v) rest (ahead-read gs (drop from bs) v rest z (bytes-drop from bs b) e g)
 
-  pub walk-heavy : 256 < n + left → Unread gs bs from
-  walk-heavy k v rest e w g =
-      let p = h .partly (code v) rest (ahead-read gs (drop from bs) v rest (bytes-drop from bs b) e g) in
-      omega (arith, ahead-long gs (drop at bs) left (p .0) rest (p .2), length-append (h .written) (p .0), ap length (p .1), length-code v, h .long)
+    pub walk-none : StepTakes gs bs at End → ⊥
+    walk-none t = let o = onward gs (drop at bs) left (ahead .0) rest (ahead .2) l in t (o .here) (o .good)
 
-pub walk-end : (gs bs : List ℕ) (from at left n : ℕ) (s₀ s : List ℕ) (top : ℕ) → Walk gs bs from at left n s₀ s top → left ≡ 0 → n ≤ 256 →
+    pub walk-heavy : 256 < n + left → ⊥
+    walk-heavy k =
+        omega (
+          arith,
+          ahead-long gs (drop at bs) left (ahead .0) rest (ahead .2),
+          length-append (h .written) (ahead .0),
+          ap length (ahead .1),
+          length-code v,
+          h .long,
+          good-weight gs v g,
+        )
+
+pub walk-end : {gs bs : List ℕ} {from at left n : ℕ} {s₀ s : List ℕ} {top : ℕ} → Walk gs bs from at left n s₀ s top → left ≡ 0 → n ≤ 256 →
     ReadAt gs bs from s top at (top + n)
 unfolding Rattle.rules.specs.Cells.cells code
-walk-end gs bs from at left n s₀ s top h z l =
+walk-end {gs} {bs} {from} {at} {left} {n} {s₀} {s} {top} h z l =
     let a : Ahead gs (drop at bs) left [] (drop at bs) = record { values = none; counted = sym z; bytes = refl; coded = refl; encodable = tt; good = tt } in
     let r = read-ahead gs (drop from bs) (h .written ++ []) (drop at bs) (omega (arith, length-append (h .written) [], h .long)) (h .whole [] (drop at bs) a) in
     let e : code (r .first) ≡ h .written = r .coded ∙ append-nil (h .written) in
