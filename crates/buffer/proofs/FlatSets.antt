@@ -3,7 +3,7 @@
 use Prim.Native.Nat.{ℕ, _+_, _*_, _-_, _%_, _≤_, _<_}
 use mathlib.Core.Bool.{Bool, true, false, _&&_}
 use mathlib.Core.List.{List}
-use mathlib.Core.Path.{_≡_, refl, sym, _∙_}
+use mathlib.Core.Path.{_≡_, refl, _∙_}
 use native.Mathlib.Omega.{arith}
 use lib.Dec.{leb, eqb, leb→le}
 use lib.ListN.{getD}
@@ -14,8 +14,8 @@ use Rattle.laws.proofs.CellsLaws.{weight-some, count-weights}
 use Rattle.arena.specs.Code.{cellSize, ValueAt, CellsFit, SomeAt, EndsAt}
 use Rattle.arena.proofs.ValueParts.{first-cell}
 use Rattle.fitting.proofs.Cells.{members-stand}
-use Rattle.buffer.specs.Ordered.{inOrder, ordered, orderedAll, MembersAt, SomeMembersAt, InOrder, Ordered}
-use Rattle.buffer.specs.Shared.{AllTyped, TypedRow, SomeTypedRow, Shares, TypedHere, isFlat, Fine}
+use Rattle.buffer.specs.Ordered.{inOrder, orderedAll}
+use Rattle.buffer.specs.Shared.{AllTyped, TypedRow, SomeTypedRow, MembersFine, isFlat, Fine}
 use Rattle.buffer.proofs.Ordering.{scalar-tag}
 
 -- The test, by the cell.
@@ -41,50 +41,23 @@ each-one (pair v w ▸ vs) h = absurd (omega (arith, weight-some v, weight-some 
 each-one (set none ▸ vs) h = let r = each-one vs (omega arith) in (r .0, (tt, r .1))
 each-one (set (m ▸ ms) ▸ vs) h = absurd (omega (arith, weight-some m, count-weights vs))
 
--- The value from `at` to `end` is such a set.
-module _ (s : List ℕ) (at end : ℕ) (ends : EndsAt s at end) (flat : isFlat (getD s at 0) (end - at) ≡ true) where
-  members-of : (v : Value) → ValueAt s at v → CellsFit v → (ms : Values) × (v ≡ set ms) × (count ms ≡ getD s at 0 % cellSize) × (weights ms ≤ count ms)
+-- The value from `at` to `end` is such a set, with n members.
+module _ (s : List ℕ) (at end : ℕ) (ends : EndsAt s at end) (flat : isFlat (getD s at 0) (end - at) ≡ true) (n : ℕ) (e : n ≡ getD s at 0 % cellSize) where
+  members-of : (v : Value) → ValueAt s at v → CellsFit v → (ms : Values) × (v ≡ set ms) × (orderedAll ms ≡ true) × TypedRow s (at + 1) n ms
   members-of (scalar x) h f = absurd (scalar-tag x (omega (arith, first-cell s at (scalar x) h f .0, flat-is (getD s at 0) (end - at) flat .0)))
   members-of (pair v w) h f = absurd (omega (arith, first-cell s at (pair v w) h f .0, flat-is (getD s at 0) (end - at) flat .0))
   members-of (set ms) h f =
       let c = first-cell s at (set ms) h f .1 in
-      (ms, refl, sym c, omega (arith, c, flat-is (getD s at 0) (end - at) flat .1, ends (set ms) h f))
+      let o = each-one ms (omega (arith, c, flat-is (getD s at 0) (end - at) flat .1, ends (set ms) h f)) in
+      (ms, refl, o .0, record { stands = members-stand s at ms h; fits = f .1; counted = e ∙ c; typed = o .1 })
 
-  row : (ms : Values) → ValueAt s at (set ms) → CellsFit (set ms) → (n : ℕ) → n ≡ count ms → MembersAt s (at + 1) n ms
-  row ms h f n e = record { stands = members-stand s at ms h; fits = f .1; counted = e }
+  pub flat-row : SomeAt s at → SomeTypedRow s (at + 1) n
+  flat-row x = let m = members-of (x .value) (x .stands) (x .fits) in (m .0, m .3)
 
-  pub flat-members : SomeAt s at → (n : ℕ) → n ≡ getD s at 0 % cellSize → SomeMembersAt s (at + 1) n
-  flat-members x n e =
-      let m = members-of (x .value) (x .stands) (x .fits) in
-      (m .0, row (m .0) (rw (m .1) at (x .stands)) (rw (m .1) at (x .fits)) n (e ∙ sym (m .2)))
-
-  typed-row : (ms : Values) (n : ℕ) → MembersAt s (at + 1) n ms → weights ms ≤ count ms → TypedRow s (at + 1) n ms
-  typed-row ms n r l = record { stands = r .stands; fits = r .fits; counted = r .counted; typed = each-one ms l .1 }
-
-  pub flat-row : SomeAt s at → (n : ℕ) → n ≡ getD s at 0 % cellSize → SomeTypedRow s (at + 1) n
-  flat-row x n e =
-      let m = members-of (x .value) (x .stands) (x .fits) in
-      (m .0, typed-row (m .0) n (row (m .0) (rw (m .1) at (x .stands)) (rw (m .1) at (x .fits)) n (e ∙ sym (m .2))) (m .3))
-
-  module _ (n : ℕ) (e : n ≡ getD s at 0 % cellSize) (q : Bool) (k : InOrder s (at + 1) n q) where
-    pub flat-fails : q ≡ false → Fine s at false
-    flat-fails z v h f =
-        let m = members-of v h f in
-        let r = row (m .0) (rw (m .1) at h) (rw (m .1) at f) n (e ∙ sym (m .2)) in
-        let o : inOrder (m .0) ≡ false = sym (k (m .0) r) ∙ z in
-        rw (m .1, o)
-
-    pub flat-fine : (p : Bool) → q ≡ true → Shares s (at + 1) n p → Fine s at p
-    unfolding typed
-    flat-fine p z g v h f =
-        let m = members-of v h f in
-        let r = row (m .0) (rw (m .1) at h) (rw (m .1) at f) n (e ∙ sym (m .2)) in
-        let o : inOrder (m .0) ≡ true = sym (k (m .0) r) ∙ z in
-        rw (m .1, o, each-one (m .0) (m .3) .0) (g (m .0) (typed-row (m .0) n r (m .3)))
-
--- Any value, by its sets and by its type.
-pub fine-unordered : (s : List ℕ) (at : ℕ) (q : Bool) → Ordered s at q → q ≡ false → Fine s at false
-fine-unordered s at q o e v h f = let z : ordered v ≡ false = sym (o v h f) ∙ e in rw z
-
-pub fine-ordered : (s : List ℕ) (at : ℕ) (q p : Bool) → Ordered s at q → q ≡ true → TypedHere s at p → Fine s at p
-fine-ordered s at q p o e t v h f = let z : ordered v ≡ true = sym (o v h f) ∙ e in rw z (t v h f)
+  pub flat-fine : {r : Bool} → MembersFine s (at + 1) n r → Fine s at r
+  unfolding typed
+  flat-fine k v h f = let m = members-of v h f in rw (m .1, m .2) (k (m .0) (m .3) ∙ go (inOrder (m .0)) _)
+    where
+      go : (b c : Bool) → (b && c) ≡ ((b && true) && c)
+      go true c = refl
+      go false c = refl

@@ -5,5 +5,6 @@ pub mod Ahead
 pub mod Walk
 pub mod Ordering
 pub mod Sharing
+pub mod Nested
 pub mod FlatSets
 pub mod Loading

@@ -1,30 +1,27 @@
 -- Whether the members of every set in a value share a type, set by set from the innermost outward.
-use Prim.Native.Nat.{ℕ, zero, suc, _+_, _*_, _-_, _/_, _%_, _≤_, _<_}
+use Prim.Native.Nat.{ℕ, _+_, _*_, _-_, _/_, _≤_, _<_}
 use mathlib.Core.Bool.{Bool, true, false, cond}
 use mathlib.Core.List.{List, append-nil}
 use mathlib.Core.Path.{_≡_, refl, sym, ap, subst, _∙_}
 use native.Mathlib.Omega.{arith}
 use native.Mathlib.Decide.{ℕ-discrete}
 use borrow.Author.Tests.{eq-eqb, ne-eqb}
-use native.Mathlib.Nat.{add-zero}
 use lib.Dec.{T, eqb}
 use lib.ListN.{length, getD}
 use Rattle.rules.specs.Types.{whole, Ty}
-use Rattle.rules.specs.Values.{Scalar, Value, scalar, pair, set, Values, none, _▸_, tag, count, weights}
+use Rattle.rules.specs.Values.{Value, Values, none, _▸_, count, weights}
 use Rattle.rules.specs.Fits.{every, typesOf, sharedTypes, inhabited, typed}
 use Rattle.laws.proofs.FitsLaws.{_⊑_, ⊓-join, ⊓-split, inhabited→some, some→inhabited}
-use Rattle.arena.specs.Code.{cellSize, code, codes, Stands, ValueAt, ValuesAt, CellsFit, AllFit, SomeAt, EndsAt}
+use Rattle.arena.specs.Code.{cellSize, code, codes, Stands, ValueAt, ValuesAt, AllFit, SomeAt, EndsAt}
 use Rattle.arena.proofs.CodeLaws.{length-code, length-codes}
 use Rattle.arena.proofs.Standing.{stands-front, stands-back, _before_, codes-before, count-before, weights-before}
 use Rattle.fitting.specs.Agree.{meets, RunAt, SomeTyped, Agreed, AgreedWith, NoEmpty, Full, StandFor, atomsAlike}
-use Rattle.fitting.proofs.Sharing.{meets→share, share→meets, meets-sym, left-typed, right-typed, with-every, full-first}
+use Rattle.fitting.proofs.Sharing.{meets→share, share→meets, meets-sym, left-typed, with-every, full-first}
 use Rattle.arena.proofs.ValueParts.{one-cell}
 use Rattle.fitting.proofs.Cells.{full-value, with-end, with-false, with-step, atoms-agree, alike-low, agreed-back}
-use Rattle.buffer.specs.Shared.{AllTyped, TypedRow, SomeTypedRow, Shares, leastAlike, mostAlike}
-use Rattle.buffer.proofs.Ahead.{inner}
-use Rattle.buffer.proofs.Ordering.{tag-cell, Left, left-start, scalar-tag, left-head, left-next}
-use Rattle.rules.proofs.Basics.{and-of, and-split}
-use Rattle.laws.proofs.CellsLaws.{weight-some, count-weights}
+use Rattle.buffer.specs.Ordered.{MembersAt}
+use Rattle.buffer.specs.Shared.{AllTyped, TypedRow, SomeTypedRow, leastAlike, mostAlike}
+use Rattle.laws.proofs.CellsLaws.{count-weights}
 
 -- Types of values that follow one another.
 sharedTypes-join : (vs ws : Values) (t : Ty) → sharedTypes vs ⊑ t → sharedTypes ws ⊑ t → sharedTypes (vs before ws) ⊑ t
@@ -56,10 +53,6 @@ typed-split : (vs ws : Values) → AllTyped (vs before ws) → AllTyped vs × Al
 typed-split none ws h = (tt, h)
 typed-split (v ▸ vs) ws h = let p = typed-split vs ws (h .1) in ((h .0, p .0), p .1)
 
-typed-before : (vs ws : Values) → AllTyped vs → AllTyped ws → AllTyped (vs before ws)
-typed-before none ws h k = k
-typed-before (v ▸ vs) ws h k = (h .0, typed-before vs ws (h .1) k)
-
 -- The first k of the values vs from `at` on share a type; the next begins at i.
 pub record Prefix (s : List ℕ) (at i k : ℕ) (vs : Values) : Type 0 where
   pub front : Values
@@ -68,6 +61,9 @@ pub record Prefix (s : List ℕ) (at i k : ℕ) (vs : Values) : Type 0 where
   pub counted : count front ≡ k
   pub shares : T (inhabited (sharedTypes front))
   pub there : i ≡ at + weights front
+
+pub row-members : {s : List ℕ} {at n : ℕ} {vs : Values} → TypedRow s at n vs → MembersAt s at n vs
+row-members r = record { stands = r .stands; fits = r .fits; counted = r .counted }
 
 pub prefix-none : (s : List ℕ) (at n : ℕ) (vs : Values) → TypedRow s at n vs → n ≡ 0 → true ≡ inhabited (sharedTypes vs)
 prefix-none s at n none h e = refl
@@ -294,141 +290,6 @@ module _ (s : List ℕ) (at n : ℕ) (low : getD s at 0 < 4 * cellSize) where
           past = omega arith;
           first = rw q (prefix-step s at n i (i - at) vs row (h .first) 1 (omega arith) one-for-all (i + 1) (one-cell s i low′) (against-first true e));
         }
-
--- What is left of a value after some cells.
-abbrev next : Values → Values
-next none = none
-next (w ▸ ws) = inner w before ws
-
-pub after : Values → ℕ → Values
-after vs zero = vs
-after vs (suc n) = next (after vs n)
-
-next-left : (s : List ℕ) (i end : ℕ) (ws : Values) → Left s i end ws → i < end → Left s (i + 1) end (next ws)
-next-left s i end none h l = absurd (omega (arith, h .ends))
-next-left s i end (w ▸ ws) h l = left-next s i end w ws h
-
-after-left : (s : List ℕ) (at end : ℕ) (vs : Values) → Left s at end vs → (n : ℕ) → at + n ≤ end → Left s (at + n) end (after vs n)
-unfolding after
-after-left s at end vs h zero l = subst (λ (j : ℕ). Left s j end vs) (sym (add-zero at)) h
-after-left s at end vs h (suc n) l =
-    let e : at + n + 1 ≡ at + suc n = omega arith in
-    subst (λ (j : ℕ). Left s j end (next (after vs n))) e (next-left s (at + n) end (after vs n) (after-left s at end vs h n (omega arith)) (omega arith))
-
--- A typed value has typed parts and members.
-set-typed : (ms : Values) → T (inhabited (sharedTypes ms)) → AllTyped ms
-set-typed none h = tt
-set-typed (v ▸ vs) h = (left-typed (typesOf v) (sharedTypes vs) h, set-typed vs (right-typed (typesOf v) (sharedTypes vs) h))
-
-next-typed : (ws : Values) → AllTyped ws → AllTyped (next ws)
-next-typed none h = tt
-next-typed (scalar x ▸ ws) h = h .1
-next-typed (pair a b ▸ ws) h = let p = and-split (inhabited (typesOf a)) (inhabited (typesOf b)) (h .0) in (p .0, (p .1, h .1))
-next-typed (set ms ▸ ws) h = typed-before ms ws (set-typed ms (h .0)) (h .1)
-
-after-typed : (vs : Values) → AllTyped vs → (n : ℕ) → AllTyped (after vs n)
-unfolding after
-after-typed vs h zero = h
-after-typed vs h (suc n) = next-typed (after vs n) (after-typed vs h n)
-
--- What is left of v from the cell i on is typed.
-abbrev pub TypedFrom : ℕ → ℕ → Value → Type 0
-TypedFrom at i v = AllTyped (after (v ▸ none) (i - at))
-
-module _ (s : List ℕ) (at end : ℕ) (v : Value) (h : ValueAt s at v) (f : CellsFit v) (e : EndsAt s at end) where
-  here-left : (i : ℕ) → at ≤ i → i ≤ end → Left s i end (after (v ▸ none) (i - at))
-  here-left i a b =
-      let p : at + (i - at) ≡ i = omega arith in
-      subst (λ (j : ℕ). Left s j end (after (v ▸ none) (i - at))) p (after-left s at end (v ▸ none) (left-start s at end v h f e) (i - at) (omega arith))
-
-  pub from-end : TypedFrom at end v
-  from-end = go (after (v ▸ none) (end - at)) (here-left end (omega (arith, e v h f)) (omega arith))
-    where
-      go : (ws : Values) → Left s end end ws → AllTyped ws
-      go none l = tt
-      go (w ▸ ws) l = absurd (omega (arith, l .ends, weight-some w))
-
-  pub from-start : (i : ℕ) → i ≤ at → TypedFrom at i v → true ≡ typed v
-  unfolding after typed
-  from-start i l t = let z : i - at ≡ 0 = omega arith in is (inhabited (typesOf v)) (subst (λ (n : ℕ). AllTyped (after (v ▸ none) n)) z t .0)
-    where
-      is : (b : Bool) → T b → true ≡ b
-      is true t = refl
-      is false t = absurd t
-
-  -- one cell back
-  module _ (i x : ℕ) (low : at < i) (high : i ≤ end) (here : x ≡ getD s (i - 1) 0) where
-    left-here : Left s (i - 1) end (after (v ▸ none) (i - 1 - at))
-    left-here = here-left (i - 1) (omega arith) (omega arith)
-
-    next-here : after (v ▸ none) (i - at) ≡ next (after (v ▸ none) (i - 1 - at))
-    unfolding after
-    next-here = let p : i - at ≡ suc (i - 1 - at) = omega arith in ap (after (v ▸ none)) p
-
-    tag-here : (w : Value) (ws : Values) → Left s (i - 1) end (w ▸ ws) → x / cellSize ≡ tag w
-    tag-here w ws l = ap (λ (y : ℕ). y / cellSize) (here ∙ left-head s (i - 1) end w ws l) ∙ tag-cell w (l .fits .0)
-
-    pub from-other : x < 5 * cellSize → TypedFrom at i v → TypedFrom at (i - 1) v
-    from-other n a = go (after (v ▸ none) (i - 1 - at)) left-here (subst AllTyped next-here a)
-      where
-        go : (ws : Values) → Left s (i - 1) end ws → AllTyped (next ws) → AllTyped ws
-        go none l y = tt
-        go (scalar z ▸ ws) l y = (tt, y)
-        go (pair p q ▸ ws) l y = (and-of (inhabited (typesOf p)) (inhabited (typesOf q)) (y .0) (y .1 .0), y .1 .1)
-        go (set ms ▸ ws) l y = absurd (omega (arith, tag-here (set ms) ws l))
-
-    module _ (set-here : 5 * cellSize ≤ x) where
-      no-scalar : (z : Scalar) (ws : Values) → Left s (i - 1) end (scalar z ▸ ws) → ⊥
-      no-scalar z ws l = scalar-tag z (omega (arith, tag-here (scalar z) ws l))
-
-      members : (n : ℕ) → n ≡ x % cellSize → (ms ws : Values) → Left s (i - 1) end (set ms ▸ ws) → AllTyped ms → TypedRow s i n ms
-      unfolding code
-      members n q ms ws l y =
-          let p : i - 1 + 1 ≡ i = omega arith in
-          record {
-            stands = stands-front s i (codes ms) (codes ws) (subst (λ (c : List ℕ). Stands s i c) (codes-before ms ws)
-                (subst (λ (j : ℕ). Stands s j (codes (ms before ws))) p (left-next s (i - 1) end (set ms) ws l .stands)));
-            fits = l .fits .0 .1;
-            counted = omega (arith, left-head s (i - 1) end (set ms) ws l, l .fits .0 .0);
-            typed = y;
-          }
-
-      pub from-members : (n : ℕ) → n ≡ x % cellSize → TypedFrom at i v → SomeTypedRow s i n
-      from-members n q a = go (after (v ▸ none) (i - 1 - at)) left-here (subst AllTyped next-here a)
-        where
-          go : (ws : Values) → Left s (i - 1) end ws → AllTyped (next ws) → SomeTypedRow s i n
-          go none l y = absurd (omega (arith, l .ends))
-          go (scalar z ▸ ws) l y = absurd (no-scalar z ws l)
-          go (pair p r ▸ ws) l y = absurd (omega (arith, tag-here (pair p r) ws l))
-          go (set ms ▸ ws) l y = (ms, members n q ms ws l (typed-split ms ws y .0))
-
-      module _ (n : ℕ) (r : Bool) (q : n ≡ x % cellSize) (k : Shares s i n r) (a : TypedFrom at i v) where
-        pub from-set : r ≡ true → TypedFrom at (i - 1) v
-        from-set z = go (after (v ▸ none) (i - 1 - at)) left-here (subst AllTyped next-here a)
-          where
-            go : (ws : Values) → Left s (i - 1) end ws → AllTyped (next ws) → AllTyped ws
-            go none l y = tt
-            go (scalar b ▸ ws) l y = absurd (no-scalar b ws l)
-            go (pair p b ▸ ws) l y = absurd (omega (arith, tag-here (pair p b) ws l))
-            go (set ms ▸ ws) l y =
-                let p = typed-split ms ws y in
-                (subst T (sym z ∙ k ms (members n q ms ws l (p .0))) tt, p .1)
-
-        pub from-fails : r ≡ false → false ≡ typed v
-        unfolding typed
-        from-fails z =
-            none-left (inhabited (typesOf v)) (λ u.
-            go (after (v ▸ none) (i - 1 - at)) left-here (subst AllTyped next-here a) (after-typed (v ▸ none) (u, tt) (i - 1 - at)))
-          where
-            none-left : (b : Bool) → (T b → ⊥) → false ≡ b
-            none-left true y = absurd (y tt)
-            none-left false y = refl
-
-            go : (ws : Values) → Left s (i - 1) end ws → AllTyped (next ws) → AllTyped ws → ⊥
-            go none l y u = omega (arith, l .ends)
-            go (scalar b ▸ ws) l y u = no-scalar b ws l
-            go (pair p b ▸ ws) l y u = omega (arith, tag-here (pair p b) ws l)
-            go (set ms ▸ ws) l y u = subst T (sym (k ms (members n q ms ws l (typed-split ms ws y .0))) ∙ z) (u .0)
 
 pub end-inside : (s : List ℕ) (at end : ℕ) → SomeAt s at → EndsAt s at end → (at ≤ end) × (end ≤ length s)
 end-inside s at end p e =

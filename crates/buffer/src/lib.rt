@@ -7,8 +7,8 @@ ghost use Rattle.rules.specs.Tables.{tableOf};
 ghost use Rattle.rules.specs.Readable.{Header};
 ghost use Rattle.buffer.specs.Buffer.{stepAt, codeOf, cellGood, cellsAtMost, StepTakes, PlaceReady, Places};
 ghost use Rattle.arena.specs.Code.{Same};
-ghost use Rattle.buffer.specs.Ordered.{SomeMembersAt, InOrder, WholeValue, Ordered};
-ghost use Rattle.buffer.specs.Shared.{SomeTypedRow, Shares, leastAlike, mostAlike, TypedHere, isFlat, Fine};
+ghost use Rattle.buffer.specs.Ordered.{SomeMembersAt, InOrder, WholeValue};
+ghost use Rattle.buffer.specs.Shared.{SomeTypedRow, Shares, leastAlike, mostAlike, MembersFine, isFlat, Fine};
 ghost use Rattle.buffer.specs.Loaded.{ReadsGood, EntryReady, Enters, Loads, LoadReady};
 
 // A cell in the buffer: its payload, its tag times 2^32, and zero bytes from FREE on.
@@ -198,24 +198,6 @@ fn in_order(s: &[u64], at: usize, n: u64) -> bool
     true
 }
 
-// Whether the members of every set in the value from `at` to `end` rise.
-fn rises(s: &[u64], at: usize, end: usize) -> bool
-    requires { ⌜ WholeValue (now s) at end ⌝ }
-    ensures { λ r. ⌜ Ordered (now (s .entry)) at r ⌝ }
-{
-    let mut i = at;
-    while i < end {
-        let x = s[i];
-        i += 1;
-        if x >= arena::SET {
-            if !in_order(s, i, arena::low(x)) {
-                return false;
-            }
-        }
-    }
-    true
-}
-
 // How many of k values that share a type stand for all of them: the first, where it has one type only.
 fn few(one: bool, k: u64) -> u64
     ensures { λ r. ⌜ r ≡ cond one 1 k ⌝ }
@@ -303,10 +285,21 @@ fn share(s: &[u64], at: usize, n: u64) -> bool
     values_share(s, at, n)
 }
 
-// Whether the value from `at` to `end` has a type: in each of its sets, from the innermost outward, the members share one.
-fn well_typed(s: &[u64], at: usize, end: usize) -> bool
+// Whether n values from `at` on rise and share a type, as the members of a set do.
+fn members_fine(s: &[u64], at: usize, n: u64) -> bool
+    requires { ⌜ SomeTypedRow (now s) at n ⌝ }
+    ensures { λ r. ⌜ MembersFine (now (s .entry)) at n r ⌝ }
+{
+    if !in_order(s, at, n) {
+        return false;
+    }
+    share(s, at, n)
+}
+
+// Whether the members of each set in the value from `at` to `end` do, from the innermost outward.
+fn sets_fine(s: &[u64], at: usize, end: usize) -> bool
     requires { ⌜ WholeValue (now s) at end ⌝ }
-    ensures { λ r. ⌜ TypedHere (now (s .entry)) at r ⌝ }
+    ensures { λ r. ⌜ Fine (now (s .entry)) at r ⌝ }
 {
     let mut i = end;
     while i > at {
@@ -314,7 +307,7 @@ fn well_typed(s: &[u64], at: usize, end: usize) -> bool
         i -= 1;
         let x = s[i];
         if x >= arena::SET {
-            if !share(s, next, arena::low(x)) {
+            if !members_fine(s, next, arena::low(x)) {
                 return false;
             }
         }
@@ -340,16 +333,9 @@ fn fine(s: &[u64], at: usize, end: usize) -> bool
     let x = s[at];
     // In a set whose members are one cell each there is no other set to be tested.
     if flat(x, end - at) {
-        let n = arena::low(x);
-        if !in_order(s, at + 1, n) {
-            return false;
-        }
-        return share(s, at + 1, n);
+        return members_fine(s, at + 1, arena::low(x));
     }
-    if !rises(s, at, end) {
-        return false;
-    }
-    well_typed(s, at, end)
+    sets_fine(s, at, end)
 }
 
 // Reads one value without the faults that refusal 14 names.
