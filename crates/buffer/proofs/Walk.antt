@@ -191,7 +191,7 @@ pub walk-end : {gs bs : List ℕ} {from at left n : ℕ} {s₀ s : List ℕ} {to
     ReadAt gs bs from s top at (top + n)
 unfolding Rattle.rules.specs.Cells.cells code
 walk-end {gs} {bs} {from} {at} {left} {n} {s₀} {s} {top} h z l =
-    let a : Ahead gs (drop at bs) left [] (drop at bs) = record { values = none; counted = sym z; bytes = refl; coded = refl; encodable = tt; good = tt } in
+    let a : Ahead gs (drop at bs) left [] (drop at bs) = record { values = none; counted = sym z; bytes = refl; coded = refl; held = tt } in
     let r = read-ahead gs (drop from bs) (h .written ++ []) (drop at bs) (omega (arith, length-append (h .written) [], h .long)) (h .whole [] (drop at bs) a) in
     let e : code (r .first) ≡ h .written = r .coded ∙ append-nil (h .written) in
     let w : weight (r .first) ≡ n = sym (length-code (r .first)) ∙ ap length e ∙ h .long in
