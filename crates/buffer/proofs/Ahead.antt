@@ -6,7 +6,7 @@ use mathlib.Core.Logic.{_↔_}
 use mathlib.Core.Option.{some}
 use mathlib.Core.Path.{_≡_, refl, sym, ap, subst, _∙_}
 use native.Mathlib.Omega.{arith}
-use lib.Dec.{T, eqb, leb, ltb, leb→le, ltb→lt, eqb→eq}
+use lib.Dec.{T, eqb, ltb, leb→le, ltb→lt, eqb→eq}
 use lib.IntN.{ℤ, pos, negsuc}
 use lib.ListN.{length, getD, drop}
 use borrow.Author.Tests.{eq-eqb, ne-eqb, le-leb}
@@ -16,12 +16,12 @@ use Rattle.rules.specs.Values.{scalarTag, scalarPayload, tag, payload, count, w
 use Rattle.rules.specs.Tables.{wordAt}
 use Rattle.rules.specs.Cells.{bytes4, twos, signed, inRange, cell, cells, cellsOf, scalarGood, value, good}
 use Rattle.laws.proofs.EndLaws.{T-and}
-use Rattle.laws.proofs.OrderLaws.{and-left, and-right}
 use Rattle.laws.proofs.CellsLaws.{Word, Bytes, EncodableScalar, Encodable, Encodables, byte-at, word-at, word-bytes, bytes-word, twos-signed, signed-range, payload-word, cells-value, value-encodable, count-weights, bit-eqb, cell-parts, eight, Sizes, encodable-wellFormed, good-wellFormed, good-weight}
 use Rattle.arena.specs.Code.{cellSize, excess, code, codes, CellsFit, partsOf}
 use Rattle.arena.proofs.CodeLaws.{length-code, length-codes, encodable-fits}
 use Rattle.arena.proofs.Standing.{_before_, codes-before, count-before}
 use Rattle.buffer.specs.Buffer.{cellFirst, firstCell, codeOf, tagGood, cellGood, scalarsGood, allGood}
+use Rattle.buffer.proofs.CellAt.{first-right}
 use Rattle.buffer.proofs.Goodness.{good-scalars}
 use Rattle.rules.proofs.Basics.{and-of}
 
@@ -289,16 +289,14 @@ module _ (gs : List ℕ) (q p : ℕ) (w : Word q) where
 cell-bytes : (bs : List ℕ) (v : Value) → Bytes bs → T (cellFirst bs) → tag v ≡ getD bs 4 0 → twos (payload v) ≡ wordAt bs 0 → bs ≡ cell v ++ drop 8 bs
 unfolding cell
 cell-bytes bs v b k t w =
-    let c₁ = leb 8 (length bs) in
-    let c₂ = eqb (getD bs 5 0 + getD bs 6 0 + getD bs 7 0) 0 in
-    let l : 8 ≤ length bs = leb→le 8 (length bs) (and-left c₁ c₂ k) in
-    let z = eqb→eq (getD bs 5 0 + getD bs 6 0 + getD bs 7 0) 0 (and-right c₁ c₂ k) in
+    let c = first-right bs .0 k in
+    let z = c .1 in
     let z₅ : getD bs 5 0 ≡ 0 = omega arith in
     let z₆ : getD bs 6 0 ≡ 0 = omega arith in
     let z₇ : getD bs 7 0 ≡ 0 = omega arith in
     let q = bytes-word (getD bs 0 0) (getD bs 1 0) (getD bs 2 0) (getD bs 3 0)
     (byte-at bs 0 b) (byte-at bs 1 b) (byte-at bs 2 b) (byte-at bs 3 b) in
-    eight bs l ∙ cell-parts (bytes4 (twos (payload v))) _ _ _ _ _ _ _ _ _ _ (rw w q) t z₅ z₆ z₇
+    eight bs (c .0) ∙ cell-parts (bytes4 (twos (payload v))) _ _ _ _ _ _ _ _ _ _ (rw w q) t z₅ z₆ z₇
 
 module _ (gs bs : List ℕ) (p : ℕ) (cs rest : List ℕ) (b : Bytes bs) (k : T (cellFirst bs)) (l : 0 < p) where
   back-from : (vs : Values) → drop 8 bs ≡ cellsOf vs ++ rest → codes vs ≡ cs → Built gs (getD bs 4 0) (wordAt bs 0) (p - 1) vs →

@@ -1,27 +1,25 @@
 -- Reading one value cell by cell into the arena.
 use Prim.Native.Nat.{ℕ, zero, suc, _+_, _*_, _-_, _/_, _%_, _≤_, _<_}
-use mathlib.Core.Bool.{Bool, true, false}
 use mathlib.Core.List.{List, [], _∷_, _++_, append-assoc, append-nil}
 use mathlib.Core.Path.{_≡_, refl, sym, ap, subst, _∙_}
 use native.Mathlib.Omega.{arith}
 use native.Mathlib.Decide.{decLt}
-use lib.Dec.{T, eqb, leb, leb→le}
-use lib.ListN.{length, getD, drop, set as setAt, length-append, length-set, length-drop, List·getD-append}
+use lib.Dec.{T, eqb}
+use lib.ListN.{length, getD, drop, set as setAt, length-append, length-set, List·getD-append}
 use lib.Seq.{drop-drop, getD-set-same, getD-set-other, getD-append-add}
 use borrow.Author.Tests.{ne-eqb}
 use mathlib.Core.Option.{some}
 use Rattle.rules.specs.Values.{Value, none, weight}
 use Rattle.rules.specs.Cells.{value, good}
-use Rattle.laws.proofs.OrderLaws.{and-left}
 use Rattle.laws.proofs.CellsLaws.{Bytes, bytes-drop, Sizes, few-sizes, good-weight}
 use Rattle.laws.proofs.TableLaws.{sizes-length}
 use Rattle.rules.specs.Tables.{tableOf}
 use Rattle.rules.specs.Readable.{Readable}
 use Rattle.arena.specs.Code.{code, Stands, Same, partsOf}
 use Rattle.arena.proofs.CodeLaws.{length-code}
-use Rattle.buffer.specs.declared.Cursor.{Cursor}
-use Rattle.buffer.specs.declared.Step.the-variants.{Cell, End}
-use Rattle.buffer.specs.Buffer.{cellFirst, firstCell, pickStep, stepAt, codeOf, tagGood, cellGood, cellsAtMost, GoodCell, StepTakes, ReadAt}
+use Rattle.buffer.specs.declared.Step.the-variants.{End}
+use Rattle.buffer.specs.Buffer.{firstCell, codeOf, tagGood, cellGood, cellsAtMost, GoodCell, StepTakes, ReadAt}
+use Rattle.buffer.proofs.CellAt.{cell-held}
 use Rattle.buffer.proofs.Ahead.{Ahead, onward, back, ahead-read, read-ahead, ahead-long}
 
 -- The entries of a slice of bytes.
@@ -52,32 +50,6 @@ pub good-other : (gs : List ℕ) (x t p : ℕ) → t ≡ x / 4294967296 → p �
 unfolding cellGood
 good-other gs x t p e f b c d a = good-last gs t p a b c d ∙ rw (e, f)
 
--- The good cell at a place.
-pick-cell : (b : Bool) (x y : ℕ) (n m : Cursor) → Cell x n ≡ pickStep b (Cell y m) → T b × (x ≡ y) × (n ≡ m)
-pick-cell true x y n m e = (tt, (cc), (cc))
-pick-cell false x y n m e = absurd (let z : _≡_ {A = ℕ} 0 1 = cc in omega arith)
-
-pick-end : (b : Bool) (y : ℕ) (m : Cursor) → End ≡ pickStep b (Cell y m) → T b → ⊥
-pick-end true y m e t = let z : _≡_ {A = ℕ} 0 1 = cc in omega arith
-pick-end false y m e t = t
-
-module _ (gs bs : List ℕ) (at : ℕ) where
-  pub take-good : (x : ℕ) (n : Cursor) → Cell x n ≡ stepAt bs at → cellGood gs x ≡ true → GoodCell gs bs at x (n .at)
-  unfolding stepAt
-  take-good x n e g =
-      let p = pick-cell (cellFirst (drop at bs)) x (firstCell (drop at bs)) n (record { at = at + 8 }) e in
-      record { here = p .0; number = p .1; good = subst T (sym g) tt; behind = ap (λ (c : Cursor). c .at) (p .2) }
-
-  pub take-bad : (x : ℕ) (n : Cursor) → Cell x n ≡ stepAt bs at → cellGood gs x ≡ false → StepTakes gs bs at End
-  unfolding stepAt
-  take-bad x n e g h k =
-      let p = pick-cell (cellFirst (drop at bs)) x (firstCell (drop at bs)) n (record { at = at + 8 }) e in
-      subst T g (subst (λ (y : ℕ). T (cellGood gs y)) (sym (p .1)) k)
-
-  pub take-none : End ≡ stepAt bs at → StepTakes gs bs at End
-  unfolding stepAt
-  take-none e h k = pick-end (cellFirst (drop at bs)) (firstCell (drop at bs)) (record { at = at + 8 }) e h
-
 -- n cells have been read up to `at` and stand written at `top`; `left` values are still to be read. A value is read at `from`
 -- just where they are.
 pub record Walk (gs bs : List ℕ) (from at left n : ℕ) (s₀ s : List ℕ) (top : ℕ) : Type 0 where
@@ -101,13 +73,6 @@ walk-start gs bs from s top l = record {
   whole = λ cs rest a. a;
   partly = λ es rest a. (es, refl, a);
 }
-
--- A cell lies within the buffer.
-cell-held : {gs bs : List ℕ} {at x next : ℕ} → GoodCell gs bs at x next → 8 ≤ length bs - at
-cell-held {gs} {bs} {at} g =
-    let ds = drop at bs in
-    let l = leb→le 8 (length ds) (and-left (leb 8 (length ds)) (eqb (getD ds 5 0 + getD ds 6 0 + getD ds 7 0) 0) (g .here)) in
-    omega (arith, l, length-drop at bs)
 
 -- a cell is written behind
 write-stands : (s : List ℕ) (top n x : ℕ) (xs : List ℕ) → length xs ≡ n → top + n < length s → Stands s top xs →
@@ -135,7 +100,7 @@ write-frame s₀ s top n x h = record {
 -- The arena has room for the next cell, as the buffer holds it.
 pub walk-room : {gs bs : List ℕ} {from at left n : ℕ} {s₀ s : List ℕ} {top : ℕ} → Walk gs bs from at left n s₀ s top → {x next : ℕ} →
     GoodCell gs bs at x next → n < 256 → top + cellsAtMost 1 (length bs - from) ≤ length s₀ → top + n < length s
-walk-room h g l r = let m = cell-held g in omega (arith, h .spent, h .frame .kept)
+walk-room {bs = bs} {at = at} h g l r = let m = cell-held bs at (g .here) in omega (arith, h .spent, h .frame .kept)
 
 module _ {gs bs : List ℕ} {from at left n : ℕ} {s₀ s : List ℕ} {top : ℕ} (b : Bytes bs) (h : Walk gs bs from at left n s₀ s top) (l : 0 < left) where
   pub walk-step : (x next y k : ℕ) → GoodCell gs bs at x next → y ≡ codeOf x → k ≡ partsOf x → top + n < length s →
@@ -152,7 +117,7 @@ module _ {gs bs : List ℕ} {from at left n : ℕ} {s₀ s : List ℕ} {top : �
         stands = write-stands s top n y (h .written) (h .long) m (h .stands);
         frame = write-frame s₀ s top n y (h .frame);
         spent = omega (arith, g .behind, h .spent);
-        held = omega (arith, cell-held g, h .spent);
+        held = omega (arith, cell-held bs at (g .here), h .spent);
         whole = λ cs rest a.
             let a′ : Ahead gs (drop 8 ds) (left - 1 + partsOf (firstCell ds)) cs rest = rw (← d, ← q) a in
             let r = h .whole (codeOf (firstCell ds) ∷ cs) rest (back gs ds left cs rest b′ (g .here) l (rw (g .number) at (g .good)) a′) in

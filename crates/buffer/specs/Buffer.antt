@@ -24,13 +24,6 @@ cellFirst bs = leb 8 (length bs) && eqb (getD bs 5 0 + getD bs 6 0 + getD bs 7 0
 abbrev pub firstCell : List ℕ → ℕ
 firstCell bs = getD bs 4 0 * cellSize + wordAt bs 0
 
-abbrev pub pickStep : Bool → Step → Step
-pickStep true c = c
-pickStep false c = End
-
-unfoldable pub stepAt : List ℕ → ℕ → Step
-stepAt bs at = pickStep (cellFirst (drop at bs)) (Cell (firstCell (drop at bs)) (record { at = at + 8 }))
-
 -- The arena's cell for a cell of the buffer.
 unfoldable pub codeOf : ℕ → ℕ
 codeOf x = cond (eqb (x / 4294967296) 1) (4294967296 + (x % 4294967296 + 2147483648) % 4294967296) x

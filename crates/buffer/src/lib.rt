@@ -5,7 +5,7 @@ ghost use Prim.Native.Nat.{_+_, _≤_, _<_};
 ghost use lib.ListN.{getD};
 ghost use Rattle.rules.specs.Tables.{tableOf};
 ghost use Rattle.rules.specs.Readable.{Header};
-ghost use Rattle.buffer.specs.Buffer.{stepAt, codeOf, cellGood, cellsAtMost, StepTakes, PlaceReady, Places};
+ghost use Rattle.buffer.specs.Buffer.{codeOf, cellGood, cellsAtMost, StepTakes, PlaceReady, Places};
 ghost use Rattle.arena.specs.Code.{Same};
 ghost use Rattle.buffer.specs.Ordered.{SomeMembersAt, InOrder, WholeValue};
 ghost use Rattle.buffer.specs.Shared.{SomeTypedRow, Shares, leastAlike, mostAlike, MembersFine, isFlat, Fine};
@@ -50,9 +50,10 @@ pub struct Environment {
 }
 
 impl Cursor {
-    // The cell at this place: eight bytes, the last three zero.
-    pub fn next(self, values: &[u8]) -> Step
-        ensures { λ r. ⌜ r ≡ stepAt (now (values .entry)) (self .at) ⌝ }
+    // The good cell at this place: eight bytes, the last three zero.
+    fn next(self, table: &[u8], values: &[u8]) -> Step
+        requires { ⌜ Header (now table) ⌝ }
+        ensures { λ r. ⌜ StepTakes (tableOf (now (table .entry)) .sizes) (now (values .entry)) (self .at) r ⌝ }
     {
         let at = self.at;
         let len = values.len();
@@ -66,24 +67,10 @@ impl Cursor {
         if x >= FREE {
             return Step::End;
         }
-        Step::Cell(x, Cursor { at: at + 8 })
-    }
-
-    // The good cell at this place.
-    fn take(self, table: &[u8], values: &[u8]) -> Step
-        requires { ⌜ Header (now table) ⌝ }
-        ensures { λ r. ⌜ StepTakes (tableOf (now (table .entry)) .sizes) (now (values .entry)) (self .at) r ⌝ }
-    {
-        let step = self.next(values);
-        match step {
-            Step::Cell(x, next) => {
-                if good_cell(table, x) {
-                    return Step::Cell(x, next);
-                }
-                Step::End
-            }
-            Step::End => Step::End,
+        if !good_cell(table, x) {
+            return Step::End;
         }
+        Step::Cell(x, Cursor { at: at + 8 })
     }
 }
 
@@ -148,7 +135,7 @@ fn copy_value(table: &[u8], from: Cursor, values: &[u8], s: &mut [u64], top: usi
         if left > 256 - n {
             return Placed::Fault;
         }
-        let Step::Cell(x, next) = c.take(table, values) else {
+        let Step::Cell(x, next) = c.next(table, values) else {
             return Placed::Fault;
         };
         s[top + n] = code_cell(x);

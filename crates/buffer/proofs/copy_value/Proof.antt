@@ -40,12 +40,12 @@ sizes : (l : Turn) → Sizes (tableOf (lent (begun l) .args .table .now) .sizes)
 sizes l = readable-sizes (lent (begun l) .pre .readable)
 
 abbrev Taken : Type 0
-Taken = tie.After-take Inv-loop μ-loop
+Taken = tie.After-next Inv-loop μ-loop
 
 abbrev turn : Taken → Turn
 turn k = k .before .before
 
--- What the answer of `take` says, once it is known.
+-- What the answer of `next` says, once it is known.
 abbrev Takes : Taken → Step → Type 0
 Takes k q =
     let a = lent (begun (turn k)) .args in StepTakes (tableOf (a .table .now) .sizes) (a .values .now) (turn k .before .loop .c .at) q
@@ -59,7 +59,7 @@ taken m = m .before .before
 cell : (m : Good) →
     GoodCell (tableOf (lent (begun (turn (taken m))) .args .table .now) .sizes) (lent (begun (turn (taken m))) .args .values .now)
     (turn (taken m) .before .loop .c .at) (m .x .given .0 .0) (m .x .given .0 .1 .0 .at)
-cell m = let k = taken m in subst (Takes k) (m .x .given .1) (k .take .ensures)
+cell m = let k = taken m in subst (Takes k) (m .x .given .1) (k .next .ensures)
 
 -- There is room for one more.
 few : (k : Taken) → turn k .before .loop .n < 256
@@ -89,7 +89,7 @@ returns-2 c =
     let i = l .before .loop .inv in (
       i .2 .frame,
       λ v rest e g.
-          walk-none (bytes (begun l)) (i .2) (l .loop-test .taken) (sizes l) v rest e g (subst (Takes k) (c .enum-told .given .1) (k .take .ensures)),
+          walk-none (bytes (begun l)) (i .2) (l .loop-test .taken) (sizes l) v rest e g (subst (Takes k) (c .enum-told .given .1) (k .next .ensures)),
     )
 
 room : (c : tie.After-code-cell Inv-loop μ-loop) →
