@@ -22,7 +22,7 @@ use Rattle.arena.proofs.ValueParts.{ends-at}
 use Rattle.buffer.specs.Buffer.{cellsAtMost, ReadAt, Unread}
 use Rattle.buffer.specs.Ordered.{ordered, WholeValue}
 use Rattle.buffer.specs.Shared.{Fine}
-use Rattle.buffer.specs.Loaded.{GoodRead, Entered, Bound}
+use Rattle.buffer.specs.Loaded.{Entered, Bound}
 use Rattle.rules.proofs.Basics.{and-of}
 use Rattle.buffer.proofs.Goodness.{good-ordered, good-of}
 
@@ -44,18 +44,6 @@ module _ {gs bs : List ℕ} {at : ℕ} {s : List ℕ} {top next end : ℕ} (h : 
   read-bad o v rest e g =
       let f = subst (λ (w : Value). T (ordered w && typed w)) (same-read v rest e) (and-of (ordered v) (typed v) (good-ordered gs v g) (good-typed gs v g)) in
       subst T (sym (o (h .first) (h .stands) (h .fits))) f
-
-  pub read-good : Fine s top true → GoodRead gs bs at s top next end
-  read-good o =
-      record {
-        first = h .first;
-        reads = h .reads;
-        good = good-of gs (h .first) (h .good) (subst T (o (h .first) (h .stands) (h .fits)) tt) (h .light);
-        below = record { stands = h .stands; below = omega (arith, h .ends); fits = h .fits; light = h .light };
-        grows = omega (arith, h .ends);
-        near = omega (arith, h .ends, h .light, h .held);
-        spent = omega (arith, h .ends, h .spent);
-      }
 
 -- The value of one identifier.
 for-bound : (gs : List ℕ) (w x : ℕ) (bs : List ℕ) → (w ≡ 0 → ⊥) → valueFor gs w x bs ≡ done (noValue, bs)
@@ -82,26 +70,29 @@ for-bad gs w x bs z u = rw z (go (value bs) refl)
     go nothing e = refl
     go (some p) e = fails (good gs (p .0)) p (u (p .0) (p .1) e)
 
-module _ (gs : List ℕ) (w : ℕ) (bs : List ℕ) (at : ℕ) (s : List ℕ) (nowhere top : ℕ) where
-  pub entry-bound : (w ≡ 0 → ⊥) → Entered gs w bs at s s nowhere top nowhere at top
-  entry-bound n = record {
-    first = noValue;
-    reads = λ x. for-bound gs w x (drop at bs) n;
-    below = λ b. b;
-    grows = omega arith;
-    near = omega arith;
-    spent = omega arith;
-  }
+pub entry-bound : (gs : List ℕ) (w : ℕ) (bs : List ℕ) (at : ℕ) (s : List ℕ) (nowhere top : ℕ) → (w ≡ 0 → ⊥) →
+    Entered gs w bs at s s nowhere top nowhere at top
+entry-bound gs w bs at s nowhere top n = record {
+  first = noValue;
+  reads = λ x. for-bound gs w x (drop at bs) n;
+  below = λ b. b;
+  grows = omega arith;
+  near = omega arith;
+  spent = omega arith;
+}
 
-  pub entry-free : (s′ : List ℕ) (next end : ℕ) → w ≡ 0 → GoodRead gs bs at s′ top next end → Entered gs w bs at s s′ nowhere top top next end
-  entry-free s′ next end z h = record {
-    first = h .first;
-    reads = λ x. for-good gs w x (drop at bs) (h .first) (drop next bs) z (h .reads) (h .good);
-    below = λ b. h .below;
-    grows = h .grows;
-    near = h .near;
-    spent = h .spent;
-  }
+pub entry-free : {gs bs : List ℕ} {at : ℕ} {s′ : List ℕ} {top next end : ℕ} (w : ℕ) (s : List ℕ) (nowhere : ℕ) → w ≡ 0 →
+    ReadAt gs bs at s′ top next end → Fine s′ top true → Entered gs w bs at s s′ nowhere top top next end
+entry-free {gs} {bs} {at} {s′} {top} {next} {end} w s nowhere z h o =
+    let g = good-of gs (h .first) (h .good) (subst T (o (h .first) (h .stands) (h .fits)) tt) (h .light) in
+    record {
+      first = h .first;
+      reads = λ x. for-good gs w x (drop at bs) (h .first) (drop next bs) z (h .reads) g;
+      below = λ b. record { stands = h .stands; below = omega (arith, h .ends); fits = h .fits; light = h .light };
+      grows = omega (arith, h .ends);
+      near = omega (arith, h .ends, h .light, h .held);
+      spent = omega (arith, h .ends, h .spent);
+    }
 
 pub entry-bad : (gs : List ℕ) (w x : ℕ) (bs : List ℕ) (at : ℕ) → w ≡ 0 → Unread gs bs at → valueFor gs w x (drop at bs) ≡ refused 14 x
 entry-bad gs w x bs at z u = for-bad gs w x (drop at bs) z u

@@ -1,38 +1,19 @@
 -- Refusal 14: the values of a table's identifiers, read from the buffer into the arena.
 use Prim.Native.Nat.{ℕ, _+_, _*_, _-_, _≤_, _<_}
 use mathlib.Core.List.{List}
-use mathlib.Core.Option.{some}
 use mathlib.Core.Path.{_≡_}
-use lib.Dec.{T}
 use lib.ListN.{length, getD, drop}
 use Rattle.rules.specs.Values.{Value}
 use Rattle.rules.specs.Ends.{done, refused}
-use Rattle.rules.specs.Cells.{value as valueFirst, good, noValue, valueFor, valuesFrom}
+use Rattle.rules.specs.Cells.{noValue, valueFor, valuesFrom}
 use Rattle.rules.specs.Tables.{tableOf, identifierCount}
 use Rattle.rules.specs.Readable.{Readable}
 use Rattle.arena.specs.Code.{ValueBelow}
-use Rattle.buffer.specs.Buffer.{cellsAtMost, PlaceReady, Unread}
-use Rattle.buffer.specs.declared.Placed.{Placed}
-use Rattle.buffer.specs.declared.Placed.the-variants.{At, Fault}
+use Rattle.buffer.specs.Buffer.{cellsAtMost, PlaceReady}
 use Rattle.buffer.specs.declared.Entry.{Entry}
 use Rattle.buffer.specs.declared.Entry.the-variants.{Of, Bad}
 use Rattle.buffer.specs.declared.Loaded.{Loaded}
 use Rattle.buffer.specs.declared.Loaded.the-variants.{All, Refused}
-
--- The good value that is read at `at` stands from `top` to `end`; the next may begin at `next`.
-pub record GoodRead (gs bs : List ℕ) (at : ℕ) (s : List ℕ) (top next end : ℕ) : Type 0 where
-  pub first : Value
-  pub reads : valueFirst (drop at bs) ≡ some (first, drop next bs)
-  pub good : T (good gs first)
-  pub below : ValueBelow s end top first
-  pub grows : top ≤ end
-  pub near : end ≤ top + cellsAtMost 1 (length bs - at)
-  pub spent : next ≡ at + 8 * (end - top)
-
--- A good value has been read, or none is there.
-abbrev pub ReadsGood : List ℕ → List ℕ → ℕ → List ℕ → ℕ → Placed → Type 0
-ReadsGood gs bs at s top (At next end) = GoodRead gs bs at s top (next .at) end
-ReadsGood gs bs at s top Fault = Unread gs bs at
 
 -- The value of an identifier with the word w stands at `place`; it is the value without a value at `none` where it is bound.
 pub record Entered (gs : List ℕ) (w : ℕ) (bs : List ℕ) (at : ℕ) (s s′ : List ℕ) (none top place next end : ℕ) : Type 0 where

@@ -9,7 +9,7 @@ ghost use Rattle.buffer.specs.Buffer.{codeOf, cellGood, cellsAtMost, Ste
 ghost use Rattle.arena.specs.Code.{Same};
 ghost use Rattle.buffer.specs.Ordered.{SomeMembersAt, InOrder, WholeValue};
 ghost use Rattle.buffer.specs.Shared.{SomeTypedRow, Shares, leastAlike, mostAlike, MembersFine, isFlat, Fine};
-ghost use Rattle.buffer.specs.Loaded.{ReadsGood, EntryReady, Enters, Loads, LoadReady};
+ghost use Rattle.buffer.specs.Loaded.{EntryReady, Enters, Loads, LoadReady};
 
 // A cell in the buffer: its payload, its tag times 2^32, and zero bytes from FREE on.
 const FREE: u64 = 256 * arena::CELL;
@@ -325,27 +325,7 @@ fn fine(s: &[u64], at: usize, end: usize) -> bool
     sets_fine(s, at, end)
 }
 
-// Reads one value without the faults that refusal 14 names.
-fn read_value(table: &[u8], from: Cursor, values: &[u8], s: &mut [u64], top: usize) -> Placed
-    requires { ⌜ PlaceReady (now table) (now values) (from .at) (now s) top ⌝ }
-    ensures { λ r. ⌜
-        Same top (now (s .entry)) (now (s .exit)) ×
-        ReadsGood (tableOf (now (table .entry)) .sizes) (now (values .entry)) (from .at) (now (s .exit)) top r
-        ⌝ }
-{
-    let r = copy_value(table, from, values, s, top);
-    match r {
-        Placed::At(next, end) => {
-            if !fine(s, top, end) {
-                return Placed::Fault;
-            }
-            Placed::At(next, end)
-        }
-        Placed::Fault => Placed::Fault,
-    }
-}
-
-// The value of the identifier x: a free one reads one; a bound one has the value at `none`.
+// The value of the identifier x: a free one reads one without the faults that refusal 14 names; a bound one has the value at `none`.
 fn read_entry(
     table: &[u8],
     x: usize,
@@ -364,9 +344,14 @@ fn read_entry(
     if table::bind(table, x) != 0 {
         return Entry::Of(none, from, top);
     }
-    let r = read_value(table, from, values, s, top);
+    let r = copy_value(table, from, values, s, top);
     match r {
-        Placed::At(next, end) => Entry::Of(top, next, end),
+        Placed::At(next, end) => {
+            if !fine(s, top, end) {
+                return Entry::Bad;
+            }
+            Entry::Of(top, next, end)
+        }
         Placed::Fault => Entry::Bad,
     }
 }
