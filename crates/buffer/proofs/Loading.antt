@@ -165,9 +165,9 @@ bind-front (refused r p) front v = refl
 
 -- one identifier more
 from-next : (gs ws bs rest : List ℕ) (w x : ℕ) (v : Value) → valueFor gs w x bs ≡ done (v, rest) →
-    valuesFrom gs (w ∷ ws) x bs ≡ (valuesFrom gs ws (suc x) rest >>= λ vs. done (v ∷ vs))
+    valuesFrom gs (w ∷ ws) x bs ≡ (valuesFrom gs ws (x + 1) rest >>= λ vs. done (v ∷ vs))
 unfolding valuesFrom
-from-next gs ws bs rest w x v e = rw e
+from-next gs ws bs rest w x v e = rw (e, add-one x)
 
 from-refused : (gs ws bs : List ℕ) (w x : ℕ) → valueFor gs w x bs ≡ refused 14 x → valuesFrom gs (w ∷ ws) x bs ≡ refused 14 x
 unfolding valuesFrom
@@ -197,11 +197,8 @@ module _ {gs ws bs : List ℕ} {x at : ℕ} {s₀ s : List ℕ} {top end : ℕ} 
       record {
         front = h .front ++ (v ∷ []);
         counted = omega (arith, length-append (h .front) (v ∷ []), h .counted);
-        whole = h .whole ∙ ap (λ (us : List ℕ). valuesFrom gs us x (drop at bs) >>= λ vs. done (h .front ++ vs)) (words-next l) ∙
-            ap (λ (r : End (List Value)). r >>= λ vs. done (h .front ++ vs))
-            (from-next gs (drop (x + 1) ws) (drop at bs) (drop next bs) (getD ws x 0) x v (g .reads x)) ∙
-            bind-front (valuesFrom gs (drop (x + 1) ws) (suc x) (drop next bs)) (h .front) v ∙
-            ap (λ (y : ℕ). valuesFrom gs (drop (x + 1) ws) y (drop next bs) >>= λ vs. done ((h .front ++ (v ∷ [])) ++ vs)) (sym (add-one x));
+        whole = h .whole ∙ rw (words-next l, from-next gs (drop (x + 1) ws) (drop at bs) (drop next bs) (getD ws x 0) x v (g .reads x))
+            (bind-front (valuesFrom gs (drop (x + 1) ws) (x + 1) (drop next bs)) (h .front) v);
         bound = λ y m. named y m (ℕ-discrete y x);
         nowhere = below-same s s′ end e top noValue f (g .grows) (h .nowhere);
         frame = record { same = λ i m. f .same i (omega (arith, h .above)) ∙ h .frame .same i m; kept = f .kept ∙ h .frame .kept };
@@ -221,8 +218,7 @@ module _ {gs ws bs : List ℕ} {x at : ℕ} {s₀ s : List ℕ} {top end : ℕ} 
 
   pub loading-bad : x < length ws → valueFor gs (getD ws x 0) x (drop at bs) ≡ refused 14 x → valuesFrom gs ws 0 bs ≡ refused 14 x
   loading-bad l u =
-      h .whole ∙ ap (λ (us : List ℕ). valuesFrom gs us x (drop at bs) >>= λ vs. done (h .front ++ vs)) (words-next l) ∙
-      ap (λ (r : End (List Value)). r >>= λ vs. done (h .front ++ vs)) (from-refused gs (drop (x + 1) ws) (drop at bs) (getD ws x 0) x u)
+      h .whole ∙ rw (words-next l, from-refused gs (drop (x + 1) ws) (drop at bs) (getD ws x 0) x u)
 
   none-left : length ws ≤ x → valuesFrom gs ws 0 bs ≡ (nothingLeft x (drop at bs) >>= λ vs. done (h .front ++ vs))
   unfolding valuesFrom

@@ -2,6 +2,7 @@
 use Prim.Native.Nat.{ℕ, _+_, _*_, _-_, _/_, _≤_, _<_}
 use mathlib.Core.Bool.{Bool, true, false, cond}
 use mathlib.Core.List.{List, append-nil}
+use mathlib.Core.Logic.{_↔_}
 use mathlib.Core.Path.{_≡_, refl, sym, ap, subst, _∙_}
 use native.Mathlib.Omega.{arith}
 use native.Mathlib.Decide.{ℕ-discrete}
@@ -11,31 +12,30 @@ use lib.ListN.{length, getD}
 use Rattle.rules.specs.Types.{whole, Ty}
 use Rattle.rules.specs.Values.{Value, Values, none, _▸_, count, weights}
 use Rattle.rules.specs.Fits.{every, typesOf, sharedTypes, inhabited, typed}
+use Rattle.laws.proofs.EndLaws.{T-true, T-false}
 use Rattle.laws.proofs.FitsLaws.{_⊑_, ⊓-join, ⊓-split, inhabited→some, some→inhabited}
 use Rattle.arena.specs.Code.{cellSize, code, codes, Stands, ValueAt, ValuesAt, AllFit, SomeAt, EndsAt}
 use Rattle.arena.proofs.CodeLaws.{length-code, length-codes}
 use Rattle.arena.proofs.Standing.{stands-front, stands-back, _before_, codes-before, count-before, weights-before}
-use Rattle.fitting.specs.Agree.{meets, RunAt, SomeTyped, Agreed, AgreedWith, NoEmpty, Full, StandFor, atomsAlike}
+use Rattle.fitting.specs.Agree.{meets, TypedAt, RunAt, SomeTyped, Agreed, AgreedWith, NoEmpty, Full, StandFor, atomsAlike}
 use Rattle.fitting.proofs.Sharing.{meets→share, share→meets, meets-sym, left-typed, with-every, full-first}
 use Rattle.arena.proofs.ValueParts.{one-cell}
-use Rattle.fitting.proofs.Cells.{full-value, with-end, with-false, with-step, atoms-agree, alike-low, agreed-back}
+use Rattle.fitting.proofs.Cells.{first-stands, full-value, with-end, with-false, with-step, atoms-agree, alike-low, agreed-back}
 use Rattle.buffer.specs.Ordered.{MembersAt}
 use Rattle.buffer.specs.Shared.{AllTyped, TypedRow, SomeTypedRow, leastAlike, mostAlike}
 use Rattle.laws.proofs.CellsLaws.{count-weights}
 
 -- Types of values that follow one another.
-sharedTypes-join : (vs ws : Values) (t : Ty) → sharedTypes vs ⊑ t → sharedTypes ws ⊑ t → sharedTypes (vs before ws) ⊑ t
-sharedTypes-join none ws t h k = k
-sharedTypes-join (v ▸ vs) ws t h k =
-    let p = ⊓-split (typesOf v) (sharedTypes vs) t h in
-    ⊓-join (typesOf v) (sharedTypes (vs before ws)) t (p .0) (sharedTypes-join vs ws t (p .1) k)
-
-sharedTypes-split : (vs ws : Values) (t : Ty) → sharedTypes (vs before ws) ⊑ t → sharedTypes vs ⊑ t × sharedTypes ws ⊑ t
-sharedTypes-split none ws t h = (tt, h)
-sharedTypes-split (v ▸ vs) ws t h =
-    let p = ⊓-split (typesOf v) (sharedTypes (vs before ws)) t h in
-    let q = sharedTypes-split vs ws t (p .1) in
-    (⊓-join (typesOf v) (sharedTypes vs) t (p .0) (q .0), q .1)
+sharedTypes-both : (vs ws : Values) (t : Ty) → sharedTypes (vs before ws) ⊑ t ↔ (sharedTypes vs ⊑ t × sharedTypes ws ⊑ t)
+sharedTypes-both none ws t = (λ h. (tt, h), λ h. h .1)
+sharedTypes-both (v ▸ vs) ws t =
+    let r = sharedTypes-both vs ws t in (
+      λ h. let p = ⊓-split (typesOf v) (sharedTypes (vs before ws)) t h in
+          let q = r .0 (p .1) in
+          (⊓-join (typesOf v) (sharedTypes vs) t (p .0) (q .0), q .1),
+      λ h. let p = ⊓-split (typesOf v) (sharedTypes vs) t (h .0) in
+          ⊓-join (typesOf v) (sharedTypes (vs before ws)) t (p .0) (r .1 (p .1, h .1)),
+    )
 
 before-assoc : (us vs ws : Values) → (us before vs) before ws ≡ us before (vs before ws)
 before-assoc none vs ws = refl
@@ -75,7 +75,7 @@ row-some s at n r z = go (r .0) (r .1)
   where
     go : (vs : Values) → TypedRow s at n vs → SomeAt s at
     go none h = absurd (z (h .counted))
-    go (v ▸ vs) h = record { value = v; stands = stands-front s at (code v) (codes vs) (h .stands); fits = h .fits .0 }
+    go (v ▸ vs) h = record { value = v; stands = first-stands s at v vs (h .stands); fits = h .fits .0 }
 
 pub prefix-start : (s : List ℕ) (at n end : ℕ) → EndsAt s at end → (n ≡ 0 → ⊥) → (vs : Values) → TypedRow s at n vs → Prefix s at end 1 vs
 unfolding code
@@ -86,7 +86,7 @@ prefix-start s at n end e z (v ▸ vs) h = record {
   whole = refl;
   counted = refl;
   shares = with-every (typesOf v) (h .typed .0);
-  there = omega (arith, e v (stands-front s at (code v) (codes vs) (h .stands)) (h .fits .0));
+  there = omega (arith, e v (first-stands s at v vs (h .stands)) (h .fits .0));
 }
 
 module _ (s : List ℕ) (at n i k : ℕ) (vs : Values) (row : TypedRow s at n vs) (h : Prefix s at i k vs) where
@@ -115,22 +115,20 @@ module _ (s : List ℕ) (at n i k : ℕ) (vs : Values) (row : TypedRow s at n vs
   pub prefix-end : n ≤ k → true ≡ inhabited (sharedTypes vs)
   prefix-end l = go (h .back) (h .whole) (back-row .counted)
     where
-      is : (b : Bool) → T b → true ≡ b
-      is true t = refl
-      is false t = absurd t
-
       go : (ws : Values) → vs ≡ h .front before ws → n - k ≡ count ws → true ≡ inhabited (sharedTypes vs)
-      go none e c = is (inhabited (sharedTypes vs)) (subst (λ (us : Values). T (inhabited (sharedTypes us))) (sym (e ∙ before-none (h .front))) (h .shares))
+      go none e c = sym (T-true _ .0 (subst (λ (us : Values). T (inhabited (sharedTypes us))) (sym (e ∙ before-none (h .front))) (h .shares)))
       go (w ▸ ws) e c = absurd (omega arith)
 
-  -- the next value
-  pub prefix-next : k < n → SomeTyped s i
-  unfolding code
-  prefix-next l = go (h .back) back-row
+  -- The next value.
+  next-value : k < n → (w : Value) × (ws : Values) × (vs ≡ h .front before (w ▸ ws)) × TypedAt s i w
+  next-value l = go (h .back) (h .whole) back-row
     where
-      go : (ws : Values) → TypedRow s i (n - k) ws → SomeTyped s i
-      go none r = absurd (omega (arith, r .counted))
-      go (w ▸ ws) r = (w, record { stands = stands-front s i (code w) (codes ws) (r .stands); fits = r .fits .0; typed = r .typed .0 })
+      go : (ws : Values) → vs ≡ h .front before ws → TypedRow s i (n - k) ws → (w : Value) × (ws : Values) × (vs ≡ h .front before (w ▸ ws)) × TypedAt s i w
+      go none e r = absurd (omega (arith, r .counted))
+      go (w ▸ ws) e r = (w, ws, e, record { stands = first-stands s i w ws (r .stands); fits = r .fits .0; typed = r .typed .0 })
+
+  pub prefix-next : k < n → SomeTyped s i
+  prefix-next l = let x = next-value l in (x .0, x .3)
 
   -- The first m values stand for the first k: all of them, or one that has one type only.
   pub stand-for : (m end : ℕ) (one : Bool) → 0 < k → EndsAt s at end → (one ≡ true → NoEmpty s at end) → m ≡ cond one 1 k → StandFor s at m (h .front)
@@ -141,7 +139,7 @@ module _ (s : List ℕ) (at n i k : ℕ) (vs : Values) (row : TypedRow s at n vs
       go : (ws : Values) → RunAt s at k ws → StandFor s at m ws
       go none r = absurd (omega (arith, r .counted))
       go (w ▸ ws) r =
-          let st : ValueAt s at w = stands-front s at (code w) (codes ws) (r .stands) in
+          let st : ValueAt s at w = first-stands s at w ws (r .stands) in
           let ty = left-typed (typesOf w) (sharedTypes ws) (r .typed) in
           let fu : Full w = full-value w s at st (subst (λ (x : ℕ). NoEmpty s at x) (e w st (r .fits .0)) (f refl)) in
           record {
@@ -157,45 +155,35 @@ module _ (s : List ℕ) (at n i k : ℕ) (vs : Values) (row : TypedRow s at n vs
 
   module _ (m : ℕ) (l : k < n) (g : StandFor s at m (h .front)) where
     -- what the test of the next value against those says
-    next-meets : (r : Bool) → AgreedWith s i at m r → (w : Value) (ws : Values) → TypedRow s i (n - k) (w ▸ ws) → r ≡ meets (sharedTypes (h .front)) (typesOf w)
-    unfolding code
-    next-meets r a w ws b =
-        a w (g .few) (record { stands = stands-front s i (code w) (codes ws) (b .stands); fits = b .fits .0; typed = b .typed .0 }) (g .run) ∙
-        meets-sym (typesOf w) (sharedTypes (g .few)) ∙ g .same (typesOf w)
+    next-meets : (r : Bool) → AgreedWith s i at m r → r ≡ meets (sharedTypes (h .front)) (typesOf (next-value l .0))
+    next-meets r a =
+        let x = next-value l in
+        a (x .0) (g .few) (x .3) (g .run) ∙ meets-sym (typesOf (x .0)) (sharedTypes (g .few)) ∙ g .same (typesOf (x .0))
 
     pub prefix-fails : AgreedWith s i at m false → false ≡ inhabited (sharedTypes vs)
-    prefix-fails a = go (h .back) (h .whole) back-row
-      where
-        none-left : (b : Bool) → (T b → ⊥) → false ≡ b
-        none-left true f = absurd (f tt)
-        none-left false f = refl
-
-        go : (ws : Values) → vs ≡ h .front before ws → TypedRow s i (n - k) ws → false ≡ inhabited (sharedTypes vs)
-        go none e b = absurd (omega (arith, b .counted))
-        go (w ▸ ws) e b =
-            none-left (inhabited (sharedTypes vs)) (λ t.
-            let x = inhabited→some (sharedTypes vs) t in
-            let p = sharedTypes-split (h .front) (w ▸ ws) (x .0) (subst (λ (us : Values). sharedTypes us ⊑ x .0) e (x .1)) in
-            let q = ⊓-split (typesOf w) (sharedTypes ws) (x .0) (p .1) in
-            subst T (sym (next-meets false a w ws b)) (share→meets (sharedTypes (h .front)) (typesOf w) (x .0, p .0, q .0)))
+    prefix-fails a =
+        let x = next-value l in
+        let w = x .0 in
+        sym (T-false (inhabited (sharedTypes vs)) .0 (λ t.
+        let y = inhabited→some (sharedTypes vs) t in
+        let p = sharedTypes-both (h .front) (w ▸ x .1) (y .0) .0 (subst (λ (us : Values). sharedTypes us ⊑ y .0) (x .2) (y .1)) in
+        let q = ⊓-split (typesOf w) (sharedTypes (x .1)) (y .0) (p .1) in
+        subst T (sym (next-meets false a)) (share→meets (sharedTypes (h .front)) (typesOf w) (y .0, p .0, q .0))))
 
     pub prefix-step : (e : ℕ) → EndsAt s i e → AgreedWith s i at m true → Prefix s at e (k + 1) vs
-    unfolding code
-    prefix-step e ends a = go (h .back) (h .whole) back-row
-      where
-        go : (ws : Values) → vs ≡ h .front before ws → TypedRow s i (n - k) ws → Prefix s at e (k + 1) vs
-        go none q b = absurd (omega (arith, b .counted))
-        go (w ▸ ws) q b =
-            let x = meets→share (sharedTypes (h .front)) (typesOf w) (subst T (next-meets true a w ws b) tt) in
-            let f = h .front before (w ▸ none) in
-            record {
-              front = f;
-              back = ws;
-              whole = q ∙ sym (before-assoc (h .front) (w ▸ none) ws);
-              counted = omega (arith, count-before (h .front) (w ▸ none), h .counted);
-              shares = some→inhabited (sharedTypes f) (x .0) (sharedTypes-join (h .front) (w ▸ none) (x .0) (x .1) (⊓-join (typesOf w) every (x .0) (x .2) tt));
-              there = omega (arith, h .there, weights-before (h .front) (w ▸ none), ends w (stands-front s i (code w) (codes ws) (b .stands)) (b .fits .0));
-            }
+    prefix-step e ends a =
+        let x = next-value l in
+        let w = x .0 in
+        let y = meets→share (sharedTypes (h .front)) (typesOf w) (subst T (next-meets true a) tt) in
+        let f = h .front before (w ▸ none) in
+        record {
+          front = f;
+          back = x .1;
+          whole = x .2 ∙ sym (before-assoc (h .front) (w ▸ none) (x .1));
+          counted = omega (arith, count-before (h .front) (w ▸ none), h .counted);
+          shares = some→inhabited (sharedTypes f) (y .0) (sharedTypes-both (h .front) (w ▸ none) (y .0) .1 (y .1, ⊓-join (typesOf w) every (y .0) (y .2) tt));
+          there = omega (arith, h .there, weights-before (h .front) (w ▸ none), ends w (x .3 .stands) (x .3 .fits));
+        }
 
 -- The bounds of the cells that are alike, by the tag.
 module _ (x t : ℕ) (tagged : t ≡ x / cellSize) where
