@@ -5,6 +5,5 @@ pub mod Ahead
 pub mod Walk
 pub mod Ordering
 pub mod Sharing
-pub mod Nested
-pub mod FlatSets
+pub mod FineValues
 pub mod Loading

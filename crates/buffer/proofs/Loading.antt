@@ -17,7 +17,7 @@ use Rattle.rules.specs.Cells.{value, good, noValue, orFault, valueFor, nothingL
 use Rattle.laws.proofs.CellsLaws.{good-typed}
 use Rattle.arena.specs.Code.{excess, code, EndsAt, Same, ValueBelow}
 use Rattle.arena.proofs.CodeLaws.{length-code}
-use Rattle.arena.proofs.Standing.{same-refl, stands-frame}
+use Rattle.arena.proofs.Standing.{same-refl, same-trans, stands-frame}
 use Rattle.arena.proofs.ValueParts.{ends-at}
 use Rattle.buffer.specs.Buffer.{cellsAtMost, ReadAt, Unread}
 use Rattle.buffer.specs.Ordered.{ordered, WholeValue}
@@ -201,7 +201,7 @@ module _ {gs ws bs : List ℕ} {x at : ℕ} {s₀ s : List ℕ} {top end : ℕ} 
             (bind-front (valuesFrom gs (drop (x + 1) ws) (x + 1) (drop next bs)) (h .front) v);
         bound = λ y m. named y m (ℕ-discrete y x);
         nowhere = below-same s s′ end e top noValue f (g .grows) (h .nowhere);
-        frame = record { same = λ i m. f .same i (omega (arith, h .above)) ∙ h .frame .same i m; kept = f .kept ∙ h .frame .kept };
+        frame = same-trans top end s₀ s s′ (h .frame) f (omega (arith, h .above));
         room = omega (arith, h .room, h .spent, g .near);
         spent = omega (arith, h .spent, g .spent, h .above, g .grows);
         above = omega (arith, h .above, g .grows);
@@ -243,9 +243,3 @@ frame-all s s′ top x h = record {
   same = λ i l. h .same i l ∙ getD-set-other s top i x 0 (λ e. omega arith);
   kept = h .kept ∙ length-set s top x;
 }
-
-pub same-both : (top end : ℕ) (s₀ s s′ : List ℕ) → top < end → Same top s₀ s → Same end s s′ → Same top s₀ s′
-same-both top end s₀ s s′ l h k = record { same = λ i m. k .same i (omega arith) ∙ h .same i m; kept = k .kept ∙ h .kept }
-
-pub place-small : (s : List ℕ) (end at : ℕ) (v : Value) → ValueBelow s end at v → at ≤ length s
-place-small s end at v h = omega (arith, h .stands .inside)

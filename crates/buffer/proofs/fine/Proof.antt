@@ -8,7 +8,7 @@ use lib.ListN.{length, getD}
 use Rattle.arena.proofs.ValueParts.{some-inside}
 use Rattle.buffer.specs.Shared.{isFlat}
 use Rattle.buffer.proofs.Sharing.{end-inside}
-use Rattle.buffer.proofs.FlatSets.{flat-row, flat-fine}
+use Rattle.buffer.proofs.FineValues.{flat-row, flat-fine}
 use Rattle.buffer.proofs.fine.Statement.{statement}
 use Rattle.buffer.proofs.fine.Tie as tie
 

@@ -1,7 +1,7 @@
 -- `flat`: by the cell.
 use native.Mathlib.Omega.{arith}
 use borrow.Author.Needs.{needs}
-use Rattle.buffer.proofs.FlatSets.{flat-low, flat-set}
+use Rattle.buffer.proofs.FineValues.{flat-low, flat-set}
 use Rattle.buffer.proofs.flat.Statement.{statement}
 use Rattle.buffer.proofs.flat.Tie as tie
 

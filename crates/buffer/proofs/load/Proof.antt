@@ -8,10 +8,11 @@ use lib.ListN.{length, length-set, replicate, length-replicate, getD-replicate}
 use Rattle.rules.specs.Tables.{tableOf}
 use Rattle.laws.proofs.TableLaws.{binds-length}
 use Rattle.arena.specs.Code.{Same}
+use Rattle.arena.proofs.Standing.{same-trans}
 use Rattle.buffer.specs.declared.Entry.{Entry}
 use Rattle.buffer.specs.declared.Entry.the-variants.{Of}
 use Rattle.buffer.specs.Loaded.{Enters}
-use Rattle.buffer.proofs.Loading.{Loading, place-small, same-both, frame-all, loading-start, loading-step, loading-bad, loading-surplus, loading-end}
+use Rattle.buffer.proofs.Loading.{Loading, frame-all, loading-start, loading-step, loading-bad, loading-surplus, loading-end}
 use Rattle.buffer.proofs.load.Statement.{statement}
 use Rattle.buffer.proofs.load.Tie as tie
 
@@ -111,7 +112,7 @@ returns c =
     let m = c .before in
     let k = m .before .before .before in
     let i = at k .loop .inv in (
-      frame-all _ _ _ _ (same-both _ _ _ _ _ (i .above) (i .frame) (k .read-entry .ensures .0)),
+      frame-all _ _ _ _ (same-trans _ _ _ _ _ (i .frame) (k .read-entry .ensures .0) (omega (arith, i .above))),
       loading-bad i (more (turn k) .0) (subst (Answers k) (c .enum-told .given .1) (k .read-entry .ensures .1)),
     )
 
@@ -121,7 +122,7 @@ cast-env-2 c =
     let a = at (read m) in
     omega (
       arith,
-      place-small _ _ _ _ (entered m .below (a .loop .inv .nowhere)),
+      entered m .below (a .loop .inv .nowhere) .stands .inside,
       read m .read-entry .ensures .0 .kept,
       kept a,
       lent (a .before) .pre .small,

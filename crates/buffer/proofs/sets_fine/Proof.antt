@@ -7,7 +7,7 @@ use borrow.Author.Tests.{not-true, not-false}
 use lib.ListN.{length}
 use Rattle.rules.specs.Values.{Value}
 use Rattle.arena.specs.Code.{ValueAt, CellsFit}
-use Rattle.buffer.proofs.Nested.{FineFrom, from-end, from-start, from-other, from-members, from-set, from-fails}
+use Rattle.buffer.proofs.FineValues.{FineFrom, from-end, from-start, from-other, from-members, from-set, from-fails}
 use Rattle.buffer.proofs.Sharing.{end-inside}
 use Rattle.buffer.proofs.sets_fine.Statement.{statement}
 use Rattle.buffer.proofs.sets_fine.Tie as tie

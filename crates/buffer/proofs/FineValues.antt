@@ -1,5 +1,5 @@
--- Whether a value's sets are in order and it has a type, from its last cell backward: what is left of it from a cell on is fine where the
--- members of each set there rise and share a type.
+-- Whether a value's sets are in order and it has a type: the members of each set rise and share a type. From its last cell backward, what is
+-- left of it from a cell on is fine; a set whose members are one cell each is tested at once.
 use Prim.Native.Nat.{ℕ, zero, suc, _+_, _*_, _-_, _/_, _%_, _≤_, _<_}
 use mathlib.Core.Bool.{Bool, true, false, _&&_}
 use mathlib.Core.List.{List, _∷_, _++_, append-nil}
@@ -7,19 +7,20 @@ use mathlib.Core.Logic.{_↔_}
 use mathlib.Core.Path.{_≡_, refl, sym, ap, subst, _∙_}
 use native.Mathlib.Omega.{arith}
 use native.Mathlib.Nat.{add-zero}
-use lib.Dec.{T}
+use lib.Dec.{T, eqb}
+use borrow.Author.Tests.{le-leb, lt-leb}
 use lib.ListN.{getD}
-use Rattle.rules.specs.Values.{Value, scalar, pair, set, Values, none, _▸_, tag, weight, weights}
+use Rattle.rules.specs.Values.{Value, scalar, pair, set, Values, none, _▸_, tag, count, weight, weights}
 use Rattle.rules.specs.Fits.{typesOf, sharedTypes, inhabited, typed}
-use Rattle.laws.proofs.EndLaws.{T-true, T-false, T-and}
-use Rattle.laws.proofs.CellsLaws.{weight-some}
-use Rattle.arena.specs.Code.{cellSize, code, codes, Stands, ValueAt, ValuesAt, CellsFit, AllFit, EndsAt}
+use Rattle.laws.proofs.EndLaws.{T-true, T-false, T-and, T-leb, T-eqb}
+use Rattle.laws.proofs.CellsLaws.{weight-some, count-weights}
+use Rattle.arena.specs.Code.{cellSize, code, codes, Stands, ValueAt, ValuesAt, CellsFit, AllFit, SomeAt, EndsAt}
 use Rattle.arena.proofs.Standing.{stands-tail, _before_, codes-before, weights-before, fit-before}
 use Rattle.arena.proofs.ValueParts.{first-cell}
 use Rattle.fitting.proofs.Cells.{first-stands, members-stand}
 use Rattle.fitting.proofs.Sharing.{left-typed, right-typed}
 use Rattle.buffer.specs.Ordered.{inOrder, ordered, orderedAll}
-use Rattle.buffer.specs.Shared.{AllTyped, TypedRow, SomeTypedRow, MembersFine}
+use Rattle.buffer.specs.Shared.{AllTyped, TypedRow, SomeTypedRow, MembersFine, isFlat, Fine}
 use Rattle.buffer.proofs.Ahead.{inner}
 use Rattle.buffer.proofs.Ordering.{scalar-tag}
 
@@ -230,3 +231,43 @@ module _ (s : List ℕ) (at end : ℕ) (v : Value) (h : ValueAt s at v) (f : Cel
         from-fails z = sym (T-false (ordered v && typed v) .0 (λ u.
             let y = subst AllFine (set-first .whole) (after-fine (v ▸ none) (u, tt) (i - 1 - at)) in
             T-false _ .1 (sym test ∙ z) (fine-next first (set-first .others) .0 y .0)))
+
+-- A set whose members are one cell each, known by its number of cells: only the members themselves are to be tested. The test, by the cell.
+pub flat-low : (x n : ℕ) → x < 21474836480 → false ≡ isFlat x n
+flat-low x n l = rw (lt-leb 21474836480 x l)
+
+pub flat-set : (x n l : ℕ) → 21474836480 ≤ x → l ≡ x % 4294967296 → eqb (l + 1) n ≡ isFlat x n
+flat-set x n l h e = rw (le-leb 21474836480 x h, e)
+
+-- What it says.
+pub flat-is : (x n : ℕ) → isFlat x n ≡ true → (5 * cellSize ≤ x) × (x % cellSize + 1 ≡ n)
+flat-is x n e = simp (T-and, T-leb, T-eqb) at (T-true (isFlat x n) .1 e)
+
+-- Values that weigh no more than they are many are scalars and empty sets.
+each-one : (vs : Values) → weights vs ≤ count vs → (orderedAll vs ≡ true) × AllTyped vs
+each-one none h = (refl, tt)
+each-one (scalar x ▸ vs) h = let r = each-one vs (omega arith) in (r .0, (tt, r .1))
+each-one (pair v w ▸ vs) h = absurd (omega (arith, weight-some v, weight-some w, count-weights vs))
+each-one (set none ▸ vs) h = let r = each-one vs (omega arith) in (r .0, (tt, r .1))
+each-one (set (m ▸ ms) ▸ vs) h = absurd (omega (arith, weight-some m, count-weights vs))
+
+-- The value from `at` to `end` is such a set, with n members.
+module _ (s : List ℕ) (at end : ℕ) (ends : EndsAt s at end) (flat : isFlat (getD s at 0) (end - at) ≡ true) (n : ℕ) (e : n ≡ getD s at 0 % cellSize) where
+  members-of : (v : Value) → ValueAt s at v → CellsFit v → (ms : Values) × (v ≡ set ms) × (orderedAll ms ≡ true) × TypedRow s (at + 1) n ms
+  members-of (scalar x) h f = absurd (scalar-tag x (omega (arith, first-cell s at (scalar x) h f .0, flat-is (getD s at 0) (end - at) flat .0)))
+  members-of (pair v w) h f = absurd (omega (arith, first-cell s at (pair v w) h f .0, flat-is (getD s at 0) (end - at) flat .0))
+  members-of (set ms) h f =
+      let c = first-cell s at (set ms) h f .1 in
+      let o = each-one ms (omega (arith, c, flat-is (getD s at 0) (end - at) flat .1, ends (set ms) h f)) in
+      (ms, refl, o .0, record { stands = members-stand s at ms h; fits = f .1; counted = e ∙ c; typed = o .1 })
+
+  pub flat-row : SomeAt s at → SomeTypedRow s (at + 1) n
+  flat-row x = let m = members-of (x .value) (x .stands) (x .fits) in (m .0, m .3)
+
+  pub flat-fine : {r : Bool} → MembersFine s (at + 1) n r → Fine s at r
+  unfolding typed
+  flat-fine k v h f = let m = members-of v h f in rw (m .1, m .2) (k (m .0) (m .3) ∙ go (inOrder (m .0)) _)
+    where
+      go : (b c : Bool) → (b && c) ≡ ((b && true) && c)
+      go true c = refl
+      go false c = refl
