@@ -12,13 +12,13 @@ use lib.ListN.{length, getD, drop}
 use borrow.Author.Tests.{eq-eqb, ne-eqb, le-leb}
 use Rattle.rules.specs.Types.{whole}
 use Rattle.rules.specs.Values.{Scalar, num, truth, element, Value, scalar, pair, set, Values, none, _▸_, bit}
-use Rattle.rules.specs.Values.{scalarTag, scalarPayload, tag, payload, count, weight}
+use Rattle.rules.specs.Values.{scalarTag, scalarPayload, tag, payload, count}
 use Rattle.rules.specs.Tables.{wordAt}
 use Rattle.rules.specs.Cells.{bytes4, twos, signed, inRange, cell, cells, cellsOf, scalarGood, value, good}
 use Rattle.laws.proofs.EndLaws.{T-and}
-use Rattle.laws.proofs.CellsLaws.{Word, Bytes, EncodableScalar, Encodable, Encodables, byte-at, word-at, word-bytes, bytes-word, twos-signed, signed-range, payload-word, cells-value, value-encodable, count-weights, bit-eqb, cell-parts, eight, Sizes, encodable-wellFormed, good-wellFormed, good-weight}
-use Rattle.arena.specs.Code.{cellSize, excess, code, codes, CellsFit, partsOf}
-use Rattle.arena.proofs.CodeLaws.{length-code, length-codes, encodable-fits}
+use Rattle.laws.proofs.CellsLaws.{Word, Bytes, EncodableScalar, Encodable, Encodables, byte-at, word-at, word-bytes, bytes-word, twos-signed, signed-range, payload-word, cells-value, count-weights, bit-eqb, cell-parts, eight, Sizes, encodable-wellFormed, good-wellFormed, good-weight}
+use Rattle.arena.specs.Code.{cellSize, excess, code, codes, partsOf}
+use Rattle.arena.proofs.CodeLaws.{length-codes}
 use Rattle.arena.proofs.Standing.{_before_, codes-before, count-before}
 use Rattle.buffer.specs.Buffer.{cellFirst, firstCell, codeOf, tagGood, cellGood, scalarsGood, allGood}
 use Rattle.buffer.proofs.CellAt.{first-right}
@@ -112,9 +112,6 @@ code-inner (set s) h = ap (λ (x : ℕ). x ∷ codes s) (sym (other-code 5 (coun
 first-parts : (v : Value) → Encodable v → (firstOf v / cellSize ≡ tag v) × (firstOf v % cellSize ≡ twos (payload v))
 first-parts v h = let w = payload-word v h in (omega arith, omega arith)
 
-parts-by : (x t l : ℕ) → x / cellSize ≡ t → x % cellSize ≡ l → partsOf x ≡ cond (eqb t 4) 2 (cond (eqb t 5) l 0)
-parts-by x t l e f = rw (e, f)
-
 parts-tag : (v : Value) → cond (eqb (tag v) 4) 2 (cond (eqb (tag v) 5) (twos (payload v)) 0) ≡ count (inner v)
 unfolding twos
 parts-tag (scalar (num whole i)) = refl
@@ -125,8 +122,7 @@ parts-tag (set s) = refl
 
 parts-inner : (v : Value) → Encodable v → partsOf (firstOf v) ≡ count (inner v)
 parts-inner v h =
-    let p = first-parts v h in
-    parts-by (firstOf v) (tag v) (twos (payload v)) (p .0) (p .1) ∙ parts-tag v
+    let p = first-parts v h in rw (p .0, p .1) (parts-tag v)
 
 bit-low : (b : Bool) → T (ltb (twos (pos (bit b))) 2)
 unfolding twos
@@ -324,11 +320,10 @@ module _ (gs bs : List ℕ) (p : ℕ) (cs rest : List ℕ) (b : Bytes bs) (k : T
       let t : firstCell bs / cellSize ≡ getD bs 4 0 = omega arith in
       let q : firstCell bs % cellSize ≡ wordAt bs 0 = omega arith in
       let g′ : T (tagGood gs (getD bs 4 0) (wordAt bs 0)) = rw (t, q) at g in
-      let c : count (h .values) ≡ (p - 1) + partsBy (getD bs 4 0) (wordAt bs 0)
-      = h .counted ∙ ap (λ (n : ℕ). p - 1 + n) (parts-by (firstCell bs) (getD bs 4 0) (wordAt bs 0) t q) in
+      let c : count (h .values) ≡ (p - 1) + partsBy (getD bs 4 0) (wordAt bs 0) = h .counted ∙ rw (t, q) in
       back-from (h .values) (h .bytes) (h .coded) (build gs (wordAt bs 0) (p - 1) wd (getD bs 4 0) (h .values) g′ c (h .held))
 
--- A good value that is read is ahead, and one that is ahead is read.
+-- A good value that is read is ahead.
 pub ahead-read : (gs bs : List ℕ) (v : Value) (rest : List ℕ) → Sizes gs → Bytes bs → value bs ≡ some (v, rest) → T (good gs v) →
     Ahead gs bs 1 (code v) rest
 unfolding cells code
@@ -339,31 +334,6 @@ ahead-read gs bs v rest z b e g = record {
   coded = append-nil (code v);
   held = ((encodable-wellFormed gs z v (omega (arith, good-weight gs v g)) (good-wellFormed gs v g), good-scalars gs v g), tt);
 }
-
-pub record OneRead (gs bs cs rest : List ℕ) : Type 0 where
-  pub first : Value
-  pub reads : value bs ≡ some (first, rest)
-  pub coded : code first ≡ cs
-  pub good : T (scalarsGood gs first)
-  pub fits : CellsFit first
-
-pub read-ahead : (gs bs cs rest : List ℕ) → length cs ≤ 256 → Ahead gs bs 1 cs rest → OneRead gs bs cs rest
-unfolding cells code
-read-ahead gs bs cs rest l h = go (h .values) (h .counted) (h .bytes) (h .coded) (h .held)
-  where
-    go : (vs : Values) → count vs ≡ 1 → bs ≡ cellsOf vs ++ rest → codes vs ≡ cs → AllHeld gs vs → OneRead gs bs cs rest
-    go none c b d e = absurd (omega arith)
-    go (v ▸ w ▸ vs) c b d e = absurd (omega arith)
-    go (v ▸ none) c b d e =
-        let d′ : code v ≡ cs = sym (append-nil (code v)) ∙ d in
-        let w : weight v ≤ 256 = omega (arith, length-code v, ap length d′) in
-        record {
-          first = v;
-          reads = ap value (b ∙ ap (λ (l : List ℕ). l ++ rest) (append-nil (cells v))) ∙ value-encodable v rest w (e .0 .0);
-          coded = d′;
-          good = e .0 .1;
-          fits = encodable-fits v (e .0 .0);
-        }
 
 -- Each value that is ahead takes a cell.
 pub ahead-long : (gs bs : List ℕ) (p : ℕ) (cs rest : List ℕ) → Ahead gs bs p cs rest → p ≤ length cs

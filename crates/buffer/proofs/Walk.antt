@@ -9,18 +9,18 @@ use lib.ListN.{length, getD, drop, set as setAt, length-append, length-set, List
 use lib.Seq.{drop-drop, getD-set-same, getD-set-other, getD-append-add}
 use borrow.Author.Tests.{ne-eqb}
 use mathlib.Core.Option.{some}
-use Rattle.rules.specs.Values.{Value, none, weight}
-use Rattle.rules.specs.Cells.{value, good}
-use Rattle.laws.proofs.CellsLaws.{Bytes, bytes-drop, Sizes, few-sizes, good-weight}
+use Rattle.rules.specs.Values.{Value, Values, none, _▸_, count, weight}
+use Rattle.rules.specs.Cells.{cells, cellsOf, value, good}
+use Rattle.laws.proofs.CellsLaws.{Bytes, bytes-drop, Sizes, few-sizes, good-weight, value-encodable}
 use Rattle.laws.proofs.TableLaws.{sizes-length}
 use Rattle.rules.specs.Tables.{tableOf}
 use Rattle.rules.specs.Readable.{Readable}
-use Rattle.arena.specs.Code.{code, Stands, Same, partsOf}
-use Rattle.arena.proofs.CodeLaws.{length-code}
+use Rattle.arena.specs.Code.{code, codes, Stands, Same, partsOf}
+use Rattle.arena.proofs.CodeLaws.{length-code, encodable-fits}
 use Rattle.buffer.specs.declared.Step.the-variants.{End}
 use Rattle.buffer.specs.Buffer.{firstCell, codeOf, tagGood, cellGood, cellsAtMost, GoodCell, StepTakes, ReadAt}
 use Rattle.buffer.proofs.CellAt.{cell-held}
-use Rattle.buffer.proofs.Ahead.{Ahead, onward, back, ahead-read, read-ahead, ahead-long}
+use Rattle.buffer.proofs.Ahead.{AllHeld, Ahead, onward, back, ahead-read, ahead-long}
 
 -- The entries of a slice of bytes.
 pub bytes-all : (bs : List ℕ) → ((i : ℕ) → i < length bs → getD bs i 0 < 256) → Bytes bs
@@ -154,20 +154,26 @@ module _ {gs bs : List ℕ} {from at left n : ℕ} {s₀ s : List ℕ} {top : �
 
 pub walk-end : {gs bs : List ℕ} {from at left n : ℕ} {s₀ s : List ℕ} {top : ℕ} → Walk gs bs from at left n s₀ s top → left ≡ 0 → n ≤ 256 →
     ReadAt gs bs from s top at (top + n)
-unfolding Rattle.rules.specs.Cells.cells code
+unfolding cells code
 walk-end {gs} {bs} {from} {at} {left} {n} {s₀} {s} {top} h z l =
-    let a : Ahead gs (drop at bs) left [] (drop at bs) = record { values = none; counted = sym z; bytes = refl; coded = refl; held = tt } in
-    let r = read-ahead gs (drop from bs) (h .written ++ []) (drop at bs) (omega (arith, length-append (h .written) [], h .long)) (h .whole [] (drop at bs) a) in
-    let e : code (r .first) ≡ h .written = r .coded ∙ append-nil (h .written) in
-    let w : weight (r .first) ≡ n = sym (length-code (r .first)) ∙ ap length e ∙ h .long in
-    record {
-      first = r .first;
-      reads = r .reads;
-      light = omega arith;
-      good = r .good;
-      fits = r .fits;
-      stands = subst (λ (xs : List ℕ). Stands s top xs) (sym e) (h .stands);
-      ends = omega arith;
-      spent = omega (arith, h .spent);
-      held = omega (arith, h .held);
-    }
+    let a = h .whole [] (drop at bs) (record { values = none; counted = sym z; bytes = refl; coded = refl; held = tt }) in
+    go (a .values) (a .counted) (a .bytes) (a .coded) (a .held)
+  where
+    go : (vs : Values) → count vs ≡ 1 → drop from bs ≡ cellsOf vs ++ drop at bs → codes vs ≡ h .written ++ [] → AllHeld gs vs →
+        ReadAt gs bs from s top at (top + n)
+    go none c b d e = absurd (omega arith)
+    go (v ▸ w ▸ vs) c b d e = absurd (omega arith)
+    go (v ▸ none) c b d e =
+        let f : code v ≡ h .written = sym (append-nil (code v)) ∙ d ∙ append-nil (h .written) in
+        let w : weight v ≡ n = sym (length-code v) ∙ ap length f ∙ h .long in
+        record {
+          first = v;
+          reads = ap value (b ∙ ap (λ (l : List ℕ). l ++ drop at bs) (append-nil (cells v))) ∙ value-encodable v (drop at bs) (omega arith) (e .0 .0);
+          light = omega arith;
+          good = e .0 .1;
+          fits = encodable-fits v (e .0 .0);
+          stands = subst (λ (xs : List ℕ). Stands s top xs) (sym f) (h .stands);
+          ends = omega arith;
+          spent = omega (arith, h .spent);
+          held = omega (arith, h .held);
+        }
