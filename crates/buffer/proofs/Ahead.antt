@@ -1,26 +1,28 @@
 -- A run of bytes as the cells of a number of values that follow one another: one cell further, and one back.
 use Prim.Native.Nat.{ℕ, zero, suc, _+_, _*_, _-_, _/_, _%_, _≤_, _<_}
-use mathlib.Core.Bool.{Bool, true, false, _&&_, cond}
+use mathlib.Core.Bool.{Bool, true, false, cond}
 use mathlib.Core.List.{List, [], _∷_, _++_, append-assoc, append-nil}
+use mathlib.Core.Logic.{_↔_}
 use mathlib.Core.Option.{some}
 use mathlib.Core.Path.{_≡_, refl, sym, ap, subst, _∙_}
 use native.Mathlib.Omega.{arith}
-use lib.Dec.{T, eqb, leb, ltb, leb→le, ltb→lt, eqb→eq}
+use lib.Dec.{T, eqb, ltb, leb→le, ltb→lt, eqb→eq}
 use lib.IntN.{ℤ, pos, negsuc}
 use lib.ListN.{length, getD, drop}
 use borrow.Author.Tests.{eq-eqb, ne-eqb, le-leb}
 use Rattle.rules.specs.Types.{whole}
 use Rattle.rules.specs.Values.{Scalar, num, truth, element, Value, scalar, pair, set, Values, none, _▸_, bit}
-use Rattle.rules.specs.Values.{scalarTag, scalarPayload, tag, payload, count, weight}
+use Rattle.rules.specs.Values.{scalarTag, scalarPayload, tag, payload, count}
 use Rattle.rules.specs.Tables.{wordAt}
-use Rattle.rules.specs.Cells.{bytes4, twos, signed, inRange, cell, cells, cellsOf, scalarGood, value}
-use Rattle.laws.proofs.OrderLaws.{and-left, and-right}
-use Rattle.laws.proofs.CellsLaws.{Word, Bytes, EncodableScalar, Encodable, Encodables, byte-at, word-at, word-bytes, bytes-word, twos-signed, signed-range, payload-word, cells-value, value-encodable, count-weights, bit-eqb, cell-parts, eight}
-use Rattle.arena.specs.Code.{cellSize, excess, code, codes, CellsFit, partsOf}
-use Rattle.arena.proofs.CodeLaws.{length-code, length-codes, encodable-fits}
+use Rattle.rules.specs.Cells.{bytes4, twos, signed, inRange, cell, cells, cellsOf, scalarGood, value, good}
+use Rattle.laws.proofs.EndLaws.{T-and}
+use Rattle.laws.proofs.CellsLaws.{Word, Bytes, EncodableScalar, Encodable, Encodables, byte-at, word-at, word-bytes, bytes-word, twos-signed, signed-range, payload-word, cells-value, count-weights, bit-eqb, cell-parts, eight, Sizes, encodable-wellFormed, good-wellFormed, good-weight}
+use Rattle.arena.specs.Code.{cellSize, excess, code, codes, partsOf}
+use Rattle.arena.proofs.CodeLaws.{length-codes}
 use Rattle.arena.proofs.Standing.{_before_, codes-before, count-before}
 use Rattle.buffer.specs.Buffer.{cellFirst, firstCell, codeOf, tagGood, cellGood, scalarsGood, allGood}
-use Rattle.buffer.proofs.Encoded.{value-can}
+use Rattle.buffer.proofs.CellAt.{first-right}
+use Rattle.buffer.proofs.Goodness.{good-scalars}
 use Rattle.rules.proofs.Basics.{and-of}
 
 cellsOf-before : (vs ws : Values) → cellsOf (vs before ws) ≡ cellsOf vs ++ cellsOf ws
@@ -28,26 +30,28 @@ unfolding cells
 cellsOf-before none ws = refl
 cellsOf-before (v ▸ vs) ws = ap (λ (l : List ℕ). cells v ++ l) (cellsOf-before vs ws) ∙ sym (append-assoc (cells v) (cellsOf vs) (cellsOf ws))
 
-encodable-before : (vs ws : Values) → Encodables vs → Encodables ws → Encodables (vs before ws)
-encodable-before none ws h k = k
-encodable-before (v ▸ vs) ws h k = (h .0, encodable-before vs ws (h .1) k)
+-- Values that the buffer can hold, with good scalars.
+abbrev Held : List ℕ → Value → Type 0
+Held gs v = Encodable v × T (scalarsGood gs v)
 
-encodable-split : (vs ws : Values) → Encodables (vs before ws) → Encodables vs × Encodables ws
-encodable-split none ws h = (tt, h)
-encodable-split (v ▸ vs) ws h = let p = encodable-split vs ws (h .1) in ((h .0, p .0), p .1)
+abbrev pub AllHeld : List ℕ → Values → Type 0
+AllHeld gs none = Unit {0}
+AllHeld gs (v ▸ vs) = Held gs v × AllHeld gs vs
 
-good-before : (gs : List ℕ) (vs ws : Values) → T (allGood gs vs) → T (allGood gs ws) → T (allGood gs (vs before ws))
-good-before gs none ws h k = k
-good-before gs (v ▸ vs) ws h k =
-    let a = scalarsGood gs v in
-    and-of a (allGood gs (vs before ws)) (and-left a (allGood gs vs) h) (good-before gs vs ws (and-right a (allGood gs vs) h) k)
+held-join : (gs : List ℕ) (vs ws : Values) → AllHeld gs (vs before ws) ↔ (AllHeld gs vs × AllHeld gs ws)
+held-join gs none ws = (λ h. (tt, h), λ h. h .1)
+held-join gs (v ▸ vs) ws =
+    let r = held-join gs vs ws in
+    (λ h. let p = r .0 (h .1) in ((h .0, p .0), p .1), λ h. (h .0 .0, r .1 (h .0 .1, h .1)))
 
-good-split : (gs : List ℕ) (vs ws : Values) → T (allGood gs (vs before ws)) → T (allGood gs vs) × T (allGood gs ws)
-good-split gs none ws h = (tt, h)
-good-split gs (v ▸ vs) ws h =
-    let a = scalarsGood gs v in
-    let p = good-split gs vs ws (and-right a (allGood gs (vs before ws)) h) in
-    (and-of a (allGood gs vs) (and-left a (allGood gs (vs before ws)) h) (p .0), p .1)
+held-all : (gs : List ℕ) (vs : Values) → AllHeld gs vs ↔ (Encodables vs × T (allGood gs vs))
+held-all gs none = (λ h. (tt, tt), λ h. tt)
+held-all gs (v ▸ vs) =
+    let r = held-all gs vs in
+    simp T-and (
+      λ h. let p = r .0 (h .1) in ((h .0 .0, p .0), (h .0 .1, p .1)),
+      λ h. ((h .0 .0, h .1 .0), r .1 (h .0 .1, h .1 .1)),
+    )
 
 -- The first n of a number of values.
 pub record Split (n : ℕ) (vs : Values) : Type 0 where
@@ -108,9 +112,6 @@ code-inner (set s) h = ap (λ (x : ℕ). x ∷ codes s) (sym (other-code 5 (coun
 first-parts : (v : Value) → Encodable v → (firstOf v / cellSize ≡ tag v) × (firstOf v % cellSize ≡ twos (payload v))
 first-parts v h = let w = payload-word v h in (omega arith, omega arith)
 
-parts-by : (x t l : ℕ) → x / cellSize ≡ t → x % cellSize ≡ l → partsOf x ≡ cond (eqb t 4) 2 (cond (eqb t 5) l 0)
-parts-by x t l e f = rw (e, f)
-
 parts-tag : (v : Value) → cond (eqb (tag v) 4) 2 (cond (eqb (tag v) 5) (twos (payload v)) 0) ≡ count (inner v)
 unfolding twos
 parts-tag (scalar (num whole i)) = refl
@@ -121,8 +122,7 @@ parts-tag (set s) = refl
 
 parts-inner : (v : Value) → Encodable v → partsOf (firstOf v) ≡ count (inner v)
 parts-inner v h =
-    let p = first-parts v h in
-    parts-by (firstOf v) (tag v) (twos (payload v)) (p .0) (p .1) ∙ parts-tag v
+    let p = first-parts v h in rw (p .0, p .1) (parts-tag v)
 
 bit-low : (b : Bool) → T (ltb (twos (pos (bit b))) 2)
 unfolding twos
@@ -144,18 +144,10 @@ good-first : (gs : List ℕ) (v : Value) → Encodable v → T (scalarsGood gs v
 unfolding cellGood
 good-first gs v h t = let p = first-parts v h in rw (p .0, p .1) (good-tag gs v h t)
 
-good-inner : (gs : List ℕ) (v : Value) → T (scalarsGood gs v) → T (allGood gs (inner v))
-good-inner gs (scalar s) t = tt
-good-inner gs (pair v w) t =
-    let a = scalarsGood gs v in
-    let b = scalarsGood gs w in
-    and-of a (b && true) (and-left a b t) (and-of b true (and-right a b t) tt)
-good-inner gs (set s) t = t
-
-encodable-inner : (v : Value) → Encodable v → Encodables (inner v)
-encodable-inner (scalar s) h = tt
-encodable-inner (pair v w) h = (h .0, (h .1, tt))
-encodable-inner (set s) h = h .1
+held-inner : (gs : List ℕ) (v : Value) → Held gs v → AllHeld gs (inner v)
+held-inner gs (scalar s) h = tt
+held-inner gs (pair v w) h = let p = T-and (scalarsGood gs v) (scalarsGood gs w) .0 (h .1) in ((h .0 .0, p .0), ((h .0 .1, p .1), tt))
+held-inner gs (set s) h = held-all gs s .1 (h .0 .1, h .1)
 
 -- p values, whose cells in the arena are cs, and then `rest`.
 pub record Ahead (gs bs : List ℕ) (p : ℕ) (cs rest : List ℕ) : Type 0 where
@@ -163,8 +155,7 @@ pub record Ahead (gs bs : List ℕ) (p : ℕ) (cs rest : List ℕ) : Type 0 wher
   pub counted : count values ≡ p
   pub bytes : bs ≡ cellsOf values ++ rest
   pub coded : codes values ≡ cs
-  pub encodable : Encodables values
-  pub good : T (allGood gs values)
+  pub held : AllHeld gs values
 
 -- The run begins with a cell, that is good, and behind it stand the values that are left.
 pub record Onward (gs bs : List ℕ) (p : ℕ) (cs rest : List ℕ) : Type 0 where
@@ -197,36 +188,32 @@ unfolding code
 spread-code v vs h = rw (code-inner v h, codes-before (inner v) vs)
 
 onward-from : (gs bs cs rest : List ℕ) (p : ℕ) (v : Value) (vs : Values) → suc (count vs) ≡ p → bs ≡ cellsOf (v ▸ vs) ++ rest → codes (v ▸ vs) ≡ cs →
-    Encodable v → Encodables vs → T (scalarsGood gs v) → T (allGood gs vs) → Onward gs bs p cs rest
-onward-from gs bs cs rest p v vs c b d e es g gg =
+    Held gs v → AllHeld gs vs → Onward gs bs p cs rest
+onward-from gs bs cs rest p v vs c b d h hs =
     let X = cellsOf (inner v before vs) ++ rest in
     let f : bs ≡ cell v ++ X = b ∙ spread v vs rest in
-    let w = payload-word v e in
-    let q = first-here v X w in
+    let q = first-here v X (payload-word v (h .0)) in
     let x : firstCell bs ≡ firstOf v = ap firstCell f ∙ q .1 in
     record {
       here = subst T (sym (ap cellFirst f ∙ q .0)) tt;
-      good = rw x (good-first gs v e g);
+      good = rw x (good-first gs v (h .0) (h .1));
       left = codes (inner v before vs);
-      coded = rw x (sym d ∙ spread-code v vs e);
+      coded = rw x (sym d ∙ spread-code v vs (h .0));
       next = record {
         values = inner v before vs;
-        counted = rw (x, parts-inner v e) (omega (arith, count-before (inner v) vs));
+        counted = rw (x, parts-inner v (h .0)) (omega (arith, count-before (inner v) vs));
         bytes = ap (drop 8) f ∙ first-drop v X;
         coded = refl;
-        encodable = encodable-before (inner v) vs (encodable-inner v e) es;
-        good = good-before gs (inner v) vs (good-inner gs v g) gg;
+        held = held-join gs (inner v) vs .1 (held-inner gs v h, hs);
       };
     }
 
 pub onward : (gs bs : List ℕ) (p : ℕ) (cs rest : List ℕ) → Ahead gs bs p cs rest → 0 < p → Onward gs bs p cs rest
-onward gs bs p cs rest h l = go (h .values) (h .counted) (h .bytes) (h .coded) (h .encodable) (h .good)
+onward gs bs p cs rest h l = go (h .values) (h .counted) (h .bytes) (h .coded) (h .held)
   where
-    go : (vs : Values) → count vs ≡ p → bs ≡ cellsOf vs ++ rest → codes vs ≡ cs → Encodables vs → T (allGood gs vs) → Onward gs bs p cs rest
-    go none c b d e g = absurd (omega arith)
-    go (v ▸ vs) c b d e g =
-        onward-from gs bs cs rest p v vs (omega arith) b d (e .0) (e .1)
-        (and-left (scalarsGood gs v) (allGood gs vs) g) (and-right (scalarsGood gs v) (allGood gs vs) g)
+    go : (vs : Values) → count vs ≡ p → bs ≡ cellsOf vs ++ rest → codes vs ≡ cs → AllHeld gs vs → Onward gs bs p cs rest
+    go none c b d e = absurd (omega arith)
+    go (v ▸ vs) c b d e = onward-from gs bs cs rest p v vs (omega arith) b d (e .0) (e .1)
 
 -- A value whose first cell has the tag t and the payload q, and the values behind it.
 record Built (gs : List ℕ) (t q p : ℕ) (vs : Values) : Type 0 where
@@ -235,88 +222,77 @@ record Built (gs : List ℕ) (t q p : ℕ) (vs : Values) : Type 0 where
   whole : vs ≡ inner first before others
   tagged : tag first ≡ t
   paid : twos (payload first) ≡ q
-  encodable : Encodable first × Encodables others
-  good : T (scalarsGood gs first) × T (allGood gs others)
+  held : Held gs first × AllHeld gs others
   counted : count others ≡ p
 
 abbrev partsBy : ℕ → ℕ → ℕ
 partsBy t q = cond (eqb t 4) 2 (cond (eqb t 5) q 0)
 
 module _ (gs : List ℕ) (q p : ℕ) (w : Word q) where
-  build-pair : (vs : Values) → count vs ≡ p + 2 → q ≡ 0 → Encodables vs → T (allGood gs vs) → Built gs 4 q p vs
+  build-pair : (vs : Values) → count vs ≡ p + 2 → q ≡ 0 → AllHeld gs vs → Built gs 4 q p vs
   unfolding twos
-  build-pair none c z e g = absurd (omega arith)
-  build-pair (a ▸ none) c z e g = absurd (omega arith)
-  build-pair (a ▸ b ▸ vs) c z e g =
-      let x = scalarsGood gs a in
-      let y = scalarsGood gs b in
-      let r = and-right x (y && allGood gs vs) g in
-      record {
-        first = pair a b;
-        others = vs;
-        whole = refl;
-        tagged = refl;
-        paid = sym z;
-        encodable = ((e .0, e .1 .0), e .1 .1);
-        good = (and-of x y (and-left x (y && allGood gs vs) g) (and-left y (allGood gs vs) r), and-right y (allGood gs vs) r);
-        counted = omega arith;
-      }
+  build-pair none c z h = absurd (omega arith)
+  build-pair (a ▸ none) c z h = absurd (omega arith)
+  build-pair (a ▸ b ▸ vs) c z h = record {
+    first = pair a b;
+    others = vs;
+    whole = refl;
+    tagged = refl;
+    paid = sym z;
+    held = (((h .0 .0, h .1 .0 .0), and-of (scalarsGood gs a) (scalarsGood gs b) (h .0 .1) (h .1 .0 .1)), h .1 .1);
+    counted = omega arith;
+  }
 
-  build-set : (vs : Values) → count vs ≡ p + q → Encodables vs → T (allGood gs vs) → Built gs 5 q p vs
+  build-set : (vs : Values) → count vs ≡ p + q → AllHeld gs vs → Built gs 5 q p vs
   unfolding twos
-  build-set vs c e g =
+  build-set vs c h =
       let s = split q vs (omega arith) in
-      let e′ = encodable-split (s .front) (s .back) (subst Encodables (s .whole) e) in
-      let g′ = good-split gs (s .front) (s .back) (subst (λ (ws : Values). T (allGood gs ws)) (s .whole) g) in
+      let k = held-join gs (s .front) (s .back) .0 (subst (AllHeld gs) (s .whole) h) in
+      let e = held-all gs (s .front) .0 (k .0) in
       record {
         first = set (s .front);
         others = s .back;
         whole = s .whole;
         tagged = refl;
         paid = s .counted;
-        encodable = ((omega (arith, s .counted), e′ .0), e′ .1);
-        good = (g′ .0, g′ .1);
+        held = (((omega (arith, s .counted), e .0), e .1), k .1);
         counted = omega (arith, s .counted, ap count (s .whole), count-before (s .front) (s .back));
       }
 
   build-scalar : (x : Scalar) (t : ℕ) (vs : Values) → scalarTag x ≡ t → twos (scalarPayload x) ≡ q → EncodableScalar x → T (scalarGood gs x) →
-      count vs ≡ p + 0 → Encodables vs → T (allGood gs vs) → Built gs t q p vs
-  build-scalar x t vs a b h k c e g = record {
+      count vs ≡ p + 0 → AllHeld gs vs → Built gs t q p vs
+  build-scalar x t vs a b e k c h = record {
     first = scalar x;
     others = vs;
     whole = refl;
     tagged = a;
     paid = b;
-    encodable = (h, e);
-    good = (k, g);
+    held = ((e, k), h);
     counted = omega arith;
   }
 
-  build : (t : ℕ) (vs : Values) → T (tagGood gs t q) → count vs ≡ p + partsBy t q → Encodables vs → T (allGood gs vs) → Built gs t q p vs
+  build : (t : ℕ) (vs : Values) → T (tagGood gs t q) → count vs ≡ p + partsBy t q → AllHeld gs vs → Built gs t q p vs
   unfolding twos
-  build zero vs k c e g = absurd k
-  build (suc zero) vs k c e g = build-scalar (num whole (signed q)) 1 vs refl (twos-signed q w) (signed-range q w) (signed-range q w) c e g
-  build (suc (suc zero)) vs k c e g = build-scalar (truth (eqb q 1)) 2 vs refl (bit-eqb q (ltb→lt q 2 k)) tt tt c e g
-  build (suc (suc (suc zero))) vs k c e g =
-      build-scalar (element (q / 256) (q % 256)) 3 vs refl (omega arith) (omega arith, omega arith) k c e g
-  build (suc (suc (suc (suc zero)))) vs k c e g = build-pair vs c (eqb→eq q 0 k) e g
-  build (suc (suc (suc (suc (suc zero))))) vs k c e g = build-set vs c e g
-  build (suc (suc (suc (suc (suc (suc n)))))) vs k c e g = absurd k
+  build zero vs k c h = absurd k
+  build (suc zero) vs k c h = build-scalar (num whole (signed q)) 1 vs refl (twos-signed q w) (signed-range q w) (signed-range q w) c h
+  build (suc (suc zero)) vs k c h = build-scalar (truth (eqb q 1)) 2 vs refl (bit-eqb q (ltb→lt q 2 k)) tt tt c h
+  build (suc (suc (suc zero))) vs k c h = build-scalar (element (q / 256) (q % 256)) 3 vs refl (omega arith) (omega arith, omega arith) k c h
+  build (suc (suc (suc (suc zero)))) vs k c h = build-pair vs c (eqb→eq q 0 k) h
+  build (suc (suc (suc (suc (suc zero))))) vs k c h = build-set vs c h
+  build (suc (suc (suc (suc (suc (suc n)))))) vs k c h = absurd k
 
 -- The eight bytes of a cell are the first cell of a value with its tag and payload.
 cell-bytes : (bs : List ℕ) (v : Value) → Bytes bs → T (cellFirst bs) → tag v ≡ getD bs 4 0 → twos (payload v) ≡ wordAt bs 0 → bs ≡ cell v ++ drop 8 bs
 unfolding cell
 cell-bytes bs v b k t w =
-    let c₁ = leb 8 (length bs) in
-    let c₂ = eqb (getD bs 5 0 + getD bs 6 0 + getD bs 7 0) 0 in
-    let l : 8 ≤ length bs = leb→le 8 (length bs) (and-left c₁ c₂ k) in
-    let z = eqb→eq (getD bs 5 0 + getD bs 6 0 + getD bs 7 0) 0 (and-right c₁ c₂ k) in
+    let c = first-right bs .0 k in
+    let z = c .1 in
     let z₅ : getD bs 5 0 ≡ 0 = omega arith in
     let z₆ : getD bs 6 0 ≡ 0 = omega arith in
     let z₇ : getD bs 7 0 ≡ 0 = omega arith in
     let q = bytes-word (getD bs 0 0) (getD bs 1 0) (getD bs 2 0) (getD bs 3 0)
     (byte-at bs 0 b) (byte-at bs 1 b) (byte-at bs 2 b) (byte-at bs 3 b) in
-    eight bs l ∙ cell-parts (bytes4 (twos (payload v))) _ _ _ _ _ _ _ _ _ _ (rw w q) t z₅ z₆ z₇
+    eight bs (c .0) ∙ cell-parts (bytes4 (twos (payload v))) _ _ _ _ _ _ _ _ _ _ (rw w q) t z₅ z₆ z₇
 
 module _ (gs bs : List ℕ) (p : ℕ) (cs rest : List ℕ) (b : Bytes bs) (k : T (cellFirst bs)) (l : 0 < p) where
   back-from : (vs : Values) → drop 8 bs ≡ cellsOf vs ++ rest → codes vs ≡ cs → Built gs (getD bs 4 0) (wordAt bs 0) (p - 1) vs →
@@ -330,10 +306,9 @@ module _ (gs bs : List ℕ) (p : ℕ) (cs rest : List ℕ) (b : Bytes bs) (k : T
         values = v ▸ r .others;
         counted = omega (arith, r .counted);
         bytes = m ∙ ap (λ (l : List ℕ). cell v ++ l) n ∙ sym (spread v (r .others) rest);
-        coded = spread-code v (r .others) (r .encodable .0) ∙ ap (λ (y : ℕ). codeOf y ∷ codes (inner v before r .others)) f ∙
+        coded = spread-code v (r .others) (r .held .0 .0) ∙ ap (λ (y : ℕ). codeOf y ∷ codes (inner v before r .others)) f ∙
             ap (λ (l : List ℕ). codeOf (firstCell bs) ∷ l) (sym (ap codes (r .whole)) ∙ d);
-        encodable = r .encodable;
-        good = and-of (scalarsGood gs v) (allGood gs (r .others)) (r .good .0) (r .good .1);
+        held = r .held;
       }
 
   -- One cell back.
@@ -345,46 +320,20 @@ module _ (gs bs : List ℕ) (p : ℕ) (cs rest : List ℕ) (b : Bytes bs) (k : T
       let t : firstCell bs / cellSize ≡ getD bs 4 0 = omega arith in
       let q : firstCell bs % cellSize ≡ wordAt bs 0 = omega arith in
       let g′ : T (tagGood gs (getD bs 4 0) (wordAt bs 0)) = rw (t, q) at g in
-      let c : count (h .values) ≡ (p - 1) + partsBy (getD bs 4 0) (wordAt bs 0)
-      = h .counted ∙ ap (λ (n : ℕ). p - 1 + n) (parts-by (firstCell bs) (getD bs 4 0) (wordAt bs 0) t q) in
-      back-from (h .values) (h .bytes) (h .coded) (build gs (wordAt bs 0) (p - 1) wd (getD bs 4 0) (h .values) g′ c (h .encodable) (h .good))
+      let c : count (h .values) ≡ (p - 1) + partsBy (getD bs 4 0) (wordAt bs 0) = h .counted ∙ rw (t, q) in
+      back-from (h .values) (h .bytes) (h .coded) (build gs (wordAt bs 0) (p - 1) wd (getD bs 4 0) (h .values) g′ c (h .held))
 
--- A value that is read is ahead, and one that is ahead is read.
-pub ahead-read : (gs bs : List ℕ) (v : Value) (rest : List ℕ) → Bytes bs → value bs ≡ some (v, rest) → T (scalarsGood gs v) → Ahead gs bs 1 (code v) rest
+-- A good value that is read is ahead.
+pub ahead-read : (gs bs : List ℕ) (v : Value) (rest : List ℕ) → Sizes gs → Bytes bs → value bs ≡ some (v, rest) → T (good gs v) →
+    Ahead gs bs 1 (code v) rest
 unfolding cells code
-ahead-read gs bs v rest b e g = record {
+ahead-read gs bs v rest z b e g = record {
   values = v ▸ none;
   counted = refl;
   bytes = cells-value bs v rest b e ∙ ap (λ (l : List ℕ). l ++ rest) (sym (append-nil (cells v)));
   coded = append-nil (code v);
-  encodable = (value-can bs v rest b e, tt);
-  good = and-of (scalarsGood gs v) true g tt;
+  held = ((encodable-wellFormed gs z v (omega (arith, good-weight gs v g)) (good-wellFormed gs v g), good-scalars gs v g), tt);
 }
-
-pub record OneRead (gs bs cs rest : List ℕ) : Type 0 where
-  pub first : Value
-  pub reads : value bs ≡ some (first, rest)
-  pub coded : code first ≡ cs
-  pub good : T (scalarsGood gs first)
-  pub fits : CellsFit first
-
-pub read-ahead : (gs bs cs rest : List ℕ) → length cs ≤ 256 → Ahead gs bs 1 cs rest → OneRead gs bs cs rest
-unfolding cells code
-read-ahead gs bs cs rest l h = go (h .values) (h .counted) (h .bytes) (h .coded) (h .encodable) (h .good)
-  where
-    go : (vs : Values) → count vs ≡ 1 → bs ≡ cellsOf vs ++ rest → codes vs ≡ cs → Encodables vs → T (allGood gs vs) → OneRead gs bs cs rest
-    go none c b d e g = absurd (omega arith)
-    go (v ▸ w ▸ vs) c b d e g = absurd (omega arith)
-    go (v ▸ none) c b d e g =
-        let d′ : code v ≡ cs = sym (append-nil (code v)) ∙ d in
-        let w : weight v ≤ 256 = omega (arith, length-code v, ap length d′) in
-        record {
-          first = v;
-          reads = ap value (b ∙ ap (λ (l : List ℕ). l ++ rest) (append-nil (cells v))) ∙ value-encodable v rest w (e .0);
-          coded = d′;
-          good = and-left (scalarsGood gs v) true g;
-          fits = encodable-fits v (e .0);
-        }
 
 -- Each value that is ahead takes a cell.
 pub ahead-long : (gs bs : List ℕ) (p : ℕ) (cs rest : List ℕ) → Ahead gs bs p cs rest → p ≤ length cs

@@ -1,27 +1,23 @@
 -- A cell at a place of the buffer, and its form in the arena.
 use Prim.Native.Nat.{ℕ, _+_, _*_, _-_, _/_, _%_, _≤_, _<_}
-use mathlib.Core.Bool.{Bool, true, false, _&&_}
+use mathlib.Core.Bool.{Bool, true, false}
+use mathlib.Core.Logic.{_↔_, Iff·rfl}
 use mathlib.Core.List.{List}
 use mathlib.Core.Path.{_≡_, refl, sym, ap, _∙_}
 use native.Mathlib.Omega.{arith}
 use native.Mathlib.Nat.{add-zero}
-use lib.Dec.{leb}
+use lib.Dec.{T}
 use lib.ListN.{length, getD, drop, length-drop}
 use lib.Seq.{getD-drop}
-use borrow.Author.Tests.{le-leb, lt-leb, eq-eqb, ne-eqb}
+use borrow.Author.Tests.{eq-eqb, ne-eqb}
 use Rattle.rules.specs.Tables.{wordAt}
-use Rattle.buffer.specs.declared.Step.{Step}
-use Rattle.buffer.specs.declared.Step.the-variants.{Cell, End}
-use Rattle.buffer.specs.Buffer.{pickStep, stepAt, codeOf}
+use Rattle.buffer.specs.declared.Step.the-variants.{End}
+use Rattle.laws.proofs.EndLaws.{T-true, T-false, T-and, T-leb, T-eqb}
+use Rattle.buffer.specs.Buffer.{cellFirst, firstCell, codeOf, cellGood, GoodCell, StepTakes}
 
 -- a byte further on
 ahead : (bs : List ℕ) (i k : ℕ) → getD bs (i + k) 0 ≡ getD bs (k + i) 0
 ahead bs i k = ap (λ (j : ℕ). getD bs j 0) (let e : i + k ≡ k + i = omega arith in e)
-
-pub word-is : (bs : List ℕ) (at a b c d : ℕ) → (a ≡ getD bs at 0) × (a < 256) → (b ≡ getD bs (at + 1) 0) × (b < 256) →
-    (c ≡ getD bs (at + 2) 0) × (c < 256) → (d ≡ getD bs (at + 3) 0) × (d < 256) →
-    (a + 256 * b + 65536 * c + 16777216 * d ≡ wordAt bs at) × (a + 256 * b + 65536 * c + 16777216 * d < 4294967296)
-word-is bs at a b c d p q r s = (omega (arith, ahead bs at 1, ahead bs at 2, ahead bs at 3), omega arith)
 
 pub word-drop : (bs : List ℕ) (at : ℕ) → wordAt (drop at bs) 0 ≡ wordAt bs at
 word-drop bs at =
@@ -37,9 +33,15 @@ word-drop bs at =
       ahead bs at 3,
     )
 
-pub step-short : (bs : List ℕ) (at : ℕ) → length bs < at + 8 → End ≡ stepAt bs at
-unfolding stepAt
-step-short bs at h = rw (lt-leb 8 (length (drop at bs)) (omega (arith, length-drop at bs)))
+-- A cell: there are eight bytes, and the last three are zero.
+pub first-right : (ds : List ℕ) → T (cellFirst ds) ↔ ((8 ≤ length ds) × (getD ds 5 0 + getD ds 6 0 + getD ds 7 0 ≡ 0))
+first-right ds = simp (T-and, T-leb, T-eqb) Iff·rfl
+
+pub cell-held : (bs : List ℕ) (at : ℕ) → T (cellFirst (drop at bs)) → 8 ≤ length bs - at
+cell-held bs at h = omega (arith, first-right (drop at bs) .0 h .0, length-drop at bs)
+
+pub cell-short : (gs bs : List ℕ) (at : ℕ) → length bs < at + 8 → StepTakes gs bs at End
+cell-short gs bs at l h k = omega (arith, cell-held bs at h)
 
 -- The second word of the eight bytes: the tag, and the three bytes that are to be zero.
 high-word : (bs : List ℕ) (at : ℕ) →
@@ -50,27 +52,23 @@ high-word bs at =
     let g : 3 + (at + 4) ≡ at + 7 = omega arith in
     rw (getD-drop at bs 4 0, getD-drop at bs 5 0, getD-drop at bs 6 0, getD-drop at bs 7 0, ← e, ← f, ← g) (omega arith)
 
-pick-and : (a b : Bool) (s : Step) → b ≡ false → End ≡ pickStep (a && b) s
-pick-and true b s e = rw e
-pick-and false b s e = refl
+-- The cell of two words, good or not; and one that is none.
+module _ (gs bs : List ℕ) (at p q : ℕ) (low : p ≡ wordAt bs at) (high : q ≡ wordAt bs (at + 4)) where
+  pub cell-marked : getD bs (at + 4) 0 < 256 → 256 ≤ q → StepTakes gs bs at End
+  cell-marked l h k g = omega (arith, first-right (drop at bs) .0 k .1, high-word bs at, getD-drop at bs 4 0)
 
-module _ (bs : List ℕ) (at p q : ℕ) (low : p ≡ wordAt bs at) (high : q ≡ wordAt bs (at + 4)) where
-  pub step-marked : getD bs (at + 4) 0 < 256 → 256 ≤ q → End ≡ stepAt bs at
-  unfolding stepAt
-  step-marked l h =
-      pick-and (leb 8 (length (drop at bs))) _ _
-      (ne-eqb (getD (drop at bs) 5 0 + getD (drop at bs) 6 0 + getD (drop at bs) 7 0) 0
-      (λ e. omega (arith, high-word bs at, getD-drop at bs 4 0)))
+  cell-number : T (cellFirst (drop at bs)) → p + 4294967296 * q ≡ firstCell (drop at bs)
+  cell-number h = omega (arith, first-right (drop at bs) .0 h .1, high-word bs at, word-drop bs at)
 
-  pub step-cell : at + 8 ≤ length bs → q < 256 → Cell (p + 4294967296 * q) (record { at = at + 8 }) ≡ stepAt bs at
-  unfolding stepAt
-  step-cell h z =
+  pub cell-bad : {r : Bool} → r ≡ cellGood gs (p + 4294967296 * q) → r ≡ false → StepTakes gs bs at End
+  cell-bad e f h k = T-false (cellGood gs (p + 4294967296 * q)) .1 (sym e ∙ f) (rw (cell-number h) k)
+
+  pub cell-good : {r : Bool} → at + 8 ≤ length bs → q < 256 → r ≡ cellGood gs (p + 4294967296 * q) → r ≡ true →
+      GoodCell gs bs at (p + 4294967296 * q) (at + 8)
+  cell-good l z e f =
       let w = high-word bs at in
-      rw (
-        le-leb 8 (length (drop at bs)) (omega (arith, length-drop at bs)),
-        eq-eqb (getD (drop at bs) 5 0 + getD (drop at bs) 6 0 + getD (drop at bs) 7 0) 0 (omega arith),
-      )
-      (ap (λ (x : ℕ). Cell x (record { at = at + 8 })) (omega (arith, word-drop bs at)))
+      let h = first-right (drop at bs) .1 (omega (arith, length-drop at bs), omega arith) in
+      record { here = h; number = cell-number h; good = T-true (cellGood gs (p + 4294967296 * q)) .1 (sym e ∙ f); behind = refl }
 
 pub code-number : (x t l : ℕ) → t ≡ x / 4294967296 → t ≡ 1 → l ≡ x % 4294967296 → 4294967296 + (l + 2147483648) % 4294967296 ≡ codeOf x
 unfolding codeOf

@@ -7,75 +7,24 @@ use mathlib.Core.Path.{_≡_, refl, sym, ap, subst, _∙_}
 use native.Mathlib.Omega.{arith}
 use native.Mathlib.Numerals.{add-one}
 use native.Mathlib.Decide.{ℕ-discrete, decLt}
-use lib.Dec.{T, leb, le→leb}
+use lib.Dec.{T}
 use lib.ListN.{length, getD, drop, set as setAt, length-append, length-set, drop-of-length-le, List·getD-append, List·getD-eq-default}
 use lib.Seq.{drop-cons, getD-set-same, getD-set-other, getD-append-add}
-use Rattle.rules.specs.Values.{Value, scalar, pair, set, Values, none, _▸_, weight}
+use Rattle.rules.specs.Values.{Value}
 use Rattle.rules.specs.Ends.{End, done, refused, _>>=_, require}
 use Rattle.rules.specs.Fits.{typed}
-use Rattle.rules.specs.Cells.{value, good, wellFormed, risingAll, precedes, weightLimit, noValue, orFault, valueFor, nothingLeft, valuesFrom}
-use Rattle.laws.proofs.OrderLaws.{and-left, and-right}
-use Rattle.laws.proofs.CellsLaws.{good-wellFormed, good-weight, good-typed}
+use Rattle.rules.specs.Cells.{value, good, noValue, orFault, valueFor, nothingLeft, valuesFrom}
+use Rattle.laws.proofs.CellsLaws.{good-typed}
 use Rattle.arena.specs.Code.{excess, code, EndsAt, Same, ValueBelow}
 use Rattle.arena.proofs.CodeLaws.{length-code}
-use Rattle.arena.proofs.Standing.{same-refl, stands-frame}
+use Rattle.arena.proofs.Standing.{same-refl, same-trans, stands-frame}
 use Rattle.arena.proofs.ValueParts.{ends-at}
-use Rattle.buffer.specs.Buffer.{scalarsGood, allGood, cellsAtMost, ReadAt, Unread}
-use Rattle.buffer.specs.Ordered.{inOrder, ordered, orderedAll, WholeValue}
+use Rattle.buffer.specs.Buffer.{cellsAtMost, ReadAt, Unread}
+use Rattle.buffer.specs.Ordered.{ordered, WholeValue}
 use Rattle.buffer.specs.Shared.{Fine}
-use Rattle.buffer.specs.Loaded.{GoodRead, Entered, Room, Bound}
+use Rattle.buffer.specs.Loaded.{Entered, Bound}
 use Rattle.rules.proofs.Basics.{and-of}
-
--- A value is well formed where its scalars are good and its sets ordered.
-mutual
-  well-of : (gs : List ℕ) (v : Value) → T (scalarsGood gs v) → T (ordered v) → T (wellFormed gs v)
-  well-of gs (scalar s) h k = h
-  well-of gs (pair v w) h k =
-      let a = scalarsGood gs v in
-      let b = scalarsGood gs w in
-      and-of (wellFormed gs v) (wellFormed gs w)
-      (well-of gs v (and-left a b h) (and-left (ordered v) (ordered w) k))
-      (well-of gs w (and-right a b h) (and-right (ordered v) (ordered w) k))
-  well-of gs (set s) h k = rising-of gs s h (and-left (inOrder s) (orderedAll s) k) (and-right (inOrder s) (orderedAll s) k)
-
-  rising-of : (gs : List ℕ) (vs : Values) → T (allGood gs vs) → T (inOrder vs) → T (orderedAll vs) → T (risingAll gs vs)
-  rising-of gs none h k l = tt
-  rising-of gs (v ▸ vs) h k l =
-      let a = scalarsGood gs v in
-      let b = allGood gs vs in
-      let p = precedes v vs in
-      let o = inOrder vs in
-      and-of (wellFormed gs v && p) (risingAll gs vs)
-      (and-of (wellFormed gs v) p (well-of gs v (and-left a b h) (and-left (ordered v) (orderedAll vs) l)) (and-left p o k))
-      (rising-of gs vs (and-right a b h) (and-right p o k) (and-right (ordered v) (orderedAll vs) l))
-
-mutual
-  of-well : (gs : List ℕ) (v : Value) → T (wellFormed gs v) → T (scalarsGood gs v) × T (ordered v)
-  of-well gs (scalar s) h = (h, tt)
-  of-well gs (pair v w) h =
-      let x = of-well gs v (and-left (wellFormed gs v) (wellFormed gs w) h) in
-      let y = of-well gs w (and-right (wellFormed gs v) (wellFormed gs w) h) in
-      (and-of (scalarsGood gs v) (scalarsGood gs w) (x .0) (y .0), and-of (ordered v) (ordered w) (x .1) (y .1))
-  of-well gs (set s) h = let x = of-rising gs s h in (x .0, and-of (inOrder s) (orderedAll s) (x .1) (x .2))
-
-  of-rising : (gs : List ℕ) (vs : Values) → T (risingAll gs vs) → T (allGood gs vs) × T (inOrder vs) × T (orderedAll vs)
-  of-rising gs none h = (tt, tt, tt)
-  of-rising gs (v ▸ vs) h =
-      let p = precedes v vs in
-      let q = and-left (wellFormed gs v && p) (risingAll gs vs) h in
-      let x = of-well gs v (and-left (wellFormed gs v) p q) in
-      let y = of-rising gs vs (and-right (wellFormed gs v && p) (risingAll gs vs) h) in (
-        and-of (scalarsGood gs v) (allGood gs vs) (x .0) (y .0),
-        and-of p (inOrder vs) (and-right (wellFormed gs v) p q) (y .1),
-        and-of (ordered v) (orderedAll vs) (x .1) (y .2),
-      )
-
-good-of : (gs : List ℕ) (v : Value) → T (scalarsGood gs v) → T (ordered v) → weight v ≤ 256 → T (typed v) → T (good gs v)
-unfolding good
-good-of gs v h k w t =
-    let a = wellFormed gs v in
-    let b = leb (weight v) weightLimit in
-    and-of (a && b) (typed v) (and-of a b (well-of gs v h k) (le→leb (weight v) 256 w)) t
+use Rattle.buffer.proofs.Goodness.{good-ordered, good-of}
 
 -- One value.
 module _ {gs bs : List ℕ} {at : ℕ} {s : List ℕ} {top next end : ℕ} (h : ReadAt gs bs at s top next end) where
@@ -91,29 +40,10 @@ module _ {gs bs : List ℕ} {at : ℕ} {s : List ℕ} {top next end : ℕ} (h : 
       let q : _≡_ {A = Value × List ℕ} (v, rest) (h .first, drop next bs) = cc in
       ap (λ (z : Value × List ℕ). z .0) q
 
-  pub read-bad : Fine s top false → (v : Value) (rest : List ℕ) → value (drop at bs) ≡ some (v, rest) → T (good gs v) → ⊥
+  pub read-bad : Fine s top false → Unread gs bs at
   read-bad o v rest e g =
-      let f = same-read v rest e in
-      let a : T (ordered (h .first)) = subst (λ (w : Value). T (ordered w)) f (of-well gs v (good-wellFormed gs v g) .1) in
-      let b : T (typed (h .first)) = subst (λ (w : Value). T (typed w)) f (good-typed gs v g) in
-      subst T (sym (o (h .first) (h .stands) (h .fits))) (and-of (ordered (h .first)) (typed (h .first)) a b)
-
-  pub read-good : Fine s top true → GoodRead gs bs at s top next end
-  read-good o =
-      let t = subst T (o (h .first) (h .stands) (h .fits)) tt in
-      record {
-        first = h .first;
-        reads = h .reads;
-        good = good-of gs (h .first) (h .good) (and-left (ordered (h .first)) (typed (h .first)) t) (h .light)
-            (and-right (ordered (h .first)) (typed (h .first)) t);
-        below = record { stands = h .stands; below = omega (arith, h .ends); fits = h .fits; light = h .light };
-        grows = omega (arith, h .ends);
-        near = omega (arith, h .ends, h .light, h .held);
-        spent = omega (arith, h .ends, h .spent);
-      }
-
-pub unread-bad : (gs bs : List ℕ) (at : ℕ) → Unread gs bs at → (v : Value) (rest : List ℕ) → value (drop at bs) ≡ some (v, rest) → T (good gs v) → ⊥
-unread-bad gs bs at u v rest e g = u v rest e (good-weight gs v g) (of-well gs v (good-wellFormed gs v g) .0)
+      let f = subst (λ (w : Value). T (ordered w && typed w)) (same-read v rest e) (and-of (ordered v) (typed v) (good-ordered gs v g) (good-typed gs v g)) in
+      subst T (sym (o (h .first) (h .stands) (h .fits))) f
 
 -- The value of one identifier.
 for-bound : (gs : List ℕ) (w x : ℕ) (bs : List ℕ) → (w ≡ 0 → ⊥) → valueFor gs w x bs ≡ done (noValue, bs)
@@ -140,30 +70,32 @@ for-bad gs w x bs z u = rw z (go (value bs) refl)
     go nothing e = refl
     go (some p) e = fails (good gs (p .0)) p (u (p .0) (p .1) e)
 
-module _ (gs : List ℕ) (w : ℕ) (bs : List ℕ) (at : ℕ) (s : List ℕ) (nowhere top : ℕ) where
-  pub entry-bound : (w ≡ 0 → ⊥) → Entered gs w bs at s s nowhere top nowhere at top
-  entry-bound n = record {
-    first = noValue;
-    reads = λ x. for-bound gs w x (drop at bs) n;
-    below = λ b. b;
-    grows = omega arith;
-    near = omega arith;
-    spent = omega arith;
-  }
+pub entry-bound : (gs : List ℕ) (w : ℕ) (bs : List ℕ) (at : ℕ) (s : List ℕ) (nowhere top : ℕ) → (w ≡ 0 → ⊥) →
+    Entered gs w bs at s s nowhere top nowhere at top
+entry-bound gs w bs at s nowhere top n = record {
+  first = noValue;
+  reads = λ x. for-bound gs w x (drop at bs) n;
+  below = λ b. b;
+  grows = omega arith;
+  near = omega arith;
+  spent = omega arith;
+}
 
-  pub entry-free : (s′ : List ℕ) (next end : ℕ) → w ≡ 0 → GoodRead gs bs at s′ top next end → Entered gs w bs at s s′ nowhere top top next end
-  entry-free s′ next end z h = record {
-    first = h .first;
-    reads = λ x. for-good gs w x (drop at bs) (h .first) (drop next bs) z (h .reads) (h .good);
-    below = λ b. h .below;
-    grows = h .grows;
-    near = h .near;
-    spent = h .spent;
-  }
+pub entry-free : {gs bs : List ℕ} {at : ℕ} {s′ : List ℕ} {top next end : ℕ} (w : ℕ) (s : List ℕ) (nowhere : ℕ) → w ≡ 0 →
+    ReadAt gs bs at s′ top next end → Fine s′ top true → Entered gs w bs at s s′ nowhere top top next end
+entry-free {gs} {bs} {at} {s′} {top} {next} {end} w s nowhere z h o =
+    let g = good-of gs (h .first) (h .good) (subst T (o (h .first) (h .stands) (h .fits)) tt) (h .light) in
+    record {
+      first = h .first;
+      reads = λ x. for-good gs w x (drop at bs) (h .first) (drop next bs) z (h .reads) g;
+      below = λ b. record { stands = h .stands; below = omega (arith, h .ends); fits = h .fits; light = h .light };
+      grows = omega (arith, h .ends);
+      near = omega (arith, h .ends, h .light, h .held);
+      spent = omega (arith, h .ends, h .spent);
+    }
 
-pub entry-bad : (gs : List ℕ) (w : ℕ) (bs : List ℕ) (at : ℕ) → w ≡ 0 → ((v : Value) (rest : List ℕ) → value (drop at bs) ≡ some (v, rest) → T (good gs v) → ⊥) →
-    (x : ℕ) → valueFor gs w x (drop at bs) ≡ refused 14 x
-entry-bad gs w bs at z u x = for-bad gs w x (drop at bs) z u
+pub entry-bad : (gs : List ℕ) (w x : ℕ) (bs : List ℕ) (at : ℕ) → w ≡ 0 → Unread gs bs at → valueFor gs w x (drop at bs) ≡ refused 14 x
+entry-bad gs w x bs at z u = for-bad gs w x (drop at bs) z u
 
 -- A value below `top` stays where nothing below changes.
 pub below-same : (s s′ : List ℕ) (top end at : ℕ) (v : Value) → Same top s s′ → top ≤ end → ValueBelow s top at v → ValueBelow s′ end at v
@@ -208,10 +140,10 @@ bind-done : {A : Type 0} (e : End (List A)) → e ≡ (e >>= λ vs. done ([] ++ 
 bind-done (done vs) = refl
 bind-done (refused r p) = refl
 
-pub loading-start : (gs ws bs s : List ℕ) (top : ℕ) (env : List ℕ) → Room ws bs s top → length env ≡ 32 → ((x : ℕ) → x < 32 → getD env x 0 ≡ top) →
+pub loading-start : (gs ws bs s : List ℕ) (top : ℕ) (env : List ℕ) → top < length s → length env ≡ 32 → ((x : ℕ) → x < 32 → getD env x 0 ≡ top) →
     Loading gs ws bs 0 0 (setAt s top 6442450944) (setAt s top 6442450944) top (top + 1) env
 loading-start gs ws bs s top env r w u =
-    let n = noValue-cell s top (omega (arith, r .space)) in
+    let n = noValue-cell s top r in
     record {
       front = [];
       counted = refl;
@@ -233,9 +165,9 @@ bind-front (refused r p) front v = refl
 
 -- one identifier more
 from-next : (gs ws bs rest : List ℕ) (w x : ℕ) (v : Value) → valueFor gs w x bs ≡ done (v, rest) →
-    valuesFrom gs (w ∷ ws) x bs ≡ (valuesFrom gs ws (suc x) rest >>= λ vs. done (v ∷ vs))
+    valuesFrom gs (w ∷ ws) x bs ≡ (valuesFrom gs ws (x + 1) rest >>= λ vs. done (v ∷ vs))
 unfolding valuesFrom
-from-next gs ws bs rest w x v e = rw e
+from-next gs ws bs rest w x v e = rw (e, add-one x)
 
 from-refused : (gs ws bs : List ℕ) (w x : ℕ) → valueFor gs w x bs ≡ refused 14 x → valuesFrom gs (w ∷ ws) x bs ≡ refused 14 x
 unfolding valuesFrom
@@ -255,21 +187,21 @@ getD-last front v y e =
     ap (λ (j : ℕ). getD (front ++ (v ∷ [])) j noValue) f ∙ getD-append-add front (v ∷ []) 0 noValue
 
 module _ {gs ws bs : List ℕ} {x at : ℕ} {s₀ s : List ℕ} {top end : ℕ} {env : List ℕ} (h : Loading gs ws bs x at s₀ s top end env) where
-  pub loading-step : (w : ℕ) (s′ : List ℕ) (place next e : ℕ) → x < length ws → length ws ≤ 32 → w ≡ getD ws x 0 → Same end s s′ →
-      Entered gs w bs at s s′ top end place next e → Loading gs ws bs (x + 1) next s₀ s′ top e (setAt env x place)
-  loading-step w s′ place next e l few q f g =
-      let d : drop x ws ≡ w ∷ drop (x + 1) ws = drop-cons ws x 0 l ∙ rw (q, add-one x) in
+  words-next : x < length ws → drop x ws ≡ getD ws x 0 ∷ drop (x + 1) ws
+  words-next l = drop-cons ws x 0 l ∙ rw (add-one x)
+
+  pub loading-step : (s′ : List ℕ) (place next e : ℕ) → x < length ws → x < 32 → Same end s s′ →
+      Entered gs (getD ws x 0) bs at s s′ top end place next e → Loading gs ws bs (x + 1) next s₀ s′ top e (setAt env x place)
+  loading-step s′ place next e l few f g =
       let v = g .first in
       record {
         front = h .front ++ (v ∷ []);
         counted = omega (arith, length-append (h .front) (v ∷ []), h .counted);
-        whole = h .whole ∙ ap (λ (us : List ℕ). valuesFrom gs us x (drop at bs) >>= λ vs. done (h .front ++ vs)) d ∙
-            ap (λ (r : End (List Value)). r >>= λ vs. done (h .front ++ vs)) (from-next gs (drop (x + 1) ws) (drop at bs) (drop next bs) w x v (g .reads x)) ∙
-            bind-front (valuesFrom gs (drop (x + 1) ws) (suc x) (drop next bs)) (h .front) v ∙
-            ap (λ (y : ℕ). valuesFrom gs (drop (x + 1) ws) y (drop next bs) >>= λ vs. done ((h .front ++ (v ∷ [])) ++ vs)) (sym (add-one x));
+        whole = h .whole ∙ rw (words-next l, from-next gs (drop (x + 1) ws) (drop at bs) (drop next bs) (getD ws x 0) x v (g .reads x))
+            (bind-front (valuesFrom gs (drop (x + 1) ws) (x + 1) (drop next bs)) (h .front) v);
         bound = λ y m. named y m (ℕ-discrete y x);
         nowhere = below-same s s′ end e top noValue f (g .grows) (h .nowhere);
-        frame = record { same = λ i m. f .same i (omega (arith, h .above)) ∙ h .frame .same i m; kept = f .kept ∙ h .frame .kept };
+        frame = same-trans top end s₀ s s′ (h .frame) f (omega (arith, h .above));
         room = omega (arith, h .room, h .spent, g .near);
         spent = omega (arith, h .spent, g .spent, h .above, g .grows);
         above = omega (arith, h .above, g .grows);
@@ -284,11 +216,9 @@ module _ {gs ws bs : List ℕ} {x at : ℕ} {s₀ s : List ℕ} {top end : ℕ} 
           rw (getD-set-other env x y place 0 n, getD-more (h .front) (g .first) y (λ p. n (p ∙ h .counted)))
           (below-same s s′ end e (getD env y 0) (getD (h .front) y noValue) f (g .grows) (h .bound y m))
 
-  pub loading-bad : (w : ℕ) → x < length ws → w ≡ getD ws x 0 → ((y : ℕ) → valueFor gs w y (drop at bs) ≡ refused 14 y) → valuesFrom gs ws 0 bs ≡ refused 14 x
-  loading-bad w l q u =
-      let d : drop x ws ≡ w ∷ drop (x + 1) ws = drop-cons ws x 0 l ∙ rw (q, add-one x) in
-      h .whole ∙ ap (λ (us : List ℕ). valuesFrom gs us x (drop at bs) >>= λ vs. done (h .front ++ vs)) d ∙
-      ap (λ (r : End (List Value)). r >>= λ vs. done (h .front ++ vs)) (from-refused gs (drop (x + 1) ws) (drop at bs) w x (u x))
+  pub loading-bad : x < length ws → valueFor gs (getD ws x 0) x (drop at bs) ≡ refused 14 x → valuesFrom gs ws 0 bs ≡ refused 14 x
+  loading-bad l u =
+      h .whole ∙ rw (words-next l, from-refused gs (drop (x + 1) ws) (drop at bs) (getD ws x 0) x u)
 
   none-left : length ws ≤ x → valuesFrom gs ws 0 bs ≡ (nothingLeft x (drop at bs) >>= λ vs. done (h .front ++ vs))
   unfolding valuesFrom
@@ -313,9 +243,3 @@ frame-all s s′ top x h = record {
   same = λ i l. h .same i l ∙ getD-set-other s top i x 0 (λ e. omega arith);
   kept = h .kept ∙ length-set s top x;
 }
-
-pub same-both : (top end : ℕ) (s₀ s s′ : List ℕ) → top < end → Same top s₀ s → Same end s s′ → Same top s₀ s′
-same-both top end s₀ s s′ l h k = record { same = λ i m. k .same i (omega arith) ∙ h .same i m; kept = k .kept ∙ h .kept }
-
-pub place-small : (s : List ℕ) (end at : ℕ) (v : Value) → ValueBelow s end at v → at ≤ length s
-place-small s end at v h = omega (arith, h .stands .inside)

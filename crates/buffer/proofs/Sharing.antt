@@ -1,44 +1,41 @@
 -- Whether the members of every set in a value share a type, set by set from the innermost outward.
-use Prim.Native.Nat.{ℕ, zero, suc, _+_, _*_, _-_, _/_, _%_, _≤_, _<_}
+use Prim.Native.Nat.{ℕ, _+_, _*_, _-_, _/_, _≤_, _<_}
 use mathlib.Core.Bool.{Bool, true, false, cond}
 use mathlib.Core.List.{List, append-nil}
+use mathlib.Core.Logic.{_↔_}
 use mathlib.Core.Path.{_≡_, refl, sym, ap, subst, _∙_}
 use native.Mathlib.Omega.{arith}
 use native.Mathlib.Decide.{ℕ-discrete}
 use borrow.Author.Tests.{eq-eqb, ne-eqb}
-use native.Mathlib.Nat.{add-zero}
 use lib.Dec.{T, eqb}
 use lib.ListN.{length, getD}
 use Rattle.rules.specs.Types.{whole, Ty}
-use Rattle.rules.specs.Values.{Scalar, Value, scalar, pair, set, Values, none, _▸_, tag, count, weights}
+use Rattle.rules.specs.Values.{Value, Values, none, _▸_, count, weights}
 use Rattle.rules.specs.Fits.{every, typesOf, sharedTypes, inhabited, typed}
+use Rattle.laws.proofs.EndLaws.{T-true, T-false}
 use Rattle.laws.proofs.FitsLaws.{_⊑_, ⊓-join, ⊓-split, inhabited→some, some→inhabited}
-use Rattle.arena.specs.Code.{cellSize, code, codes, Stands, ValueAt, ValuesAt, CellsFit, AllFit, SomeAt, EndsAt}
+use Rattle.arena.specs.Code.{cellSize, code, codes, Stands, ValueAt, ValuesAt, AllFit, SomeAt, EndsAt}
 use Rattle.arena.proofs.CodeLaws.{length-code, length-codes}
 use Rattle.arena.proofs.Standing.{stands-front, stands-back, _before_, codes-before, count-before, weights-before}
-use Rattle.fitting.specs.Agree.{meets, RunAt, SomeTyped, Agreed, AgreedWith, NoEmpty, Full, StandFor, atomsAlike}
-use Rattle.fitting.proofs.Sharing.{meets→share, share→meets, meets-sym, left-typed, right-typed, with-every, full-first}
+use Rattle.fitting.specs.Agree.{meets, TypedAt, RunAt, SomeTyped, Agreed, AgreedWith, NoEmpty, Full, StandFor, atomsAlike}
+use Rattle.fitting.proofs.Sharing.{meets→share, share→meets, meets-sym, left-typed, with-every, full-first}
 use Rattle.arena.proofs.ValueParts.{one-cell}
-use Rattle.fitting.proofs.Cells.{full-value, with-end, with-false, with-step, atoms-agree, alike-low, agreed-back}
-use Rattle.buffer.specs.Shared.{AllTyped, TypedRow, SomeTypedRow, Shares, leastAlike, mostAlike}
-use Rattle.buffer.proofs.Ahead.{inner}
-use Rattle.buffer.proofs.Ordering.{tag-cell, Left, left-start, scalar-tag, left-head, left-next}
-use Rattle.rules.proofs.Basics.{and-of, and-split}
-use Rattle.laws.proofs.CellsLaws.{weight-some, count-weights}
+use Rattle.fitting.proofs.Cells.{first-stands, full-value, with-end, with-false, with-step, atoms-agree, alike-low, agreed-back}
+use Rattle.buffer.specs.Ordered.{MembersAt}
+use Rattle.buffer.specs.Shared.{AllTyped, TypedRow, SomeTypedRow, leastAlike, mostAlike}
+use Rattle.laws.proofs.CellsLaws.{count-weights}
 
 -- Types of values that follow one another.
-sharedTypes-join : (vs ws : Values) (t : Ty) → sharedTypes vs ⊑ t → sharedTypes ws ⊑ t → sharedTypes (vs before ws) ⊑ t
-sharedTypes-join none ws t h k = k
-sharedTypes-join (v ▸ vs) ws t h k =
-    let p = ⊓-split (typesOf v) (sharedTypes vs) t h in
-    ⊓-join (typesOf v) (sharedTypes (vs before ws)) t (p .0) (sharedTypes-join vs ws t (p .1) k)
-
-sharedTypes-split : (vs ws : Values) (t : Ty) → sharedTypes (vs before ws) ⊑ t → sharedTypes vs ⊑ t × sharedTypes ws ⊑ t
-sharedTypes-split none ws t h = (tt, h)
-sharedTypes-split (v ▸ vs) ws t h =
-    let p = ⊓-split (typesOf v) (sharedTypes (vs before ws)) t h in
-    let q = sharedTypes-split vs ws t (p .1) in
-    (⊓-join (typesOf v) (sharedTypes vs) t (p .0) (q .0), q .1)
+sharedTypes-both : (vs ws : Values) (t : Ty) → sharedTypes (vs before ws) ⊑ t ↔ (sharedTypes vs ⊑ t × sharedTypes ws ⊑ t)
+sharedTypes-both none ws t = (λ h. (tt, h), λ h. h .1)
+sharedTypes-both (v ▸ vs) ws t =
+    let r = sharedTypes-both vs ws t in (
+      λ h. let p = ⊓-split (typesOf v) (sharedTypes (vs before ws)) t h in
+          let q = r .0 (p .1) in
+          (⊓-join (typesOf v) (sharedTypes vs) t (p .0) (q .0), q .1),
+      λ h. let p = ⊓-split (typesOf v) (sharedTypes vs) t (h .0) in
+          ⊓-join (typesOf v) (sharedTypes (vs before ws)) t (p .0) (r .1 (p .1, h .1)),
+    )
 
 before-assoc : (us vs ws : Values) → (us before vs) before ws ≡ us before (vs before ws)
 before-assoc none vs ws = refl
@@ -56,10 +53,6 @@ typed-split : (vs ws : Values) → AllTyped (vs before ws) → AllTyped vs × Al
 typed-split none ws h = (tt, h)
 typed-split (v ▸ vs) ws h = let p = typed-split vs ws (h .1) in ((h .0, p .0), p .1)
 
-typed-before : (vs ws : Values) → AllTyped vs → AllTyped ws → AllTyped (vs before ws)
-typed-before none ws h k = k
-typed-before (v ▸ vs) ws h k = (h .0, typed-before vs ws (h .1) k)
-
 -- The first k of the values vs from `at` on share a type; the next begins at i.
 pub record Prefix (s : List ℕ) (at i k : ℕ) (vs : Values) : Type 0 where
   pub front : Values
@@ -68,6 +61,9 @@ pub record Prefix (s : List ℕ) (at i k : ℕ) (vs : Values) : Type 0 where
   pub counted : count front ≡ k
   pub shares : T (inhabited (sharedTypes front))
   pub there : i ≡ at + weights front
+
+pub row-members : {s : List ℕ} {at n : ℕ} {vs : Values} → TypedRow s at n vs → MembersAt s at n vs
+row-members r = record { stands = r .stands; fits = r .fits; counted = r .counted }
 
 pub prefix-none : (s : List ℕ) (at n : ℕ) (vs : Values) → TypedRow s at n vs → n ≡ 0 → true ≡ inhabited (sharedTypes vs)
 prefix-none s at n none h e = refl
@@ -79,7 +75,7 @@ row-some s at n r z = go (r .0) (r .1)
   where
     go : (vs : Values) → TypedRow s at n vs → SomeAt s at
     go none h = absurd (z (h .counted))
-    go (v ▸ vs) h = record { value = v; stands = stands-front s at (code v) (codes vs) (h .stands); fits = h .fits .0 }
+    go (v ▸ vs) h = record { value = v; stands = first-stands s at v vs (h .stands); fits = h .fits .0 }
 
 pub prefix-start : (s : List ℕ) (at n end : ℕ) → EndsAt s at end → (n ≡ 0 → ⊥) → (vs : Values) → TypedRow s at n vs → Prefix s at end 1 vs
 unfolding code
@@ -90,7 +86,7 @@ prefix-start s at n end e z (v ▸ vs) h = record {
   whole = refl;
   counted = refl;
   shares = with-every (typesOf v) (h .typed .0);
-  there = omega (arith, e v (stands-front s at (code v) (codes vs) (h .stands)) (h .fits .0));
+  there = omega (arith, e v (first-stands s at v vs (h .stands)) (h .fits .0));
 }
 
 module _ (s : List ℕ) (at n i k : ℕ) (vs : Values) (row : TypedRow s at n vs) (h : Prefix s at i k vs) where
@@ -119,22 +115,20 @@ module _ (s : List ℕ) (at n i k : ℕ) (vs : Values) (row : TypedRow s at n vs
   pub prefix-end : n ≤ k → true ≡ inhabited (sharedTypes vs)
   prefix-end l = go (h .back) (h .whole) (back-row .counted)
     where
-      is : (b : Bool) → T b → true ≡ b
-      is true t = refl
-      is false t = absurd t
-
       go : (ws : Values) → vs ≡ h .front before ws → n - k ≡ count ws → true ≡ inhabited (sharedTypes vs)
-      go none e c = is (inhabited (sharedTypes vs)) (subst (λ (us : Values). T (inhabited (sharedTypes us))) (sym (e ∙ before-none (h .front))) (h .shares))
+      go none e c = sym (T-true _ .0 (subst (λ (us : Values). T (inhabited (sharedTypes us))) (sym (e ∙ before-none (h .front))) (h .shares)))
       go (w ▸ ws) e c = absurd (omega arith)
 
-  -- the next value
-  pub prefix-next : k < n → SomeTyped s i
-  unfolding code
-  prefix-next l = go (h .back) back-row
+  -- The next value.
+  next-value : k < n → (w : Value) × (ws : Values) × (vs ≡ h .front before (w ▸ ws)) × TypedAt s i w
+  next-value l = go (h .back) (h .whole) back-row
     where
-      go : (ws : Values) → TypedRow s i (n - k) ws → SomeTyped s i
-      go none r = absurd (omega (arith, r .counted))
-      go (w ▸ ws) r = (w, record { stands = stands-front s i (code w) (codes ws) (r .stands); fits = r .fits .0; typed = r .typed .0 })
+      go : (ws : Values) → vs ≡ h .front before ws → TypedRow s i (n - k) ws → (w : Value) × (ws : Values) × (vs ≡ h .front before (w ▸ ws)) × TypedAt s i w
+      go none e r = absurd (omega (arith, r .counted))
+      go (w ▸ ws) e r = (w, ws, e, record { stands = first-stands s i w ws (r .stands); fits = r .fits .0; typed = r .typed .0 })
+
+  pub prefix-next : k < n → SomeTyped s i
+  prefix-next l = let x = next-value l in (x .0, x .3)
 
   -- The first m values stand for the first k: all of them, or one that has one type only.
   pub stand-for : (m end : ℕ) (one : Bool) → 0 < k → EndsAt s at end → (one ≡ true → NoEmpty s at end) → m ≡ cond one 1 k → StandFor s at m (h .front)
@@ -145,7 +139,7 @@ module _ (s : List ℕ) (at n i k : ℕ) (vs : Values) (row : TypedRow s at n vs
       go : (ws : Values) → RunAt s at k ws → StandFor s at m ws
       go none r = absurd (omega (arith, r .counted))
       go (w ▸ ws) r =
-          let st : ValueAt s at w = stands-front s at (code w) (codes ws) (r .stands) in
+          let st : ValueAt s at w = first-stands s at w ws (r .stands) in
           let ty = left-typed (typesOf w) (sharedTypes ws) (r .typed) in
           let fu : Full w = full-value w s at st (subst (λ (x : ℕ). NoEmpty s at x) (e w st (r .fits .0)) (f refl)) in
           record {
@@ -161,45 +155,35 @@ module _ (s : List ℕ) (at n i k : ℕ) (vs : Values) (row : TypedRow s at n vs
 
   module _ (m : ℕ) (l : k < n) (g : StandFor s at m (h .front)) where
     -- what the test of the next value against those says
-    next-meets : (r : Bool) → AgreedWith s i at m r → (w : Value) (ws : Values) → TypedRow s i (n - k) (w ▸ ws) → r ≡ meets (sharedTypes (h .front)) (typesOf w)
-    unfolding code
-    next-meets r a w ws b =
-        a w (g .few) (record { stands = stands-front s i (code w) (codes ws) (b .stands); fits = b .fits .0; typed = b .typed .0 }) (g .run) ∙
-        meets-sym (typesOf w) (sharedTypes (g .few)) ∙ g .same (typesOf w)
+    next-meets : (r : Bool) → AgreedWith s i at m r → r ≡ meets (sharedTypes (h .front)) (typesOf (next-value l .0))
+    next-meets r a =
+        let x = next-value l in
+        a (x .0) (g .few) (x .3) (g .run) ∙ meets-sym (typesOf (x .0)) (sharedTypes (g .few)) ∙ g .same (typesOf (x .0))
 
     pub prefix-fails : AgreedWith s i at m false → false ≡ inhabited (sharedTypes vs)
-    prefix-fails a = go (h .back) (h .whole) back-row
-      where
-        none-left : (b : Bool) → (T b → ⊥) → false ≡ b
-        none-left true f = absurd (f tt)
-        none-left false f = refl
-
-        go : (ws : Values) → vs ≡ h .front before ws → TypedRow s i (n - k) ws → false ≡ inhabited (sharedTypes vs)
-        go none e b = absurd (omega (arith, b .counted))
-        go (w ▸ ws) e b =
-            none-left (inhabited (sharedTypes vs)) (λ t.
-            let x = inhabited→some (sharedTypes vs) t in
-            let p = sharedTypes-split (h .front) (w ▸ ws) (x .0) (subst (λ (us : Values). sharedTypes us ⊑ x .0) e (x .1)) in
-            let q = ⊓-split (typesOf w) (sharedTypes ws) (x .0) (p .1) in
-            subst T (sym (next-meets false a w ws b)) (share→meets (sharedTypes (h .front)) (typesOf w) (x .0, p .0, q .0)))
+    prefix-fails a =
+        let x = next-value l in
+        let w = x .0 in
+        sym (T-false (inhabited (sharedTypes vs)) .0 (λ t.
+        let y = inhabited→some (sharedTypes vs) t in
+        let p = sharedTypes-both (h .front) (w ▸ x .1) (y .0) .0 (subst (λ (us : Values). sharedTypes us ⊑ y .0) (x .2) (y .1)) in
+        let q = ⊓-split (typesOf w) (sharedTypes (x .1)) (y .0) (p .1) in
+        subst T (sym (next-meets false a)) (share→meets (sharedTypes (h .front)) (typesOf w) (y .0, p .0, q .0))))
 
     pub prefix-step : (e : ℕ) → EndsAt s i e → AgreedWith s i at m true → Prefix s at e (k + 1) vs
-    unfolding code
-    prefix-step e ends a = go (h .back) (h .whole) back-row
-      where
-        go : (ws : Values) → vs ≡ h .front before ws → TypedRow s i (n - k) ws → Prefix s at e (k + 1) vs
-        go none q b = absurd (omega (arith, b .counted))
-        go (w ▸ ws) q b =
-            let x = meets→share (sharedTypes (h .front)) (typesOf w) (subst T (next-meets true a w ws b) tt) in
-            let f = h .front before (w ▸ none) in
-            record {
-              front = f;
-              back = ws;
-              whole = q ∙ sym (before-assoc (h .front) (w ▸ none) ws);
-              counted = omega (arith, count-before (h .front) (w ▸ none), h .counted);
-              shares = some→inhabited (sharedTypes f) (x .0) (sharedTypes-join (h .front) (w ▸ none) (x .0) (x .1) (⊓-join (typesOf w) every (x .0) (x .2) tt));
-              there = omega (arith, h .there, weights-before (h .front) (w ▸ none), ends w (stands-front s i (code w) (codes ws) (b .stands)) (b .fits .0));
-            }
+    prefix-step e ends a =
+        let x = next-value l in
+        let w = x .0 in
+        let y = meets→share (sharedTypes (h .front)) (typesOf w) (subst T (next-meets true a) tt) in
+        let f = h .front before (w ▸ none) in
+        record {
+          front = f;
+          back = x .1;
+          whole = x .2 ∙ sym (before-assoc (h .front) (w ▸ none) (x .1));
+          counted = omega (arith, count-before (h .front) (w ▸ none), h .counted);
+          shares = some→inhabited (sharedTypes f) (y .0) (sharedTypes-both (h .front) (w ▸ none) (y .0) .1 (y .1, ⊓-join (typesOf w) every (y .0) (y .2) tt));
+          there = omega (arith, h .there, weights-before (h .front) (w ▸ none), ends w (x .3 .stands) (x .3 .fits));
+        }
 
 -- The bounds of the cells that are alike, by the tag.
 module _ (x t : ℕ) (tagged : t ≡ x / cellSize) where
@@ -294,141 +278,6 @@ module _ (s : List ℕ) (at n : ℕ) (low : getD s at 0 < 4 * cellSize) where
           past = omega arith;
           first = rw q (prefix-step s at n i (i - at) vs row (h .first) 1 (omega arith) one-for-all (i + 1) (one-cell s i low′) (against-first true e));
         }
-
--- What is left of a value after some cells.
-abbrev next : Values → Values
-next none = none
-next (w ▸ ws) = inner w before ws
-
-pub after : Values → ℕ → Values
-after vs zero = vs
-after vs (suc n) = next (after vs n)
-
-next-left : (s : List ℕ) (i end : ℕ) (ws : Values) → Left s i end ws → i < end → Left s (i + 1) end (next ws)
-next-left s i end none h l = absurd (omega (arith, h .ends))
-next-left s i end (w ▸ ws) h l = left-next s i end w ws h
-
-after-left : (s : List ℕ) (at end : ℕ) (vs : Values) → Left s at end vs → (n : ℕ) → at + n ≤ end → Left s (at + n) end (after vs n)
-unfolding after
-after-left s at end vs h zero l = subst (λ (j : ℕ). Left s j end vs) (sym (add-zero at)) h
-after-left s at end vs h (suc n) l =
-    let e : at + n + 1 ≡ at + suc n = omega arith in
-    subst (λ (j : ℕ). Left s j end (next (after vs n))) e (next-left s (at + n) end (after vs n) (after-left s at end vs h n (omega arith)) (omega arith))
-
--- A typed value has typed parts and members.
-set-typed : (ms : Values) → T (inhabited (sharedTypes ms)) → AllTyped ms
-set-typed none h = tt
-set-typed (v ▸ vs) h = (left-typed (typesOf v) (sharedTypes vs) h, set-typed vs (right-typed (typesOf v) (sharedTypes vs) h))
-
-next-typed : (ws : Values) → AllTyped ws → AllTyped (next ws)
-next-typed none h = tt
-next-typed (scalar x ▸ ws) h = h .1
-next-typed (pair a b ▸ ws) h = let p = and-split (inhabited (typesOf a)) (inhabited (typesOf b)) (h .0) in (p .0, (p .1, h .1))
-next-typed (set ms ▸ ws) h = typed-before ms ws (set-typed ms (h .0)) (h .1)
-
-after-typed : (vs : Values) → AllTyped vs → (n : ℕ) → AllTyped (after vs n)
-unfolding after
-after-typed vs h zero = h
-after-typed vs h (suc n) = next-typed (after vs n) (after-typed vs h n)
-
--- What is left of v from the cell i on is typed.
-abbrev pub TypedFrom : ℕ → ℕ → Value → Type 0
-TypedFrom at i v = AllTyped (after (v ▸ none) (i - at))
-
-module _ (s : List ℕ) (at end : ℕ) (v : Value) (h : ValueAt s at v) (f : CellsFit v) (e : EndsAt s at end) where
-  here-left : (i : ℕ) → at ≤ i → i ≤ end → Left s i end (after (v ▸ none) (i - at))
-  here-left i a b =
-      let p : at + (i - at) ≡ i = omega arith in
-      subst (λ (j : ℕ). Left s j end (after (v ▸ none) (i - at))) p (after-left s at end (v ▸ none) (left-start s at end v h f e) (i - at) (omega arith))
-
-  pub from-end : TypedFrom at end v
-  from-end = go (after (v ▸ none) (end - at)) (here-left end (omega (arith, e v h f)) (omega arith))
-    where
-      go : (ws : Values) → Left s end end ws → AllTyped ws
-      go none l = tt
-      go (w ▸ ws) l = absurd (omega (arith, l .ends, weight-some w))
-
-  pub from-start : (i : ℕ) → i ≤ at → TypedFrom at i v → true ≡ typed v
-  unfolding after typed
-  from-start i l t = let z : i - at ≡ 0 = omega arith in is (inhabited (typesOf v)) (subst (λ (n : ℕ). AllTyped (after (v ▸ none) n)) z t .0)
-    where
-      is : (b : Bool) → T b → true ≡ b
-      is true t = refl
-      is false t = absurd t
-
-  -- one cell back
-  module _ (i x : ℕ) (low : at < i) (high : i ≤ end) (here : x ≡ getD s (i - 1) 0) where
-    left-here : Left s (i - 1) end (after (v ▸ none) (i - 1 - at))
-    left-here = here-left (i - 1) (omega arith) (omega arith)
-
-    next-here : after (v ▸ none) (i - at) ≡ next (after (v ▸ none) (i - 1 - at))
-    unfolding after
-    next-here = let p : i - at ≡ suc (i - 1 - at) = omega arith in ap (after (v ▸ none)) p
-
-    tag-here : (w : Value) (ws : Values) → Left s (i - 1) end (w ▸ ws) → x / cellSize ≡ tag w
-    tag-here w ws l = ap (λ (y : ℕ). y / cellSize) (here ∙ left-head s (i - 1) end w ws l) ∙ tag-cell w (l .fits .0)
-
-    pub from-other : x < 5 * cellSize → TypedFrom at i v → TypedFrom at (i - 1) v
-    from-other n a = go (after (v ▸ none) (i - 1 - at)) left-here (subst AllTyped next-here a)
-      where
-        go : (ws : Values) → Left s (i - 1) end ws → AllTyped (next ws) → AllTyped ws
-        go none l y = tt
-        go (scalar z ▸ ws) l y = (tt, y)
-        go (pair p q ▸ ws) l y = (and-of (inhabited (typesOf p)) (inhabited (typesOf q)) (y .0) (y .1 .0), y .1 .1)
-        go (set ms ▸ ws) l y = absurd (omega (arith, tag-here (set ms) ws l))
-
-    module _ (set-here : 5 * cellSize ≤ x) where
-      no-scalar : (z : Scalar) (ws : Values) → Left s (i - 1) end (scalar z ▸ ws) → ⊥
-      no-scalar z ws l = scalar-tag z (omega (arith, tag-here (scalar z) ws l))
-
-      members : (n : ℕ) → n ≡ x % cellSize → (ms ws : Values) → Left s (i - 1) end (set ms ▸ ws) → AllTyped ms → TypedRow s i n ms
-      unfolding code
-      members n q ms ws l y =
-          let p : i - 1 + 1 ≡ i = omega arith in
-          record {
-            stands = stands-front s i (codes ms) (codes ws) (subst (λ (c : List ℕ). Stands s i c) (codes-before ms ws)
-                (subst (λ (j : ℕ). Stands s j (codes (ms before ws))) p (left-next s (i - 1) end (set ms) ws l .stands)));
-            fits = l .fits .0 .1;
-            counted = omega (arith, left-head s (i - 1) end (set ms) ws l, l .fits .0 .0);
-            typed = y;
-          }
-
-      pub from-members : (n : ℕ) → n ≡ x % cellSize → TypedFrom at i v → SomeTypedRow s i n
-      from-members n q a = go (after (v ▸ none) (i - 1 - at)) left-here (subst AllTyped next-here a)
-        where
-          go : (ws : Values) → Left s (i - 1) end ws → AllTyped (next ws) → SomeTypedRow s i n
-          go none l y = absurd (omega (arith, l .ends))
-          go (scalar z ▸ ws) l y = absurd (no-scalar z ws l)
-          go (pair p r ▸ ws) l y = absurd (omega (arith, tag-here (pair p r) ws l))
-          go (set ms ▸ ws) l y = (ms, members n q ms ws l (typed-split ms ws y .0))
-
-      module _ (n : ℕ) (r : Bool) (q : n ≡ x % cellSize) (k : Shares s i n r) (a : TypedFrom at i v) where
-        pub from-set : r ≡ true → TypedFrom at (i - 1) v
-        from-set z = go (after (v ▸ none) (i - 1 - at)) left-here (subst AllTyped next-here a)
-          where
-            go : (ws : Values) → Left s (i - 1) end ws → AllTyped (next ws) → AllTyped ws
-            go none l y = tt
-            go (scalar b ▸ ws) l y = absurd (no-scalar b ws l)
-            go (pair p b ▸ ws) l y = absurd (omega (arith, tag-here (pair p b) ws l))
-            go (set ms ▸ ws) l y =
-                let p = typed-split ms ws y in
-                (subst T (sym z ∙ k ms (members n q ms ws l (p .0))) tt, p .1)
-
-        pub from-fails : r ≡ false → false ≡ typed v
-        unfolding typed
-        from-fails z =
-            none-left (inhabited (typesOf v)) (λ u.
-            go (after (v ▸ none) (i - 1 - at)) left-here (subst AllTyped next-here a) (after-typed (v ▸ none) (u, tt) (i - 1 - at)))
-          where
-            none-left : (b : Bool) → (T b → ⊥) → false ≡ b
-            none-left true y = absurd (y tt)
-            none-left false y = refl
-
-            go : (ws : Values) → Left s (i - 1) end ws → AllTyped (next ws) → AllTyped ws → ⊥
-            go none l y u = omega (arith, l .ends)
-            go (scalar b ▸ ws) l y u = no-scalar b ws l
-            go (pair p b ▸ ws) l y u = omega (arith, tag-here (pair p b) ws l)
-            go (set ms ▸ ws) l y u = subst T (sym (k ms (members n q ms ws l (typed-split ms ws y .0))) ∙ z) (u .0)
 
 pub end-inside : (s : List ℕ) (at end : ℕ) → SomeAt s at → EndsAt s at end → (at ≤ end) × (end ≤ length s)
 end-inside s at end p e =

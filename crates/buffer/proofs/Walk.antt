@@ -1,28 +1,35 @@
 -- Reading one value cell by cell into the arena.
 use Prim.Native.Nat.{ℕ, zero, suc, _+_, _*_, _-_, _/_, _%_, _≤_, _<_}
-use mathlib.Core.Bool.{Bool, true, false}
 use mathlib.Core.List.{List, [], _∷_, _++_, append-assoc, append-nil}
 use mathlib.Core.Path.{_≡_, refl, sym, ap, subst, _∙_}
 use native.Mathlib.Omega.{arith}
 use native.Mathlib.Decide.{decLt}
-use lib.Dec.{T, eqb, leb, leb→le}
-use lib.ListN.{length, getD, drop, set as setAt, length-append, length-set, length-drop, List·getD-append}
+use lib.Dec.{T, eqb}
+use lib.ListN.{length, getD, drop, set as setAt, length-append, length-set, List·getD-append}
 use lib.Seq.{drop-drop, getD-set-same, getD-set-other, getD-append-add}
 use borrow.Author.Tests.{ne-eqb}
-use Rattle.rules.specs.Values.{none, weight}
-use Rattle.laws.proofs.OrderLaws.{and-left}
-use Rattle.laws.proofs.CellsLaws.{Bytes, bytes-drop}
-use Rattle.arena.specs.Code.{code, Stands, Same, partsOf}
-use Rattle.arena.proofs.CodeLaws.{length-code}
-use Rattle.buffer.specs.declared.Cursor.{Cursor}
-use Rattle.buffer.specs.declared.Step.the-variants.{Cell, End}
-use Rattle.buffer.specs.Buffer.{cellFirst, firstCell, pickStep, stepAt, codeOf, tagGood, cellGood, cellsAtMost, GoodCell, StepTakes, ReadAt, Unread}
-use Rattle.buffer.proofs.Ahead.{Ahead, onward, back, ahead-read, read-ahead, ahead-long}
+use mathlib.Core.Option.{some}
+use Rattle.rules.specs.Values.{Value, Values, none, _▸_, count, weight}
+use Rattle.rules.specs.Cells.{cells, cellsOf, value, good}
+use Rattle.laws.proofs.CellsLaws.{Bytes, bytes-drop, Sizes, few-sizes, good-weight, value-encodable}
+use Rattle.laws.proofs.TableLaws.{sizes-length}
+use Rattle.rules.specs.Tables.{tableOf}
+use Rattle.rules.specs.Readable.{Readable}
+use Rattle.arena.specs.Code.{code, codes, Stands, Same, partsOf}
+use Rattle.arena.proofs.CodeLaws.{length-code, encodable-fits}
+use Rattle.buffer.specs.declared.Step.the-variants.{End}
+use Rattle.buffer.specs.Buffer.{firstCell, codeOf, tagGood, cellGood, cellsAtMost, GoodCell, StepTakes, ReadAt}
+use Rattle.buffer.proofs.CellAt.{cell-held}
+use Rattle.buffer.proofs.Ahead.{AllHeld, Ahead, onward, back, ahead-read, ahead-long}
 
 -- The entries of a slice of bytes.
 pub bytes-all : (bs : List ℕ) → ((i : ℕ) → i < length bs → getD bs i 0 < 256) → Bytes bs
 bytes-all [] h = tt
 bytes-all (b ∷ bs) h = (h 0 (omega arith), bytes-all bs (λ i l. h (suc i) (omega arith)))
+
+-- The sizes of a readable table's given sets.
+pub readable-sizes : {bs : List ℕ} → Readable bs → Sizes (tableOf bs .sizes)
+readable-sizes {bs} r = few-sizes (tableOf bs .sizes) (omega (arith, sizes-length bs, r .header .givens)) (λ g h. r .records .sizes g h .1)
 
 -- Good cells, by the tag.
 pub good-by : (gs : List ℕ) (x t p k : ℕ) → t ≡ x / 4294967296 → p ≡ x % 4294967296 → t ≡ k → tagGood gs k p ≡ cellGood gs x
@@ -42,32 +49,6 @@ pub good-other : (gs : List ℕ) (x t p : ℕ) → t ≡ x / 4294967296 → p �
     (t ≡ 2 → ⊥) → (t ≡ 3 → ⊥) → (t ≡ 4 → ⊥) → (t ≡ 1 → ⊥) → eqb t 5 ≡ cellGood gs x
 unfolding cellGood
 good-other gs x t p e f b c d a = good-last gs t p a b c d ∙ rw (e, f)
-
--- The good cell at a place.
-pick-cell : (b : Bool) (x y : ℕ) (n m : Cursor) → Cell x n ≡ pickStep b (Cell y m) → T b × (x ≡ y) × (n ≡ m)
-pick-cell true x y n m e = (tt, (cc), (cc))
-pick-cell false x y n m e = absurd (let z : _≡_ {A = ℕ} 0 1 = cc in omega arith)
-
-pick-end : (b : Bool) (y : ℕ) (m : Cursor) → End ≡ pickStep b (Cell y m) → T b → ⊥
-pick-end true y m e t = let z : _≡_ {A = ℕ} 0 1 = cc in omega arith
-pick-end false y m e t = t
-
-module _ (gs bs : List ℕ) (at : ℕ) where
-  pub take-good : (x : ℕ) (n : Cursor) → Cell x n ≡ stepAt bs at → cellGood gs x ≡ true → GoodCell gs bs at x (n .at)
-  unfolding stepAt
-  take-good x n e g =
-      let p = pick-cell (cellFirst (drop at bs)) x (firstCell (drop at bs)) n (record { at = at + 8 }) e in
-      record { here = p .0; number = p .1; good = subst T (sym g) tt; behind = ap (λ (c : Cursor). c .at) (p .2) }
-
-  pub take-bad : (x : ℕ) (n : Cursor) → Cell x n ≡ stepAt bs at → cellGood gs x ≡ false → StepTakes gs bs at End
-  unfolding stepAt
-  take-bad x n e g h k =
-      let p = pick-cell (cellFirst (drop at bs)) x (firstCell (drop at bs)) n (record { at = at + 8 }) e in
-      subst T g (subst (λ (y : ℕ). T (cellGood gs y)) (sym (p .1)) k)
-
-  pub take-none : End ≡ stepAt bs at → StepTakes gs bs at End
-  unfolding stepAt
-  take-none e h k = pick-end (cellFirst (drop at bs)) (firstCell (drop at bs)) (record { at = at + 8 }) e h
 
 -- n cells have been read up to `at` and stand written at `top`; `left` values are still to be read. A value is read at `from`
 -- just where they are.
@@ -92,13 +73,6 @@ walk-start gs bs from s top l = record {
   whole = λ cs rest a. a;
   partly = λ es rest a. (es, refl, a);
 }
-
--- A cell lies within the buffer.
-cell-held : {gs bs : List ℕ} {at x next : ℕ} → GoodCell gs bs at x next → 8 ≤ length bs - at
-cell-held {gs} {bs} {at} g =
-    let ds = drop at bs in
-    let l = leb→le 8 (length ds) (and-left (leb 8 (length ds)) (eqb (getD ds 5 0 + getD ds 6 0 + getD ds 7 0) 0) (g .here)) in
-    omega (arith, l, length-drop at bs)
 
 -- a cell is written behind
 write-stands : (s : List ℕ) (top n x : ℕ) (xs : List ℕ) → length xs ≡ n → top + n < length s → Stands s top xs →
@@ -126,9 +100,9 @@ write-frame s₀ s top n x h = record {
 -- The arena has room for the next cell, as the buffer holds it.
 pub walk-room : {gs bs : List ℕ} {from at left n : ℕ} {s₀ s : List ℕ} {top : ℕ} → Walk gs bs from at left n s₀ s top → {x next : ℕ} →
     GoodCell gs bs at x next → n < 256 → top + cellsAtMost 1 (length bs - from) ≤ length s₀ → top + n < length s
-walk-room h g l r = let m = cell-held g in omega (arith, h .spent, h .frame .kept)
+walk-room {bs = bs} {at = at} h g l r = let m = cell-held bs at (g .here) in omega (arith, h .spent, h .frame .kept)
 
-module _ (gs bs : List ℕ) (b : Bytes bs) (from at left n : ℕ) (s₀ s : List ℕ) (top : ℕ) (h : Walk gs bs from at left n s₀ s top) (l : 0 < left) where
+module _ {gs bs : List ℕ} {from at left n : ℕ} {s₀ s : List ℕ} {top : ℕ} (b : Bytes bs) (h : Walk gs bs from at left n s₀ s top) (l : 0 < left) where
   pub walk-step : (x next y k : ℕ) → GoodCell gs bs at x next → y ≡ codeOf x → k ≡ partsOf x → top + n < length s →
       Walk gs bs from next (left - 1 + k) (n + 1) s₀ (setAt s (top + n) y) top
   walk-step x next y k g e f m =
@@ -143,7 +117,7 @@ module _ (gs bs : List ℕ) (b : Bytes bs) (from at left n : ℕ) (s₀ s : List
         stands = write-stands s top n y (h .written) (h .long) m (h .stands);
         frame = write-frame s₀ s top n y (h .frame);
         spent = omega (arith, g .behind, h .spent);
-        held = omega (arith, cell-held g, h .spent);
+        held = omega (arith, cell-held bs at (g .here), h .spent);
         whole = λ cs rest a.
             let a′ : Ahead gs (drop 8 ds) (left - 1 + partsOf (firstCell ds)) cs rest = rw (← d, ← q) a in
             let r = h .whole (codeOf (firstCell ds) ∷ cs) rest (back gs ds left cs rest b′ (g .here) l (rw (g .number) at (g .good)) a′) in
@@ -158,34 +132,48 @@ module _ (gs bs : List ℕ) (b : Bytes bs) (from at left n : ℕ) (s₀ s : List
             );
       }
 
-  -- no value of at most 256 cells is read
-  pub walk-none : StepTakes gs bs at End → Unread gs bs from
-  walk-none t v rest e w g =
-      let p = h .partly (code v) rest (ahead-read gs (drop from bs) v rest (bytes-drop from bs b) e g) in
-      let o = onward gs (drop at bs) left (p .0) rest (p .2) l in
-      t (o .here) (o .good)
+  -- What is left of a good value, where one is read.
+  module _ (z : Sizes gs) (v : Value) (rest : List ℕ) (e : value (drop from bs) ≡ some (v, rest)) (g : T (good gs v)) where
+    ahead : (cs : List ℕ) × (code v ≡ h .written ++ cs) × Ahead gs (drop at bs) left cs rest
+    ahead = h .partly (code v) rest (ahead-read gs (drop from bs) v rest z (bytes-drop from bs b) e g)
 
-  pub walk-heavy : 256 < n + left → Unread gs bs from
-  walk-heavy k v rest e w g =
-      let p = h .partly (code v) rest (ahead-read gs (drop from bs) v rest (bytes-drop from bs b) e g) in
-      omega (arith, ahead-long gs (drop at bs) left (p .0) rest (p .2), length-append (h .written) (p .0), ap length (p .1), length-code v, h .long)
+    pub walk-none : StepTakes gs bs at End → ⊥
+    walk-none t = let o = onward gs (drop at bs) left (ahead .0) rest (ahead .2) l in t (o .here) (o .good)
 
-pub walk-end : (gs bs : List ℕ) (from at left n : ℕ) (s₀ s : List ℕ) (top : ℕ) → Walk gs bs from at left n s₀ s top → left ≡ 0 → n ≤ 256 →
+    pub walk-heavy : 256 < n + left → ⊥
+    walk-heavy k =
+        omega (
+          arith,
+          ahead-long gs (drop at bs) left (ahead .0) rest (ahead .2),
+          length-append (h .written) (ahead .0),
+          ap length (ahead .1),
+          length-code v,
+          h .long,
+          good-weight gs v g,
+        )
+
+pub walk-end : {gs bs : List ℕ} {from at left n : ℕ} {s₀ s : List ℕ} {top : ℕ} → Walk gs bs from at left n s₀ s top → left ≡ 0 → n ≤ 256 →
     ReadAt gs bs from s top at (top + n)
-unfolding Rattle.rules.specs.Cells.cells code
-walk-end gs bs from at left n s₀ s top h z l =
-    let a : Ahead gs (drop at bs) left [] (drop at bs) = record { values = none; counted = sym z; bytes = refl; coded = refl; encodable = tt; good = tt } in
-    let r = read-ahead gs (drop from bs) (h .written ++ []) (drop at bs) (omega (arith, length-append (h .written) [], h .long)) (h .whole [] (drop at bs) a) in
-    let e : code (r .first) ≡ h .written = r .coded ∙ append-nil (h .written) in
-    let w : weight (r .first) ≡ n = sym (length-code (r .first)) ∙ ap length e ∙ h .long in
-    record {
-      first = r .first;
-      reads = r .reads;
-      light = omega arith;
-      good = r .good;
-      fits = r .fits;
-      stands = subst (λ (xs : List ℕ). Stands s top xs) (sym e) (h .stands);
-      ends = omega arith;
-      spent = omega (arith, h .spent);
-      held = omega (arith, h .held);
-    }
+unfolding cells code
+walk-end {gs} {bs} {from} {at} {left} {n} {s₀} {s} {top} h z l =
+    let a = h .whole [] (drop at bs) (record { values = none; counted = sym z; bytes = refl; coded = refl; held = tt }) in
+    go (a .values) (a .counted) (a .bytes) (a .coded) (a .held)
+  where
+    go : (vs : Values) → count vs ≡ 1 → drop from bs ≡ cellsOf vs ++ drop at bs → codes vs ≡ h .written ++ [] → AllHeld gs vs →
+        ReadAt gs bs from s top at (top + n)
+    go none c b d e = absurd (omega arith)
+    go (v ▸ w ▸ vs) c b d e = absurd (omega arith)
+    go (v ▸ none) c b d e =
+        let f : code v ≡ h .written = sym (append-nil (code v)) ∙ d ∙ append-nil (h .written) in
+        let w : weight v ≡ n = sym (length-code v) ∙ ap length f ∙ h .long in
+        record {
+          first = v;
+          reads = ap value (b ∙ ap (λ (l : List ℕ). l ++ drop at bs) (append-nil (cells v))) ∙ value-encodable v (drop at bs) (omega arith) (e .0 .0);
+          light = omega arith;
+          good = e .0 .1;
+          fits = encodable-fits v (e .0 .0);
+          stands = subst (λ (xs : List ℕ). Stands s top xs) (sym f) (h .stands);
+          ends = omega arith;
+          spent = omega (arith, h .spent);
+          held = omega (arith, h .held);
+        }

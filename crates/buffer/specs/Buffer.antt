@@ -8,7 +8,8 @@ use lib.Dec.{T, eqb, leb, ltb}
 use lib.ListN.{length, getD, drop}
 use Rattle.rules.specs.Tables.{wordAt}
 use Rattle.rules.specs.Values.{Value, scalar, pair, set, Values, none, _▸_, weight}
-use Rattle.rules.specs.Cells.{scalarGood, value as valueFirst}
+use Rattle.rules.specs.Cells.{scalarGood, value as valueFirst, good}
+use Rattle.rules.specs.Readable.{Readable}
 use Rattle.arena.specs.Code.{cellSize, ValueAt, CellsFit}
 use Rattle.buffer.specs.declared.Step.{Step}
 use Rattle.buffer.specs.declared.Step.the-variants.{Cell, End}
@@ -22,13 +23,6 @@ cellFirst bs = leb 8 (length bs) && eqb (getD bs 5 0 + getD bs 6 0 + getD bs 7 0
 -- It as a number: byte 4, the tag, times 2^32, and the payload word.
 abbrev pub firstCell : List ℕ → ℕ
 firstCell bs = getD bs 4 0 * cellSize + wordAt bs 0
-
-abbrev pub pickStep : Bool → Step → Step
-pickStep true c = c
-pickStep false c = End
-
-unfoldable pub stepAt : List ℕ → ℕ → Step
-stepAt bs at = pickStep (cellFirst (drop at bs)) (Cell (firstCell (drop at bs)) (record { at = at + 8 }))
 
 -- The arena's cell for a cell of the buffer.
 unfoldable pub codeOf : ℕ → ℕ
@@ -85,9 +79,14 @@ pub record ReadAt (gs bs : List ℕ) (at : ℕ) (s : List ℕ) (top next end : �
   pub spent : next ≡ at + 8 * weight first
   pub held : 8 * weight first ≤ length bs - at
 
--- No value of weight at most 256 with good scalars is read at `at`.
+-- No good value is read at `at`.
 abbrev pub Unread : List ℕ → List ℕ → ℕ → Type 0
-Unread gs bs at = (v : Value) (rest : List ℕ) → valueFirst (drop at bs) ≡ some (v, rest) → weight v ≤ 256 → T (scalarsGood gs v) → ⊥
+Unread gs bs at = (v : Value) (rest : List ℕ) → valueFirst (drop at bs) ≡ some (v, rest) → T (good gs v) → ⊥
+
+-- What reading one value asks: the arena has room for it from `top` on.
+pub record PlaceReady (table bs : List ℕ) (at : ℕ) (s : List ℕ) (top : ℕ) : Type 0 where
+  pub readable : Readable table
+  pub room : top + cellsAtMost 1 (length bs - at) ≤ length s
 
 abbrev pub Places : List ℕ → List ℕ → ℕ → List ℕ → ℕ → Placed → Type 0
 Places gs bs at s top (At next end) = ReadAt gs bs at s top (next .at) end

@@ -1,38 +1,19 @@
 -- Refusal 14: the values of a table's identifiers, read from the buffer into the arena.
 use Prim.Native.Nat.{ℕ, _+_, _*_, _-_, _≤_, _<_}
 use mathlib.Core.List.{List}
-use mathlib.Core.Option.{some}
 use mathlib.Core.Path.{_≡_}
-use lib.Dec.{T}
-use lib.ListN.{length, getD, take, drop}
+use lib.ListN.{length, getD, drop}
 use Rattle.rules.specs.Values.{Value}
 use Rattle.rules.specs.Ends.{done, refused}
-use Rattle.rules.specs.Cells.{value as valueFirst, good, noValue, valueFor, valuesFrom}
-use Rattle.rules.specs.Tables.{identifierCount}
+use Rattle.rules.specs.Cells.{noValue, valueFor, valuesFrom}
+use Rattle.rules.specs.Tables.{tableOf, identifierCount}
 use Rattle.rules.specs.Readable.{Readable}
 use Rattle.arena.specs.Code.{ValueBelow}
-use Rattle.buffer.specs.Buffer.{cellsAtMost}
-use Rattle.buffer.specs.declared.Placed.{Placed}
-use Rattle.buffer.specs.declared.Placed.the-variants.{At, Fault}
+use Rattle.buffer.specs.Buffer.{cellsAtMost, PlaceReady}
 use Rattle.buffer.specs.declared.Entry.{Entry}
 use Rattle.buffer.specs.declared.Entry.the-variants.{Of, Bad}
 use Rattle.buffer.specs.declared.Loaded.{Loaded}
 use Rattle.buffer.specs.declared.Loaded.the-variants.{All, Refused}
-
--- The good value that is read at `at` stands from `top` to `end`; the next may begin at `next`.
-pub record GoodRead (gs bs : List ℕ) (at : ℕ) (s : List ℕ) (top next end : ℕ) : Type 0 where
-  pub first : Value
-  pub reads : valueFirst (drop at bs) ≡ some (first, drop next bs)
-  pub good : T (good gs first)
-  pub below : ValueBelow s end top first
-  pub grows : top ≤ end
-  pub near : end ≤ top + cellsAtMost 1 (length bs - at)
-  pub spent : next ≡ at + 8 * (end - top)
-
--- A good value has been read, or none is there.
-abbrev pub ReadsGood : List ℕ → List ℕ → ℕ → List ℕ → ℕ → Placed → Type 0
-ReadsGood gs bs at s top (At next end) = GoodRead gs bs at s top (next .at) end
-ReadsGood gs bs at s top Fault = (v : Value) (rest : List ℕ) → valueFirst (drop at bs) ≡ some (v, rest) → T (good gs v) → ⊥
 
 -- The value of an identifier with the word w stands at `place`; it is the value without a value at `none` where it is bound.
 pub record Entered (gs : List ℕ) (w : ℕ) (bs : List ℕ) (at : ℕ) (s s′ : List ℕ) (none top place next end : ℕ) : Type 0 where
@@ -43,15 +24,16 @@ pub record Entered (gs : List ℕ) (w : ℕ) (bs : List ℕ) (at : ℕ) (s s′ 
   pub near : end ≤ top + cellsAtMost 1 (length bs - at)
   pub spent : next ≡ at + 8 * (end - top)
 
+-- So the value of the identifier x of a table, or refusal 14.
 abbrev pub Enters : List ℕ → ℕ → List ℕ → ℕ → List ℕ → List ℕ → ℕ → ℕ → Entry → Type 0
-Enters gs w bs at s s′ none top (Of place next end) = Entered gs w bs at s s′ none top place (next .at) end
-Enters gs w bs at s s′ none top Bad = (x : ℕ) → valueFor gs w x (drop at bs) ≡ refused 14 x
+Enters table x bs at s s′ none top (Of place next end) =
+    Entered (tableOf table .sizes) (getD (tableOf table .binds) x 0) bs at s s′ none top place (next .at) end
+Enters table x bs at s s′ none top Bad = valueFor (tableOf table .sizes) (getD (tableOf table .binds) x 0) x (drop at bs) ≡ refused 14 x
 
--- What reading the buffer asks: room for the cells that its values may take.
-pub record Room (ws bs s : List ℕ) (top : ℕ) : Type 0 where
-  pub few : length ws ≤ 32
-  pub space : top + 1 + cellsAtMost (length ws) (length bs) ≤ length s
-  pub small : length s < 4294967296
+-- What reading it asks.
+pub record EntryReady (table : List ℕ) (x : ℕ) (bs : List ℕ) (at : ℕ) (s : List ℕ) (top : ℕ) : Type 0 where
+  pub named : x < identifierCount table
+  pub place : PlaceReady table bs at s top
 
 -- Each identifier's value stands below `end` where the environment says; those without one have the cell of `noValue`. What
 -- has been read lies from `top` on, within the room that was asked for.
@@ -66,11 +48,6 @@ pub record Bound (gs ws bs s env : List ℕ) (top end : ℕ) : Type 0 where
 abbrev pub Loads : List ℕ → List ℕ → List ℕ → List ℕ → List ℕ → ℕ → Loaded → Type 0
 Loads gs ws bs s env top (All end) = Bound gs ws bs s env top end
 Loads gs ws bs s env top (Refused x) = valuesFrom gs ws 0 bs ≡ refused 14 x
-
--- The first n entries of an array are a list; the rest is room.
-pub record Begins (xs : List ℕ) (n size : ℕ) (l : List ℕ) : Type 0 where
-  pub first : take n l ≡ xs
-  pub whole : length l ≡ size
 
 -- What reading the values asks: room from `top` on for the cells that they may take, and the cell of an identifier without a value.
 pub record LoadReady (bs values s : List ℕ) (top : ℕ) : Type 0 where

@@ -5,7 +5,7 @@ use mathlib.Core.List.{List}
 use mathlib.Core.Path.{_≡_}
 use Rattle.rules.specs.Values.{Value, scalar, pair, set, Values, none, _▸_, count}
 use Rattle.rules.specs.Cells.{precedes}
-use Rattle.arena.specs.Code.{ValueAt, ValuesAt, CellsFit, AllFit, SomeAt, EndsAt}
+use Rattle.arena.specs.Code.{ValuesAt, AllFit, SomeAt, EndsAt}
 
 -- The members of a set rise.
 abbrev pub inOrder : Values → Bool
@@ -40,7 +40,3 @@ InOrder s at n r = (vs : Values) → MembersAt s at n vs → r ≡ inOrder vs
 pub record WholeValue (s : List ℕ) (at end : ℕ) : Type 0 where
   pub value : SomeAt s at
   pub ends : EndsAt s at end
-
--- r says whether the members of each of its sets rise.
-abbrev pub Ordered : List ℕ → ℕ → Bool → Type 0
-Ordered s at r = (v : Value) → ValueAt s at v → CellsFit v → r ≡ ordered v

@@ -7,7 +7,7 @@ use lib.Dec.{T, eqb, leb}
 use Rattle.rules.specs.Values.{Value, Values, none, _▸_, count}
 use Rattle.rules.specs.Fits.{typesOf, sharedTypes, inhabited, typed}
 use Rattle.arena.specs.Code.{ValueAt, ValuesAt, CellsFit, AllFit}
-use Rattle.buffer.specs.Ordered.{ordered}
+use Rattle.buffer.specs.Ordered.{inOrder, ordered}
 
 -- Each value has a type.
 abbrev pub AllTyped : Values → Type 0
@@ -35,9 +35,9 @@ leastAlike x = cond (eqb (x / 4294967296) 3) (x / 256 * 256) (x / 4294967296 * 4
 abbrev pub mostAlike : ℕ → ℕ
 mostAlike x = cond (eqb (x / 4294967296) 3) (x / 256 * 256 + 255) (x / 4294967296 * 4294967296 + 4294967295)
 
--- r says whether the value at `at` has a type.
-abbrev pub TypedHere : List ℕ → ℕ → Bool → Type 0
-TypedHere s at r = (v : Value) → ValueAt s at v → CellsFit v → r ≡ typed v
+-- r says whether n values that have types rise and share one, as the members of a set do.
+abbrev pub MembersFine : List ℕ → ℕ → ℕ → Bool → Type 0
+MembersFine s at n r = (vs : Values) → TypedRow s at n vs → r ≡ (inOrder vs && inhabited (sharedTypes vs))
 
 -- A value of n cells, the first of which is x, is a set with as many members as cells behind the first, so one cell each.
 abbrev pub isFlat : ℕ → ℕ → Bool

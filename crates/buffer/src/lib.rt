@@ -1,16 +1,15 @@
 // The values buffer of document 01 (refusal 14), read into the arena.
 ghost use mathlib.Core.Path.{_≡_};
 ghost use mathlib.Core.Bool.{true, cond};
-ghost use Prim.Native.Nat.{_+_, _-_, _≤_, _<_};
-ghost use lib.ListN.{length, getD};
-ghost use Rattle.rules.specs.Tables.{wordAt, tableOf};
-ghost use Rattle.buffer.specs.Buffer.{stepAt, codeOf, cellGood, cellsAtMost, StepTakes, Places};
+ghost use Prim.Native.Nat.{_+_, _≤_, _<_};
+ghost use lib.ListN.{getD};
+ghost use Rattle.rules.specs.Tables.{tableOf};
+ghost use Rattle.rules.specs.Readable.{Header};
+ghost use Rattle.buffer.specs.Buffer.{codeOf, cellGood, cellsAtMost, StepTakes, PlaceReady, Places};
 ghost use Rattle.arena.specs.Code.{Same};
-ghost use Rattle.buffer.specs.Ordered.{SomeMembersAt, InOrder, WholeValue, Ordered};
-ghost use Rattle.buffer.specs.Shared.{SomeTypedRow, Shares, leastAlike, mostAlike, TypedHere, isFlat, Fine};
-ghost use Rattle.buffer.specs.Loaded.{ReadsGood, Enters, Room, Loads, LoadReady};
-
-mod words;
+ghost use Rattle.buffer.specs.Ordered.{SomeMembersAt, InOrder, WholeValue};
+ghost use Rattle.buffer.specs.Shared.{SomeTypedRow, Shares, leastAlike, mostAlike, MembersFine, isFlat, Fine};
+ghost use Rattle.buffer.specs.Loaded.{EntryReady, Enters, Loads, LoadReady};
 
 // A cell in the buffer: its payload, its tag times 2^32, and zero bytes from FREE on.
 const FREE: u64 = 256 * arena::CELL;
@@ -50,28 +49,11 @@ pub struct Environment {
     pub answer: Loaded,
 }
 
-fn wide(x: u8) -> u64
-    ensures { λ r. ⌜ (r ≡ x) × (r < 256) ⌝ }
-{
-    x as u64
-}
-
-// Four bytes, least first.
-fn word(values: &[u8], at: usize) -> u64
-    requires { ⌜ at + 4 ≤ length (now values) ⌝ }
-    ensures { λ r. ⌜ (r ≡ wordAt (now (values .entry)) at) × (r < 4294967296) ⌝ }
-{
-    let a = wide(values[at]);
-    let b = wide(values[at + 1]);
-    let c = wide(values[at + 2]);
-    let d = wide(values[at + 3]);
-    a + 256 * b + 65536 * c + 16777216 * d
-}
-
 impl Cursor {
-    // The cell at this place: eight bytes, the last three zero.
-    pub fn next(self, values: &[u8]) -> Step
-        ensures { λ r. ⌜ r ≡ stepAt (now (values .entry)) (self .at) ⌝ }
+    // The good cell at this place: eight bytes, the last three zero.
+    fn next(self, table: &[u8], values: &[u8]) -> Step
+        requires { ⌜ Header (now table) ⌝ }
+        ensures { λ r. ⌜ StepTakes (tableOf (now (table .entry)) .sizes) (now (values .entry)) (self .at) r ⌝ }
     {
         let at = self.at;
         let len = values.len();
@@ -81,32 +63,19 @@ impl Cursor {
         if len - 8 < at {
             return Step::End;
         }
-        let x = word(values, at) + arena::CELL * word(values, at + 4);
+        let x = table::word(values, at) as u64 + arena::CELL * table::word(values, at + 4) as u64;
         if x >= FREE {
+            return Step::End;
+        }
+        if !good_cell(table, x) {
             return Step::End;
         }
         Step::Cell(x, Cursor { at: at + 8 })
     }
-
-    // The good cell at this place.
-    fn take(self, values: &[u8], sizes: &[u32]) -> Step
-        ensures { λ r. ⌜ StepTakes (now (sizes .entry)) (now (values .entry)) (self .at) r ⌝ }
-    {
-        let step = self.next(values);
-        match step {
-            Step::Cell(x, next) => {
-                if good_cell(x, sizes) {
-                    return Step::Cell(x, next);
-                }
-                Step::End
-            }
-            Step::End => Step::End,
-        }
-    }
 }
 
 // The arena's cell for a cell of the buffer: numbers go from two's complement to excess form.
-pub fn code_cell(cell: u64) -> u64
+fn code_cell(cell: u64) -> u64
     ensures { λ r. ⌜ r ≡ codeOf cell ⌝ }
 {
     if arena::tag(cell) == 1 {
@@ -115,20 +84,10 @@ pub fn code_cell(cell: u64) -> u64
     cell
 }
 
-// The size of the given set g; 0 where there is none.
-fn size(sizes: &[u32], g: u64) -> u64
-    ensures { λ r. ⌜ r ≡ getD (now (sizes .entry)) g 0 ⌝ }
-{
-    let i = g as usize;
-    if i < sizes.len() {
-        return sizes[i] as u64;
-    }
-    0
-}
-
 // Whether a value may have this cell: its tag, a truth below 2, an element that its given set has, no payload of a pair.
-fn good_cell(cell: u64, sizes: &[u32]) -> bool
-    ensures { λ r. ⌜ r ≡ cellGood (now (sizes .entry)) cell ⌝ }
+fn good_cell(table: &[u8], cell: u64) -> bool
+    requires { ⌜ Header (now table) ⌝ }
+    ensures { λ r. ⌜ r ≡ cellGood (tableOf (now (table .entry)) .sizes) cell ⌝ }
 {
     let t = arena::tag(cell);
     let p = arena::low(cell);
@@ -136,7 +95,7 @@ fn good_cell(cell: u64, sizes: &[u32]) -> bool
         return true;
     }
     if t == 3 {
-        return p % 256 < size(sizes, p / 256);
+        return p % 256 < table::size(table, (p / 256) as usize) as u64;
     }
     if t == 2 {
         return p < 2;
@@ -161,9 +120,12 @@ pub fn cells_at_most(n: usize, bytes: usize) -> usize
 }
 
 // Reads one value of at most 256 cells and copies it to the arena at top.
-pub fn copy_value(from: Cursor, values: &[u8], sizes: &[u32], s: &mut [u64], top: usize) -> Placed
-    requires { ⌜ top + cellsAtMost 1 (length (now values) - from .at) ≤ length (now s) ⌝ }
-    ensures { λ r. ⌜ Same top (now (s .entry)) (now (s .exit)) × Places (now (sizes .entry)) (now (values .entry)) (from .at) (now (s .exit)) top r ⌝ }
+fn copy_value(table: &[u8], from: Cursor, values: &[u8], s: &mut [u64], top: usize) -> Placed
+    requires { ⌜ PlaceReady (now table) (now values) (from .at) (now s) top ⌝ }
+    ensures { λ r. ⌜
+        Same top (now (s .entry)) (now (s .exit)) ×
+        Places (tableOf (now (table .entry)) .sizes) (now (values .entry)) (from .at) (now (s .exit)) top r
+        ⌝ }
 {
     let mut c = from;
     let mut n: usize = 0;
@@ -173,7 +135,7 @@ pub fn copy_value(from: Cursor, values: &[u8], sizes: &[u32], s: &mut [u64], top
         if left > 256 - n {
             return Placed::Fault;
         }
-        let Step::Cell(x, next) = c.take(values, sizes) else {
+        let Step::Cell(x, next) = c.next(table, values) else {
             return Placed::Fault;
         };
         s[top + n] = code_cell(x);
@@ -219,24 +181,6 @@ fn in_order(s: &[u64], at: usize, n: u64) -> bool
             return false;
         }
         left -= 1;
-    }
-    true
-}
-
-// Whether the members of every set in the value from `at` to `end` rise.
-pub fn rises(s: &[u64], at: usize, end: usize) -> bool
-    requires { ⌜ WholeValue (now s) at end ⌝ }
-    ensures { λ r. ⌜ Ordered (now (s .entry)) at r ⌝ }
-{
-    let mut i = at;
-    while i < end {
-        let x = s[i];
-        i += 1;
-        if x >= arena::SET {
-            if !in_order(s, i, arena::low(x)) {
-                return false;
-            }
-        }
     }
     true
 }
@@ -328,10 +272,21 @@ fn share(s: &[u64], at: usize, n: u64) -> bool
     values_share(s, at, n)
 }
 
-// Whether the value from `at` to `end` has a type: in each of its sets, from the innermost outward, the members share one.
-pub fn well_typed(s: &[u64], at: usize, end: usize) -> bool
+// Whether n values from `at` on rise and share a type, as the members of a set do.
+fn members_fine(s: &[u64], at: usize, n: u64) -> bool
+    requires { ⌜ SomeTypedRow (now s) at n ⌝ }
+    ensures { λ r. ⌜ MembersFine (now (s .entry)) at n r ⌝ }
+{
+    if !in_order(s, at, n) {
+        return false;
+    }
+    share(s, at, n)
+}
+
+// Whether the members of each set in the value from `at` to `end` do, from the innermost outward.
+fn sets_fine(s: &[u64], at: usize, end: usize) -> bool
     requires { ⌜ WholeValue (now s) at end ⌝ }
-    ensures { λ r. ⌜ TypedHere (now (s .entry)) at r ⌝ }
+    ensures { λ r. ⌜ Fine (now (s .entry)) at r ⌝ }
 {
     let mut i = end;
     while i > at {
@@ -339,7 +294,7 @@ pub fn well_typed(s: &[u64], at: usize, end: usize) -> bool
         i -= 1;
         let x = s[i];
         if x >= arena::SET {
-            if !share(s, next, arena::low(x)) {
+            if !members_fine(s, next, arena::low(x)) {
                 return false;
             }
         }
@@ -365,76 +320,59 @@ fn fine(s: &[u64], at: usize, end: usize) -> bool
     let x = s[at];
     // In a set whose members are one cell each there is no other set to be tested.
     if flat(x, end - at) {
-        let n = arena::low(x);
-        if !in_order(s, at + 1, n) {
-            return false;
-        }
-        return share(s, at + 1, n);
+        return members_fine(s, at + 1, arena::low(x));
     }
-    if !rises(s, at, end) {
-        return false;
-    }
-    well_typed(s, at, end)
+    sets_fine(s, at, end)
 }
 
-// Reads one value without the faults that refusal 14 names.
-fn read_value(from: Cursor, values: &[u8], sizes: &[u32], s: &mut [u64], top: usize) -> Placed
-    requires { ⌜ top + cellsAtMost 1 (length (now values) - from .at) ≤ length (now s) ⌝ }
-    ensures { λ r. ⌜ Same top (now (s .entry)) (now (s .exit)) × ReadsGood (now (sizes .entry)) (now (values .entry)) (from .at) (now (s .exit)) top r ⌝ }
-{
-    let r = copy_value(from, values, sizes, s, top);
-    match r {
-        Placed::At(next, end) => {
-            if !fine(s, top, end) {
-                return Placed::Fault;
-            }
-            Placed::At(next, end)
-        }
-        Placed::Fault => Placed::Fault,
-    }
-}
-
-// The value of an identifier with this word: 0 is free, and reads one; a bound identifier has the value at `none`.
+// The value of the identifier x: a free one reads one without the faults that refusal 14 names; a bound one has the value at `none`.
 fn read_entry(
-    word: u32,
+    table: &[u8],
+    x: usize,
     from: Cursor,
     values: &[u8],
-    sizes: &[u32],
     s: &mut [u64],
     none: usize,
     top: usize,
 ) -> Entry
-    requires { ⌜ top + cellsAtMost 1 (length (now values) - from .at) ≤ length (now s) ⌝ }
-    ensures { λ r. ⌜ Same top (now (s .entry)) (now (s .exit)) × Enters (now (sizes .entry)) word (now (values .entry)) (from .at) (now (s .entry)) (now (s .exit)) none top r ⌝ }
+    requires { ⌜ EntryReady (now table) x (now values) (from .at) (now s) top ⌝ }
+    ensures { λ r. ⌜
+        Same top (now (s .entry)) (now (s .exit)) ×
+        Enters (now (table .entry)) x (now (values .entry)) (from .at) (now (s .entry)) (now (s .exit)) none top r
+        ⌝ }
 {
-    if word != 0 {
+    if table::bind(table, x) != 0 {
         return Entry::Of(none, from, top);
     }
-    let r = read_value(from, values, sizes, s, top);
+    let r = copy_value(table, from, values, s, top);
     match r {
-        Placed::At(next, end) => Entry::Of(top, next, end),
+        Placed::At(next, end) => {
+            if !fine(s, top, end) {
+                return Entry::Bad;
+            }
+            Entry::Of(top, next, end)
+        }
         Placed::Fault => Entry::Bad,
     }
 }
 
-// Reads one value for each free identifier and nothing else. The cell at top is that of an identifier without a value.
-pub fn read_values(
-    values: &[u8],
-    sizes: &[u32],
-    binds: &[u32],
-    s: &mut [u64],
-    top: usize,
-) -> Environment
-    requires { ⌜ Room (now binds) (now values) (now s) top ⌝ }
-    ensures { λ r. ⌜ Same top (now (s .entry)) (now (s .exit)) × Loads (now (sizes .entry)) (now (binds .entry)) (now (values .entry)) (now (s .exit)) (r .at) top (r .answer) ⌝ }
+// Reads the values of a readable table's free identifiers, and nothing else, into the arena s from top on. The cell at top is the
+// value of the identifiers that have none.
+pub fn load(table: &[u8], values: &[u8], s: &mut [u64], top: usize) -> Environment
+    requires { ⌜ LoadReady (now table) (now values) (now s) top ⌝ }
+    ensures { λ r. ⌜
+        Same top (now (s .entry)) (now (s .exit)) ×
+        Loads (tableOf (now (table .entry)) .sizes) (tableOf (now (table .entry)) .binds) (now (values .entry)) (now (s .exit)) (r .at) top (r .answer)
+        ⌝ }
 {
+    let count = table::identifiers(table);
     s[top] = arena::ZERO;
     let mut env = [top as u32; 32];
     let mut c = Cursor { at: 0 };
     let mut end = top + 1;
     let mut x: usize = 0;
-    while x < binds.len() {
-        let Entry::Of(place, next, e) = read_entry(binds[x], c, values, sizes, s, top, end) else {
+    while x < count {
+        let Entry::Of(place, next, e) = read_entry(table, x, c, values, s, top, end) else {
             return Environment {
                 at: env,
                 answer: Loaded::Refused(x),
@@ -455,19 +393,4 @@ pub fn read_values(
         at: env,
         answer: Loaded::All(end),
     }
-}
-
-// Reads the values of a readable table's free identifiers into the arena s, from top on.
-pub fn load(table: &[u8], values: &[u8], s: &mut [u64], top: usize) -> Environment
-    requires { ⌜ LoadReady (now table) (now values) (now s) top ⌝ }
-    ensures { λ r. ⌜
-        Same top (now (s .entry)) (now (s .exit)) ×
-        Loads (tableOf (now (table .entry)) .sizes) (tableOf (now (table .entry)) .binds) (now (values .entry)) (now (s .exit)) (r .at) top (r .answer)
-        ⌝ }
-{
-    let sizes = words::sizes_of(table);
-    let binds = words::binds_of(table);
-    let g = table::givens(table);
-    let i = table::identifiers(table);
-    read_values(values, &sizes[..g], &binds[..i], s, top)
 }

@@ -25,8 +25,11 @@ inside p = cells-inside _ _ _ (p .pre .2) (p .pre .0)
 abbrev Bounded : Type 0
 Bounded = tie.After-most Inv-loop μ-loop
 
+abbrev least : Bounded → tie.After-least Inv-loop μ-loop
+least b = b .before
+
 abbrev begun : Bounded → Start
-begun b = b .before .before .before .before
+begun b = least b .before .before .before
 
 abbrev Turn : Type 0
 Turn = tie.In-loop Inv-loop μ-loop
@@ -48,7 +51,7 @@ returns : tie.Need-returns Inv-loop μ-loop
 returns c = λ vs r.
     let l = c .before .before in
     cells-fail _ _ _ (lent l .pre .2) _ vs r (l .before .loop .inv vs r) (l .loop-test .taken)
-    (alike-below (x l) (y l) (omega (arith, c .if1 .taken, bounds l .before .least .ensures)))
+    (alike-below (x l) (y l) (omega (arith, c .if1 .taken, least (bounds l) .least .ensures)))
 
 returns-2 : tie.Need-returns-2 Inv-loop μ-loop
 returns-2 c = λ vs r.
@@ -61,7 +64,7 @@ loop-again c = λ vs r.
     let l = c .before .before .before in
     let b = bounds l in
     cells-next _ _ _ (lent l .pre .2) _ vs r (l .before .loop .inv vs r) (l .loop-test .taken)
-    (alike-within (x l) (y l) (omega (arith, c .before .if1 .left, b .before .least .ensures)) (omega (arith, c .if2 .left, b .most .ensures)))
+    (alike-within (x l) (y l) (omega (arith, c .before .if1 .left, least b .least .ensures)) (omega (arith, c .if2 .left, b .most .ensures)))
 
 returns-3 : tie.Need-returns-3 Inv-loop μ-loop
 returns-3 c = λ vs r.

@@ -4,19 +4,20 @@ use mathlib.Core.Path.{subst}
 use native.Mathlib.Omega.{arith}
 use borrow.Author.Needs.{needs}
 use lib.ListN.{length}
-use Rattle.laws.proofs.CellsLaws.{Bytes}
+use Rattle.rules.specs.Tables.{tableOf}
+use Rattle.laws.proofs.CellsLaws.{Bytes, Sizes}
 use Rattle.buffer.specs.declared.Step.{Step}
 use Rattle.buffer.specs.Buffer.{StepTakes, GoodCell}
-use Rattle.buffer.proofs.Walk.{Walk, bytes-all, walk-start, walk-room, walk-step, walk-none, walk-heavy, walk-end}
+use Rattle.buffer.proofs.Walk.{Walk, bytes-all, readable-sizes, walk-start, walk-room, walk-step, walk-none, walk-heavy, walk-end}
 use Rattle.buffer.proofs.copy_value.Statement.{statement}
 use Rattle.buffer.proofs.copy_value.Tie as tie
 
 abbrev Inv-loop : tie.InvT-loop
-Inv-loop values sizes s₀ top c₀ n₀ left₀ s c n left =
-    (n ≤ 256) × (left < 8589934592) × Walk sizes values (c₀ .at) (c .at) left n s₀ s top
+Inv-loop table values s₀ top c₀ n₀ left₀ s c n left =
+    (n ≤ 256) × (left < 8589934592) × Walk (tableOf table .sizes) values (c₀ .at) (c .at) left n s₀ s top
 
 abbrev μ-loop : tie.MeasureT-loop
-μ-loop values sizes s₀ top c₀ n₀ left₀ s c n left = 256 - n
+μ-loop table values s₀ top c₀ n₀ left₀ s c n left = 256 - n
 
 -- Before the loop: what was lent, and that the buffer holds bytes.
 abbrev Begun : Type 0
@@ -26,7 +27,7 @@ abbrev lent : Begun → tie.Start Inv-loop μ-loop
 lent b = b .before .before .before
 
 bytes : (b : Begun) → Bytes (lent b .args .values .now)
-bytes b = bytes-all (lent b .args .values .now) (λ i l. omega (arith, b .before .before .shared-slice-known .given i))
+bytes b = bytes-all (lent b .args .values .now) (λ i l. omega (arith, b .before .shared-slice-known2 .given i))
 
 -- A turn of the loop; the cell has been taken, or none is there; it is a good cell.
 abbrev Turn : Type 0
@@ -35,16 +36,19 @@ Turn = tie.In-loop Inv-loop μ-loop
 abbrev begun : Turn → Begun
 begun l = l .before .before
 
+sizes : (l : Turn) → Sizes (tableOf (lent (begun l) .args .table .now) .sizes)
+sizes l = readable-sizes (lent (begun l) .pre .readable)
+
 abbrev Taken : Type 0
-Taken = tie.After-take Inv-loop μ-loop
+Taken = tie.After-next Inv-loop μ-loop
 
 abbrev turn : Taken → Turn
 turn k = k .before .before
 
--- What the answer of `take` says, once it is known.
+-- What the answer of `next` says, once it is known.
 abbrev Takes : Taken → Step → Type 0
 Takes k q =
-    let a = lent (begun (turn k)) .args in StepTakes (a .sizes .now) (a .values .now) (turn k .before .loop .c .at) q
+    let a = lent (begun (turn k)) .args in StepTakes (tableOf (a .table .now) .sizes) (a .values .now) (turn k .before .loop .c .at) q
 
 abbrev Good : Type 0
 Good = tie.After-x Inv-loop μ-loop
@@ -53,9 +57,9 @@ abbrev taken : Good → Taken
 taken m = m .before .before
 
 cell : (m : Good) →
-    GoodCell (lent (begun (turn (taken m))) .args .sizes .now) (lent (begun (turn (taken m))) .args .values .now)
+    GoodCell (tableOf (lent (begun (turn (taken m))) .args .table .now) .sizes) (lent (begun (turn (taken m))) .args .values .now)
     (turn (taken m) .before .loop .c .at) (m .x .given .0 .0) (m .x .given .0 .1 .0 .at)
-cell m = let k = taken m in subst (Takes k) (m .x .given .1) (k .take .ensures)
+cell m = let k = taken m in subst (Takes k) (m .x .given .1) (k .next .ensures)
 
 -- There is room for one more.
 few : (k : Taken) → turn k .before .loop .n < 256
@@ -67,13 +71,16 @@ coded c = c .before .before
 loop-holds : tie.Need-loop-holds Inv-loop μ-loop
 loop-holds c =
     let p = lent c in
-    (omega arith, omega arith, walk-start _ _ (p .args .from .at) _ _ (omega (arith, p .pre)))
+    (omega arith, omega arith, walk-start _ _ (p .args .from .at) _ _ (omega (arith, p .pre .room)))
 
 returns : tie.Need-returns Inv-loop μ-loop
 returns c =
     let l = c .before in
-    let i = l .before .loop .inv in
-    (i .2 .frame, walk-heavy _ _ (bytes (begun l)) _ _ _ _ _ _ _ (i .2) (l .loop-test .taken) (omega (arith, c .if1 .taken, i .0)))
+    let i = l .before .loop .inv in (
+      i .2 .frame,
+      λ v rest e g.
+          walk-heavy (bytes (begun l)) (i .2) (l .loop-test .taken) (sizes l) v rest e g (omega (arith, c .if1 .taken, i .0)),
+    )
 
 returns-2 : tie.Need-returns-2 Inv-loop μ-loop
 returns-2 c =
@@ -81,7 +88,8 @@ returns-2 c =
     let l = turn k in
     let i = l .before .loop .inv in (
       i .2 .frame,
-      walk-none _ _ (bytes (begun l)) _ _ _ _ _ _ _ (i .2) (l .loop-test .taken) (subst (Takes k) (c .enum-told .given .1) (k .take .ensures)),
+      λ v rest e g.
+          walk-none (bytes (begun l)) (i .2) (l .loop-test .taken) (sizes l) v rest e g (subst (Takes k) (c .enum-told .given .1) (k .next .ensures)),
     )
 
 room : (c : tie.After-code-cell Inv-loop μ-loop) →
@@ -89,7 +97,7 @@ room : (c : tie.After-code-cell Inv-loop μ-loop) →
 room c =
     let m = coded c in
     let l = turn (taken m) in
-    walk-room (l .before .loop .inv .2) (cell m) (few (taken m)) (lent (begun l) .pre)
+    walk-room (l .before .loop .inv .2) (cell m) (few (taken m)) (lent (begun l) .pre .room)
 
 loop-again : tie.Need-loop-again Inv-loop μ-loop
 loop-again c =
@@ -99,14 +107,14 @@ loop-again c =
     let l = turn k in (
       omega (arith, few k),
       omega (arith, k .before .if1 .left, c .parts .ensures .1),
-      walk-step _ _ (bytes (begun l)) _ _ _ _ _ _ _ (l .before .loop .inv .2) (l .loop-test .taken)
+      walk-step (bytes (begun l)) (l .before .loop .inv .2) (l .loop-test .taken)
           _ _ _ _ (cell m) (d .code-cell .ensures) (c .parts .ensures .0) (room d),
     )
 
 returns-3 : tie.Need-returns-3 Inv-loop μ-loop
 returns-3 c =
     let i = c .before .loop .inv in
-    (i .2 .frame, walk-end _ _ _ _ _ _ _ _ _ (i .2) (omega (arith, c .loop-test .left)) (i .0))
+    (i .2 .frame, walk-end (i .2) (omega (arith, c .loop-test .left)) (i .0))
 
 pub copy-value-spec : {M : Type 1} → statement M
 copy-value-spec =
@@ -133,6 +141,6 @@ copy-value-spec =
     (λ c. search needs)
     (λ c. omega (arith, few (taken (coded (c .before)))))
     loop-again
-    (λ c. omega (arith, lent (c .before .before) .pre))
+    (λ c. omega (arith, lent (c .before .before) .pre .room))
     (λ c. c .before .loop .inv .2 .frame .kept)
     returns-3)

@@ -3,6 +3,7 @@ use Prim.Native.Nat.{ℕ, _%_}
 use mathlib.Core.Path.{_≡_, ap, _∙_}
 use lib.Dec.{ltb}
 use borrow.Author.Needs.{needs}
+use Rattle.rules.specs.Tables.{tableOf}
 use Rattle.buffer.specs.Buffer.{tagGood, cellGood}
 use Rattle.buffer.proofs.Walk.{good-by, good-other}
 use Rattle.buffer.proofs.good_cell.Statement.{statement}
@@ -13,7 +14,7 @@ abbrev lent : tie.After-low → tie.Start
 lent m = m .before .before .before
 
 by-tag : (m : tie.After-low) (k : ℕ) → m .before .tag .result ≡ k →
-    tagGood (lent m .args .sizes .now) k (m .low .result) ≡ cellGood (lent m .args .sizes .now) (lent m .args .cell)
+    tagGood (tableOf (lent m .args .table .now) .sizes) k (m .low .result) ≡ cellGood (tableOf (lent m .args .table .now) .sizes) (lent m .args .cell)
 by-tag m k e = good-by _ _ _ _ k (m .before .tag .ensures) (m .low .ensures .0) e
 
 abbrev known : tie.Else3 → tie.After-low

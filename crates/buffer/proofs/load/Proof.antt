@@ -1,56 +1,176 @@
--- `load`: the table's words are lent as they stand in their arrays.
+-- `load`: the values of the first x identifiers have been read (`Loading`).
+use Prim.Native.Nat.{ℕ, _-_, _<_, _≤_}
+use mathlib.Core.List.{List}
+use mathlib.Core.Path.{_≡_, subst, _∙_}
+use native.Mathlib.Omega.{arith}
 use borrow.Author.Needs.{needs}
-use Rattle.buffer.proofs.Filling.{begins-lent, begins-count, size-bound, bind-bound, load-room, loads-as}
+use lib.ListN.{length, length-set, replicate, length-replicate, getD-replicate}
+use Rattle.rules.specs.Tables.{tableOf}
+use Rattle.laws.proofs.TableLaws.{binds-length}
+use Rattle.arena.specs.Code.{Same}
+use Rattle.arena.proofs.Standing.{same-trans}
+use Rattle.buffer.specs.declared.Entry.{Entry}
+use Rattle.buffer.specs.declared.Entry.the-variants.{Of}
+use Rattle.buffer.specs.Loaded.{Enters}
+use Rattle.buffer.proofs.Loading.{Loading, frame-all, loading-start, loading-step, loading-bad, loading-surplus, loading-end}
 use Rattle.buffer.proofs.load.Statement.{statement}
 use Rattle.buffer.proofs.load.Tie as tie
 
--- The sizes and the words have been copied; what was lent.
-abbrev lent : tie.After-binds-of → tie.Start
-lent b = b .before .before .before .before .before
+abbrev Inv-loop : tie.InvT-loop
+Inv-loop table values s₀ top count env₀ c₀ end₀ x₀ s env c end x =
+    Loading (tableOf table .sizes) (tableOf table .binds) values x (c .at) s₀ s top end env
 
-slice-aggregate-read-values : tie.Need-slice-aggregate-read-values
-slice-aggregate-read-values c =
-    let g = c .before .before in
-    let b = g .before in
-    begins-count (b .before .sizes-of .ensures) (g .givens .ensures) (size-bound (lent b .pre .readable))
+abbrev μ-loop : tie.MeasureT-loop
+μ-loop table values s₀ top count env₀ c₀ end₀ x₀ s env c end x = count - x
 
-slice-aggregate-read-values-2 : tie.Need-slice-aggregate-read-values-2
-slice-aggregate-read-values-2 c =
-    let i = c .before .before in
-    let b = i .before .before in
-    begins-count (b .binds-of .ensures) (i .identifiers .ensures) (bind-bound (lent b .pre .readable))
+-- Before the loop: the identifiers have been counted; what was lent.
+abbrev Counted : Type 0
+Counted = tie.After-identifiers Inv-loop μ-loop
 
-read-values-requires : tie.Need-read-values-requires
-read-values-requires c κs =
-    let i = c .before .before .before in
-    let b = i .before .before in
-    load-room (lent b .pre) (begins-lent (b .binds-of .ensures) (i .identifiers .ensures))
+abbrev known : Counted → tie.After-shared-slice-known2 Inv-loop μ-loop
+known n = n .before .before
 
-returns : tie.Need-returns
+abbrev lent : Counted → tie.Start Inv-loop μ-loop
+lent n = known n .before .before
+
+all : (n : Counted) → (n .identifiers .result ≡ length (tableOf (lent n .args .table .now) .binds)) × (n .identifiers .result ≤ 32)
+all n =
+    let e = n .identifiers .ensures in (omega (arith, binds-length (lent n .args .table .now)), omega (arith, lent n .pre .readable .header .identifiers))
+
+-- At the loop: the arena has its length, and below `top` it is as it was.
+abbrev Loop : Type 0
+Loop = tie.At-loop Inv-loop μ-loop
+
+kept : (a : Loop) → length (a .loop .s) ≡ length (lent (a .before) .args .s .now)
+kept a = let p = lent (a .before) .args in a .loop .inv .frame .kept ∙ length-set (p .s .now) (p .top) 6442450944
+
+framed : (a : Loop) → Same (lent (a .before) .args .top) (lent (a .before) .args .s .now) (a .loop .s)
+framed a = frame-all _ _ _ _ (a .loop .inv .frame)
+
+-- A turn of the loop: x is an identifier. An entry has been read, or not; the arena then, and what the answer says, once it is known.
+abbrev Read : Type 0
+Read = tie.After-read-entry Inv-loop μ-loop
+
+abbrev turn : Read → tie.In-loop Inv-loop μ-loop
+turn k = k .before .before
+
+abbrev at : Read → Loop
+at k = turn k .before
+
+more : (l : tie.In-loop Inv-loop μ-loop) →
+    (l .before .loop .x < length (tableOf (lent (l .before .before) .args .table .now) .binds)) × (l .before .loop .x < 32)
+more l = let h = all (l .before .before) in (omega (arith, l .loop-test .taken, h .0), omega (arith, l .loop-test .taken, h .1))
+
+abbrev arena : Read → List ℕ
+arena k = k .read-entry .last .1 .1 .1 .1 .0
+
+abbrev Answers : Read → Entry → Type 0
+Answers k q =
+    let a = at k in
+    let p = lent (a .before) .args in
+    Enters (p .table .now) (a .loop .x) (p .values .now) (a .loop .c .at) (a .loop .s) (arena k) (p .top) (a .loop .end) q
+
+-- The identifier has a value.
+abbrev matched : tie.After-place Inv-loop μ-loop → tie.After-s Inv-loop μ-loop
+matched m = m .before .before .before
+
+abbrev read : tie.After-place Inv-loop μ-loop → Read
+read m = matched m .before
+
+entered : (m : tie.After-place Inv-loop μ-loop) →
+    Answers (read m) (Of (m .place .given .0 .0) (m .place .given .0 .1 .0) (m .place .given .0 .1 .1 .0))
+entered m = let k = read m in subst (Answers k) (m .place .given .1) (k .read-entry .ensures .1)
+
+loop-holds : tie.Need-loop-holds Inv-loop μ-loop
+loop-holds c =
+    let p = lent c in
+    let top = p .args .top in
+    loading-start _ _ (p .args .values .now) (p .args .s .now) top (replicate 32 top) (omega (arith, p .pre .room))
+    (length-replicate 32 top) (λ y l. getD-replicate 32 y top 0 l)
+
+read-entry-requires : tie.Need-read-entry-requires Inv-loop μ-loop
+read-entry-requires c κs =
+    let l = c .before in
+    let a = l .before in
+    let p = lent (a .before) .pre in
+    record {
+      named = omega (arith, l .loop-test .taken, a .before .identifiers .ensures);
+      place = record {
+        readable = p .readable;
+        room = omega (arith, a .loop .inv .room, p .room, l .loop-test .taken, a .before .identifiers .ensures, kept a);
+      };
+    }
+
+same-length : tie.Need-same-length Inv-loop μ-loop
+same-length c =
+    let m = c .before in
+    let k = m .before .before .before in
+    k .read-entry .ensures .0 .kept ∙ kept (at k)
+
+returns : tie.Need-returns Inv-loop μ-loop
 returns c =
-    let v = c .before .before in
-    let a = v .before in
-    let i = a .before .before .before in
-    let b = i .before .before in
-    let p = lent b .args in (
-      v .read-values .ensures .0,
-      loads-as (p .values .now) (v .read-values .last .1 .1 .1 .0) (v .read-values .result .at) (p .top) (v .read-values .result .answer)
-          (begins-lent (b .before .sizes-of .ensures) (i .before .givens .ensures))
-          (begins-lent (b .binds-of .ensures) (i .identifiers .ensures)) (v .read-values .ensures .1),
+    let m = c .before in
+    let k = m .before .before .before in
+    let i = at k .loop .inv in (
+      frame-all _ _ _ _ (same-trans _ _ _ _ _ (i .frame) (k .read-entry .ensures .0) (omega (arith, i .above))),
+      loading-bad i (more (turn k) .0) (subst (Answers k) (c .enum-told .given .1) (k .read-entry .ensures .1)),
     )
+
+cast-env-2 : tie.Need-cast-env-2 Inv-loop μ-loop
+cast-env-2 c =
+    let m = c .before in
+    let a = at (read m) in
+    omega (
+      arith,
+      entered m .below (a .loop .inv .nowhere) .stands .inside,
+      read m .read-entry .ensures .0 .kept,
+      kept a,
+      lent (a .before) .pre .small,
+    )
+
+loop-again : tie.Need-loop-again Inv-loop μ-loop
+loop-again c =
+    let m = c .before in
+    let k = read m in
+    let l = more (turn k) in
+    loading-step (at k .loop .inv) (arena k) _ _ _ (l .0) (l .1) (k .read-entry .ensures .0) (entered m)
+
+returns-2 : tie.Need-returns-2 Inv-loop μ-loop
+returns-2 c =
+    let e = c .before .before in
+    let a = e .before in
+    (framed a, loading-surplus (a .loop .inv) (omega (arith, e .loop-test .left, all (a .before) .0)) (c .if1 .taken))
+
+returns-3 : tie.Need-returns-3 Inv-loop μ-loop
+returns-3 c =
+    let e = c .before .before in
+    let a = e .before in
+    (framed a, loading-end (a .loop .inv) (omega (arith, e .loop-test .left, all (a .before) .0)) (omega (arith, c .if1 .left)))
 
 pub load-spec : {M : Type 1} → statement M
 load-spec =
     tie.close
     (tie.spec
+    Inv-loop
+    μ-loop
     (λ c κs. search needs)
-    (λ c κs. search needs)
-    (λ c κs. search needs)
-    (λ c κs. search needs)
+    (λ c. omega (arith, lent c .pre .room))
+    (λ c. omega (arith, lent c .pre .room))
+    (λ c. omega (arith, lent c .pre .room, lent c .pre .small))
+    (λ c. omega (arith, lent c .pre .room))
+    loop-holds
+    read-entry-requires
     (λ c. search needs)
-    slice-aggregate-read-values
     (λ c. search needs)
-    slice-aggregate-read-values-2
-    read-values-requires
-    (λ c. search needs)
-    returns)
+    same-length
+    returns
+    cast-env-2
+    (λ c. omega (arith, more (turn (read (c .before))) .1))
+    (λ c. omega (arith, more (turn (read (c .before))) .1))
+    (λ c. omega (arith, more (turn (read (c .before))) .1))
+    (λ c. omega (arith, turn (read (c .before)) .loop-test .taken))
+    loop-again
+    (λ c. kept (c .before .before .before))
+    returns-2
+    (λ c. kept (c .before .before .before))
+    returns-3)
