@@ -46,9 +46,7 @@ loop-again c = λ vs h.
 pub all-subsets-spec : {M : Type 1} → statement M
 all-subsets-spec =
     tie.close
-    (tie.spec
-    Inv-loop
-    μ-loop
+    (tie.spec Inv-loop μ-loop
     (λ c. λ vs h. all-start _ _ _ vs (omega (arith, c .before .pre .room)))
     (λ c κs. search needs)
     subset-if-requires

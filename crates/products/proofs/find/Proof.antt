@@ -56,9 +56,7 @@ loop-again c = λ v zs h f m.
 pub find-spec : {M : Type 1} → statement M
 find-spec =
     tie.close
-    (tie.spec
-    Inv-loop
-    μ-loop
+    (tie.spec Inv-loop μ-loop
     (λ c. λ v zs h f m. finding-start _ v _ _ zs m)
     compare-requires
     returns

@@ -35,9 +35,7 @@ loop-again c = λ top vs f.
 pub marks-spec : {M : Type 1} → statement M
 marks-spec =
     tie.close
-    (tie.spec
-    Inv-loop
-    μ-loop
+    (tie.spec Inv-loop μ-loop
     (λ c. λ top vs f. marking-start _ top _ _ vs _ refl refl f)
     (λ c. omega (arith, c .loop-test .taken, lent (c .before) .pre .few))
     (λ c. omega (arith, c .loop-test .taken, lent (c .before) .pre .few))

@@ -28,10 +28,6 @@ add-if1 c =
     let w = lent (first c) .pre .1 .1 in
     omega (arith, value-end _ _ _ _ _ v (first c .end-of .ensures), value-end _ _ _ _ _ w (c .end-of2 .ensures), v .light, w .light)
 
-returns : tie.Need-returns
-returns c = λ v w h k.
-    let m = c .before in pair-heavy _ _ _ _ _ _ (first m .end-of .ensures) (m .end-of2 .ensures) (c .if1 .taken) v w h k
-
 pair-at-requires : tie.Need-pair-at-requires
 pair-at-requires c κs =
     let m = light c .before in
@@ -54,7 +50,7 @@ pair-spec =
     (λ c. omega (arith, value-end _ _ _ _ _ (lent (first c) .pre .1 .1) (c .end-of2 .ensures)))
     add-if1
     (λ c. search needs)
-    returns
+    (λ c. λ v w h k. let m = c .before in pair-heavy _ _ _ _ _ _ (first m .end-of .ensures) (m .end-of2 .ensures) (c .if1 .taken) v w h k)
     pair-at-requires
     (λ c. search needs)
     returns-2)

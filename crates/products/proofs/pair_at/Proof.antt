@@ -36,10 +36,6 @@ copy-requires-2 c κs =
     let k = m .copy .ensures .kept in
     (omega (arith, q .right, q .room, kept (m .before)), omega (arith, q .room, kept (m .before)), inl (omega (arith, q .right)))
 
-same-length : tie.Need-same-length
-same-length c =
-    let m = first (both c .before) in omega (arith, m .copy .ensures .kept, both c .copy2 .ensures .kept, kept (m .before))
-
 returns : tie.Need-returns
 returns c = λ v w h k e f.
     let m = first (both c .before) in
@@ -59,5 +55,5 @@ pair-at-spec =
     (λ c. search needs)
     (λ c. search needs)
     (λ c. search needs)
-    same-length
+    (λ c. let m = first (both c .before) in omega (arith, m .copy .ensures .kept, both c .copy2 .ensures .kept, kept (m .before)))
     returns)

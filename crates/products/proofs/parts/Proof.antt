@@ -104,9 +104,7 @@ returns c = λ vs h p.
 pub parts-spec : {M : Type 1} → statement M
 parts-spec =
     tie.close
-    (tie.spec
-    Inv-loop
-    μ-loop
+    (tie.spec Inv-loop μ-loop
     (λ c. omega (arith, c .before .pre .1))
     (λ c. omega (arith, set-inside _ _ _ _ (c .before .pre .0 .1)))
     (λ c. set-inside _ _ _ _ (c .before .before .pre .0 .1))

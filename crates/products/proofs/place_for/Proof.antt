@@ -14,9 +14,6 @@ Ordered = tie.After-compare
 abbrev lent : Ordered → tie.Start
 lent m = m .before .before .before
 
-returns : tie.Need-returns
-returns c = λ v xs h b. place-none _ _ _ _ v _ h b (c .if1 .taken)
-
 compare-requires : tie.Need-compare-requires
 compare-requires c κs =
     let q = c .before .before .pre in
@@ -26,11 +23,12 @@ returns-2 : tie.Need-returns-2
 returns-2 c = λ v xs h b.
     let m = c .before in place-last _ _ _ _ v _ h b (m .before .if1 .left) (rising-rising xs) _ (m .compare .ensures) (omega (arith, c .if2 .taken))
 
-find-requires : tie.Need-find-requires
-find-requires c κs = place-find _ _ _ _ _ (lent (c .before) .pre)
-
-returns-3 : tie.Need-returns-3
-returns-3 c = λ v xs h b. c .find .ensures v (rising xs) (h .stands) (h .fits) (b .members)
-
 pub place-for-spec : {M : Type 1} → statement M
-place-for-spec = tie.close (tie.spec returns compare-requires returns-2 find-requires returns-3)
+place-for-spec =
+    tie.close
+    (tie.spec
+    (λ c. λ v xs h b. place-none _ _ _ _ v _ h b (c .if1 .taken))
+    compare-requires
+    returns-2
+    (λ c κs. place-find _ _ _ _ _ (lent (c .before) .pre))
+    (λ c. λ v xs h b. c .find .ensures v (rising xs) (h .stands) (h .fits) (b .members)))

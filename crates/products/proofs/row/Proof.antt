@@ -40,10 +40,6 @@ put m = m .before .before
 abbrev ended : tie.After-slice-known2 Inv-loop μ-loop → Ended
 ended m = put m .before .before
 
-end-of-requires : tie.Need-end-of-requires Inv-loop μ-loop
-end-of-requires c κs =
-    let l = c .before .before in row-some _ _ _ _ _ _ _ _ _ (lent l .pre .behind) (known l) (c .before .loop-test .taken)
-
 sub-pair-at : tie.Need-sub-pair-at Inv-loop μ-loop
 sub-pair-at c =
     let q = member (c .before) in
@@ -66,11 +62,9 @@ loop-again c = λ top x ws h e f l.
 pub row-spec : {M : Type 1} → statement M
 row-spec =
     tie.close
-    (tie.spec
-    Inv-loop
-    μ-loop
+    (tie.spec Inv-loop μ-loop
     (λ c. λ top x ws h e f l. row-start _ top x ws _ _ _ (omega (arith, c .before .pre .room)) f)
-    end-of-requires
+    (λ c κs. let l = c .before .before in row-some _ _ _ _ _ _ _ _ _ (lent l .pre .behind) (known l) (c .before .loop-test .taken))
     sub-pair-at
     pair-at-requires
     (λ c. omega (arith, member (ended c) .loop-test .taken))

@@ -39,10 +39,6 @@ put m = m .before .before
 abbrev ended : tie.After-slice-known2 Inv-loop μ-loop → Ended
 ended m = put m .before .before
 
-end-of-requires : tie.Need-end-of-requires Inv-loop μ-loop
-end-of-requires c κs =
-    let l = c .before .before in square-some _ _ _ _ _ _ _ _ _ (lent l .pre .behind) (known l) (c .before .loop-test .taken)
-
 sub-row : tie.Need-sub-row Inv-loop μ-loop
 sub-row c =
     let q = member (c .before) in
@@ -64,11 +60,9 @@ loop-again c = λ top vs ws f g l.
 pub rows-spec : {M : Type 1} → statement M
 rows-spec =
     tie.close
-    (tie.spec
-    Inv-loop
-    μ-loop
+    (tie.spec Inv-loop μ-loop
     (λ c. λ top vs ws f g l. square-start _ top vs ws _ _ _ (omega (arith, c .before .pre .room)) f)
-    end-of-requires
+    (λ c κs. let l = c .before .before in square-some _ _ _ _ _ _ _ _ _ (lent l .pre .behind) (known l) (c .before .loop-test .taken))
     sub-row
     row-requires
     (λ c. omega (arith, member (ended c) .loop-test .taken))

@@ -19,9 +19,7 @@ loop-again c =
 pub shift-spec : {M : Type 1} → statement M
 shift-spec =
     tie.close
-    (tie.spec
-    Inv-loop
-    μ-loop
+    (tie.spec Inv-loop μ-loop
     (λ c. shifting-start _ _ _ _)
     (λ c. omega arith)
     (λ c. omega arith)

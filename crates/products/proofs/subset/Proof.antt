@@ -60,9 +60,7 @@ returns c = λ vs h.
 pub subset-spec : {M : Type 1} → statement M
 subset-spec =
     tie.close
-    (tie.spec
-    Inv-loop
-    μ-loop
+    (tie.spec Inv-loop μ-loop
     (λ c. omega (arith, c .before .pre .room))
     (λ c. λ vs h. subset-start _ _ _ _ _ vs h (c .before .pre .room))
     (λ c. omega (arith, c .loop-test .taken, lent (c .before) .pre .few))
