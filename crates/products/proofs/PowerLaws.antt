@@ -89,7 +89,7 @@ module _ (s₀ at : List ℕ) (n p to : ℕ) (s : List ℕ) (j end : ℕ) (vs : 
     few = few;
     room = omega (
       arith,
-      grown-left s₀ to s end (allFrom p 0 vs) (allFrom p j vs) h,
+      grown-left h,
       length-codes (values (picked p masks (members vs))),
       h .appended .frame .kept,
     );
@@ -98,11 +98,11 @@ module _ (s₀ at : List ℕ) (n p to : ℕ) (s : List ℕ) (j end : ℕ) (vs : 
   pub all-next : (mask : ℕ) (s′ : List ℕ) (r : ℕ) → j < 32 → mask ≡ getD masks j 0 → SubsetIf s at n mask p end s′ r →
       Grown s₀ to s′ r (allFrom p 0 vs) (allFrom p (j + 1) vs)
   all-next mask s′ r l e put =
-      grown-step s₀ to s end (allFrom p 0 vs) (codes (values (keptValue (ltb mask p) (setOf (pick mask (members vs))) []))) (allFrom p (j + 1) vs) s′ r
+      grown-step (allFrom p (j + 1) vs)
       (subst (λ (c : List ℕ). Grown s₀ to s end (allFrom p 0 vs) c) (picked-next p j mask vs l e) h) (put vs all-marked)
 
   pub all-end : 32 ≤ j → Appended s₀ to s end (codes (values (picked p masks (members vs))))
-  all-end l = grown-end s₀ to s end (allFrom p 0 vs) (subst (λ (c : List ℕ). Grown s₀ to s end (allFrom p 0 vs) c) (picked-over p j vs l) h)
+  all-end l = grown-end (subst (λ (c : List ℕ). Grown s₀ to s end (allFrom p 0 vs) c) (picked-over p j vs l) h)
 
 -- `power`
 pub members-count : (vs : Values) → length (members vs) ≡ count vs
@@ -134,7 +134,7 @@ module _ (s : List ℕ) (a top e n p : ℕ) (sized : Sized s a e n p) (vs : Valu
       ∙ rw (power-members, ← (sized .is), values-members vs) (ap (λ (w : ℕ). p + p / 2 * w) (let z : weights vs ≡ e - a - 1 = omega (arith, power-end) in z))
 
   pub power-too-heavy : 256 < 1 + p + p / 2 * (e - a - 1) → Made top s s (setOf (rising (map setOf (subsets (members vs))))) 0
-  power-too-heavy g = made-heavy s top (setOf (rising (map setOf (subsets (members vs))))) (go (decLt 5 n))
+  power-too-heavy g = made-heavy (go (decLt 5 n))
     where
       weighs : weights (values (rising (map setOf (subsets (members vs))))) ≡ powerWeight (members vs)
       weighs = ap (λ (l : List Value). weights (values l)) power-is
@@ -180,7 +180,7 @@ module _ (s : List ℕ) (a top e n p : ℕ) (sized : Sized s a e n p) (vs : Valu
     pub power-made : top + 514 ≤ length s → (at : List ℕ) → Marks s (a + 1) n at → (s′ : List ℕ) (r : ℕ) → AllSubsets s at n p (top + 1) s′ r →
         Made top s (setAt s′ top (21474836480 + p)) (setOf (rising (map setOf (subsets (members vs))))) r
     power-made room at m s′ r put =
-        made-set s top s′ r p (values (rising (map setOf (subsets (members vs)))))
+        made-set
         (subst (λ (l : List Value). Appended s (top + 1) s′ r (codes (values l))) power-picks (put vs (power-marked at m)))
         (sized .is ∙ sym (ap (λ (l : List Value). count (values l)) power-is ∙ power-count (members vs) (omega (arith, power-members, power-few))
         ∙ ap subsetCount power-members))

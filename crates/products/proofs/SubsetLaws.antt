@@ -78,7 +78,7 @@ module _ (s : List ℕ) (top a n : ℕ) (vs : Values) (at : List ℕ) (j : ℕ) 
 pub add-made : (s : List ℕ) (from end : ℕ) (o : Out) (s′ : List ℕ) → AddPre s from end o → Copied s from (end - from) (o .to) s′ →
     Added s from end o s′ (record { last = o .to; to = o .to + (end - from); count = o .count + 1 })
 add-made s from end o s′ p c = record {
-  cells = λ v h e. appended-copy s from (end - from) (o .to) s′ (code v) c h (omega (arith, length-code v)) (p .room);
+  cells = λ v h e. appended-copy c h (omega (arith, length-code v)) (p .room);
   counted = refl;
 }
 
@@ -106,7 +106,7 @@ module _ (s₀ : List ℕ) (top : ℕ) (s : List ℕ) (o : Out) (whole : List Va
     omega (arith, h .grown .appended .ends),
     omega (
       arith,
-      grown-left s₀ (top + 1) s (o .to) (codes (values whole)) (codes (values rest)) (h .grown),
+      grown-left (h .grown),
       length-codes (values whole),
       length-codes (values rest),
     ),
@@ -115,8 +115,8 @@ module _ (s₀ : List ℕ) (top : ℕ) (s : List ℕ) (o : Out) (whole : List Va
 
   putting-end : Putting s₀ top s o whole [] → top + 257 ≤ length s₀ → Made top s₀ (setAt s top (21474836480 + o .count)) (setOf whole) (o .to)
   putting-end h g =
-      made-set s₀ top s (o .to) (o .count) (values whole)
-      (grown-end s₀ (top + 1) s (o .to) (codes (values whole)) (rw no-codes at (h .grown)))
+      made-set
+      (grown-end (rw no-codes at (h .grown)))
       (omega (arith, h .counted)) (omega arith) (omega arith)
 
   module _ (w : Value) (rest : List Value) (h : Putting s₀ top s o whole (w ∷ rest)) (k p e : ℕ) (value : ValueBelow s k p w) (ends : e ≡ p + weight w) where
@@ -134,7 +134,7 @@ module _ (s₀ : List ℕ) (top : ℕ) (s : List ℕ) (o : Out) (whole : List Va
     putting-add s′ r d =
         let a = d .cells w (value .stands) ends in
         record {
-          grown = grown-step s₀ (top + 1) s (o .to) (codes (values whole)) (code w) (codes (values rest)) s′ (r .to)
+          grown = grown-step (codes (values rest))
               (subst (λ (c : List ℕ). Grown s₀ (top + 1) s (o .to) (codes (values whole)) c) (more-codes w rest) (h .grown)) a;
           counted = omega (arith, d .counted, h .counted);
         }

@@ -120,7 +120,7 @@ module _ (b : Bool) (s₀ : List ℕ) (a top n : ℕ) (vs : Values) (g : Given s
         go none f e =
             let m = h .built .members in
             subst (λ (xs : List Value). Made top s₀ (setAt s top (21474836480 + o .count)) (setOf (rising xs)) (o .to)) (sym (e ∙ append-nil (h .done)))
-            (made-set s₀ top s (o .to) (o .count) (values (rising (h .done)))
+            (made-set
             (record { frame = h .frame; stands = m .stands; ends = omega (arith, m .ends, length-codes (values (rising (h .done)))) })
             (h .built .counted) (omega (arith, g .room)) (omega (arith, taking-light)))
         go (v ▸ rest) f e = absurd (omega (arith, f .counted))

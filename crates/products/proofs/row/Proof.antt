@@ -4,7 +4,7 @@ use mathlib.Core.Path.{_≡_}
 use native.Mathlib.Omega.{arith}
 use Rattle.rules.specs.Values.{Value, Values, weight}
 use Rattle.arena.specs.Code.{ValueBelow, Front}
-use Rattle.products.proofs.WalkLaws.{RowAt, row-start, row-some, row-end, row-forward, row-pair, row-next}
+use Rattle.products.proofs.WalkLaws.{RowAt, walk-start, walk-some, walk-forward, row-end, row-pair, row-next}
 use Rattle.products.proofs.row.Statement.{statement}
 use Rattle.products.proofs.row.Tie as tie
 
@@ -40,12 +40,6 @@ put m = m .before .before
 abbrev ended : tie.After-slice-known2 Inv-loop μ-loop → Ended
 ended m = put m .before .before
 
-sub-pair-at : tie.Need-sub-pair-at Inv-loop μ-loop
-sub-pair-at c =
-    let q = member (c .before) in
-    let p = lent (q .before) .pre in
-    row-forward _ _ _ _ _ _ _ _ _ (p .behind) (known (q .before)) _ _ (p .value) (p .weighs) (q .loop-test .taken) _ (c .before .end-of .ensures)
-
 pair-at-requires : tie.Need-pair-at-requires Inv-loop μ-loop
 pair-at-requires c κs =
     let q = member (c .before) in
@@ -63,9 +57,9 @@ pub row-spec : {M : Type 1} → statement M
 row-spec =
     tie.close
     (tie.spec Inv-loop μ-loop
-    (λ c. λ top x ws h e f l. row-start _ top x ws _ _ _ (omega (arith, c .before .pre .room)) f)
-    (λ c κs. let l = c .before .before in row-some _ _ _ _ _ _ _ _ _ (lent l .pre .behind) (known l) (c .before .loop-test .taken))
-    sub-pair-at
+    (λ c. λ top x ws h e f l. walk-start _ _ top ws _ _ _ (omega (arith, c .before .pre .room)) f)
+    (λ c κs. let l = c .before .before in walk-some _ _ _ _ _ _ _ _ _ (lent l .pre .behind) (known l) (c .before .loop-test .taken))
+    (λ c. let q = member (c .before) in walk-forward _ _ _ _ _ _ _ _ _ (lent (q .before) .pre .behind) (known (q .before)) (q .loop-test .taken) _ (c .before .end-of .ensures))
     pair-at-requires
     (λ c. omega (arith, member (ended c) .loop-test .taken))
     (λ c. omega (arith, member (ended c) .loop-test .taken))

@@ -3,7 +3,7 @@ use Prim.Native.Nat.{ℕ, _≤_}
 use native.Mathlib.Omega.{arith}
 use Rattle.rules.specs.Values.{Values}
 use Rattle.arena.specs.Code.{Front}
-use Rattle.products.proofs.WalkLaws.{SquareAt, square-start, square-some, square-end, square-forward, square-row, square-next}
+use Rattle.products.proofs.WalkLaws.{SquareAt, walk-start, walk-some, walk-forward, square-end, square-row, square-next}
 use Rattle.products.proofs.rows.Statement.{statement}
 use Rattle.products.proofs.rows.Tie as tie
 
@@ -39,12 +39,6 @@ put m = m .before .before
 abbrev ended : tie.After-slice-known2 Inv-loop μ-loop → Ended
 ended m = put m .before .before
 
-sub-row : tie.Need-sub-row Inv-loop μ-loop
-sub-row c =
-    let q = member (c .before) in
-    let p = lent (q .before) .pre in
-    square-forward _ _ _ _ _ _ _ _ _ (p .behind) (known (q .before)) _ _ (p .others) (q .loop-test .taken) _ (c .before .end-of .ensures)
-
 row-requires : tie.Need-row-requires Inv-loop μ-loop
 row-requires c κs =
     let q = member (c .before) in
@@ -61,9 +55,9 @@ pub rows-spec : {M : Type 1} → statement M
 rows-spec =
     tie.close
     (tie.spec Inv-loop μ-loop
-    (λ c. λ top vs ws f g l. square-start _ top vs ws _ _ _ (omega (arith, c .before .pre .room)) f)
-    (λ c κs. let l = c .before .before in square-some _ _ _ _ _ _ _ _ _ (lent l .pre .behind) (known l) (c .before .loop-test .taken))
-    sub-row
+    (λ c. λ top vs ws f g l. walk-start _ _ top vs _ _ _ (omega (arith, c .before .pre .room)) f)
+    (λ c κs. let l = c .before .before in walk-some _ _ _ _ _ _ _ _ _ (lent l .pre .behind) (known l) (c .before .loop-test .taken))
+    (λ c. let q = member (c .before) in walk-forward _ _ _ _ _ _ _ _ _ (lent (q .before) .pre .behind) (known (q .before)) (q .loop-test .taken) _ (c .before .end-of .ensures))
     row-requires
     (λ c. omega (arith, member (ended c) .loop-test .taken))
     (λ c. omega (arith, member (ended c) .loop-test .taken))
