@@ -20,14 +20,15 @@ pub record WalkAt (F : Values → List ℕ) (s₀ : List ℕ) (top : ℕ) (vs : 
   pub rest : Values
   pub front : Front s₀ top i left rest
   pub grown : Grown s₀ to s at (F vs) (F rest)
+  pub behind : top ≤ to
 
-pub walk-start : (F : Values → List ℕ) (s : List ℕ) (top : ℕ) (vs : Values) (a n to : ℕ) → to ≤ length s → Front s top a n vs → WalkAt F s top vs to s a n to
-walk-start F s top vs a n to l h = record { rest = vs; front = h; grown = grown-start s to (F vs) l }
+pub walk-start : (F : Values → List ℕ) {s : List ℕ} {top : ℕ} {vs : Values} {a n : ℕ} (to : ℕ) → to ≤ length s → Front s top a n vs → top ≤ to →
+    WalkAt F s top vs to s a n to
+walk-start F {s} {vs = vs} to l h b = record { rest = vs; front = h; grown = grown-start s to (F vs) l; behind = b }
 
-module _ (F : Values → List ℕ) (s₀ : List ℕ) (top : ℕ) (vs : Values) (to : ℕ) (s : List ℕ) (i left at : ℕ) (behind : top ≤ to)
-    (h : WalkAt F s₀ top vs to s i left at) where
+module _ {F : Values → List ℕ} {s₀ : List ℕ} {top : ℕ} {vs : Values} {to : ℕ} {s : List ℕ} {i left at : ℕ} (h : WalkAt F s₀ top vs to s i left at) where
   walk-front : Front s top i left (h .rest)
-  walk-front = front-frame to s₀ s top i left (h .rest) (h .grown .appended .frame) behind (h .front)
+  walk-front = front-frame to s₀ s top i left (h .rest) (h .grown .appended .frame) (h .behind) (h .front)
 
   pub walk-some : 0 < left → SomeAt s i
   walk-some l = front-some s top i left (h .rest) walk-front l
@@ -56,11 +57,8 @@ module _ (F : Values → List ℕ) (s₀ : List ℕ) (top : ℕ) (vs : Values) (
         (cs : List ℕ) × (F (w ▸ us) ≡ cs ++ F us) × Appended s at s′ r cs) → WalkAt F s₀ top vs to s′ e (left - 1) r
     walk-next s′ r put = walk-by (WalkAt F s₀ top vs to s′ e (left - 1) r) λ w us f₀ f g z.
         let x = put w us f z in
-        record {
-          rest = us;
-          front = front-next s₀ top i left w us f₀ e (left - 1) z (omega arith);
-          grown = grown-step (F us) (rw (x .1) at g) (x .2);
-        }
+        let n = front-next s₀ top i left w us f₀ e (left - 1) z (omega arith) in
+        record { rest = us; front = n; grown = grown-step (F us) (rw (x .1) at g) (x .2); behind = h .behind }
 
 -- The pairs of x with the members of a set.
 row-weighs : (x : Value) (ws : Values) → weights (rowOf x ws) ≡ count ws + count ws * weight x + weights ws
@@ -71,57 +69,39 @@ row-count : (x : Value) (ws : Values) → count (rowOf x ws) ≡ count ws
 row-count x none = refl
 row-count x (w ▸ ws) = omega (arith, row-count x ws)
 
-row-none : (x : Value) → codes (rowOf x none) ≡ []
-unfolding code
-row-none x = refl
-
-row-more : (x w : Value) (ws : Values) → codes (rowOf x (w ▸ ws)) ≡ code (pair x w) ++ codes (rowOf x ws)
-unfolding code
-row-more x w ws = refl
-
 -- `row`
 abbrev pub RowAt : List ℕ → ℕ → Value → Values → ℕ → List ℕ → ℕ → ℕ → ℕ → Type 0
 RowAt s₀ top x ws to s i left at = WalkAt (λ us. codes (rowOf x us)) s₀ top ws to s i left at
 
-module _ (s₀ : List ℕ) (top : ℕ) (x : Value) (ws : Values) (to : ℕ) (s : List ℕ) (i left at : ℕ) (behind : top ≤ to)
-    (h : RowAt s₀ top x ws to s i left at) where
+module _ {s₀ : List ℕ} {top : ℕ} (x : Value) {ws : Values} {to : ℕ} {s : List ℕ} {i left at : ℕ} (h : RowAt s₀ top x ws to s i left at) where
   pub row-end : left ≤ 0 → Appended s₀ to s at (codes (rowOf x ws))
-  row-end l = walk-end (λ us. codes (rowOf x us)) s₀ top ws to s i left at behind h l (row-none x)
+  unfolding code
+  row-end l = walk-end h l refl
 
-  module _ (v k : ℕ) (value : ValueBelow s₀ top v x) (weighs : k ≡ weight x) (more : 0 < left) (e : ℕ) (ends : EndsAt s i e) where
+  module _ {v k : ℕ} (value : ValueBelow s₀ top v x) (weighs : k ≡ weight x) (more : 0 < left) (e : ℕ) (ends : EndsAt s i e) where
     pub row-pair : to + weights (rowOf x ws) ≤ length s₀ → PairPre s v k i (e - i) at
-    row-pair room =
-        walk-by (λ us. codes (rowOf x us)) s₀ top ws to s i left at behind h more e ends (PairPre s v k i (e - i) at) λ w us f₀ f g z.
+    row-pair room = walk-by h more e ends (PairPre s v k i (e - i) at) λ w us f₀ f g z.
         let q = grown-left g in
         let y : to ≤ at = omega (arith, g .appended .ends) in
         record {
-          left = omega (arith, value .below);
-          right = omega (arith, f .below);
+          left = omega (arith, value .below, h .behind);
+          right = omega (arith, f .below, h .behind);
           room = omega (arith, length-codes (rowOf x ws), length-codes (rowOf x (w ▸ us)), g .appended .frame .kept);
         }
 
     pub row-next : (s′ : List ℕ) (r : ℕ) → PairPut s v k i (e - i) at s′ r → RowAt s₀ top x ws to s′ e (left - 1) r
-    row-next s′ r put =
-        walk-next (λ us. codes (rowOf x us)) s₀ top ws to s i left at behind h more e ends s′ r λ w us f z. (
-          code (pair x w),
-          row-more x w us,
-          put x w (value-frame to s₀ s top v x (h .grown .appended .frame) behind value .stands) (front-value s top i left w us f) weighs (omega arith),
-        )
+    unfolding code
+    row-next s′ r put = walk-next h more e ends s′ r λ w us f z.
+        let there = value-frame to s₀ s top v x (h .grown .appended .frame) (h .behind) value .stands in
+        (code (pair x w), refl, put x w there (front-value s top i left w us f) weighs (omega arith))
 
 -- The pairs of the members of two sets.
 abbrev pub square : Values → Values → Values
 square vs ws = values (pairsOf (members vs) (members ws))
 
-square-none : (ws : Values) → codes (square none ws) ≡ []
-unfolding code pairsOf
-square-none ws = refl
-
-square-more : (v : Value) (vs ws : Values) → square (v ▸ vs) ws ≡ values (map (pair v) (members ws) ++ pairsOf (members vs) (members ws))
-unfolding pairsOf
-square-more v vs ws = refl
-
 square-codes : (v : Value) (vs ws : Values) → codes (square (v ▸ vs) ws) ≡ codes (rowOf v ws) ++ codes (square vs ws)
-square-codes v vs ws = ap codes (square-more v vs ws) ∙ codes-append (map (pair v) (members ws)) (pairsOf (members vs) (members ws))
+unfolding pairsOf
+square-codes v vs ws = codes-append (map (pair v) (members ws)) (pairsOf (members vs) (members ws))
 
 pub square-weighs : (vs ws : Values) → weights (square vs ws) ≡ count vs * count ws + count ws * weights vs + count vs * weights ws
 unfolding pairsOf
@@ -139,18 +119,18 @@ square-count (v ▸ vs) ws =
 abbrev pub SquareAt : List ℕ → ℕ → Values → Values → ℕ → List ℕ → ℕ → ℕ → ℕ → Type 0
 SquareAt s₀ top vs ws to s i left at = WalkAt (λ us. codes (square us ws)) s₀ top vs to s i left at
 
-module _ (s₀ : List ℕ) (top : ℕ) (vs ws : Values) (to : ℕ) (s : List ℕ) (i left at : ℕ) (behind : top ≤ to) (h : SquareAt s₀ top vs ws to s i left at) where
+module _ {s₀ : List ℕ} {top : ℕ} {vs : Values} (ws : Values) {to : ℕ} {s : List ℕ} {i left at : ℕ} (h : SquareAt s₀ top vs ws to s i left at) where
   pub square-end : left ≤ 0 → Appended s₀ to s at (codes (square vs ws))
-  square-end l = walk-end (λ us. codes (square us ws)) s₀ top vs to s i left at behind h l (square-none ws)
+  unfolding code pairsOf
+  square-end l = walk-end h l refl
 
-  module _ (b m : ℕ) (others : Front s₀ top b m ws) (more : 0 < left) (e : ℕ) (ends : EndsAt s i e) where
+  module _ {b m : ℕ} (others : Front s₀ top b m ws) (more : 0 < left) (e : ℕ) (ends : EndsAt s i e) where
     -- the members of the second set, as they stand now
     others-now : Front s top b m ws
-    others-now = front-frame to s₀ s top b m ws (h .grown .appended .frame) behind others
+    others-now = front-frame to s₀ s top b m ws (h .grown .appended .frame) (h .behind) others
 
     pub square-row : to + weights (square vs ws) ≤ length s₀ → RowPre s i (e - i) b m at
-    square-row room =
-        walk-by (λ us. codes (square us ws)) s₀ top vs to s i left at behind h more e ends (RowPre s i (e - i) b m at) λ w us f₀ f g z.
+    square-row room = walk-by h more e ends (RowPre s i (e - i) b m at) λ w us f₀ f g z.
         let q = grown-left g in
         let k = ap length (square-codes w us ws) ∙ length-append (codes (rowOf w ws)) (codes (square us ws)) in
         record {
@@ -160,17 +140,14 @@ module _ (s₀ : List ℕ) (top : ℕ) (vs ws : Values) (to : ℕ) (s : List ℕ
           value = front-below s top i left w us f;
           weighs = omega arith;
           front = others-now;
-          behind = omega (arith, g .appended .ends);
+          behind = omega (arith, g .appended .ends, h .behind);
           room = omega (arith, q, k, length-codes (square vs ws), length-codes (rowOf w ws), g .appended .frame .kept);
         }
 
     pub square-next : (s′ : List ℕ) (r : ℕ) → Rows s i (e - i) b m at s′ r → SquareAt s₀ top vs ws to s′ e (left - 1) r
-    square-next s′ r put =
-        walk-next (λ us. codes (square us ws)) s₀ top vs to s i left at behind h more e ends s′ r λ w us f z. (
-          codes (rowOf w ws),
-          square-codes w us ws,
-          put top w ws (front-below s top i left w us f) (omega arith) others-now (omega (arith, h .grown .appended .ends)),
-        )
+    square-next s′ r put = walk-next h more e ends s′ r λ w us f z.
+        let a = put top w ws (front-below s top i left w us f) (omega arith) others-now (omega (arith, h .grown .appended .ends, h .behind)) in
+        (codes (rowOf w ws), square-codes w us ws, a)
 
 -- `product`
 -- Where two sets end, and how many members they have.

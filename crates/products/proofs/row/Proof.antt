@@ -44,25 +44,24 @@ pair-at-requires : tie.Need-pair-at-requires Inv-loop μ-loop
 pair-at-requires c κs =
     let q = member (c .before) in
     let p = lent (q .before) .pre in
-    row-pair _ _ _ _ _ _ _ _ _ (p .behind) (known (q .before)) _ _ (p .value) (p .weighs) (q .loop-test .taken) _ (c .before .end-of .ensures) (p .room)
+    row-pair _ (known (q .before)) (p .value) (p .weighs) (q .loop-test .taken) _ (c .before .end-of .ensures) (p .room)
 
 loop-again : tie.Need-loop-again Inv-loop μ-loop
 loop-again c = λ top x ws h e f l.
     let m = ended c in
     let q = member m in
-    row-next _ top x ws _ _ _ _ _ l (q .before .loop .inv top x ws h e f l) _ _ h e (q .loop-test .taken) _ (m .end-of .ensures) _ _
-    (put c .pair-at .ensures)
+    row-next x (q .before .loop .inv top x ws h e f l) h e (q .loop-test .taken) _ (m .end-of .ensures) _ _ (put c .pair-at .ensures)
 
 pub row-spec : {M : Type 1} → statement M
 row-spec =
     tie.close
     (tie.spec Inv-loop μ-loop
-    (λ c. λ top x ws h e f l. walk-start _ _ top ws _ _ _ (omega (arith, c .before .pre .room)) f)
-    (λ c κs. let l = c .before .before in walk-some _ _ _ _ _ _ _ _ _ (lent l .pre .behind) (known l) (c .before .loop-test .taken))
-    (λ c. let q = member (c .before) in walk-forward _ _ _ _ _ _ _ _ _ (lent (q .before) .pre .behind) (known (q .before)) (q .loop-test .taken) _ (c .before .end-of .ensures))
+    (λ c. λ top x ws h e f l. walk-start _ _ (omega (arith, c .before .pre .room)) f l)
+    (λ c κs. let l = c .before .before in walk-some (known l) (c .before .loop-test .taken))
+    (λ c. let q = member (c .before) in walk-forward (known (q .before)) (q .loop-test .taken) _ (c .before .end-of .ensures))
     pair-at-requires
     (λ c. omega (arith, member (ended c) .loop-test .taken))
     (λ c. omega (arith, member (ended c) .loop-test .taken))
     loop-again
     (λ c. known (c .before) .grown .appended .frame .kept)
-    (λ c. λ top x ws h e f l. row-end _ top x ws _ _ _ _ _ l (c .before .loop .inv top x ws h e f l) (c .loop-test .left)))
+    (λ c. λ top x ws h e f l. row-end x (c .before .loop .inv top x ws h e f l) (c .loop-test .left)))

@@ -43,24 +43,24 @@ row-requires : tie.Need-row-requires Inv-loop μ-loop
 row-requires c κs =
     let q = member (c .before) in
     let p = lent (q .before) .pre in
-    square-row _ _ _ _ _ _ _ _ _ (p .behind) (known (q .before)) _ _ (p .others) (q .loop-test .taken) _ (c .before .end-of .ensures) (p .room)
+    square-row _ (known (q .before)) (p .others) (q .loop-test .taken) _ (c .before .end-of .ensures) (p .room)
 
 loop-again : tie.Need-loop-again Inv-loop μ-loop
 loop-again c = λ top vs ws f g l.
     let m = ended c in
     let q = member m in
-    square-next _ top vs ws _ _ _ _ _ l (q .before .loop .inv top vs ws f g l) _ _ g (q .loop-test .taken) _ (m .end-of .ensures) _ _ (put c .row .ensures)
+    square-next ws (q .before .loop .inv top vs ws f g l) g (q .loop-test .taken) _ (m .end-of .ensures) _ _ (put c .row .ensures)
 
 pub rows-spec : {M : Type 1} → statement M
 rows-spec =
     tie.close
     (tie.spec Inv-loop μ-loop
-    (λ c. λ top vs ws f g l. walk-start _ _ top vs _ _ _ (omega (arith, c .before .pre .room)) f)
-    (λ c κs. let l = c .before .before in walk-some _ _ _ _ _ _ _ _ _ (lent l .pre .behind) (known l) (c .before .loop-test .taken))
-    (λ c. let q = member (c .before) in walk-forward _ _ _ _ _ _ _ _ _ (lent (q .before) .pre .behind) (known (q .before)) (q .loop-test .taken) _ (c .before .end-of .ensures))
+    (λ c. λ top vs ws f g l. walk-start _ _ (omega (arith, c .before .pre .room)) f l)
+    (λ c κs. let l = c .before .before in walk-some (known l) (c .before .loop-test .taken))
+    (λ c. let q = member (c .before) in walk-forward (known (q .before)) (q .loop-test .taken) _ (c .before .end-of .ensures))
     row-requires
     (λ c. omega (arith, member (ended c) .loop-test .taken))
     (λ c. omega (arith, member (ended c) .loop-test .taken))
     loop-again
     (λ c. known (c .before) .grown .appended .frame .kept)
-    (λ c. λ top vs ws f g l. square-end _ top vs ws _ _ _ _ _ l (c .before .loop .inv top vs ws f g l) (c .loop-test .left)))
+    (λ c. λ top vs ws f g l. square-end ws (c .before .loop .inv top vs ws f g l) (c .loop-test .left)))
