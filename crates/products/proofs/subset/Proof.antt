@@ -28,7 +28,7 @@ abbrev known : (l : Turn) → (let a = lent l .args in
 known l = let q = lent l .pre in l .loop .inv (q .whole) (q .marked)
 
 near : (l : Turn) → (l .loop .o .count ≤ 255) × (length (l .loop .s) ≡ length (lent l .args .s .now))
-near l = let q = lent l .pre in subset-near _ _ _ _ _ _ (q .marked) (q .room) _ _ _ _ (known l)
+near l = let q = lent l .pre in subset-near (q .marked) (q .room) (known l)
 
 -- Where the member ends is read; it has been put.
 abbrev turn : tie.After-from Inv-loop μ-loop → Turn
@@ -44,25 +44,25 @@ add-if-requires : tie.Need-add-if-requires Inv-loop μ-loop
 add-if-requires c κs = λ k.
     let q = c .before .before in
     let l = turn q in
-    subset-add _ _ _ _ _ _ (lent l .pre .marked) (lent l .pre .room) _ _ _ _ (known l) (q .before .loop-test .taken) k
+    subset-add (lent l .pre .marked) (lent l .pre .room) (known l) (q .before .loop-test .taken) k
 
 loop-again : tie.Need-loop-again Inv-loop μ-loop
 loop-again c = λ vs h.
     let q = read (put c) .before in
     let l = turn q in
-    subset-next _ _ _ _ _ vs h (lent l .pre .room) _ _ _ _ (l .loop .inv vs h) (q .before .loop-test .taken) _ _ (put c .add-if .ensures)
+    subset-next h (lent l .pre .room) (l .loop .inv vs h) (q .before .loop-test .taken) _ _ (put c .add-if .ensures)
 
 returns : tie.Need-returns Inv-loop μ-loop
 returns c = λ vs h.
     let l = c .before .before in
-    subset-end _ _ _ _ _ vs h (lent l .pre .room) _ _ _ _ (l .loop .inv vs h) (c .before .loop-test .left)
+    subset-end h (lent l .pre .room) (l .loop .inv vs h) (c .before .loop-test .left)
 
 pub subset-spec : {M : Type 1} → statement M
 subset-spec =
     tie.close
     (tie.spec Inv-loop μ-loop
     (λ c. omega (arith, c .before .pre .room))
-    (λ c. λ vs h. subset-start _ _ _ _ _ vs h (c .before .pre .room))
+    (λ c. λ vs h. subset-start h (c .before .pre .room))
     (λ c. omega (arith, c .loop-test .taken, lent (c .before) .pre .few))
     (λ c. omega (arith, c .loop-test .taken, lent (c .before) .pre .few))
     (λ c. omega (arith, c .before .loop-test .taken, lent (turn c) .pre .few))
