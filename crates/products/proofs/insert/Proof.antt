@@ -39,7 +39,7 @@ returns-2 c = λ v xs h b.
     let m = moved g in
     let k = near m in
     let e = lent m .pre .ends v (h .stands) (h .fits) in
-    inserts-put _ _ _ _ v _ h b _ (m .place-for .ensures v xs h b) _ (omega arith) (k .room) _ _ (g .shift .ensures) (f .copy .ensures)
+    inserts-put h b (m .place-for .ensures v xs h b) (omega arith) (k .room) (g .shift .ensures) (f .copy .ensures)
     (g .before .before .if1 .left) _ (c .before .moved-last .ensures)
 
 pub insert-spec : {M : Type 1} → statement M
@@ -48,7 +48,7 @@ insert-spec =
     (tie.spec
     (λ c κs. search needs)
     (λ c. search needs)
-    (λ c. λ v xs h b. let m = c .before in inserts-none _ _ _ _ v _ h b _ (m .place-for .ensures v xs h b) (c .if1 .taken))
+    (λ c. λ v xs h b. let m = c .before in inserts-none h b (m .place-for .ensures v xs h b) (c .if1 .taken))
     (λ c. near (c .before) .forward)
     (λ c. near (c .before .before) .inside)
     (λ c κs. let k = near (c .before .before) in omega arith)

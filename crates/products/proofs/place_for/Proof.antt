@@ -17,17 +17,17 @@ lent m = m .before .before .before
 compare-requires : tie.Need-compare-requires
 compare-requires c κs =
     let q = c .before .before .pre in
-    (value-some _ _ _ _ (q .below), place-some _ _ _ _ _ _ (q .below) (q .built) (c .if1 .left), q .ends)
+    (value-some _ _ _ _ (q .below), place-some (q .below) (q .built) (c .if1 .left), q .ends)
 
 returns-2 : tie.Need-returns-2
 returns-2 c = λ v xs h b.
-    let m = c .before in place-last _ _ _ _ v _ h b (m .before .if1 .left) (rising-rising xs) _ (m .compare .ensures) (omega (arith, c .if2 .taken))
+    let m = c .before in place-last h b (m .before .if1 .left) (rising-rising xs) _ (m .compare .ensures) (omega (arith, c .if2 .taken))
 
 pub place-for-spec : {M : Type 1} → statement M
 place-for-spec =
     tie.close
     (tie.spec
-    (λ c. λ v xs h b. place-none _ _ _ _ v _ h b (c .if1 .taken))
+    (λ c. λ v xs h b. place-none h b (c .if1 .taken))
     compare-requires
     returns-2
     (λ c κs. place-find _ _ _ _ _ (lent (c .before) .pre))

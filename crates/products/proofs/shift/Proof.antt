@@ -14,7 +14,7 @@ abbrev μ-loop : tie.MeasureT-loop
 loop-again : tie.Need-loop-again Inv-loop μ-loop
 loop-again c =
     let l = c .before .before in
-    shifting-next _ _ _ _ _ _ (l .loop .inv) (c .before .loop-test .taken) (l .before .pre) _ refl
+    shifting-next (l .loop .inv) (c .before .loop-test .taken) (l .before .pre) _ refl
 
 pub shift-spec : {M : Type 1} → statement M
 shift-spec =
@@ -31,4 +31,4 @@ shift-spec =
     (λ c. omega arith)
     loop-again
     (λ c. c .before .loop .inv .kept)
-    (λ c. shifting-end _ _ _ _ _ _ (c .before .loop .inv) (c .loop-test .left)))
+    (λ c. shifting-end (c .before .loop .inv) (c .loop-test .left)))
