@@ -183,7 +183,7 @@ unfolding cellsFrom
 no-cells c zero l = refl
 no-cells c (suc m) l = absurd (omega arith)
 
-module _ (s : List ℕ) (cell n top : ℕ) (s′ : List ℕ) (to i : ℕ) (h : Running s cell n top s′ to i) (room : top + 514 ≤ length s) (most : n ≤ 255) where
+module _ {s : List ℕ} {cell n top : ℕ} {s′ : List ℕ} {to i : ℕ} (h : Running s cell n top s′ to i) (room : top + 514 ≤ length s) (most : n ≤ 255) where
   pub running-inside : i < n → to < length s′
   running-inside l = omega (arith, h .near, h .grown .appended .frame .kept)
 

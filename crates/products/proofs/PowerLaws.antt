@@ -71,7 +71,7 @@ picked-over p j vs l = ap (λ (ms : List ℕ). codes (values (picked p ms (membe
 pub all-start : (s : List ℕ) (p to : ℕ) (vs : Values) → to ≤ length s → Grown s to s to (allFrom p 0 vs) (allFrom p 0 vs)
 all-start s p to vs l = grown-start s to (allFrom p 0 vs) l
 
-module _ (s₀ at : List ℕ) (n p to : ℕ) (s : List ℕ) (j end : ℕ) (vs : Values) (marked : Marked s₀ at n to vs)
+module _ {s₀ at : List ℕ} {n to : ℕ} (p : ℕ) {s : List ℕ} (j : ℕ) {end : ℕ} {vs : Values} (marked : Marked s₀ at n to vs)
     (h : Grown s₀ to s end (allFrom p 0 vs) (allFrom p j vs)) where
   all-marked : Marked s at n end vs
   all-marked = record {
@@ -115,7 +115,7 @@ pub record Sized (s : List ℕ) (a e n p : ℕ) : Type 0 where
   pub ends : EndsAt s a e
   pub is : p ≡ subsetCount n
 
-module _ (s : List ℕ) (a top e n p : ℕ) (sized : Sized s a e n p) (vs : Values) (h : SetBelow s top a vs) where
+module _ {s : List ℕ} {a top e n p : ℕ} (sized : Sized s a e n p) {vs : Values} (h : SetBelow s top a vs) where
   power-front : Front s top (a + 1) n vs
   power-front = front-start s top a vs h n (sized .low)
 

@@ -157,11 +157,11 @@ pub record Sizes (s : List ℕ) (a b d e n m : ℕ) : Type 0 where
   pub low : n ≡ getD s a 0 % 4294967296
   pub low′ : m ≡ getD s b 0 % 4294967296
 
-module _ (s : List ℕ) (top a b d e n m : ℕ) (given : Sizes s a b d e n m) where
+module _ {s : List ℕ} {top a b d e n m : ℕ} (given : Sizes s a b d e n m) where
   -- numbers and cells of the members
-  pub product-sizes : (vs ws : Values) → SetBelow s top a vs → SetBelow s top b ws →
+  pub product-sizes : {vs ws : Values} → SetBelow s top a vs → SetBelow s top b ws →
       (n ≡ count vs) × (m ≡ count ws) × (d - a - 1 ≡ weights vs) × (e - b - 1 ≡ weights ws) × (n ≤ 255) × (m ≤ 255) × (d - a - 1 ≤ 255) × (e - b - 1 ≤ 255)
-  product-sizes vs ws h k =
+  product-sizes {vs} {ws} h k =
       let f = front-start s top a vs h n (given .low) in
       let g = front-start s top b ws k m (given .low′) in
       let x = set-end s top a vs h d (given .ends) in
@@ -176,34 +176,31 @@ module _ (s : List ℕ) (top a b d e n m : ℕ) (given : Sizes s a b d e n m) wh
         omega (arith, g .light),
       )
 
-  product-weighs : (vs ws : Values) → SetBelow s top a vs → SetBelow s top b ws → weights (square vs ws) ≡ n * m + m * (d - a - 1) + n * (e - b - 1)
-  product-weighs vs ws h k =
-      let z = product-sizes vs ws h k in
-      square-weighs vs ws ∙ rw (z .0, z .1, z .2, z .3)
+  product-weighs : {vs ws : Values} → SetBelow s top a vs → SetBelow s top b ws → weights (square vs ws) ≡ n * m + m * (d - a - 1) + n * (e - b - 1)
+  product-weighs {vs} {ws} h k = let z = product-sizes h k in square-weighs vs ws ∙ rw (z .0, z .1, z .2, z .3)
 
-  pub product-heavy : 256 < 1 + n * m + m * (d - a - 1) + n * (e - b - 1) → (vs ws : Values) → SetBelow s top a vs → SetBelow s top b ws →
+  pub product-heavy : 256 < 1 + n * m + m * (d - a - 1) + n * (e - b - 1) → {vs ws : Values} → SetBelow s top a vs → SetBelow s top b ws →
       Made top s s (setOf (pairsOf (members vs) (members ws))) 0
-  product-heavy l vs ws h k = made-heavy (omega (arith, product-weighs vs ws h k))
+  product-heavy l h k = made-heavy (omega (arith, product-weighs h k))
 
   module _ (room : top + 514 ≤ length s) (light : 1 + n * m + m * (d - a - 1) + n * (e - b - 1) ≤ 256) where
-    pub product-pre : (vs ws : Values) → SetBelow s top a vs → SetBelow s top b ws → SquarePre s (a + 1) n (b + 1) m (top + 1)
-    product-pre vs ws h k = record {
+    pub product-pre : {vs ws : Values} → SetBelow s top a vs → SetBelow s top b ws → SquarePre s (a + 1) n (b + 1) m (top + 1)
+    product-pre {vs} {ws} h k = record {
       top = top;
       lefts = vs;
       rights = ws;
       front = front-start s top a vs h n (given .low);
       others = front-start s top b ws k m (given .low′);
       behind = omega arith;
-      room = omega (arith, product-weighs vs ws h k);
+      room = omega (arith, product-weighs h k);
     }
 
-    pub product-made : (s′ : List ℕ) (r : ℕ) → Squares s (a + 1) n (b + 1) m (top + 1) s′ r → (vs ws : Values) → SetBelow s top a vs → SetBelow s top b ws →
+    pub product-made : (s′ : List ℕ) (r : ℕ) → Squares s (a + 1) n (b + 1) m (top + 1) s′ r → {vs ws : Values} → SetBelow s top a vs → SetBelow s top b ws →
         Made top s (setAt s′ top (21474836480 + n * m)) (setOf (pairsOf (members vs) (members ws))) r
-    product-made s′ r put vs ws h k =
-        let z = product-sizes vs ws h k in
-        made-set
-        (put top vs ws (front-start s top a vs h n (given .low)) (front-start s top b ws k m (given .low′)) (omega arith))
-        (sym (square-count vs ws ∙ rw (z .0, z .1))) (omega arith) (omega (arith, product-weighs vs ws h k))
+    product-made s′ r put {vs} {ws} h k =
+        let z = product-sizes h k in
+        made-set (put top vs ws (front-start s top a vs h n (given .low)) (front-start s top b ws k m (given .low′)) (omega arith))
+        (sym (square-count vs ws ∙ rw (z .0, z .1))) (omega arith) (omega (arith, product-weighs h k))
 
 -- products of two numbers that are small
 pub small-product : (n m : ℕ) → n ≤ 255 → m ≤ 255 → n * m ≤ 65025

@@ -36,12 +36,12 @@ subset-if-requires : tie.Need-subset-if-requires Inv-loop μ-loop
 subset-if-requires c κs =
     let l = turn (c .before) in
     let q = lent l .pre in
-    all-pre _ _ _ (lent l .args .p) _ _ (l .loop .j) _ _ (q .marked) (l .loop .inv (q .whole) (q .marked)) (q .few) (q .light) (q .room)
+    all-pre (lent l .args .p) (l .loop .j) (q .marked) (l .loop .inv (q .whole) (q .marked)) (q .few) (q .light) (q .room)
 
 loop-again : tie.Need-loop-again Inv-loop μ-loop
 loop-again c = λ vs h.
     let m = read c in
-    all-next _ _ _ _ _ _ _ _ vs h (turn m .loop .inv vs h) _ _ _ (m .before .loop-test .taken) (m .mask-at .ensures) (put c .subset-if .ensures)
+    all-next _ _ h (turn m .loop .inv vs h) _ _ _ (m .before .loop-test .taken) (m .mask-at .ensures) (put c .subset-if .ensures)
 
 pub all-subsets-spec : {M : Type 1} → statement M
 all-subsets-spec =
@@ -54,4 +54,4 @@ all-subsets-spec =
     (λ c. omega (arith, read c .before .loop-test .taken))
     loop-again
     (λ c. let q = lent (c .before) .pre in c .before .loop .inv (q .whole) (q .marked) .appended .frame .kept)
-    (λ c. λ vs h. all-end _ _ _ _ _ _ _ _ vs h (c .before .loop .inv vs h) (c .loop-test .left)))
+    (λ c. λ vs h. all-end _ _ h (c .before .loop .inv vs h) (c .loop-test .left)))

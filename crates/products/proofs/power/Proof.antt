@@ -45,21 +45,21 @@ marks-requires : tie.Need-marks-requires
 marks-requires c κs =
     let l = c .before in
     let q = lent (l .before .before) .pre in
-    power-mark _ _ _ _ _ _ (sized (l .before)) _ (q .0 .1) (l .if1 .left)
+    power-mark (sized (l .before)) (q .0 .1) (l .if1 .left)
 
 all-subsets-requires : tie.Need-all-subsets-requires
 all-subsets-requires c κs =
     let m = marked c in
     let l = light m in
     let q = lent (l .before .before) .pre in
-    power-pre _ _ _ _ _ _ (sized (l .before)) _ (q .0 .1) (l .if1 .left) (q .1) _ (m .marks .ensures)
+    power-pre (sized (l .before)) (q .0 .1) (l .if1 .left) (q .1) _ (m .marks .ensures)
 
 returns-2 : tie.Need-returns-2
 returns-2 c = λ vs h.
     let m = marked (put c .before) in
     let l = light m in
     let q = lent (l .before .before) .pre in
-    power-made _ _ _ _ _ _ (sized (l .before)) vs h (l .if1 .left) (q .1) _ (m .marks .ensures) _ _ (put c .all-subsets .ensures)
+    power-made (sized (l .before)) h (l .if1 .left) (q .1) _ (m .marks .ensures) _ _ (put c .all-subsets .ensures)
 
 pub power-spec : {M : Type 1} → statement M
 power-spec =
@@ -76,7 +76,7 @@ power-spec =
     mul-if1
     add-if1-2
     (λ c. search needs)
-    (λ c. λ vs h. power-too-heavy _ _ _ _ _ _ (sized (c .before)) vs h (c .if1 .taken))
+    (λ c. λ vs h. power-too-heavy (sized (c .before)) h (c .if1 .taken))
     (λ c. search needs)
     marks-requires
     (λ c. search needs)

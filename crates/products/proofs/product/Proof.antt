@@ -41,27 +41,27 @@ put m = m .before .before
 product-weight-requires : tie.Need-product-weight-requires
 product-weight-requires c κs =
     let q = given (first c) .pre in
-    let z = product-sizes _ _ _ _ _ _ _ _ (sizes c) _ _ (q .0 .1) (q .1 .1) in
+    let z = product-sizes (sizes c) (q .0 .1) (q .1 .1) in
     (z .4, z .6, z .5, z .7)
 
 returns : tie.Need-returns
 returns c = λ vs ws h k.
     let w = c .before in
-    product-heavy _ _ _ _ _ _ _ _ (sizes (w .before)) (omega (arith, w .product-weight .ensures, c .if1 .taken)) vs ws h k
+    product-heavy (sizes (w .before)) (omega (arith, w .product-weight .ensures, c .if1 .taken)) h k
 
 rows-requires : tie.Need-rows-requires
 rows-requires c κs =
     let l = light c in
     let w = l .before in
     let q = given (first (w .before)) .pre in
-    product-pre _ _ _ _ _ _ _ _ (sizes (w .before)) (q .2) (omega (arith, w .product-weight .ensures, l .if1 .left)) _ _ (q .0 .1) (q .1 .1)
+    product-pre (sizes (w .before)) (q .2) (omega (arith, w .product-weight .ensures, l .if1 .left)) (q .0 .1) (q .1 .1)
 
 returns-2 : tie.Need-returns-2
 returns-2 c = λ vs ws h k.
     let l = light (put c .before) in
     let w = l .before in
-    product-made _ _ _ _ _ _ _ _ (sizes (w .before)) (given (first (w .before)) .pre .2) (omega (arith, w .product-weight .ensures, l .if1 .left))
-    _ _ (put c .rows .ensures) vs ws h k
+    product-made (sizes (w .before)) (given (first (w .before)) .pre .2) (omega (arith, w .product-weight .ensures, l .if1 .left))
+    _ _ (put c .rows .ensures) h k
 
 pub product-spec : {M : Type 1} → statement M
 product-spec =

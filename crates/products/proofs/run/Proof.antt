@@ -13,15 +13,15 @@ abbrev μ-loop : tie.MeasureT-loop
 μ-loop s₀ cell n top to₀ i₀ s to i = n - i
 
 mul-s : tie.Need-mul-s Inv-loop μ-loop
-mul-s c = omega (arith, running-inside _ _ _ _ _ _ _ (c .before .loop .inv) (c .before .before .pre .room) (c .before .before .pre .few) (c .loop-test .taken))
+mul-s c = omega (arith, running-inside (c .before .loop .inv) (c .before .before .pre .room) (c .before .before .pre .few) (c .loop-test .taken))
 
 add-to-2 : tie.Need-add-to-2 Inv-loop μ-loop
 add-to-2 c =
     let q = c .before .before .pre in
-    omega (arith, running-inside _ _ _ _ _ _ _ (c .before .loop .inv) (q .room) (q .few) (c .loop-test .taken))
+    omega (arith, running-inside (c .before .loop .inv) (q .room) (q .few) (c .loop-test .taken))
 
 returns : tie.Need-returns Inv-loop μ-loop
-returns c = λ vs e q. running-end _ _ _ _ _ _ _ (c .before .loop .inv) (c .before .before .pre .room) (c .before .before .pre .few) (c .loop-test .left) vs e q
+returns c = λ vs e q. running-end (c .before .loop .inv) (c .before .before .pre .room) (c .before .before .pre .few) (c .loop-test .left) vs e q
 
 pub run-spec : {M : Type 1} → statement M
 run-spec =
@@ -31,11 +31,11 @@ run-spec =
     (λ c. running-start _ _ _ _ (c .pre .room))
     (λ c. omega (arith, c .before .before .pre .fits, c .before .before .pre .few, c .loop-test .taken))
     mul-s
-    (λ c. running-inside _ _ _ _ _ _ _ (c .before .loop .inv) (c .before .before .pre .room) (c .before .before .pre .few) (c .loop-test .taken))
+    (λ c. running-inside (c .before .loop .inv) (c .before .before .pre .room) (c .before .before .pre .few) (c .loop-test .taken))
     add-to-2
     (λ c. omega (arith, c .before .before .pre .few, c .loop-test .taken))
     (λ c. omega (arith, c .loop-test .taken))
-    (λ c. running-next _ _ _ _ _ _ _ (c .before .loop .inv) (c .before .before .pre .room) (c .before .before .pre .few) (c .loop-test .taken))
+    (λ c. running-next (c .before .loop .inv) (c .before .before .pre .room) (c .before .before .pre .few) (c .loop-test .taken))
     (λ c. omega (arith, c .before .before .pre .few))
     (λ c. omega (arith, c .before .before .pre .room, c .before .loop .inv .grown .appended .frame .kept))
     (λ c. omega (arith, c .before .before .pre .room, c .before .loop .inv .grown .appended .frame .kept))
