@@ -11,7 +11,7 @@ use Rattle.arena.specs.Code.{cellSize, code, codes, Stands, ValueAt, EndsAt, Co
 use Rattle.arena.proofs.CodeLaws.{length-code, length-codes}
 use Rattle.arena.proofs.Standing.{stands-append, stands-frame, same-refl, same-trans, copied-stands}
 use Rattle.arena.proofs.FrontLaws.{single, value-end}
-use Rattle.products.specs.Growing.{Appended, Grown, cellsFrom, PairPre}
+use Rattle.products.specs.Growing.{Appended, Grown, cellsFrom, RunPre, PairPre, PairPut}
 
 -- Nothing, a cell, or a copied run, written behind what stands.
 pub nothing-stands : (s : List ℕ) (to : ℕ) → to ≤ length s → Stands s to []
@@ -128,43 +128,37 @@ pair-put s a n b m to s₁ s₂ p c d v w h k e f =
     (appended-then y z)
 
 -- `pair`
-pub pair-pre : (s : List ℕ) (a b top d e : ℕ) → top + 514 ≤ length s → EndsAt s a d → EndsAt s b e → (d - a) + (e - b) ≤ 255 → (v w : Value) →
-    ValueBelow s top a v → ValueBelow s top b w → PairPre s a (d - a) b (e - b) top
-pair-pre s a b top d e l x y few v w h k =
-    let p = value-end s top a d v h x in
-    let q = value-end s top b e w k y in
-    record { left = omega (arith, h .below); right = omega (arith, k .below); room = omega arith }
+module _ {s : List ℕ} {a b top : ℕ} (d e : ℕ) (x : EndsAt s a d) (y : EndsAt s b e) {v w : Value} (h : ValueBelow s top a v) (k : ValueBelow s top b w) where
+  pub pair-sizes : (d ≡ a + weight v) × (e ≡ b + weight w)
+  pair-sizes = (value-end s top a d v h x, value-end s top b e w k y)
 
-pub pair-made : (s : List ℕ) (a b top d e : ℕ) (s′ : List ℕ) (r : ℕ) → EndsAt s a d → EndsAt s b e → (d - a) + (e - b) ≤ 255 →
-    ((v w : Value) → ValueAt s a v → ValueAt s b w → d - a ≡ weight v → e - b ≡ weight w → Appended s top s′ r (code (pair v w))) →
-    (v w : Value) → ValueBelow s top a v → ValueBelow s top b w → Made top s s′ (pair v w) r
-pair-made s a b top d e s′ r x y few put v w h k =
-    let p = value-end s top a d v h x in
-    let q = value-end s top b e w k y in
-    made (put v w (h .stands) (k .stands) (omega arith) (omega arith)) (omega arith)
+  pub pair-pre : top + 514 ≤ length s → (d - a) + (e - b) ≤ 255 → PairPre s a (d - a) b (e - b) top
+  pair-pre l few = let z = pair-sizes in record { left = omega (arith, h .below); right = omega (arith, k .below); room = omega arith }
 
-pub pair-heavy : (s : List ℕ) (a b top d e : ℕ) → EndsAt s a d → EndsAt s b e → 255 < (d - a) + (e - b) → (v w : Value) →
-    ValueBelow s top a v → ValueBelow s top b w → Made top s s (pair v w) 0
-pair-heavy s a b top d e x y l v w h k =
-    let p = value-end s top a d v h x in
-    let q = value-end s top b e w k y in
-    made-heavy (omega arith)
+  pub pair-made : {s′ : List ℕ} {r : ℕ} → (d - a) + (e - b) ≤ 255 → PairPut s a (d - a) b (e - b) top s′ r → Made top s s′ (pair v w) r
+  pair-made few put = let z = pair-sizes in made (put v w (h .stands) (k .stands) (omega arith) (omega arith)) (omega arith)
+
+  pub pair-heavy : 255 < (d - a) + (e - b) → Made top s s (pair v w) 0
+  pair-heavy l = let z = pair-sizes in made-heavy (omega arith)
 
 -- `run`
 pub record Running (s : List ℕ) (cell n top : ℕ) (s′ : List ℕ) (to i : ℕ) : Type 0 where
+  pub given : RunPre s cell n top
   pub grown : Grown s (top + 1) s′ to (cellsFrom cell n) (cellsFrom (cell + i) (n - i))
   pub near : to ≡ top + 1 + i
   pub few : i ≤ n
 
-pub running-start : (s : List ℕ) (cell n top : ℕ) → top + 514 ≤ length s → Running s cell n top s (top + 1) 0
-running-start s cell n top l = record {
-  grown = subst (λ (c : List ℕ). Grown s (top + 1) s (top + 1) (cellsFrom cell n) c)
-      (ap (λ (c : ℕ). cellsFrom c n) (let z : cell ≡ cell + 0 = omega arith in z)
-      ∙ ap (λ (m : ℕ). cellsFrom (cell + 0) m) (let z : n ≡ n - 0 = omega arith in z))
-      (grown-start s (top + 1) (cellsFrom cell n) (omega arith));
-  near = omega arith;
-  few = omega arith;
-}
+pub running-start : (s : List ℕ) (cell n top : ℕ) → RunPre s cell n top → Running s cell n top s (top + 1) 0
+running-start s cell n top p =
+    let c : cell ≡ cell + 0 = omega arith in
+    let m : n ≡ n - 0 = omega arith in
+    let g = grown-start s (top + 1) (cellsFrom cell n) (omega (arith, p .room)) in
+    record {
+      given = p;
+      grown = subst (λ (cs : List ℕ). Grown s (top + 1) s (top + 1) (cellsFrom cell n) cs) (cc) g;
+      near = omega arith;
+      few = omega arith;
+    }
 
 cells-next : (c m : ℕ) → 0 < m → cellsFrom c m ≡ (c ∷ []) ++ cellsFrom (c + 1) (m - 1)
 unfolding cellsFrom
@@ -183,27 +177,25 @@ unfolding cellsFrom
 no-cells c zero l = refl
 no-cells c (suc m) l = absurd (omega arith)
 
-module _ {s : List ℕ} {cell n top : ℕ} {s′ : List ℕ} {to i : ℕ} (h : Running s cell n top s′ to i) (room : top + 514 ≤ length s) (most : n ≤ 255) where
+module _ {s : List ℕ} {cell n top : ℕ} {s′ : List ℕ} {to i : ℕ} (h : Running s cell n top s′ to i) where
   pub running-inside : i < n → to < length s′
-  running-inside l = omega (arith, h .near, h .grown .appended .frame .kept)
+  running-inside l = omega (arith, h .near, h .given .room, h .given .few, h .grown .appended .frame .kept)
 
   pub running-next : i < n → Running s cell n top (setAt s′ to (cell + i)) (to + 1) (i + 1)
-  running-next l = record {
-    grown = grown-step (cellsFrom (cell + (i + 1)) (n - (i + 1)))
-        (subst (λ (c : List ℕ). Grown s (top + 1) s′ to (cellsFrom cell n) c)
-        (cells-next (cell + i) (n - i) (omega arith)
-        ∙ ap (λ (k : ℕ). ((cell + i) ∷ []) ++ cellsFrom k (n - i - 1)) (let z : cell + i + 1 ≡ cell + (i + 1) = omega arith in z)
-        ∙ ap (λ (k : ℕ). ((cell + i) ∷ []) ++ cellsFrom (cell + (i + 1)) k) (let z : n - i - 1 ≡ n - (i + 1) = omega arith in z))
-        (h .grown))
-        (appended-cell s′ to (cell + i) (running-inside l));
-    near = omega (arith, h .near);
-    few = omega arith;
-  }
+  running-next l =
+      let c : cell + i + 1 ≡ cell + (i + 1) = omega arith in
+      let m : n - i - 1 ≡ n - (i + 1) = omega arith in
+      let e = cells-next (cell + i) (n - i) (omega arith) in
+      let f : cellsFrom (cell + i) (n - i) ≡ ((cell + i) ∷ []) ++ cellsFrom (cell + (i + 1)) (n - (i + 1)) = rw (← c, ← m) e in
+      record {
+        given = h .given;
+        grown = grown-step (cellsFrom (cell + (i + 1)) (n - (i + 1))) (rw f at (h .grown)) (appended-cell s′ to (cell + i) (running-inside l));
+        near = omega (arith, h .near);
+        few = omega arith;
+      }
 
   pub running-end : n ≤ i → (vs : Values) → count vs ≡ n → codes vs ≡ cellsFrom cell n → Made top s (setAt s′ top (21474836480 + n)) (set vs) to
   running-end l vs e q =
-      made-set
-      (subst (λ (c : List ℕ). Appended s (top + 1) s′ to c) (sym q)
-      (grown-end
-      (subst (λ (c : List ℕ). Grown s (top + 1) s′ to (cellsFrom cell n) c) (no-cells (cell + i) (n - i) (omega arith)) (h .grown))))
-      (sym e) (omega arith) (omega (arith, length-codes vs, ap length q, length-cells cell n))
+      let g = rw (no-cells (cell + i) (n - i) (omega arith)) at (h .grown) in
+      let w : Appended s (top + 1) s′ to (codes vs) = rw q (grown-end g) in
+      made-set w (sym e) (omega (arith, h .given .room)) (omega (arith, h .given .few, length-codes vs, ap length q, length-cells cell n))

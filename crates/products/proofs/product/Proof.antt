@@ -35,6 +35,9 @@ sizes m =
 abbrev light : tie.After-rows-arg → tie.Else1
 light m = m .before
 
+abbrev weighed : tie.Else1 → tie.After-product-weight
+weighed l = l .before
+
 abbrev put : tie.After-slice-known4 → tie.After-rows
 put m = m .before .before
 
@@ -44,22 +47,16 @@ product-weight-requires c κs =
     let z = product-sizes (sizes c) (q .0 .1) (q .1 .1) in
     (z .4, z .6, z .5, z .7)
 
-returns : tie.Need-returns
-returns c = λ vs ws h k.
-    let w = c .before in
-    product-heavy (sizes (w .before)) (omega (arith, w .product-weight .ensures, c .if1 .taken)) h k
-
 rows-requires : tie.Need-rows-requires
 rows-requires c κs =
-    let l = light c in
-    let w = l .before in
+    let w = weighed (light c) in
     let q = given (first (w .before)) .pre in
-    product-pre (sizes (w .before)) (q .2) (omega (arith, w .product-weight .ensures, l .if1 .left)) (q .0 .1) (q .1 .1)
+    product-pre (sizes (w .before)) (q .2) (omega (arith, w .product-weight .ensures, light c .if1 .left)) (q .0 .1) (q .1 .1)
 
 returns-2 : tie.Need-returns-2
 returns-2 c = λ vs ws h k.
     let l = light (put c .before) in
-    let w = l .before in
+    let w = weighed l in
     product-made (sizes (w .before)) (given (first (w .before)) .pre .2) (omega (arith, w .product-weight .ensures, l .if1 .left))
     _ _ (put c .rows .ensures) h k
 
@@ -81,7 +78,7 @@ product-spec =
     (λ c. omega (arith, set-end _ _ _ _ (given (first c) .pre .1 .1) _ (c .end-of2 .ensures)))
     product-weight-requires
     (λ c. search needs)
-    returns
+    (λ c. λ vs ws h k. let w = c .before in product-heavy (sizes (w .before)) (omega (arith, w .product-weight .ensures, c .if1 .taken)) h k)
     (λ c. search needs)
     (λ c. search needs)
     (λ c. search needs)
