@@ -175,22 +175,16 @@ module _ {s : List ℕ} {p from : ℕ} {o : Out} {v : Value} {zs : List Value} (
         go [] m l = absurd (n l)
         go (y ∷ ys) m l = let x = last-stands s from (o .to) y ys (o .last) m l in record { value = lastOf y ys; stands = x .0; fits = x .1 }
 
-    pub place-last : Rising zs → (c : ℕ) → Compared s p (o .last) c → 0 < c → Placed v from zs (record { at = o .to; equal = eqb c 1 })
-    place-last r c k g = go zs (h .members) (h .last) r
+    pub place-last : Rising zs → (c : ℕ) → Compared s p (o .last) c → 0 < c → (b : Bool) → b ≡ eqb c 1 → Placed v from zs (record { at = o .to; equal = b })
+    place-last r c k g b e = go zs (h .members) (h .last) r
       where
-        go : (ys : List Value) → Members s from (o .to) ys → LastAt (o .last) (o .to) ys → Rising ys →
-            Placed v from ys (record { at = o .to; equal = eqb c 1 })
+        go : (ys : List Value) → Members s from (o .to) ys → LastAt (o .last) (o .to) ys → Rising ys → Placed v from ys (record { at = o .to; equal = b })
         go [] m l r = absurd (n l)
         go (y ∷ ys) m l r =
             let x = last-stands s from (o .to) y ys (o .last) m l in
-            record {
-              lo = y ∷ ys;
-              hi = [];
-              all = sym (append-nil (y ∷ ys));
-              at = m .ends;
-              inserted = insert-last v y ys r (fits-small v (below .fits)) (all-imp CellsFit Small (λ z f. fits-small z f) (y ∷ ys) (m .fits)) c
-                  (k v (lastOf y ys) (below .stands) (x .0) (below .fits) (x .1)) g;
-            }
+            let small = all-imp CellsFit Small (λ z f. fits-small z f) (y ∷ ys) (m .fits) in
+            let d = insert-last v y ys r (fits-small v (below .fits)) small c (k v (lastOf y ys) (below .stands) (x .0) (below .fits) (x .1)) g in
+            record { lo = y ∷ ys; hi = []; all = sym (append-nil (y ∷ ys)); at = m .ends; inserted = rw e d }
 
 pub place-find : (s : List ℕ) (p end from : ℕ) (o : Out) → InsertPre s p end from o → FindPre s p end from (o .to)
 place-find s p end from o h = record {

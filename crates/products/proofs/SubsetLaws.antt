@@ -15,7 +15,7 @@ use Rattle.rules.specs.Operations.{setOf, keptValue}
 use Rattle.laws.proofs.CellsLaws.{count-weights}
 use Rattle.arena.specs.Code.{code, codes, SomeAt, EndsAt, Copied, ValueBelow, Made, Front}
 use Rattle.arena.proofs.CodeLaws.{length-code, length-codes}
-use Rattle.arena.proofs.FrontLaws.{front-value, front-next, front-below, front-some, value-frame}
+use Rattle.arena.proofs.FrontLaws.{single, front-value, front-next, front-below, front-some, value-frame}
 use Rattle.products.specs.Growing.{Appended, Grown}
 use Rattle.products.specs.Power.{pick, AddPre, Added, AddedIf, Begin, Marked, Subsets, SubsetIf}
 use Rattle.products.specs.declared.Out.{Out}
@@ -216,16 +216,9 @@ module _ {s₀ at : List ℕ} {n mask to : ℕ} {vs : Values} (marked : Marked s
           put w ws v e q (inr x) = rw (x .1, x .2) (rw (x .0) at q)
 
 -- `subset_if`
-kept-single : (k : Bool) (v : Value) → k ≡ true → codes (values (keptValue k v [])) ≡ code v
-unfolding code
-kept-single k v e = rw e (append-nil (code v))
-
-kept-nothing : (k : Bool) (v : Value) → k ≡ false → codes (values (keptValue k v [])) ≡ []
-unfolding code
-kept-nothing k v e = rw e
-
 pub subset-taken : (s at : List ℕ) (n mask p to : ℕ) (s′ : List ℕ) (r : ℕ) → mask < p → Subsets s at n mask to s′ r → SubsetIf s at n mask p to s′ r
-subset-taken s at n mask p to s′ r l put vs h = rw (kept-single (ltb mask p) (setOf (pick mask (members vs))) (lt-ltb mask p l)) (put vs h)
+subset-taken s at n mask p to s′ r l put vs h = rw (lt-ltb mask p l, single (setOf (pick mask (members vs)))) (put vs h)
 
 pub subset-left : (s at : List ℕ) (n mask p to : ℕ) → p ≤ mask → to ≤ length s → SubsetIf s at n mask p to s to
-subset-left s at n mask p to l b vs h = rw (kept-nothing (ltb mask p) (setOf (pick mask (members vs))) (le-ltb mask p l)) (appended-none s to b)
+unfolding code
+subset-left s at n mask p to l b vs h = rw (le-ltb mask p l) (appended-none s to b)

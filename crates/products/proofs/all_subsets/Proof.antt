@@ -5,7 +5,8 @@ use native.Mathlib.Omega.{arith}
 use Rattle.rules.specs.Values.{Values}
 use Rattle.products.specs.Growing.{Grown}
 use Rattle.products.specs.Power.{Marked}
-use Rattle.products.proofs.PowerLaws.{allFrom, all-start, all-pre, all-next, all-end}
+use Rattle.products.proofs.GrowLaws.{grown-start}
+use Rattle.products.proofs.PowerLaws.{allFrom, all-pre, all-next, all-end}
 use Rattle.products.proofs.all_subsets.Statement.{statement}
 use Rattle.products.proofs.all_subsets.Tie as tie
 
@@ -47,7 +48,7 @@ pub all-subsets-spec : {M : Type 1} → statement M
 all-subsets-spec =
     tie.close
     (tie.spec Inv-loop μ-loop
-    (λ c. λ vs h. all-start _ _ _ vs (omega (arith, c .before .pre .room)))
+    (λ c. λ vs h. grown-start _ _ _ (omega (arith, c .before .pre .room)))
     (λ c κs. search needs)
     subset-if-requires
     (λ c. omega (arith, read c .before .loop-test .taken))
