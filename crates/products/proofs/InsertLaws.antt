@@ -3,6 +3,7 @@
 use Prim.Native.Nat.{ℕ, _+_, _-_, _≤_, _<_}
 use mathlib.Core.Bool.{Bool, true, false, cond}
 use mathlib.Core.List.{List, [], _∷_, _++_, append-assoc, append-nil}
+use mathlib.Core.Logic.{_≢_}
 use mathlib.Core.Path.{_≡_, refl, sym, ap, _∙_, subst}
 use native.Mathlib.Omega.{arith}
 use native.Mathlib.Decide.{ℕ-discrete}
@@ -153,6 +154,10 @@ module _ {s : List ℕ} {v : Value} {from to : ℕ} {zs : List Value} {i : ℕ} 
           }
 
 -- `place_for`: the last member stands before the end.
+is-one : (b : Bool) (c : ℕ) → (b ≡ true → c ≡ 1) → (b ≡ false → c ≢ 1) → b ≡ eqb c 1
+is-one true c f g = sym (eq-eqb c 1 (f refl))
+is-one false c f g = sym (ne-eqb c 1 (g refl))
+
 last-stands : (s : List ℕ) (i to : ℕ) (z : Value) (zs : List Value) (last : ℕ) → Members s i to (z ∷ zs) → LastAt last to (z ∷ zs) →
     ValueAt s last (lastOf z zs) × CellsFit (lastOf z zs)
 last-stands s i to z [] last h l =
@@ -175,8 +180,9 @@ module _ {s : List ℕ} {p from : ℕ} {o : Out} {v : Value} {zs : List Value} (
         go [] m l = absurd (n l)
         go (y ∷ ys) m l = let x = last-stands s from (o .to) y ys (o .last) m l in record { value = lastOf y ys; stands = x .0; fits = x .1 }
 
-    pub place-last : Rising zs → (c : ℕ) → Compared s p (o .last) c → 0 < c → (b : Bool) → b ≡ eqb c 1 → Placed v from zs (record { at = o .to; equal = b })
-    place-last r c k g b e = go zs (h .members) (h .last) r
+    pub place-last : Rising zs → (c : ℕ) → Compared s p (o .last) c → 0 < c → (b : Bool) → (b ≡ true → c ≡ 1) → (b ≡ false → c ≢ 1) →
+        Placed v from zs (record { at = o .to; equal = b })
+    place-last r c k g b f f′ = go zs (h .members) (h .last) r
       where
         go : (ys : List Value) → Members s from (o .to) ys → LastAt (o .last) (o .to) ys → Rising ys → Placed v from ys (record { at = o .to; equal = b })
         go [] m l r = absurd (n l)
@@ -184,7 +190,7 @@ module _ {s : List ℕ} {p from : ℕ} {o : Out} {v : Value} {zs : List Value} (
             let x = last-stands s from (o .to) y ys (o .last) m l in
             let small = all-imp CellsFit Small (λ z f. fits-small z f) (y ∷ ys) (m .fits) in
             let d = insert-last v y ys r (fits-small v (below .fits)) small c (k v (lastOf y ys) (below .stands) (x .0) (below .fits) (x .1)) g in
-            record { lo = y ∷ ys; hi = []; all = sym (append-nil (y ∷ ys)); at = m .ends; inserted = rw e d }
+            record { lo = y ∷ ys; hi = []; all = sym (append-nil (y ∷ ys)); at = m .ends; inserted = rw (is-one b c f f′) d }
 
 pub place-find : (s : List ℕ) (p end from : ℕ) (o : Out) → InsertPre s p end from o → FindPre s p end from (o .to)
 place-find s p end from o h = record {

@@ -1,6 +1,6 @@
 -- `place_for`: the last member decides unless the value is less; then the walk does.
-use mathlib.Core.Path.{refl}
 use native.Mathlib.Omega.{arith}
+use borrow.Author.Tests.{eqb-true, eqb-false}
 use Rattle.rules.specs.Operations.{rising}
 use Rattle.laws.proofs.SetOrder.{rising-rising}
 use Rattle.arena.proofs.FrontLaws.{value-some}
@@ -22,7 +22,9 @@ compare-requires c κs =
 
 returns-2 : tie.Need-returns-2
 returns-2 c = λ v xs h b.
-    let m = c .before in place-last h b (m .before .if1 .left) (rising-rising xs) _ (m .compare .ensures) (omega (arith, c .if2 .taken)) _ refl
+    let m = c .before in
+    place-last h b (m .before .if1 .left) (rising-rising xs) _ (m .compare .ensures) (omega (arith, c .if2 .taken))
+    _ (λ e. omega (arith, eqb-true)) (λ e q. omega (arith, eqb-false))
 
 pub place-for-spec : {M : Type 1} → statement M
 place-for-spec =
