@@ -17,14 +17,11 @@ abbrev μ-loop : tie.MeasureT-loop
 μ-loop s₀ at n p to j₀ end₀ s j end = 32 - j
 
 -- A turn of the loop, and what it was lent.
-abbrev Turn : Type 0
-Turn = tie.At-loop Inv-loop μ-loop
-
-abbrev lent : Turn → tie.Start Inv-loop μ-loop
+abbrev lent : tie.At-loop Inv-loop μ-loop → tie.Start Inv-loop μ-loop
 lent l = l .before .before
 
 -- The mask is read; its subset has been put.
-abbrev turn : tie.After-mask-at Inv-loop μ-loop → Turn
+abbrev turn : tie.After-mask-at Inv-loop μ-loop → tie.At-loop Inv-loop μ-loop
 turn m = m .before .before
 
 abbrev put : tie.After-slice-known2 Inv-loop μ-loop → tie.After-subset-if Inv-loop μ-loop

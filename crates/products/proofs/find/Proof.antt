@@ -26,10 +26,7 @@ abbrev finding : (l : Turn) → (let a = lent l .args in Finding (a .s .now) (le
 finding l = let q = lent l .pre in l .loop .inv (q .value) (q .others) (q .stands) (q .fits) (q .members)
 
 -- The order of the value and the member is known.
-abbrev Ordered : Type 0
-Ordered = tie.After-compare Inv-loop μ-loop
-
-abbrev turn : Ordered → Turn
+abbrev turn : tie.After-compare Inv-loop μ-loop → Turn
 turn m = m .before .before
 
 compare-requires : tie.Need-compare-requires Inv-loop μ-loop

@@ -7,17 +7,14 @@ use Rattle.products.proofs.insert.Statement.{statement}
 use Rattle.products.proofs.insert.Tie as tie
 
 -- The place is known.
-abbrev Found : Type 0
-Found = tie.After-place-for
-
-abbrev lent : Found → tie.Start
+abbrev lent : tie.After-place-for → tie.Start
 lent m = m .before .before .before
 
-near : (m : Found) → (let a = lent m .args in Near (a .s .now) (a .p) (a .end) (a .o) (m .place-for .result .at))
+near : (m : tie.After-place-for) → (let a = lent m .args in Near (a .s .now) (a .p) (a .end) (a .o) (m .place-for .result .at))
 near m = insert-near _ _ _ _ _ _ (lent m .pre) (m .place-for .ensures)
 
 -- The members behind the place have been moved; the value has been copied into the gap.
-abbrev moved : tie.After-shift → Found
+abbrev moved : tie.After-shift → tie.After-place-for
 moved m = m .before .before .before
 
 abbrev gap : tie.After-copy-arg → tie.After-shift

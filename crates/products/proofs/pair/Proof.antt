@@ -7,10 +7,7 @@ use Rattle.products.proofs.pair.Statement.{statement}
 use Rattle.products.proofs.pair.Tie as tie
 
 -- Where both values end is known; what was lent, and how much they weigh.
-abbrev Ended : Type 0
-Ended = tie.After-end-of2
-
-abbrev first : Ended → tie.After-end-of
+abbrev first : tie.After-end-of2 → tie.After-end-of
 first m = m .before .before
 
 abbrev lent : tie.After-end-of → tie.Start

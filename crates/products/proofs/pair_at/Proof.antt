@@ -9,13 +9,10 @@ use Rattle.products.proofs.pair_at.Statement.{statement}
 use Rattle.products.proofs.pair_at.Tie as tie
 
 -- The first part has been copied, then the second; what was lent, and that it keeps its length.
-abbrev First : Type 0
-First = tie.After-copy
-
 abbrev lent : tie.After-copy-arg → tie.Start
 lent m = m .before .before
 
-abbrev first : tie.After-copy-arg2 → First
+abbrev first : tie.After-copy-arg2 → tie.After-copy
 first m = m .before .before .before
 
 abbrev both : tie.After-slice-known3 → tie.After-copy2

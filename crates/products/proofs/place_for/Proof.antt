@@ -9,10 +9,7 @@ use Rattle.products.proofs.place_for.Statement.{statement}
 use Rattle.products.proofs.place_for.Tie as tie
 
 -- The order of the value and the last member is known.
-abbrev Ordered : Type 0
-Ordered = tie.After-compare
-
-abbrev lent : Ordered → tie.Start
+abbrev lent : tie.After-compare → tie.Start
 lent m = m .before .before .before
 
 compare-requires : tie.Need-compare-requires

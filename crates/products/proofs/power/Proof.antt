@@ -8,21 +8,18 @@ use Rattle.products.proofs.power.Statement.{statement}
 use Rattle.products.proofs.power.Tie as tie
 
 -- The number of subsets is known; so are the number of members and where the set ends. What was lent.
-abbrev Counted : Type 0
-Counted = tie.After-subset-count
-
 abbrev low : tie.After-end-of → tie.After-low
 low m = m .before .before
 
 abbrev lent : tie.After-end-of → tie.Start
 lent m = low m .before .before .before
 
-sized : (m : Counted) → (let e = m .before in
+sized : (m : tie.After-subset-count) → (let e = m .before in
     Sized (lent e .args .s .now) (lent e .args .a) (e .end-of .result) (low e .low .result) (m .subset-count .result))
 sized m = let e = m .before in record { low = low e .low .ensures .0; ends = e .end-of .ensures; is = m .subset-count .ensures .0 }
 
 -- half of the subsets, times the cells of the members
-half : (m : Counted) → m .subset-count .result / 2 * (m .before .end-of .result - lent (m .before) .args .a - 1) ≤ 8160
+half : (m : tie.After-subset-count) → m .subset-count .result / 2 * (m .before .end-of .result - lent (m .before) .args .a - 1) ≤ 8160
 half m = let e = m .before in half-product _ _ (m .subset-count .ensures .1) (set-cells _ _ _ _ (lent e .pre .0 .1) _ (e .end-of .ensures))
 
 -- The power set is light enough; the places of the members are known; the subsets have been put.

@@ -7,10 +7,7 @@ use Rattle.products.proofs.product.Statement.{statement}
 use Rattle.products.proofs.product.Tie as tie
 
 -- Numbers of members and ends of both sets are known; what was lent, and both sets that are there.
-abbrev Ended : Type 0
-Ended = tie.After-end-of2
-
-abbrev first : Ended → tie.After-end-of
+abbrev first : tie.After-end-of2 → tie.After-end-of
 first m = m .before .before
 
 abbrev second : tie.After-end-of → tie.After-low2
@@ -25,7 +22,7 @@ lent m = m .before .before .before
 abbrev given : tie.After-end-of → tie.Start
 given m = lent (counted (second m))
 
-sizes : (m : Ended) → (let a = given (first m) .args in
+sizes : (m : tie.After-end-of2) → (let a = given (first m) .args in
     Sizes (a .s .now) (a .a) (a .b) (first m .end-of .result) (m .end-of2 .result) (counted (second (first m)) .low .result) (second (first m) .low2 .result))
 sizes m =
     let k = second (first m) in

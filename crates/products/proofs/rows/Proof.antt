@@ -15,28 +15,22 @@ abbrev μ-loop : tie.MeasureT-loop
 μ-loop s₀ a n b m to i₀ left₀ at₀ s i left at = left
 
 -- A turn of the loop, what it was lent, and what it knows.
-abbrev Turn : Type 0
-Turn = tie.At-loop Inv-loop μ-loop
-
-abbrev lent : Turn → tie.Start Inv-loop μ-loop
+abbrev lent : tie.At-loop Inv-loop μ-loop → tie.Start Inv-loop μ-loop
 lent l = l .before .before
 
-abbrev known : (l : Turn) →
+abbrev known : (l : tie.At-loop Inv-loop μ-loop) →
     (let a = lent l .args in let p = lent l .pre in
     SquareAt (a .s .now) (p .top) (p .lefts) (p .rights) (a .to) (l .loop .s) (l .loop .i) (l .loop .left) (l .loop .at))
 known l = let p = lent l .pre in l .loop .inv (p .top) (p .lefts) (p .rights) (p .front) (p .others) (p .behind)
 
 -- The member ends; its pairs have been put.
-abbrev Ended : Type 0
-Ended = tie.After-end-of Inv-loop μ-loop
-
-abbrev member : Ended → tie.In-loop Inv-loop μ-loop
+abbrev member : tie.After-end-of Inv-loop μ-loop → tie.In-loop Inv-loop μ-loop
 member m = m .before .before
 
 abbrev put : tie.After-slice-known2 Inv-loop μ-loop → tie.After-row Inv-loop μ-loop
 put m = m .before .before
 
-abbrev ended : tie.After-slice-known2 Inv-loop μ-loop → Ended
+abbrev ended : tie.After-slice-known2 Inv-loop μ-loop → tie.After-end-of Inv-loop μ-loop
 ended m = put m .before .before
 
 row-requires : tie.Need-row-requires Inv-loop μ-loop

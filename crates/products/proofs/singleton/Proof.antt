@@ -8,10 +8,7 @@ use Rattle.products.proofs.singleton.Statement.{statement}
 use Rattle.products.proofs.singleton.Tie as tie
 
 -- Where the value ends is known; what was lent. The value has been copied.
-abbrev Ended : Type 0
-Ended = tie.After-end-of
-
-abbrev lent : Ended → tie.Start
+abbrev lent : tie.After-end-of → tie.Start
 lent m = m .before .before .before
 
 abbrev light : tie.After-copy-arg → tie.Else1

@@ -17,21 +17,18 @@ abbrev μ-loop : tie.MeasureT-loop
 μ-loop s₀ at n mask to j₀ m₀ o₀ s j m o = n - j
 
 -- A turn of the loop, what it was lent, and what it knows.
-abbrev Turn : Type 0
-Turn = tie.At-loop Inv-loop μ-loop
-
-abbrev lent : Turn → tie.Start Inv-loop μ-loop
+abbrev lent : tie.At-loop Inv-loop μ-loop → tie.Start Inv-loop μ-loop
 lent l = l .before .before
 
-abbrev known : (l : Turn) → (let a = lent l .args in
+abbrev known : (l : tie.At-loop Inv-loop μ-loop) → (let a = lent l .args in
     SubsetAt (a .s .now) (a .at .now) (a .n) (lent l .pre .whole) (a .mask) (a .to) (l .loop .s) (l .loop .j) (l .loop .m) (l .loop .o))
 known l = let q = lent l .pre in l .loop .inv (q .whole) (q .marked)
 
-near : (l : Turn) → (l .loop .o .count ≤ 255) × (length (l .loop .s) ≡ length (lent l .args .s .now))
+near : (l : tie.At-loop Inv-loop μ-loop) → (l .loop .o .count ≤ 255) × (length (l .loop .s) ≡ length (lent l .args .s .now))
 near l = let q = lent l .pre in subset-near (q .marked) (q .room) (known l)
 
 -- Where the member ends is read; it has been put.
-abbrev turn : tie.After-from Inv-loop μ-loop → Turn
+abbrev turn : tie.After-from Inv-loop μ-loop → tie.At-loop Inv-loop μ-loop
 turn m = m .before .before
 
 abbrev read : tie.After-add-if Inv-loop μ-loop → tie.After-end Inv-loop μ-loop
