@@ -16,9 +16,6 @@ lent m = m .before .before .before
 abbrev put : tie.After-slice-known2 → tie.After-pair-at
 put m = m .before .before
 
-abbrev light : tie.After-pair-at-arg → tie.Else1
-light m = m .before
-
 add-if1 : tie.Need-add-if1
 add-if1 c =
     let q = lent (first c) .pre in
@@ -27,13 +24,13 @@ add-if1 c =
 
 pair-at-requires : tie.Need-pair-at-requires
 pair-at-requires c κs =
-    let m = light c .before in
+    let m = c .before .before in
     let q = lent (first m) .pre in
-    pair-pre _ _ (first m .end-of .ensures) (m .end-of2 .ensures) (q .0 .1) (q .1 .1) (q .2) (light c .if1 .left)
+    pair-pre _ _ (first m .end-of .ensures) (m .end-of2 .ensures) (q .0 .1) (q .1 .1) (q .2) (c .before .if1 .left)
 
 returns-2 : tie.Need-returns-2
 returns-2 c = λ v w h k.
-    let l = light (put c .before) in
+    let l = put c .before .before in
     let m = l .before in
     pair-made _ _ (first m .end-of .ensures) (m .end-of2 .ensures) h k (l .if1 .left) (put c .pair-at .ensures)
 

@@ -22,9 +22,7 @@ kept : (m : tie.After-copy-arg) → (let a = lent m .args in length (setAt (a .s
 kept m = let a = lent m .args in length-set (a .s .now) (a .to) 17179869184
 
 copy-requires : tie.Need-copy-requires
-copy-requires c κs =
-    let q = lent c .pre in
-    (omega (arith, q .left, q .room, kept c), omega (arith, q .room, kept c), inl (omega (arith, q .left)))
+copy-requires c κs = let q = lent c .pre in (omega (arith, q .left, q .room, kept c), omega (arith, q .room, kept c), inl (omega (arith, q .left)))
 
 copy-requires-2 : tie.Need-copy-requires-2
 copy-requires-2 c κs =

@@ -23,7 +23,8 @@ abbrev lent : tie.After-low Inv-loop μ-loop → tie.Start Inv-loop μ-loop
 lent m = m .before .before .before
 
 abbrev known : (l : Turn) → (let a = lent (l .before) .args in
-    Taking (a .second) (a .s .now) (a .a) (a .top) (l .before .low .result) (lent (l .before) .pre .0 .0) (l .loop .s) (l .loop .left) (l .loop .i) (l .loop .o))
+    Taking (a .second) (a .s .now) (a .a) (a .top) (l .before .low .result)
+    (lent (l .before) .pre .0 .0) (l .loop .s) (l .loop .left) (l .loop .i) (l .loop .o))
 known l = let q = lent (l .before) .pre .0 in l .loop .inv (q .0) (q .1) (q .2)
 
 -- A pair is looked at: its first part ends, then its second; the part to put is chosen, and put.

@@ -13,9 +13,7 @@ abbrev lent : tie.After-compare → tie.Start
 lent m = m .before .before .before
 
 compare-requires : tie.Need-compare-requires
-compare-requires c κs =
-    let q = c .before .before .pre in
-    (value-some _ _ _ _ (q .below), place-some (q .below) (q .built) (c .if1 .left), q .ends)
+compare-requires c κs = let q = c .before .before .pre in (value-some _ _ _ _ (q .below), place-some (q .below) (q .built) (c .if1 .left), q .ends)
 
 returns-2 : tie.Need-returns-2
 returns-2 c = λ v xs h b.

@@ -29,12 +29,6 @@ sizes m =
     record { ends = first m .end-of .ensures; ends′ = m .end-of2 .ensures; low = counted k .low .ensures .0; low′ = k .low2 .ensures .0 }
 
 -- The product is light enough; its pairs have been put.
-abbrev light : tie.After-rows-arg → tie.Else1
-light m = m .before
-
-abbrev weighed : tie.Else1 → tie.After-product-weight
-weighed l = l .before
-
 abbrev put : tie.After-slice-known4 → tie.After-rows
 put m = m .before .before
 
@@ -46,14 +40,14 @@ product-weight-requires c κs =
 
 rows-requires : tie.Need-rows-requires
 rows-requires c κs =
-    let w = weighed (light c) in
+    let w = c .before .before in
     let q = given (first (w .before)) .pre in
-    product-pre (sizes (w .before)) (q .2) (omega (arith, w .product-weight .ensures, light c .if1 .left)) (q .0 .1) (q .1 .1)
+    product-pre (sizes (w .before)) (q .2) (omega (arith, w .product-weight .ensures, c .before .if1 .left)) (q .0 .1) (q .1 .1)
 
 returns-2 : tie.Need-returns-2
 returns-2 c = λ vs ws h k.
-    let l = light (put c .before) in
-    let w = weighed l in
+    let l = put c .before .before in
+    let w = l .before in
     product-made (sizes (w .before)) (given (first (w .before)) .pre .2) (omega (arith, w .product-weight .ensures, l .if1 .left))
     _ _ (put c .rows .ensures) h k
 

@@ -12,9 +12,7 @@ abbrev μ-loop : tie.MeasureT-loop
 μ-loop s₀ from m n left₀ s left = left
 
 loop-again : tie.Need-loop-again Inv-loop μ-loop
-loop-again c =
-    let l = c .before .before in
-    shifting-next (l .loop .inv) (c .before .loop-test .taken) (l .before .pre) _ refl
+loop-again c = let l = c .before .before in shifting-next (l .loop .inv) (c .before .loop-test .taken) (l .before .pre) _ refl
 
 pub shift-spec : {M : Type 1} → statement M
 shift-spec =
