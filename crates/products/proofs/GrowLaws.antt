@@ -71,10 +71,10 @@ pub made-heavy : {s : List ℕ} {top : ℕ} {v : Value} → 256 < weight v → M
 made-heavy {s} {top} l = record { frame = same-refl top s; light = λ k. absurd (omega arith); heavy = λ k. refl }
 
 -- A set's cell before its members.
-pub made-set : {s : List ℕ} {top : ℕ} {s′ : List ℕ} {r n : ℕ} {vs : Values} → Appended s (top + 1) s′ r (codes vs) → n ≡ count vs → top < length s →
+pub made-set : (s : List ℕ) (top : ℕ) (s′ : List ℕ) (r n : ℕ) (vs : Values) → Appended s (top + 1) s′ r (codes vs) → n ≡ count vs → top < length s →
     weight (set vs) ≤ 256 → Made top s (setAt s′ top (21474836480 + n)) (set vs) r
 unfolding code
-made-set {s} {top} {s′} {r} {n} {vs} a e l w =
+made-set s top s′ r n vs a e l w =
     let x = 21474836480 + n in
     let y = appended-cell s′ top x (omega (arith, a .frame .kept)) in
     let k : Stands (setAt s′ top x) (top + 1) (codes vs) = record {
@@ -103,7 +103,7 @@ pub single-made : (s : List ℕ) (a top e : ℕ) (s′ : List ℕ) → top + 514
     (v : Value) → ValueBelow s top a v → Made top s (setAt s′ top 21474836481) (setOf (v ∷ [])) (top + 1 + (e - a))
 single-made s a top e s′ l x few c v h =
     let z = value-end s top a e v h x in
-    made-set
+    made-set _ _ _ _ _ _
     (appended-copy c (subst (λ (k : List ℕ). Stands s a k) (sym (single v)) (h .stands))
     (omega (arith, length-codes (v ▸ none))) (omega arith))
     refl (omega arith) (omega arith)
@@ -198,4 +198,4 @@ module _ {s : List ℕ} {cell n top : ℕ} {s′ : List ℕ} {to i : ℕ} (h : R
   running-end l vs e q =
       let g = rw (no-cells (cell + i) (n - i) (omega arith)) at (h .grown) in
       let w : Appended s (top + 1) s′ to (codes vs) = rw q (grown-end g) in
-      made-set w (sym e) (omega (arith, h .given .room)) (omega (arith, h .given .few, length-codes vs, ap length q, length-cells cell n))
+      made-set _ _ _ _ _ _ w (sym e) (omega (arith, h .given .room)) (omega (arith, h .given .few, length-codes vs, ap length q, length-cells cell n))

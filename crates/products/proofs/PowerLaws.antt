@@ -170,7 +170,7 @@ module _ {s : List ℕ} {a top e n p : ℕ} (sized : Sized s a e n p) {vs : Valu
     pub power-made : top + 514 ≤ length s → (at : List ℕ) → Marks s (a + 1) n at → (s′ : List ℕ) (r : ℕ) → AllSubsets s at n p (top + 1) s′ r →
         Made top s (setAt s′ top (21474836480 + p)) (setOf (rising (map setOf (subsets (members vs))))) r
     power-made room at m s′ r put =
-        made-set
+        made-set _ _ _ _ _ _
         (subst (λ (l : List Value). Appended s (top + 1) s′ r (codes (values l))) power-picks (put vs (power-marked at m)))
         (sized .is ∙ sym (ap (λ (l : List Value). count (values l)) power-is ∙ power-few (members vs) (omega (arith, power-members, few)) .1
         ∙ ap subsetCount power-members))

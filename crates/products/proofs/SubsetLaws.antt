@@ -98,7 +98,7 @@ module _ {s₀ : List ℕ} {top : ℕ} {s : List ℕ} {o : Out} {whole : List Va
 
   putting-end : Putting s₀ top s o whole [] → top + 257 ≤ length s₀ → Made top s₀ (setAt s top (21474836480 + o .count)) (setOf whole) (o .to)
   unfolding code
-  putting-end h g = made-set (grown-end (h .grown)) (omega (arith, h .counted)) (omega arith) (omega arith)
+  putting-end h g = made-set _ _ _ _ _ _ (grown-end (h .grown)) (omega (arith, h .counted)) (omega arith) (omega arith)
 
   module _ {w : Value} {rest : List Value} (h : Putting s₀ top s o whole (w ∷ rest)) {k p e : ℕ} (value : ValueBelow s k p w) (ends : e ≡ p + weight w) where
     putting-pre : k ≤ top + 1 → top + 257 ≤ length s₀ → AddPre s p e o

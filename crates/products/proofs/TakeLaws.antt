@@ -107,7 +107,7 @@ module _ {b : Bool} {s₀ : List ℕ} {a top n : ℕ} {vs : Values} {s : List �
           let m = h .built .members in
           let c : Appended s₀ (top + 1) s (o .to) (codes (values (rising (h .done)))) =
           record { frame = h .frame; stands = m .stands; ends = omega (arith, m .ends, length-codes (values (rising (h .done)))) } in
-          rw (e ∙ append-nil (h .done)) (made-set c (h .built .counted) (omega (arith, h .given .room)) (omega (arith, taking-light)))
+          rw (e ∙ append-nil (h .done)) (made-set _ _ _ _ _ _ c (h .built .counted) (omega (arith, h .given .room)) (omega (arith, taking-light)))
       go (v ▸ rest) f e = absurd (omega (arith, f .counted))
 
   module _ (more : 0 < left) where

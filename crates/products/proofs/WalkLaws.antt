@@ -199,7 +199,7 @@ module _ {s : List ℕ} {top a b d e n m : ℕ} (given : Sizes s a b d e n m) wh
         Made top s (setAt s′ top (21474836480 + n * m)) (setOf (pairsOf (members vs) (members ws))) r
     product-made s′ r put {vs} {ws} h k =
         let z = product-sizes h k in
-        made-set (put top vs ws (front-start s top a vs h n (given .low)) (front-start s top b ws k m (given .low′)) (omega arith))
+        made-set _ _ _ _ _ _ (put top vs ws (front-start s top a vs h n (given .low)) (front-start s top b ws k m (given .low′)) (omega arith))
         (sym (square-count vs ws ∙ rw (z .0, z .1))) (omega arith) (omega (arith, product-weighs h k))
 
 -- products of two numbers that are small
