@@ -112,13 +112,8 @@ module _ (s : List ℕ) (a : ℕ) where
       (x : Value) × (y : Value) × (v ≡ pair x y) × TypedAt s (a + 1) x × TypedAt s (a + 1 + weight x) y
   as-pair v h t =
       let p = pair-only v (h .stands) (h .fits) t in
-      let k = and-split (inhabited (typesOf (p .0))) (inhabited (typesOf (p .1))) (rw (p .2) at (h .typed)) in (
-        p .0,
-        p .1,
-        p .2,
-        record { stands = p .3; fits = p .5; typed = k .0 },
-        record { stands = p .4; fits = p .6; typed = k .1 },
-      )
+      let k = and-split (inhabited (typesOf (p .0))) (inhabited (typesOf (p .1))) (rw (p .2) at (h .typed)) in
+      (p .0, p .1, p .2, record { stands = p .3; fits = p .5; typed = k .0 }, record { stands = p .4; fits = p .6; typed = k .1 })
 
   pub as-set : (v : Value) → TypedAt s a v → getD s a 0 / cellSize ≡ 5 → (vs : Values) × (v ≡ set vs) × RunAt s (a + 1) (getD s a 0 % cellSize) vs
   as-set v h t =

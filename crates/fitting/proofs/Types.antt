@@ -148,10 +148,8 @@ head-atom a (POW t) e = absurd (atom-code a .0 (sym e))
 head-atom a (t ⊗ u) e = absurd (atom-code a .1 (sym e))
 
 code-decides : (a : Atom) (t : Ty) → Decides (eqb (atomCode a) (head t)) (t ≡ atom a)
-code-decides a t = record {
-  sound = λ e. head-atom a t (sym (eqb-true (atomCode a) (head t) e));
-  complete = λ e. eq-eqb (atomCode a) (head t) (sym (ap head e));
-}
+code-decides a t =
+    record { sound = λ e. head-atom a t (sym (eqb-true (atomCode a) (head t) e)); complete = λ e. eq-eqb (atomCode a) (head t) (sym (ap head e)) }
 
 scalar-decides : (x : Scalar) (t : Ty) (c : ℕ) → ScalarFits x → c / cellSize ≡ scalarTag x → c % cellSize ≡ scalarLow x →
     Decides (atomIs c (head t)) (t ≡ atom (atomOf x))

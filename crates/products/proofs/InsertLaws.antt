@@ -34,13 +34,8 @@ pub record Shifting (s₀ : List ℕ) (from m n : ℕ) (s : List ℕ) (left : �
   pub kept : length s ≡ length s₀
 
 pub shifting-start : (s : List ℕ) (from m n : ℕ) → Shifting s from m n s m
-shifting-start s from m n = record {
-  few = omega arith;
-  there = λ i p q. absurd (omega arith);
-  before = λ j p. refl;
-  after = λ j p. refl;
-  kept = refl;
-}
+shifting-start s from m n =
+    record { few = omega arith; there = λ i p q. absurd (omega arith); before = λ j p. refl; after = λ j p. refl; kept = refl }
 
 module _ {s₀ : List ℕ} {from m n : ℕ} {s : List ℕ} {left : ℕ} (h : Shifting s₀ from m n s left) where
   pub shifting-next : 0 < left → from + m + n ≤ length s₀ → (at : ℕ) → at ≡ from + (left - 1) →
@@ -101,13 +96,8 @@ module _ {s : List ℕ} {v : Value} {from to : ℕ} {zs : List Value} {i : ℕ} 
   finding-end l = go (h .hi) (h .all, h .rest, h .inserted)
     where
       go : (hi : List Value) → Follow hi → Placed v from zs (record { at = to; equal = false })
-      go [] (a, m, e) = record {
-        lo = h .lo;
-        hi = [];
-        all = a;
-        at = omega (arith, h .at, m .ends);
-        inserted = e ∙ ap (λ (l : List Value). h .lo ++ l) (insert-none v);
-      }
+      go [] (a, m, e) =
+          record { lo = h .lo; hi = []; all = a; at = omega (arith, h .at, m .ends); inserted = e ∙ ap (λ (l : List Value). h .lo ++ l) (insert-none v) }
       go (z ∷ hi) (a, m, e) = absurd (omega (arith, m .ends, weight-some z))
 
   module _ (l : i < to) where
@@ -129,13 +119,7 @@ module _ {s : List ℕ} {v : Value} {from to : ℕ} {zs : List Value} {i : ℕ} 
       pub finding-here : c < 2 → Placed v from zs (record { at = i; equal = eqb c 1 })
       finding-here k = finding-by (Placed v from zs (record { at = i; equal = eqb c 1 })) λ z hi q.
           let o = compared v z value (members-first (q .1)) fits (q .1 .fits .0) in
-          record {
-            lo = h .lo;
-            hi = z ∷ hi;
-            all = q .0;
-            at = h .at;
-            inserted = q .2 ∙ ap (λ (x : List Value). h .lo ++ x) (insert-here v z hi c o k);
-          }
+          record { lo = h .lo; hi = z ∷ hi; all = q .0; at = h .at; inserted = q .2 ∙ ap (λ (x : List Value). h .lo ++ x) (insert-here v z hi c o k) }
 
       pub finding-next : 2 ≤ c → (e : ℕ) → EndsAt s i e → Finding s v from to zs e
       finding-next k e ends = finding-by (Finding s v from to zs e) λ z hi q.
@@ -251,10 +235,8 @@ module _ {s : List ℕ} {p from : ℕ} {o : Out} {v : Value} {zs : List Value} (
 
   -- where the place is, and how much follows it
   place-near : (from ≤ q .at) × (o .to ≡ q .at + weights (values (d .hi)))
-  place-near = (
-    omega (arith, d .at),
-    omega (arith, d .at, h .members .ends, ap (λ (l : List Value). weights (values l)) (d .all), weights-append (d .lo) (d .hi)),
-  )
+  place-near =
+      (omega (arith, d .at), omega (arith, d .at, h .members .ends, ap (λ (l : List Value). weights (values l)) (d .all), weights-append (d .lo) (d .hi)))
 
   last-near : o .last ≤ o .to
   last-near = go zs (h .last)

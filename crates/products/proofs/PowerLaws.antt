@@ -159,13 +159,8 @@ module _ {s : List ℕ} {a top e n p : ℕ} (sized : Sized s a e n p) {vs : Valu
     power-marked at m = record { top = top; from = a + 1; front = power-front; begin = m top vs power-front; behind = omega arith }
 
     pub power-pre : top + 514 ≤ length s → (at : List ℕ) → Marks s (a + 1) n at → AllPre s at n p (top + 1)
-    power-pre room at m = record {
-      whole = vs;
-      marked = power-marked at m;
-      few = few;
-      light = omega (arith, power-weight);
-      room = omega arith;
-    }
+    power-pre room at m =
+        record { whole = vs; marked = power-marked at m; few = few; light = omega (arith, power-weight); room = omega arith }
 
     pub power-made : top + 514 ≤ length s → (at : List ℕ) → Marks s (a + 1) n at → (s′ : List ℕ) (r : ℕ) → AllSubsets s at n p (top + 1) s′ r →
         Made top s (setAt s′ top (21474836480 + p)) (setOf (rising (map setOf (subsets (members vs))))) r

@@ -73,10 +73,8 @@ module _ {s : List ℕ} {top a n : ℕ} {vs : Values} {at : List ℕ} {j : ℕ} 
 -- `add`
 pub add-made : (s : List ℕ) (from end : ℕ) (o : Out) (s′ : List ℕ) → AddPre s from end o → Copied s from (end - from) (o .to) s′ →
     Added s from end o s′ (record { last = o .to; to = o .to + (end - from); count = o .count + 1 })
-add-made s from end o s′ p c = record {
-  cells = λ v h e. appended-copy c h (omega (arith, length-code v)) (p .room);
-  counted = refl;
-}
+add-made s from end o s′ p c =
+    record { cells = λ v h e. appended-copy c h (omega (arith, length-code v)) (p .room); counted = refl }
 
 -- Of the members `whole`, those before `rest` have been put.
 pub record Putting (s₀ : List ℕ) (top : ℕ) (s : List ℕ) (o : Out) (whole : List Value) (rest : List Value) : Type 0 where

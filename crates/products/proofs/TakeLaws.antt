@@ -93,10 +93,8 @@ module _ {b : Bool} {s₀ : List ℕ} {a top n : ℕ} {vs : Values} {s : List �
 
   -- where they end, and how many they are
   pub taking-near : (o .to ≤ top + 256) × (o .count ≤ 255)
-  taking-near = (
-    omega (arith, taking-light, h .built .members .ends),
-    omega (arith, taking-light, h .built .counted, count-weights (values (rising (h .done)))),
-  )
+  taking-near =
+      (omega (arith, taking-light, h .built .members .ends), omega (arith, taking-light, h .built .counted, count-weights (values (rising (h .done)))))
 
   pub taking-end : left ≤ 0 → Made top s₀ (setAt s top (21474836480 + o .count)) (setOf (rising (map (part b) (members vs)))) (o .to)
   taking-end l = go (h .rest) (h .front) (h .all)
