@@ -12,7 +12,7 @@ use lib.ListN.{length, getD}
 use Rattle.rules.specs.Types.{whole, given}
 use Rattle.rules.specs.Values.{Scalar, num, truth, element, Value, scalar, pair, set, Values, none, _▸_, scalarTag, tag, count, weight, weights}
 use Rattle.rules.specs.Fits.{TypeSet, every, noType, atomˢ, typesOf, sharedTypes, inhabited, typed}
-use Rattle.arena.specs.Code.{cellSize, code, codes, ValueAt, ValuesAt, CellsFit, SomeAt, EndsAt}
+use Rattle.arena.specs.Code.{cellSize, code, codes, ValueAt, ValuesAt, CellsFit, AllFit, SomeAt, EndsAt}
 use Rattle.arena.proofs.CodeLaws.{length-code}
 use Rattle.arena.proofs.Standing.{stands-head, stands-tail, stands-front, stands-back}
 use Rattle.arena.proofs.FrontLaws.{single}
@@ -87,9 +87,7 @@ pub tag-is : {s : List ℕ} {at : ℕ} {v : Value} → TypedAt s at v → getD s
 tag-is {s} {at} {v} h = first-cell s at v (h .stands) (h .fits) .0
 
 pub end-bounds : (s : List ℕ) (at end : ℕ) → SomeTyped s at → EndsAt s at end → (at < end) × (end ≤ length s)
-end-bounds s at end x e =
-    let n = end-is e (x .1) in
-    (omega (arith, weight-some (x .0)), omega (arith, x .1 .stands .inside, length-code (x .0)))
+end-bounds s at end x e = let n = end-is e (x .1) in (omega (arith, weight-some (x .0)), omega (arith, x .1 .stands .inside, length-code (x .0)))
 
 -- A value by the tag of its first cell.
 pub scalar-low : (x : Scalar) → scalarTag x < 4
@@ -98,42 +96,29 @@ scalar-low (truth b) = omega arith
 scalar-low (element g k) = omega arith
 
 module _ (s : List ℕ) (a : ℕ) where
-  pub pair-only : (v : Value) → ValueAt s a v → CellsFit v → getD s a 0 / cellSize ≡ 4 → (x : Value) × (y : Value) × (v ≡ pair x y)
+  pub pair-only : (v : Value) → ValueAt s a v → CellsFit v → getD s a 0 / cellSize ≡ 4 →
+      (x : Value) × (y : Value) × (v ≡ pair x y) × ValueAt s (a + 1) x × ValueAt s (a + 1 + weight x) y × CellsFit x × CellsFit y
   pair-only (scalar x) h f t = absurd (omega (arith, first-cell s a (scalar x) h f .0, scalar-low x))
-  pair-only (pair x y) h f t = (x, y, refl)
+  pair-only (pair x y) h f t = (x, y, refl, left-stands s a x y h, right-stands s a x y h, f .0, f .1)
   pair-only (set vs) h f t = absurd (omega (arith, first-cell s a (set vs) h f .0))
 
-  pub set-only : (v : Value) → ValueAt s a v → CellsFit v → getD s a 0 / cellSize ≡ 5 → (vs : Values) × (v ≡ set vs)
+  pub set-only : (v : Value) → ValueAt s a v → CellsFit v → getD s a 0 / cellSize ≡ 5 →
+      (vs : Values) × (v ≡ set vs) × ValuesAt s (a + 1) vs × AllFit vs × (count vs ≡ getD s a 0 % cellSize)
   set-only (scalar x) h f t = absurd (omega (arith, first-cell s a (scalar x) h f .0, scalar-low x))
   set-only (pair x y) h f t = absurd (omega (arith, first-cell s a (pair x y) h f .0))
-  set-only (set vs) h f t = (vs, refl)
-
-  typed-parts : (x y : Value) → TypedAt s a (pair x y) → TypedAt s (a + 1) x × TypedAt s (a + 1 + weight x) y
-  typed-parts x y h =
-      let p = and-split (inhabited (typesOf x)) (inhabited (typesOf y)) (h .typed) in (
-        record { stands = left-stands s a x y (h .stands); fits = h .fits .0; typed = p .0 },
-        record { stands = right-stands s a x y (h .stands); fits = h .fits .1; typed = p .1 },
-      )
-
-  typed-members : (vs : Values) → TypedAt s a (set vs) → RunAt s (a + 1) (getD s a 0 % cellSize) vs
-  typed-members vs h = record {
-    stands = members-stand s a vs (h .stands);
-    fits = h .fits .1;
-    typed = h .typed;
-    counted = sym (first-cell s a (set vs) (h .stands) (h .fits) .1);
-  }
+  set-only (set vs) h f t = (vs, refl, members-stand s a vs h, f .1, sym (first-cell s a (set vs) h f .1))
 
   pub as-pair : (v : Value) → TypedAt s a v → getD s a 0 / cellSize ≡ 4 →
       (x : Value) × (y : Value) × (v ≡ pair x y) × TypedAt s (a + 1) x × TypedAt s (a + 1 + weight x) y
   as-pair v h t =
       let p = pair-only v (h .stands) (h .fits) t in
-      let k = typed-parts (p .0) (p .1) (rw (p .2) at h) in
-      (p .0, p .1, p .2, k .0, k .1)
+      let k = and-split (inhabited (typesOf (p .0))) (inhabited (typesOf (p .1))) (rw (p .2) at (h .typed)) in
+      (p .0, p .1, p .2, record { stands = p .3; fits = p .5; typed = k .0 }, record { stands = p .4; fits = p .6; typed = k .1 })
 
   pub as-set : (v : Value) → TypedAt s a v → getD s a 0 / cellSize ≡ 5 → (vs : Values) × (v ≡ set vs) × RunAt s (a + 1) (getD s a 0 % cellSize) vs
   as-set v h t =
       let p = set-only v (h .stands) (h .fits) t in
-      (p .0, p .1, typed-members (p .0) (rw (p .1) at h))
+      (p .0, p .1, record { stands = p .2; fits = p .3; typed = rw (p .1) at (h .typed); counted = p .4 })
 
 -- The first of a run of values, and the rest.
 pub as-run : (s : List ℕ) (a n : ℕ) (vs : Values) → RunAt s a n vs → 0 < n →
@@ -349,7 +334,12 @@ pub few-members : (s : List ℕ) (a n r : ℕ) → getD s a 0 % cellSize ≡ n �
 few-members s a n r c f vs h = go f
   where
     k : RunAt s (a + 1) n vs
-    k = rw c at (typed-members s a vs h)
+    k = record {
+      stands = members-stand s a vs (h .stands);
+      fits = h .fits .1;
+      typed = h .typed;
+      counted = sym (first-cell s a (set vs) (h .stands) (h .fits) .1) ∙ c;
+    }
 
     go : Few s (a + 1) n r → StandFor s (a + 1) r vs
     go (inl e) = record { few = vs; run = rw e k; same = λ q. refl }
@@ -371,9 +361,7 @@ pub alike-others : (x y t u : ℕ) → t ≡ x / cellSize → t ≢ 3 → u ≡ 
 alike-others x y t u e n f = rw (ne-eqb (x / cellSize) 3 (λ g. n (e ∙ g)), e, f)
 
 pub first-member : (s : List ℕ) (a : ℕ) → SetHere s a → 0 < getD s a 0 % cellSize → SomeTyped s (a + 1)
-first-member s a h l =
-    let x = as-set s a (h .value .0) (h .value .1) (h .isSet) in
-    run-first s (a + 1) (getD s a 0 % cellSize) (x .0, x .2) l
+first-member s a h l = let x = as-set s a (h .value .0) (h .value .1) (h .isSet) in run-first s (a + 1) (getD s a 0 % cellSize) (x .0, x .2) l
 
 pub member-inside : (s : List ℕ) (a : ℕ) → SomeTyped s a → getD s a 0 / cellSize ≡ 5 → getD s a 0 % cellSize ≢ 0 → a + 1 < length s
 member-inside s a x t n = inside s (a + 1) (first-member s a (record { value = x; isSet = t }) (omega arith))

@@ -120,14 +120,10 @@ tags-differ v w n = no-meet (typesOf v) (typesOf w) (λ x. n (tag-type v (x .0) 
 
 -- The parts of two sets of types that have one in common.
 pub left-typed : (p q : TypeSet) → T (inhabited (p ⊓ q)) → T (inhabited p)
-left-typed p q h =
-    let r = inhabited→some (p ⊓ q) h in
-    some→inhabited p (r .0) (⊓-split p q (r .0) (r .1) .0)
+left-typed p q h = let r = inhabited→some (p ⊓ q) h in some→inhabited p (r .0) (⊓-split p q (r .0) (r .1) .0)
 
 pub right-typed : (p q : TypeSet) → T (inhabited (p ⊓ q)) → T (inhabited q)
-right-typed p q h =
-    let r = inhabited→some (p ⊓ q) h in
-    some→inhabited q (r .0) (⊓-split p q (r .0) (r .1) .1)
+right-typed p q h = let r = inhabited→some (p ⊓ q) h in some→inhabited q (r .0) (⊓-split p q (r .0) (r .1) .1)
 
 pub with-every : (p : TypeSet) → T (inhabited p) → T (inhabited (p ⊓ every))
 unfolding meets

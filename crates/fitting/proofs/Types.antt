@@ -12,11 +12,11 @@ use Rattle.rules.specs.Types.{whole, Atom, number, bool, given, Ty, atom, POW, 
 use Rattle.rules.specs.Values.{Scalar, num, truth, element, Value, scalar, pair, set, Values, none, _▸_, scalarTag, count, weight}
 use Rattle.rules.specs.Fits.{atomOf, HasType, HaveType}
 use Rattle.rules.proofs.TypeLaws.{weight-positive, prefix-length, prefixes, atomCode-injective}
-use Rattle.arena.specs.Code.{cellSize, scalarLow, Stands, ValueAt, ValuesAt, ScalarFits, CellsFit, AllFit, SomeAt, EndsAt}
+use Rattle.arena.specs.Code.{cellSize, scalarLow, Stands, ValuesAt, ScalarFits, AllFit, SomeAt, EndsAt}
 use Rattle.arena.proofs.Standing.{stands-head, stands-tail, stands-front, stands-back}
 use Rattle.fitting.specs.Types.{TypeAt, SomeType, TypeEnds, typeParts, Decides, atomIs, OfType, AllOfType, PartsOfType, ValuesAndType, PartsAndTypes}
-use Rattle.arena.proofs.ValueParts.{first-cell, left-stands, right-stands}
-use Rattle.fitting.proofs.Cells.{set-only, pair-only, members-stand, first-stands, rest-stand}
+use Rattle.arena.proofs.ValueParts.{first-cell}
+use Rattle.fitting.proofs.Cells.{set-only, pair-only, first-stands, rest-stand}
 use Rattle.laws.proofs.CellsLaws.{weight-some}
 
 -- The first code of a type.
@@ -148,18 +148,14 @@ head-atom a (POW t) e = absurd (atom-code a .0 (sym e))
 head-atom a (t ⊗ u) e = absurd (atom-code a .1 (sym e))
 
 code-decides : (a : Atom) (t : Ty) → Decides (eqb (atomCode a) (head t)) (t ≡ atom a)
-code-decides a t = record {
-  sound = λ e. head-atom a t (sym (eqb-true (atomCode a) (head t) e));
-  complete = λ e. eq-eqb (atomCode a) (head t) (sym (ap head e));
-}
+code-decides a t =
+    record { sound = λ e. head-atom a t (sym (eqb-true (atomCode a) (head t) e)); complete = λ e. eq-eqb (atomCode a) (head t) (sym (ap head e)) }
 
 scalar-decides : (x : Scalar) (t : Ty) (c : ℕ) → ScalarFits x → c / cellSize ≡ scalarTag x → c % cellSize ≡ scalarLow x →
     Decides (atomIs c (head t)) (t ≡ atom (atomOf x))
 scalar-decides (num whole i) t c f e l = rw e (code-decides (number whole) t)
 scalar-decides (truth b) t c f e l = rw e (code-decides bool t)
-scalar-decides (element g k) t c f e l =
-    let q : c % cellSize / 256 + 16 ≡ 16 + g = omega (arith, f .0) in
-    rw (e, q) (code-decides (given g) t)
+scalar-decides (element g k) t c f e l = let q : c % cellSize / 256 + 16 ≡ 16 + g = omega (arith, f .0) in rw (e, q) (code-decides (given g) t)
 
 pub is-atom : (s : List ℕ) (at : ℕ) (row : List ℕ) (from : ℕ) (r : Bool) → r ≡ atomIs (getD s at 0) (getD row from 0) →
     getD s at 0 / cellSize ≢ 5 → getD s at 0 / cellSize ≢ 4 → OfType s at row from r
@@ -208,17 +204,13 @@ module _ (s : List ℕ) (at : ℕ) (row : List ℕ) (from : ℕ) where
   set-type n r tag c m g v t h f k =
       let x = set-only s at v h f tag in
       let y = is-pow row from t k c in
-      let h′ : ValueAt s at (set (x .0)) = rw (x .1) at h in
-      let f′ : CellsFit (set (x .0)) = rw (x .1) at f in
-      rw (x .1, y .1) (g (x .0) (y .0) (members-stand s at (x .0) h′) (f′ .1) (sym (m ∙ first-cell s at (set (x .0)) h′ f′ .1)) (y .2))
+      rw (x .1, y .1) (g (x .0) (y .0) (x .2) (x .3) (x .4 ∙ sym m) (y .2))
 
   pub pair-type : (r : Bool) → getD s at 0 / cellSize ≡ 4 → getD row from 0 ≡ 4 → PartsOfType s (at + 1) row (from + 1) r → OfType s at row from r
   pair-type r tag c g v t h f k =
       let x = pair-only s at v h f tag in
       let y = is-product row from t k c in
-      let h′ : ValueAt s at (pair (x .0) (x .1)) = rw (x .2) at h in
-      let f′ : CellsFit (pair (x .0) (x .1)) = rw (x .2) at f in
-      rw (x .2, y .2) (g (x .0) (x .1) (y .0) (y .1) (left-stands s at (x .0) (x .1) h′) (right-stands s at (x .0) (x .1) h′) (f′ .0) (f′ .1) (y .3) (y .4))
+      rw (x .2, y .2) (g (x .0) (x .1) (y .0) (y .1) (x .3) (x .4) (x .5) (x .6) (y .3) (y .4))
 
   -- what the tests of the members and of the parts ask
   pub set-asks : (n : ℕ) → SomeAt s at → SomeType row from → getD s at 0 / cellSize ≡ 5 → getD row from 0 ≡ 3 → n ≡ getD s at 0 % cellSize →
@@ -226,27 +218,15 @@ module _ (s : List ℕ) (at : ℕ) (row : List ℕ) (from : ℕ) where
   set-asks n v t tag c m =
       let x = set-only s at (v .value) (v .stands) (v .fits) tag in
       let y = is-pow row from (t .0) (t .1) c in
-      let h : ValueAt s at (set (x .0)) = rw (x .1) at (v .stands) in
-      let f : CellsFit (set (x .0)) = rw (x .1) at (v .fits) in
-      record {
-        values = x .0;
-        stands = members-stand s at (x .0) h;
-        fits = f .1;
-        counted = sym (m ∙ first-cell s at (set (x .0)) h f .1);
-        type = (y .0, y .2);
-      }
+      record { values = x .0; stands = x .2; fits = x .3; counted = x .4 ∙ sym m; type = (y .0, y .2) }
 
   pub pair-asks : SomeAt s at → SomeType row from → getD s at 0 / cellSize ≡ 4 → getD row from 0 ≡ 4 → PartsAndTypes s (at + 1) row (from + 1)
   pair-asks v t tag c =
       let x = pair-only s at (v .value) (v .stands) (v .fits) tag in
       let y = is-product row from (t .0) (t .1) c in
-      let h : ValueAt s at (pair (x .0) (x .1)) = rw (x .2) at (v .stands) in
-      let f : CellsFit (pair (x .0) (x .1)) = rw (x .2) at (v .fits) in
-      let l = left-stands s at (x .0) (x .1) h in
       record {
-        left = record { value = x .0; stands = l; fits = f .0 };
-        right = λ d e. let q : d ≡ at + 1 + weight (x .0) = e (x .0) l (f .0) in
-            record { value = x .1; stands = rw q (right-stands s at (x .0) (x .1) h); fits = f .1 };
+        left = record { value = x .0; stands = x .3; fits = x .5 };
+        right = λ d e. let q : d ≡ at + 1 + weight (x .0) = e (x .0) (x .3) (x .5) in record { value = x .1; stands = rw q (x .4); fits = x .6 };
         type = (y .0, y .3);
         next = λ d e. let q : d ≡ from + 1 + weightᵀ (y .0) = e (y .0) (y .3) in (y .1, rw q (y .4));
       }
@@ -266,10 +246,6 @@ pub ends-behind : (s : List ℕ) (at end : ℕ) → SomeAt s at → EndsAt s at 
 ends-behind s at end x e = omega (arith, e (x .value) (x .stands) (x .fits), weight-some (x .value))
 
 -- The members of a set, one after the other.
-values-only : (n : ℕ) (vs : Values) → count vs ≡ n → 0 < n → (x : Value) × (ys : Values) × (vs ≡ x ▸ ys) × (count ys ≡ n - 1)
-values-only n none e l = absurd (omega arith)
-values-only n (x ▸ ys) e l = (x, ys, refl, omega arith)
-
 module _ (s : List ℕ) (i left : ℕ) (row : List ℕ) (from : ℕ) where
   pub all-of-end : left ≡ 0 → AllOfType s i left row from true
   all-of-end z none t h f c k = record { sound = λ e. tt; complete = λ u. refl }
@@ -287,20 +263,17 @@ module _ (s : List ℕ) (i left : ℕ) (row : List ℕ) (from : ℕ) where
       let d : j ≡ i + weight x = e x a (f .0) in
       both-yes (HasType x t) (HaveType ys t) q r (g x t a (f .0) k) y (z ys t (rw d (rest-stand s i x ys h)) (f .1) (omega arith) k)
 
-  module _ (p : ValuesAndType s i left row from) (l : 0 < left) where
-    pub values-first : SomeAt s i
-    values-first =
-        let x = values-only left (p .values) (p .counted) l in
-        let f : AllFit (x .0 ▸ x .1) = rw (x .2) at (p .fits) in
-        record { value = x .0; stands = first-stands s i (x .0) (x .1) (rw (x .2) at (p .stands)); fits = f .0 }
-
-    pub values-rest : (j : ℕ) → EndsAt s i j → ValuesAndType s j (left - 1) row from
-    values-rest j e =
-        let x = values-only left (p .values) (p .counted) l in
-        let h : ValuesAt s i (x .0 ▸ x .1) = rw (x .2) at (p .stands) in
-        let f : AllFit (x .0 ▸ x .1) = rw (x .2) at (p .fits) in
-        let d : j ≡ i + weight (x .0) = e (x .0) (first-stands s i (x .0) (x .1) h) (f .0) in
-        record { values = x .1; stands = rw d (rest-stand s i (x .0) (x .1) h); fits = f .1; counted = x .3; type = p .type }
+  -- the first value, and those behind it
+  pub values-next : ValuesAndType s i left row from → 0 < left → SomeAt s i × ((j : ℕ) → EndsAt s i j → ValuesAndType s j (left - 1) row from)
+  values-next p l = go (p .values) (p .stands) (p .fits) (p .counted)
+    where
+      go : (vs : Values) → ValuesAt s i vs → AllFit vs → count vs ≡ left → SomeAt s i × ((j : ℕ) → EndsAt s i j → ValuesAndType s j (left - 1) row from)
+      go none h f c = absurd (omega arith)
+      go (x ▸ ys) h f c = (
+        record { value = x; stands = first-stands s i x ys h; fits = f .0 },
+        λ j e. let d : j ≡ i + weight x = e x (first-stands s i x ys h) (f .0) in
+            record { values = ys; stands = rw d (rest-stand s i x ys h); fits = f .1; counted = omega arith; type = p .type },
+      )
 
 -- The row of a type begins with its codes.
 pub row-type : (sheet : List ℕ) (from : ℕ) (t : Ty) → Stands sheet from (row t) → TypeAt sheet from t

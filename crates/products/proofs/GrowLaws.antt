@@ -11,7 +11,7 @@ use Rattle.arena.specs.Code.{cellSize, code, codes, Stands, ValueAt, EndsAt, Co
 use Rattle.arena.proofs.CodeLaws.{length-code, length-codes}
 use Rattle.arena.proofs.Standing.{stands-append, stands-frame, same-refl, same-trans, copied-stands}
 use Rattle.arena.proofs.FrontLaws.{single, value-end}
-use Rattle.products.specs.Growing.{Appended, Grown, cellsFrom, PairPre}
+use Rattle.products.specs.Growing.{Appended, Grown, cellsFrom, RunPre, PairPre, PairPut}
 
 -- Nothing, a cell, or a copied run, written behind what stands.
 pub nothing-stands : (s : List ℕ) (to : ℕ) → to ≤ length s → Stands s to []
@@ -31,18 +31,15 @@ appended-cell s to x l = record {
     at zero p = ap (λ (j : ℕ). getD (setAt s to x) j 0) (let z : to + 0 ≡ to = omega arith in z) ∙ getD-set-same s to x 0 l
     at (suc i) p = absurd (omega arith)
 
-pub appended-copy : (s : List ℕ) (from n to : ℕ) (s′ cs : List ℕ) → Copied s from n to s′ → Stands s from cs → length cs ≡ n → to + n ≤ length s →
+pub appended-copy : {s : List ℕ} {from n to : ℕ} {s′ cs : List ℕ} → Copied s from n to s′ → Stands s from cs → length cs ≡ n → to + n ≤ length s →
     Appended s to s′ (to + n) cs
-appended-copy s from n to s′ cs c h e l = record {
-  frame = record { same = c .before; kept = c .kept };
-  stands = copied-stands s from n to s′ cs c e l h;
-  ends = omega arith;
-}
+appended-copy {s} {from} {n} {to} {s′} {cs} c h e l =
+    record { frame = record { same = c .before; kept = c .kept }; stands = copied-stands s from n to s′ cs c e l h; ends = omega arith }
 
 -- One behind the other.
-pub appended-then : (s : List ℕ) (to : ℕ) (s′ : List ℕ) (r : ℕ) (xs s″ : List ℕ) (q : ℕ) (ys : List ℕ) → Appended s to s′ r xs → Appended s′ r s″ q ys →
+pub appended-then : {s : List ℕ} {to : ℕ} {s′ : List ℕ} {r : ℕ} {xs s″ : List ℕ} {q : ℕ} {ys : List ℕ} → Appended s to s′ r xs → Appended s′ r s″ q ys →
     Appended s to s″ q (xs ++ ys)
-appended-then s to s′ r xs s″ q ys a b = record {
+appended-then {s} {to} {s′} {r} {xs} {s″} {q} {ys} a b = record {
   frame = same-trans to r s s′ s″ (a .frame) (b .frame) (omega (arith, a .ends));
   stands = stands-append s″ to xs ys (stands-frame r s′ s″ to xs (b .frame) (omega (arith, a .ends)) (a .stands))
       (subst (λ (i : ℕ). Stands s″ i ys) (a .ends) (b .stands));
@@ -53,60 +50,48 @@ appended-then s to s′ r xs s″ q ys a b = record {
 pub grown-start : (s : List ℕ) (to : ℕ) (whole : List ℕ) → to ≤ length s → Grown s to s to whole whole
 grown-start s to whole l = record { done = []; appended = appended-none s to l; all = refl }
 
-pub grown-step : (s : List ℕ) (to : ℕ) (s′ : List ℕ) (r : ℕ) (whole xs rest s″ : List ℕ) (q : ℕ) → Grown s to s′ r whole (xs ++ rest) → Appended s′ r s″ q xs →
-    Grown s to s″ q whole rest
-grown-step s to s′ r whole xs rest s″ q g a = record {
-  done = g .done ++ xs;
-  appended = appended-then s to s′ r (g .done) s″ q xs (g .appended) a;
-  all = g .all ∙ sym (append-assoc (g .done) xs rest);
-}
+module _ {s : List ℕ} {to : ℕ} {s′ : List ℕ} {r : ℕ} {whole : List ℕ} where
+  pub grown-step : {xs : List ℕ} (rest : List ℕ) {s″ : List ℕ} {q : ℕ} → Grown s to s′ r whole (xs ++ rest) → Appended s′ r s″ q xs → Grown s to s″ q whole rest
+  grown-step {xs} rest g a =
+      record { done = g .done ++ xs; appended = appended-then (g .appended) a; all = g .all ∙ sym (append-assoc (g .done) xs rest) }
 
-pub grown-end : (s : List ℕ) (to : ℕ) (s′ : List ℕ) (r : ℕ) (whole : List ℕ) → Grown s to s′ r whole [] → Appended s to s′ r whole
-grown-end s to s′ r whole g = subst (λ (l : List ℕ). Appended s to s′ r l) (sym (g .all ∙ append-nil (g .done))) (g .appended)
+  pub grown-end : Grown s to s′ r whole [] → Appended s to s′ r whole
+  grown-end g = rw (g .all ∙ append-nil (g .done)) (g .appended)
 
--- how much is left to write
-pub grown-left : (s : List ℕ) (to : ℕ) (s′ : List ℕ) (r : ℕ) (whole rest : List ℕ) → Grown s to s′ r whole rest → r + length rest ≡ to + length whole
-grown-left s to s′ r whole rest g = omega (arith, g .appended .ends, ap length (g .all), length-append (g .done) rest)
+  -- how much is left to write
+  pub grown-left : {rest : List ℕ} → Grown s to s′ r whole rest → r + length rest ≡ to + length whole
+  grown-left {rest} g = omega (arith, g .appended .ends, ap length (g .all), length-append (g .done) rest)
 
 -- A value that has been written at top.
-pub made : (s : List ℕ) (top : ℕ) (s′ : List ℕ) (r : ℕ) (v : Value) → Appended s top s′ r (code v) → weight v ≤ 256 → Made top s s′ v r
-made s top s′ r v a l = record {
-  frame = a .frame;
-  light = λ k. (omega (arith, a .ends, length-code v), a .stands);
-  heavy = λ k. absurd (omega arith);
-}
+pub made : {s : List ℕ} {top : ℕ} {s′ : List ℕ} {r : ℕ} {v : Value} → Appended s top s′ r (code v) → weight v ≤ 256 → Made top s s′ v r
+made {v = v} a l =
+    record { frame = a .frame; light = λ k. (omega (arith, a .ends, length-code v), a .stands); heavy = λ k. absurd (omega arith) }
 
-pub made-heavy : (s : List ℕ) (top : ℕ) (v : Value) → 256 < weight v → Made top s s v 0
-made-heavy s top v l = record { frame = same-refl top s; light = λ k. absurd (omega arith); heavy = λ k. refl }
+pub made-heavy : {s : List ℕ} {top : ℕ} {v : Value} → 256 < weight v → Made top s s v 0
+made-heavy {s} {top} l = record { frame = same-refl top s; light = λ k. absurd (omega arith); heavy = λ k. refl }
 
 -- A set's cell before its members.
 pub made-set : (s : List ℕ) (top : ℕ) (s′ : List ℕ) (r n : ℕ) (vs : Values) → Appended s (top + 1) s′ r (codes vs) → n ≡ count vs → top < length s →
     weight (set vs) ≤ 256 → Made top s (setAt s′ top (21474836480 + n)) (set vs) r
 unfolding code
-made-set s top s′ r n vs a e l w = record {
-  frame = record {
-    same = λ i p. getD-set-other s′ top i (21474836480 + n) 0 (λ z. omega arith) ∙ a .frame .same i (omega arith);
-    kept = length-set s′ top (21474836480 + n) ∙ a .frame .kept;
-  };
-  light = λ k. (
-    omega (arith, a .ends, length-codes vs),
-    record { inside = omega (arith, length-set s′ top (21474836480 + n), a .stands .inside); cells = λ i p. at i p },
-  );
-  heavy = λ k. absurd (omega arith);
-}
-  where
-    at : (i : ℕ) → i < suc (length (codes vs)) → getD (setAt s′ top (21474836480 + n)) (top + i) 0 ≡ getD ((5 * cellSize + count vs) ∷ codes vs) i 0
-    at zero p =
-        ap (λ (j : ℕ). getD (setAt s′ top (21474836480 + n)) j 0) (let z : top + 0 ≡ top = omega arith in z)
-        ∙ getD-set-same s′ top (21474836480 + n) 0 (omega (arith, a .frame .kept)) ∙ omega arith
-    at (suc i) p =
-        getD-set-other s′ top (top + suc i) (21474836480 + n) 0 (λ z. omega arith)
-        ∙ ap (λ (j : ℕ). getD s′ j 0) (let z : top + suc i ≡ top + 1 + i = omega arith in z) ∙ a .stands .cells i (omega arith)
+made-set s top s′ r n vs a e l w =
+    let x = 21474836480 + n in
+    let y = appended-cell s′ top x (omega (arith, a .frame .kept)) in
+    let k : Stands (setAt s′ top x) (top + 1) (codes vs) = record {
+      inside = omega (arith, y .frame .kept, a .stands .inside);
+      cells = λ i p. getD-set-other s′ top (top + 1 + i) x 0 (λ z. omega arith) ∙ a .stands .cells i p;
+    } in
+    let z = stands-append (setAt s′ top x) top (x ∷ []) (codes vs) (y .stands) k in
+    record {
+      frame = record { same = λ i p. y .frame .same i p ∙ a .frame .same i (omega arith); kept = y .frame .kept ∙ a .frame .kept };
+      light = λ _. (omega (arith, a .ends, length-codes vs), subst (λ (c : ℕ). Stands (setAt s′ top x) top ((21474836480 + c) ∷ codes vs)) e z);
+      heavy = λ k. absurd (omega arith);
+    }
 
 -- `put_cell`
 pub cell-made : (s : List ℕ) (top cell : ℕ) → top < length s → (v : Value) → code v ≡ cell ∷ [] → Made top s (setAt s top cell) v (top + 1)
 cell-made s top cell l v e =
-    made s top (setAt s top cell) (top + 1) v (subst (λ (c : List ℕ). Appended s top (setAt s top cell) (top + 1) c) (sym e) (appended-cell s top cell l))
+    made (subst (λ (c : List ℕ). Appended s top (setAt s top cell) (top + 1) c) (sym e) (appended-cell s top cell l))
     (omega (arith, length-code v, ap length e))
 
 -- `singleton`
@@ -114,13 +99,13 @@ pub single-made : (s : List ℕ) (a top e : ℕ) (s′ : List ℕ) → top + 514
     (v : Value) → ValueBelow s top a v → Made top s (setAt s′ top 21474836481) (setOf (v ∷ [])) (top + 1 + (e - a))
 single-made s a top e s′ l x few c v h =
     let z = value-end s top a e v h x in
-    made-set s top s′ (top + 1 + (e - a)) 1 (v ▸ none)
-    (appended-copy s a (e - a) (top + 1) s′ (codes (v ▸ none)) c (subst (λ (k : List ℕ). Stands s a k) (sym (single v)) (h .stands))
+    made-set _ _ _ _ _ _
+    (appended-copy c (subst (λ (k : List ℕ). Stands s a k) (sym (single v)) (h .stands))
     (omega (arith, length-codes (v ▸ none))) (omega arith))
     refl (omega arith) (omega arith)
 
 pub single-heavy : (s : List ℕ) (a top e : ℕ) → EndsAt s a e → 255 < e - a → (v : Value) → ValueBelow s top a v → Made top s s (setOf (v ∷ [])) 0
-single-heavy s a top e x l v h = made-heavy s top (setOf (v ∷ [])) (omega (arith, value-end s top a e v h x))
+single-heavy s a top e x l v h = made-heavy (omega (arith, value-end s top a e v h x))
 
 -- `pair_at`
 pub pair-put : (s : List ℕ) (a n b m to : ℕ) (s₁ s₂ : List ℕ) → PairPre s a n b m to → Copied (setAt s to 17179869184) a n (to + 1) s₁ →
@@ -130,52 +115,46 @@ unfolding code
 pair-put s a n b m to s₁ s₂ p c d v w h k e f =
     let s₀ = setAt s to 17179869184 in
     let x = appended-cell s to 17179869184 (omega (arith, p .room)) in
-    let y = appended-copy s₀ a n (to + 1) s₁ (code v) c (stands-frame to s s₀ a (code v) (x .frame) (omega (arith, length-code v, p .left)) h)
+    let y = appended-copy c (stands-frame to s s₀ a (code v) (x .frame) (omega (arith, length-code v, p .left)) h)
     (omega (arith, length-code v)) (omega (arith, p .room, x .frame .kept)) in
     let u = same-trans to (to + 1) s s₀ s₁ (x .frame) (y .frame) (omega arith) in
-    let z = appended-copy s₁ b m (to + 1 + n) s₂ (code w) d (stands-frame to s s₁ b (code w) u (omega (arith, length-code w, p .right)) k)
+    let z = appended-copy d (stands-frame to s s₁ b (code w) u (omega (arith, length-code w, p .right)) k)
     (omega (arith, length-code w)) (omega (arith, p .room, u .kept)) in
-    appended-then s to s₀ (to + 1) (17179869184 ∷ []) s₂ (to + 1 + n + m) (code v ++ code w) x
-    (appended-then s₀ (to + 1) s₁ (to + 1 + n) (code v) s₂ (to + 1 + n + m) (code w) y z)
+    appended-then x
+    (appended-then y z)
 
 -- `pair`
-pub pair-pre : (s : List ℕ) (a b top d e : ℕ) → top + 514 ≤ length s → EndsAt s a d → EndsAt s b e → (d - a) + (e - b) ≤ 255 → (v w : Value) →
-    ValueBelow s top a v → ValueBelow s top b w → PairPre s a (d - a) b (e - b) top
-pair-pre s a b top d e l x y few v w h k =
-    let p = value-end s top a d v h x in
-    let q = value-end s top b e w k y in
-    record { left = omega (arith, h .below); right = omega (arith, k .below); room = omega arith }
+module _ {s : List ℕ} {a b top : ℕ} (d e : ℕ) (x : EndsAt s a d) (y : EndsAt s b e) {v w : Value} (h : ValueBelow s top a v) (k : ValueBelow s top b w) where
+  pub pair-sizes : (d ≡ a + weight v) × (e ≡ b + weight w)
+  pair-sizes = (value-end s top a d v h x, value-end s top b e w k y)
 
-pub pair-made : (s : List ℕ) (a b top d e : ℕ) (s′ : List ℕ) (r : ℕ) → EndsAt s a d → EndsAt s b e → (d - a) + (e - b) ≤ 255 →
-    ((v w : Value) → ValueAt s a v → ValueAt s b w → d - a ≡ weight v → e - b ≡ weight w → Appended s top s′ r (code (pair v w))) →
-    (v w : Value) → ValueBelow s top a v → ValueBelow s top b w → Made top s s′ (pair v w) r
-pair-made s a b top d e s′ r x y few put v w h k =
-    let p = value-end s top a d v h x in
-    let q = value-end s top b e w k y in
-    made s top s′ r (pair v w) (put v w (h .stands) (k .stands) (omega arith) (omega arith)) (omega arith)
+  pub pair-pre : top + 514 ≤ length s → (d - a) + (e - b) ≤ 255 → PairPre s a (d - a) b (e - b) top
+  pair-pre l few = let z = pair-sizes in record { left = omega (arith, h .below); right = omega (arith, k .below); room = omega arith }
 
-pub pair-heavy : (s : List ℕ) (a b top d e : ℕ) → EndsAt s a d → EndsAt s b e → 255 < (d - a) + (e - b) → (v w : Value) →
-    ValueBelow s top a v → ValueBelow s top b w → Made top s s (pair v w) 0
-pair-heavy s a b top d e x y l v w h k =
-    let p = value-end s top a d v h x in
-    let q = value-end s top b e w k y in
-    made-heavy s top (pair v w) (omega arith)
+  pub pair-made : {s′ : List ℕ} {r : ℕ} → (d - a) + (e - b) ≤ 255 → PairPut s a (d - a) b (e - b) top s′ r → Made top s s′ (pair v w) r
+  pair-made few put = let z = pair-sizes in made (put v w (h .stands) (k .stands) (omega arith) (omega arith)) (omega arith)
+
+  pub pair-heavy : 255 < (d - a) + (e - b) → Made top s s (pair v w) 0
+  pair-heavy l = let z = pair-sizes in made-heavy (omega arith)
 
 -- `run`
 pub record Running (s : List ℕ) (cell n top : ℕ) (s′ : List ℕ) (to i : ℕ) : Type 0 where
+  pub given : RunPre s cell n top
   pub grown : Grown s (top + 1) s′ to (cellsFrom cell n) (cellsFrom (cell + i) (n - i))
   pub near : to ≡ top + 1 + i
   pub few : i ≤ n
 
-pub running-start : (s : List ℕ) (cell n top : ℕ) → top + 514 ≤ length s → Running s cell n top s (top + 1) 0
-running-start s cell n top l = record {
-  grown = subst (λ (c : List ℕ). Grown s (top + 1) s (top + 1) (cellsFrom cell n) c)
-      (ap (λ (c : ℕ). cellsFrom c n) (let z : cell ≡ cell + 0 = omega arith in z)
-      ∙ ap (λ (m : ℕ). cellsFrom (cell + 0) m) (let z : n ≡ n - 0 = omega arith in z))
-      (grown-start s (top + 1) (cellsFrom cell n) (omega arith));
-  near = omega arith;
-  few = omega arith;
-}
+pub running-start : (s : List ℕ) (cell n top : ℕ) → RunPre s cell n top → Running s cell n top s (top + 1) 0
+running-start s cell n top p =
+    let c : cell ≡ cell + 0 = omega arith in
+    let m : n ≡ n - 0 = omega arith in
+    let g = grown-start s (top + 1) (cellsFrom cell n) (omega (arith, p .room)) in
+    record {
+      given = p;
+      grown = subst (λ (cs : List ℕ). Grown s (top + 1) s (top + 1) (cellsFrom cell n) cs) (cc) g;
+      near = omega arith;
+      few = omega arith;
+    }
 
 cells-next : (c m : ℕ) → 0 < m → cellsFrom c m ≡ (c ∷ []) ++ cellsFrom (c + 1) (m - 1)
 unfolding cellsFrom
@@ -194,27 +173,25 @@ unfolding cellsFrom
 no-cells c zero l = refl
 no-cells c (suc m) l = absurd (omega arith)
 
-module _ (s : List ℕ) (cell n top : ℕ) (s′ : List ℕ) (to i : ℕ) (h : Running s cell n top s′ to i) (room : top + 514 ≤ length s) (most : n ≤ 255) where
+module _ {s : List ℕ} {cell n top : ℕ} {s′ : List ℕ} {to i : ℕ} (h : Running s cell n top s′ to i) where
   pub running-inside : i < n → to < length s′
-  running-inside l = omega (arith, h .near, h .grown .appended .frame .kept)
+  running-inside l = omega (arith, h .near, h .given .room, h .given .few, h .grown .appended .frame .kept)
 
   pub running-next : i < n → Running s cell n top (setAt s′ to (cell + i)) (to + 1) (i + 1)
-  running-next l = record {
-    grown = grown-step s (top + 1) s′ to (cellsFrom cell n) ((cell + i) ∷ []) (cellsFrom (cell + (i + 1)) (n - (i + 1))) (setAt s′ to (cell + i)) (to + 1)
-        (subst (λ (c : List ℕ). Grown s (top + 1) s′ to (cellsFrom cell n) c)
-        (cells-next (cell + i) (n - i) (omega arith)
-        ∙ ap (λ (k : ℕ). ((cell + i) ∷ []) ++ cellsFrom k (n - i - 1)) (let z : cell + i + 1 ≡ cell + (i + 1) = omega arith in z)
-        ∙ ap (λ (k : ℕ). ((cell + i) ∷ []) ++ cellsFrom (cell + (i + 1)) k) (let z : n - i - 1 ≡ n - (i + 1) = omega arith in z))
-        (h .grown))
-        (appended-cell s′ to (cell + i) (running-inside l));
-    near = omega (arith, h .near);
-    few = omega arith;
-  }
+  running-next l =
+      let c : cell + i + 1 ≡ cell + (i + 1) = omega arith in
+      let m : n - i - 1 ≡ n - (i + 1) = omega arith in
+      let e = cells-next (cell + i) (n - i) (omega arith) in
+      let f : cellsFrom (cell + i) (n - i) ≡ ((cell + i) ∷ []) ++ cellsFrom (cell + (i + 1)) (n - (i + 1)) = rw (← c, ← m) e in
+      record {
+        given = h .given;
+        grown = grown-step (cellsFrom (cell + (i + 1)) (n - (i + 1))) (rw f at (h .grown)) (appended-cell s′ to (cell + i) (running-inside l));
+        near = omega (arith, h .near);
+        few = omega arith;
+      }
 
   pub running-end : n ≤ i → (vs : Values) → count vs ≡ n → codes vs ≡ cellsFrom cell n → Made top s (setAt s′ top (21474836480 + n)) (set vs) to
   running-end l vs e q =
-      made-set s top s′ to n vs
-      (subst (λ (c : List ℕ). Appended s (top + 1) s′ to c) (sym q)
-      (grown-end s (top + 1) s′ to (cellsFrom cell n)
-      (subst (λ (c : List ℕ). Grown s (top + 1) s′ to (cellsFrom cell n) c) (no-cells (cell + i) (n - i) (omega arith)) (h .grown))))
-      (sym e) (omega arith) (omega (arith, length-codes vs, ap length q, length-cells cell n))
+      let g = rw (no-cells (cell + i) (n - i) (omega arith)) at (h .grown) in
+      let w : Appended s (top + 1) s′ to (codes vs) = rw q (grown-end g) in
+      made-set _ _ _ _ _ _ w (sym e) (omega (arith, h .given .room)) (omega (arith, h .given .few, length-codes vs, ap length q, length-cells cell n))

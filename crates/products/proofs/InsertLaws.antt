@@ -3,6 +3,7 @@
 use Prim.Native.Nat.{ℕ, _+_, _-_, _≤_, _<_}
 use mathlib.Core.Bool.{Bool, true, false, cond}
 use mathlib.Core.List.{List, [], _∷_, _++_, append-assoc, append-nil}
+use mathlib.Core.Logic.{_≢_}
 use mathlib.Core.Path.{_≡_, refl, sym, ap, _∙_, subst}
 use native.Mathlib.Omega.{arith}
 use native.Mathlib.Decide.{ℕ-discrete}
@@ -33,15 +34,10 @@ pub record Shifting (s₀ : List ℕ) (from m n : ℕ) (s : List ℕ) (left : �
   pub kept : length s ≡ length s₀
 
 pub shifting-start : (s : List ℕ) (from m n : ℕ) → Shifting s from m n s m
-shifting-start s from m n = record {
-  few = omega arith;
-  there = λ i p q. absurd (omega arith);
-  before = λ j p. refl;
-  after = λ j p. refl;
-  kept = refl;
-}
+shifting-start s from m n =
+    record { few = omega arith; there = λ i p q. absurd (omega arith); before = λ j p. refl; after = λ j p. refl; kept = refl }
 
-module _ (s₀ : List ℕ) (from m n : ℕ) (s : List ℕ) (left : ℕ) (h : Shifting s₀ from m n s left) where
+module _ {s₀ : List ℕ} {from m n : ℕ} {s : List ℕ} {left : ℕ} (h : Shifting s₀ from m n s left) where
   pub shifting-next : 0 < left → from + m + n ≤ length s₀ → (at : ℕ) → at ≡ from + (left - 1) →
       Shifting s₀ from m n (setAt s (at + n) (getD s at 0)) (left - 1)
   shifting-next l room at e = record {
@@ -66,7 +62,7 @@ module _ (s₀ : List ℕ) (from m n : ℕ) (s : List ℕ) (left : ℕ) (h : Shi
   shifting-end l = record { there = λ i p. h .there i (omega arith) p; before = λ j p. h .before j (omega arith); after = h .after; kept = h .kept }
 
 -- The first of the members that stand, and those behind it.
-module _ (s : List ℕ) (i to : ℕ) (z : Value) (zs : List Value) (h : Members s i to (z ∷ zs)) where
+module _ {s : List ℕ} {i to : ℕ} {z : Value} {zs : List Value} (h : Members s i to (z ∷ zs)) where
   members-first : ValueAt s i z
   unfolding code
   members-first = stands-front s i (code z) (codes (values zs)) (h .stands)
@@ -91,7 +87,7 @@ pub record Finding (s : List ℕ) (v : Value) (from to : ℕ) (zs : List Value) 
 pub finding-start : (s : List ℕ) (v : Value) (from to : ℕ) (zs : List Value) → Members s from to zs → Finding s v from to zs from
 finding-start s v from to zs h = record { lo = []; hi = zs; all = refl; at = omega arith; rest = h; inserted = refl }
 
-module _ (s : List ℕ) (v : Value) (from to : ℕ) (zs : List Value) (i : ℕ) (h : Finding s v from to zs i) where
+module _ {s : List ℕ} {v : Value} {from to : ℕ} {zs : List Value} {i : ℕ} (h : Finding s v from to zs i) where
   -- The members hi follow those that have been passed.
   abbrev Follow : List Value → Type 0
   Follow hi = (zs ≡ h .lo ++ hi) × Members s i to hi × (insert v zs ≡ h .lo ++ insert v hi)
@@ -100,13 +96,8 @@ module _ (s : List ℕ) (v : Value) (from to : ℕ) (zs : List Value) (i : ℕ) 
   finding-end l = go (h .hi) (h .all, h .rest, h .inserted)
     where
       go : (hi : List Value) → Follow hi → Placed v from zs (record { at = to; equal = false })
-      go [] (a, m, e) = record {
-        lo = h .lo;
-        hi = [];
-        all = a;
-        at = omega (arith, h .at, m .ends);
-        inserted = e ∙ ap (λ (l : List Value). h .lo ++ l) (insert-none v);
-      }
+      go [] (a, m, e) =
+          record { lo = h .lo; hi = []; all = a; at = omega (arith, h .at, m .ends); inserted = e ∙ ap (λ (l : List Value). h .lo ++ l) (insert-none v) }
       go (z ∷ hi) (a, m, e) = absurd (omega (arith, m .ends, weight-some z))
 
   module _ (l : i < to) where
@@ -119,27 +110,21 @@ module _ (s : List ℕ) (v : Value) (from to : ℕ) (zs : List Value) (i : ℕ) 
         go (z ∷ hi) q = f z hi q
 
     pub finding-some : SomeAt s i
-    finding-some = finding-by (SomeAt s i) λ z hi q. record { value = z; stands = members-first s i to z hi (q .1); fits = q .1 .fits .0 }
+    finding-some = finding-by (SomeAt s i) λ z hi q. record { value = z; stands = members-first (q .1); fits = q .1 .fits .0 }
 
     pub finding-on : (e : ℕ) → EndsAt s i e → i < e
-    finding-on e ends = finding-by (i < e) λ z hi q. omega (arith, ends z (members-first s i to z hi (q .1)) (q .1 .fits .0), weight-some z)
+    finding-on e ends = finding-by (i < e) λ z hi q. omega (arith, ends z (members-first (q .1)) (q .1 .fits .0), weight-some z)
 
-    module _ (p c : ℕ) (value : ValueAt s p v) (fits : CellsFit v) (compared : Compared s p i c) where
+    module _ {p : ℕ} (c : ℕ) (value : ValueAt s p v) (fits : CellsFit v) (compared : Compared s p i c) where
       pub finding-here : c < 2 → Placed v from zs (record { at = i; equal = eqb c 1 })
       finding-here k = finding-by (Placed v from zs (record { at = i; equal = eqb c 1 })) λ z hi q.
-          let o = compared v z value (members-first s i to z hi (q .1)) fits (q .1 .fits .0) in
-          record {
-            lo = h .lo;
-            hi = z ∷ hi;
-            all = q .0;
-            at = h .at;
-            inserted = q .2 ∙ ap (λ (x : List Value). h .lo ++ x) (insert-here v z hi c o k);
-          }
+          let o = compared v z value (members-first (q .1)) fits (q .1 .fits .0) in
+          record { lo = h .lo; hi = z ∷ hi; all = q .0; at = h .at; inserted = q .2 ∙ ap (λ (x : List Value). h .lo ++ x) (insert-here v z hi c o k) }
 
       pub finding-next : 2 ≤ c → (e : ℕ) → EndsAt s i e → Finding s v from to zs e
       finding-next k e ends = finding-by (Finding s v from to zs e) λ z hi q.
           let m = q .1 in
-          let x = members-first s i to z hi m in
+          let x = members-first m in
           let o = compared v z value x fits (m .fits .0) in
           let g = code-greater (order v z) c o (λ f. omega arith) (λ f. omega arith) in
           let w : e ≡ i + weight z = ends z x (m .fits .0) in
@@ -148,18 +133,22 @@ module _ (s : List ℕ) (v : Value) (from to : ℕ) (zs : List Value) (i : ℕ) 
             hi = hi;
             all = q .0 ∙ sym (append-assoc (h .lo) (z ∷ []) hi);
             at = omega (arith, h .at, weights-append (h .lo) (z ∷ []));
-            rest = members-next s i to z hi m e w;
+            rest = members-next m e w;
             inserted = q .2 ∙ ap (λ (l : List Value). h .lo ++ l) (insert-next v z hi g) ∙ sym (append-assoc (h .lo) (z ∷ []) (insert v hi));
           }
 
 -- `place_for`: the last member stands before the end.
+is-one : (b : Bool) (c : ℕ) → (b ≡ true → c ≡ 1) → (b ≡ false → c ≢ 1) → b ≡ eqb c 1
+is-one true c f g = sym (eq-eqb c 1 (f refl))
+is-one false c f g = sym (ne-eqb c 1 (g refl))
+
 last-stands : (s : List ℕ) (i to : ℕ) (z : Value) (zs : List Value) (last : ℕ) → Members s i to (z ∷ zs) → LastAt last to (z ∷ zs) →
     ValueAt s last (lastOf z zs) × CellsFit (lastOf z zs)
 last-stands s i to z [] last h l =
-    (subst (λ (j : ℕ). ValueAt s j z) (let e : i ≡ last = omega (arith, h .ends) in e) (members-first s i to z [] h), h .fits .0)
-last-stands s i to z (y ∷ ys) last h l = last-stands s (i + weight z) to y ys last (members-next s i to z (y ∷ ys) h (i + weight z) refl) l
+    (subst (λ (j : ℕ). ValueAt s j z) (let e : i ≡ last = omega (arith, h .ends) in e) (members-first h), h .fits .0)
+last-stands s i to z (y ∷ ys) last h l = last-stands s (i + weight z) to y ys last (members-next h (i + weight z) refl) l
 
-module _ (s : List ℕ) (p from : ℕ) (o : Out) (v : Value) (zs : List Value) (below : ValueBelow s from p v) (h : Built s from o zs) where
+module _ {s : List ℕ} {p from : ℕ} {o : Out} {v : Value} {zs : List Value} (below : ValueBelow s from p v) (h : Built s from o zs) where
   pub place-none : o .last ≡ 0 → Placed v from zs (record { at = o .to; equal = false })
   place-none e = go zs (h .members) (h .last)
     where
@@ -175,22 +164,17 @@ module _ (s : List ℕ) (p from : ℕ) (o : Out) (v : Value) (zs : List Value) (
         go [] m l = absurd (n l)
         go (y ∷ ys) m l = let x = last-stands s from (o .to) y ys (o .last) m l in record { value = lastOf y ys; stands = x .0; fits = x .1 }
 
-    pub place-last : Rising zs → (c : ℕ) → Compared s p (o .last) c → 0 < c → Placed v from zs (record { at = o .to; equal = eqb c 1 })
-    place-last r c k g = go zs (h .members) (h .last) r
+    pub place-last : Rising zs → (c : ℕ) → Compared s p (o .last) c → 0 < c → (b : Bool) → (b ≡ true → c ≡ 1) → (b ≡ false → c ≢ 1) →
+        Placed v from zs (record { at = o .to; equal = b })
+    place-last r c k g b f f′ = go zs (h .members) (h .last) r
       where
-        go : (ys : List Value) → Members s from (o .to) ys → LastAt (o .last) (o .to) ys → Rising ys →
-            Placed v from ys (record { at = o .to; equal = eqb c 1 })
+        go : (ys : List Value) → Members s from (o .to) ys → LastAt (o .last) (o .to) ys → Rising ys → Placed v from ys (record { at = o .to; equal = b })
         go [] m l r = absurd (n l)
         go (y ∷ ys) m l r =
             let x = last-stands s from (o .to) y ys (o .last) m l in
-            record {
-              lo = y ∷ ys;
-              hi = [];
-              all = sym (append-nil (y ∷ ys));
-              at = m .ends;
-              inserted = insert-last v y ys r (fits-small v (below .fits)) (all-imp CellsFit Small (λ z f. fits-small z f) (y ∷ ys) (m .fits)) c
-                  (k v (lastOf y ys) (below .stands) (x .0) (below .fits) (x .1)) g;
-            }
+            let small = all-imp CellsFit Small (λ z f. fits-small z f) (y ∷ ys) (m .fits) in
+            let d = insert-last v y ys r (fits-small v (below .fits)) small c (k v (lastOf y ys) (below .stands) (x .0) (below .fits) (x .1)) g in
+            record { lo = y ∷ ys; hi = []; all = sym (append-nil (y ∷ ys)); at = m .ends; inserted = rw (is-one b c f f′) d }
 
 pub place-find : (s : List ℕ) (p end from : ℕ) (o : Out) → InsertPre s p end from o → FindPre s p end from (o .to)
 place-find s p end from o h = record {
@@ -219,33 +203,30 @@ last-moved o at n v lo (h ∷ hs) l e w =
     last-at (movedLast at (o .to) (o .last) n) (o .to + n) lo v (h ∷ hs) (rw (ne-eqb at (o .to) (λ q. omega (arith, weight-some h))) (omega arith))
 
 -- What stands behind a copied run stays, and what is below it.
-stands-behind : (s : List ℕ) (from n to : ℕ) (s′ : List ℕ) (k : ℕ) (xs : List ℕ) → Copied s from n to s′ → to + n ≤ k → Stands s k xs →
-    Stands s′ k xs
-stands-behind s from n to s′ k xs c l h = record {
-  inside = omega (arith, c .kept, h .inside);
-  cells = λ i p. c .after (k + i) (omega arith) ∙ h .cells i p;
-}
+module _ {s : List ℕ} {from n to : ℕ} {s′ : List ℕ} (c : Copied s from n to s′) where
+  stands-behind : (k : ℕ) (xs : List ℕ) → to + n ≤ k → Stands s k xs → Stands s′ k xs
+  stands-behind k xs l h = record { inside = omega (arith, c .kept, h .inside); cells = λ i p. c .after (k + i) (omega arith) ∙ h .cells i p }
 
-copied-same : (s : List ℕ) (from n to : ℕ) (s′ : List ℕ) (k : ℕ) → Copied s from n to s′ → k ≤ to → Same k s s′
-copied-same s from n to s′ k c l = record { same = λ i p. c .before i (omega arith); kept = c .kept }
+  copied-same : (k : ℕ) → k ≤ to → Same k s s′
+  copied-same k l = record { same = λ i p. c .before i (omega arith); kept = c .kept }
 
 -- Of the cells lo and hi, those of hi are moved up, and the cells xs, which stand below, are copied into the gap.
-module _ (s s₁ s₂ : List ℕ) (p from at n m : ℕ) (lo xs hi : List ℕ) (shifted : Copied s at m (at + n) s₁) (copied : Copied s₁ p n at s₂)
-    (place : at ≡ from + length lo) (size : length xs ≡ n) (rest : length hi ≡ m) (room : at + m + n ≤ length s) where
+module _ {s s₁ s₂ : List ℕ} {p at n m : ℕ} (shifted : Copied s at m (at + n) s₁) (copied : Copied s₁ p n at s₂) where
   gap-same : (k : ℕ) → k ≤ at → Same k s s₂
-  gap-same k l = same-trans k k s s₁ s₂ (copied-same s at m (at + n) s₁ k shifted (omega arith)) (copied-same s₁ p n at s₂ k copied l) (omega arith)
+  gap-same k l = same-trans k k s s₁ s₂ (copied-same shifted k (omega arith)) (copied-same copied k l) (omega arith)
 
-  gap-stands : p + n ≤ from → Stands s p xs → Stands s from (lo ++ hi) → Stands s₂ from (lo ++ (xs ++ hi))
-  gap-stands l h k =
+  gap-stands : (from : ℕ) (lo xs hi : List ℕ) → at ≡ from + length lo → length xs ≡ n → length hi ≡ m → at + m + n ≤ length s → p + n ≤ from →
+      Stands s p xs → Stands s from (lo ++ hi) → Stands s₂ from (lo ++ (xs ++ hi))
+  gap-stands from lo xs hi place size rest room l h k =
       let low = stands-frame at s s₂ from lo (gap-same at (omega arith)) (omega arith) (stands-front s from lo hi k) in
-      let here = stands-frame at s s₁ p xs (copied-same s at m (at + n) s₁ at shifted (omega arith)) (omega arith) h in
+      let here = stands-frame at s s₁ p xs (copied-same shifted at (omega arith)) (omega arith) h in
       let middle = copied-stands s₁ p n at s₂ xs copied size (omega (arith, shifted .kept)) here in
       let high = rw (← place) at (stands-back s from lo hi k) in
-      let up = stands-behind s₁ p n at s₂ (at + n) hi copied (omega arith) (copied-stands s at m (at + n) s₁ hi shifted rest (omega arith) high) in
+      let up = stands-behind copied (at + n) hi (omega arith) (copied-stands s at m (at + n) s₁ hi shifted rest (omega arith) high) in
       let back : Stands s₂ at (xs ++ hi) = stands-append s₂ at xs hi middle (rw (← size) at up) in
       stands-append s₂ from lo (xs ++ hi) low (rw place at back)
 
-module _ (s : List ℕ) (p from : ℕ) (o : Out) (v : Value) (zs : List Value) (below : ValueBelow s from p v) (h : Built s from o zs) (q : Place)
+module _ {s : List ℕ} {p from : ℕ} {o : Out} {v : Value} {zs : List Value} (below : ValueBelow s from p v) (h : Built s from o zs) {q : Place}
     (d : Placed v from zs q) where
   pub inserts-none : q .equal ≡ true → Same from s s × Built s from o (insert v zs)
   inserts-none e =
@@ -254,10 +235,8 @@ module _ (s : List ℕ) (p from : ℕ) (o : Out) (v : Value) (zs : List Value) (
 
   -- where the place is, and how much follows it
   place-near : (from ≤ q .at) × (o .to ≡ q .at + weights (values (d .hi)))
-  place-near = (
-    omega (arith, d .at),
-    omega (arith, d .at, h .members .ends, ap (λ (l : List Value). weights (values l)) (d .all), weights-append (d .lo) (d .hi)),
-  )
+  place-near =
+      (omega (arith, d .at), omega (arith, d .at, h .members .ends, ap (λ (l : List Value). weights (values l)) (d .all), weights-append (d .lo) (d .hi)))
 
   last-near : o .last ≤ o .to
   last-near = go zs (h .last)
@@ -266,29 +245,25 @@ module _ (s : List ℕ) (p from : ℕ) (o : Out) (v : Value) (zs : List Value) (
       go [] l = omega arith
       go (y ∷ ys) l = omega arith
 
-  module _ (n : ℕ) (weighs : n ≡ weight v) (room : o .to + n ≤ length s) (s₁ s₂ : List ℕ)
+  module _ {n : ℕ} (weighs : n ≡ weight v) (room : o .to + n ≤ length s) {s₁ s₂ : List ℕ}
       (shifted : Copied s (q .at) (o .to - q .at) (q .at + n) s₁) (copied : Copied s₁ p n (q .at) s₂) where
     -- the codes of the members before the place, of the value, and of the members behind it
     put-stands : Stands s₂ from (codes (values (d .lo ++ (v ∷ d .hi))))
     unfolding code
     put-stands =
         let z = place-near in
-        let lo = codes (values (d .lo)) in
-        let hi = codes (values (d .hi)) in
         let e = ap (λ (l : List Value). codes (values l)) (d .all) ∙ codes-append (d .lo) (d .hi) in
         let w = length-codes (values (d .lo)) in
         rw (codes-append (d .lo) (v ∷ d .hi))
-        (gap-stands s s₁ s₂ p from (q .at) n (o .to - q .at) lo (code v) hi shifted copied (omega (arith, d .at))
-        (length-code v ∙ sym weighs) (omega (arith, z .1, length-codes (values (d .hi)))) (omega (arith, z .1)) (omega (arith, below .below))
-        (below .stands) (subst (λ (l : List ℕ). Stands s from l) e (h .members .stands)))
+        (gap-stands shifted copied from (codes (values (d .lo))) (code v) (codes (values (d .hi))) (omega (arith, d .at)) (length-code v ∙ sym weighs)
+        (omega (arith, z .1, length-codes (values (d .hi)))) (omega (arith, z .1)) (omega (arith, below .below)) (below .stands) (rw e at (h .members .stands)))
 
     pub inserts-put : q .equal ≡ false → (last : ℕ) → last ≡ movedLast (q .at) (o .to) (o .last) n →
         Same from s s₂ × Built s₂ from (record { last = last; to = o .to + n; count = o .count + 1 }) (insert v zs)
     inserts-put e last f =
         let ins : insert v zs ≡ d .lo ++ (v ∷ d .hi) = d .inserted ∙ ap (λ (b : Bool). d .lo ++ cond b (d .hi) (v ∷ d .hi)) e in
         let z = place-near in (
-          same-trans from from s s₁ s₂ (copied-same s (q .at) (o .to - q .at) (q .at + n) s₁ from shifted (omega arith))
-              (copied-same s₁ p n (q .at) s₂ from copied (z .0)) (omega arith),
+          gap-same shifted copied from (z .0),
           record {
             members = record {
               stands = rw ins put-stands;
@@ -317,14 +292,13 @@ pub record Near (s : List ℕ) (p end : ℕ) (o : Out) (at : ℕ) : Type 0 where
 
 pub insert-near : (s : List ℕ) (p end from : ℕ) (o : Out) (q : Place) → InsertPre s p end from o → Places s p from o q → Near s p end o (q .at)
 insert-near s p end from o q h places =
-    let zs = rising (h .others) in
     let d = places (h .value) (h .others) (h .below) (h .built) in
     let e = h .ends (h .value) (h .below .stands) (h .below .fits) in
-    let z = place-near s p from o (h .value) zs (h .below) (h .built) q d in
+    let z = place-near (h .below) (h .built) d in
     record {
       forward = omega arith;
       behind = omega (arith, h .below .below, z .0);
       inside = omega (arith, z .1);
       room = omega (arith, h .room);
-      last = last-near s p from o (h .value) zs (h .below) (h .built) q d;
+      last = last-near (h .below) (h .built) d;
     }

@@ -21,7 +21,7 @@ use Rattle.arena.proofs.FrontLaws.{rises-rising, fit-small, front-start, front-
 use Rattle.products.specs.Growing.{Appended, Grown}
 use Rattle.products.specs.Power.{masks, subsetCount, subsetCounts, pick, picked, MarkPre, Marks, Marked, SubsetPre, SubsetIf, AllPre, AllSubsets}
 use Rattle.products.proofs.GrowLaws.{grown-start, grown-step, grown-end, grown-left, made-set, made-heavy}
-use Rattle.products.proofs.PowerOrder.{powers, powerWeight, power-rising, power-weighs, power-count, power-picked, power-heavy}
+use Rattle.products.proofs.PowerOrder.{powers, powerWeight, power-rising, power-few, power-heavy}
 
 -- `subset_count`
 pub count-many : (n : ℕ) → 5 < n → 64 ≡ subsetCount n
@@ -45,33 +45,23 @@ unfolding code
 kept-codes true v r = rw (append-nil (code v))
 kept-codes false v r = refl
 
-picked-cons : (p m : ℕ) (ms : List ℕ) (vs : List Value) →
-    codes (values (picked p (m ∷ ms) vs)) ≡ codes (values (keptValue (ltb m p) (setOf (pick m vs)) [])) ++ codes (values (picked p ms vs))
-unfolding picked
-picked-cons p m ms vs = kept-codes (ltb m p) (setOf (pick m vs)) (picked p ms vs)
-
-picked-nil : (p : ℕ) (vs : List Value) → codes (values (picked p [] vs)) ≡ []
-unfolding picked code
-picked-nil p vs = refl
-
 -- the masks from j on
 abbrev pub allFrom : ℕ → ℕ → Values → List ℕ
 allFrom p j vs = codes (values (picked p (drop j masks) (members vs)))
 
 picked-next : (p j mask : ℕ) (vs : Values) → j < 32 → mask ≡ getD masks j 0 →
     allFrom p j vs ≡ codes (values (keptValue (ltb mask p) (setOf (pick mask (members vs))) [])) ++ allFrom p (j + 1) vs
+unfolding picked
 picked-next p j mask vs l e =
     ap (λ (ms : List ℕ). codes (values (picked p ms (members vs))))
     (drop-cons masks j 0 l ∙ ap (λ (k : ℕ). getD masks j 0 ∷ drop k masks) (sym (add-one j)) ∙ ap (λ (k : ℕ). k ∷ drop (j + 1) masks) (sym e))
-    ∙ picked-cons p mask (drop (j + 1) masks) (members vs)
+    ∙ kept-codes (ltb mask p) (setOf (pick mask (members vs))) (picked p (drop (j + 1) masks) (members vs))
 
 picked-over : (p j : ℕ) (vs : Values) → 32 ≤ j → allFrom p j vs ≡ []
-picked-over p j vs l = ap (λ (ms : List ℕ). codes (values (picked p ms (members vs)))) (drop-of-length-le masks l) ∙ picked-nil p (members vs)
+unfolding picked code
+picked-over p j vs l = ap (λ (ms : List ℕ). codes (values (picked p ms (members vs)))) (drop-of-length-le masks l)
 
-pub all-start : (s : List ℕ) (p to : ℕ) (vs : Values) → to ≤ length s → Grown s to s to (allFrom p 0 vs) (allFrom p 0 vs)
-all-start s p to vs l = grown-start s to (allFrom p 0 vs) l
-
-module _ (s₀ at : List ℕ) (n p to : ℕ) (s : List ℕ) (j end : ℕ) (vs : Values) (marked : Marked s₀ at n to vs)
+module _ {s₀ at : List ℕ} {n to : ℕ} (p : ℕ) {s : List ℕ} (j : ℕ) {end : ℕ} {vs : Values} (marked : Marked s₀ at n to vs)
     (h : Grown s₀ to s end (allFrom p 0 vs) (allFrom p j vs)) where
   all-marked : Marked s at n end vs
   all-marked = record {
@@ -89,7 +79,7 @@ module _ (s₀ at : List ℕ) (n p to : ℕ) (s : List ℕ) (j end : ℕ) (vs : 
     few = few;
     room = omega (
       arith,
-      grown-left s₀ to s end (allFrom p 0 vs) (allFrom p j vs) h,
+      grown-left h,
       length-codes (values (picked p masks (members vs))),
       h .appended .frame .kept,
     );
@@ -98,11 +88,11 @@ module _ (s₀ at : List ℕ) (n p to : ℕ) (s : List ℕ) (j end : ℕ) (vs : 
   pub all-next : (mask : ℕ) (s′ : List ℕ) (r : ℕ) → j < 32 → mask ≡ getD masks j 0 → SubsetIf s at n mask p end s′ r →
       Grown s₀ to s′ r (allFrom p 0 vs) (allFrom p (j + 1) vs)
   all-next mask s′ r l e put =
-      grown-step s₀ to s end (allFrom p 0 vs) (codes (values (keptValue (ltb mask p) (setOf (pick mask (members vs))) []))) (allFrom p (j + 1) vs) s′ r
+      grown-step (allFrom p (j + 1) vs)
       (subst (λ (c : List ℕ). Grown s₀ to s end (allFrom p 0 vs) c) (picked-next p j mask vs l e) h) (put vs all-marked)
 
   pub all-end : 32 ≤ j → Appended s₀ to s end (codes (values (picked p masks (members vs))))
-  all-end l = grown-end s₀ to s end (allFrom p 0 vs) (subst (λ (c : List ℕ). Grown s₀ to s end (allFrom p 0 vs) c) (picked-over p j vs l) h)
+  all-end l = grown-end (subst (λ (c : List ℕ). Grown s₀ to s end (allFrom p 0 vs) c) (picked-over p j vs l) h)
 
 -- `power`
 pub members-count : (vs : Values) → length (members vs) ≡ count vs
@@ -115,7 +105,7 @@ pub record Sized (s : List ℕ) (a e n p : ℕ) : Type 0 where
   pub ends : EndsAt s a e
   pub is : p ≡ subsetCount n
 
-module _ (s : List ℕ) (a top e n p : ℕ) (sized : Sized s a e n p) (vs : Values) (h : SetBelow s top a vs) where
+module _ {s : List ℕ} {a top e n p : ℕ} (sized : Sized s a e n p) {vs : Values} (h : SetBelow s top a vs) where
   power-front : Front s top (a + 1) n vs
   power-front = front-start s top a vs h n (sized .low)
 
@@ -130,11 +120,11 @@ module _ (s : List ℕ) (a top e n p : ℕ) (sized : Sized s a e n p) (vs : Valu
 
   few-weigh : n ≤ 5 → powerWeight (members vs) ≡ p + p / 2 * (e - a - 1)
   few-weigh l =
-      power-weighs (members vs) (omega (arith, power-members))
+      power-few (members vs) (omega (arith, power-members)) .0
       ∙ rw (power-members, ← (sized .is), values-members vs) (ap (λ (w : ℕ). p + p / 2 * w) (let z : weights vs ≡ e - a - 1 = omega (arith, power-end) in z))
 
   pub power-too-heavy : 256 < 1 + p + p / 2 * (e - a - 1) → Made top s s (setOf (rising (map setOf (subsets (members vs))))) 0
-  power-too-heavy g = made-heavy s top (setOf (rising (map setOf (subsets (members vs))))) (go (decLt 5 n))
+  power-too-heavy g = made-heavy (go (decLt 5 n))
     where
       weighs : weights (values (rising (map setOf (subsets (members vs))))) ≡ powerWeight (members vs)
       weighs = ap (λ (l : List Value). weights (values l)) power-is
@@ -144,8 +134,8 @@ module _ (s : List ℕ) (a top e n p : ℕ) (sized : Sized s a e n p) (vs : Valu
       go (no l) = omega (arith, weighs, few-weigh (omega arith))
 
   module _ (light : 1 + p + p / 2 * (e - a - 1) ≤ 256) where
-    power-few : n ≤ 5
-    power-few = go (decLt 5 n)
+    few : n ≤ 5
+    few = go (decLt 5 n)
       where
         go : Dec (5 < n) → n ≤ 5
         go (no l) = omega arith
@@ -157,32 +147,27 @@ module _ (s : List ℕ) (a top e n p : ℕ) (sized : Sized s a e n p) (vs : Valu
     power-picks : picked p masks (members vs) ≡ rising (map setOf (subsets (members vs)))
     power-picks =
         ap (λ (k : ℕ). picked k masks (members vs)) (sized .is ∙ ap subsetCount (sym power-members))
-        ∙ power-picked (members vs) (omega (arith, power-members, power-few)) ∙ sym power-is
+        ∙ power-few (members vs) (omega (arith, power-members, few)) .2 ∙ sym power-is
 
     power-weight : weights (values (picked p masks (members vs))) ≡ p + p / 2 * (e - a - 1)
-    power-weight = ap (λ (l : List Value). weights (values l)) (power-picks ∙ power-is) ∙ few-weigh power-few
+    power-weight = ap (λ (l : List Value). weights (values l)) (power-picks ∙ power-is) ∙ few-weigh few
 
     pub power-mark : MarkPre s (a + 1) n
-    power-mark = record { top = top; whole = vs; front = power-front; few = power-few }
+    power-mark = record { top = top; whole = vs; front = power-front; few = few }
 
     power-marked : (at : List ℕ) → Marks s (a + 1) n at → Marked s at n (top + 1) vs
     power-marked at m = record { top = top; from = a + 1; front = power-front; begin = m top vs power-front; behind = omega arith }
 
     pub power-pre : top + 514 ≤ length s → (at : List ℕ) → Marks s (a + 1) n at → AllPre s at n p (top + 1)
-    power-pre room at m = record {
-      whole = vs;
-      marked = power-marked at m;
-      few = power-few;
-      light = omega (arith, power-weight);
-      room = omega arith;
-    }
+    power-pre room at m =
+        record { whole = vs; marked = power-marked at m; few = few; light = omega (arith, power-weight); room = omega arith }
 
     pub power-made : top + 514 ≤ length s → (at : List ℕ) → Marks s (a + 1) n at → (s′ : List ℕ) (r : ℕ) → AllSubsets s at n p (top + 1) s′ r →
         Made top s (setAt s′ top (21474836480 + p)) (setOf (rising (map setOf (subsets (members vs))))) r
     power-made room at m s′ r put =
-        made-set s top s′ r p (values (rising (map setOf (subsets (members vs)))))
+        made-set _ _ _ _ _ _
         (subst (λ (l : List Value). Appended s (top + 1) s′ r (codes (values l))) power-picks (put vs (power-marked at m)))
-        (sized .is ∙ sym (ap (λ (l : List Value). count (values l)) power-is ∙ power-count (members vs) (omega (arith, power-members, power-few))
+        (sized .is ∙ sym (ap (λ (l : List Value). count (values l)) power-is ∙ power-few (members vs) (omega (arith, power-members, few)) .1
         ∙ ap subsetCount power-members))
         (omega arith) (omega (arith, ap (λ (l : List Value). weights (values l)) power-picks, power-weight))
 

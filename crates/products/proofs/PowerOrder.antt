@@ -120,20 +120,19 @@ combos-rising (suc k) (v ∷ vs) h =
     firsts (s ∷ ss) l = (before-begins v s k (combos (suc k) vs) (l .0) (combos-length (suc k) vs) (combos-all (Before v) (suc k) vs (h .0)), firsts ss (l .1))
 
 fewer-all : (s : List Value) (k : ℕ) (ts : List (List Value)) → length s ≤ k → All (λ t. length t ≡ suc k) ts → All (Before (setOf s)) (map setOf ts)
-fewer-all s k [] e l = tt
-fewer-all s k (t ∷ ts) e l = (fewer-before (values s) (values t) (omega (arith, length-count s, length-count t, l .0)), fewer-all s k ts e (l .1))
+fewer-all s k ts e l =
+    all-map (λ t. length t ≡ suc k) (Before (setOf s)) setOf
+    (λ t m. fewer-before (values s) (values t) (omega (arith, length-count s, length-count t))) ts l
 
 pub powers-rising : (k : ℕ) (vs : List Value) → Rising vs → Rising (map setOf (powers k vs))
 unfolding powers
 powers-rising zero vs h = combos-rising 0 vs h
 powers-rising (suc k) vs h =
-    subst Rising (sym (maps (powers k vs) (combos (suc k) vs)))
-    (append-rising (map setOf (powers k vs)) (map setOf (combos (suc k) vs)) (powers-rising k vs h) (combos-rising (suc k) vs h)
-    (each (powers k vs) (powers-length k vs)))
-  where
-    each : (ss : List (List Value)) → All (λ s. length s ≤ k) ss → All (λ x. All (Before x) (map setOf (combos (suc k) vs))) (map setOf ss)
-    each [] l = tt
-    each (s ∷ ss) l = (fewer-all s k (combos (suc k) vs) (l .0) (combos-length (suc k) vs), each ss (l .1))
+    let more = combos (suc k) vs in
+    subst Rising (sym (maps (powers k vs) more))
+    (append-rising (map setOf (powers k vs)) (map setOf more) (powers-rising k vs h) (combos-rising (suc k) vs h)
+    (all-map (λ s. length s ≤ k) (λ x. All (Before x) (map setOf more)) setOf (λ s l. fewer-all s k more l (combos-length (suc k) vs))
+    (powers k vs) (powers-length k vs)))
 
 -- They are the sublists.
 combos-subset : (k : ℕ) (vs s : List Value) → In s (combos k vs) → In s (subsets vs)
@@ -248,37 +247,19 @@ powers-heavier (suc k) v vs =
       combos-heavier (suc k) v vs,
     )
 
--- five members or fewer
-pub power-weighs : (vs : List Value) → length vs ≤ 5 → powerWeight vs ≡ subsetCount (length vs) + subsetCount (length vs) / 2 * weights (values vs)
-unfolding powers
-power-weighs [] l = refl
-power-weighs (a ∷ []) l = omega arith
-power-weighs (a ∷ b ∷ []) l = omega arith
-power-weighs (a ∷ b ∷ c ∷ []) l = omega arith
-power-weighs (a ∷ b ∷ c ∷ d ∷ []) l = omega arith
-power-weighs (a ∷ b ∷ c ∷ d ∷ f ∷ []) l = omega arith
-power-weighs (a ∷ b ∷ c ∷ d ∷ f ∷ g ∷ vs) l = absurd (omega arith)
-
-pub power-count : (vs : List Value) → length vs ≤ 5 → count (values (map setOf (powers (length vs) vs))) ≡ subsetCount (length vs)
-unfolding powers
-power-count [] l = refl
-power-count (a ∷ []) l = refl
-power-count (a ∷ b ∷ []) l = refl
-power-count (a ∷ b ∷ c ∷ []) l = refl
-power-count (a ∷ b ∷ c ∷ d ∷ []) l = refl
-power-count (a ∷ b ∷ c ∷ d ∷ f ∷ []) l = refl
-power-count (a ∷ b ∷ c ∷ d ∷ f ∷ g ∷ vs) l = absurd (omega arith)
-
--- The masks give them in order.
-pub power-picked : (vs : List Value) → length vs ≤ 5 → picked (subsetCount (length vs)) masks vs ≡ map setOf (powers (length vs) vs)
+-- Five members or fewer: the weight and the number of the subsets, and that the masks give them in order.
+pub power-few : (vs : List Value) → length vs ≤ 5 →
+    (powerWeight vs ≡ subsetCount (length vs) + subsetCount (length vs) / 2 * weights (values vs)) ×
+    (count (values (map setOf (powers (length vs) vs))) ≡ subsetCount (length vs)) ×
+    (picked (subsetCount (length vs)) masks vs ≡ map setOf (powers (length vs) vs))
 unfolding powers picked
-power-picked [] l = refl
-power-picked (a ∷ []) l = refl
-power-picked (a ∷ b ∷ []) l = refl
-power-picked (a ∷ b ∷ c ∷ []) l = refl
-power-picked (a ∷ b ∷ c ∷ d ∷ []) l = refl
-power-picked (a ∷ b ∷ c ∷ d ∷ f ∷ []) l = refl
-power-picked (a ∷ b ∷ c ∷ d ∷ f ∷ g ∷ vs) l = absurd (omega arith)
+power-few [] l = (refl, refl, refl)
+power-few (a ∷ []) l = (omega arith, refl, refl)
+power-few (a ∷ b ∷ []) l = (omega arith, refl, refl)
+power-few (a ∷ b ∷ c ∷ []) l = (omega arith, refl, refl)
+power-few (a ∷ b ∷ c ∷ d ∷ []) l = (omega arith, refl, refl)
+power-few (a ∷ b ∷ c ∷ d ∷ f ∷ []) l = (omega arith, refl, refl)
+power-few (a ∷ b ∷ c ∷ d ∷ f ∷ g ∷ vs) l = absurd (omega arith)
 
 -- Six members or more are too many.
 six-heavy : (a b c d f g : Value) → 256 ≤ powerWeight (a ∷ b ∷ c ∷ d ∷ f ∷ g ∷ [])

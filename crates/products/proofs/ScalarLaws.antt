@@ -105,6 +105,4 @@ interval-made s x y n top s′ r e put i j h k p q =
     rw z (put (values (upFrom i n)) (up-count i n) (up-cells i n (fits-low i h) ∙ ap (λ (c : ℕ). cellsFrom (4294967296 + c) n) p))
 
 pub interval-heavy : (s : List ℕ) (x y top : ℕ) → 254 < y - x → Intervals s x y top s 0
-interval-heavy s x y top l i j h k p q =
-    let n = toCount (j -ℤ i +ℤ pos 1) in
-    made-heavy s top (setOf (upFrom i n)) (omega (arith, up-weighs i n, interval-count i j x y h k p q))
+interval-heavy s x y top l i j h k p q = let n = toCount (j -ℤ i +ℤ pos 1) in made-heavy (omega (arith, up-weighs i n, interval-count i j x y h k p q))

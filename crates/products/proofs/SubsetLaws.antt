@@ -15,7 +15,7 @@ use Rattle.rules.specs.Operations.{setOf, keptValue}
 use Rattle.laws.proofs.CellsLaws.{count-weights}
 use Rattle.arena.specs.Code.{code, codes, SomeAt, EndsAt, Copied, ValueBelow, Made, Front}
 use Rattle.arena.proofs.CodeLaws.{length-code, length-codes}
-use Rattle.arena.proofs.FrontLaws.{front-value, front-next, front-below, front-some, value-frame}
+use Rattle.arena.proofs.FrontLaws.{single, front-value, front-next, front-below, front-some, value-frame}
 use Rattle.products.specs.Growing.{Appended, Grown}
 use Rattle.products.specs.Power.{pick, AddPre, Added, AddedIf, Begin, Marked, Subsets, SubsetIf}
 use Rattle.products.specs.declared.Out.{Out}
@@ -39,7 +39,7 @@ marking-start s top a n vs at l e h = record {
   leads = λ at′ g b. rw e at b;
 }
 
-module _ (s : List ℕ) (top a n : ℕ) (vs : Values) (at : List ℕ) (j : ℕ) (h : Marking s top a n vs at j) where
+module _ {s : List ℕ} {top a n : ℕ} {vs : Values} {at : List ℕ} {j : ℕ} (h : Marking s top a n vs at j) where
   pub marking-some : j < n → SomeAt s (getD at j 0)
   marking-some l = front-some s top (getD at j 0) (n - j) (h .rest) (h .front) (omega arith)
 
@@ -50,37 +50,31 @@ module _ (s : List ℕ) (top a n : ℕ) (vs : Values) (at : List ℕ) (j : ℕ) 
       go none f k = k refl
       go (w ▸ ws) f k = absurd (omega (arith, f .counted))
 
-  module _ (l : j < n) (few : n ≤ 5) (e : ℕ) (ends : EndsAt s (getD at j 0) e) where
-    new : getD (setAt at (j + 1) e) (j + 1) 0 ≡ e
-    new = getD-set-same at (j + 1) e 0 (omega (arith, h .sized))
-
-    pub marking-next : Marking s top a n vs (setAt at (j + 1) e) (j + 1)
-    marking-next = go (h .rest) (h .front) (h .leads)
-      where
-        go : (ws : Values) → Front s top (getD at j 0) (n - j) ws →
-            ((at′ : List ℕ) → ((k : ℕ) → k ≤ j → getD at′ k 0 ≡ getD at k 0) → Begin at′ j (getD at j 0) ws → Begin at′ 0 a vs) →
-            Marking s top a n vs (setAt at (j + 1) e) (j + 1)
-        go none f k = absurd (omega (arith, f .counted))
-        go (w ▸ ws) f k =
-            let z : e ≡ getD at j 0 + weight w = ends w (front-value s top (getD at j 0) (n - j) w ws f) (f .fits .0) in
-            record {
-              sized = length-set at (j + 1) e ∙ h .sized;
-              few = omega arith;
-              rest = ws;
-              front = rw new (front-next s top (getD at j 0) (n - j) w ws f e (n - (j + 1)) z (omega arith));
-              leads = λ at′ g b.
-                  let old : (i : ℕ) → i ≤ j → getD at′ i 0 ≡ getD at i 0 =
-                  λ i q. g i (omega arith) ∙ getD-set-other at (j + 1) i e 0 (λ r. omega arith) in
-                  k at′ old (old j (omega arith), subst (λ (i : ℕ). Begin at′ (j + 1) i ws) (new ∙ z) b);
-            }
+  pub marking-next : j < n → n ≤ 5 → (e : ℕ) → EndsAt s (getD at j 0) e → Marking s top a n vs (setAt at (j + 1) e) (j + 1)
+  marking-next l few e ends = go (h .rest) (h .front) (h .leads)
+    where
+      go : (ws : Values) → Front s top (getD at j 0) (n - j) ws →
+          ((at′ : List ℕ) → ((k : ℕ) → k ≤ j → getD at′ k 0 ≡ getD at k 0) → Begin at′ j (getD at j 0) ws → Begin at′ 0 a vs) →
+          Marking s top a n vs (setAt at (j + 1) e) (j + 1)
+      go none f k = absurd (omega (arith, f .counted))
+      go (w ▸ ws) f k =
+          let new = getD-set-same at (j + 1) e 0 (omega (arith, h .sized)) in
+          let z : e ≡ getD at j 0 + weight w = ends w (front-value s top (getD at j 0) (n - j) w ws f) (f .fits .0) in
+          record {
+            sized = length-set at (j + 1) e ∙ h .sized;
+            few = omega arith;
+            rest = ws;
+            front = rw new (front-next s top (getD at j 0) (n - j) w ws f e (n - (j + 1)) z (omega arith));
+            leads = λ at′ g b.
+                let old : (i : ℕ) → i ≤ j → getD at′ i 0 ≡ getD at i 0 = λ i q. g i (omega arith) ∙ getD-set-other at (j + 1) i e 0 (λ r. omega arith) in
+                k at′ old (old j (omega arith), rw (new ∙ z) at b);
+          }
 
 -- `add`
 pub add-made : (s : List ℕ) (from end : ℕ) (o : Out) (s′ : List ℕ) → AddPre s from end o → Copied s from (end - from) (o .to) s′ →
     Added s from end o s′ (record { last = o .to; to = o .to + (end - from); count = o .count + 1 })
-add-made s from end o s′ p c = record {
-  cells = λ v h e. appended-copy s from (end - from) (o .to) s′ (code v) c h (omega (arith, length-code v)) (p .room);
-  counted = refl;
-}
+add-made s from end o s′ p c =
+    record { cells = λ v h e. appended-copy c h (omega (arith, length-code v)) (p .room); counted = refl }
 
 -- Of the members `whole`, those before `rest` have been put.
 pub record Putting (s₀ : List ℕ) (top : ℕ) (s : List ℕ) (o : Out) (whole : List Value) (rest : List Value) : Type 0 where
@@ -91,38 +85,23 @@ putting-start : (s : List ℕ) (top : ℕ) (whole : List Value) → top + 257 �
     Putting s top s (record { last = 0; to = top + 1; count = 0 }) whole whole
 putting-start s top whole g = record { grown = grown-start s (top + 1) (codes (values whole)) (omega arith); counted = omega arith }
 
-more-codes : (w : Value) (rest : List Value) → codes (values (w ∷ rest)) ≡ code w ++ codes (values rest)
-unfolding code
-more-codes w rest = refl
-
-no-codes : codes (values []) ≡ []
-unfolding code
-no-codes = refl
-
-module _ (s₀ : List ℕ) (top : ℕ) (s : List ℕ) (o : Out) (whole : List Value) (light : weights (values whole) ≤ 255) where
+module _ {s₀ : List ℕ} {top : ℕ} {s : List ℕ} {o : Out} {whole : List Value} (light : weights (values whole) ≤ 255) where
   -- where they end, and how many they are
-  putting-near : (rest : List Value) → Putting s₀ top s o whole rest → (top < o .to) × (o .to + weights (values rest) ≤ top + 256) × (o .count ≤ 255)
-  putting-near rest h = (
+  putting-near : {rest : List Value} → Putting s₀ top s o whole rest → (top < o .to) × (o .to + weights (values rest) ≤ top + 256) × (o .count ≤ 255)
+  putting-near {rest} h = (
     omega (arith, h .grown .appended .ends),
-    omega (
-      arith,
-      grown-left s₀ (top + 1) s (o .to) (codes (values whole)) (codes (values rest)) (h .grown),
-      length-codes (values whole),
-      length-codes (values rest),
-    ),
+    omega (arith, grown-left (h .grown), length-codes (values whole), length-codes (values rest)),
     omega (arith, h .counted, count-weights (values whole)),
   )
 
   putting-end : Putting s₀ top s o whole [] → top + 257 ≤ length s₀ → Made top s₀ (setAt s top (21474836480 + o .count)) (setOf whole) (o .to)
-  putting-end h g =
-      made-set s₀ top s (o .to) (o .count) (values whole)
-      (grown-end s₀ (top + 1) s (o .to) (codes (values whole)) (rw no-codes at (h .grown)))
-      (omega (arith, h .counted)) (omega arith) (omega arith)
+  unfolding code
+  putting-end h g = made-set _ _ _ _ _ _ (grown-end (h .grown)) (omega (arith, h .counted)) (omega arith) (omega arith)
 
-  module _ (w : Value) (rest : List Value) (h : Putting s₀ top s o whole (w ∷ rest)) (k p e : ℕ) (value : ValueBelow s k p w) (ends : e ≡ p + weight w) where
+  module _ {w : Value} {rest : List Value} (h : Putting s₀ top s o whole (w ∷ rest)) {k p e : ℕ} (value : ValueBelow s k p w) (ends : e ≡ p + weight w) where
     putting-pre : k ≤ top + 1 → top + 257 ≤ length s₀ → AddPre s p e o
     putting-pre g room =
-        let n = putting-near (w ∷ rest) h in
+        let n = putting-near h in
         record {
           forward = omega arith;
           behind = omega (arith, value .below, n .0);
@@ -131,13 +110,9 @@ module _ (s₀ : List ℕ) (top : ℕ) (s : List ℕ) (o : Out) (whole : List Va
         }
 
     putting-add : (s′ : List ℕ) (r : Out) → Added s p e o s′ r → Putting s₀ top s′ r whole rest
+    unfolding code
     putting-add s′ r d =
-        let a = d .cells w (value .stands) ends in
-        record {
-          grown = grown-step s₀ (top + 1) s (o .to) (codes (values whole)) (code w) (codes (values rest)) s′ (r .to)
-              (subst (λ (c : List ℕ). Grown s₀ (top + 1) s (o .to) (codes (values whole)) c) (more-codes w rest) (h .grown)) a;
-          counted = omega (arith, d .counted, h .counted);
-        }
+        record { grown = grown-step (codes (values rest)) (h .grown) (d .cells w (value .stands) ends); counted = omega (arith, d .counted, h .counted) }
 
 -- `subset`
 kept-weighs : (k : Bool) (v : Value) (r : List Value) → weights (values (keptValue k v r)) ≤ weight v + weights (values r)
@@ -148,14 +123,6 @@ pick-weighs : (m : ℕ) (vs : Values) → weights (values (pick m (members vs)))
 unfolding pick
 pick-weighs m none = omega arith
 pick-weighs m (v ▸ vs) = omega (arith, kept-weighs (eqb (m % 2) 1) v (pick (m / 2) (members vs)), pick-weighs (m / 2) vs)
-
-pick-more : (m : ℕ) (v : Value) (vs : List Value) → pick m (v ∷ vs) ≡ keptValue (eqb (m % 2) 1) v (pick (m / 2) vs)
-unfolding pick
-pick-more m v vs = refl
-
-pick-none : (m : ℕ) → pick m [] ≡ []
-unfolding pick
-pick-none m = refl
 
 begin-here : (at : List ℕ) (j i : ℕ) (vs : Values) → Begin at j i vs → getD at j 0 ≡ i
 begin-here at j i none b = b
@@ -172,10 +139,10 @@ pub record SubsetAt (s₀ at : List ℕ) (n : ℕ) (vs : Values) (mask to : ℕ)
   pub behind : top ≤ to
   pub putting : Putting s₀ to s o (pick mask (members vs)) (pick m (members rest))
 
-module _ (s₀ at : List ℕ) (n mask to : ℕ) (vs : Values) (marked : Marked s₀ at n to vs) (room : to + 257 ≤ length s₀) where
-  subset-light : weights (values (pick mask (members vs))) ≤ 255
-  subset-light = omega (arith, pick-weighs mask vs, marked .front .light)
+subset-light : {s at : List ℕ} {n to : ℕ} {vs : Values} (mask : ℕ) → Marked s at n to vs → weights (values (pick mask (members vs))) ≤ 255
+subset-light {vs = vs} mask marked = omega (arith, pick-weighs mask vs, marked .front .light)
 
+module _ {s₀ at : List ℕ} {n mask to : ℕ} {vs : Values} (marked : Marked s₀ at n to vs) (room : to + 257 ≤ length s₀) where
   pub subset-start : SubsetAt s₀ at n vs mask to s₀ 0 mask (record { last = 0; to = to + 1; count = 0 })
   subset-start = record {
     few = omega arith;
@@ -188,84 +155,68 @@ module _ (s₀ at : List ℕ) (n mask to : ℕ) (vs : Values) (marked : Marked s
     putting = putting-start s₀ to (pick mask (members vs)) room;
   }
 
-  module _ (s : List ℕ) (j m : ℕ) (o : Out) (h : SubsetAt s₀ at n vs mask to s j m o) where
+  module _ {s : List ℕ} {j m : ℕ} {o : Out} (h : SubsetAt s₀ at n vs mask to s j m o) where
     pub subset-near : (o .count ≤ 255) × (length s ≡ length s₀)
-    subset-near = (
-      putting-near s₀ to s o (pick mask (members vs)) subset-light (pick m (members (h .rest))) (h .putting) .2,
-      h .putting .grown .appended .frame .kept,
-    )
+    subset-near = (putting-near (subset-light mask marked) (h .putting) .2, h .putting .grown .appended .frame .kept)
 
     pub subset-end : n ≤ j → Appended s₀ to (setAt s to (21474836480 + o .count)) (o .to) (code (setOf (pick mask (members vs))))
+    unfolding pick
     subset-end l = go (h .rest) (h .front) (h .putting)
       where
         go : (ws : Values) → Front s₀ (h .top) (h .from) (n - j) ws → Putting s₀ to s o (pick mask (members vs)) (pick m (members ws)) →
             Appended s₀ to (setAt s to (21474836480 + o .count)) (o .to) (code (setOf (pick mask (members vs))))
         go none f q =
-            let k = putting-end s₀ to s o (pick mask (members vs)) subset-light (rw (pick-none m) at q) room in
+            let k = putting-end (subset-light mask marked) q room in
             let v = setOf (pick mask (members vs)) in
-            let w : weight v ≤ 256 = omega (arith, subset-light) in
+            let w : weight v ≤ 256 = omega (arith, subset-light mask marked) in
             record { frame = k .frame; stands = k .light w .1; ends = omega (arith, k .light w .0, length-code v) }
         go (w ▸ ws) f q = absurd (omega (arith, f .counted))
 
     module _ (l : j < n) where
       -- What is shown of a first member and the rest is shown.
-      subset-by : (P : Type 0) → ((w : Value) (ws : Values) → Front s₀ (h .top) (h .from) (n - j) (w ▸ ws) → Begin at j (h .from) (w ▸ ws) →
+      subset-by : (P : Type 0) → ((w : Value) (ws : Values) → Front s₀ (h .top) (h .from) (n - j) (w ▸ ws) → Begin at (j + 1) (h .from + weight w) ws →
+          ValueBelow s (h .top) (getD at j 0) w → getD at (j + 1) 0 ≡ getD at j 0 + weight w →
           Putting s₀ to s o (pick mask (members vs)) (keptValue (eqb (m % 2) 1) w (pick (m / 2) (members ws))) → P) → P
+      unfolding pick
       subset-by P k = go (h .rest) (h .front) (h .begin) (h .putting)
         where
           go : (ws : Values) → Front s₀ (h .top) (h .from) (n - j) ws → Begin at j (h .from) ws →
               Putting s₀ to s o (pick mask (members vs)) (pick m (members ws)) → P
           go none f b q = absurd (omega (arith, f .counted))
-          go (w ▸ ws) f b q = k w ws f b (rw (pick-more m w (members ws)) at q)
-
-      module _ (w : Value) (ws : Values) (f : Front s₀ (h .top) (h .from) (n - j) (w ▸ ws)) (b : Begin at j (h .from) (w ▸ ws)) where
-        first-ends : getD at (j + 1) 0 ≡ h .from + weight w
-        first-ends = begin-here at (j + 1) (h .from + weight w) ws (b .1)
-
-        first-below : ValueBelow s (h .top) (getD at j 0) w
-        first-below =
-            rw (b .0) (value-frame (to + 1) s₀ s (h .top) (h .from) w (h .putting .grown .appended .frame) (omega (arith, h .behind))
-            (front-below s₀ (h .top) (h .from) (n - j) w ws f))
+          go (w ▸ ws) f b q =
+              let v = front-below s₀ (h .top) (h .from) (n - j) w ws f in
+              let x = value-frame (to + 1) s₀ s (h .top) (h .from) w (h .putting .grown .appended .frame) (omega (arith, h .behind)) v in
+              k w ws f (b .1) (rw (b .0) x) (rw (b .0) (begin-here at (j + 1) (h .from + weight w) ws (b .1))) q
 
       pub subset-add : eqb (m % 2) 1 ≡ true → AddPre s (getD at j 0) (getD at (j + 1) 0) o
-      subset-add k = subset-by (AddPre s (getD at j 0) (getD at (j + 1) 0) o) λ w ws f b q.
-          putting-pre s₀ to s o (pick mask (members vs)) subset-light w (pick (m / 2) (members ws)) (rw k at q) (h .top) (getD at j 0) (getD at (j + 1) 0)
-          (first-below w ws f b) (omega (arith, first-ends w ws f b, b .0)) (omega (arith, h .behind)) room
+      subset-add k = subset-by (AddPre s (getD at j 0) (getD at (j + 1) 0) o) λ w ws f b v e q.
+          putting-pre (subset-light mask marked) (rw k at q) v e (omega (arith, h .behind)) room
 
       pub subset-next : (s′ : List ℕ) (r : Out) → AddedIf (eqb (m % 2) 1) s (getD at j 0) (getD at (j + 1) 0) o s′ r →
           SubsetAt s₀ at n vs mask to s′ (j + 1) (m / 2) r
-      subset-next s′ r added = subset-by (SubsetAt s₀ at n vs mask to s′ (j + 1) (m / 2) r) λ w ws f b q.
+      subset-next s′ r added = subset-by (SubsetAt s₀ at n vs mask to s′ (j + 1) (m / 2) r) λ w ws f b v e q.
           record {
             few = omega arith;
             top = h .top;
             from = h .from + weight w;
             rest = ws;
             front = front-next s₀ (h .top) (h .from) (n - j) w ws f (h .from + weight w) (n - (j + 1)) refl (omega arith);
-            begin = b .1;
+            begin = b;
             behind = h .behind;
-            putting = put w ws f b q added;
+            putting = put w ws v e q added;
           }
         where
-          put : (w : Value) (ws : Values) → Front s₀ (h .top) (h .from) (n - j) (w ▸ ws) → Begin at j (h .from) (w ▸ ws) →
+          put : (w : Value) (ws : Values) → ValueBelow s (h .top) (getD at j 0) w → getD at (j + 1) 0 ≡ getD at j 0 + weight w →
               Putting s₀ to s o (pick mask (members vs)) (keptValue (eqb (m % 2) 1) w (pick (m / 2) (members ws))) →
               AddedIf (eqb (m % 2) 1) s (getD at j 0) (getD at (j + 1) 0) o s′ r →
               Putting s₀ to s′ r (pick mask (members vs)) (pick (m / 2) (members ws))
-          put w ws f b q (inl x) =
-              putting-add s₀ to s o (pick mask (members vs)) subset-light w (pick (m / 2) (members ws)) (rw (x .0) at q) (h .top) (getD at j 0)
-              (getD at (j + 1) 0) (first-below w ws f b) (omega (arith, first-ends w ws f b, b .0)) s′ r (x .1)
-          put w ws f b q (inr x) = rw (x .1, x .2) (rw (x .0) at q)
+          put w ws v e q (inl x) = putting-add (subset-light mask marked) (rw (x .0) at q) v e s′ r (x .1)
+          put w ws v e q (inr x) = rw (x .1, x .2) (rw (x .0) at q)
 
 -- `subset_if`
-kept-single : (k : Bool) (v : Value) → k ≡ true → codes (values (keptValue k v [])) ≡ code v
-unfolding code
-kept-single k v e = rw e (append-nil (code v))
-
-kept-nothing : (k : Bool) (v : Value) → k ≡ false → codes (values (keptValue k v [])) ≡ []
-unfolding code
-kept-nothing k v e = rw e
-
 pub subset-taken : (s at : List ℕ) (n mask p to : ℕ) (s′ : List ℕ) (r : ℕ) → mask < p → Subsets s at n mask to s′ r → SubsetIf s at n mask p to s′ r
-subset-taken s at n mask p to s′ r l put vs h = rw (kept-single (ltb mask p) (setOf (pick mask (members vs))) (lt-ltb mask p l)) (put vs h)
+subset-taken s at n mask p to s′ r l put vs h = rw (lt-ltb mask p l, single (setOf (pick mask (members vs)))) (put vs h)
 
 pub subset-left : (s at : List ℕ) (n mask p to : ℕ) → p ≤ mask → to ≤ length s → SubsetIf s at n mask p to s to
-subset-left s at n mask p to l b vs h = rw (kept-nothing (ltb mask p) (setOf (pick mask (members vs))) (le-ltb mask p l)) (appended-none s to b)
+unfolding code
+subset-left s at n mask p to l b vs h = rw (le-ltb mask p l) (appended-none s to b)

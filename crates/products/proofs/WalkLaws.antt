@@ -4,7 +4,7 @@ use mathlib.Core.List.{List, [], _++_, map}
 use mathlib.Core.Path.{_≡_, refl, sym, ap, _∙_, subst}
 use native.Mathlib.Omega.{arith}
 use native.Mathlib.Nat.{mul-le-mul-right}
-use lib.ListN.{length, getD, set as setAt}
+use lib.ListN.{length, getD, length-append, set as setAt}
 use Rattle.rules.specs.Values.{Value, pair, set, Values, none, _▸_, members, values, count, weight, weights}
 use Rattle.rules.specs.Operations.{setOf, pairsOf}
 use Rattle.arena.specs.Code.{code, codes, SomeAt, EndsAt, SetBelow, ValueBelow, Made, Front}
@@ -13,6 +13,52 @@ use Rattle.arena.proofs.FrontLaws.{codes-append, count-append, weights-append, 
 use Rattle.products.specs.Growing.{Appended, Grown, PairPre, PairPut, rowOf, RowPre, Rows, SquarePre, Squares}
 use Rattle.products.proofs.GrowLaws.{grown-start, grown-step, grown-end, grown-left, made-set, made-heavy}
 use Rattle.laws.proofs.CellsLaws.{count-weights}
+
+-- A walk: the members of a set are passed one by one, and for each of them cells are written. What is left to write is told by the members
+-- that are left.
+pub record WalkAt (F : Values → List ℕ) (s₀ : List ℕ) (top : ℕ) (vs : Values) (to : ℕ) (s : List ℕ) (i left at : ℕ) : Type 0 where
+  pub rest : Values
+  pub front : Front s₀ top i left rest
+  pub grown : Grown s₀ to s at (F vs) (F rest)
+  pub behind : top ≤ to
+
+pub walk-start : (F : Values → List ℕ) {s : List ℕ} {top : ℕ} {vs : Values} {a n : ℕ} (to : ℕ) → to ≤ length s → Front s top a n vs → top ≤ to →
+    WalkAt F s top vs to s a n to
+walk-start F {s} {vs = vs} to l h b = record { rest = vs; front = h; grown = grown-start s to (F vs) l; behind = b }
+
+module _ {F : Values → List ℕ} {s₀ : List ℕ} {top : ℕ} {vs : Values} {to : ℕ} {s : List ℕ} {i left at : ℕ} (h : WalkAt F s₀ top vs to s i left at) where
+  walk-front : Front s top i left (h .rest)
+  walk-front = front-frame to s₀ s top i left (h .rest) (h .grown .appended .frame) (h .behind) (h .front)
+
+  pub walk-some : 0 < left → SomeAt s i
+  walk-some l = front-some s top i left (h .rest) walk-front l
+
+  walk-end : left ≤ 0 → F none ≡ [] → Appended s₀ to s at (F vs)
+  walk-end l e = go (h .rest) (h .front) (h .grown)
+    where
+      go : (us : Values) → Front s₀ top i left us → Grown s₀ to s at (F vs) (F us) → Appended s₀ to s at (F vs)
+      go none f g = grown-end (rw e at g)
+      go (w ▸ us) f g = absurd (omega (arith, f .counted))
+
+  module _ (more : 0 < left) (e : ℕ) (ends : EndsAt s i e) where
+    -- What is shown of the first member that is left is shown.
+    walk-by : (P : Type 0) → ((w : Value) (us : Values) → Front s₀ top i left (w ▸ us) → Front s top i left (w ▸ us) →
+        Grown s₀ to s at (F vs) (F (w ▸ us)) → e ≡ i + weight w → P) → P
+    walk-by P k = go (h .rest) (h .front) walk-front (h .grown)
+      where
+        go : (us : Values) → Front s₀ top i left us → Front s top i left us → Grown s₀ to s at (F vs) (F us) → P
+        go none f₀ f g = absurd (omega (arith, f .counted))
+        go (w ▸ us) f₀ f g = k w us f₀ f g (ends w (front-value s top i left w us f) (f .fits .0))
+
+    pub walk-forward : i ≤ e
+    walk-forward = walk-by (i ≤ e) λ w us f₀ f g z. omega arith
+
+    walk-next : (s′ : List ℕ) (r : ℕ) → ((w : Value) (us : Values) → Front s top i left (w ▸ us) → e ≡ i + weight w →
+        (cs : List ℕ) × (F (w ▸ us) ≡ cs ++ F us) × Appended s at s′ r cs) → WalkAt F s₀ top vs to s′ e (left - 1) r
+    walk-next s′ r put = walk-by (WalkAt F s₀ top vs to s′ e (left - 1) r) λ w us f₀ f g z.
+        let x = put w us f z in
+        let n = front-next s₀ top i left w us f₀ e (left - 1) z (omega arith) in
+        record { rest = us; front = n; grown = grown-step (F us) (rw (x .1) at g) (x .2); behind = h .behind }
 
 -- The pairs of x with the members of a set.
 row-weighs : (x : Value) (ws : Values) → weights (rowOf x ws) ≡ count ws + count ws * weight x + weights ws
@@ -23,91 +69,39 @@ row-count : (x : Value) (ws : Values) → count (rowOf x ws) ≡ count ws
 row-count x none = refl
 row-count x (w ▸ ws) = omega (arith, row-count x ws)
 
-row-none : (x : Value) → codes (rowOf x none) ≡ []
-unfolding code
-row-none x = refl
-
-row-more : (x w : Value) (ws : Values) → codes (rowOf x (w ▸ ws)) ≡ code (pair x w) ++ codes (rowOf x ws)
-unfolding code
-row-more x w ws = refl
-
 -- `row`
-pub record RowAt (s₀ : List ℕ) (top : ℕ) (x : Value) (ws : Values) (to : ℕ) (s : List ℕ) (i left at : ℕ) : Type 0 where
-  pub rest : Values
-  pub front : Front s₀ top i left rest
-  pub grown : Grown s₀ to s at (codes (rowOf x ws)) (codes (rowOf x rest))
+abbrev pub RowAt : List ℕ → ℕ → Value → Values → ℕ → List ℕ → ℕ → ℕ → ℕ → Type 0
+RowAt s₀ top x ws to s i left at = WalkAt (λ us. codes (rowOf x us)) s₀ top ws to s i left at
 
-pub row-start : (s : List ℕ) (top : ℕ) (x : Value) (ws : Values) (b m to : ℕ) → to ≤ length s → Front s top b m ws → RowAt s top x ws to s b m to
-row-start s top x ws b m to l h = record { rest = ws; front = h; grown = grown-start s to (codes (rowOf x ws)) l }
-
-module _ (s₀ : List ℕ) (top : ℕ) (x : Value) (ws : Values) (to : ℕ) (s : List ℕ) (i left at : ℕ) (behind : top ≤ to)
-    (h : RowAt s₀ top x ws to s i left at) where
-  row-front : Front s top i left (h .rest)
-  row-front = front-frame to s₀ s top i left (h .rest) (h .grown .appended .frame) behind (h .front)
-
-  pub row-some : 0 < left → SomeAt s i
-  row-some l = front-some s top i left (h .rest) row-front l
-
+module _ {s₀ : List ℕ} {top : ℕ} (x : Value) {ws : Values} {to : ℕ} {s : List ℕ} {i left at : ℕ} (h : RowAt s₀ top x ws to s i left at) where
   pub row-end : left ≤ 0 → Appended s₀ to s at (codes (rowOf x ws))
-  row-end l = go (h .rest) (h .front) (h .grown)
-    where
-      go : (vs : Values) → Front s₀ top i left vs → Grown s₀ to s at (codes (rowOf x ws)) (codes (rowOf x vs)) → Appended s₀ to s at (codes (rowOf x ws))
-      go none f g = grown-end s₀ to s at (codes (rowOf x ws)) (subst (λ (c : List ℕ). Grown s₀ to s at (codes (rowOf x ws)) c) (row-none x) g)
-      go (w ▸ vs) f g = absurd (omega (arith, f .counted))
+  unfolding code
+  row-end l = walk-end h l refl
 
-  module _ (v k : ℕ) (value : ValueBelow s₀ top v x) (weighs : k ≡ weight x) (more : 0 < left) (e : ℕ) (ends : EndsAt s i e) where
-    pub row-forward : i ≤ e
-    row-forward = go (h .rest) row-front
-      where
-        go : (vs : Values) → Front s top i left vs → i ≤ e
-        go none f = absurd (omega (arith, f .counted))
-        go (w ▸ vs) f = omega (arith, ends w (front-value s top i left w vs f) (f .fits .0))
-
+  module _ {v k : ℕ} (value : ValueBelow s₀ top v x) (weighs : k ≡ weight x) (more : 0 < left) (e : ℕ) (ends : EndsAt s i e) where
     pub row-pair : to + weights (rowOf x ws) ≤ length s₀ → PairPre s v k i (e - i) at
-    row-pair room = go (h .rest) row-front (grown-left s₀ to s at (codes (rowOf x ws)) (codes (rowOf x (h .rest))) (h .grown))
-      where
-        go : (vs : Values) → Front s top i left vs → at + length (codes (rowOf x vs)) ≡ to + length (codes (rowOf x ws)) → PairPre s v k i (e - i) at
-        go none f q = absurd (omega (arith, f .counted))
-        go (w ▸ vs) f q =
-            let z : e ≡ i + weight w = ends w (front-value s top i left w vs f) (f .fits .0) in
-            let y : to ≤ at = omega (arith, h .grown .appended .ends) in
-            record {
-              left = omega (arith, value .below);
-              right = omega (arith, f .below);
-              room = omega (arith, length-codes (rowOf x ws), length-codes (rowOf x (w ▸ vs)), h .grown .appended .frame .kept);
-            }
+    row-pair room = walk-by h more e ends (PairPre s v k i (e - i) at) λ w us f₀ f g z.
+        let q = grown-left g in
+        let y : to ≤ at = omega (arith, g .appended .ends) in
+        record {
+          left = omega (arith, value .below, h .behind);
+          right = omega (arith, f .below, h .behind);
+          room = omega (arith, length-codes (rowOf x ws), length-codes (rowOf x (w ▸ us)), g .appended .frame .kept);
+        }
 
     pub row-next : (s′ : List ℕ) (r : ℕ) → PairPut s v k i (e - i) at s′ r → RowAt s₀ top x ws to s′ e (left - 1) r
-    row-next s′ r put = go (h .rest) (h .front) row-front (h .grown)
-      where
-        go : (vs : Values) → Front s₀ top i left vs → Front s top i left vs → Grown s₀ to s at (codes (rowOf x ws)) (codes (rowOf x vs)) →
-            RowAt s₀ top x ws to s′ e (left - 1) r
-        go none f₀ f g = absurd (omega (arith, f .counted))
-        go (w ▸ vs) f₀ f g =
-            let z : e ≡ i + weight w = ends w (front-value s top i left w vs f) (f .fits .0) in
-            record {
-              rest = vs;
-              front = front-next s₀ top i left w vs f₀ e (left - 1) z (omega arith);
-              grown = grown-step s₀ to s at (codes (rowOf x ws)) (code (pair x w)) (codes (rowOf x vs)) s′ r
-                  (subst (λ (c : List ℕ). Grown s₀ to s at (codes (rowOf x ws)) c) (row-more x w vs) g)
-                  (put x w (value-frame to s₀ s top v x (h .grown .appended .frame) behind value .stands) (front-value s top i left w vs f)
-                  weighs (omega arith));
-            }
+    unfolding code
+    row-next s′ r put = walk-next h more e ends s′ r λ w us f z.
+        let there = value-frame to s₀ s top v x (h .grown .appended .frame) (h .behind) value .stands in
+        (code (pair x w), refl, put x w there (front-value s top i left w us f) weighs (omega arith))
 
 -- The pairs of the members of two sets.
 abbrev pub square : Values → Values → Values
 square vs ws = values (pairsOf (members vs) (members ws))
 
-square-none : (ws : Values) → codes (square none ws) ≡ []
-unfolding code pairsOf
-square-none ws = refl
-
-square-more : (v : Value) (vs ws : Values) → square (v ▸ vs) ws ≡ values (map (pair v) (members ws) ++ pairsOf (members vs) (members ws))
-unfolding pairsOf
-square-more v vs ws = refl
-
 square-codes : (v : Value) (vs ws : Values) → codes (square (v ▸ vs) ws) ≡ codes (rowOf v ws) ++ codes (square vs ws)
-square-codes v vs ws = ap codes (square-more v vs ws) ∙ codes-append (map (pair v) (members ws)) (pairsOf (members vs) (members ws))
+unfolding pairsOf
+square-codes v vs ws = codes-append (map (pair v) (members ws)) (pairsOf (members vs) (members ws))
 
 pub square-weighs : (vs ws : Values) → weights (square vs ws) ≡ count vs * count ws + count ws * weights vs + count vs * weights ws
 unfolding pairsOf
@@ -122,78 +116,38 @@ square-count (v ▸ vs) ws =
     count-append (map (pair v) (members ws)) (pairsOf (members vs) (members ws)) ∙ omega (arith, row-count v ws, square-count vs ws)
 
 -- `rows`
-pub record SquareAt (s₀ : List ℕ) (top : ℕ) (vs ws : Values) (to : ℕ) (s : List ℕ) (i left at : ℕ) : Type 0 where
-  pub rest : Values
-  pub front : Front s₀ top i left rest
-  pub grown : Grown s₀ to s at (codes (square vs ws)) (codes (square rest ws))
+abbrev pub SquareAt : List ℕ → ℕ → Values → Values → ℕ → List ℕ → ℕ → ℕ → ℕ → Type 0
+SquareAt s₀ top vs ws to s i left at = WalkAt (λ us. codes (square us ws)) s₀ top vs to s i left at
 
-pub square-start : (s : List ℕ) (top : ℕ) (vs ws : Values) (a n to : ℕ) → to ≤ length s → Front s top a n vs → SquareAt s top vs ws to s a n to
-square-start s top vs ws a n to l h = record { rest = vs; front = h; grown = grown-start s to (codes (square vs ws)) l }
-
-module _ (s₀ : List ℕ) (top : ℕ) (vs ws : Values) (to : ℕ) (s : List ℕ) (i left at : ℕ) (behind : top ≤ to) (h : SquareAt s₀ top vs ws to s i left at) where
-  square-front : Front s top i left (h .rest)
-  square-front = front-frame to s₀ s top i left (h .rest) (h .grown .appended .frame) behind (h .front)
-
-  pub square-some : 0 < left → SomeAt s i
-  square-some l = front-some s top i left (h .rest) square-front l
-
+module _ {s₀ : List ℕ} {top : ℕ} {vs : Values} (ws : Values) {to : ℕ} {s : List ℕ} {i left at : ℕ} (h : SquareAt s₀ top vs ws to s i left at) where
   pub square-end : left ≤ 0 → Appended s₀ to s at (codes (square vs ws))
-  square-end l = go (h .rest) (h .front) (h .grown)
-    where
-      go : (us : Values) → Front s₀ top i left us → Grown s₀ to s at (codes (square vs ws)) (codes (square us ws)) → Appended s₀ to s at (codes (square vs ws))
-      go none f g = grown-end s₀ to s at (codes (square vs ws)) (subst (λ (c : List ℕ). Grown s₀ to s at (codes (square vs ws)) c) (square-none ws) g)
-      go (w ▸ us) f g = absurd (omega (arith, f .counted))
+  unfolding code pairsOf
+  square-end l = walk-end h l refl
 
-  module _ (b m : ℕ) (others : Front s₀ top b m ws) (more : 0 < left) (e : ℕ) (ends : EndsAt s i e) where
-    pub square-forward : i ≤ e
-    square-forward = go (h .rest) square-front
-      where
-        go : (us : Values) → Front s top i left us → i ≤ e
-        go none f = absurd (omega (arith, f .counted))
-        go (w ▸ us) f = omega (arith, ends w (front-value s top i left w us f) (f .fits .0))
+  module _ {b m : ℕ} (others : Front s₀ top b m ws) (more : 0 < left) (e : ℕ) (ends : EndsAt s i e) where
+    -- the members of the second set, as they stand now
+    others-now : Front s top b m ws
+    others-now = front-frame to s₀ s top b m ws (h .grown .appended .frame) (h .behind) others
 
     pub square-row : to + weights (square vs ws) ≤ length s₀ → RowPre s i (e - i) b m at
-    square-row room = go (h .rest) square-front (grown-left s₀ to s at (codes (square vs ws)) (codes (square (h .rest) ws)) (h .grown))
-      where
-        go : (us : Values) → Front s top i left us → at + length (codes (square us ws)) ≡ to + length (codes (square vs ws)) → RowPre s i (e - i) b m at
-        go none f q = absurd (omega (arith, f .counted))
-        go (w ▸ us) f q =
-            let z : e ≡ i + weight w = ends w (front-value s top i left w us f) (f .fits .0) in
-            let y : to ≤ at = omega (arith, h .grown .appended .ends) in
-            record {
-              top = top;
-              first = w;
-              others = ws;
-              value = front-below s top i left w us f;
-              weighs = omega arith;
-              front = front-frame to s₀ s top b m ws (h .grown .appended .frame) behind others;
-              behind = omega arith;
-              room = omega (
-                arith,
-                length-codes (square vs ws),
-                length-codes (square (w ▸ us) ws),
-                h .grown .appended .frame .kept,
-                ap weights (square-more w us ws),
-                weights-append (map (pair w) (members ws)) (pairsOf (members us) (members ws)),
-              );
-            }
+    square-row room = walk-by h more e ends (RowPre s i (e - i) b m at) λ w us f₀ f g z.
+        let q = grown-left g in
+        let k = ap length (square-codes w us ws) ∙ length-append (codes (rowOf w ws)) (codes (square us ws)) in
+        record {
+          top = top;
+          first = w;
+          others = ws;
+          value = front-below s top i left w us f;
+          weighs = omega arith;
+          front = others-now;
+          behind = omega (arith, g .appended .ends, h .behind);
+          room = omega (arith, q, k, length-codes (square vs ws), length-codes (rowOf w ws), g .appended .frame .kept);
+        }
 
     pub square-next : (s′ : List ℕ) (r : ℕ) → Rows s i (e - i) b m at s′ r → SquareAt s₀ top vs ws to s′ e (left - 1) r
-    square-next s′ r put = go (h .rest) (h .front) square-front (h .grown)
-      where
-        go : (us : Values) → Front s₀ top i left us → Front s top i left us → Grown s₀ to s at (codes (square vs ws)) (codes (square us ws)) →
-            SquareAt s₀ top vs ws to s′ e (left - 1) r
-        go none f₀ f g = absurd (omega (arith, f .counted))
-        go (w ▸ us) f₀ f g =
-            let z : e ≡ i + weight w = ends w (front-value s top i left w us f) (f .fits .0) in
-            record {
-              rest = us;
-              front = front-next s₀ top i left w us f₀ e (left - 1) z (omega arith);
-              grown = grown-step s₀ to s at (codes (square vs ws)) (codes (rowOf w ws)) (codes (square us ws)) s′ r
-                  (subst (λ (c : List ℕ). Grown s₀ to s at (codes (square vs ws)) c) (square-codes w us ws) g)
-                  (put top w ws (front-below s top i left w us f) (omega arith) (front-frame to s₀ s top b m ws (h .grown .appended .frame) behind others)
-                  (omega (arith, h .grown .appended .ends)));
-            }
+    square-next s′ r put = walk-next h more e ends s′ r λ w us f z.
+        let a = put top w ws (front-below s top i left w us f) (omega arith) others-now (omega (arith, h .grown .appended .ends, h .behind)) in
+        (codes (rowOf w ws), square-codes w us ws, a)
 
 -- `product`
 -- Where two sets end, and how many members they have.
@@ -203,11 +157,11 @@ pub record Sizes (s : List ℕ) (a b d e n m : ℕ) : Type 0 where
   pub low : n ≡ getD s a 0 % 4294967296
   pub low′ : m ≡ getD s b 0 % 4294967296
 
-module _ (s : List ℕ) (top a b d e n m : ℕ) (given : Sizes s a b d e n m) where
+module _ {s : List ℕ} {top a b d e n m : ℕ} (given : Sizes s a b d e n m) where
   -- numbers and cells of the members
-  pub product-sizes : (vs ws : Values) → SetBelow s top a vs → SetBelow s top b ws →
+  pub product-sizes : {vs ws : Values} → SetBelow s top a vs → SetBelow s top b ws →
       (n ≡ count vs) × (m ≡ count ws) × (d - a - 1 ≡ weights vs) × (e - b - 1 ≡ weights ws) × (n ≤ 255) × (m ≤ 255) × (d - a - 1 ≤ 255) × (e - b - 1 ≤ 255)
-  product-sizes vs ws h k =
+  product-sizes {vs} {ws} h k =
       let f = front-start s top a vs h n (given .low) in
       let g = front-start s top b ws k m (given .low′) in
       let x = set-end s top a vs h d (given .ends) in
@@ -222,34 +176,31 @@ module _ (s : List ℕ) (top a b d e n m : ℕ) (given : Sizes s a b d e n m) wh
         omega (arith, g .light),
       )
 
-  product-weighs : (vs ws : Values) → SetBelow s top a vs → SetBelow s top b ws → weights (square vs ws) ≡ n * m + m * (d - a - 1) + n * (e - b - 1)
-  product-weighs vs ws h k =
-      let z = product-sizes vs ws h k in
-      square-weighs vs ws ∙ rw (z .0, z .1, z .2, z .3)
+  product-weighs : {vs ws : Values} → SetBelow s top a vs → SetBelow s top b ws → weights (square vs ws) ≡ n * m + m * (d - a - 1) + n * (e - b - 1)
+  product-weighs {vs} {ws} h k = let z = product-sizes h k in square-weighs vs ws ∙ rw (z .0, z .1, z .2, z .3)
 
-  pub product-heavy : 256 < 1 + n * m + m * (d - a - 1) + n * (e - b - 1) → (vs ws : Values) → SetBelow s top a vs → SetBelow s top b ws →
+  pub product-heavy : 256 < 1 + n * m + m * (d - a - 1) + n * (e - b - 1) → {vs ws : Values} → SetBelow s top a vs → SetBelow s top b ws →
       Made top s s (setOf (pairsOf (members vs) (members ws))) 0
-  product-heavy l vs ws h k = made-heavy s top (set (square vs ws)) (omega (arith, product-weighs vs ws h k))
+  product-heavy l h k = made-heavy (omega (arith, product-weighs h k))
 
   module _ (room : top + 514 ≤ length s) (light : 1 + n * m + m * (d - a - 1) + n * (e - b - 1) ≤ 256) where
-    pub product-pre : (vs ws : Values) → SetBelow s top a vs → SetBelow s top b ws → SquarePre s (a + 1) n (b + 1) m (top + 1)
-    product-pre vs ws h k = record {
+    pub product-pre : {vs ws : Values} → SetBelow s top a vs → SetBelow s top b ws → SquarePre s (a + 1) n (b + 1) m (top + 1)
+    product-pre {vs} {ws} h k = record {
       top = top;
       lefts = vs;
       rights = ws;
       front = front-start s top a vs h n (given .low);
       others = front-start s top b ws k m (given .low′);
       behind = omega arith;
-      room = omega (arith, product-weighs vs ws h k);
+      room = omega (arith, product-weighs h k);
     }
 
-    pub product-made : (s′ : List ℕ) (r : ℕ) → Squares s (a + 1) n (b + 1) m (top + 1) s′ r → (vs ws : Values) → SetBelow s top a vs → SetBelow s top b ws →
+    pub product-made : (s′ : List ℕ) (r : ℕ) → Squares s (a + 1) n (b + 1) m (top + 1) s′ r → {vs ws : Values} → SetBelow s top a vs → SetBelow s top b ws →
         Made top s (setAt s′ top (21474836480 + n * m)) (setOf (pairsOf (members vs) (members ws))) r
-    product-made s′ r put vs ws h k =
-        let z = product-sizes vs ws h k in
-        made-set s top s′ r (n * m) (square vs ws)
-        (put top vs ws (front-start s top a vs h n (given .low)) (front-start s top b ws k m (given .low′)) (omega arith))
-        (sym (square-count vs ws ∙ rw (z .0, z .1))) (omega arith) (omega (arith, product-weighs vs ws h k))
+    product-made s′ r put {vs} {ws} h k =
+        let z = product-sizes h k in
+        made-set _ _ _ _ _ _ (put top vs ws (front-start s top a vs h n (given .low)) (front-start s top b ws k m (given .low′)) (omega arith))
+        (sym (square-count vs ws ∙ rw (z .0, z .1))) (omega arith) (omega (arith, product-weighs h k))
 
 -- products of two numbers that are small
 pub small-product : (n m : ℕ) → n ≤ 255 → m ≤ 255 → n * m ≤ 65025

@@ -21,9 +21,7 @@ abbrev relation : tie.After-low → tie.Else1
 relation n = n .before .before
 
 lefts-requires : tie.Need-lefts-requires
-lefts-requires c κs =
-    let n = c .before in
-    relation-few _ _ (fits (relation n)) _ _ _ (n .low .ensures .0) (lent (relation n) .pre) (c .few .ensures)
+lefts-requires c κs = let n = c .before in relation-few _ _ (fits (relation n)) _ _ _ (n .low .ensures .0) (lent (relation n) .pre) (c .few .ensures)
 
 returns-2 : tie.Need-returns-2
 returns-2 c =

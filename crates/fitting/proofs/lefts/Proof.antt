@@ -17,13 +17,10 @@ abbrev μ-loop : tie.MeasureT-loop
 μ-loop s a n b i₀ left₀ i left = left
 
 -- A turn of the loop, and the first of the pairs that are left.
-abbrev Turn : Type 0
-Turn = tie.In-loop Inv-loop μ-loop
-
-abbrev lent : Turn → tie.Start Inv-loop μ-loop
+abbrev lent : tie.In-loop Inv-loop μ-loop → tie.Start Inv-loop μ-loop
 lent l = l .before .before .before
 
-first : (l : Turn) → SomeTyped (lent l .args .s .now) (l .before .loop .i) × SomeTyped (lent l .args .s .now) (l .before .loop .i + 1)
+first : (l : tie.In-loop Inv-loop μ-loop) → SomeTyped (lent l .args .s .now) (l .before .loop .i) × SomeTyped (lent l .args .s .now) (l .before .loop .i + 1)
 first l = pairs-first _ _ _ _ (l .before .loop .inv .0) (l .loop-test .taken)
 
 returns : tie.Need-returns Inv-loop μ-loop

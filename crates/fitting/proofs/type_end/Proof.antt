@@ -16,17 +16,14 @@ abbrev μ-loop : tie.MeasureT-loop
 μ-loop row from i₀ left₀ i left = length row - i
 
 -- A turn of the loop, the types that are left, and those behind the next code.
-abbrev Turn : Type 0
-Turn = tie.In-loop Inv-loop μ-loop
-
-abbrev lent : Turn → tie.Start Inv-loop μ-loop
+abbrev lent : tie.In-loop Inv-loop μ-loop → tie.Start Inv-loop μ-loop
 lent l = l .before .before .before
 
-pending : (l : Turn) →
+pending : (l : tie.In-loop Inv-loop μ-loop) →
     PendingTypes (lent l .args .row .now) (l .before .loop .i) (l .before .loop .left) (lent l .args .from + weightᵀ (lent l .pre .0))
 pending l = l .before .loop .inv (lent l .pre .0) (lent l .pre .1)
 
-inside : (l : Turn) → l .before .loop .i < length (lent l .args .row .now)
+inside : (l : tie.In-loop Inv-loop μ-loop) → l .before .loop .i < length (lent l .args .row .now)
 inside l = types-inside _ _ _ _ (pending l) (l .loop-test .taken)
 
 add-left : tie.Need-add-left Inv-loop μ-loop

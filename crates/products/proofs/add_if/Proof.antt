@@ -8,17 +8,11 @@ use Rattle.products.proofs.add_if.Tie as tie
 abbrev put : tie.After-slice-known2 → tie.After-add
 put m = m .before .before
 
-add-requires : tie.Need-add-requires
-add-requires c κs = c .before .before .before .pre (c .before .if1 .taken)
-
-same-length : tie.Need-same-length
-same-length c = search needs
-
-returns : tie.Need-returns
-returns c = let m = put c in inl (m .before .before .if1 .taken, m .add .ensures)
-
-returns-2 : tie.Need-returns-2
-returns-2 c = inr (c .if1 .left, refl, refl)
-
 pub add-if-spec : {M : Type 1} → statement M
-add-if-spec = tie.close (tie.spec add-requires same-length returns returns-2)
+add-if-spec =
+    tie.close
+    (tie.spec
+    (λ c κs. c .before .before .before .pre (c .before .if1 .taken))
+    (λ c. search needs)
+    (λ c. let m = put c in inl (m .before .before .if1 .taken, m .add .ensures))
+    (λ c. inr (c .if1 .left, refl, refl)))

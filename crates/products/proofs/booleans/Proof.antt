@@ -8,14 +8,10 @@ use borrow.Author.Needs.{needs}
 use Rattle.products.proofs.booleans.Statement.{statement}
 use Rattle.products.proofs.booleans.Tie as tie
 
-run-requires : tie.Need-run-requires
-run-requires c κs = search needs
-
-same-length : tie.Need-same-length
-same-length c = search needs
-
-returns : tie.Need-returns
-returns c = c .before .before .run .ensures (values (truthValue false ∷ truthValue true ∷ [])) refl booleans-cells
-
 pub booleans-spec : {M : Type 1} → statement M
-booleans-spec = tie.close (tie.spec run-requires same-length returns)
+booleans-spec =
+    tie.close
+    (tie.spec
+    (λ c κs. search needs)
+    (λ c. search needs)
+    (λ c. c .before .before .run .ensures (values (truthValue false ∷ truthValue true ∷ [])) refl booleans-cells))

@@ -26,43 +26,38 @@ abbrev finding : (l : Turn) → (let a = lent l .args in Finding (a .s .now) (le
 finding l = let q = lent l .pre in l .loop .inv (q .value) (q .others) (q .stands) (q .fits) (q .members)
 
 -- The order of the value and the member is known.
-abbrev Ordered : Type 0
-Ordered = tie.After-compare Inv-loop μ-loop
-
-abbrev turn : Ordered → Turn
+abbrev turn : tie.After-compare Inv-loop μ-loop → Turn
 turn m = m .before .before
 
 compare-requires : tie.Need-compare-requires Inv-loop μ-loop
 compare-requires c κs =
     let q = lent (c .before) .pre in
-    (record { value = q .value; stands = q .stands; fits = q .fits }, finding-some _ _ _ _ _ _ (finding (c .before)) (c .loop-test .taken), q .ends)
+    (record { value = q .value; stands = q .stands; fits = q .fits }, finding-some (finding (c .before)) (c .loop-test .taken), q .ends)
 
 returns : tie.Need-returns Inv-loop μ-loop
 returns c = λ v zs h f m.
     let q = c .before in
-    finding-here _ v _ _ zs _ (turn q .loop .inv v zs h f m) (q .before .loop-test .taken) _ _ h f (q .compare .ensures) (omega (arith, c .if1 .taken))
+    finding-here (turn q .loop .inv v zs h f m) (q .before .loop-test .taken) _ h f (q .compare .ensures) (omega (arith, c .if1 .taken))
 
 loop-less : tie.Need-loop-less Inv-loop μ-loop
 loop-less c =
     let q = c .before .before in
-    omega (arith, q .before .loop-test .taken, finding-on _ _ _ _ _ _ (finding (turn q)) (q .before .loop-test .taken) _ (c .end-of .ensures))
+    omega (arith, q .before .loop-test .taken, finding-on (finding (turn q)) (q .before .loop-test .taken) _ (c .end-of .ensures))
 
 loop-again : tie.Need-loop-again Inv-loop μ-loop
 loop-again c = λ v zs h f m.
     let q = c .before .before in
-    finding-next _ v _ _ zs _ (turn q .loop .inv v zs h f m) (q .before .loop-test .taken) _ _ h f (q .compare .ensures)
+    finding-next (turn q .loop .inv v zs h f m) (q .before .loop-test .taken) _ h f (q .compare .ensures)
     (omega (arith, c .before .if1 .left)) _ (c .end-of .ensures)
 
 pub find-spec : {M : Type 1} → statement M
 find-spec =
     tie.close
-    (tie.spec
-    Inv-loop
-    μ-loop
+    (tie.spec Inv-loop μ-loop
     (λ c. λ v zs h f m. finding-start _ v _ _ zs m)
     compare-requires
     returns
-    (λ c κs. let q = c .before in finding-some _ _ _ _ _ _ (finding (turn q)) (q .before .loop-test .taken))
+    (λ c κs. let q = c .before in finding-some (finding (turn q)) (q .before .loop-test .taken))
     loop-less
     loop-again
-    (λ c. λ v zs h f m. finding-end _ v _ _ zs _ (c .before .loop .inv v zs h f m) (c .loop-test .left)))
+    (λ c. λ v zs h f m. finding-end (c .before .loop .inv v zs h f m) (c .loop-test .left)))

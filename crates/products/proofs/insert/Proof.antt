@@ -7,17 +7,14 @@ use Rattle.products.proofs.insert.Statement.{statement}
 use Rattle.products.proofs.insert.Tie as tie
 
 -- The place is known.
-abbrev Found : Type 0
-Found = tie.After-place-for
-
-abbrev lent : Found → tie.Start
+abbrev lent : tie.After-place-for → tie.Start
 lent m = m .before .before .before
 
-near : (m : Found) → (let a = lent m .args in Near (a .s .now) (a .p) (a .end) (a .o) (m .place-for .result .at))
+near : (m : tie.After-place-for) → (let a = lent m .args in Near (a .s .now) (a .p) (a .end) (a .o) (m .place-for .result .at))
 near m = insert-near _ _ _ _ _ _ (lent m .pre) (m .place-for .ensures)
 
 -- The members behind the place have been moved; the value has been copied into the gap.
-abbrev moved : tie.After-shift → Found
+abbrev moved : tie.After-shift → tie.After-place-for
 moved m = m .before .before .before
 
 abbrev gap : tie.After-copy-arg → tie.After-shift
@@ -39,7 +36,7 @@ returns-2 c = λ v xs h b.
     let m = moved g in
     let k = near m in
     let e = lent m .pre .ends v (h .stands) (h .fits) in
-    inserts-put _ _ _ _ v _ h b _ (m .place-for .ensures v xs h b) _ (omega arith) (k .room) _ _ (g .shift .ensures) (f .copy .ensures)
+    inserts-put h b (m .place-for .ensures v xs h b) (omega arith) (k .room) (g .shift .ensures) (f .copy .ensures)
     (g .before .before .if1 .left) _ (c .before .moved-last .ensures)
 
 pub insert-spec : {M : Type 1} → statement M
@@ -48,7 +45,7 @@ insert-spec =
     (tie.spec
     (λ c κs. search needs)
     (λ c. search needs)
-    (λ c. λ v xs h b. let m = c .before in inserts-none _ _ _ _ v _ h b _ (m .place-for .ensures v xs h b) (c .if1 .taken))
+    (λ c. λ v xs h b. let m = c .before in inserts-none h b (m .place-for .ensures v xs h b) (c .if1 .taken))
     (λ c. near (c .before) .forward)
     (λ c. near (c .before .before) .inside)
     (λ c κs. let k = near (c .before .before) in omega arith)

@@ -5,14 +5,6 @@ use borrow.Author.Needs.{needs}
 use Rattle.products.proofs.interval.Statement.{statement}
 use Rattle.products.proofs.interval.Tie as tie
 
-returns : tie.Need-returns
-returns c =
-    let m = c .before .before in interval-made _ _ _ _ _ _ _ (omega (arith, m .before .before .if1 .taken)) (m .run .ensures)
-
-returns-3 : tie.Need-returns-3
-returns-3 c =
-    let m = c .before .before in interval-made _ _ _ _ _ _ _ (omega (arith, m .before .before .before .if1 .left)) (m .run2 .ensures)
-
 pub interval-spec : {M : Type 1} → statement M
 interval-spec =
     tie.close
@@ -20,10 +12,10 @@ interval-spec =
     (λ c. search needs)
     (λ c κs. search needs)
     (λ c. search needs)
-    returns
+    (λ c. let m = c .before .before in interval-made _ _ _ _ _ _ _ (omega (arith, m .before .before .if1 .taken)) (m .run .ensures))
     (λ c. interval-heavy _ _ _ _ (c .if2 .taken))
     (λ c. search needs)
     (λ c. search needs)
     (λ c κs. search needs)
     (λ c. search needs)
-    returns-3)
+    (λ c. let m = c .before .before in interval-made _ _ _ _ _ _ _ (omega (arith, m .before .before .before .if1 .left)) (m .run2 .ensures)))

@@ -30,21 +30,19 @@ turn m = m .before .before
 loop-again : tie.Need-loop-again Inv-loop μ-loop
 loop-again c = λ top vs f.
     let l = turn c in
-    marking-next _ top _ _ vs _ _ (l .loop .inv top vs f) (c .before .loop-test .taken) (lent l .pre .few) _ (c .end-of .ensures)
+    marking-next (l .loop .inv top vs f) (c .before .loop-test .taken) (lent l .pre .few) _ (c .end-of .ensures)
 
 pub marks-spec : {M : Type 1} → statement M
 marks-spec =
     tie.close
-    (tie.spec
-    Inv-loop
-    μ-loop
+    (tie.spec Inv-loop μ-loop
     (λ c. λ top vs f. marking-start _ top _ _ vs _ refl refl f)
     (λ c. omega (arith, c .loop-test .taken, lent (c .before) .pre .few))
     (λ c. omega (arith, c .loop-test .taken, lent (c .before) .pre .few))
-    (λ c κs. marking-some _ _ _ _ _ _ _ (known (c .before)) (c .loop-test .taken))
+    (λ c κs. marking-some (known (c .before)) (c .loop-test .taken))
     (λ c. omega (arith, c .before .loop-test .taken, lent (turn c) .pre .few))
     (λ c. omega (arith, c .before .loop-test .taken, lent (turn c) .pre .few))
     (λ c. omega (arith, c .before .loop-test .taken, lent (turn c) .pre .few))
     (λ c. omega (arith, c .before .loop-test .taken))
     loop-again
-    (λ c. λ top vs f. marking-end _ top _ _ vs _ _ (c .before .loop .inv top vs f) (c .loop-test .left)))
+    (λ c. λ top vs f. marking-end (c .before .loop .inv top vs f) (c .loop-test .left)))

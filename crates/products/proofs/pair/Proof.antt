@@ -1,16 +1,13 @@
 -- `pair`: the pair of two values, unless it is too heavy.
 use native.Mathlib.Omega.{arith}
 use Rattle.arena.proofs.FrontLaws.{value-some, value-end}
-use Rattle.products.proofs.GrowLaws.{pair-pre, pair-made, pair-heavy}
+use Rattle.products.proofs.GrowLaws.{pair-sizes, pair-pre, pair-made, pair-heavy}
 use borrow.Author.Needs.{needs}
 use Rattle.products.proofs.pair.Statement.{statement}
 use Rattle.products.proofs.pair.Tie as tie
 
 -- Where both values end is known; what was lent, and how much they weigh.
-abbrev Ended : Type 0
-Ended = tie.After-end-of2
-
-abbrev first : Ended → tie.After-end-of
+abbrev first : tie.After-end-of2 → tie.After-end-of
 first m = m .before .before
 
 abbrev lent : tie.After-end-of → tie.Start
@@ -19,30 +16,23 @@ lent m = m .before .before .before
 abbrev put : tie.After-slice-known2 → tie.After-pair-at
 put m = m .before .before
 
-abbrev light : tie.After-pair-at-arg → tie.Else1
-light m = m .before
-
 add-if1 : tie.Need-add-if1
 add-if1 c =
-    let v = lent (first c) .pre .0 .1 in
-    let w = lent (first c) .pre .1 .1 in
-    omega (arith, value-end _ _ _ _ _ v (first c .end-of .ensures), value-end _ _ _ _ _ w (c .end-of2 .ensures), v .light, w .light)
-
-returns : tie.Need-returns
-returns c = λ v w h k.
-    let m = c .before in pair-heavy _ _ _ _ _ _ (first m .end-of .ensures) (m .end-of2 .ensures) (c .if1 .taken) v w h k
+    let q = lent (first c) .pre in
+    let z = pair-sizes _ _ (first c .end-of .ensures) (c .end-of2 .ensures) (q .0 .1) (q .1 .1) in
+    omega (arith, q .0 .1 .light, q .1 .1 .light)
 
 pair-at-requires : tie.Need-pair-at-requires
 pair-at-requires c κs =
-    let m = light c .before in
+    let m = c .before .before in
     let q = lent (first m) .pre in
-    pair-pre _ _ _ _ _ _ (q .2) (first m .end-of .ensures) (m .end-of2 .ensures) (light c .if1 .left) _ _ (q .0 .1) (q .1 .1)
+    pair-pre _ _ (first m .end-of .ensures) (m .end-of2 .ensures) (q .0 .1) (q .1 .1) (q .2) (c .before .if1 .left)
 
 returns-2 : tie.Need-returns-2
 returns-2 c = λ v w h k.
-    let l = light (put c .before) in
+    let l = put c .before .before in
     let m = l .before in
-    pair-made _ _ _ _ _ _ _ _ (first m .end-of .ensures) (m .end-of2 .ensures) (l .if1 .left) (put c .pair-at .ensures) v w h k
+    pair-made _ _ (first m .end-of .ensures) (m .end-of2 .ensures) h k (l .if1 .left) (put c .pair-at .ensures)
 
 pub pair-spec : {M : Type 1} → statement M
 pair-spec =
@@ -54,7 +44,7 @@ pair-spec =
     (λ c. omega (arith, value-end _ _ _ _ _ (lent (first c) .pre .1 .1) (c .end-of2 .ensures)))
     add-if1
     (λ c. search needs)
-    returns
+    (λ c. λ v w h k. let m = c .before in pair-heavy _ _ (first m .end-of .ensures) (m .end-of2 .ensures) h k (c .if1 .taken))
     pair-at-requires
     (λ c. search needs)
     returns-2)

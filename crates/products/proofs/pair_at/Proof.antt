@@ -9,13 +9,10 @@ use Rattle.products.proofs.pair_at.Statement.{statement}
 use Rattle.products.proofs.pair_at.Tie as tie
 
 -- The first part has been copied, then the second; what was lent, and that it keeps its length.
-abbrev First : Type 0
-First = tie.After-copy
-
 abbrev lent : tie.After-copy-arg → tie.Start
 lent m = m .before .before
 
-abbrev first : tie.After-copy-arg2 → First
+abbrev first : tie.After-copy-arg2 → tie.After-copy
 first m = m .before .before .before
 
 abbrev both : tie.After-slice-known3 → tie.After-copy2
@@ -25,9 +22,7 @@ kept : (m : tie.After-copy-arg) → (let a = lent m .args in length (setAt (a .s
 kept m = let a = lent m .args in length-set (a .s .now) (a .to) 17179869184
 
 copy-requires : tie.Need-copy-requires
-copy-requires c κs =
-    let q = lent c .pre in
-    (omega (arith, q .left, q .room, kept c), omega (arith, q .room, kept c), inl (omega (arith, q .left)))
+copy-requires c κs = let q = lent c .pre in (omega (arith, q .left, q .room, kept c), omega (arith, q .room, kept c), inl (omega (arith, q .left)))
 
 copy-requires-2 : tie.Need-copy-requires-2
 copy-requires-2 c κs =
@@ -35,10 +30,6 @@ copy-requires-2 c κs =
     let q = lent (m .before) .pre in
     let k = m .copy .ensures .kept in
     (omega (arith, q .right, q .room, kept (m .before)), omega (arith, q .room, kept (m .before)), inl (omega (arith, q .right)))
-
-same-length : tie.Need-same-length
-same-length c =
-    let m = first (both c .before) in omega (arith, m .copy .ensures .kept, both c .copy2 .ensures .kept, kept (m .before))
 
 returns : tie.Need-returns
 returns c = λ v w h k e f.
@@ -59,5 +50,5 @@ pair-at-spec =
     (λ c. search needs)
     (λ c. search needs)
     (λ c. search needs)
-    same-length
+    (λ c. let m = first (both c .before) in omega (arith, m .copy .ensures .kept, both c .copy2 .ensures .kept, kept (m .before)))
     returns)

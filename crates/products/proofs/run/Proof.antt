@@ -1,7 +1,7 @@
 -- `run`: cells that follow one another, behind the cell of their set.
-use borrow.Author.Needs.{needs}
 use Prim.Native.Nat.{_-_}
 use native.Mathlib.Omega.{arith}
+use borrow.Author.Needs.{needs}
 use Rattle.products.proofs.GrowLaws.{Running, running-start, running-inside, running-next, running-end}
 use Rattle.products.proofs.run.Statement.{statement}
 use Rattle.products.proofs.run.Tie as tie
@@ -12,40 +12,21 @@ Inv-loop s₀ cell n top to₀ i₀ s to i = Running s₀ cell n top s to i
 abbrev μ-loop : tie.MeasureT-loop
 μ-loop s₀ cell n top to₀ i₀ s to i = n - i
 
-mul-s : tie.Need-mul-s Inv-loop μ-loop
-mul-s c = omega (arith, running-inside _ _ _ _ _ _ _ (c .before .loop .inv) (c .before .before .pre .room) (c .before .before .pre .few) (c .loop-test .taken))
-
-slice-write-s : tie.Need-slice-write-s Inv-loop μ-loop
-slice-write-s c = running-inside _ _ _ _ _ _ _ (c .before .loop .inv) (c .before .before .pre .room) (c .before .before .pre .few) (c .loop-test .taken)
-
-add-to-2 : tie.Need-add-to-2 Inv-loop μ-loop
-add-to-2 c =
-    let q = c .before .before .pre in
-    omega (arith, running-inside _ _ _ _ _ _ _ (c .before .loop .inv) (q .room) (q .few) (c .loop-test .taken))
-
-loop-again : tie.Need-loop-again Inv-loop μ-loop
-loop-again c = running-next _ _ _ _ _ _ _ (c .before .loop .inv) (c .before .before .pre .room) (c .before .before .pre .few) (c .loop-test .taken)
-
-returns : tie.Need-returns Inv-loop μ-loop
-returns c = λ vs e q. running-end _ _ _ _ _ _ _ (c .before .loop .inv) (c .before .before .pre .room) (c .before .before .pre .few) (c .loop-test .left) vs e q
-
 pub run-spec : {M : Type 1} → statement M
 run-spec =
     tie.close
-    (tie.spec
-    Inv-loop
-    μ-loop
+    (tie.spec Inv-loop μ-loop
     (λ c. search needs)
-    (λ c. running-start _ _ _ _ (c .pre .room))
+    (λ c. running-start _ _ _ _ (c .pre))
     (λ c. omega (arith, c .before .before .pre .fits, c .before .before .pre .few, c .loop-test .taken))
-    mul-s
-    slice-write-s
-    add-to-2
+    (λ c. omega (arith, running-inside (c .before .loop .inv) (c .loop-test .taken)))
+    (λ c. running-inside (c .before .loop .inv) (c .loop-test .taken))
+    (λ c. omega (arith, running-inside (c .before .loop .inv) (c .loop-test .taken)))
     (λ c. omega (arith, c .before .before .pre .few, c .loop-test .taken))
     (λ c. omega (arith, c .loop-test .taken))
-    loop-again
+    (λ c. running-next (c .before .loop .inv) (c .loop-test .taken))
     (λ c. omega (arith, c .before .before .pre .few))
     (λ c. omega (arith, c .before .before .pre .room, c .before .loop .inv .grown .appended .frame .kept))
     (λ c. omega (arith, c .before .before .pre .room, c .before .loop .inv .grown .appended .frame .kept))
     (λ c. search needs)
-    returns)
+    (λ c. λ vs e q. running-end (c .before .loop .inv) (c .loop-test .left) vs e q))

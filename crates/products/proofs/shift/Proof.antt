@@ -12,16 +12,12 @@ abbrev μ-loop : tie.MeasureT-loop
 μ-loop s₀ from m n left₀ s left = left
 
 loop-again : tie.Need-loop-again Inv-loop μ-loop
-loop-again c =
-    let l = c .before .before in
-    shifting-next _ _ _ _ _ _ (l .loop .inv) (c .before .loop-test .taken) (l .before .pre) _ refl
+loop-again c = let l = c .before .before in shifting-next (l .loop .inv) (c .before .loop-test .taken) (l .before .pre) _ refl
 
 pub shift-spec : {M : Type 1} → statement M
 shift-spec =
     tie.close
-    (tie.spec
-    Inv-loop
-    μ-loop
+    (tie.spec Inv-loop μ-loop
     (λ c. shifting-start _ _ _ _)
     (λ c. omega arith)
     (λ c. omega arith)
@@ -33,4 +29,4 @@ shift-spec =
     (λ c. omega arith)
     loop-again
     (λ c. c .before .loop .inv .kept)
-    (λ c. shifting-end _ _ _ _ _ _ (c .before .loop .inv) (c .loop-test .left)))
+    (λ c. shifting-end (c .before .loop .inv) (c .loop-test .left)))

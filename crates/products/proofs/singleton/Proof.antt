@@ -8,28 +8,22 @@ use Rattle.products.proofs.singleton.Statement.{statement}
 use Rattle.products.proofs.singleton.Tie as tie
 
 -- Where the value ends is known; what was lent. The value has been copied.
-abbrev Ended : Type 0
-Ended = tie.After-end-of
-
-abbrev lent : Ended → tie.Start
+abbrev lent : tie.After-end-of → tie.Start
 lent m = m .before .before .before
-
-abbrev light : tie.After-copy-arg → tie.Else1
-light m = m .before
 
 abbrev put : tie.After-slice-known2 → tie.After-copy
 put m = m .before .before
 
 copy-requires : tie.Need-copy-requires
 copy-requires c κs =
-    let m = light c .before in
+    let m = c .before .before in
     let v = lent m .pre .0 .1 in
     let e = value-end _ _ _ _ _ v (m .end-of .ensures) in
-    (omega (arith, v .below), omega (arith, light c .if1 .left), inl (omega (arith, v .below)))
+    (omega (arith, v .below), omega (arith, c .before .if1 .left), inl (omega (arith, v .below)))
 
 returns-2 : tie.Need-returns-2
 returns-2 c = λ v h.
-    let l = light (put c .before) in
+    let l = put c .before .before in
     let m = l .before in
     single-made _ _ _ _ _ (lent m .pre .1) (m .end-of .ensures) (l .if1 .left) (put c .copy .ensures) v h
 

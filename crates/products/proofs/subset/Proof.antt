@@ -17,21 +17,18 @@ abbrev μ-loop : tie.MeasureT-loop
 μ-loop s₀ at n mask to j₀ m₀ o₀ s j m o = n - j
 
 -- A turn of the loop, what it was lent, and what it knows.
-abbrev Turn : Type 0
-Turn = tie.At-loop Inv-loop μ-loop
-
-abbrev lent : Turn → tie.Start Inv-loop μ-loop
+abbrev lent : tie.At-loop Inv-loop μ-loop → tie.Start Inv-loop μ-loop
 lent l = l .before .before
 
-abbrev known : (l : Turn) → (let a = lent l .args in
+abbrev known : (l : tie.At-loop Inv-loop μ-loop) → (let a = lent l .args in
     SubsetAt (a .s .now) (a .at .now) (a .n) (lent l .pre .whole) (a .mask) (a .to) (l .loop .s) (l .loop .j) (l .loop .m) (l .loop .o))
 known l = let q = lent l .pre in l .loop .inv (q .whole) (q .marked)
 
-near : (l : Turn) → (l .loop .o .count ≤ 255) × (length (l .loop .s) ≡ length (lent l .args .s .now))
-near l = let q = lent l .pre in subset-near _ _ _ _ _ _ (q .marked) (q .room) _ _ _ _ (known l)
+near : (l : tie.At-loop Inv-loop μ-loop) → (l .loop .o .count ≤ 255) × (length (l .loop .s) ≡ length (lent l .args .s .now))
+near l = let q = lent l .pre in subset-near (q .marked) (q .room) (known l)
 
 -- Where the member ends is read; it has been put.
-abbrev turn : tie.After-from Inv-loop μ-loop → Turn
+abbrev turn : tie.After-from Inv-loop μ-loop → tie.At-loop Inv-loop μ-loop
 turn m = m .before .before
 
 abbrev read : tie.After-add-if Inv-loop μ-loop → tie.After-end Inv-loop μ-loop
@@ -44,27 +41,25 @@ add-if-requires : tie.Need-add-if-requires Inv-loop μ-loop
 add-if-requires c κs = λ k.
     let q = c .before .before in
     let l = turn q in
-    subset-add _ _ _ _ _ _ (lent l .pre .marked) (lent l .pre .room) _ _ _ _ (known l) (q .before .loop-test .taken) k
+    subset-add (lent l .pre .marked) (lent l .pre .room) (known l) (q .before .loop-test .taken) k
 
 loop-again : tie.Need-loop-again Inv-loop μ-loop
 loop-again c = λ vs h.
     let q = read (put c) .before in
     let l = turn q in
-    subset-next _ _ _ _ _ vs h (lent l .pre .room) _ _ _ _ (l .loop .inv vs h) (q .before .loop-test .taken) _ _ (put c .add-if .ensures)
+    subset-next h (lent l .pre .room) (l .loop .inv vs h) (q .before .loop-test .taken) _ _ (put c .add-if .ensures)
 
 returns : tie.Need-returns Inv-loop μ-loop
 returns c = λ vs h.
     let l = c .before .before in
-    subset-end _ _ _ _ _ vs h (lent l .pre .room) _ _ _ _ (l .loop .inv vs h) (c .before .loop-test .left)
+    subset-end h (lent l .pre .room) (l .loop .inv vs h) (c .before .loop-test .left)
 
 pub subset-spec : {M : Type 1} → statement M
 subset-spec =
     tie.close
-    (tie.spec
-    Inv-loop
-    μ-loop
+    (tie.spec Inv-loop μ-loop
     (λ c. omega (arith, c .before .pre .room))
-    (λ c. λ vs h. subset-start _ _ _ _ _ vs h (c .before .pre .room))
+    (λ c. λ vs h. subset-start h (c .before .pre .room))
     (λ c. omega (arith, c .loop-test .taken, lent (c .before) .pre .few))
     (λ c. omega (arith, c .loop-test .taken, lent (c .before) .pre .few))
     (λ c. omega (arith, c .before .loop-test .taken, lent (turn c) .pre .few))

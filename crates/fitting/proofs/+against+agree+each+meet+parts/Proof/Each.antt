@@ -32,9 +32,7 @@ module _ (t : ℕ) where
   next l = run-first _ _ _ (l .before .loop .inv .0) (l .loop-test .taken)
 
   against-requires : lts.Need-against-requires claims (each-at t) each.Post Inv-loop μ-loop
-  against-requires c κs =
-      let p = lent c .pre in
-      (omega (arith, p .0, c .before .loop .inv .1), record { first = next c; second = p .1 .second })
+  against-requires c κs = let p = lent c .pre in (omega (arith, p .0, c .before .loop .inv .1), record { first = next c; second = p .1 .second })
 
   returns : lts.Need-returns claims (each-at t) each.Post Inv-loop μ-loop
   returns c =

@@ -5,7 +5,7 @@ use native.Mathlib.Omega.{arith}
 use borrow.Author.Tests.{not-true, not-false}
 use Rattle.arena.specs.Code.{SomeAt}
 use Rattle.fitting.specs.Types.{ValuesAndType, AllOfType}
-use Rattle.fitting.proofs.Types.{ends-behind, values-first, values-rest, all-of-end, all-of-no, all-of-step}
+use Rattle.fitting.proofs.Types.{ends-behind, values-next, all-of-end, all-of-no, all-of-step}
 use Rattle.fitting.proofs.all_of_type.Reads as all-of-type
 use Rattle.fitting.proofs.has_type.Reads as has-type
 use Rattle.arena.proofs.end_of.Reads as end-of
@@ -31,7 +31,7 @@ module _ (t : ℕ) where
   lent l = l .before .before .before
 
   next : (l : Turn) → SomeAt (lent (l .before) .args .s .now) (l .before .loop .i)
-  next l = values-first _ _ _ _ _ (l .before .loop .inv .0) (l .loop-test .taken)
+  next l = values-next _ _ _ _ _ (l .before .loop .inv .0) (l .loop-test .taken) .0
 
   returns : lts.Need-returns claims (all-of-type-at t) all-of-type.Post Inv-loop μ-loop
   returns c =
@@ -45,7 +45,7 @@ module _ (t : ℕ) where
       let i = l .before .loop .inv in
       let q = l .loop-test .taken in
       let e = c .end-of .ensures in (
-        values-rest _ _ _ _ _ (i .0) q _ e,
+        values-next _ _ _ _ _ (i .0) q .1 _ e,
         omega (arith, i .1, ends-behind _ _ _ (next l) e),
         λ r g. i .2 r (all-of-step _ _ _ _ _ _ _ r q (m .before .has-type .ensures) (not-false _ (m .if1 .left)) e g),
       )

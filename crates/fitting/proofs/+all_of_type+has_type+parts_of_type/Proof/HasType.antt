@@ -73,9 +73,7 @@ module _ (t : ℕ) where
       (omega (arith, p .0, value-inside (lent m)), pair-asks _ _ _ _ (p .1 .0) (p .1 .1) (is-tag m 4 (c .before .if3 .taken)) (c .if4 .left))
 
   returns-4 : lts.Need-returns-4 claims (has-type-at t) has-type.Post
-  returns-4 c =
-      let d = c .before in
-      pair-type _ _ _ _ _ (is-tag (pair-tagged d) 4 (d .before .if3 .taken)) (d .if4 .left) (c .parts-of-type .ensures)
+  returns-4 c = let d = c .before in pair-type _ _ _ _ _ (is-tag (pair-tagged d) 4 (d .before .if3 .taken)) (d .if4 .left) (c .parts-of-type .ensures)
 
   returns-5 : lts.Need-returns-5 claims (has-type-at t) has-type.Post
   returns-5 c =
