@@ -163,7 +163,10 @@ pub fn evaluate_readable(table: &[u8], values: &[u8], sheet: &[u8], budget: u32)
 
 // Evaluate: refusals 1 to 9, then 14, and then the condition's end.
 pub fn evaluate(table: &[u8], values: &[u8], budget: u32) -> Evaluation
-    ensures { λ r. ⌜ (endingOf (r .ending) ≡ evaluation (now (table .entry)) (now (values .entry)) budget .end) × (r .steps ≡ evaluation (now (table .entry)) (now (values .entry)) budget .steps) ⌝ }
+    ensures { λ r. ⌜
+        (endingOf (r .ending) ≡ evaluation (now (table .entry)) (now (values .entry)) budget .end) ×
+        (r .steps ≡ evaluation (now (table .entry)) (now (values .entry)) budget .steps)
+        ⌝ }
 {
     let height = reading::read_height(table);
     match height {

@@ -322,7 +322,16 @@ module _ {bs env s₀ : List ℕ} {top n from count left : ℕ} (pre : EachReady
                 record {
                   forward = omega arith;
                   behind = omega (arith, u .here .below, choosing-near .0);
-                  room = omega (arith, pre .space (omega arith), choosing-near .1, h .frame .kept, e .frame .kept, h .on (some-asked left pre) .light, ap weights (u .is));
+                  room =
+                      omega (
+                        arith,
+                        pre .space (omega arith),
+                        choosing-near .1,
+                        h .frame .kept,
+                        e .frame .kept,
+                        h .on (some-asked left pre) .light,
+                        ap weights (u .is),
+                      );
                 }
 
             pub choosing-next : {yes : Bool} {l : ℕ} {s₂ : List ℕ} {q : ℕ} → r ≡ Truth yes l → Chooses s₁ at end yes to s₂ q →

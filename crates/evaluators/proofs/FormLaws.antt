@@ -131,8 +131,7 @@ module _ {bs env s : List ℕ} {top k n m left : ℕ} (x : Visited bs env s top 
         low = h .bounds .0;
         high = h .bounds .1;
         order = omega arith;
-        room =
-            omega (arith, x .ready .room (visited-builds x (one j) e refl), one-child .lower, one-child .tall, h .bounds .1, h .frame .kept, op j e .frame .kept);
+        room = omega (arith, one-ready .room, op j e .frame .kept);
       }
 
       pub one-evaluates : {s₃ : List ℕ} {r : Formed} → Settles s₂ o next next top n l s₃ r → EvaluatesE bs env s top n left s₃ r

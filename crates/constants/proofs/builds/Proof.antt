@@ -20,7 +20,7 @@ abbrev μ-loop : tie.MeasureT-loop
 μ-loop table at count n₀ n = count - n
 
 abbrev lent : tie.At-loop Inv-loop μ-loop → tie.Start Inv-loop μ-loop
-lent l = l .before .before .before .before
+lent l = let n = l .before in n .before .before .before
 
 abbrev turn : tie.After-is-built Inv-loop μ-loop → tie.In-loop Inv-loop μ-loop
 turn c = c .before .before

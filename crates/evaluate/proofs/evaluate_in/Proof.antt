@@ -12,7 +12,7 @@ use Rattle.evaluate.proofs.evaluate_in.Statement.{statement}
 use Rattle.evaluate.proofs.evaluate_in.Tie as tie
 
 abbrev lent : tie.After-put-constants → tie.Start
-lent k = let a = k .before .before in a .before .before .before .before
+lent k = let a = k .before .before .before in a .before .before .before
 
 abbrev put : tie.After-nodes → tie.After-put-constants
 put n = n .before .before .before
@@ -85,7 +85,7 @@ pub evaluate-in-spec : {M : Type 1} → statement M
 evaluate-in-spec =
     tie.close
     (tie.spec
-    (λ c κs. let v = c .before .before .before .before .before in (v .pre .needs .readable, nodes-inside (v .pre)))
+    (λ c κs. let a = c .before .before in let v = a .before .before .before in (v .pre .needs .readable, nodes-inside (v .pre)))
     (λ c κs. lent (c .before .before) .pre .needs .readable .header .long)
     (λ c κs. let n = c .before in load-ready (lent (put n) .pre) (put n .put-constants .ensures .1) (n .nodes .ensures))
     (λ c. c .match .keys1)

@@ -11,7 +11,7 @@ use Rattle.evaluate.proofs.evaluate_sized.Statement.{statement}
 use Rattle.evaluate.proofs.evaluate_sized.Tie as tie
 
 abbrev lent : tie.After-cells-at-most → tie.Start
-lent c = let i = c .before in i .before .before .before .before
+lent c = let i = c .before .before in i .before .before .before
 
 smallest-requires : tie.Need-smallest-requires
 smallest-requires c κs =

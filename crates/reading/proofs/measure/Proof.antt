@@ -41,7 +41,8 @@ root-height-requires c κs =
     let s = set c in
     let v = lent (s .before) in
     let e = s .set-heights .ensures .0 ∙ sym (low-all (v .args .table .now) (v .pre)) in
-    (v .pre .header, s .set-heights .kept .1 .1 .0, subst (λ (n : ℕ). Heights (v .args .table .now) n (s .set-heights .last .1 .1 .0)) e (s .set-heights .ensures .1))
+    let all = subst (λ (n : ℕ). Heights (v .args .table .now) n (s .set-heights .last .1 .1 .0)) e (s .set-heights .ensures .1) in
+    (v .pre .header, s .set-heights .kept .1 .1 .0, all)
 
 pub measure-spec : {M : Type 1} → statement M
 measure-spec =

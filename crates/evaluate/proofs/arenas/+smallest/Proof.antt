@@ -53,7 +53,7 @@ module _ (t : ℕ) where
   )
 
   abbrev lent : smallest-lts.After-size claims (smallest-at t) smallest.Post → smallest-lts.Start claims (smallest-at t) smallest.Post
-  lent c = c .before .before .before .before
+  lent c = let k = c .before in k .before .before .before
 
   abbrev sized : smallest-lts.Else1 claims (smallest-at t) smallest.Post → smallest-lts.After-size claims (smallest-at t) smallest.Post
   sized c = c .before

@@ -8,7 +8,7 @@ slice-aggregate-evaluate-in : tie.Need-slice-aggregate-evaluate-in
 slice-aggregate-evaluate-in c = search needs
 
 evaluate-in-requires : tie.Need-evaluate-in-requires
-evaluate-in-requires c κs = record { needs = c .before .before .before .before .pre; small = omega arith }
+evaluate-in-requires c κs = let k = c .before in record { needs = k .before .before .before .pre; small = omega arith }
 
 returns : tie.Need-returns
 returns c = search needs
