@@ -35,9 +35,9 @@ pub record Binds (bs s : List ℕ) (top : ℕ) (env : List ℕ) (ρ : Env) : Typ
   pub constants : Constants bs (nodeCount bs) s
   pub low : nodeCount bs ≤ top
 
--- The cells that the evaluation of a node takes above its top, where any node of the table builds a value. While a child is evaluated a node holds
--- one value, of at most 256 cells, and a comprehension holds two; but the child of a comprehension that they stand below is a condition. So a level takes 384, an expression
--- 128 more, and an operation at the lowest node that has operands 260 more than two levels give.
+-- The cells that the evaluation of a node takes above its top, where any node of the table builds a value. While a child is evaluated a node
+-- holds one value, of at most 256 cells, and a comprehension holds two; but the child of a comprehension that they stand below is a condition. So a
+-- level takes 384, an expression 128 more, and an operation at the lowest node that has operands 260 more than two levels give.
 abbrev pub expressionCells : Option Kind → ℕ
 expressionCells nothing = 0
 expressionCells (some k) = elim (categoryOf k) [ predicate ↦ 0 | expression ↦ 128 ]
