@@ -10,7 +10,7 @@ use native.Mathlib.Omega.{arith}
 use native.Mathlib.Numerals.{add-one}
 use lib.Dec.{eqb}
 use lib.ListN.{length, getD, set, take, replicate, length-replicate, getD-replicate}
-use lib.Seq.{getD-set-same, getD-set-other, set-getD, take-all}
+use lib.Seq.{getD-set-same, getD-set-other, take-all}
 use borrow.Author.Tests.{eq-eqb, ne-eqb}
 use Rattle.rules.specs.Kinds.{Kind, kindOf, predicate}
 use Rattle.rules.specs.Kinds.{Field, unused, child, use-of, binder-of, setNumber, elementNumber, anyWord, truthBit, isChild}
@@ -171,7 +171,6 @@ bumped-low k c c′ hit x e low b m l = omega (arith, low m (omega arith), b m (
 module _ (bs : List ℕ) (at n i : ℕ) (c : List ℕ) (hit : Bool) (x : ℕ) (eh : hit ≡ childAt bs n i) (ex : x ≡ fieldAt bs n i) where
   pub bump-pre : FieldIn bs at n i → length c ≡ 512 → Room c → BumpPre c hit x
   bump-pre f long room = record {
-    some = omega arith;
     inside = λ e. child-inside bs at n i f (sym eh ∙ e) ex long;
     room = room;
   }
@@ -196,28 +195,16 @@ counted-more bs n c c₁ c₂ c₃ below e₁ e₂ e₃ counted b₁ b₂ b₃ m
       occurrences-held isChild refl m (nodeAt ns n),
     ))
 
--- One store counts a field: one more at its word, or 0 more at place 0.
-bumped-hit : (c : List ℕ) (x : ℕ) → x < length c → Bumped c true x (set c x (getD c x 0 + 1))
-bumped-hit c x h m l = go (ℕ-discrete m x)
+-- One store counts a field.
+pub bumped-hit : (c : List ℕ) {hit : Bool} (x : ℕ) → BumpPre c hit x → hit ≡ true → Bumped c hit x (set c x (getD c x 0 + 1))
+bumped-hit c {hit} x pre h m l = rw h (go (ℕ-discrete m x))
   where
     go : Dec (m ≡ x) → getD (set c x (getD c x 0 + 1)) m 0 ≡ getD c m 0 + more true x m
-    go (yes e) = rw (e, getD-set-same c x (getD c x 0 + 1) 0 h, eq-eqb x x refl)
+    go (yes e) = rw (e, getD-set-same c x (getD c x 0 + 1) 0 (pre .inside h), eq-eqb x x refl)
     go (no e) = rw (getD-set-other c x m (getD c x 0 + 1) 0 e, ne-eqb m x e) (omega arith)
 
-bumped-miss : (c : List ℕ) (i x : ℕ) → Bumped c false x (set c i (getD c i 0 + 0))
-bumped-miss c i x m l = let e : getD c i 0 + 0 ≡ getD c i 0 = omega arith in rw (e, set-getD c i 0) (omega arith)
-
-pub bumped : (c : List ℕ) (hit : Bool) (x i d : ℕ) → BumpPre c hit x → i ≡ cond hit x 0 → d ≡ cond hit 1 0 →
-    Bumped c hit x (set c i (getD c i 0 + d))
-bumped c true x i d pre place step = rw (place, step) (bumped-hit c x (pre .inside refl))
-bumped c false x i d pre place step = rw (place, step) (bumped-miss c 0 x)
-
-pub bump-inside : (c : List ℕ) (hit : Bool) (x i : ℕ) → BumpPre c hit x → i ≡ cond hit x 0 → i < length c
-bump-inside c true x i pre place = omega (arith, pre .inside refl)
-bump-inside c false x i pre place = omega arith
-
-pub bump-room : (c : List ℕ) (hit : Bool) (x i d : ℕ) → BumpPre c hit x → i ≡ cond hit x 0 → d ≡ cond hit 1 0 → getD c i 0 + d < 65536
-bump-room c hit x i d pre place step = omega (arith, pre .room i (bump-inside c hit x i pre place), at-most-one hit)
+pub bumped-miss : (c : List ℕ) {hit : Bool} (x : ℕ) → hit ≡ false → Bumped c hit x c
+bumped-miss c x h m l = rw h (omega arith)
 
 -- No node, and all of them.
 pub counted-none : (bs : List ℕ) (k : ℕ) → Counted bs 0 (replicate k 0)

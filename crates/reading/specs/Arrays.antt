@@ -29,7 +29,6 @@ abbrev pub Room : List ℕ → Type 0
 Room c = (m : ℕ) → m < length c → getD c m 0 < 65535
 
 pub record BumpPre (c : List ℕ) (hit : Bool) (x : ℕ) : Type 0 where
-  pub some : 0 < length c
   pub inside : hit ≡ true → x < length c
   pub room : Room c
 

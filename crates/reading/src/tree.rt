@@ -16,10 +16,10 @@ fn bump(counted: &mut [u16], hit: bool, x: usize)
     requires { ⌜ BumpPre (now counted) hit x ⌝ }
     ensures { λ _. ⌜ Bumped (now (counted .entry)) hit x (now (counted .exit)) ⌝ }
 {
-    let i = if hit { x } else { 0 };
-    let d = if hit { 1 } else { 0 };
-    let c = counted[i];
-    counted[i] = c + d;
+    if hit {
+        let c = counted[x];
+        counted[x] = c + 1;
+    }
 }
 
 // Counts field i of a node whose kind has the row.
