@@ -1,13 +1,12 @@
 // Sets in the arena, whose members rise: membership, inclusion, union, intersection, difference, application.
-ghost use Prim.Native.Nat.{_+_, _-_, _≤_, compare};
+ghost use Prim.Native.Nat.{_+_, _≤_, _<_};
 ghost use mathlib.Core.Bool.{true};
 ghost use mathlib.Core.Path.{_≡_};
-ghost use mir.Val.{boolByte};
 ghost use lib.ListN.{length};
 ghost use Rattle.arena.specs.Code.{SomeSet, SomeValue};
 ghost use Rattle.sets.specs.Fronts.{SeekPre, Sought, Contains, Includes, TwoFronts, TurnAt, TwoRuns, RunIn, SomeFront, RunEnds, PutPre, Put};
-ghost use Rattle.sets.specs.Fronts.{RestThere, TailPre, Tailed, StepPre, Stepped, RestOf, EndPre, Ended, RunsBelow, RunsMerge, Merges, keepOf};
-ghost use Rattle.sets.specs.Rows.{Row, LowerBound, Found, HasCell, SetAt, OfCells, TwoRows, lesserOf, CellTurned, RowsBelow};
+ghost use Rattle.sets.specs.Fronts.{RestThere, TailPre, Tailed, StepPre, Stepped, RestOf, EndPre, Ended, RunsBelow, RunsMerge, Merges};
+ghost use Rattle.sets.specs.Rows.{Row, LowerBound, Found, HasCell, SetAt, OfCells, TwoRows, Kept, CellTurned, RowsBelow};
 ghost use Rattle.sets.specs.Pairs.{SomePairs, FunctionAt, SomeRelation, Applies, SomeFlat, FlatFunctionAt, FlatAt, Relation, FlatRelation};
 
 // A set is small beside one with more than FEW times its members: a search for each member is quicker than a walk over both.
@@ -531,7 +530,7 @@ fn finish(s: &mut [u64], w: Walk, top: usize, left: bool, right: bool, cells: bo
 }
 
 fn lesser(x: u64, y: u64) -> u64
-    ensures { λ r. ⌜ r ≡ lesserOf (compare x y) x y ⌝ }
+    ensures { λ r. ⌜ (x ≤ y → r ≡ x) × (y < x → r ≡ y) ⌝ }
 {
     if y < x {
         return y;
@@ -541,7 +540,7 @@ fn lesser(x: u64, y: u64) -> u64
 
 // 1 if the lesser of the first cells x and y is kept, 0 if not.
 fn kept(x: u64, y: u64, left: bool, both: bool, right: bool) -> usize
-    ensures { λ r. ⌜ r ≡ boolByte (keepOf left both right (compare x y)) ⌝ }
+    ensures { λ r. ⌜ Kept left both right x y r ⌝ }
 {
     if x < y {
         return left as usize;
@@ -554,7 +553,7 @@ fn kept(x: u64, y: u64, left: bool, both: bool, right: bool) -> usize
 
 // The turn at two sets of cells whose first ones are x and y, with no branch on their order.
 fn cell_turn(x: u64, y: u64, left: bool, both: bool, right: bool) -> CellTurn
-    ensures { λ r. ⌜ CellTurned left both right (compare x y) x y r ⌝ }
+    ensures { λ r. ⌜ CellTurned left both right x y r ⌝ }
 {
     CellTurn {
         cell: lesser(x, y),
