@@ -78,26 +78,11 @@ fn lower_bound(s: &[u64], at: usize, step: usize, n: usize, x: u64) -> usize
     from
 }
 
-// Which of n cells from `at` on, every step-th one, is x; n where none is. They do not fall, and often follow one another with no gap: x
-// is looked for first where it stands then.
+// Which of n cells from `at` on, every step-th one, is x; n where none is. They do not fall.
 fn find(s: &[u64], at: usize, step: usize, n: usize, x: u64) -> usize
     requires { ⌜ Row (now s) at step n ⌝ }
     ensures { λ r. ⌜ Found (now (s .entry)) at step n x r ⌝ }
 {
-    if n == 0 {
-        return n;
-    }
-    let first = s[at];
-    if x < first {
-        return n;
-    }
-    let guess = x - first;
-    if guess < n as u64 {
-        let i = guess as usize;
-        if s[at + step * i] == x {
-            return i;
-        }
-    }
     let k = lower_bound(s, at, step, n, x);
     if k < n {
         if s[at + step * k] == x {
@@ -107,11 +92,24 @@ fn find(s: &[u64], at: usize, step: usize, n: usize, x: u64) -> usize
     n
 }
 
-// Whether x is one of n rising cells from `at` on.
+// Whether x is one of n rising cells from `at` on. They often follow one another with no gap: x is looked for first where it stands then.
 fn has_cell(s: &[u64], at: usize, n: usize, x: u64) -> bool
     requires { ⌜ Row (now s) at 1 n ⌝ }
     ensures { λ r. ⌜ HasCell (now (s .entry)) at n x r ⌝ }
 {
+    if n == 0 {
+        return false;
+    }
+    let first = s[at];
+    if x < first {
+        return false;
+    }
+    let guess = x - first;
+    if guess < n as u64 {
+        if s[at + guess as usize] == x {
+            return true;
+        }
+    }
     find(s, at, 1, n, x) < n
 }
 
