@@ -1,10 +1,10 @@
 -- The merge of two sets whose members are one cell each. A cell that is stored is a value put behind what has been built, or it lies
 -- behind it (`cell-put`); so a turn at two cells is a turn of the merge (`merge-step`).
-use Prim.Native.Nat.{ℕ, _+_, _-_, _≤_, _<_, compare, Ordering, Ordering·lt, Ordering·eq, Ordering·gt}
+use Prim.Native.Nat.{ℕ, _+_, _-_, _≤_, _<_}
 use mathlib.Core.Bool.{Bool, true, false}
 use mathlib.Core.List.{List}
 use mathlib.Core.Logic.{_⊎_, inl, inr}
-use mathlib.Core.Path.{_≡_, refl, sym, ap, _∙_, subst}
+use mathlib.Core.Path.{_≡_, refl, sym, subst}
 use native.Mathlib.Omega.{arith}
 use native.Mathlib.Decide.{decLt}
 use lib.Dec.{leb}
@@ -13,10 +13,8 @@ use lib.Seq.{getD-set-same, getD-set-other}
 use borrow.Author.Tests.{le-leb, lt-leb}
 use mir.Val.{boolByte}
 use Rattle.rules.specs.Values.{members}
-use Rattle.laws.proofs.OrderLaws.{compare-refl, lt-compare}
 use Rattle.laws.proofs.CellsLaws.{count-weights}
 use Rattle.arena.specs.Code.{Same, EndsAt}
-use Rattle.arena.proofs.CodeLaws.{gt-compare}
 use Rattle.arena.proofs.Standing.{same-trans}
 use Rattle.arena.proofs.EvenLaws.{cell-less, cell-equal, cell-greater}
 use Rattle.sets.specs.declared.Turn.{Turn}
@@ -25,39 +23,30 @@ use Rattle.sets.specs.declared.Walk.{Walk}
 use Rattle.sets.specs.declared.CellTurn.{CellTurn}
 use Rattle.sets.specs.Merged.{merged}
 use Rattle.sets.specs.Fronts.{TurnAt, Cells, Put, EndPre, Ended, RunsMerge}
-use Rattle.sets.specs.Rows.{lesserOf, moveLeft, moveRight, CellTurned, RowsBelow}
+use Rattle.sets.specs.Rows.{Kept, CellTurned, RowsBelow}
 use Rattle.sets.proofs.TurnLaws.{turn-less, turn-equal, turn-greater}
 use Rattle.sets.proofs.BuildLaws.{put-kept, put-none, after, step-on, Walking, walking-start, walking-made, walking-end}
 use Rattle.sets.proofs.CellLaws.{byte-small}
 use Rattle.sets.proofs.RowLaws.{cells-next, cells-first, cells-frame}
 
-pub eq-compare : (x y : ℕ) → y ≤ x → x ≤ y → compare x y ≡ Ordering·eq
-eq-compare x y l k = let e : x ≡ y = omega arith in ap (λ (z : ℕ). compare z y) e ∙ compare-refl y
-
--- What holds of the order of two numbers in each case.
-pub by-order : (x y : ℕ) (P : Ordering → Type 0) → (x < y → P Ordering·lt) → (x ≡ y → P Ordering·eq) → (y < x → P Ordering·gt) → P (compare x y)
-by-order x y P a b c = go (decLt x y) (decLt y x)
+-- `cell_turn`, from the lesser of both cells and whether it is kept.
+pub turn-cells : (l e r : Bool) (x y c k : ℕ) → (x ≤ y → c ≡ x) × (y < x → c ≡ y) → Kept l e r x y k →
+    CellTurned l e r x y (record { cell = c; keep = k; left = boolByte (leb x y); right = boolByte (leb y x) })
+turn-cells l e r x y c k h d = go (decLt x y) (decLt y x)
   where
-    go : Dec (x < y) → Dec (y < x) → P (compare x y)
-    go (yes l) d = subst P (sym (lt-compare x y l)) (a l)
-    go (no n) (yes l) = subst P (sym (gt-compare x y l)) (c l)
-    go (no n) (no m) = subst P (sym (eq-compare x y (omega arith) (omega arith))) (b (omega arith))
+    go : Dec (x < y) → Dec (y < x) → CellTurned l e r x y (record { cell = c; keep = k; left = boolByte (leb x y); right = boolByte (leb y x) })
+    go (yes p) q = inl (p, cc (h .0 (omega arith), d .less p, le-leb x y (omega arith), lt-leb y x p))
+    go (no n) (yes q) = inr (inr (q, cc (h .1 q, d .greater q, lt-leb x y q, le-leb y x (omega arith))))
+    go (no n) (no m) =
+        let z : x ≡ y = omega arith in inr (inl (z, cc (h .0 (omega arith), d .equal z, le-leb x y (omega arith), le-leb y x (omega arith))))
 
-pub lesser-left : (x y : ℕ) → x ≤ y → x ≡ lesserOf (compare x y) x y
-lesser-left x y l = by-order x y (λ o. x ≡ lesserOf o x y) (λ k. refl) (λ e. refl) (λ k. omega arith)
-
-pub lesser-right : (x y : ℕ) → y < x → y ≡ lesserOf (compare x y) x y
-lesser-right x y l = by-order x y (λ o. y ≡ lesserOf o x y) (λ k. omega arith) (λ e. omega arith) (λ k. refl)
-
-pub move-left : (x y : ℕ) → boolByte (leb x y) ≡ moveLeft (compare x y)
-move-left x y =
-    by-order x y (λ o. boolByte (leb x y) ≡ moveLeft o) (λ l. ap boolByte (le-leb x y (omega arith))) (λ e. ap boolByte (le-leb x y (omega arith)))
-    (λ l. ap boolByte (lt-leb x y l))
-
-pub move-right : (x y : ℕ) → boolByte (leb y x) ≡ moveRight (compare x y)
-move-right x y =
-    by-order x y (λ o. boolByte (leb y x) ≡ moveRight o) (λ l. ap boolByte (lt-leb y x l)) (λ e. ap boolByte (le-leb y x (omega arith)))
-    (λ l. ap boolByte (le-leb y x (omega arith)))
+-- What holds of a turn in each case.
+by-turn : (l e r : Bool) (x y : ℕ) (P : CellTurn → Type 0) → (x < y → P (record { cell = x; keep = boolByte l; left = 1; right = 0 })) →
+    (x ≡ y → P (record { cell = x; keep = boolByte e; left = 1; right = 1 })) → (y < x → P (record { cell = y; keep = boolByte r; left = 0; right = 1 })) →
+    (u : CellTurn) → CellTurned l e r x y u → P u
+by-turn l e r x y P f g h u (inl d) = subst P (sym (d .1)) (f (d .0))
+by-turn l e r x y P f g h u (inr (inl d)) = subst P (sym (d .1)) (g (d .0))
+by-turn l e r x y P f g h u (inr (inr d)) = subst P (sym (d .1)) (h (d .0))
 
 -- A cell stored at the end of what has been built is kept or not.
 cell-put : (keep : Bool) (s : List ℕ) (from to count : ℕ) → from < to → to < length s → count < 4294967296 →
@@ -190,34 +179,31 @@ module _ (l e r : Bool) (s₀ : List ℕ) (a m b n top : ℕ) (p : RowsBelow s�
   fewer-others : Cells s (j + 1) (h .others - 1)
   fewer-others = cells-next s j (h .others) (h .others - 1) (h .otherCells) (omega (arith, some-others))
 
-  pub merge-step : (u : CellTurn) → CellTurned l e r (compare (getD s i 0) (getD s j 0)) (getD s i 0) (getD s j 0) u →
+  pub merge-step : (u : CellTurn) → CellTurned l e r (getD s i 0) (getD s j 0) u →
       RowMerge l e r s₀ a m b n top (setAt s to (u .cell)) (i + u .left) (j + u .right) (to + u .keep)
-  merge-step u =
-      by-order (getD s i 0) (getD s j 0)
-      (λ o. CellTurned l e r o (getD s i 0) (getD s j 0) u → RowMerge l e r s₀ a m b n top (setAt s to (u .cell)) (i + u .left) (j + u .right) (to + u .keep))
-      (λ d c. rw (c .cell, c .keep, c .left, c .right, let z : j + 0 ≡ j = omega arith in z)
+  merge-step =
+      by-turn l e r (getD s i 0) (getD s j 0)
+      (λ u. RowMerge l e r s₀ a m b n top (setAt s to (u .cell)) (i + u .left) (j + u .right) (to + u .keep))
+      (λ d. rw (let z : j + 0 ≡ j = omega arith in z)
       (next (record { from = i; end = i + 1; keep = l; a = i + 1; m = h .left - 1; b = j; n = h .others })
       (turn-less s i (h .left) j (h .others) l e r (i + 1) 0 ends (cell-less s i j ends2 d) refl) i refl refl (merge-inside .0)
       (omega (arith, h .leftIs, some-left)) (h .othersIs) (omega (arith, some-left)) fewer-left (h .otherCells)))
-      (λ d c. rw (c .cell, c .keep, c .left, c .right)
-      (next (record { from = i; end = i + 1; keep = e; a = i + 1; m = h .left - 1; b = j + 1; n = h .others - 1 })
+      (λ d. next (record { from = i; end = i + 1; keep = e; a = i + 1; m = h .left - 1; b = j + 1; n = h .others - 1 })
       (turn-equal s i (h .left) j (h .others) l e r (i + 1) 1 ends (cell-equal s i j ends2 d) (j + 1) ends2 refl) i refl refl (merge-inside .0)
-      (omega (arith, h .leftIs, some-left)) (omega (arith, h .othersIs, some-others)) (omega (arith, some-left)) fewer-left fewer-others))
-      (λ d c. rw (c .cell, c .keep, c .left, c .right, let z : i + 0 ≡ i = omega arith in z)
+      (omega (arith, h .leftIs, some-left)) (omega (arith, h .othersIs, some-others)) (omega (arith, some-left)) fewer-left fewer-others)
+      (λ d. rw (let z : i + 0 ≡ i = omega arith in z)
       (next (record { from = j; end = j + 1; keep = r; a = i; m = h .left; b = j + 1; n = h .others - 1 })
       (turn-greater s i (h .left) j (h .others) l e r (i + 1) 2 ends (cell-greater s i j ends2 d) (j + 1) ends2 (λ z. omega arith) (λ z. omega arith))
       j refl refl (merge-inside .1)
       (h .leftIs) (omega (arith, h .othersIs, some-others)) (omega (arith, some-others)) (h .cells) fewer-others))
 
-  -- at most one cell further in each set, and further in one
-  pub merge-moves : (u : CellTurn) → CellTurned l e r (compare (getD s i 0) (getD s j 0)) (getD s i 0) (getD s j 0) u →
-      (u .left ≤ 1) × (u .right ≤ 1) × (0 < u .left + u .right) × (u .keep ≤ 1)
-  merge-moves u =
-      by-order (getD s i 0) (getD s j 0)
-      (λ o. CellTurned l e r o (getD s i 0) (getD s j 0) u → (u .left ≤ 1) × (u .right ≤ 1) × (0 < u .left + u .right) × (u .keep ≤ 1))
-      (λ d c. (omega (arith, c .left), omega (arith, c .right), omega (arith, c .left), omega (arith, c .keep, byte-small l)))
-      (λ d c. (omega (arith, c .left), omega (arith, c .right), omega (arith, c .left), omega (arith, c .keep, byte-small e)))
-      (λ d c. (omega (arith, c .left), omega (arith, c .right), omega (arith, c .right), omega (arith, c .keep, byte-small r)))
+-- At most one cell further in each set, and further in one.
+pub turn-moves : (l e r : Bool) (x y : ℕ) (u : CellTurn) → CellTurned l e r x y u →
+    (u .left ≤ 1) × (u .right ≤ 1) × (0 < u .left + u .right) × (u .keep ≤ 1)
+turn-moves l e r x y =
+    by-turn l e r x y (λ u. (u .left ≤ 1) × (u .right ≤ 1) × (0 < u .left + u .right) × (u .keep ≤ 1))
+    (λ d. (omega arith, omega arith, omega arith, byte-small l)) (λ d. (omega arith, omega arith, omega arith, byte-small e))
+    (λ d. (omega arith, omega arith, omega arith, byte-small r))
 
 -- The end of the merge.
 module _ (l e r : Bool) (s₀ : List ℕ) (a m b n top : ℕ) (p : RowsBelow s₀ a m b n top) (s : List ℕ) (i j to : ℕ)

@@ -54,16 +54,13 @@ module _ (s : List ℕ) (at step n x from left : ℕ) (h : Halving s at step n x
       above = λ i p q. omega (arith, row .rises m i (omega arith) q);
     }
 
--- `find`: x is not in the row where it is below the first cell, or where the first cell that is not below x is another.
+-- `find`: x is not in the row where the first cell that is not below x is another.
 module _ (s : List ℕ) (at step n x : ℕ) (row : Row s at step n) where
   pub found-here : (k : ℕ) → k < n → getD s (at + step * k) 0 ≡ x → Found s at step n x k
   found-here k l e = record { few = omega arith; here = λ _. e; lost = λ z. absurd (omega arith) }
 
   pub found-none : ((i : ℕ) → i < n → getD s (at + step * i) 0 ≡ x → ⊥) → Found s at step n x n
   found-none d = record { few = omega arith; here = λ l. absurd (omega arith); lost = λ _. d }
-
-  pub found-below : x < getD s at 0 → Found s at step n x n
-  found-below l = found-none λ i k e. omega (arith, row .rises 0 i (omega arith) k, ap (λ (j : ℕ). getD s j 0) (let z : at + step * 0 ≡ at = omega arith in z))
 
   module _ (r : ℕ) (h : LowerBound s at step n x r) where
     pub found-over : n ≤ r → Found s at step n x n
@@ -76,7 +73,16 @@ module _ (s : List ℕ) (at step n x : ℕ) (row : Row s at step n) where
         go i k e (yes p) = omega (arith, h .below i p)
         go i k e (no p) = d (omega (arith, h .above r (omega arith) l, row .rises r i (omega arith) k))
 
--- `has_cell`.
+-- `has_cell`: no cell is x where x is below the first one.
+pub cell-below : (s : List ℕ) (at n x : ℕ) → Row s at 1 n → x < getD s at 0 → HasCell s at n x false
+cell-below s at n x row l i k e =
+    omega (
+      arith,
+      row .rises 0 i (omega arith) k,
+      ap (λ (j : ℕ). getD s j 0) (let z : at + 1 * 0 ≡ at = omega arith in z),
+      ap (λ (j : ℕ). getD s j 0) (let z : at + 1 * i ≡ at + i = omega arith in z),
+    )
+
 pub found-cell : (s : List ℕ) (at n x r : ℕ) → Found s at 1 n x r → HasCell s at n x (ltb r n)
 found-cell s at n x r h = go (ltb r n) refl
   where

@@ -1,12 +1,13 @@
 -- Rows of cells: sets whose members are one cell each. The search in a row is about numbers only.
-use Prim.Native.Nat.{ℕ, _+_, _*_, _%_, _≤_, _<_, Ordering, Ordering·lt, Ordering·eq, Ordering·gt}
+use Prim.Native.Nat.{ℕ, _+_, _*_, _%_, _≤_, _<_}
 use mathlib.Core.Bool.{Bool, true, false}
 use mathlib.Core.List.{List}
+use mathlib.Core.Logic.{_⊎_}
 use mathlib.Core.Path.{_≡_}
 use lib.ListN.{length, getD}
 use mir.Val.{boolByte}
 use Rattle.arena.specs.Code.{SomeSet}
-use Rattle.sets.specs.Fronts.{keepOf, Cells, TwoRuns}
+use Rattle.sets.specs.Fronts.{Cells, TwoRuns}
 use Rattle.sets.specs.declared.CellTurn.{CellTurn}
 
 -- n cells from `at` on, every step-th one, that do not fall.
@@ -44,27 +45,18 @@ pub record TwoRows (s : List ℕ) (a m b n top : ℕ) : Type 0 where
   pub left : Cells s a m
   pub right : Cells s b n
 
--- A turn of a walk over both at two cells with the order o: the lesser of them, and by how many cells both rows move on.
-abbrev pub lesserOf : Ordering → ℕ → ℕ → ℕ
-lesserOf Ordering·lt x y = x
-lesserOf Ordering·eq x y = x
-lesserOf Ordering·gt x y = y
+-- k is 1 where the lesser of the first cells x and y is kept, 0 where it is not.
+pub record Kept (l e r : Bool) (x y k : ℕ) : Type 0 where
+  pub less : x < y → k ≡ boolByte l
+  pub equal : x ≡ y → k ≡ boolByte e
+  pub greater : y < x → k ≡ boolByte r
 
-abbrev pub moveLeft : Ordering → ℕ
-moveLeft Ordering·lt = 1
-moveLeft Ordering·eq = 1
-moveLeft Ordering·gt = 0
-
-abbrev pub moveRight : Ordering → ℕ
-moveRight Ordering·lt = 0
-moveRight Ordering·eq = 1
-moveRight Ordering·gt = 1
-
-pub record CellTurned (l b r : Bool) (o : Ordering) (x y : ℕ) (t : CellTurn) : Type 0 where
-  pub cell : t .cell ≡ lesserOf o x y
-  pub keep : t .keep ≡ boolByte (keepOf l b r o)
-  pub left : t .left ≡ moveLeft o
-  pub right : t .right ≡ moveRight o
+-- A turn of a walk over both: the lesser of the first cells, whether it is kept, and by how many cells both rows move on.
+abbrev pub CellTurned : Bool → Bool → Bool → ℕ → ℕ → CellTurn → Type 0
+CellTurned l e r x y t =
+    ((x < y) × (t ≡ record { cell = x; keep = boolByte l; left = 1; right = 0 })) ⊎
+    (((x ≡ y) × (t ≡ record { cell = x; keep = boolByte e; left = 1; right = 1 })) ⊎
+    ((y < x) × (t ≡ record { cell = y; keep = boolByte r; left = 0; right = 1 })))
 
 -- They are merged above `top`.
 pub record RowsBelow (s : List ℕ) (a m b n top : ℕ) : Type 0 where

@@ -1,13 +1,12 @@
 // Sets in the arena, whose members rise: membership, inclusion, union, intersection, difference, application.
-ghost use Prim.Native.Nat.{_+_, _-_, _≤_, compare};
+ghost use Prim.Native.Nat.{_+_, _≤_, _<_};
 ghost use mathlib.Core.Bool.{true};
 ghost use mathlib.Core.Path.{_≡_};
-ghost use mir.Val.{boolByte};
 ghost use lib.ListN.{length};
 ghost use Rattle.arena.specs.Code.{SomeSet, SomeValue};
 ghost use Rattle.sets.specs.Fronts.{SeekPre, Sought, Contains, Includes, TwoFronts, TurnAt, TwoRuns, RunIn, SomeFront, RunEnds, PutPre, Put};
-ghost use Rattle.sets.specs.Fronts.{RestThere, TailPre, Tailed, StepPre, Stepped, RestOf, EndPre, Ended, RunsBelow, RunsMerge, Merges, keepOf};
-ghost use Rattle.sets.specs.Rows.{Row, LowerBound, Found, HasCell, SetAt, OfCells, TwoRows, lesserOf, CellTurned, RowsBelow};
+ghost use Rattle.sets.specs.Fronts.{RestThere, TailPre, Tailed, StepPre, Stepped, RestOf, EndPre, Ended, RunsBelow, RunsMerge, Merges};
+ghost use Rattle.sets.specs.Rows.{Row, LowerBound, Found, HasCell, SetAt, OfCells, TwoRows, Kept, CellTurned, RowsBelow};
 ghost use Rattle.sets.specs.Pairs.{SomePairs, FunctionAt, SomeRelation, Applies, SomeFlat, FlatFunctionAt, FlatAt, Relation, FlatRelation};
 
 // A set is small beside one with more than FEW times its members: a search for each member is quicker than a walk over both.
@@ -79,26 +78,11 @@ fn lower_bound(s: &[u64], at: usize, step: usize, n: usize, x: u64) -> usize
     from
 }
 
-// Which of n cells from `at` on, every step-th one, is x; n where none is. They do not fall, and often follow one another with no gap: x
-// is looked for first where it stands then.
+// Which of n cells from `at` on, every step-th one, is x; n where none is. They do not fall.
 fn find(s: &[u64], at: usize, step: usize, n: usize, x: u64) -> usize
     requires { ⌜ Row (now s) at step n ⌝ }
     ensures { λ r. ⌜ Found (now (s .entry)) at step n x r ⌝ }
 {
-    if n == 0 {
-        return n;
-    }
-    let first = s[at];
-    if x < first {
-        return n;
-    }
-    let guess = x - first;
-    if guess < n as u64 {
-        let i = guess as usize;
-        if s[at + step * i] == x {
-            return i;
-        }
-    }
     let k = lower_bound(s, at, step, n, x);
     if k < n {
         if s[at + step * k] == x {
@@ -108,11 +92,24 @@ fn find(s: &[u64], at: usize, step: usize, n: usize, x: u64) -> usize
     n
 }
 
-// Whether x is one of n rising cells from `at` on.
+// Whether x is one of n rising cells from `at` on. They often follow one another with no gap: x is looked for first where it stands then.
 fn has_cell(s: &[u64], at: usize, n: usize, x: u64) -> bool
     requires { ⌜ Row (now s) at 1 n ⌝ }
     ensures { λ r. ⌜ HasCell (now (s .entry)) at n x r ⌝ }
 {
+    if n == 0 {
+        return false;
+    }
+    let first = s[at];
+    if x < first {
+        return false;
+    }
+    let guess = x - first;
+    if guess < n as u64 {
+        if s[at + guess as usize] == x {
+            return true;
+        }
+    }
     find(s, at, 1, n, x) < n
 }
 
@@ -531,7 +528,7 @@ fn finish(s: &mut [u64], w: Walk, top: usize, left: bool, right: bool, cells: bo
 }
 
 fn lesser(x: u64, y: u64) -> u64
-    ensures { λ r. ⌜ r ≡ lesserOf (compare x y) x y ⌝ }
+    ensures { λ r. ⌜ (x ≤ y → r ≡ x) × (y < x → r ≡ y) ⌝ }
 {
     if y < x {
         return y;
@@ -541,7 +538,7 @@ fn lesser(x: u64, y: u64) -> u64
 
 // 1 if the lesser of the first cells x and y is kept, 0 if not.
 fn kept(x: u64, y: u64, left: bool, both: bool, right: bool) -> usize
-    ensures { λ r. ⌜ r ≡ boolByte (keepOf left both right (compare x y)) ⌝ }
+    ensures { λ r. ⌜ Kept left both right x y r ⌝ }
 {
     if x < y {
         return left as usize;
@@ -554,7 +551,7 @@ fn kept(x: u64, y: u64, left: bool, both: bool, right: bool) -> usize
 
 // The turn at two sets of cells whose first ones are x and y, with no branch on their order.
 fn cell_turn(x: u64, y: u64, left: bool, both: bool, right: bool) -> CellTurn
-    ensures { λ r. ⌜ CellTurned left both right (compare x y) x y r ⌝ }
+    ensures { λ r. ⌜ CellTurned left both right x y r ⌝ }
 {
     CellTurn {
         cell: lesser(x, y),

@@ -1,8 +1,7 @@
--- `kept`: by the order of both cells.
+-- `kept`: by the order of both cells; the two other orders are not there.
 use borrow.Author.Needs.{needs}
-use Rattle.laws.proofs.OrderLaws.{lt-compare}
-use Rattle.arena.proofs.CodeLaws.{gt-compare}
-use Rattle.sets.proofs.CellMerge.{eq-compare}
+use mathlib.Core.Path.{refl}
+use native.Mathlib.Omega.{arith}
 use Rattle.sets.proofs.kept.Statement.{statement}
 use Rattle.sets.proofs.kept.Tie as tie
 
@@ -11,8 +10,8 @@ kept-spec =
     tie.close
     (tie.spec
     (λ c. search needs)
-    (λ c. let q = c .before .args in rw (lt-compare (q .x) (q .y) (c .if1 .taken)))
+    (λ c. record { less = λ _. refl; equal = λ e. absurd (omega (arith, c .if1 .taken)); greater = λ l. absurd (omega (arith, c .if1 .taken)) })
     (λ c. search needs)
-    (λ c. let q = c .before .before .args in rw (gt-compare (q .x) (q .y) (c .if2 .taken)))
+    (λ c. record { less = λ l. absurd (omega (arith, c .if2 .taken)); equal = λ e. absurd (omega (arith, c .if2 .taken)); greater = λ _. refl })
     (λ c. search needs)
-    (λ c. let q = c .before .before .args in rw (eq-compare (q .x) (q .y) (c .before .if1 .left) (c .if2 .left))))
+    (λ c. record { less = λ l. absurd (omega (arith, c .before .if1 .left)); equal = λ _. refl; greater = λ l. absurd (omega (arith, c .if2 .left)) }))

@@ -4,8 +4,8 @@ use mathlib.Core.Logic.{_⊎_, inl, inr}
 use borrow.Author.Needs.{needs}
 use borrow.Author.Tests.{ltb-true, ltb-false}
 use native.Mathlib.Omega.{arith}
-use lib.ListN.{length}
-use Rattle.sets.proofs.CellMerge.{RowMerge, merge-start, merge-inside, merge-step, merge-moves, merge-near, merge-end, merge-made}
+use lib.ListN.{length, getD}
+use Rattle.sets.proofs.CellMerge.{RowMerge, merge-start, merge-inside, merge-step, turn-moves, merge-near, merge-end, merge-made}
 use Rattle.sets.proofs.merge_cells.Statement.{statement}
 use Rattle.sets.proofs.merge_cells.Tie as tie
 
@@ -45,9 +45,9 @@ both c = c .before .before .before
 
 moves : (c : Turned) → let u = c .cell-turn .result in (u .left ≤ 1) × (u .right ≤ 1) × (0 < u .left + u .right) × (u .keep ≤ 1)
 moves c =
-    let t = both c in
-    let l = loop t in
-    merge-moves _ _ _ _ _ _ _ _ _ (lent l .pre) _ _ _ _ (l .loop .inv) (t .before .loop-test .taken) (others t) _ (c .cell-turn .ensures)
+    let l = loop (both c) in
+    let q = lent l .args in
+    turn-moves (q .left) (q .both) (q .right) (getD (l .loop .s) (l .loop .i) 0) (getD (l .loop .s) (l .loop .j) 0) _ (c .cell-turn .ensures)
 
 -- One of both sets is exhausted.
 abbrev Left : Type 0
