@@ -1,11 +1,11 @@
 -- What the functions ask and answer: the row of a type in a sheet, and values against rows.
-use Prim.Native.Nat.{ℕ, _+_, _*_, _-_, _≤_, _<_}
+use Prim.Native.Nat.{ℕ, zero, suc, _+_, _*_, _≤_, _<_}
 use mathlib.Core.Bool.{Bool}
 use mathlib.Core.List.{List}
 use mathlib.Core.Logic.{_⊎_}
-use mathlib.Core.Option.{Option, none as nothing, some}
+use mathlib.Core.Option.{some}
 use mathlib.Core.Path.{_≡_}
-use lib.ListN.{length, getD, take, drop}
+use lib.ListN.{length, getD}
 use Rattle.rules.specs.Types.{Ty, typeOfRow}
 use Rattle.rules.specs.Values.{Value}
 use Rattle.rules.specs.Cells.{noValue}
@@ -14,6 +14,7 @@ use Rattle.rules.specs.Ends.{allBelow}
 use Rattle.rules.specs.Readable.{Header, Readable}
 use Rattle.rules.specs.Verdict.{sheetLength}
 use Rattle.arena.specs.Code.{ValueAt, CellsFit, SomeAt}
+use Rattle.fitting.specs.Types.{typeParts}
 use Rattle.buffer.specs.Loaded.{Bound}
 use Rattle.conforms.specs.Conforming.{rowAt, hasWritten, ifFree, freeHas, conforming}
 
@@ -21,14 +22,14 @@ use Rattle.conforms.specs.Conforming.{rowAt, hasWritten, ifFree, freeHas
 abbrev pub Code : ℕ → Type 0
 Code c = ((0 < c) × (c ≤ 4)) ⊎ (16 ≤ c)
 
--- The bytes from i to `end`.
-abbrev pub span : List ℕ → ℕ → ℕ → List ℕ
-span sheet i end = take (end - i) (drop i sheet)
+-- The byte c may stand where `left` types are still to be read, and how many are then to be read behind it.
+abbrev pub GoesOn : ℕ → ℕ → Type 0
+GoesOn c zero = c ≡ 0
+GoesOn c (suc n) = Code c
 
--- n types have been read.
-abbrev pub Counted : Option (List Ty) → ℕ → Type 0
-Counted nothing n = ⊥
-Counted (some ts) n = length ts ≡ n
+abbrev pub leftBehind : ℕ → ℕ → ℕ
+leftBehind c zero = 0
+leftBehind c (suc n) = n + typeParts c
 
 -- The row of the place p is that of a type.
 pub record TypeRow (sheet : List ℕ) (p : ℕ) : Type 0 where

@@ -4,14 +4,13 @@ use reading::Reading;
 ghost use mathlib.Core.Path.{_≡_};
 ghost use Prim.Native.Nat.{_+_, _*_, _≤_, _<_};
 ghost use lib.ListN.{length};
-ghost use Rattle.rules.specs.Types.{typesIn};
 ghost use Rattle.rules.specs.Readable.{Readable};
 ghost use Rattle.rules.specs.Tables.{identifierCount};
 ghost use Rattle.buffer.specs.Buffer.{cellsAtMost};
 ghost use Rattle.buffer.specs.Loaded.{LoadReady};
 ghost use Rattle.fitting.specs.Types.{Decides};
 ghost use Rattle.conforms.specs.Conforming.{conforming};
-ghost use Rattle.conforms.specs.Rows.{Code, Counted, span, TypeRow, ValueAndRow, OfRow, NameReady, NameHas};
+ghost use Rattle.conforms.specs.Rows.{Code, GoesOn, leftBehind, TypeRow, ValueAndRow, OfRow, NameReady, NameHas};
 ghost use Rattle.conforms.specs.Rows.{AllReady, AllConform, ValuesLoaded, LoadedConform};
 
 // Whether a byte is the code of a type's first constructor.
@@ -27,19 +26,25 @@ fn is_code(c: u8) -> bool
     c <= 4
 }
 
-// Whether the bytes from `at` to `end` are zero: they are read as no types.
-fn blank(sheet: &[u8], at: usize, end: usize) -> bool
-    requires { ⌜ (at ≤ end) × (end ≤ length (now sheet)) ⌝ }
-    ensures { λ r. ⌜ Decides r (Counted (typesIn (span (now (sheet .entry)) at end)) 0) ⌝ }
+// Whether the byte c may stand in a row where `left` types are still to be read: a code, and a zero behind the last type.
+fn goes_on(c: u8, left: usize) -> bool
+    ensures { λ r. ⌜ Decides r (GoesOn c left) ⌝ }
 {
-    let mut i = at;
-    while i < end {
-        if sheet[i] != 0 {
-            return false;
-        }
-        i += 1;
+    if left == 0 {
+        return c == 0;
     }
-    true
+    is_code(c)
+}
+
+// How many are then to be read behind it.
+fn left_behind(c: u8, left: usize) -> usize
+    requires { ⌜ left ≤ 65 ⌝ }
+    ensures { λ r. ⌜ r ≡ leftBehind c left ⌝ }
+{
+    if left == 0 {
+        return 0;
+    }
+    left - 1 + fitting::type_parts(c)
 }
 
 // Whether the row of the place p is that of a type: its codes in prefix order, and then zeros.
@@ -50,18 +55,15 @@ fn is_row(sheet: &[u8], p: usize) -> bool
     let mut i = 64 * p;
     let end = i + 64;
     let mut left: usize = 1;
-    while left > 0 {
-        if i == end {
-            return false;
-        }
+    while i < end {
         let c = sheet[i];
-        if !is_code(c) {
+        if !goes_on(c, left) {
             return false;
         }
-        left = left - 1 + fitting::type_parts(c);
+        left = left_behind(c, left);
         i += 1;
     }
-    blank(sheet, i, end)
+    left == 0
 }
 
 // Whether the value at `at` has the type in the row of the place p.
