@@ -34,37 +34,15 @@ use Rattle.buffer.specs.declared.Loaded.{Loaded}
 use Rattle.buffer.specs.declared.Loaded.the-variants.{All, Refused}
 use Rattle.buffer.specs.Loaded.{Bound, Loads}
 use Rattle.conforms.specs.Conforming.{rowAt, hasTypeRead, hasWritten, ifFree, freeHas, conforming}
-use Rattle.conforms.specs.Rows.{TypeRow, OfRow, NameReady, NameHas, AllStand, SheetFits, AllReady, AllConform}
+use Rattle.conforms.specs.Rows.{TypeRow, NameReady, NameHas, AllStand, SheetFits, AllReady, AllConform}
 use Rattle.conforms.specs.Rows.{LoadedFrom, ValuesLoaded, LoadedConform}
 use Rattle.conforms.proofs.RowLaws.{decided-no, type-there}
 
--- A value and the row of the place p: q says whether that is the row of a type.
-module _ {sheet : List ℕ} {p : ℕ} {q : Bool} (d : Decides q (TypeRow sheet p)) where
-  pub row-no : (s : List ℕ) (at : ℕ) → q ≡ false → OfRow s at sheet p false
-  row-no s at e v h f = go (typeOfRow (rowAt sheet p)) refl
-    where
-      go : (o : Option Ty) → typeOfRow (rowAt sheet p) ≡ o → false ≡ hasTypeRead o v
-      go nothing g = refl
-      go (some t) g = absurd (decided-no d e (record { type = t; read = g }))
+-- The type of a row that is one's.
+pub row-some : {sheet : List ℕ} {x : ℕ} → 64 * x + 64 ≤ length sheet → TypeRow sheet x → SomeType sheet (64 * x)
+row-some room t = (t .type, type-there room t)
 
-  module _ (e : q ≡ true) (room : 64 * p + 64 ≤ length sheet) where
-    pub row-some : SomeType sheet (64 * p)
-    row-some = let x = d .sound e in (x .type, type-there room x)
-
-    pub row-yes : (s : List ℕ) (at : ℕ) (r : Bool) → OfType s at sheet (64 * p) r → OfRow s at sheet p r
-    row-yes s at r o v h f =
-        let x = d .sound e in
-        let t = x .type in
-        let k = o v t h f (type-there room x) in
-        rw (x .read) (go r (hasType v t) (λ y. T-true _ .0 (hasType-right v t .1 (k .sound y)))
-        (λ y. k .complete (hasType-right v t .0 (T-true _ .1 y))))
-      where
-        go : (r b : Bool) → (r ≡ true → b ≡ true) → (b ≡ true → r ≡ true) → r ≡ b
-        go true b y z = sym (y refl)
-        go false true y z = z refl
-        go false false y z = refl
-
--- The identifier x, by its word w.
+-- The value of the identifier x, by its word w and its row: q says whether that is the row of a type.
 module _ (bs s : List ℕ) (at : ℕ) (sheet : List ℕ) (x w : ℕ) (word : WordOf bs x w) where
   pub name-bound : w ≢ 0 → NameHas bs s at sheet x true
   name-bound n v h f = rw (← word 1) (go w n)
@@ -73,8 +51,25 @@ module _ (bs s : List ℕ) (at : ℕ) (sheet : List ℕ) (x w : ℕ) (word : Wor
       go zero n = absurd (n refl)
       go (suc w) n = refl
 
-  pub name-free : (r : Bool) → w ≡ 0 → OfRow s at sheet x r → NameHas bs s at sheet x r
-  name-free r e o v h f = rw (← word 1, e) (o v h f)
+  module _ (e : w ≡ 0) where
+    pub name-no : {q : Bool} → Decides q (TypeRow sheet x) → q ≡ false → NameHas bs s at sheet x false
+    name-no d n v h f = rw (← word 1, e) (go (typeOfRow (rowAt sheet x)) refl)
+      where
+        go : (o : Option Ty) → typeOfRow (rowAt sheet x) ≡ o → false ≡ hasTypeRead o v
+        go nothing g = refl
+        go (some t) g = absurd (decided-no d n (record { type = t; read = g }))
+
+    pub name-yes : (r : Bool) → 64 * x + 64 ≤ length sheet → TypeRow sheet x → OfType s at sheet (64 * x) r → NameHas bs s at sheet x r
+    name-yes r room y o v h f =
+        let k = o v (y .type) h f (type-there room y) in
+        let t = hasType-right v (y .type) in
+        rw (← word 1, e, y .read)
+        (go r (hasType v (y .type)) (λ z. T-true _ .0 (t .1 (k .sound z))) (λ z. k .complete (t .0 (T-true _ .1 z))))
+      where
+        go : (r b : Bool) → (r ≡ true → b ≡ true) → (b ≡ true → r ≡ true) → r ≡ b
+        go true b y z = sym (y refl)
+        go false true y z = z refl
+        go false false y z = refl
 
 -- The identifiers below x have values of their types.
 abbrev pub HaveBelow : List ℕ → List ℕ → List ℕ → List ℕ → ℕ → Type 0
@@ -85,14 +80,12 @@ module _ {bs s env sheet : List ℕ} (p : AllReady bs s env sheet) {x : ℕ} (be
   name-ready = record {
     header = p .header;
     below = below;
-    row = record {
-      value = rw e (record {
-        value = getD (p .values) x noValue;
-        stands = p .stand .stands x (omega (arith, p .header .identifiers));
-        fits = p .stand .fits x (omega (arith, p .header .identifiers));
-      });
-      inside = omega (arith, p .fits .rows, binds-length bs);
-    };
+    value = rw e (record {
+      value = getD (p .values) x noValue;
+      stands = p .stand .stands x (omega (arith, p .header .identifiers));
+      fits = p .stand .fits x (omega (arith, p .header .identifiers));
+    });
+    inside = omega (arith, p .fits .rows, binds-length bs);
   }
 
   module _ {q : Bool} (n : NameHas bs s at sheet x q) where

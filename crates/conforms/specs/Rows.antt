@@ -36,20 +36,12 @@ pub record TypeRow (sheet : List ℕ) (p : ℕ) : Type 0 where
   pub type : Ty
   pub read : typeOfRow (rowAt sheet p) ≡ some type
 
--- A value, and bytes enough for the row of the place p.
-pub record ValueAndRow (s : List ℕ) (at : ℕ) (sheet : List ℕ) (p : ℕ) : Type 0 where
-  pub value : SomeAt s at
-  pub inside : 64 * p + 64 ≤ length sheet
-
--- r says whether the value at `at` has the type in the row of the place p.
-abbrev pub OfRow : List ℕ → ℕ → List ℕ → ℕ → Bool → Type 0
-OfRow s at sheet p r = (v : Value) → ValueAt s at v → CellsFit v → r ≡ hasWritten sheet p v
-
 -- The value at `at` is for the identifier x, whose row is in the sheet.
 pub record NameReady (bs s : List ℕ) (at : ℕ) (sheet : List ℕ) (x : ℕ) : Type 0 where
   pub header : Header bs
   pub below : x < identifierCount bs
-  pub row : ValueAndRow s at sheet x
+  pub value : SomeAt s at
+  pub inside : 64 * x + 64 ≤ length sheet
 
 -- r says whether the value at `at` has the type of x, if x is free.
 abbrev pub NameHas : List ℕ → List ℕ → ℕ → List ℕ → ℕ → Bool → Type 0

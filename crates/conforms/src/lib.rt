@@ -10,7 +10,7 @@ ghost use Rattle.buffer.specs.Buffer.{cellsAtMost};
 ghost use Rattle.buffer.specs.Loaded.{LoadReady};
 ghost use Rattle.fitting.specs.Types.{Decides};
 ghost use Rattle.conforms.specs.Conforming.{conforming};
-ghost use Rattle.conforms.specs.Rows.{Code, GoesOn, leftBehind, TypeRow, ValueAndRow, OfRow, NameReady, NameHas};
+ghost use Rattle.conforms.specs.Rows.{Code, GoesOn, leftBehind, TypeRow, NameReady, NameHas};
 ghost use Rattle.conforms.specs.Rows.{AllReady, AllConform, ValuesLoaded, LoadedConform};
 
 // Whether a byte is the code of a type's first constructor.
@@ -66,18 +66,7 @@ fn is_row(sheet: &[u8], p: usize) -> bool
     left == 0
 }
 
-// Whether the value at `at` has the type in the row of the place p.
-fn row_has(s: &[u64], at: usize, sheet: &[u8], p: usize) -> bool
-    requires { ⌜ ValueAndRow (now s) at (now sheet) p ⌝ }
-    ensures { λ r. ⌜ OfRow (now (s .entry)) at (now (sheet .entry)) p r ⌝ }
-{
-    if !is_row(sheet, p) {
-        return false;
-    }
-    fitting::has_type(s, at, sheet, 64 * p)
-}
-
-// The same for the identifier x, if it is free.
+// Whether the value at `at` has the type in the row of the identifier x, if x is free.
 fn name_has(table: &[u8], s: &[u64], at: usize, sheet: &[u8], x: usize) -> bool
     requires { ⌜ NameReady (now table) (now s) at (now sheet) x ⌝ }
     ensures { λ r. ⌜ NameHas (now (table .entry)) (now (s .entry)) at (now (sheet .entry)) x r ⌝ }
@@ -85,7 +74,10 @@ fn name_has(table: &[u8], s: &[u64], at: usize, sheet: &[u8], x: usize) -> bool
     if table::bind(table, x) != 0 {
         return true;
     }
-    row_has(s, at, sheet, x)
+    if !is_row(sheet, x) {
+        return false;
+    }
+    fitting::has_type(s, at, sheet, 64 * x)
 }
 
 fn wide(x: u32) -> usize
