@@ -30,11 +30,12 @@ use Rattle.reading.specs.declared.Reading.the-variants.{Refused as Unreadable}
 use Rattle.reading.specs.Answers.{readingOf}
 use Rattle.table.specs.Layout.{WordOf}
 use Rattle.fitting.specs.Types.{SomeType, OfType, Decides}
+use Rattle.arena.specs.Code.{ValueAt, CellsFit}
 use Rattle.buffer.specs.declared.Loaded.{Loaded}
 use Rattle.buffer.specs.declared.Loaded.the-variants.{All, Refused}
 use Rattle.buffer.specs.Loaded.{Bound, Loads}
 use Rattle.conforms.specs.Conforming.{rowAt, hasTypeRead, hasWritten, ifFree, freeHas, conforming}
-use Rattle.conforms.specs.Rows.{TypeRow, NameReady, NameHas, AllStand, SheetFits, AllReady, AllConform}
+use Rattle.conforms.specs.Rows.{TypeRow, NameReady, NameHas, SheetFits}
 use Rattle.conforms.specs.Rows.{LoadedFrom, ValuesLoaded, LoadedConform}
 use Rattle.conforms.proofs.RowLaws.{decided-no, type-there}
 
@@ -71,42 +72,17 @@ module _ (bs s : List ℕ) (at : ℕ) (sheet : List ℕ) (x w : ℕ) (word : Wor
         go false true y z = z refl
         go false false y z = refl
 
--- The identifiers below x have values of their types.
-abbrev pub HaveBelow : List ℕ → List ℕ → List ℕ → List ℕ → ℕ → Type 0
-HaveBelow bs s env sheet x = (vs : List Value) → AllStand s env vs → allBelow (freeHas (tableOf bs) sheet vs) x ≡ true
+-- The values stand where the environment says.
+pub record AllStand (s env : List ℕ) (vs : List Value) : Type 0 where
+  pub stands : (x : ℕ) → x < 32 → ValueAt s (getD env x 0) (getD vs x noValue)
+  pub fits : (x : ℕ) → x < 32 → CellsFit (getD vs x noValue)
 
-module _ {bs s env sheet : List ℕ} (p : AllReady bs s env sheet) {x : ℕ} (below : x < identifierCount bs) {at : ℕ} (e : at ≡ getD env x 0) where
-  pub name-ready : NameReady bs s at sheet x
-  name-ready = record {
-    header = p .header;
-    below = below;
-    value = rw e (record {
-      value = getD (p .values) x noValue;
-      stands = p .stand .stands x (omega (arith, p .header .identifiers));
-      fits = p .stand .fits x (omega (arith, p .header .identifiers));
-    });
-    inside = omega (arith, p .fits .rows, binds-length bs);
-  }
-
-  module _ {q : Bool} (n : NameHas bs s at sheet x q) where
-    -- the answer for x
-    name-of : (vs : List Value) → AllStand s env vs → q ≡ freeHas (tableOf bs) sheet vs x
-    name-of vs a =
-        n (getD vs x noValue) (rw e (a .stands x (omega (arith, p .header .identifiers)))) (a .fits x (omega (arith, p .header .identifiers)))
-
-    pub have-no : q ≡ false → AllConform bs s env sheet false
-    have-no f vs a = sym (T-false _ .0 (λ t.
-        T-false _ .1 (sym (name-of vs a) ∙ f) (T-allBelow (freeHas (tableOf bs) sheet vs) (identifierCount bs) .0 t x below)))
-
-    pub have-more : q ≡ true → HaveBelow bs s env sheet x → HaveBelow bs s env sheet (x + 1)
-    have-more f b vs a = rw (add-one x, ← name-of vs a, f) (b vs a)
-
--- The values that have been read stand where the environment says.
 bound-stand : {gs ws buffer s env : List ℕ} {top end : ℕ} (b : Bound gs ws buffer s env top end) → AllStand s env (b .values)
 bound-stand b = record { stands = λ x l. b .at x l .stands; fits = λ x l. b .at x l .fits }
 
-pub all-ready : {bs s env sheet : List ℕ} → ValuesLoaded bs s env → SheetFits bs sheet → AllReady bs s env sheet
-all-ready l f = record { header = l .readable .header; fits = f; values = l .bound .values; stand = bound-stand (l .bound) }
+-- The identifiers below x have values of their types.
+abbrev pub HaveBelow : List ℕ → List ℕ → List ℕ → List ℕ → ℕ → Type 0
+HaveBelow bs s env sheet x = (vs : List Value) → AllStand s env vs → allBelow (freeHas (tableOf bs) sheet vs) x ≡ true
 
 -- The sheet's length by the numbers of identifiers and nodes.
 pub sheet-rows : (bs : List ℕ) {i n : ℕ} → i ≡ identifierCount bs → n ≡ nodeCount bs → 64 * (i + n) ≡ sheetLength (tableOf bs)
@@ -135,10 +111,41 @@ module _ {bs : List ℕ} (readable : Readable bs) (sheet : List ℕ) where
   pub misfit-not : {s env : List ℕ} → length sheet ≢ sheetLength (tableOf bs) → LoadedConform bs s env sheet false
   misfit-not n buffer top end b = rw (table-read buffer, ne-eqb (length sheet) (sheetLength (tableOf bs)) n) refl
 
-  pub fitting-same : {s env : List ℕ} {r : Bool} → SheetFits bs sheet → AllConform bs s env sheet r → LoadedConform bs s env sheet r
-  unfolding valuesIn
-  fitting-same f a buffer top end b =
-      rw (table-read buffer, eq-eqb (length sheet) (sheetLength (tableOf bs)) (f .rows), b .reads, binds-length bs) (a (b .values) (bound-stand b))
+  -- The values have been read, and the sheet has the table's length.
+  module _ {s env : List ℕ} (fits : SheetFits bs sheet) where
+    fitting-same : {r : Bool} → ((vs : List Value) → AllStand s env vs → r ≡ allBelow (freeHas (tableOf bs) sheet vs) (identifierCount bs)) →
+        LoadedConform bs s env sheet r
+    unfolding valuesIn
+    fitting-same a buffer top end b =
+        rw (table-read buffer, eq-eqb (length sheet) (sheetLength (tableOf bs)) (fits .rows), b .reads, binds-length bs) (a (b .values) (bound-stand b))
+
+    pub have-all : (x : ℕ) → HaveBelow bs s env sheet x → identifierCount bs ≡ x → LoadedConform bs s env sheet true
+    have-all x h e = fitting-same (λ vs a. rw e (sym (h vs a)))
+
+    module _ {x : ℕ} (below : x < identifierCount bs) {at : ℕ} (e : at ≡ getD env x 0) where
+      pub name-ready : ValuesLoaded bs s env → NameReady bs s at sheet x
+      name-ready l =
+          let h = l .bound .at x (omega (arith, readable .header .identifiers)) in
+          record {
+            header = readable .header;
+            below = below;
+            value = rw e (record { value = getD (l .bound .values) x noValue; stands = h .stands; fits = h .fits });
+            inside = omega (arith, fits .rows, binds-length bs);
+          }
+
+      module _ {q : Bool} (n : NameHas bs s at sheet x q) where
+        -- the answer for x
+        name-of : (vs : List Value) → AllStand s env vs → q ≡ freeHas (tableOf bs) sheet vs x
+        name-of vs a =
+            let l : x < 32 = omega (arith, readable .header .identifiers) in
+            n (getD vs x noValue) (rw e (a .stands x l)) (a .fits x l)
+
+        pub have-no : q ≡ false → LoadedConform bs s env sheet false
+        have-no f = fitting-same (λ vs a. sym (T-false _ .0 (λ t.
+            T-false _ .1 (sym (name-of vs a) ∙ f) (T-allBelow (freeHas (tableOf bs) sheet vs) (identifierCount bs) .0 t x below))))
+
+        pub have-more : q ≡ true → HaveBelow bs s env sheet x → HaveBelow bs s env sheet (x + 1)
+        have-more f b vs a = rw (add-one x, ← name-of vs a, f) (b vs a)
 
 -- Values that refusal 14 has passed.
 pub loads-all : (bs buffer s env : List ℕ) (a : Loaded) {end : ℕ} → Loads (tableOf bs .sizes) (tableOf bs .binds) buffer s env 0 a → a ≡ All end →

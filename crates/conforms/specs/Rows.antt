@@ -8,15 +8,13 @@ use mathlib.Core.Path.{_≡_}
 use lib.ListN.{length, getD}
 use Rattle.rules.specs.Types.{Ty, typeOfRow}
 use Rattle.rules.specs.Values.{Value}
-use Rattle.rules.specs.Cells.{noValue}
 use Rattle.rules.specs.Tables.{tableOf, identifierCount}
-use Rattle.rules.specs.Ends.{allBelow}
 use Rattle.rules.specs.Readable.{Header, Readable}
 use Rattle.rules.specs.Verdict.{sheetLength}
 use Rattle.arena.specs.Code.{ValueAt, CellsFit, SomeAt}
 use Rattle.fitting.specs.Types.{typeParts}
 use Rattle.buffer.specs.Loaded.{Bound}
-use Rattle.conforms.specs.Conforming.{rowAt, hasWritten, ifFree, freeHas, conforming}
+use Rattle.conforms.specs.Conforming.{rowAt, hasWritten, ifFree, conforming}
 
 -- The codes that a type may begin with.
 abbrev pub Code : ℕ → Type 0
@@ -47,24 +45,9 @@ pub record NameReady (bs s : List ℕ) (at : ℕ) (sheet : List ℕ) (x : ℕ) :
 abbrev pub NameHas : List ℕ → List ℕ → ℕ → List ℕ → ℕ → Bool → Type 0
 NameHas bs s at sheet x r = (v : Value) → ValueAt s at v → CellsFit v → r ≡ ifFree (getD (tableOf bs .binds) x 1) (hasWritten sheet x v)
 
--- The values stand where the environment says.
-pub record AllStand (s env : List ℕ) (vs : List Value) : Type 0 where
-  pub stands : (x : ℕ) → x < 32 → ValueAt s (getD env x 0) (getD vs x noValue)
-  pub fits : (x : ℕ) → x < 32 → CellsFit (getD vs x noValue)
-
 -- The sheet has a row for each place of the table.
 pub record SheetFits (bs sheet : List ℕ) : Type 0 where
   pub rows : length sheet ≡ sheetLength (tableOf bs)
-
-pub record AllReady (bs s env sheet : List ℕ) : Type 0 where
-  pub header : Header bs
-  pub fits : SheetFits bs sheet
-  pub values : List Value
-  pub stand : AllStand s env values
-
--- r says whether each free identifier has a value of the type in its row.
-abbrev pub AllConform : List ℕ → List ℕ → List ℕ → List ℕ → Bool → Type 0
-AllConform bs s env sheet r = (vs : List Value) → AllStand s env vs → r ≡ allBelow (freeHas (tableOf bs) sheet vs) (identifierCount bs)
 
 -- The values of a buffer have been read into the arena s from `top` to `end`, and refusal 14 has passed them.
 abbrev pub LoadedFrom : List ℕ → List ℕ → List ℕ → List ℕ → ℕ → ℕ → Type 0

@@ -11,7 +11,7 @@ ghost use Rattle.buffer.specs.Loaded.{LoadReady};
 ghost use Rattle.fitting.specs.Types.{Decides};
 ghost use Rattle.conforms.specs.Conforming.{conforming};
 ghost use Rattle.conforms.specs.Rows.{Code, GoesOn, leftBehind, TypeRow, NameReady, NameHas};
-ghost use Rattle.conforms.specs.Rows.{AllReady, AllConform, ValuesLoaded, LoadedConform};
+ghost use Rattle.conforms.specs.Rows.{ValuesLoaded, LoadedConform};
 
 // Whether a byte is the code of a type's first constructor.
 fn is_code(c: u8) -> bool
@@ -86,12 +86,15 @@ fn wide(x: u32) -> usize
     x as usize
 }
 
-// The same for all identifiers.
-fn all_have(table: &[u8], s: &[u64], env: &[u32; 32], sheet: &[u8]) -> bool
-    requires { ⌜ AllReady (now table) (now s) (now env) (now sheet) ⌝ }
-    ensures { λ r. ⌜ AllConform (now (table .entry)) (now (s .entry)) (now (env .entry)) (now (sheet .entry)) r ⌝ }
+// The same for all identifiers, whose values `buffer::load` has read into the arena s from any place on; the sheet may have any length.
+pub fn loaded_conform(table: &[u8], s: &[u64], env: &[u32; 32], sheet: &[u8]) -> bool
+    requires { ⌜ ValuesLoaded (now table) (now s) (now env) ⌝ }
+    ensures { λ r. ⌜ LoadedConform (now (table .entry)) (now (s .entry)) (now (env .entry)) (now (sheet .entry)) r ⌝ }
 {
     let count = table::identifiers(table);
+    if sheet.len() != 64 * (count + table::nodes(table)) {
+        return false;
+    }
     let mut x: usize = 0;
     while x < count {
         let at = wide(env[x]);
@@ -101,17 +104,6 @@ fn all_have(table: &[u8], s: &[u64], env: &[u32; 32], sheet: &[u8]) -> bool
         x += 1;
     }
     true
-}
-
-// The same for the values that `buffer::load` has read into the arena s, from any place on, and for a sheet of any length.
-pub fn loaded_conform(table: &[u8], s: &[u64], env: &[u32; 32], sheet: &[u8]) -> bool
-    requires { ⌜ ValuesLoaded (now table) (now s) (now env) ⌝ }
-    ensures { λ r. ⌜ LoadedConform (now (table .entry)) (now (s .entry)) (now (env .entry)) (now (sheet .entry)) r ⌝ }
-{
-    if sheet.len() != 64 * (table::identifiers(table) + table::nodes(table)) {
-        return false;
-    }
-    all_have(table, s, env, sheet)
 }
 
 // The same for the values of a buffer, which are read into the arena s.
