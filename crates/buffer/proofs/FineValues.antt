@@ -7,8 +7,7 @@ use mathlib.Core.Logic.{_↔_}
 use mathlib.Core.Path.{_≡_, refl, sym, ap, subst, _∙_}
 use native.Mathlib.Omega.{arith}
 use native.Mathlib.Nat.{add-zero}
-use lib.Dec.{T, eqb}
-use borrow.Author.Tests.{le-leb, lt-leb}
+use lib.Dec.{T}
 use lib.ListN.{getD}
 use Rattle.rules.specs.Values.{Value, scalar, pair, set, Values, none, _▸_, tag, count, weight, weights}
 use Rattle.rules.specs.Fits.{typesOf, sharedTypes, inhabited, typed}
@@ -191,12 +190,6 @@ module _ {s : List ℕ} {at end : ℕ} (e : EndsAt s at end) (v : Value) (h : Va
       subst (λ (j : ℕ). (ws : Values) × Left s j end ws × (T (ordered v && typed v) → AllFine ws)) p (reach (i - at) (omega arith))
 
 -- A set whose members are one cell each, known by its number of cells: only the members themselves are to be tested. The test, by the cell.
-pub flat-low : (x n : ℕ) → x < 21474836480 → false ≡ isFlat x n
-flat-low x n l = rw (lt-leb 21474836480 x l)
-
-pub flat-set : (x n l : ℕ) → 21474836480 ≤ x → l ≡ x % 4294967296 → eqb (l + 1) n ≡ isFlat x n
-flat-set x n l h e = rw (le-leb 21474836480 x h, e)
-
 -- What it says.
 pub flat-is : (x n : ℕ) → isFlat x n ≡ true → (5 * cellSize ≤ x) × (x % cellSize + 1 ≡ n)
 flat-is x n e = simp (T-and, T-leb, T-eqb) at (T-true (isFlat x n) .1 e)
