@@ -7,8 +7,7 @@ use mathlib.Core.Logic.{_↔_}
 use mathlib.Core.Path.{_≡_, refl, sym, ap, subst, _∙_}
 use native.Mathlib.Omega.{arith}
 use native.Mathlib.Nat.{add-zero}
-use lib.Dec.{T, eqb}
-use borrow.Author.Tests.{le-leb, lt-leb}
+use lib.Dec.{T}
 use lib.ListN.{getD}
 use Rattle.rules.specs.Values.{Value, scalar, pair, set, Values, none, _▸_, tag, count, weight, weights}
 use Rattle.rules.specs.Fits.{typesOf, sharedTypes, inhabited, typed}
@@ -25,7 +24,7 @@ use Rattle.buffer.proofs.Ahead.{inner}
 use Rattle.buffer.proofs.Ordering.{scalar-tag}
 
 -- Values that are fine: the members of a set are where it is, and share a type.
-abbrev AllFine : Values → Type 0
+abbrev pub AllFine : Values → Type 0
 AllFine none = Unit {0}
 AllFine (v ▸ vs) = T (ordered v && typed v) × AllFine vs
 
@@ -69,29 +68,16 @@ fine-next (set ms) ws =
       λ h. let p = all-join ms ws .0 (h .1) in (((h .0 .0, all-parts ms .0 (p .0) .0), h .0 .1), p .1),
     )
 
--- What is left of values behind their first cell, and behind their first n cells.
+-- What is left of values behind their first cell.
 abbrev next : Values → Values
 next none = none
 next (w ▸ ws) = inner w before ws
 
-pub after : Values → ℕ → Values
-after vs zero = vs
-after vs (suc n) = next (after vs n)
-
-after-fine : (vs : Values) → AllFine vs → (n : ℕ) → AllFine (after vs n)
-unfolding after
-after-fine vs h zero = h
-after-fine vs h (suc n) = go (after vs n) (after-fine vs h n)
-  where
-    go : (ws : Values) → AllFine ws → AllFine (next ws)
-    go none h = tt
-    go (w ▸ ws) h = fine-next w ws .0 h .1
-
 -- Values stand from i to `end`.
-record Left (s : List ℕ) (i end : ℕ) (ws : Values) : Type 0 where
-  stands : ValuesAt s i ws
-  fits : AllFit ws
-  ends : i + weights ws ≡ end
+pub record Left (s : List ℕ) (i end : ℕ) (ws : Values) : Type 0 where
+  pub stands : ValuesAt s i ws
+  pub fits : AllFit ws
+  pub ends : i + weights ws ≡ end
 
 code-first : (v : Value) → (x : ℕ) × (code v ≡ x ∷ codes (inner v))
 unfolding code
@@ -117,128 +103,93 @@ left-next s i end (w ▸ ws) h l =
       ends = omega (arith, weights-before (inner w) ws, g .1, h .ends);
     }
 
-after-left : (s : List ℕ) (at end : ℕ) (vs : Values) → Left s at end vs → (n : ℕ) → at + n ≤ end → Left s (at + n) end (after vs n)
-unfolding after
-after-left s at end vs h zero l = subst (λ (j : ℕ). Left s j end vs) (sym (add-zero at)) h
-after-left s at end vs h (suc n) l =
-    let e : at + n + 1 ≡ at + suc n = omega arith in
-    subst (λ (j : ℕ). Left s j end (next (after vs n))) e (left-next s (at + n) end (after vs n) (after-left s at end vs h n (omega arith)) (omega arith))
+-- Whatever values stand from i to `end` are fine.
+abbrev pub FineFrom : List ℕ → ℕ → ℕ → Type 0
+FineFrom s i end = (ws : Values) → Left s i end ws → AllFine ws
 
--- What is left of v from the cell i on is fine.
-abbrev pub FineFrom : ℕ → ℕ → Value → Type 0
-FineFrom at i v = AllFine (after (v ▸ none) (i - at))
+pub from-end : (s : List ℕ) (end : ℕ) → FineFrom s end end
+from-end s end none l = tt
+from-end s end (w ▸ ws) l = absurd (omega (arith, l .ends, weight-some w))
 
-module _ (s : List ℕ) (at end : ℕ) (v : Value) (h : ValueAt s at v) (f : CellsFit v) (e : EndsAt s at end) where
-  left-at : (i : ℕ) → at ≤ i → i ≤ end → Left s i end (after (v ▸ none) (i - at))
-  unfolding code
-  left-at i a b =
-      let p : at + (i - at) ≡ i = omega arith in
-      let l : Left s at end (v ▸ none) = record {
-        stands = subst (λ (l : List ℕ). Stands s at l) (sym (append-nil (code v))) h;
-        fits = (f, tt);
-        ends = omega (arith, e v h f);
-      } in
-      subst (λ (j : ℕ). Left s j end (after (v ▸ none) (i - at))) p (after-left s at end (v ▸ none) l (i - at) (omega arith))
+-- One cell back: the cell x before i.
+module _ {s : List ℕ} {i end x : ℕ} (low : 0 < i) (high : i ≤ end) (here : x ≡ getD s (i - 1) 0) (a : FineFrom s i end) where
+  cell-here : (w : Value) (ws : Values) → Left s (i - 1) end (w ▸ ws) → x / cellSize ≡ tag w
+  cell-here w ws l =
+      ap (λ (y : ℕ). y / cellSize) here ∙ first-cell s (i - 1) w (first-stands s (i - 1) w ws (l .stands)) (l .fits .0) .0
 
-  pub from-end : FineFrom at end v
-  from-end = go (after (v ▸ none) (end - at)) (left-at end (omega (arith, e v h f)) (omega arith))
+  rest-fine : (ws : Values) → Left s (i - 1) end ws → AllFine (next ws)
+  rest-fine ws l =
+      let p : i - 1 + 1 ≡ i = omega arith in
+      a (next ws) (subst (λ (j : ℕ). Left s j end (next ws)) p (left-next s (i - 1) end ws l (omega arith)))
+
+  -- it is not a set's
+  pub from-other : x < 5 * cellSize → FineFrom s (i - 1) end
+  from-other n none l = tt
+  from-other n (w ▸ ws) l = fine-next w ws .1 (passes w (cell-here w ws l), rest-fine (w ▸ ws) l)
     where
-      go : (ws : Values) → Left s end end ws → AllFine ws
-      go none l = tt
-      go (w ▸ ws) l = absurd (omega (arith, l .ends, weight-some w))
+      passes : (w : Value) → x / cellSize ≡ tag w → Passes w
+      passes (scalar y) e = tt
+      passes (pair p q) e = tt
+      passes (set ms) e = absurd (omega arith)
 
-  pub from-start : (i : ℕ) → i ≤ at → FineFrom at i v → true ≡ (ordered v && typed v)
-  unfolding after
-  from-start i l t =
-      let z : i - at ≡ 0 = omega arith in
-      sym (T-true (ordered v && typed v) .0 (subst (λ (n : ℕ). AllFine (after (v ▸ none) n)) z t .0))
+  -- it is a set's, with n members
+  module _ (set-here : 5 * cellSize ≤ x) {n : ℕ} (q : n ≡ x % cellSize) where
+    set-first : (ws : Values) → Left s (i - 1) end ws → (ms : Values) × (us : Values) × (ws ≡ set ms ▸ us) × TypedRow s i n ms
+    set-first none l = absurd (omega (arith, l .ends))
+    set-first (scalar z ▸ ws) l = absurd (scalar-tag z (omega (arith, cell-here (scalar z) ws l)))
+    set-first (pair v w ▸ ws) l = absurd (omega (arith, cell-here (pair v w) ws l))
+    set-first (set ms ▸ ws) l =
+        let st = first-stands s (i - 1) (set ms) ws (l .stands) in
+        let p : i - 1 + 1 ≡ i = omega arith in
+        let row : TypedRow s i n ms = record {
+          stands = subst (λ (j : ℕ). ValuesAt s j ms) p (members-stand s (i - 1) ms st);
+          fits = l .fits .0 .1;
+          counted = omega (arith, first-cell s (i - 1) (set ms) st (l .fits .0) .1);
+          typed = all-parts ms .0 (all-join ms ws .0 (rest-fine (set ms ▸ ws) l) .0) .1;
+        } in
+        (ms, ws, refl, row)
 
-  -- One cell back: the cell x before i.
-  module _ (i x : ℕ) (low : at < i) (high : i ≤ end) (here : x ≡ getD s (i - 1) 0) (a : FineFrom at i v) where
-    abbrev rest : Values
-    rest = after (v ▸ none) (i - 1 - at)
+    pub from-members : (ws : Values) → Left s (i - 1) end ws → SomeTypedRow s i n
+    from-members ws l = let t = set-first ws l in (t .0, t .3)
 
-    rest-left : Left s (i - 1) end rest
-    rest-left = left-at (i - 1) (omega arith) (omega arith)
+    module _ {r : Bool} (k : MembersFine s i n r) where
+      pub from-set : r ≡ true → FineFrom s (i - 1) end
+      from-set z ws l =
+          let t = set-first ws l in
+          rw (t .2) (fine-next (set (t .0)) (t .1) .1
+          (T-true _ .1 (sym (k (t .0) (t .3)) ∙ z), subst (λ (us : Values). AllFine (next us)) (t .2) (rest-fine ws l)))
 
-    rest-next : AllFine (next rest)
-    unfolding after
-    rest-next = let p : i - at ≡ suc (i - 1 - at) = omega arith in subst (λ (n : ℕ). AllFine (after (v ▸ none) n)) p a
+      pub from-fails : r ≡ false → (ws : Values) → Left s (i - 1) end ws → AllFine ws → ⊥
+      from-fails z ws l h =
+          let t = set-first ws l in
+          T-false _ .1 (sym (k (t .0) (t .3)) ∙ z) (fine-next (set (t .0)) (t .1) .0 (subst AllFine (t .2) h) .0)
 
-    cell-here : (w : Value) (ws : Values) → Left s (i - 1) end (w ▸ ws) → x / cellSize ≡ tag w
-    cell-here w ws l =
-        ap (λ (y : ℕ). y / cellSize) here ∙ first-cell s (i - 1) w (first-stands s (i - 1) w ws (l .stands)) (l .fits .0) .0
+-- The value v stands from `at` to `end`. What stands from a cell of it on is fine where v is.
+module _ {s : List ℕ} {at end : ℕ} (e : EndsAt s at end) (v : Value) (h : ValueAt s at v) (f : CellsFit v) where
+  left-start : Left s at end (v ▸ none)
+  unfolding code
+  left-start = record { stands = subst (λ (l : List ℕ). Stands s at l) (sym (append-nil (code v))) h; fits = (f, tt); ends = omega (arith, e v h f) }
 
-    -- it is not a set's
-    pub from-other : x < 5 * cellSize → FineFrom at (i - 1) v
-    from-other n = go rest rest-left rest-next
-      where
-        passes : (w : Value) → x / cellSize ≡ tag w → Passes w
-        passes (scalar y) e = tt
-        passes (pair p q) e = tt
-        passes (set ms) e = absurd (omega arith)
+  pub from-start : FineFrom s at end → true ≡ (ordered v && typed v)
+  from-start a = sym (T-true (ordered v && typed v) .0 (a (v ▸ none) left-start .0))
 
-        go : (ws : Values) → Left s (i - 1) end ws → AllFine (next ws) → AllFine ws
-        go none l y = tt
-        go (w ▸ ws) l y = fine-next w ws .1 (passes w (cell-here w ws l), y)
+  reach : (n : ℕ) → at + n ≤ end → (ws : Values) × Left s (at + n) end ws × (T (ordered v && typed v) → AllFine ws)
+  reach zero l = (v ▸ none, subst (λ (j : ℕ). Left s j end (v ▸ none)) (sym (add-zero at)) left-start, λ t. (t, tt))
+  reach (suc n) l =
+      let r = reach n (omega arith) in
+      let p : at + n + 1 ≡ at + suc n = omega arith in
+      (next (r .0), subst (λ (j : ℕ). Left s j end (next (r .0))) p (left-next s (at + n) end (r .0) (r .1) (omega arith)), λ t. behind (r .0) (r .2 t))
+    where
+      behind : (ws : Values) → AllFine ws → AllFine (next ws)
+      behind none h = tt
+      behind (w ▸ ws) h = fine-next w ws .0 h .1
 
-    -- it is a set's, with n members
-    module _ (set-here : 5 * cellSize ≤ x) (n : ℕ) (q : n ≡ x % cellSize) where
-      record SetFirst (ws : Values) : Type 0 where
-        members : Values
-        others : Values
-        whole : ws ≡ set members ▸ others
-        row : TypedRow s i n members
-
-      set-first : SetFirst rest
-      set-first = go rest rest-left rest-next
-        where
-          go : (ws : Values) → Left s (i - 1) end ws → AllFine (next ws) → SetFirst ws
-          go none l y = absurd (omega (arith, l .ends))
-          go (scalar z ▸ ws) l y = absurd (scalar-tag z (omega (arith, cell-here (scalar z) ws l)))
-          go (pair p r ▸ ws) l y = absurd (omega (arith, cell-here (pair p r) ws l))
-          go (set ms ▸ ws) l y =
-              let st = first-stands s (i - 1) (set ms) ws (l .stands) in
-              let p : i - 1 + 1 ≡ i = omega arith in
-              record {
-                members = ms;
-                others = ws;
-                whole = refl;
-                row = record {
-                  stands = subst (λ (j : ℕ). ValuesAt s j ms) p (members-stand s (i - 1) ms st);
-                  fits = l .fits .0 .1;
-                  counted = omega (arith, first-cell s (i - 1) (set ms) st (l .fits .0) .1);
-                  typed = all-parts ms .0 (all-join ms ws .0 y .0) .1;
-                };
-              }
-
-      pub from-members : SomeTypedRow s i n
-      from-members = (set-first .members, set-first .row)
-
-      module _ (r : Bool) (k : MembersFine s i n r) where
-        abbrev first : Value
-        first = set (set-first .members)
-
-        test : r ≡ (inOrder (set-first .members) && inhabited (sharedTypes (set-first .members)))
-        test = k (set-first .members) (set-first .row)
-
-        pub from-set : r ≡ true → FineFrom at (i - 1) v
-        from-set z =
-            rw (set-first .whole)
-            (fine-next first (set-first .others) .1 (T-true _ .1 (sym test ∙ z), subst (λ (ws : Values). AllFine (next ws)) (set-first .whole) rest-next))
-
-        pub from-fails : r ≡ false → false ≡ (ordered v && typed v)
-        from-fails z = sym (T-false (ordered v && typed v) .0 (λ u.
-            let y = subst AllFine (set-first .whole) (after-fine (v ▸ none) (u, tt) (i - 1 - at)) in
-            T-false _ .1 (sym test ∙ z) (fine-next first (set-first .others) .0 y .0)))
+  pub reached : (i : ℕ) → at ≤ i → i ≤ end → (ws : Values) × Left s i end ws × (T (ordered v && typed v) → AllFine ws)
+  reached i a b =
+      let p : at + (i - at) ≡ i = omega arith in
+      subst (λ (j : ℕ). (ws : Values) × Left s j end ws × (T (ordered v && typed v) → AllFine ws)) p (reach (i - at) (omega arith))
 
 -- A set whose members are one cell each, known by its number of cells: only the members themselves are to be tested. The test, by the cell.
-pub flat-low : (x n : ℕ) → x < 21474836480 → false ≡ isFlat x n
-flat-low x n l = rw (lt-leb 21474836480 x l)
-
-pub flat-set : (x n l : ℕ) → 21474836480 ≤ x → l ≡ x % 4294967296 → eqb (l + 1) n ≡ isFlat x n
-flat-set x n l h e = rw (le-leb 21474836480 x h, e)
-
 -- What it says.
 pub flat-is : (x n : ℕ) → isFlat x n ≡ true → (5 * cellSize ≤ x) × (x % cellSize + 1 ≡ n)
 flat-is x n e = simp (T-and, T-leb, T-eqb) at (T-true (isFlat x n) .1 e)

@@ -58,18 +58,6 @@ for-good gs w x bs v rest z e g = rw (z, e) (passes (good gs v) (v, rest) g)
     passes true r t = refl
     passes false r t = absurd t
 
-for-bad : (gs : List ℕ) (w x : ℕ) (bs : List ℕ) → w ≡ 0 → ((v : Value) (rest : List ℕ) → value bs ≡ some (v, rest) → T (good gs v) → ⊥) →
-    valueFor gs w x bs ≡ refused 14 x
-for-bad gs w x bs z u = rw z (go (value bs) refl)
-  where
-    fails : (b : Bool) (r : Value × List ℕ) → (T b → ⊥) → (require 14 x b >>= λ _. done r) ≡ refused 14 x
-    fails true r n = absurd (n tt)
-    fails false r n = refl
-
-    go : (r : Option (Value × List ℕ)) → value bs ≡ r → (orFault x r >>= λ p. require 14 x (good gs (p .0)) >>= λ _. done p) ≡ refused 14 x
-    go nothing e = refl
-    go (some p) e = fails (good gs (p .0)) p (u (p .0) (p .1) e)
-
 pub entry-bound : (gs : List ℕ) (w : ℕ) (bs : List ℕ) (at : ℕ) (s : List ℕ) (nowhere top : ℕ) → (w ≡ 0 → ⊥) →
     Entered gs w bs at s s nowhere top nowhere at top
 entry-bound gs w bs at s nowhere top n = record {
@@ -95,7 +83,15 @@ entry-free {gs} {bs} {at} {s′} {top} {next} {end} w s nowhere z h o =
     }
 
 pub entry-bad : (gs : List ℕ) (w x : ℕ) (bs : List ℕ) (at : ℕ) → w ≡ 0 → Unread gs bs at → valueFor gs w x (drop at bs) ≡ refused 14 x
-entry-bad gs w x bs at z u = for-bad gs w x (drop at bs) z u
+entry-bad gs w x bs at z u = rw z (go (value (drop at bs)) refl)
+  where
+    fails : (b : Bool) (r : Value × List ℕ) → (T b → ⊥) → (require 14 x b >>= λ _. done r) ≡ refused 14 x
+    fails true r n = absurd (n tt)
+    fails false r n = refl
+
+    go : (r : Option (Value × List ℕ)) → value (drop at bs) ≡ r → (orFault x r >>= λ p. require 14 x (good gs (p .0)) >>= λ _. done p) ≡ refused 14 x
+    go nothing e = refl
+    go (some p) e = fails (good gs (p .0)) p (u (p .0) (p .1) e)
 
 -- A value below `top` stays where nothing below changes.
 pub below-same : (s s′ : List ℕ) (top end at : ℕ) (v : Value) → Same top s s′ → top ≤ end → ValueBelow s top at v → ValueBelow s′ end at v

@@ -185,22 +185,6 @@ module _ (s : List ℕ) (at n i k : ℕ) (vs : Values) (row : TypedRow s at n vs
           there = omega (arith, h .there, weights-before (h .front) (w ▸ none), ends w (x .3 .stands) (x .3 .fits));
         }
 
--- The bounds of the cells that are alike, by the tag.
-module _ (x t : ℕ) (tagged : t ≡ x / cellSize) where
-  module _ (element : t ≡ 3) where
-    pub least-element : x / 256 * 256 ≡ leastAlike x
-    least-element = rw (eq-eqb (x / cellSize) 3 (sym tagged ∙ element))
-
-    pub most-element : x / 256 * 256 + 255 ≡ mostAlike x
-    most-element = rw (eq-eqb (x / cellSize) 3 (sym tagged ∙ element))
-
-  module _ (other : t ≡ 3 → ⊥) where
-    pub least-other : x / cellSize * cellSize ≡ leastAlike x
-    least-other = rw (ne-eqb (x / cellSize) 3 (λ e. other (tagged ∙ e)))
-
-    pub most-other : x / cellSize * cellSize + 4294967295 ≡ mostAlike x
-    most-other = rw (ne-eqb (x / cellSize) 3 (λ e. other (tagged ∙ e)))
-
 -- Two cells are alike where the second lies between the bounds of the first.
 module _ (x y : ℕ) where
   by-tag : (P : ℕ → ℕ → Bool → Type 0) →

@@ -3,14 +3,14 @@
 use Prim.Native.Nat.{ℕ, zero, suc, _+_, _*_, _-_, _≤_, _<_}
 use mathlib.Core.Bool.{Bool, true, false, cond, false≢true}
 use mathlib.Core.List.{List, [], _∷_}
-use mathlib.Core.Logic.{_≢_, _⊎_, _↔_, inl, inr, Iff·rfl, Iff·trans}
+use mathlib.Core.Logic.{_≢_, _⊎_, _↔_, inl, inr, Iff·trans}
 use mathlib.Core.Option.{Option, none as nothing, some, bind}
 use mathlib.Core.Path.{_≡_, refl, sym, ap, _∙_}
 use native.Mathlib.Omega.{arith}
 use native.Mathlib.Numerals.{add-one}
 use lib.Dec.{eqb, leb}
-use borrow.Author.Tests.{leb-true, leb-false}
-use lib.ListN.{length, getD, drop, length-take, length-drop}
+use borrow.Author.Tests.{leb-true, leb-false, eqb-true, eq-eqb}
+use lib.ListN.{length, getD, take, drop, length-take, length-drop}
 use lib.Seq.{drop-cons, getD-take, getD-drop}
 use Rattle.rules.specs.Types.{Ty, G, codeBefore, typesIn, onlyType, typeOfRow}
 use Rattle.rules.proofs.TypeLaws.{row-length, typeOfRow-right}
@@ -18,7 +18,7 @@ use Rattle.rules.proofs.Basics.{absurd01}
 use Rattle.fitting.specs.Types.{TypeAt, typeParts, Decides}
 use Rattle.fitting.proofs.Types.{parts-atom, row-type}
 use Rattle.conforms.specs.Conforming.{rowAt}
-use Rattle.conforms.specs.Rows.{Code, span, Counted, TypeRow}
+use Rattle.conforms.specs.Rows.{Code, GoesOn, leftBehind, TypeRow}
 
 -- An answer that is true, by what it decides; and what does not hold where it is false.
 pub agrees : {A : Type 0} → A → Decides true A
@@ -48,6 +48,27 @@ parts-most c = go (eqb c 3) (eqb c 4)
     go false true = omega arith
     go false false = omega arith
 
+behind-few : (c left : ℕ) → leftBehind c left ≤ left + 1
+behind-few c zero = omega arith
+behind-few c (suc n) = omega (arith, parts-most c)
+
+-- What may stand there, and what is then left, by whether types are left.
+pub goes-zero : (c : ℕ) {left : ℕ} → left ≡ 0 → Decides (eqb c 0) (GoesOn c left)
+goes-zero c e = rw e (record { sound = λ h. eqb-true c 0 h; complete = λ h. eq-eqb c 0 h })
+
+pub goes-code : {c left : ℕ} {r : Bool} → left ≢ 0 → Decides r (Code c) → Decides r (GoesOn c left)
+goes-code {left = zero} n d = absurd (n refl)
+goes-code {left = suc k} n d = d
+
+pub behind-code : (c left : ℕ) {n : ℕ} → left ≢ 0 → n ≡ typeParts c → left - 1 + n ≡ leftBehind c left
+behind-code c zero n e = absurd (n refl)
+behind-code c (suc k) n e = omega arith
+
+-- n types have been read.
+abbrev Counted : Option (List Ty) → ℕ → Type 0
+Counted nothing n = ⊥
+Counted (some ts) n = length ts ≡ n
+
 -- A code from 5 on is that of a given set, or none.
 given-counts : (c k n : ℕ) (ts : List Ty) → c ≡ k → 4 < c →
     Counted (cond (leb 16 k) (some (G (k - 16) ∷ ts)) nothing) (suc n) ↔ (Code c × (length ts ≡ n + typeParts c))
@@ -60,68 +81,45 @@ given-counts c k n ts e l = go (leb 16 k) refl
     go true f = (λ h. (inr (omega (arith, leb-true 16 k f)), omega (arith, none-behind)), λ h. omega (arith, h .1, none-behind))
     go false f = (λ h. absurd h, λ h. absurd (no-code c (omega (arith, leb-false 16 k f)) (inr l) (h .0)))
 
--- What a code makes of the types behind it, where more than none come out of it, and where none do: only a zero makes none.
-code-counts : (c : ℕ) (o : Option (List Ty)) (n : ℕ) → Counted (bind o (codeBefore c)) (suc n) ↔ (Code c × Counted o (n + typeParts c))
-unfolding bind
-code-counts c nothing n = (λ h. absurd h, λ h. absurd (h .1))
-code-counts zero (some []) n = (λ h. absurd (omega arith), λ h. absurd (no-code 0 (omega arith) (inl refl) (h .0)))
-code-counts zero (some (t ∷ ts)) n = (λ h. absurd h, λ h. absurd (no-code 0 (omega arith) (inl refl) (h .0)))
-code-counts (suc zero) (some ts) n = (λ h. (inl (omega arith, omega arith), omega arith), λ h. omega (arith, h .1))
-code-counts (suc (suc zero)) (some ts) n = (λ h. (inl (omega arith, omega arith), omega arith), λ h. omega (arith, h .1))
-code-counts (suc (suc (suc zero))) (some []) n = (λ h. absurd h, λ h. absurd (omega (arith, h .1)))
-code-counts (suc (suc (suc zero))) (some (t ∷ ts)) n = (λ h. (inl (omega arith, omega arith), omega arith), λ h. omega (arith, h .1))
-code-counts (suc (suc (suc (suc zero)))) (some []) n = (λ h. absurd h, λ h. absurd (omega (arith, h .1)))
-code-counts (suc (suc (suc (suc zero)))) (some (t ∷ [])) n = (λ h. absurd h, λ h. absurd (omega (arith, h .1)))
-code-counts (suc (suc (suc (suc zero)))) (some (t ∷ u ∷ ts)) n = (λ h. (inl (omega arith, omega arith), omega arith), λ h. omega (arith, h .1))
-code-counts (suc (suc (suc (suc (suc c))))) (some ts) n = given-counts (suc (suc (suc (suc (suc c))))) (5 + c) n ts (omega arith) (omega arith)
-
-zero-counts : (c : ℕ) (o : Option (List Ty)) → Counted (bind o (codeBefore c)) 0 ↔ ((c ≡ 0) × Counted o 0)
-unfolding bind
-zero-counts c nothing = (λ h. absurd h, λ h. absurd (h .1))
-zero-counts zero (some []) = (λ h. (refl, refl), λ h. refl)
-zero-counts zero (some (t ∷ ts)) = (λ h. absurd h, λ h. omega (arith, h .1))
-zero-counts (suc c) (some ts) = (λ h. absurd (go c ts h), λ h. absurd (omega (arith, h .0)))
+-- A byte that is not zero makes a type, or nothing.
+some-made : (c : ℕ) (ts : List Ty) → Counted (codeBefore (suc c) ts) 0 → ⊥
+some-made zero ts h = omega arith
+some-made (suc zero) ts h = omega arith
+some-made (suc (suc zero)) [] h = h
+some-made (suc (suc zero)) (t ∷ ts) h = omega arith
+some-made (suc (suc (suc zero))) [] h = h
+some-made (suc (suc (suc zero))) (t ∷ []) h = h
+some-made (suc (suc (suc zero))) (t ∷ u ∷ ts) h = omega arith
+some-made (suc (suc (suc (suc c)))) ts h = go (leb 16 (5 + c)) h
   where
-    high : (b : Bool) (n : ℕ) (ts : List Ty) → Counted (cond b (some (G n ∷ ts)) nothing) 0 → ⊥
-    high true n ts h = omega arith
-    high false n ts h = h
+    go : (b : Bool) → Counted (cond b (some (G (5 + c - 16) ∷ ts)) nothing) 0 → ⊥
+    go true h = omega arith
+    go false h = h
 
-    go : (c : ℕ) (ts : List Ty) → Counted (codeBefore (suc c) ts) 0 → ⊥
-    go zero ts h = omega arith
-    go (suc zero) ts h = omega arith
-    go (suc (suc zero)) [] h = h
-    go (suc (suc zero)) (t ∷ ts) h = omega arith
-    go (suc (suc (suc zero))) [] h = h
-    go (suc (suc (suc zero))) (t ∷ []) h = h
-    go (suc (suc (suc zero))) (t ∷ u ∷ ts) h = omega arith
-    go (suc (suc (suc (suc c)))) ts h = high (leb 16 (5 + c)) (5 + c - 16) ts h
-
--- The bytes from i to `end`: the first of them, and those behind it.
-module _ (sheet : List ℕ) (i end : ℕ) (l : i < end) (inside : end ≤ length sheet) where
-  span-next : typesIn (span sheet i end) ≡ bind (typesIn (span sheet (i + 1) end)) (codeBefore (getD sheet i 0))
-  unfolding typesIn
-  span-next =
-      let e : end - i ≡ suc (end - suc i) = omega arith in
-      rw (e, drop-cons sheet i 0 (omega arith), add-one i)
-
-  pub next-code : (left : ℕ) → 0 < left →
-      Counted (typesIn (span sheet i end)) left ↔ (Code (getD sheet i 0) × Counted (typesIn (span sheet (i + 1) end)) (left - 1 + typeParts (getD sheet i 0)))
-  next-code (suc n) h = let e : suc n - 1 ≡ n = omega arith in rw (e, span-next) (code-counts (getD sheet i 0) (typesIn (span sheet (i + 1) end)) n)
-
-  pub next-zero : Counted (typesIn (span sheet i end)) 0 ↔ ((getD sheet i 0 ≡ 0) × Counted (typesIn (span sheet (i + 1) end)) 0)
-  next-zero = rw span-next (zero-counts (getD sheet i 0) (typesIn (span sheet (i + 1) end)))
-
--- No bytes are read as no types.
-pub span-end : (sheet : List ℕ) (i end n : ℕ) → end ≤ i → Counted (typesIn (span sheet i end)) n ↔ _≡_ {A = ℕ} 0 n
-unfolding typesIn
-span-end sheet i end n l = let e : end - i ≡ 0 = omega arith in rw e Iff·rfl
+-- What a byte makes of the types behind it.
+counts : (c : ℕ) (o : Option (List Ty)) (n : ℕ) → Counted (bind o (codeBefore c)) n ↔ (GoesOn c n × Counted o (leftBehind c n))
+unfolding bind
+counts c nothing n = (λ h. absurd h, λ h. absurd (h .1))
+counts zero (some []) zero = (λ h. (refl, refl), λ h. refl)
+counts zero (some (t ∷ ts)) zero = (λ h. absurd h, λ h. omega (arith, h .1))
+counts (suc c) (some ts) zero = (λ h. absurd (some-made c ts h), λ h. absurd (omega (arith, h .0)))
+counts zero (some []) (suc n) = (λ h. absurd (omega arith), λ h. absurd (no-code 0 (omega arith) (inl refl) (h .0)))
+counts zero (some (t ∷ ts)) (suc n) = (λ h. absurd h, λ h. absurd (no-code 0 (omega arith) (inl refl) (h .0)))
+counts (suc zero) (some ts) (suc n) = (λ h. (inl (omega arith, omega arith), omega arith), λ h. omega (arith, h .1))
+counts (suc (suc zero)) (some ts) (suc n) = (λ h. (inl (omega arith, omega arith), omega arith), λ h. omega (arith, h .1))
+counts (suc (suc (suc zero))) (some []) (suc n) = (λ h. absurd h, λ h. absurd (omega (arith, h .1)))
+counts (suc (suc (suc zero))) (some (t ∷ ts)) (suc n) = (λ h. (inl (omega arith, omega arith), omega arith), λ h. omega (arith, h .1))
+counts (suc (suc (suc (suc zero)))) (some []) (suc n) = (λ h. absurd h, λ h. absurd (omega (arith, h .1)))
+counts (suc (suc (suc (suc zero)))) (some (t ∷ [])) (suc n) = (λ h. absurd h, λ h. absurd (omega (arith, h .1)))
+counts (suc (suc (suc (suc zero)))) (some (t ∷ u ∷ ts)) (suc n) = (λ h. (inl (omega arith, omega arith), omega arith), λ h. omega (arith, h .1))
+counts (suc (suc (suc (suc (suc c))))) (some ts) (suc n) = given-counts (suc (suc (suc (suc (suc c))))) (5 + c) n ts (omega arith) (omega arith)
 
 -- A row is that of a type where it is read as one.
-pub one-type : (sheet : List ℕ) (p : ℕ) → TypeRow sheet p ↔ Counted (typesIn (span sheet (64 * p) (64 * p + 64))) 1
+one-type : (sheet : List ℕ) (p : ℕ) → TypeRow sheet p ↔ Counted (typesIn (rowAt sheet p)) 1
 unfolding typeOfRow
-one-type sheet p = let e : 64 * p + 64 - 64 * p ≡ 64 = omega arith in
+one-type sheet p =
     let o = typesIn (rowAt sheet p) in
-    rw e (λ x. one o (x .type) (x .read), λ h. let x = only o h in record { type = x .0; read = x .1 })
+    (λ x. one o (x .type) (x .read), λ h. let x = only o h in record { type = x .0; read = x .1 })
   where
     one : (o : Option (List Ty)) (t : Ty) → onlyType o ≡ some t → Counted o 1
     one nothing t e = absurd01 (cc)
@@ -136,35 +134,43 @@ one-type sheet p = let e : 64 * p + 64 - 64 * p ≡ 64 = omega arith in
     only (some (t ∷ u ∷ ts)) h = absurd (omega arith)
 
 -- `is_row` has read the row of p up to i: it is that of a type exactly where the bytes from i on are read as `left` types.
+abbrev rest : List ℕ → ℕ → ℕ → Option (List Ty)
+rest sheet end i = typesIn (take (end - i) (drop i sheet))
+
 pub record Begun (sheet : List ℕ) (p end i left : ℕ) : Type 0 where
   pub inside : end ≤ length sheet
   pub to-end : i ≤ end
   pub few : left + end ≤ i + 65
-  pub same : TypeRow sheet p ↔ Counted (typesIn (span sheet i end)) left
+  pub same : TypeRow sheet p ↔ Counted (rest sheet end i) left
+
+pub begun-start : {sheet : List ℕ} {p : ℕ} → 64 * p + 64 ≤ length sheet → Begun sheet p (64 * p + 64) (64 * p) 1
+begun-start {sheet} {p} l =
+    let e : 64 * p + 64 - 64 * p ≡ 64 = omega arith in
+    record { inside = l; to-end = omega arith; few = omega arith; same = rw e (one-type sheet p) }
 
 module _ {sheet : List ℕ} {p end i left : ℕ} (b : Begun sheet p end i left) where
-  module _ (l : 0 < left) where
-    pub begun-over : i ≡ end → TypeRow sheet p → ⊥
-    begun-over e x = omega (arith, span-end sheet i end left (omega arith) .0 (b .same .0 x))
+  module _ (l : i < end) where
+    goes : Counted (rest sheet end i) left ↔ (GoesOn (getD sheet i 0) left × Counted (rest sheet end (i + 1)) (leftBehind (getD sheet i 0) left))
+    unfolding typesIn
+    goes =
+        let e : end - i ≡ suc (end - (i + 1)) = omega arith in
+        let d : drop i sheet ≡ getD sheet i 0 ∷ drop (i + 1) sheet = drop-cons sheet i 0 (omega (arith, b .inside)) ∙ rw (add-one i) in
+        rw (e, d) (counts (getD sheet i 0) (rest sheet end (i + 1)) left)
 
-    module _ (ne : i ≢ end) where
-      goes : Counted (typesIn (span sheet i end)) left ↔
-          (Code (getD sheet i 0) × Counted (typesIn (span sheet (i + 1) end)) (left - 1 + typeParts (getD sheet i 0)))
-      goes = next-code sheet i end (omega (arith, b .to-end)) (b .inside) left l
+    pub begun-goes : TypeRow sheet p → GoesOn (getD sheet i 0) left
+    begun-goes x = goes .0 (b .same .0 x) .0
 
-      pub begun-code : TypeRow sheet p → Code (getD sheet i 0)
-      begun-code x = goes .0 (b .same .0 x) .0
+    pub begun-step : {n : ℕ} → GoesOn (getD sheet i 0) left → n ≡ leftBehind (getD sheet i 0) left → Begun sheet p end (i + 1) n
+    begun-step k e = rw e (record {
+      inside = b .inside;
+      to-end = omega arith;
+      few = omega (arith, b .few, behind-few (getD sheet i 0) left);
+      same = Iff·trans (b .same) (λ x. goes .0 x .1, λ x. goes .1 (k, x));
+    })
 
-      pub begun-step : {n : ℕ} → Code (getD sheet i 0) → n ≡ typeParts (getD sheet i 0) → Begun sheet p end (i + 1) (left - 1 + n)
-      begun-step k e = rw e (record {
-        inside = b .inside;
-        to-end = omega (arith, b .to-end);
-        few = omega (arith, b .few, parts-most (getD sheet i 0));
-        same = Iff·trans (b .same) (λ x. goes .0 x .1, λ x. goes .1 (k, x));
-      })
-
-  pub begun-end : {r : Bool} → left ≡ 0 → Decides r (Counted (typesIn (span sheet i end)) 0) → Decides r (TypeRow sheet p)
-  begun-end e d = let s = rw e at (b .same) in record { sound = λ h. s .1 (d .sound h); complete = λ x. d .complete (s .0 x) }
+  pub begun-end : end ≤ i → TypeRow sheet p ↔ _≡_ {A = ℕ} 0 left
+  unfolding typesIn
+  begun-end l = let e : end - i ≡ 0 = omega arith in rw e at (b .same)
 
 -- The row of a place has 64 bytes; where it is that of a type, the type's codes stand there.
 pub row-long : (sheet : List ℕ) (p : ℕ) → 64 * p + 64 ≤ length sheet → length (rowAt sheet p) ≡ 64

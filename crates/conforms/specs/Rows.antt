@@ -1,77 +1,53 @@
 -- What the functions ask and answer: the row of a type in a sheet, and values against rows.
-use Prim.Native.Nat.{ℕ, _+_, _*_, _-_, _≤_, _<_}
+use Prim.Native.Nat.{ℕ, zero, suc, _+_, _*_, _≤_, _<_}
 use mathlib.Core.Bool.{Bool}
 use mathlib.Core.List.{List}
 use mathlib.Core.Logic.{_⊎_}
-use mathlib.Core.Option.{Option, none as nothing, some}
+use mathlib.Core.Option.{some}
 use mathlib.Core.Path.{_≡_}
-use lib.ListN.{length, getD, take, drop}
+use lib.ListN.{length, getD}
 use Rattle.rules.specs.Types.{Ty, typeOfRow}
 use Rattle.rules.specs.Values.{Value}
-use Rattle.rules.specs.Cells.{noValue}
 use Rattle.rules.specs.Tables.{tableOf, identifierCount}
-use Rattle.rules.specs.Ends.{allBelow}
 use Rattle.rules.specs.Readable.{Header, Readable}
 use Rattle.rules.specs.Verdict.{sheetLength}
 use Rattle.arena.specs.Code.{ValueAt, CellsFit, SomeAt}
+use Rattle.fitting.specs.Types.{typeParts}
 use Rattle.buffer.specs.Loaded.{Bound}
-use Rattle.conforms.specs.Conforming.{rowAt, hasWritten, ifFree, freeHas, conforming}
+use Rattle.conforms.specs.Conforming.{rowAt, hasWritten, ifFree, conforming}
 
 -- The codes that a type may begin with.
 abbrev pub Code : ℕ → Type 0
 Code c = ((0 < c) × (c ≤ 4)) ⊎ (16 ≤ c)
 
--- The bytes from i to `end`.
-abbrev pub span : List ℕ → ℕ → ℕ → List ℕ
-span sheet i end = take (end - i) (drop i sheet)
+-- The byte c may stand where `left` types are still to be read, and how many are then to be read behind it.
+abbrev pub GoesOn : ℕ → ℕ → Type 0
+GoesOn c zero = c ≡ 0
+GoesOn c (suc n) = Code c
 
--- n types have been read.
-abbrev pub Counted : Option (List Ty) → ℕ → Type 0
-Counted nothing n = ⊥
-Counted (some ts) n = length ts ≡ n
+abbrev pub leftBehind : ℕ → ℕ → ℕ
+leftBehind c zero = 0
+leftBehind c (suc n) = n + typeParts c
 
 -- The row of the place p is that of a type.
 pub record TypeRow (sheet : List ℕ) (p : ℕ) : Type 0 where
   pub type : Ty
   pub read : typeOfRow (rowAt sheet p) ≡ some type
 
--- A value, and bytes enough for the row of the place p.
-pub record ValueAndRow (s : List ℕ) (at : ℕ) (sheet : List ℕ) (p : ℕ) : Type 0 where
-  pub value : SomeAt s at
-  pub inside : 64 * p + 64 ≤ length sheet
-
--- r says whether the value at `at` has the type in the row of the place p.
-abbrev pub OfRow : List ℕ → ℕ → List ℕ → ℕ → Bool → Type 0
-OfRow s at sheet p r = (v : Value) → ValueAt s at v → CellsFit v → r ≡ hasWritten sheet p v
-
 -- The value at `at` is for the identifier x, whose row is in the sheet.
 pub record NameReady (bs s : List ℕ) (at : ℕ) (sheet : List ℕ) (x : ℕ) : Type 0 where
   pub header : Header bs
   pub below : x < identifierCount bs
-  pub row : ValueAndRow s at sheet x
+  pub value : SomeAt s at
+  pub inside : 64 * x + 64 ≤ length sheet
 
 -- r says whether the value at `at` has the type of x, if x is free.
 abbrev pub NameHas : List ℕ → List ℕ → ℕ → List ℕ → ℕ → Bool → Type 0
 NameHas bs s at sheet x r = (v : Value) → ValueAt s at v → CellsFit v → r ≡ ifFree (getD (tableOf bs .binds) x 1) (hasWritten sheet x v)
 
--- The values stand where the environment says.
-pub record AllStand (s env : List ℕ) (vs : List Value) : Type 0 where
-  pub stands : (x : ℕ) → x < 32 → ValueAt s (getD env x 0) (getD vs x noValue)
-  pub fits : (x : ℕ) → x < 32 → CellsFit (getD vs x noValue)
-
 -- The sheet has a row for each place of the table.
 pub record SheetFits (bs sheet : List ℕ) : Type 0 where
   pub rows : length sheet ≡ sheetLength (tableOf bs)
-
-pub record AllReady (bs s env sheet : List ℕ) : Type 0 where
-  pub header : Header bs
-  pub fits : SheetFits bs sheet
-  pub values : List Value
-  pub stand : AllStand s env values
-
--- r says whether each free identifier has a value of the type in its row.
-abbrev pub AllConform : List ℕ → List ℕ → List ℕ → List ℕ → Bool → Type 0
-AllConform bs s env sheet r = (vs : List Value) → AllStand s env vs → r ≡ allBelow (freeHas (tableOf bs) sheet vs) (identifierCount bs)
 
 -- The values of a buffer have been read into the arena s from `top` to `end`, and refusal 14 has passed them.
 abbrev pub LoadedFrom : List ℕ → List ℕ → List ℕ → List ℕ → ℕ → ℕ → Type 0

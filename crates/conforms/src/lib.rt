@@ -4,15 +4,14 @@ use reading::Reading;
 ghost use mathlib.Core.Path.{_≡_};
 ghost use Prim.Native.Nat.{_+_, _*_, _≤_, _<_};
 ghost use lib.ListN.{length};
-ghost use Rattle.rules.specs.Types.{typesIn};
 ghost use Rattle.rules.specs.Readable.{Readable};
 ghost use Rattle.rules.specs.Tables.{identifierCount};
 ghost use Rattle.buffer.specs.Buffer.{cellsAtMost};
 ghost use Rattle.buffer.specs.Loaded.{LoadReady};
 ghost use Rattle.fitting.specs.Types.{Decides};
 ghost use Rattle.conforms.specs.Conforming.{conforming};
-ghost use Rattle.conforms.specs.Rows.{Code, Counted, span, TypeRow, ValueAndRow, OfRow, NameReady, NameHas};
-ghost use Rattle.conforms.specs.Rows.{AllReady, AllConform, ValuesLoaded, LoadedConform};
+ghost use Rattle.conforms.specs.Rows.{Code, GoesOn, leftBehind, TypeRow, NameReady, NameHas};
+ghost use Rattle.conforms.specs.Rows.{ValuesLoaded, LoadedConform};
 
 // Whether a byte is the code of a type's first constructor.
 fn is_code(c: u8) -> bool
@@ -27,19 +26,25 @@ fn is_code(c: u8) -> bool
     c <= 4
 }
 
-// Whether the bytes from `at` to `end` are zero: they are read as no types.
-fn blank(sheet: &[u8], at: usize, end: usize) -> bool
-    requires { ⌜ (at ≤ end) × (end ≤ length (now sheet)) ⌝ }
-    ensures { λ r. ⌜ Decides r (Counted (typesIn (span (now (sheet .entry)) at end)) 0) ⌝ }
+// Whether the byte c may stand in a row where `left` types are still to be read: a code, and a zero behind the last type.
+fn goes_on(c: u8, left: usize) -> bool
+    ensures { λ r. ⌜ Decides r (GoesOn c left) ⌝ }
 {
-    let mut i = at;
-    while i < end {
-        if sheet[i] != 0 {
-            return false;
-        }
-        i += 1;
+    if left == 0 {
+        return c == 0;
     }
-    true
+    is_code(c)
+}
+
+// How many are then to be read behind it.
+fn left_behind(c: u8, left: usize) -> usize
+    requires { ⌜ left ≤ 65 ⌝ }
+    ensures { λ r. ⌜ r ≡ leftBehind c left ⌝ }
+{
+    if left == 0 {
+        return 0;
+    }
+    left - 1 + fitting::type_parts(c)
 }
 
 // Whether the row of the place p is that of a type: its codes in prefix order, and then zeros.
@@ -50,32 +55,18 @@ fn is_row(sheet: &[u8], p: usize) -> bool
     let mut i = 64 * p;
     let end = i + 64;
     let mut left: usize = 1;
-    while left > 0 {
-        if i == end {
-            return false;
-        }
+    while i < end {
         let c = sheet[i];
-        if !is_code(c) {
+        if !goes_on(c, left) {
             return false;
         }
-        left = left - 1 + fitting::type_parts(c);
+        left = left_behind(c, left);
         i += 1;
     }
-    blank(sheet, i, end)
+    left == 0
 }
 
-// Whether the value at `at` has the type in the row of the place p.
-fn row_has(s: &[u64], at: usize, sheet: &[u8], p: usize) -> bool
-    requires { ⌜ ValueAndRow (now s) at (now sheet) p ⌝ }
-    ensures { λ r. ⌜ OfRow (now (s .entry)) at (now (sheet .entry)) p r ⌝ }
-{
-    if !is_row(sheet, p) {
-        return false;
-    }
-    fitting::has_type(s, at, sheet, 64 * p)
-}
-
-// The same for the identifier x, if it is free.
+// Whether the value at `at` has the type in the row of the identifier x, if x is free.
 fn name_has(table: &[u8], s: &[u64], at: usize, sheet: &[u8], x: usize) -> bool
     requires { ⌜ NameReady (now table) (now s) at (now sheet) x ⌝ }
     ensures { λ r. ⌜ NameHas (now (table .entry)) (now (s .entry)) at (now (sheet .entry)) x r ⌝ }
@@ -83,7 +74,10 @@ fn name_has(table: &[u8], s: &[u64], at: usize, sheet: &[u8], x: usize) -> bool
     if table::bind(table, x) != 0 {
         return true;
     }
-    row_has(s, at, sheet, x)
+    if !is_row(sheet, x) {
+        return false;
+    }
+    fitting::has_type(s, at, sheet, 64 * x)
 }
 
 fn wide(x: u32) -> usize
@@ -92,12 +86,15 @@ fn wide(x: u32) -> usize
     x as usize
 }
 
-// The same for all identifiers.
-fn all_have(table: &[u8], s: &[u64], env: &[u32; 32], sheet: &[u8]) -> bool
-    requires { ⌜ AllReady (now table) (now s) (now env) (now sheet) ⌝ }
-    ensures { λ r. ⌜ AllConform (now (table .entry)) (now (s .entry)) (now (env .entry)) (now (sheet .entry)) r ⌝ }
+// The same for all identifiers, whose values `buffer::load` has read into the arena s from any place on; the sheet may have any length.
+pub fn loaded_conform(table: &[u8], s: &[u64], env: &[u32; 32], sheet: &[u8]) -> bool
+    requires { ⌜ ValuesLoaded (now table) (now s) (now env) ⌝ }
+    ensures { λ r. ⌜ LoadedConform (now (table .entry)) (now (s .entry)) (now (env .entry)) (now (sheet .entry)) r ⌝ }
 {
     let count = table::identifiers(table);
+    if sheet.len() != 64 * (count + table::nodes(table)) {
+        return false;
+    }
     let mut x: usize = 0;
     while x < count {
         let at = wide(env[x]);
@@ -107,17 +104,6 @@ fn all_have(table: &[u8], s: &[u64], env: &[u32; 32], sheet: &[u8]) -> bool
         x += 1;
     }
     true
-}
-
-// The same for the values that `buffer::load` has read into the arena s, from any place on, and for a sheet of any length.
-pub fn loaded_conform(table: &[u8], s: &[u64], env: &[u32; 32], sheet: &[u8]) -> bool
-    requires { ⌜ ValuesLoaded (now table) (now s) (now env) ⌝ }
-    ensures { λ r. ⌜ LoadedConform (now (table .entry)) (now (s .entry)) (now (env .entry)) (now (sheet .entry)) r ⌝ }
-{
-    if sheet.len() != 64 * (table::identifiers(table) + table::nodes(table)) {
-        return false;
-    }
-    all_have(table, s, env, sheet)
 }
 
 // The same for the values of a buffer, which are read into the arena s.

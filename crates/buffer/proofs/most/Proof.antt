@@ -1,7 +1,8 @@
 -- `most`: by the tag of the cell.
+use mathlib.Core.Path.{sym, _∙_}
 use native.Mathlib.Omega.{arith}
 use borrow.Author.Needs.{needs}
-use Rattle.buffer.proofs.Sharing.{most-element, most-other}
+use borrow.Author.Tests.{eq-eqb, ne-eqb}
 use Rattle.buffer.proofs.most.Statement.{statement}
 use Rattle.buffer.proofs.most.Tie as tie
 
@@ -12,7 +13,7 @@ most-spec =
     (λ c κs. search needs)
     (λ c. omega arith)
     (λ c. omega arith)
-    (λ c. most-element _ _ (c .before .tag .ensures) (c .if1 .taken))
+    (λ c. rw (eq-eqb _ 3 (sym (c .before .tag .ensures) ∙ c .if1 .taken)))
     (λ c. omega arith)
     (λ c. omega arith)
-    (λ c. most-other _ _ (c .before .tag .ensures) (c .if1 .left)))
+    (λ c. rw (ne-eqb _ 3 (λ e. c .if1 .left (c .before .tag .ensures ∙ e)))))

@@ -1,11 +1,11 @@
 -- `is_row`: the row is that of a type exactly where the bytes from i on are read as `left` types (`Begun`).
 use Prim.Native.Nat.{_-_}
+use mathlib.Core.Path.{sym}
 use native.Mathlib.Omega.{arith}
 use borrow.Author.Needs.{needs}
-use borrow.Author.Tests.{not-true, not-false}
-use lib.ListN.{getD}
+use borrow.Author.Tests.{not-true, not-false, eqb-true, eq-eqb}
 use Rattle.fitting.proofs.Types.{refuses}
-use Rattle.conforms.proofs.RowLaws.{decided-no, parts-most, one-type, Begun, begun-over, begun-code, begun-step, begun-end}
+use Rattle.conforms.proofs.RowLaws.{decided-no, Begun, begun-start, begun-goes, begun-step, begun-end}
 use Rattle.conforms.proofs.is_row.Statement.{statement}
 use Rattle.conforms.proofs.is_row.Tie as tie
 
@@ -15,37 +15,26 @@ Inv-loop sheet p i₀ end left₀ i left = Begun sheet p end i left
 abbrev μ-loop : tie.MeasureT-loop
 μ-loop sheet p i₀ end left₀ i left = end - i
 
--- The row goes on, and a byte of it is a code or not; how many types follow that code.
-abbrev inside : tie.After-is-code Inv-loop μ-loop → tie.Else1 Inv-loop μ-loop
-inside q = q .before .before
-
-abbrev turn : tie.After-is-code Inv-loop μ-loop → tie.In-loop Inv-loop μ-loop
-turn q = inside q .before
-
-abbrev coded : tie.After-type-parts Inv-loop μ-loop → tie.After-is-code Inv-loop μ-loop
-coded c = c .before .before
+-- A turn of the loop; a byte has been read, and it may stand there or not.
+abbrev turn : tie.After-goes-on Inv-loop μ-loop → tie.In-loop Inv-loop μ-loop
+turn g = g .before .before
 
 returns : tie.Need-returns Inv-loop μ-loop
-returns c = refuses _ (begun-over (c .before .before .loop .inv) (c .before .loop-test .taken) (c .if1 .taken))
-
-returns-2 : tie.Need-returns-2 Inv-loop μ-loop
-returns-2 c =
-    let q = c .before in
-    let l = turn q in
-    refuses _ (λ x. decided-no (q .is-code .ensures) (not-true _ (c .if2 .taken))
-    (begun-code (l .before .loop .inv) (l .loop-test .taken) (inside q .if1 .left) x))
-
-add-left : tie.Need-add-left Inv-loop μ-loop
-add-left c =
-    let a = turn (coded c) .before in
-    omega (arith, a .loop .inv .few, a .loop .inv .to-end, c .type-parts .ensures, parts-most (getD (a .before .before .args .sheet .now) (a .loop .i) 0))
+returns c =
+    let g = c .before in
+    let l = turn g in
+    refuses _ (λ x. decided-no (g .goes-on .ensures) (not-true _ (c .if1 .taken)) (begun-goes (l .before .loop .inv) (l .loop-test .taken) x))
 
 loop-again : tie.Need-loop-again Inv-loop μ-loop
 loop-again c =
-    let q = coded c in
-    let l = turn q in
-    begun-step (l .before .loop .inv) (l .loop-test .taken) (inside q .if1 .left)
-    (q .is-code .ensures .sound (not-false _ (c .before .if2 .left))) (c .type-parts .ensures)
+    let g = c .before .before in
+    let l = turn g in
+    begun-step (l .before .loop .inv) (l .loop-test .taken) (g .goes-on .ensures .sound (not-false _ (c .before .if1 .left))) (c .left-behind .ensures)
+
+returns-2 : tie.Need-returns-2 Inv-loop μ-loop
+returns-2 c =
+    let e = begun-end (c .before .loop .inv) (omega (arith, c .loop-test .left)) in
+    record { sound = λ h. e .1 (sym (eqb-true _ 0 h)); complete = λ x. eq-eqb _ 0 (sym (e .0 x)) }
 
 pub is-row-spec : {M : Type 1} → statement M
 is-row-spec =
@@ -55,16 +44,12 @@ is-row-spec =
     μ-loop
     (λ c. omega arith)
     (λ c. omega arith)
-    (λ c. record { inside = c .before .pre; to-end = omega arith; few = omega arith; same = one-type _ _ })
+    (λ c. begun-start (c .before .pre))
+    (λ c. omega arith)
+    (λ c κs. search needs)
     returns
-    (λ c. omega arith)
-    (λ c κs. search needs)
-    returns-2
-    (λ c. omega arith)
-    (λ c κs. search needs)
-    add-left
+    (λ c κs. omega (arith, turn (c .before) .before .loop .inv .few, turn (c .before) .loop-test .taken))
     (λ c. omega arith)
     (λ c. omega arith)
     loop-again
-    (λ c κs. search needs)
-    (λ c. begun-end (c .before .before .loop .inv) (omega (arith, c .before .loop-test .left)) (c .blank .ensures)))
+    returns-2)
