@@ -7,11 +7,20 @@ use lib.ListN.{length, getD, set as setAt, length-append, length-set}
 use lib.Seq.{getD-set-same, getD-set-other}
 use Rattle.rules.specs.Values.{Value, pair, set, Values, none, _▸_, count, weight}
 use Rattle.rules.specs.Operations.{setOf}
-use Rattle.arena.specs.Code.{cellSize, code, codes, Stands, ValueAt, EndsAt, Copied, ValueBelow, Made}
+use Rattle.arena.specs.Code.{cellSize, code, codes, Stands, ValueAt, EndsAt, Copied, ValueBelow, Made, Front}
 use Rattle.arena.proofs.CodeLaws.{length-code, length-codes}
 use Rattle.arena.proofs.Standing.{stands-append, stands-frame, same-refl, same-trans, copied-stands}
 use Rattle.arena.proofs.FrontLaws.{single, value-end}
 use Rattle.products.specs.Growing.{Appended, Grown, cellsFrom, RunPre, PairPre, PairPut}
+
+-- The members that are left: none, or a first one.
+pub front-end : {s : List ℕ} {top at n : ℕ} (vs : Values) → Front s top at n vs → n ≤ 0 → vs ≡ none
+front-end none f l = refl
+front-end (w ▸ us) f l = absurd (omega (arith, f .counted))
+
+pub front-first : {s : List ℕ} {top at n : ℕ} (vs : Values) → Front s top at n vs → 0 < n → (w : Value) × (us : Values) × (vs ≡ w ▸ us)
+front-first none f l = absurd (omega (arith, f .counted))
+front-first (w ▸ us) f l = (w, us, refl)
 
 -- Nothing, a cell, or a copied run, written behind what stands.
 pub nothing-stands : (s : List ℕ) (to : ℕ) → to ≤ length s → Stands s to []
