@@ -73,10 +73,6 @@ pub record Putting (s₀ : List ℕ) (top : ℕ) (s : List ℕ) (o : Out) (whole
   pub grown : Grown s₀ (top + 1) s (o .to) (codes (values whole)) (codes (values rest))
   pub counted : o .count + count (values rest) ≡ count (values whole)
 
-putting-start : (s : List ℕ) (top : ℕ) (whole : List Value) → top + 257 ≤ length s →
-    Putting s top s (record { last = 0; to = top + 1; count = 0 }) whole whole
-putting-start s top whole g = record { grown = grown-start s (top + 1) (codes (values whole)) (omega arith); counted = omega arith }
-
 module _ {s₀ : List ℕ} {top : ℕ} {s : List ℕ} {o : Out} {whole : List Value} (light : weights (values whole) ≤ 255) where
   -- where they end, and how many they are
   putting-near : {rest : List Value} → Putting s₀ top s o whole rest → (top < o .to) × (o .to + weights (values rest) ≤ top + 256) × (o .count ≤ 255)
@@ -144,7 +140,7 @@ module _ {s₀ at : List ℕ} {n mask to : ℕ} {vs : Values} (marked : Marked s
     front = subst (λ (k : ℕ). Front s₀ (marked .top) (marked .from) k vs) (let z : n ≡ n - 0 = omega arith in z) (marked .front);
     begin = marked .begin;
     behind = marked .behind;
-    putting = putting-start s₀ to (pick mask (members vs)) room;
+    putting = record { grown = grown-start s₀ (to + 1) (codes (values (pick mask (members vs)))) (omega arith); counted = omega arith };
   }
 
   module _ {s : List ℕ} {j m : ℕ} {o : Out} (h : SubsetAt s₀ at n vs mask to s j m o) where

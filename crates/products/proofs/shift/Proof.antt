@@ -1,7 +1,7 @@
 -- `shift`: the cells from `left` on have been moved, those below are as they were.
 use native.Mathlib.Omega.{arith}
 use mathlib.Core.Path.{refl}
-use Rattle.products.proofs.InsertLaws.{Shifting, shifting-start, shifting-next, shifting-end}
+use Rattle.products.proofs.InsertLaws.{Shifting, shifting-next, shifting-end}
 use Rattle.products.proofs.shift.Statement.{statement}
 use Rattle.products.proofs.shift.Tie as tie
 
@@ -18,7 +18,7 @@ pub shift-spec : {M : Type 1} → statement M
 shift-spec =
     tie.close
     (tie.spec Inv-loop μ-loop
-    (λ c. shifting-start _ _ _ _)
+    (λ c. record { few = omega arith; there = λ i p q. absurd (omega arith); before = λ j p. refl; after = λ j p. refl; kept = refl })
     (λ c. omega arith)
     (λ c. omega arith)
     (λ c. omega arith)
