@@ -11,9 +11,6 @@ Inv-loop s₀ from m n left₀ s left = Shifting s₀ from m n s left
 abbrev μ-loop : tie.MeasureT-loop
 μ-loop s₀ from m n left₀ s left = left
 
-loop-again : tie.Need-loop-again Inv-loop μ-loop
-loop-again c = let l = c .before .before in shifting-next (l .loop .inv) (c .before .loop-test .taken) (l .before .pre) _ refl
-
 pub shift-spec : {M : Type 1} → statement M
 shift-spec =
     tie.close
@@ -27,6 +24,6 @@ shift-spec =
     (λ c. omega arith)
     (λ c. omega arith)
     (λ c. omega arith)
-    loop-again
+    (λ c. let l = c .before .before in shifting-next (l .loop .inv) (c .before .loop-test .taken) (l .before .pre) _ refl)
     (λ c. c .before .loop .inv .kept)
     (λ c. shifting-end (c .before .loop .inv) (c .loop-test .left)))
