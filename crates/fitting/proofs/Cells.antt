@@ -354,8 +354,12 @@ few-members s a n r c f vs h = go f
         })
 
 -- The test of two cells, by the first one's tag.
-pub alike-elements : (x y t : ℕ) → t ≡ x / cellSize → t ≡ 3 → eqb (x / 256) (y / 256) ≡ atomsAlike x y
-alike-elements x y t e n = rw (eq-eqb (x / cellSize) 3 (sym e ∙ n))
+pub test-is : (b : Bool) (m n : ℕ) → (b ≡ true → m ≡ n) → (b ≡ false → m ≢ n) → b ≡ eqb m n
+test-is true m n f g = sym (eq-eqb m n (f refl))
+test-is false m n f g = sym (ne-eqb m n (g refl))
+
+pub alike-elements : (x y t : ℕ) (b : Bool) → t ≡ x / cellSize → t ≡ 3 → (b ≡ true → x / 256 ≡ y / 256) → (b ≡ false → x / 256 ≢ y / 256) → b ≡ atomsAlike x y
+alike-elements x y t b e n f g = test-is b (x / 256) (y / 256) f g ∙ rw (eq-eqb (x / cellSize) 3 (sym e ∙ n))
 
 pub alike-others : (x y t u : ℕ) → t ≡ x / cellSize → t ≢ 3 → u ≡ y / cellSize → eqb t u ≡ atomsAlike x y
 alike-others x y t u e n f = rw (ne-eqb (x / cellSize) 3 (λ g. n (e ∙ g)), e, f)

@@ -18,7 +18,7 @@ use Rattle.fitting.specs.Agree.{meets, agree, TypedAt, RunAt, SomeTyped,
 use Rattle.fitting.specs.Tests.{FitOne, FitTwo, Both, anyPair, Pairs, AgreedLefts}
 use Rattle.fitting.proofs.Sharing.{meets→share, share→meets, no-meet, meets-sym, meets-first, tag-type, with-every, ground, narrowed}
 use Rattle.laws.proofs.EndLaws.{T-true}
-use Rattle.fitting.proofs.Cells.{scalar-low, as-set, as-pair, as-run, no-run, run-of, run-end, end-is, tag-is}
+use Rattle.fitting.proofs.Cells.{scalar-low, test-is, as-set, as-pair, as-run, no-run, run-of, run-end, end-is, tag-is}
 use Rattle.rules.proofs.Basics.{absurd01, and-of, and-split, bool-eq}
 
 -- The types of a set's members; none where the value is no set.
@@ -238,11 +238,13 @@ module _ (s : List ℕ) (a : ℕ) where
       let e : x .0 ≡ none = no-run (x .0) (x .2) z in
       rw (fits-relation v, x .1, e)
 
-  pub relation-first : getD s a 0 / cellSize ≡ 5 → getD s a 0 % cellSize ≢ 0 → FitOne (P̂ (t̂ ×̂ û) ∷ []) s a (eqb (getD s (a + 1) 0 / cellSize) 4)
-  relation-first t n v h =
+  pub relation-first : (b : Bool) → getD s a 0 / cellSize ≡ 5 → getD s a 0 % cellSize ≢ 0 → (b ≡ true → getD s (a + 1) 0 / cellSize ≡ 4) →
+      (b ≡ false → getD s (a + 1) 0 / cellSize ≢ 4) → FitOne (P̂ (t̂ ×̂ û) ∷ []) s a b
+  relation-first b t n f g v h =
       let x = as-set s a v h t in
       let y = as-run s (a + 1) (getD s a 0 % cellSize) (x .0) (x .2) (omega arith) in
-      rw (fits-relation v, x .1, y .2, tag-is (y .3)) (first-pair (y .0) (sharedTypes (y .1)) (rw (y .2) at (x .2 .typed)))
+      let e = test-is b (getD s (a + 1) 0 / cellSize) 4 f g in
+      rw (fits-relation v, x .1, y .2, e, tag-is (y .3)) (first-pair (y .0) (sharedTypes (y .1)) (rw (y .2) at (x .2 .typed)))
 
 and-true : (a b : Bool) → T b → (a && b) ≡ a
 and-true true true h = refl

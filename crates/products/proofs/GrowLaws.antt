@@ -7,11 +7,20 @@ use lib.ListN.{length, getD, set as setAt, length-append, length-set}
 use lib.Seq.{getD-set-same, getD-set-other}
 use Rattle.rules.specs.Values.{Value, pair, set, Values, none, _▸_, count, weight}
 use Rattle.rules.specs.Operations.{setOf}
-use Rattle.arena.specs.Code.{cellSize, code, codes, Stands, ValueAt, EndsAt, Copied, ValueBelow, Made}
+use Rattle.arena.specs.Code.{cellSize, code, codes, Stands, ValueAt, EndsAt, Copied, ValueBelow, Made, Front}
 use Rattle.arena.proofs.CodeLaws.{length-code, length-codes}
 use Rattle.arena.proofs.Standing.{stands-append, stands-frame, same-refl, same-trans, copied-stands}
 use Rattle.arena.proofs.FrontLaws.{single, value-end}
 use Rattle.products.specs.Growing.{Appended, Grown, cellsFrom, RunPre, PairPre, PairPut}
+
+-- The members that are left: none, or a first one.
+pub front-end : {s : List ℕ} {top at n : ℕ} (vs : Values) → Front s top at n vs → n ≤ 0 → vs ≡ none
+front-end none f l = refl
+front-end (w ▸ us) f l = absurd (omega (arith, f .counted))
+
+pub front-first : {s : List ℕ} {top at n : ℕ} (vs : Values) → Front s top at n vs → 0 < n → (w : Value) × (us : Values) × (vs ≡ w ▸ us)
+front-first none f l = absurd (omega (arith, f .counted))
+front-first (w ▸ us) f l = (w, us, refl)
 
 -- Nothing, a cell, or a copied run, written behind what stands.
 pub nothing-stands : (s : List ℕ) (to : ℕ) → to ≤ length s → Stands s to []
@@ -23,13 +32,12 @@ appended-none s to l = record { frame = same-refl to s; stands = nothing-stands 
 pub appended-cell : (s : List ℕ) (to x : ℕ) → to < length s → Appended s to (setAt s to x) (to + 1) (x ∷ [])
 appended-cell s to x l = record {
   frame = record { same = λ i p. getD-set-other s to i x 0 (λ e. omega arith); kept = length-set s to x };
-  stands = record { inside = omega (arith, length-set s to x); cells = λ i p. at i p };
+  stands = record {
+    inside = omega (arith, length-set s to x);
+    cells = λ i p. let e : i ≡ 0 = omega arith in let d : to + i ≡ to = omega arith in rw (d, e) (getD-set-same s to x 0 l);
+  };
   ends = omega arith;
 }
-  where
-    at : (i : ℕ) → i < 1 → getD (setAt s to x) (to + i) 0 ≡ getD (x ∷ []) i 0
-    at zero p = ap (λ (j : ℕ). getD (setAt s to x) j 0) (let z : to + 0 ≡ to = omega arith in z) ∙ getD-set-same s to x 0 l
-    at (suc i) p = absurd (omega arith)
 
 pub appended-copy : {s : List ℕ} {from n to : ℕ} {s′ cs : List ℕ} → Copied s from n to s′ → Stands s from cs → length cs ≡ n → to + n ≤ length s →
     Appended s to s′ (to + n) cs
@@ -91,18 +99,16 @@ made-set s top s′ r n vs a e l w =
 -- `put_cell`
 pub cell-made : (s : List ℕ) (top cell : ℕ) → top < length s → (v : Value) → code v ≡ cell ∷ [] → Made top s (setAt s top cell) v (top + 1)
 cell-made s top cell l v e =
-    made (subst (λ (c : List ℕ). Appended s top (setAt s top cell) (top + 1) c) (sym e) (appended-cell s top cell l))
-    (omega (arith, length-code v, ap length e))
+    let a : Appended s top (setAt s top cell) (top + 1) (code v) = rw e (appended-cell s top cell l) in
+    made a (omega (arith, length-code v, ap length e))
 
 -- `singleton`
 pub single-made : (s : List ℕ) (a top e : ℕ) (s′ : List ℕ) → top + 514 ≤ length s → EndsAt s a e → e - a ≤ 255 → Copied s a (e - a) (top + 1) s′ →
     (v : Value) → ValueBelow s top a v → Made top s (setAt s′ top 21474836481) (setOf (v ∷ [])) (top + 1 + (e - a))
 single-made s a top e s′ l x few c v h =
     let z = value-end s top a e v h x in
-    made-set _ _ _ _ _ _
-    (appended-copy c (subst (λ (k : List ℕ). Stands s a k) (sym (single v)) (h .stands))
-    (omega (arith, length-codes (v ▸ none))) (omega arith))
-    refl (omega arith) (omega arith)
+    let k : Stands s a (codes (v ▸ none)) = rw (single v) (h .stands) in
+    made-set _ _ _ _ _ (v ▸ none) (appended-copy c k (omega (arith, length-codes (v ▸ none))) (omega arith)) refl (omega arith) (omega arith)
 
 pub single-heavy : (s : List ℕ) (a top e : ℕ) → EndsAt s a e → 255 < e - a → (v : Value) → ValueBelow s top a v → Made top s s (setOf (v ∷ [])) 0
 single-heavy s a top e x l v h = made-heavy (omega (arith, value-end s top a e v h x))
@@ -160,8 +166,9 @@ cells-next : (c m : ℕ) → 0 < m → cellsFrom c m ≡ (c ∷ []) ++ cellsFrom
 unfolding cellsFrom
 cells-next c zero l = absurd (omega arith)
 cells-next c (suc m) l =
-    ap (λ (k : ℕ). c ∷ cellsFrom k m) (let z : suc c ≡ c + 1 = omega arith in z)
-    ∙ ap (λ (k : ℕ). c ∷ cellsFrom (c + 1) k) (let z : m ≡ suc m - 1 = omega arith in z)
+    let z : suc c ≡ c + 1 = omega arith in
+    let y : m ≡ suc m - 1 = omega arith in
+    cc
 
 length-cells : (c n : ℕ) → length (cellsFrom c n) ≡ n
 unfolding cellsFrom

@@ -3,7 +3,7 @@
 use Prim.Native.Nat.{ℕ, _+_, _-_, _≤_, _<_}
 use mathlib.Core.Bool.{Bool, true, false, cond}
 use mathlib.Core.List.{List, [], _∷_, _++_, append-assoc, append-nil}
-use mathlib.Core.Logic.{_≢_}
+use mathlib.Core.Logic.{_≢_, _↔_}
 use mathlib.Core.Path.{_≡_, refl, sym, ap, _∙_, subst}
 use native.Mathlib.Omega.{arith}
 use native.Mathlib.Decide.{ℕ-discrete}
@@ -32,10 +32,6 @@ pub record Shifting (s₀ : List ℕ) (from m n : ℕ) (s : List ℕ) (left : �
   pub before : (j : ℕ) → j < from + n + left → getD s j 0 ≡ getD s₀ j 0
   pub after : (j : ℕ) → from + n + m ≤ j → getD s j 0 ≡ getD s₀ j 0
   pub kept : length s ≡ length s₀
-
-pub shifting-start : (s : List ℕ) (from m n : ℕ) → Shifting s from m n s m
-shifting-start s from m n =
-    record { few = omega arith; there = λ i p q. absurd (omega arith); before = λ j p. refl; after = λ j p. refl; kept = refl }
 
 module _ {s₀ : List ℕ} {from m n : ℕ} {s : List ℕ} {left : ℕ} (h : Shifting s₀ from m n s left) where
   pub shifting-next : 0 < left → from + m + n ≤ length s₀ → (at : ℕ) → at ≡ from + (left - 1) →
@@ -83,9 +79,6 @@ pub record Finding (s : List ℕ) (v : Value) (from to : ℕ) (zs : List Value) 
   pub at : i ≡ from + weights (values lo)
   pub rest : Members s i to hi
   pub inserted : insert v zs ≡ lo ++ insert v hi
-
-pub finding-start : (s : List ℕ) (v : Value) (from to : ℕ) (zs : List Value) → Members s from to zs → Finding s v from to zs from
-finding-start s v from to zs h = record { lo = []; hi = zs; all = refl; at = omega arith; rest = h; inserted = refl }
 
 module _ {s : List ℕ} {v : Value} {from to : ℕ} {zs : List Value} {i : ℕ} (h : Finding s v from to zs i) where
   -- The members hi follow those that have been passed.
@@ -187,20 +180,17 @@ place-find s p end from o h = record {
 }
 
 -- `insert`: the last member after one more has been put.
-last-of : (last to : ℕ) (lo : List Value) (h : Value) (hs : List Value) → LastAt last to (lo ++ (h ∷ hs)) → last + weight (lastOf h hs) ≡ to
-last-of last to [] h hs l = l
-last-of last to (z ∷ lo) h hs l = rw (last-append z lo h hs) at l
-
-last-at : (last to : ℕ) (lo : List Value) (h : Value) (hs : List Value) → last + weight (lastOf h hs) ≡ to → LastAt last to (lo ++ (h ∷ hs))
-last-at last to [] h hs l = l
-last-at last to (z ∷ lo) h hs l = rw (last-append z lo h hs) l
+last-behind : (last to : ℕ) (lo : List Value) (h : Value) (hs : List Value) → LastAt last to (lo ++ (h ∷ hs)) ↔ (last + weight (lastOf h hs) ≡ to)
+last-behind last to [] h hs = ((λ l. l), (λ l. l))
+last-behind last to (z ∷ lo) h hs = ((λ l. rw (last-append z lo h hs) at l), (λ l. rw (last-append z lo h hs) l))
 
 last-moved : (o : Out) (at n : ℕ) (v : Value) (lo hi : List Value) → LastAt (o .last) (o .to) (lo ++ hi) → o .to ≡ at + weights (values hi) →
     n ≡ weight v → LastAt (movedLast at (o .to) (o .last) n) (o .to + n) (lo ++ (v ∷ hi))
-last-moved o at n v lo [] l e w = last-at (movedLast at (o .to) (o .last) n) (o .to + n) lo v [] (rw (eq-eqb at (o .to) (omega arith)) (omega arith))
+last-moved o at n v lo [] l e w =
+    last-behind (movedLast at (o .to) (o .last) n) (o .to + n) lo v [] .1 (rw (eq-eqb at (o .to) (omega arith)) (omega arith))
 last-moved o at n v lo (h ∷ hs) l e w =
-    let z = last-of (o .last) (o .to) lo h hs l in
-    last-at (movedLast at (o .to) (o .last) n) (o .to + n) lo v (h ∷ hs) (rw (ne-eqb at (o .to) (λ q. omega (arith, weight-some h))) (omega arith))
+    let z = last-behind (o .last) (o .to) lo h hs .0 l in
+    last-behind (movedLast at (o .to) (o .last) n) (o .to + n) lo v (h ∷ hs) .1 (rw (ne-eqb at (o .to) (λ q. omega (arith, weight-some h))) (omega arith))
 
 -- What stands behind a copied run stays, and what is below it.
 module _ {s : List ℕ} {from n to : ℕ} {s′ : List ℕ} (c : Copied s from n to s′) where

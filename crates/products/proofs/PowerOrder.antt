@@ -13,15 +13,12 @@ use Rattle.laws.proofs.OrderLaws.{Small, order-refl, order-before, before-order
 use Rattle.laws.proofs.SetOrder.{All, Before, Rising, all-imp, all-map, all-append, append-rising, rising-rising, subsets-all}
 use Rattle.products.specs.Power.{masks, subsetCount, picked}
 use Rattle.laws.proofs.CellsLaws.{weight-some}
-use Rattle.laws.proofs.Membership.{In, all-in, all-self, in-append, in-left, in-right, in-map, map-in, in-rising, rising-in, same-members, small-sets, nil-subset}
+use Rattle.laws.proofs.Membership.{In, in-all, all-in, in-append, in-left, in-right, in-map, map-in, in-rising, rising-in, same-members, small-sets, nil-subset}
 
 -- The order of two sets: fewer members first, then by the first members that differ.
-order-fewer : (s r : Values) → count s < count r → order (set s) (set r) ≡ Ordering·lt
-unfolding order
-order-fewer s r h = rw (lt-compare (count s) (count r) h)
-
 fewer-before : (s r : Values) → count s < count r → Before (set s) (set r)
-fewer-before s r h = order-before (set s) (set r) (order-fewer s r h)
+unfolding order
+fewer-before s r h = order-before (set s) (set r) (rw (lt-compare (count s) (count r) h))
 
 order-equal : (v w : Value) (s r : Values) → count s ≡ count r → order (set (v ▸ s)) (set (w ▸ r)) ≡ (order v w then lex (keys s) (keys r))
 unfolding order
@@ -208,16 +205,14 @@ mapped ss ts h = all-map (λ s. In s ts) (λ x. In x (map setOf ts)) setOf (λ s
 
 pub power-rising : (vs : List Value) → Rising vs → All Small vs → rising (map setOf (subsets vs)) ≡ map setOf (powers (length vs) vs)
 power-rising vs h small =
-    let ys = map setOf (subsets vs) in
-    let zs = map setOf (powers (length vs) vs) in
-    let little = small-sets (subsets vs) (subsets-all Small vs small) in
+    let ss = subsets vs in
     let ps = powers (length vs) vs in
-    let there : All (λ x. In x ys) zs =
-    mapped ps (subsets vs) (all-imp (λ s. In s ps) (λ s. In s (subsets vs)) (λ s i. powers-subset (length vs) vs s i) ps (all-self ps)) in
-    same-members (rising ys) zs (rising-rising ys) (powers-rising (length vs) vs h)
-    (all-imp (λ x. In x ys) (λ x. In x zs) (λ x i. all-in (λ y. In y zs) x ys (mapped (subsets vs) (powers (length vs) vs) (powers-all vs)) i) (rising ys)
-    (all-imp (λ x. In x (rising ys)) (λ x. In x ys) (λ x i. rising-in x ys i) (rising ys) (all-self (rising ys))))
-    (all-imp (λ x. In x ys) (λ x. In x (rising ys)) (λ x i. in-rising x ys little i) zs there)
+    let little = small-sets ss (subsets-all Small vs small) in
+    let back = mapped ps ss (in-all (λ s. In s ss) ps (λ s i. powers-subset (length vs) vs s i)) in
+    same-members (rising (map setOf ss)) (map setOf ps) (rising-rising (map setOf ss)) (powers-rising (length vs) vs h)
+    (in-all (λ x. In x (map setOf ps)) (rising (map setOf ss))
+    (λ x i. all-in (λ y. In y (map setOf ps)) x (map setOf ss) (mapped ss ps (powers-all vs)) (rising-in x (map setOf ss) i)))
+    (all-imp (λ x. In x (map setOf ss)) (λ x. In x (rising (map setOf ss))) (λ x i. in-rising x (map setOf ss) little i) (map setOf ps) back)
 
 -- What they weigh: 2^n cells and each member 2^(n−1) times, for n members.
 abbrev pub powerWeight : List Value → ℕ

@@ -19,7 +19,7 @@ use Rattle.arena.proofs.FrontLaws.{single, front-value, front-next, front-below
 use Rattle.products.specs.Growing.{Appended, Grown}
 use Rattle.products.specs.Power.{pick, AddPre, Added, AddedIf, Begin, Marked, Subsets, SubsetIf}
 use Rattle.products.specs.declared.Out.{Out}
-use Rattle.products.proofs.GrowLaws.{appended-none, appended-copy, grown-start, grown-step, grown-end, grown-left, made-set}
+use Rattle.products.proofs.GrowLaws.{front-end, front-first, appended-none, appended-copy, grown-start, grown-step, grown-end, grown-left, made-set}
 
 -- `marks`: j members have been passed; what the list says from its place j on decides.
 pub record Marking (s : List ℕ) (top a n : ℕ) (vs : Values) (at : List ℕ) (j : ℕ) : Type 0 where
@@ -44,31 +44,23 @@ module _ {s : List ℕ} {top a n : ℕ} {vs : Values} {at : List ℕ} {j : ℕ} 
   marking-some l = front-some s top (getD at j 0) (n - j) (h .rest) (h .front) (omega arith)
 
   pub marking-end : n ≤ j → Begin at 0 a vs
-  marking-end l = go (h .rest) (h .front) (h .leads at (λ k q. refl))
-    where
-      go : (ws : Values) → Front s top (getD at j 0) (n - j) ws → (Begin at j (getD at j 0) ws → Begin at 0 a vs) → Begin at 0 a vs
-      go none f k = k refl
-      go (w ▸ ws) f k = absurd (omega (arith, f .counted))
+  marking-end l = h .leads at (λ k q. refl) (rw (front-end (h .rest) (h .front) (omega arith)) refl)
 
   pub marking-next : j < n → n ≤ 5 → (e : ℕ) → EndsAt s (getD at j 0) e → Marking s top a n vs (setAt at (j + 1) e) (j + 1)
-  marking-next l few e ends = go (h .rest) (h .front) (h .leads)
-    where
-      go : (ws : Values) → Front s top (getD at j 0) (n - j) ws →
-          ((at′ : List ℕ) → ((k : ℕ) → k ≤ j → getD at′ k 0 ≡ getD at k 0) → Begin at′ j (getD at j 0) ws → Begin at′ 0 a vs) →
-          Marking s top a n vs (setAt at (j + 1) e) (j + 1)
-      go none f k = absurd (omega (arith, f .counted))
-      go (w ▸ ws) f k =
-          let new = getD-set-same at (j + 1) e 0 (omega (arith, h .sized)) in
-          let z : e ≡ getD at j 0 + weight w = ends w (front-value s top (getD at j 0) (n - j) w ws f) (f .fits .0) in
-          record {
-            sized = length-set at (j + 1) e ∙ h .sized;
-            few = omega arith;
-            rest = ws;
-            front = rw new (front-next s top (getD at j 0) (n - j) w ws f e (n - (j + 1)) z (omega arith));
-            leads = λ at′ g b.
-                let old : (i : ℕ) → i ≤ j → getD at′ i 0 ≡ getD at i 0 = λ i q. g i (omega arith) ∙ getD-set-other at (j + 1) i e 0 (λ r. omega arith) in
-                k at′ old (old j (omega arith), rw (new ∙ z) at b);
-          }
+  marking-next l few e ends =
+      let x = front-first (h .rest) (h .front) (omega arith) in
+      let f : Front s top (getD at j 0) (n - j) (x .0 ▸ x .1) = rw (x .2) at (h .front) in
+      let new = getD-set-same at (j + 1) e 0 (omega (arith, h .sized)) in
+      let z : e ≡ getD at j 0 + weight (x .0) = ends (x .0) (front-value s top (getD at j 0) (n - j) (x .0) (x .1) f) (f .fits .0) in
+      record {
+        sized = length-set at (j + 1) e ∙ h .sized;
+        few = omega arith;
+        rest = x .1;
+        front = rw new (front-next s top (getD at j 0) (n - j) (x .0) (x .1) f e (n - (j + 1)) z (omega arith));
+        leads = λ at′ g b.
+            let old : (i : ℕ) → i ≤ j → getD at′ i 0 ≡ getD at i 0 = λ i q. g i (omega arith) ∙ getD-set-other at (j + 1) i e 0 (λ r. omega arith) in
+            h .leads at′ old (rw (x .2) (old j (omega arith), rw (new ∙ z) at b));
+      }
 
 -- `add`
 pub add-made : (s : List ℕ) (from end : ℕ) (o : Out) (s′ : List ℕ) → AddPre s from end o → Copied s from (end - from) (o .to) s′ →
@@ -80,10 +72,6 @@ add-made s from end o s′ p c =
 pub record Putting (s₀ : List ℕ) (top : ℕ) (s : List ℕ) (o : Out) (whole : List Value) (rest : List Value) : Type 0 where
   pub grown : Grown s₀ (top + 1) s (o .to) (codes (values whole)) (codes (values rest))
   pub counted : o .count + count (values rest) ≡ count (values whole)
-
-putting-start : (s : List ℕ) (top : ℕ) (whole : List Value) → top + 257 ≤ length s →
-    Putting s top s (record { last = 0; to = top + 1; count = 0 }) whole whole
-putting-start s top whole g = record { grown = grown-start s (top + 1) (codes (values whole)) (omega arith); counted = omega arith }
 
 module _ {s₀ : List ℕ} {top : ℕ} {s : List ℕ} {o : Out} {whole : List Value} (light : weights (values whole) ≤ 255) where
   -- where they end, and how many they are
@@ -152,7 +140,7 @@ module _ {s₀ at : List ℕ} {n mask to : ℕ} {vs : Values} (marked : Marked s
     front = subst (λ (k : ℕ). Front s₀ (marked .top) (marked .from) k vs) (let z : n ≡ n - 0 = omega arith in z) (marked .front);
     begin = marked .begin;
     behind = marked .behind;
-    putting = putting-start s₀ to (pick mask (members vs)) room;
+    putting = record { grown = grown-start s₀ (to + 1) (codes (values (pick mask (members vs)))) (omega arith); counted = omega arith };
   }
 
   module _ {s : List ℕ} {j m : ℕ} {o : Out} (h : SubsetAt s₀ at n vs mask to s j m o) where
@@ -161,16 +149,11 @@ module _ {s₀ at : List ℕ} {n mask to : ℕ} {vs : Values} (marked : Marked s
 
     pub subset-end : n ≤ j → Appended s₀ to (setAt s to (21474836480 + o .count)) (o .to) (code (setOf (pick mask (members vs))))
     unfolding pick
-    subset-end l = go (h .rest) (h .front) (h .putting)
-      where
-        go : (ws : Values) → Front s₀ (h .top) (h .from) (n - j) ws → Putting s₀ to s o (pick mask (members vs)) (pick m (members ws)) →
-            Appended s₀ to (setAt s to (21474836480 + o .count)) (o .to) (code (setOf (pick mask (members vs))))
-        go none f q =
-            let k = putting-end (subset-light mask marked) q room in
-            let v = setOf (pick mask (members vs)) in
-            let w : weight v ≤ 256 = omega (arith, subset-light mask marked) in
-            record { frame = k .frame; stands = k .light w .1; ends = omega (arith, k .light w .0, length-code v) }
-        go (w ▸ ws) f q = absurd (omega (arith, f .counted))
+    subset-end l =
+        let k = putting-end (subset-light mask marked) (rw (front-end (h .rest) (h .front) (omega arith)) at (h .putting)) room in
+        let v = setOf (pick mask (members vs)) in
+        let w : weight v ≤ 256 = omega (arith, subset-light mask marked) in
+        record { frame = k .frame; stands = k .light w .1; ends = omega (arith, k .light w .0, length-code v) }
 
     module _ (l : j < n) where
       -- What is shown of a first member and the rest is shown.
@@ -178,15 +161,13 @@ module _ {s₀ at : List ℕ} {n mask to : ℕ} {vs : Values} (marked : Marked s
           ValueBelow s (h .top) (getD at j 0) w → getD at (j + 1) 0 ≡ getD at j 0 + weight w →
           Putting s₀ to s o (pick mask (members vs)) (keptValue (eqb (m % 2) 1) w (pick (m / 2) (members ws))) → P) → P
       unfolding pick
-      subset-by P k = go (h .rest) (h .front) (h .begin) (h .putting)
-        where
-          go : (ws : Values) → Front s₀ (h .top) (h .from) (n - j) ws → Begin at j (h .from) ws →
-              Putting s₀ to s o (pick mask (members vs)) (pick m (members ws)) → P
-          go none f b q = absurd (omega (arith, f .counted))
-          go (w ▸ ws) f b q =
-              let v = front-below s₀ (h .top) (h .from) (n - j) w ws f in
-              let x = value-frame (to + 1) s₀ s (h .top) (h .from) w (h .putting .grown .appended .frame) (omega (arith, h .behind)) v in
-              k w ws f (b .1) (rw (b .0) x) (rw (b .0) (begin-here at (j + 1) (h .from + weight w) ws (b .1))) q
+      subset-by P k =
+          let x = front-first (h .rest) (h .front) (omega arith) in
+          let f : Front s₀ (h .top) (h .from) (n - j) (x .0 ▸ x .1) = rw (x .2) at (h .front) in
+          let b : Begin at j (h .from) (x .0 ▸ x .1) = rw (x .2) at (h .begin) in
+          let v = front-below s₀ (h .top) (h .from) (n - j) (x .0) (x .1) f in
+          let y = value-frame (to + 1) s₀ s (h .top) (h .from) (x .0) (h .putting .grown .appended .frame) (omega (arith, h .behind)) v in
+          k (x .0) (x .1) f (b .1) (rw (b .0) y) (rw (b .0) (begin-here at (j + 1) (h .from + weight (x .0)) (x .1) (b .1))) (rw (x .2) at (h .putting))
 
       pub subset-add : eqb (m % 2) 1 ≡ true → AddPre s (getD at j 0) (getD at (j + 1) 0) o
       subset-add k = subset-by (AddPre s (getD at j 0) (getD at (j + 1) 0) o) λ w ws f b v e q.

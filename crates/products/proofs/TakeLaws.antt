@@ -19,7 +19,7 @@ use Rattle.arena.proofs.FrontLaws.{weights-append, front-start, front-next, fro
 use Rattle.products.specs.Growing.{Appended}
 use Rattle.products.specs.Parts.{part, chosen, Built, InsertPre, Inserts}
 use Rattle.products.specs.declared.Out.{Out}
-use Rattle.products.proofs.GrowLaws.{nothing-stands, made-set}
+use Rattle.products.proofs.GrowLaws.{front-end, nothing-stands, made-set}
 use Rattle.products.proofs.PartLaws.{rising-weighs, parts-weigh, rising-last}
 
 -- The parts of a pair that stands below `top`, and where the pair ends.
@@ -97,16 +97,12 @@ module _ {b : Bool} {s₀ : List ℕ} {a top n : ℕ} {vs : Values} {s : List �
       (omega (arith, taking-light, h .built .members .ends), omega (arith, taking-light, h .built .counted, count-weights (values (rising (h .done)))))
 
   pub taking-end : left ≤ 0 → Made top s₀ (setAt s top (21474836480 + o .count)) (setOf (rising (map (part b) (members vs)))) (o .to)
-  taking-end l = go (h .rest) (h .front) (h .all)
-    where
-      go : (rest : Values) → Front s₀ top i left rest → map (part b) (members vs) ≡ h .done ++ map (part b) (members rest) →
-          Made top s₀ (setAt s top (21474836480 + o .count)) (setOf (rising (map (part b) (members vs)))) (o .to)
-      go none f e =
-          let m = h .built .members in
-          let c : Appended s₀ (top + 1) s (o .to) (codes (values (rising (h .done)))) =
-          record { frame = h .frame; stands = m .stands; ends = omega (arith, m .ends, length-codes (values (rising (h .done)))) } in
-          rw (e ∙ append-nil (h .done)) (made-set _ _ _ _ _ _ c (h .built .counted) (omega (arith, h .given .room)) (omega (arith, taking-light)))
-      go (v ▸ rest) f e = absurd (omega (arith, f .counted))
+  taking-end l =
+      let m = h .built .members in
+      let e : map (part b) (members vs) ≡ h .done ++ [] = rw (front-end (h .rest) (h .front) l) at (h .all) in
+      let c : Appended s₀ (top + 1) s (o .to) (codes (values (rising (h .done)))) =
+      record { frame = h .frame; stands = m .stands; ends = omega (arith, m .ends, length-codes (values (rising (h .done)))) } in
+      rw (e ∙ append-nil (h .done)) (made-set _ _ _ _ _ _ c (h .built .counted) (omega (arith, h .given .room)) (omega (arith, taking-light)))
 
   module _ (more : 0 < left) where
     -- What is shown of a first pair and the rest is shown.

@@ -11,7 +11,7 @@ use Rattle.arena.specs.Code.{code, codes, SomeAt, EndsAt, SetBelow, ValueBelow,
 use Rattle.arena.proofs.CodeLaws.{length-codes}
 use Rattle.arena.proofs.FrontLaws.{codes-append, count-append, weights-append, front-start, front-value, front-next, front-below, front-some, front-frame, value-frame, set-end}
 use Rattle.products.specs.Growing.{Appended, Grown, PairPre, PairPut, rowOf, RowPre, Rows, SquarePre, Squares}
-use Rattle.products.proofs.GrowLaws.{grown-start, grown-step, grown-end, grown-left, made-set, made-heavy}
+use Rattle.products.proofs.GrowLaws.{front-end, front-first, grown-start, grown-step, grown-end, grown-left, made-set, made-heavy}
 use Rattle.laws.proofs.CellsLaws.{count-weights}
 
 -- A walk: the members of a set are passed one by one, and for each of them cells are written. What is left to write is told by the members
@@ -34,21 +34,16 @@ module _ {F : Values → List ℕ} {s₀ : List ℕ} {top : ℕ} {vs : Values} {
   walk-some l = front-some s top i left (h .rest) walk-front l
 
   walk-end : left ≤ 0 → F none ≡ [] → Appended s₀ to s at (F vs)
-  walk-end l e = go (h .rest) (h .front) (h .grown)
-    where
-      go : (us : Values) → Front s₀ top i left us → Grown s₀ to s at (F vs) (F us) → Appended s₀ to s at (F vs)
-      go none f g = grown-end (rw e at g)
-      go (w ▸ us) f g = absurd (omega (arith, f .counted))
+  walk-end l e = grown-end (rw (ap F (front-end (h .rest) (h .front) l) ∙ e) at (h .grown))
 
   module _ (more : 0 < left) (e : ℕ) (ends : EndsAt s i e) where
     -- What is shown of the first member that is left is shown.
     walk-by : (P : Type 0) → ((w : Value) (us : Values) → Front s₀ top i left (w ▸ us) → Front s top i left (w ▸ us) →
         Grown s₀ to s at (F vs) (F (w ▸ us)) → e ≡ i + weight w → P) → P
-    walk-by P k = go (h .rest) (h .front) walk-front (h .grown)
-      where
-        go : (us : Values) → Front s₀ top i left us → Front s top i left us → Grown s₀ to s at (F vs) (F us) → P
-        go none f₀ f g = absurd (omega (arith, f .counted))
-        go (w ▸ us) f₀ f g = k w us f₀ f g (ends w (front-value s top i left w us f) (f .fits .0))
+    walk-by P k =
+        let x = front-first (h .rest) (h .front) more in
+        let f = rw (x .2) at walk-front in
+        k (x .0) (x .1) (rw (x .2) at (h .front)) f (rw (x .2) at (h .grown)) (ends (x .0) (front-value s top i left (x .0) (x .1) f) (f .fits .0))
 
     pub walk-forward : i ≤ e
     walk-forward = walk-by (i ≤ e) λ w us f₀ f g z. omega arith

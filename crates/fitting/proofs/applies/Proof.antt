@@ -20,14 +20,6 @@ fits m = rw (not-false (m .before .is-relation .result) (m .if1 .left)) at (m .b
 abbrev relation : tie.After-low → tie.Else1
 relation n = n .before .before
 
-lefts-requires : tie.Need-lefts-requires
-lefts-requires c κs = let n = c .before in relation-few _ _ (fits (relation n)) _ _ _ (n .low .ensures .0) (lent (relation n) .pre) (c .few .ensures)
-
-returns-2 : tie.Need-returns-2
-returns-2 c =
-    let n = c .before .before in
-    applies-fit _ _ (fits (relation n)) _ _ _ _ (n .low .ensures .0) (c .before .few .ensures) (c .lefts .ensures)
-
 pub applies-spec : {M : Type 1} → statement M
 applies-spec =
     tie.close
@@ -40,5 +32,5 @@ applies-spec =
     (λ c. search needs)
     (λ c. search needs)
     (λ c κs. λ l. relation-left _ _ (fits (relation c)) _ (c .low .ensures .0) (lent (relation c) .pre .first) l)
-    lefts-requires
-    returns-2)
+    (λ c κs. let n = c .before in relation-few _ _ (fits (relation n)) _ _ _ (n .low .ensures .0) (lent (relation n) .pre) (c .few .ensures))
+    (λ c. let n = c .before .before in applies-fit _ _ (fits (relation n)) _ _ _ _ (n .low .ensures .0) (c .before .few .ensures) (c .lefts .ensures)))

@@ -21,11 +21,6 @@ first m = lent m .pre (some m)
 abbrev walked : tie.After-end-of → tie.Else1
 walked e = e .before .before .before
 
-returns-3 : tie.Need-returns-3
-returns-3 c =
-    let e = c .before .before in
-    inr (refl, some (walked e), full-typed _ _ _ (e .end-of .ensures) (c .before .full .ensures .sound (c .if3 .taken)))
-
 pub few-spec : {M : Type 1} → statement M
 few-spec =
     tie.close
@@ -36,5 +31,5 @@ few-spec =
     (λ c. inr (refl, some (c .before .before), scalar-full _ _ (c .if2 .taken)))
     (λ c κs. some-at (first (c .before .before)))
     (λ c κs. let b = end-bounds _ _ _ (first (walked c)) (c .end-of .ensures) in (omega (arith, b .0), b .1))
-    returns-3
+    (λ c. let e = c .before .before in inr (refl, some (walked e), full-typed _ _ _ (e .end-of .ensures) (c .before .full .ensures .sound (c .if3 .taken))))
     (λ c. inl refl))

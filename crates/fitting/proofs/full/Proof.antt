@@ -17,7 +17,8 @@ abbrev μ-loop : tie.MeasureT-loop
 returns : tie.Need-returns Inv-loop μ-loop
 returns c =
     let i = c .before .before .before .loop in
-    record { sound = λ e. absurd (search needs); complete = λ n. absurd (n .none (i .i) (i .inv .0) (c .before .before .loop-test .taken) (c .if1 .taken)) }
+    let x = c .before .before .loop-test .taken in
+    record { sound = λ e. absurd (search needs); complete = λ n. absurd (n .none (i .i) (i .inv .0) x (omega (arith, c .if1 .taken))) }
 
 pub full-spec : {M : Type 1} → statement M
 full-spec =

@@ -1,11 +1,11 @@
 -- `is_relation`: a set without members, or one whose first member is a pair.
-use Prim.Native.Nat.{ℕ, _/_, _%_}
+use Prim.Native.Nat.{_/_, _%_}
 use mathlib.Core.Logic.{_≢_}
-use mathlib.Core.Path.{_≡_, ap, _∙_}
-use lib.Dec.{eqb}
+use mathlib.Core.Path.{_≡_, _∙_}
 use lib.ListN.{getD}
 use native.Mathlib.Omega.{arith}
 use borrow.Author.Needs.{needs}
+use borrow.Author.Tests.{eqb-true, eqb-false}
 use Rattle.fitting.proofs.Cells.{inside, member-inside}
 use Rattle.fitting.proofs.Tests.{relation-not, relation-none, relation-first}
 use Rattle.fitting.proofs.is_relation.Statement.{statement}
@@ -24,6 +24,12 @@ tagged n = n .before .before .before
 filled : (n : tie.Else2) → getD (lent (tagged n) .args .s .now) (lent (tagged n) .args .a) 0 % 4294967296 ≢ 0
 filled n e = n .if2 .left (n .before .low .ensures .0 ∙ e)
 
+returns-3 : tie.Need-returns-3
+returns-3 c =
+    let n = c .before .before in
+    relation-first _ _ _ (set-here (n .before .before)) (filled n)
+    (λ e. omega (arith, eqb-true, c .tag2 .ensures)) (λ e q. omega (arith, eqb-false, c .tag2 .ensures))
+
 pub is-relation-spec : {M : Type 1} → statement M
 is-relation-spec =
     tie.close
@@ -38,4 +44,4 @@ is-relation-spec =
     (λ c. search needs)
     (λ c. let n = c .before in member-inside _ _ (lent (tagged n) .pre) (set-here (n .before .before)) (filled n))
     (λ c κs. search needs)
-    (λ c. let n = c .before .before in λ v h. ap (λ (t : ℕ). eqb t 4) (c .tag2 .ensures) ∙ relation-first _ _ (set-here (n .before .before)) (filled n) v h))
+    returns-3)

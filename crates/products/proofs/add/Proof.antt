@@ -13,17 +13,12 @@ lent m = m .before .before
 abbrev put : tie.After-slice-known2 → tie.After-copy
 put m = m .before .before
 
-copy-requires : tie.Need-copy-requires
-copy-requires c κs =
-    let q = lent c .pre in
-    (omega (arith, q .forward, q .behind, q .room), omega (arith, q .room), inl (omega (arith, q .forward, q .behind)))
-
 pub add-spec : {M : Type 1} → statement M
 add-spec =
     tie.close
     (tie.spec
     (λ c. search needs)
-    copy-requires
+    (λ c κs. let q = lent c .pre in (omega (arith, q .forward, q .behind, q .room), omega (arith, q .room), inl (omega (arith, q .forward, q .behind))))
     (λ c. search needs)
     (λ c. search needs)
     (λ c. search needs)

@@ -1,11 +1,12 @@
 -- `find`: the members passed are less than the value, so `insert` goes on behind them.
 use Prim.Native.Nat.{_-_}
-use mathlib.Core.List.{List}
+use mathlib.Core.List.{List, []}
+use mathlib.Core.Path.{refl}
 use native.Mathlib.Omega.{arith}
 use Rattle.rules.specs.Values.{Value}
 use Rattle.arena.specs.Code.{ValueAt, CellsFit}
 use Rattle.products.specs.Parts.{Members}
-use Rattle.products.proofs.InsertLaws.{Finding, finding-start, finding-end, finding-some, finding-on, finding-here, finding-next}
+use Rattle.products.proofs.InsertLaws.{Finding, finding-end, finding-some, finding-on, finding-here, finding-next}
 use Rattle.products.proofs.find.Statement.{statement}
 use Rattle.products.proofs.find.Tie as tie
 
@@ -54,7 +55,7 @@ pub find-spec : {M : Type 1} → statement M
 find-spec =
     tie.close
     (tie.spec Inv-loop μ-loop
-    (λ c. λ v zs h f m. finding-start _ v _ _ zs m)
+    (λ c. λ v zs h f m. record { lo = []; hi = zs; all = refl; at = omega arith; rest = m; inserted = refl })
     compare-requires
     returns
     (λ c κs. let q = c .before in finding-some (finding (turn q)) (q .before .loop-test .taken))

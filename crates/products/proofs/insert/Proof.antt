@@ -23,12 +23,6 @@ gap m = m .before .before .before
 abbrev filled : tie.After-slice-known3 → tie.After-copy
 filled m = m .before .before
 
-copy-requires : tie.Need-copy-requires
-copy-requires c κs =
-    let m = gap c in
-    let k = near (moved m) in
-    (omega (arith, m .shift .ensures .kept), omega (arith, m .shift .ensures .kept), inl (omega arith))
-
 returns-2 : tie.Need-returns-2
 returns-2 c = λ v xs h b.
     let f = filled (c .before .before) in
@@ -49,7 +43,7 @@ insert-spec =
     (λ c. near (c .before) .forward)
     (λ c. near (c .before .before) .inside)
     (λ c κs. let k = near (c .before .before) in omega arith)
-    copy-requires
+    (λ c κs. let m = gap c in let k = near (moved m) in (omega (arith, m .shift .ensures .kept), omega (arith, m .shift .ensures .kept), inl (omega arith)))
     (λ c κs. let k = near (moved (gap (filled c .before))) in omega arith)
     (λ c. let k = near (moved (gap (filled (c .before) .before))) in omega arith)
     (λ c. search needs)

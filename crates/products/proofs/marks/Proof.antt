@@ -27,11 +27,6 @@ known l = let q = lent l .pre in l .loop .inv (q .top) (q .whole) (q .front)
 abbrev turn : tie.After-end-of Inv-loop μ-loop → Turn
 turn m = m .before .before
 
-loop-again : tie.Need-loop-again Inv-loop μ-loop
-loop-again c = λ top vs f.
-    let l = turn c in
-    marking-next (l .loop .inv top vs f) (c .before .loop-test .taken) (lent l .pre .few) _ (c .end-of .ensures)
-
 pub marks-spec : {M : Type 1} → statement M
 marks-spec =
     tie.close
@@ -44,5 +39,5 @@ marks-spec =
     (λ c. omega (arith, c .before .loop-test .taken, lent (turn c) .pre .few))
     (λ c. omega (arith, c .before .loop-test .taken, lent (turn c) .pre .few))
     (λ c. omega (arith, c .before .loop-test .taken))
-    loop-again
+    (λ c. λ top vs f. let l = turn c in marking-next (l .loop .inv top vs f) (c .before .loop-test .taken) (lent l .pre .few) _ (c .end-of .ensures))
     (λ c. λ top vs f. marking-end (c .before .loop .inv top vs f) (c .loop-test .left)))

@@ -21,9 +21,6 @@ both m = m .before .before
 kept : (m : tie.After-copy-arg) → (let a = lent m .args in length (setAt (a .s .now) (a .to) 17179869184) ≡ length (a .s .now))
 kept m = let a = lent m .args in length-set (a .s .now) (a .to) 17179869184
 
-copy-requires : tie.Need-copy-requires
-copy-requires c κs = let q = lent c .pre in (omega (arith, q .left, q .room, kept c), omega (arith, q .room, kept c), inl (omega (arith, q .left)))
-
 copy-requires-2 : tie.Need-copy-requires-2
 copy-requires-2 c κs =
     let m = first c in
@@ -43,7 +40,7 @@ pair-at-spec =
     (λ c. search needs)
     (λ c. search needs)
     (λ c. search needs)
-    copy-requires
+    (λ c κs. let q = lent c .pre in (omega (arith, q .left, q .room, kept c), omega (arith, q .room, kept c), inl (omega (arith, q .left))))
     (λ c. search needs)
     (λ c. search needs)
     copy-requires-2

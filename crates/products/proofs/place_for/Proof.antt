@@ -12,9 +12,6 @@ use Rattle.products.proofs.place_for.Tie as tie
 abbrev lent : tie.After-compare → tie.Start
 lent m = m .before .before .before
 
-compare-requires : tie.Need-compare-requires
-compare-requires c κs = let q = c .before .before .pre in (value-some _ _ _ _ (q .below), place-some (q .below) (q .built) (c .if1 .left), q .ends)
-
 returns-2 : tie.Need-returns-2
 returns-2 c = λ v xs h b.
     let m = c .before in
@@ -26,7 +23,7 @@ place-for-spec =
     tie.close
     (tie.spec
     (λ c. λ v xs h b. place-none h b (c .if1 .taken))
-    compare-requires
+    (λ c κs. let q = c .before .before .pre in (value-some _ _ _ _ (q .below), place-some (q .below) (q .built) (c .if1 .left), q .ends))
     returns-2
     (λ c κs. place-find _ _ _ _ _ (lent (c .before) .pre))
     (λ c. λ v xs h b. c .find .ensures v (rising xs) (h .stands) (h .fits) (b .members)))

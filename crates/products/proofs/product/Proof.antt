@@ -32,12 +32,6 @@ sizes m =
 abbrev put : tie.After-slice-known4 → tie.After-rows
 put m = m .before .before
 
-product-weight-requires : tie.Need-product-weight-requires
-product-weight-requires c κs =
-    let q = given (first c) .pre in
-    let z = product-sizes (sizes c) (q .0 .1) (q .1 .1) in
-    (z .4, z .6, z .5, z .7)
-
 rows-requires : tie.Need-rows-requires
 rows-requires c κs =
     let w = c .before .before in
@@ -67,7 +61,7 @@ product-spec =
     (λ c κs. search needs)
     (λ c. omega (arith, set-end _ _ _ _ (given (first c) .pre .1 .1) _ (c .end-of2 .ensures)))
     (λ c. omega (arith, set-end _ _ _ _ (given (first c) .pre .1 .1) _ (c .end-of2 .ensures)))
-    product-weight-requires
+    (λ c κs. let q = given (first c) .pre in let z = product-sizes (sizes c) (q .0 .1) (q .1 .1) in (z .4, z .6, z .5, z .7))
     (λ c. search needs)
     (λ c. λ vs ws h k. let w = c .before in product-heavy (sizes (w .before)) (omega (arith, w .product-weight .ensures, c .if1 .taken)) h k)
     (λ c. search needs)

@@ -1,7 +1,7 @@
 -- `shift`: the cells from `left` on have been moved, those below are as they were.
 use native.Mathlib.Omega.{arith}
 use mathlib.Core.Path.{refl}
-use Rattle.products.proofs.InsertLaws.{Shifting, shifting-start, shifting-next, shifting-end}
+use Rattle.products.proofs.InsertLaws.{Shifting, shifting-next, shifting-end}
 use Rattle.products.proofs.shift.Statement.{statement}
 use Rattle.products.proofs.shift.Tie as tie
 
@@ -11,14 +11,11 @@ Inv-loop s₀ from m n left₀ s left = Shifting s₀ from m n s left
 abbrev μ-loop : tie.MeasureT-loop
 μ-loop s₀ from m n left₀ s left = left
 
-loop-again : tie.Need-loop-again Inv-loop μ-loop
-loop-again c = let l = c .before .before in shifting-next (l .loop .inv) (c .before .loop-test .taken) (l .before .pre) _ refl
-
 pub shift-spec : {M : Type 1} → statement M
 shift-spec =
     tie.close
     (tie.spec Inv-loop μ-loop
-    (λ c. shifting-start _ _ _ _)
+    (λ c. record { few = omega arith; there = λ i p q. absurd (omega arith); before = λ j p. refl; after = λ j p. refl; kept = refl })
     (λ c. omega arith)
     (λ c. omega arith)
     (λ c. omega arith)
@@ -27,6 +24,6 @@ shift-spec =
     (λ c. omega arith)
     (λ c. omega arith)
     (λ c. omega arith)
-    loop-again
+    (λ c. let l = c .before .before in shifting-next (l .loop .inv) (c .before .loop-test .taken) (l .before .pre) _ refl)
     (λ c. c .before .loop .inv .kept)
     (λ c. shifting-end (c .before .loop .inv) (c .loop-test .left)))

@@ -49,11 +49,6 @@ loop-again c = λ vs h.
     let l = turn q in
     subset-next h (lent l .pre .room) (l .loop .inv vs h) (q .before .loop-test .taken) _ _ (put c .add-if .ensures)
 
-returns : tie.Need-returns Inv-loop μ-loop
-returns c = λ vs h.
-    let l = c .before .before in
-    subset-end h (lent l .pre .room) (l .loop .inv vs h) (c .before .loop-test .left)
-
 pub subset-spec : {M : Type 1} → statement M
 subset-spec =
     tie.close
@@ -72,4 +67,4 @@ subset-spec =
     (λ c. omega (arith, lent (c .before .before) .pre .room))
     (λ c. let l = c .before .before in omega (arith, near l .1, lent l .pre .room))
     (λ c. let k = near (c .before .before) .1 in search (needs, k))
-    returns)
+    (λ c. λ vs h. let l = c .before .before in subset-end h (lent l .pre .room) (l .loop .inv vs h) (c .before .loop-test .left)))

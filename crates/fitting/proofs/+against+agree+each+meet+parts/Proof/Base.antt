@@ -1,9 +1,10 @@
 -- The measures: four times the cells from the first value, its parts or its members to the end of the arena, and a number for each
 -- function. The parts and the members of a value stand behind its cell.
 use Prim.Native.Nat.{ℕ, _+_, _*_, _-_, _<_}
+use mathlib.Core.Path.{_≡_}
 use lib.ListN.{length}
 use borrow.Fn.Kinds.{In}
-use borrow.Fn.PlainCycle.{Measures, is, falls, and}
+use borrow.Fn.PlainCycle.{Measures}
 use Rattle.fitting.proofs.against.Reads as against
 use Rattle.fitting.proofs.against.Kinds as against-kinds
 use Rattle.fitting.proofs.agree.Reads as agree
@@ -31,31 +32,31 @@ abbrev pub μ-parts : Measures 1 parts-kinds.ps ℕ
 μ-parts κs a = 4 * (length (a .0 .now) - a .1 .0) + 2
 
 abbrev pub against-at : ℕ → In 1 against-kinds.ps
-against-at t = and 1 against-kinds.ps (is 1 against-kinds.ps μ-against t) against.Pre
-
-abbrev pub against-below : ℕ → In 1 against-kinds.ps
-against-below t = and 1 against-kinds.ps (falls 1 against-kinds.ps _<_ μ-against t) against.Pre
+against-at t κs a = (μ-against κs a ≡ t) × against.Pre κs a
 
 abbrev pub agree-at : ℕ → In 1 agree-kinds.ps
-agree-at t = and 1 agree-kinds.ps (is 1 agree-kinds.ps μ-agree t) agree.Pre
-
-abbrev pub agree-below : ℕ → In 1 agree-kinds.ps
-agree-below t = and 1 agree-kinds.ps (falls 1 agree-kinds.ps _<_ μ-agree t) agree.Pre
+agree-at t κs a = (μ-agree κs a ≡ t) × agree.Pre κs a
 
 abbrev pub each-at : ℕ → In 1 each-kinds.ps
-each-at t = and 1 each-kinds.ps (is 1 each-kinds.ps μ-each t) each.Pre
-
-abbrev pub each-below : ℕ → In 1 each-kinds.ps
-each-below t = and 1 each-kinds.ps (falls 1 each-kinds.ps _<_ μ-each t) each.Pre
+each-at t κs a = (μ-each κs a ≡ t) × each.Pre κs a
 
 abbrev pub meet-at : ℕ → In 1 meet-kinds.ps
-meet-at t = and 1 meet-kinds.ps (is 1 meet-kinds.ps μ-meet t) meet.Pre
-
-abbrev pub meet-below : ℕ → In 1 meet-kinds.ps
-meet-below t = and 1 meet-kinds.ps (falls 1 meet-kinds.ps _<_ μ-meet t) meet.Pre
+meet-at t κs a = (μ-meet κs a ≡ t) × meet.Pre κs a
 
 abbrev pub parts-at : ℕ → In 1 parts-kinds.ps
-parts-at t = and 1 parts-kinds.ps (is 1 parts-kinds.ps μ-parts t) parts.Pre
+parts-at t κs a = (μ-parts κs a ≡ t) × parts.Pre κs a
+
+abbrev pub against-below : ℕ → In 1 against-kinds.ps
+against-below t κs a = (μ-against κs a < t) × against.Pre κs a
+
+abbrev pub each-below : ℕ → In 1 each-kinds.ps
+each-below t κs a = (μ-each κs a < t) × each.Pre κs a
 
 abbrev pub parts-below : ℕ → In 1 parts-kinds.ps
-parts-below t = and 1 parts-kinds.ps (falls 1 parts-kinds.ps _<_ μ-parts t) parts.Pre
+parts-below t κs a = (μ-parts κs a < t) × parts.Pre κs a
+
+abbrev pub agree-below : ℕ → In 1 agree-kinds.ps
+agree-below t κs a = (μ-agree κs a < t) × agree.Pre κs a
+
+abbrev pub meet-below : ℕ → In 1 meet-kinds.ps
+meet-below t κs a = (μ-meet κs a < t) × meet.Pre κs a

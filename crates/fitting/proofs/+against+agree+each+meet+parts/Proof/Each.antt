@@ -31,9 +31,6 @@ module _ (t : ℕ) where
   next : (l : Turn) → SomeTyped (lent l .args .s .now) (l .before .loop .i)
   next l = run-first _ _ _ (l .before .loop .inv .0) (l .loop-test .taken)
 
-  against-requires : lts.Need-against-requires claims (each-at t) each.Post Inv-loop μ-loop
-  against-requires c κs = let p = lent c .pre in (omega (arith, p .0, c .before .loop .inv .1), record { first = next c; second = p .1 .second })
-
   returns : lts.Need-returns claims (each-at t) each.Post Inv-loop μ-loop
   returns c =
       let l = c .before .before in
@@ -56,7 +53,7 @@ module _ (t : ℕ) where
   each-closed =
       lts.spec claims (each-at t) each.Post Inv-loop μ-loop
       (λ c. (c .before .pre .1 .first, omega arith, λ r g. g))
-      against-requires
+      (λ c κs. let p = lent c .pre in (omega (arith, p .0, c .before .loop .inv .1), record { first = next c; second = p .1 .second }))
       returns
       (λ c κs. some-at (next (c .before .before)))
       (λ c. omega (arith, c .before .before .before .loop-test .taken))

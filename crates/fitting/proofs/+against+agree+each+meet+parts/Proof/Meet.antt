@@ -85,16 +85,6 @@ module _ (t : ℕ) where
         record { first = run-first _ _ _ (run-a m) (omega (arith, c .if3 .taken)); second = run-b m },
       )
 
-  each-requires : lts.Need-each-requires claims (meet-at t) meet.Post
-  each-requires c κs =
-      let m = c .before in
-      (omega (arith, given m .pre .0, inside _ _ (set-a (sets m) .value)), record { first = run-a m; second = run-b m })
-
-  parts-requires : lts.Need-parts-requires claims (meet-at t) meet.Post
-  parts-requires c κs =
-      let p = lent (c .before) .pre in
-      (omega (arith, p .0, inside _ _ (p .1 .0 .first)), pair-parts _ _ _ (p .1 .0) (pair-a c) (pair-b c))
-
   pub meet-closed : {M : Type 1} → lts.Closed claims (meet-at t) meet.Post M
   meet-closed =
       lts.spec claims (meet-at t) meet.Post
@@ -113,9 +103,9 @@ module _ (t : ℕ) where
       (λ c. by-members (c .before .before) _ (all-one _ _ _ _ _ _ (c .before .if3 .taken) (c .against .ensures)))
       (λ c. omega (arith, inside _ _ (set-a (sets (c .before)) .value)))
       (λ c. omega (arith, inside _ _ (set-b (sets (c .before)) .value)))
-      each-requires
+      (λ c κs. let m = c .before in (omega (arith, given m .pre .0, inside _ _ (set-a (sets m) .value)), record { first = run-a m; second = run-b m }))
       (λ c. by-members (c .before .before) _ (c .each .ensures))
       (λ c. omega (arith, inside _ _ (lent (c .before) .pre .1 .0 .first)))
       (λ c. omega (arith, inside _ _ (lent (c .before) .pre .1 .0 .second)))
-      parts-requires
+      (λ c κs. let p = lent (c .before) .pre in (omega (arith, p .0, inside _ _ (p .1 .0 .first)), pair-parts _ _ _ (p .1 .0) (pair-a c) (pair-b c)))
       (λ c. pairs-agree _ _ _ _ (pair-a (c .before)) (pair-b (c .before)) (c .parts .ensures))

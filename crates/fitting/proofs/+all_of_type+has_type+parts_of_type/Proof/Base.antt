@@ -1,9 +1,10 @@
 -- The measures: twice the cells from the value, its parts or its members to the end of the arena, and one more for the parts and the
 -- members. The parts and the members of a value stand behind its cell.
 use Prim.Native.Nat.{ℕ, _+_, _*_, _-_, _<_}
+use mathlib.Core.Path.{_≡_}
 use lib.ListN.{length}
 use borrow.Fn.Kinds.{In}
-use borrow.Fn.PlainCycle.{Measures, is, falls, and}
+use borrow.Fn.PlainCycle.{Measures}
 use Rattle.fitting.proofs.all_of_type.Reads as all-of-type
 use Rattle.fitting.proofs.all_of_type.Kinds as all-of-type-kinds
 use Rattle.fitting.proofs.has_type.Reads as has-type
@@ -21,19 +22,19 @@ abbrev pub μ-parts-of-type : Measures 2 parts-of-type-kinds.ps ℕ
 μ-parts-of-type κs a = 2 * (length (a .0 .now) - a .1 .0) + 1
 
 abbrev pub all-of-type-at : ℕ → In 2 all-of-type-kinds.ps
-all-of-type-at t = and 2 all-of-type-kinds.ps (is 2 all-of-type-kinds.ps μ-all-of-type t) all-of-type.Pre
-
-abbrev pub all-of-type-below : ℕ → In 2 all-of-type-kinds.ps
-all-of-type-below t = and 2 all-of-type-kinds.ps (falls 2 all-of-type-kinds.ps _<_ μ-all-of-type t) all-of-type.Pre
+all-of-type-at t κs a = (μ-all-of-type κs a ≡ t) × all-of-type.Pre κs a
 
 abbrev pub has-type-at : ℕ → In 2 has-type-kinds.ps
-has-type-at t = and 2 has-type-kinds.ps (is 2 has-type-kinds.ps μ-has-type t) has-type.Pre
-
-abbrev pub has-type-below : ℕ → In 2 has-type-kinds.ps
-has-type-below t = and 2 has-type-kinds.ps (falls 2 has-type-kinds.ps _<_ μ-has-type t) has-type.Pre
+has-type-at t κs a = (μ-has-type κs a ≡ t) × has-type.Pre κs a
 
 abbrev pub parts-of-type-at : ℕ → In 2 parts-of-type-kinds.ps
-parts-of-type-at t = and 2 parts-of-type-kinds.ps (is 2 parts-of-type-kinds.ps μ-parts-of-type t) parts-of-type.Pre
+parts-of-type-at t κs a = (μ-parts-of-type κs a ≡ t) × parts-of-type.Pre κs a
+
+abbrev pub all-of-type-below : ℕ → In 2 all-of-type-kinds.ps
+all-of-type-below t κs a = (μ-all-of-type κs a < t) × all-of-type.Pre κs a
 
 abbrev pub parts-of-type-below : ℕ → In 2 parts-of-type-kinds.ps
-parts-of-type-below t = and 2 parts-of-type-kinds.ps (falls 2 parts-of-type-kinds.ps _<_ μ-parts-of-type t) parts-of-type.Pre
+parts-of-type-below t κs a = (μ-parts-of-type κs a < t) × parts-of-type.Pre κs a
+
+abbrev pub has-type-below : ℕ → In 2 has-type-kinds.ps
+has-type-below t κs a = (μ-has-type κs a < t) × has-type.Pre κs a

@@ -72,9 +72,6 @@ module _ (t : ℕ) where
       let p = lent m .pre in
       (omega (arith, p .0, value-inside (lent m)), pair-asks _ _ _ _ (p .1 .0) (p .1 .1) (is-tag m 4 (c .before .if3 .taken)) (c .if4 .left))
 
-  returns-4 : lts.Need-returns-4 claims (has-type-at t) has-type.Post
-  returns-4 c = let d = c .before in pair-type _ _ _ _ _ (is-tag (pair-tagged d) 4 (d .before .if3 .taken)) (d .if4 .left) (c .parts-of-type .ensures)
-
   returns-5 : lts.Need-returns-5 claims (has-type-at t) has-type.Post
   returns-5 c =
       let e = c .before .before .before .tag .ensures in
@@ -97,6 +94,6 @@ module _ (t : ℕ) where
       (λ c. omega (arith, value-inside (lent (pair-tagged c))))
       (λ c. omega (arith, code-inside (lent (pair-tagged c))))
       parts-of-type-requires
-      returns-4
+      (λ c. let d = c .before in pair-type _ _ _ _ _ (is-tag (pair-tagged d) 4 (d .before .if3 .taken)) (d .if4 .left) (c .parts-of-type .ensures))
       (λ c κs. search needs)
       returns-5
