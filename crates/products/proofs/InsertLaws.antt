@@ -47,12 +47,9 @@ module _ {s₀ : List ℕ} {from m n : ℕ} {s : List ℕ} {left : ℕ} (h : Shi
       moved : (i : ℕ) → left - 1 ≤ i → i < m → Dec (i ≡ left - 1) → getD (setAt s (at + n) (getD s at 0)) (from + n + i) 0 ≡ getD s₀ (from + i) 0
       moved i p q (yes f) =
           let a : from + n + i ≡ at + n = omega arith in
-          let b : at ≡ from + i = omega arith in
-          ap (λ (j : ℕ). getD (setAt s (at + n) (getD s at 0)) j 0) a ∙ getD-set-same s (at + n) (getD s at 0) 0 (omega (arith, h .few, h .kept))
-          ∙ h .before at (omega arith) ∙ ap (λ (j : ℕ). getD s₀ j 0) b
-      moved i p q (no f) =
-          let k : (i ≡ left - 1 → ⊥) = f in
-          getD-set-other s (at + n) (from + n + i) (getD s at 0) 0 (λ g. k (omega arith)) ∙ h .there i (omega arith) q
+          let b : from + i ≡ at = omega arith in
+          rw (a, b) (getD-set-same s (at + n) (getD s at 0) 0 (omega (arith, h .few, h .kept)) ∙ h .before at (omega arith))
+      moved i p q (no f) = getD-set-other s (at + n) (from + n + i) (getD s at 0) 0 (λ g. f (omega arith)) ∙ h .there i (omega arith) q
 
   pub shifting-end : left ≤ 0 → Copied s₀ from m (from + n) s
   shifting-end l = record { there = λ i p. h .there i (omega arith) p; before = λ j p. h .before j (omega arith); after = h .after; kept = h .kept }

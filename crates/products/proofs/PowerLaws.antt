@@ -20,7 +20,7 @@ use Rattle.arena.proofs.CodeLaws.{length-codes}
 use Rattle.arena.proofs.FrontLaws.{rises-rising, fit-small, front-start, front-frame, set-end}
 use Rattle.products.specs.Growing.{Appended, Grown}
 use Rattle.products.specs.Power.{masks, subsetCount, subsetCounts, pick, picked, MarkPre, Marks, Marked, SubsetPre, SubsetIf, AllPre, AllSubsets}
-use Rattle.products.proofs.GrowLaws.{grown-start, grown-step, grown-end, grown-left, made-set, made-heavy}
+use Rattle.products.proofs.GrowLaws.{grown-step, grown-end, grown-left, made-set, made-heavy}
 use Rattle.products.proofs.PowerOrder.{powers, powerWeight, power-rising, power-few, power-heavy}
 
 -- `subset_count`

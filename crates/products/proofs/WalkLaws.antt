@@ -1,11 +1,11 @@
 -- Walking the members of sets, and the pairs of one value or of a set's members with those of another.
 use Prim.Native.Nat.{ℕ, _+_, _*_, _-_, _%_, _≤_, _<_}
 use mathlib.Core.List.{List, [], _++_, map}
-use mathlib.Core.Path.{_≡_, refl, sym, ap, _∙_, subst}
+use mathlib.Core.Path.{_≡_, refl, sym, ap, _∙_}
 use native.Mathlib.Omega.{arith}
 use native.Mathlib.Nat.{mul-le-mul-right}
 use lib.ListN.{length, getD, length-append, set as setAt}
-use Rattle.rules.specs.Values.{Value, pair, set, Values, none, _▸_, members, values, count, weight, weights}
+use Rattle.rules.specs.Values.{Value, pair, Values, none, _▸_, members, values, count, weight, weights}
 use Rattle.rules.specs.Operations.{setOf, pairsOf}
 use Rattle.arena.specs.Code.{code, codes, SomeAt, EndsAt, SetBelow, ValueBelow, Made, Front}
 use Rattle.arena.proofs.CodeLaws.{length-codes}
