@@ -425,13 +425,6 @@ const MASKS: [u64; 32] = [
     31,
 ];
 
-fn mask_at(j: usize) -> u64
-    requires { ⌜ j < 32 ⌝ }
-    ensures { λ r. ⌜ r ≡ getD masks j 0 ⌝ }
-{
-    MASKS[j]
-}
-
 const SUBSET_COUNTS: [u64; 6] = [1, 2, 4, 8, 16, 32];
 
 // The number of subsets of n members; 64 for more than five.
@@ -449,10 +442,12 @@ fn all_subsets(s: &mut [u64], at: &[usize; 6], n: usize, p: u64, to: usize) -> u
     requires { ⌜ AllPre (now s) (now at) n p to ⌝ }
     ensures { λ r. ⌜ AllSubsets (now (s .entry)) (now (at .entry)) n p to (now (s .exit)) r ⌝ }
 {
+    // Read once: where a constant array is read it is made anew.
+    let masks = MASKS;
     let mut j: usize = 0;
     let mut end = to;
     while j < 32 {
-        let mask = mask_at(j);
+        let mask = masks[j];
         end = subset_if(s, at, n, mask, p, end);
         j += 1;
     }
