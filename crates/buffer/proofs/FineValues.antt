@@ -189,9 +189,8 @@ module _ {s : List ℕ} {at end : ℕ} (e : EndsAt s at end) (v : Value) (h : Va
       let p : at + (i - at) ≡ i = omega arith in
       subst (λ (j : ℕ). (ws : Values) × Left s j end ws × (T (ordered v && typed v) → AllFine ws)) p (reach (i - at) (omega arith))
 
--- A set whose members are one cell each, known by its number of cells: only the members themselves are to be tested. The test, by the cell.
--- What it says.
-pub flat-is : (x n : ℕ) → isFlat x n ≡ true → (5 * cellSize ≤ x) × (x % cellSize + 1 ≡ n)
+-- A set whose members are one cell each, known by its number of cells: only the members themselves are to be tested.
+flat-is : (x n : ℕ) → isFlat x n ≡ true → (5 * cellSize ≤ x) × (x % cellSize + 1 ≡ n)
 flat-is x n e = simp (T-and, T-leb, T-eqb) at (T-true (isFlat x n) .1 e)
 
 -- Values that weigh no more than they are many are scalars and empty sets.
