@@ -14,13 +14,9 @@ mod EvalTest
 mod EvalTwo
 mod EvalValue
 mod Operand
-use Rattle.evaluators.proofs.+each_chosen+each_member+eval_bare+eval_bool+eval_expr+eval_join+eval_one+eval_pred+eval_quant+eval_select+eval_test+eval_two+eval_value+operand.{
-  statement,
-}
-use Rattle.evaluators.proofs.+each_chosen+each_member+eval_bare+eval_bool+eval_expr+eval_join+eval_one+eval_pred+eval_quant+eval_select+eval_test+eval_two+eval_value+operand.Tie.{
-  close,
-}
-use Rattle.evaluators.proofs.+each_chosen+each_member+eval_bare+eval_bool+eval_expr+eval_join+eval_one+eval_pred+eval_quant+eval_select+eval_test+eval_two+eval_value+operand.Proof.Base.{μ-each-chosen, μ-each-member, μ-eval-bare, μ-eval-bool, μ-eval-expr, μ-eval-join, μ-eval-one, μ-eval-pred, μ-eval-quant, μ-eval-select, μ-eval-test, μ-eval-two, μ-eval-value, μ-operand}
+use Rattle.evaluators.proofs.+each_chosen+each_member+eval_bare+eval_bool+eval_expr+eval_join+eval_one+eval_pred+eval_quant+eval_select+eval_test+eval_two+eval_value+operand.{statement}
+use Rattle.evaluators.proofs.+each_chosen+each_member+eval_bare+eval_bool+eval_expr+eval_join+eval_one+eval_pred+eval_quant+eval_select+eval_test+eval_two+eval_value+operand.Tie.{close}
+use Rattle.evaluators.proofs.+each_chosen+each_member+eval_bare+eval_bool+eval_expr+eval_join+eval_one+eval_pred+eval_quant+eval_select+eval_test+eval_two+eval_value+operand.Proof.Base.{each-chosen, each-member, eval-bare, eval-bool, eval-expr, eval-join, eval-one, eval-pred, eval-quant, eval-select, eval-test, eval-two, eval-value, operand}
 use Rattle.evaluators.proofs.+each_chosen+each_member+eval_bare+eval_bool+eval_expr+eval_join+eval_one+eval_pred+eval_quant+eval_select+eval_test+eval_two+eval_value+operand.Proof.EachChosen.{each-chosen-closed}
 use Rattle.evaluators.proofs.+each_chosen+each_member+eval_bare+eval_bool+eval_expr+eval_join+eval_one+eval_pred+eval_quant+eval_select+eval_test+eval_two+eval_value+operand.Proof.EachMember.{each-member-closed}
 use Rattle.evaluators.proofs.+each_chosen+each_member+eval_bare+eval_bool+eval_expr+eval_join+eval_one+eval_pred+eval_quant+eval_select+eval_test+eval_two+eval_value+operand.Proof.EvalBare.{eval-bare-closed}
@@ -40,31 +36,9 @@ pub +each-chosen+each-member+eval-bare+eval-bool+eval-expr+eval-join+eval-one+ev
     {M : Type 1} → statement M
 +each-chosen+each-member+eval-bare+eval-bool+eval-expr+eval-join+eval-one+eval-pred+eval-quant+eval-select+eval-test+eval-two+eval-value+operand-spec =
     close
-    μ-each-chosen
-    μ-each-member
-    μ-eval-bare
-    μ-eval-bool
-    μ-eval-expr
-    μ-eval-join
-    μ-eval-one
-    μ-eval-pred
-    μ-eval-quant
-    μ-eval-select
-    μ-eval-test
-    μ-eval-two
-    μ-eval-value
-    μ-operand
-    (λ t. each-chosen-closed t)
-    (λ t. each-member-closed t)
-    (λ t. eval-bare-closed t)
-    (λ t. eval-bool-closed t)
-    (λ t. eval-expr-closed t)
-    (λ t. eval-join-closed t)
-    (λ t. eval-one-closed t)
-    (λ t. eval-pred-closed t)
-    (λ t. eval-quant-closed t)
-    (λ t. eval-select-closed t)
-    (λ t. eval-test-closed t)
-    (λ t. eval-two-closed t)
-    (λ t. eval-value-closed t)
-    (λ t. operand-closed t)
+    (each-chosen .μ) (each-member .μ) (eval-bare .μ) (eval-bool .μ) (eval-expr .μ) (eval-join .μ) (eval-one .μ)
+    (eval-pred .μ) (eval-quant .μ) (eval-select .μ) (eval-test .μ) (eval-two .μ) (eval-value .μ) (operand .μ)
+    (λ t. each-chosen-closed t) (λ t. each-member-closed t) (λ t. eval-bare-closed t) (λ t. eval-bool-closed t)
+    (λ t. eval-expr-closed t) (λ t. eval-join-closed t) (λ t. eval-one-closed t) (λ t. eval-pred-closed t)
+    (λ t. eval-quant-closed t) (λ t. eval-select-closed t) (λ t. eval-test-closed t) (λ t. eval-two-closed t)
+    (λ t. eval-value-closed t) (λ t. operand-closed t)

@@ -4,64 +4,62 @@ use Prim.Native.Nat.{ℕ}
 use mathlib.Core.Path.{_∙_}
 use native.Mathlib.Omega.{arith}
 use lib.Dec.{lit<}
-use Rattle.evaluators.proofs.each_chosen.Reads as each-chosen
-use Rattle.evaluators.proofs.eval_pred.Reads as eval-pred
-use Rattle.evaluators.proofs.+each_chosen+each_member+eval_bare+eval_bool+eval_expr+eval_join+eval_one+eval_pred+eval_quant+eval_select+eval_test+eval_two+eval_value+operand.Lts-each_chosen as each-chosen-lts
-use Rattle.evaluators.proofs.choose.Reads as choose-reads
-use Rattle.arena.proofs.end_of.Reads as end-of-reads
-use Rattle.table.proofs.node_field.Reads as node-field-reads
-use Rattle.evaluators.proofs.stop_of.Reads as stop-of-reads
-use Rattle.evaluators.proofs.+each_chosen+each_member+eval_bare+eval_bool+eval_expr+eval_join+eval_one+eval_pred+eval_quant+eval_select+eval_test+eval_two+eval_value+operand.Proof.Base.{each-chosen-at, eval-pred-below}
+use Rattle.evaluators.proofs.+each_chosen+each_member+eval_bare+eval_bool+eval_expr+eval_join+eval_one+eval_pred+eval_quant+eval_select+eval_test+eval_two+eval_value+operand.Lts-each_chosen as lts
+use Rattle.evaluators.proofs.choose.Reads as choose
+use Rattle.arena.proofs.end_of.Reads as end-of
+use Rattle.table.proofs.node_field.Reads as node-field
+use Rattle.evaluators.proofs.stop_of.Reads as stop-of
+use Rattle.evaluators.proofs.+each_chosen+each_member+eval_bare+eval_bool+eval_expr+eval_join+eval_one+eval_pred+eval_quant+eval_select+eval_test+eval_two+eval_value+operand.Proof.Base.{each-chosen, eval-pred}
 use Rattle.evaluators.proofs.SafeLaws.{one-less, binder-node, entry-below, entry-scaled, above-fits, top-scaled, top-inside, written-kept}
 use Rattle.evaluators.proofs.NodeLaws.{stop-is}
 use Rattle.evaluators.proofs.FormLaws.{chosen-as}
 use Rattle.evaluators.proofs.ChosenLaws.{Choosing, choosing-start, choosing-near, choosing-few, choosing-end, choosing-below, choosing-ready, choosing-refused, choosing-some, choosing-choose, choosing-next}
 
-abbrev each-chosen-Inv-loop : each-chosen-lts.InvT-loop
+abbrev each-chosen-Inv-loop : lts.InvT-loop
 each-chosen-Inv-loop table env s₀ top node from count left x body inner₀ at₀ more₀ n₀ to₀ chosen₀ s inner at more n to chosen =
     Choosing table env s₀ top node from count left s inner at more n to chosen
 
-abbrev each-chosen-μ-loop : each-chosen-lts.MeasureT-loop
+abbrev each-chosen-μ-loop : lts.MeasureT-loop
 each-chosen-μ-loop table env s₀ top node from count left x body inner₀ at₀ more₀ n₀ to₀ chosen₀ s inner at more n to chosen = more
 
 module _ (t : ℕ) where
-  abbrev claims : each-chosen-lts.Claims
+  abbrev claims : lts.Claims
   claims = (
-    node-field-reads.Asked,
-    node-field-reads.Learnt,
-    eval-pred-below t,
-    eval-pred.Post,
-    stop-of-reads.Asked,
-    stop-of-reads.Learnt,
-    end-of-reads.Asked,
-    end-of-reads.Learnt,
-    choose-reads.Asked,
-    choose-reads.Learnt,
+    node-field.Asked,
+    node-field.Learnt,
+    eval-pred .below t,
+    eval-pred .post,
+    stop-of.Asked,
+    stop-of.Learnt,
+    end-of.Asked,
+    end-of.Learnt,
+    choose.Asked,
+    choose.Learnt,
   )
 
-  abbrev lent : each-chosen-lts.After-node-field claims (each-chosen-at t) each-chosen.Post each-chosen-Inv-loop each-chosen-μ-loop →
-      each-chosen-lts.Start claims (each-chosen-at t) each-chosen.Post each-chosen-Inv-loop each-chosen-μ-loop
+  abbrev lent : lts.After-node-field claims (each-chosen .at t) (each-chosen .post) each-chosen-Inv-loop each-chosen-μ-loop →
+      lts.Start claims (each-chosen .at t) (each-chosen .post) each-chosen-Inv-loop each-chosen-μ-loop
   lent c = c .before .before .before
 
-  abbrev words : each-chosen-lts.At-loop claims (each-chosen-at t) each-chosen.Post each-chosen-Inv-loop each-chosen-μ-loop →
-      each-chosen-lts.After-node-field2 claims (each-chosen-at t) each-chosen.Post each-chosen-Inv-loop each-chosen-μ-loop
+  abbrev words : lts.At-loop claims (each-chosen .at t) (each-chosen .post) each-chosen-Inv-loop each-chosen-μ-loop →
+      lts.After-node-field2 claims (each-chosen .at t) (each-chosen .post) each-chosen-Inv-loop each-chosen-μ-loop
   words c = c .before .before
 
-  abbrev turn : each-chosen-lts.After-eval-pred claims (each-chosen-at t) each-chosen.Post each-chosen-Inv-loop each-chosen-μ-loop →
-      each-chosen-lts.In-loop claims (each-chosen-at t) each-chosen.Post each-chosen-Inv-loop each-chosen-μ-loop
+  abbrev turn : lts.After-eval-pred claims (each-chosen .at t) (each-chosen .post) each-chosen-Inv-loop each-chosen-μ-loop →
+      lts.In-loop claims (each-chosen .at t) (each-chosen .post) each-chosen-Inv-loop each-chosen-μ-loop
   turn c = c .before .before .before
 
-  abbrev ran : each-chosen-lts.After-slice-known2 claims (each-chosen-at t) each-chosen.Post each-chosen-Inv-loop each-chosen-μ-loop →
-      each-chosen-lts.After-eval-pred claims (each-chosen-at t) each-chosen.Post each-chosen-Inv-loop each-chosen-μ-loop
+  abbrev ran : lts.After-slice-known2 claims (each-chosen .at t) (each-chosen .post) each-chosen-Inv-loop each-chosen-μ-loop →
+      lts.After-eval-pred claims (each-chosen .at t) (each-chosen .post) each-chosen-Inv-loop each-chosen-μ-loop
   ran c = c .before .before
 
-  cast-inner : each-chosen-lts.Need-cast-inner claims (each-chosen-at t) each-chosen.Post each-chosen-Inv-loop each-chosen-μ-loop
+  cast-inner : lts.Need-cast-inner claims (each-chosen .at t) (each-chosen .post) each-chosen-Inv-loop each-chosen-μ-loop
   cast-inner c =
       let l = c .before in
       let v = lent (words l .before) in
       omega (arith, choosing-below (v .pre .1) (l .loop .inv) (omega (arith, c .loop-test .taken)), v .pre .1 .space (omega arith), v .pre .1 .ready .small)
 
-  eval-pred-requires : each-chosen-lts.Need-eval-pred-requires claims (each-chosen-at t) each-chosen.Post each-chosen-Inv-loop each-chosen-μ-loop
+  eval-pred-requires : lts.Need-eval-pred-requires claims (each-chosen .at t) (each-chosen .post) each-chosen-Inv-loop each-chosen-μ-loop
   eval-pred-requires c κs =
       let w = c .before .before in
       let l = w .before in
@@ -73,13 +71,13 @@ module _ (t : ℕ) where
             (omega (arith, w .loop-test .taken)) (f .node-field .ensures) (g .node-field2 .ensures),
       )
 
-  same-length : each-chosen-lts.Need-same-length claims (each-chosen-at t) each-chosen.Post each-chosen-Inv-loop each-chosen-μ-loop
+  same-length : lts.Need-same-length claims (each-chosen .at t) (each-chosen .post) each-chosen-Inv-loop each-chosen-μ-loop
   same-length c =
       let k = c .before in
       let p = ran (k .before .before) in
       p .eval-pred .kept .1 .1 .0 ∙ turn p .before .loop .inv .frame .kept
 
-  returns : each-chosen-lts.Need-returns claims (each-chosen-at t) each-chosen.Post each-chosen-Inv-loop each-chosen-μ-loop
+  returns : lts.Need-returns claims (each-chosen .at t) (each-chosen .post) each-chosen-Inv-loop each-chosen-μ-loop
   returns c =
       let k = c .before in
       let p = ran (k .before .before) in
@@ -92,7 +90,7 @@ module _ (t : ℕ) where
       (choosing-refused (v .pre .1) (l .loop .inv) (omega (arith, w .loop-test .taken)) (f .node-field .ensures) (g .node-field2 .ensures)
       (p .eval-pred .ensures) (k .enum-told .given .1))
 
-  end-of-requires : each-chosen-lts.Need-end-of-requires claims (each-chosen-at t) each-chosen.Post each-chosen-Inv-loop each-chosen-μ-loop
+  end-of-requires : lts.Need-end-of-requires claims (each-chosen .at t) (each-chosen .post) each-chosen-Inv-loop each-chosen-μ-loop
   end-of-requires c κs =
       let h = c .before .before in
       let p = ran (h .before .before) in
@@ -104,7 +102,7 @@ module _ (t : ℕ) where
       choosing-some (v .pre .1) (l .loop .inv) (omega (arith, w .loop-test .taken)) (f .node-field .ensures) (g .node-field2 .ensures)
       (p .eval-pred .ensures)
 
-  choose-requires : each-chosen-lts.Need-choose-requires claims (each-chosen-at t) each-chosen.Post each-chosen-Inv-loop each-chosen-μ-loop
+  choose-requires : lts.Need-choose-requires claims (each-chosen .at t) (each-chosen .post) each-chosen-Inv-loop each-chosen-μ-loop
   choose-requires c κs =
       let o = c .before in
       let h = o .before .before .before in
@@ -117,7 +115,7 @@ module _ (t : ℕ) where
       choosing-choose (v .pre .1) (l .loop .inv) (omega (arith, w .loop-test .taken)) (f .node-field .ensures) (g .node-field2 .ensures)
       (p .eval-pred .ensures) (o .end-of .ensures)
 
-  add-chosen : each-chosen-lts.Need-add-chosen claims (each-chosen-at t) each-chosen.Post each-chosen-Inv-loop each-chosen-μ-loop
+  add-chosen : lts.Need-add-chosen claims (each-chosen .at t) (each-chosen .post) each-chosen-Inv-loop each-chosen-μ-loop
   add-chosen c =
       let q = c .before .before in
       let o = q .before .before in
@@ -130,7 +128,7 @@ module _ (t : ℕ) where
       let v = lent f in
       record { fits = choosing-few (v .pre .1) (l .loop .inv) (h .held .given .0 .0) }
 
-  sub-more : each-chosen-lts.Need-sub-more claims (each-chosen-at t) each-chosen.Post each-chosen-Inv-loop each-chosen-μ-loop
+  sub-more : lts.Need-sub-more claims (each-chosen .at t) (each-chosen .post) each-chosen-Inv-loop each-chosen-μ-loop
   sub-more c =
       let q = c .before .before in
       let o = q .before .before in
@@ -139,7 +137,7 @@ module _ (t : ℕ) where
       let w = turn p in
       w .loop-test .taken
 
-  loop-less : each-chosen-lts.Need-loop-less claims (each-chosen-at t) each-chosen.Post each-chosen-Inv-loop each-chosen-μ-loop
+  loop-less : lts.Need-loop-less claims (each-chosen .at t) (each-chosen .post) each-chosen-Inv-loop each-chosen-μ-loop
   loop-less c =
       let q = c .before .before in
       let o = q .before .before in
@@ -148,7 +146,7 @@ module _ (t : ℕ) where
       let w = turn p in
       one-less (w .loop-test .taken)
 
-  loop-again : each-chosen-lts.Need-loop-again claims (each-chosen-at t) each-chosen.Post each-chosen-Inv-loop each-chosen-μ-loop
+  loop-again : lts.Need-loop-again claims (each-chosen .at t) (each-chosen .post) each-chosen-Inv-loop each-chosen-μ-loop
   loop-again c =
       let q = c .before .before in
       let o = q .before .before in
@@ -163,12 +161,9 @@ module _ (t : ℕ) where
       (p .eval-pred .ensures) (o .end-of .ensures)
       (h .held .given .1) (q .choose .ensures)
 
-  pub each-chosen-closed : {M : Type 1} → each-chosen-lts.Closed claims (each-chosen-at t) each-chosen.Post M
+  pub each-chosen-closed : {M : Type 1} → lts.Closed claims (each-chosen .at t) (each-chosen .post) M
   each-chosen-closed =
-      each-chosen-lts.spec
-      claims
-      (each-chosen-at t)
-      each-chosen.Post
+      lts.spec claims (each-chosen .at t) (each-chosen .post)
       each-chosen-Inv-loop
       each-chosen-μ-loop
       (λ c κs. (binder-node (c .before .before .pre .1), lit< tt))

@@ -4,46 +4,44 @@ use Prim.Native.Nat.{ℕ}
 use mathlib.Core.Path.{refl, _∙_}
 use native.Mathlib.Omega.{arith}
 use lib.Dec.{lit<}
-use Rattle.evaluators.proofs.eval_bool.Reads as eval-bool
-use Rattle.evaluators.proofs.eval_pred.Reads as eval-pred
-use Rattle.evaluators.proofs.+each_chosen+each_member+eval_bare+eval_bool+eval_expr+eval_join+eval_one+eval_pred+eval_quant+eval_select+eval_test+eval_two+eval_value+operand.Lts-eval_bool as eval-bool-lts
-use Rattle.table.proofs.node_field.Reads as node-field-reads
-use Rattle.products.proofs.put_cell.Reads as put-cell-reads
-use Rattle.evaluators.proofs.stop_of.Reads as stop-of-reads
-use Rattle.evaluators.proofs.+each_chosen+each_member+eval_bare+eval_bool+eval_expr+eval_join+eval_one+eval_pred+eval_quant+eval_select+eval_test+eval_two+eval_value+operand.Proof.Base.{eval-bool-at, eval-pred-below}
+use Rattle.evaluators.proofs.+each_chosen+each_member+eval_bare+eval_bool+eval_expr+eval_join+eval_one+eval_pred+eval_quant+eval_select+eval_test+eval_two+eval_value+operand.Lts-eval_bool as lts
+use Rattle.table.proofs.node_field.Reads as node-field
+use Rattle.products.proofs.put_cell.Reads as put-cell
+use Rattle.evaluators.proofs.stop_of.Reads as stop-of
+use Rattle.evaluators.proofs.+each_chosen+each_member+eval_bare+eval_bool+eval_expr+eval_join+eval_one+eval_pred+eval_quant+eval_select+eval_test+eval_two+eval_value+operand.Proof.Base.{eval-bool, eval-pred}
 use Rattle.evaluators.proofs.SafeLaws.{ready-node, cell-room}
 use Rattle.evaluators.proofs.NodeLaws.{held-as, formed-as, stop-is}
 use Rattle.evaluators.proofs.FormLaws.{byte-small, bool-child, bool-builds, bool-begins, bool-fails, bool-evaluates}
 
 module _ (t : ℕ) where
-  abbrev claims : eval-bool-lts.Claims
+  abbrev claims : lts.Claims
   claims = (
-    node-field-reads.Asked,
-    node-field-reads.Learnt,
-    eval-pred-below t,
-    eval-pred.Post,
-    stop-of-reads.Asked,
-    stop-of-reads.Learnt,
-    put-cell-reads.Asked,
-    put-cell-reads.Learnt,
+    node-field.Asked,
+    node-field.Learnt,
+    eval-pred .below t,
+    eval-pred .post,
+    stop-of.Asked,
+    stop-of.Learnt,
+    put-cell.Asked,
+    put-cell.Learnt,
   )
 
-  abbrev lent : eval-bool-lts.After-node-field claims (eval-bool-at t) eval-bool.Post → eval-bool-lts.Start claims (eval-bool-at t) eval-bool.Post
+  abbrev lent : lts.After-node-field claims (eval-bool .at t) (eval-bool .post) → lts.Start claims (eval-bool .at t) (eval-bool .post)
   lent c = c .before .before .before
 
-  abbrev word : eval-bool-lts.After-eval-pred claims (eval-bool-at t) eval-bool.Post → eval-bool-lts.After-node-field claims (eval-bool-at t) eval-bool.Post
+  abbrev word : lts.After-eval-pred claims (eval-bool .at t) (eval-bool .post) → lts.After-node-field claims (eval-bool .at t) (eval-bool .post)
   word c = c .before .before
 
-  abbrev ran : eval-bool-lts.After-slice-known2 claims (eval-bool-at t) eval-bool.Post → eval-bool-lts.After-eval-pred claims (eval-bool-at t) eval-bool.Post
+  abbrev ran : lts.After-slice-known2 claims (eval-bool .at t) (eval-bool .post) → lts.After-eval-pred claims (eval-bool .at t) (eval-bool .post)
   ran c = c .before .before
 
-  eval-pred-requires : eval-bool-lts.Need-eval-pred-requires claims (eval-bool-at t) eval-bool.Post
+  eval-pred-requires : lts.Need-eval-pred-requires claims (eval-bool .at t) (eval-bool .post)
   eval-pred-requires c κs =
       let f = c .before in
       let v = lent f in
       (omega (arith, v .pre .0, bool-child (v .pre .1) (f .node-field .ensures) .below), bool-begins (v .pre .1) (f .node-field .ensures))
 
-  returns : eval-bool-lts.Need-returns claims (eval-bool-at t) eval-bool.Post
+  returns : lts.Need-returns claims (eval-bool .at t) (eval-bool .post)
   returns c =
       let k = c .before in
       let e = ran (k .before .before) in
@@ -51,20 +49,20 @@ module _ (t : ℕ) where
       let q = k .enum-told .given .1 in
       formed-as refl (stop-is q (c .stop-of .ensures)) (bool-fails (lent f .pre .1) (f .node-field .ensures) (held-as refl q (e .eval-pred .ensures)))
 
-  put-cell-requires : eval-bool-lts.Need-put-cell-requires claims (eval-bool-at t) eval-bool.Post
+  put-cell-requires : lts.Need-put-cell-requires claims (eval-bool .at t) (eval-bool .post)
   put-cell-requires c κs =
       let m = c .before .before in
       let e = ran (m .before .before) in
       let f = word e in
       cell-room (lent f .pre .1 .ready) (bool-builds (lent f .pre .1) (f .node-field .ensures)) (e .eval-pred .ensures .frame)
 
-  same-length-2 : eval-bool-lts.Need-same-length-2 claims (eval-bool-at t) eval-bool.Post
+  same-length-2 : lts.Need-same-length-2 claims (eval-bool .at t) (eval-bool .post)
   same-length-2 c =
       let p = c .before .before in
       let m = p .before .before .before in
       p .put-cell .kept .0 ∙ ran (m .before .before) .eval-pred .kept .1 .1 .0
 
-  returns-2 : eval-bool-lts.Need-returns-2 claims (eval-bool-at t) eval-bool.Post
+  returns-2 : lts.Need-returns-2 claims (eval-bool .at t) (eval-bool .post)
   returns-2 c =
       let p = c .before .before in
       let m = p .before .before .before in
@@ -72,12 +70,9 @@ module _ (t : ℕ) where
       let f = word e in
       bool-evaluates (lent f .pre .1) (f .node-field .ensures) (held-as refl (m .held .given .1) (e .eval-pred .ensures)) (p .put-cell .ensures)
 
-  pub eval-bool-closed : {M : Type 1} → eval-bool-lts.Closed claims (eval-bool-at t) eval-bool.Post M
+  pub eval-bool-closed : {M : Type 1} → lts.Closed claims (eval-bool .at t) (eval-bool .post) M
   eval-bool-closed =
-      eval-bool-lts.spec
-      claims
-      (eval-bool-at t)
-      eval-bool.Post
+      lts.spec claims (eval-bool .at t) (eval-bool .post)
       (λ c κs. (ready-node (c .before .before .pre .1 .ready), lit< tt))
       (λ c. omega (arith, lent (c .before) .pre .1 .unspent))
       eval-pred-requires

@@ -4,55 +4,52 @@ use Prim.Native.Nat.{ℕ}
 use mathlib.Core.Path.{refl, sym, _∙_}
 use native.Mathlib.Omega.{arith}
 use lib.Dec.{lit<}
-use Rattle.evaluators.proofs.each_member.Reads as each-member
-use Rattle.evaluators.proofs.eval_quant.Reads as eval-quant
-use Rattle.evaluators.proofs.operand.Reads as operand
-use Rattle.evaluators.proofs.+each_chosen+each_member+eval_bare+eval_bool+eval_expr+eval_join+eval_one+eval_pred+eval_quant+eval_select+eval_test+eval_two+eval_value+operand.Lts-eval_quant as eval-quant-lts
-use Rattle.table.proofs.node_field.Reads as node-field-reads
-use Rattle.evaluators.proofs.range_of.Reads as range-of-reads
-use Rattle.evaluators.proofs.refusal_of.Reads as refusal-of-reads
-use Rattle.evaluators.proofs.refused.Reads as refused-reads
-use Rattle.evaluators.proofs.+each_chosen+each_member+eval_bare+eval_bool+eval_expr+eval_join+eval_one+eval_pred+eval_quant+eval_select+eval_test+eval_two+eval_value+operand.Proof.Base.{each-member-below, eval-quant-at, operand-below}
+use Rattle.evaluators.proofs.+each_chosen+each_member+eval_bare+eval_bool+eval_expr+eval_join+eval_one+eval_pred+eval_quant+eval_select+eval_test+eval_two+eval_value+operand.Lts-eval_quant as lts
+use Rattle.table.proofs.node_field.Reads as node-field
+use Rattle.evaluators.proofs.range_of.Reads as range-of
+use Rattle.evaluators.proofs.refusal_of.Reads as refusal-of
+use Rattle.evaluators.proofs.refused.Reads as refused
+use Rattle.evaluators.proofs.+each_chosen+each_member+eval_bare+eval_bool+eval_expr+eval_join+eval_one+eval_pred+eval_quant+eval_select+eval_test+eval_two+eval_value+operand.Proof.Base.{each-member, eval-quant, operand}
 use Rattle.evaluators.proofs.SafeLaws.{ready-node}
 use Rattle.evaluators.proofs.NodeLaws.{held-as, refusal-is}
 use Rattle.evaluators.proofs.RangeLaws.{range-as}
 use Rattle.evaluators.proofs.QuantLaws.{quant-child, quant-range, range-refused, range-good, range-low, range-unlike, quant-ready, quant-done}
 
 module _ (t : ℕ) where
-  abbrev claims : eval-quant-lts.Claims
+  abbrev claims : lts.Claims
   claims = (
-    node-field-reads.Asked,
-    node-field-reads.Learnt,
-    operand-below t,
-    operand.Post,
-    refusal-of-reads.Asked,
-    refusal-of-reads.Learnt,
-    range-of-reads.Asked,
-    range-of-reads.Learnt,
-    refused-reads.Asked,
-    refused-reads.Learnt,
-    each-member-below t,
-    each-member.Post,
+    node-field.Asked,
+    node-field.Learnt,
+    operand .below t,
+    operand .post,
+    refusal-of.Asked,
+    refusal-of.Learnt,
+    range-of.Asked,
+    range-of.Learnt,
+    refused.Asked,
+    refused.Learnt,
+    each-member .below t,
+    each-member .post,
   )
 
-  abbrev lent : eval-quant-lts.After-node-field claims (eval-quant-at t) eval-quant.Post → eval-quant-lts.Start claims (eval-quant-at t) eval-quant.Post
+  abbrev lent : lts.After-node-field claims (eval-quant .at t) (eval-quant .post) → lts.Start claims (eval-quant .at t) (eval-quant .post)
   lent c = c .before .before .before
 
-  abbrev word : eval-quant-lts.After-operand claims (eval-quant-at t) eval-quant.Post → eval-quant-lts.After-node-field claims (eval-quant-at t) eval-quant.Post
+  abbrev word : lts.After-operand claims (eval-quant .at t) (eval-quant .post) → lts.After-node-field claims (eval-quant .at t) (eval-quant .post)
   word c = c .before .before
 
-  abbrev ran : eval-quant-lts.After-slice-known2 claims (eval-quant-at t) eval-quant.Post →
-      eval-quant-lts.After-operand claims (eval-quant-at t) eval-quant.Post
+  abbrev ran : lts.After-slice-known2 claims (eval-quant .at t) (eval-quant .post) →
+      lts.After-operand claims (eval-quant .at t) (eval-quant .post)
   ran c = c .before .before
 
-  abbrev asked : eval-quant-lts.After-range-of claims (eval-quant-at t) eval-quant.Post → eval-quant-lts.After-first claims (eval-quant-at t) eval-quant.Post
+  abbrev asked : lts.After-range-of claims (eval-quant .at t) (eval-quant .post) → lts.After-first claims (eval-quant .at t) (eval-quant .post)
   asked c = c .before .before .before
 
-  abbrev counted : eval-quant-lts.After-each-member claims (eval-quant-at t) eval-quant.Post →
-      eval-quant-lts.After-range claims (eval-quant-at t) eval-quant.Post
+  abbrev counted : lts.After-each-member claims (eval-quant .at t) (eval-quant .post) →
+      lts.After-range claims (eval-quant .at t) (eval-quant .post)
   counted c = c .before .before .before
 
-  operand-requires : eval-quant-lts.Need-operand-requires claims (eval-quant-at t) eval-quant.Post
+  operand-requires : lts.Need-operand-requires claims (eval-quant .at t) (eval-quant .post)
   operand-requires c κs =
       let f = c .before in
       let v = lent f in (
@@ -61,7 +58,7 @@ module _ (t : ℕ) where
             (f .node-field .ensures),
       )
 
-  returns : eval-quant-lts.Need-returns claims (eval-quant-at t) eval-quant.Post
+  returns : lts.Need-returns claims (eval-quant .at t) (eval-quant .post)
   returns c =
       let k = c .before in
       let e = ran (k .before .before) in
@@ -70,7 +67,7 @@ module _ (t : ℕ) where
       held-as refl (refusal-is (k .enum-told .given .1) (c .refusal-of .ensures))
       (range-refused (v .pre .1 .0) (v .pre .1 .1) (f .node-field .ensures) (e .operand .ensures) (k .enum-told .given .1))
 
-  range-of-requires : eval-quant-lts.Need-range-of-requires claims (eval-quant-at t) eval-quant.Post
+  range-of-requires : lts.Need-range-of-requires claims (eval-quant .at t) (eval-quant .post)
   range-of-requires c κs =
       let m = c .before .before in
       let e = ran (m .before .before) in
@@ -78,7 +75,7 @@ module _ (t : ℕ) where
       let v = lent f in
       range-good (v .pre .1 .0) (v .pre .1 .1) (f .node-field .ensures) (e .operand .ensures) (m .first .given .1)
 
-  returns-2 : eval-quant-lts.Need-returns-2 claims (eval-quant-at t) eval-quant.Post
+  returns-2 : lts.Need-returns-2 claims (eval-quant .at t) (eval-quant .post)
   returns-2 c =
       let k = c .before in
       let o = k .before .before in
@@ -90,7 +87,7 @@ module _ (t : ℕ) where
       (range-unlike (v .pre .1 .0) (v .pre .1 .1) (f .node-field .ensures) (e .operand .ensures) (m .first .given .1)
       (range-as (k .enum-told2 .given .1) (o .range-of .ensures)))
 
-  add-each-member : eval-quant-lts.Need-add-each-member claims (eval-quant-at t) eval-quant.Post
+  add-each-member : lts.Need-add-each-member claims (eval-quant .at t) (eval-quant .post)
   add-each-member c =
       let o = c .before .before .before in
       let m = asked (o .before) in
@@ -99,7 +96,7 @@ module _ (t : ℕ) where
       let v = lent f in
       record { fits = omega (arith, range-low (v .pre .1 .0) (v .pre .1 .1) (f .node-field .ensures) (e .operand .ensures) (m .first .given .1)) }
 
-  each-member-requires : eval-quant-lts.Need-each-member-requires claims (eval-quant-at t) eval-quant.Post
+  each-member-requires : lts.Need-each-member-requires claims (eval-quant .at t) (eval-quant .post)
   each-member-requires c κs =
       let a = c .before .before in
       let o = a .before .before in
@@ -112,14 +109,14 @@ module _ (t : ℕ) where
             (range-as (a .range .given .1) (o .range-of .ensures)),
       )
 
-  same-length-3 : eval-quant-lts.Need-same-length-3 claims (eval-quant-at t) eval-quant.Post
+  same-length-3 : lts.Need-same-length-3 claims (eval-quant .at t) (eval-quant .post)
   same-length-3 c =
       let p = c .before .before in
       let a = counted p in
       let m = asked (a .before .before) in
       p .each-member .kept .1 .1 .0 ∙ ran (m .before .before) .operand .kept .1 .1 .0
 
-  returns-3 : eval-quant-lts.Need-returns-3 claims (eval-quant-at t) eval-quant.Post
+  returns-3 : lts.Need-returns-3 claims (eval-quant .at t) (eval-quant .post)
   returns-3 c =
       let p = c .before .before in
       let a = counted p in
@@ -131,12 +128,9 @@ module _ (t : ℕ) where
       quant-done (v .pre .1 .0) (v .pre .1 .1) (f .node-field .ensures) (e .operand .ensures) (m .first .given .1)
       (range-as (a .range .given .1) (o .range-of .ensures)) (p .each-member .ensures)
 
-  pub eval-quant-closed : {M : Type 1} → eval-quant-lts.Closed claims (eval-quant-at t) eval-quant.Post M
+  pub eval-quant-closed : {M : Type 1} → lts.Closed claims (eval-quant .at t) (eval-quant .post) M
   eval-quant-closed =
-      eval-quant-lts.spec
-      claims
-      (eval-quant-at t)
-      eval-quant.Post
+      lts.spec claims (eval-quant .at t) (eval-quant .post)
       (λ c κs. (ready-node (c .before .before .pre .1 .0 .ready), lit< tt))
       (λ c. omega (arith, lent (c .before) .pre .1 .0 .unspent))
       operand-requires

@@ -4,71 +4,68 @@ use Prim.Native.Nat.{ℕ}
 use mathlib.Core.Path.{refl, sym, _∙_}
 use native.Mathlib.Omega.{arith}
 use lib.Dec.{lit<}
-use Rattle.evaluators.proofs.each_chosen.Reads as each-chosen
-use Rattle.evaluators.proofs.eval_select.Reads as eval-select
-use Rattle.evaluators.proofs.operand.Reads as operand
-use Rattle.evaluators.proofs.+each_chosen+each_member+eval_bare+eval_bool+eval_expr+eval_join+eval_one+eval_pred+eval_quant+eval_select+eval_test+eval_two+eval_value+operand.Lts-eval_select as eval-select-lts
-use Rattle.table.proofs.node_field.Reads as node-field-reads
-use Rattle.evaluators.proofs.range_of.Reads as range-of-reads
-use Rattle.evaluators.proofs.settle.Reads as settle-reads
-use Rattle.evaluators.proofs.stopped.Reads as stopped-reads
-use Rattle.evaluators.proofs.+each_chosen+each_member+eval_bare+eval_bool+eval_expr+eval_join+eval_one+eval_pred+eval_quant+eval_select+eval_test+eval_two+eval_value+operand.Proof.Base.{each-chosen-below, eval-select-at, operand-below}
+use Rattle.evaluators.proofs.+each_chosen+each_member+eval_bare+eval_bool+eval_expr+eval_join+eval_one+eval_pred+eval_quant+eval_select+eval_test+eval_two+eval_value+operand.Lts-eval_select as lts
+use Rattle.table.proofs.node_field.Reads as node-field
+use Rattle.evaluators.proofs.range_of.Reads as range-of
+use Rattle.evaluators.proofs.settle.Reads as settle
+use Rattle.evaluators.proofs.stopped.Reads as stopped
+use Rattle.evaluators.proofs.+each_chosen+each_member+eval_bare+eval_bool+eval_expr+eval_join+eval_one+eval_pred+eval_quant+eval_select+eval_test+eval_two+eval_value+operand.Proof.Base.{each-chosen, eval-select, operand}
 use Rattle.evaluators.proofs.SafeLaws.{ready-node}
 use Rattle.evaluators.proofs.NodeLaws.{formed-as}
 use Rattle.evaluators.proofs.RangeLaws.{range-as}
 use Rattle.evaluators.proofs.FormLaws.{chosen-as, select-child, select-begins, select-fails, range-good, range-low, range-fails, select-each, chosen-fails, select-settles, select-evaluates}
 
 module _ (t : ℕ) where
-  abbrev claims : eval-select-lts.Claims
+  abbrev claims : lts.Claims
   claims = (
-    node-field-reads.Asked,
-    node-field-reads.Learnt,
-    operand-below t,
-    operand.Post,
-    range-of-reads.Asked,
-    range-of-reads.Learnt,
-    stopped-reads.Asked,
-    stopped-reads.Learnt,
-    each-chosen-below t,
-    each-chosen.Post,
-    settle-reads.Asked,
-    settle-reads.Learnt,
+    node-field.Asked,
+    node-field.Learnt,
+    operand .below t,
+    operand .post,
+    range-of.Asked,
+    range-of.Learnt,
+    stopped.Asked,
+    stopped.Learnt,
+    each-chosen .below t,
+    each-chosen .post,
+    settle.Asked,
+    settle.Learnt,
   )
 
-  abbrev lent : eval-select-lts.After-node-field claims (eval-select-at t) eval-select.Post → eval-select-lts.Start claims (eval-select-at t) eval-select.Post
+  abbrev lent : lts.After-node-field claims (eval-select .at t) (eval-select .post) → lts.Start claims (eval-select .at t) (eval-select .post)
   lent c = c .before .before .before
 
-  abbrev word : eval-select-lts.After-operand claims (eval-select-at t) eval-select.Post →
-      eval-select-lts.After-node-field claims (eval-select-at t) eval-select.Post
+  abbrev word : lts.After-operand claims (eval-select .at t) (eval-select .post) →
+      lts.After-node-field claims (eval-select .at t) (eval-select .post)
   word c = c .before .before
 
-  abbrev ran : eval-select-lts.After-slice-known2 claims (eval-select-at t) eval-select.Post →
-      eval-select-lts.After-operand claims (eval-select-at t) eval-select.Post
+  abbrev ran : lts.After-slice-known2 claims (eval-select .at t) (eval-select .post) →
+      lts.After-operand claims (eval-select .at t) (eval-select .post)
   ran c = c .before .before
 
-  abbrev asked : eval-select-lts.After-range-of claims (eval-select-at t) eval-select.Post →
-      eval-select-lts.After-first claims (eval-select-at t) eval-select.Post
+  abbrev asked : lts.After-range-of claims (eval-select .at t) (eval-select .post) →
+      lts.After-first claims (eval-select .at t) (eval-select .post)
   asked c = c .before .before .before
 
-  abbrev counted : eval-select-lts.After-each-chosen claims (eval-select-at t) eval-select.Post →
-      eval-select-lts.After-range claims (eval-select-at t) eval-select.Post
+  abbrev counted : lts.After-each-chosen claims (eval-select .at t) (eval-select .post) →
+      lts.After-range claims (eval-select .at t) (eval-select .post)
   counted c = c .before .before .before
 
-  abbrev chose : eval-select-lts.After-slice-known3 claims (eval-select-at t) eval-select.Post →
-      eval-select-lts.After-each-chosen claims (eval-select-at t) eval-select.Post
+  abbrev chose : lts.After-slice-known3 claims (eval-select .at t) (eval-select .post) →
+      lts.After-each-chosen claims (eval-select .at t) (eval-select .post)
   chose c = c .before .before
 
-  abbrev settled : eval-select-lts.After-settle claims (eval-select-at t) eval-select.Post →
-      eval-select-lts.After-chosen claims (eval-select-at t) eval-select.Post
+  abbrev settled : lts.After-settle claims (eval-select .at t) (eval-select .post) →
+      lts.After-chosen claims (eval-select .at t) (eval-select .post)
   settled c = c .before .before .before
 
-  operand-requires : eval-select-lts.Need-operand-requires claims (eval-select-at t) eval-select.Post
+  operand-requires : lts.Need-operand-requires claims (eval-select .at t) (eval-select .post)
   operand-requires c κs =
       let f = c .before in
       let v = lent f in
       (omega (arith, v .pre .0, select-child (v .pre .1) (f .node-field .ensures) .below), select-begins (v .pre .1) (f .node-field .ensures))
 
-  returns : eval-select-lts.Need-returns claims (eval-select-at t) eval-select.Post
+  returns : lts.Need-returns claims (eval-select .at t) (eval-select .post)
   returns c =
       let e = ran (c .before .before) in
       let f = word e in
@@ -76,7 +73,7 @@ module _ (t : ℕ) where
       let q = c .enum-told .given .1 in
       formed-as refl (sym q) (select-fails (v .pre .1) (f .node-field .ensures) (formed-as refl q (e .operand .ensures)))
 
-  range-of-requires : eval-select-lts.Need-range-of-requires claims (eval-select-at t) eval-select.Post
+  range-of-requires : lts.Need-range-of-requires claims (eval-select .at t) (eval-select .post)
   range-of-requires c κs =
       let m = c .before .before in
       let e = ran (m .before .before) in
@@ -84,7 +81,7 @@ module _ (t : ℕ) where
       let v = lent f in
       range-good (v .pre .1) (f .node-field .ensures) (formed-as refl (m .first .given .1) (e .operand .ensures))
 
-  returns-2 : eval-select-lts.Need-returns-2 claims (eval-select-at t) eval-select.Post
+  returns-2 : lts.Need-returns-2 claims (eval-select .at t) (eval-select .post)
   returns-2 c =
       let k = c .before in
       let o = k .before .before in
@@ -96,7 +93,7 @@ module _ (t : ℕ) where
       (range-fails (v .pre .1) (f .node-field .ensures) (formed-as refl (m .first .given .1) (e .operand .ensures))
       (range-as (k .enum-told2 .given .1) (o .range-of .ensures)))
 
-  add-each-chosen : eval-select-lts.Need-add-each-chosen claims (eval-select-at t) eval-select.Post
+  add-each-chosen : lts.Need-add-each-chosen claims (eval-select .at t) (eval-select .post)
   add-each-chosen c =
       let o = c .before .before .before in
       let m = asked (o .before) in
@@ -105,7 +102,7 @@ module _ (t : ℕ) where
       let v = lent f in
       omega (arith, range-low (v .pre .1) (f .node-field .ensures) (formed-as refl (m .first .given .1) (e .operand .ensures)))
 
-  each-chosen-requires : eval-select-lts.Need-each-chosen-requires claims (eval-select-at t) eval-select.Post
+  each-chosen-requires : lts.Need-each-chosen-requires claims (eval-select .at t) (eval-select .post)
   each-chosen-requires c κs =
       let a = c .before .before in
       let o = a .before .before in
@@ -118,14 +115,14 @@ module _ (t : ℕ) where
             (range-as (a .range .given .1) (o .range-of .ensures)),
       )
 
-  same-length-3 : eval-select-lts.Need-same-length-3 claims (eval-select-at t) eval-select.Post
+  same-length-3 : lts.Need-same-length-3 claims (eval-select .at t) (eval-select .post)
   same-length-3 c =
       let p = chose (c .before .before) in
       let a = counted p in
       let m = asked (a .before .before) in
       p .each-chosen .kept .1 .1 .0 ∙ ran (m .before .before) .operand .kept .1 .1 .0
 
-  returns-3 : eval-select-lts.Need-returns-3 claims (eval-select-at t) eval-select.Post
+  returns-3 : lts.Need-returns-3 claims (eval-select .at t) (eval-select .post)
   returns-3 c =
       let p = chose (c .before .before) in
       let a = counted p in
@@ -140,7 +137,7 @@ module _ (t : ℕ) where
       (range-as (a .range .given .1) (o .range-of .ensures))
       (chosen-as q (p .each-chosen .ensures)))
 
-  settle-requires : eval-select-lts.Need-settle-requires claims (eval-select-at t) eval-select.Post
+  settle-requires : lts.Need-settle-requires claims (eval-select .at t) (eval-select .post)
   settle-requires c κs =
       let w = c .before .before in
       let p = chose (w .before .before) in
@@ -154,7 +151,7 @@ module _ (t : ℕ) where
       (range-as (a .range .given .1) (o .range-of .ensures))
       (chosen-as (w .chosen .given .1) (p .each-chosen .ensures))
 
-  same-length-4 : eval-select-lts.Need-same-length-4 claims (eval-select-at t) eval-select.Post
+  same-length-4 : lts.Need-same-length-4 claims (eval-select .at t) (eval-select .post)
   same-length-4 c =
       let i = c .before .before in
       let w = settled i in
@@ -163,7 +160,7 @@ module _ (t : ℕ) where
       let m = asked (a .before .before) in
       i .settle .kept .0 ∙ p .each-chosen .kept .1 .1 .0 ∙ ran (m .before .before) .operand .kept .1 .1 .0
 
-  returns-4 : eval-select-lts.Need-returns-4 claims (eval-select-at t) eval-select.Post
+  returns-4 : lts.Need-returns-4 claims (eval-select .at t) (eval-select .post)
   returns-4 c =
       let i = c .before .before in
       let w = settled i in
@@ -178,12 +175,9 @@ module _ (t : ℕ) where
       (range-as (a .range .given .1) (o .range-of .ensures))
       (chosen-as (w .chosen .given .1) (p .each-chosen .ensures)) (i .settle .ensures)
 
-  pub eval-select-closed : {M : Type 1} → eval-select-lts.Closed claims (eval-select-at t) eval-select.Post M
+  pub eval-select-closed : {M : Type 1} → lts.Closed claims (eval-select .at t) (eval-select .post) M
   eval-select-closed =
-      eval-select-lts.spec
-      claims
-      (eval-select-at t)
-      eval-select.Post
+      lts.spec claims (eval-select .at t) (eval-select .post)
       (λ c κs. (ready-node (c .before .before .pre .1 .ready), lit< tt))
       (λ c. omega (arith, lent (c .before) .pre .1 .unspent))
       operand-requires

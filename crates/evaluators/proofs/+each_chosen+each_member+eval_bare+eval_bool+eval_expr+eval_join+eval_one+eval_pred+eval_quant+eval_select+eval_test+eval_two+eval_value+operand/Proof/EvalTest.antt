@@ -4,55 +4,53 @@ use Prim.Native.Nat.{ℕ}
 use mathlib.Core.Path.{refl, sym, _∙_}
 use native.Mathlib.Omega.{arith}
 use lib.Dec.{lit<}
-use Rattle.evaluators.proofs.eval_test.Reads as eval-test
-use Rattle.evaluators.proofs.operand.Reads as operand
-use Rattle.evaluators.proofs.+each_chosen+each_member+eval_bare+eval_bool+eval_expr+eval_join+eval_one+eval_pred+eval_quant+eval_select+eval_test+eval_two+eval_value+operand.Lts-eval_test as eval-test-lts
-use Rattle.table.proofs.node_field.Reads as node-field-reads
-use Rattle.evaluators.proofs.refusal_of.Reads as refusal-of-reads
-use Rattle.evaluators.proofs.refused.Reads as refused-reads
-use Rattle.operations.proofs.test.Reads as test-reads
-use Rattle.evaluators.proofs.+each_chosen+each_member+eval_bare+eval_bool+eval_expr+eval_join+eval_one+eval_pred+eval_quant+eval_select+eval_test+eval_two+eval_value+operand.Proof.Base.{eval-test-at, operand-below}
+use Rattle.evaluators.proofs.+each_chosen+each_member+eval_bare+eval_bool+eval_expr+eval_join+eval_one+eval_pred+eval_quant+eval_select+eval_test+eval_two+eval_value+operand.Lts-eval_test as lts
+use Rattle.table.proofs.node_field.Reads as node-field
+use Rattle.evaluators.proofs.refusal_of.Reads as refusal-of
+use Rattle.evaluators.proofs.refused.Reads as refused
+use Rattle.operations.proofs.test.Reads as test
+use Rattle.evaluators.proofs.+each_chosen+each_member+eval_bare+eval_bool+eval_expr+eval_join+eval_one+eval_pred+eval_quant+eval_select+eval_test+eval_two+eval_value+operand.Proof.Base.{eval-test, operand}
 use Rattle.evaluators.proofs.SafeLaws.{ready-node}
 use Rattle.evaluators.proofs.NodeLaws.{held-as, refusal-is}
 use Rattle.evaluators.proofs.BothLaws.{left-child, left-ready, both-stops, right-child, right-ready, both-stops-2, both-formed, operands-ready, test-fields, test-stops, test-unlike, test-truth}
 
 module _ (t : ℕ) where
-  abbrev claims : eval-test-lts.Claims
+  abbrev claims : lts.Claims
   claims = (
-    node-field-reads.Asked,
-    node-field-reads.Learnt,
-    operand-below t,
-    operand.Post,
-    refusal-of-reads.Asked,
-    refusal-of-reads.Learnt,
-    test-reads.Asked,
-    test-reads.Learnt,
-    refused-reads.Asked,
-    refused-reads.Learnt,
+    node-field.Asked,
+    node-field.Learnt,
+    operand .below t,
+    operand .post,
+    refusal-of.Asked,
+    refusal-of.Learnt,
+    test.Asked,
+    test.Learnt,
+    refused.Asked,
+    refused.Learnt,
   )
 
-  abbrev lent : eval-test-lts.After-node-field claims (eval-test-at t) eval-test.Post → eval-test-lts.Start claims (eval-test-at t) eval-test.Post
+  abbrev lent : lts.After-node-field claims (eval-test .at t) (eval-test .post) → lts.Start claims (eval-test .at t) (eval-test .post)
   lent c = c .before .before .before
 
-  abbrev word : eval-test-lts.After-operand claims (eval-test-at t) eval-test.Post → eval-test-lts.After-node-field claims (eval-test-at t) eval-test.Post
+  abbrev word : lts.After-operand claims (eval-test .at t) (eval-test .post) → lts.After-node-field claims (eval-test .at t) (eval-test .post)
   word c = c .before .before
 
-  abbrev ran : eval-test-lts.After-slice-known2 claims (eval-test-at t) eval-test.Post → eval-test-lts.After-operand claims (eval-test-at t) eval-test.Post
+  abbrev ran : lts.After-slice-known2 claims (eval-test .at t) (eval-test .post) → lts.After-operand claims (eval-test .at t) (eval-test .post)
   ran c = c .before .before
 
-  abbrev placed : eval-test-lts.After-node-field2 claims (eval-test-at t) eval-test.Post → eval-test-lts.After-first claims (eval-test-at t) eval-test.Post
+  abbrev placed : lts.After-node-field2 claims (eval-test .at t) (eval-test .post) → lts.After-first claims (eval-test .at t) (eval-test .post)
   placed c = c .before .before
 
-  abbrev word₂ : eval-test-lts.After-operand2 claims (eval-test-at t) eval-test.Post → eval-test-lts.After-node-field2 claims (eval-test-at t) eval-test.Post
+  abbrev word₂ : lts.After-operand2 claims (eval-test .at t) (eval-test .post) → lts.After-node-field2 claims (eval-test .at t) (eval-test .post)
   word₂ c = c .before .before
 
-  abbrev ran₂ : eval-test-lts.After-slice-known3 claims (eval-test-at t) eval-test.Post → eval-test-lts.After-operand2 claims (eval-test-at t) eval-test.Post
+  abbrev ran₂ : lts.After-slice-known3 claims (eval-test .at t) (eval-test .post) → lts.After-operand2 claims (eval-test .at t) (eval-test .post)
   ran₂ c = c .before .before
 
-  abbrev tried : eval-test-lts.After-test claims (eval-test-at t) eval-test.Post → eval-test-lts.After-second claims (eval-test-at t) eval-test.Post
+  abbrev tried : lts.After-test claims (eval-test .at t) (eval-test .post) → lts.After-second claims (eval-test .at t) (eval-test .post)
   tried c = c .before .before .before
 
-  operand-requires : eval-test-lts.Need-operand-requires claims (eval-test-at t) eval-test.Post
+  operand-requires : lts.Need-operand-requires claims (eval-test .at t) (eval-test .post)
   operand-requires c κs =
       let f = c .before in
       let v = lent f in
@@ -61,7 +59,7 @@ module _ (t : ℕ) where
         left-ready (v .pre .1 .0 .ready) y (f .node-field .ensures),
       )
 
-  returns : eval-test-lts.Need-returns claims (eval-test-at t) eval-test.Post
+  returns : lts.Need-returns claims (eval-test .at t) (eval-test .post)
   returns c =
       let k = c .before in
       let e = ran (k .before .before) in
@@ -72,7 +70,7 @@ module _ (t : ℕ) where
       (both-stops (v .pre .1 .0 .ready) (test-fields (v .pre .1 .0) (v .pre .1 .1 .0) (v .pre .1 .1 .1)) (f .node-field .ensures) (e .operand .ensures)
       (k .enum-told .given .1)))
 
-  operand-requires-2 : eval-test-lts.Need-operand-requires-2 claims (eval-test-at t) eval-test.Post
+  operand-requires-2 : lts.Need-operand-requires-2 claims (eval-test .at t) (eval-test .post)
   operand-requires-2 c κs =
       let g = c .before in
       let m = placed g in
@@ -86,14 +84,14 @@ module _ (t : ℕ) where
             (e .operand .ensures) (m .first .given .1) (g .node-field2 .ensures),
       )
 
-  same-length-2 : eval-test-lts.Need-same-length-2 claims (eval-test-at t) eval-test.Post
+  same-length-2 : lts.Need-same-length-2 claims (eval-test .at t) (eval-test .post)
   same-length-2 c =
       let k = c .before in
       let s = ran₂ (k .before .before) in
       let m = placed (word₂ s) in
       s .operand2 .kept .1 .1 .0 ∙ ran (m .before .before) .operand .kept .1 .1 .0
 
-  returns-2 : eval-test-lts.Need-returns-2 claims (eval-test-at t) eval-test.Post
+  returns-2 : lts.Need-returns-2 claims (eval-test .at t) (eval-test .post)
   returns-2 c =
       let k = c .before in
       let s = ran₂ (k .before .before) in
@@ -108,7 +106,7 @@ module _ (t : ℕ) where
       (e .operand .ensures) (m .first .given .1) (g .node-field2 .ensures)
       (s .operand2 .ensures) (k .enum-told2 .given .1)))
 
-  test-requires : eval-test-lts.Need-test-requires claims (eval-test-at t) eval-test.Post
+  test-requires : lts.Need-test-requires claims (eval-test .at t) (eval-test .post)
   test-requires c κs =
       let w = c .before .before in
       let s = ran₂ (w .before .before) in
@@ -122,14 +120,14 @@ module _ (t : ℕ) where
       (e .operand .ensures) (m .first .given .1) (g .node-field2 .ensures)
       (s .operand2 .ensures) (w .second .given .1))
 
-  same-length-3 : eval-test-lts.Need-same-length-3 claims (eval-test-at t) eval-test.Post
+  same-length-3 : lts.Need-same-length-3 claims (eval-test .at t) (eval-test .post)
   same-length-3 c =
       let w = tried (c .before .before .before) in
       let s = ran₂ (w .before .before) in
       let m = placed (word₂ s) in
       s .operand2 .kept .1 .1 .0 ∙ ran (m .before .before) .operand .kept .1 .1 .0
 
-  returns-3 : eval-test-lts.Need-returns-3 claims (eval-test-at t) eval-test.Post
+  returns-3 : lts.Need-returns-3 claims (eval-test .at t) (eval-test .post)
   returns-3 c =
       let k = c .before in
       let q = k .before .before in
@@ -146,14 +144,14 @@ module _ (t : ℕ) where
       (e .operand .ensures) (m .first .given .1) (g .node-field2 .ensures)
       (s .operand2 .ensures) (w .second .given .1)) (q .test .ensures) (k .enum-told3 .given .1))
 
-  same-length-4 : eval-test-lts.Need-same-length-4 claims (eval-test-at t) eval-test.Post
+  same-length-4 : lts.Need-same-length-4 claims (eval-test .at t) (eval-test .post)
   same-length-4 c =
       let w = tried (c .before .before .before) in
       let s = ran₂ (w .before .before) in
       let m = placed (word₂ s) in
       s .operand2 .kept .1 .1 .0 ∙ ran (m .before .before) .operand .kept .1 .1 .0
 
-  returns-4 : eval-test-lts.Need-returns-4 claims (eval-test-at t) eval-test.Post
+  returns-4 : lts.Need-returns-4 claims (eval-test .at t) (eval-test .post)
   returns-4 c =
       let q = c .before .before .before in
       let w = tried q in
@@ -168,12 +166,9 @@ module _ (t : ℕ) where
       (e .operand .ensures) (m .first .given .1) (g .node-field2 .ensures)
       (s .operand2 .ensures) (w .second .given .1)) (q .test .ensures) (c .before .tested .given .1)
 
-  pub eval-test-closed : {M : Type 1} → eval-test-lts.Closed claims (eval-test-at t) eval-test.Post M
+  pub eval-test-closed : {M : Type 1} → lts.Closed claims (eval-test .at t) (eval-test .post) M
   eval-test-closed =
-      eval-test-lts.spec
-      claims
-      (eval-test-at t)
-      eval-test.Post
+      lts.spec claims (eval-test .at t) (eval-test .post)
       (λ c κs. (ready-node (c .before .before .pre .1 .0 .ready), lit< tt))
       (λ c. omega (arith, lent (c .before) .pre .1 .0 .unspent))
       operand-requires

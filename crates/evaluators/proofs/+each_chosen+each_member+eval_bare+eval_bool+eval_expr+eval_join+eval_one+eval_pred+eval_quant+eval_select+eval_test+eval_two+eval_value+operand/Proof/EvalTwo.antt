@@ -4,56 +4,54 @@ use Prim.Native.Nat.{ℕ}
 use mathlib.Core.Path.{refl, sym, _∙_}
 use native.Mathlib.Omega.{arith}
 use lib.Dec.{lit<}
-use Rattle.evaluators.proofs.eval_two.Reads as eval-two
-use Rattle.evaluators.proofs.operand.Reads as operand
-use Rattle.evaluators.proofs.+each_chosen+each_member+eval_bare+eval_bool+eval_expr+eval_join+eval_one+eval_pred+eval_quant+eval_select+eval_test+eval_two+eval_value+operand.Lts-eval_two as eval-two-lts
-use Rattle.table.proofs.node_field.Reads as node-field-reads
-use Rattle.evaluators.proofs.settle.Reads as settle-reads
-use Rattle.operations.proofs.two.Reads as two-reads
-use Rattle.evaluators.proofs.+each_chosen+each_member+eval_bare+eval_bool+eval_expr+eval_join+eval_one+eval_pred+eval_quant+eval_select+eval_test+eval_two+eval_value+operand.Proof.Base.{eval-two-at, operand-below}
+use Rattle.evaluators.proofs.+each_chosen+each_member+eval_bare+eval_bool+eval_expr+eval_join+eval_one+eval_pred+eval_quant+eval_select+eval_test+eval_two+eval_value+operand.Lts-eval_two as lts
+use Rattle.table.proofs.node_field.Reads as node-field
+use Rattle.evaluators.proofs.settle.Reads as settle
+use Rattle.operations.proofs.two.Reads as two
+use Rattle.evaluators.proofs.+each_chosen+each_member+eval_bare+eval_bool+eval_expr+eval_join+eval_one+eval_pred+eval_quant+eval_select+eval_test+eval_two+eval_value+operand.Proof.Base.{eval-two, operand}
 use Rattle.evaluators.proofs.SafeLaws.{ready-node}
 use Rattle.evaluators.proofs.NodeLaws.{formed-as}
 use Rattle.evaluators.proofs.BothLaws.{left-child, left-ready, both-stops, right-child, right-ready, both-stops-2, both-formed}
 use Rattle.evaluators.proofs.FormLaws.{two-fields, two-ready, two-fails, two-settles, two-evaluates}
 
 module _ (t : ℕ) where
-  abbrev claims : eval-two-lts.Claims
+  abbrev claims : lts.Claims
   claims = (
-    node-field-reads.Asked,
-    node-field-reads.Learnt,
-    operand-below t,
-    operand.Post,
-    two-reads.Asked,
-    two-reads.Learnt,
-    settle-reads.Asked,
-    settle-reads.Learnt,
+    node-field.Asked,
+    node-field.Learnt,
+    operand .below t,
+    operand .post,
+    two.Asked,
+    two.Learnt,
+    settle.Asked,
+    settle.Learnt,
   )
 
-  abbrev lent : eval-two-lts.After-node-field claims (eval-two-at t) eval-two.Post → eval-two-lts.Start claims (eval-two-at t) eval-two.Post
+  abbrev lent : lts.After-node-field claims (eval-two .at t) (eval-two .post) → lts.Start claims (eval-two .at t) (eval-two .post)
   lent c = c .before .before .before
 
-  abbrev word : eval-two-lts.After-operand claims (eval-two-at t) eval-two.Post → eval-two-lts.After-node-field claims (eval-two-at t) eval-two.Post
+  abbrev word : lts.After-operand claims (eval-two .at t) (eval-two .post) → lts.After-node-field claims (eval-two .at t) (eval-two .post)
   word c = c .before .before
 
-  abbrev ran : eval-two-lts.After-slice-known2 claims (eval-two-at t) eval-two.Post → eval-two-lts.After-operand claims (eval-two-at t) eval-two.Post
+  abbrev ran : lts.After-slice-known2 claims (eval-two .at t) (eval-two .post) → lts.After-operand claims (eval-two .at t) (eval-two .post)
   ran c = c .before .before
 
-  abbrev placed : eval-two-lts.After-node-field2 claims (eval-two-at t) eval-two.Post → eval-two-lts.After-first claims (eval-two-at t) eval-two.Post
+  abbrev placed : lts.After-node-field2 claims (eval-two .at t) (eval-two .post) → lts.After-first claims (eval-two .at t) (eval-two .post)
   placed c = c .before .before
 
-  abbrev word₂ : eval-two-lts.After-operand2 claims (eval-two-at t) eval-two.Post → eval-two-lts.After-node-field2 claims (eval-two-at t) eval-two.Post
+  abbrev word₂ : lts.After-operand2 claims (eval-two .at t) (eval-two .post) → lts.After-node-field2 claims (eval-two .at t) (eval-two .post)
   word₂ c = c .before .before
 
-  abbrev ran₂ : eval-two-lts.After-slice-known3 claims (eval-two-at t) eval-two.Post → eval-two-lts.After-operand2 claims (eval-two-at t) eval-two.Post
+  abbrev ran₂ : lts.After-slice-known3 claims (eval-two .at t) (eval-two .post) → lts.After-operand2 claims (eval-two .at t) (eval-two .post)
   ran₂ c = c .before .before
 
-  abbrev done : eval-two-lts.After-two claims (eval-two-at t) eval-two.Post → eval-two-lts.After-second claims (eval-two-at t) eval-two.Post
+  abbrev done : lts.After-two claims (eval-two .at t) (eval-two .post) → lts.After-second claims (eval-two .at t) (eval-two .post)
   done c = c .before .before .before
 
-  abbrev settled : eval-two-lts.After-settle claims (eval-two-at t) eval-two.Post → eval-two-lts.After-two claims (eval-two-at t) eval-two.Post
+  abbrev settled : lts.After-settle claims (eval-two .at t) (eval-two .post) → lts.After-two claims (eval-two .at t) (eval-two .post)
   settled c = let s = c .before .before in s .before .before
 
-  operand-requires : eval-two-lts.Need-operand-requires claims (eval-two-at t) eval-two.Post
+  operand-requires : lts.Need-operand-requires claims (eval-two .at t) (eval-two .post)
   operand-requires c κs =
       let f = c .before in
       let v = lent f in
@@ -62,7 +60,7 @@ module _ (t : ℕ) where
         left-ready (v .pre .1 .0 .ready) y (f .node-field .ensures),
       )
 
-  returns : eval-two-lts.Need-returns claims (eval-two-at t) eval-two.Post
+  returns : lts.Need-returns claims (eval-two .at t) (eval-two .post)
   returns c =
       let e = ran (c .before .before) in
       let f = word e in
@@ -72,7 +70,7 @@ module _ (t : ℕ) where
       (both-stops (v .pre .1 .0 .ready) (two-fields (v .pre .1 .0) (v .pre .1 .1 .0) (v .pre .1 .1 .1)) (f .node-field .ensures) (e .operand .ensures)
       (c .enum-told .given .1)))
 
-  operand-requires-2 : eval-two-lts.Need-operand-requires-2 claims (eval-two-at t) eval-two.Post
+  operand-requires-2 : lts.Need-operand-requires-2 claims (eval-two .at t) (eval-two .post)
   operand-requires-2 c κs =
       let g = c .before in
       let m = placed g in
@@ -86,13 +84,13 @@ module _ (t : ℕ) where
             (e .operand .ensures) (m .first .given .1) (g .node-field2 .ensures),
       )
 
-  same-length-2 : eval-two-lts.Need-same-length-2 claims (eval-two-at t) eval-two.Post
+  same-length-2 : lts.Need-same-length-2 claims (eval-two .at t) (eval-two .post)
   same-length-2 c =
       let s = ran₂ (c .before .before) in
       let m = placed (word₂ s) in
       s .operand2 .kept .1 .1 .0 ∙ ran (m .before .before) .operand .kept .1 .1 .0
 
-  returns-2 : eval-two-lts.Need-returns-2 claims (eval-two-at t) eval-two.Post
+  returns-2 : lts.Need-returns-2 claims (eval-two .at t) (eval-two .post)
   returns-2 c =
       let s = ran₂ (c .before .before) in
       let g = word₂ s in
@@ -106,7 +104,7 @@ module _ (t : ℕ) where
       (e .operand .ensures) (m .first .given .1) (g .node-field2 .ensures)
       (s .operand2 .ensures) (c .enum-told2 .given .1)))
 
-  two-requires : eval-two-lts.Need-two-requires claims (eval-two-at t) eval-two.Post
+  two-requires : lts.Need-two-requires claims (eval-two .at t) (eval-two .post)
   two-requires c κs =
       let w = c .before .before in
       let s = ran₂ (w .before .before) in
@@ -120,7 +118,7 @@ module _ (t : ℕ) where
       (e .operand .ensures) (m .first .given .1) (g .node-field2 .ensures)
       (s .operand2 .ensures) (w .second .given .1))
 
-  settle-requires : eval-two-lts.Need-settle-requires claims (eval-two-at t) eval-two.Post
+  settle-requires : lts.Need-settle-requires claims (eval-two .at t) (eval-two .post)
   settle-requires c κs =
       let q = c .before .before .before in
       let w = done q in
@@ -135,7 +133,7 @@ module _ (t : ℕ) where
       (e .operand .ensures) (m .first .given .1) (g .node-field2 .ensures)
       (s .operand2 .ensures) (w .second .given .1)) (q .two .ensures)
 
-  same-length-3 : eval-two-lts.Need-same-length-3 claims (eval-two-at t) eval-two.Post
+  same-length-3 : lts.Need-same-length-3 claims (eval-two .at t) (eval-two .post)
   same-length-3 c =
       let p = c .before .before in
       let q = settled p in
@@ -144,7 +142,7 @@ module _ (t : ℕ) where
       let m = placed (word₂ s) in
       p .settle .kept .0 ∙ q .two .kept .0 ∙ s .operand2 .kept .1 .1 .0 ∙ ran (m .before .before) .operand .kept .1 .1 .0
 
-  returns-3 : eval-two-lts.Need-returns-3 claims (eval-two-at t) eval-two.Post
+  returns-3 : lts.Need-returns-3 claims (eval-two .at t) (eval-two .post)
   returns-3 c =
       let p = c .before .before in
       let q = settled p in
@@ -160,12 +158,9 @@ module _ (t : ℕ) where
       (e .operand .ensures) (m .first .given .1) (g .node-field2 .ensures)
       (s .operand2 .ensures) (w .second .given .1)) (q .two .ensures) (p .settle .ensures)
 
-  pub eval-two-closed : {M : Type 1} → eval-two-lts.Closed claims (eval-two-at t) eval-two.Post M
+  pub eval-two-closed : {M : Type 1} → lts.Closed claims (eval-two .at t) (eval-two .post) M
   eval-two-closed =
-      eval-two-lts.spec
-      claims
-      (eval-two-at t)
-      eval-two.Post
+      lts.spec claims (eval-two .at t) (eval-two .post)
       (λ c κs. (ready-node (c .before .before .pre .1 .0 .ready), lit< tt))
       (λ c. omega (arith, lent (c .before) .pre .1 .0 .unspent))
       operand-requires
