@@ -1,33 +1,23 @@
 -- `eval_test`: the operands one after the other, and then the test of their values; a refusal of an operand goes on. Landmarks: what was
 -- lent, the words of the fields, the answers for the operands, and the test.
-use Prim.Native.Nat.{ℕ}
+use Prim.Native.Nat.{ℕ, _-_}
 use mathlib.Core.Path.{refl, sym, _∙_}
 use native.Mathlib.Omega.{arith}
 use lib.Dec.{lit<}
+use denote.Ref.{now}
 use Rattle.evaluators.proofs.+each_chosen+each_member+eval_bare+eval_bool+eval_expr+eval_join+eval_one+eval_pred+eval_quant+eval_select+eval_test+eval_two+eval_value+operand.Lts-eval_test as lts
-use Rattle.table.proofs.node_field.Reads as node-field
-use Rattle.evaluators.proofs.refusal_of.Reads as refusal-of
+use Rattle.table.proofs.node_field.Reads as field
+use Rattle.evaluators.proofs.refusal_of.Reads as refusal
 use Rattle.evaluators.proofs.refused.Reads as refused
 use Rattle.operations.proofs.test.Reads as test
 use Rattle.evaluators.proofs.+each_chosen+each_member+eval_bare+eval_bool+eval_expr+eval_join+eval_one+eval_pred+eval_quant+eval_select+eval_test+eval_two+eval_value+operand.Proof.Base.{eval-test, operand}
 use Rattle.evaluators.proofs.SafeLaws.{ready-node}
-use Rattle.evaluators.proofs.NodeLaws.{held-as, refusal-is}
-use Rattle.evaluators.proofs.BothLaws.{left-child, left-ready, both-stops, right-child, right-ready, both-stops-2, both-formed, operands-ready, test-fields, test-stops, test-unlike, test-truth}
+use Rattle.evaluators.proofs.NodeLaws.{TwoFields, held-as, refusal-is}
+use Rattle.evaluators.proofs.BothLaws.{EvaluatesBoth, left-asks, right-asks, both-stops, both-stops-2, both-formed, operands-ready, test-fields, test-stops, test-unlike, test-truth}
 
 module _ (t : ℕ) where
   abbrev claims : lts.Claims
-  claims = (
-    node-field.Asked,
-    node-field.Learnt,
-    operand .below t,
-    operand .post,
-    refusal-of.Asked,
-    refusal-of.Learnt,
-    test.Asked,
-    test.Learnt,
-    refused.Asked,
-    refused.Learnt,
-  )
+  claims = (field.Asked, field.Learnt, operand .below t, operand .post, refusal.Asked, refusal.Learnt, test.Asked, test.Learnt, refused.Asked, refused.Learnt)
 
   abbrev lent : lts.After-node-field claims (eval-test .at t) (eval-test .post) → lts.Start claims (eval-test .at t) (eval-test .post)
   lent c = c .before .before .before
@@ -41,154 +31,74 @@ module _ (t : ℕ) where
   abbrev placed : lts.After-node-field2 claims (eval-test .at t) (eval-test .post) → lts.After-first claims (eval-test .at t) (eval-test .post)
   placed c = c .before .before
 
-  abbrev word₂ : lts.After-operand2 claims (eval-test .at t) (eval-test .post) → lts.After-node-field2 claims (eval-test .at t) (eval-test .post)
-  word₂ c = c .before .before
-
   abbrev ran₂ : lts.After-slice-known3 claims (eval-test .at t) (eval-test .post) → lts.After-operand2 claims (eval-test .at t) (eval-test .post)
   ran₂ c = c .before .before
+
+  abbrev first : lts.After-operand2 claims (eval-test .at t) (eval-test .post) → lts.After-operand claims (eval-test .at t) (eval-test .post)
+  first c = let m = placed (c .before .before) in ran (m .before .before)
 
   abbrev tried : lts.After-test claims (eval-test .at t) (eval-test .post) → lts.After-second claims (eval-test .at t) (eval-test .post)
   tried c = c .before .before .before
 
-  operand-requires : lts.Need-operand-requires claims (eval-test .at t) (eval-test .post)
-  operand-requires c κs =
-      let f = c .before in
-      let v = lent f in
-      let y = test-fields (v .pre .1 .0) (v .pre .1 .1 .0) (v .pre .1 .1 .1) in (
-        omega (arith, v .pre .0, left-child (v .pre .1 .0 .ready) y (f .node-field .ensures) .below),
-        left-ready (v .pre .1 .0 .ready) y (f .node-field .ensures),
-      )
+  fields : (v : lts.Start claims (eval-test .at t) (eval-test .post)) → TwoFields (now (v .args .table)) (v .args .node)
+  fields v = test-fields (v .pre .1 .0) (v .pre .1 .1 .0) (v .pre .1 .1 .1)
 
   returns : lts.Need-returns claims (eval-test .at t) (eval-test .post)
   returns c =
-      let k = c .before in
-      let e = ran (k .before .before) in
-      let f = word e in
-      let v = lent f in
-      held-as refl (refusal-is (k .enum-told .given .1) (c .refusal-of .ensures))
-      (test-stops (v .pre .1 .0) (v .pre .1 .1 .0) (v .pre .1 .1 .1)
-      (both-stops (v .pre .1 .0 .ready) (test-fields (v .pre .1 .0) (v .pre .1 .1 .0) (v .pre .1 .1 .1)) (f .node-field .ensures) (e .operand .ensures)
-      (k .enum-told .given .1)))
+      let k = c .before in let e = ran (k .before .before) in let v = lent (word e) in
+      held-as refl (refusal-is (k .enum-told .given .1) (c .refusal-of .ensures)) (test-stops (v .pre .1 .0) (v .pre .1 .1 .0) (v .pre .1 .1 .1)
+      (both-stops (v .pre .1 .0 .ready) (fields v) (word e .node-field .ensures) (e .operand .ensures) (k .enum-told .given .1)))
 
   operand-requires-2 : lts.Need-operand-requires-2 claims (eval-test .at t) (eval-test .post)
   operand-requires-2 c κs =
-      let g = c .before in
-      let m = placed g in
-      let e = ran (m .before .before) in
-      let f = word e in
-      let v = lent f in
-      let d = right-child (v .pre .1 .0 .ready) (test-fields (v .pre .1 .0) (v .pre .1 .1 .0) (v .pre .1 .1 .1)) (f .node-field .ensures)
-      (e .operand .ensures) (m .first .given .1) (g .node-field2 .ensures) in (
-        omega (arith, v .pre .0, d .below),
-        right-ready (v .pre .1 .0 .ready) (test-fields (v .pre .1 .0) (v .pre .1 .1 .0) (v .pre .1 .1 .1)) (f .node-field .ensures)
-            (e .operand .ensures) (m .first .given .1) (g .node-field2 .ensures),
-      )
-
-  same-length-2 : lts.Need-same-length-2 claims (eval-test .at t) (eval-test .post)
-  same-length-2 c =
-      let k = c .before in
-      let s = ran₂ (k .before .before) in
-      let m = placed (word₂ s) in
-      s .operand2 .kept .1 .1 .0 ∙ ran (m .before .before) .operand .kept .1 .1 .0
+      let g = c .before in let m = placed g in let e = ran (m .before .before) in let v = lent (word e) in
+      right-asks (v .pre .0) (v .pre .1 .0) (fields v) (word e .node-field .ensures) (e .operand .ensures) (m .first .given .1) (g .node-field2 .ensures)
 
   returns-2 : lts.Need-returns-2 claims (eval-test .at t) (eval-test .post)
   returns-2 c =
-      let k = c .before in
-      let s = ran₂ (k .before .before) in
-      let g = word₂ s in
-      let m = placed g in
-      let e = ran (m .before .before) in
-      let f = word e in
-      let v = lent f in
-      held-as refl (refusal-is (k .enum-told2 .given .1) (c .refusal-of2 .ensures))
-      (test-stops (v .pre .1 .0) (v .pre .1 .1 .0) (v .pre .1 .1 .1)
-      (both-stops-2 (v .pre .1 .0 .ready) (test-fields (v .pre .1 .0) (v .pre .1 .1 .0) (v .pre .1 .1 .1)) (f .node-field .ensures)
-      (e .operand .ensures) (m .first .given .1) (g .node-field2 .ensures)
-      (s .operand2 .ensures) (k .enum-told2 .given .1)))
+      let k = c .before in let s = ran₂ (k .before .before) in let e = first s in let v = lent (word e) in let g = s .before .before in
+      held-as refl (refusal-is (k .enum-told2 .given .1) (c .refusal-of2 .ensures)) (test-stops (v .pre .1 .0) (v .pre .1 .1 .0) (v .pre .1 .1 .1)
+      (both-stops-2 (v .pre .1 .0 .ready) (fields v) (word e .node-field .ensures) (e .operand .ensures) (placed g .first .given .1)
+      (g .node-field2 .ensures) (s .operand2 .ensures) (k .enum-told2 .given .1)))
 
-  test-requires : lts.Need-test-requires claims (eval-test .at t) (eval-test .post)
-  test-requires c κs =
-      let w = c .before .before in
-      let s = ran₂ (w .before .before) in
-      let g = word₂ s in
-      let m = placed g in
-      let e = ran (m .before .before) in
-      let f = word e in
-      let v = lent f in
-      operands-ready (v .pre .1 .0 .ready)
-      (both-formed (v .pre .1 .0 .ready) (test-fields (v .pre .1 .0) (v .pre .1 .1 .0) (v .pre .1 .1 .1)) (f .node-field .ensures)
-      (e .operand .ensures) (m .first .given .1) (g .node-field2 .ensures)
-      (s .operand2 .ensures) (w .second .given .1))
-
-  same-length-3 : lts.Need-same-length-3 claims (eval-test .at t) (eval-test .post)
-  same-length-3 c =
-      let w = tried (c .before .before .before) in
-      let s = ran₂ (w .before .before) in
-      let m = placed (word₂ s) in
-      s .operand2 .kept .1 .1 .0 ∙ ran (m .before .before) .operand .kept .1 .1 .0
+  -- Both operands have values.
+  formed : (w : lts.After-second claims (eval-test .at t) (eval-test .post)) →
+      let s = ran₂ (w .before .before) in let a = lent (word (first s)) .args in let x = placed (s .before .before) .first .given .0 in
+      let y = w .second .given .0 in
+      EvaluatesBoth (now (a .table)) (now (a .env)) (now (a .s)) (a .top) (a .node) (a .left - 1) (s .operand2 .last .1 .1 .0)
+          (x .0) (x .1 .0) (y .0) (y .1 .0) (y .1 .1 .0)
+  formed w =
+      let s = ran₂ (w .before .before) in let e = first s in let v = lent (word e) in let g = s .before .before in
+      both-formed (v .pre .1 .0 .ready) (fields v) (word e .node-field .ensures) (e .operand .ensures) (placed g .first .given .1)
+      (g .node-field2 .ensures) (s .operand2 .ensures) (w .second .given .1)
 
   returns-3 : lts.Need-returns-3 claims (eval-test .at t) (eval-test .post)
   returns-3 c =
-      let k = c .before in
-      let q = k .before .before in
-      let w = tried q in
-      let s = ran₂ (w .before .before) in
-      let g = word₂ s in
-      let m = placed g in
-      let e = ran (m .before .before) in
-      let f = word e in
-      let v = lent f in
-      held-as refl (sym (c .refused .ensures))
-      (test-unlike (v .pre .1 .0) (v .pre .1 .1 .0) (v .pre .1 .1 .1)
-      (both-formed (v .pre .1 .0 .ready) (test-fields (v .pre .1 .0) (v .pre .1 .1 .0) (v .pre .1 .1 .1)) (f .node-field .ensures)
-      (e .operand .ensures) (m .first .given .1) (g .node-field2 .ensures)
-      (s .operand2 .ensures) (w .second .given .1)) (q .test .ensures) (k .enum-told3 .given .1))
-
-  same-length-4 : lts.Need-same-length-4 claims (eval-test .at t) (eval-test .post)
-  same-length-4 c =
-      let w = tried (c .before .before .before) in
-      let s = ran₂ (w .before .before) in
-      let m = placed (word₂ s) in
-      s .operand2 .kept .1 .1 .0 ∙ ran (m .before .before) .operand .kept .1 .1 .0
+      let k = c .before in let q = k .before .before in let w = tried q in let p = lent (word (first (ran₂ (w .before .before)))) .pre .1 in
+      held-as refl (sym (c .refused .ensures)) (test-unlike (p .0) (p .1 .0) (p .1 .1) (formed w) (q .test .ensures) (k .enum-told3 .given .1))
 
   returns-4 : lts.Need-returns-4 claims (eval-test .at t) (eval-test .post)
   returns-4 c =
-      let q = c .before .before .before in
-      let w = tried q in
-      let s = ran₂ (w .before .before) in
-      let g = word₂ s in
-      let m = placed g in
-      let e = ran (m .before .before) in
-      let f = word e in
-      let v = lent f in
-      test-truth (v .pre .1 .0) (v .pre .1 .1 .0) (v .pre .1 .1 .1)
-      (both-formed (v .pre .1 .0 .ready) (test-fields (v .pre .1 .0) (v .pre .1 .1 .0) (v .pre .1 .1 .1)) (f .node-field .ensures)
-      (e .operand .ensures) (m .first .given .1) (g .node-field2 .ensures)
-      (s .operand2 .ensures) (w .second .given .1)) (q .test .ensures) (c .before .tested .given .1)
+      let q = c .before .before .before in let w = tried q in let p = lent (word (first (ran₂ (w .before .before)))) .pre .1 in
+      test-truth (p .0) (p .1 .0) (p .1 .1) (formed w) (q .test .ensures) (c .before .tested .given .1)
 
   pub eval-test-closed : {M : Type 1} → lts.Closed claims (eval-test .at t) (eval-test .post) M
   eval-test-closed =
       lts.spec claims (eval-test .at t) (eval-test .post)
       (λ c κs. (ready-node (c .before .before .pre .1 .0 .ready), lit< tt))
       (λ c. omega (arith, lent (c .before) .pre .1 .0 .unspent))
-      operand-requires
-      (λ c. c .match .keys1)
-      (λ c. c .match .keys2)
-      (λ c κs. tt)
+      (λ c κs. let f = c .before in let v = lent f in left-asks (v .pre .0) (v .pre .1 .0) (fields v) (f .node-field .ensures))
+      (λ c. c .match .keys1) (λ c. c .match .keys2) (λ c κs. tt)
       (λ c. let k = c .before in ran (k .before .before) .operand .kept .1 .1 .0)
       returns
       (λ c κs. let m = c .before in (ready-node (lent (word (ran (m .before .before))) .pre .1 .0 .ready), lit< tt))
       operand-requires-2
-      (λ c. c .match2 .keys1)
-      (λ c. c .match2 .keys2)
-      (λ c κs. tt)
-      same-length-2
+      (λ c. c .match2 .keys1) (λ c. c .match2 .keys2) (λ c κs. tt)
+      (λ c. let k = c .before in let s = ran₂ (k .before .before) in s .operand2 .kept .1 .1 .0 ∙ first s .operand .kept .1 .1 .0)
       returns-2
-      test-requires
-      (λ c. c .match3 .keys1)
-      (λ c. c .match3 .keys2)
-      (λ c κs. tt)
-      same-length-3
+      (λ c κs. let w = c .before .before in operands-ready (lent (word (first (ran₂ (w .before .before)))) .pre .1 .0 .ready) (formed w))
+      (λ c. c .match3 .keys1) (λ c. c .match3 .keys2) (λ c κs. tt)
+      (λ c. let w = tried (c .before .before .before) in let s = ran₂ (w .before .before) in s .operand2 .kept .1 .1 .0 ∙ first s .operand .kept .1 .1 .0)
       returns-3
-      same-length-4
+      (λ c. let w = tried (c .before .before .before) in let s = ran₂ (w .before .before) in s .operand2 .kept .1 .1 .0 ∙ first s .operand .kept .1 .1 .0)
       returns-4
