@@ -5,7 +5,7 @@ use mathlib.Core.Path.{refl, _∙_}
 use native.Mathlib.Omega.{arith}
 use lib.Dec.{lit<}
 use Rattle.evaluators.proofs.+each_chosen+each_member+eval_bare+eval_bool+eval_expr+eval_join+eval_one+eval_pred+eval_quant+eval_select+eval_test+eval_two+eval_value+operand.Lts-eval_bool as lts
-use Rattle.table.proofs.node_field.Reads as node-field
+use Rattle.table.proofs.node_field.Reads as field
 use Rattle.products.proofs.put_cell.Reads as put-cell
 use Rattle.evaluators.proofs.stop_of.Reads as stop-of
 use Rattle.evaluators.proofs.+each_chosen+each_member+eval_bare+eval_bool+eval_expr+eval_join+eval_one+eval_pred+eval_quant+eval_select+eval_test+eval_two+eval_value+operand.Proof.Base.{eval-bool, eval-pred}
@@ -15,16 +15,7 @@ use Rattle.evaluators.proofs.FormLaws.{byte-small, bool-child, bool-bui
 
 module _ (t : ℕ) where
   abbrev claims : lts.Claims
-  claims = (
-    node-field.Asked,
-    node-field.Learnt,
-    eval-pred .below t,
-    eval-pred .post,
-    stop-of.Asked,
-    stop-of.Learnt,
-    put-cell.Asked,
-    put-cell.Learnt,
-  )
+  claims = (field.Asked, field.Learnt, eval-pred .below t, eval-pred .post, stop-of.Asked, stop-of.Learnt, put-cell.Asked, put-cell.Learnt)
 
   abbrev lent : lts.After-node-field claims (eval-bool .at t) (eval-bool .post) → lts.Start claims (eval-bool .at t) (eval-bool .post)
   lent c = c .before .before .before
@@ -37,37 +28,22 @@ module _ (t : ℕ) where
 
   eval-pred-requires : lts.Need-eval-pred-requires claims (eval-bool .at t) (eval-bool .post)
   eval-pred-requires c κs =
-      let f = c .before in
-      let v = lent f in
+      let f = c .before in let v = lent f in
       (omega (arith, v .pre .0, bool-child (v .pre .1) (f .node-field .ensures) .below), bool-begins (v .pre .1) (f .node-field .ensures))
 
   returns : lts.Need-returns claims (eval-bool .at t) (eval-bool .post)
   returns c =
-      let k = c .before in
-      let e = ran (k .before .before) in
-      let f = word e in
-      let q = k .enum-told .given .1 in
+      let k = c .before in let e = ran (k .before .before) in let f = word e in let q = k .enum-told .given .1 in
       formed-as refl (stop-is q (c .stop-of .ensures)) (bool-fails (lent f .pre .1) (f .node-field .ensures) (held-as refl q (e .eval-pred .ensures)))
 
   put-cell-requires : lts.Need-put-cell-requires claims (eval-bool .at t) (eval-bool .post)
   put-cell-requires c κs =
-      let m = c .before .before in
-      let e = ran (m .before .before) in
-      let f = word e in
+      let m = c .before .before in let e = ran (m .before .before) in let f = word e in
       cell-room (lent f .pre .1 .ready) (bool-builds (lent f .pre .1) (f .node-field .ensures)) (e .eval-pred .ensures .frame)
-
-  same-length-2 : lts.Need-same-length-2 claims (eval-bool .at t) (eval-bool .post)
-  same-length-2 c =
-      let p = c .before .before in
-      let m = p .before .before .before in
-      p .put-cell .kept .0 ∙ ran (m .before .before) .eval-pred .kept .1 .1 .0
 
   returns-2 : lts.Need-returns-2 claims (eval-bool .at t) (eval-bool .post)
   returns-2 c =
-      let p = c .before .before in
-      let m = p .before .before .before in
-      let e = ran (m .before .before) in
-      let f = word e in
+      let p = c .before .before in let m = p .before .before .before in let e = ran (m .before .before) in let f = word e in
       bool-evaluates (lent f .pre .1) (f .node-field .ensures) (held-as refl (m .held .given .1) (e .eval-pred .ensures)) (p .put-cell .ensures)
 
   pub eval-bool-closed : {M : Type 1} → lts.Closed claims (eval-bool .at t) (eval-bool .post) M
@@ -76,13 +52,11 @@ module _ (t : ℕ) where
       (λ c κs. (ready-node (c .before .before .pre .1 .ready), lit< tt))
       (λ c. omega (arith, lent (c .before) .pre .1 .unspent))
       eval-pred-requires
-      (λ c. c .match .keys1)
-      (λ c. c .match .keys2)
-      (λ c κs. tt)
+      (λ c. c .match .keys1) (λ c. c .match .keys2) (λ c κs. tt)
       (λ c. let k = c .before in ran (k .before .before) .eval-pred .kept .1 .1 .0)
       returns
       (λ c. tt)
       (λ c. omega (arith, byte-small (c .before .before .held .given .0 .0)))
       put-cell-requires
-      same-length-2
+      (λ c. let p = c .before .before in let m = p .before .before .before in p .put-cell .kept .0 ∙ ran (m .before .before) .eval-pred .kept .1 .1 .0)
       returns-2

@@ -5,7 +5,7 @@ use mathlib.Core.Path.{refl, sym, _∙_}
 use native.Mathlib.Omega.{arith}
 use lib.Dec.{lit<}
 use Rattle.evaluators.proofs.+each_chosen+each_member+eval_bare+eval_bool+eval_expr+eval_join+eval_one+eval_pred+eval_quant+eval_select+eval_test+eval_two+eval_value+operand.Lts-eval_one as lts
-use Rattle.table.proofs.node_field.Reads as node-field
+use Rattle.table.proofs.node_field.Reads as field
 use Rattle.operations.proofs.one.Reads as one
 use Rattle.evaluators.proofs.settle.Reads as settle
 use Rattle.evaluators.proofs.+each_chosen+each_member+eval_bare+eval_bool+eval_expr+eval_join+eval_one+eval_pred+eval_quant+eval_select+eval_test+eval_two+eval_value+operand.Proof.Base.{eval-one, operand}
@@ -15,16 +15,7 @@ use Rattle.evaluators.proofs.FormLaws.{one-child, one-begins, one-fails
 
 module _ (t : ℕ) where
   abbrev claims : lts.Claims
-  claims = (
-    node-field.Asked,
-    node-field.Learnt,
-    operand .below t,
-    operand .post,
-    one.Asked,
-    one.Learnt,
-    settle.Asked,
-    settle.Learnt,
-  )
+  claims = (field.Asked, field.Learnt, operand .below t, operand .post, one.Asked, one.Learnt, settle.Asked, settle.Learnt)
 
   abbrev lent : lts.After-node-field claims (eval-one .at t) (eval-one .post) → lts.Start claims (eval-one .at t) (eval-one .post)
   lent c = c .before .before .before
@@ -43,55 +34,30 @@ module _ (t : ℕ) where
 
   operand-requires : lts.Need-operand-requires claims (eval-one .at t) (eval-one .post)
   operand-requires c κs =
-      let f = c .before in
-      let v = lent f in
-      let d = one-child (v .pre .1 .0) (v .pre .1 .1 .0) (v .pre .1 .1 .1) (f .node-field .ensures) in
-      (omega (arith, v .pre .0, d .below), one-begins (v .pre .1 .0) (v .pre .1 .1 .0) (v .pre .1 .1 .1) (f .node-field .ensures))
+      let f = c .before in let p = lent f .pre .1 in
+      let d = one-child (p .0) (p .1 .0) (p .1 .1) (f .node-field .ensures) in
+      (omega (arith, lent f .pre .0, d .below), one-begins (p .0) (p .1 .0) (p .1 .1) (f .node-field .ensures))
 
   returns : lts.Need-returns claims (eval-one .at t) (eval-one .post)
   returns c =
-      let e = ran (c .before .before) in
-      let f = word e in
-      let v = lent f in
-      let q = c .enum-told .given .1 in
-      formed-as refl (sym q)
-      (one-fails (v .pre .1 .0) (v .pre .1 .1 .0) (v .pre .1 .1 .1) (f .node-field .ensures) (formed-as refl q (e .operand .ensures)))
+      let e = ran (c .before .before) in let p = lent (word e) .pre .1 in let q = c .enum-told .given .1 in
+      formed-as refl (sym q) (one-fails (p .0) (p .1 .0) (p .1 .1) (word e .node-field .ensures) (formed-as refl q (e .operand .ensures)))
 
   one-requires : lts.Need-one-requires claims (eval-one .at t) (eval-one .post)
   one-requires c κs =
-      let m = c .before .before in
-      let e = ran (m .before .before) in
-      let f = word e in
-      let v = lent f in
-      one-ready (v .pre .1 .0) (v .pre .1 .1 .0) (v .pre .1 .1 .1) (f .node-field .ensures) (formed-as refl (m .first .given .1) (e .operand .ensures))
+      let m = c .before .before in let e = ran (m .before .before) in let p = lent (word e) .pre .1 in
+      one-ready (p .0) (p .1 .0) (p .1 .1) (word e .node-field .ensures) (formed-as refl (m .first .given .1) (e .operand .ensures))
 
   settle-requires : lts.Need-settle-requires claims (eval-one .at t) (eval-one .post)
   settle-requires c κs =
-      let q = c .before .before .before in
-      let m = done q in
-      let e = ran (m .before .before) in
-      let f = word e in
-      let v = lent f in
-      one-settles (v .pre .1 .0) (v .pre .1 .1 .0) (v .pre .1 .1 .1) (f .node-field .ensures) (formed-as refl (m .first .given .1) (e .operand .ensures))
-      (q .one .ensures)
-
-  same-length-2 : lts.Need-same-length-2 claims (eval-one .at t) (eval-one .post)
-  same-length-2 c =
-      let p = c .before .before in
-      let q = settled p in
-      let m = done q in
-      p .settle .kept .0 ∙ q .one .kept .0 ∙ ran (m .before .before) .operand .kept .1 .1 .0
+      let q = c .before .before .before in let m = done q in let e = ran (m .before .before) in let p = lent (word e) .pre .1 in
+      one-settles (p .0) (p .1 .0) (p .1 .1) (word e .node-field .ensures) (formed-as refl (m .first .given .1) (e .operand .ensures)) (q .one .ensures)
 
   returns-2 : lts.Need-returns-2 claims (eval-one .at t) (eval-one .post)
   returns-2 c =
-      let p = c .before .before in
-      let q = settled p in
-      let m = done q in
-      let e = ran (m .before .before) in
-      let f = word e in
-      let v = lent f in
-      one-evaluates (v .pre .1 .0) (v .pre .1 .1 .0) (v .pre .1 .1 .1) (f .node-field .ensures) (formed-as refl (m .first .given .1) (e .operand .ensures))
-      (q .one .ensures) (p .settle .ensures)
+      let q = settled (c .before .before) in let m = done q in let e = ran (m .before .before) in let p = lent (word e) .pre .1 in
+      one-evaluates (p .0) (p .1 .0) (p .1 .1) (word e .node-field .ensures) (formed-as refl (m .first .given .1) (e .operand .ensures))
+      (q .one .ensures) (c .before .before .settle .ensures)
 
   pub eval-one-closed : {M : Type 1} → lts.Closed claims (eval-one .at t) (eval-one .post) M
   eval-one-closed =
@@ -99,11 +65,11 @@ module _ (t : ℕ) where
       (λ c κs. (ready-node (c .before .before .pre .1 .0 .ready), lit< tt))
       (λ c. omega (arith, lent (c .before) .pre .1 .0 .unspent))
       operand-requires
-      (λ c. c .match .keys1)
-      (λ c. c .match .keys2)
+      (λ c. c .match .keys1) (λ c. c .match .keys2)
       (λ c. ran (c .before .before) .operand .kept .1 .1 .0)
       returns
       one-requires
       settle-requires
-      same-length-2
+      (λ c. let p = c .before .before in let q = settled p in let m = done q in
+      p .settle .kept .0 ∙ q .one .kept .0 ∙ ran (m .before .before) .operand .kept .1 .1 .0)
       returns-2

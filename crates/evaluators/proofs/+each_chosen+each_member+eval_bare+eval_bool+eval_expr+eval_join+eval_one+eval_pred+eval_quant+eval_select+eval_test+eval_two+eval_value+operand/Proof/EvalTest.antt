@@ -66,7 +66,7 @@ module _ (t : ℕ) where
       let s = ran₂ (w .before .before) in let a = lent (word (first s)) .args in let x = placed (s .before .before) .first .given .0 in
       let y = w .second .given .0 in
       EvaluatesBoth (now (a .table)) (now (a .env)) (now (a .s)) (a .top) (a .node) (a .left - 1) (s .operand2 .last .1 .1 .0)
-          (x .0) (x .1 .0) (y .0) (y .1 .0) (y .1 .1 .0)
+      (x .0) (x .1 .0) (y .0) (y .1 .0) (y .1 .1 .0)
   formed w =
       let s = ran₂ (w .before .before) in let e = first s in let v = lent (word e) in let g = s .before .before in
       both-formed (v .pre .1 .0 .ready) (fields v) (word e .node-field .ensures) (e .operand .ensures) (placed g .first .given .1)
