@@ -70,6 +70,5 @@ module _ (t : ℕ) where
       returns
       one-requires
       settle-requires
-      (λ c. let p = c .before .before in let q = settled p in let m = done q in
-      p .settle .kept .0 ∙ q .one .kept .0 ∙ ran (m .before .before) .operand .kept .1 .1 .0)
+      (λ c. let p = c .before .before in let q = settled p in p .settle .kept .0 ∙ q .one .kept .0 ∙ ran (done q .before .before) .operand .kept .1 .1 .0)
       returns-2
