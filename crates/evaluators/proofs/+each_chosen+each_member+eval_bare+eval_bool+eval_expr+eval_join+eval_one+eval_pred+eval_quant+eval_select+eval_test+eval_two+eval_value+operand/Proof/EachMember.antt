@@ -6,128 +6,77 @@ use native.Mathlib.Omega.{arith}
 use lib.Dec.{lit<}
 use Rattle.evaluators.proofs.+each_chosen+each_member+eval_bare+eval_bool+eval_expr+eval_join+eval_one+eval_pred+eval_quant+eval_select+eval_test+eval_two+eval_value+operand.Lts-each_member as lts
 use Rattle.arena.proofs.end_of.Reads as end-of
-use Rattle.table.proofs.node_field.Reads as node-field
+use Rattle.table.proofs.node_field.Reads as field
 use Rattle.evaluators.proofs.+each_chosen+each_member+eval_bare+eval_bool+eval_expr+eval_join+eval_one+eval_pred+eval_quant+eval_select+eval_test+eval_two+eval_value+operand.Proof.Base.{each-member, eval-pred}
 use Rattle.evaluators.proofs.SafeLaws.{one-less, binder-node, entry-below, entry-scaled}
 use Rattle.evaluators.proofs.QuantLaws.{differ, agree, Turning, turning-start, member-low, member-stands, body-ready, member-refused, member-decides, turning-on, members-done}
 
-abbrev each-member-Inv-loop : lts.InvT-loop
-each-member-Inv-loop table env s₀ top all node from count left x body inner₀ at₀ more₀ n₀ s inner at more n =
+abbrev Inv : lts.InvT-loop
+Inv table env s₀ top all node from count left x body inner₀ at₀ more₀ n₀ s inner at more n =
     Turning table env s₀ top all node from count left x s inner at more n
 
-abbrev each-member-μ-loop : lts.MeasureT-loop
-each-member-μ-loop table env s₀ top all node from count left x body inner₀ at₀ more₀ n₀ s inner at more n = more
+abbrev μ : lts.MeasureT-loop
+μ table env s₀ top all node from count left x body inner₀ at₀ more₀ n₀ s inner at more n = more
 
 module _ (t : ℕ) where
   abbrev claims : lts.Claims
-  claims = (node-field.Asked, node-field.Learnt, eval-pred .below t, eval-pred .post, end-of.Asked, end-of.Learnt)
+  claims = (field.Asked, field.Learnt, eval-pred .below t, eval-pred .post, end-of.Asked, end-of.Learnt)
 
-  abbrev lent : lts.After-node-field claims (each-member .at t) (each-member .post) each-member-Inv-loop each-member-μ-loop →
-      lts.Start claims (each-member .at t) (each-member .post) each-member-Inv-loop each-member-μ-loop
+  abbrev lent : lts.After-node-field claims (each-member .at t) (each-member .post) Inv μ → lts.Start claims (each-member .at t) (each-member .post) Inv μ
   lent c = c .before .before .before
 
-  abbrev words : lts.At-loop claims (each-member .at t) (each-member .post) each-member-Inv-loop each-member-μ-loop →
-      lts.After-node-field2 claims (each-member .at t) (each-member .post) each-member-Inv-loop each-member-μ-loop
+  abbrev words : lts.At-loop claims (each-member .at t) (each-member .post) Inv μ → lts.After-node-field2 claims (each-member .at t) (each-member .post) Inv μ
   words c = c .before .before
 
-  abbrev turn : lts.After-eval-pred claims (each-member .at t) (each-member .post) each-member-Inv-loop each-member-μ-loop →
-      lts.In-loop claims (each-member .at t) (each-member .post) each-member-Inv-loop each-member-μ-loop
+  abbrev turn : lts.After-eval-pred claims (each-member .at t) (each-member .post) Inv μ → lts.In-loop claims (each-member .at t) (each-member .post) Inv μ
   turn c = c .before .before .before
 
-  abbrev ran : lts.After-slice-known2 claims (each-member .at t) (each-member .post) each-member-Inv-loop each-member-μ-loop →
-      lts.After-eval-pred claims (each-member .at t) (each-member .post) each-member-Inv-loop each-member-μ-loop
+  abbrev ran : lts.After-slice-known2 claims (each-member .at t) (each-member .post) Inv μ →
+      lts.After-eval-pred claims (each-member .at t) (each-member .post) Inv μ
   ran c = c .before .before
 
-  cast-inner : lts.Need-cast-inner claims (each-member .at t) (each-member .post) each-member-Inv-loop each-member-μ-loop
+  cast-inner : lts.Need-cast-inner claims (each-member .at t) (each-member .post) Inv μ
   cast-inner c =
       let l = c .before in
-      let v = lent (words l .before) in
-      record { fits = member-low (v .pre .1) (l .loop .inv) (omega (arith, c .loop-test .taken)) }
+      record { fits = member-low (lent (words l .before) .pre .1) (l .loop .inv) (omega (arith, c .loop-test .taken)) }
 
-  eval-pred-requires : lts.Need-eval-pred-requires claims (each-member .at t) (each-member .post) each-member-Inv-loop each-member-μ-loop
+  eval-pred-requires : lts.Need-eval-pred-requires claims (each-member .at t) (each-member .post) Inv μ
   eval-pred-requires c κs =
-      let w = c .before .before in
-      let l = w .before in
-      let g = words l in
-      let f = g .before in
-      let v = lent f in (
+      let w = c .before .before in let g = words (w .before) in let v = lent (g .before) in (
         omega (arith, v .pre .0, v .pre .1 .deeper, g .node-field2 .ensures),
-        body-ready (v .pre .1) (l .loop .inv) (omega (arith, w .loop-test .taken))
-            (f .node-field .ensures) (g .node-field2 .ensures),
+        body-ready (v .pre .1) (w .before .loop .inv) (omega (arith, w .loop-test .taken)) (g .before .node-field .ensures) (g .node-field2 .ensures),
       )
 
-  returns : lts.Need-returns claims (each-member .at t) (each-member .post) each-member-Inv-loop each-member-μ-loop
+  returns : lts.Need-returns claims (each-member .at t) (each-member .post) Inv μ
   returns c =
-      let p = ran (c .before .before) in
-      let w = turn p in
-      let l = w .before in
-      let g = words l in
-      let f = g .before in
-      let v = lent f in
-      member-refused (v .pre .1) (l .loop .inv) (omega (arith, w .loop-test .taken)) (f .node-field .ensures) (g .node-field2 .ensures)
-      (p .eval-pred .ensures) (c .enum-told .given .1)
+      let p = ran (c .before .before) in let w = turn p in let g = words (w .before) in
+      member-refused (lent (g .before) .pre .1) (w .before .loop .inv) (omega (arith, w .loop-test .taken)) (g .before .node-field .ensures)
+      (g .node-field2 .ensures) (p .eval-pred .ensures) (c .enum-told .given .1)
 
-  same-length-2 : lts.Need-same-length-2 claims (each-member .at t) (each-member .post) each-member-Inv-loop each-member-μ-loop
+  same-length-2 : lts.Need-same-length-2 claims (each-member .at t) (each-member .post) Inv μ
   same-length-2 c =
-      let h = c .before .before in
-      let p = ran (h .before .before) in
-      p .eval-pred .kept .1 .1 .0 ∙ turn p .before .loop .inv .frame .kept
+      let h = c .before .before in let p = ran (h .before .before) in p .eval-pred .kept .1 .1 .0 ∙ turn p .before .loop .inv .frame .kept
 
-  returns-2 : lts.Need-returns-2 claims (each-member .at t) (each-member .post) each-member-Inv-loop each-member-μ-loop
+  returns-2 : lts.Need-returns-2 claims (each-member .at t) (each-member .post) Inv μ
   returns-2 c =
-      let h = c .before .before in
-      let p = ran (h .before .before) in
-      let w = turn p in
-      let l = w .before in
-      let g = words l in
-      let f = g .before in
-      let v = lent f in
-      member-decides (v .pre .1) (l .loop .inv) (omega (arith, w .loop-test .taken)) (f .node-field .ensures) (g .node-field2 .ensures)
-      (p .eval-pred .ensures) _ _
-      (h .held .given .1) (differ _ _ (c .if1 .taken))
+      let h = c .before .before in let p = ran (h .before .before) in let w = turn p in let g = words (w .before) in
+      member-decides (lent (g .before) .pre .1) (w .before .loop .inv) (omega (arith, w .loop-test .taken)) (g .before .node-field .ensures)
+      (g .node-field2 .ensures) (p .eval-pred .ensures) _ _ (h .held .given .1) (differ _ _ (c .if1 .taken))
 
-  end-of-requires : lts.Need-end-of-requires claims (each-member .at t) (each-member .post) each-member-Inv-loop each-member-μ-loop
+  end-of-requires : lts.Need-end-of-requires claims (each-member .at t) (each-member .post) Inv μ
   end-of-requires c κs =
-      let h = c .before .before .before in
-      let p = ran (h .before .before) in
-      let w = turn p in
-      let l = w .before in
-      let g = words l in
-      let f = g .before in
-      let v = lent f in
-      member-stands (v .pre .1) (l .loop .inv) (omega (arith, w .loop-test .taken)) _ (p .eval-pred .ensures .frame)
+      let h = c .before .before .before in let p = ran (h .before .before) in let w = turn p in let v = lent (words (w .before) .before) in
+      member-stands (v .pre .1) (w .before .loop .inv) (omega (arith, w .loop-test .taken)) _ (p .eval-pred .ensures .frame)
 
-  sub-more : lts.Need-sub-more claims (each-member .at t) (each-member .post) each-member-Inv-loop each-member-μ-loop
-  sub-more c =
-      let i = c .before .before in
-      let h = i .before .before in
-      turn (ran (h .before .before)) .loop-test .taken
-
-  loop-less : lts.Need-loop-less claims (each-member .at t) (each-member .post) each-member-Inv-loop each-member-μ-loop
-  loop-less c =
-      let i = c .before .before in
-      let h = i .before .before in
-      one-less (turn (ran (h .before .before)) .loop-test .taken)
-
-  loop-again : lts.Need-loop-again claims (each-member .at t) (each-member .post) each-member-Inv-loop each-member-μ-loop
+  loop-again : lts.Need-loop-again claims (each-member .at t) (each-member .post) Inv μ
   loop-again c =
-      let i = c .before .before in
-      let h = i .before .before in
-      let p = ran (h .before .before) in
-      let w = turn p in
-      let l = w .before in
-      let g = words l in
-      let f = g .before in
-      let v = lent f in
-      turning-on (v .pre .1) (l .loop .inv) (omega (arith, w .loop-test .taken)) (f .node-field .ensures) (g .node-field2 .ensures)
-      (p .eval-pred .ensures) _ _ _
-      (h .held .given .1) (agree _ _ (i .if1 .left)) (c .end-of .ensures)
+      let i = c .before .before in let h = i .before .before in let p = ran (h .before .before) in let w = turn p in let g = words (w .before) in
+      turning-on (lent (g .before) .pre .1) (w .before .loop .inv) (omega (arith, w .loop-test .taken)) (g .before .node-field .ensures)
+      (g .node-field2 .ensures) (p .eval-pred .ensures) _ _ _ (h .held .given .1) (agree _ _ (i .if1 .left)) (c .end-of .ensures)
 
   pub each-member-closed : {M : Type 1} → lts.Closed claims (each-member .at t) (each-member .post) M
   each-member-closed =
-      lts.spec claims (each-member .at t) (each-member .post)
-      each-member-Inv-loop
-      each-member-μ-loop
+      lts.spec claims (each-member .at t) (each-member .post) Inv μ
       (λ c κs. (binder-node (c .before .before .pre .1), lit< tt))
       (λ c κs. (binder-node (lent c .pre .1), lit< tt))
       (λ c. turning-start _ _ (lent (c .before .before) .pre .1))
@@ -135,15 +84,14 @@ module _ (t : ℕ) where
       (λ c. let f = words (c .before) .before in entry-scaled (f .node-field .ensures) (lent f .pre .1 .name))
       (λ c. let f = words (c .before) .before in entry-below (f .node-field .ensures) (lent f .pre .1 .name))
       eval-pred-requires
-      (λ c. c .match .keys1)
-      (λ c. c .match .keys2)
+      (λ c. c .match .keys1) (λ c. c .match .keys2)
       (λ c. let p = ran (c .before .before) in p .eval-pred .kept .1 .1 .0 ∙ turn p .before .loop .inv .frame .kept)
       returns
       same-length-2
       returns-2
       end-of-requires
-      sub-more
-      loop-less
+      (λ c. let i = c .before .before in let h = i .before .before in turn (ran (h .before .before)) .loop-test .taken)
+      (λ c. let i = c .before .before in let h = i .before .before in one-less (turn (ran (h .before .before)) .loop-test .taken))
       loop-again
       (λ c. c .before .loop .inv .frame .kept)
       (λ c. members-done (c .before .loop .inv) (omega (arith, c .loop-test .left)))

@@ -85,10 +85,6 @@ module _ (t : ℕ) where
             (range-as (a .range .given .1) (o .range-of .ensures)),
       )
 
-  same-length-3 : lts.Need-same-length-3 claims (eval-quant .at t) (eval-quant .post)
-  same-length-3 c =
-      let p = c .before .before in let a = counted p in p .each-member .kept .1 .1 .0 ∙ first (a .before .before) .operand .kept .1 .1 .0
-
   returns-3 : lts.Need-returns-3 claims (eval-quant .at t) (eval-quant .post)
   returns-3 c =
       let i = c .before .before in let a = counted i in let o = a .before .before in let e = first o in let p = lent (word e) .pre .1 in
@@ -110,5 +106,5 @@ module _ (t : ℕ) where
       returns-2
       add-each-member
       each-member-requires
-      same-length-3
+      (λ c. let i = c .before .before in i .each-member .kept .1 .1 .0 ∙ first (counted i .before .before) .operand .kept .1 .1 .0)
       returns-3

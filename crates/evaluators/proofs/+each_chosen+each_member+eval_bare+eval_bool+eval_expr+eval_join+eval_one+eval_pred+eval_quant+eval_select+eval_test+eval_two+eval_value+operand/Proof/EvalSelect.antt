@@ -90,10 +90,6 @@ module _ (t : ℕ) where
             (range-as (a .range .given .1) (o .range-of .ensures)),
       )
 
-  same-length-3 : lts.Need-same-length-3 claims (eval-select .at t) (eval-select .post)
-  same-length-3 c =
-      let i = chose (c .before .before) in let a = counted i in i .each-chosen .kept .1 .1 .0 ∙ first (a .before .before) .operand .kept .1 .1 .0
-
   returns-3 : lts.Need-returns-3 claims (eval-select .at t) (eval-select .post)
   returns-3 c =
       let i = chose (c .before .before) in let a = counted i in let o = a .before .before in let e = first o in let f = word e in
@@ -134,7 +130,7 @@ module _ (t : ℕ) where
       add-each-chosen
       each-chosen-requires
       (λ c. c .match3 .keys1) (λ c. c .match3 .keys2)
-      same-length-3
+      (λ c. let i = chose (c .before .before) in i .each-chosen .kept .1 .1 .0 ∙ first (counted i .before .before) .operand .kept .1 .1 .0)
       returns-3
       settle-requires
       same-length-4
