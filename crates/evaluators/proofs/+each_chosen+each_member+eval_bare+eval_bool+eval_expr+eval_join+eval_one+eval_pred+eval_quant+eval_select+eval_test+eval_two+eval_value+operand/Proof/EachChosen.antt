@@ -8,7 +8,7 @@ use Rattle.evaluators.proofs.+each_chosen+each_member+eval_bare+eval_bo
 use Rattle.evaluators.proofs.choose.Reads as choose
 use Rattle.arena.proofs.end_of.Reads as end-of
 use Rattle.table.proofs.node_field.Reads as field
-use Rattle.evaluators.proofs.stop_of.Reads as stop-of
+use Rattle.evaluators.proofs.stop_of.Reads as stop
 use Rattle.evaluators.proofs.+each_chosen+each_member+eval_bare+eval_bool+eval_expr+eval_join+eval_one+eval_pred+eval_quant+eval_select+eval_test+eval_two+eval_value+operand.Proof.Base.{each-chosen, eval-pred}
 use Rattle.evaluators.proofs.SafeLaws.{one-less, binder-node, entry-below, entry-scaled, above-fits, top-scaled, top-inside, written-kept}
 use Rattle.evaluators.proofs.NodeLaws.{stop-is}
@@ -24,7 +24,7 @@ abbrev μ : lts.MeasureT-loop
 
 module _ (t : ℕ) where
   abbrev claims : lts.Claims
-  claims = (field.Asked, field.Learnt, eval-pred .below t, eval-pred .post, stop-of.Asked, stop-of.Learnt, end-of.Asked, end-of.Learnt, choose.Asked, choose.Learnt)
+  claims = (field.Asked, field.Learnt, eval-pred .below t, eval-pred .post, stop.Asked, stop.Learnt, end-of.Asked, end-of.Learnt, choose.Asked, choose.Learnt)
 
   abbrev lent : lts.After-node-field claims (each-chosen .at t) (each-chosen .post) Inv μ → lts.Start claims (each-chosen .at t) (each-chosen .post) Inv μ
   lent c = c .before .before .before

@@ -20,16 +20,12 @@ module _ (t : ℕ) where
 
   eval-bare-requires : lts.Need-eval-bare-requires claims (eval-pred .at t) (eval-pred .post)
   eval-bare-requires c κs =
-      let n = c .before in
-      let v = lent n in
-      let p = n .strip .ensures .passes in
+      let n = c .before in let v = lent n in let p = n .strip .ensures .passes in
       (omega (arith, v .pre .0, p .below), (bare-ready (v .pre .1 .0) (v .pre .1 .1) p, p .is, n .strip .ensures .last))
 
   returns : lts.Need-returns claims (eval-pred .at t) (eval-pred .post)
   returns c =
-      let e = ran c in
-      let n = e .before .before in
-      let v = lent n in
+      let e = ran c in let n = e .before .before in let v = lent n in
       bare-tells (v .pre .1 .0) (v .pre .1 .1) (n .strip .ensures .passes) (e .eval-bare .ensures) (c .turn .ensures)
 
   pub eval-pred-closed : {M : Type 1} → lts.Closed claims (eval-pred .at t) (eval-pred .post) M

@@ -16,10 +16,8 @@ module _ (t : ℕ) where
 
   returns-2 : lts.Need-returns-2 claims (operand .at t) (operand .post)
   returns-2 c =
-      let i = c .before in
-      let k = i .before in
-      let v = lent k in
-      placed-answer (v .pre .1 .0) (k .leaf-place .ensures (i .if1 .left)) (eqb-false (v .args .left) 0 (c .if2 .left))
+      let i = c .before in let v = lent (i .before) in
+      placed-answer (v .pre .1 .0) (i .before .leaf-place .ensures (i .if1 .left)) (eqb-false (v .args .left) 0 (c .if2 .left))
 
   pub operand-closed : {M : Type 1} → lts.Closed claims (operand .at t) (operand .post) M
   operand-closed =
