@@ -87,8 +87,8 @@ module _ (t : ℕ) where
       choosing-next (lent (g .before) .pre .1) (w .before .loop .inv) (omega (arith, w .loop-test .taken)) (g .before .node-field .ensures)
       (g .node-field2 .ensures) (p .eval-pred .ensures) (o .end-of .ensures) (h .held .given .1) (c .before .before .choose .ensures)
 
-  pub each-chosen-closed : {M : Type 1} → lts.Closed claims (each-chosen .at t) (each-chosen .post) M
-  each-chosen-closed =
+  pub closed : {M : Type 1} → lts.Closed claims (each-chosen .at t) (each-chosen .post) M
+  closed =
       lts.spec claims (each-chosen .at t) (each-chosen .post) Inv μ
       (λ c κs. (binder-node (c .before .before .pre .1), lit< tt))
       (λ c κs. (binder-node (lent c .pre .1), lit< tt))

@@ -74,8 +74,8 @@ module _ (t : ℕ) where
       turning-on (lent (g .before) .pre .1) (w .before .loop .inv) (omega (arith, w .loop-test .taken)) (g .before .node-field .ensures)
       (g .node-field2 .ensures) (p .eval-pred .ensures) _ _ _ (h .held .given .1) (agree _ _ (i .if1 .left)) (c .end-of .ensures)
 
-  pub each-member-closed : {M : Type 1} → lts.Closed claims (each-member .at t) (each-member .post) M
-  each-member-closed =
+  pub closed : {M : Type 1} → lts.Closed claims (each-member .at t) (each-member .post) M
+  closed =
       lts.spec claims (each-member .at t) (each-member .post) Inv μ
       (λ c κs. (binder-node (c .before .before .pre .1), lit< tt))
       (λ c κs. (binder-node (lent c .pre .1), lit< tt))

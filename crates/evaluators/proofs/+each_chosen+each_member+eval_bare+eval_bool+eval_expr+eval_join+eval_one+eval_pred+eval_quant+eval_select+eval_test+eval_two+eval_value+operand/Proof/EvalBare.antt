@@ -49,8 +49,8 @@ module _ (t : ℕ) where
       let j = c .before in let r = predicate-code (visit (j .before)) (lent (j .before) .pre .1 .1) in
       ⊎-elim (λ w. absurd (omega (arith, r, w .taken))) (λ w. absurd (omega (arith, r, w .1 .left))) (j .if2 .came)
 
-  pub eval-bare-closed : {M : Type 1} → lts.Closed claims (eval-bare .at t) (eval-bare .post) M
-  eval-bare-closed =
+  pub closed : {M : Type 1} → lts.Closed claims (eval-bare .at t) (eval-bare .post) M
+  closed =
       lts.spec claims (eval-bare .at t) (eval-bare .post)
       (λ c κs. tt)
       (λ c. let k = c .before in held-as refl (sym (c .refused .ensures)) (spent-pred (k .before .before .before .pre .1 .0) (k .if1 .taken)))

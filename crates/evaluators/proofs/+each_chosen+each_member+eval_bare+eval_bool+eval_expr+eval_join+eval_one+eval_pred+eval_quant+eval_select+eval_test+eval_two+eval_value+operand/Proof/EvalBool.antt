@@ -46,8 +46,8 @@ module _ (t : ℕ) where
       let p = c .before .before in let m = p .before .before .before in let e = ran (m .before .before) in let f = word e in
       bool-evaluates (lent f .pre .1) (f .node-field .ensures) (held-as refl (m .held .given .1) (e .eval-pred .ensures)) (p .put-cell .ensures)
 
-  pub eval-bool-closed : {M : Type 1} → lts.Closed claims (eval-bool .at t) (eval-bool .post) M
-  eval-bool-closed =
+  pub closed : {M : Type 1} → lts.Closed claims (eval-bool .at t) (eval-bool .post) M
+  closed =
       lts.spec claims (eval-bool .at t) (eval-bool .post)
       (λ c κs. (ready-node (c .before .before .pre .1 .ready), lit< tt))
       (λ c. omega (arith, lent (c .before) .pre .1 .unspent))

@@ -8,8 +8,8 @@ module _ (t : ℕ) where
   abbrev claims : lts.Claims
   claims = (eval-value .below t, eval-value .post)
 
-  pub eval-expr-closed : {M : Type 1} → lts.Closed claims (eval-expr .at t) (eval-expr .post) M
-  eval-expr-closed =
+  pub closed : {M : Type 1} → lts.Closed claims (eval-expr .at t) (eval-expr .post) M
+  closed =
       lts.spec claims (eval-expr .at t) (eval-expr .post)
       (λ c κs. let v = c .before .before .before in (omega (arith, v .pre .0), v .pre .1))
       (λ c. c .before .before .eval-value .kept .1 .1 .0)

@@ -81,8 +81,8 @@ module _ (t : ℕ) where
       join-both (p .0) (p .1 .0) (p .1 .1) (word e .node-field .ensures) (e .eval-pred .ensures) (held k .first .given .1) (k .decides .ensures)
       (g .before .if1 .left) (g .node-field2 .ensures) (s .eval-pred2 .ensures) (w .second .given .1) (c .joined .ensures)
 
-  pub eval-join-closed : {M : Type 1} → lts.Closed claims (eval-join .at t) (eval-join .post) M
-  eval-join-closed =
+  pub closed : {M : Type 1} → lts.Closed claims (eval-join .at t) (eval-join .post) M
+  closed =
       lts.spec claims (eval-join .at t) (eval-join .post)
       (λ c κs. (ready-node (c .before .before .pre .1 .0 .ready), lit< tt))
       (λ c. omega (arith, lent (c .before) .pre .1 .0 .unspent))

@@ -59,8 +59,8 @@ module _ (t : ℕ) where
       one-evaluates (p .0) (p .1 .0) (p .1 .1) (word e .node-field .ensures) (formed-as refl (m .first .given .1) (e .operand .ensures))
       (q .one .ensures) (c .before .before .settle .ensures)
 
-  pub eval-one-closed : {M : Type 1} → lts.Closed claims (eval-one .at t) (eval-one .post) M
-  eval-one-closed =
+  pub closed : {M : Type 1} → lts.Closed claims (eval-one .at t) (eval-one .post) M
+  closed =
       lts.spec claims (eval-one .at t) (eval-one .post)
       (λ c κs. (ready-node (c .before .before .pre .1 .0 .ready), lit< tt))
       (λ c. omega (arith, lent (c .before) .pre .1 .0 .unspent))

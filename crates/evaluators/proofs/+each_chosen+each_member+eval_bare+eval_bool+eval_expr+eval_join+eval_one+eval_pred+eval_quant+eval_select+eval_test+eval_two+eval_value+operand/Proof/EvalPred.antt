@@ -28,8 +28,8 @@ module _ (t : ℕ) where
       let e = ran c in let n = e .before .before in let v = lent n in
       bare-tells (v .pre .1 .0) (v .pre .1 .1) (n .strip .ensures .passes) (e .eval-bare .ensures) (c .turn .ensures)
 
-  pub eval-pred-closed : {M : Type 1} → lts.Closed claims (eval-pred .at t) (eval-pred .post) M
-  eval-pred-closed =
+  pub closed : {M : Type 1} → lts.Closed claims (eval-pred .at t) (eval-pred .post) M
+  closed =
       lts.spec claims (eval-pred .at t) (eval-pred .post)
       (λ c κs. let v = c .before .before in (v .pre .1 .0 .readable, v .pre .1 .0 .node, v .pre .1 .1))
       eval-bare-requires

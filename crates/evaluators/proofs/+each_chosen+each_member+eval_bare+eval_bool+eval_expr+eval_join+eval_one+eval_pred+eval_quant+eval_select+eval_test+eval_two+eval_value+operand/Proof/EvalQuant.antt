@@ -91,8 +91,8 @@ module _ (t : ℕ) where
       quant-done (p .0) (p .1) (word e .node-field .ensures) (e .operand .ensures) (asked o .first .given .1)
       (range-as (a .range .given .1) (o .range-of .ensures)) (i .each-member .ensures)
 
-  pub eval-quant-closed : {M : Type 1} → lts.Closed claims (eval-quant .at t) (eval-quant .post) M
-  eval-quant-closed =
+  pub closed : {M : Type 1} → lts.Closed claims (eval-quant .at t) (eval-quant .post) M
+  closed =
       lts.spec claims (eval-quant .at t) (eval-quant .post)
       (λ c κs. (ready-node (c .before .before .pre .1 .0 .ready), lit< tt))
       (λ c. omega (arith, lent (c .before) .pre .1 .0 .unspent))

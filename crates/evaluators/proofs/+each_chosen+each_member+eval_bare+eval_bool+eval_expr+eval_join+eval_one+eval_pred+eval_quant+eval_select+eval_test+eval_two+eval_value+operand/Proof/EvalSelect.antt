@@ -114,8 +114,8 @@ module _ (t : ℕ) where
       select-evaluates (lent (word e) .pre .1) (word e .node-field .ensures) (formed-as refl (asked o .first .given .1) (e .operand .ensures))
       (range-as (a .range .given .1) (o .range-of .ensures)) (chosen-as (w .chosen .given .1) (i .each-chosen .ensures)) (c .before .before .settle .ensures)
 
-  pub eval-select-closed : {M : Type 1} → lts.Closed claims (eval-select .at t) (eval-select .post) M
-  eval-select-closed =
+  pub closed : {M : Type 1} → lts.Closed claims (eval-select .at t) (eval-select .post) M
+  closed =
       lts.spec claims (eval-select .at t) (eval-select .post)
       (λ c κs. (ready-node (c .before .before .pre .1 .ready), lit< tt))
       (λ c. omega (arith, lent (c .before) .pre .1 .unspent))

@@ -82,8 +82,8 @@ module _ (t : ℕ) where
       let q = c .before .before .before in let w = tried q in let p = lent (word (first (ran₂ (w .before .before)))) .pre .1 in
       test-truth (p .0) (p .1 .0) (p .1 .1) (formed w) (q .test .ensures) (c .before .tested .given .1)
 
-  pub eval-test-closed : {M : Type 1} → lts.Closed claims (eval-test .at t) (eval-test .post) M
-  eval-test-closed =
+  pub closed : {M : Type 1} → lts.Closed claims (eval-test .at t) (eval-test .post) M
+  closed =
       lts.spec claims (eval-test .at t) (eval-test .post)
       (λ c κs. (ready-node (c .before .before .pre .1 .0 .ready), lit< tt))
       (λ c. omega (arith, lent (c .before) .pre .1 .0 .unspent))

@@ -90,8 +90,8 @@ module _ (t : ℕ) where
       let q = settled (c .before .before) in let w = done q in let p = lent (word (first (ran₂ (w .before .before)))) .pre .1 in
       two-evaluates (p .0) (p .1 .0) (p .1 .1) (formed w) (q .two .ensures) (c .before .before .settle .ensures)
 
-  pub eval-two-closed : {M : Type 1} → lts.Closed claims (eval-two .at t) (eval-two .post) M
-  eval-two-closed =
+  pub closed : {M : Type 1} → lts.Closed claims (eval-two .at t) (eval-two .post) M
+  closed =
       lts.spec claims (eval-two .at t) (eval-two .post)
       (λ c κs. (ready-node (c .before .before .pre .1 .0 .ready), lit< tt))
       (λ c. omega (arith, lent (c .before) .pre .1 .0 .unspent))

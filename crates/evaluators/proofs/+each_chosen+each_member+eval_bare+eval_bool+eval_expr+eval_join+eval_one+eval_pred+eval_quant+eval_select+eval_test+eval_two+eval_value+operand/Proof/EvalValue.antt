@@ -75,8 +75,8 @@ module _ (t : ℕ) where
       let n = m .match .rest in
       ⊎-elim (λ w. absurd (omega (arith, r, w .taken))) (λ w. no-other _ r (w .4 .left) (n .0 .0 .0 .0 .1) (n .0 .1)) (j .if2 .came)
 
-  pub eval-value-closed : {M : Type 1} → lts.Closed claims (eval-value .at t) (eval-value .post) M
-  eval-value-closed =
+  pub closed : {M : Type 1} → lts.Closed claims (eval-value .at t) (eval-value .post) M
+  closed =
       lts.spec claims (eval-value .at t) (eval-value .post)
       (λ c κs. tt)
       (λ c. let k = c .before in formed-as refl (sym (c .stopped .ensures)) (spent-expr (k .before .before .before .pre .1 .0) (k .if1 .taken)))

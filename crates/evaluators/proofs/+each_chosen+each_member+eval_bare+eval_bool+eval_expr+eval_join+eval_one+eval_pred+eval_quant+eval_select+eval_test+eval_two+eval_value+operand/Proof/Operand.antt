@@ -19,8 +19,8 @@ module _ (t : ℕ) where
       let i = c .before in let v = lent (i .before) in
       placed-answer (v .pre .1 .0) (i .before .leaf-place .ensures (i .if1 .left)) (eqb-false (v .args .left) 0 (c .if2 .left))
 
-  pub operand-closed : {M : Type 1} → lts.Closed claims (operand .at t) (operand .post) M
-  operand-closed =
+  pub closed : {M : Type 1} → lts.Closed claims (operand .at t) (operand .post) M
+  closed =
       lts.spec claims (operand .at t) (operand .post)
       (λ c κs. place-ready (c .before .before .pre .1 .0))
       (λ c κs. let v = lent (c .before .before) in (omega (arith, v .pre .0), v .pre .1))
