@@ -31,6 +31,10 @@ pub record Member (ps : List (PK 3)) (r : RK 3) : Type 1 where
   pub below : ℕ → In 3 ps
   pub post : Out 3 ps r
 
+-- What a place or a need of a member's derivation is stated over: the claims of its calls, and what it requires and ensures.
+abbrev pub Over : Type 1 → (ps : List (PK 3)) → RK 3 → Type 1
+Over C ps r = C → In 3 ps → Out 3 ps r → Type 0
+
 abbrev member : (ps : List (PK 3)) (r : RK 3) → Measures 3 ps ℕ → In 3 ps → Out 3 ps r → Member ps r
 member ps r μ pre post = record {
   μ = μ;

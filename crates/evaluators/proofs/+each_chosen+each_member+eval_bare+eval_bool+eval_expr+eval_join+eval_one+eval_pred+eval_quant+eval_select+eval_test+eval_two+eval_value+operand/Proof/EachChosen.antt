@@ -4,6 +4,7 @@ use Prim.Native.Nat.{ℕ}
 use mathlib.Core.Path.{_∙_}
 use native.Mathlib.Omega.{arith}
 use lib.Dec.{lit<}
+use borrow.Fn.Kinds.{In, Out}
 use Rattle.evaluators.proofs.+each_chosen+each_member+eval_bare+eval_bool+eval_expr+eval_join+eval_one+eval_pred+eval_quant+eval_select+eval_test+eval_two+eval_value+operand.Lts-each_chosen as lts
 use Rattle.evaluators.proofs.choose.Reads as choose
 use Rattle.arena.proofs.end_of.Reads as end-of
@@ -26,62 +27,64 @@ module _ (t : ℕ) where
   abbrev claims : lts.Claims
   claims = (field.Asked, field.Learnt, eval-pred .below t, eval-pred .post, stop.Asked, stop.Learnt, end-of.Asked, end-of.Learnt, choose.Asked, choose.Learnt)
 
-  abbrev lent : lts.After-node-field claims (each-chosen .at t) (each-chosen .post) Inv μ → lts.Start claims (each-chosen .at t) (each-chosen .post) Inv μ
+  abbrev Here : (lts.Claims → In 3 lts.ps → Out 3 lts.ps lts.r → lts.InvT-loop → lts.MeasureT-loop → Type 0) → Type 0
+  Here T = T claims (each-chosen .at t) (each-chosen .post) Inv μ
+
+  abbrev lent : Here lts.After-node-field → Here lts.Start
   lent c = c .before .before .before
 
-  abbrev words : lts.At-loop claims (each-chosen .at t) (each-chosen .post) Inv μ → lts.After-node-field2 claims (each-chosen .at t) (each-chosen .post) Inv μ
+  abbrev words : Here lts.At-loop → Here lts.After-node-field2
   words c = c .before .before
 
-  abbrev turn : lts.After-eval-pred claims (each-chosen .at t) (each-chosen .post) Inv μ → lts.In-loop claims (each-chosen .at t) (each-chosen .post) Inv μ
+  abbrev turn : Here lts.After-eval-pred → Here lts.In-loop
   turn c = c .before .before .before
 
-  abbrev ran : lts.After-slice-known2 claims (each-chosen .at t) (each-chosen .post) Inv μ →
-      lts.After-eval-pred claims (each-chosen .at t) (each-chosen .post) Inv μ
+  abbrev ran : Here lts.After-slice-known2 → Here lts.After-eval-pred
   ran c = c .before .before
 
-  abbrev told : lts.After-end-of claims (each-chosen .at t) (each-chosen .post) Inv μ → lts.After-held claims (each-chosen .at t) (each-chosen .post) Inv μ
+  abbrev told : Here lts.After-end-of → Here lts.After-held
   told c = c .before .before .before
 
-  abbrev ended : lts.After-choose claims (each-chosen .at t) (each-chosen .post) Inv μ → lts.After-end-of claims (each-chosen .at t) (each-chosen .post) Inv μ
+  abbrev ended : Here lts.After-choose → Here lts.After-end-of
   ended c = c .before .before
 
-  cast-inner : lts.Need-cast-inner claims (each-chosen .at t) (each-chosen .post) Inv μ
+  cast-inner : Here lts.Need-cast-inner
   cast-inner c =
       let l = c .before in let v = lent (words l .before) in
       omega (arith, choosing-below (v .pre .1) (l .loop .inv) (omega (arith, c .loop-test .taken)), v .pre .1 .space (omega arith), v .pre .1 .ready .small)
 
-  eval-pred-requires : lts.Need-eval-pred-requires claims (each-chosen .at t) (each-chosen .post) Inv μ
+  eval-pred-requires : Here lts.Need-eval-pred-requires
   eval-pred-requires c κs =
       let w = c .before .before in let g = words (w .before) in let v = lent (g .before) in (
         omega (arith, v .pre .0, v .pre .1 .deeper, g .node-field2 .ensures),
         choosing-ready (v .pre .1) (w .before .loop .inv) (omega (arith, w .loop-test .taken)) (g .before .node-field .ensures) (g .node-field2 .ensures),
       )
 
-  returns : lts.Need-returns claims (each-chosen .at t) (each-chosen .post) Inv μ
+  returns : Here lts.Need-returns
   returns c =
       let k = c .before in let p = ran (k .before .before) in let w = turn p in let g = words (w .before) in
       chosen-as (stop-is (k .enum-told .given .1) (c .stop-of .ensures))
       (choosing-refused (lent (g .before) .pre .1) (w .before .loop .inv) (omega (arith, w .loop-test .taken)) (g .before .node-field .ensures)
       (g .node-field2 .ensures) (p .eval-pred .ensures) (k .enum-told .given .1))
 
-  end-of-requires : lts.Need-end-of-requires claims (each-chosen .at t) (each-chosen .post) Inv μ
+  end-of-requires : Here lts.Need-end-of-requires
   end-of-requires c κs =
       let h = c .before .before in let p = ran (h .before .before) in let w = turn p in let g = words (w .before) in
       choosing-some (lent (g .before) .pre .1) (w .before .loop .inv) (omega (arith, w .loop-test .taken)) (g .before .node-field .ensures)
       (g .node-field2 .ensures) (p .eval-pred .ensures)
 
-  choose-requires : lts.Need-choose-requires claims (each-chosen .at t) (each-chosen .post) Inv μ
+  choose-requires : Here lts.Need-choose-requires
   choose-requires c κs =
       let o = c .before in let p = ran (told o .before .before) in let w = turn p in let g = words (w .before) in
       choosing-choose (lent (g .before) .pre .1) (w .before .loop .inv) (omega (arith, w .loop-test .taken)) (g .before .node-field .ensures)
       (g .node-field2 .ensures) (p .eval-pred .ensures) (o .end-of .ensures)
 
-  add-chosen : lts.Need-add-chosen claims (each-chosen .at t) (each-chosen .post) Inv μ
+  add-chosen : Here lts.Need-add-chosen
   add-chosen c =
       let h = told (ended (c .before .before)) in let l = turn (ran (h .before .before)) .before in
       record { fits = choosing-few (lent (words l .before) .pre .1) (l .loop .inv) (h .held .given .0 .0) }
 
-  loop-again : lts.Need-loop-again claims (each-chosen .at t) (each-chosen .post) Inv μ
+  loop-again : Here lts.Need-loop-again
   loop-again c =
       let o = ended (c .before .before) in let h = told o in let p = ran (h .before .before) in let w = turn p in let g = words (w .before) in
       choosing-next (lent (g .before) .pre .1) (w .before .loop .inv) (omega (arith, w .loop-test .taken)) (g .before .node-field .ensures)

@@ -4,6 +4,7 @@ use Prim.Native.Nat.{ℕ}
 use mathlib.Core.Path.{_∙_}
 use native.Mathlib.Omega.{arith}
 use lib.Dec.{lit<}
+use borrow.Fn.Kinds.{In, Out}
 use Rattle.evaluators.proofs.+each_chosen+each_member+eval_bare+eval_bool+eval_expr+eval_join+eval_one+eval_pred+eval_quant+eval_select+eval_test+eval_two+eval_value+operand.Lts-each_member as lts
 use Rattle.arena.proofs.end_of.Reads as end-of
 use Rattle.table.proofs.node_field.Reads as field
@@ -22,53 +23,55 @@ module _ (t : ℕ) where
   abbrev claims : lts.Claims
   claims = (field.Asked, field.Learnt, eval-pred .below t, eval-pred .post, end-of.Asked, end-of.Learnt)
 
-  abbrev lent : lts.After-node-field claims (each-member .at t) (each-member .post) Inv μ → lts.Start claims (each-member .at t) (each-member .post) Inv μ
+  abbrev Here : (lts.Claims → In 3 lts.ps → Out 3 lts.ps lts.r → lts.InvT-loop → lts.MeasureT-loop → Type 0) → Type 0
+  Here T = T claims (each-member .at t) (each-member .post) Inv μ
+
+  abbrev lent : Here lts.After-node-field → Here lts.Start
   lent c = c .before .before .before
 
-  abbrev words : lts.At-loop claims (each-member .at t) (each-member .post) Inv μ → lts.After-node-field2 claims (each-member .at t) (each-member .post) Inv μ
+  abbrev words : Here lts.At-loop → Here lts.After-node-field2
   words c = c .before .before
 
-  abbrev turn : lts.After-eval-pred claims (each-member .at t) (each-member .post) Inv μ → lts.In-loop claims (each-member .at t) (each-member .post) Inv μ
+  abbrev turn : Here lts.After-eval-pred → Here lts.In-loop
   turn c = c .before .before .before
 
-  abbrev ran : lts.After-slice-known2 claims (each-member .at t) (each-member .post) Inv μ →
-      lts.After-eval-pred claims (each-member .at t) (each-member .post) Inv μ
+  abbrev ran : Here lts.After-slice-known2 → Here lts.After-eval-pred
   ran c = c .before .before
 
-  cast-inner : lts.Need-cast-inner claims (each-member .at t) (each-member .post) Inv μ
+  cast-inner : Here lts.Need-cast-inner
   cast-inner c =
       let l = c .before in
       record { fits = member-low (lent (words l .before) .pre .1) (l .loop .inv) (omega (arith, c .loop-test .taken)) }
 
-  eval-pred-requires : lts.Need-eval-pred-requires claims (each-member .at t) (each-member .post) Inv μ
+  eval-pred-requires : Here lts.Need-eval-pred-requires
   eval-pred-requires c κs =
       let w = c .before .before in let g = words (w .before) in let v = lent (g .before) in (
         omega (arith, v .pre .0, v .pre .1 .deeper, g .node-field2 .ensures),
         body-ready (v .pre .1) (w .before .loop .inv) (omega (arith, w .loop-test .taken)) (g .before .node-field .ensures) (g .node-field2 .ensures),
       )
 
-  returns : lts.Need-returns claims (each-member .at t) (each-member .post) Inv μ
+  returns : Here lts.Need-returns
   returns c =
       let p = ran (c .before .before) in let w = turn p in let g = words (w .before) in
       member-refused (lent (g .before) .pre .1) (w .before .loop .inv) (omega (arith, w .loop-test .taken)) (g .before .node-field .ensures)
       (g .node-field2 .ensures) (p .eval-pred .ensures) (c .enum-told .given .1)
 
-  same-length-2 : lts.Need-same-length-2 claims (each-member .at t) (each-member .post) Inv μ
+  same-length-2 : Here lts.Need-same-length-2
   same-length-2 c =
       let h = c .before .before in let p = ran (h .before .before) in p .eval-pred .kept .1 .1 .0 ∙ turn p .before .loop .inv .frame .kept
 
-  returns-2 : lts.Need-returns-2 claims (each-member .at t) (each-member .post) Inv μ
+  returns-2 : Here lts.Need-returns-2
   returns-2 c =
       let h = c .before .before in let p = ran (h .before .before) in let w = turn p in let g = words (w .before) in
       member-decides (lent (g .before) .pre .1) (w .before .loop .inv) (omega (arith, w .loop-test .taken)) (g .before .node-field .ensures)
       (g .node-field2 .ensures) (p .eval-pred .ensures) _ _ (h .held .given .1) (differ _ _ (c .if1 .taken))
 
-  end-of-requires : lts.Need-end-of-requires claims (each-member .at t) (each-member .post) Inv μ
+  end-of-requires : Here lts.Need-end-of-requires
   end-of-requires c κs =
       let h = c .before .before .before in let p = ran (h .before .before) in let w = turn p in let v = lent (words (w .before) .before) in
       member-stands (v .pre .1) (w .before .loop .inv) (omega (arith, w .loop-test .taken)) _ (p .eval-pred .ensures .frame)
 
-  loop-again : lts.Need-loop-again claims (each-member .at t) (each-member .post) Inv μ
+  loop-again : Here lts.Need-loop-again
   loop-again c =
       let i = c .before .before in let h = i .before .before in let p = ran (h .before .before) in let w = turn p in let g = words (w .before) in
       turning-on (lent (g .before) .pre .1) (w .before .loop .inv) (omega (arith, w .loop-test .taken)) (g .before .node-field .ensures)

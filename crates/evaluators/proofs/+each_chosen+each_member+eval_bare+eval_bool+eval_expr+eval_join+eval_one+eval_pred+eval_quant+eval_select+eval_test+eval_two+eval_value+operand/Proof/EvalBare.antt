@@ -9,7 +9,7 @@ use Rattle.evaluators.specs.Cycle.{Visited}
 use Rattle.evaluators.proofs.+each_chosen+each_member+eval_bare+eval_bool+eval_expr+eval_join+eval_one+eval_pred+eval_quant+eval_select+eval_test+eval_two+eval_value+operand.Lts-eval_bare as lts
 use Rattle.table.proofs.node_kind.Reads as kind
 use Rattle.evaluators.proofs.refused.Reads as refused
-use Rattle.evaluators.proofs.+each_chosen+each_member+eval_bare+eval_bool+eval_expr+eval_join+eval_one+eval_pred+eval_quant+eval_select+eval_test+eval_two+eval_value+operand.Proof.Base.{eval-bare, eval-join as join, eval-quant as quant, eval-test as test}
+use Rattle.evaluators.proofs.+each_chosen+each_member+eval_bare+eval_bool+eval_expr+eval_join+eval_one+eval_pred+eval_quant+eval_select+eval_test+eval_two+eval_value+operand.Proof.Base.{Over, eval-bare, eval-join as join, eval-quant as quant, eval-test as test}
 use Rattle.evaluators.proofs.SafeLaws.{ready-node}
 use Rattle.evaluators.proofs.NodeLaws.{held-as}
 use Rattle.evaluators.proofs.DispatchLaws.{spent-pred, counted, predicate-code, test-sort, quant-sort, join-kind}
@@ -18,33 +18,36 @@ module _ (t : ℕ) where
   abbrev claims : lts.Claims
   claims = (refused.Asked, refused.Learnt, kind.Asked, kind.Learnt, test .below t, test .post, quant .below t, quant .post, join .below t, join .post)
 
-  abbrev lent : lts.After-node-kind claims (eval-bare .at t) (eval-bare .post) → lts.Start claims (eval-bare .at t) (eval-bare .post)
+  abbrev Here : Over lts.Claims lts.ps lts.r → Type 0
+  Here T = T claims (eval-bare .at t) (eval-bare .post)
+
+  abbrev lent : Here lts.After-node-kind → Here lts.Start
   lent c = let i = c .before in i .before .before .before
 
-  abbrev kinded : lts.Then3 claims (eval-bare .at t) (eval-bare .post) → lts.After-node-kind claims (eval-bare .at t) (eval-bare .post)
+  abbrev kinded : Here lts.Then3 → Here lts.After-node-kind
   kinded c = c .before .before
 
-  visit : (k : lts.After-node-kind claims (eval-bare .at t) (eval-bare .post)) → let a = lent k .args in
+  visit : (k : Here lts.After-node-kind) → let a = lent k .args in
       Visited (now (a .table)) (now (a .env)) (now (a .s)) (a .top) (k .node-kind .result) (a .node) (a .left)
   visit k = counted (lent k .pre .1 .0) _ (k .before .if1 .left) (k .node-kind .ensures)
 
-  eval-test-requires : lts.Need-eval-test-requires claims (eval-bare .at t) (eval-bare .post)
+  eval-test-requires : Here lts.Need-eval-test-requires
   eval-test-requires c κs =
       let a = c .before in let b = a .before in let k = kinded (b .before) in
       (omega (arith, lent k .pre .0), (visit k, test-sort _ (b .if4 .left) (a .if5 .taken)))
 
-  eval-quant-requires : lts.Need-eval-quant-requires claims (eval-bare .at t) (eval-bare .post)
+  eval-quant-requires : Here lts.Need-eval-quant-requires
   eval-quant-requires c κs =
       let a = c .before in let b = a .before in let k = kinded (b .before .before) in
       (omega (arith, lent k .pre .0), (visit k, quant-sort _ (b .if5 .left) (a .if6 .taken)))
 
-  eval-join-requires : lts.Need-eval-join-requires claims (eval-bare .at t) (eval-bare .post)
+  eval-join-requires : Here lts.Need-eval-join-requires
   eval-join-requires c κs =
       let j = c .before in let r = j .before in let k = kinded r in let d = visit k in let p = lent k .pre .1 in
       let below = ⊎-elim (λ w. w .taken) (λ w. absurd (omega (arith, w .2 .left, r .if3 .taken))) (j .if4 .came) in
       (omega (arith, lent k .pre .0), (d, join-kind d (p .1) (λ e. p .2 (d .unspent) (sym (k .node-kind .ensures) ∙ e)) below))
 
-  returns-5 : lts.Need-returns-5 claims (eval-bare .at t) (eval-bare .post)
+  returns-5 : Here lts.Need-returns-5
   returns-5 c =
       let j = c .before in let r = predicate-code (visit (j .before)) (lent (j .before) .pre .1 .1) in
       ⊎-elim (λ w. absurd (omega (arith, r, w .taken))) (λ w. absurd (omega (arith, r, w .1 .left))) (j .if2 .came)

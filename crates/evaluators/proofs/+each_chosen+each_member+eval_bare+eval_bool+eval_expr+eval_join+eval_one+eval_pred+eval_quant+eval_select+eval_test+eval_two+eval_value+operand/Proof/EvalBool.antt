@@ -8,7 +8,7 @@ use Rattle.evaluators.proofs.+each_chosen+each_member+eval_bare+eval_bo
 use Rattle.table.proofs.node_field.Reads as field
 use Rattle.products.proofs.put_cell.Reads as put-cell
 use Rattle.evaluators.proofs.stop_of.Reads as stop-of
-use Rattle.evaluators.proofs.+each_chosen+each_member+eval_bare+eval_bool+eval_expr+eval_join+eval_one+eval_pred+eval_quant+eval_select+eval_test+eval_two+eval_value+operand.Proof.Base.{eval-bool, eval-pred}
+use Rattle.evaluators.proofs.+each_chosen+each_member+eval_bare+eval_bool+eval_expr+eval_join+eval_one+eval_pred+eval_quant+eval_select+eval_test+eval_two+eval_value+operand.Proof.Base.{Over, eval-bool, eval-pred}
 use Rattle.evaluators.proofs.SafeLaws.{ready-node, cell-room}
 use Rattle.evaluators.proofs.NodeLaws.{held-as, formed-as, stop-is}
 use Rattle.evaluators.proofs.FormLaws.{byte-small, bool-child, bool-builds, bool-begins, bool-fails, bool-evaluates}
@@ -17,31 +17,34 @@ module _ (t : ℕ) where
   abbrev claims : lts.Claims
   claims = (field.Asked, field.Learnt, eval-pred .below t, eval-pred .post, stop-of.Asked, stop-of.Learnt, put-cell.Asked, put-cell.Learnt)
 
-  abbrev lent : lts.After-node-field claims (eval-bool .at t) (eval-bool .post) → lts.Start claims (eval-bool .at t) (eval-bool .post)
+  abbrev Here : Over lts.Claims lts.ps lts.r → Type 0
+  Here T = T claims (eval-bool .at t) (eval-bool .post)
+
+  abbrev lent : Here lts.After-node-field → Here lts.Start
   lent c = c .before .before .before
 
-  abbrev word : lts.After-eval-pred claims (eval-bool .at t) (eval-bool .post) → lts.After-node-field claims (eval-bool .at t) (eval-bool .post)
+  abbrev word : Here lts.After-eval-pred → Here lts.After-node-field
   word c = c .before .before
 
-  abbrev ran : lts.After-slice-known2 claims (eval-bool .at t) (eval-bool .post) → lts.After-eval-pred claims (eval-bool .at t) (eval-bool .post)
+  abbrev ran : Here lts.After-slice-known2 → Here lts.After-eval-pred
   ran c = c .before .before
 
-  eval-pred-requires : lts.Need-eval-pred-requires claims (eval-bool .at t) (eval-bool .post)
+  eval-pred-requires : Here lts.Need-eval-pred-requires
   eval-pred-requires c κs =
       let f = c .before in let v = lent f in
       (omega (arith, v .pre .0, bool-child (v .pre .1) (f .node-field .ensures) .below), bool-begins (v .pre .1) (f .node-field .ensures))
 
-  returns : lts.Need-returns claims (eval-bool .at t) (eval-bool .post)
+  returns : Here lts.Need-returns
   returns c =
       let k = c .before in let e = ran (k .before .before) in let f = word e in let q = k .enum-told .given .1 in
       formed-as refl (stop-is q (c .stop-of .ensures)) (bool-fails (lent f .pre .1) (f .node-field .ensures) (held-as refl q (e .eval-pred .ensures)))
 
-  put-cell-requires : lts.Need-put-cell-requires claims (eval-bool .at t) (eval-bool .post)
+  put-cell-requires : Here lts.Need-put-cell-requires
   put-cell-requires c κs =
       let m = c .before .before in let e = ran (m .before .before) in let f = word e in
       cell-room (lent f .pre .1 .ready) (bool-builds (lent f .pre .1) (f .node-field .ensures)) (e .eval-pred .ensures .frame)
 
-  returns-2 : lts.Need-returns-2 claims (eval-bool .at t) (eval-bool .post)
+  returns-2 : Here lts.Need-returns-2
   returns-2 c =
       let p = c .before .before in let m = p .before .before .before in let e = ran (m .before .before) in let f = word e in
       bool-evaluates (lent f .pre .1) (f .node-field .ensures) (held-as refl (m .held .given .1) (e .eval-pred .ensures)) (p .put-cell .ensures)

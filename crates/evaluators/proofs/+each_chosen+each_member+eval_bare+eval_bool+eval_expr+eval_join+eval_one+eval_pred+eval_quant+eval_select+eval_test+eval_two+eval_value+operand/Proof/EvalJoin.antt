@@ -9,7 +9,7 @@ use Rattle.evaluators.proofs.+each_chosen+each_member+eval_bare+eval_bo
 use Rattle.evaluators.proofs.decides.Reads as decides
 use Rattle.evaluators.proofs.joined.Reads as joined
 use Rattle.table.proofs.node_field.Reads as field
-use Rattle.evaluators.proofs.+each_chosen+each_member+eval_bare+eval_bool+eval_expr+eval_join+eval_one+eval_pred+eval_quant+eval_select+eval_test+eval_two+eval_value+operand.Proof.Base.{eval-join, eval-pred}
+use Rattle.evaluators.proofs.+each_chosen+each_member+eval_bare+eval_bool+eval_expr+eval_join+eval_one+eval_pred+eval_quant+eval_select+eval_test+eval_two+eval_value+operand.Proof.Base.{Over, eval-join, eval-pred}
 use Rattle.evaluators.proofs.SafeLaws.{ready-node}
 use Rattle.evaluators.proofs.NodeLaws.{visited-child}
 use Rattle.evaluators.proofs.JoinLaws.{join-child, join-begins, join-stays, join-short, join-ready, join-stays-2, join-both}
@@ -18,48 +18,51 @@ module _ (t : ℕ) where
   abbrev claims : lts.Claims
   claims = (field.Asked, field.Learnt, eval-pred .below t, eval-pred .post, decides.Asked, decides.Learnt, joined.Asked, joined.Learnt)
 
-  abbrev lent : lts.After-node-field claims (eval-join .at t) (eval-join .post) → lts.Start claims (eval-join .at t) (eval-join .post)
+  abbrev Here : Over lts.Claims lts.ps lts.r → Type 0
+  Here T = T claims (eval-join .at t) (eval-join .post)
+
+  abbrev lent : Here lts.After-node-field → Here lts.Start
   lent c = c .before .before .before
 
-  abbrev word : lts.After-eval-pred claims (eval-join .at t) (eval-join .post) → lts.After-node-field claims (eval-join .at t) (eval-join .post)
+  abbrev word : Here lts.After-eval-pred → Here lts.After-node-field
   word c = c .before .before
 
-  abbrev ran : lts.After-slice-known2 claims (eval-join .at t) (eval-join .post) → lts.After-eval-pred claims (eval-join .at t) (eval-join .post)
+  abbrev ran : Here lts.After-slice-known2 → Here lts.After-eval-pred
   ran c = c .before .before
 
-  abbrev held : lts.After-decides claims (eval-join .at t) (eval-join .post) → lts.After-first claims (eval-join .at t) (eval-join .post)
+  abbrev held : Here lts.After-decides → Here lts.After-first
   held c = c .before .before
 
-  abbrev first : lts.After-decides claims (eval-join .at t) (eval-join .post) → lts.After-eval-pred claims (eval-join .at t) (eval-join .post)
+  abbrev first : Here lts.After-decides → Here lts.After-eval-pred
   first c = ran (held c .before .before)
 
-  abbrev decided : lts.After-node-field2 claims (eval-join .at t) (eval-join .post) → lts.After-decides claims (eval-join .at t) (eval-join .post)
+  abbrev decided : Here lts.After-node-field2 → Here lts.After-decides
   decided c = c .before .before
 
-  abbrev word₂ : lts.After-eval-pred2 claims (eval-join .at t) (eval-join .post) → lts.After-node-field2 claims (eval-join .at t) (eval-join .post)
+  abbrev word₂ : Here lts.After-eval-pred2 → Here lts.After-node-field2
   word₂ c = c .before .before
 
-  abbrev ran₂ : lts.After-slice-known3 claims (eval-join .at t) (eval-join .post) → lts.After-eval-pred2 claims (eval-join .at t) (eval-join .post)
+  abbrev ran₂ : Here lts.After-slice-known3 → Here lts.After-eval-pred2
   ran₂ c = c .before .before
 
-  eval-pred-requires : lts.Need-eval-pred-requires claims (eval-join .at t) (eval-join .post)
+  eval-pred-requires : Here lts.Need-eval-pred-requires
   eval-pred-requires c κs =
       let f = c .before in let p = lent f .pre .1 in
       let d = join-child (p .0) (p .1 .0) (p .1 .1) (f .node-field .ensures) in
       (omega (arith, lent f .pre .0, d .below), join-begins (p .0) (p .1 .0) (p .1 .1) (f .node-field .ensures))
 
-  returns : lts.Need-returns claims (eval-join .at t) (eval-join .post)
+  returns : Here lts.Need-returns
   returns c =
       let e = ran (c .before .before) in let p = lent (word e) .pre .1 in
       join-stays (p .0) (p .1 .0) (p .1 .1) (word e .node-field .ensures) (e .eval-pred .ensures) (c .enum-told .given .1)
 
-  returns-2 : lts.Need-returns-2 claims (eval-join .at t) (eval-join .post)
+  returns-2 : Here lts.Need-returns-2
   returns-2 c =
       let k = c .before in let e = first k in let p = lent (word e) .pre .1 in
       join-short (p .0) (p .1 .0) (p .1 .1) (word e .node-field .ensures) (e .eval-pred .ensures) (held k .first .given .1) (k .decides .ensures)
       (c .if1 .taken)
 
-  eval-pred-requires-2 : lts.Need-eval-pred-requires-2 claims (eval-join .at t) (eval-join .post)
+  eval-pred-requires-2 : Here lts.Need-eval-pred-requires-2
   eval-pred-requires-2 c κs =
       let g = c .before in let k = decided g in let e = first k in let v = lent (word e) in let p = v .pre .1 in
       let d = visited-child (p .0) (join (p .1 .0)) (p .1 .1) predicate 1 _ (omega arith) (omega arith) refl (g .node-field2 .ensures) in (
@@ -68,13 +71,13 @@ module _ (t : ℕ) where
             (g .before .if1 .left) (g .node-field2 .ensures),
       )
 
-  returns-3 : lts.Need-returns-3 claims (eval-join .at t) (eval-join .post)
+  returns-3 : Here lts.Need-returns-3
   returns-3 c =
       let s = ran₂ (c .before .before) in let g = word₂ s in let k = decided g in let e = first k in let p = lent (word e) .pre .1 in
       join-stays-2 (p .0) (p .1 .0) (p .1 .1) (word e .node-field .ensures) (e .eval-pred .ensures) (held k .first .given .1) (k .decides .ensures)
       (g .before .if1 .left) (g .node-field2 .ensures) (s .eval-pred2 .ensures) (c .enum-told2 .given .1)
 
-  returns-4 : lts.Need-returns-4 claims (eval-join .at t) (eval-join .post)
+  returns-4 : Here lts.Need-returns-4
   returns-4 c =
       let w = c .before .before in let s = ran₂ (w .before .before) in let g = word₂ s in let k = decided g in let e = first k in
       let p = lent (word e) .pre .1 in

@@ -8,7 +8,7 @@ use Rattle.evaluators.proofs.+each_chosen+each_member+eval_bare+eval_bo
 use Rattle.table.proofs.node_field.Reads as field
 use Rattle.operations.proofs.one.Reads as one
 use Rattle.evaluators.proofs.settle.Reads as settle
-use Rattle.evaluators.proofs.+each_chosen+each_member+eval_bare+eval_bool+eval_expr+eval_join+eval_one+eval_pred+eval_quant+eval_select+eval_test+eval_two+eval_value+operand.Proof.Base.{eval-one, operand}
+use Rattle.evaluators.proofs.+each_chosen+each_member+eval_bare+eval_bool+eval_expr+eval_join+eval_one+eval_pred+eval_quant+eval_select+eval_test+eval_two+eval_value+operand.Proof.Base.{Over, eval-one, operand}
 use Rattle.evaluators.proofs.SafeLaws.{ready-node}
 use Rattle.evaluators.proofs.NodeLaws.{formed-as}
 use Rattle.evaluators.proofs.FormLaws.{one-child, one-begins, one-fails, one-ready, one-settles, one-evaluates}
@@ -17,43 +17,46 @@ module _ (t : ℕ) where
   abbrev claims : lts.Claims
   claims = (field.Asked, field.Learnt, operand .below t, operand .post, one.Asked, one.Learnt, settle.Asked, settle.Learnt)
 
-  abbrev lent : lts.After-node-field claims (eval-one .at t) (eval-one .post) → lts.Start claims (eval-one .at t) (eval-one .post)
+  abbrev Here : Over lts.Claims lts.ps lts.r → Type 0
+  Here T = T claims (eval-one .at t) (eval-one .post)
+
+  abbrev lent : Here lts.After-node-field → Here lts.Start
   lent c = c .before .before .before
 
-  abbrev word : lts.After-operand claims (eval-one .at t) (eval-one .post) → lts.After-node-field claims (eval-one .at t) (eval-one .post)
+  abbrev word : Here lts.After-operand → Here lts.After-node-field
   word c = c .before .before
 
-  abbrev ran : lts.After-slice-known2 claims (eval-one .at t) (eval-one .post) → lts.After-operand claims (eval-one .at t) (eval-one .post)
+  abbrev ran : Here lts.After-slice-known2 → Here lts.After-operand
   ran c = c .before .before
 
-  abbrev done : lts.After-one claims (eval-one .at t) (eval-one .post) → lts.After-first claims (eval-one .at t) (eval-one .post)
+  abbrev done : Here lts.After-one → Here lts.After-first
   done c = c .before .before .before
 
-  abbrev settled : lts.After-settle claims (eval-one .at t) (eval-one .post) → lts.After-one claims (eval-one .at t) (eval-one .post)
+  abbrev settled : Here lts.After-settle → Here lts.After-one
   settled c = let s = c .before .before in s .before .before
 
-  operand-requires : lts.Need-operand-requires claims (eval-one .at t) (eval-one .post)
+  operand-requires : Here lts.Need-operand-requires
   operand-requires c κs =
       let f = c .before in let p = lent f .pre .1 in
       let d = one-child (p .0) (p .1 .0) (p .1 .1) (f .node-field .ensures) in
       (omega (arith, lent f .pre .0, d .below), one-begins (p .0) (p .1 .0) (p .1 .1) (f .node-field .ensures))
 
-  returns : lts.Need-returns claims (eval-one .at t) (eval-one .post)
+  returns : Here lts.Need-returns
   returns c =
       let e = ran (c .before .before) in let p = lent (word e) .pre .1 in let q = c .enum-told .given .1 in
       formed-as refl (sym q) (one-fails (p .0) (p .1 .0) (p .1 .1) (word e .node-field .ensures) (formed-as refl q (e .operand .ensures)))
 
-  one-requires : lts.Need-one-requires claims (eval-one .at t) (eval-one .post)
+  one-requires : Here lts.Need-one-requires
   one-requires c κs =
       let m = c .before .before in let e = ran (m .before .before) in let p = lent (word e) .pre .1 in
       one-ready (p .0) (p .1 .0) (p .1 .1) (word e .node-field .ensures) (formed-as refl (m .first .given .1) (e .operand .ensures))
 
-  settle-requires : lts.Need-settle-requires claims (eval-one .at t) (eval-one .post)
+  settle-requires : Here lts.Need-settle-requires
   settle-requires c κs =
       let q = c .before .before .before in let m = done q in let e = ran (m .before .before) in let p = lent (word e) .pre .1 in
       one-settles (p .0) (p .1 .0) (p .1 .1) (word e .node-field .ensures) (formed-as refl (m .first .given .1) (e .operand .ensures)) (q .one .ensures)
 
-  returns-2 : lts.Need-returns-2 claims (eval-one .at t) (eval-one .post)
+  returns-2 : Here lts.Need-returns-2
   returns-2 c =
       let q = settled (c .before .before) in let m = done q in let e = ran (m .before .before) in let p = lent (word e) .pre .1 in
       one-evaluates (p .0) (p .1 .0) (p .1 .1) (word e .node-field .ensures) (formed-as refl (m .first .given .1) (e .operand .ensures))

@@ -5,25 +5,28 @@ use native.Mathlib.Omega.{arith}
 use Rattle.evaluators.proofs.+each_chosen+each_member+eval_bare+eval_bool+eval_expr+eval_join+eval_one+eval_pred+eval_quant+eval_select+eval_test+eval_two+eval_value+operand.Lts-eval_pred as lts
 use Rattle.evaluators.proofs.strip.Reads as strip
 use Rattle.evaluators.proofs.turn.Reads as turn
-use Rattle.evaluators.proofs.+each_chosen+each_member+eval_bare+eval_bool+eval_expr+eval_join+eval_one+eval_pred+eval_quant+eval_select+eval_test+eval_two+eval_value+operand.Proof.Base.{eval-bare, eval-pred}
+use Rattle.evaluators.proofs.+each_chosen+each_member+eval_bare+eval_bool+eval_expr+eval_join+eval_one+eval_pred+eval_quant+eval_select+eval_test+eval_two+eval_value+operand.Proof.Base.{Over, eval-bare, eval-pred}
 use Rattle.evaluators.proofs.BareLaws.{bare-ready, bare-tells}
 
 module _ (t : ℕ) where
   abbrev claims : lts.Claims
   claims = (strip.Asked, strip.Learnt, eval-bare .below t, eval-bare .post, turn.Asked, turn.Learnt)
 
-  abbrev lent : lts.After-strip claims (eval-pred .at t) (eval-pred .post) → lts.Start claims (eval-pred .at t) (eval-pred .post)
+  abbrev Here : Over lts.Claims lts.ps lts.r → Type 0
+  Here T = T claims (eval-pred .at t) (eval-pred .post)
+
+  abbrev lent : Here lts.After-strip → Here lts.Start
   lent c = c .before .before .before
 
-  abbrev ran : lts.After-turn claims (eval-pred .at t) (eval-pred .post) → lts.After-eval-bare claims (eval-pred .at t) (eval-pred .post)
+  abbrev ran : Here lts.After-turn → Here lts.After-eval-bare
   ran c = c .before .before .before
 
-  eval-bare-requires : lts.Need-eval-bare-requires claims (eval-pred .at t) (eval-pred .post)
+  eval-bare-requires : Here lts.Need-eval-bare-requires
   eval-bare-requires c κs =
       let n = c .before in let v = lent n in let p = n .strip .ensures .passes in
       (omega (arith, v .pre .0, p .below), (bare-ready (v .pre .1 .0) (v .pre .1 .1) p, p .is, n .strip .ensures .last))
 
-  returns : lts.Need-returns claims (eval-pred .at t) (eval-pred .post)
+  returns : Here lts.Need-returns
   returns c =
       let e = ran c in let n = e .before .before in let v = lent n in
       bare-tells (v .pre .1 .0) (v .pre .1 .1) (n .strip .ensures .passes) (e .eval-bare .ensures) (c .turn .ensures)

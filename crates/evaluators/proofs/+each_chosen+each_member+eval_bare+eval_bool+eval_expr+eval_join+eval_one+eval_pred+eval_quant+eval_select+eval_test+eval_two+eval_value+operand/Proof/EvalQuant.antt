@@ -9,7 +9,7 @@ use Rattle.table.proofs.node_field.Reads as field
 use Rattle.evaluators.proofs.range_of.Reads as range
 use Rattle.evaluators.proofs.refusal_of.Reads as refusal
 use Rattle.evaluators.proofs.refused.Reads as refused
-use Rattle.evaluators.proofs.+each_chosen+each_member+eval_bare+eval_bool+eval_expr+eval_join+eval_one+eval_pred+eval_quant+eval_select+eval_test+eval_two+eval_value+operand.Proof.Base.{each-member, eval-quant, operand}
+use Rattle.evaluators.proofs.+each_chosen+each_member+eval_bare+eval_bool+eval_expr+eval_join+eval_one+eval_pred+eval_quant+eval_select+eval_test+eval_two+eval_value+operand.Proof.Base.{Over, each-member, eval-quant, operand}
 use Rattle.evaluators.proofs.SafeLaws.{ready-node}
 use Rattle.evaluators.proofs.NodeLaws.{held-as, refusal-is}
 use Rattle.evaluators.proofs.RangeLaws.{range-as}
@@ -32,52 +32,55 @@ module _ (t : ℕ) where
     each-member .post,
   )
 
-  abbrev lent : lts.After-node-field claims (eval-quant .at t) (eval-quant .post) → lts.Start claims (eval-quant .at t) (eval-quant .post)
+  abbrev Here : Over lts.Claims lts.ps lts.r → Type 0
+  Here T = T claims (eval-quant .at t) (eval-quant .post)
+
+  abbrev lent : Here lts.After-node-field → Here lts.Start
   lent c = c .before .before .before
 
-  abbrev word : lts.After-operand claims (eval-quant .at t) (eval-quant .post) → lts.After-node-field claims (eval-quant .at t) (eval-quant .post)
+  abbrev word : Here lts.After-operand → Here lts.After-node-field
   word c = c .before .before
 
-  abbrev ran : lts.After-slice-known2 claims (eval-quant .at t) (eval-quant .post) → lts.After-operand claims (eval-quant .at t) (eval-quant .post)
+  abbrev ran : Here lts.After-slice-known2 → Here lts.After-operand
   ran c = c .before .before
 
-  abbrev asked : lts.After-range-of claims (eval-quant .at t) (eval-quant .post) → lts.After-first claims (eval-quant .at t) (eval-quant .post)
+  abbrev asked : Here lts.After-range-of → Here lts.After-first
   asked c = c .before .before .before
 
-  abbrev first : lts.After-range-of claims (eval-quant .at t) (eval-quant .post) → lts.After-operand claims (eval-quant .at t) (eval-quant .post)
+  abbrev first : Here lts.After-range-of → Here lts.After-operand
   first c = ran (asked c .before .before)
 
-  abbrev counted : lts.After-each-member claims (eval-quant .at t) (eval-quant .post) → lts.After-range claims (eval-quant .at t) (eval-quant .post)
+  abbrev counted : Here lts.After-each-member → Here lts.After-range
   counted c = c .before .before .before
 
-  operand-requires : lts.Need-operand-requires claims (eval-quant .at t) (eval-quant .post)
+  operand-requires : Here lts.Need-operand-requires
   operand-requires c κs =
       let f = c .before in let v = lent f in let p = v .pre .1 in
       (omega (arith, v .pre .0, quant-child (p .0) (p .1) (f .node-field .ensures) .below), quant-range (p .0) (p .1) (f .node-field .ensures))
 
-  returns : lts.Need-returns claims (eval-quant .at t) (eval-quant .post)
+  returns : Here lts.Need-returns
   returns c =
       let k = c .before in let e = ran (k .before .before) in let p = lent (word e) .pre .1 in
       held-as refl (refusal-is (k .enum-told .given .1) (c .refusal-of .ensures))
       (range-refused (p .0) (p .1) (word e .node-field .ensures) (e .operand .ensures) (k .enum-told .given .1))
 
-  range-of-requires : lts.Need-range-of-requires claims (eval-quant .at t) (eval-quant .post)
+  range-of-requires : Here lts.Need-range-of-requires
   range-of-requires c κs =
       let m = c .before .before in let e = ran (m .before .before) in let p = lent (word e) .pre .1 in
       range-good (p .0) (p .1) (word e .node-field .ensures) (e .operand .ensures) (m .first .given .1)
 
-  returns-2 : lts.Need-returns-2 claims (eval-quant .at t) (eval-quant .post)
+  returns-2 : Here lts.Need-returns-2
   returns-2 c =
       let k = c .before in let o = k .before .before in let e = first o in let p = lent (word e) .pre .1 in
       held-as refl (sym (c .refused .ensures)) (range-unlike (p .0) (p .1) (word e .node-field .ensures) (e .operand .ensures) (asked o .first .given .1)
       (range-as (k .enum-told2 .given .1) (o .range-of .ensures)))
 
-  add-each-member : lts.Need-add-each-member claims (eval-quant .at t) (eval-quant .post)
+  add-each-member : Here lts.Need-add-each-member
   add-each-member c =
       let a = c .before .before in let o = a .before .before in let e = first o in let p = lent (word e) .pre .1 in
       record { fits = omega (arith, range-low (p .0) (p .1) (word e .node-field .ensures) (e .operand .ensures) (asked o .first .given .1)) }
 
-  each-member-requires : lts.Need-each-member-requires claims (eval-quant .at t) (eval-quant .post)
+  each-member-requires : Here lts.Need-each-member-requires
   each-member-requires c κs =
       let a = c .before .before in let o = a .before .before in let e = first o in let v = lent (word e) in let p = v .pre .1 in (
         omega (arith, v .pre .0),
@@ -85,7 +88,7 @@ module _ (t : ℕ) where
             (range-as (a .range .given .1) (o .range-of .ensures)),
       )
 
-  returns-3 : lts.Need-returns-3 claims (eval-quant .at t) (eval-quant .post)
+  returns-3 : Here lts.Need-returns-3
   returns-3 c =
       let i = c .before .before in let a = counted i in let o = a .before .before in let e = first o in let p = lent (word e) .pre .1 in
       quant-done (p .0) (p .1) (word e .node-field .ensures) (e .operand .ensures) (asked o .first .given .1)

@@ -9,7 +9,7 @@ use Rattle.table.proofs.node_field.Reads as field
 use Rattle.evaluators.proofs.range_of.Reads as range
 use Rattle.evaluators.proofs.settle.Reads as settle
 use Rattle.evaluators.proofs.stopped.Reads as stopped
-use Rattle.evaluators.proofs.+each_chosen+each_member+eval_bare+eval_bool+eval_expr+eval_join+eval_one+eval_pred+eval_quant+eval_select+eval_test+eval_two+eval_value+operand.Proof.Base.{each-chosen, eval-select, operand}
+use Rattle.evaluators.proofs.+each_chosen+each_member+eval_bare+eval_bool+eval_expr+eval_join+eval_one+eval_pred+eval_quant+eval_select+eval_test+eval_two+eval_value+operand.Proof.Base.{Over, each-chosen, eval-select, operand}
 use Rattle.evaluators.proofs.SafeLaws.{ready-node}
 use Rattle.evaluators.proofs.NodeLaws.{formed-as}
 use Rattle.evaluators.proofs.RangeLaws.{range-as}
@@ -32,57 +32,60 @@ module _ (t : ℕ) where
     settle.Learnt,
   )
 
-  abbrev lent : lts.After-node-field claims (eval-select .at t) (eval-select .post) → lts.Start claims (eval-select .at t) (eval-select .post)
+  abbrev Here : Over lts.Claims lts.ps lts.r → Type 0
+  Here T = T claims (eval-select .at t) (eval-select .post)
+
+  abbrev lent : Here lts.After-node-field → Here lts.Start
   lent c = c .before .before .before
 
-  abbrev word : lts.After-operand claims (eval-select .at t) (eval-select .post) → lts.After-node-field claims (eval-select .at t) (eval-select .post)
+  abbrev word : Here lts.After-operand → Here lts.After-node-field
   word c = c .before .before
 
-  abbrev ran : lts.After-slice-known2 claims (eval-select .at t) (eval-select .post) → lts.After-operand claims (eval-select .at t) (eval-select .post)
+  abbrev ran : Here lts.After-slice-known2 → Here lts.After-operand
   ran c = c .before .before
 
-  abbrev asked : lts.After-range-of claims (eval-select .at t) (eval-select .post) → lts.After-first claims (eval-select .at t) (eval-select .post)
+  abbrev asked : Here lts.After-range-of → Here lts.After-first
   asked c = c .before .before .before
 
-  abbrev first : lts.After-range-of claims (eval-select .at t) (eval-select .post) → lts.After-operand claims (eval-select .at t) (eval-select .post)
+  abbrev first : Here lts.After-range-of → Here lts.After-operand
   first c = ran (asked c .before .before)
 
-  abbrev counted : lts.After-each-chosen claims (eval-select .at t) (eval-select .post) → lts.After-range claims (eval-select .at t) (eval-select .post)
+  abbrev counted : Here lts.After-each-chosen → Here lts.After-range
   counted c = c .before .before .before
 
-  abbrev chose : lts.After-slice-known3 claims (eval-select .at t) (eval-select .post) → lts.After-each-chosen claims (eval-select .at t) (eval-select .post)
+  abbrev chose : Here lts.After-slice-known3 → Here lts.After-each-chosen
   chose c = c .before .before
 
-  abbrev settled : lts.After-settle claims (eval-select .at t) (eval-select .post) → lts.After-chosen claims (eval-select .at t) (eval-select .post)
+  abbrev settled : Here lts.After-settle → Here lts.After-chosen
   settled c = c .before .before .before
 
-  operand-requires : lts.Need-operand-requires claims (eval-select .at t) (eval-select .post)
+  operand-requires : Here lts.Need-operand-requires
   operand-requires c κs =
       let f = c .before in let v = lent f in
       (omega (arith, v .pre .0, select-child (v .pre .1) (f .node-field .ensures) .below), select-begins (v .pre .1) (f .node-field .ensures))
 
-  returns : lts.Need-returns claims (eval-select .at t) (eval-select .post)
+  returns : Here lts.Need-returns
   returns c =
       let e = ran (c .before .before) in let f = word e in let q = c .enum-told .given .1 in
       formed-as refl (sym q) (select-fails (lent f .pre .1) (f .node-field .ensures) (formed-as refl q (e .operand .ensures)))
 
-  range-of-requires : lts.Need-range-of-requires claims (eval-select .at t) (eval-select .post)
+  range-of-requires : Here lts.Need-range-of-requires
   range-of-requires c κs =
       let m = c .before .before in let e = ran (m .before .before) in let f = word e in
       range-good (lent f .pre .1) (f .node-field .ensures) (formed-as refl (m .first .given .1) (e .operand .ensures))
 
-  returns-2 : lts.Need-returns-2 claims (eval-select .at t) (eval-select .post)
+  returns-2 : Here lts.Need-returns-2
   returns-2 c =
       let k = c .before in let o = k .before .before in let e = first o in let f = word e in
       formed-as refl (sym (c .stopped .ensures)) (range-fails (lent f .pre .1) (f .node-field .ensures)
       (formed-as refl (asked o .first .given .1) (e .operand .ensures)) (range-as (k .enum-told2 .given .1) (o .range-of .ensures)))
 
-  add-each-chosen : lts.Need-add-each-chosen claims (eval-select .at t) (eval-select .post)
+  add-each-chosen : Here lts.Need-add-each-chosen
   add-each-chosen c =
       let a = c .before .before in let o = a .before .before in let e = first o in let f = word e in
       omega (arith, range-low (lent f .pre .1) (f .node-field .ensures) (formed-as refl (asked o .first .given .1) (e .operand .ensures)))
 
-  each-chosen-requires : lts.Need-each-chosen-requires claims (eval-select .at t) (eval-select .post)
+  each-chosen-requires : Here lts.Need-each-chosen-requires
   each-chosen-requires c κs =
       let a = c .before .before in let o = a .before .before in let e = first o in let f = word e in (
         omega (arith, lent f .pre .0),
@@ -90,25 +93,25 @@ module _ (t : ℕ) where
             (range-as (a .range .given .1) (o .range-of .ensures)),
       )
 
-  returns-3 : lts.Need-returns-3 claims (eval-select .at t) (eval-select .post)
+  returns-3 : Here lts.Need-returns-3
   returns-3 c =
       let i = chose (c .before .before) in let a = counted i in let o = a .before .before in let e = first o in let f = word e in
       let q = c .enum-told3 .given .1 in
       formed-as refl (sym q) (chosen-fails (lent f .pre .1) (f .node-field .ensures) (formed-as refl (asked o .first .given .1) (e .operand .ensures))
       (range-as (a .range .given .1) (o .range-of .ensures)) (chosen-as q (i .each-chosen .ensures)))
 
-  settle-requires : lts.Need-settle-requires claims (eval-select .at t) (eval-select .post)
+  settle-requires : Here lts.Need-settle-requires
   settle-requires c κs =
       let w = c .before .before in let i = chose (w .before .before) in let a = counted i in let o = a .before .before in let e = first o in
       select-settles (lent (word e) .pre .1) (word e .node-field .ensures) (formed-as refl (asked o .first .given .1) (e .operand .ensures))
       (range-as (a .range .given .1) (o .range-of .ensures)) (chosen-as (w .chosen .given .1) (i .each-chosen .ensures))
 
-  same-length-4 : lts.Need-same-length-4 claims (eval-select .at t) (eval-select .post)
+  same-length-4 : Here lts.Need-same-length-4
   same-length-4 c =
       let z = c .before .before in let i = chose (settled z .before .before) in let a = counted i in
       z .settle .kept .0 ∙ i .each-chosen .kept .1 .1 .0 ∙ first (a .before .before) .operand .kept .1 .1 .0
 
-  returns-4 : lts.Need-returns-4 claims (eval-select .at t) (eval-select .post)
+  returns-4 : Here lts.Need-returns-4
   returns-4 c =
       let w = settled (c .before .before) in let i = chose (w .before .before) in let a = counted i in let o = a .before .before in let e = first o in
       select-evaluates (lent (word e) .pre .1) (word e .node-field .ensures) (formed-as refl (asked o .first .given .1) (e .operand .ensures))

@@ -10,7 +10,7 @@ use Rattle.table.proofs.node_field.Reads as field
 use Rattle.evaluators.proofs.refusal_of.Reads as refusal
 use Rattle.evaluators.proofs.refused.Reads as refused
 use Rattle.operations.proofs.test.Reads as test
-use Rattle.evaluators.proofs.+each_chosen+each_member+eval_bare+eval_bool+eval_expr+eval_join+eval_one+eval_pred+eval_quant+eval_select+eval_test+eval_two+eval_value+operand.Proof.Base.{eval-test, operand}
+use Rattle.evaluators.proofs.+each_chosen+each_member+eval_bare+eval_bool+eval_expr+eval_join+eval_one+eval_pred+eval_quant+eval_select+eval_test+eval_two+eval_value+operand.Proof.Base.{Over, eval-test, operand}
 use Rattle.evaluators.proofs.SafeLaws.{ready-node}
 use Rattle.evaluators.proofs.NodeLaws.{TwoFields, held-as, refusal-is}
 use Rattle.evaluators.proofs.BothLaws.{EvaluatesBoth, left-asks, right-asks, both-stops, both-stops-2, both-formed, operands-ready, test-fields, test-stops, test-unlike, test-truth}
@@ -19,42 +19,45 @@ module _ (t : ℕ) where
   abbrev claims : lts.Claims
   claims = (field.Asked, field.Learnt, operand .below t, operand .post, refusal.Asked, refusal.Learnt, test.Asked, test.Learnt, refused.Asked, refused.Learnt)
 
-  abbrev lent : lts.After-node-field claims (eval-test .at t) (eval-test .post) → lts.Start claims (eval-test .at t) (eval-test .post)
+  abbrev Here : Over lts.Claims lts.ps lts.r → Type 0
+  Here T = T claims (eval-test .at t) (eval-test .post)
+
+  abbrev lent : Here lts.After-node-field → Here lts.Start
   lent c = c .before .before .before
 
-  abbrev word : lts.After-operand claims (eval-test .at t) (eval-test .post) → lts.After-node-field claims (eval-test .at t) (eval-test .post)
+  abbrev word : Here lts.After-operand → Here lts.After-node-field
   word c = c .before .before
 
-  abbrev ran : lts.After-slice-known2 claims (eval-test .at t) (eval-test .post) → lts.After-operand claims (eval-test .at t) (eval-test .post)
+  abbrev ran : Here lts.After-slice-known2 → Here lts.After-operand
   ran c = c .before .before
 
-  abbrev placed : lts.After-node-field2 claims (eval-test .at t) (eval-test .post) → lts.After-first claims (eval-test .at t) (eval-test .post)
+  abbrev placed : Here lts.After-node-field2 → Here lts.After-first
   placed c = c .before .before
 
-  abbrev ran₂ : lts.After-slice-known3 claims (eval-test .at t) (eval-test .post) → lts.After-operand2 claims (eval-test .at t) (eval-test .post)
+  abbrev ran₂ : Here lts.After-slice-known3 → Here lts.After-operand2
   ran₂ c = c .before .before
 
-  abbrev first : lts.After-operand2 claims (eval-test .at t) (eval-test .post) → lts.After-operand claims (eval-test .at t) (eval-test .post)
+  abbrev first : Here lts.After-operand2 → Here lts.After-operand
   first c = let m = placed (c .before .before) in ran (m .before .before)
 
-  abbrev tried : lts.After-test claims (eval-test .at t) (eval-test .post) → lts.After-second claims (eval-test .at t) (eval-test .post)
+  abbrev tried : Here lts.After-test → Here lts.After-second
   tried c = c .before .before .before
 
-  fields : (v : lts.Start claims (eval-test .at t) (eval-test .post)) → TwoFields (now (v .args .table)) (v .args .node)
+  fields : (v : Here lts.Start) → TwoFields (now (v .args .table)) (v .args .node)
   fields v = test-fields (v .pre .1 .0) (v .pre .1 .1 .0) (v .pre .1 .1 .1)
 
-  returns : lts.Need-returns claims (eval-test .at t) (eval-test .post)
+  returns : Here lts.Need-returns
   returns c =
       let k = c .before in let e = ran (k .before .before) in let v = lent (word e) in
       held-as refl (refusal-is (k .enum-told .given .1) (c .refusal-of .ensures)) (test-stops (v .pre .1 .0) (v .pre .1 .1 .0) (v .pre .1 .1 .1)
       (both-stops (v .pre .1 .0 .ready) (fields v) (word e .node-field .ensures) (e .operand .ensures) (k .enum-told .given .1)))
 
-  operand-requires-2 : lts.Need-operand-requires-2 claims (eval-test .at t) (eval-test .post)
+  operand-requires-2 : Here lts.Need-operand-requires-2
   operand-requires-2 c κs =
       let g = c .before in let m = placed g in let e = ran (m .before .before) in let v = lent (word e) in
       right-asks (v .pre .0) (v .pre .1 .0) (fields v) (word e .node-field .ensures) (e .operand .ensures) (m .first .given .1) (g .node-field2 .ensures)
 
-  returns-2 : lts.Need-returns-2 claims (eval-test .at t) (eval-test .post)
+  returns-2 : Here lts.Need-returns-2
   returns-2 c =
       let k = c .before in let s = ran₂ (k .before .before) in let e = first s in let v = lent (word e) in let g = s .before .before in
       held-as refl (refusal-is (k .enum-told2 .given .1) (c .refusal-of2 .ensures)) (test-stops (v .pre .1 .0) (v .pre .1 .1 .0) (v .pre .1 .1 .1)
@@ -62,7 +65,7 @@ module _ (t : ℕ) where
       (g .node-field2 .ensures) (s .operand2 .ensures) (k .enum-told2 .given .1)))
 
   -- Both operands have values.
-  formed : (w : lts.After-second claims (eval-test .at t) (eval-test .post)) →
+  formed : (w : Here lts.After-second) →
       let s = ran₂ (w .before .before) in let a = lent (word (first s)) .args in let x = placed (s .before .before) .first .given .0 in
       let y = w .second .given .0 in
       EvaluatesBoth (now (a .table)) (now (a .env)) (now (a .s)) (a .top) (a .node) (a .left - 1) (s .operand2 .last .1 .1 .0)
@@ -72,12 +75,12 @@ module _ (t : ℕ) where
       both-formed (v .pre .1 .0 .ready) (fields v) (word e .node-field .ensures) (e .operand .ensures) (placed g .first .given .1)
       (g .node-field2 .ensures) (s .operand2 .ensures) (w .second .given .1)
 
-  returns-3 : lts.Need-returns-3 claims (eval-test .at t) (eval-test .post)
+  returns-3 : Here lts.Need-returns-3
   returns-3 c =
       let k = c .before in let q = k .before .before in let w = tried q in let p = lent (word (first (ran₂ (w .before .before)))) .pre .1 in
       held-as refl (sym (c .refused .ensures)) (test-unlike (p .0) (p .1 .0) (p .1 .1) (formed w) (q .test .ensures) (k .enum-told3 .given .1))
 
-  returns-4 : lts.Need-returns-4 claims (eval-test .at t) (eval-test .post)
+  returns-4 : Here lts.Need-returns-4
   returns-4 c =
       let q = c .before .before .before in let w = tried q in let p = lent (word (first (ran₂ (w .before .before)))) .pre .1 in
       test-truth (p .0) (p .1 .0) (p .1 .1) (formed w) (q .test .ensures) (c .before .tested .given .1)

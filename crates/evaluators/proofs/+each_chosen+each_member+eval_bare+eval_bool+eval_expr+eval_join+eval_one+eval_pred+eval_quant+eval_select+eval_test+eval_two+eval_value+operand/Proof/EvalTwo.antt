@@ -9,7 +9,7 @@ use Rattle.evaluators.proofs.+each_chosen+each_member+eval_bare+eval_bo
 use Rattle.table.proofs.node_field.Reads as field
 use Rattle.evaluators.proofs.settle.Reads as settle
 use Rattle.operations.proofs.two.Reads as two
-use Rattle.evaluators.proofs.+each_chosen+each_member+eval_bare+eval_bool+eval_expr+eval_join+eval_one+eval_pred+eval_quant+eval_select+eval_test+eval_two+eval_value+operand.Proof.Base.{eval-two, operand}
+use Rattle.evaluators.proofs.+each_chosen+each_member+eval_bare+eval_bool+eval_expr+eval_join+eval_one+eval_pred+eval_quant+eval_select+eval_test+eval_two+eval_value+operand.Proof.Base.{Over, eval-two, operand}
 use Rattle.evaluators.proofs.SafeLaws.{ready-node}
 use Rattle.evaluators.proofs.NodeLaws.{TwoFields, formed-as}
 use Rattle.evaluators.proofs.BothLaws.{EvaluatesBoth, left-asks, right-asks, both-stops, both-stops-2, both-formed}
@@ -19,45 +19,48 @@ module _ (t : ℕ) where
   abbrev claims : lts.Claims
   claims = (field.Asked, field.Learnt, operand .below t, operand .post, two.Asked, two.Learnt, settle.Asked, settle.Learnt)
 
-  abbrev lent : lts.After-node-field claims (eval-two .at t) (eval-two .post) → lts.Start claims (eval-two .at t) (eval-two .post)
+  abbrev Here : Over lts.Claims lts.ps lts.r → Type 0
+  Here T = T claims (eval-two .at t) (eval-two .post)
+
+  abbrev lent : Here lts.After-node-field → Here lts.Start
   lent c = c .before .before .before
 
-  abbrev word : lts.After-operand claims (eval-two .at t) (eval-two .post) → lts.After-node-field claims (eval-two .at t) (eval-two .post)
+  abbrev word : Here lts.After-operand → Here lts.After-node-field
   word c = c .before .before
 
-  abbrev ran : lts.After-slice-known2 claims (eval-two .at t) (eval-two .post) → lts.After-operand claims (eval-two .at t) (eval-two .post)
+  abbrev ran : Here lts.After-slice-known2 → Here lts.After-operand
   ran c = c .before .before
 
-  abbrev placed : lts.After-node-field2 claims (eval-two .at t) (eval-two .post) → lts.After-first claims (eval-two .at t) (eval-two .post)
+  abbrev placed : Here lts.After-node-field2 → Here lts.After-first
   placed c = c .before .before
 
-  abbrev ran₂ : lts.After-slice-known3 claims (eval-two .at t) (eval-two .post) → lts.After-operand2 claims (eval-two .at t) (eval-two .post)
+  abbrev ran₂ : Here lts.After-slice-known3 → Here lts.After-operand2
   ran₂ c = c .before .before
 
-  abbrev first : lts.After-operand2 claims (eval-two .at t) (eval-two .post) → lts.After-operand claims (eval-two .at t) (eval-two .post)
+  abbrev first : Here lts.After-operand2 → Here lts.After-operand
   first c = let m = placed (c .before .before) in ran (m .before .before)
 
-  abbrev done : lts.After-two claims (eval-two .at t) (eval-two .post) → lts.After-second claims (eval-two .at t) (eval-two .post)
+  abbrev done : Here lts.After-two → Here lts.After-second
   done c = c .before .before .before
 
-  abbrev settled : lts.After-settle claims (eval-two .at t) (eval-two .post) → lts.After-two claims (eval-two .at t) (eval-two .post)
+  abbrev settled : Here lts.After-settle → Here lts.After-two
   settled c = let s = c .before .before in s .before .before
 
-  fields : (v : lts.Start claims (eval-two .at t) (eval-two .post)) → TwoFields (now (v .args .table)) (v .args .node)
+  fields : (v : Here lts.Start) → TwoFields (now (v .args .table)) (v .args .node)
   fields v = two-fields (v .pre .1 .0) (v .pre .1 .1 .0) (v .pre .1 .1 .1)
 
-  returns : lts.Need-returns claims (eval-two .at t) (eval-two .post)
+  returns : Here lts.Need-returns
   returns c =
       let e = ran (c .before .before) in let v = lent (word e) in
       formed-as refl (sym (c .enum-told .given .1)) (two-fails (v .pre .1 .0) (v .pre .1 .1 .0) (v .pre .1 .1 .1)
       (both-stops (v .pre .1 .0 .ready) (fields v) (word e .node-field .ensures) (e .operand .ensures) (c .enum-told .given .1)))
 
-  operand-requires-2 : lts.Need-operand-requires-2 claims (eval-two .at t) (eval-two .post)
+  operand-requires-2 : Here lts.Need-operand-requires-2
   operand-requires-2 c κs =
       let g = c .before in let m = placed g in let e = ran (m .before .before) in let v = lent (word e) in
       right-asks (v .pre .0) (v .pre .1 .0) (fields v) (word e .node-field .ensures) (e .operand .ensures) (m .first .given .1) (g .node-field2 .ensures)
 
-  returns-2 : lts.Need-returns-2 claims (eval-two .at t) (eval-two .post)
+  returns-2 : Here lts.Need-returns-2
   returns-2 c =
       let s = ran₂ (c .before .before) in let e = first s in let v = lent (word e) in let g = s .before .before in
       formed-as refl (sym (c .enum-told2 .given .1)) (two-fails (v .pre .1 .0) (v .pre .1 .1 .0) (v .pre .1 .1 .1)
@@ -65,7 +68,7 @@ module _ (t : ℕ) where
       (g .node-field2 .ensures) (s .operand2 .ensures) (c .enum-told2 .given .1)))
 
   -- Both operands have values.
-  formed : (w : lts.After-second claims (eval-two .at t) (eval-two .post)) →
+  formed : (w : Here lts.After-second) →
       let s = ran₂ (w .before .before) in let a = lent (word (first s)) .args in let x = placed (s .before .before) .first .given .0 in
       let y = w .second .given .0 in
       EvaluatesBoth (now (a .table)) (now (a .env)) (now (a .s)) (a .top) (a .node) (a .left - 1) (s .operand2 .last .1 .1 .0)
@@ -75,17 +78,17 @@ module _ (t : ℕ) where
       both-formed (v .pre .1 .0 .ready) (fields v) (word e .node-field .ensures) (e .operand .ensures) (placed g .first .given .1)
       (g .node-field2 .ensures) (s .operand2 .ensures) (w .second .given .1)
 
-  settle-requires : lts.Need-settle-requires claims (eval-two .at t) (eval-two .post)
+  settle-requires : Here lts.Need-settle-requires
   settle-requires c κs =
       let q = c .before .before .before in let w = done q in let p = lent (word (first (ran₂ (w .before .before)))) .pre .1 in
       two-settles (p .0) (p .1 .0) (p .1 .1) (formed w) (q .two .ensures)
 
-  same-length-3 : lts.Need-same-length-3 claims (eval-two .at t) (eval-two .post)
+  same-length-3 : Here lts.Need-same-length-3
   same-length-3 c =
       let p = c .before .before in let q = settled p in let w = done q in let s = ran₂ (w .before .before) in
       p .settle .kept .0 ∙ q .two .kept .0 ∙ s .operand2 .kept .1 .1 .0 ∙ first s .operand .kept .1 .1 .0
 
-  returns-3 : lts.Need-returns-3 claims (eval-two .at t) (eval-two .post)
+  returns-3 : Here lts.Need-returns-3
   returns-3 c =
       let q = settled (c .before .before) in let w = done q in let p = lent (word (first (ran₂ (w .before .before)))) .pre .1 in
       two-evaluates (p .0) (p .1 .0) (p .1 .1) (formed w) (q .two .ensures) (c .before .before .settle .ensures)

@@ -11,7 +11,7 @@ use Rattle.evaluators.proofs.eval_leaf.Reads as eval-leaf
 use Rattle.evaluators.proofs.standing.Reads as standing
 use Rattle.table.proofs.node_kind.Reads as kind
 use Rattle.evaluators.proofs.stopped.Reads as stopped
-use Rattle.evaluators.proofs.+each_chosen+each_member+eval_bare+eval_bool+eval_expr+eval_join+eval_one+eval_pred+eval_quant+eval_select+eval_test+eval_two+eval_value+operand.Proof.Base.{eval-bool, eval-one, eval-select, eval-two, eval-value}
+use Rattle.evaluators.proofs.+each_chosen+each_member+eval_bare+eval_bool+eval_expr+eval_join+eval_one+eval_pred+eval_quant+eval_select+eval_test+eval_two+eval_value+operand.Proof.Base.{Over, eval-bool, eval-one, eval-select, eval-two, eval-value}
 use Rattle.evaluators.proofs.SafeLaws.{ready-node}
 use Rattle.evaluators.proofs.NodeLaws.{formed-as}
 use Rattle.evaluators.proofs.DispatchLaws.{spent-expr, counted, visited-as, expression-code, one-keys, one-range, two-key, from-27, two-low, two-high, no-other, leaf-node, leaf-answer, standing-code, standing-ready, standing-answer}
@@ -37,14 +37,17 @@ module _ (t : ℕ) where
     standing.Learnt,
   )
 
-  abbrev lent : lts.After-node-kind claims (eval-value .at t) (eval-value .post) → lts.Start claims (eval-value .at t) (eval-value .post)
+  abbrev Here : Over lts.Claims lts.ps lts.r → Type 0
+  Here T = T claims (eval-value .at t) (eval-value .post)
+
+  abbrev lent : Here lts.After-node-kind → Here lts.Start
   lent c = let i = c .before in i .before .before .before
 
-  visit : (k : lts.After-node-kind claims (eval-value .at t) (eval-value .post)) → let a = lent k .args in
+  visit : (k : Here lts.After-node-kind) → let a = lent k .args in
       Visited (now (a .table)) (now (a .env)) (now (a .s)) (a .top) (k .node-kind .result) (a .node) (a .left)
   visit k = counted (lent k .pre .1 .0) _ (k .before .if1 .left) (k .node-kind .ensures)
 
-  eval-two-requires : lts.Need-eval-two-requires claims (eval-value .at t) (eval-value .post)
+  eval-two-requires : Here lts.Need-eval-two-requires
   eval-two-requires c κs =
       let k = c .before .before in
       let by = ⊎-elim (λ w. two-key _ (w .keys3))
@@ -52,24 +55,24 @@ module _ (t : ℕ) where
       (λ w. let m = w .0 .rest in two-high _ (m .0 .0 .0 .0 .1) (m .0 .0 .0 .1) (w .4 .left) (w .5 .taken))) (c .before .match .came) in
       (omega (arith, lent k .pre .0), (visit k, by))
 
-  eval-one-requires : lts.Need-eval-one-requires claims (eval-value .at t) (eval-value .post)
+  eval-one-requires : Here lts.Need-eval-one-requires
   eval-one-requires c κs =
       let k = c .before .before in
       let by = ⊎-elim (λ w. one-keys _ (w .keys2))
       (λ w. let m = w .0 .rest in one-range _ (m .0 .0 .0 .0 .1) (m .0 .0 .1) (w .3 .left) (w .4 .taken)) (c .before .match .came) in
       (omega (arith, lent k .pre .0), (visit k, by))
 
-  standing-requires : lts.Need-standing-requires claims (eval-value .at t) (eval-value .post)
+  standing-requires : Here lts.Need-standing-requires
   standing-requires c κs =
       standing-ready (visit (c .before))
       (standing-code _ (⊎-elim (λ w. inl (w .keys6)) (λ w. inr (w .1 .left, w .2 .taken, λ e. w .0 .rest .0 .1 (inl e))) (c .match .came)))
 
-  returns-4 : lts.Need-returns-4 claims (eval-value .at t) (eval-value .post)
+  returns-4 : Here lts.Need-returns-4
   returns-4 c =
       let p = c .before .before in let b = p .before .before in let d = visit (b .before) in
       leaf-answer d (leaf-node d (b .match .keys5)) _ _ (p .eval-leaf .ensures)
 
-  returns-5 : lts.Need-returns-5 claims (eval-value .at t) (eval-value .post)
+  returns-5 : Here lts.Need-returns-5
   returns-5 c =
       let j = c .before in let m = j .before in let r = expression-code (visit (m .before)) (lent (m .before) .pre .1 .1) in
       let n = m .match .rest in

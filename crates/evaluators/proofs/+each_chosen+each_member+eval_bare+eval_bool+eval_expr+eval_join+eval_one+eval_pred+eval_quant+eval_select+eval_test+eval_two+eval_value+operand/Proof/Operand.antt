@@ -4,17 +4,20 @@ use native.Mathlib.Omega.{arith}
 use borrow.Author.Tests.{eqb-false}
 use Rattle.evaluators.proofs.+each_chosen+each_member+eval_bare+eval_bool+eval_expr+eval_join+eval_one+eval_pred+eval_quant+eval_select+eval_test+eval_two+eval_value+operand.Lts-operand as lts
 use Rattle.evaluators.proofs.leaf_place.Reads as leaf-place
-use Rattle.evaluators.proofs.+each_chosen+each_member+eval_bare+eval_bool+eval_expr+eval_join+eval_one+eval_pred+eval_quant+eval_select+eval_test+eval_two+eval_value+operand.Proof.Base.{eval-expr, operand}
+use Rattle.evaluators.proofs.+each_chosen+each_member+eval_bare+eval_bool+eval_expr+eval_join+eval_one+eval_pred+eval_quant+eval_select+eval_test+eval_two+eval_value+operand.Proof.Base.{Over, eval-expr, operand}
 use Rattle.evaluators.proofs.DispatchLaws.{place-ready, placed-answer}
 
 module _ (t : ℕ) where
   abbrev claims : lts.Claims
   claims = (leaf-place.Asked, leaf-place.Learnt, eval-expr .below t, eval-expr .post)
 
-  abbrev lent : lts.After-leaf-place claims (operand .at t) (operand .post) → lts.Start claims (operand .at t) (operand .post)
+  abbrev Here : Over lts.Claims lts.ps lts.r → Type 0
+  Here T = T claims (operand .at t) (operand .post)
+
+  abbrev lent : Here lts.After-leaf-place → Here lts.Start
   lent c = c .before .before .before
 
-  returns-2 : lts.Need-returns-2 claims (operand .at t) (operand .post)
+  returns-2 : Here lts.Need-returns-2
   returns-2 c =
       let i = c .before in let v = lent (i .before) in
       placed-answer (v .pre .1 .0) (i .before .leaf-place .ensures (i .if1 .left)) (eqb-false (v .args .left) 0 (c .if2 .left))
