@@ -38,11 +38,6 @@ module _ (t : ℕ) where
   abbrev ran : Here lts.After-slice-known2 → Here lts.After-eval-pred
   ran c = c .before .before
 
-  cast-inner : Here lts.Need-cast-inner
-  cast-inner c =
-      let l = c .before in
-      record { fits = member-low (lent (words l .before) .pre .1) (l .loop .inv) (omega (arith, c .loop-test .taken)) }
-
   eval-pred-requires : Here lts.Need-eval-pred-requires
   eval-pred-requires c κs =
       let w = c .before .before in let g = words (w .before) in let v = lent (g .before) in (
@@ -55,10 +50,6 @@ module _ (t : ℕ) where
       let p = ran (c .before .before) in let w = turn p in let g = words (w .before) in
       member-refused (lent (g .before) .pre .1) (w .before .loop .inv) (omega (arith, w .loop-test .taken)) (g .before .node-field .ensures)
       (g .node-field2 .ensures) (p .eval-pred .ensures) (c .enum-told .given .1)
-
-  same-length-2 : Here lts.Need-same-length-2
-  same-length-2 c =
-      let h = c .before .before in let p = ran (h .before .before) in p .eval-pred .kept .1 .1 .0 ∙ turn p .before .loop .inv .frame .kept
 
   returns-2 : Here lts.Need-returns-2
   returns-2 c =
@@ -83,14 +74,14 @@ module _ (t : ℕ) where
       (λ c κs. (binder-node (c .before .before .pre .1), lit< tt))
       (λ c κs. (binder-node (lent c .pre .1), lit< tt))
       (λ c. turning-start _ _ (lent (c .before .before) .pre .1))
-      cast-inner
+      (λ c. let l = c .before in record { fits = member-low (lent (words l .before) .pre .1) (l .loop .inv) (omega (arith, c .loop-test .taken)) })
       (λ c. let f = words (c .before) .before in entry-scaled (f .node-field .ensures) (lent f .pre .1 .name))
       (λ c. let f = words (c .before) .before in entry-below (f .node-field .ensures) (lent f .pre .1 .name))
       eval-pred-requires
       (λ c. c .match .keys1) (λ c. c .match .keys2)
       (λ c. let p = ran (c .before .before) in p .eval-pred .kept .1 .1 .0 ∙ turn p .before .loop .inv .frame .kept)
       returns
-      same-length-2
+      (λ c. let h = c .before .before in let p = ran (h .before .before) in p .eval-pred .kept .1 .1 .0 ∙ turn p .before .loop .inv .frame .kept)
       returns-2
       end-of-requires
       (λ c. let i = c .before .before in let h = i .before .before in turn (ran (h .before .before)) .loop-test .taken)

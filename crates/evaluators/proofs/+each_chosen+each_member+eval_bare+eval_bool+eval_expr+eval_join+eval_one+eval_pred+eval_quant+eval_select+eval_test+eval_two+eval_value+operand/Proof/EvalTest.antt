@@ -40,6 +40,9 @@ module _ (t : ℕ) where
   abbrev first : Here lts.After-operand2 → Here lts.After-operand
   first c = let m = placed (c .before .before) in ran (m .before .before)
 
+  abbrev begun : Here lts.After-second → Here lts.Start
+  begun c = lent (word (first (ran₂ (c .before .before))))
+
   abbrev tried : Here lts.After-test → Here lts.After-second
   tried c = c .before .before .before
 
@@ -66,7 +69,7 @@ module _ (t : ℕ) where
 
   -- Both operands have values.
   formed : (w : Here lts.After-second) →
-      let s = ran₂ (w .before .before) in let a = lent (word (first s)) .args in let x = placed (s .before .before) .first .given .0 in
+      let s = ran₂ (w .before .before) in let a = begun w .args in let x = placed (s .before .before) .first .given .0 in
       let y = w .second .given .0 in
       EvaluatesBoth (now (a .table)) (now (a .env)) (now (a .s)) (a .top) (a .node) (a .left - 1) (s .operand2 .last .1 .1 .0)
       (x .0) (x .1 .0) (y .0) (y .1 .0) (y .1 .1 .0)
@@ -77,12 +80,12 @@ module _ (t : ℕ) where
 
   returns-3 : Here lts.Need-returns-3
   returns-3 c =
-      let k = c .before in let q = k .before .before in let w = tried q in let p = lent (word (first (ran₂ (w .before .before)))) .pre .1 in
+      let k = c .before in let q = k .before .before in let w = tried q in let p = begun w .pre .1 in
       held-as refl (sym (c .refused .ensures)) (test-unlike (p .0) (p .1 .0) (p .1 .1) (formed w) (q .test .ensures) (k .enum-told3 .given .1))
 
   returns-4 : Here lts.Need-returns-4
   returns-4 c =
-      let q = c .before .before .before in let w = tried q in let p = lent (word (first (ran₂ (w .before .before)))) .pre .1 in
+      let q = c .before .before .before in let w = tried q in let p = begun w .pre .1 in
       test-truth (p .0) (p .1 .0) (p .1 .1) (formed w) (q .test .ensures) (c .before .tested .given .1)
 
   pub closed : {M : Type 1} → lts.Closed claims (eval-test .at t) (eval-test .post) M
@@ -99,7 +102,7 @@ module _ (t : ℕ) where
       (λ c. c .match2 .keys1) (λ c. c .match2 .keys2) (λ c κs. tt)
       (λ c. let k = c .before in let s = ran₂ (k .before .before) in s .operand2 .kept .1 .1 .0 ∙ first s .operand .kept .1 .1 .0)
       returns-2
-      (λ c κs. let w = c .before .before in operands-ready (lent (word (first (ran₂ (w .before .before)))) .pre .1 .0 .ready) (formed w))
+      (λ c κs. let w = c .before .before in operands-ready (begun w .pre .1 .0 .ready) (formed w))
       (λ c. c .match3 .keys1) (λ c. c .match3 .keys2) (λ c κs. tt)
       (λ c. let w = tried (c .before .before .before) in let s = ran₂ (w .before .before) in s .operand2 .kept .1 .1 .0 ∙ first s .operand .kept .1 .1 .0)
       returns-3

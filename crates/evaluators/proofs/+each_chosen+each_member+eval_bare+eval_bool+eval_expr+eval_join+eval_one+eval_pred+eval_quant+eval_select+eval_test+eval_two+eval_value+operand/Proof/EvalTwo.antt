@@ -40,6 +40,9 @@ module _ (t : ℕ) where
   abbrev first : Here lts.After-operand2 → Here lts.After-operand
   first c = let m = placed (c .before .before) in ran (m .before .before)
 
+  abbrev begun : Here lts.After-second → Here lts.Start
+  begun c = lent (word (first (ran₂ (c .before .before))))
+
   abbrev done : Here lts.After-two → Here lts.After-second
   done c = c .before .before .before
 
@@ -69,7 +72,7 @@ module _ (t : ℕ) where
 
   -- Both operands have values.
   formed : (w : Here lts.After-second) →
-      let s = ran₂ (w .before .before) in let a = lent (word (first s)) .args in let x = placed (s .before .before) .first .given .0 in
+      let s = ran₂ (w .before .before) in let a = begun w .args in let x = placed (s .before .before) .first .given .0 in
       let y = w .second .given .0 in
       EvaluatesBoth (now (a .table)) (now (a .env)) (now (a .s)) (a .top) (a .node) (a .left - 1) (s .operand2 .last .1 .1 .0)
       (x .0) (x .1 .0) (y .0) (y .1 .0) (y .1 .1 .0)
@@ -80,7 +83,7 @@ module _ (t : ℕ) where
 
   settle-requires : Here lts.Need-settle-requires
   settle-requires c κs =
-      let q = c .before .before .before in let w = done q in let p = lent (word (first (ran₂ (w .before .before)))) .pre .1 in
+      let q = c .before .before .before in let w = done q in let p = begun w .pre .1 in
       two-settles (p .0) (p .1 .0) (p .1 .1) (formed w) (q .two .ensures)
 
   same-length-3 : Here lts.Need-same-length-3
@@ -90,7 +93,7 @@ module _ (t : ℕ) where
 
   returns-3 : Here lts.Need-returns-3
   returns-3 c =
-      let q = settled (c .before .before) in let w = done q in let p = lent (word (first (ran₂ (w .before .before)))) .pre .1 in
+      let q = settled (c .before .before) in let w = done q in let p = begun w .pre .1 in
       two-evaluates (p .0) (p .1 .0) (p .1 .1) (formed w) (q .two .ensures) (c .before .before .settle .ensures)
 
   pub closed : {M : Type 1} → lts.Closed claims (eval-two .at t) (eval-two .post) M
@@ -107,7 +110,7 @@ module _ (t : ℕ) where
       (λ c. c .match2 .keys1) (λ c. c .match2 .keys2)
       (λ c. let s = ran₂ (c .before .before) in s .operand2 .kept .1 .1 .0 ∙ first s .operand .kept .1 .1 .0)
       returns-2
-      (λ c κs. let w = c .before .before in let p = lent (word (first (ran₂ (w .before .before)))) .pre .1 in two-ready (p .0) (p .1 .0) (p .1 .1) (formed w))
+      (λ c κs. let w = c .before .before in let p = begun w .pre .1 in two-ready (p .0) (p .1 .0) (p .1 .1) (formed w))
       settle-requires
       same-length-3
       returns-3
