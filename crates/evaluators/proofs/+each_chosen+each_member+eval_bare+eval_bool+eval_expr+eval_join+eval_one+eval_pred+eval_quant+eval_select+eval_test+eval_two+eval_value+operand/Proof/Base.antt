@@ -24,16 +24,16 @@ use Rattle.evaluators.proofs.eval_pred.Kinds as node
 use Rattle.evaluators.proofs.eval_join.Kinds as kind
 use Rattle.evaluators.proofs.eval_expr.Kinds as formed
 
+-- What a place or a need of a member's derivation is stated over: the claims of its calls, and what it requires and ensures.
+abbrev pub Over : Type 1 → (ps : List (PK 3)) → RK 3 → Type 1
+Over C ps r = C → In 3 ps → Out 3 ps r → Type 0
+
 -- A member: its measure, what it requires where that is t and where it is below t, and what it ensures.
 pub record Member (ps : List (PK 3)) (r : RK 3) : Type 1 where
   pub μ : Measures 3 ps ℕ
   pub at : ℕ → In 3 ps
   pub below : ℕ → In 3 ps
   pub post : Out 3 ps r
-
--- What a place or a need of a member's derivation is stated over: the claims of its calls, and what it requires and ensures.
-abbrev pub Over : Type 1 → (ps : List (PK 3)) → RK 3 → Type 1
-Over C ps r = C → In 3 ps → Out 3 ps r → Type 0
 
 abbrev member : (ps : List (PK 3)) (r : RK 3) → Measures 3 ps ℕ → In 3 ps → Out 3 ps r → Member ps r
 member ps r μ pre post = record {

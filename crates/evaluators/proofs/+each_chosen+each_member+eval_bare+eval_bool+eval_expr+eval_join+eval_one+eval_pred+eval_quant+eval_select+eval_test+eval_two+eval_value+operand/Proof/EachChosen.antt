@@ -51,32 +51,32 @@ module _ (t : ℕ) where
   cast-inner : Here lts.Need-cast-inner
   cast-inner c =
       let l = c .before in let v = lent (words l .before) in
-      omega (arith, choosing-below (v .pre .1) (l .loop .inv) (omega (arith, c .loop-test .taken)), v .pre .1 .space (omega arith), v .pre .1 .ready .small)
+      omega (arith, choosing-below (v .pre .1) (l .loop .inv) (c .loop-test .taken), v .pre .1 .space (omega arith), v .pre .1 .ready .small)
 
   eval-pred-requires : Here lts.Need-eval-pred-requires
   eval-pred-requires c κs =
       let w = c .before .before in let g = words (w .before) in let v = lent (g .before) in (
         omega (arith, v .pre .0, v .pre .1 .deeper, g .node-field2 .ensures),
-        choosing-ready (v .pre .1) (w .before .loop .inv) (omega (arith, w .loop-test .taken)) (g .before .node-field .ensures) (g .node-field2 .ensures),
+        choosing-ready (v .pre .1) (w .before .loop .inv) (w .loop-test .taken) (g .before .node-field .ensures) (g .node-field2 .ensures),
       )
 
   returns : Here lts.Need-returns
   returns c =
       let k = c .before in let p = ran (k .before .before) in let w = turn p in let g = words (w .before) in
       chosen-as (stop-is (k .enum-told .given .1) (c .stop-of .ensures))
-      (choosing-refused (lent (g .before) .pre .1) (w .before .loop .inv) (omega (arith, w .loop-test .taken)) (g .before .node-field .ensures)
+      (choosing-refused (lent (g .before) .pre .1) (w .before .loop .inv) (w .loop-test .taken) (g .before .node-field .ensures)
       (g .node-field2 .ensures) (p .eval-pred .ensures) (k .enum-told .given .1))
 
   end-of-requires : Here lts.Need-end-of-requires
   end-of-requires c κs =
       let h = c .before .before in let p = ran (h .before .before) in let w = turn p in let g = words (w .before) in
-      choosing-some (lent (g .before) .pre .1) (w .before .loop .inv) (omega (arith, w .loop-test .taken)) (g .before .node-field .ensures)
+      choosing-some (lent (g .before) .pre .1) (w .before .loop .inv) (w .loop-test .taken) (g .before .node-field .ensures)
       (g .node-field2 .ensures) (p .eval-pred .ensures)
 
   choose-requires : Here lts.Need-choose-requires
   choose-requires c κs =
       let o = c .before in let p = ran (told o .before .before) in let w = turn p in let g = words (w .before) in
-      choosing-choose (lent (g .before) .pre .1) (w .before .loop .inv) (omega (arith, w .loop-test .taken)) (g .before .node-field .ensures)
+      choosing-choose (lent (g .before) .pre .1) (w .before .loop .inv) (w .loop-test .taken) (g .before .node-field .ensures)
       (g .node-field2 .ensures) (p .eval-pred .ensures) (o .end-of .ensures)
 
   add-chosen : Here lts.Need-add-chosen
@@ -87,7 +87,7 @@ module _ (t : ℕ) where
   loop-again : Here lts.Need-loop-again
   loop-again c =
       let o = ended (c .before .before) in let h = told o in let p = ran (h .before .before) in let w = turn p in let g = words (w .before) in
-      choosing-next (lent (g .before) .pre .1) (w .before .loop .inv) (omega (arith, w .loop-test .taken)) (g .before .node-field .ensures)
+      choosing-next (lent (g .before) .pre .1) (w .before .loop .inv) (w .loop-test .taken) (g .before .node-field .ensures)
       (g .node-field2 .ensures) (p .eval-pred .ensures) (o .end-of .ensures) (h .held .given .1) (c .before .before .choose .ensures)
 
   pub closed : {M : Type 1} → lts.Closed claims (each-chosen .at t) (each-chosen .post) M

@@ -42,30 +42,30 @@ module _ (t : ℕ) where
   eval-pred-requires c κs =
       let w = c .before .before in let g = words (w .before) in let v = lent (g .before) in (
         omega (arith, v .pre .0, v .pre .1 .deeper, g .node-field2 .ensures),
-        body-ready (v .pre .1) (w .before .loop .inv) (omega (arith, w .loop-test .taken)) (g .before .node-field .ensures) (g .node-field2 .ensures),
+        body-ready (v .pre .1) (w .before .loop .inv) (w .loop-test .taken) (g .before .node-field .ensures) (g .node-field2 .ensures),
       )
 
   returns : Here lts.Need-returns
   returns c =
       let p = ran (c .before .before) in let w = turn p in let g = words (w .before) in
-      member-refused (lent (g .before) .pre .1) (w .before .loop .inv) (omega (arith, w .loop-test .taken)) (g .before .node-field .ensures)
+      member-refused (lent (g .before) .pre .1) (w .before .loop .inv) (w .loop-test .taken) (g .before .node-field .ensures)
       (g .node-field2 .ensures) (p .eval-pred .ensures) (c .enum-told .given .1)
 
   returns-2 : Here lts.Need-returns-2
   returns-2 c =
       let h = c .before .before in let p = ran (h .before .before) in let w = turn p in let g = words (w .before) in
-      member-decides (lent (g .before) .pre .1) (w .before .loop .inv) (omega (arith, w .loop-test .taken)) (g .before .node-field .ensures)
+      member-decides (lent (g .before) .pre .1) (w .before .loop .inv) (w .loop-test .taken) (g .before .node-field .ensures)
       (g .node-field2 .ensures) (p .eval-pred .ensures) _ _ (h .held .given .1) (differ _ _ (c .if1 .taken))
 
   end-of-requires : Here lts.Need-end-of-requires
   end-of-requires c κs =
       let h = c .before .before .before in let p = ran (h .before .before) in let w = turn p in let v = lent (words (w .before) .before) in
-      member-stands (v .pre .1) (w .before .loop .inv) (omega (arith, w .loop-test .taken)) _ (p .eval-pred .ensures .frame)
+      member-stands (v .pre .1) (w .before .loop .inv) (w .loop-test .taken) _ (p .eval-pred .ensures .frame)
 
   loop-again : Here lts.Need-loop-again
   loop-again c =
       let i = c .before .before in let h = i .before .before in let p = ran (h .before .before) in let w = turn p in let g = words (w .before) in
-      turning-on (lent (g .before) .pre .1) (w .before .loop .inv) (omega (arith, w .loop-test .taken)) (g .before .node-field .ensures)
+      turning-on (lent (g .before) .pre .1) (w .before .loop .inv) (w .loop-test .taken) (g .before .node-field .ensures)
       (g .node-field2 .ensures) (p .eval-pred .ensures) _ _ _ (h .held .given .1) (agree _ _ (i .if1 .left)) (c .end-of .ensures)
 
   pub closed : {M : Type 1} → lts.Closed claims (each-member .at t) (each-member .post) M
@@ -74,7 +74,7 @@ module _ (t : ℕ) where
       (λ c κs. (binder-node (c .before .before .pre .1), lit< tt))
       (λ c κs. (binder-node (lent c .pre .1), lit< tt))
       (λ c. turning-start _ _ (lent (c .before .before) .pre .1))
-      (λ c. let l = c .before in record { fits = member-low (lent (words l .before) .pre .1) (l .loop .inv) (omega (arith, c .loop-test .taken)) })
+      (λ c. let l = c .before in record { fits = member-low (lent (words l .before) .pre .1) (l .loop .inv) (c .loop-test .taken) })
       (λ c. let f = words (c .before) .before in entry-scaled (f .node-field .ensures) (lent f .pre .1 .name))
       (λ c. let f = words (c .before) .before in entry-below (f .node-field .ensures) (lent f .pre .1 .name))
       eval-pred-requires

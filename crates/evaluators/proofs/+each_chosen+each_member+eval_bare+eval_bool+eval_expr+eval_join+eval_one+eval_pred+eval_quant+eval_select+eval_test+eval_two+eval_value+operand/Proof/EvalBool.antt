@@ -53,7 +53,7 @@ module _ (t : ℕ) where
   closed =
       lts.spec claims (eval-bool .at t) (eval-bool .post)
       (λ c κs. (ready-node (c .before .before .pre .1 .ready), lit< tt))
-      (λ c. omega (arith, lent (c .before) .pre .1 .unspent))
+      (λ c. lent (c .before) .pre .1 .unspent)
       eval-pred-requires
       (λ c. c .match .keys1) (λ c. c .match .keys2) (λ c κs. tt)
       (λ c. let k = c .before in ran (k .before .before) .eval-pred .kept .1 .1 .0)

@@ -88,7 +88,7 @@ module _ (t : ℕ) where
   closed =
       lts.spec claims (eval-join .at t) (eval-join .post)
       (λ c κs. (ready-node (c .before .before .pre .1 .0 .ready), lit< tt))
-      (λ c. omega (arith, lent (c .before) .pre .1 .0 .unspent))
+      (λ c. lent (c .before) .pre .1 .0 .unspent)
       eval-pred-requires
       (λ c. c .match .keys1) (λ c. c .match .keys2)
       (λ c. ran (c .before .before) .eval-pred .kept .1 .1 .0)

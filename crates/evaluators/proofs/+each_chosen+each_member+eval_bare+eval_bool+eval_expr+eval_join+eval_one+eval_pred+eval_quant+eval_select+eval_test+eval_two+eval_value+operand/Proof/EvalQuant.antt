@@ -98,7 +98,7 @@ module _ (t : ℕ) where
   closed =
       lts.spec claims (eval-quant .at t) (eval-quant .post)
       (λ c κs. (ready-node (c .before .before .pre .1 .0 .ready), lit< tt))
-      (λ c. omega (arith, lent (c .before) .pre .1 .0 .unspent))
+      (λ c. lent (c .before) .pre .1 .0 .unspent)
       operand-requires
       (λ c. c .match .keys1) (λ c. c .match .keys2) (λ c κs. tt)
       (λ c. let k = c .before in ran (k .before .before) .operand .kept .1 .1 .0)

@@ -121,7 +121,7 @@ module _ (t : ℕ) where
   closed =
       lts.spec claims (eval-select .at t) (eval-select .post)
       (λ c κs. (ready-node (c .before .before .pre .1 .ready), lit< tt))
-      (λ c. omega (arith, lent (c .before) .pre .1 .unspent))
+      (λ c. lent (c .before) .pre .1 .unspent)
       operand-requires
       (λ c. c .match .keys1) (λ c. c .match .keys2)
       (λ c. ran (c .before .before) .operand .kept .1 .1 .0)

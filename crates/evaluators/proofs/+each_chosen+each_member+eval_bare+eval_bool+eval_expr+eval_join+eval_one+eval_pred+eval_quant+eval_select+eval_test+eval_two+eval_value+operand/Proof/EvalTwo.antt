@@ -2,7 +2,6 @@
 -- was lent, the words of the fields, the answers for the operands, and the operation.
 use Prim.Native.Nat.{ℕ, _-_}
 use mathlib.Core.Path.{refl, sym, _∙_}
-use native.Mathlib.Omega.{arith}
 use lib.Dec.{lit<}
 use denote.Ref.{now}
 use Rattle.evaluators.proofs.+each_chosen+each_member+eval_bare+eval_bool+eval_expr+eval_join+eval_one+eval_pred+eval_quant+eval_select+eval_test+eval_two+eval_value+operand.Lts-eval_two as lts
@@ -100,7 +99,7 @@ module _ (t : ℕ) where
   closed =
       lts.spec claims (eval-two .at t) (eval-two .post)
       (λ c κs. (ready-node (c .before .before .pre .1 .0 .ready), lit< tt))
-      (λ c. omega (arith, lent (c .before) .pre .1 .0 .unspent))
+      (λ c. lent (c .before) .pre .1 .0 .unspent)
       (λ c κs. let f = c .before in let v = lent f in left-asks (v .pre .0) (v .pre .1 .0) (fields v) (f .node-field .ensures))
       (λ c. c .match .keys1) (λ c. c .match .keys2)
       (λ c. ran (c .before .before) .operand .kept .1 .1 .0)

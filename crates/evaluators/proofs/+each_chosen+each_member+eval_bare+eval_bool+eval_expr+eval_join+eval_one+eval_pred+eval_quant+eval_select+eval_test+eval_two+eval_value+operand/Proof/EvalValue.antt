@@ -86,13 +86,13 @@ module _ (t : ℕ) where
       (λ c κs. ready-node (c .before .before .before .pre .1 .0))
       (λ c κs. let k = c .before .before in (omega (arith, lent k .pre .0), visited-as (visit k) (c .before .match .keys1)))
       (λ c κs. let k = c .before .before in (omega (arith, lent k .pre .0), visited-as (visit k) (c .before .match .keys4)))
-      (λ c. omega (arith, visit (c .before .before) .unspent))
+      (λ c. visit (c .before .before) .unspent)
       (λ c κs. leaf-node (visit (c .before .before)) (c .before .match .keys5))
       (λ c κs. tt)
       eval-two-requires
       eval-one-requires
       standing-requires
-      (λ c. omega (arith, visit (c .before .before) .unspent))
+      (λ c. visit (c .before .before) .unspent)
       (λ c. c .before .before .eval-bool .kept .1 .1 .0) (λ c. c .before .before .eval-bool .ensures)
       (λ c. c .before .before .eval-select .kept .1 .1 .0) (λ c. c .before .before .eval-select .ensures)
       (λ c. c .before .before .eval-leaf .kept .1 .0)
