@@ -1,5 +1,5 @@
 -- The two operands of a node, one after the other: their answers joined, for tests and for operations of two; and the tests.
-use Prim.Native.Nat.{ℕ, suc, _+_, _-_, _≤_, _<_}
+use Prim.Native.Nat.{ℕ, suc, _+_, _-_, _*_, _≤_, _<_}
 use mathlib.Core.Bool.{Bool, true, false}
 use mathlib.Core.List.{List, [], _∷_}
 use mathlib.Core.Logic.{_⊎_, inl, inr}
@@ -255,3 +255,13 @@ module _ {bs env s : List ℕ} {top k n left : ℕ} (x : Visited bs env s top k 
         let w = tells-truth j (v .first) (v .second) (sym q ∙ told v) in
         subst (λ (z : Bool). EndsWith (holdsᵖ budget (tableOf bs .sizes) (testᵖ n j (eᵃ g) (eᵇ g)) ρ steps) (done z) budget l) (w .1)
         (test-fits budget (tableOf bs .sizes) n j (eᵃ g) (eᵇ g) ρ steps (i .0) v (w .0)))
+
+-- What an operand's evaluator asks, where the measures are those of the cycle: 5 times the node, and what is left to do there.
+module _ {bs env s : List ℕ} {top k n left t : ℕ} (e : 5 * n + 1 ≡ t) (x : Visited bs env s top k n left) (y : TwoFields bs n)
+    {a : ℕ} (q : a ≡ fieldA bs n) where
+  pub left-asks : (5 * a + 4 < t) × (Ready bs env s top a × IsExpr bs a)
+  left-asks = (omega (arith, left-child (x .ready) y q .below), left-ready (x .ready) y q)
+
+  pub right-asks : {l : ℕ} {s′ : List ℕ} {r : Formed} → EvaluatesE bs env s top a l s′ r → {at mid l′ : ℕ} → r ≡ Placed at mid l′ → {m : ℕ} →
+      m ≡ fieldB bs n → (5 * m + 4 < t) × (Ready bs env s′ mid m × IsExpr bs m)
+  right-asks h d q′ = (omega (arith, right-child (x .ready) y q h d q′ .below), right-ready (x .ready) y q h d q′)

@@ -1,176 +1,98 @@
 -- `each_chosen`: the body at one member after the other, each that it holds at copied behind those before, and the set's own cell last.
--- Landmarks: what was lent, the words of the fields, the turn, and the answer of the body.
+-- Landmarks: what was lent, the words of the fields, the turn, the answer of the body, and where the member ends.
 use Prim.Native.Nat.{ℕ}
 use mathlib.Core.Path.{_∙_}
 use native.Mathlib.Omega.{arith}
 use lib.Dec.{lit<}
-use Rattle.evaluators.proofs.each_chosen.Reads as each-chosen
-use Rattle.evaluators.proofs.eval_pred.Reads as eval-pred
-use Rattle.evaluators.proofs.+each_chosen+each_member+eval_bare+eval_bool+eval_expr+eval_join+eval_one+eval_pred+eval_quant+eval_select+eval_test+eval_two+eval_value+operand.Lts-each_chosen as each-chosen-lts
-use Rattle.evaluators.proofs.choose.Reads as choose-reads
-use Rattle.arena.proofs.end_of.Reads as end-of-reads
-use Rattle.table.proofs.node_field.Reads as node-field-reads
-use Rattle.evaluators.proofs.stop_of.Reads as stop-of-reads
-use Rattle.evaluators.proofs.+each_chosen+each_member+eval_bare+eval_bool+eval_expr+eval_join+eval_one+eval_pred+eval_quant+eval_select+eval_test+eval_two+eval_value+operand.Proof.Base.{each-chosen-at, eval-pred-below}
+use borrow.Fn.Kinds.{In, Out}
+use Rattle.evaluators.proofs.+each_chosen+each_member+eval_bare+eval_bool+eval_expr+eval_join+eval_one+eval_pred+eval_quant+eval_select+eval_test+eval_two+eval_value+operand.Lts-each_chosen as lts
+use Rattle.evaluators.proofs.choose.Reads as choose
+use Rattle.arena.proofs.end_of.Reads as end-of
+use Rattle.table.proofs.node_field.Reads as field
+use Rattle.evaluators.proofs.stop_of.Reads as stop
+use Rattle.evaluators.proofs.+each_chosen+each_member+eval_bare+eval_bool+eval_expr+eval_join+eval_one+eval_pred+eval_quant+eval_select+eval_test+eval_two+eval_value+operand.Proof.Base.{each-chosen, eval-pred}
 use Rattle.evaluators.proofs.SafeLaws.{one-less, binder-node, entry-below, entry-scaled, above-fits, top-scaled, top-inside, written-kept}
 use Rattle.evaluators.proofs.NodeLaws.{stop-is}
 use Rattle.evaluators.proofs.FormLaws.{chosen-as}
 use Rattle.evaluators.proofs.ChosenLaws.{Choosing, choosing-start, choosing-near, choosing-few, choosing-end, choosing-below, choosing-ready, choosing-refused, choosing-some, choosing-choose, choosing-next}
 
-abbrev each-chosen-Inv-loop : each-chosen-lts.InvT-loop
-each-chosen-Inv-loop table env s₀ top node from count left x body inner₀ at₀ more₀ n₀ to₀ chosen₀ s inner at more n to chosen =
+abbrev Inv : lts.InvT-loop
+Inv table env s₀ top node from count left x body inner₀ at₀ more₀ n₀ to₀ chosen₀ s inner at more n to chosen =
     Choosing table env s₀ top node from count left s inner at more n to chosen
 
-abbrev each-chosen-μ-loop : each-chosen-lts.MeasureT-loop
-each-chosen-μ-loop table env s₀ top node from count left x body inner₀ at₀ more₀ n₀ to₀ chosen₀ s inner at more n to chosen = more
+abbrev μ : lts.MeasureT-loop
+μ table env s₀ top node from count left x body inner₀ at₀ more₀ n₀ to₀ chosen₀ s inner at more n to chosen = more
 
 module _ (t : ℕ) where
-  abbrev claims : each-chosen-lts.Claims
-  claims = (
-    node-field-reads.Asked,
-    node-field-reads.Learnt,
-    eval-pred-below t,
-    eval-pred.Post,
-    stop-of-reads.Asked,
-    stop-of-reads.Learnt,
-    end-of-reads.Asked,
-    end-of-reads.Learnt,
-    choose-reads.Asked,
-    choose-reads.Learnt,
-  )
+  abbrev claims : lts.Claims
+  claims = (field.Asked, field.Learnt, eval-pred .below t, eval-pred .post, stop.Asked, stop.Learnt, end-of.Asked, end-of.Learnt, choose.Asked, choose.Learnt)
 
-  abbrev lent : each-chosen-lts.After-node-field claims (each-chosen-at t) each-chosen.Post each-chosen-Inv-loop each-chosen-μ-loop →
-      each-chosen-lts.Start claims (each-chosen-at t) each-chosen.Post each-chosen-Inv-loop each-chosen-μ-loop
+  abbrev Here : (lts.Claims → In 3 lts.ps → Out 3 lts.ps lts.r → lts.InvT-loop → lts.MeasureT-loop → Type 0) → Type 0
+  Here T = T claims (each-chosen .at t) (each-chosen .post) Inv μ
+
+  abbrev lent : Here lts.After-node-field → Here lts.Start
   lent c = c .before .before .before
 
-  abbrev words : each-chosen-lts.At-loop claims (each-chosen-at t) each-chosen.Post each-chosen-Inv-loop each-chosen-μ-loop →
-      each-chosen-lts.After-node-field2 claims (each-chosen-at t) each-chosen.Post each-chosen-Inv-loop each-chosen-μ-loop
+  abbrev words : Here lts.At-loop → Here lts.After-node-field2
   words c = c .before .before
 
-  abbrev turn : each-chosen-lts.After-eval-pred claims (each-chosen-at t) each-chosen.Post each-chosen-Inv-loop each-chosen-μ-loop →
-      each-chosen-lts.In-loop claims (each-chosen-at t) each-chosen.Post each-chosen-Inv-loop each-chosen-μ-loop
+  abbrev turn : Here lts.After-eval-pred → Here lts.In-loop
   turn c = c .before .before .before
 
-  abbrev ran : each-chosen-lts.After-slice-known2 claims (each-chosen-at t) each-chosen.Post each-chosen-Inv-loop each-chosen-μ-loop →
-      each-chosen-lts.After-eval-pred claims (each-chosen-at t) each-chosen.Post each-chosen-Inv-loop each-chosen-μ-loop
+  abbrev ran : Here lts.After-slice-known2 → Here lts.After-eval-pred
   ran c = c .before .before
 
-  cast-inner : each-chosen-lts.Need-cast-inner claims (each-chosen-at t) each-chosen.Post each-chosen-Inv-loop each-chosen-μ-loop
-  cast-inner c =
-      let l = c .before in
-      let v = lent (words l .before) in
-      omega (arith, choosing-below (v .pre .1) (l .loop .inv) (omega (arith, c .loop-test .taken)), v .pre .1 .space (omega arith), v .pre .1 .ready .small)
+  abbrev told : Here lts.After-end-of → Here lts.After-held
+  told c = c .before .before .before
 
-  eval-pred-requires : each-chosen-lts.Need-eval-pred-requires claims (each-chosen-at t) each-chosen.Post each-chosen-Inv-loop each-chosen-μ-loop
+  abbrev ended : Here lts.After-choose → Here lts.After-end-of
+  ended c = c .before .before
+
+  cast-inner : Here lts.Need-cast-inner
+  cast-inner c =
+      let l = c .before in let v = lent (words l .before) in
+      omega (arith, choosing-below (v .pre .1) (l .loop .inv) (c .loop-test .taken), v .pre .1 .space (omega arith), v .pre .1 .ready .small)
+
+  eval-pred-requires : Here lts.Need-eval-pred-requires
   eval-pred-requires c κs =
-      let w = c .before .before in
-      let l = w .before in
-      let g = words l in
-      let f = g .before in
-      let v = lent f in (
+      let w = c .before .before in let g = words (w .before) in let v = lent (g .before) in (
         omega (arith, v .pre .0, v .pre .1 .deeper, g .node-field2 .ensures),
-        choosing-ready (v .pre .1) (l .loop .inv)
-            (omega (arith, w .loop-test .taken)) (f .node-field .ensures) (g .node-field2 .ensures),
+        choosing-ready (v .pre .1) (w .before .loop .inv) (w .loop-test .taken) (g .before .node-field .ensures) (g .node-field2 .ensures),
       )
 
-  same-length : each-chosen-lts.Need-same-length claims (each-chosen-at t) each-chosen.Post each-chosen-Inv-loop each-chosen-μ-loop
-  same-length c =
-      let k = c .before in
-      let p = ran (k .before .before) in
-      p .eval-pred .kept .1 .1 .0 ∙ turn p .before .loop .inv .frame .kept
-
-  returns : each-chosen-lts.Need-returns claims (each-chosen-at t) each-chosen.Post each-chosen-Inv-loop each-chosen-μ-loop
+  returns : Here lts.Need-returns
   returns c =
-      let k = c .before in
-      let p = ran (k .before .before) in
-      let w = turn p in
-      let l = w .before in
-      let g = words l in
-      let f = g .before in
-      let v = lent f in
+      let k = c .before in let p = ran (k .before .before) in let w = turn p in let g = words (w .before) in
       chosen-as (stop-is (k .enum-told .given .1) (c .stop-of .ensures))
-      (choosing-refused (v .pre .1) (l .loop .inv) (omega (arith, w .loop-test .taken)) (f .node-field .ensures) (g .node-field2 .ensures)
-      (p .eval-pred .ensures) (k .enum-told .given .1))
+      (choosing-refused (lent (g .before) .pre .1) (w .before .loop .inv) (w .loop-test .taken) (g .before .node-field .ensures)
+      (g .node-field2 .ensures) (p .eval-pred .ensures) (k .enum-told .given .1))
 
-  end-of-requires : each-chosen-lts.Need-end-of-requires claims (each-chosen-at t) each-chosen.Post each-chosen-Inv-loop each-chosen-μ-loop
+  end-of-requires : Here lts.Need-end-of-requires
   end-of-requires c κs =
-      let h = c .before .before in
-      let p = ran (h .before .before) in
-      let w = turn p in
-      let l = w .before in
-      let g = words l in
-      let f = g .before in
-      let v = lent f in
-      choosing-some (v .pre .1) (l .loop .inv) (omega (arith, w .loop-test .taken)) (f .node-field .ensures) (g .node-field2 .ensures)
-      (p .eval-pred .ensures)
+      let h = c .before .before in let p = ran (h .before .before) in let w = turn p in let g = words (w .before) in
+      choosing-some (lent (g .before) .pre .1) (w .before .loop .inv) (w .loop-test .taken) (g .before .node-field .ensures)
+      (g .node-field2 .ensures) (p .eval-pred .ensures)
 
-  choose-requires : each-chosen-lts.Need-choose-requires claims (each-chosen-at t) each-chosen.Post each-chosen-Inv-loop each-chosen-μ-loop
+  choose-requires : Here lts.Need-choose-requires
   choose-requires c κs =
-      let o = c .before in
-      let h = o .before .before .before in
-      let p = ran (h .before .before) in
-      let w = turn p in
-      let l = w .before in
-      let g = words l in
-      let f = g .before in
-      let v = lent f in
-      choosing-choose (v .pre .1) (l .loop .inv) (omega (arith, w .loop-test .taken)) (f .node-field .ensures) (g .node-field2 .ensures)
-      (p .eval-pred .ensures) (o .end-of .ensures)
+      let o = c .before in let p = ran (told o .before .before) in let w = turn p in let g = words (w .before) in
+      choosing-choose (lent (g .before) .pre .1) (w .before .loop .inv) (w .loop-test .taken) (g .before .node-field .ensures)
+      (g .node-field2 .ensures) (p .eval-pred .ensures) (o .end-of .ensures)
 
-  add-chosen : each-chosen-lts.Need-add-chosen claims (each-chosen-at t) each-chosen.Post each-chosen-Inv-loop each-chosen-μ-loop
+  add-chosen : Here lts.Need-add-chosen
   add-chosen c =
-      let q = c .before .before in
-      let o = q .before .before in
-      let h = o .before .before .before in
-      let p = ran (h .before .before) in
-      let w = turn p in
-      let l = w .before in
-      let g = words l in
-      let f = g .before in
-      let v = lent f in
-      record { fits = choosing-few (v .pre .1) (l .loop .inv) (h .held .given .0 .0) }
+      let h = told (ended (c .before .before)) in let l = turn (ran (h .before .before)) .before in
+      record { fits = choosing-few (lent (words l .before) .pre .1) (l .loop .inv) (h .held .given .0 .0) }
 
-  sub-more : each-chosen-lts.Need-sub-more claims (each-chosen-at t) each-chosen.Post each-chosen-Inv-loop each-chosen-μ-loop
-  sub-more c =
-      let q = c .before .before in
-      let o = q .before .before in
-      let h = o .before .before .before in
-      let p = ran (h .before .before) in
-      let w = turn p in
-      w .loop-test .taken
-
-  loop-less : each-chosen-lts.Need-loop-less claims (each-chosen-at t) each-chosen.Post each-chosen-Inv-loop each-chosen-μ-loop
-  loop-less c =
-      let q = c .before .before in
-      let o = q .before .before in
-      let h = o .before .before .before in
-      let p = ran (h .before .before) in
-      let w = turn p in
-      one-less (w .loop-test .taken)
-
-  loop-again : each-chosen-lts.Need-loop-again claims (each-chosen-at t) each-chosen.Post each-chosen-Inv-loop each-chosen-μ-loop
+  loop-again : Here lts.Need-loop-again
   loop-again c =
-      let q = c .before .before in
-      let o = q .before .before in
-      let h = o .before .before .before in
-      let p = ran (h .before .before) in
-      let w = turn p in
-      let l = w .before in
-      let g = words l in
-      let f = g .before in
-      let v = lent f in
-      choosing-next (v .pre .1) (l .loop .inv) (omega (arith, w .loop-test .taken)) (f .node-field .ensures) (g .node-field2 .ensures)
-      (p .eval-pred .ensures) (o .end-of .ensures)
-      (h .held .given .1) (q .choose .ensures)
+      let o = ended (c .before .before) in let h = told o in let p = ran (h .before .before) in let w = turn p in let g = words (w .before) in
+      choosing-next (lent (g .before) .pre .1) (w .before .loop .inv) (w .loop-test .taken) (g .before .node-field .ensures)
+      (g .node-field2 .ensures) (p .eval-pred .ensures) (o .end-of .ensures) (h .held .given .1) (c .before .before .choose .ensures)
 
-  pub each-chosen-closed : {M : Type 1} → each-chosen-lts.Closed claims (each-chosen-at t) each-chosen.Post M
-  each-chosen-closed =
-      each-chosen-lts.spec
-      claims
-      (each-chosen-at t)
-      each-chosen.Post
-      each-chosen-Inv-loop
-      each-chosen-μ-loop
+  pub closed : {M : Type 1} → lts.Closed claims (each-chosen .at t) (each-chosen .post) M
+  closed =
+      lts.spec claims (each-chosen .at t) (each-chosen .post) Inv μ
       (λ c κs. (binder-node (c .before .before .pre .1), lit< tt))
       (λ c κs. (binder-node (lent c .pre .1), lit< tt))
       (λ c. above-fits (lent (c .before .before) .pre .1))
@@ -179,20 +101,18 @@ module _ (t : ℕ) where
       (λ c. let f = words (c .before) .before in entry-scaled (f .node-field .ensures) (lent f .pre .1 .name))
       (λ c. let f = words (c .before) .before in entry-below (f .node-field .ensures) (lent f .pre .1 .name))
       eval-pred-requires
-      (λ c. c .match .keys1)
-      (λ c. c .match .keys2)
-      (λ c κs. tt)
-      same-length
+      (λ c. c .match .keys1) (λ c. c .match .keys2) (λ c κs. tt)
+      (λ c. let k = c .before in let p = ran (k .before .before) in p .eval-pred .kept .1 .1 .0 ∙ turn p .before .loop .inv .frame .kept)
       returns
       end-of-requires
       choose-requires
       (λ c. tt)
       add-chosen
-      sub-more
-      loop-less
+      (λ c. turn (ran (told (ended (c .before .before)) .before .before)) .loop-test .taken)
+      (λ c. one-less (turn (ran (told (ended (c .before .before)) .before .before)) .loop-test .taken))
       loop-again
-      (λ c. let l = c .before in let v = lent (words l .before) in omega (arith, choosing-near (v .pre .1) (l .loop .inv) .2))
-      (λ c. let l = c .before in let v = lent (words l .before) in top-scaled (v .pre .1))
-      (λ c. let l = c .before in let v = lent (words l .before) in top-inside (v .pre .1) (l .loop .inv .frame))
+      (λ c. let l = c .before in omega (arith, choosing-near (lent (words l .before) .pre .1) (l .loop .inv) .2))
+      (λ c. top-scaled (lent (words (c .before) .before) .pre .1))
+      (λ c. let l = c .before in top-inside (lent (words l .before) .pre .1) (l .loop .inv .frame))
       (λ c. written-kept _ (c .before .loop .inv .frame))
-      (λ c. let l = c .before in let v = lent (words l .before) in choosing-end (v .pre .1) (l .loop .inv) (omega (arith, c .loop-test .left)))
+      (λ c. let l = c .before in choosing-end (lent (words l .before) .pre .1) (l .loop .inv) (omega (arith, c .loop-test .left)))

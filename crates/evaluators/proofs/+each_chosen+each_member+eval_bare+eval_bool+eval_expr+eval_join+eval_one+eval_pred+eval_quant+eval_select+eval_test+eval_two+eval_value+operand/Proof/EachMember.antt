@@ -4,151 +4,88 @@ use Prim.Native.Nat.{ℕ}
 use mathlib.Core.Path.{_∙_}
 use native.Mathlib.Omega.{arith}
 use lib.Dec.{lit<}
-use Rattle.evaluators.proofs.each_member.Reads as each-member
-use Rattle.evaluators.proofs.eval_pred.Reads as eval-pred
-use Rattle.evaluators.proofs.+each_chosen+each_member+eval_bare+eval_bool+eval_expr+eval_join+eval_one+eval_pred+eval_quant+eval_select+eval_test+eval_two+eval_value+operand.Lts-each_member as each-member-lts
-use Rattle.arena.proofs.end_of.Reads as end-of-reads
-use Rattle.table.proofs.node_field.Reads as node-field-reads
-use Rattle.evaluators.proofs.+each_chosen+each_member+eval_bare+eval_bool+eval_expr+eval_join+eval_one+eval_pred+eval_quant+eval_select+eval_test+eval_two+eval_value+operand.Proof.Base.{each-member-at, eval-pred-below}
+use borrow.Fn.Kinds.{In, Out}
+use Rattle.evaluators.proofs.+each_chosen+each_member+eval_bare+eval_bool+eval_expr+eval_join+eval_one+eval_pred+eval_quant+eval_select+eval_test+eval_two+eval_value+operand.Lts-each_member as lts
+use Rattle.arena.proofs.end_of.Reads as end-of
+use Rattle.table.proofs.node_field.Reads as field
+use Rattle.evaluators.proofs.+each_chosen+each_member+eval_bare+eval_bool+eval_expr+eval_join+eval_one+eval_pred+eval_quant+eval_select+eval_test+eval_two+eval_value+operand.Proof.Base.{each-member, eval-pred}
 use Rattle.evaluators.proofs.SafeLaws.{one-less, binder-node, entry-below, entry-scaled}
 use Rattle.evaluators.proofs.QuantLaws.{differ, agree, Turning, turning-start, member-low, member-stands, body-ready, member-refused, member-decides, turning-on, members-done}
 
-abbrev each-member-Inv-loop : each-member-lts.InvT-loop
-each-member-Inv-loop table env s₀ top all node from count left x body inner₀ at₀ more₀ n₀ s inner at more n =
+abbrev Inv : lts.InvT-loop
+Inv table env s₀ top all node from count left x body inner₀ at₀ more₀ n₀ s inner at more n =
     Turning table env s₀ top all node from count left x s inner at more n
 
-abbrev each-member-μ-loop : each-member-lts.MeasureT-loop
-each-member-μ-loop table env s₀ top all node from count left x body inner₀ at₀ more₀ n₀ s inner at more n = more
+abbrev μ : lts.MeasureT-loop
+μ table env s₀ top all node from count left x body inner₀ at₀ more₀ n₀ s inner at more n = more
 
 module _ (t : ℕ) where
-  abbrev claims : each-member-lts.Claims
-  claims = (node-field-reads.Asked, node-field-reads.Learnt, eval-pred-below t, eval-pred.Post, end-of-reads.Asked, end-of-reads.Learnt)
+  abbrev claims : lts.Claims
+  claims = (field.Asked, field.Learnt, eval-pred .below t, eval-pred .post, end-of.Asked, end-of.Learnt)
 
-  abbrev lent : each-member-lts.After-node-field claims (each-member-at t) each-member.Post each-member-Inv-loop each-member-μ-loop →
-      each-member-lts.Start claims (each-member-at t) each-member.Post each-member-Inv-loop each-member-μ-loop
+  abbrev Here : (lts.Claims → In 3 lts.ps → Out 3 lts.ps lts.r → lts.InvT-loop → lts.MeasureT-loop → Type 0) → Type 0
+  Here T = T claims (each-member .at t) (each-member .post) Inv μ
+
+  abbrev lent : Here lts.After-node-field → Here lts.Start
   lent c = c .before .before .before
 
-  abbrev words : each-member-lts.At-loop claims (each-member-at t) each-member.Post each-member-Inv-loop each-member-μ-loop →
-      each-member-lts.After-node-field2 claims (each-member-at t) each-member.Post each-member-Inv-loop each-member-μ-loop
+  abbrev words : Here lts.At-loop → Here lts.After-node-field2
   words c = c .before .before
 
-  abbrev turn : each-member-lts.After-eval-pred claims (each-member-at t) each-member.Post each-member-Inv-loop each-member-μ-loop →
-      each-member-lts.In-loop claims (each-member-at t) each-member.Post each-member-Inv-loop each-member-μ-loop
+  abbrev turn : Here lts.After-eval-pred → Here lts.In-loop
   turn c = c .before .before .before
 
-  abbrev ran : each-member-lts.After-slice-known2 claims (each-member-at t) each-member.Post each-member-Inv-loop each-member-μ-loop →
-      each-member-lts.After-eval-pred claims (each-member-at t) each-member.Post each-member-Inv-loop each-member-μ-loop
+  abbrev ran : Here lts.After-slice-known2 → Here lts.After-eval-pred
   ran c = c .before .before
 
-  cast-inner : each-member-lts.Need-cast-inner claims (each-member-at t) each-member.Post each-member-Inv-loop each-member-μ-loop
-  cast-inner c =
-      let l = c .before in
-      let v = lent (words l .before) in
-      record { fits = member-low (v .pre .1) (l .loop .inv) (omega (arith, c .loop-test .taken)) }
-
-  eval-pred-requires : each-member-lts.Need-eval-pred-requires claims (each-member-at t) each-member.Post each-member-Inv-loop each-member-μ-loop
+  eval-pred-requires : Here lts.Need-eval-pred-requires
   eval-pred-requires c κs =
-      let w = c .before .before in
-      let l = w .before in
-      let g = words l in
-      let f = g .before in
-      let v = lent f in (
+      let w = c .before .before in let g = words (w .before) in let v = lent (g .before) in (
         omega (arith, v .pre .0, v .pre .1 .deeper, g .node-field2 .ensures),
-        body-ready (v .pre .1) (l .loop .inv) (omega (arith, w .loop-test .taken))
-            (f .node-field .ensures) (g .node-field2 .ensures),
+        body-ready (v .pre .1) (w .before .loop .inv) (w .loop-test .taken) (g .before .node-field .ensures) (g .node-field2 .ensures),
       )
 
-  returns : each-member-lts.Need-returns claims (each-member-at t) each-member.Post each-member-Inv-loop each-member-μ-loop
+  returns : Here lts.Need-returns
   returns c =
-      let p = ran (c .before .before) in
-      let w = turn p in
-      let l = w .before in
-      let g = words l in
-      let f = g .before in
-      let v = lent f in
-      member-refused (v .pre .1) (l .loop .inv) (omega (arith, w .loop-test .taken)) (f .node-field .ensures) (g .node-field2 .ensures)
-      (p .eval-pred .ensures) (c .enum-told .given .1)
+      let p = ran (c .before .before) in let w = turn p in let g = words (w .before) in
+      member-refused (lent (g .before) .pre .1) (w .before .loop .inv) (w .loop-test .taken) (g .before .node-field .ensures)
+      (g .node-field2 .ensures) (p .eval-pred .ensures) (c .enum-told .given .1)
 
-  same-length-2 : each-member-lts.Need-same-length-2 claims (each-member-at t) each-member.Post each-member-Inv-loop each-member-μ-loop
-  same-length-2 c =
-      let h = c .before .before in
-      let p = ran (h .before .before) in
-      p .eval-pred .kept .1 .1 .0 ∙ turn p .before .loop .inv .frame .kept
-
-  returns-2 : each-member-lts.Need-returns-2 claims (each-member-at t) each-member.Post each-member-Inv-loop each-member-μ-loop
+  returns-2 : Here lts.Need-returns-2
   returns-2 c =
-      let h = c .before .before in
-      let p = ran (h .before .before) in
-      let w = turn p in
-      let l = w .before in
-      let g = words l in
-      let f = g .before in
-      let v = lent f in
-      member-decides (v .pre .1) (l .loop .inv) (omega (arith, w .loop-test .taken)) (f .node-field .ensures) (g .node-field2 .ensures)
-      (p .eval-pred .ensures) _ _
-      (h .held .given .1) (differ _ _ (c .if1 .taken))
+      let h = c .before .before in let p = ran (h .before .before) in let w = turn p in let g = words (w .before) in
+      member-decides (lent (g .before) .pre .1) (w .before .loop .inv) (w .loop-test .taken) (g .before .node-field .ensures)
+      (g .node-field2 .ensures) (p .eval-pred .ensures) _ _ (h .held .given .1) (differ _ _ (c .if1 .taken))
 
-  end-of-requires : each-member-lts.Need-end-of-requires claims (each-member-at t) each-member.Post each-member-Inv-loop each-member-μ-loop
+  end-of-requires : Here lts.Need-end-of-requires
   end-of-requires c κs =
-      let h = c .before .before .before in
-      let p = ran (h .before .before) in
-      let w = turn p in
-      let l = w .before in
-      let g = words l in
-      let f = g .before in
-      let v = lent f in
-      member-stands (v .pre .1) (l .loop .inv) (omega (arith, w .loop-test .taken)) _ (p .eval-pred .ensures .frame)
+      let h = c .before .before .before in let p = ran (h .before .before) in let w = turn p in let v = lent (words (w .before) .before) in
+      member-stands (v .pre .1) (w .before .loop .inv) (w .loop-test .taken) _ (p .eval-pred .ensures .frame)
 
-  sub-more : each-member-lts.Need-sub-more claims (each-member-at t) each-member.Post each-member-Inv-loop each-member-μ-loop
-  sub-more c =
-      let i = c .before .before in
-      let h = i .before .before in
-      turn (ran (h .before .before)) .loop-test .taken
-
-  loop-less : each-member-lts.Need-loop-less claims (each-member-at t) each-member.Post each-member-Inv-loop each-member-μ-loop
-  loop-less c =
-      let i = c .before .before in
-      let h = i .before .before in
-      one-less (turn (ran (h .before .before)) .loop-test .taken)
-
-  loop-again : each-member-lts.Need-loop-again claims (each-member-at t) each-member.Post each-member-Inv-loop each-member-μ-loop
+  loop-again : Here lts.Need-loop-again
   loop-again c =
-      let i = c .before .before in
-      let h = i .before .before in
-      let p = ran (h .before .before) in
-      let w = turn p in
-      let l = w .before in
-      let g = words l in
-      let f = g .before in
-      let v = lent f in
-      turning-on (v .pre .1) (l .loop .inv) (omega (arith, w .loop-test .taken)) (f .node-field .ensures) (g .node-field2 .ensures)
-      (p .eval-pred .ensures) _ _ _
-      (h .held .given .1) (agree _ _ (i .if1 .left)) (c .end-of .ensures)
+      let i = c .before .before in let h = i .before .before in let p = ran (h .before .before) in let w = turn p in let g = words (w .before) in
+      turning-on (lent (g .before) .pre .1) (w .before .loop .inv) (w .loop-test .taken) (g .before .node-field .ensures)
+      (g .node-field2 .ensures) (p .eval-pred .ensures) _ _ _ (h .held .given .1) (agree _ _ (i .if1 .left)) (c .end-of .ensures)
 
-  pub each-member-closed : {M : Type 1} → each-member-lts.Closed claims (each-member-at t) each-member.Post M
-  each-member-closed =
-      each-member-lts.spec
-      claims
-      (each-member-at t)
-      each-member.Post
-      each-member-Inv-loop
-      each-member-μ-loop
+  pub closed : {M : Type 1} → lts.Closed claims (each-member .at t) (each-member .post) M
+  closed =
+      lts.spec claims (each-member .at t) (each-member .post) Inv μ
       (λ c κs. (binder-node (c .before .before .pre .1), lit< tt))
       (λ c κs. (binder-node (lent c .pre .1), lit< tt))
       (λ c. turning-start _ _ (lent (c .before .before) .pre .1))
-      cast-inner
+      (λ c. let l = c .before in record { fits = member-low (lent (words l .before) .pre .1) (l .loop .inv) (c .loop-test .taken) })
       (λ c. let f = words (c .before) .before in entry-scaled (f .node-field .ensures) (lent f .pre .1 .name))
       (λ c. let f = words (c .before) .before in entry-below (f .node-field .ensures) (lent f .pre .1 .name))
       eval-pred-requires
-      (λ c. c .match .keys1)
-      (λ c. c .match .keys2)
+      (λ c. c .match .keys1) (λ c. c .match .keys2)
       (λ c. let p = ran (c .before .before) in p .eval-pred .kept .1 .1 .0 ∙ turn p .before .loop .inv .frame .kept)
       returns
-      same-length-2
+      (λ c. let h = c .before .before in let p = ran (h .before .before) in p .eval-pred .kept .1 .1 .0 ∙ turn p .before .loop .inv .frame .kept)
       returns-2
       end-of-requires
-      sub-more
-      loop-less
+      (λ c. let i = c .before .before in let h = i .before .before in turn (ran (h .before .before)) .loop-test .taken)
+      (λ c. let i = c .before .before in let h = i .before .before in one-less (turn (ran (h .before .before)) .loop-test .taken))
       loop-again
       (λ c. c .before .loop .inv .frame .kept)
       (λ c. members-done (c .before .loop .inv) (omega (arith, c .loop-test .left)))

@@ -4,96 +4,65 @@ use Prim.Native.Nat.{ℕ}
 use mathlib.Core.Path.{refl, sym, _∙_}
 use mathlib.Core.Logic.{⊎-elim}
 use native.Mathlib.Omega.{arith}
-use Rattle.evaluators.proofs.eval_join.Reads as eval-join
-use Rattle.evaluators.proofs.eval_bare.Reads as eval-bare
-use Rattle.evaluators.proofs.eval_quant.Reads as eval-quant
-use Rattle.evaluators.proofs.eval_test.Reads as eval-test
-use Rattle.evaluators.proofs.+each_chosen+each_member+eval_bare+eval_bool+eval_expr+eval_join+eval_one+eval_pred+eval_quant+eval_select+eval_test+eval_two+eval_value+operand.Lts-eval_bare as eval-bare-lts
-use Rattle.table.proofs.node_kind.Reads as node-kind-reads
-use Rattle.evaluators.proofs.refused.Reads as refused-reads
-use Rattle.evaluators.proofs.+each_chosen+each_member+eval_bare+eval_bool+eval_expr+eval_join+eval_one+eval_pred+eval_quant+eval_select+eval_test+eval_two+eval_value+operand.Proof.Base.{eval-join-below, eval-bare-at, eval-quant-below, eval-test-below}
+use denote.Ref.{now}
+use Rattle.evaluators.specs.Cycle.{Visited}
+use Rattle.evaluators.proofs.+each_chosen+each_member+eval_bare+eval_bool+eval_expr+eval_join+eval_one+eval_pred+eval_quant+eval_select+eval_test+eval_two+eval_value+operand.Lts-eval_bare as lts
+use Rattle.table.proofs.node_kind.Reads as kind
+use Rattle.evaluators.proofs.refused.Reads as refused
+use Rattle.evaluators.proofs.+each_chosen+each_member+eval_bare+eval_bool+eval_expr+eval_join+eval_one+eval_pred+eval_quant+eval_select+eval_test+eval_two+eval_value+operand.Proof.Base.{Over, eval-bare, eval-join as join, eval-quant as quant, eval-test as test}
 use Rattle.evaluators.proofs.SafeLaws.{ready-node}
 use Rattle.evaluators.proofs.NodeLaws.{held-as}
 use Rattle.evaluators.proofs.DispatchLaws.{spent-pred, counted, predicate-code, test-sort, quant-sort, join-kind}
 
 module _ (t : ℕ) where
-  abbrev claims : eval-bare-lts.Claims
-  claims = (
-    refused-reads.Asked,
-    refused-reads.Learnt,
-    node-kind-reads.Asked,
-    node-kind-reads.Learnt,
-    eval-test-below t,
-    eval-test.Post,
-    eval-quant-below t,
-    eval-quant.Post,
-    eval-join-below t,
-    eval-join.Post,
-  )
+  abbrev claims : lts.Claims
+  claims = (refused.Asked, refused.Learnt, kind.Asked, kind.Learnt, test .below t, test .post, quant .below t, quant .post, join .below t, join .post)
 
-  abbrev lent : eval-bare-lts.After-node-kind claims (eval-bare-at t) eval-bare.Post → eval-bare-lts.Start claims (eval-bare-at t) eval-bare.Post
+  abbrev Here : Over lts.Claims lts.ps lts.r → Type 0
+  Here T = T claims (eval-bare .at t) (eval-bare .post)
+
+  abbrev lent : Here lts.After-node-kind → Here lts.Start
   lent c = let i = c .before in i .before .before .before
 
-  abbrev kinded : eval-bare-lts.Then3 claims (eval-bare-at t) eval-bare.Post → eval-bare-lts.After-node-kind claims (eval-bare-at t) eval-bare.Post
+  abbrev kinded : Here lts.Then3 → Here lts.After-node-kind
   kinded c = c .before .before
 
-  returns : eval-bare-lts.Need-returns claims (eval-bare-at t) eval-bare.Post
-  returns c =
-      let k = c .before in
-      let v = k .before .before .before in
-      held-as refl (sym (c .refused .ensures)) (spent-pred (v .pre .1 .0) (k .if1 .taken))
+  visit : (k : Here lts.After-node-kind) → let a = lent k .args in
+      Visited (now (a .table)) (now (a .env)) (now (a .s)) (a .top) (k .node-kind .result) (a .node) (a .left)
+  visit k = counted (lent k .pre .1 .0) _ (k .before .if1 .left) (k .node-kind .ensures)
 
-  eval-test-requires : eval-bare-lts.Need-eval-test-requires claims (eval-bare-at t) eval-bare.Post
+  eval-test-requires : Here lts.Need-eval-test-requires
   eval-test-requires c κs =
-      let a = c .before in
-      let b = a .before in
-      let k = kinded (b .before) in
-      let v = lent k in
-      (omega (arith, v .pre .0), (counted (v .pre .1 .0) _ (k .before .if1 .left) (k .node-kind .ensures), test-sort _ (b .if4 .left) (a .if5 .taken)))
+      let a = c .before in let b = a .before in let k = kinded (b .before) in
+      (omega (arith, lent k .pre .0), (visit k, test-sort _ (b .if4 .left) (a .if5 .taken)))
 
-  eval-quant-requires : eval-bare-lts.Need-eval-quant-requires claims (eval-bare-at t) eval-bare.Post
+  eval-quant-requires : Here lts.Need-eval-quant-requires
   eval-quant-requires c κs =
-      let a = c .before in
-      let b = a .before in
-      let k = kinded (b .before .before) in
-      let v = lent k in
-      (omega (arith, v .pre .0), (counted (v .pre .1 .0) _ (k .before .if1 .left) (k .node-kind .ensures), quant-sort _ (b .if5 .left) (a .if6 .taken)))
+      let a = c .before in let b = a .before in let k = kinded (b .before .before) in
+      (omega (arith, lent k .pre .0), (visit k, quant-sort _ (b .if5 .left) (a .if6 .taken)))
 
-  eval-join-requires : eval-bare-lts.Need-eval-join-requires claims (eval-bare-at t) eval-bare.Post
+  eval-join-requires : Here lts.Need-eval-join-requires
   eval-join-requires c κs =
-      let j = c .before in
-      let r = j .before in
-      let k = kinded r in
-      let v = lent k in
-      let d = counted (v .pre .1 .0) _ (k .before .if1 .left) (k .node-kind .ensures) in
+      let j = c .before in let r = j .before in let k = kinded r in let d = visit k in let p = lent k .pre .1 in
       let below = ⊎-elim (λ w. w .taken) (λ w. absurd (omega (arith, w .2 .left, r .if3 .taken))) (j .if4 .came) in
-      (omega (arith, v .pre .0), (d, join-kind d (v .pre .1 .1) (λ e. v .pre .1 .2 (d .unspent) (sym (k .node-kind .ensures) ∙ e)) below))
+      (omega (arith, lent k .pre .0), (d, join-kind d (p .1) (λ e. p .2 (d .unspent) (sym (k .node-kind .ensures) ∙ e)) below))
 
-  returns-5 : eval-bare-lts.Need-returns-5 claims (eval-bare-at t) eval-bare.Post
+  returns-5 : Here lts.Need-returns-5
   returns-5 c =
-      let j = c .before in
-      let k = j .before in
-      let v = lent k in
-      let r = predicate-code (counted (v .pre .1 .0) _ (k .before .if1 .left) (k .node-kind .ensures)) (v .pre .1 .1) in
+      let j = c .before in let r = predicate-code (visit (j .before)) (lent (j .before) .pre .1 .1) in
       ⊎-elim (λ w. absurd (omega (arith, r, w .taken))) (λ w. absurd (omega (arith, r, w .1 .left))) (j .if2 .came)
 
-  pub eval-bare-closed : {M : Type 1} → eval-bare-lts.Closed claims (eval-bare-at t) eval-bare.Post M
-  eval-bare-closed =
-      eval-bare-lts.spec
-      claims
-      (eval-bare-at t)
-      eval-bare.Post
+  pub closed : {M : Type 1} → lts.Closed claims (eval-bare .at t) (eval-bare .post) M
+  closed =
+      lts.spec claims (eval-bare .at t) (eval-bare .post)
       (λ c κs. tt)
-      returns
-      (λ c κs. let v = c .before .before .before in ready-node (v .pre .1 .0))
+      (λ c. let k = c .before in held-as refl (sym (c .refused .ensures)) (spent-pred (k .before .before .before .pre .1 .0) (k .if1 .taken)))
+      (λ c κs. ready-node (c .before .before .before .pre .1 .0))
       eval-test-requires
       eval-quant-requires
       eval-join-requires
       (λ c κs. tt)
-      (λ c. c .before .before .eval-test .kept .1 .1 .0)
-      (λ c. c .before .before .eval-test .ensures)
-      (λ c. c .before .before .eval-quant .kept .1 .1 .0)
-      (λ c. c .before .before .eval-quant .ensures)
-      (λ c. c .before .before .eval-join .kept .1 .1 .0)
-      (λ c. c .before .before .eval-join .ensures)
+      (λ c. c .before .before .eval-test .kept .1 .1 .0) (λ c. c .before .before .eval-test .ensures)
+      (λ c. c .before .before .eval-quant .kept .1 .1 .0) (λ c. c .before .before .eval-quant .ensures)
+      (λ c. c .before .before .eval-join .kept .1 .1 .0) (λ c. c .before .before .eval-join .ensures)
       returns-5

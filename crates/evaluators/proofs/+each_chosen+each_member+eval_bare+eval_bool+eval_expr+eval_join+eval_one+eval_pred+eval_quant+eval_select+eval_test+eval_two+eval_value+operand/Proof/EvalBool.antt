@@ -4,90 +4,62 @@ use Prim.Native.Nat.{ℕ}
 use mathlib.Core.Path.{refl, _∙_}
 use native.Mathlib.Omega.{arith}
 use lib.Dec.{lit<}
-use Rattle.evaluators.proofs.eval_bool.Reads as eval-bool
-use Rattle.evaluators.proofs.eval_pred.Reads as eval-pred
-use Rattle.evaluators.proofs.+each_chosen+each_member+eval_bare+eval_bool+eval_expr+eval_join+eval_one+eval_pred+eval_quant+eval_select+eval_test+eval_two+eval_value+operand.Lts-eval_bool as eval-bool-lts
-use Rattle.table.proofs.node_field.Reads as node-field-reads
-use Rattle.products.proofs.put_cell.Reads as put-cell-reads
-use Rattle.evaluators.proofs.stop_of.Reads as stop-of-reads
-use Rattle.evaluators.proofs.+each_chosen+each_member+eval_bare+eval_bool+eval_expr+eval_join+eval_one+eval_pred+eval_quant+eval_select+eval_test+eval_two+eval_value+operand.Proof.Base.{eval-bool-at, eval-pred-below}
+use Rattle.evaluators.proofs.+each_chosen+each_member+eval_bare+eval_bool+eval_expr+eval_join+eval_one+eval_pred+eval_quant+eval_select+eval_test+eval_two+eval_value+operand.Lts-eval_bool as lts
+use Rattle.table.proofs.node_field.Reads as field
+use Rattle.products.proofs.put_cell.Reads as put-cell
+use Rattle.evaluators.proofs.stop_of.Reads as stop-of
+use Rattle.evaluators.proofs.+each_chosen+each_member+eval_bare+eval_bool+eval_expr+eval_join+eval_one+eval_pred+eval_quant+eval_select+eval_test+eval_two+eval_value+operand.Proof.Base.{Over, eval-bool, eval-pred}
 use Rattle.evaluators.proofs.SafeLaws.{ready-node, cell-room}
 use Rattle.evaluators.proofs.NodeLaws.{held-as, formed-as, stop-is}
 use Rattle.evaluators.proofs.FormLaws.{byte-small, bool-child, bool-builds, bool-begins, bool-fails, bool-evaluates}
 
 module _ (t : ℕ) where
-  abbrev claims : eval-bool-lts.Claims
-  claims = (
-    node-field-reads.Asked,
-    node-field-reads.Learnt,
-    eval-pred-below t,
-    eval-pred.Post,
-    stop-of-reads.Asked,
-    stop-of-reads.Learnt,
-    put-cell-reads.Asked,
-    put-cell-reads.Learnt,
-  )
+  abbrev claims : lts.Claims
+  claims = (field.Asked, field.Learnt, eval-pred .below t, eval-pred .post, stop-of.Asked, stop-of.Learnt, put-cell.Asked, put-cell.Learnt)
 
-  abbrev lent : eval-bool-lts.After-node-field claims (eval-bool-at t) eval-bool.Post → eval-bool-lts.Start claims (eval-bool-at t) eval-bool.Post
+  abbrev Here : Over lts.Claims lts.ps lts.r → Type 0
+  Here T = T claims (eval-bool .at t) (eval-bool .post)
+
+  abbrev lent : Here lts.After-node-field → Here lts.Start
   lent c = c .before .before .before
 
-  abbrev word : eval-bool-lts.After-eval-pred claims (eval-bool-at t) eval-bool.Post → eval-bool-lts.After-node-field claims (eval-bool-at t) eval-bool.Post
+  abbrev word : Here lts.After-eval-pred → Here lts.After-node-field
   word c = c .before .before
 
-  abbrev ran : eval-bool-lts.After-slice-known2 claims (eval-bool-at t) eval-bool.Post → eval-bool-lts.After-eval-pred claims (eval-bool-at t) eval-bool.Post
+  abbrev ran : Here lts.After-slice-known2 → Here lts.After-eval-pred
   ran c = c .before .before
 
-  eval-pred-requires : eval-bool-lts.Need-eval-pred-requires claims (eval-bool-at t) eval-bool.Post
+  eval-pred-requires : Here lts.Need-eval-pred-requires
   eval-pred-requires c κs =
-      let f = c .before in
-      let v = lent f in
+      let f = c .before in let v = lent f in
       (omega (arith, v .pre .0, bool-child (v .pre .1) (f .node-field .ensures) .below), bool-begins (v .pre .1) (f .node-field .ensures))
 
-  returns : eval-bool-lts.Need-returns claims (eval-bool-at t) eval-bool.Post
+  returns : Here lts.Need-returns
   returns c =
-      let k = c .before in
-      let e = ran (k .before .before) in
-      let f = word e in
-      let q = k .enum-told .given .1 in
+      let k = c .before in let e = ran (k .before .before) in let f = word e in let q = k .enum-told .given .1 in
       formed-as refl (stop-is q (c .stop-of .ensures)) (bool-fails (lent f .pre .1) (f .node-field .ensures) (held-as refl q (e .eval-pred .ensures)))
 
-  put-cell-requires : eval-bool-lts.Need-put-cell-requires claims (eval-bool-at t) eval-bool.Post
+  put-cell-requires : Here lts.Need-put-cell-requires
   put-cell-requires c κs =
-      let m = c .before .before in
-      let e = ran (m .before .before) in
-      let f = word e in
+      let m = c .before .before in let e = ran (m .before .before) in let f = word e in
       cell-room (lent f .pre .1 .ready) (bool-builds (lent f .pre .1) (f .node-field .ensures)) (e .eval-pred .ensures .frame)
 
-  same-length-2 : eval-bool-lts.Need-same-length-2 claims (eval-bool-at t) eval-bool.Post
-  same-length-2 c =
-      let p = c .before .before in
-      let m = p .before .before .before in
-      p .put-cell .kept .0 ∙ ran (m .before .before) .eval-pred .kept .1 .1 .0
-
-  returns-2 : eval-bool-lts.Need-returns-2 claims (eval-bool-at t) eval-bool.Post
+  returns-2 : Here lts.Need-returns-2
   returns-2 c =
-      let p = c .before .before in
-      let m = p .before .before .before in
-      let e = ran (m .before .before) in
-      let f = word e in
+      let p = c .before .before in let m = p .before .before .before in let e = ran (m .before .before) in let f = word e in
       bool-evaluates (lent f .pre .1) (f .node-field .ensures) (held-as refl (m .held .given .1) (e .eval-pred .ensures)) (p .put-cell .ensures)
 
-  pub eval-bool-closed : {M : Type 1} → eval-bool-lts.Closed claims (eval-bool-at t) eval-bool.Post M
-  eval-bool-closed =
-      eval-bool-lts.spec
-      claims
-      (eval-bool-at t)
-      eval-bool.Post
+  pub closed : {M : Type 1} → lts.Closed claims (eval-bool .at t) (eval-bool .post) M
+  closed =
+      lts.spec claims (eval-bool .at t) (eval-bool .post)
       (λ c κs. (ready-node (c .before .before .pre .1 .ready), lit< tt))
-      (λ c. omega (arith, lent (c .before) .pre .1 .unspent))
+      (λ c. lent (c .before) .pre .1 .unspent)
       eval-pred-requires
-      (λ c. c .match .keys1)
-      (λ c. c .match .keys2)
-      (λ c κs. tt)
+      (λ c. c .match .keys1) (λ c. c .match .keys2) (λ c κs. tt)
       (λ c. let k = c .before in ran (k .before .before) .eval-pred .kept .1 .1 .0)
       returns
       (λ c. tt)
       (λ c. omega (arith, byte-small (c .before .before .held .given .0 .0)))
       put-cell-requires
-      same-length-2
+      (λ c. let p = c .before .before in let m = p .before .before .before in p .put-cell .kept .0 ∙ ran (m .before .before) .eval-pred .kept .1 .1 .0)
       returns-2

@@ -2,155 +2,106 @@
 -- for the operands, and whether the first decides.
 use Prim.Native.Nat.{ℕ}
 use native.Mathlib.Omega.{arith}
-use mathlib.Core.Path.{_∙_}
+use mathlib.Core.Path.{_∙_, refl}
 use lib.Dec.{lit<}
-use Rattle.evaluators.proofs.eval_join.Reads as eval-join
-use Rattle.evaluators.proofs.eval_pred.Reads as eval-pred
-use Rattle.evaluators.proofs.+each_chosen+each_member+eval_bare+eval_bool+eval_expr+eval_join+eval_one+eval_pred+eval_quant+eval_select+eval_test+eval_two+eval_value+operand.Lts-eval_join as eval-join-lts
-use Rattle.evaluators.proofs.decides.Reads as decides-reads
-use Rattle.evaluators.proofs.joined.Reads as joined-reads
-use Rattle.table.proofs.node_field.Reads as node-field-reads
-use Rattle.evaluators.proofs.+each_chosen+each_member+eval_bare+eval_bool+eval_expr+eval_join+eval_one+eval_pred+eval_quant+eval_select+eval_test+eval_two+eval_value+operand.Proof.Base.{eval-join-at, eval-pred-below}
+use Rattle.rules.specs.Kinds.{join, predicate}
+use Rattle.evaluators.proofs.+each_chosen+each_member+eval_bare+eval_bool+eval_expr+eval_join+eval_one+eval_pred+eval_quant+eval_select+eval_test+eval_two+eval_value+operand.Lts-eval_join as lts
+use Rattle.evaluators.proofs.decides.Reads as decides
+use Rattle.evaluators.proofs.joined.Reads as joined
+use Rattle.table.proofs.node_field.Reads as field
+use Rattle.evaluators.proofs.+each_chosen+each_member+eval_bare+eval_bool+eval_expr+eval_join+eval_one+eval_pred+eval_quant+eval_select+eval_test+eval_two+eval_value+operand.Proof.Base.{Over, eval-join, eval-pred}
 use Rattle.evaluators.proofs.SafeLaws.{ready-node}
-use Rattle.evaluators.proofs.JoinLaws.{join-child, join-begins, join-stays, join-short, join-next, join-ready, join-stays-2, join-both}
+use Rattle.evaluators.proofs.NodeLaws.{visited-child}
+use Rattle.evaluators.proofs.JoinLaws.{join-child, join-begins, join-stays, join-short, join-ready, join-stays-2, join-both}
 
 module _ (t : ℕ) where
-  abbrev claims : eval-join-lts.Claims
-  claims = (
-    node-field-reads.Asked,
-    node-field-reads.Learnt,
-    eval-pred-below t,
-    eval-pred.Post,
-    decides-reads.Asked,
-    decides-reads.Learnt,
-    joined-reads.Asked,
-    joined-reads.Learnt,
-  )
+  abbrev claims : lts.Claims
+  claims = (field.Asked, field.Learnt, eval-pred .below t, eval-pred .post, decides.Asked, decides.Learnt, joined.Asked, joined.Learnt)
 
-  abbrev lent : eval-join-lts.After-node-field claims (eval-join-at t) eval-join.Post → eval-join-lts.Start claims (eval-join-at t) eval-join.Post
+  abbrev Here : Over lts.Claims lts.ps lts.r → Type 0
+  Here T = T claims (eval-join .at t) (eval-join .post)
+
+  abbrev lent : Here lts.After-node-field → Here lts.Start
   lent c = c .before .before .before
 
-  abbrev word : eval-join-lts.After-eval-pred claims (eval-join-at t) eval-join.Post → eval-join-lts.After-node-field claims (eval-join-at t) eval-join.Post
+  abbrev word : Here lts.After-eval-pred → Here lts.After-node-field
   word c = c .before .before
 
-  abbrev ran : eval-join-lts.After-slice-known2 claims (eval-join-at t) eval-join.Post → eval-join-lts.After-eval-pred claims (eval-join-at t) eval-join.Post
+  abbrev ran : Here lts.After-slice-known2 → Here lts.After-eval-pred
   ran c = c .before .before
 
-  abbrev held : eval-join-lts.After-decides claims (eval-join-at t) eval-join.Post → eval-join-lts.After-first claims (eval-join-at t) eval-join.Post
+  abbrev held : Here lts.After-decides → Here lts.After-first
   held c = c .before .before
 
-  abbrev decided : eval-join-lts.After-node-field2 claims (eval-join-at t) eval-join.Post → eval-join-lts.After-decides claims (eval-join-at t) eval-join.Post
+  abbrev first : Here lts.After-decides → Here lts.After-eval-pred
+  first c = ran (held c .before .before)
+
+  abbrev decided : Here lts.After-node-field2 → Here lts.After-decides
   decided c = c .before .before
 
-  abbrev word₂ : eval-join-lts.After-eval-pred2 claims (eval-join-at t) eval-join.Post → eval-join-lts.After-node-field2 claims (eval-join-at t) eval-join.Post
+  abbrev word₂ : Here lts.After-eval-pred2 → Here lts.After-node-field2
   word₂ c = c .before .before
 
-  abbrev ran₂ : eval-join-lts.After-slice-known3 claims (eval-join-at t) eval-join.Post → eval-join-lts.After-eval-pred2 claims (eval-join-at t) eval-join.Post
+  abbrev ran₂ : Here lts.After-slice-known3 → Here lts.After-eval-pred2
   ran₂ c = c .before .before
 
-  eval-pred-requires : eval-join-lts.Need-eval-pred-requires claims (eval-join-at t) eval-join.Post
+  eval-pred-requires : Here lts.Need-eval-pred-requires
   eval-pred-requires c κs =
-      let f = c .before in
-      let v = lent f in
-      let d = join-child (v .pre .1 .0) (v .pre .1 .1 .0) (v .pre .1 .1 .1) (f .node-field .ensures) in
-      (omega (arith, v .pre .0, d .below), join-begins (v .pre .1 .0) (v .pre .1 .1 .0) (v .pre .1 .1 .1) (f .node-field .ensures))
+      let f = c .before in let p = lent f .pre .1 in
+      let d = join-child (p .0) (p .1 .0) (p .1 .1) (f .node-field .ensures) in
+      (omega (arith, lent f .pre .0, d .below), join-begins (p .0) (p .1 .0) (p .1 .1) (f .node-field .ensures))
 
-  returns : eval-join-lts.Need-returns claims (eval-join-at t) eval-join.Post
+  returns : Here lts.Need-returns
   returns c =
-      let e = ran (c .before .before) in
-      let f = word e in
-      let v = lent f in
-      join-stays (v .pre .1 .0) (v .pre .1 .1 .0) (v .pre .1 .1 .1) (f .node-field .ensures) (e .eval-pred .ensures) (c .enum-told .given .1)
+      let e = ran (c .before .before) in let p = lent (word e) .pre .1 in
+      join-stays (p .0) (p .1 .0) (p .1 .1) (word e .node-field .ensures) (e .eval-pred .ensures) (c .enum-told .given .1)
 
-  returns-2 : eval-join-lts.Need-returns-2 claims (eval-join-at t) eval-join.Post
+  returns-2 : Here lts.Need-returns-2
   returns-2 c =
-      let k = c .before in
-      let m = held k in
-      let e = ran (m .before .before) in
-      let f = word e in
-      let v = lent f in
-      join-short (v .pre .1 .0) (v .pre .1 .1 .0) (v .pre .1 .1 .1)
-      (f .node-field .ensures) (e .eval-pred .ensures) (m .first .given .1) (k .decides .ensures) (c .if1 .taken)
+      let k = c .before in let e = first k in let p = lent (word e) .pre .1 in
+      join-short (p .0) (p .1 .0) (p .1 .1) (word e .node-field .ensures) (e .eval-pred .ensures) (held k .first .given .1) (k .decides .ensures)
+      (c .if1 .taken)
 
-  eval-pred-requires-2 : eval-join-lts.Need-eval-pred-requires-2 claims (eval-join-at t) eval-join.Post
+  eval-pred-requires-2 : Here lts.Need-eval-pred-requires-2
   eval-pred-requires-2 c κs =
-      let g = c .before in
-      let k = decided g in
-      let m = held k in
-      let e = ran (m .before .before) in
-      let f = word e in
-      let v = lent f in
-      let d = join-next (v .pre .1 .0) (v .pre .1 .1 .0) (v .pre .1 .1 .1)
-      (f .node-field .ensures) (e .eval-pred .ensures) (m .first .given .1) (k .decides .ensures) (g .before .if1 .left)
-      (g .node-field2 .ensures) in (
+      let g = c .before in let k = decided g in let e = first k in let v = lent (word e) in let p = v .pre .1 in
+      let d = visited-child (p .0) (join (p .1 .0)) (p .1 .1) predicate 1 _ (omega arith) (omega arith) refl (g .node-field2 .ensures) in (
         omega (arith, v .pre .0, d .below),
-        join-ready (v .pre .1 .0) (v .pre .1 .1 .0) (v .pre .1 .1 .1)
-            (f .node-field .ensures) (e .eval-pred .ensures) (m .first .given .1) (k .decides .ensures) (g .before .if1 .left)
-            (g .node-field2 .ensures),
+        join-ready (p .0) (p .1 .0) (p .1 .1) (word e .node-field .ensures) (e .eval-pred .ensures) (held k .first .given .1) (k .decides .ensures)
+            (g .before .if1 .left) (g .node-field2 .ensures),
       )
 
-  same-length-3 : eval-join-lts.Need-same-length-3 claims (eval-join-at t) eval-join.Post
-  same-length-3 c =
-      let s = ran₂ (c .before .before) in
-      let m = held (decided (word₂ s)) in
-      s .eval-pred2 .kept .1 .1 .0 ∙ ran (m .before .before) .eval-pred .kept .1 .1 .0
-
-  returns-3 : eval-join-lts.Need-returns-3 claims (eval-join-at t) eval-join.Post
+  returns-3 : Here lts.Need-returns-3
   returns-3 c =
-      let s = ran₂ (c .before .before) in
-      let g = word₂ s in
-      let k = decided g in
-      let m = held k in
-      let e = ran (m .before .before) in
-      let f = word e in
-      let v = lent f in
-      join-stays-2 (v .pre .1 .0) (v .pre .1 .1 .0) (v .pre .1 .1 .1)
-      (f .node-field .ensures) (e .eval-pred .ensures) (m .first .given .1) (k .decides .ensures) (g .before .if1 .left)
-      (g .node-field2 .ensures) (s .eval-pred2 .ensures) (c .enum-told2 .given .1)
+      let s = ran₂ (c .before .before) in let g = word₂ s in let k = decided g in let e = first k in let p = lent (word e) .pre .1 in
+      join-stays-2 (p .0) (p .1 .0) (p .1 .1) (word e .node-field .ensures) (e .eval-pred .ensures) (held k .first .given .1) (k .decides .ensures)
+      (g .before .if1 .left) (g .node-field2 .ensures) (s .eval-pred2 .ensures) (c .enum-told2 .given .1)
 
-  same-length-4 : eval-join-lts.Need-same-length-4 claims (eval-join-at t) eval-join.Post
-  same-length-4 c =
-      let w = c .before .before in
-      let s = ran₂ (w .before .before) in
-      let m = held (decided (word₂ s)) in
-      s .eval-pred2 .kept .1 .1 .0 ∙ ran (m .before .before) .eval-pred .kept .1 .1 .0
-
-  returns-4 : eval-join-lts.Need-returns-4 claims (eval-join-at t) eval-join.Post
+  returns-4 : Here lts.Need-returns-4
   returns-4 c =
-      let w = c .before .before in
-      let s = ran₂ (w .before .before) in
-      let g = word₂ s in
-      let k = decided g in
-      let m = held k in
-      let e = ran (m .before .before) in
-      let f = word e in
-      let v = lent f in
-      join-both (v .pre .1 .0) (v .pre .1 .1 .0) (v .pre .1 .1 .1)
-      (f .node-field .ensures) (e .eval-pred .ensures) (m .first .given .1) (k .decides .ensures) (g .before .if1 .left)
-      (g .node-field2 .ensures) (s .eval-pred2 .ensures) (w .second .given .1) (c .joined .ensures)
+      let w = c .before .before in let s = ran₂ (w .before .before) in let g = word₂ s in let k = decided g in let e = first k in
+      let p = lent (word e) .pre .1 in
+      join-both (p .0) (p .1 .0) (p .1 .1) (word e .node-field .ensures) (e .eval-pred .ensures) (held k .first .given .1) (k .decides .ensures)
+      (g .before .if1 .left) (g .node-field2 .ensures) (s .eval-pred2 .ensures) (w .second .given .1) (c .joined .ensures)
 
-  pub eval-join-closed : {M : Type 1} → eval-join-lts.Closed claims (eval-join-at t) eval-join.Post M
-  eval-join-closed =
-      eval-join-lts.spec
-      claims
-      (eval-join-at t)
-      eval-join.Post
+  pub closed : {M : Type 1} → lts.Closed claims (eval-join .at t) (eval-join .post) M
+  closed =
+      lts.spec claims (eval-join .at t) (eval-join .post)
       (λ c κs. (ready-node (c .before .before .pre .1 .0 .ready), lit< tt))
-      (λ c. omega (arith, lent (c .before) .pre .1 .0 .unspent))
+      (λ c. lent (c .before) .pre .1 .0 .unspent)
       eval-pred-requires
-      (λ c. c .match .keys1)
-      (λ c. c .match .keys2)
+      (λ c. c .match .keys1) (λ c. c .match .keys2)
       (λ c. ran (c .before .before) .eval-pred .kept .1 .1 .0)
       returns
       (λ c κs. tt)
-      (λ c. let m = held (c .before) in ran (m .before .before) .eval-pred .kept .1 .1 .0)
+      (λ c. first (c .before) .eval-pred .kept .1 .1 .0)
       returns-2
-      (λ c κs. let m = held (c .before) in (ready-node (lent (word (ran (m .before .before))) .pre .1 .0 .ready), lit< tt))
+      (λ c κs. (ready-node (lent (word (first (c .before))) .pre .1 .0 .ready), lit< tt))
       eval-pred-requires-2
-      (λ c. c .match2 .keys1)
-      (λ c. c .match2 .keys2)
-      same-length-3
+      (λ c. c .match2 .keys1) (λ c. c .match2 .keys2)
+      (λ c. let s = ran₂ (c .before .before) in s .eval-pred2 .kept .1 .1 .0 ∙ first (decided (word₂ s)) .eval-pred .kept .1 .1 .0)
       returns-3
       (λ c κs. tt)
-      same-length-4
+      (λ c. let w = c .before .before in let s = ran₂ (w .before .before) in
+      s .eval-pred2 .kept .1 .1 .0 ∙ first (decided (word₂ s)) .eval-pred .kept .1 .1 .0)
       returns-4

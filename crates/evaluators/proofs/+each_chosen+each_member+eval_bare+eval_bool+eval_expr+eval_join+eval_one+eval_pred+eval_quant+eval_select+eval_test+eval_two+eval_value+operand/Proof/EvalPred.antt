@@ -2,44 +2,38 @@
 -- condition reached.
 use Prim.Native.Nat.{ℕ}
 use native.Mathlib.Omega.{arith}
-use Rattle.evaluators.proofs.eval_pred.Reads as eval-pred
-use Rattle.evaluators.proofs.eval_bare.Reads as eval-bare
-use Rattle.evaluators.proofs.+each_chosen+each_member+eval_bare+eval_bool+eval_expr+eval_join+eval_one+eval_pred+eval_quant+eval_select+eval_test+eval_two+eval_value+operand.Lts-eval_pred as eval-pred-lts
-use Rattle.evaluators.proofs.strip.Reads as strip-reads
-use Rattle.evaluators.proofs.turn.Reads as turn-reads
-use Rattle.evaluators.proofs.+each_chosen+each_member+eval_bare+eval_bool+eval_expr+eval_join+eval_one+eval_pred+eval_quant+eval_select+eval_test+eval_two+eval_value+operand.Proof.Base.{eval-pred-at, eval-bare-below}
+use Rattle.evaluators.proofs.+each_chosen+each_member+eval_bare+eval_bool+eval_expr+eval_join+eval_one+eval_pred+eval_quant+eval_select+eval_test+eval_two+eval_value+operand.Lts-eval_pred as lts
+use Rattle.evaluators.proofs.strip.Reads as strip
+use Rattle.evaluators.proofs.turn.Reads as turn
+use Rattle.evaluators.proofs.+each_chosen+each_member+eval_bare+eval_bool+eval_expr+eval_join+eval_one+eval_pred+eval_quant+eval_select+eval_test+eval_two+eval_value+operand.Proof.Base.{Over, eval-bare, eval-pred}
 use Rattle.evaluators.proofs.BareLaws.{bare-ready, bare-tells}
 
 module _ (t : ℕ) where
-  abbrev claims : eval-pred-lts.Claims
-  claims = (strip-reads.Asked, strip-reads.Learnt, eval-bare-below t, eval-bare.Post, turn-reads.Asked, turn-reads.Learnt)
+  abbrev claims : lts.Claims
+  claims = (strip.Asked, strip.Learnt, eval-bare .below t, eval-bare .post, turn.Asked, turn.Learnt)
 
-  abbrev lent : eval-pred-lts.After-strip claims (eval-pred-at t) eval-pred.Post → eval-pred-lts.Start claims (eval-pred-at t) eval-pred.Post
+  abbrev Here : Over lts.Claims lts.ps lts.r → Type 0
+  Here T = T claims (eval-pred .at t) (eval-pred .post)
+
+  abbrev lent : Here lts.After-strip → Here lts.Start
   lent c = c .before .before .before
 
-  abbrev ran : eval-pred-lts.After-turn claims (eval-pred-at t) eval-pred.Post → eval-pred-lts.After-eval-bare claims (eval-pred-at t) eval-pred.Post
+  abbrev ran : Here lts.After-turn → Here lts.After-eval-bare
   ran c = c .before .before .before
 
-  eval-bare-requires : eval-pred-lts.Need-eval-bare-requires claims (eval-pred-at t) eval-pred.Post
+  eval-bare-requires : Here lts.Need-eval-bare-requires
   eval-bare-requires c κs =
-      let n = c .before in
-      let v = lent n in
-      let p = n .strip .ensures .passes in
+      let n = c .before in let v = lent n in let p = n .strip .ensures .passes in
       (omega (arith, v .pre .0, p .below), (bare-ready (v .pre .1 .0) (v .pre .1 .1) p, p .is, n .strip .ensures .last))
 
-  returns : eval-pred-lts.Need-returns claims (eval-pred-at t) eval-pred.Post
+  returns : Here lts.Need-returns
   returns c =
-      let e = ran c in
-      let n = e .before .before in
-      let v = lent n in
+      let e = ran c in let n = e .before .before in let v = lent n in
       bare-tells (v .pre .1 .0) (v .pre .1 .1) (n .strip .ensures .passes) (e .eval-bare .ensures) (c .turn .ensures)
 
-  pub eval-pred-closed : {M : Type 1} → eval-pred-lts.Closed claims (eval-pred-at t) eval-pred.Post M
-  eval-pred-closed =
-      eval-pred-lts.spec
-      claims
-      (eval-pred-at t)
-      eval-pred.Post
+  pub closed : {M : Type 1} → lts.Closed claims (eval-pred .at t) (eval-pred .post) M
+  closed =
+      lts.spec claims (eval-pred .at t) (eval-pred .post)
       (λ c κs. let v = c .before .before in (v .pre .1 .0 .readable, v .pre .1 .0 .node, v .pre .1 .1))
       eval-bare-requires
       (λ c κs. tt)

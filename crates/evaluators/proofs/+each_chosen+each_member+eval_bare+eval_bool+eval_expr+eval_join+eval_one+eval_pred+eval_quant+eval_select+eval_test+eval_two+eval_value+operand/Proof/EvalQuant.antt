@@ -4,154 +4,110 @@ use Prim.Native.Nat.{ℕ}
 use mathlib.Core.Path.{refl, sym, _∙_}
 use native.Mathlib.Omega.{arith}
 use lib.Dec.{lit<}
-use Rattle.evaluators.proofs.each_member.Reads as each-member
-use Rattle.evaluators.proofs.eval_quant.Reads as eval-quant
-use Rattle.evaluators.proofs.operand.Reads as operand
-use Rattle.evaluators.proofs.+each_chosen+each_member+eval_bare+eval_bool+eval_expr+eval_join+eval_one+eval_pred+eval_quant+eval_select+eval_test+eval_two+eval_value+operand.Lts-eval_quant as eval-quant-lts
-use Rattle.table.proofs.node_field.Reads as node-field-reads
-use Rattle.evaluators.proofs.range_of.Reads as range-of-reads
-use Rattle.evaluators.proofs.refusal_of.Reads as refusal-of-reads
-use Rattle.evaluators.proofs.refused.Reads as refused-reads
-use Rattle.evaluators.proofs.+each_chosen+each_member+eval_bare+eval_bool+eval_expr+eval_join+eval_one+eval_pred+eval_quant+eval_select+eval_test+eval_two+eval_value+operand.Proof.Base.{each-member-below, eval-quant-at, operand-below}
+use Rattle.evaluators.proofs.+each_chosen+each_member+eval_bare+eval_bool+eval_expr+eval_join+eval_one+eval_pred+eval_quant+eval_select+eval_test+eval_two+eval_value+operand.Lts-eval_quant as lts
+use Rattle.table.proofs.node_field.Reads as field
+use Rattle.evaluators.proofs.range_of.Reads as range
+use Rattle.evaluators.proofs.refusal_of.Reads as refusal
+use Rattle.evaluators.proofs.refused.Reads as refused
+use Rattle.evaluators.proofs.+each_chosen+each_member+eval_bare+eval_bool+eval_expr+eval_join+eval_one+eval_pred+eval_quant+eval_select+eval_test+eval_two+eval_value+operand.Proof.Base.{Over, each-member, eval-quant, operand}
 use Rattle.evaluators.proofs.SafeLaws.{ready-node}
 use Rattle.evaluators.proofs.NodeLaws.{held-as, refusal-is}
 use Rattle.evaluators.proofs.RangeLaws.{range-as}
 use Rattle.evaluators.proofs.QuantLaws.{quant-child, quant-range, range-refused, range-good, range-low, range-unlike, quant-ready, quant-done}
 
 module _ (t : ℕ) where
-  abbrev claims : eval-quant-lts.Claims
+  abbrev claims : lts.Claims
   claims = (
-    node-field-reads.Asked,
-    node-field-reads.Learnt,
-    operand-below t,
-    operand.Post,
-    refusal-of-reads.Asked,
-    refusal-of-reads.Learnt,
-    range-of-reads.Asked,
-    range-of-reads.Learnt,
-    refused-reads.Asked,
-    refused-reads.Learnt,
-    each-member-below t,
-    each-member.Post,
+    field.Asked,
+    field.Learnt,
+    operand .below t,
+    operand .post,
+    refusal.Asked,
+    refusal.Learnt,
+    range.Asked,
+    range.Learnt,
+    refused.Asked,
+    refused.Learnt,
+    each-member .below t,
+    each-member .post,
   )
 
-  abbrev lent : eval-quant-lts.After-node-field claims (eval-quant-at t) eval-quant.Post → eval-quant-lts.Start claims (eval-quant-at t) eval-quant.Post
+  abbrev Here : Over lts.Claims lts.ps lts.r → Type 0
+  Here T = T claims (eval-quant .at t) (eval-quant .post)
+
+  abbrev lent : Here lts.After-node-field → Here lts.Start
   lent c = c .before .before .before
 
-  abbrev word : eval-quant-lts.After-operand claims (eval-quant-at t) eval-quant.Post → eval-quant-lts.After-node-field claims (eval-quant-at t) eval-quant.Post
+  abbrev word : Here lts.After-operand → Here lts.After-node-field
   word c = c .before .before
 
-  abbrev ran : eval-quant-lts.After-slice-known2 claims (eval-quant-at t) eval-quant.Post →
-      eval-quant-lts.After-operand claims (eval-quant-at t) eval-quant.Post
+  abbrev ran : Here lts.After-slice-known2 → Here lts.After-operand
   ran c = c .before .before
 
-  abbrev asked : eval-quant-lts.After-range-of claims (eval-quant-at t) eval-quant.Post → eval-quant-lts.After-first claims (eval-quant-at t) eval-quant.Post
+  abbrev asked : Here lts.After-range-of → Here lts.After-first
   asked c = c .before .before .before
 
-  abbrev counted : eval-quant-lts.After-each-member claims (eval-quant-at t) eval-quant.Post →
-      eval-quant-lts.After-range claims (eval-quant-at t) eval-quant.Post
+  abbrev first : Here lts.After-range-of → Here lts.After-operand
+  first c = ran (asked c .before .before)
+
+  abbrev counted : Here lts.After-each-member → Here lts.After-range
   counted c = c .before .before .before
 
-  operand-requires : eval-quant-lts.Need-operand-requires claims (eval-quant-at t) eval-quant.Post
+  operand-requires : Here lts.Need-operand-requires
   operand-requires c κs =
-      let f = c .before in
-      let v = lent f in (
-        omega (arith, v .pre .0, quant-child (v .pre .1 .0) (v .pre .1 .1) (f .node-field .ensures) .below),
-        quant-range (v .pre .1 .0) (v .pre .1 .1)
-            (f .node-field .ensures),
-      )
+      let f = c .before in let v = lent f in let p = v .pre .1 in
+      (omega (arith, v .pre .0, quant-child (p .0) (p .1) (f .node-field .ensures) .below), quant-range (p .0) (p .1) (f .node-field .ensures))
 
-  returns : eval-quant-lts.Need-returns claims (eval-quant-at t) eval-quant.Post
+  returns : Here lts.Need-returns
   returns c =
-      let k = c .before in
-      let e = ran (k .before .before) in
-      let f = word e in
-      let v = lent f in
+      let k = c .before in let e = ran (k .before .before) in let p = lent (word e) .pre .1 in
       held-as refl (refusal-is (k .enum-told .given .1) (c .refusal-of .ensures))
-      (range-refused (v .pre .1 .0) (v .pre .1 .1) (f .node-field .ensures) (e .operand .ensures) (k .enum-told .given .1))
+      (range-refused (p .0) (p .1) (word e .node-field .ensures) (e .operand .ensures) (k .enum-told .given .1))
 
-  range-of-requires : eval-quant-lts.Need-range-of-requires claims (eval-quant-at t) eval-quant.Post
+  range-of-requires : Here lts.Need-range-of-requires
   range-of-requires c κs =
-      let m = c .before .before in
-      let e = ran (m .before .before) in
-      let f = word e in
-      let v = lent f in
-      range-good (v .pre .1 .0) (v .pre .1 .1) (f .node-field .ensures) (e .operand .ensures) (m .first .given .1)
+      let m = c .before .before in let e = ran (m .before .before) in let p = lent (word e) .pre .1 in
+      range-good (p .0) (p .1) (word e .node-field .ensures) (e .operand .ensures) (m .first .given .1)
 
-  returns-2 : eval-quant-lts.Need-returns-2 claims (eval-quant-at t) eval-quant.Post
+  returns-2 : Here lts.Need-returns-2
   returns-2 c =
-      let k = c .before in
-      let o = k .before .before in
-      let m = asked o in
-      let e = ran (m .before .before) in
-      let f = word e in
-      let v = lent f in
-      held-as refl (sym (c .refused .ensures))
-      (range-unlike (v .pre .1 .0) (v .pre .1 .1) (f .node-field .ensures) (e .operand .ensures) (m .first .given .1)
+      let k = c .before in let o = k .before .before in let e = first o in let p = lent (word e) .pre .1 in
+      held-as refl (sym (c .refused .ensures)) (range-unlike (p .0) (p .1) (word e .node-field .ensures) (e .operand .ensures) (asked o .first .given .1)
       (range-as (k .enum-told2 .given .1) (o .range-of .ensures)))
 
-  add-each-member : eval-quant-lts.Need-add-each-member claims (eval-quant-at t) eval-quant.Post
+  add-each-member : Here lts.Need-add-each-member
   add-each-member c =
-      let o = c .before .before .before in
-      let m = asked (o .before) in
-      let e = ran (m .before .before) in
-      let f = word e in
-      let v = lent f in
-      record { fits = omega (arith, range-low (v .pre .1 .0) (v .pre .1 .1) (f .node-field .ensures) (e .operand .ensures) (m .first .given .1)) }
+      let a = c .before .before in let o = a .before .before in let e = first o in let p = lent (word e) .pre .1 in
+      record { fits = omega (arith, range-low (p .0) (p .1) (word e .node-field .ensures) (e .operand .ensures) (asked o .first .given .1)) }
 
-  each-member-requires : eval-quant-lts.Need-each-member-requires claims (eval-quant-at t) eval-quant.Post
+  each-member-requires : Here lts.Need-each-member-requires
   each-member-requires c κs =
-      let a = c .before .before in
-      let o = a .before .before in
-      let m = asked o in
-      let e = ran (m .before .before) in
-      let f = word e in
-      let v = lent f in (
+      let a = c .before .before in let o = a .before .before in let e = first o in let v = lent (word e) in let p = v .pre .1 in (
         omega (arith, v .pre .0),
-        quant-ready (v .pre .1 .0) (v .pre .1 .1) (f .node-field .ensures) (e .operand .ensures) (m .first .given .1)
+        quant-ready (p .0) (p .1) (word e .node-field .ensures) (e .operand .ensures) (asked o .first .given .1)
             (range-as (a .range .given .1) (o .range-of .ensures)),
       )
 
-  same-length-3 : eval-quant-lts.Need-same-length-3 claims (eval-quant-at t) eval-quant.Post
-  same-length-3 c =
-      let p = c .before .before in
-      let a = counted p in
-      let m = asked (a .before .before) in
-      p .each-member .kept .1 .1 .0 ∙ ran (m .before .before) .operand .kept .1 .1 .0
-
-  returns-3 : eval-quant-lts.Need-returns-3 claims (eval-quant-at t) eval-quant.Post
+  returns-3 : Here lts.Need-returns-3
   returns-3 c =
-      let p = c .before .before in
-      let a = counted p in
-      let o = a .before .before in
-      let m = asked o in
-      let e = ran (m .before .before) in
-      let f = word e in
-      let v = lent f in
-      quant-done (v .pre .1 .0) (v .pre .1 .1) (f .node-field .ensures) (e .operand .ensures) (m .first .given .1)
-      (range-as (a .range .given .1) (o .range-of .ensures)) (p .each-member .ensures)
+      let i = c .before .before in let a = counted i in let o = a .before .before in let e = first o in let p = lent (word e) .pre .1 in
+      quant-done (p .0) (p .1) (word e .node-field .ensures) (e .operand .ensures) (asked o .first .given .1)
+      (range-as (a .range .given .1) (o .range-of .ensures)) (i .each-member .ensures)
 
-  pub eval-quant-closed : {M : Type 1} → eval-quant-lts.Closed claims (eval-quant-at t) eval-quant.Post M
-  eval-quant-closed =
-      eval-quant-lts.spec
-      claims
-      (eval-quant-at t)
-      eval-quant.Post
+  pub closed : {M : Type 1} → lts.Closed claims (eval-quant .at t) (eval-quant .post) M
+  closed =
+      lts.spec claims (eval-quant .at t) (eval-quant .post)
       (λ c κs. (ready-node (c .before .before .pre .1 .0 .ready), lit< tt))
-      (λ c. omega (arith, lent (c .before) .pre .1 .0 .unspent))
+      (λ c. lent (c .before) .pre .1 .0 .unspent)
       operand-requires
-      (λ c. c .match .keys1)
-      (λ c. c .match .keys2)
-      (λ c κs. tt)
+      (λ c. c .match .keys1) (λ c. c .match .keys2) (λ c κs. tt)
       (λ c. let k = c .before in ran (k .before .before) .operand .kept .1 .1 .0)
       returns
       range-of-requires
-      (λ c. c .match2 .keys1)
-      (λ c. c .match2 .keys2)
-      (λ c κs. tt)
-      (λ c. let m = asked (c .before .before .before) in ran (m .before .before) .operand .kept .1 .1 .0)
+      (λ c. c .match2 .keys1) (λ c. c .match2 .keys2) (λ c κs. tt)
+      (λ c. first (c .before .before .before) .operand .kept .1 .1 .0)
       returns-2
       add-each-member
       each-member-requires
-      same-length-3
+      (λ c. let i = c .before .before in i .each-member .kept .1 .1 .0 ∙ first (counted i .before .before) .operand .kept .1 .1 .0)
       returns-3

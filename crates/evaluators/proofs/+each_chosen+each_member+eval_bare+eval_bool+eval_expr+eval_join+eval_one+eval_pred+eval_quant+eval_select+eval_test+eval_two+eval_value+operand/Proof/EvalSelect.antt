@@ -4,204 +4,136 @@ use Prim.Native.Nat.{ℕ}
 use mathlib.Core.Path.{refl, sym, _∙_}
 use native.Mathlib.Omega.{arith}
 use lib.Dec.{lit<}
-use Rattle.evaluators.proofs.each_chosen.Reads as each-chosen
-use Rattle.evaluators.proofs.eval_select.Reads as eval-select
-use Rattle.evaluators.proofs.operand.Reads as operand
-use Rattle.evaluators.proofs.+each_chosen+each_member+eval_bare+eval_bool+eval_expr+eval_join+eval_one+eval_pred+eval_quant+eval_select+eval_test+eval_two+eval_value+operand.Lts-eval_select as eval-select-lts
-use Rattle.table.proofs.node_field.Reads as node-field-reads
-use Rattle.evaluators.proofs.range_of.Reads as range-of-reads
-use Rattle.evaluators.proofs.settle.Reads as settle-reads
-use Rattle.evaluators.proofs.stopped.Reads as stopped-reads
-use Rattle.evaluators.proofs.+each_chosen+each_member+eval_bare+eval_bool+eval_expr+eval_join+eval_one+eval_pred+eval_quant+eval_select+eval_test+eval_two+eval_value+operand.Proof.Base.{each-chosen-below, eval-select-at, operand-below}
+use Rattle.evaluators.proofs.+each_chosen+each_member+eval_bare+eval_bool+eval_expr+eval_join+eval_one+eval_pred+eval_quant+eval_select+eval_test+eval_two+eval_value+operand.Lts-eval_select as lts
+use Rattle.table.proofs.node_field.Reads as field
+use Rattle.evaluators.proofs.range_of.Reads as range
+use Rattle.evaluators.proofs.settle.Reads as settle
+use Rattle.evaluators.proofs.stopped.Reads as stopped
+use Rattle.evaluators.proofs.+each_chosen+each_member+eval_bare+eval_bool+eval_expr+eval_join+eval_one+eval_pred+eval_quant+eval_select+eval_test+eval_two+eval_value+operand.Proof.Base.{Over, each-chosen, eval-select, operand}
 use Rattle.evaluators.proofs.SafeLaws.{ready-node}
 use Rattle.evaluators.proofs.NodeLaws.{formed-as}
 use Rattle.evaluators.proofs.RangeLaws.{range-as}
 use Rattle.evaluators.proofs.FormLaws.{chosen-as, select-child, select-begins, select-fails, range-good, range-low, range-fails, select-each, chosen-fails, select-settles, select-evaluates}
 
 module _ (t : ℕ) where
-  abbrev claims : eval-select-lts.Claims
+  abbrev claims : lts.Claims
   claims = (
-    node-field-reads.Asked,
-    node-field-reads.Learnt,
-    operand-below t,
-    operand.Post,
-    range-of-reads.Asked,
-    range-of-reads.Learnt,
-    stopped-reads.Asked,
-    stopped-reads.Learnt,
-    each-chosen-below t,
-    each-chosen.Post,
-    settle-reads.Asked,
-    settle-reads.Learnt,
+    field.Asked,
+    field.Learnt,
+    operand .below t,
+    operand .post,
+    range.Asked,
+    range.Learnt,
+    stopped.Asked,
+    stopped.Learnt,
+    each-chosen .below t,
+    each-chosen .post,
+    settle.Asked,
+    settle.Learnt,
   )
 
-  abbrev lent : eval-select-lts.After-node-field claims (eval-select-at t) eval-select.Post → eval-select-lts.Start claims (eval-select-at t) eval-select.Post
+  abbrev Here : Over lts.Claims lts.ps lts.r → Type 0
+  Here T = T claims (eval-select .at t) (eval-select .post)
+
+  abbrev lent : Here lts.After-node-field → Here lts.Start
   lent c = c .before .before .before
 
-  abbrev word : eval-select-lts.After-operand claims (eval-select-at t) eval-select.Post →
-      eval-select-lts.After-node-field claims (eval-select-at t) eval-select.Post
+  abbrev word : Here lts.After-operand → Here lts.After-node-field
   word c = c .before .before
 
-  abbrev ran : eval-select-lts.After-slice-known2 claims (eval-select-at t) eval-select.Post →
-      eval-select-lts.After-operand claims (eval-select-at t) eval-select.Post
+  abbrev ran : Here lts.After-slice-known2 → Here lts.After-operand
   ran c = c .before .before
 
-  abbrev asked : eval-select-lts.After-range-of claims (eval-select-at t) eval-select.Post →
-      eval-select-lts.After-first claims (eval-select-at t) eval-select.Post
+  abbrev asked : Here lts.After-range-of → Here lts.After-first
   asked c = c .before .before .before
 
-  abbrev counted : eval-select-lts.After-each-chosen claims (eval-select-at t) eval-select.Post →
-      eval-select-lts.After-range claims (eval-select-at t) eval-select.Post
+  abbrev first : Here lts.After-range-of → Here lts.After-operand
+  first c = ran (asked c .before .before)
+
+  abbrev counted : Here lts.After-each-chosen → Here lts.After-range
   counted c = c .before .before .before
 
-  abbrev chose : eval-select-lts.After-slice-known3 claims (eval-select-at t) eval-select.Post →
-      eval-select-lts.After-each-chosen claims (eval-select-at t) eval-select.Post
+  abbrev chose : Here lts.After-slice-known3 → Here lts.After-each-chosen
   chose c = c .before .before
 
-  abbrev settled : eval-select-lts.After-settle claims (eval-select-at t) eval-select.Post →
-      eval-select-lts.After-chosen claims (eval-select-at t) eval-select.Post
+  abbrev settled : Here lts.After-settle → Here lts.After-chosen
   settled c = c .before .before .before
 
-  operand-requires : eval-select-lts.Need-operand-requires claims (eval-select-at t) eval-select.Post
+  operand-requires : Here lts.Need-operand-requires
   operand-requires c κs =
-      let f = c .before in
-      let v = lent f in
+      let f = c .before in let v = lent f in
       (omega (arith, v .pre .0, select-child (v .pre .1) (f .node-field .ensures) .below), select-begins (v .pre .1) (f .node-field .ensures))
 
-  returns : eval-select-lts.Need-returns claims (eval-select-at t) eval-select.Post
+  returns : Here lts.Need-returns
   returns c =
-      let e = ran (c .before .before) in
-      let f = word e in
-      let v = lent f in
-      let q = c .enum-told .given .1 in
-      formed-as refl (sym q) (select-fails (v .pre .1) (f .node-field .ensures) (formed-as refl q (e .operand .ensures)))
+      let e = ran (c .before .before) in let f = word e in let q = c .enum-told .given .1 in
+      formed-as refl (sym q) (select-fails (lent f .pre .1) (f .node-field .ensures) (formed-as refl q (e .operand .ensures)))
 
-  range-of-requires : eval-select-lts.Need-range-of-requires claims (eval-select-at t) eval-select.Post
+  range-of-requires : Here lts.Need-range-of-requires
   range-of-requires c κs =
-      let m = c .before .before in
-      let e = ran (m .before .before) in
-      let f = word e in
-      let v = lent f in
-      range-good (v .pre .1) (f .node-field .ensures) (formed-as refl (m .first .given .1) (e .operand .ensures))
+      let m = c .before .before in let e = ran (m .before .before) in let f = word e in
+      range-good (lent f .pre .1) (f .node-field .ensures) (formed-as refl (m .first .given .1) (e .operand .ensures))
 
-  returns-2 : eval-select-lts.Need-returns-2 claims (eval-select-at t) eval-select.Post
+  returns-2 : Here lts.Need-returns-2
   returns-2 c =
-      let k = c .before in
-      let o = k .before .before in
-      let m = asked o in
-      let e = ran (m .before .before) in
-      let f = word e in
-      let v = lent f in
-      formed-as refl (sym (c .stopped .ensures))
-      (range-fails (v .pre .1) (f .node-field .ensures) (formed-as refl (m .first .given .1) (e .operand .ensures))
-      (range-as (k .enum-told2 .given .1) (o .range-of .ensures)))
+      let k = c .before in let o = k .before .before in let e = first o in let f = word e in
+      formed-as refl (sym (c .stopped .ensures)) (range-fails (lent f .pre .1) (f .node-field .ensures)
+      (formed-as refl (asked o .first .given .1) (e .operand .ensures)) (range-as (k .enum-told2 .given .1) (o .range-of .ensures)))
 
-  add-each-chosen : eval-select-lts.Need-add-each-chosen claims (eval-select-at t) eval-select.Post
+  add-each-chosen : Here lts.Need-add-each-chosen
   add-each-chosen c =
-      let o = c .before .before .before in
-      let m = asked (o .before) in
-      let e = ran (m .before .before) in
-      let f = word e in
-      let v = lent f in
-      omega (arith, range-low (v .pre .1) (f .node-field .ensures) (formed-as refl (m .first .given .1) (e .operand .ensures)))
+      let a = c .before .before in let o = a .before .before in let e = first o in let f = word e in
+      omega (arith, range-low (lent f .pre .1) (f .node-field .ensures) (formed-as refl (asked o .first .given .1) (e .operand .ensures)))
 
-  each-chosen-requires : eval-select-lts.Need-each-chosen-requires claims (eval-select-at t) eval-select.Post
+  each-chosen-requires : Here lts.Need-each-chosen-requires
   each-chosen-requires c κs =
-      let a = c .before .before in
-      let o = a .before .before in
-      let m = asked o in
-      let e = ran (m .before .before) in
-      let f = word e in
-      let v = lent f in (
-        omega (arith, v .pre .0),
-        select-each (v .pre .1) (f .node-field .ensures) (formed-as refl (m .first .given .1) (e .operand .ensures))
+      let a = c .before .before in let o = a .before .before in let e = first o in let f = word e in (
+        omega (arith, lent f .pre .0),
+        select-each (lent f .pre .1) (f .node-field .ensures) (formed-as refl (asked o .first .given .1) (e .operand .ensures))
             (range-as (a .range .given .1) (o .range-of .ensures)),
       )
 
-  same-length-3 : eval-select-lts.Need-same-length-3 claims (eval-select-at t) eval-select.Post
-  same-length-3 c =
-      let p = chose (c .before .before) in
-      let a = counted p in
-      let m = asked (a .before .before) in
-      p .each-chosen .kept .1 .1 .0 ∙ ran (m .before .before) .operand .kept .1 .1 .0
-
-  returns-3 : eval-select-lts.Need-returns-3 claims (eval-select-at t) eval-select.Post
+  returns-3 : Here lts.Need-returns-3
   returns-3 c =
-      let p = chose (c .before .before) in
-      let a = counted p in
-      let o = a .before .before in
-      let m = asked o in
-      let e = ran (m .before .before) in
-      let f = word e in
-      let v = lent f in
+      let i = chose (c .before .before) in let a = counted i in let o = a .before .before in let e = first o in let f = word e in
       let q = c .enum-told3 .given .1 in
-      formed-as refl (sym q)
-      (chosen-fails (v .pre .1) (f .node-field .ensures) (formed-as refl (m .first .given .1) (e .operand .ensures))
-      (range-as (a .range .given .1) (o .range-of .ensures))
-      (chosen-as q (p .each-chosen .ensures)))
+      formed-as refl (sym q) (chosen-fails (lent f .pre .1) (f .node-field .ensures) (formed-as refl (asked o .first .given .1) (e .operand .ensures))
+      (range-as (a .range .given .1) (o .range-of .ensures)) (chosen-as q (i .each-chosen .ensures)))
 
-  settle-requires : eval-select-lts.Need-settle-requires claims (eval-select-at t) eval-select.Post
+  settle-requires : Here lts.Need-settle-requires
   settle-requires c κs =
-      let w = c .before .before in
-      let p = chose (w .before .before) in
-      let a = counted p in
-      let o = a .before .before in
-      let m = asked o in
-      let e = ran (m .before .before) in
-      let f = word e in
-      let v = lent f in
-      select-settles (v .pre .1) (f .node-field .ensures) (formed-as refl (m .first .given .1) (e .operand .ensures))
-      (range-as (a .range .given .1) (o .range-of .ensures))
-      (chosen-as (w .chosen .given .1) (p .each-chosen .ensures))
+      let w = c .before .before in let i = chose (w .before .before) in let a = counted i in let o = a .before .before in let e = first o in
+      select-settles (lent (word e) .pre .1) (word e .node-field .ensures) (formed-as refl (asked o .first .given .1) (e .operand .ensures))
+      (range-as (a .range .given .1) (o .range-of .ensures)) (chosen-as (w .chosen .given .1) (i .each-chosen .ensures))
 
-  same-length-4 : eval-select-lts.Need-same-length-4 claims (eval-select-at t) eval-select.Post
+  same-length-4 : Here lts.Need-same-length-4
   same-length-4 c =
-      let i = c .before .before in
-      let w = settled i in
-      let p = chose (w .before .before) in
-      let a = counted p in
-      let m = asked (a .before .before) in
-      i .settle .kept .0 ∙ p .each-chosen .kept .1 .1 .0 ∙ ran (m .before .before) .operand .kept .1 .1 .0
+      let z = c .before .before in let i = chose (settled z .before .before) in let a = counted i in
+      z .settle .kept .0 ∙ i .each-chosen .kept .1 .1 .0 ∙ first (a .before .before) .operand .kept .1 .1 .0
 
-  returns-4 : eval-select-lts.Need-returns-4 claims (eval-select-at t) eval-select.Post
+  returns-4 : Here lts.Need-returns-4
   returns-4 c =
-      let i = c .before .before in
-      let w = settled i in
-      let p = chose (w .before .before) in
-      let a = counted p in
-      let o = a .before .before in
-      let m = asked o in
-      let e = ran (m .before .before) in
-      let f = word e in
-      let v = lent f in
-      select-evaluates (v .pre .1) (f .node-field .ensures) (formed-as refl (m .first .given .1) (e .operand .ensures))
-      (range-as (a .range .given .1) (o .range-of .ensures))
-      (chosen-as (w .chosen .given .1) (p .each-chosen .ensures)) (i .settle .ensures)
+      let w = settled (c .before .before) in let i = chose (w .before .before) in let a = counted i in let o = a .before .before in let e = first o in
+      select-evaluates (lent (word e) .pre .1) (word e .node-field .ensures) (formed-as refl (asked o .first .given .1) (e .operand .ensures))
+      (range-as (a .range .given .1) (o .range-of .ensures)) (chosen-as (w .chosen .given .1) (i .each-chosen .ensures)) (c .before .before .settle .ensures)
 
-  pub eval-select-closed : {M : Type 1} → eval-select-lts.Closed claims (eval-select-at t) eval-select.Post M
-  eval-select-closed =
-      eval-select-lts.spec
-      claims
-      (eval-select-at t)
-      eval-select.Post
+  pub closed : {M : Type 1} → lts.Closed claims (eval-select .at t) (eval-select .post) M
+  closed =
+      lts.spec claims (eval-select .at t) (eval-select .post)
       (λ c κs. (ready-node (c .before .before .pre .1 .ready), lit< tt))
-      (λ c. omega (arith, lent (c .before) .pre .1 .unspent))
+      (λ c. lent (c .before) .pre .1 .unspent)
       operand-requires
-      (λ c. c .match .keys1)
-      (λ c. c .match .keys2)
+      (λ c. c .match .keys1) (λ c. c .match .keys2)
       (λ c. ran (c .before .before) .operand .kept .1 .1 .0)
       returns
       range-of-requires
-      (λ c. c .match2 .keys1)
-      (λ c. c .match2 .keys2)
-      (λ c κs. tt)
-      (λ c. let m = asked (c .before .before .before) in ran (m .before .before) .operand .kept .1 .1 .0)
+      (λ c. c .match2 .keys1) (λ c. c .match2 .keys2) (λ c κs. tt)
+      (λ c. first (c .before .before .before) .operand .kept .1 .1 .0)
       returns-2
       add-each-chosen
       each-chosen-requires
-      (λ c. c .match3 .keys1)
-      (λ c. c .match3 .keys2)
-      same-length-3
+      (λ c. c .match3 .keys1) (λ c. c .match3 .keys2)
+      (λ c. let i = chose (c .before .before) in i .each-chosen .kept .1 .1 .0 ∙ first (counted i .before .before) .operand .kept .1 .1 .0)
       returns-3
       settle-requires
       same-length-4

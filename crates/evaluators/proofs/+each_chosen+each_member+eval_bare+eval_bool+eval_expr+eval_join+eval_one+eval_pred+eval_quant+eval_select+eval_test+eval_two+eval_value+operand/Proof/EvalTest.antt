@@ -1,199 +1,109 @@
 -- `eval_test`: the operands one after the other, and then the test of their values; a refusal of an operand goes on. Landmarks: what was
 -- lent, the words of the fields, the answers for the operands, and the test.
-use Prim.Native.Nat.{ℕ}
+use Prim.Native.Nat.{ℕ, _-_}
 use mathlib.Core.Path.{refl, sym, _∙_}
-use native.Mathlib.Omega.{arith}
 use lib.Dec.{lit<}
-use Rattle.evaluators.proofs.eval_test.Reads as eval-test
-use Rattle.evaluators.proofs.operand.Reads as operand
-use Rattle.evaluators.proofs.+each_chosen+each_member+eval_bare+eval_bool+eval_expr+eval_join+eval_one+eval_pred+eval_quant+eval_select+eval_test+eval_two+eval_value+operand.Lts-eval_test as eval-test-lts
-use Rattle.table.proofs.node_field.Reads as node-field-reads
-use Rattle.evaluators.proofs.refusal_of.Reads as refusal-of-reads
-use Rattle.evaluators.proofs.refused.Reads as refused-reads
-use Rattle.operations.proofs.test.Reads as test-reads
-use Rattle.evaluators.proofs.+each_chosen+each_member+eval_bare+eval_bool+eval_expr+eval_join+eval_one+eval_pred+eval_quant+eval_select+eval_test+eval_two+eval_value+operand.Proof.Base.{eval-test-at, operand-below}
+use denote.Ref.{now}
+use Rattle.evaluators.proofs.+each_chosen+each_member+eval_bare+eval_bool+eval_expr+eval_join+eval_one+eval_pred+eval_quant+eval_select+eval_test+eval_two+eval_value+operand.Lts-eval_test as lts
+use Rattle.table.proofs.node_field.Reads as field
+use Rattle.evaluators.proofs.refusal_of.Reads as refusal
+use Rattle.evaluators.proofs.refused.Reads as refused
+use Rattle.operations.proofs.test.Reads as test
+use Rattle.evaluators.proofs.+each_chosen+each_member+eval_bare+eval_bool+eval_expr+eval_join+eval_one+eval_pred+eval_quant+eval_select+eval_test+eval_two+eval_value+operand.Proof.Base.{Over, eval-test, operand}
 use Rattle.evaluators.proofs.SafeLaws.{ready-node}
-use Rattle.evaluators.proofs.NodeLaws.{held-as, refusal-is}
-use Rattle.evaluators.proofs.BothLaws.{left-child, left-ready, both-stops, right-child, right-ready, both-stops-2, both-formed, operands-ready, test-fields, test-stops, test-unlike, test-truth}
+use Rattle.evaluators.proofs.NodeLaws.{TwoFields, held-as, refusal-is}
+use Rattle.evaluators.proofs.BothLaws.{EvaluatesBoth, left-asks, right-asks, both-stops, both-stops-2, both-formed, operands-ready, test-fields, test-stops, test-unlike, test-truth}
 
 module _ (t : ℕ) where
-  abbrev claims : eval-test-lts.Claims
-  claims = (
-    node-field-reads.Asked,
-    node-field-reads.Learnt,
-    operand-below t,
-    operand.Post,
-    refusal-of-reads.Asked,
-    refusal-of-reads.Learnt,
-    test-reads.Asked,
-    test-reads.Learnt,
-    refused-reads.Asked,
-    refused-reads.Learnt,
-  )
+  abbrev claims : lts.Claims
+  claims = (field.Asked, field.Learnt, operand .below t, operand .post, refusal.Asked, refusal.Learnt, test.Asked, test.Learnt, refused.Asked, refused.Learnt)
 
-  abbrev lent : eval-test-lts.After-node-field claims (eval-test-at t) eval-test.Post → eval-test-lts.Start claims (eval-test-at t) eval-test.Post
+  abbrev Here : Over lts.Claims lts.ps lts.r → Type 0
+  Here T = T claims (eval-test .at t) (eval-test .post)
+
+  abbrev lent : Here lts.After-node-field → Here lts.Start
   lent c = c .before .before .before
 
-  abbrev word : eval-test-lts.After-operand claims (eval-test-at t) eval-test.Post → eval-test-lts.After-node-field claims (eval-test-at t) eval-test.Post
+  abbrev word : Here lts.After-operand → Here lts.After-node-field
   word c = c .before .before
 
-  abbrev ran : eval-test-lts.After-slice-known2 claims (eval-test-at t) eval-test.Post → eval-test-lts.After-operand claims (eval-test-at t) eval-test.Post
+  abbrev ran : Here lts.After-slice-known2 → Here lts.After-operand
   ran c = c .before .before
 
-  abbrev placed : eval-test-lts.After-node-field2 claims (eval-test-at t) eval-test.Post → eval-test-lts.After-first claims (eval-test-at t) eval-test.Post
+  abbrev placed : Here lts.After-node-field2 → Here lts.After-first
   placed c = c .before .before
 
-  abbrev word₂ : eval-test-lts.After-operand2 claims (eval-test-at t) eval-test.Post → eval-test-lts.After-node-field2 claims (eval-test-at t) eval-test.Post
-  word₂ c = c .before .before
-
-  abbrev ran₂ : eval-test-lts.After-slice-known3 claims (eval-test-at t) eval-test.Post → eval-test-lts.After-operand2 claims (eval-test-at t) eval-test.Post
+  abbrev ran₂ : Here lts.After-slice-known3 → Here lts.After-operand2
   ran₂ c = c .before .before
 
-  abbrev tried : eval-test-lts.After-test claims (eval-test-at t) eval-test.Post → eval-test-lts.After-second claims (eval-test-at t) eval-test.Post
+  abbrev first : Here lts.After-operand2 → Here lts.After-operand
+  first c = let m = placed (c .before .before) in ran (m .before .before)
+
+  abbrev begun : Here lts.After-second → Here lts.Start
+  begun c = lent (word (first (ran₂ (c .before .before))))
+
+  abbrev tried : Here lts.After-test → Here lts.After-second
   tried c = c .before .before .before
 
-  operand-requires : eval-test-lts.Need-operand-requires claims (eval-test-at t) eval-test.Post
-  operand-requires c κs =
-      let f = c .before in
-      let v = lent f in
-      let y = test-fields (v .pre .1 .0) (v .pre .1 .1 .0) (v .pre .1 .1 .1) in (
-        omega (arith, v .pre .0, left-child (v .pre .1 .0 .ready) y (f .node-field .ensures) .below),
-        left-ready (v .pre .1 .0 .ready) y (f .node-field .ensures),
-      )
+  fields : (v : Here lts.Start) → TwoFields (now (v .args .table)) (v .args .node)
+  fields v = test-fields (v .pre .1 .0) (v .pre .1 .1 .0) (v .pre .1 .1 .1)
 
-  returns : eval-test-lts.Need-returns claims (eval-test-at t) eval-test.Post
+  returns : Here lts.Need-returns
   returns c =
-      let k = c .before in
-      let e = ran (k .before .before) in
-      let f = word e in
-      let v = lent f in
-      held-as refl (refusal-is (k .enum-told .given .1) (c .refusal-of .ensures))
-      (test-stops (v .pre .1 .0) (v .pre .1 .1 .0) (v .pre .1 .1 .1)
-      (both-stops (v .pre .1 .0 .ready) (test-fields (v .pre .1 .0) (v .pre .1 .1 .0) (v .pre .1 .1 .1)) (f .node-field .ensures) (e .operand .ensures)
-      (k .enum-told .given .1)))
+      let k = c .before in let e = ran (k .before .before) in let v = lent (word e) in
+      held-as refl (refusal-is (k .enum-told .given .1) (c .refusal-of .ensures)) (test-stops (v .pre .1 .0) (v .pre .1 .1 .0) (v .pre .1 .1 .1)
+      (both-stops (v .pre .1 .0 .ready) (fields v) (word e .node-field .ensures) (e .operand .ensures) (k .enum-told .given .1)))
 
-  operand-requires-2 : eval-test-lts.Need-operand-requires-2 claims (eval-test-at t) eval-test.Post
+  operand-requires-2 : Here lts.Need-operand-requires-2
   operand-requires-2 c κs =
-      let g = c .before in
-      let m = placed g in
-      let e = ran (m .before .before) in
-      let f = word e in
-      let v = lent f in
-      let d = right-child (v .pre .1 .0 .ready) (test-fields (v .pre .1 .0) (v .pre .1 .1 .0) (v .pre .1 .1 .1)) (f .node-field .ensures)
-      (e .operand .ensures) (m .first .given .1) (g .node-field2 .ensures) in (
-        omega (arith, v .pre .0, d .below),
-        right-ready (v .pre .1 .0 .ready) (test-fields (v .pre .1 .0) (v .pre .1 .1 .0) (v .pre .1 .1 .1)) (f .node-field .ensures)
-            (e .operand .ensures) (m .first .given .1) (g .node-field2 .ensures),
-      )
+      let g = c .before in let m = placed g in let e = ran (m .before .before) in let v = lent (word e) in
+      right-asks (v .pre .0) (v .pre .1 .0) (fields v) (word e .node-field .ensures) (e .operand .ensures) (m .first .given .1) (g .node-field2 .ensures)
 
-  same-length-2 : eval-test-lts.Need-same-length-2 claims (eval-test-at t) eval-test.Post
-  same-length-2 c =
-      let k = c .before in
-      let s = ran₂ (k .before .before) in
-      let m = placed (word₂ s) in
-      s .operand2 .kept .1 .1 .0 ∙ ran (m .before .before) .operand .kept .1 .1 .0
-
-  returns-2 : eval-test-lts.Need-returns-2 claims (eval-test-at t) eval-test.Post
+  returns-2 : Here lts.Need-returns-2
   returns-2 c =
-      let k = c .before in
-      let s = ran₂ (k .before .before) in
-      let g = word₂ s in
-      let m = placed g in
-      let e = ran (m .before .before) in
-      let f = word e in
-      let v = lent f in
-      held-as refl (refusal-is (k .enum-told2 .given .1) (c .refusal-of2 .ensures))
-      (test-stops (v .pre .1 .0) (v .pre .1 .1 .0) (v .pre .1 .1 .1)
-      (both-stops-2 (v .pre .1 .0 .ready) (test-fields (v .pre .1 .0) (v .pre .1 .1 .0) (v .pre .1 .1 .1)) (f .node-field .ensures)
-      (e .operand .ensures) (m .first .given .1) (g .node-field2 .ensures)
-      (s .operand2 .ensures) (k .enum-told2 .given .1)))
+      let k = c .before in let s = ran₂ (k .before .before) in let e = first s in let v = lent (word e) in let g = s .before .before in
+      held-as refl (refusal-is (k .enum-told2 .given .1) (c .refusal-of2 .ensures)) (test-stops (v .pre .1 .0) (v .pre .1 .1 .0) (v .pre .1 .1 .1)
+      (both-stops-2 (v .pre .1 .0 .ready) (fields v) (word e .node-field .ensures) (e .operand .ensures) (placed g .first .given .1)
+      (g .node-field2 .ensures) (s .operand2 .ensures) (k .enum-told2 .given .1)))
 
-  test-requires : eval-test-lts.Need-test-requires claims (eval-test-at t) eval-test.Post
-  test-requires c κs =
-      let w = c .before .before in
-      let s = ran₂ (w .before .before) in
-      let g = word₂ s in
-      let m = placed g in
-      let e = ran (m .before .before) in
-      let f = word e in
-      let v = lent f in
-      operands-ready (v .pre .1 .0 .ready)
-      (both-formed (v .pre .1 .0 .ready) (test-fields (v .pre .1 .0) (v .pre .1 .1 .0) (v .pre .1 .1 .1)) (f .node-field .ensures)
-      (e .operand .ensures) (m .first .given .1) (g .node-field2 .ensures)
-      (s .operand2 .ensures) (w .second .given .1))
+  -- Both operands have values.
+  formed : (w : Here lts.After-second) →
+      let s = ran₂ (w .before .before) in let a = begun w .args in let x = placed (s .before .before) .first .given .0 in
+      let y = w .second .given .0 in
+      EvaluatesBoth (now (a .table)) (now (a .env)) (now (a .s)) (a .top) (a .node) (a .left - 1) (s .operand2 .last .1 .1 .0)
+      (x .0) (x .1 .0) (y .0) (y .1 .0) (y .1 .1 .0)
+  formed w =
+      let s = ran₂ (w .before .before) in let e = first s in let v = lent (word e) in let g = s .before .before in
+      both-formed (v .pre .1 .0 .ready) (fields v) (word e .node-field .ensures) (e .operand .ensures) (placed g .first .given .1)
+      (g .node-field2 .ensures) (s .operand2 .ensures) (w .second .given .1)
 
-  same-length-3 : eval-test-lts.Need-same-length-3 claims (eval-test-at t) eval-test.Post
-  same-length-3 c =
-      let w = tried (c .before .before .before) in
-      let s = ran₂ (w .before .before) in
-      let m = placed (word₂ s) in
-      s .operand2 .kept .1 .1 .0 ∙ ran (m .before .before) .operand .kept .1 .1 .0
-
-  returns-3 : eval-test-lts.Need-returns-3 claims (eval-test-at t) eval-test.Post
+  returns-3 : Here lts.Need-returns-3
   returns-3 c =
-      let k = c .before in
-      let q = k .before .before in
-      let w = tried q in
-      let s = ran₂ (w .before .before) in
-      let g = word₂ s in
-      let m = placed g in
-      let e = ran (m .before .before) in
-      let f = word e in
-      let v = lent f in
-      held-as refl (sym (c .refused .ensures))
-      (test-unlike (v .pre .1 .0) (v .pre .1 .1 .0) (v .pre .1 .1 .1)
-      (both-formed (v .pre .1 .0 .ready) (test-fields (v .pre .1 .0) (v .pre .1 .1 .0) (v .pre .1 .1 .1)) (f .node-field .ensures)
-      (e .operand .ensures) (m .first .given .1) (g .node-field2 .ensures)
-      (s .operand2 .ensures) (w .second .given .1)) (q .test .ensures) (k .enum-told3 .given .1))
+      let k = c .before in let q = k .before .before in let w = tried q in let p = begun w .pre .1 in
+      held-as refl (sym (c .refused .ensures)) (test-unlike (p .0) (p .1 .0) (p .1 .1) (formed w) (q .test .ensures) (k .enum-told3 .given .1))
 
-  same-length-4 : eval-test-lts.Need-same-length-4 claims (eval-test-at t) eval-test.Post
-  same-length-4 c =
-      let w = tried (c .before .before .before) in
-      let s = ran₂ (w .before .before) in
-      let m = placed (word₂ s) in
-      s .operand2 .kept .1 .1 .0 ∙ ran (m .before .before) .operand .kept .1 .1 .0
-
-  returns-4 : eval-test-lts.Need-returns-4 claims (eval-test-at t) eval-test.Post
+  returns-4 : Here lts.Need-returns-4
   returns-4 c =
-      let q = c .before .before .before in
-      let w = tried q in
-      let s = ran₂ (w .before .before) in
-      let g = word₂ s in
-      let m = placed g in
-      let e = ran (m .before .before) in
-      let f = word e in
-      let v = lent f in
-      test-truth (v .pre .1 .0) (v .pre .1 .1 .0) (v .pre .1 .1 .1)
-      (both-formed (v .pre .1 .0 .ready) (test-fields (v .pre .1 .0) (v .pre .1 .1 .0) (v .pre .1 .1 .1)) (f .node-field .ensures)
-      (e .operand .ensures) (m .first .given .1) (g .node-field2 .ensures)
-      (s .operand2 .ensures) (w .second .given .1)) (q .test .ensures) (c .before .tested .given .1)
+      let q = c .before .before .before in let w = tried q in let p = begun w .pre .1 in
+      test-truth (p .0) (p .1 .0) (p .1 .1) (formed w) (q .test .ensures) (c .before .tested .given .1)
 
-  pub eval-test-closed : {M : Type 1} → eval-test-lts.Closed claims (eval-test-at t) eval-test.Post M
-  eval-test-closed =
-      eval-test-lts.spec
-      claims
-      (eval-test-at t)
-      eval-test.Post
+  pub closed : {M : Type 1} → lts.Closed claims (eval-test .at t) (eval-test .post) M
+  closed =
+      lts.spec claims (eval-test .at t) (eval-test .post)
       (λ c κs. (ready-node (c .before .before .pre .1 .0 .ready), lit< tt))
-      (λ c. omega (arith, lent (c .before) .pre .1 .0 .unspent))
-      operand-requires
-      (λ c. c .match .keys1)
-      (λ c. c .match .keys2)
-      (λ c κs. tt)
+      (λ c. lent (c .before) .pre .1 .0 .unspent)
+      (λ c κs. let f = c .before in let v = lent f in left-asks (v .pre .0) (v .pre .1 .0) (fields v) (f .node-field .ensures))
+      (λ c. c .match .keys1) (λ c. c .match .keys2) (λ c κs. tt)
       (λ c. let k = c .before in ran (k .before .before) .operand .kept .1 .1 .0)
       returns
       (λ c κs. let m = c .before in (ready-node (lent (word (ran (m .before .before))) .pre .1 .0 .ready), lit< tt))
       operand-requires-2
-      (λ c. c .match2 .keys1)
-      (λ c. c .match2 .keys2)
-      (λ c κs. tt)
-      same-length-2
+      (λ c. c .match2 .keys1) (λ c. c .match2 .keys2) (λ c κs. tt)
+      (λ c. let k = c .before in let s = ran₂ (k .before .before) in s .operand2 .kept .1 .1 .0 ∙ first s .operand .kept .1 .1 .0)
       returns-2
-      test-requires
-      (λ c. c .match3 .keys1)
-      (λ c. c .match3 .keys2)
-      (λ c κs. tt)
-      same-length-3
+      (λ c κs. let w = c .before .before in operands-ready (begun w .pre .1 .0 .ready) (formed w))
+      (λ c. c .match3 .keys1) (λ c. c .match3 .keys2) (λ c κs. tt)
+      (λ c. let w = tried (c .before .before .before) in let s = ran₂ (w .before .before) in s .operand2 .kept .1 .1 .0 ∙ first s .operand .kept .1 .1 .0)
       returns-3
-      same-length-4
+      (λ c. let w = tried (c .before .before .before) in let s = ran₂ (w .before .before) in s .operand2 .kept .1 .1 .0 ∙ first s .operand .kept .1 .1 .0)
       returns-4

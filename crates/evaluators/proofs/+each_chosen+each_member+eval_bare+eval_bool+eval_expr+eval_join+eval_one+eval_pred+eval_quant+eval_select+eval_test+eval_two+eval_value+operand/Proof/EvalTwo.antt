@@ -1,185 +1,115 @@
 -- `eval_two`: the operands one after the other, the operation, and what it gives settled; a refusal of an operand goes on. Landmarks: what
 -- was lent, the words of the fields, the answers for the operands, and the operation.
-use Prim.Native.Nat.{ℕ}
+use Prim.Native.Nat.{ℕ, _-_}
 use mathlib.Core.Path.{refl, sym, _∙_}
-use native.Mathlib.Omega.{arith}
 use lib.Dec.{lit<}
-use Rattle.evaluators.proofs.eval_two.Reads as eval-two
-use Rattle.evaluators.proofs.operand.Reads as operand
-use Rattle.evaluators.proofs.+each_chosen+each_member+eval_bare+eval_bool+eval_expr+eval_join+eval_one+eval_pred+eval_quant+eval_select+eval_test+eval_two+eval_value+operand.Lts-eval_two as eval-two-lts
-use Rattle.table.proofs.node_field.Reads as node-field-reads
-use Rattle.evaluators.proofs.settle.Reads as settle-reads
-use Rattle.operations.proofs.two.Reads as two-reads
-use Rattle.evaluators.proofs.+each_chosen+each_member+eval_bare+eval_bool+eval_expr+eval_join+eval_one+eval_pred+eval_quant+eval_select+eval_test+eval_two+eval_value+operand.Proof.Base.{eval-two-at, operand-below}
+use denote.Ref.{now}
+use Rattle.evaluators.proofs.+each_chosen+each_member+eval_bare+eval_bool+eval_expr+eval_join+eval_one+eval_pred+eval_quant+eval_select+eval_test+eval_two+eval_value+operand.Lts-eval_two as lts
+use Rattle.table.proofs.node_field.Reads as field
+use Rattle.evaluators.proofs.settle.Reads as settle
+use Rattle.operations.proofs.two.Reads as two
+use Rattle.evaluators.proofs.+each_chosen+each_member+eval_bare+eval_bool+eval_expr+eval_join+eval_one+eval_pred+eval_quant+eval_select+eval_test+eval_two+eval_value+operand.Proof.Base.{Over, eval-two, operand}
 use Rattle.evaluators.proofs.SafeLaws.{ready-node}
-use Rattle.evaluators.proofs.NodeLaws.{formed-as}
-use Rattle.evaluators.proofs.BothLaws.{left-child, left-ready, both-stops, right-child, right-ready, both-stops-2, both-formed}
+use Rattle.evaluators.proofs.NodeLaws.{TwoFields, formed-as}
+use Rattle.evaluators.proofs.BothLaws.{EvaluatesBoth, left-asks, right-asks, both-stops, both-stops-2, both-formed}
 use Rattle.evaluators.proofs.FormLaws.{two-fields, two-ready, two-fails, two-settles, two-evaluates}
 
 module _ (t : ℕ) where
-  abbrev claims : eval-two-lts.Claims
-  claims = (
-    node-field-reads.Asked,
-    node-field-reads.Learnt,
-    operand-below t,
-    operand.Post,
-    two-reads.Asked,
-    two-reads.Learnt,
-    settle-reads.Asked,
-    settle-reads.Learnt,
-  )
+  abbrev claims : lts.Claims
+  claims = (field.Asked, field.Learnt, operand .below t, operand .post, two.Asked, two.Learnt, settle.Asked, settle.Learnt)
 
-  abbrev lent : eval-two-lts.After-node-field claims (eval-two-at t) eval-two.Post → eval-two-lts.Start claims (eval-two-at t) eval-two.Post
+  abbrev Here : Over lts.Claims lts.ps lts.r → Type 0
+  Here T = T claims (eval-two .at t) (eval-two .post)
+
+  abbrev lent : Here lts.After-node-field → Here lts.Start
   lent c = c .before .before .before
 
-  abbrev word : eval-two-lts.After-operand claims (eval-two-at t) eval-two.Post → eval-two-lts.After-node-field claims (eval-two-at t) eval-two.Post
+  abbrev word : Here lts.After-operand → Here lts.After-node-field
   word c = c .before .before
 
-  abbrev ran : eval-two-lts.After-slice-known2 claims (eval-two-at t) eval-two.Post → eval-two-lts.After-operand claims (eval-two-at t) eval-two.Post
+  abbrev ran : Here lts.After-slice-known2 → Here lts.After-operand
   ran c = c .before .before
 
-  abbrev placed : eval-two-lts.After-node-field2 claims (eval-two-at t) eval-two.Post → eval-two-lts.After-first claims (eval-two-at t) eval-two.Post
+  abbrev placed : Here lts.After-node-field2 → Here lts.After-first
   placed c = c .before .before
 
-  abbrev word₂ : eval-two-lts.After-operand2 claims (eval-two-at t) eval-two.Post → eval-two-lts.After-node-field2 claims (eval-two-at t) eval-two.Post
-  word₂ c = c .before .before
-
-  abbrev ran₂ : eval-two-lts.After-slice-known3 claims (eval-two-at t) eval-two.Post → eval-two-lts.After-operand2 claims (eval-two-at t) eval-two.Post
+  abbrev ran₂ : Here lts.After-slice-known3 → Here lts.After-operand2
   ran₂ c = c .before .before
 
-  abbrev done : eval-two-lts.After-two claims (eval-two-at t) eval-two.Post → eval-two-lts.After-second claims (eval-two-at t) eval-two.Post
+  abbrev first : Here lts.After-operand2 → Here lts.After-operand
+  first c = let m = placed (c .before .before) in ran (m .before .before)
+
+  abbrev begun : Here lts.After-second → Here lts.Start
+  begun c = lent (word (first (ran₂ (c .before .before))))
+
+  abbrev done : Here lts.After-two → Here lts.After-second
   done c = c .before .before .before
 
-  abbrev settled : eval-two-lts.After-settle claims (eval-two-at t) eval-two.Post → eval-two-lts.After-two claims (eval-two-at t) eval-two.Post
+  abbrev settled : Here lts.After-settle → Here lts.After-two
   settled c = let s = c .before .before in s .before .before
 
-  operand-requires : eval-two-lts.Need-operand-requires claims (eval-two-at t) eval-two.Post
-  operand-requires c κs =
-      let f = c .before in
-      let v = lent f in
-      let y = two-fields (v .pre .1 .0) (v .pre .1 .1 .0) (v .pre .1 .1 .1) in (
-        omega (arith, v .pre .0, left-child (v .pre .1 .0 .ready) y (f .node-field .ensures) .below),
-        left-ready (v .pre .1 .0 .ready) y (f .node-field .ensures),
-      )
+  fields : (v : Here lts.Start) → TwoFields (now (v .args .table)) (v .args .node)
+  fields v = two-fields (v .pre .1 .0) (v .pre .1 .1 .0) (v .pre .1 .1 .1)
 
-  returns : eval-two-lts.Need-returns claims (eval-two-at t) eval-two.Post
+  returns : Here lts.Need-returns
   returns c =
-      let e = ran (c .before .before) in
-      let f = word e in
-      let v = lent f in
-      formed-as refl (sym (c .enum-told .given .1))
-      (two-fails (v .pre .1 .0) (v .pre .1 .1 .0) (v .pre .1 .1 .1)
-      (both-stops (v .pre .1 .0 .ready) (two-fields (v .pre .1 .0) (v .pre .1 .1 .0) (v .pre .1 .1 .1)) (f .node-field .ensures) (e .operand .ensures)
-      (c .enum-told .given .1)))
+      let e = ran (c .before .before) in let v = lent (word e) in
+      formed-as refl (sym (c .enum-told .given .1)) (two-fails (v .pre .1 .0) (v .pre .1 .1 .0) (v .pre .1 .1 .1)
+      (both-stops (v .pre .1 .0 .ready) (fields v) (word e .node-field .ensures) (e .operand .ensures) (c .enum-told .given .1)))
 
-  operand-requires-2 : eval-two-lts.Need-operand-requires-2 claims (eval-two-at t) eval-two.Post
+  operand-requires-2 : Here lts.Need-operand-requires-2
   operand-requires-2 c κs =
-      let g = c .before in
-      let m = placed g in
-      let e = ran (m .before .before) in
-      let f = word e in
-      let v = lent f in
-      let d = right-child (v .pre .1 .0 .ready) (two-fields (v .pre .1 .0) (v .pre .1 .1 .0) (v .pre .1 .1 .1)) (f .node-field .ensures)
-      (e .operand .ensures) (m .first .given .1) (g .node-field2 .ensures) in (
-        omega (arith, v .pre .0, d .below),
-        right-ready (v .pre .1 .0 .ready) (two-fields (v .pre .1 .0) (v .pre .1 .1 .0) (v .pre .1 .1 .1)) (f .node-field .ensures)
-            (e .operand .ensures) (m .first .given .1) (g .node-field2 .ensures),
-      )
+      let g = c .before in let m = placed g in let e = ran (m .before .before) in let v = lent (word e) in
+      right-asks (v .pre .0) (v .pre .1 .0) (fields v) (word e .node-field .ensures) (e .operand .ensures) (m .first .given .1) (g .node-field2 .ensures)
 
-  same-length-2 : eval-two-lts.Need-same-length-2 claims (eval-two-at t) eval-two.Post
-  same-length-2 c =
-      let s = ran₂ (c .before .before) in
-      let m = placed (word₂ s) in
-      s .operand2 .kept .1 .1 .0 ∙ ran (m .before .before) .operand .kept .1 .1 .0
-
-  returns-2 : eval-two-lts.Need-returns-2 claims (eval-two-at t) eval-two.Post
+  returns-2 : Here lts.Need-returns-2
   returns-2 c =
-      let s = ran₂ (c .before .before) in
-      let g = word₂ s in
-      let m = placed g in
-      let e = ran (m .before .before) in
-      let f = word e in
-      let v = lent f in
-      formed-as refl (sym (c .enum-told2 .given .1))
-      (two-fails (v .pre .1 .0) (v .pre .1 .1 .0) (v .pre .1 .1 .1)
-      (both-stops-2 (v .pre .1 .0 .ready) (two-fields (v .pre .1 .0) (v .pre .1 .1 .0) (v .pre .1 .1 .1)) (f .node-field .ensures)
-      (e .operand .ensures) (m .first .given .1) (g .node-field2 .ensures)
-      (s .operand2 .ensures) (c .enum-told2 .given .1)))
+      let s = ran₂ (c .before .before) in let e = first s in let v = lent (word e) in let g = s .before .before in
+      formed-as refl (sym (c .enum-told2 .given .1)) (two-fails (v .pre .1 .0) (v .pre .1 .1 .0) (v .pre .1 .1 .1)
+      (both-stops-2 (v .pre .1 .0 .ready) (fields v) (word e .node-field .ensures) (e .operand .ensures) (placed g .first .given .1)
+      (g .node-field2 .ensures) (s .operand2 .ensures) (c .enum-told2 .given .1)))
 
-  two-requires : eval-two-lts.Need-two-requires claims (eval-two-at t) eval-two.Post
-  two-requires c κs =
-      let w = c .before .before in
-      let s = ran₂ (w .before .before) in
-      let g = word₂ s in
-      let m = placed g in
-      let e = ran (m .before .before) in
-      let f = word e in
-      let v = lent f in
-      two-ready (v .pre .1 .0) (v .pre .1 .1 .0) (v .pre .1 .1 .1)
-      (both-formed (v .pre .1 .0 .ready) (two-fields (v .pre .1 .0) (v .pre .1 .1 .0) (v .pre .1 .1 .1)) (f .node-field .ensures)
-      (e .operand .ensures) (m .first .given .1) (g .node-field2 .ensures)
-      (s .operand2 .ensures) (w .second .given .1))
+  -- Both operands have values.
+  formed : (w : Here lts.After-second) →
+      let s = ran₂ (w .before .before) in let a = begun w .args in let x = placed (s .before .before) .first .given .0 in
+      let y = w .second .given .0 in
+      EvaluatesBoth (now (a .table)) (now (a .env)) (now (a .s)) (a .top) (a .node) (a .left - 1) (s .operand2 .last .1 .1 .0)
+      (x .0) (x .1 .0) (y .0) (y .1 .0) (y .1 .1 .0)
+  formed w =
+      let s = ran₂ (w .before .before) in let e = first s in let v = lent (word e) in let g = s .before .before in
+      both-formed (v .pre .1 .0 .ready) (fields v) (word e .node-field .ensures) (e .operand .ensures) (placed g .first .given .1)
+      (g .node-field2 .ensures) (s .operand2 .ensures) (w .second .given .1)
 
-  settle-requires : eval-two-lts.Need-settle-requires claims (eval-two-at t) eval-two.Post
+  settle-requires : Here lts.Need-settle-requires
   settle-requires c κs =
-      let q = c .before .before .before in
-      let w = done q in
-      let s = ran₂ (w .before .before) in
-      let g = word₂ s in
-      let m = placed g in
-      let e = ran (m .before .before) in
-      let f = word e in
-      let v = lent f in
-      two-settles (v .pre .1 .0) (v .pre .1 .1 .0) (v .pre .1 .1 .1)
-      (both-formed (v .pre .1 .0 .ready) (two-fields (v .pre .1 .0) (v .pre .1 .1 .0) (v .pre .1 .1 .1)) (f .node-field .ensures)
-      (e .operand .ensures) (m .first .given .1) (g .node-field2 .ensures)
-      (s .operand2 .ensures) (w .second .given .1)) (q .two .ensures)
+      let q = c .before .before .before in let w = done q in let p = begun w .pre .1 in
+      two-settles (p .0) (p .1 .0) (p .1 .1) (formed w) (q .two .ensures)
 
-  same-length-3 : eval-two-lts.Need-same-length-3 claims (eval-two-at t) eval-two.Post
+  same-length-3 : Here lts.Need-same-length-3
   same-length-3 c =
-      let p = c .before .before in
-      let q = settled p in
-      let w = done q in
-      let s = ran₂ (w .before .before) in
-      let m = placed (word₂ s) in
-      p .settle .kept .0 ∙ q .two .kept .0 ∙ s .operand2 .kept .1 .1 .0 ∙ ran (m .before .before) .operand .kept .1 .1 .0
+      let p = c .before .before in let q = settled p in let w = done q in let s = ran₂ (w .before .before) in
+      p .settle .kept .0 ∙ q .two .kept .0 ∙ s .operand2 .kept .1 .1 .0 ∙ first s .operand .kept .1 .1 .0
 
-  returns-3 : eval-two-lts.Need-returns-3 claims (eval-two-at t) eval-two.Post
+  returns-3 : Here lts.Need-returns-3
   returns-3 c =
-      let p = c .before .before in
-      let q = settled p in
-      let w = done q in
-      let s = ran₂ (w .before .before) in
-      let g = word₂ s in
-      let m = placed g in
-      let e = ran (m .before .before) in
-      let f = word e in
-      let v = lent f in
-      two-evaluates (v .pre .1 .0) (v .pre .1 .1 .0) (v .pre .1 .1 .1)
-      (both-formed (v .pre .1 .0 .ready) (two-fields (v .pre .1 .0) (v .pre .1 .1 .0) (v .pre .1 .1 .1)) (f .node-field .ensures)
-      (e .operand .ensures) (m .first .given .1) (g .node-field2 .ensures)
-      (s .operand2 .ensures) (w .second .given .1)) (q .two .ensures) (p .settle .ensures)
+      let q = settled (c .before .before) in let w = done q in let p = begun w .pre .1 in
+      two-evaluates (p .0) (p .1 .0) (p .1 .1) (formed w) (q .two .ensures) (c .before .before .settle .ensures)
 
-  pub eval-two-closed : {M : Type 1} → eval-two-lts.Closed claims (eval-two-at t) eval-two.Post M
-  eval-two-closed =
-      eval-two-lts.spec
-      claims
-      (eval-two-at t)
-      eval-two.Post
+  pub closed : {M : Type 1} → lts.Closed claims (eval-two .at t) (eval-two .post) M
+  closed =
+      lts.spec claims (eval-two .at t) (eval-two .post)
       (λ c κs. (ready-node (c .before .before .pre .1 .0 .ready), lit< tt))
-      (λ c. omega (arith, lent (c .before) .pre .1 .0 .unspent))
-      operand-requires
-      (λ c. c .match .keys1)
-      (λ c. c .match .keys2)
+      (λ c. lent (c .before) .pre .1 .0 .unspent)
+      (λ c κs. let f = c .before in let v = lent f in left-asks (v .pre .0) (v .pre .1 .0) (fields v) (f .node-field .ensures))
+      (λ c. c .match .keys1) (λ c. c .match .keys2)
       (λ c. ran (c .before .before) .operand .kept .1 .1 .0)
       returns
       (λ c κs. let m = c .before in (ready-node (lent (word (ran (m .before .before))) .pre .1 .0 .ready), lit< tt))
       operand-requires-2
-      (λ c. c .match2 .keys1)
-      (λ c. c .match2 .keys2)
-      same-length-2
+      (λ c. c .match2 .keys1) (λ c. c .match2 .keys2)
+      (λ c. let s = ran₂ (c .before .before) in s .operand2 .kept .1 .1 .0 ∙ first s .operand .kept .1 .1 .0)
       returns-2
-      two-requires
+      (λ c κs. let w = c .before .before in let p = begun w .pre .1 in two-ready (p .0) (p .1 .0) (p .1 .1) (formed w))
       settle-requires
       same-length-3
       returns-3

@@ -4,162 +4,100 @@ use Prim.Native.Nat.{ℕ}
 use mathlib.Core.Path.{refl, sym}
 use mathlib.Core.Logic.{⊎-elim, inl, inr}
 use native.Mathlib.Omega.{arith}
-use Rattle.evaluators.proofs.eval_bool.Reads as eval-bool
-use Rattle.evaluators.proofs.eval_value.Reads as eval-value
-use Rattle.evaluators.proofs.eval_one.Reads as eval-one
-use Rattle.evaluators.proofs.eval_select.Reads as eval-select
-use Rattle.evaluators.proofs.eval_two.Reads as eval-two
-use Rattle.evaluators.proofs.+each_chosen+each_member+eval_bare+eval_bool+eval_expr+eval_join+eval_one+eval_pred+eval_quant+eval_select+eval_test+eval_two+eval_value+operand.Lts-eval_value as eval-value-lts
-use Rattle.evaluators.proofs.eval_leaf.Reads as eval-leaf-reads
-use Rattle.evaluators.proofs.standing.Reads as standing-reads
-use Rattle.table.proofs.node_kind.Reads as node-kind-reads
-use Rattle.evaluators.proofs.stopped.Reads as stopped-reads
-use Rattle.evaluators.proofs.+each_chosen+each_member+eval_bare+eval_bool+eval_expr+eval_join+eval_one+eval_pred+eval_quant+eval_select+eval_test+eval_two+eval_value+operand.Proof.Base.{eval-bool-below, eval-value-at, eval-one-below, eval-select-below, eval-two-below}
+use denote.Ref.{now}
+use Rattle.evaluators.specs.Cycle.{Visited}
+use Rattle.evaluators.proofs.+each_chosen+each_member+eval_bare+eval_bool+eval_expr+eval_join+eval_one+eval_pred+eval_quant+eval_select+eval_test+eval_two+eval_value+operand.Lts-eval_value as lts
+use Rattle.evaluators.proofs.eval_leaf.Reads as eval-leaf
+use Rattle.evaluators.proofs.standing.Reads as standing
+use Rattle.table.proofs.node_kind.Reads as kind
+use Rattle.evaluators.proofs.stopped.Reads as stopped
+use Rattle.evaluators.proofs.+each_chosen+each_member+eval_bare+eval_bool+eval_expr+eval_join+eval_one+eval_pred+eval_quant+eval_select+eval_test+eval_two+eval_value+operand.Proof.Base.{Over, eval-bool, eval-one, eval-select, eval-two, eval-value}
 use Rattle.evaluators.proofs.SafeLaws.{ready-node}
 use Rattle.evaluators.proofs.NodeLaws.{formed-as}
 use Rattle.evaluators.proofs.DispatchLaws.{spent-expr, counted, visited-as, expression-code, one-keys, one-range, two-key, from-27, two-low, two-high, no-other, leaf-node, leaf-answer, standing-code, standing-ready, standing-answer}
 
 module _ (t : ℕ) where
-  abbrev claims : eval-value-lts.Claims
+  abbrev claims : lts.Claims
   claims = (
-    stopped-reads.Asked,
-    stopped-reads.Learnt,
-    node-kind-reads.Asked,
-    node-kind-reads.Learnt,
-    eval-bool-below t,
-    eval-bool.Post,
-    eval-select-below t,
-    eval-select.Post,
-    eval-leaf-reads.Asked,
-    eval-leaf-reads.Learnt,
-    eval-two-below t,
-    eval-two.Post,
-    eval-one-below t,
-    eval-one.Post,
-    standing-reads.Asked,
-    standing-reads.Learnt,
+    stopped.Asked,
+    stopped.Learnt,
+    kind.Asked,
+    kind.Learnt,
+    eval-bool .below t,
+    eval-bool .post,
+    eval-select .below t,
+    eval-select .post,
+    eval-leaf.Asked,
+    eval-leaf.Learnt,
+    eval-two .below t,
+    eval-two .post,
+    eval-one .below t,
+    eval-one .post,
+    standing.Asked,
+    standing.Learnt,
   )
 
-  abbrev lent : eval-value-lts.After-node-kind claims (eval-value-at t) eval-value.Post → eval-value-lts.Start claims (eval-value-at t) eval-value.Post
+  abbrev Here : Over lts.Claims lts.ps lts.r → Type 0
+  Here T = T claims (eval-value .at t) (eval-value .post)
+
+  abbrev lent : Here lts.After-node-kind → Here lts.Start
   lent c = let i = c .before in i .before .before .before
 
-  returns : eval-value-lts.Need-returns claims (eval-value-at t) eval-value.Post
-  returns c =
-      let k = c .before in
-      let v = k .before .before .before in
-      formed-as refl (sym (c .stopped .ensures)) (spent-expr (v .pre .1 .0) (k .if1 .taken))
+  visit : (k : Here lts.After-node-kind) → let a = lent k .args in
+      Visited (now (a .table)) (now (a .env)) (now (a .s)) (a .top) (k .node-kind .result) (a .node) (a .left)
+  visit k = counted (lent k .pre .1 .0) _ (k .before .if1 .left) (k .node-kind .ensures)
 
-  eval-bool-requires : eval-value-lts.Need-eval-bool-requires claims (eval-value-at t) eval-value.Post
-  eval-bool-requires c κs =
-      let b = c .before in
-      let k = b .before in
-      let v = lent k in
-      (omega (arith, v .pre .0), visited-as (counted (v .pre .1 .0) _ (k .before .if1 .left) (k .node-kind .ensures)) (b .match .keys1))
-
-  eval-select-requires : eval-value-lts.Need-eval-select-requires claims (eval-value-at t) eval-value.Post
-  eval-select-requires c κs =
-      let b = c .before in
-      let k = b .before in
-      let v = lent k in
-      (omega (arith, v .pre .0), visited-as (counted (v .pre .1 .0) _ (k .before .if1 .left) (k .node-kind .ensures)) (b .match .keys4))
-
-  eval-two-requires : eval-value-lts.Need-eval-two-requires claims (eval-value-at t) eval-value.Post
+  eval-two-requires : Here lts.Need-eval-two-requires
   eval-two-requires c κs =
-      let b = c .before in
-      let k = b .before in
-      let v = lent k in
+      let k = c .before .before in
       let by = ⊎-elim (λ w. two-key _ (w .keys3))
       (⊎-elim (λ w. let m = w .0 .rest in two-low _ (m .0 .0 .0 .0 .1) (from-27 _ (w .2 .left) (m .0 .0 .0 .0 .0 .1) (m .1)) (w .3 .taken))
-      (λ w. let m = w .0 .rest in two-high _ (m .0 .0 .0 .0 .1) (m .0 .0 .0 .1) (w .4 .left) (w .5 .taken))) (b .match .came) in
-      (omega (arith, v .pre .0), (counted (v .pre .1 .0) _ (k .before .if1 .left) (k .node-kind .ensures), by))
+      (λ w. let m = w .0 .rest in two-high _ (m .0 .0 .0 .0 .1) (m .0 .0 .0 .1) (w .4 .left) (w .5 .taken))) (c .before .match .came) in
+      (omega (arith, lent k .pre .0), (visit k, by))
 
-  eval-one-requires : eval-value-lts.Need-eval-one-requires claims (eval-value-at t) eval-value.Post
+  eval-one-requires : Here lts.Need-eval-one-requires
   eval-one-requires c κs =
-      let b = c .before in
-      let k = b .before in
-      let v = lent k in
-      let by = ⊎-elim (λ w. one-keys _ (w .keys2))
-      (λ w. let m = w .0 .rest in one-range _ (m .0 .0 .0 .0 .1) (m .0 .0 .1) (w .3 .left) (w .4 .taken)) (b .match .came) in
-      (omega (arith, v .pre .0), (counted (v .pre .1 .0) _ (k .before .if1 .left) (k .node-kind .ensures), by))
-
-  sub-eval-leaf : eval-value-lts.Need-sub-eval-leaf claims (eval-value-at t) eval-value.Post
-  sub-eval-leaf c =
       let k = c .before .before in
-      let v = lent k in
-      omega (arith, counted (v .pre .1 .0) _ (k .before .if1 .left) (k .node-kind .ensures) .unspent)
+      let by = ⊎-elim (λ w. one-keys _ (w .keys2))
+      (λ w. let m = w .0 .rest in one-range _ (m .0 .0 .0 .0 .1) (m .0 .0 .1) (w .3 .left) (w .4 .taken)) (c .before .match .came) in
+      (omega (arith, lent k .pre .0), (visit k, by))
 
-  eval-leaf-requires : eval-value-lts.Need-eval-leaf-requires claims (eval-value-at t) eval-value.Post
-  eval-leaf-requires c κs =
-      let b = c .before in
-      let k = b .before in
-      let v = lent k in
-      leaf-node (counted (v .pre .1 .0) _ (k .before .if1 .left) (k .node-kind .ensures)) (b .match .keys5)
-
-  standing-requires : eval-value-lts.Need-standing-requires claims (eval-value-at t) eval-value.Post
+  standing-requires : Here lts.Need-standing-requires
   standing-requires c κs =
-      let k = c .before in
-      let v = lent k in
-      standing-ready (counted (v .pre .1 .0) _ (k .before .if1 .left) (k .node-kind .ensures))
+      standing-ready (visit (c .before))
       (standing-code _ (⊎-elim (λ w. inl (w .keys6)) (λ w. inr (w .1 .left, w .2 .taken, λ e. w .0 .rest .0 .1 (inl e))) (c .match .came)))
 
-  sub-left : eval-value-lts.Need-sub-t23 claims (eval-value-at t) eval-value.Post
-  sub-left c =
-      let k = c .before .before in
-      let v = lent k in
-      omega (arith, counted (v .pre .1 .0) _ (k .before .if1 .left) (k .node-kind .ensures) .unspent)
-
-  returns-4 : eval-value-lts.Need-returns-4 claims (eval-value-at t) eval-value.Post
+  returns-4 : Here lts.Need-returns-4
   returns-4 c =
-      let p = c .before .before in
-      let b = p .before .before in
-      let k = b .before in
-      let v = lent k in
-      let d = counted (v .pre .1 .0) _ (k .before .if1 .left) (k .node-kind .ensures) in
+      let p = c .before .before in let b = p .before .before in let d = visit (b .before) in
       leaf-answer d (leaf-node d (b .match .keys5)) _ _ (p .eval-leaf .ensures)
 
-  returns-5 : eval-value-lts.Need-returns-5 claims (eval-value-at t) eval-value.Post
+  returns-5 : Here lts.Need-returns-5
   returns-5 c =
-      let j = c .before in
-      let m = j .before in
-      let k = m .before in
-      let v = lent k in
-      let r = expression-code (counted (v .pre .1 .0) _ (k .before .if1 .left) (k .node-kind .ensures)) (v .pre .1 .1) in
+      let j = c .before in let m = j .before in let r = expression-code (visit (m .before)) (lent (m .before) .pre .1 .1) in
       let n = m .match .rest in
       ⊎-elim (λ w. absurd (omega (arith, r, w .taken))) (λ w. no-other _ r (w .4 .left) (n .0 .0 .0 .0 .1) (n .0 .1)) (j .if2 .came)
 
-  returns-8 : eval-value-lts.Need-returns-8 claims (eval-value-at t) eval-value.Post
-  returns-8 c =
-      let k = c .before .before in
-      let v = lent k in
-      standing-answer (counted (v .pre .1 .0) _ (k .before .if1 .left) (k .node-kind .ensures)) (c .standing .ensures)
-
-  pub eval-value-closed : {M : Type 1} → eval-value-lts.Closed claims (eval-value-at t) eval-value.Post M
-  eval-value-closed =
-      eval-value-lts.spec
-      claims
-      (eval-value-at t)
-      eval-value.Post
+  pub closed : {M : Type 1} → lts.Closed claims (eval-value .at t) (eval-value .post) M
+  closed =
+      lts.spec claims (eval-value .at t) (eval-value .post)
       (λ c κs. tt)
-      returns
-      (λ c κs. let v = c .before .before .before in ready-node (v .pre .1 .0))
-      eval-bool-requires
-      eval-select-requires
-      sub-eval-leaf
-      eval-leaf-requires
+      (λ c. let k = c .before in formed-as refl (sym (c .stopped .ensures)) (spent-expr (k .before .before .before .pre .1 .0) (k .if1 .taken)))
+      (λ c κs. ready-node (c .before .before .before .pre .1 .0))
+      (λ c κs. let k = c .before .before in (omega (arith, lent k .pre .0), visited-as (visit k) (c .before .match .keys1)))
+      (λ c κs. let k = c .before .before in (omega (arith, lent k .pre .0), visited-as (visit k) (c .before .match .keys4)))
+      (λ c. visit (c .before .before) .unspent)
+      (λ c κs. leaf-node (visit (c .before .before)) (c .before .match .keys5))
       (λ c κs. tt)
       eval-two-requires
       eval-one-requires
       standing-requires
-      sub-left
-      (λ c. c .before .before .eval-bool .kept .1 .1 .0)
-      (λ c. c .before .before .eval-bool .ensures)
-      (λ c. c .before .before .eval-select .kept .1 .1 .0)
-      (λ c. c .before .before .eval-select .ensures)
+      (λ c. visit (c .before .before) .unspent)
+      (λ c. c .before .before .eval-bool .kept .1 .1 .0) (λ c. c .before .before .eval-bool .ensures)
+      (λ c. c .before .before .eval-select .kept .1 .1 .0) (λ c. c .before .before .eval-select .ensures)
       (λ c. c .before .before .eval-leaf .kept .1 .0)
       returns-4
       returns-5
-      (λ c. c .before .before .eval-two .kept .1 .1 .0)
-      (λ c. c .before .before .eval-two .ensures)
-      (λ c. c .before .before .eval-one .kept .1 .1 .0)
-      (λ c. c .before .before .eval-one .ensures)
-      returns-8
+      (λ c. c .before .before .eval-two .kept .1 .1 .0) (λ c. c .before .before .eval-two .ensures)
+      (λ c. c .before .before .eval-one .kept .1 .1 .0) (λ c. c .before .before .eval-one .ensures)
+      (λ c. standing-answer (visit (c .before .before)) (c .standing .ensures))
