@@ -159,7 +159,10 @@ fn check_types(table: &[u8], sheet: &mut [u8]) -> Checked
 // Refusals 10 to 13 in order, or the rows of the only typing, of a table that has been read.
 pub fn check_readable(table: &[u8], sheet: &mut [u8]) -> Checked
     requires { ⌜ Readable (now table) ⌝ }
-    ensures { λ r. ⌜ (answerOf r ≡ answered (verdict (now (table .entry)) (length (now (sheet .entry))))) × (now (sheet .exit) ≡ sheetAfter (verdict (now (table .entry)) (length (now (sheet .entry)))) (now (sheet .entry))) ⌝ }
+    ensures { λ r. ⌜
+        (answerOf r ≡ answered (verdict (now (table .entry)) (length (now (sheet .entry))))) ×
+        (now (sheet .exit) ≡ sheetAfter (verdict (now (table .entry)) (length (now (sheet .entry)))) (now (sheet .entry)))
+        ⌝ }
 {
     let places = table::identifiers(table) + table::nodes(table);
     if sheet.len() != 64 * places {
@@ -170,7 +173,10 @@ pub fn check_readable(table: &[u8], sheet: &mut [u8]) -> Checked
 
 // Check: refusals 1 to 13 in order, or the rows of the only typing.
 pub fn check(table: &[u8], sheet: &mut [u8]) -> Checked
-    ensures { λ r. ⌜ (answerOf r ≡ answered (verdict (now (table .entry)) (length (now (sheet .entry))))) × (now (sheet .exit) ≡ sheetAfter (verdict (now (table .entry)) (length (now (sheet .entry)))) (now (sheet .entry))) ⌝ }
+    ensures { λ r. ⌜
+        (answerOf r ≡ answered (verdict (now (table .entry)) (length (now (sheet .entry))))) ×
+        (now (sheet .exit) ≡ sheetAfter (verdict (now (table .entry)) (length (now (sheet .entry)))) (now (sheet .entry)))
+        ⌝ }
 {
     let reading = reading::read(table);
     if let Reading::Refused(r) = reading {
