@@ -8,12 +8,12 @@ use Rattle.rules.specs.Types.{Ty, weightᵀ}
 use Rattle.rules.specs.Ends.{End, done, refused}
 use Rattle.rules.specs.Tables.{tableOf, identifierCount, nodeCount}
 use Rattle.rules.specs.Reading.{reading}
+use Rattle.rules.specs.Readable.{Readable}
 use Rattle.rules.specs.Verdict.{Verdict, unreadable, misfit, Place, sheetAfter, sheetLength, sheetOf, typeLimit}
 use Rattle.laws.proofs.VerdictLaws.{verdict-only}
+use Rattle.laws.proofs.ReadingLaws.{reading-right}
 use Rattle.laws.proofs.TableLaws.{binds-length, nodes-length}
 use Rattle.reading.specs.declared.Refusal.{Refusal}
-use Rattle.reading.specs.Answers.{readingOf}
-use Rattle.reading.proofs.Promise.{passed-readable}
 use Rattle.unification.specs.Problem.{Shape, Matches}
 use Rattle.unification.specs.Arrays.{shapeAt as arrayShape}
 use Rattle.unification.specs.Marks.{statusOf, markOf}
@@ -41,10 +41,10 @@ pub told-refused : (bs sheet : List ℕ) (n p : ℕ) (r : Checked) → r ≡ Ref
     Verdict bs (length sheet) (refused n p) → Told bs sheet r sheet
 told-refused bs sheet n p r e v = record { verdict = refused n p; described = v; answer = ap answerOf e; exit = refl }
 
-pub told-unreadable : (bs sheet : List ℕ) (q : Refusal) → readingOf bs (Rattle.reading.specs.declared.Reading.the-variants.Refused q) ≡ reading bs →
-    Told bs sheet (Refused q) sheet
-told-unreadable bs sheet q e =
-    record { verdict = refused (q .number) (q .place); described = unreadable (sym e); answer = refl; exit = refl }
+-- What reading refuses, Check refuses alike.
+pub unread-final : (bs sheet : List ℕ) (q : Refusal) → reading bs ≡ refused (q .number) (q .place) →
+    (answerOf (Refused q) ≡ answered (verdict bs (length sheet))) × (sheet ≡ sheetAfter (verdict bs (length sheet)) sheet)
+unread-final bs sheet q e = told-final bs sheet (Refused q) sheet (told-refused bs sheet (q .number) (q .place) (Refused q) refl (unreadable e))
 
 -- The shapes of the arrays and of the table are the same, so what is said of the one holds of the other.
 module _ {sh sh′ : ℕ → Shape} {n : ℕ} (same : (v : ℕ) → v < n → sh v ≡ sh′ v) (cls : List ℕ) (bound : (v : ℕ) → v < n → getD cls v v < n) where
@@ -111,24 +111,20 @@ module _ {bs : List ℕ} {at : ℕ} {bases kind left right cls mark sheet : List
             exit = h (λ p′. a .solved .first (placeVar (tableOf bs) p′)) types-of;
           }
 
--- A table that passed refusals 1 to 9.
-module _ (bs : List ℕ) (e : readingOf bs Rattle.reading.specs.declared.Reading.the-variants.Passed ≡ reading bs) where
-  pub passed-reads : reading bs ≡ done (tableOf bs)
-  passed-reads = sym e
+-- A readable table, with the counts that the code has computed.
+module _ {bs : List ℕ} (readable : Readable bs) {i n : ℕ} (p : i ≡ identifierCount bs) (q : n ≡ nodeCount bs) where
+  reads : reading bs ≡ done (tableOf bs)
+  reads = reading-right bs .1 readable
 
-  pub passed-long : 32 ≤ length bs
-  passed-long = passed-readable bs e .header .long
+  pub few-places : i + n ≤ 544
+  few-places = omega (arith, p, q, readable .header .identifiers, readable .header .few-nodes)
 
-  pub passed-few : (i n : ℕ) → i ≡ identifierCount bs → n ≡ nodeCount bs → (i ≤ 32) × (n ≤ 512)
-  passed-few i n p q = (omega (arith, passed-readable bs e .header .identifiers), omega (arith, passed-readable bs e .header .few-nodes))
+  sheet-length : 64 * (i + n) ≡ sheetLength (tableOf bs)
+  sheet-length = omega (arith, p, q, binds-length bs, nodes-length bs)
 
-  sheet-length : (i n : ℕ) → i ≡ identifierCount bs → n ≡ nodeCount bs → 64 * (i + n) ≡ sheetLength (tableOf bs)
-  sheet-length i n p q = omega (arith, binds-length bs, nodes-length bs)
+  pub told-misfit : (sheet : List ℕ) (r : Checked) → (length sheet ≡ 64 * (i + n) → ⊥) → r ≡ Refused (record { number = 10; place = 0 }) →
+      Told bs sheet r sheet
+  told-misfit sheet r h f = told-refused bs sheet 10 0 r f (misfit reads (λ k. h (k ∙ sym sheet-length)))
 
-  pub told-misfit : (sheet : List ℕ) (i n : ℕ) (r : Checked) → i ≡ identifierCount bs → n ≡ nodeCount bs →
-      (length sheet ≡ 64 * (i + n) → ⊥) → r ≡ Refused (record { number = 10; place = 0 }) → Told bs sheet r sheet
-  told-misfit sheet i n r p q h f =
-      told-refused bs sheet 10 0 r f (misfit passed-reads (λ k. h (k ∙ sym (sheet-length i n p q))))
-
-  pub checkable : (sheet : List ℕ) (i n : ℕ) → i ≡ identifierCount bs → n ≡ nodeCount bs → length sheet ≡ 64 * (i + n) → Checkable bs sheet
-  checkable sheet i n p q h = record { reads = passed-reads; fits = h ∙ sheet-length i n p q }
+  pub checkable : (sheet : List ℕ) → length sheet ≡ 64 * (i + n) → Checkable bs sheet
+  checkable sheet h = record { reads = reads; fits = h ∙ sheet-length }

@@ -6,6 +6,7 @@ use reading::Refusal;
 use unifier::wide;
 ghost use mathlib.Core.Path.{_≡_};
 ghost use lib.ListN.{length};
+ghost use Rattle.rules.specs.Readable.{Readable};
 ghost use Rattle.rules.specs.Verdict.{sheetAfter};
 ghost use Rattle.typing.specs.Model.{verdict};
 ghost use Rattle.checker.specs.Answers.{answerOf, answered, Answerable, Checkable, Posed, Told};
@@ -155,17 +156,31 @@ fn check_types(table: &[u8], sheet: &mut [u8]) -> Checked
     )
 }
 
-// Check: refusals 1 to 13 in order, or the rows of the only typing.
-pub fn check(table: &[u8], sheet: &mut [u8]) -> Checked
-    ensures { λ r. ⌜ (answerOf r ≡ answered (verdict (now (table .entry)) (length (now (sheet .entry))))) × (now (sheet .exit) ≡ sheetAfter (verdict (now (table .entry)) (length (now (sheet .entry)))) (now (sheet .entry))) ⌝ }
+// Refusals 10 to 13 in order, or the rows of the only typing, of a table that has been read.
+pub fn check_readable(table: &[u8], sheet: &mut [u8]) -> Checked
+    requires { ⌜ Readable (now table) ⌝ }
+    ensures { λ r. ⌜
+        (answerOf r ≡ answered (verdict (now (table .entry)) (length (now (sheet .entry))))) ×
+        (now (sheet .exit) ≡ sheetAfter (verdict (now (table .entry)) (length (now (sheet .entry)))) (now (sheet .entry)))
+        ⌝ }
 {
-    let reading = reading::read(table);
-    if let Reading::Refused(r) = reading {
-        return Checked::Refused(r);
-    }
     let places = table::identifiers(table) + table::nodes(table);
     if sheet.len() != 64 * places {
         return refused(10, 0);
     }
     check_types(table, sheet)
+}
+
+// Check: refusals 1 to 13 in order, or the rows of the only typing.
+pub fn check(table: &[u8], sheet: &mut [u8]) -> Checked
+    ensures { λ r. ⌜
+        (answerOf r ≡ answered (verdict (now (table .entry)) (length (now (sheet .entry))))) ×
+        (now (sheet .exit) ≡ sheetAfter (verdict (now (table .entry)) (length (now (sheet .entry)))) (now (sheet .entry)))
+        ⌝ }
+{
+    let reading = reading::read(table);
+    if let Reading::Refused(r) = reading {
+        return Checked::Refused(r);
+    }
+    check_readable(table, sheet)
 }

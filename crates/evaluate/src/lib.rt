@@ -137,7 +137,7 @@ fn room(table: &[u8], height: usize) -> usize
 }
 
 // Evaluates a readable table, whose root has the height, over an arena of its size.
-fn evaluate_sized(
+pub fn evaluate_sized(
     table: &[u8],
     values: &[u8],
     sheet: &[u8],
@@ -150,15 +150,6 @@ fn evaluate_sized(
     let held = buffer::cells_at_most(table::identifiers(table), values.len());
     let need = 1 + table::nodes(table) + held + room(table, height);
     arenas::smallest(table, values, sheet, budget, need, 0)
-}
-
-// The same for a readable table whose root's height is not known yet: Check has read it.
-pub fn evaluate_readable(table: &[u8], values: &[u8], sheet: &[u8], budget: u32) -> GuardedRun
-    requires { ⌜ Readable (now table) ⌝ }
-    ensures { λ r. ⌜ Judged (now (table .entry)) (now (values .entry)) (now (sheet .entry)) budget r ⌝ }
-{
-    let height = reading::measure(table);
-    evaluate_sized(table, values, sheet, budget, height)
 }
 
 // Evaluate: refusals 1 to 9, then 14, and then the condition's end.

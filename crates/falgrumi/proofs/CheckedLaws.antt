@@ -6,7 +6,6 @@ use mathlib.Core.List.{List}
 use mathlib.Core.Path.{_≡_, refl, sym, ap, _∙_, subst}
 use lib.ListN.{length}
 use Rattle.rules.specs.Ends.{End, done, refused, _>>=_}
-use Rattle.rules.specs.Readable.{Readable}
 use Rattle.rules.specs.Evaluation.{evaluation}
 use Rattle.rules.specs.Safety.{Any}
 use Rattle.rules.specs.Verdict.{sheetAfter}
@@ -21,7 +20,7 @@ use Rattle.conforms.specs.Conforming.{conforming}
 use Rattle.conforms.proofs.ConformingLaws.{conforming-right}
 use Rattle.falgrumi.specs.Guarantee.{Report, checkedEvaluation, TellsGuarantee}
 use Rattle.falgrumi.specs.Answers.{InByte, reportedEnd}
-use Rattle.falgrumi.proofs.Demand.{guarantee, accepted-fits, accepted-readable}
+use Rattle.falgrumi.proofs.Demand.{guarantee, accepted-fits}
 use Rattle.falgrumi.proofs.EndNumbers.{NumberFrom, verdict-numbers, accepted-numbers, verdict-byte, evaluation-byte}
 
 -- The report that is made of rows: `checkedEvaluation` is the verdict, and then this.
@@ -90,8 +89,7 @@ reported-byte bs buffer room budget =
     go (refused r p) h = h
 
 -- The answer, by that of Check.
-module _ (bs sheet buffer : List ℕ) (budget : ℕ) (after : List ℕ) (r : Checked)
-    (e : answerOf r ≡ answered (verdict bs (length sheet))) (x : after ≡ sheetAfter (verdict bs (length sheet)) sheet) where
+module _ (bs sheet buffer : List ℕ) (budget : ℕ) {r : Checked} (e : answerOf r ≡ answered (verdict bs (length sheet))) where
   pub checked-refused : (y : Refusal) → r ≡ Refused y → refused (y .number) (y .place) ≡ checkedEvaluation bs (length sheet) buffer budget
   checked-refused y q =
       go (verdict bs (length sheet)) (sym (ap answerOf q) ∙ e) ∙ sym (checked-is bs buffer budget (length sheet))
@@ -101,18 +99,10 @@ module _ (bs sheet buffer : List ℕ) (budget : ℕ) (after : List ℕ) (r : Che
       go (done rows) h = absurd (absurd01 (cc))
       go (refused s p) h = cc
 
-  -- An accepted table is readable.
-  pub checked-readable : r ≡ Accepted → Readable bs
-  checked-readable q = go (verdict bs (length sheet)) refl (sym (ap answerOf q) ∙ e)
-    where
-      go : (v : End (List ℕ)) → verdict bs (length sheet) ≡ v → done tt ≡ answered v → Readable bs
-      go (done rows) f h = accepted-readable bs rows (length sheet) f
-      go (refused s p) f h = absurd (absurd01 (cc))
-
-  pub checked-accepted : (d : End Bool) (s : ℕ) (c : Bool) → r ≡ Accepted → d ≡ evaluation bs buffer budget .end →
-      s ≡ evaluation bs buffer budget .steps → c ≡ conforming bs after buffer →
+  pub checked-accepted : {after : List ℕ} → after ≡ sheetAfter (verdict bs (length sheet)) sheet → (d : End Bool) (s : ℕ) (c : Bool) → r ≡ Accepted →
+      d ≡ evaluation bs buffer budget .end → s ≡ evaluation bs buffer budget .steps → c ≡ conforming bs after buffer →
       done (record { end = d; steps = s; conforms = c }) ≡ checkedEvaluation bs (length sheet) buffer budget
-  checked-accepted d s c q ed es ec =
+  checked-accepted {after} x d s c q ed es ec =
       go (verdict bs (length sheet)) (sym (ap answerOf q) ∙ e) x ∙ sym (checked-is bs buffer budget (length sheet))
     where
       go : (v : End (List ℕ)) → done tt ≡ answered v → after ≡ sheetAfter v sheet →

@@ -16,8 +16,7 @@ use Rattle.rules.specs.Ends.{End, done, refused}
 use Rattle.rules.specs.Verdict.{nodePlace, Place, Whole, sheetLength, Verdict, accepts, sheetAfter}
 use Rattle.rules.specs.Evaluation.{evaluation}
 use Rattle.rules.specs.Safety.{Any}
-use Rattle.rules.specs.Readable.{Readable}
-use Rattle.laws.proofs.ReadingLaws.{reading-table, reading-readable}
+use Rattle.laws.proofs.ReadingLaws.{reading-table}
 use Rattle.rules.proofs.TypeLaws.{row-injective}
 use Rattle.laws.proofs.SetOrder.{all-imp}
 use Rattle.laws.proofs.TypedTree.{IsExpression}
@@ -61,10 +60,6 @@ pub accepted-fits : (bs rows : List ℕ) (room : ℕ) → verdict bs room ≡ do
 accepted-fits bs rows room e =
     let w = accepted-rows bs rows room e in
     record { rows = w .long ∙ ap sheetLength (reading-table bs (w .table) (w .reads)) }
-
--- And the table is readable.
-pub accepted-readable : (bs rows : List ℕ) (room : ℕ) → verdict bs room ≡ done rows → Readable bs
-accepted-readable bs rows room e = let w = accepted-rows bs rows room e in reading-readable bs (w .table) (w .reads)
 
 module _ {bs rows : List ℕ} (w : RowsOfTyping bs rows) where
   -- A value has its node's type, and the type written for its node.

@@ -4,14 +4,18 @@ use evaluate::Ending;
 use evaluate::Evaluation;
 use evaluate::GuardedRun;
 use evaluate::Truth;
+use reading::Height;
 use reading::Refusal;
 ghost use Prim.Native.Nat.{_<_};
 ghost use mathlib.Core.Path.{_≡_};
 ghost use lib.ListN.{length};
 ghost use Rattle.rules.specs.Values.{bit};
+ghost use Rattle.rules.specs.Tables.{tableOf};
+ghost use Rattle.rules.specs.Readable.{Readable};
 ghost use Rattle.rules.specs.Verdict.{sheetAfter};
 ghost use Rattle.typing.specs.Model.{verdict};
 ghost use Rattle.rules.specs.Evaluation.{evaluation};
+ghost use Rattle.reading.specs.Answers.{rootHeight};
 ghost use Rattle.evaluate.specs.Result.{endingOf};
 ghost use Rattle.conforms.specs.Conforming.{conforming};
 ghost use Rattle.falgrumi.specs.Guarantee.{checkedEvaluation, guardedOf};
@@ -118,21 +122,35 @@ pub enum Guarded {
     Evaluated(GuardedRun),
 }
 
-// Checks the table, and where it is accepted evaluates it and tests the values against the sheet.
+// Checks a readable table, whose root has the height, and where it is accepted evaluates it and tests the values against the sheet.
+fn checked_run(table: &[u8], sheet: &mut [u8], values: &[u8], budget: u32, height: usize) -> Guarded
+    requires { ⌜ Readable (now table) × (height ≡ rootHeight (tableOf (now table))) ⌝ }
+    ensures { λ r. ⌜
+        (guardedOf r ≡ checkedEvaluation (now (table .entry)) (length (now (sheet .entry))) (now (values .entry)) budget) ×
+        (now (sheet .exit) ≡ sheetAfter (verdict (now (table .entry)) (length (now (sheet .entry)))) (now (sheet .entry)))
+        ⌝ }
+{
+    let checked = checker::check_readable(table, sheet);
+    match checked {
+        Checked::Refused(r) => Guarded::Refused(r),
+        Checked::Accepted => {
+            let run = evaluate::evaluate_sized(table, values, sheet, budget, height);
+            Guarded::Evaluated(run)
+        }
+    }
+}
+
+// Checks the table, and where it is accepted evaluates it and tests the values against the sheet. The table is read once for both.
 pub fn checked_evaluation(table: &[u8], sheet: &mut [u8], values: &[u8], budget: u32) -> Guarded
     ensures { λ r. ⌜
         (guardedOf r ≡ checkedEvaluation (now (table .entry)) (length (now (sheet .entry))) (now (values .entry)) budget) ×
         (now (sheet .exit) ≡ sheetAfter (verdict (now (table .entry)) (length (now (sheet .entry)))) (now (sheet .entry)))
         ⌝ }
 {
-    let checked = checker::check(table, sheet);
-    match checked {
-        Checked::Refused(r) => Guarded::Refused(r),
-        Checked::Accepted => {
-            // Check has read the table.
-            let run = evaluate::evaluate_readable(table, values, sheet, budget);
-            Guarded::Evaluated(run)
-        }
+    let height = reading::read_height(table);
+    match height {
+        Height::Refused(r) => Guarded::Refused(r),
+        Height::Root(h) => checked_run(table, sheet, values, budget, h),
     }
 }
 

@@ -1,13 +1,12 @@
--- What the crates above rest on: a table that `read` passes is readable, and so its records may be read.
+-- What the crates above rest on: a table that `read` or `read_height` passes is readable, and what they refuse `reading` refuses.
 use Prim.Native.Nat.{ℕ}
 use mathlib.Core.List.{List}
-use mathlib.Core.Path.{_≡_, refl, sym, ap, _∙_, subst}
+use mathlib.Core.Path.{_≡_, refl, sym, ap, _∙_}
 use Rattle.rules.specs.Ends.{End, done, refused, _>>=_}
-use Rattle.rules.specs.Tables.{Table, tableOf, nodesAt}
+use Rattle.rules.specs.Tables.{Table, tableOf}
 use Rattle.rules.specs.Reading.{reading}
 use Rattle.rules.specs.Readable.{Readable}
 use Rattle.laws.proofs.ReadingLaws.{reading-right, reading-table, reading-readable}
-use Rattle.laws.proofs.TableLaws.{nodes-length}
 use Rattle.rules.proofs.Basics.{absurd01}
 use Rattle.reading.specs.declared.Reading.{Reading}
 use Rattle.reading.specs.declared.Reading.the-variants.{Passed, Refused}
@@ -15,21 +14,10 @@ use Rattle.reading.specs.declared.Refusal.{Refusal}
 use Rattle.reading.specs.declared.Height.{Height}
 use Rattle.reading.specs.declared.Height.the-variants.{Root, Refused as Unmeasured}
 use Rattle.reading.specs.Answers.{readingOf, heightOf, rootHeight, readingHeight}
-use Rattle.table.specs.Layout.{Laid, Fielded}
 
-module _ (bs : List ℕ) where
-  pub passed-readable : readingOf bs Passed ≡ reading bs → Readable bs
-  passed-readable e = reading-right bs .0 (sym e)
-
-  pub readable-laid : Readable bs → Laid bs (nodesAt bs)
-  readable-laid r = record { header = r .header; base = refl }
-
-  pub readable-fielded : Readable bs → Fielded bs (nodesAt bs)
-  readable-fielded r = record { laid = readable-laid r; fields = λ n h. r .records .fields n (rw (nodes-length bs) h) }
-
--- What reading the table has answered.
+-- What `read` tells where it passes the table.
 pub read-readable : (bs : List ℕ) (a : Reading) → readingOf bs a ≡ reading bs → a ≡ Passed → Readable bs
-read-readable bs a e f = passed-readable bs (subst (λ (b : Reading). readingOf bs b ≡ reading bs) f e)
+read-readable bs a e q = reading-right bs .0 (sym e ∙ ap (readingOf bs) q)
 
 -- What `read_height` tells by its answer: the table is readable and its root has the height, or the refusal is that of `reading`.
 module _ (bs : List ℕ) where

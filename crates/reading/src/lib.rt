@@ -2,7 +2,7 @@
 ghost use mathlib.Core.Path.{_≡_};
 ghost use lib.ListN.{length};
 ghost use Rattle.rules.specs.Tables.{tableOf, nodeCount};
-ghost use Rattle.rules.specs.Readable.{Header, Readable};
+ghost use Rattle.rules.specs.Readable.{Header};
 ghost use Rattle.rules.specs.Reading.{reading};
 ghost use Rattle.table.specs.Layout.{Fielded};
 ghost use Rattle.reading.specs.Answers.{readingOf, readingRecords, readingTree, heightOf, rootHeight, measured, readingHeight};
@@ -44,16 +44,6 @@ fn root_height(table: &[u8], heights: &[u8]) -> usize
         return 0;
     }
     table::wide(heights[count - 1])
-}
-
-// The height of the root of a table that has been read; 0 where it has none.
-pub fn measure(table: &[u8]) -> usize
-    requires { ⌜ Readable (now table) ⌝ }
-    ensures { λ r. ⌜ r ≡ rootHeight (tableOf (now (table .entry))) ⌝ }
-{
-    let mut heights = [0u8; 512];
-    tree::set_heights(table, table::nodes_offset(table), &mut heights);
-    root_height(table, &heights)
 }
 
 // Refusals 7 to 9 of a table whose records are right, or the root's height.
