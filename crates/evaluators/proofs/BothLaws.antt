@@ -19,9 +19,10 @@ use Rattle.rules.proofs.Basics.{absurd01}
 use Rattle.arena.specs.Code.{Same}
 use Rattle.arena.proofs.Standing.{same-trans}
 use Rattle.operations.specs.Good.{GoodAt}
-use Rattle.operations.specs.Outcomes.{Operands, TestOf, tested}
+use Rattle.operations.specs.Outcomes.{SomeOperands, TestOf, tested}
 use Rattle.operations.specs.declared.Tested.{Tested}
 use Rattle.operations.specs.declared.Tested.the-variants.{Truth as Tells, Unlike}
+use Rattle.operations.proofs.GoodLaws.{good-above}
 use Rattle.operations.proofs.OutcomeLaws.{test-fit, test-unfit}
 use Rattle.reading.specs.declared.Refusal.{Refusal}
 use Rattle.evaluators.specs.declared.Formed.{Formed}
@@ -147,20 +148,13 @@ module _ {bs env s : List ℕ} {top n : ℕ} (x : Ready bs env s top n) (y : Two
                   };
             }
 
--- What a test may take for granted of its operands.
-pub operands-ready : {bs env s : List ℕ} {top n left : ℕ} {s′ : List ℕ} {a mid b next l : ℕ} → Ready bs env s top n →
-    EvaluatesBoth bs env s top n left s′ a mid b next l → Operands s′ a mid b next
-operands-ready {bs} {n = n} {left = left} x h =
+-- What an operation may take for granted of its operands. An abbreviation, so that `next` is seen to be where they end.
+abbrev pub operands-ready : {bs env s : List ℕ} {top n left : ℕ} {s′ : List ℕ} {a mid b next l : ℕ} → Ready bs env s top n →
+    EvaluatesBoth bs env s top n left s′ a mid b next l → SomeOperands s′ a b
+operands-ready {bs} {n = n} {left = left} {next = next} x h =
     let v = h .answer n (x .values) left 0 (omega arith) (omega arith) (x .binds) in
-    record {
-      sizes = tableOf bs .sizes;
-      small = sizes-small bs (x .readable);
-      first = v .first;
-      second = v .second;
-      left = v .leftAt;
-      right = v .rightAt;
-      order = h .order;
-    }
+    let small = sizes-small bs (x .readable) in
+    (next, record { sizes = _; small = small; first = _; second = _; left = good-above small (v .leftAt) next (h .order); right = v .rightAt })
 
 -- 6 to 9
 module _ (budget : ℕ) (gs : List ℕ) (n : ℕ) (j : Test) (e f : Expr) (ρ : Env) (s : ℕ) (less : s < budget) where
@@ -231,11 +225,11 @@ module _ {bs env s : List ℕ} {top k n left : ℕ} (x : Visited bs env s top k 
       test-refused budget (tableOf bs .sizes) n j (eᵃ g) (eᵇ g) ρ steps (o .0) (h .answer g ρ budget (suc steps) le (o .1) b))
 
   module _ {s′ : List ℕ} {at mid other next l : ℕ} (h : EvaluatesBoth bs env s top n (left - 1) s′ at mid other next l)
-      {o : Tested} (op : TestOf k s′ at mid other next o) where
+      {o : Tested} (op : TestOf k s′ at other o) where
     -- What the operation says of the operands' values.
     told : {e₁ e₂ : M Value} {budget steps : ℕ} (v : BothAs e₁ e₂ budget steps (tableOf bs .sizes) s′ at mid other next l) →
         o ≡ tested j (v .first) (v .second)
-    told v = op j e (tableOf bs .sizes) (v .first) (v .second) (sizes-small bs (x .ready .readable)) (v .leftAt) (v .rightAt)
+    told v = op j e (tableOf bs .sizes) mid next (v .first) (v .second) (sizes-small bs (x .ready .readable)) (v .leftAt) (v .rightAt)
 
     -- 15, or the truth.
     pub test-unlike : o ≡ Unlike → EvaluatesP bs env s top n left s′ (Refused (record { number = 15; place = n }) l)

@@ -175,9 +175,9 @@ module _ {bs env s : List ℕ} {top k n left : ℕ} (x : Visited bs env s top k 
   two-fields = visited-operands x (two j) e refl
 
   -- What the operation may take for granted of its operands.
-  pub two-ready : {s₁ : List ℕ} {at mid other next l : ℕ} → EvaluatesBoth bs env s top n (left - 1) s₁ at mid other next l → TwoReady s₁ at mid other next
+  pub two-ready : {s₁ : List ℕ} {at mid other next l : ℕ} → EvaluatesBoth bs env s top n (left - 1) s₁ at mid other next l → TwoReady s₁ at other next
   two-ready h = record {
-    operands = operands-ready (x .ready) h;
+    operands = operands-ready (x .ready) h .1;
     room = omega (arith, x .ready .room (visited-builds x (two j) e refl), fields-tall two-fields, h .high, h .near, h .frame .kept);
   }
 
@@ -196,11 +196,11 @@ module _ {bs env s : List ℕ} {top k n left : ℕ} (x : Visited bs env s top k 
       (two-refused budget (tableOf bs .sizes) n j (eᵃ g) (eᵇ g) ρ steps (o .0) (h .answer g ρ budget (suc steps) le (o .1) b)))
 
   module _ {s₁ : List ℕ} {at mid other next l : ℕ} (h : EvaluatesBoth bs env s top n (left - 1) s₁ at mid other next l)
-      {s₂ : List ℕ} {o : Outcome} (op : TwoOf k s₁ at mid other next s₂ o) where
+      {s₂ : List ℕ} {o : Outcome} (op : TwoOf k s₁ at other next s₂ o) where
     -- What the operation gives for the operands' values.
     given₂ : {d₁ d₂ : M Value} {budget steps : ℕ} (v : BothAs d₁ d₂ budget steps (tableOf bs .sizes) s₁ at mid other next l) →
         Gives s₂ mid next (twoGiven j (v .first) (v .second)) o
-    given₂ v = op j e .answer (tableOf bs .sizes) (v .first) (v .second) (sizes-small bs (x .ready .readable)) (v .leftAt) (v .rightAt)
+    given₂ v = op j e .answer (tableOf bs .sizes) mid (v .first) (v .second) (sizes-small bs (x .ready .readable)) (h .order) (v .leftAt) (v .rightAt)
 
     pub two-settles : SettleReady s₂ o mid next top
     two-settles =

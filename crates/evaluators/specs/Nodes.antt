@@ -16,6 +16,7 @@ use Rattle.rules.specs.Operations as rules
 use Rattle.arena.specs.Code.{Same, Copied}
 use Rattle.constants.specs.Built.{builtLeaf}
 use Rattle.operations.specs.Good.{Sizes, GoodAt}
+pub use Rattle.operations.specs.Good.{SomeGood}
 use Rattle.operations.specs.Outcomes.{LeafReady, LeafDone}
 use Rattle.evaluators.specs.declared.Formed.{Formed}
 use Rattle.evaluators.specs.declared.Formed.the-variants.{Value as Placed}
@@ -54,14 +55,7 @@ abbrev pub quantOf : Bool → Quant
 quantOf true = forAll
 quantOf false = forSome
 
--- A good value stands at `at`.
-pub record SomeGood (s : List ℕ) (at : ℕ) : Type 0 where
-  pub sizes : List ℕ
-  pub small : Sizes sizes
-  pub top : ℕ
-  pub value : Value
-  pub stands : GoodAt sizes s top at value
-
+-- The range of a binder: a good value, a set or not.
 abbrev pub RangeAt : List ℕ → ℕ → Range → Type 0
 RangeAt s at r = (gs : List ℕ) (top : ℕ) (v : Value) → Sizes gs → GoodAt gs s top at v → RangeAs v r
 

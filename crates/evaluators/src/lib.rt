@@ -261,7 +261,7 @@ fn eval_test(
     else {
         return refusal_of(second);
     };
-    let tested = operations::test(s, kind, x, mid, y, next);
+    let tested = operations::test(s, kind, x, y);
     let Tested::Truth(yes) = tested else {
         return refused(15, node, m);
     };
@@ -575,7 +575,7 @@ fn eval_two(
     else {
         return second;
     };
-    let r = operations::two(s, kind, x, mid, y, next);
+    let r = operations::two(s, kind, x, y, next);
     settle(s, r, mid, next, top, node, m)
 }
 

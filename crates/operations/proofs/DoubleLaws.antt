@@ -34,15 +34,12 @@ use Rattle.operations.proofs.FitLaws.{two-any, two-fits, two-sets, two-
 use Rattle.operations.proofs.KindLaws.{twoCode, code-of, same-two}
 
 -- What the functions below ask of the operands.
-module _ {s : List ℕ} {a mid b top : ℕ} (p : Operands s a mid b top) where
+module _ {s : List ℕ} {a b top : ℕ} (p : Operands s a b top) where
   pub ready-first : a < length s
   ready-first = good-inside (p .small) (p .left)
 
   pub ready-second : b < length s
   ready-second = good-inside (p .small) (p .right)
-
-  left-good : GoodAt (p .sizes) s top a (p .first)
-  left-good = good-above (p .small) (p .left) top (p .order)
 
   pub ready-function : {r : Bool} → FitTwo (P̂ (t̂ ×̂ û) ∷ t̂ ∷ []) s a b r → r ≡ true → SomeValue s (length s) b × SomeRelation s (length s) a
   ready-function f e = (
@@ -51,59 +48,56 @@ module _ {s : List ℕ} {a mid b top : ℕ} (p : Operands s a mid b top) where
   )
 
 -- And where there is room to build.
-module _ {s : List ℕ} {a mid b top : ℕ} (p : TwoReady s a mid b top) where
+module _ {s : List ℕ} {a b top : ℕ} (p : TwoReady s a b top) where
   pub ready-values : SomeValue s top a × SomeValue s top b × (top + 514 ≤ length s)
-  ready-values =
-      let o = p .operands in
-      ((o .first, good-value (o .small) (left-good o)), (o .second, good-value (o .small) (o .right)), p .room)
+  ready-values = let o = p .operands in ((o .first, good-value (o .small) (o .left)), (o .second, good-value (o .small) (o .right)), p .room)
 
   pub ready-sets : (u : Pattern) {r : Bool} → FitTwo (P̂ t̂ ∷ P̂ u ∷ []) s a b r → r ≡ true → SomeSet s top a × SomeSet s top b × (top + 514 ≤ length s)
   ready-sets u f e =
       let o = p .operands in
-      two-sets (o .small) (left-good o) (o .right) (λ _ _. SomeSet s top a × SomeSet s top b × (top + 514 ≤ length s)) u f e
+      two-sets (o .small) (o .left) (o .right) (λ _ _. SomeSet s top a × SomeSet s top b × (top + 514 ≤ length s)) u f e
       (λ vs ws i j. ((vs, i), (ws, j), p .room))
 
 -- The answer for operands that do not fit, and for those that do.
-module _ (j : Two) {s : List ℕ} {a mid b top : ℕ} {r : Bool} (f : FitTwo (twoRule j .takes) s a b r) where
-  pub two-unlike : r ≡ false → TwoDone j s a mid b top s (Lacks 15)
+module _ (j : Two) {s : List ℕ} {a b top : ℕ} {r : Bool} (f : FitTwo (twoRule j .takes) s a b r) where
+  pub two-unlike : r ≡ false → TwoDone j s a b top s (Lacks 15)
   unfolding twoGiven
-  two-unlike e = record { frame = same-refl top s; answer = λ gs v w small h k. rw (two-fits small h k (twoRule j .takes) f ∙ e) }
+  two-unlike e = record { frame = same-refl top s; answer = λ gs mid v w small l h k. rw (two-fits small h k (twoRule j .takes) f ∙ e) }
 
   module _ (e : r ≡ true) {s′ : List ℕ} {o : Outcome} where
     two-told : Same top s s′ →
-        ((gs : List ℕ) (v w : Value) → Sizes gs → GoodAt gs s mid a v → GoodAt gs s top b w → Gives s′ mid top (weighed (twoValue j v w)) o) →
-        TwoDone j s a mid b top s′ o
+        ((gs : List ℕ) (mid : ℕ) (v w : Value) → Sizes gs → mid ≤ top → GoodAt gs s mid a v → GoodAt gs s top b w →
+        Gives s′ mid top (weighed (twoValue j v w)) o) → TwoDone j s a b top s′ o
     unfolding twoGiven
-    two-told same m = record { frame = same; answer = λ gs v w small h k. rw (two-fits small h k (twoRule j .takes) f ∙ e) (m gs v w small h k) }
+    two-told same m = record { frame = same; answer = λ gs mid v w small l h k. rw (two-fits small h k (twoRule j .takes) f ∙ e) (m gs mid v w small l h k) }
 
-    two-made : (end : ℕ) → Operands s a mid b top →
+    two-made : (end : ℕ) → Operands s a b top →
         ((gs : List ℕ) (v w : Value) → Sizes gs → GoodAt gs s top a v → GoodAt gs s top b w → Makes top s s′ end (twoValue j v w)) →
-        o ≡ ended end → TwoDone j s a mid b top s′ o
+        o ≡ ended end → TwoDone j s a b top s′ o
     two-made end p m z =
         two-told
-        (makes-frame top s s′ end (twoValue j (p .first) (p .second)) (m (p .sizes) (p .first) (p .second) (p .small) (left-good p) (p .right)))
-        (λ gs v w small h k. makes-gives top s s′ end mid (twoValue j v w) (m gs v w small (good-above small h top (p .order)) k) z)
+        (makes-frame top s s′ end (twoValue j (p .first) (p .second)) (m (p .sizes) (p .first) (p .second) (p .small) (p .left) (p .right)))
+        (λ gs mid v w small l h k. makes-gives top s s′ end mid (twoValue j v w) (m gs v w small (good-above small h top l) k) z)
 
-module _ {s s′ : List ℕ} {a mid b top end : ℕ} {o : Outcome} (p : Operands s a mid b top) where
-  pub pair-done : Pairs s a b top s′ end → o ≡ ended end → TwoDone pairing s a mid b top s′ o
+module _ {s s′ : List ℕ} {a b top end : ℕ} {o : Outcome} (p : Operands s a b top) where
+  pub pair-done : Pairs s a b top s′ end → o ≡ ended end → TwoDone pairing s a b top s′ o
   unfolding twoValue
   pair-done m z = two-made pairing two-any refl end p (λ gs v w small h k. m v w (good-value small h) (good-value small k)) z
 
   pub product-done : {r : Bool} → FitTwo (P̂ t̂ ∷ P̂ û ∷ []) s a b r → r ≡ true → Multiplies s a b top s′ end → o ≡ ended end →
-      TwoDone product s a mid b top s′ o
+      TwoDone product s a b top s′ o
   unfolding twoValue
   product-done f e m z =
       two-made product f e end p (λ gs v w small h k. two-sets small h k (λ x y. Makes top s s′ end (twoValue product x y)) û f e m) z
 
   pub merge-done : {l c r t : Bool} → FitTwo (P̂ t̂ ∷ P̂ t̂ ∷ []) s a b t → t ≡ true → Merges l c r s a b top s′ end → o ≡ ended end →
-      MergeDone l c r s a mid b top s′ o
+      MergeDone l c r s a b top s′ o
   merge-done {t = t} f e m z j i =
       two-made j (subst (λ (ps : List Pattern). FitTwo ps s a b t) (sym (i .takes)) f) e end p
       (λ gs v w small h k. two-sets small h k (λ x y. Makes top s s′ end (twoValue j x y)) t̂ f e
       (λ vs ws x y. subst (λ (g : Given). Makes top s s′ end g) (sym (i .merges vs ws (x .fine) (y .fine))) (m vs ws x y))) z
 
-pub merge-unlike : {s : List ℕ} {a mid b top : ℕ} {l c r t : Bool} → FitTwo (P̂ t̂ ∷ P̂ t̂ ∷ []) s a b t → t ≡ false →
-    MergeDone l c r s a mid b top s (Lacks 15)
+pub merge-unlike : {s : List ℕ} {a b top : ℕ} {l c r t : Bool} → FitTwo (P̂ t̂ ∷ P̂ t̂ ∷ []) s a b t → t ≡ false → MergeDone l c r s a b top s (Lacks 15)
 merge-unlike {s} {a} {b = b} {t = t} f e j i = two-unlike j (subst (λ (ps : List Pattern). FitTwo ps s a b t) (sym (i .takes)) f) e
 
 -- Application: the second part within the function, or none.
@@ -121,21 +115,21 @@ image-some s a mid top vs r (gives u) h n l = record {
   below = omega (arith, h .value .below);
 }
 
-module _ {s : List ℕ} {a mid b top : ℕ} {r : Bool} (f : FitTwo (P̂ (t̂ ×̂ û) ∷ t̂ ∷ []) s a b r) (e : r ≡ true) (at : ℕ) (image : Applies s a b at) where
-  applied-told : (o : Outcome) → ((vs : Values) (g : Given) → ImageAt s a vs at g → a + weight (set vs) ≤ mid → Gives s mid top (weighed g) o) →
-      TwoDone apply s a mid b top s o
+module _ {s : List ℕ} {a b top : ℕ} {r : Bool} (f : FitTwo (P̂ (t̂ ×̂ û) ∷ t̂ ∷ []) s a b r) (e : r ≡ true) (at : ℕ) (image : Applies s a b at) where
+  applied-told : (o : Outcome) →
+      ((mid : ℕ) (vs : Values) (g : Given) → ImageAt s a vs at g → a + weight (set vs) ≤ mid → Gives s mid top (weighed g) o) → TwoDone apply s a b top s o
   unfolding twoValue
   applied-told o m =
       two-told apply f e (same-refl top s)
-      (λ gs v w small h k. two-function small (good-whole small h) k
+      (λ gs mid v w small _ h k. two-function small (good-whole small h) k
       (λ x y. a + weight x ≤ mid → Gives s mid top (weighed (twoValue apply x y)) o) f e
-      (λ vs i q l. m vs (twoValue apply (set vs) w) (image vs w i (good-value small (good-whole small k)) q) l) (h .below))
+      (λ vs i q l. m mid vs (twoValue apply (set vs) w) (image vs w i (good-value small (good-whole small k)) q) l) (h .below))
 
-  pub apply-none : at ≡ 0 → TwoDone apply s a mid b top s (Lacks 16)
-  apply-none z = applied-told (Lacks 16) (λ vs g h l. image-none s a mid top vs at g h z)
+  pub apply-none : at ≡ 0 → TwoDone apply s a b top s (Lacks 16)
+  apply-none z = applied-told (Lacks 16) (λ mid vs g h l. image-none s a mid top vs at g h z)
 
-  pub apply-some : at ≢ 0 → TwoDone apply s a mid b top s (Within at)
-  apply-some n = applied-told (Within at) (λ vs g h l. image-some s a mid top vs at g h n l)
+  pub apply-some : at ≢ 0 → TwoDone apply s a b top s (Within at)
+  apply-some n = applied-told (Within at) (λ mid vs g h l. image-some s a mid top vs at g h n l)
 
 -- Integers with their range checked.
 module _ (x : ℕ) where
@@ -188,23 +182,23 @@ module _ {x y : ℕ} where
   shifted-difference (negsuc a) (negsuc b) h k p q = shifted-sub (suc b) (suc a) (x + 4294967296 - y) (omega (arith, h .1, k .1))
 
 -- Two numbers as operands, by the payloads of their cells.
-module _ {s : List ℕ} {a mid b top : ℕ} {r : Bool} (f : FitTwo (numᵖ whole ∷ numᵖ whole ∷ []) s a b r) (e : r ≡ true)
+module _ {s : List ℕ} {a b top : ℕ} {r : Bool} (f : FitTwo (numᵖ whole ∷ numᵖ whole ∷ []) s a b r) (e : r ≡ true)
     {x y : ℕ} (ex : x ≡ getD s a 0 % cellSize) (ey : y ≡ getD s b 0 % cellSize) {o : Outcome} where
-  pub plus-done : NumberDone (x + y) o → TwoDone (plus whole) s a mid b top s o
+  pub plus-done : NumberDone (x + y) o → TwoDone (plus whole) s a b top s o
   unfolding twoValue
   plus-done m =
       two-told (plus whole) f e (same-refl top s)
-      (λ gs v w small h k. two-numbers small h k (λ v w. Gives s mid top (weighed (twoValue (plus whole) v w)) o) f e
+      (λ gs mid v w small _ h k. two-numbers small h k (λ v w. Gives s mid top (weighed (twoValue (plus whole) v w)) o) f e
       (λ i j c d. m s mid top (i +ℤ j) (shifted-sum i j (c .fits) (d .fits) (number-low ex c) (number-low ey d))))
 
-  pub minus-done : NumberDone (x + 4294967296 - y) o → TwoDone (minus whole) s a mid b top s o
+  pub minus-done : NumberDone (x + 4294967296 - y) o → TwoDone (minus whole) s a b top s o
   unfolding twoValue
   minus-done m =
       two-told (minus whole) f e (same-refl top s)
-      (λ gs v w small h k. two-numbers small h k (λ v w. Gives s mid top (weighed (twoValue (minus whole) v w)) o) f e
+      (λ gs mid v w small _ h k. two-numbers small h k (λ v w. Gives s mid top (weighed (twoValue (minus whole) v w)) o) f e
       (λ i j c d. m s mid top (i -ℤ j) (shifted-difference i j (c .fits) (d .fits) (number-low ex c) (number-low ey d))))
 
-  pub interval-done : {s′ : List ℕ} {end : ℕ} → Operands s a mid b top → Intervals s x y top s′ end → o ≡ ended end → TwoDone interval s a mid b top s′ o
+  pub interval-done : {s′ : List ℕ} {end : ℕ} → Operands s a b top → Intervals s x y top s′ end → o ≡ ended end → TwoDone interval s a b top s′ o
   unfolding twoValue
   interval-done {s′} {end} p m z =
       two-made interval f e end p
@@ -212,11 +206,11 @@ module _ {s : List ℕ} {a mid b top : ℕ} {r : Bool} (f : FitTwo (numᵖ whole
       (λ i j c d. m i j (c .fits) (d .fits) (number-low ex c) (number-low ey d))) z
 
 -- By kind codes: the code is i's, or that of none but the last.
-module _ {k : ℕ} {s : List ℕ} {a mid b top : ℕ} {s′ : List ℕ} {o : Outcome} where
-  pub two-of : (i : Two) → k ≡ twoCode i → TwoDone i s a mid b top s′ o → TwoOf k s a mid b top s′ o
-  two-of i e d j f = subst (λ (h : Two). TwoDone h s a mid b top s′ o) (same-two k i j e f) d
+module _ {k : ℕ} {s : List ℕ} {a b top : ℕ} {s′ : List ℕ} {o : Outcome} where
+  pub two-of : (i : Two) → k ≡ twoCode i → TwoDone i s a b top s′ o → TwoOf k s a b top s′ o
+  two-of i e d j f = subst (λ (h : Two). TwoDone h s a b top s′ o) (same-two k i j e f) d
 
-  pub two-last : k ≢ 28 → k ≢ 29 → k ≢ 30 → k ≢ 31 → k ≢ 32 → k ≢ 37 → k ≢ 39 → k ≢ 40 → TwoDone interval s a mid b top s′ o → TwoOf k s a mid b top s′ o
+  pub two-last : k ≢ 28 → k ≢ 29 → k ≢ 30 → k ≢ 31 → k ≢ 32 → k ≢ 37 → k ≢ 39 → k ≢ 40 → TwoDone interval s a b top s′ o → TwoOf k s a b top s′ o
   two-last n28 n29 n30 n31 n32 n37 n39 n40 d pairing e = absurd (n28 (code-of k (two pairing) e))
   two-last n28 n29 n30 n31 n32 n37 n39 n40 d union e = absurd (n29 (code-of k (two union) e))
   two-last n28 n29 n30 n31 n32 n37 n39 n40 d inter e = absurd (n30 (code-of k (two inter) e))

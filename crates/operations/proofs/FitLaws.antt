@@ -41,7 +41,7 @@ two-any v w h k =
     let y = typed-right w .0 (k .typed) in
     sym (types-fit (t̂ ∷ û ∷ []) (v ∷ w ∷ []) (x .0, y .0, (x .1, (y .1, tt))))
 
-pub ready-both : {s : List ℕ} {a mid b top : ℕ} → Operands s a mid b top → Both s a b
+pub ready-both : {s : List ℕ} {a b top : ℕ} → Operands s a b top → Both s a b
 ready-both p = record { first = (p .first, good-typed-at (p .small) (p .left)); second = (p .second, good-typed-at (p .small) (p .right)) }
 
 -- A value of a type POW(t) is a set, and one of the type INTEGER a number.

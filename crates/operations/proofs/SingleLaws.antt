@@ -1,6 +1,6 @@
 -- The operations of one operand. For an operand that passes the operation's test it is enough to look at sets, or at sets of pairs; the answer then
 -- tells what the node gives by what has been made, by where the least member stands, or by a cell.
-use Prim.Native.Nat.{ℕ, _+_, _%_, _≤_, _<_}
+use Prim.Native.Nat.{ℕ, _+_, _%_, _≤_}
 use mathlib.Core.Bool.{Bool, true, false}
 use mathlib.Core.List.{List, [], _∷_}
 use mathlib.Core.Logic.{_≢_}
@@ -29,7 +29,7 @@ use Rattle.operations.specs.Good.{Sizes, GoodAt}
 use Rattle.operations.specs.Outcomes.{weighed, oneGiven, ended, GivenCell, Gives, OneReady, OneDone, OneOf}
 use Rattle.operations.specs.declared.Outcome.{Outcome}
 use Rattle.operations.specs.declared.Outcome.the-variants.{Within, Cell, Lacks}
-use Rattle.operations.proofs.GoodLaws.{good-value, good-typed-at, good-inside}
+use Rattle.operations.proofs.GoodLaws.{good-value, good-typed-at}
 use Rattle.operations.proofs.OutcomeLaws.{Makes, makes-frame, makes-gives}
 use Rattle.operations.proofs.FitLaws.{fit-types, on-set, one-any, one-fits, one-set, one-relation}
 use Rattle.operations.proofs.KindLaws.{oneCode, code-of, same-one}
@@ -44,9 +44,6 @@ module _ {s : List ℕ} {a top : ℕ} (p : OneReady s a top) where
 
   pub ready-typed : SomeTyped s a
   ready-typed = (p .value, good-typed-at (p .small) (p .operand))
-
-  pub ready-inside : a < length s
-  ready-inside = good-inside (p .small) (p .operand)
 
   pub ready-set : {r : Bool} → FitOne (P̂ t̂ ∷ []) s a r → r ≡ true → SomeSet s top a × (top + 514 ≤ length s)
   ready-set f e = (one-set (p .small) (p .operand) (λ _. SomeSet s top a) f e (λ vs k. (vs, k)), p .room)

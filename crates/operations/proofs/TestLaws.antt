@@ -32,13 +32,13 @@ use Rattle.operations.proofs.OutcomeLaws.{test-unfit, test-fit}
 use Rattle.operations.proofs.FitLaws.{two-fits, two-sets, two-member, two-numbers}
 use Rattle.operations.proofs.KindLaws.{testCode, code-of, same-test}
 
-module _ (j : Test) {s : List ℕ} {a b : ℕ} {r : Bool} (f : FitTwo (testRule j .takes) s a b r) {mid top : ℕ} where
-  pub test-unlike : r ≡ false → TestDone j s a mid b top Unlike
-  test-unlike e gs v w small h k = sym (test-unfit j v w (two-fits small h k (testRule j .takes) f ∙ e))
+module _ (j : Test) {s : List ℕ} {a b : ℕ} {r : Bool} (f : FitTwo (testRule j .takes) s a b r) where
+  pub test-unlike : r ≡ false → TestDone j s a b Unlike
+  test-unlike e gs mid top v w small h k = sym (test-unfit j v w (two-fits small h k (testRule j .takes) f ∙ e))
 
-  test-told : (t : Bool) → r ≡ true → ((gs : List ℕ) (v w : Value) → Sizes gs → GoodAt gs s mid a v → GoodAt gs s top b w → t ≡ holds j v w) →
-      TestDone j s a mid b top (Truth t)
-  test-told t e g gs v w small h k = ap Truth (g gs v w small h k) ∙ sym (test-fit j v w (two-fits small h k (testRule j .takes) f ∙ e))
+  test-told : (t : Bool) → r ≡ true →
+      ((gs : List ℕ) (mid top : ℕ) (v w : Value) → Sizes gs → GoodAt gs s mid a v → GoodAt gs s top b w → t ≡ holds j v w) → TestDone j s a b (Truth t)
+  test-told t e g gs mid top v w small h k = ap Truth (g gs mid top v w small h k) ∙ sym (test-fit j v w (two-fits small h k (testRule j .takes) f ∙ e))
 
 -- 6: the number 1 is that of equal values.
 same-code : (o : Ordering) → eqb (orderCode o) 1 ≡ isEq o
@@ -50,39 +50,39 @@ holds-equal : (v w : Value) (r : ℕ) → r ≡ orderCode (order v w) → eqb r 
 unfolding holds same
 holds-equal v w r e = rw e (same-code (order v w))
 
-module _ {s : List ℕ} {a mid b top : ℕ} {r : Bool} where
-  pub equal-told : (q : ℕ) → FitTwo (t̂ ∷ t̂ ∷ []) s a b r → r ≡ true → Compared s a b q → TestDone equal s a mid b top (Truth (eqb q 1))
+module _ {s : List ℕ} {a b : ℕ} {r : Bool} where
+  pub equal-told : (q : ℕ) → FitTwo (t̂ ∷ t̂ ∷ []) s a b r → r ≡ true → Compared s a b q → TestDone equal s a b (Truth (eqb q 1))
   equal-told q f e c =
       test-told equal f (eqb q 1) e
-      (λ gs v w small h k. holds-equal v w q (c v w (h .stands) (k .stands) (good-fits small v (h .good)) (good-fits small w (k .good))))
+      (λ gs mid top v w small h k. holds-equal v w q (c v w (h .stands) (k .stands) (good-fits small v (h .good)) (good-fits small w (k .good))))
 
   -- 7
   module _ (f : FitTwo (t̂ ∷ P̂ t̂ ∷ []) s a b r) (e : r ≡ true) where
-    pub member-ready : Operands s a mid b top → SomeValue s (length s) a × SomeSet s (length s) b
+    pub member-ready : {top : ℕ} → Operands s a b top → SomeValue s (length s) a × SomeSet s (length s) b
     member-ready p = (
       (p .first, good-value (p .small) (good-whole (p .small) (p .left))),
       two-member (p .small) (p .left) (good-whole (p .small) (p .right)) (λ _ _. SomeSet s (length s) b) f e (λ ws j. (ws, j)),
     )
 
-    pub member-told : (q : Bool) → Contains s a b q → TestDone member s a mid b top (Truth q)
+    pub member-told : (q : Bool) → Contains s a b q → TestDone member s a b (Truth q)
     unfolding holds
     member-told q c =
         test-told member f q e
-        (λ gs v w small h k. two-member small h (good-whole small k) (λ x y. q ≡ holds member x y) f e
+        (λ gs mid top v w small h k. two-member small h (good-whole small k) (λ x y. q ≡ holds member x y) f e
         (λ ws j. c v ws (good-value small (good-whole small h)) j))
 
   -- 8
   module _ (f : FitTwo (P̂ t̂ ∷ P̂ t̂ ∷ []) s a b r) (e : r ≡ true) where
-    pub subset-ready : Operands s a mid b top → SomeSet s (length s) a × SomeSet s (length s) b
+    pub subset-ready : {top : ℕ} → Operands s a b top → SomeSet s (length s) a × SomeSet s (length s) b
     subset-ready p =
         two-sets (p .small) (good-whole (p .small) (p .left)) (good-whole (p .small) (p .right))
         (λ _ _. SomeSet s (length s) a × SomeSet s (length s) b) t̂ f e (λ vs ws i j. ((vs, i), (ws, j)))
 
-    pub subset-told : (q : Bool) → Includes s a b q → TestDone subset s a mid b top (Truth q)
+    pub subset-told : (q : Bool) → Includes s a b q → TestDone subset s a b (Truth q)
     unfolding holds
     subset-told q c =
         test-told subset f q e
-        (λ gs v w small h k. two-sets small (good-whole small h) (good-whole small k) (λ x y. q ≡ holds subset x y) t̂ f e c)
+        (λ gs mid top v w small h k. two-sets small (good-whole small h) (good-whole small k) (λ x y. q ≡ holds subset x y) t̂ f e c)
 
 -- The cells of numbers stand in the order of the numbers.
 leb-as : (a b c d : ℕ) → (a ≤ b → c ≤ d) → (b < a → d < c) → leb a b ≡ leb c d
@@ -134,15 +134,15 @@ module _ {k x y : ℕ} where
   numbers-unlike n6 n9 (atMost whole) f m n c d = absurd (n9 (code-of k (test (atMost whole)) f))
 
 -- By kind codes: two numbers, or the code is i's, or that of none but the last, which takes numbers only.
-module _ {s : List ℕ} {a mid b top : ℕ} {o : Tested} where
+module _ {s : List ℕ} {a b : ℕ} {o : Tested} where
   pub test-numbers : (k : ℕ) {r : Bool} → FitTwo (numᵖ whole ∷ numᵖ whole ∷ []) s a b r → r ≡ true → NumbersTold k (getD s a 0) (getD s b 0) o →
-      TestOf k s a mid b top o
-  test-numbers k f e m j q gs v w small h l = two-numbers small h l (λ x y. o ≡ tested j x y) f e (m j q)
+      TestOf k s a b o
+  test-numbers k f e m j q gs mid top v w small h l = two-numbers small h l (λ x y. o ≡ tested j x y) f e (m j q)
 
-  pub test-of : {k : ℕ} (i : Test) → k ≡ testCode i → TestDone i s a mid b top o → TestOf k s a mid b top o
-  test-of {k} i e d j f = subst (λ (h : Test). TestDone h s a mid b top o) (same-test k i j e f) d
+  pub test-of : {k : ℕ} (i : Test) → k ≡ testCode i → TestDone i s a b o → TestOf k s a b o
+  test-of {k} i e d j f = subst (λ (h : Test). TestDone h s a b o) (same-test k i j e f) d
 
-  pub test-last : {k : ℕ} → k ≢ 6 → k ≢ 7 → k ≢ 8 → TestDone (atMost whole) s a mid b top o → TestOf k s a mid b top o
+  pub test-last : {k : ℕ} → k ≢ 6 → k ≢ 7 → k ≢ 8 → TestDone (atMost whole) s a b o → TestOf k s a b o
   test-last {k} n6 n7 n8 d equal e = absurd (n6 (code-of k (test equal) e))
   test-last {k} n6 n7 n8 d member e = absurd (n7 (code-of k (test member) e))
   test-last {k} n6 n7 n8 d subset e = absurd (n8 (code-of k (test subset) e))

@@ -21,8 +21,8 @@ pub record IsMerge (j : Two) (left both right : Bool) : Type 0 where
   pub merges : (vs ws : Values) → FineSet vs → FineSet ws → twoValue j (set vs) (set ws) ≡ gives (setOf (merged left both right (members vs) (members ws)))
 
 -- Union, intersection and difference are such.
-abbrev pub MergeDone : Bool → Bool → Bool → List ℕ → ℕ → ℕ → ℕ → ℕ → List ℕ → Outcome → Type 0
-MergeDone left both right s a mid b top s′ r = (j : Two) → IsMerge j left both right → TwoDone j s a mid b top s′ r
+abbrev pub MergeDone : Bool → Bool → Bool → List ℕ → ℕ → ℕ → ℕ → List ℕ → Outcome → Type 0
+MergeDone left both right s a b top s′ r = (j : Two) → IsMerge j left both right → TwoDone j s a b top s′ r
 
 -- x is i + 2^32.
 abbrev pub Shifted : ℤ → ℕ → Type 0

@@ -17,3 +17,11 @@ pub record GoodAt (gs s : List ℕ) (top at : ℕ) (v : Value) : Type 0 where
   pub stands : ValueAt s at v
   pub below : at + weight v ≤ top
   pub good : T (good gs v)
+
+-- Some good value stands there.
+pub record SomeGood (s : List ℕ) (at : ℕ) : Type 0 where
+  pub sizes : List ℕ
+  pub small : Sizes sizes
+  pub top : ℕ
+  pub value : Value
+  pub stands : GoodAt sizes s top at value

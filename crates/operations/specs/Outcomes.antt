@@ -83,19 +83,22 @@ pub record OneReady (s : List ℕ) (a top : ℕ) : Type 0 where
   pub operand : GoodAt sizes s top a value
   pub room : top + 514 ≤ length s
 
--- Good operands stand at a, below `mid`, and at b, below `top`.
-pub record Operands (s : List ℕ) (a mid b top : ℕ) : Type 0 where
+-- Good operands stand at a and at b, below `top`.
+pub record Operands (s : List ℕ) (a b top : ℕ) : Type 0 where
   pub sizes : List ℕ
   pub small : Sizes sizes
   pub first : Value
   pub second : Value
-  pub left : GoodAt sizes s mid a first
+  pub left : GoodAt sizes s top a first
   pub right : GoodAt sizes s top b second
-  pub order : mid ≤ top
+
+-- Wherever they end.
+abbrev pub SomeOperands : List ℕ → ℕ → ℕ → Type 0
+SomeOperands s a b = (top : ℕ) × Operands s a b top
 
 -- And there is room to build.
-pub record TwoReady (s : List ℕ) (a mid b top : ℕ) : Type 0 where
-  pub operands : Operands s a mid b top
+pub record TwoReady (s : List ℕ) (a b top : ℕ) : Type 0 where
+  pub operands : Operands s a b top
   pub room : top + 514 ≤ length s
 
 -- What an operation of one operand answers; below `top` nothing is changed.
@@ -103,14 +106,15 @@ pub record OneDone (j : One) (s : List ℕ) (a top : ℕ) (s′ : List ℕ) (r :
   pub frame : Same top s s′
   pub answer : (gs : List ℕ) (v : Value) → Sizes gs → GoodAt gs s top a v → Gives s′ top top (oneGiven j v) r
 
--- And of two.
-pub record TwoDone (j : Two) (s : List ℕ) (a mid b top : ℕ) (s′ : List ℕ) (r : Outcome) : Type 0 where
+-- And of two, the first of which ends by any `mid`.
+pub record TwoDone (j : Two) (s : List ℕ) (a b top : ℕ) (s′ : List ℕ) (r : Outcome) : Type 0 where
   pub frame : Same top s s′
-  pub answer : (gs : List ℕ) (v w : Value) → Sizes gs → GoodAt gs s mid a v → GoodAt gs s top b w → Gives s′ mid top (twoGiven j v w) r
+  pub answer : (gs : List ℕ) (mid : ℕ) (v w : Value) → Sizes gs → mid ≤ top → GoodAt gs s mid a v → GoodAt gs s top b w →
+      Gives s′ mid top (twoGiven j v w) r
 
 -- What a test answers.
-abbrev pub TestDone : Test → List ℕ → ℕ → ℕ → ℕ → ℕ → Tested → Type 0
-TestDone j s a mid b top r = (gs : List ℕ) (v w : Value) → Sizes gs → GoodAt gs s mid a v → GoodAt gs s top b w → r ≡ tested j v w
+abbrev pub TestDone : Test → List ℕ → ℕ → ℕ → Tested → Type 0
+TestDone j s a b r = (gs : List ℕ) (mid top : ℕ) (v w : Value) → Sizes gs → GoodAt gs s mid a v → GoodAt gs s top b w → r ≡ tested j v w
 
 -- x is the cell of the number m.
 pub record NumberCell (m : ℤ) (x : ℕ) : Type 0 where
@@ -126,11 +130,11 @@ NumbersTold k x y r =
 abbrev pub OneOf : ℕ → List ℕ → ℕ → ℕ → List ℕ → Outcome → Type 0
 OneOf k s a top s′ r = (j : One) → kindOf k ≡ some (one j) → OneDone j s a top s′ r
 
-abbrev pub TwoOf : ℕ → List ℕ → ℕ → ℕ → ℕ → ℕ → List ℕ → Outcome → Type 0
-TwoOf k s a mid b top s′ r = (j : Two) → kindOf k ≡ some (two j) → TwoDone j s a mid b top s′ r
+abbrev pub TwoOf : ℕ → List ℕ → ℕ → ℕ → ℕ → List ℕ → Outcome → Type 0
+TwoOf k s a b top s′ r = (j : Two) → kindOf k ≡ some (two j) → TwoDone j s a b top s′ r
 
-abbrev pub TestOf : ℕ → List ℕ → ℕ → ℕ → ℕ → ℕ → Tested → Type 0
-TestOf k s a mid b top r = (j : Test) → kindOf k ≡ some (test j) → TestDone j s a mid b top r
+abbrev pub TestOf : ℕ → List ℕ → ℕ → ℕ → Tested → Type 0
+TestOf k s a b r = (j : Test) → kindOf k ≡ some (test j) → TestDone j s a b r
 
 -- A leaf that is built, a given set a with its size or BOOL, may be. The constants of one cell are never built, nor is an identifier's value.
 abbrev pub LeafFits : Leaf → ℕ → ℕ → Type 0

@@ -1,15 +1,15 @@
-// Kinds 28 to 32, 37 and 39 to 41: two operands, the first at a and below mid, the second at b.
+// Kinds 28 to 32, 37 and 39 to 41: two operands, at a and b.
 use crate::Outcome;
 use crate::built;
-ghost use Prim.Native.Nat.{_<_};
+ghost use Prim.Native.Nat.{ℕ, _<_};
 ghost use Rattle.rules.specs.Types.{whole};
 ghost use Rattle.rules.specs.Kinds.{pairing, product, apply, plus, minus, interval};
-ghost use Rattle.operations.specs.Outcomes.{Operands, TwoReady, TwoDone};
+ghost use Rattle.operations.specs.Outcomes.{SomeOperands, TwoReady, TwoDone};
 ghost use Rattle.operations.specs.Double.{MergeDone, NumberDone};
 
-pub fn pair(s: &mut [u64], a: usize, mid: usize, b: usize, top: usize) -> Outcome
-    requires { ⌜ TwoReady (now s) a mid b top ⌝ }
-    ensures { λ r. ⌜ TwoDone pairing (now (s .entry)) a mid b top (now (s .exit)) r ⌝ }
+pub fn pair(s: &mut [u64], a: usize, b: usize, top: usize) -> Outcome
+    requires { ⌜ TwoReady (now s) a b top ⌝ }
+    ensures { λ r. ⌜ TwoDone pairing (now (s .entry)) a b top (now (s .exit)) r ⌝ }
 {
     built(products::pair(s, a, b, top))
 }
@@ -18,15 +18,14 @@ pub fn pair(s: &mut [u64], a: usize, mid: usize, b: usize, top: usize) -> Outcom
 pub fn merge(
     s: &mut [u64],
     a: usize,
-    mid: usize,
     b: usize,
     top: usize,
     left: bool,
     both: bool,
     right: bool,
 ) -> Outcome
-    requires { ⌜ TwoReady (now s) a mid b top ⌝ }
-    ensures { λ r. ⌜ MergeDone left both right (now (s .entry)) a mid b top (now (s .exit)) r ⌝ }
+    requires { ⌜ TwoReady (now s) a b top ⌝ }
+    ensures { λ r. ⌜ MergeDone left both right (now (s .entry)) a b top (now (s .exit)) r ⌝ }
 {
     if !fitting::alike_sets(s, a, b) {
         return Outcome::Lacks(15);
@@ -34,9 +33,9 @@ pub fn merge(
     built(sets::merge(s, a, b, top, left, both, right))
 }
 
-pub fn product(s: &mut [u64], a: usize, mid: usize, b: usize, top: usize) -> Outcome
-    requires { ⌜ TwoReady (now s) a mid b top ⌝ }
-    ensures { λ r. ⌜ TwoDone product (now (s .entry)) a mid b top (now (s .exit)) r ⌝ }
+pub fn product(s: &mut [u64], a: usize, b: usize, top: usize) -> Outcome
+    requires { ⌜ TwoReady (now s) a b top ⌝ }
+    ensures { λ r. ⌜ TwoDone product (now (s .entry)) a b top (now (s .exit)) r ⌝ }
 {
     if !fitting::sets(s, a, b) {
         return Outcome::Lacks(15);
@@ -45,9 +44,9 @@ pub fn product(s: &mut [u64], a: usize, mid: usize, b: usize, top: usize) -> Out
 }
 
 // The image stays where it is, within the function.
-pub fn apply(s: &[u64], a: usize, mid: usize, b: usize, top: usize) -> Outcome
-    requires { ⌜ Operands (now s) a mid b top ⌝ }
-    ensures { λ r. ⌜ TwoDone apply (now (s .entry)) a mid b top (now (s .entry)) r ⌝ }
+pub fn apply(s: &[u64], a: usize, b: usize) -> Outcome
+    requires { ⌜ SomeOperands (now s) a b ⌝ }
+    ensures { λ r. ⌜ ((top : ℕ) → TwoDone apply (now (s .entry)) a b top (now (s .entry)) r) ⌝ }
 {
     if !fitting::applies(s, a, b) {
         return Outcome::Lacks(15);
@@ -74,9 +73,9 @@ fn number(x: u64) -> Outcome
     Outcome::Cell(arena::NUMBER + n)
 }
 
-pub fn plus(s: &[u64], a: usize, mid: usize, b: usize, top: usize) -> Outcome
-    requires { ⌜ Operands (now s) a mid b top ⌝ }
-    ensures { λ r. ⌜ TwoDone (plus whole) (now (s .entry)) a mid b top (now (s .entry)) r ⌝ }
+pub fn plus(s: &[u64], a: usize, b: usize) -> Outcome
+    requires { ⌜ SomeOperands (now s) a b ⌝ }
+    ensures { λ r. ⌜ ((top : ℕ) → TwoDone (plus whole) (now (s .entry)) a b top (now (s .entry)) r) ⌝ }
 {
     if !fitting::numbers(s, a, b) {
         return Outcome::Lacks(15);
@@ -86,9 +85,9 @@ pub fn plus(s: &[u64], a: usize, mid: usize, b: usize, top: usize) -> Outcome
     number(x + y)
 }
 
-pub fn minus(s: &[u64], a: usize, mid: usize, b: usize, top: usize) -> Outcome
-    requires { ⌜ Operands (now s) a mid b top ⌝ }
-    ensures { λ r. ⌜ TwoDone (minus whole) (now (s .entry)) a mid b top (now (s .entry)) r ⌝ }
+pub fn minus(s: &[u64], a: usize, b: usize) -> Outcome
+    requires { ⌜ SomeOperands (now s) a b ⌝ }
+    ensures { λ r. ⌜ ((top : ℕ) → TwoDone (minus whole) (now (s .entry)) a b top (now (s .entry)) r) ⌝ }
 {
     if !fitting::numbers(s, a, b) {
         return Outcome::Lacks(15);
@@ -98,9 +97,9 @@ pub fn minus(s: &[u64], a: usize, mid: usize, b: usize, top: usize) -> Outcome
     number(x + arena::CELL - y)
 }
 
-pub fn interval(s: &mut [u64], a: usize, mid: usize, b: usize, top: usize) -> Outcome
-    requires { ⌜ TwoReady (now s) a mid b top ⌝ }
-    ensures { λ r. ⌜ TwoDone interval (now (s .entry)) a mid b top (now (s .exit)) r ⌝ }
+pub fn interval(s: &mut [u64], a: usize, b: usize, top: usize) -> Outcome
+    requires { ⌜ TwoReady (now s) a b top ⌝ }
+    ensures { λ r. ⌜ TwoDone interval (now (s .entry)) a b top (now (s .exit)) r ⌝ }
 {
     if !fitting::numbers(s, a, b) {
         return Outcome::Lacks(15);

@@ -1,6 +1,6 @@
 // What each kind gives for its operands' values, by kind codes: refusals 15 to 18, and values built in the arena.
 ghost use mathlib.Core.Path.{_≡_};
-ghost use Rattle.operations.specs.Outcomes.{ended, OneReady, OneOf, Operands, TwoReady, TwoOf, TestOf, LeafReady, LeafDone};
+ghost use Rattle.operations.specs.Outcomes.{ended, OneReady, OneOf, SomeOperands, TwoReady, TwoOf, TestOf, LeafReady, LeafDone};
 
 mod double;
 pub mod leaves;
@@ -42,8 +42,8 @@ pub fn one(s: &mut [u64], kind: usize, a: usize, top: usize) -> Outcome
         33 => single::power(s, a, top),
         35 => single::domain(s, a, top),
         36 => single::range(s, a, top),
-        38 => single::card(s, a, top),
-        _ => single::choice(s, a, top),
+        38 => single::card(s, a),
+        _ => single::choice(s, a),
     }
 }
 
@@ -59,37 +59,37 @@ pub fn leaf(s: &mut [u64], kind: usize, a: u64, size: u64, top: usize) -> usize
     }
 }
 
-// Kinds 28 to 32, 37 and 39 to 41: two operands, the first at a and below mid, the second at b.
-pub fn two(s: &mut [u64], kind: usize, a: usize, mid: usize, b: usize, top: usize) -> Outcome
-    requires { ⌜ TwoReady (now s) a mid b top ⌝ }
-    ensures { λ r. ⌜ TwoOf kind (now (s .entry)) a mid b top (now (s .exit)) r ⌝ }
+// Kinds 28 to 32, 37 and 39 to 41: two operands, at a and b.
+pub fn two(s: &mut [u64], kind: usize, a: usize, b: usize, top: usize) -> Outcome
+    requires { ⌜ TwoReady (now s) a b top ⌝ }
+    ensures { λ r. ⌜ TwoOf kind (now (s .entry)) a b top (now (s .exit)) r ⌝ }
 {
     match kind {
-        28 => double::pair(s, a, mid, b, top),
-        29 => double::merge(s, a, mid, b, top, true, true, true),
-        30 => double::merge(s, a, mid, b, top, false, true, false),
-        31 => double::merge(s, a, mid, b, top, true, false, false),
-        32 => double::product(s, a, mid, b, top),
-        37 => double::apply(s, a, mid, b, top),
-        39 => double::plus(s, a, mid, b, top),
-        40 => double::minus(s, a, mid, b, top),
-        _ => double::interval(s, a, mid, b, top),
+        28 => double::pair(s, a, b, top),
+        29 => double::merge(s, a, b, top, true, true, true),
+        30 => double::merge(s, a, b, top, false, true, false),
+        31 => double::merge(s, a, b, top, true, false, false),
+        32 => double::product(s, a, b, top),
+        37 => double::apply(s, a, b),
+        39 => double::plus(s, a, b),
+        40 => double::minus(s, a, b),
+        _ => double::interval(s, a, b, top),
     }
 }
 
-// What a test of kind 6 to 9 answers for good operands, the first at a and below mid, the second at b and below top.
-pub fn test(s: &[u64], kind: usize, a: usize, mid: usize, b: usize, top: usize) -> Tested
-    requires { ⌜ Operands (now s) a mid b top ⌝ }
-    ensures { λ r. ⌜ TestOf kind (now (s .entry)) a mid b top r ⌝ }
+// What a test of kind 6 to 9 answers for good operands, at a and b.
+pub fn test(s: &[u64], kind: usize, a: usize, b: usize) -> Tested
+    requires { ⌜ SomeOperands (now s) a b ⌝ }
+    ensures { λ r. ⌜ TestOf kind (now (s .entry)) a b r ⌝ }
 {
     // Two numbers need no further call.
     if fitting::numbers(s, a, b) {
         return tests::numbers(kind, s[a], s[b]);
     }
     match kind {
-        6 => tests::equal(s, a, mid, b, top),
-        7 => tests::member(s, a, mid, b, top),
-        8 => tests::subset(s, a, mid, b, top),
+        6 => tests::equal(s, a, b),
+        7 => tests::member(s, a, b),
+        8 => tests::subset(s, a, b),
         // 9 takes numbers only.
         _ => Tested::Unlike,
     }

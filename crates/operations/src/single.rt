@@ -1,7 +1,9 @@
 // Kinds 27, 33, 35, 36, 38 and 43: one operand, at a.
 use crate::Outcome;
 use crate::built;
+ghost use Prim.Native.Nat.{ℕ};
 ghost use Rattle.rules.specs.Kinds.{singleton, power, dom, ran, card, choice};
+ghost use Rattle.operations.specs.Good.{SomeGood};
 ghost use Rattle.operations.specs.Outcomes.{OneReady, OneDone};
 
 pub fn singleton(s: &mut [u64], a: usize, top: usize) -> Outcome
@@ -41,9 +43,9 @@ pub fn range(s: &mut [u64], a: usize, top: usize) -> Outcome
     built(products::range(s, a, top))
 }
 
-pub fn card(s: &[u64], a: usize, top: usize) -> Outcome
-    requires { ⌜ OneReady (now s) a top ⌝ }
-    ensures { λ r. ⌜ OneDone card (now (s .entry)) a top (now (s .entry)) r ⌝ }
+pub fn card(s: &[u64], a: usize) -> Outcome
+    requires { ⌜ SomeGood (now s) a ⌝ }
+    ensures { λ r. ⌜ ((top : ℕ) → OneDone card (now (s .entry)) a top (now (s .entry)) r) ⌝ }
 {
     if !fitting::is_set(s, a) {
         return Outcome::Lacks(15);
@@ -53,9 +55,9 @@ pub fn card(s: &[u64], a: usize, top: usize) -> Outcome
 }
 
 // The first member is the least, and stays where it is.
-pub fn choice(s: &[u64], a: usize, top: usize) -> Outcome
-    requires { ⌜ OneReady (now s) a top ⌝ }
-    ensures { λ r. ⌜ OneDone choice (now (s .entry)) a top (now (s .entry)) r ⌝ }
+pub fn choice(s: &[u64], a: usize) -> Outcome
+    requires { ⌜ SomeGood (now s) a ⌝ }
+    ensures { λ r. ⌜ ((top : ℕ) → OneDone choice (now (s .entry)) a top (now (s .entry)) r) ⌝ }
 {
     if !fitting::is_set(s, a) {
         return Outcome::Lacks(15);

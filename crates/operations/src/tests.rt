@@ -1,12 +1,12 @@
-// Kinds 6 to 9: tests of two operands, the first at a and below mid, the second at b and below top.
+// Kinds 6 to 9: tests of two operands, at a and b.
 use super::Tested;
 ghost use Rattle.rules.specs.Kinds.{equal, member, subset};
-ghost use Rattle.operations.specs.Outcomes.{Operands, TestDone, NumbersTold};
+ghost use Rattle.operations.specs.Outcomes.{SomeOperands, TestDone, NumbersTold};
 
 // 6: the operands are the same.
-pub fn equal(s: &[u64], a: usize, mid: usize, b: usize, top: usize) -> Tested
-    requires { ⌜ Operands (now s) a mid b top ⌝ }
-    ensures { λ r. ⌜ TestDone equal (now (s .entry)) a mid b top r ⌝ }
+pub fn equal(s: &[u64], a: usize, b: usize) -> Tested
+    requires { ⌜ SomeOperands (now s) a b ⌝ }
+    ensures { λ r. ⌜ TestDone equal (now (s .entry)) a b r ⌝ }
 {
     if !fitting::alike(s, a, b) {
         return Tested::Unlike;
@@ -16,9 +16,9 @@ pub fn equal(s: &[u64], a: usize, mid: usize, b: usize, top: usize) -> Tested
 }
 
 // 7: the first is a member of the second.
-pub fn member(s: &[u64], a: usize, mid: usize, b: usize, top: usize) -> Tested
-    requires { ⌜ Operands (now s) a mid b top ⌝ }
-    ensures { λ r. ⌜ TestDone member (now (s .entry)) a mid b top r ⌝ }
+pub fn member(s: &[u64], a: usize, b: usize) -> Tested
+    requires { ⌜ SomeOperands (now s) a b ⌝ }
+    ensures { λ r. ⌜ TestDone member (now (s .entry)) a b r ⌝ }
 {
     if !fitting::belongs(s, a, b) {
         return Tested::Unlike;
@@ -27,9 +27,9 @@ pub fn member(s: &[u64], a: usize, mid: usize, b: usize, top: usize) -> Tested
 }
 
 // 8: the members of the first are members of the second.
-pub fn subset(s: &[u64], a: usize, mid: usize, b: usize, top: usize) -> Tested
-    requires { ⌜ Operands (now s) a mid b top ⌝ }
-    ensures { λ r. ⌜ TestDone subset (now (s .entry)) a mid b top r ⌝ }
+pub fn subset(s: &[u64], a: usize, b: usize) -> Tested
+    requires { ⌜ SomeOperands (now s) a b ⌝ }
+    ensures { λ r. ⌜ TestDone subset (now (s .entry)) a b r ⌝ }
 {
     if !fitting::alike_sets(s, a, b) {
         return Tested::Unlike;

@@ -6,7 +6,7 @@ use Rattle.operations.proofs.one.Statement.{statement}
 use Rattle.operations.proofs.one.Tie as tie
 
 returns-6 : tie.Need-returns-6
-returns-6 c = let n = c .before .before .match .rest in one-last (n .0 .0 .0 .0 .1) (n .0 .0 .0 .1) (n .0 .0 .1) (n .0 .1) (n .1) (c .choice .ensures)
+returns-6 c = let n = c .before .before .match .rest in one-last (n .0 .0 .0 .0 .1) (n .0 .0 .0 .1) (n .0 .0 .1) (n .0 .1) (n .1) (c .choice .ensures _)
 
 pub one-spec : {M : Type 1} → statement M
 one-spec =
@@ -27,6 +27,6 @@ one-spec =
     (λ c. search needs)
     (λ c. let m = c .before .before in one-of ran (m .before .before .match .keys4) (m .range .ensures))
     (λ c. search needs)
-    (λ c. one-of card (c .before .before .match .keys5) (c .card .ensures))
+    (λ c. one-of card (c .before .before .match .keys5) (c .card .ensures _))
     (λ c. search needs)
     returns-6)

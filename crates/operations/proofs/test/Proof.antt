@@ -24,11 +24,11 @@ pub test-spec : {M : Type 1} → statement M
 test-spec =
     tie.close
     (tie.spec
-    (λ c κs. ready-both (c .before .pre))
+    (λ c κs. ready-both (c .before .pre .1))
     (λ c. search needs)
-    (λ c. ready-first (lent (c .before) .pre))
+    (λ c. ready-first (lent (c .before) .pre .1))
     (λ c. search needs)
-    (λ c. ready-second (lent (c .before .before) .pre))
+    (λ c. ready-second (lent (c .before .before) .pre .1))
     (λ c κs. search needs)
     (λ c. let t = numbers c in test-numbers _ (t .before .numbers .ensures) (t .if1 .taken) (c .numbers2 .ensures))
     (λ c κs. search needs)

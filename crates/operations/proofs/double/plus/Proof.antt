@@ -15,7 +15,7 @@ abbrev numbers : tie.After-low → tie.Else1
 numbers c = c .before .before
 
 returns-2 : tie.Need-returns-2
-returns-2 c =
+returns-2 c _ =
     let x = c .before .before .before in
     let e = numbers x in
     plus-done (e .before .numbers .ensures) (not-false _ (e .if1 .left)) (x .low .ensures .0) (c .before .low2 .ensures .0) (c .number .ensures)
@@ -24,13 +24,13 @@ pub plus-spec : {M : Type 1} → statement M
 plus-spec =
     tie.close
     (tie.spec
-    (λ c κs. ready-both (c .before .pre))
-    (λ c. two-unlike (plus whole) (c .before .numbers .ensures) (not-true _ (c .if1 .taken)))
+    (λ c κs. ready-both (c .before .pre .1))
+    (λ c _. two-unlike (plus whole) (c .before .numbers .ensures) (not-true _ (c .if1 .taken)))
     (λ c. search needs)
-    (λ c. ready-first (lent (c .before) .pre))
+    (λ c. ready-first (lent (c .before) .pre .1))
     (λ c κs. search needs)
     (λ c. search needs)
-    (λ c. ready-second (lent (numbers (c .before)) .pre))
+    (λ c. ready-second (lent (numbers (c .before)) .pre .1))
     (λ c κs. search needs)
     (λ c. search needs)
     (λ c κs. search needs)

@@ -2,7 +2,8 @@
 use borrow.Author.Tests.{not-true, not-false}
 use borrow.Author.Needs.{needs}
 use Rattle.rules.specs.Kinds.{choice}
-use Rattle.operations.proofs.SingleLaws.{ready-typed, ready-inside, one-unlike, choice-none, choice-some}
+use Rattle.operations.proofs.GoodLaws.{good-typed-at, good-inside}
+use Rattle.operations.proofs.SingleLaws.{one-unlike, choice-none, choice-some}
 use Rattle.operations.proofs.single.choice.Statement.{statement}
 use Rattle.operations.proofs.single.choice.Tie as tie
 
@@ -16,11 +17,11 @@ pub choice-spec : {M : Type 1} → statement M
 choice-spec =
     tie.close
     (tie.spec
-    (λ c κs. ready-typed (c .before .pre))
-    (λ c. one-unlike choice (c .before .is-set .ensures) (not-true _ (c .if1 .taken)))
+    (λ c κs. let p = c .before .pre in (p .value, good-typed-at (p .small) (p .stands)))
+    (λ c _. one-unlike choice (c .before .is-set .ensures) (not-true _ (c .if1 .taken)))
     (λ c. search needs)
-    (λ c. ready-inside (lent (c .before) .pre))
+    (λ c. let p = lent (c .before) .pre in good-inside (p .small) (p .stands))
     (λ c κs. search needs)
-    (λ c. let e = is-set (c .before) in choice-none (e .before .is-set .ensures) (not-false _ (e .if1 .left)) _ (c .before .low .ensures .0) (c .if2 .taken))
+    (λ c _. let e = is-set (c .before) in choice-none (e .before .is-set .ensures) (not-false _ (e .if1 .left)) _ (c .before .low .ensures .0) (c .if2 .taken))
     (λ c. search needs)
-    (λ c. let e = is-set (c .before) in choice-some (e .before .is-set .ensures) (not-false _ (e .if1 .left)) _ (c .before .low .ensures .0) (c .if2 .left)))
+    (λ c _. let e = is-set (c .before) in choice-some (e .before .is-set .ensures) (not-false _ (e .if1 .left)) _ (c .before .low .ensures .0) (c .if2 .left)))

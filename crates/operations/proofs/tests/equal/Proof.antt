@@ -17,8 +17,8 @@ pub equal-spec : {M : Type 1} → statement M
 equal-spec =
     tie.close
     (tie.spec
-    (λ c κs. ready-both (c .before .pre))
+    (λ c κs. ready-both (c .before .pre .1))
     (λ c. test-unlike equal (c .before .alike .ensures) (not-true _ (c .if1 .taken)))
-    (λ c κs. let p = lent c .pre in good-some (p .small) (p .left))
-    (λ c κs. let p = lent (alike c) .pre in (good-some (p .small) (p .left), good-some (p .small) (p .right), c .end-of .ensures))
+    (λ c κs. let p = lent c .pre .1 in good-some (p .small) (p .left))
+    (λ c κs. let p = lent (alike c) .pre .1 in (good-some (p .small) (p .left), good-some (p .small) (p .right), c .end-of .ensures))
     (λ c. let e = alike (c .before) in equal-told _ (e .before .alike .ensures) (not-false _ (e .if1 .left)) (c .compare .ensures)))

@@ -13,7 +13,7 @@ pub member-spec : {M : Type 1} → statement M
 member-spec =
     tie.close
     (tie.spec
-    (λ c κs. ready-both (c .before .pre))
+    (λ c κs. ready-both (c .before .pre .1))
     (λ c. test-unlike member (c .before .belongs .ensures) (not-true _ (c .if1 .taken)))
-    (λ c κs. member-ready (c .before .belongs .ensures) (not-false _ (c .if1 .left)) (lent c .pre))
+    (λ c κs. member-ready (c .before .belongs .ensures) (not-false _ (c .if1 .left)) (lent c .pre .1))
     (λ c. let e = c .before in member-told (e .before .belongs .ensures) (not-false _ (e .if1 .left)) _ (c .contains .ensures)))

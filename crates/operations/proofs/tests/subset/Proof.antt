@@ -13,7 +13,7 @@ pub subset-spec : {M : Type 1} → statement M
 subset-spec =
     tie.close
     (tie.spec
-    (λ c κs. ready-both (c .before .pre))
+    (λ c κs. ready-both (c .before .pre .1))
     (λ c. test-unlike subset (c .before .alike-sets .ensures) (not-true _ (c .if1 .taken)))
-    (λ c κs. subset-ready (c .before .alike-sets .ensures) (not-false _ (c .if1 .left)) (lent c .pre))
+    (λ c κs. subset-ready (c .before .alike-sets .ensures) (not-false _ (c .if1 .left)) (lent c .pre .1))
     (λ c. let e = c .before in subset-told (e .before .alike-sets .ensures) (not-false _ (e .if1 .left)) _ (c .included .ensures)))
