@@ -1,5 +1,5 @@
 -- Negations passed from a condition down: each turns the answer round, for one visit; and the condition's answer from that of the one reached.
-use Prim.Native.Nat.{ℕ, suc, _+_, _-_, _≤_, _<_}
+use Prim.Native.Nat.{ℕ, suc, _+_, _-_, _<_}
 use mathlib.Core.Bool.{Bool, true, false, not}
 use mathlib.Core.List.{List}
 use mathlib.Core.Option.{some}
@@ -8,7 +8,6 @@ use native.Mathlib.Omega.{arith}
 use Rattle.rules.specs.Kinds.{predicate, negation, kindOf}
 use Rattle.rules.specs.Tables.{Pred, notᵖ, tableOf, nodeAt, kindAt, predAt, nodeCount}
 use Rattle.rules.specs.Readable.{Readable}
-use Rattle.rules.specs.Runs.{return, _>>=_}
 use Rattle.rules.specs.Operations.{Env}
 use Rattle.rules.specs.Evaluation.{holdsᵖ}
 use Rattle.operations.proofs.KindLaws.{kind-of}
@@ -24,15 +23,9 @@ use Rattle.evaluators.proofs.NodeLaws.{Child, field-child, pred-at, con
 negated-ends : (budget : ℕ) (gs : List ℕ) (n : ℕ) (ρ : Env) (s : ℕ) (p : Pred) (r : Held) → s < budget →
     HeldAs (holdsᵖ budget gs p ρ (suc s)) budget r → HeldAs (holdsᵖ budget gs (notᵖ n p) ρ s) budget (turnedBy true r)
 unfolding holdsᵖ
-negated-ends budget gs n ρ s p (Truth true l) less h =
-    visited budget n s (holdsᵖ budget gs p ρ >>= λ a. return (not a)) less
-    (then-done (holdsᵖ budget gs p ρ) (λ a. return (not a)) (suc s) (h .end) (returns false (h .steps)))
-negated-ends budget gs n ρ s p (Truth false l) less h =
-    visited budget n s (holdsᵖ budget gs p ρ >>= λ a. return (not a)) less
-    (then-done (holdsᵖ budget gs p ρ) (λ a. return (not a)) (suc s) (h .end) (returns true (h .steps)))
-negated-ends budget gs n ρ s p (Refused r l) less h =
-    visited budget n s (holdsᵖ budget gs p ρ >>= λ a. return (not a)) less
-    (then-refused (holdsᵖ budget gs p ρ) (λ a. return (not a)) (suc s) h)
+negated-ends budget gs n ρ s p (Truth true l) less h = visited budget n s _ less (then-done _ h (returns false (h .steps)))
+negated-ends budget gs n ρ s p (Truth false l) less h = visited budget n s _ less (then-done _ h (returns true (h .steps)))
+negated-ends budget gs n ρ s p (Refused r l) less h = visited budget n s _ less (then-refused _ h)
 
 turned-not : (h : Held) → turnedBy false h ≡ h
 turned-not (Truth true l) = refl

@@ -9,6 +9,8 @@ use lib.ListN.{length, getD, set as setAt, length-set}
 use lib.Seq.{getD-set-same, getD-set-other}
 use Rattle.rules.specs.Values.{Value, Values, none, _▸_, weight, members}
 use Rattle.rules.specs.Tables.{tableOf}
+use Rattle.rules.specs.Runs.{M}
+use mathlib.Core.Bool.{Bool}
 use Rattle.rules.specs.Operations.{Env, _with_≔_}
 use Rattle.laws.proofs.FormedLaws.{with-good}
 use Rattle.arena.specs.Code.{code, codes, Stands, Same}
@@ -16,7 +18,8 @@ use Rattle.arena.proofs.Standing.{stands-frame, stands-front, stands-back}
 use Rattle.arena.proofs.CodeLaws.{length-code, length-codes}
 use Rattle.operations.specs.Good.{GoodAt}
 use Rattle.evaluators.specs.Answers.{Listed}
-use Rattle.evaluators.specs.Cycle.{Binds, EachReady}
+use Rattle.evaluators.specs.Cycle.{Binds, EachReady, bodyAt}
+use Rattle.evaluators.proofs.NodeLaws.{Asks, some-asks}
 
 -- The environment of the body: the binder's own, but for its name x.
 pub record Inner (env inner : List ℕ) (x : ℕ) : Type 0 where
@@ -60,32 +63,20 @@ listed-frame {gs} {s} {s′} {top} {from} {n} {vs} k e le l = record {
   light = l .light;
 }
 
--- What the answer of a loop over a range is asked for: a depth, an environment, a budget with the visits made, and the members.
+-- What the answer of a loop over a range is asked for: the members too.
 pub record Asked (bs env s : List ℕ) (top n from count left : ℕ) : Type 0 where
-  pub depth : ℕ
-  pub values : Env
-  pub budget : ℕ
-  pub steps : ℕ
+  pub asks : Asks bs env s top n left
   pub range : Values
-  pub deep : n ≤ depth
-  pub counts : steps + left ≡ budget
-  pub binds : Binds bs s top env values
   pub listed : Listed (tableOf bs .sizes) s top from count range
 
 -- The loop may begin, so there is something to ask.
 abbrev pub some-asked : {bs env s : List ℕ} {top n from count spare : ℕ} (left : ℕ) → EachReady bs env s top n from count spare →
     Asked bs env s top n from count left
-some-asked {n = n} left r = record {
-  depth = n;
-  values = r .ready .values;
-  budget = left;
-  steps = 0;
-  range = r .range;
-  deep = omega arith;
-  counts = omega arith;
-  binds = r .ready .binds;
-  listed = r .listed;
-}
+some-asked {n = n} left r = record { asks = some-asks n left (r .ready); range = r .range; listed = r .listed }
+
+-- The body at the members.
+abbrev pub bodyOf : {bs env s : List ℕ} {top n from count left : ℕ} → Asked bs env s top n from count left → Value → M Bool
+bodyOf {bs} {n = n} k = bodyAt bs (k .asks .budget) n (k .asks .depth) (k .asks .values)
 
 -- The first of the values, and those behind it.
 pub record First (gs s : List ℕ) (top from n : ℕ) (vs : Values) : Type 0 where

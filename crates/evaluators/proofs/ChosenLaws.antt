@@ -9,7 +9,7 @@ use lib.Seq.{getD-set-other}
 use mir.Val.{boolByte}
 use Rattle.rules.specs.Values.{Value, Values, members, values, count, weight, weights}
 use Rattle.rules.specs.Ends.{done, refused}
-use Rattle.rules.specs.Runs.{M, return, _>>=_}
+use Rattle.rules.specs.Runs.{M}
 use Rattle.rules.specs.Tables.{tableOf}
 use Rattle.rules.specs.Operations.{_with_≔_}
 use Rattle.rules.specs.Evaluation.{select}
@@ -27,10 +27,10 @@ use Rattle.evaluators.specs.declared.Formed.{Formed}
 use Rattle.evaluators.specs.declared.Formed.the-variants.{Value as Placed, Stopped}
 use Rattle.evaluators.specs.Answers.{EndsWith, HeldAs, Listed, SelectedAs, ChosenAs, ChosenBounds}
 use Rattle.evaluators.specs.Nodes.{fieldA, fieldC, IsPred, ChooseReady, Chooses}
-use Rattle.evaluators.specs.Cycle.{Binds, Ready, bodyAt, EvaluatesP, EachReady, EvaluatesChosen}
+use Rattle.evaluators.specs.Cycle.{Binds, Ready, EvaluatesP, EachReady, EvaluatesChosen}
 use Rattle.evaluators.proofs.RunLaws.{then-done, then-refused, returns}
-use Rattle.evaluators.proofs.NodeLaws.{sizes-small, binds-frame, good-frame}
-use Rattle.evaluators.proofs.BodyLaws.{Inner, inner-start, inner-set, binds-body, Asked, some-asked, First, first-member, listed-frame, none-left}
+use Rattle.evaluators.proofs.NodeLaws.{Asks, sizes-small, binds-frame, good-frame}
+use Rattle.evaluators.proofs.BodyLaws.{Inner, inner-start, inner-set, binds-body, Asked, some-asked, bodyOf, First, first-member, listed-frame, none-left}
 use Rattle.laws.proofs.CellsLaws.{count-weights, weight-some}
 
 -- What a member adds to those chosen.
@@ -44,31 +44,22 @@ module _ (g : Value → M Bool) where
   select-none m c = returns [] c
 
   module _ (v : Value) (vs : List Value) (m : ℕ) where
-    -- What follows the body at the first member, and what follows the other members.
-    abbrev added : Bool → List Value → M (List Value)
-    added b ws = elim b [ true ↦ return (v ∷ ws) | false ↦ return ws ]
-
-    abbrev onward : Bool → M (List Value)
-    onward b = select g vs >>= added b
-
     -- The body is refused there.
     select-refused : {budget left : ℕ} {k p : ℕ} → EndsWith (g v m) (refused k p) budget left → EndsWith (select g (v ∷ vs) m) (refused k p) budget left
     unfolding select
-    select-refused h = then-refused (g v) onward m h
+    select-refused h = then-refused _ h
 
     -- It ends there, and the run goes on to the other members.
-    select-on : {budget left : ℕ} (b : Bool) {ws : List Value} → g v m .end ≡ done b → EndsWith (select g vs (g v m .steps)) (done ws) budget left →
-        EndsWith (select g (v ∷ vs) m) (done (picked b v ++ ws)) budget left
+    select-on : {budget left l : ℕ} (b : Bool) {ws : List Value} → EndsWith (g v m) (done b) budget l →
+        EndsWith (select g vs (g v m .steps)) (done ws) budget left → EndsWith (select g (v ∷ vs) m) (done (picked b v ++ ws)) budget left
     unfolding select
-    select-on true {ws} h k =
-        then-done (g v) onward m h (then-done (select g vs) (added true) (g v m .steps) (k .end) (returns (v ∷ ws) (k .steps)))
-    select-on false {ws} h k =
-        then-done (g v) onward m h (then-done (select g vs) (added false) (g v m .steps) (k .end) (returns ws (k .steps)))
+    select-on true {ws} h k = then-done _ h (then-done _ k (returns (v ∷ ws) (k .steps)))
+    select-on false {ws} h k = then-done _ h (then-done _ k (returns ws (k .steps)))
 
-    select-stops : {budget left : ℕ} (b : Bool) {k p : ℕ} → g v m .end ≡ done b → EndsWith (select g vs (g v m .steps)) (refused k p) budget left →
-        EndsWith (select g (v ∷ vs) m) (refused k p) budget left
+    select-stops : {budget left l : ℕ} (b : Bool) {k p : ℕ} → EndsWith (g v m) (done b) budget l →
+        EndsWith (select g vs (g v m .steps)) (refused k p) budget left → EndsWith (select g (v ∷ vs) m) (refused k p) budget left
     unfolding select
-    select-stops b h k = then-done (g v) onward m h (then-refused (select g vs) (added b) (g v m .steps) k)
+    select-stops b h k = then-done _ h (then-refused _ k)
 
 -- The members chosen stand from top + 1 up to `to`, the others from `at` on, and the whole run ends as the rest of it does from `now` on.
 pub record Selecting (g : Value → M Bool) (whole : List Value) (budget steps : ℕ) (gs s : List ℕ) (top at more n to chosen : ℕ) : Type 0 where
@@ -182,10 +173,10 @@ module _ {g : Value → M Bool} {whole : List Value} {budget steps : ℕ} {gs s 
         goes = λ {ws} {l = q} x.
             subst (λ (vs : List Value). EndsWith (select g whole steps) (done vs) budget q) (sym (append-assoc (h .taken) (picked b (u .value)) ws))
             (h .goes (subst (λ (vs : List Value). EndsWith (select g vs (h .now)) (done (picked b (u .value) ++ ws)) budget q) (sym is)
-            (select-on g (u .value) (members (u .rest)) (h .now) b (run .end) x)));
+            (select-on g (u .value) (members (u .rest)) (h .now) b run x)));
         stops = λ {k} {p} {l = q} x.
             h .stops (subst (λ (vs : List Value). EndsWith (select g vs (h .now)) (refused k p) budget q) (sym is)
-            (select-stops g (u .value) (members (u .rest)) (h .now) b (run .end) x));
+            (select-stops g (u .value) (members (u .rest)) (h .now) b run x));
       }
 
   -- No member is left: the set of those chosen, its cell written last.
@@ -209,7 +200,7 @@ pub record Choosing (bs env s₀ : List ℕ) (top n from count left : ℕ) (s in
   pub frame : Same top s₀ s
   pub entries : Inner env inner (fieldA bs n)
   pub on : (k : Asked bs env s₀ top n from count left) →
-      Selecting (bodyAt bs (k .budget) n (k .depth) (k .values)) (members (k .range)) (k .budget) (k .steps)
+      Selecting (bodyOf k) (members (k .range)) (k .asks .budget) (k .asks .steps)
       (tableOf bs .sizes) s top at more m to chosen
 
 module _ {bs env s₀ : List ℕ} {top n from count left : ℕ} (pre : EachReady bs env s₀ top n from count 256) where
@@ -217,8 +208,8 @@ module _ {bs env s₀ : List ℕ} {top n from count left : ℕ} (pre : EachReady
   choosing-start = record {
     frame = same-refl top s₀;
     entries = inner-start env (fieldA bs n) (pre .ready .entries);
-    on = λ k. selecting-start (bodyAt bs (k .budget) n (k .depth) (k .values)) (k .budget) (k .steps) (tableOf bs .sizes) s₀ top from count left
-        (k .range) (omega (arith, pre .space (omega arith))) (k .listed) (k .counts);
+    on = λ k. selecting-start (bodyOf k) (k .asks .budget) (k .asks .steps) (tableOf bs .sizes) s₀ top from count left
+        (k .range) (omega (arith, pre .space (omega arith))) (k .listed) (k .asks .counts);
   }
 
   module _ {s inner : List ℕ} {at more m to chosen : ℕ} (h : Choosing bs env s₀ top n from count left s inner at more m to chosen) where
@@ -231,13 +222,14 @@ module _ {bs env s₀ : List ℕ} {top n from count left : ℕ} (pre : EachReady
 
     -- The answer, from what is answered where it is asked.
     chosen-by : {s′ : List ℕ} {r : Formed} → Same top s₀ s′ → ChosenBounds top r → ((k : Asked bs env s₀ top n from count left) →
-        ChosenAs (select (bodyAt bs (k .budget) n (k .depth) (k .values)) (members (k .range)) (k .steps)) (k .budget) s′ top r) →
+        ChosenAs (select (bodyOf k) (members (k .range)) (k .asks .steps)) (k .asks .budget) s′ top r) →
         EvaluatesChosen bs env s₀ top n from count left s′ r
     chosen-by e b f = record {
       frame = e;
       bounds = b;
       answer = λ d ρ budget steps vs deep c binds l.
-          f (record { depth = d; values = ρ; budget = budget; steps = steps; range = vs; deep = deep; counts = c; binds = binds; listed = l });
+          let i : Asks _ _ _ _ _ _ = record { depth = d; values = ρ; budget = budget; steps = steps; deep = deep; counts = c; binds = binds } in
+          f (record { asks = i; range = vs; listed = l });
     }
 
     -- No member is left.
@@ -259,10 +251,10 @@ module _ {bs env s₀ : List ℕ} {top n from count left : ℕ} (pre : EachReady
 
       -- The environment of the body at the next member.
       inside : (k : Asked bs env s₀ top n from count left) →
-          Binds bs s to (setAt inner (fieldA bs n) at) (k .values with fieldA bs n ≔ selecting-member (h .on k) some .value)
+          Binds bs s to (setAt inner (fieldA bs n) at) (k .asks .values with fieldA bs n ≔ selecting-member (h .on k) some .value)
       inside k =
           let u = selecting-member (h .on k) some in
-          binds-body (h .entries) (pre .name) (binds-frame to (h .frame) (omega (arith, choosing-near .0)) (k .binds))
+          binds-body (h .entries) (pre .name) (binds-frame to (h .frame) (omega (arith, choosing-near .0)) (k .asks .binds))
           (record { stands = u .here .stands; below = omega (arith, u .here .below, choosing-near .0); good = u .here .good })
 
       -- The identifier x and the body c, as they have been read off the node.
@@ -285,11 +277,11 @@ module _ {bs env s₀ : List ℕ} {top n from count left : ℕ} (pre : EachReady
         module _ {s₁ : List ℕ} {r : Held} (e : EvaluatesP bs (setAt inner x at) s to c m s₁ r) where
           -- What the body answers at the member.
           answers : (r₀ : Held) → r ≡ r₀ → (k : Asked bs env s₀ top n from count left) →
-              HeldAs (bodyAt bs (k .budget) n (k .depth) (k .values) (selecting-member (h .on k) some .value) (h .on k .now)) (k .budget) r₀
+              HeldAs (bodyOf k (selecting-member (h .on k) some .value) (h .on k .now)) (k .asks .budget) r₀
           answers r₀ is k =
               let a : EvaluatesP bs (setAt inner (fieldA bs n) at) s to (fieldC bs n) m s₁ r₀ = rw (name, body, is) at e in
-              a .answer (k .depth) (k .values with fieldA bs n ≔ selecting-member (h .on k) some .value) (k .budget) (h .on k .now)
-              (omega (arith, pre .deeper, k .deep)) (h .on k .counts) (inside k)
+              a .answer (k .asks .depth) (k .asks .values with fieldA bs n ≔ selecting-member (h .on k) some .value) (k .asks .budget) (h .on k .now)
+              (omega (arith, pre .deeper, k .asks .deep)) (h .on k .counts) (inside k)
 
           -- It is refused.
           pub choosing-refused : {p : Refusal} {l : ℕ} → r ≡ Refused p l → EvaluatesChosen bs env s₀ top n from count left s₁ (Stopped p l)
