@@ -30,10 +30,7 @@ pub inner-start : (env : List ℕ) (x : ℕ) → length env ≡ 32 → Inner env
 inner-start env x h = record { long = h; else = λ y n. refl }
 
 pub inner-set : {env inner : List ℕ} {x : ℕ} (at : ℕ) → Inner env inner x → Inner env (setAt inner x at) x
-inner-set {env} {inner} {x} at h = record {
-  long = length-set inner x at ∙ h .long;
-  else = λ y n. getD-set-other inner x y at 0 n ∙ h .else y n;
-}
+inner-set {env} {inner} {x} at h = record { long = length-set inner x at ∙ h .long; else = λ y n. getD-set-other inner x y at 0 n ∙ h .else y n }
 
 -- A member's place bound to x.
 pub binds-body : {bs s : List ℕ} {top : ℕ} {env inner : List ℕ} {ρ : Env} {x at : ℕ} {w : Value} → Inner env inner x → x < 32 →

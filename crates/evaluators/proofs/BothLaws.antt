@@ -76,10 +76,7 @@ module _ {bs env s : List ℕ} {top n : ℕ} (x : Ready bs env s top n) (y : Two
   -- It has been evaluated.
   module _ {left : ℕ} {s′ : List ℕ} {r : Formed} (h : EvaluatesE bs env s top a left s′ r) where
     pub both-stops : {p : Refusal} {l : ℕ} → r ≡ Stopped p l → StopsBoth bs env s top n left s′ p l
-    both-stops {p} {l} d = record {
-      frame = h .frame;
-      answer = λ i k. then-refused _ (formed-below i left-child q (Stopped p l) (formed-as refl d h));
-    }
+    both-stops {p} {l} d = record { frame = h .frame; answer = λ i k. then-refused _ (formed-below i left-child q (Stopped p l) (formed-as refl d h)) }
 
     -- The second operand's node is `m`.
     module _ {at mid l : ℕ} (d : r ≡ Placed at mid l) {m : ℕ} (q′ : m ≡ fieldB bs n) where

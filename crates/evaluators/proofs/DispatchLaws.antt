@@ -263,13 +263,7 @@ place-ready r = record { readable = r .readable; node = r .node; entries = r .en
 -- What the evaluators of the leaves take for granted.
 module _ {bs env s : List ℕ} {top k n left : ℕ} (v : Visited bs env s top k n left) where
   pub standing-ready : Unbuilt k → StandingReady bs env k n
-  standing-ready u = record {
-    node = place-ready (v .ready);
-    same = v .kind;
-    kind = u .0;
-    is = u .1;
-    unbuilt = u .2;
-  }
+  standing-ready u = record { node = place-ready (v .ready); same = v .kind; kind = u .0; is = u .1; unbuilt = u .2 }
 
   -- A node's kind is in the range of its category, and so the last arms.
   pub predicate-code : IsPred bs n → (1 ≤ k) × (k ≤ 11)

@@ -27,7 +27,7 @@ use Rattle.constants.specs.Built.{built, Builds}
 use Rattle.constants.proofs.ConstantLaws.{constants-frame}
 use Rattle.operations.specs.Good.{Sizes, GoodAt}
 use Rattle.evaluators.specs.declared.Held.{Held}
-use Rattle.evaluators.specs.declared.Held.the-variants.{Truth, Refused}
+use Rattle.evaluators.specs.declared.Held.the-variants.{Refused}
 use Rattle.evaluators.specs.declared.Formed.{Formed}
 use Rattle.evaluators.specs.declared.Formed.the-variants.{Value as Placed, Stopped}
 use Rattle.reading.specs.declared.Refusal.{Refusal}
@@ -212,15 +212,7 @@ pub record Asks (bs env s : List ℕ) (top n left : ℕ) : Type 0 where
 
 -- There is something to ask.
 abbrev pub some-asks : {bs env s : List ℕ} {top m : ℕ} (n left : ℕ) → Ready bs env s top m → Asks bs env s top n left
-some-asks n left r = record {
-  depth = n;
-  values = r .values;
-  budget = left;
-  steps = 0;
-  deep = omega arith;
-  counts = omega arith;
-  binds = r .binds;
-}
+some-asks n left r = record { depth = n; values = r .values; budget = left; steps = 0; deep = omega arith; counts = omega arith; binds = r .binds }
 
 -- After t visits, over an arena that is the same below `top`.
 abbrev pub asks-on : {bs env s : List ℕ} {top n left : ℕ} (k : Asks bs env s top n left) {s′ : List ℕ} {mid l : ℕ} (t : ℕ) →
@@ -244,19 +236,7 @@ module _ {bs env s : List ℕ} {top k n left : ℕ} (v : Visited bs env s top k 
   abbrev pub after : Asks bs env s top n (left - 1)
   after = asks-on i (suc (i .steps)) (same-refl top s) (omega arith) (omega (arith, v .unspent, i .counts))
 
--- A refusal as one of the other kind of node: what the code makes of it, and what is known of that.
-pub refusal-told : {f : Formed} {r : Refusal} {l : ℕ} → f ≡ Stopped r l → RefusalOf f (Refused r l)
-refusal-told {f} {r} {l} e = subst (λ (z : Formed). RefusalOf z (Refused r l)) (sym e) refl
-
-pub refusal-none : {f : Formed} {at end l : ℕ} → f ≡ Placed at end l → RefusalOf f (Truth false l)
-refusal-none {f} {at} {end} {l} e = subst (λ (z : Formed). RefusalOf z (Truth false l)) (sym e) tt
-
-pub stop-told : {h : Held} {r : Refusal} {l : ℕ} → h ≡ Refused r l → StopOf h (Stopped r l)
-stop-told {h} {r} {l} e = subst (λ (z : Held). StopOf z (Stopped r l)) (sym e) refl
-
-pub stop-none : {h : Held} {b : Bool} {l : ℕ} → h ≡ Truth b l → StopOf h (Placed 0 0 l)
-stop-none {h} {b} {l} e = subst (λ (z : Held). StopOf z (Placed 0 0 l)) (sym e) tt
-
+-- A refusal as one of the other kind of node.
 pub refusal-is : {f : Formed} {h : Held} {r : Refusal} {l : ℕ} → f ≡ Stopped r l → RefusalOf f h → Refused r l ≡ h
 refusal-is {f} {h} e k = sym (subst (λ (z : Formed). RefusalOf z h) e k)
 
@@ -303,10 +283,7 @@ module _ (bs : List ℕ) (budget f n : ℕ) (ρ : Env) (steps : ℕ) (readable :
         ends = record { end = q; steps = omega (arith, e .steps, h .same) };
         place = record { stands = h .stands; below = h .below; good = ok };
       }
-  settled-as (Stopped r l) h = record {
-    end = e .end ∙ ap (endOf n) (h .0) ∙ ap (refused (r .number)) (sym (h .1));
-    steps = omega (arith, e .steps, h .2);
-  }
+  settled-as (Stopped r l) h = record { end = e .end ∙ ap (endOf n) (h .0) ∙ ap (refused (r .number)) (sym (h .1)); steps = omega (arith, e .steps, h .2) }
 
 -- The answer for a node, from its tree, whose children have the depth g.
 abbrev predᵍ : List ℕ → ℕ → Kind → ℕ → Pred

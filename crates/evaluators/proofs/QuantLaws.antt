@@ -134,11 +134,7 @@ module _ {bs env s₀ : List ℕ} {top : ℕ} {all : Bool} {node from count left
   pub member-stands : (s′ : List ℕ) → Same top s s′ → SomeAt s′ at
   member-stands s′ e =
       let w = some-next in
-      record {
-        value = w .value;
-        stands = good-frame e (w .here) .stands;
-        fits = good-fits (sizes-small bs (r .ready .readable)) (w .value) (w .here .good);
-      }
+      record { value = w .value; stands = good-frame e (w .here) .stands; fits = good-fits (sizes-small bs (r .ready .readable)) (w .value) (w .here .good) }
 
   module _ (ex : x ≡ fieldA bs node) {b : ℕ} (ey : b ≡ fieldC bs node) where
     body-binds : (k : Asked bs env s₀ top node from count left) →

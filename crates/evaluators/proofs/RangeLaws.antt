@@ -72,9 +72,6 @@ module _ {bs env s : List ℕ} {top n : ℕ} (r : Ready bs env s top n) {k : Kin
       let h : fieldA bs n < length (tableOf bs .binds) = rw q at (field-holds bs (r .readable) n (r .node) k e 0 (rw q (omega arith))) in
       omega (arith, h, binds-length bs, r .readable .header .identifiers)
 
-  pub binder-range : Child bs n (fieldB bs n) expression
-  binder-range = field-child bs (r .readable) n (r .node) k e expression 1 (omega arith) (rw q (omega arith)) (rw q)
-
   binder-body : Child bs n (fieldC bs n) predicate
   binder-body = field-child bs (r .readable) n (r .node) k e predicate 2 (omega arith) (rw q (omega arith)) (rw q)
 
@@ -116,13 +113,7 @@ module _ {bs env s : List ℕ} {top n m left : ℕ} (r : Ready bs env s top n) (
   some-range = placed-range (some-asks n left r)
 
   pub placed-good : SomeGood s₁ at
-  placed-good = record {
-    sizes = tableOf bs .sizes;
-    small = sizes-small bs (r .readable);
-    top = next;
-    value = some-range .value;
-    stands = some-range .place;
-  }
+  placed-good = record { sizes = tableOf bs .sizes; small = sizes-small bs (r .readable); top = next; value = some-range .value; stands = some-range .place }
 
   pub placed-low : at < 4294967296
   placed-low = omega (arith, good-inside (sizes-small bs (r .readable)) (some-range .place), h .frame .kept, r .small)
@@ -142,12 +133,7 @@ module _ {bs env s : List ℕ} {top n m left : ℕ} (r : Ready bs env s top n) (
     range-here i =
         let v = placed-range i in
         let x = y (tableOf bs .sizes) next (v .value) (sizes-small bs (r .readable)) (v .place) in
-        record {
-          range = x .members;
-          ends = rw (x .is) at (v .ends);
-          listed = range-listed (v .place) x;
-          fit = rw (x .is) at (range-fits (v .place) x);
-        }
+        record { range = x .members; ends = rw (x .is) at (v .ends); listed = range-listed (v .place) x; fit = rw (x .is) at (range-fits (v .place) x) }
 
     -- What is asked of the loop over it.
     abbrev pub in-range : (i : Asks bs env s top n left) → Asked bs env s₁ next n (at + 1) count l
