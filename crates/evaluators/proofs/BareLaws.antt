@@ -17,7 +17,7 @@ use Rattle.evaluators.specs.Answers.{HeldAs, turnedBy}
 use Rattle.evaluators.specs.Cycle.{Ready, holdsAt, Passes, EvaluatesP}
 use Rattle.evaluators.specs.Nodes.{fieldA, IsPred}
 use Rattle.evaluators.proofs.RunLaws.{then-done, then-refused, returns, visited}
-use Rattle.evaluators.proofs.NodeLaws.{Child, field-child, pred-at, condition-cells, node-tall}
+use Rattle.evaluators.proofs.NodeLaws.{Child, field-child, pred-at, condition-cells, ready-at}
 
 -- 4
 negated-ends : (budget : ℕ) (gs : List ℕ) (n : ℕ) (ρ : Env) (s : ℕ) (p : Pred) (r : Held) → s < budget →
@@ -80,16 +80,10 @@ module _ {bs : List ℕ} {m k : ℕ} (r : Readable bs) (lt : m < nodeCount bs) (
 -- What the evaluator of the condition reached is given, and what its answer tells.
 module _ {bs env s : List ℕ} {top n left m l : ℕ} {t : Bool} (r : Ready bs env s top n) (is : IsPred bs n) (p : Passes bs n left m l t) where
   pub bare-ready : Ready bs env s top m
-  bare-ready = record {
-    readable = r .readable;
-    node = omega (arith, r .node, p .below);
-    room = λ b. omega (arith, r .room b, p .lower, condition-cells (kindAt (tableOf bs .nodes) m) (p .is), condition-cells (kindAt (tableOf bs .nodes) n) is);
-    tall = node-tall bs (r .readable) m (omega (arith, r .node, p .below));
-    small = r .small;
-    entries = r .entries;
-    values = r .values;
-    binds = r .binds;
-  }
+  bare-ready =
+      let high = condition-cells (kindAt (tableOf bs .nodes) n) is in
+      ready-at r m (omega (arith, r .node, p .below)) (λ b. omega (arith, r .room b, p .lower, condition-cells (kindAt (tableOf bs .nodes) m) (p .is), high))
+      refl (r .entries) (r .binds)
 
   pub bare-tells : {s′ : List ℕ} {h x : Held} → EvaluatesP bs env s top m l s′ h → x ≡ turnedBy t h → EvaluatesP bs env s top n left s′ x
   bare-tells {s′} {h} e q = record {

@@ -33,7 +33,7 @@ use Rattle.evaluators.specs.declared.Formed.the-variants.{Value as Place
 use Rattle.reading.specs.declared.Refusal.{Refusal}
 use Rattle.evaluators.specs.Answers.{EndsWith, HeldAs, FormedAs, FormedBounds, SettledAs, RefusalOf, StopOf}
 use Rattle.evaluators.specs.Nodes.{fieldA, fieldB}
-use Rattle.evaluators.specs.Cycle.{expressionCells, Binds, Ready, Visited, holdsAt, valueAt, EvaluatesP, EvaluatesE}
+use Rattle.evaluators.specs.Cycle.{expressionCells, cellsFor, Binds, Ready, Visited, holdsAt, valueAt, EvaluatesP, EvaluatesE}
 use Rattle.evaluators.proofs.RunLaws.{visited, endOf, ends-as}
 
 -- The sizes of a readable table are small.
@@ -162,19 +162,26 @@ pub condition-cells : (k : Option Kind) → CategoryIs predicate k → expressio
 condition-cells nothing e = absurd e
 condition-cells (some k) e = ap (λ (c : Category). elim c [ predicate ↦ 0 | expression ↦ 128 ]) e
 
+-- What an evaluator may take for granted, at a node m of the same table.
+pub ready-at : {bs env s env′ s′ : List ℕ} {top n k : ℕ} {ρ : Env} → Ready bs env s top n → (m : ℕ) → m < nodeCount bs →
+    (Builds bs → k + cellsFor bs m ≤ length s′) → length s′ ≡ length s → length env′ ≡ 32 → Binds bs s′ k env′ ρ → Ready bs env′ s′ k m
+ready-at {bs} {ρ = ρ} r m l room kept long b = record {
+  readable = r .readable;
+  node = l;
+  room = room;
+  tall = node-tall bs (r .readable) m l;
+  small = omega (arith, r .small, kept);
+  entries = long;
+  values = ρ;
+  binds = b;
+}
+
 -- What a node's evaluator may pass on to that of a child, over an arena that is the same below `top`.
 pub ready-child : {bs env s : List ℕ} {top n : ℕ} {c : Category} (s′ : List ℕ) (m k : ℕ) →
     Ready bs env s top n → Child bs n m c → Same top s s′ → top ≤ k → k ≤ top + 256 → Ready bs env s′ k m
-ready-child {bs} {env} {s} {top} {n} s′ m k r c e le near = record {
-  readable = r .readable;
-  node = omega (arith, c .below, r .node);
-  room = λ b. omega (arith, c .lower, r .room b, e .kept, expression-cells (kindAt (tableOf bs .nodes) m));
-  tall = c .tall;
-  small = omega (arith, r .small, e .kept);
-  entries = r .entries;
-  values = r .values;
-  binds = binds-frame k e le (r .binds);
-}
+ready-child {bs} s′ m k r c e le near =
+    ready-at r m (omega (arith, c .below, r .node)) (λ b. omega (arith, c .lower, r .room b, e .kept, expression-cells (kindAt (tableOf bs .nodes) m)))
+    (e .kept) (r .entries) (binds-frame k e le (r .binds))
 
 -- So too to that of its first child, where nothing has been written yet.
 pub ready-first : {bs env s : List ℕ} {top n m : ℕ} {c : Category} → Ready bs env s top n → Child bs n m c → Ready bs env s top m

@@ -4,22 +4,22 @@ use Prim.Native.Nat.{ℕ, _+_, _-_, _<_}
 use mathlib.Core.Bool.{Bool, true, false, not, Bool·beq}
 use mathlib.Core.List.{List, [], _∷_}
 use mathlib.Core.Option.{some}
-use mathlib.Core.Path.{_≡_, refl, sym, ap, _∙_, subst}
+use mathlib.Core.Path.{_≡_, refl, sym, ap, _∙_}
 use native.Mathlib.Omega.{arith}
 use native.Mathlib.Nat.{le-refl}
 use lib.Dec.{eqb}
 use lib.ListN.{set as setAt}
-use Rattle.rules.specs.Values.{Value, set, Values, members, weight}
+use Rattle.rules.specs.Values.{Value, set, members}
 use Rattle.rules.specs.Kinds.{Quant, forAll, forSome, quant, expression, kindOf}
 use Rattle.rules.specs.Rules.{quantRule}
 use Rattle.rules.specs.Ends.{End, done, refused}
 use Rattle.rules.specs.Runs.{Run, M}
 use Rattle.rules.specs.Tables.{tableOf}
-use Rattle.rules.specs.Operations.{_with_≔_, elems}
+use Rattle.rules.specs.Operations.{elems}
 use Rattle.rules.specs.Evaluation.{quantify, holdsᵖ}
 use Rattle.arena.specs.Code.{Same, SomeAt, EndsAt}
 use Rattle.arena.proofs.Standing.{same-refl, same-trans}
-use Rattle.operations.proofs.GoodLaws.{good-fits, good-inside}
+use Rattle.operations.proofs.GoodLaws.{good-inside}
 use Rattle.operations.proofs.KindLaws.{quantCode, code-of}
 use Rattle.reading.specs.declared.Refusal.{Refusal}
 use Rattle.evaluators.specs.declared.Held.{Held}
@@ -27,13 +27,13 @@ use Rattle.evaluators.specs.declared.Held.the-variants.{Truth, Refused}
 use Rattle.evaluators.specs.declared.Formed.{Formed}
 use Rattle.evaluators.specs.declared.Formed.the-variants.{Value as Placed, Stopped}
 use Rattle.evaluators.specs.declared.Range.the-variants.{Set, Unlike}
-use Rattle.evaluators.specs.Answers.{EndsWith, HeldAs, Listed}
+use Rattle.evaluators.specs.Answers.{EndsWith, HeldAs}
 use Rattle.evaluators.specs.Nodes.{fieldA, fieldB, fieldC, quantOf, IsPred, IsExpr, SomeGood, RangeAt}
-use Rattle.evaluators.specs.Cycle.{Binds, Ready, Visited, Sort, EachReady, holdsAt, bodyAt, EvaluatesP, EvaluatesE, EvaluatesEach}
+use Rattle.evaluators.specs.Cycle.{Ready, Visited, Sort, EachReady, bodyAt, EvaluatesP, EvaluatesE, EvaluatesEach}
 use Rattle.evaluators.proofs.RunLaws.{then-done, then-refused, returns, fitting-on, fitting-refused}
-use Rattle.evaluators.proofs.NodeLaws.{Child, sizes-small, good-frame, binds-frame, ready-first, visited-kind, visited-child, formed-as}
+use Rattle.evaluators.proofs.NodeLaws.{Child, sizes-small, ready-first, visited-kind, visited-child, held-as, formed-as}
 use Rattle.evaluators.proofs.NodeLaws.{Asks, visits, after, formed-below, held-by}
-use Rattle.evaluators.proofs.BodyLaws.{Inner, inner-start, inner-set, binds-body, Asked, some-asked, bodyOf, First, first-member, none-left, listed-frame}
+use Rattle.evaluators.proofs.BodyLaws.{Asked, bodyOf, First, none-left, Loop, loop-start, member, some-member, member-at, member-ends, loop-next, body-begins, body-ends}
 use Rattle.evaluators.proofs.RangeLaws.{placed-range, placed-good, placed-low, placed-unlike, range-here, in-range, each-ready}
 
 -- Two truths differ, or are the same.
@@ -74,30 +74,18 @@ module _ (g : Value → M Bool) where
   quantify-none true s c = returns true c
   quantify-none false s c = returns false c
 
--- What is left of the whole range: the rest stands at `at`, and what the quantifier gives for it from `now` on it gives for the whole.
-pub record Left (gs s : List ℕ) (top at more n : ℕ) (all : Bool) (g : Value → M Bool) (vs : Values) (budget steps : ℕ) : Type 0 where
-  pub rest : Values
-  pub listed : Listed gs s top at more rest
-  pub now : ℕ
-  pub counts : now + n ≡ budget
-  pub gives : (e : End Bool) (l : ℕ) → EndsWith (quantify (quantOf all) g (members rest) now) e budget l →
-      EndsWith (quantify (quantOf all) g (members vs) steps) e budget l
-
--- Before each turn of the loop.
+-- Before each turn of the loop: what the quantifier gives for the rest of the range it gives for the whole.
 pub record Turning (bs env s₀ : List ℕ) (top : ℕ) (all : Bool) (node from count left x : ℕ) (s inner : List ℕ) (at more n : ℕ) : Type 0 where
   pub frame : Same top s₀ s
-  pub inside : Inner env inner x
-  pub remains : (k : Asked bs env s₀ top node from count left) →
-      Left (tableOf bs .sizes) s top at more n all (bodyOf k) (k .range) (k .asks .budget) (k .asks .steps)
+  pub loop : Loop bs env s₀ top node from count left x s inner at more n
+  pub gives : (k : Asked bs env s₀ top node from count left) (e : End Bool) (l : ℕ) →
+      EndsWith (quantify (quantOf all) (bodyOf k) (members (loop .rest k)) (loop .now k)) e (k .asks .budget) l →
+      EndsWith (quantify (quantOf all) (bodyOf k) (members (k .range)) (k .asks .steps)) e (k .asks .budget) l
 
 -- Before the first turn.
 pub turning-start : {bs env s : List ℕ} {top node from count left : ℕ} (all : Bool) (x : ℕ) → EachReady bs env s top node from count 0 →
     Turning bs env s top all node from count left x s env from count left
-turning-start {bs} {env} {s} {top} all x r = record {
-  frame = same-refl top s;
-  inside = inner-start env x (r .ready .entries);
-  remains = λ k. record { rest = k .range; listed = k .listed; now = k .asks .steps; counts = k .asks .counts; gives = λ e l h. h };
-}
+turning-start {s = s} {top = top} all x r = record { frame = same-refl top s; loop = loop-start x r; gives = λ k e l h. h }
 
 -- The answer of the loop, from what is answered where it is asked.
 each-by : {bs env s : List ℕ} {top n from count left : ℕ} {j : Quant} {s′ : List ℕ} {r : Held} → Same top s s′ →
@@ -121,50 +109,24 @@ each-of h k =
 module _ {bs env s₀ : List ℕ} {top : ℕ} {all : Bool} {node from count left x : ℕ} {s inner : List ℕ} {at more n : ℕ}
     (r : EachReady bs env s₀ top node from count 0)
     (i : Turning bs env s₀ top all node from count left x s inner at more n) (some : 0 < more) where
-  next : (k : Asked bs env s₀ top node from count left) → First (tableOf bs .sizes) s top at more (i .remains k .rest)
-  next k = first-member (i .remains k .rest) (i .remains k .listed) some
-
-  -- Some member is left.
-  abbrev some-next : First (tableOf bs .sizes) s top at more (i .remains (some-asked left r) .rest)
-  some-next = next (some-asked left r)
-
   pub member-low : at < 4294967296
-  member-low = omega (arith, good-inside (sizes-small bs (r .ready .readable)) (some-next .here), i .frame .kept, r .ready .small)
+  member-low =
+      let w = some-member r (i .frame) (i .loop) some in
+      omega (arith, good-inside (sizes-small bs (r .ready .readable)) (w .here), i .frame .kept, r .ready .small)
 
   pub member-stands : (s′ : List ℕ) → Same top s s′ → SomeAt s′ at
-  member-stands s′ e =
-      let w = some-next in
-      record { value = w .value; stands = good-frame e (w .here) .stands; fits = good-fits (sizes-small bs (r .ready .readable)) (w .value) (w .here .good) }
+  member-stands s′ e = member-at r (i .frame) (i .loop) some e
+
+  abbrev next : (k : Asked bs env s₀ top node from count left) → First (tableOf bs .sizes) s top at more (i .loop .rest k)
+  next k = member r (i .frame) (i .loop) some k
 
   module _ (ex : x ≡ fieldA bs node) {b : ℕ} (ey : b ≡ fieldC bs node) where
-    body-binds : (k : Asked bs env s₀ top node from count left) →
-        Binds bs s top (setAt inner x at) (k .asks .values with x ≔ next k .value)
-    body-binds k = binds-body (i .inside) (omega (arith, ex, r .name)) (binds-frame top (i .frame) (le-refl top) (k .asks .binds)) (next k .here)
-
     pub body-ready : Ready bs (setAt inner x at) s top b × IsPred bs b
-    body-ready = rw ey (
-      record {
-        readable = r .ready .readable;
-        node = r .ready .node;
-        room = λ b. omega (arith, r .ready .room b, i .frame .kept);
-        tall = r .ready .tall;
-        small = omega (arith, r .ready .small, i .frame .kept);
-        entries = inner-set at (i .inside) .long;
-        values = r .ready .values with x ≔ some-next .value;
-        binds = body-binds (some-asked left r);
-      },
-      r .is,
-    )
+    body-ready = body-begins r (i .frame) (i .loop) some (le-refl top) ex ey (λ b. omega (arith, r .ready .room b, i .frame .kept))
 
     module _ {s′ : List ℕ} {h : Held} (p : EvaluatesP bs (setAt inner x at) s top b n s′ h) where
-      body-ends : (k : Asked bs env s₀ top node from count left) →
-          HeldAs (bodyOf k (next k .value) (i .remains k .now)) (k .asks .budget) h
-      body-ends k =
-          let v = next k .value in
-          let t = i .remains k .now in
-          let a = p .answer (k .asks .depth) (k .asks .values with x ≔ v) (k .asks .budget) t (omega (arith, ey, r .deeper, k .asks .deep)) (i .remains k .counts) (body-binds k) in
-          subst (λ (z : ℕ). HeldAs (holdsAt bs (k .asks .budget) (k .asks .depth) z (k .asks .values with fieldA bs node ≔ v) t) (k .asks .budget) h) ey
-          (subst (λ (z : ℕ). HeldAs (holdsAt bs (k .asks .budget) (k .asks .depth) b (k .asks .values with z ≔ v) t) (k .asks .budget) h) ex a)
+      ends : (h₀ : Held) → h ≡ h₀ → (k : Asked bs env s₀ top node from count left) → HeldAs (bodyOf k (next k .value) (i .loop .now k)) (k .asks .budget) h₀
+      ends h₀ e k = body-ends r (i .frame) (i .loop) some (le-refl top) ex ey h₀ (held-as refl e p) k
 
       body-frame : Same top s₀ s′
       body-frame = same-trans top top s₀ s s′ (i .frame) (p .frame) (le-refl top)
@@ -172,50 +134,35 @@ module _ {bs env s₀ : List ℕ} {top : ℕ} {all : Bool} {node from count left
       -- The body is refused.
       pub member-refused : {q : Refusal} {l : ℕ} → h ≡ Refused q l → EvaluatesEach bs env s₀ top node from count left (quantOf all) s′ h
       member-refused {q} {l} e = rw e (each-by body-frame (λ k.
-          let w = next k in
-          let a : EndsWith (bodyOf k (w .value) (i .remains k .now)) (refused (q .number) (q .place)) (k .asks .budget) l = rw e at (body-ends k) in
-          i .remains k .gives (refused (q .number) (q .place)) l
-          (rw (w .is) (quantify-refused (bodyOf k) all (w .value) (members (w .rest)) (i .remains k .now) a))))
+          i .gives k (refused (q .number) (q .place)) l
+          (rw (next k .is) (quantify-refused (bodyOf k) all (next k .value) (members (next k .rest)) (i .loop .now k) (ends (Refused q l) e k)))))
 
       -- The body decides.
       pub member-decides : (got : Bool) (l : ℕ) → h ≡ Truth got l → got ≡ not all →
           EvaluatesEach bs env s₀ top node from count left (quantOf all) s′ (Truth got l)
       member-decides got l e q = rw q (each-by body-frame (λ k.
-          let w = next k in
-          let a : EndsWith (bodyOf k (w .value) (i .remains k .now)) (done (not all)) (k .asks .budget) l
-          = rw (e ∙ ap (λ (z : Bool). Truth z l) q) at (body-ends k) in
-          i .remains k .gives (done (not all)) l
-          (rw (w .is) (quantify-stops (bodyOf k) all (w .value) (members (w .rest)) (i .remains k .now) a))))
+          let a = ends (Truth (not all) l) (e ∙ ap (λ (z : Bool). Truth z l) q) k in
+          i .gives k (done (not all)) l (rw (next k .is) (quantify-stops (bodyOf k) all (next k .value) (members (next k .rest)) (i .loop .now k) a))))
 
       -- The body does not decide, and the next member stands at `end`.
       pub turning-on : (got : Bool) (l end : ℕ) → h ≡ Truth got l → got ≡ all → EndsAt s′ at end →
           Turning bs env s₀ top all node from count left x s′ (setAt inner x at) end (more - 1) l
-      turning-on got l end e q z = record {
-        frame = body-frame;
-        inside = inner-set at (i .inside);
-        remains = λ k.
-            let w = next k in
-            let t = i .remains k .now in
-            let a : EndsWith (bodyOf k (w .value) t) (done all) (k .asks .budget) l = rw (e ∙ ap (λ (z : Bool). Truth z l) q) at (body-ends k) in
-            let fits = good-fits (sizes-small bs (r .ready .readable)) (w .value) (w .here .good) in
-            let y : end ≡ at + weight (w .value) = z (w .value) (good-frame (p .frame) (w .here) .stands) fits in
-            record {
-              rest = w .rest;
-              listed = rw y (listed-frame top (p .frame) (le-refl top) (w .behind));
-              now = bodyOf k (w .value) t .steps;
-              counts = a .steps;
-              gives = λ e₁ l₁ h₁. i .remains k .gives e₁ l₁
-                  (rw (w .is) (quantify-on (bodyOf k) all (w .value) (members (w .rest)) t a h₁));
-            };
-      }
+      turning-on got l end e q z =
+          let a = ends (Truth all l) (e ∙ ap (λ (z : Bool). Truth z l) q) in
+          record {
+            frame = body-frame;
+            loop = loop-next r (i .frame) (i .loop) some (p .frame) (member-ends r (i .frame) (i .loop) some (p .frame) z) a;
+            gives = λ k e₁ l₁ h₁.
+                i .gives k e₁ l₁ (rw (next k .is) (quantify-on (bodyOf k) all (next k .value) (members (next k .rest)) (i .loop .now k) (a k) h₁));
+          }
 
 -- After the last turn.
 pub members-done : {bs env s₀ : List ℕ} {top : ℕ} {all : Bool} {node from count left x : ℕ} {s inner : List ℕ} {at more n : ℕ} →
     Turning bs env s₀ top all node from count left x s inner at more n → more ≡ 0 →
     EvaluatesEach bs env s₀ top node from count left (quantOf all) s (Truth all n)
 members-done {all = all} {n = n} i e = each-by (i .frame) (λ k.
-    let u = i .remains k in
-    u .gives (done all) n (rw (none-left (u .rest) (u .listed) e) (quantify-none (bodyOf k) all (u .now) (u .counts))))
+    let u = i .loop in
+    i .gives k (done all) n (rw (none-left (u .rest k) (u .listed k) e) (quantify-none (bodyOf k) all (u .now k) (u .counts k))))
 
 -- The quantifier of a kind.
 quant-of : (k : ℕ) (j : Quant) → kindOf k ≡ some (quant j) → quantOf (eqb k 10) ≡ j
