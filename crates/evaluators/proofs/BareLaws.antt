@@ -1,5 +1,5 @@
 -- Negations passed from a condition down: each turns the answer round, for one visit; and the condition's answer from that of the one reached.
-use Prim.Native.Nat.{ℕ, suc, _+_, _-_, _≤_, _<_}
+use Prim.Native.Nat.{ℕ, suc, _+_, _-_, _<_}
 use mathlib.Core.Bool.{Bool, true, false, not}
 use mathlib.Core.List.{List}
 use mathlib.Core.Option.{some}
@@ -8,7 +8,6 @@ use native.Mathlib.Omega.{arith}
 use Rattle.rules.specs.Kinds.{predicate, negation, kindOf}
 use Rattle.rules.specs.Tables.{Pred, notᵖ, tableOf, nodeAt, kindAt, predAt, nodeCount}
 use Rattle.rules.specs.Readable.{Readable}
-use Rattle.rules.specs.Runs.{return, _>>=_}
 use Rattle.rules.specs.Operations.{Env}
 use Rattle.rules.specs.Evaluation.{holdsᵖ}
 use Rattle.operations.proofs.KindLaws.{kind-of}
@@ -18,21 +17,15 @@ use Rattle.evaluators.specs.Answers.{HeldAs, turnedBy}
 use Rattle.evaluators.specs.Cycle.{Ready, holdsAt, Passes, EvaluatesP}
 use Rattle.evaluators.specs.Nodes.{fieldA, IsPred}
 use Rattle.evaluators.proofs.RunLaws.{then-done, then-refused, returns, visited}
-use Rattle.evaluators.proofs.NodeLaws.{Child, field-child, pred-at, condition-cells, node-tall}
+use Rattle.evaluators.proofs.NodeLaws.{Child, field-child, pred-at, condition-cells, ready-at}
 
 -- 4
 negated-ends : (budget : ℕ) (gs : List ℕ) (n : ℕ) (ρ : Env) (s : ℕ) (p : Pred) (r : Held) → s < budget →
     HeldAs (holdsᵖ budget gs p ρ (suc s)) budget r → HeldAs (holdsᵖ budget gs (notᵖ n p) ρ s) budget (turnedBy true r)
 unfolding holdsᵖ
-negated-ends budget gs n ρ s p (Truth true l) less h =
-    visited budget n s (holdsᵖ budget gs p ρ >>= λ a. return (not a)) less
-    (then-done (holdsᵖ budget gs p ρ) (λ a. return (not a)) (suc s) (h .end) (returns false (h .steps)))
-negated-ends budget gs n ρ s p (Truth false l) less h =
-    visited budget n s (holdsᵖ budget gs p ρ >>= λ a. return (not a)) less
-    (then-done (holdsᵖ budget gs p ρ) (λ a. return (not a)) (suc s) (h .end) (returns true (h .steps)))
-negated-ends budget gs n ρ s p (Refused r l) less h =
-    visited budget n s (holdsᵖ budget gs p ρ >>= λ a. return (not a)) less
-    (then-refused (holdsᵖ budget gs p ρ) (λ a. return (not a)) (suc s) h)
+negated-ends budget gs n ρ s p (Truth true l) less h = visited budget n s _ less (then-done _ h (returns false (h .steps)))
+negated-ends budget gs n ρ s p (Truth false l) less h = visited budget n s _ less (then-done _ h (returns true (h .steps)))
+negated-ends budget gs n ρ s p (Refused r l) less h = visited budget n s _ less (then-refused _ h)
 
 turned-not : (h : Held) → turnedBy false h ≡ h
 turned-not (Truth true l) = refl
@@ -87,16 +80,10 @@ module _ {bs : List ℕ} {m k : ℕ} (r : Readable bs) (lt : m < nodeCount bs) (
 -- What the evaluator of the condition reached is given, and what its answer tells.
 module _ {bs env s : List ℕ} {top n left m l : ℕ} {t : Bool} (r : Ready bs env s top n) (is : IsPred bs n) (p : Passes bs n left m l t) where
   pub bare-ready : Ready bs env s top m
-  bare-ready = record {
-    readable = r .readable;
-    node = omega (arith, r .node, p .below);
-    room = λ b. omega (arith, r .room b, p .lower, condition-cells (kindAt (tableOf bs .nodes) m) (p .is), condition-cells (kindAt (tableOf bs .nodes) n) is);
-    tall = node-tall bs (r .readable) m (omega (arith, r .node, p .below));
-    small = r .small;
-    entries = r .entries;
-    values = r .values;
-    binds = r .binds;
-  }
+  bare-ready =
+      let high = condition-cells (kindAt (tableOf bs .nodes) n) is in
+      ready-at r m (omega (arith, r .node, p .below)) (λ b. omega (arith, r .room b, p .lower, condition-cells (kindAt (tableOf bs .nodes) m) (p .is), high))
+      refl (r .entries) (r .binds)
 
   pub bare-tells : {s′ : List ℕ} {h x : Held} → EvaluatesP bs env s top m l s′ h → x ≡ turnedBy t h → EvaluatesP bs env s top n left s′ x
   bare-tells {s′} {h} e q = record {

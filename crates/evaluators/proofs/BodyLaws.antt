@@ -1,5 +1,6 @@
 -- The body of a binder: its environment at a member of the range, what the loop's answer is asked for, and the members one after the other.
 use Prim.Native.Nat.{ℕ, _+_, _-_, _≤_, _<_}
+use mathlib.Core.Bool.{Bool}
 use mathlib.Core.List.{List, []}
 use mathlib.Core.Path.{_≡_, refl, sym, _∙_, subst}
 use native.Mathlib.Omega.{arith}
@@ -9,14 +10,21 @@ use lib.ListN.{length, getD, set as setAt, length-set}
 use lib.Seq.{getD-set-same, getD-set-other}
 use Rattle.rules.specs.Values.{Value, Values, none, _▸_, weight, members}
 use Rattle.rules.specs.Tables.{tableOf}
+use Rattle.rules.specs.Ends.{done}
+use Rattle.rules.specs.Runs.{M}
 use Rattle.rules.specs.Operations.{Env, _with_≔_}
 use Rattle.laws.proofs.FormedLaws.{with-good}
-use Rattle.arena.specs.Code.{code, codes, Stands, Same}
+use Rattle.arena.specs.Code.{code, codes, Stands, Same, SomeAt, EndsAt}
 use Rattle.arena.proofs.Standing.{stands-frame, stands-front, stands-back}
 use Rattle.arena.proofs.CodeLaws.{length-code, length-codes}
+use Rattle.constants.specs.Built.{Builds}
 use Rattle.operations.specs.Good.{GoodAt}
-use Rattle.evaluators.specs.Answers.{Listed}
-use Rattle.evaluators.specs.Cycle.{Binds, EachReady}
+use Rattle.operations.proofs.GoodLaws.{good-fits}
+use Rattle.evaluators.specs.declared.Held.{Held}
+use Rattle.evaluators.specs.Answers.{EndsWith, HeldAs, Listed}
+use Rattle.evaluators.specs.Nodes.{fieldA, fieldC, IsPred}
+use Rattle.evaluators.specs.Cycle.{cellsFor, Binds, Ready, EachReady, holdsAt, bodyAt, EvaluatesP}
+use Rattle.evaluators.proofs.NodeLaws.{sizes-small, good-frame, binds-frame, ready-at, Asks, some-asks}
 
 -- The environment of the body: the binder's own, but for its name x.
 pub record Inner (env inner : List ℕ) (x : ℕ) : Type 0 where
@@ -27,10 +35,7 @@ pub inner-start : (env : List ℕ) (x : ℕ) → length env ≡ 32 → Inner env
 inner-start env x h = record { long = h; else = λ y n. refl }
 
 pub inner-set : {env inner : List ℕ} {x : ℕ} (at : ℕ) → Inner env inner x → Inner env (setAt inner x at) x
-inner-set {env} {inner} {x} at h = record {
-  long = length-set inner x at ∙ h .long;
-  else = λ y n. getD-set-other inner x y at 0 n ∙ h .else y n;
-}
+inner-set {env} {inner} {x} at h = record { long = length-set inner x at ∙ h .long; else = λ y n. getD-set-other inner x y at 0 n ∙ h .else y n }
 
 -- A member's place bound to x.
 pub binds-body : {bs s : List ℕ} {top : ℕ} {env inner : List ℕ} {ρ : Env} {x at : ℕ} {w : Value} → Inner env inner x → x < 32 →
@@ -60,32 +65,20 @@ listed-frame {gs} {s} {s′} {top} {from} {n} {vs} k e le l = record {
   light = l .light;
 }
 
--- What the answer of a loop over a range is asked for: a depth, an environment, a budget with the visits made, and the members.
+-- What the answer of a loop over a range is asked for: the members too.
 pub record Asked (bs env s : List ℕ) (top n from count left : ℕ) : Type 0 where
-  pub depth : ℕ
-  pub values : Env
-  pub budget : ℕ
-  pub steps : ℕ
+  pub asks : Asks bs env s top n left
   pub range : Values
-  pub deep : n ≤ depth
-  pub counts : steps + left ≡ budget
-  pub binds : Binds bs s top env values
   pub listed : Listed (tableOf bs .sizes) s top from count range
 
 -- The loop may begin, so there is something to ask.
 abbrev pub some-asked : {bs env s : List ℕ} {top n from count spare : ℕ} (left : ℕ) → EachReady bs env s top n from count spare →
     Asked bs env s top n from count left
-some-asked {n = n} left r = record {
-  depth = n;
-  values = r .ready .values;
-  budget = left;
-  steps = 0;
-  range = r .range;
-  deep = omega arith;
-  counts = omega arith;
-  binds = r .ready .binds;
-  listed = r .listed;
-}
+some-asked {n = n} left r = record { asks = some-asks n left (r .ready); range = r .range; listed = r .listed }
+
+-- The body at the members.
+abbrev pub bodyOf : {bs env s : List ℕ} {top n from count left : ℕ} → Asked bs env s top n from count left → Value → M Bool
+bodyOf {bs} {n = n} k = bodyAt bs (k .asks .budget) n (k .asks .depth) (k .asks .values)
 
 -- The first of the values, and those behind it.
 pub record First (gs s : List ℕ) (top from n : ℕ) (vs : Values) : Type 0 where
@@ -116,3 +109,76 @@ first-member {gs} {s} {top} {from} {n} (v ▸ vs) l h = record {
 pub none-left : {gs s : List ℕ} {top from n : ℕ} (vs : Values) → Listed gs s top from n vs → n ≡ 0 → members vs ≡ []
 none-left {gs} {s} {top} {from} {n} none l h = refl
 none-left {gs} {s} {top} {from} {n} (v ▸ vs) l h = absurd (omega (arith, l .counted))
+
+-- Before each turn of a loop: the rest of the range stands at `at`, and `now` visits have been made, where it is asked.
+pub record Loop (bs env s₀ : List ℕ) (top n from count left x : ℕ) (s inner : List ℕ) (at more m : ℕ) : Type 0 where
+  pub inside : Inner env inner x
+  pub rest : Asked bs env s₀ top n from count left → Values
+  pub listed : (k : Asked bs env s₀ top n from count left) → Listed (tableOf bs .sizes) s top at more (rest k)
+  pub now : Asked bs env s₀ top n from count left → ℕ
+  pub counts : (k : Asked bs env s₀ top n from count left) → now k + m ≡ k .asks .budget
+
+abbrev pub loop-start : {bs env s : List ℕ} {top n from count left spare : ℕ} (x : ℕ) → EachReady bs env s top n from count spare →
+    Loop bs env s top n from count left x s env from count left
+loop-start {env = env} x r = record {
+  inside = inner-start env x (r .ready .entries);
+  rest = λ k. k .range;
+  listed = λ k. k .listed;
+  now = λ k. k .asks .steps;
+  counts = λ k. k .asks .counts;
+}
+
+-- A turn: the member at `at` is bound to x, and the body runs, above `to`.
+module _ {bs env s₀ : List ℕ} {top n from count left x : ℕ} {s inner : List ℕ} {at more m spare : ℕ} (r : EachReady bs env s₀ top n from count spare)
+    (f : Same top s₀ s) (i : Loop bs env s₀ top n from count left x s inner at more m) (some : 0 < more) where
+  pub member : (k : Asked bs env s₀ top n from count left) → First (tableOf bs .sizes) s top at more (i .rest k)
+  member k = first-member (i .rest k) (i .listed k) some
+
+  -- Some member is left.
+  abbrev pub some-member : First (tableOf bs .sizes) s top at more (i .rest (some-asked left r))
+  some-member = member (some-asked left r)
+
+  -- Each stands as before over an arena that is the same below `top`.
+  module _ {s′ : List ℕ} (e : Same top s s′) where
+    pub member-at : SomeAt s′ at
+    member-at =
+        let fits = good-fits (sizes-small bs (r .ready .readable)) (some-member .value) (some-member .here .good) in
+        record { value = some-member .value; stands = good-frame e (some-member .here) .stands; fits = fits }
+
+    pub member-ends : {end : ℕ} → EndsAt s′ at end → (k : Asked bs env s₀ top n from count left) → end ≡ at + weight (member k .value)
+    member-ends z k =
+        let w = member k in
+        z (w .value) (good-frame e (w .here) .stands) (good-fits (sizes-small bs (r .ready .readable)) (w .value) (w .here .good))
+
+    -- The next member stands at `end`.
+    abbrev pub loop-next : {b : Bool} {end l : ℕ} → ((k : Asked bs env s₀ top n from count left) → end ≡ at + weight (member k .value)) → ((k : Asked bs env s₀ top n from count left) →
+        EndsWith (bodyOf k (member k .value) (i .now k)) (done b) (k .asks .budget) l) →
+        Loop bs env s₀ top n from count left x s′ (setAt inner x at) end (more - 1) l
+    loop-next z h = record {
+      inside = inner-set at (i .inside);
+      rest = λ k. member k .rest;
+      listed = λ k. rw (z k) (listed-frame top e (omega arith) (member k .behind));
+      now = λ k. bodyOf k (member k .value) (i .now k) .steps;
+      counts = λ k. h k .steps;
+    }
+
+  module _ {to : ℕ} (low : top ≤ to) (ex : x ≡ fieldA bs n) {c : ℕ} (ey : c ≡ fieldC bs n) where
+    member-binds : (k : Asked bs env s₀ top n from count left) → Binds bs s to (setAt inner x at) (k .asks .values with x ≔ member k .value)
+    member-binds k =
+        let g = member k .here in
+        binds-body (i .inside) (omega (arith, ex, r .name)) (binds-frame to f low (k .asks .binds))
+        (record { stands = g .stands; below = omega (arith, g .below); good = g .good })
+
+    pub body-begins : (Builds bs → to + cellsFor bs (fieldC bs n) ≤ length s) → Ready bs (setAt inner x at) s to c × IsPred bs c
+    body-begins room =
+        rw ey (ready-at (r .ready) (fieldC bs n) (r .ready .node) room (f .kept) (inner-set at (i .inside) .long) (member-binds (some-asked left r)), r .is)
+
+    pub body-ends : {s′ : List ℕ} (h : Held) → EvaluatesP bs (setAt inner x at) s to c m s′ h → (k : Asked bs env s₀ top n from count left) →
+        HeldAs (bodyOf k (member k .value) (i .now k)) (k .asks .budget) h
+    body-ends h p k =
+        let u = k .asks in
+        let v = member k .value in
+        let t = i .now k in
+        let a = p .answer (u .depth) (u .values with x ≔ v) (u .budget) t (omega (arith, ey, r .deeper, u .deep)) (i .counts k) (member-binds k) in
+        subst (λ (z : ℕ). HeldAs (holdsAt bs (u .budget) (u .depth) z (u .values with fieldA bs n ≔ v) t) (u .budget) h) ey
+        (subst (λ (z : ℕ). HeldAs (holdsAt bs (u .budget) (u .depth) c (u .values with z ≔ v) t) (u .budget) h) ex a)

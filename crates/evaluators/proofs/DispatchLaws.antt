@@ -1,6 +1,6 @@
 -- Where a node's visit goes: the refusal of a visit beyond the budget, the evaluator by the kind's code, the leaves that are built, and those that
 -- stand already.
-use Prim.Native.Nat.{ℕ, zero, suc, _+_, _-_, _*_, _≤_, _<_}
+use Prim.Native.Nat.{ℕ, zero, suc, _+_, _-_, _≤_, _<_}
 use mathlib.Core.Bool.{Bool, true, false, false≢true, _&&_, cond}
 use mathlib.Core.List.{List}
 use mathlib.Core.Logic.{_≢_, _⊎_, inl, inr, ⊎-elim}
@@ -8,7 +8,6 @@ use mathlib.Core.Option.{Option, none as nothing, some}
 use mathlib.Core.Path.{_≡_, refl, sym, ap, _∙_, subst}
 use native.Mathlib.Omega.{arith}
 use native.Mathlib.Decide.{decLt}
-use borrow.Author.Tests.{le-leb}
 use lib.Dec.{leb}
 use lib.ListN.{getD}
 use Rattle.rules.specs.Types.{whole}
@@ -19,20 +18,19 @@ use Rattle.rules.specs.Kinds.{One, singleton, power, dom, ran, card, choice}
 use Rattle.rules.specs.Kinds.{pairing, union, inter, diff, product, apply, plus, minus, interval}
 use Rattle.rules.specs.Kinds.{Kind, join, negation, test, quant, leaf, boolOf, one, two, comprehension, kindOf}
 use Rattle.rules.specs.Kinds.{Category, predicate, expression}
-use Rattle.rules.specs.Tables.{Node, Pred, joinᵖ, notᵖ, testᵖ, quantᵖ, Expr, leafᵉ, boolᵉ, oneᵉ, twoᵉ, comprehensionᵉ}
+use Rattle.rules.specs.Tables.{Node, Pred, Expr, leafᵉ, boolᵉ, oneᵉ, twoᵉ, comprehensionᵉ}
 use Rattle.rules.specs.Tables.{tableOf, nodeAt, kindAt, predOf, predAt, exprAt, nodeCount}
 use Rattle.rules.specs.Readable.{Readable, CategoryIs}
-use Rattle.rules.specs.Ends.{done, refused}
-use Rattle.rules.specs.Runs.{form, gives}
+use Rattle.rules.specs.Ends.{refused}
+use Rattle.rules.specs.Runs.{gives}
 use Rattle.rules.specs.Operations.{Env, leafValue}
 use Rattle.rules.specs.Evaluation.{holdsᵖ, valueᵉ}
 use Rattle.laws.proofs.TableLaws.{sizes-length, binds-length}
 use Rattle.laws.proofs.CellsLaws.{good-weight}
-use Rattle.laws.proofs.FormedLaws.{value-good}
 use Rattle.laws.proofs.EndLaws.{T-true, T-and, T-leb}
 use Rattle.table.specs.Codes.{codeOf as categoryNumber, categoryCode}
 use Rattle.table.proofs.Access.{by-range}
-use Rattle.arena.specs.Code.{ValueAt}
+use Rattle.arena.specs.Code.{ValueAt, Same}
 use Rattle.arena.proofs.Standing.{same-refl}
 use Rattle.arena.proofs.CodeLaws.{length-code}
 use Rattle.constants.specs.Built.{builtLeaf}
@@ -43,71 +41,54 @@ use Rattle.operations.proofs.KindLaws.{oneCode, code-of, kind-of}
 use Rattle.evaluators.specs.declared.Formed.{Formed}
 use Rattle.evaluators.specs.declared.Formed.the-variants.{Value as Placed, Stopped}
 use Rattle.evaluators.specs.declared.Held.the-variants.{Refused}
-use Rattle.evaluators.specs.Answers.{EndsWith, PlacedAs}
+use Rattle.evaluators.specs.Answers.{EndsWith}
 use Rattle.evaluators.specs.Nodes.{fieldA, fieldB, IsPred, IsExpr, leafPlace, PlaceReady, PlacedLeaf, StandingReady, LeafNode, LeafFormed}
-use Rattle.evaluators.specs.Cycle.{Binds, Ready, Visited, Sort, holdsAt, valueAt, EvaluatesP, EvaluatesE}
-use Rattle.evaluators.proofs.RunLaws.{visited, unvisited}
-use Rattle.evaluators.proofs.NodeLaws.{sizes-small, field-holds, expr-at, visited-kind, visited-builds, steps-on}
+use Rattle.evaluators.specs.Cycle.{Binds, Ready, Visited, Sort, holdsAt, EvaluatesP, EvaluatesE}
+use Rattle.evaluators.proofs.RunLaws.{unvisited, light-form}
+use Rattle.evaluators.proofs.NodeLaws.{sizes-small, field-holds, visited-kind, visited-builds, visits, after, settled-by}
 use Rattle.evaluators.proofs.SafeLaws.{cell-room}
 use Rattle.laws.proofs.TypedTree.{numberᵉ, number-at}
 
--- The number of a condition's own node.
-abbrev numberᵖ : Pred → ℕ
-numberᵖ (joinᵖ n j p q) = n
-numberᵖ (notᵖ n p) = n
-numberᵖ (testᵖ n j e f) = n
-numberᵖ (quantᵖ n j x r p) = n
-
-predOf-number : (k : Option Kind) (n : ℕ) (d : Node) (p : ℕ → Pred) (e : ℕ → Expr) → numberᵖ (predOf k n d p e) ≡ n
-predOf-number nothing n d p e = refl
-predOf-number (some (join j)) n d p e = refl
-predOf-number (some negation) n d p e = refl
-predOf-number (some (test j)) n d p e = refl
-predOf-number (some (quant j)) n d p e = refl
-predOf-number (some (leaf j)) n d p e = refl
-predOf-number (some boolOf) n d p e = refl
-predOf-number (some (one j)) n d p e = refl
-predOf-number (some (two j)) n d p e = refl
-predOf-number (some comprehension) n d p e = refl
-
-predAt-number : (f : ℕ) (ns : List Node) (n : ℕ) → numberᵖ (predAt f ns n) ≡ n
-unfolding predAt
-predAt-number zero ns n = refl
-predAt-number (suc f) ns n = predOf-number (kindAt ns n) n (nodeAt ns n) (λ m. predAt f ns m) (λ m. exprAt f ns m)
-
 -- 19: the visits are spent.
-module _ (budget : ℕ) (gs : List ℕ) (ρ : Env) (s : ℕ) {left : ℕ} (c : s + left ≡ budget) (z : left ≡ 0) where
-  pred-spent : (p : Pred) → EndsWith (holdsᵖ budget gs p ρ s) (refused 19 (numberᵖ p)) budget left
+module _ (budget : ℕ) (gs : List ℕ) (ρ : Env) (s n : ℕ) {left : ℕ} (c : s + left ≡ budget) (z : left ≡ 0) (d : Node) (p : ℕ → Pred) (e : ℕ → Expr) where
+  pred-spent : (k : Option Kind) → EndsWith (holdsᵖ budget gs (predOf k n d p e) ρ s) (refused 19 n) budget left
   unfolding holdsᵖ
-  pred-spent (joinᵖ n j p q) = unvisited budget n s _ c z
-  pred-spent (notᵖ n p) = unvisited budget n s _ c z
-  pred-spent (testᵖ n j a b) = unvisited budget n s _ c z
-  pred-spent (quantᵖ n j x r p) = unvisited budget n s _ c z
+  pred-spent nothing = unvisited budget n s _ c z
+  pred-spent (some (join j)) = unvisited budget n s _ c z
+  pred-spent (some negation) = unvisited budget n s _ c z
+  pred-spent (some (test j)) = unvisited budget n s _ c z
+  pred-spent (some (quant j)) = unvisited budget n s _ c z
+  pred-spent (some (leaf j)) = unvisited budget n s _ c z
+  pred-spent (some boolOf) = unvisited budget n s _ c z
+  pred-spent (some (one j)) = unvisited budget n s _ c z
+  pred-spent (some (two j)) = unvisited budget n s _ c z
+  pred-spent (some comprehension) = unvisited budget n s _ c z
 
-  expr-spent : (a : Expr) → EndsWith (valueᵉ budget gs a ρ s) (refused 19 (numberᵉ a)) budget left
-  unfolding valueᵉ
-  expr-spent (leafᵉ n j a b) = unvisited budget n s _ c z
-  expr-spent (boolᵉ n p) = unvisited budget n s _ c z
-  expr-spent (oneᵉ n j a) = unvisited budget n s _ c z
-  expr-spent (twoᵉ n j a b) = unvisited budget n s _ c z
-  expr-spent (comprehensionᵉ n x r p) = unvisited budget n s _ c z
+expr-spent : (budget : ℕ) (gs : List ℕ) (ρ : Env) (s : ℕ) {left : ℕ} → s + left ≡ budget → left ≡ 0 → (a : Expr) →
+    EndsWith (valueᵉ budget gs a ρ s) (refused 19 (numberᵉ a)) budget left
+unfolding valueᵉ
+expr-spent budget gs ρ s c z (leafᵉ n j a b) = unvisited budget n s _ c z
+expr-spent budget gs ρ s c z (boolᵉ n p) = unvisited budget n s _ c z
+expr-spent budget gs ρ s c z (oneᵉ n j a) = unvisited budget n s _ c z
+expr-spent budget gs ρ s c z (twoᵉ n j a b) = unvisited budget n s _ c z
+expr-spent budget gs ρ s c z (comprehensionᵉ n x r p) = unvisited budget n s _ c z
 
 module _ {bs env s : List ℕ} {top n left : ℕ} (r : Ready bs env s top n) where
   pub spent-pred : left ≡ 0 → EvaluatesP bs env s top n left s (Refused (record { number = 19; place = n }) left)
-  spent-pred z = record {
-    frame = same-refl top s;
-    answer = λ f ρ budget steps l c b.
-        subst (λ (m : ℕ). EndsWith (holdsAt bs budget f n ρ steps) (refused 19 m) budget left) (predAt-number f (tableOf bs .nodes) n)
-        (pred-spent budget (tableOf bs .sizes) ρ steps c z (predAt f (tableOf bs .nodes) n));
-  }
+  unfolding predAt
+  spent-pred z = record { frame = same-refl top s; answer = go }
+    where
+      go : (f : ℕ) (ρ : Env) (budget steps : ℕ) → n < f → steps + left ≡ budget → Binds bs s top env ρ →
+          EndsWith (holdsAt bs budget f n ρ steps) (refused 19 n) budget left
+      go zero ρ budget steps l c b = absurd (omega arith)
+      go (suc f) ρ budget steps l c b = pred-spent budget (tableOf bs .sizes) ρ steps n c z _ _ _ (kindAt (tableOf bs .nodes) n)
 
   pub spent-expr : left ≡ 0 → EvaluatesE bs env s top n left s (Stopped (record { number = 19; place = n }) left)
   spent-expr z = record {
     frame = same-refl top s;
     bounds = tt;
     answer = λ f ρ budget steps l c b.
-        subst (λ (m : ℕ). EndsWith (valueAt bs budget f n ρ steps) (refused 19 m) budget left) (number-at f (tableOf bs .nodes) n)
-        (expr-spent budget (tableOf bs .sizes) ρ steps c z (exprAt f (tableOf bs .nodes) n));
+        rw (number-at f (tableOf bs .nodes) n) at (expr-spent budget (tableOf bs .sizes) ρ steps c z (exprAt f (tableOf bs .nodes) n));
   }
 
   -- The visit can be made.
@@ -273,10 +254,6 @@ module _ (bs : List ℕ) (r : Readable bs) (n : ℕ) (lt : n < nodeCount bs) whe
   built-fits emptySet e d = absurd (false≢true d)
   built-fits boolSet e d = tt
 
--- A value that is not heavy is formed.
-light-form : {budget left : ℕ} (n : ℕ) (w : Value) (s : ℕ) → weight w ≤ 256 → s + left ≡ budget → EndsWith (form n (gives w) s) (done w) budget left
-light-form n w s h c = record { end = rw (le-leb (weight w) 256 h); steps = rw (le-leb (weight w) 256 h) c }
-
 given-same : (v w : Value) → gives v ≡ gives w → v ≡ w
 given-same v w e = cc
 
@@ -286,13 +263,7 @@ place-ready r = record { readable = r .readable; node = r .node; entries = r .en
 -- What the evaluators of the leaves take for granted.
 module _ {bs env s : List ℕ} {top k n left : ℕ} (v : Visited bs env s top k n left) where
   pub standing-ready : Unbuilt k → StandingReady bs env k n
-  standing-ready u = record {
-    node = place-ready (v .ready);
-    same = v .kind;
-    kind = u .0;
-    is = u .1;
-    unbuilt = u .2;
-  }
+  standing-ready u = record { node = place-ready (v .ready); same = v .kind; kind = u .0; is = u .1; unbuilt = u .2 }
 
   -- A node's kind is in the range of its category, and so the last arms.
   pub predicate-code : IsPred bs n → (1 ≤ k) × (k ≤ 11)
@@ -323,16 +294,6 @@ module _ {bs env s : List ℕ} {top k n left : ℕ} (v : Visited bs env s top k 
   abbrev here : Leaf → Env → Value
   here j ρ = leafValue (tableOf bs .sizes) j (fieldA bs n) (fieldB bs n) ρ
 
-  -- It is not heavy, and so formed at once.
-  leaf-ends : (j : Leaf) → kindAt (tableOf bs .nodes) n ≡ some (leaf j) → (f : ℕ) (ρ : Env) (budget steps : ℕ) → n < f → steps + left ≡ budget →
-      weight (here j ρ) ≤ 256 → EndsWith (valueAt bs budget f n ρ steps) (done (here j ρ)) budget (left - 1)
-  unfolding valueᵉ
-  leaf-ends j e f ρ budget steps l c light =
-      let d = expr-at (tableOf bs .nodes) n (leaf j) e f l in
-      let o = steps-on v c in
-      let y = visited budget n steps (form n (gives (here j ρ))) (o .0) (light-form n (here j ρ) (suc steps) light (o .1)) in
-      record { end = rw (d .is) (y .end); steps = rw (d .is) (y .steps) }
-
   constant-good : (j : Leaf) → kindAt (tableOf bs .nodes) n ≡ some (leaf j) → OneCell j → (ρ : Env) → Binds bs s top env ρ →
       ValueAt s n (here j ρ) × (n + weight (here j ρ) ≤ top) × (weight (here j ρ) ≤ 256)
   constant-good j e o ρ b =
@@ -354,55 +315,32 @@ module _ {bs env s : List ℕ} {top k n left : ℕ} (v : Visited bs env s top k 
   standing-good emptySet e d ρ b = constant-good emptySet e tt ρ b
   standing-good boolSet e d ρ b = absurd (false≢true (sym d))
 
+  -- It is light, and so formed at once: where it stands it is the answer.
+  module _ (j : Leaf) (e : kindOf k ≡ some (leaf j)) {s′ : List ℕ} (same : Same top s s′) {at next : ℕ} (bounds : (top ≤ next) × (next ≤ top + 256))
+      (ok : (ρ : Env) → Binds bs s top env ρ → ValueAt s′ at (here j ρ) × (at + weight (here j ρ) ≤ next) × (weight (here j ρ) ≤ 256)) where
+    leaf-stands : EvaluatesE bs env s top n left s′ (Placed at next (left - 1))
+    unfolding valueᵉ
+    leaf-stands =
+        settled-by v (leaf j) e same bounds (λ i.
+        let w = ok (i .values) (i .binds) in (
+          gives (here j (i .values)),
+          visits v i _ (light-form n (here j (i .values)) _ (w .2) (after v i .counts)),
+          record { value = here j (i .values); is = refl; stands = w .0; below = w .1; same = refl },
+        ))
+
   pub standing-answer : {at : ℕ} → PlacedLeaf bs env n at → EvaluatesE bs env s top n left s (Placed at top (left - 1))
-  standing-answer {at} p = subst (λ (x : ℕ). EvaluatesE bs env s top n left s (Placed x top (left - 1))) (sym (p .place)) (record {
-    frame = same-refl top s;
-    bounds = (omega arith, omega arith);
-    answer = λ f ρ budget steps l c b.
-        let g = standing-good (p .kind) (p .is) (p .unbuilt) ρ b in
-        let z = leaf-ends (p .kind) (p .is) f ρ budget steps l c (g .2) in
-        record {
-          value = here (p .kind) ρ;
-          ends = z;
-          place = record {
-            stands = g .0;
-            below = g .1;
-            good = value-good budget (tableOf bs) (v .ready .readable .records) f n ρ steps (here (p .kind) ρ) (b .good) (z .end);
-          };
-        };
-  })
+  standing-answer {at} p =
+      subst (λ (x : ℕ). EvaluatesE bs env s top n left s (Placed x top (left - 1))) (sym (p .place))
+      (leaf-stands (p .kind) (ap kindOf (v .kind) ∙ p .is) (same-refl top s) (omega arith, omega arith) (standing-good (p .kind) (p .is) (p .unbuilt)))
 
   -- Another leaf's value has been built.
-  built-answer : (s′ : List ℕ) (end : ℕ) (j : Leaf) → kindAt (tableOf bs .nodes) n ≡ some (leaf j) →
-      (f : ℕ) (ρ : Env) (budget steps : ℕ) → n < f → steps + left ≡ budget → Binds bs s top env ρ →
-      BuiltAt s′ top (gives (here j ρ)) end → PlacedAs (valueAt bs budget f n ρ steps) budget (tableOf bs .sizes) s′ top end (left - 1)
-  built-answer s′ end j e f ρ budget steps l c b h =
-      let q : here j ρ ≡ h .value = given-same (here j ρ) (h .value) (h .is) in
-      let y = leaf-ends j e f ρ budget steps l c (subst (λ (x : Value). weight x ≤ 256) (sym q) (h .light)) in
-      let z : valueAt bs budget f n ρ steps .end ≡ done (h .value) = y .end ∙ ap done q in
-      record {
-        value = h .value;
-        ends = record { end = z; steps = y .steps };
-        place = record {
-          stands = h .stands;
-          below = omega (arith, h .ends);
-          good = value-good budget (tableOf bs) (v .ready .readable .records) f n ρ steps (h .value) (b .good) z;
-        };
-      }
-
-  leaf-built : (p : LeafNode bs s top k n) (s′ : List ℕ) (o : Formed) (h : LeafFormed bs s top k n (left - 1) s′ o) (ρ : Env) →
-      BuiltAt s′ top (gives (here (p .ready .kind) ρ)) (h .end)
-  leaf-built p s′ o h ρ = h .done .answer (p .ready .kind) (tableOf bs .sizes) (fieldB bs n) ρ (p .ready .is) (p .ready .fits) refl
-
   pub leaf-answer : LeafNode bs s top k n → (s′ : List ℕ) (o : Formed) → LeafFormed bs s top k n (left - 1) s′ o → EvaluatesE bs env s top n left s′ o
   leaf-answer p s′ o h =
-      let x = leaf-built p s′ o h (v .ready .values) in
-      subst (λ (x : Formed). EvaluatesE bs env s top n left s′ x) (sym (h .is)) (record {
-        frame = h .done .frame;
-        bounds = (omega (arith, x .ends), omega (arith, x .ends, x .light));
-        answer = λ f ρ budget steps l c b.
-            built-answer s′ (h .end) (p .ready .kind) (visited-kind v (leaf (p .ready .kind)) (p .ready .is)) f ρ budget steps l c b (leaf-built p s′ o h ρ);
-      })
+      let b : (ρ : Env) → BuiltAt s′ top (gives (here (p .ready .kind) ρ)) (h .end) = λ ρ. h .done .answer (p .ready .kind) (tableOf bs .sizes) (fieldB bs n) ρ (p .ready .is) (p .ready .fits) refl in
+      let x = b (v .ready .values) in
+      subst (λ (x : Formed). EvaluatesE bs env s top n left s′ x) (sym (h .is))
+      (leaf-stands (p .ready .kind) (p .ready .is) (h .done .frame) (omega (arith, x .ends), omega (arith, x .ends, x .light))
+      (λ ρ _. let y = b ρ in rw (given-same (here (p .ready .kind) ρ) (y .value) (y .is)) (y .stands, omega (arith, y .ends), y .light)))
 
 -- An operand that stands already, where a visit is left.
 pub placed-answer : {bs env s : List ℕ} {top n at left : ℕ} → Ready bs env s top n → PlacedLeaf bs env n at → left ≢ 0 →

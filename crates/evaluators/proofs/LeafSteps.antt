@@ -1,11 +1,10 @@
 -- Joins by their codes, the range of a binder, and the nodes without operands.
 use Prim.Native.Nat.{ℕ, _%_, _<_}
-use mathlib.Core.Bool.{Bool, true, false, cond, not, _&&_, _||_, Bool·beq}
+use mathlib.Core.Bool.{Bool, true, false, cond, not, Bool·beq}
 use mathlib.Core.List.{List, [], _∷_}
 use mathlib.Core.Logic.{_⊎_, inl, inr, _≢_}
 use mathlib.Core.Option.{none as nothing, some}
 use mathlib.Core.Path.{_≡_, refl, sym, ap, _∙_, subst}
-use native.Mathlib.Omega.{arith}
 use lib.Dec.{eqb}
 use lib.ListN.{length, getD}
 use Rattle.rules.specs.Values.{Value, set}
@@ -25,39 +24,26 @@ use Rattle.evaluators.specs.declared.Formed.the-variants.{Value as Place
 use Rattle.evaluators.specs.declared.Range.the-variants.{Set, Unlike}
 use Rattle.evaluators.specs.Nodes.{fieldA, DecidesBy, JoinedBy, SomeGood, RangeAt, LeafNode, LeafFormed}
 
--- What holds of a join by its own code.
+-- Where the first truth of a join decides, and what.
+first-decides : (p : Bool) → (rules.decides and p ≡ cond (not p) (some false) nothing) × (rules.decides or p ≡ cond p (some true) nothing) ×
+    (rules.decides implies p ≡ cond (not p) (some true) nothing)
+first-decides true = (refl, refl, refl)
+first-decides false = (refl, refl, refl)
+
+-- A join is known by its code.
 module _ {k : ℕ} (p : Bool) where
-  decides-by : (r : Bool) → ((j : Join) → k ≡ joinCode j → rules.decides j p ≡ cond r (some (not (eqb (joinCode j) 1))) nothing) →
-      DecidesBy k p r
-  decides-by r h j e =
-      let c = code-of k (join j) e in
-      subst (λ (n : ℕ). rules.decides j p ≡ cond r (some (not (eqb n 1))) nothing) (sym c) (h j c)
+  decides-by : (r : Bool) (i : Join) → k ≡ joinCode i → rules.decides i p ≡ cond r (some (not (eqb (joinCode i) 1))) nothing → DecidesBy k p r
+  decides-by r i c h j e = subst (λ (x : Join). rules.decides x p ≡ cond r (some (not (eqb k 1))) nothing) (same-join k i j c e) (rw c h)
 
   pub decides-13 : (k ≡ 1) ⊎ (k ≡ 3) → DecidesBy k p (not p)
-  decides-13 h = decides-by (not p) (λ j c. go j p c h)
-    where
-      go : (j : Join) (p : Bool) → k ≡ joinCode j → (k ≡ 1) ⊎ (k ≡ 3) → rules.decides j p ≡ cond (not p) (some (not (eqb (joinCode j) 1))) nothing
-      go and true c h = refl
-      go and false c h = refl
-      go or p c (inl e) = absurd (omega arith)
-      go or p c (inr e) = absurd (omega arith)
-      go implies true c h = refl
-      go implies false c h = refl
-      go iff p c (inl e) = absurd (omega arith)
-      go iff p c (inr e) = absurd (omega arith)
+  decides-13 (inl c) = decides-by (not p) and c (first-decides p .0)
+  decides-13 (inr c) = decides-by (not p) implies c (first-decides p .2)
 
   pub decides-2 : k ≡ 2 → DecidesBy k p p
-  decides-2 e = decides-by p (λ j c. go j p c)
-    where
-      go : (j : Join) (p : Bool) → k ≡ joinCode j → rules.decides j p ≡ cond p (some (not (eqb (joinCode j) 1))) nothing
-      go and p c = absurd (omega arith)
-      go or true c = refl
-      go or false c = refl
-      go implies p c = absurd (omega arith)
-      go iff p c = absurd (omega arith)
+  decides-2 c = decides-by p or c (first-decides p .1)
 
   pub decides-5 : ((k ≡ 1) ⊎ (k ≡ 3) → ⊥) → k ≢ 2 → DecidesBy k p false
-  decides-5 n13 n2 = decides-by false go
+  decides-5 n13 n2 j e = go j (code-of k (join j) e)
     where
       go : (j : Join) → k ≡ joinCode j → rules.decides j p ≡ nothing
       go and c = absurd (n13 (inl c))
@@ -65,36 +51,18 @@ module _ {k : ℕ} (p : Bool) where
       go implies c = absurd (n13 (inr c))
       go iff c = refl
 
-module _ {k : ℕ} (p q : Bool) where
-  joined-by : {r : Bool} (i : Join) → k ≡ joinCode i → r ≡ rules.joined i p q → JoinedBy k p q r
-  joined-by {r} i c h j e = subst (λ (x : Join). r ≡ rules.joined x p q) (same-join k i j c e) h
+  module _ (q : Bool) where
+    pub joined-by : {r : Bool} (i : Join) → k ≡ joinCode i → r ≡ rules.joined i p q → JoinedBy k p q r
+    joined-by {r} i c h j e = subst (λ (x : Join). r ≡ rules.joined x p q) (same-join k i j c e) h
 
-  pub and-true : k ≡ 1 → p ≡ true → JoinedBy k p q q
-  and-true c e = joined-by and c (ap (λ (x : Bool). x && q) (sym e))
-
-  pub and-false : k ≡ 1 → p ≡ false → JoinedBy k p q p
-  and-false c e = joined-by and c (e ∙ ap (λ (x : Bool). x && q) (sym e))
-
-  pub or-true : k ≡ 2 → p ≡ true → JoinedBy k p q p
-  or-true c e = joined-by or c (e ∙ ap (λ (x : Bool). x || q) (sym e))
-
-  pub or-false : k ≡ 2 → p ≡ false → JoinedBy k p q q
-  or-false c e = joined-by or c (ap (λ (x : Bool). x || q) (sym e))
-
-  pub implies-free : k ≡ 3 → not p ≡ true → JoinedBy k p q (not p)
-  implies-free c e = joined-by implies c (e ∙ ap (λ (x : Bool). x || q) (sym e))
-
-  pub implies-bound : k ≡ 3 → not p ≡ false → JoinedBy k p q q
-  implies-bound c e = joined-by implies c (ap (λ (x : Bool). x || q) (sym e))
-
-  pub iff-last : k ≢ 1 → k ≢ 2 → k ≢ 3 → JoinedBy k p q (Bool·beq p q)
-  iff-last n1 n2 n3 j e = go j (code-of k (join j) e)
-    where
-      go : (j : Join) → k ≡ joinCode j → Bool·beq p q ≡ rules.joined j p q
-      go and c = absurd (n1 c)
-      go or c = absurd (n2 c)
-      go implies c = absurd (n3 c)
-      go iff c = refl
+    pub joined-5 : k ≢ 1 → k ≢ 2 → k ≢ 3 → JoinedBy k p q (Bool·beq p q)
+    joined-5 n1 n2 n3 j e = go j (code-of k (join j) e)
+      where
+        go : (j : Join) → k ≡ joinCode j → Bool·beq p q ≡ rules.joined j p q
+        go and c = absurd (n1 c)
+        go or c = absurd (n2 c)
+        go implies c = absurd (n3 c)
+        go iff c = refl
 
 -- The range of a binder.
 module _ {s : List ℕ} {at : ℕ} where
@@ -112,11 +80,7 @@ module _ {s : List ℕ} {at : ℕ} where
     range-set e n c gs top v q h =
         let x = fits-is-set v (sym (f v (good-typed-at q h)) ∙ e) in
         let g = subst (λ (w : Value). GoodAt gs s top at w) (x .1) h in
-        record {
-          members = x .0;
-          is = x .1;
-          counted = c ∙ first-cell s at (set (x .0)) (g .stands) (good-fits q (set (x .0)) (g .good)) .1;
-        }
+        record { members = x .0; is = x .1; counted = c ∙ first-cell s at (set (x .0)) (g .stands) (good-fits q (set (x .0)) (g .good)) .1 }
 
 -- 21 and 42, with the word and the size that have been read.
 module _ {bs s : List ℕ} {top k n a z : ℕ} (p : LeafNode bs s top k n) (ea : a ≡ fieldA bs n) (ez : z ≡ getD (tableOf bs .sizes) a 0) where
@@ -124,15 +88,7 @@ module _ {bs s : List ℕ} {top k n a z : ℕ} (p : LeafNode bs s top k n) (ea :
   same-size = ez ∙ ap (λ (y : ℕ). getD (tableOf bs .sizes) y 0) ea
 
   pub leaf-ready : LeafReady k a z s top
-  leaf-ready =
-      subst (λ (x : ℕ). LeafReady k a x s top) (sym same-size)
-      (subst (λ (x : ℕ). LeafReady k x (getD (tableOf bs .sizes) (fieldA bs n) 0) s top) (sym ea) (p .ready))
+  leaf-ready = rw (same-size, ea) (p .ready)
 
   pub leaf-formed : {s′ : List ℕ} {end left : ℕ} → LeafDone k a z s top s′ end → LeafFormed bs s top k n left s′ (Placed top end left)
-  leaf-formed {s′} {end} {left} d = record {
-    end = end;
-    is = refl;
-    done =
-        subst (λ (x : ℕ). LeafDone k x (getD (tableOf bs .sizes) (fieldA bs n) 0) s top s′ end) ea
-        (subst (λ (x : ℕ). LeafDone k a x s top s′ end) same-size d);
-  }
+  leaf-formed {end = end} d = record { end = end; is = refl; done = rw (same-size, ea) at d }

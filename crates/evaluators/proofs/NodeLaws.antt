@@ -5,6 +5,7 @@ use mathlib.Core.List.{List, [], _∷_}
 use mathlib.Core.Option.{Option, none as nothing, some}
 use mathlib.Core.Path.{_≡_, refl, sym, ap, _∙_, subst}
 use native.Mathlib.Omega.{arith}
+use lib.Dec.{T}
 use lib.ListN.{length, getD}
 use Rattle.rules.specs.Values.{Value}
 use Rattle.rules.specs.Cells.{good}
@@ -13,9 +14,12 @@ use Rattle.rules.specs.Tables.{Node, Table, Pred, Expr, tableOf, nodeAt, kindAt
 use Rattle.rules.specs.Reading.{height, tallest}
 use Rattle.rules.specs.Readable.{Readable, FieldRight, FieldsRight, KindRight, NodeRight, CategoryIs}
 use Rattle.rules.specs.Operations.{Env}
-use Rattle.rules.specs.Evaluation.{holdsᵖ}
+use Rattle.rules.specs.Ends.{End, refused}
+use Rattle.rules.specs.Runs.{Run, M, _>>_, visit, Given}
+use Rattle.rules.specs.Evaluation.{holdsᵖ, valueᵉ}
 use Rattle.laws.proofs.TableLaws.{nodes-length, sizes-length, height-at}
 use Rattle.laws.proofs.CellsLaws.{size-below}
+use Rattle.laws.proofs.FormedLaws.{value-good}
 use Rattle.arena.specs.Code.{Same}
 use Rattle.arena.proofs.Standing.{stands-frame, same-refl}
 use Rattle.arena.proofs.CodeLaws.{length-code}
@@ -23,13 +27,14 @@ use Rattle.constants.specs.Built.{built, Builds}
 use Rattle.constants.proofs.ConstantLaws.{constants-frame}
 use Rattle.operations.specs.Good.{Sizes, GoodAt}
 use Rattle.evaluators.specs.declared.Held.{Held}
-use Rattle.evaluators.specs.declared.Held.the-variants.{Truth, Refused}
+use Rattle.evaluators.specs.declared.Held.the-variants.{Refused}
 use Rattle.evaluators.specs.declared.Formed.{Formed}
 use Rattle.evaluators.specs.declared.Formed.the-variants.{Value as Placed, Stopped}
 use Rattle.reading.specs.declared.Refusal.{Refusal}
-use Rattle.evaluators.specs.Answers.{HeldAs, FormedAs, FormedBounds, RefusalOf, StopOf}
+use Rattle.evaluators.specs.Answers.{EndsWith, HeldAs, FormedAs, FormedBounds, SettledAs, RefusalOf, StopOf}
 use Rattle.evaluators.specs.Nodes.{fieldA, fieldB}
-use Rattle.evaluators.specs.Cycle.{expressionCells, Binds, Ready, Visited, holdsAt, valueAt, EvaluatesP, EvaluatesE}
+use Rattle.evaluators.specs.Cycle.{expressionCells, cellsFor, Binds, Ready, Visited, holdsAt, valueAt, EvaluatesP, EvaluatesE}
+use Rattle.evaluators.proofs.RunLaws.{visited, endOf, ends-as}
 
 -- The sizes of a readable table are small.
 pub sizes-small : (bs : List ℕ) → Readable bs → Sizes (tableOf bs .sizes)
@@ -157,19 +162,26 @@ pub condition-cells : (k : Option Kind) → CategoryIs predicate k → expressio
 condition-cells nothing e = absurd e
 condition-cells (some k) e = ap (λ (c : Category). elim c [ predicate ↦ 0 | expression ↦ 128 ]) e
 
+-- What an evaluator may take for granted, at a node m of the same table.
+pub ready-at : {bs env s env′ s′ : List ℕ} {top n k : ℕ} {ρ : Env} → Ready bs env s top n → (m : ℕ) → m < nodeCount bs →
+    (Builds bs → k + cellsFor bs m ≤ length s′) → length s′ ≡ length s → length env′ ≡ 32 → Binds bs s′ k env′ ρ → Ready bs env′ s′ k m
+ready-at {bs} {ρ = ρ} r m l room kept long b = record {
+  readable = r .readable;
+  node = l;
+  room = room;
+  tall = node-tall bs (r .readable) m l;
+  small = omega (arith, r .small, kept);
+  entries = long;
+  values = ρ;
+  binds = b;
+}
+
 -- What a node's evaluator may pass on to that of a child, over an arena that is the same below `top`.
 pub ready-child : {bs env s : List ℕ} {top n : ℕ} {c : Category} (s′ : List ℕ) (m k : ℕ) →
     Ready bs env s top n → Child bs n m c → Same top s s′ → top ≤ k → k ≤ top + 256 → Ready bs env s′ k m
-ready-child {bs} {env} {s} {top} {n} s′ m k r c e le near = record {
-  readable = r .readable;
-  node = omega (arith, c .below, r .node);
-  room = λ b. omega (arith, c .lower, r .room b, e .kept, expression-cells (kindAt (tableOf bs .nodes) m));
-  tall = c .tall;
-  small = omega (arith, r .small, e .kept);
-  entries = r .entries;
-  values = r .values;
-  binds = binds-frame k e le (r .binds);
-}
+ready-child {bs} s′ m k r c e le near =
+    ready-at r m (omega (arith, c .below, r .node)) (λ b. omega (arith, c .lower, r .room b, e .kept, expression-cells (kindAt (tableOf bs .nodes) m)))
+    (e .kept) (r .entries) (binds-frame k e le (r .binds))
 
 -- So too to that of its first child, where nothing has been written yet.
 pub ready-first : {bs env s : List ℕ} {top n m : ℕ} {c : Category} → Ready bs env s top n → Child bs n m c → Ready bs env s top m
@@ -195,24 +207,43 @@ module _ {bs env s : List ℕ} {top k n left : ℕ} (v : Visited bs env s top k 
     right = visited-child expression 1 (fieldB bs n) (omega arith) (rw q (omega arith)) (rw q) refl;
   }
 
--- A visit is made: one is left less.
-pub steps-on : {bs env s : List ℕ} {top k n left budget steps : ℕ} → Visited bs env s top k n left → steps + left ≡ budget →
-    (steps < budget) × (suc steps + (left - 1) ≡ budget)
-steps-on v c = (omega (arith, v .unspent), omega (arith, v .unspent))
+-- What an answer at a node is asked for: a depth of the trees below it, values of the identifiers, and a budget with the visits made.
+pub record Asks (bs env s : List ℕ) (top n left : ℕ) : Type 0 where
+  pub depth : ℕ
+  pub values : Env
+  pub budget : ℕ
+  pub steps : ℕ
+  pub deep : n ≤ depth
+  pub counts : steps + left ≡ budget
+  pub binds : Binds bs s top env values
 
--- A refusal as one of the other kind of node: what the code makes of it, and what is known of that.
-pub refusal-told : {f : Formed} {r : Refusal} {l : ℕ} → f ≡ Stopped r l → RefusalOf f (Refused r l)
-refusal-told {f} {r} {l} e = subst (λ (z : Formed). RefusalOf z (Refused r l)) (sym e) refl
+-- There is something to ask.
+abbrev pub some-asks : {bs env s : List ℕ} {top m : ℕ} (n left : ℕ) → Ready bs env s top m → Asks bs env s top n left
+some-asks n left r = record { depth = n; values = r .values; budget = left; steps = 0; deep = omega arith; counts = omega arith; binds = r .binds }
 
-pub refusal-none : {f : Formed} {at end l : ℕ} → f ≡ Placed at end l → RefusalOf f (Truth false l)
-refusal-none {f} {at} {end} {l} e = subst (λ (z : Formed). RefusalOf z (Truth false l)) (sym e) tt
+-- After t visits, over an arena that is the same below `top`.
+abbrev pub asks-on : {bs env s : List ℕ} {top n left : ℕ} (k : Asks bs env s top n left) {s′ : List ℕ} {mid l : ℕ} (t : ℕ) →
+    Same top s s′ → top ≤ mid → t + l ≡ k .budget → Asks bs env s′ mid n l
+asks-on k {mid = mid} t e le c = record {
+  depth = k .depth;
+  values = k .values;
+  budget = k .budget;
+  steps = t;
+  deep = k .deep;
+  counts = c;
+  binds = binds-frame mid e le (k .binds);
+}
 
-pub stop-told : {h : Held} {r : Refusal} {l : ℕ} → h ≡ Refused r l → StopOf h (Stopped r l)
-stop-told {h} {r} {l} e = subst (λ (z : Held). StopOf z (Stopped r l)) (sym e) refl
+-- The visit of the node is within the budget; and what is asked after it.
+module _ {bs env s : List ℕ} {top k n left : ℕ} (v : Visited bs env s top k n left) (i : Asks bs env s top n left) where
+  pub visits : {A : Type 0} (m : M A) {e : End A} {l : ℕ} → EndsWith (m (suc (i .steps))) e (i .budget) l →
+      EndsWith ((visit (i .budget) n >> m) (i .steps)) e (i .budget) l
+  visits m h = visited (i .budget) n (i .steps) m (omega (arith, v .unspent, i .counts)) h
 
-pub stop-none : {h : Held} {b : Bool} {l : ℕ} → h ≡ Truth b l → StopOf h (Placed 0 0 l)
-stop-none {h} {b} {l} e = subst (λ (z : Held). StopOf z (Placed 0 0 l)) (sym e) tt
+  abbrev pub after : Asks bs env s top n (left - 1)
+  after = asks-on i (suc (i .steps)) (same-refl top s) (omega arith) (omega (arith, v .unspent, i .counts))
 
+-- A refusal as one of the other kind of node.
 pub refusal-is : {f : Formed} {h : Held} {r : Refusal} {l : ℕ} → f ≡ Stopped r l → RefusalOf f h → Refused r l ≡ h
 refusal-is {f} {h} e k = sym (subst (λ (z : Formed). RefusalOf z h) e k)
 
@@ -230,15 +261,36 @@ pub formed-as : {bs env s : List ℕ} {top m m′ left : ℕ} {s′ : List ℕ} 
 formed-as {bs} {env} {s} {top} {m} {m′} {left} {s′} {r} {r′} e q h =
     subst (λ (z : Formed). EvaluatesE bs env s top m′ left s′ z) q (subst (λ (z : ℕ). EvaluatesE bs env s top z left s′ r) e h)
 
--- The answer for a child, as that of its tree below the node.
-module _ {bs env s : List ℕ} {top n left a b : ℕ} {c : Category} {s′ : List ℕ} (k : Child bs n a c) (q : a ≡ b)
-    (g : ℕ) (le : n ≤ g) (ρ : Env) (budget steps : ℕ) (counts : steps + left ≡ budget) (bound : Binds bs s top env ρ) where
-  pub held-below : {r : Held} (r₀ : Held) → r ≡ r₀ → EvaluatesP bs env s top a left s′ r → HeldAs (holdsAt bs budget g b ρ steps) budget r₀
-  held-below r₀ e h = held-as q e h .answer g ρ budget steps (omega (arith, k .below, le, q)) counts bound
+-- The runs at a node below the one that is asked for, and its answer there: b is the child's node a.
+module _ {bs env s : List ℕ} {top n left : ℕ} (i : Asks bs env s top n left) where
+  abbrev pub holdsIn : ℕ → Run Bool
+  holdsIn m = holdsAt bs (i .budget) (i .depth) m (i .values) (i .steps)
 
-  pub formed-below : {r : Formed} (r₀ : Formed) → r ≡ r₀ → EvaluatesE bs env s top a left s′ r →
-      FormedAs (valueAt bs budget g b ρ steps) budget (tableOf bs .sizes) s′ r₀
-  formed-below r₀ e h = formed-as q e h .answer g ρ budget steps (omega (arith, k .below, le, q)) counts bound
+  abbrev pub valueIn : ℕ → Run Value
+  valueIn m = valueAt bs (i .budget) (i .depth) m (i .values) (i .steps)
+
+  module _ {a b : ℕ} {c : Category} (d : Child bs n a c) (q : a ≡ b) {s′ : List ℕ} where
+    pub held-below : (r : Held) → EvaluatesP bs env s top a left s′ r → HeldAs (holdsIn b) (i .budget) r
+    held-below r h =
+        held-as q refl h .answer (i .depth) (i .values) (i .budget) (i .steps) (omega (arith, d .below, i .deep, q)) (i .counts) (i .binds)
+
+    pub formed-below : (r : Formed) → EvaluatesE bs env s top a left s′ r → FormedAs (valueIn b) (i .budget) (tableOf bs .sizes) s′ r
+    formed-below r h =
+        formed-as q refl h .answer (i .depth) (i .values) (i .budget) (i .steps) (omega (arith, d .below, i .deep, q)) (i .counts) (i .binds)
+
+-- A node's end is what it gives; where that has been settled it is the node's answer.
+module _ (bs : List ℕ) (budget f n : ℕ) (ρ : Env) (steps : ℕ) (readable : Readable bs) (ok : (x : ℕ) → T (good (tableOf bs .sizes) (ρ x)))
+    (g : Given) {left : ℕ} (e : EndsWith (valueAt bs budget f n ρ steps) (endOf n g) budget left) (s′ : List ℕ) where
+  settled-as : (r : Formed) → SettledAs g s′ n left r → FormedAs (valueAt bs budget f n ρ steps) budget (tableOf bs .sizes) s′ r
+  settled-as (Placed at next l) h =
+      let q = e .end ∙ ap (endOf n) (h .is) in
+      let ok = value-good budget (tableOf bs) (readable .records) f n ρ steps (h .value) ok q in
+      record {
+        value = h .value;
+        ends = record { end = q; steps = omega (arith, e .steps, h .same) };
+        place = record { stands = h .stands; below = h .below; good = ok };
+      }
+  settled-as (Stopped r l) h = record { end = e .end ∙ ap (endOf n) (h .0) ∙ ap (refused (r .number)) (sym (h .1)); steps = omega (arith, e .steps, h .2) }
 
 -- The answer for a node, from its tree, whose children have the depth g.
 abbrev predᵍ : List ℕ → ℕ → Kind → ℕ → Pred
@@ -247,23 +299,43 @@ predᵍ bs n x g = predOf (some x) n (nodeAt (tableOf bs .nodes) n) (λ m. predA
 abbrev exprᵍ : List ℕ → ℕ → Kind → ℕ → Expr
 exprᵍ bs n x g = exprOf (some x) n (nodeAt (tableOf bs .nodes) n) (λ m. predAt g (tableOf bs .nodes) m) (λ m. exprAt g (tableOf bs .nodes) m)
 
-module _ {bs env s : List ℕ} {top n left : ℕ} {s′ : List ℕ} (x : Kind) (e : kindAt (tableOf bs .nodes) n ≡ some x) (same : Same top s s′) where
-  pub held-by : {r : Held} → ((g : ℕ) (ρ : Env) (budget steps : ℕ) → n ≤ g → steps + left ≡ budget → Binds bs s top env ρ →
-      HeldAs (holdsᵖ budget (tableOf bs .sizes) (predᵍ bs n x g) ρ steps) budget r) → EvaluatesP bs env s top n left s′ r
+module _ {bs env s : List ℕ} {top k n left : ℕ} (v : Visited bs env s top k n left) (x : Kind) (e : kindOf k ≡ some x)
+    {s′ : List ℕ} (same : Same top s s′) where
+  pub held-by : {r : Held} → ((i : Asks bs env s top n left) →
+      HeldAs (holdsᵖ (i .budget) (tableOf bs .sizes) (predᵍ bs n x (i .depth)) (i .values) (i .steps)) (i .budget) r) → EvaluatesP bs env s top n left s′ r
   held-by {r} h = record {
     frame = same;
     answer = λ f ρ budget steps l c b.
-        let d = pred-at (tableOf bs .nodes) n x e f l in
+        let d = pred-at (tableOf bs .nodes) n x (visited-kind v x e) f l in
         subst (λ (p : Pred). HeldAs (holdsᵖ budget (tableOf bs .sizes) p ρ steps) budget r) (sym (d .is))
-        (h (d .depth) ρ budget steps (d .enough) c b);
+        (h (record { depth = d .depth; values = ρ; budget = budget; steps = steps; deep = d .enough; counts = c; binds = b }));
   }
 
-  pub formed-by : {r : Formed} → FormedBounds top r →
-      ((g f : ℕ) (ρ : Env) (budget steps : ℕ) → n ≤ g → exprAt f (tableOf bs .nodes) n ≡ exprᵍ bs n x g → steps + left ≡ budget →
-      Binds bs s top env ρ → FormedAs (valueAt bs budget f n ρ steps) budget (tableOf bs .sizes) s′ r) →
-      EvaluatesE bs env s top n left s′ r
-  formed-by {r} bounds h = record {
+  -- The run of the tree.
+  abbrev treeᵉ : Asks bs env s top n left → Run Value
+  treeᵉ i = valueᵉ (i .budget) (tableOf bs .sizes) (exprᵍ bs n x (i .depth)) (i .values) (i .steps)
+
+  formed-by : {r : Formed} → FormedBounds top r → ((f : ℕ) (i : Asks bs env s top n left) →
+      valueAt bs (i .budget) f n (i .values) (i .steps) ≡ treeᵉ i →
+      FormedAs (valueAt bs (i .budget) f n (i .values) (i .steps)) (i .budget) (tableOf bs .sizes) s′ r) → EvaluatesE bs env s top n left s′ r
+  formed-by bounds h = record {
     frame = same;
     bounds = bounds;
-    answer = λ f ρ budget steps l c b. let d = expr-at (tableOf bs .nodes) n x e f l in h (d .depth) f ρ budget steps (d .enough) (d .is) c b;
+    answer = λ f ρ budget steps l c b.
+        let d = expr-at (tableOf bs .nodes) n x (visited-kind v x e) f l in
+        h f (record { depth = d .depth; values = ρ; budget = budget; steps = steps; deep = d .enough; counts = c; binds = b })
+        (ap (λ (z : Expr). valueᵉ budget (tableOf bs .sizes) z ρ steps) (d .is));
   }
+
+  -- It is refused, by a child or by its rule.
+  pub stopped-by : {r : Refusal} {l : ℕ} → ((i : Asks bs env s top n left) → EndsWith (treeᵉ i) (refused (r .number) (r .place)) (i .budget) l) →
+      EvaluatesE bs env s top n left s′ (Stopped r l)
+  stopped-by h = formed-by tt (λ f i q. ends-as q (h i))
+
+  -- It gives something, which has been settled.
+  pub settled-by : {l : ℕ} {r : Formed} → FormedBounds top r →
+      ((i : Asks bs env s top n left) → (g : Given) × EndsWith (treeᵉ i) (endOf n g) (i .budget) l × SettledAs g s′ n l r) →
+      EvaluatesE bs env s top n left s′ r
+  settled-by {l} {r} bounds h = formed-by bounds (λ f i q.
+      let y = h i in
+      settled-as bs (i .budget) f n (i .values) (i .steps) (v .ready .readable) (i .binds .good) (y .0) (ends-as q (y .1)) s′ r (y .2))

@@ -1,6 +1,6 @@
 -- A binder's range: its fields, the members of a set that stands in the arena, and what the loop over them may take for granted.
 use Prim.Native.Nat.{ℕ, _+_, _*_, _≤_, _<_}
-use mathlib.Core.Bool.{true}
+use mathlib.Core.Bool.{true, false}
 use mathlib.Core.List.{List, [], _∷_}
 use mathlib.Core.Option.{some}
 use mathlib.Core.Path.{_≡_, ap, _∙_, subst}
@@ -24,18 +24,18 @@ use Rattle.laws.proofs.FormedLaws.{elems-good}
 use Rattle.arena.specs.Code.{cellSize, code, codes, Same}
 use Rattle.arena.proofs.Standing.{stands-tail}
 use Rattle.constants.specs.Built.{built}
-use Rattle.operations.specs.Good.{Sizes, GoodAt}
+use Rattle.operations.specs.Good.{GoodAt}
 use Rattle.operations.proofs.FitLaws.{types-fit}
+use Rattle.operations.proofs.GoodLaws.{good-inside}
+use Rattle.evaluators.specs.declared.Formed.the-variants.{Value as Placed}
 use Rattle.evaluators.specs.declared.Range.{Range}
-use Rattle.evaluators.specs.declared.Range.the-variants.{Set}
+use Rattle.evaluators.specs.declared.Range.the-variants.{Set, Unlike}
 use Rattle.evaluators.specs.Answers.{EndsWith, PlacedAs, RangeSet, Listed}
 use Rattle.evaluators.specs.Nodes.{fieldA, fieldB, fieldC, SomeGood, RangeAt}
-use Rattle.evaluators.specs.Cycle.{expressionCells, Ready, EachReady}
-use Rattle.evaluators.proofs.NodeLaws.{Child, field-holds, field-child, condition-cells, ready-child}
-
--- The range is a good value.
-pub placed-good : {x : Run Value} {gs s : List ℕ} {budget at next l : ℕ} → Sizes gs → PlacedAs x budget gs s at next l → SomeGood s at
-placed-good {gs = gs} {next = next} small p = record { sizes = gs; small = small; top = next; value = p .value; stands = p .place }
+use Rattle.evaluators.specs.Cycle.{expressionCells, Ready, EvaluatesE, EachReady}
+use Rattle.evaluators.proofs.NodeLaws.{Child, sizes-small, field-holds, field-child, condition-cells, ready-child}
+use Rattle.evaluators.proofs.NodeLaws.{Asks, some-asks, asks-on, valueIn, formed-below}
+use Rattle.evaluators.proofs.BodyLaws.{Asked}
 
 -- The members of a good set stand behind its own cell.
 set-listed : {gs s : List ℕ} {top at n : ℕ} {vs : Values} → GoodAt gs s top at (set vs) → n ≡ count vs → Listed gs s top (at + 1) n vs
@@ -72,9 +72,6 @@ module _ {bs env s : List ℕ} {top n : ℕ} (r : Ready bs env s top n) {k : Kin
       let h : fieldA bs n < length (tableOf bs .binds) = rw q at (field-holds bs (r .readable) n (r .node) k e 0 (rw q (omega arith))) in
       omega (arith, h, binds-length bs, r .readable .header .identifiers)
 
-  pub binder-range : Child bs n (fieldB bs n) expression
-  binder-range = field-child bs (r .readable) n (r .node) k e expression 1 (omega arith) (rw q (omega arith)) (rw q)
-
   binder-body : Child bs n (fieldC bs n) predicate
   binder-body = field-child bs (r .readable) n (r .node) k e predicate 2 (omega arith) (rw q (omega arith)) (rw q)
 
@@ -106,15 +103,44 @@ pub record RangeHere (x : Run Value) (budget : ℕ) (gs s : List ℕ) (at next l
   pub listed : Listed gs s next (at + 1) n range
   pub fit : fits (P̂ t̂ ∷ []) (set range ∷ []) ≡ true
 
-pub range-here : {x : Run Value} {budget : ℕ} {gs s : List ℕ} {at next left : ℕ} (n : ℕ) → Sizes gs → RangeAt s at (Set n) →
-    PlacedAs x budget gs s at next left → RangeHere x budget gs s at next left n
-range-here {x} {budget} {gs} {s} {at} {next} {left} n z g h =
-    let r = g gs next (h .value) z (h .place) in
-    record {
-      range = r .members;
-      ends = subst (λ (v : Value). EndsWith x (done v) budget left) (r .is) (h .ends);
-      listed = range-listed (h .place) r;
-      fit = subst (λ (v : Value). fits (P̂ t̂ ∷ []) (v ∷ []) ≡ true) (r .is) (range-fits (h .place) r);
+-- The range, the child m, has been evaluated.
+module _ {bs env s : List ℕ} {top n m left : ℕ} (r : Ready bs env s top n) (d : Child bs n m expression) (w : m ≡ fieldB bs n)
+    {s₁ : List ℕ} {at next l : ℕ} (h : EvaluatesE bs env s top m left s₁ (Placed at next l)) where
+  pub placed-range : (i : Asks bs env s top n left) → PlacedAs (valueIn i (fieldB bs n)) (i .budget) (tableOf bs .sizes) s₁ at next l
+  placed-range i = formed-below i d w (Placed at next l) h
+
+  some-range : PlacedAs (valueIn (some-asks n left r) (fieldB bs n)) left (tableOf bs .sizes) s₁ at next l
+  some-range = placed-range (some-asks n left r)
+
+  pub placed-good : SomeGood s₁ at
+  placed-good = record { sizes = tableOf bs .sizes; small = sizes-small bs (r .readable); top = next; value = some-range .value; stands = some-range .place }
+
+  pub placed-low : at < 4294967296
+  placed-low = omega (arith, good-inside (sizes-small bs (r .readable)) (some-range .place), h .frame .kept, r .small)
+
+  pub placed-unlike : RangeAt s₁ at Unlike → (i : Asks bs env s top n left) → fits (P̂ t̂ ∷ []) (placed-range i .value ∷ []) ≡ false
+  placed-unlike y i = y (tableOf bs .sizes) next (placed-range i .value) (sizes-small bs (r .readable)) (placed-range i .place)
+
+  -- It is a set of `count` members.
+  module _ {count : ℕ} (y : RangeAt s₁ at (Set count)) where
+    pub each-ready : {k : Kind} → kindAt (tableOf bs .nodes) n ≡ some k → fieldsOf k ≡ binderFields → (spare : ℕ) →
+        spare ≤ 128 + expressionCells (some k) → (0 < spare → built (some k) ≡ true) → EachReady bs env s₁ next n (at + 1) count spare
+    each-ready e q spare enough builds =
+        binder-ready r e q spare enough builds (h .frame) (h .bounds .0) (h .bounds .1) (some-range .place)
+        (y (tableOf bs .sizes) next (some-range .value) (sizes-small bs (r .readable)) (some-range .place))
+
+    pub range-here : (i : Asks bs env s top n left) → RangeHere (valueIn i (fieldB bs n)) (i .budget) (tableOf bs .sizes) s₁ at next l count
+    range-here i =
+        let v = placed-range i in
+        let x = y (tableOf bs .sizes) next (v .value) (sizes-small bs (r .readable)) (v .place) in
+        record { range = x .members; ends = rw (x .is) at (v .ends); listed = range-listed (v .place) x; fit = rw (x .is) at (range-fits (v .place) x) }
+
+    -- What is asked of the loop over it.
+    abbrev pub in-range : (i : Asks bs env s top n left) → Asked bs env s₁ next n (at + 1) count l
+    in-range i = record {
+      asks = asks-on i (valueIn i (fieldB bs n) .steps) (h .frame) (h .bounds .0) (placed-range i .ends .steps);
+      range = range-here i .range;
+      listed = range-here i .listed;
     }
 
 -- The same range under equal names.

@@ -1,26 +1,28 @@
 -- Ends of runs, part by part: what follows a part that is done begins at the visits which that part has made.
-use Prim.Native.Nat.{ℕ, suc, _+_, _<_}
+use Prim.Native.Nat.{ℕ, suc, _+_, _≤_, _<_}
 use mathlib.Core.Bool.{Bool, true, false}
 use mathlib.Core.List.{List}
 use mathlib.Core.Path.{_≡_, refl, sym, subst}
 use native.Mathlib.Omega.{arith}
-use borrow.Author.Tests.{lt-ltb, le-ltb}
+use borrow.Author.Tests.{lt-ltb, le-ltb, le-leb}
 use lib.Dec.{ltb, leb}
 use Rattle.rules.specs.Values.{Value, weight}
 use Rattle.rules.specs.Cells.{weightLimit}
 use Rattle.rules.specs.Rules.{Rule}
 use Rattle.rules.specs.Fits.{fits}
 use Rattle.rules.specs.Ends.{End, done, refused}
-use Rattle.rules.specs.Runs.{Run, M, return, _>>=_, _>>_, visit, form, Given, gives, lacks}
+use Rattle.rules.specs.Runs.{Run, M, return, goOn, _>>_, visit, form, Given, gives, lacks}
 use Rattle.rules.specs.Evaluation.{fitting}
 use Rattle.operations.specs.Outcomes.{weighed, fitted}
 use Rattle.evaluators.specs.Answers.{EndsWith}
 
-module _ {A B : Type 0} (m : M A) (f : A → M B) (s : ℕ) {budget left : ℕ} where
-  pub then-done : {a : A} {e : End B} → m s .end ≡ done a → EndsWith (f a (m s .steps)) e budget left → EndsWith ((m >>= f) s) e budget left
-  then-done h k = record { end = rw h (k .end); steps = rw h (k .steps) }
+-- A part x, and f after it.
+module _ {A B : Type 0} {x : Run A} (f : A → M B) {budget left : ℕ} where
+  pub then-done : {a : A} {e : End B} {l : ℕ} → EndsWith x (done a) budget l → EndsWith (f a (x .steps)) e budget left →
+      EndsWith (goOn (x .end) (x .steps) (x .formed) f) e budget left
+  then-done h k = record { end = rw (h .end) (k .end); steps = rw (h .end) (k .steps) }
 
-  pub then-refused : {r p : ℕ} → EndsWith (m s) (refused r p) budget left → EndsWith ((m >>= f) s) (refused r p) budget left
+  pub then-refused : {r p : ℕ} → EndsWith x (refused r p) budget left → EndsWith (goOn (x .end) (x .steps) (x .formed) f) (refused r p) budget left
   then-refused h = record { end = rw (h .end); steps = rw (h .end) (h .steps) }
 
 pub returns : {A : Type 0} {s budget left : ℕ} (a : A) → s + left ≡ budget → EndsWith (return a s) (done a) budget left
@@ -32,9 +34,7 @@ module _ {B : Type 0} (budget n s : ℕ) (k : M B) {left : ℕ} where
   visited h x = record { end = rw (lt-ltb s budget h) (x .end); steps = rw (lt-ltb s budget h) (x .steps) }
 
   pub unvisited : s + left ≡ budget → left ≡ 0 → EndsWith ((visit budget n >> k) s) (refused 19 n) budget left
-  unvisited c z =
-      let e : ltb s budget ≡ false = le-ltb s budget (omega arith) in
-      record { end = rw e; steps = rw e c }
+  unvisited c z = let e : ltb s budget ≡ false = le-ltb s budget (omega arith) in record { end = rw e; steps = rw e c }
 
 -- A value that is formed, or the refusal at the node.
 abbrev pub endOf : ℕ → Given → End Value
@@ -48,6 +48,10 @@ form-ends {budget} {left} n (gives v) s c = go (leb (weight v) weightLimit) refl
     go : (b : Bool) → leb (weight v) weightLimit ≡ b → EndsWith (form n (gives v) s) (endOf n (weighed (gives v))) budget left
     go true e = record { end = rw e; steps = rw e c }
     go false e = record { end = rw e; steps = rw e c }
+
+-- A value that is not heavy is formed.
+pub light-form : {budget left : ℕ} (n : ℕ) (w : Value) (s : ℕ) → weight w ≤ 256 → s + left ≡ budget → EndsWith (form n (gives w) s) (done w) budget left
+light-form n w s h c = record { end = rw (le-leb (weight w) 256 h); steps = rw (le-leb (weight w) 256 h) c }
 
 -- What follows where the operands fit, and 15 where they do not.
 module _ {B : Type 0} {budget left : ℕ} (n : ℕ) (r : Rule) (vs : List Value) (k : M B) (s : ℕ) where
@@ -63,12 +67,8 @@ pub fitted-ends : {budget left : ℕ} (n : ℕ) (r : Rule) (vs : List Value) (g 
 fitted-ends {budget} {left} n r vs g s c = go (fits (r .takes) vs) refl
   where
     go : (b : Bool) → fits (r .takes) vs ≡ b → EndsWith ((fitting n r vs >> form n g) s) (endOf n (fitted (r .takes) vs g)) budget left
-    go true e =
-        let q : endOf n (fitted (r .takes) vs g) ≡ endOf n (weighed g) = rw e in
-        subst (λ (z : End Value). EndsWith ((fitting n r vs >> form n g) s) z budget left) (sym q) (fitting-on n r vs (form n g) s e (form-ends n g s c))
-    go false e =
-        let q : endOf n (fitted (r .takes) vs g) ≡ refused 15 n = rw e in
-        subst (λ (z : End Value). EndsWith ((fitting n r vs >> form n g) s) z budget left) (sym q) (fitting-refused n r vs (form n g) s e c)
+    go true e = let k = form-ends n g s c in record { end = rw e (k .end); steps = rw e (k .steps) }
+    go false e = record { end = rw e; steps = rw e c }
 
 -- The same run, the same end.
 pub ends-as : {A : Type 0} {x y : Run A} {e : End A} {budget left : ℕ} → x ≡ y → EndsWith y e budget left → EndsWith x e budget left

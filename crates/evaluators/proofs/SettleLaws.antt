@@ -40,11 +40,7 @@ module _ {s : List ℕ} {at end to : ℕ} where
     }
 
     pub chooses-copy : {s′ : List ℕ} → yes ≡ true → Copied s at (end - at) to s′ → Chooses s at end yes to s′ (to + (end - at))
-    chooses-copy e c = record {
-      frame = copied-frame c;
-      kept = λ _. c;
-      ends = subst (λ (b : Bool). to + (end - at) ≡ to + cond b (end - at) 0) (sym e) refl;
-    }
+    chooses-copy e c = record { frame = copied-frame c; kept = λ _. c; ends = subst (λ (b : Bool). to + (end - at) ≡ to + cond b (end - at) 0) (sym e) refl }
 
 one-weighs : (v : Value) {x : ℕ} → code v ≡ x ∷ [] → weight v ≡ 1
 one-weighs v {x} e = sym (length-code v) ∙ ap length e

@@ -3,14 +3,10 @@ use Rattle.evaluators.proofs.LeafSteps.{decides-13, decides-2, decides-
 use Rattle.evaluators.proofs.decides.Statement.{statement}
 use Rattle.evaluators.proofs.decides.Tie as tie
 
-returns : tie.Need-returns
-returns c = decides-13 (c .before .args .p) (c .match .keys1)
-
-returns-2 : tie.Need-returns-2
-returns-2 c = decides-2 (c .before .args .p) (c .match .keys2)
-
-returns-3 : tie.Need-returns-3
-returns-3 c = decides-5 (c .before .args .p) (c .match .rest .0 .1) (c .match .rest .1)
-
 pub decides-spec : {M : Type 1} → statement M
-decides-spec = tie.close (tie.spec returns returns-2 returns-3)
+decides-spec =
+    tie.close
+    (tie.spec
+    (λ c. decides-13 (c .before .args .p) (c .match .keys1))
+    (λ c. decides-2 (c .before .args .p) (c .match .keys2))
+    (λ c. decides-5 (c .before .args .p) (c .match .rest .0 .1) (c .match .rest .1)))
