@@ -4,6 +4,7 @@ use mathlib.Core.Bool.{Bool, true, false}
 use mathlib.Core.List.{List, [], _∷_}
 use mathlib.Core.Option.{some}
 use mathlib.Core.Path.{_≡_, refl, sym, _∙_, subst}
+use native.Mathlib.Omega.{arith}
 use Rattle.rules.specs.Values.{Value}
 use Rattle.rules.specs.Kinds.{expression, Test, test, kindOf}
 use Rattle.rules.specs.Rules.{testRule}
