@@ -155,7 +155,7 @@ module _ {g : Value → M Bool} {whole : List Value} {budget steps : ℕ} {s : L
       let l = made .light (omega (arith, h .light)) in
       record {
         chosen = h .taken;
-        ends = subst (λ (vs : List Value). EndsWith (select g whole steps) (done vs) budget n) (append-nil (h .taken)) (h .goes (rw z (select-none g now counts)));
+        ends = rw (append-nil (h .taken)) at (h .goes {ws = []} {l = n} (rw z (select-none g now counts)));
         stands = l .1;
         ending = l .0;
       }
@@ -234,7 +234,8 @@ module _ {bs env s₀ : List ℕ} {top n from count left : ℕ} (pre : EachReady
           pub choosing-refused : {p : Refusal} {l : ℕ} → r ≡ Refused p l → EvaluatesChosen bs env s₀ top n from count left s₁ (Stopped p l)
           choosing-refused {p} {l} is =
               chosen-by (same-trans top to s₀ s s₁ (h .frame) (e .frame) low) tt (λ k.
-              h .on k .stops (rw (next k .is) (select-refused (bodyOf k) (next k .value) (members (next k .rest)) (h .loop .now k) (answers (Refused p l) is k))))
+              let u = next k in
+              h .on k .stops (rw (u .is) (select-refused (bodyOf k) (u .value) (members (u .rest)) (h .loop .now k) (answers (Refused p l) is k))))
 
           -- It is true or false, and the members stand as before.
           below : Same top s s₁
