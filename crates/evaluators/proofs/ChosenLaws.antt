@@ -117,8 +117,7 @@ module _ {g : Value → M Bool} {whole : List Value} {budget steps : ℕ} {s : L
     (h : Selecting g whole budget steps s top rest now to chosen) where
   -- Where what has been chosen ends, and how many members it has.
   selecting-near : (top + 1 ≤ to) × (to ≤ top + 256) × (chosen ≤ 255)
-  selecting-near =
-      (omega (arith, h .ends), omega (arith, h .ends, h .light), omega (arith, h .counted, h .light, count-weights (values (h .taken))))
+  selecting-near = (omega (arith, h .ends), omega (arith, h .ends, h .light), omega (arith, h .counted, h .light, count-weights (values (h .taken))))
 
   -- After a turn: the arena is s₁ behind the body, and s₂ with the member added if it is chosen.
   selecting-turn : {gs : List ℕ} {at more : ℕ} (u : First gs s top at more rest) (s₁ : List ℕ) (end : ℕ) (b : Bool) {l : ℕ} (s₂ : List ℕ) (r : ℕ) →

@@ -50,8 +50,7 @@ module _ {bs env s : List ℕ} {top k n m left : ℕ} (x : Visited bs env s top 
   pub one-fails : {s₁ : List ℕ} {r : Refusal} {l : ℕ} → EvaluatesE bs env s top m (left - 1) s₁ (Stopped r l) →
       EvaluatesE bs env s top n left s₁ (Stopped r l)
   unfolding valueᵉ
-  one-fails {s₁} {r} {l} h =
-      stopped-by x (one j) e (h .frame) (λ i. visits x i _ (then-refused _ (formed-below (after x i) one-child w (Stopped r l) h)))
+  one-fails {s₁} {r} {l} h = stopped-by x (one j) e (h .frame) (λ i. visits x i _ (then-refused _ (formed-below (after x i) one-child w (Stopped r l) h)))
 
   module _ {s₁ : List ℕ} {at next l : ℕ} (h : EvaluatesE bs env s top m (left - 1) s₁ (Placed at next l)) where
     operand-at : (i : Asks bs env s top n (left - 1)) → PlacedAs (valueIn i (fieldA bs n)) (i .budget) (tableOf bs .sizes) s₁ at next l
@@ -235,8 +234,7 @@ module _ {bs env s : List ℕ} {top n m left : ℕ} (x : Visited bs env s top 34
       select-each = each-ready (x .ready) select-child w h y (visited-kind x comprehension select-code) refl 256 (omega arith) (λ _. refl)
 
       -- The range, and what is asked of the loop over it.
-      abbrev here : (i : Asks bs env s top n left) →
-          RangeHere (valueIn (after x i) (fieldB bs n)) (i .budget) (tableOf bs .sizes) s₁ at next l count
+      abbrev here : (i : Asks bs env s top n left) → RangeHere (valueIn (after x i) (fieldB bs n)) (i .budget) (tableOf bs .sizes) s₁ at next l count
       here i = range-here (x .ready) select-child w h y (after x i)
 
       abbrev members-of : Asks bs env s top n left → Asked bs env s₁ next n (at + 1) count l
@@ -263,8 +261,7 @@ module _ {bs env s : List ℕ} {top n m left : ℕ} (x : Visited bs env s top 34
         light : {y : Run (List Value)} {budget : ℕ} (z : SelectedAs y budget s₂ next end u) → weight (setOf (z .chosen)) ≤ 256
         light z = omega (arith, z .ending, ch .bounds .1)
 
-        given : {y : Run (List Value)} {budget : ℕ} (z : SelectedAs y budget s₂ next end u) →
-            Gives s₂ next next (gives (setOf (z .chosen))) (Built end)
+        given : {y : Run (List Value)} {budget : ℕ} (z : SelectedAs y budget s₂ next end u) → Gives s₂ next next (gives (setOf (z .chosen))) (Built end)
         given z = record { value = setOf (z .chosen); is = refl; stands = z .stands; ends = z .ending; light = light z }
 
         pub select-settles : SettleReady s₂ (Built end) next next top

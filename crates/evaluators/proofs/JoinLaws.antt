@@ -91,8 +91,7 @@ module _ {bs env s : List ℕ} {top k n left : ℕ} (v : Visited bs env s top k 
     -- It is refused.
     pub join-stays : {p : Refusal} {l : ℕ} → r ≡ Refused p l → EvaluatesP bs env s top n left s′ r
     unfolding holdsᵖ
-    join-stays {p} {l} d =
-        held-as refl (sym d) (held-by v (join j) e (h .frame) (λ i. visits v i _ (then-refused _ (join-first (Refused p l) d i))))
+    join-stays {p} {l} d = held-as refl (sym d) (held-by v (join j) e (h .frame) (λ i. visits v i _ (then-refused _ (join-first (Refused p l) d i))))
 
     module _ {y : Bool} {l : ℕ} (d : r ≡ Truth y l) {o : Bool} (by : DecidesBy k y o) where
       -- It decides.
@@ -117,8 +116,7 @@ module _ {bs env s : List ℕ} {top k n left : ℕ} (v : Visited bs env s top k 
 
         -- What is asked of it.
         abbrev second : Asks bs env s top n left → Asks bs env s′ top n l
-        second i =
-            asks-on (after v i) (holdsIn (after v i) (fieldA bs n) .steps) (h .frame) (omega arith) (join-first (Truth y l) d i .steps)
+        second i = asks-on (after v i) (holdsIn (after v i) (fieldA bs n) .steps) (h .frame) (omega arith) (join-first (Truth y l) d i .steps)
 
         module _ {s″ : List ℕ} {r′ : Held} (h′ : EvaluatesP bs env s′ top m l s″ r′) where
           join-frame : Same top s s″

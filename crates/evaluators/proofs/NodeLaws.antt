@@ -53,8 +53,7 @@ good-frame {gs} {s} {s′} {top} {at} {v} e h = record {
   good = h .good;
 }
 
-pub binds-frame : {bs s s′ : List ℕ} {top : ℕ} {env : List ℕ} {ρ : Env} (k : ℕ) → Same top s s′ → top ≤ k →
-    Binds bs s top env ρ → Binds bs s′ k env ρ
+pub binds-frame : {bs s s′ : List ℕ} {top : ℕ} {env : List ℕ} {ρ : Env} (k : ℕ) → Same top s s′ → top ≤ k → Binds bs s top env ρ → Binds bs s′ k env ρ
 binds-frame {bs} {s} {s′} {top} {env} {ρ} k e le b = record {
   at = λ x h. let g = good-frame e (b .at x h) in record { stands = g .stands; below = omega (arith, g .below); good = g .good };
   good = b .good;
@@ -200,8 +199,7 @@ module _ {bs env s : List ℕ} {top k n left : ℕ} (v : Visited bs env s top k 
 
   pub visited-child : (c : Category) (i m : ℕ) → i < 3 → i < length (fieldsOf x) → getD (fieldsOf x) i unused ≡ child c →
       m ≡ getD (fieldWords (nodeAt (tableOf bs .nodes) n)) i 0 → Child bs n m c
-  visited-child c i m l l′ q w =
-      subst (λ (z : ℕ). Child bs n z c) (sym w) (field-child bs (v .ready .readable) n (v .ready .node) x visited-kind c i l l′ q)
+  visited-child c i m l l′ q w = subst (λ (z : ℕ). Child bs n z c) (sym w) (field-child bs (v .ready .readable) n (v .ready .node) x visited-kind c i l l′ q)
 
   pub visited-operands : fieldsOf x ≡ child expression ∷ child expression ∷ unused ∷ [] → TwoFields bs n
   visited-operands q = record {
@@ -271,12 +269,10 @@ module _ {bs env s : List ℕ} {top n left : ℕ} (i : Asks bs env s top n left)
 
   module _ {a b : ℕ} {c : Category} (d : Child bs n a c) (q : a ≡ b) {s′ : List ℕ} where
     pub held-below : (r : Held) → EvaluatesP bs env s top a left s′ r → HeldAs (holdsIn b) (i .budget) r
-    held-below r h =
-        held-as q refl h .answer (i .depth) (i .values) (i .budget) (i .steps) (omega (arith, d .below, i .deep, q)) (i .counts) (i .binds)
+    held-below r h = held-as q refl h .answer (i .depth) (i .values) (i .budget) (i .steps) (omega (arith, d .below, i .deep, q)) (i .counts) (i .binds)
 
     pub formed-below : (r : Formed) → EvaluatesE bs env s top a left s′ r → FormedAs (valueIn b) (i .budget) (tableOf bs .sizes) s′ r
-    formed-below r h =
-        formed-as q refl h .answer (i .depth) (i .values) (i .budget) (i .steps) (omega (arith, d .below, i .deep, q)) (i .counts) (i .binds)
+    formed-below r h = formed-as q refl h .answer (i .depth) (i .values) (i .budget) (i .steps) (omega (arith, d .below, i .deep, q)) (i .counts) (i .binds)
 
 -- A node's end is what it gives; where that has been settled it is the node's answer.
 module _ (bs : List ℕ) (budget f n : ℕ) (ρ : Env) (steps : ℕ) (readable : Readable bs) (ok : (x : ℕ) → T (good (tableOf bs .sizes) (ρ x)))

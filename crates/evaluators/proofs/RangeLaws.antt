@@ -62,11 +62,9 @@ set-fits vs h = let x = typed-right (set vs) .0 h in types-fit (P̂ t̂ ∷ []) 
     go (u ⊗ w) k = absurd k
 
 range-fits : {gs s : List ℕ} {top at n : ℕ} {v : Value} → GoodAt gs s top at v → RangeSet v n → fits (P̂ t̂ ∷ []) (v ∷ []) ≡ true
-range-fits {gs} {s} {top} {at} {n} {v} h r =
-    rw (r .is) (set-fits (r .members) (good-typed gs (set (r .members)) (rw (r .is) at (h .good))))
+range-fits {gs} {s} {top} {at} {n} {v} h r = rw (r .is) (set-fits (r .members) (good-typed gs (set (r .members)) (rw (r .is) at (h .good))))
 
-range-listed : {gs s : List ℕ} {top at n : ℕ} {v : Value} → GoodAt gs s top at v → (r : RangeSet v n) →
-    Listed gs s top (at + 1) n (r .members)
+range-listed : {gs s : List ℕ} {top at n : ℕ} {v : Value} → GoodAt gs s top at v → (r : RangeSet v n) → Listed gs s top (at + 1) n (r .members)
 range-listed {gs} {s} {top} {at} {n} {v} h r = set-listed (rw (r .is) at h) (r .counted)
 
 module _ {bs env s : List ℕ} {top n : ℕ} (r : Ready bs env s top n) {k : Kind} (e : kindAt (tableOf bs .nodes) n ≡ some k)

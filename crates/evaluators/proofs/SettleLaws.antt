@@ -27,8 +27,7 @@ copied-frame : {s s′ : List ℕ} {from n to : ℕ} → Copied s from n to s′
 copied-frame c = record { same = c .before; kept = c .kept }
 
 module _ {s : List ℕ} {at end to : ℕ} where
-  pub choose-room : ChooseReady s at end to →
-      (at + (end - at) ≤ length s) × (to + (end - at) ≤ length s) × ((at + (end - at) ≤ to) ⊎ (to ≤ at))
+  pub choose-room : ChooseReady s at end to → (at + (end - at) ≤ length s) × (to + (end - at) ≤ length s) × ((at + (end - at) ≤ to) ⊎ (to ≤ at))
   choose-room p = (omega (arith, p .forward, p .behind, p .room), p .room, inl (omega (arith, p .forward, p .behind)))
 
   module _ {yes : Bool} where
