@@ -151,8 +151,8 @@ module _ {bs env s₀ : List ℕ} {top n from count left x : ℕ} {s inner : Lis
         z (w .value) (good-frame e (w .here) .stands) (good-fits (sizes-small bs (r .ready .readable)) (w .value) (w .here .good))
 
     -- The next member stands at `end`.
-    abbrev pub loop-next : {b : Bool} {end l : ℕ} → ((k : Asked bs env s₀ top n from count left) → end ≡ at + weight (member k .value)) → ((k : Asked bs env s₀ top n from count left) →
-        EndsWith (bodyOf k (member k .value) (i .now k)) (done b) (k .asks .budget) l) →
+    abbrev pub loop-next : {b : Bool} {end l : ℕ} → ((k : Asked bs env s₀ top n from count left) → end ≡ at + weight (member k .value)) →
+        ((k : Asked bs env s₀ top n from count left) → EndsWith (bodyOf k (member k .value) (i .now k)) (done b) (k .asks .budget) l) →
         Loop bs env s₀ top n from count left x s′ (setAt inner x at) end (more - 1) l
     loop-next z h = record {
       inside = inner-set at (i .inside);

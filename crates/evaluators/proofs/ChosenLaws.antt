@@ -34,29 +34,13 @@ use Rattle.laws.proofs.CellsLaws.{count-weights, weight-some}
 abbrev picked : Bool → Value → List Value
 picked b v = cond b (v ∷ []) []
 
-module _ (g : Value → M Bool) where
-  -- No members are left.
-  select-none : {budget left : ℕ} (m : ℕ) → m + left ≡ budget → EndsWith (select g [] m) (done []) budget left
-  unfolding select
-  select-none m c = returns [] c
-
-  module _ (v : Value) (vs : List Value) (m : ℕ) where
-    -- The body is refused there.
-    select-refused : {budget left : ℕ} {k p : ℕ} → EndsWith (g v m) (refused k p) budget left → EndsWith (select g (v ∷ vs) m) (refused k p) budget left
-    unfolding select
-    select-refused h = then-refused _ h
-
-    -- It ends there, and the run goes on to the other members.
-    select-on : {budget left l : ℕ} (b : Bool) {ws : List Value} → EndsWith (g v m) (done b) budget l →
-        EndsWith (select g vs (g v m .steps)) (done ws) budget left → EndsWith (select g (v ∷ vs) m) (done (picked b v ++ ws)) budget left
-    unfolding select
-    select-on true {ws} h k = then-done _ h (then-done _ k (returns (v ∷ ws) (k .steps)))
-    select-on false {ws} h k = then-done _ h (then-done _ k (returns ws (k .steps)))
-
-    select-stops : {budget left l : ℕ} (b : Bool) {k p : ℕ} → EndsWith (g v m) (done b) budget l →
-        EndsWith (select g vs (g v m .steps)) (refused k p) budget left → EndsWith (select g (v ∷ vs) m) (refused k p) budget left
-    unfolding select
-    select-stops b h k = then-done _ h (then-refused _ k)
+-- The body ends at a member, and the run goes on to the others.
+select-on : {budget left l : ℕ} (g : Value → M Bool) (v : Value) (vs : List Value) (m : ℕ) (b : Bool) {ws : List Value} →
+    EndsWith (g v m) (done b) budget l → EndsWith (select g vs (g v m .steps)) (done ws) budget left →
+    EndsWith (select g (v ∷ vs) m) (done (picked b v ++ ws)) budget left
+unfolding select
+select-on g v vs m true {ws} h k = then-done _ h (then-done _ k (returns (v ∷ ws) (k .steps)))
+select-on g v vs m false {ws} h k = then-done _ h (then-done _ k (returns ws (k .steps)))
 
 -- The members chosen stand from top + 1 up to `to`, and the whole run ends as that of the rest does from `now` on.
 pub record Selecting (g : Value → M Bool) (whole : List Value) (budget steps : ℕ) (s : List ℕ) (top : ℕ) (rest : Values) (now to chosen : ℕ) : Type 0 where
@@ -85,25 +69,18 @@ selecting-start g budget steps s top vs h l = record {
 -- Members behind others.
 values-append : (s : List ℕ) (at : ℕ) (xs ys : List Value) → ValuesAt s at (values xs) → ValuesAt s (at + weights (values xs)) (values ys) →
     ValuesAt s at (values (xs ++ ys))
-values-append s at xs ys h k =
-    subst (λ (l : List ℕ). Stands s at l) (sym (codes-append xs ys))
-    (stands-append s at (codes (values xs)) (codes (values ys)) h
-    (subst (λ (i : ℕ). Stands s (at + i) (codes (values ys))) (sym (length-codes (values xs))) k))
+values-append s at xs ys h k = rw (codes-append xs ys) (stands-append s at (codes (values xs)) (codes (values ys)) h (rw (length-codes (values xs)) k))
 
 -- What is chosen of a member stands behind what has been chosen.
 chosen-stands : (s : List ℕ) (at end : ℕ) (b : Bool) (to : ℕ) (s′ : List ℕ) (r : ℕ) (v : Value) → Chooses s at end b to s′ r →
     Stands s at (code v) → end ≡ at + weight v → to + weight v ≤ length s →
     ValuesAt s′ to (values (picked b v)) × (r ≡ to + weights (values (picked b v)))
 unfolding code
-chosen-stands s at end true to s′ r v c h e l = (
-  subst (λ (l : List ℕ). Stands s′ to l) (sym (single v))
-      (copied-stands s at (end - at) to s′ (code v) (c .kept refl) (omega (arith, length-code v)) (omega arith) h),
-  omega (arith, c .ends),
-)
-chosen-stands s at end false to s′ r v c h e l = (
-  record { inside = omega (arith, c .frame .kept); cells = λ i p. absurd (omega arith) },
-  omega (arith, c .ends),
-)
+chosen-stands s at end true to s′ r v c h e l =
+    let x = copied-stands s at (end - at) to s′ (code v) (c .kept refl) (omega (arith, length-code v)) (omega arith) h in
+    (rw (single v) x, omega (arith, c .ends))
+chosen-stands s at end false to s′ r v c h e l =
+    (record { inside = omega (arith, c .frame .kept); cells = λ i p. absurd (omega arith) }, omega (arith, c .ends))
 
 chosen-count : (b : Bool) (v : Value) → boolByte b ≡ count (values (picked b v))
 chosen-count true v = refl
@@ -117,13 +94,13 @@ module _ {g : Value → M Bool} {whole : List Value} {budget steps : ℕ} {s : L
     (h : Selecting g whole budget steps s top rest now to chosen) where
   -- Where what has been chosen ends, and how many members it has.
   selecting-near : (top + 1 ≤ to) × (to ≤ top + 256) × (chosen ≤ 255)
-  selecting-near =
-      (omega (arith, h .ends), omega (arith, h .ends, h .light), omega (arith, h .counted, h .light, count-weights (values (h .taken))))
+  selecting-near = (omega (arith, h .ends), omega (arith, h .ends, h .light), omega (arith, h .counted, h .light, count-weights (values (h .taken))))
 
   -- After a turn: the arena is s₁ behind the body, and s₂ with the member added if it is chosen.
   selecting-turn : {gs : List ℕ} {at more : ℕ} (u : First gs s top at more rest) (s₁ : List ℕ) (end : ℕ) (b : Bool) {l : ℕ} (s₂ : List ℕ) (r : ℕ) →
       to + 255 ≤ length s → Same to s s₁ → end ≡ at + weight (u .value) → EndsWith (g (u .value) now) (done b) budget l → Chooses s₁ at end b to s₂ r →
       Selecting g whole budget steps s₂ top (u .rest) (g (u .value) now .steps) r (chosen + boolByte b)
+  unfolding select
   selecting-turn {gs} {at} u s₁ end b s₂ r room same e run c =
       let over : Same to s s₂ = same-trans to to s s₁ s₂ same (c .frame) (omega arith) in
       let here : Stands s₁ at (code (u .value))
@@ -142,23 +119,19 @@ module _ {g : Value → M Bool} {whole : List Value} {budget steps : ℕ} {s : L
         goes = λ {ws} {l = q} x.
             subst (λ (vs : List Value). EndsWith (select g whole steps) (done vs) budget q) (sym (append-assoc (h .taken) (picked b (u .value)) ws))
             (h .goes (rw is (select-on g (u .value) (members (u .rest)) now b run x)));
-        stops = λ x. h .stops (rw is (select-stops g (u .value) (members (u .rest)) now b run x));
+        stops = λ x. h .stops (rw is (then-done _ run (then-refused _ x)));
       }
 
   -- No member is left: the set of those chosen, its cell written last.
   selecting-end : {n : ℕ} → members rest ≡ [] → now + n ≡ budget → top < length s →
       SelectedAs (select g whole steps) budget (setAt s top (21474836480 + chosen)) top to n
+  unfolding select
   selecting-end {n} z counts room =
       let made = made-set s top s to chosen (values (h .taken))
       (record { frame = same-refl (top + 1) s; stands = h .stands; ends = omega (arith, h .ends, length-codes (values (h .taken))) })
       (h .counted) room (omega (arith, h .light)) in
       let l = made .light (omega (arith, h .light)) in
-      record {
-        chosen = h .taken;
-        ends = subst (λ (vs : List Value). EndsWith (select g whole steps) (done vs) budget n) (append-nil (h .taken)) (h .goes (rw z (select-none g now counts)));
-        stands = l .1;
-        ending = l .0;
-      }
+      record { chosen = h .taken; ends = rw (append-nil (h .taken)) at (h .goes {ws = []} {l = n} (rw z (returns [] counts))); stands = l .1; ending = l .0 }
 
 -- Before each turn of the loop.
 pub record Choosing (bs env s₀ : List ℕ) (top n from count left : ℕ) (s inner : List ℕ) (at more m to chosen : ℕ) : Type 0 where
@@ -232,9 +205,10 @@ module _ {bs env s₀ : List ℕ} {top n from count left : ℕ} (pre : EachReady
 
           -- It is refused.
           pub choosing-refused : {p : Refusal} {l : ℕ} → r ≡ Refused p l → EvaluatesChosen bs env s₀ top n from count left s₁ (Stopped p l)
+          unfolding select
           choosing-refused {p} {l} is =
-              chosen-by (same-trans top to s₀ s s₁ (h .frame) (e .frame) low) tt (λ k.
-              h .on k .stops (rw (next k .is) (select-refused (bodyOf k) (next k .value) (members (next k .rest)) (h .loop .now k) (answers (Refused p l) is k))))
+              chosen-by (same-trans top to s₀ s s₁ (h .frame) (e .frame) low) tt
+              (λ k. h .on k .stops (rw (next k .is) (then-refused _ (answers (Refused p l) is k))))
 
           -- It is true or false, and the members stand as before.
           below : Same top s s₁

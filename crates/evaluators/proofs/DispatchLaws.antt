@@ -14,7 +14,7 @@ use Rattle.rules.specs.Types.{whole}
 use Rattle.rules.specs.Values.{Value, weight}
 use Rattle.rules.specs.Kinds.{and, or, implies, iff, equal, member, subset, atMost, forAll, forSome}
 use Rattle.rules.specs.Kinds.{Leaf, identifier, givenSet, elementOf, literal, truthConst, emptySet, boolSet}
-use Rattle.rules.specs.Kinds.{One, singleton, power, dom, ran, card, choice}
+use Rattle.rules.specs.Kinds.{singleton, power, dom, ran, card, choice}
 use Rattle.rules.specs.Kinds.{pairing, union, inter, diff, product, apply, plus, minus, interval}
 use Rattle.rules.specs.Kinds.{Kind, join, negation, test, quant, leaf, boolOf, one, two, comprehension, kindOf}
 use Rattle.rules.specs.Kinds.{Category, predicate, expression}
@@ -36,8 +36,8 @@ use Rattle.arena.proofs.CodeLaws.{length-code}
 use Rattle.constants.specs.Built.{builtLeaf}
 use Rattle.constants.specs.Constants.{OneCell}
 use Rattle.constants.proofs.ConstantLaws.{leaf-one}
-use Rattle.operations.specs.Outcomes.{BuiltAt, LeafFits}
-use Rattle.operations.proofs.KindLaws.{oneCode, code-of, kind-of}
+use Rattle.operations.specs.Outcomes.{BuiltAt, LeafFits, LeafReady, LeafDone}
+use Rattle.operations.proofs.KindLaws.{code-of, kind-of}
 use Rattle.evaluators.specs.declared.Formed.{Formed}
 use Rattle.evaluators.specs.declared.Formed.the-variants.{Value as Placed, Stopped}
 use Rattle.evaluators.specs.declared.Held.the-variants.{Refused}
@@ -125,18 +125,15 @@ module _ (k : ℕ) where
   unfolding kindOf
   quant-sort a b = along (λ (m : ℕ). Sort quant m) 10 2 ((forAll, refl), ((forSome, refl), tt)) k a (omega arith)
 
-  one-is : (j : One) → k ≡ oneCode j → Sort one k
-  one-is j e = (j, kind-of k (one j) e)
-
   -- The codes of one arm: 27, 33, 38 and 43.
   abbrev Some-one : Type 0
   Some-one = (k ≡ 27) ⊎ ((k ≡ 33) ⊎ ((k ≡ 38) ⊎ (k ≡ 43)))
 
   pub one-keys : Some-one → Sort one k
-  one-keys (inl e) = one-is singleton e
-  one-keys (inr (inl e)) = one-is power e
-  one-keys (inr (inr (inl e))) = one-is card e
-  one-keys (inr (inr (inr e))) = one-is choice e
+  one-keys (inl e) = (singleton, kind-of k (one singleton) e)
+  one-keys (inr (inl e)) = (power, kind-of k (one power) e)
+  one-keys (inr (inr (inl e))) = (card, kind-of k (one card) e)
+  one-keys (inr (inr (inr e))) = (choice, kind-of k (one choice) e)
 
   pub one-range : (Some-one → ⊥) → k ≢ 34 → 33 ≤ k → k < 37 → Sort one k
   unfolding kindOf
@@ -202,57 +199,21 @@ module _ (k : ℕ) where
       along (λ (m : ℕ). m ≢ 4 → Sort join m) 1 5
       ((λ d. (and, refl)), ((λ d. (or, refl)), ((λ d. (implies, refl)), ((λ d. absurd (d refl)), ((λ d. (iff, refl)), tt))))) k a (omega arith) n
 
-  -- A leaf that stands already: an identifier or a constant of one cell; and one that is built.
-  abbrev pub Unbuilt : Type 0
-  Unbuilt = (j : Leaf) × (kindOf k ≡ some (leaf j)) × (builtLeaf j ≡ false)
+-- A leaf that stands already, an identifier or a constant of one cell: its arm of `eval_value`.
+abbrev Unbuilt : ℕ → Type 0
+Unbuilt k = (j : Leaf) × (kindOf k ≡ some (leaf j)) × (builtLeaf j ≡ false)
 
-  pub unbuilt-code : 20 ≤ k → k < 27 → k ≢ 21 → k ≢ 25 → Unbuilt
-  unfolding kindOf
-  unbuilt-code a b n21 n25 =
-      along (λ (m : ℕ). m ≢ 21 → m ≢ 25 → (j : Leaf) × (kindOf m ≡ some (leaf j)) × (builtLeaf j ≡ false)) 20 7 (
-        (λ x y. (identifier, refl, refl)),
-        (
-          (λ x y. absurd (x refl)),
-          (
-            (λ x y. (elementOf, refl, refl)),
-            (
-              (λ x y. (literal whole, refl, refl)),
-              ((λ x y. (truthConst, refl, refl)), ((λ x y. absurd (y refl)), ((λ x y. (emptySet, refl, refl)), tt))),
-            ),
-          ),
-        ),
-      ) k a (omega arith) n21 n25
+pub standing-code : (k : ℕ) → ((k ≡ 20) ⊎ (k ≡ 26)) ⊎ ((20 ≤ k) × (k < 25) × (k ≢ 21)) → Unbuilt k
+unfolding kindOf
+standing-code k (inl (inl e)) = (identifier, kind-of k (leaf identifier) e, refl)
+standing-code k (inl (inr e)) = (emptySet, kind-of k (leaf emptySet) e, refl)
+standing-code k (inr (a, b, n)) =
+    let from-22 : Along Unbuilt 22 3 = ((elementOf, refl, refl), ((literal whole, refl, refl), ((truthConst, refl, refl), tt))) in
+    here-or-on Unbuilt 20 k a (identifier, refl, refl) (λ l. along Unbuilt 22 3 from-22 k (omega (arith, n)) (omega arith))
 
-  -- Its arm of `eval_value`.
-  pub standing-code : ((k ≡ 20) ⊎ (k ≡ 26)) ⊎ ((20 ≤ k) × (k < 25) × (k ≢ 21)) → Unbuilt
-  standing-code (inl (inl e)) = unbuilt-code (omega arith) (omega arith) (λ z. absurd (omega arith)) (λ z. absurd (omega arith))
-  standing-code (inl (inr e)) = unbuilt-code (omega arith) (omega arith) (λ z. absurd (omega arith)) (λ z. absurd (omega arith))
-  standing-code (inr (a, b, n)) = unbuilt-code a (omega arith) n (λ z. absurd (omega arith))
-
-  abbrev pub BuiltLeaf : Type 0
-  BuiltLeaf = (j : Leaf) × (kindOf k ≡ some (leaf j)) × (builtLeaf j ≡ true)
-
-  built-code : (k ≡ 21) ⊎ (k ≡ 42) → BuiltLeaf
-  built-code (inl e) = (givenSet, kind-of k (leaf givenSet) e, refl)
-  built-code (inr e) = (boolSet, kind-of k (leaf boolSet) e, refl)
-
-module _ (bs : List ℕ) (r : Readable bs) (n : ℕ) (lt : n < nodeCount bs) where
-  -- The words of a leaf are in range.
-  name-below : kindAt (tableOf bs .nodes) n ≡ some (leaf identifier) → fieldA bs n < 32
-  name-below e = omega (arith, field-holds bs r n lt (leaf identifier) e 0 (omega arith), binds-length bs, r .header .identifiers)
-
-  built-fits : (j : Leaf) → kindAt (tableOf bs .nodes) n ≡ some (leaf j) → builtLeaf j ≡ true →
-      LeafFits j (fieldA bs n) (getD (tableOf bs .sizes) (fieldA bs n) 0)
-  built-fits identifier e d = absurd (false≢true d)
-  built-fits givenSet e d = (
-    omega (arith, field-holds bs r n lt (leaf givenSet) e 0 (omega arith), sizes-length bs, r .header .givens),
-    sizes-small bs r .small (fieldA bs n),
-  )
-  built-fits elementOf e d = absurd (false≢true d)
-  built-fits (literal m) e d = absurd (false≢true d)
-  built-fits truthConst e d = absurd (false≢true d)
-  built-fits emptySet e d = absurd (false≢true d)
-  built-fits boolSet e d = tt
+-- The word of an identifier is in range.
+name-below : (bs : List ℕ) → Readable bs → (n : ℕ) → n < nodeCount bs → kindAt (tableOf bs .nodes) n ≡ some (leaf identifier) → fieldA bs n < 32
+name-below bs r n lt e = omega (arith, field-holds bs r n lt (leaf identifier) e 0 (omega arith), binds-length bs, r .header .identifiers)
 
 given-same : (v w : Value) → gives v ≡ gives w → v ≡ w
 given-same v w e = cc
@@ -275,20 +236,20 @@ module _ {bs env s : List ℕ} {top k n left : ℕ} (v : Visited bs env s top k 
   pub join-kind : IsPred bs n → k ≢ 4 → k < 6 → Sort join k
   join-kind h d l = join-sort k (predicate-code h .0) l d
 
+  -- The leaves that are built.
+  built-node : (j : Leaf) → kindOf k ≡ some (leaf j) → builtLeaf j ≡ true → LeafFits j (fieldA bs n) (getD (tableOf bs .sizes) (fieldA bs n) 0) →
+      LeafNode bs s top k n
+  built-node j e d fit =
+      let room = cell-room (v .ready) (visited-builds v (leaf j) e d) (same-refl top s) in
+      record { readable = v .ready .readable; node = v .ready .node; ready = record { kind = j; is = e; fits = fit; room = room } }
+
   pub leaf-node : (k ≡ 21) ⊎ (k ≡ 42) → LeafNode bs s top k n
-  leaf-node h =
-      let u = built-code k h in
-      let e = visited-kind v (leaf (u .0)) (u .1) in
-      record {
-        readable = v .ready .readable;
-        node = v .ready .node;
-        ready = record {
-          kind = u .0;
-          is = u .1;
-          fits = built-fits bs (v .ready .readable) n (v .ready .node) (u .0) e (u .2);
-          room = cell-room (v .ready) (visited-builds v (leaf (u .0)) (u .1) (u .2)) (same-refl top s);
-        };
-      }
+  leaf-node (inl c) =
+      let e = kind-of k (leaf givenSet) c in
+      let f = field-holds bs (v .ready .readable) n (v .ready .node) (leaf givenSet) (visited-kind v (leaf givenSet) e) 0 (omega arith) in
+      built-node givenSet e refl
+      (omega (arith, f, sizes-length bs, v .ready .readable .header .givens), sizes-small bs (v .ready .readable) .small (fieldA bs n))
+  leaf-node (inr c) = built-node boolSet (kind-of k (leaf boolSet) c) refl tt
 
   -- The value of a leaf's node.
   abbrev here : Leaf → Env → Value
@@ -336,7 +297,8 @@ module _ {bs env s : List ℕ} {top k n left : ℕ} (v : Visited bs env s top k 
   -- Another leaf's value has been built.
   pub leaf-answer : LeafNode bs s top k n → (s′ : List ℕ) (o : Formed) → LeafFormed bs s top k n (left - 1) s′ o → EvaluatesE bs env s top n left s′ o
   leaf-answer p s′ o h =
-      let b : (ρ : Env) → BuiltAt s′ top (gives (here (p .ready .kind) ρ)) (h .end) = λ ρ. h .done .answer (p .ready .kind) (tableOf bs .sizes) (fieldB bs n) ρ (p .ready .is) (p .ready .fits) refl in
+      let b : (ρ : Env) → BuiltAt s′ top (gives (here (p .ready .kind) ρ)) (h .end)
+      = λ ρ. h .done .answer (p .ready .kind) (tableOf bs .sizes) (fieldB bs n) ρ (p .ready .is) (p .ready .fits) refl in
       let x = b (v .ready .values) in
       subst (λ (x : Formed). EvaluatesE bs env s top n left s′ x) (sym (h .is))
       (leaf-stands (p .ready .kind) (p .ready .is) (h .done .frame) (omega (arith, x .ends), omega (arith, x .ends, x .light))
@@ -382,3 +344,14 @@ pub place-standing : {bs env : List ℕ} {n k : ℕ} → PlaceReady bs env n →
 place-standing {k = k} p e h =
     let u = standing-code k (⊎-elim (λ q. inl (inl q)) (λ q. inr (omega (arith, q .0), q .1, λ z. absurd (omega (arith, q .0)))) h) in
     record { node = p; same = e; kind = u .0; is = u .1; unbuilt = u .2 }
+
+-- 21 and 42, with the word and the size that have been read.
+module _ {bs s : List ℕ} {top k n a z : ℕ} (p : LeafNode bs s top k n) (ea : a ≡ fieldA bs n) (ez : z ≡ getD (tableOf bs .sizes) a 0) where
+  same-size : z ≡ getD (tableOf bs .sizes) (fieldA bs n) 0
+  same-size = ez ∙ ap (λ (y : ℕ). getD (tableOf bs .sizes) y 0) ea
+
+  pub leaf-ready : LeafReady k a z s top
+  leaf-ready = rw (same-size, ea) (p .ready)
+
+  pub leaf-formed : {s′ : List ℕ} {end left : ℕ} → LeafDone k a z s top s′ end → LeafFormed bs s top k n left s′ (Placed top end left)
+  leaf-formed {end = end} d = record { end = end; is = refl; done = rw (same-size, ea) at d }

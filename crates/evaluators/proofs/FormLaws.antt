@@ -3,7 +3,7 @@ use Prim.Native.Nat.{ℕ, _+_, _-_, _≤_, _<_}
 use mathlib.Core.Bool.{Bool, true, false}
 use mathlib.Core.List.{List, [], _∷_}
 use mathlib.Core.Option.{some}
-use mathlib.Core.Path.{_≡_, refl, subst}
+use mathlib.Core.Path.{_≡_, refl}
 use native.Mathlib.Omega.{arith}
 use lib.ListN.{getD}
 use mir.Val.{boolByte}
@@ -11,6 +11,7 @@ use Rattle.rules.specs.Values.{Value, set, truthValue, members, weight}
 use Rattle.rules.specs.Kinds.{boolOf, one, two, comprehension, One, Two, predicate, expression, kindOf}
 use Rattle.rules.specs.Rules.{oneRule, twoRule, comprehensionRule}
 use Rattle.rules.specs.Tables.{tableOf, nodeAt, fieldWords}
+use Rattle.rules.specs.Ends.{End}
 use Rattle.rules.specs.Runs.{Run, M, _>>=_, form, gives}
 use Rattle.rules.specs.Operations.{elems, setOf, oneValue, twoValue}
 use Rattle.rules.specs.Evaluation.{select, valueᵉ}
@@ -27,12 +28,12 @@ use Rattle.evaluators.specs.declared.Held.the-variants.{Truth, Refused}
 use Rattle.evaluators.specs.declared.Formed.{Formed}
 use Rattle.evaluators.specs.declared.Formed.the-variants.{Value as Placed, Stopped}
 use Rattle.evaluators.specs.declared.Range.the-variants.{Set, Unlike}
-use Rattle.evaluators.specs.Answers.{PlacedAs, SelectedAs, ChosenAs, SettleReady}
+use Rattle.evaluators.specs.Answers.{EndsWith, PlacedAs, SelectedAs, ChosenAs, SettleReady}
 use Rattle.evaluators.specs.Nodes.{fieldA, fieldB, IsPred, IsExpr, SomeGood, RangeAt}
 use Rattle.evaluators.specs.Cycle.{Ready, Visited, EvaluatesP, EvaluatesE, EachReady, bodyAt, EvaluatesChosen, Settles}
 use Rattle.evaluators.proofs.RunLaws.{then-done, then-refused, light-form, fitted-ends, fitting-on, fitting-refused}
 use Rattle.evaluators.proofs.NodeLaws.{Child, TwoFields, sizes-small, fields-tall, ready-first, visited-kind, visited-builds, visited-child, visited-operands}
-use Rattle.evaluators.proofs.NodeLaws.{Asks, some-asks, visits, after, valueIn, held-below, formed-below, stopped-by, settled-by}
+use Rattle.evaluators.proofs.NodeLaws.{Asks, some-asks, visits, after, valueIn, held-below, formed-below, treeᵉ, stopped-by, settled-by, settles-by}
 use Rattle.evaluators.proofs.BodyLaws.{Asked, some-asked, bodyOf}
 use Rattle.evaluators.proofs.BothLaws.{operands-ready, BothAs, StopsBoth, EvaluatesBoth}
 use Rattle.evaluators.proofs.RangeLaws.{placed-range, placed-good, placed-low, placed-unlike, RangeHere, range-here, in-range, each-ready}
@@ -49,8 +50,7 @@ module _ {bs env s : List ℕ} {top k n m left : ℕ} (x : Visited bs env s top 
   pub one-fails : {s₁ : List ℕ} {r : Refusal} {l : ℕ} → EvaluatesE bs env s top m (left - 1) s₁ (Stopped r l) →
       EvaluatesE bs env s top n left s₁ (Stopped r l)
   unfolding valueᵉ
-  one-fails {s₁} {r} {l} h =
-      stopped-by x (one j) e (h .frame) (λ i. visits x i _ (then-refused _ (formed-below (after x i) one-child w (Stopped r l) h)))
+  one-fails {s₁} {r} {l} h = stopped-by x (one j) e (h .frame) (λ i. visits x i _ (then-refused _ (formed-below (after x i) one-child w (Stopped r l) h)))
 
   module _ {s₁ : List ℕ} {at next l : ℕ} (h : EvaluatesE bs env s top m (left - 1) s₁ (Placed at next l)) where
     operand-at : (i : Asks bs env s top n (left - 1)) → PlacedAs (valueIn i (fieldA bs n)) (i .budget) (tableOf bs .sizes) s₁ at next l
@@ -86,14 +86,11 @@ module _ {bs env s : List ℕ} {top k n m left : ℕ} (x : Visited bs env s top 
 
       pub one-evaluates : {s₃ : List ℕ} {r : Formed} → Settles s₂ o next next top n l s₃ r → EvaluatesE bs env s top n left s₃ r
       unfolding valueᵉ oneGiven
-      one-evaluates {s₃} {r} st =
-          settled-by x (one j) e
-          (same-trans top top s s₂ s₃ (same-trans top next s s₁ s₂ (h .frame) (op j e .frame) (h .bounds .0)) (st .frame) (omega arith)) (st .bounds)
-          (λ i. let v = operand-at (after x i) in (
-            oneGiven j (v .value),
-            visits x i _ (then-done _ (v .ends) (fitted-ends n (oneRule j) (v .value ∷ []) (oneValue j (v .value)) _ (v .ends .steps))),
-            st .answer (oneGiven j (v .value)) (given₁ v),
-          ))
+      one-evaluates st = settles-by x (one j) e (h .frame) (h .bounds .0) (op j e .frame) st (λ i. let v = operand-at (after x i) in (
+        oneGiven j (v .value),
+        visits x i _ (then-done _ (v .ends) (fitted-ends n (oneRule j) (v .value ∷ []) (oneValue j (v .value)) _ (v .ends .steps))),
+        given₁ v,
+      ))
 
 -- 28 to 32, 37 and 39 to 41: the node's operands have been evaluated.
 module _ {bs env s : List ℕ} {top k n left : ℕ} (x : Visited bs env s top k n left) (j : Two) (e : kindOf k ≡ some (two j)) where
@@ -132,16 +129,12 @@ module _ {bs env s : List ℕ} {top k n left : ℕ} (x : Visited bs env s top k 
 
     pub two-evaluates : {s₃ : List ℕ} {r : Formed} → Settles s₂ o mid next top n l s₃ r → EvaluatesE bs env s top n left s₃ r
     unfolding valueᵉ twoGiven
-    two-evaluates {s₃} {r} st =
-        settled-by x (two j) e
-        (same-trans top top s s₂ s₃ (same-trans top next s s₁ s₂ (h .frame) (op j e .frame) (omega (arith, h .low, h .order))) (st .frame) (omega arith))
-        (st .bounds)
-        (λ i. let v = h .answer (after x i) in (
-          twoGiven j (v .first) (v .second),
-          visits x i _ (then-done _ (v .leftEnds) (then-done _ (v .rightEnds)
-              (fitted-ends n (twoRule j) (v .first ∷ v .second ∷ []) (twoValue j (v .first) (v .second)) _ (v .rightEnds .steps)))),
-          st .answer (twoGiven j (v .first) (v .second)) (given₂ v),
-        ))
+    two-evaluates st = settles-by x (two j) e (h .frame) (omega (arith, h .low, h .order)) (op j e .frame) st (λ i. let v = h .answer (after x i) in (
+      twoGiven j (v .first) (v .second),
+      visits x i _ (then-done _ (v .leftEnds) (then-done _ (v .rightEnds)
+          (fitted-ends n (twoRule j) (v .first ∷ v .second ∷ []) (twoValue j (v .first) (v .second)) _ (v .rightEnds .steps)))),
+      given₂ v,
+    ))
 
 -- 25: the condition's node is `m`.
 pub byte-small : (b : Bool) → boolByte b ≤ 1
@@ -188,8 +181,7 @@ module _ {bs env s : List ℕ} {top n m left : ℕ} (x : Visited bs env s top 25
 -- The same answer under equal names.
 pub chosen-as : {bs env s : List ℕ} {top n from count left : ℕ} {s′ : List ℕ} {r r′ : Formed} → r ≡ r′ →
     EvaluatesChosen bs env s top n from count left s′ r → EvaluatesChosen bs env s top n from count left s′ r′
-chosen-as {bs} {env} {s} {top} {n} {from} {count} {left} {s′} {r} {r′} q h =
-    subst (λ (z : Formed). EvaluatesChosen bs env s top n from count left s′ z) q h
+chosen-as q h = rw q at h
 
 -- The answer of the loop, where it is asked.
 chosen-of : {bs env s : List ℕ} {top n from count left : ℕ} {s′ : List ℕ} {r : Formed} → EvaluatesChosen bs env s top n from count left s′ r →
@@ -242,28 +234,34 @@ module _ {bs env s : List ℕ} {top n m left : ℕ} (x : Visited bs env s top 34
       select-each = each-ready (x .ready) select-child w h y (visited-kind x comprehension select-code) refl 256 (omega arith) (λ _. refl)
 
       -- The range, and what is asked of the loop over it.
-      abbrev here : (i : Asks bs env s top n left) →
-          RangeHere (valueIn (after x i) (fieldB bs n)) (i .budget) (tableOf bs .sizes) s₁ at next l count
+      abbrev here : (i : Asks bs env s top n left) → RangeHere (valueIn (after x i) (fieldB bs n)) (i .budget) (tableOf bs .sizes) s₁ at next l count
       here i = range-here (x .ready) select-child w h y (after x i)
 
       abbrev members-of : Asks bs env s top n left → Asked bs env s₁ next n (at + 1) count l
       members-of i = in-range (x .ready) select-child w h y (after x i)
+
+      -- It fits, and so what follows it ends the run.
+      in-set : (i : Asks bs env s top n left) {a : End Value} {u : ℕ} →
+          EndsWith (then-selects i (set (here i .range)) (valueIn (after x i) (fieldB bs n) .steps)) a (i .budget) u →
+          EndsWith (treeᵉ comprehension i) a (i .budget) u
+      unfolding valueᵉ
+      in-set i k =
+          let y = set (here i .range) in
+          visits x i _ (then-done _ (here i .ends) (fitting-on n comprehensionRule (y ∷ []) (then-selects i y) _ (here i .fit) k))
 
       pub chosen-fails : {s₂ : List ℕ} {r : Refusal} {u : ℕ} → EvaluatesChosen bs env s₁ next n (at + 1) count l s₂ (Stopped r u) →
           EvaluatesE bs env s top n left s₂ (Stopped r u)
       unfolding valueᵉ
       chosen-fails {s₂} {r} {u} ch =
           stopped-by x comprehension select-code (same-trans top next s s₁ s₂ (h .frame) (ch .frame) (h .bounds .0)) (λ i.
-          visits x i _ (then-done _ (here i .ends) (fitting-on n comprehensionRule (set (here i .range) ∷ []) (then-selects i (set (here i .range))) _ (here i .fit)
-          (then-refused _ (chosen-of ch (members-of i))))))
+          in-set i (then-refused _ (chosen-of ch (members-of i))))
 
       module _ {s₂ : List ℕ} {to end u : ℕ} (ch : EvaluatesChosen bs env s₁ next n (at + 1) count l s₂ (Placed to end u)) where
         -- The set has been built at `next`.
         light : {y : Run (List Value)} {budget : ℕ} (z : SelectedAs y budget s₂ next end u) → weight (setOf (z .chosen)) ≤ 256
         light z = omega (arith, z .ending, ch .bounds .1)
 
-        given : {y : Run (List Value)} {budget : ℕ} (z : SelectedAs y budget s₂ next end u) →
-            Gives s₂ next next (gives (setOf (z .chosen))) (Built end)
+        given : {y : Run (List Value)} {budget : ℕ} (z : SelectedAs y budget s₂ next end u) → Gives s₂ next next (gives (setOf (z .chosen))) (Built end)
         given z = record { value = setOf (z .chosen); is = refl; stands = z .stands; ends = z .ending; light = light z }
 
         pub select-settles : SettleReady s₂ (Built end) next next top
@@ -282,12 +280,9 @@ module _ {bs env s : List ℕ} {top n m left : ℕ} (x : Visited bs env s top 34
 
         pub select-evaluates : {s₃ : List ℕ} {r : Formed} → Settles s₂ (Built end) next next top n u s₃ r → EvaluatesE bs env s top n left s₃ r
         unfolding valueᵉ
-        select-evaluates {s₃} {r} st =
-            settled-by x comprehension select-code
-            (same-trans top top s s₂ s₃ (same-trans top next s s₁ s₂ (h .frame) (ch .frame) (h .bounds .0)) (st .frame) (omega arith)) (st .bounds)
-            (λ i. let z = chosen-of ch (members-of i) in (
+        select-evaluates st = settles-by x comprehension select-code (h .frame) (h .bounds .0) (ch .frame) st (λ i.
+            let z = chosen-of ch (members-of i) in (
               gives (setOf (z .chosen)),
-              visits x i _ (then-done _ (here i .ends) (fitting-on n comprehensionRule (set (here i .range) ∷ []) (then-selects i (set (here i .range))) _ (here i .fit)
-                  (then-done _ (z .ends) (light-form n (setOf (z .chosen)) _ (light z) (z .ends .steps))))),
-              st .answer (gives (setOf (z .chosen))) (given z),
+              in-set i (then-done _ (z .ends) (light-form n (setOf (z .chosen)) _ (light z) (z .ends .steps))),
+              given z,
             ))

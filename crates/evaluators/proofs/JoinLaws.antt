@@ -1,18 +1,20 @@
--- Joins: the run at the node, part by part, and with it what the answers for the conditions below make of the node's.
+-- Joins by their codes; then the run at the node, part by part, and with it what the answers for the conditions below make of the node's.
 use Prim.Native.Nat.{ℕ, _+_, _-_}
-use mathlib.Core.Bool.{Bool, true, false, not, cond}
+use mathlib.Core.Bool.{Bool, true, false, not, cond, Bool·beq}
 use mathlib.Core.List.{List}
+use mathlib.Core.Logic.{_⊎_, inl, inr, _≢_}
 use mathlib.Core.Option.{Option, none as nothing, some}
 use mathlib.Core.Path.{_≡_, refl, sym, ap, _∙_, subst}
 use native.Mathlib.Omega.{arith}
 use lib.Dec.{eqb}
-use Rattle.rules.specs.Kinds.{predicate, Join, join, kindOf}
+use Rattle.rules.specs.Kinds.{predicate, Join, and, or, implies, iff, join, kindOf}
 use Rattle.rules.specs.Ends.{End, done}
 use Rattle.rules.specs.Runs.{M, _orElse_}
 use Rattle.rules.specs.Operations as rules
 use Rattle.rules.specs.Evaluation.{holdsᵖ}
 use Rattle.arena.specs.Code.{Same}
 use Rattle.arena.proofs.Standing.{same-trans}
+use Rattle.operations.proofs.KindLaws.{joinCode, code-of, same-join}
 use Rattle.reading.specs.declared.Refusal.{Refusal}
 use Rattle.evaluators.specs.declared.Held.{Held}
 use Rattle.evaluators.specs.declared.Held.the-variants.{Truth, Refused}
@@ -23,14 +25,54 @@ use Rattle.evaluators.proofs.RunLaws.{then-done, then-refused, returns}
 use Rattle.evaluators.proofs.NodeLaws.{Child, ready-child, ready-first, visited-child, held-as}
 use Rattle.evaluators.proofs.NodeLaws.{Asks, asks-on, visits, after, holdsIn, held-below, held-by}
 
+-- Where the first truth of a join decides, and what.
+first-decides : (p : Bool) → (rules.decides and p ≡ cond (not p) (some false) nothing) × (rules.decides or p ≡ cond p (some true) nothing) ×
+    (rules.decides implies p ≡ cond (not p) (some true) nothing)
+first-decides true = (refl, refl, refl)
+first-decides false = (refl, refl, refl)
+
+-- A join is known by its code.
+module _ {k : ℕ} (p : Bool) where
+  decides-by : (r : Bool) (i : Join) → k ≡ joinCode i → rules.decides i p ≡ cond r (some (not (eqb (joinCode i) 1))) nothing → DecidesBy k p r
+  decides-by r i c h j e = subst (λ (x : Join). rules.decides x p ≡ cond r (some (not (eqb k 1))) nothing) (same-join k i j c e) (rw c h)
+
+  pub decides-13 : (k ≡ 1) ⊎ (k ≡ 3) → DecidesBy k p (not p)
+  decides-13 (inl c) = decides-by (not p) and c (first-decides p .0)
+  decides-13 (inr c) = decides-by (not p) implies c (first-decides p .2)
+
+  pub decides-2 : k ≡ 2 → DecidesBy k p p
+  decides-2 c = decides-by p or c (first-decides p .1)
+
+  pub decides-5 : ((k ≡ 1) ⊎ (k ≡ 3) → ⊥) → k ≢ 2 → DecidesBy k p false
+  decides-5 n13 n2 j e = go j (code-of k (join j) e)
+    where
+      go : (j : Join) → k ≡ joinCode j → rules.decides j p ≡ nothing
+      go and c = absurd (n13 (inl c))
+      go or c = absurd (n2 c)
+      go implies c = absurd (n13 (inr c))
+      go iff c = refl
+
+  module _ (q : Bool) where
+    pub joined-by : {r : Bool} (i : Join) → k ≡ joinCode i → r ≡ rules.joined i p q → JoinedBy k p q r
+    joined-by {r} i c h j e = subst (λ (x : Join). r ≡ rules.joined x p q) (same-join k i j c e) h
+
+    pub joined-5 : k ≢ 1 → k ≢ 2 → k ≢ 3 → JoinedBy k p q (Bool·beq p q)
+    joined-5 n1 n2 n3 j e = go j (code-of k (join j) e)
+      where
+        go : (j : Join) → k ≡ joinCode j → Bool·beq p q ≡ rules.joined j p q
+        go and c = absurd (n1 c)
+        go or c = absurd (n2 c)
+        go implies c = absurd (n3 c)
+        go iff c = refl
+
 -- What decides, and what does not.
 or-decided : {A : Type 0} {budget left : ℕ} (o : Option A) (m : M A) (a : A) (t : ℕ) → o ≡ some a → t + left ≡ budget →
     EndsWith ((o orElse m) t) (done a) budget left
-or-decided {A} {budget} {left} o m a t e c = subst (λ (z : Option A). EndsWith ((z orElse m) t) (done a) budget left) (sym e) (returns a c)
+or-decided o m a t e c = rw e (returns a c)
 
 or-rest : {A : Type 0} {budget left : ℕ} (o : Option A) (m : M A) (t : ℕ) {x : End A} → o ≡ nothing → EndsWith (m t) x budget left →
     EndsWith ((o orElse m) t) x budget left
-or-rest {A} {budget} {left} o m t {x} e h = subst (λ (z : Option A). EndsWith ((z orElse m) t) x budget left) (sym e) h
+or-rest o m t e h = rw e h
 
 -- 1, 2, 3 and 5: the first operand's node is `a`.
 module _ {bs env s : List ℕ} {top k n left : ℕ} (v : Visited bs env s top k n left) (j : Join) (e : kindOf k ≡ some (join j))
@@ -49,8 +91,7 @@ module _ {bs env s : List ℕ} {top k n left : ℕ} (v : Visited bs env s top k 
     -- It is refused.
     pub join-stays : {p : Refusal} {l : ℕ} → r ≡ Refused p l → EvaluatesP bs env s top n left s′ r
     unfolding holdsᵖ
-    join-stays {p} {l} d =
-        held-as refl (sym d) (held-by v (join j) e (h .frame) (λ i. visits v i _ (then-refused _ (join-first (Refused p l) d i))))
+    join-stays {p} {l} d = held-as refl (sym d) (held-by v (join j) e (h .frame) (λ i. visits v i _ (then-refused _ (join-first (Refused p l) d i))))
 
     module _ {y : Bool} {l : ℕ} (d : r ≡ Truth y l) {o : Bool} (by : DecidesBy k y o) where
       -- It decides.
@@ -75,8 +116,7 @@ module _ {bs env s : List ℕ} {top k n left : ℕ} (v : Visited bs env s top k 
 
         -- What is asked of it.
         abbrev second : Asks bs env s top n left → Asks bs env s′ top n l
-        second i =
-            asks-on (after v i) (holdsIn (after v i) (fieldA bs n) .steps) (h .frame) (omega arith) (join-first (Truth y l) d i .steps)
+        second i = asks-on (after v i) (holdsIn (after v i) (fieldA bs n) .steps) (h .frame) (omega arith) (join-first (Truth y l) d i .steps)
 
         module _ {s″ : List ℕ} {r′ : Held} (h′ : EvaluatesP bs env s′ top m l s″ r′) where
           join-frame : Same top s s″

@@ -11,5 +11,4 @@ pub mod RangeLaws
 pub mod QuantLaws
 pub mod JoinLaws
 pub mod BothLaws
-pub mod LeafSteps
 pub mod SettleLaws

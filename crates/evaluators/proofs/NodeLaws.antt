@@ -21,11 +21,13 @@ use Rattle.laws.proofs.TableLaws.{nodes-length, sizes-length, height-at}
 use Rattle.laws.proofs.CellsLaws.{size-below}
 use Rattle.laws.proofs.FormedLaws.{value-good}
 use Rattle.arena.specs.Code.{Same}
-use Rattle.arena.proofs.Standing.{stands-frame, same-refl}
+use Rattle.arena.proofs.Standing.{stands-frame, same-refl, same-trans}
 use Rattle.arena.proofs.CodeLaws.{length-code}
 use Rattle.constants.specs.Built.{built, Builds}
 use Rattle.constants.proofs.ConstantLaws.{constants-frame}
 use Rattle.operations.specs.Good.{Sizes, GoodAt}
+use Rattle.operations.specs.Outcomes.{Gives}
+use Rattle.operations.specs.declared.Outcome.{Outcome}
 use Rattle.evaluators.specs.declared.Held.{Held}
 use Rattle.evaluators.specs.declared.Held.the-variants.{Refused}
 use Rattle.evaluators.specs.declared.Formed.{Formed}
@@ -33,8 +35,8 @@ use Rattle.evaluators.specs.declared.Formed.the-variants.{Value as Place
 use Rattle.reading.specs.declared.Refusal.{Refusal}
 use Rattle.evaluators.specs.Answers.{EndsWith, HeldAs, FormedAs, FormedBounds, SettledAs, RefusalOf, StopOf}
 use Rattle.evaluators.specs.Nodes.{fieldA, fieldB}
-use Rattle.evaluators.specs.Cycle.{expressionCells, cellsFor, Binds, Ready, Visited, holdsAt, valueAt, EvaluatesP, EvaluatesE}
-use Rattle.evaluators.proofs.RunLaws.{visited, endOf, ends-as}
+use Rattle.evaluators.specs.Cycle.{expressionCells, cellsFor, Binds, Ready, Visited, holdsAt, valueAt, EvaluatesP, EvaluatesE, Settles}
+use Rattle.evaluators.proofs.RunLaws.{visited, endOf}
 
 -- The sizes of a readable table are small.
 pub sizes-small : (bs : List ℕ) → Readable bs → Sizes (tableOf bs .sizes)
@@ -51,8 +53,7 @@ good-frame {gs} {s} {s′} {top} {at} {v} e h = record {
   good = h .good;
 }
 
-pub binds-frame : {bs s s′ : List ℕ} {top : ℕ} {env : List ℕ} {ρ : Env} (k : ℕ) → Same top s s′ → top ≤ k →
-    Binds bs s top env ρ → Binds bs s′ k env ρ
+pub binds-frame : {bs s s′ : List ℕ} {top : ℕ} {env : List ℕ} {ρ : Env} (k : ℕ) → Same top s s′ → top ≤ k → Binds bs s top env ρ → Binds bs s′ k env ρ
 binds-frame {bs} {s} {s′} {top} {env} {ρ} k e le b = record {
   at = λ x h. let g = good-frame e (b .at x h) in record { stands = g .stands; below = omega (arith, g .below); good = g .good };
   good = b .good;
@@ -198,8 +199,7 @@ module _ {bs env s : List ℕ} {top k n left : ℕ} (v : Visited bs env s top k 
 
   pub visited-child : (c : Category) (i m : ℕ) → i < 3 → i < length (fieldsOf x) → getD (fieldsOf x) i unused ≡ child c →
       m ≡ getD (fieldWords (nodeAt (tableOf bs .nodes) n)) i 0 → Child bs n m c
-  visited-child c i m l l′ q w =
-      subst (λ (z : ℕ). Child bs n z c) (sym w) (field-child bs (v .ready .readable) n (v .ready .node) x visited-kind c i l l′ q)
+  visited-child c i m l l′ q w = subst (λ (z : ℕ). Child bs n z c) (sym w) (field-child bs (v .ready .readable) n (v .ready .node) x visited-kind c i l l′ q)
 
   pub visited-operands : fieldsOf x ≡ child expression ∷ child expression ∷ unused ∷ [] → TwoFields bs n
   visited-operands q = record {
@@ -253,13 +253,11 @@ stop-is {h} {f} e k = sym (subst (λ (z : Held). StopOf z f) e k)
 -- The same answer, for the same node.
 pub held-as : {bs env s : List ℕ} {top m m′ left : ℕ} {s′ : List ℕ} {r r′ : Held} → m ≡ m′ → r ≡ r′ →
     EvaluatesP bs env s top m left s′ r → EvaluatesP bs env s top m′ left s′ r′
-held-as {bs} {env} {s} {top} {m} {m′} {left} {s′} {r} {r′} e q h =
-    subst (λ (z : Held). EvaluatesP bs env s top m′ left s′ z) q (subst (λ (z : ℕ). EvaluatesP bs env s top z left s′ r) e h)
+held-as e q h = rw (e, q) at h
 
 pub formed-as : {bs env s : List ℕ} {top m m′ left : ℕ} {s′ : List ℕ} {r r′ : Formed} → m ≡ m′ → r ≡ r′ →
     EvaluatesE bs env s top m left s′ r → EvaluatesE bs env s top m′ left s′ r′
-formed-as {bs} {env} {s} {top} {m} {m′} {left} {s′} {r} {r′} e q h =
-    subst (λ (z : Formed). EvaluatesE bs env s top m′ left s′ z) q (subst (λ (z : ℕ). EvaluatesE bs env s top z left s′ r) e h)
+formed-as e q h = rw (e, q) at h
 
 -- The runs at a node below the one that is asked for, and its answer there: b is the child's node a.
 module _ {bs env s : List ℕ} {top n left : ℕ} (i : Asks bs env s top n left) where
@@ -271,12 +269,10 @@ module _ {bs env s : List ℕ} {top n left : ℕ} (i : Asks bs env s top n left)
 
   module _ {a b : ℕ} {c : Category} (d : Child bs n a c) (q : a ≡ b) {s′ : List ℕ} where
     pub held-below : (r : Held) → EvaluatesP bs env s top a left s′ r → HeldAs (holdsIn b) (i .budget) r
-    held-below r h =
-        held-as q refl h .answer (i .depth) (i .values) (i .budget) (i .steps) (omega (arith, d .below, i .deep, q)) (i .counts) (i .binds)
+    held-below r h = held-as q refl h .answer (i .depth) (i .values) (i .budget) (i .steps) (omega (arith, d .below, i .deep, q)) (i .counts) (i .binds)
 
     pub formed-below : (r : Formed) → EvaluatesE bs env s top a left s′ r → FormedAs (valueIn b) (i .budget) (tableOf bs .sizes) s′ r
-    formed-below r h =
-        formed-as q refl h .answer (i .depth) (i .values) (i .budget) (i .steps) (omega (arith, d .below, i .deep, q)) (i .counts) (i .binds)
+    formed-below r h = formed-as q refl h .answer (i .depth) (i .values) (i .budget) (i .steps) (omega (arith, d .below, i .deep, q)) (i .counts) (i .binds)
 
 -- A node's end is what it gives; where that has been settled it is the node's answer.
 module _ (bs : List ℕ) (budget f n : ℕ) (ρ : Env) (steps : ℕ) (readable : Readable bs) (ok : (x : ℕ) → T (good (tableOf bs .sizes) (ρ x)))
@@ -299,6 +295,10 @@ predᵍ bs n x g = predOf (some x) n (nodeAt (tableOf bs .nodes) n) (λ m. predA
 abbrev exprᵍ : List ℕ → ℕ → Kind → ℕ → Expr
 exprᵍ bs n x g = exprOf (some x) n (nodeAt (tableOf bs .nodes) n) (λ m. predAt g (tableOf bs .nodes) m) (λ m. exprAt g (tableOf bs .nodes) m)
 
+-- The run of an expression's tree.
+abbrev pub treeᵉ : {bs env s : List ℕ} {top n left : ℕ} → Kind → Asks bs env s top n left → Run Value
+treeᵉ {bs} {n = n} x i = valueᵉ (i .budget) (tableOf bs .sizes) (exprᵍ bs n x (i .depth)) (i .values) (i .steps)
+
 module _ {bs env s : List ℕ} {top k n left : ℕ} (v : Visited bs env s top k n left) (x : Kind) (e : kindOf k ≡ some x)
     {s′ : List ℕ} (same : Same top s s′) where
   pub held-by : {r : Held} → ((i : Asks bs env s top n left) →
@@ -311,12 +311,8 @@ module _ {bs env s : List ℕ} {top k n left : ℕ} (v : Visited bs env s top k 
         (h (record { depth = d .depth; values = ρ; budget = budget; steps = steps; deep = d .enough; counts = c; binds = b }));
   }
 
-  -- The run of the tree.
-  abbrev treeᵉ : Asks bs env s top n left → Run Value
-  treeᵉ i = valueᵉ (i .budget) (tableOf bs .sizes) (exprᵍ bs n x (i .depth)) (i .values) (i .steps)
-
   formed-by : {r : Formed} → FormedBounds top r → ((f : ℕ) (i : Asks bs env s top n left) →
-      valueAt bs (i .budget) f n (i .values) (i .steps) ≡ treeᵉ i →
+      valueAt bs (i .budget) f n (i .values) (i .steps) ≡ treeᵉ x i →
       FormedAs (valueAt bs (i .budget) f n (i .values) (i .steps)) (i .budget) (tableOf bs .sizes) s′ r) → EvaluatesE bs env s top n left s′ r
   formed-by bounds h = record {
     frame = same;
@@ -328,14 +324,23 @@ module _ {bs env s : List ℕ} {top k n left : ℕ} (v : Visited bs env s top k 
   }
 
   -- It is refused, by a child or by its rule.
-  pub stopped-by : {r : Refusal} {l : ℕ} → ((i : Asks bs env s top n left) → EndsWith (treeᵉ i) (refused (r .number) (r .place)) (i .budget) l) →
+  pub stopped-by : {r : Refusal} {l : ℕ} → ((i : Asks bs env s top n left) → EndsWith (treeᵉ x i) (refused (r .number) (r .place)) (i .budget) l) →
       EvaluatesE bs env s top n left s′ (Stopped r l)
-  stopped-by h = formed-by tt (λ f i q. ends-as q (h i))
+  stopped-by h = formed-by tt (λ f i q. rw q (h i))
 
   -- It gives something, which has been settled.
   pub settled-by : {l : ℕ} {r : Formed} → FormedBounds top r →
-      ((i : Asks bs env s top n left) → (g : Given) × EndsWith (treeᵉ i) (endOf n g) (i .budget) l × SettledAs g s′ n l r) →
+      ((i : Asks bs env s top n left) → (g : Given) × EndsWith (treeᵉ x i) (endOf n g) (i .budget) l × SettledAs g s′ n l r) →
       EvaluatesE bs env s top n left s′ r
   settled-by {l} {r} bounds h = formed-by bounds (λ f i q.
       let y = h i in
-      settled-as bs (i .budget) f n (i .values) (i .steps) (v .ready .readable) (i .binds .good) (y .0) (ends-as q (y .1)) s′ r (y .2))
+      settled-as bs (i .budget) f n (i .values) (i .steps) (v .ready .readable) (i .binds .good) (y .0) (rw q (y .1)) s′ r (y .2))
+
+-- So too where `settle` has settled it, over the arena s₂ that the operation leaves.
+pub settles-by : {bs env s : List ℕ} {top k n left : ℕ} (v : Visited bs env s top k n left) (x : Kind) (e : kindOf k ≡ some x) {s₁ s₂ s₃ : List ℕ}
+    {mid next at l : ℕ} {o : Outcome} {r : Formed} → Same top s s₁ → top ≤ at → Same at s₁ s₂ → Settles s₂ o mid next top n l s₃ r →
+    ((i : Asks bs env s top n left) → (g : Given) × EndsWith (treeᵉ x i) (endOf n g) (i .budget) l × Gives s₂ mid next g o) →
+    EvaluatesE bs env s top n left s₃ r
+settles-by {s = s} {top = top} v x e {s₁} {s₂} {s₃} {at = at} same low over st h =
+    settled-by v x e (same-trans top top s s₂ s₃ (same-trans top at s s₁ s₂ same over low) (st .frame) (omega arith)) (st .bounds)
+    (λ i. let y = h i in (y .0, y .1, st .answer (y .0) (y .2)))

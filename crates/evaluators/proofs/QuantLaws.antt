@@ -219,8 +219,7 @@ module _ {bs env s : List ℕ} {top k n left : ℕ} (d : Visited bs env s top k 
 
     module _ {m : ℕ} (g : RangeAt s′ at (Set m)) where
       pub quant-ready : EachReady bs env s′ next n (at + 1) m 0
-      quant-ready =
-          each-ready (d .ready) quant-child ea placed g (visited-kind d (quant (q .0)) (q .1)) refl 0 (omega arith) (λ z. absurd (omega arith))
+      quant-ready = each-ready (d .ready) quant-child ea placed g (visited-kind d (quant (q .0)) (q .1)) refl 0 (omega arith) (λ z. absurd (omega arith))
 
       pub quant-done : {s″ : List ℕ} {r′ : Held} → EvaluatesEach bs env s′ next n (at + 1) m l (quantOf (eqb k 10)) s″ r′ →
           EvaluatesP bs env s top n left s″ r′

@@ -1,12 +1,12 @@
 -- A binder's range: its fields, the members of a set that stands in the arena, and what the loop over them may take for granted.
-use Prim.Native.Nat.{ℕ, _+_, _*_, _≤_, _<_}
-use mathlib.Core.Bool.{true, false}
+use Prim.Native.Nat.{ℕ, _+_, _*_, _%_, _≤_, _<_}
+use mathlib.Core.Bool.{Bool, true, false}
 use mathlib.Core.List.{List, [], _∷_}
 use mathlib.Core.Option.{some}
-use mathlib.Core.Path.{_≡_, ap, _∙_, subst}
+use mathlib.Core.Path.{_≡_, sym, ap, _∙_, subst}
 use native.Mathlib.Omega.{arith}
 use lib.Dec.{T}
-use lib.ListN.{length}
+use lib.ListN.{length, getD}
 use Rattle.rules.specs.Types.{Ty, atom, POW, _⊗_}
 use Rattle.rules.specs.Values.{Value, set, Values, count}
 use Rattle.rules.specs.Kinds.{Kind, expression, predicate, fieldsOf}
@@ -21,12 +21,16 @@ use Rattle.laws.proofs.BindingLaws.{binderFields}
 use Rattle.laws.proofs.CellsLaws.{good-weight, good-typed}
 use Rattle.laws.proofs.FitsLaws.{typed-right}
 use Rattle.laws.proofs.FormedLaws.{elems-good}
-use Rattle.arena.specs.Code.{cellSize, code, codes, Same}
+use Rattle.arena.specs.Code.{cellSize, code, codes}
 use Rattle.arena.proofs.Standing.{stands-tail}
 use Rattle.constants.specs.Built.{built}
+use Rattle.arena.proofs.ValueParts.{first-cell}
+use Rattle.fitting.specs.Agree.{SomeTyped}
+use Rattle.fitting.specs.Tests.{FitOne}
 use Rattle.operations.specs.Good.{GoodAt}
+use Rattle.operations.proofs.SingleLaws.{fits-is-set}
 use Rattle.operations.proofs.FitLaws.{types-fit}
-use Rattle.operations.proofs.GoodLaws.{good-inside}
+use Rattle.operations.proofs.GoodLaws.{good-fits, good-typed-at, good-inside}
 use Rattle.evaluators.specs.declared.Formed.the-variants.{Value as Placed}
 use Rattle.evaluators.specs.declared.Range.{Range}
 use Rattle.evaluators.specs.declared.Range.the-variants.{Set, Unlike}
@@ -58,11 +62,9 @@ set-fits vs h = let x = typed-right (set vs) .0 h in types-fit (P̂ t̂ ∷ []) 
     go (u ⊗ w) k = absurd k
 
 range-fits : {gs s : List ℕ} {top at n : ℕ} {v : Value} → GoodAt gs s top at v → RangeSet v n → fits (P̂ t̂ ∷ []) (v ∷ []) ≡ true
-range-fits {gs} {s} {top} {at} {n} {v} h r =
-    rw (r .is) (set-fits (r .members) (good-typed gs (set (r .members)) (rw (r .is) at (h .good))))
+range-fits {gs} {s} {top} {at} {n} {v} h r = rw (r .is) (set-fits (r .members) (good-typed gs (set (r .members)) (rw (r .is) at (h .good))))
 
-range-listed : {gs s : List ℕ} {top at n : ℕ} {v : Value} → GoodAt gs s top at v → (r : RangeSet v n) →
-    Listed gs s top (at + 1) n (r .members)
+range-listed : {gs s : List ℕ} {top at n : ℕ} {v : Value} → GoodAt gs s top at v → (r : RangeSet v n) → Listed gs s top (at + 1) n (r .members)
 range-listed {gs} {s} {top} {at} {n} {v} h r = set-listed (rw (r .is) at h) (r .counted)
 
 module _ {bs env s : List ℕ} {top n : ℕ} (r : Ready bs env s top n) {k : Kind} (e : kindAt (tableOf bs .nodes) n ≡ some k)
@@ -80,21 +82,6 @@ module _ {bs env s : List ℕ} {top n : ℕ} (r : Ready bs env s top n) {k : Kin
 
   body-cells : expressionCells (kindAt (tableOf bs .nodes) (fieldC bs n)) ≡ 0
   body-cells = condition-cells (kindAt (tableOf bs .nodes) (fieldC bs n)) (binder-body .is)
-
-  -- The range is a set of m members, that stands at `at`.
-  pub binder-ready : {s′ : List ℕ} {at next m : ℕ} {v : Value} (spare : ℕ) → spare ≤ 128 + expressionCells (some k) → (0 < spare → built (some k) ≡ true) →
-      Same top s s′ → top ≤ next → next ≤ top + 256 → GoodAt (tableOf bs .sizes) s′ next at v → RangeSet v m →
-      EachReady bs env s′ next n (at + 1) m spare
-  binder-ready {s′} {at} {next} {m} {v} spare enough builds f low high g x = record {
-    ready = ready-child s′ (fieldC bs n) next r binder-body f low (omega arith);
-    binder = r .node;
-    deeper = binder-body .below;
-    is = binder-body .is;
-    name = binder-name;
-    space = λ b. omega (arith, binder-body .lower, own-room (builds b), body-cells, f .kept);
-    range = x .members;
-    listed = range-listed g x;
-  }
 
 -- The range of a node, as the set of n members that it is.
 pub record RangeHere (x : Run Value) (budget : ℕ) (gs s : List ℕ) (at next left n : ℕ) : Type 0 where
@@ -126,8 +113,18 @@ module _ {bs env s : List ℕ} {top n m left : ℕ} (r : Ready bs env s top n) (
     pub each-ready : {k : Kind} → kindAt (tableOf bs .nodes) n ≡ some k → fieldsOf k ≡ binderFields → (spare : ℕ) →
         spare ≤ 128 + expressionCells (some k) → (0 < spare → built (some k) ≡ true) → EachReady bs env s₁ next n (at + 1) count spare
     each-ready e q spare enough builds =
-        binder-ready r e q spare enough builds (h .frame) (h .bounds .0) (h .bounds .1) (some-range .place)
-        (y (tableOf bs .sizes) next (some-range .value) (sizes-small bs (r .readable)) (some-range .place))
+        let body = binder-body r e q in
+        let x = y (tableOf bs .sizes) next (some-range .value) (sizes-small bs (r .readable)) (some-range .place) in
+        record {
+          ready = ready-child s₁ (fieldC bs n) next r body (h .frame) (h .bounds .0) (h .bounds .1);
+          binder = r .node;
+          deeper = body .below;
+          is = body .is;
+          name = binder-name r e q;
+          space = λ b. omega (arith, body .lower, own-room r e q (builds b), body-cells r e q, h .frame .kept, h .bounds .1);
+          range = x .members;
+          listed = range-listed (some-range .place) x;
+        }
 
     pub range-here : (i : Asks bs env s top n left) → RangeHere (valueIn i (fieldB bs n)) (i .budget) (tableOf bs .sizes) s₁ at next l count
     range-here i =
@@ -145,4 +142,22 @@ module _ {bs env s : List ℕ} {top n m left : ℕ} (r : Ready bs env s top n) (
 
 -- The same range under equal names.
 pub range-as : {s : List ℕ} {at : ℕ} {r r′ : Range} → r ≡ r′ → RangeAt s at r → RangeAt s at r′
-range-as {s} {at} {r} {r′} q h = subst (λ (z : Range). RangeAt s at z) q h
+range-as q h = rw q at h
+
+-- `range_of`: the first cell of a set has the number of its members.
+module _ {s : List ℕ} {at : ℕ} where
+  pub some-typed : SomeGood s at → SomeTyped s at
+  some-typed p = (p .value, good-typed-at (p .small) (p .stands))
+
+  pub some-inside : SomeGood s at → at < length s
+  some-inside p = good-inside (p .small) (p .stands)
+
+  module _ {r : Bool} (f : FitOne (P̂ t̂ ∷ []) s at r) where
+    pub range-unlike : r ≡ false → RangeAt s at Unlike
+    range-unlike e gs top v q h = sym (f v (good-typed-at q h)) ∙ e
+
+    pub range-set : r ≡ true → (n : ℕ) → n ≡ getD s at 0 % 4294967296 → RangeAt s at (Set n)
+    range-set e n c gs top v q h =
+        let x = fits-is-set v (sym (f v (good-typed-at q h)) ∙ e) in
+        let g = subst (λ (w : Value). GoodAt gs s top at w) (x .1) h in
+        record { members = x .0; is = x .1; counted = c ∙ first-cell s at (set (x .0)) (g .stands) (good-fits q (set (x .0)) (g .good)) .1 }

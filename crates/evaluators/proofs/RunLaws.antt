@@ -2,7 +2,7 @@
 use Prim.Native.Nat.{ℕ, suc, _+_, _≤_, _<_}
 use mathlib.Core.Bool.{Bool, true, false}
 use mathlib.Core.List.{List}
-use mathlib.Core.Path.{_≡_, refl, sym, subst}
+use mathlib.Core.Path.{_≡_, refl}
 use native.Mathlib.Omega.{arith}
 use borrow.Author.Tests.{lt-ltb, le-ltb, le-leb}
 use lib.Dec.{ltb, leb}
@@ -69,7 +69,3 @@ fitted-ends {budget} {left} n r vs g s c = go (fits (r .takes) vs) refl
     go : (b : Bool) → fits (r .takes) vs ≡ b → EndsWith ((fitting n r vs >> form n g) s) (endOf n (fitted (r .takes) vs g)) budget left
     go true e = let k = form-ends n g s c in record { end = rw e (k .end); steps = rw e (k .steps) }
     go false e = record { end = rw e; steps = rw e c }
-
--- The same run, the same end.
-pub ends-as : {A : Type 0} {x y : Run A} {e : End A} {budget left : ℕ} → x ≡ y → EndsWith y e budget left → EndsWith x e budget left
-ends-as {A} {x} {y} {e} {budget} {left} q h = subst (λ (z : Run A). EndsWith z e budget left) (sym q) h

@@ -1,5 +1,5 @@
 -- `decides`: by the codes of kinds 1 to 3 and 5.
-use Rattle.evaluators.proofs.LeafSteps.{decides-13, decides-2, decides-5}
+use Rattle.evaluators.proofs.JoinLaws.{decides-13, decides-2, decides-5}
 use Rattle.evaluators.proofs.decides.Statement.{statement}
 use Rattle.evaluators.proofs.decides.Tie as tie
 
