@@ -1,4 +1,4 @@
--- A binder's range: its fields, the members of a set that stands in the arena, and what the loop over them may take for granted.
+-- A binder's range: its fields, the members of a set that stands in the arena, what the loop over them may take for granted, and `range_of`.
 use Prim.Native.Nat.{ℕ, _+_, _*_, _%_, _≤_, _<_}
 use mathlib.Core.Bool.{Bool, true, false}
 use mathlib.Core.List.{List, [], _∷_}
@@ -42,15 +42,18 @@ use Rattle.evaluators.proofs.NodeLaws.{Asks, some-asks, asks-on, valueI
 use Rattle.evaluators.proofs.BodyLaws.{Asked}
 
 -- The members of a good set stand behind its own cell.
-set-listed : {gs s : List ℕ} {top at n : ℕ} {vs : Values} → GoodAt gs s top at (set vs) → n ≡ count vs → Listed gs s top (at + 1) n vs
+range-listed : {gs s : List ℕ} {top at n : ℕ} {v : Value} → GoodAt gs s top at v → (r : RangeSet v n) → Listed gs s top (at + 1) n (r .members)
 unfolding code
-set-listed {gs} {s} {top} {at} {n} {vs} h e = record {
-  stands = stands-tail s at (5 * cellSize + count vs) (codes vs) (h .stands);
-  counted = e;
-  below = omega (arith, h .below);
-  good = elems-good gs (set vs) (h .good);
-  light = omega (arith, good-weight gs (set vs) (h .good));
-}
+range-listed {gs} {s} {top} {at} h r =
+    let vs = r .members in
+    let g : GoodAt gs s top at (set vs) = rw (r .is) at h in
+    record {
+      stands = stands-tail s at (5 * cellSize + count vs) (codes vs) (g .stands);
+      counted = r .counted;
+      below = omega (arith, g .below);
+      good = elems-good gs (set vs) (g .good);
+      light = omega (arith, good-weight gs (set vs) (g .good));
+    }
 
 -- A set that has a type can be a range.
 set-fits : (vs : Values) → T (typed (set vs)) → fits (P̂ t̂ ∷ []) (set vs ∷ []) ≡ true
@@ -60,12 +63,6 @@ set-fits vs h = let x = typed-right (set vs) .0 h in types-fit (P̂ t̂ ∷ []) 
     go (atom a) k = absurd k
     go (POW u) k = (u, u, (k, tt))
     go (u ⊗ w) k = absurd k
-
-range-fits : {gs s : List ℕ} {top at n : ℕ} {v : Value} → GoodAt gs s top at v → RangeSet v n → fits (P̂ t̂ ∷ []) (v ∷ []) ≡ true
-range-fits {gs} {s} {top} {at} {n} {v} h r = rw (r .is) (set-fits (r .members) (good-typed gs (set (r .members)) (rw (r .is) at (h .good))))
-
-range-listed : {gs s : List ℕ} {top at n : ℕ} {v : Value} → GoodAt gs s top at v → (r : RangeSet v n) → Listed gs s top (at + 1) n (r .members)
-range-listed {gs} {s} {top} {at} {n} {v} h r = set-listed (rw (r .is) at h) (r .counted)
 
 module _ {bs env s : List ℕ} {top n : ℕ} (r : Ready bs env s top n) {k : Kind} (e : kindAt (tableOf bs .nodes) n ≡ some k)
     (q : fieldsOf k ≡ binderFields) where
@@ -130,7 +127,8 @@ module _ {bs env s : List ℕ} {top n m left : ℕ} (r : Ready bs env s top n) (
     range-here i =
         let v = placed-range i in
         let x = y (tableOf bs .sizes) next (v .value) (sizes-small bs (r .readable)) (v .place) in
-        record { range = x .members; ends = rw (x .is) at (v .ends); listed = range-listed (v .place) x; fit = rw (x .is) at (range-fits (v .place) x) }
+        let fit = set-fits (x .members) (good-typed (tableOf bs .sizes) (set (x .members)) (rw (x .is) at (v .place .good))) in
+        record { range = x .members; ends = rw (x .is) at (v .ends); listed = range-listed (v .place) x; fit = fit }
 
     -- What is asked of the loop over it.
     abbrev pub in-range : (i : Asks bs env s top n left) → Asked bs env s₁ next n (at + 1) count l
