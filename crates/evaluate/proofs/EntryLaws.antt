@@ -169,7 +169,7 @@ root-low {bs} q =
     let ns = tableOf bs .nodes in
     by-root 0 (height ns) (λ h. h ≤ heightLimit) ns (omega arith) (λ l. q .records .heights (lastNode ns) (omega arith))
 
-pub room-for : {bs : List ℕ} {h : ℕ} → Readable bs → h ≡ rootHeight (tableOf bs) → RoomFor bs (260 + 384 * h)
+pub room-for : {bs : List ℕ} {h : ℕ} → Readable bs → h ≡ rootHeight (tableOf bs) → RoomFor bs (130 + 384 * h)
 room-for q e = record { enough = λ b. omega (arith, e); most = omega (arith, e, root-low q) }
 
 pub no-room : {bs : List ℕ} → (Builds bs → ⊥) → RoomFor bs 0

@@ -7,10 +7,10 @@ ghost use Rattle.evaluate.specs.Result.{Judged};
 ghost use Rattle.evaluate.specs.Arenas.{Needs, largestArena, arenaSize, lastArena, Measured};
 
 fn least(table: &[u8], values: &[u8], sheet: &[u8], budget: u32) -> GuardedRun
-    requires { ⌜ Needs (now table) (now values) 64 ⌝ }
+    requires { ⌜ Needs (now table) (now values) 136 ⌝ }
     ensures { λ r. ⌜ Judged (now (table .entry)) (now (values .entry)) (now (sheet .entry)) budget r ⌝ }
 {
-    let mut s = [0u64; 64];
+    let mut s = [0u64; 136];
     evaluate_in(table, values, sheet, budget, &mut s)
 }
 
@@ -58,7 +58,7 @@ fn largest(table: &[u8], values: &[u8], sheet: &[u8], budget: u32) -> GuardedRun
     requires { ⌜ Needs (now table) (now values) largestArena ⌝ }
     ensures { λ r. ⌜ Judged (now (table .entry)) (now (values .entry)) (now (sheet .entry)) budget r ⌝ }
 {
-    let mut s = [0u64; 19333];
+    let mut s = [0u64; 19203];
     evaluate_in(table, values, sheet, budget, &mut s)
 }
 
@@ -67,13 +67,13 @@ fn size(k: usize) -> usize
     ensures { λ r. ⌜ r ≡ arenaSize k ⌝ }
 {
     match k {
-        0 => 64,
+        0 => 136,
         1 => 320,
         2 => 1280,
         3 => 2304,
         4 => 4864,
         5 => 12544,
-        _ => 19333,
+        _ => 19203,
     }
 }
 

@@ -131,7 +131,7 @@ fn room(table: &[u8], height: usize) -> usize
     ensures { λ r. ⌜ RoomFor (now (table .entry)) r ⌝ }
 {
     if constants::builds(table) {
-        return 260 + 384 * height;
+        return 130 + 384 * height;
     }
     0
 }

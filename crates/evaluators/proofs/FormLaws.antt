@@ -3,14 +3,14 @@ use Prim.Native.Nat.{ℕ, _+_, _-_, _≤_, _<_}
 use mathlib.Core.Bool.{Bool, true, false}
 use mathlib.Core.List.{List, [], _∷_}
 use mathlib.Core.Option.{some}
-use mathlib.Core.Path.{_≡_, refl}
+use mathlib.Core.Path.{_≡_, refl, ap}
 use native.Mathlib.Omega.{arith}
 use lib.ListN.{getD}
 use mir.Val.{boolByte}
 use Rattle.rules.specs.Values.{Value, set, truthValue, members, weight}
 use Rattle.rules.specs.Kinds.{boolOf, one, two, comprehension, One, Two, predicate, expression, kindOf}
 use Rattle.rules.specs.Rules.{oneRule, twoRule, comprehensionRule}
-use Rattle.rules.specs.Tables.{tableOf, nodeAt, fieldWords}
+use Rattle.rules.specs.Tables.{tableOf, nodeAt, fieldWords, kindAt}
 use Rattle.rules.specs.Ends.{End}
 use Rattle.rules.specs.Runs.{Run, M, _>>=_, form, gives}
 use Rattle.rules.specs.Operations.{elems, setOf, oneValue, twoValue}
@@ -30,7 +30,7 @@ use Rattle.evaluators.specs.declared.Formed.the-variants.{Value as Place
 use Rattle.evaluators.specs.declared.Range.the-variants.{Set, Unlike}
 use Rattle.evaluators.specs.Answers.{EndsWith, PlacedAs, SelectedAs, ChosenAs, SettleReady}
 use Rattle.evaluators.specs.Nodes.{fieldA, fieldB, IsPred, IsExpr, SomeGood, RangeAt}
-use Rattle.evaluators.specs.Cycle.{Ready, Visited, EvaluatesP, EvaluatesE, EachReady, bodyAt, EvaluatesChosen, Settles}
+use Rattle.evaluators.specs.Cycle.{expressionCells, Ready, Visited, EvaluatesP, EvaluatesE, EachReady, bodyAt, EvaluatesChosen, Settles}
 use Rattle.evaluators.proofs.RunLaws.{then-done, then-refused, light-form, fitted-ends, fitting-on, fitting-refused}
 use Rattle.evaluators.proofs.NodeLaws.{Child, TwoFields, sizes-small, fields-tall, ready-first, visited-kind, visited-builds, visited-child, visited-operands}
 use Rattle.evaluators.proofs.NodeLaws.{Asks, some-asks, visits, after, valueIn, held-below, formed-below, treeᵉ, stopped-by, settled-by, settles-by}
@@ -101,7 +101,9 @@ module _ {bs env s : List ℕ} {top k n left : ℕ} (x : Visited bs env s top k 
   pub two-ready : {s₁ : List ℕ} {at mid other next l : ℕ} → EvaluatesBoth bs env s top n (left - 1) s₁ at mid other next l → TwoReady s₁ at other next
   two-ready h = record {
     operands = operands-ready (x .ready) h .1;
-    room = omega (arith, x .ready .room (visited-builds x (two j) e refl), fields-tall two-fields, h .high, h .near, h .frame .kept);
+    room =
+        let c : expressionCells (kindAt (tableOf bs .nodes) n) ≡ 128 = ap expressionCells (visited-kind x (two j) e) in
+        omega (arith, x .ready .room (visited-builds x (two j) e refl), c, fields-tall two-fields, h .high, h .near, h .frame .kept);
   }
 
   pub two-fails : {s₁ : List ℕ} {r : Refusal} {l : ℕ} → StopsBoth bs env s top n (left - 1) s₁ r l → EvaluatesE bs env s top n left s₁ (Stopped r l)

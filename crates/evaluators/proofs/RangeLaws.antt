@@ -74,7 +74,7 @@ module _ {bs env s : List ℕ} {top n : ℕ} (r : Ready bs env s top n) {k : Kin
   binder-body : Child bs n (fieldC bs n) predicate
   binder-body = field-child bs (r .readable) n (r .node) k e predicate 2 (omega arith) (rw q (omega arith)) (rw q)
 
-  own-room : built (some k) ≡ true → top + (384 * height (tableOf bs .nodes) n + expressionCells (some k) + 260) ≤ length s
+  own-room : built (some k) ≡ true → top + (384 * height (tableOf bs .nodes) n + expressionCells (some k) + 130) ≤ length s
   own-room b = rw e at (r .room (record { node = n; below = r .node; is = ap built e ∙ b }))
 
   body-cells : expressionCells (kindAt (tableOf bs .nodes) (fieldC bs n)) ≡ 0

@@ -37,13 +37,13 @@ pub record Binds (bs s : List ℕ) (top : ℕ) (env : List ℕ) (ρ : Env) : Typ
 
 -- The cells that the evaluation of a node takes above its top, where any node of the table builds a value. While a child is evaluated a node
 -- holds one value, of at most 256 cells, and a comprehension holds two; but the child of a comprehension that they stand below is a condition. So a
--- level takes 384, an expression 128 more, and an operation at the lowest node that has operands 260 more than two levels give.
+-- level takes 384, an expression 128 more, and an operation at the lowest node that has operands 130 more than two levels give.
 abbrev pub expressionCells : Option Kind → ℕ
 expressionCells nothing = 0
 expressionCells (some k) = elim (categoryOf k) [ predicate ↦ 0 | expression ↦ 128 ]
 
 abbrev pub cellsFor : List ℕ → ℕ → ℕ
-cellsFor bs n = 384 * height (tableOf bs .nodes) n + expressionCells (kindAt (tableOf bs .nodes) n) + 260
+cellsFor bs n = 384 * height (tableOf bs .nodes) n + expressionCells (kindAt (tableOf bs .nodes) n) + 130
 
 pub record Ready (bs env s : List ℕ) (top n : ℕ) : Type 0 where
   pub readable : Readable bs
