@@ -125,13 +125,18 @@ fn evaluate_in(table: &[u8], values: &[u8], sheet: &[u8], budget: u32, s: &mut [
     }
 }
 
+// The cells that a level of a condition takes, and what its lowest operation asks for beside two levels.
+const LEVEL: usize = 384;
+
+const LOWEST: usize = 130;
+
 // The cells that the condition takes above its values: none where no node of the table builds a value.
 fn room(table: &[u8], height: usize) -> usize
     requires { ⌜ Readable (now table) × (height ≡ rootHeight (tableOf (now table))) ⌝ }
     ensures { λ r. ⌜ RoomFor (now (table .entry)) r ⌝ }
 {
     if constants::builds(table) {
-        return 130 + 384 * height;
+        return LOWEST + LEVEL * height;
     }
     0
 }
