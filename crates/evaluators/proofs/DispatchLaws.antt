@@ -305,9 +305,9 @@ module _ {bs env s : List ℕ} {top k n left : ℕ} (v : Visited bs env s top k 
       (λ ρ _. let y = b ρ in rw (given-same (here (p .ready .kind) ρ) (y .value) (y .is)) (y .stands, omega (arith, y .ends), y .light)))
 
 -- An operand that stands already, where a visit is left.
-pub placed-answer : {bs env s : List ℕ} {top n at left : ℕ} → Ready bs env s top n → PlacedLeaf bs env n at → left ≢ 0 →
-    EvaluatesE bs env s top n left s (Placed at top (left - 1))
-placed-answer r p h = standing-answer (counted r _ h refl) p
+pub placed-answer : {bs env s : List ℕ} {top n at left l : ℕ} → Ready bs env s top n → PlacedLeaf bs env n at → left ≢ 0 → l ≡ left - 1 →
+    EvaluatesE bs env s top n left s (Placed at top l)
+placed-answer r p h q = rw q (standing-answer (counted r _ h refl) p)
 
 -- Where a leaf stands.
 module _ {bs env : List ℕ} {k n : ℕ} (p : StandingReady bs env k n) where

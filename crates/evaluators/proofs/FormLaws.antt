@@ -5,7 +5,7 @@ use mathlib.Core.List.{List, [], _∷_}
 use mathlib.Core.Option.{some}
 use mathlib.Core.Path.{_≡_, refl, ap}
 use native.Mathlib.Omega.{arith}
-use lib.ListN.{getD}
+use lib.ListN.{length, getD}
 use mir.Val.{boolByte}
 use Rattle.rules.specs.Values.{Value, set, truthValue, members, weight}
 use Rattle.rules.specs.Kinds.{boolOf, one, two, comprehension, One, Two, predicate, expression, kindOf}
@@ -18,9 +18,9 @@ use Rattle.rules.specs.Evaluation.{select, valueᵉ}
 use Rattle.arena.specs.Code.{code}
 use Rattle.arena.proofs.Standing.{same-trans}
 use Rattle.products.specs.Growing.{PutsCell}
-use Rattle.operations.specs.Outcomes.{oneGiven, twoGiven, Gives, OneReady, OneOf, TwoReady, TwoOf}
+use Rattle.operations.specs.Outcomes.{oneGiven, twoGiven, Gives, OneReady, OneOf, SomeOperands, TwoReady, TwoOf, SumOf}
 use Rattle.operations.specs.declared.Outcome.{Outcome}
-use Rattle.operations.specs.declared.Outcome.the-variants.{Built}
+use Rattle.operations.specs.declared.Outcome.the-variants.{Built, Cell}
 use Rattle.operations.proofs.KindLaws.{kind-of}
 use Rattle.constants.specs.Built.{Builds}
 use Rattle.reading.specs.declared.Refusal.{Refusal}
@@ -29,13 +29,15 @@ use Rattle.evaluators.specs.declared.Formed.{Formed}
 use Rattle.evaluators.specs.declared.Formed.the-variants.{Value as Placed, Stopped}
 use Rattle.evaluators.specs.declared.Range.the-variants.{Set, Unlike}
 use Rattle.evaluators.specs.Answers.{EndsWith, PlacedAs, SelectedAs, ChosenAs, SettleReady}
-use Rattle.evaluators.specs.Nodes.{fieldA, fieldB, IsPred, IsExpr, SomeGood, RangeAt}
+use Rattle.evaluators.specs.Nodes.{fieldA, fieldB, IsPred, IsExpr, PlacedLeaf, SomeGood, RangeAt}
 use Rattle.evaluators.specs.Cycle.{expressionCells, Ready, Visited, EvaluatesP, EvaluatesE, EachReady, bodyAt, EvaluatesChosen, Settles}
 use Rattle.evaluators.proofs.RunLaws.{then-done, then-refused, light-form, fitted-ends, fitting-on, fitting-refused}
 use Rattle.evaluators.proofs.NodeLaws.{Child, TwoFields, sizes-small, fields-tall, ready-first, visited-kind, visited-builds, visited-child, visited-operands}
 use Rattle.evaluators.proofs.NodeLaws.{Asks, some-asks, visits, after, valueIn, held-below, formed-below, treeᵉ, stopped-by, settled-by, settles-by}
 use Rattle.evaluators.proofs.BodyLaws.{Asked, some-asked, bodyOf}
-use Rattle.evaluators.proofs.BothLaws.{operands-ready, BothAs, StopsBoth, EvaluatesBoth}
+use Rattle.evaluators.proofs.DispatchLaws.{placed-answer}
+use Rattle.evaluators.proofs.SettleLaws.{settles-cell}
+use Rattle.evaluators.proofs.BothLaws.{operands-ready, BothAs, StopsBoth, EvaluatesBoth, left-ready, right-ready, both-formed}
 use Rattle.evaluators.proofs.RangeLaws.{placed-range, placed-good, placed-low, placed-unlike, RangeHere, range-here, in-range, each-ready}
 
 -- 27, 33, 35, 36, 38 and 43: the operand's node is `m`.
@@ -137,6 +139,26 @@ module _ {bs env s : List ℕ} {top k n left : ℕ} (x : Visited bs env s top k 
           (fitted-ends n (twoRule j) (v .first ∷ v .second ∷ []) (twoValue j (v .first) (v .second)) _ (v .rightEnds .steps)))),
       given₂ v,
     ))
+
+  -- Both operands stand already, and there are visits for them.
+  module _ {at other : ℕ} (p : PlacedLeaf bs env (fieldA bs n) at) (q : PlacedLeaf bs env (fieldB bs n) other) (three : 3 ≤ left) where
+    first-stands : EvaluatesE bs env s top (fieldA bs n) (left - 1) s (Placed at top (left - 2))
+    first-stands = placed-answer (left-ready (x .ready) two-fields refl .0) p (omega arith) (omega arith)
+
+    standing-both : EvaluatesBoth bs env s top n (left - 1) s at top other top (left - 3)
+    standing-both =
+        let r = right-ready (x .ready) two-fields refl first-stands refl refl .0 in
+        both-formed (x .ready) two-fields refl first-stands refl refl (placed-answer r q (omega arith) (omega arith)) refl
+
+    pub standing-operands : SomeOperands s at other
+    standing-operands = operands-ready (x .ready) standing-both
+
+    pub sum-room : top + 514 ≤ length s
+    sum-room = two-ready standing-both .room
+
+    pub sum-evaluates : {cell end : ℕ} {s′ : List ℕ} → SumOf k s at other (Cell cell) → PutsCell s top cell s′ end →
+        EvaluatesE bs env s top n left s′ (Placed top end (left - 3))
+    sum-evaluates op put = two-evaluates standing-both (op top) (settles-cell (two-settles standing-both (op top)) refl put)
 
 -- 25: the condition's node is `m`.
 pub byte-small : (b : Bool) → boolByte b ≤ 1

@@ -20,12 +20,13 @@ use Rattle.arena.specs.Code.{Same}
 use Rattle.constants.specs.Built.{Builds}
 use Rattle.constants.specs.Constants.{Constants}
 use Rattle.operations.specs.Good.{GoodAt}
-use Rattle.operations.specs.Outcomes.{Gives}
+use Rattle.operations.specs.Outcomes.{Gives, SumOf}
 use Rattle.operations.specs.declared.Outcome.{Outcome}
+use Rattle.operations.specs.declared.Outcome.the-variants.{Cell}
 use Rattle.evaluators.specs.declared.Held.{Held}
 use Rattle.evaluators.specs.declared.Formed.{Formed}
 use Rattle.evaluators.specs.declared.Bare.{Bare}
-use Rattle.evaluators.specs.Nodes.{IsPred, NoNegation, fieldA, fieldC}
+use Rattle.evaluators.specs.Nodes.{IsPred, NoNegation, fieldA, fieldB, fieldC, PlacedLeaf}
 use Rattle.evaluators.specs.Answers.{HeldAs, turnedBy, FormedAs, FormedBounds, Listed, ChosenAs, ChosenBounds, SettledAs}
 
 -- The values of the identifiers are good and stand where the environment says; the constants stand in the cells of their nodes.
@@ -123,6 +124,15 @@ pub record EvaluatesChosen (bs env s : List ℕ) (top n from count left : ℕ) (
   pub bounds : ChosenBounds top r
   pub answer : (f : ℕ) (ρ : Env) (budget steps : ℕ) (vs : Values) → n ≤ f → steps + left ≡ budget → Binds bs s top env ρ →
       Listed (tableOf bs .sizes) s top from count vs → ChosenAs (select (bodyAt bs budget n f ρ) (members vs) steps) budget s′ top r
+
+-- The operands of a node stand already, and their sum or difference has one cell.
+pub record StandingSum (bs env s : List ℕ) (k n left cell : ℕ) : Type 0 where
+  pub at : ℕ
+  pub other : ℕ
+  pub first : PlacedLeaf bs env (fieldA bs n) at
+  pub second : PlacedLeaf bs env (fieldB bs n) other
+  pub visits : 3 ≤ left
+  pub sum : SumOf k s at other (Cell cell)
 
 -- What a node gives has been settled at `top`.
 pub record Settles (s : List ℕ) (o : Outcome) (mid next top node left : ℕ) (s′ : List ℕ) (r : Formed) : Type 0 where

@@ -1,6 +1,7 @@
 // The evaluators: the value rules of document 01 at each node of a readable table, over an arena of cells.
 ghost use mathlib.Core.Path.{_≡_};
-ghost use Prim.Native.Nat.{_<_};
+ghost use Prim.Native.Nat.{ℕ, _<_};
+ghost use mathlib.Core.Logic.{_≢_};
 ghost use Rattle.rules.specs.Kinds.{join, test, quant, one, two};
 ghost use Rattle.rules.specs.Tables.{nodeCount};
 ghost use Rattle.rules.specs.Readable.{Readable};
@@ -8,7 +9,7 @@ ghost use Rattle.evaluators.specs.declared.Held.the-variants.{Refused};
 ghost use Rattle.evaluators.specs.declared.Formed.the-variants.{Stopped};
 ghost use Rattle.evaluators.specs.Answers.{RefusalOf, StopOf, turnedBy, SettleReady};
 ghost use Rattle.evaluators.specs.Nodes.{IsPred, IsExpr, NoNegation, DecidesBy, JoinedBy, quantOf, SomeGood, RangeAt, StandingReady, PlacedLeaf, PlaceReady, PlaceAt, LeafNode, LeafFormed, ChooseReady, Chooses};
-ghost use Rattle.evaluators.specs.Cycle.{Ready, Visited, Sort, Bares, EvaluatesP, EvaluatesE, EachReady, EvaluatesEach, EvaluatesChosen, Settles};
+ghost use Rattle.evaluators.specs.Cycle.{Ready, Visited, Sort, Bares, EvaluatesP, EvaluatesE, EachReady, EvaluatesEach, EvaluatesChosen, Settles, StandingSum};
 use operations::Outcome;
 use operations::Tested;
 use reading::Refusal;
@@ -497,7 +498,7 @@ fn settle(
     ensures { λ x. ⌜ Settles (now (s .entry)) r mid next top node left (now (s .exit)) x ⌝ }
 {
     match r {
-        Outcome::Lacks(k) => stopped(k as usize, node, left),
+        Outcome::Lacks(k) => stopped(k, node, left),
         Outcome::Within(at) => Formed::Value { at, end: mid, left },
         Outcome::Cell(cell) => {
             let end = products::put_cell(s, top, cell);
@@ -542,7 +543,45 @@ fn eval_one(
     settle(s, r, next, next, top, node, n)
 }
 
-// 28 to 32, 37 and 39 to 41
+// The cell of the sum or the difference (39, 40) of operands that stand already, where there are visits for all three nodes; 0 otherwise.
+fn standing_sum(
+    table: &[u8],
+    env: &[u32; 32],
+    s: &[u64],
+    kind: usize,
+    node: usize,
+    left: u32,
+) -> u64
+    requires { ⌜ ((top : ℕ) × Visited (now table) (now env) (now s) top kind node left) × Sort two kind ⌝ }
+    ensures { λ r. ⌜ (r ≢ 0 → StandingSum (now (table .entry)) (now (env .entry)) (now (s .entry)) kind node left r) ⌝ }
+{
+    if kind < 39 {
+        return 0;
+    }
+    if kind > 40 {
+        return 0;
+    }
+    if left < 3 {
+        return 0;
+    }
+    let a = table::node_field(table, node, 0);
+    let x = leaf_place(table, env, a);
+    if x == 0 {
+        return 0;
+    }
+    let b = table::node_field(table, node, 1);
+    let y = leaf_place(table, env, b);
+    if y == 0 {
+        return 0;
+    }
+    let r = operations::sum(s, kind, x, y);
+    let Outcome::Cell(cell) = r else {
+        return 0;
+    };
+    cell
+}
+
+// 28 to 32, 37 and 39 to 41. A sum of identifiers or constants is made without the operands' answers, which go through memory.
 fn eval_two(
     table: &[u8],
     env: &[u32; 32],
@@ -555,6 +594,15 @@ fn eval_two(
     requires { ⌜ Visited (now table) (now env) (now s) top kind node left × Sort two kind ⌝ }
     ensures { λ r. ⌜ EvaluatesE (now (table .entry)) (now (env .entry)) (now (s .entry)) top node left (now (s .exit)) r ⌝ }
 {
+    let cell = standing_sum(table, env, s, kind, node, left);
+    if cell > 0 {
+        let end = products::put_cell(s, top, cell);
+        return Formed::Value {
+            at: top,
+            end,
+            left: left - 3,
+        };
+    }
     let a = table::node_field(table, node, 0);
     let first = operand(table, env, s, top, a, left - 1);
     let Formed::Value {

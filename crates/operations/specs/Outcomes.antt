@@ -133,6 +133,10 @@ OneOf k s a top s′ r = (j : One) → kindOf k ≡ some (one j) → OneDone j s
 abbrev pub TwoOf : ℕ → List ℕ → ℕ → ℕ → ℕ → List ℕ → Outcome → Type 0
 TwoOf k s a b top s′ r = (j : Two) → kindOf k ≡ some (two j) → TwoDone j s a b top s′ r
 
+-- A sum or a difference builds nothing.
+abbrev pub SumOf : ℕ → List ℕ → ℕ → ℕ → Outcome → Type 0
+SumOf k s a b r = (top : ℕ) → TwoOf k s a b top s r
+
 abbrev pub TestOf : ℕ → List ℕ → ℕ → ℕ → Tested → Type 0
 TestOf k s a b r = (j : Test) → kindOf k ≡ some (test j) → TestDone j s a b r
 

@@ -1,6 +1,7 @@
 // What each kind gives for its operands' values, by kind codes: refusals 15 to 18, and values built in the arena.
 ghost use mathlib.Core.Path.{_≡_};
-ghost use Rattle.operations.specs.Outcomes.{ended, OneReady, OneOf, SomeOperands, TwoReady, TwoOf, TestOf, LeafReady, LeafDone};
+ghost use Prim.Native.Nat.{_≤_};
+ghost use Rattle.operations.specs.Outcomes.{ended, OneReady, OneOf, SomeOperands, TwoReady, TwoOf, SumOf, TestOf, LeafReady, LeafDone};
 
 mod double;
 pub mod leaves;
@@ -13,7 +14,7 @@ pub enum Outcome {
     Built(usize),
     Within(usize),
     Cell(u64),
-    Lacks(u8),
+    Lacks(usize),
 }
 
 // The truth of a test, or that its operands are not alike (15).
@@ -56,6 +57,17 @@ pub fn leaf(s: &mut [u64], kind: usize, a: u64, size: u64, top: usize) -> usize
     match kind {
         21 => products::elements(s, a, size, top),
         _ => products::booleans(s, top),
+    }
+}
+
+// Kinds 39 and 40 of the operands at a and b.
+pub fn sum(s: &[u64], kind: usize, a: usize, b: usize) -> Outcome
+    requires { ⌜ SomeOperands (now s) a b × (39 ≤ kind) × (kind ≤ 40) ⌝ }
+    ensures { λ r. ⌜ SumOf kind (now (s .entry)) a b r ⌝ }
+{
+    match kind {
+        39 => double::plus(s, a, b),
+        _ => double::minus(s, a, b),
     }
 }
 

@@ -1,5 +1,4 @@
 -- `settle`: by what the operation answers. Landmark: what was lent.
-use native.Mathlib.Omega.{arith}
 use Rattle.evaluators.proofs.SettleLaws.{settles-lacks, settles-within, settles-cell, built-above, settle-room, settles-built}
 use borrow.Author.Needs.{needs}
 use Rattle.evaluators.proofs.settle.Statement.{statement}
@@ -26,7 +25,6 @@ settle-spec =
     tie.close
     (tie.spec
     (λ c. c .match .keys1)
-    (λ c. omega (arith, c .known-told .given))
     (λ c κs. tt)
     (λ c. c .match .keys2)
     (λ c. c .match .keys3)

@@ -1,39 +1,63 @@
--- `eval_two`: the operands one after the other, the operation, and what it gives settled; a refusal of an operand goes on. Landmarks: what
--- was lent, the words of the fields, the answers for the operands, and the operation.
+-- `eval_two`: a sum of operands that stand already is put at `top`; otherwise the operands one after the other, the operation, and what it gives
+-- settled, where a refusal of an operand goes on. Landmarks: what was lent, the sum, the words of the fields, the answers for the operands, and
+-- the operation.
 use Prim.Native.Nat.{ℕ, _-_}
 use mathlib.Core.Path.{refl, sym, _∙_}
+use native.Mathlib.Omega.{arith}
 use lib.Dec.{lit<}
 use denote.Ref.{now}
 use Rattle.evaluators.proofs.+each_chosen+each_member+eval_bare+eval_bool+eval_expr+eval_join+eval_one+eval_pred+eval_quant+eval_select+eval_test+eval_two+eval_value+operand.Lts-eval_two as lts
 use Rattle.table.proofs.node_field.Reads as field
+use Rattle.evaluators.proofs.standing_sum.Reads as sum
+use Rattle.products.proofs.put_cell.Reads as cell
 use Rattle.evaluators.proofs.settle.Reads as settle
 use Rattle.operations.proofs.two.Reads as two
 use Rattle.evaluators.proofs.+each_chosen+each_member+eval_bare+eval_bool+eval_expr+eval_join+eval_one+eval_pred+eval_quant+eval_select+eval_test+eval_two+eval_value+operand.Proof.Base.{Over, eval-two, operand}
+use Rattle.evaluators.specs.Cycle.{StandingSum}
 use Rattle.evaluators.proofs.SafeLaws.{ready-node}
 use Rattle.evaluators.proofs.NodeLaws.{TwoFields, formed-as}
 use Rattle.evaluators.proofs.BothLaws.{EvaluatesBoth, left-asks, right-asks, both-stops, both-stops-2, both-formed}
-use Rattle.evaluators.proofs.FormLaws.{two-fields, two-ready, two-fails, two-settles, two-evaluates}
+use Rattle.evaluators.proofs.FormLaws.{two-fields, two-ready, two-fails, two-settles, two-evaluates, sum-room, sum-evaluates}
 
 module _ (t : ℕ) where
   abbrev claims : lts.Claims
-  claims = (field.Asked, field.Learnt, operand .below t, operand .post, two.Asked, two.Learnt, settle.Asked, settle.Learnt)
+  claims = (
+    sum.Asked,
+    sum.Learnt,
+    cell.Asked,
+    cell.Learnt,
+    field.Asked,
+    field.Learnt,
+    operand .below t,
+    operand .post,
+    two.Asked,
+    two.Learnt,
+    settle.Asked,
+    settle.Learnt,
+  )
 
   abbrev Here : Over lts.Claims lts.ps lts.r → Type 0
   Here T = T claims (eval-two .at t) (eval-two .post)
 
+  abbrev asks : Here lts.After-standing-sum-arg → Here lts.Start
+  asks c = c .before .before .before
+
   abbrev lent : Here lts.After-node-field → Here lts.Start
-  lent c = c .before .before .before
+  lent c = asks (c .before .before .before)
+
+  abbrev summed : Here lts.After-put-cell-arg → Here lts.After-standing-sum
+  summed c = c .before .before
 
   abbrev word : Here lts.After-operand → Here lts.After-node-field
   word c = c .before .before
 
-  abbrev ran : Here lts.After-slice-known2 → Here lts.After-operand
+  abbrev ran : Here lts.After-slice-known3 → Here lts.After-operand
   ran c = c .before .before
 
   abbrev placed : Here lts.After-node-field2 → Here lts.After-first
   placed c = c .before .before
 
-  abbrev ran₂ : Here lts.After-slice-known3 → Here lts.After-operand2
+  abbrev ran₂ : Here lts.After-slice-known4 → Here lts.After-operand2
   ran₂ c = c .before .before
 
   abbrev first : Here lts.After-operand2 → Here lts.After-operand
@@ -51,8 +75,17 @@ module _ (t : ℕ) where
   fields : (v : Here lts.Start) → TwoFields (now (v .args .table)) (v .args .node)
   fields v = two-fields (v .pre .1 .0) (v .pre .1 .1 .0) (v .pre .1 .1 .1)
 
+  stands : (c : Here lts.After-put-cell-arg) → let a = asks (summed c .before) .args in
+      StandingSum (now (a .table)) (now (a .env)) (now (a .s)) (a .kind) (a .node) (a .left) (summed c .standing-sum .result)
+  stands c = summed c .standing-sum .ensures (λ z. omega (arith, c .before .if1 .taken, z))
+
   returns : Here lts.Need-returns
   returns c =
+      let p = c .before .before in let g = p .before in let v = asks (summed g .before) in let z = stands g in
+      sum-evaluates (v .pre .1 .0) (v .pre .1 .1 .0) (v .pre .1 .1 .1) (z .first) (z .second) (z .visits) (z .sum) (p .put-cell .ensures)
+
+  returns-2 : Here lts.Need-returns-2
+  returns-2 c =
       let e = ran (c .before .before) in let v = lent (word e) in
       formed-as refl (sym (c .enum-told .given .1)) (two-fails (v .pre .1 .0) (v .pre .1 .1 .0) (v .pre .1 .1 .1)
       (both-stops (v .pre .1 .0 .ready) (fields v) (word e .node-field .ensures) (e .operand .ensures) (c .enum-told .given .1)))
@@ -62,8 +95,8 @@ module _ (t : ℕ) where
       let g = c .before in let m = placed g in let e = ran (m .before .before) in let v = lent (word e) in
       right-asks (v .pre .0) (v .pre .1 .0) (fields v) (word e .node-field .ensures) (e .operand .ensures) (m .first .given .1) (g .node-field2 .ensures)
 
-  returns-2 : Here lts.Need-returns-2
-  returns-2 c =
+  returns-3 : Here lts.Need-returns-3
+  returns-3 c =
       let s = ran₂ (c .before .before) in let e = first s in let v = lent (word e) in let g = s .before .before in
       formed-as refl (sym (c .enum-told2 .given .1)) (two-fails (v .pre .1 .0) (v .pre .1 .1 .0) (v .pre .1 .1 .1)
       (both-stops-2 (v .pre .1 .0 .ready) (fields v) (word e .node-field .ensures) (e .operand .ensures) (placed g .first .given .1)
@@ -85,31 +118,36 @@ module _ (t : ℕ) where
       let q = c .before .before .before in let w = done q in let p = begun w .pre .1 in
       two-settles (p .0) (p .1 .0) (p .1 .1) (formed w) (q .two .ensures)
 
-  same-length-3 : Here lts.Need-same-length-3
-  same-length-3 c =
+  same-length-4 : Here lts.Need-same-length-4
+  same-length-4 c =
       let p = c .before .before in let q = settled p in let w = done q in let s = ran₂ (w .before .before) in
       p .settle .kept .0 ∙ q .two .kept .0 ∙ s .operand2 .kept .1 .1 .0 ∙ first s .operand .kept .1 .1 .0
 
-  returns-3 : Here lts.Need-returns-3
-  returns-3 c =
+  returns-4 : Here lts.Need-returns-4
+  returns-4 c =
       let q = settled (c .before .before) in let w = done q in let p = begun w .pre .1 in
       two-evaluates (p .0) (p .1 .0) (p .1 .1) (formed w) (q .two .ensures) (c .before .before .settle .ensures)
 
   pub closed : {M : Type 1} → lts.Closed claims (eval-two .at t) (eval-two .post) M
   closed =
       lts.spec claims (eval-two .at t) (eval-two .post)
-      (λ c κs. (ready-node (c .before .before .pre .1 .0 .ready), lit< tt))
+      (λ c κs. let p = c .before .before .before .pre .1 in ((_, p .0), p .1))
+      (λ c κs. let p = asks (summed c .before) .pre .1 in let z = stands c in sum-room (p .0) (p .1 .0) (p .1 .1) (z .first) (z .second) (z .visits))
+      (λ c. stands (c .before .before .before) .visits)
+      (λ c. c .before .before .put-cell .kept .0)
+      returns
+      (λ c κs. (ready-node (asks (c .before .before) .pre .1 .0 .ready), lit< tt))
       (λ c. lent (c .before) .pre .1 .0 .unspent)
       (λ c κs. let f = c .before in let v = lent f in left-asks (v .pre .0) (v .pre .1 .0) (fields v) (f .node-field .ensures))
       (λ c. c .match .keys1) (λ c. c .match .keys2)
       (λ c. ran (c .before .before) .operand .kept .1 .1 .0)
-      returns
+      returns-2
       (λ c κs. let m = c .before in (ready-node (lent (word (ran (m .before .before))) .pre .1 .0 .ready), lit< tt))
       operand-requires-2
       (λ c. c .match2 .keys1) (λ c. c .match2 .keys2)
       (λ c. let s = ran₂ (c .before .before) in s .operand2 .kept .1 .1 .0 ∙ first s .operand .kept .1 .1 .0)
-      returns-2
+      returns-3
       (λ c κs. let w = c .before .before in let p = begun w .pre .1 in two-ready (p .0) (p .1 .0) (p .1 .1) (formed w))
       settle-requires
-      same-length-3
-      returns-3
+      same-length-4
+      returns-4

@@ -1,5 +1,6 @@
 -- `operand`: an identifier's value where a visit is left, and otherwise what `eval_expr` answers. Landmarks: what was lent, and the place.
 use Prim.Native.Nat.{ℕ}
+use mathlib.Core.Path.{refl}
 use native.Mathlib.Omega.{arith}
 use borrow.Author.Tests.{eqb-false}
 use Rattle.evaluators.proofs.+each_chosen+each_member+eval_bare+eval_bool+eval_expr+eval_join+eval_one+eval_pred+eval_quant+eval_select+eval_test+eval_two+eval_value+operand.Lts-operand as lts
@@ -20,7 +21,7 @@ module _ (t : ℕ) where
   returns-2 : Here lts.Need-returns-2
   returns-2 c =
       let i = c .before in let v = lent (i .before) in
-      placed-answer (v .pre .1 .0) (i .before .leaf-place .ensures (i .if1 .left)) (eqb-false (v .args .left) 0 (c .if2 .left))
+      placed-answer (v .pre .1 .0) (i .before .leaf-place .ensures (i .if1 .left)) (eqb-false (v .args .left) 0 (c .if2 .left)) refl
 
   pub closed : {M : Type 1} → lts.Closed claims (operand .at t) (operand .post) M
   closed =
