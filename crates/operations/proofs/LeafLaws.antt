@@ -29,10 +29,10 @@ cell-truth k a b n m = rw (ne-eqb k 22 n, ne-eqb k 23 m)
 
 -- What is asked for a given set.
 pub elements-ready : {k a size : ℕ} {s : List ℕ} {top : ℕ} → LeafReady k a size s top → k ≡ 21 →
-    (a < 16777216) × (size ≤ 32) × (top + 514 ≤ length s)
+    (a < 16777216) × (size ≤ 32) × (top + 1 + size ≤ length s)
 elements-ready {k} {a} {size} p e =
     let f : LeafFits givenSet a size = subst (λ (i : Leaf). LeafFits i a size) (sym (same-leaf k givenSet (p .kind) e (p .is))) (p .fits) in
-    (omega (arith, f .0), f .1, p .room)
+    (omega (arith, f .0), f .1, omega (arith, f .1, p .room))
 
 built-made : {top r : ℕ} {s s′ : List ℕ} {v : Value} → Made top s s′ v r → weight v ≤ 256 → BuiltAt s′ top (gives v) r
 built-made {v = v} m l = record { value = v; is = refl; stands = m .light l .1; ends = m .light l .0; light = l }
