@@ -23,34 +23,34 @@ fn tiny(table: &[u8], values: &[u8], sheet: &[u8], budget: u32) -> GuardedRun
 }
 
 fn small(table: &[u8], values: &[u8], sheet: &[u8], budget: u32) -> GuardedRun
-    requires { ⌜ Needs (now table) (now values) 1280 ⌝ }
+    requires { ⌜ Needs (now table) (now values) 1024 ⌝ }
     ensures { λ r. ⌜ Judged (now (table .entry)) (now (values .entry)) (now (sheet .entry)) budget r ⌝ }
 {
-    let mut s = [0u64; 1280];
+    let mut s = [0u64; 1024];
     evaluate_in(table, values, sheet, budget, &mut s)
 }
 
 fn middle(table: &[u8], values: &[u8], sheet: &[u8], budget: u32) -> GuardedRun
-    requires { ⌜ Needs (now table) (now values) 2304 ⌝ }
+    requires { ⌜ Needs (now table) (now values) 1920 ⌝ }
     ensures { λ r. ⌜ Judged (now (table .entry)) (now (values .entry)) (now (sheet .entry)) budget r ⌝ }
 {
-    let mut s = [0u64; 2304];
+    let mut s = [0u64; 1920];
     evaluate_in(table, values, sheet, budget, &mut s)
 }
 
 fn large(table: &[u8], values: &[u8], sheet: &[u8], budget: u32) -> GuardedRun
-    requires { ⌜ Needs (now table) (now values) 4864 ⌝ }
+    requires { ⌜ Needs (now table) (now values) 4480 ⌝ }
     ensures { λ r. ⌜ Judged (now (table .entry)) (now (values .entry)) (now (sheet .entry)) budget r ⌝ }
 {
-    let mut s = [0u64; 4864];
+    let mut s = [0u64; 4480];
     evaluate_in(table, values, sheet, budget, &mut s)
 }
 
 fn larger(table: &[u8], values: &[u8], sheet: &[u8], budget: u32) -> GuardedRun
-    requires { ⌜ Needs (now table) (now values) 12544 ⌝ }
+    requires { ⌜ Needs (now table) (now values) 12160 ⌝ }
     ensures { λ r. ⌜ Judged (now (table .entry)) (now (values .entry)) (now (sheet .entry)) budget r ⌝ }
 {
-    let mut s = [0u64; 12544];
+    let mut s = [0u64; 12160];
     evaluate_in(table, values, sheet, budget, &mut s)
 }
 
@@ -58,7 +58,7 @@ fn largest(table: &[u8], values: &[u8], sheet: &[u8], budget: u32) -> GuardedRun
     requires { ⌜ Needs (now table) (now values) largestArena ⌝ }
     ensures { λ r. ⌜ Judged (now (table .entry)) (now (values .entry)) (now (sheet .entry)) budget r ⌝ }
 {
-    let mut s = [0u64; 19203];
+    let mut s = [0u64; 18819];
     evaluate_in(table, values, sheet, budget, &mut s)
 }
 
@@ -69,11 +69,11 @@ fn size(k: usize) -> usize
     match k {
         0 => 136,
         1 => 320,
-        2 => 1280,
-        3 => 2304,
-        4 => 4864,
-        5 => 12544,
-        _ => 19203,
+        2 => 1024,
+        3 => 1920,
+        4 => 4480,
+        5 => 12160,
+        _ => 18819,
     }
 }
 

@@ -44,21 +44,21 @@ elements-weight g k (suc n) = omega (arith, elements-weight g (suc k) n)
 
 -- A given set by its code, and BOOL by any other.
 module _ {k a size top r : ℕ} {s s′ : List ℕ} where
-  pub elements-done : k ≡ 21 → Made top s s′ (setOf (elementsFrom a 0 size)) r → LeafDone k a size s top s′ r
+  pub elements-done : LeafReady k a size s top → k ≡ 21 → Made top s s′ (setOf (elementsFrom a 0 size)) r → LeafDone k a size s top s′ r
   unfolding leafValue
-  elements-done e m = record {
-    frame = m .frame;
-    answer = λ j gs b ρ f h g.
-        let d : givenSet ≡ j = same-leaf k givenSet j e f in
-        let size-fits = subst (λ (x : Leaf). LeafFits x a size) (sym d) h .1 in
-        subst (λ (x : Leaf). BuiltAt s′ top (gives (leafValue gs x a b ρ)) r) d
-        (subst (λ (n : ℕ). BuiltAt s′ top (gives (setOf (elementsFrom a 0 n))) r) (sym g)
-        (built-made m (omega (arith, size-fits, elements-weight a 0 size))));
-  }
+  elements-done p e m =
+      let w : weight (setOf (elementsFrom a 0 size)) ≤ 33 = omega (arith, elements-ready p e .1, elements-weight a 0 size) in
+      record {
+        frame = m .frame;
+        near = omega (arith, m .light (omega arith) .0);
+        answer = λ j gs b ρ f h g.
+            subst (λ (i : Leaf). BuiltAt s′ top (gives (leafValue gs i a b ρ)) r) (same-leaf k givenSet j e f)
+            (subst (λ (n : ℕ). BuiltAt s′ top (gives (setOf (elementsFrom a 0 n))) r) (sym g) (built-made m (omega arith)));
+      }
 
   pub booleans-done : k ≢ 21 → Made top s s′ (setOf (truthValue false ∷ truthValue true ∷ [])) r → LeafDone k a size s top s′ r
   unfolding leafValue
-  booleans-done n m = record { frame = m .frame; answer = λ j gs b ρ e f g. here j gs b ρ e f }
+  booleans-done n m = record { frame = m .frame; near = omega (arith, m .light (omega arith) .0); answer = λ j gs b ρ e f g. here j gs b ρ e f }
     where
       here : (j : Leaf) (gs : List ℕ) (b : ℕ) (ρ : Env) → kindOf k ≡ some (leaf j) → LeafFits j a size →
           BuiltAt s′ top (gives (leafValue gs j a b ρ)) r
