@@ -117,9 +117,7 @@ module _ {bs env s : List ℕ} {top n : ℕ} (x : Ready bs env s top n) (y : Two
               low = placed .bounds .0;
               high = placed .bounds .1;
               order = k .bounds .0;
-              near =
-                  let a = left-child in
-                  omega (arith, a .lower, a .tall, placed .bounds .1, placed .bounds .2, right-child .lower, k .bounds .1, k .bounds .2);
+              near = omega (arith, left-child .lower, left-child .tall, right-child .lower, placed .bounds, k .bounds);
               answer = λ i.
                   let v = first-at i in
                   let w = formed-below (second i) right-child q′ (Placed other next u) k in

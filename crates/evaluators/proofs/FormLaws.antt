@@ -3,14 +3,14 @@ use Prim.Native.Nat.{ℕ, _+_, _-_, _≤_, _<_}
 use mathlib.Core.Bool.{Bool, true, false}
 use mathlib.Core.List.{List, [], _∷_}
 use mathlib.Core.Option.{some}
-use mathlib.Core.Path.{_≡_, refl, ap}
+use mathlib.Core.Path.{_≡_, refl}
 use native.Mathlib.Omega.{arith}
 use lib.ListN.{getD}
 use mir.Val.{boolByte}
 use Rattle.rules.specs.Values.{Value, set, truthValue, members, weight}
 use Rattle.rules.specs.Kinds.{boolOf, one, two, comprehension, One, Two, predicate, expression, kindOf}
 use Rattle.rules.specs.Rules.{oneRule, twoRule, comprehensionRule}
-use Rattle.rules.specs.Tables.{tableOf, nodeAt, fieldWords, kindAt}
+use Rattle.rules.specs.Tables.{tableOf, nodeAt, fieldWords}
 use Rattle.rules.specs.Ends.{End}
 use Rattle.rules.specs.Runs.{Run, M, _>>=_, form, gives}
 use Rattle.rules.specs.Operations.{elems, setOf, oneValue, twoValue}
@@ -30,9 +30,9 @@ use Rattle.evaluators.specs.declared.Formed.the-variants.{Value as Place
 use Rattle.evaluators.specs.declared.Range.the-variants.{Set, Unlike}
 use Rattle.evaluators.specs.Answers.{EndsWith, PlacedAs, SelectedAs, ChosenAs, SettleReady}
 use Rattle.evaluators.specs.Nodes.{fieldA, fieldB, IsPred, IsExpr, SomeGood, RangeAt}
-use Rattle.evaluators.specs.Cycle.{expressionCells, Ready, Visited, EvaluatesP, EvaluatesE, EachReady, bodyAt, EvaluatesChosen, Settles}
+use Rattle.evaluators.specs.Cycle.{Ready, Visited, EvaluatesP, EvaluatesE, EachReady, bodyAt, EvaluatesChosen, Settles}
 use Rattle.evaluators.proofs.RunLaws.{then-done, then-refused, light-form, fitted-ends, fitting-on, fitting-refused}
-use Rattle.evaluators.proofs.NodeLaws.{Child, TwoFields, sizes-small, ready-first, visited-kind, visited-builds, operand-room, visited-child, visited-operands}
+use Rattle.evaluators.proofs.NodeLaws.{Child, TwoFields, sizes-small, ready-first, visited-kind, visited-builds, operation-room, visited-child, visited-operands}
 use Rattle.evaluators.proofs.NodeLaws.{Asks, some-asks, visits, after, valueIn, held-below, formed-below, treeᵉ, stopped-by, settled-by, settles-by}
 use Rattle.evaluators.proofs.BodyLaws.{Asked, some-asked, bodyOf}
 use Rattle.evaluators.proofs.BothLaws.{operands-ready, BothAs, StopsBoth, EvaluatesBoth}
@@ -64,7 +64,7 @@ module _ {bs env s : List ℕ} {top k n m left : ℕ} (x : Visited bs env s top 
           small = sizes-small bs (x .ready .readable);
           value = v .value;
           operand = v .place;
-          room = operand-room x (one j) e refl refl one-child h;
+          room = operation-room x (one j) e next refl refl (h .frame) (omega (arith, one-child .lower, one-child .tall, h .bounds));
         }
 
     module _ {s₂ : List ℕ} {o : Outcome} (op : OneOf k s₁ at next s₂ o) where
@@ -99,10 +99,7 @@ module _ {bs env s : List ℕ} {top k n left : ℕ} (x : Visited bs env s top k 
 
   -- What the operation may take for granted of its operands.
   pub two-ready : {s₁ : List ℕ} {at mid other next l : ℕ} → EvaluatesBoth bs env s top n (left - 1) s₁ at mid other next l → TwoReady s₁ at other next
-  two-ready h =
-      let c : expressionCells (kindAt (tableOf bs .nodes) n) ≡ 128 = ap expressionCells (visited-kind x (two j) e) in
-      let b = x .ready .room (visited-builds x (two j) e refl) in
-      record { operands = operands-ready (x .ready) h .1; room = omega (arith, b, c, h .near, h .frame .kept) }
+  two-ready h = record { operands = operands-ready (x .ready) h .1; room = operation-room x (two j) e _ refl refl (h .frame) (h .near) }
 
   pub two-fails : {s₁ : List ℕ} {r : Refusal} {l : ℕ} → StopsBoth bs env s top n (left - 1) s₁ r l → EvaluatesE bs env s top n left s₁ (Stopped r l)
   unfolding valueᵉ
@@ -274,7 +271,8 @@ module _ {bs env s : List ℕ} {top n m left : ℕ} (x : Visited bs env s top 34
               low = h .bounds .0;
               high = h .bounds .1;
               order = omega arith;
-              room = omega (arith, operand-room x comprehension select-code refl refl select-child h, ch .frame .kept);
+              room = operation-room x comprehension select-code next refl refl (same-trans top next s s₁ s₂ (h .frame) (ch .frame) (h .bounds .0))
+                  (omega (arith, select-child .lower, select-child .tall, h .bounds));
             }
 
         pub select-evaluates : {s₃ : List ℕ} {r : Formed} → Settles s₂ (Built end) next next top n u s₃ r → EvaluatesE bs env s top n left s₃ r

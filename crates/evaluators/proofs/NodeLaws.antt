@@ -35,7 +35,7 @@ use Rattle.evaluators.specs.declared.Formed.the-variants.{Value as Place
 use Rattle.reading.specs.declared.Refusal.{Refusal}
 use Rattle.evaluators.specs.Answers.{EndsWith, HeldAs, FormedAs, FormedBounds, SettledAs, RefusalOf, StopOf}
 use Rattle.evaluators.specs.Nodes.{fieldA, fieldB}
-use Rattle.evaluators.specs.Cycle.{expressionCells, cellsFor, Binds, Ready, Visited, holdsAt, valueAt, EvaluatesP, EvaluatesE, Settles}
+use Rattle.evaluators.specs.Cycle.{conditionCells, expressionCells, cellsFor, Binds, Ready, Visited, holdsAt, valueAt, EvaluatesP, EvaluatesE, Settles}
 use Rattle.evaluators.proofs.RunLaws.{visited, endOf}
 
 -- The sizes of a readable table are small.
@@ -193,11 +193,10 @@ module _ {bs env s : List ℕ} {top k n left : ℕ} (v : Visited bs env s top k 
   pub visited-builds : built (some x) ≡ true → Builds bs
   visited-builds q = record { node = n; below = v .ready .node; is = ap built visited-kind ∙ q }
 
-  -- An operation has room above its operand.
-  pub operand-room : {s′ : List ℕ} {m at next l l′ : ℕ} → built (some x) ≡ true → expressionCells (some x) ≡ 128 → Child bs n m expression →
-      EvaluatesE bs env s top m l s′ (Placed at next l′) → next + 514 ≤ length s′
-  operand-room q c d h =
-      omega (arith, v .ready .room (visited-builds q), ap expressionCells visited-kind ∙ c, d .lower, d .tall, h .bounds .1, h .bounds .2, h .frame .kept)
+  -- An operation has room above its operands, which end at `next`.
+  pub operation-room : {s′ : List ℕ} (next : ℕ) → built (some x) ≡ true → expressionCells (some x) ≡ 128 → Same top s s′ →
+      next + 514 ≤ top + conditionCells (height (tableOf bs .nodes) n) + 128 → next + 514 ≤ length s′
+  operation-room next q c same near = omega (arith, v .ready .room (visited-builds q), ap expressionCells visited-kind ∙ c, same .kept)
 
   pub visited-child : (c : Category) (i m : ℕ) → i < 3 → i < length (fieldsOf x) → getD (fieldsOf x) i unused ≡ child c →
       m ≡ getD (fieldWords (nodeAt (tableOf bs .nodes) n)) i 0 → Child bs n m c
@@ -339,16 +338,11 @@ module _ {bs env s : List ℕ} {top k n left : ℕ} (v : Visited bs env s top k 
       settled-as bs (i .budget) f n (i .values) (i .steps) (v .ready .readable) (i .binds .good) (y .0) (rw q (y .1)) s′ r (y .2))
 
 -- So too where `settle` has settled it, over the arena s₂ that the operation leaves; the node has a child.
-higher-bounds : {h : ℕ} (top : ℕ) → 2 ≤ h → (r : Formed) → FormedBounds 2 top r → FormedBounds h top r
-higher-bounds top l (Placed at next _) b = omega (arith, l, b .0, b .1)
-higher-bounds top l (Stopped r _) b = tt
-
 pub settles-by : {bs env s : List ℕ} {top k n left : ℕ} (v : Visited bs env s top k n left) (x : Kind) (e : kindOf k ≡ some x) {s₁ s₂ s₃ : List ℕ}
     {mid next at l m : ℕ} {c : Category} {o : Outcome} {r : Formed} → Child bs n m c →
     Same top s s₁ → top ≤ at → Same at s₁ s₂ → Settles s₂ o mid next top n l s₃ r →
     ((i : Asks bs env s top n left) → (g : Given) × EndsWith (treeᵉ x i) (endOf n g) (i .budget) l × Gives s₂ mid next g o) →
     EvaluatesE bs env s top n left s₃ r
-settles-by {s = s} {top = top} v x e {s₁} {s₂} {s₃} {at = at} {r = r} d same low over st h =
+settles-by {s = s} {top = top} v x e {s₁} {s₂} {s₃} {at = at} d same low over st h =
     settled-by v x e (same-trans top top s s₂ s₃ (same-trans top at s s₁ s₂ same over low) (st .frame) (omega arith))
-    (higher-bounds top (omega (arith, d .lower, d .tall)) r (st .bounds))
-    (λ i. let y = h i in (y .0, y .1, st .answer (y .0) (y .2)))
+    (st .bounds _ (omega (arith, d .lower, d .tall))) (λ i. let y = h i in (y .0, y .1, st .answer (y .0) (y .2)))

@@ -131,5 +131,5 @@ pub record EvaluatesChosen (bs env s : List ℕ) (top n from count left : ℕ) (
 -- What a node gives has been settled at `top`. The node has operands, so that its height is 2 or more.
 pub record Settles (s : List ℕ) (o : Outcome) (mid next top node left : ℕ) (s′ : List ℕ) (r : Formed) : Type 0 where
   pub frame : Same top s s′
-  pub bounds : FormedBounds 2 top r
+  pub bounds : (h : ℕ) → 2 ≤ h → FormedBounds h top r
   pub answer : (g : Given) → Gives s mid next g o → SettledAs g s′ node left r
