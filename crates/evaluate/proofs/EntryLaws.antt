@@ -39,7 +39,7 @@ use Rattle.evaluators.specs.Answers.{HeldAs}
 use Rattle.evaluators.specs.Cycle.{conditionCells, expressionCells, Binds, Ready, holdsAt, EvaluatesP}
 use Rattle.evaluators.specs.Nodes.{IsPred}
 use Rattle.evaluate.specs.Result.{endingOf, RefusedAt, Reported, Within, Reports}
-use Rattle.evaluate.specs.Arenas.{ArenaReady, RoomFor, Measured, RootReady, RootReported}
+use Rattle.evaluate.specs.Arenas.{Needs, ArenaReady, RoomFor, Measured, RootReady, RootReported}
 use Rattle.evaluate.proofs.ReportLaws.{held-within}
 
 -- The arena has room for the constants, and then for the values.
@@ -188,6 +188,10 @@ measured q en eh m = record {
   needs = record { readable = q; enough = omega (arith, en, eh); room = λ b. omega (arith, en, eh, m .enough b) };
   most = omega (arith, en, eh, m .most, q .header .identifiers, q .header .few-nodes);
 }
+
+-- An arena that is no smaller than what is needed.
+pub has-room : {bs values : List ℕ} {need cells : ℕ} → Measured bs values need → need ≤ cells → Needs bs values cells
+has-room h l = record { readable = h .needs .readable; enough = omega (arith, h .needs .enough); room = λ b. omega (arith, h .needs .room b) }
 
 -- 1 to 9 refuse.
 pub unread-reported : (bs buffer : List ℕ) (budget : ℕ) (a : Height) {f : Refusal} {r : Evaluation} → heightOf a ≡ readingHeight bs → a ≡ Unmeasured f →

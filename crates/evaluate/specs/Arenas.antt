@@ -1,7 +1,7 @@
 -- The arenas that an evaluation may be made in, and the room that it needs: a cell for each node's constant, one for identifiers without a value, the
 -- values' cells, and what the condition takes above them.
 use Prim.Native.Nat.{ℕ, _+_, _*_, _≤_, _<_}
-use mathlib.Core.List.{List, [], _∷_}
+use mathlib.Core.List.{List}
 use mathlib.Core.Path.{_≡_}
 use lib.ListN.{length, getD}
 use Rattle.rules.specs.Cells.{noValue}
@@ -35,15 +35,9 @@ pub record ArenaReady (bs values s : List ℕ) : Type 0 where
   pub needs : Needs bs values (length s)
   pub small : length s < 4294967296
 
--- The cells of the arenas, from the smallest on. The largest has room for 512 nodes, 32 values of 256 cells and the highest root.
+-- The cells of the largest arena: room for 512 nodes, 32 values of 256 cells and the highest root.
 abbrev pub largestArena : ℕ
 largestArena = 1 + 512 + 32 * 256 + conditionCells heightLimit
-
-abbrev pub lastArena : ℕ
-lastArena = 6
-
-abbrev pub arenaSize : ℕ → ℕ
-arenaSize k = getD (136 ∷ 320 ∷ 1024 ∷ 1920 ∷ 4480 ∷ 12160 ∷ []) k largestArena
 
 -- Room for what the condition takes.
 pub record RoomFor (bs : List ℕ) (r : ℕ) : Type 0 where

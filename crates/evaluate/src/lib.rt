@@ -154,7 +154,7 @@ pub fn evaluate_sized(
 {
     let held = buffer::cells_at_most(table::identifiers(table), values.len());
     let need = 1 + table::nodes(table) + held + room(table, height);
-    arenas::smallest(table, values, sheet, budget, need, 0)
+    arenas::smallest(table, values, sheet, budget, need)
 }
 
 // Evaluate: refusals 1 to 9, then 14, and then the condition's end.
