@@ -36,10 +36,10 @@ use Rattle.evaluators.proofs.NodeLaws.{node-tall, condition-cells}
 use Rattle.evaluate.specs.declared.Evaluation.{Evaluation}
 use Rattle.evaluators.specs.declared.Held.{Held}
 use Rattle.evaluators.specs.Answers.{HeldAs}
-use Rattle.evaluators.specs.Cycle.{expressionCells, Binds, Ready, holdsAt, EvaluatesP}
+use Rattle.evaluators.specs.Cycle.{conditionCells, expressionCells, Binds, Ready, holdsAt, EvaluatesP}
 use Rattle.evaluators.specs.Nodes.{IsPred}
 use Rattle.evaluate.specs.Result.{endingOf, RefusedAt, Reported, Within, Reports}
-use Rattle.evaluate.specs.Arenas.{ArenaReady, RoomFor, Measured, RootReady, RootReported}
+use Rattle.evaluate.specs.Arenas.{Needs, ArenaReady, RoomFor, Measured, RootReady, RootReported}
 use Rattle.evaluate.proofs.ReportLaws.{held-within}
 
 -- The arena has room for the constants, and then for the values.
@@ -169,7 +169,14 @@ root-low {bs} q =
     let ns = tableOf bs .nodes in
     by-root 0 (height ns) (λ h. h ≤ heightLimit) ns (omega arith) (λ l. q .records .heights (lastNode ns) (omega arith))
 
-pub room-for : {bs : List ℕ} {h : ℕ} → Readable bs → h ≡ rootHeight (tableOf bs) → RoomFor bs (130 + 384 * h)
+pub root-high : {bs : List ℕ} {h : ℕ} → Readable bs → h ≡ rootHeight (tableOf bs) → Builds bs → 1 ≤ h
+unfolding lastNode
+root-high {bs} q e b =
+    let ns = tableOf bs .nodes in
+    let root = some-root 0 (height ns) ns (omega (arith, b .below, nodes-length bs)) in
+    omega (arith, e, root, node-tall bs q (lastNode ns) (omega (arith, b .below, nodes-length bs)))
+
+pub room-for : {bs : List ℕ} {h : ℕ} → Readable bs → h ≡ rootHeight (tableOf bs) → RoomFor bs (conditionCells h)
 room-for q e = record { enough = λ b. omega (arith, e); most = omega (arith, e, root-low q) }
 
 pub no-room : {bs : List ℕ} → (Builds bs → ⊥) → RoomFor bs 0
@@ -181,6 +188,10 @@ measured q en eh m = record {
   needs = record { readable = q; enough = omega (arith, en, eh); room = λ b. omega (arith, en, eh, m .enough b) };
   most = omega (arith, en, eh, m .most, q .header .identifiers, q .header .few-nodes);
 }
+
+-- An arena that is no smaller than what is needed.
+pub has-room : {bs values : List ℕ} {need cells : ℕ} → Measured bs values need → need ≤ cells → Needs bs values cells
+has-room h l = record { readable = h .needs .readable; enough = omega (arith, h .needs .enough); room = λ b. omega (arith, h .needs .room b) }
 
 -- 1 to 9 refuse.
 pub unread-reported : (bs buffer : List ℕ) (budget : ℕ) (a : Height) {f : Refusal} {r : Evaluation} → heightOf a ≡ readingHeight bs → a ≡ Unmeasured f →

@@ -1,4 +1,3 @@
 -- The laws that the proofs of Evaluate rest on.
 pub mod ReportLaws
 pub mod EntryLaws
-pub mod ArenaLaws

@@ -1,7 +1,7 @@
 -- The arenas that an evaluation may be made in, and the room that it needs: a cell for each node's constant, one for identifiers without a value, the
 -- values' cells, and what the condition takes above them.
 use Prim.Native.Nat.{ℕ, _+_, _*_, _≤_, _<_}
-use mathlib.Core.List.{List, [], _∷_}
+use mathlib.Core.List.{List}
 use mathlib.Core.Path.{_≡_}
 use lib.ListN.{length, getD}
 use Rattle.rules.specs.Cells.{noValue}
@@ -14,13 +14,13 @@ use Rattle.rules.specs.Evaluation.{run}
 use Rattle.reading.specs.Answers.{rootHeight}
 use Rattle.buffer.specs.Buffer.{cellsAtMost}
 use Rattle.constants.specs.Built.{Builds}
-use Rattle.evaluators.specs.Cycle.{Binds}
+use Rattle.evaluators.specs.Cycle.{conditionCells, Binds}
 use Rattle.evaluate.specs.declared.Evaluation.{Evaluation}
 use Rattle.evaluate.specs.Result.{Reported}
 
 -- What the root takes, which is a condition, where any node builds a value.
 abbrev pub rootCells : List ℕ → ℕ
-rootCells bs = 130 + 384 * rootHeight (tableOf bs)
+rootCells bs = conditionCells (rootHeight (tableOf bs))
 
 -- The cells of constants and values.
 abbrev pub standingCells : List ℕ → List ℕ → ℕ
@@ -35,20 +35,14 @@ pub record ArenaReady (bs values s : List ℕ) : Type 0 where
   pub needs : Needs bs values (length s)
   pub small : length s < 4294967296
 
--- The cells of the arenas, from the smallest on. The largest has room for 512 nodes, 32 values of 256 cells and the highest root.
+-- The cells of the largest arena: room for 512 nodes, 32 values of 256 cells and the highest root.
 abbrev pub largestArena : ℕ
-largestArena = 1 + 512 + 32 * 256 + (130 + 384 * heightLimit)
-
-abbrev pub lastArena : ℕ
-lastArena = 6
-
-abbrev pub arenaSize : ℕ → ℕ
-arenaSize k = getD (136 ∷ 320 ∷ 1280 ∷ 2304 ∷ 4864 ∷ 12544 ∷ []) k largestArena
+largestArena = 1 + 512 + 32 * 256 + conditionCells heightLimit
 
 -- Room for what the condition takes.
 pub record RoomFor (bs : List ℕ) (r : ℕ) : Type 0 where
   pub enough : Builds bs → rootCells bs ≤ r
-  pub most : r ≤ 130 + 384 * heightLimit
+  pub most : r ≤ conditionCells heightLimit
 
 -- What a readable table and its values need has been computed.
 pub record Measured (bs values : List ℕ) (need : ℕ) : Type 0 where

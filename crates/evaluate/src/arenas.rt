@@ -1,10 +1,8 @@
 // Arenas of seven sizes, so that a call on a small table does not pay for a large one.
 use crate::GuardedRun;
 use crate::evaluate_in;
-ghost use Prim.Native.Nat.{_≤_};
-ghost use mathlib.Core.Path.{_≡_};
 ghost use Rattle.evaluate.specs.Result.{Judged};
-ghost use Rattle.evaluate.specs.Arenas.{Needs, largestArena, arenaSize, lastArena, Measured};
+ghost use Rattle.evaluate.specs.Arenas.{Needs, largestArena, Measured};
 
 fn least(table: &[u8], values: &[u8], sheet: &[u8], budget: u32) -> GuardedRun
     requires { ⌜ Needs (now table) (now values) 136 ⌝ }
@@ -23,34 +21,34 @@ fn tiny(table: &[u8], values: &[u8], sheet: &[u8], budget: u32) -> GuardedRun
 }
 
 fn small(table: &[u8], values: &[u8], sheet: &[u8], budget: u32) -> GuardedRun
-    requires { ⌜ Needs (now table) (now values) 1280 ⌝ }
+    requires { ⌜ Needs (now table) (now values) 1024 ⌝ }
     ensures { λ r. ⌜ Judged (now (table .entry)) (now (values .entry)) (now (sheet .entry)) budget r ⌝ }
 {
-    let mut s = [0u64; 1280];
+    let mut s = [0u64; 1024];
     evaluate_in(table, values, sheet, budget, &mut s)
 }
 
 fn middle(table: &[u8], values: &[u8], sheet: &[u8], budget: u32) -> GuardedRun
-    requires { ⌜ Needs (now table) (now values) 2304 ⌝ }
+    requires { ⌜ Needs (now table) (now values) 1920 ⌝ }
     ensures { λ r. ⌜ Judged (now (table .entry)) (now (values .entry)) (now (sheet .entry)) budget r ⌝ }
 {
-    let mut s = [0u64; 2304];
+    let mut s = [0u64; 1920];
     evaluate_in(table, values, sheet, budget, &mut s)
 }
 
 fn large(table: &[u8], values: &[u8], sheet: &[u8], budget: u32) -> GuardedRun
-    requires { ⌜ Needs (now table) (now values) 4864 ⌝ }
+    requires { ⌜ Needs (now table) (now values) 4480 ⌝ }
     ensures { λ r. ⌜ Judged (now (table .entry)) (now (values .entry)) (now (sheet .entry)) budget r ⌝ }
 {
-    let mut s = [0u64; 4864];
+    let mut s = [0u64; 4480];
     evaluate_in(table, values, sheet, budget, &mut s)
 }
 
 fn larger(table: &[u8], values: &[u8], sheet: &[u8], budget: u32) -> GuardedRun
-    requires { ⌜ Needs (now table) (now values) 12544 ⌝ }
+    requires { ⌜ Needs (now table) (now values) 12160 ⌝ }
     ensures { λ r. ⌜ Judged (now (table .entry)) (now (values .entry)) (now (sheet .entry)) budget r ⌝ }
 {
-    let mut s = [0u64; 12544];
+    let mut s = [0u64; 12160];
     evaluate_in(table, values, sheet, budget, &mut s)
 }
 
@@ -58,48 +56,31 @@ fn largest(table: &[u8], values: &[u8], sheet: &[u8], budget: u32) -> GuardedRun
     requires { ⌜ Needs (now table) (now values) largestArena ⌝ }
     ensures { λ r. ⌜ Judged (now (table .entry)) (now (values .entry)) (now (sheet .entry)) budget r ⌝ }
 {
-    let mut s = [0u64; 19203];
+    let mut s = [0u64; 18819];
     evaluate_in(table, values, sheet, budget, &mut s)
 }
 
-// The cells of arena k.
-fn size(k: usize) -> usize
-    ensures { λ r. ⌜ r ≡ arenaSize k ⌝ }
-{
-    match k {
-        0 => 136,
-        1 => 320,
-        2 => 1280,
-        3 => 2304,
-        4 => 4864,
-        5 => 12544,
-        _ => 19203,
-    }
-}
-
-// Evaluates in the smallest of the arenas from k on that has room; the last one has. The recursion keeps their frames apart: without it
-// the compiler makes one frame of all, and each call touches every page of the largest.
+// Evaluates in the smallest arena with room. The function calls itself, so that the compiler puts no arena's frame into its own: otherwise it
+// makes one frame of all, and each call touches every page of the largest.
 pub(crate) fn smallest(
     table: &[u8],
     values: &[u8],
     sheet: &[u8],
     budget: u32,
     need: usize,
-    k: usize,
 ) -> GuardedRun
-    requires { ⌜ Measured (now table) (now values) need × (k ≤ lastArena) ⌝ }
+    requires { ⌜ Measured (now table) (now values) need ⌝ }
     ensures { λ r. ⌜ Judged (now (table .entry)) (now (values .entry)) (now (sheet .entry)) budget r ⌝ }
 {
-    if size(k) < need {
-        return smallest(table, values, sheet, budget, need, k + 1);
-    }
-    match k {
-        0 => least(table, values, sheet, budget),
-        1 => tiny(table, values, sheet, budget),
-        2 => small(table, values, sheet, budget),
-        3 => middle(table, values, sheet, budget),
-        4 => large(table, values, sheet, budget),
-        5 => larger(table, values, sheet, budget),
-        _ => largest(table, values, sheet, budget),
+    match need {
+        0..=136 => least(table, values, sheet, budget),
+        137..=320 => tiny(table, values, sheet, budget),
+        321..=1024 => small(table, values, sheet, budget),
+        1025..=1920 => middle(table, values, sheet, budget),
+        1921..=4480 => large(table, values, sheet, budget),
+        4481..=12160 => larger(table, values, sheet, budget),
+        12161..=18819 => largest(table, values, sheet, budget),
+        // Never: the largest has room.
+        _ => smallest(table, values, sheet, budget, need - 1),
     }
 }

@@ -125,10 +125,10 @@ fn evaluate_in(table: &[u8], values: &[u8], sheet: &[u8], budget: u32, s: &mut [
     }
 }
 
-// The cells that a level of a condition takes, and what its lowest operation asks for beside two levels.
-const LEVEL: usize = 384;
-
+// The cells that the lowest level of a condition takes, and those of a level above it.
 const LOWEST: usize = 130;
+
+const LEVEL: usize = 384;
 
 // The cells that the condition takes above its values: none where no node of the table builds a value.
 fn room(table: &[u8], height: usize) -> usize
@@ -136,7 +136,7 @@ fn room(table: &[u8], height: usize) -> usize
     ensures { λ r. ⌜ RoomFor (now (table .entry)) r ⌝ }
 {
     if constants::builds(table) {
-        return LOWEST + LEVEL * height;
+        return LOWEST + LEVEL * (height - 1);
     }
     0
 }
@@ -154,7 +154,7 @@ pub fn evaluate_sized(
 {
     let held = buffer::cells_at_most(table::identifiers(table), values.len());
     let need = 1 + table::nodes(table) + held + room(table, height);
-    arenas::smallest(table, values, sheet, budget, need, 0)
+    arenas::smallest(table, values, sheet, budget, need)
 }
 
 // Evaluate: refusals 1 to 9, then 14, and then the condition's end.

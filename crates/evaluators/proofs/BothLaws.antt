@@ -10,6 +10,7 @@ use Rattle.rules.specs.Kinds.{expression, Test, test, kindOf}
 use Rattle.rules.specs.Rules.{testRule}
 use Rattle.rules.specs.Fits.{fits}
 use Rattle.rules.specs.Tables.{tableOf}
+use Rattle.rules.specs.Reading.{height}
 use Rattle.rules.specs.Ends.{done, refused}
 use Rattle.rules.specs.Runs.{Run, M, _>>=_}
 use Rattle.rules.specs.Operations.{holds}
@@ -28,7 +29,7 @@ use Rattle.evaluators.specs.declared.Formed.{Formed}
 use Rattle.evaluators.specs.declared.Formed.the-variants.{Value as Placed, Stopped}
 use Rattle.evaluators.specs.declared.Held.the-variants.{Truth, Refused}
 use Rattle.evaluators.specs.Answers.{EndsWith, PlacedAs}
-use Rattle.evaluators.specs.Cycle.{Ready, Visited, valueAt, EvaluatesP, EvaluatesE}
+use Rattle.evaluators.specs.Cycle.{conditionCells, Ready, Visited, valueAt, EvaluatesP, EvaluatesE}
 use Rattle.evaluators.specs.Nodes.{fieldA, fieldB, IsExpr}
 use Rattle.evaluators.proofs.RunLaws.{then-done, then-refused, returns, fitting-on, fitting-refused}
 use Rattle.evaluators.proofs.NodeLaws.{Child, TwoFields, ready-child, ready-first, good-frame, sizes-small, formed-as, Asks, some-asks, asks-on}
@@ -64,7 +65,7 @@ pub record EvaluatesBoth (bs env s : List ℕ) (top n left : ℕ) (s′ : List �
   pub low : top ≤ mid
   pub high : mid ≤ top + 256
   pub order : mid ≤ next
-  pub near : next ≤ mid + 256
+  pub near : next + 514 ≤ top + conditionCells (height (tableOf bs .nodes) n) + 128
   pub answer : (i : Asks bs env s top n left) → BothAs (firstIn i) (secondIn i) (i .budget) (tableOf bs .sizes) s′ a mid b next l
 
 -- The first operand's node is `a`.
@@ -116,7 +117,7 @@ module _ {bs env s : List ℕ} {top n : ℕ} (x : Ready bs env s top n) (y : Two
               low = placed .bounds .0;
               high = placed .bounds .1;
               order = k .bounds .0;
-              near = k .bounds .1;
+              near = omega (arith, left-child .lower, left-child .tall, right-child .lower, placed .bounds, k .bounds);
               answer = λ i.
                   let v = first-at i in
                   let w = formed-below (second i) right-child q′ (Placed other next u) k in

@@ -98,7 +98,7 @@ module _ {g : Value → M Bool} {whole : List Value} {budget steps : ℕ} {s : L
 
   -- After a turn: the arena is s₁ behind the body, and s₂ with the member added if it is chosen.
   selecting-turn : {gs : List ℕ} {at more : ℕ} (u : First gs s top at more rest) (s₁ : List ℕ) (end : ℕ) (b : Bool) {l : ℕ} (s₂ : List ℕ) (r : ℕ) →
-      to + 255 ≤ length s → Same to s s₁ → end ≡ at + weight (u .value) → EndsWith (g (u .value) now) (done b) budget l → Chooses s₁ at end b to s₂ r →
+      top + 256 ≤ length s → Same to s s₁ → end ≡ at + weight (u .value) → EndsWith (g (u .value) now) (done b) budget l → Chooses s₁ at end b to s₂ r →
       Selecting g whole budget steps s₂ top (u .rest) (g (u .value) now .steps) r (chosen + boolByte b)
   unfolding select
   selecting-turn {gs} {at} u s₁ end b s₂ r room same e run c =
@@ -107,7 +107,7 @@ module _ {g : Value → M Bool} {whole : List Value} {budget steps : ℕ} {s : L
       = stands-frame to s s₁ at (code (u .value)) same (omega (arith, length-code (u .value), u .here .below, h .ends)) (u .here .stands) in
       let is : members rest ≡ u .value ∷ members (u .rest) = ap members (u .is) in
       let sum : weights rest ≡ weight (u .value) + weights (u .rest) = ap weights (u .is) in
-      let new = chosen-stands s₁ at end b to s₂ r (u .value) c here e (omega (arith, same .kept, sum, h .light)) in
+      let new = chosen-stands s₁ at end b to s₂ r (u .value) c here e (omega (arith, same .kept, sum, h .ends, h .light)) in
       record {
         taken = h .taken ++ picked b (u .value);
         stands = values-append s₂ (top + 1) (h .taken) (picked b (u .value))
@@ -222,11 +222,11 @@ module _ {bs env s₀ : List ℕ} {top n from count left : ℕ} (pre : EachReady
             choosing-choose =
                 let u = next (some-asked left pre) in
                 let q = member-ends pre (h .frame) (h .loop) some below ends (some-asked left pre) in
-                let light = h .on (some-asked left pre) .light in
+                let o = h .on (some-asked left pre) in
                 record {
                   forward = omega arith;
                   behind = omega (arith, u .here .below, low);
-                  room = omega (arith, pre .space (omega arith), choosing-near .1, h .frame .kept, e .frame .kept, light, ap weights (u .is));
+                  room = omega (arith, pre .space (omega arith), h .frame .kept, e .frame .kept, o .ends, o .light, ap weights (u .is));
                 }
 
             pub choosing-next : {yes : Bool} {l : ℕ} {s₂ : List ℕ} {q : ℕ} → r ≡ Truth yes l → Chooses s₁ at end yes to s₂ q →
@@ -239,6 +239,6 @@ module _ {bs env s₀ : List ℕ} {top n from count left : ℕ} (pre : EachReady
                   frame = same-trans top to s₀ s s₂ (h .frame) over low;
                   loop = loop-next pre (h .frame) (h .loop) some under end-at (answers (Truth yes l) is);
                   on = λ k.
-                      selecting-turn (h .on k) (next k) s₁ end yes s₂ q (omega (arith, pre .space (omega arith), choosing-near .1, h .frame .kept))
+                      selecting-turn (h .on k) (next k) s₁ end yes s₂ q (omega (arith, pre .space (omega arith), h .frame .kept))
                       (e .frame) (end-at k) (answers (Truth yes l) is k) f;
                 })

@@ -277,12 +277,12 @@ module _ {bs env s : List ℕ} {top k n left : ℕ} (v : Visited bs env s top k 
   standing-good boolSet e d ρ b = absurd (false≢true (sym d))
 
   -- It is light, and so formed at once: where it stands it is the answer.
-  module _ (j : Leaf) (e : kindOf k ≡ some (leaf j)) {s′ : List ℕ} (same : Same top s s′) {at next : ℕ} (bounds : (top ≤ next) × (next ≤ top + 256))
+  module _ (j : Leaf) (e : kindOf k ≡ some (leaf j)) {s′ : List ℕ} (same : Same top s s′) {at next : ℕ} (bounds : (top ≤ next) × (next ≤ top + 33))
       (ok : (ρ : Env) → Binds bs s top env ρ → ValueAt s′ at (here j ρ) × (at + weight (here j ρ) ≤ next) × (weight (here j ρ) ≤ 256)) where
     leaf-stands : EvaluatesE bs env s top n left s′ (Placed at next (left - 1))
     unfolding valueᵉ
     leaf-stands =
-        settled-by v (leaf j) e same bounds (λ i.
+        settled-by v (leaf j) e same (omega (arith, bounds, v .ready .tall)) (λ i.
         let w = ok (i .values) (i .binds) in (
           gives (here j (i .values)),
           visits v i _ (light-form n (here j (i .values)) _ (w .2) (after v i .counts)),
@@ -299,9 +299,8 @@ module _ {bs env s : List ℕ} {top k n left : ℕ} (v : Visited bs env s top k 
   leaf-answer p s′ o h =
       let b : (ρ : Env) → BuiltAt s′ top (gives (here (p .ready .kind) ρ)) (h .end)
       = λ ρ. h .done .answer (p .ready .kind) (tableOf bs .sizes) (fieldB bs n) ρ (p .ready .is) (p .ready .fits) refl in
-      let x = b (v .ready .values) in
       subst (λ (x : Formed). EvaluatesE bs env s top n left s′ x) (sym (h .is))
-      (leaf-stands (p .ready .kind) (p .ready .is) (h .done .frame) (omega (arith, x .ends), omega (arith, x .ends, x .light))
+      (leaf-stands (p .ready .kind) (p .ready .is) (h .done .frame) (omega (arith, b (v .ready .values) .ends), h .done .near)
       (λ ρ _. let y = b ρ in rw (given-same (here (p .ready .kind) ρ) (y .value) (y .is)) (y .stands, omega (arith, y .ends), y .light)))
 
 -- An operand that stands already, where a visit is left.

@@ -3,14 +3,14 @@ use Prim.Native.Nat.{ℕ, _+_, _-_, _≤_, _<_}
 use mathlib.Core.Bool.{Bool, true, false}
 use mathlib.Core.List.{List, [], _∷_}
 use mathlib.Core.Option.{some}
-use mathlib.Core.Path.{_≡_, refl, ap}
+use mathlib.Core.Path.{_≡_, refl}
 use native.Mathlib.Omega.{arith}
 use lib.ListN.{length, getD}
 use mir.Val.{boolByte}
 use Rattle.rules.specs.Values.{Value, set, truthValue, members, weight}
 use Rattle.rules.specs.Kinds.{boolOf, one, two, comprehension, One, Two, predicate, expression, kindOf}
 use Rattle.rules.specs.Rules.{oneRule, twoRule, comprehensionRule}
-use Rattle.rules.specs.Tables.{tableOf, nodeAt, fieldWords, kindAt}
+use Rattle.rules.specs.Tables.{tableOf, nodeAt, fieldWords}
 use Rattle.rules.specs.Ends.{End}
 use Rattle.rules.specs.Runs.{Run, M, _>>=_, form, gives}
 use Rattle.rules.specs.Operations.{elems, setOf, oneValue, twoValue}
@@ -30,9 +30,9 @@ use Rattle.evaluators.specs.declared.Formed.the-variants.{Value as Place
 use Rattle.evaluators.specs.declared.Range.the-variants.{Set, Unlike}
 use Rattle.evaluators.specs.Answers.{EndsWith, PlacedAs, SelectedAs, ChosenAs, SettleReady}
 use Rattle.evaluators.specs.Nodes.{fieldA, fieldB, IsPred, IsExpr, PlacedLeaf, SomeGood, RangeAt}
-use Rattle.evaluators.specs.Cycle.{expressionCells, Ready, Visited, EvaluatesP, EvaluatesE, EachReady, bodyAt, EvaluatesChosen, Settles}
+use Rattle.evaluators.specs.Cycle.{Ready, Visited, EvaluatesP, EvaluatesE, EachReady, bodyAt, EvaluatesChosen, Settles}
 use Rattle.evaluators.proofs.RunLaws.{then-done, then-refused, light-form, fitted-ends, fitting-on, fitting-refused}
-use Rattle.evaluators.proofs.NodeLaws.{Child, TwoFields, sizes-small, fields-tall, ready-first, visited-kind, visited-builds, visited-child, visited-operands}
+use Rattle.evaluators.proofs.NodeLaws.{Child, TwoFields, sizes-small, ready-first, visited-kind, visited-builds, operation-room, visited-child, visited-operands}
 use Rattle.evaluators.proofs.NodeLaws.{Asks, some-asks, visits, after, valueIn, held-below, formed-below, treeᵉ, stopped-by, settled-by, settles-by}
 use Rattle.evaluators.proofs.BodyLaws.{Asked, some-asked, bodyOf}
 use Rattle.evaluators.proofs.DispatchLaws.{placed-answer}
@@ -66,7 +66,7 @@ module _ {bs env s : List ℕ} {top k n m left : ℕ} (x : Visited bs env s top 
           small = sizes-small bs (x .ready .readable);
           value = v .value;
           operand = v .place;
-          room = omega (arith, x .ready .room (visited-builds x (one j) e refl), one-child .lower, one-child .tall, h .bounds .1, h .frame .kept);
+          room = operation-room x (one j) e next refl refl (h .frame) (omega (arith, one-child .lower, one-child .tall, h .bounds));
         }
 
     module _ {s₂ : List ℕ} {o : Outcome} (op : OneOf k s₁ at next s₂ o) where
@@ -88,7 +88,7 @@ module _ {bs env s : List ℕ} {top k n m left : ℕ} (x : Visited bs env s top 
 
       pub one-evaluates : {s₃ : List ℕ} {r : Formed} → Settles s₂ o next next top n l s₃ r → EvaluatesE bs env s top n left s₃ r
       unfolding valueᵉ oneGiven
-      one-evaluates st = settles-by x (one j) e (h .frame) (h .bounds .0) (op j e .frame) st (λ i. let v = operand-at (after x i) in (
+      one-evaluates st = settles-by x (one j) e one-child (h .frame) (h .bounds .0) (op j e .frame) st (λ i. let v = operand-at (after x i) in (
         oneGiven j (v .value),
         visits x i _ (then-done _ (v .ends) (fitted-ends n (oneRule j) (v .value ∷ []) (oneValue j (v .value)) _ (v .ends .steps))),
         given₁ v,
@@ -101,12 +101,7 @@ module _ {bs env s : List ℕ} {top k n left : ℕ} (x : Visited bs env s top k 
 
   -- What the operation may take for granted of its operands.
   pub two-ready : {s₁ : List ℕ} {at mid other next l : ℕ} → EvaluatesBoth bs env s top n (left - 1) s₁ at mid other next l → TwoReady s₁ at other next
-  two-ready h = record {
-    operands = operands-ready (x .ready) h .1;
-    room =
-        let c : expressionCells (kindAt (tableOf bs .nodes) n) ≡ 128 = ap expressionCells (visited-kind x (two j) e) in
-        omega (arith, x .ready .room (visited-builds x (two j) e refl), c, fields-tall two-fields, h .high, h .near, h .frame .kept);
-  }
+  two-ready h = record { operands = operands-ready (x .ready) h .1; room = operation-room x (two j) e _ refl refl (h .frame) (h .near) }
 
   pub two-fails : {s₁ : List ℕ} {r : Refusal} {l : ℕ} → StopsBoth bs env s top n (left - 1) s₁ r l → EvaluatesE bs env s top n left s₁ (Stopped r l)
   unfolding valueᵉ
@@ -133,12 +128,13 @@ module _ {bs env s : List ℕ} {top k n left : ℕ} (x : Visited bs env s top k 
 
     pub two-evaluates : {s₃ : List ℕ} {r : Formed} → Settles s₂ o mid next top n l s₃ r → EvaluatesE bs env s top n left s₃ r
     unfolding valueᵉ twoGiven
-    two-evaluates st = settles-by x (two j) e (h .frame) (omega (arith, h .low, h .order)) (op j e .frame) st (λ i. let v = h .answer (after x i) in (
-      twoGiven j (v .first) (v .second),
-      visits x i _ (then-done _ (v .leftEnds) (then-done _ (v .rightEnds)
-          (fitted-ends n (twoRule j) (v .first ∷ v .second ∷ []) (twoValue j (v .first) (v .second)) _ (v .rightEnds .steps)))),
-      given₂ v,
-    ))
+    two-evaluates st = settles-by x (two j) e (two-fields .left) (h .frame) (omega (arith, h .low, h .order)) (op j e .frame) st (λ i.
+        let v = h .answer (after x i) in (
+          twoGiven j (v .first) (v .second),
+          visits x i _ (then-done _ (v .leftEnds) (then-done _ (v .rightEnds)
+              (fitted-ends n (twoRule j) (v .first ∷ v .second ∷ []) (twoValue j (v .first) (v .second)) _ (v .rightEnds .steps)))),
+          given₂ v,
+        ))
 
   -- Both operands stand already, and there are visits for them.
   module _ {at other : ℕ} (p : PlacedLeaf bs env (fieldA bs n) at) (q : PlacedLeaf bs env (fieldB bs n) other) (three : 3 ≤ left) where
@@ -153,8 +149,8 @@ module _ {bs env s : List ℕ} {top k n left : ℕ} (x : Visited bs env s top k 
     pub standing-operands : SomeOperands s at other
     standing-operands = operands-ready (x .ready) standing-both
 
-    pub sum-room : top + 514 ≤ length s
-    sum-room = two-ready standing-both .room
+    pub sum-room : top + 1 ≤ length s
+    sum-room = omega (arith, two-ready standing-both .room)
 
     pub sum-evaluates : {cell end : ℕ} {s′ : List ℕ} → SumOf k s at other (Cell cell) → PutsCell s top cell s′ end →
         EvaluatesE bs env s top n left s′ (Placed top end (left - 3))
@@ -195,7 +191,7 @@ module _ {bs env s : List ℕ} {top n m left : ℕ} (x : Visited bs env s top 25
       let made = put (truthValue y) (truth-code y) in
       let q = made .light (omega arith) in
       settled-by x boolOf (kind-of 25 boolOf refl) (same-trans top top s s₁ s₂ (h .frame) (made .frame) (omega arith))
-      (omega (arith, q .0), omega (arith, q .0))
+      (omega (arith, q .0, x .ready .tall))
       (λ i. let z = held-below (after x i) bool-child w (Truth y l) h in (
         gives (truthValue y),
         visits x i _ (then-done _ z (light-form n (truthValue y) _ (omega arith) (z .steps))),
@@ -297,14 +293,13 @@ module _ {bs env s : List ℕ} {top n m left : ℕ} (x : Visited bs env s top 34
               low = h .bounds .0;
               high = h .bounds .1;
               order = omega arith;
-              room =
-                  let b = x .ready .room (visited-builds x comprehension select-code refl) in
-                  omega (arith, b, select-child .lower, select-child .tall, h .bounds .1, h .frame .kept, ch .frame .kept);
+              room = operation-room x comprehension select-code next refl refl (same-trans top next s s₁ s₂ (h .frame) (ch .frame) (h .bounds .0))
+                  (omega (arith, select-child .lower, select-child .tall, h .bounds));
             }
 
         pub select-evaluates : {s₃ : List ℕ} {r : Formed} → Settles s₂ (Built end) next next top n u s₃ r → EvaluatesE bs env s top n left s₃ r
         unfolding valueᵉ
-        select-evaluates st = settles-by x comprehension select-code (h .frame) (h .bounds .0) (ch .frame) st (λ i.
+        select-evaluates st = settles-by x comprehension select-code select-child (h .frame) (h .bounds .0) (ch .frame) st (λ i.
             let z = chosen-of ch (members-of i) in (
               gives (setOf (z .chosen)),
               in-set i (then-done _ (z .ends) (light-form n (setOf (z .chosen)) _ (light z) (z .ends .steps))),

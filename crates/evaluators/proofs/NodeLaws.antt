@@ -1,5 +1,5 @@
 -- The children of a node, its tree, what its evaluators pass on to theirs, and its answer from theirs.
-use Prim.Native.Nat.{ℕ, zero, suc, _+_, _-_, _≤_, _<_}
+use Prim.Native.Nat.{ℕ, zero, suc, _+_, _-_, _*_, _≤_, _<_}
 use mathlib.Core.Bool.{Bool, true, false, false≢true}
 use mathlib.Core.List.{List, [], _∷_}
 use mathlib.Core.Option.{Option, none as nothing, some}
@@ -35,7 +35,7 @@ use Rattle.evaluators.specs.declared.Formed.the-variants.{Value as Place
 use Rattle.reading.specs.declared.Refusal.{Refusal}
 use Rattle.evaluators.specs.Answers.{EndsWith, HeldAs, FormedAs, FormedBounds, SettledAs, RefusalOf, StopOf}
 use Rattle.evaluators.specs.Nodes.{fieldA, fieldB}
-use Rattle.evaluators.specs.Cycle.{expressionCells, cellsFor, Binds, Ready, Visited, holdsAt, valueAt, EvaluatesP, EvaluatesE, Settles}
+use Rattle.evaluators.specs.Cycle.{conditionCells, expressionCells, cellsFor, Binds, Ready, Visited, holdsAt, valueAt, EvaluatesP, EvaluatesE, Settles}
 use Rattle.evaluators.proofs.RunLaws.{visited, endOf}
 
 -- The sizes of a readable table are small.
@@ -129,10 +129,6 @@ pub record TwoFields (bs : List ℕ) (n : ℕ) : Type 0 where
   pub left : Child bs n (fieldA bs n) expression
   pub right : Child bs n (fieldB bs n) expression
 
--- A node with operands is above a leaf.
-pub fields-tall : {bs : List ℕ} {n : ℕ} → TwoFields bs n → 2 ≤ height (tableOf bs .nodes) n
-fields-tall y = omega (arith, y .left .lower, y .left .tall)
-
 -- The tree at a node, one level down.
 pub record Deeper (A : Type 0) (x : A) (n : ℕ) (tree : ℕ → A) : Type 0 where
   pub depth : ℕ
@@ -181,7 +177,7 @@ ready-at {bs} {ρ = ρ} r m l room kept long b = record {
 pub ready-child : {bs env s : List ℕ} {top n : ℕ} {c : Category} (s′ : List ℕ) (m k : ℕ) →
     Ready bs env s top n → Child bs n m c → Same top s s′ → top ≤ k → k ≤ top + 256 → Ready bs env s′ k m
 ready-child {bs} s′ m k r c e le near =
-    ready-at r m (omega (arith, c .below, r .node)) (λ b. omega (arith, c .lower, r .room b, e .kept, expression-cells (kindAt (tableOf bs .nodes) m)))
+    ready-at r m (omega (arith, c .below, r .node)) (λ b. omega (arith, c .lower, c .tall, r .room b, e .kept, expression-cells (kindAt (tableOf bs .nodes) m)))
     (e .kept) (r .entries) (binds-frame k e le (r .binds))
 
 -- So too to that of its first child, where nothing has been written yet.
@@ -196,6 +192,11 @@ module _ {bs env s : List ℕ} {top k n left : ℕ} (v : Visited bs env s top k 
   -- It is built.
   pub visited-builds : built (some x) ≡ true → Builds bs
   visited-builds q = record { node = n; below = v .ready .node; is = ap built visited-kind ∙ q }
+
+  -- An operation has room above its operands, which end at `next`.
+  pub operation-room : {s′ : List ℕ} (next : ℕ) → built (some x) ≡ true → expressionCells (some x) ≡ 128 → Same top s s′ →
+      next + 514 ≤ top + conditionCells (height (tableOf bs .nodes) n) + 128 → next + 514 ≤ length s′
+  operation-room next q c same near = omega (arith, v .ready .room (visited-builds q), ap expressionCells visited-kind ∙ c, same .kept)
 
   pub visited-child : (c : Category) (i m : ℕ) → i < 3 → i < length (fieldsOf x) → getD (fieldsOf x) i unused ≡ child c →
       m ≡ getD (fieldWords (nodeAt (tableOf bs .nodes) n)) i 0 → Child bs n m c
@@ -311,7 +312,7 @@ module _ {bs env s : List ℕ} {top k n left : ℕ} (v : Visited bs env s top k 
         (h (record { depth = d .depth; values = ρ; budget = budget; steps = steps; deep = d .enough; counts = c; binds = b }));
   }
 
-  formed-by : {r : Formed} → FormedBounds top r → ((f : ℕ) (i : Asks bs env s top n left) →
+  formed-by : {r : Formed} → FormedBounds (height (tableOf bs .nodes) n) top r → ((f : ℕ) (i : Asks bs env s top n left) →
       valueAt bs (i .budget) f n (i .values) (i .steps) ≡ treeᵉ x i →
       FormedAs (valueAt bs (i .budget) f n (i .values) (i .steps)) (i .budget) (tableOf bs .sizes) s′ r) → EvaluatesE bs env s top n left s′ r
   formed-by bounds h = record {
@@ -329,18 +330,19 @@ module _ {bs env s : List ℕ} {top k n left : ℕ} (v : Visited bs env s top k 
   stopped-by h = formed-by tt (λ f i q. rw q (h i))
 
   -- It gives something, which has been settled.
-  pub settled-by : {l : ℕ} {r : Formed} → FormedBounds top r →
+  pub settled-by : {l : ℕ} {r : Formed} → FormedBounds (height (tableOf bs .nodes) n) top r →
       ((i : Asks bs env s top n left) → (g : Given) × EndsWith (treeᵉ x i) (endOf n g) (i .budget) l × SettledAs g s′ n l r) →
       EvaluatesE bs env s top n left s′ r
   settled-by {l} {r} bounds h = formed-by bounds (λ f i q.
       let y = h i in
       settled-as bs (i .budget) f n (i .values) (i .steps) (v .ready .readable) (i .binds .good) (y .0) (rw q (y .1)) s′ r (y .2))
 
--- So too where `settle` has settled it, over the arena s₂ that the operation leaves.
+-- So too where `settle` has settled it, over the arena s₂ that the operation leaves; the node has a child.
 pub settles-by : {bs env s : List ℕ} {top k n left : ℕ} (v : Visited bs env s top k n left) (x : Kind) (e : kindOf k ≡ some x) {s₁ s₂ s₃ : List ℕ}
-    {mid next at l : ℕ} {o : Outcome} {r : Formed} → Same top s s₁ → top ≤ at → Same at s₁ s₂ → Settles s₂ o mid next top n l s₃ r →
+    {mid next at l m : ℕ} {c : Category} {o : Outcome} {r : Formed} → Child bs n m c →
+    Same top s s₁ → top ≤ at → Same at s₁ s₂ → Settles s₂ o mid next top n l s₃ r →
     ((i : Asks bs env s top n left) → (g : Given) × EndsWith (treeᵉ x i) (endOf n g) (i .budget) l × Gives s₂ mid next g o) →
     EvaluatesE bs env s top n left s₃ r
-settles-by {s = s} {top = top} v x e {s₁} {s₂} {s₃} {at = at} same low over st h =
-    settled-by v x e (same-trans top top s s₂ s₃ (same-trans top at s s₁ s₂ same over low) (st .frame) (omega arith)) (st .bounds)
-    (λ i. let y = h i in (y .0, y .1, st .answer (y .0) (y .2)))
+settles-by {s = s} {top = top} v x e {s₁} {s₂} {s₃} {at = at} d same low over st h =
+    settled-by v x e (same-trans top top s s₂ s₃ (same-trans top at s s₁ s₂ same over low) (st .frame) (omega arith))
+    (st .bounds _ (omega (arith, d .lower, d .tall))) (λ i. let y = h i in (y .0, y .1, st .answer (y .0) (y .2)))

@@ -36,7 +36,7 @@ use Rattle.evaluators.specs.declared.Range.{Range}
 use Rattle.evaluators.specs.declared.Range.the-variants.{Set, Unlike}
 use Rattle.evaluators.specs.Answers.{EndsWith, PlacedAs, RangeSet, Listed}
 use Rattle.evaluators.specs.Nodes.{fieldA, fieldB, fieldC, SomeGood, RangeAt}
-use Rattle.evaluators.specs.Cycle.{expressionCells, Ready, EvaluatesE, EachReady}
+use Rattle.evaluators.specs.Cycle.{conditionCells, expressionCells, Ready, EvaluatesE, EachReady}
 use Rattle.evaluators.proofs.NodeLaws.{Child, sizes-small, field-holds, field-child, condition-cells, ready-child}
 use Rattle.evaluators.proofs.NodeLaws.{Asks, some-asks, asks-on, valueIn, formed-below}
 use Rattle.evaluators.proofs.BodyLaws.{Asked}
@@ -74,7 +74,7 @@ module _ {bs env s : List ℕ} {top n : ℕ} (r : Ready bs env s top n) {k : Kin
   binder-body : Child bs n (fieldC bs n) predicate
   binder-body = field-child bs (r .readable) n (r .node) k e predicate 2 (omega arith) (rw q (omega arith)) (rw q)
 
-  own-room : built (some k) ≡ true → top + (384 * height (tableOf bs .nodes) n + expressionCells (some k) + 130) ≤ length s
+  own-room : built (some k) ≡ true → top + (conditionCells (height (tableOf bs .nodes) n) + expressionCells (some k)) ≤ length s
   own-room b = rw e at (r .room (record { node = n; below = r .node; is = ap built e ∙ b }))
 
   body-cells : expressionCells (kindAt (tableOf bs .nodes) (fieldC bs n)) ≡ 0
@@ -118,7 +118,7 @@ module _ {bs env s : List ℕ} {top n m left : ℕ} (r : Ready bs env s top n) (
           deeper = body .below;
           is = body .is;
           name = binder-name r e q;
-          space = λ b. omega (arith, body .lower, own-room r e q (builds b), body-cells r e q, h .frame .kept, h .bounds .1);
+          space = λ b. omega (arith, body .lower, body .tall, own-room r e q (builds b), body-cells r e q, h .frame .kept, h .bounds .1);
           range = x .members;
           listed = range-listed (some-range .place) x;
         }

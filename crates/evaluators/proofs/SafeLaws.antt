@@ -33,9 +33,9 @@ module _ {bs env s : List ℕ} {top n : ℕ} (r : Ready bs env s top n) where
   pub ready-node : NodeIn bs (nodesAt bs) n
   ready-node = node-in (r .readable) (r .node)
 
-  -- Room for a cell that is built.
-  pub cell-room : {s′ : List ℕ} → Builds bs → Same top s s′ → top + 514 ≤ length s′
-  cell-room b e = omega (arith, r .room b, r .tall, e .kept)
+  -- Room for a leaf that is built, or a cell.
+  pub cell-room : {s′ : List ℕ} → Builds bs → Same top s s′ → top + 33 ≤ length s′
+  cell-room b e = omega (arith, r .room b, e .kept)
 
 module _ {bs env s : List ℕ} {top n from count : ℕ} {spare : ℕ} (r : EachReady bs env s top n from count spare) where
   pub binder-node : NodeIn bs (nodesAt bs) n

@@ -43,12 +43,12 @@ one-weighs v {x} e = sym (length-code v) ∙ ap length e
 module _ {s : List ℕ} {r : Outcome} {mid next top : ℕ} (p : SettleReady s r mid next top) where
   pub settles-lacks : {node left k : ℕ} {x : Formed} → r ≡ Lacks k → x ≡ Stopped (record { number = k; place = node }) left →
       Settles s r mid next top node left s x
-  settles-lacks e q = rw q (record { frame = same-refl top s; bounds = tt; answer = λ g h. (rw e at h, refl, refl) })
+  settles-lacks e q = rw q (record { frame = same-refl top s; bounds = λ h l. tt; answer = λ g h. (rw e at h, refl, refl) })
 
   pub settles-within : {node left at : ℕ} → r ≡ Within at → Settles s r mid next top node left s (Placed at mid left)
   settles-within {node} {left} {at} e = record {
     frame = same-refl top s;
-    bounds = (p .low, p .high);
+    bounds = λ h l. omega (arith, p .low, p .high);
     answer = λ g h.
         let w : WithinAt s mid g at = rw e at h in
         record { value = w .value; is = w .is; stands = w .stands; below = w .below; same = refl };
@@ -63,7 +63,7 @@ module _ {s : List ℕ} {r : Outcome} {mid next top : ℕ} (p : SettleReady s r 
       let one = one-weighs (some .value) (some .cell) in
       record {
         frame = made .frame;
-        bounds = (omega (arith, made .light (omega (arith, one)) .0), omega (arith, made .light (omega (arith, one)) .0, one));
+        bounds = λ h l. omega (arith, made .light (omega (arith, one)) .0, one);
         answer = λ g h.
             let c = cell g h in
             let w = one-weighs (c .value) (c .cell) in
@@ -89,7 +89,7 @@ module _ {s : List ℕ} {r : Outcome} {mid next top : ℕ} (p : SettleReady s r 
         let b = built-as (p .given) (p .gives) in
         record {
           frame = copied-frame c;
-          bounds = (omega arith, omega (arith, b .ends, b .light));
+          bounds = λ h l. omega (arith, b .ends, b .light);
           answer = λ g h.
               let x = built-as g h in
               let long : length (code (x .value)) ≡ end - next = omega (arith, x .ends, length-code (x .value)) in

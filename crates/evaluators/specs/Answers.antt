@@ -1,5 +1,5 @@
 -- What the evaluators answer for a run of the value rules. The values that a run forms do not matter to its answer.
-use Prim.Native.Nat.{ℕ, _+_, _≤_, _<_}
+use Prim.Native.Nat.{ℕ, _+_, _*_, _≤_, _<_}
 use mathlib.Core.Bool.{Bool, false, not, Bool·beq}
 use mathlib.Core.List.{List, [], _∷_}
 use mathlib.Core.Path.{_≡_}
@@ -44,9 +44,11 @@ abbrev pub FormedAs : Run Value → ℕ → List ℕ → List ℕ → Formed →
 FormedAs x budget gs s (Placed at next l) = PlacedAs x budget gs s at next l
 FormedAs x budget gs s (Stopped r l) = EndsWith x (refused (r .number) (r .place)) budget l
 
-abbrev pub FormedBounds : ℕ → Formed → Type 0
-FormedBounds top (Placed at next l) = (top ≤ next) × (next ≤ top + 256)
-FormedBounds top (Stopped r l) = Unit {0}
+-- The value of a node of height h takes at most 256 cells, and 33 where h is 1: a leaf that is built is a set of at most 32 elements. (223 * h - 190 is
+-- 33 for 1 and 256 for 2.)
+abbrev pub FormedBounds : ℕ → ℕ → Formed → Type 0
+FormedBounds h top (Placed at next l) = (top ≤ next) × (next ≤ top + 256) × (next + 190 ≤ top + 223 * h)
+FormedBounds h top (Stopped r l) = Unit {0}
 
 -- A refusal goes on as one of the other kind of node.
 abbrev pub RefusalOf : Formed → Held → Type 0

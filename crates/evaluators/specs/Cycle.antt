@@ -1,6 +1,6 @@
 -- The contracts of the evaluators that call each other, for every depth above the node, every environment that the offsets of the arena
 -- bind, and every budget and number of visits made that leave the visits that the evaluator is given.
-use Prim.Native.Nat.{ℕ, _+_, _*_, _≤_, _<_}
+use Prim.Native.Nat.{ℕ, _+_, _-_, _*_, _≤_, _<_}
 use mathlib.Core.Bool.{Bool}
 use mathlib.Core.List.{List}
 use mathlib.Core.Option.{Option, none as nothing, some}
@@ -38,13 +38,17 @@ pub record Binds (bs s : List ℕ) (top : ℕ) (env : List ℕ) (ρ : Env) : Typ
 
 -- The cells that the evaluation of a node takes above its top, where any node of the table builds a value. While a child is evaluated a node
 -- holds one value, of at most 256 cells, and a comprehension holds two; but the child of a comprehension that they stand below is a condition. So a
--- level takes 384, an expression 128 more, and an operation at the lowest node that has operands 130 more than two levels give.
+-- level takes 384, and an expression 128 more. An operation asks for 514 cells above its operands, which take 512, or 66 where they are leaves: so the
+-- lowest level takes 130.
+abbrev pub conditionCells : ℕ → ℕ
+conditionCells h = 130 + 384 * (h - 1)
+
 abbrev pub expressionCells : Option Kind → ℕ
 expressionCells nothing = 0
 expressionCells (some k) = elim (categoryOf k) [ predicate ↦ 0 | expression ↦ 128 ]
 
 abbrev pub cellsFor : List ℕ → ℕ → ℕ
-cellsFor bs n = 384 * height (tableOf bs .nodes) n + expressionCells (kindAt (tableOf bs .nodes) n) + 130
+cellsFor bs n = conditionCells (height (tableOf bs .nodes) n) + expressionCells (kindAt (tableOf bs .nodes) n)
 
 pub record Ready (bs env s : List ℕ) (top n : ℕ) : Type 0 where
   pub readable : Readable bs
@@ -95,7 +99,7 @@ pub record Bares (bs : List ℕ) (n left : ℕ) (r : Bare) : Type 0 where
 -- The answer for the expression at a node.
 pub record EvaluatesE (bs env s : List ℕ) (top n left : ℕ) (s′ : List ℕ) (r : Formed) : Type 0 where
   pub frame : Same top s s′
-  pub bounds : FormedBounds top r
+  pub bounds : FormedBounds (height (tableOf bs .nodes) n) top r
   pub answer : (f : ℕ) (ρ : Env) (budget steps : ℕ) → n < f → steps + left ≡ budget → Binds bs s top env ρ →
       FormedAs (valueAt bs budget f n ρ steps) budget (tableOf bs .sizes) s′ r
 
@@ -134,8 +138,8 @@ pub record StandingSum (bs env s : List ℕ) (k n left cell : ℕ) : Type 0 wher
   pub visits : 3 ≤ left
   pub sum : SumOf k s at other (Cell cell)
 
--- What a node gives has been settled at `top`.
+-- What a node gives has been settled at `top`. The node has operands, so that its height is 2 or more.
 pub record Settles (s : List ℕ) (o : Outcome) (mid next top node left : ℕ) (s′ : List ℕ) (r : Formed) : Type 0 where
   pub frame : Same top s s′
-  pub bounds : FormedBounds top r
+  pub bounds : (h : ℕ) → 2 ≤ h → FormedBounds h top r
   pub answer : (g : Given) → Gives s mid next g o → SettledAs g s′ node left r

@@ -154,10 +154,11 @@ pub record LeafReady (k a size : ℕ) (s : List ℕ) (top : ℕ) : Type 0 where
   pub kind : Leaf
   pub is : kindOf k ≡ some (leaf kind)
   pub fits : LeafFits kind a size
-  pub room : top + 514 ≤ length s
+  pub room : top + 33 ≤ length s
 
--- It has been built at `top` and ends at r. Its second word does not count.
+-- It has been built at `top` and ends at r, 33 cells further at most. Its second word does not count.
 pub record LeafDone (k a size : ℕ) (s : List ℕ) (top : ℕ) (s′ : List ℕ) (r : ℕ) : Type 0 where
   pub frame : Same top s s′
+  pub near : r ≤ top + 33
   pub answer : (j : Leaf) (gs : List ℕ) (b : ℕ) (ρ : Env) → kindOf k ≡ some (leaf j) → LeafFits j a size → getD gs a 0 ≡ size →
       BuiltAt s′ top (gives (leafValue gs j a b ρ)) r

@@ -30,7 +30,7 @@ cellsFrom c zero = []
 cellsFrom c (suc n) = c ∷ cellsFrom (suc c) n
 
 pub record RunPre (s : List ℕ) (cell n top : ℕ) : Type 0 where
-  pub room : top + 514 ≤ length s
+  pub room : top + 1 + n ≤ length s
   pub few : n ≤ 255
   pub fits : cell ≤ 30000000000
 

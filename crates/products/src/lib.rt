@@ -20,7 +20,7 @@ struct Out {
 
 // A value of one cell.
 pub fn put_cell(s: &mut [u64], top: usize, cell: u64) -> usize
-    requires { ⌜ top + 514 ≤ length (now s) ⌝ }
+    requires { ⌜ top + 1 ≤ length (now s) ⌝ }
     ensures { λ r. ⌜ PutsCell (now (s .entry)) top cell (now (s .exit)) r ⌝ }
 {
     s[top] = cell;
@@ -81,14 +81,14 @@ fn run(s: &mut [u64], cell: u64, n: u64, top: usize) -> usize
 
 // The n elements of the given set g.
 pub fn elements(s: &mut [u64], g: u64, n: u64, top: usize) -> usize
-    requires { ⌜ (g < 16777216) × (n ≤ 32) × (top + 514 ≤ length (now s)) ⌝ }
+    requires { ⌜ (g < 16777216) × (n ≤ 32) × (top + 1 + n ≤ length (now s)) ⌝ }
     ensures { λ r. ⌜ Made top (now (s .entry)) (now (s .exit)) (setOf (elementsFrom g 0 n)) r ⌝ }
 {
     run(s, arena::ELEMENT + 256 * g, n, top)
 }
 
 pub fn booleans(s: &mut [u64], top: usize) -> usize
-    requires { ⌜ top + 514 ≤ length (now s) ⌝ }
+    requires { ⌜ top + 3 ≤ length (now s) ⌝ }
     ensures { λ r. ⌜ Made top (now (s .entry)) (now (s .exit)) (setOf (truthValue false ∷ truthValue true ∷ [])) r ⌝ }
 {
     run(s, arena::TRUTH, 2, top)

@@ -1,7 +1,6 @@
 -- `evaluate_sized`: what the table and its values need is what has been computed. Landmarks: what was lent, the cells of the values, the count of
 -- the nodes, and the room.
 use Prim.Native.Nat.{ℕ}
-use native.Mathlib.Omega.{arith}
 use lib.ListN.{length}
 use borrow.Author.Needs.{needs}
 use mathlib.Core.Path.{ap, _∙_}
@@ -19,7 +18,7 @@ smallest-requires c κs =
     let h = n .before in
     let v = lent h in
     let held = h .cells-at-most .ensures ∙ ap (λ (i : ℕ). cellsAtMost i (length (v .args .values .now))) (h .before .identifiers .ensures) in
-    (measured (v .pre .0) (n .nodes .ensures) held (c .room .ensures), omega arith)
+    measured (v .pre .0) (n .nodes .ensures) held (c .room .ensures)
 
 pub evaluate-sized-spec : {M : Type 1} → statement M
 evaluate-sized-spec =

@@ -1,7 +1,7 @@
 -- `room`: by whether any node builds a value.
 use native.Mathlib.Omega.{arith}
 use borrow.Author.Needs.{needs}
-use Rattle.evaluate.proofs.EntryLaws.{room-for, no-room}
+use Rattle.evaluate.proofs.EntryLaws.{root-high, room-for, no-room}
 use Rattle.evaluate.proofs.room.Statement.{statement}
 use Rattle.evaluate.proofs.room.Tie as tie
 
@@ -13,6 +13,7 @@ room-spec =
     tie.close
     (tie.spec
     (λ c κs. search needs)
+    (λ c. let b = c .before in let v = lent b in root-high (v .pre .0) (v .pre .1) (b .builds .ensures .some (c .if1 .taken)))
     (λ c. let v = lent (c .before) in omega (arith, room-for (v .pre .0) (v .pre .1) .most))
     (λ c. let v = lent (c .before) in omega (arith, room-for (v .pre .0) (v .pre .1) .most))
     (λ c. let v = lent (c .before) in room-for (v .pre .0) (v .pre .1))

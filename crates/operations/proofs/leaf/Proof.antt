@@ -11,6 +11,6 @@ leaf-spec =
     (λ c κs. elements-ready (c .before .before .before .pre) (c .before .match .keys1))
     (λ c κs. search needs)
     (λ c. search needs)
-    (λ c. let m = c .before .before in elements-done (m .before .before .match .keys1) (m .elements .ensures))
+    (λ c. let m = c .before .before in let k = m .before .before in elements-done (k .before .before .pre) (k .match .keys1) (m .elements .ensures))
     (λ c. search needs)
     (λ c. let m = c .before .before in booleans-done (m .before .before .match .rest .1) (m .booleans .ensures)))

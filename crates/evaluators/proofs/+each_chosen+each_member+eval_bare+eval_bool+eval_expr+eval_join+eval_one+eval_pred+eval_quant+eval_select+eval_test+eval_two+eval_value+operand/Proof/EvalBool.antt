@@ -42,7 +42,7 @@ module _ (t : ℕ) where
   put-cell-requires : Here lts.Need-put-cell-requires
   put-cell-requires c κs =
       let m = c .before .before in let e = ran (m .before .before) in let f = word e in
-      cell-room (lent f .pre .1 .ready) (bool-builds (lent f .pre .1) (f .node-field .ensures)) (e .eval-pred .ensures .frame)
+      omega (arith, cell-room (lent f .pre .1 .ready) (bool-builds (lent f .pre .1) (f .node-field .ensures)) (e .eval-pred .ensures .frame))
 
   returns-2 : Here lts.Need-returns-2
   returns-2 c =
