@@ -27,11 +27,6 @@ pub record Found (s : List ℕ) (at step n x r : ℕ) : Type 0 where
   pub here : r < n → getD s (at + step * r) 0 ≡ x
   pub lost : r ≡ n → (i : ℕ) → i < n → getD s (at + step * i) 0 ≡ x → ⊥
 
--- The answer says whether x is one of n cells from `at` on.
-abbrev pub HasCell : List ℕ → ℕ → ℕ → ℕ → Bool → Type 0
-HasCell s at n x true = (i : ℕ) × (i < n) × (getD s (at + i) 0 ≡ x)
-HasCell s at n x false = (i : ℕ) → i < n → getD s (at + i) 0 ≡ x → ⊥
-
 -- Where the answer is `true`, the members of the set at a are one cell each.
 abbrev pub OfCells : List ℕ → ℕ → Bool → Type 0
 OfCells s a r = r ≡ true → Cells s (a + 1) (getD s a 0 % 4294967296)
