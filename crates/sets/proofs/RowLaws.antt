@@ -8,20 +8,21 @@ use native.Mathlib.Omega.{arith}
 use native.Mathlib.Decide.{ℕ-discrete, decLt}
 use lib.Dec.{ltb, ltb→lt, lt→ltb}
 use lib.ListN.{length, getD}
-use Rattle.rules.specs.Values.{Value, Values, none, _▸_, members, weight, order}
+use Rattle.rules.specs.Types.{whole}
+use Rattle.rules.specs.Values.{num, truth, element, Value, scalar, pair, set, Values, none, _▸_, members, weight, order}
 use Rattle.rules.specs.Operations.{isIn}
 use Rattle.rules.proofs.Basics.{bool-eq}
 use Rattle.laws.proofs.OrderLaws.{order-eq, compare-refl, compare-lt, before-order}
 use Rattle.laws.proofs.Membership.{In, isIn-right}
 use Rattle.laws.proofs.CellsLaws.{weight-some, count-weights}
-use Rattle.arena.specs.Code.{cellSize, code, ValueAt, Same, CellsFit, EndsAt, partsOf, AllWeigh, EvenSet, SetBelow, Front}
+use Rattle.arena.specs.Code.{cellSize, code, ValueAt, Same, CellsFit, EndsAt, partsOf, AllWeigh, EvenSet, SetBelow, SomeSet, ValueBelow, Front}
 use Rattle.arena.proofs.CodeLaws.{length-code, length-codes, fits-small}
 use Rattle.arena.proofs.Standing.{leaf-ends, leaf-parts}
-use Rattle.arena.proofs.ValueParts.{scalar-cell, scalar-one}
+use Rattle.arena.proofs.ValueParts.{ends-at, first-cell, scalar-cell, scalar-one}
 use Rattle.arena.proofs.FrontLaws.{fit-small, set-inside, front-start, front-value, front-next}
 use Rattle.arena.proofs.EvenLaws.{weights-even, Behind, behind, value-at, cell-order}
 use Rattle.sets.specs.Fronts.{Cells, RunEnds}
-use Rattle.sets.specs.Rows.{Row, LowerBound, Found}
+use Rattle.sets.specs.Rows.{Row, LowerBound, Found, Fine, SomeFine}
 
 -- `lower_bound`: of the cells passed, those before `from` are below x and those from `from + left` on are not.
 pub record Halving (s : List ℕ) (at step n x from left : ℕ) : Type 0 where
@@ -160,6 +161,23 @@ module _ (s : List ℕ) (top a : ℕ) (vs : Values) (h : SetBelow s top a vs) wh
   first-inside e =
       let f = front-start s top a vs h listed refl in
       omega (arith, f .stands .inside, length-codes vs, f .counted, count-weights vs)
+
+  -- where the set ends, if they are
+  pub cells-ends : Cells s (a + 1) listed → EndsAt s a (a + 1 + listed)
+  cells-ends c =
+      subst (EndsAt s a) (omega (arith, cells-end s (a + 1) listed c top vs (front-start s top a vs h listed refl)))
+      (ends-at s a (set vs) (h .stands) (h .fine .fits))
+
+-- A cell that is not below that of the empty set is a set's.
+pub fine-set : (s : List ℕ) (at : ℕ) → SomeFine s at → 5 * cellSize ≤ getD s at 0 → SomeSet s (length s) at
+fine-set s at h l = go (h .0) (h .1) (h .2)
+  where
+    go : (v : Value) → ValueBelow s (length s) at v → Fine v → SomeSet s (length s) at
+    go (scalar (num whole i)) b f = absurd (omega (arith, first-cell s at (scalar (num whole i)) (b .stands) (b .fits) .0))
+    go (scalar (truth t)) b f = absurd (omega (arith, first-cell s at (scalar (truth t)) (b .stands) (b .fits) .0))
+    go (scalar (element g k)) b f = absurd (omega (arith, first-cell s at (scalar (element g k)) (b .stands) (b .fits) .0))
+    go (pair v w) b f = absurd (omega (arith, first-cell s at (pair v w) (b .stands) (b .fits) .0))
+    go (set vs) b f = (vs, record { stands = b .stands; below = b .below; fine = f })
 
 -- Members of one cell each make a row.
 pub cells-row : (s : List ℕ) (top at n : ℕ) (vs : Values) → Front s top at n vs → Cells s at n → Row s at 1 n

@@ -3,10 +3,10 @@ ghost use Prim.Native.Nat.{_+_, _≤_, _<_};
 ghost use mathlib.Core.Bool.{true};
 ghost use mathlib.Core.Path.{_≡_};
 ghost use lib.ListN.{length};
-ghost use Rattle.arena.specs.Code.{SomeSet, SomeValue};
+ghost use Rattle.arena.specs.Code.{EndsAt, SomeSet, SomeValue};
 ghost use Rattle.sets.specs.Fronts.{SeekPre, Sought, Contains, Includes, TwoFronts, TurnAt, TwoRuns, RunIn, SomeFront, RunEnds, PutPre, Put};
 ghost use Rattle.sets.specs.Fronts.{RestThere, TailPre, Tailed, StepPre, Stepped, RestOf, EndPre, Ended, RunsBelow, RunsMerge, Merges};
-ghost use Rattle.sets.specs.Rows.{Row, LowerBound, Found, SetAt, OfCells, TwoRows, Kept, CellTurned, RowsBelow};
+ghost use Rattle.sets.specs.Rows.{Row, LowerBound, Found, SetAt, OfCells, SomeFine, TwoRows, Kept, CellTurned, RowsBelow};
 ghost use Rattle.sets.specs.Pairs.{SomePairs, FunctionAt, SomeRelation, Applies, SomeFlat, FlatFunctionAt, FlatAt, Relation, FlatRelation};
 
 // A set is small beside one with more than FEW times its members: a search for each member is quicker than a walk over both.
@@ -122,6 +122,17 @@ fn of_cells(s: &[u64], a: usize) -> bool
         return true;
     }
     s[a + 1] < arena::PAIR
+}
+
+// Where the value at a ends. A set whose members are one cell each needs no walk.
+pub fn value_end(s: &[u64], a: usize) -> usize
+    requires { ⌜ SomeFine (now s) a ⌝ }
+    ensures { λ r. ⌜ EndsAt (now (s .entry)) a r ⌝ }
+{
+    if s[a] >= arena::SET && of_cells(s, a) {
+        return a + 1 + arena::low(s[a]) as usize;
+    }
+    arena::end_of(s, a)
 }
 
 // Where the first of n members from `at` on stands that is the value at e, or (if first) whose first part is; 0 where there is none.
