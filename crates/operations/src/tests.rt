@@ -11,7 +11,7 @@ pub fn equal(s: &[u64], a: usize, b: usize) -> Tested
     if !fitting::alike(s, a, b) {
         return Tested::Unlike;
     }
-    let end = arena::end_of(s, a);
+    let end = sets::value_end(s, a);
     Tested::Truth(arena::compare(s, a, end, b) == 1)
 }
 

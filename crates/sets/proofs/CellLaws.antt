@@ -5,9 +5,9 @@ use mathlib.Core.Bool.{Bool, true, false, cond}
 use mathlib.Core.List.{List, _∷_}
 use mathlib.Core.Path.{_≡_, refl, sym, _∙_, subst}
 use native.Mathlib.Omega.{arith}
-use lib.Dec.{eqb}
+use lib.Dec.{ltb, eqb}
 use lib.ListN.{length, getD}
-use borrow.Author.Tests.{eqb-true, eqb-false}
+use borrow.Author.Tests.{lt-ltb, le-ltb, eqb-true, eqb-false}
 use mir.Val.{boolByte}
 use Rattle.rules.specs.Values.{Value, Values, none, _▸_, members, count, order}
 use Rattle.rules.specs.Operations.{isIn, allIn}
@@ -16,7 +16,7 @@ use Rattle.arena.specs.Code.{EndsAt, Rises, AllFit, SetBelow, Front}
 use Rattle.arena.proofs.FrontLaws.{front-start, front-value, front-next}
 use Rattle.arena.proofs.EvenLaws.{cell-less, cell-equal, cell-greater}
 use Rattle.sets.specs.Fronts.{keepOf, restLeft, restRight, TwoRuns, Cells}
-use Rattle.sets.specs.Rows.{HasCell, TwoRows}
+use Rattle.sets.specs.Rows.{Found, TwoRows}
 use Rattle.sets.proofs.TurnLaws.{allIn-turn, turn-less, turn-equal, turn-greater, Including, including-start, including-turn}
 use Rattle.sets.proofs.SearchLaws.{by-front}
 use Rattle.sets.proofs.RowLaws.{cells-first, cells-next, cells-weigh, cell-in}
@@ -53,12 +53,12 @@ module _ (s : List ℕ) (a m b n : ℕ) (whole : Bool) (h : Including s a m b n 
       go false e = refl
 
   -- A search for the first member.
-  module _ (l : 0 < m) (left : Cells s a m) (right : Cells s b n) (r : Bool) (found : HasCell s b n (getD s a 0) r) where
+  module _ (l : 0 < m) (left : Cells s a m) (right : Cells s b n) (r : ℕ) (found : Found s b 1 n (getD s a 0) r) where
     -- what is told by the first member's cell
-    first-in : (v : Value) (vs : Values) → Front s (length s) a m (v ▸ vs) → r ≡ isIn v (members (h .right))
+    first-in : (v : Value) (vs : Values) → Front s (length s) a m (v ▸ vs) → ltb r n ≡ isIn v (members (h .right))
     first-in v vs f = cell-in s a v (front-value s (length s) a m v vs f) (f .fits .0) (length s) b n (h .right) (h .onRight) right r found
 
-    pub including-found : r ≡ true → Including s (a + 1) (m - 1) b n whole
+    pub including-found : (r ≡ n → ⊥) → Including s (a + 1) (m - 1) b n whole
     unfolding allIn
     including-found z =
         by-front s (length s) a m (λ vs. whole ≡ allIn (members vs) (members (h .right)) → Including s (a + 1) (m - 1) b n whole)
@@ -67,14 +67,14 @@ module _ (s : List ℕ) (a m b n : ℕ) (whole : Bool) (h : Including s a m b n 
           right = h .right;
           onLeft = front-next s (length s) a m v vs f (a + 1) (m - 1) (omega (arith, cells-weigh s (length s) a m (v ▸ vs) f left .0)) (omega arith);
           onRight = h .onRight;
-          same = q ∙ rw (← first-in v vs f, z);
+          same = q ∙ rw (← first-in v vs f, lt-ltb r n (omega (arith, found .few)));
         }) (h .left) (h .onLeft) l (h .same)
 
-    pub including-lost : r ≡ false → false ≡ whole
+    pub including-lost : r ≡ n → false ≡ whole
     unfolding allIn
     including-lost z =
         by-front s (length s) a m (λ vs. whole ≡ allIn (members vs) (members (h .right)) → false ≡ whole)
-        (λ v vs f q. sym (q ∙ rw (← first-in v vs f, z))) (h .left) (h .onLeft) l (h .same)
+        (λ v vs f q. sym (q ∙ rw (← first-in v vs f, le-ltb r n (omega arith)))) (h .left) (h .onLeft) l (h .same)
 
   -- A turn of the walk over both.
   module _ (l : 0 < m) (k : 0 < n) (left : Cells s a m) (right : Cells s b n) where

@@ -1,29 +1,28 @@
 -- Rows of cells. The search halves what is left (`Halving`). The members of a set that weigh one cell each, known by the first
 -- (`flat-cells`), make a row (`cells-row`), and a value is a member where its cell is in the row (`cell-in`).
 use Prim.Native.Nat.{ℕ, zero, suc, _+_, _*_, _-_, _%_, _≤_, _<_, compare}
-use mathlib.Core.Bool.{Bool, true, false}
 use mathlib.Core.List.{List}
-use mathlib.Core.Logic.{_↔_, inl, inr}
+use mathlib.Core.Logic.{inl, inr}
 use mathlib.Core.Path.{_≡_, refl, sym, ap, _∙_, subst}
 use native.Mathlib.Omega.{arith}
 use native.Mathlib.Decide.{ℕ-discrete, decLt}
-use lib.Dec.{T, ltb}
+use lib.Dec.{ltb, ltb→lt, lt→ltb}
 use lib.ListN.{length, getD}
-use borrow.Author.Tests.{ltb-true, ltb-false}
-use Rattle.rules.specs.Values.{Value, Values, none, _▸_, members, weight, order}
+use Rattle.rules.specs.Types.{whole}
+use Rattle.rules.specs.Values.{num, truth, element, Value, scalar, pair, set, Values, none, _▸_, members, weight, order}
 use Rattle.rules.specs.Operations.{isIn}
 use Rattle.rules.proofs.Basics.{bool-eq}
 use Rattle.laws.proofs.OrderLaws.{order-eq, compare-refl, compare-lt, before-order}
 use Rattle.laws.proofs.Membership.{In, isIn-right}
 use Rattle.laws.proofs.CellsLaws.{weight-some, count-weights}
-use Rattle.arena.specs.Code.{cellSize, code, ValueAt, Same, CellsFit, EndsAt, partsOf, AllWeigh, EvenSet, SetBelow, Front}
+use Rattle.arena.specs.Code.{cellSize, code, ValueAt, Same, CellsFit, EndsAt, partsOf, AllWeigh, EvenSet, SetBelow, SomeSet, ValueBelow, Front}
 use Rattle.arena.proofs.CodeLaws.{length-code, length-codes, fits-small}
 use Rattle.arena.proofs.Standing.{leaf-ends, leaf-parts}
-use Rattle.arena.proofs.ValueParts.{scalar-cell, scalar-one}
+use Rattle.arena.proofs.ValueParts.{ends-at, first-cell, scalar-cell, scalar-one}
 use Rattle.arena.proofs.FrontLaws.{fit-small, set-inside, front-start, front-value, front-next}
 use Rattle.arena.proofs.EvenLaws.{weights-even, Behind, behind, value-at, cell-order}
 use Rattle.sets.specs.Fronts.{Cells, RunEnds}
-use Rattle.sets.specs.Rows.{Row, LowerBound, Found, HasCell}
+use Rattle.sets.specs.Rows.{Row, LowerBound, Found, Fine, SomeFine}
 
 -- `lower_bound`: of the cells passed, those before `from` are below x and those from `from + left` on are not.
 pub record Halving (s : List ℕ) (at step n x from left : ℕ) : Type 0 where
@@ -62,6 +61,11 @@ module _ (s : List ℕ) (at step n x : ℕ) (row : Row s at step n) where
   pub found-none : ((i : ℕ) → i < n → getD s (at + step * i) 0 ≡ x → ⊥) → Found s at step n x n
   found-none d = record { few = omega arith; here = λ l. absurd (omega arith); lost = λ _. d }
 
+  -- no cell is x where x is below the first one
+  pub found-below : x < getD s at 0 → Found s at step n x n
+  found-below l = found-none λ i k e.
+      omega (arith, row .rises 0 i (omega arith) k, ap (λ (j : ℕ). getD s j 0) (let z : at + step * 0 ≡ at = omega arith in z))
+
   module _ (r : ℕ) (h : LowerBound s at step n x r) where
     pub found-over : n ≤ r → Found s at step n x n
     found-over l = found-none λ i k e. omega (arith, h .below i (omega arith))
@@ -72,26 +76,6 @@ module _ (s : List ℕ) (at step n x : ℕ) (row : Row s at step n) where
         go : (i : ℕ) → i < n → getD s (at + step * i) 0 ≡ x → Dec (i < r) → ⊥
         go i k e (yes p) = omega (arith, h .below i p)
         go i k e (no p) = d (omega (arith, h .above r (omega arith) l, row .rises r i (omega arith) k))
-
--- `has_cell`: no cell is x where x is below the first one.
-pub cell-below : (s : List ℕ) (at n x : ℕ) → Row s at 1 n → x < getD s at 0 → HasCell s at n x false
-cell-below s at n x row l i k e =
-    omega (
-      arith,
-      row .rises 0 i (omega arith) k,
-      ap (λ (j : ℕ). getD s j 0) (let z : at + 1 * 0 ≡ at = omega arith in z),
-      ap (λ (j : ℕ). getD s j 0) (let z : at + 1 * i ≡ at + i = omega arith in z),
-    )
-
-pub found-cell : (s : List ℕ) (at n x r : ℕ) → Found s at 1 n x r → HasCell s at n x (ltb r n)
-found-cell s at n x r h = go (ltb r n) refl
-  where
-    place : (i : ℕ) → getD s (at + 1 * i) 0 ≡ getD s (at + i) 0
-    place i = ap (λ (j : ℕ). getD s j 0) (let e : at + 1 * i ≡ at + i = omega arith in e)
-
-    go : (b : Bool) → ltb r n ≡ b → HasCell s at n x b
-    go true e = let l = ltb-true r n e in (r, l, sym (place r) ∙ h .here l)
-    go false e = λ i l q. h .lost (omega (arith, h .few, ltb-false r n e)) i l (place i ∙ q)
 
 -- A row of numbers, each no less than the one before it.
 pub climb : (f : ℕ → ℕ) (n : ℕ) → ((i : ℕ) → suc i < n → f i ≤ f (suc i)) → (i j : ℕ) → i ≤ j → j < n → f i ≤ f j
@@ -178,6 +162,23 @@ module _ (s : List ℕ) (top a : ℕ) (vs : Values) (h : SetBelow s top a vs) wh
       let f = front-start s top a vs h listed refl in
       omega (arith, f .stands .inside, length-codes vs, f .counted, count-weights vs)
 
+  -- where the set ends, if they are
+  pub cells-ends : Cells s (a + 1) listed → EndsAt s a (a + 1 + listed)
+  cells-ends c =
+      subst (EndsAt s a) (omega (arith, cells-end s (a + 1) listed c top vs (front-start s top a vs h listed refl)))
+      (ends-at s a (set vs) (h .stands) (h .fine .fits))
+
+-- A cell that is not below that of the empty set is a set's.
+pub fine-set : (s : List ℕ) (at : ℕ) → SomeFine s at → 5 * cellSize ≤ getD s at 0 → SomeSet s (length s) at
+fine-set s at h l = go (h .0) (h .1) (h .2)
+  where
+    go : (v : Value) → ValueBelow s (length s) at v → Fine v → SomeSet s (length s) at
+    go (scalar (num whole i)) b f = absurd (omega (arith, first-cell s at (scalar (num whole i)) (b .stands) (b .fits) .0))
+    go (scalar (truth t)) b f = absurd (omega (arith, first-cell s at (scalar (truth t)) (b .stands) (b .fits) .0))
+    go (scalar (element g k)) b f = absurd (omega (arith, first-cell s at (scalar (element g k)) (b .stands) (b .fits) .0))
+    go (pair v w) b f = absurd (omega (arith, first-cell s at (pair v w) (b .stands) (b .fits) .0))
+    go (set vs) b f = (vs, record { stands = b .stands; below = b .below; fine = f })
+
 -- Members of one cell each make a row.
 pub cells-row : (s : List ℕ) (top at n : ℕ) (vs : Values) → Front s top at n vs → Cells s at n → Row s at 1 n
 cells-row s top at n vs f c = record {
@@ -220,23 +221,19 @@ cell-tells s a b v w h k p q one e =
 -- A value is a member where its cell is one of the members' cells.
 module _ (s : List ℕ) (e : ℕ) (v : Value) (value : ValueAt s e v) (fits : CellsFit v) (top at n : ℕ) (vs : Values) (f : Front s top at n vs)
     (c : Cells s at n) where
-  among : (i : ℕ) → i < n → getD s (at + i) 0 ≡ getD s e 0 → In v (members vs)
-  among i l q =
+  among : (i : ℕ) → i < n → getD s (at + 1 * i) 0 ≡ getD s e 0 → In v (members vs)
+  among =
       value-at s top at n 1 (λ ws. AllWeigh 1 ws × ((x : Value) → In x (members ws) → In x (members vs)))
       (λ w ws h. (h .0 .0, (h .0 .1, λ x j. h .1 x (inr j)))) (λ j. getD s j 0 ≡ getD s e 0 → In v (members vs))
       (λ j m w ws g h z. h .1 v (inl (sym (cell-tells s e j v w value (front-value s top j m w ws g) fits (g .fits .0) (h .0 .0) z))))
-      vs f (cells-weigh s top at n vs f c, λ x j. j) i l
-      (ap (λ (j : ℕ). getD s j 0) (let z : at + 1 * i ≡ at + i = omega arith in z) ∙ q)
+      vs f (cells-weigh s top at n vs f c, λ x j. j)
 
-  pub cell-in : (r : Bool) → HasCell s at n (getD s e 0) r → r ≡ isIn v (members vs)
-  cell-in r d = go r d
-    where
-      right : T (isIn v (members vs)) ↔ In v (members vs)
-      right = isIn-right v (members vs) (fits-small v fits) (fit-small vs (f .fits))
-
-      go : (b : Bool) → HasCell s at n (getD s e 0) b → b ≡ isIn v (members vs)
-      go true d = bool-eq true (isIn v (members vs)) (λ _. right .1 (among (d .0) (d .1) (d .2))) (λ _. tt)
-      go false d = bool-eq false (isIn v (members vs)) (λ z. absurd z) λ t.
-          let x = place-of s top 1 (AllWeigh 1) one-each v at n vs f (cells-weigh s top at n vs f c) (right .0 t) in
-          d (x .0) (x .1) (same-cell s (at + x .0) e v
-          (subst (λ (j : ℕ). ValueAt s j v) (let z : at + 1 * x .0 ≡ at + x .0 = omega arith in z) (x .2)) value)
+  pub cell-in : (r : ℕ) → Found s at 1 n (getD s e 0) r → ltb r n ≡ isIn v (members vs)
+  cell-in r d =
+      let right = isIn-right v (members vs) (fits-small v fits) (fit-small vs (f .fits)) in
+      bool-eq (ltb r n) (isIn v (members vs)) (λ t. let l = ltb→lt r n t in right .1 (among r l (d .here l))) λ t.
+      let x = place-of s top 1 (AllWeigh 1) one-each v at n vs f (cells-weigh s top at n vs f c) (right .0 t) in
+      elim (ℕ-discrete r n) [
+        | yes z ↦ absurd (d .lost z (x .0) (x .1) (same-cell s (at + 1 * x .0) e v (x .2) value))
+        | no z ↦ lt→ltb r n (omega (arith, d .few))
+      ]

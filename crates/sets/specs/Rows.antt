@@ -6,7 +6,8 @@ use mathlib.Core.Logic.{_⊎_}
 use mathlib.Core.Path.{_≡_}
 use lib.ListN.{length, getD}
 use mir.Val.{boolByte}
-use Rattle.arena.specs.Code.{SomeSet}
+use Rattle.rules.specs.Values.{Value, scalar, pair, set}
+use Rattle.arena.specs.Code.{FineSet, SomeSet, ValueBelow}
 use Rattle.sets.specs.Fronts.{Cells, TwoRuns}
 use Rattle.sets.specs.declared.CellTurn.{CellTurn}
 
@@ -27,17 +28,21 @@ pub record Found (s : List ℕ) (at step n x r : ℕ) : Type 0 where
   pub here : r < n → getD s (at + step * r) 0 ≡ x
   pub lost : r ≡ n → (i : ℕ) → i < n → getD s (at + step * i) 0 ≡ x → ⊥
 
--- The answer says whether x is one of n cells from `at` on.
-abbrev pub HasCell : List ℕ → ℕ → ℕ → ℕ → Bool → Type 0
-HasCell s at n x true = (i : ℕ) × (i < n) × (getD s (at + i) 0 ≡ x)
-HasCell s at n x false = (i : ℕ) → i < n → getD s (at + i) 0 ≡ x → ⊥
-
 -- Where the answer is `true`, the members of the set at a are one cell each.
 abbrev pub OfCells : List ℕ → ℕ → Bool → Type 0
 OfCells s a r = r ≡ true → Cells s (a + 1) (getD s a 0 % 4294967296)
 
 abbrev pub SetAt : List ℕ → ℕ → Type 0
 SetAt s a = (top : ℕ) × SomeSet s top a
+
+-- A value that evaluation may have formed stands at `at`.
+abbrev pub Fine : Value → Type 0
+Fine (scalar x) = Unit {0}
+Fine (pair v w) = Unit {0}
+Fine (set vs) = FineSet vs
+
+abbrev pub SomeFine : List ℕ → ℕ → Type 0
+SomeFine s at = (v : Value) × ValueBelow s (length s) at v × Fine v
 
 -- m members from a on and n from b on, one cell each, stand below `top`.
 pub record TwoRows (s : List ℕ) (a m b n top : ℕ) : Type 0 where

@@ -3,10 +3,10 @@ ghost use Prim.Native.Nat.{_+_, _≤_, _<_};
 ghost use mathlib.Core.Bool.{true};
 ghost use mathlib.Core.Path.{_≡_};
 ghost use lib.ListN.{length};
-ghost use Rattle.arena.specs.Code.{SomeSet, SomeValue};
+ghost use Rattle.arena.specs.Code.{EndsAt, SomeSet, SomeValue};
 ghost use Rattle.sets.specs.Fronts.{SeekPre, Sought, Contains, Includes, TwoFronts, TurnAt, TwoRuns, RunIn, SomeFront, RunEnds, PutPre, Put};
 ghost use Rattle.sets.specs.Fronts.{RestThere, TailPre, Tailed, StepPre, Stepped, RestOf, EndPre, Ended, RunsBelow, RunsMerge, Merges};
-ghost use Rattle.sets.specs.Rows.{Row, LowerBound, Found, HasCell, SetAt, OfCells, TwoRows, Kept, CellTurned, RowsBelow};
+ghost use Rattle.sets.specs.Rows.{Row, LowerBound, Found, SetAt, OfCells, SomeFine, TwoRows, Kept, CellTurned, RowsBelow};
 ghost use Rattle.sets.specs.Pairs.{SomePairs, FunctionAt, SomeRelation, Applies, SomeFlat, FlatFunctionAt, FlatAt, Relation, FlatRelation};
 
 // A set is small beside one with more than FEW times its members: a search for each member is quicker than a walk over both.
@@ -92,25 +92,25 @@ fn find(s: &[u64], at: usize, step: usize, n: usize, x: u64) -> usize
     n
 }
 
-// Whether x is one of n rising cells from `at` on. They often follow one another with no gap: x is looked for first where it stands then.
-fn has_cell(s: &[u64], at: usize, n: usize, x: u64) -> bool
-    requires { ⌜ Row (now s) at 1 n ⌝ }
-    ensures { λ r. ⌜ HasCell (now (s .entry)) at n x r ⌝ }
+// `find`, which looks first where x stands if the cells follow one another with no gap, as they often do.
+fn position(s: &[u64], at: usize, step: usize, n: usize, x: u64) -> usize
+    requires { ⌜ Row (now s) at step n ⌝ }
+    ensures { λ r. ⌜ Found (now (s .entry)) at step n x r ⌝ }
 {
     if n == 0 {
-        return false;
+        return n;
     }
     let first = s[at];
     if x < first {
-        return false;
+        return n;
     }
     let guess = x - first;
     if guess < n as u64 {
-        if s[at + guess as usize] == x {
-            return true;
+        if s[at + step * guess as usize] == x {
+            return guess as usize;
         }
     }
-    find(s, at, 1, n, x) < n
+    find(s, at, step, n, x)
 }
 
 // Whether each member of the set at a is one cell. The members share a type, so that the first one decides.
@@ -122,6 +122,17 @@ fn of_cells(s: &[u64], a: usize) -> bool
         return true;
     }
     s[a + 1] < arena::PAIR
+}
+
+// Where the value at a ends. A set whose members are one cell each needs no walk.
+pub fn value_end(s: &[u64], a: usize) -> usize
+    requires { ⌜ SomeFine (now s) a ⌝ }
+    ensures { λ r. ⌜ EndsAt (now (s .entry)) a r ⌝ }
+{
+    if s[a] >= arena::SET && of_cells(s, a) {
+        return a + 1 + arena::low(s[a]) as usize;
+    }
+    arena::end_of(s, a)
 }
 
 // Where the first of n members from `at` on stands that is the value at e, or (if first) whose first part is; 0 where there is none.
@@ -154,7 +165,7 @@ pub fn contains(s: &[u64], e: usize, a: usize) -> bool
 {
     let n = arena::low(s[a]);
     if of_cells(s, a) {
-        return has_cell(s, a + 1, n as usize, s[e]);
+        return position(s, a + 1, 1, n as usize, s[e]) < n as usize;
     }
     seek(s, a + 1, n, e, false) > 0
 }
@@ -217,7 +228,7 @@ fn search_cells(s: &[u64], a: usize, m: usize, b: usize, n: usize) -> bool
     let mut i = a;
     let mut left = m;
     while left > 0 {
-        if !has_cell(s, b, n, s[i]) {
+        if position(s, b, 1, n, s[i]) == n {
             return false;
         }
         i += 1;
@@ -362,7 +373,7 @@ fn flat_image(s: &[u64], f: usize, n: usize, e: usize) -> usize
     ensures { λ r. ⌜ Applies (now (s .entry)) f e r ⌝ }
 {
     let at = f + 1;
-    let k = find(s, at + 1, FLAT_PAIR, n, s[e]);
+    let k = position(s, at + 1, FLAT_PAIR, n, s[e]);
     if k == n {
         return 0;
     }

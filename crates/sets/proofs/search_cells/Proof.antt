@@ -1,5 +1,4 @@
 -- `search_cells`: the first set is included where each of its members that are left is found in the second.
-use borrow.Author.Tests.{not-true, not-false}
 use native.Mathlib.Omega.{arith}
 use Rattle.sets.proofs.RowLaws.{cells-row, cells-next}
 use Rattle.sets.proofs.TurnLaws.{including-end}
@@ -15,7 +14,7 @@ abbrev μ-loop : tie.MeasureT-loop
 
 -- The answer of the search for a member.
 abbrev Sought : Type 0
-Sought = tie.After-has-cell Inv-loop μ-loop
+Sought = tie.After-position Inv-loop μ-loop
 
 abbrev turn : Sought → tie.In-loop Inv-loop μ-loop
 turn h = h .before .before
@@ -28,8 +27,8 @@ returns c = λ vs ws f g.
     let h = c .before in
     let t = turn h in
     let w = t .before .loop .inv in
-    including-lost _ _ _ _ _ _ (w .on vs ws f g) (t .loop-test .taken) (w .cells) (w .otherCells)
-    (h .has-cell .result) (h .has-cell .ensures) (not-true _ (c .if1 .taken))
+    including-lost _ _ _ _ _ _ (w .on vs ws f g) (t .loop-test .taken) (w .cells) (w .otherCells) _ (h .position .ensures)
+    (c .if1 .taken)
 
 loop-again : tie.Need-loop-again Inv-loop μ-loop
 loop-again c =
@@ -40,8 +39,8 @@ loop-again c =
       cells = cells-next _ _ _ _ (w .cells) (omega (arith, t .loop-test .taken));
       otherCells = w .otherCells;
       on = λ vs ws f g.
-          including-found _ _ _ _ _ _ (w .on vs ws f g) (t .loop-test .taken) (w .cells) (w .otherCells)
-          (h .has-cell .result) (h .has-cell .ensures) (not-false _ (c .if1 .left));
+          including-found _ _ _ _ _ _ (w .on vs ws f g) (t .loop-test .taken) (w .cells) (w .otherCells) _
+          (h .position .ensures) (c .if1 .left);
     }
 
 pub search-cells-spec : {M : Type 1} → statement M
