@@ -3,12 +3,12 @@
 use Prim.Native.Nat.{ℕ, _%_}
 use mathlib.Core.Bool.{Bool, true}
 use mathlib.Core.List.{List, [], _∷_}
-use mathlib.Core.Path.{_≡_, sym, _∙_}
+use mathlib.Core.Path.{_≡_, sym, _∙_, subst}
 use native.Mathlib.Omega.{arith}
 use lib.IntN.{ℤ}
-use lib.ListN.{getD}
+use lib.ListN.{length, getD}
 use Rattle.rules.specs.Types.{whole, Ty, POW, _⊗_, INTEGER}
-use Rattle.rules.specs.Values.{num, truth, element, Value, scalar, pair, set, Values, none, _▸_, int}
+use Rattle.rules.specs.Values.{num, truth, element, Value, scalar, pair, set, Values, none, _▸_, members, int}
 use Rattle.rules.specs.Rules.{Pattern, t̂, û, P̂, _×̂_, numᵖ, inst}
 use Rattle.rules.specs.Fits.{HasType, HaveType, Fits, fits, typed}
 use Rattle.rules.proofs.Basics.{absurd01}
@@ -17,9 +17,10 @@ use Rattle.laws.proofs.FitsLaws.{fits-right, typed-right}
 use Rattle.fitting.specs.Tests.{FitOne, FitTwo, Both}
 use Rattle.arena.specs.Code.{excess, code, IsPair, AllPairs, SetBelow}
 use Rattle.arena.proofs.Standing.{stands-head}
-use Rattle.operations.specs.Good.{Sizes, GoodAt}
+use Rattle.sets.specs.Pairs.{newFirsts, SomeRelation, KnownFunction}
+use Rattle.operations.specs.Good.{Sizes, GoodAt, SomeGood, IsFunction, FunctionSeen}
 use Rattle.operations.specs.Outcomes.{Operands, NumberCell}
-use Rattle.operations.proofs.GoodLaws.{good-fits, good-typed-at, good-set-at}
+use Rattle.operations.proofs.GoodLaws.{good-fits, good-typed-at, good-whole, good-set-at}
 
 -- Operands that fit have the types of the rule.
 module _ (ps : List Pattern) (vs : List Value) where
@@ -90,6 +91,17 @@ module _ {gs s : List ℕ} {top a : ℕ} {v : Value} (small : Sizes gs) (h : Goo
     one-relation f e g =
         let x = fit-types (P̂ (t̂ ×̂ û) ∷ []) (v ∷ []) (one-fits (P̂ (t̂ ×̂ û) ∷ []) f ∙ e) in
         on-set (λ y. GoodAt gs s top a y → P y) v (x .0 ⊗ x .1) (x .2 .0) (λ vs q i. g vs (good-set-at small vs i) (pairs-typed vs (x .0) (x .1) q)) h
+
+-- A relation that is seen to be a function.
+module _ {s : List ℕ} {a : ℕ} {f : Bool} (fit : FitOne (P̂ (t̂ ×̂ û) ∷ []) s a f) (e : f ≡ true) where
+  pub some-relation : SomeGood s a → SomeRelation s (length s) a
+  some-relation p =
+      one-relation (p .small) (good-whole (p .small) (p .stands)) (λ _. SomeRelation s (length s) a) fit e (λ vs k q. (vs, k, q))
+
+  pub function-seen : {r : Bool} → KnownFunction s a r → FunctionSeen s a r
+  function-seen g z gs top v small h =
+      one-relation small (good-whole small h) IsFunction fit e
+      (λ vs k q ws d. let i : vs ≡ ws = cc in subst (λ (x : Values). newFirsts (members x) ≡ true) i (g z vs k q))
 
 -- Two operands.
 module _ {gs s : List ℕ} {mid top a b : ℕ} {v w : Value} (small : Sizes gs) (h : GoodAt gs s mid a v) (k : GoodAt gs s top b w) where

@@ -1,7 +1,8 @@
 -- What a good value of the arena is to the functions below: it fits, has a type, and as a set can be an operand.
 use Prim.Native.Nat.{ℕ, _≤_, _<_}
-use mathlib.Core.Bool.{_&&_}
+use mathlib.Core.Bool.{Bool, true, _&&_}
 use mathlib.Core.List.{List}
+use mathlib.Core.Path.{_≡_}
 use native.Mathlib.Omega.{arith}
 use lib.Dec.{T}
 use lib.ListN.{length}
@@ -12,9 +13,11 @@ use Rattle.laws.proofs.CellsLaws.{encodable-wellFormed, few-sizes, good-wellFor
 use Rattle.arena.specs.Code.{CellsFit, SomeAt, Rises, FineSet, SetBelow, ValueBelow}
 use Rattle.arena.proofs.CodeLaws.{length-code, encodable-fits}
 use Rattle.arena.proofs.EvenLaws.{typed-even}
+use Rattle.arena.proofs.ValueParts.{value-eq}
+use Rattle.sets.specs.Pairs.{KnownFunction}
 use Rattle.fitting.specs.Agree.{TypedAt}
 use Rattle.fitting.proofs.Cells.{typed-at}
-use Rattle.operations.specs.Good.{Sizes, GoodAt}
+use Rattle.operations.specs.Good.{Sizes, GoodAt, IsFunction}
 
 rising-rises : (gs : List ℕ) (s : Values) → T (risingAll gs s) → Rises s
 rising-rises gs none h = tt
@@ -60,3 +63,8 @@ module _ {gs : List ℕ} (small : Sizes gs) where
 
   pub good-set-at : {s : List ℕ} {top at : ℕ} (vs : Values) → GoodAt gs s top at (set vs) → SetBelow s top at vs
   good-set-at vs h = record { stands = h .stands; below = h .below; fine = good-set vs (h .good) }
+
+-- Of a good value that is a function it is known where it stands.
+pub function-known : {gs s : List ℕ} {top a : ℕ} {v : Value} {k : Bool} → Sizes gs → GoodAt gs s top a v → (k ≡ true → IsFunction v) → KnownFunction s a k
+function-known {s = s} {a = a} {v = v} small h g e vs b _ =
+    g e vs (value-eq s a v (set vs) (h .stands) (b .stands) (good-fits small v (h .good)) (b .fine .fits))

@@ -1,11 +1,14 @@
 -- Good values of the arena: those that refusal 14 lets through and those that evaluation forms.
 use Prim.Native.Nat.{ℕ, _+_, _≤_}
+use mathlib.Core.Bool.{Bool, true}
 use mathlib.Core.List.{List}
+use mathlib.Core.Path.{_≡_}
 use lib.Dec.{T}
 use lib.ListN.{length, getD}
-use Rattle.rules.specs.Values.{Value, weight}
+use Rattle.rules.specs.Values.{Value, set, Values, members, weight}
 use Rattle.rules.specs.Cells.{good}
 use Rattle.arena.specs.Code.{ValueAt}
+use Rattle.sets.specs.Pairs.{newFirsts}
 
 -- The sizes of the given sets of a readable table.
 pub record Sizes (gs : List ℕ) : Type 0 where
@@ -25,3 +28,11 @@ pub record SomeGood (s : List ℕ) (at : ℕ) : Type 0 where
   pub top : ℕ
   pub value : Value
   pub stands : GoodAt sizes s top at value
+
+-- If the value is a set, no member shares its first part with the next one.
+abbrev pub IsFunction : Value → Type 0
+IsFunction v = (vs : Values) → v ≡ set vs → newFirsts (members vs) ≡ true
+
+-- Where r is true, the good value at a is a function.
+abbrev pub FunctionSeen : List ℕ → ℕ → Bool → Type 0
+FunctionSeen s a r = r ≡ true → (gs : List ℕ) (top : ℕ) (v : Value) → Sizes gs → GoodAt gs s top a v → IsFunction v

@@ -2,6 +2,7 @@
 use Prim.Native.Nat.{ℕ, _+_, _≤_, _<_}
 use mathlib.Core.Bool.{cond}
 use mathlib.Core.List.{List, [], _∷_}
+use mathlib.Core.Logic.{_≢_}
 use mathlib.Core.Option.{some}
 use mathlib.Core.Path.{_≡_}
 use lib.Dec.{leb, eqb}
@@ -133,9 +134,14 @@ OneOf k s a top s′ r = (j : One) → kindOf k ≡ some (one j) → OneDone j s
 abbrev pub TwoOf : ℕ → List ℕ → ℕ → ℕ → ℕ → List ℕ → Outcome → Type 0
 TwoOf k s a b top s′ r = (j : Two) → kindOf k ≡ some (two j) → TwoDone j s a b top s′ r
 
--- A sum or a difference builds nothing.
-abbrev pub SumOf : ℕ → List ℕ → ℕ → ℕ → Outcome → Type 0
-SumOf k s a b r = (top : ℕ) → TwoOf k s a b top s r
+-- Application, sum and difference build nothing.
+pub record IsLight (k : ℕ) : Type 0 where
+  pub low : 37 ≤ k
+  pub high : k ≤ 40
+  pub other : k ≢ 38
+
+abbrev pub LightOf : ℕ → List ℕ → ℕ → ℕ → Outcome → Type 0
+LightOf k s a b r = (top : ℕ) → TwoOf k s a b top s r
 
 abbrev pub TestOf : ℕ → List ℕ → ℕ → ℕ → Tested → Type 0
 TestOf k s a b r = (j : Test) → kindOf k ≡ some (test j) → TestDone j s a b r

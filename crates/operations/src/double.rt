@@ -4,6 +4,7 @@ use crate::built;
 ghost use Prim.Native.Nat.{ℕ, _<_};
 ghost use Rattle.rules.specs.Types.{whole};
 ghost use Rattle.rules.specs.Kinds.{pairing, product, apply, plus, minus, interval};
+ghost use Rattle.sets.specs.Pairs.{KnownFunction};
 ghost use Rattle.operations.specs.Outcomes.{SomeOperands, TwoReady, TwoDone};
 ghost use Rattle.operations.specs.Double.{MergeDone, NumberDone};
 
@@ -44,14 +45,14 @@ pub fn product(s: &mut [u64], a: usize, b: usize, top: usize) -> Outcome
 }
 
 // The image stays where it is, within the function.
-pub fn apply(s: &[u64], a: usize, b: usize) -> Outcome
-    requires { ⌜ SomeOperands (now s) a b ⌝ }
+pub fn apply(s: &[u64], a: usize, b: usize, known: bool) -> Outcome
+    requires { ⌜ SomeOperands (now s) a b × KnownFunction (now s) a known ⌝ }
     ensures { λ r. ⌜ ((top : ℕ) → TwoDone apply (now (s .entry)) a b top (now (s .entry)) r) ⌝ }
 {
     if !fitting::applies(s, a, b) {
         return Outcome::Lacks(15);
     }
-    let at = sets::image(s, a, b);
+    let at = sets::image(s, a, b, known);
     if at == 0 {
         return Outcome::Lacks(16);
     }

@@ -1,7 +1,9 @@
 // What each kind gives for its operands' values, by kind codes: refusals 15 to 18, and values built in the arena.
 ghost use mathlib.Core.Path.{_≡_};
-ghost use Prim.Native.Nat.{_≤_};
-ghost use Rattle.operations.specs.Outcomes.{ended, OneReady, OneOf, SomeOperands, TwoReady, TwoOf, SumOf, TestOf, LeafReady, LeafDone};
+ghost use mathlib.Core.Bool.{true};
+ghost use Rattle.operations.specs.Outcomes.{ended, OneReady, OneOf, SomeOperands, TwoReady, TwoOf, IsLight, LightOf, TestOf, LeafReady, LeafDone};
+ghost use Rattle.operations.specs.Good.{SomeGood, FunctionSeen};
+ghost use Rattle.sets.specs.Pairs.{KnownFunction};
 
 mod double;
 pub mod leaves;
@@ -60,15 +62,40 @@ pub fn leaf(s: &mut [u64], kind: usize, a: u64, size: u64, top: usize) -> usize
     }
 }
 
-// Kinds 39 and 40 of the operands at a and b.
-pub fn sum(s: &[u64], kind: usize, a: usize, b: usize) -> Outcome
-    requires { ⌜ SomeOperands (now s) a b × (39 ≤ kind) × (kind ≤ 40) ⌝ }
-    ensures { λ r. ⌜ SumOf kind (now (s .entry)) a b r ⌝ }
+// Whether operations of the kind build nothing: 37, 39 and 40.
+pub fn is_light(kind: usize) -> bool
+    ensures { λ r. ⌜ (r ≡ true → IsLight kind) ⌝ }
+{
+    if kind == 38 {
+        return false;
+    }
+    if kind < 37 {
+        return false;
+    }
+    kind <= 40
+}
+
+// These kinds, for the operands at a and b. That the first one is a function may be known.
+pub fn light(s: &[u64], kind: usize, a: usize, b: usize, known: bool) -> Outcome
+    requires { ⌜ SomeOperands (now s) a b × KnownFunction (now s) a known × IsLight kind ⌝ }
+    ensures { λ r. ⌜ LightOf kind (now (s .entry)) a b r ⌝ }
 {
     match kind {
+        37 => double::apply(s, a, b, known),
         39 => double::plus(s, a, b),
         _ => double::minus(s, a, b),
     }
+}
+
+// Whether the value at a is seen to be a function without much work.
+pub fn known_function(s: &[u64], a: usize) -> bool
+    requires { ⌜ SomeGood (now s) a ⌝ }
+    ensures { λ r. ⌜ FunctionSeen (now (s .entry)) a r ⌝ }
+{
+    if !fitting::is_relation(s, a) {
+        return false;
+    }
+    sets::flat_mapping(s, a)
 }
 
 // Kinds 28 to 32, 37 and 39 to 41: two operands, at a and b.
@@ -82,7 +109,7 @@ pub fn two(s: &mut [u64], kind: usize, a: usize, b: usize, top: usize) -> Outcom
         30 => double::merge(s, a, b, top, false, true, false),
         31 => double::merge(s, a, b, top, true, false, false),
         32 => double::product(s, a, b, top),
-        37 => double::apply(s, a, b),
+        37 => double::apply(s, a, b, false),
         39 => double::plus(s, a, b),
         40 => double::minus(s, a, b),
         _ => double::interval(s, a, b, top),

@@ -1,7 +1,7 @@
 -- Pairs of a relation in the arena: whether none shares its first part with the next one, which the pairs that are left decide
 -- (`Checking`), and what is found as an application (`image-found`).
 use Prim.Native.Nat.{ℕ, _+_, _-_, _%_, _≤_, _<_, Ordering, Ordering·lt, Ordering·eq, Ordering·gt}
-use mathlib.Core.Bool.{true, false}
+use mathlib.Core.Bool.{Bool, true, false}
 use mathlib.Core.List.{List}
 use mathlib.Core.Path.{_≡_, refl, sym, ap, _∙_}
 use native.Mathlib.Omega.{arith}
@@ -17,7 +17,7 @@ use Rattle.arena.proofs.CodeLaws.{fits-small}
 use Rattle.arena.proofs.ValueParts.{left-stands, right-stands}
 use Rattle.arena.proofs.FrontLaws.{rises-rising, fit-small, front-start, front-value, front-next, code-equal}
 use Rattle.sets.specs.Fronts.{Member}
-use Rattle.sets.specs.Pairs.{newFirsts, Within, ImageAt}
+use Rattle.sets.specs.Pairs.{newFirsts, FlatAt, FlatFunctionAt, KnownFunction, Within, ImageAt}
 use Rattle.sets.proofs.PairLaws.{applied-none, applied-shared, applied-found}
 use Rattle.sets.proofs.SearchLaws.{key-stands}
 
@@ -190,3 +190,7 @@ module _ (s : List ℕ) (f n e : ℕ) (vs : Values) (v : Value) (h : SetBelow s 
               light = omega (arith, w .light);
             };
           }
+
+-- What the neighbours of flat pairs tell is known of the relation.
+pub flat-known : {s : List ℕ} {f n : ℕ} {r : Bool} → n ≡ getD s f 0 % 4294967296 → FlatAt s f → FlatFunctionAt s (f + 1) n r → KnownFunction s f r
+flat-known c flat g e vs h p = sym (g _ vs (front-start _ _ _ _ h _ c) (flat _ vs h p)) ∙ e

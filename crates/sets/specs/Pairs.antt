@@ -57,6 +57,10 @@ pub record FlatRelation (s : List ℕ) (f n e : ℕ) : Type 0 where
   pub whole : Relation s f n e
   pub flat : FlatAt s f
 
+-- Where k is true, no two pairs of the relation at f share a first part.
+abbrev pub KnownFunction : List ℕ → ℕ → Bool → Type 0
+KnownFunction s f k = k ≡ true → (vs : Values) → SetBelow s (length s) f vs → AllPairs vs → newFirsts (members vs) ≡ true
+
 -- u stands at r, within the set vs at f.
 pub record Within (s : List ℕ) (f : ℕ) (vs : Values) (r : ℕ) (u : Value) : Type 0 where
   pub positive : 0 < r

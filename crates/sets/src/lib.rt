@@ -7,7 +7,7 @@ ghost use Rattle.arena.specs.Code.{EndsAt, SomeSet, SomeValue};
 ghost use Rattle.sets.specs.Fronts.{SeekPre, Sought, Contains, Includes, TwoFronts, TurnAt, TwoRuns, RunIn, SomeFront, RunEnds, PutPre, Put};
 ghost use Rattle.sets.specs.Fronts.{RestThere, TailPre, Tailed, StepPre, Stepped, RestOf, EndPre, Ended, RunsBelow, RunsMerge, Merges};
 ghost use Rattle.sets.specs.Rows.{Row, LowerBound, Found, SetAt, OfCells, SomeFine, TwoRows, Kept, CellTurned, RowsBelow};
-ghost use Rattle.sets.specs.Pairs.{SomePairs, FunctionAt, SomeRelation, Applies, SomeFlat, FlatFunctionAt, FlatAt, Relation, FlatRelation};
+ghost use Rattle.sets.specs.Pairs.{SomePairs, FunctionAt, SomeRelation, Applies, SomeFlat, FlatFunctionAt, FlatAt, Relation, FlatRelation, KnownFunction};
 
 // A set is small beside one with more than FEW times its members: a search for each member is quicker than a walk over both.
 const FEW: usize = 8;
@@ -368,8 +368,8 @@ fn flat_function(s: &[u64], at: usize, n: usize) -> bool
 }
 
 // `image` for n such pairs: e is looked for among the first parts; whether f is a function is asked where e is found.
-fn flat_image(s: &[u64], f: usize, n: usize, e: usize) -> usize
-    requires { ⌜ FlatRelation (now s) f n e ⌝ }
+fn flat_image(s: &[u64], f: usize, n: usize, e: usize, known: bool) -> usize
+    requires { ⌜ FlatRelation (now s) f n e × KnownFunction (now s) f known ⌝ }
     ensures { λ r. ⌜ Applies (now (s .entry)) f e r ⌝ }
 {
     let at = f + 1;
@@ -377,8 +377,12 @@ fn flat_image(s: &[u64], f: usize, n: usize, e: usize) -> usize
     if k == n {
         return 0;
     }
+    let image = at + FLAT_PAIR * k + 2;
+    if known {
+        return image;
+    }
     if flat_function(s, at, n) {
-        return at + FLAT_PAIR * k + 2;
+        return image;
     }
     0
 }
@@ -400,16 +404,28 @@ fn walk_image(s: &[u64], f: usize, n: u64, e: usize) -> usize
 }
 
 // Application: where the second part stands that goes with the value at e; 0 where there is none, or where two pairs of f share a first
-// part.
-pub fn image(s: &[u64], f: usize, e: usize) -> usize
-    requires { ⌜ SomeValue (now s) (length (now s)) e × SomeRelation (now s) (length (now s)) f ⌝ }
+// part. That none do may be known.
+pub fn image(s: &[u64], f: usize, e: usize, known: bool) -> usize
+    requires { ⌜ SomeValue (now s) (length (now s)) e × SomeRelation (now s) (length (now s)) f × KnownFunction (now s) f known ⌝ }
     ensures { λ r. ⌜ Applies (now (s .entry)) f e r ⌝ }
 {
     let n = arena::low(s[f]);
     if of_flat_pairs(s, f) {
-        return flat_image(s, f, n as usize, e);
+        return flat_image(s, f, n as usize, e, known);
     }
     walk_image(s, f, n, e)
+}
+
+// Whether the relation at f is seen to be a function without much work: its pairs are such pairs, and no two share a first part.
+pub fn flat_mapping(s: &[u64], f: usize) -> bool
+    requires { ⌜ SomeRelation (now s) (length (now s)) f ⌝ }
+    ensures { λ r. ⌜ KnownFunction (now (s .entry)) f r ⌝ }
+{
+    if !of_flat_pairs(s, f) {
+        return false;
+    }
+    let n = arena::low(s[f]);
+    flat_function(s, f + 1, n as usize)
 }
 
 // Where n members from `at` on end.

@@ -1,4 +1,5 @@
 -- `two`: each code has its kind. In a need, m is where the operation has answered.
+use mathlib.Core.Bool.{false≢true}
 use mathlib.Core.Path.{refl}
 use Rattle.rules.specs.Types.{whole}
 use Rattle.rules.specs.Kinds.{pairing, union, inter, diff, product, apply, plus, minus}
@@ -24,7 +25,7 @@ two-spec =
     (λ c κs. search needs)
     (λ c κs. search needs)
     (λ c κs. search needs)
-    (λ c κs. search needs)
+    (λ c κs. let t = c .before .before .before .pre .operands in ((_, t), λ e. absurd (false≢true e)))
     (λ c κs. search needs)
     (λ c κs. search needs)
     (λ c κs. search needs)

@@ -10,11 +10,13 @@ listed t = t .before .before
 flat-image-requires : tie.Need-flat-image-requires
 flat-image-requires c κs =
     let l = listed c in
-    let q = l .before .before .before .pre in
-    record {
-      whole = record { value = q .0; relation = q .1; counted = l .low .ensures .0 };
-      flat = c .before .of-flat-pairs .ensures (c .if1 .taken);
-    }
+    let q = l .before .before .before .pre in (
+      record {
+        whole = record { value = q .0; relation = q .1; counted = l .low .ensures .0 };
+        flat = c .before .of-flat-pairs .ensures (c .if1 .taken);
+      },
+      q .2,
+    )
 
 pub image-spec : {M : Type 1} → statement M
 image-spec =

@@ -16,8 +16,8 @@ pub apply-spec : {M : Type 1} → statement M
 apply-spec =
     tie.close
     (tie.spec
-    (λ c κs. ready-both (c .before .pre .1))
+    (λ c κs. ready-both (c .before .pre .0 .1))
     (λ c _. two-unlike apply (c .before .applies .ensures) (not-true _ (c .if1 .taken)))
-    (λ c κs. ready-function (lent c .pre .1) (c .before .applies .ensures) (not-false _ (c .if1 .left)))
+    (λ c κs. let r = ready-function (lent c .pre .0 .1) (c .before .applies .ensures) (not-false _ (c .if1 .left)) in (r .0, r .1, lent c .pre .1))
     (λ c _. let e = applies (c .before) in apply-none (e .before .applies .ensures) (not-false _ (e .if1 .left)) _ (c .before .image .ensures) (c .if2 .taken))
     (λ c _. let e = applies (c .before) in apply-some (e .before .applies .ensures) (not-false _ (e .if1 .left)) _ (c .before .image .ensures) (c .if2 .left)))
