@@ -3,9 +3,11 @@ use Prim.Native.Nat.{ℕ, _+_, _-_, _*_, _≤_, _<_}
 use mathlib.Core.Bool.{Bool, true}
 use mathlib.Core.List.{List}
 use mathlib.Core.Logic.{_≢_}
-use mathlib.Core.Path.{_≡_, sym, ap, _∙_, subst}
+use mathlib.Core.Path.{_≡_, refl, sym, ap, _∙_, subst}
 use native.Mathlib.Omega.{arith}
-use lib.ListN.{length, getD}
+use native.Mathlib.Decide.{ℕ-discrete}
+use lib.ListN.{length, getD, set as setAt, length-set}
+use lib.Seq.{getD-set-same, getD-set-other}
 use Rattle.rules.specs.Cells.{noValue, valuesIn}
 use Rattle.rules.specs.Ends.{done, refused}
 use Rattle.rules.specs.Tables.{Table, tableOf, lastNode, nodeCount, identifierCount, kindAt}
@@ -32,14 +34,17 @@ use Rattle.buffer.specs.Buffer.{cellsAtMost}
 use Rattle.constants.specs.Built.{Builds}
 use Rattle.constants.specs.Constants.{Constants, OnlyBelow}
 use Rattle.constants.proofs.ConstantLaws.{constants-frame}
-use Rattle.evaluators.proofs.NodeLaws.{node-tall, condition-cells}
+use Rattle.evaluators.proofs.NodeLaws.{sizes-small, node-tall, condition-cells}
 use Rattle.evaluate.specs.declared.Evaluation.{Evaluation}
 use Rattle.evaluators.specs.declared.Held.{Held}
 use Rattle.evaluators.specs.Answers.{HeldAs}
 use Rattle.evaluators.specs.Cycle.{conditionCells, expressionCells, Binds, Ready, holdsAt, EvaluatesP}
-use Rattle.evaluators.specs.Nodes.{IsPred}
+use Rattle.evaluators.specs.Nodes.{IsPred, placeOf}
+use Rattle.operations.specs.Good.{GoodAt, SomeGood}
+use Rattle.arena.proofs.ValueParts.{some-inside}
+use Rattle.arena.proofs.FrontLaws.{value-some}
 use Rattle.evaluate.specs.Result.{endingOf, RefusedAt, Reported, Within, Reports}
-use Rattle.evaluate.specs.Arenas.{Needs, ArenaReady, RoomFor, Measured, RootReady, RootReported}
+use Rattle.evaluate.specs.Arenas.{Needs, ArenaReady, RoomFor, Measured, RootReady, RootReported, Plain, EntryMarked, Marks}
 use Rattle.evaluate.proofs.ReportLaws.{held-within}
 
 -- The arena has room for the constants, and then for the values.
@@ -78,6 +83,52 @@ lacking-reported bs buffer s env top a h budget {x} q e d =
     let l : valuesIn (tableOf bs) buffer ≡ refused 14 x = subst (λ (z : Loaded). Loads (tableOf bs .sizes) (tableOf bs .binds) buffer s env top z) e h in
     refusal-reported (unloaded-ends bs buffer budget 14 x (tableOf bs) (reading-right bs .1 q) l) d
 
+-- Marks change no place, and functions alone are marked.
+place-plain : {e : ℕ} → e < 65536 → placeOf e ≡ e
+place-plain h = omega (arith, h)
+
+pub entry-plain : {s : List ℕ} {e : ℕ} → e < 65536 → EntryMarked s e e
+entry-plain h = record { place = place-plain h; function = λ m. absurd (omega (arith, h, m)) }
+
+marks-bind : {bs s env env′ : List ℕ} {top : ℕ} {ρ : Env} → Readable bs → Plain env → Marks s env env′ → Binds bs s top env ρ → Binds bs s top env′ ρ
+marks-bind {bs} {s} {env} {env′} {top} {ρ} q p m b = record {
+  at = λ x l. rw (m .each x l .place) (good x l);
+  good = b .good;
+  functions = λ x l f. m .each x l .function f refl (tableOf bs .sizes) top (ρ x) (sizes-small bs q) (good x l);
+  constants = b .constants;
+  low = b .low;
+}
+  where
+    good : (x : ℕ) → x < 32 → GoodAt (tableOf bs .sizes) s top (getD env x 0) (ρ x)
+    good x l = rw (place-plain (p x l)) at (b .at x l)
+
+-- The marks, one after the other.
+pub marks-start : {s env : List ℕ} → length env ≡ 32 → Plain env → Marks s env env
+marks-start l p = record { entries = l; each = λ x h. entry-plain (p x h) }
+
+pub marks-more : {s env env′ : List ℕ} (x e : ℕ) → Marks s env env′ → x < 32 → EntryMarked s (getD env x 0) e → Marks s env (setAt env′ x e)
+marks-more {s} {env} {env′} x e m l h = record { entries = length-set env′ x e ∙ m .entries; each = λ y k. go y k (ℕ-discrete y x) }
+  where
+    go : (y : ℕ) → y < 32 → Dec (y ≡ x) → EntryMarked s (getD env y 0) (getD (setAt env′ x e) y 0)
+    go y k (yes d) = rw (d, getD-set-same env′ x e 0 (omega (arith, m .entries, l))) h
+    go y k (no d) = rw (getD-set-other env′ x y e 0 d) (m .each y k)
+
+-- The values stand where the environment says.
+pub entry-good : {bs env s : List ℕ} {top : ℕ} → RootReady bs env s top → Plain env → (x : ℕ) → x < 32 → SomeGood s (getD env x 0)
+entry-good {bs} r p x l =
+    let g = r .binds .at x l in
+    record { sizes = _; small = sizes-small bs (r .readable); top = _; value = _; stands = rw (place-plain (p x l)) at g }
+
+pub marked-ready : {bs s env env′ : List ℕ} {top : ℕ} → RootReady bs env s top → Plain env → Marks s env env′ → RootReady bs env′ s top
+marked-ready r p m = record {
+  readable = r .readable;
+  room = r .room;
+  small = r .small;
+  entries = m .entries;
+  values = r .values;
+  binds = marks-bind (r .readable) p m (r .binds);
+}
+
 -- The identifiers' values as an environment, over the arena s with the constants that s′ has.
 module _ (bs : List ℕ) {buffer s env : List ℕ} {top n : ℕ} (b : Bound (tableOf bs .sizes) (tableOf bs .binds) buffer s env n top) where
   read-all : valuesIn (tableOf bs) buffer ≡ done (b .values)
@@ -86,12 +137,17 @@ module _ (bs : List ℕ) {buffer s env : List ℕ} {top n : ℕ} (b : Bound (tab
 
   module _ {s₀ s₁ : List ℕ} (r : ArenaReady bs buffer s₀) (o : OnlyBelow (nodeCount bs) s₀ s₁) (c : Constants bs (nodeCount bs) s₁) (e : n ≡ nodeCount bs)
       (same : Same n s₁ s) where
+    -- What stands in the arena has a place below its length.
+    pub bound-plain : Plain env
+    bound-plain x l = let v = b .at x l in omega (arith, some-inside s (getD env x 0) (value-some s top _ _ v), r .small, same .kept, o .kept)
+
     pub bound-binds : Binds bs s top env (λ x. getD (b .values) x noValue)
     bound-binds =
         let g = valuesIn-good (tableOf bs) buffer (b .values) read-all in
         record {
-          at = λ x l. record { stands = b .at x l .stands; below = b .at x l .below; good = g x };
+          at = λ x l. rw (place-plain (bound-plain x l)) (record { stands = b .at x l .stands; below = b .at x l .below; good = g x });
           good = g;
+          functions = λ x l m. absurd (omega (arith, bound-plain x l, m));
           constants = constants-frame bs s₁ s (nodeCount bs) n same (omega (arith, e)) c;
           low = omega (arith, b .above, e);
         }
@@ -106,11 +162,13 @@ module _ (bs : List ℕ) {buffer s env : List ℕ} {top n : ℕ} (b : Bound (tab
       binds = bound-binds;
     }
 
-    -- The end of the run at these values is that of the evaluation.
-    pub run-reported : (budget : ℕ) {x : Evaluation} → RootReported bs env s top budget x → Reported (evaluation bs buffer budget) x
-    run-reported budget {x} h =
+    -- The end of the run at these values, by the environment that marks them, is that of the evaluation.
+    pub run-reported : (budget : ℕ) {env′ : List ℕ} → Marks s env env′ → {x : Evaluation} → RootReported bs env′ s top budget x →
+        Reported (evaluation bs buffer budget) x
+    run-reported budget m {x} h =
         subst (λ (z : Run Bool). Reported z x)
-        (sym (evaluation-run bs buffer budget (tableOf bs) (b .values) (reading-right bs .1 (r .needs .readable)) read-all)) (h (b .values) bound-binds)
+        (sym (evaluation-run bs buffer budget (tableOf bs) (b .values) (reading-right bs .1 (r .needs .readable)) read-all))
+        (h (b .values) (marks-bind (r .needs .readable) bound-plain m bound-binds))
 
 -- The run of the condition.
 module _ {bs env s : List ℕ} {top : ℕ} (r : RootReady bs env s top) {n : ℕ} (e : n ≡ nodeCount bs) where

@@ -1,6 +1,7 @@
 -- The arenas that an evaluation may be made in, and the room that it needs: a cell for each node's constant, one for identifiers without a value, the
 -- values' cells, and what the condition takes above them.
 use Prim.Native.Nat.{ℕ, _+_, _*_, _≤_, _<_}
+use mathlib.Core.Bool.{true}
 use mathlib.Core.List.{List}
 use mathlib.Core.Path.{_≡_}
 use lib.ListN.{length, getD}
@@ -14,6 +15,8 @@ use Rattle.rules.specs.Evaluation.{run}
 use Rattle.reading.specs.Answers.{rootHeight}
 use Rattle.buffer.specs.Buffer.{cellsAtMost}
 use Rattle.constants.specs.Built.{Builds}
+use Rattle.operations.specs.Good.{FunctionSeen}
+use Rattle.evaluators.specs.Nodes.{placeOf, Marked}
 use Rattle.evaluators.specs.Cycle.{conditionCells, Binds}
 use Rattle.evaluate.specs.declared.Evaluation.{Evaluation}
 use Rattle.evaluate.specs.Result.{Reported}
@@ -33,7 +36,7 @@ pub record Needs (bs values : List ℕ) (size : ℕ) : Type 0 where
 
 pub record ArenaReady (bs values s : List ℕ) : Type 0 where
   pub needs : Needs bs values (length s)
-  pub small : length s < 4294967296
+  pub small : length s < 65536
 
 -- The cells of the largest arena: room for 512 nodes, 32 values of 256 cells and the highest root.
 abbrev pub largestArena : ℕ
@@ -53,7 +56,7 @@ pub record Measured (bs values : List ℕ) (need : ℕ) : Type 0 where
 pub record RootReady (bs env s : List ℕ) (top : ℕ) : Type 0 where
   pub readable : Readable bs
   pub room : Builds bs → top + rootCells bs ≤ length s
-  pub small : length s < 4294967296
+  pub small : length s < 65536
   pub entries : length env ≡ 32
   pub values : Env
   pub binds : Binds bs s top env values
@@ -61,3 +64,16 @@ pub record RootReady (bs env s : List ℕ) (top : ℕ) : Type 0 where
 abbrev pub RootReported : List ℕ → List ℕ → List ℕ → ℕ → ℕ → Evaluation → Type 0
 RootReported bs env s top budget r =
     (vs : List Value) → Binds bs s top env (λ x. getD vs x noValue) → Reported (run (tableOf bs) vs budget) r
+
+-- No entry of the environment is marked.
+abbrev pub Plain : List ℕ → Type 0
+Plain env = (x : ℕ) → x < 32 → getD env x 0 < 65536
+
+-- The entry for the value at `at`, marked only where that is seen to be a function.
+pub record EntryMarked (s : List ℕ) (at r : ℕ) : Type 0 where
+  pub place : placeOf r ≡ at
+  pub function : Marked r → FunctionSeen s at true
+
+pub record Marks (s env r : List ℕ) : Type 0 where
+  pub entries : length r ≡ 32
+  pub each : (x : ℕ) → x < 32 → EntryMarked s (getD env x 0) (getD r x 0)

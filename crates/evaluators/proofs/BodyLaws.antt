@@ -18,11 +18,11 @@ use Rattle.arena.specs.Code.{code, codes, Stands, Same, SomeAt, EndsAt}
 use Rattle.arena.proofs.Standing.{stands-frame, stands-front, stands-back}
 use Rattle.arena.proofs.CodeLaws.{length-code, length-codes}
 use Rattle.constants.specs.Built.{Builds}
-use Rattle.operations.specs.Good.{GoodAt}
-use Rattle.operations.proofs.GoodLaws.{good-fits}
+use Rattle.operations.specs.Good.{GoodAt, IsFunction}
+use Rattle.operations.proofs.GoodLaws.{good-fits, good-inside}
 use Rattle.evaluators.specs.declared.Held.{Held}
 use Rattle.evaluators.specs.Answers.{EndsWith, HeldAs, Listed}
-use Rattle.evaluators.specs.Nodes.{fieldA, fieldC, IsPred}
+use Rattle.evaluators.specs.Nodes.{fieldA, fieldC, placeOf, Marked, IsPred}
 use Rattle.evaluators.specs.Cycle.{cellsFor, Binds, Ready, EachReady, holdsAt, bodyAt, EvaluatesP}
 use Rattle.evaluators.proofs.NodeLaws.{sizes-small, good-frame, binds-frame, ready-at, Asks, some-asks}
 
@@ -38,22 +38,31 @@ pub inner-set : {env inner : List ℕ} {x : ℕ} (at : ℕ) → Inner env inner 
 inner-set {env} {inner} {x} at h = record { long = length-set inner x at ∙ h .long; else = λ y n. getD-set-other inner x y at 0 n ∙ h .else y n }
 
 -- A member's place bound to x.
-pub binds-body : {bs s : List ℕ} {top : ℕ} {env inner : List ℕ} {ρ : Env} {x at : ℕ} {w : Value} → Inner env inner x → x < 32 →
+pub binds-body : {bs s : List ℕ} {top : ℕ} {env inner : List ℕ} {ρ : Env} {x at : ℕ} {w : Value} → Inner env inner x → x < 32 → at < 65536 →
     Binds bs s top env ρ → GoodAt (tableOf bs .sizes) s top at w → Binds bs s top (setAt inner x at) (ρ with x ≔ w)
-binds-body {bs} {s} {top} {env} {inner} {ρ} {x} {at} {w} i l b g = record {
+binds-body {bs} {s} {top} {env} {inner} {ρ} {x} {at} {w} i l small b g = record {
   at = λ y h. go y h (ℕ-discrete y x);
   good = with-good (tableOf bs .sizes) ρ x w (b .good) (g .good);
+  functions = λ y h. known y h (ℕ-discrete y x);
   constants = b .constants;
   low = b .low;
 }
   where
-    go : (y : ℕ) → y < 32 → Dec (y ≡ x) → GoodAt (tableOf bs .sizes) s top (getD (setAt inner x at) y 0) ((ρ with x ≔ w) y)
+    here : (y : ℕ) → y ≡ x → getD (setAt inner x at) y 0 ≡ at
+    here y e = rw e (getD-set-same inner x at 0 (omega (arith, i .long)))
+
+    other : (y : ℕ) → (y ≡ x → ⊥) → getD (setAt inner x at) y 0 ≡ getD env y 0
+    other y n = getD-set-other inner x y at 0 n ∙ i .else y n
+
+    go : (y : ℕ) → y < 32 → Dec (y ≡ x) → GoodAt (tableOf bs .sizes) s top (placeOf (getD (setAt inner x at) y 0)) ((ρ with x ≔ w) y)
     go y h (yes e) =
-        let p : getD (setAt inner x at) y 0 ≡ at = rw e (getD-set-same inner x at 0 (omega (arith, i .long))) in
+        let p : placeOf (getD (setAt inner x at) y 0) ≡ at = omega (arith, here y e, small) in
         rw (p, eq-eqb x y (sym e), _with_≔_) g
-    go y h (no n) =
-        let p : getD (setAt inner x at) y 0 ≡ getD env y 0 = getD-set-other inner x y at 0 n ∙ i .else y n in
-        rw (p, ne-eqb x y (λ e. n (sym e)), _with_≔_) (b .at y h)
+    go y h (no n) = rw (other y n, ne-eqb x y (λ e. n (sym e)), _with_≔_) (b .at y h)
+
+    known : (y : ℕ) → y < 32 → Dec (y ≡ x) → Marked (getD (setAt inner x at) y 0) → IsFunction ((ρ with x ≔ w) y)
+    known y h (yes e) m = absurd (omega (arith, here y e, small, m))
+    known y h (no n) m = rw (ne-eqb x y (λ e. n (sym e)), _with_≔_) (b .functions y h (rw (other y n) at m))
 
 -- Values below `top` stay, and are below what is higher.
 pub listed-frame : {gs s s′ : List ℕ} {top from n : ℕ} {vs : Values} (k : ℕ) → Same top s s′ → top ≤ k → Listed gs s top from n vs → Listed gs s′ k from n vs
@@ -166,7 +175,8 @@ module _ {bs env s₀ : List ℕ} {top n from count left x : ℕ} {s inner : Lis
     member-binds : (k : Asked bs env s₀ top n from count left) → Binds bs s to (setAt inner x at) (k .asks .values with x ≔ member k .value)
     member-binds k =
         let g = member k .here in
-        binds-body (i .inside) (omega (arith, ex, r .name)) (binds-frame to f low (k .asks .binds))
+        let small : at < 65536 = omega (arith, good-inside (sizes-small bs (r .ready .readable)) g, f .kept, r .ready .small) in
+        binds-body (i .inside) (omega (arith, ex, r .name)) small (binds-frame to f low (k .asks .binds))
         (record { stands = g .stands; below = omega (arith, g .below); good = g .good })
 
     pub body-begins : (Builds bs → to + cellsFor bs (fieldC bs n) ≤ length s) → Ready bs (setAt inner x at) s to c × IsPred bs c

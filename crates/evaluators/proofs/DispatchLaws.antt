@@ -42,7 +42,7 @@ use Rattle.evaluators.specs.declared.Formed.{Formed}
 use Rattle.evaluators.specs.declared.Formed.the-variants.{Value as Placed, Stopped}
 use Rattle.evaluators.specs.declared.Held.the-variants.{Refused}
 use Rattle.evaluators.specs.Answers.{EndsWith}
-use Rattle.evaluators.specs.Nodes.{fieldA, fieldB, IsPred, IsExpr, leafPlace, PlaceReady, PlacedLeaf, StandingReady, LeafNode, LeafFormed}
+use Rattle.evaluators.specs.Nodes.{fieldA, fieldB, IsPred, IsExpr, placeOf, leafPlace, PlaceReady, PlacedLeaf, StandingReady, LeafNode, LeafFormed}
 use Rattle.evaluators.specs.Cycle.{Binds, Ready, Visited, Sort, holdsAt, EvaluatesP, EvaluatesE}
 use Rattle.evaluators.proofs.RunLaws.{unvisited, light-form}
 use Rattle.evaluators.proofs.NodeLaws.{sizes-small, field-holds, visited-kind, visited-builds, visits, after, settled-by}
@@ -212,7 +212,7 @@ standing-code k (inr (a, b, n)) =
     here-or-on Unbuilt 20 k a (identifier, refl, refl) (λ l. along Unbuilt 22 3 from-22 k (omega (arith, n)) (omega arith))
 
 -- The word of an identifier is in range.
-name-below : (bs : List ℕ) → Readable bs → (n : ℕ) → n < nodeCount bs → kindAt (tableOf bs .nodes) n ≡ some (leaf identifier) → fieldA bs n < 32
+pub name-below : (bs : List ℕ) → Readable bs → (n : ℕ) → n < nodeCount bs → kindAt (tableOf bs .nodes) n ≡ some (leaf identifier) → fieldA bs n < 32
 name-below bs r n lt e = omega (arith, field-holds bs r n lt (leaf identifier) e 0 (omega arith), binds-length bs, r .header .identifiers)
 
 given-same : (v w : Value) → gives v ≡ gives w → v ≡ w
@@ -308,6 +308,14 @@ pub placed-answer : {bs env s : List ℕ} {top n at left l : ℕ} → Ready bs e
     EvaluatesE bs env s top n left s (Placed at top l)
 placed-answer r p h q = rw q (standing-answer (counted r _ h refl) p)
 
+-- An identifier's value stands where the environment says.
+pub standing-name-place : {bs env : List ℕ} {n at : ℕ} → PlacedLeaf bs env n at → kindAt (tableOf bs .nodes) n ≡ some (leaf identifier) →
+    at ≡ placeOf (getD env (fieldA bs n) 0)
+standing-name-place {bs} {env} {n} p e =
+    let d : some (leaf identifier) ≡ some (leaf (p .kind)) = sym e ∙ p .is in
+    let q : identifier ≡ p .kind = cc in
+    p .place ∙ ap (λ (j : Leaf). leafPlace j env n (fieldA bs n)) (sym q)
+
 -- Where a leaf stands.
 module _ {bs env : List ℕ} {k n : ℕ} (p : StandingReady bs env k n) where
   standing-kind : kindAt (tableOf bs .nodes) n ≡ some (leaf (p .kind))
@@ -317,12 +325,12 @@ module _ {bs env : List ℕ} {k n : ℕ} (p : StandingReady bs env k n) where
   pub standing-name : k ≡ 20 → fieldA bs n < 32
   standing-name q = name-below bs (p .node .readable) n (p .node .node) (ap kindOf (sym (p .same)) ∙ kind-of k (leaf identifier) q)
 
-  pub placed-name : k ≡ 20 → {x at : ℕ} → x ≡ fieldA bs n → at ≡ getD env x 0 → PlacedLeaf bs env n at
+  pub placed-name : k ≡ 20 → {x at : ℕ} → x ≡ fieldA bs n → at ≡ placeOf (getD env x 0) → PlacedLeaf bs env n at
   placed-name q ex d = record {
     kind = identifier;
     is = ap kindOf (sym (p .same)) ∙ kind-of k (leaf identifier) q;
     unbuilt = refl;
-    place = d ∙ ap (λ (y : ℕ). getD env y 0) ex;
+    place = d ∙ ap (λ (y : ℕ). placeOf (getD env y 0)) ex;
   }
 
   pub placed-constant : k ≢ 20 → PlacedLeaf bs env n n

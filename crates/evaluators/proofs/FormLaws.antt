@@ -18,10 +18,12 @@ use Rattle.rules.specs.Evaluation.{select, valueᵉ}
 use Rattle.arena.specs.Code.{code}
 use Rattle.arena.proofs.Standing.{same-trans}
 use Rattle.products.specs.Growing.{PutsCell}
-use Rattle.operations.specs.Outcomes.{oneGiven, twoGiven, Gives, OneReady, OneOf, SomeOperands, TwoReady, TwoOf, SumOf}
+use Rattle.operations.specs.Outcomes.{oneGiven, twoGiven, Gives, OneReady, OneOf, SomeOperands, TwoReady, TwoOf, LightOf}
 use Rattle.operations.specs.declared.Outcome.{Outcome}
-use Rattle.operations.specs.declared.Outcome.the-variants.{Built, Cell}
+use Rattle.operations.specs.declared.Outcome.the-variants.{Built}
 use Rattle.operations.proofs.KindLaws.{kind-of}
+use Rattle.operations.proofs.GoodLaws.{function-known}
+use Rattle.operations.specs.Good.{KnownFunction}
 use Rattle.constants.specs.Built.{Builds}
 use Rattle.reading.specs.declared.Refusal.{Refusal}
 use Rattle.evaluators.specs.declared.Held.the-variants.{Truth, Refused}
@@ -29,14 +31,13 @@ use Rattle.evaluators.specs.declared.Formed.{Formed}
 use Rattle.evaluators.specs.declared.Formed.the-variants.{Value as Placed, Stopped}
 use Rattle.evaluators.specs.declared.Range.the-variants.{Set, Unlike}
 use Rattle.evaluators.specs.Answers.{EndsWith, PlacedAs, SelectedAs, ChosenAs, SettleReady}
-use Rattle.evaluators.specs.Nodes.{fieldA, fieldB, IsPred, IsExpr, PlacedLeaf, SomeGood, RangeAt}
+use Rattle.evaluators.specs.Nodes.{fieldA, fieldB, IsPred, IsExpr, PlacedLeaf, MarkedLeaf, SomeGood, RangeAt}
 use Rattle.evaluators.specs.Cycle.{Ready, Visited, EvaluatesP, EvaluatesE, EachReady, bodyAt, EvaluatesChosen, Settles}
 use Rattle.evaluators.proofs.RunLaws.{then-done, then-refused, light-form, fitted-ends, fitting-on, fitting-refused}
 use Rattle.evaluators.proofs.NodeLaws.{Child, TwoFields, sizes-small, ready-first, visited-kind, visited-builds, operation-room, visited-child, visited-operands}
 use Rattle.evaluators.proofs.NodeLaws.{Asks, some-asks, visits, after, valueIn, held-below, formed-below, treeᵉ, stopped-by, settled-by, settles-by}
 use Rattle.evaluators.proofs.BodyLaws.{Asked, some-asked, bodyOf}
-use Rattle.evaluators.proofs.DispatchLaws.{placed-answer}
-use Rattle.evaluators.proofs.SettleLaws.{settles-cell}
+use Rattle.evaluators.proofs.DispatchLaws.{name-below, placed-answer, standing-name-place}
 use Rattle.evaluators.proofs.BothLaws.{operands-ready, BothAs, StopsBoth, EvaluatesBoth, left-ready, right-ready, both-formed}
 use Rattle.evaluators.proofs.RangeLaws.{placed-range, placed-good, placed-low, placed-unlike, RangeHere, range-here, in-range, each-ready}
 
@@ -149,12 +150,23 @@ module _ {bs env s : List ℕ} {top k n left : ℕ} (x : Visited bs env s top k 
     pub standing-operands : SomeOperands s at other
     standing-operands = operands-ready (x .ready) standing-both
 
-    pub sum-room : top + 1 ≤ length s
-    sum-room = omega (arith, two-ready standing-both .room)
+    -- The first is marked, so it is an identifier's value and known to be a function.
+    known-first : MarkedLeaf bs env (fieldA bs n) → KnownFunction s at true
+    known-first m =
+        let b = x .ready .binds in
+        let lt = name-below bs (x .ready .readable) (fieldA bs n) (omega (arith, two-fields .left .below, x .ready .node)) (m .is) in
+        let y = fieldA bs (fieldA bs n) in
+        rw (standing-name-place p (m .is)) (function-known (sizes-small bs (x .ready .readable)) (b .at y lt) (λ _. b .functions y lt (m .marked)))
 
-    pub sum-evaluates : {cell end : ℕ} {s′ : List ℕ} → SumOf k s at other (Cell cell) → PutsCell s top cell s′ end →
-        EvaluatesE bs env s top n left s′ (Placed top end (left - 3))
-    sum-evaluates op put = two-evaluates standing-both (op top) (settles-cell (two-settles standing-both (op top)) refl put)
+    pub standing-known : {k : Bool} → (k ≡ true → MarkedLeaf bs env (fieldA bs n)) → KnownFunction s at k
+    standing-known g e = known-first (g e) refl
+
+    module _ {o : Outcome} (op : LightOf k s at other o) where
+      pub light-settles : SettleReady s o top top top
+      light-settles = two-settles standing-both (op top)
+
+      pub light-evaluates : {s′ : List ℕ} {r : Formed} → Settles s o top top top n (left - 3) s′ r → EvaluatesE bs env s top n left s′ r
+      light-evaluates = two-evaluates standing-both (op top)
 
 -- 25: the condition's node is `m`.
 pub byte-small : (b : Bool) → boolByte b ≤ 1

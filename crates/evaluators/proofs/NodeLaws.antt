@@ -57,6 +57,7 @@ pub binds-frame : {bs s s′ : List ℕ} {top : ℕ} {env : List ℕ} {ρ : Env}
 binds-frame {bs} {s} {s′} {top} {env} {ρ} k e le b = record {
   at = λ x h. let g = good-frame e (b .at x h) in record { stands = g .stands; below = omega (arith, g .below); good = g .good };
   good = b .good;
+  functions = b .functions;
   constants = constants-frame bs s s′ (nodeCount bs) top e (b .low) (b .constants);
   low = omega (arith, b .low);
 }

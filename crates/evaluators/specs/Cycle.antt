@@ -1,7 +1,7 @@
 -- The contracts of the evaluators that call each other, for every depth above the node, every environment that the offsets of the arena
 -- bind, and every budget and number of visits made that leave the visits that the evaluator is given.
 use Prim.Native.Nat.{ℕ, _+_, _-_, _*_, _≤_, _<_}
-use mathlib.Core.Bool.{Bool}
+use mathlib.Core.Bool.{Bool, true}
 use mathlib.Core.List.{List}
 use mathlib.Core.Option.{Option, none as nothing, some}
 use mathlib.Core.Path.{_≡_}
@@ -19,20 +19,22 @@ use Rattle.rules.specs.Evaluation.{quantify, select, holdsᵖ, valueᵉ}
 use Rattle.arena.specs.Code.{Same}
 use Rattle.constants.specs.Built.{Builds}
 use Rattle.constants.specs.Constants.{Constants}
-use Rattle.operations.specs.Good.{GoodAt}
-use Rattle.operations.specs.Outcomes.{Gives, SumOf}
+use Rattle.operations.specs.Good.{GoodAt, IsFunction}
+use Rattle.operations.specs.Outcomes.{Gives, IsLight}
 use Rattle.operations.specs.declared.Outcome.{Outcome}
-use Rattle.operations.specs.declared.Outcome.the-variants.{Cell}
 use Rattle.evaluators.specs.declared.Held.{Held}
 use Rattle.evaluators.specs.declared.Formed.{Formed}
 use Rattle.evaluators.specs.declared.Bare.{Bare}
-use Rattle.evaluators.specs.Nodes.{IsPred, NoNegation, fieldA, fieldB, fieldC, PlacedLeaf}
+use Rattle.evaluators.specs.declared.Places.{Places}
+use Rattle.evaluators.specs.Nodes.{IsPred, NoNegation, fieldA, fieldB, fieldC, placeOf, Marked, PlacedLeaf, MarkedLeaf}
 use Rattle.evaluators.specs.Answers.{HeldAs, turnedBy, FormedAs, FormedBounds, Listed, ChosenAs, ChosenBounds, SettledAs}
 
--- The values of the identifiers are good and stand where the environment says; the constants stand in the cells of their nodes.
+-- The values of the identifiers are good and stand where the environment says, and those that it marks are functions; the constants stand in the
+-- cells of their nodes.
 pub record Binds (bs s : List ℕ) (top : ℕ) (env : List ℕ) (ρ : Env) : Type 0 where
-  pub at : (x : ℕ) → x < 32 → GoodAt (tableOf bs .sizes) s top (getD env x 0) (ρ x)
+  pub at : (x : ℕ) → x < 32 → GoodAt (tableOf bs .sizes) s top (placeOf (getD env x 0)) (ρ x)
   pub good : (x : ℕ) → T (good (tableOf bs .sizes) (ρ x))
+  pub functions : (x : ℕ) → x < 32 → Marked (getD env x 0) → IsFunction (ρ x)
   pub constants : Constants bs (nodeCount bs) s
   pub low : nodeCount bs ≤ top
 
@@ -55,7 +57,7 @@ pub record Ready (bs env s : List ℕ) (top n : ℕ) : Type 0 where
   pub node : n < nodeCount bs
   pub room : Builds bs → top + cellsFor bs n ≤ length s
   pub tall : 1 ≤ height (tableOf bs .nodes) n
-  pub small : length s < 4294967296
+  pub small : length s < 65536
   pub entries : length env ≡ 32
   pub values : Env
   pub binds : Binds bs s top env values
@@ -129,14 +131,13 @@ pub record EvaluatesChosen (bs env s : List ℕ) (top n from count left : ℕ) (
   pub answer : (f : ℕ) (ρ : Env) (budget steps : ℕ) (vs : Values) → n ≤ f → steps + left ≡ budget → Binds bs s top env ρ →
       Listed (tableOf bs .sizes) s top from count vs → ChosenAs (select (bodyAt bs budget n f ρ) (members vs) steps) budget s′ top r
 
--- The operands of a node stand already, and their sum or difference has one cell.
-pub record StandingSum (bs env s : List ℕ) (k n left cell : ℕ) : Type 0 where
-  pub at : ℕ
-  pub other : ℕ
-  pub first : PlacedLeaf bs env (fieldA bs n) at
-  pub second : PlacedLeaf bs env (fieldB bs n) other
+-- The operands of an operation that builds nothing stand already, and there are visits for the three nodes.
+pub record StandingTwo (bs env : List ℕ) (k n left : ℕ) (r : Places) : Type 0 where
+  pub first : PlacedLeaf bs env (fieldA bs n) (r .first)
+  pub second : PlacedLeaf bs env (fieldB bs n) (r .second)
   pub visits : 3 ≤ left
-  pub sum : SumOf k s at other (Cell cell)
+  pub light : IsLight k
+  pub known : r .known ≡ true → MarkedLeaf bs env (fieldA bs n)
 
 -- What a node gives has been settled at `top`. The node has operands, so that its height is 2 or more.
 pub record Settles (s : List ℕ) (o : Outcome) (mid next top node left : ℕ) (s′ : List ℕ) (r : Formed) : Type 0 where

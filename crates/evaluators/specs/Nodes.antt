@@ -1,5 +1,5 @@
 -- What the evaluators take for granted of single nodes, and the contracts of the functions that they use.
-use Prim.Native.Nat.{ℕ, _+_, _-_, _≤_, _<_}
+use Prim.Native.Nat.{ℕ, _+_, _-_, _%_, _≤_, _<_}
 use mathlib.Core.Bool.{Bool, true, false, cond, not}
 use mathlib.Core.List.{List}
 use mathlib.Core.Logic.{_≢_}
@@ -65,9 +65,16 @@ pub record PlaceReady (bs env : List ℕ) (n : ℕ) : Type 0 where
   pub node : n < nodeCount bs
   pub entries : length env ≡ 32
 
+-- An entry of the environment is a place, and 65536 more where the value there is known to be a function.
+abbrev pub placeOf : ℕ → ℕ
+placeOf e = e % 65536
+
+abbrev pub Marked : ℕ → Type 0
+Marked e = 65536 ≤ e
+
 -- A leaf whose value is not built, and the place where it stands already.
 abbrev pub leafPlace : Leaf → List ℕ → ℕ → ℕ → ℕ
-leafPlace identifier env n a = getD env a 0
+leafPlace identifier env n a = placeOf (getD env a 0)
 leafPlace givenSet env n a = n
 leafPlace elementOf env n a = n
 leafPlace (literal m) env n a = n
@@ -90,6 +97,11 @@ pub record StandingReady (bs env : List ℕ) (k n : ℕ) : Type 0 where
 
 abbrev pub PlaceAt : List ℕ → List ℕ → ℕ → ℕ → Type 0
 PlaceAt bs env n at = at ≢ 0 → PlacedLeaf bs env n at
+
+-- The node is an identifier whose value is known to be a function.
+pub record MarkedLeaf (bs env : List ℕ) (n : ℕ) : Type 0 where
+  pub is : kindAt (tableOf bs .nodes) n ≡ some (leaf identifier)
+  pub marked : Marked (getD env (fieldA bs n) 0)
 
 -- The node of a leaf that is built.
 pub record LeafNode (bs s : List ℕ) (top k n : ℕ) : Type 0 where

@@ -1,4 +1,6 @@
 // The evaluators: the value rules of document 01 at each node of a readable table, over an arena of cells.
+ghost use mathlib.Core.Bool.{true};
+ghost use mathlib.Core.List.{List};
 ghost use mathlib.Core.Path.{_≡_};
 ghost use Prim.Native.Nat.{ℕ, _<_};
 ghost use mathlib.Core.Logic.{_≢_};
@@ -8,8 +10,8 @@ ghost use Rattle.rules.specs.Readable.{Readable};
 ghost use Rattle.evaluators.specs.declared.Held.the-variants.{Refused};
 ghost use Rattle.evaluators.specs.declared.Formed.the-variants.{Stopped};
 ghost use Rattle.evaluators.specs.Answers.{RefusalOf, StopOf, turnedBy, SettleReady};
-ghost use Rattle.evaluators.specs.Nodes.{IsPred, IsExpr, NoNegation, DecidesBy, JoinedBy, quantOf, SomeGood, RangeAt, StandingReady, PlacedLeaf, PlaceReady, PlaceAt, LeafNode, LeafFormed, ChooseReady, Chooses};
-ghost use Rattle.evaluators.specs.Cycle.{Ready, Visited, Sort, Bares, EvaluatesP, EvaluatesE, EachReady, EvaluatesEach, EvaluatesChosen, Settles, StandingSum};
+ghost use Rattle.evaluators.specs.Nodes.{IsPred, IsExpr, NoNegation, DecidesBy, JoinedBy, quantOf, SomeGood, RangeAt, StandingReady, PlacedLeaf, PlaceReady, PlaceAt, MarkedLeaf, LeafNode, LeafFormed, ChooseReady, Chooses};
+ghost use Rattle.evaluators.specs.Cycle.{Ready, Visited, Sort, Bares, EvaluatesP, EvaluatesE, EachReady, EvaluatesEach, EvaluatesChosen, Settles, StandingTwo};
 use operations::Outcome;
 use operations::Tested;
 use reading::Refusal;
@@ -25,6 +27,16 @@ enum Formed {
     Value { at: usize, end: usize, left: u32 },
     Stopped { refusal: Refusal, left: u32 },
 }
+
+// Where two operands stand, and whether the first is known to be a function.
+struct Places {
+    first: usize,
+    second: usize,
+    known: bool,
+}
+
+// An entry of the environment is the place of a value, and FUNCTION more where that is known to be a function. Places are below it.
+pub const FUNCTION: u32 = 65536;
 
 // The number of members of a binder's range, or that it is no set.
 enum Range {
@@ -356,7 +368,7 @@ fn standing(table: &[u8], env: &[u32; 32], kind: usize, node: usize) -> usize
         return node;
     }
     let x = table::node_field(table, node, 0);
-    wide(env[x])
+    wide(env[x] % FUNCTION)
 }
 
 // The same for the operand at a node, or 0: another kind, or the constant at node 0.
@@ -543,45 +555,51 @@ fn eval_one(
     settle(s, r, next, next, top, node, n)
 }
 
-// The cell of the sum or the difference (39, 40) of operands that stand already, where there are visits for all three nodes; 0 otherwise.
-fn standing_sum(
-    table: &[u8],
-    env: &[u32; 32],
-    s: &[u64],
-    kind: usize,
-    node: usize,
-    left: u32,
-) -> u64
-    requires { ⌜ ((top : ℕ) × Visited (now table) (now env) (now s) top kind node left) × Sort two kind ⌝ }
-    ensures { λ r. ⌜ (r ≢ 0 → StandingSum (now (table .entry)) (now (env .entry)) (now (s .entry)) kind node left r) ⌝ }
+// Whether the operand at a node is an identifier whose value is known to be a function.
+fn is_marked(table: &[u8], env: &[u32; 32], node: usize) -> bool
+    requires { ⌜ PlaceReady (now table) (now env) node ⌝ }
+    ensures { λ r. ⌜ (r ≡ true → MarkedLeaf (now (table .entry)) (now (env .entry)) node) ⌝ }
 {
-    if kind < 39 {
-        return 0;
+    if table::node_kind(table, node) != 20 {
+        return false;
     }
-    if kind > 40 {
-        return 0;
-    }
-    if left < 3 {
-        return 0;
-    }
-    let a = table::node_field(table, node, 0);
-    let x = leaf_place(table, env, a);
-    if x == 0 {
-        return 0;
-    }
-    let b = table::node_field(table, node, 1);
-    let y = leaf_place(table, env, b);
-    if y == 0 {
-        return 0;
-    }
-    let r = operations::sum(s, kind, x, y);
-    let Outcome::Cell(cell) = r else {
-        return 0;
-    };
-    cell
+    let x = table::node_field(table, node, 0);
+    env[x] >= FUNCTION
 }
 
-// 28 to 32, 37 and 39 to 41. A sum of identifiers or constants is made without the operands' answers, which go through memory.
+// Where the operands of an operation that builds nothing stand, if they stand already and there are visits for all three nodes; otherwise
+// `first` is 0. And whether the first is known to be a function.
+fn standing_two(table: &[u8], env: &[u32; 32], kind: usize, node: usize, left: u32) -> Places
+    requires { ⌜ ((s : List ℕ) × (top : ℕ) × Visited (now table) (now env) s top kind node left) × Sort two kind ⌝ }
+    ensures { λ r. ⌜ (r .first ≢ 0 → StandingTwo (now (table .entry)) (now (env .entry)) kind node left r) ⌝ }
+{
+    let none = Places {
+        first: 0,
+        second: 0,
+        known: false,
+    };
+    if left < 3 {
+        return none;
+    }
+    if !operations::is_light(kind) {
+        return none;
+    }
+    let b = table::node_field(table, node, 1);
+    let second = leaf_place(table, env, b);
+    if second == 0 {
+        return none;
+    }
+    let a = table::node_field(table, node, 0);
+    let first = leaf_place(table, env, a);
+    let known = is_marked(table, env, a);
+    Places {
+        first,
+        second,
+        known,
+    }
+}
+
+// 28 to 32, 37 and 39 to 41. Operands that stand already have no answers, which would go through memory, where the operation builds nothing.
 fn eval_two(
     table: &[u8],
     env: &[u32; 32],
@@ -594,14 +612,10 @@ fn eval_two(
     requires { ⌜ Visited (now table) (now env) (now s) top kind node left × Sort two kind ⌝ }
     ensures { λ r. ⌜ EvaluatesE (now (table .entry)) (now (env .entry)) (now (s .entry)) top node left (now (s .exit)) r ⌝ }
 {
-    let cell = standing_sum(table, env, s, kind, node, left);
-    if cell > 0 {
-        let end = products::put_cell(s, top, cell);
-        return Formed::Value {
-            at: top,
-            end,
-            left: left - 3,
-        };
+    let p = standing_two(table, env, kind, node, left);
+    if p.first > 0 {
+        let r = operations::light(s, kind, p.first, p.second, p.known);
+        return settle(s, r, top, top, top, node, left - 3);
     }
     let a = table::node_field(table, node, 0);
     let first = operand(table, env, s, top, a, left - 1);

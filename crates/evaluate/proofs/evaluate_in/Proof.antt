@@ -1,13 +1,13 @@
 -- `evaluate_in`: the constants, then the values, or refusal 14; then whether the values conform, and the condition. Landmarks: what was lent, the
 -- constants, the count of the nodes, the values.
 use Prim.Native.Nat.{ℕ}
-use mathlib.Core.Path.{_≡_, _∙_}
+use mathlib.Core.Path.{_∙_}
 use borrow.Author.Needs.{needs, length-unmapped}
-use lib.ListN.{length}
 use Rattle.rules.specs.Tables.{tableOf}
 use Rattle.buffer.specs.Loaded.{Bound}
 use Rattle.conforms.proofs.NameLaws.{refused-not, loads-all}
-use Rattle.evaluate.proofs.EntryLaws.{nodes-inside, load-ready, lacking-reported, root-ready, run-reported}
+use Rattle.evaluate.specs.Arenas.{RootReady, Plain}
+use Rattle.evaluate.proofs.EntryLaws.{nodes-inside, load-ready, lacking-reported, bound-plain, root-ready, marked-ready, run-reported}
 use Rattle.evaluate.proofs.evaluate_in.Statement.{statement}
 use Rattle.evaluate.proofs.evaluate_in.Tie as tie
 
@@ -37,22 +37,40 @@ standing a = loads-all _ _ _ _ _ _ (loaded a .load .ensures .1) (a .answer2 .giv
 abbrev told : tie.After-env2 → tie.After-answer2
 told c = c .before .before .before
 
-abbrev tested : tie.After-evaluate-at-arg → tie.After-env2
-tested c = c .before .before .before
+abbrev tested : tie.After-mark-arg → tie.After-env2
+tested c = c .before .before
+
+abbrev marked : tie.After-evaluate-at-arg → tie.After-mark
+marked c = c .before .before
 
 loaded-conform-requires : tie.Need-loaded-conform-requires
 loaded-conform-requires c κs =
     let a = told c in
     record { readable = lent (put (counted (loaded a))) .pre .needs .readable; buffer = _; top = _; end = _; bound = standing a }
 
+-- The condition may be evaluated where the values stand.
+module _ (a : tie.After-answer2) where
+  plain : Plain (loaded a .load .result .at)
+  plain =
+      let l = loaded a in
+      let n = counted l in
+      let k = put n in
+      bound-plain _ (standing a) (lent k .pre) (k .put-constants .ensures .1) (k .put-constants .ensures .0) (n .nodes .ensures) (l .load .ensures .0)
+
+  ready : let l = loaded a in
+      RootReady (lent (put (counted l)) .args .table .now) (l .load .result .at) (l .load .last .1 .1 .0) (a .answer2 .given .0 .0)
+  ready =
+      let l = loaded a in
+      let n = counted l in
+      let k = put n in
+      root-ready _ (standing a) (lent k .pre) (k .put-constants .ensures .1) (k .put-constants .ensures .0) (n .nodes .ensures) (l .load .ensures .0)
+      (length-unmapped ℕ (l .load .result .at) 32 (l .load .ok .1 .1 .0 .1 .0 .1))
+
 evaluate-at-requires : tie.Need-evaluate-at-requires
 evaluate-at-requires c κs =
-    let a = told (tested c) in
-    let l = loaded a in
-    let n = counted l in
-    let k = put n in
-    let entries : length (l .load .result .at) ≡ 32 = length-unmapped ℕ (l .load .result .at) 32 (l .load .ok .1 .1 .0 .1 .0 .1) in
-    root-ready _ (standing a) (lent k .pre) (k .put-constants .ensures .1) (k .put-constants .ensures .0) (n .nodes .ensures) (l .load .ensures .0) entries
+    let m = marked c in
+    let a = told (tested (m .before)) in
+    marked-ready (ready a) (plain a) (m .mark .ensures)
 
 returns : tie.Need-returns
 returns c =
@@ -69,16 +87,16 @@ returns c =
 returns-2 : tie.Need-returns-2
 returns-2 c =
     let e = c .before .before in
-    let b = tested (e .before) in
-    let a = told b in
+    let m = marked (e .before) in
+    let a = told (tested (m .before)) in
     let l = loaded a in
     let n = counted l in
     let k = put n in
     record {
       reported =
           run-reported _ (standing a) (lent k .pre) (k .put-constants .ensures .1) (k .put-constants .ensures .0) (n .nodes .ensures) (l .load .ensures .0) _
-          (e .evaluate-at .ensures);
-      conforms = e .before .before .before .loaded-conform .ensures _ _ _ (standing a);
+          (m .mark .ensures) (e .evaluate-at .ensures);
+      conforms = m .before .before .loaded-conform .ensures _ _ _ (standing a);
     }
 
 pub evaluate-in-spec : {M : Type 1} → statement M
@@ -92,6 +110,7 @@ evaluate-in-spec =
     (λ c κs. tt)
     (λ c. c .match .keys2)
     loaded-conform-requires
+    (λ c κs. let a = told (tested c) in ((_, ready a), plain a))
     evaluate-at-requires
     (λ c. search needs)
     returns

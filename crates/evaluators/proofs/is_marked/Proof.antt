@@ -1,0 +1,41 @@
+-- `is_marked`: the node is an identifier, and the environment marks it. Landmarks: what was lent, that the node is an identifier, and its number.
+use mathlib.Core.Option.{some}
+use mathlib.Core.Path.{_≡_, sym, ap, _∙_, subst}
+use Prim.Native.Nat.{ℕ, _<_}
+use native.Mathlib.Omega.{arith}
+use borrow.Author.Tests.{leb-true}
+use denote.Ref.{now}
+use lib.Dec.{lit<}
+use lib.ListN.{getD}
+use Rattle.rules.specs.Kinds.{kindOf, leaf, identifier}
+use Rattle.rules.specs.Tables.{tableOf, kindAt}
+use Rattle.rules.proofs.Basics.{absurd01}
+use Rattle.operations.proofs.KindLaws.{kind-of}
+use Rattle.evaluators.specs.Nodes.{fieldA, Marked}
+use Rattle.evaluators.proofs.SafeLaws.{node-in, entry-below, entry-scaled}
+use Rattle.evaluators.proofs.DispatchLaws.{name-below}
+use Rattle.evaluators.proofs.is_marked.Statement.{statement}
+use Rattle.evaluators.proofs.is_marked.Tie as tie
+
+abbrev lent : tie.Else1 → tie.Start
+lent c = c .before .before .before
+
+named : (c : tie.Else1) → kindAt (tableOf (now (lent c .args .table)) .nodes) (lent c .args .node) ≡ some (leaf identifier)
+named c = let k = c .before .node-kind in ap kindOf (sym (k .ensures)) ∙ kind-of (k .result) (leaf identifier) (omega (arith, c .if1 .left))
+
+below : (c : tie.Else1) → fieldA (now (lent c .args .table)) (lent c .args .node) < 32
+below c = let p = lent c .pre in name-below _ (p .readable) _ (p .node) (named c)
+
+pub is-marked-spec : {M : Type 1} → statement M
+is-marked-spec =
+    tie.close
+    (tie.spec
+    (λ c κs. let p = c .before .pre in node-in (p .readable) (p .node))
+    (λ c. λ e. absurd (absurd01 (cc)))
+    (λ c κs. let p = lent c .pre in (node-in (p .readable) (p .node), lit< tt))
+    (λ c. entry-scaled (c .node-field .ensures) (below (c .before)))
+    (λ c. entry-below (c .node-field .ensures) (below (c .before)))
+    (λ c. λ e. let f = c .before in let v = lent (f .before) in record {
+      is = named (f .before);
+      marked = subst (λ (x : ℕ). Marked (getD (now (v .args .env)) x 0)) (f .node-field .ensures) (leb-true _ _ e);
+    }))

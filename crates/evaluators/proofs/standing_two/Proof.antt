@@ -1,0 +1,69 @@
+-- `standing_two`: nothing is said of 0; otherwise both operands stand already. Landmarks: what was lent, that nothing is built, and the words of the
+-- fields.
+use mathlib.Core.List.{List}
+use mathlib.Core.Path.{_≡_, refl, subst}
+use Prim.Native.Nat.{ℕ}
+use native.Mathlib.Omega.{arith}
+use borrow.Author.Tests.{not-false}
+use denote.Ref.{now}
+use lib.Dec.{lit<}
+use Rattle.evaluators.specs.Nodes.{PlacedLeaf, MarkedLeaf}
+use Rattle.evaluators.proofs.SafeLaws.{ready-node}
+use Rattle.evaluators.proofs.NodeLaws.{TwoFields, ready-first}
+use Rattle.evaluators.proofs.DispatchLaws.{place-ready}
+use Rattle.evaluators.proofs.FormLaws.{two-fields}
+use Rattle.evaluators.proofs.standing_two.Statement.{statement}
+use Rattle.evaluators.proofs.standing_two.Tie as tie
+
+abbrev lent : tie.Else1 → tie.Start
+lent c = c .before .before
+
+abbrev enough : tie.Else2 → tie.Else1
+enough c = c .before .before
+
+abbrev word : tie.Else3 → tie.After-node-field
+word c = c .before .before
+
+abbrev word₂ : tie.After-is-marked → tie.After-node-field2
+word₂ c = c .before .before
+
+abbrev begun : tie.After-node-field2 → tie.Start
+begun c = lent (enough (word (c .before) .before))
+
+fields : (v : tie.Start) → TwoFields (now (v .args .table)) (v .args .node)
+fields v = two-fields (v .pre .0 .2) (v .pre .1 .0) (v .pre .1 .1)
+
+-- The same under equal names.
+placed-as : {bs env : List ℕ} {n m at : ℕ} → n ≡ m → PlacedLeaf bs env n at → PlacedLeaf bs env m at
+placed-as e p = rw e at p
+
+marked-as : {bs env : List ℕ} {n m : ℕ} → n ≡ m → MarkedLeaf bs env n → MarkedLeaf bs env m
+marked-as e p = rw e at p
+
+returns-4 : tie.Need-returns-4
+returns-4 c z =
+    let f = word₂ c in
+    let e = f .before in
+    let g = word e in
+    record {
+      first = placed-as (f .node-field2 .ensures) (c .before .leaf-place2 .ensures z);
+      second = placed-as (g .node-field .ensures) (e .before .leaf-place .ensures (e .if3 .left));
+      visits = omega (arith, enough (g .before) .if1 .left);
+      light = g .before .before .is-light .ensures (not-false _ (g .before .if2 .left));
+      known = λ d. marked-as (f .node-field2 .ensures) (c .is-marked .ensures d);
+    }
+
+pub standing-two-spec : {M : Type 1} → statement M
+standing-two-spec =
+    tie.close
+    (tie.spec
+    (λ c z. absurd (z refl))
+    (λ c κs. tt)
+    (λ c z. absurd (z refl))
+    (λ c κs. (ready-node (lent (enough c) .pre .0 .2 .ready), lit< tt))
+    (λ c κs. let v = lent (enough (c .before)) in rw (c .node-field .ensures) (place-ready (ready-first (v .pre .0 .2 .ready) (fields v .right))))
+    (λ c z. absurd (z refl))
+    (λ c κs. (ready-node (lent (enough (word c .before)) .pre .0 .2 .ready), lit< tt))
+    (λ c κs. let v = begun c in rw (c .node-field2 .ensures) (place-ready (ready-first (v .pre .0 .2 .ready) (fields v .left))))
+    (λ c κs. let f = c .before in let v = begun f in rw (f .node-field2 .ensures) (place-ready (ready-first (v .pre .0 .2 .ready) (fields v .left))))
+    returns-4)
