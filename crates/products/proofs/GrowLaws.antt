@@ -3,6 +3,7 @@ use Prim.Native.Nat.{ℕ, zero, suc, _+_, _-_, _≤_, _<_}
 use mathlib.Core.List.{List, [], _∷_, _++_, append-assoc, append-nil}
 use mathlib.Core.Path.{_≡_, refl, sym, ap, _∙_, subst}
 use native.Mathlib.Omega.{arith}
+use native.Mathlib.Numerals.{add-one}
 use lib.ListN.{length, set as setAt, length-append, length-set}
 use lib.Seq.{getD-set-same, getD-set-other}
 use Rattle.rules.specs.Values.{Value, pair, set, Values, none, _▸_, count, weight}
@@ -79,22 +80,26 @@ pub made-heavy : {s : List ℕ} {top : ℕ} {v : Value} → 256 < weight v → M
 made-heavy {s} {top} l = record { frame = same-refl top s; light = λ k. absurd (omega arith); heavy = λ k. refl }
 
 -- A set's cell before its members.
-pub made-set : (s : List ℕ) (top : ℕ) (s′ : List ℕ) (r n : ℕ) (vs : Values) → Appended s (top + 1) s′ r (codes vs) → n ≡ count vs → top < length s →
-    weight (set vs) ≤ 256 → Made top s (setAt s′ top (21474836480 + n)) (set vs) r
+pub appended-set : {s : List ℕ} {top : ℕ} {s′ : List ℕ} {r n : ℕ} (vs : Values) → Appended s (top + 1) s′ r (codes vs) → n ≡ count vs → top < length s →
+    Appended s top (setAt s′ top (21474836480 + n)) r (code (set vs))
 unfolding code
-made-set s top s′ r n vs a e l w =
+appended-set {s} {top} {s′} {r} {n} vs a e l =
     let x = 21474836480 + n in
     let y = appended-cell s′ top x (omega (arith, a .frame .kept)) in
     let k : Stands (setAt s′ top x) (top + 1) (codes vs) = record {
       inside = omega (arith, y .frame .kept, a .stands .inside);
       cells = λ i p. getD-set-other s′ top (top + 1 + i) x 0 (λ z. omega arith) ∙ a .stands .cells i p;
     } in
-    let z = stands-append (setAt s′ top x) top (x ∷ []) (codes vs) (y .stands) k in
     record {
       frame = record { same = λ i p. y .frame .same i p ∙ a .frame .same i (omega arith); kept = y .frame .kept ∙ a .frame .kept };
-      light = λ _. (omega (arith, a .ends, length-codes vs), subst (λ (c : ℕ). Stands (setAt s′ top x) top ((21474836480 + c) ∷ codes vs)) e z);
-      heavy = λ k. absurd (omega arith);
+      stands = subst (λ (c : ℕ). Stands (setAt s′ top x) top ((21474836480 + c) ∷ codes vs)) e
+          (stands-append (setAt s′ top x) top (x ∷ []) (codes vs) (y .stands) k);
+      ends = omega (arith, a .ends);
     }
+
+pub made-set : (s : List ℕ) (top : ℕ) (s′ : List ℕ) (r n : ℕ) (vs : Values) → Appended s (top + 1) s′ r (codes vs) → n ≡ count vs → top < length s →
+    weight (set vs) ≤ 256 → Made top s (setAt s′ top (21474836480 + n)) (set vs) r
+made-set s top s′ r n vs a e l w = made (appended-set vs a e l) w
 
 -- `put_cell`
 pub cell-made : (s : List ℕ) (top cell : ℕ) → top < length s → (v : Value) → code v ≡ cell ∷ [] → Made top s (setAt s top cell) v (top + 1)
@@ -143,62 +148,39 @@ module _ {s : List ℕ} {a b top : ℕ} (d e : ℕ) (x : EndsAt s a d) (y : Ends
   pub pair-heavy : 255 < (d - a) + (e - b) → Made top s s (pair v w) 0
   pair-heavy l = let z = pair-sizes in made-heavy (omega arith)
 
--- `run`
+-- `run`: i of the cells have been written.
 pub record Running (s : List ℕ) (cell n top : ℕ) (s′ : List ℕ) (to i : ℕ) : Type 0 where
   pub given : RunPre s cell n top
-  pub grown : Grown s (top + 1) s′ to (cellsFrom cell n) (cellsFrom (cell + i) (n - i))
-  pub near : to ≡ top + 1 + i
+  pub appended : Appended s (top + 1) s′ to (cellsFrom cell i)
   pub few : i ≤ n
-
-pub running-start : (s : List ℕ) (cell n top : ℕ) → RunPre s cell n top → Running s cell n top s (top + 1) 0
-running-start s cell n top p =
-    let c : cell ≡ cell + 0 = omega arith in
-    let m : n ≡ n - 0 = omega arith in
-    let g = grown-start s (top + 1) (cellsFrom cell n) (omega (arith, p .room)) in
-    record {
-      given = p;
-      grown = subst (λ (cs : List ℕ). Grown s (top + 1) s (top + 1) (cellsFrom cell n) cs) (cc) g;
-      near = omega arith;
-      few = omega arith;
-    }
-
-cells-next : (c m : ℕ) → 0 < m → cellsFrom c m ≡ (c ∷ []) ++ cellsFrom (c + 1) (m - 1)
-unfolding cellsFrom
-cells-next c zero l = absurd (omega arith)
-cells-next c (suc m) l =
-    let z : suc c ≡ c + 1 = omega arith in
-    let y : m ≡ suc m - 1 = omega arith in
-    cc
 
 length-cells : (c n : ℕ) → length (cellsFrom c n) ≡ n
 unfolding cellsFrom
 length-cells c zero = refl
 length-cells c (suc n) = ap suc (length-cells (suc c) n)
 
-no-cells : (c m : ℕ) → m ≡ 0 → cellsFrom c m ≡ []
+cells-last : (c n : ℕ) → cellsFrom c (suc n) ≡ cellsFrom c n ++ ((c + n) ∷ [])
 unfolding cellsFrom
-no-cells c zero l = refl
-no-cells c (suc m) l = absurd (omega arith)
+cells-last c zero = let z : c ≡ c + 0 = omega arith in cc
+cells-last c (suc n) = let z : suc c + n ≡ c + suc n = omega arith in ap (λ (l : List ℕ). c ∷ l) (cells-last (suc c) n ∙ rw z)
+
+pub running-start : {s : List ℕ} {cell n top : ℕ} → RunPre s cell n top → Running s cell n top s (top + 1) 0
+unfolding cellsFrom
+running-start p = record { given = p; appended = appended-none _ _ (omega (arith, p .room)); few = omega arith }
 
 module _ {s : List ℕ} {cell n top : ℕ} {s′ : List ℕ} {to i : ℕ} (h : Running s cell n top s′ to i) where
   pub running-inside : i < n → to < length s′
-  running-inside l = omega (arith, h .near, h .given .room, h .given .few, h .grown .appended .frame .kept)
+  running-inside l = omega (arith, h .appended .ends, length-cells cell i, h .given .room, h .appended .frame .kept)
 
   pub running-next : i < n → Running s cell n top (setAt s′ to (cell + i)) (to + 1) (i + 1)
-  running-next l =
-      let c : cell + i + 1 ≡ cell + (i + 1) = omega arith in
-      let m : n - i - 1 ≡ n - (i + 1) = omega arith in
-      let e = cells-next (cell + i) (n - i) (omega arith) in
-      let f : cellsFrom (cell + i) (n - i) ≡ ((cell + i) ∷ []) ++ cellsFrom (cell + (i + 1)) (n - (i + 1)) = rw (← c, ← m) e in
-      record {
-        given = h .given;
-        grown = grown-step (cellsFrom (cell + (i + 1)) (n - (i + 1))) (rw f at (h .grown)) (appended-cell s′ to (cell + i) (running-inside l));
-        near = omega (arith, h .near);
-        few = omega arith;
-      }
+  running-next l = record {
+    given = h .given;
+    appended = rw (add-one i, cells-last cell i) (appended-then (h .appended) (appended-cell s′ to (cell + i) (running-inside l)));
+    few = omega arith;
+  }
 
   pub running-end : n ≤ i → (vs : Values) → count vs ≡ n → codes vs ≡ cellsFrom cell n → Made top s (setAt s′ top (21474836480 + n)) (set vs) to
   running-end l vs e q =
-      let g = rw (no-cells (cell + i) (n - i) (omega arith)) at (h .grown) in
-      let w : Appended s (top + 1) s′ to (codes vs) = rw q (grown-end g) in
-      made-set _ _ _ _ _ _ w (sym e) (omega (arith, h .given .room)) (omega (arith, h .given .few, length-codes vs, ap length q, length-cells cell n))
+      let z : cellsFrom cell i ≡ codes vs = ap (cellsFrom cell) (let z : i ≡ n = omega (arith, h .few) in z) ∙ sym q in
+      made-set _ _ _ _ _ _ (rw z at (h .appended)) (sym e) (omega (arith, h .given .room))
+      (omega (arith, h .given .few, length-codes vs, ap length q, length-cells cell n))

@@ -103,7 +103,7 @@ with-rise : (v : Value) (k : ℕ) (vs : List Value) (ss : List (List Value)) →
 with-rise v k vs [] l h = tt
 with-rise v k vs (s ∷ ss) l h = (
   all-map (λ t. Of k vs t × Ahead s t) (Ahead (v ∷ s)) (λ t. v ∷ t) (λ t q. cons-ahead v s t (l .0 .0 ∙ sym (q .0 .0)) (q .1)) ss
-  (all-both (Of k vs) (Ahead s) ss (l .1) (h .0)),
+      (all-both (Of k vs) (Ahead s) ss (l .1) (h .0)),
   with-rise v k vs ss (l .1) (h .1),
 )
 

@@ -7,10 +7,11 @@ use native.Mathlib.Nat.{mul-le-mul-right}
 use lib.ListN.{length, getD, length-append, set as setAt}
 use Rattle.rules.specs.Values.{Value, pair, Values, none, _▸_, members, values, count, weight, weights}
 use Rattle.rules.specs.Operations.{setOf, pairsOf}
-use Rattle.arena.specs.Code.{code, codes, SomeAt, EndsAt, SetBelow, ValueBelow, Made, Front}
+use Rattle.arena.specs.Code.{code, codes, SomeAt, EndsAt, SetBelow, Made, Front}
 use Rattle.arena.proofs.CodeLaws.{length-codes}
-use Rattle.arena.proofs.FrontLaws.{codes-append, count-append, weights-append, front-start, front-value, front-next, front-below, front-some, front-frame, value-frame, set-end}
-use Rattle.products.specs.Growing.{Appended, Grown, PairPre, PairPut, rowOf, RowPre, Rows, SquarePre, Squares}
+use Rattle.arena.proofs.FrontLaws.{codes-append, count-append, weights-append, front-start, front-value, front-next, front-below, front-some, front-frame, value-frame, set-end, set-cells}
+use Rattle.products.specs.declared.Size.{Size}
+use Rattle.products.specs.Growing.{Appended, Grown, PairPre, PairPut, rowOf, RowPre, Rows, square, SquarePre, Squares, SetAt, Few, Sized, productWeight}
 use Rattle.products.proofs.GrowLaws.{front-end, front-first, grown-start, grown-step, grown-end, grown-left, made-set, made-heavy}
 use Rattle.laws.proofs.CellsLaws.{count-weights}
 
@@ -48,10 +49,10 @@ module _ {F : Values → List ℕ} {s₀ : List ℕ} {top : ℕ} {vs : Values} {
     pub walk-forward : i ≤ e
     walk-forward = walk-by (i ≤ e) λ w us f₀ f g z. omega arith
 
-    walk-next : (s′ : List ℕ) (r : ℕ) → ((w : Value) (us : Values) → Front s top i left (w ▸ us) → e ≡ i + weight w →
+    walk-next : (s′ : List ℕ) (r : ℕ) → ((w : Value) (us : Values) → Front s top i left (w ▸ us) → Grown s₀ to s at (F vs) (F (w ▸ us)) → e ≡ i + weight w →
         (cs : List ℕ) × (F (w ▸ us) ≡ cs ++ F us) × Appended s at s′ r cs) → WalkAt F s₀ top vs to s′ e (left - 1) r
     walk-next s′ r put = walk-by (WalkAt F s₀ top vs to s′ e (left - 1) r) λ w us f₀ f g z.
-        let x = put w us f z in
+        let x = put w us f g z in
         let n = front-next s₀ top i left w us f₀ e (left - 1) z (omega arith) in
         record { rest = us; front = n; grown = grown-step (F us) (rw (x .1) at g) (x .2); behind = h .behind }
 
@@ -65,35 +66,37 @@ row-count x none = refl
 row-count x (w ▸ ws) = omega (arith, row-count x ws)
 
 -- `row`
-abbrev pub RowAt : List ℕ → ℕ → Value → Values → ℕ → List ℕ → ℕ → ℕ → ℕ → Type 0
-RowAt s₀ top x ws to s i left at = WalkAt (λ us. codes (rowOf x us)) s₀ top ws to s i left at
+abbrev pub RowAt : {s₀ : List ℕ} {v k b m to : ℕ} → RowPre s₀ v k b m to → List ℕ → ℕ → ℕ → ℕ → Type 0
+RowAt {s₀} {v} {k} {b} {m} {to} g s i left at = WalkAt (λ us. codes (rowOf (g .first) us)) s₀ (g .top) (g .others) to s i left at
 
-module _ {s₀ : List ℕ} {top : ℕ} (x : Value) {ws : Values} {to : ℕ} {s : List ℕ} {i left at : ℕ} (h : RowAt s₀ top x ws to s i left at) where
-  pub row-end : left ≤ 0 → Appended s₀ to s at (codes (rowOf x ws))
-  unfolding code
-  row-end l = walk-end h l refl
+module _ {s₀ : List ℕ} {v k b m to : ℕ} (g : RowPre s₀ v k b m to) where
+  pub row-start : RowAt g s₀ b m to
+  row-start = walk-start (λ us. codes (rowOf (g .first) us)) to (omega (arith, g .room)) (g .front) (g .behind)
 
-  module _ {v k : ℕ} (value : ValueBelow s₀ top v x) (weighs : k ≡ weight x) (more : 0 < left) (e : ℕ) (ends : EndsAt s i e) where
-    pub row-pair : to + weights (rowOf x ws) ≤ length s₀ → PairPre s v k i (e - i) at
-    row-pair room = walk-by h more e ends (PairPre s v k i (e - i) at) λ w us f₀ f g z.
-        let q = grown-left g in
-        let y : to ≤ at = omega (arith, g .appended .ends) in
-        record {
-          left = omega (arith, value .below, h .behind);
-          right = omega (arith, f .below, h .behind);
-          room = omega (arith, length-codes (rowOf x ws), length-codes (rowOf x (w ▸ us)), g .appended .frame .kept);
-        }
-
-    pub row-next : (s′ : List ℕ) (r : ℕ) → PairPut s v k i (e - i) at s′ r → RowAt s₀ top x ws to s′ e (left - 1) r
+  module _ {s : List ℕ} {i left at : ℕ} (h : RowAt g s i left at) where
+    pub row-end : left ≤ 0 → Appended s₀ to s at (codes (rowOf (g .first) (g .others)))
     unfolding code
-    row-next s′ r put = walk-next h more e ends s′ r λ w us f z.
-        let there = value-frame to s₀ s top v x (h .grown .appended .frame) (h .behind) value .stands in
-        (code (pair x w), refl, put x w there (front-value s top i left w us f) weighs (omega arith))
+    row-end l = walk-end h l refl
+
+    module _ (more : 0 < left) (e : ℕ) (ends : EndsAt s i e) where
+      pub row-pair : PairPre s v k i (e - i) at
+      row-pair = walk-by h more e ends (PairPre s v k i (e - i) at) λ w us f₀ f d z.
+          let x = g .first in
+          let q = grown-left d in
+          let y : to ≤ at = omega (arith, d .appended .ends) in
+          record {
+            left = omega (arith, g .value .below, g .weighs, h .behind);
+            right = omega (arith, f .below, h .behind);
+            room = omega (arith, length-codes (rowOf x (g .others)), length-codes (rowOf x (w ▸ us)), g .weighs, g .room, d .appended .frame .kept);
+          }
+
+      pub row-next : (s′ : List ℕ) (r : ℕ) → PairPut s v k i (e - i) at s′ r → RowAt g s′ e (left - 1) r
+      unfolding code
+      row-next s′ r put = walk-next h more e ends s′ r λ w us f d z.
+          let there = value-frame to s₀ s (g .top) v (g .first) (h .grown .appended .frame) (h .behind) (g .value) .stands in
+          (code (pair (g .first) w), refl, put (g .first) w there (front-value s (g .top) i left w us f) (g .weighs) (omega arith))
 
 -- The pairs of the members of two sets.
-abbrev pub square : Values → Values → Values
-square vs ws = values (pairsOf (members vs) (members ws))
-
 square-codes : (v : Value) (vs ws : Values) → codes (square (v ▸ vs) ws) ≡ codes (rowOf v ws) ++ codes (square vs ws)
 unfolding pairsOf
 square-codes v vs ws = codes-append (map (pair v) (members ws)) (pairsOf (members vs) (members ws))
@@ -111,92 +114,82 @@ square-count (v ▸ vs) ws =
     count-append (map (pair v) (members ws)) (pairsOf (members vs) (members ws)) ∙ omega (arith, row-count v ws, square-count vs ws)
 
 -- `rows`
-abbrev pub SquareAt : List ℕ → ℕ → Values → Values → ℕ → List ℕ → ℕ → ℕ → ℕ → Type 0
-SquareAt s₀ top vs ws to s i left at = WalkAt (λ us. codes (square us ws)) s₀ top vs to s i left at
+abbrev pub SquareAt : {s₀ : List ℕ} {a n b m to : ℕ} → SquarePre s₀ a n b m to → List ℕ → ℕ → ℕ → ℕ → Type 0
+SquareAt {s₀} {a} {n} {b} {m} {to} g s i left at = WalkAt (λ us. codes (square us (g .rights))) s₀ (g .top) (g .lefts) to s i left at
 
-module _ {s₀ : List ℕ} {top : ℕ} {vs : Values} (ws : Values) {to : ℕ} {s : List ℕ} {i left at : ℕ} (h : SquareAt s₀ top vs ws to s i left at) where
-  pub square-end : left ≤ 0 → Appended s₀ to s at (codes (square vs ws))
-  unfolding code pairsOf
-  square-end l = walk-end h l refl
+module _ {s₀ : List ℕ} {a n b m to : ℕ} (g : SquarePre s₀ a n b m to) where
+  pub square-start : SquareAt g s₀ a n to
+  square-start = walk-start (λ us. codes (square us (g .rights))) to (omega (arith, g .room)) (g .front) (g .behind)
 
-  module _ {b m : ℕ} (others : Front s₀ top b m ws) (more : 0 < left) (e : ℕ) (ends : EndsAt s i e) where
-    -- the members of the second set, as they stand now
-    others-now : Front s top b m ws
-    others-now = front-frame to s₀ s top b m ws (h .grown .appended .frame) (h .behind) others
+  module _ {s : List ℕ} {i left at : ℕ} (h : SquareAt g s i left at) where
+    pub square-end : left ≤ 0 → Appended s₀ to s at (codes (square (g .lefts) (g .rights)))
+    unfolding code pairsOf
+    square-end l = walk-end h l refl
 
-    pub square-row : to + weights (square vs ws) ≤ length s₀ → RowPre s i (e - i) b m at
-    square-row room = walk-by h more e ends (RowPre s i (e - i) b m at) λ w us f₀ f g z.
-        let q = grown-left g in
-        let k = ap length (square-codes w us ws) ∙ length-append (codes (rowOf w ws)) (codes (square us ws)) in
-        record {
-          top = top;
-          first = w;
-          others = ws;
-          value = front-below s top i left w us f;
-          weighs = omega arith;
-          front = others-now;
-          behind = omega (arith, g .appended .ends, h .behind);
-          room = omega (arith, q, k, length-codes (square vs ws), length-codes (rowOf w ws), g .appended .frame .kept);
-        }
+    module _ (more : 0 < left) (e : ℕ) (ends : EndsAt s i e) where
+      -- the row of the first member that is left
+      abbrev row-for : {w : Value} {us : Values} → Front s (g .top) i left (w ▸ us) → Grown s₀ to s at (codes (square (g .lefts) (g .rights)))
+          (codes (square (w ▸ us) (g .rights))) → e ≡ i + weight w → RowPre s i (e - i) b m at
+      row-for {w} {us} f d z =
+          let q = grown-left d in
+          let k = ap length (square-codes w us (g .rights)) ∙ length-append (codes (rowOf w (g .rights))) (codes (square us (g .rights))) in
+          record {
+            top = g .top;
+            first = w;
+            others = g .rights;
+            value = front-below s (g .top) i left w us f;
+            weighs = omega arith;
+            front = front-frame to s₀ s (g .top) b m (g .rights) (d .appended .frame) (g .behind) (g .others);
+            behind = omega (arith, d .appended .ends, g .behind);
+            room = omega (arith, length-codes (square (g .lefts) (g .rights)), length-codes (rowOf w (g .rights)), g .room, d .appended .frame .kept);
+          }
 
-    pub square-next : (s′ : List ℕ) (r : ℕ) → Rows s i (e - i) b m at s′ r → SquareAt s₀ top vs ws to s′ e (left - 1) r
-    square-next s′ r put = walk-next h more e ends s′ r λ w us f z.
-        let a = put top w ws (front-below s top i left w us f) (omega arith) others-now (omega (arith, h .grown .appended .ends, h .behind)) in
-        (codes (rowOf w ws), square-codes w us ws, a)
+      pub square-row : RowPre s i (e - i) b m at
+      square-row = walk-by h more e ends (RowPre s i (e - i) b m at) λ w us f₀ f d z. row-for f d z
+
+      pub square-next : (s′ : List ℕ) (r : ℕ) → Rows s i (e - i) b m at s′ r → SquareAt g s′ e (left - 1) r
+      square-next s′ r put = walk-next h more e ends s′ r λ w us f d z. (codes (rowOf w (g .rights)), square-codes w us (g .rights), put (row-for f d z))
+
+-- `size_of`
+pub size-is : {s : List ℕ} {a e n : ℕ} → SetAt s a → EndsAt s a e → n ≡ getD s a 0 % 4294967296 → Sized s a (record { members = n; cells = e - a - 1 })
+size-is {s} {a} {e} {n} g ends low =
+    let f = front-start s (g .top) a (g .whole) (g .below) n low in
+    record {
+      few = record { members = omega (arith, f .light, f .counted, count-weights (g .whole)); cells = set-cells s (g .top) a (g .whole) (g .below) e ends };
+      front = λ top vs h. front-start s top a vs h n low;
+      cells = λ top vs h. omega (arith, set-end s top a vs h e ends);
+    }
+
+-- `product_weight`: products of two numbers that are small
+small-product : {n m : ℕ} → n ≤ 255 → m ≤ 255 → n * m ≤ 65025
+small-product {n} {m} p q = omega (arith, mul-le-mul-right m p)
+
+pub small-products : {x y : Size} → Few x → Few y →
+    (x .members * y .members ≤ 65025) × (y .members * x .cells ≤ 65025) × (x .members * y .cells ≤ 65025)
+small-products f g = (small-product (f .members) (g .members), small-product (g .members) (f .cells), small-product (f .members) (g .cells))
 
 -- `product`
--- Where two sets end, and how many members they have.
-pub record Sizes (s : List ℕ) (a b d e n m : ℕ) : Type 0 where
-  pub ends : EndsAt s a d
-  pub ends′ : EndsAt s b e
-  pub low : n ≡ getD s a 0 % 4294967296
-  pub low′ : m ≡ getD s b 0 % 4294967296
+module _ {s : List ℕ} {top a b : ℕ} {x y : Size} (p : Sized s a x) (q : Sized s b y) {vs ws : Values} (h : SetBelow s top a vs) (k : SetBelow s top b ws) where
+  pub product-weighs : weights (square vs ws) ≡ x .members * y .members + y .members * x .cells + x .members * y .cells
+  product-weighs = square-weighs vs ws ∙ rw (p .front top vs h .counted, q .front top ws k .counted, p .cells top vs h, q .cells top ws k)
 
-module _ {s : List ℕ} {top a b d e n m : ℕ} (given : Sizes s a b d e n m) where
-  -- numbers and cells of the members
-  pub product-sizes : {vs ws : Values} → SetBelow s top a vs → SetBelow s top b ws →
-      (n ≡ count vs) × (m ≡ count ws) × (d - a - 1 ≡ weights vs) × (e - b - 1 ≡ weights ws) × (n ≤ 255) × (m ≤ 255) × (d - a - 1 ≤ 255) × (e - b - 1 ≤ 255)
-  product-sizes {vs} {ws} h k =
-      let f = front-start s top a vs h n (given .low) in
-      let g = front-start s top b ws k m (given .low′) in
-      let x = set-end s top a vs h d (given .ends) in
-      let y = set-end s top b ws k e (given .ends′) in (
-        f .counted,
-        g .counted,
-        omega arith,
-        omega arith,
-        omega (arith, f .light, f .counted, count-weights vs),
-        omega (arith, g .light, g .counted, count-weights ws),
-        omega (arith, f .light),
-        omega (arith, g .light),
-      )
+  pub product-heavy : 256 < productWeight x y → Made top s s (setOf (pairsOf (members vs) (members ws))) 0
+  product-heavy l = made-heavy (omega (arith, product-weighs))
 
-  product-weighs : {vs ws : Values} → SetBelow s top a vs → SetBelow s top b ws → weights (square vs ws) ≡ n * m + m * (d - a - 1) + n * (e - b - 1)
-  product-weighs {vs} {ws} h k = let z = product-sizes h k in square-weighs vs ws ∙ rw (z .0, z .1, z .2, z .3)
-
-  pub product-heavy : 256 < 1 + n * m + m * (d - a - 1) + n * (e - b - 1) → {vs ws : Values} → SetBelow s top a vs → SetBelow s top b ws →
-      Made top s s (setOf (pairsOf (members vs) (members ws))) 0
-  product-heavy l h k = made-heavy (omega (arith, product-weighs h k))
-
-  module _ (room : top + 514 ≤ length s) (light : 1 + n * m + m * (d - a - 1) + n * (e - b - 1) ≤ 256) where
-    pub product-pre : {vs ws : Values} → SetBelow s top a vs → SetBelow s top b ws → SquarePre s (a + 1) n (b + 1) m (top + 1)
-    product-pre {vs} {ws} h k = record {
+  module _ (room : top + 514 ≤ length s) (light : productWeight x y ≤ 256) where
+    abbrev pub product-pre : SquarePre s (a + 1) (x .members) (b + 1) (y .members) (top + 1)
+    product-pre = record {
       top = top;
       lefts = vs;
       rights = ws;
-      front = front-start s top a vs h n (given .low);
-      others = front-start s top b ws k m (given .low′);
+      front = p .front top vs h;
+      others = q .front top ws k;
       behind = omega arith;
-      room = omega (arith, product-weighs h k);
+      room = omega (arith, product-weighs);
     }
 
-    pub product-made : (s′ : List ℕ) (r : ℕ) → Squares s (a + 1) n (b + 1) m (top + 1) s′ r → {vs ws : Values} → SetBelow s top a vs → SetBelow s top b ws →
-        Made top s (setAt s′ top (21474836480 + n * m)) (setOf (pairsOf (members vs) (members ws))) r
-    product-made s′ r put {vs} {ws} h k =
-        let z = product-sizes h k in
-        made-set _ _ _ _ _ _ (put top vs ws (front-start s top a vs h n (given .low)) (front-start s top b ws k m (given .low′)) (omega arith))
-        (sym (square-count vs ws ∙ rw (z .0, z .1))) (omega arith) (omega (arith, product-weighs h k))
-
--- products of two numbers that are small
-pub small-product : (n m : ℕ) → n ≤ 255 → m ≤ 255 → n * m ≤ 65025
-small-product n m p q = omega (arith, mul-le-mul-right m p)
+    pub product-made : (s′ : List ℕ) (r : ℕ) → Squares s (a + 1) (x .members) (b + 1) (y .members) (top + 1) s′ r →
+        Made top s (setAt s′ top (21474836480 + x .members * y .members)) (setOf (pairsOf (members vs) (members ws))) r
+    product-made s′ r put =
+        made-set _ _ _ _ _ _ (put product-pre) (sym (square-count vs ws ∙ rw (p .front top vs h .counted, q .front top ws k .counted)))
+        (omega arith) (omega (arith, product-weighs))

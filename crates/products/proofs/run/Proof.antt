@@ -17,7 +17,7 @@ run-spec =
     tie.close
     (tie.spec Inv-loop μ-loop
     (λ c. search needs)
-    (λ c. running-start _ _ _ _ (c .pre))
+    (λ c. running-start (c .pre))
     (λ c. omega (arith, c .before .before .pre .fits, c .before .before .pre .few, c .loop-test .taken))
     (λ c. omega (arith, running-inside (c .before .loop .inv) (c .loop-test .taken)))
     (λ c. running-inside (c .before .loop .inv) (c .loop-test .taken))
@@ -26,7 +26,7 @@ run-spec =
     (λ c. omega (arith, c .loop-test .taken))
     (λ c. running-next (c .before .loop .inv) (c .loop-test .taken))
     (λ c. omega (arith, c .before .before .pre .few))
-    (λ c. omega (arith, c .before .before .pre .room, c .before .loop .inv .grown .appended .frame .kept))
-    (λ c. omega (arith, c .before .before .pre .room, c .before .loop .inv .grown .appended .frame .kept))
+    (λ c. omega (arith, c .before .before .pre .room, c .before .loop .inv .appended .frame .kept))
+    (λ c. omega (arith, c .before .before .pre .room, c .before .loop .inv .appended .frame .kept))
     (λ c. search needs)
     (λ c. λ vs e q. running-end (c .before .loop .inv) (c .loop-test .left) vs e q))
