@@ -71,8 +71,8 @@ pub record FindPre (s : List ℕ) (p end from to : ℕ) : Type 0 where
   pub others : List Value
   pub members : Members s from to others
 
-abbrev pub Finds : List ℕ → ℕ → ℕ → ℕ → Place → Type 0
-Finds s p from to r = (v : Value) (zs : List Value) → ValueAt s p v → CellsFit v → Members s from to zs → Placed v from zs r
+abbrev pub Finds : List ℕ → ℕ → ℕ → ℕ → ℕ → Place → Type 0
+Finds s p end from to r = (g : FindPre s p end from to) → Placed (g .value) from (g .others) r
 
 -- A value below `from`, the rising members built from there on of other values, and room for one more.
 pub record InsertPre (s : List ℕ) (p end from : ℕ) (o : Out) : Type 0 where
@@ -84,12 +84,11 @@ pub record InsertPre (s : List ℕ) (p end from : ℕ) (o : Out) : Type 0 where
   pub room : o .to + weight value ≤ length s
   pub few : o .count ≤ 256
 
-abbrev pub Places : List ℕ → ℕ → ℕ → Out → Place → Type 0
-Places s p from o r = (v : Value) (xs : List Value) → ValueBelow s from p v → Built s from o (rising xs) → Placed v from (rising xs) r
+abbrev pub Places : List ℕ → ℕ → ℕ → ℕ → Out → Place → Type 0
+Places s p end from o r = (g : InsertPre s p end from o) → Placed (g .value) from (rising (g .others)) r
 
-abbrev pub Inserts : List ℕ → ℕ → ℕ → Out → List ℕ → Out → Type 0
-Inserts s p from o s′ r =
-    (v : Value) (xs : List Value) → ValueBelow s from p v → Built s from o (rising xs) → Same from s s′ × Built s′ from r (insert v (rising xs))
+abbrev pub Inserts : List ℕ → ℕ → ℕ → ℕ → Out → List ℕ → Out → Type 0
+Inserts s p end from o s′ r = (g : InsertPre s p end from o) → Same from s s′ × Built s′ from r (insert (g .value) (rising (g .others)))
 
 -- Where the last member stands after one of n cells has been put at `at` among members that ended at `to`.
 abbrev pub movedLast : ℕ → ℕ → ℕ → ℕ → ℕ

@@ -191,7 +191,7 @@ struct Place {
 // The place of the value from p to `end` among the members from `from` to `to`.
 fn find(s: &[u64], p: usize, end: usize, from: usize, to: usize) -> Place
     requires { ⌜ FindPre (now s) p end from to ⌝ }
-    ensures { λ r. ⌜ Finds (now (s .entry)) p from to r ⌝ }
+    ensures { λ r. ⌜ Finds (now (s .entry)) p end from to r ⌝ }
 {
     let mut i = from;
     while i < to {
@@ -213,7 +213,7 @@ fn find(s: &[u64], p: usize, end: usize, from: usize, to: usize) -> Place
 // The same among the members that have been built. Parts often come in rising order: the last member is looked at first.
 fn place_for(s: &[u64], p: usize, end: usize, from: usize, o: Out) -> Place
     requires { ⌜ InsertPre (now s) p end from o ⌝ }
-    ensures { λ r. ⌜ Places (now (s .entry)) p from o r ⌝ }
+    ensures { λ r. ⌜ Places (now (s .entry)) p end from o r ⌝ }
 {
     let to = o.to;
     let last = o.last;
@@ -261,7 +261,7 @@ fn moved_last(at: usize, to: usize, last: usize, n: usize) -> usize
 // Puts the value from p to `end` among the rising members that have been built from `from` on, unless it is there.
 fn insert(s: &mut [u64], p: usize, end: usize, from: usize, o: Out) -> Out
     requires { ⌜ InsertPre (now s) p end from o ⌝ }
-    ensures { λ r. ⌜ Inserts (now (s .entry)) p from o (now (s .exit)) r ⌝ }
+    ensures { λ r. ⌜ Inserts (now (s .entry)) p end from o (now (s .exit)) r ⌝ }
 {
     let q = place_for(s, p, end, from, o);
     if q.equal {
