@@ -14,15 +14,6 @@ use Rattle.arena.proofs.Standing.{stands-append, stands-frame, same-refl, same-
 use Rattle.arena.proofs.FrontLaws.{single, value-end}
 use Rattle.products.specs.Growing.{Appended, Grown, cellsFrom, RunPre, PairPre, PairPut}
 
--- The members that are left: none, or a first one.
-pub front-end : {s : List ℕ} {top at n : ℕ} (vs : Values) → Front s top at n vs → n ≤ 0 → vs ≡ none
-front-end none f l = refl
-front-end (w ▸ us) f l = absurd (omega (arith, f .counted))
-
-pub front-first : {s : List ℕ} {top at n : ℕ} (vs : Values) → Front s top at n vs → 0 < n → (w : Value) × (us : Values) × (vs ≡ w ▸ us)
-front-first none f l = absurd (omega (arith, f .counted))
-front-first (w ▸ us) f l = (w, us, refl)
-
 -- Nothing, a cell, or a copied run, written behind what stands.
 pub nothing-stands : (s : List ℕ) (to : ℕ) → to ≤ length s → Stands s to []
 nothing-stands s to l = record { inside = omega arith; cells = λ i p. absurd (omega arith) }
@@ -79,23 +70,25 @@ made {v = v} a l =
 pub made-heavy : {s : List ℕ} {top : ℕ} {v : Value} → 256 < weight v → Made top s s v 0
 made-heavy {s} {top} l = record { frame = same-refl top s; light = λ k. absurd (omega arith); heavy = λ k. refl }
 
--- A set's cell before its members.
-pub appended-set : {s : List ℕ} {top : ℕ} {s′ : List ℕ} {r n : ℕ} (vs : Values) → Appended s (top + 1) s′ r (codes vs) → n ≡ count vs → top < length s →
-    Appended s top (setAt s′ top (21474836480 + n)) r (code (set vs))
-unfolding code
-appended-set {s} {top} {s′} {r} {n} vs a e l =
-    let x = 21474836480 + n in
+-- A cell before what has been written, as a set's before its members.
+appended-head : {s : List ℕ} {top : ℕ} {s′ : List ℕ} {r : ℕ} {cs : List ℕ} (x : ℕ) → Appended s (top + 1) s′ r cs → top < length s →
+    Appended s top (setAt s′ top x) r (x ∷ cs)
+appended-head {s} {top} {s′} {r} {cs} x a l =
     let y = appended-cell s′ top x (omega (arith, a .frame .kept)) in
-    let k : Stands (setAt s′ top x) (top + 1) (codes vs) = record {
+    let k : Stands (setAt s′ top x) (top + 1) cs = record {
       inside = omega (arith, y .frame .kept, a .stands .inside);
       cells = λ i p. getD-set-other s′ top (top + 1 + i) x 0 (λ z. omega arith) ∙ a .stands .cells i p;
     } in
     record {
       frame = record { same = λ i p. y .frame .same i p ∙ a .frame .same i (omega arith); kept = y .frame .kept ∙ a .frame .kept };
-      stands = subst (λ (c : ℕ). Stands (setAt s′ top x) top ((21474836480 + c) ∷ codes vs)) e
-          (stands-append (setAt s′ top x) top (x ∷ []) (codes vs) (y .stands) k);
+      stands = stands-append (setAt s′ top x) top (x ∷ []) cs (y .stands) k;
       ends = omega (arith, a .ends);
     }
+
+pub appended-set : {s : List ℕ} {top : ℕ} {s′ : List ℕ} {r n : ℕ} (vs : Values) → Appended s (top + 1) s′ r (codes vs) → n ≡ count vs → top < length s →
+    Appended s top (setAt s′ top (21474836480 + n)) r (code (set vs))
+unfolding code
+appended-set vs a e l = rw e (appended-head _ a l)
 
 pub made-set : (s : List ℕ) (top : ℕ) (s′ : List ℕ) (r n : ℕ) (vs : Values) → Appended s (top + 1) s′ r (codes vs) → n ≡ count vs → top < length s →
     weight (set vs) ≤ 256 → Made top s (setAt s′ top (21474836480 + n)) (set vs) r
@@ -119,20 +112,14 @@ pub single-heavy : (s : List ℕ) (a top e : ℕ) → EndsAt s a e → 255 < e -
 single-heavy s a top e x l v h = made-heavy (omega (arith, value-end s top a e v h x))
 
 -- `pair_at`
-pub pair-put : (s : List ℕ) (a n b m to : ℕ) (s₁ s₂ : List ℕ) → PairPre s a n b m to → Copied (setAt s to 17179869184) a n (to + 1) s₁ →
-    Copied s₁ b m (to + 1 + n) s₂ → (v w : Value) → ValueAt s a v → ValueAt s b w → n ≡ weight v → m ≡ weight w →
-    Appended s to s₂ (to + 1 + n + m) (code (pair v w))
+pub pair-put : {s : List ℕ} {a n b m to : ℕ} {s₁ s₂ : List ℕ} → PairPre s a n b m to → Copied s a n (to + 1) s₁ → Copied s₁ b m (to + 1 + n) s₂ →
+    PairPut s a n b m to (setAt s₂ to 17179869184) (to + 1 + n + m)
 unfolding code
-pair-put s a n b m to s₁ s₂ p c d v w h k e f =
-    let s₀ = setAt s to 17179869184 in
-    let x = appended-cell s to 17179869184 (omega (arith, p .room)) in
-    let y = appended-copy c (stands-frame to s s₀ a (code v) (x .frame) (omega (arith, length-code v, p .left)) h)
-    (omega (arith, length-code v)) (omega (arith, p .room, x .frame .kept)) in
-    let u = same-trans to (to + 1) s s₀ s₁ (x .frame) (y .frame) (omega arith) in
-    let z = appended-copy d (stands-frame to s s₁ b (code w) u (omega (arith, length-code w, p .right)) k)
-    (omega (arith, length-code w)) (omega (arith, p .room, u .kept)) in
-    appended-then x
-    (appended-then y z)
+pair-put {s} {a} {n} {b} {m} {to} {s₁} p c d v w h k e f =
+    let y = appended-copy c h (omega (arith, length-code v)) (omega (arith, p .room)) in
+    let there = stands-frame (to + 1) s s₁ b (code w) (y .frame) (omega (arith, length-code w, p .right)) k in
+    let z = appended-copy d there (omega (arith, length-code w)) (omega (arith, p .room, y .frame .kept)) in
+    appended-head 17179869184 (appended-then y z) (omega (arith, p .room))
 
 -- `pair`
 module _ {s : List ℕ} {a b top : ℕ} (d e : ℕ) (x : EndsAt s a d) (y : EndsAt s b e) {v w : Value} (h : ValueBelow s top a v) (k : ValueBelow s top b w) where

@@ -12,49 +12,48 @@ use Rattle.arena.proofs.CodeLaws.{length-codes}
 use Rattle.arena.proofs.FrontLaws.{codes-append, count-append, weights-append, front-start, front-value, front-next, front-below, front-some, front-frame, value-frame, set-end, set-cells}
 use Rattle.products.specs.declared.Size.{Size}
 use Rattle.products.specs.Growing.{Appended, Grown, PairPre, PairPut, rowOf, RowPre, Rows, square, SquarePre, Squares, SetAt, Few, Sized, productWeight}
-use Rattle.products.proofs.GrowLaws.{front-end, front-first, grown-start, grown-step, grown-end, grown-left, made-set, made-heavy}
+use Rattle.products.proofs.GrowLaws.{grown-start, grown-step, grown-end, grown-left, made-set, made-heavy}
 use Rattle.laws.proofs.CellsLaws.{count-weights}
 
--- A walk: the members of a set are passed one by one, and for each of them cells are written. What is left to write is told by the members
--- that are left.
-pub record WalkAt (F : Values → List ℕ) (s₀ : List ℕ) (top : ℕ) (vs : Values) (to : ℕ) (s : List ℕ) (i left at : ℕ) : Type 0 where
-  pub rest : Values
+-- A walk: the members of a set are passed one by one, and for each of them cells are written. What is left to write is told by `rest`, the
+-- members that are left.
+pub record Walking (F : Values → List ℕ) (s₀ : List ℕ) (top : ℕ) (vs : Values) (to : ℕ) (s : List ℕ) (i left at : ℕ) (rest : Values) : Type 0 where
   pub front : Front s₀ top i left rest
   pub grown : Grown s₀ to s at (F vs) (F rest)
   pub behind : top ≤ to
 
-pub walk-start : (F : Values → List ℕ) {s : List ℕ} {top : ℕ} {vs : Values} {a n : ℕ} (to : ℕ) → to ≤ length s → Front s top a n vs → top ≤ to →
-    WalkAt F s top vs to s a n to
-walk-start F {s} {vs = vs} to l h b = record { rest = vs; front = h; grown = grown-start s to (F vs) l; behind = b }
+abbrev pub WalkAt : (Values → List ℕ) → List ℕ → ℕ → Values → ℕ → List ℕ → ℕ → ℕ → ℕ → Type 0
+WalkAt F s₀ top vs to s i left at = (rest : Values) × Walking F s₀ top vs to s i left at rest
 
-module _ {F : Values → List ℕ} {s₀ : List ℕ} {top : ℕ} {vs : Values} {to : ℕ} {s : List ℕ} {i left at : ℕ} (h : WalkAt F s₀ top vs to s i left at) where
-  walk-front : Front s top i left (h .rest)
-  walk-front = front-frame to s₀ s top i left (h .rest) (h .grown .appended .frame) (h .behind) (h .front)
+module _ {F : Values → List ℕ} {s₀ : List ℕ} {top : ℕ} {vs : Values} {to : ℕ} {s : List ℕ} {i left at : ℕ} where
+  walk-front : {rest : Values} → Walking F s₀ top vs to s i left at rest → Front s top i left rest
+  walk-front {rest} h = front-frame to s₀ s top i left rest (h .grown .appended .frame) (h .behind) (h .front)
 
-  pub walk-some : 0 < left → SomeAt s i
-  walk-some l = front-some s top i left (h .rest) walk-front l
+  pub walk-some : WalkAt F s₀ top vs to s i left at → 0 < left → SomeAt s i
+  walk-some (rest, h) l = front-some s top i left rest (walk-front h) l
 
-  walk-end : left ≤ 0 → F none ≡ [] → Appended s₀ to s at (F vs)
-  walk-end l e = grown-end (rw (ap F (front-end (h .rest) (h .front) l) ∙ e) at (h .grown))
+  walk-end : WalkAt F s₀ top vs to s i left at → left ≤ 0 → F none ≡ [] → Appended s₀ to s at (F vs)
+  walk-end (none, h) l e = grown-end (rw e at (h .grown))
+  walk-end (w ▸ us, h) l e = absurd (omega (arith, h .front .counted))
 
-  module _ (more : 0 < left) (e : ℕ) (ends : EndsAt s i e) where
-    -- What is shown of the first member that is left is shown.
-    walk-by : (P : Type 0) → ((w : Value) (us : Values) → Front s₀ top i left (w ▸ us) → Front s top i left (w ▸ us) →
-        Grown s₀ to s at (F vs) (F (w ▸ us)) → e ≡ i + weight w → P) → P
-    walk-by P k =
-        let x = front-first (h .rest) (h .front) more in
-        let f = rw (x .2) at walk-front in
-        k (x .0) (x .1) (rw (x .2) at (h .front)) f (rw (x .2) at (h .grown)) (ends (x .0) (front-value s top i left (x .0) (x .1) f) (f .fits .0))
+  module _ (e : ℕ) (ends : EndsAt s i e) where
+    walk-ends : {w : Value} {us : Values} → Walking F s₀ top vs to s i left at (w ▸ us) → e ≡ i + weight w
+    walk-ends {w} {us} h = let f = walk-front h in ends w (front-value s top i left w us f) (f .fits .0)
 
-    pub walk-forward : i ≤ e
-    walk-forward = walk-by (i ≤ e) λ w us f₀ f g z. omega arith
+    pub walk-forward : WalkAt F s₀ top vs to s i left at → 0 < left → i ≤ e
+    walk-forward (none, h) l = absurd (omega (arith, h .front .counted))
+    walk-forward (w ▸ us, h) l = omega (arith, walk-ends h)
 
-    walk-next : (s′ : List ℕ) (r : ℕ) → ((w : Value) (us : Values) → Front s top i left (w ▸ us) → Grown s₀ to s at (F vs) (F (w ▸ us)) → e ≡ i + weight w →
-        (cs : List ℕ) × (F (w ▸ us) ≡ cs ++ F us) × Appended s at s′ r cs) → WalkAt F s₀ top vs to s′ e (left - 1) r
-    walk-next s′ r put = walk-by (WalkAt F s₀ top vs to s′ e (left - 1) r) λ w us f₀ f g z.
-        let x = put w us f g z in
-        let n = front-next s₀ top i left w us f₀ e (left - 1) z (omega arith) in
-        record { rest = us; front = n; grown = grown-step (F us) (rw (x .1) at g) (x .2); behind = h .behind }
+    walk-next : {w : Value} {us : Values} → Walking F s₀ top vs to s i left at (w ▸ us) → {s′ : List ℕ} {r : ℕ} {cs : List ℕ} →
+        F (w ▸ us) ≡ cs ++ F us → Appended s at s′ r cs → WalkAt F s₀ top vs to s′ e (left - 1) r
+    walk-next {w} {us} h d a = (
+      us,
+      record {
+        front = front-next s₀ top i left w us (h .front) e (left - 1) (walk-ends h) (omega (arith, h .front .counted));
+        grown = grown-step (F us) (rw d at (h .grown)) a;
+        behind = h .behind;
+      },
+    )
 
 -- The pairs of x with the members of a set.
 row-weighs : (x : Value) (ws : Values) → weights (rowOf x ws) ≡ count ws + count ws * weight x + weights ws
@@ -71,30 +70,34 @@ RowAt {s₀} {v} {k} {b} {m} {to} g s i left at = WalkAt (λ us. codes (rowOf (g
 
 module _ {s₀ : List ℕ} {v k b m to : ℕ} (g : RowPre s₀ v k b m to) where
   pub row-start : RowAt g s₀ b m to
-  row-start = walk-start (λ us. codes (rowOf (g .first) us)) to (omega (arith, g .room)) (g .front) (g .behind)
+  row-start = (g .others, record { front = g .front; grown = grown-start s₀ to _ (omega (arith, g .room)); behind = g .behind })
 
-  module _ {s : List ℕ} {i left at : ℕ} (h : RowAt g s i left at) where
-    pub row-end : left ≤ 0 → Appended s₀ to s at (codes (rowOf (g .first) (g .others)))
+  module _ {s : List ℕ} {i left at : ℕ} where
+    pub row-end : RowAt g s i left at → left ≤ 0 → Appended s₀ to s at (codes (rowOf (g .first) (g .others)))
     unfolding code
-    row-end l = walk-end h l refl
+    row-end h l = walk-end h l refl
 
-    module _ (more : 0 < left) (e : ℕ) (ends : EndsAt s i e) where
-      pub row-pair : PairPre s v k i (e - i) at
-      row-pair = walk-by h more e ends (PairPre s v k i (e - i) at) λ w us f₀ f d z.
+    module _ (e : ℕ) (ends : EndsAt s i e) where
+      pub row-pair : RowAt g s i left at → 0 < left → PairPre s v k i (e - i) at
+      row-pair (none, h) l = absurd (omega (arith, h .front .counted))
+      row-pair (w ▸ us, h) l =
           let x = g .first in
-          let q = grown-left d in
-          let y : to ≤ at = omega (arith, d .appended .ends) in
+          let d = h .grown .appended in
+          let q = grown-left (h .grown) in
+          let z = walk-ends e ends h in
           record {
-            left = omega (arith, g .value .below, g .weighs, h .behind);
-            right = omega (arith, f .below, h .behind);
-            room = omega (arith, length-codes (rowOf x (g .others)), length-codes (rowOf x (w ▸ us)), g .weighs, g .room, d .appended .frame .kept);
+            left = omega (arith, g .value .below, g .weighs, h .behind, d .ends);
+            right = omega (arith, h .front .below, h .behind, d .ends);
+            room = omega (arith, length-codes (rowOf x (g .others)), length-codes (rowOf x (w ▸ us)), g .weighs, g .room, d .frame .kept);
           }
 
-      pub row-next : (s′ : List ℕ) (r : ℕ) → PairPut s v k i (e - i) at s′ r → RowAt g s′ e (left - 1) r
+      pub row-next : RowAt g s i left at → 0 < left → (s′ : List ℕ) (r : ℕ) → PairPut s v k i (e - i) at s′ r → RowAt g s′ e (left - 1) r
       unfolding code
-      row-next s′ r put = walk-next h more e ends s′ r λ w us f d z.
+      row-next (none, h) l s′ r put = absurd (omega (arith, h .front .counted))
+      row-next (w ▸ us, h) l s′ r put =
           let there = value-frame to s₀ s (g .top) v (g .first) (h .grown .appended .frame) (h .behind) (g .value) .stands in
-          (code (pair (g .first) w), refl, put (g .first) w there (front-value s (g .top) i left w us f) (g .weighs) (omega arith))
+          walk-next e ends h refl
+          (put (g .first) w there (front-value s (g .top) i left w us (walk-front h)) (g .weighs) (omega (arith, walk-ends e ends h)))
 
 -- The pairs of the members of two sets.
 square-codes : (v : Value) (vs ws : Values) → codes (square (v ▸ vs) ws) ≡ codes (rowOf v ws) ++ codes (square vs ws)
@@ -119,36 +122,35 @@ SquareAt {s₀} {a} {n} {b} {m} {to} g s i left at = WalkAt (λ us. codes (squar
 
 module _ {s₀ : List ℕ} {a n b m to : ℕ} (g : SquarePre s₀ a n b m to) where
   pub square-start : SquareAt g s₀ a n to
-  square-start = walk-start (λ us. codes (square us (g .rights))) to (omega (arith, g .room)) (g .front) (g .behind)
+  square-start = (g .lefts, record { front = g .front; grown = grown-start s₀ to _ (omega (arith, g .room)); behind = g .behind })
 
-  module _ {s : List ℕ} {i left at : ℕ} (h : SquareAt g s i left at) where
-    pub square-end : left ≤ 0 → Appended s₀ to s at (codes (square (g .lefts) (g .rights)))
+  module _ {s : List ℕ} {i left at : ℕ} where
+    pub square-end : SquareAt g s i left at → left ≤ 0 → Appended s₀ to s at (codes (square (g .lefts) (g .rights)))
     unfolding code pairsOf
-    square-end l = walk-end h l refl
+    square-end h l = walk-end h l refl
 
-    module _ (more : 0 < left) (e : ℕ) (ends : EndsAt s i e) where
-      -- the row of the first member that is left
-      abbrev row-for : {w : Value} {us : Values} → Front s (g .top) i left (w ▸ us) → Grown s₀ to s at (codes (square (g .lefts) (g .rights)))
-          (codes (square (w ▸ us) (g .rights))) → e ≡ i + weight w → RowPre s i (e - i) b m at
-      row-for {w} {us} f d z =
-          let q = grown-left d in
+    module _ (e : ℕ) (ends : EndsAt s i e) where
+      pub square-row : SquareAt g s i left at → 0 < left → RowPre s i (e - i) b m at
+      square-row (none, h) l = absurd (omega (arith, h .front .counted))
+      square-row (w ▸ us, h) l =
+          let d = h .grown .appended in
+          let q = grown-left (h .grown) in
           let k = ap length (square-codes w us (g .rights)) ∙ length-append (codes (rowOf w (g .rights))) (codes (square us (g .rights))) in
           record {
             top = g .top;
             first = w;
             others = g .rights;
-            value = front-below s (g .top) i left w us f;
-            weighs = omega arith;
-            front = front-frame to s₀ s (g .top) b m (g .rights) (d .appended .frame) (g .behind) (g .others);
-            behind = omega (arith, d .appended .ends, g .behind);
-            room = omega (arith, length-codes (square (g .lefts) (g .rights)), length-codes (rowOf w (g .rights)), g .room, d .appended .frame .kept);
+            value = front-below s (g .top) i left w us (walk-front h);
+            weighs = omega (arith, walk-ends e ends h);
+            front = front-frame to s₀ s (g .top) b m (g .rights) (d .frame) (g .behind) (g .others);
+            behind = omega (arith, d .ends, g .behind);
+            room = omega (arith, length-codes (square (g .lefts) (g .rights)), length-codes (rowOf w (g .rights)), g .room, d .frame .kept);
           }
 
-      pub square-row : RowPre s i (e - i) b m at
-      square-row = walk-by h more e ends (RowPre s i (e - i) b m at) λ w us f₀ f d z. row-for f d z
-
-      pub square-next : (s′ : List ℕ) (r : ℕ) → Rows s i (e - i) b m at s′ r → SquareAt g s′ e (left - 1) r
-      square-next s′ r put = walk-next h more e ends s′ r λ w us f d z. (codes (rowOf w (g .rights)), square-codes w us (g .rights), put (row-for f d z))
+      pub square-next : SquareAt g s i left at → 0 < left → (s′ : List ℕ) (r : ℕ) → Rows s i (e - i) b m at s′ r → SquareAt g s′ e (left - 1) r
+      unfolding square-row
+      square-next (none, h) l s′ r put = absurd (omega (arith, h .front .counted))
+      square-next (w ▸ us, h) l s′ r put = walk-next e ends h (square-codes w us (g .rights)) (put (square-row (w ▸ us, h) l))
 
 -- `size_of`
 pub size-is : {s : List ℕ} {a e n : ℕ} → SetAt s a → EndsAt s a e → n ≡ getD s a 0 % 4294967296 → Sized s a (record { members = n; cells = e - a - 1 })

@@ -45,9 +45,9 @@ fn pair_at(s: &mut [u64], a: usize, n: usize, b: usize, m: usize, to: usize) -> 
     requires { ⌜ PairPre (now s) a n b m to ⌝ }
     ensures { λ r. ⌜ PairPut (now (s .entry)) a n b m to (now (s .exit)) r ⌝ }
 {
-    s[to] = arena::PAIR;
     arena::copy(s, a, n, to + 1);
     arena::copy(s, b, m, to + 1 + n);
+    s[to] = arena::PAIR;
     to + 1 + n + m
 }
 

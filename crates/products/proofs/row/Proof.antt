@@ -37,10 +37,11 @@ row-spec =
     (tie.spec Inv-loop μ-loop
     (λ c. λ g. row-start g)
     (λ c κs. walk-some (known (c .before)) (c .before .loop-test .taken))
-    (λ c. let q = member (c .before) in walk-forward (known q) (q .loop-test .taken) _ (c .before .end-of .ensures))
-    (λ c κs. let q = member (c .before) in row-pair (lent q) (known q) (q .loop-test .taken) _ (c .before .end-of .ensures))
+    (λ c. let q = member (c .before) in walk-forward _ (c .before .end-of .ensures) (known q) (q .loop-test .taken))
+    (λ c κs. let q = member (c .before) in row-pair (lent q) _ (c .before .end-of .ensures) (known q) (q .loop-test .taken))
     (λ c. omega (arith, member (ended c) .loop-test .taken))
     (λ c. omega (arith, member (ended c) .loop-test .taken))
-    (λ c. λ g. let q = member (ended c) in row-next g (q .before .loop .inv g) (q .loop-test .taken) _ (ended c .end-of .ensures) _ _ (put c .pair-at .ensures))
-    (λ c. c .before .loop .inv (c .before .before .before .pre) .grown .appended .frame .kept)
+    (λ c. λ g. let q = member (ended c) in
+    row-next g _ (ended c .end-of .ensures) (q .before .loop .inv g) (q .loop-test .taken) _ _ (put c .pair-at .ensures))
+    (λ c. c .before .loop .inv (c .before .before .before .pre) .1 .grown .appended .frame .kept)
     (λ c. λ g. row-end g (c .before .loop .inv g) (c .loop-test .left)))
