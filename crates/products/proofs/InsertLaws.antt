@@ -73,44 +73,40 @@ pub record Finding {s : List ℕ} {p end from to : ℕ} (g : FindPre s p end fro
   pub leads : (r : Place) → Placed (g .value) i hi r → Placed (g .value) from (g .others) r
 
 module _ {s : List ℕ} {p end from to : ℕ} (g : FindPre s p end from to) {i : ℕ} where
-  pub finding-end : (hi : List Value) → Finding g i hi → to ≤ i → Placed (g .value) from (g .others) (record { at = to; equal = false })
-  finding-end [] h l = h .leads _ (record { lo = []; hi = []; all = refl; at = omega (arith, h .rest .ends); inserted = insert-none (g .value) })
-  finding-end (z ∷ hi) h l = absurd (omega (arith, h .rest .ends, weight-some z))
+  pub finding-end : (hi : List Value) × Finding g i hi → to ≤ i → Placed (g .value) from (g .others) (record { at = to; equal = false })
+  finding-end ([], h) l = h .leads _ (record { lo = []; hi = []; all = refl; at = omega (arith, h .rest .ends); inserted = insert-none (g .value) })
+  finding-end (z ∷ hi, h) l = absurd (omega (arith, h .rest .ends, weight-some z))
 
-  pub finding-some : (hi : List Value) → Finding g i hi → i < to → SomeAt s i
-  finding-some [] h l = absurd (omega (arith, h .rest .ends))
-  finding-some (z ∷ hi) h l = record { value = z; stands = members-first (h .rest); fits = h .rest .fits .0 }
+  pub finding-some : (hi : List Value) × Finding g i hi → i < to → SomeAt s i
+  finding-some ([], h) l = absurd (omega (arith, h .rest .ends))
+  finding-some (z ∷ hi, h) l = record { value = z; stands = members-first (h .rest); fits = h .rest .fits .0 }
+
+  pub finding-on : (hi : List Value) × Finding g i hi → i < to → (e : ℕ) → EndsAt s i e → i < e
+  finding-on ([], h) l e ends = absurd (omega (arith, h .rest .ends))
+  finding-on (z ∷ hi, h) l e ends = omega (arith, ends z (members-first (h .rest)) (h .rest .fits .0), weight-some z)
 
   module _ (c : ℕ) (compared : Compared s p i c) where
-    pub finding-here : (hi : List Value) → Finding g i hi → i < to → c < 2 → Placed (g .value) from (g .others) (record { at = i; equal = eqb c 1 })
-    finding-here [] h l k = absurd (omega (arith, h .rest .ends))
-    finding-here (z ∷ hi) h l k =
+    pub finding-here : (hi : List Value) × Finding g i hi → i < to → c < 2 → Placed (g .value) from (g .others) (record { at = i; equal = eqb c 1 })
+    finding-here ([], h) l k = absurd (omega (arith, h .rest .ends))
+    finding-here (z ∷ hi, h) l k =
         let o = compared (g .value) z (g .stands) (members-first (h .rest)) (g .fits) (h .rest .fits .0) in
         h .leads _ (record { lo = []; hi = z ∷ hi; all = refl; at = omega arith; inserted = insert-here (g .value) z hi c o k })
 
-    pub finding-next : (hi : List Value) → Finding g i hi → i < to → 2 ≤ c → (e : ℕ) → EndsAt s i e → (i < e) × ((ys : List Value) × Finding g e ys)
-    finding-next [] h l k e ends = absurd (omega (arith, h .rest .ends))
-    finding-next (z ∷ hi) h l k e ends =
+    pub finding-next : (hi : List Value) × Finding g i hi → i < to → 2 ≤ c → (e : ℕ) → EndsAt s i e → (ys : List Value) × Finding g e ys
+    finding-next ([], h) l k e ends = absurd (omega (arith, h .rest .ends))
+    finding-next (z ∷ hi, h) l k e ends =
         let m = h .rest in
         let x = members-first m in
         let o = compared (g .value) z (g .stands) x (g .fits) (m .fits .0) in
         let greater = code-greater (order (g .value) z) c o (λ f. omega arith) (λ f. omega arith) in
-        let w : e ≡ i + weight z = ends z x (m .fits .0) in (
-          omega (arith, weight-some z),
-          (
-            hi,
-            record {
-              rest = members-next m e w;
-              leads = λ r d. h .leads r (record {
-                lo = z ∷ d .lo;
-                hi = d .hi;
-                all = ap (λ (l : List Value). z ∷ l) (d .all);
-                at = omega (arith, d .at);
-                inserted = insert-next (g .value) z hi greater ∙ ap (λ (l : List Value). z ∷ l) (d .inserted);
-              });
-            },
-          ),
-        )
+        let placed : (r : Place) → Placed (g .value) e hi r → Placed (g .value) i (z ∷ hi) r = λ r d. record {
+          lo = z ∷ d .lo;
+          hi = d .hi;
+          all = ap (λ (l : List Value). z ∷ l) (d .all);
+          at = omega (arith, d .at, ends z x (m .fits .0));
+          inserted = insert-next (g .value) z hi greater ∙ ap (λ (l : List Value). z ∷ l) (d .inserted);
+        } in
+        (hi, record { rest = members-next m e (ends z x (m .fits .0)); leads = λ r d. h .leads r (placed r d) })
 
 -- `place_for`: the last member stands before the end.
 last-stands : (s : List ℕ) (i to : ℕ) (z : Value) (zs : List Value) (last : ℕ) → Members s i to (z ∷ zs) → LastAt last to (z ∷ zs) →

@@ -2,8 +2,8 @@
 -- (`SubsetAt`). In both rest is what is left of the members.
 use Prim.Native.Nat.{ℕ, _+_, _-_, _/_, _%_, _≤_, _<_}
 use mathlib.Core.Bool.{Bool, true, false, cond}
-use mathlib.Core.List.{List, [], _∷_, _++_, append-nil}
-use mathlib.Core.Path.{_≡_, refl, sym, ap, _∙_, subst}
+use mathlib.Core.List.{List, [], _++_, append-nil}
+use mathlib.Core.Path.{_≡_, refl, _∙_, subst}
 use native.Mathlib.Omega.{arith}
 use borrow.Author.Tests.{lt-ltb, le-ltb}
 use lib.Dec.{eqb, ltb}
@@ -43,32 +43,31 @@ module _ {s : List ℕ} {a n : ℕ} (g : MarkPre s a n) {at : List ℕ} where
   }
 
   module _ {j : ℕ} where
-    pub marking-some : {rest : Values} → Marking g at j rest → j < n → SomeAt s (getD at j 0)
-    marking-some {rest} h l = front-some s (g .top) (getD at j 0) (n - j) rest (h .front) (omega arith)
+    pub marking-some : (rest : Values) × Marking g at j rest → j < n → SomeAt s (getD at j 0)
+    marking-some (rest, h) l = front-some s (g .top) (getD at j 0) (n - j) rest (h .front) (omega arith)
 
-    pub marking-end : (rest : Values) → Marking g at j rest → n ≤ j → StandAt s at (g .top) 0 (g .whole)
-    marking-end none h l = h .leads at (λ k q. refl) tt
-    marking-end (w ▸ ws) h l = absurd (omega (arith, h .front .counted))
+    pub marking-end : (rest : Values) × Marking g at j rest → n ≤ j → StandAt s at (g .top) 0 (g .whole)
+    marking-end (none, h) l = h .leads at (λ k q. refl) tt
+    marking-end (w ▸ ws, h) l = absurd (omega (arith, h .front .counted))
 
-    pub marking-next : (rest : Values) → Marking g at j rest → j < n → (e : ℕ) → EndsAt s (getD at j 0) e →
+    pub marking-next : (rest : Values) × Marking g at j rest → j < n → (e : ℕ) → EndsAt s (getD at j 0) e →
         (ws : Values) × Marking g (setAt at (j + 1) e) (j + 1) ws
-    marking-next none h l e ends = absurd (omega (arith, h .front .counted))
-    marking-next (w ▸ ws) h l e ends =
+    marking-next (none, h) l e ends = absurd (omega (arith, h .front .counted))
+    marking-next (w ▸ ws, h) l e ends =
         let i = getD at j 0 in
         let f = h .front in
         let new = getD-set-same at (j + 1) e 0 (omega (arith, h .sized, g .few)) in
-        let z : e ≡ i + weight w = ends w (front-value s (g .top) i (n - j) w ws f) (f .fits .0) in (
-          ws,
-          record {
-            sized = length-set at (j + 1) e ∙ h .sized;
-            few = omega arith;
-            front = rw new (front-next s (g .top) i (n - j) w ws f e (n - (j + 1)) z (omega arith));
-            leads = λ at′ q b.
-                let old : (k : ℕ) → k ≤ j → getD at′ k 0 ≡ getD at k 0 = λ k r. q k (omega arith) ∙ getD-set-other at (j + 1) k e 0 (λ d. omega arith) in
-                let here = old j (omega arith) in
-                h .leads at′ old (rw here (front-below s (g .top) i (n - j) w ws f), rw here (q (j + 1) (omega arith) ∙ new ∙ z), b);
-          },
-        )
+        let z : e ≡ i + weight w = ends w (front-value s (g .top) i (n - j) w ws f) (f .fits .0) in
+        let next : Marking g (setAt at (j + 1) e) (j + 1) ws = record {
+          sized = length-set at (j + 1) e ∙ h .sized;
+          few = omega arith;
+          front = rw new (front-next s (g .top) i (n - j) w ws f e (n - (j + 1)) z (omega arith));
+          leads = λ at′ q b.
+              let old : (k : ℕ) → k ≤ j → getD at′ k 0 ≡ getD at k 0 = λ k r. q k (omega arith) ∙ getD-set-other at (j + 1) k e 0 (λ d. omega arith) in
+              let here = old j (omega arith) in
+              h .leads at′ old (rw here (front-below s (g .top) i (n - j) w ws f), rw here (q (j + 1) (omega arith) ∙ new ∙ z), b);
+        } in
+        (ws, next)
 
 -- A list with a value before it that is kept or not: its cells, their number, and how many values it has.
 pub kept-codes : (k : Bool) (v : Value) (r : List Value) → codes (values (keptValue k v r)) ≡ codes (values (keptValue k v [])) ++ codes (values r)
@@ -130,20 +129,20 @@ module _ {s₀ at : List ℕ} {n to : ℕ} (g : SubsetPre s₀ at n to) (mask : 
   }
 
   module _ {s : List ℕ} {j m : ℕ} {o : Out} where
-    pub subset-few : {rest : Values} → SubsetAt s j m o rest → o .count ≤ 255
-    subset-few h = omega (arith, h .counted, light, count-weights (values whole))
+    pub subset-few : (rest : Values) × SubsetAt s j m o rest → o .count ≤ 255
+    subset-few (rest, h) = omega (arith, h .counted, light, count-weights (values whole))
 
-    pub subset-end : {p : ℕ} (rest : Values) → SubsetAt s j m o rest → n ≤ j → mask < p →
+    pub subset-end : {p : ℕ} → (rest : Values) × SubsetAt s j m o rest → n ≤ j → mask < p →
         Appended s₀ to (setAt s to (21474836480 + o .count)) (o .to) (codes (values (keptValue (ltb mask p) (setOf whole) [])))
     unfolding pick code
-    subset-end {p} none h l b =
+    subset-end {p} (none, h) l b =
         rw (lt-ltb mask p b, single (setOf whole)) (appended-set (values whole) (grown-end (h .grown)) (omega (arith, h .counted)) (omega (arith, g .room)))
-    subset-end (w ▸ ws) h l b = absurd (omega (arith, h .left))
+    subset-end (w ▸ ws, h) l b = absurd (omega (arith, h .left))
 
-    pub subset-add : (rest : Values) → SubsetAt s j m o rest → j < n → AddPre (eqb (m % 2) 1) s (getD at j 0) (getD at (j + 1) 0) o
+    pub subset-add : (rest : Values) × SubsetAt s j m o rest → j < n → AddPre (eqb (m % 2) 1) s (getD at j 0) (getD at (j + 1) 0) o
     unfolding pick
-    subset-add none h l = absurd (omega (arith, h .left))
-    subset-add (w ▸ ws) h l =
+    subset-add (none, h) l = absurd (omega (arith, h .left))
+    subset-add (w ▸ ws, h) l =
         let more = pick (m / 2) (members ws) in
         let size : getD at (j + 1) 0 - getD at j 0 ≡ weight w = omega (arith, h .each .1) in
         let z = length-codes (values (keptValue (eqb (m % 2) 1) w more)) ∙ kept-weighs (eqb (m % 2) 1) w more (getD at (j + 1) 0 - getD at j 0) size in
@@ -151,24 +150,23 @@ module _ {s₀ at : List ℕ} {n to : ℕ} (g : SubsetPre s₀ at n to) (mask : 
           forward = omega (arith, h .each .1);
           behind = omega (arith, h .each .0 .below, h .each .1, g .marked .behind, h .grown .appended .ends);
           room = omega (arith, z, grown-left (h .grown), length-codes (values whole), light, g .room, h .grown .appended .frame .kept);
-          few = omega (arith, subset-few h);
+          few = omega (arith, subset-few (w ▸ ws, h));
         }
 
-    pub subset-next : (rest : Values) → SubsetAt s j m o rest → j < n → (s′ : List ℕ) (r : Out) →
+    pub subset-next : (rest : Values) × SubsetAt s j m o rest → j < n → (s′ : List ℕ) (r : Out) →
         Added (eqb (m % 2) 1) s (getD at j 0) (getD at (j + 1) 0) o s′ r → (ws : Values) × SubsetAt s′ (j + 1) (m / 2) r ws
     unfolding pick
-    subset-next none h l s′ r d = absurd (omega (arith, h .left))
-    subset-next (w ▸ ws) h l s′ r d =
+    subset-next (none, h) l s′ r d = absurd (omega (arith, h .left))
+    subset-next (w ▸ ws, h) l s′ r d =
         let more = pick (m / 2) (members ws) in
-        let there = value-frame (to + 1) s₀ s (g .marked .top) (getD at j 0) w (h .grown .appended .frame) (omega (arith, g .marked .behind)) (h .each .0) in (
-          ws,
-          record {
-            left = omega (arith, h .left);
-            each = h .each .2;
-            grown = grown-step (codes (values more)) (rw (kept-codes (eqb (m % 2) 1) w more) at (h .grown)) (d .cells w (there .stands) (h .each .1));
-            counted = omega (arith, d .counted, h .counted, kept-count (eqb (m % 2) 1) w more);
-          },
-        )
+        let there = value-frame (to + 1) s₀ s (g .marked .top) (getD at j 0) w (h .grown .appended .frame) (omega (arith, g .marked .behind)) (h .each .0) in
+        let next : SubsetAt s′ (j + 1) (m / 2) r ws = record {
+          left = omega (arith, h .left);
+          each = h .each .2;
+          grown = grown-step (codes (values more)) (rw (kept-codes (eqb (m % 2) 1) w more) at (h .grown)) (d .cells w (there .stands) (h .each .1));
+          counted = omega (arith, d .counted, h .counted, kept-count (eqb (m % 2) 1) w more);
+        } in
+        (ws, next)
 
 pub subset-none : {s at : List ℕ} {n mask p to : ℕ} → p ≤ mask → Subsets s at n mask p to s to
 unfolding code

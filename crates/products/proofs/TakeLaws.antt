@@ -86,14 +86,14 @@ module _ {b : Bool} {s₀ : List ℕ} {a top n : ℕ} (g : Given s₀ a top n) w
 
   module _ {s : List ℕ} {left i : ℕ} {o : Out} where
     -- where they end, and how many they are
-    pub taking-near : {rest : Values} → Taking b g s left i o rest → (o .to ≤ top + 256) × (o .count ≤ 255)
-    taking-near h =
+    pub taking-near : (rest : Values) × Taking b g s left i o rest → (o .to ≤ top + 256) × (o .count ≤ 255)
+    taking-near (rest, h) =
         (omega (arith, h .light, h .built .members .ends), omega (arith, h .light, h .built .counted, count-weights (values (rising (h .done)))))
 
-    pub taking-end : (rest : Values) → Taking b g s left i o rest → left ≤ 0 →
+    pub taking-end : (rest : Values) × Taking b g s left i o rest → left ≤ 0 →
         Made top s₀ (setAt s top (21474836480 + o .count)) (setOf (rising (map (part b) (members (g .pairs))))) (o .to)
     unfolding onto
-    taking-end none h l =
+    taking-end (none, h) l =
         let small = fit-small (g .pairs) (g .whole .fine .fits .1) in
         let e : rising (h .done) ≡ rising (map (part b) (members (g .pairs))) =
         ap rising (h .all) ∙ rising-onto (map (part b) (members (g .pairs))) (all-map Small Small (part b) (part-small b) (members (g .pairs)) small) in
@@ -101,19 +101,19 @@ module _ {b : Bool} {s₀ : List ℕ} {a top n : ℕ} (g : Given s₀ a top n) w
         let c : Appended s₀ (top + 1) s (o .to) (codes (values (rising (h .done)))) =
         record { frame = h .frame; stands = m .stands; ends = omega (arith, m .ends, length-codes (values (rising (h .done)))) } in
         rw (← e) (made-set _ _ _ _ _ _ c (h .built .counted) (omega (arith, g .room)) (omega (arith, h .light)))
-    taking-end (w ▸ ws) h l = absurd (omega (arith, h .front .counted))
+    taking-end (w ▸ ws, h) l = absurd (omega (arith, h .front .counted))
 
-    module _ (rest : Values) (h : Taking b g s left i o rest) (more : 0 < left) where
+    module _ (h : (rest : Values) × Taking b g s left i o rest) (more : 0 < left) where
       -- What is shown of a first pair and the rest is shown.
       by-pair : (P : Type 0) → ((x y : Value) (ws : Values) → Taking b g s left i o (pair x y ▸ ws) → ValueBelow s top i (pair x y) → P) → P
-      by-pair P k = go rest h
+      by-pair P k = go h
         where
-          go : (us : Values) → Taking b g s left i o us → P
-          go none q = absurd (omega (arith, q .front .counted))
-          go (scalar x ▸ ws) q = absurd (q .pairs .0)
-          go (pair x y ▸ ws) q =
+          go : (rest : Values) × Taking b g s left i o rest → P
+          go (none, q) = absurd (omega (arith, q .front .counted))
+          go (scalar x ▸ ws, q) = absurd (q .pairs .0)
+          go (pair x y ▸ ws, q) =
               k x y ws q (value-frame (top + 1) s₀ s top i (pair x y) (q .frame) (omega arith) (front-below s₀ top i left (pair x y) ws (q .front)))
-          go (set x ▸ ws) q = absurd (q .pairs .0)
+          go (set x ▸ ws, q) = absurd (q .pairs .0)
 
       pub taking-first : SomeAt s (i + 1)
       taking-first = by-pair (SomeAt s (i + 1)) λ x y ws q v. value-some s (top + 1) (i + 1) x (first-below v)
@@ -128,9 +128,9 @@ module _ {b : Bool} {s₀ : List ℕ} {a top n : ℕ} (g : Given s₀ a top n) w
         module _ (e : ℕ) (ends′ : EndsAt s m e) {from end : ℕ} (begins : from ≡ chosen b (i + 1) m) (stops : end ≡ chosen b m e) where
           -- what is asked to put the part of the first pair
           insert-pre : {x y : Value} {ws : Values} → Taking b g s left i o (pair x y ▸ ws) → ValueBelow s top i (pair x y) → InsertPre s from end (top + 1) o
-          insert-pre {x} {y} q v =
+          insert-pre {x} {y} {ws} q v =
               let z = part-below v b m e ends ends′ in
-              let k = taking-near q in
+              let k = taking-near (pair x y ▸ ws, q) in
               record {
                 value = part b (pair x y);
                 below = rw begins (z .0);
@@ -147,15 +147,14 @@ module _ {b : Bool} {s₀ : List ℕ} {a top n : ℕ} (g : Given s₀ a top n) w
           pub taking-next : (s′ : List ℕ) (r : Out) → Inserts s from end (top + 1) o s′ r → (ws : Values) × Taking b g s′ (left - 1) e r ws
           unfolding insert-pre rising onto
           taking-next s′ r put = by-pair ((ws : Values) × Taking b g s′ (left - 1) e r ws) λ x y ws q v.
-              let d = put (insert-pre q v) in (
-                ws,
-                record {
-                  front = front-next s₀ top i left (pair x y) ws (q .front) e (left - 1) (pair-ends v m e ends ends′) (omega arith);
-                  pairs = q .pairs .1;
-                  done = part b (pair x y) ∷ q .done;
-                  all = q .all;
-                  light = omega (arith, q .light, insert-weighs (part b (pair x y)) (rising (q .done)), part-lighter b x y);
-                  frame = same-trans (top + 1) (top + 1) s₀ s s′ (q .frame) (d .0) (omega arith);
-                  built = d .1;
-                },
-              )
+              let d = put (insert-pre q v) in
+              let next : Taking b g s′ (left - 1) e r ws = record {
+                front = front-next s₀ top i left (pair x y) ws (q .front) e (left - 1) (pair-ends v m e ends ends′) (omega arith);
+                pairs = q .pairs .1;
+                done = part b (pair x y) ∷ q .done;
+                all = q .all;
+                light = omega (arith, q .light, insert-weighs (part b (pair x y)) (rising (q .done)), part-lighter b x y);
+                frame = same-trans (top + 1) (top + 1) s₀ s s′ (q .frame) (d .0) (omega arith);
+                built = d .1;
+              } in
+              (ws, next)

@@ -46,14 +46,13 @@ module _ {F : Values → List ℕ} {s₀ : List ℕ} {top : ℕ} {vs : Values} {
 
     walk-next : {w : Value} {us : Values} → Walking F s₀ top vs to s i left at (w ▸ us) → {s′ : List ℕ} {r : ℕ} {cs : List ℕ} →
         F (w ▸ us) ≡ cs ++ F us → Appended s at s′ r cs → WalkAt F s₀ top vs to s′ e (left - 1) r
-    walk-next {w} {us} h d a = (
-      us,
-      record {
-        front = front-next s₀ top i left w us (h .front) e (left - 1) (walk-ends h) (omega (arith, h .front .counted));
-        grown = grown-step (F us) (rw d at (h .grown)) a;
-        behind = h .behind;
-      },
-    )
+    walk-next {w} {us} h d a =
+        let next : Walking F s₀ top vs to _ e (left - 1) _ us = record {
+          front = front-next s₀ top i left w us (h .front) e (left - 1) (walk-ends h) (omega (arith, h .front .counted));
+          grown = grown-step (F us) (rw d at (h .grown)) a;
+          behind = h .behind;
+        } in
+        (us, next)
 
 -- The pairs of x with the members of a set.
 row-weighs : (x : Value) (ws : Values) → weights (rowOf x ws) ≡ count ws + count ws * weight x + weights ws

@@ -18,22 +18,17 @@ Inv-loop s₀ at n p to bits j₀ end₀ s j end =
 abbrev μ-loop : tie.MeasureT-loop
 μ-loop s₀ at n p to bits j₀ end₀ s j end = 32 - j
 
--- A turn of the loop, and what it was lent; the subset has been put.
 abbrev lent : tie.At-loop Inv-loop μ-loop → tie.Start Inv-loop μ-loop
 lent l = l .before .before
 
-abbrev put : tie.After-slice-known2 Inv-loop μ-loop → tie.After-subset Inv-loop μ-loop
-put m = m .before .before
-
-abbrev turn : tie.After-slice-known2 Inv-loop μ-loop → tie.In-loop Inv-loop μ-loop
-turn m = put m .before .before
-
+-- The subset has been put in p, in the turn t.
 loop-again : tie.Need-loop-again Inv-loop μ-loop
 loop-again c =
-    let t = turn c in
+    let p = c .before .before in
+    let t = p .before .before in
     let i = t .before .loop .inv in
     let mask = ap (λ (bits : List ℕ). getD bits (t .before .loop .j) 0) (i .0) in
-    (i .0, λ g. all-next g _ (i .1 g) _ _ _ (t .loop-test .taken) mask (put c .subset .ensures))
+    (i .0, λ g. all-next g _ (i .1 g) _ _ _ (t .loop-test .taken) mask (p .subset .ensures))
 
 pub all-subsets-spec : {M : Type 1} → statement M
 all-subsets-spec =
@@ -43,8 +38,8 @@ all-subsets-spec =
     (λ c. omega (arith, c .loop-test .taken))
     (λ c. c .loop-test .taken)
     (λ c κs. let l = c .before .before in all-pre (lent l .pre) (l .loop .j) (l .loop .inv .1 (lent l .pre)))
-    (λ c. omega (arith, turn c .loop-test .taken))
-    (λ c. omega (arith, turn c .loop-test .taken))
+    (λ c. omega arith)
+    (λ c. omega arith)
     loop-again
     (λ c. c .before .loop .inv .1 (lent (c .before) .pre) .appended .frame .kept)
     (λ c. λ g. all-end g _ (c .before .loop .inv .1 g) (c .loop-test .left)))

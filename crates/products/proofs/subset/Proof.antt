@@ -1,4 +1,4 @@
--- `subset`: the members whose bits the mask has.
+-- `subset`: the members whose bits the mask has. In a need, l is a turn of the loop, m is where the member begins, p is where it has been put.
 use Prim.Native.Nat.{_-_}
 use native.Mathlib.Omega.{arith}
 use borrow.Author.Needs.{needs}
@@ -14,25 +14,11 @@ Inv-loop s₀ at n mask p to j₀ m₀ o₀ s j m o = (g : SubsetPre s₀ at n t
 abbrev μ-loop : tie.MeasureT-loop
 μ-loop s₀ at n mask p to j₀ m₀ o₀ s j m o = n - j
 
--- A turn of the loop, what it was lent, and what it knows.
-abbrev Turn : Type 0
-Turn = tie.At-loop Inv-loop μ-loop
-
-abbrev lent : Turn → tie.Start Inv-loop μ-loop
+abbrev lent : tie.At-loop Inv-loop μ-loop → tie.Start Inv-loop μ-loop
 lent l = l .before .before .before
 
-abbrev known : (l : Turn) → (rest : Values) × SubsetAt (lent l .pre) (lent l .args .mask) (l .loop .s) (l .loop .j) (l .loop .m) (l .loop .o) rest
-known l = l .loop .inv (lent l .pre)
-
--- Where the member begins and ends is read; it has been put.
-abbrev turn : tie.After-from Inv-loop μ-loop → Turn
+abbrev turn : tie.After-from Inv-loop μ-loop → tie.At-loop Inv-loop μ-loop
 turn m = m .before .before
-
-abbrev read : tie.After-add-if Inv-loop μ-loop → tie.After-end Inv-loop μ-loop
-read m = m .before .before
-
-abbrev put : tie.After-slice-known2 Inv-loop μ-loop → tie.After-add-if Inv-loop μ-loop
-put m = m .before .before
 
 pub subset-spec : {M : Type 1} → statement M
 subset-spec =
@@ -46,13 +32,12 @@ subset-spec =
     (λ c. omega (arith, c .before .loop-test .taken, lent (turn c) .pre .few))
     (λ c. omega (arith, c .before .loop-test .taken, lent (turn c) .pre .few))
     (λ c. omega (arith, c .before .loop-test .taken, lent (turn c) .pre .few))
-    (λ c κs. let q = c .before .before in let k = known (turn q) in subset-add (lent (turn q) .pre) _ (k .0) (k .1) (q .before .loop-test .taken))
-    (λ c. omega (arith, read (put c) .before .before .loop-test .taken))
-    (λ c. λ g. let q = read (put c) .before in let k = turn q .loop .inv g in
-    subset-next g _ (k .0) (k .1) (q .before .loop-test .taken) _ _ (put c .add-if .ensures))
-    (λ c. let l = c .before .before in omega (arith, subset-few (lent l .pre) _ (known l .1)))
+    (λ c κs. let m = c .before .before in let l = turn m in let g = lent l .pre in subset-add g _ (l .loop .inv g) (m .before .loop-test .taken))
+    (λ c. omega arith)
+    (λ c. λ g. let p = c .before .before in let m = p .before .before .before in
+    subset-next g _ (turn m .loop .inv g) (m .before .loop-test .taken) _ _ (p .add-if .ensures))
+    (λ c. let l = c .before .before in let g = lent l .pre in omega (arith, subset-few g _ (l .loop .inv g)))
     (λ c. omega (arith, lent (c .before .before) .pre .room))
-    (λ c. let l = c .before .before in omega (arith, known l .1 .grown .appended .frame .kept, lent l .pre .room))
-    (λ c. let k = known (c .before .before) .1 .grown .appended .frame .kept in search (needs, k))
-    (λ c. λ g. let l = c .before .before in let k = l .loop .inv g in
-    subset-end g _ (k .0) (k .1) (c .before .loop-test .left) (l .before .if1 .left)))
+    (λ c. let l = c .before .before in let g = lent l .pre in omega (arith, l .loop .inv g .1 .grown .appended .frame .kept, g .room))
+    (λ c. let l = c .before .before in let k = l .loop .inv (lent l .pre) .1 .grown .appended .frame .kept in search (needs, k))
+    (λ c. λ g. let l = c .before .before in subset-end g _ (l .loop .inv g) (c .before .loop-test .left) (l .before .if1 .left)))
