@@ -108,9 +108,6 @@ single-made s a top e s′ l x few c v h =
     let k : Stands s a (codes (v ▸ none)) = rw (single v) (h .stands) in
     made-set _ _ _ _ _ (v ▸ none) (appended-copy c k (omega (arith, length-codes (v ▸ none))) (omega arith)) refl (omega arith) (omega arith)
 
-pub single-heavy : (s : List ℕ) (a top e : ℕ) → EndsAt s a e → 255 < e - a → (v : Value) → ValueBelow s top a v → Made top s s (setOf (v ∷ [])) 0
-single-heavy s a top e x l v h = made-heavy (omega (arith, value-end s top a e v h x))
-
 -- `pair_at`
 pub pair-put : {s : List ℕ} {a n b m to : ℕ} {s₁ s₂ : List ℕ} → PairPre s a n b m to → Copied s a n (to + 1) s₁ → Copied s₁ b m (to + 1 + n) s₂ →
     PairPut s a n b m to (setAt s₂ to 17179869184) (to + 1 + n + m)

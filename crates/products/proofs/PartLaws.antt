@@ -46,33 +46,23 @@ pub insert-none : (v : Value) → insert v [] ≡ v ∷ []
 unfolding insert
 insert-none v = refl
 
--- v is greater than each of a list.
-abbrev Above : Value → List Value → Type 0
-Above v zs = All (λ z. order v z ≡ Ordering·gt) zs
-
-insert-behind : (v : Value) (lo hi : List Value) → Above v lo → insert v (lo ++ hi) ≡ lo ++ insert v hi
-insert-behind v [] hi h = refl
-insert-behind v (z ∷ lo) hi h = insert-next v z (lo ++ hi) (h .0) ∙ ap (λ (l : List Value). z ∷ l) (insert-behind v lo hi (h .1))
-
--- Behind x, the last of a rising list, stands what is greater than all that x is greater than.
-above-last : (v x : Value) (lo : List Value) → ((y : Value) → Before y x → Before y v) → Rising (lo ++ (x ∷ [])) → Above v lo
-above-last v x [] f r = tt
-above-last v x (y ∷ lo) f r =
+-- x is the last of a rising list: what is greater than all that x is greater than goes behind those before x.
+insert-behind : (v x : Value) (lo : List Value) → ((y : Value) → Before y x → Before y v) → Rising (lo ++ (x ∷ [])) →
+    insert v (lo ++ (x ∷ [])) ≡ lo ++ insert v (x ∷ [])
+insert-behind v x [] f r = refl
+insert-behind v x (y ∷ lo) f r =
     let b = f y (all-in (Before y) x (lo ++ (x ∷ [])) (r .0) (in-right x lo (x ∷ []) (inl refl))) in
-    (order-flip y v ∙ ap flip (before-order y v b), above-last v x lo f (r .1))
+    insert-next v y (lo ++ (x ∷ [])) (order-flip y v ∙ ap flip (before-order y v b)) ∙ ap (λ (l : List Value). y ∷ l) (insert-behind v x lo f (r .1))
 
 insert-end : (v x : Value) (lo : List Value) → Rising (lo ++ (x ∷ [])) → Small v → Small x → (c : ℕ) → c ≡ orderCode (order v x) → 0 < c →
     insert v (lo ++ (x ∷ [])) ≡ (lo ++ (x ∷ [])) ++ cond (eqb c 1) [] (v ∷ [])
 unfolding insert
 insert-end v x lo r p q c e l = rw (append-assoc, e) (go (order v x) refl e)
   where
-    behind : ((y : Value) → Before y x → Before y v) → insert v (lo ++ (x ∷ [])) ≡ lo ++ placed (order v x) v x [] (v ∷ [])
-    behind f = insert-behind v lo (x ∷ []) (above-last v x lo f r)
-
     go : (o : Ordering) → order v x ≡ o → c ≡ orderCode o → insert v (lo ++ (x ∷ [])) ≡ lo ++ (x ∷ cond (eqb (orderCode o) 1) [] (v ∷ []))
     go Ordering·lt d k = absurd (omega arith)
-    go Ordering·eq d k = behind (λ y b. subst (Before y) (sym (order-eq v x p q d)) b) ∙ rw d
-    go Ordering·gt d k = behind (λ y b. before-trans y x v b (order-before x v (order-flip v x ∙ ap flip d))) ∙ rw d
+    go Ordering·eq d k = insert-behind v x lo (λ y b. subst (Before y) (sym (order-eq v x p q d)) b) r ∙ rw d
+    go Ordering·gt d k = insert-behind v x lo (λ y b. before-trans y x v b (order-before x v (order-flip v x ∙ ap flip d))) r ∙ rw d
 
 -- The last member.
 pub last-append : (z : Value) (lo : List Value) (h : Value) (hs : List Value) → lastOf z (lo ++ (h ∷ hs)) ≡ lastOf h hs
@@ -114,13 +104,11 @@ unfolding onto
 onto-in [] ys = tt
 onto-in (x ∷ xs) ys = (in-onto x xs (x ∷ ys) (inl refl), onto-in xs (x ∷ ys))
 
--- Lists with the same members have the same rising list.
-rising-same : (xs ys : List Value) → All Small xs → All Small ys → All (λ x. In x ys) xs → All (λ y. In y xs) ys → rising xs ≡ rising ys
-rising-same xs ys h k a b =
-    same-members (rising xs) (rising ys) (rising-rising xs) (rising-rising ys) (into xs ys k a) (into ys xs h b)
+-- Both have the same members.
+pub rising-onto : (xs : List Value) → All Small xs → rising (onto xs []) ≡ rising xs
+rising-onto xs h =
+    same-members (rising (onto xs [])) (rising xs) (rising-rising (onto xs [])) (rising-rising xs)
+    (into (onto xs []) xs h (onto-all (λ x. In x xs) xs [] (all-self xs) tt)) (into xs (onto xs []) (onto-all Small xs [] h tt) (onto-in xs []))
   where
     into : (us ws : List Value) → All Small ws → All (λ x. In x ws) us → All (λ x. In x (rising ws)) (rising us)
     into us ws m c = in-all (λ x. In x (rising ws)) (rising us) (λ x i. in-rising x ws m (all-in (λ z. In z ws) x us c (rising-in x us i)))
-
-pub rising-onto : (xs : List Value) → All Small xs → rising (onto xs []) ≡ rising xs
-rising-onto xs h = rising-same (onto xs []) xs (onto-all Small xs [] h tt) h (onto-all (λ x. In x xs) xs [] (all-self xs) tt) (onto-in xs [])
