@@ -89,7 +89,7 @@ module _ {s : List ℕ} {p end from to : ℕ} (g : FindPre s p end from to) {i :
     pub finding-here : (hi : List Value) × Finding g i hi → i < to → c < 2 → Placed (g .value) from (g .others) (record { at = i; equal = eqb c 1 })
     finding-here ([], h) l k = absurd (omega (arith, h .rest .ends))
     finding-here (z ∷ hi, h) l k =
-        let o = compared (g .value) z (g .stands) (members-first (h .rest)) (g .fits) (h .rest .fits .0) in
+        let o = compared (g .value) z (g .below .stands) (members-first (h .rest)) (g .below .fits) (h .rest .fits .0) in
         h .leads _ (record { lo = []; hi = z ∷ hi; all = refl; at = omega arith; inserted = insert-here (g .value) z hi c o k })
 
     pub finding-next : (hi : List Value) × Finding g i hi → i < to → 2 ≤ c → (e : ℕ) → EndsAt s i e → (ys : List Value) × Finding g e ys
@@ -97,7 +97,7 @@ module _ {s : List ℕ} {p end from to : ℕ} (g : FindPre s p end from to) {i :
     finding-next (z ∷ hi, h) l k e ends =
         let m = h .rest in
         let x = members-first m in
-        let o = compared (g .value) z (g .stands) x (g .fits) (m .fits .0) in
+        let o = compared (g .value) z (g .below .stands) x (g .below .fits) (m .fits .0) in
         let greater = code-greater (order (g .value) z) c o (λ f. omega arith) (λ f. omega arith) in
         let placed : (r : Place) → Placed (g .value) e hi r → Placed (g .value) i (z ∷ hi) r = λ r d. record {
           lo = z ∷ d .lo;
@@ -139,14 +139,7 @@ module _ {s : List ℕ} {p from : ℕ} {o : Out} {v : Value} (below : ValueBelow
       record { lo = z ∷ zs; hi = []; all = sym (append-nil (z ∷ zs)); at = h .members .ends; inserted = d }
 
 abbrev pub place-find : {s : List ℕ} {p end from : ℕ} {o : Out} → InsertPre s p end from o → FindPre s p end from (o .to)
-place-find h = record {
-  value = h .value;
-  stands = h .below .stands;
-  fits = h .below .fits;
-  ends = h .ends;
-  others = rising (h .others);
-  members = h .built .members;
-}
+place-find h = record { value = h .value; below = h .below; ends = h .ends; others = rising (h .others); members = h .built .members }
 
 -- `insert`: the last member after one more has been put.
 last-behind : (last to : ℕ) (lo : List Value) (h : Value) (hs : List Value) → LastAt last to (lo ++ (h ∷ hs)) ↔ (last + weight (lastOf h hs) ≡ to)

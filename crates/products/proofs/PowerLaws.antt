@@ -5,7 +5,6 @@ use mathlib.Core.Path.{_≡_, refl, sym, ap, _∙_, subst}
 use native.Mathlib.Omega.{arith}
 use native.Mathlib.Decide.{decLt}
 use native.Mathlib.Numerals.{add-one}
-use native.Mathlib.Nat.{mul-le-mul-left}
 use borrow.Author.Tests.{lt-ltb, le-ltb}
 use lib.Dec.{ltb}
 use lib.ListN.{length, getD, drop, drop-of-length-le, set as setAt}
@@ -138,7 +137,3 @@ module _ {s : List ℕ} {a top : ℕ} {x : Size} {p : ℕ} (size : Sized s a x) 
           let q = few-power (power-mark .few) in
           let d : Appended s (top + 1) s′ r (codes (values (picked p masks (members vs)))) = put power-pre in
           made-set _ _ _ _ _ _ (rw (q .2) at d) (sym (q .1)) (omega arith) (omega (arith, q .0))
-
--- half of at most 64, times at most 255
-pub half-product : (p k : ℕ) → p ≤ 64 → k ≤ 255 → p / 2 * k ≤ 8160
-half-product p k l m = omega (arith, mul-le-mul-left (p / 2) m)

@@ -1,9 +1,10 @@
 -- The subsets of a rising list in rising order: by their number of members, then in the order of their members.
 use Prim.Native.Nat.{ℕ, zero, suc, _+_, _*_, _/_, _≤_, _<_, Ordering}
 use mathlib.Core.List.{List, [], _∷_, _++_, map}
-use mathlib.Core.Logic.{inl, ⊎-elim}
-use mathlib.Core.Path.{_≡_, refl, sym, ap, _∙_}
+use mathlib.Core.Logic.{inl}
+use mathlib.Core.Path.{_≡_, refl, sym, ap, _∙_, subst}
 use native.Mathlib.Omega.{arith}
+use native.Mathlib.Decide.{ℕ-discrete}
 use lib.ListN.{length}
 use Rattle.rules.specs.Values.{Value, set, Values, _▸_, values, count, weights, order, _then_, keys}
 use Rattle.rules.specs.Operations.{setOf, rising, subsets}
@@ -12,13 +13,9 @@ use Rattle.laws.proofs.OrderLaws.{Small, order-refl, order-before, before-order
 use Rattle.laws.proofs.SetOrder.{All, Before, Rising, all-imp, all-map, all-append, rising-rising, subsets-all}
 use Rattle.products.specs.Power.{masks, subsetCount, picked}
 use Rattle.laws.proofs.CellsLaws.{weight-some}
-use Rattle.laws.proofs.Membership.{In, in-all, all-in, in-append, in-left, in-right, in-map, in-rising, rising-in, same-members, small-sets, nil-subset}
+use Rattle.laws.proofs.Membership.{In, in-all, all-in, in-left, in-right, in-map, in-rising, rising-in, same-members, small-sets, nil-subset}
 
 -- The order of two sets: fewer members first, then by the first members that differ.
-fewer-before : (s r : Values) → count s < count r → Before (set s) (set r)
-unfolding order
-fewer-before s r h = order-before (set s) (set r) (rw (lt-compare (count s) (count r) h))
-
 order-cons : (v w : Value) (s r : Values) → count s ≡ count r → order (set (v ▸ s)) (set (w ▸ r)) ≡ (order v w then order (set s) (set r))
 unfolding order
 order-cons v w s r e = rw (e, compare-refl (1 + count r), compare-refl (count r)) (key-delimited v w (keys s) (keys r))
@@ -40,10 +37,10 @@ powers (suc k) vs = powers k vs ++ combos (suc k) vs
 
 -- They are sublists, of k values and of at most k.
 abbrev Of : ℕ → List Value → List Value → Type 0
-Of k vs s = (length s ≡ k) × In s (subsets vs)
+Of k vs s = (count (values s) ≡ k) × In s (subsets vs)
 
 abbrev UpTo : ℕ → List Value → List Value → Type 0
-UpTo k vs s = (length s ≤ k) × In s (subsets vs)
+UpTo k vs s = (count (values s) ≤ k) × In s (subsets vs)
 
 combos-are : (k : ℕ) (vs : List Value) → All (Of k vs) (combos k vs)
 unfolding combos subsets
@@ -53,7 +50,7 @@ combos-are (suc k) (v ∷ vs) =
     let with-v = map (λ s. v ∷ s) (subsets vs) in
     all-append (Of (suc k) (v ∷ vs)) (map (λ s. v ∷ s) (combos k vs)) (combos (suc k) vs)
     (all-map (Of k vs) (Of (suc k) (v ∷ vs)) (λ s. v ∷ s)
-    (λ s h. (ap suc (h .0), in-right (v ∷ s) (subsets vs) with-v (in-map (λ t. v ∷ t) s (subsets vs) (h .1)))) (combos k vs) (combos-are k vs))
+    (λ s h. (omega (arith, h .0), in-right (v ∷ s) (subsets vs) with-v (in-map (λ t. v ∷ t) s (subsets vs) (h .1)))) (combos k vs) (combos-are k vs))
     (all-imp (Of (suc k) vs) (Of (suc k) (v ∷ vs)) (λ s h. (h .0, in-left s (subsets vs) with-v (h .1))) (combos (suc k) vs) (combos-are (suc k) vs))
 
 powers-are : (k : ℕ) (vs : List Value) → All (UpTo k vs) (powers k vs)
@@ -80,24 +77,21 @@ rise-sets : (ss : List (List Value)) → Rise ss → Rising (map setOf ss)
 rise-sets [] h = tt
 rise-sets (s ∷ ss) h = (all-map (Ahead s) (Before (setOf s)) setOf (λ t k. k) ss (h .0), rise-sets ss (h .1))
 
-length-count : (s : List Value) → count (values s) ≡ length s
-length-count [] = refl
-length-count (v ∷ s) = omega (arith, length-count s)
-
--- A value before others of one length; a list that begins with a lesser value; a shorter list.
-cons-ahead : (v : Value) (s t : List Value) → length s ≡ length t → Ahead s t → Ahead (v ∷ s) (v ∷ t)
+-- A value before lists of one length; a list that begins with a lesser value; a shorter list.
+cons-ahead : (v : Value) (s t : List Value) → count (values s) ≡ count (values t) → Ahead s t → Ahead (v ∷ s) (v ∷ t)
 cons-ahead v s t e h =
-    order-before (setOf (v ∷ s)) (setOf (v ∷ t)) (order-cons v v (values s) (values t) (omega (arith, length-count s, length-count t))
+    order-before (setOf (v ∷ s)) (setOf (v ∷ t)) (order-cons v v (values s) (values t) e
     ∙ ap (λ (o : Ordering). o then order (setOf s) (setOf t)) (order-refl v) ∙ before-order (setOf s) (setOf t) h)
 
-first-ahead : (v : Value) (s t : List Value) → length t ≡ suc (length s) → All (Before v) t → Ahead (v ∷ s) t
+first-ahead : (v : Value) (s t : List Value) → count (values t) ≡ suc (count (values s)) → All (Before v) t → Ahead (v ∷ s) t
 first-ahead v s [] e h = absurd (omega arith)
 first-ahead v s (w ∷ t) e h =
-    order-before (setOf (v ∷ s)) (setOf (w ∷ t)) (order-cons v w (values s) (values t) (omega (arith, length-count s, length-count t))
+    order-before (setOf (v ∷ s)) (setOf (w ∷ t)) (order-cons v w (values s) (values t) (omega arith)
     ∙ ap (λ (o : Ordering). o then order (setOf s) (setOf t)) (before-order v w (h .0)))
 
-fewer-ahead : (s t : List Value) → length s < length t → Ahead s t
-fewer-ahead s t l = fewer-before (values s) (values t) (omega (arith, length-count s, length-count t))
+fewer-ahead : (s t : List Value) → count (values s) < count (values t) → Ahead s t
+unfolding order
+fewer-ahead s t l = order-before (setOf s) (setOf t) (rw (lt-compare (count (values s)) (count (values t)) l))
 
 with-rise : (v : Value) (k : ℕ) (vs : List Value) (ss : List (List Value)) → All (Of k vs) ss → Rise ss → Rise (map (λ s. v ∷ s) ss)
 with-rise v k vs [] l h = tt
@@ -130,41 +124,34 @@ powers-rise (suc k) vs h =
     (λ s a. all-imp (Of (suc k) vs) (Ahead s) (λ t b. fewer-ahead s t (omega (arith, a .0, b .0))) more (combos-are (suc k) vs))
     (powers k vs) (powers-are k vs))
 
--- Every sublist is among them: with a value more, as it is and behind that value.
-combos-more : (k : ℕ) (v : Value) (vs s : List Value) → In s (combos k vs) →
-    In s (powers (suc k) (v ∷ vs)) × In (v ∷ s) (powers (suc k) (v ∷ vs))
-unfolding combos powers
-combos-more k v vs s i =
-    let with-v = map (λ t. v ∷ t) (combos k vs) in (
-      in-left s (powers k (v ∷ vs)) (combos (suc k) (v ∷ vs)) (here k i),
-      in-right (v ∷ s) (powers k (v ∷ vs)) (combos (suc k) (v ∷ vs)) (in-left (v ∷ s) with-v (combos (suc k) vs) (in-map (λ t. v ∷ t) s (combos k vs) i)),
-    )
-  where
-    here : (k : ℕ) → In s (combos k vs) → In s (powers k (v ∷ vs))
-    here zero j = j
-    here (suc k) j = in-right s (powers k (v ∷ vs)) (combos (suc k) (v ∷ vs)) (in-right s (map (λ t. v ∷ t) (combos k vs)) (combos (suc k) vs) j)
-
-powers-more : (k : ℕ) (v : Value) (vs s : List Value) → In s (powers k vs) →
-    In s (powers (suc k) (v ∷ vs)) × In (v ∷ s) (powers (suc k) (v ∷ vs))
-unfolding powers
-powers-more zero v vs s i = combos-more 0 v vs s i
-powers-more (suc k) v vs s i =
-    let old = powers (suc k) (v ∷ vs) in
-    let new = combos (suc (suc k)) (v ∷ vs) in
-    ⊎-elim (λ j. let h = powers-more k v vs s j in (in-left s old new (h .0), in-left (v ∷ s) old new (h .1)))
-    (λ j. combos-more (suc k) v vs s j) (in-append s (powers k vs) (combos (suc k) vs) i)
-
+-- Every sublist is among those of its length, so it is among them all.
 abbrev Among : List Value → List Value → Type 0
-Among vs s = In s (powers (length vs) vs)
+Among vs s = (length s ≤ length vs) × In s (combos (length s) vs)
 
-powers-all : (vs : List Value) → All (Among vs) (subsets vs)
-unfolding subsets powers
-powers-all [] = (inl refl, tt)
-powers-all (v ∷ vs) =
-    let h = powers-all vs in
+combos-all : (vs : List Value) → All (Among vs) (subsets vs)
+unfolding subsets combos
+combos-all [] = ((omega arith, inl refl), tt)
+combos-all (v ∷ vs) =
+    let h = combos-all vs in
     all-append (Among (v ∷ vs)) (subsets vs) (map (λ s. v ∷ s) (subsets vs))
-    (all-imp (Among vs) (Among (v ∷ vs)) (λ s i. powers-more (length vs) v vs s i .0) (subsets vs) h)
-    (all-map (Among vs) (Among (v ∷ vs)) (λ s. v ∷ s) (λ s i. powers-more (length vs) v vs s i .1) (subsets vs) h)
+    (all-imp (Among vs) (Among (v ∷ vs)) (λ s a. (omega (arith, a .0), more (length s) s (a .1))) (subsets vs) h)
+    (all-map (Among vs) (Among (v ∷ vs)) (λ s. v ∷ s) (λ s a. (omega (arith, a .0), with-v (length s) s (a .1))) (subsets vs) h)
+  where
+    more : (k : ℕ) (s : List Value) → In s (combos k vs) → In s (combos k (v ∷ vs))
+    more zero s i = i
+    more (suc k) s i = in-right s (map (λ t. v ∷ t) (combos k vs)) (combos (suc k) vs) i
+
+    with-v : (k : ℕ) (s : List Value) → In s (combos k vs) → In (v ∷ s) (combos (suc k) (v ∷ vs))
+    with-v k s i = in-left (v ∷ s) (map (λ t. v ∷ t) (combos k vs)) (combos (suc k) vs) (in-map (λ t. v ∷ t) s (combos k vs) i)
+
+combos-powers : (m k : ℕ) (vs s : List Value) → k ≤ m → In s (combos k vs) → In s (powers m vs)
+unfolding powers
+combos-powers zero k vs s l i = subst (λ (j : ℕ). In s (combos j vs)) (let z : k ≡ 0 = omega arith in z) i
+combos-powers (suc m) k vs s l i = go (λ n. combos-powers m k vs s n i) (ℕ-discrete k (suc m))
+  where
+    go : (k ≤ m → In s (powers m vs)) → Dec (k ≡ suc m) → In s (powers m vs ++ combos (suc m) vs)
+    go f (yes e) = in-right s (powers m vs) (combos (suc m) vs) (subst (λ (j : ℕ). In s (combos j vs)) e i)
+    go f (no n) = in-left s (powers m vs) (combos (suc m) vs) (f (omega arith))
 
 -- The rising list of the subsets.
 mapped : (ss ts : List (List Value)) → All (λ s. In s ts) ss → All (λ x. In x (map setOf ts)) (map setOf ss)
@@ -175,10 +162,11 @@ power-rising vs h small =
     let ss = subsets vs in
     let ps = powers (length vs) vs in
     let little = small-sets ss (subsets-all Small vs small) in
+    let all = all-imp (Among vs) (λ s. In s ps) (λ s a. combos-powers (length vs) (length s) vs s (a .0) (a .1)) ss (combos-all vs) in
     let back = mapped ps ss (all-imp (UpTo (length vs) vs) (λ s. In s ss) (λ s k. k .1) ps (powers-are (length vs) vs)) in
     same-members (rising (map setOf ss)) (map setOf ps) (rising-rising (map setOf ss)) (rise-sets ps (powers-rise (length vs) vs h))
     (in-all (λ x. In x (map setOf ps)) (rising (map setOf ss))
-    (λ x i. all-in (λ y. In y (map setOf ps)) x (map setOf ss) (mapped ss ps (powers-all vs)) (rising-in x (map setOf ss) i)))
+    (λ x i. all-in (λ y. In y (map setOf ps)) x (map setOf ss) (mapped ss ps all) (rising-in x (map setOf ss) i)))
     (all-imp (λ x. In x (map setOf ss)) (λ x. In x (rising (map setOf ss))) (λ x i. in-rising x (map setOf ss) little i) (map setOf ps) back)
 
 -- What they weigh: 2^n cells and each member 2^(n−1) times, for n members.

@@ -75,13 +75,10 @@ unfolding code
 kept-codes true v r = rw (append-nil (code v))
 kept-codes false v r = refl
 
-kept-weighs : (k : Bool) (v : Value) (r : List Value) (n : ℕ) → n ≡ weight v → weights (values (keptValue k v r)) ≡ cond k n 0 + weights (values r)
-kept-weighs true v r n e = omega arith
-kept-weighs false v r n e = omega arith
-
-kept-count : (k : Bool) (v : Value) (r : List Value) → count (values (keptValue k v r)) ≡ cond k 1 0 + count (values r)
-kept-count true v r = omega arith
-kept-count false v r = omega arith
+kept-sizes : (k : Bool) (v : Value) (r : List Value) (n : ℕ) → n ≡ weight v →
+    (count (values (keptValue k v r)) ≡ cond k 1 0 + count (values r)) × (weights (values (keptValue k v r)) ≡ cond k n 0 + weights (values r))
+kept-sizes true v r n e = omega arith
+kept-sizes false v r n e = omega arith
 
 -- `add_if`
 module _ {keep : Bool} {s : List ℕ} {from end : ℕ} {o : Out} (p : AddPre keep s from end o) where
@@ -145,7 +142,7 @@ module _ {s₀ at : List ℕ} {n to : ℕ} (g : SubsetPre s₀ at n to) (mask : 
     subset-add (w ▸ ws, h) l =
         let more = pick (m / 2) (members ws) in
         let size : getD at (j + 1) 0 - getD at j 0 ≡ weight w = omega (arith, h .each .1) in
-        let z = length-codes (values (keptValue (eqb (m % 2) 1) w more)) ∙ kept-weighs (eqb (m % 2) 1) w more (getD at (j + 1) 0 - getD at j 0) size in
+        let z = length-codes (values (keptValue (eqb (m % 2) 1) w more)) ∙ kept-sizes (eqb (m % 2) 1) w more (getD at (j + 1) 0 - getD at j 0) size .1 in
         record {
           forward = omega (arith, h .each .1);
           behind = omega (arith, h .each .0 .below, h .each .1, g .marked .behind, h .grown .appended .ends);
@@ -164,7 +161,7 @@ module _ {s₀ at : List ℕ} {n to : ℕ} (g : SubsetPre s₀ at n to) (mask : 
           left = omega (arith, h .left);
           each = h .each .2;
           grown = grown-step (codes (values more)) (rw (kept-codes (eqb (m % 2) 1) w more) at (h .grown)) (d .cells w (there .stands) (h .each .1));
-          counted = omega (arith, d .counted, h .counted, kept-count (eqb (m % 2) 1) w more);
+          counted = omega (arith, d .counted, h .counted, kept-sizes (eqb (m % 2) 1) w more (weight w) refl .0);
         } in
         (ws, next)
 

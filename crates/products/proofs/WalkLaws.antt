@@ -55,13 +55,9 @@ module _ {F : Values → List ℕ} {s₀ : List ℕ} {top : ℕ} {vs : Values} {
         (us, next)
 
 -- The pairs of x with the members of a set.
-row-weighs : (x : Value) (ws : Values) → weights (rowOf x ws) ≡ count ws + count ws * weight x + weights ws
-row-weighs x none = omega arith
-row-weighs x (w ▸ ws) = omega (arith, row-weighs x ws)
-
-row-count : (x : Value) (ws : Values) → count (rowOf x ws) ≡ count ws
-row-count x none = refl
-row-count x (w ▸ ws) = omega (arith, row-count x ws)
+row-sizes : (x : Value) (ws : Values) → (count (rowOf x ws) ≡ count ws) × (weights (rowOf x ws) ≡ count ws + count ws * weight x + weights ws)
+row-sizes x none = omega arith
+row-sizes x (w ▸ ws) = let h = row-sizes x ws in omega arith
 
 -- `row`
 abbrev pub RowAt : {s₀ : List ℕ} {v k b m to : ℕ} → RowPre s₀ v k b m to → List ℕ → ℕ → ℕ → ℕ → Type 0
@@ -103,17 +99,16 @@ square-codes : (v : Value) (vs ws : Values) → codes (square (v ▸ vs) ws) ≡
 unfolding pairsOf
 square-codes v vs ws = codes-append (map (pair v) (members ws)) (pairsOf (members vs) (members ws))
 
-pub square-weighs : (vs ws : Values) → weights (square vs ws) ≡ count vs * count ws + count ws * weights vs + count vs * weights ws
+square-sizes : (vs ws : Values) →
+    (count (square vs ws) ≡ count vs * count ws) × (weights (square vs ws) ≡ count vs * count ws + count ws * weights vs + count vs * weights ws)
 unfolding pairsOf
-square-weighs none ws = omega arith
-square-weighs (v ▸ vs) ws =
-    weights-append (map (pair v) (members ws)) (pairsOf (members vs) (members ws)) ∙ omega (arith, row-weighs v ws, square-weighs vs ws)
-
-pub square-count : (vs ws : Values) → count (square vs ws) ≡ count vs * count ws
-unfolding pairsOf
-square-count none ws = omega arith
-square-count (v ▸ vs) ws =
-    count-append (map (pair v) (members ws)) (pairsOf (members vs) (members ws)) ∙ omega (arith, row-count v ws, square-count vs ws)
+square-sizes none ws = omega arith
+square-sizes (v ▸ vs) ws =
+    let xs = map (pair v) (members ws) in
+    let ys = pairsOf (members vs) (members ws) in
+    let r = row-sizes v ws in
+    let h = square-sizes vs ws in
+    (count-append xs ys ∙ omega arith, weights-append xs ys ∙ omega arith)
 
 -- `rows`
 abbrev pub SquareAt : {s₀ : List ℕ} {a n b m to : ℕ} → SquarePre s₀ a n b m to → List ℕ → ℕ → ℕ → ℕ → Type 0
@@ -162,7 +157,7 @@ size-is {s} {a} {e} {n} g ends low =
     }
 
 -- `product_weight`: products of two numbers that are small
-small-product : {n m : ℕ} → n ≤ 255 → m ≤ 255 → n * m ≤ 65025
+pub small-product : {n m : ℕ} → n ≤ 255 → m ≤ 255 → n * m ≤ 65025
 small-product {n} {m} p q = omega (arith, mul-le-mul-right m p)
 
 pub small-products : {x y : Size} → Few x → Few y →
@@ -172,7 +167,7 @@ small-products f g = (small-product (f .members) (g .members), small-product (g 
 -- `product`
 module _ {s : List ℕ} {top a b : ℕ} {x y : Size} (p : Sized s a x) (q : Sized s b y) {vs ws : Values} (h : SetBelow s top a vs) (k : SetBelow s top b ws) where
   pub product-weighs : weights (square vs ws) ≡ x .members * y .members + y .members * x .cells + x .members * y .cells
-  product-weighs = square-weighs vs ws ∙ rw (p .front top vs h .counted, q .front top ws k .counted, p .cells top vs h, q .cells top ws k)
+  product-weighs = square-sizes vs ws .1 ∙ rw (p .front top vs h .counted, q .front top ws k .counted, p .cells top vs h, q .cells top ws k)
 
   pub product-heavy : 256 < productWeight x y → Made top s s (setOf (pairsOf (members vs) (members ws))) 0
   product-heavy l = made-heavy (omega (arith, product-weighs))
@@ -192,5 +187,5 @@ module _ {s : List ℕ} {top a b : ℕ} {x y : Size} (p : Sized s a x) (q : Size
     pub product-made : (s′ : List ℕ) (r : ℕ) → Squares s (a + 1) (x .members) (b + 1) (y .members) (top + 1) s′ r →
         Made top s (setAt s′ top (21474836480 + x .members * y .members)) (setOf (pairsOf (members vs) (members ws))) r
     product-made s′ r put =
-        made-set _ _ _ _ _ _ (put product-pre) (sym (square-count vs ws ∙ rw (p .front top vs h .counted, q .front top ws k .counted)))
+        made-set _ _ _ _ _ _ (put product-pre) (sym (square-sizes vs ws .0 ∙ rw (p .front top vs h .counted, q .front top ws k .counted)))
         (omega arith) (omega (arith, product-weighs))

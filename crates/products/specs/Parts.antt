@@ -9,7 +9,7 @@ use lib.ListN.{length}
 use Rattle.rules.specs.Values.{Value, Values, members, values, count, weight, weights}
 use Rattle.rules.specs.Operations.{left, right, setOf, insert, rising}
 use Rattle.rules.specs.Safety.{All}
-use Rattle.arena.specs.Code.{ValueAt, ValuesAt, Same, CellsFit, EndsAt, SetBelow, ValueBelow, Made, AllPairs}
+use Rattle.arena.specs.Code.{ValuesAt, Same, CellsFit, EndsAt, SetBelow, ValueBelow, Made, AllPairs}
 use Rattle.products.specs.declared.Out.{Out}
 use Rattle.products.specs.declared.Place.{Place}
 
@@ -65,8 +65,7 @@ pub record Placed (v : Value) (from : ℕ) (zs : List Value) (r : Place) : Type 
 
 pub record FindPre (s : List ℕ) (p end from to : ℕ) : Type 0 where
   pub value : Value
-  pub stands : ValueAt s p value
-  pub fits : CellsFit value
+  pub below : ValueBelow s from p value
   pub ends : EndsAt s p end
   pub others : List Value
   pub members : Members s from to others

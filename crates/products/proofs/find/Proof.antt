@@ -3,6 +3,7 @@ use Prim.Native.Nat.{_-_}
 use mathlib.Core.List.{List}
 use native.Mathlib.Omega.{arith}
 use Rattle.rules.specs.Values.{Value}
+use Rattle.arena.proofs.FrontLaws.{value-some}
 use Rattle.products.specs.Parts.{FindPre}
 use Rattle.products.proofs.InsertLaws.{Finding, finding-end, finding-some, finding-on, finding-here, finding-next}
 use Rattle.products.proofs.find.Statement.{statement}
@@ -26,8 +27,7 @@ find-spec =
     tie.close
     (tie.spec Inv-loop μ-loop
     (λ c. λ g. (g .others, record { rest = g .members; leads = λ r d. d }))
-    (λ c κs. let g = lent (c .before) .pre in
-    (record { value = g .value; stands = g .stands; fits = g .fits }, finding-some g (c .before .loop .inv g) (c .loop-test .taken), g .ends))
+    (λ c κs. let g = lent (c .before) .pre in (value-some _ _ _ _ (g .below), finding-some g (c .before .loop .inv g) (c .loop-test .taken), g .ends))
     (λ c. λ g. let m = c .before in
     finding-here g _ (m .compare .ensures) (turn m .loop .inv g) (m .before .loop-test .taken) (omega (arith, c .if1 .taken)))
     (λ c κs. let m = c .before in let g = lent (turn m) .pre in finding-some g (turn m .loop .inv g) (m .before .loop-test .taken))

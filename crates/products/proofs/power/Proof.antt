@@ -1,7 +1,9 @@
 -- `power`: all subsets, unless their set is too heavy.
+use Prim.Native.Nat.{_/_}
 use native.Mathlib.Omega.{arith}
 use borrow.Author.Needs.{needs}
-use Rattle.products.proofs.PowerLaws.{power-too-heavy, power-mark, power-pre, power-made, half-product}
+use Rattle.products.proofs.PowerLaws.{power-too-heavy, power-mark, power-pre, power-made}
+use Rattle.products.proofs.WalkLaws.{small-product}
 use Rattle.products.proofs.power.Statement.{statement}
 use Rattle.products.proofs.power.Tie as tie
 
@@ -29,8 +31,8 @@ power-spec =
     (λ c κs. search needs)
     (λ c κs. search needs)
     (λ c. search needs)
-    (λ c. let m = c .before in let e = m .subset-count .ensures .1 in omega (arith, half-product _ _ e (m .before .size-of .ensures .few .cells)))
-    (λ c. let m = c .before in let e = m .subset-count .ensures .1 in omega (arith, half-product _ _ e (m .before .size-of .ensures .few .cells)))
+    (λ c. let m = c .before in let z = small-product {n = m .subset-count .result / 2} (omega arith) (m .before .size-of .ensures .few .cells) in omega arith)
+    (λ c. let m = c .before in let z = small-product {n = m .subset-count .result / 2} (omega arith) (m .before .size-of .ensures .few .cells) in omega arith)
     (λ c. search needs)
     (λ c. λ vs h. let m = c .before .before in power-too-heavy (m .before .size-of .ensures) (m .subset-count .ensures .0) h (c .if1 .taken))
     (λ c. search needs)
