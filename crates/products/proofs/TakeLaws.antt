@@ -11,13 +11,13 @@ use Rattle.laws.proofs.OrderLaws.{Small}
 use Rattle.laws.proofs.SetOrder.{all-map}
 use Rattle.laws.proofs.Membership.{left-small, right-small}
 use Rattle.laws.proofs.CellsLaws.{count-weights}
-use Rattle.arena.specs.Code.{codes, Same, SomeAt, EndsAt, SetBelow, ValueBelow, Made, Front, AllPairs}
+use Rattle.arena.specs.Code.{codes, Same, SomeAt, EndsAt, ValueBelow, Made, Front, AllPairs}
 use Rattle.arena.proofs.CodeLaws.{length-codes}
 use Rattle.arena.proofs.Standing.{same-refl, same-trans}
 use Rattle.arena.proofs.ValueParts.{left-stands, right-stands}
 use Rattle.arena.proofs.FrontLaws.{fit-small, front-start, front-next, front-below, value-frame, value-some, value-end}
 use Rattle.products.specs.Growing.{Appended}
-use Rattle.products.specs.Parts.{part, chosen, Built, InsertPre, Inserts}
+use Rattle.products.specs.Parts.{part, chosen, PartsPre, Built, InsertPre, Inserts}
 use Rattle.products.specs.declared.Out.{Out}
 use Rattle.products.proofs.GrowLaws.{nothing-stands, made-set}
 use Rattle.products.proofs.PartLaws.{insert-weighs, onto, rising-onto}
@@ -49,16 +49,8 @@ part-small : (b : Bool) (v : Value) → Small v → Small (part b v)
 part-small false v h = left-small v h
 part-small true v h = right-small v h
 
--- The set of n pairs that stands at a.
-pub record Given (s₀ : List ℕ) (a top n : ℕ) : Type 0 where
-  pub pairs : Values
-  pub low : n ≡ getD s₀ a 0 % 4294967296
-  pub room : top + 514 ≤ length s₀
-  pub whole : SetBelow s₀ top a pairs
-  pub all : AllPairs pairs
-
 -- The parts of the members before `rest` have been put; `done` has them, the last one first.
-pub record Taking (b : Bool) {s₀ : List ℕ} {a top n : ℕ} (g : Given s₀ a top n) (s : List ℕ) (left i : ℕ) (o : Out) (rest : Values) : Type 0 where
+pub record Taking (b : Bool) {s₀ : List ℕ} {a top : ℕ} (g : PartsPre s₀ a top) (s : List ℕ) (left i : ℕ) (o : Out) (rest : Values) : Type 0 where
   pub front : Front s₀ top i left rest
   pub pairs : AllPairs rest
   pub done : List Value
@@ -67,11 +59,11 @@ pub record Taking (b : Bool) {s₀ : List ℕ} {a top n : ℕ} (g : Given s₀ a
   pub frame : Same (top + 1) s₀ s
   pub built : Built s (top + 1) o (rising done)
 
-module _ {b : Bool} {s₀ : List ℕ} {a top n : ℕ} (g : Given s₀ a top n) where
-  pub taking-start : Taking b g s₀ n (a + 1) (record { last = 0; to = top + 1; count = 0 }) (g .pairs)
+module _ {b : Bool} {s₀ : List ℕ} {a top : ℕ} (g : PartsPre s₀ a top) where
+  pub taking-start : (n : ℕ) → n ≡ getD s₀ a 0 % 4294967296 → Taking b g s₀ n (a + 1) (record { last = 0; to = top + 1; count = 0 }) (g .pairs)
   unfolding rising codes
-  taking-start = record {
-    front = front-start s₀ top a (g .pairs) (g .whole) n (g .low);
+  taking-start n low = record {
+    front = front-start s₀ top a (g .pairs) (g .whole) n low;
     pairs = g .all;
     done = [];
     all = refl;

@@ -12,7 +12,7 @@ use Rattle.arena.proofs.CodeLaws.{length-codes}
 use Rattle.arena.proofs.FrontLaws.{codes-append, count-append, weights-append, front-start, front-value, front-next, front-below, front-some, front-frame, value-frame, set-end, set-cells}
 use Rattle.products.specs.declared.Size.{Size}
 use Rattle.products.specs.Growing.{Appended, Grown, PairPre, PairPut, rowOf, RowPre, Rows, square, SquarePre, Squares, SetAt, Few, Sized, productWeight}
-use Rattle.products.proofs.GrowLaws.{grown-start, grown-step, grown-end, grown-left, made-set, made-heavy}
+use Rattle.products.proofs.GrowLaws.{grown-step, grown-end, grown-left, made-set, made-heavy}
 use Rattle.laws.proofs.CellsLaws.{count-weights}
 
 -- A walk: the members of a set are passed one by one, and for each of them cells are written. What is left to write is told by `rest`, the
@@ -64,9 +64,6 @@ abbrev pub RowAt : {s₀ : List ℕ} {v k b m to : ℕ} → RowPre s₀ v k b m 
 RowAt {s₀} {v} {k} {b} {m} {to} g s i left at = WalkAt (λ us. codes (rowOf (g .first) us)) s₀ (g .top) (g .others) to s i left at
 
 module _ {s₀ : List ℕ} {v k b m to : ℕ} (g : RowPre s₀ v k b m to) where
-  pub row-start : RowAt g s₀ b m to
-  row-start = (g .others, record { front = g .front; grown = grown-start s₀ to _ (omega (arith, g .room)); behind = g .behind })
-
   module _ {s : List ℕ} {i left at : ℕ} where
     pub row-end : RowAt g s i left at → left ≤ 0 → Appended s₀ to s at (codes (rowOf (g .first) (g .others)))
     unfolding code
@@ -115,9 +112,6 @@ abbrev pub SquareAt : {s₀ : List ℕ} {a n b m to : ℕ} → SquarePre s₀ a 
 SquareAt {s₀} {a} {n} {b} {m} {to} g s i left at = WalkAt (λ us. codes (square us (g .rights))) s₀ (g .top) (g .lefts) to s i left at
 
 module _ {s₀ : List ℕ} {a n b m to : ℕ} (g : SquarePre s₀ a n b m to) where
-  pub square-start : SquareAt g s₀ a n to
-  square-start = (g .lefts, record { front = g .front; grown = grown-start s₀ to _ (omega (arith, g .room)); behind = g .behind })
-
   module _ {s : List ℕ} {i left at : ℕ} where
     pub square-end : SquareAt g s i left at → left ≤ 0 → Appended s₀ to s at (codes (square (g .lefts) (g .rights)))
     unfolding code pairsOf

@@ -16,6 +16,12 @@ use Rattle.products.specs.declared.Place.{Place}
 abbrev pub SomePairs : List ℕ → ℕ → ℕ → Type 0
 SomePairs s top a = (vs : Values) × SetBelow s top a vs × AllPairs vs
 
+pub record PartsPre (s : List ℕ) (a top : ℕ) : Type 0 where
+  pub pairs : Values
+  pub whole : SetBelow s top a pairs
+  pub all : AllPairs pairs
+  pub room : top + 514 ≤ length s
+
 -- The first or the second part of a pair.
 abbrev pub part : Bool → Value → Value
 part false v = left v

@@ -8,7 +8,7 @@ ghost use Rattle.rules.specs.Values.{truthValue};
 ghost use Rattle.rules.specs.Operations.{setOf, elementsFrom};
 ghost use Rattle.arena.specs.Code.{SomeSet, SomeValue, Made, Copied};
 ghost use Rattle.products.specs.Growing.{PutsCell, RunPre, Runs, Singles, Pairs, PairPre, PairPut, Intervals, RowPre, Rows, SquarePre, Squares, SetAt, Few, Sized, productWeight, Multiplies};
-ghost use Rattle.products.specs.Parts.{SomePairs, Takes, Domains, Ranges, chosen, FindPre, Finds, InsertPre, Places, Inserts, movedLast};
+ghost use Rattle.products.specs.Parts.{SomePairs, PartsPre, Takes, Domains, Ranges, chosen, FindPre, Finds, InsertPre, Places, Inserts, movedLast};
 ghost use Rattle.products.specs.Power.{Powers, masks, subsetCount, AddPre, Added, MarkPre, Marks, SubsetPre, Subsets, AllPre, AllSubsets};
 
 // Members that have been built: where the last one stands (0 where there is none), where they end, their number.
@@ -165,7 +165,11 @@ fn product_weight(x: Size, y: Size) -> u64
     requires { ⌜ Few x × Few y ⌝ }
     ensures { λ r. ⌜ r ≡ productWeight x y ⌝ }
 {
-    1 + x.members * y.members + y.members * x.cells + x.members * y.cells
+    let n = x.members;
+    let k = x.cells;
+    let m = y.members;
+    let l = y.cells;
+    1 + n * m + m * k + n * l
 }
 
 pub fn product(s: &mut [u64], a: usize, b: usize, top: usize) -> usize
@@ -290,7 +294,7 @@ fn pick(second: bool, a: usize, b: usize) -> usize
 
 // The set of the first or of the second parts of the pairs of a set.
 fn parts(s: &mut [u64], a: usize, top: usize, second: bool) -> usize
-    requires { ⌜ SomePairs (now s) top a × (top + 514 ≤ length (now s)) ⌝ }
+    requires { ⌜ PartsPre (now s) a top ⌝ }
     ensures { λ r. ⌜ Takes second (now (s .entry)) a top (now (s .exit)) r ⌝ }
 {
     let from = top + 1;

@@ -2,7 +2,8 @@
 -- In a need, t is a turn of the loop, m is where its member ends, p is where the pair is put.
 use native.Mathlib.Omega.{arith}
 use Rattle.products.specs.Growing.{RowPre}
-use Rattle.products.proofs.WalkLaws.{RowAt, walk-some, walk-forward, row-start, row-end, row-pair, row-next}
+use Rattle.products.proofs.GrowLaws.{grown-start}
+use Rattle.products.proofs.WalkLaws.{RowAt, walk-some, walk-forward, row-end, row-pair, row-next}
 use Rattle.products.proofs.row.Statement.{statement}
 use Rattle.products.proofs.row.Tie as tie
 
@@ -19,7 +20,7 @@ pub row-spec : {M : Type 1} → statement M
 row-spec =
     tie.close
     (tie.spec Inv-loop μ-loop
-    (λ c. λ g. row-start g)
+    (λ c. λ g. (g .others, record { front = g .front; grown = grown-start _ _ _ (omega (arith, g .room)); behind = g .behind }))
     (λ c κs. let t = c .before in walk-some (t .before .loop .inv (lent t .pre)) (t .loop-test .taken))
     (λ c. let m = c .before in let t = m .before .before in
     walk-forward _ (m .end-of .ensures) (t .before .loop .inv (lent t .pre)) (t .loop-test .taken))

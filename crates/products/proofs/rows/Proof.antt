@@ -2,7 +2,8 @@
 -- In a need, t is a turn of the loop, m is where its member ends, p is where the row is put.
 use native.Mathlib.Omega.{arith}
 use Rattle.products.specs.Growing.{SquarePre}
-use Rattle.products.proofs.WalkLaws.{SquareAt, walk-some, walk-forward, square-start, square-end, square-row, square-next}
+use Rattle.products.proofs.GrowLaws.{grown-start}
+use Rattle.products.proofs.WalkLaws.{SquareAt, walk-some, walk-forward, square-end, square-row, square-next}
 use Rattle.products.proofs.rows.Statement.{statement}
 use Rattle.products.proofs.rows.Tie as tie
 
@@ -19,7 +20,7 @@ pub rows-spec : {M : Type 1} → statement M
 rows-spec =
     tie.close
     (tie.spec Inv-loop μ-loop
-    (λ c. λ g. square-start g)
+    (λ c. λ g. (g .lefts, record { front = g .front; grown = grown-start _ _ _ (omega (arith, g .room)); behind = g .behind }))
     (λ c κs. let t = c .before in walk-some (t .before .loop .inv (lent t .pre)) (t .loop-test .taken))
     (λ c. let m = c .before in let t = m .before .before in
     walk-forward _ (m .end-of .ensures) (t .before .loop .inv (lent t .pre)) (t .loop-test .taken))
