@@ -8,7 +8,7 @@ use lib.ListN.{length, set as setAt, length-append, length-set}
 use lib.Seq.{getD-set-same, getD-set-other}
 use Rattle.rules.specs.Values.{Value, pair, set, Values, none, _▸_, count, weight}
 use Rattle.rules.specs.Operations.{setOf}
-use Rattle.arena.specs.Code.{code, codes, Stands, ValueAt, EndsAt, Copied, ValueBelow, Made, Front}
+use Rattle.arena.specs.Code.{code, codes, Stands, EndsAt, Copied, ValueBelow, Made}
 use Rattle.arena.proofs.CodeLaws.{length-code, length-codes}
 use Rattle.arena.proofs.Standing.{stands-append, stands-frame, same-refl, same-trans, copied-stands}
 use Rattle.arena.proofs.FrontLaws.{single, value-end}
@@ -129,9 +129,6 @@ module _ {s : List ℕ} {a b top : ℕ} (d e : ℕ) (x : EndsAt s a d) (y : Ends
   pub pair-made : {s′ : List ℕ} {r : ℕ} → (d - a) + (e - b) ≤ 255 → PairPut s a (d - a) b (e - b) top s′ r → Made top s s′ (pair v w) r
   pair-made few put = let z = pair-sizes in made (put v w (h .stands) (k .stands) (omega arith) (omega arith)) (omega arith)
 
-  pub pair-heavy : 255 < (d - a) + (e - b) → Made top s s (pair v w) 0
-  pair-heavy l = let z = pair-sizes in made-heavy (omega arith)
-
 -- `run`: i of the cells have been written.
 pub record Running (s : List ℕ) (cell n top : ℕ) (s′ : List ℕ) (to i : ℕ) : Type 0 where
   pub given : RunPre s cell n top
@@ -147,10 +144,6 @@ cells-last : (c n : ℕ) → cellsFrom c (suc n) ≡ cellsFrom c n ++ ((c + n) �
 unfolding cellsFrom
 cells-last c zero = let z : c ≡ c + 0 = omega arith in cc
 cells-last c (suc n) = let z : suc c + n ≡ c + suc n = omega arith in ap (λ (l : List ℕ). c ∷ l) (cells-last (suc c) n ∙ rw z)
-
-pub running-start : {s : List ℕ} {cell n top : ℕ} → RunPre s cell n top → Running s cell n top s (top + 1) 0
-unfolding cellsFrom
-running-start p = record { given = p; appended = appended-none _ _ (omega (arith, p .room)); few = omega arith }
 
 module _ {s : List ℕ} {cell n top : ℕ} {s′ : List ℕ} {to i : ℕ} (h : Running s cell n top s′ to i) where
   pub running-inside : i < n → to < length s′

@@ -22,7 +22,7 @@ use Rattle.arena.proofs.FrontLaws.{codes-append, count-append, weights-append, 
 use Rattle.products.specs.Parts.{Members, lastOf, LastAt, Built, Placed, FindPre, InsertPre, movedLast}
 use Rattle.products.specs.declared.Out.{Out}
 use Rattle.products.specs.declared.Place.{Place}
-use Rattle.products.proofs.PartLaws.{insert-next, insert-here, insert-none, last-append, last-weighs, insert-last}
+use Rattle.products.proofs.PartLaws.{insert-next, insert-here, insert-none, last-append, last-split, insert-last}
 
 -- `shift`: of m cells those from `left` on have been moved up by n.
 pub record Shifting (s₀ : List ℕ) (from m n : ℕ) (s : List ℕ) (left : ℕ) : Type 0 where
@@ -122,7 +122,10 @@ last-low (z ∷ zs) l = omega arith
 module _ {s : List ℕ} {p from : ℕ} {o : Out} {v : Value} (below : ValueBelow s from p v) where
   pub place-none : (zs : List Value) → Built s from o zs → o .last ≡ 0 → Placed v from zs (record { at = o .to; equal = false })
   place-none [] h e = record { lo = []; hi = []; all = refl; at = h .members .ends; inserted = insert-none v }
-  place-none (z ∷ zs) h e = absurd (omega (arith, h .last, h .members .ends, last-weighs z zs, below .below, weight-some v))
+  place-none (z ∷ zs) h e =
+      let d = last-split z zs in
+      let w = ap (λ (l : List Value). weights (values l)) (d .1) ∙ weights-append (d .0) (lastOf z zs ∷ []) in
+      absurd (omega (arith, h .last, h .members .ends, below .below, weight-some v))
 
   pub place-some : (zs : List Value) → Built s from o zs → (o .last ≡ 0 → ⊥) → SomeAt s (o .last)
   place-some [] h n = absurd (n (h .last))

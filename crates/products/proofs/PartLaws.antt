@@ -69,11 +69,7 @@ pub last-append : (z : Value) (lo : List Value) (h : Value) (hs : List Value) �
 last-append z [] h hs = refl
 last-append z (y ∷ lo) h hs = last-append y lo h hs
 
-pub last-weighs : (z : Value) (zs : List Value) → weight (lastOf z zs) ≤ weights (values (z ∷ zs))
-last-weighs z [] = omega arith
-last-weighs z (y ∷ ys) = omega (arith, last-weighs y ys)
-
-last-split : (z : Value) (zs : List Value) → (lo : List Value) × (z ∷ zs ≡ lo ++ (lastOf z zs ∷ []))
+pub last-split : (z : Value) (zs : List Value) → (lo : List Value) × (z ∷ zs ≡ lo ++ (lastOf z zs ∷ []))
 last-split z [] = ([], refl)
 last-split z (y ∷ ys) = let r = last-split y ys in (z ∷ r .0, ap (λ (l : List Value). z ∷ l) (r .1))
 

@@ -31,8 +31,7 @@ count-many n l = rw (lt-ltb 5 n l)
 pub count-few : (n : ℕ) → n ≤ 5 → (getD subsetCounts n 0 ≡ subsetCount n) × (getD subsetCounts n 0 ≤ 64)
 count-few n l = (rw (le-ltb 5 n l), all-at (λ k. k ≤ 64) subsetCounts 0 (omega arith) (omega arith) n)
 
--- `all_subsets`
--- the masks from j on
+-- `all_subsets`: the subsets for the masks from j on
 abbrev pub allFrom : ℕ → ℕ → Values → List ℕ
 allFrom p j vs = codes (values (picked p (drop j masks) (members vs)))
 
@@ -40,8 +39,8 @@ picked-next : (p j mask : ℕ) (vs : Values) → j < 32 → mask ≡ getD masks 
     allFrom p j vs ≡ codes (values (keptValue (ltb mask p) (setOf (pick mask (members vs))) [])) ++ allFrom p (j + 1) vs
 unfolding picked
 picked-next p j mask vs l e =
-    ap (λ (ms : List ℕ). codes (values (picked p ms (members vs))))
-    (drop-cons masks j 0 l ∙ ap (λ (k : ℕ). getD masks j 0 ∷ drop k masks) (sym (add-one j)) ∙ ap (λ (k : ℕ). k ∷ drop (j + 1) masks) (sym e))
+    let d : drop j masks ≡ mask ∷ drop (j + 1) masks = drop-cons masks j 0 l ∙ (cc (add-one j)) in
+    ap (λ (ms : List ℕ). codes (values (picked p ms (members vs)))) d
     ∙ kept-codes (ltb mask p) (setOf (pick mask (members vs))) (picked p (drop (j + 1) masks) (members vs))
 
 picked-over : (p j : ℕ) (vs : Values) → 32 ≤ j → allFrom p j vs ≡ []

@@ -5,14 +5,14 @@ use mathlib.Core.Path.{_≡_, refl, sym, ap, _∙_}
 use native.Mathlib.Omega.{arith}
 use native.Mathlib.Nat.{mul-le-mul-right}
 use lib.ListN.{length, getD, length-append, set as setAt}
-use Rattle.rules.specs.Values.{Value, pair, Values, none, _▸_, members, values, count, weight, weights}
+use Rattle.rules.specs.Values.{Value, pair, Values, none, _▸_, members, count, weight, weights}
 use Rattle.rules.specs.Operations.{setOf, pairsOf}
 use Rattle.arena.specs.Code.{code, codes, SomeAt, EndsAt, SetBelow, Made, Front}
 use Rattle.arena.proofs.CodeLaws.{length-codes}
 use Rattle.arena.proofs.FrontLaws.{codes-append, count-append, weights-append, front-start, front-value, front-next, front-below, front-some, front-frame, value-frame, set-end, set-cells}
 use Rattle.products.specs.declared.Size.{Size}
 use Rattle.products.specs.Growing.{Appended, Grown, PairPre, PairPut, rowOf, RowPre, Rows, square, SquarePre, Squares, SetAt, Few, Sized, productWeight}
-use Rattle.products.proofs.GrowLaws.{grown-step, grown-end, grown-left, made-set, made-heavy}
+use Rattle.products.proofs.GrowLaws.{grown-step, grown-end, grown-left, made-set}
 use Rattle.laws.proofs.CellsLaws.{count-weights}
 
 -- A walk: the members of a set are passed one by one, and for each of them cells are written. What is left to write is told by `rest`, the
@@ -160,11 +160,9 @@ small-products f g = (small-product (f .members) (g .members), small-product (g 
 
 -- `product`
 module _ {s : List ℕ} {top a b : ℕ} {x y : Size} (p : Sized s a x) (q : Sized s b y) {vs ws : Values} (h : SetBelow s top a vs) (k : SetBelow s top b ws) where
+  -- the weight of the members
   pub product-weighs : weights (square vs ws) ≡ x .members * y .members + y .members * x .cells + x .members * y .cells
   product-weighs = square-sizes vs ws .1 ∙ rw (p .front top vs h .counted, q .front top ws k .counted, p .cells top vs h, q .cells top ws k)
-
-  pub product-heavy : 256 < productWeight x y → Made top s s (setOf (pairsOf (members vs) (members ws))) 0
-  product-heavy l = made-heavy (omega (arith, product-weighs))
 
   module _ (room : top + 514 ≤ length s) (light : productWeight x y ≤ 256) where
     abbrev pub product-pre : SquarePre s (a + 1) (x .members) (b + 1) (y .members) (top + 1)

@@ -1,6 +1,6 @@
 -- The power set of a set of at most five members: its subsets as bits.
 use Prim.Native.Nat.{ℕ, _+_, _-_, _/_, _%_, _≤_}
-use mathlib.Core.Bool.{Bool, true, false, cond}
+use mathlib.Core.Bool.{Bool, cond}
 use mathlib.Core.List.{List, [], _∷_, map}
 use mathlib.Core.Path.{_≡_}
 use lib.Dec.{eqb, ltb}

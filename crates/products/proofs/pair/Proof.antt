@@ -1,7 +1,7 @@
 -- `pair`: the pair of two values, unless it is too heavy.
 use native.Mathlib.Omega.{arith}
 use Rattle.arena.proofs.FrontLaws.{value-some, value-end}
-use Rattle.products.proofs.GrowLaws.{pair-sizes, pair-pre, pair-made, pair-heavy}
+use Rattle.products.proofs.GrowLaws.{made-heavy, pair-sizes, pair-pre, pair-made}
 use borrow.Author.Needs.{needs}
 use Rattle.products.proofs.pair.Statement.{statement}
 use Rattle.products.proofs.pair.Tie as tie
@@ -24,7 +24,8 @@ pair-spec =
     (λ c. let q = lent (first c) .pre in let z = pair-sizes _ _ (first c .end-of .ensures) (c .end-of2 .ensures) (q .0 .1) (q .1 .1) in
     omega (arith, q .0 .1 .light, q .1 .1 .light))
     (λ c. search needs)
-    (λ c. λ v w h k. let m = c .before in pair-heavy _ _ (first m .end-of .ensures) (m .end-of2 .ensures) h k (c .if1 .taken))
+    (λ c. λ v w h k. let m = c .before in let z = pair-sizes _ _ (first m .end-of .ensures) (m .end-of2 .ensures) h k in
+    made-heavy (omega (arith, c .if1 .taken)))
     (λ c κs. let m = c .before .before in let q = lent (first m) .pre in
     pair-pre _ _ (first m .end-of .ensures) (m .end-of2 .ensures) (q .0 .1) (q .1 .1) (q .2) (c .before .if1 .left))
     (λ c. search needs)

@@ -1,7 +1,8 @@
 -- `product`: all pairs, unless their set is too heavy.
 use native.Mathlib.Omega.{arith}
 use borrow.Author.Needs.{needs}
-use Rattle.products.proofs.WalkLaws.{product-heavy, product-pre, product-made}
+use Rattle.products.proofs.GrowLaws.{made-heavy}
+use Rattle.products.proofs.WalkLaws.{product-weighs, product-pre, product-made}
 use Rattle.products.proofs.product.Statement.{statement}
 use Rattle.products.proofs.product.Tie as tie
 
@@ -27,7 +28,7 @@ product-spec =
     (λ c κs. search needs)
     (λ c. search needs)
     (λ c. λ vs ws h k. let w = c .before in let y = w .before in
-    product-heavy (first y .size-of .ensures) (y .size-of2 .ensures) h k (omega (arith, w .product-weight .ensures, c .if1 .taken)))
+    made-heavy (omega (arith, product-weighs (first y .size-of .ensures) (y .size-of2 .ensures) h k, w .product-weight .ensures, c .if1 .taken)))
     (λ c. search needs)
     (λ c. search needs)
     (λ c. search needs)
