@@ -10,8 +10,8 @@ use lib.Dec.{eqb}
 use Rattle.rules.specs.Values.{Value, values, weight, weights, order}
 use Rattle.rules.specs.Operations.{placed, insert, rising}
 use Rattle.laws.proofs.OrderLaws.{flip, Small, order-flip, order-eq, before-order, order-before, before-trans}
-use Rattle.laws.proofs.SetOrder.{All, Before, Rising, rising-rising}
-use Rattle.laws.proofs.Membership.{In, in-all, all-in, all-self, in-right, in-rising, rising-in, same-members}
+use Rattle.laws.proofs.SetOrder.{All, Before, Rising, all-imp, rising-all, rising-rising}
+use Rattle.laws.proofs.Membership.{In, all-in, all-self, in-right, in-rising, same-members}
 use Rattle.arena.specs.Code.{orderCode}
 use Rattle.products.specs.Parts.{lastOf}
 
@@ -107,4 +107,4 @@ rising-onto xs h =
     (into (onto xs []) xs h (onto-all (λ x. In x xs) xs [] (all-self xs) tt)) (into xs (onto xs []) (onto-all Small xs [] h tt) (onto-in xs []))
   where
     into : (us ws : List Value) → All Small ws → All (λ x. In x ws) us → All (λ x. In x (rising ws)) (rising us)
-    into us ws m c = in-all (λ x. In x (rising ws)) (rising us) (λ x i. in-rising x ws m (all-in (λ z. In z ws) x us c (rising-in x us i)))
+    into us ws m c = rising-all (λ x. In x (rising ws)) us (all-imp (λ x. In x ws) (λ x. In x (rising ws)) (λ x i. in-rising x ws m i) us c)

@@ -10,10 +10,10 @@ use Rattle.rules.specs.Values.{Value, set, Values, _▸_, values, count, weight
 use Rattle.rules.specs.Operations.{setOf, rising, subsets}
 use Rattle.rules.proofs.Basics.{all-both}
 use Rattle.laws.proofs.OrderLaws.{Small, order-refl, order-before, before-order, lt-compare, compare-refl, key-delimited}
-use Rattle.laws.proofs.SetOrder.{All, Before, Rising, all-imp, all-map, all-append, rising-rising, subsets-all}
+use Rattle.laws.proofs.SetOrder.{All, Before, Rising, all-imp, all-map, all-append, rising-all, rising-rising, subsets-all}
 use Rattle.products.specs.Power.{masks, subsetCount, picked}
 use Rattle.laws.proofs.CellsLaws.{weight-some}
-use Rattle.laws.proofs.Membership.{In, in-all, all-in, in-left, in-right, in-map, in-rising, rising-in, same-members, small-sets, nil-subset}
+use Rattle.laws.proofs.Membership.{In, all-in, in-left, in-right, in-map, in-rising, same-members, small-sets, nil-subset}
 
 -- The order of two sets: fewer members first, then by the first members that differ.
 order-cons : (v w : Value) (s r : Values) → count s ≡ count r → order (set (v ▸ s)) (set (w ▸ r)) ≡ (order v w then order (set s) (set r))
@@ -165,15 +165,11 @@ power-rising vs h small =
     let all = all-imp (Among vs) (λ s. In s ps) (λ s a. combos-powers (length vs) (length s) vs s (a .0) (a .1)) ss (combos-all vs) in
     let back = mapped ps ss (all-imp (UpTo (length vs) vs) (λ s. In s ss) (λ s k. k .1) ps (powers-are (length vs) vs)) in
     same-members (rising (map setOf ss)) (map setOf ps) (rising-rising (map setOf ss)) (rise-sets ps (powers-rise (length vs) vs h))
-    (in-all (λ x. In x (map setOf ps)) (rising (map setOf ss))
-    (λ x i. all-in (λ y. In y (map setOf ps)) x (map setOf ss) (mapped ss ps all) (rising-in x (map setOf ss) i)))
+    (rising-all (λ x. In x (map setOf ps)) (map setOf ss) (mapped ss ps all))
     (all-imp (λ x. In x (map setOf ss)) (λ x. In x (rising (map setOf ss))) (λ x i. in-rising x (map setOf ss) little i) (map setOf ps) back)
 
 -- What they weigh: 2^n cells and each member 2^(n−1) times, for n members.
-abbrev pub powerWeight : List Value → ℕ
-powerWeight vs = weights (values (map setOf (powers (length vs) vs)))
-
-abbrev weigh : List (List Value) → ℕ
+abbrev pub weigh : List (List Value) → ℕ
 weigh ss = weights (values (map setOf ss))
 
 weigh-append : (ss ts : List (List Value)) → weigh (ss ++ ts) ≡ weigh ss + weigh ts
@@ -201,7 +197,7 @@ more-heavy (suc k) v vs =
 
 -- Five members or fewer: the weight and the number of the subsets, and that the masks give them in order.
 pub power-few : (vs : List Value) → length vs ≤ 5 →
-    (powerWeight vs ≡ subsetCount (length vs) + subsetCount (length vs) / 2 * weights (values vs)) ×
+    (weigh (powers (length vs) vs) ≡ subsetCount (length vs) + subsetCount (length vs) / 2 * weights (values vs)) ×
     (count (values (map setOf (powers (length vs) vs))) ≡ subsetCount (length vs)) ×
     (picked (subsetCount (length vs)) masks vs ≡ map setOf (powers (length vs) vs))
 unfolding powers picked
@@ -214,11 +210,11 @@ power-few (a ∷ b ∷ c ∷ d ∷ f ∷ []) l = (omega arith, refl, refl)
 power-few (a ∷ b ∷ c ∷ d ∷ f ∷ g ∷ vs) l = absurd (omega arith)
 
 -- Six members or more are too many.
-six-heavy : (a b c d f g : Value) → 256 ≤ powerWeight (a ∷ b ∷ c ∷ d ∷ f ∷ g ∷ [])
+six-heavy : (a b c d f g : Value) → 256 ≤ weigh (powers 6 (a ∷ b ∷ c ∷ d ∷ f ∷ g ∷ []))
 unfolding powers
 six-heavy a b c d f g = omega (arith, weight-some a, weight-some b, weight-some c, weight-some d, weight-some f, weight-some g)
 
-pub power-heavy : (vs : List Value) → 6 ≤ length vs → 256 ≤ powerWeight vs
+pub power-heavy : (vs : List Value) → 6 ≤ length vs → 256 ≤ weigh (powers (length vs) vs)
 power-heavy [] l = absurd (omega arith)
 power-heavy (a ∷ []) l = absurd (omega arith)
 power-heavy (a ∷ b ∷ []) l = absurd (omega arith)
