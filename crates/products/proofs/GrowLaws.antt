@@ -3,24 +3,16 @@ use Prim.Native.Nat.{ℕ, zero, suc, _+_, _-_, _≤_, _<_}
 use mathlib.Core.List.{List, [], _∷_, _++_, append-assoc, append-nil}
 use mathlib.Core.Path.{_≡_, refl, sym, ap, _∙_, subst}
 use native.Mathlib.Omega.{arith}
+use native.Mathlib.Numerals.{add-one}
 use lib.ListN.{length, set as setAt, length-append, length-set}
 use lib.Seq.{getD-set-same, getD-set-other}
 use Rattle.rules.specs.Values.{Value, pair, set, Values, none, _▸_, count, weight}
 use Rattle.rules.specs.Operations.{setOf}
-use Rattle.arena.specs.Code.{code, codes, Stands, ValueAt, EndsAt, Copied, ValueBelow, Made, Front}
+use Rattle.arena.specs.Code.{code, codes, Stands, EndsAt, Copied, ValueBelow, Made}
 use Rattle.arena.proofs.CodeLaws.{length-code, length-codes}
 use Rattle.arena.proofs.Standing.{stands-append, stands-frame, same-refl, same-trans, copied-stands}
 use Rattle.arena.proofs.FrontLaws.{single, value-end}
 use Rattle.products.specs.Growing.{Appended, Grown, cellsFrom, RunPre, PairPre, PairPut}
-
--- The members that are left: none, or a first one.
-pub front-end : {s : List ℕ} {top at n : ℕ} (vs : Values) → Front s top at n vs → n ≤ 0 → vs ≡ none
-front-end none f l = refl
-front-end (w ▸ us) f l = absurd (omega (arith, f .counted))
-
-pub front-first : {s : List ℕ} {top at n : ℕ} (vs : Values) → Front s top at n vs → 0 < n → (w : Value) × (us : Values) × (vs ≡ w ▸ us)
-front-first none f l = absurd (omega (arith, f .counted))
-front-first (w ▸ us) f l = (w, us, refl)
 
 -- Nothing, a cell, or a copied run, written behind what stands.
 pub nothing-stands : (s : List ℕ) (to : ℕ) → to ≤ length s → Stands s to []
@@ -78,23 +70,29 @@ made {v = v} a l =
 pub made-heavy : {s : List ℕ} {top : ℕ} {v : Value} → 256 < weight v → Made top s s v 0
 made-heavy {s} {top} l = record { frame = same-refl top s; light = λ k. absurd (omega arith); heavy = λ k. refl }
 
--- A set's cell before its members.
-pub made-set : (s : List ℕ) (top : ℕ) (s′ : List ℕ) (r n : ℕ) (vs : Values) → Appended s (top + 1) s′ r (codes vs) → n ≡ count vs → top < length s →
-    weight (set vs) ≤ 256 → Made top s (setAt s′ top (21474836480 + n)) (set vs) r
-unfolding code
-made-set s top s′ r n vs a e l w =
-    let x = 21474836480 + n in
+-- A cell before what has been written, as a set's before its members.
+appended-head : {s : List ℕ} {top : ℕ} {s′ : List ℕ} {r : ℕ} {cs : List ℕ} (x : ℕ) → Appended s (top + 1) s′ r cs → top < length s →
+    Appended s top (setAt s′ top x) r (x ∷ cs)
+appended-head {s} {top} {s′} {r} {cs} x a l =
     let y = appended-cell s′ top x (omega (arith, a .frame .kept)) in
-    let k : Stands (setAt s′ top x) (top + 1) (codes vs) = record {
+    let k : Stands (setAt s′ top x) (top + 1) cs = record {
       inside = omega (arith, y .frame .kept, a .stands .inside);
       cells = λ i p. getD-set-other s′ top (top + 1 + i) x 0 (λ z. omega arith) ∙ a .stands .cells i p;
     } in
-    let z = stands-append (setAt s′ top x) top (x ∷ []) (codes vs) (y .stands) k in
     record {
       frame = record { same = λ i p. y .frame .same i p ∙ a .frame .same i (omega arith); kept = y .frame .kept ∙ a .frame .kept };
-      light = λ _. (omega (arith, a .ends, length-codes vs), subst (λ (c : ℕ). Stands (setAt s′ top x) top ((21474836480 + c) ∷ codes vs)) e z);
-      heavy = λ k. absurd (omega arith);
+      stands = stands-append (setAt s′ top x) top (x ∷ []) cs (y .stands) k;
+      ends = omega (arith, a .ends);
     }
+
+pub appended-set : {s : List ℕ} {top : ℕ} {s′ : List ℕ} {r n : ℕ} (vs : Values) → Appended s (top + 1) s′ r (codes vs) → n ≡ count vs → top < length s →
+    Appended s top (setAt s′ top (21474836480 + n)) r (code (set vs))
+unfolding code
+appended-set vs a e l = rw e (appended-head _ a l)
+
+pub made-set : (s : List ℕ) (top : ℕ) (s′ : List ℕ) (r n : ℕ) (vs : Values) → Appended s (top + 1) s′ r (codes vs) → n ≡ count vs → top < length s →
+    weight (set vs) ≤ 256 → Made top s (setAt s′ top (21474836480 + n)) (set vs) r
+made-set s top s′ r n vs a e l w = made (appended-set vs a e l) w
 
 -- `put_cell`
 pub cell-made : (s : List ℕ) (top cell : ℕ) → top < length s → (v : Value) → code v ≡ cell ∷ [] → Made top s (setAt s top cell) v (top + 1)
@@ -110,24 +108,15 @@ single-made s a top e s′ l x few c v h =
     let k : Stands s a (codes (v ▸ none)) = rw (single v) (h .stands) in
     made-set _ _ _ _ _ (v ▸ none) (appended-copy c k (omega (arith, length-codes (v ▸ none))) (omega arith)) refl (omega arith) (omega arith)
 
-pub single-heavy : (s : List ℕ) (a top e : ℕ) → EndsAt s a e → 255 < e - a → (v : Value) → ValueBelow s top a v → Made top s s (setOf (v ∷ [])) 0
-single-heavy s a top e x l v h = made-heavy (omega (arith, value-end s top a e v h x))
-
 -- `pair_at`
-pub pair-put : (s : List ℕ) (a n b m to : ℕ) (s₁ s₂ : List ℕ) → PairPre s a n b m to → Copied (setAt s to 17179869184) a n (to + 1) s₁ →
-    Copied s₁ b m (to + 1 + n) s₂ → (v w : Value) → ValueAt s a v → ValueAt s b w → n ≡ weight v → m ≡ weight w →
-    Appended s to s₂ (to + 1 + n + m) (code (pair v w))
+pub pair-put : {s : List ℕ} {a n b m to : ℕ} {s₁ s₂ : List ℕ} → PairPre s a n b m to → Copied s a n (to + 1) s₁ → Copied s₁ b m (to + 1 + n) s₂ →
+    PairPut s a n b m to (setAt s₂ to 17179869184) (to + 1 + n + m)
 unfolding code
-pair-put s a n b m to s₁ s₂ p c d v w h k e f =
-    let s₀ = setAt s to 17179869184 in
-    let x = appended-cell s to 17179869184 (omega (arith, p .room)) in
-    let y = appended-copy c (stands-frame to s s₀ a (code v) (x .frame) (omega (arith, length-code v, p .left)) h)
-    (omega (arith, length-code v)) (omega (arith, p .room, x .frame .kept)) in
-    let u = same-trans to (to + 1) s s₀ s₁ (x .frame) (y .frame) (omega arith) in
-    let z = appended-copy d (stands-frame to s s₁ b (code w) u (omega (arith, length-code w, p .right)) k)
-    (omega (arith, length-code w)) (omega (arith, p .room, u .kept)) in
-    appended-then x
-    (appended-then y z)
+pair-put {s} {a} {n} {b} {m} {to} {s₁} p c d v w h k e f =
+    let y = appended-copy c h (omega (arith, length-code v)) (omega (arith, p .room)) in
+    let there = stands-frame (to + 1) s s₁ b (code w) (y .frame) (omega (arith, length-code w, p .right)) k in
+    let z = appended-copy d there (omega (arith, length-code w)) (omega (arith, p .room, y .frame .kept)) in
+    appended-head 17179869184 (appended-then y z) (omega (arith, p .room))
 
 -- `pair`
 module _ {s : List ℕ} {a b top : ℕ} (d e : ℕ) (x : EndsAt s a d) (y : EndsAt s b e) {v w : Value} (h : ValueBelow s top a v) (k : ValueBelow s top b w) where
@@ -140,65 +129,35 @@ module _ {s : List ℕ} {a b top : ℕ} (d e : ℕ) (x : EndsAt s a d) (y : Ends
   pub pair-made : {s′ : List ℕ} {r : ℕ} → (d - a) + (e - b) ≤ 255 → PairPut s a (d - a) b (e - b) top s′ r → Made top s s′ (pair v w) r
   pair-made few put = let z = pair-sizes in made (put v w (h .stands) (k .stands) (omega arith) (omega arith)) (omega arith)
 
-  pub pair-heavy : 255 < (d - a) + (e - b) → Made top s s (pair v w) 0
-  pair-heavy l = let z = pair-sizes in made-heavy (omega arith)
-
--- `run`
+-- `run`: i of the cells have been written.
 pub record Running (s : List ℕ) (cell n top : ℕ) (s′ : List ℕ) (to i : ℕ) : Type 0 where
   pub given : RunPre s cell n top
-  pub grown : Grown s (top + 1) s′ to (cellsFrom cell n) (cellsFrom (cell + i) (n - i))
-  pub near : to ≡ top + 1 + i
+  pub appended : Appended s (top + 1) s′ to (cellsFrom cell i)
   pub few : i ≤ n
-
-pub running-start : (s : List ℕ) (cell n top : ℕ) → RunPre s cell n top → Running s cell n top s (top + 1) 0
-running-start s cell n top p =
-    let c : cell ≡ cell + 0 = omega arith in
-    let m : n ≡ n - 0 = omega arith in
-    let g = grown-start s (top + 1) (cellsFrom cell n) (omega (arith, p .room)) in
-    record {
-      given = p;
-      grown = subst (λ (cs : List ℕ). Grown s (top + 1) s (top + 1) (cellsFrom cell n) cs) (cc) g;
-      near = omega arith;
-      few = omega arith;
-    }
-
-cells-next : (c m : ℕ) → 0 < m → cellsFrom c m ≡ (c ∷ []) ++ cellsFrom (c + 1) (m - 1)
-unfolding cellsFrom
-cells-next c zero l = absurd (omega arith)
-cells-next c (suc m) l =
-    let z : suc c ≡ c + 1 = omega arith in
-    let y : m ≡ suc m - 1 = omega arith in
-    cc
 
 length-cells : (c n : ℕ) → length (cellsFrom c n) ≡ n
 unfolding cellsFrom
 length-cells c zero = refl
 length-cells c (suc n) = ap suc (length-cells (suc c) n)
 
-no-cells : (c m : ℕ) → m ≡ 0 → cellsFrom c m ≡ []
+cells-last : (c n : ℕ) → cellsFrom c (suc n) ≡ cellsFrom c n ++ ((c + n) ∷ [])
 unfolding cellsFrom
-no-cells c zero l = refl
-no-cells c (suc m) l = absurd (omega arith)
+cells-last c zero = let z : c ≡ c + 0 = omega arith in cc
+cells-last c (suc n) = let z : suc c + n ≡ c + suc n = omega arith in ap (λ (l : List ℕ). c ∷ l) (cells-last (suc c) n ∙ rw z)
 
 module _ {s : List ℕ} {cell n top : ℕ} {s′ : List ℕ} {to i : ℕ} (h : Running s cell n top s′ to i) where
   pub running-inside : i < n → to < length s′
-  running-inside l = omega (arith, h .near, h .given .room, h .given .few, h .grown .appended .frame .kept)
+  running-inside l = omega (arith, h .appended .ends, length-cells cell i, h .given .room, h .appended .frame .kept)
 
   pub running-next : i < n → Running s cell n top (setAt s′ to (cell + i)) (to + 1) (i + 1)
-  running-next l =
-      let c : cell + i + 1 ≡ cell + (i + 1) = omega arith in
-      let m : n - i - 1 ≡ n - (i + 1) = omega arith in
-      let e = cells-next (cell + i) (n - i) (omega arith) in
-      let f : cellsFrom (cell + i) (n - i) ≡ ((cell + i) ∷ []) ++ cellsFrom (cell + (i + 1)) (n - (i + 1)) = rw (← c, ← m) e in
-      record {
-        given = h .given;
-        grown = grown-step (cellsFrom (cell + (i + 1)) (n - (i + 1))) (rw f at (h .grown)) (appended-cell s′ to (cell + i) (running-inside l));
-        near = omega (arith, h .near);
-        few = omega arith;
-      }
+  running-next l = record {
+    given = h .given;
+    appended = rw (add-one i, cells-last cell i) (appended-then (h .appended) (appended-cell s′ to (cell + i) (running-inside l)));
+    few = omega arith;
+  }
 
   pub running-end : n ≤ i → (vs : Values) → count vs ≡ n → codes vs ≡ cellsFrom cell n → Made top s (setAt s′ top (21474836480 + n)) (set vs) to
   running-end l vs e q =
-      let g = rw (no-cells (cell + i) (n - i) (omega arith)) at (h .grown) in
-      let w : Appended s (top + 1) s′ to (codes vs) = rw q (grown-end g) in
-      made-set _ _ _ _ _ _ w (sym e) (omega (arith, h .given .room)) (omega (arith, h .given .few, length-codes vs, ap length q, length-cells cell n))
+      let z : cellsFrom cell i ≡ codes vs = ap (cellsFrom cell) (let z : i ≡ n = omega (arith, h .few) in z) ∙ sym q in
+      made-set _ _ _ _ _ _ (rw z at (h .appended)) (sym e) (omega (arith, h .given .room))
+      (omega (arith, h .given .few, length-codes vs, ap length q, length-cells cell n))

@@ -2,8 +2,8 @@
 -- place on is moved up, the last cell first (`Shifting`), and the value is copied into the gap (`inserts-put`).
 use Prim.Native.Nat.{ℕ, _+_, _-_, _≤_, _<_}
 use mathlib.Core.Bool.{Bool, true, false, cond}
-use mathlib.Core.List.{List, [], _∷_, _++_, append-assoc, append-nil}
-use mathlib.Core.Logic.{_≢_, _↔_}
+use mathlib.Core.List.{List, [], _∷_, _++_, append-nil}
+use mathlib.Core.Logic.{_↔_}
 use mathlib.Core.Path.{_≡_, refl, sym, ap, _∙_, subst}
 use native.Mathlib.Omega.{arith}
 use native.Mathlib.Decide.{ℕ-discrete}
@@ -13,17 +13,16 @@ use lib.ListN.{length, getD, set as setAt, length-set}
 use lib.Seq.{getD-set-same, getD-set-other}
 use Rattle.rules.specs.Values.{Value, values, count, weight, weights, order}
 use Rattle.rules.specs.Operations.{insert, rising}
-use Rattle.laws.proofs.OrderLaws.{Small}
-use Rattle.laws.proofs.SetOrder.{Rising, all-imp, insert-all}
+use Rattle.laws.proofs.SetOrder.{Rising, insert-all}
 use Rattle.laws.proofs.CellsLaws.{weight-some}
 use Rattle.arena.specs.Code.{code, codes, Stands, ValueAt, Same, CellsFit, SomeAt, EndsAt, Compared, Copied, ValueBelow}
 use Rattle.arena.proofs.CodeLaws.{length-code, length-codes, fits-small}
 use Rattle.arena.proofs.Standing.{stands-front, stands-back, stands-append, stands-frame, same-refl, same-trans, copied-stands}
 use Rattle.arena.proofs.FrontLaws.{codes-append, count-append, weights-append, code-greater}
-use Rattle.products.specs.Parts.{Members, lastOf, LastAt, Built, Placed, FindPre, InsertPre, Places, movedLast}
+use Rattle.products.specs.Parts.{Members, lastOf, LastAt, Built, Placed, FindPre, InsertPre, movedLast}
 use Rattle.products.specs.declared.Out.{Out}
 use Rattle.products.specs.declared.Place.{Place}
-use Rattle.products.proofs.PartLaws.{insert-next, insert-here, insert-none, last-append, last-weighs, insert-last}
+use Rattle.products.proofs.PartLaws.{insert-next, insert-here, insert-none, last-append, last-split, insert-last}
 
 -- `shift`: of m cells those from `left` on have been moved up by n.
 pub record Shifting (s₀ : List ℕ) (from m n : ℕ) (s : List ℕ) (left : ℕ) : Type 0 where
@@ -68,113 +67,82 @@ module _ {s : List ℕ} {i to : ℕ} {z : Value} {zs : List Value} (h : Members 
     ends = omega (arith, h .ends);
   }
 
--- `find`: the members lo have been passed.
-pub record Finding (s : List ℕ) (v : Value) (from to : ℕ) (zs : List Value) (i : ℕ) : Type 0 where
-  pub lo : List Value
-  pub hi : List Value
-  pub all : zs ≡ lo ++ hi
-  pub at : i ≡ from + weights (values lo)
+-- `find`: hi is what is left of the members; where the value is placed among them, it is placed among all.
+pub record Finding {s : List ℕ} {p end from to : ℕ} (g : FindPre s p end from to) (i : ℕ) (hi : List Value) : Type 0 where
   pub rest : Members s i to hi
-  pub inserted : insert v zs ≡ lo ++ insert v hi
+  pub leads : (r : Place) → Placed (g .value) i hi r → Placed (g .value) from (g .others) r
 
-module _ {s : List ℕ} {v : Value} {from to : ℕ} {zs : List Value} {i : ℕ} (h : Finding s v from to zs i) where
-  -- The members hi follow those that have been passed.
-  abbrev Follow : List Value → Type 0
-  Follow hi = (zs ≡ h .lo ++ hi) × Members s i to hi × (insert v zs ≡ h .lo ++ insert v hi)
+module _ {s : List ℕ} {p end from to : ℕ} (g : FindPre s p end from to) {i : ℕ} where
+  pub finding-end : (hi : List Value) × Finding g i hi → to ≤ i → Placed (g .value) from (g .others) (record { at = to; equal = false })
+  finding-end ([], h) l = h .leads _ (record { lo = []; hi = []; all = refl; at = omega (arith, h .rest .ends); inserted = insert-none (g .value) })
+  finding-end (z ∷ hi, h) l = absurd (omega (arith, h .rest .ends, weight-some z))
 
-  pub finding-end : to ≤ i → Placed v from zs (record { at = to; equal = false })
-  finding-end l = go (h .hi) (h .all, h .rest, h .inserted)
-    where
-      go : (hi : List Value) → Follow hi → Placed v from zs (record { at = to; equal = false })
-      go [] (a, m, e) =
-          record { lo = h .lo; hi = []; all = a; at = omega (arith, h .at, m .ends); inserted = e ∙ ap (λ (l : List Value). h .lo ++ l) (insert-none v) }
-      go (z ∷ hi) (a, m, e) = absurd (omega (arith, m .ends, weight-some z))
+  pub finding-some : (hi : List Value) × Finding g i hi → i < to → SomeAt s i
+  finding-some ([], h) l = absurd (omega (arith, h .rest .ends))
+  finding-some (z ∷ hi, h) l = record { value = z; stands = members-first (h .rest); fits = h .rest .fits .0 }
 
-  module _ (l : i < to) where
-    -- What is shown where a member follows is shown.
-    finding-by : (P : Type 0) → ((z : Value) (hi : List Value) → Follow (z ∷ hi) → P) → P
-    finding-by P f = go (h .hi) (h .all, h .rest, h .inserted)
-      where
-        go : (hi : List Value) → Follow hi → P
-        go [] (a, m, e) = absurd (omega (arith, m .ends))
-        go (z ∷ hi) q = f z hi q
+  pub finding-on : (hi : List Value) × Finding g i hi → i < to → (e : ℕ) → EndsAt s i e → i < e
+  finding-on ([], h) l e ends = absurd (omega (arith, h .rest .ends))
+  finding-on (z ∷ hi, h) l e ends = omega (arith, ends z (members-first (h .rest)) (h .rest .fits .0), weight-some z)
 
-    pub finding-some : SomeAt s i
-    finding-some = finding-by (SomeAt s i) λ z hi q. record { value = z; stands = members-first (q .1); fits = q .1 .fits .0 }
+  module _ (c : ℕ) (compared : Compared s p i c) where
+    pub finding-here : (hi : List Value) × Finding g i hi → i < to → c < 2 → Placed (g .value) from (g .others) (record { at = i; equal = eqb c 1 })
+    finding-here ([], h) l k = absurd (omega (arith, h .rest .ends))
+    finding-here (z ∷ hi, h) l k =
+        let o = compared (g .value) z (g .below .stands) (members-first (h .rest)) (g .below .fits) (h .rest .fits .0) in
+        h .leads _ (record { lo = []; hi = z ∷ hi; all = refl; at = omega arith; inserted = insert-here (g .value) z hi c o k })
 
-    pub finding-on : (e : ℕ) → EndsAt s i e → i < e
-    finding-on e ends = finding-by (i < e) λ z hi q. omega (arith, ends z (members-first (q .1)) (q .1 .fits .0), weight-some z)
-
-    module _ {p : ℕ} (c : ℕ) (value : ValueAt s p v) (fits : CellsFit v) (compared : Compared s p i c) where
-      pub finding-here : c < 2 → Placed v from zs (record { at = i; equal = eqb c 1 })
-      finding-here k = finding-by (Placed v from zs (record { at = i; equal = eqb c 1 })) λ z hi q.
-          let o = compared v z value (members-first (q .1)) fits (q .1 .fits .0) in
-          record { lo = h .lo; hi = z ∷ hi; all = q .0; at = h .at; inserted = q .2 ∙ ap (λ (x : List Value). h .lo ++ x) (insert-here v z hi c o k) }
-
-      pub finding-next : 2 ≤ c → (e : ℕ) → EndsAt s i e → Finding s v from to zs e
-      finding-next k e ends = finding-by (Finding s v from to zs e) λ z hi q.
-          let m = q .1 in
-          let x = members-first m in
-          let o = compared v z value x fits (m .fits .0) in
-          let g = code-greater (order v z) c o (λ f. omega arith) (λ f. omega arith) in
-          let w : e ≡ i + weight z = ends z x (m .fits .0) in
-          record {
-            lo = h .lo ++ (z ∷ []);
-            hi = hi;
-            all = q .0 ∙ sym (append-assoc (h .lo) (z ∷ []) hi);
-            at = omega (arith, h .at, weights-append (h .lo) (z ∷ []));
-            rest = members-next m e w;
-            inserted = q .2 ∙ ap (λ (l : List Value). h .lo ++ l) (insert-next v z hi g) ∙ sym (append-assoc (h .lo) (z ∷ []) (insert v hi));
-          }
+    pub finding-next : (hi : List Value) × Finding g i hi → i < to → 2 ≤ c → (e : ℕ) → EndsAt s i e → (ys : List Value) × Finding g e ys
+    finding-next ([], h) l k e ends = absurd (omega (arith, h .rest .ends))
+    finding-next (z ∷ hi, h) l k e ends =
+        let m = h .rest in
+        let x = members-first m in
+        let o = compared (g .value) z (g .below .stands) x (g .below .fits) (m .fits .0) in
+        let greater = code-greater (order (g .value) z) c o (λ f. omega arith) (λ f. omega arith) in
+        let placed : (r : Place) → Placed (g .value) e hi r → Placed (g .value) i (z ∷ hi) r = λ r d. record {
+          lo = z ∷ d .lo;
+          hi = d .hi;
+          all = ap (λ (l : List Value). z ∷ l) (d .all);
+          at = omega (arith, d .at, ends z x (m .fits .0));
+          inserted = insert-next (g .value) z hi greater ∙ ap (λ (l : List Value). z ∷ l) (d .inserted);
+        } in
+        (hi, record { rest = members-next m e (ends z x (m .fits .0)); leads = λ r d. h .leads r (placed r d) })
 
 -- `place_for`: the last member stands before the end.
-is-one : (b : Bool) (c : ℕ) → (b ≡ true → c ≡ 1) → (b ≡ false → c ≢ 1) → b ≡ eqb c 1
-is-one true c f g = sym (eq-eqb c 1 (f refl))
-is-one false c f g = sym (ne-eqb c 1 (g refl))
-
 last-stands : (s : List ℕ) (i to : ℕ) (z : Value) (zs : List Value) (last : ℕ) → Members s i to (z ∷ zs) → LastAt last to (z ∷ zs) →
     ValueAt s last (lastOf z zs) × CellsFit (lastOf z zs)
 last-stands s i to z [] last h l =
     (subst (λ (j : ℕ). ValueAt s j z) (let e : i ≡ last = omega (arith, h .ends) in e) (members-first h), h .fits .0)
 last-stands s i to z (y ∷ ys) last h l = last-stands s (i + weight z) to y ys last (members-next h (i + weight z) refl) l
 
-module _ {s : List ℕ} {p from : ℕ} {o : Out} {v : Value} {zs : List Value} (below : ValueBelow s from p v) (h : Built s from o zs) where
-  pub place-none : o .last ≡ 0 → Placed v from zs (record { at = o .to; equal = false })
-  place-none e = go zs (h .members) (h .last)
-    where
-      go : (ys : List Value) → Members s from (o .to) ys → LastAt (o .last) (o .to) ys → Placed v from ys (record { at = o .to; equal = false })
-      go [] m l = record { lo = []; hi = []; all = refl; at = m .ends; inserted = insert-none v }
-      go (y ∷ ys) m l = absurd (omega (arith, m .ends, last-weighs y ys, below .below, weight-some v))
+last-low : (zs : List Value) {last to : ℕ} → LastAt last to zs → last ≤ to
+last-low [] l = omega arith
+last-low (z ∷ zs) l = omega arith
 
-  module _ (n : o .last ≡ 0 → ⊥) where
-    pub place-some : SomeAt s (o .last)
-    place-some = go zs (h .members) (h .last)
-      where
-        go : (ys : List Value) → Members s from (o .to) ys → LastAt (o .last) (o .to) ys → SomeAt s (o .last)
-        go [] m l = absurd (n l)
-        go (y ∷ ys) m l = let x = last-stands s from (o .to) y ys (o .last) m l in record { value = lastOf y ys; stands = x .0; fits = x .1 }
+module _ {s : List ℕ} {p from : ℕ} {o : Out} {v : Value} (below : ValueBelow s from p v) where
+  pub place-none : (zs : List Value) → Built s from o zs → o .last ≡ 0 → Placed v from zs (record { at = o .to; equal = false })
+  place-none [] h e = record { lo = []; hi = []; all = refl; at = h .members .ends; inserted = insert-none v }
+  place-none (z ∷ zs) h e =
+      let d = last-split z zs in
+      let w = ap (λ (l : List Value). weights (values l)) (d .1) ∙ weights-append (d .0) (lastOf z zs ∷ []) in
+      absurd (omega (arith, h .last, h .members .ends, below .below, weight-some v))
 
-    pub place-last : Rising zs → (c : ℕ) → Compared s p (o .last) c → 0 < c → (b : Bool) → (b ≡ true → c ≡ 1) → (b ≡ false → c ≢ 1) →
-        Placed v from zs (record { at = o .to; equal = b })
-    place-last r c k g b f f′ = go zs (h .members) (h .last) r
-      where
-        go : (ys : List Value) → Members s from (o .to) ys → LastAt (o .last) (o .to) ys → Rising ys → Placed v from ys (record { at = o .to; equal = b })
-        go [] m l r = absurd (n l)
-        go (y ∷ ys) m l r =
-            let x = last-stands s from (o .to) y ys (o .last) m l in
-            let small = all-imp CellsFit Small (λ z f. fits-small z f) (y ∷ ys) (m .fits) in
-            let d = insert-last v y ys r (fits-small v (below .fits)) small c (k v (lastOf y ys) (below .stands) (x .0) (below .fits) (x .1)) g in
-            record { lo = y ∷ ys; hi = []; all = sym (append-nil (y ∷ ys)); at = m .ends; inserted = rw (is-one b c f f′) d }
+  pub place-some : (zs : List Value) → Built s from o zs → (o .last ≡ 0 → ⊥) → SomeAt s (o .last)
+  place-some [] h n = absurd (n (h .last))
+  place-some (z ∷ zs) h n =
+      let x = last-stands s from (o .to) z zs (o .last) (h .members) (h .last) in record { value = lastOf z zs; stands = x .0; fits = x .1 }
 
-pub place-find : (s : List ℕ) (p end from : ℕ) (o : Out) → InsertPre s p end from o → FindPre s p end from (o .to)
-place-find s p end from o h = record {
-  value = h .value;
-  stands = h .below .stands;
-  fits = h .below .fits;
-  ends = h .ends;
-  others = rising (h .others);
-  members = h .built .members;
-}
+  pub place-last : (zs : List Value) → Built s from o zs → (o .last ≡ 0 → ⊥) → Rising zs → (c : ℕ) → Compared s p (o .last) c → 0 < c →
+      Placed v from zs (record { at = o .to; equal = eqb c 1 })
+  place-last [] h n r c k g = absurd (n (h .last))
+  place-last (z ∷ zs) h n r c k g =
+      let x = last-stands s from (o .to) z zs (o .last) (h .members) (h .last) in
+      let order-is = k v (lastOf z zs) (below .stands) (x .0) (below .fits) (x .1) in
+      let d = insert-last v z zs r (fits-small v (below .fits)) (fits-small (lastOf z zs) (x .1)) c order-is g in
+      record { lo = z ∷ zs; hi = []; all = sym (append-nil (z ∷ zs)); at = h .members .ends; inserted = d }
+
+abbrev pub place-find : {s : List ℕ} {p end from : ℕ} {o : Out} → InsertPre s p end from o → FindPre s p end from (o .to)
+place-find h = record { value = h .value; below = h .below; ends = h .ends; others = rising (h .others); members = h .built .members }
 
 -- `insert`: the last member after one more has been put.
 last-behind : (last to : ℕ) (lo : List Value) (h : Value) (hs : List Value) → LastAt last to (lo ++ (h ∷ hs)) ↔ (last + weight (lastOf h hs) ≡ to)
@@ -213,54 +181,60 @@ module _ {s s₁ s₂ : List ℕ} {p at n m : ℕ} (shifted : Copied s at m (at 
       let back : Stands s₂ at (xs ++ hi) = stands-append s₂ at xs hi middle (rw (← size) at up) in
       stands-append s₂ from lo (xs ++ hi) low (rw place at back)
 
-module _ {s : List ℕ} {p from : ℕ} {o : Out} {v : Value} {zs : List Value} (below : ValueBelow s from p v) (h : Built s from o zs) {q : Place}
-    (d : Placed v from zs q) where
+module _ {s : List ℕ} {p end from : ℕ} {o : Out} (g : InsertPre s p end from o) {q : Place} (d : Placed (g .value) from (rising (g .others)) q) where
+  abbrev zs : List Value
+  zs = rising (g .others)
+
+  abbrev v : Value
+  v = g .value
+
   pub inserts-none : q .equal ≡ true → Same from s s × Built s from o (insert v zs)
   inserts-none e =
       let z : insert v zs ≡ zs = d .inserted ∙ ap (λ (b : Bool). d .lo ++ cond b (d .hi) (v ∷ d .hi)) e ∙ sym (d .all) in
-      (same-refl from s, subst (λ (l : List Value). Built s from o l) (sym z) h)
+      (same-refl from s, subst (λ (l : List Value). Built s from o l) (sym z) (g .built))
 
-  -- where the place is, and how much follows it
-  place-near : (from ≤ q .at) × (o .to ≡ q .at + weights (values (d .hi)))
-  place-near =
-      (omega (arith, d .at), omega (arith, d .at, h .members .ends, ap (λ (l : List Value). weights (values l)) (d .all), weights-append (d .lo) (d .hi)))
+  -- where the value ends; where the place is, and how much follows it
+  ends-here : end ≡ p + weight v
+  ends-here = g .ends v (g .below .stands) (g .below .fits)
 
-  last-near : o .last ≤ o .to
-  last-near = go zs (h .last)
-    where
-      go : (ys : List Value) → LastAt (o .last) (o .to) ys → o .last ≤ o .to
-      go [] l = omega arith
-      go (y ∷ ys) l = omega arith
+  follows : o .to ≡ q .at + weights (values (d .hi))
+  follows = omega (arith, d .at, g .built .members .ends, ap (λ (l : List Value). weights (values l)) (d .all), weights-append (d .lo) (d .hi))
 
-  module _ {n : ℕ} (weighs : n ≡ weight v) (room : o .to + n ≤ length s) {s₁ s₂ : List ℕ}
-      (shifted : Copied s (q .at) (o .to - q .at) (q .at + n) s₁) (copied : Copied s₁ p n (q .at) s₂) where
+  pub insert-near : (p ≤ end) × (end ≤ q .at) × (q .at ≤ o .to) × (o .to + (end - p) ≤ length s) × (o .last ≤ o .to)
+  insert-near =
+      let e = ends-here in
+      (omega arith, omega (arith, g .below .below, d .at), omega (arith, follows), omega (arith, g .room), last-low zs (g .built .last))
+
+  module _ {s₁ s₂ : List ℕ} (shifted : Copied s (q .at) (o .to - q .at) (q .at + (end - p)) s₁) (copied : Copied s₁ p (end - p) (q .at) s₂) where
     -- the codes of the members before the place, of the value, and of the members behind it
     put-stands : Stands s₂ from (codes (values (d .lo ++ (v ∷ d .hi))))
     unfolding code
     put-stands =
-        let z = place-near in
         let e = ap (λ (l : List Value). codes (values l)) (d .all) ∙ codes-append (d .lo) (d .hi) in
         let w = length-codes (values (d .lo)) in
+        let y = ends-here in
         rw (codes-append (d .lo) (v ∷ d .hi))
-        (gap-stands shifted copied from (codes (values (d .lo))) (code v) (codes (values (d .hi))) (omega (arith, d .at)) (length-code v ∙ sym weighs)
-        (omega (arith, z .1, length-codes (values (d .hi)))) (omega (arith, z .1)) (omega (arith, below .below)) (below .stands) (rw e at (h .members .stands)))
+        (gap-stands shifted copied from (codes (values (d .lo))) (code v) (codes (values (d .hi))) (omega (arith, d .at)) (omega (arith, length-code v))
+        (omega (arith, follows, length-codes (values (d .hi)))) (omega (arith, follows, g .room)) (omega (arith, g .below .below)) (g .below .stands)
+        (rw e at (g .built .members .stands)))
 
-    pub inserts-put : q .equal ≡ false → (last : ℕ) → last ≡ movedLast (q .at) (o .to) (o .last) n →
-        Same from s s₂ × Built s₂ from (record { last = last; to = o .to + n; count = o .count + 1 }) (insert v zs)
+    pub inserts-put : q .equal ≡ false → (last : ℕ) → last ≡ movedLast (q .at) (o .to) (o .last) (end - p) →
+        Same from s s₂ × Built s₂ from (record { last = last; to = o .to + (end - p); count = o .count + 1 }) (insert v zs)
     inserts-put e last f =
+        let b = g .built in
         let ins : insert v zs ≡ d .lo ++ (v ∷ d .hi) = d .inserted ∙ ap (λ (b : Bool). d .lo ++ cond b (d .hi) (v ∷ d .hi)) e in
-        let z = place-near in (
-          gap-same shifted copied from (z .0),
+        let y : end - p ≡ weight v = omega (arith, ends-here) in (
+          gap-same shifted copied from (omega (arith, d .at)),
           record {
             members = record {
               stands = rw ins put-stands;
-              fits = insert-all CellsFit v zs (below .fits) (h .members .fits);
-              ends = omega (arith, z .1, d .at, ap (λ (l : List Value). weights (values l)) ins, weights-append (d .lo) (v ∷ d .hi));
+              fits = insert-all CellsFit v zs (g .below .fits) (b .members .fits);
+              ends = omega (arith, follows, d .at, ap (λ (l : List Value). weights (values l)) ins, weights-append (d .lo) (v ∷ d .hi));
             };
-            last = rw (ins, f) (last-moved o (q .at) n v (d .lo) (d .hi) (rw (d .all) at (h .last)) (z .1) weighs);
+            last = rw (ins, f) (last-moved o (q .at) (end - p) v (d .lo) (d .hi) (rw (d .all) at (b .last)) follows y);
             counted = omega (
               arith,
-              h .counted,
+              b .counted,
               ap (λ (l : List Value). count (values l)) ins,
               ap (λ (l : List Value). count (values l)) (d .all),
               count-append (d .lo) (d .hi),
@@ -268,24 +242,3 @@ module _ {s : List ℕ} {p from : ℕ} {o : Out} {v : Value} {zs : List Value} (
             );
           },
         )
-
--- Where the place is, between the value and the end of what has been built, and that there is room.
-pub record Near (s : List ℕ) (p end : ℕ) (o : Out) (at : ℕ) : Type 0 where
-  pub forward : p ≤ end
-  pub behind : end ≤ at
-  pub inside : at ≤ o .to
-  pub room : o .to + (end - p) ≤ length s
-  pub last : o .last ≤ o .to
-
-pub insert-near : (s : List ℕ) (p end from : ℕ) (o : Out) (q : Place) → InsertPre s p end from o → Places s p from o q → Near s p end o (q .at)
-insert-near s p end from o q h places =
-    let d = places (h .value) (h .others) (h .below) (h .built) in
-    let e = h .ends (h .value) (h .below .stands) (h .below .fits) in
-    let z = place-near (h .below) (h .built) d in
-    record {
-      forward = omega arith;
-      behind = omega (arith, h .below .below, z .0);
-      inside = omega (arith, z .1);
-      room = omega (arith, h .room);
-      last = last-near (h .below) (h .built) d;
-    }

@@ -1,49 +1,31 @@
 -- Lists of parts. `insert` passes the members that are less than its value (`insert-behind`), so the first that is not less decides, and where
--- none is greater than the last member, that one does (`insert-last`). `rising` of a list with one value more behind it is `insert` of that
--- value, since both rise and have the same members (`rising-last`).
+-- the value is not less than the last member, that one does (`insert-last`). `rising` does not mind the order of a list (`rising-onto`).
 use Prim.Native.Nat.{ℕ, _+_, _≤_, _<_, Ordering, Ordering·lt, Ordering·eq, Ordering·gt}
-use mathlib.Core.Bool.{Bool, true, false, cond}
-use mathlib.Core.List.{List, [], _∷_, _++_, append-nil, map}
+use mathlib.Core.Bool.{cond}
+use mathlib.Core.List.{List, [], _∷_, _++_, append-assoc}
 use mathlib.Core.Logic.{inl, inr}
-use mathlib.Core.Path.{_≡_, refl, sym, ap, _∙_}
+use mathlib.Core.Path.{_≡_, refl, sym, ap, _∙_, subst}
 use native.Mathlib.Omega.{arith}
 use lib.Dec.{eqb}
-use Rattle.rules.specs.Values.{Value, scalar, pair, set, values, weight, weights, order}
+use Rattle.rules.specs.Values.{Value, values, weight, weights, order}
 use Rattle.rules.specs.Operations.{placed, insert, rising}
-use Rattle.laws.proofs.OrderLaws.{flip, Small, order-flip, order-eq, order-refl, before-order, order-before, before-trans}
-use Rattle.laws.proofs.SetOrder.{All, Before, Rising, all-append, rising-rising}
-use Rattle.laws.proofs.Membership.{In, in-all, all-in, in-left, in-right, in-rising, rising-in, same-members}
+use Rattle.laws.proofs.OrderLaws.{flip, Small, order-flip, order-eq, before-order, order-before, before-trans}
+use Rattle.laws.proofs.SetOrder.{All, Before, Rising, all-imp, rising-all, rising-rising}
+use Rattle.laws.proofs.Membership.{In, all-in, all-self, in-right, in-rising, same-members}
 use Rattle.arena.specs.Code.{orderCode}
-use Rattle.products.specs.Parts.{part, lastOf}
+use Rattle.products.specs.Parts.{lastOf}
 
--- The weight of a rising list, and of the parts of values.
+-- The weight of a list with one value more.
 placed-weighs : (o : Ordering) (v w : Value) (ws r : List Value) → weights (values r) ≤ weight v + weights (values ws) →
     weights (values (placed o v w ws r)) ≤ weight v + (weight w + weights (values ws))
 placed-weighs Ordering·lt v w ws r h = omega arith
 placed-weighs Ordering·eq v w ws r h = omega arith
 placed-weighs Ordering·gt v w ws r h = omega arith
 
-insert-weighs : (v : Value) (ws : List Value) → weights (values (insert v ws)) ≤ weight v + weights (values ws)
+pub insert-weighs : (v : Value) (ws : List Value) → weights (values (insert v ws)) ≤ weight v + weights (values ws)
 unfolding insert
 insert-weighs v [] = omega arith
 insert-weighs v (w ∷ ws) = placed-weighs (order v w) v w ws (insert v ws) (insert-weighs v ws)
-
-pub rising-weighs : (vs : List Value) → weights (values (rising vs)) ≤ weights (values vs)
-unfolding rising
-rising-weighs [] = omega arith
-rising-weighs (v ∷ vs) = omega (arith, insert-weighs v (rising vs), rising-weighs vs)
-
-part-weighs : (b : Bool) (v : Value) → weight (part b v) ≤ weight v
-part-weighs false (scalar x) = omega arith
-part-weighs false (pair v w) = omega arith
-part-weighs false (set ms) = omega arith
-part-weighs true (scalar x) = omega arith
-part-weighs true (pair v w) = omega arith
-part-weighs true (set ms) = omega arith
-
-pub parts-weigh : (b : Bool) (vs : List Value) → weights (values (map (part b) vs)) ≤ weights (values vs)
-parts-weigh b [] = omega arith
-parts-weigh b (v ∷ vs) = omega (arith, part-weighs b v, parts-weigh b vs)
 
 -- `insert` where the first member decides.
 module _ (v w : Value) (ws : List Value) where
@@ -64,70 +46,65 @@ pub insert-none : (v : Value) → insert v [] ≡ v ∷ []
 unfolding insert
 insert-none v = refl
 
--- v is greater than each of a list.
-abbrev Above : Value → List Value → Type 0
-Above v zs = All (λ z. order v z ≡ Ordering·gt) zs
+-- x is the last of a rising list: what is greater than all that x is greater than goes behind those before x.
+insert-behind : (v x : Value) (lo : List Value) → ((y : Value) → Before y x → Before y v) → Rising (lo ++ (x ∷ [])) →
+    insert v (lo ++ (x ∷ [])) ≡ lo ++ insert v (x ∷ [])
+insert-behind v x [] f r = refl
+insert-behind v x (y ∷ lo) f r =
+    let b = f y (all-in (Before y) x (lo ++ (x ∷ [])) (r .0) (in-right x lo (x ∷ []) (inl refl))) in
+    insert-next v y (lo ++ (x ∷ [])) (order-flip y v ∙ ap flip (before-order y v b)) ∙ ap (λ (l : List Value). y ∷ l) (insert-behind v x lo f (r .1))
 
-insert-behind : (v : Value) (lo hi : List Value) → Above v lo → insert v (lo ++ hi) ≡ lo ++ insert v hi
-insert-behind v [] hi h = refl
-insert-behind v (z ∷ lo) hi h = insert-next v z (lo ++ hi) (h .0) ∙ ap (λ (l : List Value). z ∷ l) (insert-behind v lo hi (h .1))
+insert-end : (v x : Value) (lo : List Value) → Rising (lo ++ (x ∷ [])) → Small v → Small x → (c : ℕ) → c ≡ orderCode (order v x) → 0 < c →
+    insert v (lo ++ (x ∷ [])) ≡ (lo ++ (x ∷ [])) ++ cond (eqb c 1) [] (v ∷ [])
+unfolding insert
+insert-end v x lo r p q c e l = rw (append-assoc, e) (go (order v x) refl e)
+  where
+    go : (o : Ordering) → order v x ≡ o → c ≡ orderCode o → insert v (lo ++ (x ∷ [])) ≡ lo ++ (x ∷ cond (eqb (orderCode o) 1) [] (v ∷ []))
+    go Ordering·lt d k = absurd (omega arith)
+    go Ordering·eq d k = insert-behind v x lo (λ y b. subst (Before y) (sym (order-eq v x p q d)) b) r ∙ rw d
+    go Ordering·gt d k = insert-behind v x lo (λ y b. before-trans y x v b (order-before x v (order-flip v x ∙ ap flip d))) r ∙ rw d
 
 -- The last member.
 pub last-append : (z : Value) (lo : List Value) (h : Value) (hs : List Value) → lastOf z (lo ++ (h ∷ hs)) ≡ lastOf h hs
 last-append z [] h hs = refl
 last-append z (y ∷ lo) h hs = last-append y lo h hs
 
-pub last-weighs : (z : Value) (zs : List Value) → weight (lastOf z zs) ≤ weights (values (z ∷ zs))
-last-weighs z [] = omega arith
-last-weighs z (y ∷ ys) = omega (arith, last-weighs y ys)
+pub last-split : (z : Value) (zs : List Value) → (lo : List Value) × (z ∷ zs ≡ lo ++ (lastOf z zs ∷ []))
+last-split z [] = ([], refl)
+last-split z (y ∷ ys) = let r = last-split y ys in (z ∷ r .0, ap (λ (l : List Value). z ∷ l) (r .1))
 
-last-in : (z : Value) (zs : List Value) → In (lastOf z zs) (z ∷ zs)
-last-in z [] = inl refl
-last-in z (y ∷ ys) = inr (last-in y ys)
+pub insert-last : (v z : Value) (zs : List Value) → Rising (z ∷ zs) → Small v → Small (lastOf z zs) → (c : ℕ) → c ≡ orderCode (order v (lastOf z zs)) →
+    0 < c → insert v (z ∷ zs) ≡ (z ∷ zs) ++ cond (eqb c 1) [] (v ∷ [])
+insert-last v z zs r p q c e l =
+    let d = last-split z zs in
+    subst (λ (ys : List Value). insert v ys ≡ ys ++ cond (eqb c 1) [] (v ∷ [])) (sym (d .1))
+    (insert-end v (lastOf z zs) (d .0) (subst Rising (d .1) r) p q c e l)
 
-before-greater : (z v : Value) → Before z v → order v z ≡ Ordering·gt
-before-greater z v h = order-flip z v ∙ ap flip (before-order z v h)
+-- The values xs put before ys one by one.
+unfoldable pub onto : List Value → List Value → List Value
+onto [] ys = ys
+onto (x ∷ xs) ys = onto xs (x ∷ ys)
 
--- Where v is greater than the last, it is greater than all; where it is the last, it is greater than those before it.
-above-all : (v z : Value) (zs : List Value) → Rising (z ∷ zs) → order v (lastOf z zs) ≡ Ordering·gt → Above v (z ∷ zs)
-above-all v z [] r e = (e, tt)
-above-all v z (y ∷ ys) r e =
-    let h = above-all v y ys (r .1) e in
-    (before-greater z v (before-trans z y v (r .0 .0) (order-before y v (order-flip v y ∙ ap flip (h .0)))), h)
+onto-all : (P : Value → Type 0) (xs ys : List Value) → All P xs → All P ys → All P (onto xs ys)
+unfolding onto
+onto-all P [] ys h k = k
+onto-all P (x ∷ xs) ys h k = onto-all P xs (x ∷ ys) (h .1) (h .0, k)
 
-insert-above : (v z : Value) (zs : List Value) → Rising (z ∷ zs) → order v (lastOf z zs) ≡ Ordering·gt → insert v (z ∷ zs) ≡ (z ∷ zs) ++ (v ∷ [])
-insert-above v z zs r e =
-    ap (insert v) (sym (append-nil (z ∷ zs))) ∙ insert-behind v (z ∷ zs) [] (above-all v z zs r e) ∙ ap (λ l. (z ∷ zs) ++ l) (insert-none v)
+in-onto : (x : Value) (xs ys : List Value) → In x ys → In x (onto xs ys)
+unfolding onto
+in-onto x [] ys i = i
+in-onto x (z ∷ xs) ys i = in-onto x xs (z ∷ ys) (inr i)
 
-insert-again : (z : Value) (zs : List Value) → Rising (z ∷ zs) → insert (lastOf z zs) (z ∷ zs) ≡ z ∷ zs
-unfolding insert
-insert-again z [] r = rw (order-refl z)
-insert-again z (y ∷ ys) r =
-    insert-next (lastOf y ys) z (y ∷ ys) (before-greater z (lastOf y ys) (all-in (Before z) (lastOf y ys) (y ∷ ys) (r .0) (last-in y ys)))
-    ∙ ap (λ (l : List Value). z ∷ l) (insert-again y ys (r .1))
+onto-in : (xs ys : List Value) → All (λ x. In x (onto xs ys)) xs
+unfolding onto
+onto-in [] ys = tt
+onto-in (x ∷ xs) ys = (in-onto x xs (x ∷ ys) (inl refl), onto-in xs (x ∷ ys))
 
-module _ (v z : Value) (zs : List Value) (r : Rising (z ∷ zs)) (small : Small v) (smalls : All Small (z ∷ zs)) where
-  pub insert-last : (c : ℕ) → c ≡ orderCode (order v (lastOf z zs)) → 0 < c → insert v (z ∷ zs) ≡ (z ∷ zs) ++ cond (eqb c 1) [] (v ∷ [])
-  insert-last c e l = rw e (go (order v (lastOf z zs)) refl e)
-    where
-      go : (o : Ordering) → order v (lastOf z zs) ≡ o → c ≡ orderCode o → insert v (z ∷ zs) ≡ (z ∷ zs) ++ cond (eqb (orderCode o) 1) [] (v ∷ [])
-      go Ordering·lt q k = absurd (omega arith)
-      go Ordering·eq q k =
-          let d = order-eq v (lastOf z zs) small (all-in Small (lastOf z zs) (z ∷ zs) smalls (last-in z zs)) q in
-          ap (λ (x : Value). insert x (z ∷ zs)) d ∙ insert-again z zs r ∙ sym (append-nil (z ∷ zs))
-      go Ordering·gt q k = insert-above v z zs r q
-
--- Lists with the same members have the same rising list; so it does not matter whether a value comes first or last.
-rising-same : (xs ys : List Value) → All Small xs → All Small ys → All (λ x. In x ys) xs → All (λ y. In y xs) ys → rising xs ≡ rising ys
-rising-same xs ys h k a b =
-    same-members (rising xs) (rising ys) (rising-rising xs) (rising-rising ys) (into xs ys k a) (into ys xs h b)
+-- Both have the same members.
+pub rising-onto : (xs : List Value) → All Small xs → rising (onto xs []) ≡ rising xs
+rising-onto xs h =
+    same-members (rising (onto xs [])) (rising xs) (rising-rising (onto xs [])) (rising-rising xs)
+    (into (onto xs []) xs h (onto-all (λ x. In x xs) xs [] (all-self xs) tt)) (into xs (onto xs []) (onto-all Small xs [] h tt) (onto-in xs []))
   where
     into : (us ws : List Value) → All Small ws → All (λ x. In x ws) us → All (λ x. In x (rising ws)) (rising us)
-    into us ws m c = in-all (λ x. In x (rising ws)) (rising us) (λ x i. in-rising x ws m (all-in (λ z. In z ws) x us c (rising-in x us i)))
-
-pub rising-last : (xs : List Value) (x : Value) → All Small xs → Small x → rising (xs ++ (x ∷ [])) ≡ insert x (rising xs)
-unfolding rising
-rising-last xs x h k =
-    rising-same (xs ++ (x ∷ [])) (x ∷ xs) (all-append Small xs (x ∷ []) h (k, tt)) (k, h)
-    (all-append (λ z. In z (x ∷ xs)) xs (x ∷ []) (in-all (λ z. In z (x ∷ xs)) xs (λ z i. inr i)) (inl refl, tt))
-    (in-right x xs (x ∷ []) (inl refl), in-all (λ z. In z (xs ++ (x ∷ []))) xs (λ z i. in-left z xs (x ∷ []) i))
+    into us ws m c = rising-all (λ x. In x (rising ws)) us (all-imp (λ x. In x ws) (λ x. In x (rising ws)) (λ x i. in-rising x ws m i) us c)

@@ -12,26 +12,23 @@ use Rattle.arena.specs.Code.{excess, code, codes, CellsFit, Made}
 use Rattle.products.specs.Growing.{cellsFrom, Runs, Intervals}
 use Rattle.products.proofs.GrowLaws.{made-heavy}
 
-cells-at : (c d n : ℕ) → c ≡ d → cellsFrom c n ≡ cellsFrom d n
-cells-at c d n e = ap (λ (k : ℕ). cellsFrom k n) e
-
 pub elements-cells : (g k n : ℕ) → codes (values (elementsFrom g k n)) ≡ cellsFrom (12884901888 + 256 * g + k) n
 unfolding code elementsFrom cellsFrom
 elements-cells g k zero = refl
 elements-cells g k (suc n) =
-    ap (λ (l : List ℕ). (12884901888 + (256 * g + k)) ∷ l) (elements-cells g (suc k) n)
-    ∙ ap (λ (c : ℕ). c ∷ cellsFrom (12884901888 + 256 * g + suc k) n) (let z : 12884901888 + (256 * g + k) ≡ 12884901888 + 256 * g + k = omega arith in z)
-    ∙ ap (λ (l : List ℕ). (12884901888 + 256 * g + k) ∷ l) (cells-at (12884901888 + 256 * g + suc k) (suc (12884901888 + 256 * g + k)) n (omega arith))
+    let y : 12884901888 + (256 * g + k) ≡ 12884901888 + 256 * g + k = omega arith in
+    let z : 12884901888 + 256 * g + suc k ≡ suc (12884901888 + 256 * g + k) = omega arith in
+    cc (elements-cells g (suc k) n)
 
-pub elements-count : (g k n : ℕ) → count (values (elementsFrom g k n)) ≡ n
+elements-count : (g k n : ℕ) → count (values (elementsFrom g k n)) ≡ n
 unfolding elementsFrom
 elements-count g k zero = refl
 elements-count g k (suc n) = omega (arith, elements-count g (suc k) n)
 
 pub elements-made : (s : List ℕ) (g n top : ℕ) (s′ : List ℕ) (r : ℕ) → Runs s (12884901888 + 256 * g) n top s′ r → Made top s s′ (setOf (elementsFrom g 0 n)) r
 elements-made s g n top s′ r put =
-    put (values (elementsFrom g 0 n)) (elements-count g 0 n)
-    (elements-cells g 0 n ∙ cells-at (12884901888 + 256 * g + 0) (12884901888 + 256 * g) n (omega arith))
+    let z : 12884901888 + 256 * g + 0 ≡ 12884901888 + 256 * g = omega arith in
+    put (values (elementsFrom g 0 n)) (elements-count g 0 n) (elements-cells g 0 n ∙ rw z)
 
 pub booleans-cells : codes (values (truthValue false ∷ truthValue true ∷ [])) ≡ cellsFrom 8589934592 2
 unfolding code cellsFrom
@@ -46,34 +43,25 @@ fits-low : (i : ℤ) → CellsFit (int i) → Low i
 fits-low (pos a) h = tt
 fits-low (negsuc a) h = h .1
 
-low-suc : (i : ℤ) → Low i → Low (sucℤ i)
-low-suc (pos a) h = tt
-low-suc (negsuc zero) h = tt
-low-suc (negsuc (suc a)) h = omega arith
-
-excess-suc : (i : ℤ) → Low i → excess (sucℤ i) ≡ suc (excess i)
+low-next : (i : ℤ) → Low i → Low (sucℤ i) × (excess (sucℤ i) ≡ suc (excess i))
 unfolding excess
-excess-suc (pos a) h = omega arith
-excess-suc (negsuc zero) h = refl
-excess-suc (negsuc (suc a)) h = omega arith
+low-next (pos a) h = (tt, omega arith)
+low-next (negsuc zero) h = (tt, refl)
+low-next (negsuc (suc a)) h = (omega arith, omega arith)
 
 up-cells : (i : ℤ) (n : ℕ) → Low i → codes (values (upFrom i n)) ≡ cellsFrom (4294967296 + excess i) n
 unfolding code upFrom cellsFrom
 up-cells i zero h = refl
 up-cells i (suc n) h =
-    ap (λ (l : List ℕ). (4294967296 + excess i) ∷ l)
-    (ap (λ (j : ℤ). codes (values (upFrom j n))) (+ℤ-one i) ∙ up-cells (sucℤ i) n (low-suc i h)
-    ∙ cells-at (4294967296 + excess (sucℤ i)) (suc (4294967296 + excess i)) n (omega (arith, excess-suc i h)))
+    let y = +ℤ-one i in
+    let l = low-next i h in
+    let z : 4294967296 + excess (sucℤ i) ≡ suc (4294967296 + excess i) = omega (arith, l .1) in
+    cc (up-cells (sucℤ i) n (l .0))
 
-up-count : (i : ℤ) (n : ℕ) → count (values (upFrom i n)) ≡ n
+up-sizes : (i : ℤ) (n : ℕ) → (count (values (upFrom i n)) ≡ n) × (weights (values (upFrom i n)) ≡ n)
 unfolding upFrom
-up-count i zero = refl
-up-count i (suc n) = omega (arith, up-count (i +ℤ pos 1) n)
-
-up-weighs : (i : ℤ) (n : ℕ) → weights (values (upFrom i n)) ≡ n
-unfolding upFrom
-up-weighs i zero = refl
-up-weighs i (suc n) = omega (arith, up-weighs (i +ℤ pos 1) n)
+up-sizes i zero = (refl, refl)
+up-sizes i (suc n) = let h = up-sizes (i +ℤ pos 1) n in omega arith
 
 -- How many integers there are from one to another.
 count-below : (n : ℕ) → toCount (sucℤ (negsuc n)) ≡ 0
@@ -102,7 +90,7 @@ interval-count i j x y h k p q = ap toCount (+ℤ-one (j -ℤ i)) ∙ count-dist
 pub interval-made : (s : List ℕ) (x y n top : ℕ) (s′ : List ℕ) (r : ℕ) → n ≡ suc y - x → Runs s (4294967296 + x) n top s′ r → Intervals s x y top s′ r
 interval-made s x y n top s′ r e put i j h k p q =
     let z : toCount (j -ℤ i +ℤ pos 1) ≡ n = interval-count i j x y h k p q ∙ sym e in
-    rw z (put (values (upFrom i n)) (up-count i n) (up-cells i n (fits-low i h) ∙ ap (λ (c : ℕ). cellsFrom (4294967296 + c) n) p))
+    rw z (put (values (upFrom i n)) (up-sizes i n .0) (up-cells i n (fits-low i h) ∙ ap (λ (c : ℕ). cellsFrom (4294967296 + c) n) p))
 
 pub interval-heavy : (s : List ℕ) (x y top : ℕ) → 254 < y - x → Intervals s x y top s 0
-interval-heavy s x y top l i j h k p q = let n = toCount (j -ℤ i +ℤ pos 1) in made-heavy (omega (arith, up-weighs i n, interval-count i j x y h k p q))
+interval-heavy s x y top l i j h k p q = let n = toCount (j -ℤ i +ℤ pos 1) in made-heavy (omega (arith, up-sizes i n .1, interval-count i j x y h k p q))

@@ -1,5 +1,5 @@
 -- Values built in the arena cell by cell, and what each function has built.
-use Prim.Native.Nat.{ℕ, zero, suc, _+_, _≤_}
+use Prim.Native.Nat.{ℕ, zero, suc, _+_, _*_, _≤_}
 use mathlib.Core.List.{List, [], _∷_, _++_, map}
 use mathlib.Core.Path.{_≡_}
 use lib.IntN.{ℤ, pos, _+ℤ_, _-ℤ_}
@@ -7,6 +7,7 @@ use lib.ListN.{length}
 use Rattle.rules.specs.Values.{Value, pair, set, Values, int, members, values, count, weight, weights}
 use Rattle.rules.specs.Operations.{setOf, upFrom, toCount, pairsOf}
 use Rattle.arena.specs.Code.{excess, code, codes, Stands, ValueAt, Same, CellsFit, SetBelow, ValueBelow, Made, Front}
+use Rattle.products.specs.declared.Size.{Size}
 
 -- The cells cs have been written from `to` to r; below `to` nothing is changed.
 pub record Appended (s : List ℕ) (to : ℕ) (s′ : List ℕ) (r : ℕ) (cs : List ℕ) : Type 0 where
@@ -72,11 +73,12 @@ pub record RowPre (s : List ℕ) (v k b m to : ℕ) : Type 0 where
   pub room : to + weights (rowOf first others) ≤ length s
 
 abbrev pub Rows : List ℕ → ℕ → ℕ → ℕ → ℕ → ℕ → List ℕ → ℕ → Type 0
-Rows s v k b m to s′ r =
-    (top : ℕ) (x : Value) (ws : Values) → ValueBelow s top v x → k ≡ weight x → Front s top b m ws → top ≤ to →
-    Appended s to s′ r (codes (rowOf x ws))
+Rows s v k b m to s′ r = (g : RowPre s v k b m to) → Appended s to s′ r (codes (rowOf (g .first) (g .others)))
 
 -- The pairs of n members from a on with m members from b on, written at `to`.
+abbrev pub square : Values → Values → Values
+square vs ws = values (pairsOf (members vs) (members ws))
+
 pub record SquarePre (s : List ℕ) (a n b m to : ℕ) : Type 0 where
   pub top : ℕ
   pub lefts : Values
@@ -84,12 +86,28 @@ pub record SquarePre (s : List ℕ) (a n b m to : ℕ) : Type 0 where
   pub front : Front s top a n lefts
   pub others : Front s top b m rights
   pub behind : top ≤ to
-  pub room : to + weights (values (pairsOf (members lefts) (members rights))) ≤ length s
+  pub room : to + weights (square lefts rights) ≤ length s
 
 abbrev pub Squares : List ℕ → ℕ → ℕ → ℕ → ℕ → ℕ → List ℕ → ℕ → Type 0
-Squares s a n b m to s′ r =
-    (top : ℕ) (vs ws : Values) → Front s top a n vs → Front s top b m ws → top ≤ to →
-    Appended s to s′ r (codes (values (pairsOf (members vs) (members ws))))
+Squares s a n b m to s′ r = (g : SquarePre s a n b m to) → Appended s to s′ r (codes (square (g .lefts) (g .rights)))
+
+-- A set that stands at a; how many members and cells it has.
+pub record SetAt (s : List ℕ) (a : ℕ) : Type 0 where
+  pub top : ℕ
+  pub whole : Values
+  pub below : SetBelow s top a whole
+
+pub record Few (x : Size) : Type 0 where
+  pub members : x .members ≤ 255
+  pub cells : x .cells ≤ 255
+
+pub record Sized (s : List ℕ) (a : ℕ) (x : Size) : Type 0 where
+  pub few : Few x
+  pub front : (top : ℕ) (vs : Values) → SetBelow s top a vs → Front s top (a + 1) (x .members) vs
+  pub cells : (top : ℕ) (vs : Values) → SetBelow s top a vs → x .cells ≡ weights vs
+
+abbrev pub productWeight : Size → Size → ℕ
+productWeight x y = 1 + x .members * y .members + y .members * x .cells + x .members * y .cells
 
 abbrev pub Multiplies : List ℕ → ℕ → ℕ → ℕ → List ℕ → ℕ → Type 0
 Multiplies s a b top s′ r =

@@ -9,12 +9,18 @@ use lib.ListN.{length}
 use Rattle.rules.specs.Values.{Value, Values, members, values, count, weight, weights}
 use Rattle.rules.specs.Operations.{left, right, setOf, insert, rising}
 use Rattle.rules.specs.Safety.{All}
-use Rattle.arena.specs.Code.{ValueAt, ValuesAt, Same, CellsFit, EndsAt, SetBelow, ValueBelow, Made, AllPairs}
+use Rattle.arena.specs.Code.{ValuesAt, Same, CellsFit, EndsAt, SetBelow, ValueBelow, Made, AllPairs}
 use Rattle.products.specs.declared.Out.{Out}
 use Rattle.products.specs.declared.Place.{Place}
 
 abbrev pub SomePairs : List ℕ → ℕ → ℕ → Type 0
 SomePairs s top a = (vs : Values) × SetBelow s top a vs × AllPairs vs
+
+pub record PartsPre (s : List ℕ) (a top : ℕ) : Type 0 where
+  pub pairs : Values
+  pub whole : SetBelow s top a pairs
+  pub all : AllPairs pairs
+  pub room : top + 514 ≤ length s
 
 -- The first or the second part of a pair.
 abbrev pub part : Bool → Value → Value
@@ -65,14 +71,13 @@ pub record Placed (v : Value) (from : ℕ) (zs : List Value) (r : Place) : Type 
 
 pub record FindPre (s : List ℕ) (p end from to : ℕ) : Type 0 where
   pub value : Value
-  pub stands : ValueAt s p value
-  pub fits : CellsFit value
+  pub below : ValueBelow s from p value
   pub ends : EndsAt s p end
   pub others : List Value
   pub members : Members s from to others
 
-abbrev pub Finds : List ℕ → ℕ → ℕ → ℕ → Place → Type 0
-Finds s p from to r = (v : Value) (zs : List Value) → ValueAt s p v → CellsFit v → Members s from to zs → Placed v from zs r
+abbrev pub Finds : List ℕ → ℕ → ℕ → ℕ → ℕ → Place → Type 0
+Finds s p end from to r = (g : FindPre s p end from to) → Placed (g .value) from (g .others) r
 
 -- A value below `from`, the rising members built from there on of other values, and room for one more.
 pub record InsertPre (s : List ℕ) (p end from : ℕ) (o : Out) : Type 0 where
@@ -84,12 +89,11 @@ pub record InsertPre (s : List ℕ) (p end from : ℕ) (o : Out) : Type 0 where
   pub room : o .to + weight value ≤ length s
   pub few : o .count ≤ 256
 
-abbrev pub Places : List ℕ → ℕ → ℕ → Out → Place → Type 0
-Places s p from o r = (v : Value) (xs : List Value) → ValueBelow s from p v → Built s from o (rising xs) → Placed v from (rising xs) r
+abbrev pub Places : List ℕ → ℕ → ℕ → ℕ → Out → Place → Type 0
+Places s p end from o r = (g : InsertPre s p end from o) → Placed (g .value) from (rising (g .others)) r
 
-abbrev pub Inserts : List ℕ → ℕ → ℕ → Out → List ℕ → Out → Type 0
-Inserts s p from o s′ r =
-    (v : Value) (xs : List Value) → ValueBelow s from p v → Built s from o (rising xs) → Same from s s′ × Built s′ from r (insert v (rising xs))
+abbrev pub Inserts : List ℕ → ℕ → ℕ → ℕ → Out → List ℕ → Out → Type 0
+Inserts s p end from o s′ r = (g : InsertPre s p end from o) → Same from s s′ × Built s′ from r (insert (g .value) (rising (g .others)))
 
 -- Where the last member stands after one of n cells has been put at `at` among members that ended at `to`.
 abbrev pub movedLast : ℕ → ℕ → ℕ → ℕ → ℕ

@@ -1,14 +1,13 @@
 -- The power set of a set of at most five members: its subsets as bits.
 use Prim.Native.Nat.{ℕ, _+_, _-_, _/_, _%_, _≤_}
-use mathlib.Core.Bool.{Bool, true, false, cond}
+use mathlib.Core.Bool.{Bool, cond}
 use mathlib.Core.List.{List, [], _∷_, map}
-use mathlib.Core.Logic.{_⊎_}
 use mathlib.Core.Path.{_≡_}
 use lib.Dec.{eqb, ltb}
 use lib.ListN.{length, getD}
-use Rattle.rules.specs.Values.{Value, Values, none, _▸_, members, values, weight, weights}
+use Rattle.rules.specs.Values.{Value, Values, none, _▸_, members, values, count, weight, weights}
 use Rattle.rules.specs.Operations.{setOf, rising, subsets, keptValue}
-use Rattle.arena.specs.Code.{code, codes, ValueAt, SetBelow, Made, Front}
+use Rattle.arena.specs.Code.{codes, ValueAt, SetBelow, ValueBelow, Made, Front}
 use Rattle.products.specs.Growing.{Appended}
 use Rattle.products.specs.declared.Out.{Out}
 
@@ -38,25 +37,21 @@ unfolding pick
 picked p [] vs = []
 picked p (m ∷ ms) vs = keptValue (ltb m p) (setOf (pick m vs)) (picked p ms vs)
 
--- A run copied behind what has been built, as its next member.
-pub record AddPre (s : List ℕ) (from end : ℕ) (o : Out) : Type 0 where
+-- A run copied behind what has been built, as its next member, if it is kept.
+pub record AddPre (keep : Bool) (s : List ℕ) (from end : ℕ) (o : Out) : Type 0 where
   pub forward : from ≤ end
   pub behind : end ≤ o .to
-  pub room : o .to + (end - from) ≤ length s
+  pub room : o .to + cond keep (end - from) 0 ≤ length s
   pub few : o .count ≤ 256
 
-pub record Added (s : List ℕ) (from end : ℕ) (o : Out) (s′ : List ℕ) (r : Out) : Type 0 where
-  pub cells : (v : Value) → ValueAt s from v → end ≡ from + weight v → Appended s (o .to) s′ (r .to) (code v)
-  pub counted : r .count ≡ o .count + 1
+pub record Added (keep : Bool) (s : List ℕ) (from end : ℕ) (o : Out) (s′ : List ℕ) (r : Out) : Type 0 where
+  pub cells : (v : Value) → ValueAt s from v → end ≡ from + weight v → Appended s (o .to) s′ (r .to) (codes (values (keptValue keep v [])))
+  pub counted : r .count ≡ o .count + cond keep 1 0
 
--- A member put if it is kept.
-abbrev pub AddedIf : Bool → List ℕ → ℕ → ℕ → Out → List ℕ → Out → Type 0
-AddedIf keep s from end o s′ r = ((keep ≡ true) × Added s from end o s′ r) ⊎ ((keep ≡ false) × (s′ ≡ s) × (r ≡ o))
-
--- The members vs stand one behind the other from i on; from its place j on the list `at` says where each begins, and where the last one ends.
-abbrev pub Begin : List ℕ → ℕ → ℕ → Values → Type 0
-Begin at j i none = getD at j 0 ≡ i
-Begin at j i (v ▸ vs) = (getD at j 0 ≡ i) × Begin at (j + 1) (i + weight v) vs
+-- The members vs stand below `top` at the places in the list `at`, from its place j on; each ends where the next begins.
+abbrev pub StandAt : List ℕ → List ℕ → ℕ → ℕ → Values → Type 0
+StandAt s at top j none = Unit {0}
+StandAt s at top j (v ▸ vs) = ValueBelow s top (getD at j 0) v × (getD at (j + 1) 0 ≡ getD at j 0 + weight v) × StandAt s at top (j + 1) vs
 
 pub record MarkPre (s : List ℕ) (a n : ℕ) : Type 0 where
   pub top : ℕ
@@ -65,14 +60,14 @@ pub record MarkPre (s : List ℕ) (a n : ℕ) : Type 0 where
   pub few : n ≤ 5
 
 abbrev pub Marks : List ℕ → ℕ → ℕ → List ℕ → Type 0
-Marks s a n at = (top : ℕ) (vs : Values) → Front s top a n vs → Begin at 0 a vs
+Marks s a n at = (g : MarkPre s a n) → StandAt s at (g .top) 0 (g .whole)
 
 -- n members stand at the places in `at`, below `to`.
 pub record Marked (s at : List ℕ) (n to : ℕ) (vs : Values) : Type 0 where
   pub top : ℕ
-  pub from : ℕ
-  pub front : Front s top from n vs
-  pub begin : Begin at 0 from vs
+  pub each : StandAt s at top 0 vs
+  pub counted : n ≡ count vs
+  pub light : weights vs ≤ 255
   pub behind : top ≤ to
 
 -- At most five, and room for a subset.
@@ -82,12 +77,10 @@ pub record SubsetPre (s at : List ℕ) (n to : ℕ) : Type 0 where
   pub few : n ≤ 5
   pub room : to + 257 ≤ length s
 
-abbrev pub Subsets : List ℕ → List ℕ → ℕ → ℕ → ℕ → List ℕ → ℕ → Type 0
-Subsets s at n mask to s′ r = (vs : Values) → Marked s at n to vs → Appended s to s′ r (code (setOf (pick mask (members vs))))
-
-abbrev pub SubsetIf : List ℕ → List ℕ → ℕ → ℕ → ℕ → ℕ → List ℕ → ℕ → Type 0
-SubsetIf s at n mask p to s′ r =
-    (vs : Values) → Marked s at n to vs → Appended s to s′ r (codes (values (keptValue (ltb mask p) (setOf (pick mask (members vs))) [])))
+-- The subset for a mask if the mask is below p.
+abbrev pub Subsets : List ℕ → List ℕ → ℕ → ℕ → ℕ → ℕ → List ℕ → ℕ → Type 0
+Subsets s at n mask p to s′ r =
+    (g : SubsetPre s at n to) → Appended s to s′ r (codes (values (keptValue (ltb mask p) (setOf (pick mask (members (g .whole)))) [])))
 
 -- All subsets for the masks below p.
 pub record AllPre (s at : List ℕ) (n p to : ℕ) : Type 0 where
@@ -98,4 +91,4 @@ pub record AllPre (s at : List ℕ) (n p to : ℕ) : Type 0 where
   pub room : to + 512 ≤ length s
 
 abbrev pub AllSubsets : List ℕ → List ℕ → ℕ → ℕ → ℕ → List ℕ → ℕ → Type 0
-AllSubsets s at n p to s′ r = (vs : Values) → Marked s at n to vs → Appended s to s′ r (codes (values (picked p masks (members vs))))
+AllSubsets s at n p to s′ r = (g : AllPre s at n p to) → Appended s to s′ r (codes (values (picked p masks (members (g .whole)))))

@@ -7,9 +7,9 @@ ghost use lib.ListN.{length, getD};
 ghost use Rattle.rules.specs.Values.{truthValue};
 ghost use Rattle.rules.specs.Operations.{setOf, elementsFrom};
 ghost use Rattle.arena.specs.Code.{SomeSet, SomeValue, Made, Copied};
-ghost use Rattle.products.specs.Growing.{PutsCell, RunPre, Runs, Singles, Pairs, PairPre, PairPut, Intervals, RowPre, Rows, SquarePre, Squares, Multiplies};
-ghost use Rattle.products.specs.Parts.{SomePairs, Takes, Domains, Ranges, chosen, FindPre, Finds, InsertPre, Places, Inserts, movedLast};
-ghost use Rattle.products.specs.Power.{Powers, masks, subsetCount, AddPre, Added, AddedIf, MarkPre, Marks, SubsetPre, Subsets, SubsetIf, AllPre, AllSubsets};
+ghost use Rattle.products.specs.Growing.{PutsCell, RunPre, Runs, Singles, Pairs, PairPre, PairPut, Intervals, RowPre, Rows, SquarePre, Squares, SetAt, Few, Sized, productWeight, Multiplies};
+ghost use Rattle.products.specs.Parts.{SomePairs, PartsPre, Takes, Domains, Ranges, chosen, FindPre, Finds, InsertPre, Places, Inserts, movedLast};
+ghost use Rattle.products.specs.Power.{Powers, masks, subsetCount, AddPre, Added, MarkPre, Marks, SubsetPre, Subsets, AllPre, AllSubsets};
 
 // Members that have been built: where the last one stands (0 where there is none), where they end, their number.
 struct Out {
@@ -45,9 +45,9 @@ fn pair_at(s: &mut [u64], a: usize, n: usize, b: usize, m: usize, to: usize) -> 
     requires { ⌜ PairPre (now s) a n b m to ⌝ }
     ensures { λ r. ⌜ PairPut (now (s .entry)) a n b m to (now (s .exit)) r ⌝ }
 {
-    s[to] = arena::PAIR;
     arena::copy(s, a, n, to + 1);
     arena::copy(s, b, m, to + 1 + n);
+    s[to] = arena::PAIR;
     to + 1 + n + m
 }
 
@@ -143,11 +143,32 @@ fn rows(s: &mut [u64], a: usize, n: u64, b: usize, m: u64, to: usize) -> usize
     at
 }
 
-// The weight of the product of n members of k cells and m members of l cells.
-fn product_weight(n: usize, k: usize, m: usize, l: usize) -> usize
-    requires { ⌜ (n ≤ 255) × (k ≤ 255) × (m ≤ 255) × (l ≤ 255) ⌝ }
-    ensures { λ r. ⌜ r ≡ 1 + n * m + m * k + n * l ⌝ }
+// The numbers of a set's members and of their cells.
+struct Size {
+    members: u64,
+    cells: u64,
+}
+
+fn size_of(s: &[u64], a: usize) -> Size
+    requires { ⌜ SetAt (now s) a ⌝ }
+    ensures { λ r. ⌜ Sized (now (s .entry)) a r ⌝ }
 {
+    let n = arena::low(s[a]);
+    Size {
+        members: n,
+        cells: (arena::end_of(s, a) - a - 1) as u64,
+    }
+}
+
+// The weight of the product of two sets.
+fn product_weight(x: Size, y: Size) -> u64
+    requires { ⌜ Few x × Few y ⌝ }
+    ensures { λ r. ⌜ r ≡ productWeight x y ⌝ }
+{
+    let n = x.members;
+    let k = x.cells;
+    let m = y.members;
+    let l = y.cells;
     1 + n * m + m * k + n * l
 }
 
@@ -155,15 +176,13 @@ pub fn product(s: &mut [u64], a: usize, b: usize, top: usize) -> usize
     requires { ⌜ SomeSet (now s) top a × SomeSet (now s) top b × (top + 514 ≤ length (now s)) ⌝ }
     ensures { λ r. ⌜ Multiplies (now (s .entry)) a b top (now (s .exit)) r ⌝ }
 {
-    let n = arena::low(s[a]);
-    let m = arena::low(s[b]);
-    let k = arena::end_of(s, a) - a - 1;
-    let l = arena::end_of(s, b) - b - 1;
-    if product_weight(n as usize, k, m as usize, l) > 256 {
+    let x = size_of(s, a);
+    let y = size_of(s, b);
+    if product_weight(x, y) > 256 {
         return 0;
     }
-    let end = rows(s, a + 1, n, b + 1, m, top + 1);
-    s[top] = arena::SET + n * m;
+    let end = rows(s, a + 1, x.members, b + 1, y.members, top + 1);
+    s[top] = arena::SET + x.members * y.members;
     end
 }
 
@@ -176,7 +195,7 @@ struct Place {
 // The place of the value from p to `end` among the members from `from` to `to`.
 fn find(s: &[u64], p: usize, end: usize, from: usize, to: usize) -> Place
     requires { ⌜ FindPre (now s) p end from to ⌝ }
-    ensures { λ r. ⌜ Finds (now (s .entry)) p from to r ⌝ }
+    ensures { λ r. ⌜ Finds (now (s .entry)) p end from to r ⌝ }
 {
     let mut i = from;
     while i < to {
@@ -198,7 +217,7 @@ fn find(s: &[u64], p: usize, end: usize, from: usize, to: usize) -> Place
 // The same among the members that have been built. Parts often come in rising order: the last member is looked at first.
 fn place_for(s: &[u64], p: usize, end: usize, from: usize, o: Out) -> Place
     requires { ⌜ InsertPre (now s) p end from o ⌝ }
-    ensures { λ r. ⌜ Places (now (s .entry)) p from o r ⌝ }
+    ensures { λ r. ⌜ Places (now (s .entry)) p end from o r ⌝ }
 {
     let to = o.to;
     let last = o.last;
@@ -246,7 +265,7 @@ fn moved_last(at: usize, to: usize, last: usize, n: usize) -> usize
 // Puts the value from p to `end` among the rising members that have been built from `from` on, unless it is there.
 fn insert(s: &mut [u64], p: usize, end: usize, from: usize, o: Out) -> Out
     requires { ⌜ InsertPre (now s) p end from o ⌝ }
-    ensures { λ r. ⌜ Inserts (now (s .entry)) p from o (now (s .exit)) r ⌝ }
+    ensures { λ r. ⌜ Inserts (now (s .entry)) p end from o (now (s .exit)) r ⌝ }
 {
     let q = place_for(s, p, end, from, o);
     if q.equal {
@@ -275,7 +294,7 @@ fn pick(second: bool, a: usize, b: usize) -> usize
 
 // The set of the first or of the second parts of the pairs of a set.
 fn parts(s: &mut [u64], a: usize, top: usize, second: bool) -> usize
-    requires { ⌜ SomePairs (now s) top a × (top + 514 ≤ length (now s)) ⌝ }
+    requires { ⌜ PartsPre (now s) a top ⌝ }
     ensures { λ r. ⌜ Takes second (now (s .entry)) a top (now (s .exit)) r ⌝ }
 {
     let from = top + 1;
@@ -314,28 +333,20 @@ pub fn range(s: &mut [u64], a: usize, top: usize) -> usize
     parts(s, a, top, true)
 }
 
-// Copies the run from `from` to `end` behind what has been built, as its next member.
-fn add(s: &mut [u64], from: usize, end: usize, o: Out) -> Out
-    requires { ⌜ AddPre (now s) from end o ⌝ }
-    ensures { λ r. ⌜ Added (now (s .entry)) from end o (now (s .exit)) r ⌝ }
-{
-    let n = end - from;
-    let to = o.to;
-    arena::copy(s, from, n, to);
-    Out {
-        last: to,
-        to: to + n,
-        count: o.count + 1,
-    }
-}
-
-// Puts a member if it is kept.
+// Copies the run from `from` to `end` behind what has been built, as its next member, if it is kept.
 fn add_if(s: &mut [u64], from: usize, end: usize, keep: bool, o: Out) -> Out
-    requires { ⌜ (keep ≡ true → AddPre (now s) from end o) ⌝ }
-    ensures { λ r. ⌜ AddedIf keep (now (s .entry)) from end o (now (s .exit)) r ⌝ }
+    requires { ⌜ AddPre keep (now s) from end o ⌝ }
+    ensures { λ r. ⌜ Added keep (now (s .entry)) from end o (now (s .exit)) r ⌝ }
 {
     if keep {
-        return add(s, from, end, o);
+        let n = end - from;
+        let to = o.to;
+        arena::copy(s, from, n, to);
+        return Out {
+            last: to,
+            to: to + n,
+            count: o.count + 1,
+        };
     }
     o
 }
@@ -355,11 +366,14 @@ fn marks(s: &[u64], a: usize, n: usize) -> [usize; 6]
     at
 }
 
-// The set of those of n members whose bits `mask` has; they begin at the places in `at`.
-fn subset(s: &mut [u64], at: &[usize; 6], n: usize, mask: u64, to: usize) -> usize
+// The set of those of n members whose bits `mask` has, if the mask is below p; they begin at the places in `at`.
+fn subset(s: &mut [u64], at: &[usize; 6], n: usize, mask: u64, p: u64, to: usize) -> usize
     requires { ⌜ SubsetPre (now s) (now at) n to ⌝ }
-    ensures { λ r. ⌜ Subsets (now (s .entry)) (now (at .entry)) n mask to (now (s .exit)) r ⌝ }
+    ensures { λ r. ⌜ Subsets (now (s .entry)) (now (at .entry)) n mask p to (now (s .exit)) r ⌝ }
 {
+    if mask >= p {
+        return to;
+    }
     let mut j: usize = 0;
     let mut m = mask;
     let mut o = Out {
@@ -376,17 +390,6 @@ fn subset(s: &mut [u64], at: &[usize; 6], n: usize, mask: u64, to: usize) -> usi
     }
     s[to] = arena::SET + o.count;
     o.to
-}
-
-// The same if the mask is below p.
-fn subset_if(s: &mut [u64], at: &[usize; 6], n: usize, mask: u64, p: u64, to: usize) -> usize
-    requires { ⌜ SubsetPre (now s) (now at) n to ⌝ }
-    ensures { λ r. ⌜ SubsetIf (now (s .entry)) (now (at .entry)) n mask p to (now (s .exit)) r ⌝ }
-{
-    if mask < p {
-        return subset(s, at, n, mask, to);
-    }
-    to
 }
 
 // Subsets of at most five members as bits: fewer members first, then by the first members that differ.
@@ -448,7 +451,7 @@ fn all_subsets(s: &mut [u64], at: &[usize; 6], n: usize, p: u64, to: usize) -> u
     let mut end = to;
     while j < 32 {
         let mask = masks[j];
-        end = subset_if(s, at, n, mask, p, end);
+        end = subset(s, at, n, mask, p, end);
         j += 1;
     }
     end
@@ -458,14 +461,14 @@ pub fn power(s: &mut [u64], a: usize, top: usize) -> usize
     requires { ⌜ SomeSet (now s) top a × (top + 514 ≤ length (now s)) ⌝ }
     ensures { λ r. ⌜ Powers (now (s .entry)) a top (now (s .exit)) r ⌝ }
 {
-    let n = arena::low(s[a]);
-    let k = (arena::end_of(s, a) - a - 1) as u64;
-    let p = subset_count(n);
-    if 1 + p + p / 2 * k > 256 {
+    let x = size_of(s, a);
+    let p = subset_count(x.members);
+    if 1 + p + p / 2 * x.cells > 256 {
         return 0;
     }
-    let at = marks(s, a + 1, n as usize);
-    let end = all_subsets(s, &at, n as usize, p, top + 1);
+    let n = x.members as usize;
+    let at = marks(s, a + 1, n);
+    let end = all_subsets(s, &at, n, p, top + 1);
     s[top] = arena::SET + p;
     end
 }

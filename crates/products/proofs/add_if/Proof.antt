@@ -1,18 +1,30 @@
--- `add_if`: a member that is not kept changes nothing.
-use mathlib.Core.Logic.{inl, inr}
-use mathlib.Core.Path.{refl}
+-- `add_if`: a member that is kept is copied behind the others; one that is not changes nothing.
+use mathlib.Core.Logic.{inl}
+use native.Mathlib.Omega.{arith}
 use borrow.Author.Needs.{needs}
+use Rattle.products.proofs.SubsetLaws.{add-room, add-made, add-none}
 use Rattle.products.proofs.add_if.Statement.{statement}
 use Rattle.products.proofs.add_if.Tie as tie
 
-abbrev put : tie.After-slice-known2 → tie.After-add
+-- The member is kept, and what was lent; it has been copied.
+abbrev kept : tie.After-copy-arg → tie.Then1
+kept m = m .before
+
+abbrev lent : tie.Then1 → tie.Start
+lent m = m .before .before
+
+abbrev put : tie.After-slice-known2 → tie.After-copy
 put m = m .before .before
 
 pub add-if-spec : {M : Type 1} → statement M
 add-if-spec =
     tie.close
     (tie.spec
-    (λ c κs. c .before .before .before .pre (c .before .if1 .taken))
     (λ c. search needs)
-    (λ c. let m = put c in inl (m .before .before .if1 .taken, m .add .ensures))
-    (λ c. inr (c .if1 .left, refl, refl)))
+    (λ c κs. let q = lent (kept c) .pre in let r = add-room q (kept c .if1 .taken) in
+    (omega (arith, q .forward, q .behind), omega arith, inl (omega (arith, q .forward, q .behind))))
+    (λ c. let k = kept (put c .before) in omega (arith, add-room (lent k .pre) (k .if1 .taken)))
+    (λ c. search needs)
+    (λ c. search needs)
+    (λ c. let m = put (c .before) in let k = kept (m .before) in add-made (lent k .pre) (k .if1 .taken) (m .copy .ensures))
+    (λ c. add-none (c .before .before .pre) (c .if1 .left)))

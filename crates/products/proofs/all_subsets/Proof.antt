@@ -4,9 +4,8 @@ use mathlib.Core.List.{List}
 use mathlib.Core.Path.{_≡_, refl, ap}
 use native.Mathlib.Omega.{arith}
 use lib.ListN.{getD}
-use Rattle.rules.specs.Values.{Values}
 use Rattle.products.specs.Growing.{Grown}
-use Rattle.products.specs.Power.{Marked, masks}
+use Rattle.products.specs.Power.{AllPre, masks}
 use Rattle.products.proofs.GrowLaws.{grown-start}
 use Rattle.products.proofs.PowerLaws.{allFrom, all-pre, all-next, all-end}
 use Rattle.products.proofs.all_subsets.Statement.{statement}
@@ -14,44 +13,33 @@ use Rattle.products.proofs.all_subsets.Tie as tie
 
 abbrev Inv-loop : tie.InvT-loop
 Inv-loop s₀ at n p to bits j₀ end₀ s j end =
-    (bits ≡ masks) × ((vs : Values) → Marked s₀ at n to vs → Grown s₀ to s end (allFrom p 0 vs) (allFrom p j vs))
+    (bits ≡ masks) × ((g : AllPre s₀ at n p to) → Grown s₀ to s end (allFrom p 0 (g .whole)) (allFrom p j (g .whole)))
 
 abbrev μ-loop : tie.MeasureT-loop
 μ-loop s₀ at n p to bits j₀ end₀ s j end = 32 - j
 
--- A turn of the loop, and what it was lent; the subset has been put.
 abbrev lent : tie.At-loop Inv-loop μ-loop → tie.Start Inv-loop μ-loop
 lent l = l .before .before
 
-abbrev put : tie.After-slice-known2 Inv-loop μ-loop → tie.After-subset-if Inv-loop μ-loop
-put m = m .before .before
-
-abbrev turn : tie.After-slice-known2 Inv-loop μ-loop → tie.In-loop Inv-loop μ-loop
-turn m = put m .before .before
-
-subset-if-requires : tie.Need-subset-if-requires Inv-loop μ-loop
-subset-if-requires c κs =
-    let l = c .before .before in
-    let q = lent l .pre in
-    all-pre (lent l .args .p) (l .loop .j) (q .marked) (l .loop .inv .1 (q .whole) (q .marked)) (q .few) (q .light) (q .room)
-
+-- The subset has been put in p, in the turn t.
 loop-again : tie.Need-loop-again Inv-loop μ-loop
 loop-again c =
-    let t = turn c in
+    let p = c .before .before in
+    let t = p .before .before in
     let i = t .before .loop .inv in
     let mask = ap (λ (bits : List ℕ). getD bits (t .before .loop .j) 0) (i .0) in
-    (i .0, λ vs h. all-next _ _ h (i .1 vs h) _ _ _ (t .loop-test .taken) mask (put c .subset-if .ensures))
+    (i .0, λ g. all-next g _ (i .1 g) _ _ _ (t .loop-test .taken) mask (p .subset .ensures))
 
 pub all-subsets-spec : {M : Type 1} → statement M
 all-subsets-spec =
     tie.close
     (tie.spec Inv-loop μ-loop
-    (λ c. (refl, λ vs h. grown-start _ _ _ (omega (arith, c .before .pre .room))))
+    (λ c. (refl, λ g. grown-start _ _ _ (omega (arith, g .room))))
     (λ c. omega (arith, c .loop-test .taken))
     (λ c. c .loop-test .taken)
-    subset-if-requires
-    (λ c. omega (arith, turn c .loop-test .taken))
-    (λ c. omega (arith, turn c .loop-test .taken))
+    (λ c κs. let l = c .before .before in all-pre (lent l .pre) (l .loop .j) (l .loop .inv .1 (lent l .pre)))
+    (λ c. omega arith)
+    (λ c. omega arith)
     loop-again
-    (λ c. let q = lent (c .before) .pre in c .before .loop .inv .1 (q .whole) (q .marked) .appended .frame .kept)
-    (λ c. λ vs h. all-end _ _ h (c .before .loop .inv .1 vs h) (c .loop-test .left)))
+    (λ c. c .before .loop .inv .1 (lent (c .before) .pre) .appended .frame .kept)
+    (λ c. λ g. all-end g _ (c .before .loop .inv .1 g) (c .loop-test .left)))

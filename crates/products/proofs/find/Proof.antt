@@ -1,64 +1,38 @@
--- `find`: the members passed are less than the value, so `insert` goes on behind them.
+-- `find`: the members passed are less than the value, so what is left of them decides.
 use Prim.Native.Nat.{_-_}
-use mathlib.Core.List.{List, []}
-use mathlib.Core.Path.{refl}
+use mathlib.Core.List.{List}
 use native.Mathlib.Omega.{arith}
 use Rattle.rules.specs.Values.{Value}
-use Rattle.arena.specs.Code.{ValueAt, CellsFit}
-use Rattle.products.specs.Parts.{Members}
+use Rattle.arena.proofs.FrontLaws.{value-some}
+use Rattle.products.specs.Parts.{FindPre}
 use Rattle.products.proofs.InsertLaws.{Finding, finding-end, finding-some, finding-on, finding-here, finding-next}
 use Rattle.products.proofs.find.Statement.{statement}
 use Rattle.products.proofs.find.Tie as tie
 
 abbrev Inv-loop : tie.InvT-loop
-Inv-loop s p end from to i₀ i = (v : Value) (zs : List Value) → ValueAt s p v → CellsFit v → Members s from to zs → Finding s v from to zs i
+Inv-loop s p end from to i₀ i = (g : FindPre s p end from to) → (hi : List Value) × Finding g i hi
 
 abbrev μ-loop : tie.MeasureT-loop
 μ-loop s p end from to i₀ i = to - i
 
--- A turn of the loop, what it was lent, and the member that it looks at.
-abbrev Turn : Type 0
-Turn = tie.At-loop Inv-loop μ-loop
-
-abbrev lent : Turn → tie.Start Inv-loop μ-loop
+abbrev lent : tie.At-loop Inv-loop μ-loop → tie.Start Inv-loop μ-loop
 lent l = l .before .before
 
-abbrev finding : (l : Turn) → (let a = lent l .args in Finding (a .s .now) (lent l .pre .value) (a .from) (a .to) (lent l .pre .others) (l .loop .i))
-finding l = let q = lent l .pre in l .loop .inv (q .value) (q .others) (q .stands) (q .fits) (q .members)
-
 -- The order of the value and the member is known.
-abbrev turn : tie.After-compare Inv-loop μ-loop → Turn
+abbrev turn : tie.After-compare Inv-loop μ-loop → tie.At-loop Inv-loop μ-loop
 turn m = m .before .before
-
-compare-requires : tie.Need-compare-requires Inv-loop μ-loop
-compare-requires c κs =
-    let q = lent (c .before) .pre in
-    (record { value = q .value; stands = q .stands; fits = q .fits }, finding-some (finding (c .before)) (c .loop-test .taken), q .ends)
-
-returns : tie.Need-returns Inv-loop μ-loop
-returns c = λ v zs h f m.
-    let q = c .before in
-    finding-here (turn q .loop .inv v zs h f m) (q .before .loop-test .taken) _ h f (q .compare .ensures) (omega (arith, c .if1 .taken))
-
-loop-less : tie.Need-loop-less Inv-loop μ-loop
-loop-less c =
-    let q = c .before .before in
-    omega (arith, q .before .loop-test .taken, finding-on (finding (turn q)) (q .before .loop-test .taken) _ (c .end-of .ensures))
-
-loop-again : tie.Need-loop-again Inv-loop μ-loop
-loop-again c = λ v zs h f m.
-    let q = c .before .before in
-    finding-next (turn q .loop .inv v zs h f m) (q .before .loop-test .taken) _ h f (q .compare .ensures)
-    (omega (arith, c .before .if1 .left)) _ (c .end-of .ensures)
 
 pub find-spec : {M : Type 1} → statement M
 find-spec =
     tie.close
     (tie.spec Inv-loop μ-loop
-    (λ c. λ v zs h f m. record { lo = []; hi = zs; all = refl; at = omega arith; rest = m; inserted = refl })
-    compare-requires
-    returns
-    (λ c κs. let q = c .before in finding-some (finding (turn q)) (q .before .loop-test .taken))
-    loop-less
-    loop-again
-    (λ c. λ v zs h f m. finding-end (c .before .loop .inv v zs h f m) (c .loop-test .left)))
+    (λ c. λ g. (g .others, record { rest = g .members; leads = λ r d. d }))
+    (λ c κs. let g = lent (c .before) .pre in (value-some _ _ _ _ (g .below), finding-some g (c .before .loop .inv g) (c .loop-test .taken), g .ends))
+    (λ c. λ g. let m = c .before in
+    finding-here g _ (m .compare .ensures) (turn m .loop .inv g) (m .before .loop-test .taken) (omega (arith, c .if1 .taken)))
+    (λ c κs. let m = c .before in let g = lent (turn m) .pre in finding-some g (turn m .loop .inv g) (m .before .loop-test .taken))
+    (λ c. let m = c .before .before in let g = lent (turn m) .pre in
+    omega (arith, finding-on g (turn m .loop .inv g) (m .before .loop-test .taken) _ (c .end-of .ensures)))
+    (λ c. λ g. let m = c .before .before in
+    finding-next g _ (m .compare .ensures) (turn m .loop .inv g) (m .before .loop-test .taken) (omega (arith, c .before .if1 .left)) _ (c .end-of .ensures))
+    (λ c. λ g. finding-end g (c .before .loop .inv g) (c .loop-test .left)))
