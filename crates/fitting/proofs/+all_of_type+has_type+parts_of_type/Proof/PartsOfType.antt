@@ -22,7 +22,8 @@ module _ (t : ℕ) where
   has-type-requires-2 c κs =
       let p = lent (c .before .before .before) .pre in
       let e = c .before .end-of .ensures in
-      (omega (arith, p .0, ends-behind _ _ _ (p .1 .left) e), (p .1 .right _ e, p .1 .next _ (c .type-end .ensures)))
+      -- The second type begins where the first one ends: an `omega`, which fails where the code hands over another place.
+      (omega (arith, p .0, ends-behind _ _ _ (p .1 .left) e), (p .1 .right _ e, p .1 .next _ (λ u h. omega (arith, c .type-end .ensures u h))))
 
   returns-2 : lts.Need-returns-2 claims (parts-of-type-at t) parts-of-type.Post
   returns-2 c =
