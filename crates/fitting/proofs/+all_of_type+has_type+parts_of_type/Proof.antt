@@ -5,17 +5,9 @@ mod HasType
 mod PartsOfType
 use Rattle.fitting.proofs.+all_of_type+has_type+parts_of_type.{statement}
 use Rattle.fitting.proofs.+all_of_type+has_type+parts_of_type.Tie.{close}
-use Rattle.fitting.proofs.+all_of_type+has_type+parts_of_type.Proof.Base.{μ-all-of-type, μ-has-type, μ-parts-of-type}
-use Rattle.fitting.proofs.+all_of_type+has_type+parts_of_type.Proof.AllOfType.{all-of-type-closed}
-use Rattle.fitting.proofs.+all_of_type+has_type+parts_of_type.Proof.HasType.{has-type-closed}
-use Rattle.fitting.proofs.+all_of_type+has_type+parts_of_type.Proof.PartsOfType.{parts-of-type-closed}
 
 pub +all-of-type+has-type+parts-of-type-spec : {M : Type 1} → statement M
 +all-of-type+has-type+parts-of-type-spec =
     close
-    μ-all-of-type
-    μ-has-type
-    μ-parts-of-type
-    (λ t. all-of-type-closed t)
-    (λ t. has-type-closed t)
-    (λ t. parts-of-type-closed t)
+    (Base.all-of-type .μ) (Base.has-type .μ) (Base.parts-of-type .μ)
+    (λ t. AllOfType.closed t) (λ t. HasType.closed t) (λ t. PartsOfType.closed t)

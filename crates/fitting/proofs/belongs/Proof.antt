@@ -22,5 +22,5 @@ belongs-spec =
     (λ c. belongs-not _ _ _ _ (c .before .is-set .ensures) (not-true _ (c .if1 .taken)))
     (λ c κs. a-set c)
     (λ c. search needs)
-    (λ c κs. record { first = lent (c .before) .pre .first; second = members-run _ _ _ (a-set (c .before)) (c .members .ensures) })
+    (λ c κs. record { first = lent (c .before) .pre .first; second = members-run (a-set (c .before)) (c .members .ensures) })
     (λ c. belongs-fits _ _ _ _ _ (a-set (c .before .before)) (c .before .members .ensures) (c .against .ensures)))

@@ -26,10 +26,10 @@ few-spec =
     tie.close
     (tie.spec
     (λ c. inl refl)
-    (λ c. omega (arith, inside _ _ (first c)))
-    (λ c. inside _ _ (first (c .before)))
+    (λ c. omega (arith, inside (first c)))
+    (λ c. inside (first (c .before)))
     (λ c. inr (refl, some (c .before .before), scalar-full _ _ (c .if2 .taken)))
     (λ c κs. some-at (first (c .before .before)))
-    (λ c κs. let b = end-bounds _ _ _ (first (walked c)) (c .end-of .ensures) in (omega (arith, b .0), b .1))
+    (λ c κs. let b = end-bounds (first (walked c)) (c .end-of .ensures) in (omega (arith, b .0), b .1))
     (λ c. let e = c .before .before in inr (refl, some (walked e), full-typed _ _ _ (e .end-of .ensures) (c .before .full .ensures .sound (c .if3 .taken))))
     (λ c. inl refl))

@@ -13,6 +13,6 @@ is-set-spec =
     tie.close
     (tie.spec
     (λ c. search needs)
-    (λ c. inside _ _ (c .before .before .pre))
+    (λ c. inside (c .before .before .pre))
     (λ c κs. search needs)
     (λ c. λ v h. ap (λ (t : ℕ). eqb t 5) (c .tag .ensures) ∙ is-set _ _ v h))

@@ -19,10 +19,10 @@ numbers-spec =
     tie.close
     (tie.spec
     (λ c. search needs)
-    (λ c. inside _ _ (c .before .before .pre .first))
+    (λ c. inside (c .before .before .pre .first))
     (λ c κs. search needs)
     (λ c. numbers-not _ _ _ (λ e. c .if1 .taken (c .before .tag .ensures ∙ e)))
     (λ c. search needs)
-    (λ c. let m = c .before .before in inside _ _ (m .before .before .before .pre .second))
+    (λ c. let m = c .before .before in inside (m .before .before .before .pre .second))
     (λ c κs. search needs)
     returns-2)

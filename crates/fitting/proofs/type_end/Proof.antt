@@ -24,7 +24,7 @@ pending : (l : tie.In-loop Inv-loop μ-loop) →
 pending l = l .before .loop .inv (lent l .pre .0) (lent l .pre .1)
 
 inside : (l : tie.In-loop Inv-loop μ-loop) → l .before .loop .i < length (lent l .args .row .now)
-inside l = types-inside _ _ _ _ (pending l) (l .loop-test .taken)
+inside l = types-inside (pending l) (l .loop-test .taken)
 
 pub type-end-spec : {M : Type 1} → statement M
 type-end-spec =
@@ -34,8 +34,8 @@ type-end-spec =
     (λ c. inside (c .before))
     (λ c κs. search needs)
     (λ c. omega (arith, c .before .before .loop-test .taken))
-    (λ c. let l = c .before .before in omega (arith, types-few _ _ _ _ (types-step _ _ _ _ (pending l) (l .loop-test .taken)), c .type-parts .ensures))
+    (λ c. let l = c .before .before in omega (arith, types-few (types-step (pending l) (l .loop-test .taken)), c .type-parts .ensures))
     (λ c. omega (arith, inside (c .before .before)))
     (λ c. omega (arith, inside (c .before .before)))
-    (λ c. λ t h. rw (c .type-parts .ensures) (types-step _ _ _ _ (c .before .before .before .loop .inv t h) (c .before .before .loop-test .taken)))
-    (λ c. λ t h. types-end _ _ _ _ (c .before .loop .inv t h) (omega (arith, c .loop-test .left))))
+    (λ c. λ t h. rw (c .type-parts .ensures) (types-step (c .before .before .before .loop .inv t h) (c .before .before .loop-test .taken)))
+    (λ c. λ t h. types-end (c .before .loop .inv t h) (omega (arith, c .loop-test .left))))

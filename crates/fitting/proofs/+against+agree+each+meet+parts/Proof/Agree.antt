@@ -4,23 +4,21 @@ use mathlib.Core.Path.{_∙_}
 use native.Mathlib.Omega.{arith}
 use borrow.Author.Needs.{needs}
 use Rattle.fitting.proofs.Cells.{inside, atoms-agree}
-use Rattle.fitting.proofs.agree.Reads as agree
-use Rattle.fitting.proofs.meet.Reads as meet
 use Rattle.fitting.proofs.atoms_alike.Reads as atoms-alike
 use Rattle.fitting.proofs.+against+agree+each+meet+parts.Lts-agree as lts
-use Rattle.fitting.proofs.+against+agree+each+meet+parts.Proof.Base.{agree-at, meet-below}
+use Rattle.fitting.proofs.+against+agree+each+meet+parts.Proof.Base.{agree, meet}
 
 module _ (t : ℕ) where
   abbrev claims : lts.Claims
-  claims = (atoms-alike.Asked, atoms-alike.Learnt, meet-below t, meet.Post)
+  claims = (atoms-alike.Asked, atoms-alike.Learnt, meet .below t, meet .post)
 
-  pub agree-closed : {M : Type 1} → lts.Closed claims (agree-at t) agree.Post M
-  agree-closed =
-      lts.spec claims (agree-at t) agree.Post
-      (λ c. omega (arith, inside _ _ (c .before .pre .1 .first)))
-      (λ c. inside _ _ (c .before .before .pre .1 .first))
-      (λ c. omega (arith, inside _ _ (c .before .before .before .pre .1 .second)))
-      (λ c. let m = c .before in inside _ _ (m .before .before .before .pre .1 .second))
+  pub closed : {M : Type 1} → lts.Closed claims (agree .at t) (agree .post) M
+  closed =
+      lts.spec claims (agree .at t) (agree .post)
+      (λ c. omega (arith, inside (c .before .pre .1 .first)))
+      (λ c. inside (c .before .before .pre .1 .first))
+      (λ c. omega (arith, inside (c .before .before .before .pre .1 .second)))
+      (λ c. let m = c .before in inside (m .before .before .before .pre .1 .second))
       (λ c κs. search needs)
       (λ c. λ v w h k. c .atoms-alike .ensures ∙ atoms-agree _ _ _ (c .before .before .if1 .taken) v w h k)
       (λ c κs. let p = c .before .before .before .pre in (omega (arith, p .0), (p .1, omega (arith, c .if1 .left))))

@@ -5,58 +5,56 @@ use native.Mathlib.Omega.{arith}
 use borrow.Author.Tests.{not-true, not-false}
 use Rattle.fitting.specs.Agree.{SomeTyped, SomeRun, AgreedAll}
 use Rattle.fitting.proofs.Cells.{some-at, end-bounds, run-first, run-rest, all-end, all-false, all-step}
-use Rattle.fitting.proofs.against.Reads as against
-use Rattle.fitting.proofs.each.Reads as each
+use Rattle.fitting.proofs.Cycle.{OverLoop}
 use Rattle.arena.proofs.end_of.Reads as end-of
 use Rattle.fitting.proofs.+against+agree+each+meet+parts.Lts-each as lts
-use Rattle.fitting.proofs.+against+agree+each+meet+parts.Proof.Base.{against-below, each-at}
+use Rattle.fitting.proofs.+against+agree+each+meet+parts.Proof.Base.{against, each}
 
-abbrev Inv-loop : lts.InvT-loop
-Inv-loop s a n b m i₀ left₀ i left = SomeRun s i left × (a ≤ i) × ((r : Bool) → AgreedAll s i left b m r → AgreedAll s a n b m r)
+abbrev Inv : lts.InvT-loop
+Inv s a n b m i₀ left₀ i left = SomeRun s i left × (a ≤ i) × ((r : Bool) → AgreedAll s i left b m r → AgreedAll s a n b m r)
 
-abbrev μ-loop : lts.MeasureT-loop
-μ-loop s a n b m i₀ left₀ i left = left
+abbrev μ : lts.MeasureT-loop
+μ s a n b m i₀ left₀ i left = left
 
 module _ (t : ℕ) where
   abbrev claims : lts.Claims
-  claims = (against-below t, against.Post, end-of.Asked, end-of.Learnt)
+  claims = (against .below t, against .post, end-of.Asked, end-of.Learnt)
 
-  -- A turn of the loop, what was lent, and the next value.
-  abbrev Turn : Type 0
-  Turn = lts.In-loop claims (each-at t) each.Post Inv-loop μ-loop
+  abbrev Here : OverLoop 1 lts.ps lts.r lts.Claims lts.InvT-loop lts.MeasureT-loop → Type 0
+  Here T = T claims (each .at t) (each .post) Inv μ
 
-  abbrev lent : Turn → lts.Start claims (each-at t) each.Post Inv-loop μ-loop
+  -- A turn of the loop: what was lent, and the next value.
+  abbrev lent : Here lts.In-loop → Here lts.Start
   lent l = l .before .before .before
 
-  next : (l : Turn) → SomeTyped (lent l .args .s .now) (l .before .loop .i)
-  next l = run-first _ _ _ (l .before .loop .inv .0) (l .loop-test .taken)
+  next : (l : Here lts.In-loop) → SomeTyped (lent l .args .s .now) (l .before .loop .i)
+  next l = run-first (l .before .loop .inv .0) (l .loop-test .taken)
 
-  returns : lts.Need-returns claims (each-at t) each.Post Inv-loop μ-loop
+  returns : Here lts.Need-returns
   returns c =
       let l = c .before .before in
-      l .before .loop .inv .2 false
-      (all-false _ _ _ _ _ (l .loop-test .taken) (rw (not-true (c .before .against .result) (c .if1 .taken)) at (c .before .against .ensures)))
+      l .before .loop .inv .2 false (all-false (l .loop-test .taken) (c .before .against .ensures) (not-true _ (c .if1 .taken)))
 
-  loop-again : lts.Need-loop-again claims (each-at t) each.Post Inv-loop μ-loop
+  loop-again : Here lts.Need-loop-again
   loop-again c =
       let m = c .before in
       let l = m .before .before in
       let i = l .before .loop .inv in
       let q = l .loop-test .taken in
       let e = c .end-of .ensures in (
-        run-rest _ _ _ _ (i .0) q e,
-        omega (arith, i .1, end-bounds _ _ _ (next l) e .0),
-        λ r g. i .2 r (all-step _ _ _ _ _ _ r q (rw (not-false (m .before .against .result) (m .if1 .left)) at (m .before .against .ensures)) e g),
+        run-rest (i .0) q e,
+        omega (arith, i .1, end-bounds (next l) e .0),
+        λ r g. i .2 r (all-step q (m .before .against .ensures) (not-false _ (m .if1 .left)) e g),
       )
 
-  pub each-closed : {M : Type 1} → lts.Closed claims (each-at t) each.Post M
-  each-closed =
-      lts.spec claims (each-at t) each.Post Inv-loop μ-loop
+  pub closed : {M : Type 1} → lts.Closed claims (each .at t) (each .post) M
+  closed =
+      lts.spec claims (each .at t) (each .post) Inv μ
       (λ c. (c .before .pre .1 .first, omega arith, λ r g. g))
       (λ c κs. let p = lent c .pre in (omega (arith, p .0, c .before .loop .inv .1), record { first = next c; second = p .1 .second }))
       returns
       (λ c κs. some-at (next (c .before .before)))
-      (λ c. omega (arith, c .before .before .before .loop-test .taken))
+      (λ c. c .before .before .before .loop-test .taken)
       (λ c. omega (arith, c .before .before .before .loop-test .taken))
       loop-again
-      (λ c. c .before .loop .inv .2 true (all-end _ _ _ _ _ (omega (arith, c .loop-test .left))))
+      (λ c. c .before .loop .inv .2 true (all-end (omega (arith, c .loop-test .left))))

@@ -1,40 +1,24 @@
--- The measures: twice the cells from the value, its parts or its members to the end of the arena, and one more for the parts and the
--- members. The parts and the members of a value stand behind its cell.
-use Prim.Native.Nat.{ℕ, _+_, _*_, _-_, _<_}
-use mathlib.Core.Path.{_≡_}
+-- The members with their measures: twice the cells from the value, its parts or its members to the end of the arena, and one more for the parts
+-- and the members. The parts and the members of a value stand behind its cell.
+use Prim.Native.Nat.{ℕ, _+_, _*_, _-_}
 use lib.ListN.{length}
-use borrow.Fn.Kinds.{In}
-use borrow.Fn.PlainCycle.{Measures}
-use Rattle.fitting.proofs.all_of_type.Reads as all-of-type
-use Rattle.fitting.proofs.all_of_type.Kinds as all-of-type-kinds
-use Rattle.fitting.proofs.has_type.Reads as has-type
-use Rattle.fitting.proofs.has_type.Kinds as has-type-kinds
-use Rattle.fitting.proofs.parts_of_type.Reads as parts-of-type
-use Rattle.fitting.proofs.parts_of_type.Kinds as parts-of-type-kinds
+use borrow.Fn.Kinds.{In, Out}
+use Rattle.fitting.proofs.all_of_type.Reads as all-of-type-reads
+use Rattle.fitting.proofs.has_type.Reads as has-type-reads
+use Rattle.fitting.proofs.parts_of_type.Reads as parts-of-type-reads
+use Rattle.fitting.proofs.all_of_type.Kinds as run
+use Rattle.fitting.proofs.has_type.Kinds as one
+use Rattle.fitting.proofs.Cycle.{Member, member}
 
-abbrev pub μ-all-of-type : Measures 2 all-of-type-kinds.ps ℕ
-μ-all-of-type κs a = 2 * (length (a .0 .now) - a .1 .0) + 1
+-- Members that take one value's place and one type's.
+abbrev of-one : ℕ → In 2 one.ps → Out 2 one.ps one.r → Member 2 one.ps one.r
+of-one k pre post = member 2 one.ps one.r (λ κs a. 2 * (length (a .0 .now) - a .1 .0) + k) pre post
 
-abbrev pub μ-has-type : Measures 2 has-type-kinds.ps ℕ
-μ-has-type κs a = 2 * (length (a .0 .now) - a .1 .0)
+abbrev pub has-type : Member 2 one.ps one.r
+has-type = of-one 0 has-type-reads.Pre has-type-reads.Post
 
-abbrev pub μ-parts-of-type : Measures 2 parts-of-type-kinds.ps ℕ
-μ-parts-of-type κs a = 2 * (length (a .0 .now) - a .1 .0) + 1
+abbrev pub parts-of-type : Member 2 one.ps one.r
+parts-of-type = of-one 1 parts-of-type-reads.Pre parts-of-type-reads.Post
 
-abbrev pub all-of-type-at : ℕ → In 2 all-of-type-kinds.ps
-all-of-type-at t κs a = (μ-all-of-type κs a ≡ t) × all-of-type.Pre κs a
-
-abbrev pub has-type-at : ℕ → In 2 has-type-kinds.ps
-has-type-at t κs a = (μ-has-type κs a ≡ t) × has-type.Pre κs a
-
-abbrev pub parts-of-type-at : ℕ → In 2 parts-of-type-kinds.ps
-parts-of-type-at t κs a = (μ-parts-of-type κs a ≡ t) × parts-of-type.Pre κs a
-
-abbrev pub all-of-type-below : ℕ → In 2 all-of-type-kinds.ps
-all-of-type-below t κs a = (μ-all-of-type κs a < t) × all-of-type.Pre κs a
-
-abbrev pub parts-of-type-below : ℕ → In 2 parts-of-type-kinds.ps
-parts-of-type-below t κs a = (μ-parts-of-type κs a < t) × parts-of-type.Pre κs a
-
-abbrev pub has-type-below : ℕ → In 2 has-type-kinds.ps
-has-type-below t κs a = (μ-has-type κs a < t) × has-type.Pre κs a
+abbrev pub all-of-type : Member 2 run.ps run.r
+all-of-type = member 2 run.ps run.r (λ κs a. 2 * (length (a .0 .now) - a .1 .0) + 1) all-of-type-reads.Pre all-of-type-reads.Post

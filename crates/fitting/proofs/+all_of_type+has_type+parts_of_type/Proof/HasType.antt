@@ -6,94 +6,94 @@ use borrow.Author.Needs.{needs}
 use lib.ListN.{length, getD}
 use Rattle.arena.proofs.ValueParts.{some-inside}
 use Rattle.fitting.proofs.Types.{type-inside, is-atom, set-no, pair-no, set-type, pair-type, set-asks, pair-asks}
-use Rattle.fitting.proofs.all_of_type.Reads as all
-use Rattle.fitting.proofs.has_type.Reads as has-type
-use Rattle.fitting.proofs.parts_of_type.Reads as parts
+use Rattle.fitting.proofs.Cycle.{Over}
 use Rattle.arena.proofs.low.Reads as low
 use Rattle.arena.proofs.tag.Reads as tag
 use Rattle.fitting.proofs.atom_is.Reads as atom-is
 use Rattle.fitting.proofs.+all_of_type+has_type+parts_of_type.Lts-has_type as lts
-use Rattle.fitting.proofs.+all_of_type+has_type+parts_of_type.Proof.Base.{all-of-type-below, has-type-at, parts-of-type-below}
+use Rattle.fitting.proofs.+all_of_type+has_type+parts_of_type.Proof.Base.{all-of-type, has-type, parts-of-type}
 
 module _ (t : ℕ) where
   abbrev claims : lts.Claims
-  claims = (tag.Asked, tag.Learnt, low.Asked, low.Learnt, all-of-type-below t, all.Post, parts-of-type-below t, parts.Post, atom-is.Asked, atom-is.Learnt)
+  claims = (
+    tag.Asked,
+    tag.Learnt,
+    low.Asked,
+    low.Learnt,
+    all-of-type .below t,
+    all-of-type .post,
+    parts-of-type .below t,
+    parts-of-type .post,
+    atom-is.Asked,
+    atom-is.Learnt,
+  )
 
-  abbrev Start : Type 0
-  Start = lts.Start claims (has-type-at t) has-type.Post
+  abbrev Here : Over 2 lts.ps lts.r lts.Claims → Type 0
+  Here T = T claims (has-type .at t) (has-type .post)
 
-  value-inside : (p : Start) → p .args .at < length (p .args .s .now)
+  value-inside : (p : Here lts.Start) → p .args .at < length (p .args .s .now)
   value-inside p = some-inside _ _ (p .pre .1 .0)
 
-  code-inside : (p : Start) → p .args .from < length (p .args .row .now)
-  code-inside p = type-inside _ _ (p .pre .1 .1)
+  code-inside : (p : Here lts.Start) → p .args .from < length (p .args .row .now)
+  code-inside p = type-inside (p .pre .1 .1)
 
   -- The tag is known; it is a set's and the code is POW's, or a pair's and the code a product's.
-  abbrev Tagged : Type 0
-  Tagged = lts.After-tag claims (has-type-at t) has-type.Post
-
-  abbrev read : Tagged → lts.After-shared-slice-known2 claims (has-type-at t) has-type.Post
+  abbrev read : Here lts.After-tag → Here lts.After-shared-slice-known2
   read m = m .before .before .before
 
-  abbrev lent : Tagged → Start
+  abbrev lent : Here lts.After-tag → Here lts.Start
   lent m = read m .before .before
 
-  is-tag : (m : Tagged) (n : ℕ) → m .tag .result ≡ n → getD (lent m .args .s .now) (lent m .args .at) 0 / 4294967296 ≡ n
+  is-tag : (m : Here lts.After-tag) (n : ℕ) → m .tag .result ≡ n → getD (lent m .args .s .now) (lent m .args .at) 0 / 4294967296 ≡ n
   is-tag m n e = sym (m .tag .ensures) ∙ e
 
-  abbrev Power : Type 0
-  Power = lts.After-low claims (has-type-at t) has-type.Post
+  abbrev of-set : Here lts.After-low → Here lts.After-tag
+  of-set c = c .before .before .before
 
-  abbrev set-tagged : Power → Tagged
-  set-tagged c = c .before .before .before
+  abbrev of-pair : Here lts.Else4 → Here lts.After-tag
+  of-pair c = c .before .before .before
 
-  abbrev Product : Type 0
-  Product = lts.Else4 claims (has-type-at t) has-type.Post
-
-  abbrev pair-tagged : Product → Tagged
-  pair-tagged c = c .before .before .before
-
-  all-of-type-requires : lts.Need-all-of-type-requires claims (has-type-at t) has-type.Post
+  all-of-type-requires : Here lts.Need-all-of-type-requires
   all-of-type-requires c κs =
-      let m = set-tagged c in
+      let m = of-set c in
       let p = lent m .pre in (
         omega (arith, p .0, value-inside (lent m)),
-        set-asks _ _ _ _ _ (p .1 .0) (p .1 .1) (is-tag m 5 (c .before .before .if1 .taken)) (c .before .if2 .left) (c .low .ensures .0),
+        set-asks (p .1 .0) (p .1 .1) (is-tag m 5 (c .before .before .if1 .taken)) (c .before .if2 .left) (c .low .ensures .0),
       )
 
-  returns-2 : lts.Need-returns-2 claims (has-type-at t) has-type.Post
+  returns-2 : Here lts.Need-returns-2
   returns-2 c =
       let d = c .before in
-      set-type _ _ _ _ _ _ (is-tag (set-tagged d) 5 (d .before .before .if1 .taken)) (d .before .if2 .left) (d .low .ensures .0) (c .all-of-type .ensures)
+      set-type (is-tag (of-set d) 5 (d .before .before .if1 .taken)) (d .before .if2 .left) (d .low .ensures .0) (c .all-of-type .ensures)
 
-  parts-of-type-requires : lts.Need-parts-of-type-requires claims (has-type-at t) has-type.Post
+  parts-of-type-requires : Here lts.Need-parts-of-type-requires
   parts-of-type-requires c κs =
-      let m = pair-tagged c in
+      let m = of-pair c in
       let p = lent m .pre in
-      (omega (arith, p .0, value-inside (lent m)), pair-asks _ _ _ _ (p .1 .0) (p .1 .1) (is-tag m 4 (c .before .if3 .taken)) (c .if4 .left))
+      (omega (arith, p .0, value-inside (lent m)), pair-asks (p .1 .0) (p .1 .1) (is-tag m 4 (c .before .if3 .taken)) (c .if4 .left))
 
-  returns-5 : lts.Need-returns-5 claims (has-type-at t) has-type.Post
+  returns-5 : Here lts.Need-returns-5
   returns-5 c =
       let e = c .before .before .before .tag .ensures in
-      is-atom _ _ _ _ _ (c .atom-is .ensures) (λ q. c .before .before .if1 .left (e ∙ q)) (λ q. c .before .if3 .left (e ∙ q))
+      is-atom (c .atom-is .ensures) (λ q. c .before .before .if1 .left (e ∙ q)) (λ q. c .before .if3 .left (e ∙ q))
 
-  pub has-type-closed : {M : Type 1} → lts.Closed claims (has-type-at t) has-type.Post M
-  has-type-closed =
-      lts.spec claims (has-type-at t) has-type.Post
+  pub closed : {M : Type 1} → lts.Closed claims (has-type .at t) (has-type .post) M
+  closed =
+      lts.spec claims (has-type .at t) (has-type .post)
       (λ c. omega (arith, value-inside (c .before .before)))
       (λ c. value-inside (c .before .before .before))
       (λ c. let m = c .before in code-inside (m .before .before .before))
       (λ c κs. search needs)
-      (λ c. set-no _ _ _ _ (is-tag (c .before .before) 5 (c .before .if1 .taken)) (c .if2 .taken))
+      (λ c. set-no (is-tag (c .before .before) 5 (c .before .if1 .taken)) (c .if2 .taken))
       (λ c κs. search needs)
-      (λ c. omega (arith, value-inside (lent (set-tagged c))))
-      (λ c. omega (arith, code-inside (lent (set-tagged c))))
+      (λ c. omega (arith, value-inside (lent (of-set c))))
+      (λ c. omega (arith, code-inside (lent (of-set c))))
       all-of-type-requires
       returns-2
-      (λ c. pair-no _ _ _ _ (is-tag (c .before .before .before) 4 (c .before .if3 .taken)) (c .if4 .taken))
-      (λ c. omega (arith, value-inside (lent (pair-tagged c))))
-      (λ c. omega (arith, code-inside (lent (pair-tagged c))))
+      (λ c. pair-no (is-tag (c .before .before .before) 4 (c .before .if3 .taken)) (c .if4 .taken))
+      (λ c. omega (arith, value-inside (lent (of-pair c))))
+      (λ c. omega (arith, code-inside (lent (of-pair c))))
       parts-of-type-requires
-      (λ c. let d = c .before in pair-type _ _ _ _ _ (is-tag (pair-tagged d) 4 (d .before .if3 .taken)) (d .if4 .left) (c .parts-of-type .ensures))
+      (λ c. let d = c .before in pair-type (is-tag (of-pair d) 4 (d .before .if3 .taken)) (d .if4 .left) (c .parts-of-type .ensures))
       (λ c κs. search needs)
       returns-5
