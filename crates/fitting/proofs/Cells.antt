@@ -12,25 +12,20 @@ use lib.ListN.{length, getD}
 use Rattle.rules.specs.Types.{whole, number, bool, given}
 use Rattle.rules.specs.Values.{Scalar, num, truth, element, Value, scalar, pair, set, Values, none, _▸_, scalarTag, tag, count, weight, weights}
 use Rattle.rules.specs.Fits.{TypeSet, noType, atomˢ, _⊓_, typesOf, sharedTypes, inhabited, typed}
-use Rattle.arena.specs.Code.{cellSize, code, codes, ValueAt, ValuesAt, CellsFit, AllFit, SomeAt, EndsAt}
+use Rattle.arena.specs.Code.{cellSize, code, codes, ValueAt, ValuesAt, CellsFit, SomeAt, EndsAt}
 use Rattle.arena.proofs.CodeLaws.{length-code}
 use Rattle.arena.proofs.Standing.{stands-head, stands-tail, stands-front, stands-back}
 use Rattle.arena.proofs.FrontLaws.{single}
-use Rattle.arena.proofs.ValueParts.{ends-at, some-inside, first-cell, left-stands, right-stands}
-use Rattle.fitting.specs.Agree.{meets, agree, TypedAt, RunAt, SomeTyped, SomeRun, Agreed, AgreedWith, AgreedAll, emptyCell, NoEmpty, StandFor, Members, Full, FullSet, FullAll, Few, atomsAlike, PairOrSet, SetHere, Parts, AgreedParts}
-use Rattle.fitting.specs.Tests.{Both}
-use Rattle.fitting.proofs.Sharing.{full-first, meets-sym, meets-same, with-every, meets-first, tags-differ, left-typed, right-typed, ⊓-every}
+use Rattle.arena.proofs.ValueParts.{some-inside, first-cell, left-stands, right-stands}
+use Rattle.fitting.specs.Agree.{meets, agree, TypedAt, RunAt, SomeTyped, SomeRun, Agreed, AgreedWith, AgreedAll, emptyCell, NoEmpty, Members, Full, FullSet, FullAll, Few, atomsAlike, PairOrSet, SetHere, AgreedParts}
+use Rattle.fitting.proofs.Sharing.{full-first, meets-sym, meets-same, with-every, meets-first, left-typed, right-typed, ⊓-every}
 use Rattle.rules.proofs.Basics.{and-split}
 use Rattle.laws.proofs.CellsLaws.{weight-some}
 use Rattle.laws.proofs.EndLaws.{T-true}
 
 -- No empty set among the cells passed.
 pub no-empty-more : (s : List ℕ) (at i : ℕ) → NoEmpty s at i → getD s i 0 ≢ emptyCell → NoEmpty s at (i + 1)
-no-empty-more s at i h n = record { none = λ j p q. go j p q (ℕ-discrete j i) }
-  where
-    go : (j : ℕ) → at ≤ j → j < i + 1 → Dec (j ≡ i) → getD s j 0 ≢ emptyCell
-    go j p q (yes e) = rw e n
-    go j p q (no d) = h .none j p (omega arith)
+no-empty-more s at i h n = record { none = λ j p q. elim (ℕ-discrete j i) [ yes e ↦ rw e n | no d ↦ h .none j p (omega arith) ] }
 
 -- The members of a set.
 pub members-stand : (s : List ℕ) (at : ℕ) (vs : Values) → ValueAt s at (set vs) → ValuesAt s (at + 1) vs
@@ -149,7 +144,7 @@ module _ {s : List ℕ} {a n : ℕ} where
       counted = omega (arith, h .counted);
     }
 
-    run-splits : (q : TypeSet) → meets (sharedTypes (x ▸ ys)) q ≡ (meets (typesOf x) q && meets (sharedTypes ys) q)
+    pub run-splits : (q : TypeSet) → meets (sharedTypes (x ▸ ys)) q ≡ (meets (typesOf x) q && meets (sharedTypes ys) q)
     run-splits q = meets-first (typesOf x) (sharedTypes ys) q (h .typed)
 
 pub run-first : {s : List ℕ} {at n : ℕ} → SomeRun s at n → 0 < n → SomeTyped s at
@@ -166,21 +161,21 @@ module _ (s : List ℕ) (at : ℕ) (q : TypeSet) where
   abbrev pub RunMeets : ℕ → Bool → Type 0
   RunMeets n r = (vs : Values) → RunAt s at n vs → r ≡ meets (sharedTypes vs) q
 
-module _ (s : List ℕ) (at n : ℕ) (q : TypeSet) where
+module _ {s : List ℕ} {at n : ℕ} (q : TypeSet) where
   pub run-end : n ≡ 0 → T (inhabited q) → RunMeets s at q n true
   unfolding meets
   run-end z t vs h = let e : vs ≡ none = no-run h z in rw e (sym (T-true (inhabited q) .0 t))
 
-  run-false : 0 < n → OneMeets s at q false → RunMeets s at q n false
-  run-false l g vs h = let (x, ys, e, k) = as-run h l in rw (e, run-splits k q, ← g x (run-head k))
+  pub run-false : {c : Bool} → 0 < n → OneMeets s at q c → c ≡ false → RunMeets s at q n false
+  run-false l g f vs h = let (x, ys, e, k) = as-run h l in rw (e, run-splits k q, ← g x (run-head k), f)
 
-  run-step : (end : ℕ) (r : Bool) → 0 < n → OneMeets s at q true → EndsAt s at end → RunMeets s end q (n - 1) r → RunMeets s at q n r
-  run-step end r l g f t vs h =
+  pub run-step : {end : ℕ} {c r : Bool} → 0 < n → OneMeets s at q c → c ≡ true → EndsAt s at end → RunMeets s end q (n - 1) r → RunMeets s at q n r
+  run-step l g f d t vs h =
       let (x, ys, e, k) = as-run h l in
-      rw (e, run-splits k q, ← g x (run-head k)) (t ys (rw (end-is f (run-head k)) (run-tail k)))
+      rw (e, run-splits k q, ← g x (run-head k), f) (t ys (rw (end-is d (run-head k)) (run-tail k)))
 
-  run-one : (r : Bool) → n ≡ 1 → OneMeets s at q r → RunMeets s at q n r
-  run-one r m g vs h = let (x, ys, e, k) = as-run h (omega arith) in rw (e, no-run (run-tail k) (omega arith), ⊓-every (typesOf x)) (g x (run-head k))
+  pub run-one : {r : Bool} → n ≡ 1 → OneMeets s at q r → RunMeets s at q n r
+  run-one m g vs h = let (x, ys, e, k) = as-run h (omega arith) in rw (e, no-run (run-tail k) (omega arith), ⊓-every (typesOf x)) (g x (run-head k))
 
 -- A value against a run: the run against the types of the value.
 module _ (s : List ℕ) (a j left : ℕ) where
@@ -192,37 +187,20 @@ module _ (s : List ℕ) (a j left : ℕ) where
   one-meets r g v h w k = g v w h k ∙ meets-sym (typesOf v) (typesOf w)
 
   pub with-end : left ≡ 0 → AgreedWith s a j left true
-  with-end z = with-types true (λ v h. run-end s j left (typesOf v) z (h .typed))
+  with-end z = with-types true (λ v h. run-end (typesOf v) z (h .typed))
 
   pub with-false : 0 < left → Agreed s a j false → AgreedWith s a j left false
-  with-false l g = with-types false (λ v h. run-false s j left (typesOf v) l (one-meets false g v h))
+  with-false l g = with-types false (λ v h. run-false (typesOf v) l (one-meets false g v h) refl)
 
   pub with-step : (j2 : ℕ) (r : Bool) → 0 < left → Agreed s a j true → EndsAt s j j2 → AgreedWith s a j2 (left - 1) r → AgreedWith s a j left r
   with-step j2 r l g e t =
-      with-types r (λ v h. run-step s j left (typesOf v) j2 r l (one-meets true g v h) e (λ ws k. t v ws h k ∙ meets-sym (typesOf v) (sharedTypes ws)))
+      with-types r (λ v h. run-step (typesOf v) l (one-meets true g v h) refl e (λ ws k. t v ws h k ∙ meets-sym (typesOf v) (sharedTypes ws)))
 
   pub with-last : left ≡ 1 → Agreed s a j true → AgreedWith s a j left true
-  with-last e g = with-types true (λ v h. run-one s j left (typesOf v) true e (one-meets true g v h))
-
--- Runs of values against each other: the first run against the types that the second shares.
-module _ {s : List ℕ} {i left b m : ℕ} where
-  pub all-end : left ≡ 0 → AgreedAll s i left b m true
-  all-end z vs ws h k = run-end s i left (sharedTypes ws) z (k .typed) vs h
-
-  pub all-false : {q : Bool} → 0 < left → AgreedWith s i b m q → q ≡ false → AgreedAll s i left b m false
-  all-false l g f vs ws h k = run-false s i left (sharedTypes ws) l (λ v u. sym f ∙ g v ws u k) vs h
-
-  pub all-step : {j : ℕ} {q r : Bool} → 0 < left → AgreedWith s i b m q → q ≡ true → EndsAt s i j → AgreedAll s j (left - 1) b m r → AgreedAll s i left b m r
-  all-step {j} {r = r} l g f e t vs ws h k = run-step s i left (sharedTypes ws) j r l (λ v u. sym f ∙ g v ws u k) e (λ us u. t us ws u k) vs h
-
-  pub all-one : {r : Bool} → left ≡ 1 → AgreedWith s i b m r → AgreedAll s i left b m r
-  all-one {r} e g vs ws h k = run-one s i left (sharedTypes ws) r e (λ v u. g v ws u k) vs h
+  with-last e g = with-types true (λ v h. run-one (typesOf v) e (one-meets true g v h))
 
 -- Two values by their parts or members.
 module _ {s : List ℕ} {a b : ℕ} where
-  pub unlike : getD s a 0 / cellSize ≢ getD s b 0 / cellSize → Agreed s a b false
-  unlike n v w h k = sym (tags-differ v w (λ e. n (tag-is h ∙ e ∙ sym (tag-is k))))
-
   pub parts-false : {q : Bool} → Agreed s a b q → q ≡ false → AgreedParts s a b false
   parts-false g f v₁ v₂ w₁ w₂ h₁ h₂ k₁ k₂ = rw (← g v₁ w₁ h₁ k₁, f)
 
@@ -244,7 +222,7 @@ module _ {s : List ℕ} {a b : ℕ} where
       let (ws, f, y) = as-set k u in
       let p = c vs x in
       let q = d ws y in
-      rw (e, f) (g (p .few) (q .few) (p .run) (q .run) ∙
+      rw (e, f) (g (q .few) (q .run) (p .few) (p .run) ∙
       meets-same (sharedTypes (p .few)) (sharedTypes vs) (sharedTypes (q .few)) (sharedTypes ws) (p .same) (q .same))
 
 -- What the test of the parts of two pairs asks of each.
@@ -284,13 +262,11 @@ atoms-agree s a b l (pair x y) w h k = absurd (omega (arith, tag-is h))
 atoms-agree s a b l (set vs) w h k = absurd (omega (arith, tag-is h))
 
 pub alike-low : (x y : ℕ) → x < 4 * cellSize → atomsAlike x y ≡ true → y < 4 * cellSize
-alike-low x y l e = go (ℕ-discrete (x / cellSize) 3) e
-  where
-    go : Dec (x / cellSize ≡ 3) → atomsAlike x y ≡ true → y < 4 * cellSize
-    go (yes t) f = let g : eqb (x / 256) (y / 256) ≡ true = rw (eq-eqb (x / cellSize) 3 t) at f in omega (arith, eqb-true (x / 256) (y / 256) g)
-    go (no n) f =
-        let g : eqb (x / cellSize) (y / cellSize) ≡ true = rw (ne-eqb (x / cellSize) 3 n) at f in
-        omega (arith, eqb-true (x / cellSize) (y / cellSize) g)
+alike-low x y l e = elim (ℕ-discrete (x / cellSize) 3) [
+  | yes t ↦ let g : eqb (x / 256) (y / 256) ≡ true = rw (eq-eqb (x / cellSize) 3 t) at e in omega (arith, eqb-true (x / 256) (y / 256) g)
+  | no n ↦ let g : eqb (x / cellSize) (y / cellSize) ≡ true = rw (ne-eqb (x / cellSize) 3 n) at e in
+      omega (arith, eqb-true (x / cellSize) (y / cellSize) g)
+]
 
 pub agreed-back : (s : List ℕ) (a b : ℕ) (r : Bool) → Agreed s a b r → Agreed s b a r
 unfolding agree
@@ -304,10 +280,6 @@ other-pair {s} {a} x l n = go (x .0) (tag-is (x .1))
     go (scalar x) e = absurd (omega (arith, scalar-low x))
     go (pair v w) e = e
     go (set vs) e = absurd (n e)
-
--- The cells of a value without an empty set's.
-pub full-typed : (s : List ℕ) (at end : ℕ) → EndsAt s at end → NoEmpty s at end → (v : Value) → TypedAt s at v → Full v
-full-typed s at end e f v h = full-value v s at (h .stands) (rw (end-is e h) at f)
 
 pub scalar-full : (s : List ℕ) (at : ℕ) → getD s at 0 < 4 * cellSize → (v : Value) → TypedAt s at v → Full v
 scalar-full s at l (scalar x) h = tt

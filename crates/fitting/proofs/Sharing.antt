@@ -1,12 +1,12 @@
 -- Sharing a type: consistency of sets of types is pairwise, and a value without empty sets has one type only.
 use Prim.Native.Nat.{ℕ}
-use mathlib.Core.Bool.{Bool, true, false, _&&_, cond}
+use mathlib.Core.Bool.{false, _&&_}
 use mathlib.Core.Path.{_≡_, refl, sym, ap, _∙_, subst}
 use mathlib.Core.Logic.{_≢_}
 use lib.Dec.{T}
 use Rattle.rules.specs.Types.{whole, number, bool, given, Ty, atom, POW, _⊗_}
 use Rattle.rules.specs.Values.{num, truth, element, tag, Value, scalar, pair, set, Values, none, _▸_}
-use Rattle.rules.specs.Fits.{sameAtom, TypeSet, every, noType, atomˢ, powˢ, _×ˢ_, _⊓_, typesOf, sharedTypes, inhabited}
+use Rattle.rules.specs.Fits.{TypeSet, every, noType, atomˢ, powˢ, _×ˢ_, _⊓_, typesOf, sharedTypes, inhabited}
 use Rattle.laws.proofs.FitsLaws.{_⊑_, ⊓-join, ⊓-split, inhabited→some, some→inhabited}
 use Rattle.fitting.specs.Agree.{meets, agree, Full, FullSet}
 use Rattle.rules.proofs.Basics.{and-of, and-split, bool-eq}
@@ -117,7 +117,7 @@ pub with-every : (p : TypeSet) → T (inhabited p) → T (inhabited (p ⊓ every
 with-every p h = rw (⊓-every p) h
 
 -- The types of sets and of pairs.
-as-power : (p : TypeSet) (t : Ty) → powˢ p ⊑ t → (u : Ty) × (t ≡ POW u) × (p ⊑ u)
+pub as-power : (p : TypeSet) (t : Ty) → powˢ p ⊑ t → (u : Ty) × (t ≡ POW u) × (p ⊑ u)
 as-power p (atom a) h = absurd h
 as-power p (POW t) h = (t, refl, h)
 as-power p (t ⊗ u) h = absurd h

@@ -9,17 +9,17 @@ use lib.Dec.{T, eqb, eqb→eq}
 use lib.ListN.{getD}
 use borrow.Author.Tests.{eq-eqb, ne-eqb, eqb-true}
 use Rattle.rules.specs.Types.{whole, number, bool, given, Ty, atom, POW, _⊗_}
-use Rattle.rules.specs.Values.{num, truth, element, Value, scalar, pair, set, Values, none, _▸_, scalarTag, tag, weight}
+use Rattle.rules.specs.Values.{num, truth, element, Value, scalar, pair, set, Values, none, _▸_, scalarTag, tag}
 use Rattle.rules.specs.Rules.{t̂, û, P̂, _×̂_, numᵖ}
-use Rattle.rules.specs.Fits.{TypeSet, every, noType, atomˢ, powˢ, _×ˢ_, _⊓_, typesOf, sharedTypes, inhabited, _⊓ᵃ_, anything, nothing-fits, asked, fits}
+use Rattle.rules.specs.Fits.{TypeSet, every, noType, atomˢ, powˢ, _×ˢ_, _⊓_, typesOf, sharedTypes, inhabited, anything, nothing-fits, asked, fits}
 use Rattle.laws.proofs.FitsLaws.{_⊑_, ⊓-split, inhabited→some, some→inhabited}
 use Rattle.arena.specs.Code.{cellSize, EndsAt, IsPair, AllPairs}
 use Rattle.fitting.specs.Agree.{meets, agree, TypedAt, RunAt, SomeTyped, Agreed, AgreedWith, Full, Few, Members, SetHere}
 use Rattle.fitting.specs.Tests.{FitOne, FitTwo, Both, Pairs, AgreedLefts}
-use Rattle.fitting.proofs.Sharing.{meets→share, share→meets, no-meet, meets-first, meets-same, tagOf, tag-type, as-product, ⊓-every, ground, narrowed}
+use Rattle.fitting.proofs.Sharing.{meets→share, share→meets, no-meet, meets-same, tagOf, tag-type, as-product, ⊓-every, ground, narrowed}
 use Rattle.laws.proofs.EndLaws.{T-true, T-eqb}
-use Rattle.fitting.proofs.Cells.{scalar-low, test-is, as-set, set-run, pair-parts, as-run, run-head, run-tail, no-run, run-of, run-end, end-is, tag-is}
-use Rattle.rules.proofs.Basics.{absurd01, and-of, and-split, bool-eq}
+use Rattle.fitting.proofs.Cells.{scalar-low, test-is, as-set, set-run, pair-parts, as-run, run-head, run-tail, run-splits, no-run, run-of, run-end, end-is, tag-is}
+use Rattle.rules.proofs.Basics.{absurd01, and-of, bool-eq}
 
 -- The types of a set's members; none where the value is no set.
 abbrev pub inner : Value → TypeSet
@@ -35,11 +35,8 @@ relation-asked : (v : Value) → asked (P̂ (t̂ ×̂ û)) (typesOf v) ≡ asked
 relation-asked v = elim v [ scalar x ↦ refl | pair x y ↦ refl | set vs ↦ refl ]
 
 number-asked : (v : Value) → asked (numᵖ whole) (typesOf v) ≡ cond (eqb (tag v) 1) anything nothing-fits
-number-asked (scalar (num whole i)) = refl
-number-asked (scalar (truth b)) = refl
-number-asked (scalar (element g k)) = refl
-number-asked (pair x y) = refl
-number-asked (set vs) = refl
+number-asked v =
+    elim v [ scalar x ↦ elim x [ num n i ↦ elim n [ whole ↦ refl ] | truth b ↦ refl | element g k ↦ refl ] | pair x y ↦ refl | set vs ↦ refl ]
 
 -- The types of pairs in p whose left part has a type in q.
 pairs-left : (p q : TypeSet) →
@@ -81,15 +78,6 @@ module _ (v : Value) where
     fits-applies : fits (P̂ (t̂ ×̂ û) ∷ t̂ ∷ []) (v ∷ w ∷ []) ≡ meets (inner v) (typesOf w ×ˢ every)
     unfolding fits
     fits-applies = rw (relation-asked v) (pairs-left (inner v) (typesOf w))
-
-    fits-numbers : fits (numᵖ whole ∷ numᵖ whole ∷ []) (v ∷ w ∷ []) ≡ (eqb (tag v) 1 && eqb (tag w) 1)
-    unfolding fits
-    fits-numbers = rw (number-asked v, number-asked w) (go (eqb (tag v) 1) (eqb (tag w) 1))
-      where
-        go : (a b : Bool) → (let x = cond a anything nothing-fits ⊓ᵃ (cond b anything nothing-fits ⊓ᵃ anything) in inhabited (x .0) && inhabited (x .1)) ≡ (a && b)
-        go true true = refl
-        go true false = refl
-        go false b = refl
 
 fits-sets : (v w : Value) → fits (P̂ t̂ ∷ P̂ û ∷ []) (v ∷ w ∷ []) ≡ (inhabited (inner v) && inhabited (inner w))
 unfolding fits meets
@@ -161,10 +149,15 @@ module _ (s : List ℕ) (a b : ℕ) where
 
   -- numbers
   pub numbers-not : getD s a 0 / cellSize ≢ 1 → FitTwo (numᵖ whole ∷ numᵖ whole ∷ []) s a b false
-  numbers-not n v w h k = sym (fits-numbers v w ∙ rw (ne-eqb (tag v) 1 (λ f. n (tag-is h ∙ f))))
+  unfolding fits
+  numbers-not n v w h k = rw (number-asked v, ne-eqb (tag v) 1 (λ f. n (tag-is h ∙ f)))
 
   pub numbers-fit : getD s a 0 / cellSize ≡ 1 → FitTwo (numᵖ whole ∷ numᵖ whole ∷ []) s a b (eqb (getD s b 0 / cellSize) 1)
-  numbers-fit m v w h k = sym (fits-numbers v w ∙ rw (eq-eqb (tag v) 1 (sym (tag-is h) ∙ m), tag-is k))
+  unfolding fits
+  numbers-fit m v w h k = rw (number-asked v, number-asked w, eq-eqb (tag v) 1 (sym (tag-is h) ∙ m), tag-is k) (last (eqb (tag w) 1))
+    where
+      last : (b : Bool) → b ≡ (inhabited (cond b anything nothing-fits .0 ⊓ every) && inhabited (cond b anything nothing-fits .1 ⊓ every))
+      last b = elim b [ true ↦ refl | false ↦ refl ]
 
 -- A value with a product type is a pair, and the other way round.
 product : (t : Ty) → anyPair ⊑ t ↔ (tagOf t ≡ 4)
@@ -202,74 +195,55 @@ module _ (s : List ℕ) (a : ℕ) where
       let (y, ys, d, k) = as-run (set-run x) (omega arith) in
       test-is b (getD s (a + 1) 0 / cellSize) 4 f g ∙ rw (fits-relation v, e, d, tag-is (run-head k)) (first-pair y (sharedTypes ys) (k .typed))
 
--- A pair fits an argument where its left part does.
-left-meets : (y z w : Value) → T (inhabited (typesOf z)) → meets (typesOf (pair y z)) (typesOf w ×ˢ every) ≡ agree y w
-unfolding agree meets
-left-meets y z w h = rw (⊓-every (typesOf z), T-true (inhabited (typesOf z)) .0 h) (and-true _)
-
 -- The first of some pairs, and the rest.
-record PairFirst (s : List ℕ) (i n : ℕ) (vs : Values) : Type 0 where
-  left : Value
-  right : Value
-  rest : Values
-  whole : vs ≡ pair left right ▸ rest
-  pairHere : TypedAt s i (pair left right)
-  leftHere : TypedAt s (i + 1) left
-  others : RunAt s (i + weight (pair left right)) (n - 1) rest
-  pairs : AllPairs rest
-  splits : (w : Value) → meets (sharedTypes vs) (typesOf w ×ˢ every) ≡ (agree left w && meets (sharedTypes rest) (typesOf w ×ˢ every))
+module _ {s : List ℕ} {i n : ℕ} where
+  as-pairs : {vs : Values} → RunAt s i n vs → AllPairs vs → 0 < n →
+      (y : Value) × (z : Value) × (ys : Values) × (vs ≡ pair y z ▸ ys) × RunAt s i n (pair y z ▸ ys) × AllPairs ys
+  as-pairs {vs = none} h p l = absurd (omega (arith, h .counted))
+  as-pairs {vs = scalar x ▸ ys} h p l = absurd (p .0)
+  as-pairs {vs = set x ▸ ys} h p l = absurd (p .0)
+  as-pairs {vs = pair y z ▸ ys} h p l = (y, z, ys, refl, h, p .1)
 
-pair-first : {s : List ℕ} {i n : ℕ} {vs : Values} → RunAt s i n vs → AllPairs vs → 0 < n → PairFirst s i n vs
-pair-first {vs = none} h p l = absurd (omega (arith, h .counted))
-pair-first {vs = scalar x ▸ ys} h p l = absurd (p .0)
-pair-first {vs = set x ▸ ys} h p l = absurd (p .0)
-pair-first {vs = pair y z ▸ ys} h p l =
-    let k = run-head h in
-    let x = pair-parts k in
-    record {
-      left = y;
-      right = z;
-      rest = ys;
-      whole = refl;
-      pairHere = k;
-      leftHere = x .0;
-      others = run-tail h;
-      pairs = p .1;
-      splits = λ w. meets-first (typesOf (pair y z)) (sharedTypes ys) (typesOf w ×ˢ every) (h .typed) ∙ rw (left-meets y z w (x .1 .typed));
-    }
+  module _ {y z : Value} {ys : Values} (h : RunAt s i n (pair y z ▸ ys)) where
+    left-here : TypedAt s (i + 1) y
+    left-here = pair-parts (run-head h) .0
+
+    -- a pair fits an argument where its left part does
+    lefts-split : (w : Value) → meets (sharedTypes (pair y z ▸ ys)) (typesOf w ×ˢ every) ≡ (agree y w && meets (sharedTypes ys) (typesOf w ×ˢ every))
+    unfolding agree meets
+    lefts-split w =
+        let e : (meets (typesOf y) (typesOf w) && inhabited (typesOf z ⊓ every)) ≡ meets (typesOf y) (typesOf w) =
+        rw (⊓-every (typesOf z), T-true (inhabited (typesOf z)) .0 (pair-parts (run-head h) .1 .typed)) (and-true _) in
+        run-splits h (typesOf w ×ˢ every) ∙ ap (λ (b : Bool). b && meets (sharedTypes ys) (typesOf w ×ˢ every)) e
 
 module _ {s : List ℕ} {i n b : ℕ} where
   pub lefts-end : n ≡ 0 → AgreedLefts s i n b true
-  lefts-end e vs w h k q = run-end s i n (typesOf w ×ˢ every) e (and-of (inhabited (typesOf w)) true (q .typed) tt) vs h
+  lefts-end e vs w h k q = run-end (typesOf w ×ˢ every) e (and-of (inhabited (typesOf w)) true (q .typed) tt) vs h
 
   pub lefts-false : {r : Bool} → 0 < n → Agreed s (i + 1) b r → r ≡ false → AgreedLefts s i n b false
-  lefts-false l g f vs w h k q = let x = pair-first h k l in rw (x .splits w, ← g (x .left) w (x .leftHere) q, f)
+  lefts-false l g f vs w h k q = let (y, z, ys, e, x, p) = as-pairs h k l in rw (e, lefts-split x w, ← g y w (left-here x) q, f)
 
-  pub lefts-step : {j : ℕ} {r y : Bool} → 0 < n → Agreed s (i + 1) b y → y ≡ true → EndsAt s i j → AgreedLefts s j (n - 1) b r → AgreedLefts s i n b r
-  lefts-step l g f e t vs w h k q =
-      let x = pair-first h k l in
-      rw (x .splits w, ← g (x .left) w (x .leftHere) q, f) (t (x .rest) w (rw (end-is e (x .pairHere)) (x .others)) (x .pairs) q)
+  pub lefts-step : {j : ℕ} {r c : Bool} → 0 < n → Agreed s (i + 1) b c → c ≡ true → EndsAt s i j → AgreedLefts s j (n - 1) b r → AgreedLefts s i n b r
+  lefts-step l g f d t vs w h k q =
+      let (y, z, ys, e, x, p) = as-pairs h k l in
+      rw (e, lefts-split x w, ← g y w (left-here x) q, f) (t ys w (rw (end-is d (run-head x)) (run-tail x)) p q)
 
   pub pairs-first : Pairs s i n b → 0 < n → SomeTyped s i × SomeTyped s (i + 1)
-  pairs-first p l = let x = pair-first (p .run) (p .pairs) l in ((pair (x .left) (x .right), x .pairHere), (x .left, x .leftHere))
+  pairs-first p l = let (y, z, ys, _, x, _) = as-pairs (p .run) (p .pairs) l in ((pair y z, run-head x), (y, left-here x))
 
   pub pairs-rest : {j : ℕ} → Pairs s i n b → 0 < n → EndsAt s i j → Pairs s j (n - 1) b
-  pairs-rest p l e =
-      let x = pair-first (p .run) (p .pairs) l in
-      record { values = x .rest; run = rw (end-is e (x .pairHere)) (x .others); pairs = x .pairs; second = p .second }
+  pairs-rest p l d =
+      let (y, z, ys, _, x, q) = as-pairs (p .run) (p .pairs) l in
+      record { values = ys; run = rw (end-is d (run-head x)) (run-tail x); pairs = q; second = p .second }
 
 -- Where the left part of a pair is full, what it agrees with agrees with the left parts of all.
 full-left : (y z w : Value) (r : TypeSet) → Full y → T (inhabited (typesOf (pair y z) ⊓ r)) →
     meets (typesOf (pair y z)) (typesOf w ×ˢ every) ≡ meets (typesOf (pair y z) ⊓ r) (typesOf w ×ˢ every)
-full-left y z w r f l = narrowed (typesOf (pair y z)) r (typesOf w ×ˢ every) l lefts
-  where
-    lefts : (t u : Ty) → typesOf (pair y z) ⊑ t → typesOf (pair y z) ⊑ u → (typesOf w ×ˢ every) ⊑ t → (typesOf w ×ˢ every) ⊑ u
-    lefts t u h k j =
-        let p = as-product (typesOf y) (typesOf z) t h in
-        let q = as-product (typesOf y) (typesOf z) u k in
-        let a : (typesOf w ×ˢ every) ⊑ (p .0 ⊗ p .1) = subst (λ (x : Ty). (typesOf w ×ˢ every) ⊑ x) (p .2) j in
-        let e : p .0 ≡ q .0 = ground y (p .0) (q .0) f (p .3) (q .3) in
-        subst (λ (x : Ty). (typesOf w ×ˢ every) ⊑ x) (sym (q .2)) (subst (λ (x : Ty). typesOf w ⊑ x) e (a .0), tt)
+full-left y z w r f l = narrowed (typesOf (pair y z)) r (typesOf w ×ˢ every) l (λ t u h k j.
+    let (t₁, t₂, d, h₁, h₂) = as-product (typesOf y) (typesOf z) t h in
+    let (u₁, u₂, e, k₁, k₂) = as-product (typesOf y) (typesOf z) u k in
+    let a = rw (d, ground y t₁ u₁ f h₁ k₁) at j in
+    rw e (a .0, tt))
 
 -- The first k of some pairs have left parts that stand for all.
 record LeftsFor (s : List ℕ) (at k : ℕ) (vs : Values) : Type 0 where
@@ -280,16 +254,15 @@ record LeftsFor (s : List ℕ) (at k : ℕ) (vs : Values) : Type 0 where
 
 few-lefts : {s : List ℕ} {at n k : ℕ} {vs : Values} → RunAt s at n vs → AllPairs vs → Few s (at + 1) n k → LeftsFor s at k vs
 few-lefts {vs = vs} h p (inl e) = record { few = vs; run = rw e h; pairs = p; same = λ w. refl }
-few-lefts h p (inr (e, l, f)) =
-    let x = pair-first h p l in
-    let y = pair (x .left) (x .right) in
-    record {
-      few = y ▸ none;
-      run = rw e (run-of (x .pairHere));
-      pairs = (tt, tt);
-      same = λ w. rw (⊓-every (typesOf y)) (full-left (x .left) (x .right) w (sharedTypes (x .rest)) (f (x .left) (x .leftHere)) (rw (x .whole) at (h .typed)))
-          ∙ sym (ap (λ (z : Values). meets (sharedTypes z) (typesOf w ×ˢ every)) (x .whole));
-    }
+few-lefts {vs = none} h p (inr (e, l, f)) = absurd (omega (arith, h .counted))
+few-lefts {vs = scalar x ▸ ys} h p (inr f) = absurd (p .0)
+few-lefts {vs = set x ▸ ys} h p (inr f) = absurd (p .0)
+few-lefts {vs = pair y z ▸ ys} h p (inr (e, l, f)) = record {
+  few = pair y z ▸ none;
+  run = rw e (run-of (run-head h));
+  pairs = (tt, tt);
+  same = λ w. rw (⊓-every (typesOf (pair y z))) (full-left y z w (sharedTypes ys) (f y (left-here h)) (h .typed));
+}
 
 -- Relations and arguments.
 pub applies-not : (s : List ℕ) (a b : ℕ) → FitOne (P̂ (t̂ ×̂ û) ∷ []) s a false → FitTwo (P̂ (t̂ ×̂ û) ∷ t̂ ∷ []) s a b false
@@ -320,8 +293,8 @@ module _ {s : List ℕ} {a n : ℕ} (f : FitOne (P̂ (t̂ ×̂ û) ∷ []) s a t
   pub relation-left : SomeTyped s a → 0 < n → SomeTyped s (a + 1 + 1)
   relation-left v l =
       let (vs, _, h, p) = relation-pairs (v .0) (v .1) in
-      let x = pair-first h p l in
-      (x .left, x .leftHere)
+      let (y, z, ys, _, x, _) = as-pairs h p l in
+      (y, left-here x)
 
   pub relation-few : {b k : ℕ} → Both s a b → Few s (a + 1 + 1) n k → Pairs s (a + 1) k b
   relation-few b g =

@@ -1,5 +1,5 @@
 -- Values of the arena against types in prefix codes.
-use Prim.Native.Nat.{ℕ, suc, _+_, _-_, _/_, _%_, _≤_, _<_}
+use Prim.Native.Nat.{ℕ, _+_, _-_, _/_, _%_, _≤_, _<_}
 use mathlib.Core.Bool.{Bool, true, false, false≢true}
 use mathlib.Core.List.{List, [], _∷_, _++_, append-assoc, append-nil}
 use mathlib.Core.Logic.{_≢_}
@@ -10,13 +10,15 @@ use lib.ListN.{length, getD, replicate, length-append}
 use borrow.Author.Tests.{eq-eqb, ne-eqb, eqb-true}
 use Rattle.rules.specs.Types.{whole, Atom, number, bool, given, Ty, atom, POW, _⊗_, atomCode, weightᵀ, prefix, row}
 use Rattle.rules.specs.Values.{Scalar, num, truth, element, Value, scalar, pair, set, Values, none, _▸_, scalarTag, count, weight}
-use Rattle.rules.specs.Fits.{atomOf, HasType, HaveType}
+use Rattle.rules.specs.Fits.{atomOf, typesOf, sharedTypes}
+use Rattle.laws.proofs.FitsLaws.{has→types}
 use Rattle.rules.proofs.TypeLaws.{weight-positive, prefix-length, prefixes, atomCode-injective}
 use Rattle.arena.specs.Code.{cellSize, scalarLow, Stands, ValueAt, ValuesAt, ScalarFits, CellsFit, AllFit, SomeAt, EndsAt}
 use Rattle.arena.proofs.Standing.{stands-head, stands-tail, stands-front, stands-back}
 use Rattle.fitting.specs.Types.{TypeAt, SomeType, TypeEnds, typeParts, Decides, atomIs, OfType, AllOfType, PartsOfType, ValuesAndType, PartsAndTypes}
 use Rattle.arena.proofs.ValueParts.{first-cell, left-stands, right-stands}
 use Rattle.fitting.proofs.Cells.{tag-set, tag-pair, members-stand, first-stands, rest-stand}
+use Rattle.fitting.proofs.Sharing.{as-power, as-product}
 use Rattle.laws.proofs.CellsLaws.{weight-some}
 
 -- The first code of a type.
@@ -57,11 +59,6 @@ is-product row from (u ⊗ w) h e =
       record { codes = rw (← prefix-length u) (stands-back row (from + 1) (prefix u) (prefix w) k) },
     )
 
--- The weight of types one after the other.
-unfoldable pub widths : List Ty → ℕ
-widths [] = 0
-widths (t ∷ ts) = weightᵀ t + widths ts
-
 count-types : (ts : List Ty) → length ts ≤ length (prefixes ts)
 unfolding prefixes
 count-types [] = omega arith
@@ -71,26 +68,28 @@ count-types (t ∷ ts) = omega (arith, count-types ts, length-append (prefix t) 
 pub record TypesFrom (row : List ℕ) (i left e : ℕ) (ts : List Ty) : Type 0 where
   pub counted : length ts ≡ left
   pub codes : Stands row i (prefixes ts)
-  pub ends : i + widths ts ≡ e
+  pub ends : i + length (prefixes ts) ≡ e
 
 abbrev pub PendingTypes : List ℕ → ℕ → ℕ → ℕ → Type 0
 PendingTypes row i left e = (ts : List Ty) × TypesFrom row i left e ts
 
 pub types-start : (row : List ℕ) (from : ℕ) (t : Ty) → TypeAt row from t → PendingTypes row from 1 (from + weightᵀ t)
-unfolding prefixes widths
+unfolding prefixes
 types-start row from t h =
-    (t ∷ [], record { counted = refl; codes = subst (λ (l : List ℕ). Stands row from l) (sym (append-nil (prefix t))) (h .codes); ends = omega arith })
+    let e = append-nil (prefix t) in
+    (t ∷ [], record { counted = refl; codes = rw e (h .codes); ends = rw (e, prefix-length t) })
 
 pub parts-atom : (c : ℕ) → c ≢ 3 → c ≢ 4 → typeParts c ≡ 0
 parts-atom c n m = rw (ne-eqb c 3 n, ne-eqb c 4 m)
 
 module _ {row : List ℕ} {i left e : ℕ} where
   pub types-step : PendingTypes row i left e → 0 < left → PendingTypes row (i + 1) (left - 1 + typeParts (getD row i 0)) e
-  unfolding prefixes widths
+  unfolding prefixes
   types-step ([], p) l = absurd (omega (arith, p .counted))
   types-step (atom a ∷ ts, p) l =
       let q = ap typeParts (stands-head row i (atomCode a) (prefixes ts) (p .codes)) ∙ parts-atom (atomCode a) (atom-code a .0) (atom-code a .1) in
-      (ts, record { counted = rw q (omega (arith, p .counted)); codes = stands-tail row i (atomCode a) (prefixes ts) (p .codes); ends = omega (arith, p .ends) })
+      let k = stands-tail row i (atomCode a) (prefixes ts) (p .codes) in
+      (ts, record { counted = rw q (omega (arith, p .counted)); codes = k; ends = omega (arith, p .ends) })
   types-step (POW u ∷ ts, p) l =
       let q = ap typeParts (stands-head row i 3 (prefix u ++ prefixes ts) (p .codes)) in
       let k = stands-tail row i 3 (prefix u ++ prefixes ts) (p .codes) in
@@ -98,7 +97,8 @@ module _ {row : List ℕ} {i left e : ℕ} where
   types-step ((u ⊗ w) ∷ ts, p) l =
       let q = ap typeParts (stands-head row i 4 ((prefix u ++ prefix w) ++ prefixes ts) (p .codes)) in
       let k = stands-tail row i 4 ((prefix u ++ prefix w) ++ prefixes ts) (p .codes) in
-      (u ∷ w ∷ ts, record { counted = rw q (omega (arith, p .counted)); codes = rw append-assoc at k; ends = omega (arith, p .ends) })
+      let a = append-assoc (prefix u) (prefix w) (prefixes ts) in
+      (u ∷ w ∷ ts, record { counted = rw q (omega (arith, p .counted)); codes = rw a at k; ends = omega (arith, p .ends, ap length a) })
 
   pub types-inside : PendingTypes row i left e → 0 < left → i < length row
   unfolding prefixes
@@ -106,7 +106,7 @@ module _ {row : List ℕ} {i left e : ℕ} where
   types-inside (t ∷ ts, p) l = omega (arith, p .codes .inside, length-append (prefix t) (prefixes ts), prefix-length t, weight-positive t)
 
   pub types-end : PendingTypes row i left e → left ≡ 0 → i ≡ e
-  unfolding widths
+  unfolding prefixes
   types-end ([], p) z = omega (arith, p .ends)
   types-end (t ∷ ts, p) z = absurd (omega (arith, p .counted))
 
@@ -152,17 +152,6 @@ both-no d e = record { sound = λ z. absurd (false≢true z); complete = λ x. a
 both-yes : {A B : Type 0} {q r : Bool} → Decides q A → q ≡ true → Decides r B → Decides r (A × B)
 both-yes d e f = record { sound = λ z. (d .sound e, f .sound z); complete = λ x. f .complete (x .1) }
 
--- A set has only types POW(t), a pair only products.
-set-head : (vs : Values) (t : Ty) → HasType (set vs) t → head t ≡ 3
-set-head vs (atom a) h = absurd h
-set-head vs (POW t) h = refl
-set-head vs (t ⊗ u) h = absurd h
-
-pair-head : (v w : Value) (t : Ty) → HasType (pair v w) t → head t ≡ 4
-pair-head v w (atom a) h = absurd h
-pair-head v w (POW t) h = absurd h
-pair-head v w (t ⊗ u) h = refl
-
 -- An answer that is false, by what it decides.
 pub refuses : {A : Type 0} → (A → ⊥) → Decides false A
 refuses n = record { sound = λ e. absurd (false≢true e); complete = λ a. absurd (n a) }
@@ -188,12 +177,12 @@ module _ {s : List ℕ} {at : ℕ} {row : List ℕ} {from : ℕ} where
   pub set-no : getD s at 0 / cellSize ≡ 5 → getD row from 0 ≢ 3 → OfType s at row from false
   set-no tag n v t h f k =
       let (vs, e, _, _, _) = set-only v h f tag in
-      refuses (λ y. n (first-code row from t k ∙ set-head vs t (rw e at y)))
+      refuses (λ y. n (first-code row from t k ∙ ap head (as-power (sharedTypes vs) t (has→types (set vs) t (rw e at y)) .1)))
 
   pub pair-no : getD s at 0 / cellSize ≡ 4 → getD row from 0 ≢ 4 → OfType s at row from false
   pair-no tag n v t h f k =
       let (x, y, e, _, _, _, _) = pair-only v h f tag in
-      refuses (λ z. n (first-code row from t k ∙ pair-head x y t (rw e at z)))
+      refuses (λ z. n (first-code row from t k ∙ ap head (as-product (typesOf x) (typesOf y) t (has→types (pair x y) t (rw e at z)) .2)))
 
   pub set-type : {n : ℕ} {r : Bool} → getD s at 0 / cellSize ≡ 5 → getD row from 0 ≡ 3 → n ≡ getD s at 0 % cellSize →
       AllOfType s (at + 1) n row (from + 1) r → OfType s at row from r

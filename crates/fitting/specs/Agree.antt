@@ -49,7 +49,7 @@ AgreedWith s a b m r = (v : Value) (ws : Values) → TypedAt s a v → RunAt s b
 
 -- r says whether the n values from a on share a type with the m values from b on.
 abbrev pub AgreedAll : List ℕ → ℕ → ℕ → ℕ → ℕ → Bool → Type 0
-AgreedAll s a n b m r = (vs ws : Values) → RunAt s a n vs → RunAt s b m ws → r ≡ meets (sharedTypes vs) (sharedTypes ws)
+AgreedAll s a n b m r = (ws : Values) → RunAt s b m ws → (vs : Values) → RunAt s a n vs → r ≡ meets (sharedTypes vs) (sharedTypes ws)
 
 abbrev pub emptyCell : ℕ
 emptyCell = 21474836480

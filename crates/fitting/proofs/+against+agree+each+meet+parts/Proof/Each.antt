@@ -4,7 +4,7 @@ use mathlib.Core.Bool.{Bool, true, false}
 use native.Mathlib.Omega.{arith}
 use borrow.Author.Tests.{not-true, not-false}
 use Rattle.fitting.specs.Agree.{SomeTyped, SomeRun, AgreedAll}
-use Rattle.fitting.proofs.Cells.{some-at, end-bounds, run-first, run-rest, all-end, all-false, all-step}
+use Rattle.fitting.proofs.Cells.{some-at, end-bounds, run-first, run-rest, run-end, run-false, run-step}
 use Rattle.fitting.proofs.Cycle.{OverLoop}
 use Rattle.arena.proofs.end_of.Reads as end-of
 use Rattle.fitting.proofs.+against+agree+each+meet+parts.Lts-each as lts
@@ -33,7 +33,7 @@ module _ (t : ℕ) where
   returns : Here lts.Need-returns
   returns c =
       let l = c .before .before in
-      l .before .loop .inv .2 false (all-false (l .loop-test .taken) (c .before .against .ensures) (not-true _ (c .if1 .taken)))
+      l .before .loop .inv .2 false (λ ws k. run-false _ (l .loop-test .taken) (λ v h. c .before .against .ensures v ws h k) (not-true _ (c .if1 .taken)))
 
   loop-again : Here lts.Need-loop-again
   loop-again c =
@@ -44,7 +44,7 @@ module _ (t : ℕ) where
       let e = c .end-of .ensures in (
         run-rest (i .0) q e,
         omega (arith, i .1, end-bounds (next l) e .0),
-        λ r g. i .2 r (all-step q (m .before .against .ensures) (not-false _ (m .if1 .left)) e g),
+        λ r g. i .2 r (λ ws k. run-step _ q (λ v h. m .before .against .ensures v ws h k) (not-false _ (m .if1 .left)) e (g ws k)),
       )
 
   pub closed : {M : Type 1} → lts.Closed claims (each .at t) (each .post) M
@@ -57,4 +57,4 @@ module _ (t : ℕ) where
       (λ c. c .before .before .before .loop-test .taken)
       (λ c. omega (arith, c .before .before .before .loop-test .taken))
       loop-again
-      (λ c. c .before .loop .inv .2 true (all-end (omega (arith, c .loop-test .left))))
+      (λ c. c .before .loop .inv .2 true (λ ws k. run-end _ (omega (arith, c .loop-test .left)) (k .typed)))

@@ -5,8 +5,9 @@ use mathlib.Core.Path.{_≡_, sym, _∙_}
 use native.Mathlib.Omega.{arith}
 use borrow.Author.Needs.{needs}
 use lib.ListN.{getD}
+use Rattle.fitting.proofs.Sharing.{tags-differ}
 use Rattle.fitting.specs.Agree.{SetHere, SomeRun, Agreed, AgreedAll}
-use Rattle.fitting.proofs.Cells.{inside, unlike, members-run, run-first, all-one, sets-agree, other-pair, parts-here, pairs-agree}
+use Rattle.fitting.proofs.Cells.{inside, tag-is, members-run, run-first, run-one, sets-agree, other-pair, parts-here, pairs-agree}
 use Rattle.fitting.proofs.Cycle.{Over}
 use Rattle.arena.proofs.tag.Reads as tag
 use Rattle.fitting.proofs.members.Reads as members
@@ -88,13 +89,14 @@ module _ (t : ℕ) where
       (λ c. omega (arith, inside (c .before .before .before .pre .1 .0 .second)))
       (λ c. let m = c .before in inside (m .before .before .before .pre .1 .0 .second))
       (λ c κs. search needs)
-      (λ c. unlike (λ e. c .if1 .taken (c .before .before .before .tag .ensures ∙ e ∙ sym (c .before .tag2 .ensures))))
+      (λ c. λ v w h k. sym (tags-differ v w
+      (λ e. c .if1 .taken (c .before .before .before .tag .ensures ∙ tag-is h ∙ e ∙ sym (c .before .tag2 .ensures ∙ tag-is k)))))
       (λ c κs. set-a c)
       (λ c κs. set-b (c .before))
       (λ c. omega (arith, inside (set-a (sets (c .before)) .value)))
       (λ c. omega (arith, inside (set-b (sets (c .before)) .value)))
       against-requires
-      (λ c. by-members (c .before .before) (all-one (c .before .if3 .taken) (c .against .ensures)))
+      (λ c. by-members (c .before .before) (λ ws k. run-one _ (c .before .if3 .taken) (λ v h. c .against .ensures v ws h k)))
       (λ c. omega (arith, inside (set-a (sets (c .before)) .value)))
       (λ c. omega (arith, inside (set-b (sets (c .before)) .value)))
       (λ c κs. let m = c .before in (omega (arith, given m .pre .0, inside (set-a (sets m) .value)), record { first = run-a m; second = run-b m }))
