@@ -302,16 +302,13 @@ few-members s a n r c (inr (e, l, f)) (x ▸ ys) h =
       same = λ q. rw (⊓-every (typesOf x)) (full-first x (sharedTypes ys) q (f x y) (h .typed));
     }
 
--- The test of two cells, by the first one's tag.
+-- A test of two numbers.
 pub test-is : (b : Bool) (m n : ℕ) → (b ≡ true → m ≡ n) → (b ≡ false → m ≢ n) → b ≡ eqb m n
 test-is true m n f g = sym (eq-eqb m n (f refl))
 test-is false m n f g = sym (ne-eqb m n (g refl))
 
 pub alike-elements : (x y t : ℕ) (b : Bool) → t ≡ x / cellSize → t ≡ 3 → (b ≡ true → x / 256 ≡ y / 256) → (b ≡ false → x / 256 ≢ y / 256) → b ≡ atomsAlike x y
-alike-elements x y t b e n f g = test-is b (x / 256) (y / 256) f g ∙ rw (eq-eqb (x / cellSize) 3 (sym e ∙ n))
-
-pub alike-others : (x y t u : ℕ) → t ≡ x / cellSize → t ≢ 3 → u ≡ y / cellSize → eqb t u ≡ atomsAlike x y
-alike-others x y t u e n f = rw (ne-eqb (x / cellSize) 3 (λ g. n (e ∙ g)), e, f)
+alike-elements x y t b e n f g = test-is b (x / 256) (y / 256) f g ∙ rw (← e, eq-eqb t 3 n)
 
 pub first-member : {s : List ℕ} {a : ℕ} → SetHere s a → 0 < getD s a 0 % cellSize → SomeTyped s (a + 1)
 first-member h l = let (vs, _, k) = as-set (h .value .1) (h .isSet) in run-first (vs, set-run k) l

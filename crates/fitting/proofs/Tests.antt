@@ -54,7 +54,7 @@ anyPair = every ×ˢ every
 
 -- What each list asks.
 module _ (v : Value) where
-  fits-set : fits (P̂ t̂ ∷ []) (v ∷ []) ≡ inhabited (inner v)
+  pub fits-set : fits (P̂ t̂ ∷ []) (v ∷ []) ≡ inhabited (inner v)
   unfolding fits
   fits-set = rw (set-asked v, ⊓-every (inner v)) (and-true _)
 
@@ -63,15 +63,15 @@ module _ (v : Value) where
   fits-relation = rw (relation-asked v) (pairs-left (inner v) every)
 
   module _ (w : Value) where
-    fits-alike : fits (t̂ ∷ t̂ ∷ []) (v ∷ w ∷ []) ≡ meets (typesOf v) (typesOf w)
-    unfolding fits meets
+    pub fits-alike : fits (t̂ ∷ t̂ ∷ []) (v ∷ w ∷ []) ≡ agree v w
+    unfolding fits agree meets
     fits-alike = rw (⊓-every (typesOf w)) (and-true _)
 
-    fits-belongs : fits (t̂ ∷ P̂ t̂ ∷ []) (v ∷ w ∷ []) ≡ meets (typesOf v) (inner w)
+    pub fits-belongs : fits (t̂ ∷ P̂ t̂ ∷ []) (v ∷ w ∷ []) ≡ meets (typesOf v) (inner w)
     unfolding fits meets
     fits-belongs = rw (set-asked w, ⊓-every (inner w)) (and-true _)
 
-    fits-alike-sets : fits (P̂ t̂ ∷ P̂ t̂ ∷ []) (v ∷ w ∷ []) ≡ meets (inner v) (inner w)
+    pub fits-alike-sets : fits (P̂ t̂ ∷ P̂ t̂ ∷ []) (v ∷ w ∷ []) ≡ meets (inner v) (inner w)
     unfolding fits meets
     fits-alike-sets = rw (set-asked v, set-asked w, ⊓-every (inner w)) (and-true _)
 
@@ -79,75 +79,48 @@ module _ (v : Value) where
     unfolding fits
     fits-applies = rw (relation-asked v) (pairs-left (inner v) (typesOf w))
 
-fits-sets : (v w : Value) → fits (P̂ t̂ ∷ P̂ û ∷ []) (v ∷ w ∷ []) ≡ (inhabited (inner v) && inhabited (inner w))
+pub fits-sets : (v w : Value) → fits (P̂ t̂ ∷ P̂ û ∷ []) (v ∷ w ∷ []) ≡ (inhabited (inner v) && inhabited (inner w))
 unfolding fits meets
 fits-sets v (scalar x) = rw (set-asked v, no-meet (inner v) noType (λ y. y .2)) (sym (and-false (inhabited (inner v))))
 fits-sets v (pair x y) = rw (set-asked v, no-meet (inner v) noType (λ y. y .2)) (sym (and-false (inhabited (inner v))))
 fits-sets v (set ws) = rw (set-asked v, ⊓-every (inner v), ⊓-every (sharedTypes ws))
 
 -- Values of the arena by what the tests ask.
-pub set-cell : (s : List ℕ) (a : ℕ) (v : Value) → TypedAt s a v → eqb (getD s a 0 / cellSize) 5 ≡ inhabited (inner v)
-set-cell s a v h = rw (tag-is h) (go v (h .typed))
+pub set-cell : {s : List ℕ} {a : ℕ} {v : Value} → TypedAt s a v → eqb (getD s a 0 / cellSize) 5 ≡ inhabited (inner v)
+set-cell {v = v} h = rw (tag-is h) (go v (h .typed))
   where
     go : (v : Value) → T (inhabited (typesOf v)) → eqb (tag v) 5 ≡ inhabited (inner v)
     go (scalar x) k = ne-eqb (scalarTag x) 5 (λ e. omega (arith, scalar-low x))
     go (pair x y) k = refl
     go (set vs) k = sym (T-true (inhabited (sharedTypes vs)) .0 k)
 
-pub is-set : (s : List ℕ) (a : ℕ) → FitOne (P̂ t̂ ∷ []) s a (eqb (getD s a 0 / cellSize) 5)
-is-set s a v h = set-cell s a v h ∙ sym (fits-set v)
-
 -- A set shares a type with what has members that do.
-inner-agree : (vs : Values) (w : Value) → agree (set vs) w ≡ meets (sharedTypes vs) (inner w)
+pub inner-agree : (vs : Values) (w : Value) → agree (set vs) w ≡ meets (sharedTypes vs) (inner w)
 unfolding agree meets
 inner-agree vs (scalar x) = sym (no-meet (sharedTypes vs) noType (λ y. y .2))
 inner-agree vs (pair x y) = sym (no-meet (sharedTypes vs) noType (λ y. y .2))
 inner-agree vs (set ws) = refl
 
 -- From the answer of the test for sets.
-module _ (s : List ℕ) (a : ℕ) (r : Bool) (f : FitOne (P̂ t̂ ∷ []) s a r) where
-  pub set-inner : (v : Value) → TypedAt s a v → r ≡ inhabited (inner v)
-  set-inner v h = f v h ∙ fits-set v
+module _ {s : List ℕ} {a : ℕ} {r : Bool} (f : FitOne (P̂ t̂ ∷ []) s a r) where
+  pub set-inner : {v : Value} → TypedAt s a v → inhabited (inner v) ≡ r
+  set-inner {v} h = sym (f v h ∙ fits-set v)
 
   pub set-here : SomeTyped s a → r ≡ true → SetHere s a
-  set-here x e =
-      let k : eqb (getD s a 0 / cellSize) 5 ≡ true = set-cell s a (x .0) (x .1) ∙ sym (set-inner (x .0) (x .1)) ∙ e in
-      record { value = x; isSet = eqb-true (getD s a 0 / cellSize) 5 k }
+  set-here (v, h) e = record { value = (v, h); isSet = eqb-true (getD s a 0 / cellSize) 5 (set-cell h ∙ set-inner h ∙ e) }
 
-  pub no-inner : (v : Value) → TypedAt s a v → r ≡ false → (t : Ty) → inner v ⊑ t → ⊥
-  no-inner v h e t k = subst T (sym (set-inner v h) ∙ e) (some→inhabited (inner v) t k)
+  pub set-not : {v : Value} → TypedAt s a v → r ≡ false → (p : TypeSet) → meets p (inner v) ≡ false
+  set-not {v} h e p = no-meet p (inner v) (λ x. subst T (set-inner h ∙ e) (some→inhabited (inner v) (x .0) (x .2)))
 
-module _ (s : List ℕ) (a b : ℕ) where
-  pub alike-fits : (r : Bool) → Agreed s a b r → FitTwo (t̂ ∷ t̂ ∷ []) s a b r
-  unfolding agree
-  alike-fits r g v w h k = g v w h k ∙ sym (fits-alike v w)
-
-  -- membership
-  pub belongs-not : (r : Bool) → FitOne (P̂ t̂ ∷ []) s b r → r ≡ false → FitTwo (t̂ ∷ P̂ t̂ ∷ []) s a b false
-  belongs-not r f e v w h k = sym (fits-belongs v w ∙ no-meet (typesOf v) (inner w) (λ x. no-inner s b r f w k e (x .0) (x .2)))
-
-  pub belongs-fits : (m : ℕ) (r : Bool) → SetHere s b → Members s b m → AgreedWith s a (b + 1) m r → FitTwo (t̂ ∷ P̂ t̂ ∷ []) s a b r
-  belongs-fits m r p c g v w h k =
+module _ {s : List ℕ} {a b : ℕ} where
+  pub belongs-fits : {m : ℕ} {r : Bool} → SetHere s b → Members s b m → AgreedWith s a (b + 1) m r → FitTwo (t̂ ∷ P̂ t̂ ∷ []) s a b r
+  belongs-fits p c g v w h k =
       let (ws, e, x) = as-set k (p .isSet) in
       let y = c ws x in
       let i : inner w ≡ sharedTypes ws = ap inner e in
       g v (y .few) h (y .run) ∙ meets-same (typesOf v) (typesOf v) (sharedTypes (y .few)) (sharedTypes ws) (λ q. refl) (y .same) ∙
       rw (fits-belongs v w, i)
 
-  -- two sets
-  pub alike-sets-not : (r : Bool) → FitOne (P̂ t̂ ∷ []) s a r → r ≡ false → FitTwo (P̂ t̂ ∷ P̂ t̂ ∷ []) s a b false
-  alike-sets-not r f e v w h k = sym (fits-alike-sets v w ∙ no-meet (inner v) (inner w) (λ x. no-inner s a r f v h e (x .0) (x .1)))
-
-  pub alike-sets-fit : (r : Bool) → SetHere s a → Agreed s a b r → FitTwo (P̂ t̂ ∷ P̂ t̂ ∷ []) s a b r
-  alike-sets-fit r p g v w h k = let (vs, e, x) = as-set h (p .isSet) in g v w h k ∙ rw (fits-alike-sets v w, e) (inner-agree vs w)
-
-  pub sets-not : (r : Bool) → FitOne (P̂ t̂ ∷ []) s a r → r ≡ false → FitTwo (P̂ t̂ ∷ P̂ û ∷ []) s a b false
-  sets-not r f e v w h k = sym (fits-sets v w ∙ rw (sym (set-inner s a r f v h) ∙ e))
-
-  pub sets-fit : (q r : Bool) → FitOne (P̂ t̂ ∷ []) s a q → q ≡ true → FitOne (P̂ t̂ ∷ []) s b r → FitTwo (P̂ t̂ ∷ P̂ û ∷ []) s a b r
-  sets-fit q r f e g v w h k = sym (fits-sets v w ∙ rw (sym (set-inner s a q f v h) ∙ e) (sym (set-inner s b r g w k)))
-
-  -- numbers
   pub numbers-not : getD s a 0 / cellSize ≢ 1 → FitTwo (numᵖ whole ∷ numᵖ whole ∷ []) s a b false
   unfolding fits
   numbers-not n v w h k = rw (number-asked v, ne-eqb (tag v) 1 (λ f. n (tag-is h ∙ f)))
@@ -178,19 +151,19 @@ first-pair x r l =
     of t h = tag-type x t (⊓-split (typesOf x) r t h .0)
 
 -- Relations.
-module _ (s : List ℕ) (a : ℕ) where
+module _ {s : List ℕ} {a : ℕ} where
   pub relation-not : getD s a 0 / cellSize ≢ 5 → FitOne (P̂ (t̂ ×̂ û) ∷ []) s a false
   relation-not n v h =
-      let e = set-cell s a v h in
-      sym (fits-relation v ∙ no-meet (inner v) anyPair (λ x. subst T (sym e ∙ ne-eqb (getD s a 0 / cellSize) 5 n) (some→inhabited (inner v) (x .0) (x .1))))
+      let e = sym (set-cell h) ∙ ne-eqb (getD s a 0 / cellSize) 5 n in
+      sym (fits-relation v ∙ no-meet (inner v) anyPair (λ x. subst T e (some→inhabited (inner v) (x .0) (x .1))))
 
   pub relation-none : getD s a 0 / cellSize ≡ 5 → getD s a 0 % cellSize ≡ 0 → FitOne (P̂ (t̂ ×̂ û) ∷ []) s a true
   unfolding meets
   relation-none t z v h = let (vs, e, x) = as-set h t in rw (fits-relation v, e, no-run (set-run x) z)
 
-  pub relation-first : (b : Bool) → getD s a 0 / cellSize ≡ 5 → getD s a 0 % cellSize ≢ 0 → (b ≡ true → getD s (a + 1) 0 / cellSize ≡ 4) →
+  pub relation-first : {b : Bool} → getD s a 0 / cellSize ≡ 5 → getD s a 0 % cellSize ≢ 0 → (b ≡ true → getD s (a + 1) 0 / cellSize ≡ 4) →
       (b ≡ false → getD s (a + 1) 0 / cellSize ≢ 4) → FitOne (P̂ (t̂ ×̂ û) ∷ []) s a b
-  relation-first b t n f g v h =
+  relation-first {b} t n f g v h =
       let (vs, e, x) = as-set h t in
       let (y, ys, d, k) = as-run (set-run x) (omega arith) in
       test-is b (getD s (a + 1) 0 / cellSize) 4 f g ∙ rw (fits-relation v, e, d, tag-is (run-head k)) (first-pair y (sharedTypes ys) (k .typed))
@@ -265,8 +238,8 @@ few-lefts {vs = pair y z ▸ ys} h p (inr (e, l, f)) = record {
 }
 
 -- Relations and arguments.
-pub applies-not : (s : List ℕ) (a b : ℕ) → FitOne (P̂ (t̂ ×̂ û) ∷ []) s a false → FitTwo (P̂ (t̂ ×̂ û) ∷ t̂ ∷ []) s a b false
-applies-not s a b f v w h k =
+pub applies-not : {s : List ℕ} {a b : ℕ} → FitOne (P̂ (t̂ ×̂ û) ∷ []) s a false → FitTwo (P̂ (t̂ ×̂ û) ∷ t̂ ∷ []) s a b false
+applies-not f v w h k =
     sym (fits-applies v w ∙ no-meet (inner v) (typesOf w ×ˢ every) (λ x.
     let p = as-product (typesOf w) every (x .0) (x .2) in
     subst T (sym (f v h ∙ fits-relation v)) (share→meets (inner v) anyPair (x .0, x .1, subst (λ (t : Ty). anyPair ⊑ t) (sym (p .2)) (tt, tt)))))

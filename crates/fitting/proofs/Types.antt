@@ -113,13 +113,6 @@ module _ {row : List ℕ} {i left e : ℕ} where
   pub types-few : PendingTypes row i left e → left ≤ length row
   types-few p = omega (arith, count-types (p .0), p .1 .counted, p .1 .codes .inside)
 
--- Cells against codes.
-pub atom-element : (x c t l : ℕ) → t ≡ x / cellSize → t ≡ 3 → l ≡ x % cellSize → eqb (l / 256 + 16) c ≡ atomIs x c
-atom-element x c t l e n p = rw (eq-eqb (x / cellSize) 3 (sym e ∙ n), p)
-
-pub atom-other : (x c t : ℕ) → t ≡ x / cellSize → t ≢ 3 → eqb t c ≡ atomIs x c
-atom-other x c t e n = rw (ne-eqb (x / cellSize) 3 (λ f. n (e ∙ f)), e)
-
 -- The code of a type without parts tells the type.
 head-atom : (a : Atom) (t : Ty) → head t ≡ atomCode a → t ≡ atom a
 head-atom a (atom b) e = ap atom (atomCode-injective b a e)

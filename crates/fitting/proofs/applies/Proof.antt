@@ -25,7 +25,7 @@ applies-spec =
     tie.close
     (tie.spec
     (λ c κs. search needs)
-    (λ c. applies-not _ _ _ (rw (not-true (c .before .is-relation .result) (c .if1 .taken)) at (c .before .is-relation .ensures)))
+    (λ c. applies-not (rw (not-true (c .before .is-relation .result) (c .if1 .taken)) at (c .before .is-relation .ensures)))
     (λ c. search needs)
     (λ c. inside (lent (c .before) .pre .first))
     (λ c κs. search needs)

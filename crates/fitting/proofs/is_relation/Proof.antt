@@ -28,7 +28,7 @@ filled n e = n .if2 .left (n .before .low .ensures .0 ∙ e)
 returns-3 : tie.Need-returns-3
 returns-3 c =
     let n = c .before .before in
-    relation-first _ _ _ (a-set (tagged n) .isSet) (filled n)
+    relation-first (a-set (tagged n) .isSet) (filled n)
     (λ e. omega (arith, eqb-true, c .tag2 .ensures)) (λ e q. omega (arith, eqb-false, c .tag2 .ensures))
 
 pub is-relation-spec : {M : Type 1} → statement M
@@ -38,9 +38,9 @@ is-relation-spec =
     (λ c. search needs)
     (λ c. inside (c .before .before .pre))
     (λ c κs. search needs)
-    (λ c. relation-not _ _ (λ e. c .if1 .taken (c .before .tag .ensures ∙ e)))
+    (λ c. relation-not (λ e. c .if1 .taken (c .before .tag .ensures ∙ e)))
     (λ c κs. search needs)
-    (λ c. relation-none _ _ (a-set (c .before .before) .isSet) (omega (arith, c .if2 .taken, c .before .low .ensures .0)))
+    (λ c. relation-none (a-set (c .before .before) .isSet) (omega (arith, c .if2 .taken, c .before .low .ensures .0)))
     (λ c. search needs)
     (λ c. search needs)
     (λ c. member-inside (a-set (tagged (c .before))) (filled (c .before)))
