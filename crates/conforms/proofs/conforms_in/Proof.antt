@@ -5,16 +5,13 @@ use Rattle.conforms.proofs.conforms_in.Statement.{statement}
 use Rattle.conforms.proofs.conforms_in.Tie as tie
 
 -- The values have been read; what was lent, and what is known with either answer.
-abbrev Read : Type 0
-Read = tie.After-load
-
-abbrev known : Read → tie.After-shared-slice-known3
+abbrev known : tie.After-load → tie.After-shared-slice-known3
 known r = r .before .before .before
 
-abbrev lent : Read → tie.Start
+abbrev lent : tie.After-load → tie.Start
 lent r = known r .before .before .before
 
-abbrev read : tie.After-env → Read
+abbrev read : tie.After-env → tie.After-load
 read e = e .before .before .before
 
 abbrev passed : tie.After-env2 → tie.After-enum-told2

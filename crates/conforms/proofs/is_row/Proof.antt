@@ -1,11 +1,11 @@
 -- `is_row`: the row is that of a type exactly where the bytes from i on are read as `left` types (`Begun`).
 use Prim.Native.Nat.{_-_}
-use mathlib.Core.Path.{sym}
+use mathlib.Core.Path.{sym, _∙_}
 use native.Mathlib.Omega.{arith}
 use borrow.Author.Needs.{needs}
 use borrow.Author.Tests.{not-true, not-false, eqb-true, eq-eqb}
 use Rattle.fitting.proofs.Types.{refuses}
-use Rattle.conforms.proofs.RowLaws.{decided-no, Begun, begun-start, begun-goes, begun-step, begun-end}
+use Rattle.conforms.proofs.RowLaws.{Begun, begun-start, begun-stops, begun-step, begun-end}
 use Rattle.conforms.proofs.is_row.Statement.{statement}
 use Rattle.conforms.proofs.is_row.Tie as tie
 
@@ -23,13 +23,13 @@ returns : tie.Need-returns Inv-loop μ-loop
 returns c =
     let g = c .before in
     let l = turn g in
-    refuses _ (λ x. decided-no (g .goes-on .ensures) (not-true _ (c .if1 .taken)) (begun-goes (l .before .loop .inv) (l .loop-test .taken) x))
+    refuses (begun-stops (l .before .loop .inv) (l .loop-test .taken) (sym (g .goes-on .ensures) ∙ not-true _ (c .if1 .taken)))
 
 loop-again : tie.Need-loop-again Inv-loop μ-loop
 loop-again c =
     let g = c .before .before in
     let l = turn g in
-    begun-step (l .before .loop .inv) (l .loop-test .taken) (g .goes-on .ensures .sound (not-false _ (c .before .if1 .left))) (c .left-behind .ensures)
+    begun-step (l .before .loop .inv) (l .loop-test .taken) (sym (g .goes-on .ensures) ∙ not-false _ (c .before .if1 .left)) (c .left-behind .ensures)
 
 returns-2 : tie.Need-returns-2 Inv-loop μ-loop
 returns-2 c =
