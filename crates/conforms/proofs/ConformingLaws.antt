@@ -27,7 +27,8 @@ use Rattle.conforms.specs.Rows.{SheetFits}
 use Rattle.conforms.proofs.RowLaws.{row-long}
 use Rattle.rules.proofs.Basics.{absurd01}
 
-type-read : (o : Option Ty) (v : Value) → T (hasTypeRead o v) ↔ ((t : Ty) × (o ≡ some t) × HasType v t)
+-- A row that is read as a type which the value has.
+pub type-read : (o : Option Ty) (v : Value) → T (hasTypeRead o v) ↔ ((t : Ty) × (o ≡ some t) × HasType v t)
 type-read nothing v = (λ h. absurd h, λ x. absurd01 (cc (x .1)))
 type-read (some t) v = (
   λ h. (t, refl, hasType-right v t .0 h),
@@ -63,29 +64,26 @@ module _ (bs sheet buffer : List ℕ) where
   abbrev loaded : Table → Bool
   loaded tb = doneWith (valuesIn tb buffer) λ vs. allBelow (freeHas tb sheet vs) (length (tb .binds))
 
-  conforming-there : T (conforming bs sheet buffer) → SheetFits bs sheet × Conforming bs sheet buffer
+  conforming-tests : T (conforming bs sheet buffer) ↔ (SheetFits bs sheet × Conforming bs sheet buffer)
   unfolding conforming
-  conforming-there h =
-      let (tb, e, t) = T-doneWith (reading bs) (λ tb. sized tb && loaded tb) .0 h in
-      let (l, v) = T-and (sized tb) (loaded tb) .0 t in
-      let f = T-eqb _ _ .0 l in
-      let (vs, d, k) = T-doneWith (valuesIn tb buffer) (λ vs. allBelow (freeHas tb sheet vs) (length (tb .binds))) .0 v in (
-        record { rows = f ∙ ap sheetLength (reading-table bs tb e) },
-        record { table = tb; reads = e; values = vs; loads = d; types = all-written tb sheet vs f .0 k },
-      )
-
-  conforming-back : SheetFits bs sheet × Conforming bs sheet buffer → T (conforming bs sheet buffer)
-  unfolding conforming
-  conforming-back (f, k) =
-      let tb = k .table in
-      let e = f .rows ∙ sym (ap sheetLength (reading-table bs tb (k .reads))) in
-      let v = T-doneWith (valuesIn tb buffer) (λ vs. allBelow (freeHas tb sheet vs) (length (tb .binds))) .1
-      (k .values, k .loads, all-written tb sheet (k .values) e .1 (k .types)) in
-      T-doneWith (reading bs) (λ tb. sized tb && loaded tb) .1 (tb, k .reads, T-and (sized tb) (loaded tb) .1 (T-eqb _ _ .1 e, v))
+  conforming-tests = (
+    λ h. let (tb, e, t) = T-doneWith (reading bs) (λ tb. sized tb && loaded tb) .0 h in
+        let (l, v) = T-and (sized tb) (loaded tb) .0 t in
+        let f = T-eqb _ _ .0 l in
+        let (vs, d, k) = T-doneWith (valuesIn tb buffer) (λ vs. allBelow (freeHas tb sheet vs) (length (tb .binds))) .0 v in (
+          record { rows = f ∙ ap sheetLength (reading-table bs tb e) },
+          record { table = tb; reads = e; values = vs; loads = d; types = all-written tb sheet vs f .0 k },
+        ),
+    λ (f, k). let tb = k .table in
+        let e = f .rows ∙ sym (ap sheetLength (reading-table bs tb (k .reads))) in
+        let v = T-doneWith (valuesIn tb buffer) (λ vs. allBelow (freeHas tb sheet vs) (length (tb .binds))) .1
+        (k .values, k .loads, all-written tb sheet (k .values) e .1 (k .types)) in
+        T-doneWith (reading bs) (λ tb. sized tb && loaded tb) .1 (tb, k .reads, T-and (sized tb) (loaded tb) .1 (T-eqb _ _ .1 e, v)),
+  )
 
   -- The computing definition says what the other does, and that the sheet has the table's length.
   pub conforming-right : Decides (conforming bs sheet buffer) (SheetFits bs sheet × Conforming bs sheet buffer)
   conforming-right = record {
-    sound = λ e. conforming-there (T-true (conforming bs sheet buffer) .1 e);
-    complete = λ k. T-true (conforming bs sheet buffer) .0 (conforming-back k);
+    sound = λ e. conforming-tests .0 (T-true (conforming bs sheet buffer) .1 e);
+    complete = λ k. T-true (conforming bs sheet buffer) .0 (conforming-tests .1 k);
   }

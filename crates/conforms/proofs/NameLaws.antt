@@ -4,14 +4,13 @@ use Prim.Native.Nat.{ℕ, _+_, _*_, _≤_, _<_}
 use mathlib.Core.Bool.{Bool, true, false, _&&_, and-false, false≢true}
 use mathlib.Core.List.{List}
 use mathlib.Core.Logic.{_≢_}
-use mathlib.Core.Option.{Option, none as nothing, some}
 use mathlib.Core.Path.{_≡_, refl, sym, _∙_, subst}
 use native.Mathlib.Omega.{arith}
 use native.Mathlib.Numerals.{add-one}
 use lib.Dec.{eqb}
 use lib.ListN.{length, getD}
 use borrow.Author.Tests.{eq-eqb, ne-eqb}
-use Rattle.rules.specs.Types.{Ty, typeOfRow}
+use Rattle.rules.specs.Types.{typeOfRow}
 use Rattle.rules.specs.Cells.{noValue, valuesIn}
 use Rattle.rules.specs.Ends.{allBelow, doneWith}
 use Rattle.rules.specs.Tables.{tableOf, identifierCount}
@@ -28,18 +27,14 @@ use Rattle.reading.specs.declared.Reading.{Reading}
 use Rattle.reading.specs.declared.Reading.the-variants.{Refused as Unreadable}
 use Rattle.reading.specs.Answers.{readingOf}
 use Rattle.table.specs.Layout.{WordOf}
-use Rattle.fitting.specs.Types.{SomeType, OfType, Decides}
+use Rattle.fitting.specs.Types.{OfType, Decides}
 use Rattle.buffer.specs.declared.Loaded.{Loaded}
 use Rattle.buffer.specs.declared.Loaded.the-variants.{All, Refused}
 use Rattle.buffer.specs.Loaded.{Loads}
-use Rattle.conforms.specs.Conforming.{rowAt, hasTypeRead, freeHas, conforming}
-use Rattle.conforms.specs.Rows.{TypeRow, NameReady, NameHas, SheetFits}
-use Rattle.conforms.specs.Rows.{LoadedFrom, ValuesLoaded, LoadedConform}
+use Rattle.conforms.specs.Conforming.{rowAt, freeHas, conforming}
+use Rattle.conforms.specs.Rows.{TypeRow, NameReady, NameHas, SheetFits, LoadedFrom, ValuesLoaded, LoadedConform}
 use Rattle.conforms.proofs.RowLaws.{some-left, type-there}
-
--- The type of a row that is one's.
-pub row-some : {sheet : List ℕ} {x : ℕ} → 64 * x + 64 ≤ length sheet → TypeRow sheet x → SomeType sheet (64 * x)
-row-some room t = (t .type, type-there room t)
+use Rattle.conforms.proofs.ConformingLaws.{type-read}
 
 -- The value of the identifier x, by its word w and its row: q says whether that is the row of a type.
 module _ (bs s : List ℕ) (at : ℕ) (sheet : List ℕ) (x w : ℕ) (word : WordOf bs x w) where
@@ -48,14 +43,11 @@ module _ (bs s : List ℕ) (at : ℕ) (sheet : List ℕ) (x w : ℕ) (word : Wor
 
   module _ (e : w ≡ 0) where
     pub name-no : {q : Bool} → Decides q (TypeRow sheet x) → q ≡ false → NameHas bs s at sheet x false
-    name-no d n v h f = rw (← word 1, e) (go (typeOfRow (rowAt sheet x)) refl)
-      where
-        go : (o : Option Ty) → typeOfRow (rowAt sheet x) ≡ o → false ≡ hasTypeRead o v
-        go nothing g = refl
-        go (some t) g = absurd (false≢true (sym n ∙ d .complete (record { type = t; read = g })))
+    name-no d n v h f = rw (← word 1, e) (sym (T-false _ .0 (λ k.
+        let (t, g, _) = type-read (typeOfRow (rowAt sheet x)) v .0 k in false≢true (sym n ∙ d .complete (record { type = t; read = g })))))
 
-    pub name-yes : (r : Bool) → 64 * x + 64 ≤ length sheet → TypeRow sheet x → OfType s at sheet (64 * x) r → NameHas bs s at sheet x r
-    name-yes r room y o v h f =
+    pub name-yes : {r : Bool} → 64 * x + 64 ≤ length sheet → TypeRow sheet x → OfType s at sheet (64 * x) r → NameHas bs s at sheet x r
+    name-yes {r} room y o v h f =
         let k = o v (y .type) h f (type-there room y) in
         let t = hasType-right v (y .type) in
         rw (← word 1, e, y .read) (bool-eq r _ (λ z. t .1 (k .sound (T-true r .0 z))) (λ z. T-true r .1 (k .complete (t .0 z))))

@@ -40,67 +40,48 @@ abbrev Counted : Option (List Ty) → ℕ → Type 0
 Counted nothing n = ⊥
 Counted (some ts) n = length ts ≡ n
 
--- A code from 5 on is that of a given set, or none.
-given-counts : (c k n : ℕ) (ts : List Ty) → c ≡ k → 4 < c →
-    Counted (cond (leb 16 k) (some (G (k - 16) ∷ ts)) nothing) (suc n) ↔ (T (isCode c) × (length ts ≡ n + typeParts c))
-given-counts c k n ts e l =
+-- A byte that is not zero makes a type of its parts behind it, or nothing; from 5 on it is the code of a given set, or none.
+made-given : (c k n : ℕ) (ts : List Ty) → c ≡ k → 4 < c →
+    Counted (cond (leb 16 k) (some (G (k - 16) ∷ ts)) nothing) n ↔ (T (isCode c) × (0 < n) × (length ts + 1 ≡ n + typeParts c))
+made-given c k n ts e l =
     rw (e, parts-atom k (λ f. omega arith) (λ f. omega arith), ne-eqb k 0 (λ f. omega arith), lt-leb k 4 (omega arith)) (go (leb 16 k))
   where
-    go : (b : Bool) → Counted (cond b (some (G (k - 16) ∷ ts)) nothing) (suc n) ↔ (T (cond b true false) × (length ts ≡ n + 0))
-    go true = (λ h. (tt, omega arith), λ h. omega (arith, h .1))
+    go : (b : Bool) → Counted (cond b (some (G (k - 16) ∷ ts)) nothing) n ↔ (T (cond b true false) × (0 < n) × (length ts + 1 ≡ n + 0))
+    go true = (λ h. (tt, omega arith, omega arith), λ h. omega (arith, h .2))
     go false = (λ h. absurd h, λ h. absurd (h .0))
 
--- A byte that is not zero makes a type, or nothing.
-some-made : (c : ℕ) (ts : List Ty) → Counted (codeBefore (suc c) ts) 0 → ⊥
-some-made zero ts h = omega arith
-some-made (suc zero) ts h = omega arith
-some-made (suc (suc zero)) [] h = h
-some-made (suc (suc zero)) (t ∷ ts) h = omega arith
-some-made (suc (suc (suc zero))) [] h = h
-some-made (suc (suc (suc zero))) (t ∷ []) h = h
-some-made (suc (suc (suc zero))) (t ∷ u ∷ ts) h = omega arith
-some-made (suc (suc (suc (suc c)))) ts h = go (leb 16 (5 + c)) h
-  where
-    go : (b : Bool) → Counted (cond b (some (G (5 + c - 16) ∷ ts)) nothing) 0 → ⊥
-    go true h = omega arith
-    go false h = h
+made : (c : ℕ) (ts : List Ty) (n : ℕ) → Counted (codeBefore (suc c) ts) n ↔ (T (isCode (suc c)) × (0 < n) × (length ts + 1 ≡ n + typeParts (suc c)))
+made zero ts n = (λ h. (tt, omega arith, omega arith), λ h. omega (arith, h .2))
+made (suc zero) ts n = (λ h. (tt, omega arith, omega arith), λ h. omega (arith, h .2))
+made (suc (suc zero)) [] n = (λ h. absurd h, λ h. absurd (omega (arith, h .1, h .2)))
+made (suc (suc zero)) (t ∷ ts) n = (λ h. (tt, omega arith, omega arith), λ h. omega (arith, h .2))
+made (suc (suc (suc zero))) [] n = (λ h. absurd h, λ h. absurd (omega (arith, h .1, h .2)))
+made (suc (suc (suc zero))) (t ∷ []) n = (λ h. absurd h, λ h. absurd (omega (arith, h .1, h .2)))
+made (suc (suc (suc zero))) (t ∷ u ∷ ts) n = (λ h. (tt, omega arith, omega arith), λ h. omega (arith, h .2))
+made (suc (suc (suc (suc c)))) ts n = made-given (suc (suc (suc (suc (suc c))))) (5 + c) n ts (omega arith) (omega arith)
 
 -- What a byte makes of the types behind it.
 counts : (c : ℕ) (o : Option (List Ty)) (n : ℕ) → Counted (bind o (codeBefore c)) n ↔ (T (goesOn c n) × Counted o (leftBehind c n))
 unfolding bind
 counts c nothing n = (λ h. absurd h, λ h. absurd (h .1))
 counts zero (some []) zero = (λ h. (tt, refl), λ h. refl)
-counts zero (some (t ∷ ts)) zero = (λ h. absurd h, λ h. omega (arith, h .1))
-counts (suc c) (some ts) zero = (λ h. absurd (some-made c ts h), λ h. absurd (omega (arith, T-eqb (suc c) 0 .0 (h .0))))
 counts zero (some []) (suc n) = (λ h. absurd (omega arith), λ h. absurd (h .0))
+counts zero (some (t ∷ ts)) zero = (λ h. absurd h, λ h. omega (arith, h .1))
 counts zero (some (t ∷ ts)) (suc n) = (λ h. absurd h, λ h. absurd (h .0))
-counts (suc zero) (some ts) (suc n) = (λ h. (tt, omega arith), λ h. omega (arith, h .1))
-counts (suc (suc zero)) (some ts) (suc n) = (λ h. (tt, omega arith), λ h. omega (arith, h .1))
-counts (suc (suc (suc zero))) (some []) (suc n) = (λ h. absurd h, λ h. absurd (omega (arith, h .1)))
-counts (suc (suc (suc zero))) (some (t ∷ ts)) (suc n) = (λ h. (tt, omega arith), λ h. omega (arith, h .1))
-counts (suc (suc (suc (suc zero)))) (some []) (suc n) = (λ h. absurd h, λ h. absurd (omega (arith, h .1)))
-counts (suc (suc (suc (suc zero)))) (some (t ∷ [])) (suc n) = (λ h. absurd h, λ h. absurd (omega (arith, h .1)))
-counts (suc (suc (suc (suc zero)))) (some (t ∷ u ∷ ts)) (suc n) = (λ h. (tt, omega arith), λ h. omega (arith, h .1))
-counts (suc (suc (suc (suc (suc c))))) (some ts) (suc n) = given-counts (suc (suc (suc (suc (suc c))))) (5 + c) n ts (omega arith) (omega arith)
+counts (suc c) (some ts) zero = (λ h. absurd (omega (arith, made c ts 0 .0 h .1)), λ h. absurd (omega (arith, T-eqb (suc c) 0 .0 (h .0))))
+counts (suc c) (some ts) (suc n) =
+    let m = made c ts (suc n) in (λ h. (m .0 h .0, omega (arith, m .0 h .2)), λ h. m .1 (h .0, omega arith, omega (arith, h .1)))
 
 -- A row is that of a type where it is read as one.
+only : (o : Option (List Ty)) → ((t : Ty) × (onlyType o ≡ some t)) ↔ Counted o 1
+only nothing = (λ x. absurd01 (cc (x .1)), λ h. absurd h)
+only (some []) = (λ x. absurd01 (cc (x .1)), λ h. absurd (omega arith))
+only (some (t ∷ [])) = (λ x. refl, λ h. (t, refl))
+only (some (t ∷ u ∷ ts)) = (λ x. absurd01 (cc (x .1)), λ h. absurd (omega arith))
+
 one-type : (sheet : List ℕ) (p : ℕ) → TypeRow sheet p ↔ Counted (typesIn (rowAt sheet p)) 1
 unfolding typeOfRow
-one-type sheet p =
-    let o = typesIn (rowAt sheet p) in
-    (λ x. one o (x .type) (x .read), λ h. let x = only o h in record { type = x .0; read = x .1 })
-  where
-    one : (o : Option (List Ty)) (t : Ty) → onlyType o ≡ some t → Counted o 1
-    one nothing t e = absurd01 (cc)
-    one (some []) t e = absurd01 (cc)
-    one (some (t ∷ [])) u e = refl
-    one (some (t ∷ u ∷ ts)) v e = absurd01 (cc)
-
-    only : (o : Option (List Ty)) → Counted o 1 → (t : Ty) × (onlyType o ≡ some t)
-    only nothing h = absurd h
-    only (some []) h = absurd (omega arith)
-    only (some (t ∷ [])) h = (t, refl)
-    only (some (t ∷ u ∷ ts)) h = absurd (omega arith)
+one-type sheet p = let o = only (typesIn (rowAt sheet p)) in (λ x. o .0 (x .type, x .read), λ h. let (t, e) = o .1 h in record { type = t; read = e })
 
 -- `is_row` has read the row of p up to i: it is that of a type exactly where the bytes from i on are read as `left` types.
 abbrev rest : List ℕ → ℕ → ℕ → Option (List Ty)
