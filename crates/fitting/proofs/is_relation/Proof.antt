@@ -25,12 +25,6 @@ tagged n = n .before .before
 filled : (n : tie.Else2) → getD (lent (tagged n) .args .s .now) (lent (tagged n) .args .a) 0 % 4294967296 ≢ 0
 filled n e = n .if2 .left (n .before .low .ensures .0 ∙ e)
 
-returns-3 : tie.Need-returns-3
-returns-3 c =
-    let n = c .before .before in
-    relation-first (a-set (tagged n) .isSet) (filled n)
-    (λ e. omega (arith, eqb-true, c .tag2 .ensures)) (λ e q. omega (arith, eqb-false, c .tag2 .ensures))
-
 pub is-relation-spec : {M : Type 1} → statement M
 is-relation-spec =
     tie.close
@@ -45,4 +39,6 @@ is-relation-spec =
     (λ c. search needs)
     (λ c. member-inside (a-set (tagged (c .before))) (filled (c .before)))
     (λ c κs. search needs)
-    returns-3)
+    (λ c. let n = c .before .before in
+    relation-first (a-set (tagged n) .isSet) (filled n)
+    (λ e. omega (arith, eqb-true, c .tag2 .ensures)) (λ e q. omega (arith, eqb-false, c .tag2 .ensures))))

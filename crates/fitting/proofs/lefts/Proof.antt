@@ -23,11 +23,6 @@ lent l = l .before .before .before
 first : (l : tie.In-loop Inv μ) → SomeTyped (lent l .args .s .now) (l .before .loop .i) × SomeTyped (lent l .args .s .now) (l .before .loop .i + 1)
 first l = pairs-first (l .before .loop .inv .0) (l .loop-test .taken)
 
-returns : tie.Need-returns Inv μ
-returns c =
-    let l = c .before .before in
-    l .before .loop .inv .1 false (lefts-false (l .loop-test .taken) (c .before .agree .ensures) (not-true _ (c .if1 .taken)))
-
 loop-again : tie.Need-loop-again Inv μ
 loop-again c =
     let m = c .before in
@@ -44,7 +39,8 @@ lefts-spec =
     (λ c. (c .before .pre, λ r g. g))
     (λ c. omega (arith, inside (first c .0)))
     (λ c κs. record { first = first c .1; second = c .before .loop .inv .0 .second })
-    returns
+    (λ c. let l = c .before .before in
+    l .before .loop .inv .1 false (lefts-false (l .loop-test .taken) (c .before .agree .ensures) (not-true _ (c .if1 .taken))))
     (λ c κs. some-at (first (c .before .before) .0))
     (λ c. c .before .before .before .loop-test .taken)
     (λ c. omega (arith, c .before .before .before .loop-test .taken))

@@ -6,11 +6,6 @@ use Rattle.fitting.proofs.Tests.{fits-sets, set-inner}
 use Rattle.fitting.proofs.sets.Statement.{statement}
 use Rattle.fitting.proofs.sets.Tie as tie
 
-returns-2 : tie.Need-returns-2
-returns-2 c = λ v w h k.
-    let m = c .before in
-    sym (fits-sets v w ∙ rw (set-inner (m .before .is-set .ensures) h ∙ not-false _ (m .if1 .left)) (set-inner (c .is-set2 .ensures) k))
-
 pub sets-spec : {M : Type 1} → statement M
 sets-spec =
     tie.close
@@ -18,4 +13,5 @@ sets-spec =
     (λ c κs. search needs)
     (λ c. λ v w h k. sym (fits-sets v w ∙ rw (set-inner (c .before .is-set .ensures) h ∙ not-true _ (c .if1 .taken))))
     (λ c κs. search needs)
-    returns-2)
+    (λ c. λ v w h k. let m = c .before in
+    sym (fits-sets v w ∙ rw (set-inner (m .before .is-set .ensures) h ∙ not-false _ (m .if1 .left)) (set-inner (c .is-set2 .ensures) k))))

@@ -37,12 +37,6 @@ module _ (t : ℕ) where
   shares : (m : Here lts.Else1) → Agreed (lent (turn m) .args .s .now) (lent (turn m) .args .a) (turn m .before .loop .j) true
   shares m = rw (not-false (m .before .agree .result) (m .if1 .left)) at (m .before .agree .ensures)
 
-  returns : Here lts.Need-returns
-  returns c =
-      let l = c .before .before in
-      l .before .loop .inv .1 false
-      (with-false _ _ _ _ (l .loop-test .taken) (rw (not-true (c .before .agree .result) (c .if1 .taken)) at (c .before .agree .ensures)))
-
   loop-again : Here lts.Need-loop-again
   loop-again c =
       let m = c .before .before in
@@ -55,7 +49,9 @@ module _ (t : ℕ) where
       lts.spec claims (against .at t) (against .post) Inv μ
       (λ c. (c .before .pre .1 .second, λ r g. g))
       (λ c κs. let p = lent c .pre in (omega (arith, p .0), record { first = p .1 .first; second = next c }))
-      returns
+      (λ c. let l = c .before .before in
+      l .before .loop .inv .1 false
+      (with-false _ _ _ _ (l .loop-test .taken) (rw (not-true (c .before .agree .result) (c .if1 .taken)) at (c .before .agree .ensures))))
       (λ c. turn (c .before) .before .loop .inv .1 true (with-last _ _ _ _ (c .if2 .taken) (shares (c .before))))
       (λ c κs. some-at (next (turn (c .before))))
       (λ c. turn (c .before .before) .loop-test .taken)

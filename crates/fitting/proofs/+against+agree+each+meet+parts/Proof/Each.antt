@@ -30,11 +30,6 @@ module _ (t : ℕ) where
   next : (l : Here lts.In-loop) → SomeTyped (lent l .args .s .now) (l .before .loop .i)
   next l = run-first (l .before .loop .inv .0) (l .loop-test .taken)
 
-  returns : Here lts.Need-returns
-  returns c =
-      let l = c .before .before in
-      l .before .loop .inv .2 false (λ ws k. run-false _ (l .loop-test .taken) (λ v h. c .before .against .ensures v ws h k) (not-true _ (c .if1 .taken)))
-
   loop-again : Here lts.Need-loop-again
   loop-again c =
       let m = c .before in
@@ -52,7 +47,8 @@ module _ (t : ℕ) where
       lts.spec claims (each .at t) (each .post) Inv μ
       (λ c. (c .before .pre .1 .first, omega arith, λ r g. g))
       (λ c κs. let p = lent c .pre in (omega (arith, p .0, c .before .loop .inv .1), record { first = next c; second = p .1 .second }))
-      returns
+      (λ c. let l = c .before .before in
+      l .before .loop .inv .2 false (λ ws k. run-false _ (l .loop-test .taken) (λ v h. c .before .against .ensures v ws h k) (not-true _ (c .if1 .taken))))
       (λ c κs. some-at (next (c .before .before)))
       (λ c. c .before .before .before .loop-test .taken)
       (λ c. omega (arith, c .before .before .before .loop-test .taken))

@@ -19,18 +19,6 @@ module _ (t : ℕ) where
   abbrev lent : Here lts.Else1 → Here lts.Start
   lent m = m .before .before .before
 
-  agree-requires-2 : Here lts.Need-agree-requires-2
-  agree-requires-2 c κs =
-      let p = lent (c .before .before) .pre in
-      let e = c .before .end-of .ensures in
-      (omega (arith, p .0, end-bounds (p .1 .left) e), record { first = p .1 .right _ e; second = p .1 .otherRight _ (c .end-of2 .ensures) })
-
-  returns-2 : Here lts.Need-returns-2
-  returns-2 c =
-      let e = c .before .before in
-      let m = e .before in
-      parts-true (e .end-of .ensures) (c .before .end-of2 .ensures) (m .before .agree .ensures) (not-false _ (m .if1 .left)) (c .agree2 .ensures)
-
   pub closed : {M : Type 1} → lts.Closed claims (parts .at t) (parts .post) M
   closed =
       lts.spec claims (parts .at t) (parts .post)
@@ -38,5 +26,9 @@ module _ (t : ℕ) where
       (λ c. parts-false (c .before .agree .ensures) (not-true _ (c .if1 .taken)))
       (λ c κs. some-at (lent c .pre .1 .left))
       (λ c κs. some-at (lent (c .before) .pre .1 .otherLeft))
-      agree-requires-2
-      returns-2
+      (λ c κs. let p = lent (c .before .before) .pre in
+      let e = c .before .end-of .ensures in
+      (omega (arith, p .0, end-bounds (p .1 .left) e), record { first = p .1 .right _ e; second = p .1 .otherRight _ (c .end-of2 .ensures) }))
+      (λ c. let e = c .before .before in
+      let m = e .before in
+      parts-true (e .end-of .ensures) (c .before .end-of2 .ensures) (m .before .agree .ensures) (not-false _ (m .if1 .left)) (c .agree2 .ensures))

@@ -32,11 +32,6 @@ module _ (t : ℕ) where
   next : (l : Here lts.In-loop) → SomeAt (lent (l .before) .args .s .now) (l .before .loop .i)
   next l = values-next (l .before .loop .inv .0) (l .loop-test .taken) .0
 
-  returns : Here lts.Need-returns
-  returns c =
-      let l = c .before .before in
-      l .before .loop .inv .2 false (all-of-no (l .loop-test .taken) (c .before .has-type .ensures) (not-true _ (c .if1 .taken)))
-
   loop-again : Here lts.Need-loop-again
   loop-again c =
       let m = c .before in
@@ -54,7 +49,8 @@ module _ (t : ℕ) where
       lts.spec claims (all-of-type .at t) (all-of-type .post) Inv μ
       (λ c. (c .before .before .pre .1, omega arith, λ r g. g))
       (λ c κs. let i = c .before .loop .inv in (omega (arith, lent (c .before) .pre .0, i .1), (next c, i .0 .type)))
-      returns
+      (λ c. let l = c .before .before in
+      l .before .loop .inv .2 false (all-of-no (l .loop-test .taken) (c .before .has-type .ensures) (not-true _ (c .if1 .taken))))
       (λ c κs. next (c .before .before))
       (λ c. c .before .before .before .loop-test .taken)
       (λ c. omega (arith, c .before .before .before .loop-test .taken))

@@ -61,22 +61,6 @@ module _ (t : ℕ) where
         set-asks (p .1 .0) (p .1 .1) (is-tag m 5 (c .before .before .if1 .taken)) (c .before .if2 .left) (c .low .ensures .0),
       )
 
-  returns-2 : Here lts.Need-returns-2
-  returns-2 c =
-      let d = c .before in
-      set-type (is-tag (of-set d) 5 (d .before .before .if1 .taken)) (d .before .if2 .left) (d .low .ensures .0) (c .all-of-type .ensures)
-
-  parts-of-type-requires : Here lts.Need-parts-of-type-requires
-  parts-of-type-requires c κs =
-      let m = of-pair c in
-      let p = lent m .pre in
-      (omega (arith, p .0, value-inside (lent m)), pair-asks (p .1 .0) (p .1 .1) (is-tag m 4 (c .before .if3 .taken)) (c .if4 .left))
-
-  returns-5 : Here lts.Need-returns-5
-  returns-5 c =
-      let e = c .before .before .before .tag .ensures in
-      is-atom (c .atom-is .ensures) (λ q. c .before .before .if1 .left (e ∙ q)) (λ q. c .before .if3 .left (e ∙ q))
-
   pub closed : {M : Type 1} → lts.Closed claims (has-type .at t) (has-type .post) M
   closed =
       lts.spec claims (has-type .at t) (has-type .post)
@@ -89,11 +73,15 @@ module _ (t : ℕ) where
       (λ c. omega (arith, value-inside (lent (of-set c))))
       (λ c. omega (arith, code-inside (lent (of-set c))))
       all-of-type-requires
-      returns-2
+      (λ c. let d = c .before in
+      set-type (is-tag (of-set d) 5 (d .before .before .if1 .taken)) (d .before .if2 .left) (d .low .ensures .0) (c .all-of-type .ensures))
       (λ c. pair-no (is-tag (c .before .before .before) 4 (c .before .if3 .taken)) (c .if4 .taken))
       (λ c. omega (arith, value-inside (lent (of-pair c))))
       (λ c. omega (arith, code-inside (lent (of-pair c))))
-      parts-of-type-requires
+      (λ c κs. let m = of-pair c in
+      let p = lent m .pre in
+      (omega (arith, p .0, value-inside (lent m)), pair-asks (p .1 .0) (p .1 .1) (is-tag m 4 (c .before .if3 .taken)) (c .if4 .left)))
       (λ c. let d = c .before in pair-type (is-tag (of-pair d) 4 (d .before .if3 .taken)) (d .if4 .left) (c .parts-of-type .ensures))
       (λ c κs. search needs)
-      returns-5
+      (λ c. let e = c .before .before .before .tag .ensures in
+      is-atom (c .atom-is .ensures) (λ q. c .before .before .if1 .left (e ∙ q)) (λ q. c .before .if3 .left (e ∙ q)))

@@ -27,12 +27,6 @@ module _ (t : ℕ) where
       -- The second type begins where the first one ends: an `omega`, which fails where the code hands over another place.
       (omega (arith, p .0, ends-behind (p .1 .left) e), (p .1 .right _ e, p .1 .next _ (λ u h. omega (arith, c .type-end .ensures u h))))
 
-  returns-2 : Here lts.Need-returns-2
-  returns-2 c =
-      let e = c .before .before in
-      let m = e .before in
-      parts-yes (e .end-of .ensures) (c .before .type-end .ensures) (m .before .has-type .ensures) (not-false _ (m .if1 .left)) (c .has-type2 .ensures)
-
   pub closed : {M : Type 1} → lts.Closed claims (parts-of-type .at t) (parts-of-type .post) M
   closed =
       lts.spec claims (parts-of-type .at t) (parts-of-type .post)
@@ -41,4 +35,6 @@ module _ (t : ℕ) where
       (λ c κs. lent (c .before) .pre .1 .left)
       (λ c κs. lent (c .before .before) .pre .1 .type)
       has-type-requires-2
-      returns-2
+      (λ c. let e = c .before .before in
+      let m = e .before in
+      parts-yes (e .end-of .ensures) (c .before .type-end .ensures) (m .before .has-type .ensures) (not-false _ (m .if1 .left)) (c .has-type2 .ensures))
