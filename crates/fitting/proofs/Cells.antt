@@ -1,6 +1,6 @@
 -- Values that stand in the arena: what their cells tell of the types that they share.
 use Prim.Native.Nat.{ℕ, _+_, _*_, _-_, _/_, _%_, _≤_, _<_}
-use mathlib.Core.Bool.{Bool, true, false, _&&_, cond}
+use mathlib.Core.Bool.{Bool, true, false, _&&_}
 use mathlib.Core.List.{List}
 use mathlib.Core.Logic.{_≢_, inl, inr}
 use borrow.Author.Tests.{eq-eqb, ne-eqb, eqb-true}
@@ -9,9 +9,9 @@ use native.Mathlib.Omega.{arith}
 use native.Mathlib.Decide.{ℕ-discrete}
 use lib.Dec.{T, eqb}
 use lib.ListN.{length, getD}
-use Rattle.rules.specs.Types.{whole, number, bool, given}
+use Rattle.rules.specs.Types.{whole, number, bool}
 use Rattle.rules.specs.Values.{Scalar, num, truth, element, Value, scalar, pair, set, Values, none, _▸_, scalarTag, tag, count, weight, weights}
-use Rattle.rules.specs.Fits.{TypeSet, noType, atomˢ, _⊓_, typesOf, sharedTypes, inhabited, typed}
+use Rattle.rules.specs.Fits.{TypeSet, atomˢ, _⊓_, typesOf, sharedTypes, inhabited, typed}
 use Rattle.arena.specs.Code.{cellSize, code, codes, ValueAt, ValuesAt, CellsFit, SomeAt, EndsAt}
 use Rattle.arena.proofs.CodeLaws.{length-code}
 use Rattle.arena.proofs.Standing.{stands-head, stands-tail, stands-front, stands-back}
@@ -247,17 +247,13 @@ atoms-agree s a b l (scalar (element g₀ k₀)) (scalar (num whole j)) h k = rw
 atoms-agree s a b l (scalar (element g₀ k₀)) (scalar (truth b₁)) h k = rw (tag-is h, far s a b (λ e. omega (arith, tag-is h, tag-is k)))
 atoms-agree s a b l (scalar (element g₀ k₀)) (pair x y) h k = rw (tag-is h, far s a b (λ e. omega (arith, tag-is h, tag-is k)))
 atoms-agree s a b l (scalar (element g₀ k₀)) (set ws) h k = rw (tag-is h, far s a b (λ e. omega (arith, tag-is h, tag-is k)))
-atoms-agree s a b l (scalar (element g₀ k₀)) (scalar (element g₁ k₁)) h k = rw (tag-is h) (go (ℕ-discrete g₀ g₁))
-  where
-    x : getD s a 0 / 256 ≡ 50331648 + g₀
-    x = omega (arith, first-cell s a (scalar (element g₀ k₀)) (h .stands) (h .fits), h .fits .0)
-
-    y : getD s b 0 / 256 ≡ 50331648 + g₁
-    y = omega (arith, first-cell s b (scalar (element g₁ k₁)) (k .stands) (k .fits), k .fits .0)
-
-    go : Dec (g₀ ≡ g₁) → eqb (getD s a 0 / 256) (getD s b 0 / 256) ≡ inhabited (cond (eqb g₀ g₁) (atomˢ (given g₀)) noType)
-    go (yes e) = rw (eq-eqb g₀ g₁ e) (eq-eqb (getD s a 0 / 256) (getD s b 0 / 256) (omega (arith, x, y)))
-    go (no n) = rw (ne-eqb g₀ g₁ n) (ne-eqb (getD s a 0 / 256) (getD s b 0 / 256) (λ e. n (omega (arith, x, y))))
+atoms-agree s a b l (scalar (element g₀ k₀)) (scalar (element g₁ k₁)) h k =
+    let x : getD s a 0 / 256 ≡ 50331648 + g₀ = omega (arith, first-cell s a (scalar (element g₀ k₀)) (h .stands) (h .fits), h .fits .0) in
+    let y : getD s b 0 / 256 ≡ 50331648 + g₁ = omega (arith, first-cell s b (scalar (element g₁ k₁)) (k .stands) (k .fits), k .fits .0) in
+    rw (tag-is h) (elim (ℕ-discrete g₀ g₁) [
+      | yes e ↦ rw (eq-eqb g₀ g₁ e, eq-eqb (getD s a 0 / 256) (getD s b 0 / 256) (omega arith))
+      | no n ↦ rw (ne-eqb g₀ g₁ n, ne-eqb (getD s a 0 / 256) (getD s b 0 / 256) (λ e. n (omega arith)))
+    ])
 atoms-agree s a b l (pair x y) w h k = absurd (omega (arith, tag-is h))
 atoms-agree s a b l (set vs) w h k = absurd (omega (arith, tag-is h))
 

@@ -51,13 +51,10 @@ pub is-product : (row : List ℕ) (from : ℕ) (t : Ty) → TypeAt row from t �
 is-product row from (atom a) h e = absurd (atom-code a .1 (sym (first-code row from (atom a) h) ∙ e))
 is-product row from (POW u) h e = absurd (omega (arith, first-code row from (POW u) h))
 is-product row from (u ⊗ w) h e =
-    let k = stands-tail row from 4 (prefix u ++ prefix w) (h .codes) in (
-      u,
-      w,
-      refl,
-      record { codes = stands-front row (from + 1) (prefix u) (prefix w) k },
-      record { codes = rw (← prefix-length u) (stands-back row (from + 1) (prefix u) (prefix w) k) },
-    )
+    let k = stands-tail row from 4 (prefix u ++ prefix w) (h .codes) in
+    let l = stands-front row (from + 1) (prefix u) (prefix w) k in
+    let r = stands-back row (from + 1) (prefix u) (prefix w) k in
+    (u, w, refl, record { codes = l }, record { codes = rw (← prefix-length u) r })
 
 count-types : (ts : List Ty) → length ts ≤ length (prefixes ts)
 unfolding prefixes
@@ -100,18 +97,14 @@ module _ {row : List ℕ} {i left e : ℕ} where
       let a = append-assoc (prefix u) (prefix w) (prefixes ts) in
       (u ∷ w ∷ ts, record { counted = rw q (omega (arith, p .counted)); codes = rw a at k; ends = omega (arith, p .ends, ap length a) })
 
-  pub types-inside : PendingTypes row i left e → 0 < left → i < length row
-  unfolding prefixes
-  types-inside ([], p) l = absurd (omega (arith, p .counted))
-  types-inside (t ∷ ts, p) l = omega (arith, p .codes .inside, length-append (prefix t) (prefixes ts), prefix-length t, weight-positive t)
-
   pub types-end : PendingTypes row i left e → left ≡ 0 → i ≡ e
   unfolding prefixes
   types-end ([], p) z = omega (arith, p .ends)
   types-end (t ∷ ts, p) z = absurd (omega (arith, p .counted))
 
-  pub types-few : PendingTypes row i left e → left ≤ length row
-  types-few p = omega (arith, count-types (p .0), p .1 .counted, p .1 .codes .inside)
+  -- each of them takes a byte at least
+  pub types-room : PendingTypes row i left e → i + left ≤ length row
+  types-room p = omega (arith, count-types (p .0), p .1 .counted, p .1 .codes .inside)
 
 -- The code of a type without parts tells the type.
 head-atom : (a : Atom) (t : Ty) → head t ≡ atomCode a → t ≡ atom a

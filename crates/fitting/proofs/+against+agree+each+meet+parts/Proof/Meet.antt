@@ -56,13 +56,6 @@ module _ (t : ℕ) where
       Agreed (given m .args .s .now) (given m .args .a) (given m .args .b) r
   by-members m = sets-agree (set-a (sets m) .isSet) (set-b (sets m) .isSet) (m .before .members .ensures) (m .members2 .ensures)
 
-  against-requires : Here lts.Need-against-requires
-  against-requires c κs =
-      let m = c .before in (
-        omega (arith, given m .pre .0, inside (set-a (sets m) .value)),
-        record { first = run-first (run-a m) (omega (arith, c .if3 .taken)); second = run-b m },
-      )
-
   -- They are pairs.
   pair-a : (c : Here lts.Else2) → getD (lent (c .before) .args .s .now) (lent (c .before) .args .a) 0 / 4294967296 ≡ 4
   pair-a c =
@@ -72,13 +65,6 @@ module _ (t : ℕ) where
 
   pair-b : (c : Here lts.Else2) → getD (lent (c .before) .args .s .now) (lent (c .before) .args .b) 0 / 4294967296 ≡ 4
   pair-b c = let m = c .before in sym (tag-b m) ∙ tagged m .tag .ensures ∙ pair-a c
-
-  parts-requires : Here lts.Need-parts-requires
-  parts-requires c κs =
-      let p = lent (c .before) .pre in
-      let x = parts-here (p .1 .0 .first) (pair-a c) in
-      let y = parts-here (p .1 .0 .second) (pair-b c) in
-      (omega (arith, p .0, inside (p .1 .0 .first)), record { left = x .0; right = x .1; otherLeft = y .0; otherRight = y .1 })
 
   pub closed : {M : Type 1} → lts.Closed claims (meet .at t) (meet .post) M
   closed =
@@ -95,7 +81,10 @@ module _ (t : ℕ) where
       (λ c κs. set-b (c .before))
       (λ c. omega (arith, inside (set-a (sets (c .before)) .value)))
       (λ c. omega (arith, inside (set-b (sets (c .before)) .value)))
-      against-requires
+      (λ c κs. let m = c .before in (
+        omega (arith, given m .pre .0, inside (set-a (sets m) .value)),
+        record { first = run-first (run-a m) (omega (arith, c .if3 .taken)); second = run-b m },
+      ))
       (λ c. by-members (c .before .before) (λ ws k. run-one _ (c .before .if3 .taken) (λ v h. c .against .ensures v ws h k)))
       (λ c. omega (arith, inside (set-a (sets (c .before)) .value)))
       (λ c. omega (arith, inside (set-b (sets (c .before)) .value)))
@@ -103,5 +92,8 @@ module _ (t : ℕ) where
       (λ c. by-members (c .before .before) (c .each .ensures))
       (λ c. omega (arith, inside (lent (c .before) .pre .1 .0 .first)))
       (λ c. omega (arith, inside (lent (c .before) .pre .1 .0 .second)))
-      parts-requires
+      (λ c κs. let p = lent (c .before) .pre in
+      let x = parts-here (p .1 .0 .first) (pair-a c) in
+      let y = parts-here (p .1 .0 .second) (pair-b c) in
+      (omega (arith, p .0, inside (p .1 .0 .first)), record { left = x .0; right = x .1; otherLeft = y .0; otherRight = y .1 }))
       (λ c. pairs-agree (pair-a (c .before)) (pair-b (c .before)) (c .parts .ensures))

@@ -53,14 +53,6 @@ module _ (t : ℕ) where
   abbrev of-pair : Here lts.Else4 → Here lts.After-tag
   of-pair c = c .before .before .before
 
-  all-of-type-requires : Here lts.Need-all-of-type-requires
-  all-of-type-requires c κs =
-      let m = of-set c in
-      let p = lent m .pre in (
-        omega (arith, p .0, value-inside (lent m)),
-        set-asks (p .1 .0) (p .1 .1) (is-tag m 5 (c .before .before .if1 .taken)) (c .before .if2 .left) (c .low .ensures .0),
-      )
-
   pub closed : {M : Type 1} → lts.Closed claims (has-type .at t) (has-type .post) M
   closed =
       lts.spec claims (has-type .at t) (has-type .post)
@@ -72,7 +64,11 @@ module _ (t : ℕ) where
       (λ c κs. search needs)
       (λ c. omega (arith, value-inside (lent (of-set c))))
       (λ c. omega (arith, code-inside (lent (of-set c))))
-      all-of-type-requires
+      (λ c κs. let m = of-set c in
+      let p = lent m .pre in (
+        omega (arith, p .0, value-inside (lent m)),
+        set-asks (p .1 .0) (p .1 .1) (is-tag m 5 (c .before .before .if1 .taken)) (c .before .if2 .left) (c .low .ensures .0),
+      ))
       (λ c. let d = c .before in
       set-type (is-tag (of-set d) 5 (d .before .before .if1 .taken)) (d .before .if2 .left) (d .low .ensures .0) (c .all-of-type .ensures))
       (λ c. pair-no (is-tag (c .before .before .before) 4 (c .before .if3 .taken)) (c .if4 .taken))
