@@ -17,7 +17,7 @@ use Rattle.arena.proofs.CodeLaws.{length-code}
 use Rattle.arena.proofs.Standing.{stands-head, stands-tail, stands-front, stands-back}
 use Rattle.arena.proofs.FrontLaws.{single}
 use Rattle.arena.proofs.ValueParts.{some-inside, first-cell, left-stands, right-stands}
-use Rattle.fitting.specs.Agree.{meets, agree, TypedAt, RunAt, SomeTyped, SomeRun, Agreed, AgreedWith, AgreedAll, emptyCell, NoEmpty, Members, Full, FullSet, FullAll, Few, atomsAlike, PairOrSet, SetHere, AgreedParts}
+use Rattle.fitting.specs.Agree.{meets, agree, TypedAt, RunAt, SomeTyped, SomeRun, Agreed, AgreedWith, AgreedAll, emptyCell, NoEmpty, Members, Full, FullSet, FullAll, Few, atomsAlike, PairOrSet, SetHere}
 use Rattle.fitting.proofs.Sharing.{full-first, meets-sym, meets-same, with-every, meets-first, left-typed, right-typed, ⊓-every}
 use Rattle.rules.proofs.Basics.{and-split}
 use Rattle.laws.proofs.CellsLaws.{weight-some}
@@ -199,20 +199,37 @@ module _ (s : List ℕ) (a j left : ℕ) where
   pub with-last : left ≡ 1 → Agreed s a j true → AgreedWith s a j left true
   with-last e g = with-types true (λ v h. run-one (typesOf v) e (one-meets true g v h))
 
+-- A pair: its right part stands where the left one ends.
+pub record PairHere (s : List ℕ) (a : ℕ) : Type 0 where
+  pub isPair : getD s a 0 / cellSize ≡ 4
+  pub left : SomeTyped s (a + 1)
+  pub right : (c : ℕ) → EndsAt s (a + 1) c → SomeTyped s c
+
+pub pair-here : {s : List ℕ} {a : ℕ} → SomeTyped s a → getD s a 0 / cellSize ≡ 4 → PairHere s a
+pair-here v t =
+    let (x, y, _, h) = as-pair (v .1) t in
+    let (k, l) = pair-parts h in
+    record { isPair = t; left = (x, k); right = λ c e. (y, rw (end-is e k) l) }
+
 -- Two values by their parts or members.
 module _ {s : List ℕ} {a b : ℕ} where
-  pub parts-false : {q : Bool} → Agreed s a b q → q ≡ false → AgreedParts s a b false
-  parts-false g f v₁ v₂ w₁ w₂ h₁ h₂ k₁ k₂ = rw (← g v₁ w₁ h₁ k₁, f)
-
-  pub parts-true : {c d : ℕ} {q r : Bool} → EndsAt s a c → EndsAt s b d → Agreed s a b q → q ≡ true → Agreed s c d r → AgreedParts s a b r
-  parts-true e f g y i v₁ v₂ w₁ w₂ h₁ h₂ k₁ k₂ = rw (← g v₁ w₁ h₁ k₁, y) (i v₂ w₂ (rw (end-is e h₁) h₂) (rw (end-is f k₁) k₂))
-
-  pub pairs-agree : {r : Bool} → getD s a 0 / cellSize ≡ 4 → getD s b 0 / cellSize ≡ 4 → AgreedParts s (a + 1) (b + 1) r → Agreed s a b r
+  -- pairs whose left parts share no type, or do, and then the right parts decide
+  pub pairs-false : {q : Bool} → PairHere s a → PairHere s b → Agreed s (a + 1) (b + 1) q → q ≡ false → Agreed s a b false
   unfolding agree meets
-  pairs-agree t u g v w h k =
-      let (v₁, v₂, e, x) = as-pair h t in
-      let (w₁, w₂, f, y) = as-pair k u in
-      rw (e, f) (g v₁ v₂ w₁ w₂ (pair-parts x .0) (pair-parts x .1) (pair-parts y .0) (pair-parts y .1))
+  pairs-false t u g n v w h k =
+      let (v₁, v₂, e, x) = as-pair h (t .isPair) in
+      let (w₁, w₂, f, y) = as-pair k (u .isPair) in
+      rw (e, f, ← g v₁ w₁ (pair-parts x .0) (pair-parts y .0), n)
+
+  pub pairs-true : {c d : ℕ} {q r : Bool} → PairHere s a → PairHere s b → Agreed s (a + 1) (b + 1) q → q ≡ true →
+      EndsAt s (a + 1) c → EndsAt s (b + 1) d → Agreed s c d r → Agreed s a b r
+  unfolding agree meets
+  pairs-true t u g n l m i v w h k =
+      let (v₁, v₂, e, x) = as-pair h (t .isPair) in
+      let (w₁, w₂, f, y) = as-pair k (u .isPair) in
+      let (x₁, x₂) = pair-parts x in
+      let (y₁, y₂) = pair-parts y in
+      rw (e, f, ← g v₁ w₁ x₁ y₁, n) (i v₂ w₂ (rw (end-is l x₁) x₂) (rw (end-is m y₁) y₂))
 
   pub sets-agree : {n m : ℕ} {r : Bool} → getD s a 0 / cellSize ≡ 5 → getD s b 0 / cellSize ≡ 5 →
       Members s a n → Members s b m → AgreedAll s (a + 1) n (b + 1) m r → Agreed s a b r
@@ -224,10 +241,6 @@ module _ {s : List ℕ} {a b : ℕ} where
       let q = d ws y in
       rw (e, f) (g (q .few) (q .run) (p .few) (p .run) ∙
       meets-same (sharedTypes (p .few)) (sharedTypes vs) (sharedTypes (q .few)) (sharedTypes ws) (p .same) (q .same))
-
--- What the test of the parts of two pairs asks of each.
-pub parts-here : {s : List ℕ} {a : ℕ} → SomeTyped s a → getD s a 0 / cellSize ≡ 4 → SomeTyped s (a + 1) × ((c : ℕ) → EndsAt s (a + 1) c → SomeTyped s c)
-parts-here v t = let (x, y, _, h) = as-pair (v .1) t in let k = pair-parts h in ((x, k .0), λ c e. (y, rw (end-is e (k .0)) (k .1)))
 
 -- A scalar and another value, by their cells.
 number-tag : (w : Value) → eqb 1 (tag w) ≡ inhabited (atomˢ (number whole) ⊓ typesOf w)

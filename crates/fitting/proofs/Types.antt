@@ -15,7 +15,7 @@ use Rattle.laws.proofs.FitsLaws.{has→types}
 use Rattle.rules.proofs.TypeLaws.{weight-positive, prefix-length, prefixes, atomCode-injective}
 use Rattle.arena.specs.Code.{cellSize, scalarLow, Stands, ValueAt, ValuesAt, ScalarFits, CellsFit, AllFit, SomeAt, EndsAt}
 use Rattle.arena.proofs.Standing.{stands-head, stands-tail, stands-front, stands-back}
-use Rattle.fitting.specs.Types.{TypeAt, SomeType, TypeEnds, typeParts, Decides, atomIs, OfType, AllOfType, PartsOfType, ValuesAndType, PartsAndTypes}
+use Rattle.fitting.specs.Types.{TypeAt, SomeType, TypeEnds, typeParts, Decides, atomIs, OfType, AllOfType, ValuesAndType}
 use Rattle.arena.proofs.ValueParts.{first-cell, left-stands, right-stands}
 use Rattle.fitting.proofs.Cells.{tag-set, tag-pair, members-stand, first-stands, rest-stand}
 use Rattle.fitting.proofs.Sharing.{as-power, as-product}
@@ -142,6 +142,15 @@ both-yes d e f = record { sound = λ z. (d .sound e, f .sound z); complete = λ 
 pub refuses : {A : Type 0} → (A → ⊥) → Decides false A
 refuses n = record { sound = λ e. absurd (false≢true e); complete = λ a. absurd (n a) }
 
+-- A pair against a product: the right part and its type stand where the left ones end.
+pub record PairAndProduct (s : List ℕ) (at : ℕ) (row : List ℕ) (from : ℕ) : Type 0 where
+  pub isPair : getD s at 0 / cellSize ≡ 4
+  pub isProduct : getD row from 0 ≡ 4
+  pub left : SomeAt s (at + 1)
+  pub right : (c : ℕ) → EndsAt s (at + 1) c → SomeAt s c
+  pub type : SomeType row (from + 1)
+  pub next : (e : ℕ) → TypeEnds row (from + 1) e → SomeType row e
+
 -- A value by the tag of its cell, with its members or its parts.
 module _ {s : List ℕ} {at : ℕ} (v : Value) (h : ValueAt s at v) (f : CellsFit v) where
   set-only : getD s at 0 / cellSize ≡ 5 → (vs : Values) × (v ≡ set vs) × ValuesAt s (at + 1) vs × AllFit vs × (count vs ≡ getD s at 0 % cellSize)
@@ -177,11 +186,19 @@ module _ {s : List ℕ} {at : ℕ} {row : List ℕ} {from : ℕ} where
       let (u, d, j) = is-pow row from t k c in
       rw (e, d) (g vs u i a (q ∙ sym m) j)
 
-  pub pair-type : {r : Bool} → getD s at 0 / cellSize ≡ 4 → getD row from 0 ≡ 4 → PartsOfType s (at + 1) row (from + 1) r → OfType s at row from r
-  pair-type tag c g v t h f k =
-      let (x, y, e, i, j, a, b) = pair-only v h f tag in
-      let (u, w, d, p, q) = is-product row from t k c in
-      rw (e, d) (g x y u w i j a b p q)
+  -- the parts of a pair against those of a product: the left part has another type, or has its own and the right part decides
+  pub pair-left : {q : Bool} → PairAndProduct s at row from → OfType s (at + 1) row (from + 1) q → q ≡ false → OfType s at row from false
+  pair-left o g n v t h f k =
+      let (x, y, e, i, j, a, b) = pair-only v h f (o .isPair) in
+      let (u, w, d, p, q) = is-product row from t k (o .isProduct) in
+      rw (e, d) (both-no (g x u i a p) n)
+
+  pub pair-right : {end next : ℕ} {q r : Bool} → PairAndProduct s at row from → OfType s (at + 1) row (from + 1) q → q ≡ true →
+      EndsAt s (at + 1) end → TypeEnds row (from + 1) next → OfType s end row next r → OfType s at row from r
+  pair-right o g n l m z v t h f k =
+      let (x, y, e, i, j, a, b) = pair-only v h f (o .isPair) in
+      let (u, w, d, p, q) = is-product row from t k (o .isProduct) in
+      rw (e, d) (both-yes (g x u i a p) n (z y w (rw (l x i a) j) b (rw (m u p) q)))
 
   -- what the tests of the members and of the parts ask
   pub set-asks : {n : ℕ} → SomeAt s at → SomeType row from → getD s at 0 / cellSize ≡ 5 → getD row from 0 ≡ 3 → n ≡ getD s at 0 % cellSize →
@@ -191,24 +208,18 @@ module _ {s : List ℕ} {at : ℕ} {row : List ℕ} {from : ℕ} where
       let (u, _, j) = is-pow row from (t .0) (t .1) c in
       record { values = vs; stands = i; fits = a; counted = q ∙ sym m; type = (u, j) }
 
-  pub pair-asks : SomeAt s at → SomeType row from → getD s at 0 / cellSize ≡ 4 → getD row from 0 ≡ 4 → PartsAndTypes s (at + 1) row (from + 1)
+  pub pair-asks : SomeAt s at → SomeType row from → getD s at 0 / cellSize ≡ 4 → getD row from 0 ≡ 4 → PairAndProduct s at row from
   pair-asks v t tag c =
       let (x, y, _, i, j, a, b) = pair-only (v .value) (v .stands) (v .fits) tag in
       let (u, w, _, p, q) = is-product row from (t .0) (t .1) c in
       record {
+        isPair = tag;
+        isProduct = c;
         left = record { value = x; stands = i; fits = a };
         right = λ d e. record { value = y; stands = rw (e x i a) j; fits = b };
         type = (u, p);
         next = λ d e. (w, rw (e u p) q);
       }
-
-  -- the two parts of a pair
-  pub parts-no : {q : Bool} → OfType s at row from q → q ≡ false → PartsOfType s at row from false
-  parts-no g e v w t u h k f i a b = both-no (g v t h f a) e
-
-  pub parts-yes : {c e : ℕ} {q r : Bool} → EndsAt s at c → TypeEnds row from e → OfType s at row from q → q ≡ true → OfType s c row e r →
-      PartsOfType s at row from r
-  parts-yes p n g y z v w t u h k f i a b = both-yes (g v t h f a) y (z w u (rw (p v h f) k) i (rw (n t a) b))
 
 pub ends-behind : {s : List ℕ} {at end : ℕ} → SomeAt s at → EndsAt s at end → at < end
 ends-behind x e = omega (arith, e (x .value) (x .stands) (x .fits), weight-some (x .value))

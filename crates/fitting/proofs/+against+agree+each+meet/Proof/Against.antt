@@ -7,8 +7,8 @@ use Rattle.fitting.specs.Agree.{SomeTyped, SomeRun, Agreed, AgreedWith}
 use Rattle.fitting.proofs.Cells.{some-at, run-first, run-rest, with-end, with-false, with-step, with-last}
 use Rattle.fitting.proofs.Cycle.{OverLoop}
 use Rattle.arena.proofs.end_of.Reads as end-of
-use Rattle.fitting.proofs.+against+agree+each+meet+parts.Lts-against as lts
-use Rattle.fitting.proofs.+against+agree+each+meet+parts.Proof.Base.{against, agree}
+use Rattle.fitting.proofs.+against+agree+each+meet.Lts-against as lts
+use Rattle.fitting.proofs.+against+agree+each+meet.Proof.Base.{against, agree}
 
 abbrev Inv : lts.InvT-loop
 Inv s a b m j₀ left₀ j left = SomeRun s j left × ((r : Bool) → AgreedWith s a j left r → AgreedWith s a b m r)

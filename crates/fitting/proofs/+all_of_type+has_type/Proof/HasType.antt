@@ -3,15 +3,18 @@ use Prim.Native.Nat.{ℕ, _/_, _<_}
 use mathlib.Core.Path.{_≡_, sym, _∙_}
 use native.Mathlib.Omega.{arith}
 use borrow.Author.Needs.{needs}
+use borrow.Author.Tests.{not-true, not-false}
 use lib.ListN.{length, getD}
 use Rattle.arena.proofs.ValueParts.{some-inside}
-use Rattle.fitting.proofs.Types.{type-inside, is-atom, set-no, pair-no, set-type, pair-type, set-asks, pair-asks}
+use Rattle.fitting.proofs.Types.{PairAndProduct, type-inside, ends-behind, is-atom, set-no, pair-no, set-type, set-asks, pair-asks, pair-left, pair-right}
 use Rattle.fitting.proofs.Cycle.{Over}
 use Rattle.arena.proofs.low.Reads as low
 use Rattle.arena.proofs.tag.Reads as tag
+use Rattle.arena.proofs.end_of.Reads as end-of
+use Rattle.fitting.proofs.type_end.Reads as type-end
 use Rattle.fitting.proofs.atom_is.Reads as atom-is
-use Rattle.fitting.proofs.+all_of_type+has_type+parts_of_type.Lts-has_type as lts
-use Rattle.fitting.proofs.+all_of_type+has_type+parts_of_type.Proof.Base.{all-of-type, has-type, parts-of-type}
+use Rattle.fitting.proofs.+all_of_type+has_type.Lts-has_type as lts
+use Rattle.fitting.proofs.+all_of_type+has_type.Proof.Base.{all-of-type, has-type}
 
 module _ (t : ℕ) where
   abbrev claims : lts.Claims
@@ -22,8 +25,12 @@ module _ (t : ℕ) where
     low.Learnt,
     all-of-type .below t,
     all-of-type .post,
-    parts-of-type .below t,
-    parts-of-type .post,
+    has-type .below t,
+    has-type .post,
+    end-of.Asked,
+    end-of.Learnt,
+    type-end.Asked,
+    type-end.Learnt,
     atom-is.Asked,
     atom-is.Learnt,
   )
@@ -53,6 +60,21 @@ module _ (t : ℕ) where
   abbrev of-pair : Here lts.Else4 → Here lts.After-tag
   of-pair c = c .before .before .before
 
+  parts : (c : Here lts.Else4) → let a = lent (of-pair c) .args in PairAndProduct (a .s .now) (a .at) (a .row .now) (a .from)
+  parts c = let m = of-pair c in let p = lent m .pre .1 in pair-asks (p .0) (p .1) (is-tag m 4 (c .before .if3 .taken)) (c .if4 .left)
+
+  -- The left part has its type.
+  abbrev pair : Here lts.Else5 → Here lts.Else4
+  pair c = c .before .before
+
+  has-type-requires-2 : Here lts.Need-has-type-requires-2
+  has-type-requires-2 c κs =
+      let e = c .before .end-of .ensures in
+      let m = pair (c .before .before) in
+      let p = parts m in
+      -- The second type begins where the first one ends: an `omega`, which fails where the code hands over another place.
+      (omega (arith, lent (of-pair m) .pre .0, ends-behind (p .left) e), (p .right _ e, p .next _ (λ u h. omega (arith, c .type-end .ensures u h))))
+
   pub closed : {M : Type 1} → lts.Closed claims (has-type .at t) (has-type .post) M
   closed =
       lts.spec claims (has-type .at t) (has-type .post)
@@ -74,10 +96,17 @@ module _ (t : ℕ) where
       (λ c. pair-no (is-tag (c .before .before .before) 4 (c .before .if3 .taken)) (c .if4 .taken))
       (λ c. omega (arith, value-inside (lent (of-pair c))))
       (λ c. omega (arith, code-inside (lent (of-pair c))))
-      (λ c κs. let m = of-pair c in
-      let p = lent m .pre in
-      (omega (arith, p .0, value-inside (lent m)), pair-asks (p .1 .0) (p .1 .1) (is-tag m 4 (c .before .if3 .taken)) (c .if4 .left)))
-      (λ c. let d = c .before in pair-type (is-tag (of-pair d) 4 (d .before .if3 .taken)) (d .if4 .left) (c .parts-of-type .ensures))
+      (λ c κs. let m = of-pair c in (omega (arith, lent m .pre .0, value-inside (lent m)), (parts c .left, parts c .type)))
+      (λ c. let d = c .before .before in
+      pair-left (parts d) (c .before .has-type .ensures) (not-true _ (c .if5 .taken)))
+      (λ c κs. parts (pair c) .left)
+      (λ c κs. parts (pair (c .before)) .type)
+      has-type-requires-2
+      (λ c. let e = c .before .before in
+      let l = e .before in
+      let d = pair l in
+      pair-right (parts d) (l .before .has-type .ensures) (not-false _ (l .if5 .left))
+      (e .end-of .ensures) (c .before .type-end .ensures) (c .has-type2 .ensures))
       (λ c κs. search needs)
       (λ c. let e = c .before .before .before .tag .ensures in
       is-atom (c .atom-is .ensures) (λ q. c .before .before .if1 .left (e ∙ q)) (λ q. c .before .if3 .left (e ∙ q)))

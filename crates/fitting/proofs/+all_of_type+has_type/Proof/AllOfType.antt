@@ -8,8 +8,8 @@ use Rattle.fitting.specs.Types.{ValuesAndType, AllOfType}
 use Rattle.fitting.proofs.Types.{ends-behind, values-next, all-of-end, all-of-no, all-of-step}
 use Rattle.fitting.proofs.Cycle.{OverLoop}
 use Rattle.arena.proofs.end_of.Reads as end-of
-use Rattle.fitting.proofs.+all_of_type+has_type+parts_of_type.Lts-all_of_type as lts
-use Rattle.fitting.proofs.+all_of_type+has_type+parts_of_type.Proof.Base.{all-of-type, has-type}
+use Rattle.fitting.proofs.+all_of_type+has_type.Lts-all_of_type as lts
+use Rattle.fitting.proofs.+all_of_type+has_type.Proof.Base.{all-of-type, has-type}
 
 abbrev Inv : lts.InvT-loop
 Inv s at n row from i₀ left₀ i left =

@@ -5,8 +5,8 @@ use native.Mathlib.Omega.{arith}
 use borrow.Author.Needs.{needs}
 use Rattle.fitting.proofs.Cells.{inside, atoms-agree}
 use Rattle.fitting.proofs.atoms_alike.Reads as atoms-alike
-use Rattle.fitting.proofs.+against+agree+each+meet+parts.Lts-agree as lts
-use Rattle.fitting.proofs.+against+agree+each+meet+parts.Proof.Base.{agree, meet}
+use Rattle.fitting.proofs.+against+agree+each+meet.Lts-agree as lts
+use Rattle.fitting.proofs.+against+agree+each+meet.Proof.Base.{agree, meet}
 
 module _ (t : ℕ) where
   abbrev claims : lts.Claims

@@ -7,8 +7,8 @@ use Rattle.fitting.specs.Agree.{SomeTyped, SomeRun, AgreedAll}
 use Rattle.fitting.proofs.Cells.{some-at, end-bounds, run-first, run-rest, run-end, run-false, run-step}
 use Rattle.fitting.proofs.Cycle.{OverLoop}
 use Rattle.arena.proofs.end_of.Reads as end-of
-use Rattle.fitting.proofs.+against+agree+each+meet+parts.Lts-each as lts
-use Rattle.fitting.proofs.+against+agree+each+meet+parts.Proof.Base.{against, each}
+use Rattle.fitting.proofs.+against+agree+each+meet.Lts-each as lts
+use Rattle.fitting.proofs.+against+agree+each+meet.Proof.Base.{against, each}
 
 abbrev Inv : lts.InvT-loop
 Inv s a n b m i₀ left₀ i left = SomeRun s i left × (a ≤ i) × ((r : Bool) → AgreedAll s i left b m r → AgreedAll s a n b m r)
