@@ -27,7 +27,8 @@ use Rattle.conforms.specs.Rows.{SheetFits}
 use Rattle.conforms.proofs.RowLaws.{row-long}
 use Rattle.rules.proofs.Basics.{absurd01}
 
-type-read : (o : Option Ty) (v : Value) → T (hasTypeRead o v) ↔ ((t : Ty) × (o ≡ some t) × HasType v t)
+-- A row that is read as a type which the value has.
+pub type-read : (o : Option Ty) (v : Value) → T (hasTypeRead o v) ↔ ((t : Ty) × (o ≡ some t) × HasType v t)
 type-read nothing v = (λ h. absurd h, λ x. absurd01 (cc (x .1)))
 type-read (some t) v = (
   λ h. (t, refl, hasType-right v t .0 h),
@@ -35,29 +36,25 @@ type-read (some t) v = (
 )
 
 -- A value of the type that is written at a place.
-written-there : (sheet : List ℕ) (p : ℕ) (v : Value) → 64 * p + 64 ≤ length sheet → T (hasWritten sheet p v) → HasWritten sheet p v
-written-there sheet p v room h =
-    let x = type-read (typeOfRow (rowAt sheet p)) v .0 h in
-    (x .0, typeOfRow-right (rowAt sheet p) (x .0) (row-long sheet p room) .0 (x .1) .0, x .2)
-
-written-back : (sheet : List ℕ) (p : ℕ) (v : Value) → HasWritten sheet p v → T (hasWritten sheet p v)
-written-back sheet p v x = type-read (typeOfRow (rowAt sheet p)) v .1 (x .0, ap typeOfRow (x .1) ∙ row-read (x .0), x .2)
+written : (sheet : List ℕ) (p : ℕ) (v : Value) → 64 * p + 64 ≤ length sheet → T (hasWritten sheet p v) ↔ HasWritten sheet p v
+written sheet p v room =
+    let r = type-read (typeOfRow (rowAt sheet p)) v in (
+      λ h. let (t, e, f) = r .0 h in (t, typeOfRow-right (rowAt sheet p) t (row-long sheet p room) .0 e .0, f),
+      λ (t, e, f). r .1 (t, ap typeOfRow e ∙ row-read t, f),
+    )
 
 if-free : (w : ℕ) (b : Bool) → T (ifFree w b) ↔ (w ≡ 0 → T b)
 if-free zero b = (λ t e. t, λ f. f refl)
 if-free (suc w) b = (λ t e. absurd (omega arith), λ f. tt)
 
 -- The values of the free identifiers.
-module _ (tb : Table) (sheet : List ℕ) (vs : List Value) where
-  all-there : length sheet ≡ sheetLength tb → T (allBelow (freeHas tb sheet vs) (length (tb .binds))) →
-      (x : ℕ) → Free tb x → HasWritten sheet x (getD vs x noValue)
-  all-there fits h x f =
-      let y = T-allBelow (freeHas tb sheet vs) (length (tb .binds)) .0 h x (f .0) in
-      written-there sheet x _ (omega (arith, f .0)) (if-free (getD (tb .binds) x 1) _ .0 y (f .1))
-
-  all-back : ((x : ℕ) → Free tb x → HasWritten sheet x (getD vs x noValue)) → T (allBelow (freeHas tb sheet vs) (length (tb .binds)))
-  all-back h = T-allBelow (freeHas tb sheet vs) (length (tb .binds)) .1
-      (λ x l. if-free (getD (tb .binds) x 1) _ .1 (λ e. written-back sheet x _ (h x (l, e))))
+all-written : (tb : Table) (sheet : List ℕ) (vs : List Value) → length sheet ≡ sheetLength tb →
+    T (allBelow (freeHas tb sheet vs) (length (tb .binds))) ↔ ((x : ℕ) → Free tb x → HasWritten sheet x (getD vs x noValue))
+all-written tb sheet vs fits =
+    let all = T-allBelow (freeHas tb sheet vs) (length (tb .binds)) in (
+      λ h x (l, e). written sheet x _ (omega arith) .0 (if-free (getD (tb .binds) x 1) _ .0 (all .0 h x l) e),
+      λ h. all .1 (λ x l. if-free (getD (tb .binds) x 1) _ .1 (λ e. written sheet x _ (omega arith) .1 (h x (l, e)))),
+    )
 
 module _ (bs sheet buffer : List ℕ) where
   -- What `conforming` tests of the table: the sheet's length, and the values.
@@ -67,29 +64,26 @@ module _ (bs sheet buffer : List ℕ) where
   abbrev loaded : Table → Bool
   loaded tb = doneWith (valuesIn tb buffer) λ vs. allBelow (freeHas tb sheet vs) (length (tb .binds))
 
-  conforming-there : T (conforming bs sheet buffer) → SheetFits bs sheet × Conforming bs sheet buffer
+  conforming-tests : T (conforming bs sheet buffer) ↔ (SheetFits bs sheet × Conforming bs sheet buffer)
   unfolding conforming
-  conforming-there h =
-      let x = T-doneWith (reading bs) (λ tb. sized tb && loaded tb) .0 h in
-      let y = T-and (sized (x .0)) (loaded (x .0)) .0 (x .2) in
-      let f = T-eqb _ _ .0 (y .0) in
-      let z = T-doneWith (valuesIn (x .0) buffer) (λ vs. allBelow (freeHas (x .0) sheet vs) (length (x .0 .binds))) .0 (y .1) in (
-        record { rows = f ∙ ap sheetLength (reading-table bs (x .0) (x .1)) },
-        record { table = x .0; reads = x .1; values = z .0; loads = z .1; types = all-there (x .0) sheet (z .0) f (z .2) },
-      )
-
-  conforming-back : SheetFits bs sheet × Conforming bs sheet buffer → T (conforming bs sheet buffer)
-  unfolding conforming
-  conforming-back (f, k) =
-      let tb = k .table in
-      let z = T-doneWith (valuesIn tb buffer) (λ vs. allBelow (freeHas tb sheet vs) (length (tb .binds))) .1
-      (k .values, k .loads, all-back tb sheet (k .values) (k .types)) in
-      let s = T-eqb _ _ .1 (f .rows ∙ sym (ap sheetLength (reading-table bs tb (k .reads)))) in
-      T-doneWith (reading bs) (λ tb. sized tb && loaded tb) .1 (tb, k .reads, T-and (sized tb) (loaded tb) .1 (s, z))
+  conforming-tests = (
+    λ h. let (tb, e, t) = T-doneWith (reading bs) (λ tb. sized tb && loaded tb) .0 h in
+        let (l, v) = T-and (sized tb) (loaded tb) .0 t in
+        let f = T-eqb _ _ .0 l in
+        let (vs, d, k) = T-doneWith (valuesIn tb buffer) (λ vs. allBelow (freeHas tb sheet vs) (length (tb .binds))) .0 v in (
+          record { rows = f ∙ ap sheetLength (reading-table bs tb e) },
+          record { table = tb; reads = e; values = vs; loads = d; types = all-written tb sheet vs f .0 k },
+        ),
+    λ (f, k). let tb = k .table in
+        let e = f .rows ∙ sym (ap sheetLength (reading-table bs tb (k .reads))) in
+        let v = T-doneWith (valuesIn tb buffer) (λ vs. allBelow (freeHas tb sheet vs) (length (tb .binds))) .1
+        (k .values, k .loads, all-written tb sheet (k .values) e .1 (k .types)) in
+        T-doneWith (reading bs) (λ tb. sized tb && loaded tb) .1 (tb, k .reads, T-and (sized tb) (loaded tb) .1 (T-eqb _ _ .1 e, v)),
+  )
 
   -- The computing definition says what the other does, and that the sheet has the table's length.
   pub conforming-right : Decides (conforming bs sheet buffer) (SheetFits bs sheet × Conforming bs sheet buffer)
   conforming-right = record {
-    sound = λ e. conforming-there (T-true (conforming bs sheet buffer) .1 e);
-    complete = λ k. T-true (conforming bs sheet buffer) .0 (conforming-back k);
+    sound = λ e. conforming-tests .0 (T-true (conforming bs sheet buffer) .1 e);
+    complete = λ k. T-true (conforming bs sheet buffer) .0 (conforming-tests .1 k);
   }

@@ -1,137 +1,87 @@
 -- Rows of a sheet, read byte by byte: how many types the bytes from a place on make, against the byte there and the bytes behind it.
 -- A row is that of a type where the whole of it makes one.
 use Prim.Native.Nat.{ℕ, zero, suc, _+_, _*_, _-_, _≤_, _<_}
-use mathlib.Core.Bool.{Bool, true, false, cond, false≢true}
+use mathlib.Core.Bool.{Bool, true, false, cond}
 use mathlib.Core.List.{List, [], _∷_}
-use mathlib.Core.Logic.{_≢_, _⊎_, _↔_, inl, inr, Iff·trans}
+use mathlib.Core.Logic.{_≢_, _↔_, Iff·trans}
 use mathlib.Core.Option.{Option, none as nothing, some, bind}
 use mathlib.Core.Path.{_≡_, refl, sym, ap, _∙_}
 use native.Mathlib.Omega.{arith}
 use native.Mathlib.Numerals.{add-one}
-use lib.Dec.{eqb, leb}
-use borrow.Author.Tests.{leb-true, leb-false, eqb-true, eq-eqb}
+use lib.Dec.{T, eqb, leb}
+use borrow.Author.Tests.{ne-eqb, lt-leb}
 use lib.ListN.{length, getD, take, drop, length-take, length-drop}
 use lib.Seq.{drop-cons, getD-take, getD-drop}
 use Rattle.rules.specs.Types.{Ty, G, codeBefore, typesIn, onlyType, typeOfRow}
 use Rattle.rules.proofs.TypeLaws.{row-length, typeOfRow-right}
 use Rattle.rules.proofs.Basics.{absurd01}
-use Rattle.fitting.specs.Types.{TypeAt, typeParts, Decides}
+use Rattle.laws.proofs.EndLaws.{T-true, T-false, T-eqb}
+use Rattle.fitting.specs.Types.{TypeAt, typeParts}
 use Rattle.fitting.proofs.Types.{parts-atom, row-type}
 use Rattle.conforms.specs.Conforming.{rowAt}
-use Rattle.conforms.specs.Rows.{Code, GoesOn, leftBehind, TypeRow}
-
--- An answer that is true, by what it decides; and what does not hold where it is false.
-pub agrees : {A : Type 0} → A → Decides true A
-agrees a = record { sound = λ e. a; complete = λ b. refl }
-
-pub decided-no : {A : Type 0} {r : Bool} → Decides r A → r ≡ false → A → ⊥
-decided-no d e a = false≢true (sym e ∙ d .complete a)
-
--- The first codes of types.
-pub no-code : (c : ℕ) → c < 16 → (c ≡ 0) ⊎ (4 < c) → Code c → ⊥
-no-code c l (inl e) (inl p) = omega (arith, p .0)
-no-code c l (inr e) (inl p) = omega (arith, p .1)
-no-code c l e (inr p) = omega arith
-
-pub code-test : (c : ℕ) → c < 16 → c ≢ 0 → Decides (leb c 4) (Code c)
-code-test c l n = record { sound = λ e. inl (omega arith, leb-true c 4 e); complete = λ k. go (leb c 4) refl k }
-  where
-    go : (b : Bool) → leb c 4 ≡ b → Code c → b ≡ true
-    go true e k = refl
-    go false e k = absurd (no-code c l (inr (leb-false c 4 e)) k)
+use Rattle.conforms.specs.Rows.{isCode, goesOn, leftBehind, TypeRow}
 
 pub parts-most : (c : ℕ) → typeParts c ≤ 2
-parts-most c = go (eqb c 3) (eqb c 4)
-  where
-    go : (a b : Bool) → cond a 1 (cond b 2 0) ≤ 2
-    go true b = omega arith
-    go false true = omega arith
-    go false false = omega arith
+parts-most c = elim (eqb c 3) as (λ a. cond a 1 (cond (eqb c 4) 2 0) ≤ 2) [
+  | true ↦ omega arith
+  | false ↦ elim (eqb c 4) as (λ b. cond b 2 0 ≤ 2) [ true ↦ omega arith | false ↦ omega arith ]
+]
+
+-- A number of types that is not 0.
+pub some-left : (n : ℕ) → n ≢ 0 → n ≡ suc (n - 1)
+some-left n p = omega arith
 
 behind-few : (c left : ℕ) → leftBehind c left ≤ left + 1
 behind-few c zero = omega arith
 behind-few c (suc n) = omega (arith, parts-most c)
-
--- What may stand there, and what is then left, by whether types are left.
-pub goes-zero : (c : ℕ) {left : ℕ} → left ≡ 0 → Decides (eqb c 0) (GoesOn c left)
-goes-zero c e = rw e (record { sound = λ h. eqb-true c 0 h; complete = λ h. eq-eqb c 0 h })
-
-pub goes-code : {c left : ℕ} {r : Bool} → left ≢ 0 → Decides r (Code c) → Decides r (GoesOn c left)
-goes-code {left = zero} n d = absurd (n refl)
-goes-code {left = suc k} n d = d
-
-pub behind-code : (c left : ℕ) {n : ℕ} → left ≢ 0 → n ≡ typeParts c → left - 1 + n ≡ leftBehind c left
-behind-code c zero n e = absurd (n refl)
-behind-code c (suc k) n e = omega arith
 
 -- n types have been read.
 abbrev Counted : Option (List Ty) → ℕ → Type 0
 Counted nothing n = ⊥
 Counted (some ts) n = length ts ≡ n
 
--- A code from 5 on is that of a given set, or none.
-given-counts : (c k n : ℕ) (ts : List Ty) → c ≡ k → 4 < c →
-    Counted (cond (leb 16 k) (some (G (k - 16) ∷ ts)) nothing) (suc n) ↔ (Code c × (length ts ≡ n + typeParts c))
-given-counts c k n ts e l = go (leb 16 k) refl
+-- A byte that is not zero makes a type of its parts behind it, or nothing; from 5 on it is the code of a given set, or none.
+made-given : (c k n : ℕ) (ts : List Ty) → c ≡ k → 4 < c →
+    Counted (cond (leb 16 k) (some (G (k - 16) ∷ ts)) nothing) n ↔ (T (isCode c) × (0 < n) × (length ts + 1 ≡ n + typeParts c))
+made-given c k n ts e l =
+    rw (e, parts-atom k (λ f. omega arith) (λ f. omega arith), ne-eqb k 0 (λ f. omega arith), lt-leb k 4 (omega arith)) (go (leb 16 k))
   where
-    none-behind : typeParts c ≡ 0
-    none-behind = parts-atom c (λ f. omega arith) (λ f. omega arith)
+    go : (b : Bool) → Counted (cond b (some (G (k - 16) ∷ ts)) nothing) n ↔ (T (cond b true false) × (0 < n) × (length ts + 1 ≡ n + 0))
+    go true = (λ h. (tt, omega arith, omega arith), λ h. omega (arith, h .2))
+    go false = (λ h. absurd h, λ h. absurd (h .0))
 
-    go : (b : Bool) → leb 16 k ≡ b → Counted (cond b (some (G (k - 16) ∷ ts)) nothing) (suc n) ↔ (Code c × (length ts ≡ n + typeParts c))
-    go true f = (λ h. (inr (omega (arith, leb-true 16 k f)), omega (arith, none-behind)), λ h. omega (arith, h .1, none-behind))
-    go false f = (λ h. absurd h, λ h. absurd (no-code c (omega (arith, leb-false 16 k f)) (inr l) (h .0)))
-
--- A byte that is not zero makes a type, or nothing.
-some-made : (c : ℕ) (ts : List Ty) → Counted (codeBefore (suc c) ts) 0 → ⊥
-some-made zero ts h = omega arith
-some-made (suc zero) ts h = omega arith
-some-made (suc (suc zero)) [] h = h
-some-made (suc (suc zero)) (t ∷ ts) h = omega arith
-some-made (suc (suc (suc zero))) [] h = h
-some-made (suc (suc (suc zero))) (t ∷ []) h = h
-some-made (suc (suc (suc zero))) (t ∷ u ∷ ts) h = omega arith
-some-made (suc (suc (suc (suc c)))) ts h = go (leb 16 (5 + c)) h
-  where
-    go : (b : Bool) → Counted (cond b (some (G (5 + c - 16) ∷ ts)) nothing) 0 → ⊥
-    go true h = omega arith
-    go false h = h
+made : (c : ℕ) (ts : List Ty) (n : ℕ) → Counted (codeBefore (suc c) ts) n ↔ (T (isCode (suc c)) × (0 < n) × (length ts + 1 ≡ n + typeParts (suc c)))
+made zero ts n = (λ h. (tt, omega arith, omega arith), λ h. omega (arith, h .2))
+made (suc zero) ts n = (λ h. (tt, omega arith, omega arith), λ h. omega (arith, h .2))
+made (suc (suc zero)) [] n = (λ h. absurd h, λ h. absurd (omega (arith, h .1, h .2)))
+made (suc (suc zero)) (t ∷ ts) n = (λ h. (tt, omega arith, omega arith), λ h. omega (arith, h .2))
+made (suc (suc (suc zero))) [] n = (λ h. absurd h, λ h. absurd (omega (arith, h .1, h .2)))
+made (suc (suc (suc zero))) (t ∷ []) n = (λ h. absurd h, λ h. absurd (omega (arith, h .1, h .2)))
+made (suc (suc (suc zero))) (t ∷ u ∷ ts) n = (λ h. (tt, omega arith, omega arith), λ h. omega (arith, h .2))
+made (suc (suc (suc (suc c)))) ts n = made-given (suc (suc (suc (suc (suc c))))) (5 + c) n ts (omega arith) (omega arith)
 
 -- What a byte makes of the types behind it.
-counts : (c : ℕ) (o : Option (List Ty)) (n : ℕ) → Counted (bind o (codeBefore c)) n ↔ (GoesOn c n × Counted o (leftBehind c n))
+counts : (c : ℕ) (o : Option (List Ty)) (n : ℕ) → Counted (bind o (codeBefore c)) n ↔ (T (goesOn c n) × Counted o (leftBehind c n))
 unfolding bind
 counts c nothing n = (λ h. absurd h, λ h. absurd (h .1))
-counts zero (some []) zero = (λ h. (refl, refl), λ h. refl)
+counts zero (some []) zero = (λ h. (tt, refl), λ h. refl)
+counts zero (some []) (suc n) = (λ h. absurd (omega arith), λ h. absurd (h .0))
 counts zero (some (t ∷ ts)) zero = (λ h. absurd h, λ h. omega (arith, h .1))
-counts (suc c) (some ts) zero = (λ h. absurd (some-made c ts h), λ h. absurd (omega (arith, h .0)))
-counts zero (some []) (suc n) = (λ h. absurd (omega arith), λ h. absurd (no-code 0 (omega arith) (inl refl) (h .0)))
-counts zero (some (t ∷ ts)) (suc n) = (λ h. absurd h, λ h. absurd (no-code 0 (omega arith) (inl refl) (h .0)))
-counts (suc zero) (some ts) (suc n) = (λ h. (inl (omega arith, omega arith), omega arith), λ h. omega (arith, h .1))
-counts (suc (suc zero)) (some ts) (suc n) = (λ h. (inl (omega arith, omega arith), omega arith), λ h. omega (arith, h .1))
-counts (suc (suc (suc zero))) (some []) (suc n) = (λ h. absurd h, λ h. absurd (omega (arith, h .1)))
-counts (suc (suc (suc zero))) (some (t ∷ ts)) (suc n) = (λ h. (inl (omega arith, omega arith), omega arith), λ h. omega (arith, h .1))
-counts (suc (suc (suc (suc zero)))) (some []) (suc n) = (λ h. absurd h, λ h. absurd (omega (arith, h .1)))
-counts (suc (suc (suc (suc zero)))) (some (t ∷ [])) (suc n) = (λ h. absurd h, λ h. absurd (omega (arith, h .1)))
-counts (suc (suc (suc (suc zero)))) (some (t ∷ u ∷ ts)) (suc n) = (λ h. (inl (omega arith, omega arith), omega arith), λ h. omega (arith, h .1))
-counts (suc (suc (suc (suc (suc c))))) (some ts) (suc n) = given-counts (suc (suc (suc (suc (suc c))))) (5 + c) n ts (omega arith) (omega arith)
+counts zero (some (t ∷ ts)) (suc n) = (λ h. absurd h, λ h. absurd (h .0))
+counts (suc c) (some ts) zero = (λ h. absurd (omega (arith, made c ts 0 .0 h .1)), λ h. absurd (omega (arith, T-eqb (suc c) 0 .0 (h .0))))
+counts (suc c) (some ts) (suc n) =
+    let m = made c ts (suc n) in (λ h. (m .0 h .0, omega (arith, m .0 h .2)), λ h. m .1 (h .0, omega arith, omega (arith, h .1)))
 
 -- A row is that of a type where it is read as one.
+only : (o : Option (List Ty)) → ((t : Ty) × (onlyType o ≡ some t)) ↔ Counted o 1
+only nothing = (λ x. absurd01 (cc (x .1)), λ h. absurd h)
+only (some []) = (λ x. absurd01 (cc (x .1)), λ h. absurd (omega arith))
+only (some (t ∷ [])) = (λ x. refl, λ h. (t, refl))
+only (some (t ∷ u ∷ ts)) = (λ x. absurd01 (cc (x .1)), λ h. absurd (omega arith))
+
 one-type : (sheet : List ℕ) (p : ℕ) → TypeRow sheet p ↔ Counted (typesIn (rowAt sheet p)) 1
 unfolding typeOfRow
-one-type sheet p =
-    let o = typesIn (rowAt sheet p) in
-    (λ x. one o (x .type) (x .read), λ h. let x = only o h in record { type = x .0; read = x .1 })
-  where
-    one : (o : Option (List Ty)) (t : Ty) → onlyType o ≡ some t → Counted o 1
-    one nothing t e = absurd01 (cc)
-    one (some []) t e = absurd01 (cc)
-    one (some (t ∷ [])) u e = refl
-    one (some (t ∷ u ∷ ts)) v e = absurd01 (cc)
-
-    only : (o : Option (List Ty)) → Counted o 1 → (t : Ty) × (onlyType o ≡ some t)
-    only nothing h = absurd h
-    only (some []) h = absurd (omega arith)
-    only (some (t ∷ [])) h = (t, refl)
-    only (some (t ∷ u ∷ ts)) h = absurd (omega arith)
+one-type sheet p = let o = only (typesIn (rowAt sheet p)) in (λ x. o .0 (x .type, x .read), λ h. let (t, e) = o .1 h in record { type = t; read = e })
 
 -- `is_row` has read the row of p up to i: it is that of a type exactly where the bytes from i on are read as `left` types.
 abbrev rest : List ℕ → ℕ → ℕ → Option (List Ty)
@@ -150,22 +100,22 @@ begun-start {sheet} {p} l =
 
 module _ {sheet : List ℕ} {p end i left : ℕ} (b : Begun sheet p end i left) where
   module _ (l : i < end) where
-    goes : Counted (rest sheet end i) left ↔ (GoesOn (getD sheet i 0) left × Counted (rest sheet end (i + 1)) (leftBehind (getD sheet i 0) left))
+    goes : Counted (rest sheet end i) left ↔ (T (goesOn (getD sheet i 0) left) × Counted (rest sheet end (i + 1)) (leftBehind (getD sheet i 0) left))
     unfolding typesIn
     goes =
         let e : end - i ≡ suc (end - (i + 1)) = omega arith in
         let d : drop i sheet ≡ getD sheet i 0 ∷ drop (i + 1) sheet = drop-cons sheet i 0 (omega (arith, b .inside)) ∙ rw (add-one i) in
         rw (e, d) (counts (getD sheet i 0) (rest sheet end (i + 1)) left)
 
-    pub begun-goes : TypeRow sheet p → GoesOn (getD sheet i 0) left
-    begun-goes x = goes .0 (b .same .0 x) .0
+    pub begun-stops : goesOn (getD sheet i 0) left ≡ false → TypeRow sheet p → ⊥
+    begun-stops e x = T-false _ .1 e (goes .0 (b .same .0 x) .0)
 
-    pub begun-step : {n : ℕ} → GoesOn (getD sheet i 0) left → n ≡ leftBehind (getD sheet i 0) left → Begun sheet p end (i + 1) n
+    pub begun-step : {n : ℕ} → goesOn (getD sheet i 0) left ≡ true → n ≡ leftBehind (getD sheet i 0) left → Begun sheet p end (i + 1) n
     begun-step k e = rw e (record {
       inside = b .inside;
       to-end = omega arith;
       few = omega (arith, b .few, behind-few (getD sheet i 0) left);
-      same = Iff·trans (b .same) (λ x. goes .0 x .1, λ x. goes .1 (k, x));
+      same = Iff·trans (b .same) (λ x. goes .0 x .1, λ x. goes .1 (T-true _ .1 k, x));
     })
 
   pub begun-end : end ≤ i → TypeRow sheet p ↔ _≡_ {A = ℕ} 0 left

@@ -1,10 +1,10 @@
 -- What the functions ask and answer: the row of a type in a sheet, and values against rows.
 use Prim.Native.Nat.{ℕ, zero, suc, _+_, _*_, _≤_, _<_}
-use mathlib.Core.Bool.{Bool}
+use mathlib.Core.Bool.{Bool, true, false, cond}
 use mathlib.Core.List.{List}
-use mathlib.Core.Logic.{_⊎_}
 use mathlib.Core.Option.{some}
 use mathlib.Core.Path.{_≡_}
+use lib.Dec.{eqb, leb}
 use lib.ListN.{length, getD}
 use Rattle.rules.specs.Types.{Ty, typeOfRow}
 use Rattle.rules.specs.Values.{Value}
@@ -16,14 +16,14 @@ use Rattle.fitting.specs.Types.{typeParts}
 use Rattle.buffer.specs.Loaded.{Bound}
 use Rattle.conforms.specs.Conforming.{rowAt, hasWritten, ifFree, conforming}
 
--- The codes that a type may begin with.
-abbrev pub Code : ℕ → Type 0
-Code c = ((0 < c) × (c ≤ 4)) ⊎ (16 ≤ c)
+-- The codes that a type may begin with: 1 to 4, and those of the given sets.
+abbrev pub isCode : ℕ → Bool
+isCode c = cond (leb 16 c) true (cond (eqb c 0) false (leb c 4))
 
 -- The byte c may stand where `left` types are still to be read, and how many are then to be read behind it.
-abbrev pub GoesOn : ℕ → ℕ → Type 0
-GoesOn c zero = c ≡ 0
-GoesOn c (suc n) = Code c
+abbrev pub goesOn : ℕ → ℕ → Bool
+goesOn c zero = eqb c 0
+goesOn c (suc n) = isCode c
 
 abbrev pub leftBehind : ℕ → ℕ → ℕ
 leftBehind c zero = 0

@@ -10,12 +10,12 @@ ghost use Rattle.buffer.specs.Buffer.{cellsAtMost};
 ghost use Rattle.buffer.specs.Loaded.{LoadReady};
 ghost use Rattle.fitting.specs.Types.{Decides};
 ghost use Rattle.conforms.specs.Conforming.{conforming};
-ghost use Rattle.conforms.specs.Rows.{Code, GoesOn, leftBehind, TypeRow, NameReady, NameHas};
+ghost use Rattle.conforms.specs.Rows.{isCode, goesOn, leftBehind, TypeRow, NameReady, NameHas};
 ghost use Rattle.conforms.specs.Rows.{ValuesLoaded, LoadedConform};
 
 // Whether a byte is the code of a type's first constructor.
 fn is_code(c: u8) -> bool
-    ensures { λ r. ⌜ Decides r (Code c) ⌝ }
+    ensures { λ r. ⌜ r ≡ isCode c ⌝ }
 {
     if c >= 16 {
         return true;
@@ -28,7 +28,7 @@ fn is_code(c: u8) -> bool
 
 // Whether the byte c may stand in a row where `left` types are still to be read: a code, and a zero behind the last type.
 fn goes_on(c: u8, left: usize) -> bool
-    ensures { λ r. ⌜ Decides r (GoesOn c left) ⌝ }
+    ensures { λ r. ⌜ r ≡ goesOn c left ⌝ }
 {
     if left == 0 {
         return c == 0;

@@ -1,6 +1,6 @@
 -- Values that stand in the arena: what their cells tell of the types that they share.
 use Prim.Native.Nat.{ℕ, _+_, _*_, _-_, _/_, _%_, _≤_, _<_}
-use mathlib.Core.Bool.{Bool, true, false, cond}
+use mathlib.Core.Bool.{Bool, true, false, _&&_}
 use mathlib.Core.List.{List}
 use mathlib.Core.Logic.{_≢_, inl, inr}
 use borrow.Author.Tests.{eq-eqb, ne-eqb, eqb-true}
@@ -9,28 +9,23 @@ use native.Mathlib.Omega.{arith}
 use native.Mathlib.Decide.{ℕ-discrete}
 use lib.Dec.{T, eqb}
 use lib.ListN.{length, getD}
-use Rattle.rules.specs.Types.{whole, given}
+use Rattle.rules.specs.Types.{whole, number, bool}
 use Rattle.rules.specs.Values.{Scalar, num, truth, element, Value, scalar, pair, set, Values, none, _▸_, scalarTag, tag, count, weight, weights}
-use Rattle.rules.specs.Fits.{TypeSet, every, noType, atomˢ, typesOf, sharedTypes, inhabited, typed}
-use Rattle.arena.specs.Code.{cellSize, code, codes, ValueAt, ValuesAt, CellsFit, AllFit, SomeAt, EndsAt}
+use Rattle.rules.specs.Fits.{TypeSet, atomˢ, _⊓_, typesOf, sharedTypes, inhabited, typed}
+use Rattle.arena.specs.Code.{cellSize, code, codes, ValueAt, ValuesAt, CellsFit, SomeAt, EndsAt}
 use Rattle.arena.proofs.CodeLaws.{length-code}
 use Rattle.arena.proofs.Standing.{stands-head, stands-tail, stands-front, stands-back}
 use Rattle.arena.proofs.FrontLaws.{single}
-use Rattle.arena.proofs.ValueParts.{ends-at, some-inside, first-cell, left-stands, right-stands}
-use Rattle.fitting.specs.Agree.{meets, agree, TypedAt, RunAt, SomeTyped, SomeRun, Agreed, AgreedWith, AgreedAll, emptyCell, NoEmpty, StandFor, Members, Full, FullSet, FullAll, Few, atomsAlike, PairOrSet, SetHere, Parts, AgreedParts}
-use Rattle.fitting.specs.Tests.{Both}
-use Rattle.fitting.proofs.Sharing.{full-first, meets-sym, meets-same, with-every, meets-first, tags-differ, left-typed, right-typed}
+use Rattle.arena.proofs.ValueParts.{some-inside, first-cell, left-stands, right-stands}
+use Rattle.fitting.specs.Agree.{meets, agree, TypedAt, RunAt, SomeTyped, SomeRun, Agreed, AgreedWith, AgreedAll, emptyCell, NoEmpty, Members, Full, FullSet, FullAll, Few, atomsAlike, PairOrSet, SetHere}
+use Rattle.fitting.proofs.Sharing.{full-first, meets-sym, meets-same, with-every, meets-first, left-typed, right-typed, ⊓-every}
 use Rattle.rules.proofs.Basics.{and-split}
 use Rattle.laws.proofs.CellsLaws.{weight-some}
 use Rattle.laws.proofs.EndLaws.{T-true}
 
 -- No empty set among the cells passed.
 pub no-empty-more : (s : List ℕ) (at i : ℕ) → NoEmpty s at i → getD s i 0 ≢ emptyCell → NoEmpty s at (i + 1)
-no-empty-more s at i h n = record { none = λ j p q. go j p q (ℕ-discrete j i) }
-  where
-    go : (j : ℕ) → at ≤ j → j < i + 1 → Dec (j ≡ i) → getD s j 0 ≢ emptyCell
-    go j p q (yes e) = rw e n
-    go j p q (no d) = h .none j p (omega arith)
+no-empty-more s at i h n = record { none = λ j p q. elim (ℕ-discrete j i) [ yes e ↦ rw e n | no d ↦ h .none j p (omega arith) ] }
 
 -- The members of a set.
 pub members-stand : (s : List ℕ) (at : ℕ) (vs : Values) → ValueAt s at (set vs) → ValuesAt s (at + 1) vs
@@ -77,8 +72,8 @@ typed-at s at v h f t = record { stands = h; fits = f; typed = t }
 pub some-at : {s : List ℕ} {at : ℕ} → SomeTyped s at → SomeAt s at
 some-at x = record { value = x .0; stands = x .1 .stands; fits = x .1 .fits }
 
-pub inside : (s : List ℕ) (at : ℕ) → SomeTyped s at → at < length s
-inside s at x = some-inside s at (some-at x)
+pub inside : {s : List ℕ} {at : ℕ} → SomeTyped s at → at < length s
+inside {s} {at} x = some-inside s at (some-at x)
 
 pub end-is : {s : List ℕ} {at end : ℕ} {v : Value} → EndsAt s at end → TypedAt s at v → end ≡ at + weight v
 end-is {v = v} e h = e v (h .stands) (h .fits)
@@ -86,60 +81,77 @@ end-is {v = v} e h = e v (h .stands) (h .fits)
 pub tag-is : {s : List ℕ} {at : ℕ} {v : Value} → TypedAt s at v → getD s at 0 / cellSize ≡ tag v
 tag-is {s} {at} {v} h = first-cell s at v (h .stands) (h .fits) .0
 
-pub end-bounds : (s : List ℕ) (at end : ℕ) → SomeTyped s at → EndsAt s at end → (at < end) × (end ≤ length s)
-end-bounds s at end x e = let n = end-is e (x .1) in (omega (arith, weight-some (x .0)), omega (arith, x .1 .stands .inside, length-code (x .0)))
+pub end-bounds : {s : List ℕ} {at end : ℕ} → SomeTyped s at → EndsAt s at end → (at < end) × (end ≤ length s)
+end-bounds x e = let n = end-is e (x .1) in (omega (arith, weight-some (x .0)), omega (arith, x .1 .stands .inside, length-code (x .0)))
 
--- A value by the tag of its first cell.
+-- A value by the tag of its first cell, and its parts or members.
 pub scalar-low : (x : Scalar) → scalarTag x < 4
 scalar-low (num whole i) = omega arith
 scalar-low (truth b) = omega arith
 scalar-low (element g k) = omega arith
 
-module _ (s : List ℕ) (a : ℕ) where
-  pub pair-only : (v : Value) → ValueAt s a v → CellsFit v → getD s a 0 / cellSize ≡ 4 →
-      (x : Value) × (y : Value) × (v ≡ pair x y) × ValueAt s (a + 1) x × ValueAt s (a + 1 + weight x) y × CellsFit x × CellsFit y
-  pair-only (scalar x) h f t = absurd (omega (arith, first-cell s a (scalar x) h f .0, scalar-low x))
-  pair-only (pair x y) h f t = (x, y, refl, left-stands s a x y h, right-stands s a x y h, f .0, f .1)
-  pair-only (set vs) h f t = absurd (omega (arith, first-cell s a (set vs) h f .0))
+pub tag-pair : (v : Value) → tag v ≡ 4 → (x : Value) × (y : Value) × (v ≡ pair x y)
+tag-pair (scalar x) e = absurd (omega (arith, scalar-low x))
+tag-pair (pair x y) e = (x, y, refl)
+tag-pair (set vs) e = absurd (omega arith)
 
-  pub set-only : (v : Value) → ValueAt s a v → CellsFit v → getD s a 0 / cellSize ≡ 5 →
-      (vs : Values) × (v ≡ set vs) × ValuesAt s (a + 1) vs × AllFit vs × (count vs ≡ getD s a 0 % cellSize)
-  set-only (scalar x) h f t = absurd (omega (arith, first-cell s a (scalar x) h f .0, scalar-low x))
-  set-only (pair x y) h f t = absurd (omega (arith, first-cell s a (pair x y) h f .0))
-  set-only (set vs) h f t = (vs, refl, members-stand s a vs h, f .1, sym (first-cell s a (set vs) h f .1))
+pub tag-set : (v : Value) → tag v ≡ 5 → (vs : Values) × (v ≡ set vs)
+tag-set (scalar x) e = absurd (omega (arith, scalar-low x))
+tag-set (pair x y) e = absurd (omega arith)
+tag-set (set vs) e = (vs, refl)
 
-  pub as-pair : (v : Value) → TypedAt s a v → getD s a 0 / cellSize ≡ 4 →
-      (x : Value) × (y : Value) × (v ≡ pair x y) × TypedAt s (a + 1) x × TypedAt s (a + 1 + weight x) y
-  as-pair v h t =
-      let p = pair-only v (h .stands) (h .fits) t in
-      let k = and-split (inhabited (typesOf (p .0))) (inhabited (typesOf (p .1))) (rw (p .2) at (h .typed)) in
-      (p .0, p .1, p .2, record { stands = p .3; fits = p .5; typed = k .0 }, record { stands = p .4; fits = p .6; typed = k .1 })
+module _ {s : List ℕ} {a : ℕ} {v : Value} (h : TypedAt s a v) where
+  pub as-pair : getD s a 0 / cellSize ≡ 4 → (x : Value) × (y : Value) × (v ≡ pair x y) × TypedAt s a (pair x y)
+  as-pair t = let (x, y, e) = tag-pair v (sym (tag-is h) ∙ t) in (x, y, e, rw e at h)
 
-  pub as-set : (v : Value) → TypedAt s a v → getD s a 0 / cellSize ≡ 5 → (vs : Values) × (v ≡ set vs) × RunAt s (a + 1) (getD s a 0 % cellSize) vs
-  as-set v h t =
-      let p = set-only v (h .stands) (h .fits) t in
-      (p .0, p .1, record { stands = p .2; fits = p .3; typed = rw (p .1) at (h .typed); counted = p .4 })
+  pub as-set : getD s a 0 / cellSize ≡ 5 → (vs : Values) × (v ≡ set vs) × TypedAt s a (set vs)
+  as-set t = let (vs, e) = tag-set v (sym (tag-is h) ∙ t) in (vs, e, rw e at h)
 
--- The first of a run of values, and the rest.
-pub as-run : (s : List ℕ) (a n : ℕ) (vs : Values) → RunAt s a n vs → 0 < n →
-    (x : Value) × (ys : Values) × (vs ≡ x ▸ ys) × TypedAt s a x × RunAt s (a + weight x) (n - 1) ys
-as-run s a n none h l = absurd (omega (arith, h .counted))
-as-run s a n (x ▸ ys) h l = (
-  x,
-  ys,
-  refl,
-  record { stands = first-stands s a x ys (h .stands); fits = h .fits .0; typed = left-typed (typesOf x) (sharedTypes ys) (h .typed) },
-  record {
-    stands = rest-stand s a x ys (h .stands);
-    fits = h .fits .1;
-    typed = right-typed (typesOf x) (sharedTypes ys) (h .typed);
-    counted = omega (arith, h .counted);
-  },
-)
+pub pair-parts : {s : List ℕ} {a : ℕ} {x y : Value} → TypedAt s a (pair x y) → TypedAt s (a + 1) x × TypedAt s (a + 1 + weight x) y
+pair-parts {s} {a} {x} {y} h =
+    let k = and-split (inhabited (typesOf x)) (inhabited (typesOf y)) (h .typed) in (
+      record { stands = left-stands s a x y (h .stands); fits = h .fits .0; typed = k .0 },
+      record { stands = right-stands s a x y (h .stands); fits = h .fits .1; typed = k .1 },
+    )
 
-pub no-run : {s : List ℕ} {a n : ℕ} (vs : Values) → RunAt s a n vs → n ≡ 0 → vs ≡ none
-no-run none h e = refl
-no-run (x ▸ ys) h e = absurd (omega (arith, h .counted))
+pub set-run : {s : List ℕ} {a : ℕ} {vs : Values} → TypedAt s a (set vs) → RunAt s (a + 1) (getD s a 0 % cellSize) vs
+set-run {s} {a} {vs} h = record {
+  stands = members-stand s a vs (h .stands);
+  fits = h .fits .1;
+  typed = h .typed;
+  counted = sym (first-cell s a (set vs) (h .stands) (h .fits) .1);
+}
+
+-- A run of values: its first value, and the rest.
+module _ {s : List ℕ} {a n : ℕ} where
+  pub as-run : {vs : Values} → RunAt s a n vs → 0 < n → (x : Value) × (ys : Values) × (vs ≡ x ▸ ys) × RunAt s a n (x ▸ ys)
+  as-run {vs = none} h l = absurd (omega (arith, h .counted))
+  as-run {vs = x ▸ ys} h l = (x, ys, refl, h)
+
+  pub no-run : {vs : Values} → RunAt s a n vs → n ≡ 0 → vs ≡ none
+  no-run {vs = none} h e = refl
+  no-run {vs = x ▸ ys} h e = absurd (omega (arith, h .counted))
+
+  module _ {x : Value} {ys : Values} (h : RunAt s a n (x ▸ ys)) where
+    pub run-head : TypedAt s a x
+    run-head = record { stands = first-stands s a x ys (h .stands); fits = h .fits .0; typed = left-typed (typesOf x) (sharedTypes ys) (h .typed) }
+
+    pub run-tail : RunAt s (a + weight x) (n - 1) ys
+    run-tail = record {
+      stands = rest-stand s a x ys (h .stands);
+      fits = h .fits .1;
+      typed = right-typed (typesOf x) (sharedTypes ys) (h .typed);
+      counted = omega (arith, h .counted);
+    }
+
+    pub run-splits : (q : TypeSet) → meets (sharedTypes (x ▸ ys)) q ≡ (meets (typesOf x) q && meets (sharedTypes ys) q)
+    run-splits q = meets-first (typesOf x) (sharedTypes ys) q (h .typed)
+
+pub run-first : {s : List ℕ} {at n : ℕ} → SomeRun s at n → 0 < n → SomeTyped s at
+run-first r l = let (x, ys, e, k) = as-run (r .1) l in (x, run-head k)
+
+pub run-rest : {s : List ℕ} {at n end : ℕ} → SomeRun s at n → 0 < n → EndsAt s at end → SomeRun s end (n - 1)
+run-rest r l e = let (x, ys, _, k) = as-run (r .1) l in (ys, rw (end-is e (run-head k)) (run-tail k))
 
 -- A run of values against a set of types, value by value.
 module _ (s : List ℕ) (at : ℕ) (q : TypeSet) where
@@ -149,30 +161,21 @@ module _ (s : List ℕ) (at : ℕ) (q : TypeSet) where
   abbrev pub RunMeets : ℕ → Bool → Type 0
   RunMeets n r = (vs : Values) → RunAt s at n vs → r ≡ meets (sharedTypes vs) q
 
-module _ (s : List ℕ) (at n : ℕ) (q : TypeSet) where
+module _ {s : List ℕ} {at n : ℕ} (q : TypeSet) where
   pub run-end : n ≡ 0 → T (inhabited q) → RunMeets s at q n true
   unfolding meets
-  run-end z t vs h = let e : vs ≡ none = no-run vs h z in rw e (sym (T-true (inhabited q) .0 t))
+  run-end z t vs h = let e : vs ≡ none = no-run h z in rw e (sym (T-true (inhabited q) .0 t))
 
-  run-false : 0 < n → OneMeets s at q false → RunMeets s at q n false
-  run-false l g vs h =
-      let x = as-run s at n vs h l in
-      let m = meets-first (typesOf (x .0)) (sharedTypes (x .1)) q (rw (x .2) at (h .typed)) in
-      rw (x .2, m, ← g (x .0) (x .3))
+  pub run-false : {c : Bool} → 0 < n → OneMeets s at q c → c ≡ false → RunMeets s at q n false
+  run-false l g f vs h = let (x, ys, e, k) = as-run h l in rw (e, run-splits k q, ← g x (run-head k), f)
 
-  run-step : (e : ℕ) (r : Bool) → 0 < n → OneMeets s at q true → EndsAt s at e → RunMeets s e q (n - 1) r → RunMeets s at q n r
-  run-step e r l g f t vs h =
-      let x = as-run s at n vs h l in
-      let m = meets-first (typesOf (x .0)) (sharedTypes (x .1)) q (rw (x .2) at (h .typed)) in
-      let d : e ≡ at + weight (x .0) = end-is f (x .3) in
-      rw (x .2, m, ← g (x .0) (x .3)) (t (x .1) (rw d (x .4)))
+  pub run-step : {end : ℕ} {c r : Bool} → 0 < n → OneMeets s at q c → c ≡ true → EndsAt s at end → RunMeets s end q (n - 1) r → RunMeets s at q n r
+  run-step l g f d t vs h =
+      let (x, ys, e, k) = as-run h l in
+      rw (e, run-splits k q, ← g x (run-head k), f) (t ys (rw (end-is d (run-head k)) (run-tail k)))
 
-run-one : (s : List ℕ) (at n : ℕ) (q : TypeSet) (r : Bool) → n ≡ 1 → T (inhabited q) → OneMeets s at q r → RunMeets s at q n r
-run-one s at n q false e t g vs h = run-false s at n q (omega arith) g vs h
-run-one s at n q true e t g vs h =
-    let x = as-run s at n vs h (omega arith) in
-    let i = at + weight (x .0) in
-    run-step s at n q i true (omega arith) g (ends-at s at (x .0) (x .3 .stands) (x .3 .fits)) (run-end s i (n - 1) q (omega arith) t) vs h
+  pub run-one : {r : Bool} → n ≡ 1 → OneMeets s at q r → RunMeets s at q n r
+  run-one m g vs h = let (x, ys, e, k) = as-run h (omega arith) in rw (e, no-run (run-tail k) (omega arith), ⊓-every (typesOf x)) (g x (run-head k))
 
 -- A value against a run: the run against the types of the value.
 module _ (s : List ℕ) (a j left : ℕ) where
@@ -184,141 +187,108 @@ module _ (s : List ℕ) (a j left : ℕ) where
   one-meets r g v h w k = g v w h k ∙ meets-sym (typesOf v) (typesOf w)
 
   pub with-end : left ≡ 0 → AgreedWith s a j left true
-  with-end z = with-types true (λ v h. run-end s j left (typesOf v) z (h .typed))
+  with-end z = with-types true (λ v h. run-end (typesOf v) z (h .typed))
 
   pub with-false : 0 < left → Agreed s a j false → AgreedWith s a j left false
-  with-false l g = with-types false (λ v h. run-false s j left (typesOf v) l (one-meets false g v h))
+  with-false l g = with-types false (λ v h. run-false (typesOf v) l (one-meets false g v h) refl)
 
   pub with-step : (j2 : ℕ) (r : Bool) → 0 < left → Agreed s a j true → EndsAt s j j2 → AgreedWith s a j2 (left - 1) r → AgreedWith s a j left r
   with-step j2 r l g e t =
-      with-types r (λ v h. run-step s j left (typesOf v) j2 r l (one-meets true g v h) e (λ ws k. t v ws h k ∙ meets-sym (typesOf v) (sharedTypes ws)))
+      with-types r (λ v h. run-step (typesOf v) l (one-meets true g v h) refl e (λ ws k. t v ws h k ∙ meets-sym (typesOf v) (sharedTypes ws)))
 
   pub with-last : left ≡ 1 → Agreed s a j true → AgreedWith s a j left true
-  with-last e g = with-types true (λ v h. run-one s j left (typesOf v) true e (h .typed) (one-meets true g v h))
+  with-last e g = with-types true (λ v h. run-one (typesOf v) e (one-meets true g v h))
 
--- Runs of values against each other: the first run against the types that the second shares.
-module _ (s : List ℕ) (i left b m : ℕ) where
-  pub all-end : left ≡ 0 → AgreedAll s i left b m true
-  all-end z vs ws h k = run-end s i left (sharedTypes ws) z (k .typed) vs h
+-- A pair: its right part stands where the left one ends.
+pub record PairHere (s : List ℕ) (a : ℕ) : Type 0 where
+  pub isPair : getD s a 0 / cellSize ≡ 4
+  pub left : SomeTyped s (a + 1)
+  pub right : (c : ℕ) → EndsAt s (a + 1) c → SomeTyped s c
 
-  pub all-false : 0 < left → AgreedWith s i b m false → AgreedAll s i left b m false
-  all-false l g vs ws h k = run-false s i left (sharedTypes ws) l (λ v u. g v ws u k) vs h
-
-  pub all-step : (i2 : ℕ) (r : Bool) → 0 < left → AgreedWith s i b m true → EndsAt s i i2 → AgreedAll s i2 (left - 1) b m r → AgreedAll s i left b m r
-  all-step i2 r l g e t vs ws h k = run-step s i left (sharedTypes ws) i2 r l (λ v u. g v ws u k) e (λ us u. t us ws u k) vs h
-
-  pub all-one : (r : Bool) → left ≡ 1 → AgreedWith s i b m r → AgreedAll s i left b m r
-  all-one r e g vs ws h k = run-one s i left (sharedTypes ws) r e (k .typed) (λ v u. g v ws u k) vs h
-
-pub run-first : (s : List ℕ) (at n : ℕ) → SomeRun s at n → 0 < n → SomeTyped s at
-run-first s at n r l = let x = as-run s at n (r .0) (r .1) l in (x .0, x .3)
-
-pub run-rest : (s : List ℕ) (at n end : ℕ) → SomeRun s at n → 0 < n → EndsAt s at end → SomeRun s end (n - 1)
-run-rest s at n end r l e =
-    let x = as-run s at n (r .0) (r .1) l in
-    let f : end ≡ at + weight (x .0) = end-is e (x .3) in
-    (x .1, rw f (x .4))
+pub pair-here : {s : List ℕ} {a : ℕ} → SomeTyped s a → getD s a 0 / cellSize ≡ 4 → PairHere s a
+pair-here v t =
+    let (x, y, _, h) = as-pair (v .1) t in
+    let (k, l) = pair-parts h in
+    record { isPair = t; left = (x, k); right = λ c e. (y, rw (end-is e k) l) }
 
 -- Two values by their parts or members.
-module _ (s : List ℕ) (a b : ℕ) where
-  pub unlike : ((getD s a 0 / cellSize ≡ getD s b 0 / cellSize) → ⊥) → Agreed s a b false
-  unlike n v w h k = sym (tags-differ v w (λ e. n (tag-is h ∙ e ∙ sym (tag-is k))))
-
-  pub parts-false : Agreed s a b false → AgreedParts s a b false
-  parts-false g v₁ v₂ w₁ w₂ h₁ h₂ k₁ k₂ = rw (← g v₁ w₁ h₁ k₁)
-
-  pub parts-true : (c d : ℕ) (r : Bool) → EndsAt s a c → EndsAt s b d → Agreed s a b true → Agreed s c d r → AgreedParts s a b r
-  parts-true c d r e f g i v₁ v₂ w₁ w₂ h₁ h₂ k₁ k₂ = rw (← g v₁ w₁ h₁ k₁) (i v₂ w₂ (rw (end-is e h₁) h₂) (rw (end-is f k₁) k₂))
-
-  pub pairs-agree : (r : Bool) → getD s a 0 / cellSize ≡ 4 → getD s b 0 / cellSize ≡ 4 → AgreedParts s (a + 1) (b + 1) r → Agreed s a b r
+module _ {s : List ℕ} {a b : ℕ} where
+  -- pairs whose left parts share no type, or do, and then the right parts decide
+  pub pairs-false : {q : Bool} → PairHere s a → PairHere s b → Agreed s (a + 1) (b + 1) q → q ≡ false → Agreed s a b false
   unfolding agree meets
-  pairs-agree r t u g v w h k =
-      let x = as-pair s a v h t in
-      let y = as-pair s b w k u in
-      rw (x .2, y .2) (g (x .0) (x .1) (y .0) (y .1) (x .3) (x .4) (y .3) (y .4))
+  pairs-false t u g n v w h k =
+      let (v₁, v₂, e, x) = as-pair h (t .isPair) in
+      let (w₁, w₂, f, y) = as-pair k (u .isPair) in
+      rw (e, f, ← g v₁ w₁ (pair-parts x .0) (pair-parts y .0), n)
 
-  pub pair-parts : Both s a b → getD s a 0 / cellSize ≡ 4 → getD s b 0 / cellSize ≡ 4 → Parts s (a + 1) (b + 1)
-  pair-parts p t u =
-      let x = as-pair s a (p .first .0) (p .first .1) t in
-      let y = as-pair s b (p .second .0) (p .second .1) u in
-      record {
-        left = (x .0, x .3);
-        right = λ c e. let f : c ≡ a + 1 + weight (x .0) = end-is e (x .3) in (x .1, rw f (x .4));
-        otherLeft = (y .0, y .3);
-        otherRight = λ d e. let f : d ≡ b + 1 + weight (y .0) = end-is e (y .3) in (y .1, rw f (y .4));
-      }
+  pub pairs-true : {c d : ℕ} {q r : Bool} → PairHere s a → PairHere s b → Agreed s (a + 1) (b + 1) q → q ≡ true →
+      EndsAt s (a + 1) c → EndsAt s (b + 1) d → Agreed s c d r → Agreed s a b r
+  unfolding agree meets
+  pairs-true t u g n l m i v w h k =
+      let (v₁, v₂, e, x) = as-pair h (t .isPair) in
+      let (w₁, w₂, f, y) = as-pair k (u .isPair) in
+      let (x₁, x₂) = pair-parts x in
+      let (y₁, y₂) = pair-parts y in
+      rw (e, f, ← g v₁ w₁ x₁ y₁, n) (i v₂ w₂ (rw (end-is l x₁) x₂) (rw (end-is m y₁) y₂))
 
-  pub sets-agree : (n m : ℕ) (r : Bool) → getD s a 0 / cellSize ≡ 5 → getD s b 0 / cellSize ≡ 5 →
+  pub sets-agree : {n m : ℕ} {r : Bool} → getD s a 0 / cellSize ≡ 5 → getD s b 0 / cellSize ≡ 5 →
       Members s a n → Members s b m → AgreedAll s (a + 1) n (b + 1) m r → Agreed s a b r
   unfolding agree meets
-  sets-agree n m r t u c d g v w h k =
-      let x = as-set s a v h t in
-      let y = as-set s b w k u in
-      let p = c (x .0) (rw (x .1) at h) in
-      let q = d (y .0) (rw (y .1) at k) in
-      rw (x .1, y .1)
-      (g (p .few) (q .few) (p .run) (q .run) ∙
-      meets-same (sharedTypes (p .few)) (sharedTypes (x .0)) (sharedTypes (q .few)) (sharedTypes (y .0)) (p .same) (q .same))
+  sets-agree t u c d g v w h k =
+      let (vs, e, x) = as-set h t in
+      let (ws, f, y) = as-set k u in
+      let p = c vs x in
+      let q = d ws y in
+      rw (e, f) (g (q .few) (q .run) (p .few) (p .run) ∙
+      meets-same (sharedTypes (p .few)) (sharedTypes vs) (sharedTypes (q .few)) (sharedTypes ws) (p .same) (q .same))
 
 -- A scalar and another value, by their cells.
+number-tag : (w : Value) → eqb 1 (tag w) ≡ inhabited (atomˢ (number whole) ⊓ typesOf w)
+number-tag w = elim w [ scalar x ↦ elim x [ num n i ↦ elim n [ whole ↦ refl ] | truth b ↦ refl | element g k ↦ refl ] | pair x y ↦ refl | set vs ↦ refl ]
+
+truth-tag : (w : Value) → eqb 2 (tag w) ≡ inhabited (atomˢ bool ⊓ typesOf w)
+truth-tag w = elim w [ scalar x ↦ elim x [ num n i ↦ elim n [ whole ↦ refl ] | truth b ↦ refl | element g k ↦ refl ] | pair x y ↦ refl | set vs ↦ refl ]
+
 far : (s : List ℕ) (a b : ℕ) → getD s a 0 / cellSize ≢ getD s b 0 / cellSize → eqb (getD s a 0 / 256) (getD s b 0 / 256) ≡ false
 far s a b n = ne-eqb (getD s a 0 / 256) (getD s b 0 / 256) (λ e. n (omega arith))
 
 pub atoms-agree : (s : List ℕ) (a b : ℕ) → getD s a 0 < 4 * cellSize → Agreed s a b (atomsAlike (getD s a 0) (getD s b 0))
 unfolding agree meets
-atoms-agree s a b l (scalar (num whole i)) (scalar (num whole j)) h k = rw (tag-is h, tag-is k)
-atoms-agree s a b l (scalar (num whole i)) (scalar (truth b₁)) h k = rw (tag-is h, tag-is k)
-atoms-agree s a b l (scalar (num whole i)) (scalar (element g₁ k₁)) h k = rw (tag-is h, tag-is k)
-atoms-agree s a b l (scalar (num whole i)) (pair x y) h k = rw (tag-is h, tag-is k)
-atoms-agree s a b l (scalar (num whole i)) (set ws) h k = rw (tag-is h, tag-is k)
-atoms-agree s a b l (scalar (truth b₀)) (scalar (num whole j)) h k = rw (tag-is h, tag-is k)
-atoms-agree s a b l (scalar (truth b₀)) (scalar (truth b₁)) h k = rw (tag-is h, tag-is k)
-atoms-agree s a b l (scalar (truth b₀)) (scalar (element g₁ k₁)) h k = rw (tag-is h, tag-is k)
-atoms-agree s a b l (scalar (truth b₀)) (pair x y) h k = rw (tag-is h, tag-is k)
-atoms-agree s a b l (scalar (truth b₀)) (set ws) h k = rw (tag-is h, tag-is k)
+atoms-agree s a b l (scalar (num whole i)) w h k = rw (tag-is h, tag-is k) (number-tag w)
+atoms-agree s a b l (scalar (truth b₀)) w h k = rw (tag-is h, tag-is k) (truth-tag w)
 atoms-agree s a b l (scalar (element g₀ k₀)) (scalar (num whole j)) h k = rw (tag-is h, far s a b (λ e. omega (arith, tag-is h, tag-is k)))
 atoms-agree s a b l (scalar (element g₀ k₀)) (scalar (truth b₁)) h k = rw (tag-is h, far s a b (λ e. omega (arith, tag-is h, tag-is k)))
 atoms-agree s a b l (scalar (element g₀ k₀)) (pair x y) h k = rw (tag-is h, far s a b (λ e. omega (arith, tag-is h, tag-is k)))
 atoms-agree s a b l (scalar (element g₀ k₀)) (set ws) h k = rw (tag-is h, far s a b (λ e. omega (arith, tag-is h, tag-is k)))
-atoms-agree s a b l (scalar (element g₀ k₀)) (scalar (element g₁ k₁)) h k = rw (tag-is h) (go (ℕ-discrete g₀ g₁))
-  where
-    x : getD s a 0 / 256 ≡ 50331648 + g₀
-    x = omega (arith, first-cell s a (scalar (element g₀ k₀)) (h .stands) (h .fits), h .fits .0)
-
-    y : getD s b 0 / 256 ≡ 50331648 + g₁
-    y = omega (arith, first-cell s b (scalar (element g₁ k₁)) (k .stands) (k .fits), k .fits .0)
-
-    go : Dec (g₀ ≡ g₁) → eqb (getD s a 0 / 256) (getD s b 0 / 256) ≡ inhabited (cond (eqb g₀ g₁) (atomˢ (given g₀)) noType)
-    go (yes e) = rw (eq-eqb g₀ g₁ e) (eq-eqb (getD s a 0 / 256) (getD s b 0 / 256) (omega (arith, x, y)))
-    go (no n) = rw (ne-eqb g₀ g₁ n) (ne-eqb (getD s a 0 / 256) (getD s b 0 / 256) (λ e. n (omega (arith, x, y))))
+atoms-agree s a b l (scalar (element g₀ k₀)) (scalar (element g₁ k₁)) h k =
+    let x : getD s a 0 / 256 ≡ 50331648 + g₀ = omega (arith, first-cell s a (scalar (element g₀ k₀)) (h .stands) (h .fits), h .fits .0) in
+    let y : getD s b 0 / 256 ≡ 50331648 + g₁ = omega (arith, first-cell s b (scalar (element g₁ k₁)) (k .stands) (k .fits), k .fits .0) in
+    rw (tag-is h) (elim (ℕ-discrete g₀ g₁) [
+      | yes e ↦ rw (eq-eqb g₀ g₁ e, eq-eqb (getD s a 0 / 256) (getD s b 0 / 256) (omega arith))
+      | no n ↦ rw (ne-eqb g₀ g₁ n, ne-eqb (getD s a 0 / 256) (getD s b 0 / 256) (λ e. n (omega arith)))
+    ])
 atoms-agree s a b l (pair x y) w h k = absurd (omega (arith, tag-is h))
 atoms-agree s a b l (set vs) w h k = absurd (omega (arith, tag-is h))
 
 pub alike-low : (x y : ℕ) → x < 4 * cellSize → atomsAlike x y ≡ true → y < 4 * cellSize
-alike-low x y l e = go (ℕ-discrete (x / cellSize) 3) e
-  where
-    go : Dec (x / cellSize ≡ 3) → atomsAlike x y ≡ true → y < 4 * cellSize
-    go (yes t) f = let g : eqb (x / 256) (y / 256) ≡ true = rw (eq-eqb (x / cellSize) 3 t) at f in omega (arith, eqb-true (x / 256) (y / 256) g)
-    go (no n) f =
-        let g : eqb (x / cellSize) (y / cellSize) ≡ true = rw (ne-eqb (x / cellSize) 3 n) at f in
-        omega (arith, eqb-true (x / cellSize) (y / cellSize) g)
+alike-low x y l e = elim (ℕ-discrete (x / cellSize) 3) [
+  | yes t ↦ let g : eqb (x / 256) (y / 256) ≡ true = rw (eq-eqb (x / cellSize) 3 t) at e in omega (arith, eqb-true (x / 256) (y / 256) g)
+  | no n ↦ let g : eqb (x / cellSize) (y / cellSize) ≡ true = rw (ne-eqb (x / cellSize) 3 n) at e in
+      omega (arith, eqb-true (x / cellSize) (y / cellSize) g)
+]
 
 pub agreed-back : (s : List ℕ) (a b : ℕ) (r : Bool) → Agreed s a b r → Agreed s b a r
 unfolding agree
 agreed-back s a b r g v w h k = g w v k h ∙ meets-sym (typesOf w) (typesOf v)
 
 -- A pair or a set that is no set is a pair.
-pub other-pair : (s : List ℕ) (a : ℕ) → SomeTyped s a → PairOrSet s a → getD s a 0 / cellSize ≢ 5 → getD s a 0 / cellSize ≡ 4
-other-pair s a x l n = go (x .0) (tag-is (x .1))
+pub other-pair : {s : List ℕ} {a : ℕ} → SomeTyped s a → PairOrSet s a → getD s a 0 / cellSize ≢ 5 → getD s a 0 / cellSize ≡ 4
+other-pair {s} {a} x l n = go (x .0) (tag-is (x .1))
   where
     go : (v : Value) → getD s a 0 / cellSize ≡ tag v → getD s a 0 / cellSize ≡ 4
     go (scalar x) e = absurd (omega (arith, scalar-low x))
     go (pair v w) e = e
     go (set vs) e = absurd (n e)
-
--- The cells of a value without an empty set's.
-pub full-typed : (s : List ℕ) (at end : ℕ) → EndsAt s at end → NoEmpty s at end → (v : Value) → TypedAt s at v → Full v
-full-typed s at end e f v h = full-value v s at (h .stands) (rw (end-is e h) at f)
 
 pub scalar-full : (s : List ℕ) (at : ℕ) → getD s at 0 < 4 * cellSize → (v : Value) → TypedAt s at v → Full v
 scalar-full s at l (scalar x) h = tt
@@ -326,52 +296,34 @@ scalar-full s at l (pair x y) h = absurd (omega (arith, tag-is h))
 scalar-full s at l (set vs) h = absurd (omega (arith, tag-is h))
 
 -- One value is a run.
-pub run-of : {s : List ℕ} {at : ℕ} (v : Value) → TypedAt s at v → RunAt s at 1 (v ▸ none)
-run-of v h = record { stands = rw (single v) (h .stands); fits = (h .fits, tt); typed = with-every (typesOf v) (h .typed); counted = refl }
+pub run-of : {s : List ℕ} {at : ℕ} {v : Value} → TypedAt s at v → RunAt s at 1 (v ▸ none)
+run-of {v = v} h = record { stands = rw (single v) (h .stands); fits = (h .fits, tt); typed = with-every (typesOf v) (h .typed); counted = refl }
 
 -- The members that stand for all.
 pub few-members : (s : List ℕ) (a n r : ℕ) → getD s a 0 % cellSize ≡ n → Few s (a + 1) n r → Members s a r
-few-members s a n r c f vs h = go f
-  where
-    k : RunAt s (a + 1) n vs
-    k = record {
-      stands = members-stand s a vs (h .stands);
-      fits = h .fits .1;
-      typed = h .typed;
-      counted = sym (first-cell s a (set vs) (h .stands) (h .fits) .1) ∙ c;
+few-members s a n r c (inl e) vs h = record { few = vs; run = rw (e ∙ sym c) (set-run h); same = λ q. refl }
+few-members s a n r c (inr (e, l, f)) none h = absurd (omega (arith, set-run h .counted))
+few-members s a n r c (inr (e, l, f)) (x ▸ ys) h =
+    let y = run-head (set-run h) in
+    record {
+      few = x ▸ none;
+      run = rw e (run-of y);
+      same = λ q. rw (⊓-every (typesOf x)) (full-first x (sharedTypes ys) q (f x y) (h .typed));
     }
 
-    go : Few s (a + 1) n r → StandFor s (a + 1) r vs
-    go (inl e) = record { few = vs; run = rw e k; same = λ q. refl }
-    go (inr x) =
-        let y = as-run s (a + 1) n vs k (x .1) in
-        let f = x .2 (y .0) (y .3) in
-        let l = run-of (y .0) (y .3) in
-        rw (x .0, y .2) (record {
-          few = y .0 ▸ none;
-          run = l;
-          same = λ q. sym (full-first (y .0) every q f (l .typed)) ∙ full-first (y .0) (sharedTypes (y .1)) q f (rw (y .2) at (k .typed));
-        })
-
--- The test of two cells, by the first one's tag.
+-- A test of two numbers.
 pub test-is : (b : Bool) (m n : ℕ) → (b ≡ true → m ≡ n) → (b ≡ false → m ≢ n) → b ≡ eqb m n
 test-is true m n f g = sym (eq-eqb m n (f refl))
 test-is false m n f g = sym (ne-eqb m n (g refl))
 
 pub alike-elements : (x y t : ℕ) (b : Bool) → t ≡ x / cellSize → t ≡ 3 → (b ≡ true → x / 256 ≡ y / 256) → (b ≡ false → x / 256 ≢ y / 256) → b ≡ atomsAlike x y
-alike-elements x y t b e n f g = test-is b (x / 256) (y / 256) f g ∙ rw (eq-eqb (x / cellSize) 3 (sym e ∙ n))
+alike-elements x y t b e n f g = test-is b (x / 256) (y / 256) f g ∙ rw (← e, eq-eqb t 3 n)
 
-pub alike-others : (x y t u : ℕ) → t ≡ x / cellSize → t ≢ 3 → u ≡ y / cellSize → eqb t u ≡ atomsAlike x y
-alike-others x y t u e n f = rw (ne-eqb (x / cellSize) 3 (λ g. n (e ∙ g)), e, f)
+pub first-member : {s : List ℕ} {a : ℕ} → SetHere s a → 0 < getD s a 0 % cellSize → SomeTyped s (a + 1)
+first-member h l = let (vs, _, k) = as-set (h .value .1) (h .isSet) in run-first (vs, set-run k) l
 
-pub first-member : (s : List ℕ) (a : ℕ) → SetHere s a → 0 < getD s a 0 % cellSize → SomeTyped s (a + 1)
-first-member s a h l = let x = as-set s a (h .value .0) (h .value .1) (h .isSet) in run-first s (a + 1) (getD s a 0 % cellSize) (x .0, x .2) l
+pub member-inside : {s : List ℕ} {a : ℕ} → SetHere s a → getD s a 0 % cellSize ≢ 0 → a + 1 < length s
+member-inside h n = inside (first-member h (omega arith))
 
-pub member-inside : (s : List ℕ) (a : ℕ) → SomeTyped s a → getD s a 0 / cellSize ≡ 5 → getD s a 0 % cellSize ≢ 0 → a + 1 < length s
-member-inside s a x t n = inside s (a + 1) (first-member s a (record { value = x; isSet = t }) (omega arith))
-
-pub members-run : (s : List ℕ) (a r : ℕ) → SetHere s a → Members s a r → SomeRun s (a + 1) r
-members-run s a r h c =
-    let x = as-set s a (h .value .0) (h .value .1) (h .isSet) in
-    let y = c (x .0) (rw (x .1) at (h .value .1)) in
-    (y .few, y .run)
+pub members-run : {s : List ℕ} {a r : ℕ} → SetHere s a → Members s a r → SomeRun s (a + 1) r
+members-run h c = let (vs, _, k) = as-set (h .value .1) (h .isSet) in (c vs k .few, c vs k .run)

@@ -1,12 +1,12 @@
 -- Sharing a type: consistency of sets of types is pairwise, and a value without empty sets has one type only.
 use Prim.Native.Nat.{ℕ}
-use mathlib.Core.Bool.{Bool, true, false, _&&_, cond}
+use mathlib.Core.Bool.{false, _&&_}
 use mathlib.Core.Path.{_≡_, refl, sym, ap, _∙_, subst}
 use mathlib.Core.Logic.{_≢_}
 use lib.Dec.{T}
 use Rattle.rules.specs.Types.{whole, number, bool, given, Ty, atom, POW, _⊗_}
 use Rattle.rules.specs.Values.{num, truth, element, tag, Value, scalar, pair, set, Values, none, _▸_}
-use Rattle.rules.specs.Fits.{sameAtom, TypeSet, every, noType, atomˢ, powˢ, _×ˢ_, _⊓_, typesOf, sharedTypes, inhabited}
+use Rattle.rules.specs.Fits.{TypeSet, every, noType, atomˢ, powˢ, _×ˢ_, _⊓_, typesOf, sharedTypes, inhabited}
 use Rattle.laws.proofs.FitsLaws.{_⊑_, ⊓-join, ⊓-split, inhabited→some, some→inhabited}
 use Rattle.fitting.specs.Agree.{meets, agree, Full, FullSet}
 use Rattle.rules.proofs.Basics.{and-of, and-split, bool-eq}
@@ -33,15 +33,12 @@ no-meet p q n = bool-eq (meets p q) false (λ h. n (meets→share p q h)) (λ h.
 pub pairwise : (p q r : TypeSet) → T (inhabited (p ⊓ q)) → T (inhabited (p ⊓ r)) → T (inhabited (q ⊓ r)) → T (inhabited ((p ⊓ q) ⊓ r))
 pairwise every q r h k l = l
 pairwise noType q r h k l = h
-pairwise (atomˢ a) every r h k l = k
-pairwise (atomˢ a) noType r h k l = absurd h
-pairwise (atomˢ a) (atomˢ b) r h k l = go (sameAtom a b) h
-  where
-    go : (c : Bool) → T (inhabited (cond c (atomˢ a) noType)) → T (inhabited (cond c (atomˢ a) noType ⊓ r))
-    go true x = k
-    go false x = x
-pairwise (atomˢ a) (powˢ q) r h k l = absurd h
-pairwise (atomˢ a) (q₁ ×ˢ q₂) r h k l = absurd h
+pairwise (atomˢ a) q r h k l =
+    let x = inhabited→some (atomˢ a ⊓ q) h in
+    let y = inhabited→some (atomˢ a ⊓ r) k in
+    let z = ⊓-split (atomˢ a) r (y .0) (y .1) in
+    let e = z .0 ∙ sym (⊓-split (atomˢ a) q (x .0) (x .1) .0) in
+    some→inhabited ((atomˢ a ⊓ q) ⊓ r) (x .0) (⊓-join (atomˢ a ⊓ q) r (x .0) (x .1) (rw e at (z .1)))
 pairwise (powˢ p) every r h k l = k
 pairwise (powˢ p) noType r h k l = absurd h
 pairwise (powˢ p) (atomˢ b) r h k l = absurd h
@@ -66,24 +63,15 @@ pairwise (p₁ ×ˢ p₂) (q₁ ×ˢ q₂) (r₁ ×ˢ r₂) h k l =
     and-of (inhabited ((p₁ ⊓ q₁) ⊓ r₁)) (inhabited ((p₂ ⊓ q₂) ⊓ r₂))
     (pairwise p₁ q₁ r₁ (a .0) (b .0) (c .0)) (pairwise p₂ q₂ r₂ (a .1) (b .1) (c .1))
 
--- So of a set of types and of two that have one in common.
-pub meets-both : (p q r : TypeSet) → T (inhabited (q ⊓ r)) → meets p (q ⊓ r) ≡ (meets p q && meets p r)
+-- So what meets two sets of types that have one in common meets each of them.
+pub meets-first : (q r p : TypeSet) → T (inhabited (q ⊓ r)) → meets (q ⊓ r) p ≡ (meets q p && meets r p)
 unfolding meets
-meets-both p q r l = bool-eq (meets p (q ⊓ r)) (meets p q && meets p r) there back
-  where
-    there : T (meets p (q ⊓ r)) → T (meets p q && meets p r)
-    there h =
-        let x = meets→share p (q ⊓ r) h in
-        let k = ⊓-split q r (x .0) (x .2) in
-        and-of (meets p q) (meets p r) (share→meets p q (x .0, x .1, k .0)) (share→meets p r (x .0, x .1, k .1))
-
-    back : T (meets p q && meets p r) → T (meets p (q ⊓ r))
-    back h =
-        let a = and-split (meets p q) (meets p r) h in
-        let y = inhabited→some ((p ⊓ q) ⊓ r) (pairwise p q r (a .0) (a .1) l) in
-        let m = ⊓-split (p ⊓ q) r (y .0) (y .1) in
-        let n = ⊓-split p q (y .0) (m .0) in
-        share→meets p (q ⊓ r) (y .0, n .0, ⊓-join q r (y .0) (n .1) (m .1))
+meets-first q r p l =
+    bool-eq (meets (q ⊓ r) p) (meets q p && meets r p)
+    (λ h. let x = meets→share (q ⊓ r) p h in
+    let k = ⊓-split q r (x .0) (x .1) in
+    and-of (meets q p) (meets r p) (share→meets q p (x .0, k .0, x .2)) (share→meets r p (x .0, k .1, x .2)))
+    (λ h. let k = and-split (meets q p) (meets r p) h in pairwise q r p l (k .0) (k .1))
 
 pub meets-sym : (p q : TypeSet) → meets p q ≡ meets q p
 meets-sym p q =
@@ -91,11 +79,8 @@ meets-sym p q =
     (λ h. let x = meets→share p q h in share→meets q p (x .0, x .2, x .1))
     (λ h. let x = meets→share q p h in share→meets p q (x .0, x .2, x .1))
 
-pub meets-first : (q r p : TypeSet) → T (inhabited (q ⊓ r)) → meets (q ⊓ r) p ≡ (meets q p && meets r p)
-meets-first q r p l = meets-sym (q ⊓ r) p ∙ meets-both p q r l ∙ rw (meets-sym p q, meets-sym p r)
-
 -- The tag of the values of a type.
-abbrev tagOf : Ty → ℕ
+abbrev pub tagOf : Ty → ℕ
 tagOf (atom (number whole)) = 1
 tagOf (atom bool) = 2
 tagOf (atom (given g)) = 3
@@ -125,27 +110,35 @@ left-typed p q h = let r = inhabited→some (p ⊓ q) h in some→inhabited p (r
 pub right-typed : (p q : TypeSet) → T (inhabited (p ⊓ q)) → T (inhabited q)
 right-typed p q h = let r = inhabited→some (p ⊓ q) h in some→inhabited q (r .0) (⊓-split p q (r .0) (r .1) .1)
 
+pub ⊓-every : (p : TypeSet) → p ⊓ every ≡ p
+⊓-every p = elim p [ every ↦ refl | noType ↦ refl | atomˢ a ↦ refl | powˢ q ↦ refl | q ×ˢ r ↦ refl ]
+
 pub with-every : (p : TypeSet) → T (inhabited p) → T (inhabited (p ⊓ every))
-unfolding meets
-with-every p h = let r = inhabited→some p h in share→meets p every (r .0, r .1, tt)
+with-every p h = rw (⊓-every p) h
+
+-- The types of sets and of pairs.
+pub as-power : (p : TypeSet) (t : Ty) → powˢ p ⊑ t → (u : Ty) × (t ≡ POW u) × (p ⊑ u)
+as-power p (atom a) h = absurd h
+as-power p (POW t) h = (t, refl, h)
+as-power p (t ⊗ u) h = absurd h
+
+pub as-product : (p q : TypeSet) (t : Ty) → (p ×ˢ q) ⊑ t → (u : Ty) × (w : Ty) × (t ≡ u ⊗ w) × (p ⊑ u) × (q ⊑ w)
+as-product p q (atom a) h = absurd h
+as-product p q (POW t) h = absurd h
+as-product p q (t ⊗ u) h = (t, u, refl, h .0, h .1)
 
 -- A full value has at most one type.
 mutual
   pub ground : (v : Value) (t u : Ty) → Full v → typesOf v ⊑ t → typesOf v ⊑ u → t ≡ u
   ground (scalar x) t u f h k = h ∙ sym k
-  ground (pair v w) (atom a) u f h k = absurd h
-  ground (pair v w) (POW t) u f h k = absurd h
-  ground (pair v w) (t₁ ⊗ t₂) (atom a) f h k = absurd k
-  ground (pair v w) (t₁ ⊗ t₂) (POW u) f h k = absurd k
-  ground (pair v w) (t₁ ⊗ t₂) (u₁ ⊗ u₂) f h k =
-      let a = ground v t₁ u₁ (f .0) (h .0) (k .0) in
-      let b = ground w t₂ u₂ (f .1) (h .1) (k .1) in
-      cc
-  ground (set s) (atom a) u f h k = absurd h
-  ground (set s) (t₁ ⊗ t₂) u f h k = absurd h
-  ground (set s) (POW t) (atom a) f h k = absurd k
-  ground (set s) (POW t) (u₁ ⊗ u₂) f h k = absurd k
-  ground (set s) (POW t) (POW u) f h k = ap POW (ground-set s t u f h k)
+  ground (pair v w) t u f h k =
+      let x = as-product (typesOf v) (typesOf w) t h in
+      let y = as-product (typesOf v) (typesOf w) u k in
+      cc (x .2, y .2, ground v (x .0) (y .0) (f .0) (x .3) (y .3), ground w (x .1) (y .1) (f .1) (x .4) (y .4))
+  ground (set vs) t u f h k =
+      let x = as-power (sharedTypes vs) t h in
+      let y = as-power (sharedTypes vs) u k in
+      cc (x .1, y .1, ground-set vs (x .0) (y .0) f (x .2) (y .2))
 
   ground-set : (s : Values) (t u : Ty) → FullSet s → sharedTypes s ⊑ t → sharedTypes s ⊑ u → t ≡ u
   ground-set none t u f h k = absurd f

@@ -1,5 +1,5 @@
 -- Values of the arena against types in prefix codes.
-use Prim.Native.Nat.{ℕ, suc, _+_, _-_, _/_, _%_, _≤_, _<_}
+use Prim.Native.Nat.{ℕ, _+_, _-_, _/_, _%_, _≤_, _<_}
 use mathlib.Core.Bool.{Bool, true, false, false≢true}
 use mathlib.Core.List.{List, [], _∷_, _++_, append-assoc, append-nil}
 use mathlib.Core.Logic.{_≢_}
@@ -10,13 +10,15 @@ use lib.ListN.{length, getD, replicate, length-append}
 use borrow.Author.Tests.{eq-eqb, ne-eqb, eqb-true}
 use Rattle.rules.specs.Types.{whole, Atom, number, bool, given, Ty, atom, POW, _⊗_, atomCode, weightᵀ, prefix, row}
 use Rattle.rules.specs.Values.{Scalar, num, truth, element, Value, scalar, pair, set, Values, none, _▸_, scalarTag, count, weight}
-use Rattle.rules.specs.Fits.{atomOf, HasType, HaveType}
+use Rattle.rules.specs.Fits.{atomOf, typesOf, sharedTypes}
+use Rattle.laws.proofs.FitsLaws.{has→types}
 use Rattle.rules.proofs.TypeLaws.{weight-positive, prefix-length, prefixes, atomCode-injective}
-use Rattle.arena.specs.Code.{cellSize, scalarLow, Stands, ValuesAt, ScalarFits, AllFit, SomeAt, EndsAt}
+use Rattle.arena.specs.Code.{cellSize, scalarLow, Stands, ValueAt, ValuesAt, ScalarFits, CellsFit, AllFit, SomeAt, EndsAt}
 use Rattle.arena.proofs.Standing.{stands-head, stands-tail, stands-front, stands-back}
-use Rattle.fitting.specs.Types.{TypeAt, SomeType, TypeEnds, typeParts, Decides, atomIs, OfType, AllOfType, PartsOfType, ValuesAndType, PartsAndTypes}
-use Rattle.arena.proofs.ValueParts.{first-cell}
-use Rattle.fitting.proofs.Cells.{set-only, pair-only, first-stands, rest-stand}
+use Rattle.fitting.specs.Types.{TypeAt, SomeType, TypeEnds, typeParts, Decides, atomIs, OfType, AllOfType, ValuesAndType}
+use Rattle.arena.proofs.ValueParts.{first-cell, left-stands, right-stands}
+use Rattle.fitting.proofs.Cells.{tag-set, tag-pair, members-stand, first-stands, rest-stand}
+use Rattle.fitting.proofs.Sharing.{as-power, as-product}
 use Rattle.laws.proofs.CellsLaws.{weight-some}
 
 -- The first code of a type.
@@ -30,8 +32,8 @@ first-code row from (atom a) h = stands-head row from _ _ (h .codes)
 first-code row from (POW t) h = stands-head row from _ _ (h .codes)
 first-code row from (t ⊗ u) h = stands-head row from _ _ (h .codes)
 
-pub type-inside : (row : List ℕ) (from : ℕ) → SomeType row from → from < length row
-type-inside row from x = omega (arith, x .1 .codes .inside, prefix-length (x .0), weight-positive (x .0))
+pub type-inside : {row : List ℕ} {from : ℕ} → SomeType row from → from < length row
+type-inside x = omega (arith, x .1 .codes .inside, prefix-length (x .0), weight-positive (x .0))
 
 -- A type's code is a POW's or a product's only where the type is.
 atom-code : (a : Atom) → (atomCode a ≢ 3) × (atomCode a ≢ 4)
@@ -49,97 +51,60 @@ pub is-product : (row : List ℕ) (from : ℕ) (t : Ty) → TypeAt row from t �
 is-product row from (atom a) h e = absurd (atom-code a .1 (sym (first-code row from (atom a) h) ∙ e))
 is-product row from (POW u) h e = absurd (omega (arith, first-code row from (POW u) h))
 is-product row from (u ⊗ w) h e =
-    let k = stands-tail row from 4 (prefix u ++ prefix w) (h .codes) in (
-      u,
-      w,
-      refl,
-      record { codes = stands-front row (from + 1) (prefix u) (prefix w) k },
-      record { codes = rw (← prefix-length u) (stands-back row (from + 1) (prefix u) (prefix w) k) },
-    )
-
--- The weight of types one after the other.
-unfoldable pub widths : List Ty → ℕ
-widths [] = 0
-widths (t ∷ ts) = weightᵀ t + widths ts
-
--- `left` types stand from i to e.
-pub record PendingTypes (row : List ℕ) (i left e : ℕ) : Type 0 where
-  pub types : List Ty
-  pub counted : length types ≡ left
-  pub codes : Stands row i (prefixes types)
-  pub ends : i + widths types ≡ e
-
-pub types-start : (row : List ℕ) (from : ℕ) (t : Ty) → TypeAt row from t → PendingTypes row from 1 (from + weightᵀ t)
-unfolding prefixes widths
-types-start row from t h = record {
-  types = t ∷ [];
-  counted = refl;
-  codes = subst (λ (l : List ℕ). Stands row from l) (sym (append-nil (prefix t))) (h .codes);
-  ends = omega arith;
-}
-
-pub parts-pow : (c : ℕ) → c ≡ 3 → typeParts c ≡ 1
-parts-pow c e = rw (eq-eqb c 3 e)
-
-pub parts-product : (c : ℕ) → c ≢ 3 → c ≡ 4 → typeParts c ≡ 2
-parts-product c n e = rw (ne-eqb c 3 n, eq-eqb c 4 e)
-
-pub parts-atom : (c : ℕ) → c ≢ 3 → c ≢ 4 → typeParts c ≡ 0
-parts-atom c n m = rw (ne-eqb c 3 n, ne-eqb c 4 m)
-
-module _ (row : List ℕ) (i e : ℕ) where
-  step-on : (t : Ty) (ts : List Ty) (left : ℕ) → suc (length ts) ≡ left → Stands row i (prefix t ++ prefixes ts) → i + (weightᵀ t + widths ts) ≡ e →
-      PendingTypes row (i + 1) (left - 1 + typeParts (getD row i 0)) e
-  unfolding prefixes widths
-  step-on (atom a) ts left c h en =
-      let q = ap typeParts (stands-head row i (atomCode a) (prefixes ts) h) ∙ parts-atom (atomCode a) (atom-code a .0) (atom-code a .1) in
-      record { types = ts; counted = rw q (omega arith); codes = stands-tail row i (atomCode a) (prefixes ts) h; ends = omega arith }
-  step-on (POW u) ts left c h en =
-      let q = ap typeParts (stands-head row i 3 (prefix u ++ prefixes ts) h) in
-      record { types = u ∷ ts; counted = rw q (omega arith); codes = stands-tail row i 3 (prefix u ++ prefixes ts) h; ends = omega arith }
-  step-on (u ⊗ w) ts left c h en =
-      let q = ap typeParts (stands-head row i 4 ((prefix u ++ prefix w) ++ prefixes ts) h) in
-      let k = stands-tail row i 4 ((prefix u ++ prefix w) ++ prefixes ts) h in
-      record { types = u ∷ w ∷ ts; counted = rw q (omega arith); codes = rw append-assoc at k; ends = omega arith }
-
-  pub types-step : (left : ℕ) → PendingTypes row i left e → 0 < left → PendingTypes row (i + 1) (left - 1 + typeParts (getD row i 0)) e
-  unfolding prefixes widths
-  types-step left p l = go (p .types) (p .counted) (p .codes) (p .ends)
-    where
-      go : (ts : List Ty) → length ts ≡ left → Stands row i (prefixes ts) → i + widths ts ≡ e → PendingTypes row (i + 1) (left - 1 + typeParts (getD row i 0)) e
-      go [] c h en = absurd (omega arith)
-      go (t ∷ ts) c h en = step-on t ts left c h en
-
-  pub types-inside : (left : ℕ) → PendingTypes row i left e → 0 < left → i < length row
-  unfolding prefixes widths
-  types-inside left p l = go (p .types) (p .counted) (p .codes)
-    where
-      go : (ts : List Ty) → length ts ≡ left → Stands row i (prefixes ts) → i < length row
-      go [] c h = absurd (omega arith)
-      go (t ∷ ts) c h = omega (arith, h .inside, length-append (prefix t) (prefixes ts), prefix-length t, weight-positive t)
-
-  pub types-end : (left : ℕ) → PendingTypes row i left e → left ≡ 0 → i ≡ e
-  unfolding widths
-  types-end left p z = go (p .types) (p .counted) (p .ends)
-    where
-      go : (ts : List Ty) → length ts ≡ left → i + widths ts ≡ e → i ≡ e
-      go [] c en = omega arith
-      go (t ∷ ts) c en = absurd (omega arith)
+    let k = stands-tail row from 4 (prefix u ++ prefix w) (h .codes) in
+    let l = stands-front row (from + 1) (prefix u) (prefix w) k in
+    let r = stands-back row (from + 1) (prefix u) (prefix w) k in
+    (u, w, refl, record { codes = l }, record { codes = rw (← prefix-length u) r })
 
 count-types : (ts : List Ty) → length ts ≤ length (prefixes ts)
 unfolding prefixes
 count-types [] = omega arith
 count-types (t ∷ ts) = omega (arith, count-types ts, length-append (prefix t) (prefixes ts), prefix-length t, weight-positive t)
 
-pub types-few : (row : List ℕ) (i left e : ℕ) → PendingTypes row i left e → left ≤ length row
-types-few row i left e p = omega (arith, count-types (p .types), p .counted, p .codes .inside)
+-- `left` types stand from i to e.
+pub record TypesFrom (row : List ℕ) (i left e : ℕ) (ts : List Ty) : Type 0 where
+  pub counted : length ts ≡ left
+  pub codes : Stands row i (prefixes ts)
+  pub ends : i + length (prefixes ts) ≡ e
 
--- Cells against codes.
-pub atom-element : (x c t l : ℕ) → t ≡ x / cellSize → t ≡ 3 → l ≡ x % cellSize → eqb (l / 256 + 16) c ≡ atomIs x c
-atom-element x c t l e n p = rw (eq-eqb (x / cellSize) 3 (sym e ∙ n), p)
+abbrev pub PendingTypes : List ℕ → ℕ → ℕ → ℕ → Type 0
+PendingTypes row i left e = (ts : List Ty) × TypesFrom row i left e ts
 
-pub atom-other : (x c t : ℕ) → t ≡ x / cellSize → t ≢ 3 → eqb t c ≡ atomIs x c
-atom-other x c t e n = rw (ne-eqb (x / cellSize) 3 (λ f. n (e ∙ f)), e)
+pub types-start : (row : List ℕ) (from : ℕ) (t : Ty) → TypeAt row from t → PendingTypes row from 1 (from + weightᵀ t)
+unfolding prefixes
+types-start row from t h =
+    let e = append-nil (prefix t) in
+    (t ∷ [], record { counted = refl; codes = rw e (h .codes); ends = rw (e, prefix-length t) })
+
+pub parts-atom : (c : ℕ) → c ≢ 3 → c ≢ 4 → typeParts c ≡ 0
+parts-atom c n m = rw (ne-eqb c 3 n, ne-eqb c 4 m)
+
+module _ {row : List ℕ} {i left e : ℕ} where
+  pub types-step : PendingTypes row i left e → 0 < left → PendingTypes row (i + 1) (left - 1 + typeParts (getD row i 0)) e
+  unfolding prefixes
+  types-step ([], p) l = absurd (omega (arith, p .counted))
+  types-step (atom a ∷ ts, p) l =
+      let q = ap typeParts (stands-head row i (atomCode a) (prefixes ts) (p .codes)) ∙ parts-atom (atomCode a) (atom-code a .0) (atom-code a .1) in
+      let k = stands-tail row i (atomCode a) (prefixes ts) (p .codes) in
+      (ts, record { counted = rw q (omega (arith, p .counted)); codes = k; ends = omega (arith, p .ends) })
+  types-step (POW u ∷ ts, p) l =
+      let q = ap typeParts (stands-head row i 3 (prefix u ++ prefixes ts) (p .codes)) in
+      let k = stands-tail row i 3 (prefix u ++ prefixes ts) (p .codes) in
+      (u ∷ ts, record { counted = rw q (omega (arith, p .counted)); codes = k; ends = omega (arith, p .ends) })
+  types-step ((u ⊗ w) ∷ ts, p) l =
+      let q = ap typeParts (stands-head row i 4 ((prefix u ++ prefix w) ++ prefixes ts) (p .codes)) in
+      let k = stands-tail row i 4 ((prefix u ++ prefix w) ++ prefixes ts) (p .codes) in
+      let a = append-assoc (prefix u) (prefix w) (prefixes ts) in
+      (u ∷ w ∷ ts, record { counted = rw q (omega (arith, p .counted)); codes = rw a at k; ends = omega (arith, p .ends, ap length a) })
+
+  pub types-end : PendingTypes row i left e → left ≡ 0 → i ≡ e
+  unfolding prefixes
+  types-end ([], p) z = omega (arith, p .ends)
+  types-end (t ∷ ts, p) z = absurd (omega (arith, p .counted))
+
+  -- each of them takes a byte at least
+  pub types-room : PendingTypes row i left e → i + left ≤ length row
+  types-room p = omega (arith, count-types (p .0), p .1 .counted, p .1 .codes .inside)
 
 -- The code of a type without parts tells the type.
 head-atom : (a : Atom) (t : Ty) → head t ≡ atomCode a → t ≡ atom a
@@ -157,123 +122,135 @@ scalar-decides (num whole i) t c f e l = rw e (code-decides (number whole) t)
 scalar-decides (truth b) t c f e l = rw e (code-decides bool t)
 scalar-decides (element g k) t c f e l = let q : c % cellSize / 256 + 16 ≡ 16 + g = omega (arith, f .0) in rw (e, q) (code-decides (given g) t)
 
-pub is-atom : (s : List ℕ) (at : ℕ) (row : List ℕ) (from : ℕ) (r : Bool) → r ≡ atomIs (getD s at 0) (getD row from 0) →
+pub is-atom : {s : List ℕ} {at : ℕ} {row : List ℕ} {from : ℕ} {r : Bool} → r ≡ atomIs (getD s at 0) (getD row from 0) →
     getD s at 0 / cellSize ≢ 5 → getD s at 0 / cellSize ≢ 4 → OfType s at row from r
-is-atom s at row from r e n5 n4 (scalar x) t h f k =
+is-atom {s} {at} {row} {from} {r} e n5 n4 (scalar x) t h f k =
     let p = first-cell s at (scalar x) h f in
     let q : r ≡ atomIs (getD s at 0) (head t) = e ∙ ap (atomIs (getD s at 0)) (first-code row from t k) in
     subst (λ (b : Bool). Decides b (t ≡ atom (atomOf x))) (sym q) (scalar-decides x t (getD s at 0) f (p .0) (p .1))
-is-atom s at row from r e n5 n4 (pair x y) t h f k = absurd (n4 (first-cell s at (pair x y) h f .0))
-is-atom s at row from r e n5 n4 (set vs) t h f k = absurd (n5 (first-cell s at (set vs) h f .0))
+is-atom {s} {at} e n5 n4 (pair x y) t h f k = absurd (n4 (first-cell s at (pair x y) h f .0))
+is-atom {s} {at} e n5 n4 (set vs) t h f k = absurd (n5 (first-cell s at (set vs) h f .0))
 
 -- Both of two.
-pub both-no : (A B : Type 0) (r : Bool) → Decides r A → r ≡ false → Decides false (A × B)
-both-no A B r d e = record { sound = λ z. absurd (false≢true z); complete = λ x. absurd (false≢true (sym e ∙ d .complete (x .0))) }
+both-no : {A B : Type 0} {r : Bool} → Decides r A → r ≡ false → Decides false (A × B)
+both-no d e = record { sound = λ z. absurd (false≢true z); complete = λ x. absurd (false≢true (sym e ∙ d .complete (x .0))) }
 
-pub both-yes : (A B : Type 0) (q r : Bool) → Decides q A → q ≡ true → Decides r B → Decides r (A × B)
-both-yes A B q r d e f = record { sound = λ z. (d .sound e, f .sound z); complete = λ x. f .complete (x .1) }
-
--- A set has only types POW(t), a pair only products.
-set-head : (vs : Values) (t : Ty) → HasType (set vs) t → head t ≡ 3
-set-head vs (atom a) h = absurd h
-set-head vs (POW t) h = refl
-set-head vs (t ⊗ u) h = absurd h
-
-pair-head : (v w : Value) (t : Ty) → HasType (pair v w) t → head t ≡ 4
-pair-head v w (atom a) h = absurd h
-pair-head v w (POW t) h = absurd h
-pair-head v w (t ⊗ u) h = refl
+both-yes : {A B : Type 0} {q r : Bool} → Decides q A → q ≡ true → Decides r B → Decides r (A × B)
+both-yes d e f = record { sound = λ z. (d .sound e, f .sound z); complete = λ x. f .complete (x .1) }
 
 -- An answer that is false, by what it decides.
-pub refuses : (A : Type 0) → (A → ⊥) → Decides false A
-refuses A n = record { sound = λ e. absurd (false≢true e); complete = λ a. absurd (n a) }
+pub refuses : {A : Type 0} → (A → ⊥) → Decides false A
+refuses n = record { sound = λ e. absurd (false≢true e); complete = λ a. absurd (n a) }
 
-module _ (s : List ℕ) (at : ℕ) (row : List ℕ) (from : ℕ) where
+-- A pair against a product: the right part and its type stand where the left ones end.
+pub record PairAndProduct (s : List ℕ) (at : ℕ) (row : List ℕ) (from : ℕ) : Type 0 where
+  pub isPair : getD s at 0 / cellSize ≡ 4
+  pub isProduct : getD row from 0 ≡ 4
+  pub left : SomeAt s (at + 1)
+  pub right : (c : ℕ) → EndsAt s (at + 1) c → SomeAt s c
+  pub type : SomeType row (from + 1)
+  pub next : (e : ℕ) → TypeEnds row (from + 1) e → SomeType row e
+
+-- A value by the tag of its cell, with its members or its parts.
+module _ {s : List ℕ} {at : ℕ} (v : Value) (h : ValueAt s at v) (f : CellsFit v) where
+  set-only : getD s at 0 / cellSize ≡ 5 → (vs : Values) × (v ≡ set vs) × ValuesAt s (at + 1) vs × AllFit vs × (count vs ≡ getD s at 0 % cellSize)
+  set-only t =
+      let (vs, e) = tag-set v (sym (first-cell s at v h f .0) ∙ t) in
+      let i = rw e at h in
+      let g = rw e at f in
+      (vs, e, members-stand s at vs i, g .1, sym (first-cell s at (set vs) i g .1))
+
+  pair-only : getD s at 0 / cellSize ≡ 4 →
+      (x : Value) × (y : Value) × (v ≡ pair x y) × ValueAt s (at + 1) x × ValueAt s (at + 1 + weight x) y × CellsFit x × CellsFit y
+  pair-only t =
+      let (x, y, e) = tag-pair v (sym (first-cell s at v h f .0) ∙ t) in
+      let i = rw e at h in
+      let g = rw e at f in
+      (x, y, e, left-stands s at x y i, right-stands s at x y i, g .0, g .1)
+
+module _ {s : List ℕ} {at : ℕ} {row : List ℕ} {from : ℕ} where
   pub set-no : getD s at 0 / cellSize ≡ 5 → getD row from 0 ≢ 3 → OfType s at row from false
   set-no tag n v t h f k =
-      let x = set-only s at v h f tag in
-      refuses (HasType v t) (λ y. n (first-code row from t k ∙ set-head (x .0) t (rw (x .1) at y)))
+      let (vs, e, _, _, _) = set-only v h f tag in
+      refuses (λ y. n (first-code row from t k ∙ ap head (as-power (sharedTypes vs) t (has→types (set vs) t (rw e at y)) .1)))
 
   pub pair-no : getD s at 0 / cellSize ≡ 4 → getD row from 0 ≢ 4 → OfType s at row from false
   pair-no tag n v t h f k =
-      let x = pair-only s at v h f tag in
-      refuses (HasType v t) (λ y. n (first-code row from t k ∙ pair-head (x .0) (x .1) t (rw (x .2) at y)))
+      let (x, y, e, _, _, _, _) = pair-only v h f tag in
+      refuses (λ z. n (first-code row from t k ∙ ap head (as-product (typesOf x) (typesOf y) t (has→types (pair x y) t (rw e at z)) .2)))
 
-  pub set-type : (n : ℕ) (r : Bool) → getD s at 0 / cellSize ≡ 5 → getD row from 0 ≡ 3 → n ≡ getD s at 0 % cellSize →
+  pub set-type : {n : ℕ} {r : Bool} → getD s at 0 / cellSize ≡ 5 → getD row from 0 ≡ 3 → n ≡ getD s at 0 % cellSize →
       AllOfType s (at + 1) n row (from + 1) r → OfType s at row from r
-  set-type n r tag c m g v t h f k =
-      let x = set-only s at v h f tag in
-      let y = is-pow row from t k c in
-      rw (x .1, y .1) (g (x .0) (y .0) (x .2) (x .3) (x .4 ∙ sym m) (y .2))
+  set-type tag c m g v t h f k =
+      let (vs, e, i, a, q) = set-only v h f tag in
+      let (u, d, j) = is-pow row from t k c in
+      rw (e, d) (g vs u i a (q ∙ sym m) j)
 
-  pub pair-type : (r : Bool) → getD s at 0 / cellSize ≡ 4 → getD row from 0 ≡ 4 → PartsOfType s (at + 1) row (from + 1) r → OfType s at row from r
-  pair-type r tag c g v t h f k =
-      let x = pair-only s at v h f tag in
-      let y = is-product row from t k c in
-      rw (x .2, y .2) (g (x .0) (x .1) (y .0) (y .1) (x .3) (x .4) (x .5) (x .6) (y .3) (y .4))
+  -- the parts of a pair against those of a product: the left part has another type, or has its own and the right part decides
+  pub pair-left : {q : Bool} → PairAndProduct s at row from → OfType s (at + 1) row (from + 1) q → q ≡ false → OfType s at row from false
+  pair-left o g n v t h f k =
+      let (x, y, e, i, j, a, b) = pair-only v h f (o .isPair) in
+      let (u, w, d, p, q) = is-product row from t k (o .isProduct) in
+      rw (e, d) (both-no (g x u i a p) n)
+
+  pub pair-right : {end next : ℕ} {q r : Bool} → PairAndProduct s at row from → OfType s (at + 1) row (from + 1) q → q ≡ true →
+      EndsAt s (at + 1) end → TypeEnds row (from + 1) next → OfType s end row next r → OfType s at row from r
+  pair-right o g n l m z v t h f k =
+      let (x, y, e, i, j, a, b) = pair-only v h f (o .isPair) in
+      let (u, w, d, p, q) = is-product row from t k (o .isProduct) in
+      rw (e, d) (both-yes (g x u i a p) n (z y w (rw (l x i a) j) b (rw (m u p) q)))
 
   -- what the tests of the members and of the parts ask
-  pub set-asks : (n : ℕ) → SomeAt s at → SomeType row from → getD s at 0 / cellSize ≡ 5 → getD row from 0 ≡ 3 → n ≡ getD s at 0 % cellSize →
+  pub set-asks : {n : ℕ} → SomeAt s at → SomeType row from → getD s at 0 / cellSize ≡ 5 → getD row from 0 ≡ 3 → n ≡ getD s at 0 % cellSize →
       ValuesAndType s (at + 1) n row (from + 1)
-  set-asks n v t tag c m =
-      let x = set-only s at (v .value) (v .stands) (v .fits) tag in
-      let y = is-pow row from (t .0) (t .1) c in
-      record { values = x .0; stands = x .2; fits = x .3; counted = x .4 ∙ sym m; type = (y .0, y .2) }
+  set-asks v t tag c m =
+      let (vs, _, i, a, q) = set-only (v .value) (v .stands) (v .fits) tag in
+      let (u, _, j) = is-pow row from (t .0) (t .1) c in
+      record { values = vs; stands = i; fits = a; counted = q ∙ sym m; type = (u, j) }
 
-  pub pair-asks : SomeAt s at → SomeType row from → getD s at 0 / cellSize ≡ 4 → getD row from 0 ≡ 4 → PartsAndTypes s (at + 1) row (from + 1)
+  pub pair-asks : SomeAt s at → SomeType row from → getD s at 0 / cellSize ≡ 4 → getD row from 0 ≡ 4 → PairAndProduct s at row from
   pair-asks v t tag c =
-      let x = pair-only s at (v .value) (v .stands) (v .fits) tag in
-      let y = is-product row from (t .0) (t .1) c in
+      let (x, y, _, i, j, a, b) = pair-only (v .value) (v .stands) (v .fits) tag in
+      let (u, w, _, p, q) = is-product row from (t .0) (t .1) c in
       record {
-        left = record { value = x .0; stands = x .3; fits = x .5 };
-        right = λ d e. let q : d ≡ at + 1 + weight (x .0) = e (x .0) (x .3) (x .5) in record { value = x .1; stands = rw q (x .4); fits = x .6 };
-        type = (y .0, y .3);
-        next = λ d e. let q : d ≡ from + 1 + weightᵀ (y .0) = e (y .0) (y .3) in (y .1, rw q (y .4));
+        isPair = tag;
+        isProduct = c;
+        left = record { value = x; stands = i; fits = a };
+        right = λ d e. record { value = y; stands = rw (e x i a) j; fits = b };
+        type = (u, p);
+        next = λ d e. (w, rw (e u p) q);
       }
 
-  -- the two parts of a pair
-  pub parts-no : (q : Bool) → OfType s at row from q → q ≡ false → PartsOfType s at row from false
-  parts-no q g e v w t u h k f i a b = both-no (HasType v t) (HasType w u) q (g v t h f a) e
-
-  pub parts-yes : (c e : ℕ) (q r : Bool) → EndsAt s at c → TypeEnds row from e → OfType s at row from q → q ≡ true → OfType s c row e r →
-      PartsOfType s at row from r
-  parts-yes c e q r p n g y z v w t u h k f i a b =
-      let d : c ≡ at + weight v = p v h f in
-      let m : e ≡ from + weightᵀ t = n t a in
-      both-yes (HasType v t) (HasType w u) q r (g v t h f a) y (z w u (rw d k) i (rw m b))
-
-pub ends-behind : (s : List ℕ) (at end : ℕ) → SomeAt s at → EndsAt s at end → at < end
-ends-behind s at end x e = omega (arith, e (x .value) (x .stands) (x .fits), weight-some (x .value))
+pub ends-behind : {s : List ℕ} {at end : ℕ} → SomeAt s at → EndsAt s at end → at < end
+ends-behind x e = omega (arith, e (x .value) (x .stands) (x .fits), weight-some (x .value))
 
 -- The members of a set, one after the other.
-module _ (s : List ℕ) (i left : ℕ) (row : List ℕ) (from : ℕ) where
+module _ {s : List ℕ} {i left : ℕ} {row : List ℕ} {from : ℕ} where
   pub all-of-end : left ≡ 0 → AllOfType s i left row from true
   all-of-end z none t h f c k = record { sound = λ e. tt; complete = λ u. refl }
   all-of-end z (x ▸ ys) t h f c k = absurd (omega arith)
 
-  pub all-of-no : (q : Bool) → 0 < left → OfType s i row from q → q ≡ false → AllOfType s i left row from false
-  all-of-no q l g e none t h f c k = absurd (omega arith)
-  all-of-no q l g e (x ▸ ys) t h f c k = both-no (HasType x t) (HaveType ys t) q (g x t (first-stands s i x ys h) (f .0) k) e
+  pub all-of-no : {q : Bool} → 0 < left → OfType s i row from q → q ≡ false → AllOfType s i left row from false
+  all-of-no l g e none t h f c k = absurd (omega arith)
+  all-of-no l g e (x ▸ ys) t h f c k = both-no (g x t (first-stands s i x ys h) (f .0) k) e
 
-  pub all-of-step : (j : ℕ) (q r : Bool) → 0 < left → OfType s i row from q → q ≡ true → EndsAt s i j → AllOfType s j (left - 1) row from r →
+  pub all-of-step : {j : ℕ} {q r : Bool} → 0 < left → OfType s i row from q → q ≡ true → EndsAt s i j → AllOfType s j (left - 1) row from r →
       AllOfType s i left row from r
-  all-of-step j q r l g y e z none t h f c k = absurd (omega arith)
-  all-of-step j q r l g y e z (x ▸ ys) t h f c k =
+  all-of-step l g y e z none t h f c k = absurd (omega arith)
+  all-of-step l g y e z (x ▸ ys) t h f c k =
       let a = first-stands s i x ys h in
-      let d : j ≡ i + weight x = e x a (f .0) in
-      both-yes (HasType x t) (HaveType ys t) q r (g x t a (f .0) k) y (z ys t (rw d (rest-stand s i x ys h)) (f .1) (omega arith) k)
+      both-yes (g x t a (f .0) k) y (z ys t (rw (e x a (f .0)) (rest-stand s i x ys h)) (f .1) (omega arith) k)
 
-  -- the first value, and those behind it
   pub values-next : ValuesAndType s i left row from → 0 < left → SomeAt s i × ((j : ℕ) → EndsAt s i j → ValuesAndType s j (left - 1) row from)
   values-next p l = go (p .values) (p .stands) (p .fits) (p .counted)
     where
       go : (vs : Values) → ValuesAt s i vs → AllFit vs → count vs ≡ left → SomeAt s i × ((j : ℕ) → EndsAt s i j → ValuesAndType s j (left - 1) row from)
       go none h f c = absurd (omega arith)
-      go (x ▸ ys) h f c = (
-        record { value = x; stands = first-stands s i x ys h; fits = f .0 },
-        λ j e. let d : j ≡ i + weight x = e x (first-stands s i x ys h) (f .0) in
-            record { values = ys; stands = rw d (rest-stand s i x ys h); fits = f .1; counted = omega arith; type = p .type },
-      )
+      go (x ▸ ys) h f c =
+          let a = first-stands s i x ys h in (
+            record { value = x; stands = a; fits = f .0 },
+            λ j e. record { values = ys; stands = rw (e x a (f .0)) (rest-stand s i x ys h); fits = f .1; counted = omega arith; type = p .type },
+          )
 
 -- The row of a type begins with its codes.
 pub row-type : (sheet : List ℕ) (from : ℕ) (t : Ty) → Stands sheet from (row t) → TypeAt sheet from t

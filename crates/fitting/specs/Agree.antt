@@ -1,15 +1,15 @@
 -- Values of the arena that share a type. Every value that is formed or read has a type, so the contracts speak of values
 -- that have one.
 use Prim.Native.Nat.{ℕ, _+_, _/_, _≤_, _<_}
-use mathlib.Core.Bool.{Bool, _&&_, cond}
+use mathlib.Core.Bool.{Bool, cond}
 use mathlib.Core.List.{List}
 use mathlib.Core.Logic.{_≢_, _⊎_}
 use mathlib.Core.Path.{_≡_}
 use lib.Dec.{T, eqb}
 use lib.ListN.{getD}
-use Rattle.rules.specs.Values.{Value, scalar, pair, set, Values, none, _▸_, count, weight}
+use Rattle.rules.specs.Values.{Value, scalar, pair, set, Values, none, _▸_, count}
 use Rattle.rules.specs.Fits.{TypeSet, _⊓_, typesOf, sharedTypes, inhabited, typed}
-use Rattle.arena.specs.Code.{ValueAt, ValuesAt, CellsFit, AllFit, EndsAt}
+use Rattle.arena.specs.Code.{ValueAt, ValuesAt, CellsFit, AllFit}
 
 -- Two sets of types have one in common.
 unfoldable pub meets : TypeSet → TypeSet → Bool
@@ -49,7 +49,7 @@ AgreedWith s a b m r = (v : Value) (ws : Values) → TypedAt s a v → RunAt s b
 
 -- r says whether the n values from a on share a type with the m values from b on.
 abbrev pub AgreedAll : List ℕ → ℕ → ℕ → ℕ → ℕ → Bool → Type 0
-AgreedAll s a n b m r = (vs ws : Values) → RunAt s a n vs → RunAt s b m ws → r ≡ meets (sharedTypes vs) (sharedTypes ws)
+AgreedAll s a n b m r = (ws : Values) → RunAt s b m ws → (vs : Values) → RunAt s a n vs → r ≡ meets (sharedTypes vs) (sharedTypes ws)
 
 abbrev pub emptyCell : ℕ
 emptyCell = 21474836480
@@ -109,16 +109,3 @@ pub record OneAndRun (s : List ℕ) (a b m : ℕ) : Type 0 where
 pub record Runs (s : List ℕ) (a n b m : ℕ) : Type 0 where
   pub first : SomeRun s a n
   pub second : SomeRun s b m
-
--- The parts of two pairs: the right part of each begins where the left one ends.
-pub record Parts (s : List ℕ) (a b : ℕ) : Type 0 where
-  pub left : SomeTyped s a
-  pub right : (c : ℕ) → EndsAt s a c → SomeTyped s c
-  pub otherLeft : SomeTyped s b
-  pub otherRight : (d : ℕ) → EndsAt s b d → SomeTyped s d
-
--- r says whether the parts from a on share types with the parts from b on.
-abbrev pub AgreedParts : List ℕ → ℕ → ℕ → Bool → Type 0
-AgreedParts s a b r =
-    (v₁ v₂ w₁ w₂ : Value) → TypedAt s a v₁ → TypedAt s (a + weight v₁) v₂ → TypedAt s b w₁ → TypedAt s (b + weight w₁) w₂ →
-    r ≡ (agree v₁ w₁ && agree v₂ w₂)

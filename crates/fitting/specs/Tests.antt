@@ -3,10 +3,10 @@ use Prim.Native.Nat.{ℕ}
 use mathlib.Core.Bool.{Bool}
 use mathlib.Core.List.{List, [], _∷_}
 use mathlib.Core.Path.{_≡_}
-use lib.Dec.{T}
 use Rattle.rules.specs.Values.{Value, Values}
 use Rattle.rules.specs.Rules.{Pattern}
-use Rattle.rules.specs.Fits.{TypeSet, every, _×ˢ_, typesOf, sharedTypes, fits}
+use Rattle.rules.specs.Fits.{every, _×ˢ_, typesOf, sharedTypes, fits}
+use Rattle.arena.specs.Code.{AllPairs}
 use Rattle.fitting.specs.Agree.{meets, TypedAt, RunAt, SomeTyped}
 
 -- r is the test of refusal 15 on the value at a.
@@ -22,18 +22,14 @@ pub record Both (s : List ℕ) (a b : ℕ) : Type 0 where
   pub first : SomeTyped s a
   pub second : SomeTyped s b
 
--- The types of all products.
-abbrev pub anyPair : TypeSet
-anyPair = every ×ˢ every
-
 -- n pairs of one type stand from a on, and a typed value at b.
 pub record Pairs (s : List ℕ) (a n b : ℕ) : Type 0 where
   pub values : Values
   pub run : RunAt s a n values
-  pub pairs : T (meets (sharedTypes values) anyPair)
+  pub pairs : AllPairs values
   pub second : SomeTyped s b
 
 -- r says whether the left parts of the n pairs from a on share a type with the value at b.
 abbrev pub AgreedLefts : List ℕ → ℕ → ℕ → ℕ → Bool → Type 0
 AgreedLefts s a n b r =
-    (vs : Values) (w : Value) → RunAt s a n vs → T (meets (sharedTypes vs) anyPair) → TypedAt s b w → r ≡ meets (sharedTypes vs) (typesOf w ×ˢ every)
+    (vs : Values) (w : Value) → RunAt s a n vs → AllPairs vs → TypedAt s b w → r ≡ meets (sharedTypes vs) (typesOf w ×ˢ every)

@@ -5,9 +5,9 @@ use mathlib.Core.List.{List}
 use mathlib.Core.Path.{_≡_}
 use lib.Dec.{eqb}
 use Rattle.rules.specs.Types.{Ty, weightᵀ, prefix}
-use Rattle.rules.specs.Values.{Value, Values, count, weight}
+use Rattle.rules.specs.Values.{Value, Values, count}
 use Rattle.rules.specs.Fits.{HasType, HaveType}
-use Rattle.arena.specs.Code.{Stands, ValueAt, ValuesAt, CellsFit, AllFit, SomeAt, EndsAt}
+use Rattle.arena.specs.Code.{Stands, ValueAt, ValuesAt, CellsFit, AllFit}
 
 -- A type's codes stand in a row from `from` on.
 pub record TypeAt (row : List ℕ) (from : ℕ) (t : Ty) : Type 0 where
@@ -43,12 +43,6 @@ abbrev pub AllOfType : List ℕ → ℕ → ℕ → List ℕ → ℕ → Bool �
 AllOfType s at n row from r =
     (vs : Values) (t : Ty) → ValuesAt s at vs → AllFit vs → count vs ≡ n → TypeAt row from t → Decides r (HaveType vs t)
 
--- r says whether the two values from `at` on have the two types from `from` on.
-abbrev pub PartsOfType : List ℕ → ℕ → List ℕ → ℕ → Bool → Type 0
-PartsOfType s at row from r =
-    (v w : Value) (t u : Ty) → ValueAt s at v → ValueAt s (at + weight v) w → CellsFit v → CellsFit w →
-    TypeAt row from t → TypeAt row (from + weightᵀ t) u → Decides r (HasType v t × HasType w u)
-
 -- n values and a type.
 pub record ValuesAndType (s : List ℕ) (at n : ℕ) (row : List ℕ) (from : ℕ) : Type 0 where
   pub values : Values
@@ -56,10 +50,3 @@ pub record ValuesAndType (s : List ℕ) (at n : ℕ) (row : List ℕ) (from : �
   pub fits : AllFit values
   pub counted : count values ≡ n
   pub type : SomeType row from
-
--- Two values, the second where the first ends, and two types.
-pub record PartsAndTypes (s : List ℕ) (at : ℕ) (row : List ℕ) (from : ℕ) : Type 0 where
-  pub left : SomeAt s at
-  pub right : (c : ℕ) → EndsAt s at c → SomeAt s c
-  pub type : SomeType row from
-  pub next : (e : ℕ) → TypeEnds row from e → SomeType row e

@@ -6,9 +6,9 @@ ghost use lib.ListN.{length};
 ghost use Rattle.rules.specs.Types.{whole};
 ghost use Rattle.rules.specs.Rules.{t̂, û, P̂, _×̂_, numᵖ};
 ghost use Rattle.arena.specs.Code.{SomeAt};
-ghost use Rattle.fitting.specs.Types.{Decides, typeParts, SomeType, TypeEnds, atomIs, ValuesAndType, PartsAndTypes, OfType, AllOfType, PartsOfType};
+ghost use Rattle.fitting.specs.Types.{Decides, typeParts, SomeType, TypeEnds, atomIs, ValuesAndType, OfType, AllOfType};
 ghost use Rattle.fitting.specs.Tests.{FitOne, FitTwo, Both, Pairs, AgreedLefts};
-ghost use Rattle.fitting.specs.Agree.{NoEmpty, SomeTyped, SetHere, Few, Members, atomsAlike, PairOrSet, Parts, AgreedParts, OneAndRun, Runs, Agreed, AgreedWith, AgreedAll};
+ghost use Rattle.fitting.specs.Agree.{NoEmpty, SomeTyped, SetHere, Few, Members, atomsAlike, PairOrSet, OneAndRun, Runs, Agreed, AgreedWith, AgreedAll};
 
 // Whether no cell from `at` to `end` is that of an empty set.
 pub fn full(s: &[u64], at: usize, end: usize) -> bool
@@ -85,28 +85,22 @@ fn meet(s: &[u64], a: usize, b: usize) -> bool
     if t != arena::tag(s[b]) {
         return false;
     }
+    let c = a + 1;
+    let d = b + 1;
     if t == 5 {
         let n = members(s, a);
         let m = members(s, b);
         if n == 1 {
-            return against(s, a + 1, b + 1, m);
+            return against(s, c, d, m);
         }
-        return each(s, a + 1, n, b + 1, m);
+        return each(s, c, n, d, m);
     }
-    parts(s, a + 1, b + 1)
-}
-
-// Whether the parts of a pair, the left one at a, share types with the parts of another, the left one at b.
-fn parts(s: &[u64], a: usize, b: usize) -> bool
-    requires { ⌜ Parts (now s) a b ⌝ }
-    ensures { λ r. ⌜ AgreedParts (now (s .entry)) a b r ⌝ }
-{
-    if !agree(s, a, b) {
+    if !agree(s, c, d) {
         return false;
     }
-    let c = arena::end_of(s, a);
-    let d = arena::end_of(s, b);
-    agree(s, c, d)
+    let e = arena::end_of(s, c);
+    let f = arena::end_of(s, d);
+    agree(s, e, f)
 }
 
 // Whether the value at a shares a type with the m values from b on.
@@ -311,22 +305,16 @@ pub fn has_type(s: &[u64], at: usize, row: &[u8], from: usize) -> bool
         if c != 4 {
             return false;
         }
-        return parts_of_type(s, at + 1, row, from + 1);
+        let left = at + 1;
+        let code = from + 1;
+        if !has_type(s, left, row, code) {
+            return false;
+        }
+        let right = arena::end_of(s, left);
+        let next = type_end(row, code);
+        return has_type(s, right, row, next);
     }
     atom_is(x, c)
-}
-
-// Whether the two values from `at` on have the two types from `from` on.
-fn parts_of_type(s: &[u64], at: usize, row: &[u8], from: usize) -> bool
-    requires { ⌜ PartsAndTypes (now s) at (now row) from ⌝ }
-    ensures { λ r. ⌜ PartsOfType (now (s .entry)) at (now (row .entry)) from r ⌝ }
-{
-    if !has_type(s, at, row, from) {
-        return false;
-    }
-    let c = arena::end_of(s, at);
-    let next = type_end(row, from);
-    has_type(s, c, row, next)
 }
 
 // Whether the n values from `at` on have the type at `from`.

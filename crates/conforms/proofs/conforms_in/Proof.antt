@@ -5,16 +5,13 @@ use Rattle.conforms.proofs.conforms_in.Statement.{statement}
 use Rattle.conforms.proofs.conforms_in.Tie as tie
 
 -- The values have been read; what was lent, and what is known with either answer.
-abbrev Read : Type 0
-Read = tie.After-load
-
-abbrev known : Read → tie.After-shared-slice-known3
+abbrev known : tie.After-load → tie.After-shared-slice-known3
 known r = r .before .before .before
 
-abbrev lent : Read → tie.Start
+abbrev lent : tie.After-load → tie.Start
 lent r = known r .before .before .before
 
-abbrev read : tie.After-env → Read
+abbrev read : tie.After-env → tie.After-load
 read e = e .before .before .before
 
 abbrev passed : tie.After-env2 → tie.After-enum-told2
@@ -32,17 +29,6 @@ loaded-conform-requires c κs =
       bound = loads-all _ _ _ _ 0 _ (r .load .ensures .1) (t .enum-told2 .given .1);
     }
 
-returns : tie.Need-returns
-returns c =
-    let r = read (c .before .before) in
-    refused-not (lent r .pre .readable) _ _ _ _ 0 _ (r .load .ensures .1) (c .enum-told .given .1)
-
-returns-2 : tie.Need-returns-2
-returns-2 c =
-    let t = passed (c .before) in
-    let r = read (t .before .before) in
-    c .loaded-conform .ensures _ _ _ (loads-all _ _ _ _ 0 _ (r .load .ensures .1) (t .enum-told2 .given .1))
-
 pub conforms-in-spec : {M : Type 1} → statement M
 conforms-in-spec =
     tie.close
@@ -52,6 +38,8 @@ conforms-in-spec =
     (λ c. search needs)
     loaded-conform-requires
     (λ c. search needs)
-    returns
+    (λ c. let r = read (c .before .before) in refused-not (lent r .pre .readable) _ _ _ _ 0 _ (r .load .ensures .1) (c .enum-told .given .1))
     (λ c. search needs)
-    returns-2)
+    (λ c. let t = passed (c .before) in
+    let r = read (t .before .before) in
+    c .loaded-conform .ensures _ _ _ (loads-all _ _ _ _ 0 _ (r .load .ensures .1) (t .enum-told2 .given .1))))

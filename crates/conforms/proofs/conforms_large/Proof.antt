@@ -4,11 +4,11 @@ use borrow.Author.Needs.{needs}
 use Rattle.conforms.proofs.conforms_large.Statement.{statement}
 use Rattle.conforms.proofs.conforms_large.Tie as tie
 
-conforms-in-requires : tie.Need-conforms-in-requires
-conforms-in-requires c κs =
-    let k = c .before .before in
-    let r = k .before .before .pre in
-    record { readable = r; room = omega (arith, r .header .identifiers); small = omega arith }
-
 pub conforms-large-spec : {M : Type 1} → statement M
-conforms-large-spec = tie.close (tie.spec (λ c. search needs) conforms-in-requires (λ c. search needs))
+conforms-large-spec =
+    tie.close
+    (tie.spec
+    (λ c. search needs)
+    (λ c κs. let k = c .before .before in
+    let r = k .before .before .pre in record { readable = r; room = omega (arith, r .header .identifiers); small = omega arith })
+    (λ c. search needs))

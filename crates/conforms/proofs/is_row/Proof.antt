@@ -1,37 +1,31 @@
 -- `is_row`: the row is that of a type exactly where the bytes from i on are read as `left` types (`Begun`).
 use Prim.Native.Nat.{_-_}
-use mathlib.Core.Path.{sym}
+use mathlib.Core.Path.{sym, _∙_}
 use native.Mathlib.Omega.{arith}
 use borrow.Author.Needs.{needs}
 use borrow.Author.Tests.{not-true, not-false, eqb-true, eq-eqb}
 use Rattle.fitting.proofs.Types.{refuses}
-use Rattle.conforms.proofs.RowLaws.{decided-no, Begun, begun-start, begun-goes, begun-step, begun-end}
+use Rattle.conforms.proofs.RowLaws.{Begun, begun-start, begun-stops, begun-step, begun-end}
 use Rattle.conforms.proofs.is_row.Statement.{statement}
 use Rattle.conforms.proofs.is_row.Tie as tie
 
-abbrev Inv-loop : tie.InvT-loop
-Inv-loop sheet p i₀ end left₀ i left = Begun sheet p end i left
+abbrev Inv : tie.InvT-loop
+Inv sheet p i₀ end left₀ i left = Begun sheet p end i left
 
-abbrev μ-loop : tie.MeasureT-loop
-μ-loop sheet p i₀ end left₀ i left = end - i
+abbrev μ : tie.MeasureT-loop
+μ sheet p i₀ end left₀ i left = end - i
 
--- A turn of the loop; a byte has been read, and it may stand there or not.
-abbrev turn : tie.After-goes-on Inv-loop μ-loop → tie.In-loop Inv-loop μ-loop
+-- A turn of the loop: a byte has been read.
+abbrev turn : tie.After-goes-on Inv μ → tie.In-loop Inv μ
 turn g = g .before .before
 
-returns : tie.Need-returns Inv-loop μ-loop
-returns c =
-    let g = c .before in
-    let l = turn g in
-    refuses _ (λ x. decided-no (g .goes-on .ensures) (not-true _ (c .if1 .taken)) (begun-goes (l .before .loop .inv) (l .loop-test .taken) x))
-
-loop-again : tie.Need-loop-again Inv-loop μ-loop
+loop-again : tie.Need-loop-again Inv μ
 loop-again c =
     let g = c .before .before in
     let l = turn g in
-    begun-step (l .before .loop .inv) (l .loop-test .taken) (g .goes-on .ensures .sound (not-false _ (c .before .if1 .left))) (c .left-behind .ensures)
+    begun-step (l .before .loop .inv) (l .loop-test .taken) (sym (g .goes-on .ensures) ∙ not-false _ (c .before .if1 .left)) (c .left-behind .ensures)
 
-returns-2 : tie.Need-returns-2 Inv-loop μ-loop
+returns-2 : tie.Need-returns-2 Inv μ
 returns-2 c =
     let e = begun-end (c .before .loop .inv) (omega (arith, c .loop-test .left)) in
     record { sound = λ h. e .1 (sym (eqb-true _ 0 h)); complete = λ x. eq-eqb _ 0 (sym (e .0 x)) }
@@ -39,16 +33,15 @@ returns-2 c =
 pub is-row-spec : {M : Type 1} → statement M
 is-row-spec =
     tie.close
-    (tie.spec
-    Inv-loop
-    μ-loop
+    (tie.spec Inv μ
     (λ c. omega arith)
     (λ c. omega arith)
     (λ c. begun-start (c .before .pre))
     (λ c. omega arith)
     (λ c κs. search needs)
-    returns
-    (λ c κs. omega (arith, turn (c .before) .before .loop .inv .few, turn (c .before) .loop-test .taken))
+    (λ c. let l = turn (c .before) in
+    refuses (begun-stops (l .before .loop .inv) (l .loop-test .taken) (sym (c .before .goes-on .ensures) ∙ not-true _ (c .if1 .taken))))
+    (λ c κs. let l = turn (c .before) in omega (arith, l .before .loop .inv .few, l .loop-test .taken))
     (λ c. omega arith)
     (λ c. omega arith)
     loop-again

@@ -25,12 +25,12 @@ applies-spec =
     tie.close
     (tie.spec
     (λ c κs. search needs)
-    (λ c. applies-not _ _ _ (rw (not-true (c .before .is-relation .result) (c .if1 .taken)) at (c .before .is-relation .ensures)))
+    (λ c. applies-not (rw (not-true (c .before .is-relation .result) (c .if1 .taken)) at (c .before .is-relation .ensures)))
     (λ c. search needs)
-    (λ c. inside _ _ (lent (c .before) .pre .first))
+    (λ c. inside (lent (c .before) .pre .first))
     (λ c κs. search needs)
     (λ c. search needs)
     (λ c. search needs)
-    (λ c κs. λ l. relation-left _ _ (fits (relation c)) _ (c .low .ensures .0) (lent (relation c) .pre .first) l)
-    (λ c κs. let n = c .before in relation-few _ _ (fits (relation n)) _ _ _ (n .low .ensures .0) (lent (relation n) .pre) (c .few .ensures))
-    (λ c. let n = c .before .before in applies-fit _ _ (fits (relation n)) _ _ _ _ (n .low .ensures .0) (c .before .few .ensures) (c .lefts .ensures)))
+    (λ c κs. λ l. relation-left (fits (relation c)) (c .low .ensures .0) (lent (relation c) .pre .first) l)
+    (λ c κs. let n = c .before in relation-few (fits (relation n)) (n .low .ensures .0) (lent (relation n) .pre) (c .few .ensures))
+    (λ c. let n = c .before .before in applies-fit (fits (relation n)) (n .low .ensures .0) _ _ _ (c .before .few .ensures) (c .lefts .ensures)))

@@ -1,6 +1,6 @@
 -- `atom_is`: by the tag of the cell.
 use borrow.Author.Needs.{needs}
-use Rattle.fitting.proofs.Types.{atom-element, atom-other}
+use borrow.Author.Tests.{eq-eqb, ne-eqb}
 use Rattle.fitting.proofs.atom_is.Statement.{statement}
 use Rattle.fitting.proofs.atom_is.Tie as tie
 
@@ -11,5 +11,5 @@ atom-is-spec =
     (λ c κs. search needs)
     (λ c κs. search needs)
     (λ c. search needs)
-    (λ c. atom-element _ _ _ _ (c .before .before .tag .ensures) (c .before .if1 .taken) (c .low .ensures .0))
-    (λ c. atom-other _ _ _ (c .before .tag .ensures) (c .if1 .left)))
+    (λ c. rw (← c .before .before .tag .ensures, eq-eqb _ 3 (c .before .if1 .taken), c .low .ensures .0))
+    (λ c. rw (← c .before .tag .ensures, ne-eqb _ 3 (c .if1 .left))))

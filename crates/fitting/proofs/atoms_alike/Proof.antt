@@ -1,8 +1,8 @@
 -- `atoms_alike`: by the tag of the first cell.
 use native.Mathlib.Omega.{arith}
 use borrow.Author.Needs.{needs}
-use borrow.Author.Tests.{eqb-true, eqb-false}
-use Rattle.fitting.proofs.Cells.{alike-elements, alike-others}
+use borrow.Author.Tests.{ne-eqb, eqb-true, eqb-false}
+use Rattle.fitting.proofs.Cells.{alike-elements}
 use Rattle.fitting.proofs.atoms_alike.Statement.{statement}
 use Rattle.fitting.proofs.atoms_alike.Tie as tie
 
@@ -13,4 +13,4 @@ atoms-alike-spec =
     (λ c κs. search needs)
     (λ c. alike-elements _ _ _ _ (c .before .tag .ensures) (c .if1 .taken) (λ e. omega (arith, eqb-true)) (λ e q. omega (arith, eqb-false)))
     (λ c κs. search needs)
-    (λ c. alike-others _ _ _ _ (c .before .before .tag .ensures) (c .before .if1 .left) (c .tag2 .ensures)))
+    (λ c. rw (← c .before .before .tag .ensures, ← c .tag2 .ensures, ne-eqb _ 3 (c .before .if1 .left))))

@@ -4,7 +4,7 @@ use native.Mathlib.Omega.{arith}
 use mathlib.Core.Logic.{inl, inr}
 use mathlib.Core.Path.{refl}
 use Rattle.fitting.specs.Agree.{SomeTyped}
-use Rattle.fitting.proofs.Cells.{some-at, inside, end-bounds, full-typed, scalar-full}
+use Rattle.fitting.proofs.Cells.{some-at, inside, end-is, end-bounds, full-value, scalar-full}
 use Rattle.fitting.proofs.few.Statement.{statement}
 use Rattle.fitting.proofs.few.Tie as tie
 
@@ -26,10 +26,11 @@ few-spec =
     tie.close
     (tie.spec
     (λ c. inl refl)
-    (λ c. omega (arith, inside _ _ (first c)))
-    (λ c. inside _ _ (first (c .before)))
+    (λ c. omega (arith, inside (first c)))
+    (λ c. inside (first (c .before)))
     (λ c. inr (refl, some (c .before .before), scalar-full _ _ (c .if2 .taken)))
     (λ c κs. some-at (first (c .before .before)))
-    (λ c κs. let b = end-bounds _ _ _ (first (walked c)) (c .end-of .ensures) in (omega (arith, b .0), b .1))
-    (λ c. let e = c .before .before in inr (refl, some (walked e), full-typed _ _ _ (e .end-of .ensures) (c .before .full .ensures .sound (c .if3 .taken))))
+    (λ c κs. let b = end-bounds (first (walked c)) (c .end-of .ensures) in (omega (arith, b .0), b .1))
+    (λ c. let e = c .before .before in
+    inr (refl, some (walked e), λ v h. full-value v _ _ (h .stands) (rw (end-is (e .end-of .ensures) h) at (c .before .full .ensures .sound (c .if3 .taken)))))
     (λ c. inl refl))

@@ -14,12 +14,6 @@ Inv-loop s at end i₀ i = (at ≤ i) × (i ≤ end) × NoEmpty s at i
 abbrev μ-loop : tie.MeasureT-loop
 μ-loop s at end i₀ i = end - i
 
-returns : tie.Need-returns Inv-loop μ-loop
-returns c =
-    let i = c .before .before .before .loop in
-    let x = c .before .before .loop-test .taken in
-    record { sound = λ e. absurd (search needs); complete = λ n. absurd (n .none (i .i) (i .inv .0) x (omega (arith, c .if1 .taken))) }
-
 pub full-spec : {M : Type 1} → statement M
 full-spec =
     tie.close
@@ -27,7 +21,9 @@ full-spec =
     (λ c. (omega arith, omega arith, record { none = λ i p q. absurd (omega arith) }))
     (λ c. omega arith)
     (λ c. omega arith)
-    returns
+    (λ c. let i = c .before .before .before .loop in
+    let x = c .before .before .loop-test .taken in
+    record { sound = λ e. absurd (search needs); complete = λ n. absurd (n .none (i .i) (i .inv .0) x (omega (arith, c .if1 .taken))) })
     (λ c. omega arith)
     (λ c. omega arith)
     (λ c. (omega arith, omega arith, no-empty-more _ _ _ (c .before .before .before .loop .inv .2) (c .if1 .left)))

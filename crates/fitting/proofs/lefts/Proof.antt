@@ -10,44 +10,39 @@ use Rattle.fitting.proofs.Tests.{pairs-first, pairs-rest, lefts-end, le
 use Rattle.fitting.proofs.lefts.Statement.{statement}
 use Rattle.fitting.proofs.lefts.Tie as tie
 
-abbrev Inv-loop : tie.InvT-loop
-Inv-loop s a n b i₀ left₀ i left = Pairs s i left b × ((r : Bool) → AgreedLefts s i left b r → AgreedLefts s a n b r)
+abbrev Inv : tie.InvT-loop
+Inv s a n b i₀ left₀ i left = Pairs s i left b × ((r : Bool) → AgreedLefts s i left b r → AgreedLefts s a n b r)
 
-abbrev μ-loop : tie.MeasureT-loop
-μ-loop s a n b i₀ left₀ i left = left
+abbrev μ : tie.MeasureT-loop
+μ s a n b i₀ left₀ i left = left
 
--- A turn of the loop, and the first of the pairs that are left.
-abbrev lent : tie.In-loop Inv-loop μ-loop → tie.Start Inv-loop μ-loop
+-- A turn of the loop: what was lent, and the first of the pairs that are left.
+abbrev lent : tie.In-loop Inv μ → tie.Start Inv μ
 lent l = l .before .before .before
 
-first : (l : tie.In-loop Inv-loop μ-loop) → SomeTyped (lent l .args .s .now) (l .before .loop .i) × SomeTyped (lent l .args .s .now) (l .before .loop .i + 1)
-first l = pairs-first _ _ _ _ (l .before .loop .inv .0) (l .loop-test .taken)
+first : (l : tie.In-loop Inv μ) → SomeTyped (lent l .args .s .now) (l .before .loop .i) × SomeTyped (lent l .args .s .now) (l .before .loop .i + 1)
+first l = pairs-first (l .before .loop .inv .0) (l .loop-test .taken)
 
-returns : tie.Need-returns Inv-loop μ-loop
-returns c =
-    let l = c .before .before in
-    l .before .loop .inv .1 false
-    (lefts-false _ _ _ _ (l .loop-test .taken) (rw (not-true (c .before .agree .result) (c .if1 .taken)) at (c .before .agree .ensures)))
-
-loop-again : tie.Need-loop-again Inv-loop μ-loop
+loop-again : tie.Need-loop-again Inv μ
 loop-again c =
     let m = c .before in
     let l = m .before .before in
     let i = l .before .loop .inv in
     let q = l .loop-test .taken in
-    let g = rw (not-false (m .before .agree .result) (m .if1 .left)) at (m .before .agree .ensures) in
-    (pairs-rest _ _ _ _ _ (i .0) q (c .end-of .ensures), λ r t. i .1 r (lefts-step _ _ _ _ _ r q g (c .end-of .ensures) t))
+    let e = c .end-of .ensures in
+    (pairs-rest (i .0) q e, λ r t. i .1 r (lefts-step q (m .before .agree .ensures) (not-false _ (m .if1 .left)) e t))
 
 pub lefts-spec : {M : Type 1} → statement M
 lefts-spec =
     tie.close
-    (tie.spec Inv-loop μ-loop
+    (tie.spec Inv μ
     (λ c. (c .before .pre, λ r g. g))
-    (λ c. omega (arith, inside _ _ (first c .0)))
+    (λ c. omega (arith, inside (first c .0)))
     (λ c κs. record { first = first c .1; second = c .before .loop .inv .0 .second })
-    returns
+    (λ c. let l = c .before .before in
+    l .before .loop .inv .1 false (lefts-false (l .loop-test .taken) (c .before .agree .ensures) (not-true _ (c .if1 .taken))))
     (λ c κs. some-at (first (c .before .before) .0))
-    (λ c. omega (arith, c .before .before .before .loop-test .taken))
+    (λ c. c .before .before .before .loop-test .taken)
     (λ c. omega (arith, c .before .before .before .loop-test .taken))
     loop-again
-    (λ c. c .before .loop .inv .1 true (lefts-end _ _ _ _ (omega (arith, c .loop-test .left)))))
+    (λ c. c .before .loop .inv .1 true (lefts-end (omega (arith, c .loop-test .left)))))

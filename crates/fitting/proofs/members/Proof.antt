@@ -11,8 +11,8 @@ members-spec =
     tie.close
     (tie.spec
     (λ c. search needs)
-    (λ c. inside _ _ (c .before .before .pre .value))
+    (λ c. inside (c .before .before .pre .value))
     (λ c κs. search needs)
     (λ c. search needs)
-    (λ c κs. λ l. first-member _ _ (c .before .before .before .pre) (omega (arith, c .low .ensures .0)))
+    (λ c κs. λ l. first-member (c .before .before .before .pre) (omega (arith, c .low .ensures .0)))
     (λ c. few-members _ _ _ _ (sym (c .before .low .ensures .0)) (c .few .ensures)))

@@ -1,7 +1,5 @@
 -- `numbers`: by the tags of the two cells.
-use Prim.Native.Nat.{ℕ}
-use mathlib.Core.Path.{ap, _∙_}
-use lib.Dec.{eqb}
+use mathlib.Core.Path.{_∙_}
 use native.Mathlib.Omega.{arith}
 use borrow.Author.Needs.{needs}
 use Rattle.fitting.proofs.Cells.{inside}
@@ -9,20 +7,15 @@ use Rattle.fitting.proofs.Tests.{numbers-not, numbers-fit}
 use Rattle.fitting.proofs.numbers.Statement.{statement}
 use Rattle.fitting.proofs.numbers.Tie as tie
 
-returns-2 : tie.Need-returns-2
-returns-2 c = λ v w h k.
-    let m = c .before .before in
-    ap (λ (t : ℕ). eqb t 1) (c .tag2 .ensures) ∙ numbers-fit _ _ _ (omega (arith, m .if1 .left, m .before .tag .ensures)) v w h k
-
 pub numbers-spec : {M : Type 1} → statement M
 numbers-spec =
     tie.close
     (tie.spec
     (λ c. search needs)
-    (λ c. inside _ _ (c .before .before .pre .first))
+    (λ c. inside (c .before .before .pre .first))
     (λ c κs. search needs)
-    (λ c. numbers-not _ _ _ (λ e. c .if1 .taken (c .before .tag .ensures ∙ e)))
+    (λ c. numbers-not (λ e. c .if1 .taken (c .before .tag .ensures ∙ e)))
     (λ c. search needs)
-    (λ c. let m = c .before .before in inside _ _ (m .before .before .before .pre .second))
+    (λ c. let m = c .before .before in inside (m .before .before .before .pre .second))
     (λ c κs. search needs)
-    returns-2)
+    (λ c. let m = c .before .before in rw (c .tag2 .ensures) (numbers-fit (omega (arith, m .if1 .left, m .before .tag .ensures)))))

@@ -1,6 +1,5 @@
 -- `type_parts`: by the code.
-use mathlib.Core.Path.{sym}
-use Rattle.fitting.proofs.Types.{parts-pow, parts-product, parts-atom}
+use borrow.Author.Tests.{eq-eqb, ne-eqb}
 use Rattle.fitting.proofs.type_parts.Statement.{statement}
 use Rattle.fitting.proofs.type_parts.Tie as tie
 
@@ -8,6 +7,6 @@ pub type-parts-spec : {M : Type 1} → statement M
 type-parts-spec =
     tie.close
     (tie.spec
-    (λ c. sym (parts-pow _ (c .if1 .taken)))
-    (λ c. sym (parts-product _ (c .before .if1 .left) (c .if2 .taken)))
-    (λ c. sym (parts-atom _ (c .before .if1 .left) (c .if2 .left))))
+    (λ c. rw (eq-eqb _ 3 (c .if1 .taken)))
+    (λ c. rw (ne-eqb _ 3 (c .before .if1 .left), eq-eqb _ 4 (c .if2 .taken)))
+    (λ c. rw (ne-eqb _ 3 (c .before .if1 .left), ne-eqb _ 4 (c .if2 .left))))
