@@ -21,6 +21,7 @@ use Rattle.arena.specs.Code.{cellSize, excess, code, codes, partsOf}
 use Rattle.arena.proofs.CodeLaws.{length-codes}
 use Rattle.arena.proofs.Standing.{_before_, codes-before, count-before}
 use Rattle.buffer.specs.Buffer.{cellFirst, firstCell, codeOf, tagGood, cellGood, scalarsGood, allGood}
+use Rattle.buffer.specs.Shared.{AllOf}
 use Rattle.buffer.proofs.CellAt.{first-right}
 use Rattle.buffer.proofs.Goodness.{good-scalars}
 use Rattle.rules.proofs.Basics.{and-of}
@@ -35,13 +36,12 @@ abbrev Held : List ℕ → Value → Type 0
 Held gs v = Encodable v × T (scalarsGood gs v)
 
 abbrev pub AllHeld : List ℕ → Values → Type 0
-AllHeld gs none = Unit {0}
-AllHeld gs (v ▸ vs) = Held gs v × AllHeld gs vs
+AllHeld gs vs = AllOf (Held gs) vs
 
-held-join : (gs : List ℕ) (vs ws : Values) → AllHeld gs (vs before ws) ↔ (AllHeld gs vs × AllHeld gs ws)
-held-join gs none ws = (λ h. (tt, h), λ h. h .1)
-held-join gs (v ▸ vs) ws =
-    let r = held-join gs vs ws in
+pub all-before : (P : Value → Type 0) (vs ws : Values) → AllOf P (vs before ws) ↔ (AllOf P vs × AllOf P ws)
+all-before P none ws = (λ h. (tt, h), λ h. h .1)
+all-before P (v ▸ vs) ws =
+    let r = all-before P vs ws in
     (λ h. let p = r .0 (h .1) in ((h .0, p .0), p .1), λ h. (h .0 .0, r .1 (h .0 .1, h .1)))
 
 held-all : (gs : List ℕ) (vs : Values) → AllHeld gs vs ↔ (Encodables vs × T (allGood gs vs))
@@ -204,7 +204,7 @@ onward-from gs bs cs rest p v vs c b d h hs =
         counted = rw (x, parts-inner v (h .0)) (omega (arith, count-before (inner v) vs));
         bytes = ap (drop 8) f ∙ first-drop v X;
         coded = refl;
-        held = held-join gs (inner v) vs .1 (held-inner gs v h, hs);
+        held = all-before (Held gs) (inner v) vs .1 (held-inner gs v h, hs);
       };
     }
 
@@ -247,7 +247,7 @@ module _ (gs : List ℕ) (q p : ℕ) (w : Word q) where
   unfolding twos
   build-set vs c h =
       let s = split q vs (omega arith) in
-      let k = held-join gs (s .front) (s .back) .0 (subst (AllHeld gs) (s .whole) h) in
+      let k = all-before (Held gs) (s .front) (s .back) .0 (subst (AllHeld gs) (s .whole) h) in
       let e = held-all gs (s .front) .0 (k .0) in
       record {
         first = set (s .front);

@@ -1,269 +1,251 @@
--- Whether the members of every set in a value share a type, set by set from the innermost outward.
+-- Whether values that stand in a row share a type, by the first of them that do; and whether scalars also rise, by their cells.
 use Prim.Native.Nat.{ℕ, _+_, _*_, _-_, _/_, _≤_, _<_}
-use mathlib.Core.Bool.{Bool, true, false, cond}
-use mathlib.Core.List.{List, append-nil}
-use mathlib.Core.Logic.{_↔_}
+use mathlib.Core.Bool.{Bool, true, false, _&&_, cond}
+use mathlib.Core.List.{List}
+use mathlib.Core.Logic.{_↔_, _≢_}
 use mathlib.Core.Path.{_≡_, refl, sym, ap, subst, _∙_}
 use native.Mathlib.Omega.{arith}
 use native.Mathlib.Decide.{ℕ-discrete}
 use borrow.Author.Tests.{eq-eqb, ne-eqb}
 use lib.Dec.{T, eqb}
 use lib.ListN.{length, getD}
-use Rattle.rules.specs.Types.{whole, Ty}
+use Rattle.rules.specs.Types.{Ty}
 use Rattle.rules.specs.Values.{Value, Values, none, _▸_, count, weights}
-use Rattle.rules.specs.Fits.{every, typesOf, sharedTypes, inhabited, typed}
+use Rattle.rules.specs.Fits.{TypeSet, every, _⊓_, typesOf, sharedTypes, inhabited}
+use Rattle.rules.proofs.Basics.{and-split, bool-eq}
 use Rattle.laws.proofs.EndLaws.{T-true, T-false}
-use Rattle.laws.proofs.FitsLaws.{_⊑_, ⊓-join, ⊓-split, inhabited→some, some→inhabited}
-use Rattle.arena.specs.Code.{cellSize, code, codes, Stands, ValueAt, ValuesAt, AllFit, SomeAt, EndsAt}
+use Rattle.laws.proofs.FitsLaws.{_⊑_, ⊓-join, ⊓-split, some→inhabited}
+use Rattle.arena.specs.Code.{cellSize, codes, Stands, SomeAt, EndsAt}
 use Rattle.arena.proofs.CodeLaws.{length-code, length-codes}
-use Rattle.arena.proofs.Standing.{stands-front, stands-back, _before_, codes-before, count-before, weights-before}
-use Rattle.fitting.specs.Agree.{meets, TypedAt, RunAt, SomeTyped, Agreed, AgreedWith, NoEmpty, Full, StandFor, atomsAlike}
-use Rattle.fitting.proofs.Sharing.{meets→share, share→meets, meets-sym, left-typed, with-every, full-first}
-use Rattle.arena.proofs.ValueParts.{one-cell}
-use Rattle.fitting.proofs.Cells.{first-stands, full-value, with-end, with-false, with-step, atoms-agree, alike-low, agreed-back}
-use Rattle.buffer.specs.Ordered.{MembersAt}
-use Rattle.buffer.specs.Shared.{AllTyped, TypedRow, SomeTypedRow, leastAlike, mostAlike}
-use Rattle.laws.proofs.CellsLaws.{count-weights}
+use Rattle.arena.proofs.Standing.{stands-append, _before_, codes-before, count-before, weights-before, fit-before}
+use Rattle.arena.proofs.ValueParts.{one-cell, some-inside}
+use Rattle.fitting.specs.Agree.{meets, agree, TypedAt, RunAt, SomeTyped, AgreedWith, NoEmpty, Full, StandFor, atomsAlike}
+use Rattle.fitting.proofs.Sharing.{meets→share, share→meets, meets-sym, right-typed, with-every, full-first}
+use Rattle.fitting.proofs.Cells.{first-stands, rest-stand, as-run, run-of, full-typed, scalar-full, atoms-agree}
+use Rattle.buffer.specs.Ordered.{inOrder, MembersAt}
+use Rattle.buffer.specs.Shared.{AllTyped, TypedRow, mostAlike, fineMembers}
+use Rattle.buffer.proofs.Ordering.{Two, two, two-less, Tested, few-rise, cell-less, cell-more}
 
--- Types of values that follow one another.
-sharedTypes-both : (vs ws : Values) (t : Ty) → sharedTypes (vs before ws) ⊑ t ↔ (sharedTypes vs ⊑ t × sharedTypes ws ⊑ t)
-sharedTypes-both none ws t = (λ h. (tt, h), λ h. h .1)
-sharedTypes-both (v ▸ vs) ws t =
-    let r = sharedTypes-both vs ws t in (
-      λ h. let p = ⊓-split (typesOf v) (sharedTypes (vs before ws)) t h in
-          let q = r .0 (p .1) in
-          (⊓-join (typesOf v) (sharedTypes vs) t (p .0) (q .0), q .1),
-      λ h. let p = ⊓-split (typesOf v) (sharedTypes vs) t (h .0) in
-          ⊓-join (typesOf v) (sharedTypes (vs before ws)) t (p .0) (r .1 (p .1, h .1)),
+-- The first value of a row, and the row behind it.
+as-row : {s : List ℕ} {i n : ℕ} (vs : Values) → TypedRow s i n vs → 0 < n →
+    (w : Value) × (ws : Values) × (vs ≡ w ▸ ws) × TypedAt s i w × ((e : ℕ) → EndsAt s i e → TypedRow s e (n - 1) ws)
+as-row none r l = absurd (omega (arith, r .members .counted))
+as-row {s} {i} (w ▸ ws) r l =
+    let m = r .members in
+    let h = first-stands s i w ws (m .stands) in (
+      w,
+      ws,
+      refl,
+      record { stands = h; fits = m .fits .0; typed = r .typed .0 },
+      λ e ends. record {
+        members = record {
+          stands = rw (ends w h (m .fits .0)) (rest-stand s i w ws (m .stands));
+          fits = m .fits .1;
+          counted = omega (arith, m .counted);
+        };
+        typed = r .typed .1;
+      },
     )
 
-before-assoc : (us vs ws : Values) → (us before vs) before ws ≡ us before (vs before ws)
-before-assoc none vs ws = refl
-before-assoc (u ▸ us) vs ws = ap (λ (x : Values). u ▸ x) (before-assoc us vs ws)
+-- Types of values that follow one another.
+both-types : (p q : TypeSet) (t : Ty) → (p ⊓ q ⊑ t) ↔ (p ⊑ t × q ⊑ t)
+both-types p q t = (⊓-split p q t, λ h. ⊓-join p q t (h .0) (h .1))
 
-before-none : (vs : Values) → vs before none ≡ vs
-before-none none = refl
-before-none (v ▸ vs) = ap (λ (x : Values). v ▸ x) (before-none vs)
+before-types : (vs ws : Values) (t : Ty) → (sharedTypes (vs before ws) ⊑ t) ↔ (sharedTypes vs ⊑ t × sharedTypes ws ⊑ t)
+before-types none ws t = (λ h. (tt, h), λ h. h .1)
+before-types (v ▸ vs) ws t =
+    simp (both-types, before-types vs ws t) (λ h. ((h .0, h .1 .0), h .1 .1), λ h. (h .0 .0, (h .0 .1, h .1)))
 
-fits-split : (vs ws : Values) → AllFit (vs before ws) → AllFit vs × AllFit ws
-fits-split none ws h = (tt, h)
-fits-split (v ▸ vs) ws h = let p = fits-split vs ws (h .1) in ((h .0, p .0), p .1)
+-- What shares a type with the types of both q and r does with q.
+meets-one : (p q r : TypeSet) → T (meets p (q ⊓ r)) → T (meets p q)
+meets-one p q r h = let x = meets→share p (q ⊓ r) h in share→meets p q (x .0, x .1, both-types q r (x .0) .0 (x .2) .0)
 
-typed-split : (vs ws : Values) → AllTyped (vs before ws) → AllTyped vs × AllTyped ws
-typed-split none ws h = (tt, h)
-typed-split (v ▸ vs) ws h = let p = typed-split vs ws (h .1) in ((h .0, p .0), p .1)
+-- A value passes from those behind to those in front.
+meets-moved : (vs : Values) (w : Value) (r : TypeSet) → meets (sharedTypes vs) (typesOf w ⊓ r) ≡ meets (sharedTypes (vs before (w ▸ none))) r
+meets-moved vs w r =
+    let p = sharedTypes vs in
+    let q = sharedTypes (vs before (w ▸ none)) in
+    bool-eq (meets p (typesOf w ⊓ r)) (meets q r)
+    (λ h. let x = meets→share p (typesOf w ⊓ r) h in let k = moved (x .0) .0 (x .1, x .2) in share→meets q r (x .0, k .0, k .1))
+    (λ h. let x = meets→share q r h in let k = moved (x .0) .1 (x .1, x .2) in share→meets p (typesOf w ⊓ r) (x .0, k .0, k .1))
+  where
+    moved : (t : Ty) → (sharedTypes vs ⊑ t × typesOf w ⊓ r ⊑ t) ↔ (sharedTypes (vs before (w ▸ none)) ⊑ t × r ⊑ t)
+    moved t = simp (both-types, before-types vs (w ▸ none) t) (λ h. ((h .0, (h .1 .0, tt)), h .1 .1), λ h. (h .0 .0, (h .0 .1 .0, h .1)))
 
--- The first k of the values vs from `at` on share a type; the next begins at i.
-pub record Prefix (s : List ℕ) (at i k : ℕ) (vs : Values) : Type 0 where
+-- Of the values vs from `at` on the first k share a type, and those that are left stand from i on. So all do where these share it.
+pub record Prefix (s : List ℕ) (at i k n : ℕ) (vs : Values) : Type 0 where
   pub front : Values
   pub back : Values
-  pub whole : vs ≡ front before back
-  pub counted : count front ≡ k
-  pub shares : T (inhabited (sharedTypes front))
+  pub run : RunAt s at k front
+  pub row : TypedRow s i (n - k) back
+  pub same : inhabited (sharedTypes vs) ≡ meets (sharedTypes front) (sharedTypes back)
   pub there : i ≡ at + weights front
 
-pub row-members : {s : List ℕ} {at n : ℕ} {vs : Values} → TypedRow s at n vs → MembersAt s at n vs
-row-members r = record { stands = r .stands; fits = r .fits; counted = r .counted }
+pub prefix-start : {s : List ℕ} {at n end : ℕ} → EndsAt s at end → 0 < n → (vs : Values) → TypedRow s at n vs → Prefix s at end 1 n vs
+unfolding meets
+prefix-start ends l vs r =
+    let x = as-row vs r l in
+    let w = x .0 in
+    record {
+      front = w ▸ none;
+      back = x .1;
+      run = run-of w (x .3);
+      row = x .4 _ ends;
+      same = ap (λ (us : Values). inhabited (sharedTypes us)) (x .2) ∙ meets-moved none w (sharedTypes (x .1));
+      there = omega (arith, ends w (x .3 .stands) (x .3 .fits));
+    }
 
-pub prefix-none : (s : List ℕ) (at n : ℕ) (vs : Values) → TypedRow s at n vs → n ≡ 0 → true ≡ inhabited (sharedTypes vs)
-prefix-none s at n none h e = refl
-prefix-none s at n (v ▸ vs) h e = absurd (omega (arith, h .counted))
-
-pub row-some : (s : List ℕ) (at n : ℕ) → SomeTypedRow s at n → (n ≡ 0 → ⊥) → SomeAt s at
-unfolding code
-row-some s at n r z = go (r .0) (r .1)
-  where
-    go : (vs : Values) → TypedRow s at n vs → SomeAt s at
-    go none h = absurd (z (h .counted))
-    go (v ▸ vs) h = record { value = v; stands = first-stands s at v vs (h .stands); fits = h .fits .0 }
-
-pub prefix-start : (s : List ℕ) (at n end : ℕ) → EndsAt s at end → (n ≡ 0 → ⊥) → (vs : Values) → TypedRow s at n vs → Prefix s at end 1 vs
-unfolding code
-prefix-start s at n end e z none h = absurd (z (h .counted))
-prefix-start s at n end e z (v ▸ vs) h = record {
-  front = v ▸ none;
-  back = vs;
-  whole = refl;
-  counted = refl;
-  shares = with-every (typesOf v) (h .typed .0);
-  there = omega (arith, e v (first-stands s at v vs (h .stands)) (h .fits .0));
-}
-
-module _ (s : List ℕ) (at n i k : ℕ) (vs : Values) (row : TypedRow s at n vs) (h : Prefix s at i k vs) where
-  all-stand : ValuesAt s at (h .front before h .back)
-  all-stand = subst (λ (ws : Values). ValuesAt s at ws) (h .whole) (row .stands)
-
-  pub front-run : RunAt s at k (h .front)
-  front-run = record {
-    stands = stands-front s at (codes (h .front)) (codes (h .back)) (subst (λ (l : List ℕ). Stands s at l) (codes-before (h .front) (h .back)) all-stand);
-    fits = fits-split (h .front) (h .back) (subst AllFit (h .whole) (row .fits)) .0;
-    typed = h .shares;
-    counted = h .counted;
-  }
-
-  back-row : TypedRow s i (n - k) (h .back)
-  back-row =
-      let e : i ≡ at + length (codes (h .front)) = omega (arith, h .there, length-codes (h .front)) in
-      record {
-        stands = rw e (stands-back s at (codes (h .front)) (codes (h .back))
-            (subst (λ (l : List ℕ). Stands s at l) (codes-before (h .front) (h .back)) all-stand));
-        fits = fits-split (h .front) (h .back) (subst AllFit (h .whole) (row .fits)) .1;
-        counted = omega (arith, row .counted, ap count (h .whole), count-before (h .front) (h .back), h .counted);
-        typed = typed-split (h .front) (h .back) (subst AllTyped (h .whole) (row .typed)) .1;
-      }
-
+module _ {s : List ℕ} {at i k n : ℕ} {vs : Values} (h : Prefix s at i k n vs) where
   pub prefix-end : n ≤ k → true ≡ inhabited (sharedTypes vs)
-  prefix-end l = go (h .back) (h .whole) (back-row .counted)
+  unfolding meets
+  prefix-end l = sym (h .same ∙ go (h .back) (h .row .members .counted))
     where
-      go : (ws : Values) → vs ≡ h .front before ws → n - k ≡ count ws → true ≡ inhabited (sharedTypes vs)
-      go none e c = sym (T-true _ .0 (subst (λ (us : Values). T (inhabited (sharedTypes us))) (sym (e ∙ before-none (h .front))) (h .shares)))
-      go (w ▸ ws) e c = absurd (omega arith)
+      go : (ws : Values) → n - k ≡ count ws → inhabited (sharedTypes (h .front) ⊓ sharedTypes ws) ≡ true
+      go none c = T-true _ .0 (with-every (sharedTypes (h .front)) (h .run .typed))
+      go (w ▸ ws) c = absurd (omega arith)
 
-  -- The next value.
-  next-value : k < n → (w : Value) × (ws : Values) × (vs ≡ h .front before (w ▸ ws)) × TypedAt s i w
-  next-value l = go (h .back) (h .whole) back-row
-    where
-      go : (ws : Values) → vs ≡ h .front before ws → TypedRow s i (n - k) ws → (w : Value) × (ws : Values) × (vs ≡ h .front before (w ▸ ws)) × TypedAt s i w
-      go none e r = absurd (omega (arith, r .counted))
-      go (w ▸ ws) e r = (w, ws, e, record { stands = first-stands s i w ws (r .stands); fits = r .fits .0; typed = r .typed .0 })
+  -- The next value, and the row behind it.
+  next-row : k < n → (w : Value) × (ws : Values) × (h .back ≡ w ▸ ws) × TypedAt s i w × ((e : ℕ) → EndsAt s i e → TypedRow s e (n - k - 1) ws)
+  next-row l = as-row (h .back) (h .row) (omega arith)
 
   pub prefix-next : k < n → SomeTyped s i
-  prefix-next l = let x = next-value l in (x .0, x .3)
+  prefix-next l = (next-row l .0, next-row l .3)
 
   -- The first m values stand for the first k: all of them, or one that has one type only.
-  pub stand-for : (m end : ℕ) (one : Bool) → 0 < k → EndsAt s at end → (one ≡ true → NoEmpty s at end) → m ≡ cond one 1 k → StandFor s at m (h .front)
-  unfolding code
-  stand-for m end false l e f c = record { few = h .front; run = rw c front-run; same = λ q. refl }
-  stand-for m end true l e f c = go (h .front) front-run
-    where
-      go : (ws : Values) → RunAt s at k ws → StandFor s at m ws
-      go none r = absurd (omega (arith, r .counted))
-      go (w ▸ ws) r =
-          let st : ValueAt s at w = first-stands s at w ws (r .stands) in
-          let ty = left-typed (typesOf w) (sharedTypes ws) (r .typed) in
-          let fu : Full w = full-value w s at st (subst (λ (x : ℕ). NoEmpty s at x) (e w st (r .fits .0)) (f refl)) in
-          record {
-            few = w ▸ none;
-            run = record {
-              stands = subst (λ (z : List ℕ). Stands s at z) (sym (append-nil (code w))) st;
-              fits = (r .fits .0, tt);
-              typed = with-every (typesOf w) ty;
-              counted = sym c;
-            };
-            same = λ q. sym (full-first w every q fu (with-every (typesOf w) ty)) ∙ full-first w (sharedTypes ws) q fu (r .typed);
-          }
+  pub stand-for : {m end : ℕ} (one : Bool) → 0 < k → EndsAt s at end → (one ≡ true → NoEmpty s at end) → m ≡ cond one 1 k → StandFor s at m (h .front)
+  stand-for false l e f c = record { few = h .front; run = rw c (h .run); same = λ q. refl }
+  stand-for {end = end} true l e f c =
+      let x = as-run s at k (h .front) (h .run) l in
+      let w = x .0 in
+      let g = full-typed s at end e (f refl) w (x .3) in
+      let r = run-of w (x .3) in
+      rw (c, x .2) (record {
+        few = w ▸ none;
+        run = r;
+        same = λ q. sym (full-first w every q g (r .typed)) ∙ full-first w (sharedTypes (x .1)) q g (rw (x .2) at (h .run .typed));
+      })
 
-  module _ (m : ℕ) (l : k < n) (g : StandFor s at m (h .front)) where
-    -- what the test of the next value against those says
-    next-meets : (r : Bool) → AgreedWith s i at m r → r ≡ meets (sharedTypes (h .front)) (typesOf (next-value l .0))
+  module _ {m : ℕ} (l : k < n) (g : StandFor s at m (h .front)) where
+    -- the test of the next value against those
+    next-meets : (r : Bool) → AgreedWith s i at m r → r ≡ meets (sharedTypes (h .front)) (typesOf (next-row l .0))
     next-meets r a =
-        let x = next-value l in
+        let x = next-row l in
         a (x .0) (g .few) (x .3) (g .run) ∙ meets-sym (typesOf (x .0)) (sharedTypes (g .few)) ∙ g .same (typesOf (x .0))
+
+    with-next : inhabited (sharedTypes vs) ≡ meets (sharedTypes (h .front)) (typesOf (next-row l .0) ⊓ sharedTypes (next-row l .1))
+    with-next = h .same ∙ ap (λ (us : Values). meets (sharedTypes (h .front)) (sharedTypes us)) (next-row l .2)
 
     pub prefix-fails : AgreedWith s i at m false → false ≡ inhabited (sharedTypes vs)
     prefix-fails a =
-        let x = next-value l in
-        let w = x .0 in
-        sym (T-false (inhabited (sharedTypes vs)) .0 (λ t.
-        let y = inhabited→some (sharedTypes vs) t in
-        let p = sharedTypes-both (h .front) (w ▸ x .1) (y .0) .0 (subst (λ (us : Values). sharedTypes us ⊑ y .0) (x .2) (y .1)) in
-        let q = ⊓-split (typesOf w) (sharedTypes (x .1)) (y .0) (p .1) in
-        subst T (sym (next-meets false a)) (share→meets (sharedTypes (h .front)) (typesOf w) (y .0, p .0, q .0))))
+        sym (with-next ∙ T-false _ .0 (λ t. subst T (sym (next-meets false a)) (meets-one (sharedTypes (h .front)) (typesOf (next-row l .0)) _ t)))
 
-    pub prefix-step : (e : ℕ) → EndsAt s i e → AgreedWith s i at m true → Prefix s at e (k + 1) vs
-    prefix-step e ends a =
-        let x = next-value l in
+    pub prefix-step : {e : ℕ} → EndsAt s i e → AgreedWith s i at m true → Prefix s at e (k + 1) n vs
+    prefix-step {e} ends a =
+        let x = next-row l in
         let w = x .0 in
         let y = meets→share (sharedTypes (h .front)) (typesOf w) (subst T (next-meets true a) tt) in
+        let u = run-of w (x .3) in
         let f = h .front before (w ▸ none) in
+        let p : i ≡ at + length (codes (h .front)) = omega (arith, h .there, length-codes (h .front)) in
+        let q : n - k - 1 ≡ n - (k + 1) = omega arith in
         record {
           front = f;
           back = x .1;
-          whole = x .2 ∙ sym (before-assoc (h .front) (w ▸ none) (x .1));
-          counted = omega (arith, count-before (h .front) (w ▸ none), h .counted);
-          shares = some→inhabited (sharedTypes f) (y .0) (sharedTypes-both (h .front) (w ▸ none) (y .0) .1 (y .1, ⊓-join (typesOf w) every (y .0) (y .2) tt));
+          run = record {
+            stands = rw (codes-before (h .front) (w ▸ none))
+                (stands-append s at (codes (h .front)) (codes (w ▸ none)) (h .run .stands) (subst (λ (j : ℕ). Stands s j (codes (w ▸ none))) p (u .stands)));
+            fits = fit-before (h .front) (w ▸ none) (h .run .fits) (u .fits);
+            typed = some→inhabited (sharedTypes f) (y .0) (before-types (h .front) (w ▸ none) (y .0) .1 (y .1, ⊓-join (typesOf w) every (y .0) (y .2) tt));
+            counted = omega (arith, count-before (h .front) (w ▸ none), h .run .counted);
+          };
+          row = subst (λ (j : ℕ). TypedRow s e j (x .1)) q (x .4 e ends);
+          same = with-next ∙ meets-moved (h .front) w (sharedTypes (x .1));
           there = omega (arith, h .there, weights-before (h .front) (w ▸ none), ends w (x .3 .stands) (x .3 .fits));
         }
 
--- Two cells are alike where the second lies between the bounds of the first.
+-- Two cells are alike where the second, which is greater, is at most the greatest that is alike.
 module _ (x y : ℕ) where
-  by-tag : (P : ℕ → ℕ → Bool → Type 0) →
-      P (x / 256 * 256) (x / 256 * 256 + 255) (eqb (x / 256) (y / 256)) →
-      P (x / cellSize * cellSize) (x / cellSize * cellSize + 4294967295) (eqb (x / cellSize) (y / cellSize)) →
-      P (leastAlike x) (mostAlike x) (atomsAlike x y)
+  by-tag : (P : ℕ → Bool → Type 0) →
+      (x / cellSize ≡ 3 → P (x / 256 * 256 + 255) (eqb (x / 256) (y / 256))) →
+      (x / cellSize ≢ 3 → P (x / cellSize * cellSize + 4294967295) (eqb (x / cellSize) (y / cellSize))) →
+      P (mostAlike x) (atomsAlike x y)
   by-tag P h k = go (ℕ-discrete (x / cellSize) 3)
     where
-      go : Dec (x / cellSize ≡ 3) → P (leastAlike x) (mostAlike x) (atomsAlike x y)
-      go (yes e) = rw (eq-eqb (x / cellSize) 3 e) h
-      go (no n) = rw (ne-eqb (x / cellSize) 3 n) k
+      go : Dec (x / cellSize ≡ 3) → P (mostAlike x) (atomsAlike x y)
+      go (yes e) = rw (eq-eqb (x / cellSize) 3 e) (h e)
+      go (no n) = rw (ne-eqb (x / cellSize) 3 n) (k n)
 
-  pub alike-within : leastAlike x ≤ y → y ≤ mostAlike x → atomsAlike x y ≡ true
-  alike-within =
-      by-tag (λ l m b. l ≤ y → y ≤ m → b ≡ true)
-      (λ p q. eq-eqb (x / 256) (y / 256) (omega arith))
-      (λ p q. eq-eqb (x / cellSize) (y / cellSize) (omega arith))
+  pub alike-within : x < 4 * cellSize → x < y → y ≤ mostAlike x → (atomsAlike x y ≡ true) × (y < 4 * cellSize) × (mostAlike y ≡ mostAlike x)
+  alike-within p l =
+      by-tag (λ m b. y ≤ m → (b ≡ true) × (y < 4 * cellSize) × (mostAlike y ≡ m))
+      (λ t h. (eq-eqb (x / 256) (y / 256) (omega arith), omega arith, rw (eq-eqb (y / cellSize) 3 (omega arith)) (omega arith)))
+      (λ t h. (eq-eqb (x / cellSize) (y / cellSize) (omega arith), omega arith, rw (ne-eqb (y / cellSize) 3 (λ e. t (omega arith))) (omega arith)))
 
-  pub alike-below : y < leastAlike x → atomsAlike x y ≡ false
-  alike-below =
-      by-tag (λ l m b. y < l → b ≡ false)
-      (λ p. ne-eqb (x / 256) (y / 256) (λ e. omega arith))
-      (λ p. ne-eqb (x / cellSize) (y / cellSize) (λ e. omega arith))
-
-  pub alike-above : mostAlike x < y → atomsAlike x y ≡ false
+  alike-above : mostAlike x < y → atomsAlike x y ≡ false
   alike-above =
-      by-tag (λ l m b. m < y → b ≡ false)
-      (λ p. ne-eqb (x / 256) (y / 256) (λ e. omega arith))
-      (λ p. ne-eqb (x / cellSize) (y / cellSize) (λ e. omega arith))
+      by-tag (λ m b. m < y → b ≡ false)
+      (λ t h. ne-eqb (x / 256) (y / 256) (λ e. omega arith))
+      (λ t h. ne-eqb (x / cellSize) (y / cellSize) (λ e. omega arith))
 
--- Scalars, one cell each: x is the cell of the first, and those up to i are alike.
-pub record Cells (s : List ℕ) (at i : ℕ) (vs : Values) : Type 0 where
-  pub past : at < i
-  pub first : Prefix s at i (i - at) vs
+-- A full value that shares a type with v shares with others only types that v has.
+full-share : (v w : Value) (r : TypeSet) → Full w → agree v w ≡ true → inhabited (typesOf v ⊓ (typesOf w ⊓ r)) ≡ inhabited (typesOf w ⊓ r)
+unfolding agree meets
+full-share v w r f e =
+    bool-eq _ _ (right-typed (typesOf v) (typesOf w ⊓ r))
+    (λ t. subst T (sym e ∙ meets-sym (typesOf v) (typesOf w) ∙ full-first w r (typesOf v) f t ∙ meets-sym (typesOf w ⊓ r) (typesOf v)) tt)
 
-module _ (s : List ℕ) (at n : ℕ) (low : getD s at 0 < 4 * cellSize) where
-  no-empty : NoEmpty s at (at + 1)
-  no-empty = record { none = λ j p q e. let f : j ≡ at = omega arith in let g : getD s at 0 ≡ 21474836480 = rw f at e in omega arith }
+-- The values that are left have types: one at most is fine.
+abbrev pub TypedRest : List ℕ → ℕ → ℕ → Values → Type 0
+TypedRest s i left vs = (h : Tested fineMembers s i left vs) × AllTyped (h .rest)
 
-  pub cells-start : 0 < n → (vs : Values) → TypedRow s at n vs → Cells s at (at + 1) vs
-  cells-start l vs row =
-      let e : at + 1 - at ≡ 1 = omega arith in
-      record { past = omega arith; first = rw e (prefix-start s at n (at + 1) (one-cell s at low) (λ z. omega arith) vs row) }
+pub few-fine : (vs : Values) → count vs ≤ 1 → AllTyped vs → true ≡ fineMembers vs
+few-fine none l h = refl
+few-fine (v ▸ none) l h = sym (T-true _ .0 (with-every (typesOf v) (h .0)))
+few-fine (v ▸ w ▸ ws) l h = absurd (omega arith)
 
-  -- There are as many cells as values.
-  pub cells-inside : SomeTypedRow s at n → at + n ≤ length s
-  cells-inside r = omega (arith, r .1 .stands .inside, length-codes (r .0), r .1 .counted, count-weights (r .0))
+pub cells-end : {s : List ℕ} {i left : ℕ} {vs : Values} → TypedRest s i left vs → left ≤ 1 → true ≡ fineMembers vs
+cells-end h l = few-fine (h .0 .rest) (omega (arith, h .0 .row .counted)) (h .1) ∙ sym (h .0 .same)
 
-  pub cells-end : (i : ℕ) (vs : Values) → TypedRow s at n vs → Cells s at i vs → at + n ≤ i → true ≡ inhabited (sharedTypes vs)
-  cells-end i vs row h l = prefix-end s at n i (i - at) vs row (h .first) (omega arith)
+-- Two or more are left, the first a scalar: it and the next by their cells.
+module _ {s : List ℕ} {i left : ℕ} {vs : Values} (h : TypedRest s i left vs) (l : 1 < left) (low : getD s i 0 < 4 * cellSize) where
+  both : Two s i (i + 1) left (h .0 .rest)
+  both = two (h .0 .rest) (h .0 .row) l (one-cell s i low)
 
-  module _ (i : ℕ) (vs : Values) (row : TypedRow s at n vs) (h : Cells s at i vs) (l : i < at + n) where
-    one-for-all : StandFor s at 1 (h .first .front)
-    one-for-all =
-        let k = h .past in
-        stand-for s at n i (i - at) vs row (h .first) 1 (at + 1) true (omega arith) (one-cell s at low) (λ e. no-empty) refl
+  pub next-inside : i + 1 < length s
+  next-inside = some-inside s (i + 1) (both .next)
 
-    -- The next value against the first one, by their cells.
-    against-first : (r : Bool) → atomsAlike (getD s at 0) (getD s i 0) ≡ r → AgreedWith s i at 1 r
-    against-first r e = go r (λ v w p q. sym e ∙ atoms-agree s at i low v w p q)
-      where
-        go : (b : Bool) → Agreed s at i b → AgreedWith s i at 1 b
-        go true g = with-step s i at 1 (at + 1) true (omega arith) (agreed-back s at i true g) (one-cell s at low) (with-end s i (at + 1) 0 refl)
-        go false g = with-false s i at 1 (omega arith) (agreed-back s at i false g)
+  all-typed : AllTyped (both .here .value ▸ both .next .value ▸ both .others)
+  all-typed = subst AllTyped (both .whole) (h .1)
 
-    pub cells-fail : atomsAlike (getD s at 0) (getD s i 0) ≡ false → false ≡ inhabited (sharedTypes vs)
-    cells-fail e = let k = h .past in prefix-fails s at n i (i - at) vs row (h .first) 1 (omega arith) one-for-all (against-first false e)
+  next-typed : TypedAt s (i + 1) (both .next .value)
+  next-typed = record { stands = both .next .stands; fits = both .next .fits; typed = all-typed .1 .0 }
 
-    pub cells-next : atomsAlike (getD s at 0) (getD s i 0) ≡ true → Cells s at (i + 1) vs
-    cells-next e =
-        let k = h .past in
-        let q : i + 1 - at ≡ i - at + 1 = omega arith in
-        let low′ : getD s i 0 < 4 * cellSize = alike-low (getD s at 0) (getD s i 0) low e in
-        record {
-          past = omega arith;
-          first = rw q (prefix-step s at n i (i - at) vs row (h .first) 1 (omega arith) one-for-all (i + 1) (one-cell s i low′) (against-first true e));
-        }
+  alike : agree (both .here .value) (both .next .value) ≡ atomsAlike (getD s i 0) (getD s (i + 1) 0)
+  alike =
+      let a = both .here in
+      sym (atoms-agree s i (i + 1) low (a .value) (both .next .value) (record { stands = a .stands; fits = a .fits; typed = all-typed .0 }) next-typed)
 
-pub end-inside : (s : List ℕ) (at end : ℕ) → SomeAt s at → EndsAt s at end → (at ≤ end) × (end ≤ length s)
-end-inside s at end p e =
-    let x = e (p .value) (p .stands) (p .fits) in
-    (omega arith, omega (arith, p .stands .inside, length-code (p .value)))
+  all-fine : fineMembers vs ≡ fineMembers (both .here .value ▸ both .next .value ▸ both .others)
+  all-fine = h .0 .same ∙ ap fineMembers (both .whole)
+
+  pub cells-more : getD s (i + 1) 0 ≤ getD s i 0 → false ≡ fineMembers vs
+  cells-more m = let x = cell-more s i (i + 1) low m in sym (all-fine ∙ rw (two-less both (x .2), ne-eqb (x .0) 0 (x .1)))
+
+  pub cells-above : mostAlike (getD s i 0) < getD s (i + 1) 0 → false ≡ fineMembers vs
+  unfolding agree meets
+  cells-above m =
+      let v = both .here .value in
+      let ws = both .next .value ▸ both .others in
+      let e = alike ∙ alike-above (getD s i 0) (getD s (i + 1) 0) m in
+      sym (all-fine ∙ T-false (fineMembers (v ▸ ws)) .0 (λ t.
+      subst T e (meets-one (typesOf v) (typesOf (both .next .value)) (sharedTypes (both .others)) (and-split (inOrder (v ▸ ws)) _ t .1))))
+
+  pub cells-next : getD s i 0 < getD s (i + 1) 0 → getD s (i + 1) 0 ≤ mostAlike (getD s i 0) → TypedRest s (i + 1) (left - 1) vs
+  cells-next m k =
+      let v = both .here .value in
+      let w = both .next .value in
+      let us = w ▸ both .others in
+      let a = alike-within (getD s i 0) (getD s (i + 1) 0) low m k in
+      let e = full-share v w (sharedTypes (both .others)) (scalar-full s (i + 1) (a .1) w next-typed) (alike ∙ a .0) in
+      let q : fineMembers vs ≡ fineMembers us = all-fine ∙ rw (two-less both (cell-less s i (i + 1) low m)) (ap (λ (b : Bool). inOrder us && b) e) in
+      (record { rest = us; row = both .row; same = q }, all-typed .1)

@@ -95,7 +95,7 @@ read-entry-requires c κs =
     let p = lent (a .before) .pre in
     record {
       named = omega (arith, l .loop-test .taken, a .before .identifiers .ensures);
-      place = record {
+      copy = record {
         readable = p .readable;
         room = omega (arith, a .loop .inv .room, p .room, l .loop-test .taken, a .before .identifiers .ensures, kept a);
       };
