@@ -2,9 +2,9 @@
 -- from a cell on is fine where what is left behind that cell is, and where the cell's members are fine if it is a set's.
 use Prim.Native.Nat.{ℕ, zero, suc, _+_, _*_, _-_, _/_, _%_, _≤_, _<_}
 use mathlib.Core.Bool.{Bool, true, false, _&&_, cond}
-use mathlib.Core.List.{List, _∷_, _++_, append-nil}
+use mathlib.Core.List.{List, _++_}
 use mathlib.Core.Logic.{_↔_}
-use mathlib.Core.Path.{_≡_, refl, sym, ap, subst, _∙_}
+use mathlib.Core.Path.{_≡_, refl, sym, subst, _∙_}
 use native.Mathlib.Omega.{arith}
 use native.Mathlib.Nat.{add-zero}
 use lib.Dec.{T}
@@ -21,7 +21,7 @@ use Rattle.fitting.proofs.Cells.{first-stands, members-stand, scalar-low}
 use Rattle.fitting.proofs.Sharing.{left-typed, right-typed}
 use Rattle.buffer.specs.Ordered.{ordered, orderedAll}
 use Rattle.buffer.specs.Shared.{AllOf, AllTyped, TypedRow, SomeTypedRow, fineMembers, MembersFine, isFlat, setsEnd}
-use Rattle.buffer.proofs.Ahead.{inner, all-before}
+use Rattle.buffer.proofs.Ahead.{inner, all-before, code-head}
 
 -- Values that are fine: the members of a set are where it is, and share a type.
 abbrev IsFine : Value → Type 0
@@ -84,12 +84,6 @@ record Left (s : List ℕ) (i end : ℕ) (ws : Values) : Type 0 where
   fits : AllFit ws
   ends : i + weights ws ≡ end
 
-code-first : (v : Value) → (x : ℕ) × (code v ≡ x ∷ codes (inner v))
-unfolding code
-code-first (scalar s) = (_, refl)
-code-first (pair v w) = (4 * cellSize, ap (λ (l : List ℕ). (4 * cellSize) ∷ (code v ++ l)) (sym (append-nil (code w))))
-code-first (set s) = (_, refl)
-
 inner-fits : (v : Value) → CellsFit v → AllFit (inner v) × (weight v ≡ 1 + weights (inner v))
 inner-fits (scalar s) h = (tt, refl)
 inner-fits (pair v w) h = ((h .0, (h .1, tt)), omega arith)
@@ -99,11 +93,10 @@ left-next : {s : List ℕ} {i end : ℕ} (ws : Values) → Left s i end ws → i
 unfolding code
 left-next none h l = absurd (omega (arith, h .ends))
 left-next {s} {i} (w ▸ ws) h l =
-    let c = code-first w in
     let g = inner-fits w (h .fits .0) in
     record {
       stands = rw (codes-before (inner w) ws)
-          (stands-tail s i (c .0) (codes (inner w) ++ codes ws) (subst (λ (l : List ℕ). Stands s i (l ++ codes ws)) (c .1) (h .stands)));
+          (stands-tail s i _ (codes (inner w) ++ codes ws) (subst (λ (l : List ℕ). Stands s i (l ++ codes ws)) (code-head w) (h .stands)));
       fits = fit-before (inner w) ws (g .0) (h .fits .1);
       ends = omega (arith, weights-before (inner w) ws, g .1, h .ends);
     }

@@ -15,16 +15,16 @@ use Rattle.rules.specs.Fits.{TypeSet, every, _⊓_, typesOf, sharedTypes, inhab
 use Rattle.rules.proofs.Basics.{and-split, bool-eq}
 use Rattle.laws.proofs.EndLaws.{T-true, T-false}
 use Rattle.laws.proofs.FitsLaws.{_⊑_, ⊓-join, ⊓-split, some→inhabited}
-use Rattle.arena.specs.Code.{cellSize, codes, Stands, SomeAt, EndsAt}
-use Rattle.arena.proofs.CodeLaws.{length-code, length-codes}
+use Rattle.arena.specs.Code.{cellSize, codes, Stands, EndsAt}
+use Rattle.arena.proofs.CodeLaws.{length-codes}
 use Rattle.arena.proofs.Standing.{stands-append, _before_, codes-before, count-before, weights-before, fit-before}
 use Rattle.arena.proofs.ValueParts.{one-cell, some-inside}
 use Rattle.fitting.specs.Agree.{meets, agree, TypedAt, RunAt, SomeTyped, AgreedWith, NoEmpty, Full, StandFor, atomsAlike}
 use Rattle.fitting.proofs.Sharing.{meets→share, share→meets, meets-sym, right-typed, with-every, full-first}
 use Rattle.fitting.proofs.Cells.{first-stands, rest-stand, as-run, run-of, full-typed, scalar-full, atoms-agree}
-use Rattle.buffer.specs.Ordered.{inOrder, MembersAt}
+use Rattle.buffer.specs.Ordered.{inOrder}
 use Rattle.buffer.specs.Shared.{AllTyped, TypedRow, mostAlike, fineMembers}
-use Rattle.buffer.proofs.Ordering.{Two, two, two-less, Tested, few-rise, cell-less, cell-more}
+use Rattle.buffer.proofs.Ordering.{Two, two, two-less, Tested, cell-less, cell-more}
 
 -- The first value of a row, and the row behind it.
 as-row : {s : List ℕ} {i n : ℕ} (vs : Values) → TypedRow s i n vs → 0 < n →
