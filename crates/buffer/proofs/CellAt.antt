@@ -1,5 +1,5 @@
 -- A cell at a place of the buffer, and its form in the arena.
-use Prim.Native.Nat.{ℕ, _+_, _*_, _-_, _/_, _%_, _≤_, _<_}
+use Prim.Native.Nat.{ℕ, zero, suc, _+_, _*_, _-_, _/_, _%_, _≤_, _<_}
 use mathlib.Core.Bool.{Bool, true, false}
 use mathlib.Core.Logic.{_↔_, Iff·rfl}
 use mathlib.Core.List.{List}
@@ -13,7 +13,7 @@ use borrow.Author.Tests.{eq-eqb, ne-eqb}
 use Rattle.rules.specs.Tables.{wordAt}
 use Rattle.buffer.specs.declared.Step.the-variants.{End}
 use Rattle.laws.proofs.EndLaws.{T-true, T-false, T-and, T-leb, T-eqb}
-use Rattle.buffer.specs.Buffer.{cellFirst, firstCell, codeOf, cellGood, GoodCell, StepTakes}
+use Rattle.buffer.specs.Buffer.{cellFirst, firstCell, codeOf, tagGood, cellGood, GoodCell, StepTakes}
 
 -- a byte further on
 ahead : (bs : List ℕ) (i k : ℕ) → getD bs (i + k) 0 ≡ getD bs (k + i) 0
@@ -52,23 +52,33 @@ high-word bs at =
     let g : 3 + (at + 4) ≡ at + 7 = omega arith in
     rw (getD-drop at bs 4 0, getD-drop at bs 5 0, getD-drop at bs 6 0, getD-drop at bs 7 0, ← e, ← f, ← g) (omega arith)
 
--- The cell of two words, good or not; and one that is none.
-module _ (gs bs : List ℕ) (at p q : ℕ) (low : p ≡ wordAt bs at) (high : q ≡ wordAt bs (at + 4)) where
-  pub cell-marked : getD bs (at + 4) 0 < 256 → 256 ≤ q → StepTakes gs bs at End
-  cell-marked l h k g = omega (arith, first-right (drop at bs) .0 k .1, high-word bs at, getD-drop at bs 4 0)
+-- The tag of a good cell is small, so that those three are zero.
+tag-small : (gs : List ℕ) (t p : ℕ) → T (tagGood gs t p) → t < 6
+tag-small gs zero p h = omega arith
+tag-small gs (suc zero) p h = omega arith
+tag-small gs (suc (suc zero)) p h = omega arith
+tag-small gs (suc (suc (suc zero))) p h = omega arith
+tag-small gs (suc (suc (suc (suc zero)))) p h = omega arith
+tag-small gs (suc (suc (suc (suc (suc zero))))) p h = omega arith
+tag-small gs (suc (suc (suc (suc (suc (suc n)))))) p h = absurd h
 
+-- The cell of two words, good or not.
+module _ (gs bs : List ℕ) (at p q : ℕ) (low : p ≡ wordAt bs at) (high : q ≡ wordAt bs (at + 4)) where
   cell-number : T (cellFirst (drop at bs)) → p + 4294967296 * q ≡ firstCell (drop at bs)
   cell-number h = omega (arith, first-right (drop at bs) .0 h .1, high-word bs at, word-drop bs at)
 
   pub cell-bad : {r : Bool} → r ≡ cellGood gs (p + 4294967296 * q) → r ≡ false → StepTakes gs bs at End
   cell-bad e f h k = T-false (cellGood gs (p + 4294967296 * q)) .1 (sym e ∙ f) (rw (cell-number h) k)
 
-  pub cell-good : {r : Bool} → at + 8 ≤ length bs → q < 256 → r ≡ cellGood gs (p + 4294967296 * q) → r ≡ true →
-      GoodCell gs bs at (p + 4294967296 * q) (at + 8)
-  cell-good l z e f =
+  pub cell-good : {r : Bool} → at + 8 ≤ length bs → r ≡ cellGood gs (p + 4294967296 * q) → r ≡ true → GoodCell gs bs at (p + 4294967296 * q) (at + 8)
+  unfolding cellGood
+  cell-good l e f =
+      let x = p + 4294967296 * q in
+      let g = T-true (cellGood gs x) .1 (sym e ∙ f) in
+      let z : q < 6 = omega (arith, tag-small gs (x / 4294967296) (x % 4294967296) g) in
       let w = high-word bs at in
       let h = first-right (drop at bs) .1 (omega (arith, length-drop at bs), omega arith) in
-      record { here = h; number = cell-number h; good = T-true (cellGood gs (p + 4294967296 * q)) .1 (sym e ∙ f); behind = refl }
+      record { here = h; number = cell-number h; good = g; behind = refl }
 
 pub code-number : (x t l : ℕ) → t ≡ x / 4294967296 → t ≡ 1 → l ≡ x % 4294967296 → 4294967296 + (l + 2147483648) % 4294967296 ≡ codeOf x
 unfolding codeOf

@@ -8,12 +8,13 @@ use mathlib.Core.Path.{_≡_, refl, sym, subst, _∙_}
 use native.Mathlib.Omega.{arith}
 use native.Mathlib.Nat.{add-zero}
 use lib.Dec.{T}
-use lib.ListN.{getD}
+use lib.ListN.{length, getD}
 use Rattle.rules.specs.Values.{Value, scalar, pair, set, Values, none, _▸_, tag, count, weight, weights}
 use Rattle.rules.specs.Fits.{typesOf, sharedTypes, inhabited, typed}
 use Rattle.laws.proofs.EndLaws.{T-true, T-false, T-and, T-leb, T-eqb}
 use Rattle.laws.proofs.CellsLaws.{weight-some, count-weights}
 use Rattle.arena.specs.Code.{cellSize, code, codes, Stands, ValueAt, ValuesAt, CellsFit, AllFit, SomeAt, EndsAt}
+use Rattle.arena.proofs.CodeLaws.{length-code}
 use Rattle.arena.proofs.FrontLaws.{single}
 use Rattle.arena.proofs.Standing.{stands-tail, _before_, codes-before, weights-before, fit-before}
 use Rattle.arena.proofs.ValueParts.{first-cell}
@@ -125,7 +126,9 @@ module _ {s : List ℕ} {j end : ℕ} where
         ws,
         refl,
         record {
-          members = record { stands = members-stand s j ms h; fits = l .fits .0 .1; counted = first-cell s j (set ms) h (l .fits .0) .1 };
+          stands = members-stand s j ms h;
+          fits = l .fits .0 .1;
+          counted = first-cell s j (set ms) h (l .fits .0) .1;
           typed = all-parts ms .0 (all-before IsFine ms ws .0 a .0) .1;
         },
       )
@@ -213,3 +216,8 @@ module _ {s : List ℕ} {at end : ℕ} (e : EndsAt s at end) where
       go : (b : Bool) → isFlat (getD s at 0) (end - at) ≡ b → (at ≤ cond b (at + 1) end) × (cond b (at + 1) end ≤ end) × FineFrom s at (cond b (at + 1) end)
       go true q = (omega arith, omega arith, from-flat q)
       go false q = (omega arith, omega arith, from-end)
+
+pub end-inside : (s : List ℕ) (at end : ℕ) → SomeAt s at → EndsAt s at end → (at < end) × (end ≤ length s)
+end-inside s at end p e =
+    let x = e (p .value) (p .stands) (p .fits) in
+    (omega (arith, weight-some (p .value)), omega (arith, p .stands .inside, length-code (p .value)))

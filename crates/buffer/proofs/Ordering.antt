@@ -1,114 +1,78 @@
--- Members that are left of a row: what a test says of all members it says of those. So it is tested whether members rise.
-use Prim.Native.Nat.{ℕ, _+_, _*_, _-_, _≤_, _<_, Ordering, Ordering·lt, Ordering·eq, Ordering·gt}
-use mathlib.Core.Bool.{Bool, true, false, _&&_}
+-- Rows of values with types: the first value and the row behind it, and which of two values is before the other.
+use Prim.Native.Nat.{ℕ, _+_, _*_, _-_, _<_, Ordering, Ordering·lt, Ordering·eq, Ordering·gt}
 use mathlib.Core.List.{List}
 use mathlib.Core.Path.{_≡_, refl, sym, ap, _∙_}
 use native.Mathlib.Omega.{arith}
 use native.Mathlib.Nat.{add-zero}
 use native.Mathlib.Decide.{decLt}
-use borrow.Author.Tests.{eq-eqb, ne-eqb}
-use lib.Dec.{eqb}
-use lib.ListN.{length, getD}
-use Rattle.rules.specs.Values.{Values, none, _▸_, count, order, isLt, before}
-use Rattle.laws.proofs.CellsLaws.{weight-some}
-use Rattle.arena.specs.Code.{cellSize, ValuesAt, orderCode, SomeAt, EndsAt, Compared}
-use Rattle.arena.proofs.CodeLaws.{length-code}
+use borrow.Author.Tests.{lt-ltb, le-ltb}
+use lib.Dec.{eqb, ltb}
+use lib.ListN.{getD}
+use Rattle.rules.specs.Values.{Value, Values, none, _▸_, order, isLt, before}
+use Rattle.arena.specs.Code.{cellSize, orderCode, EndsAt, Compared}
 use Rattle.arena.proofs.Standing.{found-less, found-greater, found-equal}
 use Rattle.arena.proofs.ValueParts.{one-cell}
+use Rattle.fitting.specs.Agree.{TypedAt, SomeTyped}
 use Rattle.fitting.proofs.Cells.{first-stands, rest-stand}
-use Rattle.buffer.specs.Ordered.{inOrder, MembersAt}
+use Rattle.buffer.specs.Shared.{TypedRow, SomeTypedRow}
 
--- The first of some values.
-pub some-of : {s : List ℕ} {i n : ℕ} (vs : Values) → MembersAt s i n vs → 0 < n → SomeAt s i
-some-of none r l = absurd (omega (arith, r .counted))
-some-of {s} {i} (v ▸ vs) r l = record { value = v; stands = first-stands s i v vs (r .stands); fits = r .fits .0 }
-
--- Two values or more: the first, and those from e on, where it ends.
-pub record Two (s : List ℕ) (i e n : ℕ) (vs : Values) : Type 0 where
-  pub here : SomeAt s i
-  pub next : SomeAt s e
+-- The first of n values from i on, and the others.
+pub record First (s : List ℕ) (i n : ℕ) (vs : Values) : Type 0 where
+  pub value : Value
   pub others : Values
-  pub whole : vs ≡ here .value ▸ next .value ▸ others
-  pub row : MembersAt s e (n - 1) (next .value ▸ others)
+  pub whole : vs ≡ value ▸ others
+  pub here : TypedAt s i value
+  pub row : (e : ℕ) → EndsAt s i e → TypedRow s e (n - 1) others
 
-pub two : {s : List ℕ} {i e n : ℕ} (vs : Values) → MembersAt s i n vs → 1 < n → EndsAt s i e → Two s i e n vs
-two none r l ends = absurd (omega (arith, r .counted))
-two (v ▸ none) r l ends = absurd (omega (arith, r .counted))
-two {s} {i} {e} {n} (v ▸ w ▸ ws) r l ends =
-    let h = first-stands s i v (w ▸ ws) (r .stands) in
-    let k : ValuesAt s e (w ▸ ws) = rw (ends v h (r .fits .0)) (rest-stand s i v (w ▸ ws) (r .stands)) in
+pub first-of : {s : List ℕ} {i n : ℕ} (vs : Values) → TypedRow s i n vs → 0 < n → First s i n vs
+first-of none r l = absurd (omega (arith, r .counted))
+first-of {s} {i} (w ▸ ws) r l =
+    let h = first-stands s i w ws (r .stands) in
     record {
-      here = record { value = v; stands = h; fits = r .fits .0 };
-      next = record { value = w; stands = first-stands s e w ws k; fits = r .fits .1 .0 };
+      value = w;
       others = ws;
       whole = refl;
-      row = record { stands = k; fits = r .fits .1; counted = omega (arith, r .counted) };
+      here = record { stands = h; fits = r .fits .0; typed = r .typed .0 };
+      row = λ e ends. record {
+        stands = rw (ends w h (r .fits .0)) (rest-stand s i w ws (r .stands));
+        fits = r .fits .1;
+        counted = omega (arith, r .counted);
+        typed = r .typed .1;
+      };
     }
+
+pub some-first : {s : List ℕ} {at n : ℕ} → SomeTypedRow s at n → 0 < n → SomeTyped s at
+some-first r l = let x = first-of (r .0) (r .1) l in (x .value, x .here)
 
 less-code : (o : Ordering) → isLt o ≡ eqb (orderCode o) 0
 less-code Ordering·lt = refl
 less-code Ordering·eq = refl
 less-code Ordering·gt = refl
 
-pub two-less : {s : List ℕ} {i e n c : ℕ} {vs : Values} (t : Two s i e n vs) → Compared s i e c → before (t .here .value) (t .next .value) ≡ eqb c 0
-unfolding before
-two-less t k =
-    let a = t .here in
-    let b = t .next in
-    less-code (order (a .value) (b .value)) ∙ ap (λ (c : ℕ). eqb c 0) (sym (k (a .value) (b .value) (a .stands) (b .stands) (a .fits) (b .fits)))
+module _ {s : List ℕ} {a b : ℕ} {v w : Value} (h : TypedAt s a v) (k : TypedAt s b w) where
+  pub compared-before : {c : ℕ} → Compared s a b c → before v w ≡ eqb c 0
+  unfolding before
+  compared-before f = less-code (order v w) ∙ ap (λ (c : ℕ). eqb c 0) (sym (f v w (h .stands) (k .stands) (h .fits) (k .fits)))
 
--- What a test says of vs it says of those of them that stand from i on.
-pub record Tested (test : Values → Bool) (s : List ℕ) (i left : ℕ) (vs : Values) : Type 0 where
-  pub rest : Values
-  pub row : MembersAt s i left rest
-  pub same : test vs ≡ test rest
-
-pub few-rise : (vs : Values) → count vs ≤ 1 → inOrder vs ≡ true
-few-rise none l = refl
-few-rise (v ▸ none) l = refl
-few-rise (v ▸ w ▸ ws) l = absurd (omega arith)
-
-module _ {s : List ℕ} {i left : ℕ} {vs : Values} (h : Tested inOrder s i left vs) where
-  pub rise-end : left ≤ 1 → true ≡ inOrder vs
-  rise-end l = sym (h .same ∙ few-rise (h .rest) (omega (arith, h .row .counted)))
-
-  module _ (l : 1 < left) {e : ℕ} (ends : EndsAt s i e) where
-    both : Two s i e left (h .rest)
-    both = two (h .rest) (h .row) l ends
-
-    pub rise-second : SomeAt s e
-    rise-second = both .next
-
-    module _ {c : ℕ} (compared : Compared s i e c) where
-      first-two : inOrder vs ≡ (eqb c 0 && inOrder (both .next .value ▸ both .others))
-      first-two = h .same ∙ ap inOrder (both .whole) ∙ rw (two-less both compared)
-
-      pub rise-next : c ≡ 0 → Tested inOrder s e (left - 1) vs
-      rise-next z = record { rest = both .next .value ▸ both .others; row = both .row; same = first-two ∙ rw (eq-eqb c 0 z) }
-
-      pub rise-fails : (c ≡ 0 → ⊥) → false ≡ inOrder vs
-      rise-fails z = sym (first-two ∙ rw (ne-eqb c 0 z))
-
--- A scalar at a and a value at b, by their first cells.
-module _ (s : List ℕ) (a b : ℕ) (low : getD s a 0 < 4 * cellSize) where
-  pub cell-less : getD s a 0 < getD s b 0 → Compared s a b 0
-  cell-less l = found-less s a b (a + 1) 0 (one-cell s a low) (λ j m. absurd (omega arith)) (omega arith) (rw (add-zero a, add-zero b) l)
-
-  pub cell-more : getD s b 0 ≤ getD s a 0 → (c : ℕ) × (c ≡ 0 → ⊥) × Compared s a b c
-  cell-more l = go (decLt (getD s b 0) (getD s a 0))
+  -- A scalar is before a value just where its cell is less than that value's first.
+  pub cells-before : getD s a 0 < 4 * cellSize → before v w ≡ ltb (getD s a 0) (getD s b 0)
+  cells-before low = go (decLt (getD s a 0) (getD s b 0)) (decLt (getD s b 0) (getD s a 0))
     where
+      x : getD s (a + 0) 0 ≡ getD s a 0
+      x = rw (add-zero a)
+
+      y : getD s (b + 0) 0 ≡ getD s b 0
+      y = rw (add-zero b)
+
       same : getD s a 0 ≡ getD s b 0 → (j : ℕ) → j < 1 → getD s (a + j) 0 ≡ getD s (b + j) 0
-      same e j m = let z : j ≡ 0 = omega arith in rw (z, add-zero a, add-zero b) e
+      same e j m = let z : j ≡ 0 = omega arith in rw (z, x, y) e
 
-      go : Dec (getD s b 0 < getD s a 0) → (c : ℕ) × (c ≡ 0 → ⊥) × Compared s a b c
-      go (yes k) = (
-        2,
-        (λ e. omega arith),
-        found-greater s a b (a + 1) 0 (one-cell s a low) (λ j m. absurd (omega arith)) (omega arith) (rw (add-zero a, add-zero b) k),
-      )
-      go (no k) = (1, (λ e. omega arith), found-equal s a b (a + 1) 1 (one-cell s a low) (same (omega arith)) (omega arith))
-
-pub end-inside : (s : List ℕ) (at end : ℕ) → SomeAt s at → EndsAt s at end → (at < end) × (end ≤ length s)
-end-inside s at end p e =
-    let x = e (p .value) (p .stands) (p .fits) in
-    (omega (arith, weight-some (p .value)), omega (arith, p .stands .inside, length-code (p .value)))
+      go : Dec (getD s a 0 < getD s b 0) → Dec (getD s b 0 < getD s a 0) → before v w ≡ ltb (getD s a 0) (getD s b 0)
+      go (yes l) d =
+          compared-before (found-less s a b (a + 1) 0 (one-cell s a low) (λ j m. absurd (omega arith)) (omega arith) (rw (x, y) l)) ∙ sym (lt-ltb _ _ l)
+      go (no n) (yes l) =
+          compared-before (found-greater s a b (a + 1) 0 (one-cell s a low) (λ j m. absurd (omega arith)) (omega arith) (rw (x, y) l)) ∙
+          sym (le-ltb (getD s a 0) (getD s b 0) (omega arith))
+      go (no n) (no m) =
+          compared-before (found-equal s a b (a + 1) 1 (one-cell s a low) (same (omega arith)) (omega arith)) ∙
+          sym (le-ltb (getD s a 0) (getD s b 0) (omega arith))

@@ -4,10 +4,10 @@ use mathlib.Core.Bool.{Bool, _&&_, cond}
 use mathlib.Core.List.{List}
 use mathlib.Core.Path.{_≡_}
 use lib.Dec.{T, eqb, leb}
-use Rattle.rules.specs.Values.{Value, Values, none, _▸_}
+use Rattle.rules.specs.Values.{Value, Values, none, _▸_, count}
 use Rattle.rules.specs.Fits.{typesOf, sharedTypes, inhabited, typed}
-use Rattle.arena.specs.Code.{ValueAt, CellsFit}
-use Rattle.buffer.specs.Ordered.{inOrder, ordered, MembersAt}
+use Rattle.arena.specs.Code.{ValueAt, ValuesAt, CellsFit, AllFit}
+use Rattle.buffer.specs.Ordered.{inOrder, ordered}
 
 -- P holds of each value.
 abbrev pub AllOf : (Value → Type 0) → Values → Type 0
@@ -20,15 +20,13 @@ AllTyped vs = AllOf (λ v. T (inhabited (typesOf v))) vs
 
 -- n values that have types stand from `at` on.
 pub record TypedRow (s : List ℕ) (at n : ℕ) (vs : Values) : Type 0 where
-  pub members : MembersAt s at n vs
+  pub stands : ValuesAt s at vs
+  pub fits : AllFit vs
+  pub counted : n ≡ count vs
   pub typed : AllTyped vs
 
 abbrev pub SomeTypedRow : List ℕ → ℕ → ℕ → Type 0
 SomeTypedRow s at n = (vs : Values) × TypedRow s at n vs
-
--- r says whether they share one.
-abbrev pub Shares : List ℕ → ℕ → ℕ → Bool → Type 0
-Shares s at n r = (vs : Values) → TypedRow s at n vs → r ≡ inhabited (sharedTypes vs)
 
 -- The greatest cell of a scalar that shares a type with the scalar of the cell x.
 abbrev pub mostAlike : ℕ → ℕ

@@ -7,12 +7,9 @@ ghost use Rattle.rules.specs.Tables.{tableOf};
 ghost use Rattle.rules.specs.Readable.{Header};
 ghost use Rattle.buffer.specs.Buffer.{codeOf, cellGood, cellsAtMost, StepTakes, CopyReady, Places};
 ghost use Rattle.arena.specs.Code.{Same};
-ghost use Rattle.buffer.specs.Ordered.{SomeMembersAt, InOrder, WholeValue};
-ghost use Rattle.buffer.specs.Shared.{SomeTypedRow, Shares, mostAlike, MembersFine, setsEnd, Fine};
+ghost use Rattle.buffer.specs.Ordered.{WholeValue};
+ghost use Rattle.buffer.specs.Shared.{SomeTypedRow, mostAlike, MembersFine, setsEnd, Fine};
 ghost use Rattle.buffer.specs.Loaded.{EntryReady, Enters, Loads, LoadReady};
-
-// A cell in the buffer: its payload, its tag times 2^32, and zero bytes from FREE on.
-const FREE: u64 = 256 * arena::CELL;
 
 // A place in the values buffer where a cell may begin.
 pub struct Cursor {
@@ -64,9 +61,7 @@ impl Cursor {
             return Step::End;
         }
         let x = table::word(values, at) as u64 + arena::CELL * table::word(values, at + 4) as u64;
-        if x >= FREE {
-            return Step::End;
-        }
+        // Where the last three bytes are not zero, x has no tag of a value.
         if !good_cell(table, x) {
             return Step::End;
         }
@@ -146,24 +141,6 @@ fn copy_value(table: &[u8], from: Cursor, values: &[u8], s: &mut [u64], top: usi
     Placed::At(c, top + n)
 }
 
-// Whether n values from `at` on rise.
-fn in_order(s: &[u64], at: usize, n: u64) -> bool
-    requires { ⌜ SomeMembersAt (now s) at n ⌝ }
-    ensures { λ r. ⌜ InOrder (now (s .entry)) at n r ⌝ }
-{
-    let mut i = at;
-    let mut left = n;
-    while left > 1 {
-        let e = arena::end_of(s, i);
-        if arena::compare(s, i, e, e) != 0 {
-            return false;
-        }
-        i = e;
-        left -= 1;
-    }
-    true
-}
-
 // How many of k values that share a type stand for all of them: the first, where it has one type only.
 fn few(one: bool, k: u64) -> u64
     ensures { λ r. ⌜ r ≡ cond one 1 k ⌝ }
@@ -174,22 +151,27 @@ fn few(one: bool, k: u64) -> u64
     k
 }
 
-// Whether n values from `at` on share a type.
-fn share(s: &[u64], at: usize, n: u64) -> bool
+// Whether n values from `at` on rise and share a type, value by value.
+fn values_fine(s: &[u64], at: usize, n: u64) -> bool
     requires { ⌜ SomeTypedRow (now s) at n × (0 < n) ⌝ }
-    ensures { λ r. ⌜ Shares (now (s .entry)) at n r ⌝ }
+    ensures { λ r. ⌜ MembersFine (now (s .entry)) at n r ⌝ }
 {
     let end = arena::end_of(s, at);
     // A value with no empty set in it has one type only.
     let one = fitting::full(s, at, end);
-    let mut i = end;
+    let mut i = at;
+    let mut e = end;
     let mut k: u64 = 1;
     while k < n {
-        let m = few(one, k);
-        if !fitting::against(s, i, at, m as usize) {
+        if arena::compare(s, i, e, e) != 0 {
             return false;
         }
-        i = arena::end_of(s, i);
+        let m = few(one, k);
+        if !fitting::against(s, e, at, m as usize) {
+            return false;
+        }
+        i = e;
+        e = arena::end_of(s, i);
         k += 1;
     }
     true
@@ -239,10 +221,7 @@ fn members_fine(s: &[u64], at: usize, n: u64) -> bool
     if s[at] < arena::PAIR {
         return cells_fine(s, at, n);
     }
-    if !in_order(s, at, n) {
-        return false;
-    }
-    share(s, at, n)
+    values_fine(s, at, n)
 }
 
 // Where the cells of sets end in the value from `at` to `end`, whose first cell is x: a set whose members are one cell each has no other set

@@ -5,8 +5,7 @@ use native.Mathlib.Omega.{arith}
 use borrow.Author.Needs.{needs}
 use borrow.Author.Tests.{not-true, not-false}
 use lib.ListN.{length}
-use Rattle.buffer.proofs.Ordering.{end-inside}
-use Rattle.buffer.proofs.FineValues.{FineFrom, from-sets, from-other, from-members, from-set, from-fails, from-start}
+use Rattle.buffer.proofs.FineValues.{end-inside, FineFrom, from-sets, from-other, from-members, from-set, from-fails, from-start}
 use Rattle.buffer.proofs.fine.Statement.{statement}
 use Rattle.buffer.proofs.fine.Tie as tie
 
