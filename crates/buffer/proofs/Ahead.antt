@@ -11,8 +11,8 @@ use lib.IntN.{ℤ, pos, negsuc}
 use lib.ListN.{length, getD, drop}
 use borrow.Author.Tests.{eq-eqb, ne-eqb, le-leb}
 use Rattle.rules.specs.Types.{whole}
-use Rattle.rules.specs.Values.{Scalar, num, truth, element, Value, scalar, pair, set, Values, none, _▸_}
-use Rattle.rules.specs.Values.{scalarTag, scalarPayload, tag, payload, count}
+use Rattle.rules.specs.Values.{num, truth, element, Value, scalar, pair, set, Values, none, _▸_}
+use Rattle.rules.specs.Values.{scalarTag, tag, payload, count}
 use Rattle.rules.specs.Tables.{wordAt}
 use Rattle.rules.specs.Cells.{bytes4, twos, signed, inRange, cell, cells, cellsOf, value, good}
 use Rattle.laws.proofs.EndLaws.{T-and}
@@ -178,10 +178,7 @@ first-drop v X = refl
 -- bytes of a value before others: its first cell, then what follows
 spread : (v : Value) (vs : Values) (rest : List ℕ) → cellsOf (v ▸ vs) ++ rest ≡ cell v ++ (cellsOf (inner v before vs) ++ rest)
 unfolding cells
-spread v vs rest =
-    rw (cells-inner v, cellsOf-before (inner v) vs)
-    (append-assoc (cell v ++ cellsOf (inner v)) (cellsOf vs) rest ∙ append-assoc (cell v) (cellsOf (inner v)) (cellsOf vs ++ rest) ∙
-    ap (λ (l : List ℕ). cell v ++ l) (sym (append-assoc (cellsOf (inner v)) (cellsOf vs) rest)))
+spread v vs rest = rw (cells-inner v, cellsOf-before (inner v) vs) (simp append-assoc)
 
 spread-code : (v : Value) (vs : Values) → Encodable v → codes (v ▸ vs) ≡ codeOf (firstOf v) ∷ codes (inner v before vs)
 unfolding code
@@ -212,60 +209,6 @@ onward {gs} {bs} {rest = rest} (v ▸ vs) h l =
       );
     }
 
--- A value whose first cell has the tag t and the payload q, and the values behind it.
-record Built (gs : List ℕ) (t q p : ℕ) (vs : Values) : Type 0 where
-  first : Value
-  others : Values
-  whole : vs ≡ inner first before others
-  tagged : tag first ≡ t
-  paid : twos (payload first) ≡ q
-  held : Held gs first × AllHeld gs others
-  counted : count others ≡ p
-
-module _ (gs : List ℕ) (q p : ℕ) (w : Word q) where
-  build-pair : (vs : Values) → count vs ≡ p + 2 → q ≡ 0 → AllHeld gs vs → Built gs 4 q p vs
-  unfolding twos
-  build-pair none c z h = absurd (omega arith)
-  build-pair (a ▸ none) c z h = absurd (omega arith)
-  build-pair (a ▸ b ▸ vs) c z h = record {
-    first = pair a b;
-    others = vs;
-    whole = refl;
-    tagged = refl;
-    paid = sym z;
-    held = (((h .0 .0, h .1 .0 .0), and-of (scalarsGood gs a) (scalarsGood gs b) (h .0 .1) (h .1 .0 .1)), h .1 .1);
-    counted = omega arith;
-  }
-
-  build-set : (vs : Values) → count vs ≡ p + q → AllHeld gs vs → Built gs 5 q p vs
-  unfolding twos
-  build-set vs c h =
-      let s = split q vs (omega arith) in
-      let k = all-before (Held gs) (s .front) (s .back) .0 (subst (AllHeld gs) (s .whole) h) in
-      let e = held-all gs (s .front) .0 (k .0) in
-      record {
-        first = set (s .front);
-        others = s .back;
-        whole = s .whole;
-        tagged = refl;
-        paid = s .counted;
-        held = (((omega (arith, s .counted), e .0), e .1), k .1);
-        counted = omega (arith, s .counted, ap count (s .whole), count-before (s .front) (s .back));
-      }
-
-  build-scalar : (x : Scalar) (vs : Values) → twos (scalarPayload x) ≡ q → Held gs (scalar x) → count vs ≡ p + 0 → AllHeld gs vs → Built gs (scalarTag x) q p vs
-  build-scalar x vs e k c h = record { first = scalar x; others = vs; whole = refl; tagged = refl; paid = e; held = (k, h); counted = omega arith }
-
-  build : (t : ℕ) (vs : Values) → T (tagGood gs t q) → count vs ≡ p + partsBy t q → AllHeld gs vs → Built gs t q p vs
-  unfolding twos
-  build zero vs k c h = absurd k
-  build (suc zero) vs k c h = build-scalar (num whole (signed q)) vs (twos-signed q w) (signed-range q w, signed-range q w) c h
-  build (suc (suc zero)) vs k c h = build-scalar (truth (eqb q 1)) vs (bit-eqb q (ltb→lt q 2 k)) (tt, tt) c h
-  build (suc (suc (suc zero))) vs k c h = build-scalar (element (q / 256) (q % 256)) vs (omega arith) ((omega arith, omega arith), k) c h
-  build (suc (suc (suc (suc zero)))) vs k c h = build-pair vs c (eqb→eq q 0 k) h
-  build (suc (suc (suc (suc (suc zero))))) vs k c h = build-set vs c h
-  build (suc (suc (suc (suc (suc (suc n)))))) vs k c h = absurd k
-
 -- The eight bytes of a cell are the first cell of a value with its tag and payload.
 cell-bytes : (bs : List ℕ) (v : Value) → Bytes bs → T (cellFirst bs) → tag v ≡ getD bs 4 0 → twos (payload v) ≡ wordAt bs 0 → bs ≡ cell v ++ drop 8 bs
 unfolding cell
@@ -279,30 +222,53 @@ cell-bytes bs v b k t w =
     (byte-at bs 0 b) (byte-at bs 1 b) (byte-at bs 2 b) (byte-at bs 3 b) in
     eight bs (c .0) ∙ cell-parts (bytes4 (twos (payload v))) _ _ _ _ _ _ _ _ _ _ (rw w q) t z₅ z₆ z₇
 
--- One cell back.
-pub back : {gs bs : List ℕ} {p : ℕ} {cs rest : List ℕ} → Bytes bs → T (cellFirst bs) → 0 < p → T (cellGood gs (firstCell bs)) →
-    Ahead gs (drop 8 bs) (p - 1 + partsOf (firstCell bs)) cs rest → Ahead gs bs p (codeOf (firstCell bs) ∷ cs) rest
-unfolding cellGood
-back {gs} {bs} {p} {cs} {rest} b k l g a =
-    let vs = a .0 in
-    let h = a .1 in
-    let wd = word-at bs 0 b in
-    let t : firstCell bs / cellSize ≡ getD bs 4 0 = omega arith in
-    let q : firstCell bs % cellSize ≡ wordAt bs 0 = omega arith in
-    let g′ : T (tagGood gs (getD bs 4 0) (wordAt bs 0)) = rw (t, q) at g in
-    let c : count vs ≡ (p - 1) + partsBy (getD bs 4 0) (wordAt bs 0) = h .counted ∙ rw (t, q) in
-    let r = build gs (wordAt bs 0) (p - 1) wd (getD bs 4 0) vs g′ c (h .held) in
-    let v = r .first in
-    let f : firstOf v ≡ firstCell bs = omega (arith, r .tagged, r .paid) in
-    let n : drop 8 bs ≡ cellsOf (inner v before r .others) ++ rest = h .bytes ∙ ap (λ (ws : Values). cellsOf ws ++ rest) (r .whole) in (
-      v ▸ r .others,
-      record {
-        counted = omega (arith, r .counted);
-        bytes = cell-bytes bs v b k (r .tagged) (r .paid) ∙ ap (λ (l : List ℕ). cell v ++ l) n ∙ sym (spread v (r .others) rest);
-        coded = spread-code v (r .others) (r .held .0 .0) ∙ rw (f, ← r .whole, h .coded);
-        held = r .held;
-      },
-    )
+-- One cell back: the value v has the cell, and us stand behind it.
+module _ {gs bs : List ℕ} {p : ℕ} {cs rest : List ℕ} (b : Bytes bs) (k : T (cellFirst bs)) (l : 0 < p) where
+  back-to : (v : Value) (us : Values) {m : ℕ} → tag v ≡ getD bs 4 0 → twos (payload v) ≡ wordAt bs 0 → Held gs v → count (inner v) ≡ m →
+      CellsOf gs (drop 8 bs) (p - 1 + m) cs rest (inner v before us) → Ahead gs bs p (codeOf (firstCell bs) ∷ cs) rest
+  back-to v us t q g m h =
+      let f : firstOf v ≡ firstCell bs = omega arith in (
+        v ▸ us,
+        record {
+          counted = omega (arith, h .counted, count-before (inner v) us);
+          bytes = cell-bytes bs v b k t q ∙ ap (λ (ds : List ℕ). cell v ++ ds) (h .bytes) ∙ sym (spread v us rest);
+          coded = spread-code v us (g .0) ∙ rw (f, h .coded);
+          held = (g, all-before (Held gs) (inner v) us .0 (h .held) .1);
+        },
+      )
+
+  -- by the tag t and the payload q
+  module _ {q : ℕ} (w : q ≡ wordAt bs 0) where
+    back-by : (t : ℕ) → t ≡ getD bs 4 0 → T (tagGood gs t q) → (vs : Values) → CellsOf gs (drop 8 bs) (p - 1 + partsBy t q) cs rest vs →
+        Ahead gs bs p (codeOf (firstCell bs) ∷ cs) rest
+    unfolding twos
+    back-by zero e g vs h = absurd g
+    back-by (suc zero) e g vs h =
+        let o : Word q = omega (arith, word-at bs 0 b) in
+        back-to (scalar (num whole (signed q))) vs e (twos-signed q o ∙ w) (signed-range q o, signed-range q o) refl h
+    back-by (suc (suc zero)) e g vs h = back-to (scalar (truth (eqb q 1))) vs e (bit-eqb q (ltb→lt q 2 g) ∙ w) (tt, tt) refl h
+    back-by (suc (suc (suc zero))) e g vs h =
+        let o = word-at bs 0 b in
+        back-to (scalar (element (q / 256) (q % 256))) vs e (omega arith) ((omega arith, omega arith), g) refl h
+    back-by (suc (suc (suc (suc zero)))) e g none h = absurd (omega (arith, h .counted))
+    back-by (suc (suc (suc (suc zero)))) e g (u ▸ none) h = absurd (omega (arith, h .counted))
+    back-by (suc (suc (suc (suc zero)))) e g (u ▸ v ▸ vs) h =
+        let i = h .held in
+        let j = and-of (scalarsGood gs u) (scalarsGood gs v) (i .0 .1) (i .1 .0 .1) in
+        back-to (pair u v) vs e (sym (eqb→eq q 0 g) ∙ w) ((i .0 .0, i .1 .0 .0), j) refl h
+    back-by (suc (suc (suc (suc (suc zero))))) e g vs h =
+        let o = word-at bs 0 b in
+        let s = split q vs (omega (arith, h .counted)) in
+        let i = subst (CellsOf gs (drop 8 bs) (p - 1 + q) cs rest) (s .whole) h in
+        let j = held-all gs (s .front) .0 (all-before (Held gs) (s .front) (s .back) .0 (i .held) .0) in
+        back-to (set (s .front)) (s .back) e (s .counted ∙ w) ((omega (arith, s .counted), j .0), j .1) (s .counted) i
+    back-by (suc (suc (suc (suc (suc (suc n)))))) e g vs h = absurd g
+
+  pub back : T (cellGood gs (firstCell bs)) → Ahead gs (drop 8 bs) (p - 1 + partsOf (firstCell bs)) cs rest → Ahead gs bs p (codeOf (firstCell bs) ∷ cs) rest
+  unfolding cellGood
+  back g a =
+      let o = word-at bs 0 b in
+      back-by {q = firstCell bs % cellSize} (omega arith) (firstCell bs / cellSize) (omega arith) g (a .0) (a .1)
 
 -- A good value that is read is ahead.
 pub ahead-read : (gs bs : List ℕ) (v : Value) (rest : List ℕ) → Sizes gs → Bytes bs → value bs ≡ some (v, rest) → T (good gs v) →

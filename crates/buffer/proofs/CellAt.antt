@@ -15,23 +15,12 @@ use Rattle.buffer.specs.declared.Step.the-variants.{End}
 use Rattle.laws.proofs.EndLaws.{T-true, T-false, T-and, T-leb, T-eqb}
 use Rattle.buffer.specs.Buffer.{cellFirst, firstCell, codeOf, tagGood, cellGood, GoodCell, StepTakes}
 
--- a byte further on
-ahead : (bs : List ℕ) (i k : ℕ) → getD bs (i + k) 0 ≡ getD bs (k + i) 0
-ahead bs i k = ap (λ (j : ℕ). getD bs j 0) (let e : i + k ≡ k + i = omega arith in e)
-
-pub word-drop : (bs : List ℕ) (at : ℕ) → wordAt (drop at bs) 0 ≡ wordAt bs at
-word-drop bs at =
-    omega (
-      arith,
-      getD-drop at bs 0 0,
-      getD-drop at bs 1 0,
-      getD-drop at bs 2 0,
-      getD-drop at bs 3 0,
-      ap (λ (j : ℕ). getD bs j 0) (add-zero at),
-      ahead bs at 1,
-      ahead bs at 2,
-      ahead bs at 3,
-    )
+word-drop : (bs : List ℕ) (at k : ℕ) → wordAt bs (at + k) ≡ wordAt (drop at bs) k
+word-drop bs at k =
+    let e₁ : 1 + (at + k) ≡ at + (1 + k) = omega arith in
+    let e₂ : 2 + (at + k) ≡ at + (2 + k) = omega arith in
+    let e₃ : 3 + (at + k) ≡ at + (3 + k) = omega arith in
+    rw (e₁, e₂, e₃) (omega (arith, getD-drop at bs k 0, getD-drop at bs (1 + k) 0, getD-drop at bs (2 + k) 0, getD-drop at bs (3 + k) 0))
 
 -- A cell: there are eight bytes, and the last three are zero.
 pub first-right : (ds : List ℕ) → T (cellFirst ds) ↔ ((8 ≤ length ds) × (getD ds 5 0 + getD ds 6 0 + getD ds 7 0 ≡ 0))
@@ -42,15 +31,6 @@ cell-held bs at h = omega (arith, first-right (drop at bs) .0 h .0, length-drop 
 
 pub cell-short : (gs bs : List ℕ) (at : ℕ) → length bs < at + 8 → StepTakes gs bs at End
 cell-short gs bs at l h k = omega (arith, cell-held bs at h)
-
--- The second word of the eight bytes: the tag, and the three bytes that are to be zero.
-high-word : (bs : List ℕ) (at : ℕ) →
-    wordAt bs (at + 4) ≡ getD (drop at bs) 4 0 + 256 * getD (drop at bs) 5 0 + 65536 * getD (drop at bs) 6 0 + 16777216 * getD (drop at bs) 7 0
-high-word bs at =
-    let e : 1 + (at + 4) ≡ at + 5 = omega arith in
-    let f : 2 + (at + 4) ≡ at + 6 = omega arith in
-    let g : 3 + (at + 4) ≡ at + 7 = omega arith in
-    rw (getD-drop at bs 4 0, getD-drop at bs 5 0, getD-drop at bs 6 0, getD-drop at bs 7 0, ← e, ← f, ← g) (omega arith)
 
 -- The tag of a good cell is small, so that those three are zero.
 tag-small : (gs : List ℕ) (t p : ℕ) → T (tagGood gs t p) → t < 6
@@ -64,8 +44,12 @@ tag-small gs (suc (suc (suc (suc (suc (suc n)))))) p h = absurd h
 
 -- The cell of two words, good or not.
 module _ (gs bs : List ℕ) (at p q : ℕ) (low : p ≡ wordAt bs at) (high : q ≡ wordAt bs (at + 4)) where
+  -- the second is the tag, and the three bytes that are to be zero
+  words : (p ≡ wordAt (drop at bs) 0) × (q ≡ wordAt (drop at bs) 4)
+  words = (low ∙ ap (wordAt bs) (sym (add-zero at)) ∙ word-drop bs at 0, high ∙ word-drop bs at 4)
+
   cell-number : T (cellFirst (drop at bs)) → p + 4294967296 * q ≡ firstCell (drop at bs)
-  cell-number h = omega (arith, first-right (drop at bs) .0 h .1, high-word bs at, word-drop bs at)
+  cell-number h = omega (arith, first-right (drop at bs) .0 h .1, words)
 
   pub cell-bad : {r : Bool} → r ≡ cellGood gs (p + 4294967296 * q) → r ≡ false → StepTakes gs bs at End
   cell-bad e f h k = T-false (cellGood gs (p + 4294967296 * q)) .1 (sym e ∙ f) (rw (cell-number h) k)
@@ -76,7 +60,7 @@ module _ (gs bs : List ℕ) (at p q : ℕ) (low : p ≡ wordAt bs at) (high : q 
       let x = p + 4294967296 * q in
       let g = T-true (cellGood gs x) .1 (sym e ∙ f) in
       let z : q < 6 = omega (arith, tag-small gs (x / 4294967296) (x % 4294967296) g) in
-      let w = high-word bs at in
+      let w = words in
       let h = first-right (drop at bs) .1 (omega (arith, length-drop at bs), omega arith) in
       record { here = h; number = cell-number h; good = g; behind = refl }
 

@@ -38,9 +38,7 @@ module _ {gs bs : List ℕ} {at : ℕ} {s : List ℕ} {top next end : ℕ} (h : 
 
   same-read : (v : Value) (rest : List ℕ) → value (drop at bs) ≡ some (v, rest) → v ≡ h .first
   same-read v rest e =
-      let p : _≡_ {A = Option (Value × List ℕ)} (some (v, rest)) (some (h .first, drop next bs)) = sym e ∙ h .reads in
-      let q : _≡_ {A = Value × List ℕ} (v, rest) (h .first, drop next bs) = cc in
-      ap (λ (z : Value × List ℕ). z .0) q
+      let q : _≡_ {A = Value × List ℕ} (v, rest) (h .first, drop next bs) = cc (h .reads) in ap (λ (z : Value × List ℕ). z .0) q
 
   pub read-bad : Fine s top false → Unread gs bs at
   read-bad o v rest e g =

@@ -60,17 +60,19 @@ pub record Walk (gs bs : List ℕ) (from at left n : ℕ) (s₀ s : List ℕ) (t
   pub frame : Same top s₀ s
   pub spent : at ≡ from + 8 * n
   pub held : 8 * n ≤ length bs - from
+  pub bytes : Bytes bs
   pub whole : (cs rest : List ℕ) → Ahead gs (drop at bs) left cs rest → Ahead gs (drop from bs) 1 (written ++ cs) rest
   pub partly : (es rest : List ℕ) → Ahead gs (drop from bs) 1 es rest → (cs : List ℕ) × (es ≡ written ++ cs) × Ahead gs (drop at bs) left cs rest
 
-pub walk-start : (gs bs : List ℕ) (from : ℕ) (s : List ℕ) (top : ℕ) → top ≤ length s → Walk gs bs from from 1 0 s s top
-walk-start gs bs from s top l = record {
+pub walk-start : (gs bs : List ℕ) (from : ℕ) (s : List ℕ) (top : ℕ) → Bytes bs → top ≤ length s → Walk gs bs from from 1 0 s s top
+walk-start gs bs from s top b l = record {
   written = [];
   long = refl;
   stands = record { inside = omega arith; cells = λ i p. absurd (omega arith) };
   frame = same-refl top s;
   spent = omega arith;
   held = omega arith;
+  bytes = b;
   whole = λ cs rest a. a;
   partly = λ es rest a. (es, refl, a);
 }
@@ -91,14 +93,13 @@ pub walk-room : {gs bs : List ℕ} {from at left n : ℕ} {s₀ s : List ℕ} {t
     GoodCell gs bs at x next → n < 256 → top + cellsAtMost 1 (length bs - from) ≤ length s₀ → top + n < length s
 walk-room {bs = bs} {at = at} h g l r = let m = cell-held bs at (g .here) in omega (arith, h .spent, h .frame .kept)
 
-module _ {gs bs : List ℕ} {from at left n : ℕ} {s₀ s : List ℕ} {top : ℕ} (b : Bytes bs) (h : Walk gs bs from at left n s₀ s top) (l : 0 < left) where
+module _ {gs bs : List ℕ} {from at left n : ℕ} {s₀ s : List ℕ} {top : ℕ} (h : Walk gs bs from at left n s₀ s top) (l : 0 < left) where
   pub walk-step : (x next y k : ℕ) → GoodCell gs bs at x next → y ≡ codeOf x → k ≡ partsOf x → top + n < length s →
       Walk gs bs from next (left - 1 + k) (n + 1) s₀ (setAt s (top + n) y) top
   walk-step x next y k g e f m =
       let s′ = setAt s (top + n) y in
       let w = set-same s (top + n) (top + n) y (omega arith) in
       let ds = drop at bs in
-      let b′ = bytes-drop at bs b in
       let d : drop next bs ≡ drop 8 ds = ap (λ (j : ℕ). drop j bs) (g .behind) ∙ sym (drop-drop 8 at bs) in
       let c : y ≡ codeOf (firstCell ds) = e ∙ ap codeOf (g .number) in
       let q : k ≡ partsOf (firstCell ds) = f ∙ ap partsOf (g .number) in
@@ -110,16 +111,16 @@ module _ {gs bs : List ℕ} {from at left n : ℕ} {s₀ s : List ℕ} {top : �
         frame = same-trans top (top + n) s₀ s s′ (h .frame) w (omega arith);
         spent = omega (arith, g .behind, h .spent);
         held = omega (arith, cell-held bs at (g .here), h .spent);
+        bytes = h .bytes;
         whole = λ cs rest a.
             let a′ : Ahead gs (drop 8 ds) (left - 1 + partsOf (firstCell ds)) cs rest = rw (← d, ← q) a in
-            let r = h .whole (codeOf (firstCell ds) ∷ cs) rest (back b′ (g .here) l (rw (g .number) at (g .good)) a′) in
+            let r = h .whole (codeOf (firstCell ds) ∷ cs) rest (back (bytes-drop at bs (h .bytes)) (g .here) l (rw (g .number) at (g .good)) a′) in
             rw (append-assoc (h .written) (y ∷ []) cs, c) r;
         partly = λ es rest a.
             let p = h .partly es rest a in
             let o = onward (p .2 .0) (p .2 .1) l in (
               o .left,
-              p .1 ∙ ap (λ (z : List ℕ). h .written ++ z) (o .coded) ∙ ap (λ (z : ℕ). h .written ++ (z ∷ o .left)) (sym c) ∙
-                  sym (append-assoc (h .written) (y ∷ []) (o .left)),
+              p .1 ∙ ap (λ (z : List ℕ). h .written ++ z) (o .coded) ∙ rw (← c, append-assoc (h .written) (y ∷ []) (o .left)),
               rw (d, q) (o .next),
             );
       }
@@ -127,7 +128,7 @@ module _ {gs bs : List ℕ} {from at left n : ℕ} {s₀ s : List ℕ} {top : �
   -- What is left of a good value, where one is read.
   module _ (z : Sizes gs) (v : Value) (rest : List ℕ) (e : value (drop from bs) ≡ some (v, rest)) (g : T (good gs v)) where
     ahead : (cs : List ℕ) × (code v ≡ h .written ++ cs) × Ahead gs (drop at bs) left cs rest
-    ahead = h .partly (code v) rest (ahead-read gs (drop from bs) v rest z (bytes-drop from bs b) e g)
+    ahead = h .partly (code v) rest (ahead-read gs (drop from bs) v rest z (bytes-drop from bs (h .bytes)) e g)
 
     pub walk-none : StepTakes gs bs at End → ⊥
     walk-none t = let o = onward (ahead .2 .0) (ahead .2 .1) l in t (o .here) (o .good)

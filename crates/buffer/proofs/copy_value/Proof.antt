@@ -5,7 +5,7 @@ use native.Mathlib.Omega.{arith}
 use borrow.Author.Needs.{needs}
 use lib.ListN.{length}
 use Rattle.rules.specs.Tables.{tableOf}
-use Rattle.laws.proofs.CellsLaws.{Bytes, Sizes}
+use Rattle.laws.proofs.CellsLaws.{Sizes}
 use Rattle.buffer.specs.declared.Step.{Step}
 use Rattle.buffer.specs.Buffer.{StepTakes, GoodCell}
 use Rattle.buffer.proofs.Walk.{Walk, bytes-all, readable-sizes, walk-start, walk-room, walk-step, walk-none, walk-heavy, walk-end}
@@ -19,15 +19,12 @@ Inv-loop table values s₀ top c₀ n₀ left₀ s c n left =
 abbrev μ-loop : tie.MeasureT-loop
 μ-loop table values s₀ top c₀ n₀ left₀ s c n left = 256 - n
 
--- Before the loop: what was lent, and that the buffer holds bytes.
+-- Before the loop: what was lent.
 abbrev Begun : Type 0
 Begun = tie.After-slice-known Inv-loop μ-loop
 
 abbrev lent : Begun → tie.Start Inv-loop μ-loop
 lent b = b .before .before .before
-
-bytes : (b : Begun) → Bytes (lent b .args .values .now)
-bytes b = bytes-all (lent b .args .values .now) (λ i l. omega (arith, b .before .shared-slice-known2 .given i))
 
 -- A turn of the loop; the cell has been taken, or none is there; it is a good cell.
 abbrev Turn : Type 0
@@ -71,7 +68,8 @@ coded c = c .before .before
 loop-holds : tie.Need-loop-holds Inv-loop μ-loop
 loop-holds c =
     let p = lent c in
-    (omega arith, omega arith, walk-start _ _ (p .args .from .at) _ _ (omega (arith, p .pre .room)))
+    let b = bytes-all (p .args .values .now) (λ i l. omega (arith, c .before .shared-slice-known2 .given i)) in
+    (omega arith, omega arith, walk-start _ _ (p .args .from .at) _ _ b (omega (arith, p .pre .room)))
 
 returns : tie.Need-returns Inv-loop μ-loop
 returns c =
@@ -79,7 +77,7 @@ returns c =
     let i = l .before .loop .inv in (
       i .2 .frame,
       λ v rest e g.
-          walk-heavy (bytes (begun l)) (i .2) (l .loop-test .taken) (sizes l) v rest e g (omega (arith, c .if1 .taken, i .0)),
+          walk-heavy (i .2) (l .loop-test .taken) (sizes l) v rest e g (omega (arith, c .if1 .taken, i .0)),
     )
 
 returns-2 : tie.Need-returns-2 Inv-loop μ-loop
@@ -89,7 +87,7 @@ returns-2 c =
     let i = l .before .loop .inv in (
       i .2 .frame,
       λ v rest e g.
-          walk-none (bytes (begun l)) (i .2) (l .loop-test .taken) (sizes l) v rest e g (subst (Takes k) (c .enum-told .given .1) (k .next .ensures)),
+          walk-none (i .2) (l .loop-test .taken) (sizes l) v rest e g (subst (Takes k) (c .enum-told .given .1) (k .next .ensures)),
     )
 
 room : (c : tie.After-code-cell Inv-loop μ-loop) →
@@ -107,7 +105,7 @@ loop-again c =
     let l = turn k in (
       omega (arith, few k),
       omega (arith, k .before .if1 .left, c .parts .ensures .1),
-      walk-step (bytes (begun l)) (l .before .loop .inv .2) (l .loop-test .taken)
+      walk-step (l .before .loop .inv .2) (l .loop-test .taken)
           _ _ _ _ (cell m) (d .code-cell .ensures) (c .parts .ensures .0) (room d),
     )
 
