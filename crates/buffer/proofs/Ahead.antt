@@ -23,7 +23,6 @@ use Rattle.arena.proofs.Standing.{_before_, codes-before, count-before}
 use Rattle.buffer.specs.Buffer.{cellFirst, firstCell, codeOf, tagGood, cellGood, scalarsGood, allGood}
 use Rattle.buffer.specs.Shared.{AllOf}
 use Rattle.buffer.proofs.CellAt.{first-right}
-use Rattle.buffer.proofs.Goodness.{good-scalars}
 use Rattle.rules.proofs.Basics.{and-of}
 
 cellsOf-before : (vs ws : Values) → cellsOf (vs before ws) ≡ cellsOf vs ++ cellsOf ws
@@ -165,15 +164,14 @@ pub record Onward (gs bs : List ℕ) (p : ℕ) (cs rest : List ℕ) : Type 0 whe
   pub coded : cs ≡ codeOf (firstCell bs) ∷ left
   pub next : Ahead gs (drop 8 bs) (p - 1 + partsOf (firstCell bs)) left rest
 
-first-here : (v : Value) (X : List ℕ) → Word (twos (payload v)) → (cellFirst (cell v ++ X) ≡ true) × (firstCell (cell v ++ X) ≡ firstOf v)
+first-here : (v : Value) (X : List ℕ) → Word (twos (payload v)) →
+    (cellFirst (cell v ++ X) ≡ true) × (firstCell (cell v ++ X) ≡ firstOf v) × (drop 8 (cell v ++ X) ≡ X)
 unfolding cell
-first-here v X h =
-    let p = twos (payload v) in
-    (rw (le-leb 8 (length (cell v ++ X)) (omega arith)), ap (λ (n : ℕ). tag v * cellSize + n) (word-bytes p (tag v ∷ 0 ∷ 0 ∷ 0 ∷ X) h))
-
-first-drop : (v : Value) (X : List ℕ) → drop 8 (cell v ++ X) ≡ X
-unfolding cell
-first-drop v X = refl
+first-here v X h = (
+  rw (le-leb 8 (length (cell v ++ X)) (omega arith)),
+  ap (λ (n : ℕ). tag v * cellSize + n) (word-bytes (twos (payload v)) (tag v ∷ 0 ∷ 0 ∷ 0 ∷ X) h),
+  refl,
+)
 
 -- bytes of a value before others: its first cell, then what follows
 spread : (v : Value) (vs : Values) (rest : List ℕ) → cellsOf (v ▸ vs) ++ rest ≡ cell v ++ (cellsOf (inner v before vs) ++ rest)
@@ -202,7 +200,7 @@ onward {gs} {bs} {rest = rest} (v ▸ vs) h l =
         inner v before vs,
         record {
           counted = rw (x, g .1) (omega (arith, count-before (inner v) vs, h .counted));
-          bytes = ap (drop 8) f ∙ first-drop v X;
+          bytes = ap (drop 8) f ∙ q .2;
           coded = refl;
           held = all-before (Held gs) (inner v) vs .1 (held-inner gs v k, h .held .1);
         },
@@ -271,16 +269,16 @@ module _ {gs bs : List ℕ} {p : ℕ} {cs rest : List ℕ} (b : Bytes bs) (k : T
       back-by {q = firstCell bs % cellSize} (omega arith) (firstCell bs / cellSize) (omega arith) g (a .0) (a .1)
 
 -- A good value that is read is ahead.
-pub ahead-read : (gs bs : List ℕ) (v : Value) (rest : List ℕ) → Sizes gs → Bytes bs → value bs ≡ some (v, rest) → T (good gs v) →
+pub ahead-read : (gs bs : List ℕ) (v : Value) (rest : List ℕ) → Sizes gs → Bytes bs → value bs ≡ some (v, rest) → T (good gs v) → T (scalarsGood gs v) →
     Ahead gs bs 1 (code v) rest
 unfolding cells code
-ahead-read gs bs v rest z b e g = (
+ahead-read gs bs v rest z b e g k = (
   v ▸ none,
   record {
     counted = refl;
     bytes = cells-value bs v rest b e ∙ ap (λ (l : List ℕ). l ++ rest) (sym (append-nil (cells v)));
     coded = append-nil (code v);
-    held = ((encodable-wellFormed gs z v (omega (arith, good-weight gs v g)) (good-wellFormed gs v g), good-scalars gs v g), tt);
+    held = ((encodable-wellFormed gs z v (omega (arith, good-weight gs v g)) (good-wellFormed gs v g), k), tt);
   },
 )
 

@@ -6,7 +6,8 @@ use mathlib.Core.List.{List}
 use mathlib.Core.Path.{_≡_, refl, sym, ap, _∙_}
 use native.Mathlib.Omega.{arith}
 use native.Mathlib.Nat.{add-zero}
-use lib.Dec.{T}
+use native.Mathlib.Decide.{decLt}
+use lib.Dec.{T, eqb}
 use lib.ListN.{length, getD, drop, length-drop}
 use lib.Seq.{getD-drop}
 use borrow.Author.Tests.{eq-eqb, ne-eqb}
@@ -32,15 +33,27 @@ cell-held bs at h = omega (arith, first-right (drop at bs) .0 h .0, length-drop 
 pub cell-short : (gs bs : List ℕ) (at : ℕ) → length bs < at + 8 → StepTakes gs bs at End
 cell-short gs bs at l h k = omega (arith, cell-held bs at h)
 
--- The tag of a good cell is small, so that those three are zero.
+-- Good cells, by the tag.
+pub good-by : (gs : List ℕ) (x t p k : ℕ) → t ≡ x / 4294967296 → p ≡ x % 4294967296 → t ≡ k → tagGood gs k p ≡ cellGood gs x
+unfolding cellGood
+good-by gs x t p k e f g = rw (← g, e, f)
+
+pub good-last : (gs : List ℕ) (t p : ℕ) → (t ≡ 1 → ⊥) → (t ≡ 2 → ⊥) → (t ≡ 3 → ⊥) → (t ≡ 4 → ⊥) → eqb t 5 ≡ tagGood gs t p
+good-last gs zero p a b c d = refl
+good-last gs (suc zero) p a b c d = absurd (a refl)
+good-last gs (suc (suc zero)) p a b c d = absurd (b refl)
+good-last gs (suc (suc (suc zero))) p a b c d = absurd (c refl)
+good-last gs (suc (suc (suc (suc zero)))) p a b c d = absurd (d refl)
+good-last gs (suc (suc (suc (suc (suc zero))))) p a b c d = refl
+good-last gs (suc (suc (suc (suc (suc (suc n)))))) p a b c d = ne-eqb (suc (suc (suc (suc (suc (suc n)))))) 5 (λ e. omega arith)
+
+-- Their tags are small, so that the three bytes behind the tag are zero.
 tag-small : (gs : List ℕ) (t p : ℕ) → T (tagGood gs t p) → t < 6
-tag-small gs zero p h = omega arith
-tag-small gs (suc zero) p h = omega arith
-tag-small gs (suc (suc zero)) p h = omega arith
-tag-small gs (suc (suc (suc zero))) p h = omega arith
-tag-small gs (suc (suc (suc (suc zero)))) p h = omega arith
-tag-small gs (suc (suc (suc (suc (suc zero))))) p h = omega arith
-tag-small gs (suc (suc (suc (suc (suc (suc n)))))) p h = absurd h
+tag-small gs t p h = go (decLt t 5)
+  where
+    go : Dec (t < 5) → t < 6
+    go (yes l) = omega arith
+    go (no l) = omega (arith, T-eqb t 5 .0 (rw (good-last gs t p (λ e. omega arith) (λ e. omega arith) (λ e. omega arith) (λ e. omega arith)) h))
 
 -- The cell of two words, good or not.
 module _ (gs bs : List ℕ) (at p q : ℕ) (low : p ≡ wordAt bs at) (high : q ≡ wordAt bs (at + 4)) where

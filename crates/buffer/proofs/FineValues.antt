@@ -11,8 +11,9 @@ use lib.Dec.{T}
 use lib.ListN.{length, getD}
 use Rattle.rules.specs.Values.{Value, scalar, pair, set, Values, none, _▸_, tag, count, weight, weights}
 use Rattle.rules.specs.Fits.{typesOf, sharedTypes, inhabited, typed}
+use Rattle.rules.specs.Cells.{good, wellFormed, risingAll, weightLimit}
 use Rattle.laws.proofs.EndLaws.{T-true, T-false, T-and, T-leb, T-eqb}
-use Rattle.laws.proofs.CellsLaws.{weight-some, count-weights}
+use Rattle.laws.proofs.CellsLaws.{weight-some, count-weights, good-wellFormed}
 use Rattle.arena.specs.Code.{cellSize, code, codes, Stands, ValueAt, ValuesAt, CellsFit, AllFit, SomeAt, EndsAt}
 use Rattle.arena.proofs.CodeLaws.{length-code}
 use Rattle.arena.proofs.FrontLaws.{single}
@@ -20,9 +21,10 @@ use Rattle.arena.proofs.Standing.{stands-tail, _before_, codes-before, weights-
 use Rattle.arena.proofs.ValueParts.{first-cell}
 use Rattle.fitting.proofs.Cells.{first-stands, members-stand, scalar-low}
 use Rattle.fitting.proofs.Sharing.{left-typed, right-typed}
-use Rattle.buffer.specs.Ordered.{ordered, orderedAll}
+use Rattle.buffer.specs.Ordered.{ordered, orderedAll, inOrder}
 use Rattle.buffer.specs.Shared.{AllOf, AllTyped, TypedRow, SomeTypedRow, fineMembers, MembersFine, isFlat, setsEnd}
 use Rattle.buffer.proofs.Ahead.{inner, all-before, code-head}
+use Rattle.buffer.specs.Buffer.{scalarsGood, allGood}
 
 -- Values that are fine: the members of a set are where it is, and share a type.
 abbrev IsFine : Value → Type 0
@@ -138,14 +140,13 @@ abbrev pub FineFrom : List ℕ → ℕ → ℕ → Type 0
 FineFrom s at i = (v : Value) → ValueAt s at v → CellsFit v → AllOf IsFine (after (i - at) (v ▸ none))
 
 module _ {s : List ℕ} {at end : ℕ} (e : EndsAt s at end) (v : Value) (h : ValueAt s at v) (f : CellsFit v) where
-  reach : (n : ℕ) → at + n ≤ end → Left s (at + n) end (after n (v ▸ none))
-  reach zero l = rw (add-zero at) (record { stands = rw (single v) h; fits = (f, tt); ends = omega (arith, e v h f) })
-  reach (suc n) l =
-      let p : at + n + 1 ≡ at + suc n = omega arith in
-      subst (λ (j : ℕ). Left s j end (after (suc n) (v ▸ none))) p (left-next (after n (v ▸ none)) (reach n (omega arith)) (omega arith))
-
-  reached : (i : ℕ) → at ≤ i → i ≤ end → Left s i end (after (i - at) (v ▸ none))
-  reached i a b = let p : at + (i - at) ≡ i = omega arith in subst (λ (j : ℕ). Left s j end (after (i - at) (v ▸ none))) p (reach (i - at) (omega arith))
+  reach : (n : ℕ) {j : ℕ} → at + n ≡ j → j ≤ end → Left s j end (after n (v ▸ none))
+  reach zero q l =
+      let p : at ≡ _ = sym (add-zero at) ∙ q in
+      subst (λ (j : ℕ). Left s j end (v ▸ none)) p (record { stands = rw (single v) h; fits = (f, tt); ends = omega (arith, e v h f) })
+  reach (suc n) {j} q l =
+      let p : at + n + 1 ≡ j = omega arith in
+      subst (λ (i : ℕ). Left s i end (after (suc n) (v ▸ none))) p (left-next (after n (v ▸ none)) (reach n refl (omega arith)) (omega arith))
 
 -- The cell before i.
 module _ {s : List ℕ} {at end i : ℕ} (e : EndsAt s at end) (low : at < i) (high : i ≤ end) (a : FineFrom s at i) where
@@ -153,12 +154,12 @@ module _ {s : List ℕ} {at end i : ℕ} (e : EndsAt s at end) (low : at < i) (h
   behind v h f = let p : i - at ≡ suc (i - 1 - at) = omega arith in subst (λ (n : ℕ). AllOf IsFine (after n (v ▸ none))) p (a v h f)
 
   pub from-other : getD s (i - 1) 0 < 5 * cellSize → FineFrom s at (i - 1)
-  from-other n v h f = other-fine _ (reached e v h f (i - 1) (omega arith) (omega arith)) n (behind v h f)
+  from-other n v h f = other-fine _ (reach e v h f (i - 1 - at) (omega arith) (omega arith)) n (behind v h f)
 
   module _ (m : 5 * cellSize ≤ getD s (i - 1) 0) where
     members : (v : Value) → ValueAt s at v → CellsFit v → (ms : Values) × (us : Values) × (after (i - 1 - at) (v ▸ none) ≡ set ms ▸ us) ×
         TypedRow s (i - 1 + 1) (getD s (i - 1) 0 % cellSize) ms
-    members v h f = as-set _ (reached e v h f (i - 1) (omega arith) (omega arith)) (omega arith) m (behind v h f)
+    members v h f = as-set _ (reach e v h f (i - 1 - at) (omega arith) (omega arith)) (omega arith) m (behind v h f)
 
     pub from-members : SomeAt s at → SomeTypedRow s (i - 1 + 1) (getD s (i - 1) 0 % cellSize)
     from-members x = let t = members (x .value) (x .stands) (x .fits) in (t .0, t .3)
@@ -204,7 +205,7 @@ module _ {s : List ℕ} {at end : ℕ} (e : EndsAt s at end) where
       go (set ms) h f = each-one ms (omega (arith, first-cell s at (set ms) h f .1, flat .1, e (set ms) h f))
 
   from-end : FineFrom s at end
-  from-end v h f = go _ (reached e v h f end (omega (arith, e v h f)) (omega arith))
+  from-end v h f = go _ (reach e v h f (end - at) (omega (arith, e v h f)) (omega arith))
     where
       go : (ws : Values) → Left s end end ws → AllOf IsFine ws
       go none l = tt
@@ -221,3 +222,32 @@ pub end-inside : (s : List ℕ) (at end : ℕ) → SomeAt s at → EndsAt s at e
 end-inside s at end p e =
     let x = e (p .value) (p .stands) (p .fits) in
     (omega (arith, weight-some (p .value)), omega (arith, p .stands .inside, length-code (p .value)))
+
+-- Good values, by what the functions test: good scalars, ordered sets, the weight, and a type.
+-- A value is well formed where its scalars are good and its sets ordered.
+mutual
+  well-right : (gs : List ℕ) (v : Value) → T (wellFormed gs v) ↔ (T (scalarsGood gs v) × T (ordered v))
+  well-right gs (scalar s) = (λ h. (h, tt), λ h. h .0)
+  well-right gs (pair v w) =
+      simp (T-and, well-right gs v, well-right gs w)
+      (λ h. ((h .0 .0, h .1 .0), (h .0 .1, h .1 .1)), λ h. ((h .0 .0, h .1 .0), (h .0 .1, h .1 .1)))
+  well-right gs (set s) = simp T-and (rising-right gs s)
+
+  rising-right : (gs : List ℕ) (vs : Values) → T (risingAll gs vs) ↔ (T (allGood gs vs) × (T (inOrder vs) × T (orderedAll vs)))
+  rising-right gs none = (λ h. (tt, (tt, tt)), λ h. tt)
+  rising-right gs (v ▸ vs) =
+      simp (T-and, well-right gs v, rising-right gs vs) (
+        λ h. ((h .0 .0 .0, h .1 .0), ((h .0 .1, h .1 .1 .0), (h .0 .0 .1, h .1 .1 .1))),
+        λ h. (((h .0 .0, h .1 .1 .0), h .1 .0 .0), (h .0 .1, (h .1 .0 .1, h .1 .1 .1))),
+      )
+
+module _ (gs : List ℕ) (v : Value) where
+  pub good-scalars : T (good gs v) → T (scalarsGood gs v)
+  good-scalars g = well-right gs v .0 (good-wellFormed gs v g) .0
+
+  pub good-ordered : T (good gs v) → T (ordered v)
+  good-ordered g = well-right gs v .0 (good-wellFormed gs v g) .1
+
+  pub good-of : T (scalarsGood gs v) → T (ordered v && typed v) → weight v ≤ weightLimit → T (good gs v)
+  unfolding good
+  good-of h k w = let x = T-and (ordered v) (typed v) .0 k in simp (T-and, T-leb) ((well-right gs v .1 (h, x .0), w), x .1)

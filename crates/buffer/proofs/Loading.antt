@@ -25,7 +25,7 @@ use Rattle.buffer.specs.Ordered.{ordered, WholeValue}
 use Rattle.buffer.specs.Shared.{Fine}
 use Rattle.buffer.specs.Loaded.{Entered, Bound}
 use Rattle.rules.proofs.Basics.{and-of}
-use Rattle.buffer.proofs.Goodness.{good-ordered, good-of}
+use Rattle.buffer.proofs.FineValues.{good-ordered, good-of}
 use Rattle.buffer.proofs.Walk.{set-stands}
 
 -- One value.

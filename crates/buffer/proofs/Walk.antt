@@ -1,13 +1,12 @@
 -- Reading one value cell by cell into the arena.
-use Prim.Native.Nat.{ℕ, zero, suc, _+_, _*_, _-_, _/_, _%_, _≤_, _<_}
+use Prim.Native.Nat.{ℕ, zero, suc, _+_, _*_, _-_, _≤_, _<_}
 use mathlib.Core.List.{List, [], _∷_, _++_, append-assoc, append-nil}
 use mathlib.Core.Path.{_≡_, refl, sym, ap, _∙_}
 use native.Mathlib.Omega.{arith}
 use native.Mathlib.Nat.{add-zero}
-use lib.Dec.{T, eqb}
+use lib.Dec.{T}
 use lib.ListN.{length, getD, drop, set as setAt, length-append, length-set}
 use lib.Seq.{drop-drop, getD-set-same, getD-set-other}
-use borrow.Author.Tests.{ne-eqb}
 use mathlib.Core.Option.{some}
 use Rattle.rules.specs.Values.{Value, Values, none, _▸_, weight}
 use Rattle.rules.specs.Cells.{cells, value, good}
@@ -19,8 +18,9 @@ use Rattle.arena.specs.Code.{code, Stands, Same, partsOf}
 use Rattle.arena.proofs.CodeLaws.{length-code, encodable-fits}
 use Rattle.arena.proofs.Standing.{stands-append, stands-frame, same-refl, same-trans}
 use Rattle.buffer.specs.declared.Step.the-variants.{End}
-use Rattle.buffer.specs.Buffer.{firstCell, codeOf, tagGood, cellGood, cellsAtMost, GoodCell, StepTakes, ReadAt}
+use Rattle.buffer.specs.Buffer.{firstCell, codeOf, cellsAtMost, GoodCell, StepTakes, ReadAt}
 use Rattle.buffer.proofs.CellAt.{cell-held}
+use Rattle.buffer.proofs.FineValues.{good-scalars}
 use Rattle.buffer.proofs.Ahead.{CellsOf, Ahead, onward, back, ahead-read, ahead-long}
 
 -- The entries of a slice of bytes.
@@ -31,25 +31,6 @@ bytes-all (b ∷ bs) h = (h 0 (omega arith), bytes-all bs (λ i l. h (suc i) (om
 -- The sizes of a readable table's given sets.
 pub readable-sizes : {bs : List ℕ} → Readable bs → Sizes (tableOf bs .sizes)
 readable-sizes {bs} r = few-sizes (tableOf bs .sizes) (omega (arith, sizes-length bs, r .header .givens)) (λ g h. r .records .sizes g h .1)
-
--- Good cells, by the tag.
-pub good-by : (gs : List ℕ) (x t p k : ℕ) → t ≡ x / 4294967296 → p ≡ x % 4294967296 → t ≡ k → tagGood gs k p ≡ cellGood gs x
-unfolding cellGood
-good-by gs x t p k e f g = rw (← g, e, f)
-
-good-last : (gs : List ℕ) (t p : ℕ) → (t ≡ 1 → ⊥) → (t ≡ 2 → ⊥) → (t ≡ 3 → ⊥) → (t ≡ 4 → ⊥) → eqb t 5 ≡ tagGood gs t p
-good-last gs zero p a b c d = refl
-good-last gs (suc zero) p a b c d = absurd (a refl)
-good-last gs (suc (suc zero)) p a b c d = absurd (b refl)
-good-last gs (suc (suc (suc zero))) p a b c d = absurd (c refl)
-good-last gs (suc (suc (suc (suc zero)))) p a b c d = absurd (d refl)
-good-last gs (suc (suc (suc (suc (suc zero))))) p a b c d = refl
-good-last gs (suc (suc (suc (suc (suc (suc n)))))) p a b c d = ne-eqb (suc (suc (suc (suc (suc (suc n)))))) 5 (λ e. omega arith)
-
-pub good-other : (gs : List ℕ) (x t p : ℕ) → t ≡ x / 4294967296 → p ≡ x % 4294967296 →
-    (t ≡ 2 → ⊥) → (t ≡ 3 → ⊥) → (t ≡ 4 → ⊥) → (t ≡ 1 → ⊥) → eqb t 5 ≡ cellGood gs x
-unfolding cellGood
-good-other gs x t p e f b c d a = good-last gs t p a b c d ∙ rw (e, f)
 
 -- n cells have been read up to `at` and stand written at `top`; `left` values are still to be read. A value is read at `from`
 -- just where they are.
@@ -128,7 +109,7 @@ module _ {gs bs : List ℕ} {from at left n : ℕ} {s₀ s : List ℕ} {top : �
   -- What is left of a good value, where one is read.
   module _ (z : Sizes gs) (v : Value) (rest : List ℕ) (e : value (drop from bs) ≡ some (v, rest)) (g : T (good gs v)) where
     ahead : (cs : List ℕ) × (code v ≡ h .written ++ cs) × Ahead gs (drop at bs) left cs rest
-    ahead = h .partly (code v) rest (ahead-read gs (drop from bs) v rest z (bytes-drop from bs (h .bytes)) e g)
+    ahead = h .partly (code v) rest (ahead-read gs (drop from bs) v rest z (bytes-drop from bs (h .bytes)) e g (good-scalars gs v g))
 
     pub walk-none : StepTakes gs bs at End → ⊥
     walk-none t = let o = onward (ahead .2 .0) (ahead .2 .1) l in t (o .here) (o .good)

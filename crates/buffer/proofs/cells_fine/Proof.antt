@@ -8,8 +8,7 @@ use Rattle.rules.specs.Values.{Values}
 use Rattle.arena.specs.Code.{cellSize}
 use Rattle.fitting.proofs.Cells.{inside}
 use Rattle.buffer.specs.Shared.{TypedRow, mostAlike}
-use Rattle.buffer.proofs.Ordering.{some-first}
-use Rattle.buffer.proofs.Sharing.{alike-within, Rest, next-inside, rest-end, rest-falls, rest-above, rest-next}
+use Rattle.buffer.proofs.Members.{some-first, alike-within, Rest, next-inside, rest-end, rest-falls, rest-above, rest-next}
 use Rattle.buffer.proofs.cells_fine.Statement.{statement}
 use Rattle.buffer.proofs.cells_fine.Tie as tie
 
@@ -27,11 +26,8 @@ at-inside p = inside _ _ (some-first (p .pre .0) (p .pre .1))
 abbrev Turn : Type 0
 Turn = tie.In-loop Inv-loop μ-loop
 
-abbrev begun : Turn → tie.After-most Inv-loop μ-loop
-begun l = l .before .before
-
 abbrev lent : Turn → tie.Start Inv-loop μ-loop
-lent l = begun l .before .before .before
+lent l = let b = l .before .before in b .before .before .before
 
 next-within : (l : Turn) → l .before .loop .i + 1 < length (lent l .args .s .now)
 next-within l =
@@ -40,10 +36,7 @@ next-within l =
     next-inside (i .2 (r .0) (r .1)) (l .loop-test .taken) (i .1)
 
 -- Two cells have been read.
-abbrev Both : Type 0
-Both = tie.After-shared-slice-known4 Inv-loop μ-loop
-
-abbrev turn : Both → Turn
+abbrev turn : tie.After-shared-slice-known4 Inv-loop μ-loop → Turn
 turn b = b .before .before
 
 returns : tie.Need-returns Inv-loop μ-loop

@@ -109,11 +109,6 @@ loop-again c =
           _ _ _ _ (cell m) (d .code-cell .ensures) (c .parts .ensures .0) (room d),
     )
 
-returns-3 : tie.Need-returns-3 Inv-loop μ-loop
-returns-3 c =
-    let i = c .before .loop .inv in
-    (i .2 .frame, walk-end (i .2) (omega (arith, c .loop-test .left)) (i .0))
-
 pub copy-value-spec : {M : Type 1} → statement M
 copy-value-spec =
     tie.close
@@ -141,4 +136,4 @@ copy-value-spec =
     loop-again
     (λ c. omega (arith, lent (c .before .before) .pre .room))
     (λ c. c .before .loop .inv .2 .frame .kept)
-    returns-3)
+    (λ c. let i = c .before .loop .inv in (i .2 .frame, walk-end (i .2) (omega (arith, c .loop-test .left)) (i .0))))

@@ -25,16 +25,11 @@ abbrev μ-loop : tie.MeasureT-loop
 μ-loop table values s₀ top count env₀ c₀ end₀ x₀ s env c end x = count - x
 
 -- Before the loop: the identifiers have been counted; what was lent.
-abbrev Counted : Type 0
-Counted = tie.After-identifiers Inv-loop μ-loop
+abbrev lent : tie.After-identifiers Inv-loop μ-loop → tie.Start Inv-loop μ-loop
+lent n = let k = n .before .before in k .before .before
 
-abbrev known : Counted → tie.After-shared-slice-known2 Inv-loop μ-loop
-known n = n .before .before
-
-abbrev lent : Counted → tie.Start Inv-loop μ-loop
-lent n = known n .before .before
-
-all : (n : Counted) → (n .identifiers .result ≡ length (tableOf (lent n .args .table .now) .binds)) × (n .identifiers .result ≤ 32)
+all : (n : tie.After-identifiers Inv-loop μ-loop) →
+    (n .identifiers .result ≡ length (tableOf (lent n .args .table .now) .binds)) × (n .identifiers .result ≤ 32)
 all n =
     let e = n .identifiers .ensures in (omega (arith, binds-length (lent n .args .table .now)), omega (arith, lent n .pre .readable .header .identifiers))
 
@@ -69,11 +64,8 @@ Answers k q =
     Enters (p .table .now) (a .loop .x) (p .values .now) (a .loop .c .at) (a .loop .s) (arena k) (p .top) (a .loop .end) q
 
 -- The identifier has a value.
-abbrev matched : tie.After-place Inv-loop μ-loop → tie.After-s Inv-loop μ-loop
-matched m = m .before .before .before
-
 abbrev read : tie.After-place Inv-loop μ-loop → Read
-read m = matched m .before
+read m = let s = m .before .before .before in s .before
 
 entered : (m : tie.After-place Inv-loop μ-loop) →
     Answers (read m) (Of (m .place .given .0 .0) (m .place .given .0 .1 .0) (m .place .given .0 .1 .1 .0))
@@ -98,12 +90,6 @@ read-entry-requires c κs =
         room = omega (arith, a .loop .inv .room, p .room, l .loop-test .taken, a .before .identifiers .ensures, framed a .kept);
       };
     }
-
-same-length : tie.Need-same-length Inv-loop μ-loop
-same-length c =
-    let m = c .before in
-    let k = m .before .before .before in
-    k .read-entry .ensures .0 .kept ∙ framed (at k) .kept
 
 returns : tie.Need-returns Inv-loop μ-loop
 returns c =
@@ -160,7 +146,7 @@ load-spec =
     read-entry-requires
     (λ c. search needs)
     (λ c. search needs)
-    same-length
+    (λ c. let m = c .before in let k = m .before .before .before in k .read-entry .ensures .0 .kept ∙ framed (at k) .kept)
     returns
     cast-env-2
     (λ c. omega (arith, more (turn (read (c .before))) .1))

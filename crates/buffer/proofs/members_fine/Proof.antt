@@ -3,8 +3,7 @@ use Prim.Native.Nat.{_<_}
 use native.Mathlib.Omega.{arith}
 use lib.ListN.{length}
 use Rattle.fitting.proofs.Cells.{inside}
-use Rattle.buffer.proofs.Ordering.{some-first}
-use Rattle.buffer.proofs.Sharing.{few-fine}
+use Rattle.buffer.proofs.Members.{some-first, few-fine}
 use Rattle.buffer.proofs.members_fine.Statement.{statement}
 use Rattle.buffer.proofs.members_fine.Tie as tie
 

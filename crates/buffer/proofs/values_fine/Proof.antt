@@ -10,8 +10,7 @@ use Rattle.arena.specs.Code.{EndsAt}
 use Rattle.fitting.specs.Agree.{SomeTyped, StandFor}
 use Rattle.fitting.proofs.Cells.{some-at, end-bounds}
 use Rattle.buffer.specs.Shared.{TypedRow}
-use Rattle.buffer.proofs.Ordering.{some-first}
-use Rattle.buffer.proofs.Sharing.{Passed, passed-start, passed-end, stand-for, passed-next, passed-falls, passed-unlike, passed-step}
+use Rattle.buffer.proofs.Members.{some-first, Passed, passed-start, passed-end, stand-for, passed-next, passed-falls, passed-unlike, passed-step}
 use Rattle.buffer.proofs.values_fine.Statement.{statement}
 use Rattle.buffer.proofs.values_fine.Tie as tie
 

@@ -7,15 +7,9 @@ use Rattle.buffer.proofs.Cursor.next.Statement.{statement}
 use Rattle.buffer.proofs.Cursor.next.Tie as tie
 
 -- There are eight bytes; both words are known, and whether the cell is good.
-abbrev Known : Type 0
-Known = tie.After-good-cell
-
-abbrev both : Known → tie.After-word2
-both g = g .before
-
-abbrev lent : Known → tie.Start
+abbrev lent : tie.After-good-cell → tie.Start
 lent g =
-    let e = both g .before .before in
+    let e = g .before .before .before in
     let k = e .before .before in
     k .before .before
 
@@ -28,14 +22,14 @@ returns-2 c =
 returns-3 : tie.Need-returns-3
 returns-3 c =
     let g = c .before in
-    let w = both g in
+    let w = g .before in
     let p = lent g .args in
     cell-bad _ (p .values .now) (p .self .at) _ _ (w .before .word .ensures .0) (w .word2 .ensures .0) (g .good-cell .ensures) (not-true _ (c .if3 .taken))
 
 returns-4 : tie.Need-returns-4
 returns-4 c =
     let g = c .before in
-    let w = both g in
+    let w = g .before in
     let e = w .before .before in
     cell-good _ _ _ _ _ (w .before .word .ensures .0) (w .word2 .ensures .0) (omega (arith, e .if2 .left, e .before .if1 .left))
     (g .good-cell .ensures) (not-false _ (c .if3 .left))

@@ -1,30 +1,86 @@
 -- Whether values that stand in a row rise and share a type: value by value, behind the first of them that do; and of scalars by their cells.
-use Prim.Native.Nat.{ℕ, _+_, _*_, _-_, _/_, _≤_, _<_}
+use Prim.Native.Nat.{ℕ, _+_, _*_, _-_, _/_, _≤_, _<_, Ordering, Ordering·lt, Ordering·eq, Ordering·gt}
 use mathlib.Core.Bool.{Bool, true, false, _&&_, cond}
 use mathlib.Core.List.{List}
 use mathlib.Core.Logic.{_↔_, _≢_}
 use mathlib.Core.Path.{_≡_, refl, sym, ap, subst, _∙_}
 use native.Mathlib.Omega.{arith}
-use native.Mathlib.Decide.{ℕ-discrete}
+use native.Mathlib.Decide.{ℕ-discrete, decLt}
+use native.Mathlib.Nat.{add-zero}
 use borrow.Author.Tests.{eq-eqb, ne-eqb, lt-ltb, le-ltb}
 use lib.Dec.{T, eqb, ltb}
 use lib.ListN.{length, getD}
 use Rattle.rules.specs.Types.{Ty}
-use Rattle.rules.specs.Values.{Value, Values, none, _▸_, count, weights}
+use Rattle.rules.specs.Values.{Value, Values, none, _▸_, count, weights, order, isLt, before as isBefore}
 use Rattle.rules.specs.Fits.{TypeSet, every, _⊓_, typesOf, sharedTypes, inhabited}
 use Rattle.rules.proofs.Basics.{and-split, bool-eq}
 use Rattle.laws.proofs.EndLaws.{T-true, T-false}
 use Rattle.laws.proofs.FitsLaws.{_⊑_, ⊓-join, ⊓-split, some→inhabited}
-use Rattle.arena.specs.Code.{cellSize, codes, Stands, EndsAt, Compared}
+use Rattle.arena.specs.Code.{cellSize, codes, Stands, EndsAt, Compared, orderCode}
 use Rattle.arena.proofs.CodeLaws.{length-codes}
-use Rattle.arena.proofs.Standing.{stands-append, _before_, codes-before, count-before, weights-before, fit-before}
+use Rattle.arena.proofs.Standing.{stands-append, _before_, codes-before, count-before, weights-before, fit-before, found-less, found-greater, found-equal}
 use Rattle.arena.proofs.ValueParts.{one-cell}
 use Rattle.fitting.specs.Agree.{meets, agree, TypedAt, RunAt, SomeTyped, AgreedWith, NoEmpty, Full, StandFor, atomsAlike}
 use Rattle.fitting.proofs.Sharing.{meets→share, share→meets, meets-sym, right-typed, with-every, full-first}
-use Rattle.fitting.proofs.Cells.{inside, as-run, run-of, full-typed, scalar-full, atoms-agree}
+use Rattle.fitting.proofs.Cells.{inside, as-run, run-of, full-typed, scalar-full, atoms-agree, first-stands, rest-stand}
 use Rattle.buffer.specs.Ordered.{inOrder}
-use Rattle.buffer.specs.Shared.{AllTyped, TypedRow, mostAlike, fineMembers}
-use Rattle.buffer.proofs.Ordering.{First, first-of, compared-before, cells-before}
+use Rattle.buffer.specs.Shared.{AllTyped, TypedRow, mostAlike, fineMembers, SomeTypedRow}
+
+-- The first of n values from i on, and the others.
+pub record First (s : List ℕ) (i n : ℕ) (vs : Values) : Type 0 where
+  pub value : Value
+  pub others : Values
+  pub whole : vs ≡ value ▸ others
+  pub here : TypedAt s i value
+  pub row : (e : ℕ) → EndsAt s i e → TypedRow s e (n - 1) others
+
+pub first-of : {s : List ℕ} {i n : ℕ} (vs : Values) → TypedRow s i n vs → 0 < n → First s i n vs
+first-of none r l = absurd (omega (arith, r .counted))
+first-of {s} {i} (w ▸ ws) r l =
+    let h = first-stands s i w ws (r .stands) in
+    record {
+      value = w;
+      others = ws;
+      whole = refl;
+      here = record { stands = h; fits = r .fits .0; typed = r .typed .0 };
+      row = λ e ends. record {
+        stands = rw (ends w h (r .fits .0)) (rest-stand s i w ws (r .stands));
+        fits = r .fits .1;
+        counted = omega (arith, r .counted);
+        typed = r .typed .1;
+      };
+    }
+
+pub some-first : {s : List ℕ} {at n : ℕ} → SomeTypedRow s at n → 0 < n → SomeTyped s at
+some-first r l = let x = first-of (r .0) (r .1) l in (x .value, x .here)
+
+less-code : (o : Ordering) → isLt o ≡ eqb (orderCode o) 0
+less-code Ordering·lt = refl
+less-code Ordering·eq = refl
+less-code Ordering·gt = refl
+
+module _ {s : List ℕ} {a b : ℕ} {v w : Value} (h : TypedAt s a v) (k : TypedAt s b w) where
+  pub compared-before : {c : ℕ} → Compared s a b c → isBefore v w ≡ eqb c 0
+  unfolding isBefore
+  compared-before f = less-code (order v w) ∙ ap (λ (c : ℕ). eqb c 0) (sym (f v w (h .stands) (k .stands) (h .fits) (k .fits)))
+
+  -- A scalar is before a value just where its cell is less than that value's first.
+  pub cells-before : getD s a 0 < 4 * cellSize → isBefore v w ≡ ltb (getD s a 0) (getD s b 0)
+  cells-before low = go (decLt (getD s a 0) (getD s b 0)) (decLt (getD s b 0) (getD s a 0))
+    where
+      same : getD s a 0 ≡ getD s b 0 → (j : ℕ) → j < 1 → getD s (a + j) 0 ≡ getD s (b + j) 0
+      same e j m = let z : j ≡ 0 = omega arith in rw (z, add-zero a, add-zero b) e
+
+      go : Dec (getD s a 0 < getD s b 0) → Dec (getD s b 0 < getD s a 0) → isBefore v w ≡ ltb (getD s a 0) (getD s b 0)
+      go (yes l) d =
+          compared-before (found-less s a b (a + 1) 0 (one-cell s a low) (λ j m. absurd (omega arith)) (omega arith) (rw (add-zero a, add-zero b) l)) ∙
+          sym (lt-ltb _ _ l)
+      go (no n) (yes l) =
+          compared-before (found-greater s a b (a + 1) 0 (one-cell s a low) (λ j m. absurd (omega arith)) (omega arith) (rw (add-zero a, add-zero b) l)) ∙
+          sym (le-ltb (getD s a 0) (getD s b 0) (omega arith))
+      go (no n) (no m) =
+          compared-before (found-equal s a b (a + 1) 1 (one-cell s a low) (same (omega arith)) (omega arith)) ∙
+          sym (le-ltb (getD s a 0) (getD s b 0) (omega arith))
 
 -- Types of values that follow one another.
 both-types : (p q : TypeSet) (t : Ty) → (p ⊓ q ⊑ t) ↔ (p ⊑ t × q ⊑ t)
