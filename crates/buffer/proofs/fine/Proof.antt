@@ -26,10 +26,7 @@ abbrev lent : Turn → tie.Start Inv-loop μ-loop
 lent l = let b = l .before .before in b .before .before .before
 
 -- The cell before i is a set's, and its number of members is known.
-abbrev Counted : Type 0
-Counted = tie.After-low Inv-loop μ-loop
-
-abbrev turn : Counted → Turn
+abbrev turn : tie.After-low Inv-loop μ-loop → Turn
 turn m = m .before .before .before
 
 members-fine-requires : tie.Need-members-fine-requires Inv-loop μ-loop
