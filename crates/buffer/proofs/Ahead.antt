@@ -1,28 +1,28 @@
 -- A run of bytes as the cells of a number of values that follow one another: one cell further, and one back.
 use Prim.Native.Nat.{ℕ, zero, suc, _+_, _*_, _-_, _/_, _%_, _≤_, _<_}
-use mathlib.Core.Bool.{Bool, true, false, cond}
+use mathlib.Core.Bool.{true, false, cond}
 use mathlib.Core.List.{List, [], _∷_, _++_, append-assoc, append-nil}
 use mathlib.Core.Logic.{_↔_}
 use mathlib.Core.Option.{some}
 use mathlib.Core.Path.{_≡_, refl, sym, ap, subst, _∙_}
 use native.Mathlib.Omega.{arith}
-use lib.Dec.{T, eqb, ltb, leb→le, ltb→lt, eqb→eq}
+use lib.Dec.{T, eqb, leb→le, ltb→lt, eqb→eq}
 use lib.IntN.{ℤ, pos, negsuc}
 use lib.ListN.{length, getD, drop}
 use borrow.Author.Tests.{eq-eqb, ne-eqb, le-leb}
 use Rattle.rules.specs.Types.{whole}
-use Rattle.rules.specs.Values.{Scalar, num, truth, element, Value, scalar, pair, set, Values, none, _▸_, bit}
-use Rattle.rules.specs.Values.{scalarTag, scalarPayload, tag, payload, count}
+use Rattle.rules.specs.Values.{num, truth, element, Value, scalar, pair, set, Values, none, _▸_}
+use Rattle.rules.specs.Values.{scalarTag, tag, payload, count}
 use Rattle.rules.specs.Tables.{wordAt}
-use Rattle.rules.specs.Cells.{bytes4, twos, signed, inRange, cell, cells, cellsOf, scalarGood, value, good}
+use Rattle.rules.specs.Cells.{bytes4, twos, signed, inRange, cell, cells, cellsOf, value, good}
 use Rattle.laws.proofs.EndLaws.{T-and}
-use Rattle.laws.proofs.CellsLaws.{Word, Bytes, EncodableScalar, Encodable, Encodables, byte-at, word-at, word-bytes, bytes-word, twos-signed, signed-range, payload-word, cells-value, count-weights, bit-eqb, cell-parts, eight, Sizes, encodable-wellFormed, good-wellFormed, good-weight}
-use Rattle.arena.specs.Code.{cellSize, excess, code, codes, partsOf}
+use Rattle.laws.proofs.CellsLaws.{Word, Bytes, Encodable, Encodables, byte-at, word-at, word-bytes, bytes-word, twos-signed, signed-range, payload-word, cells-value, count-weights, bit-eqb, cell-parts, eight, Sizes, encodable-wellFormed, good-wellFormed, good-weight}
+use Rattle.arena.specs.Code.{cellSize, excess, scalarLow, code, codes, partsOf}
 use Rattle.arena.proofs.CodeLaws.{length-codes}
 use Rattle.arena.proofs.Standing.{_before_, codes-before, count-before}
 use Rattle.buffer.specs.Buffer.{cellFirst, firstCell, codeOf, tagGood, cellGood, scalarsGood, allGood}
+use Rattle.buffer.specs.Shared.{AllOf}
 use Rattle.buffer.proofs.CellAt.{first-right}
-use Rattle.buffer.proofs.Goodness.{good-scalars}
 use Rattle.rules.proofs.Basics.{and-of}
 
 cellsOf-before : (vs ws : Values) → cellsOf (vs before ws) ≡ cellsOf vs ++ cellsOf ws
@@ -35,13 +35,12 @@ abbrev Held : List ℕ → Value → Type 0
 Held gs v = Encodable v × T (scalarsGood gs v)
 
 abbrev pub AllHeld : List ℕ → Values → Type 0
-AllHeld gs none = Unit {0}
-AllHeld gs (v ▸ vs) = Held gs v × AllHeld gs vs
+AllHeld gs vs = AllOf (Held gs) vs
 
-held-join : (gs : List ℕ) (vs ws : Values) → AllHeld gs (vs before ws) ↔ (AllHeld gs vs × AllHeld gs ws)
-held-join gs none ws = (λ h. (tt, h), λ h. h .1)
-held-join gs (v ▸ vs) ws =
-    let r = held-join gs vs ws in
+pub all-before : (P : Value → Type 0) (vs ws : Values) → AllOf P (vs before ws) ↔ (AllOf P vs × AllOf P ws)
+all-before P none ws = (λ h. (tt, h), λ h. h .1)
+all-before P (v ▸ vs) ws =
+    let r = all-before P vs ws in
     (λ h. let p = r .0 (h .1) in ((h .0, p .0), p .1), λ h. (h .0 .0, r .1 (h .0 .1, h .1)))
 
 held-all : (gs : List ℕ) (vs : Values) → AllHeld gs vs ↔ (Encodables vs × T (allGood gs vs))
@@ -79,12 +78,23 @@ firstOf v = tag v * cellSize + twos (payload v)
 
 cells-inner : (v : Value) → cells v ≡ cell v ++ cellsOf (inner v)
 unfolding cells
-cells-inner (scalar s) = sym (append-nil (cell (scalar s)))
-cells-inner (pair v w) = ap (λ (l : List ℕ). cell (pair v w) ++ (cells v ++ l)) (sym (append-nil (cells w)))
+cells-inner (scalar s) = rw (append-nil (cell (scalar s)))
+cells-inner (pair v w) = rw (append-nil (cells w))
 cells-inner (set s) = refl
 
 -- The first cell of a value in the arena.
-number-code : (i : ℤ) → T (inRange i) → codeOf (1 * cellSize + twos i) ≡ 1 * cellSize + excess i
+abbrev headOf : Value → ℕ
+headOf (scalar s) = scalarTag s * cellSize + scalarLow s
+headOf (pair v w) = 4 * cellSize
+headOf (set s) = 5 * cellSize + count s
+
+pub code-head : (v : Value) → code v ≡ headOf v ∷ codes (inner v)
+unfolding code
+code-head (scalar s) = refl
+code-head (pair v w) = rw (append-nil (code w))
+code-head (set s) = refl
+
+number-code : (i : ℤ) → T (inRange i) → 1 * cellSize + excess i ≡ codeOf (1 * cellSize + twos i)
 unfolding codeOf twos excess
 number-code (pos n) t =
     let h = leb→le n 2147483647 t in
@@ -93,69 +103,58 @@ number-code (negsuc n) t =
     let h = leb→le n 2147483647 t in
     rw (eq-eqb ((1 * cellSize + (4294967295 - n)) / cellSize) 1 (omega arith)) (omega arith)
 
-other-code : (t p : ℕ) → p < cellSize → (t ≡ 1 → ⊥) → codeOf (t * cellSize + p) ≡ t * cellSize + p
+other-code : (t p : ℕ) → p < cellSize → 1 < t → t * cellSize + p ≡ codeOf (t * cellSize + p)
 unfolding codeOf
-other-code t p h n = rw (ne-eqb ((t * cellSize + p) / cellSize) 1 (λ e. n (omega arith)))
+other-code t p h n = rw (ne-eqb ((t * cellSize + p) / cellSize) 1 (λ e. omega arith))
 
-code-inner : (v : Value) → Encodable v → code v ≡ codeOf (firstOf v) ∷ codes (inner v)
-unfolding code twos
-code-inner (scalar (num whole i)) h = ap (λ (x : ℕ). x ∷ []) (sym (number-code i h))
-code-inner (scalar (truth true)) h = ap (λ (x : ℕ). x ∷ []) (sym (other-code 2 1 (omega arith) (λ e. omega arith)))
-code-inner (scalar (truth false)) h = ap (λ (x : ℕ). x ∷ []) (sym (other-code 2 0 (omega arith) (λ e. omega arith)))
-code-inner (scalar (element g k)) h = ap (λ (x : ℕ). x ∷ []) (sym (other-code 3 (256 * g + k) (h .1) (λ e. omega arith)))
-code-inner (pair v w) h =
-    ap (λ (l : List ℕ). (4 * cellSize) ∷ (code v ++ l)) (sym (append-nil (code w))) ∙
-    ap (λ (x : ℕ). x ∷ (code v ++ (code w ++ []))) (sym (other-code 4 0 (omega arith) (λ e. omega arith)))
-code-inner (set s) h = ap (λ (x : ℕ). x ∷ codes s) (sym (other-code 5 (count s) (h .0) (λ e. omega arith)))
-
--- The parts of a first cell.
-first-parts : (v : Value) → Encodable v → (firstOf v / cellSize ≡ tag v) × (firstOf v % cellSize ≡ twos (payload v))
-first-parts v h = let w = payload-word v h in (omega arith, omega arith)
-
-parts-tag : (v : Value) → cond (eqb (tag v) 4) 2 (cond (eqb (tag v) 5) (twos (payload v)) 0) ≡ count (inner v)
+head-coded : (v : Value) → Encodable v → headOf v ≡ codeOf (firstOf v)
 unfolding twos
-parts-tag (scalar (num whole i)) = refl
-parts-tag (scalar (truth b)) = refl
-parts-tag (scalar (element g k)) = refl
-parts-tag (pair v w) = refl
-parts-tag (set s) = refl
+head-coded (scalar (num whole i)) h = number-code i h
+head-coded (scalar (truth true)) h = other-code 2 1 (omega arith) (omega arith)
+head-coded (scalar (truth false)) h = other-code 2 0 (omega arith) (omega arith)
+head-coded (scalar (element g k)) h = other-code 3 (256 * g + k) (h .1) (omega arith)
+head-coded (pair v w) h = other-code 4 0 (omega arith) (omega arith)
+head-coded (set s) h = other-code 5 (count s) (h .0) (omega arith)
 
-parts-inner : (v : Value) → Encodable v → partsOf (firstOf v) ≡ count (inner v)
-parts-inner v h =
-    let p = first-parts v h in rw (p .0, p .1) (parts-tag v)
+-- The first cell of a value that is held is good, and tells how many values follow it.
+abbrev partsBy : ℕ → ℕ → ℕ
+partsBy t q = cond (eqb t 4) 2 (cond (eqb t 5) q 0)
 
-bit-low : (b : Bool) → T (ltb (twos (pos (bit b))) 2)
+first-fields : (gs : List ℕ) (v : Value) → Held gs v →
+    T (tagGood gs (tag v) (twos (payload v))) × (partsBy (tag v) (twos (payload v)) ≡ count (inner v))
 unfolding twos
-bit-low true = tt
-bit-low false = tt
-
-good-tag : (gs : List ℕ) (v : Value) → Encodable v → T (scalarsGood gs v) → T (tagGood gs (tag v) (twos (payload v)))
-unfolding twos
-good-tag gs (scalar (num whole i)) h t = tt
-good-tag gs (scalar (truth b)) h t = bit-low b
-good-tag gs (scalar (element g k)) h t =
+first-fields gs (scalar (num whole i)) h = (tt, refl)
+first-fields gs (scalar (truth true)) h = (tt, refl)
+first-fields gs (scalar (truth false)) h = (tt, refl)
+first-fields gs (scalar (element g k)) h =
     let a : (256 * g + k) % 256 ≡ k = omega arith in
     let b : (256 * g + k) / 256 ≡ g = omega arith in
-    rw (a, b) t
-good-tag gs (pair v w) h t = tt
-good-tag gs (set s) h t = tt
+    (rw (a, b) (h .1), refl)
+first-fields gs (pair v w) h = (tt, refl)
+first-fields gs (set s) h = (tt, refl)
 
-good-first : (gs : List ℕ) (v : Value) → Encodable v → T (scalarsGood gs v) → T (cellGood gs (firstOf v))
+first-good : (gs : List ℕ) (v : Value) → Held gs v → T (cellGood gs (firstOf v)) × (partsOf (firstOf v) ≡ count (inner v))
 unfolding cellGood
-good-first gs v h t = let p = first-parts v h in rw (p .0, p .1) (good-tag gs v h t)
+first-good gs v h =
+    let w = payload-word v (h .0) in
+    let t : firstOf v / cellSize ≡ tag v = omega arith in
+    let q : firstOf v % cellSize ≡ twos (payload v) = omega arith in
+    rw (t, q) (first-fields gs v h)
 
 held-inner : (gs : List ℕ) (v : Value) → Held gs v → AllHeld gs (inner v)
 held-inner gs (scalar s) h = tt
 held-inner gs (pair v w) h = let p = T-and (scalarsGood gs v) (scalarsGood gs w) .0 (h .1) in ((h .0 .0, p .0), ((h .0 .1, p .1), tt))
 held-inner gs (set s) h = held-all gs s .1 (h .0 .1, h .1)
 
--- p values, whose cells in the arena are cs, and then `rest`.
-pub record Ahead (gs bs : List ℕ) (p : ℕ) (cs rest : List ℕ) : Type 0 where
-  pub values : Values
-  pub counted : count values ≡ p
-  pub bytes : bs ≡ cellsOf values ++ rest
-  pub coded : codes values ≡ cs
-  pub held : AllHeld gs values
+-- The p values vs, whose cells in the arena are cs, and then `rest`.
+pub record CellsOf (gs bs : List ℕ) (p : ℕ) (cs rest : List ℕ) (vs : Values) : Type 0 where
+  pub counted : count vs ≡ p
+  pub bytes : bs ≡ cellsOf vs ++ rest
+  pub coded : codes vs ≡ cs
+  pub held : AllHeld gs vs
+
+abbrev pub Ahead : List ℕ → List ℕ → ℕ → List ℕ → List ℕ → Type 0
+Ahead gs bs p cs rest = (vs : Values) × CellsOf gs bs p cs rest vs
 
 -- The run begins with a cell, that is good, and behind it stand the values that are left.
 pub record Onward (gs bs : List ℕ) (p : ℕ) (cs rest : List ℕ) : Type 0 where
@@ -165,121 +164,48 @@ pub record Onward (gs bs : List ℕ) (p : ℕ) (cs rest : List ℕ) : Type 0 whe
   pub coded : cs ≡ codeOf (firstCell bs) ∷ left
   pub next : Ahead gs (drop 8 bs) (p - 1 + partsOf (firstCell bs)) left rest
 
-first-here : (v : Value) (X : List ℕ) → Word (twos (payload v)) → (cellFirst (cell v ++ X) ≡ true) × (firstCell (cell v ++ X) ≡ firstOf v)
+first-here : (v : Value) (X : List ℕ) → Word (twos (payload v)) →
+    (cellFirst (cell v ++ X) ≡ true) × (firstCell (cell v ++ X) ≡ firstOf v) × (drop 8 (cell v ++ X) ≡ X)
 unfolding cell
-first-here v X h =
-    let p = twos (payload v) in
-    (rw (le-leb 8 (length (cell v ++ X)) (omega arith)), ap (λ (n : ℕ). tag v * cellSize + n) (word-bytes p (tag v ∷ 0 ∷ 0 ∷ 0 ∷ X) h))
-
-first-drop : (v : Value) (X : List ℕ) → drop 8 (cell v ++ X) ≡ X
-unfolding cell
-first-drop v X = refl
+first-here v X h = (
+  rw (le-leb 8 (length (cell v ++ X)) (omega arith)),
+  ap (λ (n : ℕ). tag v * cellSize + n) (word-bytes (twos (payload v)) (tag v ∷ 0 ∷ 0 ∷ 0 ∷ X) h),
+  refl,
+)
 
 -- bytes of a value before others: its first cell, then what follows
 spread : (v : Value) (vs : Values) (rest : List ℕ) → cellsOf (v ▸ vs) ++ rest ≡ cell v ++ (cellsOf (inner v before vs) ++ rest)
 unfolding cells
-spread v vs rest =
-    rw (cells-inner v, cellsOf-before (inner v) vs)
-    (append-assoc (cell v ++ cellsOf (inner v)) (cellsOf vs) rest ∙ append-assoc (cell v) (cellsOf (inner v)) (cellsOf vs ++ rest) ∙
-    ap (λ (l : List ℕ). cell v ++ l) (sym (append-assoc (cellsOf (inner v)) (cellsOf vs) rest)))
+spread v vs rest = rw (cells-inner v, cellsOf-before (inner v) vs) (simp append-assoc)
 
 spread-code : (v : Value) (vs : Values) → Encodable v → codes (v ▸ vs) ≡ codeOf (firstOf v) ∷ codes (inner v before vs)
 unfolding code
-spread-code v vs h = rw (code-inner v h, codes-before (inner v) vs)
+spread-code v vs h = rw (code-head v, head-coded v h, codes-before (inner v) vs)
 
-onward-from : (gs bs cs rest : List ℕ) (p : ℕ) (v : Value) (vs : Values) → suc (count vs) ≡ p → bs ≡ cellsOf (v ▸ vs) ++ rest → codes (v ▸ vs) ≡ cs →
-    Held gs v → AllHeld gs vs → Onward gs bs p cs rest
-onward-from gs bs cs rest p v vs c b d h hs =
+pub onward : {gs bs : List ℕ} {p : ℕ} {cs rest : List ℕ} (vs : Values) → CellsOf gs bs p cs rest vs → 0 < p → Onward gs bs p cs rest
+onward none h l = absurd (omega (arith, h .counted))
+onward {gs} {bs} {rest = rest} (v ▸ vs) h l =
     let X = cellsOf (inner v before vs) ++ rest in
-    let f : bs ≡ cell v ++ X = b ∙ spread v vs rest in
-    let q = first-here v X (payload-word v (h .0)) in
+    let k = h .held .0 in
+    let f : bs ≡ cell v ++ X = h .bytes ∙ spread v vs rest in
+    let q = first-here v X (payload-word v (k .0)) in
     let x : firstCell bs ≡ firstOf v = ap firstCell f ∙ q .1 in
+    let g = first-good gs v k in
     record {
       here = subst T (sym (ap cellFirst f ∙ q .0)) tt;
-      good = rw x (good-first gs v (h .0) (h .1));
+      good = rw x (g .0);
       left = codes (inner v before vs);
-      coded = rw x (sym d ∙ spread-code v vs (h .0));
-      next = record {
-        values = inner v before vs;
-        counted = rw (x, parts-inner v (h .0)) (omega (arith, count-before (inner v) vs));
-        bytes = ap (drop 8) f ∙ first-drop v X;
-        coded = refl;
-        held = held-join gs (inner v) vs .1 (held-inner gs v h, hs);
-      };
+      coded = rw x (sym (h .coded) ∙ spread-code v vs (k .0));
+      next = (
+        inner v before vs,
+        record {
+          counted = rw (x, g .1) (omega (arith, count-before (inner v) vs, h .counted));
+          bytes = ap (drop 8) f ∙ q .2;
+          coded = refl;
+          held = all-before (Held gs) (inner v) vs .1 (held-inner gs v k, h .held .1);
+        },
+      );
     }
-
-pub onward : (gs bs : List ℕ) (p : ℕ) (cs rest : List ℕ) → Ahead gs bs p cs rest → 0 < p → Onward gs bs p cs rest
-onward gs bs p cs rest h l = go (h .values) (h .counted) (h .bytes) (h .coded) (h .held)
-  where
-    go : (vs : Values) → count vs ≡ p → bs ≡ cellsOf vs ++ rest → codes vs ≡ cs → AllHeld gs vs → Onward gs bs p cs rest
-    go none c b d e = absurd (omega arith)
-    go (v ▸ vs) c b d e = onward-from gs bs cs rest p v vs (omega arith) b d (e .0) (e .1)
-
--- A value whose first cell has the tag t and the payload q, and the values behind it.
-record Built (gs : List ℕ) (t q p : ℕ) (vs : Values) : Type 0 where
-  first : Value
-  others : Values
-  whole : vs ≡ inner first before others
-  tagged : tag first ≡ t
-  paid : twos (payload first) ≡ q
-  held : Held gs first × AllHeld gs others
-  counted : count others ≡ p
-
-abbrev partsBy : ℕ → ℕ → ℕ
-partsBy t q = cond (eqb t 4) 2 (cond (eqb t 5) q 0)
-
-module _ (gs : List ℕ) (q p : ℕ) (w : Word q) where
-  build-pair : (vs : Values) → count vs ≡ p + 2 → q ≡ 0 → AllHeld gs vs → Built gs 4 q p vs
-  unfolding twos
-  build-pair none c z h = absurd (omega arith)
-  build-pair (a ▸ none) c z h = absurd (omega arith)
-  build-pair (a ▸ b ▸ vs) c z h = record {
-    first = pair a b;
-    others = vs;
-    whole = refl;
-    tagged = refl;
-    paid = sym z;
-    held = (((h .0 .0, h .1 .0 .0), and-of (scalarsGood gs a) (scalarsGood gs b) (h .0 .1) (h .1 .0 .1)), h .1 .1);
-    counted = omega arith;
-  }
-
-  build-set : (vs : Values) → count vs ≡ p + q → AllHeld gs vs → Built gs 5 q p vs
-  unfolding twos
-  build-set vs c h =
-      let s = split q vs (omega arith) in
-      let k = held-join gs (s .front) (s .back) .0 (subst (AllHeld gs) (s .whole) h) in
-      let e = held-all gs (s .front) .0 (k .0) in
-      record {
-        first = set (s .front);
-        others = s .back;
-        whole = s .whole;
-        tagged = refl;
-        paid = s .counted;
-        held = (((omega (arith, s .counted), e .0), e .1), k .1);
-        counted = omega (arith, s .counted, ap count (s .whole), count-before (s .front) (s .back));
-      }
-
-  build-scalar : (x : Scalar) (t : ℕ) (vs : Values) → scalarTag x ≡ t → twos (scalarPayload x) ≡ q → EncodableScalar x → T (scalarGood gs x) →
-      count vs ≡ p + 0 → AllHeld gs vs → Built gs t q p vs
-  build-scalar x t vs a b e k c h = record {
-    first = scalar x;
-    others = vs;
-    whole = refl;
-    tagged = a;
-    paid = b;
-    held = ((e, k), h);
-    counted = omega arith;
-  }
-
-  build : (t : ℕ) (vs : Values) → T (tagGood gs t q) → count vs ≡ p + partsBy t q → AllHeld gs vs → Built gs t q p vs
-  unfolding twos
-  build zero vs k c h = absurd k
-  build (suc zero) vs k c h = build-scalar (num whole (signed q)) 1 vs refl (twos-signed q w) (signed-range q w) (signed-range q w) c h
-  build (suc (suc zero)) vs k c h = build-scalar (truth (eqb q 1)) 2 vs refl (bit-eqb q (ltb→lt q 2 k)) tt tt c h
-  build (suc (suc (suc zero))) vs k c h = build-scalar (element (q / 256) (q % 256)) 3 vs refl (omega arith) (omega arith, omega arith) k c h
-  build (suc (suc (suc (suc zero)))) vs k c h = build-pair vs c (eqb→eq q 0 k) h
-  build (suc (suc (suc (suc (suc zero))))) vs k c h = build-set vs c h
-  build (suc (suc (suc (suc (suc (suc n)))))) vs k c h = absurd k
 
 -- The eight bytes of a cell are the first cell of a value with its tag and payload.
 cell-bytes : (bs : List ℕ) (v : Value) → Bytes bs → T (cellFirst bs) → tag v ≡ getD bs 4 0 → twos (payload v) ≡ wordAt bs 0 → bs ≡ cell v ++ drop 8 bs
@@ -294,47 +220,68 @@ cell-bytes bs v b k t w =
     (byte-at bs 0 b) (byte-at bs 1 b) (byte-at bs 2 b) (byte-at bs 3 b) in
     eight bs (c .0) ∙ cell-parts (bytes4 (twos (payload v))) _ _ _ _ _ _ _ _ _ _ (rw w q) t z₅ z₆ z₇
 
-module _ (gs bs : List ℕ) (p : ℕ) (cs rest : List ℕ) (b : Bytes bs) (k : T (cellFirst bs)) (l : 0 < p) where
-  back-from : (vs : Values) → drop 8 bs ≡ cellsOf vs ++ rest → codes vs ≡ cs → Built gs (getD bs 4 0) (wordAt bs 0) (p - 1) vs →
-      Ahead gs bs p (codeOf (firstCell bs) ∷ cs) rest
-  back-from vs h d r =
-      let v = r .first in
-      let f : firstOf v ≡ firstCell bs = omega (arith, r .tagged, r .paid) in
-      let m : bs ≡ cell v ++ drop 8 bs = cell-bytes bs v b k (r .tagged) (r .paid) in
-      let n : drop 8 bs ≡ cellsOf (inner v before r .others) ++ rest = h ∙ ap (λ (ws : Values). cellsOf ws ++ rest) (r .whole) in
-      record {
-        values = v ▸ r .others;
-        counted = omega (arith, r .counted);
-        bytes = m ∙ ap (λ (l : List ℕ). cell v ++ l) n ∙ sym (spread v (r .others) rest);
-        coded = spread-code v (r .others) (r .held .0 .0) ∙ ap (λ (y : ℕ). codeOf y ∷ codes (inner v before r .others)) f ∙
-            ap (λ (l : List ℕ). codeOf (firstCell bs) ∷ l) (sym (ap codes (r .whole)) ∙ d);
-        held = r .held;
-      }
+-- One cell back: the value v has the cell, and us stand behind it.
+module _ {gs bs : List ℕ} {p : ℕ} {cs rest : List ℕ} (b : Bytes bs) (k : T (cellFirst bs)) (l : 0 < p) where
+  back-to : (v : Value) (us : Values) {m : ℕ} → tag v ≡ getD bs 4 0 → twos (payload v) ≡ wordAt bs 0 → Held gs v → count (inner v) ≡ m →
+      CellsOf gs (drop 8 bs) (p - 1 + m) cs rest (inner v before us) → Ahead gs bs p (codeOf (firstCell bs) ∷ cs) rest
+  back-to v us t q g m h =
+      let f : firstOf v ≡ firstCell bs = omega arith in (
+        v ▸ us,
+        record {
+          counted = omega (arith, h .counted, count-before (inner v) us);
+          bytes = cell-bytes bs v b k t q ∙ ap (λ (ds : List ℕ). cell v ++ ds) (h .bytes) ∙ sym (spread v us rest);
+          coded = spread-code v us (g .0) ∙ rw (f, h .coded);
+          held = (g, all-before (Held gs) (inner v) us .0 (h .held) .1);
+        },
+      )
 
-  -- One cell back.
-  pub back : T (cellGood gs (firstCell bs)) → Ahead gs (drop 8 bs) (p - 1 + partsOf (firstCell bs)) cs rest →
-      Ahead gs bs p (codeOf (firstCell bs) ∷ cs) rest
+  -- by the tag t and the payload q
+  module _ {q : ℕ} (w : q ≡ wordAt bs 0) where
+    back-by : (t : ℕ) → t ≡ getD bs 4 0 → T (tagGood gs t q) → (vs : Values) → CellsOf gs (drop 8 bs) (p - 1 + partsBy t q) cs rest vs →
+        Ahead gs bs p (codeOf (firstCell bs) ∷ cs) rest
+    unfolding twos
+    back-by zero e g vs h = absurd g
+    back-by (suc zero) e g vs h =
+        let o : Word q = omega (arith, word-at bs 0 b) in
+        back-to (scalar (num whole (signed q))) vs e (twos-signed q o ∙ w) (signed-range q o, signed-range q o) refl h
+    back-by (suc (suc zero)) e g vs h = back-to (scalar (truth (eqb q 1))) vs e (bit-eqb q (ltb→lt q 2 g) ∙ w) (tt, tt) refl h
+    back-by (suc (suc (suc zero))) e g vs h =
+        let o = word-at bs 0 b in
+        back-to (scalar (element (q / 256) (q % 256))) vs e (omega arith) ((omega arith, omega arith), g) refl h
+    back-by (suc (suc (suc (suc zero)))) e g none h = absurd (omega (arith, h .counted))
+    back-by (suc (suc (suc (suc zero)))) e g (u ▸ none) h = absurd (omega (arith, h .counted))
+    back-by (suc (suc (suc (suc zero)))) e g (u ▸ v ▸ vs) h =
+        let i = h .held in
+        let j = and-of (scalarsGood gs u) (scalarsGood gs v) (i .0 .1) (i .1 .0 .1) in
+        back-to (pair u v) vs e (sym (eqb→eq q 0 g) ∙ w) ((i .0 .0, i .1 .0 .0), j) refl h
+    back-by (suc (suc (suc (suc (suc zero))))) e g vs h =
+        let o = word-at bs 0 b in
+        let s = split q vs (omega (arith, h .counted)) in
+        let i = subst (CellsOf gs (drop 8 bs) (p - 1 + q) cs rest) (s .whole) h in
+        let j = held-all gs (s .front) .0 (all-before (Held gs) (s .front) (s .back) .0 (i .held) .0) in
+        back-to (set (s .front)) (s .back) e (s .counted ∙ w) ((omega (arith, s .counted), j .0), j .1) (s .counted) i
+    back-by (suc (suc (suc (suc (suc (suc n)))))) e g vs h = absurd g
+
+  pub back : T (cellGood gs (firstCell bs)) → Ahead gs (drop 8 bs) (p - 1 + partsOf (firstCell bs)) cs rest → Ahead gs bs p (codeOf (firstCell bs) ∷ cs) rest
   unfolding cellGood
-  back g h =
-      let wd = word-at bs 0 b in
-      let t : firstCell bs / cellSize ≡ getD bs 4 0 = omega arith in
-      let q : firstCell bs % cellSize ≡ wordAt bs 0 = omega arith in
-      let g′ : T (tagGood gs (getD bs 4 0) (wordAt bs 0)) = rw (t, q) at g in
-      let c : count (h .values) ≡ (p - 1) + partsBy (getD bs 4 0) (wordAt bs 0) = h .counted ∙ rw (t, q) in
-      back-from (h .values) (h .bytes) (h .coded) (build gs (wordAt bs 0) (p - 1) wd (getD bs 4 0) (h .values) g′ c (h .held))
+  back g a =
+      let o = word-at bs 0 b in
+      back-by {q = firstCell bs % cellSize} (omega arith) (firstCell bs / cellSize) (omega arith) g (a .0) (a .1)
 
 -- A good value that is read is ahead.
-pub ahead-read : (gs bs : List ℕ) (v : Value) (rest : List ℕ) → Sizes gs → Bytes bs → value bs ≡ some (v, rest) → T (good gs v) →
+pub ahead-read : (gs bs : List ℕ) (v : Value) (rest : List ℕ) → Sizes gs → Bytes bs → value bs ≡ some (v, rest) → T (good gs v) → T (scalarsGood gs v) →
     Ahead gs bs 1 (code v) rest
 unfolding cells code
-ahead-read gs bs v rest z b e g = record {
-  values = v ▸ none;
-  counted = refl;
-  bytes = cells-value bs v rest b e ∙ ap (λ (l : List ℕ). l ++ rest) (sym (append-nil (cells v)));
-  coded = append-nil (code v);
-  held = ((encodable-wellFormed gs z v (omega (arith, good-weight gs v g)) (good-wellFormed gs v g), good-scalars gs v g), tt);
-}
+ahead-read gs bs v rest z b e g k = (
+  v ▸ none,
+  record {
+    counted = refl;
+    bytes = cells-value bs v rest b e ∙ ap (λ (l : List ℕ). l ++ rest) (sym (append-nil (cells v)));
+    coded = append-nil (code v);
+    held = ((encodable-wellFormed gs z v (omega (arith, good-weight gs v g)) (good-wellFormed gs v g), k), tt);
+  },
+)
 
 -- Each value that is ahead takes a cell.
-pub ahead-long : (gs bs : List ℕ) (p : ℕ) (cs rest : List ℕ) → Ahead gs bs p cs rest → p ≤ length cs
-ahead-long gs bs p cs rest h = omega (arith, h .counted, count-weights (h .values), length-codes (h .values), ap length (h .coded))
+pub ahead-long : {gs bs : List ℕ} {p : ℕ} {cs rest : List ℕ} → Ahead gs bs p cs rest → p ≤ length cs
+ahead-long a = omega (arith, a .1 .counted, count-weights (a .0), length-codes (a .0), ap length (a .1 .coded))

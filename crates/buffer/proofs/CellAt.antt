@@ -1,37 +1,27 @@
 -- A cell at a place of the buffer, and its form in the arena.
-use Prim.Native.Nat.{ℕ, _+_, _*_, _-_, _/_, _%_, _≤_, _<_}
+use Prim.Native.Nat.{ℕ, zero, suc, _+_, _*_, _-_, _/_, _%_, _≤_, _<_}
 use mathlib.Core.Bool.{Bool, true, false}
 use mathlib.Core.Logic.{_↔_, Iff·rfl}
 use mathlib.Core.List.{List}
 use mathlib.Core.Path.{_≡_, refl, sym, ap, _∙_}
 use native.Mathlib.Omega.{arith}
 use native.Mathlib.Nat.{add-zero}
-use lib.Dec.{T}
+use native.Mathlib.Decide.{decLt}
+use lib.Dec.{T, eqb}
 use lib.ListN.{length, getD, drop, length-drop}
 use lib.Seq.{getD-drop}
 use borrow.Author.Tests.{eq-eqb, ne-eqb}
 use Rattle.rules.specs.Tables.{wordAt}
 use Rattle.buffer.specs.declared.Step.the-variants.{End}
 use Rattle.laws.proofs.EndLaws.{T-true, T-false, T-and, T-leb, T-eqb}
-use Rattle.buffer.specs.Buffer.{cellFirst, firstCell, codeOf, cellGood, GoodCell, StepTakes}
+use Rattle.buffer.specs.Buffer.{cellFirst, firstCell, codeOf, tagGood, cellGood, GoodCell, StepTakes}
 
--- a byte further on
-ahead : (bs : List ℕ) (i k : ℕ) → getD bs (i + k) 0 ≡ getD bs (k + i) 0
-ahead bs i k = ap (λ (j : ℕ). getD bs j 0) (let e : i + k ≡ k + i = omega arith in e)
-
-pub word-drop : (bs : List ℕ) (at : ℕ) → wordAt (drop at bs) 0 ≡ wordAt bs at
-word-drop bs at =
-    omega (
-      arith,
-      getD-drop at bs 0 0,
-      getD-drop at bs 1 0,
-      getD-drop at bs 2 0,
-      getD-drop at bs 3 0,
-      ap (λ (j : ℕ). getD bs j 0) (add-zero at),
-      ahead bs at 1,
-      ahead bs at 2,
-      ahead bs at 3,
-    )
+word-drop : (bs : List ℕ) (at k : ℕ) → wordAt bs (at + k) ≡ wordAt (drop at bs) k
+word-drop bs at k =
+    let e₁ : 1 + (at + k) ≡ at + (1 + k) = omega arith in
+    let e₂ : 2 + (at + k) ≡ at + (2 + k) = omega arith in
+    let e₃ : 3 + (at + k) ≡ at + (3 + k) = omega arith in
+    rw (e₁, e₂, e₃) (omega (arith, getD-drop at bs k 0, getD-drop at bs (1 + k) 0, getD-drop at bs (2 + k) 0, getD-drop at bs (3 + k) 0))
 
 -- A cell: there are eight bytes, and the last three are zero.
 pub first-right : (ds : List ℕ) → T (cellFirst ds) ↔ ((8 ≤ length ds) × (getD ds 5 0 + getD ds 6 0 + getD ds 7 0 ≡ 0))
@@ -43,32 +33,49 @@ cell-held bs at h = omega (arith, first-right (drop at bs) .0 h .0, length-drop 
 pub cell-short : (gs bs : List ℕ) (at : ℕ) → length bs < at + 8 → StepTakes gs bs at End
 cell-short gs bs at l h k = omega (arith, cell-held bs at h)
 
--- The second word of the eight bytes: the tag, and the three bytes that are to be zero.
-high-word : (bs : List ℕ) (at : ℕ) →
-    wordAt bs (at + 4) ≡ getD (drop at bs) 4 0 + 256 * getD (drop at bs) 5 0 + 65536 * getD (drop at bs) 6 0 + 16777216 * getD (drop at bs) 7 0
-high-word bs at =
-    let e : 1 + (at + 4) ≡ at + 5 = omega arith in
-    let f : 2 + (at + 4) ≡ at + 6 = omega arith in
-    let g : 3 + (at + 4) ≡ at + 7 = omega arith in
-    rw (getD-drop at bs 4 0, getD-drop at bs 5 0, getD-drop at bs 6 0, getD-drop at bs 7 0, ← e, ← f, ← g) (omega arith)
+-- Good cells, by the tag.
+pub good-by : (gs : List ℕ) (x t p k : ℕ) → t ≡ x / 4294967296 → p ≡ x % 4294967296 → t ≡ k → tagGood gs k p ≡ cellGood gs x
+unfolding cellGood
+good-by gs x t p k e f g = rw (← g, e, f)
 
--- The cell of two words, good or not; and one that is none.
+pub good-last : (gs : List ℕ) (t p : ℕ) → (t ≡ 1 → ⊥) → (t ≡ 2 → ⊥) → (t ≡ 3 → ⊥) → (t ≡ 4 → ⊥) → eqb t 5 ≡ tagGood gs t p
+good-last gs zero p a b c d = refl
+good-last gs (suc zero) p a b c d = absurd (a refl)
+good-last gs (suc (suc zero)) p a b c d = absurd (b refl)
+good-last gs (suc (suc (suc zero))) p a b c d = absurd (c refl)
+good-last gs (suc (suc (suc (suc zero)))) p a b c d = absurd (d refl)
+good-last gs (suc (suc (suc (suc (suc zero))))) p a b c d = refl
+good-last gs (suc (suc (suc (suc (suc (suc n)))))) p a b c d = ne-eqb (suc (suc (suc (suc (suc (suc n)))))) 5 (λ e. omega arith)
+
+-- Their tags are small, so that the three bytes behind the tag are zero.
+tag-small : (gs : List ℕ) (t p : ℕ) → T (tagGood gs t p) → t < 6
+tag-small gs t p h = go (decLt t 5)
+  where
+    go : Dec (t < 5) → t < 6
+    go (yes l) = omega arith
+    go (no l) = omega (arith, T-eqb t 5 .0 (rw (good-last gs t p (λ e. omega arith) (λ e. omega arith) (λ e. omega arith) (λ e. omega arith)) h))
+
+-- The cell of two words, good or not.
 module _ (gs bs : List ℕ) (at p q : ℕ) (low : p ≡ wordAt bs at) (high : q ≡ wordAt bs (at + 4)) where
-  pub cell-marked : getD bs (at + 4) 0 < 256 → 256 ≤ q → StepTakes gs bs at End
-  cell-marked l h k g = omega (arith, first-right (drop at bs) .0 k .1, high-word bs at, getD-drop at bs 4 0)
+  -- the second is the tag, and the three bytes that are to be zero
+  words : (p ≡ wordAt (drop at bs) 0) × (q ≡ wordAt (drop at bs) 4)
+  words = (low ∙ ap (wordAt bs) (sym (add-zero at)) ∙ word-drop bs at 0, high ∙ word-drop bs at 4)
 
   cell-number : T (cellFirst (drop at bs)) → p + 4294967296 * q ≡ firstCell (drop at bs)
-  cell-number h = omega (arith, first-right (drop at bs) .0 h .1, high-word bs at, word-drop bs at)
+  cell-number h = omega (arith, first-right (drop at bs) .0 h .1, words)
 
   pub cell-bad : {r : Bool} → r ≡ cellGood gs (p + 4294967296 * q) → r ≡ false → StepTakes gs bs at End
   cell-bad e f h k = T-false (cellGood gs (p + 4294967296 * q)) .1 (sym e ∙ f) (rw (cell-number h) k)
 
-  pub cell-good : {r : Bool} → at + 8 ≤ length bs → q < 256 → r ≡ cellGood gs (p + 4294967296 * q) → r ≡ true →
-      GoodCell gs bs at (p + 4294967296 * q) (at + 8)
-  cell-good l z e f =
-      let w = high-word bs at in
+  pub cell-good : {r : Bool} → at + 8 ≤ length bs → r ≡ cellGood gs (p + 4294967296 * q) → r ≡ true → GoodCell gs bs at (p + 4294967296 * q) (at + 8)
+  unfolding cellGood
+  cell-good l e f =
+      let x = p + 4294967296 * q in
+      let g = T-true (cellGood gs x) .1 (sym e ∙ f) in
+      let z : q < 6 = omega (arith, tag-small gs (x / 4294967296) (x % 4294967296) g) in
+      let w = words in
       let h = first-right (drop at bs) .1 (omega (arith, length-drop at bs), omega arith) in
-      record { here = h; number = cell-number h; good = T-true (cellGood gs (p + 4294967296 * q)) .1 (sym e ∙ f); behind = refl }
+      record { here = h; number = cell-number h; good = g; behind = refl }
 
 pub code-number : (x t l : ℕ) → t ≡ x / 4294967296 → t ≡ 1 → l ≡ x % 4294967296 → 4294967296 + (l + 2147483648) % 4294967296 ≡ codeOf x
 unfolding codeOf

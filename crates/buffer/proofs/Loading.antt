@@ -1,30 +1,32 @@
 -- Reading the values of identifiers one after the other.
 use Prim.Native.Nat.{ℕ, zero, suc, _+_, _*_, _-_, _≤_, _<_}
-use mathlib.Core.Bool.{Bool, true, false, _&&_}
+use mathlib.Core.Bool.{true, false, _&&_}
 use mathlib.Core.List.{List, [], _∷_, _++_, append-assoc, append-nil}
 use mathlib.Core.Option.{Option, none as nothing, some}
 use mathlib.Core.Path.{_≡_, refl, sym, ap, subst, _∙_}
 use native.Mathlib.Omega.{arith}
 use native.Mathlib.Numerals.{add-one}
-use native.Mathlib.Decide.{ℕ-discrete, decLt}
+use native.Mathlib.Decide.{ℕ-discrete}
 use lib.Dec.{T}
-use lib.ListN.{length, getD, drop, set as setAt, length-append, length-set, drop-of-length-le, List·getD-append, List·getD-eq-default}
-use lib.Seq.{drop-cons, getD-set-same, getD-set-other, getD-append-add}
+use lib.ListN.{length, getD, drop, set as setAt, length-append, length-set, drop-of-length-le}
+use lib.Seq.{drop-cons, getD-set-same, getD-set-other}
 use Rattle.rules.specs.Values.{Value}
 use Rattle.rules.specs.Ends.{End, done, refused, _>>=_, require}
 use Rattle.rules.specs.Fits.{typed}
 use Rattle.rules.specs.Cells.{value, good, noValue, orFault, valueFor, nothingLeft, valuesFrom}
 use Rattle.laws.proofs.CellsLaws.{good-typed}
+use Rattle.laws.proofs.EndLaws.{T-true, T-false}
 use Rattle.arena.specs.Code.{excess, code, EndsAt, Same, ValueBelow}
-use Rattle.arena.proofs.CodeLaws.{length-code}
-use Rattle.arena.proofs.Standing.{same-refl, same-trans, stands-frame}
+use Rattle.arena.proofs.FrontLaws.{value-frame}
+use Rattle.arena.proofs.Standing.{same-refl, same-trans}
 use Rattle.arena.proofs.ValueParts.{ends-at}
 use Rattle.buffer.specs.Buffer.{cellsAtMost, ReadAt, Unread}
 use Rattle.buffer.specs.Ordered.{ordered, WholeValue}
 use Rattle.buffer.specs.Shared.{Fine}
 use Rattle.buffer.specs.Loaded.{Entered, Bound}
 use Rattle.rules.proofs.Basics.{and-of}
-use Rattle.buffer.proofs.Goodness.{good-ordered, good-of}
+use Rattle.buffer.proofs.FineValues.{good-ordered, good-of}
+use Rattle.buffer.proofs.Walk.{set-stands}
 
 -- One value.
 module _ {gs bs : List ℕ} {at : ℕ} {s : List ℕ} {top next end : ℕ} (h : ReadAt gs bs at s top next end) where
@@ -36,9 +38,7 @@ module _ {gs bs : List ℕ} {at : ℕ} {s : List ℕ} {top next end : ℕ} (h : 
 
   same-read : (v : Value) (rest : List ℕ) → value (drop at bs) ≡ some (v, rest) → v ≡ h .first
   same-read v rest e =
-      let p : _≡_ {A = Option (Value × List ℕ)} (some (v, rest)) (some (h .first, drop next bs)) = sym e ∙ h .reads in
-      let q : _≡_ {A = Value × List ℕ} (v, rest) (h .first, drop next bs) = cc in
-      ap (λ (z : Value × List ℕ). z .0) q
+      let q : _≡_ {A = Value × List ℕ} (v, rest) (h .first, drop next bs) = cc (h .reads) in ap (λ (z : Value × List ℕ). z .0) q
 
   pub read-bad : Fine s top false → Unread gs bs at
   read-bad o v rest e g =
@@ -49,14 +49,6 @@ module _ {gs bs : List ℕ} {at : ℕ} {s : List ℕ} {top next end : ℕ} (h : 
 for-bound : (gs : List ℕ) (w x : ℕ) (bs : List ℕ) → (w ≡ 0 → ⊥) → valueFor gs w x bs ≡ done (noValue, bs)
 for-bound gs zero x bs n = absurd (n refl)
 for-bound gs (suc w) x bs n = refl
-
-for-good : (gs : List ℕ) (w x : ℕ) (bs : List ℕ) (v : Value) (rest : List ℕ) → w ≡ 0 → value bs ≡ some (v, rest) → T (good gs v) →
-    valueFor gs w x bs ≡ done (v, rest)
-for-good gs w x bs v rest z e g = rw (z, e) (passes (good gs v) (v, rest) g)
-  where
-    passes : (b : Bool) (r : Value × List ℕ) → T b → (require 14 x b >>= λ _. done r) ≡ done r
-    passes true r t = refl
-    passes false r t = absurd t
 
 pub entry-bound : (gs : List ℕ) (w : ℕ) (bs : List ℕ) (at : ℕ) (s : List ℕ) (nowhere top : ℕ) → (w ≡ 0 → ⊥) →
     Entered gs w bs at s s nowhere top nowhere at top
@@ -75,7 +67,7 @@ entry-free {gs} {bs} {at} {s′} {top} {next} {end} w s nowhere z h o =
     let g = good-of gs (h .first) (h .good) (subst T (o (h .first) (h .stands) (h .fits)) tt) (h .light) in
     record {
       first = h .first;
-      reads = λ x. for-good gs w x (drop at bs) (h .first) (drop next bs) z (h .reads) g;
+      reads = λ x. rw (z, h .reads, T-true (good gs (h .first)) .0 g);
       below = λ b. record { stands = h .stands; below = omega (arith, h .ends); fits = h .fits; light = h .light };
       grows = omega (arith, h .ends);
       near = omega (arith, h .ends, h .light, h .held);
@@ -85,22 +77,15 @@ entry-free {gs} {bs} {at} {s′} {top} {next} {end} w s nowhere z h o =
 pub entry-bad : (gs : List ℕ) (w x : ℕ) (bs : List ℕ) (at : ℕ) → w ≡ 0 → Unread gs bs at → valueFor gs w x (drop at bs) ≡ refused 14 x
 entry-bad gs w x bs at z u = rw z (go (value (drop at bs)) refl)
   where
-    fails : (b : Bool) (r : Value × List ℕ) → (T b → ⊥) → (require 14 x b >>= λ _. done r) ≡ refused 14 x
-    fails true r n = absurd (n tt)
-    fails false r n = refl
-
     go : (r : Option (Value × List ℕ)) → value (drop at bs) ≡ r → (orFault x r >>= λ p. require 14 x (good gs (p .0)) >>= λ _. done p) ≡ refused 14 x
     go nothing e = refl
-    go (some p) e = fails (good gs (p .0)) p (u (p .0) (p .1) e)
+    go (some p) e = rw (T-false (good gs (p .0)) .0 (u (p .0) (p .1) e))
 
 -- A value below `top` stays where nothing below changes.
-pub below-same : (s s′ : List ℕ) (top end at : ℕ) (v : Value) → Same top s s′ → top ≤ end → ValueBelow s top at v → ValueBelow s′ end at v
-below-same s s′ top end at v h l b = record {
-  stands = stands-frame top s s′ at (code v) h (omega (arith, b .below, length-code v)) (b .stands);
-  below = omega (arith, b .below);
-  fits = b .fits;
-  light = b .light;
-}
+below-same : {s s′ : List ℕ} {top end at : ℕ} {v : Value} → Same top s s′ → top ≤ end → ValueBelow s top at v → ValueBelow s′ end at v
+below-same {s} {s′} {top} {at = at} {v} h l b =
+    let c = value-frame top s s′ top at v h (omega arith) b in
+    record { stands = c .stands; below = omega (arith, c .below); fits = c .fits; light = c .light }
 
 -- The values of the first x identifiers have been read.
 pub record Loading (gs ws bs : List ℕ) (x at : ℕ) (s₀ s : List ℕ) (top end : ℕ) (env : List ℕ) : Type 0 where
@@ -118,19 +103,8 @@ pub record Loading (gs ws bs : List ℕ) (x at : ℕ) (s₀ s : List ℕ) (top e
 
 noValue-cell : (s : List ℕ) (top : ℕ) → top < length s → ValueBelow (setAt s top 6442450944) (top + 1) top noValue
 unfolding code excess
-noValue-cell s top l = record {
-  stands = record {
-    inside = omega (arith, length-set s top 6442450944);
-    cells = λ i p. first i p;
-  };
-  below = omega arith;
-  fits = (omega arith, omega arith);
-  light = omega arith;
-}
-  where
-    first : (i : ℕ) → i < 1 → getD (setAt s top 6442450944) (top + i) 0 ≡ getD (code noValue) i 0
-    first zero p = ap (λ (j : ℕ). getD (setAt s top 6442450944) j 0) (let e : top + 0 ≡ top = omega arith in e) ∙ getD-set-same s top 6442450944 0 l
-    first (suc i) p = absurd (omega arith)
+noValue-cell s top l =
+    record { stands = set-stands s top 6442450944 l; below = omega arith; fits = (omega arith, omega arith); light = omega arith }
 
 bind-done : {A : Type 0} (e : End (List A)) → e ≡ (e >>= λ vs. done ([] ++ vs))
 bind-done (done vs) = refl
@@ -169,18 +143,15 @@ from-refused : (gs ws bs : List ℕ) (w x : ℕ) → valueFor gs w x bs ≡ refu
 unfolding valuesFrom
 from-refused gs ws bs w x e = rw e
 
-getD-more : (front : List Value) (v : Value) (y : ℕ) → (y ≡ length front → ⊥) → getD (front ++ (v ∷ [])) y noValue ≡ getD front y noValue
-getD-more front v y n = go (decLt y (length front))
-  where
-    go : Dec (y < length front) → getD (front ++ (v ∷ [])) y noValue ≡ getD front y noValue
-    go (yes l) = List·getD-append front (v ∷ []) noValue y l
-    go (no l) =
-        List·getD-eq-default (front ++ (v ∷ [])) noValue (omega (arith, length-append front (v ∷ []))) ∙ sym (List·getD-eq-default front noValue (omega arith))
+getD-more : (l : List Value) (v : Value) (y : ℕ) → (y ≡ length l → ⊥) → getD (l ++ (v ∷ [])) y noValue ≡ getD l y noValue
+getD-more [] v zero n = absurd (n refl)
+getD-more [] v (suc y) n = refl
+getD-more (w ∷ l) v zero n = refl
+getD-more (w ∷ l) v (suc y) n = getD-more l v y (λ e. n (ap suc e))
 
-getD-last : (front : List Value) (v : Value) (y : ℕ) → y ≡ length front → getD (front ++ (v ∷ [])) y noValue ≡ v
-getD-last front v y e =
-    let f : y ≡ length front + 0 = omega arith in
-    ap (λ (j : ℕ). getD (front ++ (v ∷ [])) j noValue) f ∙ getD-append-add front (v ∷ []) 0 noValue
+getD-last : (l : List Value) (v : Value) → getD (l ++ (v ∷ [])) (length l) noValue ≡ v
+getD-last [] v = refl
+getD-last (w ∷ l) v = getD-last l v
 
 module _ {gs ws bs : List ℕ} {x at : ℕ} {s₀ s : List ℕ} {top end : ℕ} {env : List ℕ} (h : Loading gs ws bs x at s₀ s top end env) where
   words-next : x < length ws → drop x ws ≡ getD ws x 0 ∷ drop (x + 1) ws
@@ -196,7 +167,7 @@ module _ {gs ws bs : List ℕ} {x at : ℕ} {s₀ s : List ℕ} {top end : ℕ} 
         whole = h .whole ∙ rw (words-next l, from-next gs (drop (x + 1) ws) (drop at bs) (drop next bs) (getD ws x 0) x v (g .reads x))
             (bind-front (valuesFrom gs (drop (x + 1) ws) (x + 1) (drop next bs)) (h .front) v);
         bound = λ y m. named y m (ℕ-discrete y x);
-        nowhere = below-same s s′ end e top noValue f (g .grows) (h .nowhere);
+        nowhere = below-same f (g .grows) (h .nowhere);
         frame = same-trans top end s₀ s s′ (h .frame) f (omega (arith, h .above));
         room = omega (arith, h .room, h .spent, g .near);
         spent = omega (arith, h .spent, g .spent, h .above, g .grows);
@@ -207,10 +178,9 @@ module _ {gs ws bs : List ℕ} {x at : ℕ} {s₀ s : List ℕ} {top end : ℕ} 
     where
       named : (y : ℕ) → y < 32 → Dec (y ≡ x) → ValueBelow s′ e (getD (setAt env x place) y 0) (getD (h .front ++ (g .first ∷ [])) y noValue)
       named y m (yes n) =
-          rw (n, getD-set-same env x place 0 (omega (arith, h .wide)), getD-last (h .front) (g .first) x (sym (h .counted))) (g .below (h .nowhere))
+          rw (n, getD-set-same env x place 0 (omega (arith, h .wide)), ← h .counted, getD-last (h .front) (g .first)) (g .below (h .nowhere))
       named y m (no n) =
-          rw (getD-set-other env x y place 0 n, getD-more (h .front) (g .first) y (λ p. n (p ∙ h .counted)))
-          (below-same s s′ end e (getD env y 0) (getD (h .front) y noValue) f (g .grows) (h .bound y m))
+          rw (getD-set-other env x y place 0 n, getD-more (h .front) (g .first) y (λ p. n (p ∙ h .counted))) (below-same f (g .grows) (h .bound y m))
 
   pub loading-bad : x < length ws → valueFor gs (getD ws x 0) x (drop at bs) ≡ refused 14 x → valuesFrom gs ws 0 bs ≡ refused 14 x
   loading-bad l u =
@@ -232,10 +202,3 @@ module _ {gs ws bs : List ℕ} {x at : ℕ} {s₀ s : List ℕ} {top end : ℕ} 
     above = h .above;
     room = omega (arith, h .room, h .within);
   }
-
--- The cell at `top` is not below it.
-pub frame-all : (s s′ : List ℕ) (top x : ℕ) → Same top (setAt s top x) s′ → Same top s s′
-frame-all s s′ top x h = record {
-  same = λ i l. h .same i l ∙ getD-set-other s top i x 0 (λ e. omega arith);
-  kept = h .kept ∙ length-set s top x;
-}

@@ -84,7 +84,7 @@ abbrev pub Unread : List ℕ → List ℕ → ℕ → Type 0
 Unread gs bs at = (v : Value) (rest : List ℕ) → valueFirst (drop at bs) ≡ some (v, rest) → T (good gs v) → ⊥
 
 -- What reading one value asks: the arena has room for it from `top` on.
-pub record PlaceReady (table bs : List ℕ) (at : ℕ) (s : List ℕ) (top : ℕ) : Type 0 where
+pub record CopyReady (table bs : List ℕ) (at : ℕ) (s : List ℕ) (top : ℕ) : Type 0 where
   pub readable : Readable table
   pub room : top + cellsAtMost 1 (length bs - at) ≤ length s
 

@@ -9,7 +9,7 @@ use Rattle.rules.specs.Cells.{noValue, valueFor, valuesFrom}
 use Rattle.rules.specs.Tables.{tableOf, identifierCount}
 use Rattle.rules.specs.Readable.{Readable}
 use Rattle.arena.specs.Code.{ValueBelow}
-use Rattle.buffer.specs.Buffer.{cellsAtMost, PlaceReady}
+use Rattle.buffer.specs.Buffer.{cellsAtMost, CopyReady}
 use Rattle.buffer.specs.declared.Entry.{Entry}
 use Rattle.buffer.specs.declared.Entry.the-variants.{Of, Bad}
 use Rattle.buffer.specs.declared.Loaded.{Loaded}
@@ -33,7 +33,7 @@ Enters table x bs at s s′ none top Bad = valueFor (tableOf table .sizes) (getD
 -- What reading it asks.
 pub record EntryReady (table : List ℕ) (x : ℕ) (bs : List ℕ) (at : ℕ) (s : List ℕ) (top : ℕ) : Type 0 where
   pub named : x < identifierCount table
-  pub place : PlaceReady table bs at s top
+  pub copy : CopyReady table bs at s top
 
 -- Each identifier's value stands below `end` where the environment says; those without one have the cell of `noValue`. What
 -- has been read lies from `top` on, within the room that was asked for.

@@ -2,10 +2,9 @@
 use Prim.Native.Nat.{ℕ}
 use mathlib.Core.Bool.{Bool, true, _&&_}
 use mathlib.Core.List.{List}
-use mathlib.Core.Path.{_≡_}
-use Rattle.rules.specs.Values.{Value, scalar, pair, set, Values, none, _▸_, count}
+use Rattle.rules.specs.Values.{Value, scalar, pair, set, Values, none, _▸_}
 use Rattle.rules.specs.Cells.{precedes}
-use Rattle.arena.specs.Code.{ValuesAt, AllFit, SomeAt, EndsAt}
+use Rattle.arena.specs.Code.{SomeAt, EndsAt}
 
 -- The members of a set rise.
 abbrev pub inOrder : Values → Bool
@@ -22,19 +21,6 @@ abbrev mutual
   pub orderedAll : Values → Bool
   orderedAll none = true
   orderedAll (v ▸ vs) = ordered v && orderedAll vs
-
--- n values stand from `at` on.
-pub record MembersAt (s : List ℕ) (at n : ℕ) (vs : Values) : Type 0 where
-  pub stands : ValuesAt s at vs
-  pub fits : AllFit vs
-  pub counted : n ≡ count vs
-
-abbrev pub SomeMembersAt : List ℕ → ℕ → ℕ → Type 0
-SomeMembersAt s at n = (vs : Values) × MembersAt s at n vs
-
--- r says whether they rise.
-abbrev pub InOrder : List ℕ → ℕ → ℕ → Bool → Type 0
-InOrder s at n r = (vs : Values) → MembersAt s at n vs → r ≡ inOrder vs
 
 -- A value stands from `at` to `end`.
 pub record WholeValue (s : List ℕ) (at end : ℕ) : Type 0 where

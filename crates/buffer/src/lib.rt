@@ -5,14 +5,11 @@ ghost use Prim.Native.Nat.{_+_, _≤_, _<_};
 ghost use lib.ListN.{getD};
 ghost use Rattle.rules.specs.Tables.{tableOf};
 ghost use Rattle.rules.specs.Readable.{Header};
-ghost use Rattle.buffer.specs.Buffer.{codeOf, cellGood, cellsAtMost, StepTakes, PlaceReady, Places};
+ghost use Rattle.buffer.specs.Buffer.{codeOf, cellGood, cellsAtMost, StepTakes, CopyReady, Places};
 ghost use Rattle.arena.specs.Code.{Same};
-ghost use Rattle.buffer.specs.Ordered.{SomeMembersAt, InOrder, WholeValue};
-ghost use Rattle.buffer.specs.Shared.{SomeTypedRow, Shares, leastAlike, mostAlike, MembersFine, isFlat, Fine};
+ghost use Rattle.buffer.specs.Ordered.{WholeValue};
+ghost use Rattle.buffer.specs.Shared.{SomeTypedRow, mostAlike, MembersFine, setsEnd, Fine};
 ghost use Rattle.buffer.specs.Loaded.{EntryReady, Enters, Loads, LoadReady};
-
-// A cell in the buffer: its payload, its tag times 2^32, and zero bytes from FREE on.
-const FREE: u64 = 256 * arena::CELL;
 
 // A place in the values buffer where a cell may begin.
 pub struct Cursor {
@@ -64,9 +61,7 @@ impl Cursor {
             return Step::End;
         }
         let x = table::word(values, at) as u64 + arena::CELL * table::word(values, at + 4) as u64;
-        if x >= FREE {
-            return Step::End;
-        }
+        // Where the last three bytes are not zero, x has no tag of a value.
         if !good_cell(table, x) {
             return Step::End;
         }
@@ -121,7 +116,7 @@ pub fn cells_at_most(n: usize, bytes: usize) -> usize
 
 // Reads one value of at most 256 cells and copies it to the arena at top.
 fn copy_value(table: &[u8], from: Cursor, values: &[u8], s: &mut [u64], top: usize) -> Placed
-    requires { ⌜ PlaceReady (now table) (now values) (from .at) (now s) top ⌝ }
+    requires { ⌜ CopyReady (now table) (now values) (from .at) (now s) top ⌝ }
     ensures { λ r. ⌜
         Same top (now (s .entry)) (now (s .exit)) ×
         Places (tableOf (now (table .entry)) .sizes) (now (values .entry)) (from .at) (now (s .exit)) top r
@@ -146,45 +141,6 @@ fn copy_value(table: &[u8], from: Cursor, values: &[u8], s: &mut [u64], top: usi
     Placed::At(c, top + n)
 }
 
-// Whether n values from `at` on rise, value by value.
-fn values_rise(s: &[u64], at: usize, n: u64) -> bool
-    requires { ⌜ SomeMembersAt (now s) at n ⌝ }
-    ensures { λ r. ⌜ InOrder (now (s .entry)) at n r ⌝ }
-{
-    let mut i = at;
-    let mut left = n;
-    while left > 1 {
-        let e = arena::end_of(s, i);
-        if arena::compare(s, i, e, e) != 0 {
-            return false;
-        }
-        i = e;
-        left -= 1;
-    }
-    true
-}
-
-// Whether n values from `at` on rise. Where a scalar's cell is less than the next one, so is the scalar than the next value.
-fn in_order(s: &[u64], at: usize, n: u64) -> bool
-    requires { ⌜ SomeMembersAt (now s) at n ⌝ }
-    ensures { λ r. ⌜ InOrder (now (s .entry)) at n r ⌝ }
-{
-    let mut i = at;
-    let mut left = n;
-    while left > 1 {
-        let x = s[i];
-        if x >= arena::PAIR {
-            return values_rise(s, i, left);
-        }
-        i += 1;
-        if s[i] <= x {
-            return false;
-        }
-        left -= 1;
-    }
-    true
-}
-
 // How many of k values that share a type stand for all of them: the first, where it has one type only.
 fn few(one: bool, k: u64) -> u64
     ensures { λ r. ⌜ r ≡ cond one 1 k ⌝ }
@@ -195,16 +151,33 @@ fn few(one: bool, k: u64) -> u64
     k
 }
 
-// The cells of the scalars that share a type with the scalar of the cell x lie from `least` to `most`: elements are of one given set.
-fn least(x: u64) -> u64
-    ensures { λ r. ⌜ r ≡ leastAlike x ⌝ }
+// Whether n values from `at` on rise and share a type, value by value.
+fn values_fine(s: &[u64], at: usize, n: u64) -> bool
+    requires { ⌜ SomeTypedRow (now s) at n × (0 < n) ⌝ }
+    ensures { λ r. ⌜ MembersFine (now (s .entry)) at n r ⌝ }
 {
-    if arena::tag(x) == 3 {
-        return x / 256 * 256;
+    let end = arena::end_of(s, at);
+    // A value with no empty set in it has one type only.
+    let one = fitting::full(s, at, end);
+    let mut i = at;
+    let mut e = end;
+    let mut k: u64 = 1;
+    while k < n {
+        if arena::compare(s, i, e, e) != 0 {
+            return false;
+        }
+        let m = few(one, k);
+        if !fitting::against(s, e, at, m as usize) {
+            return false;
+        }
+        i = e;
+        e = arena::end_of(s, i);
+        k += 1;
     }
-    x / arena::CELL * arena::CELL
+    true
 }
 
+// The greatest cell of a scalar that shares a type with the scalar of the cell x: elements are of one given set.
 fn most(x: u64) -> u64
     ensures { λ r. ⌜ r ≡ mostAlike x ⌝ }
 {
@@ -214,62 +187,27 @@ fn most(x: u64) -> u64
     x / arena::CELL * arena::CELL + 4294967295
 }
 
-// Whether n values from `at` on, the first a scalar, share a type: all are scalars, one cell each.
-fn cells_share(s: &[u64], at: usize, n: u64) -> bool
+// Whether n values from `at` on, the first a scalar, rise and share a type: they are scalars, one cell each, up to the greatest of the type.
+fn cells_fine(s: &[u64], at: usize, n: u64) -> bool
     requires { ⌜ SomeTypedRow (now s) at n × (0 < n) × (getD (now s) at 0 < 17179869184) ⌝ }
-    ensures { λ r. ⌜ Shares (now (s .entry)) at n r ⌝ }
+    ensures { λ r. ⌜ MembersFine (now (s .entry)) at n r ⌝ }
 {
-    let x = s[at];
-    let low = least(x);
-    let high = most(x);
-    let end = at + n as usize;
-    let mut i = at + 1;
-    while i < end {
+    let high = most(s[at]);
+    let mut i = at;
+    let mut left = n;
+    while left > 1 {
+        let x = s[i];
+        i += 1;
         let y = s[i];
-        if y < low {
+        if y <= x {
             return false;
         }
         if y > high {
             return false;
         }
-        i += 1;
+        left -= 1;
     }
     true
-}
-
-// Whether n values from `at` on share a type, value by value.
-fn values_share(s: &[u64], at: usize, n: u64) -> bool
-    requires { ⌜ SomeTypedRow (now s) at n × (0 < n) ⌝ }
-    ensures { λ r. ⌜ Shares (now (s .entry)) at n r ⌝ }
-{
-    let end = arena::end_of(s, at);
-    // A value with no empty set in it has one type only.
-    let one = fitting::full(s, at, end);
-    let mut i = end;
-    let mut k: u64 = 1;
-    while k < n {
-        let m = few(one, k);
-        if !fitting::against(s, i, at, m as usize) {
-            return false;
-        }
-        i = arena::end_of(s, i);
-        k += 1;
-    }
-    true
-}
-
-// Whether n values from `at` on share a type.
-fn share(s: &[u64], at: usize, n: u64) -> bool
-    requires { ⌜ SomeTypedRow (now s) at n ⌝ }
-    ensures { λ r. ⌜ Shares (now (s .entry)) at n r ⌝ }
-{
-    if n == 0 {
-        return true;
-    }
-    if s[at] < arena::PAIR {
-        return cells_share(s, at, n);
-    }
-    values_share(s, at, n)
 }
 
 // Whether n values from `at` on rise and share a type, as the members of a set do.
@@ -277,52 +215,46 @@ fn members_fine(s: &[u64], at: usize, n: u64) -> bool
     requires { ⌜ SomeTypedRow (now s) at n ⌝ }
     ensures { λ r. ⌜ MembersFine (now (s .entry)) at n r ⌝ }
 {
-    if !in_order(s, at, n) {
-        return false;
+    if n == 0 {
+        return true;
     }
-    share(s, at, n)
+    if s[at] < arena::PAIR {
+        return cells_fine(s, at, n);
+    }
+    values_fine(s, at, n)
 }
 
-// Whether the members of each set in the value from `at` to `end` do, from the innermost outward.
-fn sets_fine(s: &[u64], at: usize, end: usize) -> bool
+// Where the cells of sets end in the value from `at` to `end`, whose first cell is x: a set whose members are one cell each has no other set
+// that is to be tested.
+fn sets_end(x: u64, at: usize, end: usize) -> usize
+    requires { ⌜ at < end ⌝ }
+    ensures { λ r. ⌜ r ≡ setsEnd x at end ⌝ }
+{
+    if x < arena::SET {
+        return end;
+    }
+    if arena::low(x) as usize + 1 == end - at {
+        return at + 1;
+    }
+    end
+}
+
+// Whether the sets in the value from `at` to `end` are in order and it has a type: so are the members of each set, from the innermost outward.
+fn fine(s: &[u64], at: usize, end: usize) -> bool
     requires { ⌜ WholeValue (now s) at end ⌝ }
     ensures { λ r. ⌜ Fine (now (s .entry)) at r ⌝ }
 {
-    let mut i = end;
+    let mut i = sets_end(s[at], at, end);
     while i > at {
-        let next = i;
         i -= 1;
         let x = s[i];
         if x >= arena::SET {
-            if !members_fine(s, next, arena::low(x)) {
+            if !members_fine(s, i + 1, arena::low(x)) {
                 return false;
             }
         }
     }
     true
-}
-
-// Whether a value of n cells, the first of which is x, is a set whose members are one cell each.
-fn flat(x: u64, n: usize) -> bool
-    ensures { λ r. ⌜ r ≡ isFlat x n ⌝ }
-{
-    if x < arena::SET {
-        return false;
-    }
-    arena::low(x) as usize + 1 == n
-}
-
-// Whether the sets in the value from `at` to `end` are in order and it has a type.
-fn fine(s: &[u64], at: usize, end: usize) -> bool
-    requires { ⌜ WholeValue (now s) at end ⌝ }
-    ensures { λ r. ⌜ Fine (now (s .entry)) at r ⌝ }
-{
-    let x = s[at];
-    // In a set whose members are one cell each there is no other set to be tested.
-    if flat(x, end - at) {
-        return members_fine(s, at + 1, arena::low(x));
-    }
-    sets_fine(s, at, end)
 }
 
 // The value of the identifier x: a free one reads one without the faults that refusal 14 names; a bound one has the value at `none`.

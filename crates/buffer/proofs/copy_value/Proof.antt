@@ -5,9 +5,10 @@ use native.Mathlib.Omega.{arith}
 use borrow.Author.Needs.{needs}
 use lib.ListN.{length}
 use Rattle.rules.specs.Tables.{tableOf}
-use Rattle.laws.proofs.CellsLaws.{Bytes, Sizes}
+use Rattle.laws.proofs.CellsLaws.{Sizes}
 use Rattle.buffer.specs.declared.Step.{Step}
-use Rattle.buffer.specs.Buffer.{StepTakes, GoodCell}
+use Rattle.buffer.specs.declared.Step.the-variants.{Cell}
+use Rattle.buffer.specs.Buffer.{StepTakes}
 use Rattle.buffer.proofs.Walk.{Walk, bytes-all, readable-sizes, walk-start, walk-room, walk-step, walk-none, walk-heavy, walk-end}
 use Rattle.buffer.proofs.copy_value.Statement.{statement}
 use Rattle.buffer.proofs.copy_value.Tie as tie
@@ -19,25 +20,15 @@ Inv-loop table values s₀ top c₀ n₀ left₀ s c n left =
 abbrev μ-loop : tie.MeasureT-loop
 μ-loop table values s₀ top c₀ n₀ left₀ s c n left = 256 - n
 
--- Before the loop: what was lent, and that the buffer holds bytes.
-abbrev Begun : Type 0
-Begun = tie.After-slice-known Inv-loop μ-loop
-
-abbrev lent : Begun → tie.Start Inv-loop μ-loop
-lent b = b .before .before .before
-
-bytes : (b : Begun) → Bytes (lent b .args .values .now)
-bytes b = bytes-all (lent b .args .values .now) (λ i l. omega (arith, b .before .shared-slice-known2 .given i))
-
--- A turn of the loop; the cell has been taken, or none is there; it is a good cell.
+-- A turn of the loop, and what was lent; the cell has been taken, or none is there; it is a good cell.
 abbrev Turn : Type 0
 Turn = tie.In-loop Inv-loop μ-loop
 
-abbrev begun : Turn → Begun
-begun l = l .before .before
+abbrev lent : Turn → tie.Start Inv-loop μ-loop
+lent l = let b = l .before .before in b .before .before .before
 
-sizes : (l : Turn) → Sizes (tableOf (lent (begun l) .args .table .now) .sizes)
-sizes l = readable-sizes (lent (begun l) .pre .readable)
+sizes : (l : Turn) → Sizes (tableOf (lent l .args .table .now) .sizes)
+sizes l = readable-sizes (lent l .pre .readable)
 
 abbrev Taken : Type 0
 Taken = tie.After-next Inv-loop μ-loop
@@ -48,7 +39,7 @@ turn k = k .before .before
 -- What the answer of `next` says, once it is known.
 abbrev Takes : Taken → Step → Type 0
 Takes k q =
-    let a = lent (begun (turn k)) .args in StepTakes (tableOf (a .table .now) .sizes) (a .values .now) (turn k .before .loop .c .at) q
+    let a = lent (turn k) .args in StepTakes (tableOf (a .table .now) .sizes) (a .values .now) (turn k .before .loop .c .at) q
 
 abbrev Good : Type 0
 Good = tie.After-x Inv-loop μ-loop
@@ -56,9 +47,7 @@ Good = tie.After-x Inv-loop μ-loop
 abbrev taken : Good → Taken
 taken m = m .before .before
 
-cell : (m : Good) →
-    GoodCell (tableOf (lent (begun (turn (taken m))) .args .table .now) .sizes) (lent (begun (turn (taken m))) .args .values .now)
-    (turn (taken m) .before .loop .c .at) (m .x .given .0 .0) (m .x .given .0 .1 .0 .at)
+cell : (m : Good) → Takes (taken m) (Cell (m .x .given .0 .0) (m .x .given .0 .1 .0))
 cell m = let k = taken m in subst (Takes k) (m .x .given .1) (k .next .ensures)
 
 -- There is room for one more.
@@ -70,8 +59,9 @@ coded c = c .before .before
 
 loop-holds : tie.Need-loop-holds Inv-loop μ-loop
 loop-holds c =
-    let p = lent c in
-    (omega arith, omega arith, walk-start _ _ (p .args .from .at) _ _ (omega (arith, p .pre .room)))
+    let p = c .before .before .before in
+    let b = bytes-all (p .args .values .now) (λ i l. omega (arith, c .before .shared-slice-known2 .given i)) in
+    (omega arith, omega arith, walk-start _ _ (p .args .from .at) _ _ b (omega (arith, p .pre .room)))
 
 returns : tie.Need-returns Inv-loop μ-loop
 returns c =
@@ -79,7 +69,7 @@ returns c =
     let i = l .before .loop .inv in (
       i .2 .frame,
       λ v rest e g.
-          walk-heavy (bytes (begun l)) (i .2) (l .loop-test .taken) (sizes l) v rest e g (omega (arith, c .if1 .taken, i .0)),
+          walk-heavy (i .2) (l .loop-test .taken) (sizes l) v rest e g (omega (arith, c .if1 .taken, i .0)),
     )
 
 returns-2 : tie.Need-returns-2 Inv-loop μ-loop
@@ -89,15 +79,15 @@ returns-2 c =
     let i = l .before .loop .inv in (
       i .2 .frame,
       λ v rest e g.
-          walk-none (bytes (begun l)) (i .2) (l .loop-test .taken) (sizes l) v rest e g (subst (Takes k) (c .enum-told .given .1) (k .next .ensures)),
+          walk-none (i .2) (l .loop-test .taken) (sizes l) v rest e g (subst (Takes k) (c .enum-told .given .1) (k .next .ensures)),
     )
 
 room : (c : tie.After-code-cell Inv-loop μ-loop) →
-    lent (begun (turn (taken (coded c)))) .args .top + turn (taken (coded c)) .before .loop .n < length (turn (taken (coded c)) .before .loop .s)
+    lent (turn (taken (coded c))) .args .top + turn (taken (coded c)) .before .loop .n < length (turn (taken (coded c)) .before .loop .s)
 room c =
     let m = coded c in
     let l = turn (taken m) in
-    walk-room (l .before .loop .inv .2) (cell m) (few (taken m)) (lent (begun l) .pre .room)
+    walk-room (l .before .loop .inv .2) (cell m) (few (taken m)) (lent l .pre .room)
 
 loop-again : tie.Need-loop-again Inv-loop μ-loop
 loop-again c =
@@ -107,14 +97,9 @@ loop-again c =
     let l = turn k in (
       omega (arith, few k),
       omega (arith, k .before .if1 .left, c .parts .ensures .1),
-      walk-step (bytes (begun l)) (l .before .loop .inv .2) (l .loop-test .taken)
+      walk-step (l .before .loop .inv .2) (l .loop-test .taken)
           _ _ _ _ (cell m) (d .code-cell .ensures) (c .parts .ensures .0) (room d),
     )
-
-returns-3 : tie.Need-returns-3 Inv-loop μ-loop
-returns-3 c =
-    let i = c .before .loop .inv in
-    (i .2 .frame, walk-end (i .2) (omega (arith, c .loop-test .left)) (i .0))
 
 pub copy-value-spec : {M : Type 1} → statement M
 copy-value-spec =
@@ -141,6 +126,6 @@ copy-value-spec =
     (λ c. search needs)
     (λ c. omega (arith, few (taken (coded (c .before)))))
     loop-again
-    (λ c. omega (arith, lent (c .before .before) .pre .room))
+    (λ c. let b = c .before .before in omega (arith, b .before .before .before .pre .room))
     (λ c. c .before .loop .inv .2 .frame .kept)
-    returns-3)
+    (λ c. let i = c .before .loop .inv in (i .2 .frame, walk-end (i .2) (omega (arith, c .loop-test .left)) (i .0))))

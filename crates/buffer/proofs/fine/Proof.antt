@@ -1,53 +1,95 @@
--- `fine`: a set whose members are one cell each by those members, any other value by all its sets.
-use Prim.Native.Nat.{_-_, _<_}
-use mathlib.Core.Bool.{true}
-use mathlib.Core.Path.{_≡_, sym, _∙_}
+-- `fine`: from the last set's cell backward, what is left of the value from the cell i on is fine.
+use Prim.Native.Nat.{_≤_, _<_}
+use mathlib.Core.Path.{_≡_}
 use native.Mathlib.Omega.{arith}
 use borrow.Author.Needs.{needs}
-use lib.ListN.{length, getD}
-use Rattle.arena.proofs.ValueParts.{some-inside}
-use Rattle.buffer.specs.Shared.{isFlat}
-use Rattle.buffer.proofs.Sharing.{end-inside}
-use Rattle.buffer.proofs.FineValues.{flat-row, flat-fine}
+use borrow.Author.Tests.{not-true, not-false}
+use lib.ListN.{length}
+use Rattle.buffer.proofs.FineValues.{end-inside, FineFrom, from-sets, from-other, from-members, from-set, from-fails, from-start}
 use Rattle.buffer.proofs.fine.Statement.{statement}
 use Rattle.buffer.proofs.fine.Tie as tie
 
-inside : (p : tie.Start) → p .args .at < length (p .args .s .now)
-inside p = some-inside _ _ (p .pre .value)
+abbrev Inv-loop : tie.InvT-loop
+Inv-loop s at end i₀ i = (at ≤ i) × (i ≤ end) × FineFrom s at i
 
--- The value is such a set; its number of members is known.
-abbrev Flat : Type 0
-Flat = tie.Then1
+abbrev μ-loop : tie.MeasureT-loop
+μ-loop s at end i₀ i = i
 
-abbrev tested : Flat → tie.After-flat
-tested m = m .before
+inside : (p : tie.Start Inv-loop μ-loop) → (p .args .at < p .args .end) × (p .args .end ≤ length (p .args .s .now))
+inside p = end-inside _ _ _ (p .pre .value) (p .pre .ends)
 
-abbrev lent : Flat → tie.Start
-lent m = tested m .before .before .before
+-- A turn of the loop, and what was lent.
+abbrev Turn : Type 0
+Turn = tie.In-loop Inv-loop μ-loop
 
-is-flat : (m : Flat) → isFlat (getD (lent m .args .s .now) (lent m .args .at) 0) (lent m .args .end - lent m .args .at) ≡ true
-is-flat m = sym (tested m .flat .ensures) ∙ m .if1 .taken
+abbrev lent : Turn → tie.Start Inv-loop μ-loop
+lent l = let b = l .before .before in b .before .before .before
 
-members-fine-requires : tie.Need-members-fine-requires
-members-fine-requires c κs = let m = c .before in flat-row _ _ _ (lent m .pre .ends) (is-flat m) _ (c .low .ensures .0) (lent m .pre .value)
+-- The cell before i is a set's, and its number of members is known.
+abbrev turn : tie.After-low Inv-loop μ-loop → Turn
+turn m = m .before .before .before
 
-returns : tie.Need-returns
+members-fine-requires : tie.Need-members-fine-requires Inv-loop μ-loop
+members-fine-requires c κs =
+    let l = turn c in
+    let i = l .before .loop .inv in
+    let p = lent l .pre in
+    rw (c .low .ensures .0) (from-members (p .ends) (l .loop-test .taken) (i .1) (i .2) (c .before .if1 .taken) (p .value))
+
+returns : tie.Need-returns Inv-loop μ-loop
 returns c =
-    let n = c .before in
-    let m = n .before in
-    flat-fine _ _ _ (lent m .pre .ends) (is-flat m) _ (n .low .ensures .0) (c .members-fine .ensures)
+    let m = c .before .before in
+    let l = turn m in
+    let i = l .before .loop .inv in
+    from-fails (lent l .pre .ends) (l .loop-test .taken) (i .1) (i .2) (m .before .if1 .taken)
+    (rw (m .low .ensures .0) at (c .before .members-fine .ensures)) (not-true _ (c .if2 .taken))
+
+loop-again : tie.Need-loop-again Inv-loop μ-loop
+loop-again c =
+    let m = c .before .before in
+    let l = turn m in
+    let i = l .before .loop .inv in (
+      omega (arith, l .loop-test .taken),
+      omega (arith, i .1),
+      from-set (lent l .pre .ends) (l .loop-test .taken) (i .1) (i .2) (m .before .if1 .taken)
+          (rw (m .low .ensures .0) at (c .before .members-fine .ensures)) (not-false _ (c .if2 .left)),
+    )
+
+loop-again-2 : tie.Need-loop-again-2 Inv-loop μ-loop
+loop-again-2 c =
+    let l = c .before .before in
+    let i = l .before .loop .inv in (
+      omega (arith, l .loop-test .taken),
+      omega (arith, i .1),
+      from-other (lent l .pre .ends) (l .loop-test .taken) (i .1) (i .2) (omega (arith, c .if1 .left)),
+    )
+
+returns-2 : tie.Need-returns-2 Inv-loop μ-loop
+returns-2 c =
+    let a = c .before in
+    let b = a .before in
+    let e : a .loop .i ≡ b .before .before .before .args .at = omega (arith, c .loop-test .left, a .loop .inv .0) in
+    from-start (rw e at (a .loop .inv .2))
 
 pub fine-spec : {M : Type 1} → statement M
 fine-spec =
     tie.close
     (tie.spec
+    Inv-loop
+    μ-loop
     (λ c. omega (arith, inside (c .before)))
-    (λ c. inside (c .before .before))
-    (λ c. let p = c .before .before .pre in omega (arith, end-inside _ _ _ (p .value) (p .ends) .0))
-    (λ c κs. search needs)
-    (λ c. omega (arith, inside (lent c)))
+    (λ c. omega (arith, inside (c .before .before)))
+    (λ c κs. inside (c .before .before) .0)
+    (λ c. let p = c .before .before .before in from-sets (p .pre .ends) (inside p .0) (c .sets-end .ensures))
+    (λ c. search needs)
+    (λ c. omega (arith, c .loop-test .taken, c .before .loop .inv .1, inside (lent c)))
+    (λ c. let l = c .before in omega (arith, l .loop-test .taken, l .before .loop .inv .1, inside (lent l)))
+    (λ c. search needs)
     (λ c κs. search needs)
     members-fine-requires
     returns
-    (λ c κs. search needs)
-    (λ c. search needs))
+    (λ c. omega (arith, turn (c .before .before) .loop-test .taken))
+    loop-again
+    (λ c. omega (arith, c .before .before .loop-test .taken))
+    loop-again-2
+    returns-2)

@@ -1,11 +1,11 @@
 -- `good_cell`: by the cell's tag.
 use Prim.Native.Nat.{ℕ, _%_}
-use mathlib.Core.Path.{_≡_, ap, _∙_}
+use mathlib.Core.Path.{_≡_, refl, ap, _∙_}
 use lib.Dec.{ltb}
 use borrow.Author.Needs.{needs}
 use Rattle.rules.specs.Tables.{tableOf}
 use Rattle.buffer.specs.Buffer.{tagGood, cellGood}
-use Rattle.buffer.proofs.Walk.{good-by, good-other}
+use Rattle.buffer.proofs.CellAt.{good-by, good-last}
 use Rattle.buffer.proofs.good_cell.Statement.{statement}
 use Rattle.buffer.proofs.good_cell.Tie as tie
 
@@ -29,7 +29,7 @@ returns-5 : tie.Need-returns-5
 returns-5 c =
     let d = c .before in
     let m = known d in
-    good-other _ _ _ _ (m .before .tag .ensures) (m .low .ensures .0) (d .if3 .left) (d .before .if2 .left) (c .if4 .left) (d .before .before .if1 .left)
+    good-last _ _ _ (d .before .before .if1 .left) (d .if3 .left) (d .before .if2 .left) (c .if4 .left) ∙ by-tag m _ refl
 
 pub good-cell-spec : {M : Type 1} → statement M
 good-cell-spec =

@@ -4,7 +4,7 @@ use mathlib.Core.List.{List}
 use mathlib.Core.Path.{_≡_, subst, _∙_}
 use native.Mathlib.Omega.{arith}
 use borrow.Author.Needs.{needs}
-use lib.ListN.{length, length-set, replicate, length-replicate, getD-replicate}
+use lib.ListN.{length, replicate, length-replicate, getD-replicate}
 use Rattle.rules.specs.Tables.{tableOf}
 use Rattle.laws.proofs.TableLaws.{binds-length}
 use Rattle.arena.specs.Code.{Same}
@@ -12,7 +12,8 @@ use Rattle.arena.proofs.Standing.{same-trans}
 use Rattle.buffer.specs.declared.Entry.{Entry}
 use Rattle.buffer.specs.declared.Entry.the-variants.{Of}
 use Rattle.buffer.specs.Loaded.{Enters}
-use Rattle.buffer.proofs.Loading.{Loading, frame-all, loading-start, loading-step, loading-bad, loading-surplus, loading-end}
+use Rattle.buffer.proofs.Walk.{set-same}
+use Rattle.buffer.proofs.Loading.{Loading, loading-start, loading-step, loading-bad, loading-surplus, loading-end}
 use Rattle.buffer.proofs.load.Statement.{statement}
 use Rattle.buffer.proofs.load.Tie as tie
 
@@ -24,16 +25,11 @@ abbrev μ-loop : tie.MeasureT-loop
 μ-loop table values s₀ top count env₀ c₀ end₀ x₀ s env c end x = count - x
 
 -- Before the loop: the identifiers have been counted; what was lent.
-abbrev Counted : Type 0
-Counted = tie.After-identifiers Inv-loop μ-loop
+abbrev lent : tie.After-identifiers Inv-loop μ-loop → tie.Start Inv-loop μ-loop
+lent n = let k = n .before .before in k .before .before
 
-abbrev known : Counted → tie.After-shared-slice-known2 Inv-loop μ-loop
-known n = n .before .before
-
-abbrev lent : Counted → tie.Start Inv-loop μ-loop
-lent n = known n .before .before
-
-all : (n : Counted) → (n .identifiers .result ≡ length (tableOf (lent n .args .table .now) .binds)) × (n .identifiers .result ≤ 32)
+all : (n : tie.After-identifiers Inv-loop μ-loop) →
+    (n .identifiers .result ≡ length (tableOf (lent n .args .table .now) .binds)) × (n .identifiers .result ≤ 32)
 all n =
     let e = n .identifiers .ensures in (omega (arith, binds-length (lent n .args .table .now)), omega (arith, lent n .pre .readable .header .identifiers))
 
@@ -41,11 +37,8 @@ all n =
 abbrev Loop : Type 0
 Loop = tie.At-loop Inv-loop μ-loop
 
-kept : (a : Loop) → length (a .loop .s) ≡ length (lent (a .before) .args .s .now)
-kept a = let p = lent (a .before) .args in a .loop .inv .frame .kept ∙ length-set (p .s .now) (p .top) 6442450944
-
 framed : (a : Loop) → Same (lent (a .before) .args .top) (lent (a .before) .args .s .now) (a .loop .s)
-framed a = frame-all _ _ _ _ (a .loop .inv .frame)
+framed a = same-trans _ _ _ _ _ (set-same _ _ _ _ (omega arith)) (a .loop .inv .frame) (omega arith)
 
 -- A turn of the loop: x is an identifier. An entry has been read, or not; the arena then, and what the answer says, once it is known.
 abbrev Read : Type 0
@@ -71,11 +64,8 @@ Answers k q =
     Enters (p .table .now) (a .loop .x) (p .values .now) (a .loop .c .at) (a .loop .s) (arena k) (p .top) (a .loop .end) q
 
 -- The identifier has a value.
-abbrev matched : tie.After-place Inv-loop μ-loop → tie.After-s Inv-loop μ-loop
-matched m = m .before .before .before
-
 abbrev read : tie.After-place Inv-loop μ-loop → Read
-read m = matched m .before
+read m = let s = m .before .before .before in s .before
 
 entered : (m : tie.After-place Inv-loop μ-loop) →
     Answers (read m) (Of (m .place .given .0 .0) (m .place .given .0 .1 .0) (m .place .given .0 .1 .1 .0))
@@ -95,24 +85,18 @@ read-entry-requires c κs =
     let p = lent (a .before) .pre in
     record {
       named = omega (arith, l .loop-test .taken, a .before .identifiers .ensures);
-      place = record {
+      copy = record {
         readable = p .readable;
-        room = omega (arith, a .loop .inv .room, p .room, l .loop-test .taken, a .before .identifiers .ensures, kept a);
+        room = omega (arith, a .loop .inv .room, p .room, l .loop-test .taken, a .before .identifiers .ensures, framed a .kept);
       };
     }
-
-same-length : tie.Need-same-length Inv-loop μ-loop
-same-length c =
-    let m = c .before in
-    let k = m .before .before .before in
-    k .read-entry .ensures .0 .kept ∙ kept (at k)
 
 returns : tie.Need-returns Inv-loop μ-loop
 returns c =
     let m = c .before in
     let k = m .before .before .before in
     let i = at k .loop .inv in (
-      frame-all _ _ _ _ (same-trans _ _ _ _ _ (i .frame) (k .read-entry .ensures .0) (omega (arith, i .above))),
+      same-trans _ _ _ _ _ (framed (at k)) (k .read-entry .ensures .0) (omega (arith, i .above)),
       loading-bad i (more (turn k) .0) (subst (Answers k) (c .enum-told .given .1) (k .read-entry .ensures .1)),
     )
 
@@ -124,7 +108,7 @@ cast-env-2 c =
       arith,
       entered m .below (a .loop .inv .nowhere) .stands .inside,
       read m .read-entry .ensures .0 .kept,
-      kept a,
+      framed a .kept,
       lent (a .before) .pre .small,
     )
 
@@ -162,7 +146,7 @@ load-spec =
     read-entry-requires
     (λ c. search needs)
     (λ c. search needs)
-    same-length
+    (λ c. let m = c .before in let k = m .before .before .before in k .read-entry .ensures .0 .kept ∙ framed (at k) .kept)
     returns
     cast-env-2
     (λ c. omega (arith, more (turn (read (c .before))) .1))
@@ -170,7 +154,7 @@ load-spec =
     (λ c. omega (arith, more (turn (read (c .before))) .1))
     (λ c. omega (arith, turn (read (c .before)) .loop-test .taken))
     loop-again
-    (λ c. kept (c .before .before .before))
+    (λ c. framed (c .before .before .before) .kept)
     returns-2
-    (λ c. kept (c .before .before .before))
+    (λ c. framed (c .before .before .before) .kept)
     returns-3)

@@ -1,26 +1,27 @@
--- `members_fine`: the members rise, and then share a type.
-use mathlib.Core.Path.{sym, _∙_}
-use borrow.Author.Needs.{needs}
-use borrow.Author.Tests.{not-true, not-false}
-use Rattle.buffer.proofs.Sharing.{row-members}
+-- `members_fine`: no members are fine; scalars go by their cells, other members value by value.
+use Prim.Native.Nat.{_<_}
+use native.Mathlib.Omega.{arith}
+use lib.ListN.{length}
+use Rattle.fitting.proofs.Cells.{inside}
+use Rattle.buffer.proofs.Members.{some-first, few-fine}
 use Rattle.buffer.proofs.members_fine.Statement.{statement}
 use Rattle.buffer.proofs.members_fine.Tie as tie
 
-returns : tie.Need-returns
-returns c = λ vs r.
-    let e = sym (c .before .in-order .ensures vs (row-members r)) ∙ not-true _ (c .if1 .taken) in rw e
+-- There are members, and what was lent.
+abbrev lent : tie.Else1 → tie.Start
+lent m = m .before .before
 
-returns-2 : tie.Need-returns-2
-returns-2 c = λ vs r.
-    let i = c .before in
-    let e = sym (i .before .in-order .ensures vs (row-members r)) ∙ not-false _ (i .if1 .left) in
-    rw e (c .share .ensures vs r)
+first : (m : tie.Else1) → lent m .args .at < length (lent m .args .s .now)
+first m = inside _ _ (some-first (lent m .pre) (omega (arith, m .if1 .left)))
 
 pub members-fine-spec : {M : Type 1} → statement M
 members-fine-spec =
     tie.close
     (tie.spec
-    (λ c κs. let p = c .before .pre in (p .0, row-members (p .1)))
-    returns
-    (λ c κs. search needs)
-    returns-2)
+    (λ c. λ vs r. few-fine vs (omega (arith, c .if1 .taken, r .counted)) (r .typed))
+    (λ c. omega (arith, first c))
+    (λ c. first (c .before))
+    (λ c κs. let m = c .before .before in (lent m .pre, omega (arith, m .if1 .left), c .if2 .taken))
+    (λ c. c .cells-fine .ensures)
+    (λ c κs. let m = c .before .before in (lent m .pre, omega (arith, m .if1 .left)))
+    (λ c. c .values-fine .ensures))

@@ -14,11 +14,8 @@ use Rattle.buffer.proofs.read_entry.Statement.{statement}
 use Rattle.buffer.proofs.read_entry.Tie as tie
 
 -- The identifier's word is known; what was lent.
-abbrev known : tie.After-bind → tie.After-shared-slice-known2
-known w = w .before .before
-
 abbrev lent : tie.After-bind → tie.Start
-lent w = known w .before .before
+lent w = let k = w .before .before in k .before .before
 
 -- The identifier is free, and a value has been copied, or not.
 abbrev Copied : Type 0
@@ -39,11 +36,8 @@ Copies k q =
     let a = from k .args in Places (tableOf (a .table .now) .sizes) (a .values .now) (a .from .at) (k .copy-value .last .1 .1 .1 .0) (a .top) q
 
 -- A value has been copied, and it is fine or not.
-abbrev matched : tie.After-r → tie.After-s
-matched m = m .before .before .before
-
 abbrev copied : tie.After-r → Copied
-copied m = matched m .before
+copied m = let s = m .before .before .before in s .before
 
 value : (m : tie.After-r) → Copies (copied m) (At (m .r .given .0 .0) (m .r .given .0 .1 .0))
 value m = let k = copied m in subst (Copies k) (m .r .given .1) (k .copy-value .ensures .1)
