@@ -21,7 +21,7 @@ use Rattle.sets.specs.declared.Walk.{Walk}
 use Rattle.sets.specs.declared.Rest.{Rest}
 use Rattle.sets.specs.Merged.{merged}
 use Rattle.sets.specs.Fronts.{keepOf, firstOf, restLeft, restRight, TurnAt, TwoFronts, TwoRuns, RunEnds, Cells, Built, PutPre, Put, TailPre, Tailed}
-use Rattle.sets.specs.Fronts.{Merging, StepPre, Stepped, RestOf, EndPre, Ended, RunsMerge}
+use Rattle.sets.specs.Fronts.{Merging, StepPre, Stepped, RestOf, EndPre, Ended, RunsMerge, Walking}
 use Rattle.sets.proofs.MergedLaws.{merged-nil, merged-turn}
 use Rattle.sets.proofs.SearchLaws.{no-front, by-fronts}
 use Rattle.sets.proofs.TurnLaws.{two-fronts, turn-fewer}
@@ -33,6 +33,7 @@ pub put-kept : (s : List ℕ) (from end k : ℕ) (o : Out) (s′ : List ℕ) (r 
 put-kept s from end k o s′ r p c x y = record {
   frame = f;
   near = omega arith;
+  even = λ z. omega arith;
   on = λ top zs vs b at e n. record {
     stands = rw (codes-append zs (members vs), values-members vs)
         (stands-append s′ (top + 1) (codes (values zs)) (codes vs)
@@ -60,6 +61,7 @@ pub put-none : (s : List ℕ) (from end k : ℕ) (o : Out) (s′ : List ℕ) →
 put-none s from end k o s′ f = record {
   frame = f;
   near = omega arith;
+  even = λ z. omega arith;
   on = λ top zs vs b at e n. built-frame s s′ top o zs f b;
 }
 
@@ -297,14 +299,12 @@ module _ (l r : Bool) (s : List ℕ) (w : Walk) (top : ℕ) (q : Rest)
 
 -- `walk_merge` and `merge_cells`
 
--- The walk goes on from runs that are unchanged below `top`.
-pub record Walking (l e r : Bool) (s₀ : List ℕ) (a m b n top : ℕ) (s : List ℕ) (w : Walk) : Type 0 where
-  pub frame : Same top s₀ s
-  pub on : (vs ws : Values) → Front s₀ top a m vs → Front s₀ top b n ws → Merging l e r s top w (merged l e r (members vs) (members ws))
+pub built-none : (s : List ℕ) (top : ℕ) → top + 514 ≤ length s → Built s top (top + 1) 0 []
+unfolding code
+built-none s top p = record { stands = record { inside = omega arith; cells = λ i p. absurd (omega arith) }; ends = omega arith; counted = refl }
 
 pub walking-start : (l e r : Bool) (s : List ℕ) (a m b n top : ℕ) → top + 514 ≤ length s →
     Walking l e r s a m b n top s (record { a = a; m = m; b = b; n = n; to = top + 1; count = 0 })
-unfolding code
 walking-start l e r s a m b n top p = record {
   frame = same-refl top s;
   on = λ vs ws f g. record {
@@ -313,11 +313,7 @@ walking-start l e r s a m b n top p = record {
     done = [];
     onLeft = f;
     onRight = g;
-    built = record {
-      stands = record { inside = omega arith; cells = λ i p. absurd (omega arith) };
-      ends = omega arith;
-      counted = refl;
-    };
+    built = built-none s top p;
     all = refl;
   };
 }

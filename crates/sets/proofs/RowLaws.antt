@@ -118,6 +118,12 @@ cells-next s at n m c e = record {
   each = λ i l. subst (λ (j : ℕ). partsOf (getD s j 0) ≡ 0) (let d : at + suc i ≡ at + 1 + i = omega arith in d) (c .each (suc i) (omega arith));
 }
 
+pub cells-later : (s : List ℕ) (at n p : ℕ) → Cells s at n → p ≤ n → Cells s (at + p) (n - p)
+cells-later s at n p c e = record {
+  inside = omega (arith, c .inside);
+  each = λ i l. subst (λ (j : ℕ). partsOf (getD s j 0) ≡ 0) (let d : at + (p + i) ≡ at + p + i = omega arith in d) (c .each (p + i) (omega arith));
+}
+
 pub cells-first : (s : List ℕ) (at n : ℕ) → Cells s at n → 0 < n → EndsAt s at (at + 1)
 cells-first s at n c l = leaf-ends s at (subst (λ (j : ℕ). partsOf (getD s j 0) ≡ 0) (let d : at + 0 ≡ at = omega arith in d) (c .each 0 l))
 

@@ -142,6 +142,7 @@ pub record PutPre (s : List ℕ) (from end k : ℕ) (o : Out) : Type 0 where
 pub record Put (keep : Bool) (s : List ℕ) (from end k : ℕ) (o : Out) (s′ : List ℕ) (r : Out) : Type 0 where
   pub frame : Same (o .to) s s′
   pub near : r .to ≤ o .to + (end - from)
+  pub even : end - from ≡ k → r .to + o .count ≡ o .to + r .count
   pub on : (top : ℕ) (zs : List Value) (vs : Values) → Built s top (o .to) (o .count) zs → ValuesAt s from vs → end ≡ from + weights vs → k ≡ count vs →
       Built s′ top (r .to) (r .count) (zs ++ cond keep (members vs) [])
 
@@ -215,6 +216,11 @@ pub record RunsBelow (s : List ℕ) (a m b n top : ℕ) : Type 0 where
 abbrev pub RunsMerge : Bool → Bool → Bool → List ℕ → ℕ → ℕ → ℕ → ℕ → ℕ → List ℕ → ℕ → Type 0
 RunsMerge l e r s a m b n top s′ k =
     (vs ws : Values) → Front s top a m vs → Front s top b n ws → Made top s s′ (setOf (merged l e r (members vs) (members ws))) k
+
+-- A merge on its way: the runs are unchanged below `top`.
+pub record Walking (l e r : Bool) (s₀ : List ℕ) (a m b n top : ℕ) (s : List ℕ) (w : Walk) : Type 0 where
+  pub frame : Same top s₀ s
+  pub on : (vs ws : Values) → Front s₀ top a m vs → Front s₀ top b n ws → Merging l e r s top w (merged l e r (members vs) (members ws))
 
 abbrev pub Merges : Bool → Bool → Bool → List ℕ → ℕ → ℕ → ℕ → List ℕ → ℕ → Type 0
 Merges l e r s a b top s′ k =

@@ -6,7 +6,7 @@ ghost use lib.ListN.{length};
 ghost use Rattle.arena.specs.Code.{EndsAt, SomeSet, SomeValue};
 ghost use Rattle.sets.specs.Fronts.{SeekPre, Sought, Contains, Includes, TwoFronts, TurnAt, TwoRuns, RunIn, SomeFront, RunEnds, PutPre, Put};
 ghost use Rattle.sets.specs.Fronts.{RestThere, TailPre, Tailed, StepPre, Stepped, RestOf, EndPre, Ended, RunsBelow, RunsMerge, Merges};
-ghost use Rattle.sets.specs.Rows.{Row, LowerBound, Found, SetAt, OfCells, SomeFine, TwoRows, Kept, CellTurned, RowsBelow};
+ghost use Rattle.sets.specs.Rows.{Row, LowerBound, Found, SetAt, OfCells, SomeFine, TwoRows, Kept, CellTurned, RowsBelow, Ahead, FrontsMerge};
 ghost use Rattle.sets.specs.Pairs.{SomePairs, FunctionAt, SomeRelation, Applies, SomeFlat, FlatFunctionAt, FlatAt, Relation, FlatRelation};
 
 // A set is small beside one with more than FEW times its members: a search for each member is quicker than a walk over both.
@@ -41,6 +41,13 @@ struct Walk {
     n: u64,
     to: usize,
     count: u64,
+}
+
+// Where a merge of cells stands: at a in one set and at b in the other, and what has been built ends at `to`.
+struct Place {
+    a: usize,
+    b: usize,
+    to: usize,
 }
 
 // The rest of one set, kept or not.
@@ -572,6 +579,52 @@ fn cell_turn(x: u64, y: u64, left: bool, both: bool, right: bool) -> CellTurn
     }
 }
 
+// How many of m cells from a on come before the first of n from b on; they are found by halving.
+fn front(s: &[u64], a: usize, m: usize, b: usize, n: usize) -> usize
+    requires { ⌜ Row (now s) a 1 m × (0 < n → b < length (now s)) ⌝ }
+    ensures { λ r. ⌜ Ahead (now (s .entry)) a m b n r ⌝ }
+{
+    if m == 0 || n == 0 {
+        return 0;
+    }
+    let y = s[b];
+    if s[a] < y {
+        return lower_bound(s, a, 1, m, y);
+    }
+    0
+}
+
+// What comes before the other set's first cell is taken or left as a whole, first of m cells from a on, then of n from b on.
+fn merge_fronts(
+    s: &mut [u64],
+    a: usize,
+    m: usize,
+    b: usize,
+    n: usize,
+    top: usize,
+    left: bool,
+    right: bool,
+) -> Place
+    requires { ⌜ RowsBelow (now s) a m b n top ⌝ }
+    ensures { λ r. ⌜ FrontsMerge left right (now (s .entry)) a m b n top (now (s .exit)) r ⌝ }
+{
+    let p = front(s, a, m, b, n);
+    let i = a + p;
+    let q = front(s, b, n, i, m - p);
+    let j = b + q;
+    let none = Out {
+        to: top + 1,
+        count: 0,
+    };
+    let o = put(s, a, i, p as u64, left, none);
+    let o2 = put(s, b, j, q as u64, right, o);
+    Place {
+        a: i,
+        b: j,
+        to: o2.to,
+    }
+}
+
 // Builds at top the set as `merge` does, of m cells from a on and n from b on. The cell of a turn is stored whether it is kept or not.
 fn merge_cells(
     s: &mut [u64],
@@ -589,9 +642,10 @@ fn merge_cells(
 {
     let end = a + m;
     let end2 = b + n;
-    let mut i = a;
-    let mut j = b;
-    let mut to = top + 1;
+    let w = merge_fronts(s, a, m, b, n, top, left, right);
+    let mut i = w.a;
+    let mut j = w.b;
+    let mut to = w.to;
     while i < end && j < end2 {
         let t = cell_turn(s[i], s[j], left, both, right);
         s[to] = t.cell;
@@ -599,7 +653,7 @@ fn merge_cells(
         i += t.left;
         j += t.right;
     }
-    let w = Walk {
+    let rest = Walk {
         a: i,
         m: (end - i) as u64,
         b: j,
@@ -607,7 +661,7 @@ fn merge_cells(
         to: to,
         count: (to - top - 1) as u64,
     };
-    finish(s, w, top, left, right, true)
+    finish(s, rest, top, left, right, true)
 }
 
 // The same of m members from a on and n from b on, member by member.
