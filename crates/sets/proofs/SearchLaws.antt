@@ -155,12 +155,12 @@ pub record Running (s : List ℕ) (top i left e : ℕ) : Type 0 where
   pub front : Front s top i left rest
   pub ends : i + weights rest ≡ e
 
-module _ (s : List ℕ) (top i left e : ℕ) (h : Running s top i left e) where
+module _ {s : List ℕ} {top i left e : ℕ} (h : Running s top i left e) where
   pub running-at : 0 < left → SomeAt s i
   running-at l = front-some s top i left (h .rest) (h .front) l
 
-  pub running-next : (r : ℕ) → 0 < left → EndsAt s i r → Running s top r (left - 1) e
-  running-next r l ends =
+  pub running-next : {r : ℕ} → 0 < left → EndsAt s i r → Running s top r (left - 1) e
+  running-next {r} l ends =
       by-front s top i left (λ ws. i + weights ws ≡ e → Running s top r (left - 1) e)
       (λ w ws f q. let x : r ≡ i + weight w = ends w (front-value s top i left w ws f) (f .fits .0) in
       record { rest = ws; front = front-next s top i left w ws f r (left - 1) x (omega arith); ends = omega arith })

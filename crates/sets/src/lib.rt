@@ -1,11 +1,11 @@
 // Sets in the arena, whose members rise: membership, inclusion, union, intersection, difference, application.
 ghost use Prim.Native.Nat.{_+_, _≤_, _<_};
-ghost use mathlib.Core.Bool.{true};
+ghost use mathlib.Core.Bool.{true, cond};
 ghost use mathlib.Core.Path.{_≡_};
 ghost use lib.ListN.{length};
 ghost use Rattle.arena.specs.Code.{EndsAt, SomeSet, SomeValue};
 ghost use Rattle.sets.specs.Fronts.{SeekPre, Sought, Contains, Includes, TwoFronts, TurnAt, TwoRuns, RunIn, SomeFront, RunEnds, PutPre, Put};
-ghost use Rattle.sets.specs.Fronts.{RestThere, TailPre, Tailed, StepPre, Stepped, RestOf, EndPre, Ended, RunsBelow, RunsMerge, Merges};
+ghost use Rattle.sets.specs.Fronts.{RestThere, StepPre, Stepped, RestOf, EndPre, Ended, RunsBelow, RunsMerge, Merges};
 ghost use Rattle.sets.specs.Rows.{Row, LowerBound, Found, SetAt, OfCells, SomeFine, TwoRows, Kept, CellTurned, RowsBelow, Ahead, FrontsMerge};
 ghost use Rattle.sets.specs.Pairs.{SomePairs, FunctionAt, SomeRelation, Applies, SomeFlat, FlatFunctionAt, FlatAt, Relation, FlatRelation};
 
@@ -50,11 +50,10 @@ struct Place {
     to: usize,
 }
 
-// The rest of one set, kept or not.
+// What is kept of the rest of one set.
 struct Rest {
     at: usize,
     n: u64,
-    keep: bool,
 }
 
 // A turn of a walk over two sets of cells: the lesser of the first cells, and by how many cells what is built and both sets move on.
@@ -85,22 +84,9 @@ fn lower_bound(s: &[u64], at: usize, step: usize, n: usize, x: u64) -> usize
     from
 }
 
-// Which of n cells from `at` on, every step-th one, is x; n where none is. They do not fall.
+// Which of n cells from `at` on, every step-th one, is x; n where none is. They do not fall. They often follow one another with no gap: x is
+// looked for first where it stands then.
 fn find(s: &[u64], at: usize, step: usize, n: usize, x: u64) -> usize
-    requires { ⌜ Row (now s) at step n ⌝ }
-    ensures { λ r. ⌜ Found (now (s .entry)) at step n x r ⌝ }
-{
-    let k = lower_bound(s, at, step, n, x);
-    if k < n {
-        if s[at + step * k] == x {
-            return k;
-        }
-    }
-    n
-}
-
-// `find`, which looks first where x stands if the cells follow one another with no gap, as they often do.
-fn position(s: &[u64], at: usize, step: usize, n: usize, x: u64) -> usize
     requires { ⌜ Row (now s) at step n ⌝ }
     ensures { λ r. ⌜ Found (now (s .entry)) at step n x r ⌝ }
 {
@@ -117,7 +103,13 @@ fn position(s: &[u64], at: usize, step: usize, n: usize, x: u64) -> usize
             return guess as usize;
         }
     }
-    find(s, at, step, n, x)
+    let k = lower_bound(s, at, step, n, x);
+    if k < n {
+        if s[at + step * k] == x {
+            return k;
+        }
+    }
+    n
 }
 
 // Whether each member of the set at a is one cell. The members share a type, so that the first one decides.
@@ -172,7 +164,7 @@ pub fn contains(s: &[u64], e: usize, a: usize) -> bool
 {
     let n = arena::low(s[a]);
     if of_cells(s, a) {
-        return position(s, a + 1, 1, n as usize, s[e]) < n as usize;
+        return find(s, a + 1, 1, n as usize, s[e]) < n as usize;
     }
     seek(s, a + 1, n, e, false) > 0
 }
@@ -235,7 +227,7 @@ fn search_cells(s: &[u64], a: usize, m: usize, b: usize, n: usize) -> bool
     let mut i = a;
     let mut left = m;
     while left > 0 {
-        if position(s, b, 1, n, s[i]) == n {
+        if find(s, b, 1, n, s[i]) == n {
             return false;
         }
         i += 1;
@@ -380,7 +372,7 @@ fn flat_image(s: &[u64], f: usize, n: usize, e: usize) -> usize
     ensures { λ r. ⌜ Applies (now (s .entry)) f e r ⌝ }
 {
     let at = f + 1;
-    let k = position(s, at + 1, FLAT_PAIR, n, s[e]);
+    let k = find(s, at + 1, FLAT_PAIR, n, s[e]);
     if k == n {
         return 0;
     }
@@ -419,20 +411,6 @@ pub fn image(s: &[u64], f: usize, e: usize) -> usize
     walk_image(s, f, n, e)
 }
 
-// Where n members from `at` on end.
-fn run_end(s: &[u64], at: usize, n: u64) -> usize
-    requires { ⌜ SomeFront (now s) at n ⌝ }
-    ensures { λ r. ⌜ RunEnds (now (s .entry)) at n r ⌝ }
-{
-    let mut left = n;
-    let mut i = at;
-    while left > 0 {
-        i = arena::end_of(s, i);
-        left -= 1;
-    }
-    i
-}
-
 // Where n members from `at` on end; members of one cell each need no walk.
 fn rest_end(s: &[u64], at: usize, n: u64, cells: bool) -> usize
     requires { ⌜ RestThere (now s) at n cells ⌝ }
@@ -441,7 +419,13 @@ fn rest_end(s: &[u64], at: usize, n: u64, cells: bool) -> usize
     if cells {
         return at + n as usize;
     }
-    run_end(s, at, n)
+    let mut left = n;
+    let mut i = at;
+    while left > 0 {
+        i = arena::end_of(s, i);
+        left -= 1;
+    }
+    i
 }
 
 // Puts the run from `from` to `end`, of k members, behind what has been built, if it is kept.
@@ -457,18 +441,6 @@ fn put(s: &mut [u64], from: usize, end: usize, k: u64, keep: bool, o: Out) -> Ou
             to: to + n,
             count: o.count + k,
         };
-    }
-    o
-}
-
-// Puts the rest of a set, n members from `at` on, of one cell each or not, behind what has been built, if it is kept.
-fn tail(s: &mut [u64], at: usize, n: u64, keep: bool, cells: bool, o: Out) -> Out
-    requires { ⌜ TailPre (now s) at n cells o ⌝ }
-    ensures { λ r. ⌜ Tailed keep (now (s .entry)) at n o (now (s .exit)) r ⌝ }
-{
-    if keep {
-        let end = rest_end(s, at, n, cells);
-        return put(s, at, end, n, true, o);
     }
     o
 }
@@ -500,20 +472,28 @@ fn step(s: &mut [u64], w: Walk, left: bool, both: bool, right: bool) -> Walk
     }
 }
 
+// n if it is kept, 0 if not.
+fn if_kept(n: u64, keep: bool) -> u64
+    ensures { λ r. ⌜ r ≡ cond keep n 0 ⌝ }
+{
+    if keep {
+        return n;
+    }
+    0
+}
+
 fn rest_of(w: Walk, left: bool, right: bool) -> Rest
     ensures { λ r. ⌜ RestOf w left right r ⌝ }
 {
     if w.m > 0 {
         return Rest {
             at: w.a,
-            n: w.m,
-            keep: left,
+            n: if_kept(w.m, left),
         };
     }
     Rest {
         at: w.b,
-        n: w.n,
-        keep: right,
+        n: if_kept(w.n, right),
     }
 }
 
@@ -527,12 +507,13 @@ fn finish(s: &mut [u64], w: Walk, top: usize, left: bool, right: bool, cells: bo
         return 0;
     }
     let q = rest_of(w, left, right);
-    let o = tail(
+    let end = rest_end(s, q.at, q.n, cells);
+    let o = put(
         s,
         q.at,
+        end,
         q.n,
-        q.keep,
-        cells,
+        true,
         Out {
             to: w.to,
             count: w.count,

@@ -13,14 +13,14 @@ use Rattle.sets.proofs.flat_image.Statement.{statement}
 use Rattle.sets.proofs.flat_image.Tie as tie
 
 -- The search has ended; then it is known whether f is a function.
-abbrev lent : tie.After-position → tie.Start
+abbrev lent : tie.After-find → tie.Start
 lent b = b .before .before .before
 
 abbrev found : tie.After-flat-function → tie.Else1
 found c = c .before
 
-few : (t : tie.Else1) → t .before .position .result < lent (t .before) .args .n
-few t = omega (arith, t .if1 .left, t .before .position .ensures .few)
+few : (t : tie.Else1) → t .before .find .result < lent (t .before) .args .n
+few t = omega (arith, t .if1 .left, t .before .find .ensures .few)
 
 -- The relation as a row of pairs; the last one is inside.
 some : (t : tie.Start) → SomeFlat (t .args .s .now) (t .args .f + 1) (t .args .n)
@@ -29,7 +29,7 @@ some t = let r = t .pre .whole .relation in (_, _, front-start _ _ _ _ (r .1) _ 
 room : (t : tie.Start) → t .args .f + 1 + 3 * t .args .n ≤ length (t .args .s .now)
 room t = let q = some t in flat-inside _ _ _ _ _ (q .2) (q .3)
 
-found-inside : (t : tie.Else1) → lent (t .before) .args .f + 4 + 3 * t .before .position .result ≤ length (lent (t .before) .args .s .now)
+found-inside : (t : tie.Else1) → lent (t .before) .args .f + 4 + 3 * t .before .find .result ≤ length (lent (t .before) .args .s .now)
 found-inside t = omega (arith, few t, room (lent (t .before)))
 
 returns : tie.Need-returns
@@ -38,7 +38,7 @@ returns c = λ vs v h k p.
     let q = lent b .pre in
     image-none _ _ _ _ vs v h k p (q .whole .counted)
     (flat-none _ _ v (k .stands) (k .fits) _ _ _ vs (whole _ _ _ _ vs v h k p (q .whole .counted)) (q .flat _ vs h p)
-    (b .position .ensures .lost (c .if1 .taken)))
+    (b .find .ensures .lost (c .if1 .taken)))
 
 returns-2 : tie.Need-returns-2
 returns-2 c = λ vs v h k p.
@@ -47,7 +47,7 @@ returns-2 c = λ vs v h k p.
     let b = t .before in
     let q = lent b .pre in
     let w = whole _ _ _ _ vs v h k p (q .whole .counted) in
-    let x = flat-found _ _ v (k .stands) (k .fits) _ _ _ vs w (q .flat _ vs h p) _ (few t) (b .position .ensures .here (few t)) in
+    let x = flat-found _ _ v (k .stands) (k .fits) _ _ _ vs w (q .flat _ vs h p) _ (few t) (b .find .ensures .here (few t)) in
     image-found _ _ _ _ vs v h k p (q .whole .counted) (sym (g .flat-function .ensures _ vs w (q .flat _ vs h p)) ∙ c .if2 .taken) _ _ (x .0) (x .1)
 
 returns-3 : tie.Need-returns-3
