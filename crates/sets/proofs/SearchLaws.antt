@@ -131,7 +131,7 @@ module _ (s : List ℕ) (top at : ℕ) (first : Bool) (v : Value) (vs : List Val
         further w ws n k (inr m) = inr (m .0, (n, m .1))
 
 -- What the answer tells: there is such a member, or there is none.
-module _ (s : List ℕ) (top at : ℕ) (first : Bool) (v : Value) (vs : List Value) (r : ℕ) where
+module _ {s : List ℕ} {top at : ℕ} {first : Bool} {v : Value} {vs : List Value} {r : ℕ} where
   pub sought-some : MemberOrNone s top at first v vs r → (r ≡ 0 → ⊥) → Member s top at first v vs r
   sought-some (inl m) d = m
   sought-some (inr n) d = absurd (d (n .0))

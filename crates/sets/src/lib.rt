@@ -7,7 +7,7 @@ ghost use Rattle.arena.specs.Code.{EndsAt, SomeSet, SomeValue};
 ghost use Rattle.sets.specs.Fronts.{SeekPre, Sought, Contains, Includes, TwoFronts, TurnAt, TwoRuns, RunIn, SomeFront, RunEnds, PutPre, Put};
 ghost use Rattle.sets.specs.Fronts.{RestThere, StepPre, Stepped, RestOf, EndPre, Ended, RunsBelow, RunsMerge, Merges};
 ghost use Rattle.sets.specs.Rows.{Row, LowerBound, Found, SetAt, OfCells, SomeFine, TwoRows, Kept, CellTurned, RowsBelow, Ahead, FrontsMerge};
-ghost use Rattle.sets.specs.Pairs.{SomePairs, FunctionAt, SomeRelation, Applies, SomeFlat, FlatFunctionAt, FlatAt, Relation, FlatRelation};
+ghost use Rattle.sets.specs.Pairs.{SomePairs, FunctionAt, SomeRelation, Applies, SomeFlat, FlatFunctionAt, FlatAt, Relation, PairSought, IsFunction};
 
 // A set is small beside one with more than FEW times its members: a search for each member is quicker than a walk over both.
 const FEW: usize = 8;
@@ -366,49 +366,49 @@ fn flat_function(s: &[u64], at: usize, n: usize) -> bool
     true
 }
 
-// `image` for n such pairs: e is looked for among the first parts; whether f is a function is asked where e is found.
-fn flat_image(s: &[u64], f: usize, n: usize, e: usize) -> usize
-    requires { ⌜ FlatRelation (now s) f n e ⌝ }
-    ensures { λ r. ⌜ Applies (now (s .entry)) f e r ⌝ }
+// Where the pair of f stands whose first part is the value at e, of n pairs, flat or not; 0 where there is none.
+fn pair_with(s: &[u64], f: usize, n: u64, e: usize, flat: bool) -> usize
+    requires { ⌜ SomeValue (now s) (length (now s)) e × Relation (now s) f n flat ⌝ }
+    ensures { λ r. ⌜ PairSought (now (s .entry)) f e r ⌝ }
 {
     let at = f + 1;
-    let k = find(s, at + 1, FLAT_PAIR, n, s[e]);
-    if k == n {
-        return 0;
+    if flat {
+        let k = find(s, at + 1, FLAT_PAIR, n as usize, s[e]);
+        if k == n as usize {
+            return 0;
+        }
+        return at + FLAT_PAIR * k;
     }
-    if flat_function(s, at, n) {
-        return at + FLAT_PAIR * k + 2;
-    }
-    0
+    seek(s, at, n, e, true)
 }
 
-// `image` for all other relations, of n pairs.
-fn walk_image(s: &[u64], f: usize, n: u64, e: usize) -> usize
-    requires { ⌜ Relation (now s) f n e ⌝ }
-    ensures { λ r. ⌜ Applies (now (s .entry)) f e r ⌝ }
+// Whether f is a function, of n pairs, flat or not.
+fn function_at(s: &[u64], f: usize, n: u64, flat: bool) -> bool
+    requires { ⌜ Relation (now s) f n flat ⌝ }
+    ensures { λ r. ⌜ IsFunction (now (s .entry)) f r ⌝ }
 {
-    let at = f + 1;
-    let i = seek(s, at, n, e, true);
-    if i == 0 {
-        return 0;
+    if flat {
+        return flat_function(s, f + 1, n as usize);
     }
-    if is_function(s, at, n) {
-        return arena::end_of(s, i + 1);
-    }
-    0
+    is_function(s, f + 1, n)
 }
 
 // Application: where the second part stands that goes with the value at e; 0 where there is none, or where two pairs of f share a first
-// part.
+// part. Whether f is a function is asked where e is found.
 pub fn image(s: &[u64], f: usize, e: usize) -> usize
     requires { ⌜ SomeValue (now s) (length (now s)) e × SomeRelation (now s) (length (now s)) f ⌝ }
     ensures { λ r. ⌜ Applies (now (s .entry)) f e r ⌝ }
 {
     let n = arena::low(s[f]);
-    if of_flat_pairs(s, f) {
-        return flat_image(s, f, n as usize, e);
+    let flat = of_flat_pairs(s, f);
+    let i = pair_with(s, f, n, e, flat);
+    if i == 0 {
+        return 0;
     }
-    walk_image(s, f, n, e)
+    if function_at(s, f, n, flat) {
+        return arena::end_of(s, i + 1);
+    }
+    0
 }
 
 // Where n members from `at` on end; members of one cell each need no walk.
