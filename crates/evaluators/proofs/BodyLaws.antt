@@ -18,7 +18,7 @@ use Rattle.arena.specs.Code.{code, codes, Stands, Same, SomeAt, EndsAt}
 use Rattle.arena.proofs.Standing.{stands-frame, stands-front, stands-back}
 use Rattle.arena.proofs.CodeLaws.{length-code, length-codes}
 use Rattle.constants.specs.Built.{Builds}
-use Rattle.operations.specs.Good.{GoodAt, IsFunction}
+use Rattle.operations.specs.Good.{GoodAt, NewFirsts}
 use Rattle.operations.proofs.GoodLaws.{good-fits, good-inside}
 use Rattle.evaluators.specs.declared.Held.{Held}
 use Rattle.evaluators.specs.Answers.{EndsWith, HeldAs, Listed}
@@ -60,7 +60,7 @@ binds-body {bs} {s} {top} {env} {inner} {ρ} {x} {at} {w} i l small b g = record
         rw (p, eq-eqb x y (sym e), _with_≔_) g
     go y h (no n) = rw (other y n, ne-eqb x y (λ e. n (sym e)), _with_≔_) (b .at y h)
 
-    known : (y : ℕ) → y < 32 → Dec (y ≡ x) → Marked (getD (setAt inner x at) y 0) → IsFunction ((ρ with x ≔ w) y)
+    known : (y : ℕ) → y < 32 → Dec (y ≡ x) → Marked (getD (setAt inner x at) y 0) → NewFirsts ((ρ with x ≔ w) y)
     known y h (yes e) m = absurd (omega (arith, here y e, small, m))
     known y h (no n) m = rw (ne-eqb x y (λ e. n (sym e)), _with_≔_) (b .functions y h (rw (other y n) at m))
 

@@ -19,7 +19,7 @@ use Rattle.rules.specs.Evaluation.{quantify, select, holdsᵖ, valueᵉ}
 use Rattle.arena.specs.Code.{Same}
 use Rattle.constants.specs.Built.{Builds}
 use Rattle.constants.specs.Constants.{Constants}
-use Rattle.operations.specs.Good.{GoodAt, IsFunction}
+use Rattle.operations.specs.Good.{GoodAt, NewFirsts}
 use Rattle.operations.specs.Outcomes.{Gives, IsLight}
 use Rattle.operations.specs.declared.Outcome.{Outcome}
 use Rattle.evaluators.specs.declared.Held.{Held}
@@ -34,7 +34,7 @@ use Rattle.evaluators.specs.Answers.{HeldAs, turnedBy, FormedAs, FormedB
 pub record Binds (bs s : List ℕ) (top : ℕ) (env : List ℕ) (ρ : Env) : Type 0 where
   pub at : (x : ℕ) → x < 32 → GoodAt (tableOf bs .sizes) s top (placeOf (getD env x 0)) (ρ x)
   pub good : (x : ℕ) → T (good (tableOf bs .sizes) (ρ x))
-  pub functions : (x : ℕ) → x < 32 → Marked (getD env x 0) → IsFunction (ρ x)
+  pub functions : (x : ℕ) → x < 32 → Marked (getD env x 0) → NewFirsts (ρ x)
   pub constants : Constants bs (nodeCount bs) s
   pub low : nodeCount bs ≤ top
 

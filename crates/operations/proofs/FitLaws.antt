@@ -18,7 +18,7 @@ use Rattle.fitting.specs.Tests.{FitOne, FitTwo, Both}
 use Rattle.arena.specs.Code.{excess, code, IsPair, AllPairs, SetBelow}
 use Rattle.arena.proofs.Standing.{stands-head}
 use Rattle.sets.specs.Pairs.{newFirsts, SomeRelation, KnownFunction}
-use Rattle.operations.specs.Good.{Sizes, GoodAt, SomeGood, IsFunction, FunctionSeen}
+use Rattle.operations.specs.Good.{Sizes, GoodAt, SomeGood, NewFirsts, FunctionSeen}
 use Rattle.operations.specs.Outcomes.{Operands, NumberCell}
 use Rattle.operations.proofs.GoodLaws.{good-fits, good-typed-at, good-whole, good-set-at}
 
@@ -100,8 +100,8 @@ module _ {s : List ℕ} {a : ℕ} {f : Bool} (fit : FitOne (P̂ (t̂ ×̂ û) �
 
   pub function-seen : {r : Bool} → KnownFunction s a r → FunctionSeen s a r
   function-seen g z gs top v small h =
-      one-relation small (good-whole small h) IsFunction fit e
-      (λ vs k q ws d. let i : vs ≡ ws = cc in subst (λ (x : Values). newFirsts (members x) ≡ true) i (g z vs k q))
+      one-relation small (good-whole small h) NewFirsts fit e
+      (λ vs k q ws d. let i : vs ≡ ws = cc in subst (λ (x : Values). true ≡ newFirsts (members x)) i (g z vs k q))
 
 -- Two operands.
 module _ {gs s : List ℕ} {mid top a b : ℕ} {v w : Value} (small : Sizes gs) (h : GoodAt gs s mid a v) (k : GoodAt gs s top b w) where

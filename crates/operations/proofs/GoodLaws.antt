@@ -17,7 +17,7 @@ use Rattle.arena.proofs.ValueParts.{value-eq}
 use Rattle.sets.specs.Pairs.{KnownFunction}
 use Rattle.fitting.specs.Agree.{TypedAt}
 use Rattle.fitting.proofs.Cells.{typed-at}
-use Rattle.operations.specs.Good.{Sizes, GoodAt, IsFunction}
+use Rattle.operations.specs.Good.{Sizes, GoodAt, NewFirsts}
 
 rising-rises : (gs : List ℕ) (s : Values) → T (risingAll gs s) → Rises s
 rising-rises gs none h = tt
@@ -65,6 +65,6 @@ module _ {gs : List ℕ} (small : Sizes gs) where
   good-set-at vs h = record { stands = h .stands; below = h .below; fine = good-set vs (h .good) }
 
 -- Of a good value that is a function it is known where it stands.
-pub function-known : {gs s : List ℕ} {top a : ℕ} {v : Value} {k : Bool} → Sizes gs → GoodAt gs s top a v → (k ≡ true → IsFunction v) → KnownFunction s a k
+pub function-known : {gs s : List ℕ} {top a : ℕ} {v : Value} {k : Bool} → Sizes gs → GoodAt gs s top a v → (k ≡ true → NewFirsts v) → KnownFunction s a k
 function-known {s = s} {a = a} {v = v} small h g e vs b _ =
     g e vs (value-eq s a v (set vs) (h .stands) (b .stands) (good-fits small v (h .good)) (b .fine .fits))

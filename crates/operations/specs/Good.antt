@@ -31,9 +31,9 @@ pub record SomeGood (s : List ℕ) (at : ℕ) : Type 0 where
   pub stands : GoodAt sizes s top at value
 
 -- If the value is a set, no member shares its first part with the next one.
-abbrev pub IsFunction : Value → Type 0
-IsFunction v = (vs : Values) → v ≡ set vs → newFirsts (members vs) ≡ true
+abbrev pub NewFirsts : Value → Type 0
+NewFirsts v = (vs : Values) → v ≡ set vs → true ≡ newFirsts (members vs)
 
 -- Where r is true, the good value at a is a function.
 abbrev pub FunctionSeen : List ℕ → ℕ → Bool → Type 0
-FunctionSeen s a r = r ≡ true → (gs : List ℕ) (top : ℕ) (v : Value) → Sizes gs → GoodAt gs s top a v → IsFunction v
+FunctionSeen s a r = r ≡ true → (gs : List ℕ) (top : ℕ) (v : Value) → Sizes gs → GoodAt gs s top a v → NewFirsts v

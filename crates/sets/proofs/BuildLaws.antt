@@ -20,8 +20,8 @@ use Rattle.sets.specs.declared.Out.{Out}
 use Rattle.sets.specs.declared.Walk.{Walk}
 use Rattle.sets.specs.declared.Rest.{Rest}
 use Rattle.sets.specs.Merged.{merged}
-use Rattle.sets.specs.Fronts.{keepOf, firstOf, restLeft, restRight, TurnAt, TwoFronts, TwoRuns, RunEnds, Cells, Built, PutPre, Put, TailPre, Tailed}
-use Rattle.sets.specs.Fronts.{Merging, StepPre, Stepped, RestOf, EndPre, Ended, RunsMerge}
+use Rattle.sets.specs.Fronts.{keepOf, firstOf, restLeft, restRight, TurnAt, TwoFronts, TwoRuns, RunEnds, Cells, Built, PutPre, Put, RestThere}
+use Rattle.sets.specs.Fronts.{Merging, StepPre, Stepped, RestOf, EndPre, Ended, RunsMerge, Walking}
 use Rattle.sets.proofs.MergedLaws.{merged-nil, merged-turn}
 use Rattle.sets.proofs.SearchLaws.{no-front, by-fronts}
 use Rattle.sets.proofs.TurnLaws.{two-fronts, turn-fewer}
@@ -33,6 +33,7 @@ pub put-kept : (s : List ℕ) (from end k : ℕ) (o : Out) (s′ : List ℕ) (r 
 put-kept s from end k o s′ r p c x y = record {
   frame = f;
   near = omega arith;
+  even = λ z. omega arith;
   on = λ top zs vs b at e n. record {
     stands = rw (codes-append zs (members vs), values-members vs)
         (stands-append s′ (top + 1) (codes (values zs)) (codes vs)
@@ -60,29 +61,9 @@ pub put-none : (s : List ℕ) (from end k : ℕ) (o : Out) (s′ : List ℕ) →
 put-none s from end k o s′ f = record {
   frame = f;
   near = omega arith;
+  even = λ z. omega arith;
   on = λ top zs vs b at e n. built-frame s s′ top o zs f b;
 }
-
--- `tail`
-
-pub tail-put : (s : List ℕ) (at n end : ℕ) (cells : Bool) (o : Out) → TailPre s at n cells o → RunEnds s at n end → PutPre s at end n o
-tail-put s at n end cells o p e =
-    let x : end ≡ at + weights (p .rest) = e (p .top) (p .rest) (p .front) in
-    record {
-      forward = omega arith;
-      behind = omega (arith, p .front .below, p .behind);
-      room = omega (arith, p .front .light, p .room);
-      few = omega (arith, p .few, p .front .counted, count-weights (p .rest), p .front .light);
-    }
-
-pub tail-kept : (s : List ℕ) (at n end : ℕ) (o : Out) (s′ : List ℕ) (r : Out) → RunEnds s at n end → Put true s at end n o s′ r → Tailed true s at n o s′ r
-tail-kept s at n end o s′ r e p = record {
-  frame = p .frame;
-  on = λ top zs vs b f. p .on top zs vs b (f .stands) (e top vs f) (f .counted);
-}
-
-pub tail-none : (s : List ℕ) (at n : ℕ) (o : Out) → Tailed false s at n o s o
-tail-none s at n o = record { frame = same-refl (o .to) s; on = λ top zs vs b f. built-frame s s top o zs (same-refl (o .to) s) b }
 
 -- `step`
 
@@ -197,114 +178,131 @@ whole-weighs l e r s top w whole h =
     )
 
 -- Too heavy already.
-pub end-heavy : (l r : Bool) (s : List ℕ) (w : Walk) (top : ℕ) → top + 256 < w .to → Ended l r s w top s 0
-end-heavy l r s w top g b whole h = record {
+pub end-heavy : {l r : Bool} {s : List ℕ} {w : Walk} {top : ℕ} → top + 256 < w .to → Ended l r s w top s 0
+end-heavy {l} {r} {s} {w} {top} g b whole h = record {
   frame = same-refl top s;
   light = λ k. absurd (omega (arith, whole-weighs l b r s top w whole h));
   heavy = λ k. refl;
 }
 
--- The rest of the set that is not exhausted is all that is left to merge.
+-- All members of a run, or none.
+front-if : {s : List ℕ} {top at n : ℕ} {vs : Values} (k : Bool) → Front s top at n vs → Front s top at (cond k n 0) (cond k vs none)
+unfolding code
+front-if true f = f
+front-if false f = record {
+  stands = record { inside = omega (arith, f .stands .inside); cells = λ i l. absurd (omega arith) };
+  counted = refl;
+  below = omega (arith, f .below);
+  fits = tt;
+  rises = tt;
+  light = omega arith;
+}
+
+cells-if : {s : List ℕ} {at n : ℕ} (k : Bool) → Cells s at n → Cells s at (cond k n 0)
+cells-if true c = c
+cells-if false c = record { inside = omega (arith, c .inside); each = λ i l. absurd (omega arith) }
+
+members-if : (k : Bool) (vs : Values) → members (cond k vs none) ≡ cond k (members vs) []
+members-if true vs = refl
+members-if false vs = refl
+
+-- What is kept of the set that is not exhausted is all that is left to merge.
 record Rested (s : List ℕ) (top : ℕ) (w : Walk) (q : Rest) (done whole : List Value) : Type 0 where
   pub rest : Values
   pub front : Front s top (q .at) (q .n) rest
-  pub all : whole ≡ done ++ cond (q .keep) (members rest) []
+  pub all : whole ≡ done ++ members rest
   pub thin : Cells s (w .a) (w .m) × Cells s (w .b) (w .n) → Cells s (q .at) (q .n)
 
 merged-none : (l b r : Bool) (ws : List Value) → merged l b r [] ws ≡ cond r ws []
 unfolding merged
 merged-none l b r ws = refl
 
-module _ (l r : Bool) (s : List ℕ) (w : Walk) (top : ℕ) (q : Rest)
-    (over : (w .m ≡ 0) ⊎ ((w .n ≡ 0) ⊎ (top + 256 < w .to))) (light : w .to ≤ top + 256) (rest : RestOf w l r q) where
+module _ {l r : Bool} {s : List ℕ} {w : Walk} {top : ℕ} {cells : Bool} (p : EndPre l r s w top cells) (light : w .to ≤ top + 256) {q : Rest}
+    (rest : RestOf w l r q) where
   right-over : 0 < w .m → w .n ≡ 0
-  right-over p = go over
-    where
-      go : (w .m ≡ 0) ⊎ ((w .n ≡ 0) ⊎ (top + 256 < w .to)) → w .n ≡ 0
-      go (inl z) = absurd (omega arith)
-      go (inr (inl z)) = z
-      go (inr (inr z)) = absurd (omega arith)
+  right-over k = elim (p .over) [ inl z ↦ absurd (omega arith) | inr y ↦ elim y [ inl z ↦ z | inr z ↦ absurd (omega arith) ] ]
 
   rested : (e : Bool) (whole : List Value) (h : Merging l e r s top w whole) → Rested s top w q (h .done) whole
   rested e whole h = go rest
     where
-      none-left : w .m ≡ 0 → members (h .left) ≡ []
-      none-left z = no-front s top (w .a) (w .m) (λ vs. members vs ≡ []) refl (h .left) (h .onLeft) (omega arith)
-
-      none-right : w .n ≡ 0 → members (h .right) ≡ []
-      none-right z = no-front s top (w .b) (w .n) (λ vs. members vs ≡ []) refl (h .right) (h .onRight) (omega arith)
-
       go : RestOf w l r q → Rested s top w q (h .done) whole
-      go (inl x) = subst (λ (z : Rest). Rested s top w z (h .done) whole) (sym (x .1)) (record {
-        rest = h .left;
-        front = h .onLeft;
-        all = h .all ∙ rw (none-right (right-over (x .0)), merged-nil l e r (members (h .left)));
-        thin = λ c. c .0;
-      })
-      go (inr x) = subst (λ (z : Rest). Rested s top w z (h .done) whole) (sym (x .1)) (record {
-        rest = h .right;
-        front = h .onRight;
-        all = h .all ∙ rw (none-left (x .0), merged-none l e r (members (h .right)));
-        thin = λ c. c .1;
-      })
+      go (inl x) =
+          let z = no-front s top (w .b) (w .n) (λ vs. members vs ≡ []) refl (h .right) (h .onRight) (omega (arith, right-over (x .0))) in
+          subst (λ (z : Rest). Rested s top w z (h .done) whole) (sym (x .1)) (record {
+            rest = cond l (h .left) none;
+            front = front-if l (h .onLeft);
+            all = h .all ∙ rw (z, merged-nil l e r (members (h .left)), members-if l (h .left));
+            thin = λ c. cells-if l (c .0);
+          })
+      go (inr x) =
+          let z = no-front s top (w .a) (w .m) (λ vs. members vs ≡ []) refl (h .left) (h .onLeft) (omega (arith, x .0)) in
+          subst (λ (z : Rest). Rested s top w z (h .done) whole) (sym (x .1)) (record {
+            rest = cond r (h .right) none;
+            front = front-if r (h .onRight);
+            all = h .all ∙ rw (z, merged-none l e r (members (h .right)), members-if r (h .right));
+            thin = λ c. cells-if r (c .1);
+          })
 
-  pub end-tail : (cells : Bool) → EndPre l r s w top cells → TailPre s (q .at) (q .n) cells (outOf w)
-  end-tail cells p =
-      let z = rested (p .both) (p .whole) (p .merging) in
-      record {
-        room = omega (arith, p .room);
-        few = omega (arith, p .merging .built .ends, p .merging .built .counted, count-weights (values (p .merging .done)));
-        top = top;
-        rest = z .rest;
-        front = z .front;
-        thin = λ e. z .thin (p .thin e);
-        behind = omega (arith, p .merging .built .ends);
+  some-rest : Rested s top w q (p .merging .done) (p .whole)
+  some-rest = rested (p .both) (p .whole) (p .merging)
+
+  pub end-rest : RestThere s (q .at) (q .n) cells
+  end-rest = ((top, some-rest .rest, some-rest .front), λ e. some-rest .thin (p .thin e))
+
+  module _ {end : ℕ} (ends : RunEnds s (q .at) (q .n) end) where
+    pub end-put : PutPre s (q .at) end (q .n) (outOf w)
+    end-put =
+        let z = some-rest in
+        let x : end ≡ q .at + weights (z .rest) = ends top (z .rest) (z .front) in
+        let b = p .merging .built in
+        record {
+          forward = omega arith;
+          behind = omega (arith, z .front .below, b .ends);
+          room = omega (arith, z .front .light, p .room);
+          few = omega (arith, b .ends, b .counted, count-weights (values (p .merging .done)), z .front .counted, count-weights (z .rest), z .front .light);
+        }
+
+    module _ {s′ : List ℕ} {o : Out} (put : Put true s (q .at) end (q .n) (outOf w) s′ o) where
+      -- the whole has been built
+      all-built : (e : Bool) (whole : List Value) → Merging l e r s top w whole → Built s′ top (o .to) (o .count) whole
+      all-built e whole h =
+          let z = rested e whole h in
+          subst (Built s′ top (o .to) (o .count)) (sym (z .all))
+          (put .on top (h .done) (z .rest) (h .built) (z .front .stands) (ends top (z .rest) (z .front)) (z .front .counted))
+
+      end-frame : (e : Bool) (whole : List Value) → Merging l e r s top w whole → Same top s s′
+      end-frame e whole h = same-trans top (w .to) s s s′ (same-refl top s) (put .frame) (omega (arith, h .built .ends))
+
+      pub end-over : top + 256 < o .to → Ended l r s w top s′ 0
+      end-over g e whole h = record {
+        frame = end-frame e whole h;
+        light = λ k. absurd (omega (arith, all-built e whole h .ends));
+        heavy = λ k. refl;
       }
 
-  module _ (s′ : List ℕ) (o : Out) (tailed : Tailed (q .keep) s (q .at) (q .n) (outOf w) s′ o) where
-    -- the whole has been built
-    all-built : (e : Bool) (whole : List Value) → Merging l e r s top w whole → Built s′ top (o .to) (o .count) whole
-    all-built e whole h =
-        let z = rested e whole h in
-        subst (λ (c : List Value). Built s′ top (o .to) (o .count) c) (sym (z .all)) (tailed .on top (h .done) (z .rest) (h .built) (z .front))
+      pub end-count : o .to ≤ top + 256 → o .count ≤ 256
+      end-count g = let b = all-built (p .both) (p .whole) (p .merging) in omega (arith, b .ends, b .counted, count-weights (values (p .whole)))
 
-    end-frame : (e : Bool) (whole : List Value) → Merging l e r s top w whole → Same top s s′
-    end-frame e whole h = record { same = λ i p. tailed .frame .same i (omega (arith, h .built .ends)); kept = tailed .frame .kept }
-
-    pub end-over : top + 256 < o .to → Ended l r s w top s′ 0
-    end-over g e whole h = record {
-      frame = end-frame e whole h;
-      light = λ k. absurd (omega (arith, all-built e whole h .ends));
-      heavy = λ k. refl;
-    }
-
-    pub end-count : (cells : Bool) → EndPre l r s w top cells → o .to ≤ top + 256 → o .count ≤ 256
-    end-count cells p g =
-        let b = all-built (p .both) (p .whole) (p .merging) in
-        omega (arith, b .ends, b .counted, count-weights (values (p .whole)))
-
-    pub end-made : (cells : Bool) → EndPre l r s w top cells → o .to ≤ top + 256 → Ended l r s w top (setAt s′ top (21474836480 + o .count)) (o .to)
-    end-made cells p g e whole h =
-        let b = all-built e whole h in
-        record {
-          frame = record {
-            same = λ i k. getD-set-other s′ top i (21474836480 + o .count) 0 (λ z. omega arith) ∙ end-frame e whole h .same i k;
-            kept = length-set s′ top (21474836480 + o .count) ∙ tailed .frame .kept;
-          };
-          light = λ k. (omega (arith, b .ends), set-stands s′ top (o .count) (o .to) whole b (omega (arith, p .room, tailed .frame .kept)));
-          heavy = λ k. absurd (omega (arith, b .ends));
-        }
+      pub end-made : o .to ≤ top + 256 → Ended l r s w top (setAt s′ top (21474836480 + o .count)) (o .to)
+      end-made g e whole h =
+          let b = all-built e whole h in
+          record {
+            frame = record {
+              same = λ i k. getD-set-other s′ top i (21474836480 + o .count) 0 (λ z. omega arith) ∙ end-frame e whole h .same i k;
+              kept = length-set s′ top (21474836480 + o .count) ∙ put .frame .kept;
+            };
+            light = λ k. (omega (arith, b .ends), set-stands s′ top (o .count) (o .to) whole b (omega (arith, p .room, put .frame .kept)));
+            heavy = λ k. absurd (omega (arith, b .ends));
+          }
 
 -- `walk_merge` and `merge_cells`
 
--- The walk goes on from runs that are unchanged below `top`.
-pub record Walking (l e r : Bool) (s₀ : List ℕ) (a m b n top : ℕ) (s : List ℕ) (w : Walk) : Type 0 where
-  pub frame : Same top s₀ s
-  pub on : (vs ws : Values) → Front s₀ top a m vs → Front s₀ top b n ws → Merging l e r s top w (merged l e r (members vs) (members ws))
+pub built-none : (s : List ℕ) (top : ℕ) → top + 514 ≤ length s → Built s top (top + 1) 0 []
+unfolding code
+built-none s top p = record { stands = record { inside = omega arith; cells = λ i p. absurd (omega arith) }; ends = omega arith; counted = refl }
 
 pub walking-start : (l e r : Bool) (s : List ℕ) (a m b n top : ℕ) → top + 514 ≤ length s →
     Walking l e r s a m b n top s (record { a = a; m = m; b = b; n = n; to = top + 1; count = 0 })
-unfolding code
 walking-start l e r s a m b n top p = record {
   frame = same-refl top s;
   on = λ vs ws f g. record {
@@ -313,11 +311,7 @@ walking-start l e r s a m b n top p = record {
     done = [];
     onLeft = f;
     onRight = g;
-    built = record {
-      stands = record { inside = omega arith; cells = λ i p. absurd (omega arith) };
-      ends = omega arith;
-      counted = refl;
-    };
+    built = built-none s top p;
     all = refl;
   };
 }

@@ -17,7 +17,7 @@ use Rattle.arena.proofs.CodeLaws.{fits-small}
 use Rattle.arena.proofs.ValueParts.{left-stands, right-stands}
 use Rattle.arena.proofs.FrontLaws.{rises-rising, fit-small, front-start, front-value, front-next, code-equal}
 use Rattle.sets.specs.Fronts.{Member}
-use Rattle.sets.specs.Pairs.{newFirsts, FlatAt, FlatFunctionAt, KnownFunction, Within, ImageAt}
+use Rattle.sets.specs.Pairs.{newFirsts, SomePairs, Relation, Within, ImageAt}
 use Rattle.sets.proofs.PairLaws.{applied-none, applied-shared, applied-found}
 use Rattle.sets.proofs.SearchLaws.{key-stands}
 
@@ -142,15 +142,16 @@ pub all-pairs : (vs : Values) → AllPairs vs → All IsPair (members vs)
 all-pairs none p = tt
 all-pairs (v ▸ vs) p = (p .0, all-pairs vs (p .1))
 
+-- The relation as a run of pairs.
+pub whole : {s : List ℕ} {f n : ℕ} {vs : Values} → SetBelow s (length s) f vs → n ≡ getD s f 0 % 4294967296 → Front s (f + weight (set vs)) (f + 1) n vs
+whole {s} {f} {n} {vs} h =
+    front-start s (f + weight (set vs)) f vs (record { stands = h .stands; below = omega arith; fine = h .fine }) n
+
+pub relation-run : {s : List ℕ} {f n : ℕ} {flat : Bool} → Relation s f n flat → SomePairs s (f + 1) n
+relation-run r = let q = r .relation in (_, _, front-start _ _ _ _ (q .1) _ (r .counted), q .2)
+
 -- What is found, as an application.
-module _ (s : List ℕ) (f n e : ℕ) (vs : Values) (v : Value) (h : SetBelow s (length s) f vs) (k : ValueBelow s (length s) e v) (p : AllPairs vs)
-    (counted : n ≡ getD s f 0 % 4294967296) where
-  abbrev within : ℕ
-  within = f + weight (set vs)
-
-  pub whole : Front s within (f + 1) n vs
-  whole = front-start s within f vs (record { stands = h .stands; below = omega arith; fine = h .fine }) n counted
-
+module _ {s : List ℕ} {f e : ℕ} {vs : Values} {v : Value} (h : SetBelow s (length s) f vs) (k : ValueBelow s (length s) e v) (p : AllPairs vs) where
   small : All Small (members vs)
   small = fit-small vs (h .fine .fits .1)
 
@@ -163,34 +164,32 @@ module _ (s : List ℕ) (f n e : ℕ) (vs : Values) (v : Value) (h : SetBelow s 
   pub image-shared : newFirsts (members vs) ≡ false → ImageAt s f vs 0 (applied (set vs) v)
   image-shared d = rw (applied-shared v (fits-small v (k .fits)) vs p small rising d) (refl, refl)
 
-  -- the first part of a member
-  pub first-part : (i : ℕ) → Member s within (f + 1) true v (members vs) i → SomeAt s (i + 1)
-  first-part i m =
-      let x = key-stands true s i (m .is) none (all-in IsPair (m .is) (members vs) (all-pairs vs p) (m .among), tt) (m .value .stands) (m .value .fits) in
-      record { value = left (m .is); stands = x .0; fits = x .1 }
+  module _ {i : ℕ} (m : Member s (f + weight (set vs)) (f + 1) true v (members vs) i) where
+    is-pair : IsPair (m .is)
+    is-pair = all-in IsPair (m .is) (members vs) (all-pairs vs p) (m .among)
 
-  pub image-found : newFirsts (members vs) ≡ true → (i r : ℕ) → Member s within (f + 1) true v (members vs) i → EndsAt s (i + 1) r →
-      ImageAt s f vs r (applied (set vs) v)
-  image-found d i r m ends =
-      rw (applied-found v (fits-small v (k .fits)) vs p small rising (m .is) (m .among) (m .key) d)
-      (go (m .is) (all-in IsPair (m .is) (members vs) (all-pairs vs p) (m .among)) (m .value))
-    where
-      go : (w : Value) → IsPair w → ValueBelow s within i w → Within s f vs r (right w)
-      go (scalar x) q b = absurd q
-      go (set x) q b = absurd q
-      go (pair a b) q w =
-          let x : r ≡ i + 1 + weight a = ends a (left-stands s i a b (w .stands)) (w .fits .0) in
-          record {
-            positive = omega arith;
-            behind = omega (arith, m .behind);
-            value = record {
-              stands = rw x (right-stands s i a b (w .stands));
-              below = omega (arith, w .below);
-              fits = w .fits .1;
-              light = omega (arith, w .light);
-            };
-          }
+    -- the first part of the member
+    pub first-part : SomeAt s (i + 1)
+    first-part =
+        let x = key-stands true s i (m .is) none (is-pair, tt) (m .value .stands) (m .value .fits) in
+        record { value = left (m .is); stands = x .0; fits = x .1 }
 
--- What the neighbours of flat pairs tell is known of the relation.
-pub flat-known : {s : List ℕ} {f n : ℕ} {r : Bool} → n ≡ getD s f 0 % 4294967296 → FlatAt s f → FlatFunctionAt s (f + 1) n r → KnownFunction s f r
-flat-known c flat g e vs h p = sym (g _ vs (front-start _ _ _ _ h _ c) (flat _ vs h p)) ∙ e
+    pub image-found : newFirsts (members vs) ≡ true → {r : ℕ} → EndsAt s (i + 1) r → ImageAt s f vs r (applied (set vs) v)
+    image-found d {r} ends =
+        rw (applied-found v (fits-small v (k .fits)) vs p small rising (m .is) (m .among) (m .key) d) (go (m .is) is-pair (m .value))
+      where
+        go : (w : Value) → IsPair w → ValueBelow s (f + weight (set vs)) i w → Within s f vs r (right w)
+        go (scalar x) q b = absurd q
+        go (set x) q b = absurd q
+        go (pair a b) q w =
+            let x : r ≡ i + 1 + weight a = ends a (left-stands s i a b (w .stands)) (w .fits .0) in
+            record {
+              positive = omega arith;
+              behind = omega (arith, m .behind);
+              value = record {
+                stands = rw x (right-stands s i a b (w .stands));
+                below = omega (arith, w .below);
+                fits = w .fits .1;
+                light = omega (arith, w .light);
+              };
+            }

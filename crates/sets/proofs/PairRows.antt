@@ -2,7 +2,7 @@
 -- their cells (`first-order`), so that the first parts make a row (`pair-row`), and cells tell whether neighbours share one (`flat-next`);
 -- e is a first part where its cell is in the row (`flat-none`, `flat-found`).
 use Prim.Native.Nat.{ℕ, suc, _+_, _*_, _-_, _%_, _≤_, _<_, compare, Ordering, Ordering·lt, Ordering·eq}
-use mathlib.Core.Bool.{true, false}
+use mathlib.Core.Bool.{Bool, true, false}
 use mathlib.Core.List.{List}
 use mathlib.Core.Logic.{_⊎_, inl, inr}
 use mathlib.Core.Path.{_≡_, refl, sym, ap, _∙_, subst}
@@ -14,14 +14,14 @@ use Rattle.laws.proofs.OrderLaws.{then-lt, order-pair, before-order, compare-lt
 use Rattle.laws.proofs.SetOrder.{All}
 use Rattle.laws.proofs.Membership.{In, all-in, in-all}
 use Rattle.laws.proofs.CellsLaws.{weight-some}
-use Rattle.arena.specs.Code.{cellSize, ValueAt, CellsFit, EndsAt, AllWeigh, EvenSet, SetBelow, Front, IsPair, AllPairs}
+use Rattle.arena.specs.Code.{cellSize, ValueAt, AllWeigh, EvenSet, SetBelow, ValueBelow, Front, IsPair, AllPairs}
 use Rattle.arena.proofs.CodeLaws.{length-codes}
-use Rattle.arena.proofs.ValueParts.{ends-at, scalar-cell, scalar-one, left-stands, right-stands}
+use Rattle.arena.proofs.ValueParts.{scalar-cell, scalar-one, left-stands, right-stands}
 use Rattle.arena.proofs.FrontLaws.{front-start, front-value, front-below, front-next}
 use Rattle.arena.proofs.EvenLaws.{weights-even, value-at, cell-order}
-use Rattle.sets.specs.Fronts.{Member}
-use Rattle.sets.specs.Rows.{Row}
-use Rattle.sets.specs.Pairs.{newFirsts, FlatPairs}
+use Rattle.sets.specs.Fronts.{Member, MemberOrNone}
+use Rattle.sets.specs.Rows.{Row, Found}
+use Rattle.sets.specs.Pairs.{newFirsts, FlatPairs, SomeFlat, Relation}
 use Rattle.sets.proofs.SearchLaws.{no-front}
 use Rattle.sets.proofs.RowLaws.{climb, neighbours, place-of, same-cell, cell-tells}
 use Rattle.sets.proofs.ImageLaws.{by-two, all-pairs, Checking, checking-shared, checking-next}
@@ -126,10 +126,13 @@ module _ (s : List ℕ) (top : ℕ) (vs : Values) (i left : ℕ) (h : Checking (
           k .1,
         ))
 
--- `flat_image`: where the cell of e is in the row of first parts.
-module _ (s : List ℕ) (e : ℕ) (v : Value) (value : ValueAt s e v) (fits : CellsFit v) (top at n : ℕ) (vs : Values) (f : Front s top at n vs)
+pub relation-flat : {s : List ℕ} {f n : ℕ} {flat : Bool} → Relation s f n flat → flat ≡ true → SomeFlat s (f + 1) n
+relation-flat r e = let q = r .relation in (_, _, front-start _ _ _ _ (q .1) _ (r .counted), r .thin e _ _ (q .1) (q .2))
+
+-- `pair_with`: the cell of e is looked for in the row of first parts.
+module _ {s : List ℕ} {e : ℕ} {v : Value} (value : ValueBelow s (length s) e v) {top at n : ℕ} {vs : Values} (f : Front s top at n vs)
     (flat : FlatPairs vs) where
-  pub flat-none : ((i : ℕ) → i < n → getD s (at + 1 + 3 * i) 0 ≡ getD s e 0 → ⊥) → All (λ w. left w ≡ v → ⊥) (members vs)
+  flat-none : ((i : ℕ) → i < n → getD s (at + 1 + 3 * i) 0 ≡ getD s e 0 → ⊥) → All (λ w. left w ≡ v → ⊥) (members vs)
   flat-none d = in-all (λ w. left w ≡ v → ⊥) (members vs) λ w i q.
       let x = place-of s top 3 FlatPairs three-each w at n vs f flat i in
       d (x .0) (x .1) (go w (all-in IsPair w (members vs) (all-pairs vs (flat .1)) i) q (x .0) (x .2))
@@ -139,25 +142,27 @@ module _ (s : List ℕ) (e : ℕ) (v : Value) (value : ValueAt s e v) (fits : Ce
       go (set x) k q i h = absurd k
       go (pair a b) k q i h =
           same-cell s (at + 1 + 3 * i) e v
-          (subst (λ (j : ℕ). ValueAt s j v) (let z : at + 3 * i + 1 ≡ at + 1 + 3 * i = omega arith in z) (rw (← q) (left-stands s (at + 3 * i) a b h))) value
+          (subst (λ (j : ℕ). ValueAt s j v) (let z : at + 3 * i + 1 ≡ at + 1 + 3 * i = omega arith in z) (rw (← q) (left-stands s (at + 3 * i) a b h)))
+          (value .stands)
 
-  pub flat-found : (i : ℕ) → i < n → getD s (at + 1 + 3 * i) 0 ≡ getD s e 0 →
-      Member s top at true v (members vs) (at + 3 * i) × EndsAt s (at + 3 * i + 1) (at + 3 * i + 2)
+  flat-found : (i : ℕ) → i < n → getD s (at + 1 + 3 * i) 0 ≡ getD s e 0 → Member s top at true v (members vs) (at + 3 * i)
   flat-found i l q =
       value-at s top at n 3 (λ ws. FlatPairs ws × ((x : Value) → In x (members ws) → In x (members vs)))
       (λ w ws h. let x = three-each w ws (h .0) in (x .0, (x .1, λ y j. h .1 y (inr j))))
-      (λ j. at ≤ j → getD s (j + 1) 0 ≡ getD s e 0 → Member s top at true v (members vs) j × EndsAt s (j + 1) (j + 2))
-      (λ j m w ws g h b z. let x = go j m w ws g (h .0) z in
-      (record { is = w; among = h .1 w (inl refl); key = x .0; behind = b; value = front-below s top j m w ws g }, x .1))
+      (λ j. at ≤ j → getD s (j + 1) 0 ≡ getD s e 0 → Member s top at true v (members vs) j)
+      (λ j m w ws g h b z. record { is = w; among = h .1 w (inl refl); key = go j m w ws g (h .0) z; behind = b; value = front-below s top j m w ws g })
       vs f (flat, λ x j. j) i l (omega arith) (ap (λ (j : ℕ). getD s j 0) (let z : at + 3 * i + 1 ≡ at + 1 + 3 * i = omega arith in z) ∙ q)
     where
-      go : (j m : ℕ) (w : Value) (ws : Values) → Front s top j m (w ▸ ws) → FlatPairs (w ▸ ws) → getD s (j + 1) 0 ≡ getD s e 0 →
-          (left w ≡ v) × EndsAt s (j + 1) (j + 2)
+      go : (j m : ℕ) (w : Value) (ws : Values) → Front s top j m (w ▸ ws) → FlatPairs (w ▸ ws) → getD s (j + 1) 0 ≡ getD s e 0 → left w ≡ v
       go j m (scalar x) ws g h z = absurd (h .1 .0)
       go j m (set x) ws g h z = absurd (h .1 .0)
       go j m (pair a b) ws g h z =
           let k = left-stands s j a b (front-value s top j m (pair a b) ws g) in
-          let one = first-one a b (h .0 .0) in (
-            cell-tells s e (j + 1) v a value k fits (g .fits .0 .0) one z,
-            subst (EndsAt s (j + 1)) (let y : j + 1 + weight a ≡ j + 2 = omega (arith, one) in y) (ends-at s (j + 1) a k (g .fits .0 .0)),
-          )
+          cell-tells s e (j + 1) v a (value .stands) k (value .fits) (g .fits .0 .0) (first-one a b (h .0 .0)) z
+
+  module _ {k : ℕ} (found : Found s (at + 1) 3 n (getD s e 0) k) where
+    pub pair-none : k ≡ n → MemberOrNone s top at true v (members vs) 0
+    pair-none z = inr (refl, flat-none (found .lost z))
+
+    pub pair-found : (k ≡ n → ⊥) → MemberOrNone s top at true v (members vs) (at + 3 * k)
+    pair-found z = let l : k < n = omega (arith, found .few) in inl (flat-found k l (found .here l))

@@ -54,28 +54,26 @@ module _ (s : List ℕ) (at step n x from left : ℕ) (h : Halving s at step n x
     }
 
 -- `find`: x is not in the row where the first cell that is not below x is another.
-module _ (s : List ℕ) (at step n x : ℕ) (row : Row s at step n) where
-  pub found-here : (k : ℕ) → k < n → getD s (at + step * k) 0 ≡ x → Found s at step n x k
-  found-here k l e = record { few = omega arith; here = λ _. e; lost = λ z. absurd (omega arith) }
+module _ {s : List ℕ} {at step n x : ℕ} where
+  pub found-here : {k : ℕ} → k < n → getD s (at + step * k) 0 ≡ x → Found s at step n x k
+  found-here l e = record { few = omega arith; here = λ _. e; lost = λ z. absurd (omega arith) }
 
   pub found-none : ((i : ℕ) → i < n → getD s (at + step * i) 0 ≡ x → ⊥) → Found s at step n x n
   found-none d = record { few = omega arith; here = λ l. absurd (omega arith); lost = λ _. d }
 
   -- no cell is x where x is below the first one
-  pub found-below : x < getD s at 0 → Found s at step n x n
-  found-below l = found-none λ i k e.
+  pub found-below : Row s at step n → x < getD s at 0 → Found s at step n x n
+  found-below row l = found-none λ i k e.
       omega (arith, row .rises 0 i (omega arith) k, ap (λ (j : ℕ). getD s j 0) (let z : at + step * 0 ≡ at = omega arith in z))
 
-  module _ (r : ℕ) (h : LowerBound s at step n x r) where
-    pub found-over : n ≤ r → Found s at step n x n
-    found-over l = found-none λ i k e. omega (arith, h .below i (omega arith))
+  pub found-over : {r : ℕ} → LowerBound s at step n x r → n ≤ r → Found s at step n x n
+  found-over h l = found-none λ i k e. omega (arith, h .below i (omega arith))
 
-    pub found-other : r < n → (getD s (at + step * r) 0 ≡ x → ⊥) → Found s at step n x n
-    found-other l d = found-none λ i k e. go i k e (decLt i r)
-      where
-        go : (i : ℕ) → i < n → getD s (at + step * i) 0 ≡ x → Dec (i < r) → ⊥
-        go i k e (yes p) = omega (arith, h .below i p)
-        go i k e (no p) = d (omega (arith, h .above r (omega arith) l, row .rises r i (omega arith) k))
+  pub found-other : {r : ℕ} → Row s at step n → LowerBound s at step n x r → r < n → (getD s (at + step * r) 0 ≡ x → ⊥) → Found s at step n x n
+  found-other {r} row h l d = found-none λ i k e. elim (decLt i r) [
+    | yes p ↦ omega (arith, h .below i p)
+    | no p ↦ d (omega (arith, h .above r (omega arith) l, row .rises r i (omega arith) k))
+  ]
 
 -- A row of numbers, each no less than the one before it.
 pub climb : (f : ℕ → ℕ) (n : ℕ) → ((i : ℕ) → suc i < n → f i ≤ f (suc i)) → (i j : ℕ) → i ≤ j → j < n → f i ≤ f j
@@ -116,6 +114,12 @@ pub cells-next : (s : List ℕ) (at n m : ℕ) → Cells s at n → suc m ≡ n 
 cells-next s at n m c e = record {
   inside = omega (arith, c .inside);
   each = λ i l. subst (λ (j : ℕ). partsOf (getD s j 0) ≡ 0) (let d : at + suc i ≡ at + 1 + i = omega arith in d) (c .each (suc i) (omega arith));
+}
+
+pub cells-later : (s : List ℕ) (at n p : ℕ) → Cells s at n → p ≤ n → Cells s (at + p) (n - p)
+cells-later s at n p c e = record {
+  inside = omega (arith, c .inside);
+  each = λ i l. subst (λ (j : ℕ). partsOf (getD s j 0) ≡ 0) (let d : at + (p + i) ≡ at + p + i = omega arith in d) (c .each (p + i) (omega arith));
 }
 
 pub cells-first : (s : List ℕ) (at n : ℕ) → Cells s at n → 0 < n → EndsAt s at (at + 1)

@@ -131,7 +131,7 @@ module _ (s : List ℕ) (top at : ℕ) (first : Bool) (v : Value) (vs : List Val
         further w ws n k (inr m) = inr (m .0, (n, m .1))
 
 -- What the answer tells: there is such a member, or there is none.
-module _ (s : List ℕ) (top at : ℕ) (first : Bool) (v : Value) (vs : List Value) (r : ℕ) where
+module _ {s : List ℕ} {top at : ℕ} {first : Bool} {v : Value} {vs : List Value} {r : ℕ} where
   pub sought-some : MemberOrNone s top at first v vs r → (r ≡ 0 → ⊥) → Member s top at first v vs r
   sought-some (inl m) d = m
   sought-some (inr n) d = absurd (d (n .0))
@@ -155,12 +155,12 @@ pub record Running (s : List ℕ) (top i left e : ℕ) : Type 0 where
   pub front : Front s top i left rest
   pub ends : i + weights rest ≡ e
 
-module _ (s : List ℕ) (top i left e : ℕ) (h : Running s top i left e) where
+module _ {s : List ℕ} {top i left e : ℕ} (h : Running s top i left e) where
   pub running-at : 0 < left → SomeAt s i
   running-at l = front-some s top i left (h .rest) (h .front) l
 
-  pub running-next : (r : ℕ) → 0 < left → EndsAt s i r → Running s top r (left - 1) e
-  running-next r l ends =
+  pub running-next : {r : ℕ} → 0 < left → EndsAt s i r → Running s top r (left - 1) e
+  running-next {r} l ends =
       by-front s top i left (λ ws. i + weights ws ≡ e → Running s top r (left - 1) e)
       (λ w ws f q. let x : r ≡ i + weight w = ends w (front-value s top i left w ws f) (f .fits .0) in
       record { rest = ws; front = front-next s top i left w ws f r (left - 1) x (omega arith); ends = omega arith })

@@ -142,27 +142,13 @@ pub record PutPre (s : List ℕ) (from end k : ℕ) (o : Out) : Type 0 where
 pub record Put (keep : Bool) (s : List ℕ) (from end k : ℕ) (o : Out) (s′ : List ℕ) (r : Out) : Type 0 where
   pub frame : Same (o .to) s s′
   pub near : r .to ≤ o .to + (end - from)
+  pub even : end - from ≡ k → r .to + o .count ≡ o .to + r .count
   pub on : (top : ℕ) (zs : List Value) (vs : Values) → Built s top (o .to) (o .count) zs → ValuesAt s from vs → end ≡ from + weights vs → k ≡ count vs →
       Built s′ top (r .to) (r .count) (zs ++ cond keep (members vs) [])
 
 -- The rest of a set, of one cell each or not.
 abbrev pub RestThere : List ℕ → ℕ → ℕ → Bool → Type 0
 RestThere s at n cells = SomeFront s at n × (cells ≡ true → Cells s at n)
-
--- The same for the rest of a set.
-pub record TailPre (s : List ℕ) (at n : ℕ) (cells : Bool) (o : Out) : Type 0 where
-  pub room : o .to + 255 ≤ length s
-  pub few : o .count ≤ 512
-  pub top : ℕ
-  pub rest : Values
-  pub front : Front s top at n rest
-  pub thin : cells ≡ true → Cells s at n
-  pub behind : top ≤ o .to
-
-pub record Tailed (keep : Bool) (s : List ℕ) (at n : ℕ) (o : Out) (s′ : List ℕ) (r : Out) : Type 0 where
-  pub frame : Same (o .to) s s′
-  pub on : (top : ℕ) (zs : List Value) (vs : Values) → Built s top (o .to) (o .count) zs → Front s top at n vs →
-      Built s′ top (r .to) (r .count) (zs ++ cond keep (members vs) [])
 
 -- A walk over two sets that merges them into the members `whole`: those built, and those that are left to merge.
 pub record Merging (l b r : Bool) (s : List ℕ) (top : ℕ) (w : Walk) (whole : List Value) : Type 0 where
@@ -190,10 +176,10 @@ pub record Stepped (l b r : Bool) (s : List ℕ) (w : Walk) (s′ : List ℕ) (w
   pub fewer : w′ .m + w′ .n < w .m + w .n
   pub on : (top : ℕ) (whole : List Value) → Merging l b r s top w whole → Merging l b r s′ top w′ whole
 
--- What is left at the end of a walk, in the left set or in the right.
+-- What is kept of what is left at the end of a walk, in the left set or in the right.
 abbrev pub RestOf : Walk → Bool → Bool → Rest → Type 0
 RestOf w l r q =
-    ((0 < w .m) × (q ≡ record { at = w .a; n = w .m; keep = l })) ⊎ ((w .m ≡ 0) × (q ≡ record { at = w .b; n = w .n; keep = r }))
+    ((0 < w .m) × (q ≡ record { at = w .a; n = cond l (w .m) 0 })) ⊎ ((w .m ≡ 0) × (q ≡ record { at = w .b; n = cond r (w .n) 0 }))
 
 -- The end of a merge: the rest is put behind what has been built, and the set's cell before it.
 pub record EndPre (l r : Bool) (s : List ℕ) (w : Walk) (top : ℕ) (cells : Bool) : Type 0 where
@@ -215,6 +201,11 @@ pub record RunsBelow (s : List ℕ) (a m b n top : ℕ) : Type 0 where
 abbrev pub RunsMerge : Bool → Bool → Bool → List ℕ → ℕ → ℕ → ℕ → ℕ → ℕ → List ℕ → ℕ → Type 0
 RunsMerge l e r s a m b n top s′ k =
     (vs ws : Values) → Front s top a m vs → Front s top b n ws → Made top s s′ (setOf (merged l e r (members vs) (members ws))) k
+
+-- A merge on its way: the runs are unchanged below `top`.
+pub record Walking (l e r : Bool) (s₀ : List ℕ) (a m b n top : ℕ) (s : List ℕ) (w : Walk) : Type 0 where
+  pub frame : Same top s₀ s
+  pub on : (vs ws : Values) → Front s₀ top a m vs → Front s₀ top b n ws → Merging l e r s top w (merged l e r (members vs) (members ws))
 
 abbrev pub Merges : Bool → Bool → Bool → List ℕ → ℕ → ℕ → ℕ → List ℕ → ℕ → Type 0
 Merges l e r s a b top s′ k =

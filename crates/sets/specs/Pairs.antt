@@ -8,6 +8,7 @@ use lib.ListN.{length, getD}
 use Rattle.rules.specs.Values.{Value, set, Values, members, weight, same}
 use Rattle.rules.specs.Runs.{Given, gives, lacks}
 use Rattle.rules.specs.Operations.{left, applied}
+use Rattle.sets.specs.Fronts.{MemberOrNone}
 use Rattle.arena.specs.Code.{AllWeigh, SetBelow, SomeValue, ValueBelow, Front, AllPairs}
 
 -- The pair x does not share its first part with the next one.
@@ -47,19 +48,25 @@ FlatFunctionAt s at n r = (top : ℕ) (vs : Values) → Front s top at n vs → 
 abbrev pub FlatAt : List ℕ → ℕ → Type 0
 FlatAt s f = (top : ℕ) (vs : Values) → SetBelow s top f vs → AllPairs vs → FlatPairs vs
 
--- f is a relation of n pairs, and a value stands at e.
-pub record Relation (s : List ℕ) (f n e : ℕ) : Type 0 where
-  pub value : SomeValue s (length s) e
+-- f is a relation of n pairs, such pairs if flat.
+pub record Relation (s : List ℕ) (f n : ℕ) (flat : Bool) : Type 0 where
   pub relation : SomeRelation s (length s) f
   pub counted : n ≡ getD s f 0 % 4294967296
+  pub thin : flat ≡ true → FlatAt s f
 
-pub record FlatRelation (s : List ℕ) (f n e : ℕ) : Type 0 where
-  pub whole : Relation s f n e
-  pub flat : FlatAt s f
+-- r is where a pair of f stands whose first part is the value at e, or 0 where there is none.
+abbrev pub PairSought : List ℕ → ℕ → ℕ → ℕ → Type 0
+PairSought s f e r =
+    (vs : Values) (v : Value) → SetBelow s (length s) f vs → ValueBelow s (length s) e v → AllPairs vs →
+    MemberOrNone s (f + weight (set vs)) (f + 1) true v (members vs) r
 
--- Where k is true, no two pairs of the relation at f share a first part.
+-- r says whether f is a function.
+abbrev pub IsFunction : List ℕ → ℕ → Bool → Type 0
+IsFunction s f r = (vs : Values) → SetBelow s (length s) f vs → AllPairs vs → r ≡ newFirsts (members vs)
+
+-- Where k is true, f is a function.
 abbrev pub KnownFunction : List ℕ → ℕ → Bool → Type 0
-KnownFunction s f k = k ≡ true → (vs : Values) → SetBelow s (length s) f vs → AllPairs vs → newFirsts (members vs) ≡ true
+KnownFunction s f k = k ≡ true → IsFunction s f true
 
 -- u stands at r, within the set vs at f.
 pub record Within (s : List ℕ) (f : ℕ) (vs : Values) (r : ℕ) (u : Value) : Type 0 where

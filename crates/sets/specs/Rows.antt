@@ -8,8 +8,9 @@ use lib.ListN.{length, getD}
 use mir.Val.{boolByte}
 use Rattle.rules.specs.Values.{Value, scalar, pair, set}
 use Rattle.arena.specs.Code.{FineSet, SomeSet, ValueBelow}
-use Rattle.sets.specs.Fronts.{Cells, TwoRuns}
+use Rattle.sets.specs.Fronts.{Cells, TwoRuns, Walking}
 use Rattle.sets.specs.declared.CellTurn.{CellTurn}
+use Rattle.sets.specs.declared.Place.{Place}
 
 -- n cells from `at` on, every step-th one, that do not fall.
 pub record Row (s : List ℕ) (at step n : ℕ) : Type 0 where
@@ -67,3 +68,25 @@ CellTurned l e r x y t =
 pub record RowsBelow (s : List ℕ) (a m b n top : ℕ) : Type 0 where
   pub rows : TwoRows s a m b n top
   pub room : top + 514 ≤ length s
+
+-- r of m cells from a on come before the first of n from b on.
+pub record Ahead (s : List ℕ) (a m b n r : ℕ) : Type 0 where
+  pub few : r ≤ m
+  pub some : 0 < r → 0 < n
+  pub less : (i : ℕ) → i < r → getD s (a + 1 * i) 0 < getD s b 0
+
+-- A merge of m cells from a on and n from b on: `left` and `others` cells are left of them, `count` have been built.
+pub record RowMerge (l e r : Bool) (s₀ : List ℕ) (a m b n top : ℕ) (s : List ℕ) (i j to : ℕ) : Type 0 where
+  pub left : ℕ
+  pub others : ℕ
+  pub count : ℕ
+  pub leftIs : i + left ≡ a + m
+  pub othersIs : j + others ≡ b + n
+  pub countIs : to ≡ top + 1 + count
+  pub few : count + (left + others) ≤ m + n
+  pub cells : Cells s i left
+  pub otherCells : Cells s j others
+  pub walking : Walking l e r s₀ a m b n top s (record { a = i; m = left; b = j; n = others; to = to; count = count })
+
+abbrev pub FrontsMerge : Bool → Bool → List ℕ → ℕ → ℕ → ℕ → ℕ → ℕ → List ℕ → Place → Type 0
+FrontsMerge l r s a m b n top s′ w = (e : Bool) → RowMerge l e r s a m b n top s′ (w .a) (w .b) (w .to)

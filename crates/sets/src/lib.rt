@@ -1,13 +1,13 @@
 // Sets in the arena, whose members rise: membership, inclusion, union, intersection, difference, application.
 ghost use Prim.Native.Nat.{_+_, _≤_, _<_};
-ghost use mathlib.Core.Bool.{true};
+ghost use mathlib.Core.Bool.{true, cond};
 ghost use mathlib.Core.Path.{_≡_};
 ghost use lib.ListN.{length};
 ghost use Rattle.arena.specs.Code.{EndsAt, SomeSet, SomeValue};
 ghost use Rattle.sets.specs.Fronts.{SeekPre, Sought, Contains, Includes, TwoFronts, TurnAt, TwoRuns, RunIn, SomeFront, RunEnds, PutPre, Put};
-ghost use Rattle.sets.specs.Fronts.{RestThere, TailPre, Tailed, StepPre, Stepped, RestOf, EndPre, Ended, RunsBelow, RunsMerge, Merges};
-ghost use Rattle.sets.specs.Rows.{Row, LowerBound, Found, SetAt, OfCells, SomeFine, TwoRows, Kept, CellTurned, RowsBelow};
-ghost use Rattle.sets.specs.Pairs.{SomePairs, FunctionAt, SomeRelation, Applies, SomeFlat, FlatFunctionAt, FlatAt, Relation, FlatRelation, KnownFunction};
+ghost use Rattle.sets.specs.Fronts.{RestThere, StepPre, Stepped, RestOf, EndPre, Ended, RunsBelow, RunsMerge, Merges};
+ghost use Rattle.sets.specs.Rows.{Row, LowerBound, Found, SetAt, OfCells, SomeFine, TwoRows, Kept, CellTurned, RowsBelow, Ahead, FrontsMerge};
+ghost use Rattle.sets.specs.Pairs.{SomePairs, FunctionAt, SomeRelation, Applies, SomeFlat, FlatFunctionAt, FlatAt, Relation, PairSought, IsFunction, KnownFunction};
 
 // A set is small beside one with more than FEW times its members: a search for each member is quicker than a walk over both.
 const FEW: usize = 8;
@@ -43,11 +43,17 @@ struct Walk {
     count: u64,
 }
 
-// The rest of one set, kept or not.
+// Where a merge of cells stands: at a in one set and at b in the other, and what has been built ends at `to`.
+struct Place {
+    a: usize,
+    b: usize,
+    to: usize,
+}
+
+// What is kept of the rest of one set.
 struct Rest {
     at: usize,
     n: u64,
-    keep: bool,
 }
 
 // A turn of a walk over two sets of cells: the lesser of the first cells, and by how many cells what is built and both sets move on.
@@ -78,22 +84,9 @@ fn lower_bound(s: &[u64], at: usize, step: usize, n: usize, x: u64) -> usize
     from
 }
 
-// Which of n cells from `at` on, every step-th one, is x; n where none is. They do not fall.
+// Which of n cells from `at` on, every step-th one, is x; n where none is. They do not fall. They often follow one another with no gap: x is
+// looked for first where it stands then.
 fn find(s: &[u64], at: usize, step: usize, n: usize, x: u64) -> usize
-    requires { ⌜ Row (now s) at step n ⌝ }
-    ensures { λ r. ⌜ Found (now (s .entry)) at step n x r ⌝ }
-{
-    let k = lower_bound(s, at, step, n, x);
-    if k < n {
-        if s[at + step * k] == x {
-            return k;
-        }
-    }
-    n
-}
-
-// `find`, which looks first where x stands if the cells follow one another with no gap, as they often do.
-fn position(s: &[u64], at: usize, step: usize, n: usize, x: u64) -> usize
     requires { ⌜ Row (now s) at step n ⌝ }
     ensures { λ r. ⌜ Found (now (s .entry)) at step n x r ⌝ }
 {
@@ -110,7 +103,13 @@ fn position(s: &[u64], at: usize, step: usize, n: usize, x: u64) -> usize
             return guess as usize;
         }
     }
-    find(s, at, step, n, x)
+    let k = lower_bound(s, at, step, n, x);
+    if k < n {
+        if s[at + step * k] == x {
+            return k;
+        }
+    }
+    n
 }
 
 // Whether each member of the set at a is one cell. The members share a type, so that the first one decides.
@@ -165,7 +164,7 @@ pub fn contains(s: &[u64], e: usize, a: usize) -> bool
 {
     let n = arena::low(s[a]);
     if of_cells(s, a) {
-        return position(s, a + 1, 1, n as usize, s[e]) < n as usize;
+        return find(s, a + 1, 1, n as usize, s[e]) < n as usize;
     }
     seek(s, a + 1, n, e, false) > 0
 }
@@ -228,7 +227,7 @@ fn search_cells(s: &[u64], a: usize, m: usize, b: usize, n: usize) -> bool
     let mut i = a;
     let mut left = m;
     while left > 0 {
-        if position(s, b, 1, n, s[i]) == n {
+        if find(s, b, 1, n, s[i]) == n {
             return false;
         }
         i += 1;
@@ -367,79 +366,64 @@ fn flat_function(s: &[u64], at: usize, n: usize) -> bool
     true
 }
 
-// `image` for n such pairs: e is looked for among the first parts; whether f is a function is asked where e is found.
-fn flat_image(s: &[u64], f: usize, n: usize, e: usize, known: bool) -> usize
-    requires { ⌜ FlatRelation (now s) f n e × KnownFunction (now s) f known ⌝ }
-    ensures { λ r. ⌜ Applies (now (s .entry)) f e r ⌝ }
+// Where the pair of f stands whose first part is the value at e, of n pairs, flat or not; 0 where there is none.
+fn pair_with(s: &[u64], f: usize, n: u64, e: usize, flat: bool) -> usize
+    requires { ⌜ SomeValue (now s) (length (now s)) e × Relation (now s) f n flat ⌝ }
+    ensures { λ r. ⌜ PairSought (now (s .entry)) f e r ⌝ }
 {
     let at = f + 1;
-    let k = position(s, at + 1, FLAT_PAIR, n, s[e]);
-    if k == n {
-        return 0;
+    if flat {
+        let k = find(s, at + 1, FLAT_PAIR, n as usize, s[e]);
+        if k == n as usize {
+            return 0;
+        }
+        return at + FLAT_PAIR * k;
     }
-    let image = at + FLAT_PAIR * k + 2;
-    if known {
-        return image;
-    }
-    if flat_function(s, at, n) {
-        return image;
-    }
-    0
+    seek(s, at, n, e, true)
 }
 
-// `image` for all other relations, of n pairs.
-fn walk_image(s: &[u64], f: usize, n: u64, e: usize) -> usize
-    requires { ⌜ Relation (now s) f n e ⌝ }
-    ensures { λ r. ⌜ Applies (now (s .entry)) f e r ⌝ }
+// Whether f is a function, of n pairs, flat or not, where that is not known.
+fn function_at(s: &[u64], f: usize, n: u64, flat: bool, known: bool) -> bool
+    requires { ⌜ Relation (now s) f n flat × KnownFunction (now s) f known ⌝ }
+    ensures { λ r. ⌜ IsFunction (now (s .entry)) f r ⌝ }
 {
-    let at = f + 1;
-    let i = seek(s, at, n, e, true);
-    if i == 0 {
-        return 0;
+    if known {
+        return true;
     }
-    if is_function(s, at, n) {
-        return arena::end_of(s, i + 1);
+    if flat {
+        return flat_function(s, f + 1, n as usize);
     }
-    0
+    is_function(s, f + 1, n)
 }
 
 // Application: where the second part stands that goes with the value at e; 0 where there is none, or where two pairs of f share a first
-// part. That none do may be known.
+// part. Whether f is a function is asked where e is found, and where it is not known.
 pub fn image(s: &[u64], f: usize, e: usize, known: bool) -> usize
     requires { ⌜ SomeValue (now s) (length (now s)) e × SomeRelation (now s) (length (now s)) f × KnownFunction (now s) f known ⌝ }
     ensures { λ r. ⌜ Applies (now (s .entry)) f e r ⌝ }
 {
     let n = arena::low(s[f]);
-    if of_flat_pairs(s, f) {
-        return flat_image(s, f, n as usize, e, known);
+    let flat = of_flat_pairs(s, f);
+    let i = pair_with(s, f, n, e, flat);
+    if i == 0 {
+        return 0;
     }
-    walk_image(s, f, n, e)
+    if function_at(s, f, n, flat, known) {
+        return arena::end_of(s, i + 1);
+    }
+    0
 }
 
-// Whether the relation at f is seen to be a function without much work: its pairs are such pairs, and no two share a first part.
+// Whether the relation at f is seen to be a function without much work: its pairs are flat, and no two share a first part.
 pub fn flat_mapping(s: &[u64], f: usize) -> bool
     requires { ⌜ SomeRelation (now s) (length (now s)) f ⌝ }
     ensures { λ r. ⌜ KnownFunction (now (s .entry)) f r ⌝ }
 {
+    let n = arena::low(s[f]);
     if !of_flat_pairs(s, f) {
         return false;
     }
-    let n = arena::low(s[f]);
-    flat_function(s, f + 1, n as usize)
-}
-
-// Where n members from `at` on end.
-fn run_end(s: &[u64], at: usize, n: u64) -> usize
-    requires { ⌜ SomeFront (now s) at n ⌝ }
-    ensures { λ r. ⌜ RunEnds (now (s .entry)) at n r ⌝ }
-{
-    let mut left = n;
-    let mut i = at;
-    while left > 0 {
-        i = arena::end_of(s, i);
-        left -= 1;
-    }
-    i
+    function_at(s, f, n, true, false)
 }
 
 // Where n members from `at` on end; members of one cell each need no walk.
@@ -450,7 +434,13 @@ fn rest_end(s: &[u64], at: usize, n: u64, cells: bool) -> usize
     if cells {
         return at + n as usize;
     }
-    run_end(s, at, n)
+    let mut left = n;
+    let mut i = at;
+    while left > 0 {
+        i = arena::end_of(s, i);
+        left -= 1;
+    }
+    i
 }
 
 // Puts the run from `from` to `end`, of k members, behind what has been built, if it is kept.
@@ -466,18 +456,6 @@ fn put(s: &mut [u64], from: usize, end: usize, k: u64, keep: bool, o: Out) -> Ou
             to: to + n,
             count: o.count + k,
         };
-    }
-    o
-}
-
-// Puts the rest of a set, n members from `at` on, of one cell each or not, behind what has been built, if it is kept.
-fn tail(s: &mut [u64], at: usize, n: u64, keep: bool, cells: bool, o: Out) -> Out
-    requires { ⌜ TailPre (now s) at n cells o ⌝ }
-    ensures { λ r. ⌜ Tailed keep (now (s .entry)) at n o (now (s .exit)) r ⌝ }
-{
-    if keep {
-        let end = rest_end(s, at, n, cells);
-        return put(s, at, end, n, true, o);
     }
     o
 }
@@ -509,20 +487,28 @@ fn step(s: &mut [u64], w: Walk, left: bool, both: bool, right: bool) -> Walk
     }
 }
 
+// n if it is kept, 0 if not.
+fn if_kept(n: u64, keep: bool) -> u64
+    ensures { λ r. ⌜ r ≡ cond keep n 0 ⌝ }
+{
+    if keep {
+        return n;
+    }
+    0
+}
+
 fn rest_of(w: Walk, left: bool, right: bool) -> Rest
     ensures { λ r. ⌜ RestOf w left right r ⌝ }
 {
     if w.m > 0 {
         return Rest {
             at: w.a,
-            n: w.m,
-            keep: left,
+            n: if_kept(w.m, left),
         };
     }
     Rest {
         at: w.b,
-        n: w.n,
-        keep: right,
+        n: if_kept(w.n, right),
     }
 }
 
@@ -536,12 +522,13 @@ fn finish(s: &mut [u64], w: Walk, top: usize, left: bool, right: bool, cells: bo
         return 0;
     }
     let q = rest_of(w, left, right);
-    let o = tail(
+    let end = rest_end(s, q.at, q.n, cells);
+    let o = put(
         s,
         q.at,
+        end,
         q.n,
-        q.keep,
-        cells,
+        true,
         Out {
             to: w.to,
             count: w.count,
@@ -588,6 +575,52 @@ fn cell_turn(x: u64, y: u64, left: bool, both: bool, right: bool) -> CellTurn
     }
 }
 
+// How many of m cells from a on come before the first of n from b on; they are found by halving.
+fn front(s: &[u64], a: usize, m: usize, b: usize, n: usize) -> usize
+    requires { ⌜ Row (now s) a 1 m × (0 < n → b < length (now s)) ⌝ }
+    ensures { λ r. ⌜ Ahead (now (s .entry)) a m b n r ⌝ }
+{
+    if m == 0 || n == 0 {
+        return 0;
+    }
+    let y = s[b];
+    if s[a] < y {
+        return lower_bound(s, a, 1, m, y);
+    }
+    0
+}
+
+// What comes before the other set's first cell is taken or left as a whole, first of m cells from a on, then of n from b on.
+fn merge_fronts(
+    s: &mut [u64],
+    a: usize,
+    m: usize,
+    b: usize,
+    n: usize,
+    top: usize,
+    left: bool,
+    right: bool,
+) -> Place
+    requires { ⌜ RowsBelow (now s) a m b n top ⌝ }
+    ensures { λ r. ⌜ FrontsMerge left right (now (s .entry)) a m b n top (now (s .exit)) r ⌝ }
+{
+    let p = front(s, a, m, b, n);
+    let i = a + p;
+    let q = front(s, b, n, i, m - p);
+    let j = b + q;
+    let none = Out {
+        to: top + 1,
+        count: 0,
+    };
+    let o = put(s, a, i, p as u64, left, none);
+    let o2 = put(s, b, j, q as u64, right, o);
+    Place {
+        a: i,
+        b: j,
+        to: o2.to,
+    }
+}
+
 // Builds at top the set as `merge` does, of m cells from a on and n from b on. The cell of a turn is stored whether it is kept or not.
 fn merge_cells(
     s: &mut [u64],
@@ -605,9 +638,10 @@ fn merge_cells(
 {
     let end = a + m;
     let end2 = b + n;
-    let mut i = a;
-    let mut j = b;
-    let mut to = top + 1;
+    let w = merge_fronts(s, a, m, b, n, top, left, right);
+    let mut i = w.a;
+    let mut j = w.b;
+    let mut to = w.to;
     while i < end && j < end2 {
         let t = cell_turn(s[i], s[j], left, both, right);
         s[to] = t.cell;
@@ -615,7 +649,7 @@ fn merge_cells(
         i += t.left;
         j += t.right;
     }
-    let w = Walk {
+    let rest = Walk {
         a: i,
         m: (end - i) as u64,
         b: j,
@@ -623,7 +657,7 @@ fn merge_cells(
         to: to,
         count: (to - top - 1) as u64,
     };
-    finish(s, w, top, left, right, true)
+    finish(s, rest, top, left, right, true)
 }
 
 // The same of m members from a on and n from b on, member by member.

@@ -35,7 +35,7 @@ cells t = subst (Cells _ _) (sym (listed t .low .ensures .0)) (t .before .of-cel
 returns : tie.Need-returns
 returns c = λ v vs h k.
     let t = c .before .before in
-    cell-in _ _ v (h .stands) (h .fits) _ _ _ vs (front (listed t) vs k) (cells t) _ (c .position .ensures)
+    cell-in _ _ v (h .stands) (h .fits) _ _ _ vs (front (listed t) vs k) (cells t) _ (c .find .ensures)
 
 seek-requires : tie.Need-seek-requires
 seek-requires c κs =

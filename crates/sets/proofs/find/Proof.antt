@@ -1,29 +1,53 @@
--- `find`: x is where the search ends, or none of the cells.
+-- `find`: x is where it stands if the cells follow one another, or where the search ends, or none of the cells.
 use borrow.Author.Needs.{needs}
-use Prim.Native.Nat.{_+_, _*_, _<_}
+use Prim.Native.Nat.{_+_, _*_, _-_, _<_}
 use native.Mathlib.Omega.{arith}
-use lib.ListN.{length}
-use Rattle.sets.proofs.RowLaws.{found-here, found-over, found-other}
+use lib.ListN.{length, getD}
+use Rattle.sets.proofs.RowLaws.{found-here, found-none, found-below, found-over, found-other}
 use Rattle.sets.proofs.find.Statement.{statement}
 use Rattle.sets.proofs.find.Tie as tie
 
--- The search has ended at one of the cells.
-abbrev started : tie.Then1 → tie.Start
-started t = t .before .before .before
+-- There is a first cell; then x is not below it.
+abbrev lent : tie.Else1 → tie.Start
+lent e = e .before .before
 
-inside : (t : tie.Then1) → let q = started t .args in q .at + q .step * t .before .lower-bound .result < length (q .s .now)
-inside t = started t .pre .inside _ (t .if1 .taken)
+first-inside : (e : tie.Else1) → lent e .args .at < length (lent e .args .s .now)
+first-inside e = omega (arith, lent e .pre .inside 0 (omega (arith, e .if1 .left)))
+
+-- x is looked for where it stands if the cells follow one another; then the search has ended.
+abbrev above : tie.Else2 → tie.Start
+above e = lent (e .before .before)
+
+abbrev tried : tie.Then3 → tie.Start
+tried t = above (t .before)
+
+guess-inside : (t : tie.Then3) → let q = tried t .args in q .at + q .step * (q .x - getD (q .s .now) (q .at) 0) < length (q .s .now)
+guess-inside t = tried t .pre .inside _ (t .if3 .taken)
+
+abbrev searched : tie.After-lower-bound → tie.Start
+searched b = above (b .before .before)
+
+inside : (t : tie.Then5) → let q = searched (t .before) .args in q .at + q .step * t .before .lower-bound .result < length (q .s .now)
+inside t = searched (t .before) .pre .inside _ (t .if5 .taken)
 
 pub find-spec : {M : Type 1} → statement M
 find-spec =
     tie.close
     (tie.spec
+    (λ c. found-none λ i l e. omega (arith, c .if1 .taken))
+    (λ c. omega (arith, first-inside c))
+    (λ c. first-inside (c .before))
+    (λ c. found-below (lent (c .before .before) .pre) (c .if2 .taken))
+    (λ c. omega (arith, guess-inside c))
+    (λ c. omega (arith, guess-inside c))
+    (λ c. omega (arith, guess-inside c))
+    (λ c. guess-inside (c .before))
+    (λ c. let t = c .before .before in found-here (t .if3 .taken) (omega (arith, c .if4 .taken)))
     (λ c κs. search needs)
     (λ c. omega (arith, inside c))
     (λ c. omega (arith, inside c))
     (λ c. omega (arith, inside c))
     (λ c. inside (c .before))
-    (λ c. let t = c .before .before in found-here _ _ _ _ _ (started t .pre) _ (t .if1 .taken) (c .if2 .taken))
-    (λ c. let t = c .before .before in
-    found-other _ _ _ _ _ (started t .pre) _ (t .before .lower-bound .ensures) (t .if1 .taken) (c .if2 .left))
-    (λ c. found-over _ _ _ _ _ (c .before .before .before .pre) _ (c .before .lower-bound .ensures) (c .if1 .left)))
+    (λ c. found-here (c .before .before .if5 .taken) (c .if6 .taken))
+    (λ c. let t = c .before .before in found-other (searched (t .before) .pre) (t .before .lower-bound .ensures) (t .if5 .taken) (c .if6 .left))
+    (λ c. found-over (c .before .lower-bound .ensures) (c .if5 .left)))

@@ -1,37 +1,37 @@
--- `flat_mapping`: where the pairs are of three cells, neighbours tell whether two share a first part.
+-- `flat_mapping`: nothing is said of other relations; of one of flat pairs it is told whether it is a function. Landmarks: what was lent, and the
+-- number of pairs.
 use borrow.Author.Needs.{needs}
 use borrow.Author.Tests.{not-false}
-use Rattle.arena.proofs.FrontLaws.{front-start, set-inside}
+use mathlib.Core.Bool.{Bool, true}
+use mathlib.Core.List.{List}
+use mathlib.Core.Path.{_≡_}
+use Prim.Native.Nat.{ℕ}
+use Rattle.arena.proofs.FrontLaws.{set-inside}
 use Rattle.rules.proofs.Basics.{absurd01}
-use Rattle.sets.specs.Pairs.{FlatAt}
-use Rattle.sets.proofs.ImageLaws.{flat-known}
+use Rattle.sets.specs.Pairs.{IsFunction, KnownFunction}
 use Rattle.sets.proofs.flat_mapping.Statement.{statement}
 use Rattle.sets.proofs.flat_mapping.Tie as tie
 
-abbrev lent : tie.Else1 → tie.Start
-lent c = c .before .before .before
+abbrev counted : tie.Else1 → tie.After-low
+counted c = c .before .before
 
-abbrev flat-pairs : tie.After-low → tie.Else1
-flat-pairs c = c .before .before
+abbrev lent : tie.After-low → tie.Start
+lent l = l .before .before .before
 
-flat : (c : tie.Else1) → FlatAt (lent c .args .s .now) (lent c .args .f)
-flat c = c .before .of-flat-pairs .ensures (not-false _ (c .if1 .left))
-
-flat-function-requires : tie.Need-flat-function-requires
-flat-function-requires c κs =
-    let e = flat-pairs c in
-    let r = lent e .pre in
-    (_, _, front-start _ _ _ _ (r .1) _ (c .low .ensures .0), flat e _ _ (r .1) (r .2))
+told-known : {s : List ℕ} {f : ℕ} {r : Bool} → IsFunction s f r → KnownFunction s f r
+told-known {s} {f} g e = rw e at g
 
 pub flat-mapping-spec : {M : Type 1} → statement M
 flat-mapping-spec =
     tie.close
     (tie.spec
+    (λ c. search needs)
+    (λ c. set-inside _ _ _ _ (c .before .before .pre .1))
+    (λ c κs. search needs)
     (λ c κs. search needs)
     (λ c. λ e. absurd (absurd01 (cc)))
-    (λ c. search needs)
-    (λ c. set-inside _ _ _ _ (lent (c .before) .pre .1))
-    (λ c κs. search needs)
-    (λ c. search needs)
-    flat-function-requires
-    (λ c. let l = c .before in flat-known (l .low .ensures .0) (flat (flat-pairs l)) (c .flat-function .ensures)))
+    (λ c κs. let l = counted c in (
+      record { relation = lent l .pre; counted = l .low .ensures .0; thin = λ _. c .before .of-flat-pairs .ensures (not-false _ (c .if1 .left)) },
+      λ e. absurd (absurd01 (cc)),
+    ))
+    (λ c. told-known (c .function-at .ensures)))

@@ -1,26 +1,38 @@
 -- `merge_cells`: each turn stores the lesser of the first cells, which is a turn of the merge; at the end one set is exhausted.
-use Prim.Native.Nat.{_+_, _-_, _≤_, _<_}
+use Prim.Native.Nat.{ℕ, _+_, _-_, _≤_, _<_}
+use mathlib.Core.List.{List}
 use mathlib.Core.Logic.{_⊎_, inl, inr}
 use borrow.Author.Needs.{needs}
 use borrow.Author.Tests.{ltb-true, ltb-false}
 use native.Mathlib.Omega.{arith}
 use lib.ListN.{length, getD}
-use Rattle.sets.proofs.CellMerge.{RowMerge, merge-start, merge-inside, merge-step, turn-moves, merge-near, merge-end, merge-made}
+use Rattle.sets.specs.Rows.{RowsBelow, RowMerge}
+use Rattle.sets.proofs.CellMerge.{merge-inside, merge-step, turn-moves, merge-near, merge-end, merge-made}
 use Rattle.sets.proofs.merge_cells.Statement.{statement}
 use Rattle.sets.proofs.merge_cells.Tie as tie
 
+-- What the loop does to any merge that is on its way where the loop begins.
 abbrev Inv-loop : tie.InvT-loop
-Inv-loop s₀ a m b n top left both right end end2 i₀ j₀ to₀ s i j to = RowMerge left both right s₀ a m b n top s i j to
+Inv-loop s₁ a m b n top left both right end end2 i₁ j₁ to₁ s i j to =
+    (s₀ : List ℕ) → RowsBelow s₀ a m b n top → RowMerge left both right s₀ a m b n top s₁ i₁ j₁ to₁ → RowMerge left both right s₀ a m b n top s i j to
 
 abbrev μ-loop : tie.MeasureT-loop
-μ-loop s₀ a m b n top left both right end end2 i₀ j₀ to₀ s i j to = (end - i) + (end2 - j)
+μ-loop s₁ a m b n top left both right end end2 i₁ j₁ to₁ s i j to = (end - i) + (end2 - j)
+
+-- The fronts are merged; then the loop goes on with that merge.
+abbrev fronts : tie.At-loop Inv-loop μ-loop → tie.After-merge-fronts Inv-loop μ-loop
+fronts l = l .before .before .before
+
+abbrev lent : tie.At-loop Inv-loop μ-loop → tie.Start Inv-loop μ-loop
+lent l = fronts l .before .before .before
+
+merging : (l : tie.At-loop Inv-loop μ-loop) → let q = lent l .args in
+    RowMerge (q .left) (q .both) (q .right) (q .s .now) (q .a) (q .m) (q .b) (q .n) (q .top) (l .loop .s) (l .loop .i) (l .loop .j) (l .loop .to)
+merging l = l .loop .inv _ (lent l .pre) (fronts l .merge-fronts .ensures _)
 
 -- A turn: both sets have cells left.
 abbrev Both : Type 0
 Both = tie.Then1 Inv-loop μ-loop
-
-abbrev lent : tie.At-loop Inv-loop μ-loop → tie.Start Inv-loop μ-loop
-lent l = l .before .before
 
 abbrev loop : Both → tie.At-loop Inv-loop μ-loop
 loop t = t .before .before
@@ -30,11 +42,14 @@ others t = ltb-true _ _ (t .if1 .taken)
 
 inside : (t : Both) → let l = loop t in
     (l .loop .i < lent l .args .top) × (l .loop .j < lent l .args .top) × (l .loop .to < length (l .loop .s)) × (l .loop .to + 1 ≤ lent l .args .top + 512)
-inside t = let l = loop t in merge-inside _ _ _ _ _ _ _ _ _ (lent l .pre) _ _ _ _ (l .loop .inv) (t .before .loop-test .taken) (others t)
+inside t = let l = loop t in merge-inside _ _ _ _ _ _ _ _ _ (lent l .pre) _ _ _ _ (merging l) (t .before .loop-test .taken) (others t)
 
--- `top` and a room above it are inside.
-high : (t : Both) → lent (loop t) .args .top + 514 ≤ length (loop t .loop .s)
-high t = let l = loop t in omega (arith, lent l .pre .room, l .loop .inv .walking .frame .kept)
+-- `top` and a room above it are inside, and fit 64 bits even times 8.
+high : (t : Both) → (lent (loop t) .args .top + 514 ≤ length (loop t .loop .s)) × (lent (loop t) .args .top + 514 ≤ 2305843009213693952)
+high t = let l = loop t in (omega (arith, lent l .pre .room, merging l .walking .frame .kept), fits (lent l))
+  where
+    fits : (q : tie.Start Inv-loop μ-loop) → q .args .top + 514 ≤ 2305843009213693952
+    fits q = omega (arith, q .pre .room)
 
 -- The turn is known.
 abbrev Turned : Type 0
@@ -62,7 +77,7 @@ exhausted c = elim (c .loop-test .came) [ inl x ↦ inr (ltb-false _ _ (x .1 .le
 
 near : (c : Left) → let l = c .before in
     (l .loop .i ≤ lent l .args .a + lent l .args .m) × (l .loop .j ≤ lent l .args .b + lent l .args .n) × (lent l .args .top + 1 ≤ l .loop .to)
-near c = let l = c .before in merge-near _ _ _ _ _ _ _ _ _ (lent l .pre) _ _ _ _ (l .loop .inv)
+near c = let l = c .before in merge-near _ _ _ _ _ _ _ _ _ (lent l .pre) _ _ _ _ (merging l)
 
 loop-less : tie.Need-loop-less Inv-loop μ-loop
 loop-less c = let u = c .before .before .before in
@@ -70,21 +85,21 @@ loop-less c = let u = c .before .before .before in
     omega (arith, t .before .loop-test .taken, others t, moves u .2)
 
 loop-again : tie.Need-loop-again Inv-loop μ-loop
-loop-again c = let u = c .before .before .before in
+loop-again c = λ s₀ p h. let u = c .before .before .before in
     let t = both u in
     let l = loop t in
-    merge-step _ _ _ _ _ _ _ _ _ (lent l .pre) _ _ _ _ (l .loop .inv) (t .before .loop-test .taken) (others t) _ (u .cell-turn .ensures)
+    merge-step _ _ _ s₀ _ _ _ _ _ p _ _ _ _ (l .loop .inv s₀ p h) (t .before .loop-test .taken) (others t) _ (u .cell-turn .ensures)
 
 finish-requires : tie.Need-finish-requires Inv-loop μ-loop
 finish-requires c κs = let k = c .before in
     let l = k .before in
-    merge-end _ _ _ _ _ _ _ _ _ (lent l .pre) _ _ _ _ (l .loop .inv) (exhausted k)
+    merge-end _ _ _ _ _ _ _ _ _ (lent l .pre) _ _ _ _ (merging l) (exhausted k)
 
 returns : tie.Need-returns Inv-loop μ-loop
 returns c =
     let f = c .before .before in
     let l = left f .before in
-    merge-made _ _ _ _ _ _ _ _ _ (lent l .pre) _ _ _ _ (l .loop .inv) _ _ (f .finish .ensures)
+    merge-made _ _ _ _ _ _ _ _ _ (lent l .pre) _ _ _ _ (merging l) _ _ (f .finish .ensures)
 
 pub merge-cells-spec : {M : Type 1} → statement M
 merge-cells-spec =
@@ -94,18 +109,18 @@ merge-cells-spec =
     μ-loop
     (λ c. omega (arith, c .before .pre .rows .left .inside))
     (λ c. omega (arith, c .before .pre .rows .right .inside))
-    (λ c. omega (arith, c .before .pre .room))
-    (λ c. merge-start _ _ _ _ _ _ _ _ _ (c .before .pre))
-    (λ c. omega (arith, inside c .0, high c))
-    (λ c. let t = c .before in omega (arith, inside t .0, high t))
-    (λ c. let t = c .before in omega (arith, inside t .1, high t))
-    (λ c. let t = c .before .before in omega (arith, inside t .1, high t))
+    (λ c κs. search needs)
+    (λ c. λ s₀ p h. h)
+    (λ c. omega (arith, inside c .0, high c .1))
+    (λ c. let t = c .before in omega (arith, inside t .0, high t .0))
+    (λ c. let t = c .before in omega (arith, inside t .1, high t .1))
+    (λ c. let t = c .before .before in omega (arith, inside t .1, high t .0))
     (λ c κs. tt)
-    (λ c. omega (arith, inside (both c) .2))
+    (λ c. omega (arith, inside (both c) .3, high (both c) .1))
     (λ c. inside (both c) .2)
-    (λ c. let u = c .before in omega (arith, inside (both u) .2, moves u .3))
-    (λ c. let u = c .before .before in omega (arith, inside (both u) .0, high (both u), moves u .0))
-    (λ c. let u = c .before .before .before in omega (arith, inside (both u) .1, high (both u), moves u .1))
+    (λ c. let u = c .before in omega (arith, inside (both u) .3, high (both u) .1, moves u .3))
+    (λ c. let u = c .before .before in omega (arith, inside (both u) .0, high (both u) .1, moves u .0))
+    (λ c. let u = c .before .before .before in omega (arith, inside (both u) .1, high (both u) .1, moves u .1))
     loop-less
     loop-again
     (λ c. near c .0)
@@ -113,5 +128,5 @@ merge-cells-spec =
     (λ c. omega (arith, near c .2))
     (λ c. omega (arith, near c .2))
     finish-requires
-    (λ c. search needs)
+    (λ c. omega (arith, merging (left (c .before .before) .before) .walking .frame .kept))
     returns)

@@ -14,7 +14,7 @@ abbrev μ-loop : tie.MeasureT-loop
 
 -- The answer of the search for a member.
 abbrev Sought : Type 0
-Sought = tie.After-position Inv-loop μ-loop
+Sought = tie.After-find Inv-loop μ-loop
 
 abbrev turn : Sought → tie.In-loop Inv-loop μ-loop
 turn h = h .before .before
@@ -27,7 +27,7 @@ returns c = λ vs ws f g.
     let h = c .before in
     let t = turn h in
     let w = t .before .loop .inv in
-    including-lost _ _ _ _ _ _ (w .on vs ws f g) (t .loop-test .taken) (w .cells) (w .otherCells) _ (h .position .ensures)
+    including-lost _ _ _ _ _ _ (w .on vs ws f g) (t .loop-test .taken) (w .cells) (w .otherCells) _ (h .find .ensures)
     (c .if1 .taken)
 
 loop-again : tie.Need-loop-again Inv-loop μ-loop
@@ -40,7 +40,7 @@ loop-again c =
       otherCells = w .otherCells;
       on = λ vs ws f g.
           including-found _ _ _ _ _ _ (w .on vs ws f g) (t .loop-test .taken) (w .cells) (w .otherCells) _
-          (h .position .ensures) (c .if1 .left);
+          (h .find .ensures) (c .if1 .left);
     }
 
 pub search-cells-spec : {M : Type 1} → statement M

@@ -6,7 +6,8 @@ use borrow.Author.Needs.{needs}
 use borrow.Author.Tests.{ltb-true, ltb-false, leb-true, leb-false}
 use native.Mathlib.Omega.{arith}
 use Rattle.rules.proofs.Basics.{absurd01}
-use Rattle.sets.proofs.BuildLaws.{Walking, walking-start, walking-step, walking-next, walking-end, walking-made}
+use Rattle.sets.specs.Fronts.{Walking}
+use Rattle.sets.proofs.BuildLaws.{walking-start, walking-step, walking-next, walking-end, walking-made}
 use Rattle.sets.proofs.walk_merge.Statement.{statement}
 use Rattle.sets.proofs.walk_merge.Tie as tie
 
