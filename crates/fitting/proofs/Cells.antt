@@ -322,8 +322,5 @@ alike-elements x y t b e n f g = test-is b (x / 256) (y / 256) f g ∙ rw (← e
 pub first-member : {s : List ℕ} {a : ℕ} → SetHere s a → 0 < getD s a 0 % cellSize → SomeTyped s (a + 1)
 first-member h l = let (vs, _, k) = as-set (h .value .1) (h .isSet) in run-first (vs, set-run k) l
 
-pub member-inside : {s : List ℕ} {a : ℕ} → SetHere s a → getD s a 0 % cellSize ≢ 0 → a + 1 < length s
-member-inside h n = inside (first-member h (omega arith))
-
 pub members-run : {s : List ℕ} {a r : ℕ} → SetHere s a → Members s a r → SomeRun s (a + 1) r
 members-run h c = let (vs, _, k) = as-set (h .value .1) (h .isSet) in (c vs k .few, c vs k .run)

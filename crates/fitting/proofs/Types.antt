@@ -27,7 +27,7 @@ head (atom a) = atomCode a
 head (POW t) = 3
 head (t ⊗ u) = 4
 
-pub first-code : (row : List ℕ) (from : ℕ) (t : Ty) → TypeAt row from t → getD row from 0 ≡ head t
+first-code : (row : List ℕ) (from : ℕ) (t : Ty) → TypeAt row from t → getD row from 0 ≡ head t
 first-code row from (atom a) h = stands-head row from _ _ (h .codes)
 first-code row from (POW t) h = stands-head row from _ _ (h .codes)
 first-code row from (t ⊗ u) h = stands-head row from _ _ (h .codes)
@@ -41,12 +41,12 @@ atom-code (number whole) = ((λ e. omega arith), (λ e. omega arith))
 atom-code bool = ((λ e. omega arith), (λ e. omega arith))
 atom-code (given g) = ((λ e. omega arith), (λ e. omega arith))
 
-pub is-pow : (row : List ℕ) (from : ℕ) (t : Ty) → TypeAt row from t → getD row from 0 ≡ 3 → (u : Ty) × (t ≡ POW u) × TypeAt row (from + 1) u
+is-pow : (row : List ℕ) (from : ℕ) (t : Ty) → TypeAt row from t → getD row from 0 ≡ 3 → (u : Ty) × (t ≡ POW u) × TypeAt row (from + 1) u
 is-pow row from (atom a) h e = absurd (atom-code a .0 (sym (first-code row from (atom a) h) ∙ e))
 is-pow row from (POW u) h e = (u, refl, record { codes = stands-tail row from 3 (prefix u) (h .codes) })
 is-pow row from (u ⊗ w) h e = absurd (omega (arith, first-code row from (u ⊗ w) h))
 
-pub is-product : (row : List ℕ) (from : ℕ) (t : Ty) → TypeAt row from t → getD row from 0 ≡ 4 →
+is-product : (row : List ℕ) (from : ℕ) (t : Ty) → TypeAt row from t → getD row from 0 ≡ 4 →
     (u : Ty) × (w : Ty) × (t ≡ u ⊗ w) × TypeAt row (from + 1) u × TypeAt row (from + 1 + weightᵀ u) w
 is-product row from (atom a) h e = absurd (atom-code a .1 (sym (first-code row from (atom a) h) ∙ e))
 is-product row from (POW u) h e = absurd (omega (arith, first-code row from (POW u) h))

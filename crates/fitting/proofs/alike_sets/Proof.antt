@@ -8,15 +8,14 @@ use Rattle.fitting.proofs.Tests.{inner, fits-alike-sets, inner-agree, s
 use Rattle.fitting.proofs.alike_sets.Statement.{statement}
 use Rattle.fitting.proofs.alike_sets.Tie as tie
 
-returns : tie.Need-returns
-returns c = λ v w h k.
-    sym (fits-alike-sets v w ∙ meets-sym (inner v) (inner w) ∙ set-not (c .before .is-set .ensures) h (not-true _ (c .if1 .taken)) (inner w))
-
-returns-2 : tie.Need-returns-2
-returns-2 c = λ v w h k.
-    let m = c .before in
-    let (vs, e, _) = as-set h (set-here (m .before .is-set .ensures) (v, h) (not-false _ (m .if1 .left)) .isSet) in
-    c .agree .ensures v w h k ∙ rw (fits-alike-sets v w, e) (inner-agree vs w)
-
 pub alike-sets-spec : {M : Type 1} → statement M
-alike-sets-spec = tie.close (tie.spec (λ c κs. search needs) returns (λ c κs. search needs) returns-2)
+alike-sets-spec =
+    tie.close
+    (tie.spec
+    (λ c κs. search needs)
+    (λ c. λ v w h k.
+    sym (fits-alike-sets v w ∙ meets-sym (inner v) (inner w) ∙ set-not (c .before .is-set .ensures) h (not-true _ (c .if1 .taken)) (inner w)))
+    (λ c κs. search needs)
+    (λ c. λ v w h k. let m = c .before in
+    let (vs, e, _) = as-set h (set-here (m .before .is-set .ensures) (v, h) (not-false _ (m .if1 .left)) .isSet) in
+    c .agree .ensures v w h k ∙ rw (fits-alike-sets v w, e) (inner-agree vs w)))

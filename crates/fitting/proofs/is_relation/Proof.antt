@@ -7,7 +7,7 @@ use native.Mathlib.Omega.{arith}
 use borrow.Author.Needs.{needs}
 use borrow.Author.Tests.{eqb-true, eqb-false}
 use Rattle.fitting.specs.Agree.{SetHere}
-use Rattle.fitting.proofs.Cells.{inside, member-inside}
+use Rattle.fitting.proofs.Cells.{inside, first-member}
 use Rattle.fitting.proofs.Tests.{relation-not, relation-none, relation-first}
 use Rattle.fitting.proofs.is_relation.Statement.{statement}
 use Rattle.fitting.proofs.is_relation.Tie as tie
@@ -37,7 +37,7 @@ is-relation-spec =
     (λ c. relation-none (a-set (c .before .before) .isSet) (omega (arith, c .if2 .taken, c .before .low .ensures .0)))
     (λ c. search needs)
     (λ c. search needs)
-    (λ c. member-inside (a-set (tagged (c .before))) (filled (c .before)))
+    (λ c. inside (first-member (a-set (tagged (c .before))) (omega (arith, filled (c .before)))))
     (λ c κs. search needs)
     (λ c. let n = c .before .before in
     relation-first (a-set (tagged n) .isSet) (filled n)
