@@ -22,7 +22,7 @@ use Rattle.arena.proofs.Standing.{stands-append, _before_, codes-before, count-
 use Rattle.arena.proofs.ValueParts.{one-cell}
 use Rattle.fitting.specs.Agree.{meets, agree, TypedAt, RunAt, SomeTyped, AgreedWith, NoEmpty, Full, StandFor, atomsAlike}
 use Rattle.fitting.proofs.Sharing.{meets→share, share→meets, meets-sym, right-typed, with-every, full-first}
-use Rattle.fitting.proofs.Cells.{inside, as-run, run-of, full-typed, scalar-full, atoms-agree, first-stands, rest-stand}
+use Rattle.fitting.proofs.Cells.{inside, as-run, run-of, full-value, scalar-full, atoms-agree, first-stands, rest-stand}
 use Rattle.buffer.specs.Ordered.{inOrder}
 use Rattle.buffer.specs.Shared.{AllTyped, TypedRow, mostAlike, fineMembers, SomeTypedRow}
 
@@ -134,7 +134,7 @@ passed-start ends l vs r =
       front = w ▸ none;
       last = w;
       back = x .others;
-      run = run-of w (x .here);
+      run = run-of (x .here);
       here = x .here;
       row = x .row _ ends;
       same = ap fineMembers (x .whole) ∙ ap (λ (b : Bool). inOrder (w ▸ x .others) && b) (meets-moved none w (sharedTypes (x .others)));
@@ -156,7 +156,7 @@ module _ {s : List ℕ} {at i e k n : ℕ} {vs : Values} (h : Passed s at i e k 
   stand-for {end = end} true l e f c =
       let x = as-run s at k (h .front) (h .run) l in
       let w = x .0 in
-      let g = full-typed s at end e (f refl) w (x .3) in
+      let g = full-value w s at (x .3 .stands) (rw (e w (x .3 .stands) (x .3 .fits)) at (f refl)) in
       let r = run-of w (x .3) in
       rw (c, x .2) (record {
         few = w ▸ none;
@@ -194,7 +194,7 @@ module _ {s : List ℕ} {at i e k n : ℕ} {vs : Values} (h : Passed s at i e k 
       passed-step {j} ends z a =
           let w = next .value in
           let us = h .front before (w ▸ none) in
-          let u = run-of w (next .here) in
+          let u = run-of (next .here) in
           let y = meets→share (sharedTypes (h .front)) (typesOf w) (T-true _ .1 (next-meets true a)) in
           let p : e ≡ at + length (codes (h .front)) = omega (arith, h .there, length-codes (h .front)) in
           let q : n - k - 1 ≡ n - (k + 1) = omega arith in
@@ -272,7 +272,7 @@ module _ {s : List ℕ} {i left : ℕ} {vs : Values} (h : Rest s i left vs) (l :
   second = first-of (first .others) behind (omega arith)
 
   pub next-inside : i + 1 < length s
-  next-inside = inside s (i + 1) (second .value, second .here)
+  next-inside = inside (second .value, second .here)
 
   alike : agree (first .value) (second .value) ≡ atomsAlike (getD s i 0) (getD s (i + 1) 0)
   alike = sym (atoms-agree s i (i + 1) low (first .value) (second .value) (first .here) (second .here))

@@ -20,7 +20,7 @@ abbrev μ-loop : tie.MeasureT-loop
 μ-loop s at n high i₀ left₀ i left = left
 
 at-inside : (p : tie.Start Inv-loop μ-loop) → p .args .at < length (p .args .s .now)
-at-inside p = inside _ _ (some-first (p .pre .0) (p .pre .1))
+at-inside p = inside (some-first (p .pre .0) (p .pre .1))
 
 -- A turn of the loop, what was lent, and the values that are left; their first cells are inside.
 abbrev Turn : Type 0
