@@ -6,7 +6,6 @@ use mathlib.Core.List.{List}
 use mathlib.Core.Path.{_≡_, refl, sym, ap, _∙_}
 use native.Mathlib.Omega.{arith}
 use native.Mathlib.Nat.{add-zero}
-use native.Mathlib.Decide.{decLt}
 use lib.Dec.{T, eqb}
 use lib.ListN.{length, getD, drop, length-drop}
 use lib.Seq.{getD-drop}
@@ -47,15 +46,7 @@ good-last gs (suc (suc (suc (suc zero)))) p a b c d = absurd (d refl)
 good-last gs (suc (suc (suc (suc (suc zero))))) p a b c d = refl
 good-last gs (suc (suc (suc (suc (suc (suc n)))))) p a b c d = ne-eqb (suc (suc (suc (suc (suc (suc n)))))) 5 (λ e. omega arith)
 
--- Their tags are small, so that the three bytes behind the tag are zero.
-tag-small : (gs : List ℕ) (t p : ℕ) → T (tagGood gs t p) → t < 6
-tag-small gs t p h = go (decLt t 5)
-  where
-    go : Dec (t < 5) → t < 6
-    go (yes l) = omega arith
-    go (no l) = omega (arith, T-eqb t 5 .0 (rw (good-last gs t p (λ e. omega arith) (λ e. omega arith) (λ e. omega arith) (λ e. omega arith)) h))
-
--- The cell of two words, good or not.
+-- The cell of two words, good or not; and one that is none.
 module _ (gs bs : List ℕ) (at p q : ℕ) (low : p ≡ wordAt bs at) (high : q ≡ wordAt bs (at + 4)) where
   -- the second is the tag, and the three bytes that are to be zero
   words : (p ≡ wordAt (drop at bs) 0) × (q ≡ wordAt (drop at bs) 4)
@@ -67,15 +58,15 @@ module _ (gs bs : List ℕ) (at p q : ℕ) (low : p ≡ wordAt bs at) (high : q 
   pub cell-bad : {r : Bool} → r ≡ cellGood gs (p + 4294967296 * q) → r ≡ false → StepTakes gs bs at End
   cell-bad e f h k = T-false (cellGood gs (p + 4294967296 * q)) .1 (sym e ∙ f) (rw (cell-number h) k)
 
-  pub cell-good : {r : Bool} → at + 8 ≤ length bs → r ≡ cellGood gs (p + 4294967296 * q) → r ≡ true → GoodCell gs bs at (p + 4294967296 * q) (at + 8)
-  unfolding cellGood
-  cell-good l e f =
-      let x = p + 4294967296 * q in
-      let g = T-true (cellGood gs x) .1 (sym e ∙ f) in
-      let z : q < 6 = omega (arith, tag-small gs (x / 4294967296) (x % 4294967296) g) in
+  pub cell-marked : getD bs (at + 4) 0 < 256 → 256 ≤ q → StepTakes gs bs at End
+  cell-marked l h k g = omega (arith, first-right (drop at bs) .0 k .1, words, getD-drop at bs 4 0)
+
+  pub cell-good : {r : Bool} → at + 8 ≤ length bs → q < 256 → r ≡ cellGood gs (p + 4294967296 * q) → r ≡ true →
+      GoodCell gs bs at (p + 4294967296 * q) (at + 8)
+  cell-good l z e f =
       let w = words in
       let h = first-right (drop at bs) .1 (omega (arith, length-drop at bs), omega arith) in
-      record { here = h; number = cell-number h; good = g; behind = refl }
+      record { here = h; number = cell-number h; good = T-true (cellGood gs (p + 4294967296 * q)) .1 (sym e ∙ f); behind = refl }
 
 pub code-number : (x t l : ℕ) → t ≡ x / 4294967296 → t ≡ 1 → l ≡ x % 4294967296 → 4294967296 + (l + 2147483648) % 4294967296 ≡ codeOf x
 unfolding codeOf

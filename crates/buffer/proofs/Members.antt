@@ -257,9 +257,6 @@ few-fine none l h = refl
 few-fine (v ▸ none) l h = sym (T-true _ .0 (with-every (typesOf v) (h .0)))
 few-fine (v ▸ w ▸ ws) l h = absurd (omega arith)
 
-pub rest-end : {s : List ℕ} {i left : ℕ} {vs : Values} → Rest s i left vs → left ≤ 1 → true ≡ fineMembers vs
-rest-end h l = few-fine (h .rest) (omega (arith, h .row .counted)) (h .row .typed) ∙ sym (h .same)
-
 -- Two or more are left, the first a scalar: it and the next by their cells.
 module _ {s : List ℕ} {i left : ℕ} {vs : Values} (h : Rest s i left vs) (l : 1 < left) (low : getD s i 0 < 4 * cellSize) where
   first : First s i left (h .rest)

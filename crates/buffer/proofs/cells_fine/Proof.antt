@@ -8,7 +8,7 @@ use Rattle.rules.specs.Values.{Values}
 use Rattle.arena.specs.Code.{cellSize}
 use Rattle.fitting.proofs.Cells.{inside}
 use Rattle.buffer.specs.Shared.{TypedRow, mostAlike}
-use Rattle.buffer.proofs.Members.{some-first, alike-within, Rest, next-inside, rest-end, rest-falls, rest-above, rest-next}
+use Rattle.buffer.proofs.Members.{some-first, alike-within, Rest, few-fine, next-inside, rest-falls, rest-above, rest-next}
 use Rattle.buffer.proofs.cells_fine.Statement.{statement}
 use Rattle.buffer.proofs.cells_fine.Tie as tie
 
@@ -83,4 +83,5 @@ cells-fine-spec =
     (λ c. omega (arith, turn (c .before .before) .loop-test .taken))
     (λ c. omega (arith, turn (c .before .before) .loop-test .taken))
     loop-again
-    (λ c. λ vs r. rest-end (c .before .loop .inv .2 vs r) (omega (arith, c .loop-test .left))))
+    (λ c. λ vs r.
+    let h = c .before .loop .inv .2 vs r in few-fine (h .rest) (omega (arith, c .loop-test .left, h .row .counted)) (h .row .typed) ∙ sym (h .same)))

@@ -20,9 +20,6 @@ Inv-loop s at n end one i₀ e₀ k₀ i e k = (0 < k) × EndsAt s i e × ((vs :
 abbrev μ-loop : tie.MeasureT-loop
 μ-loop s at n end one i₀ e₀ k₀ i e k = n - k
 
-first : (p : tie.Start Inv-loop μ-loop) → SomeTyped (p .args .s .now) (p .args .at)
-first p = some-first (p .pre .0) (p .pre .1)
-
 -- A turn of the loop: where the first value ends and whether it has one type only, what was lent, and the next value.
 abbrev Turn : Type 0
 Turn = tie.In-loop Inv-loop μ-loop
@@ -98,8 +95,8 @@ values-fine-spec =
     (tie.spec
     Inv-loop
     μ-loop
-    (λ c κs. some-at (first (c .before)))
-    (λ c κs. let b = end-bounds _ _ _ (first (c .before .before)) (c .end-of .ensures) in (omega (arith, b .0), b .1))
+    (λ c κs. let p = c .before .pre in some-at (some-first (p .0) (p .1)))
+    (λ c κs. let p = c .before .before .pre in let b = end-bounds _ _ _ (some-first (p .0) (p .1)) (c .end-of .ensures) in (omega (arith, b .0), b .1))
     (λ c. let b = c .before in (omega arith, b .end-of .ensures, passed-start (b .end-of .ensures) (b .before .before .pre .1)))
     compare-requires
     returns
