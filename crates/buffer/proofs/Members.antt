@@ -22,7 +22,7 @@ use Rattle.arena.proofs.Standing.{stands-append, _before_, codes-before, count-
 use Rattle.arena.proofs.ValueParts.{one-cell}
 use Rattle.fitting.specs.Agree.{meets, agree, TypedAt, RunAt, SomeTyped, AgreedWith, NoEmpty, Full, StandFor, atomsAlike}
 use Rattle.fitting.proofs.Sharing.{meets→share, share→meets, meets-sym, right-typed, with-every, full-first}
-use Rattle.fitting.proofs.Cells.{inside, as-run, run-of, full-value, scalar-full, atoms-agree, first-stands, rest-stand}
+use Rattle.fitting.proofs.Cells.{inside, as-run, run-head, run-of, end-is, full-value, scalar-full, atoms-agree, first-stands, rest-stand}
 use Rattle.buffer.specs.Ordered.{inOrder}
 use Rattle.buffer.specs.Shared.{AllTyped, TypedRow, mostAlike, fineMembers, SomeTypedRow}
 
@@ -154,10 +154,11 @@ module _ {s : List ℕ} {at i e k n : ℕ} {vs : Values} (h : Passed s at i e k 
   pub stand-for : {m end : ℕ} (one : Bool) → 0 < k → EndsAt s at end → (one ≡ true → NoEmpty s at end) → m ≡ cond one 1 k → StandFor s at m (h .front)
   stand-for false l e f c = record { few = h .front; run = rw c (h .run); same = λ q. refl }
   stand-for {end = end} true l e f c =
-      let x = as-run s at k (h .front) (h .run) l in
+      let x = as-run (h .run) l in
       let w = x .0 in
-      let g = full-value w s at (x .3 .stands) (rw (e w (x .3 .stands) (x .3 .fits)) at (f refl)) in
-      let r = run-of w (x .3) in
+      let y = run-head (x .3) in
+      let g = full-value w s at (y .stands) (rw (end-is e y) at (f refl)) in
+      let r = run-of y in
       rw (c, x .2) (record {
         few = w ▸ none;
         run = r;

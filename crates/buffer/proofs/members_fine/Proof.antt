@@ -12,7 +12,7 @@ abbrev lent : tie.Else1 → tie.Start
 lent m = m .before .before
 
 first : (m : tie.Else1) → lent m .args .at < length (lent m .args .s .now)
-first m = inside _ _ (some-first (lent m .pre) (omega (arith, m .if1 .left)))
+first m = inside (some-first (lent m .pre) (omega (arith, m .if1 .left)))
 
 pub members-fine-spec : {M : Type 1} → statement M
 members-fine-spec =

@@ -96,7 +96,7 @@ values-fine-spec =
     Inv-loop
     μ-loop
     (λ c κs. let p = c .before .pre in some-at (some-first (p .0) (p .1)))
-    (λ c κs. let p = c .before .before .pre in let b = end-bounds _ _ _ (some-first (p .0) (p .1)) (c .end-of .ensures) in (omega (arith, b .0), b .1))
+    (λ c κs. let p = c .before .before .pre in let b = end-bounds (some-first (p .0) (p .1)) (c .end-of .ensures) in (omega (arith, b .0), b .1))
     (λ c. let b = c .before in (omega arith, b .end-of .ensures, passed-start (b .end-of .ensures) (b .before .before .pre .1)))
     compare-requires
     returns
