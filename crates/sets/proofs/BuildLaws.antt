@@ -28,42 +28,38 @@ use Rattle.sets.proofs.TurnLaws.{two-fronts, turn-fewer}
 
 -- `put`
 
-pub put-kept : (s : List ℕ) (from end k : ℕ) (o : Out) (s′ : List ℕ) (r : Out) → PutPre s from end k o → Copied s from (end - from) (o .to) s′ →
-    r .to ≡ o .to + (end - from) → r .count ≡ o .count + k → Put true s from end k o s′ r
-put-kept s from end k o s′ r p c x y = record {
-  frame = f;
-  near = omega arith;
-  even = λ z. omega arith;
-  on = λ top zs vs b at e n. record {
-    stands = rw (codes-append zs (members vs), values-members vs)
-        (stands-append s′ (top + 1) (codes (values zs)) (codes vs)
-        (stands-frame (o .to) s s′ (top + 1) (codes (values zs)) f (omega (arith, length-codes (values zs), b .ends)) (b .stands))
-        (subst (λ (i : ℕ). Stands s′ i (codes vs)) (omega (arith, length-codes (values zs), b .ends))
-        (copied-stands s from (end - from) (o .to) s′ (codes vs) c (omega (arith, length-codes vs)) (p .room) at)));
-    ends = omega (arith, b .ends, weights-append zs (members vs), ap weights (values-members vs));
-    counted = omega (arith, b .counted, count-append zs (members vs), ap count (values-members vs));
-  };
-}
-  where
-    f : Same (o .to) s s′
-    f = record { same = c .before; kept = c .kept }
+module _ {s : List ℕ} {from end k : ℕ} {o : Out} {s′ : List ℕ} where
+  pub put-kept : {r : Out} → PutPre s from end k o → Copied s from (end - from) (o .to) s′ → r .to ≡ o .to + (end - from) → r .count ≡ o .count + k →
+      Put true s from end k o s′ r
+  put-kept p c x y =
+      let f : Same (o .to) s s′ = record { same = c .before; kept = c .kept } in
+      record {
+        frame = f;
+        near = omega arith;
+        even = λ z. omega arith;
+        on = λ top zs vs b at e n. record {
+          stands = rw (codes-append zs (members vs), values-members vs)
+              (stands-append s′ (top + 1) (codes (values zs)) (codes vs)
+              (stands-frame (o .to) s s′ (top + 1) (codes (values zs)) f (omega (arith, length-codes (values zs), b .ends)) (b .stands))
+              (subst (λ (i : ℕ). Stands s′ i (codes vs)) (omega (arith, length-codes (values zs), b .ends))
+              (copied-stands s from (end - from) (o .to) s′ (codes vs) c (omega (arith, length-codes vs)) (p .room) at)));
+          ends = omega (arith, b .ends, weights-append zs (members vs), ap weights (values-members vs));
+          counted = omega (arith, b .counted, count-append zs (members vs), ap count (values-members vs));
+        };
+      }
 
--- what has been built stays where nothing below its end is changed
-built-frame : (s s′ : List ℕ) (top : ℕ) (o : Out) (zs : List Value) → Same (o .to) s s′ → Built s top (o .to) (o .count) zs →
-    Built s′ top (o .to) (o .count) (zs ++ [])
-built-frame s s′ top o zs f b = rw (append-nil zs) (record {
-  stands = stands-frame (o .to) s s′ (top + 1) (codes (values zs)) f (omega (arith, length-codes (values zs), b .ends)) (b .stands);
-  ends = b .ends;
-  counted = b .counted;
-})
-
-pub put-none : (s : List ℕ) (from end k : ℕ) (o : Out) (s′ : List ℕ) → Same (o .to) s s′ → Put false s from end k o s′ o
-put-none s from end k o s′ f = record {
-  frame = f;
-  near = omega arith;
-  even = λ z. omega arith;
-  on = λ top zs vs b at e n. built-frame s s′ top o zs f b;
-}
+  -- what has been built stays where nothing below its end is changed
+  pub put-none : Same (o .to) s s′ → Put false s from end k o s′ o
+  put-none f = record {
+    frame = f;
+    near = omega arith;
+    even = λ z. omega arith;
+    on = λ top zs vs b at e n. rw (append-nil zs) (record {
+      stands = stands-frame (o .to) s s′ (top + 1) (codes (values zs)) f (omega (arith, length-codes (values zs), b .ends)) (b .stands);
+      ends = b .ends;
+      counted = b .counted;
+    });
+  }
 
 -- `step`
 
@@ -86,9 +82,9 @@ after t o = record { a = t .a; m = t .m; b = t .b; n = t .n; to = o .to; count =
 abbrev pub outOf : Walk → Out
 outOf w = record { to = w .to; count = w .count }
 
-module _ (l e r : Bool) (s s′ : List ℕ) (w : Walk) (t : Turn) (o : Out)
+module _ {l e r : Bool} {s s′ : List ℕ} {w : Walk} {t : Turn} {o : Out} {top : ℕ} {whole : List Value}
     (turn : TurnAt s (w .a) (w .m) (w .b) (w .n) l e r t) (p : Put (t .keep) s (t .from) (t .end) 1 (outOf w) s′ o)
-    (top : ℕ) (whole : List Value) (h : Merging l e r s top w whole) where
+    (h : Merging l e r s top w whole) where
   step-done : (v : Value) (vs : Values) (x : Value) (xs : Values) → Front s top (w .a) (w .m) (v ▸ vs) → Front s top (w .b) (w .n) (x ▸ xs) →
       whole ≡ h .done ++ merged l e r (v ∷ members vs) (x ∷ members xs) → Merging l e r s′ top (after t o) whole
   step-done v vs x xs f g q =
@@ -113,13 +109,11 @@ module _ (l e r : Bool) (s s′ : List ℕ) (w : Walk) (t : Turn) (o : Out)
       (λ vs xs. whole ≡ h .done ++ merged l e r (members vs) (members xs) → Merging l e r s′ top (after t o) whole)
       step-done (h .left) (h .right) (h .onLeft) (h .onRight) i j (h .all)
 
-module _ (l e r : Bool) (s : List ℕ) (w : Walk) (h : StepPre l e r s w) where
+module _ {l e r : Bool} {s : List ℕ} {w : Walk} (h : StepPre l e r s w) where
   pub step-two : TwoFronts s (w .a) (w .m) (w .b) (w .n)
-  step-two =
-      two-fronts s (h .top) (w .a) (w .m) (w .b) (w .n) (h .merging .left) (h .merging .right) (h .merging .onLeft) (h .merging .onRight)
-      (h .moreLeft) (h .moreRight)
+  step-two = two-fronts (h .merging .onLeft) (h .merging .onRight) (h .moreLeft) (h .moreRight)
 
-  module _ (t : Turn) (turn : TurnAt s (w .a) (w .m) (w .b) (w .n) l e r t) where
+  module _ {t : Turn} (turn : TurnAt s (w .a) (w .m) (w .b) (w .n) l e r t) where
     -- what a turn takes, and how many members are left
     step-took : (t .from ≤ t .end) × (t .end ≤ w .to) × (t .end - t .from ≤ 256) × (t .m + t .n < w .m + w .n)
     step-took =
@@ -140,12 +134,12 @@ module _ (l e r : Bool) (s : List ℕ) (w : Walk) (h : StepPre l e r s w) where
       few = omega (arith, h .near, h .merging .built .ends, h .merging .built .counted, count-weights (values (h .merging .done)));
     }
 
-    pub step-returns : (s′ : List ℕ) (o : Out) → Put (t .keep) s (t .from) (t .end) 1 (outOf w) s′ o → Stepped l e r s w s′ (after t o)
-    step-returns s′ o p = record {
+    pub step-returns : {s′ : List ℕ} {o : Out} → Put (t .keep) s (t .from) (t .end) 1 (outOf w) s′ o → Stepped l e r s w s′ (after t o)
+    step-returns p = record {
       frame = p .frame;
       near = omega (arith, p .near, step-took .2);
       fewer = step-took .3;
-      on = λ top whole m. step-on l e r s s′ w t o turn p top whole m (h .moreLeft) (h .moreRight);
+      on = λ top whole m. step-on turn p m (h .moreLeft) (h .moreRight);
     }
 
 -- `finish`
@@ -297,28 +291,20 @@ module _ {l r : Bool} {s : List ℕ} {w : Walk} {top : ℕ} {cells : Bool} (p : 
 
 -- `walk_merge` and `merge_cells`
 
-pub built-none : (s : List ℕ) (top : ℕ) → top + 514 ≤ length s → Built s top (top + 1) 0 []
+pub built-none : {s : List ℕ} {top : ℕ} → top + 514 ≤ length s → Built s top (top + 1) 0 []
 unfolding code
-built-none s top p = record { stands = record { inside = omega arith; cells = λ i p. absurd (omega arith) }; ends = omega arith; counted = refl }
+built-none p = record { stands = record { inside = omega arith; cells = λ i p. absurd (omega arith) }; ends = omega arith; counted = refl }
 
-pub walking-start : (l e r : Bool) (s : List ℕ) (a m b n top : ℕ) → top + 514 ≤ length s →
+pub walking-start : {l e r : Bool} {s : List ℕ} {a m b n top : ℕ} → top + 514 ≤ length s →
     Walking l e r s a m b n top s (record { a = a; m = m; b = b; n = n; to = top + 1; count = 0 })
-walking-start l e r s a m b n top p = record {
-  frame = same-refl top s;
-  on = λ vs ws f g. record {
-    left = vs;
-    right = ws;
-    done = [];
-    onLeft = f;
-    onRight = g;
-    built = built-none s top p;
-    all = refl;
-  };
+walking-start p = record {
+  frame = same-refl _ _;
+  on = λ vs ws f g. record { left = vs; right = ws; done = []; onLeft = f; onRight = g; built = built-none p; all = refl };
 }
 
-module _ (l e r : Bool) (s₀ : List ℕ) (a m b n top : ℕ) (s : List ℕ) (w : Walk) (h : Walking l e r s₀ a m b n top s w) where
-  pub walking-made : (s′ : List ℕ) (k : ℕ) → Ended l r s w top s′ k → RunsMerge l e r s₀ a m b n top s′ k
-  walking-made s′ k d vs ws f g =
+module _ {l e r : Bool} {s₀ : List ℕ} {a m b n top : ℕ} {s : List ℕ} {w : Walk} (h : Walking l e r s₀ a m b n top s w) where
+  pub walking-made : {s′ : List ℕ} {k : ℕ} → Ended l r s w top s′ k → RunsMerge l e r s₀ a m b n top s′ k
+  walking-made {s′} d vs ws f g =
       let x = d e (merged l e r (members vs) (members ws)) (h .on vs ws f g) in
       record { frame = same-trans top top s₀ s s′ (h .frame) (x .frame) (omega arith); light = x .light; heavy = x .heavy }
 
@@ -337,15 +323,15 @@ module _ (l e r : Bool) (s₀ : List ℕ) (a m b n top : ℕ) (s : List ℕ) (w 
       moreRight = j;
     }
 
-    pub walking-next : (s′ : List ℕ) (w′ : Walk) → Stepped l e r s w s′ w′ → Walking l e r s₀ a m b n top s′ w′
-    walking-next s′ w′ t = record {
+    pub walking-next : {s′ : List ℕ} {w′ : Walk} → Stepped l e r s w s′ w′ → Walking l e r s₀ a m b n top s′ w′
+    walking-next {s′} t = record {
       frame = same-trans top (w .to) s₀ s s′ (h .frame) (t .frame) (omega (arith, some-merging .built .ends));
       on = λ vs ws f g. t .on top (merged l e r (members vs) (members ws)) (h .on vs ws f g);
     }
 
-    pub walking-end : (cells : Bool) → (w .m ≡ 0) ⊎ ((w .n ≡ 0) ⊎ (top + 256 < w .to)) →
+    pub walking-end : {cells : Bool} → (w .m ≡ 0) ⊎ ((w .n ≡ 0) ⊎ (top + 256 < w .to)) →
         (cells ≡ true → Cells s (w .a) (w .m) × Cells s (w .b) (w .n)) → EndPre l r s w top cells
-    walking-end cells o c = record {
+    walking-end o c = record {
       both = e;
       whole = merged l e r (members (p .first)) (members (p .second));
       merging = some-merging;

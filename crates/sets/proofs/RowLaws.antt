@@ -110,38 +110,30 @@ cells-of s top at n vs f h = record {
       (λ j m w ws g e. leaf-parts s j w (front-value s top j m w ws g) (g .fits .0) (e .0)) vs f h i l);
 }
 
-pub cells-next : (s : List ℕ) (at n m : ℕ) → Cells s at n → suc m ≡ n → Cells s (at + 1) m
-cells-next s at n m c e = record {
+pub cells-part : {s : List ℕ} {at n : ℕ} {i k : ℕ} → Cells s at n → at ≤ i → i + k ≤ at + n → Cells s i k
+cells-part {s} {at} {n} {i} {k} c l e = record {
   inside = omega (arith, c .inside);
-  each = λ i l. subst (λ (j : ℕ). partsOf (getD s j 0) ≡ 0) (let d : at + suc i ≡ at + 1 + i = omega arith in d) (c .each (suc i) (omega arith));
+  each = λ x p. subst (λ (j : ℕ). partsOf (getD s j 0) ≡ 0) (let d : at + (i - at + x) ≡ i + x = omega arith in d) (c .each (i - at + x) (omega arith));
 }
 
-pub cells-later : (s : List ℕ) (at n p : ℕ) → Cells s at n → p ≤ n → Cells s (at + p) (n - p)
-cells-later s at n p c e = record {
-  inside = omega (arith, c .inside);
-  each = λ i l. subst (λ (j : ℕ). partsOf (getD s j 0) ≡ 0) (let d : at + (p + i) ≡ at + p + i = omega arith in d) (c .each (p + i) (omega arith));
-}
+pub cells-first : {s : List ℕ} {at n : ℕ} → Cells s at n → 0 < n → EndsAt s at (at + 1)
+cells-first {s} {at} c l = leaf-ends s at (subst (λ (j : ℕ). partsOf (getD s j 0) ≡ 0) (let d : at + 0 ≡ at = omega arith in d) (c .each 0 l))
 
-pub cells-first : (s : List ℕ) (at n : ℕ) → Cells s at n → 0 < n → EndsAt s at (at + 1)
-cells-first s at n c l = leaf-ends s at (subst (λ (j : ℕ). partsOf (getD s j 0) ≡ 0) (let d : at + 0 ≡ at = omega arith in d) (c .each 0 l))
-
-pub cells-frame : (k : ℕ) (s s′ : List ℕ) (at n : ℕ) → Same k s s′ → at + n ≤ k → Cells s at n → Cells s′ at n
-cells-frame k s s′ at n f l c = record {
+pub cells-frame : {k : ℕ} {s s′ : List ℕ} {at n : ℕ} → Same k s s′ → at + n ≤ k → Cells s at n → Cells s′ at n
+cells-frame {at = at} f l c = record {
   inside = omega (arith, c .inside, f .kept);
   each = λ i p. ap partsOf (f .same (at + i) (omega arith)) ∙ c .each i p;
 }
 
-pub cells-weigh : (s : List ℕ) (top at n : ℕ) (vs : Values) → Front s top at n vs → Cells s at n → AllWeigh 1 vs
-cells-weigh s top at n none f c = tt
-cells-weigh s top at n (v ▸ vs) f c =
-    let e : weight v ≡ 1 = omega (arith, cells-first s at n c (omega (arith, f .counted)) v (front-value s top at n v vs f) (f .fits .0)) in (
-      e,
-      cells-weigh s top (at + 1) (n - 1) vs (front-next s top at n v vs f (at + 1) (n - 1) (omega arith) (omega (arith, f .counted)))
-          (cells-next s at n (n - 1) c (omega (arith, f .counted))),
-    )
+pub cells-weigh : {s : List ℕ} {top at n : ℕ} {vs : Values} → Front s top at n vs → Cells s at n → AllWeigh 1 vs
+cells-weigh {vs = none} f c = tt
+cells-weigh {s} {top} {at} {n} {vs = v ▸ vs} f c =
+    let e : weight v ≡ 1 = omega (arith, cells-first c (omega (arith, f .counted)) v (front-value s top at n v vs f) (f .fits .0)) in
+    let g = front-next s top at n v vs f (at + 1) (n - 1) (omega arith) (omega (arith, f .counted)) in
+    (e, cells-weigh g (cells-part c (omega arith) (omega (arith, f .counted))))
 
-pub cells-end : (s : List ℕ) (at n : ℕ) → Cells s at n → RunEnds s at n (at + n)
-cells-end s at n c top vs f = omega (arith, weights-even 1 vs (cells-weigh s top at n vs f c), f .counted)
+pub cells-end : {s : List ℕ} {at n : ℕ} → Cells s at n → RunEnds s at n (at + n)
+cells-end c top vs f = omega (arith, weights-even 1 vs (cells-weigh f c), f .counted)
 
 -- The first member's cell tells that all members are one cell each.
 module _ (s : List ℕ) (top a : ℕ) (vs : Values) (h : SetBelow s top a vs) where
@@ -169,7 +161,7 @@ module _ (s : List ℕ) (top a : ℕ) (vs : Values) (h : SetBelow s top a vs) wh
   -- where the set ends, if they are
   pub cells-ends : Cells s (a + 1) listed → EndsAt s a (a + 1 + listed)
   cells-ends c =
-      subst (EndsAt s a) (omega (arith, cells-end s (a + 1) listed c top vs (front-start s top a vs h listed refl)))
+      subst (EndsAt s a) (omega (arith, cells-end c top vs (front-start s top a vs h listed refl)))
       (ends-at s a (set vs) (h .stands) (h .fine .fits))
 
 -- A cell that is not below that of the empty set is a set's.
@@ -188,7 +180,7 @@ pub cells-row : (s : List ℕ) (top at n : ℕ) (vs : Values) → Front s top at
 cells-row s top at n vs f c = record {
   inside = λ i l. omega (arith, c .inside);
   rises = climb (λ i. getD s (at + 1 * i) 0) n
-      (neighbours s top at n 1 (AllWeigh 1) one-each (λ i j. getD s i 0 ≤ getD s j 0) rise vs f (cells-weigh s top at n vs f c));
+      (neighbours s top at n 1 (AllWeigh 1) one-each (λ i j. getD s i 0 ≤ getD s j 0) rise vs f (cells-weigh f c));
 }
   where
     rise : (i m : ℕ) (v w : Value) (ws : Values) → Front s top i m (v ▸ w ▸ ws) → AllWeigh 1 (v ▸ w ▸ ws) → getD s i 0 ≤ getD s (i + 1) 0
@@ -230,13 +222,13 @@ module _ (s : List ℕ) (e : ℕ) (v : Value) (value : ValueAt s e v) (fits : Ce
       value-at s top at n 1 (λ ws. AllWeigh 1 ws × ((x : Value) → In x (members ws) → In x (members vs)))
       (λ w ws h. (h .0 .0, (h .0 .1, λ x j. h .1 x (inr j)))) (λ j. getD s j 0 ≡ getD s e 0 → In v (members vs))
       (λ j m w ws g h z. h .1 v (inl (sym (cell-tells s e j v w value (front-value s top j m w ws g) fits (g .fits .0) (h .0 .0) z))))
-      vs f (cells-weigh s top at n vs f c, λ x j. j)
+      vs f (cells-weigh f c, λ x j. j)
 
   pub cell-in : (r : ℕ) → Found s at 1 n (getD s e 0) r → ltb r n ≡ isIn v (members vs)
   cell-in r d =
       let right = isIn-right v (members vs) (fits-small v fits) (fit-small vs (f .fits)) in
       bool-eq (ltb r n) (isIn v (members vs)) (λ t. let l = ltb→lt r n t in right .1 (among r l (d .here l))) λ t.
-      let x = place-of s top 1 (AllWeigh 1) one-each v at n vs f (cells-weigh s top at n vs f c) (right .0 t) in
+      let x = place-of s top 1 (AllWeigh 1) one-each v at n vs f (cells-weigh f c) (right .0 t) in
       elim (ℕ-discrete r n) [
         | yes z ↦ absurd (d .lost z (x .0) (x .1) (same-cell s (at + 1 * x .0) e v (x .2) value))
         | no z ↦ lt→ltb r n (omega (arith, d .few))

@@ -1,5 +1,5 @@
 -- A turn of a walk over two sets.
-use Prim.Native.Nat.{ℕ, _+_, _-_, _≤_, _<_, Ordering, Ordering·lt, Ordering·eq, Ordering·gt}
+use Prim.Native.Nat.{ℕ, suc, _+_, _-_, _≤_, _<_, Ordering, Ordering·lt, Ordering·eq, Ordering·gt}
 use mathlib.Core.Bool.{Bool, true, false, cond}
 use mathlib.Core.List.{List, [], _∷_}
 use mathlib.Core.Path.{_≡_, refl, sym, ap, _∙_, subst}
@@ -17,55 +17,41 @@ use Rattle.sets.specs.Fronts.{keepOf, restLeft, restRight, Turned, TurnA
 use Rattle.sets.proofs.MergedLaws.{after-order, before-all, isIn-turn, isIn-before}
 use Rattle.sets.proofs.SearchLaws.{by-front, no-front, by-fronts}
 
-module _ (s : List ℕ) (a m b n : ℕ) (l e r : Bool) (end c : ℕ) (ends : EndsAt s a end) (compared : Compared s a b c) where
-  -- what is known of both first members
-  module _ (top : ℕ) (v : Value) (vs : Values) (w : Value) (ws : Values) (f : Front s top a m (v ▸ vs)) (g : Front s top b n (w ▸ ws)) where
-    order-of : c ≡ orderCode (order v w)
-    order-of = compared v w (front-value s top a m v vs f) (front-value s top b n w ws g) (f .fits .0) (g .fits .0)
+-- Where the first member ends, and what is left behind it.
+member-end : {s : List ℕ} {top a m end : ℕ} {v : Value} {vs : Values} → EndsAt s a end → Front s top a m (v ▸ vs) → {m′ : ℕ} → suc m′ ≡ m →
+    (end ≡ a + weight v) × Front s top end m′ vs
+member-end {s} {top} {a} {m} {end} {v} {vs} ends f {m′} p =
+    let x = ends v (front-value s top a m v vs f) (f .fits .0) in (x, front-next s top a m v vs f end m′ x p)
 
-    left-end : end ≡ a + weight v
-    left-end = ends v (front-value s top a m v vs f) (f .fits .0)
+module _ {s : List ℕ} {a b c : ℕ} (compared : Compared s a b c) where
+  order-of : {top m n : ℕ} {v : Value} {vs : Values} {w : Value} {ws : Values} → Front s top a m (v ▸ vs) → Front s top b n (w ▸ ws) →
+      c ≡ orderCode (order v w)
+  order-of {top} {m} {n} {v} {vs} {w} {ws} f g =
+      compared v w (front-value s top a m v vs f) (front-value s top b n w ws g) (f .fits .0) (g .fits .0)
 
-    left-rest : Front s top end (m - 1) vs
-    left-rest = front-next s top a m v vs f end (m - 1) left-end (omega (arith, f .counted))
+  module _ {m n : ℕ} {l e r : Bool} {end : ℕ} (ends : EndsAt s a end) where
+    pub turn-less : c ≡ 0 → {m′ : ℕ} → suc m′ ≡ m → TurnAt s a m b n l e r (record { from = a; end = end; keep = l; a = end; m = m′; b = b; n = n })
+    turn-less z p top v vs w ws f g =
+        let x = member-end ends f p in
+        rw (code-less (order v w) c (order-of f g) z)
+        (record { keeps = refl; value = front-below s top a m v vs f; ends = x .0; onLeft = x .1; onRight = g })
 
-  pub turn-less : c ≡ 0 → TurnAt s a m b n l e r (record { from = a; end = end; keep = l; a = end; m = m - 1; b = b; n = n })
-  turn-less z top v vs w ws f g =
-      rw (code-less (order v w) c (order-of top v vs w ws f g) z) (record {
-        keeps = refl;
-        value = front-below s top a m v vs f;
-        ends = left-end top v vs w ws f g;
-        onLeft = left-rest top v vs w ws f g;
-        onRight = g;
-      })
+    module _ {end2 : ℕ} (ends2 : EndsAt s b end2) {n′ : ℕ} (q : suc n′ ≡ n) where
+      pub turn-equal : c ≡ 1 → {m′ : ℕ} → suc m′ ≡ m →
+          TurnAt s a m b n l e r (record { from = a; end = end; keep = e; a = end; m = m′; b = end2; n = n′ })
+      turn-equal z p top v vs w ws f g =
+          let x = member-end ends f p in
+          rw (code-equal (order v w) c (order-of f g) z)
+          (record { keeps = refl; value = front-below s top a m v vs f; ends = x .0; onLeft = x .1; onRight = member-end ends2 g q .1 })
 
-  module _ (end2 : ℕ) (ends2 : EndsAt s b end2) where
-    right-end : (top : ℕ) (w : Value) (ws : Values) → Front s top b n (w ▸ ws) → (end2 ≡ b + weight w) × Front s top end2 (n - 1) ws
-    right-end top w ws g =
-        let y = ends2 w (front-value s top b n w ws g) (g .fits .0) in (y, front-next s top b n w ws g end2 (n - 1) y (omega (arith, g .counted)))
-
-    pub turn-equal : c ≡ 1 → TurnAt s a m b n l e r (record { from = a; end = end; keep = e; a = end; m = m - 1; b = end2; n = n - 1 })
-    turn-equal z top v vs w ws f g =
-        rw (code-equal (order v w) c (order-of top v vs w ws f g) z) (record {
-          keeps = refl;
-          value = front-below s top a m v vs f;
-          ends = left-end top v vs w ws f g;
-          onLeft = left-rest top v vs w ws f g;
-          onRight = right-end top w ws g .1;
-        })
-
-    pub turn-greater : (c ≡ 0 → ⊥) → (c ≡ 1 → ⊥) → TurnAt s a m b n l e r (record { from = b; end = end2; keep = r; a = a; m = m; b = end2; n = n - 1 })
-    turn-greater p q top v vs w ws f g =
-        rw (code-greater (order v w) c (order-of top v vs w ws f g) q p) (record {
-          keeps = refl;
-          value = front-below s top b n w ws g;
-          ends = right-end top w ws g .0;
-          onLeft = f;
-          onRight = right-end top w ws g .1;
-        })
+      pub turn-greater : (c ≡ 0 → ⊥) → (c ≡ 1 → ⊥) → TurnAt s a m b n l e r (record { from = b; end = end2; keep = r; a = a; m = m; b = end2; n = n′ })
+      turn-greater x y top v vs w ws f g =
+          let d = member-end ends2 g q in
+          rw (code-greater (order v w) c (order-of f g) y x)
+          (record { keeps = refl; value = front-below s top b n w ws g; ends = d .0; onLeft = f; onRight = d .1 })
 
 -- Two sets that both have members left.
-module _ (s : List ℕ) (a m b n : ℕ) (h : TwoFronts s a m b n) where
+module _ {s : List ℕ} {a m b n : ℕ} (h : TwoFronts s a m b n) where
   pub two-left : SomeAt s a
   two-left = front-at s (h .top) a m (h .first) (h .rest) (h .onLeft)
 
@@ -75,10 +61,10 @@ module _ (s : List ℕ) (a m b n : ℕ) (h : TwoFronts s a m b n) where
   pub two-some : (0 < m) × (0 < n)
   two-some = (omega (arith, h .onLeft .counted), omega (arith, h .onRight .counted))
 
-pub two-fronts : (s : List ℕ) (top a m b n : ℕ) (vs ws : Values) → Front s top a m vs → Front s top b n ws → 0 < m → 0 < n → TwoFronts s a m b n
-two-fronts s top a m b n =
+pub two-fronts : {s : List ℕ} {top a m b n : ℕ} {vs ws : Values} → Front s top a m vs → Front s top b n ws → 0 < m → 0 < n → TwoFronts s a m b n
+two-fronts {s} {top} {a} {m} {b} {n} {vs} {ws} =
     by-fronts s top a m b n (λ _ _. TwoFronts s a m b n)
-    (λ v vs w ws f g. record { top = top; first = v; rest = vs; first′ = w; rest′ = ws; onLeft = f; onRight = g })
+    (λ v vs w ws f g. record { top = top; first = v; rest = vs; first′ = w; rest′ = ws; onLeft = f; onRight = g }) vs ws
 
 -- A turn takes a member.
 pub turn-fewer : (s : List ℕ) (top : ℕ) (l e r : Bool) (o : Ordering) (v : Value) (vs : Values) (w : Value) (ws : Values) (t : Turn) →
@@ -122,7 +108,7 @@ pub including-start : (s : List ℕ) (a m b n : ℕ) (vs ws : Values) → Front 
     Including s a m b n (allIn (members vs) (members ws))
 including-start s a m b n vs ws f g = record { left = vs; right = ws; onLeft = f; onRight = g; same = refl }
 
-module _ (s : List ℕ) (a m b n : ℕ) (whole : Bool) (h : Including s a m b n whole) where
+module _ {s : List ℕ} {a m b n : ℕ} {whole : Bool} (h : Including s a m b n whole) where
   pub including-end : m ≤ 0 → true ≡ whole
   unfolding allIn
   including-end l =
@@ -136,11 +122,11 @@ module _ (s : List ℕ) (a m b n : ℕ) (whole : Bool) (h : Including s a m b n 
       (h .right) (h .onRight) (omega arith)) (h .left) (h .onLeft) l (h .same)
 
   pub including-two : 0 < m → (n ≡ 0 → ⊥) → TwoFronts s a m b n
-  including-two l z = two-fronts s (length s) a m b n (h .left) (h .right) (h .onLeft) (h .onRight) l (omega arith)
+  including-two l z = two-fronts (h .onLeft) (h .onRight) l (omega arith)
 
-  pub including-turn : 0 < m → (n ≡ 0 → ⊥) → (t : Turn) → TurnAt s a m b n false true true t →
+  pub including-turn : 0 < m → (n ≡ 0 → ⊥) → {t : Turn} → TurnAt s a m b n false true true t →
       (t .keep ≡ true → Including s (t .a) (t .m) (t .b) (t .n) whole × (t .m + t .n < m + n)) × (t .keep ≡ false → false ≡ whole)
-  including-turn l z t turn =
+  including-turn l z {t} turn =
       by-fronts s (length s) a m b n (λ vs ws. whole ≡ allIn (members vs) (members ws) →
       (t .keep ≡ true → Including s (t .a) (t .m) (t .b) (t .n) whole × (t .m + t .n < m + n)) × (t .keep ≡ false → false ≡ whole))
       (λ v vs w ws f g q. let d = turn (length s) v vs w ws f g in

@@ -4,7 +4,7 @@ use Prim.Native.Nat.{_+_, _*_, _≤_}
 use native.Mathlib.Omega.{arith}
 use lib.ListN.{length}
 use Rattle.arena.proofs.ValueParts.{some-inside}
-use Rattle.arena.proofs.FrontLaws.{front-start, value-some}
+use Rattle.arena.proofs.FrontLaws.{value-some}
 use Rattle.sets.specs.Pairs.{SomeFlat}
 use Rattle.sets.proofs.ImageLaws.{whole, relation-run}
 use Rattle.sets.proofs.PairRows.{flat-inside, pair-row, pair-none, pair-found, relation-flat}

@@ -1,9 +1,9 @@
 -- `value_end`: a set whose members are one cell each ends as many cells behind its own as it has members; other values are walked.
 use borrow.Author.Needs.{needs}
-use mathlib.Core.Path.{sym, subst}
+use mathlib.Core.Path.{subst}
 use native.Mathlib.Omega.{arith}
 use lib.ListN.{length}
-use Prim.Native.Nat.{_+_, _<_}
+use Prim.Native.Nat.{_<_}
 use Rattle.arena.specs.Code.{SomeSet, EndsAt}
 use Rattle.arena.proofs.FrontLaws.{value-some}
 use Rattle.arena.proofs.ValueParts.{some-inside}

@@ -34,36 +34,28 @@ equal t = let s = lent t .args .s .now in eqb (getD s (t .before .before .loop .
 abbrev two : tie.Else2 Inv-loop μ-loop → Two
 two c = c .before .before .before
 
-returns-2 : tie.Need-returns-2 Inv-loop μ-loop
-returns-2 c = λ vs ws f g.
-    let t = c .before .before .before in
-    let w = t .before .before .loop .inv in
-    including-less _ _ _ _ _ _ (w .on vs ws f g) (t .before .loop-test .taken) (omega (arith, t .before .loop-test .taken, t .if1 .left))
-    (w .cells) (w .otherCells) (c .if2 .taken)
-
-loop-again : tie.Need-loop-again Inv-loop μ-loop
-loop-again c = let t = two c in
-    row-step _ _ _ _ _ _ _ _ _ (t .before .before .loop .inv) (t .before .loop-test .taken)
-    (omega (arith, t .if1 .left)) (c .if2 .left)
-
 pub walk-cells-spec : {M : Type 1} → statement M
 walk-cells-spec =
     tie.close
     (tie.spec
     Inv-loop
     μ-loop
-    (λ c. row-start _ _ _ _ _ _ (c .pre))
-    (λ c. λ vs ws f g. including-fewer _ _ _ _ _ _ (c .before .before .loop .inv .on vs ws f g) (omega (arith, c .if1 .taken)))
+    (λ c. row-start (c .pre))
+    (λ c. λ vs ws f g. including-fewer (c .before .before .loop .inv .on vs ws f g) (omega (arith, c .if1 .taken)))
     (λ c. omega (arith, first c))
     (λ c. first (c .before))
     (λ c. omega (arith, second (c .before)))
     (λ c. second (c .before .before))
-    returns-2
+    (λ c. λ vs ws f g. let t = c .before .before .before in
+    let w = t .before .before .loop .inv in
+    including-less (w .on vs ws f g) (t .before .loop-test .taken) (omega (arith, t .before .loop-test .taken, t .if1 .left)) (w .cells) (w .otherCells)
+    (c .if2 .taken))
     (λ c. tt)
     (λ c. let t = two c in omega (arith, first t, byte-small (equal t)))
     (λ c. let t = two c in omega (arith, t .before .loop-test .taken, byte-small (equal t)))
     (λ c. omega (arith, second (two c)))
     (λ c. let t = two c in omega (arith, t .before .loop-test .taken, t .if1 .left))
     (λ c. let t = two c in omega (arith, t .before .loop-test .taken, t .if1 .left))
-    loop-again
-    (λ c. λ vs ws f g. including-end _ _ _ _ _ _ (c .before .loop .inv .on vs ws f g) (c .loop-test .left)))
+    (λ c. let t = two c in
+    row-step (t .before .before .loop .inv) (t .before .loop-test .taken) (omega (arith, t .if1 .left)) (c .if2 .left))
+    (λ c. λ vs ws f g. including-end (c .before .loop .inv .on vs ws f g) (c .loop-test .left)))
