@@ -13,7 +13,7 @@ use Rattle.rules.specs.Values.{Value, Values, none, _▸_, members, count, orde
 use Rattle.rules.specs.Operations.{isIn, allIn}
 use Rattle.rules.proofs.Basics.{absurd01}
 use Rattle.arena.specs.Code.{EndsAt, Rises, AllFit, SetBelow, Front}
-use Rattle.arena.proofs.FrontLaws.{front-start, front-value, front-next}
+use Rattle.arena.proofs.FrontLaws.{front-start, front-below, front-next}
 use Rattle.arena.proofs.EvenLaws.{cell-less, cell-equal, cell-greater}
 use Rattle.sets.specs.Fronts.{keepOf, restLeft, restRight, TwoRuns, Cells}
 use Rattle.sets.specs.Rows.{Found, TwoRows}
@@ -55,7 +55,7 @@ module _ {s : List ℕ} {a m b n : ℕ} {whole : Bool} (h : Including s a m b n 
   module _ (l : 0 < m) (left : Cells s a m) (right : Cells s b n) {r : ℕ} (found : Found s b 1 n (getD s a 0) r) where
     -- what is told by the first member's cell
     first-in : (v : Value) (vs : Values) → Front s (length s) a m (v ▸ vs) → ltb r n ≡ isIn v (members (h .right))
-    first-in v vs f = cell-in s a v (front-value s (length s) a m v vs f) (f .fits .0) (length s) b n (h .right) (h .onRight) right r found
+    first-in v vs f = cell-in (front-below s (length s) a m v vs f) (h .onRight) right found
 
     pub including-found : (r ≡ n → ⊥) → Including s (a + 1) (m - 1) b n whole
     unfolding allIn

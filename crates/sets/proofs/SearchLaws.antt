@@ -71,11 +71,11 @@ pub record Seeking (s : List ℕ) (top at : ℕ) (first : Bool) (v : Value) (vs 
   pub behind : at ≤ i
   pub on : (r : ℕ) → MemberOrNone s top at first v (members rest) r → MemberOrNone s top at first v vs r
 
-pub seeking-start : (s : List ℕ) (top at n : ℕ) (first : Bool) (v : Value) (vs : Values) → Front s top at n vs → Keyed first vs →
+pub seeking-start : {s : List ℕ} {top at n : ℕ} {first : Bool} {v : Value} {vs : Values} → Front s top at n vs → Keyed first vs →
     Seeking s top at first v (members vs) at n
-seeking-start s top at n first v vs f k = record { rest = vs; front = f; keyed = k; behind = omega arith; on = λ r x. x }
+seeking-start {vs = vs} f k = record { rest = vs; front = f; keyed = k; behind = omega arith; on = λ r x. x }
 
-module _ (s : List ℕ) (top at : ℕ) (first : Bool) (v : Value) (vs : List Value) (i left : ℕ) (h : Seeking s top at first v vs i left) where
+module _ {s : List ℕ} {top at : ℕ} {first : Bool} {v : Value} {vs : List Value} {i left : ℕ} (h : Seeking s top at first v vs i left) where
   pub seeking-at : 0 < left → SomeAt s i
   seeking-at l = front-some s top i left (h .rest) (h .front) l
 
@@ -89,7 +89,7 @@ module _ (s : List ℕ) (top at : ℕ) (first : Bool) (v : Value) (vs : List Val
   seeking-end l =
       h .on 0 (no-front s top i left (λ ws. MemberOrNone s top at first v (members ws) 0) (inr (refl, tt)) (h .rest) (h .front) l)
 
-  module _ (e c : ℕ) (value : ValueBelow s (length s) e v) (compared : Compared s e (i + boolByte first) c) (l : 0 < left) where
+  module _ {e c : ℕ} (value : ValueBelow s (length s) e v) (compared : Compared s e (i + boolByte first) c) (l : 0 < left) where
     -- A turn, by the first of the members that are left and the order of v and its key.
     by-key : (P : Values → Type 0) →
         ((w : Value) (ws : Values) → Front s top i left (w ▸ ws) → Keyed first (w ▸ ws) → c ≡ orderCode (order v (keyOf first w)) →
@@ -113,8 +113,8 @@ module _ (s : List ℕ) (top at : ℕ) (first : Bool) (v : Value) (vs : List Val
     seeking-past z = h .on 0 (by-key (λ ws. MemberOrNone s top at first v (members ws) 0) λ w ws f q o x.
         inr (refl, keys-past s top i left first v w ws f q (order-before v (keyOf first w) (code-less (order v (keyOf first w)) c o z))))
 
-    pub seeking-next : (c ≡ 1 → ⊥) → (r : ℕ) → EndsAt s i r → Seeking s top at first v vs r (left - 1)
-    seeking-next d r ends =
+    pub seeking-next : (c ≡ 1 → ⊥) → {r : ℕ} → EndsAt s i r → Seeking s top at first v vs r (left - 1)
+    seeking-next d {r} ends =
         by-key (λ ws. ((r : ℕ) → MemberOrNone s top at first v (members ws) r → MemberOrNone s top at first v vs r) → Seeking s top at first v vs r (left - 1))
         (λ w ws f q o x on. let y : r ≡ i + weight w = ends w (front-value s top i left w ws f) (f .fits .0) in
         record {
@@ -140,12 +140,12 @@ module _ {s : List ℕ} {top at : ℕ} {first : Bool} {v : Value} {vs : List Val
   sought-none (inl m) l = absurd (omega (arith, m .behind))
   sought-none (inr n) l = n .1
 
-pub sought-in : (s : List ℕ) (top at : ℕ) (v : Value) (vs : List Value) (r : ℕ) → MemberOrNone s top at false v vs r → 0 < at → Small v → All Small vs →
+pub sought-in : {s : List ℕ} {top at : ℕ} {v : Value} {vs : List Value} {r : ℕ} → MemberOrNone s top at false v vs r → 0 < at → Small v → All Small vs →
     ltb 0 r ≡ isIn v vs
-sought-in s top at v vs r (inl m) l p q =
+sought-in {v = v} {vs} {r} (inl m) l p q =
     bool-eq (ltb 0 r) (isIn v vs) (λ _. isIn-right v vs p q .1 (subst (λ (w : Value). In w vs) (m .key) (m .among)))
     (λ _. lt→ltb 0 r (omega (arith, m .behind)))
-sought-in s top at v vs r (inr n) l p q =
+sought-in {v = v} {vs} {r} (inr n) l p q =
     bool-eq (ltb 0 r) (isIn v vs) (λ t. absurd (omega (arith, n .0, ltb→lt 0 r t)))
     (λ t. absurd (all-in (λ w. w ≡ v → ⊥) v vs (n .1) (isIn-right v vs p q .0 t) refl))
 

@@ -24,11 +24,11 @@ merge-fronts-spec =
     tie.close
     (tie.spec
     (λ c κs. let r = c .before .before .pre .rows in
-    (cells-row _ _ _ _ _ (r .runs .onLeft) (r .left), λ k. omega (arith, r .right .inside)))
+    (cells-row (r .runs .onLeft) (r .left), λ k. omega (arith, r .right .inside)))
     (λ c. omega (arith, c .front .ensures .few, lent c .pre .rows .left .inside))
     (λ c. c .before .front .ensures .few)
     (λ c κs. let r = lent (c .before) .pre .rows in
-    (cells-row _ _ _ _ _ (r .runs .onRight) (r .right), λ k. omega (arith, r .left .inside)))
+    (cells-row (r .runs .onRight) (r .right), λ k. omega (arith, r .left .inside)))
     (λ c. omega (arith, c .front2 .ensures .few, lent (known c) .pre .rows .right .inside))
     (λ c. omega (arith, lent (known c) .pre .room))
     (λ c κs. let g = c .before in

@@ -28,7 +28,7 @@ search-cells-spec =
     (λ c. row-start (c .before .pre))
     (λ c. omega (arith, c .loop-test .taken, c .before .loop .inv .cells .inside))
     (λ c. let t = c .before in omega (arith, t .loop-test .taken, t .before .loop .inv .cells .inside))
-    (λ c κs. let q = lent (c .before .before) .pre in cells-row _ _ _ _ _ (q .runs .onRight) (q .right))
+    (λ c κs. let q = lent (c .before .before) .pre in cells-row (q .runs .onRight) (q .right))
     (λ c. λ vs ws f g. let h = c .before in
     let t = turn h in
     let w = t .before .loop .inv in

@@ -28,7 +28,7 @@ returns : tie.Need-returns
 returns c =
     let k = c .before in
     subst (EndsAt _ _) (omega (arith, c .low .ensures .0))
-    (cells-ends _ _ _ _ (is-set (set k) .1) (k .before .before .of-cells .ensures (k .before .if2 .taken)))
+    (cells-ends (is-set (set k) .1) (k .before .before .of-cells .ensures (k .before .if2 .taken)))
 
 pub value-end-spec : {M : Type 1} → statement M
 value-end-spec =

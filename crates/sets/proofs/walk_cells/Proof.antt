@@ -16,22 +16,19 @@ abbrev μ-loop : tie.MeasureT-loop
 μ-loop s a m b n i₀ left₀ j₀ others₀ i left j others = others
 
 -- A turn at two sets that both have members left; the order of their first cells is known.
-abbrev Two : Type 0
-Two = tie.Else1 Inv-loop μ-loop
-
-abbrev lent : Two → tie.Start Inv-loop μ-loop
+abbrev lent : tie.Else1 Inv-loop μ-loop → tie.Start Inv-loop μ-loop
 lent t = t .before .before .before
 
-first : (t : Two) → t .before .before .loop .i < length (lent t .args .s .now)
+first : (t : tie.Else1 Inv-loop μ-loop) → t .before .before .loop .i < length (lent t .args .s .now)
 first t = omega (arith, t .before .loop-test .taken, t .before .before .loop .inv .cells .inside)
 
-second : (t : Two) → t .before .before .loop .j < length (lent t .args .s .now)
+second : (t : tie.Else1 Inv-loop μ-loop) → t .before .before .loop .j < length (lent t .args .s .now)
 second t = omega (arith, t .before .loop-test .taken, t .if1 .left, t .before .before .loop .inv .otherCells .inside)
 
-abbrev equal : Two → Bool
+abbrev equal : tie.Else1 Inv-loop μ-loop → Bool
 equal t = let s = lent t .args .s .now in eqb (getD s (t .before .before .loop .i) 0) (getD s (t .before .before .loop .j) 0)
 
-abbrev two : tie.Else2 Inv-loop μ-loop → Two
+abbrev two : tie.Else2 Inv-loop μ-loop → tie.Else1 Inv-loop μ-loop
 two c = c .before .before .before
 
 pub walk-cells-spec : {M : Type 1} → statement M
