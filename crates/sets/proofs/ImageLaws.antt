@@ -7,7 +7,7 @@ use mathlib.Core.Path.{_≡_, refl, sym, ap, _∙_}
 use native.Mathlib.Omega.{arith}
 use lib.Dec.{isEq}
 use lib.ListN.{length, getD}
-use Rattle.rules.specs.Values.{Value, scalar, pair, set, Values, none, _▸_, members, weight, order, same}
+use Rattle.rules.specs.Values.{Value, pair, set, Values, none, _▸_, members, weight, order, same}
 use Rattle.rules.specs.Operations.{left, right, applied}
 use Rattle.laws.proofs.OrderLaws.{Small}
 use Rattle.laws.proofs.SetOrder.{All, Rising}
@@ -18,20 +18,18 @@ use Rattle.arena.proofs.ValueParts.{left-stands, right-stands}
 use Rattle.arena.proofs.FrontLaws.{rises-rising, fit-small, front-start, front-value, front-next, code-equal}
 use Rattle.sets.specs.Fronts.{Member}
 use Rattle.sets.specs.Pairs.{newFirsts, SomePairs, Relation, Within, ImageAt}
-use Rattle.sets.proofs.PairLaws.{applied-none, applied-shared, applied-found}
+use Rattle.sets.proofs.PairLaws.{on-pair, applied-none, applied-shared, applied-found}
 use Rattle.sets.proofs.SearchLaws.{key-stands}
 
 -- What is shown of two pairs and the rest is shown of pairs, if there are two.
-pub by-two : (s : List ℕ) (top i n : ℕ) (P : Values → Type 0) →
+pub by-two : {s : List ℕ} {top i n : ℕ} (P : Values → Type 0) →
     ((a b c d : Value) (ws : Values) → Front s top i n (pair a b ▸ pair c d ▸ ws) → P (pair a b ▸ pair c d ▸ ws)) →
     (vs : Values) → Front s top i n vs → AllPairs vs → 1 < n → P vs
-by-two s top i n P k none f h l = absurd (omega (arith, f .counted))
-by-two s top i n P k (v ▸ none) f h l = absurd (omega (arith, f .counted))
-by-two s top i n P k (scalar x ▸ w ▸ ws) f h l = absurd (h .0)
-by-two s top i n P k (set x ▸ w ▸ ws) f h l = absurd (h .0)
-by-two s top i n P k (pair a b ▸ scalar x ▸ ws) f h l = absurd (h .1 .0)
-by-two s top i n P k (pair a b ▸ set x ▸ ws) f h l = absurd (h .1 .0)
-by-two s top i n P k (pair a b ▸ pair c d ▸ ws) f h l = k a b c d ws f
+by-two P k none f h l = absurd (omega (arith, f .counted))
+by-two P k (v ▸ none) f h l = absurd (omega (arith, f .counted))
+by-two {s} {top} {i} {n} P k (v ▸ w ▸ ws) f h l =
+    on-pair (λ x. Front s top i n (x ▸ w ▸ ws) → P (x ▸ w ▸ ws))
+    (λ a b. on-pair (λ y. Front s top i n (pair a b ▸ y ▸ ws) → P (pair a b ▸ y ▸ ws)) (λ c d. k a b c d ws) w (h .1 .0)) v (h .0) f
 
 -- Whether two values are the same, by their order.
 same-of : (a c : Value) → order a c ≡ Ordering·eq → same a c ≡ true
@@ -55,7 +53,7 @@ pub record Checking (Q : Values → Type 0) (s : List ℕ) (top : ℕ) (vs : Val
   pub known : Q rest
   pub result : newFirsts (members vs) ≡ newFirsts (members rest)
 
-module _ (Q : Values → Type 0) (s : List ℕ) (top : ℕ) (vs : Values) (i left : ℕ) (h : Checking Q s top vs i left) where
+module _ {Q : Values → Type 0} {s : List ℕ} {top : ℕ} {vs : Values} {i left : ℕ} (h : Checking Q s top vs i left) where
   pub checking-end : left ≤ 1 → true ≡ newFirsts (members vs)
   checking-end l = go (h .rest) (h .front) (h .result)
     where
@@ -64,16 +62,16 @@ module _ (Q : Values → Type 0) (s : List ℕ) (top : ℕ) (vs : Values) (i lef
       go (v ▸ none) f q = sym q
       go (v ▸ w ▸ ws) f q = absurd (omega (arith, f .counted))
 
-  pub checking-two : (P : Values → Type 0) → ((a b c d : Value) (ws : Values) → Front s top i left (pair a b ▸ pair c d ▸ ws) → P (pair a b ▸ pair c d ▸ ws)) →
-      1 < left → P (h .rest)
-  checking-two P k l = by-two s top i left P k (h .rest) (h .front) (h .pairs) l
-
   module _ (l : 1 < left) where
+    checking-two : (P : Values → Type 0) → ((a b c d : Value) (ws : Values) → Front s top i left (pair a b ▸ pair c d ▸ ws) → P (pair a b ▸ pair c d ▸ ws)) →
+        P (h .rest)
+    checking-two P k = by-two P k (h .rest) (h .front) (h .pairs) l
+
     pub checking-shared : ((a b c d : Value) (ws : Values) → Front s top i left (pair a b ▸ pair c d ▸ ws) → Q (pair a b ▸ pair c d ▸ ws) →
         order a c ≡ Ordering·eq) → false ≡ newFirsts (members vs)
     checking-shared o =
         checking-two (λ ws. Q ws → newFirsts (members vs) ≡ newFirsts (members ws) → false ≡ newFirsts (members vs))
-        (λ a b c d ws f k q. sym (q ∙ rw (same-of a c (o a b c d ws f k)))) l (h .known) (h .result)
+        (λ a b c d ws f k q. sym (q ∙ rw (same-of a c (o a b c d ws f k)))) (h .known) (h .result)
 
     pub checking-next : (k : ℕ) → ((a b c d : Value) (ws : Values) → Front s top i left (pair a b ▸ pair c d ▸ ws) → Q (pair a b ▸ pair c d ▸ ws) →
         (order a c ≡ Ordering·eq → ⊥) × (k ≡ i + weight (pair a b)) × Q (pair c d ▸ ws)) → Checking Q s top vs k (left - 1)
@@ -85,58 +83,47 @@ module _ (Q : Values → Type 0) (s : List ℕ) (top : ℕ) (vs : Values) (i lef
           pairs = p .1;
           known = x .2;
           result = q ∙ rw (other-of a c (x .0));
-        }) l (h .pairs) (h .known) (h .result)
+        }) (h .pairs) (h .known) (h .result)
 
 -- The walk over two pairs: where the parts of the first stand, and the first part of the second.
-module _ (s : List ℕ) (top i n : ℕ) (a b c d : Value) (ws : Values) (f : Front s top i n (pair a b ▸ pair c d ▸ ws)) (r : ℕ)
-    (e : EndsAt s (i + 1) r) where
+module _ {s : List ℕ} {top i n : ℕ} {a b c d : Value} {ws : Values} (f : Front s top i n (pair a b ▸ pair c d ▸ ws)) where
   first-at : ValueAt s (i + 1) a
   first-at = left-stands s i a b (front-value s top i n (pair a b) (pair c d ▸ ws) f)
 
-  second-at : ValueAt s r b
-  second-at = rw (e a first-at (f .fits .0 .0)) (right-stands s i a b (front-value s top i n (pair a b) (pair c d ▸ ws) f))
+  module _ {r : ℕ} (e : EndsAt s (i + 1) r) where
+    second-at : ValueAt s r b
+    second-at = rw (e a first-at (f .fits .0 .0)) (right-stands s i a b (front-value s top i n (pair a b) (pair c d ▸ ws) f))
 
-  module _ (k : ℕ) (g : EndsAt s r k) where
-    pair-ends : k ≡ i + weight (pair a b)
-    pair-ends = omega (arith, e a first-at (f .fits .0 .0), g b second-at (f .fits .0 .1))
+    module _ {k : ℕ} (g : EndsAt s r k) where
+      pair-ends : k ≡ i + weight (pair a b)
+      pair-ends = omega (arith, e a first-at (f .fits .0 .0), g b second-at (f .fits .0 .1))
 
-    next-at : ValueAt s (k + 1) c
-    next-at =
-        let h = front-next s top i n (pair a b) (pair c d ▸ ws) f k (n - 1) pair-ends (omega (arith, f .counted)) in
-        left-stands s k c d (front-value s top k (n - 1) (pair c d) ws h)
+      next-at : ValueAt s (k + 1) c
+      next-at =
+          let h = front-next s top i n (pair a b) (pair c d ▸ ws) f k (n - 1) pair-ends (omega (arith, f .counted)) in
+          left-stands s k c d (front-value s top k (n - 1) (pair c d) ws h)
 
-module _ (s : List ℕ) (top : ℕ) (vs : Values) (i left : ℕ) (h : Checking (λ _. Unit {0}) s top vs i left) (l : 1 < left) where
+module _ {s : List ℕ} {top : ℕ} {vs : Values} {i left : ℕ} (h : Checking (λ _. Unit {0}) s top vs i left) (l : 1 < left) where
   pub first-some : SomeAt s (i + 1)
-  first-some =
-      checking-two (λ _. Unit {0}) s top vs i left h (λ _. SomeAt s (i + 1)) (λ a b c d ws f.
-      record { value = a; stands = left-stands s i a b (front-value s top i left (pair a b) (pair c d ▸ ws) f); fits = f .fits .0 .0 }) l
+  first-some = checking-two h l (λ _. SomeAt s (i + 1)) λ a b c d ws f. record { value = a; stands = first-at f; fits = f .fits .0 .0 }
 
-  module _ (r : ℕ) (e : EndsAt s (i + 1) r) where
+  module _ {r : ℕ} (e : EndsAt s (i + 1) r) where
     pub second-some : SomeAt s r
-    second-some =
-        checking-two (λ _. Unit {0}) s top vs i left h (λ _. SomeAt s r)
-        (λ a b c d ws f. record { value = b; stands = second-at s top i left a b c d ws f r e; fits = f .fits .0 .1 }) l
+    second-some = checking-two h l (λ _. SomeAt s r) λ a b c d ws f. record { value = b; stands = second-at f e; fits = f .fits .0 .1 }
 
-    module _ (k : ℕ) (g : EndsAt s r k) where
+    module _ {k : ℕ} (g : EndsAt s r k) where
       pub next-some : SomeAt s (k + 1)
-      next-some =
-          checking-two (λ _. Unit {0}) s top vs i left h (λ _. SomeAt s (k + 1))
-          (λ a b c d ws f. record { value = c; stands = next-at s top i left a b c d ws f r e k g; fits = f .fits .1 .0 .0 }) l
+      next-some = checking-two h l (λ _. SomeAt s (k + 1)) λ a b c d ws f. record { value = c; stands = next-at f e g; fits = f .fits .1 .0 .0 }
 
-      module _ (o : ℕ) (compared : Compared s (i + 1) (k + 1) o) where
-        first-order : (a b c d : Value) (ws : Values) → Front s top i left (pair a b ▸ pair c d ▸ ws) → o ≡ orderCode (order a c)
-        first-order a b c d ws f =
-            compared a c (first-at s top i left a b c d ws f r e) (next-at s top i left a b c d ws f r e k g) (f .fits .0 .0) (f .fits .1 .0 .0)
+      module _ {o : ℕ} (compared : Compared s (i + 1) (k + 1) o) where
+        first-order : {a b c d : Value} {ws : Values} → Front s top i left (pair a b ▸ pair c d ▸ ws) → o ≡ orderCode (order a c)
+        first-order {a} {b} {c} f = compared a c (first-at f) (next-at f e g) (f .fits .0 .0) (f .fits .1 .0 .0)
 
         pub walk-shared : o ≡ 1 → false ≡ newFirsts (members vs)
-        walk-shared z =
-            checking-shared (λ _. Unit {0}) s top vs i left h l
-            (λ a b c d ws f _. code-equal (order a c) o (first-order a b c d ws f) z)
+        walk-shared z = checking-shared h l (λ a b c d ws f _. code-equal (order a c) o (first-order f) z)
 
         pub walk-next : (o ≡ 1 → ⊥) → Checking (λ _. Unit {0}) s top vs k (left - 1)
-        walk-next z =
-            checking-next (λ _. Unit {0}) s top vs i left h l k
-            (λ a b c d ws f _. (λ q. z (first-order a b c d ws f ∙ ap orderCode q), pair-ends s top i left a b c d ws f r e k g, tt))
+        walk-next z = checking-next h l k (λ a b c d ws f _. (λ q. z (first-order f ∙ ap orderCode q), pair-ends f e g, tt))
 
 pub all-pairs : (vs : Values) → AllPairs vs → All IsPair (members vs)
 all-pairs none p = tt
@@ -176,20 +163,15 @@ module _ {s : List ℕ} {f e : ℕ} {vs : Values} {v : Value} (h : SetBelow s (l
 
     pub image-found : newFirsts (members vs) ≡ true → {r : ℕ} → EndsAt s (i + 1) r → ImageAt s f vs r (applied (set vs) v)
     image-found d {r} ends =
-        rw (applied-found v (fits-small v (k .fits)) vs p small rising (m .is) (m .among) (m .key) d) (go (m .is) is-pair (m .value))
-      where
-        go : (w : Value) → IsPair w → ValueBelow s (f + weight (set vs)) i w → Within s f vs r (right w)
-        go (scalar x) q b = absurd q
-        go (set x) q b = absurd q
-        go (pair a b) q w =
-            let x : r ≡ i + 1 + weight a = ends a (left-stands s i a b (w .stands)) (w .fits .0) in
-            record {
-              positive = omega arith;
-              behind = omega (arith, m .behind);
-              value = record {
-                stands = rw x (right-stands s i a b (w .stands));
-                below = omega (arith, w .below);
-                fits = w .fits .1;
-                light = omega (arith, w .light);
-              };
-            }
+        rw (applied-found v (fits-small v (k .fits)) vs p small rising (m .is) (m .among) (m .key) d)
+        (on-pair (λ w. ValueBelow s (f + weight (set vs)) i w → Within s f vs r (right w))
+        (λ a b w. let x : r ≡ i + 1 + weight a = ends a (left-stands s i a b (w .stands)) (w .fits .0) in record {
+          positive = omega arith;
+          behind = omega (arith, m .behind);
+          value = record {
+            stands = rw x (right-stands s i a b (w .stands));
+            below = omega (arith, w .below);
+            fits = w .fits .1;
+            light = omega (arith, w .light);
+          };
+        }) (m .is) is-pair (m .value))
