@@ -1,17 +1,17 @@
 -- Building a set: members one behind the other, and the walk that merges two sets.
-use Prim.Native.Nat.{ℕ, zero, suc, _+_, _*_, _-_, _≤_, _<_, Ordering, Ordering·lt, Ordering·eq, Ordering·gt}
+use Prim.Native.Nat.{ℕ, _+_, _-_, _≤_, _<_, Ordering, Ordering·lt, Ordering·eq, Ordering·gt}
 use mathlib.Core.Bool.{Bool, true, false, cond}
 use mathlib.Core.List.{List, [], _∷_, _++_, append-assoc, append-nil}
 use mathlib.Core.Logic.{_⊎_, inl, inr}
 use mathlib.Core.Path.{_≡_, refl, sym, ap, _∙_, subst}
 use native.Mathlib.Omega.{arith}
-use lib.ListN.{length, getD, set as setAt, length-set}
+use lib.ListN.{length, set as setAt, length-set}
 use lib.Seq.{getD-set-same, getD-set-other}
 use Rattle.rules.specs.Values.{Value, Values, none, _▸_, members, values, count, weight, weights, order}
 use Rattle.rules.specs.Operations.{keptValue, setOf}
 use Rattle.laws.proofs.Membership.{values-members}
 use Rattle.laws.proofs.CellsLaws.{count-weights}
-use Rattle.arena.specs.Code.{cellSize, code, codes, Stands, ValueAt, Same, Copied, Front}
+use Rattle.arena.specs.Code.{code, codes, Stands, ValueAt, Same, Copied, Front}
 use Rattle.arena.proofs.CodeLaws.{length-codes}
 use Rattle.arena.proofs.Standing.{stands-append, stands-frame, copied-stands, same-refl, same-trans}
 use Rattle.arena.proofs.FrontLaws.{codes-append, count-append, weights-append, single, front-frame}
@@ -145,21 +145,19 @@ module _ {l e r : Bool} {s : List ℕ} {w : Walk} (h : StepPre l e r s w) where
 -- `finish`
 
 -- A set's cell before its members.
-set-stands : (s : List ℕ) (top n to : ℕ) (zs : List Value) → Built s top to n zs → top < length s → ValueAt (setAt s top (21474836480 + n)) top (setOf zs)
+set-stands : {s : List ℕ} {top n to : ℕ} {zs : List Value} → Built s top to n zs → top < length s → ValueAt (setAt s top (21474836480 + n)) top (setOf zs)
 unfolding code
-set-stands s top n to zs b l = record {
-  inside = omega (arith, length-set s top (21474836480 + n), b .stands .inside);
-  cells = λ i p. at i p;
-}
-  where
-    at : (i : ℕ) → i < suc (length (codes (values zs))) →
-        getD (setAt s top (21474836480 + n)) (top + i) 0 ≡ getD ((5 * cellSize + count (values zs)) ∷ codes (values zs)) i 0
-    at zero p =
-        ap (λ (j : ℕ). getD (setAt s top (21474836480 + n)) j 0) (let z : top + 0 ≡ top = omega arith in z)
-        ∙ getD-set-same s top (21474836480 + n) 0 l ∙ omega (arith, b .counted)
-    at (suc i) p =
-        getD-set-other s top (top + suc i) (21474836480 + n) 0 (λ z. omega arith)
-        ∙ ap (λ (j : ℕ). getD s j 0) (let z : top + suc i ≡ top + 1 + i = omega arith in z) ∙ b .stands .cells i (omega arith)
+set-stands {s} {top} {n} {to} {zs} b l =
+    let x = 21474836480 + n in
+    stands-append (setAt s top x) top ((21474836480 + count (values zs)) ∷ []) (codes (values zs)) (record {
+      inside = omega (arith, length-set s top x);
+      cells = λ i p. let e : i ≡ 0 = omega arith in
+          let d : top + i ≡ top = omega arith in
+          rw (d, e) (getD-set-same s top x 0 l ∙ omega (arith, b .counted));
+    }) (record {
+      inside = omega (arith, length-set s top x, b .stands .inside);
+      cells = λ i p. getD-set-other s top (top + 1 + i) x 0 (λ z. omega arith) ∙ b .stands .cells i p;
+    })
 
 -- What has been built is part of the whole.
 whole-weighs : (l e r : Bool) (s : List ℕ) (top : ℕ) (w : Walk) (whole : List Value) → Merging l e r s top w whole → w .to ≤ top + weight (setOf whole)
@@ -285,7 +283,7 @@ module _ {l r : Bool} {s : List ℕ} {w : Walk} {top : ℕ} {cells : Bool} (p : 
               same = λ i k. getD-set-other s′ top i (21474836480 + o .count) 0 (λ z. omega arith) ∙ end-frame e whole h .same i k;
               kept = length-set s′ top (21474836480 + o .count) ∙ put .frame .kept;
             };
-            light = λ k. (omega (arith, b .ends), set-stands s′ top (o .count) (o .to) whole b (omega (arith, p .room, put .frame .kept)));
+            light = λ k. (omega (arith, b .ends), set-stands b (omega (arith, p .room, put .frame .kept)));
             heavy = λ k. absurd (omega (arith, b .ends));
           }
 

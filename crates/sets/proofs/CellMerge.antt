@@ -12,7 +12,7 @@ use lib.ListN.{length, getD, set as setAt, length-set}
 use lib.Seq.{getD-set-same, getD-set-other}
 use borrow.Author.Tests.{le-leb, lt-leb}
 use mir.Val.{boolByte}
-use Rattle.rules.specs.Values.{Value, Values, none, _▸_, members, count, weights, order}
+use Rattle.rules.specs.Values.{Value, Values, none, _▸_, members, count, weight, weights, order}
 use Rattle.rules.specs.Operations.{keptValue}
 use Rattle.laws.proofs.CellsLaws.{count-weights}
 use Rattle.laws.proofs.OrderLaws.{flip, order-flip, lt-compare}
@@ -28,9 +28,8 @@ use Rattle.sets.specs.Merged.{merged}
 use Rattle.sets.specs.Fronts.{TurnAt, Cells, PutPre, Put, Merging, EndPre, Ended, RunsMerge, Walking}
 use Rattle.sets.specs.Rows.{Kept, CellTurned, RowsBelow, Ahead, RowMerge}
 use Rattle.sets.proofs.MergedLaws.{merged-turn}
-use Rattle.sets.proofs.TurnLaws.{turn-less, turn-equal, turn-greater}
+use Rattle.sets.proofs.TurnLaws.{turn-less, turn-equal, turn-greater, byte-small}
 use Rattle.sets.proofs.BuildLaws.{put-kept, put-none, built-none, step-on, walking-made, walking-end}
-use Rattle.sets.proofs.CellLaws.{byte-small}
 use Rattle.sets.proofs.RowLaws.{cells-part, cells-first, cells-frame, cells-weigh}
 
 -- `cell_turn`, from the lesser of both cells and whether it is kept.
@@ -123,26 +122,33 @@ module _ (k : Bool) (M : List Value → List Value → List Value)
   taken (suc p) none ws f g c d h = absurd (omega (arith, f .counted, h .few))
   taken (suc p) (v ▸ vs) none f g c d h = absurd (omega (arith, h .some (omega arith), g .counted))
   taken (suc p) {at} {m} (v ▸ vs) (y ▸ ys) f g c d h =
-      let w = cells-weigh f c .0 in
-      let less : (i j : ℕ) → i < suc p → at + 1 * i ≡ j → getD s j 0 < getD s b 0 =
-      λ i j l e. subst (λ (x : ℕ). getD s x 0 < getD s b 0) e (h .less i l) in
-      let o = cell-order s at b v y (front-value s top at m v vs f) (front-value s top b n y ys g) (f .fits .0) (g .fits .0) (cells-weigh g d .0)
-      ∙ lt-compare (getD s at 0) (getD s b 0) (less 0 at (omega arith) (omega arith)) in
-      let t = taken p vs (y ▸ ys) (front-next s top at m v vs f (at + 1) (m - 1) (omega arith) (omega (arith, h .few))) g
+      more (taken p vs (y ▸ ys) (front-next s top at m v vs f (at + 1) (m - 1) (omega (arith, one)) (omega (arith, h .few))) g
       (cells-part c (omega arith) (omega (arith, h .few))) d (record {
         few = omega (arith, h .few);
         some = λ _. h .some (omega arith);
         less = λ i l. less (suc i) (at + 1 + 1 * i) (omega arith) (omega arith);
-      }) in
-      record {
+      }))
+    where
+      one : weight v ≡ 1
+      one = cells-weigh f c .0
+
+      less : (i j : ℕ) → i < suc p → at + 1 * i ≡ j → getD s j 0 < getD s b 0
+      less i j l e = subst (λ (x : ℕ). getD s x 0 < getD s b 0) e (h .less i l)
+
+      first : order v y ≡ Ordering·lt
+      first = cell-order s at b v y (front-value s top at m v vs f) (front-value s top b n y ys g) (f .fits .0) (g .fits .0) (cells-weigh g d .0)
+          ∙ lt-compare (getD s at 0) (getD s b 0) (less 0 at (omega arith) (omega arith))
+
+      more : Taken k (λ xs. M xs (y ∷ members ys)) s top (at + 1) (m - 1) vs p → Taken k (λ xs. M xs (y ∷ members ys)) s top at m (v ▸ vs) (suc p)
+      more t = record {
         first = v ▸ t .first;
         rest = t .rest;
         stands = stands-append s at (code v) (codes (t .first)) (front-value s top at m v vs f)
-            (subst (λ (j : ℕ). ValuesAt s j (t .first)) (omega (arith, length-code v)) (t .stands));
+            (subst (λ (j : ℕ). ValuesAt s j (t .first)) (omega (arith, length-code v, one)) (t .stands));
         counted = omega (arith, t .counted);
-        weighs = omega (arith, t .weighs);
+        weighs = omega (arith, t .weighs, one);
         front = rw (let z : at + suc p ≡ at + 1 + p = omega arith in z, let z : m - suc p ≡ m - 1 - p = omega arith in z) (t .front);
-        all = turn v y (members vs) (members ys) o ∙ rw (t .all) (kept-cond k v (members (t .first)) (M (members (t .rest)) (y ∷ members ys)));
+        all = turn v y (members vs) (members ys) first ∙ rw (t .all) (kept-cond k v (members (t .first)) (M (members (t .rest)) (y ∷ members ys)));
       }
 
 abbrev noneBuilt : ℕ → Out

@@ -1,6 +1,5 @@
 -- Pairs that rise. A pair whose first part is new has a first part less than all that follow (`new-less`); so neighbours tell whether a
 -- set of pairs is a function (`firsts-right`), and a function gives the second part of any pair whose first part is e (`applied-found`).
-use Prim.Native.Nat.{Ordering·lt, Ordering·eq}
 use mathlib.Core.Bool.{Bool, true, false, cond}
 use mathlib.Core.List.{List, [], _∷_}
 use mathlib.Core.Logic.{_↔_, _⊎_, inl, inr}

@@ -6,8 +6,7 @@ use lib.ListN.{length}
 use Rattle.rules.specs.Values.{Values}
 use Rattle.arena.specs.Code.{AllWeigh, Front}
 use Rattle.sets.specs.Pairs.{FlatPairs}
-use Rattle.sets.proofs.ImageLaws.{Checking, checking-end}
-use Rattle.sets.proofs.PairRows.{checking-inside, flat-shared, flat-next}
+use Rattle.sets.proofs.ImageLaws.{Checking, checking-end, checking-inside, flat-shared, flat-next}
 use Rattle.sets.proofs.flat_function.Statement.{statement}
 use Rattle.sets.proofs.flat_function.Tie as tie
 

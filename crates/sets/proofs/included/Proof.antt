@@ -4,8 +4,7 @@ use Prim.Native.Nat.{_+_}
 use mathlib.Core.Bool.{Bool}
 use Rattle.arena.proofs.FrontLaws.{front-start}
 use Rattle.sets.specs.Fronts.{Includes, RunIn}
-use Rattle.sets.proofs.TurnLaws.{including-start}
-use Rattle.sets.proofs.CellLaws.{including-fewer, two-runs, two-rows}
+use Rattle.sets.proofs.TurnLaws.{including-start, including-fewer, two-runs, two-rows}
 use Rattle.sets.proofs.included.Statement.{statement}
 use Rattle.sets.proofs.included.Tie as tie
 

@@ -4,7 +4,7 @@ use Prim.Native.Nat.{ℕ, _+_}
 use mathlib.Core.List.{List}
 use Rattle.arena.proofs.FrontLaws.{front-start}
 use Rattle.sets.specs.Fronts.{RunsMerge, Merges}
-use Rattle.sets.proofs.CellLaws.{two-runs, two-rows}
+use Rattle.sets.proofs.TurnLaws.{two-runs, two-rows}
 use Rattle.sets.proofs.merge.Statement.{statement}
 use Rattle.sets.proofs.merge.Tie as tie
 

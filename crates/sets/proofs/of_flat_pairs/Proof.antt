@@ -6,7 +6,7 @@ use Prim.Native.Nat.{_+_, _<_}
 use native.Mathlib.Omega.{arith}
 use lib.ListN.{length}
 use Rattle.rules.proofs.Basics.{absurd01}
-use Rattle.sets.proofs.PairRows.{no-pairs, flat-pairs, pair-inside}
+use Rattle.sets.proofs.ImageLaws.{no-pairs, flat-pairs, pair-inside}
 use Rattle.sets.proofs.of_flat_pairs.Statement.{statement}
 use Rattle.sets.proofs.of_flat_pairs.Tie as tie
 

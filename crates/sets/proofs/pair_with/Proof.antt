@@ -6,8 +6,7 @@ use lib.ListN.{length}
 use Rattle.arena.proofs.ValueParts.{some-inside}
 use Rattle.arena.proofs.FrontLaws.{value-some}
 use Rattle.sets.specs.Pairs.{SomeFlat}
-use Rattle.sets.proofs.ImageLaws.{whole, relation-run}
-use Rattle.sets.proofs.PairRows.{flat-inside, pair-row, pair-none, pair-found, relation-flat}
+use Rattle.sets.proofs.ImageLaws.{whole, relation-run, flat-inside, pair-row, pair-none, pair-found, relation-flat}
 use Rattle.sets.proofs.pair_with.Statement.{statement}
 use Rattle.sets.proofs.pair_with.Tie as tie
 

@@ -1,8 +1,7 @@
 -- `search_cells`: the first set is included where each of its members that are left is found in the second.
 use native.Mathlib.Omega.{arith}
 use Rattle.sets.proofs.RowLaws.{cells-row, cells-part}
-use Rattle.sets.proofs.TurnLaws.{including-end}
-use Rattle.sets.proofs.CellLaws.{RowWalk, row-start, including-found, including-lost}
+use Rattle.sets.proofs.TurnLaws.{including-end, RowWalk, row-start, including-found, including-lost}
 use Rattle.sets.proofs.search_cells.Statement.{statement}
 use Rattle.sets.proofs.search_cells.Tie as tie
 

@@ -4,8 +4,7 @@ use native.Mathlib.Omega.{arith}
 use mathlib.Core.Bool.{Bool}
 use lib.Dec.{eqb}
 use lib.ListN.{length, getD}
-use Rattle.sets.proofs.TurnLaws.{including-end}
-use Rattle.sets.proofs.CellLaws.{RowWalk, row-start, including-fewer, including-less, byte-small, row-step}
+use Rattle.sets.proofs.TurnLaws.{including-end, RowWalk, row-start, including-fewer, including-less, byte-small, row-step}
 use Rattle.sets.proofs.walk_cells.Statement.{statement}
 use Rattle.sets.proofs.walk_cells.Tie as tie
 
