@@ -105,9 +105,8 @@ module _ {l e r : Bool} {s s′ : List ℕ} {w : Walk} {t : Turn} {o : Out} {top
 
   pub step-on : 0 < w .m → 0 < w .n → Merging l e r s′ top (after t o) whole
   step-on i j =
-      by-fronts s top (w .a) (w .m) (w .b) (w .n)
-      (λ vs xs. whole ≡ h .done ++ merged l e r (members vs) (members xs) → Merging l e r s′ top (after t o) whole)
-      step-done (h .left) (h .right) (h .onLeft) (h .onRight) i j (h .all)
+      by-fronts (λ vs xs. whole ≡ h .done ++ merged l e r (members vs) (members xs) → Merging l e r s′ top (after t o) whole) step-done (h .onLeft)
+      (h .onRight) i j (h .all)
 
 module _ {l e r : Bool} {s : List ℕ} {w : Walk} (h : StepPre l e r s w) where
   pub step-two : TwoFronts s (w .a) (w .m) (w .b) (w .n)
@@ -117,14 +116,13 @@ module _ {l e r : Bool} {s : List ℕ} {w : Walk} (h : StepPre l e r s w) where
     -- what a turn takes, and how many members are left
     step-took : (t .from ≤ t .end) × (t .end ≤ w .to) × (t .end - t .from ≤ 256) × (t .m + t .n < w .m + w .n)
     step-took =
-        by-fronts s (h .top) (w .a) (w .m) (w .b) (w .n)
-        (λ _ _. (t .from ≤ t .end) × (t .end ≤ w .to) × (t .end - t .from ≤ 256) × (t .m + t .n < w .m + w .n))
+        by-fronts (λ _ _. (t .from ≤ t .end) × (t .end ≤ w .to) × (t .end - t .from ≤ 256) × (t .m + t .n < w .m + w .n))
         (λ v vs x xs f g. let d = turn (h .top) v vs x xs f g in (
           omega (arith, d .ends),
           omega (arith, d .ends, d .value .below, h .merging .built .ends),
           omega (arith, d .ends, d .value .light),
           omega (arith, turn-fewer s (h .top) l e r (order v x) v vs x xs t d, f .counted, g .counted),
-        )) (h .merging .left) (h .merging .right) (h .merging .onLeft) (h .merging .onRight) (h .moreLeft) (h .moreRight)
+        )) (h .merging .onLeft) (h .merging .onRight) (h .moreLeft) (h .moreRight)
 
     pub step-put : PutPre s (t .from) (t .end) 1 (outOf w)
     step-put = record {
@@ -215,25 +213,23 @@ module _ {l r : Bool} {s : List ℕ} {w : Walk} {top : ℕ} {cells : Bool} (p : 
   right-over k = elim (p .over) [ inl z ↦ absurd (omega arith) | inr y ↦ elim y [ inl z ↦ z | inr z ↦ absurd (omega arith) ] ]
 
   rested : (e : Bool) (whole : List Value) (h : Merging l e r s top w whole) → Rested s top w q (h .done) whole
-  rested e whole h = go rest
+  rested e whole h = elim rest [
+    | inl x ↦
+        let z = no-front (λ vs. members vs ≡ []) refl (h .onRight) (omega (arith, right-over (x .0))) in
+        kept l (x .1) (h .onLeft) (λ c. c .0) (h .all ∙ rw (z, merged-nil l e r (members (h .left))))
+    | inr x ↦
+        let z = no-front (λ vs. members vs ≡ []) refl (h .onLeft) (omega (arith, x .0)) in
+        kept r (x .1) (h .onRight) (λ c. c .1) (h .all ∙ rw (z, merged-none l e r (members (h .right))))
+  ]
     where
-      go : RestOf w l r q → Rested s top w q (h .done) whole
-      go (inl x) =
-          let z = no-front s top (w .b) (w .n) (λ vs. members vs ≡ []) refl (h .right) (h .onRight) (omega (arith, right-over (x .0))) in
-          subst (λ (z : Rest). Rested s top w z (h .done) whole) (sym (x .1)) (record {
-            rest = cond l (h .left) none;
-            front = front-if l (h .onLeft);
-            all = h .all ∙ rw (z, merged-nil l e r (members (h .left)), members-if l (h .left));
-            thin = λ c. cells-if l (c .0);
-          })
-      go (inr x) =
-          let z = no-front s top (w .a) (w .m) (λ vs. members vs ≡ []) refl (h .left) (h .onLeft) (omega (arith, x .0)) in
-          subst (λ (z : Rest). Rested s top w z (h .done) whole) (sym (x .1)) (record {
-            rest = cond r (h .right) none;
-            front = front-if r (h .onRight);
-            all = h .all ∙ rw (z, merged-none l e r (members (h .right)), members-if r (h .right));
-            thin = λ c. cells-if r (c .1);
-          })
+      kept : (k : Bool) {at n : ℕ} {vs : Values} → q ≡ record { at = at; n = cond k n 0 } → Front s top at n vs →
+          (Cells s (w .a) (w .m) × Cells s (w .b) (w .n) → Cells s at n) → whole ≡ h .done ++ cond k (members vs) [] → Rested s top w q (h .done) whole
+      kept k {vs = vs} d f c x = subst (λ (z : Rest). Rested s top w z (h .done) whole) (sym d) (record {
+        rest = cond k vs none;
+        front = front-if k f;
+        all = x ∙ rw (members-if k vs);
+        thin = λ y. cells-if k (c y);
+      })
 
   some-rest : Rested s top w q (p .merging .done) (p .whole)
   some-rest = rested (p .both) (p .whole) (p .merging)

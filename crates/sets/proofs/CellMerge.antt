@@ -66,15 +66,12 @@ cell-put : (keep : Bool) {s : List ℕ} {from to count : ℕ} → from < to → 
     (record { to = to + boolByte keep; count = count + boolByte keep })
 cell-put true {s} {from} {to} l k f =
     put-kept (record { forward = omega arith; behind = omega arith; room = omega arith; few = omega arith }) (record {
-      there = λ i p. let e : i ≡ 0 = omega arith in there i e;
+      there = λ i p.
+          rw (let z : to + i ≡ to = omega arith in z, let z : from + i ≡ from = omega arith in z) (getD-set-same s to (getD s from 0) 0 k);
       before = λ i p. getD-set-other s to i (getD s from 0) 0 (λ e. omega arith);
       after = λ i p. getD-set-other s to i (getD s from 0) 0 (λ e. omega arith);
       kept = length-set s to (getD s from 0);
     }) (omega arith) refl
-  where
-    there : (i : ℕ) → i ≡ 0 → getD (setAt s to (getD s from 0)) (to + i) 0 ≡ getD s (from + i) 0
-    there i e =
-        rw (let z : to + i ≡ to = omega arith in z, let z : from + i ≡ from = omega arith in z) (getD-set-same s to (getD s from 0) 0 k)
 cell-put false {s} {from} {to} {count} l k f =
     rw (let e : to + 0 ≡ to = omega arith in e, let e : count + 0 ≡ count = omega arith in e)
     (put-none (record { same = λ i p. getD-set-other s to i (getD s from 0) 0 (λ e. omega arith); kept = length-set s to (getD s from 0) }))

@@ -227,7 +227,7 @@ module _ {s : List ℕ} {top f : ℕ} {vs : Values} (h : SetBelow s top f vs) (p
   fronted = front-start s top f vs h (getD s f 0 % 4294967296) refl
 
   pub no-pairs : getD s f 0 % 4294967296 ≡ 0 → FlatPairs vs
-  no-pairs e = no-front s top (f + 1) _ FlatPairs (tt, tt) vs fronted (omega arith)
+  no-pairs e = no-front FlatPairs (tt, tt) fronted (omega arith)
 
   module _ (some : getD s f 0 % 4294967296 ≡ 0 → ⊥) where
     -- what is shown of a first pair and the rest
@@ -236,9 +236,9 @@ module _ {s : List ℕ} {top f : ℕ} {vs : Values} (h : SetBelow s top f vs) (p
         P (pair a b ▸ ws)) → P vs
     by-pair P k =
         let n = getD s f 0 % 4294967296 in
-        by-front s top (f + 1) n (λ ws. AllPairs ws → EvenSet ws → P ws)
+        by-front (λ ws. AllPairs ws → EvenSet ws → P ws)
         (λ v ws g q. on-pair (λ x. Front s top (f + 1) n (x ▸ ws) → EvenSet (x ▸ ws) → P (x ▸ ws)) (λ a b g. k a b ws g (q .1)) v (q .0) g)
-        vs fronted (omega arith) p (h .fine .even)
+        fronted (omega arith) p (h .fine .even)
 
     pub flat-pairs : getD s (f + 2) 0 < 4 * cellSize → getD s (f + 3) 0 < 4 * cellSize → FlatPairs vs
     flat-pairs l r = by-pair FlatPairs λ a b ws g q e.

@@ -21,22 +21,21 @@ use Rattle.arena.proofs.FrontLaws.{rises-rising, fit-small, front-value, front-
 use Rattle.sets.specs.Fronts.{keyOf, Keyed, Member, MemberOrNone}
 use Rattle.sets.proofs.PairLaws.{Keeps, pairs-small, less-all}
 
-module _ (s : List ℕ) (top at n : ℕ) (P : Values → Type 0) where
+module _ {s : List ℕ} {top at n : ℕ} (P : Values → Type 0) where
   -- What is shown of a first member and the rest is shown of members, if there are any; and what is shown of none, if there are none.
-  pub by-front : ((v : Value) (vs : Values) → Front s top at n (v ▸ vs) → P (v ▸ vs)) → (vs : Values) → Front s top at n vs → 0 < n → P vs
-  by-front h none f l = absurd (omega (arith, f .counted))
-  by-front h (v ▸ vs) f l = h v vs f
+  pub by-front : ((v : Value) (vs : Values) → Front s top at n (v ▸ vs) → P (v ▸ vs)) → {vs : Values} → Front s top at n vs → 0 < n → P vs
+  by-front h {vs = none} f l = absurd (omega (arith, f .counted))
+  by-front h {vs = v ▸ vs} f l = h v vs f
 
-  pub no-front : P none → (vs : Values) → Front s top at n vs → n ≤ 0 → P vs
-  no-front h none f l = h
-  no-front h (v ▸ vs) f l = absurd (omega (arith, f .counted))
+  pub no-front : P none → {vs : Values} → Front s top at n vs → n ≤ 0 → P vs
+  no-front h {vs = none} f l = h
+  no-front h {vs = v ▸ vs} f l = absurd (omega (arith, f .counted))
 
 -- The same of two runs of members.
-pub by-fronts : (s : List ℕ) (top a m b n : ℕ) (P : Values → Values → Type 0) →
+pub by-fronts : {s : List ℕ} {top a m b n : ℕ} (P : Values → Values → Type 0) →
     ((v : Value) (vs : Values) (w : Value) (ws : Values) → Front s top a m (v ▸ vs) → Front s top b n (w ▸ ws) → P (v ▸ vs) (w ▸ ws)) →
-    (vs ws : Values) → Front s top a m vs → Front s top b n ws → 0 < m → 0 < n → P vs ws
-by-fronts s top a m b n P h vs ws f g l k =
-    by-front s top a m (λ us. P us ws) (λ v us e. by-front s top b n (P (v ▸ us)) (λ w xs d. h v us w xs e d) ws g k) vs f l
+    {vs ws : Values} → Front s top a m vs → Front s top b n ws → 0 < m → 0 < n → P vs ws
+by-fronts P h {vs} {ws} f g l k = by-front (λ us. P us ws) (λ v us e. by-front (P (v ▸ us)) (λ w xs d. h v us w xs e d) g k) f l
 
 -- The key of a member that stands.
 pub key-stands : (first : Bool) (s : List ℕ) (i : ℕ) (w : Value) (ws : Values) → Keyed first (w ▸ ws) → ValueAt s i w → CellsFit w →
@@ -81,13 +80,12 @@ module _ {s : List ℕ} {top at : ℕ} {first : Bool} {v : Value} {vs : List Val
 
   pub seeking-key : 0 < left → SomeAt s (i + boolByte first)
   seeking-key l =
-      by-front s top i left (λ ws. Keyed first ws → SomeAt s (i + boolByte first))
+      by-front (λ ws. Keyed first ws → SomeAt s (i + boolByte first))
       (λ w ws f k. let x = key-stands first s i w ws k (front-value s top i left w ws f) (f .fits .0) in
-      record { value = keyOf first w; stands = x .0; fits = x .1 }) (h .rest) (h .front) l (h .keyed)
+      record { value = keyOf first w; stands = x .0; fits = x .1 }) (h .front) l (h .keyed)
 
   pub seeking-end : left ≤ 0 → MemberOrNone s top at first v vs 0
-  seeking-end l =
-      h .on 0 (no-front s top i left (λ ws. MemberOrNone s top at first v (members ws) 0) (inr (refl, tt)) (h .rest) (h .front) l)
+  seeking-end l = h .on 0 (no-front (λ ws. MemberOrNone s top at first v (members ws) 0) (inr (refl, tt)) (h .front) l)
 
   module _ {e c : ℕ} (value : ValueBelow s (length s) e v) (compared : Compared s e (i + boolByte first) c) (l : 0 < left) where
     -- A turn, by the first of the members that are left and the order of v and its key.
@@ -95,9 +93,9 @@ module _ {s : List ℕ} {top at : ℕ} {first : Bool} {v : Value} {vs : List Val
         ((w : Value) (ws : Values) → Front s top i left (w ▸ ws) → Keyed first (w ▸ ws) → c ≡ orderCode (order v (keyOf first w)) →
         CellsFit (keyOf first w) → P (w ▸ ws)) → P (h .rest)
     by-key P k =
-        by-front s top i left (λ ws. Keyed first ws → P ws)
+        by-front (λ ws. Keyed first ws → P ws)
         (λ w ws f q. let x = key-stands first s i w ws q (front-value s top i left w ws f) (f .fits .0) in
-        k w ws f q (compared v (keyOf first w) (value .stands) (x .0) (value .fits) (x .1)) (x .1)) (h .rest) (h .front) l (h .keyed)
+        k w ws f q (compared v (keyOf first w) (value .stands) (x .0) (value .fits) (x .1)) (x .1)) (h .front) l (h .keyed)
 
     pub seeking-found : c ≡ 1 → MemberOrNone s top at first v vs i
     seeking-found z = h .on i (by-key (λ ws. MemberOrNone s top at first v (members ws) i) λ w ws f q o x.
@@ -161,10 +159,10 @@ module _ {s : List ℕ} {top i left e : ℕ} (h : Running s top i left e) where
 
   pub running-next : {r : ℕ} → 0 < left → EndsAt s i r → Running s top r (left - 1) e
   running-next {r} l ends =
-      by-front s top i left (λ ws. i + weights ws ≡ e → Running s top r (left - 1) e)
+      by-front (λ ws. i + weights ws ≡ e → Running s top r (left - 1) e)
       (λ w ws f q. let x : r ≡ i + weight w = ends w (front-value s top i left w ws f) (f .fits .0) in
       record { rest = ws; front = front-next s top i left w ws f r (left - 1) x (omega arith); ends = omega arith })
-      (h .rest) (h .front) l (h .ends)
+      (h .front) l (h .ends)
 
   pub running-end : left ≤ 0 → i ≡ e
-  running-end l = no-front s top i left (λ ws. i + weights ws ≡ e → i ≡ e) (λ q. omega arith) (h .rest) (h .front) l (h .ends)
+  running-end l = no-front (λ ws. i + weights ws ≡ e → i ≡ e) (λ q. omega arith) (h .front) l (h .ends)

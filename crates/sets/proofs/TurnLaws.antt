@@ -70,9 +70,8 @@ module _ {s : List ℕ} {a m b n : ℕ} (h : TwoFronts s a m b n) where
   two-some = (omega (arith, h .onLeft .counted), omega (arith, h .onRight .counted))
 
 pub two-fronts : {s : List ℕ} {top a m b n : ℕ} {vs ws : Values} → Front s top a m vs → Front s top b n ws → 0 < m → 0 < n → TwoFronts s a m b n
-two-fronts {s} {top} {a} {m} {b} {n} {vs} {ws} =
-    by-fronts s top a m b n (λ _ _. TwoFronts s a m b n)
-    (λ v vs w ws f g. record { top = top; first = v; rest = vs; first′ = w; rest′ = ws; onLeft = f; onRight = g }) vs ws
+two-fronts {s} {top} {a} {m} {b} {n} =
+    by-fronts (λ _ _. TwoFronts s a m b n) (λ v vs w ws f g. record { top = top; first = v; rest = vs; first′ = w; rest′ = ws; onLeft = f; onRight = g })
 
 -- A turn takes a member.
 pub turn-fewer : (s : List ℕ) (top : ℕ) (l e r : Bool) (o : Ordering) (v : Value) (vs : Values) (w : Value) (ws : Values) (t : Turn) →
@@ -119,15 +118,13 @@ including-start s a m b n vs ws f g = record { left = vs; right = ws; onLeft = f
 module _ {s : List ℕ} {a m b n : ℕ} {whole : Bool} (h : Including s a m b n whole) where
   pub including-end : m ≤ 0 → true ≡ whole
   unfolding allIn
-  including-end l =
-      no-front s (length s) a m (λ vs. whole ≡ allIn (members vs) (members (h .right)) → true ≡ whole) (λ q. sym q) (h .left) (h .onLeft) l (h .same)
+  including-end l = no-front (λ vs. whole ≡ allIn (members vs) (members (h .right)) → true ≡ whole) (λ q. sym q) (h .onLeft) l (h .same)
 
   pub including-short : 0 < m → n ≡ 0 → false ≡ whole
   unfolding allIn
   including-short l z =
-      by-front s (length s) a m (λ vs. whole ≡ allIn (members vs) (members (h .right)) → false ≡ whole)
-      (λ v vs f. no-front s (length s) b n (λ ws. whole ≡ allIn (v ∷ members vs) (members ws) → false ≡ whole) (λ q. sym q)
-      (h .right) (h .onRight) (omega arith)) (h .left) (h .onLeft) l (h .same)
+      by-front (λ vs. whole ≡ allIn (members vs) (members (h .right)) → false ≡ whole)
+      (λ v vs f. no-front (λ ws. whole ≡ allIn (v ∷ members vs) (members ws) → false ≡ whole) (λ q. sym q) (h .onRight) (omega arith)) (h .onLeft) l (h .same)
 
   pub including-two : 0 < m → (n ≡ 0 → ⊥) → TwoFronts s a m b n
   including-two l z = two-fronts (h .onLeft) (h .onRight) l (omega arith)
@@ -135,7 +132,7 @@ module _ {s : List ℕ} {a m b n : ℕ} {whole : Bool} (h : Including s a m b n 
   pub including-turn : 0 < m → (n ≡ 0 → ⊥) → {t : Turn} → TurnAt s a m b n false true true t →
       (t .keep ≡ true → Including s (t .a) (t .m) (t .b) (t .n) whole × (t .m + t .n < m + n)) × (t .keep ≡ false → false ≡ whole)
   including-turn l z {t} turn =
-      by-fronts s (length s) a m b n (λ vs ws. whole ≡ allIn (members vs) (members ws) →
+      by-fronts (λ vs ws. whole ≡ allIn (members vs) (members ws) →
       (t .keep ≡ true → Including s (t .a) (t .m) (t .b) (t .n) whole × (t .m + t .n < m + n)) × (t .keep ≡ false → false ≡ whole))
       (λ v vs w ws f g q. let d = turn (length s) v vs w ws f g in
       let o = order v w in
@@ -151,7 +148,7 @@ module _ {s : List ℕ} {a m b n : ℕ} {whole : Bool} (h : Including s a m b n 
           omega (arith, turn-fewer s (length s) false true true o v vs w ws t d, f .counted, g .counted),
         ),
         λ x. sym (k ∙ rw (sym (d .keeps) ∙ x)),
-      )) (h .left) (h .right) (h .onLeft) (h .onRight) l (omega arith) (h .same)
+      )) (h .onLeft) (h .onRight) l (omega arith) (h .same)
 
 -- No more members than in the set that includes them.
 few-in : (vs ws : Values) → Rises vs → Rises ws → AllFit vs → AllFit ws → allIn (members vs) (members ws) ≡ true → count vs ≤ count ws
@@ -189,23 +186,20 @@ module _ {s : List ℕ} {a m b n : ℕ} {whole : Bool} (h : Including s a m b n 
     first-in : (v : Value) (vs : Values) → Front s (length s) a m (v ▸ vs) → ltb r n ≡ isIn v (members (h .right))
     first-in v vs f = cell-in (front-below s (length s) a m v vs f) (h .onRight) right found
 
-    pub including-found : (r ≡ n → ⊥) → Including s (a + 1) (m - 1) b n whole
+    pub including-sought : ((r ≡ n → ⊥) → Including s (a + 1) (m - 1) b n whole) × (r ≡ n → false ≡ whole)
     unfolding allIn
-    including-found z =
-        by-front s (length s) a m (λ vs. whole ≡ allIn (members vs) (members (h .right)) → Including s (a + 1) (m - 1) b n whole)
-        (λ v vs f q. record {
-          left = vs;
-          right = h .right;
-          onLeft = front-next s (length s) a m v vs f (a + 1) (m - 1) (omega (arith, cells-weigh f left .0)) (omega arith);
-          onRight = h .onRight;
-          same = q ∙ rw (← first-in v vs f, lt-ltb r n (omega (arith, found .few)));
-        }) (h .left) (h .onLeft) l (h .same)
-
-    pub including-lost : r ≡ n → false ≡ whole
-    unfolding allIn
-    including-lost z =
-        by-front s (length s) a m (λ vs. whole ≡ allIn (members vs) (members (h .right)) → false ≡ whole)
-        (λ v vs f q. sym (q ∙ rw (← first-in v vs f, le-ltb r n (omega arith)))) (h .left) (h .onLeft) l (h .same)
+    including-sought =
+        by-front (λ vs. whole ≡ allIn (members vs) (members (h .right)) → ((r ≡ n → ⊥) → Including s (a + 1) (m - 1) b n whole) × (r ≡ n → false ≡ whole))
+        (λ v vs f q. (
+          λ z. record {
+            left = vs;
+            right = h .right;
+            onLeft = front-next s (length s) a m v vs f (a + 1) (m - 1) (omega (arith, cells-weigh f left .0)) (omega arith);
+            onRight = h .onRight;
+            same = q ∙ rw (← first-in v vs f, lt-ltb r n (omega (arith, found .few)));
+          },
+          λ z. sym (q ∙ rw (← first-in v vs f, le-ltb r n (omega arith))),
+        )) (h .onLeft) l (h .same)
 
   -- A turn of the walk over both.
   module _ (l : 0 < m) (k : 0 < n) (left : Cells s a m) (right : Cells s b n) where

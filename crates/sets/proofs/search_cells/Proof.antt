@@ -1,7 +1,7 @@
 -- `search_cells`: the first set is included where each of its members that are left is found in the second.
 use native.Mathlib.Omega.{arith}
 use Rattle.sets.proofs.RowLaws.{cells-row, cells-part}
-use Rattle.sets.proofs.TurnLaws.{including-end, RowWalk, row-start, including-found, including-lost}
+use Rattle.sets.proofs.TurnLaws.{including-end, RowWalk, row-start, including-sought}
 use Rattle.sets.proofs.search_cells.Statement.{statement}
 use Rattle.sets.proofs.search_cells.Tie as tie
 
@@ -31,7 +31,7 @@ search-cells-spec =
     (λ c. λ vs ws f g. let h = c .before in
     let t = turn h in
     let w = t .before .loop .inv in
-    including-lost (w .on vs ws f g) (t .loop-test .taken) (w .cells) (w .otherCells) (h .find .ensures) (c .if1 .taken))
+    including-sought (w .on vs ws f g) (t .loop-test .taken) (w .cells) (w .otherCells) (h .find .ensures) .1 (c .if1 .taken))
     (λ c. let t = turn (c .before) in omega (arith, t .loop-test .taken, t .before .loop .inv .cells .inside))
     (λ c. omega (arith, turn (c .before) .loop-test .taken))
     (λ c. omega (arith, turn (c .before) .loop-test .taken))
@@ -41,6 +41,6 @@ search-cells-spec =
     record {
       cells = cells-part (w .cells) (omega arith) (omega (arith, t .loop-test .taken));
       otherCells = w .otherCells;
-      on = λ vs ws f g. including-found (w .on vs ws f g) (t .loop-test .taken) (w .cells) (w .otherCells) (h .find .ensures) (c .if1 .left);
+      on = λ vs ws f g. including-sought (w .on vs ws f g) (t .loop-test .taken) (w .cells) (w .otherCells) (h .find .ensures) .0 (c .if1 .left);
     })
     (λ c. λ vs ws f g. including-end (c .before .loop .inv .on vs ws f g) (c .loop-test .left)))
