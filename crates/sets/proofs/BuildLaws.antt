@@ -1,17 +1,17 @@
 -- Building a set: members one behind the other, and the walk that merges two sets.
-use Prim.Native.Nat.{ℕ, zero, suc, _+_, _*_, _-_, _≤_, _<_, Ordering, Ordering·lt, Ordering·eq, Ordering·gt}
+use Prim.Native.Nat.{ℕ, _+_, _-_, _≤_, _<_, Ordering, Ordering·lt, Ordering·eq, Ordering·gt}
 use mathlib.Core.Bool.{Bool, true, false, cond}
 use mathlib.Core.List.{List, [], _∷_, _++_, append-assoc, append-nil}
 use mathlib.Core.Logic.{_⊎_, inl, inr}
 use mathlib.Core.Path.{_≡_, refl, sym, ap, _∙_, subst}
 use native.Mathlib.Omega.{arith}
-use lib.ListN.{length, getD, set as setAt, length-set}
+use lib.ListN.{length, set as setAt, length-set}
 use lib.Seq.{getD-set-same, getD-set-other}
 use Rattle.rules.specs.Values.{Value, Values, none, _▸_, members, values, count, weight, weights, order}
 use Rattle.rules.specs.Operations.{keptValue, setOf}
 use Rattle.laws.proofs.Membership.{values-members}
 use Rattle.laws.proofs.CellsLaws.{count-weights}
-use Rattle.arena.specs.Code.{cellSize, code, codes, Stands, ValueAt, Same, Copied, Front}
+use Rattle.arena.specs.Code.{code, codes, Stands, ValueAt, Same, Copied, Front}
 use Rattle.arena.proofs.CodeLaws.{length-codes}
 use Rattle.arena.proofs.Standing.{stands-append, stands-frame, copied-stands, same-refl, same-trans}
 use Rattle.arena.proofs.FrontLaws.{codes-append, count-append, weights-append, single, front-frame}
@@ -28,42 +28,38 @@ use Rattle.sets.proofs.TurnLaws.{two-fronts, turn-fewer}
 
 -- `put`
 
-pub put-kept : (s : List ℕ) (from end k : ℕ) (o : Out) (s′ : List ℕ) (r : Out) → PutPre s from end k o → Copied s from (end - from) (o .to) s′ →
-    r .to ≡ o .to + (end - from) → r .count ≡ o .count + k → Put true s from end k o s′ r
-put-kept s from end k o s′ r p c x y = record {
-  frame = f;
-  near = omega arith;
-  even = λ z. omega arith;
-  on = λ top zs vs b at e n. record {
-    stands = rw (codes-append zs (members vs), values-members vs)
-        (stands-append s′ (top + 1) (codes (values zs)) (codes vs)
-        (stands-frame (o .to) s s′ (top + 1) (codes (values zs)) f (omega (arith, length-codes (values zs), b .ends)) (b .stands))
-        (subst (λ (i : ℕ). Stands s′ i (codes vs)) (omega (arith, length-codes (values zs), b .ends))
-        (copied-stands s from (end - from) (o .to) s′ (codes vs) c (omega (arith, length-codes vs)) (p .room) at)));
-    ends = omega (arith, b .ends, weights-append zs (members vs), ap weights (values-members vs));
-    counted = omega (arith, b .counted, count-append zs (members vs), ap count (values-members vs));
-  };
-}
-  where
-    f : Same (o .to) s s′
-    f = record { same = c .before; kept = c .kept }
+module _ {s : List ℕ} {from end k : ℕ} {o : Out} {s′ : List ℕ} where
+  pub put-kept : {r : Out} → PutPre s from end k o → Copied s from (end - from) (o .to) s′ → r .to ≡ o .to + (end - from) → r .count ≡ o .count + k →
+      Put true s from end k o s′ r
+  put-kept p c x y =
+      let f : Same (o .to) s s′ = record { same = c .before; kept = c .kept } in
+      record {
+        frame = f;
+        near = omega arith;
+        even = λ z. omega arith;
+        on = λ top zs vs b at e n. record {
+          stands = rw (codes-append zs (members vs), values-members vs)
+              (stands-append s′ (top + 1) (codes (values zs)) (codes vs)
+              (stands-frame (o .to) s s′ (top + 1) (codes (values zs)) f (omega (arith, length-codes (values zs), b .ends)) (b .stands))
+              (subst (λ (i : ℕ). Stands s′ i (codes vs)) (omega (arith, length-codes (values zs), b .ends))
+              (copied-stands s from (end - from) (o .to) s′ (codes vs) c (omega (arith, length-codes vs)) (p .room) at)));
+          ends = omega (arith, b .ends, weights-append zs (members vs), ap weights (values-members vs));
+          counted = omega (arith, b .counted, count-append zs (members vs), ap count (values-members vs));
+        };
+      }
 
--- what has been built stays where nothing below its end is changed
-built-frame : (s s′ : List ℕ) (top : ℕ) (o : Out) (zs : List Value) → Same (o .to) s s′ → Built s top (o .to) (o .count) zs →
-    Built s′ top (o .to) (o .count) (zs ++ [])
-built-frame s s′ top o zs f b = rw (append-nil zs) (record {
-  stands = stands-frame (o .to) s s′ (top + 1) (codes (values zs)) f (omega (arith, length-codes (values zs), b .ends)) (b .stands);
-  ends = b .ends;
-  counted = b .counted;
-})
-
-pub put-none : (s : List ℕ) (from end k : ℕ) (o : Out) (s′ : List ℕ) → Same (o .to) s s′ → Put false s from end k o s′ o
-put-none s from end k o s′ f = record {
-  frame = f;
-  near = omega arith;
-  even = λ z. omega arith;
-  on = λ top zs vs b at e n. built-frame s s′ top o zs f b;
-}
+  -- what has been built stays where nothing below its end is changed
+  pub put-none : Same (o .to) s s′ → Put false s from end k o s′ o
+  put-none f = record {
+    frame = f;
+    near = omega arith;
+    even = λ z. omega arith;
+    on = λ top zs vs b at e n. rw (append-nil zs) (record {
+      stands = stands-frame (o .to) s s′ (top + 1) (codes (values zs)) f (omega (arith, length-codes (values zs), b .ends)) (b .stands);
+      ends = b .ends;
+      counted = b .counted;
+    });
+  }
 
 -- `step`
 
@@ -86,9 +82,9 @@ after t o = record { a = t .a; m = t .m; b = t .b; n = t .n; to = o .to; count =
 abbrev pub outOf : Walk → Out
 outOf w = record { to = w .to; count = w .count }
 
-module _ (l e r : Bool) (s s′ : List ℕ) (w : Walk) (t : Turn) (o : Out)
+module _ {l e r : Bool} {s s′ : List ℕ} {w : Walk} {t : Turn} {o : Out} {top : ℕ} {whole : List Value}
     (turn : TurnAt s (w .a) (w .m) (w .b) (w .n) l e r t) (p : Put (t .keep) s (t .from) (t .end) 1 (outOf w) s′ o)
-    (top : ℕ) (whole : List Value) (h : Merging l e r s top w whole) where
+    (h : Merging l e r s top w whole) where
   step-done : (v : Value) (vs : Values) (x : Value) (xs : Values) → Front s top (w .a) (w .m) (v ▸ vs) → Front s top (w .b) (w .n) (x ▸ xs) →
       whole ≡ h .done ++ merged l e r (v ∷ members vs) (x ∷ members xs) → Merging l e r s′ top (after t o) whole
   step-done v vs x xs f g q =
@@ -109,28 +105,24 @@ module _ (l e r : Bool) (s s′ : List ℕ) (w : Walk) (t : Turn) (o : Out)
 
   pub step-on : 0 < w .m → 0 < w .n → Merging l e r s′ top (after t o) whole
   step-on i j =
-      by-fronts s top (w .a) (w .m) (w .b) (w .n)
-      (λ vs xs. whole ≡ h .done ++ merged l e r (members vs) (members xs) → Merging l e r s′ top (after t o) whole)
-      step-done (h .left) (h .right) (h .onLeft) (h .onRight) i j (h .all)
+      by-fronts (λ vs xs. whole ≡ h .done ++ merged l e r (members vs) (members xs) → Merging l e r s′ top (after t o) whole) step-done (h .onLeft)
+      (h .onRight) i j (h .all)
 
-module _ (l e r : Bool) (s : List ℕ) (w : Walk) (h : StepPre l e r s w) where
+module _ {l e r : Bool} {s : List ℕ} {w : Walk} (h : StepPre l e r s w) where
   pub step-two : TwoFronts s (w .a) (w .m) (w .b) (w .n)
-  step-two =
-      two-fronts s (h .top) (w .a) (w .m) (w .b) (w .n) (h .merging .left) (h .merging .right) (h .merging .onLeft) (h .merging .onRight)
-      (h .moreLeft) (h .moreRight)
+  step-two = two-fronts (h .merging .onLeft) (h .merging .onRight) (h .moreLeft) (h .moreRight)
 
-  module _ (t : Turn) (turn : TurnAt s (w .a) (w .m) (w .b) (w .n) l e r t) where
+  module _ {t : Turn} (turn : TurnAt s (w .a) (w .m) (w .b) (w .n) l e r t) where
     -- what a turn takes, and how many members are left
     step-took : (t .from ≤ t .end) × (t .end ≤ w .to) × (t .end - t .from ≤ 256) × (t .m + t .n < w .m + w .n)
     step-took =
-        by-fronts s (h .top) (w .a) (w .m) (w .b) (w .n)
-        (λ _ _. (t .from ≤ t .end) × (t .end ≤ w .to) × (t .end - t .from ≤ 256) × (t .m + t .n < w .m + w .n))
+        by-fronts (λ _ _. (t .from ≤ t .end) × (t .end ≤ w .to) × (t .end - t .from ≤ 256) × (t .m + t .n < w .m + w .n))
         (λ v vs x xs f g. let d = turn (h .top) v vs x xs f g in (
           omega (arith, d .ends),
           omega (arith, d .ends, d .value .below, h .merging .built .ends),
           omega (arith, d .ends, d .value .light),
           omega (arith, turn-fewer s (h .top) l e r (order v x) v vs x xs t d, f .counted, g .counted),
-        )) (h .merging .left) (h .merging .right) (h .merging .onLeft) (h .merging .onRight) (h .moreLeft) (h .moreRight)
+        )) (h .merging .onLeft) (h .merging .onRight) (h .moreLeft) (h .moreRight)
 
     pub step-put : PutPre s (t .from) (t .end) 1 (outOf w)
     step-put = record {
@@ -140,32 +132,30 @@ module _ (l e r : Bool) (s : List ℕ) (w : Walk) (h : StepPre l e r s w) where
       few = omega (arith, h .near, h .merging .built .ends, h .merging .built .counted, count-weights (values (h .merging .done)));
     }
 
-    pub step-returns : (s′ : List ℕ) (o : Out) → Put (t .keep) s (t .from) (t .end) 1 (outOf w) s′ o → Stepped l e r s w s′ (after t o)
-    step-returns s′ o p = record {
+    pub step-returns : {s′ : List ℕ} {o : Out} → Put (t .keep) s (t .from) (t .end) 1 (outOf w) s′ o → Stepped l e r s w s′ (after t o)
+    step-returns p = record {
       frame = p .frame;
       near = omega (arith, p .near, step-took .2);
       fewer = step-took .3;
-      on = λ top whole m. step-on l e r s s′ w t o turn p top whole m (h .moreLeft) (h .moreRight);
+      on = λ top whole m. step-on turn p m (h .moreLeft) (h .moreRight);
     }
 
 -- `finish`
 
 -- A set's cell before its members.
-set-stands : (s : List ℕ) (top n to : ℕ) (zs : List Value) → Built s top to n zs → top < length s → ValueAt (setAt s top (21474836480 + n)) top (setOf zs)
+set-stands : {s : List ℕ} {top n to : ℕ} {zs : List Value} → Built s top to n zs → top < length s → ValueAt (setAt s top (21474836480 + n)) top (setOf zs)
 unfolding code
-set-stands s top n to zs b l = record {
-  inside = omega (arith, length-set s top (21474836480 + n), b .stands .inside);
-  cells = λ i p. at i p;
-}
-  where
-    at : (i : ℕ) → i < suc (length (codes (values zs))) →
-        getD (setAt s top (21474836480 + n)) (top + i) 0 ≡ getD ((5 * cellSize + count (values zs)) ∷ codes (values zs)) i 0
-    at zero p =
-        ap (λ (j : ℕ). getD (setAt s top (21474836480 + n)) j 0) (let z : top + 0 ≡ top = omega arith in z)
-        ∙ getD-set-same s top (21474836480 + n) 0 l ∙ omega (arith, b .counted)
-    at (suc i) p =
-        getD-set-other s top (top + suc i) (21474836480 + n) 0 (λ z. omega arith)
-        ∙ ap (λ (j : ℕ). getD s j 0) (let z : top + suc i ≡ top + 1 + i = omega arith in z) ∙ b .stands .cells i (omega arith)
+set-stands {s} {top} {n} {to} {zs} b l =
+    let x = 21474836480 + n in
+    stands-append (setAt s top x) top ((21474836480 + count (values zs)) ∷ []) (codes (values zs)) (record {
+      inside = omega (arith, length-set s top x);
+      cells = λ i p. let e : i ≡ 0 = omega arith in
+          let d : top + i ≡ top = omega arith in
+          rw (d, e) (getD-set-same s top x 0 l ∙ omega (arith, b .counted));
+    }) (record {
+      inside = omega (arith, length-set s top x, b .stands .inside);
+      cells = λ i p. getD-set-other s top (top + 1 + i) x 0 (λ z. omega arith) ∙ b .stands .cells i p;
+    })
 
 -- What has been built is part of the whole.
 whole-weighs : (l e r : Bool) (s : List ℕ) (top : ℕ) (w : Walk) (whole : List Value) → Merging l e r s top w whole → w .to ≤ top + weight (setOf whole)
@@ -223,25 +213,23 @@ module _ {l r : Bool} {s : List ℕ} {w : Walk} {top : ℕ} {cells : Bool} (p : 
   right-over k = elim (p .over) [ inl z ↦ absurd (omega arith) | inr y ↦ elim y [ inl z ↦ z | inr z ↦ absurd (omega arith) ] ]
 
   rested : (e : Bool) (whole : List Value) (h : Merging l e r s top w whole) → Rested s top w q (h .done) whole
-  rested e whole h = go rest
+  rested e whole h = elim rest [
+    | inl x ↦
+        let z = no-front (λ vs. members vs ≡ []) refl (h .onRight) (omega (arith, right-over (x .0))) in
+        kept l (x .1) (h .onLeft) (λ c. c .0) (h .all ∙ rw (z, merged-nil l e r (members (h .left))))
+    | inr x ↦
+        let z = no-front (λ vs. members vs ≡ []) refl (h .onLeft) (omega (arith, x .0)) in
+        kept r (x .1) (h .onRight) (λ c. c .1) (h .all ∙ rw (z, merged-none l e r (members (h .right))))
+  ]
     where
-      go : RestOf w l r q → Rested s top w q (h .done) whole
-      go (inl x) =
-          let z = no-front s top (w .b) (w .n) (λ vs. members vs ≡ []) refl (h .right) (h .onRight) (omega (arith, right-over (x .0))) in
-          subst (λ (z : Rest). Rested s top w z (h .done) whole) (sym (x .1)) (record {
-            rest = cond l (h .left) none;
-            front = front-if l (h .onLeft);
-            all = h .all ∙ rw (z, merged-nil l e r (members (h .left)), members-if l (h .left));
-            thin = λ c. cells-if l (c .0);
-          })
-      go (inr x) =
-          let z = no-front s top (w .a) (w .m) (λ vs. members vs ≡ []) refl (h .left) (h .onLeft) (omega (arith, x .0)) in
-          subst (λ (z : Rest). Rested s top w z (h .done) whole) (sym (x .1)) (record {
-            rest = cond r (h .right) none;
-            front = front-if r (h .onRight);
-            all = h .all ∙ rw (z, merged-none l e r (members (h .right)), members-if r (h .right));
-            thin = λ c. cells-if r (c .1);
-          })
+      kept : (k : Bool) {at n : ℕ} {vs : Values} → q ≡ record { at = at; n = cond k n 0 } → Front s top at n vs →
+          (Cells s (w .a) (w .m) × Cells s (w .b) (w .n) → Cells s at n) → whole ≡ h .done ++ cond k (members vs) [] → Rested s top w q (h .done) whole
+      kept k {vs = vs} d f c x = subst (λ (z : Rest). Rested s top w z (h .done) whole) (sym d) (record {
+        rest = cond k vs none;
+        front = front-if k f;
+        all = x ∙ rw (members-if k vs);
+        thin = λ y. cells-if k (c y);
+      })
 
   some-rest : Rested s top w q (p .merging .done) (p .whole)
   some-rest = rested (p .both) (p .whole) (p .merging)
@@ -291,34 +279,26 @@ module _ {l r : Bool} {s : List ℕ} {w : Walk} {top : ℕ} {cells : Bool} (p : 
               same = λ i k. getD-set-other s′ top i (21474836480 + o .count) 0 (λ z. omega arith) ∙ end-frame e whole h .same i k;
               kept = length-set s′ top (21474836480 + o .count) ∙ put .frame .kept;
             };
-            light = λ k. (omega (arith, b .ends), set-stands s′ top (o .count) (o .to) whole b (omega (arith, p .room, put .frame .kept)));
+            light = λ k. (omega (arith, b .ends), set-stands b (omega (arith, p .room, put .frame .kept)));
             heavy = λ k. absurd (omega (arith, b .ends));
           }
 
 -- `walk_merge` and `merge_cells`
 
-pub built-none : (s : List ℕ) (top : ℕ) → top + 514 ≤ length s → Built s top (top + 1) 0 []
+pub built-none : {s : List ℕ} {top : ℕ} → top + 514 ≤ length s → Built s top (top + 1) 0 []
 unfolding code
-built-none s top p = record { stands = record { inside = omega arith; cells = λ i p. absurd (omega arith) }; ends = omega arith; counted = refl }
+built-none p = record { stands = record { inside = omega arith; cells = λ i p. absurd (omega arith) }; ends = omega arith; counted = refl }
 
-pub walking-start : (l e r : Bool) (s : List ℕ) (a m b n top : ℕ) → top + 514 ≤ length s →
+pub walking-start : {l e r : Bool} {s : List ℕ} {a m b n top : ℕ} → top + 514 ≤ length s →
     Walking l e r s a m b n top s (record { a = a; m = m; b = b; n = n; to = top + 1; count = 0 })
-walking-start l e r s a m b n top p = record {
-  frame = same-refl top s;
-  on = λ vs ws f g. record {
-    left = vs;
-    right = ws;
-    done = [];
-    onLeft = f;
-    onRight = g;
-    built = built-none s top p;
-    all = refl;
-  };
+walking-start p = record {
+  frame = same-refl _ _;
+  on = λ vs ws f g. record { left = vs; right = ws; done = []; onLeft = f; onRight = g; built = built-none p; all = refl };
 }
 
-module _ (l e r : Bool) (s₀ : List ℕ) (a m b n top : ℕ) (s : List ℕ) (w : Walk) (h : Walking l e r s₀ a m b n top s w) where
-  pub walking-made : (s′ : List ℕ) (k : ℕ) → Ended l r s w top s′ k → RunsMerge l e r s₀ a m b n top s′ k
-  walking-made s′ k d vs ws f g =
+module _ {l e r : Bool} {s₀ : List ℕ} {a m b n top : ℕ} {s : List ℕ} {w : Walk} (h : Walking l e r s₀ a m b n top s w) where
+  pub walking-made : {s′ : List ℕ} {k : ℕ} → Ended l r s w top s′ k → RunsMerge l e r s₀ a m b n top s′ k
+  walking-made {s′} d vs ws f g =
       let x = d e (merged l e r (members vs) (members ws)) (h .on vs ws f g) in
       record { frame = same-trans top top s₀ s s′ (h .frame) (x .frame) (omega arith); light = x .light; heavy = x .heavy }
 
@@ -337,15 +317,15 @@ module _ (l e r : Bool) (s₀ : List ℕ) (a m b n top : ℕ) (s : List ℕ) (w 
       moreRight = j;
     }
 
-    pub walking-next : (s′ : List ℕ) (w′ : Walk) → Stepped l e r s w s′ w′ → Walking l e r s₀ a m b n top s′ w′
-    walking-next s′ w′ t = record {
+    pub walking-next : {s′ : List ℕ} {w′ : Walk} → Stepped l e r s w s′ w′ → Walking l e r s₀ a m b n top s′ w′
+    walking-next {s′} t = record {
       frame = same-trans top (w .to) s₀ s s′ (h .frame) (t .frame) (omega (arith, some-merging .built .ends));
       on = λ vs ws f g. t .on top (merged l e r (members vs) (members ws)) (h .on vs ws f g);
     }
 
-    pub walking-end : (cells : Bool) → (w .m ≡ 0) ⊎ ((w .n ≡ 0) ⊎ (top + 256 < w .to)) →
+    pub walking-end : {cells : Bool} → (w .m ≡ 0) ⊎ ((w .n ≡ 0) ⊎ (top + 256 < w .to)) →
         (cells ≡ true → Cells s (w .a) (w .m) × Cells s (w .b) (w .n)) → EndPre l r s w top cells
-    walking-end cells o c = record {
+    walking-end o c = record {
       both = e;
       whole = merged l e r (members (p .first)) (members (p .second));
       merging = some-merging;

@@ -4,9 +4,6 @@ pub mod PairLaws
 pub mod SearchLaws
 pub mod RowLaws
 pub mod TurnLaws
-pub mod CellLaws
 pub mod ImageLaws
-pub mod PairRows
 pub mod BuildLaws
 pub mod CellMerge
-pub mod OperationLaws

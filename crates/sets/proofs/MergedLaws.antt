@@ -1,14 +1,18 @@
--- Merging rising lists is union, intersection and difference.
+-- Merging rising lists is union, intersection and difference: those of the rules (`union-merged`, `inter-merged`, `diff-merged`).
 use Prim.Native.Nat.{Ordering, Ordering·lt, Ordering·eq, Ordering·gt}
 use mathlib.Core.Bool.{Bool, true, false, cond, not, _||_}
 use mathlib.Core.List.{List, [], _∷_, _++_}
 use mathlib.Core.Path.{_≡_, refl, sym, ap, _∙_, subst}
 use lib.Dec.{isEq}
-use Rattle.rules.specs.Values.{Value, order}
-use Rattle.rules.specs.Operations.{keptValue, insert, rising, isIn, keep}
+use Rattle.rules.specs.Values.{Value, order, set, Values, members}
+use Rattle.rules.specs.Operations.{keptValue, insert, rising, isIn, keep, setOf, twoValue}
 use Rattle.laws.proofs.OrderLaws.{Small, flip, order-refl, order-flip, order-eq, before-order, order-before, before-trans}
 use Rattle.laws.proofs.SetOrder.{All, Before, Rising, all-imp, kept-all}
-use Rattle.sets.specs.Merged.{turned, mergedFrom, merged}
+use Rattle.sets.specs.Merged.{turned, merged}
+use Rattle.rules.specs.Kinds.{union, inter, diff}
+use Rattle.rules.specs.Runs.{gives}
+use Rattle.arena.specs.Code.{FineSet}
+use Rattle.arena.proofs.FrontLaws.{rises-rising, fit-small}
 
 -- Of two values that are before one another one is greater.
 pub after-order : (v w : Value) → Before w v → order v w ≡ Ordering·gt
@@ -50,18 +54,13 @@ turned-all P l b r Ordering·lt v w x y z p q i j k = kept-all P l v x p i
 turned-all P l b r Ordering·eq v w x y z p q i j k = kept-all P b v y p j
 turned-all P l b r Ordering·gt v w x y z p q i j k = kept-all P r w z q k
 
-from-all : (P : Value → Type 0) (l b r : Bool) (v : Value) (vs : List Value) (f : List Value → List Value) →
-    ((ws : List Value) → All P ws → All P (f ws)) → All P (v ∷ vs) → (ws : List Value) → All P ws → All P (mergedFrom l b r v vs f ws)
-unfolding mergedFrom
-from-all P l b r v vs f g h [] k = cond-all P l (v ∷ vs) h
-from-all P l b r v vs f g h (w ∷ ws) k =
-    turned-all P l b r (order v w) v w (f (w ∷ ws)) (f ws) (mergedFrom l b r v vs f ws) (h .0) (k .0) (g (w ∷ ws) k) (g ws (k .1))
-    (from-all P l b r v vs f g h ws (k .1))
-
 pub merged-all : (P : Value → Type 0) (l b r : Bool) (vs ws : List Value) → All P vs → All P ws → All P (merged l b r vs ws)
 unfolding merged
 merged-all P l b r [] ws h k = cond-all P r ws k
-merged-all P l b r (v ∷ vs) ws h k = from-all P l b r v vs (λ zs. merged l b r vs zs) (λ zs j. merged-all P l b r vs zs (h .1) j) h ws k
+merged-all P l b r (v ∷ vs) [] h k = cond-all P l (v ∷ vs) h
+merged-all P l b r (v ∷ vs) (w ∷ ws) h k =
+    turned-all P l b r (order v w) v w (merged l b r vs (w ∷ ws)) (merged l b r vs ws) (merged l b r (v ∷ vs) ws) (h .0) (k .0)
+    (merged-all P l b r vs (w ∷ ws) (h .1) k) (merged-all P l b r vs ws (h .1) (k .1)) (merged-all P l b r (v ∷ vs) ws h (k .1))
 
 -- Union.
 
@@ -169,23 +168,33 @@ unfolding keep merged
 merged-filter l b [] ws h k s t = refl
 merged-filter l b (v ∷ vs) ws h k s t = filter-from l b v vs h (s .0) (λ zs j m. merged-filter l b vs zs (h .1) j (s .1) m) ws k t
 
-keep-ext : (p q : Value → Bool) → ((x : Value) → p x ≡ q x) → (vs : List Value) → keep p vs ≡ keep q vs
+keep-as : (f g : Bool → Bool) → ((b : Bool) → f b ≡ g b) → (p : Value → Bool) (vs : List Value) → keep (λ x. f (p x)) vs ≡ keep (λ x. g (p x)) vs
 unfolding keep
-keep-ext p q e [] = refl
-keep-ext p q e (v ∷ vs) = rw (e v, keep-ext p q e vs)
+keep-as f g e p [] = refl
+keep-as f g e p (v ∷ vs) = rw (e (p v), keep-as f g e p vs)
 
-cond-id : (b : Bool) → cond b true false ≡ b
-cond-id true = refl
-cond-id false = refl
+-- The operations of the rules on two sets.
+module _ (vs ws : Values) (f : FineSet vs) (g : FineSet ws) where
+  of-sets : (P : List Value → List Value → Type 0) →
+      ((xs ys : List Value) → Rising xs → Rising ys → All Small xs → All Small ys → P xs ys) → P (members vs) (members ws)
+  of-sets P h = h _ _ (rises-rising vs (f .rises)) (rises-rising ws (g .rises)) (fit-small vs (f .fits .1)) (fit-small ws (g .fits .1))
 
-cond-not : (b : Bool) → cond b false true ≡ not b
-cond-not true = refl
-cond-not false = refl
+  pub union-merged : twoValue union (set vs) (set ws) ≡ gives (setOf (merged true true true (members vs) (members ws)))
+  unfolding twoValue
+  union-merged = rw (of-sets (λ xs ys. merged true true true xs ys ≡ rising (xs ++ ys)) merged-union)
 
-pub merged-inter : (vs ws : List Value) → Rising vs → Rising ws → All Small vs → All Small ws → merged false true false vs ws ≡ keep (λ x. isIn x ws) vs
-merged-inter vs ws h k s t =
-    merged-filter false true vs ws h k s t ∙ keep-ext (λ x. cond (isIn x ws) true false) (λ x. isIn x ws) (λ x. cond-id (isIn x ws)) vs
+  pub inter-merged : twoValue inter (set vs) (set ws) ≡ gives (setOf (merged false true false (members vs) (members ws)))
+  unfolding twoValue
+  inter-merged =
+      rw (
+        of-sets (λ xs ys. merged false true false xs ys ≡ filtered false true ys xs) (merged-filter false true),
+        keep-as (λ b. cond b true false) (λ b. b) (λ b. elim b [ true ↦ refl | false ↦ refl ]) (λ x. isIn x (members ws)) (members vs),
+      )
 
-pub merged-diff : (vs ws : List Value) → Rising vs → Rising ws → All Small vs → All Small ws → merged true false false vs ws ≡ keep (λ x. not (isIn x ws)) vs
-merged-diff vs ws h k s t =
-    merged-filter true false vs ws h k s t ∙ keep-ext (λ x. cond (isIn x ws) false true) (λ x. not (isIn x ws)) (λ x. cond-not (isIn x ws)) vs
+  pub diff-merged : twoValue diff (set vs) (set ws) ≡ gives (setOf (merged true false false (members vs) (members ws)))
+  unfolding twoValue
+  diff-merged =
+      rw (
+        of-sets (λ xs ys. merged true false false xs ys ≡ filtered true false ys xs) (merged-filter true false),
+        keep-as (λ b. cond b false true) not (λ b. elim b [ true ↦ refl | false ↦ refl ]) (λ x. isIn x (members ws)) (members vs),
+      )

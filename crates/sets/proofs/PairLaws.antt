@@ -1,6 +1,5 @@
 -- Pairs that rise. A pair whose first part is new has a first part less than all that follow (`new-less`); so neighbours tell whether a
 -- set of pairs is a function (`firsts-right`), and a function gives the second part of any pair whose first part is e (`applied-found`).
-use Prim.Native.Nat.{Ordering·lt, Ordering·eq}
 use mathlib.Core.Bool.{Bool, true, false, cond}
 use mathlib.Core.List.{List, [], _∷_}
 use mathlib.Core.Logic.{_↔_, _⊎_, inl, inr}
@@ -18,21 +17,25 @@ use Rattle.arena.specs.Code.{IsPair, AllPairs}
 use Rattle.sets.specs.Fronts.{keyOf}
 use Rattle.sets.specs.Pairs.{newFirst, newFirsts}
 
+-- What holds of pairs holds of a value that is one.
+pub on-pair : (P : Value → Type 0) → ((a b : Value) → P (pair a b)) → (w : Value) → IsPair w → P w
+on-pair P f (scalar x) h = absurd h
+on-pair P f (set x) h = absurd h
+on-pair P f (pair a b) h = f a b
+
 -- A small pair.
 abbrev pub SmallPair : Value → Type 0
 SmallPair x = IsPair x × Small x
 
 -- The first parts of pairs that rise do not fall.
 first-parts : (x y : Value) → SmallPair x → SmallPair y → Before x y → Before (left x) (left y) ⊎ (left x ≡ left y)
-first-parts (scalar s) y p q h = absurd (p .0)
-first-parts (pair a b) (scalar s) p q h = absurd (q .0)
-first-parts (pair a b) (pair c d) p q h = go (then-lt (order a c) (order b d) (sym (order-pair a b c d) ∙ before-order (pair a b) (pair c d) h))
-  where
-    go : (order a c ≡ Ordering·lt) ⊎ ((order a c ≡ Ordering·eq) × (order b d ≡ Ordering·lt)) → Before a c ⊎ (a ≡ c)
-    go (inl e) = inl (order-before a c e)
-    go (inr e) = inr (order-eq a c (p .1 .0) (q .1 .0) (e .0))
-first-parts (pair a b) (set s) p q h = absurd (q .0)
-first-parts (set s) y p q h = absurd (p .0)
+first-parts x y p q =
+    on-pair (λ x. Small x → Before x y → Before (left x) (left y) ⊎ (left x ≡ left y))
+    (λ a b k. on-pair (λ y. Small y → Before (pair a b) y → Before a (left y) ⊎ (a ≡ left y))
+    (λ c d l h. elim (then-lt (order a c) (order b d) (sym (order-pair a b c d) ∙ before-order (pair a b) (pair c d) h)) [
+      | inl e ↦ inl (order-before a c e)
+      | inr e ↦ inr (order-eq a c (k .0) (l .0) (e .0))
+    ]) y (q .0) (q .1)) x (p .0) (p .1)
 
 -- What is asked of a member so that its key can be held against a value: of a first part, that it is a small pair's.
 abbrev pub Keeps : Bool → Value → Type 0

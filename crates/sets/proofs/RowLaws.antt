@@ -30,28 +30,25 @@ pub record Halving (s : List ℕ) (at step n x from left : ℕ) : Type 0 where
   pub below : (i : ℕ) → i < from → getD s (at + step * i) 0 < x
   pub above : (i : ℕ) → from + left ≤ i → i < n → x ≤ getD s (at + step * i) 0
 
-pub halving-start : (s : List ℕ) (at step n x : ℕ) → Halving s at step n x 0 n
-halving-start s at step n x = record { few = omega arith; below = λ i l. absurd (omega arith); above = λ i k l. absurd (omega arith) }
+module _ {s : List ℕ} {at step n x : ℕ} where
+  pub halving-start : Halving s at step n x 0 n
+  halving-start = record { few = omega arith; below = λ i l. absurd (omega arith); above = λ i k l. absurd (omega arith) }
 
-module _ (s : List ℕ) (at step n x from left : ℕ) (h : Halving s at step n x from left) where
-  pub halving-end : left ≤ 0 → LowerBound s at step n x from
-  halving-end z = record { few = omega (arith, h .few); below = h .below; above = λ i k l. h .above i (omega arith) l }
+  module _ {from left : ℕ} (h : Halving s at step n x from left) where
+    pub halving-end : left ≤ 0 → LowerBound s at step n x from
+    halving-end z = record { few = omega (arith, h .few); below = h .below; above = λ i k l. h .above i (omega arith) l }
 
-  -- Cell m is below x, and so are those before it; or it is not, and neither are those behind it. k cells are left then.
-  module _ (row : Row s at step n) (m : ℕ) (inside : m < n) (k : ℕ) where
-    pub halving-up : m + 1 + k ≡ from + left → getD s (at + step * m) 0 < x → Halving s at step n x (m + 1) k
-    halving-up e l = record {
-      few = omega (arith, h .few);
-      below = λ i p. omega (arith, row .rises i m (omega arith) inside);
-      above = λ i p q. h .above i (omega arith) q;
-    }
+    -- Cell m is below x, and so are those before it; or it is not, and neither are those behind it. k cells are left then.
+    module _ (row : Row s at step n) {m : ℕ} (inside : m < n) {k : ℕ} where
+      pub halving-up : m + 1 + k ≡ from + left → getD s (at + step * m) 0 < x → Halving s at step n x (m + 1) k
+      halving-up e l = record {
+        few = omega (arith, h .few);
+        below = λ i p. omega (arith, row .rises i m (omega arith) inside);
+        above = λ i p q. h .above i (omega arith) q;
+      }
 
-    pub halving-down : from + k ≡ m → x ≤ getD s (at + step * m) 0 → Halving s at step n x from k
-    halving-down e l = record {
-      few = omega arith;
-      below = h .below;
-      above = λ i p q. omega (arith, row .rises m i (omega arith) q);
-    }
+      pub halving-down : from + k ≡ m → x ≤ getD s (at + step * m) 0 → Halving s at step n x from k
+      halving-down e l = record { few = omega arith; below = h .below; above = λ i p q. omega (arith, row .rises m i (omega arith) q) }
 
 -- `find`: x is not in the row where the first cell that is not below x is another.
 module _ {s : List ℕ} {at step n x : ℕ} where
@@ -102,75 +99,63 @@ one-each : (v : Value) (vs : Values) → AllWeigh 1 (v ▸ vs) → (weight v ≡
 one-each v vs h = h
 
 -- Members of one cell each, told by their weight or by their places.
-cells-of : (s : List ℕ) (top at n : ℕ) (vs : Values) → Front s top at n vs → AllWeigh 1 vs → Cells s at n
-cells-of s top at n vs f h = record {
+cells-of : {s : List ℕ} {top at n : ℕ} {vs : Values} → Front s top at n vs → AllWeigh 1 vs → Cells s at n
+cells-of {s} {top} {at} {n} {vs} f h = record {
   inside = omega (arith, f .stands .inside, length-codes vs, weights-even 1 vs h, f .counted);
   each = λ i l. subst (λ (j : ℕ). partsOf (getD s j 0) ≡ 0) (let e : at + 1 * i ≡ at + i = omega arith in e)
       (value-at s top at n 1 (AllWeigh 1) one-each (λ j. partsOf (getD s j 0) ≡ 0)
       (λ j m w ws g e. leaf-parts s j w (front-value s top j m w ws g) (g .fits .0) (e .0)) vs f h i l);
 }
 
-pub cells-next : (s : List ℕ) (at n m : ℕ) → Cells s at n → suc m ≡ n → Cells s (at + 1) m
-cells-next s at n m c e = record {
+pub cells-part : {s : List ℕ} {at n : ℕ} {i k : ℕ} → Cells s at n → at ≤ i → i + k ≤ at + n → Cells s i k
+cells-part {s} {at} {n} {i} {k} c l e = record {
   inside = omega (arith, c .inside);
-  each = λ i l. subst (λ (j : ℕ). partsOf (getD s j 0) ≡ 0) (let d : at + suc i ≡ at + 1 + i = omega arith in d) (c .each (suc i) (omega arith));
+  each = λ x p. subst (λ (j : ℕ). partsOf (getD s j 0) ≡ 0) (let d : at + (i - at + x) ≡ i + x = omega arith in d) (c .each (i - at + x) (omega arith));
 }
 
-pub cells-later : (s : List ℕ) (at n p : ℕ) → Cells s at n → p ≤ n → Cells s (at + p) (n - p)
-cells-later s at n p c e = record {
-  inside = omega (arith, c .inside);
-  each = λ i l. subst (λ (j : ℕ). partsOf (getD s j 0) ≡ 0) (let d : at + (p + i) ≡ at + p + i = omega arith in d) (c .each (p + i) (omega arith));
-}
+pub cells-first : {s : List ℕ} {at n : ℕ} → Cells s at n → 0 < n → EndsAt s at (at + 1)
+cells-first {s} {at} c l = leaf-ends s at (subst (λ (j : ℕ). partsOf (getD s j 0) ≡ 0) (let d : at + 0 ≡ at = omega arith in d) (c .each 0 l))
 
-pub cells-first : (s : List ℕ) (at n : ℕ) → Cells s at n → 0 < n → EndsAt s at (at + 1)
-cells-first s at n c l = leaf-ends s at (subst (λ (j : ℕ). partsOf (getD s j 0) ≡ 0) (let d : at + 0 ≡ at = omega arith in d) (c .each 0 l))
-
-pub cells-frame : (k : ℕ) (s s′ : List ℕ) (at n : ℕ) → Same k s s′ → at + n ≤ k → Cells s at n → Cells s′ at n
-cells-frame k s s′ at n f l c = record {
+pub cells-frame : {k : ℕ} {s s′ : List ℕ} {at n : ℕ} → Same k s s′ → at + n ≤ k → Cells s at n → Cells s′ at n
+cells-frame {at = at} f l c = record {
   inside = omega (arith, c .inside, f .kept);
   each = λ i p. ap partsOf (f .same (at + i) (omega arith)) ∙ c .each i p;
 }
 
-pub cells-weigh : (s : List ℕ) (top at n : ℕ) (vs : Values) → Front s top at n vs → Cells s at n → AllWeigh 1 vs
-cells-weigh s top at n none f c = tt
-cells-weigh s top at n (v ▸ vs) f c =
-    let e : weight v ≡ 1 = omega (arith, cells-first s at n c (omega (arith, f .counted)) v (front-value s top at n v vs f) (f .fits .0)) in (
-      e,
-      cells-weigh s top (at + 1) (n - 1) vs (front-next s top at n v vs f (at + 1) (n - 1) (omega arith) (omega (arith, f .counted)))
-          (cells-next s at n (n - 1) c (omega (arith, f .counted))),
-    )
+pub cells-weigh : {s : List ℕ} {top at n : ℕ} {vs : Values} → Front s top at n vs → Cells s at n → AllWeigh 1 vs
+cells-weigh {vs = none} f c = tt
+cells-weigh {s} {top} {at} {n} {vs = v ▸ vs} f c =
+    let e : weight v ≡ 1 = omega (arith, cells-first c (omega (arith, f .counted)) v (front-value s top at n v vs f) (f .fits .0)) in
+    let g = front-next s top at n v vs f (at + 1) (n - 1) (omega arith) (omega (arith, f .counted)) in
+    (e, cells-weigh g (cells-part c (omega arith) (omega (arith, f .counted))))
 
-pub cells-end : (s : List ℕ) (at n : ℕ) → Cells s at n → RunEnds s at n (at + n)
-cells-end s at n c top vs f = omega (arith, weights-even 1 vs (cells-weigh s top at n vs f c), f .counted)
+pub cells-end : {s : List ℕ} {at n : ℕ} → Cells s at n → RunEnds s at n (at + n)
+cells-end c top vs f = omega (arith, weights-even 1 vs (cells-weigh f c), f .counted)
 
 -- The first member's cell tells that all members are one cell each.
-module _ (s : List ℕ) (top a : ℕ) (vs : Values) (h : SetBelow s top a vs) where
-  abbrev listed : ℕ
-  listed = getD s a 0 % 4294967296
+module _ {s : List ℕ} {top a : ℕ} {vs : Values} (h : SetBelow s top a vs) where
+  listing : Front s top (a + 1) (getD s a 0 % 4294967296) vs
+  listing = front-start s top a vs h (getD s a 0 % 4294967296) refl
 
-  pub flat-cells : getD s (a + 1) 0 < 4 * cellSize → Cells s (a + 1) listed
-  flat-cells l = go vs (front-start s top a vs h listed refl) (h .fine .even)
+  pub flat-cells : getD s (a + 1) 0 < 4 * cellSize → Cells s (a + 1) (getD s a 0 % 4294967296)
+  flat-cells l = go vs listing (h .fine .even)
     where
-      go : (ws : Values) → Front s top (a + 1) listed ws → EvenSet ws → Cells s (a + 1) listed
-      go none f e = cells-of s top (a + 1) listed none f tt
+      go : (ws : Values) → Front s top (a + 1) (getD s a 0 % 4294967296) ws → EvenSet ws → Cells s (a + 1) (getD s a 0 % 4294967296)
+      go none f e = cells-of f tt
       go (v ▸ ws) f e =
-          let q = scalar-one v (scalar-cell s (a + 1) v (front-value s top (a + 1) listed v ws f) (f .fits .0) l) in
-          cells-of s top (a + 1) listed (v ▸ ws) f (q .0, subst (λ (k : ℕ). AllWeigh k ws) (q .0) (e (q .1)))
+          let q = scalar-one v (scalar-cell s (a + 1) v (front-value s top (a + 1) _ v ws f) (f .fits .0) l) in
+          cells-of f (q .0, subst (λ (k : ℕ). AllWeigh k ws) (q .0) (e (q .1)))
 
-  pub no-cells : listed ≡ 0 → Cells s (a + 1) listed
+  pub no-cells : getD s a 0 % 4294967296 ≡ 0 → Cells s (a + 1) (getD s a 0 % 4294967296)
   no-cells e = record { inside = omega (arith, set-inside s top a vs h); each = λ i l. absurd (omega arith) }
 
   -- there is a cell behind the set's own
-  pub first-inside : (listed ≡ 0 → ⊥) → a + 1 < length s
-  first-inside e =
-      let f = front-start s top a vs h listed refl in
-      omega (arith, f .stands .inside, length-codes vs, f .counted, count-weights vs)
+  pub first-inside : (getD s a 0 % 4294967296 ≡ 0 → ⊥) → a + 1 < length s
+  first-inside e = let f = listing in omega (arith, f .stands .inside, length-codes vs, f .counted, count-weights vs)
 
   -- where the set ends, if they are
-  pub cells-ends : Cells s (a + 1) listed → EndsAt s a (a + 1 + listed)
-  cells-ends c =
-      subst (EndsAt s a) (omega (arith, cells-end s (a + 1) listed c top vs (front-start s top a vs h listed refl)))
-      (ends-at s a (set vs) (h .stands) (h .fine .fits))
+  pub cells-ends : Cells s (a + 1) (getD s a 0 % 4294967296) → EndsAt s a (a + 1 + getD s a 0 % 4294967296)
+  cells-ends c = subst (EndsAt s a) (omega (arith, cells-end c top vs listing)) (ends-at s a (set vs) (h .stands) (h .fine .fits))
 
 -- A cell that is not below that of the empty set is a set's.
 pub fine-set : (s : List ℕ) (at : ℕ) → SomeFine s at → 5 * cellSize ≤ getD s at 0 → SomeSet s (length s) at
@@ -184,11 +169,11 @@ fine-set s at h l = go (h .0) (h .1) (h .2)
     go (set vs) b f = (vs, record { stands = b .stands; below = b .below; fine = f })
 
 -- Members of one cell each make a row.
-pub cells-row : (s : List ℕ) (top at n : ℕ) (vs : Values) → Front s top at n vs → Cells s at n → Row s at 1 n
-cells-row s top at n vs f c = record {
+pub cells-row : {s : List ℕ} {top at n : ℕ} {vs : Values} → Front s top at n vs → Cells s at n → Row s at 1 n
+cells-row {s} {top} {at} {n} {vs} f c = record {
   inside = λ i l. omega (arith, c .inside);
   rises = climb (λ i. getD s (at + 1 * i) 0) n
-      (neighbours s top at n 1 (AllWeigh 1) one-each (λ i j. getD s i 0 ≤ getD s j 0) rise vs f (cells-weigh s top at n vs f c));
+      (neighbours s top at n 1 (AllWeigh 1) one-each (λ i j. getD s i 0 ≤ getD s j 0) rise vs f (cells-weigh f c));
 }
   where
     rise : (i m : ℕ) (v w : Value) (ws : Values) → Front s top i m (v ▸ w ▸ ws) → AllWeigh 1 (v ▸ w ▸ ws) → getD s i 0 ≤ getD s (i + 1) 0
@@ -223,21 +208,20 @@ cell-tells s a b v w h k p q one e =
     (cell-order s a b v w h k p q one ∙ ap (compare (getD s a 0)) e ∙ compare-refl (getD s a 0)))
 
 -- A value is a member where its cell is one of the members' cells.
-module _ (s : List ℕ) (e : ℕ) (v : Value) (value : ValueAt s e v) (fits : CellsFit v) (top at n : ℕ) (vs : Values) (f : Front s top at n vs)
-    (c : Cells s at n) where
+module _ {s : List ℕ} {e k : ℕ} {v : Value} (value : ValueBelow s k e v) {top at n : ℕ} {vs : Values} (f : Front s top at n vs) (c : Cells s at n) where
   among : (i : ℕ) → i < n → getD s (at + 1 * i) 0 ≡ getD s e 0 → In v (members vs)
   among =
       value-at s top at n 1 (λ ws. AllWeigh 1 ws × ((x : Value) → In x (members ws) → In x (members vs)))
       (λ w ws h. (h .0 .0, (h .0 .1, λ x j. h .1 x (inr j)))) (λ j. getD s j 0 ≡ getD s e 0 → In v (members vs))
-      (λ j m w ws g h z. h .1 v (inl (sym (cell-tells s e j v w value (front-value s top j m w ws g) fits (g .fits .0) (h .0 .0) z))))
-      vs f (cells-weigh s top at n vs f c, λ x j. j)
+      (λ j m w ws g h z. h .1 v (inl (sym (cell-tells s e j v w (value .stands) (front-value s top j m w ws g) (value .fits) (g .fits .0) (h .0 .0) z))))
+      vs f (cells-weigh f c, λ x j. j)
 
-  pub cell-in : (r : ℕ) → Found s at 1 n (getD s e 0) r → ltb r n ≡ isIn v (members vs)
-  cell-in r d =
-      let right = isIn-right v (members vs) (fits-small v fits) (fit-small vs (f .fits)) in
+  pub cell-in : {r : ℕ} → Found s at 1 n (getD s e 0) r → ltb r n ≡ isIn v (members vs)
+  cell-in {r} d =
+      let right = isIn-right v (members vs) (fits-small v (value .fits)) (fit-small vs (f .fits)) in
       bool-eq (ltb r n) (isIn v (members vs)) (λ t. let l = ltb→lt r n t in right .1 (among r l (d .here l))) λ t.
-      let x = place-of s top 1 (AllWeigh 1) one-each v at n vs f (cells-weigh s top at n vs f c) (right .0 t) in
+      let x = place-of s top 1 (AllWeigh 1) one-each v at n vs f (cells-weigh f c) (right .0 t) in
       elim (ℕ-discrete r n) [
-        | yes z ↦ absurd (d .lost z (x .0) (x .1) (same-cell s (at + 1 * x .0) e v (x .2) value))
+        | yes z ↦ absurd (d .lost z (x .0) (x .1) (same-cell s (at + 1 * x .0) e v (x .2) (value .stands)))
         | no z ↦ lt→ltb r n (omega (arith, d .few))
       ]

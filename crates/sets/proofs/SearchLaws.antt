@@ -21,22 +21,21 @@ use Rattle.arena.proofs.FrontLaws.{rises-rising, fit-small, front-value, front-
 use Rattle.sets.specs.Fronts.{keyOf, Keyed, Member, MemberOrNone}
 use Rattle.sets.proofs.PairLaws.{Keeps, pairs-small, less-all}
 
-module _ (s : List ℕ) (top at n : ℕ) (P : Values → Type 0) where
+module _ {s : List ℕ} {top at n : ℕ} (P : Values → Type 0) where
   -- What is shown of a first member and the rest is shown of members, if there are any; and what is shown of none, if there are none.
-  pub by-front : ((v : Value) (vs : Values) → Front s top at n (v ▸ vs) → P (v ▸ vs)) → (vs : Values) → Front s top at n vs → 0 < n → P vs
-  by-front h none f l = absurd (omega (arith, f .counted))
-  by-front h (v ▸ vs) f l = h v vs f
+  pub by-front : ((v : Value) (vs : Values) → Front s top at n (v ▸ vs) → P (v ▸ vs)) → {vs : Values} → Front s top at n vs → 0 < n → P vs
+  by-front h {vs = none} f l = absurd (omega (arith, f .counted))
+  by-front h {vs = v ▸ vs} f l = h v vs f
 
-  pub no-front : P none → (vs : Values) → Front s top at n vs → n ≤ 0 → P vs
-  no-front h none f l = h
-  no-front h (v ▸ vs) f l = absurd (omega (arith, f .counted))
+  pub no-front : P none → {vs : Values} → Front s top at n vs → n ≤ 0 → P vs
+  no-front h {vs = none} f l = h
+  no-front h {vs = v ▸ vs} f l = absurd (omega (arith, f .counted))
 
 -- The same of two runs of members.
-pub by-fronts : (s : List ℕ) (top a m b n : ℕ) (P : Values → Values → Type 0) →
+pub by-fronts : {s : List ℕ} {top a m b n : ℕ} (P : Values → Values → Type 0) →
     ((v : Value) (vs : Values) (w : Value) (ws : Values) → Front s top a m (v ▸ vs) → Front s top b n (w ▸ ws) → P (v ▸ vs) (w ▸ ws)) →
-    (vs ws : Values) → Front s top a m vs → Front s top b n ws → 0 < m → 0 < n → P vs ws
-by-fronts s top a m b n P h vs ws f g l k =
-    by-front s top a m (λ us. P us ws) (λ v us e. by-front s top b n (P (v ▸ us)) (λ w xs d. h v us w xs e d) ws g k) vs f l
+    {vs ws : Values} → Front s top a m vs → Front s top b n ws → 0 < m → 0 < n → P vs ws
+by-fronts P h {vs} {ws} f g l k = by-front (λ us. P us ws) (λ v us e. by-front (P (v ▸ us)) (λ w xs d. h v us w xs e d) g k) f l
 
 -- The key of a member that stands.
 pub key-stands : (first : Bool) (s : List ℕ) (i : ℕ) (w : Value) (ws : Values) → Keyed first (w ▸ ws) → ValueAt s i w → CellsFit w →
@@ -71,33 +70,32 @@ pub record Seeking (s : List ℕ) (top at : ℕ) (first : Bool) (v : Value) (vs 
   pub behind : at ≤ i
   pub on : (r : ℕ) → MemberOrNone s top at first v (members rest) r → MemberOrNone s top at first v vs r
 
-pub seeking-start : (s : List ℕ) (top at n : ℕ) (first : Bool) (v : Value) (vs : Values) → Front s top at n vs → Keyed first vs →
+pub seeking-start : {s : List ℕ} {top at n : ℕ} {first : Bool} {v : Value} {vs : Values} → Front s top at n vs → Keyed first vs →
     Seeking s top at first v (members vs) at n
-seeking-start s top at n first v vs f k = record { rest = vs; front = f; keyed = k; behind = omega arith; on = λ r x. x }
+seeking-start {vs = vs} f k = record { rest = vs; front = f; keyed = k; behind = omega arith; on = λ r x. x }
 
-module _ (s : List ℕ) (top at : ℕ) (first : Bool) (v : Value) (vs : List Value) (i left : ℕ) (h : Seeking s top at first v vs i left) where
+module _ {s : List ℕ} {top at : ℕ} {first : Bool} {v : Value} {vs : List Value} {i left : ℕ} (h : Seeking s top at first v vs i left) where
   pub seeking-at : 0 < left → SomeAt s i
   seeking-at l = front-some s top i left (h .rest) (h .front) l
 
   pub seeking-key : 0 < left → SomeAt s (i + boolByte first)
   seeking-key l =
-      by-front s top i left (λ ws. Keyed first ws → SomeAt s (i + boolByte first))
+      by-front (λ ws. Keyed first ws → SomeAt s (i + boolByte first))
       (λ w ws f k. let x = key-stands first s i w ws k (front-value s top i left w ws f) (f .fits .0) in
-      record { value = keyOf first w; stands = x .0; fits = x .1 }) (h .rest) (h .front) l (h .keyed)
+      record { value = keyOf first w; stands = x .0; fits = x .1 }) (h .front) l (h .keyed)
 
   pub seeking-end : left ≤ 0 → MemberOrNone s top at first v vs 0
-  seeking-end l =
-      h .on 0 (no-front s top i left (λ ws. MemberOrNone s top at first v (members ws) 0) (inr (refl, tt)) (h .rest) (h .front) l)
+  seeking-end l = h .on 0 (no-front (λ ws. MemberOrNone s top at first v (members ws) 0) (inr (refl, tt)) (h .front) l)
 
-  module _ (e c : ℕ) (value : ValueBelow s (length s) e v) (compared : Compared s e (i + boolByte first) c) (l : 0 < left) where
+  module _ {e c : ℕ} (value : ValueBelow s (length s) e v) (compared : Compared s e (i + boolByte first) c) (l : 0 < left) where
     -- A turn, by the first of the members that are left and the order of v and its key.
     by-key : (P : Values → Type 0) →
         ((w : Value) (ws : Values) → Front s top i left (w ▸ ws) → Keyed first (w ▸ ws) → c ≡ orderCode (order v (keyOf first w)) →
         CellsFit (keyOf first w) → P (w ▸ ws)) → P (h .rest)
     by-key P k =
-        by-front s top i left (λ ws. Keyed first ws → P ws)
+        by-front (λ ws. Keyed first ws → P ws)
         (λ w ws f q. let x = key-stands first s i w ws q (front-value s top i left w ws f) (f .fits .0) in
-        k w ws f q (compared v (keyOf first w) (value .stands) (x .0) (value .fits) (x .1)) (x .1)) (h .rest) (h .front) l (h .keyed)
+        k w ws f q (compared v (keyOf first w) (value .stands) (x .0) (value .fits) (x .1)) (x .1)) (h .front) l (h .keyed)
 
     pub seeking-found : c ≡ 1 → MemberOrNone s top at first v vs i
     seeking-found z = h .on i (by-key (λ ws. MemberOrNone s top at first v (members ws) i) λ w ws f q o x.
@@ -113,8 +111,8 @@ module _ (s : List ℕ) (top at : ℕ) (first : Bool) (v : Value) (vs : List Val
     seeking-past z = h .on 0 (by-key (λ ws. MemberOrNone s top at first v (members ws) 0) λ w ws f q o x.
         inr (refl, keys-past s top i left first v w ws f q (order-before v (keyOf first w) (code-less (order v (keyOf first w)) c o z))))
 
-    pub seeking-next : (c ≡ 1 → ⊥) → (r : ℕ) → EndsAt s i r → Seeking s top at first v vs r (left - 1)
-    seeking-next d r ends =
+    pub seeking-next : (c ≡ 1 → ⊥) → {r : ℕ} → EndsAt s i r → Seeking s top at first v vs r (left - 1)
+    seeking-next d {r} ends =
         by-key (λ ws. ((r : ℕ) → MemberOrNone s top at first v (members ws) r → MemberOrNone s top at first v vs r) → Seeking s top at first v vs r (left - 1))
         (λ w ws f q o x on. let y : r ≡ i + weight w = ends w (front-value s top i left w ws f) (f .fits .0) in
         record {
@@ -140,12 +138,12 @@ module _ {s : List ℕ} {top at : ℕ} {first : Bool} {v : Value} {vs : List Val
   sought-none (inl m) l = absurd (omega (arith, m .behind))
   sought-none (inr n) l = n .1
 
-pub sought-in : (s : List ℕ) (top at : ℕ) (v : Value) (vs : List Value) (r : ℕ) → MemberOrNone s top at false v vs r → 0 < at → Small v → All Small vs →
+pub sought-in : {s : List ℕ} {top at : ℕ} {v : Value} {vs : List Value} {r : ℕ} → MemberOrNone s top at false v vs r → 0 < at → Small v → All Small vs →
     ltb 0 r ≡ isIn v vs
-sought-in s top at v vs r (inl m) l p q =
+sought-in {v = v} {vs} {r} (inl m) l p q =
     bool-eq (ltb 0 r) (isIn v vs) (λ _. isIn-right v vs p q .1 (subst (λ (w : Value). In w vs) (m .key) (m .among)))
     (λ _. lt→ltb 0 r (omega (arith, m .behind)))
-sought-in s top at v vs r (inr n) l p q =
+sought-in {v = v} {vs} {r} (inr n) l p q =
     bool-eq (ltb 0 r) (isIn v vs) (λ t. absurd (omega (arith, n .0, ltb→lt 0 r t)))
     (λ t. absurd (all-in (λ w. w ≡ v → ⊥) v vs (n .1) (isIn-right v vs p q .0 t) refl))
 
@@ -161,10 +159,10 @@ module _ {s : List ℕ} {top i left e : ℕ} (h : Running s top i left e) where
 
   pub running-next : {r : ℕ} → 0 < left → EndsAt s i r → Running s top r (left - 1) e
   running-next {r} l ends =
-      by-front s top i left (λ ws. i + weights ws ≡ e → Running s top r (left - 1) e)
+      by-front (λ ws. i + weights ws ≡ e → Running s top r (left - 1) e)
       (λ w ws f q. let x : r ≡ i + weight w = ends w (front-value s top i left w ws f) (f .fits .0) in
       record { rest = ws; front = front-next s top i left w ws f r (left - 1) x (omega arith); ends = omega arith })
-      (h .rest) (h .front) l (h .ends)
+      (h .front) l (h .ends)
 
   pub running-end : left ≤ 0 → i ≡ e
-  running-end l = no-front s top i left (λ ws. i + weights ws ≡ e → i ≡ e) (λ q. omega arith) (h .rest) (h .front) l (h .ends)
+  running-end l = no-front (λ ws. i + weights ws ≡ e → i ≡ e) (λ q. omega arith) (h .front) l (h .ends)

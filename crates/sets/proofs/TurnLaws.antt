@@ -1,71 +1,65 @@
--- A turn of a walk over two sets.
-use Prim.Native.Nat.{ℕ, _+_, _-_, _≤_, _<_, Ordering, Ordering·lt, Ordering·eq, Ordering·gt}
+-- A turn of a walk over two sets, and inclusion, which takes such turns. Where the members are one cell each, a turn goes by the order of two cells as
+-- numbers.
+use Prim.Native.Nat.{ℕ, suc, _+_, _-_, _≤_, _<_, Ordering, Ordering·lt, Ordering·eq, Ordering·gt, _%_}
 use mathlib.Core.Bool.{Bool, true, false, cond}
 use mathlib.Core.List.{List, [], _∷_}
 use mathlib.Core.Path.{_≡_, refl, sym, ap, _∙_, subst}
 use native.Mathlib.Omega.{arith}
-use lib.ListN.{length}
-use Rattle.rules.specs.Values.{Value, Values, _▸_, members, count, weight, order}
-use Rattle.rules.specs.Operations.{allIn}
+use lib.ListN.{length, getD}
+use Rattle.rules.specs.Values.{Value, Values, _▸_, members, count, weight, order, none}
+use Rattle.rules.specs.Operations.{allIn, isIn}
 use Rattle.laws.proofs.OrderLaws.{flip, order-eq, order-flip, order-before}
 use Rattle.laws.proofs.SetOrder.{All, Before}
-use Rattle.arena.specs.Code.{CellsFit, orderCode, SomeAt, EndsAt, Compared, Rises, Front}
+use Rattle.arena.specs.Code.{CellsFit, orderCode, SomeAt, EndsAt, Compared, Rises, Front, AllFit, SetBelow}
 use Rattle.arena.proofs.CodeLaws.{fits-small}
-use Rattle.arena.proofs.FrontLaws.{rises-rising, front-value, front-below, front-next, front-at, code-less, code-equal, code-greater}
+use Rattle.arena.proofs.FrontLaws.{rises-rising, front-value, front-below, front-next, front-at, code-less, code-equal, code-greater, front-start}
 use Rattle.sets.specs.declared.Turn.{Turn}
-use Rattle.sets.specs.Fronts.{keepOf, restLeft, restRight, Turned, TurnAt, TwoFronts}
+use Rattle.sets.specs.Fronts.{keepOf, restLeft, restRight, Turned, TurnAt, TwoFronts, TwoRuns, Cells}
 use Rattle.sets.proofs.MergedLaws.{after-order, before-all, isIn-turn, isIn-before}
 use Rattle.sets.proofs.SearchLaws.{by-front, no-front, by-fronts}
+use lib.Dec.{ltb, eqb}
+use borrow.Author.Tests.{lt-ltb, le-ltb, eqb-true, eqb-false}
+use mir.Val.{boolByte}
+use Rattle.rules.proofs.Basics.{absurd01}
+use Rattle.arena.proofs.EvenLaws.{cell-less, cell-equal, cell-greater}
+use Rattle.sets.specs.Rows.{Found, TwoRows}
+use Rattle.sets.proofs.RowLaws.{cells-first, cells-part, cells-weigh, cell-in}
 
-module _ (s : List ℕ) (a m b n : ℕ) (l e r : Bool) (end c : ℕ) (ends : EndsAt s a end) (compared : Compared s a b c) where
-  -- what is known of both first members
-  module _ (top : ℕ) (v : Value) (vs : Values) (w : Value) (ws : Values) (f : Front s top a m (v ▸ vs)) (g : Front s top b n (w ▸ ws)) where
-    order-of : c ≡ orderCode (order v w)
-    order-of = compared v w (front-value s top a m v vs f) (front-value s top b n w ws g) (f .fits .0) (g .fits .0)
+-- Where the first member ends, and what is left behind it.
+member-end : {s : List ℕ} {top a m end : ℕ} {v : Value} {vs : Values} → EndsAt s a end → Front s top a m (v ▸ vs) → {m′ : ℕ} → suc m′ ≡ m →
+    (end ≡ a + weight v) × Front s top end m′ vs
+member-end {s} {top} {a} {m} {end} {v} {vs} ends f {m′} p =
+    let x = ends v (front-value s top a m v vs f) (f .fits .0) in (x, front-next s top a m v vs f end m′ x p)
 
-    left-end : end ≡ a + weight v
-    left-end = ends v (front-value s top a m v vs f) (f .fits .0)
+module _ {s : List ℕ} {a b c : ℕ} (compared : Compared s a b c) where
+  order-of : {top m n : ℕ} {v : Value} {vs : Values} {w : Value} {ws : Values} → Front s top a m (v ▸ vs) → Front s top b n (w ▸ ws) →
+      c ≡ orderCode (order v w)
+  order-of {top} {m} {n} {v} {vs} {w} {ws} f g =
+      compared v w (front-value s top a m v vs f) (front-value s top b n w ws g) (f .fits .0) (g .fits .0)
 
-    left-rest : Front s top end (m - 1) vs
-    left-rest = front-next s top a m v vs f end (m - 1) left-end (omega (arith, f .counted))
+  module _ {m n : ℕ} {l e r : Bool} {end : ℕ} (ends : EndsAt s a end) where
+    pub turn-less : c ≡ 0 → {m′ : ℕ} → suc m′ ≡ m → TurnAt s a m b n l e r (record { from = a; end = end; keep = l; a = end; m = m′; b = b; n = n })
+    turn-less z p top v vs w ws f g =
+        let x = member-end ends f p in
+        rw (code-less (order v w) c (order-of f g) z)
+        (record { keeps = refl; value = front-below s top a m v vs f; ends = x .0; onLeft = x .1; onRight = g })
 
-  pub turn-less : c ≡ 0 → TurnAt s a m b n l e r (record { from = a; end = end; keep = l; a = end; m = m - 1; b = b; n = n })
-  turn-less z top v vs w ws f g =
-      rw (code-less (order v w) c (order-of top v vs w ws f g) z) (record {
-        keeps = refl;
-        value = front-below s top a m v vs f;
-        ends = left-end top v vs w ws f g;
-        onLeft = left-rest top v vs w ws f g;
-        onRight = g;
-      })
+    module _ {end2 : ℕ} (ends2 : EndsAt s b end2) {n′ : ℕ} (q : suc n′ ≡ n) where
+      pub turn-equal : c ≡ 1 → {m′ : ℕ} → suc m′ ≡ m →
+          TurnAt s a m b n l e r (record { from = a; end = end; keep = e; a = end; m = m′; b = end2; n = n′ })
+      turn-equal z p top v vs w ws f g =
+          let x = member-end ends f p in
+          rw (code-equal (order v w) c (order-of f g) z)
+          (record { keeps = refl; value = front-below s top a m v vs f; ends = x .0; onLeft = x .1; onRight = member-end ends2 g q .1 })
 
-  module _ (end2 : ℕ) (ends2 : EndsAt s b end2) where
-    right-end : (top : ℕ) (w : Value) (ws : Values) → Front s top b n (w ▸ ws) → (end2 ≡ b + weight w) × Front s top end2 (n - 1) ws
-    right-end top w ws g =
-        let y = ends2 w (front-value s top b n w ws g) (g .fits .0) in (y, front-next s top b n w ws g end2 (n - 1) y (omega (arith, g .counted)))
-
-    pub turn-equal : c ≡ 1 → TurnAt s a m b n l e r (record { from = a; end = end; keep = e; a = end; m = m - 1; b = end2; n = n - 1 })
-    turn-equal z top v vs w ws f g =
-        rw (code-equal (order v w) c (order-of top v vs w ws f g) z) (record {
-          keeps = refl;
-          value = front-below s top a m v vs f;
-          ends = left-end top v vs w ws f g;
-          onLeft = left-rest top v vs w ws f g;
-          onRight = right-end top w ws g .1;
-        })
-
-    pub turn-greater : (c ≡ 0 → ⊥) → (c ≡ 1 → ⊥) → TurnAt s a m b n l e r (record { from = b; end = end2; keep = r; a = a; m = m; b = end2; n = n - 1 })
-    turn-greater p q top v vs w ws f g =
-        rw (code-greater (order v w) c (order-of top v vs w ws f g) q p) (record {
-          keeps = refl;
-          value = front-below s top b n w ws g;
-          ends = right-end top w ws g .0;
-          onLeft = f;
-          onRight = right-end top w ws g .1;
-        })
+      pub turn-greater : (c ≡ 0 → ⊥) → (c ≡ 1 → ⊥) → TurnAt s a m b n l e r (record { from = b; end = end2; keep = r; a = a; m = m; b = end2; n = n′ })
+      turn-greater x y top v vs w ws f g =
+          let d = member-end ends2 g q in
+          rw (code-greater (order v w) c (order-of f g) y x)
+          (record { keeps = refl; value = front-below s top b n w ws g; ends = d .0; onLeft = f; onRight = d .1 })
 
 -- Two sets that both have members left.
-module _ (s : List ℕ) (a m b n : ℕ) (h : TwoFronts s a m b n) where
+module _ {s : List ℕ} {a m b n : ℕ} (h : TwoFronts s a m b n) where
   pub two-left : SomeAt s a
   two-left = front-at s (h .top) a m (h .first) (h .rest) (h .onLeft)
 
@@ -75,10 +69,9 @@ module _ (s : List ℕ) (a m b n : ℕ) (h : TwoFronts s a m b n) where
   pub two-some : (0 < m) × (0 < n)
   two-some = (omega (arith, h .onLeft .counted), omega (arith, h .onRight .counted))
 
-pub two-fronts : (s : List ℕ) (top a m b n : ℕ) (vs ws : Values) → Front s top a m vs → Front s top b n ws → 0 < m → 0 < n → TwoFronts s a m b n
-two-fronts s top a m b n =
-    by-fronts s top a m b n (λ _ _. TwoFronts s a m b n)
-    (λ v vs w ws f g. record { top = top; first = v; rest = vs; first′ = w; rest′ = ws; onLeft = f; onRight = g })
+pub two-fronts : {s : List ℕ} {top a m b n : ℕ} {vs ws : Values} → Front s top a m vs → Front s top b n ws → 0 < m → 0 < n → TwoFronts s a m b n
+two-fronts {s} {top} {a} {m} {b} {n} =
+    by-fronts (λ _ _. TwoFronts s a m b n) (λ v vs w ws f g. record { top = top; first = v; rest = vs; first′ = w; rest′ = ws; onLeft = f; onRight = g })
 
 -- A turn takes a member.
 pub turn-fewer : (s : List ℕ) (top : ℕ) (l e r : Bool) (o : Ordering) (v : Value) (vs : Values) (w : Value) (ws : Values) (t : Turn) →
@@ -122,26 +115,24 @@ pub including-start : (s : List ℕ) (a m b n : ℕ) (vs ws : Values) → Front 
     Including s a m b n (allIn (members vs) (members ws))
 including-start s a m b n vs ws f g = record { left = vs; right = ws; onLeft = f; onRight = g; same = refl }
 
-module _ (s : List ℕ) (a m b n : ℕ) (whole : Bool) (h : Including s a m b n whole) where
+module _ {s : List ℕ} {a m b n : ℕ} {whole : Bool} (h : Including s a m b n whole) where
   pub including-end : m ≤ 0 → true ≡ whole
   unfolding allIn
-  including-end l =
-      no-front s (length s) a m (λ vs. whole ≡ allIn (members vs) (members (h .right)) → true ≡ whole) (λ q. sym q) (h .left) (h .onLeft) l (h .same)
+  including-end l = no-front (λ vs. whole ≡ allIn (members vs) (members (h .right)) → true ≡ whole) (λ q. sym q) (h .onLeft) l (h .same)
 
   pub including-short : 0 < m → n ≡ 0 → false ≡ whole
   unfolding allIn
   including-short l z =
-      by-front s (length s) a m (λ vs. whole ≡ allIn (members vs) (members (h .right)) → false ≡ whole)
-      (λ v vs f. no-front s (length s) b n (λ ws. whole ≡ allIn (v ∷ members vs) (members ws) → false ≡ whole) (λ q. sym q)
-      (h .right) (h .onRight) (omega arith)) (h .left) (h .onLeft) l (h .same)
+      by-front (λ vs. whole ≡ allIn (members vs) (members (h .right)) → false ≡ whole)
+      (λ v vs f. no-front (λ ws. whole ≡ allIn (v ∷ members vs) (members ws) → false ≡ whole) (λ q. sym q) (h .onRight) (omega arith)) (h .onLeft) l (h .same)
 
   pub including-two : 0 < m → (n ≡ 0 → ⊥) → TwoFronts s a m b n
-  including-two l z = two-fronts s (length s) a m b n (h .left) (h .right) (h .onLeft) (h .onRight) l (omega arith)
+  including-two l z = two-fronts (h .onLeft) (h .onRight) l (omega arith)
 
-  pub including-turn : 0 < m → (n ≡ 0 → ⊥) → (t : Turn) → TurnAt s a m b n false true true t →
+  pub including-turn : 0 < m → (n ≡ 0 → ⊥) → {t : Turn} → TurnAt s a m b n false true true t →
       (t .keep ≡ true → Including s (t .a) (t .m) (t .b) (t .n) whole × (t .m + t .n < m + n)) × (t .keep ≡ false → false ≡ whole)
-  including-turn l z t turn =
-      by-fronts s (length s) a m b n (λ vs ws. whole ≡ allIn (members vs) (members ws) →
+  including-turn l z {t} turn =
+      by-fronts (λ vs ws. whole ≡ allIn (members vs) (members ws) →
       (t .keep ≡ true → Including s (t .a) (t .m) (t .b) (t .n) whole × (t .m + t .n < m + n)) × (t .keep ≡ false → false ≡ whole))
       (λ v vs w ws f g q. let d = turn (length s) v vs w ws f g in
       let o = order v w in
@@ -157,4 +148,112 @@ module _ (s : List ℕ) (a m b n : ℕ) (whole : Bool) (h : Including s a m b n 
           omega (arith, turn-fewer s (length s) false true true o v vs w ws t d, f .counted, g .counted),
         ),
         λ x. sym (k ∙ rw (sym (d .keeps) ∙ x)),
-      )) (h .left) (h .right) (h .onLeft) (h .onRight) l (omega arith) (h .same)
+      )) (h .onLeft) (h .onRight) l (omega arith) (h .same)
+
+-- No more members than in the set that includes them.
+few-in : (vs ws : Values) → Rises vs → Rises ws → AllFit vs → AllFit ws → allIn (members vs) (members ws) ≡ true → count vs ≤ count ws
+unfolding allIn
+few-in none ws p q f g h = omega arith
+few-in (v ▸ vs) none p q f g h = absurd (let z : _≡_ {A = ℕ} 0 1 = cc in omega arith)
+few-in (v ▸ vs) (w ▸ ws) p q f g h =
+    go (order v w) (sym (allIn-turn (order v w) v vs w ws refl p q (f .0) (g .0)) ∙ h) (few-in vs ws (p .1) (q .1) (f .1) (g .1))
+    (few-in (v ▸ vs) ws p (q .1) f (g .1))
+  where
+    go : (o : Ordering) → cond (keepOf false true true o) (allIn (members (restLeft o v vs)) (members (restRight o w ws))) false ≡ true →
+        (allIn (members vs) (members ws) ≡ true → count vs ≤ count ws) →
+        (allIn (v ∷ members vs) (members ws) ≡ true → count (v ▸ vs) ≤ count ws) → count (v ▸ vs) ≤ count (w ▸ ws)
+    go Ordering·lt e i j = absurd01 (cc e)
+    go Ordering·eq e i j = omega (arith, i e)
+    go Ordering·gt e i j = omega (arith, j e)
+
+module _ {s : List ℕ} {a m b n : ℕ} {whole : Bool} (h : Including s a m b n whole) where
+  pub including-fewer : n < m → false ≡ whole
+  including-fewer l = go whole refl
+    where
+      go : (c : Bool) → whole ≡ c → false ≡ c
+      go true e =
+          absurd (omega (
+            arith,
+            few-in (h .left) (h .right) (h .onLeft .rises) (h .onRight .rises) (h .onLeft .fits) (h .onRight .fits) (sym (h .same) ∙ e),
+            h .onLeft .counted,
+            h .onRight .counted,
+          ))
+      go false e = refl
+
+  -- A search for the first member.
+  module _ (l : 0 < m) (left : Cells s a m) (right : Cells s b n) {r : ℕ} (found : Found s b 1 n (getD s a 0) r) where
+    -- what is told by the first member's cell
+    first-in : (v : Value) (vs : Values) → Front s (length s) a m (v ▸ vs) → ltb r n ≡ isIn v (members (h .right))
+    first-in v vs f = cell-in (front-below s (length s) a m v vs f) (h .onRight) right found
+
+    pub including-sought : ((r ≡ n → ⊥) → Including s (a + 1) (m - 1) b n whole) × (r ≡ n → false ≡ whole)
+    unfolding allIn
+    including-sought =
+        by-front (λ vs. whole ≡ allIn (members vs) (members (h .right)) → ((r ≡ n → ⊥) → Including s (a + 1) (m - 1) b n whole) × (r ≡ n → false ≡ whole))
+        (λ v vs f q. (
+          λ z. record {
+            left = vs;
+            right = h .right;
+            onLeft = front-next s (length s) a m v vs f (a + 1) (m - 1) (omega (arith, cells-weigh f left .0)) (omega arith);
+            onRight = h .onRight;
+            same = q ∙ rw (← first-in v vs f, lt-ltb r n (omega (arith, found .few)));
+          },
+          λ z. sym (q ∙ rw (← first-in v vs f, le-ltb r n (omega arith))),
+        )) (h .onLeft) l (h .same)
+
+  -- A turn of the walk over both.
+  module _ (l : 0 < m) (k : 0 < n) (left : Cells s a m) (right : Cells s b n) where
+    ends : EndsAt s a (a + 1)
+    ends = cells-first left l
+
+    ends2 : EndsAt s b (b + 1)
+    ends2 = cells-first right k
+
+    pub including-less : getD s a 0 < getD s b 0 → false ≡ whole
+    including-less d =
+        including-turn h l (λ z. omega arith) (turn-less (cell-less s a b ends2 d) ends refl (let z : suc (m - 1) ≡ m = omega arith in z)) .1 refl
+
+    pub including-step : getD s b 0 ≤ getD s a 0 →
+        Including s (a + boolByte (eqb (getD s a 0) (getD s b 0))) (m - boolByte (eqb (getD s a 0) (getD s b 0))) (b + 1) (n - 1) whole
+    including-step d = go (eqb (getD s a 0) (getD s b 0)) refl
+      where
+        go : (e : Bool) → eqb (getD s a 0) (getD s b 0) ≡ e → Including s (a + boolByte e) (m - boolByte e) (b + 1) (n - 1) whole
+        go true e =
+            including-turn h l (λ z. omega arith)
+            (turn-equal (cell-equal s a b ends2 (eqb-true _ _ e)) ends ends2 (let z : suc (n - 1) ≡ n = omega arith in z) refl
+            (let z : suc (m - 1) ≡ m = omega arith in z)) .0 refl .0
+        go false e =
+            rw (let z : a + 0 ≡ a = omega arith in z, let z : m - 0 ≡ m = omega arith in z)
+            (including-turn h l (λ z. omega arith)
+            (turn-greater (cell-greater s a b ends2 (omega (arith, eqb-false (getD s a 0) (getD s b 0) e))) ends ends2
+            (let z : suc (n - 1) ≡ n = omega arith in z) (λ z. omega arith) (λ z. omega arith)) .0 refl .0)
+
+-- A walk over m cells from a on and n from b on: those that are left decide.
+pub record RowWalk (s : List ℕ) (a m b n i left j others : ℕ) : Type 0 where
+  pub cells : Cells s i left
+  pub otherCells : Cells s j others
+  pub on : (vs ws : Values) → Front s (length s) a m vs → Front s (length s) b n ws → Including s i left j others (allIn (members vs) (members ws))
+
+-- Two sets as runs of members, and as rows of cells.
+module _ {s : List ℕ} {top a b m n : ℕ} {vs ws : Values} (h : SetBelow s top a vs) (k : SetBelow s top b ws)
+    (d : m ≡ getD s a 0 % 4294967296) (e : n ≡ getD s b 0 % 4294967296) where
+  pub two-runs : TwoRuns s (a + 1) m (b + 1) n top
+  two-runs = record { first = vs; second = ws; onLeft = front-start s top a vs h m d; onRight = front-start s top b ws k n e }
+
+  pub two-rows : Cells s (a + 1) (getD s a 0 % 4294967296) → Cells s (b + 1) (getD s b 0 % 4294967296) → TwoRows s (a + 1) m (b + 1) n top
+  two-rows c c′ = record { runs = two-runs; left = subst (Cells s (a + 1)) (sym d) c; right = subst (Cells s (b + 1)) (sym e) c′ }
+
+pub row-start : {s : List ℕ} {a m b n top : ℕ} → TwoRows s a m b n top → RowWalk s a m b n a m b n
+row-start {s} {a} {m} {b} {n} h = record { cells = h .left; otherCells = h .right; on = including-start s a m b n }
+
+pub byte-small : (b : Bool) → boolByte b ≤ 1
+byte-small true = omega arith
+byte-small false = omega arith
+
+pub row-step : {s : List ℕ} {a m b n i left j others : ℕ} → RowWalk s a m b n i left j others → 0 < left → left ≤ others → getD s j 0 ≤ getD s i 0 →
+    RowWalk s a m b n (i + boolByte (eqb (getD s i 0) (getD s j 0))) (left - boolByte (eqb (getD s i 0) (getD s j 0))) (j + 1) (others - 1)
+row-step {s} {i = i} {j = j} w l k d = record {
+  cells = cells-part (w .cells) (omega arith) (omega (arith, byte-small (eqb (getD s i 0) (getD s j 0))));
+  otherCells = cells-part (w .otherCells) (omega arith) (omega arith);
+  on = λ vs ws f g. including-step (w .on vs ws f g) l (omega arith) (w .cells) (w .otherCells) d;
+}

@@ -9,7 +9,7 @@ use Rattle.rules.specs.Values.{Value, set, Values, members, weight, same}
 use Rattle.rules.specs.Runs.{Given, gives, lacks}
 use Rattle.rules.specs.Operations.{left, applied}
 use Rattle.sets.specs.Fronts.{MemberOrNone}
-use Rattle.arena.specs.Code.{AllWeigh, SetBelow, SomeValue, ValueBelow, Front, AllPairs}
+use Rattle.arena.specs.Code.{AllWeigh, SetBelow, ValueBelow, Front, AllPairs}
 
 -- The pair x does not share its first part with the next one.
 abbrev pub newFirst : Value → List Value → Bool

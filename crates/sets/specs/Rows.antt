@@ -1,6 +1,6 @@
 -- Rows of cells: sets whose members are one cell each. The search in a row is about numbers only.
-use Prim.Native.Nat.{ℕ, _+_, _*_, _%_, _≤_, _<_}
-use mathlib.Core.Bool.{Bool, true, false}
+use Prim.Native.Nat.{ℕ, _+_, _*_, _-_, _%_, _≤_, _<_}
+use mathlib.Core.Bool.{Bool, true}
 use mathlib.Core.List.{List}
 use mathlib.Core.Logic.{_⊎_}
 use mathlib.Core.Path.{_≡_}
@@ -75,18 +75,15 @@ pub record Ahead (s : List ℕ) (a m b n r : ℕ) : Type 0 where
   pub some : 0 < r → 0 < n
   pub less : (i : ℕ) → i < r → getD s (a + 1 * i) 0 < getD s b 0
 
--- A merge of m cells from a on and n from b on: `left` and `others` cells are left of them, `count` have been built.
+-- A merge of m cells from a on and n from b on that has come to i and j; `count` have been built.
 pub record RowMerge (l e r : Bool) (s₀ : List ℕ) (a m b n top : ℕ) (s : List ℕ) (i j to : ℕ) : Type 0 where
-  pub left : ℕ
-  pub others : ℕ
+  pub below : RowsBelow s₀ a m b n top
+  pub onLeft : (a ≤ i) × (i ≤ a + m)
+  pub onRight : (b ≤ j) × (j ≤ b + n)
   pub count : ℕ
-  pub leftIs : i + left ≡ a + m
-  pub othersIs : j + others ≡ b + n
   pub countIs : to ≡ top + 1 + count
-  pub few : count + (left + others) ≤ m + n
-  pub cells : Cells s i left
-  pub otherCells : Cells s j others
-  pub walking : Walking l e r s₀ a m b n top s (record { a = i; m = left; b = j; n = others; to = to; count = count })
+  pub few : count ≤ (i - a) + (j - b)
+  pub walking : Walking l e r s₀ a m b n top s (record { a = i; m = a + m - i; b = j; n = b + n - j; to = to; count = count })
 
 abbrev pub FrontsMerge : Bool → Bool → List ℕ → ℕ → ℕ → ℕ → ℕ → ℕ → List ℕ → Place → Type 0
 FrontsMerge l r s a m b n top s′ w = (e : Bool) → RowMerge l e r s a m b n top s′ (w .a) (w .b) (w .to)

@@ -3,7 +3,7 @@ use mathlib.Core.Bool.{false≢true}
 use mathlib.Core.Path.{refl}
 use Rattle.rules.specs.Types.{whole}
 use Rattle.rules.specs.Kinds.{pairing, union, inter, diff, product, apply, plus, minus}
-use Rattle.sets.proofs.OperationLaws.{union-merged, inter-merged, diff-merged}
+use Rattle.sets.proofs.MergedLaws.{union-merged, inter-merged, diff-merged}
 use Rattle.operations.proofs.DoubleLaws.{two-of, two-last}
 use borrow.Author.Needs.{needs}
 use Rattle.operations.proofs.two.Statement.{statement}

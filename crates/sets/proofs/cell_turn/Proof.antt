@@ -12,4 +12,4 @@ cell-turn-spec =
     (λ c κs. search needs)
     (λ c. search needs)
     (λ c. search needs)
-    (λ c. turn-cells _ _ _ _ _ _ _ (c .before .lesser .ensures) (c .kept .ensures)))
+    (λ c. turn-cells (c .before .lesser .ensures) (c .kept .ensures)))

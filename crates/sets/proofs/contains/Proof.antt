@@ -4,7 +4,7 @@ use Prim.Native.Nat.{_+_}
 use native.Mathlib.Omega.{arith}
 use mathlib.Core.Path.{sym, subst}
 use lib.ListN.{length}
-use Rattle.rules.specs.Values.{Values, members}
+use Rattle.rules.specs.Values.{Values}
 use Rattle.arena.specs.Code.{SetBelow, Front}
 use Rattle.arena.proofs.CodeLaws.{fits-small}
 use Rattle.arena.proofs.ValueParts.{some-inside}
@@ -16,37 +16,18 @@ use Rattle.sets.proofs.contains.Statement.{statement}
 use Rattle.sets.proofs.contains.Tie as tie
 
 -- The number of members is known; then it is asked whether they are one cell each.
-abbrev Listed : Type 0
-Listed = tie.After-low
-
-abbrev lent : Listed → tie.Start
+abbrev lent : tie.After-low → tie.Start
 lent l = l .before .before .before
 
-front : (l : Listed) (vs : Values) → SetBelow (lent l .args .s .now) (length (lent l .args .s .now)) (lent l .args .a) vs →
+front : (l : tie.After-low) (vs : Values) → SetBelow (lent l .args .s .now) (length (lent l .args .s .now)) (lent l .args .a) vs →
     Front (lent l .args .s .now) (length (lent l .args .s .now)) (lent l .args .a + 1) (l .low .result) vs
 front l vs h = front-start _ _ _ vs h _ (l .low .ensures .0)
 
-abbrev listed : tie.Then1 → Listed
+abbrev listed : tie.Then1 → tie.After-low
 listed t = t .before .before
 
 cells : (t : tie.Then1) → Cells (lent (listed t) .args .s .now) (lent (listed t) .args .a + 1) (listed t .low .result)
 cells t = subst (Cells _ _) (sym (listed t .low .ensures .0)) (t .before .of-cells .ensures (t .if1 .taken))
-
-returns : tie.Need-returns
-returns c = λ v vs h k.
-    let t = c .before .before in
-    cell-in _ _ v (h .stands) (h .fits) _ _ _ vs (front (listed t) vs k) (cells t) _ (c .find .ensures)
-
-seek-requires : tie.Need-seek-requires
-seek-requires c κs =
-    let l = c .before .before in
-    let q = lent l .pre in
-    record { value = q .0; top = _; rest = _; front = front l _ (q .1 .1); keyed = tt }
-
-returns-2 : tie.Need-returns-2
-returns-2 c = λ v vs h k.
-    let l = c .before .before .before in
-    sought-in _ _ _ v (members vs) _ (c .seek .ensures _ vs v (front l vs k) tt h) (omega arith) (fits-small v (h .fits)) (fit-small vs (k .fine .fits .1))
 
 pub contains-spec : {M : Type 1} → statement M
 contains-spec =
@@ -59,8 +40,11 @@ contains-spec =
     (λ c. let l = listed c in omega (arith, set-inside _ _ _ _ (lent l .pre .1 .1)))
     (λ c. search needs)
     (λ c. some-inside _ _ (value-some _ _ _ _ (lent (listed (c .before)) .pre .0 .1)))
-    (λ c κs. let l = listed (c .before) in cells-row _ _ _ _ _ (front l _ (lent l .pre .1 .1)) (cells (c .before)))
-    returns
+    (λ c κs. let l = listed (c .before) in cells-row (front l _ (lent l .pre .1 .1)) (cells (c .before)))
+    (λ c. λ v vs h k. let t = c .before .before in cell-in h (front (listed t) vs k) (cells t) (c .find .ensures))
     (λ c. let l = c .before .before in omega (arith, set-inside _ _ _ _ (lent l .pre .1 .1)))
-    seek-requires
-    returns-2)
+    (λ c κs. let l = c .before .before in
+    let q = lent l .pre in
+    record { value = q .0; top = _; rest = _; front = front l _ (q .1 .1); keyed = tt })
+    (λ c. λ v vs h k. let l = c .before .before .before in
+    sought-in (c .seek .ensures _ vs v (front l vs k) tt h) (omega arith) (fits-small v (h .fits)) (fit-small vs (k .fine .fits .1))))

@@ -6,8 +6,7 @@ use lib.ListN.{length}
 use Rattle.rules.specs.Values.{Values}
 use Rattle.arena.specs.Code.{AllWeigh, Front}
 use Rattle.sets.specs.Pairs.{FlatPairs}
-use Rattle.sets.proofs.ImageLaws.{Checking, checking-end}
-use Rattle.sets.proofs.PairRows.{checking-inside, flat-shared, flat-next}
+use Rattle.sets.proofs.ImageLaws.{Checking, checking-end, checking-inside, flat-shared, flat-next}
 use Rattle.sets.proofs.flat_function.Statement.{statement}
 use Rattle.sets.proofs.flat_function.Tie as tie
 
@@ -18,21 +17,10 @@ abbrev μ-loop : tie.MeasureT-loop
 μ-loop s at n i₀ left₀ i left = left
 
 -- A turn: two pairs are inside.
-abbrev Turn : Type 0
-Turn = tie.In-loop Inv-loop μ-loop
-
-inside : (t : Turn) → t .before .loop .i + 6 ≤ length (t .before .before .args .s .now)
+inside : (t : tie.In-loop Inv-loop μ-loop) → t .before .loop .i + 6 ≤ length (t .before .before .args .s .now)
 inside t =
     let q = t .before .before .pre in
-    omega (arith, t .loop-test .taken, checking-inside _ _ _ _ _ (t .before .loop .inv _ _ (q .2) (q .3)))
-
-returns : tie.Need-returns Inv-loop μ-loop
-returns c = λ top vs f p.
-    let t = c .before .before .before in flat-shared _ top vs _ _ (t .before .loop .inv top vs f p) (t .loop-test .taken) (c .if1 .taken)
-
-loop-again : tie.Need-loop-again Inv-loop μ-loop
-loop-again c = λ top vs f p.
-    let t = c .before .before .before in flat-next _ top vs _ _ (t .before .loop .inv top vs f p) (t .loop-test .taken) (c .if1 .left)
+    omega (arith, t .loop-test .taken, checking-inside (t .before .loop .inv _ _ (q .2) (q .3)))
 
 pub flat-function-spec : {M : Type 1} → statement M
 flat-function-spec =
@@ -48,9 +36,9 @@ flat-function-spec =
     (λ c. omega (arith, inside (c .before)))
     (λ c. omega (arith, inside (c .before)))
     (λ c. omega (arith, inside (c .before .before)))
-    returns
+    (λ c. λ top vs f p. let t = c .before .before .before in flat-shared (t .before .loop .inv top vs f p) (t .loop-test .taken) (c .if1 .taken))
     (λ c. omega (arith, inside (c .before .before .before)))
     (λ c. omega (arith, c .before .before .before .loop-test .taken))
     (λ c. omega (arith, c .before .before .before .loop-test .taken))
-    loop-again
-    (λ c. λ top vs f p. checking-end _ _ top vs _ _ (c .before .loop .inv top vs f p) (c .loop-test .left)))
+    (λ c. λ top vs f p. let t = c .before .before .before in flat-next (t .before .loop .inv top vs f p) (t .loop-test .taken) (c .if1 .left))
+    (λ c. λ top vs f p. checking-end (c .before .loop .inv top vs f p) (c .loop-test .left)))

@@ -16,11 +16,14 @@ use Rattle.sets.proofs.image.Statement.{statement}
 use Rattle.sets.proofs.image.Tie as tie
 
 -- It is known how many pairs there are, and whether they are flat; then the search has ended, and a pair is found.
-abbrev lent : tie.After-of-flat-pairs → tie.Start
-lent o = o .before .before .before .before
+abbrev listed : tie.After-of-flat-pairs → tie.After-low
+listed o = o .before
 
-relation : (o : tie.After-of-flat-pairs) → Relation (lent o .args .s .now) (lent o .args .f) (o .before .low .result) (o .of-flat-pairs .result)
-relation o = record { relation = lent o .pre .1; counted = o .before .low .ensures .0; thin = o .of-flat-pairs .ensures }
+abbrev lent : tie.After-of-flat-pairs → tie.Start
+lent o = listed o .before .before .before
+
+relation : (o : tie.After-of-flat-pairs) → Relation (lent o .args .s .now) (lent o .args .f) (listed o .low .result) (o .of-flat-pairs .result)
+relation o = record { relation = lent o .pre .1; counted = listed o .low .ensures .0; thin = o .of-flat-pairs .ensures }
 
 abbrev asked : tie.After-pair-with → tie.After-of-flat-pairs
 asked b = b .before

@@ -16,38 +16,21 @@ abbrev μ-loop : tie.MeasureT-loop
 μ-loop s at n i₀ left₀ i left = left
 
 -- A turn: two pairs are left. Then the end of the first is known.
-abbrev Turn : Type 0
-Turn = tie.In-loop Inv-loop μ-loop
-
-abbrev lent : Turn → tie.Start Inv-loop μ-loop
+abbrev lent : tie.In-loop Inv-loop μ-loop → tie.Start Inv-loop μ-loop
 lent t = t .before .before .before
 
-checking : (t : Turn) → let q = lent t in
+checking : (t : tie.In-loop Inv-loop μ-loop) → let q = lent t in
     Checking (λ _. Unit {0}) (q .args .s .now) (q .pre .0) (q .pre .1) (t .before .loop .i) (t .before .loop .left)
 checking t = let q = lent t .pre in t .before .loop .inv _ _ (q .2) (q .3)
 
-abbrev turn : tie.After-end-of2 Inv-loop μ-loop → Turn
+abbrev turn : tie.After-end-of2 Inv-loop μ-loop → tie.In-loop Inv-loop μ-loop
 turn e = e .before .before
 
-first : (t : Turn) → SomeAt (lent t .args .s .now) (t .before .loop .i + 1)
-first t = first-some _ _ _ _ _ (checking t) (t .loop-test .taken)
+first : (t : tie.In-loop Inv-loop μ-loop) → SomeAt (lent t .args .s .now) (t .before .loop .i + 1)
+first t = first-some (checking t) (t .loop-test .taken)
 
 next : (e : tie.After-end-of2 Inv-loop μ-loop) → SomeAt (lent (turn e) .args .s .now) (e .end-of2 .result + 1)
-next e = let t = turn e in next-some _ _ _ _ _ (checking t) (t .loop-test .taken) _ (e .before .end-of .ensures) _ (e .end-of2 .ensures)
-
-returns : tie.Need-returns Inv-loop μ-loop
-returns c = λ top vs f p.
-    let e = c .before .before in
-    let t = turn e in
-    walk-shared _ top vs _ _ (t .before .loop .inv top vs f p) (t .loop-test .taken) _ (e .before .end-of .ensures) _ (e .end-of2 .ensures) _
-    (c .before .compare .ensures) (omega (arith, c .if1 .taken))
-
-loop-again : tie.Need-loop-again Inv-loop μ-loop
-loop-again c = λ top vs f p.
-    let e = c .before .before in
-    let t = turn e in
-    walk-next _ top vs _ _ (t .before .loop .inv top vs f p) (t .loop-test .taken) _ (e .before .end-of .ensures) _ (e .end-of2 .ensures) _
-    (c .before .compare .ensures) (λ z. omega (arith, c .if1 .left))
+next e = let t = turn e in next-some (checking t) (t .loop-test .taken) (e .before .end-of .ensures) (e .end-of2 .ensures)
 
 pub is-function-spec : {M : Type 1} → statement M
 is-function-spec =
@@ -58,12 +41,18 @@ is-function-spec =
     (λ c. λ top vs f p. record { rest = vs; front = f; pairs = p; known = tt; result = refl })
     (λ c. omega (arith, some-inside _ _ (first c)))
     (λ c κs. first c)
-    (λ c κs. let t = c .before in second-some _ _ _ _ _ (checking t) (t .loop-test .taken) _ (c .end-of .ensures))
+    (λ c κs. let t = c .before in second-some (checking t) (t .loop-test .taken) (c .end-of .ensures))
     (λ c. omega (arith, some-inside _ _ (first (turn c))))
     (λ c. omega (arith, some-inside _ _ (next c)))
     (λ c κs. (first (turn c), next c, c .before .end-of .ensures))
-    returns
+    (λ c. λ top vs f p. let e = c .before .before in
+    let t = turn e in
+    walk-shared (t .before .loop .inv top vs f p) (t .loop-test .taken) (e .before .end-of .ensures) (e .end-of2 .ensures) (c .before .compare .ensures)
+    (omega (arith, c .if1 .taken)))
     (λ c. omega (arith, turn (c .before .before) .loop-test .taken))
     (λ c. omega (arith, turn (c .before .before) .loop-test .taken))
-    loop-again
-    (λ c. λ top vs f p. checking-end _ _ top vs _ _ (c .before .loop .inv top vs f p) (c .loop-test .left)))
+    (λ c. λ top vs f p. let e = c .before .before in
+    let t = turn e in
+    walk-next (t .before .loop .inv top vs f p) (t .loop-test .taken) (e .before .end-of .ensures) (e .end-of2 .ensures) (c .before .compare .ensures)
+    (λ z. omega (arith, c .if1 .left)))
+    (λ c. λ top vs f p. checking-end (c .before .loop .inv top vs f p) (c .loop-test .left)))

@@ -13,31 +13,17 @@ abbrev μ-loop : tie.MeasureT-loop
 μ-loop s at step n x from₀ left₀ from left = left
 
 -- A turn of the loop: the middle is one of the n cells.
-abbrev Turn : Type 0
-Turn = tie.In-loop Inv-loop μ-loop
-
-abbrev lent : Turn → tie.Start Inv-loop μ-loop
+abbrev lent : tie.In-loop Inv-loop μ-loop → tie.Start Inv-loop μ-loop
 lent t = t .before .before
 
-abbrev middle : Turn → ℕ
+abbrev middle : tie.In-loop Inv-loop μ-loop → ℕ
 middle t = t .before .loop .from + t .before .loop .left / 2
 
-few : (t : Turn) → middle t < lent t .args .n
+few : (t : tie.In-loop Inv-loop μ-loop) → middle t < lent t .args .n
 few t = omega (arith, t .loop-test .taken, t .before .loop .inv .few)
 
-inside : (t : Turn) → lent t .args .at + lent t .args .step * middle t < length (lent t .args .s .now)
+inside : (t : tie.In-loop Inv-loop μ-loop) → lent t .args .at + lent t .args .step * middle t < length (lent t .args .s .now)
 inside t = lent t .pre .inside (middle t) (few t)
-
-loop-again : tie.Need-loop-again Inv-loop μ-loop
-loop-again c =
-    let t = c .before .before in
-    halving-up _ _ _ _ _ _ _ (t .before .loop .inv) (lent t .pre) (middle t) (few t) _ (omega (arith, t .loop-test .taken))
-    (omega (arith, c .if1 .taken))
-
-loop-again-2 : tie.Need-loop-again-2 Inv-loop μ-loop
-loop-again-2 c =
-    let t = c .before .before in
-    halving-down _ _ _ _ _ _ _ (t .before .loop .inv) (lent t .pre) (middle t) (few t) _ (omega arith) (omega (arith, c .if1 .left))
 
 pub lower-bound-spec : {M : Type 1} → statement M
 lower-bound-spec =
@@ -45,7 +31,7 @@ lower-bound-spec =
     (tie.spec
     Inv-loop
     μ-loop
-    (λ c. halving-start _ _ _ _ _)
+    (λ c. halving-start)
     (λ c. omega (arith, few c))
     (λ c. omega (arith, inside c))
     (λ c. omega (arith, inside c))
@@ -55,7 +41,9 @@ lower-bound-spec =
     (λ c. omega (arith, c .before .before .loop-test .taken))
     (λ c. omega (arith, c .before .before .loop-test .taken))
     (λ c. omega (arith, c .before .before .loop-test .taken))
-    loop-again
+    (λ c. let t = c .before .before in
+    halving-up (t .before .loop .inv) (lent t .pre) (few t) (omega (arith, t .loop-test .taken)) (omega (arith, c .if1 .taken)))
     (λ c. omega (arith, c .before .before .loop-test .taken))
-    loop-again-2
-    (λ c. halving-end _ _ _ _ _ _ _ (c .before .loop .inv) (c .loop-test .left)))
+    (λ c. let t = c .before .before in
+    halving-down (t .before .loop .inv) (lent t .pre) (few t) (omega arith) (omega (arith, c .if1 .left)))
+    (λ c. halving-end (c .before .loop .inv) (c .loop-test .left)))

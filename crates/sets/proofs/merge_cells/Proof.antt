@@ -6,15 +6,15 @@ use borrow.Author.Needs.{needs}
 use borrow.Author.Tests.{ltb-true, ltb-false}
 use native.Mathlib.Omega.{arith}
 use lib.ListN.{length, getD}
-use Rattle.sets.specs.Rows.{RowsBelow, RowMerge}
-use Rattle.sets.proofs.CellMerge.{merge-inside, merge-step, turn-moves, merge-near, merge-end, merge-made}
+use Rattle.sets.specs.Rows.{RowMerge}
+use Rattle.sets.proofs.CellMerge.{turn-moves, merge-inside, merge-step, merge-end, merge-made}
 use Rattle.sets.proofs.merge_cells.Statement.{statement}
 use Rattle.sets.proofs.merge_cells.Tie as tie
 
 -- What the loop does to any merge that is on its way where the loop begins.
 abbrev Inv-loop : tie.InvT-loop
 Inv-loop s₁ a m b n top left both right end end2 i₁ j₁ to₁ s i j to =
-    (s₀ : List ℕ) → RowsBelow s₀ a m b n top → RowMerge left both right s₀ a m b n top s₁ i₁ j₁ to₁ → RowMerge left both right s₀ a m b n top s i j to
+    (s₀ : List ℕ) → RowMerge left both right s₀ a m b n top s₁ i₁ j₁ to₁ → RowMerge left both right s₀ a m b n top s i j to
 
 abbrev μ-loop : tie.MeasureT-loop
 μ-loop s₁ a m b n top left both right end end2 i₁ j₁ to₁ s i j to = (end - i) + (end2 - j)
@@ -28,78 +28,45 @@ lent l = fronts l .before .before .before
 
 merging : (l : tie.At-loop Inv-loop μ-loop) → let q = lent l .args in
     RowMerge (q .left) (q .both) (q .right) (q .s .now) (q .a) (q .m) (q .b) (q .n) (q .top) (l .loop .s) (l .loop .i) (l .loop .j) (l .loop .to)
-merging l = l .loop .inv _ (lent l .pre) (fronts l .merge-fronts .ensures _)
+merging l = l .loop .inv _ (fronts l .merge-fronts .ensures _)
 
 -- A turn: both sets have cells left.
-abbrev Both : Type 0
-Both = tie.Then1 Inv-loop μ-loop
-
-abbrev loop : Both → tie.At-loop Inv-loop μ-loop
+abbrev loop : tie.Then1 Inv-loop μ-loop → tie.At-loop Inv-loop μ-loop
 loop t = t .before .before
 
-others : (t : Both) → let l = loop t in l .loop .j < lent l .args .b + lent l .args .n
+others : (t : tie.Then1 Inv-loop μ-loop) → let l = loop t in l .loop .j < lent l .args .b + lent l .args .n
 others t = ltb-true _ _ (t .if1 .taken)
 
-inside : (t : Both) → let l = loop t in
+inside : (t : tie.Then1 Inv-loop μ-loop) → let l = loop t in
     (l .loop .i < lent l .args .top) × (l .loop .j < lent l .args .top) × (l .loop .to < length (l .loop .s)) × (l .loop .to + 1 ≤ lent l .args .top + 512)
-inside t = let l = loop t in merge-inside _ _ _ _ _ _ _ _ _ (lent l .pre) _ _ _ _ (merging l) (t .before .loop-test .taken) (others t)
+inside t = merge-inside (merging (loop t)) (t .before .loop-test .taken) (others t)
 
 -- `top` and a room above it are inside, and fit 64 bits even times 8.
-high : (t : Both) → (lent (loop t) .args .top + 514 ≤ length (loop t .loop .s)) × (lent (loop t) .args .top + 514 ≤ 2305843009213693952)
+high : (t : tie.Then1 Inv-loop μ-loop) → let l = loop t in
+    (lent l .args .top + 514 ≤ length (l .loop .s)) × (lent l .args .top + 514 ≤ 2305843009213693952)
 high t = let l = loop t in (omega (arith, lent l .pre .room, merging l .walking .frame .kept), fits (lent l))
   where
     fits : (q : tie.Start Inv-loop μ-loop) → q .args .top + 514 ≤ 2305843009213693952
     fits q = omega (arith, q .pre .room)
 
 -- The turn is known.
-abbrev Turned : Type 0
-Turned = tie.After-cell-turn Inv-loop μ-loop
-
-abbrev both : Turned → Both
+abbrev both : tie.After-cell-turn Inv-loop μ-loop → tie.Then1 Inv-loop μ-loop
 both c = c .before .before .before
 
-moves : (c : Turned) → let u = c .cell-turn .result in (u .left ≤ 1) × (u .right ≤ 1) × (0 < u .left + u .right) × (u .keep ≤ 1)
+moves : (c : tie.After-cell-turn Inv-loop μ-loop) → let u = c .cell-turn .result in
+    (u .left ≤ 1) × (u .right ≤ 1) × (0 < u .left + u .right) × (u .keep ≤ 1)
 moves c =
     let l = loop (both c) in
     let q = lent l .args in
-    turn-moves (q .left) (q .both) (q .right) (getD (l .loop .s) (l .loop .i) 0) (getD (l .loop .s) (l .loop .j) 0) _ (c .cell-turn .ensures)
+    turn-moves (q .left) (q .both) (q .right) (getD (l .loop .s) (l .loop .i) 0) (getD (l .loop .s) (l .loop .j) 0) (c .cell-turn .ensures)
 
 -- One of both sets is exhausted.
-abbrev Left : Type 0
-Left = tie.Left-loop Inv-loop μ-loop
-
-abbrev left : tie.After-finish Inv-loop μ-loop → Left
-left f = f .before .before
-
-exhausted : (c : Left) → let l = c .before in
+exhausted : (c : tie.Left-loop Inv-loop μ-loop) → let l = c .before in
     (lent l .args .a + lent l .args .m ≤ l .loop .i) ⊎ (lent l .args .b + lent l .args .n ≤ l .loop .j)
 exhausted c = elim (c .loop-test .came) [ inl x ↦ inr (ltb-false _ _ (x .1 .left)) | inr x ↦ inl (x .left) ]
 
-near : (c : Left) → let l = c .before in
-    (l .loop .i ≤ lent l .args .a + lent l .args .m) × (l .loop .j ≤ lent l .args .b + lent l .args .n) × (lent l .args .top + 1 ≤ l .loop .to)
-near c = let l = c .before in merge-near _ _ _ _ _ _ _ _ _ (lent l .pre) _ _ _ _ (merging l)
-
-loop-less : tie.Need-loop-less Inv-loop μ-loop
-loop-less c = let u = c .before .before .before in
-    let t = both u in
-    omega (arith, t .before .loop-test .taken, others t, moves u .2)
-
-loop-again : tie.Need-loop-again Inv-loop μ-loop
-loop-again c = λ s₀ p h. let u = c .before .before .before in
-    let t = both u in
-    let l = loop t in
-    merge-step _ _ _ s₀ _ _ _ _ _ p _ _ _ _ (l .loop .inv s₀ p h) (t .before .loop-test .taken) (others t) _ (u .cell-turn .ensures)
-
-finish-requires : tie.Need-finish-requires Inv-loop μ-loop
-finish-requires c κs = let k = c .before in
-    let l = k .before in
-    merge-end _ _ _ _ _ _ _ _ _ (lent l .pre) _ _ _ _ (merging l) (exhausted k)
-
-returns : tie.Need-returns Inv-loop μ-loop
-returns c =
-    let f = c .before .before in
-    let l = left f .before in
-    merge-made _ _ _ _ _ _ _ _ _ (lent l .pre) _ _ _ _ (merging l) _ _ (f .finish .ensures)
+abbrev left : tie.After-finish Inv-loop μ-loop → tie.At-loop Inv-loop μ-loop
+left f = f .before .before .before
 
 pub merge-cells-spec : {M : Type 1} → statement M
 merge-cells-spec =
@@ -110,7 +77,7 @@ merge-cells-spec =
     (λ c. omega (arith, c .before .pre .rows .left .inside))
     (λ c. omega (arith, c .before .pre .rows .right .inside))
     (λ c κs. search needs)
-    (λ c. λ s₀ p h. h)
+    (λ c. λ s₀ h. h)
     (λ c. omega (arith, inside c .0, high c .1))
     (λ c. let t = c .before in omega (arith, inside t .0, high t .0))
     (λ c. let t = c .before in omega (arith, inside t .1, high t .1))
@@ -121,12 +88,16 @@ merge-cells-spec =
     (λ c. let u = c .before in omega (arith, inside (both u) .3, high (both u) .1, moves u .3))
     (λ c. let u = c .before .before in omega (arith, inside (both u) .0, high (both u) .1, moves u .0))
     (λ c. let u = c .before .before .before in omega (arith, inside (both u) .1, high (both u) .1, moves u .1))
-    loop-less
-    loop-again
-    (λ c. near c .0)
-    (λ c. near c .1)
-    (λ c. omega (arith, near c .2))
-    (λ c. omega (arith, near c .2))
-    finish-requires
-    (λ c. omega (arith, merging (left (c .before .before) .before) .walking .frame .kept))
-    returns)
+    (λ c. let u = c .before .before .before in
+    let t = both u in
+    omega (arith, t .before .loop-test .taken, others t, moves u .2))
+    (λ c. λ s₀ h. let u = c .before .before .before in
+    let t = both u in
+    merge-step (loop t .loop .inv s₀ h) (t .before .loop-test .taken) (others t) (u .cell-turn .ensures))
+    (λ c. merging (c .before) .onLeft .1)
+    (λ c. merging (c .before) .onRight .1)
+    (λ c. omega (arith, merging (c .before) .countIs))
+    (λ c. omega (arith, merging (c .before) .countIs))
+    (λ c κs. let k = c .before in merge-end (merging (k .before)) (exhausted k))
+    (λ c. omega (arith, merging (left (c .before .before)) .walking .frame .kept))
+    (λ c. let f = c .before .before in merge-made (merging (left f)) (f .finish .ensures)))

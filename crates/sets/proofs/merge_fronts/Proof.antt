@@ -2,7 +2,7 @@
 use borrow.Author.Needs.{needs}
 use native.Mathlib.Omega.{arith}
 use Rattle.sets.proofs.RowLaws.{cells-row}
-use Rattle.sets.proofs.CellMerge.{merge-small, merge-start, first-put, second-put}
+use Rattle.sets.proofs.CellMerge.{first-put, second-put, merge-start}
 use Rattle.sets.proofs.merge_fronts.Statement.{statement}
 use Rattle.sets.proofs.merge_fronts.Tie as tie
 
@@ -19,30 +19,28 @@ fronts p = p .before .before
 abbrev put : tie.After-put-arg2 → tie.After-put
 put p = p .before .before .before
 
-returns : tie.Need-returns
-returns c = λ e.
-    let p = c .before .before in
-    let o = put (p .before) in
-    let g = fronts o in
-    let f = known g in
-    merge-start _ e _ _ _ _ _ _ _ (lent f .pre) _ _ (f .front .ensures) (g .front2 .ensures) _ _ _ _ (o .put .ensures) (p .put2 .ensures)
-
 pub merge-fronts-spec : {M : Type 1} → statement M
 merge-fronts-spec =
     tie.close
     (tie.spec
     (λ c κs. let r = c .before .before .pre .rows in
-    (cells-row _ _ _ _ _ (r .runs .onLeft) (r .left), λ k. omega (arith, r .right .inside)))
-    (λ c. let q = lent c in omega (arith, c .front .ensures .few, q .pre .rows .left .inside))
+    (cells-row (r .runs .onLeft) (r .left), λ k. omega (arith, r .right .inside)))
+    (λ c. omega (arith, c .front .ensures .few, lent c .pre .rows .left .inside))
     (λ c. c .before .front .ensures .few)
     (λ c κs. let r = lent (c .before) .pre .rows in
-    (cells-row _ _ _ _ _ (r .runs .onRight) (r .right), λ k. omega (arith, r .left .inside)))
+    (cells-row (r .runs .onRight) (r .right), λ k. omega (arith, r .left .inside)))
     (λ c. omega (arith, c .front2 .ensures .few, lent (known c) .pre .rows .right .inside))
     (λ c. omega (arith, lent (known c) .pre .room))
-    (λ c κs. let f = known (c .before) in first-put _ _ _ _ _ _ (lent f .pre) _ (f .front .ensures .few))
+    (λ c κs. let g = c .before in
+    let f = known g in
+    first-put (lent f .pre) (f .front .ensures) (g .front2 .ensures))
     (λ c κs. let o = put c in
     let g = fronts o in
     let f = known g in
-    second-put _ _ _ _ _ _ _ (lent f .pre) _ _ (f .front .ensures .few) (g .front2 .ensures .few) _ _ (o .put .ensures))
+    second-put (lent f .pre) (f .front .ensures) (g .front2 .ensures) (o .put .ensures))
     (λ c. search needs)
-    returns)
+    (λ c. let p = c .before .before in
+    let o = put (p .before) in
+    let g = fronts o in
+    let f = known g in
+    merge-start (lent f .pre) (f .front .ensures) (g .front2 .ensures) (o .put .ensures) (p .put2 .ensures)))

@@ -9,15 +9,8 @@ use Rattle.sets.proofs.of_cells.Statement.{statement}
 use Rattle.sets.proofs.of_cells.Tie as tie
 
 -- The number of members is known.
-abbrev Listed : Type 0
-Listed = tie.After-low
-
-abbrev lent : Listed → tie.Start
+abbrev lent : tie.After-low → tie.Start
 lent l = l .before .before .before
-
-shared-slice-read-result : tie.Need-shared-slice-read-result
-shared-slice-read-result c =
-    let l = c .before .before in first-inside _ _ _ _ (lent l .pre .1 .1) (λ e. c .before .if1 .left (l .low .ensures .0 ∙ e))
 
 pub of-cells-spec : {M : Type 1} → statement M
 of-cells-spec =
@@ -26,8 +19,8 @@ of-cells-spec =
     (λ c. search needs)
     (λ c. set-inside _ _ _ _ (c .before .before .pre .1 .1))
     (λ c κs. search needs)
-    (λ c. λ _. let l = c .before in no-cells _ _ _ _ (lent l .pre .1 .1) (sym (l .low .ensures .0) ∙ c .if1 .taken))
+    (λ c. λ _. let l = c .before in no-cells (lent l .pre .1 .1) (sym (l .low .ensures .0) ∙ c .if1 .taken))
     (λ c. search needs)
     (λ c. search needs)
-    shared-slice-read-result
-    (λ c. λ e. let l = c .before .before in flat-cells _ _ _ _ (lent l .pre .1 .1) (omega (arith, ltb-true))))
+    (λ c. let l = c .before .before in first-inside (lent l .pre .1 .1) (λ e. c .before .if1 .left (l .low .ensures .0 ∙ e)))
+    (λ c. λ e. let l = c .before .before in flat-cells (lent l .pre .1 .1) (omega (arith, ltb-true))))

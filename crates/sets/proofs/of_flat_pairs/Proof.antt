@@ -6,7 +6,7 @@ use Prim.Native.Nat.{_+_, _<_}
 use native.Mathlib.Omega.{arith}
 use lib.ListN.{length}
 use Rattle.rules.proofs.Basics.{absurd01}
-use Rattle.sets.proofs.PairRows.{no-pairs, flat-pairs, pair-inside}
+use Rattle.sets.proofs.ImageLaws.{no-pairs, flat-pairs, pair-inside}
 use Rattle.sets.proofs.of_flat_pairs.Statement.{statement}
 use Rattle.sets.proofs.of_flat_pairs.Tie as tie
 
@@ -18,10 +18,7 @@ abbrev lent : tie.Else1 → tie.Start
 lent t = known t .before .before .before
 
 inside : (t : tie.Else1) → lent t .args .f + 3 < length (lent t .args .s .now)
-inside t = let q = lent t .pre in pair-inside _ _ _ _ (q .1) (q .2) (λ e. t .if1 .left (known t .low .ensures .0 ∙ e))
-
-returns-2 : tie.Need-returns-2
-returns-2 c = λ e top vs h p. flat-pairs _ top _ vs h p (c .before .if2 .taken) (ltb-true _ _ e)
+inside t = let q = lent t .pre in pair-inside (q .1) (q .2) (λ e. t .if1 .left (known t .low .ensures .0 ∙ e))
 
 pub of-flat-pairs-spec : {M : Type 1} → statement M
 of-flat-pairs-spec =
@@ -30,12 +27,13 @@ of-flat-pairs-spec =
     (λ c. search needs)
     (λ c. search needs)
     (λ c κs. search needs)
-    (λ c. λ e top vs h p. no-pairs _ top _ vs h p (sym (c .before .low .ensures .0) ∙ c .if1 .taken))
+    (λ c. λ e top vs h p. no-pairs h p (sym (c .before .low .ensures .0) ∙ c .if1 .taken))
     (λ c. search needs)
     (λ c. search needs)
     (λ c. omega (arith, inside (c .before)))
     (λ c. search needs)
     (λ c. search needs)
     (λ c. inside (c .before .before .before))
-    returns-2
+    (λ c. λ e top vs h p. let t = c .before .before .before in
+    flat-pairs h p (λ z. t .if1 .left (known t .low .ensures .0 ∙ z)) (c .before .if2 .taken) (ltb-true _ _ e))
     (λ c. λ e. absurd01 (cc e)))

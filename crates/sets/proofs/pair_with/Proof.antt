@@ -4,10 +4,9 @@ use Prim.Native.Nat.{_+_, _*_, _≤_}
 use native.Mathlib.Omega.{arith}
 use lib.ListN.{length}
 use Rattle.arena.proofs.ValueParts.{some-inside}
-use Rattle.arena.proofs.FrontLaws.{front-start, value-some}
+use Rattle.arena.proofs.FrontLaws.{value-some}
 use Rattle.sets.specs.Pairs.{SomeFlat}
-use Rattle.sets.proofs.ImageLaws.{whole, relation-run}
-use Rattle.sets.proofs.PairRows.{flat-inside, pair-row, pair-none, pair-found, relation-flat}
+use Rattle.sets.proofs.ImageLaws.{whole, relation-run, flat-inside, pair-row, pair-none, pair-found, relation-flat}
 use Rattle.sets.proofs.pair_with.Statement.{statement}
 use Rattle.sets.proofs.pair_with.Tie as tie
 
@@ -25,7 +24,7 @@ inside : (t : tie.Else2) → let q = lent (flat (t .before)) .args in q .f + 4 +
 inside t =
     let b = t .before in
     let q = some (flat b) in
-    omega (arith, t .if2 .left, b .find .ensures .few, flat-inside _ _ _ _ _ (q .2) (q .3))
+    omega (arith, t .if2 .left, b .find .ensures .few, flat-inside (q .2) (q .3))
 
 pub pair-with-spec : {M : Type 1} → statement M
 pair-with-spec =
@@ -35,7 +34,7 @@ pair-with-spec =
     (λ c. search needs)
     (λ c. search needs)
     (λ c. some-inside _ _ (value-some _ _ _ _ (lent (c .before) .pre .0 .1)))
-    (λ c κs. let q = some (c .before) in pair-row _ _ _ _ _ (q .2) (q .3))
+    (λ c κs. let q = some (c .before) in pair-row (q .2) (q .3))
     (λ c. λ vs v h k p. let b = c .before in
     let q = lent (flat b) .pre .1 in
     pair-none k (whole h (q .counted)) (q .thin (flat b .if1 .taken) _ vs h p) (b .find .ensures) (c .if2 .taken))

@@ -11,25 +11,17 @@ use Rattle.sets.proofs.put.Tie as tie
 abbrev lent : tie.Then1 → tie.Start
 lent k = k .before .before
 
-copy-requires : tie.Need-copy-requires
-copy-requires c κs =
-    let q = lent (c .before) .pre in
-    (omega (arith, q .forward, q .behind, q .room), omega (arith, q .room), inl (omega (arith, q .forward, q .behind)))
-
-returns : tie.Need-returns
-returns c =
-    let d = c .before .before .before in
-    let k = d .before .before in
-    rw (k .if1 .taken) (put-kept _ _ _ _ _ _ _ (lent k .pre) (d .copy .ensures) (omega arith) (omega arith))
-
 pub put-spec : {M : Type 1} → statement M
 put-spec =
     tie.close
     (tie.spec
     (λ c. search needs)
-    copy-requires
+    (λ c κs. let q = lent (c .before) .pre in
+    (omega (arith, q .forward, q .behind, q .room), omega (arith, q .room), inl (omega (arith, q .forward, q .behind))))
     (λ c. search needs)
     (λ c. search needs)
     (λ c. search needs)
-    returns
-    (λ c. rw (c .if1 .left) (put-none _ _ _ _ _ _ (same-refl _ _))))
+    (λ c. let d = c .before .before .before in
+    let k = d .before .before in
+    rw (k .if1 .taken) (put-kept (lent k .pre) (d .copy .ensures) (omega arith) (omega arith)))
+    (λ c. rw (c .if1 .left) (put-none (same-refl _ _))))

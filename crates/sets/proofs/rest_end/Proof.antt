@@ -25,7 +25,7 @@ rest-end-spec =
     Inv-loop
     μ-loop
     (λ c. omega (arith, c .before .before .pre .1 (c .if1 .taken) .inside))
-    (λ c. cells-end _ _ _ (c .before .before .pre .1 (c .if1 .taken)))
+    (λ c. cells-end (c .before .before .pre .1 (c .if1 .taken)))
     (λ c. λ top vs h. record { rest = vs; front = h; ends = refl })
     (λ c κs. running-at (c .before .loop .inv _ _ (lent (c .before) .pre .0 .2)) (c .loop-test .taken))
     (λ c. omega (arith, c .before .loop-test .taken))

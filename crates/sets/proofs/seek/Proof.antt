@@ -20,45 +20,22 @@ abbrev μ-loop : tie.MeasureT-loop
 μ-loop s at n e first end left₀ i₀ left i = left
 
 -- A turn of the loop; the end of the value is known before it. Then the order of the value and a member's key is.
-abbrev Turn : Type 0
-Turn = tie.In-loop Inv-loop μ-loop
-
-abbrev ended : Turn → tie.After-end-of Inv-loop μ-loop
+abbrev ended : tie.In-loop Inv-loop μ-loop → tie.After-end-of Inv-loop μ-loop
 ended t = t .before .before
 
-abbrev lent : Turn → tie.Start Inv-loop μ-loop
+abbrev lent : tie.In-loop Inv-loop μ-loop → tie.Start Inv-loop μ-loop
 lent t = ended t .before .before
 
-seeking : (t : Turn) → let q = lent t in
+seeking : (t : tie.In-loop Inv-loop μ-loop) → let q = lent t in
     Seeking (q .args .s .now) (q .pre .top) (q .args .at) (q .args .first) (q .pre .value .0) (members (q .pre .rest)) (t .before .loop .i)
     (t .before .loop .left)
 seeking t = let q = lent t .pre in t .before .loop .inv _ _ _ (q .front) (q .keyed) (q .value .1)
 
-abbrev turn : tie.After-compare Inv-loop μ-loop → Turn
+abbrev turn : tie.After-compare Inv-loop μ-loop → tie.In-loop Inv-loop μ-loop
 turn o = o .before
 
 abbrev greater : tie.After-end-of2 Inv-loop μ-loop → tie.After-compare Inv-loop μ-loop
 greater c = c .before .before .before
-
-returns : tie.Need-returns Inv-loop μ-loop
-returns c = λ top vs v f k h.
-    let o = c .before in
-    let t = turn o in
-    seeking-found _ _ _ _ _ _ _ _ (t .before .loop .inv top vs v f k h) _ _ h (o .compare .ensures) (t .loop-test .taken)
-    (omega (arith, c .if1 .taken))
-
-returns-2 : tie.Need-returns-2 Inv-loop μ-loop
-returns-2 c = λ top vs v f k h.
-    let o = c .before .before in
-    let t = turn o in
-    seeking-past _ _ _ _ _ _ _ _ (t .before .loop .inv top vs v f k h) _ _ h (o .compare .ensures) (t .loop-test .taken) (c .if2 .taken)
-
-loop-again : tie.Need-loop-again Inv-loop μ-loop
-loop-again c = λ top vs v f k h.
-    let o = greater c in
-    let t = turn o in
-    seeking-next _ _ _ _ _ _ _ _ (t .before .loop .inv top vs v f k h) _ _ h (o .compare .ensures) (t .loop-test .taken)
-    (λ z. omega (arith, c .before .before .if1 .left)) _ (c .end-of2 .ensures)
 
 pub seek-spec : {M : Type 1} → statement M
 seek-spec =
@@ -67,14 +44,21 @@ seek-spec =
     Inv-loop
     μ-loop
     (λ c κs. value-some _ _ _ _ (c .before .pre .value .1))
-    (λ c. λ top vs v f k h. seeking-start _ _ _ _ _ _ _ f k)
+    (λ c. λ top vs v f k h. seeking-start f k)
     (λ c. tt)
-    (λ c. omega (arith, some-inside _ _ (seeking-key _ _ _ _ _ _ _ _ (seeking c) (c .loop-test .taken))))
-    (λ c κs. (value-some _ _ _ _ (lent c .pre .value .1), seeking-key _ _ _ _ _ _ _ _ (seeking c) (c .loop-test .taken), ended c .end-of .ensures))
-    returns
-    returns-2
-    (λ c κs. let t = turn (c .before .before) in seeking-at _ _ _ _ _ _ _ _ (seeking t) (t .loop-test .taken))
+    (λ c. omega (arith, some-inside _ _ (seeking-key (seeking c) (c .loop-test .taken))))
+    (λ c κs. (value-some _ _ _ _ (lent c .pre .value .1), seeking-key (seeking c) (c .loop-test .taken), ended c .end-of .ensures))
+    (λ c. λ top vs v f k h. let o = c .before in
+    let t = turn o in
+    seeking-found (t .before .loop .inv top vs v f k h) h (o .compare .ensures) (t .loop-test .taken) (omega (arith, c .if1 .taken)))
+    (λ c. λ top vs v f k h. let o = c .before .before in
+    let t = turn o in
+    seeking-past (t .before .loop .inv top vs v f k h) h (o .compare .ensures) (t .loop-test .taken) (c .if2 .taken))
+    (λ c κs. let t = turn (c .before .before) in seeking-at (seeking t) (t .loop-test .taken))
     (λ c. omega (arith, turn (greater c) .loop-test .taken))
     (λ c. omega (arith, turn (greater c) .loop-test .taken))
-    loop-again
-    (λ c. λ top vs v f k h. seeking-end _ _ _ _ _ _ _ _ (c .before .loop .inv top vs v f k h) (c .loop-test .left)))
+    (λ c. λ top vs v f k h. let o = greater c in
+    let t = turn o in
+    seeking-next (t .before .loop .inv top vs v f k h) h (o .compare .ensures) (t .loop-test .taken) (λ z. omega (arith, c .before .before .if1 .left))
+    (c .end-of2 .ensures))
+    (λ c. λ top vs v f k h. seeking-end (c .before .loop .inv top vs v f k h) (c .loop-test .left)))

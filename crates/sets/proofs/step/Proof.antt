@@ -8,17 +8,13 @@ use Rattle.sets.proofs.step.Tie as tie
 abbrev lent : tie.After-turn-at → tie.Start
 lent t = t .before .before .before
 
-returns : tie.Need-returns
-returns c =
-    let p = c .before .before in
-    let t = p .before .before in
-    step-returns _ _ _ _ _ (lent t .pre) _ (t .turn-at .ensures) _ _ (p .put .ensures)
-
 pub step-spec : {M : Type 1} → statement M
 step-spec =
     tie.close
     (tie.spec
-    (λ c κs. step-two _ _ _ _ _ (c .before .before .pre))
-    (λ c κs. let t = c .before in step-put _ _ _ _ _ (lent t .pre) _ (t .turn-at .ensures))
+    (λ c κs. step-two (c .before .before .pre))
+    (λ c κs. let t = c .before in step-put (lent t .pre) (t .turn-at .ensures))
     (λ c. search needs)
-    returns)
+    (λ c. let p = c .before .before in
+    let t = p .before .before in
+    step-returns (lent t .pre) (t .turn-at .ensures) (p .put .ensures)))

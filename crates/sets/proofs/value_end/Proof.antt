@@ -1,9 +1,9 @@
 -- `value_end`: a set whose members are one cell each ends as many cells behind its own as it has members; other values are walked.
 use borrow.Author.Needs.{needs}
-use mathlib.Core.Path.{sym, subst}
+use mathlib.Core.Path.{subst}
 use native.Mathlib.Omega.{arith}
 use lib.ListN.{length}
-use Prim.Native.Nat.{_+_, _<_}
+use Prim.Native.Nat.{_<_}
 use Rattle.arena.specs.Code.{SomeSet, EndsAt}
 use Rattle.arena.proofs.FrontLaws.{value-some}
 use Rattle.arena.proofs.ValueParts.{some-inside}
@@ -28,7 +28,7 @@ returns : tie.Need-returns
 returns c =
     let k = c .before in
     subst (EndsAt _ _) (omega (arith, c .low .ensures .0))
-    (cells-ends _ _ _ _ (is-set (set k) .1) (k .before .before .of-cells .ensures (k .before .if2 .taken)))
+    (cells-ends (is-set (set k) .1) (k .before .before .of-cells .ensures (k .before .if2 .taken)))
 
 pub value-end-spec : {M : Type 1} → statement M
 value-end-spec =

@@ -4,8 +4,7 @@ use native.Mathlib.Omega.{arith}
 use mathlib.Core.Bool.{Bool}
 use lib.Dec.{eqb}
 use lib.ListN.{length, getD}
-use Rattle.sets.proofs.TurnLaws.{including-end}
-use Rattle.sets.proofs.CellLaws.{RowWalk, row-start, including-fewer, including-less, byte-small, row-step}
+use Rattle.sets.proofs.TurnLaws.{including-end, RowWalk, row-start, including-fewer, including-less, byte-small, row-step}
 use Rattle.sets.proofs.walk_cells.Statement.{statement}
 use Rattle.sets.proofs.walk_cells.Tie as tie
 
@@ -16,35 +15,20 @@ abbrev μ-loop : tie.MeasureT-loop
 μ-loop s a m b n i₀ left₀ j₀ others₀ i left j others = others
 
 -- A turn at two sets that both have members left; the order of their first cells is known.
-abbrev Two : Type 0
-Two = tie.Else1 Inv-loop μ-loop
-
-abbrev lent : Two → tie.Start Inv-loop μ-loop
+abbrev lent : tie.Else1 Inv-loop μ-loop → tie.Start Inv-loop μ-loop
 lent t = t .before .before .before
 
-first : (t : Two) → t .before .before .loop .i < length (lent t .args .s .now)
+first : (t : tie.Else1 Inv-loop μ-loop) → t .before .before .loop .i < length (lent t .args .s .now)
 first t = omega (arith, t .before .loop-test .taken, t .before .before .loop .inv .cells .inside)
 
-second : (t : Two) → t .before .before .loop .j < length (lent t .args .s .now)
+second : (t : tie.Else1 Inv-loop μ-loop) → t .before .before .loop .j < length (lent t .args .s .now)
 second t = omega (arith, t .before .loop-test .taken, t .if1 .left, t .before .before .loop .inv .otherCells .inside)
 
-abbrev equal : Two → Bool
+abbrev equal : tie.Else1 Inv-loop μ-loop → Bool
 equal t = let s = lent t .args .s .now in eqb (getD s (t .before .before .loop .i) 0) (getD s (t .before .before .loop .j) 0)
 
-abbrev two : tie.Else2 Inv-loop μ-loop → Two
+abbrev two : tie.Else2 Inv-loop μ-loop → tie.Else1 Inv-loop μ-loop
 two c = c .before .before .before
-
-returns-2 : tie.Need-returns-2 Inv-loop μ-loop
-returns-2 c = λ vs ws f g.
-    let t = c .before .before .before in
-    let w = t .before .before .loop .inv in
-    including-less _ _ _ _ _ _ (w .on vs ws f g) (t .before .loop-test .taken) (omega (arith, t .before .loop-test .taken, t .if1 .left))
-    (w .cells) (w .otherCells) (c .if2 .taken)
-
-loop-again : tie.Need-loop-again Inv-loop μ-loop
-loop-again c = let t = two c in
-    row-step _ _ _ _ _ _ _ _ _ (t .before .before .loop .inv) (t .before .loop-test .taken)
-    (omega (arith, t .if1 .left)) (c .if2 .left)
 
 pub walk-cells-spec : {M : Type 1} → statement M
 walk-cells-spec =
@@ -52,18 +36,22 @@ walk-cells-spec =
     (tie.spec
     Inv-loop
     μ-loop
-    (λ c. row-start _ _ _ _ _ _ (c .pre))
-    (λ c. λ vs ws f g. including-fewer _ _ _ _ _ _ (c .before .before .loop .inv .on vs ws f g) (omega (arith, c .if1 .taken)))
+    (λ c. row-start (c .pre))
+    (λ c. λ vs ws f g. including-fewer (c .before .before .loop .inv .on vs ws f g) (omega (arith, c .if1 .taken)))
     (λ c. omega (arith, first c))
     (λ c. first (c .before))
     (λ c. omega (arith, second (c .before)))
     (λ c. second (c .before .before))
-    returns-2
+    (λ c. λ vs ws f g. let t = c .before .before .before in
+    let w = t .before .before .loop .inv in
+    including-less (w .on vs ws f g) (t .before .loop-test .taken) (omega (arith, t .before .loop-test .taken, t .if1 .left)) (w .cells) (w .otherCells)
+    (c .if2 .taken))
     (λ c. tt)
     (λ c. let t = two c in omega (arith, first t, byte-small (equal t)))
     (λ c. let t = two c in omega (arith, t .before .loop-test .taken, byte-small (equal t)))
     (λ c. omega (arith, second (two c)))
     (λ c. let t = two c in omega (arith, t .before .loop-test .taken, t .if1 .left))
     (λ c. let t = two c in omega (arith, t .before .loop-test .taken, t .if1 .left))
-    loop-again
-    (λ c. λ vs ws f g. including-end _ _ _ _ _ _ (c .before .loop .inv .on vs ws f g) (c .loop-test .left)))
+    (λ c. let t = two c in
+    row-step (t .before .before .loop .inv) (t .before .loop-test .taken) (omega (arith, t .if1 .left)) (c .if2 .left))
+    (λ c. λ vs ws f g. including-end (c .before .loop .inv .on vs ws f g) (c .loop-test .left)))

@@ -16,37 +16,14 @@ Inv-loop s a m b n i₀ left₀ j₀ others₀ i left j others =
 abbrev μ-loop : tie.MeasureT-loop
 μ-loop s a m b n i₀ left₀ j₀ others₀ i left j others = left + others
 
--- A turn at two runs that both have members left; then the turn is known.
-abbrev Two : Type 0
-Two = tie.Else1 Inv-loop μ-loop
-
-abbrev loop : Two → tie.At-loop Inv-loop μ-loop
+-- Both runs have members left; then the turn is known.
+abbrev loop : tie.Else1 Inv-loop μ-loop → tie.At-loop Inv-loop μ-loop
 loop e = e .before .before
 
-including : (e : Two) → let q = loop e .before .before in
+including : (e : tie.Else1 Inv-loop μ-loop) → let q = loop e .before .before in
     Including (q .args .s .now) (loop e .loop .i) (loop e .loop .left) (loop e .loop .j) (loop e .loop .others)
     (allIn (members (q .pre .first)) (members (q .pre .second)))
 including e = let q = loop e .before .before .pre in loop e .loop .inv _ _ (q .onLeft) (q .onRight)
-
-returns-2 : tie.Need-returns-2 Inv-loop μ-loop
-returns-2 c = λ vs ws f g.
-    let t = c .before .before in
-    let e = t .before in
-    including-turn _ _ _ _ _ _ (loop e .loop .inv vs ws f g) (e .before .loop-test .taken) (e .if1 .left) _ (t .turn-at .ensures)
-    .1 (not-true _ (c .if2 .taken))
-
-loop-less : tie.Need-loop-less Inv-loop μ-loop
-loop-less c =
-    let t = c .before .before in
-    let e = t .before in
-    including-turn _ _ _ _ _ _ (including e) (e .before .loop-test .taken) (e .if1 .left) _ (t .turn-at .ensures) .0 (not-false _ (c .if2 .left)) .1
-
-loop-again : tie.Need-loop-again Inv-loop μ-loop
-loop-again c = λ vs ws f g.
-    let t = c .before .before in
-    let e = t .before in
-    including-turn _ _ _ _ _ _ (loop e .loop .inv vs ws f g) (e .before .loop-test .taken) (e .if1 .left) _ (t .turn-at .ensures)
-    .0 (not-false _ (c .if2 .left)) .0
 
 pub walk-included-spec : {M : Type 1} → statement M
 walk-included-spec =
@@ -55,9 +32,15 @@ walk-included-spec =
     Inv-loop
     μ-loop
     (λ c. including-start _ _ _ _ _)
-    (λ c. λ vs ws f g. including-short _ _ _ _ _ _ (c .before .before .loop .inv vs ws f g) (c .before .loop-test .taken) (c .if1 .taken))
-    (λ c κs. including-two _ _ _ _ _ _ (including c) (c .before .loop-test .taken) (c .if1 .left))
-    returns-2
-    loop-less
-    loop-again
-    (λ c. λ vs ws f g. including-end _ _ _ _ _ _ (c .before .loop .inv vs ws f g) (c .loop-test .left)))
+    (λ c. λ vs ws f g. including-short (c .before .before .loop .inv vs ws f g) (c .before .loop-test .taken) (c .if1 .taken))
+    (λ c κs. including-two (including c) (c .before .loop-test .taken) (c .if1 .left))
+    (λ c. λ vs ws f g. let t = c .before .before in
+    let e = t .before in
+    including-turn (loop e .loop .inv vs ws f g) (e .before .loop-test .taken) (e .if1 .left) (t .turn-at .ensures) .1 (not-true _ (c .if2 .taken)))
+    (λ c. let t = c .before .before in
+    let e = t .before in
+    including-turn (including e) (e .before .loop-test .taken) (e .if1 .left) (t .turn-at .ensures) .0 (not-false _ (c .if2 .left)) .1)
+    (λ c. λ vs ws f g. let t = c .before .before in
+    let e = t .before in
+    including-turn (loop e .loop .inv vs ws f g) (e .before .loop-test .taken) (e .if1 .left) (t .turn-at .ensures) .0 (not-false _ (c .if2 .left)) .0)
+    (λ c. λ vs ws f g. including-end (c .before .loop .inv vs ws f g) (c .loop-test .left)))

@@ -30,21 +30,6 @@ first t = second t .before .before
 abbrev turn : tie.Then3 Inv-loop μ-loop → tie.At-loop Inv-loop μ-loop
 turn t = first t .before .before
 
-step-requires : tie.Need-step-requires Inv-loop μ-loop
-step-requires c κs =
-    let t = c .before in
-    let l = turn t in
-    let q = lent l .pre in
-    walking-step _ _ _ _ _ _ _ _ _ _ _ (l .loop .inv) (q .runs) (q .room) (first t .if1 .taken) (ltb-true _ _ (second t .if2 .taken))
-    (leb-true _ _ (t .if3 .taken))
-
-loop-again : tie.Need-loop-again Inv-loop μ-loop
-loop-again c =
-    let d = c .before .before in
-    let l = turn (d .before .before) in
-    let q = lent l .pre in
-    walking-next _ _ _ _ _ _ _ _ _ _ _ (l .loop .inv) (q .runs) (q .room) _ _ (d .step .ensures)
-
 -- A test has failed.
 abbrev ended : tie.Joined1 Inv-loop μ-loop → tie.At-loop Inv-loop μ-loop
 ended j = j .before .before
@@ -58,18 +43,6 @@ over j =
           elim y [ inl x ↦ inr (inl (omega (arith, ltb-false 0 (ended j .loop .w .n) (x .2 .left)))) | inr x ↦ inl (omega (arith, x .left)) ]
     ]
 
-finish-requires : tie.Need-finish-requires Inv-loop μ-loop
-finish-requires c κs =
-    let j = c .before in
-    let l = ended j in
-    let q = lent l .pre in
-    walking-end _ _ _ _ _ _ _ _ _ _ _ (l .loop .inv) (q .runs) (q .room) _ (over j) (λ e. absurd01 (cc e))
-
-returns : tie.Need-returns Inv-loop μ-loop
-returns c =
-    let d = c .before .before in
-    walking-made _ _ _ _ _ _ _ _ _ _ _ (ended (d .before .before) .loop .inv) _ _ (d .finish .ensures)
-
 pub walk-merge-spec : {M : Type 1} → statement M
 walk-merge-spec =
     tie.close
@@ -78,10 +51,17 @@ walk-merge-spec =
     μ-loop
     (λ c. omega (arith, c .before .pre .room))
     (λ c. omega (arith, c .before .pre .room))
-    (λ c. walking-start _ _ _ _ _ _ _ _ _ (c .before .pre .room))
-    step-requires
+    (λ c. walking-start (c .before .pre .room))
+    (λ c κs. let t = c .before in
+    let l = turn t in
+    let q = lent l .pre in
+    walking-step (l .loop .inv) (q .runs) (q .room) (first t .if1 .taken) (ltb-true _ _ (second t .if2 .taken)) (leb-true _ _ (t .if3 .taken)))
     (λ c. c .before .before .step .ensures .fewer)
-    loop-again
-    finish-requires
+    (λ c. let d = c .before .before in
+    let l = turn (d .before .before) in
+    walking-next (l .loop .inv) (lent l .pre .runs) (lent l .pre .room) (d .step .ensures))
+    (λ c κs. let j = c .before in
+    let l = ended j in
+    walking-end (l .loop .inv) (lent l .pre .runs) (lent l .pre .room) (over j) (λ e. absurd01 (cc e)))
     (λ c. search needs)
-    returns)
+    (λ c. let d = c .before .before in walking-made (ended (d .before .before) .loop .inv) (d .finish .ensures)))
