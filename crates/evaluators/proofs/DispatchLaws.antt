@@ -7,7 +7,7 @@ use mathlib.Core.Logic.{_≢_, _⊎_, inl, inr, ⊎-elim}
 use mathlib.Core.Option.{Option, none as nothing, some}
 use mathlib.Core.Path.{_≡_, refl, sym, ap, _∙_, subst}
 use native.Mathlib.Omega.{arith}
-use native.Mathlib.Decide.{decLt}
+use native.Mathlib.Decide.{ℕ-discrete, decLt}
 use lib.Dec.{leb}
 use lib.ListN.{getD}
 use Rattle.rules.specs.Types.{whole}
@@ -36,7 +36,7 @@ use Rattle.arena.proofs.CodeLaws.{length-code}
 use Rattle.constants.specs.Built.{builtLeaf}
 use Rattle.constants.specs.Constants.{OneCell}
 use Rattle.constants.proofs.ConstantLaws.{leaf-one}
-use Rattle.operations.specs.Outcomes.{BuiltAt, LeafFits, LeafReady, LeafDone}
+use Rattle.operations.specs.Outcomes.{BuiltAt, IsLight, LeafFits, LeafReady, LeafDone}
 use Rattle.operations.proofs.KindLaws.{code-of, kind-of}
 use Rattle.evaluators.specs.declared.Formed.{Formed}
 use Rattle.evaluators.specs.declared.Formed.the-variants.{Value as Placed, Stopped}
@@ -307,6 +307,15 @@ module _ {bs env s : List ℕ} {top k n left : ℕ} (v : Visited bs env s top k 
 pub placed-answer : {bs env s : List ℕ} {top n at left l : ℕ} → Ready bs env s top n → PlacedLeaf bs env n at → left ≢ 0 → l ≡ left - 1 →
     EvaluatesE bs env s top n left s (Placed at top l)
 placed-answer r p h q = rw q (standing-answer (counted r _ h refl) p)
+
+-- 37, 39 and 40 have two operands.
+pub light-two : {k : ℕ} → IsLight k → Sort two k
+light-two {k} h = go (ℕ-discrete k 37) (ℕ-discrete k 39)
+  where
+    go : Dec (k ≡ 37) → Dec (k ≡ 39) → Sort two k
+    go (yes e) d = (apply, kind-of k (two apply) e)
+    go (no n) (yes e) = (plus whole, kind-of k (two (plus whole)) e)
+    go (no n) (no m) = (minus whole, kind-of k (two (minus whole)) (omega (arith, h .low, h .high, h .other, n, m)))
 
 -- An identifier's value stands where the environment says.
 pub standing-name-place : {bs env : List ℕ} {n at : ℕ} → PlacedLeaf bs env n at → kindAt (tableOf bs .nodes) n ≡ some (leaf identifier) →

@@ -18,7 +18,7 @@ use Rattle.rules.specs.Evaluation.{select, valueᵉ}
 use Rattle.arena.specs.Code.{code}
 use Rattle.arena.proofs.Standing.{same-trans}
 use Rattle.products.specs.Growing.{PutsCell}
-use Rattle.operations.specs.Outcomes.{oneGiven, twoGiven, Gives, OneReady, OneOf, SomeOperands, TwoReady, TwoOf, LightOf}
+use Rattle.operations.specs.Outcomes.{oneGiven, twoGiven, Gives, OneReady, OneOf, SomeOperands, TwoReady, TwoOf, IsLight, LightOf}
 use Rattle.operations.specs.declared.Outcome.{Outcome}
 use Rattle.operations.specs.declared.Outcome.the-variants.{Built}
 use Rattle.operations.proofs.KindLaws.{kind-of}
@@ -28,16 +28,17 @@ use Rattle.constants.specs.Built.{Builds}
 use Rattle.reading.specs.declared.Refusal.{Refusal}
 use Rattle.evaluators.specs.declared.Held.the-variants.{Truth, Refused}
 use Rattle.evaluators.specs.declared.Formed.{Formed}
+use Rattle.evaluators.specs.declared.Places.{Places}
 use Rattle.evaluators.specs.declared.Formed.the-variants.{Value as Placed, Stopped}
 use Rattle.evaluators.specs.declared.Range.the-variants.{Set, Unlike}
 use Rattle.evaluators.specs.Answers.{EndsWith, PlacedAs, SelectedAs, ChosenAs, SettleReady}
 use Rattle.evaluators.specs.Nodes.{fieldA, fieldB, IsPred, IsExpr, PlacedLeaf, MarkedLeaf, SomeGood, RangeAt}
-use Rattle.evaluators.specs.Cycle.{Ready, Visited, EvaluatesP, EvaluatesE, EachReady, bodyAt, EvaluatesChosen, Settles}
+use Rattle.evaluators.specs.Cycle.{Ready, Visited, EvaluatesP, EvaluatesE, EachReady, bodyAt, EvaluatesChosen, Settles, StandingTwo}
 use Rattle.evaluators.proofs.RunLaws.{then-done, then-refused, light-form, fitted-ends, fitting-on, fitting-refused}
 use Rattle.evaluators.proofs.NodeLaws.{Child, TwoFields, sizes-small, ready-first, visited-kind, visited-builds, operation-room, visited-child, visited-operands}
 use Rattle.evaluators.proofs.NodeLaws.{Asks, some-asks, visits, after, valueIn, held-below, formed-below, treeᵉ, stopped-by, settled-by, settles-by}
 use Rattle.evaluators.proofs.BodyLaws.{Asked, some-asked, bodyOf}
-use Rattle.evaluators.proofs.DispatchLaws.{name-below, placed-answer, standing-name-place}
+use Rattle.evaluators.proofs.DispatchLaws.{name-below, placed-answer, light-two, standing-name-place}
 use Rattle.evaluators.proofs.BothLaws.{operands-ready, BothAs, StopsBoth, EvaluatesBoth, left-ready, right-ready, both-formed}
 use Rattle.evaluators.proofs.RangeLaws.{placed-range, placed-good, placed-low, placed-unlike, RangeHere, range-here, in-range, each-ready}
 
@@ -147,9 +148,6 @@ module _ {bs env s : List ℕ} {top k n left : ℕ} (x : Visited bs env s top k 
         let r = right-ready (x .ready) two-fields refl first-stands refl refl .0 in
         both-formed (x .ready) two-fields refl first-stands refl refl (placed-answer r q (omega arith) (omega arith)) refl
 
-    pub standing-operands : SomeOperands s at other
-    standing-operands = operands-ready (x .ready) standing-both
-
     -- The first is marked, so it is an identifier's value and known to be a function.
     known-first : MarkedLeaf bs env (fieldA bs n) → KnownFunction s at true
     known-first m =
@@ -158,15 +156,22 @@ module _ {bs env s : List ℕ} {top k n left : ℕ} (x : Visited bs env s top k 
         let y = fieldA bs (fieldA bs n) in
         rw (standing-name-place p (m .is)) (function-known (sizes-small bs (x .ready .readable)) (b .at y lt) (λ _. b .functions y lt (m .marked)))
 
-    pub standing-known : {k : Bool} → (k ≡ true → MarkedLeaf bs env (fieldA bs n)) → KnownFunction s at k
-    standing-known g e = known-first (g e) refl
+-- 37, 39 and 40, where the operands stand already.
+module _ {bs env s : List ℕ} {top k n left : ℕ} (x : Visited bs env s top k n left) {r : Places} (z : StandingTwo bs env k n left r) where
+  abbrev both : EvaluatesBoth bs env s top n (left - 1) s (r .first) top (r .second) top (left - 3)
+  both = let y = light-two (z .light) in standing-both x (y .0) (y .1) (z .first) (z .second) (z .visits)
 
-    module _ {o : Outcome} (op : LightOf k s at other o) where
-      pub light-settles : SettleReady s o top top top
-      light-settles = two-settles standing-both (op top)
+  pub light-asks : SomeOperands s (r .first) (r .second) × KnownFunction s (r .first) (r .known) × IsLight k
+  light-asks =
+      let y = light-two (z .light) in
+      (operands-ready (x .ready) both, λ e. known-first x (y .0) (y .1) (z .first) (z .second) (z .visits) (z .known e) refl, z .light)
 
-      pub light-evaluates : {s′ : List ℕ} {r : Formed} → Settles s o top top top n (left - 3) s′ r → EvaluatesE bs env s top n left s′ r
-      light-evaluates = two-evaluates standing-both (op top)
+  module _ {o : Outcome} (op : LightOf k s (r .first) (r .second) o) where
+    pub light-settles : SettleReady s o top top top
+    light-settles = let y = light-two (z .light) in two-settles x (y .0) (y .1) both (op top)
+
+    pub light-evaluates : {s′ : List ℕ} {f : Formed} → Settles s o top top top n (left - 3) s′ f → EvaluatesE bs env s top n left s′ f
+    light-evaluates = let y = light-two (z .light) in two-evaluates x (y .0) (y .1) both (op top)
 
 -- 25: the condition's node is `m`.
 pub byte-small : (b : Bool) → boolByte b ≤ 1

@@ -422,7 +422,8 @@ fn eval_expr(
     eval_value(table, env, s, top, node, left)
 }
 
-// The expression at a node, by its kind.
+// The expression at a node, by its kind. Operands that stand already have no answers, which would go through memory, where the operation
+// builds nothing.
 fn eval_value(
     table: &[u8],
     env: &[u32; 32],
@@ -438,6 +439,11 @@ fn eval_value(
         return stopped(19, node, left);
     }
     let kind = table::node_kind(table, node);
+    let p = standing_two(table, env, kind, node, left);
+    if p.first > 0 {
+        let r = operations::light(s, kind, p.first, p.second, p.known);
+        return settle(s, r, top, top, top, node, left - 3);
+    }
     match kind {
         25 => eval_bool(table, env, s, top, node, left),
         27 | 33 | 35 | 36 | 38 | 43 => eval_one(table, env, s, top, kind, node, left),
@@ -570,7 +576,7 @@ fn is_marked(table: &[u8], env: &[u32; 32], node: usize) -> bool
 // Where the operands of an operation that builds nothing stand, if they stand already and there are visits for all three nodes; otherwise
 // `first` is 0. And whether the first is known to be a function.
 fn standing_two(table: &[u8], env: &[u32; 32], kind: usize, node: usize, left: u32) -> Places
-    requires { ⌜ ((s : List ℕ) × (top : ℕ) × Visited (now table) (now env) s top kind node left) × Sort two kind ⌝ }
+    requires { ⌜ ((s : List ℕ) × (top : ℕ) × Visited (now table) (now env) s top kind node left) ⌝ }
     ensures { λ r. ⌜ (r .first ≢ 0 → StandingTwo (now (table .entry)) (now (env .entry)) kind node left r) ⌝ }
 {
     let none = Places {
@@ -599,7 +605,7 @@ fn standing_two(table: &[u8], env: &[u32; 32], kind: usize, node: usize, left: u
     }
 }
 
-// 28 to 32, 37 and 39 to 41. Operands that stand already have no answers, which would go through memory, where the operation builds nothing.
+// 28 to 32, 37 and 39 to 41
 fn eval_two(
     table: &[u8],
     env: &[u32; 32],
@@ -612,11 +618,6 @@ fn eval_two(
     requires { ⌜ Visited (now table) (now env) (now s) top kind node left × Sort two kind ⌝ }
     ensures { λ r. ⌜ EvaluatesE (now (table .entry)) (now (env .entry)) (now (s .entry)) top node left (now (s .exit)) r ⌝ }
 {
-    let p = standing_two(table, env, kind, node, left);
-    if p.first > 0 {
-        let r = operations::light(s, kind, p.first, p.second, p.known);
-        return settle(s, r, top, top, top, node, left - 3);
-    }
     let a = table::node_field(table, node, 0);
     let first = operand(table, env, s, top, a, left - 1);
     let Formed::Value {

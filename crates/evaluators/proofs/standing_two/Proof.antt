@@ -7,10 +7,11 @@ use native.Mathlib.Omega.{arith}
 use borrow.Author.Tests.{not-false}
 use denote.Ref.{now}
 use lib.Dec.{lit<}
+use Rattle.operations.specs.Outcomes.{IsLight}
 use Rattle.evaluators.specs.Nodes.{PlacedLeaf, MarkedLeaf}
 use Rattle.evaluators.proofs.SafeLaws.{ready-node}
 use Rattle.evaluators.proofs.NodeLaws.{TwoFields, ready-first}
-use Rattle.evaluators.proofs.DispatchLaws.{place-ready}
+use Rattle.evaluators.proofs.DispatchLaws.{place-ready, light-two}
 use Rattle.evaluators.proofs.FormLaws.{two-fields}
 use Rattle.evaluators.proofs.standing_two.Statement.{statement}
 use Rattle.evaluators.proofs.standing_two.Tie as tie
@@ -27,11 +28,15 @@ word c = c .before .before
 abbrev word₂ : tie.After-is-marked → tie.After-node-field2
 word₂ c = c .before .before
 
-abbrev begun : tie.After-node-field2 → tie.Start
-begun c = lent (enough (word (c .before) .before))
+abbrev begun : tie.After-node-field2 → tie.Else2
+begun c = word (c .before) .before
 
-fields : (v : tie.Start) → TwoFields (now (v .args .table)) (v .args .node)
-fields v = two-fields (v .pre .0 .2) (v .pre .1 .0) (v .pre .1 .1)
+-- The kind is one of two operands.
+light : (c : tie.Else2) → IsLight (lent (enough c) .args .kind)
+light c = c .before .is-light .ensures (not-false _ (c .if2 .left))
+
+fields : (c : tie.Else2) → let v = lent (enough c) in TwoFields (now (v .args .table)) (v .args .node)
+fields c = let y = light-two (light c) in two-fields (lent (enough c) .pre .2) (y .0) (y .1)
 
 -- The same under equal names.
 placed-as : {bs env : List ℕ} {n m at : ℕ} → n ≡ m → PlacedLeaf bs env n at → PlacedLeaf bs env m at
@@ -49,7 +54,7 @@ returns-4 c z =
       first = placed-as (f .node-field2 .ensures) (c .before .leaf-place2 .ensures z);
       second = placed-as (g .node-field .ensures) (e .before .leaf-place .ensures (e .if3 .left));
       visits = omega (arith, enough (g .before) .if1 .left);
-      light = g .before .before .is-light .ensures (not-false _ (g .before .if2 .left));
+      light = light (g .before);
       known = λ d. marked-as (f .node-field2 .ensures) (c .is-marked .ensures d);
     }
 
@@ -60,10 +65,12 @@ standing-two-spec =
     (λ c z. absurd (z refl))
     (λ c κs. tt)
     (λ c z. absurd (z refl))
-    (λ c κs. (ready-node (lent (enough c) .pre .0 .2 .ready), lit< tt))
-    (λ c κs. let v = lent (enough (c .before)) in rw (c .node-field .ensures) (place-ready (ready-first (v .pre .0 .2 .ready) (fields v .right))))
+    (λ c κs. (ready-node (lent (enough c) .pre .2 .ready), lit< tt))
+    (λ c κs. let e = c .before in rw (c .node-field .ensures) (place-ready (ready-first (lent (enough e) .pre .2 .ready) (fields e .right))))
     (λ c z. absurd (z refl))
-    (λ c κs. (ready-node (lent (enough (word c .before)) .pre .0 .2 .ready), lit< tt))
-    (λ c κs. let v = begun c in rw (c .node-field2 .ensures) (place-ready (ready-first (v .pre .0 .2 .ready) (fields v .left))))
-    (λ c κs. let f = c .before in let v = begun f in rw (f .node-field2 .ensures) (place-ready (ready-first (v .pre .0 .2 .ready) (fields v .left))))
+    (λ c κs. (ready-node (lent (enough (word c .before)) .pre .2 .ready), lit< tt))
+    (λ c κs. let e = begun c in rw (c .node-field2 .ensures) (place-ready (ready-first (lent (enough e) .pre .2 .ready) (fields e .left))))
+    (λ c κs. let f = c .before in
+    let e = begun f in
+    rw (f .node-field2 .ensures) (place-ready (ready-first (lent (enough e) .pre .2 .ready) (fields e .left))))
     returns-4)
