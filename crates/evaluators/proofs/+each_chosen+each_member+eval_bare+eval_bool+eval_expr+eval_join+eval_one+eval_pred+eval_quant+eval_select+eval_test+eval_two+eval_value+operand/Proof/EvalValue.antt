@@ -1,5 +1,6 @@
--- `eval_value`: no visit is left, or the operands stand already and nothing is built, or each arm asks what its evaluator asks of the node, by the code that the arm tells; the last arm is met
--- by no expression. In `m = .. .match .rest`, `m .1` is that the code is neither 20 nor 26, `m .0 .1` neither 21 nor 42, and so on back to 25.
+-- `eval_value`: no visit is left; or the operands stand already and nothing is built; or each arm asks what its evaluator asks of the node, by the
+-- code that the arm tells; the last arm is met by no expression. In `m = .. .match .rest`, `m .1` is that the code is neither 20 nor 26, `m .0 .1`
+-- neither 21 nor 42, and so on back to 25.
 use Prim.Native.Nat.{ℕ}
 use mathlib.Core.Path.{refl, sym}
 use mathlib.Core.Logic.{⊎-elim, inl, inr}
