@@ -7,7 +7,7 @@ use mathlib.Core.Path.{_≡_, refl, sym, ap, _∙_, subst}
 use native.Mathlib.Omega.{arith}
 use lib.ListN.{length, set as setAt, length-set}
 use lib.Seq.{getD-set-same, getD-set-other}
-use Rattle.rules.specs.Values.{Value, Values, none, _▸_, members, values, count, weight, weights, order}
+use Rattle.rules.specs.Values.{Value, Values, none, _▸_, members, values, count, weights, order}
 use Rattle.rules.specs.Operations.{keptValue, setOf}
 use Rattle.laws.proofs.Membership.{values-members}
 use Rattle.laws.proofs.CellsLaws.{count-weights}
@@ -157,21 +157,13 @@ set-stands {s} {top} {n} {to} {zs} b l =
       cells = λ i p. getD-set-other s top (top + 1 + i) x 0 (λ z. omega arith) ∙ b .stands .cells i p;
     })
 
--- What has been built is part of the whole.
-whole-weighs : (l e r : Bool) (s : List ℕ) (top : ℕ) (w : Walk) (whole : List Value) → Merging l e r s top w whole → w .to ≤ top + weight (setOf whole)
-whole-weighs l e r s top w whole h =
-    omega (
-      arith,
-      h .built .ends,
-      ap (λ (c : List Value). weights (values c)) (h .all),
-      weights-append (h .done) (merged l e r (members (h .left)) (members (h .right))),
-    )
-
--- Too heavy already.
+-- What has been built, which is part of the whole, is too heavy already.
 pub end-heavy : {l r : Bool} {s : List ℕ} {w : Walk} {top : ℕ} → top + 256 < w .to → Ended l r s w top s 0
 end-heavy {l} {r} {s} {w} {top} g b whole h = record {
   frame = same-refl top s;
-  light = λ k. absurd (omega (arith, whole-weighs l b r s top w whole h));
+  light = λ k.
+      let x = weights-append (h .done) (merged l b r (members (h .left)) (members (h .right))) in
+      absurd (omega (arith, h .built .ends, ap (λ (c : List Value). weights (values c)) (h .all)));
   heavy = λ k. refl;
 }
 

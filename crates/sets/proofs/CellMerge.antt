@@ -148,18 +148,15 @@ module _ (k : Bool) (M : List Value → List Value → List Value)
         all = turn v y (members vs) (members ys) first ∙ rw (t .all) (kept-cond k v (members (t .first)) (M (members (t .rest)) (y ∷ members ys)));
       }
 
-abbrev noneBuilt : ℕ → Out
-noneBuilt top = record { to = top + 1; count = 0 }
-
 -- Both fronts, and where the merge goes on.
 module _ {s : List ℕ} {a m b n top : ℕ} (below : RowsBelow s a m b n top) {p q : ℕ} (h : Ahead s a m b n p)
     (k : Ahead s b n (a + p) (m - p) q) where
-  pub first-put : PutPre s a (a + p) p (noneBuilt top)
+  pub first-put : PutPre s a (a + p) p (record { to = top + 1; count = 0 })
   first-put =
       let x = rows-small below in
       record { forward = omega arith; behind = omega (arith, h .few); room = omega (arith, h .few, below .room); few = omega (arith, h .few) }
 
-  module _ {l : Bool} {s′ : List ℕ} {o : Out} (put : Put l s a (a + p) p (noneBuilt top) s′ o) where
+  module _ {l : Bool} {s′ : List ℕ} {o : Out} (put : Put l s a (a + p) p (record { to = top + 1; count = 0 }) s′ o) where
     counts : (o .to ≡ top + 1 + o .count) × (o .count ≤ p)
     counts = let x = put .even (omega arith) in (omega arith, omega (arith, put .near))
 
