@@ -44,12 +44,8 @@ same-of a c e = rw e
 
 other-of : (a c : Value) → (order a c ≡ Ordering·eq → ⊥) → same a c ≡ false
 unfolding same
-other-of a c d = go (order a c) d
-  where
-    go : (o : Ordering) → (o ≡ Ordering·eq → ⊥) → isEq o ≡ false
-    go Ordering·lt n = refl
-    go Ordering·eq n = absurd (n refl)
-    go Ordering·gt n = refl
+other-of a c =
+    elim (order a c) as (λ o. (o ≡ Ordering·eq → ⊥) → isEq o ≡ false) [ Ordering·lt ↦ λ n. refl | Ordering·eq ↦ λ n. absurd (n refl) | Ordering·gt ↦ λ n. refl ]
 
 -- `is_function` and `flat_function`: the pairs left decide. Q is what else is known of them.
 pub record Checking (Q : Values → Type 0) (s : List ℕ) (top : ℕ) (vs : Values) (i left : ℕ) : Type 0 where

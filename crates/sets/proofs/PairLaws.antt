@@ -49,22 +49,18 @@ less-all first v x [] p q h l = tt
 less-all first v x (y ∷ ys) p q h l = (one first p (q .0) l, less-all first v x ys p (q .1) (h .1) l)
   where
     one : (f : Bool) → Keeps f x → Keeps f y → Before v (keyOf f x) → Before v (keyOf f y)
-    one true p q l = go (first-parts x y p q (h .0))
-      where
-        go : Before (left x) (left y) ⊎ (left x ≡ left y) → Before v (left y)
-        go (inl b) = before-trans v (left x) (left y) l b
-        go (inr e) = subst (Before v) e l
+    one true p q l = elim (first-parts x y p q (h .0)) [ inl b ↦ before-trans v (left x) (left y) l b | inr e ↦ subst (Before v) e l ]
     one false p q l = before-trans v x y l (h .0)
 
 -- A new first part is less than all that follow.
 new-less : (x : Value) (xs : List Value) → All SmallPair (x ∷ xs) → Rising (x ∷ xs) → T (newFirst x xs) → All (λ z. Before (left x) (left z)) xs
 new-less x [] p r n = tt
 new-less x (y ∷ ys) p r n =
-    let l = go (first-parts x y (p .0) (p .1 .0) (r .0 .0)) in (l, less-all true (left x) y ys (p .1 .0) (p .1 .1) (r .1 .0) l)
-  where
-    go : Before (left x) (left y) ⊎ (left x ≡ left y) → Before (left x) (left y)
-    go (inl b) = b
-    go (inr e) = absurd (T-not (same (left x) (left y)) n (subst (λ (z : Value). T (same (left x) z)) e (same-refl (left x))))
+    let l : Before (left x) (left y) = elim (first-parts x y (p .0) (p .1 .0) (r .0 .0)) [
+      | inl b ↦ b
+      | inr e ↦ absurd (T-not (same (left x) (left y)) n (subst (λ (z : Value). T (same (left x) z)) e (same-refl (left x))))
+    ] in
+    (l, less-all true (left x) y ys (p .1 .0) (p .1 .1) (r .1 .0) l)
 
 -- Members that share a first part are equal.
 abbrev FirstsTell : List Value → Type 0
@@ -123,11 +119,9 @@ module _ (e : Value) (small : Small e) (vs : Values) (p : AllPairs vs) (h : All 
 
   pub applied-none : All (λ w. left w ≡ e → ⊥) (members vs) → applied (set vs) e ≡ lacks 16
   unfolding applied
-  applied-none d = rw (kept [] tt (λ y i q. all-in (λ w. left w ≡ e → ⊥) y (members vs) d i q) tt) (always-lacks (isFunction (set vs)))
-    where
-      always-lacks : (b : Bool) → cond b (lacks 16) (lacks 16) ≡ lacks 16
-      always-lacks true = refl
-      always-lacks false = refl
+  applied-none d =
+      rw (kept [] tt (λ y i q. all-in (λ w. left w ≡ e → ⊥) y (members vs) d i q) tt)
+      (elim (isFunction (set vs)) as (λ b. cond b (lacks 16) (lacks 16) ≡ lacks 16) [ true ↦ refl | false ↦ refl ])
 
   pub applied-shared : newFirsts (members vs) ≡ false → applied (set vs) e ≡ lacks 16
   unfolding applied

@@ -168,17 +168,13 @@ few-in (v ▸ vs) (w ▸ ws) p q f g h =
 
 module _ {s : List ℕ} {a m b n : ℕ} {whole : Bool} (h : Including s a m b n whole) where
   pub including-fewer : n < m → false ≡ whole
-  including-fewer l = go whole refl
-    where
-      go : (c : Bool) → whole ≡ c → false ≡ c
-      go true e =
-          absurd (omega (
-            arith,
-            few-in (h .left) (h .right) (h .onLeft .rises) (h .onRight .rises) (h .onLeft .fits) (h .onRight .fits) (sym (h .same) ∙ e),
-            h .onLeft .counted,
-            h .onRight .counted,
-          ))
-      go false e = refl
+  including-fewer l =
+      elim whole as (λ c. whole ≡ c → false ≡ c) [
+        | true ↦ λ e.
+            let x = few-in (h .left) (h .right) (h .onLeft .rises) (h .onRight .rises) (h .onLeft .fits) (h .onRight .fits) (sym (h .same) ∙ e) in
+            absurd (omega (arith, h .onLeft .counted, h .onRight .counted))
+        | false ↦ λ e. refl
+      ] refl
 
   -- A search for the first member.
   module _ (l : 0 < m) (left : Cells s a m) (right : Cells s b n) {r : ℕ} (found : Found s b 1 n (getD s a 0) r) where
