@@ -13,7 +13,9 @@ use Rattle.laws.proofs.OrderLaws.{Small, order-eq, order-pair, before-order, or
 use Rattle.laws.proofs.SetOrder.{All, Before, Rising, all-imp, keep-rising}
 use Rattle.laws.proofs.Membership.{In, all-in, in-all, left-small, keep-in, same-members}
 use Rattle.laws.proofs.FunctionLaws.{function-right}
-use Rattle.arena.specs.Code.{IsPair, AllPairs}
+use Rattle.arena.specs.Code.{CellsFit, FineSet, IsPair, AllPairs}
+use Rattle.arena.proofs.CodeLaws.{fits-small}
+use Rattle.arena.proofs.FrontLaws.{rises-rising, fit-small}
 use Rattle.sets.specs.Fronts.{keyOf}
 use Rattle.sets.specs.Pairs.{newFirst, newFirsts}
 
@@ -104,7 +106,13 @@ firsts-right vs p h r =
     bool-eq (newFirsts (members vs)) (isFunction (set vs)) (λ t. b .1 (a .0 t)) (λ t. a .1 (b .0 t))
 
 -- What application gives, by the first parts.
-module _ (e : Value) (small : Small e) (vs : Values) (p : AllPairs vs) (h : All Small (members vs)) (r : Rising (members vs)) where
+module _ (e : Value) (fits : CellsFit e) (vs : Values) (p : AllPairs vs) (fine : FineSet vs) where
+  h : All Small (members vs)
+  h = fit-small vs (fine .fits .1)
+
+  r : Rising (members vs)
+  r = rises-rising vs (fine .rises)
+
   -- the pairs that are kept, as a list with the same members
   kept : (xs : List Value) → Rising xs → ((y : Value) → In y (members vs) → left y ≡ e → In y xs) → All (λ y. In y (members vs) × (left y ≡ e)) xs →
       keep (pairedWith e) (members vs) ≡ xs
@@ -113,7 +121,7 @@ module _ (e : Value) (small : Small e) (vs : Values) (p : AllPairs vs) (h : All 
       same-members (keep (pairedWith e) (members vs)) xs (keep-rising (pairedWith e) (members vs) r) q
       (in-all (λ y. In y xs) (keep (pairedWith e) (members vs)) λ y i.
       let k = keep-in (pairedWith e) y (members vs) .0 i in
-      f y (k .0) (same-eq (left y) e (left-small y (all-in Small y (members vs) h (k .0))) small (k .1)))
+      f y (k .0) (same-eq (left y) e (left-small y (all-in Small y (members vs) h (k .0))) (fits-small e fits) (k .1)))
       (all-imp (λ y. In y (members vs) × (left y ≡ e)) (λ y. In y (keep (pairedWith e) (members vs)))
       (λ y k. keep-in (pairedWith e) y (members vs) .1 (k .0, subst (λ (z : Value). T (same (left y) z)) (k .1) (same-refl (left y)))) xs g)
 

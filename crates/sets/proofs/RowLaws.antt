@@ -20,7 +20,7 @@ use Rattle.arena.proofs.CodeLaws.{length-code, length-codes, fits-small}
 use Rattle.arena.proofs.Standing.{leaf-ends, leaf-parts}
 use Rattle.arena.proofs.ValueParts.{ends-at, first-cell, scalar-cell, scalar-one}
 use Rattle.arena.proofs.FrontLaws.{fit-small, set-inside, front-start, front-value, front-next}
-use Rattle.arena.proofs.EvenLaws.{weights-even, Behind, behind, value-at, cell-order}
+use Rattle.arena.proofs.EvenLaws.{weights-even, behind, value-at, cell-order}
 use Rattle.sets.specs.Fronts.{Cells, RunEnds}
 use Rattle.sets.specs.Rows.{Row, LowerBound, Found, Fine, SomeFine}
 
