@@ -26,6 +26,10 @@ use Rattle.sets.proofs.MergedLaws.{merged-nil, merged-turn}
 use Rattle.sets.proofs.SearchLaws.{no-front, by-fronts}
 use Rattle.sets.proofs.TurnLaws.{two-fronts, turn-fewer}
 
+-- A cell stored above what is looked at.
+pub store-frame : (s : List ℕ) {k : ℕ} (to x : ℕ) → k ≤ to → Same k s (setAt s to x)
+store-frame s to x l = record { same = λ i p. getD-set-other s to i x 0 (λ z. omega arith); kept = length-set s to x }
+
 -- `put`
 
 module _ {s : List ℕ} {from end k : ℕ} {o : Out} {s′ : List ℕ} where
@@ -267,10 +271,7 @@ module _ {l r : Bool} {s : List ℕ} {w : Walk} {top : ℕ} {cells : Bool} (p : 
       end-made g e whole h =
           let b = all-built e whole h in
           record {
-            frame = record {
-              same = λ i k. getD-set-other s′ top i (21474836480 + o .count) 0 (λ z. omega arith) ∙ end-frame e whole h .same i k;
-              kept = length-set s′ top (21474836480 + o .count) ∙ put .frame .kept;
-            };
+            frame = same-trans top top s s′ _ (end-frame e whole h) (store-frame s′ top (21474836480 + o .count) (omega arith)) (omega arith);
             light = λ k. (omega (arith, b .ends), set-stands b (omega (arith, p .room, put .frame .kept)));
             heavy = λ k. absurd (omega (arith, b .ends));
           }

@@ -107,21 +107,21 @@ firsts-right vs p h r =
 
 -- What application gives, by the first parts.
 module _ (e : Value) (fits : CellsFit e) (vs : Values) (p : AllPairs vs) (fine : FineSet vs) where
-  h : All Small (members vs)
-  h = fit-small vs (fine .fits .1)
+  small : All Small (members vs)
+  small = fit-small vs (fine .fits .1)
 
-  r : Rising (members vs)
-  r = rises-rising vs (fine .rises)
+  rises : Rising (members vs)
+  rises = rises-rising vs (fine .rises)
 
   -- the pairs that are kept, as a list with the same members
   kept : (xs : List Value) → Rising xs → ((y : Value) → In y (members vs) → left y ≡ e → In y xs) → All (λ y. In y (members vs) × (left y ≡ e)) xs →
       keep (pairedWith e) (members vs) ≡ xs
   unfolding pairedWith
   kept xs q f g =
-      same-members (keep (pairedWith e) (members vs)) xs (keep-rising (pairedWith e) (members vs) r) q
+      same-members (keep (pairedWith e) (members vs)) xs (keep-rising (pairedWith e) (members vs) rises) q
       (in-all (λ y. In y xs) (keep (pairedWith e) (members vs)) λ y i.
       let k = keep-in (pairedWith e) y (members vs) .0 i in
-      f y (k .0) (same-eq (left y) e (left-small y (all-in Small y (members vs) h (k .0))) (fits-small e fits) (k .1)))
+      f y (k .0) (same-eq (left y) e (left-small y (all-in Small y (members vs) small (k .0))) (fits-small e fits) (k .1)))
       (all-imp (λ y. In y (members vs) × (left y ≡ e)) (λ y. In y (keep (pairedWith e) (members vs)))
       (λ y k. keep-in (pairedWith e) y (members vs) .1 (k .0, subst (λ (z : Value). T (same (left y) z)) (k .1) (same-refl (left y)))) xs g)
 
@@ -133,10 +133,10 @@ module _ (e : Value) (fits : CellsFit e) (vs : Values) (p : AllPairs vs) (fine :
 
   pub applied-shared : newFirsts (members vs) ≡ false → applied (set vs) e ≡ lacks 16
   unfolding applied
-  applied-shared t = rw (← firsts-right vs p h r, t)
+  applied-shared t = rw (← firsts-right vs p small rises, t)
 
   pub applied-found : (x : Value) → In x (members vs) → left x ≡ e → newFirsts (members vs) ≡ true → applied (set vs) e ≡ gives (right x)
   unfolding applied
   applied-found x i q t =
-      let tell = firsts-tell (members vs) (pairs-small vs p h) r .0 (rw t tt) in
-      rw (← firsts-right vs p h r, t, kept (x ∷ []) (tt, tt) (λ y j k. inl (tell y x j i (k ∙ sym q))) ((i, q), tt))
+      let tell = firsts-tell (members vs) (pairs-small vs p small) rises .0 (rw t tt) in
+      rw (← firsts-right vs p small rises, t, kept (x ∷ []) (tt, tt) (λ y j k. inl (tell y x j i (k ∙ sym q))) ((i, q), tt))
