@@ -37,12 +37,26 @@ pub good-by : (gs : List ℕ) (x t p k : ℕ) → t ≡ x / 4294967296 → p ≡
 unfolding cellGood
 good-by gs x t p k e f g = rw (← g, e, f)
 
-pub good-last : (gs : List ℕ) (t p : ℕ) → (t ≡ 1 → ⊥) → (t ≡ 2 → ⊥) → (t ≡ 3 → ⊥) → (t ≡ 4 → ⊥) → eqb t 5 ≡ tagGood gs t p
-good-last gs zero p a b c d = refl
-good-last gs (suc zero) p a b c d = absurd (a refl)
+-- A number's cell, or one with no tag; and a pair's.
+pub good-number : (gs : List ℕ) (x : ℕ) → x < 8589934592 → leb 4294967296 x ≡ cellGood gs x
+good-number gs x h = go (decLt x 4294967296)
+  where
+    go : Dec (x < 4294967296) → leb 4294967296 x ≡ cellGood gs x
+    go (yes l) = lt-leb 4294967296 x l ∙ good-by gs x _ _ 0 refl refl (omega (arith, l))
+    go (no l) = le-leb 4294967296 x (omega (arith, l)) ∙ good-by gs x _ _ 1 refl refl (omega (arith, l, h))
+
+pub good-pair : (gs : List ℕ) (x : ℕ) → x ≡ 17179869184 → true ≡ cellGood gs x
+good-pair gs x h =
+    let p : x % 4294967296 ≡ 0 = omega (arith, h) in
+    sym (eq-eqb (x % 4294967296) 0 p) ∙ good-by gs x _ _ 4 refl refl (omega (arith, h))
+
+-- The others.
+pub good-last : (gs : List ℕ) (t p : ℕ) → 1 < t → (t ≡ 2 → ⊥) → (t ≡ 3 → ⊥) → (t ≡ 4 → p ≡ 0 → ⊥) → eqb t 5 ≡ tagGood gs t p
+good-last gs zero p a b c d = absurd (omega (arith, a))
+good-last gs (suc zero) p a b c d = absurd (omega (arith, a))
 good-last gs (suc (suc zero)) p a b c d = absurd (b refl)
 good-last gs (suc (suc (suc zero))) p a b c d = absurd (c refl)
-good-last gs (suc (suc (suc (suc zero)))) p a b c d = absurd (d refl)
+good-last gs (suc (suc (suc (suc zero)))) p a b c d = sym (ne-eqb p 0 (d refl))
 good-last gs (suc (suc (suc (suc (suc zero))))) p a b c d = refl
 good-last gs (suc (suc (suc (suc (suc (suc n)))))) p a b c d = ne-eqb (suc (suc (suc (suc (suc (suc n)))))) 5 (λ e. omega arith)
 

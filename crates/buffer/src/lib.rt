@@ -85,24 +85,25 @@ fn code_cell(cell: u64) -> u64
     cell
 }
 
-// Whether a value may have this cell: its tag, a truth below 2, an element that its given set has, no payload of a pair.
+// Whether a value may have this cell: its tag, a truth below 2, an element that its given set has, no payload of a pair. Numbers and pairs are told
+// by the whole cell: a choice by tags is an indirect jump, which relations make the processor guess wrong.
 fn good_cell(table: &[u8], cell: u64) -> bool
     requires { ⌜ Header (now table) ⌝ }
     ensures { λ r. ⌜ r ≡ cellGood (tableOf (now (table .entry)) .sizes) cell ⌝ }
 {
-    let t = arena::tag(cell);
-    let p = arena::low(cell);
-    if t == 1 {
+    if cell < arena::TRUTH {
+        return cell >= arena::NUMBER;
+    }
+    if cell == arena::PAIR {
         return true;
     }
+    let t = arena::tag(cell);
+    let p = arena::low(cell);
     if t == 3 {
         return p % 256 < table::size(table, (p / 256) as usize) as u64;
     }
     if t == 2 {
         return p < 2;
-    }
-    if t == 4 {
-        return p == 0;
     }
     t == 5
 }

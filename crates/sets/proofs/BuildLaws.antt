@@ -7,7 +7,7 @@ use mathlib.Core.Path.{_≡_, refl, sym, ap, _∙_, subst}
 use native.Mathlib.Omega.{arith}
 use lib.ListN.{length, set as setAt, length-set}
 use lib.Seq.{getD-set-same, getD-set-other}
-use Rattle.rules.specs.Values.{Value, Values, none, _▸_, members, values, count, weight, weights, order}
+use Rattle.rules.specs.Values.{Value, Values, none, _▸_, members, values, count, weights, order}
 use Rattle.rules.specs.Operations.{keptValue, setOf}
 use Rattle.laws.proofs.Membership.{values-members}
 use Rattle.laws.proofs.CellsLaws.{count-weights}
@@ -25,6 +25,10 @@ use Rattle.sets.specs.Fronts.{Merging, StepPre, Stepped, RestOf, EndPre,
 use Rattle.sets.proofs.MergedLaws.{merged-nil, merged-turn}
 use Rattle.sets.proofs.SearchLaws.{no-front, by-fronts}
 use Rattle.sets.proofs.TurnLaws.{two-fronts, turn-fewer}
+
+-- A cell stored above what is looked at.
+pub store-frame : (s : List ℕ) {k : ℕ} (to x : ℕ) → k ≤ to → Same k s (setAt s to x)
+store-frame s to x l = record { same = λ i p. getD-set-other s to i x 0 (λ z. omega arith); kept = length-set s to x }
 
 -- `put`
 
@@ -157,21 +161,13 @@ set-stands {s} {top} {n} {to} {zs} b l =
       cells = λ i p. getD-set-other s top (top + 1 + i) x 0 (λ z. omega arith) ∙ b .stands .cells i p;
     })
 
--- What has been built is part of the whole.
-whole-weighs : (l e r : Bool) (s : List ℕ) (top : ℕ) (w : Walk) (whole : List Value) → Merging l e r s top w whole → w .to ≤ top + weight (setOf whole)
-whole-weighs l e r s top w whole h =
-    omega (
-      arith,
-      h .built .ends,
-      ap (λ (c : List Value). weights (values c)) (h .all),
-      weights-append (h .done) (merged l e r (members (h .left)) (members (h .right))),
-    )
-
--- Too heavy already.
+-- What has been built, which is part of the whole, is too heavy already.
 pub end-heavy : {l r : Bool} {s : List ℕ} {w : Walk} {top : ℕ} → top + 256 < w .to → Ended l r s w top s 0
 end-heavy {l} {r} {s} {w} {top} g b whole h = record {
   frame = same-refl top s;
-  light = λ k. absurd (omega (arith, whole-weighs l b r s top w whole h));
+  light = λ k.
+      let x = weights-append (h .done) (merged l b r (members (h .left)) (members (h .right))) in
+      absurd (omega (arith, h .built .ends, ap (λ (c : List Value). weights (values c)) (h .all)));
   heavy = λ k. refl;
 }
 
@@ -275,10 +271,7 @@ module _ {l r : Bool} {s : List ℕ} {w : Walk} {top : ℕ} {cells : Bool} (p : 
       end-made g e whole h =
           let b = all-built e whole h in
           record {
-            frame = record {
-              same = λ i k. getD-set-other s′ top i (21474836480 + o .count) 0 (λ z. omega arith) ∙ end-frame e whole h .same i k;
-              kept = length-set s′ top (21474836480 + o .count) ∙ put .frame .kept;
-            };
+            frame = same-trans top top s s′ _ (end-frame e whole h) (store-frame s′ top (21474836480 + o .count) (omega arith)) (omega arith);
             light = λ k. (omega (arith, b .ends), set-stands b (omega (arith, p .room, put .frame .kept)));
             heavy = λ k. absurd (omega (arith, b .ends));
           }

@@ -1,5 +1,6 @@
 -- The merge of two sets whose members are one cell each. A cell that is stored is a value put behind what has been built, or it lies
--- behind it (`cell-put`); so a turn at two cells is a turn of the merge (`merge-step`).
+-- behind it (`cell-put`); so a turn at two cells is a turn of the merge (`merge-step`). What comes before the other set's first cell is
+-- so many turns on one side (`taken`), with which the merge begins (`merge-start`).
 use Prim.Native.Nat.{ℕ, zero, suc, _+_, _*_, _-_, _≤_, _<_, Ordering·lt, Ordering·gt}
 use mathlib.Core.Bool.{Bool, true, false, cond}
 use mathlib.Core.List.{List, [], _∷_, _++_, append-assoc}
@@ -29,7 +30,7 @@ use Rattle.sets.specs.Fronts.{TurnAt, Cells, PutPre, Put, Merging, EndPr
 use Rattle.sets.specs.Rows.{Kept, CellTurned, RowsBelow, Ahead, RowMerge}
 use Rattle.sets.proofs.MergedLaws.{merged-turn}
 use Rattle.sets.proofs.TurnLaws.{turn-less, turn-equal, turn-greater, byte-small}
-use Rattle.sets.proofs.BuildLaws.{put-kept, put-none, built-none, step-on, walking-made, walking-end}
+use Rattle.sets.proofs.BuildLaws.{store-frame, put-kept, put-none, built-none, step-on, walking-made, walking-end}
 use Rattle.sets.proofs.RowLaws.{cells-part, cells-first, cells-frame, cells-weigh}
 
 -- `cell_turn`, from the lesser of both cells and whether it is kept.
@@ -74,7 +75,7 @@ cell-put true {s} {from} {to} l k f =
     }) (omega arith) refl
 cell-put false {s} {from} {to} {count} l k f =
     rw (let e : to + 0 ≡ to = omega arith in e, let e : count + 0 ≡ count = omega arith in e)
-    (put-none (record { same = λ i p. getD-set-other s to i (getD s from 0) 0 (λ e. omega arith); kept = length-set s to (getD s from 0) }))
+    (put-none (store-frame s to (getD s from 0) (omega arith)))
 
 rows-small : {s : List ℕ} {a m b n top : ℕ} → RowsBelow s a m b n top → (m ≤ 255) × (n ≤ 255) × (a + m ≤ top) × (b + n ≤ top)
 rows-small p =
@@ -148,18 +149,15 @@ module _ (k : Bool) (M : List Value → List Value → List Value)
         all = turn v y (members vs) (members ys) first ∙ rw (t .all) (kept-cond k v (members (t .first)) (M (members (t .rest)) (y ∷ members ys)));
       }
 
-abbrev noneBuilt : ℕ → Out
-noneBuilt top = record { to = top + 1; count = 0 }
-
 -- Both fronts, and where the merge goes on.
 module _ {s : List ℕ} {a m b n top : ℕ} (below : RowsBelow s a m b n top) {p q : ℕ} (h : Ahead s a m b n p)
     (k : Ahead s b n (a + p) (m - p) q) where
-  pub first-put : PutPre s a (a + p) p (noneBuilt top)
+  pub first-put : PutPre s a (a + p) p (record { to = top + 1; count = 0 })
   first-put =
       let x = rows-small below in
       record { forward = omega arith; behind = omega (arith, h .few); room = omega (arith, h .few, below .room); few = omega (arith, h .few) }
 
-  module _ {l : Bool} {s′ : List ℕ} {o : Out} (put : Put l s a (a + p) p (noneBuilt top) s′ o) where
+  module _ {l : Bool} {s′ : List ℕ} {o : Out} (put : Put l s a (a + p) p (record { to = top + 1; count = 0 }) s′ o) where
     counts : (o .to ≡ top + 1 + o .count) × (o .count ≤ p)
     counts = let x = put .even (omega arith) in (omega arith, omega (arith, put .near))
 
@@ -255,10 +253,6 @@ module _ {l e r : Bool} {s₀ : List ℕ} {a m b n top : ℕ} {s : List ℕ} {i 
         RowMerge l e r s₀ a m b n top (setAt s to (getD s from 0)) i′ j′ (to + boolByte keep)
     next keep {from} low x turn =
         let y = byte-small keep in
-        let stored : Same top s (setAt s to (getD s from 0)) = record {
-          same = λ k q. getD-set-other s to k (getD s from 0) 0 (λ z. omega (arith, h .countIs));
-          kept = length-set s to (getD s from 0);
-        } in
         record {
           below = h .below;
           onLeft = (omega (arith, h .onLeft), omega arith);
@@ -267,7 +261,7 @@ module _ {l e r : Bool} {s₀ : List ℕ} {a m b n top : ℕ} {s : List ℕ} {i 
           countIs = omega (arith, h .countIs);
           few = omega (arith, h .few, h .onLeft, h .onRight);
           walking = record {
-            frame = same-trans top top s₀ s _ (h .walking .frame) stored (omega arith);
+            frame = same-trans top top s₀ s _ (h .walking .frame) (store-frame s to (getD s from 0) (omega (arith, h .countIs))) (omega arith);
             on = λ vs ws f g.
                 step-on turn (cell-put keep (omega (arith, h .countIs)) (merge-inside .2) (omega (arith, merge-inside .3, h .countIs)))
                 (h .walking .on vs ws f g) (omega arith) (omega arith);

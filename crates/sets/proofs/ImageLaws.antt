@@ -1,7 +1,7 @@
 -- Relations in the arena. Whether no pair shares its first part with the next one is decided by the pairs that are left (`Checking`); what is found is
 -- an application (`image-found`). Pairs of two values of one cell each are three cells: the order of the first parts of two neighbours is that of their
 -- cells (`cells-order`), so that the first parts make a row (`pair-row`), and e is one where its cell is in the row (`pair-none`, `pair-found`).
-use Prim.Native.Nat.{ℕ, _+_, _-_, _%_, _≤_, _<_, Ordering, Ordering·lt, Ordering·eq, Ordering·gt, suc, _*_, compare}
+use Prim.Native.Nat.{ℕ, _+_, _-_, _%_, _≤_, _<_, Ordering·lt, Ordering·eq, Ordering·gt, suc, _*_, compare}
 use mathlib.Core.Bool.{Bool, true, false}
 use mathlib.Core.List.{List}
 use mathlib.Core.Path.{_≡_, refl, sym, ap, _∙_, subst}
@@ -9,18 +9,18 @@ use native.Mathlib.Omega.{arith}
 use lib.Dec.{isEq}
 use lib.ListN.{length, getD}
 use Rattle.rules.specs.Values.{Value, pair, set, Values, none, _▸_, members, weight, order, same}
-use Rattle.rules.specs.Operations.{left, right, applied}
-use Rattle.laws.proofs.OrderLaws.{Small, then-lt, order-pair, before-order, compare-lt, compare-eq, compare-refl}
-use Rattle.laws.proofs.SetOrder.{All, Rising}
+use Rattle.rules.specs.Operations.{left, right}
+use Rattle.laws.proofs.OrderLaws.{then-lt, order-pair, before-order, compare-lt, compare-eq, compare-refl}
+use Rattle.laws.proofs.SetOrder.{All}
 use Rattle.laws.proofs.Membership.{all-in, In, in-all}
-use Rattle.arena.specs.Code.{ValueAt, orderCode, SomeAt, EndsAt, Compared, SetBelow, ValueBelow, Front, IsPair, AllPairs, cellSize, AllWeigh, EvenSet}
-use Rattle.arena.proofs.CodeLaws.{fits-small, length-codes}
+use Rattle.arena.specs.Code.{ValueAt, orderCode, SomeAt, EndsAt, Compared, SetBelow, SomeValue, ValueBelow, Front, IsPair, AllPairs, cellSize, AllWeigh, EvenSet}
+use Rattle.arena.proofs.CodeLaws.{length-codes}
 use Rattle.arena.proofs.ValueParts.{left-stands, right-stands, scalar-cell, scalar-one}
-use Rattle.arena.proofs.FrontLaws.{rises-rising, fit-small, front-start, front-value, front-next, code-equal, front-below}
+use Rattle.arena.proofs.FrontLaws.{front-start, front-value, front-next, code-equal, front-below}
 use Rattle.sets.specs.Fronts.{Member, MemberOrNone}
-use Rattle.sets.specs.Pairs.{newFirsts, SomePairs, Relation, Within, ImageAt, FlatPairs, SomeFlat}
+use Rattle.sets.specs.Pairs.{newFirsts, SomePairs, Relation, Within, SomeRelation, Applies, PairSought, IsFunction, FlatPairs, SomeFlat}
 use Rattle.sets.proofs.PairLaws.{on-pair, applied-none, applied-shared, applied-found}
-use Rattle.sets.proofs.SearchLaws.{key-stands, by-front, no-front}
+use Rattle.sets.proofs.SearchLaws.{sought-some, sought-none, key-stands, by-front, no-front}
 use mathlib.Core.Logic.{inl, inr}
 use Rattle.laws.proofs.CellsLaws.{weight-some}
 use Rattle.arena.proofs.EvenLaws.{weights-even, value-at, cell-order}
@@ -44,12 +44,8 @@ same-of a c e = rw e
 
 other-of : (a c : Value) → (order a c ≡ Ordering·eq → ⊥) → same a c ≡ false
 unfolding same
-other-of a c d = go (order a c) d
-  where
-    go : (o : Ordering) → (o ≡ Ordering·eq → ⊥) → isEq o ≡ false
-    go Ordering·lt n = refl
-    go Ordering·eq n = absurd (n refl)
-    go Ordering·gt n = refl
+other-of a c =
+    elim (order a c) as (λ o. (o ≡ Ordering·eq → ⊥) → isEq o ≡ false) [ Ordering·lt ↦ λ n. refl | Ordering·eq ↦ λ n. absurd (n refl) | Ordering·gt ↦ λ n. refl ]
 
 -- `is_function` and `flat_function`: the pairs left decide. Q is what else is known of them.
 pub record Checking (Q : Values → Type 0) (s : List ℕ) (top : ℕ) (vs : Values) (i left : ℕ) : Type 0 where
@@ -143,44 +139,37 @@ whole {s} {f} {n} {vs} h =
 pub relation-run : {s : List ℕ} {f n : ℕ} {flat : Bool} → Relation s f n flat → SomePairs s (f + 1) n
 relation-run r = let q = r .relation in (_, _, front-start _ _ _ _ (q .1) _ (r .counted), q .2)
 
--- What is found, as an application.
-module _ {s : List ℕ} {f e : ℕ} {vs : Values} {v : Value} (h : SetBelow s (length s) f vs) (k : ValueBelow s (length s) e v) (p : AllPairs vs) where
-  small : All Small (members vs)
-  small = fit-small vs (h .fine .fits .1)
+-- What the search for a pair and the test tell of an application.
+pub image-none : {s : List ℕ} {f e i : ℕ} → PairSought s f e i → i ≡ 0 → Applies s f e 0
+image-none sought z vs v h k p = rw (applied-none v (k .fits) vs p (h .fine) (sought-none (sought vs v h k p) (omega arith))) (refl, refl)
 
-  rising : Rising (members vs)
-  rising = rises-rising vs (h .fine .rises)
+pub image-shared : {s : List ℕ} {f e : ℕ} {b : Bool} → IsFunction s f b → b ≡ false → Applies s f e 0
+image-shared g z vs v h k p = rw (applied-shared v (k .fits) vs p (h .fine) (sym (g vs h p) ∙ z)) (refl, refl)
 
-  pub image-none : All (λ w. left w ≡ v → ⊥) (members vs) → ImageAt s f vs 0 (applied (set vs) v)
-  image-none d = rw (applied-none v (fits-small v (k .fits)) vs p small rising d) (refl, refl)
+module _ {s : List ℕ} {f e i : ℕ} (sought : PairSought s f e i) (some : i ≡ 0 → ⊥) where
+  -- the first part of the pair that is found
+  pub first-part : SomeValue s (length s) e → SomeRelation s (length s) f → SomeAt s (i + 1)
+  first-part q r =
+      let m = sought-some (sought (r .0) (q .0) (r .1) (q .1) (r .2)) some in
+      let p = all-in IsPair (m .is) (members (r .0)) (all-pairs (r .0) (r .2)) (m .among) in
+      let x = key-stands true s i (m .is) none (p, tt) (m .value .stands) (m .value .fits) in
+      record { value = left (m .is); stands = x .0; fits = x .1 }
 
-  pub image-shared : newFirsts (members vs) ≡ false → ImageAt s f vs 0 (applied (set vs) v)
-  image-shared d = rw (applied-shared v (fits-small v (k .fits)) vs p small rising d) (refl, refl)
-
-  module _ {i : ℕ} (m : Member s (f + weight (set vs)) (f + 1) true v (members vs) i) where
-    is-pair : IsPair (m .is)
-    is-pair = all-in IsPair (m .is) (members vs) (all-pairs vs p) (m .among)
-
-    -- the first part of the member
-    pub first-part : SomeAt s (i + 1)
-    first-part =
-        let x = key-stands true s i (m .is) none (is-pair, tt) (m .value .stands) (m .value .fits) in
-        record { value = left (m .is); stands = x .0; fits = x .1 }
-
-    pub image-found : newFirsts (members vs) ≡ true → {r : ℕ} → EndsAt s (i + 1) r → ImageAt s f vs r (applied (set vs) v)
-    image-found d {r} ends =
-        rw (applied-found v (fits-small v (k .fits)) vs p small rising (m .is) (m .among) (m .key) d)
-        (on-pair (λ w. ValueBelow s (f + weight (set vs)) i w → Within s f vs r (right w))
-        (λ a b w. let x : r ≡ i + 1 + weight a = ends a (left-stands s i a b (w .stands)) (w .fits .0) in record {
-          positive = omega arith;
-          behind = omega (arith, m .behind);
-          value = record {
-            stands = rw x (right-stands s i a b (w .stands));
-            below = omega (arith, w .below);
-            fits = w .fits .1;
-            light = omega (arith, w .light);
-          };
-        }) (m .is) is-pair (m .value))
+  pub image-found : {b : Bool} → IsFunction s f b → b ≡ true → {r : ℕ} → EndsAt s (i + 1) r → Applies s f e r
+  image-found g z {r} ends vs v h k p =
+      let m = sought-some (sought vs v h k p) some in
+      rw (applied-found v (k .fits) vs p (h .fine) (m .is) (m .among) (m .key) (sym (g vs h p) ∙ z))
+      (on-pair (λ w. ValueBelow s (f + weight (set vs)) i w → Within s f vs r (right w))
+      (λ a b w. let x : r ≡ i + 1 + weight a = ends a (left-stands s i a b (w .stands)) (w .fits .0) in record {
+        positive = omega arith;
+        behind = omega (arith, m .behind);
+        value = record {
+          stands = rw x (right-stands s i a b (w .stands));
+          below = omega (arith, w .below);
+          fits = w .fits .1;
+          light = omega (arith, w .light);
+        };
+      }) (m .is) (all-in IsPair (m .is) (members vs) (all-pairs vs p) (m .among)) (m .value))
 
 three-each : (v : Value) (vs : Values) → FlatPairs (v ▸ vs) → (weight v ≡ 3) × FlatPairs vs
 three-each v vs h = (h .0 .0, (h .0 .1, h .1 .1))

@@ -13,7 +13,9 @@ use Rattle.laws.proofs.OrderLaws.{Small, order-eq, order-pair, before-order, or
 use Rattle.laws.proofs.SetOrder.{All, Before, Rising, all-imp, keep-rising}
 use Rattle.laws.proofs.Membership.{In, all-in, in-all, left-small, keep-in, same-members}
 use Rattle.laws.proofs.FunctionLaws.{function-right}
-use Rattle.arena.specs.Code.{IsPair, AllPairs}
+use Rattle.arena.specs.Code.{CellsFit, FineSet, IsPair, AllPairs}
+use Rattle.arena.proofs.CodeLaws.{fits-small}
+use Rattle.arena.proofs.FrontLaws.{rises-rising, fit-small}
 use Rattle.sets.specs.Fronts.{keyOf}
 use Rattle.sets.specs.Pairs.{newFirst, newFirsts}
 
@@ -49,22 +51,18 @@ less-all first v x [] p q h l = tt
 less-all first v x (y ∷ ys) p q h l = (one first p (q .0) l, less-all first v x ys p (q .1) (h .1) l)
   where
     one : (f : Bool) → Keeps f x → Keeps f y → Before v (keyOf f x) → Before v (keyOf f y)
-    one true p q l = go (first-parts x y p q (h .0))
-      where
-        go : Before (left x) (left y) ⊎ (left x ≡ left y) → Before v (left y)
-        go (inl b) = before-trans v (left x) (left y) l b
-        go (inr e) = subst (Before v) e l
+    one true p q l = elim (first-parts x y p q (h .0)) [ inl b ↦ before-trans v (left x) (left y) l b | inr e ↦ subst (Before v) e l ]
     one false p q l = before-trans v x y l (h .0)
 
 -- A new first part is less than all that follow.
 new-less : (x : Value) (xs : List Value) → All SmallPair (x ∷ xs) → Rising (x ∷ xs) → T (newFirst x xs) → All (λ z. Before (left x) (left z)) xs
 new-less x [] p r n = tt
 new-less x (y ∷ ys) p r n =
-    let l = go (first-parts x y (p .0) (p .1 .0) (r .0 .0)) in (l, less-all true (left x) y ys (p .1 .0) (p .1 .1) (r .1 .0) l)
-  where
-    go : Before (left x) (left y) ⊎ (left x ≡ left y) → Before (left x) (left y)
-    go (inl b) = b
-    go (inr e) = absurd (T-not (same (left x) (left y)) n (subst (λ (z : Value). T (same (left x) z)) e (same-refl (left x))))
+    let l : Before (left x) (left y) = elim (first-parts x y (p .0) (p .1 .0) (r .0 .0)) [
+      | inl b ↦ b
+      | inr e ↦ absurd (T-not (same (left x) (left y)) n (subst (λ (z : Value). T (same (left x) z)) e (same-refl (left x))))
+    ] in
+    (l, less-all true (left x) y ys (p .1 .0) (p .1 .1) (r .1 .0) l)
 
 -- Members that share a first part are equal.
 abbrev FirstsTell : List Value → Type 0
@@ -108,33 +106,37 @@ firsts-right vs p h r =
     bool-eq (newFirsts (members vs)) (isFunction (set vs)) (λ t. b .1 (a .0 t)) (λ t. a .1 (b .0 t))
 
 -- What application gives, by the first parts.
-module _ (e : Value) (small : Small e) (vs : Values) (p : AllPairs vs) (h : All Small (members vs)) (r : Rising (members vs)) where
+module _ (e : Value) (fits : CellsFit e) (vs : Values) (p : AllPairs vs) (fine : FineSet vs) where
+  small : All Small (members vs)
+  small = fit-small vs (fine .fits .1)
+
+  rises : Rising (members vs)
+  rises = rises-rising vs (fine .rises)
+
   -- the pairs that are kept, as a list with the same members
   kept : (xs : List Value) → Rising xs → ((y : Value) → In y (members vs) → left y ≡ e → In y xs) → All (λ y. In y (members vs) × (left y ≡ e)) xs →
       keep (pairedWith e) (members vs) ≡ xs
   unfolding pairedWith
   kept xs q f g =
-      same-members (keep (pairedWith e) (members vs)) xs (keep-rising (pairedWith e) (members vs) r) q
+      same-members (keep (pairedWith e) (members vs)) xs (keep-rising (pairedWith e) (members vs) rises) q
       (in-all (λ y. In y xs) (keep (pairedWith e) (members vs)) λ y i.
       let k = keep-in (pairedWith e) y (members vs) .0 i in
-      f y (k .0) (same-eq (left y) e (left-small y (all-in Small y (members vs) h (k .0))) small (k .1)))
+      f y (k .0) (same-eq (left y) e (left-small y (all-in Small y (members vs) small (k .0))) (fits-small e fits) (k .1)))
       (all-imp (λ y. In y (members vs) × (left y ≡ e)) (λ y. In y (keep (pairedWith e) (members vs)))
       (λ y k. keep-in (pairedWith e) y (members vs) .1 (k .0, subst (λ (z : Value). T (same (left y) z)) (k .1) (same-refl (left y)))) xs g)
 
   pub applied-none : All (λ w. left w ≡ e → ⊥) (members vs) → applied (set vs) e ≡ lacks 16
   unfolding applied
-  applied-none d = rw (kept [] tt (λ y i q. all-in (λ w. left w ≡ e → ⊥) y (members vs) d i q) tt) (always-lacks (isFunction (set vs)))
-    where
-      always-lacks : (b : Bool) → cond b (lacks 16) (lacks 16) ≡ lacks 16
-      always-lacks true = refl
-      always-lacks false = refl
+  applied-none d =
+      rw (kept [] tt (λ y i q. all-in (λ w. left w ≡ e → ⊥) y (members vs) d i q) tt)
+      (elim (isFunction (set vs)) as (λ b. cond b (lacks 16) (lacks 16) ≡ lacks 16) [ true ↦ refl | false ↦ refl ])
 
   pub applied-shared : newFirsts (members vs) ≡ false → applied (set vs) e ≡ lacks 16
   unfolding applied
-  applied-shared t = rw (← firsts-right vs p h r, t)
+  applied-shared t = rw (← firsts-right vs p small rises, t)
 
   pub applied-found : (x : Value) → In x (members vs) → left x ≡ e → newFirsts (members vs) ≡ true → applied (set vs) e ≡ gives (right x)
   unfolding applied
   applied-found x i q t =
-      let tell = firsts-tell (members vs) (pairs-small vs p h) r .0 (rw t tt) in
-      rw (← firsts-right vs p h r, t, kept (x ∷ []) (tt, tt) (λ y j k. inl (tell y x j i (k ∙ sym q))) ((i, q), tt))
+      let tell = firsts-tell (members vs) (pairs-small vs p small) rises .0 (rw t tt) in
+      rw (← firsts-right vs p small rises, t, kept (x ∷ []) (tt, tt) (λ y j k. inl (tell y x j i (k ∙ sym q))) ((i, q), tt))

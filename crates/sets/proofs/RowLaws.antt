@@ -20,7 +20,7 @@ use Rattle.arena.proofs.CodeLaws.{length-code, length-codes, fits-small}
 use Rattle.arena.proofs.Standing.{leaf-ends, leaf-parts}
 use Rattle.arena.proofs.ValueParts.{ends-at, first-cell, scalar-cell, scalar-one}
 use Rattle.arena.proofs.FrontLaws.{fit-small, set-inside, front-start, front-value, front-next}
-use Rattle.arena.proofs.EvenLaws.{weights-even, Behind, behind, value-at, cell-order}
+use Rattle.arena.proofs.EvenLaws.{weights-even, behind, value-at, cell-order}
 use Rattle.sets.specs.Fronts.{Cells, RunEnds}
 use Rattle.sets.specs.Rows.{Row, LowerBound, Found, Fine, SomeFine}
 
@@ -75,25 +75,23 @@ module _ {s : List ℕ} {at step n x : ℕ} where
 -- A row of numbers, each no less than the one before it.
 pub climb : (f : ℕ → ℕ) (n : ℕ) → ((i : ℕ) → suc i < n → f i ≤ f (suc i)) → (i j : ℕ) → i ≤ j → j < n → f i ≤ f j
 climb f n h i zero l k = let e : i ≡ 0 = omega arith in rw e (omega arith)
-climb f n h i (suc j) l k = go (ℕ-discrete i (suc j)) (λ p. climb f n h i j p (omega arith))
-  where
-    go : Dec (i ≡ suc j) → (i ≤ j → f i ≤ f j) → f i ≤ f (suc j)
-    go (yes e) rec = rw e (omega arith)
-    go (no d) rec = omega (arith, rec (omega arith), h j k)
+climb f n h i (suc j) l k = elim (ℕ-discrete i (suc j)) [
+  | yes e ↦ rw e (omega arith)
+  | no d ↦ omega (arith, climb f n h i j (omega arith) (omega arith), h j k)
+]
 
 -- What holds of two neighbours in a row of values that each weigh k.
 pub neighbours : (s : List ℕ) (top at n k : ℕ) (Q : Values → Type 0) (one : (v : Value) (vs : Values) → Q (v ▸ vs) → (weight v ≡ k) × Q vs)
     (P : ℕ → ℕ → Type 0) → ((i m : ℕ) (v w : Value) (ws : Values) → Front s top i m (v ▸ w ▸ ws) → Q (v ▸ w ▸ ws) → P i (i + k)) →
     (vs : Values) → Front s top at n vs → Q vs → (i : ℕ) → suc i < n → P (at + k * i) (at + k * suc i)
-neighbours s top at n k Q one P p vs f h i l = go (behind s top at n k Q one vs f h i (omega arith))
+neighbours s top at n k Q one P p vs f h i l =
+    let b = behind s top at n k Q one vs f h i (omega arith) in
+    subst (P (at + k * i)) (let e : at + k * i + k ≡ at + k * suc i = omega arith in e) (two (b .rest) (b .front) (b .row))
   where
     two : (ws : Values) → Front s top (at + k * i) (n - i) ws → Q ws → P (at + k * i) (at + k * i + k)
     two none g e = absurd (omega (arith, g .counted))
     two (v ▸ none) g e = absurd (omega (arith, g .counted))
     two (v ▸ w ▸ ws) g e = p (at + k * i) (n - i) v w ws g e
-
-    go : Behind s top at n k Q i → P (at + k * i) (at + k * suc i)
-    go b = subst (P (at + k * i)) (let e : at + k * i + k ≡ at + k * suc i = omega arith in e) (two (b .rest) (b .front) (b .row))
 
 one-each : (v : Value) (vs : Values) → AllWeigh 1 (v ▸ vs) → (weight v ≡ 1) × AllWeigh 1 vs
 one-each v vs h = h

@@ -54,9 +54,9 @@ keeps-all true vs k h = pairs-small vs k h
 keeps-all false vs k h = all-imp Small (Keeps false) (λ x p. tt) (members vs) h
 
 -- Where v is less than the first member's key, it is no member's.
-keys-past : (s : List ℕ) (top i n : ℕ) (first : Bool) (v w : Value) (ws : Values) → Front s top i n (w ▸ ws) → Keyed first (w ▸ ws) →
+keys-past : {s : List ℕ} {top i n : ℕ} (first : Bool) (v w : Value) (ws : Values) → Front s top i n (w ▸ ws) → Keyed first (w ▸ ws) →
     Before v (keyOf first w) → All (λ z. keyOf first z ≡ v → ⊥) (w ∷ members ws)
-keys-past s top i n first v w ws f k l =
+keys-past first v w ws f k l =
     let r = rises-rising (w ▸ ws) (f .rises) in
     let q = keeps-all first (w ▸ ws) k (fit-small (w ▸ ws) (f .fits)) in
     all-imp (λ z. Before v (keyOf first z)) (λ z. keyOf first z ≡ v → ⊥) (λ z b e. before-irrefl v (subst (Before v) e b)) (w ∷ members ws)
@@ -109,7 +109,7 @@ module _ {s : List ℕ} {top at : ℕ} {first : Bool} {v : Value} {vs : List Val
 
     pub seeking-past : c ≡ 0 → MemberOrNone s top at first v vs 0
     seeking-past z = h .on 0 (by-key (λ ws. MemberOrNone s top at first v (members ws) 0) λ w ws f q o x.
-        inr (refl, keys-past s top i left first v w ws f q (order-before v (keyOf first w) (code-less (order v (keyOf first w)) c o z))))
+        inr (refl, keys-past first v w ws f q (order-before v (keyOf first w) (code-less (order v (keyOf first w)) c o z))))
 
     pub seeking-next : (c ≡ 1 → ⊥) → {r : ℕ} → EndsAt s i r → Seeking s top at first v vs r (left - 1)
     seeking-next d {r} ends =

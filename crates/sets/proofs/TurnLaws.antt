@@ -111,8 +111,12 @@ pub record Including (s : List ℕ) (a m b n : ℕ) (whole : Bool) : Type 0 wher
   pub onRight : Front s (length s) b n right
   pub same : whole ≡ allIn (members left) (members right)
 
-pub including-start : (s : List ℕ) (a m b n : ℕ) (vs ws : Values) → Front s (length s) a m vs → Front s (length s) b n ws →
-    Including s a m b n (allIn (members vs) (members ws))
+-- It is so for m members from a on and n from b on, of which `left` from i on and `others` from j on are left.
+abbrev pub Includings : List ℕ → ℕ → ℕ → ℕ → ℕ → ℕ → ℕ → ℕ → ℕ → Type 0
+Includings s a m b n i left j others =
+    (vs ws : Values) → Front s (length s) a m vs → Front s (length s) b n ws → Including s i left j others (allIn (members vs) (members ws))
+
+pub including-start : (s : List ℕ) (a m b n : ℕ) → Includings s a m b n a m b n
 including-start s a m b n vs ws f g = record { left = vs; right = ws; onLeft = f; onRight = g; same = refl }
 
 module _ {s : List ℕ} {a m b n : ℕ} {whole : Bool} (h : Including s a m b n whole) where
@@ -168,17 +172,13 @@ few-in (v ▸ vs) (w ▸ ws) p q f g h =
 
 module _ {s : List ℕ} {a m b n : ℕ} {whole : Bool} (h : Including s a m b n whole) where
   pub including-fewer : n < m → false ≡ whole
-  including-fewer l = go whole refl
-    where
-      go : (c : Bool) → whole ≡ c → false ≡ c
-      go true e =
-          absurd (omega (
-            arith,
-            few-in (h .left) (h .right) (h .onLeft .rises) (h .onRight .rises) (h .onLeft .fits) (h .onRight .fits) (sym (h .same) ∙ e),
-            h .onLeft .counted,
-            h .onRight .counted,
-          ))
-      go false e = refl
+  including-fewer l =
+      elim whole as (λ c. whole ≡ c → false ≡ c) [
+        | true ↦ λ e.
+            let x = few-in (h .left) (h .right) (h .onLeft .rises) (h .onRight .rises) (h .onLeft .fits) (h .onRight .fits) (sym (h .same) ∙ e) in
+            absurd (omega (arith, h .onLeft .counted, h .onRight .counted))
+        | false ↦ λ e. refl
+      ] refl
 
   -- A search for the first member.
   module _ (l : 0 < m) (left : Cells s a m) (right : Cells s b n) {r : ℕ} (found : Found s b 1 n (getD s a 0) r) where
@@ -232,7 +232,7 @@ module _ {s : List ℕ} {a m b n : ℕ} {whole : Bool} (h : Including s a m b n 
 pub record RowWalk (s : List ℕ) (a m b n i left j others : ℕ) : Type 0 where
   pub cells : Cells s i left
   pub otherCells : Cells s j others
-  pub on : (vs ws : Values) → Front s (length s) a m vs → Front s (length s) b n ws → Including s i left j others (allIn (members vs) (members ws))
+  pub on : Includings s a m b n i left j others
 
 -- Two sets as runs of members, and as rows of cells.
 module _ {s : List ℕ} {top a b m n : ℕ} {vs ws : Values} (h : SetBelow s top a vs) (k : SetBelow s top b ws)

@@ -85,5 +85,6 @@ pub record RowMerge (l e r : Bool) (s₀ : List ℕ) (a m b n top : ℕ) (s : Li
   pub few : count ≤ (i - a) + (j - b)
   pub walking : Walking l e r s₀ a m b n top s (record { a = i; m = a + m - i; b = j; n = b + n - j; to = to; count = count })
 
+-- The merge with which `merge_cells` goes on from w, whether it keeps cells of both sets or not.
 abbrev pub FrontsMerge : Bool → Bool → List ℕ → ℕ → ℕ → ℕ → ℕ → ℕ → List ℕ → Place → Type 0
 FrontsMerge l r s a m b n top s′ w = (e : Bool) → RowMerge l e r s a m b n top s′ (w .a) (w .b) (w .to)

@@ -18,17 +18,11 @@ first-inside e = omega (arith, lent e .pre .inside 0 (omega (arith, e .if1 .left
 abbrev above : tie.Else2 → tie.Start
 above e = lent (e .before .before)
 
-abbrev tried : tie.Then3 → tie.Start
-tried t = above (t .before)
+guess-inside : (t : tie.Then3) → let q = above (t .before) .args in q .at + q .step * (q .x - getD (q .s .now) (q .at) 0) < length (q .s .now)
+guess-inside t = above (t .before) .pre .inside _ (t .if3 .taken)
 
-guess-inside : (t : tie.Then3) → let q = tried t .args in q .at + q .step * (q .x - getD (q .s .now) (q .at) 0) < length (q .s .now)
-guess-inside t = tried t .pre .inside _ (t .if3 .taken)
-
-abbrev searched : tie.After-lower-bound → tie.Start
-searched b = above (b .before .before)
-
-inside : (t : tie.Then5) → let q = searched (t .before) .args in q .at + q .step * t .before .lower-bound .result < length (q .s .now)
-inside t = searched (t .before) .pre .inside _ (t .if5 .taken)
+inside : (t : tie.Then5) → let q = above (t .before .before .before) .args in q .at + q .step * t .before .lower-bound .result < length (q .s .now)
+inside t = above (t .before .before .before) .pre .inside _ (t .if5 .taken)
 
 pub find-spec : {M : Type 1} → statement M
 find-spec =
@@ -49,5 +43,5 @@ find-spec =
     (λ c. omega (arith, inside c))
     (λ c. inside (c .before))
     (λ c. found-here (c .before .before .if5 .taken) (c .if6 .taken))
-    (λ c. let t = c .before .before in found-other (searched (t .before) .pre) (t .before .lower-bound .ensures) (t .if5 .taken) (c .if6 .left))
+    (λ c. let t = c .before .before in found-other (above (t .before .before .before) .pre) (t .before .lower-bound .ensures) (t .if5 .taken) (c .if6 .left))
     (λ c. found-over (c .before .lower-bound .ensures) (c .if5 .left)))

@@ -10,9 +10,6 @@ use Rattle.sets.proofs.finish.Tie as tie
 abbrev lent : tie.Else1 → tie.Start
 lent l = l .before .before .before
 
-abbrev light : tie.After-rest-of → tie.Else1
-light q = q .before
-
 abbrev rest : tie.After-rest-end → tie.After-rest-of
 rest e = e .before .before
 
@@ -27,7 +24,7 @@ few c =
     let o = put (c .before) in
     let e = ended o in
     let q = rest e in
-    let l = light q in
+    let l = q .before in
     end-count (lent l .pre) (l .if1 .left) (q .rest-of .ensures) (e .rest-end .ensures) (o .put .ensures) (c .if2 .left)
 
 pub finish-spec : {M : Type 1} → statement M
@@ -38,17 +35,17 @@ finish-spec =
     (λ c. end-heavy (c .if1 .taken))
     (λ c κs. search needs)
     (λ c κs. let q = c .before in
-    let l = light q in
+    let l = q .before in
     end-rest (lent l .pre) (l .if1 .left) (q .rest-of .ensures))
     (λ c κs. let e = c .before in
     let q = rest e in
-    let l = light q in
+    let l = q .before in
     end-put (lent l .pre) (l .if1 .left) (q .rest-of .ensures) (e .rest-end .ensures))
     (λ c. search needs)
     (λ c. let o = put (c .before) in
     let e = ended o in
     let q = rest e in
-    let l = light q in
+    let l = q .before in
     end-over (lent l .pre) (l .if1 .left) (q .rest-of .ensures) (e .rest-end .ensures) (o .put .ensures) (c .if2 .taken))
     (λ c. omega (arith, few (c .before)))
     (λ c. search needs)
@@ -57,5 +54,5 @@ finish-spec =
     (λ c. let o = put (c .before .before) in
     let e = ended o in
     let q = rest e in
-    let l = light q in
+    let l = q .before in
     end-made (lent l .pre) (l .if1 .left) (q .rest-of .ensures) (e .rest-end .ensures) (o .put .ensures) (c .before .if2 .left)))

@@ -1,16 +1,10 @@
 -- `image`: the pair with the first part e is looked for; where there is one, f gives its second part if f is a function.
 use borrow.Author.Needs.{needs}
-use mathlib.Core.Bool.{true}
-use mathlib.Core.Path.{sym, _∙_}
 use native.Mathlib.Omega.{arith}
 use Prim.Native.Nat.{_+_}
-use lib.ListN.{length}
-use Rattle.rules.specs.Values.{Value, Values, set, members, weight}
-use Rattle.arena.specs.Code.{SomeAt, SetBelow, ValueBelow, AllPairs}
+use Rattle.arena.specs.Code.{SomeAt}
 use Rattle.arena.proofs.ValueParts.{some-inside}
-use Rattle.sets.specs.Fronts.{Member}
 use Rattle.sets.specs.Pairs.{Relation}
-use Rattle.sets.proofs.SearchLaws.{sought-some, sought-none}
 use Rattle.sets.proofs.ImageLaws.{image-none, image-shared, first-part, image-found}
 use Rattle.sets.proofs.image.Statement.{statement}
 use Rattle.sets.proofs.image.Tie as tie
@@ -25,19 +19,8 @@ lent o = listed o .before .before .before
 relation : (o : tie.After-of-flat-pairs) → Relation (lent o .args .s .now) (lent o .args .f) (listed o .low .result) (o .of-flat-pairs .result)
 relation o = record { relation = lent o .pre .1; counted = listed o .low .ensures .0; thin = o .of-flat-pairs .ensures }
 
-abbrev asked : tie.After-pair-with → tie.After-of-flat-pairs
-asked b = b .before
-
-member : (t : tie.Else1) (vs : Values) (v : Value) → let q = lent (asked (t .before)) in
-    SetBelow (q .args .s .now) (length (q .args .s .now)) (q .args .f) vs → ValueBelow (q .args .s .now) (length (q .args .s .now)) (q .args .e) v →
-    AllPairs vs → Member (q .args .s .now) (q .args .f + weight (set vs)) (q .args .f + 1) true v (members vs) (t .before .pair-with .result)
-member t vs v h k p = sought-some (t .before .pair-with .ensures vs v h k p) (t .if1 .left)
-
-abbrev found : tie.After-function-at → tie.Else1
-found g = g .before
-
-some : (t : tie.Else1) → SomeAt (lent (asked (t .before)) .args .s .now) (t .before .pair-with .result + 1)
-some t = let q = lent (asked (t .before)) .pre in first-part (q .1 .1) (q .0 .1) (q .1 .2) (member t _ _ (q .1 .1) (q .0 .1) (q .1 .2))
+some : (t : tie.Else1) → SomeAt (lent (t .before .before) .args .s .now) (t .before .pair-with .result + 1)
+some t = let q = lent (t .before .before) .pre in first-part (t .before .pair-with .ensures) (t .if1 .left) (q .0) (q .1)
 
 pub image-spec : {M : Type 1} → statement M
 image-spec =
@@ -48,10 +31,11 @@ image-spec =
     (λ c κs. search needs)
     (λ c κs. search needs)
     (λ c κs. (lent c .pre .0, relation c))
-    (λ c. λ vs v h k p. image-none h k p (sought-none (c .before .pair-with .ensures vs v h k p) (omega (arith, c .if1 .taken))))
-    (λ c κs. let o = asked (c .before) in (relation o, lent o .pre .2))
-    (λ c. omega (arith, some-inside _ _ (some (found (c .before)))))
-    (λ c κs. some (found (c .before)))
-    (λ c. λ vs v h k p. let g = c .before .before in
-    image-found h k p (member (found g) vs v h k p) (sym (g .function-at .ensures vs h p) ∙ c .before .if2 .taken) (c .end-of .ensures))
-    (λ c. λ vs v h k p. image-shared h k p (sym (c .before .function-at .ensures vs h p) ∙ c .if2 .left)))
+    (λ c. image-none (c .before .pair-with .ensures) (c .if1 .taken))
+    (λ c κs. let o = c .before .before in (relation o, lent o .pre .2))
+    (λ c. omega (arith, some-inside _ _ (some (c .before .before))))
+    (λ c κs. some (c .before .before))
+    (λ c. let g = c .before .before in
+    let t = g .before in
+    image-found (t .before .pair-with .ensures) (t .if1 .left) (g .function-at .ensures) (c .before .if2 .taken) (c .end-of .ensures))
+    (λ c. image-shared (c .before .function-at .ensures) (c .if2 .left)))

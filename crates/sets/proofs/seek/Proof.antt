@@ -31,9 +31,6 @@ seeking : (t : tie.In-loop Inv-loop μ-loop) → let q = lent t in
     (t .before .loop .left)
 seeking t = let q = lent t .pre in t .before .loop .inv _ _ _ (q .front) (q .keyed) (q .value .1)
 
-abbrev turn : tie.After-compare Inv-loop μ-loop → tie.In-loop Inv-loop μ-loop
-turn o = o .before
-
 abbrev greater : tie.After-end-of2 Inv-loop μ-loop → tie.After-compare Inv-loop μ-loop
 greater c = c .before .before .before
 
@@ -49,16 +46,16 @@ seek-spec =
     (λ c. omega (arith, some-inside _ _ (seeking-key (seeking c) (c .loop-test .taken))))
     (λ c κs. (value-some _ _ _ _ (lent c .pre .value .1), seeking-key (seeking c) (c .loop-test .taken), ended c .end-of .ensures))
     (λ c. λ top vs v f k h. let o = c .before in
-    let t = turn o in
+    let t = o .before in
     seeking-found (t .before .loop .inv top vs v f k h) h (o .compare .ensures) (t .loop-test .taken) (omega (arith, c .if1 .taken)))
     (λ c. λ top vs v f k h. let o = c .before .before in
-    let t = turn o in
+    let t = o .before in
     seeking-past (t .before .loop .inv top vs v f k h) h (o .compare .ensures) (t .loop-test .taken) (c .if2 .taken))
-    (λ c κs. let t = turn (c .before .before) in seeking-at (seeking t) (t .loop-test .taken))
-    (λ c. omega (arith, turn (greater c) .loop-test .taken))
-    (λ c. omega (arith, turn (greater c) .loop-test .taken))
+    (λ c κs. let t = c .before .before .before in seeking-at (seeking t) (t .loop-test .taken))
+    (λ c. omega (arith, greater c .before .loop-test .taken))
+    (λ c. omega (arith, greater c .before .loop-test .taken))
     (λ c. λ top vs v f k h. let o = greater c in
-    let t = turn o in
+    let t = o .before in
     seeking-next (t .before .loop .inv top vs v f k h) h (o .compare .ensures) (t .loop-test .taken) (λ z. omega (arith, c .before .before .if1 .left))
     (c .end-of2 .ensures))
     (λ c. λ top vs v f k h. seeking-end (c .before .loop .inv top vs v f k h) (c .loop-test .left)))

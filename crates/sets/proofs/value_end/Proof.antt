@@ -24,12 +24,6 @@ is-set t = fine-set _ _ (lent t .pre) (omega (arith, t .if1 .taken))
 abbrev set : tie.After-shared-slice-known3 → tie.Then1
 set c = c .before .before .before
 
-returns : tie.Need-returns
-returns c =
-    let k = c .before in
-    subst (EndsAt _ _) (omega (arith, c .low .ensures .0))
-    (cells-ends (is-set (set k) .1) (k .before .before .of-cells .ensures (k .before .if2 .taken)))
-
 pub value-end-spec : {M : Type 1} → statement M
 value-end-spec =
     tie.close
@@ -42,6 +36,8 @@ value-end-spec =
     (λ c. inside (lent (set c)))
     (λ c κs. search needs)
     (λ c. search needs)
-    returns
+    (λ c. let k = c .before in
+    subst (EndsAt _ _) (omega (arith, c .low .ensures .0))
+    (cells-ends (is-set (set k) .1) (k .before .before .of-cells .ensures (k .before .if2 .taken))))
     (λ c κs. value-some _ _ _ _ (c .before .before .before .pre .1))
     (λ c. search needs))

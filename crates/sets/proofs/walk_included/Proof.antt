@@ -1,17 +1,14 @@
 -- `walk_included`: the answer is whether the members left of the first run are among those left of the second.
 use Prim.Native.Nat.{_+_}
 use borrow.Author.Tests.{not-true, not-false}
-use lib.ListN.{length}
-use Rattle.rules.specs.Values.{Values, members}
+use Rattle.rules.specs.Values.{members}
 use Rattle.rules.specs.Operations.{allIn}
-use Rattle.arena.specs.Code.{Front}
-use Rattle.sets.proofs.TurnLaws.{Including, including-start, including-end, including-short, including-two, including-turn}
+use Rattle.sets.proofs.TurnLaws.{Including, Includings, including-start, including-end, including-short, including-two, including-turn}
 use Rattle.sets.proofs.walk_included.Statement.{statement}
 use Rattle.sets.proofs.walk_included.Tie as tie
 
 abbrev Inv-loop : tie.InvT-loop
-Inv-loop s a m b n i₀ left₀ j₀ others₀ i left j others =
-    (vs ws : Values) → Front s (length s) a m vs → Front s (length s) b n ws → Including s i left j others (allIn (members vs) (members ws))
+Inv-loop s a m b n i₀ left₀ j₀ others₀ i left j others = Includings s a m b n i left j others
 
 abbrev μ-loop : tie.MeasureT-loop
 μ-loop s a m b n i₀ left₀ j₀ others₀ i left j others = left + others
