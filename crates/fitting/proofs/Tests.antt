@@ -15,6 +15,7 @@ use Rattle.rules.specs.Fits.{TypeSet, every, noType, atomˢ, powˢ, _×ˢ_, _�
 use Rattle.laws.proofs.FitsLaws.{_⊑_, ⊓-split, inhabited→some, some→inhabited}
 use Rattle.arena.specs.Code.{cellSize, EndsAt, IsPair, AllPairs}
 use Rattle.fitting.specs.Agree.{meets, agree, TypedAt, RunAt, SomeTyped, Agreed, AgreedWith, Full, Few, Members, SetHere}
+use Rattle.arena.proofs.ValueParts.{ends-at}
 use Rattle.fitting.specs.Tests.{FitOne, FitTwo, Both, Pairs, AgreedLefts}
 use Rattle.fitting.proofs.Sharing.{meets→share, share→meets, no-meet, meets-same, tagOf, tag-type, as-product, ⊓-every, ground, narrowed}
 use Rattle.laws.proofs.EndLaws.{T-true, T-eqb}
@@ -208,6 +209,10 @@ module _ {s : List ℕ} {i n b : ℕ} where
   pairs-rest p l d =
       let (y, z, ys, _, x, q) = as-pairs (p .run) (p .pairs) l in
       record { values = ys; run = rw (end-is d (run-head x)) (run-tail x); pairs = q; second = p .second }
+
+-- The only pair that is left.
+pub lefts-last : {s : List ℕ} {i n b : ℕ} {c : Bool} → SomeTyped s i → n ≡ 1 → Agreed s (i + 1) b c → c ≡ true → AgreedLefts s i n b true
+lefts-last {s} {i} x e g f = lefts-step (omega (arith, e)) g f (ends-at s i (x .0) (x .1 .stands) (x .1 .fits)) (lefts-end (omega (arith, e)))
 
 -- Where the left part of a pair is full, what it agrees with agrees with the left parts of all.
 full-left : (y z w : Value) (r : TypeSet) → Full y → T (inhabited (typesOf (pair y z) ⊓ r)) →

@@ -227,6 +227,10 @@ fn lefts(s: &[u64], a: usize, n: usize, b: usize) -> bool
         if !agree(s, i + 1, b) {
             return false;
         }
+        // Most often the first pair stands for all: its end is not needed.
+        if left == 1 {
+            return true;
+        }
         i = arena::end_of(s, i);
         left -= 1;
     }
