@@ -1,13 +1,13 @@
 -- What the tests of kinds 6 to 9 answer: for operands that pass the test's own test it is enough to look at sets, and two numbers are told by their
 -- cells.
 use Prim.Native.Nat.{ℕ, _+_, _≤_, _<_, Ordering, Ordering·lt, Ordering·eq, Ordering·gt}
-use mathlib.Core.Bool.{Bool, true, false}
+use mathlib.Core.Bool.{Bool, true, false, not}
 use mathlib.Core.Logic.{_≢_}
 use mathlib.Core.List.{List, [], _∷_}
 use mathlib.Core.Path.{_≡_, refl, sym, ap, _∙_, subst}
 use native.Mathlib.Omega.{arith}
 use native.Mathlib.Decide.{decLt, ℕ-discrete}
-use borrow.Author.Tests.{eq-eqb, ne-eqb, le-leb, lt-leb}
+use borrow.Author.Tests.{eq-eqb, ne-eqb, le-leb, lt-leb, not-true, not-false}
 use lib.Dec.{T, leb, eqb, isEq}
 use lib.IntN.{ℤ, pos, negsuc}
 use lib.ListN.{length, getD}
@@ -30,15 +30,15 @@ use Rattle.operations.specs.Outcomes.{Operands, tested, TestDone, Number
 use Rattle.operations.proofs.GoodLaws.{good-fits, good-value, good-whole}
 use Rattle.operations.proofs.OutcomeLaws.{test-unfit, test-fit}
 use Rattle.operations.proofs.FitLaws.{two-fits, two-sets, two-member, two-numbers}
-use Rattle.operations.proofs.KindLaws.{testCode, code-of, same-test}
+use Rattle.operations.proofs.KindLaws.{codeOf, code-of, same-test}
 
 module _ (j : Test) {s : List ℕ} {a b : ℕ} {r : Bool} (f : FitTwo (testRule j .takes) s a b r) where
-  pub test-unlike : r ≡ false → TestDone j s a b Unlike
-  test-unlike e gs mid top v w small h k = sym (test-unfit j v w (two-fits small h k (testRule j .takes) f ∙ e))
+  pub test-unlike : not r ≡ true → TestDone j s a b Unlike
+  test-unlike e gs mid top v w small h k = sym (test-unfit j v w (two-fits small h k (testRule j .takes) f ∙ not-true r e))
 
-  test-told : (t : Bool) → r ≡ true →
+  test-told : (t : Bool) → not r ≡ false →
       ((gs : List ℕ) (mid top : ℕ) (v w : Value) → Sizes gs → GoodAt gs s mid a v → GoodAt gs s top b w → t ≡ holds j v w) → TestDone j s a b (Truth t)
-  test-told t e g gs mid top v w small h k = ap Truth (g gs mid top v w small h k) ∙ sym (test-fit j v w (two-fits small h k (testRule j .takes) f ∙ e))
+  test-told t e g gs mid top v w small h k = ap Truth (g gs mid top v w small h k) ∙ sym (test-fit j v w (two-fits small h k (testRule j .takes) f ∙ not-false r e))
 
 -- 6: the number 1 is that of equal values.
 same-code : (o : Ordering) → eqb (orderCode o) 1 ≡ isEq o
@@ -51,13 +51,13 @@ unfolding holds same
 holds-equal v w r e = rw e (same-code (order v w))
 
 module _ {s : List ℕ} {a b : ℕ} {r : Bool} where
-  pub equal-told : (q : ℕ) → FitTwo (t̂ ∷ t̂ ∷ []) s a b r → r ≡ true → Compared s a b q → TestDone equal s a b (Truth (eqb q 1))
+  pub equal-told : (q : ℕ) → FitTwo (t̂ ∷ t̂ ∷ []) s a b r → not r ≡ false → Compared s a b q → TestDone equal s a b (Truth (eqb q 1))
   equal-told q f e c =
       test-told equal f (eqb q 1) e
       (λ gs mid top v w small h k. holds-equal v w q (c v w (h .stands) (k .stands) (good-fits small v (h .good)) (good-fits small w (k .good))))
 
   -- 7
-  module _ (f : FitTwo (t̂ ∷ P̂ t̂ ∷ []) s a b r) (e : r ≡ true) where
+  module _ (f : FitTwo (t̂ ∷ P̂ t̂ ∷ []) s a b r) (e : not r ≡ false) where
     pub member-ready : {top : ℕ} → Operands s a b top → SomeValue s (length s) a × SomeSet s (length s) b
     member-ready p = (
       (p .first, good-value (p .small) (good-whole (p .small) (p .left))),
@@ -72,7 +72,7 @@ module _ {s : List ℕ} {a b : ℕ} {r : Bool} where
         (λ ws j. c v ws (good-value small (good-whole small h)) j))
 
   -- 8
-  module _ (f : FitTwo (P̂ t̂ ∷ P̂ t̂ ∷ []) s a b r) (e : r ≡ true) where
+  module _ (f : FitTwo (P̂ t̂ ∷ P̂ t̂ ∷ []) s a b r) (e : not r ≡ false) where
     pub subset-ready : {top : ℕ} → Operands s a b top → SomeSet s (length s) a × SomeSet s (length s) b
     subset-ready p =
         two-sets (p .small) (good-whole (p .small) (p .left)) (good-whole (p .small) (p .right))
@@ -135,11 +135,11 @@ module _ {k x y : ℕ} where
 
 -- By kind codes: two numbers, or the code is i's, or that of none but the last, which takes numbers only.
 module _ {s : List ℕ} {a b : ℕ} {o : Tested} where
-  pub test-numbers : (k : ℕ) {r : Bool} → FitTwo (numᵖ whole ∷ numᵖ whole ∷ []) s a b r → r ≡ true → NumbersTold k (getD s a 0) (getD s b 0) o →
+  pub test-numbers : (k : ℕ) {r : Bool} → FitTwo (numᵖ whole ∷ numᵖ whole ∷ []) s a b r → not r ≡ false → NumbersTold k (getD s a 0) (getD s b 0) o →
       TestOf k s a b o
   test-numbers k f e m j q gs mid top v w small h l = two-numbers small h l (λ x y. o ≡ tested j x y) f e (m j q)
 
-  pub test-of : {k : ℕ} (i : Test) → k ≡ testCode i → TestDone i s a b o → TestOf k s a b o
+  pub test-of : {k : ℕ} (i : Test) → k ≡ codeOf (test i) → TestDone i s a b o → TestOf k s a b o
   test-of {k} i e d j f = subst (λ (h : Test). TestDone h s a b o) (same-test k i j e f) d
 
   pub test-last : {k : ℕ} → k ≢ 6 → k ≢ 7 → k ≢ 8 → TestDone (atMost whole) s a b o → TestOf k s a b o

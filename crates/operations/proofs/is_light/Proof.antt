@@ -9,6 +9,6 @@ pub is-light-spec : {M : Type 1} → statement M
 is-light-spec =
     tie.close
     (tie.spec
-    (λ c. λ e. absurd (absurd01 (cc)))
-    (λ c. λ e. absurd (absurd01 (cc)))
+    (λ c. λ e. absurd01 (cc))
+    (λ c. λ e. absurd01 (cc))
     (λ c. λ e. record { low = omega (arith, c .if2 .left); high = leb-true _ _ e; other = λ z. c .before .if1 .left z }))

@@ -11,7 +11,7 @@ returns-3 : tie.Need-returns-3
 returns-3 c top =
     let m = c .before in
     let q = m .before .before .pre .2 in
-    two-of (minus whole) (omega (arith, q .low, q .high, q .other, m .match .rest .0, m .match .rest .1)) (c .minus .ensures top)
+    two-of (minus whole) (omega (arith, q .low, q .high, q .other, m .match .rest .0, m .match .rest .1)) (c .sum2 .ensures top)
 
 pub light-spec : {M : Type 1} → statement M
 light-spec =
@@ -21,5 +21,5 @@ light-spec =
     (λ c κs. search needs)
     (λ c κs. search needs)
     (λ c top. two-of apply (c .before .match .keys1) (c .apply .ensures top))
-    (λ c top. two-of (plus whole) (c .before .match .keys2) (c .plus .ensures top))
+    (λ c top. two-of (plus whole) (c .before .match .keys2) (c .sum .ensures top))
     returns-3)

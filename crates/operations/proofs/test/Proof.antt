@@ -1,4 +1,6 @@
 -- `test`: two numbers by their cells, any other operands by the codes of kinds 6 to 9. Landmarks: the operands that were lent, and that they are numbers.
+use mathlib.Core.Bool.{not}
+use mathlib.Core.Path.{ap}
 use borrow.Author.Needs.{needs}
 use Rattle.rules.specs.Types.{whole}
 use Rattle.rules.specs.Kinds.{equal, member, subset, atMost}
@@ -18,7 +20,7 @@ returns-5 : tie.Need-returns-5
 returns-5 c =
     let n = c .match .rest in
     let e = c .before in
-    test-last (n .0 .0 .1) (n .0 .1) (n .1) (test-unlike (atMost whole) (e .before .numbers .ensures) (e .if1 .left))
+    test-last (n .0 .0 .1) (n .0 .1) (n .1) (test-unlike (atMost whole) (e .before .numbers .ensures) (ap not (e .if1 .left)))
 
 pub test-spec : {M : Type 1} → statement M
 test-spec =
@@ -30,7 +32,7 @@ test-spec =
     (λ c. search needs)
     (λ c. ready-second (lent (c .before .before) .pre .1))
     (λ c κs. search needs)
-    (λ c. let t = numbers c in test-numbers _ (t .before .numbers .ensures) (t .if1 .taken) (c .numbers2 .ensures))
+    (λ c. let t = numbers c in test-numbers _ (t .before .numbers .ensures) (ap not (t .if1 .taken)) (c .numbers2 .ensures))
     (λ c κs. search needs)
     (λ c κs. search needs)
     (λ c κs. search needs)

@@ -1,5 +1,4 @@
 -- `apply`: the image where it stands, or none (16). Landmarks: the operands that were lent, and that they fit.
-use borrow.Author.Tests.{not-true, not-false}
 use Rattle.rules.specs.Kinds.{apply}
 use Rattle.operations.proofs.FitLaws.{ready-both}
 use Rattle.operations.proofs.DoubleLaws.{ready-function, two-unlike, apply-none, apply-some}
@@ -17,7 +16,7 @@ apply-spec =
     tie.close
     (tie.spec
     (λ c κs. ready-both (c .before .pre .0 .1))
-    (λ c _. two-unlike apply (c .before .applies .ensures) (not-true _ (c .if1 .taken)))
-    (λ c κs. let r = ready-function (lent c .pre .0 .1) (c .before .applies .ensures) (not-false _ (c .if1 .left)) in (r .0, r .1, lent c .pre .1))
-    (λ c _. let e = applies (c .before) in apply-none (e .before .applies .ensures) (not-false _ (e .if1 .left)) _ (c .before .image .ensures) (c .if2 .taken))
-    (λ c _. let e = applies (c .before) in apply-some (e .before .applies .ensures) (not-false _ (e .if1 .left)) _ (c .before .image .ensures) (c .if2 .left)))
+    (λ c _. two-unlike apply (c .before .applies .ensures) (c .if1 .taken))
+    (λ c κs. let r = ready-function (lent c .pre .0 .1) (c .before .applies .ensures) (c .if1 .left) in (r .0, r .1, lent c .pre .1))
+    (λ c _. let e = applies (c .before) in apply-none (e .before .applies .ensures) (e .if1 .left) _ (c .before .image .ensures) (c .if2 .taken))
+    (λ c _. let e = applies (c .before) in apply-some (e .before .applies .ensures) (e .if1 .left) _ (c .before .image .ensures) (c .if2 .left)))

@@ -1,5 +1,4 @@
 -- `interval`: the integers from one to another. Landmarks: the operands that were lent, that they are numbers, and the second payload.
-use borrow.Author.Tests.{not-true, not-false}
 use borrow.Author.Needs.{needs}
 use Rattle.rules.specs.Kinds.{interval}
 use Rattle.operations.proofs.FitLaws.{ready-both}
@@ -22,7 +21,7 @@ returns-2 c =
     let y = second m in
     let x = y .before .before in
     let e = numbers x in
-    interval-done (e .before .numbers .ensures) (not-false _ (e .if1 .left)) (x .low .ensures .0) (y .low2 .ensures .0) (lent (e .before) .pre .operands)
+    interval-done (e .before .numbers .ensures) (e .if1 .left) (x .low .ensures .0) (y .low2 .ensures .0) (lent (e .before) .pre .operands)
     (m .interval .ensures) (c .built .ensures)
 
 pub interval-spec : {M : Type 1} → statement M
@@ -31,7 +30,7 @@ interval-spec =
     (tie.spec
     (λ c κs. ready-both (c .before .before .pre .operands))
     (λ c. search needs)
-    (λ c. two-unlike interval (c .before .numbers .ensures) (not-true _ (c .if1 .taken)))
+    (λ c. two-unlike interval (c .before .numbers .ensures) (c .if1 .taken))
     (λ c. search needs)
     (λ c. ready-first (lent (c .before .before) .pre .operands))
     (λ c κs. search needs)

@@ -1,5 +1,4 @@
 -- `card`: the number of members stands in the first cell of a set. Landmark: the operand that was lent.
-use borrow.Author.Tests.{not-true, not-false}
 use borrow.Author.Needs.{needs}
 use Rattle.rules.specs.Kinds.{card}
 use Rattle.operations.proofs.GoodLaws.{good-typed-at, good-inside}
@@ -15,9 +14,9 @@ card-spec =
     tie.close
     (tie.spec
     (λ c κs. let p = c .before .pre in (p .value, good-typed-at (p .small) (p .stands)))
-    (λ c _. one-unlike card (c .before .is-set .ensures) (not-true _ (c .if1 .taken)))
+    (λ c _. one-unlike card (c .before .is-set .ensures) (c .if1 .taken))
     (λ c. search needs)
     (λ c. let p = lent (c .before) .pre in good-inside (p .small) (p .stands))
     (λ c κs. search needs)
     (λ c. search needs)
-    (λ c _. let e = c .before .before in card-done (e .before .is-set .ensures) (not-false _ (e .if1 .left)) _ (c .low .ensures .0)))
+    (λ c _. let e = c .before .before in card-done (e .before .is-set .ensures) (e .if1 .left) _ (c .low .ensures .0)))

@@ -1,5 +1,4 @@
 -- `choice`: the first member of a set, where it has one. Landmarks: the operand that was lent, and that it is a set.
-use borrow.Author.Tests.{not-true, not-false}
 use borrow.Author.Needs.{needs}
 use Rattle.rules.specs.Kinds.{choice}
 use Rattle.operations.proofs.GoodLaws.{good-typed-at, good-inside}
@@ -18,10 +17,10 @@ choice-spec =
     tie.close
     (tie.spec
     (λ c κs. let p = c .before .pre in (p .value, good-typed-at (p .small) (p .stands)))
-    (λ c _. one-unlike choice (c .before .is-set .ensures) (not-true _ (c .if1 .taken)))
+    (λ c _. one-unlike choice (c .before .is-set .ensures) (c .if1 .taken))
     (λ c. search needs)
     (λ c. let p = lent (c .before) .pre in good-inside (p .small) (p .stands))
     (λ c κs. search needs)
-    (λ c _. let e = is-set (c .before) in choice-none (e .before .is-set .ensures) (not-false _ (e .if1 .left)) _ (c .before .low .ensures .0) (c .if2 .taken))
+    (λ c _. let e = is-set (c .before) in choice-none (e .before .is-set .ensures) (e .if1 .left) _ (c .before .low .ensures .0) (c .if2 .taken))
     (λ c. search needs)
-    (λ c _. let e = is-set (c .before) in choice-some (e .before .is-set .ensures) (not-false _ (e .if1 .left)) _ (c .before .low .ensures .0) (c .if2 .left)))
+    (λ c _. let e = is-set (c .before) in choice-some (e .before .is-set .ensures) (e .if1 .left) _ (c .before .low .ensures .0) (c .if2 .left)))

@@ -1,7 +1,6 @@
 -- `equal`: 6. Landmarks: the operands that were lent, and that they are alike.
 use Prim.Native.Nat.{ℕ}
 use mathlib.Core.List.{List}
-use borrow.Author.Tests.{not-true, not-false}
 use lib.Dec.{T}
 use Rattle.rules.specs.Kinds.{equal}
 use Rattle.rules.specs.Values.{Value, scalar, pair, set}
@@ -30,7 +29,7 @@ equal-spec =
     tie.close
     (tie.spec
     (λ c κs. ready-both (c .before .pre .1))
-    (λ c. test-unlike equal (c .before .alike .ensures) (not-true _ (c .if1 .taken)))
+    (λ c. test-unlike equal (c .before .alike .ensures) (c .if1 .taken))
     (λ c κs. let p = lent c .pre .1 in (p .first, good-value (p .small) (good-whole (p .small) (p .left)), fine (p .small) (p .first) (p .left .good)))
     (λ c κs. let p = lent (alike c) .pre .1 in (good-some (p .small) (p .left), good-some (p .small) (p .right), c .value-end .ensures))
-    (λ c. let e = alike (c .before) in equal-told _ (e .before .alike .ensures) (not-false _ (e .if1 .left)) (c .compare .ensures)))
+    (λ c. let e = alike (c .before) in equal-told _ (e .before .alike .ensures) (e .if1 .left) (c .compare .ensures)))

@@ -1,5 +1,4 @@
 -- `member`: 7. Landmark: the operands that were lent.
-use borrow.Author.Tests.{not-true, not-false}
 use Rattle.rules.specs.Kinds.{member}
 use Rattle.operations.proofs.FitLaws.{ready-both}
 use Rattle.operations.proofs.TestLaws.{test-unlike, member-ready, member-told}
@@ -14,6 +13,6 @@ member-spec =
     tie.close
     (tie.spec
     (λ c κs. ready-both (c .before .pre .1))
-    (λ c. test-unlike member (c .before .belongs .ensures) (not-true _ (c .if1 .taken)))
-    (λ c κs. member-ready (c .before .belongs .ensures) (not-false _ (c .if1 .left)) (lent c .pre .1))
-    (λ c. let e = c .before in member-told (e .before .belongs .ensures) (not-false _ (e .if1 .left)) _ (c .contains .ensures)))
+    (λ c. test-unlike member (c .before .belongs .ensures) (c .if1 .taken))
+    (λ c κs. member-ready (c .before .belongs .ensures) (c .if1 .left) (lent c .pre .1))
+    (λ c. let e = c .before in member-told (e .before .belongs .ensures) (e .if1 .left) _ (c .contains .ensures)))

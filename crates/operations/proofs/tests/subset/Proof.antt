@@ -1,5 +1,4 @@
 -- `subset`: 8. Landmark: the operands that were lent.
-use borrow.Author.Tests.{not-true, not-false}
 use Rattle.rules.specs.Kinds.{subset}
 use Rattle.operations.proofs.FitLaws.{ready-both}
 use Rattle.operations.proofs.TestLaws.{test-unlike, subset-ready, subset-told}
@@ -14,6 +13,6 @@ subset-spec =
     tie.close
     (tie.spec
     (λ c κs. ready-both (c .before .pre .1))
-    (λ c. test-unlike subset (c .before .alike-sets .ensures) (not-true _ (c .if1 .taken)))
-    (λ c κs. subset-ready (c .before .alike-sets .ensures) (not-false _ (c .if1 .left)) (lent c .pre .1))
-    (λ c. let e = c .before in subset-told (e .before .alike-sets .ensures) (not-false _ (e .if1 .left)) _ (c .included .ensures)))
+    (λ c. test-unlike subset (c .before .alike-sets .ensures) (c .if1 .taken))
+    (λ c κs. subset-ready (c .before .alike-sets .ensures) (c .if1 .left) (lent c .pre .1))
+    (λ c. let e = c .before in subset-told (e .before .alike-sets .ensures) (e .if1 .left) _ (c .included .ensures)))
