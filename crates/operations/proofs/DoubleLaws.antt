@@ -30,6 +30,7 @@ use Rattle.operations.specs.Outcomes.{weighed, twoGiven, ended, Gives, O
 use Rattle.operations.specs.Parts.{MergeDone, sumKind, Shifted, NumberDone}
 use Rattle.operations.proofs.GoodLaws.{good-value, good-above, good-whole, good-inside}
 use Rattle.operations.proofs.OutcomeLaws.{Makes, makes-frame, makes-gives}
+pub use Rattle.operations.proofs.FitLaws.{ready-both}
 use Rattle.operations.proofs.FitLaws.{two-any, two-fits, two-sets, two-numbers, two-function, number-low}
 use Rattle.operations.proofs.KindLaws.{codeOf, code-of, same-kind}
 
@@ -69,7 +70,10 @@ module _ (j : Two) {s : List ℕ} {a b top : ℕ} {r : Bool} (f : FitTwo (twoRul
         ((gs : List ℕ) (mid : ℕ) (v w : Value) → Sizes gs → mid ≤ top → GoodAt gs s mid a v → GoodAt gs s top b w →
         Gives s′ mid top (weighed (twoValue j v w)) o) → TwoDone j s a b top s′ o
     unfolding twoGiven
-    two-told same m = record { frame = same; answer = λ gs mid v w small l h k. rw (two-fits small h k (twoRule j .takes) f ∙ not-false r e) (m gs mid v w small l h k) }
+    two-told same m = record {
+      frame = same;
+      answer = λ gs mid v w small l h k. rw (two-fits small h k (twoRule j .takes) f ∙ not-false r e) (m gs mid v w small l h k);
+    }
 
     two-made : (end : ℕ) → Operands s a b top →
         ((gs : List ℕ) (v w : Value) → Sizes gs → GoodAt gs s top a v → GoodAt gs s top b w → Makes top s s′ end (twoValue j v w)) →

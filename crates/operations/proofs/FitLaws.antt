@@ -55,7 +55,8 @@ on-set P (set vs) t q f = f vs q
 good-as-number : {gs s : List ℕ} {top a : ℕ} {v : Value} → Sizes gs → GoodAt gs s top a v → (P : Value → Type 0) → HasType v INTEGER →
     ((i : ℤ) → NumberCell i (getD s a 0) → P (int i)) → P v
 unfolding code
-good-as-number {s = s} {a = a} {v = scalar (num whole i)} small h P q f = f i (record { fits = good-fits small (int i) (h .good); is = stands-head s a _ _ (h .stands) })
+good-as-number {s = s} {a = a} {v = scalar (num whole i)} small h P q f =
+    f i (record { fits = good-fits small (int i) (h .good); is = stands-head s a _ _ (h .stands) })
 good-as-number {v = scalar (truth b)} small h P q f = absurd01 (cc)
 good-as-number {v = scalar (element g k)} small h P q f = absurd01 (cc)
 good-as-number {v = pair v w} small h P q f = absurd q

@@ -30,6 +30,7 @@ use Rattle.operations.specs.Outcomes.{weighed, oneGiven, ended, GivenCel
 use Rattle.operations.specs.Parts.{sideKind}
 use Rattle.operations.specs.declared.Outcome.{Outcome}
 use Rattle.operations.specs.declared.Outcome.the-variants.{Within, Cell, Lacks}
+pub use Rattle.operations.proofs.GoodLaws.{some-typed, some-inside}
 use Rattle.operations.proofs.GoodLaws.{good-value, good-typed-at}
 use Rattle.operations.proofs.OutcomeLaws.{Makes, makes-frame, makes-gives}
 use Rattle.operations.proofs.FitLaws.{fit-types, on-set, one-any, one-fits, one-set, one-relation}

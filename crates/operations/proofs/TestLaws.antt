@@ -6,9 +6,8 @@ use mathlib.Core.Logic.{_≢_}
 use mathlib.Core.List.{List, [], _∷_}
 use mathlib.Core.Path.{_≡_, refl, sym, ap, _∙_, subst}
 use native.Mathlib.Omega.{arith}
-use native.Mathlib.Decide.{decLt, ℕ-discrete}
-use borrow.Author.Tests.{eq-eqb, ne-eqb, le-leb, lt-leb, not-true, not-false}
-use lib.Dec.{T, leb, eqb, isEq}
+use borrow.Author.Tests.{le-leb, lt-leb, not-true, not-false}
+use lib.Dec.{T, leb, leb→le, le→leb, eqb, eqb→eq, eqb-refl, isEq}
 use lib.IntN.{ℤ, pos, negsuc}
 use lib.ListN.{length, getD}
 use lib.Signed.{leZ}
@@ -18,6 +17,7 @@ use Rattle.rules.specs.Kinds.{Test, equal, member, subset, atMost, test}
 use Rattle.rules.specs.Rules.{t̂, P̂, numᵖ, testRule}
 use Rattle.rules.specs.Fits.{fits}
 use Rattle.rules.specs.Operations.{holds}
+use Rattle.rules.proofs.Basics.{bool-eq}
 use Rattle.laws.proofs.OrderLaws.{same-eq, same-refl}
 use Rattle.arena.specs.Code.{excess, code, orderCode, SomeSet, SomeValue, Compared}
 use Rattle.arena.proofs.CodeLaws.{all-agree}
@@ -29,16 +29,17 @@ use Rattle.operations.specs.declared.Tested.the-variants.{Truth, Unlike}
 use Rattle.operations.specs.Outcomes.{Operands, tested, TestDone, NumberCell, NumbersTold, TestOf}
 use Rattle.operations.proofs.GoodLaws.{good-fits, good-value, good-whole}
 use Rattle.operations.proofs.OutcomeLaws.{test-unfit, test-fit}
+pub use Rattle.operations.proofs.FitLaws.{ready-both}
 use Rattle.operations.proofs.FitLaws.{two-fits, two-sets, two-member, two-numbers}
 use Rattle.operations.proofs.KindLaws.{codeOf, code-of, same-test}
 
 module _ (j : Test) {s : List ℕ} {a b : ℕ} {r : Bool} (f : FitTwo (testRule j .takes) s a b r) where
   pub test-unlike : not r ≡ true → TestDone j s a b Unlike
-  test-unlike e gs mid top v w small h k = sym (test-unfit j v w (two-fits small h k (testRule j .takes) f ∙ not-true r e))
+  test-unlike e gs mid top v w small h k = sym (test-unfit j v w (two-fits small h k _ f ∙ not-true r e))
 
   test-told : (t : Bool) → not r ≡ false →
       ((gs : List ℕ) (mid top : ℕ) (v w : Value) → Sizes gs → GoodAt gs s mid a v → GoodAt gs s top b w → t ≡ holds j v w) → TestDone j s a b (Truth t)
-  test-told t e g gs mid top v w small h k = ap Truth (g gs mid top v w small h k) ∙ sym (test-fit j v w (two-fits small h k (testRule j .takes) f ∙ not-false r e))
+  test-told t e g gs mid top v w small h k = ap Truth (g gs mid top v w small h k) ∙ sym (test-fit j v w (two-fits small h k _ f ∙ not-false r e))
 
 -- 6: the number 1 is that of equal values.
 same-code : (o : Ordering) → eqb (orderCode o) 1 ≡ isEq o
@@ -85,12 +86,8 @@ module _ {s : List ℕ} {a b : ℕ} {r : Bool} where
         (λ gs mid top v w small h k. two-sets small (good-whole small h) (good-whole small k) (λ x y. q ≡ holds subset x y) t̂ f e c)
 
 -- The cells of numbers stand in the order of the numbers.
-leb-as : (a b c d : ℕ) → (a ≤ b → c ≤ d) → (b < a → d < c) → leb a b ≡ leb c d
-leb-as a b c d f g = go (decLt b a)
-  where
-    go : Dec (b < a) → leb a b ≡ leb c d
-    go (yes l) = lt-leb a b l ∙ sym (lt-leb c d (g l))
-    go (no n) = let x : a ≤ b = omega arith in le-leb a b x ∙ sym (le-leb c d (f x))
+leb-as : (a b c d : ℕ) → (a ≤ b → c ≤ d) → (c ≤ d → a ≤ b) → leb a b ≡ leb c d
+leb-as a b c d f g = bool-eq (leb a b) (leb c d) (λ t. le→leb c d (f (leb→le a b t))) (λ t. le→leb a b (g (leb→le c d t)))
 
 cells-order : (m n : ℤ) (x y : ℕ) → NumberCell m x → NumberCell n y → leb x y ≡ leZ m n
 unfolding excess
@@ -102,16 +99,19 @@ cells-order (negsuc m) (negsuc n) x y c d = leb-as x y n m (λ l. omega (arith, 
 -- Two numbers are equal where their cells are.
 cells-same : (m n : ℤ) (x y : ℕ) → NumberCell m x → NumberCell n y → eqb x y ≡ same (int m) (int n)
 unfolding code
-cells-same m n x y c d = go (ℕ-discrete x y) (same (int m) (int n)) refl
+cells-same m n x y c d = bool-eq (eqb x y) (same (int m) (int n)) told back
   where
-    go : Dec (x ≡ y) → (t : Bool) → same (int m) (int n) ≡ t → eqb x y ≡ t
-    go (yes e) true q = eq-eqb x y e
-    go (yes e) false q =
+    told : T (eqb x y) → T (same (int m) (int n))
+    told t =
         let v : int m ≡ int n =
-        all-agree (int m) (int n) (c .fits) (d .fits) (omega arith) (λ j l. ap (λ (z : ℕ). getD (z ∷ []) j 0) (sym (c .is) ∙ e ∙ d .is)) in
-        absurd (subst T q (subst (λ (z : Value). T (same (int m) z)) v (same-refl (int m))))
-    go (no e) true q = absurd (e (c .is ∙ ap (λ (v : Value). 4294967296 + excess (payload v)) (same-eq (int m) (int n) tt tt (rw q tt)) ∙ sym (d .is)))
-    go (no e) false q = ne-eqb x y e
+        all-agree (int m) (int n) (c .fits) (d .fits) (omega arith) (λ j l. ap (λ (z : ℕ). getD (z ∷ []) j 0) (sym (c .is) ∙ eqb→eq x y t ∙ d .is)) in
+        subst (λ (z : Value). T (same (int m) z)) v (same-refl (int m))
+
+    back : T (same (int m) (int n)) → T (eqb x y)
+    back t =
+        let v : int m ≡ int n = same-eq (int m) (int n) tt tt t in
+        let e : x ≡ y = c .is ∙ ap (λ (z : Value). 4294967296 + excess (payload z)) v ∙ sym (d .is) in
+        rw (← e) (eqb-refl x)
 
 -- The tests of two numbers, by the code.
 module _ {k x y : ℕ} where

@@ -4,9 +4,8 @@ use mathlib.Core.Path.{ap}
 use borrow.Author.Needs.{needs}
 use Rattle.rules.specs.Types.{whole}
 use Rattle.rules.specs.Kinds.{equal, member, subset, atMost}
-use Rattle.operations.proofs.FitLaws.{ready-both}
 use Rattle.operations.proofs.DoubleLaws.{ready-first, ready-second}
-use Rattle.operations.proofs.TestLaws.{test-unlike, test-numbers, test-of, test-last}
+use Rattle.operations.proofs.TestLaws.{ready-both, test-unlike, test-numbers, test-of, test-last}
 use Rattle.operations.proofs.test.Statement.{statement}
 use Rattle.operations.proofs.test.Tie as tie
 

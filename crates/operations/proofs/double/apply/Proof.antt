@@ -1,7 +1,6 @@
 -- `apply`: the image where it stands, or none (16). Landmarks: the operands that were lent, and that they fit.
 use Rattle.rules.specs.Kinds.{apply}
-use Rattle.operations.proofs.FitLaws.{ready-both}
-use Rattle.operations.proofs.DoubleLaws.{ready-function, two-unlike, apply-none, apply-some}
+use Rattle.operations.proofs.DoubleLaws.{ready-both, ready-function, two-unlike, apply-none, apply-some}
 use Rattle.operations.proofs.double.apply.Statement.{statement}
 use Rattle.operations.proofs.double.apply.Tie as tie
 

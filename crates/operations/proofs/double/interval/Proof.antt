@@ -1,8 +1,7 @@
 -- `interval`: the integers from one to another. Landmarks: the operands that were lent, that they are numbers, and the second payload.
 use borrow.Author.Needs.{needs}
 use Rattle.rules.specs.Kinds.{interval}
-use Rattle.operations.proofs.FitLaws.{ready-both}
-use Rattle.operations.proofs.DoubleLaws.{ready-first, ready-second, two-unlike, interval-done}
+use Rattle.operations.proofs.DoubleLaws.{ready-both, ready-first, ready-second, two-unlike, interval-done}
 use Rattle.operations.proofs.double.interval.Statement.{statement}
 use Rattle.operations.proofs.double.interval.Tie as tie
 

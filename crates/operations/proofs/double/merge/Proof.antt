@@ -1,8 +1,7 @@
 -- `merge`: sets alike, merged. Landmark: the operands that were lent. In the needs, m is where the set has been made, e where the operands fit.
 use borrow.Author.Needs.{needs}
 use Rattle.rules.specs.Rules.{t̂}
-use Rattle.operations.proofs.FitLaws.{ready-both}
-use Rattle.operations.proofs.DoubleLaws.{ready-sets, merge-unlike, merge-done}
+use Rattle.operations.proofs.DoubleLaws.{ready-both, ready-sets, merge-unlike, merge-done}
 use Rattle.operations.proofs.double.merge.Statement.{statement}
 use Rattle.operations.proofs.double.merge.Tie as tie
 

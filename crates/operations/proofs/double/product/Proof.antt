@@ -2,8 +2,7 @@
 use borrow.Author.Needs.{needs}
 use Rattle.rules.specs.Kinds.{product}
 use Rattle.rules.specs.Rules.{û}
-use Rattle.operations.proofs.FitLaws.{ready-both}
-use Rattle.operations.proofs.DoubleLaws.{ready-sets, two-unlike, product-done}
+use Rattle.operations.proofs.DoubleLaws.{ready-both, ready-sets, two-unlike, product-done}
 use Rattle.operations.proofs.double.product.Statement.{statement}
 use Rattle.operations.proofs.double.product.Tie as tie
 

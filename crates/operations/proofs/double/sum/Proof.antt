@@ -1,7 +1,6 @@
 -- `sum`: on payloads, numbers in excess form. Landmarks: the operands that were lent, and that they are numbers. In the last needs, x and y are the payloads.
 use borrow.Author.Needs.{needs}
-use Rattle.operations.proofs.FitLaws.{ready-both}
-use Rattle.operations.proofs.DoubleLaws.{ready-first, ready-second, sum-unlike, plus-done, minus-done}
+use Rattle.operations.proofs.DoubleLaws.{ready-both, ready-first, ready-second, sum-unlike, plus-done, minus-done}
 use Rattle.operations.proofs.double.sum.Statement.{statement}
 use Rattle.operations.proofs.double.sum.Tie as tie
 

@@ -1,7 +1,6 @@
 -- `member`: 7. Landmark: the operands that were lent.
 use Rattle.rules.specs.Kinds.{member}
-use Rattle.operations.proofs.FitLaws.{ready-both}
-use Rattle.operations.proofs.TestLaws.{test-unlike, member-ready, member-told}
+use Rattle.operations.proofs.TestLaws.{ready-both, test-unlike, member-ready, member-told}
 use Rattle.operations.proofs.tests.member.Statement.{statement}
 use Rattle.operations.proofs.tests.member.Tie as tie
 
