@@ -1,33 +1,11 @@
 -- The operations of two operands. For operands that pass the operation's test it is enough to look at sets, at a set of pairs or at numbers; the
 -- answer then tells what the node gives by what has been made, by where the image stands, or by a cell.
-use Prim.Native.Nat.{ℕ, zero, suc, _+_, _-_, _%_, _≤_, _<_}
-use mathlib.Core.Bool.{Bool, true, false, cond, not}
-use mathlib.Core.List.{List, [], _∷_}
-use mathlib.Core.Logic.{_≢_, _⊎_, inl, inr}
-use mathlib.Core.Path.{_≡_, refl, sym, ap, _∙_, subst}
-use native.Mathlib.Omega.{arith}
-use borrow.Author.Tests.{le-leb, lt-leb, not-true, not-false}
-use lib.Dec.{ltb, ltb→lt, nltb→le}
-use lib.IntN.{ℤ, pos, negsuc, subℕ, _+ℤ_, _-ℤ_}
+use Rattle.operations.proofs.Base.{ℕ, zero, suc, _+_, _-_, _%_, _≤_, _<_, Bool, true, false, cond, not, List, [], _∷_, _≢_, _⊎_, inl, inr, _≡_, refl, sym, ap, _∙_, subst, arith, le-leb, lt-leb, not-true, not-false, ltb, ltb→lt, nltb→le, ℤ, pos, negsuc, subℕ, _+ℤ_, _-ℤ_, length, getD}
 use lib.Signed.{mag}
-use lib.ListN.{length, getD}
-use Rattle.rules.specs.Types.{whole}
-use Rattle.rules.specs.Values.{Value, set, Values, int, weight}
-use Rattle.rules.specs.Rules.{Pattern, t̂, û, P̂, _×̂_, numᵖ, twoRule}
-use Rattle.rules.specs.Kinds.{Two, pairing, union, inter, diff, product, apply, plus, minus, interval, two}
-use Rattle.rules.specs.Runs.{Given, gives, lacks}
-use Rattle.rules.specs.Operations.{twoValue}
-use Rattle.arena.specs.Code.{cellSize, excess, code, CellsFit, SomeSet, SomeValue, Same}
+use Rattle.operations.proofs.Terms.{whole, Value, set, Values, int, weight, Pattern, t̂, û, P̂, _×̂_, numᵖ, twoRule, Two, pairing, union, inter, diff, product, apply, plus, minus, interval, two, Given, gives, lacks, twoValue, cellSize, excess, code, CellsFit, SomeSet, SomeValue, Same, SomeRelation, Applies, ImageAt, FitTwo, Outcome, Within, Cell, Lacks, Sizes, GoodAt, weighed, twoGiven, ended, Gives, Operands, TwoReady, TwoDone, TwoOf, MergeDone, sumKind, Shifted, NumberDone}
 use Rattle.arena.proofs.Standing.{same-refl}
 use Rattle.sets.specs.Fronts.{Merges}
-use Rattle.sets.specs.Pairs.{SomeRelation, Applies, ImageAt}
 use Rattle.products.specs.Growing.{Pairs, Intervals, Multiplies}
-use Rattle.fitting.specs.Tests.{FitTwo}
-use Rattle.operations.specs.declared.Outcome.{Outcome}
-use Rattle.operations.specs.declared.Outcome.the-variants.{Within, Cell, Lacks}
-use Rattle.operations.specs.Good.{Sizes, GoodAt}
-use Rattle.operations.specs.Outcomes.{weighed, twoGiven, ended, Gives, Operands, TwoReady, TwoDone, TwoOf}
-use Rattle.operations.specs.Parts.{MergeDone, sumKind, Shifted, NumberDone}
 use Rattle.operations.proofs.GoodLaws.{good-value, good-above, good-whole, good-inside}
 use Rattle.operations.proofs.OutcomeLaws.{Makes, makes-frame, makes-gives}
 pub use Rattle.operations.proofs.FitLaws.{ready-both}

@@ -1,26 +1,10 @@
 -- Operands that fit. The types that a test of refusal 15 tells, what good values of a type are, and so, for each list of operand types that the rules
 -- have, that what holds of operands of that form (sets, sets of pairs, numbers) holds of all good operands that pass the test.
-use Prim.Native.Nat.{ℕ, _%_}
-use mathlib.Core.Bool.{Bool, true, false, not}
-use borrow.Author.Tests.{not-false}
-use mathlib.Core.List.{List, [], _∷_}
-use mathlib.Core.Path.{_≡_, sym, _∙_, subst}
-use native.Mathlib.Omega.{arith}
-use lib.IntN.{ℤ}
-use lib.ListN.{length, getD}
-use Rattle.rules.specs.Types.{whole, Ty, POW, _⊗_, INTEGER}
-use Rattle.rules.specs.Values.{num, truth, element, Value, scalar, pair, set, Values, none, _▸_, members, int}
-use Rattle.rules.specs.Rules.{Pattern, t̂, û, P̂, _×̂_, numᵖ, inst}
-use Rattle.rules.specs.Fits.{HasType, HaveType, Fits, fits, typed}
-use Rattle.rules.proofs.Basics.{absurd01}
+use Rattle.operations.proofs.Base.{ℕ, _%_, Bool, true, false, not, not-false, List, [], _∷_, _≡_, sym, _∙_, subst, arith, ℤ, length, getD, absurd01}
+use Rattle.operations.proofs.Terms.{whole, Ty, POW, _⊗_, INTEGER, num, truth, element, Value, scalar, pair, set, Values, none, _▸_, members, int, Pattern, t̂, û, P̂, _×̂_, numᵖ, inst, HasType, HaveType, Fits, fits, typed, FitOne, FitTwo, Both, excess, code, IsPair, AllPairs, SetBelow, newFirsts, SomeRelation, KnownFunction, Sizes, GoodAt, SomeGood, NewFirsts, FunctionSeen, Operands, NumberCell}
 use Rattle.laws.proofs.EndLaws.{T-true}
 use Rattle.laws.proofs.FitsLaws.{fits-right, typed-right}
-use Rattle.fitting.specs.Tests.{FitOne, FitTwo, Both}
-use Rattle.arena.specs.Code.{excess, code, IsPair, AllPairs, SetBelow}
 use Rattle.arena.proofs.Standing.{stands-head}
-use Rattle.sets.specs.Pairs.{newFirsts, SomeRelation, KnownFunction}
-use Rattle.operations.specs.Good.{Sizes, GoodAt, SomeGood, NewFirsts, FunctionSeen}
-use Rattle.operations.specs.Outcomes.{Operands, NumberCell}
 use Rattle.operations.proofs.GoodLaws.{good-fits, good-typed-at, good-whole, good-set-at}
 
 -- Operands that fit have the types of the rule.

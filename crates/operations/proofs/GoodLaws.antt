@@ -1,24 +1,15 @@
 -- What a good value of the arena is to the functions below: it fits, has a type, and as a set can be an operand.
-use Prim.Native.Nat.{ℕ, _≤_, _<_}
-use mathlib.Core.Bool.{Bool, true, _&&_}
-use mathlib.Core.List.{List}
-use mathlib.Core.Path.{_≡_}
-use native.Mathlib.Omega.{arith}
-use lib.Dec.{T}
-use lib.ListN.{length}
-use Rattle.rules.specs.Values.{Value, scalar, pair, set, Values, none, _▸_}
+use Rattle.operations.proofs.Base.{ℕ, _≤_, _<_, Bool, true, _&&_, List, _≡_, arith, T, length}
+use Rattle.operations.proofs.Terms.{Value, scalar, pair, set, Values, none, _▸_, CellsFit, SomeAt, Rises, FineSet, SetBelow, ValueBelow, KnownFunction, Sizes, GoodAt, SomeGood, NewFirsts}
 use Rattle.rules.specs.Cells.{wellFormed, risingAll, precedes, good}
 use Rattle.laws.proofs.OrderLaws.{and-left, and-right}
 use Rattle.laws.proofs.CellsLaws.{encodable-wellFormed, few-sizes, good-wellFormed, good-weight, good-typed, weight-some}
-use Rattle.arena.specs.Code.{CellsFit, SomeAt, Rises, FineSet, SetBelow, ValueBelow}
 use Rattle.arena.proofs.CodeLaws.{length-code, encodable-fits}
 use Rattle.arena.proofs.EvenLaws.{typed-even}
 use Rattle.arena.proofs.ValueParts.{value-eq}
 use Rattle.sets.specs.Rows.{Fine}
-use Rattle.sets.specs.Pairs.{KnownFunction}
 use Rattle.fitting.specs.Agree.{TypedAt, SomeTyped}
 use Rattle.fitting.proofs.Cells.{typed-at}
-use Rattle.operations.specs.Good.{Sizes, GoodAt, SomeGood, NewFirsts}
 
 rising-rises : (gs : List ℕ) (s : Values) → T (risingAll gs s) → Rises s
 rising-rises gs none h = tt

@@ -1,4 +1,6 @@
 -- The operations on good values.
+mod Base
+mod Terms
 pub mod GoodLaws
 pub mod OutcomeLaws
 pub mod FitLaws

@@ -1,22 +1,6 @@
 -- How the answers of the functions below tell what a node gives.
-use Prim.Native.Nat.{ℕ, _<_}
-use mathlib.Core.Bool.{true, false}
-use mathlib.Core.List.{List, [], _∷_}
-use mathlib.Core.Path.{_≡_, sym, subst, _∙_}
-use native.Mathlib.Omega.{arith}
-use native.Mathlib.Decide.{decLt}
-use borrow.Author.Tests.{eq-eqb, ne-eqb, le-leb, lt-leb}
-use Rattle.rules.specs.Values.{Value, weight}
-use Rattle.rules.specs.Rules.{testRule}
-use Rattle.rules.specs.Kinds.{Test}
-use Rattle.rules.specs.Fits.{fits}
-use Rattle.rules.specs.Runs.{Given, gives, lacks}
-use Rattle.rules.specs.Operations.{holds}
-use Rattle.arena.specs.Code.{Same, Made}
-use Rattle.operations.specs.declared.Outcome.{Outcome}
-use Rattle.operations.specs.declared.Outcome.the-variants.{Built, Lacks}
-use Rattle.operations.specs.declared.Tested.the-variants.{Truth, Unlike}
-use Rattle.operations.specs.Outcomes.{weighed, tested, ended, Gives}
+use Rattle.operations.proofs.Base.{ℕ, _<_, true, false, List, [], _∷_, _≡_, sym, subst, _∙_, arith, decLt, eq-eqb, ne-eqb, le-leb, lt-leb}
+use Rattle.operations.proofs.Terms.{Value, weight, testRule, Test, fits, Given, gives, lacks, holds, Same, Made, Outcome, Built, Lacks, Truth, Unlike, weighed, tested, ended, Gives}
 use Rattle.laws.proofs.CellsLaws.{weight-some}
 
 pub ended-none : (end : ℕ) → end ≡ 0 → Lacks 18 ≡ ended end

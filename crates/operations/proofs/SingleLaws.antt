@@ -1,21 +1,7 @@
 -- The operations of one operand. For an operand that passes the operation's test it is enough to look at sets, or at sets of pairs; the answer then
 -- tells what the node gives by what has been made, by where the least member stands, or by a cell.
-use Prim.Native.Nat.{ℕ, _+_, _%_, _≤_}
-use mathlib.Core.Bool.{Bool, true, false, not}
-use mathlib.Core.List.{List, [], _∷_}
-use mathlib.Core.Logic.{_≢_}
-use mathlib.Core.Path.{_≡_, refl, ap, sym, subst, _∙_}
-use native.Mathlib.Omega.{arith}
-use borrow.Author.Tests.{le-leb, not-true, not-false}
-use lib.IntN.{pos}
-use lib.ListN.{length, getD}
-use Rattle.rules.specs.Values.{Value, set, Values, none, _▸_, int, members, count, weight}
-use Rattle.rules.specs.Kinds.{One, singleton, power, dom, ran, card, choice, one}
-use Rattle.rules.specs.Rules.{t̂, û, P̂, _×̂_, oneRule}
-use Rattle.rules.specs.Fits.{fits}
-use Rattle.rules.specs.Runs.{lacks}
-use Rattle.rules.specs.Operations.{oneValue}
-use Rattle.arena.specs.Code.{code, SetBelow, SomeSet, SomeValue, Same}
+use Rattle.operations.proofs.Base.{ℕ, _+_, _%_, _≤_, Bool, true, false, not, List, [], _∷_, _≢_, _≡_, refl, ap, sym, subst, _∙_, arith, le-leb, not-true, not-false, pos, length, getD}
+use Rattle.operations.proofs.Terms.{Value, set, Values, none, _▸_, int, members, count, weight, One, singleton, power, dom, ran, card, choice, one, t̂, û, P̂, _×̂_, oneRule, fits, lacks, oneValue, code, SetBelow, SomeSet, SomeValue, Same, FitOne, Sizes, GoodAt, weighed, oneGiven, ended, GivenCell, Gives, OneReady, OneDone, OneOf, sideKind, Outcome, Within, Cell, Lacks}
 use Rattle.arena.proofs.Standing.{same-refl}
 use Rattle.arena.proofs.ValueParts.{first-cell}
 use Rattle.products.specs.Growing.{Singles}
@@ -23,13 +9,7 @@ use Rattle.products.specs.Parts.{SomePairs, Domains, Ranges}
 use Rattle.products.specs.Power.{Powers}
 use Rattle.products.proofs.PowerLaws.{members-count}
 use Rattle.fitting.specs.Agree.{SomeTyped}
-use Rattle.fitting.specs.Tests.{FitOne}
 use Rattle.fitting.proofs.Cells.{members-stand, first-stands}
-use Rattle.operations.specs.Good.{Sizes, GoodAt}
-use Rattle.operations.specs.Outcomes.{weighed, oneGiven, ended, GivenCell, Gives, OneReady, OneDone, OneOf}
-use Rattle.operations.specs.Parts.{sideKind}
-use Rattle.operations.specs.declared.Outcome.{Outcome}
-use Rattle.operations.specs.declared.Outcome.the-variants.{Within, Cell, Lacks}
 pub use Rattle.operations.proofs.GoodLaws.{some-typed, some-inside}
 use Rattle.operations.proofs.GoodLaws.{good-value, good-typed-at}
 use Rattle.operations.proofs.OutcomeLaws.{Makes, makes-frame, makes-gives}

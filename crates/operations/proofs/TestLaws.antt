@@ -1,32 +1,12 @@
 -- What the tests of kinds 6 to 9 answer: for operands that pass the test's own test it is enough to look at sets, and two numbers are told by their
 -- cells.
-use Prim.Native.Nat.{ℕ, _+_, _≤_, _<_, Ordering, Ordering·lt, Ordering·eq, Ordering·gt}
-use mathlib.Core.Bool.{Bool, true, false, not}
-use mathlib.Core.Logic.{_≢_}
-use mathlib.Core.List.{List, [], _∷_}
-use mathlib.Core.Path.{_≡_, refl, sym, ap, _∙_, subst}
-use native.Mathlib.Omega.{arith}
-use borrow.Author.Tests.{le-leb, lt-leb, not-true, not-false}
-use lib.Dec.{T, leb, leb→le, le→leb, eqb, eqb→eq, eqb-refl, isEq}
-use lib.IntN.{ℤ, pos, negsuc}
-use lib.ListN.{length, getD}
+use Rattle.operations.proofs.Base.{ℕ, _+_, _≤_, Ordering, Ordering·lt, Ordering·eq, Ordering·gt, Bool, true, false, not, _≢_, List, [], _∷_, _≡_, refl, sym, ap, _∙_, subst, arith, le-leb, lt-leb, not-true, not-false, T, leb, leb→le, le→leb, eqb, eqb→eq, eqb-refl, isEq, ℤ, pos, negsuc, length, getD, bool-eq}
 use lib.Signed.{leZ}
-use Rattle.rules.specs.Types.{whole}
-use Rattle.rules.specs.Values.{Value, int, payload, order, same}
-use Rattle.rules.specs.Kinds.{Test, equal, member, subset, atMost, test}
-use Rattle.rules.specs.Rules.{t̂, P̂, numᵖ, testRule}
-use Rattle.rules.specs.Fits.{fits}
-use Rattle.rules.specs.Operations.{holds}
-use Rattle.rules.proofs.Basics.{bool-eq}
+use Rattle.operations.proofs.Terms.{whole, Value, int, payload, order, same, Test, equal, member, subset, atMost, test, t̂, P̂, numᵖ, testRule, fits, holds, excess, code, orderCode, SomeSet, SomeValue, Compared, FitTwo, Sizes, GoodAt, Truth, Unlike, Operands, tested, TestDone, NumberCell, NumbersTold, TestOf}
 use Rattle.laws.proofs.OrderLaws.{same-eq, same-refl}
-use Rattle.arena.specs.Code.{excess, code, orderCode, SomeSet, SomeValue, Compared}
 use Rattle.arena.proofs.CodeLaws.{all-agree}
-use Rattle.fitting.specs.Tests.{FitTwo}
 use Rattle.sets.specs.Fronts.{Contains, Includes}
-use Rattle.operations.specs.Good.{Sizes, GoodAt}
 use Rattle.operations.specs.declared.Tested.{Tested}
-use Rattle.operations.specs.declared.Tested.the-variants.{Truth, Unlike}
-use Rattle.operations.specs.Outcomes.{Operands, tested, TestDone, NumberCell, NumbersTold, TestOf}
 use Rattle.operations.proofs.GoodLaws.{good-fits, good-value, good-whole}
 use Rattle.operations.proofs.OutcomeLaws.{test-unfit, test-fit}
 pub use Rattle.operations.proofs.FitLaws.{ready-both}

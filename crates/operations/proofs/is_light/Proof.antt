@@ -1,7 +1,5 @@
 -- `is_light`: by the bounds.
-use native.Mathlib.Omega.{arith}
-use borrow.Author.Tests.{leb-true}
-use Rattle.rules.proofs.Basics.{absurd01}
+use Rattle.operations.proofs.Base.{arith, leb-true, absurd01}
 use Rattle.operations.proofs.is_light.Statement.{statement}
 use Rattle.operations.proofs.is_light.Tie as tie
 

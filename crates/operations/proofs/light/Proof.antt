@@ -1,8 +1,6 @@
 -- `light`: each of the three codes has its kind.
-use native.Mathlib.Omega.{arith}
-use borrow.Author.Needs.{needs}
-use Rattle.rules.specs.Types.{whole}
-use Rattle.rules.specs.Kinds.{apply, plus, minus}
+use Rattle.operations.proofs.Base.{arith, needs}
+use Rattle.operations.proofs.Terms.{whole, apply, plus, minus}
 use Rattle.operations.proofs.DoubleLaws.{two-of}
 use Rattle.operations.proofs.light.Statement.{statement}
 use Rattle.operations.proofs.light.Tie as tie

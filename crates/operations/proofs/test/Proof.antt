@@ -1,9 +1,6 @@
 -- `test`: two numbers by their cells, any other operands by the codes of kinds 6 to 9. Landmarks: the operands that were lent, and that they are numbers.
-use mathlib.Core.Bool.{not}
-use mathlib.Core.Path.{ap}
-use borrow.Author.Needs.{needs}
-use Rattle.rules.specs.Types.{whole}
-use Rattle.rules.specs.Kinds.{equal, member, subset, atMost}
+use Rattle.operations.proofs.Base.{not, ap, needs}
+use Rattle.operations.proofs.Terms.{whole, equal, member, subset, atMost}
 use Rattle.operations.proofs.DoubleLaws.{ready-first, ready-second}
 use Rattle.operations.proofs.TestLaws.{ready-both, test-unlike, test-numbers, test-of, test-last}
 use Rattle.operations.proofs.test.Statement.{statement}

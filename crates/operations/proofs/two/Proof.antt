@@ -1,11 +1,8 @@
 -- `two`: each code has its kind. In a need, m is where the operation has answered.
-use mathlib.Core.Bool.{false≢true}
-use mathlib.Core.Path.{refl}
-use Rattle.rules.specs.Types.{whole}
-use Rattle.rules.specs.Kinds.{pairing, union, inter, diff, product, apply, plus, minus}
+use Rattle.operations.proofs.Base.{false≢true, refl, needs}
+use Rattle.operations.proofs.Terms.{whole, pairing, union, inter, diff, product, apply, plus, minus}
 use Rattle.sets.proofs.OperationLaws.{union-merged, inter-merged, diff-merged}
 use Rattle.operations.proofs.DoubleLaws.{ready-values, pair-done, two-of, two-last}
-use borrow.Author.Needs.{needs}
 use Rattle.operations.proofs.two.Statement.{statement}
 use Rattle.operations.proofs.two.Tie as tie
 

@@ -1,7 +1,6 @@
 -- `product`: sets, multiplied. Landmark: the operands that were lent. In the needs, m is where the set has been made, e where the operands fit.
 use borrow.Author.Needs.{needs}
-use Rattle.rules.specs.Kinds.{product}
-use Rattle.rules.specs.Rules.{û}
+use Rattle.operations.proofs.Terms.{product, û}
 use Rattle.operations.proofs.DoubleLaws.{ready-both, ready-sets, two-unlike, product-done}
 use Rattle.operations.proofs.double.product.Statement.{statement}
 use Rattle.operations.proofs.double.product.Tie as tie
