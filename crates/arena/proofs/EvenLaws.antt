@@ -5,7 +5,7 @@ use mathlib.Core.List.{List}
 use mathlib.Core.Path.{_≡_, refl, sym, ap, _∙_, subst}
 use native.Mathlib.Omega.{arith}
 use native.Mathlib.Nat.{add-zero}
-use native.Mathlib.Decide.{decLt}
+use native.Mathlib.Decide.{ℕ-discrete}
 use lib.Dec.{T}
 use lib.ListN.{getD}
 use Rattle.rules.specs.Types.{Ty, atom, POW, _⊗_}
@@ -15,7 +15,7 @@ use Rattle.laws.proofs.OrderLaws.{order-refl, compare-refl, lt-compare}
 use Rattle.laws.proofs.CellsLaws.{weight-some}
 use Rattle.laws.proofs.FitsLaws.{typed-right}
 use Rattle.arena.specs.Code.{code, ValueAt, CellsFit, orderCode, EndsAt, Compared, IsScalar, Flat, AllWeigh, EvenSet, Front}
-use Rattle.arena.proofs.CodeLaws.{length-code, gt-compare, first-less, first-greater, all-agree}
+use Rattle.arena.proofs.CodeLaws.{length-code, gt-compare, first-differs, all-agree}
 use Rattle.arena.proofs.FrontLaws.{front-next}
 
 -- Values of one type.
@@ -100,29 +100,22 @@ module _ (s : List ℕ) (top at n k : ℕ) (Q : Values → Type 0) (one : (v : V
 module _ (s : List ℕ) (a b : ℕ) where
   pub cell-order : (v w : Value) → ValueAt s a v → ValueAt s b w → CellsFit v → CellsFit w → weight w ≡ 1 →
       order v w ≡ compare (getD s a 0) (getD s b 0)
-  cell-order v w h k p q one = go (decLt (getD s a 0) (getD s b 0)) (decLt (getD s b 0) (getD s a 0))
+  cell-order v w h k p q one = go (ℕ-discrete (getD s a 0) (getD s b 0))
     where
-      left : getD s a 0 ≡ getD (code v) 0 0
-      left = ap (λ (i : ℕ). getD s i 0) (sym (add-zero a)) ∙ h .cells 0 (omega (arith, length-code v, weight-some v))
-
-      right : getD s b 0 ≡ getD (code w) 0 0
-      right = ap (λ (i : ℕ). getD s i 0) (sym (add-zero b)) ∙ k .cells 0 (omega (arith, length-code w))
+      cells : (s : List ℕ) (a : ℕ) (v : Value) → ValueAt s a v → getD s a 0 ≡ getD (code v) 0 0
+      cells s a v h = ap (λ (i : ℕ). getD s i 0) (sym (add-zero a)) ∙ h .cells 0 (omega (arith, length-code v, weight-some v))
 
       alike : getD s a 0 ≡ getD s b 0 → (j : ℕ) → j < weight w → getD (code v) j 0 ≡ getD (code w) j 0
-      alike e zero l = sym left ∙ e ∙ right
+      alike e zero l = sym (cells s a v h) ∙ e ∙ cells s b w k
       alike e (suc j) l = absurd (omega arith)
 
-      go : Dec (getD s a 0 < getD s b 0) → Dec (getD s b 0 < getD s a 0) → order v w ≡ compare (getD s a 0) (getD s b 0)
-      go (yes l) d =
-          first-less v w 0 p q (weight-some v) (weight-some w) (λ j m. absurd (omega arith)) (omega (arith, left, right))
-          ∙ sym (lt-compare (getD s a 0) (getD s b 0) l)
-      go (no n) (yes l) =
-          first-greater v w 0 p q (weight-some v) (weight-some w) (λ j m. absurd (omega arith)) (omega (arith, left, right))
-          ∙ sym (gt-compare (getD s a 0) (getD s b 0) l)
-      go (no n) (no m) =
-          let e : getD s a 0 ≡ getD s b 0 = omega arith in
-          let x : v ≡ w = all-agree v w p q (omega (arith, weight-some v)) (alike e) in
+      go : Dec (getD s a 0 ≡ getD s b 0) → order v w ≡ compare (getD s a 0) (getD s b 0)
+      go (yes e) =
+          let x : v ≡ w = all-agree v w p q (λ j l m. alike e j m) in
           rw (x, e) (order-refl w ∙ sym (compare-refl (getD s b 0)))
+      go (no n) =
+          rw (cells s a v h, cells s b w k)
+          (first-differs v w 0 p q (weight-some v) (weight-some w) (λ j m. absurd (omega arith)) (λ e. n (cells s a v h ∙ e ∙ sym (cells s b w k))))
 
   pub cell-compared : EndsAt s b (b + 1) → Compared s a b (orderCode (compare (getD s a 0) (getD s b 0)))
   cell-compared e v w h k p q = ap orderCode (sym (cell-order v w h k p q (omega (arith, e w k q))))

@@ -27,7 +27,7 @@ pending : (t : Turn) → let q = lent t in
 pending t = let q = lent t .pre in t .before .loop .inv (q .value) (q .stands) (q .fits)
 
 inside : (t : Turn) → t .before .loop .i < length (lent t .args .s .now)
-inside t = pending-inside _ _ _ _ (pending t) (t .loop-test .taken) .0
+inside t = pending-inside _ _ _ _ (pending t) (t .loop-test .taken)
 
 abbrev turn : tie.After-parts Inv-loop μ-loop → Turn
 turn c = c .before .before
