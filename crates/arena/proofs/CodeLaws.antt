@@ -133,11 +133,6 @@ code-eq v w x y h k e =
     let r : v ≡ w = key-eq v w (uncode x) (uncode y) (fits-small v h) (fits-small w k) q .0 in
     (r, append-cancel-left (code v) x y (e ∙ ap (λ (z : Value). code z ++ y) (sym r)))
 
--- The order of the first difference of two lists of cells.
-lexN : List ℕ → List ℕ → Ordering
-lexN [] ys = elim ys [ [] ↦ Ordering·eq | y ∷ ys′ ↦ Ordering·lt ]
-lexN (x ∷ xs) ys = elim ys [ [] ↦ Ordering·gt | y ∷ ys′ ↦ compare x y then lexN xs ys′ ]
-
 -- Numbers compare as their excess forms do.
 unexcess-order : (l m : ℕ) → compareℤ (unexcess l) (unexcess m) ≡ compare l m
 unexcess-order l m = go (decLt l 2147483648) (decLt m 2147483648)
@@ -174,37 +169,29 @@ cell-order c d o = go (decLt (c / cellSize) (d / cellSize)) (decLt (d / cellSize
         rw (e, compare-refl (d / cellSize), payload-order (d / cellSize) (c % cellSize) (d % cellSize))
         (ap (λ (x : Ordering). x then o) (compare-same c d (c % cellSize) (d % cellSize) (λ h. omega arith) (λ h. omega arith) (λ h. omega arith)))
 
-lex-uncode : (xs ys : List ℕ) → lex (uncode xs) (uncode ys) ≡ lexN xs ys
-unfolding lex uncode lexN
-lex-uncode [] [] = refl
-lex-uncode [] (y ∷ ys) = refl
-lex-uncode (x ∷ xs) [] = refl
-lex-uncode (x ∷ xs) (y ∷ ys) = rw (lex-uncode xs ys) (sym (cell-order x y (lexN xs ys)))
-
--- The order of values is the order of their cells.
-order-lexN : (v w : Value) → CellsFit v → CellsFit w → order v w ≡ lexN (code v) (code w)
-unfolding order
-order-lexN v w h k = rw (← key-code v h, ← key-code w k) (lex-uncode (code v) (code w))
-
 -- The first difference decides.
 then-first : (o p : Ordering) → (o ≡ Ordering·eq → ⊥) → (o then p) ≡ o
 then-first Ordering·lt p n = refl
 then-first Ordering·eq p n = absurd (n refl)
 then-first Ordering·gt p n = refl
 
-lexN-at : (xs ys : List ℕ) (i : ℕ) → i < length xs → i < length ys → ((j : ℕ) → j < i → getD xs j 0 ≡ getD ys j 0) →
-    (getD xs i 0 ≡ getD ys i 0 → ⊥) → lexN xs ys ≡ compare (getD xs i 0) (getD ys i 0)
-unfolding lexN
-lexN-at [] ys i a b h n = absurd (omega arith)
-lexN-at (x ∷ xs) [] i a b h n = absurd (omega arith)
-lexN-at (x ∷ xs) (y ∷ ys) zero a b h n = then-first (compare x y) (lexN xs ys) (λ e. n (compare-eq x y e))
-lexN-at (x ∷ xs) (y ∷ ys) (suc i) a b h n =
-    rw (h 0 (omega arith), compare-refl y) (lexN-at xs ys i (omega arith) (omega arith) (λ j p. h (suc j) (omega arith)) n)
+lex-at : (xs ys : List ℕ) (i : ℕ) → i < length xs → i < length ys → ((j : ℕ) → j < i → getD xs j 0 ≡ getD ys j 0) →
+    (getD xs i 0 ≡ getD ys i 0 → ⊥) → lex (uncode xs) (uncode ys) ≡ compare (getD xs i 0) (getD ys i 0)
+unfolding lex uncode
+lex-at [] ys i a b h n = absurd (omega arith)
+lex-at (x ∷ xs) [] i a b h n = absurd (omega arith)
+lex-at (x ∷ xs) (y ∷ ys) zero a b h n =
+    let o = lex (uncode xs) (uncode ys) in sym (cell-order x y o) ∙ then-first (compare x y) o (λ e. n (compare-eq x y e))
+lex-at (x ∷ xs) (y ∷ ys) (suc i) a b h n =
+    sym (cell-order x y (lex (uncode xs) (uncode ys)))
+    ∙ rw (h 0 (omega arith), compare-refl y) (lex-at xs ys i (omega arith) (omega arith) (λ j p. h (suc j) (omega arith)) n)
 
 pub first-differs : (v w : Value) (i : ℕ) → CellsFit v → CellsFit w → i < weight v → i < weight w →
     ((j : ℕ) → j < i → getD (code v) j 0 ≡ getD (code w) j 0) → (getD (code v) i 0 ≡ getD (code w) i 0 → ⊥) →
     order v w ≡ compare (getD (code v) i 0) (getD (code w) i 0)
-first-differs v w i p q a b h n = order-lexN v w p q ∙ lexN-at (code v) (code w) i (rw (length-code v) a) (rw (length-code w) b) h n
+unfolding order
+first-differs v w i p q a b h n =
+    rw (← key-code v p, ← key-code w q) (lex-at (code v) (code w) i (rw (length-code v) a) (rw (length-code w) b) h n)
 
 -- No value's cells begin another's: where the cells agree as far as both go, the values are equal.
 prefix-is : (xs ys : List ℕ) → length ys ≤ length xs → ((j : ℕ) → j < length ys → getD xs j 0 ≡ getD ys j 0) → xs ≡ ys ++ drop (length ys) xs

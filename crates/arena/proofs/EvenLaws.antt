@@ -44,15 +44,12 @@ all-like v (w ▸ ws) t h k f = (like-flat v w t h (k .0) f, all-like v ws t h (
 
 pub typed-even : (vs : Values) → T (typed (set vs)) → EvenSet vs
 typed-even none h = tt
-typed-even (v ▸ vs) h = go (typed-right (set (v ▸ vs)) .0 h)
+typed-even (v ▸ vs) h = let x = typed-right (set (v ▸ vs)) .0 h in of (x .0) (x .1)
   where
     of : (t : Ty) → HasType (set (v ▸ vs)) t → EvenSet (v ▸ vs)
     of (atom a) h f = absurd h
     of (POW t) h f = all-like v vs t (h .0) (h .1) f
     of (t ⊗ u) h f = absurd h
-
-    go : (t : Ty) × HasType (set (v ▸ vs)) t → EvenSet (v ▸ vs)
-    go x = of (x .0) (x .1)
 
 pub weights-even : (k : ℕ) (vs : Values) → AllWeigh k vs → weights vs ≡ k * count vs
 weights-even k none h = omega arith
@@ -71,7 +68,7 @@ module _ (s : List ℕ) (top at n k : ℕ) (Q : Values → Type 0) (one : (v : V
     front = rw (let e : at + k * 0 ≡ at = omega arith in e, let e : n - 0 ≡ n = omega arith in e) f;
     row = h;
   }
-  behind vs f h (suc i) l = go (behind vs f h i (omega arith))
+  behind vs f h (suc i) l = let b = behind vs f h i (omega arith) in next (b .rest) (b .front) (b .row)
     where
       next : (ws : Values) → Front s top (at + k * i) (n - i) ws → Q ws → Behind s top at n k Q (suc i)
       next none g e = absurd (omega (arith, g .counted))
@@ -81,20 +78,14 @@ module _ (s : List ℕ) (top at n k : ℕ) (Q : Values → Type 0) (one : (v : V
         row = one w ws e .1;
       }
 
-      go : Behind s top at n k Q i → Behind s top at n k Q (suc i)
-      go b = next (b .rest) (b .front) (b .row)
-
   -- Value i of a row, and what stands behind it.
   pub value-at : (P : ℕ → Type 0) → ((j m : ℕ) (v : Value) (vs : Values) → Front s top j m (v ▸ vs) → Q (v ▸ vs) → P j) →
       (vs : Values) → Front s top at n vs → Q vs → (i : ℕ) → i < n → P (at + k * i)
-  value-at P p vs f h i l = go (behind vs f h i (omega arith))
+  value-at P p vs f h i l = let b = behind vs f h i (omega arith) in first (b .rest) (b .front) (b .row)
     where
       first : (ws : Values) → Front s top (at + k * i) (n - i) ws → Q ws → P (at + k * i)
       first none g e = absurd (omega (arith, g .counted))
       first (w ▸ ws) g e = p (at + k * i) (n - i) w ws g e
-
-      go : Behind s top at n k Q i → P (at + k * i)
-      go b = first (b .rest) (b .front) (b .row)
 
 -- The order of two values, the second of one cell.
 module _ (s : List ℕ) (a b : ℕ) where

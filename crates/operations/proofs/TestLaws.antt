@@ -84,7 +84,7 @@ cells-same m n x y c d = bool-eq (eqb x y) (same (int m) (int n)) told back
     told : T (eqb x y) → T (same (int m) (int n))
     told t =
         let v : int m ≡ int n =
-        all-agree (int m) (int n) (c .fits) (d .fits) (omega arith) (λ j l. ap (λ (z : ℕ). getD (z ∷ []) j 0) (sym (c .is) ∙ eqb→eq x y t ∙ d .is)) in
+        all-agree (int m) (int n) (c .fits) (d .fits) (λ j _ _. ap (λ (z : ℕ). getD (z ∷ []) j 0) (sym (c .is) ∙ eqb→eq x y t ∙ d .is)) in
         subst (λ (z : Value). T (same (int m) z)) v (same-refl (int m))
 
     back : T (same (int m) (int n)) → T (eqb x y)

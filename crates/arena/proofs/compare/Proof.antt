@@ -25,19 +25,8 @@ first t = let q = lent t .pre in first-inside _ _ _ _ (q .0) (q .2) (t .loop-tes
 second : (t : Turn) → let q = lent t .args in q .b + t .before .loop .i < length (q .s .now)
 second t = let q = lent t .pre in second-inside _ _ _ _ _ (q .0) (q .1) (q .2) (t .loop-test .taken) (t .before .loop .inv .1)
 
-abbrev less : tie.Then1 Inv-loop μ-loop → Turn
-less c = c .before .before .before
-
 abbrev notLess : tie.Else1 Inv-loop μ-loop → Turn
 notLess c = c .before .before .before
-
-returns : tie.Need-returns Inv-loop μ-loop
-returns c =
-    let t = less c in found-less _ _ _ _ _ (lent t .pre .2) (t .before .loop .inv .1) (t .loop-test .taken) (c .if1 .taken)
-
-returns-2 : tie.Need-returns-2 Inv-loop μ-loop
-returns-2 c =
-    let t = notLess (c .before) in found-greater _ _ _ _ _ (lent t .pre .2) (t .before .loop .inv .1) (t .loop-test .taken) (c .if2 .taken)
 
 loop-again : tie.Need-loop-again Inv-loop μ-loop
 loop-again c =
@@ -61,8 +50,10 @@ compare-spec =
     (λ c. omega (arith, second (c .before)))
     (λ c. omega (arith, second (c .before)))
     (λ c. second (c .before .before))
-    returns
-    returns-2
+    (λ c. let t = c .before .before .before in
+        found-less _ _ _ _ _ (lent t .pre .2) (t .before .loop .inv .1) (t .loop-test .taken) (c .if1 .taken))
+    (λ c. let t = notLess (c .before) in
+        found-greater _ _ _ _ _ (lent t .pre .2) (t .before .loop .inv .1) (t .loop-test .taken) (c .if2 .taken))
     (λ c. omega (arith, notLess (c .before) .loop-test .taken))
     (λ c. omega (arith, notLess (c .before) .loop-test .taken))
     loop-again
