@@ -1,15 +1,5 @@
 -- The cells of a value: how many they are, that they tell the value, and that their order is the order of values.
-use Prim.Native.Nat.{ℕ, zero, suc, _+_, _*_, _-_, _/_, _%_, _≤_, _<_, compare, Ordering, Ordering·lt, Ordering·eq, Ordering·gt}
-use mathlib.Core.Bool.{Bool, true, false, cond}
-use mathlib.Core.List.{List, [], _∷_, _++_, append-cancel-left, append-nil}
-use mathlib.Core.Path.{_≡_, refl, sym, ap, _∙_}
-use native.Mathlib.Omega.{arith}
-use native.Mathlib.Decide.{decLt}
-use lib.Dec.{eqb, ltb, leb→le}
-use lib.IntN.{ℤ, pos, negsuc}
-use lib.Signed.{mag}
-use lib.ListN.{length, getD, drop, length-append}
-use borrow.Author.Tests.{lt-ltb, le-ltb}
+use Rattle.arena.proofs.Base.{ℕ, zero, suc, _+_, _*_, _-_, _/_, _%_, _≤_, _<_, compare, Ordering, Ordering·lt, Ordering·eq, Ordering·gt, Bool, true, false, cond, List, [], _∷_, _++_, append-cancel-left, append-nil, _≡_, refl, sym, ap, _∙_, arith, decLt, eqb, ltb, leb→le, ℤ, pos, negsuc, mag, length, getD, drop, length-append, lt-ltb, le-ltb}
 use Rattle.rules.specs.Types.{whole}
 use Rattle.rules.specs.Values.{Scalar, num, truth, element, Value, scalar, pair, set, Values, none, _▸_, scalarTag, scalarPayload, bit, count, weight, weights, compareℤ, _then_, lex, key, keys, order}
 use Rattle.laws.proofs.OrderLaws.{flip, Small, Smalls, key-eq, compare-refl, compare-eq, lt-compare, compare-flip}

@@ -1,13 +1,6 @@
 -- Members of one weight. Values of one type, one of them flat, weigh the same; in a row of values that each weigh k, value i stands
 -- k · i cells behind the first (`value-at`); a value of one cell compares with another by its cell.
-use Prim.Native.Nat.{ℕ, zero, suc, _+_, _*_, _-_, _≤_, _<_, compare}
-use mathlib.Core.List.{List}
-use mathlib.Core.Path.{_≡_, refl, sym, ap, _∙_, subst}
-use native.Mathlib.Omega.{arith}
-use native.Mathlib.Nat.{add-zero}
-use native.Mathlib.Decide.{ℕ-discrete}
-use lib.Dec.{T}
-use lib.ListN.{getD}
+use Rattle.arena.proofs.Base.{ℕ, zero, suc, _+_, _*_, _-_, _≤_, _<_, compare, List, _≡_, refl, sym, ap, _∙_, subst, arith, add-zero, ℕ-discrete, T, getD}
 use Rattle.rules.specs.Types.{Ty, atom, POW, _⊗_}
 use Rattle.rules.specs.Values.{Value, scalar, pair, set, Values, none, _▸_, count, weight, weights, order}
 use Rattle.rules.specs.Fits.{HasType, HaveType, typed}

@@ -1,14 +1,5 @@
 -- Values that stand in the arena: their cells one by one, where they end, how two compare, and what copying keeps.
-use Prim.Native.Nat.{ℕ, suc, _+_, _*_, _-_, _/_, _%_, _≤_, _<_, compare}
-use mathlib.Core.List.{List, _∷_, _++_, append-assoc, append-nil}
-use mathlib.Core.Logic.{_⊎_, inl, inr}
-use mathlib.Core.Path.{_≡_, refl, sym, ap, _∙_, subst}
-use native.Mathlib.Omega.{arith}
-use native.Mathlib.Nat.{add-zero}
-use native.Mathlib.Decide.{ℕ-discrete, decLt}
-use lib.ListN.{length, getD, set as setAt, length-append, length-set, List·getD-append}
-use lib.Seq.{getD-append-add, getD-set-same, getD-set-other}
-use borrow.Author.Tests.{eq-eqb, ne-eqb}
+use Rattle.arena.proofs.Base.{ℕ, suc, _+_, _*_, _-_, _/_, _%_, _≤_, _<_, compare, List, _∷_, _++_, append-assoc, append-nil, _⊎_, inl, inr, _≡_, refl, sym, ap, _∙_, subst, arith, add-zero, ℕ-discrete, decLt, length, getD, setAt, length-append, length-set, List·getD-append, getD-append-add, getD-set-same, getD-set-other, eq-eqb, ne-eqb}
 use Rattle.rules.specs.Values.{Value, scalar, pair, set, Values, none, _▸_, scalarTag, count, weight, weights}
 use Rattle.laws.proofs.OrderLaws.{order-refl, lt-compare}
 use Rattle.arena.specs.Code.{cellSize, scalarLow, code, codes, Stands, ValueAt, ValuesAt, Same, CellsFit, AllFit, orderCode, SomeAt, EndsAt, Compared, Copied, partsOf}

@@ -1,10 +1,6 @@
 -- A value that stands in the arena: that its place tells it, the tag and the payload of its first cell, and where the parts of a
 -- pair stand.
-use Prim.Native.Nat.{ℕ, _+_, _*_, _/_, _%_, _<_}
-use mathlib.Core.List.{List, _++_}
-use mathlib.Core.Path.{_≡_, refl, sym, _∙_}
-use native.Mathlib.Omega.{arith}
-use lib.ListN.{length, getD}
+use Rattle.arena.proofs.Base.{ℕ, _+_, _*_, _/_, _%_, _<_, List, _++_, _≡_, refl, sym, _∙_, arith, length, getD}
 use Rattle.rules.specs.Values.{Value, scalar, pair, set, scalarTag, tag, count, weight}
 use Rattle.laws.proofs.CellsLaws.{weight-some}
 use Rattle.arena.specs.Code.{cellSize, scalarLow, code, ValueAt, CellsFit, SomeAt, EndsAt, IsScalar, Flat}

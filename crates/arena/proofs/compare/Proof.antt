@@ -1,7 +1,5 @@
 -- `compare`: the cells agree so far; the first difference decides, and no value's cells begin another's.
-use Prim.Native.Nat.{_+_, _-_, _≤_, _<_}
-use native.Mathlib.Omega.{arith}
-use lib.ListN.{length}
+use Rattle.arena.proofs.Base.{_+_, _-_, _≤_, _<_, arith, length}
 use Rattle.arena.proofs.Standing.{Agree, end-above, first-inside, second-inside, found-less, found-greater, found-equal, agree-next}
 use Rattle.arena.proofs.compare.Statement.{statement}
 use Rattle.arena.proofs.compare.Tie as tie
@@ -51,9 +49,9 @@ compare-spec =
     (λ c. omega (arith, second (c .before)))
     (λ c. second (c .before .before))
     (λ c. let t = c .before .before .before in
-        found-less _ _ _ _ _ (lent t .pre .2) (t .before .loop .inv .1) (t .loop-test .taken) (c .if1 .taken))
+    found-less _ _ _ _ _ (lent t .pre .2) (t .before .loop .inv .1) (t .loop-test .taken) (c .if1 .taken))
     (λ c. let t = notLess (c .before) in
-        found-greater _ _ _ _ _ (lent t .pre .2) (t .before .loop .inv .1) (t .loop-test .taken) (c .if2 .taken))
+    found-greater _ _ _ _ _ (lent t .pre .2) (t .before .loop .inv .1) (t .loop-test .taken) (c .if2 .taken))
     (λ c. omega (arith, notLess (c .before) .loop-test .taken))
     (λ c. omega (arith, notLess (c .before) .loop-test .taken))
     loop-again

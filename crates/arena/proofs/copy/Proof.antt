@@ -1,6 +1,5 @@
 -- `copy`: the first i cells have been copied, and nothing else is changed.
-use Prim.Native.Nat.{_-_, _≤_}
-use native.Mathlib.Omega.{arith}
+use Rattle.arena.proofs.Base.{_-_, _≤_, arith}
 use Rattle.arena.specs.Code.{Copied}
 use Rattle.arena.proofs.Standing.{copied-start, copied-step, copied-end}
 use Rattle.arena.proofs.copy.Statement.{statement}
@@ -28,6 +27,6 @@ copy-spec =
     (λ c. omega (arith, c .before .loop-test .taken))
     (λ c. omega (arith, c .before .loop-test .taken))
     (λ c. let t = c .before in let l = t .before in let q = l .before .pre in
-        (omega (arith, t .loop-test .taken), copied-step _ _ _ _ _ _ (l .loop .inv .1) (q .2) (t .loop-test .taken) (q .1)))
+    (omega (arith, t .loop-test .taken), copied-step _ _ _ _ _ _ (l .loop .inv .1) (q .2) (t .loop-test .taken) (q .1)))
     (λ c. c .before .loop .inv .1 .kept)
     (λ c. copied-end _ _ _ _ _ _ (c .before .loop .inv .1) (omega (arith, c .loop-test .left, c .before .loop .inv .0))))

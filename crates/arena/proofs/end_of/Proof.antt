@@ -1,6 +1,5 @@
 -- `end_of`: a cell below that of a pair is a scalar's and so a whole value; any other value is walked.
-use borrow.Author.Needs.{needs}
-use native.Mathlib.Omega.{arith}
+use Rattle.arena.proofs.Base.{needs, arith}
 use Rattle.arena.proofs.ValueParts.{some-inside, one-cell}
 use Rattle.arena.proofs.end_of.Statement.{statement}
 use Rattle.arena.proofs.end_of.Tie as tie

@@ -1,7 +1,6 @@
 -- `parts`: by the tag of the cell.
-use native.Mathlib.Omega.{arith}
+use Rattle.arena.proofs.Base.{arith, needs}
 use Rattle.arena.proofs.Standing.{parts-pair, parts-set, parts-scalar}
-use borrow.Author.Needs.{needs}
 use Rattle.arena.proofs.parts.Statement.{statement}
 use Rattle.arena.proofs.parts.Tie as tie
 

@@ -1,9 +1,6 @@
 -- `walk_end`: the values that are still to come stand from i on, up to where the value ends.
-use borrow.Author.Needs.{needs}
+use Rattle.arena.proofs.Base.{needs, _+_, _-_, _<_, arith, length}
 use Rattle.arena.proofs.Standing.{Pending, pending-start, pending-step, pending-inside, pending-end, pending-few}
-use Prim.Native.Nat.{_+_, _-_, _<_}
-use native.Mathlib.Omega.{arith}
-use lib.ListN.{length}
 use Rattle.arena.specs.Code.{ValueAt, CellsFit}
 use Rattle.rules.specs.Values.{Value, weight}
 use Rattle.arena.proofs.walk_end.Statement.{statement}
