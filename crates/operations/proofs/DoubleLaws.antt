@@ -8,7 +8,6 @@ use Rattle.sets.specs.Fronts.{Merges}
 use Rattle.products.specs.Growing.{Pairs, Intervals, Multiplies}
 use Rattle.operations.proofs.GoodLaws.{good-value, good-above, good-whole, good-inside}
 use Rattle.operations.proofs.OutcomeLaws.{Makes, makes-frame, makes-gives}
-pub use Rattle.operations.proofs.FitLaws.{ready-both}
 use Rattle.operations.proofs.FitLaws.{two-any, two-fits, two-sets, two-numbers, two-function, number-low}
 use Rattle.operations.proofs.KindLaws.{codeOf, code-of, same-kind}
 

@@ -9,3 +9,4 @@ pub mod SingleLaws
 pub mod LeafLaws
 pub mod DoubleLaws
 pub mod TestLaws
+mod Common

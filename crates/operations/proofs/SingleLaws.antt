@@ -10,7 +10,6 @@ use Rattle.products.specs.Power.{Powers}
 use Rattle.products.proofs.PowerLaws.{members-count}
 use Rattle.fitting.specs.Agree.{SomeTyped}
 use Rattle.fitting.proofs.Cells.{members-stand, first-stands}
-pub use Rattle.operations.proofs.GoodLaws.{some-typed, some-inside}
 use Rattle.operations.proofs.GoodLaws.{good-value, good-typed-at}
 use Rattle.operations.proofs.OutcomeLaws.{Makes, makes-frame, makes-gives}
 use Rattle.operations.proofs.FitLaws.{fit-types, on-set, one-any, one-fits, one-set, one-relation}

@@ -9,7 +9,6 @@ use Rattle.sets.specs.Fronts.{Contains, Includes}
 use Rattle.operations.specs.declared.Tested.{Tested}
 use Rattle.operations.proofs.GoodLaws.{good-fits, good-value, good-whole}
 use Rattle.operations.proofs.OutcomeLaws.{test-unfit, test-fit}
-pub use Rattle.operations.proofs.FitLaws.{ready-both}
 use Rattle.operations.proofs.FitLaws.{two-fits, two-sets, two-member, two-numbers}
 use Rattle.operations.proofs.KindLaws.{codeOf, code-of, same-test}
 

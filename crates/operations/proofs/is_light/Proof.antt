@@ -1,5 +1,5 @@
 -- `is_light`: by the bounds.
-use Rattle.operations.proofs.Base.{arith, leb-true, absurd01}
+use Rattle.operations.proofs.Common.{arith, leb-true, absurd01}
 use Rattle.operations.proofs.is_light.Statement.{statement}
 use Rattle.operations.proofs.is_light.Tie as tie
 

@@ -1,7 +1,5 @@
 -- `known_function`: a relation whose pairs are seen to have different first parts.
-use Rattle.rules.proofs.Basics.{absurd01}
-use Rattle.operations.proofs.FitLaws.{function-seen, some-relation}
-use Rattle.operations.proofs.GoodLaws.{some-typed}
+use Rattle.operations.proofs.Common.{absurd01, function-seen, some-relation, some-typed}
 use Rattle.operations.proofs.known_function.Statement.{statement}
 use Rattle.operations.proofs.known_function.Tie as tie
 

@@ -1,12 +1,7 @@
 -- `one`: each code has its kind. In a need, m is where the operation has answered.
-use Rattle.rules.specs.Kinds.{singleton, power, dom, ran, card}
-use Rattle.operations.proofs.SingleLaws.{ready-value, singleton-done, one-of, one-last}
-use borrow.Author.Needs.{needs}
+use Rattle.operations.proofs.Common.{singleton, power, dom, ran, card, ready-value, singleton-done, one-of, one-last, needs}
 use Rattle.operations.proofs.one.Statement.{statement}
 use Rattle.operations.proofs.one.Tie as tie
-
-returns-6 : tie.Need-returns-6
-returns-6 c = let n = c .before .before .match .rest in one-last (n .0 .0 .0 .0 .1) (n .0 .0 .0 .1) (n .0 .0 .1) (n .0 .1) (n .1) (c .choice .ensures _)
 
 pub one-spec : {M : Type 1} → statement M
 one-spec =
@@ -31,4 +26,5 @@ one-spec =
     (λ c. search needs)
     (λ c. one-of card (c .before .before .match .keys5) (c .card .ensures _))
     (λ c. search needs)
-    returns-6)
+    (λ c. let n = c .before .before .match .rest in
+    one-last (n .0 .0 .0 .0 .1) (n .0 .0 .0 .1) (n .0 .0 .1) (n .0 .1) (n .1) (c .choice .ensures _)))

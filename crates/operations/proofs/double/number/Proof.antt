@@ -1,6 +1,5 @@
 -- `number`: an integer of 32 bits, or 17.
-use Rattle.operations.proofs.Base.{inl, inr, arith, needs}
-use Rattle.operations.proofs.DoubleLaws.{number-far, number-near}
+use Rattle.operations.proofs.Common.{inl, inr, arith, needs, number-far, number-near}
 use Rattle.operations.proofs.double.number.Statement.{statement}
 use Rattle.operations.proofs.double.number.Tie as tie
 

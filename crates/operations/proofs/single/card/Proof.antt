@@ -1,7 +1,5 @@
 -- `card`: the number of members stands in the first cell of a set. Landmark: the operand that was lent.
-use borrow.Author.Needs.{needs}
-use Rattle.rules.specs.Kinds.{card}
-use Rattle.operations.proofs.SingleLaws.{some-typed, some-inside, one-unlike, card-done}
+use Rattle.operations.proofs.Common.{needs, card, some-typed, some-inside, one-unlike, card-done}
 use Rattle.operations.proofs.single.card.Statement.{statement}
 use Rattle.operations.proofs.single.card.Tie as tie
 

@@ -1,25 +1,10 @@
--- `side`: the parts of a set of pairs. Landmarks: the operand that was lent, and that it fits. In the last needs of a side, m is where the set has been made.
-use borrow.Author.Needs.{needs}
-use Rattle.operations.proofs.SingleLaws.{ready-typed, ready-pairs, side-unlike, domain-done, range-done}
+-- `side`: the parts of a set of pairs. Landmark: the operand that was lent. In the needs, m is where the set has been made, e where the operand fits.
+use Rattle.operations.proofs.Common.{needs, ready-typed, ready-pairs, side-unlike, domain-done, range-done}
 use Rattle.operations.proofs.single.side.Statement.{statement}
 use Rattle.operations.proofs.single.side.Tie as tie
 
 abbrev lent : tie.After-is-relation → tie.Start
 lent c = c .before .before .before
-
-returns-2 : tie.Need-returns-2
-returns-2 c =
-    let m = c .before .before .before in
-    let t = m .before .before in
-    let e = t .before in
-    rw (t .if2 .taken) (range-done (lent (e .before) .pre) (e .before .is-relation .ensures) (e .if1 .left) (m .range .ensures) (c .built .ensures))
-
-returns-3 : tie.Need-returns-3
-returns-3 c =
-    let m = c .before .before .before in
-    let t = m .before .before in
-    let e = t .before in
-    rw (t .if2 .left) (domain-done (lent (e .before) .pre) (e .before .is-relation .ensures) (e .if1 .left) (m .domain .ensures) (c .built2 .ensures))
 
 pub side-spec : {M : Type 1} → statement M
 side-spec =
@@ -31,8 +16,10 @@ side-spec =
     (λ c κs. let e = c .before .before in ready-pairs (lent (e .before) .pre) (e .before .is-relation .ensures) (e .if1 .left))
     (λ c κs. search needs)
     (λ c. search needs)
-    returns-2
+    (λ c. let m = c .before .before .before in let t = m .before .before in let e = t .before in
+    rw (t .if2 .taken) (range-done (lent (e .before) .pre) (e .before .is-relation .ensures) (e .if1 .left) (m .range .ensures) (c .built .ensures)))
     (λ c κs. let e = c .before .before in ready-pairs (lent (e .before) .pre) (e .before .is-relation .ensures) (e .if1 .left))
     (λ c κs. search needs)
     (λ c. search needs)
-    returns-3)
+    (λ c. let m = c .before .before .before in let t = m .before .before in let e = t .before in
+    rw (t .if2 .left) (domain-done (lent (e .before) .pre) (e .before .is-relation .ensures) (e .if1 .left) (m .domain .ensures) (c .built2 .ensures))))

@@ -1,6 +1,5 @@
 -- `subset`: 8. Landmark: the operands that were lent.
-use Rattle.rules.specs.Kinds.{subset}
-use Rattle.operations.proofs.TestLaws.{ready-both, test-unlike, subset-ready, subset-told}
+use Rattle.operations.proofs.Common.{subset, ready-both, test-unlike, subset-ready, subset-told}
 use Rattle.operations.proofs.tests.subset.Statement.{statement}
 use Rattle.operations.proofs.tests.subset.Tie as tie
 
