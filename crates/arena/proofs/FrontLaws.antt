@@ -55,9 +55,6 @@ module _ (s : List ℕ) (top a : ℕ) (vs : Values) (h : SetBelow s top a vs) wh
   pub set-inside : a < length s
   set-inside = omega (arith, h .stands .inside, length-code (set vs))
 
-  pub set-some : SomeAt s a
-  set-some = record { value = set vs; stands = h .stands; fits = h .fine .fits }
-
   pub set-end : (e : ℕ) → EndsAt s a e → e ≡ a + 1 + weights vs
   set-end e x = omega (arith, x (set vs) (h .stands) (h .fine .fits))
 

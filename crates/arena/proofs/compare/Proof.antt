@@ -34,6 +34,16 @@ loop-again c =
       agree-next (q .s .now) (q .a) (q .b) (t .before .loop .i) (t .before .loop .inv .1) (c .before .if1 .left) (c .if2 .left),
     )
 
+returns : tie.Need-returns Inv-loop μ-loop
+returns c =
+    let t = c .before .before .before in
+    found-less _ _ _ _ _ (lent t .pre .2) (t .before .loop .inv .1) (t .loop-test .taken) (c .if1 .taken)
+
+returns-2 : tie.Need-returns-2 Inv-loop μ-loop
+returns-2 c =
+    let t = notLess (c .before) in
+    found-greater _ _ _ _ _ (lent t .pre .2) (t .before .loop .inv .1) (t .loop-test .taken) (c .if2 .taken)
+
 pub compare-spec : {M : Type 1} → statement M
 compare-spec =
     tie.close
@@ -48,10 +58,8 @@ compare-spec =
     (λ c. omega (arith, second (c .before)))
     (λ c. omega (arith, second (c .before)))
     (λ c. second (c .before .before))
-    (λ c. let t = c .before .before .before in
-    found-less _ _ _ _ _ (lent t .pre .2) (t .before .loop .inv .1) (t .loop-test .taken) (c .if1 .taken))
-    (λ c. let t = notLess (c .before) in
-    found-greater _ _ _ _ _ (lent t .pre .2) (t .before .loop .inv .1) (t .loop-test .taken) (c .if2 .taken))
+    returns
+    returns-2
     (λ c. omega (arith, notLess (c .before) .loop-test .taken))
     (λ c. omega (arith, notLess (c .before) .loop-test .taken))
     loop-again

@@ -11,6 +11,13 @@ Inv-loop s₀ from n to i₀ s i = (i ≤ n) × Copied s₀ from i to s
 abbrev μ-loop : tie.MeasureT-loop
 μ-loop s₀ from n to i₀ s i = n - i
 
+loop-again : tie.Need-loop-again Inv-loop μ-loop
+loop-again c =
+    let t = c .before in
+    let l = t .before in
+    let q = l .before .pre in
+    (omega (arith, t .loop-test .taken), copied-step _ _ _ _ _ _ (l .loop .inv .1) (q .2) (t .loop-test .taken) (q .1))
+
 pub copy-spec : {M : Type 1} → statement M
 copy-spec =
     tie.close
@@ -26,7 +33,6 @@ copy-spec =
     (λ c. omega (arith, c .before .loop-test .taken, c .before .before .before .pre .1, c .before .before .loop .inv .1 .kept))
     (λ c. omega (arith, c .before .loop-test .taken))
     (λ c. omega (arith, c .before .loop-test .taken))
-    (λ c. let t = c .before in let l = t .before in let q = l .before .pre in
-    (omega (arith, t .loop-test .taken), copied-step _ _ _ _ _ _ (l .loop .inv .1) (q .2) (t .loop-test .taken) (q .1)))
+    loop-again
     (λ c. c .before .loop .inv .1 .kept)
     (λ c. copied-end _ _ _ _ _ _ (c .before .loop .inv .1) (omega (arith, c .loop-test .left, c .before .loop .inv .0))))
