@@ -1,18 +1,8 @@
 -- The cells of a value: how many they are, that they tell the value, and that their order is the order of values.
-use Prim.Native.Nat.{ℕ, zero, suc, _+_, _*_, _-_, _/_, _%_, _≤_, _<_, compare, Ordering, Ordering·lt, Ordering·eq, Ordering·gt}
-use mathlib.Core.Bool.{Bool, true, false, cond}
-use mathlib.Core.List.{List, [], _∷_, _++_, append-cancel-left, append-nil}
-use mathlib.Core.Path.{_≡_, refl, sym, ap, _∙_}
-use native.Mathlib.Omega.{arith}
-use native.Mathlib.Decide.{decLt}
-use lib.Dec.{eqb, ltb, leb→le}
-use lib.IntN.{ℤ, pos, negsuc}
-use lib.Signed.{mag}
-use lib.ListN.{length, getD, drop, length-append}
-use borrow.Author.Tests.{lt-ltb, le-ltb}
+use Rattle.arena.proofs.Base.{ℕ, zero, suc, _+_, _*_, _-_, _/_, _%_, _≤_, _<_, compare, Ordering, Ordering·lt, Ordering·eq, Ordering·gt, Bool, true, false, cond, List, [], _∷_, _++_, append-cancel-left, append-nil, _≡_, refl, sym, ap, _∙_, arith, decLt, eqb, ltb, leb→le, ℤ, pos, negsuc, mag, length, getD, drop, length-append, lt-ltb, le-ltb}
 use Rattle.rules.specs.Types.{whole}
 use Rattle.rules.specs.Values.{Scalar, num, truth, element, Value, scalar, pair, set, Values, none, _▸_, scalarTag, scalarPayload, bit, count, weight, weights, compareℤ, _then_, lex, key, keys, order}
-use Rattle.laws.proofs.OrderLaws.{flip, Small, Smalls, key-eq, compare-refl, lt-compare, compare-flip}
+use Rattle.laws.proofs.OrderLaws.{flip, Small, Smalls, key-eq, compare-refl, compare-eq, lt-compare, compare-flip}
 use Rattle.laws.proofs.CellsLaws.{Encodable, Encodables}
 use Rattle.arena.specs.Code.{cellSize, excess, scalarLow, code, codes, ScalarFits, CellsFit, AllFit}
 
@@ -51,21 +41,23 @@ excess-back (pos n) h = rw (le-ltb (2147483648 + n) 2147483648 (omega arith)) (a
 excess-back (negsuc n) h = rw (lt-ltb (2147483647 - n) 2147483648 (omega arith)) (ap negsuc (omega arith))
 
 -- The tag and the low part of a cell.
-cell-parts : (t l : ℕ) → l < cellSize → ((t * cellSize + l) / cellSize ≡ t) × ((t * cellSize + l) % cellSize ≡ l)
+pub cell-parts : (t l : ℕ) → l < cellSize → ((t * cellSize + l) / cellSize ≡ t) × ((t * cellSize + l) % cellSize ≡ l)
 cell-parts t l h = (omega arith, omega arith)
 
 uncode-cell : (t l : ℕ) (cs : List ℕ) → l < cellSize → uncode ((t * cellSize + l) ∷ cs) ≡ pos t ∷ payloadOf t l ∷ uncode cs
 unfolding uncode
 uncode-cell t l cs h = rw (cell-parts t l h .0, cell-parts t l h .1)
 
-pub bit-small : (b : Bool) → bit b < cellSize
-bit-small true = omega arith
-bit-small false = omega arith
+pub scalar-small : (s : Scalar) → ScalarFits s → (scalarTag s < 4) × (scalarLow s < cellSize)
+scalar-small (num whole i) h = (omega arith, h .0)
+scalar-small (truth true) h = (omega arith, omega arith)
+scalar-small (truth false) h = (omega arith, omega arith)
+scalar-small (element g k) h = (omega arith, h .1)
 
 scalar-uncode : (s : Scalar) → ScalarFits s → uncode ((scalarTag s * cellSize + scalarLow s) ∷ []) ≡ pos (scalarTag s) ∷ scalarPayload s ∷ []
 unfolding uncode
 scalar-uncode (num whole i) h = rw (uncode-cell 1 (excess i) [] (h .0), excess-back i (h .1))
-scalar-uncode (truth b) h = rw (uncode-cell 2 (bit b) [] (bit-small b))
+scalar-uncode (truth b) h = rw (uncode-cell 2 (bit b) [] (scalar-small (truth b) h .1))
 scalar-uncode (element g k) h = rw (uncode-cell 3 (256 * g + k) [] (h .1))
 
 -- The key of a value is read off its cells.
@@ -131,11 +123,6 @@ code-eq v w x y h k e =
     let r : v ≡ w = key-eq v w (uncode x) (uncode y) (fits-small v h) (fits-small w k) q .0 in
     (r, append-cancel-left (code v) x y (e ∙ ap (λ (z : Value). code z ++ y) (sym r)))
 
--- The order of the first difference of two lists of cells.
-lexN : List ℕ → List ℕ → Ordering
-lexN [] ys = elim ys [ [] ↦ Ordering·eq | y ∷ ys′ ↦ Ordering·lt ]
-lexN (x ∷ xs) ys = elim ys [ [] ↦ Ordering·gt | y ∷ ys′ ↦ compare x y then lexN xs ys′ ]
-
 -- Numbers compare as their excess forms do.
 unexcess-order : (l m : ℕ) → compareℤ (unexcess l) (unexcess m) ≡ compare l m
 unexcess-order l m = go (decLt l 2147483648) (decLt m 2147483648)
@@ -172,54 +159,46 @@ cell-order c d o = go (decLt (c / cellSize) (d / cellSize)) (decLt (d / cellSize
         rw (e, compare-refl (d / cellSize), payload-order (d / cellSize) (c % cellSize) (d % cellSize))
         (ap (λ (x : Ordering). x then o) (compare-same c d (c % cellSize) (d % cellSize) (λ h. omega arith) (λ h. omega arith) (λ h. omega arith)))
 
-lex-uncode : (xs ys : List ℕ) → lex (uncode xs) (uncode ys) ≡ lexN xs ys
-unfolding lex uncode lexN
-lex-uncode [] [] = refl
-lex-uncode [] (y ∷ ys) = refl
-lex-uncode (x ∷ xs) [] = refl
-lex-uncode (x ∷ xs) (y ∷ ys) = rw (lex-uncode xs ys) (sym (cell-order x y (lexN xs ys)))
-
--- The order of values is the order of their cells.
-order-lexN : (v w : Value) → CellsFit v → CellsFit w → order v w ≡ lexN (code v) (code w)
-unfolding order
-order-lexN v w h k = rw (← key-code v h, ← key-code w k) (lex-uncode (code v) (code w))
-
 -- The first difference decides.
-lexN-lt : (xs ys : List ℕ) (i : ℕ) → i < length xs → i < length ys → ((j : ℕ) → j < i → getD xs j 0 ≡ getD ys j 0) → getD xs i 0 < getD ys i 0 →
-    lexN xs ys ≡ Ordering·lt
-unfolding lexN
-lexN-lt [] ys i a b h l = absurd (omega arith)
-lexN-lt (x ∷ xs) [] i a b h l = absurd (omega arith)
-lexN-lt (x ∷ xs) (y ∷ ys) zero a b h l = rw (lt-compare x y l)
-lexN-lt (x ∷ xs) (y ∷ ys) (suc i) a b h l =
-    rw (h 0 (omega arith), compare-refl y) (lexN-lt xs ys i (omega arith) (omega arith) (λ j p. h (suc j) (omega arith)) l)
+then-first : (o p : Ordering) → (o ≡ Ordering·eq → ⊥) → (o then p) ≡ o
+then-first Ordering·lt p n = refl
+then-first Ordering·eq p n = absurd (n refl)
+then-first Ordering·gt p n = refl
 
-lexN-gt : (xs ys : List ℕ) (i : ℕ) → i < length xs → i < length ys → ((j : ℕ) → j < i → getD xs j 0 ≡ getD ys j 0) → getD ys i 0 < getD xs i 0 →
-    lexN xs ys ≡ Ordering·gt
-unfolding lexN
-lexN-gt [] ys i a b h l = absurd (omega arith)
-lexN-gt (x ∷ xs) [] i a b h l = absurd (omega arith)
-lexN-gt (x ∷ xs) (y ∷ ys) zero a b h l = rw (gt-compare x y l)
-lexN-gt (x ∷ xs) (y ∷ ys) (suc i) a b h l =
-    rw (h 0 (omega arith), compare-refl y) (lexN-gt xs ys i (omega arith) (omega arith) (λ j p. h (suc j) (omega arith)) l)
+lex-at : (xs ys : List ℕ) (i : ℕ) → i < length xs → i < length ys → ((j : ℕ) → j < i → getD xs j 0 ≡ getD ys j 0) →
+    (getD xs i 0 ≡ getD ys i 0 → ⊥) → lex (uncode xs) (uncode ys) ≡ compare (getD xs i 0) (getD ys i 0)
+unfolding lex uncode
+lex-at [] ys i a b h n = absurd (omega arith)
+lex-at (x ∷ xs) [] i a b h n = absurd (omega arith)
+lex-at (x ∷ xs) (y ∷ ys) zero a b h n =
+    let o = lex (uncode xs) (uncode ys) in sym (cell-order x y o) ∙ then-first (compare x y) o (λ e. n (compare-eq x y e))
+lex-at (x ∷ xs) (y ∷ ys) (suc i) a b h n =
+    sym (cell-order x y (lex (uncode xs) (uncode ys)))
+    ∙ rw (h 0 (omega arith), compare-refl y) (lex-at xs ys i (omega arith) (omega arith) (λ j p. h (suc j) (omega arith)) n)
 
-pub first-less : (v w : Value) (i : ℕ) → CellsFit v → CellsFit w → i < weight v → i < weight w →
-    ((j : ℕ) → j < i → getD (code v) j 0 ≡ getD (code w) j 0) → getD (code v) i 0 < getD (code w) i 0 → order v w ≡ Ordering·lt
-first-less v w i p q a b h l = order-lexN v w p q ∙ lexN-lt (code v) (code w) i (rw (length-code v) a) (rw (length-code w) b) h l
+pub first-differs : (v w : Value) (i : ℕ) → CellsFit v → CellsFit w → i < weight v → i < weight w →
+    ((j : ℕ) → j < i → getD (code v) j 0 ≡ getD (code w) j 0) → (getD (code v) i 0 ≡ getD (code w) i 0 → ⊥) →
+    order v w ≡ compare (getD (code v) i 0) (getD (code w) i 0)
+unfolding order
+first-differs v w i p q a b h n =
+    rw (← key-code v p, ← key-code w q) (lex-at (code v) (code w) i (rw (length-code v) a) (rw (length-code w) b) h n)
 
-pub first-greater : (v w : Value) (i : ℕ) → CellsFit v → CellsFit w → i < weight v → i < weight w →
-    ((j : ℕ) → j < i → getD (code v) j 0 ≡ getD (code w) j 0) → getD (code w) i 0 < getD (code v) i 0 → order v w ≡ Ordering·gt
-first-greater v w i p q a b h l = order-lexN v w p q ∙ lexN-gt (code v) (code w) i (rw (length-code v) a) (rw (length-code w) b) h l
-
--- No value's cells begin another's: where all cells of w agree with v's first cells, the values are equal.
+-- No value's cells begin another's: where the cells agree as far as both go, the values are equal.
 prefix-is : (xs ys : List ℕ) → length ys ≤ length xs → ((j : ℕ) → j < length ys → getD xs j 0 ≡ getD ys j 0) → xs ≡ ys ++ drop (length ys) xs
 prefix-is xs [] l h = refl
 prefix-is [] (y ∷ ys) l h = absurd (omega arith)
 prefix-is (x ∷ xs) (y ∷ ys) l h = let e : x ≡ y = h 0 (omega arith) in rw (← e)
     (ap (λ (z : List ℕ). x ∷ z) (prefix-is xs ys (omega arith) (λ j p. h (suc j) (omega arith))))
 
-pub all-agree : (v w : Value) → CellsFit v → CellsFit w → weight w ≤ weight v → ((j : ℕ) → j < weight w → getD (code v) j 0 ≡ getD (code w) j 0) → v ≡ w
-all-agree v w p q l h =
+shorter-agree : (v w : Value) → CellsFit v → CellsFit w → weight w ≤ weight v → ((j : ℕ) → j < weight w → getD (code v) j 0 ≡ getD (code w) j 0) → v ≡ w
+shorter-agree v w p q l h =
     let e : code v ≡ code w ++ drop (length (code w)) (code v) = prefix-is (code v) (code w) (rw (length-code v, length-code w) l)
     (λ j k. h j (omega (arith, length-code w))) in
     code-eq v w [] (drop (length (code w)) (code v)) p q (append-nil (code v) ∙ e) .0
+
+pub all-agree : (v w : Value) → CellsFit v → CellsFit w → ((j : ℕ) → j < weight v → j < weight w → getD (code v) j 0 ≡ getD (code w) j 0) → v ≡ w
+all-agree v w p q h = go (decLt (weight v) (weight w))
+  where
+    go : Dec (weight v < weight w) → v ≡ w
+    go (yes y) = sym (shorter-agree w v q p (omega arith) (λ j l. sym (h j l (omega arith))))
+    go (no n) = shorter-agree v w p q (omega arith) (λ j l. h j (omega arith) l)

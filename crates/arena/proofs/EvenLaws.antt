@@ -1,13 +1,6 @@
 -- Members of one weight. Values of one type, one of them flat, weigh the same; in a row of values that each weigh k, value i stands
 -- k · i cells behind the first (`value-at`); a value of one cell compares with another by its cell.
-use Prim.Native.Nat.{ℕ, zero, suc, _+_, _*_, _-_, _≤_, _<_, compare}
-use mathlib.Core.List.{List}
-use mathlib.Core.Path.{_≡_, refl, sym, ap, _∙_, subst}
-use native.Mathlib.Omega.{arith}
-use native.Mathlib.Nat.{add-zero}
-use native.Mathlib.Decide.{decLt}
-use lib.Dec.{T}
-use lib.ListN.{getD}
+use Rattle.arena.proofs.Base.{ℕ, zero, suc, _+_, _*_, _-_, _≤_, _<_, compare, List, _≡_, refl, sym, ap, _∙_, subst, arith, add-zero, ℕ-discrete, T, getD}
 use Rattle.rules.specs.Types.{Ty, atom, POW, _⊗_}
 use Rattle.rules.specs.Values.{Value, scalar, pair, set, Values, none, _▸_, count, weight, weights, order}
 use Rattle.rules.specs.Fits.{HasType, HaveType, typed}
@@ -15,7 +8,7 @@ use Rattle.laws.proofs.OrderLaws.{order-refl, compare-refl, lt-compare}
 use Rattle.laws.proofs.CellsLaws.{weight-some}
 use Rattle.laws.proofs.FitsLaws.{typed-right}
 use Rattle.arena.specs.Code.{code, ValueAt, CellsFit, orderCode, EndsAt, Compared, IsScalar, Flat, AllWeigh, EvenSet, Front}
-use Rattle.arena.proofs.CodeLaws.{length-code, gt-compare, first-less, first-greater, all-agree}
+use Rattle.arena.proofs.CodeLaws.{length-code, gt-compare, first-differs, all-agree}
 use Rattle.arena.proofs.FrontLaws.{front-next}
 
 -- Values of one type.
@@ -44,15 +37,12 @@ all-like v (w ▸ ws) t h k f = (like-flat v w t h (k .0) f, all-like v ws t h (
 
 pub typed-even : (vs : Values) → T (typed (set vs)) → EvenSet vs
 typed-even none h = tt
-typed-even (v ▸ vs) h = go (typed-right (set (v ▸ vs)) .0 h)
+typed-even (v ▸ vs) h = let x = typed-right (set (v ▸ vs)) .0 h in of (x .0) (x .1)
   where
     of : (t : Ty) → HasType (set (v ▸ vs)) t → EvenSet (v ▸ vs)
     of (atom a) h f = absurd h
     of (POW t) h f = all-like v vs t (h .0) (h .1) f
     of (t ⊗ u) h f = absurd h
-
-    go : (t : Ty) × HasType (set (v ▸ vs)) t → EvenSet (v ▸ vs)
-    go x = of (x .0) (x .1)
 
 pub weights-even : (k : ℕ) (vs : Values) → AllWeigh k vs → weights vs ≡ k * count vs
 weights-even k none h = omega arith
@@ -71,7 +61,7 @@ module _ (s : List ℕ) (top at n k : ℕ) (Q : Values → Type 0) (one : (v : V
     front = rw (let e : at + k * 0 ≡ at = omega arith in e, let e : n - 0 ≡ n = omega arith in e) f;
     row = h;
   }
-  behind vs f h (suc i) l = go (behind vs f h i (omega arith))
+  behind vs f h (suc i) l = let b = behind vs f h i (omega arith) in next (b .rest) (b .front) (b .row)
     where
       next : (ws : Values) → Front s top (at + k * i) (n - i) ws → Q ws → Behind s top at n k Q (suc i)
       next none g e = absurd (omega (arith, g .counted))
@@ -81,48 +71,35 @@ module _ (s : List ℕ) (top at n k : ℕ) (Q : Values → Type 0) (one : (v : V
         row = one w ws e .1;
       }
 
-      go : Behind s top at n k Q i → Behind s top at n k Q (suc i)
-      go b = next (b .rest) (b .front) (b .row)
-
   -- Value i of a row, and what stands behind it.
   pub value-at : (P : ℕ → Type 0) → ((j m : ℕ) (v : Value) (vs : Values) → Front s top j m (v ▸ vs) → Q (v ▸ vs) → P j) →
       (vs : Values) → Front s top at n vs → Q vs → (i : ℕ) → i < n → P (at + k * i)
-  value-at P p vs f h i l = go (behind vs f h i (omega arith))
+  value-at P p vs f h i l = let b = behind vs f h i (omega arith) in first (b .rest) (b .front) (b .row)
     where
       first : (ws : Values) → Front s top (at + k * i) (n - i) ws → Q ws → P (at + k * i)
       first none g e = absurd (omega (arith, g .counted))
       first (w ▸ ws) g e = p (at + k * i) (n - i) w ws g e
 
-      go : Behind s top at n k Q i → P (at + k * i)
-      go b = first (b .rest) (b .front) (b .row)
-
 -- The order of two values, the second of one cell.
 module _ (s : List ℕ) (a b : ℕ) where
   pub cell-order : (v w : Value) → ValueAt s a v → ValueAt s b w → CellsFit v → CellsFit w → weight w ≡ 1 →
       order v w ≡ compare (getD s a 0) (getD s b 0)
-  cell-order v w h k p q one = go (decLt (getD s a 0) (getD s b 0)) (decLt (getD s b 0) (getD s a 0))
+  cell-order v w h k p q one = go (ℕ-discrete (getD s a 0) (getD s b 0))
     where
-      left : getD s a 0 ≡ getD (code v) 0 0
-      left = ap (λ (i : ℕ). getD s i 0) (sym (add-zero a)) ∙ h .cells 0 (omega (arith, length-code v, weight-some v))
-
-      right : getD s b 0 ≡ getD (code w) 0 0
-      right = ap (λ (i : ℕ). getD s i 0) (sym (add-zero b)) ∙ k .cells 0 (omega (arith, length-code w))
+      cells : (s : List ℕ) (a : ℕ) (v : Value) → ValueAt s a v → getD s a 0 ≡ getD (code v) 0 0
+      cells s a v h = ap (λ (i : ℕ). getD s i 0) (sym (add-zero a)) ∙ h .cells 0 (omega (arith, length-code v, weight-some v))
 
       alike : getD s a 0 ≡ getD s b 0 → (j : ℕ) → j < weight w → getD (code v) j 0 ≡ getD (code w) j 0
-      alike e zero l = sym left ∙ e ∙ right
+      alike e zero l = sym (cells s a v h) ∙ e ∙ cells s b w k
       alike e (suc j) l = absurd (omega arith)
 
-      go : Dec (getD s a 0 < getD s b 0) → Dec (getD s b 0 < getD s a 0) → order v w ≡ compare (getD s a 0) (getD s b 0)
-      go (yes l) d =
-          first-less v w 0 p q (weight-some v) (weight-some w) (λ j m. absurd (omega arith)) (omega (arith, left, right))
-          ∙ sym (lt-compare (getD s a 0) (getD s b 0) l)
-      go (no n) (yes l) =
-          first-greater v w 0 p q (weight-some v) (weight-some w) (λ j m. absurd (omega arith)) (omega (arith, left, right))
-          ∙ sym (gt-compare (getD s a 0) (getD s b 0) l)
-      go (no n) (no m) =
-          let e : getD s a 0 ≡ getD s b 0 = omega arith in
-          let x : v ≡ w = all-agree v w p q (omega (arith, weight-some v)) (alike e) in
+      go : Dec (getD s a 0 ≡ getD s b 0) → order v w ≡ compare (getD s a 0) (getD s b 0)
+      go (yes e) =
+          let x : v ≡ w = all-agree v w p q (λ j l m. alike e j m) in
           rw (x, e) (order-refl w ∙ sym (compare-refl (getD s b 0)))
+      go (no n) =
+          rw (cells s a v h, cells s b w k)
+          (first-differs v w 0 p q (weight-some v) (weight-some w) (λ j m. absurd (omega arith)) (λ e. n (cells s a v h ∙ e ∙ sym (cells s b w k))))
 
   pub cell-compared : EndsAt s b (b + 1) → Compared s a b (orderCode (compare (getD s a 0) (getD s b 0)))
   cell-compared e v w h k p q = ap orderCode (sym (cell-order v w h k p q (omega (arith, e w k q))))

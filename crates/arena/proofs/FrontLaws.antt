@@ -1,9 +1,5 @@
 -- Runs of values in the arena: members one behind the other, and the walk over the members of a set.
-use Prim.Native.Nat.{ℕ, suc, _+_, _*_, _-_, _%_, _≤_, _<_, Ordering, Ordering·lt, Ordering·eq, Ordering·gt}
-use mathlib.Core.List.{List, [], _∷_, _++_, append-assoc, append-nil}
-use mathlib.Core.Path.{_≡_, refl, sym, ap, _∙_}
-use native.Mathlib.Omega.{arith}
-use lib.ListN.{length, getD}
+use Rattle.arena.proofs.Base.{ℕ, suc, _+_, _*_, _-_, _%_, _≤_, _<_, Ordering, Ordering·lt, Ordering·eq, Ordering·gt, List, [], _∷_, _++_, append-assoc, append-nil, _≡_, refl, sym, ap, _∙_, arith, length, getD}
 use Rattle.rules.specs.Values.{Value, set, Values, none, _▸_, members, values, count, weight, weights}
 use Rattle.laws.proofs.OrderLaws.{Small}
 use Rattle.laws.proofs.SetOrder.{All, Rising, rising-cons}
@@ -58,9 +54,6 @@ module _ (s : List ℕ) (top a : ℕ) (vs : Values) (h : SetBelow s top a vs) wh
 
   pub set-inside : a < length s
   set-inside = omega (arith, h .stands .inside, length-code (set vs))
-
-  pub set-some : SomeAt s a
-  set-some = record { value = set vs; stands = h .stands; fits = h .fine .fits }
 
   pub set-end : (e : ℕ) → EndsAt s a e → e ≡ a + 1 + weights vs
   set-end e x = omega (arith, x (set vs) (h .stands) (h .fine .fits))

@@ -1,4 +1,5 @@
 -- Laws of values in the arena.
+mod Base
 pub mod CodeLaws
 pub mod Standing
 pub mod ValueParts

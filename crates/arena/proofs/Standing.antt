@@ -1,20 +1,10 @@
 -- Values that stand in the arena: their cells one by one, where they end, how two compare, and what copying keeps.
-use Prim.Native.Nat.{ℕ, suc, _+_, _*_, _-_, _/_, _%_, _≤_, _<_}
-use mathlib.Core.List.{List, _∷_, _++_, append-assoc, append-nil}
-use mathlib.Core.Logic.{_⊎_, inl, inr}
-use mathlib.Core.Path.{_≡_, refl, sym, ap, _∙_, subst}
-use native.Mathlib.Omega.{arith}
-use native.Mathlib.Nat.{add-zero}
-use native.Mathlib.Decide.{ℕ-discrete, decLt}
-use lib.ListN.{length, getD, set as setAt, length-append, length-set, List·getD-append}
-use lib.Seq.{getD-append-add, getD-set-same, getD-set-other}
-use borrow.Author.Tests.{eq-eqb, ne-eqb}
-use Rattle.rules.specs.Types.{whole}
-use Rattle.rules.specs.Values.{Scalar, num, truth, element, Value, scalar, pair, set, Values, none, _▸_, scalarTag, bit, count, weight, weights}
-use Rattle.laws.proofs.OrderLaws.{order-refl}
-use Rattle.arena.specs.Code.{cellSize, excess, scalarLow, code, codes, Stands, ValueAt, ValuesAt, Same, ScalarFits, CellsFit, AllFit, SomeAt, EndsAt, Compared, Copied, partsOf}
-use Rattle.arena.proofs.CodeLaws.{length-code, length-codes, bit-small, first-less, first-greater, all-agree}
-use Rattle.laws.proofs.CellsLaws.{count-weights, weight-some}
+use Rattle.arena.proofs.Base.{ℕ, suc, _+_, _*_, _-_, _/_, _%_, _≤_, _<_, compare, List, _∷_, _++_, append-assoc, append-nil, _⊎_, inl, inr, _≡_, refl, sym, ap, _∙_, subst, arith, add-zero, ℕ-discrete, decLt, length, getD, setAt, length-append, length-set, List·getD-append, getD-append-add, getD-set-same, getD-set-other, eq-eqb, ne-eqb}
+use Rattle.rules.specs.Values.{Value, scalar, pair, set, Values, none, _▸_, scalarTag, count, weight, weights}
+use Rattle.laws.proofs.OrderLaws.{order-refl, lt-compare}
+use Rattle.arena.specs.Code.{cellSize, scalarLow, code, codes, Stands, ValueAt, ValuesAt, Same, CellsFit, AllFit, orderCode, SomeAt, EndsAt, Compared, Copied, partsOf}
+use Rattle.arena.proofs.CodeLaws.{length-code, length-codes, scalar-small, gt-compare, first-differs, all-agree}
+use Rattle.laws.proofs.CellsLaws.{count-weights}
 
 -- The first cell of a run, and the rest of it.
 pub stands-head : (s : List ℕ) (at x : ℕ) (xs : List ℕ) → Stands s at (x ∷ xs) → getD s at 0 ≡ x
@@ -75,13 +65,35 @@ pub fit-before : (vs ws : Values) → AllFit vs → AllFit ws → AllFit (vs bef
 fit-before none ws h k = k
 fit-before (v ▸ vs) ws h k = (h .0, fit-before vs ws (h .1) k)
 
--- `left` values stand from i to e.
-pub record Pending (s : List ℕ) (i left e : ℕ) : Type 0 where
-  pub values : Values
-  pub counted : count values ≡ left
-  pub stands : ValuesAt s i values
-  pub fit : AllFit values
-  pub ends : i + weights values ≡ e
+-- A value's own cell, and the values within it, which stand behind it.
+abbrev pub ownCell : Value → ℕ
+ownCell (scalar x) = scalarTag x * cellSize + scalarLow x
+ownCell (pair v w) = 4 * cellSize
+ownCell (set vs) = 5 * cellSize + count vs
+
+abbrev inner : Value → Values
+inner (scalar x) = none
+inner (pair v w) = v ▸ w ▸ none
+inner (set vs) = vs
+
+code-inner : (v : Value) → code v ≡ ownCell v ∷ codes (inner v)
+unfolding code
+code-inner (scalar x) = refl
+code-inner (pair v w) = ap (λ (l : List ℕ). (4 * cellSize) ∷ (code v ++ l)) (sym (append-nil (code w)))
+code-inner (set vs) = refl
+
+weight-inner : (v : Value) → weight v ≡ 1 + weights (inner v)
+weight-inner (scalar x) = omega arith
+weight-inner (pair v w) = omega arith
+weight-inner (set vs) = omega arith
+
+fit-inner : (v : Value) → CellsFit v → AllFit (inner v)
+fit-inner (scalar x) f = tt
+fit-inner (pair v w) f = (f .0, (f .1, tt))
+fit-inner (set vs) f = f .1
+
+pub stands-own : (s : List ℕ) (at : ℕ) (v : Value) → ValueAt s at v → getD s at 0 ≡ ownCell v
+stands-own s at v h = stands-head s at (ownCell v) (codes (inner v)) (rw (code-inner v) at h)
 
 -- How many values follow a cell, by its tag.
 pub parts-pair : (c t : ℕ) → t ≡ c / 4294967296 → t ≡ 4 → 2 ≡ partsOf c
@@ -93,113 +105,76 @@ parts-set c t l e n h k = rw (ne-eqb (c / 4294967296) 4 (λ f. n (e ∙ f)), eq-
 pub parts-scalar : (c t : ℕ) → t ≡ c / 4294967296 → (t ≡ 4 → ⊥) → (t ≡ 5 → ⊥) → 0 ≡ partsOf c
 parts-scalar c t e n m = rw (ne-eqb (c / 4294967296) 4 (λ f. n (e ∙ f)), ne-eqb (c / 4294967296) 5 (λ f. m (e ∙ f)))
 
-parts-of-set : (n : ℕ) → n < cellSize → partsOf (5 * cellSize + n) ≡ n
-parts-of-set n h = sym (parts-set (5 * cellSize + n) 5 n (omega arith) (λ e. omega arith) refl (omega arith))
+parts-inner : (v : Value) → CellsFit v → count (inner v) ≡ partsOf (ownCell v)
+parts-inner (scalar x) f =
+    let b = scalar-small x f in parts-scalar (ownCell (scalar x)) (scalarTag x) (omega arith) (λ e. omega arith) (λ e. omega arith)
+parts-inner (pair v w) f = refl
+parts-inner (set vs) f = parts-set (ownCell (set vs)) 5 (count vs) (omega (arith, f .0)) (λ e. omega arith) refl (omega (arith, f .0))
 
-parts-cell : (t l : ℕ) → l < cellSize → (t < 4) → partsOf (t * cellSize + l) ≡ 0
-parts-cell t l h p = sym (parts-scalar (t * cellSize + l) t (omega arith) (λ e. omega arith) (λ e. omega arith))
-
-parts-of-scalar : (s : Scalar) → ScalarFits s → partsOf (scalarTag s * cellSize + scalarLow s) ≡ 0
-parts-of-scalar (num whole i) h = parts-cell 1 (excess i) (h .0) (omega arith)
-parts-of-scalar (truth b) h = parts-cell 2 (bit b) (bit-small b) (omega arith)
-parts-of-scalar (element g k) h = parts-cell 3 (256 * g + k) (h .1) (omega arith)
+parts-stand : (s : List ℕ) (at : ℕ) (v : Value) → ValueAt s at v → CellsFit v → count (inner v) ≡ partsOf (getD s at 0)
+parts-stand s at v h f = parts-inner v f ∙ ap partsOf (sym (stands-own s at v h))
 
 -- A cell that no parts follow is a whole value.
+none-weigh : (vs : Values) → count vs ≡ 0 → weights vs ≡ 0
+none-weigh none e = refl
+none-weigh (v ▸ vs) e = absurd (omega arith)
+
 pub leaf-ends : (s : List ℕ) (at : ℕ) → partsOf (getD s at 0) ≡ 0 → EndsAt s at (at + 1)
-unfolding code
-leaf-ends s at e (scalar x) h f = refl
-leaf-ends s at e (pair v w) h f =
-    let c : getD s at 0 ≡ 4 * cellSize = stands-head s at _ _ h in
-    absurd (let z : _≡_ {A = ℕ} 2 0 = sym (ap partsOf c) ∙ e in omega arith)
-leaf-ends s at e (set none) h f = refl
-leaf-ends s at e (set (v ▸ vs)) h f =
-    let c : getD s at 0 ≡ 5 * cellSize + count (v ▸ vs) = stands-head s at _ _ h in
-    absurd (omega (arith, sym (parts-of-set (count (v ▸ vs)) (f .0)) ∙ sym (ap partsOf c) ∙ e))
+leaf-ends s at e v h f = omega (arith, weight-inner v, none-weigh (inner v) (parts-stand s at v h f ∙ e))
 
 pub leaf-parts : (s : List ℕ) (at : ℕ) (v : Value) → ValueAt s at v → CellsFit v → weight v ≡ 1 → partsOf (getD s at 0) ≡ 0
-unfolding code
-leaf-parts s at (scalar x) h f e =
-    let c : getD s at 0 ≡ scalarTag x * cellSize + scalarLow x = stands-head s at _ _ h in ap partsOf c ∙ parts-of-scalar x f
-leaf-parts s at (pair v w) h f e = absurd (omega (arith, weight-some v))
-leaf-parts s at (set none) h f e =
-    let c : getD s at 0 ≡ 5 * cellSize + 0 = stands-head s at _ _ h in ap partsOf c ∙ parts-of-set 0 (f .0)
-leaf-parts s at (set (v ▸ vs)) h f e = absurd (omega (arith, weight-some v))
+leaf-parts s at v h f e = omega (arith, weight-inner v, count-weights (inner v), parts-stand s at v h f)
+
+-- `left` values stand from i to e.
+pub record Pending (s : List ℕ) (i left e : ℕ) : Type 0 where
+  pub values : Values
+  pub counted : count values ≡ left
+  pub stands : ValuesAt s i values
+  pub fit : AllFit values
+  pub ends : i + weights values ≡ e
 
 pub pending-start : (s : List ℕ) (at : ℕ) (v : Value) → ValueAt s at v → CellsFit v → Pending s at 1 (at + weight v)
 unfolding code
 pending-start s at v h f = record {
   values = v ▸ none;
   counted = refl;
-  stands = subst (λ (l : List ℕ). Stands s at l) (sym (append-nil (code v))) h;
+  stands = rw (append-nil (code v)) h;
   fit = (f, tt);
   ends = omega arith;
 }
 
--- one cell further
-module _ (s : List ℕ) (i e : ℕ) where
-  step-on : (v : Value) (vs : Values) (left : ℕ) → suc (count vs) ≡ left → ValuesAt s i (v ▸ vs) → CellsFit v → AllFit vs → i + (weight v + weights vs) ≡ e →
-      Pending s (i + 1) (left - 1 + partsOf (getD s i 0)) e
+module _ (s : List ℕ) (i left e : ℕ) (p : Pending s i left e) where
+  -- One cell further.
+  pub pending-step : 0 < left → Pending s (i + 1) (left - 1 + partsOf (getD s i 0)) e
   unfolding code
-  step-on (scalar x) vs left c h f fs en =
-      let hd = stands-head s i (scalarTag x * cellSize + scalarLow x) (codes vs) h in
-      record {
-        values = vs;
-        counted = rw (hd, parts-of-scalar x f) (omega arith);
-        stands = stands-tail s i (scalarTag x * cellSize + scalarLow x) (codes vs) h;
-        fit = fs;
-        ends = omega arith;
-      }
-  step-on (pair a b) vs left c h f fs en =
-      let hd = stands-head s i (4 * cellSize) ((code a ++ code b) ++ codes vs) h in
-      let p : partsOf (4 * cellSize) ≡ 2 = refl in
-      record {
-        values = a ▸ b ▸ vs;
-        counted = rw (hd, p) (omega arith);
-        stands = subst (λ (l : List ℕ). Stands s (i + 1) l) (append-assoc (code a) (code b) (codes vs))
-            (stands-tail s i (4 * cellSize) ((code a ++ code b) ++ codes vs) h);
-        fit = (f .0, (f .1, fs));
-        ends = omega arith;
-      }
-  step-on (set ms) vs left c h f fs en =
-      let hd = stands-head s i (5 * cellSize + count ms) (codes ms ++ codes vs) h in
-      let p : partsOf (5 * cellSize + count ms) ≡ count ms = parts-of-set (count ms) (f .0) in
-      record {
-        values = ms before vs;
-        counted = rw (hd, p) (omega (arith, count-before ms vs));
-        stands = subst (λ (l : List ℕ). Stands s (i + 1) l) (sym (codes-before ms vs)) (stands-tail s i (5 * cellSize + count ms) (codes ms ++ codes vs) h);
-        fit = fit-before ms vs (f .1) fs;
-        ends = omega (arith, weights-before ms vs);
-      }
-
-  pub pending-step : (left : ℕ) → Pending s i left e → 0 < left → Pending s (i + 1) (left - 1 + partsOf (getD s i 0)) e
-  pending-step left p l = go (p .values) (p .counted) (p .stands) (p .fit) (p .ends)
+  pending-step l = go (p .values) (p .counted) (p .stands) (p .fit) (p .ends)
     where
       go : (vs : Values) → count vs ≡ left → ValuesAt s i vs → AllFit vs → i + weights vs ≡ e → Pending s (i + 1) (left - 1 + partsOf (getD s i 0)) e
       go none c h f en = absurd (omega arith)
-      go (v ▸ vs) c h f en = step-on v vs left (omega arith) h (f .0) (f .1) en
+      go (v ▸ vs) c h f en = record {
+        values = inner v before vs;
+        counted = omega (arith, count-before (inner v) vs, parts-stand s i v (stands-front s i (code v) (codes vs) h) (f .0));
+        stands = rw (codes-before (inner v) vs) (stands-tail s i (ownCell v) (codes (inner v) ++ codes vs) (rw (code-inner v) at h));
+        fit = fit-before (inner v) vs (fit-inner v (f .0)) (f .1);
+        ends = omega (arith, weights-before (inner v) vs, weight-inner v);
+      }
 
-pub pending-inside : (s : List ℕ) (i left e : ℕ) → Pending s i left e → 0 < left → (i < length s) × (i < e)
-pending-inside s i left e p l = go (p .values) (p .counted) (p .stands) (p .ends)
-  where
-    go : (vs : Values) → count vs ≡ left → ValuesAt s i vs → i + weights vs ≡ e → (i < length s) × (i < e)
-    go none c h en = absurd (omega arith)
-    go (v ▸ vs) c h en = (omega (arith, h .inside, length-codes (v ▸ vs), weight-some v), omega (arith, weight-some v))
+  pub pending-inside : 0 < left → i < length s
+  pending-inside l = omega (arith, count-weights (p .values), p .counted, p .stands .inside, length-codes (p .values))
 
-pub pending-end : (s : List ℕ) (i left e : ℕ) → Pending s i left e → left ≡ 0 → i ≡ e
-pending-end s i left e p z = go (p .values) (p .counted) (p .ends)
-  where
-    go : (vs : Values) → count vs ≡ left → i + weights vs ≡ e → i ≡ e
-    go none c en = omega arith
-    go (v ▸ vs) c en = absurd (omega arith)
+  pub pending-end : left ≡ 0 → i ≡ e
+  pending-end z = omega (arith, none-weigh (p .values) (p .counted ∙ z), p .ends)
+
+  pub pending-few : left ≤ length s
+  pending-few = omega (arith, count-weights (p .values), p .counted, p .stands .inside, length-codes (p .values))
 
 -- Comparing two runs: the cells agree so far.
 abbrev pub Agree : List ℕ → ℕ → ℕ → ℕ → Type 0
 Agree s a b i = (j : ℕ) → j < i → getD s (a + j) 0 ≡ getD s (b + j) 0
 
-cells-agree : (s : List ℕ) (a b i : ℕ) (v w : Value) → ValueAt s a v → ValueAt s b w → i ≤ weight v → i ≤ weight w → Agree s a b i →
-    (j : ℕ) → j < i → getD (code v) j 0 ≡ getD (code w) j 0
-cells-agree s a b i v w h k p q g j l =
-    sym (h .cells j (omega (arith, length-code v))) ∙ g j l ∙ k .cells j (omega (arith, length-code w))
+cells-agree : (s : List ℕ) (a b : ℕ) (v w : Value) → ValueAt s a v → ValueAt s b w → (j : ℕ) → j < weight v → j < weight w →
+    getD s (a + j) 0 ≡ getD s (b + j) 0 → getD (code v) j 0 ≡ getD (code w) j 0
+cells-agree s a b v w h k j l m e = sym (h .cells j (omega (arith, length-code v))) ∙ e ∙ k .cells j (omega (arith, length-code w))
 
 -- while the cells agree, the second value has not ended before the first
 pub in-second : (s : List ℕ) (a b i : ℕ) (v w : Value) → ValueAt s a v → ValueAt s b w → CellsFit v → CellsFit w → i < weight v → Agree s a b i → i < weight w
@@ -208,9 +183,7 @@ in-second s a b i v w h k p q l g = go (decLt i (weight w))
     go : Dec (i < weight w) → i < weight w
     go (yes y) = y
     go (no n) =
-        let e : v ≡ w = all-agree v w p q (omega arith)
-        (λ j m. cells-agree s a b (weight w) v w h k (omega arith) (omega arith) (λ x y. g x (omega arith)) j m) in
-        let f : weight v ≡ weight w = ap weight e in
+        let f = ap weight (all-agree v w p q (λ j m o. cells-agree s a b v w h k j m o (g j (omega arith)))) in
         omega arith
 
 pub second-inside : (s : List ℕ) (a b end i : ℕ) → SomeAt s a → SomeAt s b → EndsAt s a end → i < end - a → Agree s a b i → b + i < length s
@@ -227,41 +200,34 @@ first-inside s a end i p e l =
 pub end-above : (s : List ℕ) (a end : ℕ) → SomeAt s a → EndsAt s a end → a ≤ end
 end-above s a end p e = omega (arith, e (p .value) (p .stands) (p .fits))
 
-pub agree-more : (s : List ℕ) (a b i : ℕ) → Agree s a b i → getD s (a + i) 0 ≡ getD s (b + i) 0 → Agree s a b (i + 1)
-agree-more s a b i g e j l = go (ℕ-discrete j i)
+pub agree-next : (s : List ℕ) (a b i : ℕ) → Agree s a b i → getD s (b + i) 0 ≤ getD s (a + i) 0 → getD s (a + i) 0 ≤ getD s (b + i) 0 → Agree s a b (i + 1)
+agree-next s a b i g p q j l = go (ℕ-discrete j i)
   where
     go : Dec (j ≡ i) → getD s (a + j) 0 ≡ getD s (b + j) 0
-    go (yes f) = rw f e
+    go (yes f) = rw f (omega arith)
     go (no n) = g j (omega arith)
 
 module _ (s : List ℕ) (a b end i : ℕ) (ends : EndsAt s a end) (g : Agree s a b i) where
-  pub found-less : i < end - a → getD s (a + i) 0 < getD s (b + i) 0 → Compared s a b 0
-  found-less l d v w h k p q =
+  found : i < end - a → (getD s (a + i) 0 ≡ getD s (b + i) 0 → ⊥) → Compared s a b (orderCode (compare (getD s (a + i) 0) (getD s (b + i) 0)))
+  found l d v w h k p q =
       let x = ends v h p in
       let m = in-second s a b i v w h k p q (omega arith) g in
-      let c : getD (code v) i 0 < getD (code w) i 0 = omega (arith, h .cells i (omega (arith, length-code v)), k .cells i (omega (arith, length-code w))) in
-      rw (first-less v w i p q (omega arith) m (cells-agree s a b i v w h k (omega arith) (omega arith) g) c)
+      let c = h .cells i (omega (arith, length-code v)) in
+      let e = k .cells i (omega (arith, length-code w)) in
+      rw (c, e) (ap orderCode (sym (first-differs v w i p q (omega arith) m
+      (λ j n. cells-agree s a b v w h k j (omega arith) (omega arith) (g j n)) (λ f. d (c ∙ f ∙ sym e)))))
+
+  pub found-less : i < end - a → getD s (a + i) 0 < getD s (b + i) 0 → Compared s a b 0
+  found-less l d = subst (Compared s a b) (ap orderCode (lt-compare _ _ d)) (found l (λ e. omega arith))
 
   pub found-greater : i < end - a → getD s (b + i) 0 < getD s (a + i) 0 → Compared s a b 2
-  found-greater l d v w h k p q =
-      let x = ends v h p in
-      let m = in-second s a b i v w h k p q (omega arith) g in
-      let c : getD (code w) i 0 < getD (code v) i 0 = omega (arith, h .cells i (omega (arith, length-code v)), k .cells i (omega (arith, length-code w))) in
-      rw (first-greater v w i p q (omega arith) m (cells-agree s a b i v w h k (omega arith) (omega arith) g) c)
+  found-greater l d = subst (Compared s a b) (ap orderCode (gt-compare _ _ d)) (found l (λ e. omega arith))
 
   pub found-equal : end - a ≤ i → Compared s a b 1
   found-equal l v w h k p q =
       let x = ends v h p in
-      let e : v ≡ w = same-run v w h k p q (omega arith) in
+      let e = all-agree v w p q (λ j m o. cells-agree s a b v w h k j m o (g j (omega arith))) in
       rw (← e, order-refl v)
-    where
-      same-run : (v w : Value) → ValueAt s a v → ValueAt s b w → CellsFit v → CellsFit w → weight v ≤ i → v ≡ w
-      same-run v w h k p q l = go (decLt (weight w) (weight v))
-        where
-          go : Dec (weight w < weight v) → v ≡ w
-          go (yes y) = all-agree v w p q (omega arith) (λ j m. cells-agree s a b (weight w) v w h k (omega arith) (omega arith) (λ x z. g x (omega arith)) j m)
-          go (no n) = sym (all-agree w v q p (omega arith)
-              (λ j m. sym (cells-agree s a b (weight v) v w h k (omega arith) (omega arith) (λ x z. g x (omega arith)) j m)))
 
 -- Copying, cell by cell.
 pub copied-start : (s : List ℕ) (from to : ℕ) → Copied s from 0 to s
@@ -288,14 +254,8 @@ copied-step s₀ s from n to i c d l b = record {
     at j p (yes e) = rw e (getD-set-same s (to + i) (getD s (from + i) 0) 0 (omega (arith, c .kept)) ∙ copied-source s₀ s from n to i c d l)
     at j p (no e) = getD-set-other s (to + i) (to + j) (getD s (from + i) 0) 0 (λ f. e (omega arith)) ∙ c .there j (omega arith)
 
-pub pending-few : (s : List ℕ) (i left e : ℕ) → Pending s i left e → left ≤ length s
-pending-few s i left e p = omega (arith, count-weights (p .values), p .counted, p .stands .inside, length-codes (p .values))
-
 pub copied-end : (s₀ s : List ℕ) (from n to i : ℕ) → Copied s₀ from i to s → i ≡ n → Copied s₀ from n to s
 copied-end s₀ s from n to i c e = rw (sym e) c
-
-pub agree-next : (s : List ℕ) (a b i : ℕ) → Agree s a b i → getD s (b + i) 0 ≤ getD s (a + i) 0 → getD s (a + i) 0 ≤ getD s (b + i) 0 → Agree s a b (i + 1)
-agree-next s a b i g p q = agree-more s a b i g (omega arith)
 
 -- What stands below a frame stays, and frames compose.
 pub stands-frame : (k : ℕ) (s s′ : List ℕ) (at : ℕ) (xs : List ℕ) → Same k s s′ → at + length xs ≤ k → Stands s at xs → Stands s′ at xs

@@ -1,25 +1,15 @@
 -- A value that stands in the arena: that its place tells it, the tag and the payload of its first cell, and where the parts of a
 -- pair stand.
-use Prim.Native.Nat.{ℕ, _+_, _*_, _/_, _%_, _<_}
-use mathlib.Core.List.{List, _++_}
-use mathlib.Core.Path.{_≡_, refl, sym, _∙_}
-use native.Mathlib.Omega.{arith}
-use native.Mathlib.Decide.{decLt}
-use lib.ListN.{length, getD}
-use Rattle.rules.specs.Types.{whole}
-use Rattle.rules.specs.Values.{Scalar, num, truth, element, Value, scalar, pair, set, scalarTag, tag, count, weight}
+use Rattle.arena.proofs.Base.{ℕ, _+_, _*_, _/_, _%_, _<_, List, _++_, _≡_, refl, sym, _∙_, arith, length, getD}
+use Rattle.rules.specs.Values.{Value, scalar, pair, set, scalarTag, tag, count, weight}
 use Rattle.laws.proofs.CellsLaws.{weight-some}
-use Rattle.arena.specs.Code.{cellSize, scalarLow, code, ValueAt, ScalarFits, CellsFit, SomeAt, EndsAt, IsScalar, Flat}
-use Rattle.arena.proofs.CodeLaws.{length-code, bit-small, all-agree}
-use Rattle.arena.proofs.Standing.{stands-head, stands-tail, stands-front, stands-back}
+use Rattle.arena.specs.Code.{cellSize, scalarLow, code, ValueAt, CellsFit, SomeAt, EndsAt, IsScalar, Flat}
+use Rattle.arena.proofs.CodeLaws.{length-code, cell-parts, scalar-small, all-agree}
+use Rattle.arena.proofs.Standing.{ownCell, stands-own, stands-tail, stands-front, stands-back}
 
 -- Two values that stand at one place are the same.
 pub value-eq : (s : List ℕ) (at : ℕ) (v w : Value) → ValueAt s at v → ValueAt s at w → CellsFit v → CellsFit w → v ≡ w
-value-eq s at v w h k p q = go (decLt (weight v) (weight w))
-  where
-    go : Dec (weight v < weight w) → v ≡ w
-    go (yes y) = sym (all-agree w v q p (omega arith) (λ j m. sym (k .cells j (omega (arith, length-code w))) ∙ h .cells j (omega (arith, length-code v))))
-    go (no n) = all-agree v w p q (omega arith) (λ j m. sym (h .cells j (omega (arith, length-code v))) ∙ k .cells j (omega (arith, length-code w)))
+value-eq s at v w h k p q = all-agree v w p q (λ j l m. sym (h .cells j (omega (arith, length-code v))) ∙ k .cells j (omega (arith, length-code w)))
 
 pub ends-at : (s : List ℕ) (at : ℕ) (v : Value) → ValueAt s at v → CellsFit v → EndsAt s at (at + weight v)
 ends-at s at v h f w k q = let e : v ≡ w = value-eq s at v w h k f q in rw e
@@ -27,30 +17,19 @@ ends-at s at v h f w k q = let e : v ≡ w = value-eq s at v w h k f q in rw e
 pub some-inside : (s : List ℕ) (at : ℕ) → SomeAt s at → at < length s
 some-inside s at h = omega (arith, h .stands .inside, length-code (h .value), weight-some (h .value))
 
--- The first cell of a value.
-scalar-tag : (x : Scalar) → ScalarFits x →
-    ((scalarTag x * cellSize + scalarLow x) / cellSize ≡ scalarTag x) × ((scalarTag x * cellSize + scalarLow x) % cellSize ≡ scalarLow x)
-scalar-tag (num whole i) h = (omega (arith, h .0), omega (arith, h .0))
-scalar-tag (truth b) h = (omega (arith, bit-small b), omega (arith, bit-small b))
-scalar-tag (element g k) h = (omega (arith, h .1), omega (arith, h .1))
-
--- the tag and the payload of the first cell
+-- The tag and the payload of a value's own cell.
 abbrev low : Value → ℕ
 low (scalar x) = scalarLow x
 low (pair v w) = 0
 low (set vs) = count vs
 
+own-parts : (v : Value) → CellsFit v → (ownCell v / cellSize ≡ tag v) × (ownCell v % cellSize ≡ low v)
+own-parts (scalar x) f = cell-parts (scalarTag x) (scalarLow x) (scalar-small x f .1)
+own-parts (pair v w) f = (omega arith, omega arith)
+own-parts (set vs) f = cell-parts 5 (count vs) (f .0)
+
 pub first-cell : (s : List ℕ) (at : ℕ) (v : Value) → ValueAt s at v → CellsFit v → (getD s at 0 / cellSize ≡ tag v) × (getD s at 0 % cellSize ≡ low v)
-unfolding code
-first-cell s at (scalar x) h f =
-    let e : getD s at 0 ≡ scalarTag x * cellSize + scalarLow x = stands-head s at _ _ h in
-    rw e (scalar-tag x f)
-first-cell s at (pair v w) h f =
-    let e : getD s at 0 ≡ 4 * cellSize = stands-head s at _ _ h in
-    (omega arith, omega arith)
-first-cell s at (set vs) h f =
-    let e : getD s at 0 ≡ 5 * cellSize + count vs = stands-head s at _ _ h in
-    (omega (arith, f .0), omega (arith, f .0))
+first-cell s at v h f = rw (stands-own s at v h) (own-parts v f)
 
 -- A cell below that of a pair is a scalar's, a whole value.
 pub scalar-cell : (s : List ℕ) (at : ℕ) (v : Value) → ValueAt s at v → CellsFit v → getD s at 0 < 4 * cellSize → IsScalar v

@@ -1,37 +1,15 @@
 -- The operations of two operands. For operands that pass the operation's test it is enough to look at sets, at a set of pairs or at numbers; the
 -- answer then tells what the node gives by what has been made, by where the image stands, or by a cell.
-use Prim.Native.Nat.{ℕ, zero, suc, _+_, _-_, _%_, _≤_, _<_}
-use mathlib.Core.Bool.{Bool, true, false, cond}
-use mathlib.Core.List.{List, [], _∷_}
-use mathlib.Core.Logic.{_≢_, _⊎_, inl, inr}
-use mathlib.Core.Path.{_≡_, refl, sym, ap, _∙_, subst}
-use native.Mathlib.Omega.{arith}
-use borrow.Author.Tests.{le-leb, lt-leb}
-use lib.Dec.{ltb, ltb→lt, nltb→le}
-use lib.IntN.{ℤ, pos, negsuc, subℕ, _+ℤ_, _-ℤ_}
+use Rattle.operations.proofs.Base.{ℕ, zero, suc, _+_, _-_, _%_, _≤_, _<_, Bool, true, false, cond, not, List, [], _∷_, _≢_, _⊎_, inl, inr, _≡_, refl, sym, ap, _∙_, subst, arith, le-leb, lt-leb, not-true, not-false, ltb, ltb→lt, nltb→le, ℤ, pos, negsuc, subℕ, _+ℤ_, _-ℤ_, length, getD}
 use lib.Signed.{mag}
-use lib.ListN.{length, getD}
-use Rattle.rules.specs.Types.{whole}
-use Rattle.rules.specs.Values.{Value, set, Values, int, weight}
-use Rattle.rules.specs.Rules.{Pattern, t̂, û, P̂, _×̂_, numᵖ, twoRule}
-use Rattle.rules.specs.Kinds.{Two, pairing, union, inter, diff, product, apply, plus, minus, interval, two}
-use Rattle.rules.specs.Runs.{Given, gives, lacks}
-use Rattle.rules.specs.Operations.{twoValue}
-use Rattle.arena.specs.Code.{cellSize, excess, code, CellsFit, SomeSet, SomeValue, Same}
+use Rattle.operations.proofs.Terms.{whole, Value, set, Values, int, weight, Pattern, t̂, û, P̂, _×̂_, numᵖ, twoRule, Two, pairing, union, inter, diff, product, apply, plus, minus, interval, two, Given, gives, lacks, twoValue, cellSize, excess, code, CellsFit, SomeSet, SomeValue, Same, SomeRelation, Applies, ImageAt, FitTwo, Outcome, Within, Cell, Lacks, Sizes, GoodAt, weighed, twoGiven, ended, Gives, Operands, TwoReady, TwoDone, TwoOf, MergeDone, sumKind, Shifted, NumberDone}
 use Rattle.arena.proofs.Standing.{same-refl}
 use Rattle.sets.specs.Fronts.{Merges}
-use Rattle.sets.specs.Pairs.{SomeRelation, Applies, ImageAt}
 use Rattle.products.specs.Growing.{Pairs, Intervals, Multiplies}
-use Rattle.fitting.specs.Tests.{FitTwo}
-use Rattle.operations.specs.declared.Outcome.{Outcome}
-use Rattle.operations.specs.declared.Outcome.the-variants.{Within, Cell, Lacks}
-use Rattle.operations.specs.Good.{Sizes, GoodAt}
-use Rattle.operations.specs.Outcomes.{weighed, twoGiven, ended, Gives, Operands, TwoReady, TwoDone, TwoOf}
-use Rattle.operations.specs.Double.{MergeDone, Shifted, NumberDone}
 use Rattle.operations.proofs.GoodLaws.{good-value, good-above, good-whole, good-inside}
 use Rattle.operations.proofs.OutcomeLaws.{Makes, makes-frame, makes-gives}
 use Rattle.operations.proofs.FitLaws.{two-any, two-fits, two-sets, two-numbers, two-function, number-low}
-use Rattle.operations.proofs.KindLaws.{twoCode, code-of, same-two}
+use Rattle.operations.proofs.KindLaws.{codeOf, code-of, same-kind}
 
 -- What the functions below ask of the operands.
 module _ {s : List ℕ} {a b top : ℕ} (p : Operands s a b top) where
@@ -41,7 +19,7 @@ module _ {s : List ℕ} {a b top : ℕ} (p : Operands s a b top) where
   pub ready-second : b < length s
   ready-second = good-inside (p .small) (p .right)
 
-  pub ready-function : {r : Bool} → FitTwo (P̂ (t̂ ×̂ û) ∷ t̂ ∷ []) s a b r → r ≡ true → SomeValue s (length s) b × SomeRelation s (length s) a
+  pub ready-function : {r : Bool} → FitTwo (P̂ (t̂ ×̂ û) ∷ t̂ ∷ []) s a b r → not r ≡ false → SomeValue s (length s) b × SomeRelation s (length s) a
   ready-function f e = (
     (p .second, good-value (p .small) (good-whole (p .small) (p .right))),
     two-function (p .small) (good-whole (p .small) (p .left)) (p .right) (λ _ _. SomeRelation s (length s) a) f e (λ vs i q. (vs, i, q)),
@@ -52,7 +30,7 @@ module _ {s : List ℕ} {a b top : ℕ} (p : TwoReady s a b top) where
   pub ready-values : SomeValue s top a × SomeValue s top b × (top + 514 ≤ length s)
   ready-values = let o = p .operands in ((o .first, good-value (o .small) (o .left)), (o .second, good-value (o .small) (o .right)), p .room)
 
-  pub ready-sets : (u : Pattern) {r : Bool} → FitTwo (P̂ t̂ ∷ P̂ u ∷ []) s a b r → r ≡ true → SomeSet s top a × SomeSet s top b × (top + 514 ≤ length s)
+  pub ready-sets : (u : Pattern) {r : Bool} → FitTwo (P̂ t̂ ∷ P̂ u ∷ []) s a b r → not r ≡ false → SomeSet s top a × SomeSet s top b × (top + 514 ≤ length s)
   ready-sets u f e =
       let o = p .operands in
       two-sets (o .small) (o .left) (o .right) (λ _ _. SomeSet s top a × SomeSet s top b × (top + 514 ≤ length s)) u f e
@@ -60,16 +38,19 @@ module _ {s : List ℕ} {a b top : ℕ} (p : TwoReady s a b top) where
 
 -- The answer for operands that do not fit, and for those that do.
 module _ (j : Two) {s : List ℕ} {a b top : ℕ} {r : Bool} (f : FitTwo (twoRule j .takes) s a b r) where
-  pub two-unlike : r ≡ false → TwoDone j s a b top s (Lacks 15)
+  pub two-unlike : not r ≡ true → TwoDone j s a b top s (Lacks 15)
   unfolding twoGiven
-  two-unlike e = record { frame = same-refl top s; answer = λ gs mid v w small l h k. rw (two-fits small h k (twoRule j .takes) f ∙ e) }
+  two-unlike e = record { frame = same-refl top s; answer = λ gs mid v w small l h k. rw (two-fits small h k (twoRule j .takes) f ∙ not-true r e) }
 
-  module _ (e : r ≡ true) {s′ : List ℕ} {o : Outcome} where
+  module _ (e : not r ≡ false) {s′ : List ℕ} {o : Outcome} where
     two-told : Same top s s′ →
         ((gs : List ℕ) (mid : ℕ) (v w : Value) → Sizes gs → mid ≤ top → GoodAt gs s mid a v → GoodAt gs s top b w →
         Gives s′ mid top (weighed (twoValue j v w)) o) → TwoDone j s a b top s′ o
     unfolding twoGiven
-    two-told same m = record { frame = same; answer = λ gs mid v w small l h k. rw (two-fits small h k (twoRule j .takes) f ∙ e) (m gs mid v w small l h k) }
+    two-told same m = record {
+      frame = same;
+      answer = λ gs mid v w small l h k. rw (two-fits small h k (twoRule j .takes) f ∙ not-false r e) (m gs mid v w small l h k);
+    }
 
     two-made : (end : ℕ) → Operands s a b top →
         ((gs : List ℕ) (v w : Value) → Sizes gs → GoodAt gs s top a v → GoodAt gs s top b w → Makes top s s′ end (twoValue j v w)) →
@@ -84,20 +65,20 @@ module _ {s s′ : List ℕ} {a b top end : ℕ} {o : Outcome} (p : Operands s a
   unfolding twoValue
   pair-done m z = two-made pairing two-any refl end p (λ gs v w small h k. m v w (good-value small h) (good-value small k)) z
 
-  pub product-done : {r : Bool} → FitTwo (P̂ t̂ ∷ P̂ û ∷ []) s a b r → r ≡ true → Multiplies s a b top s′ end → o ≡ ended end →
+  pub product-done : {r : Bool} → FitTwo (P̂ t̂ ∷ P̂ û ∷ []) s a b r → not r ≡ false → Multiplies s a b top s′ end → o ≡ ended end →
       TwoDone product s a b top s′ o
   unfolding twoValue
   product-done f e m z =
       two-made product f e end p (λ gs v w small h k. two-sets small h k (λ x y. Makes top s s′ end (twoValue product x y)) û f e m) z
 
-  pub merge-done : {l c r t : Bool} → FitTwo (P̂ t̂ ∷ P̂ t̂ ∷ []) s a b t → t ≡ true → Merges l c r s a b top s′ end → o ≡ ended end →
+  pub merge-done : {l c r t : Bool} → FitTwo (P̂ t̂ ∷ P̂ t̂ ∷ []) s a b t → not t ≡ false → Merges l c r s a b top s′ end → o ≡ ended end →
       MergeDone l c r s a b top s′ o
   merge-done {t = t} f e m z j i =
       two-made j (subst (λ (ps : List Pattern). FitTwo ps s a b t) (sym (i .takes)) f) e end p
       (λ gs v w small h k. two-sets small h k (λ x y. Makes top s s′ end (twoValue j x y)) t̂ f e
       (λ vs ws x y. subst (λ (g : Given). Makes top s s′ end g) (sym (i .merges vs ws (x .fine) (y .fine))) (m vs ws x y))) z
 
-pub merge-unlike : {s : List ℕ} {a b top : ℕ} {l c r t : Bool} → FitTwo (P̂ t̂ ∷ P̂ t̂ ∷ []) s a b t → t ≡ false → MergeDone l c r s a b top s (Lacks 15)
+pub merge-unlike : {s : List ℕ} {a b top : ℕ} {l c r t : Bool} → FitTwo (P̂ t̂ ∷ P̂ t̂ ∷ []) s a b t → not t ≡ true → MergeDone l c r s a b top s (Lacks 15)
 merge-unlike {s} {a} {b = b} {t = t} f e j i = two-unlike j (subst (λ (ps : List Pattern). FitTwo ps s a b t) (sym (i .takes)) f) e
 
 -- Application: the second part within the function, or none.
@@ -115,7 +96,7 @@ image-some s a mid top vs r (gives u) h n l = record {
   below = omega (arith, h .value .below);
 }
 
-module _ {s : List ℕ} {a b top : ℕ} {r : Bool} (f : FitTwo (P̂ (t̂ ×̂ û) ∷ t̂ ∷ []) s a b r) (e : r ≡ true) (at : ℕ) (image : Applies s a b at) where
+module _ {s : List ℕ} {a b top : ℕ} {r : Bool} (f : FitTwo (P̂ (t̂ ×̂ û) ∷ t̂ ∷ []) s a b r) (e : not r ≡ false) (at : ℕ) (image : Applies s a b at) where
   applied-told : (o : Outcome) →
       ((mid : ℕ) (vs : Values) (g : Given) → ImageAt s a vs at g → a + weight (set vs) ≤ mid → Gives s mid top (weighed g) o) → TwoDone apply s a b top s o
   unfolding twoValue
@@ -181,8 +162,13 @@ module _ {x y : ℕ} where
   shifted-difference (negsuc a) (pos (suc b)) h k p q = omega (arith, h .1, k .1)
   shifted-difference (negsuc a) (negsuc b) h k p q = shifted-sub (suc b) (suc a) (x + 4294967296 - y) (omega (arith, h .1, k .1))
 
+pub sum-unlike : (less : Bool) {s : List ℕ} {a b top : ℕ} {r : Bool} → FitTwo (numᵖ whole ∷ numᵖ whole ∷ []) s a b r → not r ≡ true →
+    TwoDone (sumKind less) s a b top s (Lacks 15)
+sum-unlike true f e = two-unlike (minus whole) f e
+sum-unlike false f e = two-unlike (plus whole) f e
+
 -- Two numbers as operands, by the payloads of their cells.
-module _ {s : List ℕ} {a b top : ℕ} {r : Bool} (f : FitTwo (numᵖ whole ∷ numᵖ whole ∷ []) s a b r) (e : r ≡ true)
+module _ {s : List ℕ} {a b top : ℕ} {r : Bool} (f : FitTwo (numᵖ whole ∷ numᵖ whole ∷ []) s a b r) (e : not r ≡ false)
     {x y : ℕ} (ex : x ≡ getD s a 0 % cellSize) (ey : y ≡ getD s b 0 % cellSize) {o : Outcome} where
   pub plus-done : NumberDone (x + y) o → TwoDone (plus whole) s a b top s o
   unfolding twoValue
@@ -207,8 +193,8 @@ module _ {s : List ℕ} {a b top : ℕ} {r : Bool} (f : FitTwo (numᵖ whole ∷
 
 -- By kind codes: the code is i's, or that of none but the last.
 module _ {k : ℕ} {s : List ℕ} {a b top : ℕ} {s′ : List ℕ} {o : Outcome} where
-  pub two-of : (i : Two) → k ≡ twoCode i → TwoDone i s a b top s′ o → TwoOf k s a b top s′ o
-  two-of i e d j f = subst (λ (h : Two). TwoDone h s a b top s′ o) (same-two k i j e f) d
+  pub two-of : (i : Two) → k ≡ codeOf (two i) → TwoDone i s a b top s′ o → TwoOf k s a b top s′ o
+  two-of i e d j f = subst (λ (h : Two). TwoDone h s a b top s′ o) (cc (same-kind k (two i) (two j) e f)) d
 
   pub two-last : k ≢ 28 → k ≢ 29 → k ≢ 30 → k ≢ 31 → k ≢ 32 → k ≢ 37 → k ≢ 39 → k ≢ 40 → TwoDone interval s a b top s′ o → TwoOf k s a b top s′ o
   two-last n28 n29 n30 n31 n32 n37 n39 n40 d pairing e = absurd (n28 (code-of k (two pairing) e))

@@ -1,25 +1,10 @@
 -- Operands that fit. The types that a test of refusal 15 tells, what good values of a type are, and so, for each list of operand types that the rules
 -- have, that what holds of operands of that form (sets, sets of pairs, numbers) holds of all good operands that pass the test.
-use Prim.Native.Nat.{ℕ, _%_}
-use mathlib.Core.Bool.{Bool, true}
-use mathlib.Core.List.{List, [], _∷_}
-use mathlib.Core.Path.{_≡_, sym, _∙_, subst}
-use native.Mathlib.Omega.{arith}
-use lib.IntN.{ℤ}
-use lib.ListN.{length, getD}
-use Rattle.rules.specs.Types.{whole, Ty, POW, _⊗_, INTEGER}
-use Rattle.rules.specs.Values.{num, truth, element, Value, scalar, pair, set, Values, none, _▸_, members, int}
-use Rattle.rules.specs.Rules.{Pattern, t̂, û, P̂, _×̂_, numᵖ, inst}
-use Rattle.rules.specs.Fits.{HasType, HaveType, Fits, fits, typed}
-use Rattle.rules.proofs.Basics.{absurd01}
+use Rattle.operations.proofs.Base.{ℕ, _%_, Bool, true, false, not, not-false, List, [], _∷_, _≡_, sym, _∙_, subst, arith, ℤ, length, getD, absurd01}
+use Rattle.operations.proofs.Terms.{whole, Ty, POW, _⊗_, INTEGER, num, truth, element, Value, scalar, pair, set, Values, none, _▸_, members, int, Pattern, t̂, û, P̂, _×̂_, numᵖ, inst, HasType, HaveType, Fits, fits, typed, FitOne, FitTwo, Both, excess, code, IsPair, AllPairs, SetBelow, newFirsts, SomeRelation, KnownFunction, Sizes, GoodAt, SomeGood, NewFirsts, FunctionSeen, Operands, NumberCell}
 use Rattle.laws.proofs.EndLaws.{T-true}
 use Rattle.laws.proofs.FitsLaws.{fits-right, typed-right}
-use Rattle.fitting.specs.Tests.{FitOne, FitTwo, Both}
-use Rattle.arena.specs.Code.{excess, code, IsPair, AllPairs, SetBelow}
 use Rattle.arena.proofs.Standing.{stands-head}
-use Rattle.sets.specs.Pairs.{newFirsts, SomeRelation, KnownFunction}
-use Rattle.operations.specs.Good.{Sizes, GoodAt, SomeGood, NewFirsts, FunctionSeen}
-use Rattle.operations.specs.Outcomes.{Operands, NumberCell}
 use Rattle.operations.proofs.GoodLaws.{good-fits, good-typed-at, good-whole, good-set-at}
 
 -- Operands that fit have the types of the rule.
@@ -45,30 +30,28 @@ two-any v w h k =
 pub ready-both : {s : List ℕ} {a b top : ℕ} → Operands s a b top → Both s a b
 ready-both p = record { first = (p .first, good-typed-at (p .small) (p .left)); second = (p .second, good-typed-at (p .small) (p .right)) }
 
--- A value of a type POW(t) is a set, and one of the type INTEGER a number.
-module _ (P : Value → Type 0) where
-  pub on-set : (v : Value) (t : Ty) → HasType v (POW t) → ((vs : Values) → HaveType vs t → P (set vs)) → P v
-  on-set (scalar x) t q f = absurd (absurd01 (cc))
-  on-set (pair v w) t q f = absurd q
-  on-set (set vs) t q f = f vs q
+-- A value of a type POW(t) is a set, and a good one of the type INTEGER a number, by its cell.
+pub on-set : (P : Value → Type 0) (v : Value) (t : Ty) → HasType v (POW t) → ((vs : Values) → HaveType vs t → P (set vs)) → P v
+on-set P (scalar x) t q f = absurd01 (cc)
+on-set P (pair v w) t q f = absurd q
+on-set P (set vs) t q f = f vs q
 
-  on-number : (v : Value) → HasType v INTEGER → ((i : ℤ) → P (int i)) → P v
-  on-number (scalar (num whole i)) q f = f i
-  on-number (scalar (truth b)) q f = absurd (absurd01 (cc))
-  on-number (scalar (element g k)) q f = absurd (absurd01 (cc))
-  on-number (pair v w) q f = absurd q
-  on-number (set vs) q f = absurd q
-
--- Its cell, and the payload of that.
-number-cell : {gs s : List ℕ} {top at : ℕ} (i : ℤ) → Sizes gs → GoodAt gs s top at (int i) → NumberCell i (getD s at 0)
+good-as-number : {gs s : List ℕ} {top a : ℕ} {v : Value} → Sizes gs → GoodAt gs s top a v → (P : Value → Type 0) → HasType v INTEGER →
+    ((i : ℤ) → NumberCell i (getD s a 0) → P (int i)) → P v
 unfolding code
-number-cell {s = s} {at = at} i small h = record { fits = good-fits small (int i) (h .good); is = stands-head s at _ _ (h .stands) }
+good-as-number {s = s} {a = a} {v = scalar (num whole i)} small h P q f =
+    f i (record { fits = good-fits small (int i) (h .good); is = stands-head s a _ _ (h .stands) })
+good-as-number {v = scalar (truth b)} small h P q f = absurd01 (cc)
+good-as-number {v = scalar (element g k)} small h P q f = absurd01 (cc)
+good-as-number {v = pair v w} small h P q f = absurd q
+good-as-number {v = set vs} small h P q f = absurd q
 
+-- The payload of a number's cell.
 pub number-low : {i : ℤ} {x y : ℕ} → y ≡ x % 4294967296 → NumberCell i x → excess i ≡ y
 number-low e h = omega (arith, h .is, h .fits .0)
 
 pair-typed : (v : Value) (t u : Ty) → HasType v (t ⊗ u) → IsPair v
-pair-typed (scalar x) t u h = absurd (absurd01 (cc))
+pair-typed (scalar x) t u h = absurd01 (cc)
 pair-typed (pair v w) t u h = tt
 pair-typed (set vs) t u h = absurd h
 
@@ -76,24 +59,31 @@ pairs-typed : (vs : Values) (t u : Ty) → HaveType vs (t ⊗ u) → AllPairs vs
 pairs-typed none t u h = tt
 pairs-typed (v ▸ vs) t u h = (pair-typed v t u (h .0), pairs-typed vs t u (h .1))
 
+-- A good value of a type POW(t) is a set that can be an operand.
+module _ {gs s : List ℕ} {top a : ℕ} {v : Value} (small : Sizes gs) (h : GoodAt gs s top a v) (P : Value → Type 0) where
+  good-as-set : (t : Ty) → HasType v (POW t) → ((vs : Values) → HaveType vs t → SetBelow s top a vs → P (set vs)) → P v
+  good-as-set t q g = on-set (λ y. GoodAt gs s top a y → P y) v t q (λ vs q i. g vs q (good-set-at small vs i)) h
+
+  good-as-pairs : (t u : Ty) → HasType v (POW (t ⊗ u)) → ((vs : Values) → SetBelow s top a vs → AllPairs vs → P (set vs)) → P v
+  good-as-pairs t u q g = good-as-set (t ⊗ u) q (λ vs q i. g vs i (pairs-typed vs t u q))
+
 -- One operand.
 module _ {gs s : List ℕ} {top a : ℕ} {v : Value} (small : Sizes gs) (h : GoodAt gs s top a v) where
   pub one-fits : (ps : List Pattern) {r : Bool} → FitOne ps s a r → fits ps (v ∷ []) ≡ r
   one-fits ps f = sym (f v (good-typed-at small h))
 
   module _ (P : Value → Type 0) {r : Bool} where
-    pub one-set : FitOne (P̂ t̂ ∷ []) s a r → r ≡ true → ((vs : Values) → SetBelow s top a vs → P (set vs)) → P v
-    one-set f e g =
-        let x = fit-types (P̂ t̂ ∷ []) (v ∷ []) (one-fits (P̂ t̂ ∷ []) f ∙ e) in
-        on-set (λ y. GoodAt gs s top a y → P y) v (x .0) (x .2 .0) (λ vs _ i. g vs (good-set-at small vs i)) h
+    one-types : (ps : List Pattern) → FitOne ps s a r → not r ≡ false → Fits ps (v ∷ [])
+    one-types ps f e = fit-types ps (v ∷ []) (one-fits ps f ∙ not-false r e)
 
-    pub one-relation : FitOne (P̂ (t̂ ×̂ û) ∷ []) s a r → r ≡ true → ((vs : Values) → SetBelow s top a vs → AllPairs vs → P (set vs)) → P v
-    one-relation f e g =
-        let x = fit-types (P̂ (t̂ ×̂ û) ∷ []) (v ∷ []) (one-fits (P̂ (t̂ ×̂ û) ∷ []) f ∙ e) in
-        on-set (λ y. GoodAt gs s top a y → P y) v (x .0 ⊗ x .1) (x .2 .0) (λ vs q i. g vs (good-set-at small vs i) (pairs-typed vs (x .0) (x .1) q)) h
+    pub one-set : FitOne (P̂ t̂ ∷ []) s a r → not r ≡ false → ((vs : Values) → SetBelow s top a vs → P (set vs)) → P v
+    one-set f e g = let x = one-types (P̂ t̂ ∷ []) f e in good-as-set small h P (x .0) (x .2 .0) (λ vs _. g vs)
+
+    pub one-relation : FitOne (P̂ (t̂ ×̂ û) ∷ []) s a r → not r ≡ false → ((vs : Values) → SetBelow s top a vs → AllPairs vs → P (set vs)) → P v
+    one-relation f e g = let x = one-types (P̂ (t̂ ×̂ û) ∷ []) f e in good-as-pairs small h P (x .0) (x .1) (x .2 .0) g
 
 -- A relation that is seen to be a function.
-module _ {s : List ℕ} {a : ℕ} {f : Bool} (fit : FitOne (P̂ (t̂ ×̂ û) ∷ []) s a f) (e : f ≡ true) where
+module _ {s : List ℕ} {a : ℕ} {f : Bool} (fit : FitOne (P̂ (t̂ ×̂ û) ∷ []) s a f) (e : not f ≡ false) where
   pub some-relation : SomeGood s a → SomeRelation s (length s) a
   some-relation p =
       one-relation (p .small) (good-whole (p .small) (p .stands)) (λ _. SomeRelation s (length s) a) fit e (λ vs k q. (vs, k, q))
@@ -109,31 +99,24 @@ module _ {gs s : List ℕ} {mid top a b : ℕ} {v w : Value} (small : Sizes gs) 
   two-fits ps f = sym (f v w (good-typed-at small h) (good-typed-at small k))
 
   module _ (P : Value → Value → Type 0) {r : Bool} where
-    two-types : (ps : List Pattern) → FitTwo ps s a b r → r ≡ true → Fits ps (v ∷ w ∷ [])
-    two-types ps f e = fit-types ps (v ∷ w ∷ []) (two-fits ps f ∙ e)
+    two-types : (ps : List Pattern) → FitTwo ps s a b r → not r ≡ false → Fits ps (v ∷ w ∷ [])
+    two-types ps f e = fit-types ps (v ∷ w ∷ []) (two-fits ps f ∙ not-false r e)
 
-    pub two-sets : (u : Pattern) → FitTwo (P̂ t̂ ∷ P̂ u ∷ []) s a b r → r ≡ true →
+    pub two-sets : (u : Pattern) → FitTwo (P̂ t̂ ∷ P̂ u ∷ []) s a b r → not r ≡ false →
         ((vs ws : Values) → SetBelow s mid a vs → SetBelow s top b ws → P (set vs) (set ws)) → P v w
     two-sets u f e g =
         let x = two-types (P̂ t̂ ∷ P̂ u ∷ []) f e in
-        on-set (λ y. GoodAt gs s mid a y → P y w) v (x .0) (x .2 .0)
-        (λ vs _ i. on-set (λ y. GoodAt gs s top b y → P (set vs) y) w (inst u (x .0) (x .1)) (x .2 .1 .0)
-        (λ ws _ j. g vs ws (good-set-at small vs i) (good-set-at small ws j)) k) h
+        good-as-set small h (λ y. P y w) (x .0) (x .2 .0)
+        (λ vs _ i. good-as-set small k (P (set vs)) (inst u (x .0) (x .1)) (x .2 .1 .0) (λ ws _. g vs ws i))
 
-    pub two-numbers : FitTwo (numᵖ whole ∷ numᵖ whole ∷ []) s a b r → r ≡ true →
+    pub two-numbers : FitTwo (numᵖ whole ∷ numᵖ whole ∷ []) s a b r → not r ≡ false →
         ((m n : ℤ) → NumberCell m (getD s a 0) → NumberCell n (getD s b 0) → P (int m) (int n)) → P v w
     two-numbers f e g =
         let x = two-types (numᵖ whole ∷ numᵖ whole ∷ []) f e in
-        on-number (λ y. GoodAt gs s mid a y → P y w) v (x .2 .0)
-        (λ m i. on-number (λ y. GoodAt gs s top b y → P (int m) y) w (x .2 .1 .0) (λ n j. g m n (number-cell m small i) (number-cell n small j)) k) h
+        good-as-number small h (λ y. P y w) (x .2 .0) (λ m i. good-as-number small k (P (int m)) (x .2 .1 .0) (λ n. g m n i))
 
-    pub two-member : FitTwo (t̂ ∷ P̂ t̂ ∷ []) s a b r → r ≡ true → ((ws : Values) → SetBelow s top b ws → P v (set ws)) → P v w
-    two-member f e g =
-        let x = two-types (t̂ ∷ P̂ t̂ ∷ []) f e in
-        on-set (λ y. GoodAt gs s top b y → P v y) w (x .0) (x .2 .1 .0) (λ ws _ j. g ws (good-set-at small ws j)) k
+    pub two-member : FitTwo (t̂ ∷ P̂ t̂ ∷ []) s a b r → not r ≡ false → ((ws : Values) → SetBelow s top b ws → P v (set ws)) → P v w
+    two-member f e g = let x = two-types (t̂ ∷ P̂ t̂ ∷ []) f e in good-as-set small k (P v) (x .0) (x .2 .1 .0) (λ ws _. g ws)
 
-    pub two-function : FitTwo (P̂ (t̂ ×̂ û) ∷ t̂ ∷ []) s a b r → r ≡ true → ((vs : Values) → SetBelow s mid a vs → AllPairs vs → P (set vs) w) → P v w
-    two-function f e g =
-        let x = two-types (P̂ (t̂ ×̂ û) ∷ t̂ ∷ []) f e in
-        on-set (λ y. GoodAt gs s mid a y → P y w) v (x .0 ⊗ x .1) (x .2 .0)
-        (λ vs q i. g vs (good-set-at small vs i) (pairs-typed vs (x .0) (x .1) q)) h
+    pub two-function : FitTwo (P̂ (t̂ ×̂ û) ∷ t̂ ∷ []) s a b r → not r ≡ false → ((vs : Values) → SetBelow s mid a vs → AllPairs vs → P (set vs) w) → P v w
+    two-function f e g = let x = two-types (P̂ (t̂ ×̂ û) ∷ t̂ ∷ []) f e in good-as-pairs small h (λ y. P y w) (x .0) (x .1) (x .2 .0) g

@@ -1,23 +1,15 @@
 -- What a good value of the arena is to the functions below: it fits, has a type, and as a set can be an operand.
-use Prim.Native.Nat.{ℕ, _≤_, _<_}
-use mathlib.Core.Bool.{Bool, true, _&&_}
-use mathlib.Core.List.{List}
-use mathlib.Core.Path.{_≡_}
-use native.Mathlib.Omega.{arith}
-use lib.Dec.{T}
-use lib.ListN.{length}
-use Rattle.rules.specs.Values.{Value, set, Values, none, _▸_}
+use Rattle.operations.proofs.Base.{ℕ, _≤_, _<_, Bool, true, _&&_, List, _≡_, arith, T, length}
+use Rattle.operations.proofs.Terms.{Value, scalar, pair, set, Values, none, _▸_, CellsFit, SomeAt, Rises, FineSet, SetBelow, ValueBelow, KnownFunction, Sizes, GoodAt, SomeGood, NewFirsts}
 use Rattle.rules.specs.Cells.{wellFormed, risingAll, precedes, good}
 use Rattle.laws.proofs.OrderLaws.{and-left, and-right}
 use Rattle.laws.proofs.CellsLaws.{encodable-wellFormed, few-sizes, good-wellFormed, good-weight, good-typed, weight-some}
-use Rattle.arena.specs.Code.{CellsFit, SomeAt, Rises, FineSet, SetBelow, ValueBelow}
 use Rattle.arena.proofs.CodeLaws.{length-code, encodable-fits}
 use Rattle.arena.proofs.EvenLaws.{typed-even}
 use Rattle.arena.proofs.ValueParts.{value-eq}
-use Rattle.sets.specs.Pairs.{KnownFunction}
-use Rattle.fitting.specs.Agree.{TypedAt}
+use Rattle.sets.specs.Rows.{Fine}
+use Rattle.fitting.specs.Agree.{TypedAt, SomeTyped}
 use Rattle.fitting.proofs.Cells.{typed-at}
-use Rattle.operations.specs.Good.{Sizes, GoodAt, NewFirsts}
 
 rising-rises : (gs : List ℕ) (s : Values) → T (risingAll gs s) → Rises s
 rising-rises gs none h = tt
@@ -41,6 +33,11 @@ module _ {gs : List ℕ} (small : Sizes gs) where
     even = typed-even vs (good-typed gs (set vs) h);
   }
 
+  pub good-fine : (v : Value) → T (good gs v) → Fine v
+  good-fine (scalar x) h = tt
+  good-fine (pair v w) h = tt
+  good-fine (set vs) h = good-set vs h
+
   module _ {s : List ℕ} {top at : ℕ} {v : Value} (h : GoodAt gs s top at v) where
     pub good-value : ValueBelow s top at v
     good-value = record { stands = h .stands; below = h .below; fits = good-fits v (h .good); light = good-weight gs v (h .good) }
@@ -63,6 +60,13 @@ module _ {gs : List ℕ} (small : Sizes gs) where
 
   pub good-set-at : {s : List ℕ} {top at : ℕ} (vs : Values) → GoodAt gs s top at (set vs) → SetBelow s top at vs
   good-set-at vs h = record { stands = h .stands; below = h .below; fine = good-set vs (h .good) }
+
+-- What is asked of some good value.
+pub some-typed : {s : List ℕ} {a : ℕ} → SomeGood s a → SomeTyped s a
+some-typed p = (p .value, good-typed-at (p .small) (p .stands))
+
+pub some-inside : {s : List ℕ} {a : ℕ} → SomeGood s a → a < length s
+some-inside p = good-inside (p .small) (p .stands)
 
 -- Of a good value that is a function it is known where it stands.
 pub function-known : {gs s : List ℕ} {top a : ℕ} {v : Value} {k : Bool} → Sizes gs → GoodAt gs s top a v → (k ≡ true → NewFirsts v) → KnownFunction s a k

@@ -1,160 +1,89 @@
 -- Kind codes: a code has one kind, and a kind one code.
-use Prim.Native.Nat.{ℕ, zero, suc, _+_}
-use mathlib.Core.Bool.{Bool, true, _&&_}
-use mathlib.Core.List.{List, [], _∷_}
+use Rattle.operations.proofs.Base.{ℕ, zero, suc, _+_, Bool, true, _&&_, List, [], _∷_, _≡_, refl, ap, sym, _∙_, arith, T, eqb, eqb→eq, getD, absurd01}
 use mathlib.Core.Option.{Option, none as nothing, some}
-use mathlib.Core.Path.{_≡_, refl, ap, sym, _∙_}
-use native.Mathlib.Omega.{arith}
-use lib.Dec.{T, eqb, eqb→eq}
-use lib.ListN.{getD}
-use Rattle.rules.specs.Types.{whole}
-use Rattle.rules.specs.Kinds.{Join, and, or, implies, iff, Test, equal, member, subset, atMost, Quant, forAll, forSome}
-use Rattle.rules.specs.Kinds.{Leaf, identifier, givenSet, elementOf, literal, truthConst, emptySet, boolSet}
-use Rattle.rules.specs.Kinds.{One, singleton, power, dom, ran, card, choice}
-use Rattle.rules.specs.Kinds.{Two, pairing, union, inter, diff, product, apply, plus, minus, interval}
-use Rattle.rules.specs.Kinds.{Kind, join, negation, test, quant, leaf, boolOf, one, two, comprehension, kinds, kindOf}
+use Rattle.operations.proofs.Terms.{whole, Join, and, or, implies, iff, Test, equal, member, subset, atMost, Quant, forAll, forSome, Leaf, identifier, givenSet, elementOf, literal, truthConst, emptySet, boolSet, singleton, power, dom, ran, card, choice, pairing, union, inter, diff, product, apply, plus, minus, interval, Kind, join, negation, test, quant, leaf, boolOf, one, two, comprehension, kinds, kindOf}
 use Rattle.laws.proofs.OrderLaws.{and-left, and-right}
-use Rattle.rules.proofs.Basics.{absurd01}
 
-abbrev pub joinCode : Join → ℕ
-joinCode and = 1
-joinCode or = 2
-joinCode implies = 3
-joinCode iff = 5
-
-abbrev pub testCode : Test → ℕ
-testCode equal = 6
-testCode member = 7
-testCode subset = 8
-testCode (atMost whole) = 9
-
-abbrev pub quantCode : Quant → ℕ
-quantCode forAll = 10
-quantCode forSome = 11
-
-abbrev pub leafCode : Leaf → ℕ
-leafCode identifier = 20
-leafCode givenSet = 21
-leafCode elementOf = 22
-leafCode (literal whole) = 23
-leafCode truthConst = 24
-leafCode emptySet = 26
-leafCode boolSet = 42
-
-abbrev pub oneCode : One → ℕ
-oneCode singleton = 27
-oneCode power = 33
-oneCode dom = 35
-oneCode ran = 36
-oneCode card = 38
-oneCode choice = 43
-
-abbrev pub twoCode : Two → ℕ
-twoCode pairing = 28
-twoCode union = 29
-twoCode inter = 30
-twoCode diff = 31
-twoCode product = 32
-twoCode apply = 37
-twoCode (plus whole) = 39
-twoCode (minus whole) = 40
-twoCode interval = 41
+-- Each kind with its code.
+abbrev pub coded : (x : Kind) → (k : ℕ) × (getD kinds k nothing ≡ some x)
+coded (join and) = (1, refl)
+coded (join or) = (2, refl)
+coded (join implies) = (3, refl)
+coded (join iff) = (5, refl)
+coded negation = (4, refl)
+coded (test equal) = (6, refl)
+coded (test member) = (7, refl)
+coded (test subset) = (8, refl)
+coded (test (atMost whole)) = (9, refl)
+coded (quant forAll) = (10, refl)
+coded (quant forSome) = (11, refl)
+coded (leaf identifier) = (20, refl)
+coded (leaf givenSet) = (21, refl)
+coded (leaf elementOf) = (22, refl)
+coded (leaf (literal whole)) = (23, refl)
+coded (leaf truthConst) = (24, refl)
+coded (leaf emptySet) = (26, refl)
+coded (leaf boolSet) = (42, refl)
+coded boolOf = (25, refl)
+coded (one singleton) = (27, refl)
+coded (one power) = (33, refl)
+coded (one dom) = (35, refl)
+coded (one ran) = (36, refl)
+coded (one card) = (38, refl)
+coded (one choice) = (43, refl)
+coded (two pairing) = (28, refl)
+coded (two union) = (29, refl)
+coded (two inter) = (30, refl)
+coded (two diff) = (31, refl)
+coded (two product) = (32, refl)
+coded (two apply) = (37, refl)
+coded (two (plus whole)) = (39, refl)
+coded (two (minus whole)) = (40, refl)
+coded (two interval) = (41, refl)
+coded comprehension = (34, refl)
 
 abbrev pub codeOf : Kind → ℕ
-codeOf (join j) = joinCode j
-codeOf negation = 4
-codeOf (test j) = testCode j
-codeOf (quant j) = quantCode j
-codeOf (leaf j) = leafCode j
-codeOf boolOf = 25
-codeOf (one j) = oneCode j
-codeOf (two j) = twoCode j
-codeOf comprehension = 34
+codeOf x = coded x .0
+
+abbrev pub joinCode : Join → ℕ
+joinCode j = codeOf (join j)
+
+abbrev pub quantCode : Quant → ℕ
+quantCode j = codeOf (quant j)
 
 -- The kinds of a list have the codes from i on.
-abbrev codedHere : ℕ → Option Kind → Bool
-codedHere i nothing = true
-codedHere i (some x) = eqb i (codeOf x)
+abbrev listed : ℕ → List (Option Kind) → Bool
+listed i [] = true
+listed i (nothing ∷ ks) = listed (suc i) ks
+listed i (some x ∷ ks) = eqb i (codeOf x) && listed (suc i) ks
 
-abbrev coded : ℕ → List (Option Kind) → Bool
-coded i [] = true
-coded i (o ∷ ks) = codedHere i o && coded (suc i) ks
+listed-at : (i : ℕ) (ks : List (Option Kind)) → T (listed i ks) → (n : ℕ) (x : Kind) → getD ks n nothing ≡ some x → i + n ≡ codeOf x
+listed-at i [] t n x e = absurd01 (cc)
+listed-at i (nothing ∷ ks) t zero x e = absurd01 (cc)
+listed-at i (nothing ∷ ks) t (suc n) x e = let c = listed-at (suc i) ks t n x e in omega arith
+listed-at i (some y ∷ ks) t zero x e =
+    let d : y ≡ x = cc in
+    let c : i ≡ codeOf x = eqb→eq i (codeOf y) (and-left (eqb i (codeOf y)) (listed (suc i) ks) t) ∙ ap codeOf d in omega arith
+listed-at i (some y ∷ ks) t (suc n) x e = let c = listed-at (suc i) ks (and-right (eqb i (codeOf y)) (listed (suc i) ks) t) n x e in omega arith
 
-coded-at : (i : ℕ) (ks : List (Option Kind)) → T (coded i ks) → (n : ℕ) (x : Kind) → getD ks n nothing ≡ some x → i + n ≡ codeOf x
-coded-at i [] t n x e = absurd (absurd01 (cc))
-coded-at i (o ∷ ks) t zero x e = here o (and-left (codedHere i o) (coded (suc i) ks) t) e
-  where
-    here : (o : Option Kind) → T (codedHere i o) → o ≡ some x → i + 0 ≡ codeOf x
-    here nothing h e = absurd (absurd01 (cc))
-    here (some y) h e =
-        let d : y ≡ x = cc in
-        let c : i ≡ codeOf x = eqb→eq i (codeOf y) h ∙ ap codeOf d in
-        omega arith
-coded-at i (o ∷ ks) t (suc n) x e =
-    let c = coded-at (suc i) ks (and-right (codedHere i o) (coded (suc i) ks) t) n x e in omega arith
-
--- The code of a kind.
+-- The code of a kind, and the kind of a code.
 pub code-of : (k : ℕ) (x : Kind) → kindOf k ≡ some x → k ≡ codeOf x
 unfolding kindOf
-code-of k x e = let c = coded-at 0 kinds tt k x e in omega arith
-
--- The kind of a code.
-code-kind : (x : Kind) → kindOf (codeOf x) ≡ some x
-unfolding kindOf
-code-kind (join and) = refl
-code-kind (join or) = refl
-code-kind (join implies) = refl
-code-kind (join iff) = refl
-code-kind negation = refl
-code-kind (test equal) = refl
-code-kind (test member) = refl
-code-kind (test subset) = refl
-code-kind (test (atMost whole)) = refl
-code-kind (quant forAll) = refl
-code-kind (quant forSome) = refl
-code-kind (leaf identifier) = refl
-code-kind (leaf givenSet) = refl
-code-kind (leaf elementOf) = refl
-code-kind (leaf (literal whole)) = refl
-code-kind (leaf truthConst) = refl
-code-kind (leaf emptySet) = refl
-code-kind (leaf boolSet) = refl
-code-kind boolOf = refl
-code-kind (one singleton) = refl
-code-kind (one power) = refl
-code-kind (one dom) = refl
-code-kind (one ran) = refl
-code-kind (one card) = refl
-code-kind (one choice) = refl
-code-kind (two pairing) = refl
-code-kind (two union) = refl
-code-kind (two inter) = refl
-code-kind (two diff) = refl
-code-kind (two product) = refl
-code-kind (two apply) = refl
-code-kind (two (plus whole)) = refl
-code-kind (two (minus whole)) = refl
-code-kind (two interval) = refl
-code-kind comprehension = refl
+code-of k x e = let c = listed-at 0 kinds tt k x e in omega arith
 
 pub kind-of : (k : ℕ) (x : Kind) → k ≡ codeOf x → kindOf k ≡ some x
-kind-of k x e = ap kindOf e ∙ code-kind x
+unfolding kindOf
+kind-of k x e = ap kindOf e ∙ coded x .1
 
 -- A code has one kind.
-same-kind : (k : ℕ) (x y : Kind) → k ≡ codeOf x → kindOf k ≡ some y → x ≡ y
+pub same-kind : (k : ℕ) (x y : Kind) → k ≡ codeOf x → kindOf k ≡ some y → x ≡ y
 same-kind k x y e f = let d : some x ≡ some y = sym (kind-of k x e) ∙ f in cc
 
 pub same-join : (k : ℕ) (i j : Join) → k ≡ joinCode i → kindOf k ≡ some (join j) → i ≡ j
 same-join k i j e f = cc (same-kind k (join i) (join j) e f)
 
-pub same-one : (k : ℕ) (i j : One) → k ≡ oneCode i → kindOf k ≡ some (one j) → i ≡ j
-same-one k i j e f = cc (same-kind k (one i) (one j) e f)
-
-pub same-two : (k : ℕ) (i j : Two) → k ≡ twoCode i → kindOf k ≡ some (two j) → i ≡ j
-same-two k i j e f = cc (same-kind k (two i) (two j) e f)
-
-pub same-test : (k : ℕ) (i j : Test) → k ≡ testCode i → kindOf k ≡ some (test j) → i ≡ j
+pub same-test : (k : ℕ) (i j : Test) → k ≡ codeOf (test i) → kindOf k ≡ some (test j) → i ≡ j
 same-test k i j e f = cc (same-kind k (test i) (test j) e f)
 
-pub same-leaf : (k : ℕ) (i j : Leaf) → k ≡ leafCode i → kindOf k ≡ some (leaf j) → i ≡ j
+pub same-leaf : (k : ℕ) (i j : Leaf) → k ≡ codeOf (leaf i) → kindOf k ≡ some (leaf j) → i ≡ j
 same-leaf k i j e f = cc (same-kind k (leaf i) (leaf j) e f)

@@ -1,19 +1,7 @@
 -- The leaves: their cells, and that what the functions below have built is their value.
-use Prim.Native.Nat.{ℕ, zero, suc, _+_, _*_, _%_, _≤_, _<_}
-use mathlib.Core.Bool.{true, false}
-use mathlib.Core.List.{List, [], _∷_}
-use mathlib.Core.Logic.{_≢_}
+use Rattle.operations.proofs.Base.{ℕ, zero, suc, _+_, _*_, _%_, _≤_, _<_, true, false, List, [], _∷_, _≢_, _≡_, refl, sym, subst, arith, length, eq-eqb, ne-eqb}
 use mathlib.Core.Option.{some}
-use mathlib.Core.Path.{_≡_, refl, sym, subst}
-use native.Mathlib.Omega.{arith}
-use lib.ListN.{length}
-use borrow.Author.Tests.{eq-eqb, ne-eqb}
-use Rattle.rules.specs.Values.{Value, truthValue, values, weight, weights}
-use Rattle.rules.specs.Kinds.{Leaf, identifier, givenSet, elementOf, literal, truthConst, emptySet, boolSet, leaf, kindOf}
-use Rattle.rules.specs.Runs.{gives}
-use Rattle.rules.specs.Operations.{Env, setOf, elementsFrom, leafValue}
-use Rattle.arena.specs.Code.{Made}
-use Rattle.operations.specs.Outcomes.{BuiltAt, LeafFits, LeafReady, LeafDone}
+use Rattle.operations.proofs.Terms.{Value, truthValue, values, weight, weights, Leaf, identifier, givenSet, elementOf, literal, truthConst, emptySet, boolSet, leaf, kindOf, gives, Env, setOf, elementsFrom, leafValue, Made, BuiltAt, LeafFits, LeafReady, LeafDone}
 use Rattle.operations.specs.Leaves.{scalarCell}
 use Rattle.operations.proofs.KindLaws.{code-of, same-leaf}
 

@@ -1,4 +1,6 @@
 -- The operations on good values.
+mod Base
+mod Terms
 pub mod GoodLaws
 pub mod OutcomeLaws
 pub mod FitLaws
@@ -7,3 +9,4 @@ pub mod SingleLaws
 pub mod LeafLaws
 pub mod DoubleLaws
 pub mod TestLaws
+mod Common

@@ -1,22 +1,6 @@
 -- How the answers of the functions below tell what a node gives.
-use Prim.Native.Nat.{ℕ, _<_}
-use mathlib.Core.Bool.{true, false}
-use mathlib.Core.List.{List, [], _∷_}
-use mathlib.Core.Path.{_≡_, sym, subst, _∙_}
-use native.Mathlib.Omega.{arith}
-use native.Mathlib.Decide.{decLt}
-use borrow.Author.Tests.{eq-eqb, ne-eqb, le-leb, lt-leb}
-use Rattle.rules.specs.Values.{Value, weight}
-use Rattle.rules.specs.Rules.{testRule}
-use Rattle.rules.specs.Kinds.{Test}
-use Rattle.rules.specs.Fits.{fits}
-use Rattle.rules.specs.Runs.{Given, gives, lacks}
-use Rattle.rules.specs.Operations.{holds}
-use Rattle.arena.specs.Code.{Same, Made}
-use Rattle.operations.specs.declared.Outcome.{Outcome}
-use Rattle.operations.specs.declared.Outcome.the-variants.{Built, Lacks}
-use Rattle.operations.specs.declared.Tested.the-variants.{Truth, Unlike}
-use Rattle.operations.specs.Outcomes.{weighed, tested, ended, Gives}
+use Rattle.operations.proofs.Base.{ℕ, _<_, true, false, List, [], _∷_, _≡_, sym, subst, arith, decLt, eq-eqb, ne-eqb, le-leb, lt-leb}
+use Rattle.operations.proofs.Terms.{Value, weight, testRule, Test, fits, Given, gives, lacks, holds, Same, Made, Outcome, Built, Lacks, Truth, Unlike, weighed, tested, ended, Gives}
 use Rattle.laws.proofs.CellsLaws.{weight-some}
 
 pub ended-none : (end : ℕ) → end ≡ 0 → Lacks 18 ≡ ended end
@@ -39,17 +23,15 @@ module _ (top : ℕ) (s s′ : List ℕ) (end : ℕ) where
 
   -- So the answer tells it, or that 18 is met.
   pub makes-gives : (mid : ℕ) (g : Given) {o : Outcome} → Makes top s s′ end g → o ≡ ended end → Gives s′ mid top (weighed g) o
+  unfolding ended
   makes-gives mid (lacks k) m z = absurd m
-  makes-gives mid (gives v) {o} m z = go (decLt 256 (weight v))
+  makes-gives mid (gives v) m z = subst (λ (x : Outcome). Gives s′ mid top (weighed (gives v)) x) (sym z) (go (decLt 256 (weight v)))
     where
-      told : (y : Outcome) → y ≡ ended end → Gives s′ mid top (weighed (gives v)) y → Gives s′ mid top (weighed (gives v)) o
-      told y e h = subst (λ (x : Outcome). Gives s′ mid top (weighed (gives v)) x) (e ∙ sym z) h
-
-      go : Dec (256 < weight v) → Gives s′ mid top (weighed (gives v)) o
-      go (yes l) = told (Lacks 18) (ended-none end (m .heavy l)) (rw (lt-leb (weight v) 256 l))
+      go : Dec (256 < weight v) → Gives s′ mid top (weighed (gives v)) (ended end)
+      go (yes l) = rw (eq-eqb end 0 (m .heavy l), lt-leb (weight v) 256 l)
       go (no l) =
           let e = m .light (omega arith) in
-          told (Built end) (ended-some end (λ d. omega (arith, e .0, weight-some v)))
+          rw (ne-eqb end 0 (λ d. omega (arith, e .0, weight-some v)))
           (record { value = v; is = rw (le-leb (weight v) 256 (omega arith)); stands = e .1; ends = e .0; light = omega arith })
 
 -- 15, or the truth, by the test of the operands.

@@ -1,44 +1,24 @@
 -- What the tests of kinds 6 to 9 answer: for operands that pass the test's own test it is enough to look at sets, and two numbers are told by their
 -- cells.
-use Prim.Native.Nat.{ℕ, _+_, _≤_, _<_, Ordering, Ordering·lt, Ordering·eq, Ordering·gt}
-use mathlib.Core.Bool.{Bool, true, false}
-use mathlib.Core.Logic.{_≢_}
-use mathlib.Core.List.{List, [], _∷_}
-use mathlib.Core.Path.{_≡_, refl, sym, ap, _∙_, subst}
-use native.Mathlib.Omega.{arith}
-use native.Mathlib.Decide.{decLt, ℕ-discrete}
-use borrow.Author.Tests.{eq-eqb, ne-eqb, le-leb, lt-leb}
-use lib.Dec.{T, leb, eqb, isEq}
-use lib.IntN.{ℤ, pos, negsuc}
-use lib.ListN.{length, getD}
+use Rattle.operations.proofs.Base.{ℕ, _+_, _≤_, Ordering, Ordering·lt, Ordering·eq, Ordering·gt, Bool, true, false, not, _≢_, List, [], _∷_, _≡_, refl, sym, ap, _∙_, subst, arith, le-leb, lt-leb, not-true, not-false, T, leb, leb→le, le→leb, eqb, eqb→eq, eqb-refl, isEq, ℤ, pos, negsuc, length, getD, bool-eq}
 use lib.Signed.{leZ}
-use Rattle.rules.specs.Types.{whole}
-use Rattle.rules.specs.Values.{Value, int, payload, order, same}
-use Rattle.rules.specs.Kinds.{Test, equal, member, subset, atMost, test}
-use Rattle.rules.specs.Rules.{t̂, P̂, numᵖ, testRule}
-use Rattle.rules.specs.Fits.{fits}
-use Rattle.rules.specs.Operations.{holds}
+use Rattle.operations.proofs.Terms.{whole, Value, int, payload, order, same, Test, equal, member, subset, atMost, test, t̂, P̂, numᵖ, testRule, fits, holds, excess, code, orderCode, SomeSet, SomeValue, Compared, FitTwo, Sizes, GoodAt, Truth, Unlike, Operands, tested, TestDone, NumberCell, NumbersTold, TestOf}
 use Rattle.laws.proofs.OrderLaws.{same-eq, same-refl}
-use Rattle.arena.specs.Code.{excess, code, orderCode, SomeSet, SomeValue, Compared}
 use Rattle.arena.proofs.CodeLaws.{all-agree}
-use Rattle.fitting.specs.Tests.{FitTwo}
 use Rattle.sets.specs.Fronts.{Contains, Includes}
-use Rattle.operations.specs.Good.{Sizes, GoodAt}
 use Rattle.operations.specs.declared.Tested.{Tested}
-use Rattle.operations.specs.declared.Tested.the-variants.{Truth, Unlike}
-use Rattle.operations.specs.Outcomes.{Operands, tested, TestDone, NumberCell, NumbersTold, TestOf}
 use Rattle.operations.proofs.GoodLaws.{good-fits, good-value, good-whole}
 use Rattle.operations.proofs.OutcomeLaws.{test-unfit, test-fit}
 use Rattle.operations.proofs.FitLaws.{two-fits, two-sets, two-member, two-numbers}
-use Rattle.operations.proofs.KindLaws.{testCode, code-of, same-test}
+use Rattle.operations.proofs.KindLaws.{codeOf, code-of, same-test}
 
 module _ (j : Test) {s : List ℕ} {a b : ℕ} {r : Bool} (f : FitTwo (testRule j .takes) s a b r) where
-  pub test-unlike : r ≡ false → TestDone j s a b Unlike
-  test-unlike e gs mid top v w small h k = sym (test-unfit j v w (two-fits small h k (testRule j .takes) f ∙ e))
+  pub test-unlike : not r ≡ true → TestDone j s a b Unlike
+  test-unlike e gs mid top v w small h k = sym (test-unfit j v w (two-fits small h k _ f ∙ not-true r e))
 
-  test-told : (t : Bool) → r ≡ true →
+  test-told : (t : Bool) → not r ≡ false →
       ((gs : List ℕ) (mid top : ℕ) (v w : Value) → Sizes gs → GoodAt gs s mid a v → GoodAt gs s top b w → t ≡ holds j v w) → TestDone j s a b (Truth t)
-  test-told t e g gs mid top v w small h k = ap Truth (g gs mid top v w small h k) ∙ sym (test-fit j v w (two-fits small h k (testRule j .takes) f ∙ e))
+  test-told t e g gs mid top v w small h k = ap Truth (g gs mid top v w small h k) ∙ sym (test-fit j v w (two-fits small h k _ f ∙ not-false r e))
 
 -- 6: the number 1 is that of equal values.
 same-code : (o : Ordering) → eqb (orderCode o) 1 ≡ isEq o
@@ -51,13 +31,13 @@ unfolding holds same
 holds-equal v w r e = rw e (same-code (order v w))
 
 module _ {s : List ℕ} {a b : ℕ} {r : Bool} where
-  pub equal-told : (q : ℕ) → FitTwo (t̂ ∷ t̂ ∷ []) s a b r → r ≡ true → Compared s a b q → TestDone equal s a b (Truth (eqb q 1))
+  pub equal-told : (q : ℕ) → FitTwo (t̂ ∷ t̂ ∷ []) s a b r → not r ≡ false → Compared s a b q → TestDone equal s a b (Truth (eqb q 1))
   equal-told q f e c =
       test-told equal f (eqb q 1) e
       (λ gs mid top v w small h k. holds-equal v w q (c v w (h .stands) (k .stands) (good-fits small v (h .good)) (good-fits small w (k .good))))
 
   -- 7
-  module _ (f : FitTwo (t̂ ∷ P̂ t̂ ∷ []) s a b r) (e : r ≡ true) where
+  module _ (f : FitTwo (t̂ ∷ P̂ t̂ ∷ []) s a b r) (e : not r ≡ false) where
     pub member-ready : {top : ℕ} → Operands s a b top → SomeValue s (length s) a × SomeSet s (length s) b
     member-ready p = (
       (p .first, good-value (p .small) (good-whole (p .small) (p .left))),
@@ -72,7 +52,7 @@ module _ {s : List ℕ} {a b : ℕ} {r : Bool} where
         (λ ws j. c v ws (good-value small (good-whole small h)) j))
 
   -- 8
-  module _ (f : FitTwo (P̂ t̂ ∷ P̂ t̂ ∷ []) s a b r) (e : r ≡ true) where
+  module _ (f : FitTwo (P̂ t̂ ∷ P̂ t̂ ∷ []) s a b r) (e : not r ≡ false) where
     pub subset-ready : {top : ℕ} → Operands s a b top → SomeSet s (length s) a × SomeSet s (length s) b
     subset-ready p =
         two-sets (p .small) (good-whole (p .small) (p .left)) (good-whole (p .small) (p .right))
@@ -85,12 +65,8 @@ module _ {s : List ℕ} {a b : ℕ} {r : Bool} where
         (λ gs mid top v w small h k. two-sets small (good-whole small h) (good-whole small k) (λ x y. q ≡ holds subset x y) t̂ f e c)
 
 -- The cells of numbers stand in the order of the numbers.
-leb-as : (a b c d : ℕ) → (a ≤ b → c ≤ d) → (b < a → d < c) → leb a b ≡ leb c d
-leb-as a b c d f g = go (decLt b a)
-  where
-    go : Dec (b < a) → leb a b ≡ leb c d
-    go (yes l) = lt-leb a b l ∙ sym (lt-leb c d (g l))
-    go (no n) = let x : a ≤ b = omega arith in le-leb a b x ∙ sym (le-leb c d (f x))
+leb-as : (a b c d : ℕ) → (a ≤ b → c ≤ d) → (c ≤ d → a ≤ b) → leb a b ≡ leb c d
+leb-as a b c d f g = bool-eq (leb a b) (leb c d) (λ t. le→leb c d (f (leb→le a b t))) (λ t. le→leb a b (g (leb→le c d t)))
 
 cells-order : (m n : ℤ) (x y : ℕ) → NumberCell m x → NumberCell n y → leb x y ≡ leZ m n
 unfolding excess
@@ -102,16 +78,19 @@ cells-order (negsuc m) (negsuc n) x y c d = leb-as x y n m (λ l. omega (arith, 
 -- Two numbers are equal where their cells are.
 cells-same : (m n : ℤ) (x y : ℕ) → NumberCell m x → NumberCell n y → eqb x y ≡ same (int m) (int n)
 unfolding code
-cells-same m n x y c d = go (ℕ-discrete x y) (same (int m) (int n)) refl
+cells-same m n x y c d = bool-eq (eqb x y) (same (int m) (int n)) told back
   where
-    go : Dec (x ≡ y) → (t : Bool) → same (int m) (int n) ≡ t → eqb x y ≡ t
-    go (yes e) true q = eq-eqb x y e
-    go (yes e) false q =
+    told : T (eqb x y) → T (same (int m) (int n))
+    told t =
         let v : int m ≡ int n =
-        all-agree (int m) (int n) (c .fits) (d .fits) (omega arith) (λ j l. ap (λ (z : ℕ). getD (z ∷ []) j 0) (sym (c .is) ∙ e ∙ d .is)) in
-        absurd (subst T q (subst (λ (z : Value). T (same (int m) z)) v (same-refl (int m))))
-    go (no e) true q = absurd (e (c .is ∙ ap (λ (v : Value). 4294967296 + excess (payload v)) (same-eq (int m) (int n) tt tt (rw q tt)) ∙ sym (d .is)))
-    go (no e) false q = ne-eqb x y e
+        all-agree (int m) (int n) (c .fits) (d .fits) (λ j _ _. ap (λ (z : ℕ). getD (z ∷ []) j 0) (sym (c .is) ∙ eqb→eq x y t ∙ d .is)) in
+        subst (λ (z : Value). T (same (int m) z)) v (same-refl (int m))
+
+    back : T (same (int m) (int n)) → T (eqb x y)
+    back t =
+        let v : int m ≡ int n = same-eq (int m) (int n) tt tt t in
+        let e : x ≡ y = c .is ∙ ap (λ (z : Value). 4294967296 + excess (payload z)) v ∙ sym (d .is) in
+        rw (← e) (eqb-refl x)
 
 -- The tests of two numbers, by the code.
 module _ {k x y : ℕ} where
@@ -135,11 +114,11 @@ module _ {k x y : ℕ} where
 
 -- By kind codes: two numbers, or the code is i's, or that of none but the last, which takes numbers only.
 module _ {s : List ℕ} {a b : ℕ} {o : Tested} where
-  pub test-numbers : (k : ℕ) {r : Bool} → FitTwo (numᵖ whole ∷ numᵖ whole ∷ []) s a b r → r ≡ true → NumbersTold k (getD s a 0) (getD s b 0) o →
+  pub test-numbers : (k : ℕ) {r : Bool} → FitTwo (numᵖ whole ∷ numᵖ whole ∷ []) s a b r → not r ≡ false → NumbersTold k (getD s a 0) (getD s b 0) o →
       TestOf k s a b o
   test-numbers k f e m j q gs mid top v w small h l = two-numbers small h l (λ x y. o ≡ tested j x y) f e (m j q)
 
-  pub test-of : {k : ℕ} (i : Test) → k ≡ testCode i → TestDone i s a b o → TestOf k s a b o
+  pub test-of : {k : ℕ} (i : Test) → k ≡ codeOf (test i) → TestDone i s a b o → TestOf k s a b o
   test-of {k} i e d j f = subst (λ (h : Test). TestDone h s a b o) (same-test k i j e f) d
 
   pub test-last : {k : ℕ} → k ≢ 6 → k ≢ 7 → k ≢ 8 → TestDone (atMost whole) s a b o → TestOf k s a b o

@@ -2,4 +2,4 @@
 pub mod Good
 pub mod Outcomes
 pub mod Leaves
-pub mod Double
+pub mod Parts

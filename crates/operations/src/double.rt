@@ -1,19 +1,11 @@
-// Kinds 28 to 32, 37 and 39 to 41: two operands, at a and b.
+// Kinds 29 to 32, 37 and 39 to 41: two operands, at a and b.
 use crate::Outcome;
 use crate::built;
 ghost use Prim.Native.Nat.{ℕ, _<_};
-ghost use Rattle.rules.specs.Types.{whole};
-ghost use Rattle.rules.specs.Kinds.{pairing, product, apply, plus, minus, interval};
+ghost use Rattle.rules.specs.Kinds.{product, apply, interval};
 ghost use Rattle.sets.specs.Pairs.{KnownFunction};
 ghost use Rattle.operations.specs.Outcomes.{SomeOperands, TwoReady, TwoDone};
-ghost use Rattle.operations.specs.Double.{MergeDone, NumberDone};
-
-pub fn pair(s: &mut [u64], a: usize, b: usize, top: usize) -> Outcome
-    requires { ⌜ TwoReady (now s) a b top ⌝ }
-    ensures { λ r. ⌜ TwoDone pairing (now (s .entry)) a b top (now (s .exit)) r ⌝ }
-{
-    built(products::pair(s, a, b, top))
-}
+ghost use Rattle.operations.specs.Parts.{MergeDone, sumKind, NumberDone};
 
 // 29 to 31: the members that are only in the left set (if left), in both (if both), only in the right (if right).
 pub fn merge(
@@ -74,28 +66,20 @@ fn number(x: u64) -> Outcome
     Outcome::Cell(arena::NUMBER + n)
 }
 
-pub fn plus(s: &[u64], a: usize, b: usize) -> Outcome
+// 39 and 40: the sum of two integers, or (if minus) their difference.
+pub fn sum(s: &[u64], a: usize, b: usize, minus: bool) -> Outcome
     requires { ⌜ SomeOperands (now s) a b ⌝ }
-    ensures { λ r. ⌜ ((top : ℕ) → TwoDone (plus whole) (now (s .entry)) a b top (now (s .entry)) r) ⌝ }
+    ensures { λ r. ⌜ ((top : ℕ) → TwoDone (sumKind minus) (now (s .entry)) a b top (now (s .entry)) r) ⌝ }
 {
     if !fitting::numbers(s, a, b) {
         return Outcome::Lacks(15);
     }
     let x = arena::low(s[a]);
     let y = arena::low(s[b]);
+    if minus {
+        return number(x + arena::CELL - y);
+    }
     number(x + y)
-}
-
-pub fn minus(s: &[u64], a: usize, b: usize) -> Outcome
-    requires { ⌜ SomeOperands (now s) a b ⌝ }
-    ensures { λ r. ⌜ ((top : ℕ) → TwoDone (minus whole) (now (s .entry)) a b top (now (s .entry)) r) ⌝ }
-{
-    if !fitting::numbers(s, a, b) {
-        return Outcome::Lacks(15);
-    }
-    let x = arena::low(s[a]);
-    let y = arena::low(s[b]);
-    number(x + arena::CELL - y)
 }
 
 pub fn interval(s: &mut [u64], a: usize, b: usize, top: usize) -> Outcome

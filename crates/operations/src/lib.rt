@@ -41,10 +41,10 @@ pub fn one(s: &mut [u64], kind: usize, a: usize, top: usize) -> Outcome
     ensures { λ r. ⌜ OneOf kind (now (s .entry)) a top (now (s .exit)) r ⌝ }
 {
     match kind {
-        27 => single::singleton(s, a, top),
+        27 => built(products::singleton(s, a, top)),
         33 => single::power(s, a, top),
-        35 => single::domain(s, a, top),
-        36 => single::range(s, a, top),
+        35 => single::side(s, a, top, false),
+        36 => single::side(s, a, top, true),
         38 => single::card(s, a),
         _ => single::choice(s, a),
     }
@@ -82,8 +82,8 @@ pub fn light(s: &[u64], kind: usize, a: usize, b: usize, known: bool) -> Outcome
 {
     match kind {
         37 => double::apply(s, a, b, known),
-        39 => double::plus(s, a, b),
-        _ => double::minus(s, a, b),
+        39 => double::sum(s, a, b, false),
+        _ => double::sum(s, a, b, true),
     }
 }
 
@@ -104,14 +104,14 @@ pub fn two(s: &mut [u64], kind: usize, a: usize, b: usize, top: usize) -> Outcom
     ensures { λ r. ⌜ TwoOf kind (now (s .entry)) a b top (now (s .exit)) r ⌝ }
 {
     match kind {
-        28 => double::pair(s, a, b, top),
+        28 => built(products::pair(s, a, b, top)),
         29 => double::merge(s, a, b, top, true, true, true),
         30 => double::merge(s, a, b, top, false, true, false),
         31 => double::merge(s, a, b, top, true, false, false),
         32 => double::product(s, a, b, top),
         37 => double::apply(s, a, b, false),
-        39 => double::plus(s, a, b),
-        40 => double::minus(s, a, b),
+        39 => double::sum(s, a, b, false),
+        40 => double::sum(s, a, b, true),
         _ => double::interval(s, a, b, top),
     }
 }

@@ -1,17 +1,11 @@
-// Kinds 27, 33, 35, 36, 38 and 43: one operand, at a.
+// Kinds 33, 35, 36, 38 and 43: one operand, at a.
 use crate::Outcome;
 use crate::built;
 ghost use Prim.Native.Nat.{ℕ};
-ghost use Rattle.rules.specs.Kinds.{singleton, power, dom, ran, card, choice};
+ghost use Rattle.rules.specs.Kinds.{power, card, choice};
 ghost use Rattle.operations.specs.Good.{SomeGood};
 ghost use Rattle.operations.specs.Outcomes.{OneReady, OneDone};
-
-pub fn singleton(s: &mut [u64], a: usize, top: usize) -> Outcome
-    requires { ⌜ OneReady (now s) a top ⌝ }
-    ensures { λ r. ⌜ OneDone singleton (now (s .entry)) a top (now (s .exit)) r ⌝ }
-{
-    built(products::singleton(s, a, top))
-}
+ghost use Rattle.operations.specs.Parts.{sideKind};
 
 pub fn power(s: &mut [u64], a: usize, top: usize) -> Outcome
     requires { ⌜ OneReady (now s) a top ⌝ }
@@ -23,24 +17,18 @@ pub fn power(s: &mut [u64], a: usize, top: usize) -> Outcome
     built(products::power(s, a, top))
 }
 
-pub fn domain(s: &mut [u64], a: usize, top: usize) -> Outcome
+// 35 and 36: the left parts of a set of pairs, or (if right) the right parts.
+pub fn side(s: &mut [u64], a: usize, top: usize, right: bool) -> Outcome
     requires { ⌜ OneReady (now s) a top ⌝ }
-    ensures { λ r. ⌜ OneDone dom (now (s .entry)) a top (now (s .exit)) r ⌝ }
+    ensures { λ r. ⌜ OneDone (sideKind right) (now (s .entry)) a top (now (s .exit)) r ⌝ }
 {
     if !fitting::is_relation(s, a) {
         return Outcome::Lacks(15);
+    }
+    if right {
+        return built(products::range(s, a, top));
     }
     built(products::domain(s, a, top))
-}
-
-pub fn range(s: &mut [u64], a: usize, top: usize) -> Outcome
-    requires { ⌜ OneReady (now s) a top ⌝ }
-    ensures { λ r. ⌜ OneDone ran (now (s .entry)) a top (now (s .exit)) r ⌝ }
-{
-    if !fitting::is_relation(s, a) {
-        return Outcome::Lacks(15);
-    }
-    built(products::range(s, a, top))
 }
 
 pub fn card(s: &[u64], a: usize) -> Outcome

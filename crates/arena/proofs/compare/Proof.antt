@@ -1,7 +1,5 @@
 -- `compare`: the cells agree so far; the first difference decides, and no value's cells begin another's.
-use Prim.Native.Nat.{_+_, _-_, _≤_, _<_}
-use native.Mathlib.Omega.{arith}
-use lib.ListN.{length}
+use Rattle.arena.proofs.Base.{_+_, _-_, _≤_, _<_, arith, length}
 use Rattle.arena.proofs.Standing.{Agree, end-above, first-inside, second-inside, found-less, found-greater, found-equal, agree-next}
 use Rattle.arena.proofs.compare.Statement.{statement}
 use Rattle.arena.proofs.compare.Tie as tie
@@ -25,19 +23,8 @@ first t = let q = lent t .pre in first-inside _ _ _ _ (q .0) (q .2) (t .loop-tes
 second : (t : Turn) → let q = lent t .args in q .b + t .before .loop .i < length (q .s .now)
 second t = let q = lent t .pre in second-inside _ _ _ _ _ (q .0) (q .1) (q .2) (t .loop-test .taken) (t .before .loop .inv .1)
 
-abbrev less : tie.Then1 Inv-loop μ-loop → Turn
-less c = c .before .before .before
-
 abbrev notLess : tie.Else1 Inv-loop μ-loop → Turn
 notLess c = c .before .before .before
-
-returns : tie.Need-returns Inv-loop μ-loop
-returns c =
-    let t = less c in found-less _ _ _ _ _ (lent t .pre .2) (t .before .loop .inv .1) (t .loop-test .taken) (c .if1 .taken)
-
-returns-2 : tie.Need-returns-2 Inv-loop μ-loop
-returns-2 c =
-    let t = notLess (c .before) in found-greater _ _ _ _ _ (lent t .pre .2) (t .before .loop .inv .1) (t .loop-test .taken) (c .if2 .taken)
 
 loop-again : tie.Need-loop-again Inv-loop μ-loop
 loop-again c =
@@ -46,6 +33,16 @@ loop-again c =
       omega (arith, t .loop-test .taken),
       agree-next (q .s .now) (q .a) (q .b) (t .before .loop .i) (t .before .loop .inv .1) (c .before .if1 .left) (c .if2 .left),
     )
+
+returns : tie.Need-returns Inv-loop μ-loop
+returns c =
+    let t = c .before .before .before in
+    found-less _ _ _ _ _ (lent t .pre .2) (t .before .loop .inv .1) (t .loop-test .taken) (c .if1 .taken)
+
+returns-2 : tie.Need-returns-2 Inv-loop μ-loop
+returns-2 c =
+    let t = notLess (c .before) in
+    found-greater _ _ _ _ _ (lent t .pre .2) (t .before .loop .inv .1) (t .loop-test .taken) (c .if2 .taken)
 
 pub compare-spec : {M : Type 1} → statement M
 compare-spec =

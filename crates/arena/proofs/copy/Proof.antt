@@ -1,6 +1,5 @@
 -- `copy`: the first i cells have been copied, and nothing else is changed.
-use Prim.Native.Nat.{_-_, _≤_}
-use native.Mathlib.Omega.{arith}
+use Rattle.arena.proofs.Base.{_-_, _≤_, arith}
 use Rattle.arena.specs.Code.{Copied}
 use Rattle.arena.proofs.Standing.{copied-start, copied-step, copied-end}
 use Rattle.arena.proofs.copy.Statement.{statement}

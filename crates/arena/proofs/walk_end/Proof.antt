@@ -1,9 +1,6 @@
 -- `walk_end`: the values that are still to come stand from i on, up to where the value ends.
-use borrow.Author.Needs.{needs}
+use Rattle.arena.proofs.Base.{needs, _+_, _-_, _<_, arith, length}
 use Rattle.arena.proofs.Standing.{Pending, pending-start, pending-step, pending-inside, pending-end, pending-few}
-use Prim.Native.Nat.{_+_, _-_, _<_}
-use native.Mathlib.Omega.{arith}
-use lib.ListN.{length}
 use Rattle.arena.specs.Code.{ValueAt, CellsFit}
 use Rattle.rules.specs.Values.{Value, weight}
 use Rattle.arena.proofs.walk_end.Statement.{statement}
@@ -27,19 +24,10 @@ pending : (t : Turn) → let q = lent t in
 pending t = let q = lent t .pre in t .before .loop .inv (q .value) (q .stands) (q .fits)
 
 inside : (t : Turn) → t .before .loop .i < length (lent t .args .s .now)
-inside t = pending-inside _ _ _ _ (pending t) (t .loop-test .taken) .0
+inside t = pending-inside _ _ _ _ (pending t) (t .loop-test .taken)
 
 abbrev turn : tie.After-parts Inv-loop μ-loop → Turn
 turn c = c .before .before
-
-add-left : tie.Need-add-left Inv-loop μ-loop
-add-left c =
-    let t = turn c in
-    omega (arith, pending-few _ _ _ _ (pending-step _ _ _ _ (pending t) (t .loop-test .taken)), c .parts .ensures .0)
-
-loop-again : tie.Need-loop-again Inv-loop μ-loop
-loop-again c = λ v h f.
-    let t = turn c in rw (c .parts .ensures .0) (pending-step _ _ _ _ (t .before .loop .inv v h f) (t .loop-test .taken))
 
 pub walk-end-spec : {M : Type 1} → statement M
 walk-end-spec =
@@ -47,13 +35,13 @@ walk-end-spec =
     (tie.spec
     Inv-loop
     μ-loop
-    (λ c. λ v h f. pending-start _ _ v h f)
+    (λ c v h f. pending-start _ _ v h f)
     (λ c. omega (arith, inside c))
     (λ c. inside (c .before))
     (λ c κs. search needs)
     (λ c. omega (arith, turn c .loop-test .taken))
-    add-left
+    (λ c. let t = turn c in omega (arith, pending-few _ _ _ _ (pending-step _ _ _ _ (pending t) (t .loop-test .taken)), c .parts .ensures .0))
     (λ c. omega (arith, inside (turn c)))
     (λ c. omega (arith, inside (turn c)))
-    loop-again
-    (λ c. λ v h f. pending-end _ _ _ _ (c .before .loop .inv v h f) (omega (arith, c .loop-test .left))))
+    (λ c v h f. let t = turn c in rw (c .parts .ensures .0) (pending-step _ _ _ _ (t .before .loop .inv v h f) (t .loop-test .taken)))
+    (λ c v h f. pending-end _ _ _ _ (c .before .loop .inv v h f) (omega (arith, c .loop-test .left))))

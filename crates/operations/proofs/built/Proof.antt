@@ -1,5 +1,5 @@
 -- `built`: 0 stands for a value that weighs too much.
-use Rattle.operations.proofs.OutcomeLaws.{ended-none, ended-some}
+use Rattle.operations.proofs.Common.{ended-none, ended-some}
 use Rattle.operations.proofs.built.Statement.{statement}
 use Rattle.operations.proofs.built.Tie as tie
 

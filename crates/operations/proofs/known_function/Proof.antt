@@ -1,19 +1,13 @@
 -- `known_function`: a relation whose pairs are seen to have different first parts.
-use borrow.Author.Tests.{not-false}
-use Rattle.rules.proofs.Basics.{absurd01}
-use Rattle.operations.proofs.FitLaws.{function-seen, some-relation}
-use Rattle.operations.proofs.GoodLaws.{good-typed-at}
+use Rattle.operations.proofs.Common.{absurd01, function-seen, some-relation, some-typed}
 use Rattle.operations.proofs.known_function.Statement.{statement}
 use Rattle.operations.proofs.known_function.Tie as tie
-
-abbrev lent : tie.Else1 → tie.Start
-lent c = c .before .before .before
 
 pub known-function-spec : {M : Type 1} → statement M
 known-function-spec =
     tie.close
     (tie.spec
-    (λ c κs. let p = c .before .pre in (p .value, good-typed-at (p .small) (p .stands)))
-    (λ c. λ e. absurd (absurd01 (cc)))
-    (λ c κs. some-relation (c .before .is-relation .ensures) (not-false _ (c .if1 .left)) (lent c .pre))
-    (λ c. let e = c .before in function-seen (e .before .is-relation .ensures) (not-false _ (e .if1 .left)) (c .flat-mapping .ensures)))
+    (λ c κs. some-typed (c .before .pre))
+    (λ c. λ e. absurd01 (cc))
+    (λ c κs. some-relation (c .before .is-relation .ensures) (c .if1 .left) (c .before .before .before .pre))
+    (λ c. let e = c .before in function-seen (e .before .is-relation .ensures) (e .if1 .left) (c .flat-mapping .ensures)))

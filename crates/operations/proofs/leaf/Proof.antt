@@ -1,6 +1,5 @@
 -- `leaf`: each code has its leaf. In a need, m is where it has been built.
-use Rattle.operations.proofs.LeafLaws.{elements-ready, elements-done, booleans-done}
-use borrow.Author.Needs.{needs}
+use Rattle.operations.proofs.Common.{elements-ready, elements-done, booleans-done, needs}
 use Rattle.operations.proofs.leaf.Statement.{statement}
 use Rattle.operations.proofs.leaf.Tie as tie
 

@@ -1,24 +1,10 @@
--- `test`: two numbers by their cells, any other operands by the codes of kinds 6 to 9. Landmarks: the operands that were lent, and that they are numbers.
-use borrow.Author.Needs.{needs}
-use Rattle.rules.specs.Types.{whole}
-use Rattle.rules.specs.Kinds.{equal, member, subset, atMost}
-use Rattle.operations.proofs.FitLaws.{ready-both}
-use Rattle.operations.proofs.DoubleLaws.{ready-first, ready-second}
-use Rattle.operations.proofs.TestLaws.{test-unlike, test-numbers, test-of, test-last}
+-- `test`: two numbers by their cells, any other operands by the codes of kinds 6 to 9. Landmark: the operands that were lent.
+use Rattle.operations.proofs.Common.{not, ap, needs, whole, equal, member, subset, atMost, ready-first, ready-second, ready-both, test-unlike, test-numbers, test-of, test-last}
 use Rattle.operations.proofs.test.Statement.{statement}
 use Rattle.operations.proofs.test.Tie as tie
 
 abbrev lent : tie.Then1 → tie.Start
 lent c = c .before .before .before
-
-abbrev numbers : tie.After-numbers2 → tie.Then1
-numbers c = c .before .before .before
-
-returns-5 : tie.Need-returns-5
-returns-5 c =
-    let n = c .match .rest in
-    let e = c .before in
-    test-last (n .0 .0 .1) (n .0 .1) (n .1) (test-unlike (atMost whole) (e .before .numbers .ensures) (e .if1 .left))
 
 pub test-spec : {M : Type 1} → statement M
 test-spec =
@@ -30,11 +16,12 @@ test-spec =
     (λ c. search needs)
     (λ c. ready-second (lent (c .before .before) .pre .1))
     (λ c κs. search needs)
-    (λ c. let t = numbers c in test-numbers _ (t .before .numbers .ensures) (t .if1 .taken) (c .numbers2 .ensures))
+    (λ c. let t = c .before .before .before in test-numbers _ (t .before .numbers .ensures) (ap not (t .if1 .taken)) (c .numbers2 .ensures))
     (λ c κs. search needs)
     (λ c κs. search needs)
     (λ c κs. search needs)
     (λ c. test-of equal (c .before .match .keys1) (c .equal .ensures))
     (λ c. test-of member (c .before .match .keys2) (c .member .ensures))
     (λ c. test-of subset (c .before .match .keys3) (c .subset .ensures))
-    returns-5)
+    (λ c. let n = c .match .rest in let e = c .before in
+    test-last (n .0 .0 .1) (n .0 .1) (n .1) (test-unlike (atMost whole) (e .before .numbers .ensures) (ap not (e .if1 .left)))))

@@ -1,11 +1,5 @@
 -- `two`: each code has its kind. In a need, m is where the operation has answered.
-use mathlib.Core.Bool.{false≢true}
-use mathlib.Core.Path.{refl}
-use Rattle.rules.specs.Types.{whole}
-use Rattle.rules.specs.Kinds.{pairing, union, inter, diff, product, apply, plus, minus}
-use Rattle.sets.proofs.MergedLaws.{union-merged, inter-merged, diff-merged}
-use Rattle.operations.proofs.DoubleLaws.{two-of, two-last}
-use borrow.Author.Needs.{needs}
+use Rattle.operations.proofs.Common.{false≢true, refl, needs, whole, pairing, union, inter, diff, product, apply, plus, minus, union-merged, inter-merged, diff-merged, ready-values, pair-done, two-of, two-last}
 use Rattle.operations.proofs.two.Statement.{statement}
 use Rattle.operations.proofs.two.Tie as tie
 
@@ -20,6 +14,7 @@ pub two-spec : {M : Type 1} → statement M
 two-spec =
     tie.close
     (tie.spec
+    (λ c κs. ready-values (c .before .before .before .pre))
     (λ c κs. search needs)
     (λ c κs. search needs)
     (λ c κs. search needs)
@@ -30,7 +25,8 @@ two-spec =
     (λ c κs. search needs)
     (λ c κs. search needs)
     (λ c. search needs)
-    (λ c. let m = c .before .before in two-of pairing (m .before .before .match .keys1) (m .pair .ensures))
+    (λ c. let d = c .before .before .before in let k = d .before .before in
+    two-of pairing (k .match .keys1) (pair-done (k .before .before .pre .operands) (d .pair .ensures) (c .built .ensures)))
     (λ c. search needs)
     (λ c. let m = c .before .before in two-of union (m .before .before .match .keys2) (m .merge .ensures _ (record { takes = refl; merges = union-merged })))
     (λ c. search needs)
@@ -42,8 +38,8 @@ two-spec =
     (λ c. search needs)
     (λ c. two-of apply (c .before .before .match .keys6) (c .apply .ensures _))
     (λ c. search needs)
-    (λ c. two-of (plus whole) (c .before .before .match .keys7) (c .plus .ensures _))
+    (λ c. two-of (plus whole) (c .before .before .match .keys7) (c .sum .ensures _))
     (λ c. search needs)
-    (λ c. two-of (minus whole) (c .before .before .match .keys8) (c .minus .ensures _))
+    (λ c. two-of (minus whole) (c .before .before .match .keys8) (c .sum2 .ensures _))
     (λ c. search needs)
     returns-9)

@@ -1,20 +1,10 @@
 -- `merge`: sets alike, merged. Landmark: the operands that were lent. In the needs, m is where the set has been made, e where the operands fit.
-use borrow.Author.Tests.{not-true, not-false}
-use borrow.Author.Needs.{needs}
-use Rattle.rules.specs.Rules.{t̂}
-use Rattle.operations.proofs.FitLaws.{ready-both}
-use Rattle.operations.proofs.DoubleLaws.{ready-sets, merge-unlike, merge-done}
+use Rattle.operations.proofs.Common.{needs, t̂, ready-both, ready-sets, merge-unlike, merge-done}
 use Rattle.operations.proofs.double.merge.Statement.{statement}
 use Rattle.operations.proofs.double.merge.Tie as tie
 
 abbrev lent : tie.After-alike-sets → tie.Start
 lent c = c .before .before .before
-
-returns-2 : tie.Need-returns-2
-returns-2 c =
-    let m = c .before .before .before in
-    let e = m .before .before in
-    merge-done (lent (e .before) .pre .operands) (e .before .alike-sets .ensures) (not-false _ (e .if1 .left)) (m .merge .ensures) (c .built .ensures)
 
 pub merge-spec : {M : Type 1} → statement M
 merge-spec =
@@ -22,8 +12,9 @@ merge-spec =
     (tie.spec
     (λ c κs. ready-both (c .before .before .pre .operands))
     (λ c. search needs)
-    (λ c. merge-unlike (c .before .alike-sets .ensures) (not-true _ (c .if1 .taken)))
-    (λ c κs. let e = c .before in ready-sets (lent (e .before) .pre) t̂ (e .before .alike-sets .ensures) (not-false _ (e .if1 .left)))
+    (λ c. merge-unlike (c .before .alike-sets .ensures) (c .if1 .taken))
+    (λ c κs. let e = c .before in ready-sets (lent (e .before) .pre) t̂ (e .before .alike-sets .ensures) (e .if1 .left))
     (λ c κs. search needs)
     (λ c. search needs)
-    returns-2)
+    (λ c. let m = c .before .before .before in let e = m .before .before in
+    merge-done (lent (e .before) .pre .operands) (e .before .alike-sets .ensures) (e .if1 .left) (m .merge .ensures) (c .built .ensures)))

@@ -1,8 +1,5 @@
 -- `number`: an integer of 32 bits, or 17.
-use mathlib.Core.Logic.{inl, inr}
-use native.Mathlib.Omega.{arith}
-use borrow.Author.Needs.{needs}
-use Rattle.operations.proofs.DoubleLaws.{number-far, number-near}
+use Rattle.operations.proofs.Common.{inl, inr, arith, needs, number-far, number-near}
 use Rattle.operations.proofs.double.number.Statement.{statement}
 use Rattle.operations.proofs.double.number.Tie as tie
 

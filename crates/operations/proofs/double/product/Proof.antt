@@ -1,21 +1,10 @@
 -- `product`: sets, multiplied. Landmark: the operands that were lent. In the needs, m is where the set has been made, e where the operands fit.
-use borrow.Author.Tests.{not-true, not-false}
-use borrow.Author.Needs.{needs}
-use Rattle.rules.specs.Kinds.{product}
-use Rattle.rules.specs.Rules.{û}
-use Rattle.operations.proofs.FitLaws.{ready-both}
-use Rattle.operations.proofs.DoubleLaws.{ready-sets, two-unlike, product-done}
+use Rattle.operations.proofs.Common.{needs, product, û, ready-both, ready-sets, two-unlike, product-done}
 use Rattle.operations.proofs.double.product.Statement.{statement}
 use Rattle.operations.proofs.double.product.Tie as tie
 
 abbrev lent : tie.After-sets → tie.Start
 lent c = c .before .before .before
-
-returns-2 : tie.Need-returns-2
-returns-2 c =
-    let m = c .before .before .before in
-    let e = m .before .before in
-    product-done (lent (e .before) .pre .operands) (e .before .sets .ensures) (not-false _ (e .if1 .left)) (m .product .ensures) (c .built .ensures)
 
 pub product-spec : {M : Type 1} → statement M
 product-spec =
@@ -23,8 +12,9 @@ product-spec =
     (tie.spec
     (λ c κs. ready-both (c .before .before .pre .operands))
     (λ c. search needs)
-    (λ c. two-unlike product (c .before .sets .ensures) (not-true _ (c .if1 .taken)))
-    (λ c κs. let e = c .before in ready-sets (lent (e .before) .pre) û (e .before .sets .ensures) (not-false _ (e .if1 .left)))
+    (λ c. two-unlike product (c .before .sets .ensures) (c .if1 .taken))
+    (λ c κs. let e = c .before in ready-sets (lent (e .before) .pre) û (e .before .sets .ensures) (e .if1 .left))
     (λ c κs. search needs)
     (λ c. search needs)
-    returns-2)
+    (λ c. let m = c .before .before .before in let e = m .before .before in
+    product-done (lent (e .before) .pre .operands) (e .before .sets .ensures) (e .if1 .left) (m .product .ensures) (c .built .ensures)))

@@ -1,6 +1,5 @@
 -- `scalar_cell`: the cell by the kind's code.
-use Rattle.operations.proofs.LeafLaws.{cell-element, cell-number, cell-truth}
-use borrow.Author.Needs.{needs}
+use Rattle.operations.proofs.Common.{cell-element, cell-number, cell-truth, needs}
 use Rattle.operations.proofs.leaves.scalar_cell.Statement.{statement}
 use Rattle.operations.proofs.leaves.scalar_cell.Tie as tie
 

@@ -1,9 +1,5 @@
 -- `card`: the number of members stands in the first cell of a set. Landmark: the operand that was lent.
-use borrow.Author.Tests.{not-true, not-false}
-use borrow.Author.Needs.{needs}
-use Rattle.rules.specs.Kinds.{card}
-use Rattle.operations.proofs.GoodLaws.{good-typed-at, good-inside}
-use Rattle.operations.proofs.SingleLaws.{one-unlike, card-done}
+use Rattle.operations.proofs.Common.{needs, card, some-typed, some-inside, one-unlike, card-done}
 use Rattle.operations.proofs.single.card.Statement.{statement}
 use Rattle.operations.proofs.single.card.Tie as tie
 
@@ -14,10 +10,10 @@ pub card-spec : {M : Type 1} → statement M
 card-spec =
     tie.close
     (tie.spec
-    (λ c κs. let p = c .before .pre in (p .value, good-typed-at (p .small) (p .stands)))
-    (λ c _. one-unlike card (c .before .is-set .ensures) (not-true _ (c .if1 .taken)))
+    (λ c κs. some-typed (c .before .pre))
+    (λ c _. one-unlike card (c .before .is-set .ensures) (c .if1 .taken))
     (λ c. search needs)
-    (λ c. let p = lent (c .before) .pre in good-inside (p .small) (p .stands))
+    (λ c. some-inside (lent (c .before) .pre))
     (λ c κs. search needs)
     (λ c. search needs)
-    (λ c _. let e = c .before .before in card-done (e .before .is-set .ensures) (not-false _ (e .if1 .left)) _ (c .low .ensures .0)))
+    (λ c _. let e = c .before .before in card-done (e .before .is-set .ensures) (e .if1 .left) _ (c .low .ensures .0)))

@@ -1,19 +1,10 @@
 -- `power`: the subsets of a set. Landmark: the operand that was lent. In the needs, m is where the set has been made, e where the operand fits.
-use borrow.Author.Tests.{not-true, not-false}
-use borrow.Author.Needs.{needs}
-use Rattle.rules.specs.Kinds.{power}
-use Rattle.operations.proofs.SingleLaws.{ready-typed, ready-set, one-unlike, power-done}
+use Rattle.operations.proofs.Common.{needs, power, ready-typed, ready-set, one-unlike, power-done}
 use Rattle.operations.proofs.single.power.Statement.{statement}
 use Rattle.operations.proofs.single.power.Tie as tie
 
 abbrev lent : tie.After-is-set → tie.Start
 lent c = c .before .before .before
-
-returns-2 : tie.Need-returns-2
-returns-2 c =
-    let m = c .before .before .before in
-    let e = m .before .before in
-    power-done (lent (e .before) .pre) (e .before .is-set .ensures) (not-false _ (e .if1 .left)) (m .power .ensures) (c .built .ensures)
 
 pub power-spec : {M : Type 1} → statement M
 power-spec =
@@ -21,8 +12,9 @@ power-spec =
     (tie.spec
     (λ c κs. ready-typed (c .before .before .pre))
     (λ c. search needs)
-    (λ c. one-unlike power (c .before .is-set .ensures) (not-true _ (c .if1 .taken)))
-    (λ c κs. let e = c .before in ready-set (lent (e .before) .pre) (e .before .is-set .ensures) (not-false _ (e .if1 .left)))
+    (λ c. one-unlike power (c .before .is-set .ensures) (c .if1 .taken))
+    (λ c κs. let e = c .before in ready-set (lent (e .before) .pre) (e .before .is-set .ensures) (e .if1 .left))
     (λ c κs. search needs)
     (λ c. search needs)
-    returns-2)
+    (λ c. let m = c .before .before .before in let e = m .before .before in
+    power-done (lent (e .before) .pre) (e .before .is-set .ensures) (e .if1 .left) (m .power .ensures) (c .built .ensures)))

@@ -1,5 +1,5 @@
 -- `numbers`: by the kind's code.
-use Rattle.operations.proofs.TestLaws.{numbers-equal, numbers-at-most, numbers-unlike}
+use Rattle.operations.proofs.Common.{numbers-equal, numbers-at-most, numbers-unlike}
 use Rattle.operations.proofs.tests.numbers.Statement.{statement}
 use Rattle.operations.proofs.tests.numbers.Tie as tie
 

@@ -1,12 +1,12 @@
--- Parts of the operations of two operands: sets merged, and integers with their range checked.
+-- Parts of the operations: which kind a flag picks, sets merged, and integers with their range checked.
 use Prim.Native.Nat.{ℕ, suc, _+_}
-use mathlib.Core.Bool.{Bool}
+use mathlib.Core.Bool.{Bool, cond}
 use mathlib.Core.List.{List, [], _∷_}
 use mathlib.Core.Path.{_≡_}
 use lib.IntN.{ℤ, pos, negsuc}
 use Rattle.rules.specs.Types.{whole}
 use Rattle.rules.specs.Values.{set, Values, members}
-use Rattle.rules.specs.Kinds.{Two}
+use Rattle.rules.specs.Kinds.{One, dom, ran, Two, plus, minus}
 use Rattle.rules.specs.Rules.{t̂, P̂, twoRule}
 use Rattle.rules.specs.Runs.{gives}
 use Rattle.rules.specs.Operations.{setOf, ranged, twoValue}
@@ -14,6 +14,14 @@ use Rattle.arena.specs.Code.{FineSet}
 use Rattle.sets.specs.Merged.{merged}
 use Rattle.operations.specs.declared.Outcome.{Outcome}
 use Rattle.operations.specs.Outcomes.{weighed, Gives, TwoDone}
+
+-- The range, or the domain.
+abbrev pub sideKind : Bool → One
+sideKind right = cond right ran dom
+
+-- The difference, or the sum.
+abbrev pub sumKind : Bool → Two
+sumKind less = cond less (minus whole) (plus whole)
 
 -- j merges two sets: it gives the members that are only in the left one (if left), in both (if both), only in the right one (if right).
 pub record IsMerge (j : Two) (left both right : Bool) : Type 0 where
