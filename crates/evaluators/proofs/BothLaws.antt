@@ -29,10 +29,10 @@ use Rattle.evaluators.specs.declared.Formed.{Formed}
 use Rattle.evaluators.specs.declared.Formed.the-variants.{Value as Placed, Stopped}
 use Rattle.evaluators.specs.declared.Held.the-variants.{Truth, Refused}
 use Rattle.evaluators.specs.Answers.{EndsWith, PlacedAs}
-use Rattle.evaluators.specs.Cycle.{conditionCells, Ready, Visited, valueAt, EvaluatesP, EvaluatesE}
+use Rattle.evaluators.specs.Cycle.{conditionCells, Ready, Visited, Asks, valueAt, EvaluatesP, EvaluatesE}
 use Rattle.evaluators.specs.Nodes.{fieldA, fieldB, IsExpr}
 use Rattle.evaluators.proofs.RunLaws.{then-done, then-refused, returns, fitting-on, fitting-refused}
-use Rattle.evaluators.proofs.NodeLaws.{Child, TwoFields, ready-child, ready-first, good-frame, sizes-small, formed-as, Asks, some-asks, asks-on}
+use Rattle.evaluators.proofs.NodeLaws.{Child, TwoFields, ready-child, ready-first, good-frame, sizes-small, formed-as, some-asks, asks-on}
 use Rattle.evaluators.proofs.NodeLaws.{visited-operands, visits, after, valueIn, formed-below, held-by}
 
 -- Both operands have values: that of the first, x, stands at a, below mid, and then that of the second, y, at b, below next.

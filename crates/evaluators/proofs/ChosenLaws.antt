@@ -20,15 +20,13 @@ use Rattle.products.proofs.GrowLaws.{made-set}
 use Rattle.reading.specs.declared.Refusal.{Refusal}
 use Rattle.evaluators.specs.declared.Held.{Held}
 use Rattle.evaluators.specs.declared.Held.the-variants.{Truth, Refused}
-use Rattle.evaluators.specs.declared.Formed.{Formed}
 use Rattle.evaluators.specs.declared.Formed.the-variants.{Value as Placed, Stopped}
-use Rattle.evaluators.specs.Answers.{EndsWith, HeldAs, SelectedAs, ChosenAs, ChosenBounds}
+use Rattle.evaluators.specs.Answers.{EndsWith, SelectedAs}
 use Rattle.evaluators.specs.Nodes.{fieldA, fieldC, IsPred, ChooseReady, Chooses}
-use Rattle.evaluators.specs.Cycle.{Ready, EvaluatesP, EachReady, EvaluatesChosen}
+use Rattle.evaluators.specs.Cycle.{Ready, Asked, bodyOf, EvaluatesP, EachReady, EvaluatesChosen}
 use Rattle.evaluators.proofs.RunLaws.{then-done, then-refused, returns}
-use Rattle.evaluators.proofs.NodeLaws.{Asks, held-as}
-use Rattle.evaluators.proofs.BodyLaws.{Asked, some-asked, bodyOf, First, none-left, Loop, loop-start, member, member-at, member-ends, loop-next, body-begins, body-ends}
-use Rattle.laws.proofs.CellsLaws.{count-weights, weight-some}
+use Rattle.evaluators.proofs.BodyLaws.{some-asked, First, none-left, Loop, loop-start, member, member-at, member-ends, loop-next, body-begins, body-ends, body-frame}
+use Rattle.laws.proofs.CellsLaws.{count-weights}
 
 -- What a member adds to those chosen.
 abbrev picked : Bool → Value → List Value
@@ -134,21 +132,19 @@ module _ {g : Value → M Bool} {whole : List Value} {budget steps : ℕ} {s : L
       record { chosen = h .taken; ends = rw (append-nil (h .taken)) at (h .goes {ws = []} {l = n} (rw z (returns [] counts))); stands = l .1; ending = l .0 }
 
 -- Before each turn of the loop.
-pub record Choosing (bs env s₀ : List ℕ) (top n from count left : ℕ) (s inner : List ℕ) (at more m to chosen : ℕ) : Type 0 where
-  pub frame : Same top s₀ s
-  pub loop : Loop bs env s₀ top n from count left (fieldA bs n) s inner at more m
+pub record Choosing (bs env s₀ : List ℕ) (top n from count left x : ℕ) (s inner : List ℕ) (at more m to chosen : ℕ) : Type 0 where
+  pub loop : Loop bs env s₀ top n from count left x s inner at more m
   pub on : (k : Asked bs env s₀ top n from count left) →
       Selecting (bodyOf k) (members (k .range)) (k .asks .budget) (k .asks .steps) s top (loop .rest k) (loop .now k) to chosen
 
 module _ {bs env s₀ : List ℕ} {top n from count left : ℕ} (pre : EachReady bs env s₀ top n from count 256) where
-  pub choosing-start : Choosing bs env s₀ top n from count left s₀ env from count left (top + 1) 0
-  choosing-start = record {
-    frame = same-refl top s₀;
-    loop = loop-start (fieldA bs n) pre;
+  pub choosing-start : (x : ℕ) → Choosing bs env s₀ top n from count left x s₀ env from count left (top + 1) 0
+  choosing-start x = record {
+    loop = loop-start x pre;
     on = λ k. selecting-start (bodyOf k) (k .asks .budget) (k .asks .steps) s₀ top (k .range) (omega (arith, pre .space (omega arith))) (k .listed .light);
   }
 
-  module _ {s inner : List ℕ} {at more m to chosen : ℕ} (h : Choosing bs env s₀ top n from count left s inner at more m to chosen) where
+  module _ {x : ℕ} {s inner : List ℕ} {at more m to chosen : ℕ} (h : Choosing bs env s₀ top n from count left x s inner at more m to chosen) where
     pub choosing-near : (top + 1 ≤ to) × (to ≤ top + 256) × (chosen ≤ 255)
     choosing-near = selecting-near (h .on (some-asked left pre))
 
@@ -156,89 +152,62 @@ module _ {bs env s₀ : List ℕ} {top n from count left : ℕ} (pre : EachReady
     choosing-few true = omega (arith, choosing-near .2)
     choosing-few false = omega (arith, choosing-near .2)
 
-    -- The answer, from what is answered where it is asked.
-    chosen-by : {s′ : List ℕ} {r : Formed} → Same top s₀ s′ → ChosenBounds top r → ((k : Asked bs env s₀ top n from count left) →
-        ChosenAs (select (bodyOf k) (members (k .range)) (k .asks .steps)) (k .asks .budget) s′ top r) →
-        EvaluatesChosen bs env s₀ top n from count left s′ r
-    chosen-by e b f = record {
-      frame = e;
-      bounds = b;
-      answer = λ d ρ budget steps vs deep c binds l.
-          let i : Asks _ _ _ _ _ _ = record { depth = d; values = ρ; budget = budget; steps = steps; deep = deep; counts = c; binds = binds } in
-          f (record { asks = i; range = vs; listed = l });
-    }
-
     -- No member is left.
     pub choosing-end : more ≡ 0 → EvaluatesChosen bs env s₀ top n from count left (setAt s top (21474836480 + chosen)) (Placed top to m)
     choosing-end z =
         let u = h .loop in
-        chosen-by
-        (record {
-          same = λ i p. getD-set-other s top i (21474836480 + chosen) 0 (λ e. omega arith) ∙ h .frame .same i p;
-          kept = length-set s top (21474836480 + chosen) ∙ h .frame .kept;
-        })
-        (omega (arith, choosing-near .0), choosing-near .1)
-        (λ k. selecting-end (h .on k) (none-left (u .rest k) (u .listed k) z) (u .counts k) (omega (arith, pre .space (omega arith), h .frame .kept)))
+        record {
+          frame = record {
+            same = λ i p. getD-set-other s top i (21474836480 + chosen) 0 (λ e. omega arith) ∙ u .frame .same i p;
+            kept = length-set s top (21474836480 + chosen) ∙ u .frame .kept;
+          };
+          bounds = (omega (arith, choosing-near .0), choosing-near .1);
+          answer = λ k.
+              selecting-end (h .on k) (none-left (u .rest k) (u .listed k) z) (u .counts k) (omega (arith, pre .space (omega arith), u .frame .kept));
+        }
 
-    low : top ≤ to
-    low = omega (arith, choosing-near .0)
+    -- A turn: the identifier x and the body c, as they have been read off the node.
+    module _ (some : 0 < more) (name : x ≡ fieldA bs n) {c : ℕ} (body : c ≡ fieldC bs n) where
+      low : top ≤ to
+      low = omega (arith, choosing-near .0)
 
-    module _ (some : 0 < more) where
-      abbrev next : (k : Asked bs env s₀ top n from count left) → First (tableOf bs .sizes) s top at more (h .loop .rest k)
-      next k = member pre (h .frame) (h .loop) some k
+      pub choosing-ready : Ready bs (setAt inner x at) s to c × IsPred bs c
+      choosing-ready = body-begins pre (h .loop) some low name body (λ _. omega (arith, pre .space (omega arith), choosing-near .1, h .loop .frame .kept))
 
-      pub choosing-below : at < top
-      choosing-below = let u = next (some-asked left pre) in omega (arith, u .here .below, weight-some (u .value))
+      module _ {s₁ : List ℕ} {r : Held} (e : EvaluatesP bs (setAt inner x at) s to c m s₁ r) where
+        abbrev next : (k : Asked bs env s₀ top n from count left) → First (tableOf bs .sizes) s top at more (h .loop .rest k)
+        next k = member pre (h .loop) some k
 
-      -- The identifier x and the body c, as they have been read off the node.
-      module _ {x c : ℕ} (name : x ≡ fieldA bs n) (body : c ≡ fieldC bs n) where
-        pub choosing-ready : Ready bs (setAt inner x at) s to c × IsPred bs c
-        choosing-ready =
-            rw name (body-begins pre (h .frame) (h .loop) some low refl body
-            (λ _. omega (arith, pre .space (omega arith), choosing-near .1, h .frame .kept)))
+        -- The body is refused.
+        pub choosing-refused : {p : Refusal} {l : ℕ} → r ≡ Refused p l → EvaluatesChosen bs env s₀ top n from count left s₁ (Stopped p l)
+        unfolding select
+        choosing-refused {p} {l} is = record {
+          frame = body-frame pre (h .loop) some low name body e;
+          bounds = tt;
+          answer = λ k. h .on k .stops (rw (next k .is) (then-refused _ (body-ends pre (h .loop) some low name body e (Refused p l) is k)));
+        }
 
-        module _ {s₁ : List ℕ} {r : Held} (e : EvaluatesP bs (setAt inner x at) s to c m s₁ r) where
-          -- What the body answers at the member.
-          answers : (r₀ : Held) → r ≡ r₀ → (k : Asked bs env s₀ top n from count left) →
-              HeldAs (bodyOf k (next k .value) (h .loop .now k)) (k .asks .budget) r₀
-          answers r₀ is k = body-ends pre (h .frame) (h .loop) some low refl body r₀ (rw name at (held-as refl is e)) k
+        pub choosing-some : SomeAt s₁ at
+        choosing-some = member-at pre (h .loop) some low name body e
 
-          -- It is refused.
-          pub choosing-refused : {p : Refusal} {l : ℕ} → r ≡ Refused p l → EvaluatesChosen bs env s₀ top n from count left s₁ (Stopped p l)
-          unfolding select
-          choosing-refused {p} {l} is =
-              chosen-by (same-trans top to s₀ s s₁ (h .frame) (e .frame) low) tt
-              (λ k. h .on k .stops (rw (next k .is) (then-refused _ (answers (Refused p l) is k))))
+        -- It is true or false, and the member ends at `end`.
+        module _ {end : ℕ} (ends : EndsAt s₁ at end) where
+          pub choosing-choose : ChooseReady s₁ at end to
+          choosing-choose =
+              let u = next (some-asked left pre) in
+              let q = member-ends pre (h .loop) some low name body e ends (some-asked left pre) in
+              let o = h .on (some-asked left pre) in
+              record {
+                forward = omega arith;
+                behind = omega (arith, u .here .below, low);
+                room = omega (arith, pre .space (omega arith), h .loop .frame .kept, e .frame .kept, o .ends, o .light, ap weights (u .is));
+              }
 
-          -- It is true or false, and the members stand as before.
-          below : Same top s s₁
-          below = record { same = λ i p. e .frame .same i (omega (arith, low)); kept = e .frame .kept }
-
-          pub choosing-some : SomeAt s₁ at
-          choosing-some = member-at pre (h .frame) (h .loop) some below
-
-          module _ {end : ℕ} (ends : EndsAt s₁ at end) where
-            pub choosing-choose : ChooseReady s₁ at end to
-            choosing-choose =
-                let u = next (some-asked left pre) in
-                let q = member-ends pre (h .frame) (h .loop) some below ends (some-asked left pre) in
-                let o = h .on (some-asked left pre) in
-                record {
-                  forward = omega arith;
-                  behind = omega (arith, u .here .below, low);
-                  room = omega (arith, pre .space (omega arith), h .frame .kept, e .frame .kept, o .ends, o .light, ap weights (u .is));
-                }
-
-            pub choosing-next : {yes : Bool} {l : ℕ} {s₂ : List ℕ} {q : ℕ} → r ≡ Truth yes l → Chooses s₁ at end yes to s₂ q →
-                Choosing bs env s₀ top n from count left s₂ (setAt inner x at) end (more - 1) l q (chosen + boolByte yes)
-            choosing-next {yes} {l} {s₂} {q} is f =
-                let over : Same to s s₂ = same-trans to to s s₁ s₂ (e .frame) (f .frame) (omega arith) in
-                let under : Same top s s₂ = record { same = λ i p. over .same i (omega (arith, low)); kept = over .kept } in
-                let end-at = member-ends pre (h .frame) (h .loop) some below ends in
-                rw name (record {
-                  frame = same-trans top to s₀ s s₂ (h .frame) over low;
-                  loop = loop-next pre (h .frame) (h .loop) some under end-at (answers (Truth yes l) is);
-                  on = λ k.
-                      selecting-turn (h .on k) (next k) s₁ end yes s₂ q (omega (arith, pre .space (omega arith), h .frame .kept))
-                      (e .frame) (end-at k) (answers (Truth yes l) is k) f;
-                })
+          pub choosing-next : {yes : Bool} {l : ℕ} {s₂ : List ℕ} {q : ℕ} → r ≡ Truth yes l → Chooses s₁ at end yes to s₂ q →
+              Choosing bs env s₀ top n from count left x s₂ (setAt inner x at) end (more - 1) l q (chosen + boolByte yes)
+          choosing-next {yes} {l} {s₂} {q} is f = record {
+            loop = loop-next pre (h .loop) some low name body e ends yes is (f .frame);
+            on = λ k.
+                selecting-turn (h .on k) (next k) s₁ end yes s₂ q (omega (arith, pre .space (omega arith), h .loop .frame .kept)) (e .frame)
+                (member-ends pre (h .loop) some low name body e ends k) (body-ends pre (h .loop) some low name body e (Truth yes l) is k) f;
+          }

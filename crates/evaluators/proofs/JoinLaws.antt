@@ -19,11 +19,11 @@ use Rattle.reading.specs.declared.Refusal.{Refusal}
 use Rattle.evaluators.specs.declared.Held.{Held}
 use Rattle.evaluators.specs.declared.Held.the-variants.{Truth, Refused}
 use Rattle.evaluators.specs.Answers.{EndsWith, HeldAs}
-use Rattle.evaluators.specs.Cycle.{Ready, Visited, EvaluatesP}
+use Rattle.evaluators.specs.Cycle.{Ready, Visited, Asks, EvaluatesP}
 use Rattle.evaluators.specs.Nodes.{fieldA, fieldB, IsPred, DecidesBy, JoinedBy}
 use Rattle.evaluators.proofs.RunLaws.{then-done, then-refused, returns}
-use Rattle.evaluators.proofs.NodeLaws.{Child, ready-child, ready-first, visited-child, held-as}
-use Rattle.evaluators.proofs.NodeLaws.{Asks, asks-on, visits, after, holdsIn, held-below, held-by}
+use Rattle.evaluators.proofs.NodeLaws.{Child, ready-child, visited-child, held-as}
+use Rattle.evaluators.proofs.NodeLaws.{asks-on, visits, after, holdsIn, held-below, held-by}
 
 -- Where the first truth of a join decides, and what.
 first-decides : (p : Bool) → (rules.decides and p ≡ cond (not p) (some false) nothing) × (rules.decides or p ≡ cond p (some true) nothing) ×
@@ -79,9 +79,6 @@ module _ {bs env s : List ℕ} {top k n left : ℕ} (v : Visited bs env s top k 
     {a : ℕ} (q : a ≡ fieldA bs n) where
   pub join-child : Child bs n a predicate
   join-child = visited-child v (join j) e predicate 0 a (omega arith) (omega arith) refl q
-
-  pub join-begins : Ready bs env s top a × IsPred bs a
-  join-begins = (ready-first (v .ready) join-child, join-child .is)
 
   -- It has been evaluated.
   module _ {s′ : List ℕ} {r : Held} (h : EvaluatesP bs env s top a (left - 1) s′ r) where

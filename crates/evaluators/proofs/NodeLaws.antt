@@ -35,7 +35,7 @@ use Rattle.evaluators.specs.declared.Formed.the-variants.{Value as Place
 use Rattle.reading.specs.declared.Refusal.{Refusal}
 use Rattle.evaluators.specs.Answers.{EndsWith, HeldAs, FormedAs, FormedBounds, SettledAs, RefusalOf, StopOf}
 use Rattle.evaluators.specs.Nodes.{fieldA, fieldB}
-use Rattle.evaluators.specs.Cycle.{conditionCells, expressionCells, cellsFor, Binds, Ready, Visited, holdsAt, valueAt, EvaluatesP, EvaluatesE, Settles}
+use Rattle.evaluators.specs.Cycle.{conditionCells, expressionCells, cellsFor, Binds, Ready, Visited, Asks, holdsAt, valueAt, EvaluatesP, EvaluatesE, Settles}
 use Rattle.evaluators.proofs.RunLaws.{visited, endOf}
 
 -- The sizes of a readable table are small.
@@ -209,16 +209,6 @@ module _ {bs env s : List ℕ} {top k n left : ℕ} (v : Visited bs env s top k 
     right = visited-child expression 1 (fieldB bs n) (omega arith) (rw q (omega arith)) (rw q) refl;
   }
 
--- What an answer at a node is asked for: a depth of the trees below it, values of the identifiers, and a budget with the visits made.
-pub record Asks (bs env s : List ℕ) (top n left : ℕ) : Type 0 where
-  pub depth : ℕ
-  pub values : Env
-  pub budget : ℕ
-  pub steps : ℕ
-  pub deep : n ≤ depth
-  pub counts : steps + left ≡ budget
-  pub binds : Binds bs s top env values
-
 -- There is something to ask.
 abbrev pub some-asks : {bs env s : List ℕ} {top m : ℕ} (n left : ℕ) → Ready bs env s top m → Asks bs env s top n left
 some-asks n left r = record { depth = n; values = r .values; budget = left; steps = 0; deep = omega arith; counts = omega arith; binds = r .binds }
@@ -235,6 +225,11 @@ asks-on k {mid = mid} t e le c = record {
   counts = c;
   binds = binds-frame mid e le (k .binds);
 }
+
+-- What the evaluator of a child asks, where the measures are those of the cycle: 5 times the node, and w that is left to do there.
+pub child-asks : {bs env s : List ℕ} {top n m t : ℕ} {c : Category} (w : ℕ) → w ≤ 5 → 5 * n + 1 ≡ t → Ready bs env s top n → Child bs n m c →
+    (5 * m + w < t) × (Ready bs env s top m × CategoryIs c (kindAt (tableOf bs .nodes) m))
+child-asks w l e r d = (omega (arith, d .below), (ready-first r d, d .is))
 
 -- The visit of the node is within the budget; and what is asked after it.
 module _ {bs env s : List ℕ} {top k n left : ℕ} (v : Visited bs env s top k n left) (i : Asks bs env s top n left) where

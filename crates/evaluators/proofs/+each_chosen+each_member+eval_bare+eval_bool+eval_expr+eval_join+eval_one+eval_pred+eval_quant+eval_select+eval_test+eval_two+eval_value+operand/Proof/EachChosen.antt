@@ -14,11 +14,12 @@ use Rattle.evaluators.proofs.+each_chosen+each_member+eval_bare+eval_bo
 use Rattle.evaluators.proofs.SafeLaws.{one-less, binder-node, entry-below, entry-scaled, above-fits, top-scaled, top-inside, written-kept}
 use Rattle.evaluators.proofs.NodeLaws.{stop-is}
 use Rattle.evaluators.proofs.FormLaws.{chosen-as}
-use Rattle.evaluators.proofs.ChosenLaws.{Choosing, choosing-start, choosing-near, choosing-few, choosing-end, choosing-below, choosing-ready, choosing-refused, choosing-some, choosing-choose, choosing-next}
+use Rattle.evaluators.proofs.BodyLaws.{member-low}
+use Rattle.evaluators.proofs.ChosenLaws.{Choosing, choosing-start, choosing-near, choosing-few, choosing-end, choosing-ready, choosing-refused, choosing-some, choosing-choose, choosing-next}
 
 abbrev Inv : lts.InvT-loop
 Inv table env s₀ top node from count left x body inner₀ at₀ more₀ n₀ to₀ chosen₀ s inner at more n to chosen =
-    Choosing table env s₀ top node from count left s inner at more n to chosen
+    Choosing table env s₀ top node from count left x s inner at more n to chosen
 
 abbrev μ : lts.MeasureT-loop
 μ table env s₀ top node from count left x body inner₀ at₀ more₀ n₀ to₀ chosen₀ s inner at more n to chosen = more
@@ -50,8 +51,7 @@ module _ (t : ℕ) where
 
   cast-inner : Here lts.Need-cast-inner
   cast-inner c =
-      let l = c .before in let v = lent (words l .before) in
-      omega (arith, choosing-below (v .pre .1) (l .loop .inv) (c .loop-test .taken), v .pre .1 .space (omega arith), v .pre .1 .ready .small)
+      let l = c .before in omega (arith, member-low (lent (words l .before) .pre .1) (l .loop .inv .loop) (c .loop-test .taken))
 
   eval-pred-requires : Here lts.Need-eval-pred-requires
   eval-pred-requires c κs =
@@ -96,13 +96,13 @@ module _ (t : ℕ) where
       (λ c κs. (binder-node (c .before .before .pre .1), lit< tt))
       (λ c κs. (binder-node (lent c .pre .1), lit< tt))
       (λ c. above-fits (lent (c .before .before) .pre .1))
-      (λ c. choosing-start (lent (c .before .before) .pre .1))
+      (λ c. choosing-start (lent (c .before .before) .pre .1) _)
       cast-inner
       (λ c. let f = words (c .before) .before in entry-scaled (f .node-field .ensures) (lent f .pre .1 .name))
       (λ c. let f = words (c .before) .before in entry-below (f .node-field .ensures) (lent f .pre .1 .name))
       eval-pred-requires
       (λ c. c .match .keys1) (λ c. c .match .keys2) (λ c κs. tt)
-      (λ c. let k = c .before in let p = ran (k .before .before) in p .eval-pred .kept .1 .1 .0 ∙ turn p .before .loop .inv .frame .kept)
+      (λ c. let k = c .before in let p = ran (k .before .before) in p .eval-pred .kept .1 .1 .0 ∙ turn p .before .loop .inv .loop .frame .kept)
       returns
       end-of-requires
       choose-requires
@@ -113,6 +113,6 @@ module _ (t : ℕ) where
       loop-again
       (λ c. let l = c .before in omega (arith, choosing-near (lent (words l .before) .pre .1) (l .loop .inv) .2))
       (λ c. top-scaled (lent (words (c .before) .before) .pre .1))
-      (λ c. let l = c .before in top-inside (lent (words l .before) .pre .1) (l .loop .inv .frame))
-      (λ c. written-kept _ (c .before .loop .inv .frame))
+      (λ c. let l = c .before in top-inside (lent (words l .before) .pre .1) (l .loop .inv .loop .frame))
+      (λ c. written-kept _ (c .before .loop .inv .loop .frame))
       (λ c. let l = c .before in choosing-end (lent (words l .before) .pre .1) (l .loop .inv) (omega (arith, c .loop-test .left)))

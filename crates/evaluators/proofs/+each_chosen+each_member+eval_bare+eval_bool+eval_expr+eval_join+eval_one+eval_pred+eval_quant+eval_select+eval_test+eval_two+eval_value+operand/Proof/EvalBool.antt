@@ -10,8 +10,8 @@ use Rattle.products.proofs.put_cell.Reads as put-cell
 use Rattle.evaluators.proofs.stop_of.Reads as stop-of
 use Rattle.evaluators.proofs.+each_chosen+each_member+eval_bare+eval_bool+eval_expr+eval_join+eval_one+eval_pred+eval_quant+eval_select+eval_test+eval_two+eval_value+operand.Proof.Base.{Over, eval-bool, eval-pred}
 use Rattle.evaluators.proofs.SafeLaws.{ready-node, cell-room}
-use Rattle.evaluators.proofs.NodeLaws.{held-as, formed-as, stop-is}
-use Rattle.evaluators.proofs.FormLaws.{byte-small, bool-child, bool-builds, bool-begins, bool-fails, bool-evaluates}
+use Rattle.evaluators.proofs.NodeLaws.{child-asks, held-as, formed-as, stop-is}
+use Rattle.evaluators.proofs.FormLaws.{byte-small, bool-child, bool-builds, bool-fails, bool-evaluates}
 
 module _ (t : ℕ) where
   abbrev claims : lts.Claims
@@ -28,11 +28,6 @@ module _ (t : ℕ) where
 
   abbrev ran : Here lts.After-slice-known2 → Here lts.After-eval-pred
   ran c = c .before .before
-
-  eval-pred-requires : Here lts.Need-eval-pred-requires
-  eval-pred-requires c κs =
-      let f = c .before in let v = lent f in
-      (omega (arith, v .pre .0, bool-child (v .pre .1) (f .node-field .ensures) .below), bool-begins (v .pre .1) (f .node-field .ensures))
 
   returns : Here lts.Need-returns
   returns c =
@@ -54,7 +49,7 @@ module _ (t : ℕ) where
       lts.spec claims (eval-bool .at t) (eval-bool .post)
       (λ c κs. (ready-node (c .before .before .pre .1 .ready), lit< tt))
       (λ c. lent (c .before) .pre .1 .unspent)
-      eval-pred-requires
+      (λ c κs. let f = c .before in let p = lent f .pre in child-asks 3 (omega arith) (p .0) (p .1 .ready) (bool-child (p .1) (f .node-field .ensures)))
       (λ c. c .match .keys1) (λ c. c .match .keys2) (λ c κs. tt)
       (λ c. let k = c .before in ran (k .before .before) .eval-pred .kept .1 .1 .0)
       returns

@@ -11,8 +11,8 @@ use Rattle.evaluators.proofs.joined.Reads as joined
 use Rattle.table.proofs.node_field.Reads as field
 use Rattle.evaluators.proofs.+each_chosen+each_member+eval_bare+eval_bool+eval_expr+eval_join+eval_one+eval_pred+eval_quant+eval_select+eval_test+eval_two+eval_value+operand.Proof.Base.{Over, eval-join, eval-pred}
 use Rattle.evaluators.proofs.SafeLaws.{ready-node}
-use Rattle.evaluators.proofs.NodeLaws.{visited-child}
-use Rattle.evaluators.proofs.JoinLaws.{join-child, join-begins, join-stays, join-short, join-ready, join-stays-2, join-both}
+use Rattle.evaluators.proofs.NodeLaws.{child-asks, visited-child}
+use Rattle.evaluators.proofs.JoinLaws.{join-child, join-stays, join-short, join-ready, join-stays-2, join-both}
 
 module _ (t : ℕ) where
   abbrev claims : lts.Claims
@@ -44,12 +44,6 @@ module _ (t : ℕ) where
 
   abbrev ran₂ : Here lts.After-slice-known3 → Here lts.After-eval-pred2
   ran₂ c = c .before .before
-
-  eval-pred-requires : Here lts.Need-eval-pred-requires
-  eval-pred-requires c κs =
-      let f = c .before in let p = lent f .pre .1 in
-      let d = join-child (p .0) (p .1 .0) (p .1 .1) (f .node-field .ensures) in
-      (omega (arith, lent f .pre .0, d .below), join-begins (p .0) (p .1 .0) (p .1 .1) (f .node-field .ensures))
 
   returns : Here lts.Need-returns
   returns c =
@@ -89,7 +83,8 @@ module _ (t : ℕ) where
       lts.spec claims (eval-join .at t) (eval-join .post)
       (λ c κs. (ready-node (c .before .before .pre .1 .0 .ready), lit< tt))
       (λ c. lent (c .before) .pre .1 .0 .unspent)
-      eval-pred-requires
+      (λ c κs. let f = c .before in let p = lent f .pre in
+      child-asks 3 (omega arith) (p .0) (p .1 .0 .ready) (join-child (p .1 .0) (p .1 .1 .0) (p .1 .1 .1) (f .node-field .ensures)))
       (λ c. c .match .keys1) (λ c. c .match .keys2)
       (λ c. ran (c .before .before) .eval-pred .kept .1 .1 .0)
       returns
