@@ -49,10 +49,6 @@ module _ (t : ℕ) where
   abbrev ended : Here lts.After-choose → Here lts.After-end-of
   ended c = c .before .before
 
-  cast-inner : Here lts.Need-cast-inner
-  cast-inner c =
-      let l = c .before in omega (arith, member-low (lent (words l .before) .pre .1) (l .loop .inv .loop) (c .loop-test .taken))
-
   eval-pred-requires : Here lts.Need-eval-pred-requires
   eval-pred-requires c κs =
       let w = c .before .before in let g = words (w .before) in let v = lent (g .before) in (
@@ -79,11 +75,6 @@ module _ (t : ℕ) where
       choosing-choose (lent (g .before) .pre .1) (w .before .loop .inv) (w .loop-test .taken) (g .before .node-field .ensures)
       (g .node-field2 .ensures) (p .eval-pred .ensures) (o .end-of .ensures)
 
-  add-chosen : Here lts.Need-add-chosen
-  add-chosen c =
-      let h = told (ended (c .before .before)) in let l = turn (ran (h .before .before)) .before in
-      record { fits = choosing-few (lent (words l .before) .pre .1) (l .loop .inv) (h .held .given .0 .0) }
-
   loop-again : Here lts.Need-loop-again
   loop-again c =
       let o = ended (c .before .before) in let h = told o in let p = ran (h .before .before) in let w = turn p in let g = words (w .before) in
@@ -97,7 +88,7 @@ module _ (t : ℕ) where
       (λ c κs. (binder-node (lent c .pre .1), lit< tt))
       (λ c. above-fits (lent (c .before .before) .pre .1))
       (λ c. choosing-start (lent (c .before .before) .pre .1) _)
-      cast-inner
+      (λ c. let l = c .before in omega (arith, member-low (lent (words l .before) .pre .1) (l .loop .inv .loop) (c .loop-test .taken)))
       (λ c. let f = words (c .before) .before in entry-scaled (f .node-field .ensures) (lent f .pre .1 .name))
       (λ c. let f = words (c .before) .before in entry-below (f .node-field .ensures) (lent f .pre .1 .name))
       eval-pred-requires
@@ -107,7 +98,8 @@ module _ (t : ℕ) where
       end-of-requires
       choose-requires
       (λ c. tt)
-      add-chosen
+      (λ c. let h = told (ended (c .before .before)) in let l = turn (ran (h .before .before)) .before in
+      record { fits = choosing-few (lent (words l .before) .pre .1) (l .loop .inv) (h .held .given .0 .0) })
       (λ c. turn (ran (told (ended (c .before .before)) .before .before)) .loop-test .taken)
       (λ c. one-less (turn (ran (told (ended (c .before .before)) .before .before)) .loop-test .taken))
       loop-again

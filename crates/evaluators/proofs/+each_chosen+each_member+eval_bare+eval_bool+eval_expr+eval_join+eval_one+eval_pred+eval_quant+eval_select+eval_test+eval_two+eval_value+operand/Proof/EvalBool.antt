@@ -29,21 +29,6 @@ module _ (t : ℕ) where
   abbrev ran : Here lts.After-slice-known2 → Here lts.After-eval-pred
   ran c = c .before .before
 
-  returns : Here lts.Need-returns
-  returns c =
-      let k = c .before in let e = ran (k .before .before) in let f = word e in let q = k .enum-told .given .1 in
-      formed-as refl (stop-is q (c .stop-of .ensures)) (bool-fails (lent f .pre .1) (f .node-field .ensures) (held-as refl q (e .eval-pred .ensures)))
-
-  put-cell-requires : Here lts.Need-put-cell-requires
-  put-cell-requires c κs =
-      let m = c .before .before in let e = ran (m .before .before) in let f = word e in
-      omega (arith, cell-room (lent f .pre .1 .ready) (bool-builds (lent f .pre .1) (f .node-field .ensures)) (e .eval-pred .ensures .frame))
-
-  returns-2 : Here lts.Need-returns-2
-  returns-2 c =
-      let p = c .before .before in let m = p .before .before .before in let e = ran (m .before .before) in let f = word e in
-      bool-evaluates (lent f .pre .1) (f .node-field .ensures) (held-as refl (m .held .given .1) (e .eval-pred .ensures)) (p .put-cell .ensures)
-
   pub closed : {M : Type 1} → lts.Closed claims (eval-bool .at t) (eval-bool .post) M
   closed =
       lts.spec claims (eval-bool .at t) (eval-bool .post)
@@ -52,9 +37,12 @@ module _ (t : ℕ) where
       (λ c κs. let f = c .before in let p = lent f .pre in child-asks 3 (omega arith) (p .0) (p .1 .ready) (bool-child (p .1) (f .node-field .ensures)))
       (λ c. c .match .keys1) (λ c. c .match .keys2) (λ c κs. tt)
       (λ c. let k = c .before in ran (k .before .before) .eval-pred .kept .1 .1 .0)
-      returns
+      (λ c. let k = c .before in let e = ran (k .before .before) in let f = word e in let q = k .enum-told .given .1 in
+      formed-as refl (stop-is q (c .stop-of .ensures)) (bool-fails (lent f .pre .1) (f .node-field .ensures) (held-as refl q (e .eval-pred .ensures))))
       (λ c. tt)
       (λ c. omega (arith, byte-small (c .before .before .held .given .0 .0)))
-      put-cell-requires
+      (λ c κs. let m = c .before .before in let e = ran (m .before .before) in let f = word e in
+      omega (arith, cell-room (lent f .pre .1 .ready) (bool-builds (lent f .pre .1) (f .node-field .ensures)) (e .eval-pred .ensures .frame)))
       (λ c. let p = c .before .before in let m = p .before .before .before in p .put-cell .kept .0 ∙ ran (m .before .before) .eval-pred .kept .1 .1 .0)
-      returns-2
+      (λ c. let p = c .before .before in let m = p .before .before .before in let e = ran (m .before .before) in let f = word e in
+      bool-evaluates (lent f .pre .1) (f .node-field .ensures) (held-as refl (m .held .given .1) (e .eval-pred .ensures)) (p .put-cell .ensures))

@@ -45,11 +45,6 @@ module _ (t : ℕ) where
   abbrev ran₂ : Here lts.After-slice-known3 → Here lts.After-eval-pred2
   ran₂ c = c .before .before
 
-  returns : Here lts.Need-returns
-  returns c =
-      let e = ran (c .before .before) in let p = lent (word e) .pre .1 in
-      join-stays (p .0) (p .1 .0) (p .1 .1) (word e .node-field .ensures) (e .eval-pred .ensures) (c .enum-told .given .1)
-
   returns-2 : Here lts.Need-returns-2
   returns-2 c =
       let k = c .before in let e = first k in let p = lent (word e) .pre .1 in
@@ -87,7 +82,8 @@ module _ (t : ℕ) where
       child-asks 3 (omega arith) (p .0) (p .1 .0 .ready) (join-child (p .1 .0) (p .1 .1 .0) (p .1 .1 .1) (f .node-field .ensures)))
       (λ c. c .match .keys1) (λ c. c .match .keys2)
       (λ c. ran (c .before .before) .eval-pred .kept .1 .1 .0)
-      returns
+      (λ c. let e = ran (c .before .before) in let p = lent (word e) .pre .1 in
+      join-stays (p .0) (p .1 .0) (p .1 .1) (word e .node-field .ensures) (e .eval-pred .ensures) (c .enum-told .given .1))
       (λ c κs. tt)
       (λ c. first (c .before) .eval-pred .kept .1 .1 .0)
       returns-2

@@ -35,21 +35,6 @@ module _ (t : ℕ) where
   abbrev settled : Here lts.After-settle → Here lts.After-one
   settled c = let s = c .before .before in s .before .before
 
-  returns : Here lts.Need-returns
-  returns c =
-      let e = ran (c .before .before) in let p = lent (word e) .pre .1 in let q = c .enum-told .given .1 in
-      formed-as refl (sym q) (one-fails p (word e .node-field .ensures) (formed-as refl q (e .operand .ensures)))
-
-  one-requires : Here lts.Need-one-requires
-  one-requires c κs =
-      let m = c .before .before in let e = ran (m .before .before) in let p = lent (word e) .pre .1 in
-      one-ready p (word e .node-field .ensures) (formed-as refl (m .first .given .1) (e .operand .ensures))
-
-  settle-requires : Here lts.Need-settle-requires
-  settle-requires c κs =
-      let q = c .before .before .before in let m = done q in let e = ran (m .before .before) in let p = lent (word e) .pre .1 in
-      one-settles p (word e .node-field .ensures) (formed-as refl (m .first .given .1) (e .operand .ensures)) (q .one .ensures)
-
   returns-2 : Here lts.Need-returns-2
   returns-2 c =
       let q = settled (c .before .before) in let m = done q in let e = ran (m .before .before) in let p = lent (word e) .pre .1 in
@@ -64,8 +49,11 @@ module _ (t : ℕ) where
       (λ c κs. let f = c .before in let p = lent f .pre in child-asks 4 (omega arith) (p .0) (p .1 .0 .ready) (one-child (p .1) (f .node-field .ensures)))
       (λ c. c .match .keys1) (λ c. c .match .keys2)
       (λ c. ran (c .before .before) .operand .kept .1 .1 .0)
-      returns
-      one-requires
-      settle-requires
+      (λ c. let e = ran (c .before .before) in let p = lent (word e) .pre .1 in let q = c .enum-told .given .1 in
+      formed-as refl (sym q) (one-fails p (word e .node-field .ensures) (formed-as refl q (e .operand .ensures))))
+      (λ c κs. let m = c .before .before in let e = ran (m .before .before) in let p = lent (word e) .pre .1 in
+      one-ready p (word e .node-field .ensures) (formed-as refl (m .first .given .1) (e .operand .ensures)))
+      (λ c κs. let q = c .before .before .before in let m = done q in let e = ran (m .before .before) in let p = lent (word e) .pre .1 in
+      one-settles p (word e .node-field .ensures) (formed-as refl (m .first .given .1) (e .operand .ensures)) (q .one .ensures))
       (λ c. let p = c .before .before in let q = settled p in p .settle .kept .0 ∙ q .one .kept .0 ∙ ran (done q .before .before) .operand .kept .1 .1 .0)
       returns-2

@@ -59,11 +59,6 @@ module _ (t : ℕ) where
       held-as refl (refusal-is (k .enum-told .given .1) (c .refusal-of .ensures))
       (quant-refused (lent f .pre .1) (f .node-field .ensures) (e .operand .ensures) (k .enum-told .given .1))
 
-  range-of-requires : Here lts.Need-range-of-requires
-  range-of-requires c κs =
-      let m = c .before .before in let e = ran (m .before .before) in let f = word e in
-      range-good (quant-binder (lent f .pre .1) (f .node-field .ensures)) (formed-as refl (m .first .given .1) (e .operand .ensures))
-
   returns-2 : Here lts.Need-returns-2
   returns-2 c =
       let k = c .before in let o = k .before .before in let e = first o in let f = word e in
@@ -99,7 +94,8 @@ module _ (t : ℕ) where
       (λ c. c .match .keys1) (λ c. c .match .keys2) (λ c κs. tt)
       (λ c. let k = c .before in ran (k .before .before) .operand .kept .1 .1 .0)
       returns
-      range-of-requires
+      (λ c κs. let m = c .before .before in let e = ran (m .before .before) in let f = word e in
+      range-good (quant-binder (lent f .pre .1) (f .node-field .ensures)) (formed-as refl (m .first .given .1) (e .operand .ensures)))
       (λ c. c .match2 .keys1) (λ c. c .match2 .keys2) (λ c κs. tt)
       (λ c. first (c .before .before .before) .operand .kept .1 .1 .0)
       returns-2

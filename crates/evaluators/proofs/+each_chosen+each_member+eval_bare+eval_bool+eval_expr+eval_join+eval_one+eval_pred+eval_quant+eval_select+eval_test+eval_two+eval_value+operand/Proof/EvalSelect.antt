@@ -59,16 +59,6 @@ module _ (t : ℕ) where
   abbrev settled : Here lts.After-settle → Here lts.After-chosen
   settled c = c .before .before .before
 
-  returns : Here lts.Need-returns
-  returns c =
-      let e = ran (c .before .before) in let f = word e in let q = c .enum-told .given .1 in
-      formed-as refl (sym q) (select-fails (lent f .pre .1) (f .node-field .ensures) (formed-as refl q (e .operand .ensures)))
-
-  range-of-requires : Here lts.Need-range-of-requires
-  range-of-requires c κs =
-      let m = c .before .before in let e = ran (m .before .before) in let f = word e in
-      range-good (select-binder (lent f .pre .1) (f .node-field .ensures)) (formed-as refl (m .first .given .1) (e .operand .ensures))
-
   returns-2 : Here lts.Need-returns-2
   returns-2 c =
       let k = c .before in let o = k .before .before in let e = first o in let f = word e in
@@ -101,11 +91,6 @@ module _ (t : ℕ) where
       select-settles (lent (word e) .pre .1) (word e .node-field .ensures) (formed-as refl (asked o .first .given .1) (e .operand .ensures))
       (range-as (a .range .given .1) (o .range-of .ensures)) (chosen-as (w .chosen .given .1) (i .each-chosen .ensures))
 
-  same-length-4 : Here lts.Need-same-length-4
-  same-length-4 c =
-      let z = c .before .before in let i = chose (settled z .before .before) in let a = counted i in
-      z .settle .kept .0 ∙ i .each-chosen .kept .1 .1 .0 ∙ first (a .before .before) .operand .kept .1 .1 .0
-
   returns-4 : Here lts.Need-returns-4
   returns-4 c =
       let w = settled (c .before .before) in let i = chose (w .before .before) in let a = counted i in let o = a .before .before in let e = first o in
@@ -121,8 +106,10 @@ module _ (t : ℕ) where
       child-asks 4 (omega arith) (p .0) (p .1 .ready) (range-child (select-binder (p .1) (f .node-field .ensures))))
       (λ c. c .match .keys1) (λ c. c .match .keys2)
       (λ c. ran (c .before .before) .operand .kept .1 .1 .0)
-      returns
-      range-of-requires
+      (λ c. let e = ran (c .before .before) in let f = word e in let q = c .enum-told .given .1 in
+      formed-as refl (sym q) (select-fails (lent f .pre .1) (f .node-field .ensures) (formed-as refl q (e .operand .ensures))))
+      (λ c κs. let m = c .before .before in let e = ran (m .before .before) in let f = word e in
+      range-good (select-binder (lent f .pre .1) (f .node-field .ensures)) (formed-as refl (m .first .given .1) (e .operand .ensures)))
       (λ c. c .match2 .keys1) (λ c. c .match2 .keys2) (λ c κs. tt)
       (λ c. first (c .before .before .before) .operand .kept .1 .1 .0)
       returns-2
@@ -132,5 +119,6 @@ module _ (t : ℕ) where
       (λ c. let i = chose (c .before .before) in i .each-chosen .kept .1 .1 .0 ∙ first (counted i .before .before) .operand .kept .1 .1 .0)
       returns-3
       settle-requires
-      same-length-4
+      (λ c. let z = c .before .before in let i = chose (settled z .before .before) in let a = counted i in
+      z .settle .kept .0 ∙ i .each-chosen .kept .1 .1 .0 ∙ first (a .before .before) .operand .kept .1 .1 .0)
       returns-4

@@ -62,16 +62,6 @@ module _ (t : ℕ) where
       (λ w. let m = w .0 .rest in one-range _ (m .0 .0 .0 .0 .1) (m .0 .0 .1) (w .3 .left) (w .4 .taken)) (c .before .match .came) in
       (omega (arith, lent k .pre .0), (visit k, by))
 
-  standing-requires : Here lts.Need-standing-requires
-  standing-requires c κs =
-      standing-ready (visit (c .before))
-      (standing-code _ (⊎-elim (λ w. inl (w .keys6)) (λ w. inr (w .1 .left, w .2 .taken, λ e. w .0 .rest .0 .1 (inl e))) (c .match .came)))
-
-  returns-4 : Here lts.Need-returns-4
-  returns-4 c =
-      let p = c .before .before in let b = p .before .before in let d = visit (b .before) in
-      leaf-answer d (leaf-node d (b .match .keys5)) _ _ (p .eval-leaf .ensures)
-
   returns-5 : Here lts.Need-returns-5
   returns-5 c =
       let j = c .before in let m = j .before in let r = expression-code (visit (m .before)) (lent (m .before) .pre .1 .1) in
@@ -91,12 +81,14 @@ module _ (t : ℕ) where
       (λ c κs. tt)
       eval-two-requires
       eval-one-requires
-      standing-requires
+      (λ c κs. standing-ready (visit (c .before))
+      (standing-code _ (⊎-elim (λ w. inl (w .keys6)) (λ w. inr (w .1 .left, w .2 .taken, λ e. w .0 .rest .0 .1 (inl e))) (c .match .came))))
       (λ c. visit (c .before .before) .unspent)
       (λ c. c .before .before .eval-bool .kept .1 .1 .0) (λ c. c .before .before .eval-bool .ensures)
       (λ c. c .before .before .eval-select .kept .1 .1 .0) (λ c. c .before .before .eval-select .ensures)
       (λ c. c .before .before .eval-leaf .kept .1 .0)
-      returns-4
+      (λ c. let p = c .before .before in let b = p .before .before in let d = visit (b .before) in
+      leaf-answer d (leaf-node d (b .match .keys5)) _ _ (p .eval-leaf .ensures))
       returns-5
       (λ c. c .before .before .eval-two .kept .1 .1 .0) (λ c. c .before .before .eval-two .ensures)
       (λ c. c .before .before .eval-one .kept .1 .1 .0) (λ c. c .before .before .eval-one .ensures)

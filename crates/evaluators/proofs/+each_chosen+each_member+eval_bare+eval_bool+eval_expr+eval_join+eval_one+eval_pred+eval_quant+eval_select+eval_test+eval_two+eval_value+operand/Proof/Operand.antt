@@ -18,11 +18,6 @@ module _ (t : ℕ) where
   abbrev lent : Here lts.After-leaf-place → Here lts.Start
   lent c = c .before .before .before
 
-  returns-2 : Here lts.Need-returns-2
-  returns-2 c =
-      let i = c .before in let v = lent (i .before) in
-      placed-answer (v .pre .1 .0) (i .before .leaf-place .ensures (i .if1 .left)) (eqb-false (v .args .left) 0 (c .if2 .left)) refl
-
   pub closed : {M : Type 1} → lts.Closed claims (operand .at t) (operand .post) M
   closed =
       lts.spec claims (operand .at t) (operand .post)
@@ -31,4 +26,5 @@ module _ (t : ℕ) where
       (λ c. c .before .before .eval-expr .kept .1 .1 .0)
       (λ c. c .before .before .eval-expr .ensures)
       (λ c. let v = lent (c .before .before) in omega (arith, eqb-false (v .args .left) 0 (c .if2 .left)))
-      returns-2
+      (λ c. let i = c .before in let v = lent (i .before) in
+      placed-answer (v .pre .1 .0) (i .before .leaf-place .ensures (i .if1 .left)) (eqb-false (v .args .left) 0 (c .if2 .left)) refl)
