@@ -64,11 +64,6 @@ selecting-start g budget steps s top vs h l = record {
   stops = λ e. e;
 }
 
--- Members behind others.
-values-append : (s : List ℕ) (at : ℕ) (xs ys : List Value) → ValuesAt s at (values xs) → ValuesAt s (at + weights (values xs)) (values ys) →
-    ValuesAt s at (values (xs ++ ys))
-values-append s at xs ys h k = rw (codes-append xs ys) (stands-append s at (codes (values xs)) (codes (values ys)) h (rw (length-codes (values xs)) k))
-
 -- What is chosen of a member stands behind what has been chosen.
 chosen-stands : (s : List ℕ) (at end : ℕ) (b : Bool) (to : ℕ) (s′ : List ℕ) (r : ℕ) (v : Value) → Chooses s at end b to s′ r →
     Stands s at (code v) → end ≡ at + weight v → to + weight v ≤ length s →
@@ -80,13 +75,9 @@ chosen-stands s at end true to s′ r v c h e l =
 chosen-stands s at end false to s′ r v c h e l =
     (record { inside = omega (arith, c .frame .kept); cells = λ i p. absurd (omega arith) }, omega (arith, c .ends))
 
-chosen-count : (b : Bool) (v : Value) → boolByte b ≡ count (values (picked b v))
-chosen-count true v = refl
-chosen-count false v = refl
-
-chosen-light : (b : Bool) (v : Value) → weights (values (picked b v)) ≤ weight v
-chosen-light true v = omega arith
-chosen-light false v = omega arith
+chosen-cost : (b : Bool) (v : Value) → (boolByte b ≡ count (values (picked b v))) × (weights (values (picked b v)) ≤ weight v)
+chosen-cost true v = (refl, omega arith)
+chosen-cost false v = (refl, omega arith)
 
 module _ {g : Value → M Bool} {whole : List Value} {budget steps : ℕ} {s : List ℕ} {top : ℕ} {rest : Values} {now to chosen : ℕ}
     (h : Selecting g whole budget steps s top rest now to chosen) where
@@ -105,15 +96,16 @@ module _ {g : Value → M Bool} {whole : List Value} {budget steps : ℕ} {s : L
       = stands-frame to s s₁ at (code (u .value)) same (omega (arith, length-code (u .value), u .here .below, h .ends)) (u .here .stands) in
       let is : members rest ≡ u .value ∷ members (u .rest) = ap members (u .is) in
       let sum : weights rest ≡ weight (u .value) + weights (u .rest) = ap weights (u .is) in
+      let long = length-codes (values (h .taken)) in
       let new = chosen-stands s₁ at end b to s₂ r (u .value) c here e (omega (arith, same .kept, sum, h .ends, h .light)) in
       record {
         taken = h .taken ++ picked b (u .value);
-        stands = values-append s₂ (top + 1) (h .taken) (picked b (u .value))
-            (stands-frame to s s₂ (top + 1) (codes (values (h .taken))) over (omega (arith, h .ends, length-codes (values (h .taken)))) (h .stands))
-            (subst (λ (i : ℕ). ValuesAt s₂ i (values (picked b (u .value)))) (h .ends) (new .0));
+        stands = rw (codes-append (h .taken) (picked b (u .value))) (stands-append s₂ (top + 1) (codes (values (h .taken))) (codes (values (picked b (u .value))))
+            (stands-frame to s s₂ (top + 1) (codes (values (h .taken))) over (omega (arith, h .ends, long)) (h .stands))
+            (rw (long, ← h .ends) (new .0)));
         ends = omega (arith, new .1, h .ends, weights-append (h .taken) (picked b (u .value)));
-        counted = omega (arith, h .counted, chosen-count b (u .value), count-append (h .taken) (picked b (u .value)));
-        light = omega (arith, sum, h .light, chosen-light b (u .value), weights-append (h .taken) (picked b (u .value)));
+        counted = omega (arith, h .counted, chosen-cost b (u .value) .0, count-append (h .taken) (picked b (u .value)));
+        light = omega (arith, sum, h .light, chosen-cost b (u .value) .1, weights-append (h .taken) (picked b (u .value)));
         goes = λ {ws} {l = q} x.
             subst (λ (vs : List Value). EndsWith (select g whole steps) (done vs) budget q) (sym (append-assoc (h .taken) (picked b (u .value)) ws))
             (h .goes (rw is (select-on g (u .value) (members (u .rest)) now b run x)));

@@ -185,20 +185,6 @@ category-is : (c : Category) (o : Option Kind) → CategoryIs c o → categoryCo
 category-is c nothing h = absurd h
 category-is c (some x) h = ap categoryNumber h
 
-module _ (k : ℕ) where
-  predicate-range : CategoryIs predicate (kindOf k) → (1 ≤ k) × (k ≤ 11)
-  predicate-range h = codes-within k 1 11 (in-first _ (leb 20 k && leb k 43) (by-range k ∙ category-is predicate (kindOf k) h))
-
-  expression-range : CategoryIs expression (kindOf k) → (20 ≤ k) × (k ≤ 43)
-  expression-range h = codes-within k 20 43 (in-second (leb 1 k && leb k 11) _ (by-range k ∙ category-is expression (kindOf k) h))
-
-  -- The kinds of the last arms.
-  join-sort : 1 ≤ k → k < 6 → k ≢ 4 → Sort join k
-  unfolding kindOf
-  join-sort a b n =
-      along (λ (m : ℕ). m ≢ 4 → Sort join m) 1 5
-      ((λ d. (and, refl)), ((λ d. (or, refl)), ((λ d. (implies, refl)), ((λ d. absurd (d refl)), ((λ d. (iff, refl)), tt))))) k a (omega arith) n
-
 -- A leaf that stands already, an identifier or a constant of one cell: its arm of `eval_value`.
 abbrev Unbuilt : ℕ → Type 0
 Unbuilt k = (j : Leaf) × (kindOf k ≡ some (leaf j)) × (builtLeaf j ≡ false)
@@ -215,26 +201,30 @@ standing-code k (inr (a, b, n)) =
 pub name-below : (bs : List ℕ) → Readable bs → (n : ℕ) → n < nodeCount bs → kindAt (tableOf bs .nodes) n ≡ some (leaf identifier) → fieldA bs n < 32
 name-below bs r n lt e = omega (arith, field-holds bs r n lt (leaf identifier) e 0 (omega arith), binds-length bs, r .header .identifiers)
 
-given-same : (v w : Value) → gives v ≡ gives w → v ≡ w
-given-same v w e = cc
-
 pub place-ready : {bs env s : List ℕ} {top n : ℕ} → Ready bs env s top n → PlaceReady bs env n
 place-ready r = record { readable = r .readable; node = r .node; entries = r .entries }
+
+unbuilt-ready : {bs env : List ℕ} {k n : ℕ} → PlaceReady bs env n → k ≡ nodeAt (tableOf bs .nodes) n .kind → Unbuilt k → StandingReady bs env k n
+unbuilt-ready p e u = record { node = p; same = e; kind = u .0; is = u .1; unbuilt = u .2 }
 
 -- What the evaluators of the leaves take for granted.
 module _ {bs env s : List ℕ} {top k n left : ℕ} (v : Visited bs env s top k n left) where
   pub standing-ready : Unbuilt k → StandingReady bs env k n
-  standing-ready u = record { node = place-ready (v .ready); same = v .kind; kind = u .0; is = u .1; unbuilt = u .2 }
+  standing-ready = unbuilt-ready (place-ready (v .ready)) (v .kind)
 
   -- A node's kind is in the range of its category, and so the last arms.
   pub predicate-code : IsPred bs n → (1 ≤ k) × (k ≤ 11)
-  predicate-code h = predicate-range k (rw (v .kind) h)
+  predicate-code h = codes-within k 1 11 (in-first _ (leb 20 k && leb k 43) (by-range k ∙ category-is predicate (kindOf k) (rw (v .kind) h)))
 
   pub expression-code : IsExpr bs n → (20 ≤ k) × (k ≤ 43)
-  expression-code h = expression-range k (rw (v .kind) h)
+  expression-code h = codes-within k 20 43 (in-second (leb 1 k && leb k 11) _ (by-range k ∙ category-is expression (kindOf k) (rw (v .kind) h)))
 
   pub join-kind : IsPred bs n → k ≢ 4 → k < 6 → Sort join k
-  join-kind h d l = join-sort k (predicate-code h .0) l d
+  unfolding kindOf
+  join-kind h d l =
+      along (λ (m : ℕ). m ≢ 4 → Sort join m) 1 5
+      ((λ d. (and, refl)), ((λ d. (or, refl)), ((λ d. (implies, refl)), ((λ d. absurd (d refl)), ((λ d. (iff, refl)), tt))))) k
+      (predicate-code h .0) (omega arith) d
 
   -- The leaves that are built.
   built-node : (j : Leaf) → kindOf k ≡ some (leaf j) → builtLeaf j ≡ true → LeafFits j (fieldA bs n) (getD (tableOf bs .sizes) (fieldA bs n) 0) →
@@ -301,7 +291,7 @@ module _ {bs env s : List ℕ} {top k n left : ℕ} (v : Visited bs env s top k 
       = λ ρ. h .done .answer (p .ready .kind) (tableOf bs .sizes) (fieldB bs n) ρ (p .ready .is) (p .ready .fits) refl in
       subst (λ (x : Formed). EvaluatesE bs env s top n left s′ x) (sym (h .is))
       (leaf-stands (p .ready .kind) (p .ready .is) (h .done .frame) (omega (arith, b (v .ready .values) .ends), h .done .near)
-      (λ ρ _. let y = b ρ in rw (given-same (here (p .ready .kind) ρ) (y .value) (y .is)) (y .stands, omega (arith, y .ends), y .light)))
+      (λ ρ _. let y = b ρ in let q : here (p .ready .kind) ρ ≡ y .value = cc (y .is) in rw q (y .stands, omega (arith, y .ends), y .light)))
 
 -- An operand that stands already, where a visit is left.
 pub placed-answer : {bs env s : List ℕ} {top n at left l : ℕ} → Ready bs env s top n → PlacedLeaf bs env n at → left ≢ 0 → l ≡ left - 1 →
@@ -318,9 +308,6 @@ standing-name-place {bs} {env} {n} p e =
 
 -- Where a leaf stands.
 module _ {bs env : List ℕ} {k n : ℕ} (p : StandingReady bs env k n) where
-  standing-kind : kindAt (tableOf bs .nodes) n ≡ some (leaf (p .kind))
-  standing-kind = ap kindOf (sym (p .same)) ∙ p .is
-
   -- An identifier has 20, a constant another code.
   pub standing-name : k ≡ 20 → fieldA bs n < 32
   standing-name q = name-below bs (p .node .readable) n (p .node .node) (ap kindOf (sym (p .same)) ∙ kind-of k (leaf identifier) q)
@@ -334,7 +321,7 @@ module _ {bs env : List ℕ} {k n : ℕ} (p : StandingReady bs env k n) where
   }
 
   pub placed-constant : k ≢ 20 → PlacedLeaf bs env n n
-  placed-constant q = record { kind = p .kind; is = standing-kind; unbuilt = p .unbuilt; place = go (p .kind) (p .is) }
+  placed-constant q = record { kind = p .kind; is = ap kindOf (sym (p .same)) ∙ p .is; unbuilt = p .unbuilt; place = go (p .kind) (p .is) }
     where
       go : (j : Leaf) → kindOf k ≡ some (leaf j) → n ≡ leafPlace j env n (fieldA bs n)
       go identifier e = absurd (q (code-of k (leaf identifier) e))
@@ -349,8 +336,7 @@ module _ {bs env : List ℕ} {k n : ℕ} (p : StandingReady bs env k n) where
 pub place-standing : {bs env : List ℕ} {n k : ℕ} → PlaceReady bs env n → k ≡ nodeAt (tableOf bs .nodes) n .kind → (k ≡ 20) ⊎ ((22 ≤ k) × (k < 25)) →
     StandingReady bs env k n
 place-standing {k = k} p e h =
-    let u = standing-code k (⊎-elim (λ q. inl (inl q)) (λ q. inr (omega (arith, q .0), q .1, λ z. absurd (omega (arith, q .0)))) h) in
-    record { node = p; same = e; kind = u .0; is = u .1; unbuilt = u .2 }
+    unbuilt-ready p e (standing-code k (⊎-elim (λ q. inl (inl q)) (λ q. inr (omega (arith, q .0), q .1, λ z. absurd (omega (arith, q .0)))) h))
 
 -- 21 and 42, with the word and the size that have been read.
 module _ {bs s : List ℕ} {top k n a z : ℕ} (p : LeafNode bs s top k n) (ea : a ≡ fieldA bs n) (ez : z ≡ getD (tableOf bs .sizes) a 0) where

@@ -1,6 +1,6 @@
 -- The children of a node, its tree, what its evaluators pass on to theirs, and its answer from theirs.
 use Prim.Native.Nat.{ℕ, zero, suc, _+_, _-_, _*_, _≤_, _<_}
-use mathlib.Core.Bool.{Bool, true, false, false≢true}
+use mathlib.Core.Bool.{Bool, true}
 use mathlib.Core.List.{List, [], _∷_}
 use mathlib.Core.Option.{Option, none as nothing, some}
 use mathlib.Core.Path.{_≡_, refl, sym, ap, _∙_, subst}
@@ -10,7 +10,7 @@ use lib.ListN.{length, getD}
 use Rattle.rules.specs.Values.{Value}
 use Rattle.rules.specs.Cells.{good}
 use Rattle.rules.specs.Kinds.{Kind, Category, categoryOf, predicate, expression, Field, unused, child, kindOf, fieldsOf, isChild}
-use Rattle.rules.specs.Tables.{Node, Table, Pred, Expr, tableOf, nodeAt, kindAt, fieldWords, fieldsIf, keptIf, pick, held, predOf, exprOf, predAt, exprAt, nodeCount}
+use Rattle.rules.specs.Tables.{Node, Table, Pred, Expr, tableOf, nodeAt, kindAt, fieldWords, fieldsIf, pick, held, predOf, exprOf, predAt, exprAt, nodeCount}
 use Rattle.rules.specs.Reading.{height, tallest}
 use Rattle.rules.specs.Readable.{Readable, FieldRight, FieldsRight, KindRight, NodeRight, CategoryIs}
 use Rattle.rules.specs.Operations.{Env}
@@ -18,6 +18,7 @@ use Rattle.rules.specs.Ends.{End, refused}
 use Rattle.rules.specs.Runs.{Run, M, _>>_, visit, Given}
 use Rattle.rules.specs.Evaluation.{holdsᵖ, valueᵉ}
 use Rattle.laws.proofs.TableLaws.{nodes-length, sizes-length, height-at}
+use Rattle.reading.proofs.Heights.{tallest-kept}
 use Rattle.laws.proofs.CellsLaws.{size-below}
 use Rattle.laws.proofs.FormedLaws.{value-good}
 use Rattle.arena.specs.Code.{Same}
@@ -74,21 +75,12 @@ pub record Child (bs : List ℕ) (n m : ℕ) (c : Category) : Type 0 where
   pub tall : 1 ≤ height (tableOf bs .nodes) m
 
 -- The heights of the words in the fields that hold children.
-tallest-kept : (h : ℕ → ℕ) (b : Bool) (m : ℕ) (ms : List ℕ) → tallest h ms ≤ tallest h (keptIf b m ms)
-unfolding tallest
-tallest-kept h true m ms = omega arith
-tallest-kept h false m ms = omega arith
-
-tallest-first : (h : ℕ → ℕ) (b : Bool) (m : ℕ) (ms : List ℕ) → b ≡ true → h m ≤ tallest h (keptIf b m ms)
-unfolding tallest
-tallest-first h true m ms e = omega arith
-tallest-first h false m ms e = absurd (false≢true e)
-
 child-tall : (h : ℕ → ℕ) (fs : List Field) (xs : List ℕ) (i : ℕ) → i < length fs → i < length xs → isChild (getD fs i unused) ≡ true →
     h (getD xs i 0) ≤ tallest h (pick isChild fs xs)
+unfolding tallest
 child-tall h [] xs i a b e = absurd (omega arith)
 child-tall h (f ∷ fs) [] i a b e = absurd (omega arith)
-child-tall h (f ∷ fs) (x ∷ xs) zero a b e = tallest-first h (isChild f) x (pick isChild fs xs) e
+child-tall h (f ∷ fs) (x ∷ xs) zero a b e = rw e (omega arith)
 child-tall h (f ∷ fs) (x ∷ xs) (suc i) a b e =
     omega (arith, child-tall h fs xs i (omega arith) (omega arith) e, tallest-kept h (isChild f) x (pick isChild fs xs))
 
@@ -286,7 +278,7 @@ module _ (bs : List ℕ) (budget f n : ℕ) (ρ : Env) (steps : ℕ) (readable :
   settled-as (Stopped r l) h = record { end = e .end ∙ ap (endOf n) (h .0) ∙ ap (refused (r .number)) (sym (h .1)); steps = omega (arith, e .steps, h .2) }
 
 -- The answer for a node, from its tree, whose children have the depth g.
-abbrev predᵍ : List ℕ → ℕ → Kind → ℕ → Pred
+abbrev pub predᵍ : List ℕ → ℕ → Kind → ℕ → Pred
 predᵍ bs n x g = predOf (some x) n (nodeAt (tableOf bs .nodes) n) (λ m. predAt g (tableOf bs .nodes) m) (λ m. exprAt g (tableOf bs .nodes) m)
 
 abbrev exprᵍ : List ℕ → ℕ → Kind → ℕ → Expr
