@@ -1,20 +1,13 @@
 -- `each_chosen`: the body at one member after the other, each that it holds at copied behind those before, and the set's own cell last.
 -- Landmarks: what was lent, the words of the fields, the turn, the answer of the body, and where the member ends.
-use Prim.Native.Nat.{ℕ}
-use mathlib.Core.Path.{_∙_}
-use native.Mathlib.Omega.{arith}
-use lib.Dec.{lit<}
-use borrow.Fn.Kinds.{In, Out}
 use Rattle.evaluators.proofs.+each_chosen+each_member+eval_bare+eval_bool+eval_expr+eval_join+eval_one+eval_pred+eval_quant+eval_select+eval_test+eval_two+eval_value+operand.Lts-each_chosen as lts
 use Rattle.evaluators.proofs.choose.Reads as choose
 use Rattle.arena.proofs.end_of.Reads as end-of
 use Rattle.table.proofs.node_field.Reads as field
 use Rattle.evaluators.proofs.stop_of.Reads as stop
-use Rattle.evaluators.proofs.+each_chosen+each_member+eval_bare+eval_bool+eval_expr+eval_join+eval_one+eval_pred+eval_quant+eval_select+eval_test+eval_two+eval_value+operand.Proof.Base.{each-chosen, eval-pred}
-use Rattle.evaluators.proofs.SafeLaws.{one-less, binder-node, entry-below, entry-scaled, above-fits, top-scaled, top-inside, written-kept}
-use Rattle.evaluators.proofs.NodeLaws.{stop-is}
+use Rattle.evaluators.proofs.+each_chosen+each_member+eval_bare+eval_bool+eval_expr+eval_join+eval_one+eval_pred+eval_quant+eval_select+eval_test+eval_two+eval_value+operand.Proof.Base.{each-chosen, eval-pred, ℕ, _∙_, arith, lit<, In, Out, one-less, binder-node, entry-below, entry-scaled, stop-is, member-low}
+use Rattle.evaluators.proofs.SafeLaws.{above-fits, top-scaled, top-inside, written-kept}
 use Rattle.evaluators.proofs.FormLaws.{chosen-as}
-use Rattle.evaluators.proofs.BodyLaws.{member-low}
 use Rattle.evaluators.proofs.ChosenLaws.{Choosing, choosing-start, choosing-near, choosing-few, choosing-end, choosing-ready, choosing-refused, choosing-some, choosing-choose, choosing-next}
 
 abbrev Inv : lts.InvT-loop

@@ -1,16 +1,9 @@
 -- `each_member`: the body at one member after the other, until one decides. Landmarks: what was lent, the words of the fields, the turn, and
 -- the answer of the body.
-use Prim.Native.Nat.{ℕ}
-use mathlib.Core.Path.{_∙_}
-use native.Mathlib.Omega.{arith}
-use lib.Dec.{lit<}
-use borrow.Fn.Kinds.{In, Out}
 use Rattle.evaluators.proofs.+each_chosen+each_member+eval_bare+eval_bool+eval_expr+eval_join+eval_one+eval_pred+eval_quant+eval_select+eval_test+eval_two+eval_value+operand.Lts-each_member as lts
 use Rattle.arena.proofs.end_of.Reads as end-of
 use Rattle.table.proofs.node_field.Reads as field
-use Rattle.evaluators.proofs.+each_chosen+each_member+eval_bare+eval_bool+eval_expr+eval_join+eval_one+eval_pred+eval_quant+eval_select+eval_test+eval_two+eval_value+operand.Proof.Base.{each-member, eval-pred}
-use Rattle.evaluators.proofs.SafeLaws.{one-less, binder-node, entry-below, entry-scaled}
-use Rattle.evaluators.proofs.BodyLaws.{member-low}
+use Rattle.evaluators.proofs.+each_chosen+each_member+eval_bare+eval_bool+eval_expr+eval_join+eval_one+eval_pred+eval_quant+eval_select+eval_test+eval_two+eval_value+operand.Proof.Base.{each-member, eval-pred, ℕ, _∙_, arith, lit<, In, Out, one-less, binder-node, entry-below, entry-scaled, member-low}
 use Rattle.evaluators.proofs.QuantLaws.{differ, agree, Turning, turning-start, member-stands, body-ready, member-refused, member-decides, turning-on, members-done}
 
 abbrev Inv : lts.InvT-loop

@@ -1,16 +1,10 @@
 -- `eval_one`: the operand, the operation, and what it gives settled. Landmarks: what was lent, the word of the field, the answer for the
 -- operand, and the operation.
-use Prim.Native.Nat.{ℕ}
-use mathlib.Core.Path.{refl, sym, _∙_}
-use native.Mathlib.Omega.{arith}
-use lib.Dec.{lit<}
 use Rattle.evaluators.proofs.+each_chosen+each_member+eval_bare+eval_bool+eval_expr+eval_join+eval_one+eval_pred+eval_quant+eval_select+eval_test+eval_two+eval_value+operand.Lts-eval_one as lts
 use Rattle.table.proofs.node_field.Reads as field
 use Rattle.operations.proofs.one.Reads as one
 use Rattle.evaluators.proofs.settle.Reads as settle
-use Rattle.evaluators.proofs.+each_chosen+each_member+eval_bare+eval_bool+eval_expr+eval_join+eval_one+eval_pred+eval_quant+eval_select+eval_test+eval_two+eval_value+operand.Proof.Base.{Over, eval-one, operand}
-use Rattle.evaluators.proofs.SafeLaws.{ready-node}
-use Rattle.evaluators.proofs.NodeLaws.{child-asks, formed-as}
+use Rattle.evaluators.proofs.+each_chosen+each_member+eval_bare+eval_bool+eval_expr+eval_join+eval_one+eval_pred+eval_quant+eval_select+eval_test+eval_two+eval_value+operand.Proof.Base.{Over, eval-one, operand, ℕ, refl, sym, _∙_, arith, lit<, ready-node, child-asks, formed-as}
 use Rattle.evaluators.proofs.FormLaws.{one-child, one-fails, one-ready, one-settles, one-evaluates}
 
 module _ (t : ℕ) where

@@ -1,18 +1,11 @@
 -- `eval_quant`: the range, and then the body at each of its members. Landmarks: what was lent, the word of the field, the answer for the
 -- range, and its members.
-use Prim.Native.Nat.{ℕ}
-use mathlib.Core.Path.{refl, sym, _∙_}
-use native.Mathlib.Omega.{arith}
-use lib.Dec.{lit<}
 use Rattle.evaluators.proofs.+each_chosen+each_member+eval_bare+eval_bool+eval_expr+eval_join+eval_one+eval_pred+eval_quant+eval_select+eval_test+eval_two+eval_value+operand.Lts-eval_quant as lts
 use Rattle.table.proofs.node_field.Reads as field
 use Rattle.evaluators.proofs.range_of.Reads as range
 use Rattle.evaluators.proofs.refusal_of.Reads as refusal
 use Rattle.evaluators.proofs.refused.Reads as refused
-use Rattle.evaluators.proofs.+each_chosen+each_member+eval_bare+eval_bool+eval_expr+eval_join+eval_one+eval_pred+eval_quant+eval_select+eval_test+eval_two+eval_value+operand.Proof.Base.{Over, each-member, eval-quant, operand}
-use Rattle.evaluators.proofs.SafeLaws.{ready-node}
-use Rattle.evaluators.proofs.NodeLaws.{child-asks, held-as, formed-as, refusal-is}
-use Rattle.evaluators.proofs.RangeLaws.{range-as, range-child, range-good, range-low}
+use Rattle.evaluators.proofs.+each_chosen+each_member+eval_bare+eval_bool+eval_expr+eval_join+eval_one+eval_pred+eval_quant+eval_select+eval_test+eval_two+eval_value+operand.Proof.Base.{Over, each-member, eval-quant, operand, ℕ, refl, sym, _∙_, arith, lit<, ready-node, child-asks, held-as, formed-as, refusal-is, range-as, range-child, range-good, range-low}
 use Rattle.evaluators.proofs.QuantLaws.{quant-binder, quant-refused, quant-unlike, quant-ready, quant-done}
 
 module _ (t : ℕ) where

@@ -1,18 +1,11 @@
 -- `eval_select`: the range, the members of it that the body selects, built above, and these settled. Landmarks: what was lent, the word of
 -- the field, the answer for the range, its members, and those chosen.
-use Prim.Native.Nat.{ℕ}
-use mathlib.Core.Path.{refl, sym, _∙_}
-use native.Mathlib.Omega.{arith}
-use lib.Dec.{lit<}
 use Rattle.evaluators.proofs.+each_chosen+each_member+eval_bare+eval_bool+eval_expr+eval_join+eval_one+eval_pred+eval_quant+eval_select+eval_test+eval_two+eval_value+operand.Lts-eval_select as lts
 use Rattle.table.proofs.node_field.Reads as field
 use Rattle.evaluators.proofs.range_of.Reads as range
 use Rattle.evaluators.proofs.settle.Reads as settle
 use Rattle.evaluators.proofs.stopped.Reads as stopped
-use Rattle.evaluators.proofs.+each_chosen+each_member+eval_bare+eval_bool+eval_expr+eval_join+eval_one+eval_pred+eval_quant+eval_select+eval_test+eval_two+eval_value+operand.Proof.Base.{Over, each-chosen, eval-select, operand}
-use Rattle.evaluators.proofs.SafeLaws.{ready-node}
-use Rattle.evaluators.proofs.NodeLaws.{child-asks, formed-as}
-use Rattle.evaluators.proofs.RangeLaws.{range-as, range-child, range-good, range-low}
+use Rattle.evaluators.proofs.+each_chosen+each_member+eval_bare+eval_bool+eval_expr+eval_join+eval_one+eval_pred+eval_quant+eval_select+eval_test+eval_two+eval_value+operand.Proof.Base.{Over, each-chosen, eval-select, operand, ℕ, refl, sym, _∙_, arith, lit<, ready-node, child-asks, formed-as, range-as, range-child, range-good, range-low}
 use Rattle.evaluators.proofs.FormLaws.{chosen-as, select-binder, select-fails, select-unlike, select-each, chosen-fails, select-settles, select-evaluates}
 
 module _ (t : ℕ) where

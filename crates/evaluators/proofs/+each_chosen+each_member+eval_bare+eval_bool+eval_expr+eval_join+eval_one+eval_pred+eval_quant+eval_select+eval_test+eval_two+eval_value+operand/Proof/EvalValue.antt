@@ -1,20 +1,12 @@
 -- `eval_value`: no visit is left, or each arm asks what its evaluator asks of the node, by the code that the arm tells; the last arm is met
 -- by no expression. In `m = .. .match .rest`, `m .1` is that the code is neither 20 nor 26, `m .0 .1` neither 21 nor 42, and so on back to 25.
-use Prim.Native.Nat.{ℕ}
-use mathlib.Core.Path.{refl, sym}
-use mathlib.Core.Logic.{⊎-elim, inl, inr}
-use native.Mathlib.Omega.{arith}
-use denote.Ref.{now}
-use Rattle.evaluators.specs.Cycle.{Visited}
 use Rattle.evaluators.proofs.+each_chosen+each_member+eval_bare+eval_bool+eval_expr+eval_join+eval_one+eval_pred+eval_quant+eval_select+eval_test+eval_two+eval_value+operand.Lts-eval_value as lts
 use Rattle.evaluators.proofs.eval_leaf.Reads as eval-leaf
 use Rattle.evaluators.proofs.standing.Reads as standing
 use Rattle.table.proofs.node_kind.Reads as kind
 use Rattle.evaluators.proofs.stopped.Reads as stopped
-use Rattle.evaluators.proofs.+each_chosen+each_member+eval_bare+eval_bool+eval_expr+eval_join+eval_one+eval_pred+eval_quant+eval_select+eval_test+eval_two+eval_value+operand.Proof.Base.{Over, eval-bool, eval-one, eval-select, eval-two, eval-value}
-use Rattle.evaluators.proofs.SafeLaws.{ready-node}
-use Rattle.evaluators.proofs.NodeLaws.{formed-as}
-use Rattle.evaluators.proofs.DispatchLaws.{spent-expr, counted, visited-as, expression-code, one-keys, one-range, two-key, from-27, two-low, two-high, no-other, leaf-node, leaf-answer, standing-code, standing-ready, standing-answer}
+use Rattle.evaluators.proofs.+each_chosen+each_member+eval_bare+eval_bool+eval_expr+eval_join+eval_one+eval_pred+eval_quant+eval_select+eval_test+eval_two+eval_value+operand.Proof.Base.{Over, eval-bool, eval-one, eval-select, eval-two, eval-value, ℕ, refl, sym, ⊎-elim, inl, inr, arith, now, Visited, ready-node, formed-as, counted}
+use Rattle.evaluators.proofs.DispatchLaws.{spent-expr, visited-as, expression-code, one-keys, one-range, two-key, from-27, two-low, two-high, no-other, leaf-node, leaf-answer, standing-code, standing-ready, standing-answer}
 
 module _ (t : ℕ) where
   abbrev claims : lts.Claims
