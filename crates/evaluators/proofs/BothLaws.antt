@@ -2,11 +2,10 @@
 use Prim.Native.Nat.{ℕ, _+_, _-_, _*_, _≤_, _<_}
 use mathlib.Core.Bool.{Bool, true, false}
 use mathlib.Core.List.{List, [], _∷_}
-use mathlib.Core.Option.{some}
 use mathlib.Core.Path.{_≡_, refl, sym, _∙_, subst}
 use native.Mathlib.Omega.{arith}
 use Rattle.rules.specs.Values.{Value}
-use Rattle.rules.specs.Kinds.{expression, Test, test, kindOf}
+use Rattle.rules.specs.Kinds.{expression, Test, test}
 use Rattle.rules.specs.Rules.{testRule}
 use Rattle.rules.specs.Fits.{fits}
 use Rattle.rules.specs.Tables.{tableOf}
@@ -28,7 +27,7 @@ use Rattle.evaluators.specs.declared.Formed.{Formed}
 use Rattle.evaluators.specs.declared.Formed.the-variants.{Value as Placed, Stopped}
 use Rattle.evaluators.specs.declared.Held.the-variants.{Truth, Refused}
 use Rattle.evaluators.specs.Answers.{EndsWith, PlacedAs}
-use Rattle.evaluators.specs.Cycle.{conditionCells, Ready, Visited, Asks, valueAt, EvaluatesP, EvaluatesE}
+use Rattle.evaluators.specs.Cycle.{conditionCells, Ready, Visited, Sort, Asks, valueAt, EvaluatesP, EvaluatesE}
 use Rattle.evaluators.specs.Nodes.{fieldA, fieldB, IsExpr}
 use Rattle.evaluators.proofs.RunLaws.{then-done, then-refused, returns, fitting-on, fitting-refused}
 use Rattle.evaluators.proofs.NodeLaws.{Child, TwoFields, ready-child, ready-first, good-frame, sizes-small, formed-as, some-asks, asks-on}
@@ -154,14 +153,20 @@ tested-ends {budget} {left} n j v w s c = go (fits (testRule j .takes) (v ∷ w 
     go false d = rw (test-unfit j v w d) (fitting-refused n (testRule j) _ _ s d c)
 
 -- 6 to 9
-module _ {bs env s : List ℕ} {top k n left : ℕ} (x : Visited bs env s top k n left) (j : Test) (e : kindOf k ≡ some (test j)) where
+module _ {bs env s : List ℕ} {top k n left : ℕ} (p : Visited bs env s top k n left × Sort test k) where
+  abbrev x : Visited bs env s top k n left
+  x = p .0
+
+  abbrev j : Test
+  j = p .1 .0
+
   pub test-fields : TwoFields bs n
-  test-fields = visited-operands x (test j) e refl
+  test-fields = visited-operands x (test j) (p .1 .1) refl
 
   -- An operand is refused.
   pub test-stops : {s′ : List ℕ} {r : Refusal} {l : ℕ} → StopsBoth bs env s top n (left - 1) s′ r l → EvaluatesP bs env s top n left s′ (Refused r l)
   unfolding holdsᵖ
-  test-stops h = held-by x (test j) e (h .frame) (λ i. visits x i _ (h .answer (after x i) _))
+  test-stops h = held-by x (test j) (p .1 .1) (h .frame) (λ i. visits x i _ (h .answer (after x i) _))
 
   module _ {s′ : List ℕ} {at mid other next l : ℕ} (h : EvaluatesBoth bs env s top n (left - 1) s′ at mid other next l)
       {o : Tested} (op : TestOf k s′ at other o) where
@@ -171,15 +176,15 @@ module _ {bs env s : List ℕ} {top k n left : ℕ} (x : Visited bs env s top k 
     unfolding holdsᵖ
     told q i =
         let v = h .answer (after x i) in
-        let r = op j e (tableOf bs .sizes) mid next (v .first) (v .second) (sizes-small bs (x .ready .readable)) (v .leftAt) (v .rightAt) in
+        let r = op j (p .1 .1) (tableOf bs .sizes) mid next (v .first) (v .second) (sizes-small bs (x .ready .readable)) (v .leftAt) (v .rightAt) in
         visits x i _ (then-done _ (v .leftEnds) (then-done _ (v .rightEnds)
         (rw (sym r ∙ q) at (tested-ends n j (v .first) (v .second) _ (v .rightEnds .steps)))))
 
     pub test-unlike : o ≡ Unlike → EvaluatesP bs env s top n left s′ (Refused (record { number = 15; place = n }) l)
-    test-unlike q = held-by x (test j) e (h .frame) (told q)
+    test-unlike q = held-by x (test j) (p .1 .1) (h .frame) (told q)
 
     pub test-truth : {y : Bool} → o ≡ Tells y → EvaluatesP bs env s top n left s′ (Truth y l)
-    test-truth q = held-by x (test j) e (h .frame) (told q)
+    test-truth q = held-by x (test j) (p .1 .1) (h .frame) (told q)
 
 -- What an operand's evaluator asks, where the measures are those of the cycle: 5 times the node, and what is left to do there.
 module _ {bs env s : List ℕ} {top k n left t : ℕ} (e : 5 * n + 1 ≡ t) (x : Visited bs env s top k n left) (y : TwoFields bs n)

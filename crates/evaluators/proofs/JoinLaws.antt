@@ -7,7 +7,7 @@ use mathlib.Core.Option.{Option, none as nothing, some}
 use mathlib.Core.Path.{_≡_, refl, sym, ap, _∙_, subst}
 use native.Mathlib.Omega.{arith}
 use lib.Dec.{eqb}
-use Rattle.rules.specs.Kinds.{predicate, Join, and, or, implies, iff, join, kindOf}
+use Rattle.rules.specs.Kinds.{predicate, Join, and, or, implies, iff, join}
 use Rattle.rules.specs.Ends.{End, done}
 use Rattle.rules.specs.Runs.{M, _orElse_}
 use Rattle.rules.specs.Operations as rules
@@ -19,7 +19,7 @@ use Rattle.reading.specs.declared.Refusal.{Refusal}
 use Rattle.evaluators.specs.declared.Held.{Held}
 use Rattle.evaluators.specs.declared.Held.the-variants.{Truth, Refused}
 use Rattle.evaluators.specs.Answers.{EndsWith, HeldAs}
-use Rattle.evaluators.specs.Cycle.{Ready, Visited, Asks, EvaluatesP}
+use Rattle.evaluators.specs.Cycle.{Ready, Visited, Sort, Asks, EvaluatesP}
 use Rattle.evaluators.specs.Nodes.{fieldA, fieldB, IsPred, DecidesBy, JoinedBy}
 use Rattle.evaluators.proofs.RunLaws.{then-done, then-refused, returns}
 use Rattle.evaluators.proofs.NodeLaws.{Child, ready-child, visited-child, held-as}
@@ -75,10 +75,15 @@ or-rest : {A : Type 0} {budget left : ℕ} (o : Option A) (m : M A) (t : ℕ) {x
 or-rest o m t e h = rw e h
 
 -- 1, 2, 3 and 5: the first operand's node is `a`.
-module _ {bs env s : List ℕ} {top k n left : ℕ} (v : Visited bs env s top k n left) (j : Join) (e : kindOf k ≡ some (join j))
-    {a : ℕ} (q : a ≡ fieldA bs n) where
+module _ {bs env s : List ℕ} {top k n left : ℕ} (at-join : Visited bs env s top k n left × Sort join k) {a : ℕ} (q : a ≡ fieldA bs n) where
+  abbrev v : Visited bs env s top k n left
+  v = at-join .0
+
+  abbrev j : Join
+  j = at-join .1 .0
+
   pub join-child : Child bs n a predicate
-  join-child = visited-child v (join j) e predicate 0 a (omega arith) (omega arith) refl q
+  join-child = visited-child v (join j) (at-join .1 .1) predicate 0 a (omega arith) (omega arith) refl q
 
   -- It has been evaluated.
   module _ {s′ : List ℕ} {r : Held} (h : EvaluatesP bs env s top a (left - 1) s′ r) where
@@ -88,28 +93,28 @@ module _ {bs env s : List ℕ} {top k n left : ℕ} (v : Visited bs env s top k 
     -- It is refused.
     pub join-stays : {p : Refusal} {l : ℕ} → r ≡ Refused p l → EvaluatesP bs env s top n left s′ r
     unfolding holdsᵖ
-    join-stays {p} {l} d = held-as refl (sym d) (held-by v (join j) e (h .frame) (λ i. visits v i _ (then-refused _ (join-first (Refused p l) d i))))
+    join-stays {p} {l} d = held-as refl (sym d) (held-by v (join j) (at-join .1 .1) (h .frame) (λ i. visits v i _ (then-refused _ (join-first (Refused p l) d i))))
 
     module _ {y : Bool} {l : ℕ} (d : r ≡ Truth y l) {o : Bool} (by : DecidesBy k y o) where
       -- It decides.
       pub join-short : o ≡ true → EvaluatesP bs env s top n left s′ (Truth (not (eqb k 1)) l)
       unfolding holdsᵖ
       join-short c =
-          held-by v (join j) e (h .frame) (λ i.
+          held-by v (join j) (at-join .1 .1) (h .frame) (λ i.
           let w = join-first (Truth y l) d i in
           visits v i _ (then-done _ w
-          (or-decided (rules.decides j y) _ _ _ (by j e ∙ ap (λ (x : Bool). cond x (some (not (eqb k 1))) nothing) c) (w .steps))))
+          (or-decided (rules.decides j y) _ _ _ (by j (at-join .1 .1) ∙ ap (λ (x : Bool). cond x (some (not (eqb k 1))) nothing) c) (w .steps))))
 
       -- It does not, and the second operand's node is `m`.
       module _ (c : o ≡ false) {m : ℕ} (qb : m ≡ fieldB bs n) where
         pub join-next : Child bs n m predicate
-        join-next = visited-child v (join j) e predicate 1 m (omega arith) (omega arith) refl qb
+        join-next = visited-child v (join j) (at-join .1 .1) predicate 1 m (omega arith) (omega arith) refl qb
 
         pub join-ready : Ready bs env s′ top m × IsPred bs m
         join-ready = (ready-child s′ m top (v .ready) join-next (h .frame) (omega arith) (omega arith), join-next .is)
 
         open-by : rules.decides j y ≡ nothing
-        open-by = by j e ∙ ap (λ (x : Bool). cond x (some (not (eqb k 1))) nothing) c
+        open-by = by j (at-join .1 .1) ∙ ap (λ (x : Bool). cond x (some (not (eqb k 1))) nothing) c
 
         -- What is asked of it.
         abbrev second : Asks bs env s top n left → Asks bs env s′ top n l
@@ -122,14 +127,14 @@ module _ {bs env s : List ℕ} {top k n left : ℕ} (v : Visited bs env s top k 
           pub join-stays-2 : {p : Refusal} {u : ℕ} → r′ ≡ Refused p u → EvaluatesP bs env s top n left s″ r′
           unfolding holdsᵖ
           join-stays-2 {p} {u} d′ =
-              held-as refl (sym d′) (held-by v (join j) e join-frame (λ i.
+              held-as refl (sym d′) (held-by v (join j) (at-join .1 .1) join-frame (λ i.
               visits v i _ (then-done _ (join-first (Truth y l) d i) (or-rest (rules.decides j y) _ _ open-by
               (then-refused _ (held-below (second i) join-next qb (Refused p u) (held-as refl d′ h′)))))))
 
           pub join-both : {z w : Bool} {u : ℕ} → r′ ≡ Truth z u → JoinedBy k y z w → EvaluatesP bs env s top n left s″ (Truth w u)
           unfolding holdsᵖ
           join-both {z} {w} {u} d′ is =
-              held-by v (join j) e join-frame (λ i.
+              held-by v (join j) (at-join .1 .1) join-frame (λ i.
               let t = held-below (second i) join-next qb (Truth z u) (held-as refl d′ h′) in
               visits v i _ (then-done _ (join-first (Truth y l) d i) (or-rest (rules.decides j y) _ _ open-by
-              (then-done _ t (rw (sym (is j e)) (returns w (t .steps)))))))
+              (then-done _ t (rw (sym (is j (at-join .1 .1))) (returns w (t .steps)))))))

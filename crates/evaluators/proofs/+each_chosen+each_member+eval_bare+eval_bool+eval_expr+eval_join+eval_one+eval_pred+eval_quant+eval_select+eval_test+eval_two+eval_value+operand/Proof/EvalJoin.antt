@@ -43,7 +43,7 @@ module _ (t : ℕ) where
   returns-2 : Here lts.Need-returns-2
   returns-2 c =
       let k = c .before in let e = first k in let p = lent (word e) .pre .1 in
-      join-short (p .0) (p .1 .0) (p .1 .1) (word e .node-field .ensures) (e .eval-pred .ensures) (held k .first .given .1) (k .decides .ensures)
+      join-short p (word e .node-field .ensures) (e .eval-pred .ensures) (held k .first .given .1) (k .decides .ensures)
       (c .if1 .taken)
 
   eval-pred-requires-2 : Here lts.Need-eval-pred-requires-2
@@ -51,21 +51,21 @@ module _ (t : ℕ) where
       let g = c .before in let k = decided g in let e = first k in let v = lent (word e) in let p = v .pre .1 in
       let d = visited-child (p .0) (join (p .1 .0)) (p .1 .1) predicate 1 _ (omega arith) (omega arith) refl (g .node-field2 .ensures) in (
         omega (arith, v .pre .0, d .below),
-        join-ready (p .0) (p .1 .0) (p .1 .1) (word e .node-field .ensures) (e .eval-pred .ensures) (held k .first .given .1) (k .decides .ensures)
+        join-ready p (word e .node-field .ensures) (e .eval-pred .ensures) (held k .first .given .1) (k .decides .ensures)
             (g .before .if1 .left) (g .node-field2 .ensures),
       )
 
   returns-3 : Here lts.Need-returns-3
   returns-3 c =
       let s = ran₂ (c .before .before) in let g = word₂ s in let k = decided g in let e = first k in let p = lent (word e) .pre .1 in
-      join-stays-2 (p .0) (p .1 .0) (p .1 .1) (word e .node-field .ensures) (e .eval-pred .ensures) (held k .first .given .1) (k .decides .ensures)
+      join-stays-2 p (word e .node-field .ensures) (e .eval-pred .ensures) (held k .first .given .1) (k .decides .ensures)
       (g .before .if1 .left) (g .node-field2 .ensures) (s .eval-pred2 .ensures) (c .enum-told2 .given .1)
 
   returns-4 : Here lts.Need-returns-4
   returns-4 c =
       let w = c .before .before in let s = ran₂ (w .before .before) in let g = word₂ s in let k = decided g in let e = first k in
       let p = lent (word e) .pre .1 in
-      join-both (p .0) (p .1 .0) (p .1 .1) (word e .node-field .ensures) (e .eval-pred .ensures) (held k .first .given .1) (k .decides .ensures)
+      join-both p (word e .node-field .ensures) (e .eval-pred .ensures) (held k .first .given .1) (k .decides .ensures)
       (g .before .if1 .left) (g .node-field2 .ensures) (s .eval-pred2 .ensures) (w .second .given .1) (c .joined .ensures)
 
   pub closed : {M : Type 1} → lts.Closed claims (eval-join .at t) (eval-join .post) M
@@ -74,11 +74,11 @@ module _ (t : ℕ) where
       (λ c κs. (ready-node (c .before .before .pre .1 .0 .ready), lit< tt))
       (λ c. lent (c .before) .pre .1 .0 .unspent)
       (λ c κs. let f = c .before in let p = lent f .pre in
-      child-asks 3 (omega arith) (p .0) (p .1 .0 .ready) (join-child (p .1 .0) (p .1 .1 .0) (p .1 .1 .1) (f .node-field .ensures)))
+      child-asks 3 (omega arith) (p .0) (p .1 .0 .ready) (join-child (p .1) (f .node-field .ensures)))
       (λ c. c .match .keys1) (λ c. c .match .keys2)
       (λ c. ran (c .before .before) .eval-pred .kept .1 .1 .0)
       (λ c. let e = ran (c .before .before) in let p = lent (word e) .pre .1 in
-      join-stays (p .0) (p .1 .0) (p .1 .1) (word e .node-field .ensures) (e .eval-pred .ensures) (c .enum-told .given .1))
+      join-stays p (word e .node-field .ensures) (e .eval-pred .ensures) (c .enum-told .given .1))
       (λ c κs. tt)
       (λ c. first (c .before) .eval-pred .kept .1 .1 .0)
       returns-2

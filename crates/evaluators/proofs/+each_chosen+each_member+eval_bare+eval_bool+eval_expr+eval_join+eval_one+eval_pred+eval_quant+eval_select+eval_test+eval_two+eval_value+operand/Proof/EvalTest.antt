@@ -42,18 +42,18 @@ module _ (t : ℕ) where
   tried c = c .before .before .before
 
   fields : (v : Here lts.Start) → TwoFields (now (v .args .table)) (v .args .node)
-  fields v = test-fields (v .pre .1 .0) (v .pre .1 .1 .0) (v .pre .1 .1 .1)
+  fields v = test-fields (v .pre .1)
 
   returns : Here lts.Need-returns
   returns c =
       let k = c .before in let e = ran (k .before .before) in let v = lent (word e) in
-      held-as refl (refusal-is (k .enum-told .given .1) (c .refusal-of .ensures)) (test-stops (v .pre .1 .0) (v .pre .1 .1 .0) (v .pre .1 .1 .1)
+      held-as refl (refusal-is (k .enum-told .given .1) (c .refusal-of .ensures)) (test-stops (v .pre .1)
       (both-stops (v .pre .1 .0 .ready) (fields v) (word e .node-field .ensures) (e .operand .ensures) (k .enum-told .given .1)))
 
   returns-2 : Here lts.Need-returns-2
   returns-2 c =
       let k = c .before in let s = ran₂ (k .before .before) in let e = first s in let v = lent (word e) in let g = s .before .before in
-      held-as refl (refusal-is (k .enum-told2 .given .1) (c .refusal-of2 .ensures)) (test-stops (v .pre .1 .0) (v .pre .1 .1 .0) (v .pre .1 .1 .1)
+      held-as refl (refusal-is (k .enum-told2 .given .1) (c .refusal-of2 .ensures)) (test-stops (v .pre .1)
       (both-stops-2 (v .pre .1 .0 .ready) (fields v) (word e .node-field .ensures) (e .operand .ensures) (placed g .first .given .1)
       (g .node-field2 .ensures) (s .operand2 .ensures) (k .enum-told2 .given .1)))
 
@@ -87,7 +87,7 @@ module _ (t : ℕ) where
       (λ c. c .match3 .keys1) (λ c. c .match3 .keys2) (λ c κs. tt)
       (λ c. let w = tried (c .before .before .before) in let s = ran₂ (w .before .before) in s .operand2 .kept .1 .1 .0 ∙ first s .operand .kept .1 .1 .0)
       (λ c. let k = c .before in let q = k .before .before in let w = tried q in let p = begun w .pre .1 in
-      held-as refl (sym (c .refused .ensures)) (test-unlike (p .0) (p .1 .0) (p .1 .1) (formed w) (q .test .ensures) (k .enum-told3 .given .1)))
+      held-as refl (sym (c .refused .ensures)) (test-unlike p (formed w) (q .test .ensures) (k .enum-told3 .given .1)))
       (λ c. let w = tried (c .before .before .before) in let s = ran₂ (w .before .before) in s .operand2 .kept .1 .1 .0 ∙ first s .operand .kept .1 .1 .0)
       (λ c. let q = c .before .before .before in let w = tried q in let p = begun w .pre .1 in
-      test-truth (p .0) (p .1 .0) (p .1 .1) (formed w) (q .test .ensures) (c .before .tested .given .1))
+      test-truth p (formed w) (q .test .ensures) (c .before .tested .given .1))
