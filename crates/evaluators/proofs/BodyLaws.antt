@@ -1,5 +1,5 @@
 -- The body of a binder: its environment at a member of the range, what the loop's answer is asked for, and the members one after the other.
-use Prim.Native.Nat.{ℕ, _+_, _-_, _≤_, _<_}
+use Prim.Native.Nat.{ℕ, _+_, _-_, _*_, _≤_, _<_}
 use mathlib.Core.Bool.{Bool}
 use mathlib.Core.List.{List, []}
 use mathlib.Core.Path.{_≡_, refl, sym, _∙_, subst}
@@ -148,10 +148,14 @@ module _ {bs env s₀ : List ℕ} {top n from count left x : ℕ} {s inner : Lis
         binds-body (i .inside) (omega (arith, ex, r .name)) member-low (binds-frame to (i .frame) low (k .asks .binds))
         (record { stands = g .stands; below = omega (arith, g .below); good = g .good })
 
-    pub body-begins : (Builds bs → to + cellsFor bs (fieldC bs n) ≤ length s) → Ready bs (setAt inner x at) s to c × IsPred bs c
-    body-begins room =
-        let b = member-binds (some-asked left r) in
-        rw ey (ready-at (r .ready) (fieldC bs n) (r .ready .node) room (i .frame .kept) (inner-set at (i .inside) .long) b, r .is)
+    -- What the body's evaluator asks, where the measures are those of the cycle.
+    pub body-asks : {t : ℕ} → 5 * n ≡ t → (Builds bs → to + cellsFor bs (fieldC bs n) ≤ length s) →
+        (5 * c + 3 < t) × (Ready bs (setAt inner x at) s to c × IsPred bs c)
+    body-asks e room =
+        let b = member-binds (some-asked left r) in (
+          omega (arith, r .deeper, ey),
+          rw ey (ready-at (r .ready) (fieldC bs n) (r .ready .node) room (i .frame .kept) (inner-set at (i .inside) .long) b, r .is),
+        )
 
     -- It has run.
     module _ {s′ : List ℕ} {h : Held} (p : EvaluatesP bs (setAt inner x at) s to c m s′ h) where

@@ -1,5 +1,5 @@
 -- The members that a comprehension chooses: its run member by member, and the set that is built of them.
-use Prim.Native.Nat.{ℕ, _+_, _-_, _≤_, _<_}
+use Prim.Native.Nat.{ℕ, _+_, _-_, _*_, _≤_, _<_}
 use mathlib.Core.Bool.{Bool, true, false, cond}
 use mathlib.Core.List.{List, [], _∷_, _++_, append-assoc, append-nil}
 use mathlib.Core.Path.{_≡_, refl, sym, ap, _∙_, subst}
@@ -25,7 +25,7 @@ use Rattle.evaluators.specs.Answers.{EndsWith, SelectedAs}
 use Rattle.evaluators.specs.Nodes.{fieldA, fieldC, IsPred, ChooseReady, Chooses}
 use Rattle.evaluators.specs.Cycle.{Ready, Asked, bodyOf, EvaluatesP, EachReady, EvaluatesChosen}
 use Rattle.evaluators.proofs.RunLaws.{then-done, then-refused, returns}
-use Rattle.evaluators.proofs.BodyLaws.{some-asked, First, none-left, Loop, loop-start, member, member-at, member-ends, loop-next, body-begins, body-ends, body-frame}
+use Rattle.evaluators.proofs.BodyLaws.{some-asked, First, none-left, Loop, loop-start, member, member-at, member-ends, loop-next, body-asks, body-ends, body-frame}
 use Rattle.laws.proofs.CellsLaws.{count-weights}
 
 -- What a member adds to those chosen.
@@ -163,8 +163,8 @@ module _ {bs env s₀ : List ℕ} {top n from count left : ℕ} (pre : EachReady
       low : top ≤ to
       low = omega (arith, choosing-near .0)
 
-      pub choosing-ready : Ready bs (setAt inner x at) s to c × IsPred bs c
-      choosing-ready = body-begins pre (h .loop) some low name body (λ _. omega (arith, pre .space (omega arith), choosing-near .1, h .loop .frame .kept))
+      pub choosing-asks : {t : ℕ} → 5 * n ≡ t → (5 * c + 3 < t) × (Ready bs (setAt inner x at) s to c × IsPred bs c)
+      choosing-asks e = body-asks pre (h .loop) some low name body e (λ _. omega (arith, pre .space (omega arith), choosing-near .1, h .loop .frame .kept))
 
       module _ {s₁ : List ℕ} {r : Held} (e : EvaluatesP bs (setAt inner x at) s to c m s₁ r) where
         abbrev next : (k : Asked bs env s₀ top n from count left) → First (tableOf bs .sizes) s top at more (h .loop .rest k)

@@ -1,5 +1,5 @@
 -- Joins by their codes; then the run at the node, part by part, and with it what the answers for the conditions below make of the node's.
-use Prim.Native.Nat.{ℕ, _+_, _-_}
+use Prim.Native.Nat.{ℕ, _+_, _-_, _*_, _<_}
 use mathlib.Core.Bool.{Bool, true, false, not, cond, Bool·beq}
 use mathlib.Core.List.{List}
 use mathlib.Core.Logic.{_⊎_, inl, inr, _≢_}
@@ -107,11 +107,11 @@ module _ {bs env s : List ℕ} {top k n left : ℕ} (at-join : Visited bs env s 
 
       -- It does not, and the second operand's node is `m`.
       module _ (c : o ≡ false) {m : ℕ} (qb : m ≡ fieldB bs n) where
-        pub join-next : Child bs n m predicate
+        join-next : Child bs n m predicate
         join-next = visited-child v (join j) (at-join .1 .1) predicate 1 m (omega arith) (omega arith) refl qb
 
-        pub join-ready : Ready bs env s′ top m × IsPred bs m
-        join-ready = (ready-child s′ m top (v .ready) join-next (h .frame) (omega arith) (omega arith), join-next .is)
+        pub join-asks : {t : ℕ} → 5 * n + 1 ≡ t → (5 * m + 3 < t) × (Ready bs env s′ top m × IsPred bs m)
+        join-asks e = (omega (arith, join-next .below), (ready-child s′ m top (v .ready) join-next (h .frame) (omega arith) (omega arith), join-next .is))
 
         open-by : rules.decides j y ≡ nothing
         open-by = by j (at-join .1 .1) ∙ ap (λ (x : Bool). cond x (some (not (eqb k 1))) nothing) c

@@ -1,6 +1,6 @@
 -- The loop over the members of a quantifier's range, turn by turn, and the quantifier's node: what is given for the rest of the range is
 -- given for the whole.
-use Prim.Native.Nat.{ℕ, _+_, _-_, _<_}
+use Prim.Native.Nat.{ℕ, _+_, _-_, _*_, _<_}
 use mathlib.Core.Bool.{Bool, true, false, not, Bool·beq}
 use mathlib.Core.List.{List, [], _∷_}
 use mathlib.Core.Option.{some}
@@ -29,7 +29,7 @@ use Rattle.evaluators.specs.Nodes.{fieldA, fieldB, fieldC, quantOf, IsPr
 use Rattle.evaluators.specs.Cycle.{Ready, Visited, Sort, Asked, bodyOf, EachReady, EvaluatesP, EvaluatesE, EvaluatesEach}
 use Rattle.evaluators.proofs.RunLaws.{then-done, then-refused, returns}
 use Rattle.evaluators.proofs.NodeLaws.{formed-as, held-by}
-use Rattle.evaluators.proofs.BodyLaws.{First, none-left, Loop, loop-start, member, member-at, loop-next, body-begins, body-ends, body-frame}
+use Rattle.evaluators.proofs.BodyLaws.{First, none-left, Loop, loop-start, member, member-at, loop-next, body-asks, body-ends, body-frame}
 use Rattle.evaluators.proofs.RangeLaws.{Binder, range-stops, range-unlike, each-ready, in-range, range-on}
 
 -- Two truths differ, or are the same.
@@ -86,8 +86,8 @@ turning-start all x r = record { loop = loop-start x r; gives = λ k e l h. h }
 module _ {bs env s₀ : List ℕ} {top : ℕ} {all : Bool} {node from count left x : ℕ} {s inner : List ℕ} {at more n : ℕ}
     (r : EachReady bs env s₀ top node from count 0) (i : Turning bs env s₀ top all node from count left x s inner at more n) (some : 0 < more)
     (ex : x ≡ fieldA bs node) {b : ℕ} (ey : b ≡ fieldC bs node) where
-  pub body-ready : Ready bs (setAt inner x at) s top b × IsPred bs b
-  body-ready = body-begins r (i .loop) some (le-refl top) ex ey (λ b. omega (arith, r .ready .room b, i .loop .frame .kept))
+  pub member-asks : {t : ℕ} → 5 * node ≡ t → (5 * b + 3 < t) × (Ready bs (setAt inner x at) s top b × IsPred bs b)
+  member-asks e = body-asks r (i .loop) some (le-refl top) ex ey e (λ b. omega (arith, r .ready .room b, i .loop .frame .kept))
 
   module _ {s′ : List ℕ} {h : Held} (p : EvaluatesP bs (setAt inner x at) s top b n s′ h) where
     abbrev next : (k : Asked bs env s₀ top node from count left) → First (tableOf bs .sizes) s top at more (i .loop .rest k)
@@ -173,8 +173,8 @@ module _ {bs env s : List ℕ} {top k n left : ℕ} (d : Visited bs env s top k 
     quant-unlike g = held-by (d .0) (quant (d .1 .0)) (d .1 .1) (h .frame) (λ i. range-unlike quant-binder h g i _)
 
     module _ {m : ℕ} (g : RangeAt s′ at (Set m)) where
-      pub quant-ready : EachReady bs env s′ next n (at + 1) m 0
-      quant-ready = each-ready quant-binder h g 0 (omega arith) (λ z. absurd (omega arith))
+      pub quant-asks : {t : ℕ} → 5 * n + 1 ≡ t → (5 * n < t) × EachReady bs env s′ next n (at + 1) m 0
+      quant-asks e = (omega arith, each-ready quant-binder h g 0 (omega arith) (λ z. absurd (omega arith)))
 
       pub quant-done : {s″ : List ℕ} {r′ : Held} → EvaluatesEach bs env s′ next n (at + 1) m l (quantOf (eqb k 10)) s″ r′ →
           EvaluatesP bs env s top n left s″ r′

@@ -8,7 +8,7 @@ use Rattle.evaluators.proofs.stop_of.Reads as stop
 use Rattle.evaluators.proofs.+each_chosen+each_member+eval_bare+eval_bool+eval_expr+eval_join+eval_one+eval_pred+eval_quant+eval_select+eval_test+eval_two+eval_value+operand.Proof.Base.{each-chosen, eval-pred, ℕ, _∙_, arith, lit<, In, Out, one-less, binder-node, entry-below, entry-scaled, stop-is, member-low}
 use Rattle.evaluators.proofs.SafeLaws.{above-fits, top-scaled, top-inside, written-kept}
 use Rattle.evaluators.proofs.FormLaws.{chosen-as}
-use Rattle.evaluators.proofs.ChosenLaws.{Choosing, choosing-start, choosing-near, choosing-few, choosing-end, choosing-ready, choosing-refused, choosing-some, choosing-choose, choosing-next}
+use Rattle.evaluators.proofs.ChosenLaws.{Choosing, choosing-start, choosing-near, choosing-few, choosing-end, choosing-asks, choosing-refused, choosing-some, choosing-choose, choosing-next}
 
 abbrev Inv : lts.InvT-loop
 Inv table env s₀ top node from count left x body inner₀ at₀ more₀ n₀ to₀ chosen₀ s inner at more n to chosen =
@@ -44,10 +44,8 @@ module _ (t : ℕ) where
 
   eval-pred-requires : Here lts.Need-eval-pred-requires
   eval-pred-requires c κs =
-      let w = c .before .before in let g = words (w .before) in let v = lent (g .before) in (
-        omega (arith, v .pre .0, v .pre .1 .deeper, g .node-field2 .ensures),
-        choosing-ready (v .pre .1) (w .before .loop .inv) (w .loop-test .taken) (g .before .node-field .ensures) (g .node-field2 .ensures),
-      )
+      let w = c .before .before in let g = words (w .before) in let v = lent (g .before) in
+      choosing-asks (v .pre .1) (w .before .loop .inv) (w .loop-test .taken) (g .before .node-field .ensures) (g .node-field2 .ensures) (v .pre .0)
 
   returns : Here lts.Need-returns
   returns c =

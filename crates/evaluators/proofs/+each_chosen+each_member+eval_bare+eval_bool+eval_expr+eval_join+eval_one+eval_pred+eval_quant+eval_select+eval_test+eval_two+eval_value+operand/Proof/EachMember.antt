@@ -4,7 +4,7 @@ use Rattle.evaluators.proofs.+each_chosen+each_member+eval_bare+eval_bo
 use Rattle.arena.proofs.end_of.Reads as end-of
 use Rattle.table.proofs.node_field.Reads as field
 use Rattle.evaluators.proofs.+each_chosen+each_member+eval_bare+eval_bool+eval_expr+eval_join+eval_one+eval_pred+eval_quant+eval_select+eval_test+eval_two+eval_value+operand.Proof.Base.{each-member, eval-pred, ℕ, _∙_, arith, lit<, In, Out, one-less, binder-node, entry-below, entry-scaled, member-low}
-use Rattle.evaluators.proofs.QuantLaws.{differ, agree, Turning, turning-start, member-stands, body-ready, member-refused, member-decides, turning-on, members-done}
+use Rattle.evaluators.proofs.QuantLaws.{differ, agree, Turning, turning-start, member-stands, member-asks, member-refused, member-decides, turning-on, members-done}
 
 abbrev Inv : lts.InvT-loop
 Inv table env s₀ top all node from count left x body inner₀ at₀ more₀ n₀ s inner at more n =
@@ -34,10 +34,8 @@ module _ (t : ℕ) where
 
   eval-pred-requires : Here lts.Need-eval-pred-requires
   eval-pred-requires c κs =
-      let w = c .before .before in let g = words (w .before) in let v = lent (g .before) in (
-        omega (arith, v .pre .0, v .pre .1 .deeper, g .node-field2 .ensures),
-        body-ready (v .pre .1) (w .before .loop .inv) (w .loop-test .taken) (g .before .node-field .ensures) (g .node-field2 .ensures),
-      )
+      let w = c .before .before in let g = words (w .before) in let v = lent (g .before) in
+      member-asks (v .pre .1) (w .before .loop .inv) (w .loop-test .taken) (g .before .node-field .ensures) (g .node-field2 .ensures) (v .pre .0)
 
   returns : Here lts.Need-returns
   returns c =

@@ -1,13 +1,11 @@
 -- `eval_join`: the first operand, and where it does not decide the second. Landmarks: what was lent, the words of the fields, the answers
 -- for the operands, and whether the first decides.
-use Rattle.rules.specs.Kinds.{join, predicate}
 use Rattle.evaluators.proofs.+each_chosen+each_member+eval_bare+eval_bool+eval_expr+eval_join+eval_one+eval_pred+eval_quant+eval_select+eval_test+eval_two+eval_value+operand.Lts-eval_join as lts
 use Rattle.evaluators.proofs.decides.Reads as decides
 use Rattle.evaluators.proofs.joined.Reads as joined
 use Rattle.table.proofs.node_field.Reads as field
 use Rattle.evaluators.proofs.+each_chosen+each_member+eval_bare+eval_bool+eval_expr+eval_join+eval_one+eval_pred+eval_quant+eval_select+eval_test+eval_two+eval_value+operand.Proof.Base.{Over, eval-join, eval-pred, ℕ, arith, _∙_, refl, lit<, ready-node, child-asks}
-use Rattle.evaluators.proofs.NodeLaws.{visited-child}
-use Rattle.evaluators.proofs.JoinLaws.{join-child, join-stays, join-short, join-ready, join-stays-2, join-both}
+use Rattle.evaluators.proofs.JoinLaws.{join-child, join-stays, join-short, join-asks, join-stays-2, join-both}
 
 module _ (t : ℕ) where
   abbrev claims : lts.Claims
@@ -40,20 +38,11 @@ module _ (t : ℕ) where
   abbrev ran₂ : Here lts.After-slice-known3 → Here lts.After-eval-pred2
   ran₂ c = c .before .before
 
-  returns-2 : Here lts.Need-returns-2
-  returns-2 c =
-      let k = c .before in let e = first k in let p = lent (word e) .pre .1 in
-      join-short p (word e .node-field .ensures) (e .eval-pred .ensures) (held k .first .given .1) (k .decides .ensures)
-      (c .if1 .taken)
-
   eval-pred-requires-2 : Here lts.Need-eval-pred-requires-2
   eval-pred-requires-2 c κs =
-      let g = c .before in let k = decided g in let e = first k in let v = lent (word e) in let p = v .pre .1 in
-      let d = visited-child (p .0) (join (p .1 .0)) (p .1 .1) predicate 1 _ (omega arith) (omega arith) refl (g .node-field2 .ensures) in (
-        omega (arith, v .pre .0, d .below),
-        join-ready p (word e .node-field .ensures) (e .eval-pred .ensures) (held k .first .given .1) (k .decides .ensures)
-            (g .before .if1 .left) (g .node-field2 .ensures),
-      )
+      let g = c .before in let k = decided g in let e = first k in let v = lent (word e) in
+      join-asks (v .pre .1) (word e .node-field .ensures) (e .eval-pred .ensures) (held k .first .given .1) (k .decides .ensures)
+      (g .before .if1 .left) (g .node-field2 .ensures) (v .pre .0)
 
   returns-3 : Here lts.Need-returns-3
   returns-3 c =
@@ -81,7 +70,8 @@ module _ (t : ℕ) where
       join-stays p (word e .node-field .ensures) (e .eval-pred .ensures) (c .enum-told .given .1))
       (λ c κs. tt)
       (λ c. first (c .before) .eval-pred .kept .1 .1 .0)
-      returns-2
+      (λ c. let k = c .before in let e = first k in let p = lent (word e) .pre .1 in
+      join-short p (word e .node-field .ensures) (e .eval-pred .ensures) (held k .first .given .1) (k .decides .ensures) (c .if1 .taken))
       (λ c κs. (ready-node (lent (word (first (c .before))) .pre .1 .0 .ready), lit< tt))
       eval-pred-requires-2
       (λ c. c .match2 .keys1) (λ c. c .match2 .keys2)

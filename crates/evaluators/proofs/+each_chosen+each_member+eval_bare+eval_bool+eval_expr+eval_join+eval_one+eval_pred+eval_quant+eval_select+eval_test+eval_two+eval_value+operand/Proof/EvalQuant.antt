@@ -6,7 +6,7 @@ use Rattle.evaluators.proofs.range_of.Reads as range
 use Rattle.evaluators.proofs.refusal_of.Reads as refusal
 use Rattle.evaluators.proofs.refused.Reads as refused
 use Rattle.evaluators.proofs.+each_chosen+each_member+eval_bare+eval_bool+eval_expr+eval_join+eval_one+eval_pred+eval_quant+eval_select+eval_test+eval_two+eval_value+operand.Proof.Base.{Over, each-member, eval-quant, operand, ℕ, refl, sym, _∙_, arith, lit<, ready-node, child-asks, held-as, formed-as, refusal-is, range-as, range-child, range-good, range-low}
-use Rattle.evaluators.proofs.QuantLaws.{quant-binder, quant-refused, quant-unlike, quant-ready, quant-done}
+use Rattle.evaluators.proofs.QuantLaws.{quant-binder, quant-refused, quant-unlike, quant-asks, quant-done}
 
 module _ (t : ℕ) where
   abbrev claims : lts.Claims
@@ -65,11 +65,9 @@ module _ (t : ℕ) where
 
   each-member-requires : Here lts.Need-each-member-requires
   each-member-requires c κs =
-      let a = c .before .before in let o = a .before .before in let e = first o in let f = word e in (
-        omega (arith, lent f .pre .0),
-        quant-ready (lent f .pre .1) (f .node-field .ensures) (formed-as refl (asked o .first .given .1) (e .operand .ensures))
-            (range-as (a .range .given .1) (o .range-of .ensures)),
-      )
+      let a = c .before .before in let o = a .before .before in let e = first o in let v = lent (word e) in
+      quant-asks (v .pre .1) (word e .node-field .ensures) (formed-as refl (asked o .first .given .1) (e .operand .ensures))
+      (range-as (a .range .given .1) (o .range-of .ensures)) (v .pre .0)
 
   returns-3 : Here lts.Need-returns-3
   returns-3 c =
