@@ -1,28 +1,14 @@
 -- The body of a binder: its environment at a member of the range, what the loop's answer is asked for, and the members one after the other.
-use Prim.Native.Nat.{ℕ, _+_, _-_, _*_, _≤_, _<_}
-use mathlib.Core.Bool.{Bool}
-use mathlib.Core.List.{List, []}
-use mathlib.Core.Path.{_≡_, refl, sym, _∙_, subst}
-use native.Mathlib.Omega.{arith}
+use Rattle.evaluators.proofs.Terms.{ℕ, _+_, _-_, _*_, _≤_, _<_, Bool, List, [], _≡_, refl, sym, _∙_, subst, arith, length, getD, setAt, length-set}
+use Rattle.evaluators.proofs.Terms.{Value, Values, weight, members, tableOf, Env, code, codes, Stands, Same, SomeAt, EndsAt, stands-frame, same-refl, same-trans, length-code, length-codes, Builds, Sizes, GoodAt, good-fits, good-inside, Held, Truth, HeldAs, Listed, fieldA, fieldC, placeOf, Marked, IsPred, cellsFor, Binds, Ready, Asked, bodyOf, EachReady, holdsAt, EvaluatesP}
 use native.Mathlib.Decide.{ℕ-discrete}
 use borrow.Author.Tests.{eq-eqb, ne-eqb}
-use lib.ListN.{length, getD, set as setAt, length-set}
 use lib.Seq.{getD-set-same, getD-set-other}
-use Rattle.rules.specs.Values.{Value, Values, none, _▸_, weight, members}
-use Rattle.rules.specs.Tables.{tableOf}
-use Rattle.rules.specs.Operations.{Env, _with_≔_}
+use Rattle.rules.specs.Values.{none, _▸_}
+use Rattle.rules.specs.Operations.{_with_≔_}
 use Rattle.laws.proofs.FormedLaws.{with-good}
-use Rattle.arena.specs.Code.{code, codes, Stands, Same, SomeAt, EndsAt}
-use Rattle.arena.proofs.Standing.{stands-frame, stands-front, stands-back, same-refl, same-trans}
-use Rattle.arena.proofs.CodeLaws.{length-code, length-codes}
-use Rattle.constants.specs.Built.{Builds}
-use Rattle.operations.specs.Good.{Sizes, GoodAt, NewFirsts}
-use Rattle.operations.proofs.GoodLaws.{good-fits, good-inside}
-use Rattle.evaluators.specs.declared.Held.{Held}
-use Rattle.evaluators.specs.declared.Held.the-variants.{Truth}
-use Rattle.evaluators.specs.Answers.{HeldAs, Listed}
-use Rattle.evaluators.specs.Nodes.{fieldA, fieldC, placeOf, Marked, IsPred}
-use Rattle.evaluators.specs.Cycle.{cellsFor, Binds, Ready, Asked, bodyOf, EachReady, holdsAt, EvaluatesP}
+use Rattle.arena.proofs.Standing.{stands-front, stands-back}
+use Rattle.operations.specs.Good.{NewFirsts}
 use Rattle.evaluators.proofs.NodeLaws.{sizes-small, good-frame, binds-frame, ready-at, some-asks, held-as}
 
 -- The environment of the body: the binder's own, but for its name x.

@@ -1,34 +1,15 @@
 -- The two operands of a node, one after the other: their answers joined, for tests and for operations of two; and the tests.
-use Prim.Native.Nat.{ℕ, _+_, _-_, _*_, _≤_, _<_}
-use mathlib.Core.Bool.{Bool, true, false}
-use mathlib.Core.List.{List, [], _∷_}
-use mathlib.Core.Path.{_≡_, refl, sym, _∙_, subst}
-use native.Mathlib.Omega.{arith}
-use Rattle.rules.specs.Values.{Value}
-use Rattle.rules.specs.Kinds.{expression, Test, test}
+use Rattle.evaluators.proofs.Terms.{ℕ, _+_, _-_, _*_, _≤_, _<_, Bool, true, false, List, [], _∷_, _≡_, refl, sym, _∙_, subst, arith}
+use Rattle.evaluators.proofs.Terms.{Value, expression, test, fits, tableOf, End, done, refused, Run, M, return, _>>=_, _>>_, fitting, holdsᵖ, Same, same-trans, GoodAt, SomeOperands, Refusal, Formed, Placed, Stopped, Truth, Refused, EndsWith, PlacedAs, conditionCells, Ready, Visited, Sort, Asks, valueAt, EvaluatesP, EvaluatesE, fieldA, fieldB, IsExpr}
+use Rattle.rules.specs.Kinds.{Test}
 use Rattle.rules.specs.Rules.{testRule}
-use Rattle.rules.specs.Fits.{fits}
-use Rattle.rules.specs.Tables.{tableOf}
 use Rattle.rules.specs.Reading.{height}
-use Rattle.rules.specs.Ends.{End, done, refused}
-use Rattle.rules.specs.Runs.{Run, M, return, _>>=_, _>>_}
 use Rattle.rules.specs.Operations.{holds}
-use Rattle.rules.specs.Evaluation.{fitting, holdsᵖ}
-use Rattle.arena.specs.Code.{Same}
-use Rattle.arena.proofs.Standing.{same-trans}
-use Rattle.operations.specs.Good.{GoodAt}
-use Rattle.operations.specs.Outcomes.{SomeOperands, TestOf, tested}
+use Rattle.operations.specs.Outcomes.{TestOf, tested}
 use Rattle.operations.specs.declared.Tested.{Tested}
 use Rattle.operations.specs.declared.Tested.the-variants.{Truth as Tells, Unlike}
 use Rattle.operations.proofs.GoodLaws.{good-above}
 use Rattle.operations.proofs.OutcomeLaws.{test-fit, test-unfit}
-use Rattle.reading.specs.declared.Refusal.{Refusal}
-use Rattle.evaluators.specs.declared.Formed.{Formed}
-use Rattle.evaluators.specs.declared.Formed.the-variants.{Value as Placed, Stopped}
-use Rattle.evaluators.specs.declared.Held.the-variants.{Truth, Refused}
-use Rattle.evaluators.specs.Answers.{EndsWith, PlacedAs}
-use Rattle.evaluators.specs.Cycle.{conditionCells, Ready, Visited, Sort, Asks, valueAt, EvaluatesP, EvaluatesE}
-use Rattle.evaluators.specs.Nodes.{fieldA, fieldB, IsExpr}
 use Rattle.evaluators.proofs.RunLaws.{then-done, then-refused, returns, fitting-on, fitting-refused}
 use Rattle.evaluators.proofs.NodeLaws.{Child, TwoFields, ready-child, ready-first, good-frame, sizes-small, formed-as, some-asks, asks-on}
 use Rattle.evaluators.proofs.NodeLaws.{visited-operands, visits, after, valueIn, formed-below, predᵍ, held-by}

@@ -1,32 +1,17 @@
 -- The members that a comprehension chooses: its run member by member, and the set that is built of them.
-use Prim.Native.Nat.{ℕ, _+_, _-_, _*_, _≤_, _<_}
-use mathlib.Core.Bool.{Bool, true, false, cond}
-use mathlib.Core.List.{List, [], _∷_, _++_, append-assoc, append-nil}
-use mathlib.Core.Path.{_≡_, refl, sym, ap, _∙_, subst}
-use native.Mathlib.Omega.{arith}
-use lib.ListN.{length, set as setAt, length-set}
+use Rattle.evaluators.proofs.Terms.{ℕ, _+_, _-_, _*_, _≤_, _<_, Bool, true, false, cond, List, [], _∷_, _≡_, refl, sym, ap, _∙_, subst, arith, length, setAt, length-set, boolByte}
+use Rattle.evaluators.proofs.Terms.{Value, Values, members, count, weight, done, refused, M, tableOf, code, codes, Stands, Same, SomeAt, EndsAt, length-code, length-codes, stands-frame, same-refl, same-trans, copied-stands, Refusal, Held, Truth, Refused, Placed, Stopped, EndsWith, SelectedAs, fieldA, fieldC, IsPred, ChooseReady, Chooses, Ready, Asked, bodyOf, EvaluatesP, EachReady, EvaluatesChosen}
+use mathlib.Core.List.{_++_, append-assoc, append-nil}
 use lib.Seq.{getD-set-other}
-use mir.Val.{boolByte}
-use Rattle.rules.specs.Values.{Value, Values, members, values, count, weight, weights}
-use Rattle.rules.specs.Ends.{done, refused}
-use Rattle.rules.specs.Runs.{M}
-use Rattle.rules.specs.Tables.{tableOf}
+use Rattle.rules.specs.Values.{values, weights}
 use Rattle.rules.specs.Evaluation.{select}
-use Rattle.arena.specs.Code.{code, codes, Stands, ValuesAt, Same, SomeAt, EndsAt}
-use Rattle.arena.proofs.CodeLaws.{length-code, length-codes}
-use Rattle.arena.proofs.Standing.{stands-append, stands-frame, same-refl, same-trans, copied-stands}
+use Rattle.arena.specs.Code.{ValuesAt}
+use Rattle.arena.proofs.Standing.{stands-append}
 use Rattle.arena.proofs.FrontLaws.{single, codes-append, count-append, weights-append}
 use Rattle.products.proofs.GrowLaws.{made-set}
-use Rattle.reading.specs.declared.Refusal.{Refusal}
-use Rattle.evaluators.specs.declared.Held.{Held}
-use Rattle.evaluators.specs.declared.Held.the-variants.{Truth, Refused}
-use Rattle.evaluators.specs.declared.Formed.the-variants.{Value as Placed, Stopped}
-use Rattle.evaluators.specs.Answers.{EndsWith, SelectedAs}
-use Rattle.evaluators.specs.Nodes.{fieldA, fieldC, IsPred, ChooseReady, Chooses}
-use Rattle.evaluators.specs.Cycle.{Ready, Asked, bodyOf, EvaluatesP, EachReady, EvaluatesChosen}
+use Rattle.laws.proofs.CellsLaws.{count-weights}
 use Rattle.evaluators.proofs.RunLaws.{then-done, then-refused, returns}
 use Rattle.evaluators.proofs.BodyLaws.{some-asked, First, none-left, Loop, loop-start, member, member-at, member-ends, loop-next, body-asks, body-ends, body-frame}
-use Rattle.laws.proofs.CellsLaws.{count-weights}
 
 -- What a member adds to those chosen.
 abbrev picked : Bool → Value → List Value

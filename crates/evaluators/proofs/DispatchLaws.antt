@@ -1,53 +1,29 @@
 -- Where a node's visit goes: the refusal of a visit beyond the budget, the evaluator by the kind's code, the leaves that are built, and those that
 -- stand already.
-use Prim.Native.Nat.{ℕ, zero, suc, _+_, _-_, _≤_, _<_}
-use mathlib.Core.Bool.{Bool, true, false, false≢true, _&&_, cond}
-use mathlib.Core.List.{List}
-use mathlib.Core.Logic.{_≢_, _⊎_, inl, inr, ⊎-elim}
-use mathlib.Core.Option.{Option, none as nothing, some}
-use mathlib.Core.Path.{_≡_, refl, sym, ap, _∙_, subst}
-use native.Mathlib.Omega.{arith}
+use Rattle.evaluators.proofs.Terms.{ℕ, zero, suc, _+_, _-_, _≤_, _<_, Bool, true, false, cond, List, _≢_, _⊎_, inl, inr, ⊎-elim, Option, nothing, some, _≡_, refl, sym, ap, _∙_, subst, arith, leb, getD}
+use Rattle.evaluators.proofs.Terms.{Value, weight, and, or, implies, iff, forAll, forSome, identifier, Kind, join, negation, test, quant, leaf, boolOf, one, two, comprehension, kindOf, Category, predicate, expression, Node, Pred, Expr, tableOf, nodeAt, kindAt, predOf, predAt, exprAt, nodeCount, Readable, CategoryIs, refused, gives, Env, holdsᵖ, valueᵉ, sizes-length, binds-length, good-weight, Same, same-refl, length-code, BuiltAt, code-of, kind-of, Formed, Placed, Stopped, Refused, EndsWith, fieldA, fieldB, IsPred, IsExpr, placeOf, PlacedLeaf, Binds, Ready, Visited, Sort, holdsAt, EvaluatesP, EvaluatesE}
+use mathlib.Core.Bool.{false≢true, _&&_}
 use native.Mathlib.Decide.{decLt}
-use lib.Dec.{leb}
-use lib.ListN.{getD}
 use Rattle.rules.specs.Types.{whole}
-use Rattle.rules.specs.Values.{Value, weight}
-use Rattle.rules.specs.Kinds.{and, or, implies, iff, equal, member, subset, atMost, forAll, forSome}
-use Rattle.rules.specs.Kinds.{Leaf, identifier, givenSet, elementOf, literal, truthConst, emptySet, boolSet}
+use Rattle.rules.specs.Kinds.{equal, member, subset, atMost}
+use Rattle.rules.specs.Kinds.{Leaf, givenSet, elementOf, literal, truthConst, emptySet, boolSet}
 use Rattle.rules.specs.Kinds.{singleton, power, dom, ran, card, choice}
 use Rattle.rules.specs.Kinds.{pairing, union, inter, diff, product, apply, plus, minus, interval}
-use Rattle.rules.specs.Kinds.{Kind, join, negation, test, quant, leaf, boolOf, one, two, comprehension, kindOf}
-use Rattle.rules.specs.Kinds.{Category, predicate, expression}
-use Rattle.rules.specs.Tables.{Node, Pred, Expr, leafᵉ, boolᵉ, oneᵉ, twoᵉ, comprehensionᵉ}
-use Rattle.rules.specs.Tables.{tableOf, nodeAt, kindAt, predOf, predAt, exprAt, nodeCount}
-use Rattle.rules.specs.Readable.{Readable, CategoryIs}
-use Rattle.rules.specs.Ends.{refused}
-use Rattle.rules.specs.Runs.{gives}
-use Rattle.rules.specs.Operations.{Env, leafValue}
-use Rattle.rules.specs.Evaluation.{holdsᵖ, valueᵉ}
-use Rattle.laws.proofs.TableLaws.{sizes-length, binds-length}
-use Rattle.laws.proofs.CellsLaws.{good-weight}
+use Rattle.rules.specs.Tables.{leafᵉ, boolᵉ, oneᵉ, twoᵉ, comprehensionᵉ}
+use Rattle.rules.specs.Operations.{leafValue}
 use Rattle.laws.proofs.EndLaws.{T-true, T-and, T-leb}
 use Rattle.table.specs.Codes.{codeOf as categoryNumber, categoryCode}
 use Rattle.table.proofs.Access.{by-range}
-use Rattle.arena.specs.Code.{ValueAt, Same}
-use Rattle.arena.proofs.Standing.{same-refl}
-use Rattle.arena.proofs.CodeLaws.{length-code}
+use Rattle.arena.specs.Code.{ValueAt}
 use Rattle.constants.specs.Built.{builtLeaf}
 use Rattle.constants.specs.Constants.{OneCell}
 use Rattle.constants.proofs.ConstantLaws.{leaf-one}
-use Rattle.operations.specs.Outcomes.{BuiltAt, LeafFits, LeafReady, LeafDone}
-use Rattle.operations.proofs.KindLaws.{code-of, kind-of}
-use Rattle.evaluators.specs.declared.Formed.{Formed}
-use Rattle.evaluators.specs.declared.Formed.the-variants.{Value as Placed, Stopped}
-use Rattle.evaluators.specs.declared.Held.the-variants.{Refused}
-use Rattle.evaluators.specs.Answers.{EndsWith}
-use Rattle.evaluators.specs.Nodes.{fieldA, fieldB, IsPred, IsExpr, placeOf, leafPlace, PlaceReady, PlacedLeaf, StandingReady, LeafNode, LeafFormed}
-use Rattle.evaluators.specs.Cycle.{Binds, Ready, Visited, Sort, holdsAt, EvaluatesP, EvaluatesE}
+use Rattle.operations.specs.Outcomes.{LeafFits, LeafReady, LeafDone}
+use Rattle.evaluators.specs.Nodes.{leafPlace, PlaceReady, StandingReady, LeafNode, LeafFormed}
+use Rattle.laws.proofs.TypedTree.{numberᵉ, number-at}
 use Rattle.evaluators.proofs.RunLaws.{unvisited, light-form}
 use Rattle.evaluators.proofs.NodeLaws.{sizes-small, field-holds, visited-kind, visited-builds, visits, after, settled-by}
 use Rattle.evaluators.proofs.SafeLaws.{cell-room}
-use Rattle.laws.proofs.TypedTree.{numberᵉ, number-at}
 
 -- 19: the visits are spent.
 module _ (budget : ℕ) (gs : List ℕ) (ρ : Env) (s n : ℕ) {left : ℕ} (c : s + left ≡ budget) (z : left ≡ 0) (d : Node) (p : ℕ → Pred) (e : ℕ → Expr) where

@@ -1,36 +1,16 @@
 -- What the evaluators of expressions with operands give, kinds 25, 27 to 41 and 43: the operands' answers, and with them the node's.
-use Prim.Native.Nat.{ℕ, _+_, _-_, _≤_}
-use mathlib.Core.Bool.{Bool, true, false}
-use mathlib.Core.List.{List, [], _∷_}
-use mathlib.Core.Option.{some}
-use mathlib.Core.Path.{_≡_, refl}
-use native.Mathlib.Omega.{arith}
-use mir.Val.{boolByte}
-use Rattle.rules.specs.Values.{Value, truthValue, weight}
-use Rattle.rules.specs.Kinds.{boolOf, one, two, comprehension, One, Two, predicate, expression, kindOf}
+use Rattle.evaluators.proofs.Terms.{ℕ, _+_, _-_, _≤_, Bool, true, false, List, [], _∷_, some, _≡_, refl, arith, boolByte}
+use Rattle.evaluators.proofs.Terms.{Value, weight, boolOf, one, two, comprehension, predicate, expression, kindOf, tableOf, Run, gives, valueᵉ, code, same-trans, Gives, SomeOperands, Outcome, kind-of, Builds, Refusal, Truth, Refused, Formed, Placed, Stopped, Set, Unlike, PlacedAs, SelectedAs, SettleReady, fieldA, fieldB, PlacedLeaf, RangeAt, Visited, Sort, Asks, EvaluatesP, EvaluatesE, EachReady, EvaluatesChosen, Settles}
+use Rattle.rules.specs.Values.{truthValue}
+use Rattle.rules.specs.Kinds.{One, Two}
 use Rattle.rules.specs.Rules.{oneRule, twoRule}
-use Rattle.rules.specs.Tables.{tableOf}
-use Rattle.rules.specs.Runs.{Run, gives}
 use Rattle.rules.specs.Operations.{setOf, oneValue, twoValue}
-use Rattle.rules.specs.Evaluation.{valueᵉ}
-use Rattle.arena.specs.Code.{code}
-use Rattle.arena.proofs.Standing.{same-trans}
 use Rattle.products.specs.Growing.{PutsCell}
-use Rattle.operations.specs.Outcomes.{oneGiven, twoGiven, Gives, OneReady, OneOf, SomeOperands, TwoReady, TwoOf, LightOf}
-use Rattle.operations.specs.declared.Outcome.{Outcome}
+use Rattle.operations.specs.Outcomes.{oneGiven, twoGiven, OneReady, OneOf, TwoReady, TwoOf, LightOf}
 use Rattle.operations.specs.declared.Outcome.the-variants.{Built}
-use Rattle.operations.proofs.KindLaws.{kind-of}
 use Rattle.operations.proofs.GoodLaws.{function-known}
 use Rattle.operations.specs.Good.{KnownFunction}
-use Rattle.constants.specs.Built.{Builds}
-use Rattle.reading.specs.declared.Refusal.{Refusal}
-use Rattle.evaluators.specs.declared.Held.the-variants.{Truth, Refused}
-use Rattle.evaluators.specs.declared.Formed.{Formed}
-use Rattle.evaluators.specs.declared.Formed.the-variants.{Value as Placed, Stopped}
-use Rattle.evaluators.specs.declared.Range.the-variants.{Set, Unlike}
-use Rattle.evaluators.specs.Answers.{PlacedAs, SelectedAs, SettleReady}
-use Rattle.evaluators.specs.Nodes.{fieldA, fieldB, PlacedLeaf, MarkedLeaf, RangeAt}
-use Rattle.evaluators.specs.Cycle.{Visited, Sort, Asks, EvaluatesP, EvaluatesE, EachReady, EvaluatesChosen, Settles}
+use Rattle.evaluators.specs.Nodes.{MarkedLeaf}
 use Rattle.evaluators.proofs.RunLaws.{then-done, then-refused, light-form, fitted-ends}
 use Rattle.evaluators.proofs.NodeLaws.{Child, TwoFields, sizes-small, visited-builds, operation-room, visited-child, visited-operands}
 use Rattle.evaluators.proofs.NodeLaws.{some-asks, visits, after, valueIn, held-below, formed-below, stopped-by, settled-by, settles-by}

@@ -1,26 +1,11 @@
 -- Joins by their codes; then the run at the node, part by part, and with it what the answers for the conditions below make of the node's.
-use Prim.Native.Nat.{ℕ, _+_, _-_, _*_, _<_}
-use mathlib.Core.Bool.{Bool, true, false, not, cond, Bool·beq}
-use mathlib.Core.List.{List}
-use mathlib.Core.Logic.{_⊎_, inl, inr, _≢_}
-use mathlib.Core.Option.{Option, none as nothing, some}
-use mathlib.Core.Path.{_≡_, refl, sym, ap, _∙_, subst}
-use native.Mathlib.Omega.{arith}
-use lib.Dec.{eqb}
-use Rattle.rules.specs.Kinds.{predicate, Join, and, or, implies, iff, join}
-use Rattle.rules.specs.Ends.{End, done}
-use Rattle.rules.specs.Runs.{M, _orElse_}
+use Rattle.evaluators.proofs.Terms.{ℕ, _+_, _-_, _*_, _<_, Bool, true, false, not, cond, Bool·beq, List, _⊎_, inl, inr, _≢_, Option, nothing, some, _≡_, refl, sym, ap, _∙_, subst, arith, eqb}
+use Rattle.evaluators.proofs.Terms.{predicate, and, or, implies, iff, join, End, done, M, holdsᵖ, Same, same-trans, code-of, Refusal, Held, Truth, Refused, EndsWith, HeldAs, Ready, Visited, Sort, Asks, EvaluatesP, fieldA, fieldB, IsPred}
+use Rattle.rules.specs.Kinds.{Join}
+use Rattle.rules.specs.Runs.{_orElse_}
 use Rattle.rules.specs.Operations as rules
-use Rattle.rules.specs.Evaluation.{holdsᵖ}
-use Rattle.arena.specs.Code.{Same}
-use Rattle.arena.proofs.Standing.{same-trans}
-use Rattle.operations.proofs.KindLaws.{joinCode, code-of, same-join}
-use Rattle.reading.specs.declared.Refusal.{Refusal}
-use Rattle.evaluators.specs.declared.Held.{Held}
-use Rattle.evaluators.specs.declared.Held.the-variants.{Truth, Refused}
-use Rattle.evaluators.specs.Answers.{EndsWith, HeldAs}
-use Rattle.evaluators.specs.Cycle.{Ready, Visited, Sort, Asks, EvaluatesP}
-use Rattle.evaluators.specs.Nodes.{fieldA, fieldB, IsPred, DecidesBy, JoinedBy}
+use Rattle.operations.proofs.KindLaws.{joinCode, same-join}
+use Rattle.evaluators.specs.Nodes.{DecidesBy, JoinedBy}
 use Rattle.evaluators.proofs.RunLaws.{then-done, then-refused, returns}
 use Rattle.evaluators.proofs.NodeLaws.{Child, ready-child, visited-child, held-as}
 use Rattle.evaluators.proofs.NodeLaws.{asks-on, visits, after, holdsIn, held-below, held-by}

@@ -1,42 +1,17 @@
 -- The children of a node, its tree, what its evaluators pass on to theirs, and its answer from theirs.
-use Prim.Native.Nat.{ℕ, zero, suc, _+_, _-_, _*_, _≤_, _<_}
-use mathlib.Core.Bool.{Bool, true}
-use mathlib.Core.List.{List, [], _∷_}
-use mathlib.Core.Option.{Option, none as nothing, some}
-use mathlib.Core.Path.{_≡_, refl, sym, ap, _∙_, subst}
-use native.Mathlib.Omega.{arith}
-use lib.Dec.{T}
-use lib.ListN.{length, getD}
-use Rattle.rules.specs.Values.{Value}
+use Rattle.evaluators.proofs.Terms.{ℕ, zero, suc, _+_, _-_, _*_, _≤_, _<_, Bool, true, List, [], _∷_, Option, nothing, some, _≡_, refl, sym, ap, _∙_, subst, arith, T, length, getD}
+use Rattle.evaluators.proofs.Terms.{Value, Kind, Category, predicate, expression, unused, child, kindOf, fieldsOf, Node, Pred, Expr, tableOf, nodeAt, kindAt, fieldWords, predOf, predAt, exprAt, nodeCount, Readable, CategoryIs, Env, End, refused, Run, M, _>>_, visit, Given, holdsᵖ, valueᵉ, sizes-length, Same, stands-frame, same-refl, same-trans, length-code, built, Builds, Sizes, GoodAt, Gives, Outcome, Held, Refused, Formed, Placed, Stopped, Refusal, EndsWith, HeldAs, fieldA, fieldB, conditionCells, expressionCells, cellsFor, Binds, Ready, Visited, Asks, holdsAt, valueAt, EvaluatesP, EvaluatesE, Settles}
 use Rattle.rules.specs.Cells.{good}
-use Rattle.rules.specs.Kinds.{Kind, Category, categoryOf, predicate, expression, Field, unused, child, kindOf, fieldsOf, isChild}
-use Rattle.rules.specs.Tables.{Node, Table, Pred, Expr, tableOf, nodeAt, kindAt, fieldWords, fieldsIf, pick, held, predOf, exprOf, predAt, exprAt, nodeCount}
+use Rattle.rules.specs.Kinds.{categoryOf, Field, isChild}
+use Rattle.rules.specs.Tables.{Table, fieldsIf, pick, held, exprOf}
 use Rattle.rules.specs.Reading.{height, tallest}
-use Rattle.rules.specs.Readable.{Readable, FieldRight, FieldsRight, KindRight, NodeRight, CategoryIs}
-use Rattle.rules.specs.Operations.{Env}
-use Rattle.rules.specs.Ends.{End, refused}
-use Rattle.rules.specs.Runs.{Run, M, _>>_, visit, Given}
-use Rattle.rules.specs.Evaluation.{holdsᵖ, valueᵉ}
-use Rattle.laws.proofs.TableLaws.{nodes-length, sizes-length, height-at}
+use Rattle.rules.specs.Readable.{FieldRight, FieldsRight, KindRight, NodeRight}
+use Rattle.laws.proofs.TableLaws.{nodes-length, height-at}
 use Rattle.reading.proofs.Heights.{tallest-kept}
 use Rattle.laws.proofs.CellsLaws.{size-below}
 use Rattle.laws.proofs.FormedLaws.{value-good}
-use Rattle.arena.specs.Code.{Same}
-use Rattle.arena.proofs.Standing.{stands-frame, same-refl, same-trans}
-use Rattle.arena.proofs.CodeLaws.{length-code}
-use Rattle.constants.specs.Built.{built, Builds}
 use Rattle.constants.proofs.ConstantLaws.{constants-frame}
-use Rattle.operations.specs.Good.{Sizes, GoodAt}
-use Rattle.operations.specs.Outcomes.{Gives}
-use Rattle.operations.specs.declared.Outcome.{Outcome}
-use Rattle.evaluators.specs.declared.Held.{Held}
-use Rattle.evaluators.specs.declared.Held.the-variants.{Refused}
-use Rattle.evaluators.specs.declared.Formed.{Formed}
-use Rattle.evaluators.specs.declared.Formed.the-variants.{Value as Placed, Stopped}
-use Rattle.reading.specs.declared.Refusal.{Refusal}
-use Rattle.evaluators.specs.Answers.{EndsWith, HeldAs, FormedAs, FormedBounds, SettledAs, RefusalOf, StopOf}
-use Rattle.evaluators.specs.Nodes.{fieldA, fieldB}
-use Rattle.evaluators.specs.Cycle.{conditionCells, expressionCells, cellsFor, Binds, Ready, Visited, Asks, holdsAt, valueAt, EvaluatesP, EvaluatesE, Settles}
+use Rattle.evaluators.specs.Answers.{FormedAs, FormedBounds, SettledAs, RefusalOf, StopOf}
 use Rattle.evaluators.proofs.RunLaws.{visited, endOf}
 
 -- The sizes of a readable table are small.

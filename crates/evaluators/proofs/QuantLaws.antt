@@ -1,32 +1,13 @@
 -- The loop over the members of a quantifier's range, turn by turn, and the quantifier's node: what is given for the rest of the range is
 -- given for the whole.
-use Prim.Native.Nat.{ℕ, _+_, _-_, _*_, _<_}
-use mathlib.Core.Bool.{Bool, true, false, not, Bool·beq}
-use mathlib.Core.List.{List, [], _∷_}
-use mathlib.Core.Option.{some}
-use mathlib.Core.Path.{_≡_, refl, sym, ap, _∙_}
-use native.Mathlib.Omega.{arith}
+use Rattle.evaluators.proofs.Terms.{ℕ, _+_, _-_, _*_, _<_, Bool, true, false, not, Bool·beq, List, [], _∷_, some, _≡_, refl, sym, ap, _∙_, arith, eqb, setAt}
+use Rattle.evaluators.proofs.Terms.{Value, members, forAll, forSome, quant, kindOf, End, done, refused, Run, M, tableOf, holdsᵖ, SomeAt, EndsAt, same-refl, same-trans, code-of, Refusal, Held, Truth, Refused, Formed, Placed, Stopped, Set, Unlike, EndsWith, HeldAs, fieldA, fieldB, fieldC, IsPred, RangeAt, Ready, Visited, Sort, Asked, bodyOf, EachReady, EvaluatesP, EvaluatesE}
 use native.Mathlib.Nat.{le-refl}
-use lib.Dec.{eqb}
-use lib.ListN.{set as setAt}
-use Rattle.rules.specs.Values.{Value, members}
-use Rattle.rules.specs.Kinds.{Quant, forAll, forSome, quant, kindOf}
-use Rattle.rules.specs.Ends.{End, done, refused}
-use Rattle.rules.specs.Runs.{Run, M}
-use Rattle.rules.specs.Tables.{tableOf}
-use Rattle.rules.specs.Evaluation.{quantify, holdsᵖ}
-use Rattle.arena.specs.Code.{SomeAt, EndsAt}
-use Rattle.arena.proofs.Standing.{same-refl, same-trans}
-use Rattle.operations.proofs.KindLaws.{quantCode, code-of}
-use Rattle.reading.specs.declared.Refusal.{Refusal}
-use Rattle.evaluators.specs.declared.Held.{Held}
-use Rattle.evaluators.specs.declared.Held.the-variants.{Truth, Refused}
-use Rattle.evaluators.specs.declared.Formed.{Formed}
-use Rattle.evaluators.specs.declared.Formed.the-variants.{Value as Placed, Stopped}
-use Rattle.evaluators.specs.declared.Range.the-variants.{Set, Unlike}
-use Rattle.evaluators.specs.Answers.{EndsWith, HeldAs}
-use Rattle.evaluators.specs.Nodes.{fieldA, fieldB, fieldC, quantOf, IsPred, RangeAt}
-use Rattle.evaluators.specs.Cycle.{Ready, Visited, Sort, Asked, bodyOf, EachReady, EvaluatesP, EvaluatesE, EvaluatesEach}
+use Rattle.rules.specs.Kinds.{Quant}
+use Rattle.rules.specs.Evaluation.{quantify}
+use Rattle.operations.proofs.KindLaws.{quantCode}
+use Rattle.evaluators.specs.Nodes.{quantOf}
+use Rattle.evaluators.specs.Cycle.{EvaluatesEach}
 use Rattle.evaluators.proofs.RunLaws.{then-done, then-refused, returns}
 use Rattle.evaluators.proofs.NodeLaws.{formed-as, held-by}
 use Rattle.evaluators.proofs.BodyLaws.{First, none-left, Loop, loop-start, member, member-at, loop-next, body-asks, body-ends, body-frame}

@@ -1,42 +1,27 @@
 -- A binder's range: its fields, its part of the node's run, the members of a set that stands in the arena, what the loop over them may take for granted, and `range_of`.
-use Prim.Native.Nat.{ℕ, _+_, _-_, _*_, _%_, _≤_, _<_}
-use mathlib.Core.Bool.{Bool, true, false}
-use mathlib.Core.List.{List, [], _∷_}
-use mathlib.Core.Option.{some}
-use mathlib.Core.Path.{_≡_, refl, sym, ap, _∙_, subst}
-use native.Mathlib.Omega.{arith}
-use lib.Dec.{T}
-use lib.ListN.{length, getD}
+use Rattle.evaluators.proofs.Terms.{ℕ, _+_, _-_, _*_, _≤_, _<_, Bool, true, false, List, [], _∷_, some, _≡_, refl, sym, ap, _∙_, subst, arith, T, length, getD}
+use Rattle.evaluators.proofs.Terms.{Value, Values, count, Kind, Category, expression, predicate, unused, child, kindOf, fieldsOf, fits, tableOf, nodeAt, kindAt, fieldWords, End, done, refused, Run, M, _>>=_, _>>_, visit, binds-length, good-weight, code, codes, built, Sizes, GoodAt, good-fits, good-inside, Placed, Stopped, Refusal, Set, Unlike, EndsWith, PlacedAs, Listed, fieldA, fieldB, fieldC, RangeAt, expressionCells, Ready, Visited, Asks, Asked, valueAt, EvaluatesE, EachReady}
+use Prim.Native.Nat.{_%_}
 use Rattle.rules.specs.Types.{Ty, atom, POW, _⊗_}
-use Rattle.rules.specs.Values.{Value, set, Values, count}
-use Rattle.rules.specs.Kinds.{Kind, Category, expression, predicate, unused, child, kindOf, fieldsOf}
+use Rattle.rules.specs.Values.{set}
 use Rattle.rules.specs.Rules.{P̂, t̂, quantRule}
-use Rattle.rules.specs.Fits.{HasType, Fits, typed, fits}
-use Rattle.rules.specs.Tables.{tableOf, nodeAt, kindAt, fieldWords}
-use Rattle.rules.specs.Ends.{End, done, refused}
-use Rattle.rules.specs.Runs.{Run, M, _>>=_, _>>_, visit, demand}
-use Rattle.laws.proofs.TableLaws.{binds-length}
+use Rattle.rules.specs.Fits.{HasType, Fits, typed}
+use Rattle.rules.specs.Runs.{demand}
 use Rattle.laws.proofs.BindingLaws.{binderFields}
-use Rattle.laws.proofs.CellsLaws.{good-weight, good-typed}
+use Rattle.laws.proofs.CellsLaws.{good-typed}
 use Rattle.laws.proofs.FitsLaws.{typed-right}
 use Rattle.laws.proofs.FormedLaws.{elems-good}
-use Rattle.arena.specs.Code.{cellSize, code, codes}
+use Rattle.arena.specs.Code.{cellSize}
 use Rattle.arena.proofs.Standing.{stands-tail}
-use Rattle.constants.specs.Built.{built}
 use Rattle.arena.proofs.ValueParts.{first-cell}
 use Rattle.fitting.specs.Agree.{SomeTyped}
 use Rattle.fitting.specs.Tests.{FitOne}
-use Rattle.operations.specs.Good.{Sizes, GoodAt}
 use Rattle.operations.proofs.SingleLaws.{fits-is-set}
 use Rattle.operations.proofs.FitLaws.{types-fit}
-use Rattle.operations.proofs.GoodLaws.{good-fits, good-typed-at, good-inside}
-use Rattle.evaluators.specs.declared.Formed.the-variants.{Value as Placed, Stopped}
-use Rattle.reading.specs.declared.Refusal.{Refusal}
+use Rattle.operations.proofs.GoodLaws.{good-typed-at}
 use Rattle.evaluators.specs.declared.Range.{Range}
-use Rattle.evaluators.specs.declared.Range.the-variants.{Set, Unlike}
-use Rattle.evaluators.specs.Answers.{EndsWith, PlacedAs, RangeSet, Listed}
-use Rattle.evaluators.specs.Nodes.{fieldA, fieldB, fieldC, SomeGood, RangeAt}
-use Rattle.evaluators.specs.Cycle.{expressionCells, Ready, Visited, Asks, Asked, valueAt, EvaluatesE, EachReady}
+use Rattle.evaluators.specs.Answers.{RangeSet}
+use Rattle.evaluators.specs.Nodes.{SomeGood}
 use Rattle.evaluators.proofs.RunLaws.{then-done, then-refused, fitting-on, fitting-refused}
 use Rattle.evaluators.proofs.NodeLaws.{Child, sizes-small, field-holds, condition-cells, ready-child, visited-kind, visited-builds, visited-child}
 use Rattle.evaluators.proofs.NodeLaws.{some-asks, asks-on, visits, after, valueIn, formed-below}

@@ -1,6 +1,5 @@
 -- `range_of`: the number of members stands in the first cell of a set.
-use borrow.Author.Tests.{not-true, not-false}
-use borrow.Author.Needs.{needs}
+use Rattle.evaluators.proofs.Terms.{not-true, not-false, needs}
 use Rattle.evaluators.proofs.RangeLaws.{some-typed, some-inside, range-not, range-set}
 use Rattle.evaluators.proofs.range_of.Statement.{statement}
 use Rattle.evaluators.proofs.range_of.Tie as tie

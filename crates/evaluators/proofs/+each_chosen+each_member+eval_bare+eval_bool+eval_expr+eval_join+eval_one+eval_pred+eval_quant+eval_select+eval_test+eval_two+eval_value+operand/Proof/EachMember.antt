@@ -32,11 +32,6 @@ module _ (t : ℕ) where
   abbrev ran : Here lts.After-slice-known2 → Here lts.After-eval-pred
   ran c = c .before .before
 
-  eval-pred-requires : Here lts.Need-eval-pred-requires
-  eval-pred-requires c κs =
-      let w = c .before .before in let g = words (w .before) in let v = lent (g .before) in
-      member-asks (v .pre .1) (w .before .loop .inv) (w .loop-test .taken) (g .before .node-field .ensures) (g .node-field2 .ensures) (v .pre .0)
-
   returns : Here lts.Need-returns
   returns c =
       let p = ran (c .before .before) in let w = turn p in let g = words (w .before) in
@@ -70,7 +65,8 @@ module _ (t : ℕ) where
       (λ c. let l = c .before in record { fits = omega (arith, member-low (lent (words l .before) .pre .1) (l .loop .inv .loop) (c .loop-test .taken)) })
       (λ c. let f = words (c .before) .before in entry-scaled (f .node-field .ensures) (lent f .pre .1 .name))
       (λ c. let f = words (c .before) .before in entry-below (f .node-field .ensures) (lent f .pre .1 .name))
-      eval-pred-requires
+      (λ c κs. let w = c .before .before in let g = words (w .before) in let v = lent (g .before) in
+      member-asks (v .pre .1) (w .before .loop .inv) (w .loop-test .taken) (g .before .node-field .ensures) (g .node-field2 .ensures) (v .pre .0))
       (λ c. c .match .keys1) (λ c. c .match .keys2)
       (λ c. let p = ran (c .before .before) in p .eval-pred .kept .1 .1 .0 ∙ turn p .before .loop .inv .loop .frame .kept)
       returns
