@@ -1,7 +1,6 @@
 -- Negations passed from a condition down: each turns the answer round, for one visit; and the condition's answer from that of the one reached.
 use Rattle.evaluators.proofs.Terms.{ℕ, suc, _+_, _-_, _<_, Bool, true, false, not, List, some, _≡_, refl, sym, ap, _∙_, subst, arith}
-use Rattle.evaluators.proofs.Terms.{predicate, negation, kindOf, Pred, tableOf, nodeAt, kindAt, predAt, nodeCount, Readable, Env, holdsᵖ, kind-of, Held, Truth, Refused, HeldAs, turnedBy, Ready, holdsAt, Passes, EvaluatesP, fieldA, IsPred}
-use Rattle.rules.specs.Tables.{notᵖ}
+use Rattle.evaluators.proofs.Terms.{predicate, negation, kindOf, Pred, tableOf, nodeAt, kindAt, predAt, nodeCount, Readable, Env, holdsᵖ, kind-of, Held, Truth, Refused, HeldAs, turnedBy, Ready, holdsAt, Passes, EvaluatesP, fieldA, IsPred, notᵖ}
 use Rattle.evaluators.proofs.RunLaws.{then-done, then-refused, returns, visited}
 use Rattle.evaluators.proofs.NodeLaws.{Child, field-child, pred-at, condition-cells, ready-at}
 

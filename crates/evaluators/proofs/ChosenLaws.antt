@@ -1,11 +1,7 @@
 -- The members that a comprehension chooses: its run member by member, and the set that is built of them.
-use Rattle.evaluators.proofs.Terms.{ℕ, _+_, _-_, _*_, _≤_, _<_, Bool, true, false, cond, List, [], _∷_, _≡_, refl, sym, ap, _∙_, subst, arith, length, setAt, length-set, boolByte}
+use Rattle.evaluators.proofs.Terms.{ℕ, _+_, _-_, _*_, _≤_, _<_, Bool, true, false, cond, List, [], _∷_, _≡_, refl, sym, ap, _∙_, subst, arith, length, setAt, length-set, boolByte, _++_, append-assoc, append-nil, values, weights, select, ValuesAt}
 use Rattle.evaluators.proofs.Terms.{Value, Values, members, count, weight, done, refused, M, tableOf, code, codes, Stands, Same, SomeAt, EndsAt, length-code, length-codes, stands-frame, same-refl, same-trans, copied-stands, Refusal, Held, Truth, Refused, Placed, Stopped, EndsWith, SelectedAs, fieldA, fieldC, IsPred, ChooseReady, Chooses, Ready, Asked, bodyOf, EvaluatesP, EachReady, EvaluatesChosen}
-use mathlib.Core.List.{_++_, append-assoc, append-nil}
 use lib.Seq.{getD-set-other}
-use Rattle.rules.specs.Values.{values, weights}
-use Rattle.rules.specs.Evaluation.{select}
-use Rattle.arena.specs.Code.{ValuesAt}
 use Rattle.arena.proofs.Standing.{stands-append}
 use Rattle.arena.proofs.FrontLaws.{single, codes-append, count-append, weights-append}
 use Rattle.products.proofs.GrowLaws.{made-set}

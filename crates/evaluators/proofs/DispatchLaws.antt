@@ -1,25 +1,14 @@
 -- Where a node's visit goes: the refusal of a visit beyond the budget, the evaluator by the kind's code, the leaves that are built, and those that
 -- stand already.
-use Rattle.evaluators.proofs.Terms.{ℕ, zero, suc, _+_, _-_, _≤_, _<_, Bool, true, false, cond, List, _≢_, _⊎_, inl, inr, ⊎-elim, Option, nothing, some, _≡_, refl, sym, ap, _∙_, subst, arith, leb, getD}
+use Rattle.evaluators.proofs.Terms.{ℕ, zero, suc, _+_, _-_, _≤_, _<_, Bool, true, false, cond, List, _≢_, _⊎_, inl, inr, ⊎-elim, Option, nothing, some, _≡_, refl, sym, ap, _∙_, subst, arith, leb, getD, false≢true, _&&_, equal, member, subset, atMost, Leaf, givenSet, elementOf, literal, truthConst, emptySet, boolSet, singleton, power, dom, ran, card, choice, pairing, union, inter, diff, product, apply, plus, minus, interval, leafᵉ, boolᵉ, oneᵉ, twoᵉ, comprehensionᵉ, leafValue, ValueAt, builtLeaf, LeafFits, LeafReady, LeafDone, leafPlace, PlaceReady, StandingReady, LeafNode, LeafFormed}
 use Rattle.evaluators.proofs.Terms.{Value, weight, and, or, implies, iff, forAll, forSome, identifier, Kind, join, negation, test, quant, leaf, boolOf, one, two, comprehension, kindOf, Category, predicate, expression, Node, Pred, Expr, tableOf, nodeAt, kindAt, predOf, predAt, exprAt, nodeCount, Readable, CategoryIs, refused, gives, Env, holdsᵖ, valueᵉ, sizes-length, binds-length, good-weight, Same, same-refl, length-code, BuiltAt, code-of, kind-of, Formed, Placed, Stopped, Refused, EndsWith, fieldA, fieldB, IsPred, IsExpr, placeOf, PlacedLeaf, Binds, Ready, Visited, Sort, holdsAt, EvaluatesP, EvaluatesE}
-use mathlib.Core.Bool.{false≢true, _&&_}
 use native.Mathlib.Decide.{decLt}
 use Rattle.rules.specs.Types.{whole}
-use Rattle.rules.specs.Kinds.{equal, member, subset, atMost}
-use Rattle.rules.specs.Kinds.{Leaf, givenSet, elementOf, literal, truthConst, emptySet, boolSet}
-use Rattle.rules.specs.Kinds.{singleton, power, dom, ran, card, choice}
-use Rattle.rules.specs.Kinds.{pairing, union, inter, diff, product, apply, plus, minus, interval}
-use Rattle.rules.specs.Tables.{leafᵉ, boolᵉ, oneᵉ, twoᵉ, comprehensionᵉ}
-use Rattle.rules.specs.Operations.{leafValue}
 use Rattle.laws.proofs.EndLaws.{T-true, T-and, T-leb}
 use Rattle.table.specs.Codes.{codeOf as categoryNumber, categoryCode}
 use Rattle.table.proofs.Access.{by-range}
-use Rattle.arena.specs.Code.{ValueAt}
-use Rattle.constants.specs.Built.{builtLeaf}
 use Rattle.constants.specs.Constants.{OneCell}
 use Rattle.constants.proofs.ConstantLaws.{leaf-one}
-use Rattle.operations.specs.Outcomes.{LeafFits, LeafReady, LeafDone}
-use Rattle.evaluators.specs.Nodes.{leafPlace, PlaceReady, StandingReady, LeafNode, LeafFormed}
 use Rattle.laws.proofs.TypedTree.{numberᵉ, number-at}
 use Rattle.evaluators.proofs.RunLaws.{unvisited, light-form}
 use Rattle.evaluators.proofs.NodeLaws.{sizes-small, field-holds, visited-kind, visited-builds, visits, after, settled-by}

@@ -1,16 +1,10 @@
 -- What the evaluators of expressions with operands give, kinds 25, 27 to 41 and 43: the operands' answers, and with them the node's.
 use Rattle.evaluators.proofs.Terms.{ℕ, _+_, _-_, _≤_, Bool, true, false, List, [], _∷_, some, _≡_, refl, arith, boolByte}
-use Rattle.evaluators.proofs.Terms.{Value, weight, boolOf, one, two, comprehension, predicate, expression, kindOf, tableOf, Run, gives, valueᵉ, code, same-trans, Gives, SomeOperands, Outcome, kind-of, Builds, Refusal, Truth, Refused, Formed, Placed, Stopped, Set, Unlike, PlacedAs, SelectedAs, SettleReady, fieldA, fieldB, PlacedLeaf, RangeAt, Visited, Sort, Asks, EvaluatesP, EvaluatesE, EachReady, EvaluatesChosen, Settles}
-use Rattle.rules.specs.Values.{truthValue}
-use Rattle.rules.specs.Kinds.{One, Two}
+use Rattle.evaluators.proofs.Terms.{Value, weight, boolOf, one, two, comprehension, predicate, expression, kindOf, tableOf, Run, gives, valueᵉ, code, same-trans, Gives, SomeOperands, Outcome, kind-of, Builds, Refusal, Truth, Refused, Formed, Placed, Stopped, Set, Unlike, PlacedAs, SelectedAs, SettleReady, fieldA, fieldB, PlacedLeaf, RangeAt, Visited, Sort, Asks, EvaluatesP, EvaluatesE, EachReady, EvaluatesChosen, Settles, truthValue, One, Two, setOf, oneValue, twoValue, oneGiven, twoGiven, OneReady, OneOf, TwoReady, TwoOf, LightOf, KnownFunction, MarkedLeaf}
 use Rattle.rules.specs.Rules.{oneRule, twoRule}
-use Rattle.rules.specs.Operations.{setOf, oneValue, twoValue}
 use Rattle.products.specs.Growing.{PutsCell}
-use Rattle.operations.specs.Outcomes.{oneGiven, twoGiven, OneReady, OneOf, TwoReady, TwoOf, LightOf}
 use Rattle.operations.specs.declared.Outcome.the-variants.{Built}
 use Rattle.operations.proofs.GoodLaws.{function-known}
-use Rattle.operations.specs.Good.{KnownFunction}
-use Rattle.evaluators.specs.Nodes.{MarkedLeaf}
 use Rattle.evaluators.proofs.RunLaws.{then-done, then-refused, light-form, fitted-ends}
 use Rattle.evaluators.proofs.NodeLaws.{Child, TwoFields, sizes-small, visited-builds, operation-room, visited-child, visited-operands}
 use Rattle.evaluators.proofs.NodeLaws.{some-asks, visits, after, valueIn, held-below, formed-below, stopped-by, settled-by, settles-by}

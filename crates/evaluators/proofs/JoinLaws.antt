@@ -1,11 +1,8 @@
 -- Joins by their codes; then the run at the node, part by part, and with it what the answers for the conditions below make of the node's.
 use Rattle.evaluators.proofs.Terms.{ℕ, _+_, _-_, _*_, _<_, Bool, true, false, not, cond, Bool·beq, List, _⊎_, inl, inr, _≢_, Option, nothing, some, _≡_, refl, sym, ap, _∙_, subst, arith, eqb}
-use Rattle.evaluators.proofs.Terms.{predicate, and, or, implies, iff, join, End, done, M, holdsᵖ, Same, same-trans, code-of, Refusal, Held, Truth, Refused, EndsWith, HeldAs, Ready, Visited, Sort, Asks, EvaluatesP, fieldA, fieldB, IsPred}
-use Rattle.rules.specs.Kinds.{Join}
-use Rattle.rules.specs.Runs.{_orElse_}
+use Rattle.evaluators.proofs.Terms.{predicate, and, or, implies, iff, join, End, done, M, holdsᵖ, Same, same-trans, code-of, Refusal, Held, Truth, Refused, EndsWith, HeldAs, Ready, Visited, Sort, Asks, EvaluatesP, fieldA, fieldB, IsPred, Join, _orElse_, DecidesBy, JoinedBy}
 use Rattle.rules.specs.Operations as rules
 use Rattle.operations.proofs.KindLaws.{joinCode, same-join}
-use Rattle.evaluators.specs.Nodes.{DecidesBy, JoinedBy}
 use Rattle.evaluators.proofs.RunLaws.{then-done, then-refused, returns}
 use Rattle.evaluators.proofs.NodeLaws.{Child, ready-child, visited-child, held-as}
 use Rattle.evaluators.proofs.NodeLaws.{asks-on, visits, after, holdsIn, held-below, held-by}
@@ -50,15 +47,6 @@ module _ {k : ℕ} (p : Bool) where
         go implies c = absurd (n3 c)
         go iff c = refl
 
--- What decides, and what does not.
-or-decided : {A : Type 0} {budget left : ℕ} (o : Option A) (m : M A) (a : A) (t : ℕ) → o ≡ some a → t + left ≡ budget →
-    EndsWith ((o orElse m) t) (done a) budget left
-or-decided o m a t e c = rw e (returns a c)
-
-or-rest : {A : Type 0} {budget left : ℕ} (o : Option A) (m : M A) (t : ℕ) {x : End A} → o ≡ nothing → EndsWith (m t) x budget left →
-    EndsWith ((o orElse m) t) x budget left
-or-rest o m t e h = rw e h
-
 -- 1, 2, 3 and 5: the first operand's node is `a`.
 module _ {bs env s : List ℕ} {top k n left : ℕ} (at-join : Visited bs env s top k n left × Sort join k) {a : ℕ} (q : a ≡ fieldA bs n) where
   abbrev v : Visited bs env s top k n left
@@ -88,7 +76,7 @@ module _ {bs env s : List ℕ} {top k n left : ℕ} (at-join : Visited bs env s 
           held-by v (join j) (at-join .1 .1) (h .frame) (λ i.
           let w = join-first (Truth y l) d i in
           visits v i _ (then-done _ w
-          (or-decided (rules.decides j y) _ _ _ (by j (at-join .1 .1) ∙ ap (λ (x : Bool). cond x (some (not (eqb k 1))) nothing) c) (w .steps))))
+          (rw (by j (at-join .1 .1) ∙ ap (λ (x : Bool). cond x (some (not (eqb k 1))) nothing) c) (returns _ (w .steps)))))
 
       -- It does not, and the second operand's node is `m`.
       module _ (c : o ≡ false) {m : ℕ} (qb : m ≡ fieldB bs n) where
@@ -113,7 +101,7 @@ module _ {bs env s : List ℕ} {top k n left : ℕ} (at-join : Visited bs env s 
           unfolding holdsᵖ
           join-stays-2 {p} {u} d′ =
               held-as refl (sym d′) (held-by v (join j) (at-join .1 .1) join-frame (λ i.
-              visits v i _ (then-done _ (join-first (Truth y l) d i) (or-rest (rules.decides j y) _ _ open-by
+              visits v i _ (then-done _ (join-first (Truth y l) d i) (rw open-by
               (then-refused _ (held-below (second i) join-next qb (Refused p u) (held-as refl d′ h′)))))))
 
           pub join-both : {z w : Bool} {u : ℕ} → r′ ≡ Truth z u → JoinedBy k y z w → EvaluatesP bs env s top n left s″ (Truth w u)
@@ -121,5 +109,5 @@ module _ {bs env s : List ℕ} {top k n left : ℕ} (at-join : Visited bs env s 
           join-both {z} {w} {u} d′ is =
               held-by v (join j) (at-join .1 .1) join-frame (λ i.
               let t = held-below (second i) join-next qb (Truth z u) (held-as refl d′ h′) in
-              visits v i _ (then-done _ (join-first (Truth y l) d i) (or-rest (rules.decides j y) _ _ open-by
+              visits v i _ (then-done _ (join-first (Truth y l) d i) (rw open-by
               (then-done _ t (rw (sym (is j (at-join .1 .1))) (returns w (t .steps)))))))

@@ -1,13 +1,9 @@
 -- The loop over the members of a quantifier's range, turn by turn, and the quantifier's node: what is given for the rest of the range is
 -- given for the whole.
-use Rattle.evaluators.proofs.Terms.{ℕ, _+_, _-_, _*_, _<_, Bool, true, false, not, Bool·beq, List, [], _∷_, some, _≡_, refl, sym, ap, _∙_, arith, eqb, setAt}
+use Rattle.evaluators.proofs.Terms.{ℕ, _+_, _-_, _*_, _<_, Bool, true, false, not, Bool·beq, List, [], _∷_, some, _≡_, refl, sym, ap, _∙_, arith, eqb, setAt, Quant, quantify, quantOf, EvaluatesEach}
 use Rattle.evaluators.proofs.Terms.{Value, members, forAll, forSome, quant, kindOf, End, done, refused, Run, M, tableOf, holdsᵖ, SomeAt, EndsAt, same-refl, same-trans, code-of, Refusal, Held, Truth, Refused, Formed, Placed, Stopped, Set, Unlike, EndsWith, HeldAs, fieldA, fieldB, fieldC, IsPred, RangeAt, Ready, Visited, Sort, Asked, bodyOf, EachReady, EvaluatesP, EvaluatesE}
 use native.Mathlib.Nat.{le-refl}
-use Rattle.rules.specs.Kinds.{Quant}
-use Rattle.rules.specs.Evaluation.{quantify}
 use Rattle.operations.proofs.KindLaws.{quantCode}
-use Rattle.evaluators.specs.Nodes.{quantOf}
-use Rattle.evaluators.specs.Cycle.{EvaluatesEach}
 use Rattle.evaluators.proofs.RunLaws.{then-done, then-refused, returns}
 use Rattle.evaluators.proofs.NodeLaws.{formed-as, held-by}
 use Rattle.evaluators.proofs.BodyLaws.{First, none-left, Loop, loop-start, member, member-at, loop-next, body-asks, body-ends, body-frame}

@@ -1,10 +1,8 @@
 -- What the code of the evaluators asks to be safe: nodes that may be read, numbers that fit their width, room.
-use Rattle.evaluators.proofs.Terms.{ℕ, _+_, _-_, _*_, _≤_, _<_, List, _≡_, refl, _∙_, arith, lit<, length, setAt, length-set}
-use Rattle.evaluators.proofs.Terms.{nodeCount, Readable, Same, Builds, Ready, EachReady}
-use borrow.Author.Needs.{scaled-fits, fits-under}
+use Rattle.evaluators.proofs.Terms.{ℕ, _+_, _-_, _*_, _≤_, _<_, List, _≡_, refl, _∙_, arith, lit<, length, setAt, length-set, scaled-fits, fits-under}
+use Rattle.evaluators.proofs.Terms.{nodeCount, Readable, Same, Builds, Ready, EachReady, nodesAt}
 use mir.Syntax.{w64}
 use mir.Val.{Fits}
-use Rattle.rules.specs.Tables.{nodesAt}
 use Rattle.table.specs.Layout.{NodeIn}
 
 pub one-less : {n : ℕ} → 0 < n → n - 1 < n

@@ -1,9 +1,8 @@
 -- The members of the cycle with their measures: the node number falls, or it stays and what is left to do at the node falls. Members with the
 -- same arguments share their kinds: those of `eval_pred` take a node, those of `eval_join` the code of its kind too. And the terms and laws that
 -- several members' proofs use.
-pub use Prim.Native.Nat.{ℕ}
-use Prim.Native.Nat.{_+_, _*_, _<_}
-use mathlib.Core.List.{List}
+pub use Rattle.evaluators.proofs.Terms.{ℕ, refl, sym, _∙_, arith, lit<, inl, inr, ⊎-elim, Visited}
+use Rattle.evaluators.proofs.Terms.{_+_, _*_, _<_, List}
 pub use borrow.Fn.Kinds.{In, Out}
 use borrow.Fn.Kinds.{PK, RK}
 use borrow.Fn.PlainCycle.{Measures, is, falls, and}
@@ -26,12 +25,7 @@ use Rattle.evaluators.proofs.each_member.Kinds as every
 use Rattle.evaluators.proofs.eval_pred.Kinds as node
 use Rattle.evaluators.proofs.eval_join.Kinds as kind
 use Rattle.evaluators.proofs.eval_expr.Kinds as formed
-pub use mathlib.Core.Path.{refl, sym, _∙_}
-pub use native.Mathlib.Omega.{arith}
-pub use lib.Dec.{lit<}
 pub use denote.Ref.{now}
-pub use mathlib.Core.Logic.{⊎-elim, inl, inr}
-pub use Rattle.evaluators.specs.Cycle.{Visited}
 pub use Rattle.evaluators.proofs.SafeLaws.{ready-node, one-less, binder-node, entry-below, entry-scaled}
 pub use Rattle.evaluators.proofs.NodeLaws.{child-asks, held-as, formed-as, refusal-is, stop-is}
 pub use Rattle.evaluators.proofs.BodyLaws.{member-low}
