@@ -1,5 +1,5 @@
 -- What the evaluators of expressions with operands give, kinds 25, 27 to 41 and 43: the operands' answers, and with them the node's.
-use Rattle.evaluators.proofs.Terms.{ℕ, _+_, _-_, _≤_, Bool, true, false, List, [], _∷_, some, _≡_, refl, arith, boolByte}
+use Rattle.evaluators.proofs.Terms.{ℕ, _+_, _-_, _*_, _≤_, _<_, Bool, true, false, List, [], _∷_, some, _≡_, refl, arith, boolByte}
 use Rattle.evaluators.proofs.Terms.{Value, weight, boolOf, one, two, comprehension, predicate, expression, kindOf, tableOf, Run, gives, valueᵉ, code, same-trans, Gives, SomeOperands, Outcome, kind-of, Builds, Refusal, Truth, Refused, Formed, Placed, Stopped, Set, Unlike, PlacedAs, SelectedAs, SettleReady, fieldA, fieldB, PlacedLeaf, RangeAt, Visited, Sort, Asks, EvaluatesP, EvaluatesE, EachReady, EvaluatesChosen, Settles, truthValue, One, Two, setOf, oneValue, twoValue, oneGiven, twoGiven, OneReady, OneOf, TwoReady, TwoOf, LightOf, KnownFunction, MarkedLeaf}
 use Rattle.rules.specs.Rules.{oneRule, twoRule}
 use Rattle.products.specs.Growing.{PutsCell}
@@ -204,8 +204,8 @@ module _ {bs env s : List ℕ} {top n m left : ℕ} (x : Visited bs env s top 34
     select-unlike y = stopped-by x comprehension select-code (h .frame) (λ i. range-unlike select-binder h y i _)
 
     module _ {count : ℕ} (y : RangeAt s₁ at (Set count)) where
-      pub select-each : EachReady bs env s₁ next n (at + 1) count 256
-      select-each = each-ready select-binder h y 256 (omega arith) (λ _. refl)
+      pub select-asks : {t : ℕ} → 5 * n + 1 ≡ t → (5 * n < t) × EachReady bs env s₁ next n (at + 1) count 256
+      select-asks e = (omega arith, each-ready select-binder h y 256 (omega arith) (λ _. refl))
 
       pub chosen-fails : {s₂ : List ℕ} {r : Refusal} {u : ℕ} → EvaluatesChosen bs env s₁ next n (at + 1) count l s₂ (Stopped r u) →
           EvaluatesE bs env s top n left s₂ (Stopped r u)
@@ -224,7 +224,7 @@ module _ {bs env s : List ℕ} {top n m left : ℕ} (x : Visited bs env s top 34
 
         pub select-settles : SettleReady s₂ (Built end) next next top
         select-settles =
-            let z = ch .answer (some-asked l select-each) in
+            let z = ch .answer (some-asked l (select-asks refl .1)) in
             let d = range-child select-binder in
             record {
               given = gives (setOf (z .chosen));

@@ -113,11 +113,8 @@ module _ (ns : List Node) (n : ℕ) (k : Kind) (e : kindAt ns n ≡ some k) wher
 -- What an expression takes more than a condition.
 expression-cells : (k : Option Kind) → expressionCells k ≤ 128
 expression-cells nothing = omega arith
-expression-cells (some k) = go (categoryOf k)
-  where
-    go : (c : Category) → elim c [ predicate ↦ 0 | expression ↦ 128 ] ≤ 128
-    go predicate = omega arith
-    go expression = omega arith
+expression-cells (some k) =
+    elim (categoryOf k) as (λ c. elim c [ predicate ↦ 0 | expression ↦ 128 ] ≤ 128) [ predicate ↦ omega arith | expression ↦ omega arith ]
 
 pub condition-cells : (k : Option Kind) → CategoryIs predicate k → expressionCells k ≡ 0
 condition-cells nothing e = absurd e

@@ -120,11 +120,7 @@ members-done {all = all} {n = n} i e =
 
 -- The quantifier of a kind.
 quant-of : (k : ℕ) (j : Quant) → kindOf k ≡ some (quant j) → quantOf (eqb k 10) ≡ j
-quant-of k j e = rw (code-of k (quant j) e) (go j)
-  where
-    go : (j : Quant) → quantOf (eqb (quantCode j) 10) ≡ j
-    go forAll = refl
-    go forSome = refl
+quant-of k j e = rw (code-of k (quant j) e) (elim j as (λ j. quantOf (eqb (quantCode j) 10) ≡ j) [ forAll ↦ refl | forSome ↦ refl ])
 
 -- Any end of one run is that of the other.
 held-on : {x y : Run Bool} {budget : ℕ} (r : Held) → ((e : End Bool) (l : ℕ) → EndsWith x e budget l → EndsWith y e budget l) →

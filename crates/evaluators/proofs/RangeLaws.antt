@@ -1,6 +1,6 @@
 -- A binder's range: its fields, its part of the node's run, the members of a set that stands in the arena, what the loop over them may take for granted, and `range_of`.
 use Rattle.evaluators.proofs.Terms.{ℕ, _+_, _-_, _*_, _≤_, _<_, Bool, true, false, List, [], _∷_, some, _≡_, refl, sym, ap, _∙_, subst, arith, T, length, getD, _%_, set, HasType, Fits, typed, demand, cellSize, RangeSet, SomeGood}
-use Rattle.evaluators.proofs.Terms.{Value, Values, count, Kind, Category, expression, predicate, unused, child, kindOf, fieldsOf, fits, tableOf, nodeAt, kindAt, fieldWords, End, done, refused, Run, M, _>>=_, _>>_, visit, binds-length, good-weight, code, codes, built, Sizes, GoodAt, good-fits, good-inside, Placed, Stopped, Refusal, Set, Unlike, EndsWith, PlacedAs, Listed, fieldA, fieldB, fieldC, RangeAt, expressionCells, Ready, Visited, Asks, Asked, valueAt, EvaluatesE, EachReady}
+use Rattle.evaluators.proofs.Terms.{Value, Values, count, Kind, Category, expression, predicate, unused, child, kindOf, fieldsOf, fits, tableOf, nodeAt, kindAt, fieldWords, End, refused, Run, M, _>>=_, _>>_, visit, binds-length, good-weight, code, codes, built, Sizes, GoodAt, good-fits, good-inside, Placed, Stopped, Refusal, Set, Unlike, EndsWith, PlacedAs, Listed, fieldA, fieldB, fieldC, RangeAt, expressionCells, Ready, Visited, Asks, Asked, valueAt, EvaluatesE, EachReady}
 use Rattle.rules.specs.Types.{Ty, atom, POW, _⊗_}
 use Rattle.rules.specs.Rules.{P̂, t̂, quantRule}
 use Rattle.laws.proofs.BindingLaws.{binderFields}
@@ -20,7 +20,7 @@ use Rattle.evaluators.proofs.NodeLaws.{Child, sizes-small, field-holds,
 use Rattle.evaluators.proofs.NodeLaws.{some-asks, asks-on, visits, after, valueIn, formed-below}
 
 -- The members of a good set stand behind its own cell.
-range-listed : {gs s : List ℕ} {top at n : ℕ} {v : Value} → GoodAt gs s top at v → (r : RangeSet v n) → Listed gs s top (at + 1) n (r .members)
+pub range-listed : {gs s : List ℕ} {top at n : ℕ} {v : Value} → GoodAt gs s top at v → (r : RangeSet v n) → Listed gs s top (at + 1) n (r .members)
 unfolding code
 range-listed {gs} {s} {top} {at} h r =
     let vs = r .members in
@@ -48,13 +48,6 @@ pub record Binder (bs env s : List ℕ) (top k n left a : ℕ) (x : Kind) : Type
   pub code : kindOf k ≡ some x
   pub fields : fieldsOf x ≡ binderFields
   pub word : a ≡ fieldB bs n
-
--- The range of a node, as the set of n members that it is.
-pub record RangeHere (x : Run Value) (budget : ℕ) (gs s : List ℕ) (at next left n : ℕ) : Type 0 where
-  pub range : Values
-  pub ends : EndsWith x (done (set range)) budget left
-  pub listed : Listed gs s next (at + 1) n range
-  pub fit : fits (P̂ t̂ ∷ []) (set range ∷ []) ≡ true
 
 module _ {bs env s : List ℕ} {top k n left a : ℕ} {x : Kind} (b : Binder bs env s top k n left a x) where
   abbrev r : Ready bs env s top n
@@ -88,13 +81,13 @@ module _ {bs env s : List ℕ} {top k n left a : ℕ} {x : Kind} (b : Binder bs 
 
   -- It has been evaluated.
   module _ {s₁ : List ℕ} {at next l : ℕ} (h : EvaluatesE bs env s top a (left - 1) s₁ (Placed at next l)) where
-    placed-range : (i : Asks bs env s top n (left - 1)) → PlacedAs (valueIn i (fieldB bs n)) (i .budget) (tableOf bs .sizes) s₁ at next l
+    pub placed-range : (i : Asks bs env s top n (left - 1)) → PlacedAs (valueIn i (fieldB bs n)) (i .budget) (tableOf bs .sizes) s₁ at next l
     placed-range i = formed-below i range-child (b .word) (Placed at next l) h
 
     some-range : PlacedAs (valueIn (some-asks n (left - 1) r) (fieldB bs n)) (left - 1) (tableOf bs .sizes) s₁ at next l
     some-range = placed-range (some-asks n (left - 1) r)
 
-    small : Sizes (tableOf bs .sizes)
+    pub small : Sizes (tableOf bs .sizes)
     small = sizes-small bs (r .readable)
 
     pub range-good : SomeGood s₁ at
@@ -131,31 +124,28 @@ module _ {bs env s : List ℕ} {top k n left a : ℕ} {x : Kind} (b : Binder bs 
             listed = range-listed (some-range .place) z;
           }
 
-      pub range-here : (i : Asks bs env s top n (left - 1)) → RangeHere (valueIn i (fieldB bs n)) (i .budget) (tableOf bs .sizes) s₁ at next l count
-      range-here i =
-          let v = placed-range i in
-          let z = y (tableOf bs .sizes) next (v .value) small (v .place) in
-          let fit = set-fits (z .members) (good-typed (tableOf bs .sizes) (set (z .members)) (rw (z .is) at (v .place .good))) in
-          record { range = z .members; ends = rw (z .is) at (v .ends); listed = range-listed (v .place) z; fit = fit }
-
       module _ (i : Asks bs env s top n left) where
-        abbrev here : RangeHere (valueIn (after (b .visited) i) (fieldB bs n)) (i .budget) (tableOf bs .sizes) s₁ at next l count
-        here = range-here (after (b .visited) i)
+        abbrev placed : PlacedAs (valueIn (after (b .visited) i) (fieldB bs n)) (i .budget) (tableOf bs .sizes) s₁ at next l
+        placed = placed-range (after (b .visited) i)
+
+        abbrev is-set : RangeSet (placed .value) count
+        is-set = y (tableOf bs .sizes) next (placed .value) small (placed .place)
 
         -- What is asked of the loop over it.
         abbrev pub in-range : Asked bs env s₁ next n (at + 1) count l
         in-range = record {
-          asks = asks-on (after (b .visited) i) (valueIn (after (b .visited) i) (fieldB bs n) .steps) (h .frame) (h .bounds .0) (here .ends .steps);
-          range = here .range;
-          listed = here .listed;
+          asks = asks-on (after (b .visited) i) (valueIn (after (b .visited) i) (fieldB bs n) .steps) (h .frame) (h .bounds .0) (placed .ends .steps);
+          range = is-set .members;
+          listed = range-listed (placed .place) is-set;
         }
 
         -- It fits, and so what follows it ends the run.
         pub range-on : {A : Type 0} (f : Value → M A) {e : End A} {u : ℕ} →
             EndsWith (f (set (in-range .range)) (in-range .asks .steps)) e (i .budget) u → EndsWith (ranged i f) e (i .budget) u
         range-on f z =
-            let v = set (here .range) in
-            visits (b .visited) i _ (then-done _ (here .ends) (fitting-on n quantRule (v ∷ []) (f v) _ (here .fit) z))
+            let v = set (is-set .members) in
+            let fit = set-fits (is-set .members) (good-typed (tableOf bs .sizes) v (rw (is-set .is) at (placed .place .good))) in
+            visits (b .visited) i _ (then-done _ (rw (is-set .is) at (placed .ends)) (fitting-on n quantRule (v ∷ []) (f v) _ fit z))
 
 -- The same range under equal names.
 pub range-as : {s : List ℕ} {at : ℕ} {r r′ : Range} → r ≡ r′ → RangeAt s at r → RangeAt s at r′

@@ -24,7 +24,7 @@ pub use Rattle.rules.specs.Evaluation.{fitting}
 pub use Rattle.rules.specs.Values.{Value, Values, weight, members, count, none, _▸_, values, weights, truthValue, set}
 pub use Rattle.rules.specs.Fits.{fits, HasType, Fits, typed}
 pub use Rattle.rules.specs.Ends.{End, done, refused}
-pub use Rattle.rules.specs.Runs.{Run, M, return, _>>=_, _>>_, gives, visit, Given, _orElse_, demand, goOn, form, lacks}
+pub use Rattle.rules.specs.Runs.{Run, M, return, _>>=_, _>>_, gives, visit, Given, demand, goOn, form, lacks}
 pub use Rattle.operations.proofs.KindLaws.{kind-of, code-of}
 unfoldable pub use Rattle.arena.specs.Code.{code}
 pub use Rattle.arena.specs.Code.{codes, Stands, Same, SomeAt, EndsAt, ValuesAt, ValueAt, cellSize, Copied}

@@ -4,7 +4,7 @@ use Rattle.evaluators.proofs.+each_chosen+each_member+eval_bare+eval_bo
 use Rattle.evaluators.proofs.decides.Reads as decides
 use Rattle.evaluators.proofs.joined.Reads as joined
 use Rattle.table.proofs.node_field.Reads as field
-use Rattle.evaluators.proofs.+each_chosen+each_member+eval_bare+eval_bool+eval_expr+eval_join+eval_one+eval_pred+eval_quant+eval_select+eval_test+eval_two+eval_value+operand.Proof.Base.{Over, eval-join, eval-pred, ℕ, arith, _∙_, refl, lit<, ready-node, child-asks}
+use Rattle.evaluators.proofs.+each_chosen+each_member+eval_bare+eval_bool+eval_expr+eval_join+eval_one+eval_pred+eval_quant+eval_select+eval_test+eval_two+eval_value+operand.Proof.Base.{Over, eval-join, eval-pred, ℕ, arith, _∙_, lit<, ready-node, child-asks}
 use Rattle.evaluators.proofs.JoinLaws.{join-child, join-stays, join-short, join-asks, join-stays-2, join-both}
 
 module _ (t : ℕ) where

@@ -58,11 +58,6 @@ module _ (t : ℕ) where
       held-as refl (sym (c .refused .ensures)) (quant-unlike (lent f .pre .1) (f .node-field .ensures)
       (formed-as refl (asked o .first .given .1) (e .operand .ensures)) (range-as (k .enum-told2 .given .1) (o .range-of .ensures)))
 
-  add-each-member : Here lts.Need-add-each-member
-  add-each-member c =
-      let a = c .before .before in let o = a .before .before in let e = first o in let b = quant-binder (lent (word e) .pre .1) (word e .node-field .ensures) in
-      record { fits = omega (arith, range-low b (formed-as refl (asked o .first .given .1) (e .operand .ensures))) }
-
   each-member-requires : Here lts.Need-each-member-requires
   each-member-requires c κs =
       let a = c .before .before in let o = a .before .before in let e = first o in let v = lent (word e) in
@@ -90,7 +85,8 @@ module _ (t : ℕ) where
       (λ c. c .match2 .keys1) (λ c. c .match2 .keys2) (λ c κs. tt)
       (λ c. first (c .before .before .before) .operand .kept .1 .1 .0)
       returns-2
-      add-each-member
+      (λ c. let a = c .before .before in let o = a .before .before in let e = first o in let f = word e in
+      omega (arith, range-low (quant-binder (lent f .pre .1) (f .node-field .ensures)) (formed-as refl (asked o .first .given .1) (e .operand .ensures))))
       each-member-requires
       (λ c. let i = c .before .before in i .each-member .kept .1 .1 .0 ∙ first (counted i .before .before) .operand .kept .1 .1 .0)
       returns-3

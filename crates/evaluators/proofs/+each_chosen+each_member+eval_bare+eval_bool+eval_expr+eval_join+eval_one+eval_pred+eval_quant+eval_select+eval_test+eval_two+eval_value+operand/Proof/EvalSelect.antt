@@ -6,7 +6,7 @@ use Rattle.evaluators.proofs.range_of.Reads as range
 use Rattle.evaluators.proofs.settle.Reads as settle
 use Rattle.evaluators.proofs.stopped.Reads as stopped
 use Rattle.evaluators.proofs.+each_chosen+each_member+eval_bare+eval_bool+eval_expr+eval_join+eval_one+eval_pred+eval_quant+eval_select+eval_test+eval_two+eval_value+operand.Proof.Base.{Over, each-chosen, eval-select, operand, ℕ, refl, sym, _∙_, arith, lit<, ready-node, child-asks, formed-as, range-as, range-child, range-good, range-low}
-use Rattle.evaluators.proofs.FormLaws.{chosen-as, select-binder, select-fails, select-unlike, select-each, chosen-fails, select-settles, select-evaluates}
+use Rattle.evaluators.proofs.FormLaws.{chosen-as, select-binder, select-fails, select-unlike, select-asks, chosen-fails, select-settles, select-evaluates}
 
 module _ (t : ℕ) where
   abbrev claims : lts.Claims
@@ -58,18 +58,11 @@ module _ (t : ℕ) where
       formed-as refl (sym (c .stopped .ensures)) (select-unlike (lent f .pre .1) (f .node-field .ensures)
       (formed-as refl (asked o .first .given .1) (e .operand .ensures)) (range-as (k .enum-told2 .given .1) (o .range-of .ensures)))
 
-  add-each-chosen : Here lts.Need-add-each-chosen
-  add-each-chosen c =
-      let a = c .before .before in let o = a .before .before in let e = first o in let b = select-binder (lent (word e) .pre .1) (word e .node-field .ensures) in
-      omega (arith, range-low b (formed-as refl (asked o .first .given .1) (e .operand .ensures)))
-
   each-chosen-requires : Here lts.Need-each-chosen-requires
   each-chosen-requires c κs =
-      let a = c .before .before in let o = a .before .before in let e = first o in let f = word e in (
-        omega (arith, lent f .pre .0),
-        select-each (lent f .pre .1) (f .node-field .ensures) (formed-as refl (asked o .first .given .1) (e .operand .ensures))
-            (range-as (a .range .given .1) (o .range-of .ensures)),
-      )
+      let a = c .before .before in let o = a .before .before in let e = first o in let v = lent (word e) in
+      select-asks (v .pre .1) (word e .node-field .ensures) (formed-as refl (asked o .first .given .1) (e .operand .ensures))
+      (range-as (a .range .given .1) (o .range-of .ensures)) (v .pre .0)
 
   returns-3 : Here lts.Need-returns-3
   returns-3 c =
@@ -106,7 +99,8 @@ module _ (t : ℕ) where
       (λ c. c .match2 .keys1) (λ c. c .match2 .keys2) (λ c κs. tt)
       (λ c. first (c .before .before .before) .operand .kept .1 .1 .0)
       returns-2
-      add-each-chosen
+      (λ c. let a = c .before .before in let o = a .before .before in let e = first o in let f = word e in
+      omega (arith, range-low (select-binder (lent f .pre .1) (f .node-field .ensures)) (formed-as refl (asked o .first .given .1) (e .operand .ensures))))
       each-chosen-requires
       (λ c. c .match3 .keys1) (λ c. c .match3 .keys2)
       (λ c. let i = chose (c .before .before) in i .each-chosen .kept .1 .1 .0 ∙ first (counted i .before .before) .operand .kept .1 .1 .0)
