@@ -77,18 +77,19 @@ module _ {g : Value → M Bool} {whole : List Value} {budget steps : ℕ} {s : L
       = stands-frame to s s₁ at (code (u .value)) same (omega (arith, length-code (u .value), u .here .below, h .ends)) (u .here .stands) in
       let is : members rest ≡ u .value ∷ members (u .rest) = ap members (u .is) in
       let sum : weights rest ≡ weight (u .value) + weights (u .rest) = ap weights (u .is) in
+      let added = picked b (u .value) in
       let long = length-codes (values (h .taken)) in
       let new = chosen-stands s₁ at end b to s₂ r (u .value) c here e (omega (arith, same .kept, sum, h .ends, h .light)) in
       record {
-        taken = h .taken ++ picked b (u .value);
-        stands = rw (codes-append (h .taken) (picked b (u .value))) (stands-append s₂ (top + 1) (codes (values (h .taken))) (codes (values (picked b (u .value))))
+        taken = h .taken ++ added;
+        stands = rw (codes-append (h .taken) added) (stands-append s₂ (top + 1) (codes (values (h .taken))) (codes (values added))
             (stands-frame to s s₂ (top + 1) (codes (values (h .taken))) over (omega (arith, h .ends, long)) (h .stands))
             (rw (long, ← h .ends) (new .0)));
-        ends = omega (arith, new .1, h .ends, weights-append (h .taken) (picked b (u .value)));
-        counted = omega (arith, h .counted, chosen-cost b (u .value) .0, count-append (h .taken) (picked b (u .value)));
-        light = omega (arith, sum, h .light, chosen-cost b (u .value) .1, weights-append (h .taken) (picked b (u .value)));
+        ends = omega (arith, new .1, h .ends, weights-append (h .taken) added);
+        counted = omega (arith, h .counted, chosen-cost b (u .value) .0, count-append (h .taken) added);
+        light = omega (arith, sum, h .light, chosen-cost b (u .value) .1, weights-append (h .taken) added);
         goes = λ {ws} {l = q} x.
-            subst (λ (vs : List Value). EndsWith (select g whole steps) (done vs) budget q) (sym (append-assoc (h .taken) (picked b (u .value)) ws))
+            subst (λ (vs : List Value). EndsWith (select g whole steps) (done vs) budget q) (sym (append-assoc (h .taken) added ws))
             (h .goes (rw is (select-on g (u .value) (members (u .rest)) now b run x)));
         stops = λ x. h .stops (rw is (then-done _ run (then-refused _ x)));
       }

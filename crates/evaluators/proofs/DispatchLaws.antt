@@ -109,10 +109,6 @@ module _ (k : ℕ) where
   pub two-key : k ≡ 37 → Sort two k
   two-key e = (apply, kind-of k (two apply) e)
 
-  -- From 25 on, with 25 and 26 met before, 27 is the first code.
-  pub from-27 : 25 ≤ k → k ≢ 25 → ((k ≡ 20) ⊎ (k ≡ 26) → ⊥) → 27 ≤ k
-  from-27 a n25 n = let n26 : k ≢ 26 = λ e. n (inr e) in omega (arith, n25, n26)
-
   -- No expression's code is left at the last arm.
   pub no-other : {A : Type 0} → (20 ≤ k) × (k ≤ 43) → 42 ≤ k → (Some-one → ⊥) → ((k ≡ 21) ⊎ (k ≡ 42) → ⊥) → A
   no-other r a n m =
@@ -120,11 +116,11 @@ module _ (k : ℕ) where
       let n43 : k ≢ 43 = λ e. n (inr (inr (inr e))) in
       absurd (omega (arith, r .1, n42, n43))
 
-  pub two-low : (Some-one → ⊥) → 27 ≤ k → k < 33 → Sort two k
+  pub two-low : (Some-one → ⊥) → k ≢ 25 → ((k ≡ 20) ⊎ (k ≡ 26) → ⊥) → 25 ≤ k → k < 33 → Sort two k
   unfolding kindOf
-  two-low n a b =
+  two-low n n25 m a b =
       along (λ (m : ℕ). Sort two m) 28 5 ((pairing, refl), ((union, refl), ((inter, refl), ((diff, refl), ((product, refl), tt))))) k
-      (let d : k ≢ 27 = λ e. n (inl e) in omega (arith, d)) (omega arith)
+      (let n26 : k ≢ 26 = λ e. m (inr e) in let n27 : k ≢ 27 = λ e. n (inl e) in omega (arith, n25, n26, n27)) (omega arith)
 
   pub two-high : (Some-one → ⊥) → k ≢ 37 → 37 ≤ k → k < 42 → Sort two k
   unfolding kindOf

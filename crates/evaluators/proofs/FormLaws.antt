@@ -27,7 +27,8 @@ module _ {bs env s : List ℕ} {top k n m left : ℕ} (p : Visited bs env s top 
   pub one-fails : {s₁ : List ℕ} {r : Refusal} {l : ℕ} → EvaluatesE bs env s top m (left - 1) s₁ (Stopped r l) →
       EvaluatesE bs env s top n left s₁ (Stopped r l)
   unfolding valueᵉ
-  one-fails {s₁} {r} {l} h = stopped-by x (one j) (p .1 .1) (h .frame) (λ i. visits x i _ (then-refused _ (formed-below (after x i) one-child w (Stopped r l) h)))
+  one-fails {r = r} {l = l} h =
+      stopped-by x (one j) (p .1 .1) (h .frame) (λ i. visits x i _ (then-refused _ (formed-below (after x i) one-child w (Stopped r l) h)))
 
   module _ {s₁ : List ℕ} {at next l : ℕ} (h : EvaluatesE bs env s top m (left - 1) s₁ (Placed at next l)) where
     operand-at : (i : Asks bs env s top n (left - 1)) → PlacedAs (valueIn i (fieldA bs n)) (i .budget) (tableOf bs .sizes) s₁ at next l

@@ -66,7 +66,8 @@ module _ {bs env s : List ℕ} {top k n left : ℕ} (at-join : Visited bs env s 
     -- It is refused.
     pub join-stays : {p : Refusal} {l : ℕ} → r ≡ Refused p l → EvaluatesP bs env s top n left s′ r
     unfolding holdsᵖ
-    join-stays {p} {l} d = held-as refl (sym d) (held-by v (join j) (at-join .1 .1) (h .frame) (λ i. visits v i _ (then-refused _ (join-first (Refused p l) d i))))
+    join-stays {p} {l} d =
+        held-as refl (sym d) (held-by v (join j) (at-join .1 .1) (h .frame) (λ i. visits v i _ (then-refused _ (join-first (Refused p l) d i))))
 
     module _ {y : Bool} {l : ℕ} (d : r ≡ Truth y l) {o : Bool} (by : DecidesBy k y o) where
       -- It decides.

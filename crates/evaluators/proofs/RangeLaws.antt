@@ -1,4 +1,5 @@
--- A binder's range: its fields, its part of the node's run, the members of a set that stands in the arena, what the loop over them may take for granted, and `range_of`.
+-- A binder's range: its fields, its part of the node's run, the members of a set that stands in the arena, what the loop over them may take for
+-- granted, and `range_of`.
 use Rattle.evaluators.proofs.Terms.{ℕ, _+_, _-_, _*_, _≤_, _<_, Bool, true, false, List, [], _∷_, some, _≡_, refl, sym, ap, _∙_, subst, arith, T, length, getD, _%_, set, HasType, Fits, typed, demand, cellSize, RangeSet, SomeGood}
 use Rattle.evaluators.proofs.Terms.{Value, Values, count, Kind, Category, expression, predicate, unused, child, kindOf, fieldsOf, fits, tableOf, nodeAt, kindAt, fieldWords, End, refused, Run, M, _>>=_, _>>_, visit, binds-length, good-weight, code, codes, built, Sizes, GoodAt, good-fits, good-inside, Placed, Stopped, Refusal, Set, Unlike, EndsWith, PlacedAs, Listed, fieldA, fieldB, fieldC, RangeAt, expressionCells, Ready, Visited, Asks, Asked, valueAt, EvaluatesE, EachReady}
 use Rattle.rules.specs.Types.{Ty, atom, POW, _⊗_}
