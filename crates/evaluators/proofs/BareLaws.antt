@@ -1,21 +1,6 @@
 -- Negations passed from a condition down: each turns the answer round, for one visit; and the condition's answer from that of the one reached.
-use Prim.Native.Nat.{ℕ, suc, _+_, _-_, _<_}
-use mathlib.Core.Bool.{Bool, true, false, not}
-use mathlib.Core.List.{List}
-use mathlib.Core.Option.{some}
-use mathlib.Core.Path.{_≡_, refl, sym, ap, _∙_, subst}
-use native.Mathlib.Omega.{arith}
-use Rattle.rules.specs.Kinds.{predicate, negation, kindOf}
-use Rattle.rules.specs.Tables.{Pred, notᵖ, tableOf, nodeAt, kindAt, predAt, nodeCount}
-use Rattle.rules.specs.Readable.{Readable}
-use Rattle.rules.specs.Operations.{Env}
-use Rattle.rules.specs.Evaluation.{holdsᵖ}
-use Rattle.operations.proofs.KindLaws.{kind-of}
-use Rattle.evaluators.specs.declared.Held.{Held}
-use Rattle.evaluators.specs.declared.Held.the-variants.{Truth, Refused}
-use Rattle.evaluators.specs.Answers.{HeldAs, turnedBy}
-use Rattle.evaluators.specs.Cycle.{Ready, holdsAt, Passes, EvaluatesP}
-use Rattle.evaluators.specs.Nodes.{fieldA, IsPred}
+use Rattle.evaluators.proofs.Terms.{ℕ, suc, _+_, _-_, _<_, Bool, true, false, not, List, some, _≡_, refl, sym, ap, _∙_, subst, arith}
+use Rattle.evaluators.proofs.Terms.{predicate, negation, kindOf, Pred, tableOf, nodeAt, kindAt, predAt, nodeCount, Readable, Env, holdsᵖ, kind-of, Held, Truth, Refused, HeldAs, turnedBy, Ready, holdsAt, Passes, EvaluatesP, fieldA, IsPred, notᵖ}
 use Rattle.evaluators.proofs.RunLaws.{then-done, then-refused, returns, visited}
 use Rattle.evaluators.proofs.NodeLaws.{Child, field-child, pred-at, condition-cells, ready-at}
 

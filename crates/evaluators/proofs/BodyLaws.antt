@@ -1,44 +1,22 @@
 -- The body of a binder: its environment at a member of the range, what the loop's answer is asked for, and the members one after the other.
-use Prim.Native.Nat.{ℕ, _+_, _-_, _≤_, _<_}
-use mathlib.Core.Bool.{Bool}
-use mathlib.Core.List.{List, []}
-use mathlib.Core.Path.{_≡_, refl, sym, _∙_, subst}
-use native.Mathlib.Omega.{arith}
+use Rattle.evaluators.proofs.Terms.{ℕ, _+_, _-_, _*_, _≤_, _<_, Bool, List, [], _≡_, refl, sym, _∙_, subst, arith, length, getD, setAt, length-set, eq-eqb, ne-eqb, none, _▸_, _with_≔_, NewFirsts}
+use Rattle.evaluators.proofs.Terms.{Value, Values, weight, members, tableOf, Env, code, codes, Stands, Same, SomeAt, EndsAt, stands-frame, same-refl, same-trans, length-code, length-codes, Builds, Sizes, GoodAt, good-fits, good-inside, Held, Truth, HeldAs, Listed, fieldA, fieldC, placeOf, Marked, IsPred, cellsFor, Binds, Ready, Asked, bodyOf, EachReady, holdsAt, EvaluatesP}
 use native.Mathlib.Decide.{ℕ-discrete}
-use borrow.Author.Tests.{eq-eqb, ne-eqb}
-use lib.ListN.{length, getD, set as setAt, length-set}
 use lib.Seq.{getD-set-same, getD-set-other}
-use Rattle.rules.specs.Values.{Value, Values, none, _▸_, weight, members}
-use Rattle.rules.specs.Tables.{tableOf}
-use Rattle.rules.specs.Ends.{done}
-use Rattle.rules.specs.Runs.{M}
-use Rattle.rules.specs.Operations.{Env, _with_≔_}
 use Rattle.laws.proofs.FormedLaws.{with-good}
-use Rattle.arena.specs.Code.{code, codes, Stands, Same, SomeAt, EndsAt}
-use Rattle.arena.proofs.Standing.{stands-frame, stands-front, stands-back}
-use Rattle.arena.proofs.CodeLaws.{length-code, length-codes}
-use Rattle.constants.specs.Built.{Builds}
-use Rattle.operations.specs.Good.{GoodAt, NewFirsts}
-use Rattle.operations.proofs.GoodLaws.{good-fits, good-inside}
-use Rattle.evaluators.specs.declared.Held.{Held}
-use Rattle.evaluators.specs.Answers.{EndsWith, HeldAs, Listed}
-use Rattle.evaluators.specs.Nodes.{fieldA, fieldC, placeOf, Marked, IsPred}
-use Rattle.evaluators.specs.Cycle.{cellsFor, Binds, Ready, EachReady, holdsAt, bodyAt, EvaluatesP}
-use Rattle.evaluators.proofs.NodeLaws.{sizes-small, good-frame, binds-frame, ready-at, Asks, some-asks}
+use Rattle.arena.proofs.Standing.{stands-front, stands-back}
+use Rattle.evaluators.proofs.NodeLaws.{sizes-small, good-frame, binds-frame, ready-at, some-asks, held-as}
 
 -- The environment of the body: the binder's own, but for its name x.
 pub record Inner (env inner : List ℕ) (x : ℕ) : Type 0 where
   pub long : length inner ≡ 32
   pub else : (y : ℕ) → (y ≡ x → ⊥) → getD inner y 0 ≡ getD env y 0
 
-pub inner-start : (env : List ℕ) (x : ℕ) → length env ≡ 32 → Inner env env x
-inner-start env x h = record { long = h; else = λ y n. refl }
-
 pub inner-set : {env inner : List ℕ} {x : ℕ} (at : ℕ) → Inner env inner x → Inner env (setAt inner x at) x
 inner-set {env} {inner} {x} at h = record { long = length-set inner x at ∙ h .long; else = λ y n. getD-set-other inner x y at 0 n ∙ h .else y n }
 
 -- A member's place bound to x.
-pub binds-body : {bs s : List ℕ} {top : ℕ} {env inner : List ℕ} {ρ : Env} {x at : ℕ} {w : Value} → Inner env inner x → x < 32 → at < 65536 →
+binds-body : {bs s : List ℕ} {top : ℕ} {env inner : List ℕ} {ρ : Env} {x at : ℕ} {w : Value} → Inner env inner x → x < 32 → at < 65536 →
     Binds bs s top env ρ → GoodAt (tableOf bs .sizes) s top at w → Binds bs s top (setAt inner x at) (ρ with x ≔ w)
 binds-body {bs} {s} {top} {env} {inner} {ρ} {x} {at} {w} i l small b g = record {
   at = λ y h. go y h (ℕ-discrete y x);
@@ -64,30 +42,20 @@ binds-body {bs} {s} {top} {env} {inner} {ρ} {x} {at} {w} i l small b g = record
     known y h (yes e) m = absurd (omega (arith, here y e, small, m))
     known y h (no n) m = rw (ne-eqb x y (λ e. n (sym e)), _with_≔_) (b .functions y h (rw (other y n) at m))
 
--- Values below `top` stay, and are below what is higher.
-pub listed-frame : {gs s s′ : List ℕ} {top from n : ℕ} {vs : Values} (k : ℕ) → Same top s s′ → top ≤ k → Listed gs s top from n vs → Listed gs s′ k from n vs
-listed-frame {gs} {s} {s′} {top} {from} {n} {vs} k e le l = record {
+-- Values below `top` stay.
+pub listed-frame : {gs s s′ : List ℕ} {top from n : ℕ} {vs : Values} → Same top s s′ → Listed gs s top from n vs → Listed gs s′ top from n vs
+listed-frame {gs} {s} {s′} {top} {from} {n} {vs} e l = record {
   stands = stands-frame top s s′ from (codes vs) e (omega (arith, l .below, length-codes vs)) (l .stands);
   counted = l .counted;
-  below = omega (arith, l .below);
+  below = l .below;
   good = l .good;
   light = l .light;
 }
-
--- What the answer of a loop over a range is asked for: the members too.
-pub record Asked (bs env s : List ℕ) (top n from count left : ℕ) : Type 0 where
-  pub asks : Asks bs env s top n left
-  pub range : Values
-  pub listed : Listed (tableOf bs .sizes) s top from count range
 
 -- The loop may begin, so there is something to ask.
 abbrev pub some-asked : {bs env s : List ℕ} {top n from count spare : ℕ} (left : ℕ) → EachReady bs env s top n from count spare →
     Asked bs env s top n from count left
 some-asked {n = n} left r = record { asks = some-asks n left (r .ready); range = r .range; listed = r .listed }
-
--- The body at the members.
-abbrev pub bodyOf : {bs env s : List ℕ} {top n from count left : ℕ} → Asked bs env s top n from count left → Value → M Bool
-bodyOf {bs} {n = n} k = bodyAt bs (k .asks .budget) n (k .asks .depth) (k .asks .values)
 
 -- The first of the values, and those behind it.
 pub record First (gs s : List ℕ) (top from n : ℕ) (vs : Values) : Type 0 where
@@ -97,7 +65,7 @@ pub record First (gs s : List ℕ) (top from n : ℕ) (vs : Values) : Type 0 whe
   pub here : GoodAt gs s top from value
   pub behind : Listed gs s top (from + weight value) (n - 1) rest
 
-pub first-member : {gs s : List ℕ} {top from n : ℕ} (vs : Values) → Listed gs s top from n vs → 0 < n → First gs s top from n vs
+first-member : {gs s : List ℕ} {top from n : ℕ} (vs : Values) → Listed gs s top from n vs → 0 < n → First gs s top from n vs
 unfolding code
 first-member {gs} {s} {top} {from} {n} none l h = absurd (omega (arith, l .counted))
 first-member {gs} {s} {top} {from} {n} (v ▸ vs) l h = record {
@@ -121,6 +89,7 @@ none-left {gs} {s} {top} {from} {n} (v ▸ vs) l h = absurd (omega (arith, l .co
 
 -- Before each turn of a loop: the rest of the range stands at `at`, and `now` visits have been made, where it is asked.
 pub record Loop (bs env s₀ : List ℕ) (top n from count left x : ℕ) (s inner : List ℕ) (at more m : ℕ) : Type 0 where
+  pub frame : Same top s₀ s
   pub inside : Inner env inner x
   pub rest : Asked bs env s₀ top n from count left → Values
   pub listed : (k : Asked bs env s₀ top n from count left) → Listed (tableOf bs .sizes) s top at more (rest k)
@@ -129,17 +98,18 @@ pub record Loop (bs env s₀ : List ℕ) (top n from count left x : ℕ) (s inne
 
 abbrev pub loop-start : {bs env s : List ℕ} {top n from count left spare : ℕ} (x : ℕ) → EachReady bs env s top n from count spare →
     Loop bs env s top n from count left x s env from count left
-loop-start {env = env} x r = record {
-  inside = inner-start env x (r .ready .entries);
+loop-start {env = env} {s = s} {top = top} x r = record {
+  frame = same-refl top s;
+  inside = record { long = r .ready .entries; else = λ y n. refl };
   rest = λ k. k .range;
   listed = λ k. k .listed;
   now = λ k. k .asks .steps;
   counts = λ k. k .asks .counts;
 }
 
--- A turn: the member at `at` is bound to x, and the body runs, above `to`.
+-- A turn: the member at `at` is bound to x, and the body, node c, runs, above `to`.
 module _ {bs env s₀ : List ℕ} {top n from count left x : ℕ} {s inner : List ℕ} {at more m spare : ℕ} (r : EachReady bs env s₀ top n from count spare)
-    (f : Same top s₀ s) (i : Loop bs env s₀ top n from count left x s inner at more m) (some : 0 < more) where
+    (i : Loop bs env s₀ top n from count left x s inner at more m) (some : 0 < more) where
   pub member : (k : Asked bs env s₀ top n from count left) → First (tableOf bs .sizes) s top at more (i .rest k)
   member k = first-member (i .rest k) (i .listed k) some
 
@@ -147,48 +117,68 @@ module _ {bs env s₀ : List ℕ} {top n from count left x : ℕ} {s inner : Lis
   abbrev pub some-member : First (tableOf bs .sizes) s top at more (i .rest (some-asked left r))
   some-member = member (some-asked left r)
 
-  -- Each stands as before over an arena that is the same below `top`.
-  module _ {s′ : List ℕ} (e : Same top s s′) where
-    pub member-at : SomeAt s′ at
-    member-at =
-        let fits = good-fits (sizes-small bs (r .ready .readable)) (some-member .value) (some-member .here .good) in
-        record { value = some-member .value; stands = good-frame e (some-member .here) .stands; fits = fits }
+  small : Sizes (tableOf bs .sizes)
+  small = sizes-small bs (r .ready .readable)
 
-    pub member-ends : {end : ℕ} → EndsAt s′ at end → (k : Asked bs env s₀ top n from count left) → end ≡ at + weight (member k .value)
-    member-ends z k =
-        let w = member k in
-        z (w .value) (good-frame e (w .here) .stands) (good-fits (sizes-small bs (r .ready .readable)) (w .value) (w .here .good))
-
-    -- The next member stands at `end`.
-    abbrev pub loop-next : {b : Bool} {end l : ℕ} → ((k : Asked bs env s₀ top n from count left) → end ≡ at + weight (member k .value)) →
-        ((k : Asked bs env s₀ top n from count left) → EndsWith (bodyOf k (member k .value) (i .now k)) (done b) (k .asks .budget) l) →
-        Loop bs env s₀ top n from count left x s′ (setAt inner x at) end (more - 1) l
-    loop-next z h = record {
-      inside = inner-set at (i .inside);
-      rest = λ k. member k .rest;
-      listed = λ k. rw (z k) (listed-frame top e (omega arith) (member k .behind));
-      now = λ k. bodyOf k (member k .value) (i .now k) .steps;
-      counts = λ k. h k .steps;
-    }
+  pub member-low : at < 65536
+  member-low = omega (arith, good-inside small (some-member .here), i .frame .kept, r .ready .small)
 
   module _ {to : ℕ} (low : top ≤ to) (ex : x ≡ fieldA bs n) {c : ℕ} (ey : c ≡ fieldC bs n) where
     member-binds : (k : Asked bs env s₀ top n from count left) → Binds bs s to (setAt inner x at) (k .asks .values with x ≔ member k .value)
     member-binds k =
         let g = member k .here in
-        let small : at < 65536 = omega (arith, good-inside (sizes-small bs (r .ready .readable)) g, f .kept, r .ready .small) in
-        binds-body (i .inside) (omega (arith, ex, r .name)) small (binds-frame to f low (k .asks .binds))
+        binds-body (i .inside) (omega (arith, ex, r .name)) member-low (binds-frame to (i .frame) low (k .asks .binds))
         (record { stands = g .stands; below = omega (arith, g .below); good = g .good })
 
-    pub body-begins : (Builds bs → to + cellsFor bs (fieldC bs n) ≤ length s) → Ready bs (setAt inner x at) s to c × IsPred bs c
-    body-begins room =
-        rw ey (ready-at (r .ready) (fieldC bs n) (r .ready .node) room (f .kept) (inner-set at (i .inside) .long) (member-binds (some-asked left r)), r .is)
+    -- What the body's evaluator asks, where the measures are those of the cycle.
+    pub body-asks : {t : ℕ} → 5 * n ≡ t → (Builds bs → to + cellsFor bs (fieldC bs n) ≤ length s) →
+        (5 * c + 3 < t) × (Ready bs (setAt inner x at) s to c × IsPred bs c)
+    body-asks e room =
+        let b = member-binds (some-asked left r) in (
+          omega (arith, r .deeper, ey),
+          rw ey (ready-at (r .ready) (fieldC bs n) (r .ready .node) room (i .frame .kept) (inner-set at (i .inside) .long) b, r .is),
+        )
 
-    pub body-ends : {s′ : List ℕ} (h : Held) → EvaluatesP bs (setAt inner x at) s to c m s′ h → (k : Asked bs env s₀ top n from count left) →
-        HeldAs (bodyOf k (member k .value) (i .now k)) (k .asks .budget) h
-    body-ends h p k =
-        let u = k .asks in
-        let v = member k .value in
-        let t = i .now k in
-        let a = p .answer (u .depth) (u .values with x ≔ v) (u .budget) t (omega (arith, ey, r .deeper, u .deep)) (i .counts k) (member-binds k) in
-        subst (λ (z : ℕ). HeldAs (holdsAt bs (u .budget) (u .depth) z (u .values with fieldA bs n ≔ v) t) (u .budget) h) ey
-        (subst (λ (z : ℕ). HeldAs (holdsAt bs (u .budget) (u .depth) c (u .values with z ≔ v) t) (u .budget) h) ex a)
+    -- It has run.
+    module _ {s′ : List ℕ} {h : Held} (p : EvaluatesP bs (setAt inner x at) s to c m s′ h) where
+      pub body-ends : (h₀ : Held) → h ≡ h₀ → (k : Asked bs env s₀ top n from count left) →
+          HeldAs (bodyOf k (member k .value) (i .now k)) (k .asks .budget) h₀
+      body-ends h₀ e k =
+          let u = k .asks in
+          let v = member k .value in
+          let t = i .now k in
+          let a = held-as refl e p .answer (u .depth) (u .values with x ≔ v) (u .budget) t (omega (arith, ey, r .deeper, u .deep)) (i .counts k)
+          (member-binds k) in
+          subst (λ (z : ℕ). HeldAs (holdsAt bs (u .budget) (u .depth) z (u .values with fieldA bs n ≔ v) t) (u .budget) h₀) ey
+          (subst (λ (z : ℕ). HeldAs (holdsAt bs (u .budget) (u .depth) c (u .values with z ≔ v) t) (u .budget) h₀) ex a)
+
+      pub body-frame : Same top s₀ s′
+      body-frame = same-trans top to s₀ s s′ (i .frame) (p .frame) low
+
+      -- Each member stands as before.
+      pub under : Same top s s′
+      under = same-trans top to s s s′ (same-refl top s) (p .frame) low
+
+      stays : {v : Value} → GoodAt (tableOf bs .sizes) s top at v → Stands s′ at (code v)
+      stays g = good-frame under g .stands
+
+      pub member-at : SomeAt s′ at
+      member-at =
+          let w = some-member in
+          record { value = w .value; stands = stays (w .here); fits = good-fits small (w .value) (w .here .good) }
+
+      module _ {end : ℕ} (z : EndsAt s′ at end) where
+        pub member-ends : (k : Asked bs env s₀ top n from count left) → end ≡ at + weight (member k .value)
+        member-ends k = let w = member k in z (w .value) (stays (w .here)) (good-fits small (w .value) (w .here .good))
+
+        -- It is true or false; s″ is the arena with what the loop itself has written, above `to`, and the next member stands at `end`.
+        abbrev pub loop-next : (b : Bool) {l : ℕ} {s″ : List ℕ} → h ≡ Truth b l → Same to s′ s″ →
+            Loop bs env s₀ top n from count left x s″ (setAt inner x at) end (more - 1) l
+        loop-next b {l} {s″} e f = record {
+          frame = same-trans top to s₀ s′ s″ body-frame f low;
+          inside = inner-set at (i .inside);
+          rest = λ k. member k .rest;
+          listed = λ k. rw (member-ends k) (listed-frame (same-trans top to s s′ s″ under f low) (member k .behind));
+          now = λ k. bodyOf k (member k .value) (i .now k) .steps;
+          counts = λ k. body-ends (Truth b l) e k .steps;
+        }

@@ -1,39 +1,15 @@
 -- The two operands of a node, one after the other: their answers joined, for tests and for operations of two; and the tests.
-use Prim.Native.Nat.{ℕ, _+_, _-_, _*_, _≤_, _<_}
-use mathlib.Core.Bool.{Bool, true, false}
-use mathlib.Core.List.{List, [], _∷_}
-use mathlib.Core.Option.{some}
-use mathlib.Core.Path.{_≡_, refl, sym, _∙_, subst}
-use native.Mathlib.Omega.{arith}
-use Rattle.rules.specs.Values.{Value}
-use Rattle.rules.specs.Kinds.{expression, Test, test, kindOf}
+use Rattle.evaluators.proofs.Terms.{ℕ, _+_, _-_, _*_, _≤_, _<_, Bool, true, false, List, [], _∷_, _≡_, refl, sym, _∙_, subst, arith}
+use Rattle.evaluators.proofs.Terms.{Value, expression, test, fits, tableOf, End, done, refused, Run, M, return, _>>=_, _>>_, fitting, holdsᵖ, Same, same-trans, GoodAt, SomeOperands, Refusal, Formed, Placed, Stopped, Truth, Refused, EndsWith, PlacedAs, conditionCells, Ready, Visited, Sort, Asks, valueAt, EvaluatesP, EvaluatesE, fieldA, fieldB, IsExpr, Test, holds, TestOf, tested}
 use Rattle.rules.specs.Rules.{testRule}
-use Rattle.rules.specs.Fits.{fits}
-use Rattle.rules.specs.Tables.{tableOf}
 use Rattle.rules.specs.Reading.{height}
-use Rattle.rules.specs.Ends.{done, refused}
-use Rattle.rules.specs.Runs.{Run, M, _>>=_}
-use Rattle.rules.specs.Operations.{holds}
-use Rattle.rules.specs.Evaluation.{holdsᵖ}
-use Rattle.rules.proofs.Basics.{absurd01}
-use Rattle.arena.specs.Code.{Same}
-use Rattle.arena.proofs.Standing.{same-trans}
-use Rattle.operations.specs.Good.{GoodAt}
-use Rattle.operations.specs.Outcomes.{SomeOperands, TestOf, tested}
 use Rattle.operations.specs.declared.Tested.{Tested}
 use Rattle.operations.specs.declared.Tested.the-variants.{Truth as Tells, Unlike}
 use Rattle.operations.proofs.GoodLaws.{good-above}
 use Rattle.operations.proofs.OutcomeLaws.{test-fit, test-unfit}
-use Rattle.reading.specs.declared.Refusal.{Refusal}
-use Rattle.evaluators.specs.declared.Formed.{Formed}
-use Rattle.evaluators.specs.declared.Formed.the-variants.{Value as Placed, Stopped}
-use Rattle.evaluators.specs.declared.Held.the-variants.{Truth, Refused}
-use Rattle.evaluators.specs.Answers.{EndsWith, PlacedAs}
-use Rattle.evaluators.specs.Cycle.{conditionCells, Ready, Visited, valueAt, EvaluatesP, EvaluatesE}
-use Rattle.evaluators.specs.Nodes.{fieldA, fieldB, IsExpr}
 use Rattle.evaluators.proofs.RunLaws.{then-done, then-refused, returns, fitting-on, fitting-refused}
-use Rattle.evaluators.proofs.NodeLaws.{Child, TwoFields, ready-child, ready-first, good-frame, sizes-small, formed-as, Asks, some-asks, asks-on}
-use Rattle.evaluators.proofs.NodeLaws.{visited-operands, visits, after, valueIn, formed-below, held-by}
+use Rattle.evaluators.proofs.NodeLaws.{Child, TwoFields, ready-child, ready-first, good-frame, sizes-small, formed-as, some-asks, asks-on}
+use Rattle.evaluators.proofs.NodeLaws.{visited-operands, visits, after, valueIn, formed-below, predᵍ, held-by}
 
 -- Both operands have values: that of the first, x, stands at a, below mid, and then that of the second, y, at b, below next.
 pub record BothAs (x y : Run Value) (budget : ℕ) (gs s : List ℕ) (a mid b next left : ℕ) : Type 0 where
@@ -140,56 +116,53 @@ operands-ready {bs} {n = n} {left = left} {next = next} x h =
     let small = sizes-small bs (x .readable) in
     (next, record { sizes = _; small = small; first = _; second = _; left = good-above small (v .leftAt) next (h .order); right = v .rightAt })
 
--- What the test's answer tells of its operands.
-unlike-truth : {y : Bool} → Unlike ≡ Tells y → ⊥
-unlike-truth {y} e = absurd01 (cc)
+-- The end that the test's answer tells: the truth, or 15.
+abbrev toldEnd : ℕ → Tested → End Bool
+toldEnd n (Tells y) = done y
+toldEnd n Unlike = refused 15 n
 
-module _ (j : Test) (v w : Value) where
-  tells-unlike : Unlike ≡ tested j v w → fits (testRule j .takes) (v ∷ w ∷ []) ≡ false
-  tells-unlike e = go (fits (testRule j .takes) (v ∷ w ∷ [])) refl
-    where
-      go : (b : Bool) → fits (testRule j .takes) (v ∷ w ∷ []) ≡ b → fits (testRule j .takes) (v ∷ w ∷ []) ≡ false
-      go true d = absurd (unlike-truth (e ∙ test-fit j v w d))
-      go false d = d
-
-  tells-truth : {y : Bool} → Tells y ≡ tested j v w → (fits (testRule j .takes) (v ∷ w ∷ []) ≡ true) × (holds j v w ≡ y)
-  tells-truth {y} e = go (fits (testRule j .takes) (v ∷ w ∷ [])) refl
-    where
-      go : (b : Bool) → fits (testRule j .takes) (v ∷ w ∷ []) ≡ b → (fits (testRule j .takes) (v ∷ w ∷ []) ≡ true) × (holds j v w ≡ y)
-      go true d = let q : Tells y ≡ Tells (holds j v w) = e ∙ test-fit j v w d in (d, cc)
-      go false d = absurd (unlike-truth (sym (e ∙ test-unfit j v w d)))
+tested-ends : {budget left : ℕ} (n : ℕ) (j : Test) (v w : Value) (s : ℕ) → s + left ≡ budget →
+    EndsWith ((fitting n (testRule j) (v ∷ w ∷ []) >> return (holds j v w)) s) (toldEnd n (tested j v w)) budget left
+tested-ends {budget} {left} n j v w s c = go (fits (testRule j .takes) (v ∷ w ∷ [])) refl
+  where
+    go : (b : Bool) → fits (testRule j .takes) (v ∷ w ∷ []) ≡ b →
+        EndsWith ((fitting n (testRule j) (v ∷ w ∷ []) >> return (holds j v w)) s) (toldEnd n (tested j v w)) budget left
+    go true d = rw (test-fit j v w d) (fitting-on n (testRule j) _ _ s d (returns (holds j v w) c))
+    go false d = rw (test-unfit j v w d) (fitting-refused n (testRule j) _ _ s d c)
 
 -- 6 to 9
-module _ {bs env s : List ℕ} {top k n left : ℕ} (x : Visited bs env s top k n left) (j : Test) (e : kindOf k ≡ some (test j)) where
+module _ {bs env s : List ℕ} {top k n left : ℕ} (p : Visited bs env s top k n left × Sort test k) where
+  abbrev x : Visited bs env s top k n left
+  x = p .0
+
+  abbrev j : Test
+  j = p .1 .0
+
   pub test-fields : TwoFields bs n
-  test-fields = visited-operands x (test j) e refl
+  test-fields = visited-operands x (test j) (p .1 .1) refl
 
   -- An operand is refused.
   pub test-stops : {s′ : List ℕ} {r : Refusal} {l : ℕ} → StopsBoth bs env s top n (left - 1) s′ r l → EvaluatesP bs env s top n left s′ (Refused r l)
   unfolding holdsᵖ
-  test-stops h = held-by x (test j) e (h .frame) (λ i. visits x i _ (h .answer (after x i) _))
+  test-stops h = held-by x (test j) (p .1 .1) (h .frame) (λ i. visits x i _ (h .answer (after x i) _))
 
   module _ {s′ : List ℕ} {at mid other next l : ℕ} (h : EvaluatesBoth bs env s top n (left - 1) s′ at mid other next l)
       {o : Tested} (op : TestOf k s′ at other o) where
-    -- What the operation says of the operands' values.
-    told : {y z : Run Value} {budget : ℕ} (v : BothAs y z budget (tableOf bs .sizes) s′ at mid other next l) → o ≡ tested j (v .first) (v .second)
-    told v = op j e (tableOf bs .sizes) mid next (v .first) (v .second) (sizes-small bs (x .ready .readable)) (v .leftAt) (v .rightAt)
-
-    -- 15, or the truth.
-    pub test-unlike : o ≡ Unlike → EvaluatesP bs env s top n left s′ (Refused (record { number = 15; place = n }) l)
+    -- The node's end, by what the test tells of the operands' values.
+    told : {z : Tested} → o ≡ z → (i : Asks bs env s top n left) →
+        EndsWith (holdsᵖ (i .budget) (tableOf bs .sizes) (predᵍ bs n (test j) (i .depth)) (i .values) (i .steps)) (toldEnd n z) (i .budget) l
     unfolding holdsᵖ
-    test-unlike q = held-by x (test j) e (h .frame) (λ i.
+    told q i =
         let v = h .answer (after x i) in
+        let r = op j (p .1 .1) (tableOf bs .sizes) mid next (v .first) (v .second) (sizes-small bs (x .ready .readable)) (v .leftAt) (v .rightAt) in
         visits x i _ (then-done _ (v .leftEnds) (then-done _ (v .rightEnds)
-        (fitting-refused n (testRule j) _ _ _ (tells-unlike j (v .first) (v .second) (sym q ∙ told v)) (v .rightEnds .steps)))))
+        (rw (sym r ∙ q) at (tested-ends n j (v .first) (v .second) _ (v .rightEnds .steps)))))
+
+    pub test-unlike : o ≡ Unlike → EvaluatesP bs env s top n left s′ (Refused (record { number = 15; place = n }) l)
+    test-unlike q = held-by x (test j) (p .1 .1) (h .frame) (told q)
 
     pub test-truth : {y : Bool} → o ≡ Tells y → EvaluatesP bs env s top n left s′ (Truth y l)
-    unfolding holdsᵖ
-    test-truth {y} q = held-by x (test j) e (h .frame) (λ i.
-        let v = h .answer (after x i) in
-        let w = tells-truth j (v .first) (v .second) (sym q ∙ told v) in
-        visits x i _ (then-done _ (v .leftEnds) (then-done _ (v .rightEnds)
-        (fitting-on n (testRule j) _ _ _ (w .0) (rw (w .1) (returns y (v .rightEnds .steps)))))))
+    test-truth q = held-by x (test j) (p .1 .1) (h .frame) (told q)
 
 -- What an operand's evaluator asks, where the measures are those of the cycle: 5 times the node, and what is left to do there.
 module _ {bs env s : List ℕ} {top k n left t : ℕ} (e : 5 * n + 1 ≡ t) (x : Visited bs env s top k n left) (y : TwoFields bs n)

@@ -1,34 +1,13 @@
 -- The members that a comprehension chooses: its run member by member, and the set that is built of them.
-use Prim.Native.Nat.{ℕ, _+_, _-_, _≤_, _<_}
-use mathlib.Core.Bool.{Bool, true, false, cond}
-use mathlib.Core.List.{List, [], _∷_, _++_, append-assoc, append-nil}
-use mathlib.Core.Path.{_≡_, refl, sym, ap, _∙_, subst}
-use native.Mathlib.Omega.{arith}
-use lib.ListN.{length, set as setAt, length-set}
+use Rattle.evaluators.proofs.Terms.{ℕ, _+_, _-_, _*_, _≤_, _<_, Bool, true, false, cond, List, [], _∷_, _≡_, refl, sym, ap, _∙_, subst, arith, length, setAt, length-set, boolByte, _++_, append-assoc, append-nil, values, weights, select, ValuesAt}
+use Rattle.evaluators.proofs.Terms.{Value, Values, members, count, weight, done, refused, M, tableOf, code, codes, Stands, Same, SomeAt, EndsAt, length-code, length-codes, stands-frame, same-refl, same-trans, copied-stands, Refusal, Held, Truth, Refused, Placed, Stopped, EndsWith, SelectedAs, fieldA, fieldC, IsPred, ChooseReady, Chooses, Ready, Asked, bodyOf, EvaluatesP, EachReady, EvaluatesChosen}
 use lib.Seq.{getD-set-other}
-use mir.Val.{boolByte}
-use Rattle.rules.specs.Values.{Value, Values, members, values, count, weight, weights}
-use Rattle.rules.specs.Ends.{done, refused}
-use Rattle.rules.specs.Runs.{M}
-use Rattle.rules.specs.Tables.{tableOf}
-use Rattle.rules.specs.Evaluation.{select}
-use Rattle.arena.specs.Code.{code, codes, Stands, ValuesAt, Same, SomeAt, EndsAt}
-use Rattle.arena.proofs.CodeLaws.{length-code, length-codes}
-use Rattle.arena.proofs.Standing.{stands-append, stands-frame, same-refl, same-trans, copied-stands}
+use Rattle.arena.proofs.Standing.{stands-append}
 use Rattle.arena.proofs.FrontLaws.{single, codes-append, count-append, weights-append}
 use Rattle.products.proofs.GrowLaws.{made-set}
-use Rattle.reading.specs.declared.Refusal.{Refusal}
-use Rattle.evaluators.specs.declared.Held.{Held}
-use Rattle.evaluators.specs.declared.Held.the-variants.{Truth, Refused}
-use Rattle.evaluators.specs.declared.Formed.{Formed}
-use Rattle.evaluators.specs.declared.Formed.the-variants.{Value as Placed, Stopped}
-use Rattle.evaluators.specs.Answers.{EndsWith, HeldAs, SelectedAs, ChosenAs, ChosenBounds}
-use Rattle.evaluators.specs.Nodes.{fieldA, fieldC, IsPred, ChooseReady, Chooses}
-use Rattle.evaluators.specs.Cycle.{Ready, EvaluatesP, EachReady, EvaluatesChosen}
+use Rattle.laws.proofs.CellsLaws.{count-weights}
 use Rattle.evaluators.proofs.RunLaws.{then-done, then-refused, returns}
-use Rattle.evaluators.proofs.NodeLaws.{Asks, held-as}
-use Rattle.evaluators.proofs.BodyLaws.{Asked, some-asked, bodyOf, First, none-left, Loop, loop-start, member, member-at, member-ends, loop-next, body-begins, body-ends}
-use Rattle.laws.proofs.CellsLaws.{count-weights, weight-some}
+use Rattle.evaluators.proofs.BodyLaws.{some-asked, First, none-left, Loop, loop-start, member, member-at, member-ends, loop-next, body-asks, body-ends, body-frame}
 
 -- What a member adds to those chosen.
 abbrev picked : Bool → Value → List Value
@@ -66,11 +45,6 @@ selecting-start g budget steps s top vs h l = record {
   stops = λ e. e;
 }
 
--- Members behind others.
-values-append : (s : List ℕ) (at : ℕ) (xs ys : List Value) → ValuesAt s at (values xs) → ValuesAt s (at + weights (values xs)) (values ys) →
-    ValuesAt s at (values (xs ++ ys))
-values-append s at xs ys h k = rw (codes-append xs ys) (stands-append s at (codes (values xs)) (codes (values ys)) h (rw (length-codes (values xs)) k))
-
 -- What is chosen of a member stands behind what has been chosen.
 chosen-stands : (s : List ℕ) (at end : ℕ) (b : Bool) (to : ℕ) (s′ : List ℕ) (r : ℕ) (v : Value) → Chooses s at end b to s′ r →
     Stands s at (code v) → end ≡ at + weight v → to + weight v ≤ length s →
@@ -82,13 +56,9 @@ chosen-stands s at end true to s′ r v c h e l =
 chosen-stands s at end false to s′ r v c h e l =
     (record { inside = omega (arith, c .frame .kept); cells = λ i p. absurd (omega arith) }, omega (arith, c .ends))
 
-chosen-count : (b : Bool) (v : Value) → boolByte b ≡ count (values (picked b v))
-chosen-count true v = refl
-chosen-count false v = refl
-
-chosen-light : (b : Bool) (v : Value) → weights (values (picked b v)) ≤ weight v
-chosen-light true v = omega arith
-chosen-light false v = omega arith
+chosen-cost : (b : Bool) (v : Value) → (boolByte b ≡ count (values (picked b v))) × (weights (values (picked b v)) ≤ weight v)
+chosen-cost true v = (refl, omega arith)
+chosen-cost false v = (refl, omega arith)
 
 module _ {g : Value → M Bool} {whole : List Value} {budget steps : ℕ} {s : List ℕ} {top : ℕ} {rest : Values} {now to chosen : ℕ}
     (h : Selecting g whole budget steps s top rest now to chosen) where
@@ -107,17 +77,19 @@ module _ {g : Value → M Bool} {whole : List Value} {budget steps : ℕ} {s : L
       = stands-frame to s s₁ at (code (u .value)) same (omega (arith, length-code (u .value), u .here .below, h .ends)) (u .here .stands) in
       let is : members rest ≡ u .value ∷ members (u .rest) = ap members (u .is) in
       let sum : weights rest ≡ weight (u .value) + weights (u .rest) = ap weights (u .is) in
+      let added = picked b (u .value) in
+      let long = length-codes (values (h .taken)) in
       let new = chosen-stands s₁ at end b to s₂ r (u .value) c here e (omega (arith, same .kept, sum, h .ends, h .light)) in
       record {
-        taken = h .taken ++ picked b (u .value);
-        stands = values-append s₂ (top + 1) (h .taken) (picked b (u .value))
-            (stands-frame to s s₂ (top + 1) (codes (values (h .taken))) over (omega (arith, h .ends, length-codes (values (h .taken)))) (h .stands))
-            (subst (λ (i : ℕ). ValuesAt s₂ i (values (picked b (u .value)))) (h .ends) (new .0));
-        ends = omega (arith, new .1, h .ends, weights-append (h .taken) (picked b (u .value)));
-        counted = omega (arith, h .counted, chosen-count b (u .value), count-append (h .taken) (picked b (u .value)));
-        light = omega (arith, sum, h .light, chosen-light b (u .value), weights-append (h .taken) (picked b (u .value)));
+        taken = h .taken ++ added;
+        stands = rw (codes-append (h .taken) added) (stands-append s₂ (top + 1) (codes (values (h .taken))) (codes (values added))
+            (stands-frame to s s₂ (top + 1) (codes (values (h .taken))) over (omega (arith, h .ends, long)) (h .stands))
+            (rw (long, ← h .ends) (new .0)));
+        ends = omega (arith, new .1, h .ends, weights-append (h .taken) added);
+        counted = omega (arith, h .counted, chosen-cost b (u .value) .0, count-append (h .taken) added);
+        light = omega (arith, sum, h .light, chosen-cost b (u .value) .1, weights-append (h .taken) added);
         goes = λ {ws} {l = q} x.
-            subst (λ (vs : List Value). EndsWith (select g whole steps) (done vs) budget q) (sym (append-assoc (h .taken) (picked b (u .value)) ws))
+            subst (λ (vs : List Value). EndsWith (select g whole steps) (done vs) budget q) (sym (append-assoc (h .taken) added ws))
             (h .goes (rw is (select-on g (u .value) (members (u .rest)) now b run x)));
         stops = λ x. h .stops (rw is (then-done _ run (then-refused _ x)));
       }
@@ -134,21 +106,19 @@ module _ {g : Value → M Bool} {whole : List Value} {budget steps : ℕ} {s : L
       record { chosen = h .taken; ends = rw (append-nil (h .taken)) at (h .goes {ws = []} {l = n} (rw z (returns [] counts))); stands = l .1; ending = l .0 }
 
 -- Before each turn of the loop.
-pub record Choosing (bs env s₀ : List ℕ) (top n from count left : ℕ) (s inner : List ℕ) (at more m to chosen : ℕ) : Type 0 where
-  pub frame : Same top s₀ s
-  pub loop : Loop bs env s₀ top n from count left (fieldA bs n) s inner at more m
+pub record Choosing (bs env s₀ : List ℕ) (top n from count left x : ℕ) (s inner : List ℕ) (at more m to chosen : ℕ) : Type 0 where
+  pub loop : Loop bs env s₀ top n from count left x s inner at more m
   pub on : (k : Asked bs env s₀ top n from count left) →
       Selecting (bodyOf k) (members (k .range)) (k .asks .budget) (k .asks .steps) s top (loop .rest k) (loop .now k) to chosen
 
 module _ {bs env s₀ : List ℕ} {top n from count left : ℕ} (pre : EachReady bs env s₀ top n from count 256) where
-  pub choosing-start : Choosing bs env s₀ top n from count left s₀ env from count left (top + 1) 0
-  choosing-start = record {
-    frame = same-refl top s₀;
-    loop = loop-start (fieldA bs n) pre;
+  pub choosing-start : (x : ℕ) → Choosing bs env s₀ top n from count left x s₀ env from count left (top + 1) 0
+  choosing-start x = record {
+    loop = loop-start x pre;
     on = λ k. selecting-start (bodyOf k) (k .asks .budget) (k .asks .steps) s₀ top (k .range) (omega (arith, pre .space (omega arith))) (k .listed .light);
   }
 
-  module _ {s inner : List ℕ} {at more m to chosen : ℕ} (h : Choosing bs env s₀ top n from count left s inner at more m to chosen) where
+  module _ {x : ℕ} {s inner : List ℕ} {at more m to chosen : ℕ} (h : Choosing bs env s₀ top n from count left x s inner at more m to chosen) where
     pub choosing-near : (top + 1 ≤ to) × (to ≤ top + 256) × (chosen ≤ 255)
     choosing-near = selecting-near (h .on (some-asked left pre))
 
@@ -156,89 +126,62 @@ module _ {bs env s₀ : List ℕ} {top n from count left : ℕ} (pre : EachReady
     choosing-few true = omega (arith, choosing-near .2)
     choosing-few false = omega (arith, choosing-near .2)
 
-    -- The answer, from what is answered where it is asked.
-    chosen-by : {s′ : List ℕ} {r : Formed} → Same top s₀ s′ → ChosenBounds top r → ((k : Asked bs env s₀ top n from count left) →
-        ChosenAs (select (bodyOf k) (members (k .range)) (k .asks .steps)) (k .asks .budget) s′ top r) →
-        EvaluatesChosen bs env s₀ top n from count left s′ r
-    chosen-by e b f = record {
-      frame = e;
-      bounds = b;
-      answer = λ d ρ budget steps vs deep c binds l.
-          let i : Asks _ _ _ _ _ _ = record { depth = d; values = ρ; budget = budget; steps = steps; deep = deep; counts = c; binds = binds } in
-          f (record { asks = i; range = vs; listed = l });
-    }
-
     -- No member is left.
     pub choosing-end : more ≡ 0 → EvaluatesChosen bs env s₀ top n from count left (setAt s top (21474836480 + chosen)) (Placed top to m)
     choosing-end z =
         let u = h .loop in
-        chosen-by
-        (record {
-          same = λ i p. getD-set-other s top i (21474836480 + chosen) 0 (λ e. omega arith) ∙ h .frame .same i p;
-          kept = length-set s top (21474836480 + chosen) ∙ h .frame .kept;
-        })
-        (omega (arith, choosing-near .0), choosing-near .1)
-        (λ k. selecting-end (h .on k) (none-left (u .rest k) (u .listed k) z) (u .counts k) (omega (arith, pre .space (omega arith), h .frame .kept)))
+        record {
+          frame = record {
+            same = λ i p. getD-set-other s top i (21474836480 + chosen) 0 (λ e. omega arith) ∙ u .frame .same i p;
+            kept = length-set s top (21474836480 + chosen) ∙ u .frame .kept;
+          };
+          bounds = (omega (arith, choosing-near .0), choosing-near .1);
+          answer = λ k.
+              selecting-end (h .on k) (none-left (u .rest k) (u .listed k) z) (u .counts k) (omega (arith, pre .space (omega arith), u .frame .kept));
+        }
 
-    low : top ≤ to
-    low = omega (arith, choosing-near .0)
+    -- A turn: the identifier x and the body c, as they have been read off the node.
+    module _ (some : 0 < more) (name : x ≡ fieldA bs n) {c : ℕ} (body : c ≡ fieldC bs n) where
+      low : top ≤ to
+      low = omega (arith, choosing-near .0)
 
-    module _ (some : 0 < more) where
-      abbrev next : (k : Asked bs env s₀ top n from count left) → First (tableOf bs .sizes) s top at more (h .loop .rest k)
-      next k = member pre (h .frame) (h .loop) some k
+      pub choosing-asks : {t : ℕ} → 5 * n ≡ t → (5 * c + 3 < t) × (Ready bs (setAt inner x at) s to c × IsPred bs c)
+      choosing-asks e = body-asks pre (h .loop) some low name body e (λ _. omega (arith, pre .space (omega arith), choosing-near .1, h .loop .frame .kept))
 
-      pub choosing-below : at < top
-      choosing-below = let u = next (some-asked left pre) in omega (arith, u .here .below, weight-some (u .value))
+      module _ {s₁ : List ℕ} {r : Held} (e : EvaluatesP bs (setAt inner x at) s to c m s₁ r) where
+        abbrev next : (k : Asked bs env s₀ top n from count left) → First (tableOf bs .sizes) s top at more (h .loop .rest k)
+        next k = member pre (h .loop) some k
 
-      -- The identifier x and the body c, as they have been read off the node.
-      module _ {x c : ℕ} (name : x ≡ fieldA bs n) (body : c ≡ fieldC bs n) where
-        pub choosing-ready : Ready bs (setAt inner x at) s to c × IsPred bs c
-        choosing-ready =
-            rw name (body-begins pre (h .frame) (h .loop) some low refl body
-            (λ _. omega (arith, pre .space (omega arith), choosing-near .1, h .frame .kept)))
+        -- The body is refused.
+        pub choosing-refused : {p : Refusal} {l : ℕ} → r ≡ Refused p l → EvaluatesChosen bs env s₀ top n from count left s₁ (Stopped p l)
+        unfolding select
+        choosing-refused {p} {l} is = record {
+          frame = body-frame pre (h .loop) some low name body e;
+          bounds = tt;
+          answer = λ k. h .on k .stops (rw (next k .is) (then-refused _ (body-ends pre (h .loop) some low name body e (Refused p l) is k)));
+        }
 
-        module _ {s₁ : List ℕ} {r : Held} (e : EvaluatesP bs (setAt inner x at) s to c m s₁ r) where
-          -- What the body answers at the member.
-          answers : (r₀ : Held) → r ≡ r₀ → (k : Asked bs env s₀ top n from count left) →
-              HeldAs (bodyOf k (next k .value) (h .loop .now k)) (k .asks .budget) r₀
-          answers r₀ is k = body-ends pre (h .frame) (h .loop) some low refl body r₀ (rw name at (held-as refl is e)) k
+        pub choosing-some : SomeAt s₁ at
+        choosing-some = member-at pre (h .loop) some low name body e
 
-          -- It is refused.
-          pub choosing-refused : {p : Refusal} {l : ℕ} → r ≡ Refused p l → EvaluatesChosen bs env s₀ top n from count left s₁ (Stopped p l)
-          unfolding select
-          choosing-refused {p} {l} is =
-              chosen-by (same-trans top to s₀ s s₁ (h .frame) (e .frame) low) tt
-              (λ k. h .on k .stops (rw (next k .is) (then-refused _ (answers (Refused p l) is k))))
+        -- It is true or false, and the member ends at `end`.
+        module _ {end : ℕ} (ends : EndsAt s₁ at end) where
+          pub choosing-choose : ChooseReady s₁ at end to
+          choosing-choose =
+              let u = next (some-asked left pre) in
+              let q = member-ends pre (h .loop) some low name body e ends (some-asked left pre) in
+              let o = h .on (some-asked left pre) in
+              record {
+                forward = omega arith;
+                behind = omega (arith, u .here .below, low);
+                room = omega (arith, pre .space (omega arith), h .loop .frame .kept, e .frame .kept, o .ends, o .light, ap weights (u .is));
+              }
 
-          -- It is true or false, and the members stand as before.
-          below : Same top s s₁
-          below = record { same = λ i p. e .frame .same i (omega (arith, low)); kept = e .frame .kept }
-
-          pub choosing-some : SomeAt s₁ at
-          choosing-some = member-at pre (h .frame) (h .loop) some below
-
-          module _ {end : ℕ} (ends : EndsAt s₁ at end) where
-            pub choosing-choose : ChooseReady s₁ at end to
-            choosing-choose =
-                let u = next (some-asked left pre) in
-                let q = member-ends pre (h .frame) (h .loop) some below ends (some-asked left pre) in
-                let o = h .on (some-asked left pre) in
-                record {
-                  forward = omega arith;
-                  behind = omega (arith, u .here .below, low);
-                  room = omega (arith, pre .space (omega arith), h .frame .kept, e .frame .kept, o .ends, o .light, ap weights (u .is));
-                }
-
-            pub choosing-next : {yes : Bool} {l : ℕ} {s₂ : List ℕ} {q : ℕ} → r ≡ Truth yes l → Chooses s₁ at end yes to s₂ q →
-                Choosing bs env s₀ top n from count left s₂ (setAt inner x at) end (more - 1) l q (chosen + boolByte yes)
-            choosing-next {yes} {l} {s₂} {q} is f =
-                let over : Same to s s₂ = same-trans to to s s₁ s₂ (e .frame) (f .frame) (omega arith) in
-                let under : Same top s s₂ = record { same = λ i p. over .same i (omega (arith, low)); kept = over .kept } in
-                let end-at = member-ends pre (h .frame) (h .loop) some below ends in
-                rw name (record {
-                  frame = same-trans top to s₀ s s₂ (h .frame) over low;
-                  loop = loop-next pre (h .frame) (h .loop) some under end-at (answers (Truth yes l) is);
-                  on = λ k.
-                      selecting-turn (h .on k) (next k) s₁ end yes s₂ q (omega (arith, pre .space (omega arith), h .frame .kept))
-                      (e .frame) (end-at k) (answers (Truth yes l) is k) f;
-                })
+          pub choosing-next : {yes : Bool} {l : ℕ} {s₂ : List ℕ} {q : ℕ} → r ≡ Truth yes l → Chooses s₁ at end yes to s₂ q →
+              Choosing bs env s₀ top n from count left x s₂ (setAt inner x at) end (more - 1) l q (chosen + boolByte yes)
+          choosing-next {yes} {l} {s₂} {q} is f = record {
+            loop = loop-next pre (h .loop) some low name body e ends yes is (f .frame);
+            on = λ k.
+                selecting-turn (h .on k) (next k) s₁ end yes s₂ q (omega (arith, pre .space (omega arith), h .loop .frame .kept)) (e .frame)
+                (member-ends pre (h .loop) some low name body e ends k) (body-ends pre (h .loop) some low name body e (Truth yes l) is k) f;
+          }

@@ -1,53 +1,19 @@
 -- Where a node's visit goes: the refusal of a visit beyond the budget, the evaluator by the kind's code, the leaves that are built, and those that
 -- stand already.
-use Prim.Native.Nat.{ℕ, zero, suc, _+_, _-_, _≤_, _<_}
-use mathlib.Core.Bool.{Bool, true, false, false≢true, _&&_, cond}
-use mathlib.Core.List.{List}
-use mathlib.Core.Logic.{_≢_, _⊎_, inl, inr, ⊎-elim}
-use mathlib.Core.Option.{Option, none as nothing, some}
-use mathlib.Core.Path.{_≡_, refl, sym, ap, _∙_, subst}
-use native.Mathlib.Omega.{arith}
+use Rattle.evaluators.proofs.Terms.{ℕ, zero, suc, _+_, _-_, _≤_, _<_, Bool, true, false, cond, List, _≢_, _⊎_, inl, inr, ⊎-elim, Option, nothing, some, _≡_, refl, sym, ap, _∙_, subst, arith, leb, getD, false≢true, _&&_, equal, member, subset, atMost, Leaf, givenSet, elementOf, literal, truthConst, emptySet, boolSet, singleton, power, dom, ran, card, choice, pairing, union, inter, diff, product, apply, plus, minus, interval, leafᵉ, boolᵉ, oneᵉ, twoᵉ, comprehensionᵉ, leafValue, ValueAt, builtLeaf, LeafFits, LeafReady, LeafDone, leafPlace, PlaceReady, StandingReady, LeafNode, LeafFormed}
+use Rattle.evaluators.proofs.Terms.{Value, weight, and, or, implies, iff, forAll, forSome, identifier, Kind, join, negation, test, quant, leaf, boolOf, one, two, comprehension, kindOf, Category, predicate, expression, Node, Pred, Expr, tableOf, nodeAt, kindAt, predOf, predAt, exprAt, nodeCount, Readable, CategoryIs, refused, gives, Env, holdsᵖ, valueᵉ, sizes-length, binds-length, good-weight, Same, same-refl, length-code, BuiltAt, code-of, kind-of, Formed, Placed, Stopped, Refused, EndsWith, fieldA, fieldB, IsPred, IsExpr, placeOf, PlacedLeaf, Binds, Ready, Visited, Sort, holdsAt, EvaluatesP, EvaluatesE}
 use native.Mathlib.Decide.{ℕ-discrete, decLt}
-use lib.Dec.{leb}
-use lib.ListN.{getD}
 use Rattle.rules.specs.Types.{whole}
-use Rattle.rules.specs.Values.{Value, weight}
-use Rattle.rules.specs.Kinds.{and, or, implies, iff, equal, member, subset, atMost, forAll, forSome}
-use Rattle.rules.specs.Kinds.{Leaf, identifier, givenSet, elementOf, literal, truthConst, emptySet, boolSet}
-use Rattle.rules.specs.Kinds.{singleton, power, dom, ran, card, choice}
-use Rattle.rules.specs.Kinds.{pairing, union, inter, diff, product, apply, plus, minus, interval}
-use Rattle.rules.specs.Kinds.{Kind, join, negation, test, quant, leaf, boolOf, one, two, comprehension, kindOf}
-use Rattle.rules.specs.Kinds.{Category, predicate, expression}
-use Rattle.rules.specs.Tables.{Node, Pred, Expr, leafᵉ, boolᵉ, oneᵉ, twoᵉ, comprehensionᵉ}
-use Rattle.rules.specs.Tables.{tableOf, nodeAt, kindAt, predOf, predAt, exprAt, nodeCount}
-use Rattle.rules.specs.Readable.{Readable, CategoryIs}
-use Rattle.rules.specs.Ends.{refused}
-use Rattle.rules.specs.Runs.{gives}
-use Rattle.rules.specs.Operations.{Env, leafValue}
-use Rattle.rules.specs.Evaluation.{holdsᵖ, valueᵉ}
-use Rattle.laws.proofs.TableLaws.{sizes-length, binds-length}
-use Rattle.laws.proofs.CellsLaws.{good-weight}
 use Rattle.laws.proofs.EndLaws.{T-true, T-and, T-leb}
 use Rattle.table.specs.Codes.{codeOf as categoryNumber, categoryCode}
 use Rattle.table.proofs.Access.{by-range}
-use Rattle.arena.specs.Code.{ValueAt, Same}
-use Rattle.arena.proofs.Standing.{same-refl}
-use Rattle.arena.proofs.CodeLaws.{length-code}
-use Rattle.constants.specs.Built.{builtLeaf}
 use Rattle.constants.specs.Constants.{OneCell}
 use Rattle.constants.proofs.ConstantLaws.{leaf-one}
-use Rattle.operations.specs.Outcomes.{BuiltAt, IsLight, LeafFits, LeafReady, LeafDone}
-use Rattle.operations.proofs.KindLaws.{code-of, kind-of}
-use Rattle.evaluators.specs.declared.Formed.{Formed}
-use Rattle.evaluators.specs.declared.Formed.the-variants.{Value as Placed, Stopped}
-use Rattle.evaluators.specs.declared.Held.the-variants.{Refused}
-use Rattle.evaluators.specs.Answers.{EndsWith}
-use Rattle.evaluators.specs.Nodes.{fieldA, fieldB, IsPred, IsExpr, placeOf, leafPlace, PlaceReady, PlacedLeaf, StandingReady, LeafNode, LeafFormed}
-use Rattle.evaluators.specs.Cycle.{Binds, Ready, Visited, Sort, holdsAt, EvaluatesP, EvaluatesE}
+use Rattle.laws.proofs.TypedTree.{numberᵉ, number-at}
+use Rattle.operations.specs.Outcomes.{IsLight}
 use Rattle.evaluators.proofs.RunLaws.{unvisited, light-form}
 use Rattle.evaluators.proofs.NodeLaws.{sizes-small, field-holds, visited-kind, visited-builds, visits, after, settled-by}
 use Rattle.evaluators.proofs.SafeLaws.{cell-room}
-use Rattle.laws.proofs.TypedTree.{numberᵉ, number-at}
 
 -- 19: the visits are spent.
 module _ (budget : ℕ) (gs : List ℕ) (ρ : Env) (s n : ℕ) {left : ℕ} (c : s + left ≡ budget) (z : left ≡ 0) (d : Node) (p : ℕ → Pred) (e : ℕ → Expr) where
@@ -144,10 +110,6 @@ module _ (k : ℕ) where
   pub two-key : k ≡ 37 → Sort two k
   two-key e = (apply, kind-of k (two apply) e)
 
-  -- From 25 on, with 25 and 26 met before, 27 is the first code.
-  pub from-27 : 25 ≤ k → k ≢ 25 → ((k ≡ 20) ⊎ (k ≡ 26) → ⊥) → 27 ≤ k
-  from-27 a n25 n = let n26 : k ≢ 26 = λ e. n (inr e) in omega (arith, n25, n26)
-
   -- No expression's code is left at the last arm.
   pub no-other : {A : Type 0} → (20 ≤ k) × (k ≤ 43) → 42 ≤ k → (Some-one → ⊥) → ((k ≡ 21) ⊎ (k ≡ 42) → ⊥) → A
   no-other r a n m =
@@ -155,11 +117,11 @@ module _ (k : ℕ) where
       let n43 : k ≢ 43 = λ e. n (inr (inr (inr e))) in
       absurd (omega (arith, r .1, n42, n43))
 
-  pub two-low : (Some-one → ⊥) → 27 ≤ k → k < 33 → Sort two k
+  pub two-low : (Some-one → ⊥) → k ≢ 25 → ((k ≡ 20) ⊎ (k ≡ 26) → ⊥) → 25 ≤ k → k < 33 → Sort two k
   unfolding kindOf
-  two-low n a b =
+  two-low n n25 m a b =
       along (λ (m : ℕ). Sort two m) 28 5 ((pairing, refl), ((union, refl), ((inter, refl), ((diff, refl), ((product, refl), tt))))) k
-      (let d : k ≢ 27 = λ e. n (inl e) in omega (arith, d)) (omega arith)
+      (let n26 : k ≢ 26 = λ e. m (inr e) in let n27 : k ≢ 27 = λ e. n (inl e) in omega (arith, n25, n26, n27)) (omega arith)
 
   pub two-high : (Some-one → ⊥) → k ≢ 37 → 37 ≤ k → k < 42 → Sort two k
   unfolding kindOf
@@ -185,20 +147,6 @@ category-is : (c : Category) (o : Option Kind) → CategoryIs c o → categoryCo
 category-is c nothing h = absurd h
 category-is c (some x) h = ap categoryNumber h
 
-module _ (k : ℕ) where
-  predicate-range : CategoryIs predicate (kindOf k) → (1 ≤ k) × (k ≤ 11)
-  predicate-range h = codes-within k 1 11 (in-first _ (leb 20 k && leb k 43) (by-range k ∙ category-is predicate (kindOf k) h))
-
-  expression-range : CategoryIs expression (kindOf k) → (20 ≤ k) × (k ≤ 43)
-  expression-range h = codes-within k 20 43 (in-second (leb 1 k && leb k 11) _ (by-range k ∙ category-is expression (kindOf k) h))
-
-  -- The kinds of the last arms.
-  join-sort : 1 ≤ k → k < 6 → k ≢ 4 → Sort join k
-  unfolding kindOf
-  join-sort a b n =
-      along (λ (m : ℕ). m ≢ 4 → Sort join m) 1 5
-      ((λ d. (and, refl)), ((λ d. (or, refl)), ((λ d. (implies, refl)), ((λ d. absurd (d refl)), ((λ d. (iff, refl)), tt))))) k a (omega arith) n
-
 -- A leaf that stands already, an identifier or a constant of one cell: its arm of `eval_value`.
 abbrev Unbuilt : ℕ → Type 0
 Unbuilt k = (j : Leaf) × (kindOf k ≡ some (leaf j)) × (builtLeaf j ≡ false)
@@ -215,26 +163,30 @@ standing-code k (inr (a, b, n)) =
 pub name-below : (bs : List ℕ) → Readable bs → (n : ℕ) → n < nodeCount bs → kindAt (tableOf bs .nodes) n ≡ some (leaf identifier) → fieldA bs n < 32
 name-below bs r n lt e = omega (arith, field-holds bs r n lt (leaf identifier) e 0 (omega arith), binds-length bs, r .header .identifiers)
 
-given-same : (v w : Value) → gives v ≡ gives w → v ≡ w
-given-same v w e = cc
-
 pub place-ready : {bs env s : List ℕ} {top n : ℕ} → Ready bs env s top n → PlaceReady bs env n
 place-ready r = record { readable = r .readable; node = r .node; entries = r .entries }
+
+unbuilt-ready : {bs env : List ℕ} {k n : ℕ} → PlaceReady bs env n → k ≡ nodeAt (tableOf bs .nodes) n .kind → Unbuilt k → StandingReady bs env k n
+unbuilt-ready p e u = record { node = p; same = e; kind = u .0; is = u .1; unbuilt = u .2 }
 
 -- What the evaluators of the leaves take for granted.
 module _ {bs env s : List ℕ} {top k n left : ℕ} (v : Visited bs env s top k n left) where
   pub standing-ready : Unbuilt k → StandingReady bs env k n
-  standing-ready u = record { node = place-ready (v .ready); same = v .kind; kind = u .0; is = u .1; unbuilt = u .2 }
+  standing-ready = unbuilt-ready (place-ready (v .ready)) (v .kind)
 
   -- A node's kind is in the range of its category, and so the last arms.
   pub predicate-code : IsPred bs n → (1 ≤ k) × (k ≤ 11)
-  predicate-code h = predicate-range k (rw (v .kind) h)
+  predicate-code h = codes-within k 1 11 (in-first _ (leb 20 k && leb k 43) (by-range k ∙ category-is predicate (kindOf k) (rw (v .kind) h)))
 
   pub expression-code : IsExpr bs n → (20 ≤ k) × (k ≤ 43)
-  expression-code h = expression-range k (rw (v .kind) h)
+  expression-code h = codes-within k 20 43 (in-second (leb 1 k && leb k 11) _ (by-range k ∙ category-is expression (kindOf k) (rw (v .kind) h)))
 
   pub join-kind : IsPred bs n → k ≢ 4 → k < 6 → Sort join k
-  join-kind h d l = join-sort k (predicate-code h .0) l d
+  unfolding kindOf
+  join-kind h d l =
+      along (λ (m : ℕ). m ≢ 4 → Sort join m) 1 5
+      ((λ d. (and, refl)), ((λ d. (or, refl)), ((λ d. (implies, refl)), ((λ d. absurd (d refl)), ((λ d. (iff, refl)), tt))))) k
+      (predicate-code h .0) (omega arith) d
 
   -- The leaves that are built.
   built-node : (j : Leaf) → kindOf k ≡ some (leaf j) → builtLeaf j ≡ true → LeafFits j (fieldA bs n) (getD (tableOf bs .sizes) (fieldA bs n) 0) →
@@ -301,7 +253,7 @@ module _ {bs env s : List ℕ} {top k n left : ℕ} (v : Visited bs env s top k 
       = λ ρ. h .done .answer (p .ready .kind) (tableOf bs .sizes) (fieldB bs n) ρ (p .ready .is) (p .ready .fits) refl in
       subst (λ (x : Formed). EvaluatesE bs env s top n left s′ x) (sym (h .is))
       (leaf-stands (p .ready .kind) (p .ready .is) (h .done .frame) (omega (arith, b (v .ready .values) .ends), h .done .near)
-      (λ ρ _. let y = b ρ in rw (given-same (here (p .ready .kind) ρ) (y .value) (y .is)) (y .stands, omega (arith, y .ends), y .light)))
+      (λ ρ _. let y = b ρ in let q : here (p .ready .kind) ρ ≡ y .value = cc (y .is) in rw q (y .stands, omega (arith, y .ends), y .light)))
 
 -- An operand that stands already, where a visit is left.
 pub placed-answer : {bs env s : List ℕ} {top n at left l : ℕ} → Ready bs env s top n → PlacedLeaf bs env n at → left ≢ 0 → l ≡ left - 1 →
@@ -327,9 +279,6 @@ standing-name-place {bs} {env} {n} p e =
 
 -- Where a leaf stands.
 module _ {bs env : List ℕ} {k n : ℕ} (p : StandingReady bs env k n) where
-  standing-kind : kindAt (tableOf bs .nodes) n ≡ some (leaf (p .kind))
-  standing-kind = ap kindOf (sym (p .same)) ∙ p .is
-
   -- An identifier has 20, a constant another code.
   pub standing-name : k ≡ 20 → fieldA bs n < 32
   standing-name q = name-below bs (p .node .readable) n (p .node .node) (ap kindOf (sym (p .same)) ∙ kind-of k (leaf identifier) q)
@@ -343,7 +292,7 @@ module _ {bs env : List ℕ} {k n : ℕ} (p : StandingReady bs env k n) where
   }
 
   pub placed-constant : k ≢ 20 → PlacedLeaf bs env n n
-  placed-constant q = record { kind = p .kind; is = standing-kind; unbuilt = p .unbuilt; place = go (p .kind) (p .is) }
+  placed-constant q = record { kind = p .kind; is = ap kindOf (sym (p .same)) ∙ p .is; unbuilt = p .unbuilt; place = go (p .kind) (p .is) }
     where
       go : (j : Leaf) → kindOf k ≡ some (leaf j) → n ≡ leafPlace j env n (fieldA bs n)
       go identifier e = absurd (q (code-of k (leaf identifier) e))
@@ -358,8 +307,7 @@ module _ {bs env : List ℕ} {k n : ℕ} (p : StandingReady bs env k n) where
 pub place-standing : {bs env : List ℕ} {n k : ℕ} → PlaceReady bs env n → k ≡ nodeAt (tableOf bs .nodes) n .kind → (k ≡ 20) ⊎ ((22 ≤ k) × (k < 25)) →
     StandingReady bs env k n
 place-standing {k = k} p e h =
-    let u = standing-code k (⊎-elim (λ q. inl (inl q)) (λ q. inr (omega (arith, q .0), q .1, λ z. absurd (omega (arith, q .0)))) h) in
-    record { node = p; same = e; kind = u .0; is = u .1; unbuilt = u .2 }
+    unbuilt-ready p e (standing-code k (⊎-elim (λ q. inl (inl q)) (λ q. inr (omega (arith, q .0), q .1, λ z. absurd (omega (arith, q .0)))) h))
 
 -- 21 and 42, with the word and the size that have been read.
 module _ {bs s : List ℕ} {top k n a z : ℕ} (p : LeafNode bs s top k n) (ea : a ≡ fieldA bs n) (ez : z ≡ getD (tableOf bs .sizes) a 0) where

@@ -1,60 +1,37 @@
 -- What the evaluators of expressions with operands give, kinds 25, 27 to 41 and 43: the operands' answers, and with them the node's.
-use Prim.Native.Nat.{ℕ, _+_, _-_, _≤_, _<_}
-use mathlib.Core.Bool.{Bool, true, false}
-use mathlib.Core.List.{List, [], _∷_}
-use mathlib.Core.Option.{some}
-use mathlib.Core.Path.{_≡_, refl}
-use native.Mathlib.Omega.{arith}
-use lib.ListN.{length, getD}
-use mir.Val.{boolByte}
-use Rattle.rules.specs.Values.{Value, set, truthValue, members, weight}
-use Rattle.rules.specs.Kinds.{boolOf, one, two, comprehension, One, Two, predicate, expression, kindOf}
-use Rattle.rules.specs.Rules.{oneRule, twoRule, comprehensionRule}
-use Rattle.rules.specs.Tables.{tableOf, nodeAt, fieldWords}
-use Rattle.rules.specs.Ends.{End}
-use Rattle.rules.specs.Runs.{Run, M, _>>=_, form, gives}
-use Rattle.rules.specs.Operations.{elems, setOf, oneValue, twoValue}
-use Rattle.rules.specs.Evaluation.{select, valueᵉ}
-use Rattle.arena.specs.Code.{code}
-use Rattle.arena.proofs.Standing.{same-trans}
+use Rattle.evaluators.proofs.Terms.{ℕ, _+_, _-_, _*_, _≤_, _<_, Bool, true, false, List, [], _∷_, some, _≡_, refl, arith, boolByte}
+use Rattle.evaluators.proofs.Terms.{Value, weight, boolOf, one, two, comprehension, predicate, expression, kindOf, tableOf, Run, gives, valueᵉ, code, same-trans, Gives, SomeOperands, Outcome, kind-of, Builds, Refusal, Truth, Refused, Formed, Placed, Stopped, Set, Unlike, PlacedAs, SelectedAs, SettleReady, fieldA, fieldB, PlacedLeaf, RangeAt, Visited, Sort, Asks, EvaluatesP, EvaluatesE, EachReady, EvaluatesChosen, Settles, truthValue, One, Two, setOf, oneValue, twoValue, oneGiven, twoGiven, OneReady, OneOf, TwoReady, TwoOf, LightOf, KnownFunction, MarkedLeaf}
+use Rattle.rules.specs.Rules.{oneRule, twoRule}
 use Rattle.products.specs.Growing.{PutsCell}
-use Rattle.operations.specs.Outcomes.{oneGiven, twoGiven, Gives, OneReady, OneOf, SomeOperands, TwoReady, TwoOf, IsLight, LightOf}
-use Rattle.operations.specs.declared.Outcome.{Outcome}
+use Rattle.operations.specs.Outcomes.{IsLight}
 use Rattle.operations.specs.declared.Outcome.the-variants.{Built}
-use Rattle.operations.proofs.KindLaws.{kind-of}
 use Rattle.operations.proofs.GoodLaws.{function-known}
-use Rattle.operations.specs.Good.{KnownFunction}
-use Rattle.constants.specs.Built.{Builds}
-use Rattle.reading.specs.declared.Refusal.{Refusal}
-use Rattle.evaluators.specs.declared.Held.the-variants.{Truth, Refused}
-use Rattle.evaluators.specs.declared.Formed.{Formed}
 use Rattle.evaluators.specs.declared.Places.{Places}
-use Rattle.evaluators.specs.declared.Formed.the-variants.{Value as Placed, Stopped}
-use Rattle.evaluators.specs.declared.Range.the-variants.{Set, Unlike}
-use Rattle.evaluators.specs.Answers.{EndsWith, PlacedAs, SelectedAs, ChosenAs, SettleReady}
-use Rattle.evaluators.specs.Nodes.{fieldA, fieldB, IsPred, IsExpr, PlacedLeaf, MarkedLeaf, SomeGood, RangeAt}
-use Rattle.evaluators.specs.Cycle.{Ready, Visited, EvaluatesP, EvaluatesE, EachReady, bodyAt, EvaluatesChosen, Settles, StandingTwo}
-use Rattle.evaluators.proofs.RunLaws.{then-done, then-refused, light-form, fitted-ends, fitting-on, fitting-refused}
-use Rattle.evaluators.proofs.NodeLaws.{Child, TwoFields, sizes-small, ready-first, visited-kind, visited-builds, operation-room, visited-child, visited-operands}
-use Rattle.evaluators.proofs.NodeLaws.{Asks, some-asks, visits, after, valueIn, held-below, formed-below, treeᵉ, stopped-by, settled-by, settles-by}
-use Rattle.evaluators.proofs.BodyLaws.{Asked, some-asked, bodyOf}
+use Rattle.evaluators.specs.Cycle.{StandingTwo}
+use Rattle.evaluators.proofs.RunLaws.{then-done, then-refused, light-form, fitted-ends}
+use Rattle.evaluators.proofs.NodeLaws.{Child, TwoFields, sizes-small, visited-builds, operation-room, visited-child, visited-operands}
+use Rattle.evaluators.proofs.NodeLaws.{some-asks, visits, after, valueIn, held-below, formed-below, stopped-by, settled-by, settles-by}
+use Rattle.evaluators.proofs.BodyLaws.{some-asked}
 use Rattle.evaluators.proofs.DispatchLaws.{name-below, placed-answer, light-two, standing-name-place}
 use Rattle.evaluators.proofs.BothLaws.{operands-ready, BothAs, StopsBoth, EvaluatesBoth, left-ready, right-ready, both-formed}
-use Rattle.evaluators.proofs.RangeLaws.{placed-range, placed-good, placed-low, placed-unlike, RangeHere, range-here, in-range, each-ready}
+use Rattle.evaluators.proofs.RangeLaws.{Binder, range-child, range-stops, range-unlike, each-ready, in-range, range-on}
 
 -- 27, 33, 35, 36, 38 and 43: the operand's node is `m`.
-module _ {bs env s : List ℕ} {top k n m left : ℕ} (x : Visited bs env s top k n left)
-    (j : One) (e : kindOf k ≡ some (one j)) (w : m ≡ getD (fieldWords (nodeAt (tableOf bs .nodes) n)) 0 0) where
-  pub one-child : Child bs n m expression
-  one-child = visited-child x (one j) e expression 0 m (omega arith) (omega arith) refl w
+module _ {bs env s : List ℕ} {top k n m left : ℕ} (p : Visited bs env s top k n left × Sort one k) (w : m ≡ fieldA bs n) where
+  abbrev x : Visited bs env s top k n left
+  x = p .0
 
-  pub one-begins : Ready bs env s top m × IsExpr bs m
-  one-begins = (ready-first (x .ready) one-child, one-child .is)
+  abbrev j : One
+  j = p .1 .0
+
+  pub one-child : Child bs n m expression
+  one-child = visited-child x (one j) (p .1 .1) expression 0 m (omega arith) (omega arith) refl w
 
   pub one-fails : {s₁ : List ℕ} {r : Refusal} {l : ℕ} → EvaluatesE bs env s top m (left - 1) s₁ (Stopped r l) →
       EvaluatesE bs env s top n left s₁ (Stopped r l)
   unfolding valueᵉ
-  one-fails {s₁} {r} {l} h = stopped-by x (one j) e (h .frame) (λ i. visits x i _ (then-refused _ (formed-below (after x i) one-child w (Stopped r l) h)))
+  one-fails {r = r} {l = l} h =
+      stopped-by x (one j) (p .1 .1) (h .frame) (λ i. visits x i _ (then-refused _ (formed-below (after x i) one-child w (Stopped r l) h)))
 
   module _ {s₁ : List ℕ} {at next l : ℕ} (h : EvaluatesE bs env s top m (left - 1) s₁ (Placed at next l)) where
     operand-at : (i : Asks bs env s top n (left - 1)) → PlacedAs (valueIn i (fieldA bs n)) (i .budget) (tableOf bs .sizes) s₁ at next l
@@ -68,13 +45,13 @@ module _ {bs env s : List ℕ} {top k n m left : ℕ} (x : Visited bs env s top 
           small = sizes-small bs (x .ready .readable);
           value = v .value;
           operand = v .place;
-          room = operation-room x (one j) e next refl refl (h .frame) (omega (arith, one-child .lower, one-child .tall, h .bounds));
+          room = operation-room x (one j) (p .1 .1) next refl refl (h .frame) (omega (arith, one-child .lower, one-child .tall, h .bounds));
         }
 
     module _ {s₂ : List ℕ} {o : Outcome} (op : OneOf k s₁ at next s₂ o) where
       -- What the operation gives for the operand's value.
       given₁ : {y : Run Value} {budget : ℕ} (v : PlacedAs y budget (tableOf bs .sizes) s₁ at next l) → Gives s₂ next next (oneGiven j (v .value)) o
-      given₁ v = op j e .answer (tableOf bs .sizes) (v .value) (sizes-small bs (x .ready .readable)) (v .place)
+      given₁ v = op j (p .1 .1) .answer (tableOf bs .sizes) (v .value) (sizes-small bs (x .ready .readable)) (v .place)
 
       pub one-settles : SettleReady s₂ o next next top
       one-settles =
@@ -85,12 +62,12 @@ module _ {bs env s : List ℕ} {top k n m left : ℕ} (x : Visited bs env s top 
             low = h .bounds .0;
             high = h .bounds .1;
             order = omega arith;
-            room = omega (arith, one-ready .room, op j e .frame .kept);
+            room = omega (arith, one-ready .room, op j (p .1 .1) .frame .kept);
           }
 
       pub one-evaluates : {s₃ : List ℕ} {r : Formed} → Settles s₂ o next next top n l s₃ r → EvaluatesE bs env s top n left s₃ r
       unfolding valueᵉ oneGiven
-      one-evaluates st = settles-by x (one j) e one-child (h .frame) (h .bounds .0) (op j e .frame) st (λ i. let v = operand-at (after x i) in (
+      one-evaluates st = settles-by x (one j) (p .1 .1) one-child (h .frame) (h .bounds .0) (op j (p .1 .1) .frame) st (λ i. let v = operand-at (after x i) in (
         oneGiven j (v .value),
         visits x i _ (then-done _ (v .ends) (fitted-ends n (oneRule j) (v .value ∷ []) (oneValue j (v .value)) _ (v .ends .steps))),
         given₁ v,
@@ -183,16 +160,12 @@ unfolding code
 truth-code true = refl
 truth-code false = refl
 
-module _ {bs env s : List ℕ} {top n m left : ℕ} (x : Visited bs env s top 25 n left)
-    (w : m ≡ getD (fieldWords (nodeAt (tableOf bs .nodes) n)) 0 0) where
+module _ {bs env s : List ℕ} {top n m left : ℕ} (x : Visited bs env s top 25 n left) (w : m ≡ fieldA bs n) where
   pub bool-child : Child bs n m predicate
   bool-child = visited-child x boolOf (kind-of 25 boolOf refl) predicate 0 m (omega arith) (omega arith) refl w
 
   pub bool-builds : Builds bs
   bool-builds = visited-builds x boolOf (kind-of 25 boolOf refl) refl
-
-  pub bool-begins : Ready bs env s top m × IsPred bs m
-  bool-begins = (ready-first (x .ready) bool-child, bool-child .is)
 
   pub bool-fails : {s₁ : List ℕ} {r : Refusal} {l : ℕ} → EvaluatesP bs env s top m (left - 1) s₁ (Refused r l) →
       EvaluatesE bs env s top n left s₁ (Stopped r l)
@@ -220,78 +193,34 @@ pub chosen-as : {bs env s : List ℕ} {top n from count left : ℕ} {s′ : List
     EvaluatesChosen bs env s top n from count left s′ r → EvaluatesChosen bs env s top n from count left s′ r′
 chosen-as q h = rw q at h
 
--- The answer of the loop, where it is asked.
-chosen-of : {bs env s : List ℕ} {top n from count left : ℕ} {s′ : List ℕ} {r : Formed} → EvaluatesChosen bs env s top n from count left s′ r →
-    (k : Asked bs env s top n from count left) → ChosenAs (select (bodyOf k) (members (k .range)) (k .asks .steps)) (k .asks .budget) s′ top r
-chosen-of h k =
-    let i = k .asks in
-    h .answer (i .depth) (i .values) (i .budget) (i .steps) (k .range) (i .deep) (i .counts) (i .binds) (k .listed)
-
 -- 34: the range's node is `m`.
-module _ {bs env s : List ℕ} {top n m left : ℕ} (x : Visited bs env s top 34 n left)
-    (w : m ≡ getD (fieldWords (nodeAt (tableOf bs .nodes) n)) 1 0) where
+module _ {bs env s : List ℕ} {top n m left : ℕ} (x : Visited bs env s top 34 n left) (w : m ≡ fieldB bs n) where
   select-code : kindOf 34 ≡ some comprehension
   select-code = kind-of 34 comprehension refl
 
-  pub select-child : Child bs n m expression
-  select-child = visited-child x comprehension select-code expression 1 m (omega arith) (omega arith) refl w
-
-  pub select-begins : Ready bs env s top m × IsExpr bs m
-  select-begins = (ready-first (x .ready) select-child, select-child .is)
-
-  -- What follows the test of the range.
-  abbrev then-selects : Asks bs env s top n left → Value → M Value
-  then-selects i v = select (bodyAt bs (i .budget) n (i .depth) (i .values)) (elems v) >>= λ ws. form n (gives (setOf ws))
+  pub select-binder : Binder bs env s top 34 n left m comprehension
+  select-binder = record { visited = x; code = select-code; fields = refl; word = w }
 
   pub select-fails : {s₁ : List ℕ} {r : Refusal} {l : ℕ} → EvaluatesE bs env s top m (left - 1) s₁ (Stopped r l) →
       EvaluatesE bs env s top n left s₁ (Stopped r l)
   unfolding valueᵉ
-  select-fails {s₁} {r} {l} h =
-      stopped-by x comprehension select-code (h .frame)
-      (λ i. visits x i _ (then-refused _ (formed-below (after x i) select-child w (Stopped r l) h)))
+  select-fails h = stopped-by x comprehension select-code (h .frame) (λ i. range-stops select-binder i _ h)
 
   module _ {s₁ : List ℕ} {at next l : ℕ} (h : EvaluatesE bs env s top m (left - 1) s₁ (Placed at next l)) where
-    pub range-good : SomeGood s₁ at
-    range-good = placed-good (x .ready) select-child w h
-
-    pub range-low : at < 4294967296
-    range-low = placed-low (x .ready) select-child w h
-
-    pub range-fails : RangeAt s₁ at Unlike → EvaluatesE bs env s top n left s₁ (Stopped (record { number = 15; place = n }) l)
+    pub select-unlike : RangeAt s₁ at Unlike → EvaluatesE bs env s top n left s₁ (Stopped (record { number = 15; place = n }) l)
     unfolding valueᵉ
-    range-fails y =
-        stopped-by x comprehension select-code (h .frame) (λ i.
-        let v = placed-range (x .ready) select-child w h (after x i) in
-        visits x i _ (then-done _ (v .ends)
-        (fitting-refused n comprehensionRule (v .value ∷ []) (then-selects i (v .value)) _
-        (placed-unlike (x .ready) select-child w h y (after x i)) (v .ends .steps))))
+    select-unlike y = stopped-by x comprehension select-code (h .frame) (λ i. range-unlike select-binder h y i _)
 
     module _ {count : ℕ} (y : RangeAt s₁ at (Set count)) where
-      pub select-each : EachReady bs env s₁ next n (at + 1) count 256
-      select-each = each-ready (x .ready) select-child w h y (visited-kind x comprehension select-code) refl 256 (omega arith) (λ _. refl)
-
-      -- The range, and what is asked of the loop over it.
-      abbrev here : (i : Asks bs env s top n left) → RangeHere (valueIn (after x i) (fieldB bs n)) (i .budget) (tableOf bs .sizes) s₁ at next l count
-      here i = range-here (x .ready) select-child w h y (after x i)
-
-      abbrev members-of : Asks bs env s top n left → Asked bs env s₁ next n (at + 1) count l
-      members-of i = in-range (x .ready) select-child w h y (after x i)
-
-      -- It fits, and so what follows it ends the run.
-      in-set : (i : Asks bs env s top n left) {a : End Value} {u : ℕ} →
-          EndsWith (then-selects i (set (here i .range)) (valueIn (after x i) (fieldB bs n) .steps)) a (i .budget) u →
-          EndsWith (treeᵉ comprehension i) a (i .budget) u
-      unfolding valueᵉ
-      in-set i k =
-          let y = set (here i .range) in
-          visits x i _ (then-done _ (here i .ends) (fitting-on n comprehensionRule (y ∷ []) (then-selects i y) _ (here i .fit) k))
+      pub select-asks : {t : ℕ} → 5 * n + 1 ≡ t → (5 * n < t) × EachReady bs env s₁ next n (at + 1) count 256
+      select-asks e = (omega arith, each-ready select-binder h y 256 (omega arith) (λ _. refl))
 
       pub chosen-fails : {s₂ : List ℕ} {r : Refusal} {u : ℕ} → EvaluatesChosen bs env s₁ next n (at + 1) count l s₂ (Stopped r u) →
           EvaluatesE bs env s top n left s₂ (Stopped r u)
       unfolding valueᵉ
-      chosen-fails {s₂} {r} {u} ch =
+      chosen-fails {s₂} ch =
           stopped-by x comprehension select-code (same-trans top next s s₁ s₂ (h .frame) (ch .frame) (h .bounds .0)) (λ i.
-          in-set i (then-refused _ (chosen-of ch (members-of i))))
+          range-on select-binder h y i _ (then-refused _ (ch .answer (in-range select-binder h y i))))
 
       module _ {s₂ : List ℕ} {to end u : ℕ} (ch : EvaluatesChosen bs env s₁ next n (at + 1) count l s₂ (Placed to end u)) where
         -- The set has been built at `next`.
@@ -303,7 +232,8 @@ module _ {bs env s : List ℕ} {top n m left : ℕ} (x : Visited bs env s top 34
 
         pub select-settles : SettleReady s₂ (Built end) next next top
         select-settles =
-            let z = chosen-of ch (some-asked l select-each) in
+            let z = ch .answer (some-asked l (select-asks refl .1)) in
+            let d = range-child select-binder in
             record {
               given = gives (setOf (z .chosen));
               gives = given z;
@@ -311,14 +241,14 @@ module _ {bs env s : List ℕ} {top n m left : ℕ} (x : Visited bs env s top 34
               high = h .bounds .1;
               order = omega arith;
               room = operation-room x comprehension select-code next refl refl (same-trans top next s s₁ s₂ (h .frame) (ch .frame) (h .bounds .0))
-                  (omega (arith, select-child .lower, select-child .tall, h .bounds));
+                  (omega (arith, d .lower, d .tall, h .bounds));
             }
 
         pub select-evaluates : {s₃ : List ℕ} {r : Formed} → Settles s₂ (Built end) next next top n u s₃ r → EvaluatesE bs env s top n left s₃ r
         unfolding valueᵉ
-        select-evaluates st = settles-by x comprehension select-code select-child (h .frame) (h .bounds .0) (ch .frame) st (λ i.
-            let z = chosen-of ch (members-of i) in (
+        select-evaluates st = settles-by x comprehension select-code (range-child select-binder) (h .frame) (h .bounds .0) (ch .frame) st (λ i.
+            let z = ch .answer (in-range select-binder h y i) in (
               gives (setOf (z .chosen)),
-              in-set i (then-done _ (z .ends) (light-form n (setOf (z .chosen)) _ (light z) (z .ends .steps))),
+              range-on select-binder h y i _ (then-done _ (z .ends) (light-form n (setOf (z .chosen)) _ (light z) (z .ends .steps))),
               given z,
             ))

@@ -1,29 +1,11 @@
 -- Joins by their codes; then the run at the node, part by part, and with it what the answers for the conditions below make of the node's.
-use Prim.Native.Nat.{ℕ, _+_, _-_}
-use mathlib.Core.Bool.{Bool, true, false, not, cond, Bool·beq}
-use mathlib.Core.List.{List}
-use mathlib.Core.Logic.{_⊎_, inl, inr, _≢_}
-use mathlib.Core.Option.{Option, none as nothing, some}
-use mathlib.Core.Path.{_≡_, refl, sym, ap, _∙_, subst}
-use native.Mathlib.Omega.{arith}
-use lib.Dec.{eqb}
-use Rattle.rules.specs.Kinds.{predicate, Join, and, or, implies, iff, join, kindOf}
-use Rattle.rules.specs.Ends.{End, done}
-use Rattle.rules.specs.Runs.{M, _orElse_}
+use Rattle.evaluators.proofs.Terms.{ℕ, _+_, _-_, _*_, _<_, Bool, true, false, not, cond, Bool·beq, List, _⊎_, inl, inr, _≢_, nothing, some, _≡_, refl, sym, ap, _∙_, subst, arith, eqb}
+use Rattle.evaluators.proofs.Terms.{predicate, and, or, implies, iff, join, holdsᵖ, Same, same-trans, code-of, Refusal, Held, Truth, Refused, HeldAs, Ready, Visited, Sort, Asks, EvaluatesP, fieldA, fieldB, IsPred, Join, DecidesBy, JoinedBy}
 use Rattle.rules.specs.Operations as rules
-use Rattle.rules.specs.Evaluation.{holdsᵖ}
-use Rattle.arena.specs.Code.{Same}
-use Rattle.arena.proofs.Standing.{same-trans}
-use Rattle.operations.proofs.KindLaws.{joinCode, code-of, same-join}
-use Rattle.reading.specs.declared.Refusal.{Refusal}
-use Rattle.evaluators.specs.declared.Held.{Held}
-use Rattle.evaluators.specs.declared.Held.the-variants.{Truth, Refused}
-use Rattle.evaluators.specs.Answers.{EndsWith, HeldAs}
-use Rattle.evaluators.specs.Cycle.{Ready, Visited, EvaluatesP}
-use Rattle.evaluators.specs.Nodes.{fieldA, fieldB, IsPred, DecidesBy, JoinedBy}
+use Rattle.operations.proofs.KindLaws.{joinCode, same-join}
 use Rattle.evaluators.proofs.RunLaws.{then-done, then-refused, returns}
-use Rattle.evaluators.proofs.NodeLaws.{Child, ready-child, ready-first, visited-child, held-as}
-use Rattle.evaluators.proofs.NodeLaws.{Asks, asks-on, visits, after, holdsIn, held-below, held-by}
+use Rattle.evaluators.proofs.NodeLaws.{Child, ready-child, visited-child, held-as}
+use Rattle.evaluators.proofs.NodeLaws.{asks-on, visits, after, holdsIn, held-below, held-by}
 
 -- Where the first truth of a join decides, and what.
 first-decides : (p : Bool) → (rules.decides and p ≡ cond (not p) (some false) nothing) × (rules.decides or p ≡ cond p (some true) nothing) ×
@@ -65,23 +47,16 @@ module _ {k : ℕ} (p : Bool) where
         go implies c = absurd (n3 c)
         go iff c = refl
 
--- What decides, and what does not.
-or-decided : {A : Type 0} {budget left : ℕ} (o : Option A) (m : M A) (a : A) (t : ℕ) → o ≡ some a → t + left ≡ budget →
-    EndsWith ((o orElse m) t) (done a) budget left
-or-decided o m a t e c = rw e (returns a c)
-
-or-rest : {A : Type 0} {budget left : ℕ} (o : Option A) (m : M A) (t : ℕ) {x : End A} → o ≡ nothing → EndsWith (m t) x budget left →
-    EndsWith ((o orElse m) t) x budget left
-or-rest o m t e h = rw e h
-
 -- 1, 2, 3 and 5: the first operand's node is `a`.
-module _ {bs env s : List ℕ} {top k n left : ℕ} (v : Visited bs env s top k n left) (j : Join) (e : kindOf k ≡ some (join j))
-    {a : ℕ} (q : a ≡ fieldA bs n) where
-  pub join-child : Child bs n a predicate
-  join-child = visited-child v (join j) e predicate 0 a (omega arith) (omega arith) refl q
+module _ {bs env s : List ℕ} {top k n left : ℕ} (at-join : Visited bs env s top k n left × Sort join k) {a : ℕ} (q : a ≡ fieldA bs n) where
+  abbrev v : Visited bs env s top k n left
+  v = at-join .0
 
-  pub join-begins : Ready bs env s top a × IsPred bs a
-  join-begins = (ready-first (v .ready) join-child, join-child .is)
+  abbrev j : Join
+  j = at-join .1 .0
+
+  pub join-child : Child bs n a predicate
+  join-child = visited-child v (join j) (at-join .1 .1) predicate 0 a (omega arith) (omega arith) refl q
 
   -- It has been evaluated.
   module _ {s′ : List ℕ} {r : Held} (h : EvaluatesP bs env s top a (left - 1) s′ r) where
@@ -91,28 +66,29 @@ module _ {bs env s : List ℕ} {top k n left : ℕ} (v : Visited bs env s top k 
     -- It is refused.
     pub join-stays : {p : Refusal} {l : ℕ} → r ≡ Refused p l → EvaluatesP bs env s top n left s′ r
     unfolding holdsᵖ
-    join-stays {p} {l} d = held-as refl (sym d) (held-by v (join j) e (h .frame) (λ i. visits v i _ (then-refused _ (join-first (Refused p l) d i))))
+    join-stays {p} {l} d =
+        held-as refl (sym d) (held-by v (join j) (at-join .1 .1) (h .frame) (λ i. visits v i _ (then-refused _ (join-first (Refused p l) d i))))
 
     module _ {y : Bool} {l : ℕ} (d : r ≡ Truth y l) {o : Bool} (by : DecidesBy k y o) where
       -- It decides.
       pub join-short : o ≡ true → EvaluatesP bs env s top n left s′ (Truth (not (eqb k 1)) l)
       unfolding holdsᵖ
       join-short c =
-          held-by v (join j) e (h .frame) (λ i.
+          held-by v (join j) (at-join .1 .1) (h .frame) (λ i.
           let w = join-first (Truth y l) d i in
           visits v i _ (then-done _ w
-          (or-decided (rules.decides j y) _ _ _ (by j e ∙ ap (λ (x : Bool). cond x (some (not (eqb k 1))) nothing) c) (w .steps))))
+          (rw (by j (at-join .1 .1) ∙ ap (λ (x : Bool). cond x (some (not (eqb k 1))) nothing) c) (returns _ (w .steps)))))
 
       -- It does not, and the second operand's node is `m`.
       module _ (c : o ≡ false) {m : ℕ} (qb : m ≡ fieldB bs n) where
-        pub join-next : Child bs n m predicate
-        join-next = visited-child v (join j) e predicate 1 m (omega arith) (omega arith) refl qb
+        join-next : Child bs n m predicate
+        join-next = visited-child v (join j) (at-join .1 .1) predicate 1 m (omega arith) (omega arith) refl qb
 
-        pub join-ready : Ready bs env s′ top m × IsPred bs m
-        join-ready = (ready-child s′ m top (v .ready) join-next (h .frame) (omega arith) (omega arith), join-next .is)
+        pub join-asks : {t : ℕ} → 5 * n + 1 ≡ t → (5 * m + 3 < t) × (Ready bs env s′ top m × IsPred bs m)
+        join-asks e = (omega (arith, join-next .below), (ready-child s′ m top (v .ready) join-next (h .frame) (omega arith) (omega arith), join-next .is))
 
         open-by : rules.decides j y ≡ nothing
-        open-by = by j e ∙ ap (λ (x : Bool). cond x (some (not (eqb k 1))) nothing) c
+        open-by = by j (at-join .1 .1) ∙ ap (λ (x : Bool). cond x (some (not (eqb k 1))) nothing) c
 
         -- What is asked of it.
         abbrev second : Asks bs env s top n left → Asks bs env s′ top n l
@@ -125,14 +101,14 @@ module _ {bs env s : List ℕ} {top k n left : ℕ} (v : Visited bs env s top k 
           pub join-stays-2 : {p : Refusal} {u : ℕ} → r′ ≡ Refused p u → EvaluatesP bs env s top n left s″ r′
           unfolding holdsᵖ
           join-stays-2 {p} {u} d′ =
-              held-as refl (sym d′) (held-by v (join j) e join-frame (λ i.
-              visits v i _ (then-done _ (join-first (Truth y l) d i) (or-rest (rules.decides j y) _ _ open-by
+              held-as refl (sym d′) (held-by v (join j) (at-join .1 .1) join-frame (λ i.
+              visits v i _ (then-done _ (join-first (Truth y l) d i) (rw open-by
               (then-refused _ (held-below (second i) join-next qb (Refused p u) (held-as refl d′ h′)))))))
 
           pub join-both : {z w : Bool} {u : ℕ} → r′ ≡ Truth z u → JoinedBy k y z w → EvaluatesP bs env s top n left s″ (Truth w u)
           unfolding holdsᵖ
           join-both {z} {w} {u} d′ is =
-              held-by v (join j) e join-frame (λ i.
+              held-by v (join j) (at-join .1 .1) join-frame (λ i.
               let t = held-below (second i) join-next qb (Truth z u) (held-as refl d′ h′) in
-              visits v i _ (then-done _ (join-first (Truth y l) d i) (or-rest (rules.decides j y) _ _ open-by
-              (then-done _ t (rw (sym (is j e)) (returns w (t .steps)))))))
+              visits v i _ (then-done _ (join-first (Truth y l) d i) (rw open-by
+              (then-done _ t (rw (sym (is j (at-join .1 .1))) (returns w (t .steps)))))))

@@ -1,4 +1,5 @@
 -- The laws that the evaluators' proofs rest on.
+pub mod Terms
 pub mod RunLaws
 pub mod NodeLaws
 pub mod SafeLaws

@@ -1,41 +1,13 @@
 -- The children of a node, its tree, what its evaluators pass on to theirs, and its answer from theirs.
-use Prim.Native.Nat.{ℕ, zero, suc, _+_, _-_, _*_, _≤_, _<_}
-use mathlib.Core.Bool.{Bool, true, false, false≢true}
-use mathlib.Core.List.{List, [], _∷_}
-use mathlib.Core.Option.{Option, none as nothing, some}
-use mathlib.Core.Path.{_≡_, refl, sym, ap, _∙_, subst}
-use native.Mathlib.Omega.{arith}
-use lib.Dec.{T}
-use lib.ListN.{length, getD}
-use Rattle.rules.specs.Values.{Value}
+use Rattle.evaluators.proofs.Terms.{ℕ, zero, suc, _+_, _-_, _*_, _≤_, _<_, Bool, true, List, [], _∷_, Option, nothing, some, _≡_, refl, sym, ap, _∙_, subst, arith, T, length, getD, categoryOf, Field, isChild, Table, fieldsIf, pick, held, exprOf, FieldRight, FieldsRight, KindRight, NodeRight, FormedAs, FormedBounds, SettledAs, RefusalOf, StopOf}
+use Rattle.evaluators.proofs.Terms.{Value, Kind, Category, predicate, expression, unused, child, kindOf, fieldsOf, Node, Pred, Expr, tableOf, nodeAt, kindAt, fieldWords, predOf, predAt, exprAt, nodeCount, Readable, CategoryIs, Env, End, refused, Run, M, _>>_, visit, Given, holdsᵖ, valueᵉ, sizes-length, Same, stands-frame, same-refl, same-trans, length-code, built, Builds, Sizes, GoodAt, Gives, Outcome, Held, Refused, Formed, Placed, Stopped, Refusal, EndsWith, HeldAs, fieldA, fieldB, conditionCells, expressionCells, cellsFor, Binds, Ready, Visited, Asks, holdsAt, valueAt, EvaluatesP, EvaluatesE, Settles}
 use Rattle.rules.specs.Cells.{good}
-use Rattle.rules.specs.Kinds.{Kind, Category, categoryOf, predicate, expression, Field, unused, child, kindOf, fieldsOf, isChild}
-use Rattle.rules.specs.Tables.{Node, Table, Pred, Expr, tableOf, nodeAt, kindAt, fieldWords, fieldsIf, keptIf, pick, held, predOf, exprOf, predAt, exprAt, nodeCount}
 use Rattle.rules.specs.Reading.{height, tallest}
-use Rattle.rules.specs.Readable.{Readable, FieldRight, FieldsRight, KindRight, NodeRight, CategoryIs}
-use Rattle.rules.specs.Operations.{Env}
-use Rattle.rules.specs.Ends.{End, refused}
-use Rattle.rules.specs.Runs.{Run, M, _>>_, visit, Given}
-use Rattle.rules.specs.Evaluation.{holdsᵖ, valueᵉ}
-use Rattle.laws.proofs.TableLaws.{nodes-length, sizes-length, height-at}
+use Rattle.laws.proofs.TableLaws.{nodes-length, height-at}
+use Rattle.reading.proofs.Heights.{tallest-kept}
 use Rattle.laws.proofs.CellsLaws.{size-below}
 use Rattle.laws.proofs.FormedLaws.{value-good}
-use Rattle.arena.specs.Code.{Same}
-use Rattle.arena.proofs.Standing.{stands-frame, same-refl, same-trans}
-use Rattle.arena.proofs.CodeLaws.{length-code}
-use Rattle.constants.specs.Built.{built, Builds}
 use Rattle.constants.proofs.ConstantLaws.{constants-frame}
-use Rattle.operations.specs.Good.{Sizes, GoodAt}
-use Rattle.operations.specs.Outcomes.{Gives}
-use Rattle.operations.specs.declared.Outcome.{Outcome}
-use Rattle.evaluators.specs.declared.Held.{Held}
-use Rattle.evaluators.specs.declared.Held.the-variants.{Refused}
-use Rattle.evaluators.specs.declared.Formed.{Formed}
-use Rattle.evaluators.specs.declared.Formed.the-variants.{Value as Placed, Stopped}
-use Rattle.reading.specs.declared.Refusal.{Refusal}
-use Rattle.evaluators.specs.Answers.{EndsWith, HeldAs, FormedAs, FormedBounds, SettledAs, RefusalOf, StopOf}
-use Rattle.evaluators.specs.Nodes.{fieldA, fieldB}
-use Rattle.evaluators.specs.Cycle.{conditionCells, expressionCells, cellsFor, Binds, Ready, Visited, holdsAt, valueAt, EvaluatesP, EvaluatesE, Settles}
 use Rattle.evaluators.proofs.RunLaws.{visited, endOf}
 
 -- The sizes of a readable table are small.
@@ -74,21 +46,12 @@ pub record Child (bs : List ℕ) (n m : ℕ) (c : Category) : Type 0 where
   pub tall : 1 ≤ height (tableOf bs .nodes) m
 
 -- The heights of the words in the fields that hold children.
-tallest-kept : (h : ℕ → ℕ) (b : Bool) (m : ℕ) (ms : List ℕ) → tallest h ms ≤ tallest h (keptIf b m ms)
-unfolding tallest
-tallest-kept h true m ms = omega arith
-tallest-kept h false m ms = omega arith
-
-tallest-first : (h : ℕ → ℕ) (b : Bool) (m : ℕ) (ms : List ℕ) → b ≡ true → h m ≤ tallest h (keptIf b m ms)
-unfolding tallest
-tallest-first h true m ms e = omega arith
-tallest-first h false m ms e = absurd (false≢true e)
-
 child-tall : (h : ℕ → ℕ) (fs : List Field) (xs : List ℕ) (i : ℕ) → i < length fs → i < length xs → isChild (getD fs i unused) ≡ true →
     h (getD xs i 0) ≤ tallest h (pick isChild fs xs)
+unfolding tallest
 child-tall h [] xs i a b e = absurd (omega arith)
 child-tall h (f ∷ fs) [] i a b e = absurd (omega arith)
-child-tall h (f ∷ fs) (x ∷ xs) zero a b e = tallest-first h (isChild f) x (pick isChild fs xs) e
+child-tall h (f ∷ fs) (x ∷ xs) zero a b e = rw e (omega arith)
 child-tall h (f ∷ fs) (x ∷ xs) (suc i) a b e =
     omega (arith, child-tall h fs xs i (omega arith) (omega arith) e, tallest-kept h (isChild f) x (pick isChild fs xs))
 
@@ -150,11 +113,8 @@ module _ (ns : List Node) (n : ℕ) (k : Kind) (e : kindAt ns n ≡ some k) wher
 -- What an expression takes more than a condition.
 expression-cells : (k : Option Kind) → expressionCells k ≤ 128
 expression-cells nothing = omega arith
-expression-cells (some k) = go (categoryOf k)
-  where
-    go : (c : Category) → elim c [ predicate ↦ 0 | expression ↦ 128 ] ≤ 128
-    go predicate = omega arith
-    go expression = omega arith
+expression-cells (some k) =
+    elim (categoryOf k) as (λ c. elim c [ predicate ↦ 0 | expression ↦ 128 ] ≤ 128) [ predicate ↦ omega arith | expression ↦ omega arith ]
 
 pub condition-cells : (k : Option Kind) → CategoryIs predicate k → expressionCells k ≡ 0
 condition-cells nothing e = absurd e
@@ -209,16 +169,6 @@ module _ {bs env s : List ℕ} {top k n left : ℕ} (v : Visited bs env s top k 
     right = visited-child expression 1 (fieldB bs n) (omega arith) (rw q (omega arith)) (rw q) refl;
   }
 
--- What an answer at a node is asked for: a depth of the trees below it, values of the identifiers, and a budget with the visits made.
-pub record Asks (bs env s : List ℕ) (top n left : ℕ) : Type 0 where
-  pub depth : ℕ
-  pub values : Env
-  pub budget : ℕ
-  pub steps : ℕ
-  pub deep : n ≤ depth
-  pub counts : steps + left ≡ budget
-  pub binds : Binds bs s top env values
-
 -- There is something to ask.
 abbrev pub some-asks : {bs env s : List ℕ} {top m : ℕ} (n left : ℕ) → Ready bs env s top m → Asks bs env s top n left
 some-asks n left r = record { depth = n; values = r .values; budget = left; steps = 0; deep = omega arith; counts = omega arith; binds = r .binds }
@@ -235,6 +185,11 @@ asks-on k {mid = mid} t e le c = record {
   counts = c;
   binds = binds-frame mid e le (k .binds);
 }
+
+-- What the evaluator of a child asks, where the measures are those of the cycle: 5 times the node, and w that is left to do there.
+pub child-asks : {bs env s : List ℕ} {top n m t : ℕ} {c : Category} (w : ℕ) → w ≤ 5 → 5 * n + 1 ≡ t → Ready bs env s top n → Child bs n m c →
+    (5 * m + w < t) × (Ready bs env s top m × CategoryIs c (kindAt (tableOf bs .nodes) m))
+child-asks w l e r d = (omega (arith, d .below), (ready-first r d, d .is))
 
 -- The visit of the node is within the budget; and what is asked after it.
 module _ {bs env s : List ℕ} {top k n left : ℕ} (v : Visited bs env s top k n left) (i : Asks bs env s top n left) where
@@ -291,7 +246,7 @@ module _ (bs : List ℕ) (budget f n : ℕ) (ρ : Env) (steps : ℕ) (readable :
   settled-as (Stopped r l) h = record { end = e .end ∙ ap (endOf n) (h .0) ∙ ap (refused (r .number)) (sym (h .1)); steps = omega (arith, e .steps, h .2) }
 
 -- The answer for a node, from its tree, whose children have the depth g.
-abbrev predᵍ : List ℕ → ℕ → Kind → ℕ → Pred
+abbrev pub predᵍ : List ℕ → ℕ → Kind → ℕ → Pred
 predᵍ bs n x g = predOf (some x) n (nodeAt (tableOf bs .nodes) n) (λ m. predAt g (tableOf bs .nodes) m) (λ m. exprAt g (tableOf bs .nodes) m)
 
 abbrev exprᵍ : List ℕ → ℕ → Kind → ℕ → Expr

@@ -1,48 +1,27 @@
--- A binder's range: its fields, the members of a set that stands in the arena, what the loop over them may take for granted, and `range_of`.
-use Prim.Native.Nat.{ℕ, _+_, _*_, _%_, _≤_, _<_}
-use mathlib.Core.Bool.{Bool, true, false}
-use mathlib.Core.List.{List, [], _∷_}
-use mathlib.Core.Option.{some}
-use mathlib.Core.Path.{_≡_, sym, ap, _∙_, subst}
-use native.Mathlib.Omega.{arith}
-use lib.Dec.{T}
-use lib.ListN.{length, getD}
+-- A binder's range: its fields, its part of the node's run, the members of a set that stands in the arena, what the loop over them may take for
+-- granted, and `range_of`.
+use Rattle.evaluators.proofs.Terms.{ℕ, _+_, _-_, _*_, _≤_, _<_, Bool, true, false, List, [], _∷_, some, _≡_, refl, sym, ap, _∙_, subst, arith, T, length, getD, _%_, set, HasType, Fits, typed, demand, cellSize, RangeSet, SomeGood}
+use Rattle.evaluators.proofs.Terms.{Value, Values, count, Kind, Category, expression, predicate, unused, child, kindOf, fieldsOf, fits, tableOf, nodeAt, kindAt, fieldWords, End, refused, Run, M, _>>=_, _>>_, visit, binds-length, good-weight, code, codes, built, Sizes, GoodAt, good-fits, good-inside, Placed, Stopped, Refusal, Set, Unlike, EndsWith, PlacedAs, Listed, fieldA, fieldB, fieldC, RangeAt, expressionCells, Ready, Visited, Asks, Asked, valueAt, EvaluatesE, EachReady}
 use Rattle.rules.specs.Types.{Ty, atom, POW, _⊗_}
-use Rattle.rules.specs.Values.{Value, set, Values, count}
-use Rattle.rules.specs.Kinds.{Kind, expression, predicate, fieldsOf}
-use Rattle.rules.specs.Rules.{P̂, t̂}
-use Rattle.rules.specs.Fits.{HasType, Fits, typed, fits}
-use Rattle.rules.specs.Tables.{tableOf, kindAt}
-use Rattle.rules.specs.Ends.{done}
-use Rattle.rules.specs.Reading.{height}
-use Rattle.rules.specs.Runs.{Run}
-use Rattle.laws.proofs.TableLaws.{binds-length}
+use Rattle.rules.specs.Rules.{P̂, t̂, quantRule}
 use Rattle.laws.proofs.BindingLaws.{binderFields}
-use Rattle.laws.proofs.CellsLaws.{good-weight, good-typed}
+use Rattle.laws.proofs.CellsLaws.{good-typed}
 use Rattle.laws.proofs.FitsLaws.{typed-right}
 use Rattle.laws.proofs.FormedLaws.{elems-good}
-use Rattle.arena.specs.Code.{cellSize, code, codes}
 use Rattle.arena.proofs.Standing.{stands-tail}
-use Rattle.constants.specs.Built.{built}
 use Rattle.arena.proofs.ValueParts.{first-cell}
 use Rattle.fitting.specs.Agree.{SomeTyped}
 use Rattle.fitting.specs.Tests.{FitOne}
-use Rattle.operations.specs.Good.{GoodAt}
 use Rattle.operations.proofs.SingleLaws.{fits-is-set}
 use Rattle.operations.proofs.FitLaws.{types-fit}
-use Rattle.operations.proofs.GoodLaws.{good-fits, good-typed-at, good-inside}
-use Rattle.evaluators.specs.declared.Formed.the-variants.{Value as Placed}
+use Rattle.operations.proofs.GoodLaws.{good-typed-at}
 use Rattle.evaluators.specs.declared.Range.{Range}
-use Rattle.evaluators.specs.declared.Range.the-variants.{Set, Unlike}
-use Rattle.evaluators.specs.Answers.{EndsWith, PlacedAs, RangeSet, Listed}
-use Rattle.evaluators.specs.Nodes.{fieldA, fieldB, fieldC, SomeGood, RangeAt}
-use Rattle.evaluators.specs.Cycle.{conditionCells, expressionCells, Ready, EvaluatesE, EachReady}
-use Rattle.evaluators.proofs.NodeLaws.{Child, sizes-small, field-holds, field-child, condition-cells, ready-child}
-use Rattle.evaluators.proofs.NodeLaws.{Asks, some-asks, asks-on, valueIn, formed-below}
-use Rattle.evaluators.proofs.BodyLaws.{Asked}
+use Rattle.evaluators.proofs.RunLaws.{then-done, then-refused, fitting-on, fitting-refused}
+use Rattle.evaluators.proofs.NodeLaws.{Child, sizes-small, field-holds, condition-cells, ready-child, visited-kind, visited-builds, visited-child}
+use Rattle.evaluators.proofs.NodeLaws.{some-asks, asks-on, visits, after, valueIn, formed-below}
 
 -- The members of a good set stand behind its own cell.
-range-listed : {gs s : List ℕ} {top at n : ℕ} {v : Value} → GoodAt gs s top at v → (r : RangeSet v n) → Listed gs s top (at + 1) n (r .members)
+pub range-listed : {gs s : List ℕ} {top at n : ℕ} {v : Value} → GoodAt gs s top at v → (r : RangeSet v n) → Listed gs s top (at + 1) n (r .members)
 unfolding code
 range-listed {gs} {s} {top} {at} h r =
     let vs = r .members in
@@ -64,79 +43,110 @@ set-fits vs h = let x = typed-right (set vs) .0 h in types-fit (P̂ t̂ ∷ []) 
     go (POW u) k = (u, u, (k, tt))
     go (u ⊗ w) k = absurd k
 
-module _ {bs env s : List ℕ} {top n : ℕ} (r : Ready bs env s top n) {k : Kind} (e : kindAt (tableOf bs .nodes) n ≡ some k)
-    (q : fieldsOf k ≡ binderFields) where
+-- A binder's node is visited; its range is the node a.
+pub record Binder (bs env s : List ℕ) (top k n left a : ℕ) (x : Kind) : Type 0 where
+  pub visited : Visited bs env s top k n left
+  pub code : kindOf k ≡ some x
+  pub fields : fieldsOf x ≡ binderFields
+  pub word : a ≡ fieldB bs n
+
+module _ {bs env s : List ℕ} {top k n left a : ℕ} {x : Kind} (b : Binder bs env s top k n left a x) where
+  abbrev r : Ready bs env s top n
+  r = b .visited .ready
+
+  child-in : (c : Category) (i m : ℕ) → i < 3 → getD binderFields i unused ≡ child c → m ≡ getD (fieldWords (nodeAt (tableOf bs .nodes) n)) i 0 → Child bs n m c
+  child-in c i m l q w = visited-child (b .visited) x (b .code) c i m l (rw (b .fields) l) (rw (b .fields) q) w
+
+  pub range-child : Child bs n a expression
+  range-child = child-in expression 1 a (omega arith) refl (b .word)
+
+  body : Child bs n (fieldC bs n) predicate
+  body = child-in predicate 2 (fieldC bs n) (omega arith) refl refl
+
   binder-name : fieldA bs n < 32
   binder-name =
-      let h : fieldA bs n < length (tableOf bs .binds) = rw q at (field-holds bs (r .readable) n (r .node) k e 0 (rw q (omega arith))) in
+      let e = visited-kind (b .visited) x (b .code) in
+      let h : fieldA bs n < length (tableOf bs .binds) = rw (b .fields) at (field-holds bs (r .readable) n (r .node) x e 0 (rw (b .fields) (omega arith))) in
       omega (arith, h, binds-length bs, r .readable .header .identifiers)
 
-  binder-body : Child bs n (fieldC bs n) predicate
-  binder-body = field-child bs (r .readable) n (r .node) k e predicate 2 (omega arith) (rw q (omega arith)) (rw q)
+  -- What the node's run does with its range, and what follows.
+  abbrev ranged : {A : Type 0} → Asks bs env s top n left → (Value → M A) → Run A
+  ranged i f = (visit (i .budget) n >> (valueAt bs (i .budget) (i .depth) (fieldB bs n) (i .values) >>= λ v.
+      demand (fits (P̂ t̂ ∷ []) (v ∷ [])) 15 n >> f v)) (i .steps)
 
-  own-room : built (some k) ≡ true → top + (conditionCells (height (tableOf bs .nodes) n) + expressionCells (some k)) ≤ length s
-  own-room b = rw e at (r .room (record { node = n; below = r .node; is = ap built e ∙ b }))
+  -- The range is refused.
+  pub range-stops : {A : Type 0} (i : Asks bs env s top n left) (f : Value → M A) {s₁ : List ℕ} {p : Refusal} {l : ℕ} →
+      EvaluatesE bs env s top a (left - 1) s₁ (Stopped p l) → EndsWith (ranged i f) (refused (p .number) (p .place)) (i .budget) l
+  range-stops i f {p = p} {l = l} h =
+      visits (b .visited) i _ (then-refused _ (formed-below (after (b .visited) i) range-child (b .word) (Stopped p l) h))
 
-  body-cells : expressionCells (kindAt (tableOf bs .nodes) (fieldC bs n)) ≡ 0
-  body-cells = condition-cells (kindAt (tableOf bs .nodes) (fieldC bs n)) (binder-body .is)
+  -- It has been evaluated.
+  module _ {s₁ : List ℕ} {at next l : ℕ} (h : EvaluatesE bs env s top a (left - 1) s₁ (Placed at next l)) where
+    pub placed-range : (i : Asks bs env s top n (left - 1)) → PlacedAs (valueIn i (fieldB bs n)) (i .budget) (tableOf bs .sizes) s₁ at next l
+    placed-range i = formed-below i range-child (b .word) (Placed at next l) h
 
--- The range of a node, as the set of n members that it is.
-pub record RangeHere (x : Run Value) (budget : ℕ) (gs s : List ℕ) (at next left n : ℕ) : Type 0 where
-  pub range : Values
-  pub ends : EndsWith x (done (set range)) budget left
-  pub listed : Listed gs s next (at + 1) n range
-  pub fit : fits (P̂ t̂ ∷ []) (set range ∷ []) ≡ true
+    some-range : PlacedAs (valueIn (some-asks n (left - 1) r) (fieldB bs n)) (left - 1) (tableOf bs .sizes) s₁ at next l
+    some-range = placed-range (some-asks n (left - 1) r)
 
--- The range, the child m, has been evaluated.
-module _ {bs env s : List ℕ} {top n m left : ℕ} (r : Ready bs env s top n) (d : Child bs n m expression) (w : m ≡ fieldB bs n)
-    {s₁ : List ℕ} {at next l : ℕ} (h : EvaluatesE bs env s top m left s₁ (Placed at next l)) where
-  pub placed-range : (i : Asks bs env s top n left) → PlacedAs (valueIn i (fieldB bs n)) (i .budget) (tableOf bs .sizes) s₁ at next l
-  placed-range i = formed-below i d w (Placed at next l) h
+    pub small : Sizes (tableOf bs .sizes)
+    small = sizes-small bs (r .readable)
 
-  some-range : PlacedAs (valueIn (some-asks n left r) (fieldB bs n)) left (tableOf bs .sizes) s₁ at next l
-  some-range = placed-range (some-asks n left r)
+    pub range-good : SomeGood s₁ at
+    range-good = record { sizes = tableOf bs .sizes; small = small; top = next; value = some-range .value; stands = some-range .place }
 
-  pub placed-good : SomeGood s₁ at
-  placed-good = record { sizes = tableOf bs .sizes; small = sizes-small bs (r .readable); top = next; value = some-range .value; stands = some-range .place }
+    pub range-low : at < 4294967296
+    range-low = omega (arith, good-inside small (some-range .place), h .frame .kept, r .small)
 
-  pub placed-low : at < 4294967296
-  placed-low = omega (arith, good-inside (sizes-small bs (r .readable)) (some-range .place), h .frame .kept, r .small)
+    -- It is no set.
+    pub range-unlike : {A : Type 0} → RangeAt s₁ at Unlike → (i : Asks bs env s top n left) (f : Value → M A) →
+        EndsWith (ranged i f) (refused 15 n) (i .budget) l
+    range-unlike y i f =
+        let v = placed-range (after (b .visited) i) in
+        visits (b .visited) i _ (then-done _ (v .ends)
+        (fitting-refused n quantRule (v .value ∷ []) (f (v .value)) _ (y (tableOf bs .sizes) next (v .value) small (v .place)) (v .ends .steps)))
 
-  pub placed-unlike : RangeAt s₁ at Unlike → (i : Asks bs env s top n left) → fits (P̂ t̂ ∷ []) (placed-range i .value ∷ []) ≡ false
-  placed-unlike y i = y (tableOf bs .sizes) next (placed-range i .value) (sizes-small bs (r .readable)) (placed-range i .place)
+    -- It is a set of `count` members.
+    module _ {count : ℕ} (y : RangeAt s₁ at (Set count)) where
+      pub each-ready : (spare : ℕ) → spare ≤ 128 + expressionCells (some x) → (0 < spare → built (some x) ≡ true) →
+          EachReady bs env s₁ next n (at + 1) count spare
+      each-ready spare enough builds =
+          let z = y (tableOf bs .sizes) next (some-range .value) small (some-range .place) in
+          let cells = ap expressionCells (visited-kind (b .visited) x (b .code)) in
+          let low = condition-cells (kindAt (tableOf bs .nodes) (fieldC bs n)) (body .is) in
+          record {
+            ready = ready-child s₁ (fieldC bs n) next r body (h .frame) (h .bounds .0) (h .bounds .1);
+            binder = r .node;
+            deeper = body .below;
+            is = body .is;
+            name = binder-name;
+            space = λ p.
+                omega (arith, body .lower, body .tall, r .room (visited-builds (b .visited) x (b .code) (builds p)), cells, low, h .frame .kept, h .bounds .1);
+            range = z .members;
+            listed = range-listed (some-range .place) z;
+          }
 
-  -- It is a set of `count` members.
-  module _ {count : ℕ} (y : RangeAt s₁ at (Set count)) where
-    pub each-ready : {k : Kind} → kindAt (tableOf bs .nodes) n ≡ some k → fieldsOf k ≡ binderFields → (spare : ℕ) →
-        spare ≤ 128 + expressionCells (some k) → (0 < spare → built (some k) ≡ true) → EachReady bs env s₁ next n (at + 1) count spare
-    each-ready e q spare enough builds =
-        let body = binder-body r e q in
-        let x = y (tableOf bs .sizes) next (some-range .value) (sizes-small bs (r .readable)) (some-range .place) in
-        record {
-          ready = ready-child s₁ (fieldC bs n) next r body (h .frame) (h .bounds .0) (h .bounds .1);
-          binder = r .node;
-          deeper = body .below;
-          is = body .is;
-          name = binder-name r e q;
-          space = λ b. omega (arith, body .lower, body .tall, own-room r e q (builds b), body-cells r e q, h .frame .kept, h .bounds .1);
-          range = x .members;
-          listed = range-listed (some-range .place) x;
+      module _ (i : Asks bs env s top n left) where
+        abbrev placed : PlacedAs (valueIn (after (b .visited) i) (fieldB bs n)) (i .budget) (tableOf bs .sizes) s₁ at next l
+        placed = placed-range (after (b .visited) i)
+
+        abbrev is-set : RangeSet (placed .value) count
+        is-set = y (tableOf bs .sizes) next (placed .value) small (placed .place)
+
+        -- What is asked of the loop over it.
+        abbrev pub in-range : Asked bs env s₁ next n (at + 1) count l
+        in-range = record {
+          asks = asks-on (after (b .visited) i) (valueIn (after (b .visited) i) (fieldB bs n) .steps) (h .frame) (h .bounds .0) (placed .ends .steps);
+          range = is-set .members;
+          listed = range-listed (placed .place) is-set;
         }
 
-    pub range-here : (i : Asks bs env s top n left) → RangeHere (valueIn i (fieldB bs n)) (i .budget) (tableOf bs .sizes) s₁ at next l count
-    range-here i =
-        let v = placed-range i in
-        let x = y (tableOf bs .sizes) next (v .value) (sizes-small bs (r .readable)) (v .place) in
-        let fit = set-fits (x .members) (good-typed (tableOf bs .sizes) (set (x .members)) (rw (x .is) at (v .place .good))) in
-        record { range = x .members; ends = rw (x .is) at (v .ends); listed = range-listed (v .place) x; fit = fit }
-
-    -- What is asked of the loop over it.
-    abbrev pub in-range : (i : Asks bs env s top n left) → Asked bs env s₁ next n (at + 1) count l
-    in-range i = record {
-      asks = asks-on i (valueIn i (fieldB bs n) .steps) (h .frame) (h .bounds .0) (placed-range i .ends .steps);
-      range = range-here i .range;
-      listed = range-here i .listed;
-    }
+        -- It fits, and so what follows it ends the run.
+        pub range-on : {A : Type 0} (f : Value → M A) {e : End A} {u : ℕ} →
+            EndsWith (f (set (in-range .range)) (in-range .asks .steps)) e (i .budget) u → EndsWith (ranged i f) e (i .budget) u
+        range-on f z =
+            let v = set (is-set .members) in
+            let fit = set-fits (is-set .members) (good-typed (tableOf bs .sizes) v (rw (is-set .is) at (placed .place .good))) in
+            visits (b .visited) i _ (then-done _ (rw (is-set .is) at (placed .ends)) (fitting-on n quantRule (v ∷ []) (f v) _ fit z))
 
 -- The same range under equal names.
 pub range-as : {s : List ℕ} {at : ℕ} {r r′ : Range} → r ≡ r′ → RangeAt s at r → RangeAt s at r′
@@ -151,8 +161,8 @@ module _ {s : List ℕ} {at : ℕ} where
   some-inside p = good-inside (p .small) (p .stands)
 
   module _ {r : Bool} (f : FitOne (P̂ t̂ ∷ []) s at r) where
-    pub range-unlike : r ≡ false → RangeAt s at Unlike
-    range-unlike e gs top v q h = sym (f v (good-typed-at q h)) ∙ e
+    pub range-not : r ≡ false → RangeAt s at Unlike
+    range-not e gs top v q h = sym (f v (good-typed-at q h)) ∙ e
 
     pub range-set : r ≡ true → (n : ℕ) → n ≡ getD s at 0 % 4294967296 → RangeAt s at (Set n)
     range-set e n c gs top v q h =

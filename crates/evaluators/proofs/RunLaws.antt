@@ -1,20 +1,8 @@
 -- Ends of runs, part by part: what follows a part that is done begins at the visits which that part has made.
-use Prim.Native.Nat.{ℕ, suc, _+_, _≤_, _<_}
-use mathlib.Core.Bool.{Bool, true, false}
-use mathlib.Core.List.{List}
-use mathlib.Core.Path.{_≡_, refl}
-use native.Mathlib.Omega.{arith}
-use borrow.Author.Tests.{lt-ltb, le-ltb, le-leb}
-use lib.Dec.{ltb, leb}
-use Rattle.rules.specs.Values.{Value, weight}
+use Rattle.evaluators.proofs.Terms.{ℕ, suc, _+_, _≤_, _<_, Bool, true, false, List, _≡_, refl, arith, leb, lt-ltb, le-ltb, le-leb, ltb}
+use Rattle.evaluators.proofs.Terms.{Value, weight, fits, End, done, refused, Run, M, return, _>>_, visit, Given, gives, fitting, EndsWith, goOn, form, lacks, weighed, fitted}
 use Rattle.rules.specs.Cells.{weightLimit}
 use Rattle.rules.specs.Rules.{Rule}
-use Rattle.rules.specs.Fits.{fits}
-use Rattle.rules.specs.Ends.{End, done, refused}
-use Rattle.rules.specs.Runs.{Run, M, return, goOn, _>>_, visit, form, Given, gives, lacks}
-use Rattle.rules.specs.Evaluation.{fitting}
-use Rattle.operations.specs.Outcomes.{weighed, fitted}
-use Rattle.evaluators.specs.Answers.{EndsWith}
 
 -- A part x, and f after it.
 module _ {A B : Type 0} {x : Run A} (f : A → M B) {budget left : ℕ} where

@@ -1,19 +1,9 @@
 -- What the code of the evaluators asks to be safe: nodes that may be read, numbers that fit their width, room.
-use Prim.Native.Nat.{ℕ, _+_, _-_, _*_, _≤_, _<_}
-use mathlib.Core.List.{List}
-use mathlib.Core.Path.{_≡_, refl, _∙_}
-use native.Mathlib.Omega.{arith}
-use borrow.Author.Needs.{scaled-fits, fits-under}
+use Rattle.evaluators.proofs.Terms.{ℕ, _+_, _-_, _*_, _≤_, _<_, List, _≡_, refl, _∙_, arith, lit<, length, setAt, length-set, scaled-fits, fits-under}
+use Rattle.evaluators.proofs.Terms.{nodeCount, Readable, Same, Builds, Ready, EachReady, nodesAt}
 use mir.Syntax.{w64}
 use mir.Val.{Fits}
-use lib.Dec.{lit<}
-use lib.ListN.{length, set as setAt, length-set}
-use Rattle.rules.specs.Tables.{nodeCount, nodesAt}
-use Rattle.rules.specs.Readable.{Readable}
 use Rattle.table.specs.Layout.{NodeIn}
-use Rattle.arena.specs.Code.{Same}
-use Rattle.constants.specs.Built.{Builds}
-use Rattle.evaluators.specs.Cycle.{Ready, EachReady}
 
 pub one-less : {n : ℕ} → 0 < n → n - 1 < n
 one-less h = omega (arith, h)

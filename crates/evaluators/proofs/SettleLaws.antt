@@ -1,25 +1,8 @@
 -- What a node gives is settled at its top, and a member that is chosen is copied behind those before it.
-use Prim.Native.Nat.{ℕ, _+_, _-_, _≤_}
-use mathlib.Core.Bool.{Bool, true, false}
-use mathlib.Core.List.{List, [], _∷_}
-use mathlib.Core.Logic.{_⊎_, inl, inr}
-use mathlib.Core.Path.{_≡_, refl, sym, ap, _∙_}
-use native.Mathlib.Omega.{arith}
-use lib.ListN.{length}
-use Rattle.rules.specs.Values.{Value, weight}
-use Rattle.rules.specs.Runs.{Given}
-use Rattle.arena.specs.Code.{code, Same, Copied}
-use Rattle.arena.proofs.CodeLaws.{length-code}
-use Rattle.arena.proofs.Standing.{same-refl, copied-stands}
-use Rattle.operations.specs.declared.Outcome.{Outcome}
+use Rattle.evaluators.proofs.Terms.{ℕ, _+_, _-_, _≤_, Bool, true, false, List, [], _∷_, _⊎_, inl, inr, _≡_, refl, sym, ap, _∙_, arith, length, Copied, WithinAt, GivenCell}
+use Rattle.evaluators.proofs.Terms.{Value, weight, Given, code, Same, length-code, same-refl, copied-stands, Outcome, BuiltAt, Gives, Formed, Placed, Stopped, SettleReady, ChooseReady, Chooses, Settles}
 use Rattle.operations.specs.declared.Outcome.the-variants.{Built, Within, Cell, Lacks}
 use Rattle.products.specs.Growing.{PutsCell}
-use Rattle.operations.specs.Outcomes.{BuiltAt, WithinAt, GivenCell, Gives}
-use Rattle.evaluators.specs.declared.Formed.{Formed}
-use Rattle.evaluators.specs.declared.Formed.the-variants.{Value as Placed, Stopped}
-use Rattle.evaluators.specs.Answers.{SettleReady}
-use Rattle.evaluators.specs.Nodes.{ChooseReady, Chooses}
-use Rattle.evaluators.specs.Cycle.{Settles}
 use Rattle.rules.proofs.Basics.{absurd01}
 
 -- Copying changes nothing below its place.

@@ -109,6 +109,25 @@ pub record EvaluatesE (bs env s : List ℕ) (top n left : ℕ) (s′ : List ℕ)
 abbrev pub bodyAt : List ℕ → ℕ → ℕ → ℕ → Env → Value → M Bool
 bodyAt bs budget n f ρ w = holdsAt bs budget f (fieldC bs n) (ρ with fieldA bs n ≔ w)
 
+-- What an answer at a node is asked for: a depth of the trees below it, values of the identifiers, and a budget with the visits made.
+pub record Asks (bs env s : List ℕ) (top n left : ℕ) : Type 0 where
+  pub depth : ℕ
+  pub values : Env
+  pub budget : ℕ
+  pub steps : ℕ
+  pub deep : n ≤ depth
+  pub counts : steps + left ≡ budget
+  pub binds : Binds bs s top env values
+
+-- What the answer of a loop over a range is asked for: the members too; and the body at them.
+pub record Asked (bs env s : List ℕ) (top n from count left : ℕ) : Type 0 where
+  pub asks : Asks bs env s top n left
+  pub range : Values
+  pub listed : Listed (tableOf bs .sizes) s top from count range
+
+abbrev pub bodyOf : {bs env s : List ℕ} {top n from count left : ℕ} → Asked bs env s top n from count left → Value → M Bool
+bodyOf {bs} {n = n} k = bodyAt bs (k .asks .budget) n (k .asks .depth) (k .asks .values)
+
 -- The loop over a range may itself build a set of `spare` cells, if that is not 0.
 pub record EachReady (bs env s : List ℕ) (top n from count spare : ℕ) : Type 0 where
   pub ready : Ready bs env s top (fieldC bs n)
@@ -122,14 +141,14 @@ pub record EachReady (bs env s : List ℕ) (top n from count spare : ℕ) : Type
 
 pub record EvaluatesEach (bs env s : List ℕ) (top n from count left : ℕ) (j : Quant) (s′ : List ℕ) (r : Held) : Type 0 where
   pub frame : Same top s s′
-  pub answer : (f : ℕ) (ρ : Env) (budget steps : ℕ) (vs : Values) → n ≤ f → steps + left ≡ budget → Binds bs s top env ρ →
-      Listed (tableOf bs .sizes) s top from count vs → HeldAs (quantify j (bodyAt bs budget n f ρ) (members vs) steps) budget r
+  pub answer : (k : Asked bs env s top n from count left) →
+      HeldAs (quantify j (bodyOf k) (members (k .range)) (k .asks .steps)) (k .asks .budget) r
 
 pub record EvaluatesChosen (bs env s : List ℕ) (top n from count left : ℕ) (s′ : List ℕ) (r : Formed) : Type 0 where
   pub frame : Same top s s′
   pub bounds : ChosenBounds top r
-  pub answer : (f : ℕ) (ρ : Env) (budget steps : ℕ) (vs : Values) → n ≤ f → steps + left ≡ budget → Binds bs s top env ρ →
-      Listed (tableOf bs .sizes) s top from count vs → ChosenAs (select (bodyAt bs budget n f ρ) (members vs) steps) budget s′ top r
+  pub answer : (k : Asked bs env s top n from count left) →
+      ChosenAs (select (bodyOf k) (members (k .range)) (k .asks .steps)) (k .asks .budget) s′ top r
 
 -- The operands of an operation that builds nothing stand already, and there are visits for the three nodes.
 pub record StandingTwo (bs env : List ℕ) (k n left : ℕ) (r : Places) : Type 0 where

@@ -19,7 +19,7 @@ use Rattle.reading.specs.Arrays.{childAt, Heights}
 use Rattle.reading.specs.Answers.{rootHeight}
 use Rattle.reading.proofs.Counting.{pick-three}
 
-tallest-kept : (h : ℕ → ℕ) (b : Bool) (x : ℕ) (xs : List ℕ) → tallest h (keptIf b x xs) ≡ max (cond b (h x) 0) (tallest h xs)
+pub tallest-kept : (h : ℕ → ℕ) (b : Bool) (x : ℕ) (xs : List ℕ) → tallest h (keptIf b x xs) ≡ max (cond b (h x) 0) (tallest h xs)
 unfolding tallest
 tallest-kept h true x xs = refl
 tallest-kept h false x xs = omega arith

@@ -1,6 +1,5 @@
 -- `choose`: a copy, or nothing.
-use borrow.Author.Tests.{not-true, not-false}
-use borrow.Author.Needs.{needs}
+use Rattle.evaluators.proofs.Terms.{not-true, not-false, needs}
 use Rattle.evaluators.proofs.SettleLaws.{choose-room, chooses-none, chooses-copy}
 use Rattle.evaluators.proofs.choose.Statement.{statement}
 use Rattle.evaluators.proofs.choose.Tie as tie

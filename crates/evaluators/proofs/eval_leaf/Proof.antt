@@ -1,5 +1,5 @@
 -- `eval_leaf`: the word of the node, the size of the given set, and what the leaf builds. Landmarks: what was lent, and the word of the field.
-use lib.Dec.{lit<}
+use Rattle.evaluators.proofs.Terms.{lit<}
 use Rattle.evaluators.proofs.DispatchLaws.{leaf-ready, leaf-formed}
 use Rattle.evaluators.proofs.SafeLaws.{node-in}
 use Rattle.evaluators.proofs.eval_leaf.Statement.{statement}

@@ -1,17 +1,8 @@
 -- `is_marked`: the node is an identifier, and the environment marks it. Landmarks: what was lent, that the node is an identifier, and its number.
-use mathlib.Core.Option.{some}
-use mathlib.Core.Path.{_≡_, sym, ap, _∙_, subst}
-use Prim.Native.Nat.{ℕ, _<_}
-use native.Mathlib.Omega.{arith}
-use borrow.Author.Tests.{leb-true}
+use Rattle.evaluators.proofs.Terms.{some, _≡_, sym, ap, _∙_, subst, ℕ, _<_, arith, lit<, getD, leb-true}
+use Rattle.evaluators.proofs.Terms.{kindOf, leaf, identifier, tableOf, kindAt, kind-of, fieldA, Marked}
 use denote.Ref.{now}
-use lib.Dec.{lit<}
-use lib.ListN.{getD}
-use Rattle.rules.specs.Kinds.{kindOf, leaf, identifier}
-use Rattle.rules.specs.Tables.{tableOf, kindAt}
 use Rattle.rules.proofs.Basics.{absurd01}
-use Rattle.operations.proofs.KindLaws.{kind-of}
-use Rattle.evaluators.specs.Nodes.{fieldA, Marked}
 use Rattle.evaluators.proofs.SafeLaws.{node-in, entry-below, entry-scaled}
 use Rattle.evaluators.proofs.DispatchLaws.{name-below}
 use Rattle.evaluators.proofs.is_marked.Statement.{statement}

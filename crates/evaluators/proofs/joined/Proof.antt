@@ -1,5 +1,5 @@
 -- `joined`: by the codes of kinds 1 to 3 and 5; where the first truth decides, it is the answer.
-use Rattle.rules.specs.Kinds.{and, or, implies}
+use Rattle.evaluators.proofs.Terms.{and, or, implies}
 use Rattle.evaluators.proofs.JoinLaws.{joined-by, joined-5}
 use Rattle.evaluators.proofs.joined.Statement.{statement}
 use Rattle.evaluators.proofs.joined.Tie as tie

@@ -1,6 +1,5 @@
 -- `leaf_place`: nothing is said of 0; otherwise it is where the leaf stands. Landmarks: what was lent, and the kind.
-use mathlib.Core.Path.{refl}
-use mathlib.Core.Logic.{inl, inr, ⊎-elim}
+use Rattle.evaluators.proofs.Terms.{refl, inl, inr, ⊎-elim}
 use Rattle.evaluators.proofs.SafeLaws.{node-in}
 use Rattle.evaluators.proofs.DispatchLaws.{place-standing}
 use Rattle.evaluators.proofs.leaf_place.Statement.{statement}

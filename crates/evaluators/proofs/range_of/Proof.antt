@@ -1,7 +1,6 @@
 -- `range_of`: the number of members stands in the first cell of a set.
-use borrow.Author.Tests.{not-true, not-false}
-use borrow.Author.Needs.{needs}
-use Rattle.evaluators.proofs.RangeLaws.{some-typed, some-inside, range-unlike, range-set}
+use Rattle.evaluators.proofs.Terms.{not-true, not-false, needs}
+use Rattle.evaluators.proofs.RangeLaws.{some-typed, some-inside, range-not, range-set}
 use Rattle.evaluators.proofs.range_of.Statement.{statement}
 use Rattle.evaluators.proofs.range_of.Tie as tie
 
@@ -10,7 +9,7 @@ range-of-spec =
     tie.close
     (tie.spec
     (λ c κs. some-typed (c .before .pre))
-    (λ c. range-unlike (c .before .is-set .ensures) (not-true _ (c .if1 .taken)))
+    (λ c. range-not (c .before .is-set .ensures) (not-true _ (c .if1 .taken)))
     (λ c. search needs)
     (λ c. let i = c .before .before in some-inside (i .before .before .pre))
     (λ c κs. search needs)

@@ -1,5 +1,5 @@
 -- `refusal_of`: a refusal is handed on; of a value nothing is asked.
-use mathlib.Core.Path.{refl}
+use Rattle.evaluators.proofs.Terms.{refl}
 use Rattle.evaluators.proofs.refusal_of.Statement.{statement}
 use Rattle.evaluators.proofs.refusal_of.Tie as tie
 

@@ -1,6 +1,5 @@
 -- `standing`: the offset that the environment has for the identifier, or the node's own cell. Landmarks: what was lent, and the word of the field.
-use native.Mathlib.Omega.{arith}
-use lib.Dec.{lit<}
+use Rattle.evaluators.proofs.Terms.{arith, lit<}
 use Rattle.evaluators.proofs.SafeLaws.{node-in, entry-below, entry-scaled}
 use Rattle.evaluators.proofs.DispatchLaws.{standing-name, placed-name, placed-constant}
 use Rattle.evaluators.proofs.standing.Statement.{statement}

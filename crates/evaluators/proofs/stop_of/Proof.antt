@@ -1,5 +1,5 @@
 -- `stop_of`: a refusal is handed on; of a truth nothing is asked.
-use mathlib.Core.Path.{refl}
+use Rattle.evaluators.proofs.Terms.{refl}
 use Rattle.evaluators.proofs.stop_of.Statement.{statement}
 use Rattle.evaluators.proofs.stop_of.Tie as tie
 

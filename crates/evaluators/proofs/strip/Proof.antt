@@ -1,9 +1,6 @@
 -- `strip`. The invariant: the node reached tells the answer for the first one. Landmarks: what was lent, and a turn.
-use Prim.Native.Nat.{_<_}
-use native.Mathlib.Omega.{arith}
-use lib.Dec.{lit<}
-use Rattle.rules.specs.Tables.{nodeCount}
-use Rattle.evaluators.specs.Cycle.{Passes}
+use Rattle.evaluators.proofs.Terms.{_<_, arith, lit<}
+use Rattle.evaluators.proofs.Terms.{nodeCount, Passes}
 use Rattle.evaluators.proofs.SafeLaws.{node-in}
 use Rattle.evaluators.proofs.BareLaws.{passes-none, passes-on}
 use Rattle.evaluators.proofs.strip.Statement.{statement}

@@ -1,6 +1,6 @@
 -- `turn`: by the answer below the negations.
-use mathlib.Core.Path.{sym, ap}
-use Rattle.evaluators.specs.Answers.{turnedBy}
+use Rattle.evaluators.proofs.Terms.{sym, ap}
+use Rattle.evaluators.proofs.Terms.{turnedBy}
 use Rattle.evaluators.proofs.turn.Statement.{statement}
 use Rattle.evaluators.proofs.turn.Tie as tie
 

@@ -1,8 +1,10 @@
 -- The members of the cycle with their measures: the node number falls, or it stays and what is left to do at the node falls. Members with the
--- same arguments share their kinds: those of `eval_pred` take a node, those of `eval_join` the code of its kind too.
-use Prim.Native.Nat.{ℕ, _+_, _*_, _<_}
-use mathlib.Core.List.{List}
-use borrow.Fn.Kinds.{In, Out, PK, RK}
+-- same arguments share their kinds: those of `eval_pred` take a node, those of `eval_join` the code of its kind too. And the terms and laws that
+-- several members' proofs use.
+pub use Rattle.evaluators.proofs.Terms.{ℕ, refl, sym, _∙_, arith, lit<, inl, inr, ⊎-elim, Visited}
+use Rattle.evaluators.proofs.Terms.{_+_, _*_, _<_, List}
+pub use borrow.Fn.Kinds.{In, Out}
+use borrow.Fn.Kinds.{PK, RK}
 use borrow.Fn.PlainCycle.{Measures, is, falls, and}
 use Rattle.evaluators.proofs.each_chosen.Reads as each-chosen-reads
 use Rattle.evaluators.proofs.each_member.Reads as each-member-reads
@@ -23,6 +25,12 @@ use Rattle.evaluators.proofs.each_member.Kinds as every
 use Rattle.evaluators.proofs.eval_pred.Kinds as node
 use Rattle.evaluators.proofs.eval_join.Kinds as kind
 use Rattle.evaluators.proofs.eval_expr.Kinds as formed
+pub use denote.Ref.{now}
+pub use Rattle.evaluators.proofs.SafeLaws.{ready-node, one-less, binder-node, entry-below, entry-scaled}
+pub use Rattle.evaluators.proofs.NodeLaws.{child-asks, held-as, formed-as, refusal-is, stop-is}
+pub use Rattle.evaluators.proofs.BodyLaws.{member-low}
+pub use Rattle.evaluators.proofs.RangeLaws.{range-as, range-child, range-good, range-low}
+pub use Rattle.evaluators.proofs.DispatchLaws.{counted}
 
 -- What a place or a need of a member's derivation is stated over: the claims of its calls, and what it requires and ensures.
 abbrev pub Over : Type 1 → (ps : List (PK 3)) → RK 3 → Type 1

@@ -1,24 +1,18 @@
 -- `each_chosen`: the body at one member after the other, each that it holds at copied behind those before, and the set's own cell last.
 -- Landmarks: what was lent, the words of the fields, the turn, the answer of the body, and where the member ends.
-use Prim.Native.Nat.{ℕ}
-use mathlib.Core.Path.{_∙_}
-use native.Mathlib.Omega.{arith}
-use lib.Dec.{lit<}
-use borrow.Fn.Kinds.{In, Out}
 use Rattle.evaluators.proofs.+each_chosen+each_member+eval_bare+eval_bool+eval_expr+eval_join+eval_one+eval_pred+eval_quant+eval_select+eval_test+eval_two+eval_value+operand.Lts-each_chosen as lts
 use Rattle.evaluators.proofs.choose.Reads as choose
 use Rattle.arena.proofs.end_of.Reads as end-of
 use Rattle.table.proofs.node_field.Reads as field
 use Rattle.evaluators.proofs.stop_of.Reads as stop
-use Rattle.evaluators.proofs.+each_chosen+each_member+eval_bare+eval_bool+eval_expr+eval_join+eval_one+eval_pred+eval_quant+eval_select+eval_test+eval_two+eval_value+operand.Proof.Base.{each-chosen, eval-pred}
-use Rattle.evaluators.proofs.SafeLaws.{one-less, binder-node, entry-below, entry-scaled, above-fits, top-scaled, top-inside, written-kept}
-use Rattle.evaluators.proofs.NodeLaws.{stop-is}
+use Rattle.evaluators.proofs.+each_chosen+each_member+eval_bare+eval_bool+eval_expr+eval_join+eval_one+eval_pred+eval_quant+eval_select+eval_test+eval_two+eval_value+operand.Proof.Base.{each-chosen, eval-pred, ℕ, _∙_, arith, lit<, In, Out, one-less, binder-node, entry-below, entry-scaled, stop-is, member-low}
+use Rattle.evaluators.proofs.SafeLaws.{above-fits, top-scaled, top-inside, written-kept}
 use Rattle.evaluators.proofs.FormLaws.{chosen-as}
-use Rattle.evaluators.proofs.ChosenLaws.{Choosing, choosing-start, choosing-near, choosing-few, choosing-end, choosing-below, choosing-ready, choosing-refused, choosing-some, choosing-choose, choosing-next}
+use Rattle.evaluators.proofs.ChosenLaws.{Choosing, choosing-start, choosing-near, choosing-few, choosing-end, choosing-asks, choosing-refused, choosing-some, choosing-choose, choosing-next}
 
 abbrev Inv : lts.InvT-loop
 Inv table env s₀ top node from count left x body inner₀ at₀ more₀ n₀ to₀ chosen₀ s inner at more n to chosen =
-    Choosing table env s₀ top node from count left s inner at more n to chosen
+    Choosing table env s₀ top node from count left x s inner at more n to chosen
 
 abbrev μ : lts.MeasureT-loop
 μ table env s₀ top node from count left x body inner₀ at₀ more₀ n₀ to₀ chosen₀ s inner at more n to chosen = more
@@ -48,18 +42,6 @@ module _ (t : ℕ) where
   abbrev ended : Here lts.After-choose → Here lts.After-end-of
   ended c = c .before .before
 
-  cast-inner : Here lts.Need-cast-inner
-  cast-inner c =
-      let l = c .before in let v = lent (words l .before) in
-      omega (arith, choosing-below (v .pre .1) (l .loop .inv) (c .loop-test .taken), v .pre .1 .space (omega arith), v .pre .1 .ready .small)
-
-  eval-pred-requires : Here lts.Need-eval-pred-requires
-  eval-pred-requires c κs =
-      let w = c .before .before in let g = words (w .before) in let v = lent (g .before) in (
-        omega (arith, v .pre .0, v .pre .1 .deeper, g .node-field2 .ensures),
-        choosing-ready (v .pre .1) (w .before .loop .inv) (w .loop-test .taken) (g .before .node-field .ensures) (g .node-field2 .ensures),
-      )
-
   returns : Here lts.Need-returns
   returns c =
       let k = c .before in let p = ran (k .before .before) in let w = turn p in let g = words (w .before) in
@@ -79,11 +61,6 @@ module _ (t : ℕ) where
       choosing-choose (lent (g .before) .pre .1) (w .before .loop .inv) (w .loop-test .taken) (g .before .node-field .ensures)
       (g .node-field2 .ensures) (p .eval-pred .ensures) (o .end-of .ensures)
 
-  add-chosen : Here lts.Need-add-chosen
-  add-chosen c =
-      let h = told (ended (c .before .before)) in let l = turn (ran (h .before .before)) .before in
-      record { fits = choosing-few (lent (words l .before) .pre .1) (l .loop .inv) (h .held .given .0 .0) }
-
   loop-again : Here lts.Need-loop-again
   loop-again c =
       let o = ended (c .before .before) in let h = told o in let p = ran (h .before .before) in let w = turn p in let g = words (w .before) in
@@ -96,23 +73,25 @@ module _ (t : ℕ) where
       (λ c κs. (binder-node (c .before .before .pre .1), lit< tt))
       (λ c κs. (binder-node (lent c .pre .1), lit< tt))
       (λ c. above-fits (lent (c .before .before) .pre .1))
-      (λ c. choosing-start (lent (c .before .before) .pre .1))
-      cast-inner
+      (λ c. choosing-start (lent (c .before .before) .pre .1) _)
+      (λ c. let l = c .before in omega (arith, member-low (lent (words l .before) .pre .1) (l .loop .inv .loop) (c .loop-test .taken)))
       (λ c. let f = words (c .before) .before in entry-scaled (f .node-field .ensures) (lent f .pre .1 .name))
       (λ c. let f = words (c .before) .before in entry-below (f .node-field .ensures) (lent f .pre .1 .name))
-      eval-pred-requires
+      (λ c κs. let w = c .before .before in let g = words (w .before) in let v = lent (g .before) in
+      choosing-asks (v .pre .1) (w .before .loop .inv) (w .loop-test .taken) (g .before .node-field .ensures) (g .node-field2 .ensures) (v .pre .0))
       (λ c. c .match .keys1) (λ c. c .match .keys2) (λ c κs. tt)
-      (λ c. let k = c .before in let p = ran (k .before .before) in p .eval-pred .kept .1 .1 .0 ∙ turn p .before .loop .inv .frame .kept)
+      (λ c. let k = c .before in let p = ran (k .before .before) in p .eval-pred .kept .1 .1 .0 ∙ turn p .before .loop .inv .loop .frame .kept)
       returns
       end-of-requires
       choose-requires
       (λ c. tt)
-      add-chosen
+      (λ c. let h = told (ended (c .before .before)) in let l = turn (ran (h .before .before)) .before in
+      record { fits = choosing-few (lent (words l .before) .pre .1) (l .loop .inv) (h .held .given .0 .0) })
       (λ c. turn (ran (told (ended (c .before .before)) .before .before)) .loop-test .taken)
       (λ c. one-less (turn (ran (told (ended (c .before .before)) .before .before)) .loop-test .taken))
       loop-again
       (λ c. let l = c .before in omega (arith, choosing-near (lent (words l .before) .pre .1) (l .loop .inv) .2))
       (λ c. top-scaled (lent (words (c .before) .before) .pre .1))
-      (λ c. let l = c .before in top-inside (lent (words l .before) .pre .1) (l .loop .inv .frame))
-      (λ c. written-kept _ (c .before .loop .inv .frame))
+      (λ c. let l = c .before in top-inside (lent (words l .before) .pre .1) (l .loop .inv .loop .frame))
+      (λ c. written-kept _ (c .before .loop .inv .loop .frame))
       (λ c. let l = c .before in choosing-end (lent (words l .before) .pre .1) (l .loop .inv) (omega (arith, c .loop-test .left)))

@@ -1,16 +1,10 @@
 -- `each_member`: the body at one member after the other, until one decides. Landmarks: what was lent, the words of the fields, the turn, and
 -- the answer of the body.
-use Prim.Native.Nat.{ℕ}
-use mathlib.Core.Path.{_∙_}
-use native.Mathlib.Omega.{arith}
-use lib.Dec.{lit<}
-use borrow.Fn.Kinds.{In, Out}
 use Rattle.evaluators.proofs.+each_chosen+each_member+eval_bare+eval_bool+eval_expr+eval_join+eval_one+eval_pred+eval_quant+eval_select+eval_test+eval_two+eval_value+operand.Lts-each_member as lts
 use Rattle.arena.proofs.end_of.Reads as end-of
 use Rattle.table.proofs.node_field.Reads as field
-use Rattle.evaluators.proofs.+each_chosen+each_member+eval_bare+eval_bool+eval_expr+eval_join+eval_one+eval_pred+eval_quant+eval_select+eval_test+eval_two+eval_value+operand.Proof.Base.{each-member, eval-pred}
-use Rattle.evaluators.proofs.SafeLaws.{one-less, binder-node, entry-below, entry-scaled}
-use Rattle.evaluators.proofs.QuantLaws.{differ, agree, Turning, turning-start, member-low, member-stands, body-ready, member-refused, member-decides, turning-on, members-done}
+use Rattle.evaluators.proofs.+each_chosen+each_member+eval_bare+eval_bool+eval_expr+eval_join+eval_one+eval_pred+eval_quant+eval_select+eval_test+eval_two+eval_value+operand.Proof.Base.{each-member, eval-pred, ℕ, _∙_, arith, lit<, In, Out, one-less, binder-node, entry-below, entry-scaled, member-low}
+use Rattle.evaluators.proofs.QuantLaws.{differ, agree, Turning, turning-start, member-stands, member-asks, member-refused, member-decides, turning-on, members-done}
 
 abbrev Inv : lts.InvT-loop
 Inv table env s₀ top all node from count left x body inner₀ at₀ more₀ n₀ s inner at more n =
@@ -38,13 +32,6 @@ module _ (t : ℕ) where
   abbrev ran : Here lts.After-slice-known2 → Here lts.After-eval-pred
   ran c = c .before .before
 
-  eval-pred-requires : Here lts.Need-eval-pred-requires
-  eval-pred-requires c κs =
-      let w = c .before .before in let g = words (w .before) in let v = lent (g .before) in (
-        omega (arith, v .pre .0, v .pre .1 .deeper, g .node-field2 .ensures),
-        body-ready (v .pre .1) (w .before .loop .inv) (w .loop-test .taken) (g .before .node-field .ensures) (g .node-field2 .ensures),
-      )
-
   returns : Here lts.Need-returns
   returns c =
       let p = ran (c .before .before) in let w = turn p in let g = words (w .before) in
@@ -59,8 +46,9 @@ module _ (t : ℕ) where
 
   end-of-requires : Here lts.Need-end-of-requires
   end-of-requires c κs =
-      let h = c .before .before .before in let p = ran (h .before .before) in let w = turn p in let v = lent (words (w .before) .before) in
-      member-stands (v .pre .1) (w .before .loop .inv) (w .loop-test .taken) _ (p .eval-pred .ensures .frame)
+      let h = c .before .before .before in let p = ran (h .before .before) in let w = turn p in let g = words (w .before) in
+      member-stands (lent (g .before) .pre .1) (w .before .loop .inv) (w .loop-test .taken) (g .before .node-field .ensures)
+      (g .node-field2 .ensures) (p .eval-pred .ensures)
 
   loop-again : Here lts.Need-loop-again
   loop-again c =
@@ -74,18 +62,19 @@ module _ (t : ℕ) where
       (λ c κs. (binder-node (c .before .before .pre .1), lit< tt))
       (λ c κs. (binder-node (lent c .pre .1), lit< tt))
       (λ c. turning-start _ _ (lent (c .before .before) .pre .1))
-      (λ c. let l = c .before in record { fits = member-low (lent (words l .before) .pre .1) (l .loop .inv) (c .loop-test .taken) })
+      (λ c. let l = c .before in record { fits = omega (arith, member-low (lent (words l .before) .pre .1) (l .loop .inv .loop) (c .loop-test .taken)) })
       (λ c. let f = words (c .before) .before in entry-scaled (f .node-field .ensures) (lent f .pre .1 .name))
       (λ c. let f = words (c .before) .before in entry-below (f .node-field .ensures) (lent f .pre .1 .name))
-      eval-pred-requires
+      (λ c κs. let w = c .before .before in let g = words (w .before) in let v = lent (g .before) in
+      member-asks (v .pre .1) (w .before .loop .inv) (w .loop-test .taken) (g .before .node-field .ensures) (g .node-field2 .ensures) (v .pre .0))
       (λ c. c .match .keys1) (λ c. c .match .keys2)
-      (λ c. let p = ran (c .before .before) in p .eval-pred .kept .1 .1 .0 ∙ turn p .before .loop .inv .frame .kept)
+      (λ c. let p = ran (c .before .before) in p .eval-pred .kept .1 .1 .0 ∙ turn p .before .loop .inv .loop .frame .kept)
       returns
-      (λ c. let h = c .before .before in let p = ran (h .before .before) in p .eval-pred .kept .1 .1 .0 ∙ turn p .before .loop .inv .frame .kept)
+      (λ c. let h = c .before .before in let p = ran (h .before .before) in p .eval-pred .kept .1 .1 .0 ∙ turn p .before .loop .inv .loop .frame .kept)
       returns-2
       end-of-requires
       (λ c. let i = c .before .before in let h = i .before .before in turn (ran (h .before .before)) .loop-test .taken)
       (λ c. let i = c .before .before in let h = i .before .before in one-less (turn (ran (h .before .before)) .loop-test .taken))
       loop-again
-      (λ c. c .before .loop .inv .frame .kept)
+      (λ c. c .before .loop .inv .loop .frame .kept)
       (λ c. members-done (c .before .loop .inv) (omega (arith, c .loop-test .left)))

@@ -1,17 +1,12 @@
 -- `eval_bool`: the condition, and then the cell of its truth. Landmarks: what was lent, the word of the field, and the answer for the
 -- condition.
-use Prim.Native.Nat.{ℕ}
-use mathlib.Core.Path.{refl, _∙_}
-use native.Mathlib.Omega.{arith}
-use lib.Dec.{lit<}
 use Rattle.evaluators.proofs.+each_chosen+each_member+eval_bare+eval_bool+eval_expr+eval_join+eval_one+eval_pred+eval_quant+eval_select+eval_test+eval_two+eval_value+operand.Lts-eval_bool as lts
 use Rattle.table.proofs.node_field.Reads as field
 use Rattle.products.proofs.put_cell.Reads as put-cell
 use Rattle.evaluators.proofs.stop_of.Reads as stop-of
-use Rattle.evaluators.proofs.+each_chosen+each_member+eval_bare+eval_bool+eval_expr+eval_join+eval_one+eval_pred+eval_quant+eval_select+eval_test+eval_two+eval_value+operand.Proof.Base.{Over, eval-bool, eval-pred}
-use Rattle.evaluators.proofs.SafeLaws.{ready-node, cell-room}
-use Rattle.evaluators.proofs.NodeLaws.{held-as, formed-as, stop-is}
-use Rattle.evaluators.proofs.FormLaws.{byte-small, bool-child, bool-builds, bool-begins, bool-fails, bool-evaluates}
+use Rattle.evaluators.proofs.+each_chosen+each_member+eval_bare+eval_bool+eval_expr+eval_join+eval_one+eval_pred+eval_quant+eval_select+eval_test+eval_two+eval_value+operand.Proof.Base.{Over, eval-bool, eval-pred, ℕ, refl, _∙_, arith, lit<, ready-node, child-asks, held-as, formed-as, stop-is}
+use Rattle.evaluators.proofs.SafeLaws.{cell-room}
+use Rattle.evaluators.proofs.FormLaws.{byte-small, bool-child, bool-builds, bool-fails, bool-evaluates}
 
 module _ (t : ℕ) where
   abbrev claims : lts.Claims
@@ -29,37 +24,20 @@ module _ (t : ℕ) where
   abbrev ran : Here lts.After-slice-known2 → Here lts.After-eval-pred
   ran c = c .before .before
 
-  eval-pred-requires : Here lts.Need-eval-pred-requires
-  eval-pred-requires c κs =
-      let f = c .before in let v = lent f in
-      (omega (arith, v .pre .0, bool-child (v .pre .1) (f .node-field .ensures) .below), bool-begins (v .pre .1) (f .node-field .ensures))
-
-  returns : Here lts.Need-returns
-  returns c =
-      let k = c .before in let e = ran (k .before .before) in let f = word e in let q = k .enum-told .given .1 in
-      formed-as refl (stop-is q (c .stop-of .ensures)) (bool-fails (lent f .pre .1) (f .node-field .ensures) (held-as refl q (e .eval-pred .ensures)))
-
-  put-cell-requires : Here lts.Need-put-cell-requires
-  put-cell-requires c κs =
-      let m = c .before .before in let e = ran (m .before .before) in let f = word e in
-      omega (arith, cell-room (lent f .pre .1 .ready) (bool-builds (lent f .pre .1) (f .node-field .ensures)) (e .eval-pred .ensures .frame))
-
-  returns-2 : Here lts.Need-returns-2
-  returns-2 c =
-      let p = c .before .before in let m = p .before .before .before in let e = ran (m .before .before) in let f = word e in
-      bool-evaluates (lent f .pre .1) (f .node-field .ensures) (held-as refl (m .held .given .1) (e .eval-pred .ensures)) (p .put-cell .ensures)
-
   pub closed : {M : Type 1} → lts.Closed claims (eval-bool .at t) (eval-bool .post) M
   closed =
       lts.spec claims (eval-bool .at t) (eval-bool .post)
       (λ c κs. (ready-node (c .before .before .pre .1 .ready), lit< tt))
       (λ c. lent (c .before) .pre .1 .unspent)
-      eval-pred-requires
+      (λ c κs. let f = c .before in let p = lent f .pre in child-asks 3 (omega arith) (p .0) (p .1 .ready) (bool-child (p .1) (f .node-field .ensures)))
       (λ c. c .match .keys1) (λ c. c .match .keys2) (λ c κs. tt)
       (λ c. let k = c .before in ran (k .before .before) .eval-pred .kept .1 .1 .0)
-      returns
+      (λ c. let k = c .before in let e = ran (k .before .before) in let f = word e in let q = k .enum-told .given .1 in
+      formed-as refl (stop-is q (c .stop-of .ensures)) (bool-fails (lent f .pre .1) (f .node-field .ensures) (held-as refl q (e .eval-pred .ensures))))
       (λ c. tt)
       (λ c. omega (arith, byte-small (c .before .before .held .given .0 .0)))
-      put-cell-requires
+      (λ c κs. let m = c .before .before in let e = ran (m .before .before) in let f = word e in
+      omega (arith, cell-room (lent f .pre .1 .ready) (bool-builds (lent f .pre .1) (f .node-field .ensures)) (e .eval-pred .ensures .frame)))
       (λ c. let p = c .before .before in let m = p .before .before .before in p .put-cell .kept .0 ∙ ran (m .before .before) .eval-pred .kept .1 .1 .0)
-      returns-2
+      (λ c. let p = c .before .before in let m = p .before .before .before in let e = ran (m .before .before) in let f = word e in
+      bool-evaluates (lent f .pre .1) (f .node-field .ensures) (held-as refl (m .held .given .1) (e .eval-pred .ensures)) (p .put-cell .ensures))

@@ -1,18 +1,11 @@
 -- `eval_join`: the first operand, and where it does not decide the second. Landmarks: what was lent, the words of the fields, the answers
 -- for the operands, and whether the first decides.
-use Prim.Native.Nat.{ℕ}
-use native.Mathlib.Omega.{arith}
-use mathlib.Core.Path.{_∙_, refl}
-use lib.Dec.{lit<}
-use Rattle.rules.specs.Kinds.{join, predicate}
 use Rattle.evaluators.proofs.+each_chosen+each_member+eval_bare+eval_bool+eval_expr+eval_join+eval_one+eval_pred+eval_quant+eval_select+eval_test+eval_two+eval_value+operand.Lts-eval_join as lts
 use Rattle.evaluators.proofs.decides.Reads as decides
 use Rattle.evaluators.proofs.joined.Reads as joined
 use Rattle.table.proofs.node_field.Reads as field
-use Rattle.evaluators.proofs.+each_chosen+each_member+eval_bare+eval_bool+eval_expr+eval_join+eval_one+eval_pred+eval_quant+eval_select+eval_test+eval_two+eval_value+operand.Proof.Base.{Over, eval-join, eval-pred}
-use Rattle.evaluators.proofs.SafeLaws.{ready-node}
-use Rattle.evaluators.proofs.NodeLaws.{visited-child}
-use Rattle.evaluators.proofs.JoinLaws.{join-child, join-begins, join-stays, join-short, join-ready, join-stays-2, join-both}
+use Rattle.evaluators.proofs.+each_chosen+each_member+eval_bare+eval_bool+eval_expr+eval_join+eval_one+eval_pred+eval_quant+eval_select+eval_test+eval_two+eval_value+operand.Proof.Base.{Over, eval-join, eval-pred, ℕ, arith, _∙_, lit<, ready-node, child-asks}
+use Rattle.evaluators.proofs.JoinLaws.{join-child, join-stays, join-short, join-asks, join-stays-2, join-both}
 
 module _ (t : ℕ) where
   abbrev claims : lts.Claims
@@ -45,43 +38,23 @@ module _ (t : ℕ) where
   abbrev ran₂ : Here lts.After-slice-known3 → Here lts.After-eval-pred2
   ran₂ c = c .before .before
 
-  eval-pred-requires : Here lts.Need-eval-pred-requires
-  eval-pred-requires c κs =
-      let f = c .before in let p = lent f .pre .1 in
-      let d = join-child (p .0) (p .1 .0) (p .1 .1) (f .node-field .ensures) in
-      (omega (arith, lent f .pre .0, d .below), join-begins (p .0) (p .1 .0) (p .1 .1) (f .node-field .ensures))
-
-  returns : Here lts.Need-returns
-  returns c =
-      let e = ran (c .before .before) in let p = lent (word e) .pre .1 in
-      join-stays (p .0) (p .1 .0) (p .1 .1) (word e .node-field .ensures) (e .eval-pred .ensures) (c .enum-told .given .1)
-
-  returns-2 : Here lts.Need-returns-2
-  returns-2 c =
-      let k = c .before in let e = first k in let p = lent (word e) .pre .1 in
-      join-short (p .0) (p .1 .0) (p .1 .1) (word e .node-field .ensures) (e .eval-pred .ensures) (held k .first .given .1) (k .decides .ensures)
-      (c .if1 .taken)
-
   eval-pred-requires-2 : Here lts.Need-eval-pred-requires-2
   eval-pred-requires-2 c κs =
-      let g = c .before in let k = decided g in let e = first k in let v = lent (word e) in let p = v .pre .1 in
-      let d = visited-child (p .0) (join (p .1 .0)) (p .1 .1) predicate 1 _ (omega arith) (omega arith) refl (g .node-field2 .ensures) in (
-        omega (arith, v .pre .0, d .below),
-        join-ready (p .0) (p .1 .0) (p .1 .1) (word e .node-field .ensures) (e .eval-pred .ensures) (held k .first .given .1) (k .decides .ensures)
-            (g .before .if1 .left) (g .node-field2 .ensures),
-      )
+      let g = c .before in let k = decided g in let e = first k in let v = lent (word e) in
+      join-asks (v .pre .1) (word e .node-field .ensures) (e .eval-pred .ensures) (held k .first .given .1) (k .decides .ensures)
+      (g .before .if1 .left) (g .node-field2 .ensures) (v .pre .0)
 
   returns-3 : Here lts.Need-returns-3
   returns-3 c =
       let s = ran₂ (c .before .before) in let g = word₂ s in let k = decided g in let e = first k in let p = lent (word e) .pre .1 in
-      join-stays-2 (p .0) (p .1 .0) (p .1 .1) (word e .node-field .ensures) (e .eval-pred .ensures) (held k .first .given .1) (k .decides .ensures)
+      join-stays-2 p (word e .node-field .ensures) (e .eval-pred .ensures) (held k .first .given .1) (k .decides .ensures)
       (g .before .if1 .left) (g .node-field2 .ensures) (s .eval-pred2 .ensures) (c .enum-told2 .given .1)
 
   returns-4 : Here lts.Need-returns-4
   returns-4 c =
       let w = c .before .before in let s = ran₂ (w .before .before) in let g = word₂ s in let k = decided g in let e = first k in
       let p = lent (word e) .pre .1 in
-      join-both (p .0) (p .1 .0) (p .1 .1) (word e .node-field .ensures) (e .eval-pred .ensures) (held k .first .given .1) (k .decides .ensures)
+      join-both p (word e .node-field .ensures) (e .eval-pred .ensures) (held k .first .given .1) (k .decides .ensures)
       (g .before .if1 .left) (g .node-field2 .ensures) (s .eval-pred2 .ensures) (w .second .given .1) (c .joined .ensures)
 
   pub closed : {M : Type 1} → lts.Closed claims (eval-join .at t) (eval-join .post) M
@@ -89,13 +62,16 @@ module _ (t : ℕ) where
       lts.spec claims (eval-join .at t) (eval-join .post)
       (λ c κs. (ready-node (c .before .before .pre .1 .0 .ready), lit< tt))
       (λ c. lent (c .before) .pre .1 .0 .unspent)
-      eval-pred-requires
+      (λ c κs. let f = c .before in let p = lent f .pre in
+      child-asks 3 (omega arith) (p .0) (p .1 .0 .ready) (join-child (p .1) (f .node-field .ensures)))
       (λ c. c .match .keys1) (λ c. c .match .keys2)
       (λ c. ran (c .before .before) .eval-pred .kept .1 .1 .0)
-      returns
+      (λ c. let e = ran (c .before .before) in let p = lent (word e) .pre .1 in
+      join-stays p (word e .node-field .ensures) (e .eval-pred .ensures) (c .enum-told .given .1))
       (λ c κs. tt)
       (λ c. first (c .before) .eval-pred .kept .1 .1 .0)
-      returns-2
+      (λ c. let k = c .before in let e = first k in let p = lent (word e) .pre .1 in
+      join-short p (word e .node-field .ensures) (e .eval-pred .ensures) (held k .first .given .1) (k .decides .ensures) (c .if1 .taken))
       (λ c κs. (ready-node (lent (word (first (c .before))) .pre .1 .0 .ready), lit< tt))
       eval-pred-requires-2
       (λ c. c .match2 .keys1) (λ c. c .match2 .keys2)

@@ -1,17 +1,11 @@
 -- `eval_one`: the operand, the operation, and what it gives settled. Landmarks: what was lent, the word of the field, the answer for the
 -- operand, and the operation.
-use Prim.Native.Nat.{ℕ}
-use mathlib.Core.Path.{refl, sym, _∙_}
-use native.Mathlib.Omega.{arith}
-use lib.Dec.{lit<}
 use Rattle.evaluators.proofs.+each_chosen+each_member+eval_bare+eval_bool+eval_expr+eval_join+eval_one+eval_pred+eval_quant+eval_select+eval_test+eval_two+eval_value+operand.Lts-eval_one as lts
 use Rattle.table.proofs.node_field.Reads as field
 use Rattle.operations.proofs.one.Reads as one
 use Rattle.evaluators.proofs.settle.Reads as settle
-use Rattle.evaluators.proofs.+each_chosen+each_member+eval_bare+eval_bool+eval_expr+eval_join+eval_one+eval_pred+eval_quant+eval_select+eval_test+eval_two+eval_value+operand.Proof.Base.{Over, eval-one, operand}
-use Rattle.evaluators.proofs.SafeLaws.{ready-node}
-use Rattle.evaluators.proofs.NodeLaws.{formed-as}
-use Rattle.evaluators.proofs.FormLaws.{one-child, one-begins, one-fails, one-ready, one-settles, one-evaluates}
+use Rattle.evaluators.proofs.+each_chosen+each_member+eval_bare+eval_bool+eval_expr+eval_join+eval_one+eval_pred+eval_quant+eval_select+eval_test+eval_two+eval_value+operand.Proof.Base.{Over, eval-one, operand, ℕ, refl, sym, _∙_, arith, lit<, ready-node, child-asks, formed-as}
+use Rattle.evaluators.proofs.FormLaws.{one-child, one-fails, one-ready, one-settles, one-evaluates}
 
 module _ (t : ℕ) where
   abbrev claims : lts.Claims
@@ -35,31 +29,10 @@ module _ (t : ℕ) where
   abbrev settled : Here lts.After-settle → Here lts.After-one
   settled c = let s = c .before .before in s .before .before
 
-  operand-requires : Here lts.Need-operand-requires
-  operand-requires c κs =
-      let f = c .before in let p = lent f .pre .1 in
-      let d = one-child (p .0) (p .1 .0) (p .1 .1) (f .node-field .ensures) in
-      (omega (arith, lent f .pre .0, d .below), one-begins (p .0) (p .1 .0) (p .1 .1) (f .node-field .ensures))
-
-  returns : Here lts.Need-returns
-  returns c =
-      let e = ran (c .before .before) in let p = lent (word e) .pre .1 in let q = c .enum-told .given .1 in
-      formed-as refl (sym q) (one-fails (p .0) (p .1 .0) (p .1 .1) (word e .node-field .ensures) (formed-as refl q (e .operand .ensures)))
-
-  one-requires : Here lts.Need-one-requires
-  one-requires c κs =
-      let m = c .before .before in let e = ran (m .before .before) in let p = lent (word e) .pre .1 in
-      one-ready (p .0) (p .1 .0) (p .1 .1) (word e .node-field .ensures) (formed-as refl (m .first .given .1) (e .operand .ensures))
-
-  settle-requires : Here lts.Need-settle-requires
-  settle-requires c κs =
-      let q = c .before .before .before in let m = done q in let e = ran (m .before .before) in let p = lent (word e) .pre .1 in
-      one-settles (p .0) (p .1 .0) (p .1 .1) (word e .node-field .ensures) (formed-as refl (m .first .given .1) (e .operand .ensures)) (q .one .ensures)
-
   returns-2 : Here lts.Need-returns-2
   returns-2 c =
       let q = settled (c .before .before) in let m = done q in let e = ran (m .before .before) in let p = lent (word e) .pre .1 in
-      one-evaluates (p .0) (p .1 .0) (p .1 .1) (word e .node-field .ensures) (formed-as refl (m .first .given .1) (e .operand .ensures))
+      one-evaluates p (word e .node-field .ensures) (formed-as refl (m .first .given .1) (e .operand .ensures))
       (q .one .ensures) (c .before .before .settle .ensures)
 
   pub closed : {M : Type 1} → lts.Closed claims (eval-one .at t) (eval-one .post) M
@@ -67,11 +40,14 @@ module _ (t : ℕ) where
       lts.spec claims (eval-one .at t) (eval-one .post)
       (λ c κs. (ready-node (c .before .before .pre .1 .0 .ready), lit< tt))
       (λ c. lent (c .before) .pre .1 .0 .unspent)
-      operand-requires
+      (λ c κs. let f = c .before in let p = lent f .pre in child-asks 4 (omega arith) (p .0) (p .1 .0 .ready) (one-child (p .1) (f .node-field .ensures)))
       (λ c. c .match .keys1) (λ c. c .match .keys2)
       (λ c. ran (c .before .before) .operand .kept .1 .1 .0)
-      returns
-      one-requires
-      settle-requires
+      (λ c. let e = ran (c .before .before) in let p = lent (word e) .pre .1 in let q = c .enum-told .given .1 in
+      formed-as refl (sym q) (one-fails p (word e .node-field .ensures) (formed-as refl q (e .operand .ensures))))
+      (λ c κs. let m = c .before .before in let e = ran (m .before .before) in let p = lent (word e) .pre .1 in
+      one-ready p (word e .node-field .ensures) (formed-as refl (m .first .given .1) (e .operand .ensures)))
+      (λ c κs. let q = c .before .before .before in let m = done q in let e = ran (m .before .before) in let p = lent (word e) .pre .1 in
+      one-settles p (word e .node-field .ensures) (formed-as refl (m .first .given .1) (e .operand .ensures)) (q .one .ensures))
       (λ c. let p = c .before .before in let q = settled p in p .settle .kept .0 ∙ q .one .kept .0 ∙ ran (done q .before .before) .operand .kept .1 .1 .0)
       returns-2

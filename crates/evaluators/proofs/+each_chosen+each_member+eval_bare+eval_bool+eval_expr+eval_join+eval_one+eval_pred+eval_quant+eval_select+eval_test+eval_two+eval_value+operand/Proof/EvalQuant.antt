@@ -1,19 +1,12 @@
 -- `eval_quant`: the range, and then the body at each of its members. Landmarks: what was lent, the word of the field, the answer for the
 -- range, and its members.
-use Prim.Native.Nat.{ℕ}
-use mathlib.Core.Path.{refl, sym, _∙_}
-use native.Mathlib.Omega.{arith}
-use lib.Dec.{lit<}
 use Rattle.evaluators.proofs.+each_chosen+each_member+eval_bare+eval_bool+eval_expr+eval_join+eval_one+eval_pred+eval_quant+eval_select+eval_test+eval_two+eval_value+operand.Lts-eval_quant as lts
 use Rattle.table.proofs.node_field.Reads as field
 use Rattle.evaluators.proofs.range_of.Reads as range
 use Rattle.evaluators.proofs.refusal_of.Reads as refusal
 use Rattle.evaluators.proofs.refused.Reads as refused
-use Rattle.evaluators.proofs.+each_chosen+each_member+eval_bare+eval_bool+eval_expr+eval_join+eval_one+eval_pred+eval_quant+eval_select+eval_test+eval_two+eval_value+operand.Proof.Base.{Over, each-member, eval-quant, operand}
-use Rattle.evaluators.proofs.SafeLaws.{ready-node}
-use Rattle.evaluators.proofs.NodeLaws.{held-as, refusal-is}
-use Rattle.evaluators.proofs.RangeLaws.{range-as}
-use Rattle.evaluators.proofs.QuantLaws.{quant-child, quant-range, range-refused, range-good, range-low, range-unlike, quant-ready, quant-done}
+use Rattle.evaluators.proofs.+each_chosen+each_member+eval_bare+eval_bool+eval_expr+eval_join+eval_one+eval_pred+eval_quant+eval_select+eval_test+eval_two+eval_value+operand.Proof.Base.{Over, each-member, eval-quant, operand, ℕ, refl, sym, _∙_, arith, lit<, ready-node, child-asks, held-as, formed-as, refusal-is, range-as, range-child, range-good, range-low}
+use Rattle.evaluators.proofs.QuantLaws.{quant-binder, quant-refused, quant-unlike, quant-asks, quant-done}
 
 module _ (t : ℕ) where
   abbrev claims : lts.Claims
@@ -53,45 +46,28 @@ module _ (t : ℕ) where
   abbrev counted : Here lts.After-each-member → Here lts.After-range
   counted c = c .before .before .before
 
-  operand-requires : Here lts.Need-operand-requires
-  operand-requires c κs =
-      let f = c .before in let v = lent f in let p = v .pre .1 in
-      (omega (arith, v .pre .0, quant-child (p .0) (p .1) (f .node-field .ensures) .below), quant-range (p .0) (p .1) (f .node-field .ensures))
-
   returns : Here lts.Need-returns
   returns c =
-      let k = c .before in let e = ran (k .before .before) in let p = lent (word e) .pre .1 in
+      let k = c .before in let e = ran (k .before .before) in let f = word e in
       held-as refl (refusal-is (k .enum-told .given .1) (c .refusal-of .ensures))
-      (range-refused (p .0) (p .1) (word e .node-field .ensures) (e .operand .ensures) (k .enum-told .given .1))
-
-  range-of-requires : Here lts.Need-range-of-requires
-  range-of-requires c κs =
-      let m = c .before .before in let e = ran (m .before .before) in let p = lent (word e) .pre .1 in
-      range-good (p .0) (p .1) (word e .node-field .ensures) (e .operand .ensures) (m .first .given .1)
+      (quant-refused (lent f .pre .1) (f .node-field .ensures) (e .operand .ensures) (k .enum-told .given .1))
 
   returns-2 : Here lts.Need-returns-2
   returns-2 c =
-      let k = c .before in let o = k .before .before in let e = first o in let p = lent (word e) .pre .1 in
-      held-as refl (sym (c .refused .ensures)) (range-unlike (p .0) (p .1) (word e .node-field .ensures) (e .operand .ensures) (asked o .first .given .1)
-      (range-as (k .enum-told2 .given .1) (o .range-of .ensures)))
-
-  add-each-member : Here lts.Need-add-each-member
-  add-each-member c =
-      let a = c .before .before in let o = a .before .before in let e = first o in let p = lent (word e) .pre .1 in
-      record { fits = omega (arith, range-low (p .0) (p .1) (word e .node-field .ensures) (e .operand .ensures) (asked o .first .given .1)) }
+      let k = c .before in let o = k .before .before in let e = first o in let f = word e in
+      held-as refl (sym (c .refused .ensures)) (quant-unlike (lent f .pre .1) (f .node-field .ensures)
+      (formed-as refl (asked o .first .given .1) (e .operand .ensures)) (range-as (k .enum-told2 .given .1) (o .range-of .ensures)))
 
   each-member-requires : Here lts.Need-each-member-requires
   each-member-requires c κs =
-      let a = c .before .before in let o = a .before .before in let e = first o in let v = lent (word e) in let p = v .pre .1 in (
-        omega (arith, v .pre .0),
-        quant-ready (p .0) (p .1) (word e .node-field .ensures) (e .operand .ensures) (asked o .first .given .1)
-            (range-as (a .range .given .1) (o .range-of .ensures)),
-      )
+      let a = c .before .before in let o = a .before .before in let e = first o in let v = lent (word e) in
+      quant-asks (v .pre .1) (word e .node-field .ensures) (formed-as refl (asked o .first .given .1) (e .operand .ensures))
+      (range-as (a .range .given .1) (o .range-of .ensures)) (v .pre .0)
 
   returns-3 : Here lts.Need-returns-3
   returns-3 c =
-      let i = c .before .before in let a = counted i in let o = a .before .before in let e = first o in let p = lent (word e) .pre .1 in
-      quant-done (p .0) (p .1) (word e .node-field .ensures) (e .operand .ensures) (asked o .first .given .1)
+      let i = c .before .before in let a = counted i in let o = a .before .before in let e = first o in let f = word e in
+      quant-done (lent f .pre .1) (f .node-field .ensures) (formed-as refl (asked o .first .given .1) (e .operand .ensures))
       (range-as (a .range .given .1) (o .range-of .ensures)) (i .each-member .ensures)
 
   pub closed : {M : Type 1} → lts.Closed claims (eval-quant .at t) (eval-quant .post) M
@@ -99,15 +75,18 @@ module _ (t : ℕ) where
       lts.spec claims (eval-quant .at t) (eval-quant .post)
       (λ c κs. (ready-node (c .before .before .pre .1 .0 .ready), lit< tt))
       (λ c. lent (c .before) .pre .1 .0 .unspent)
-      operand-requires
+      (λ c κs. let f = c .before in let p = lent f .pre in
+      child-asks 4 (omega arith) (p .0) (p .1 .0 .ready) (range-child (quant-binder (p .1) (f .node-field .ensures))))
       (λ c. c .match .keys1) (λ c. c .match .keys2) (λ c κs. tt)
       (λ c. let k = c .before in ran (k .before .before) .operand .kept .1 .1 .0)
       returns
-      range-of-requires
+      (λ c κs. let m = c .before .before in let e = ran (m .before .before) in let f = word e in
+      range-good (quant-binder (lent f .pre .1) (f .node-field .ensures)) (formed-as refl (m .first .given .1) (e .operand .ensures)))
       (λ c. c .match2 .keys1) (λ c. c .match2 .keys2) (λ c κs. tt)
       (λ c. first (c .before .before .before) .operand .kept .1 .1 .0)
       returns-2
-      add-each-member
+      (λ c. let a = c .before .before in let o = a .before .before in let e = first o in let f = word e in
+      omega (arith, range-low (quant-binder (lent f .pre .1) (f .node-field .ensures)) (formed-as refl (asked o .first .given .1) (e .operand .ensures))))
       each-member-requires
       (λ c. let i = c .before .before in i .each-member .kept .1 .1 .0 ∙ first (counted i .before .before) .operand .kept .1 .1 .0)
       returns-3

@@ -1,17 +1,13 @@
 -- `eval_test`: the operands one after the other, and then the test of their values; a refusal of an operand goes on. Landmarks: what was
 -- lent, the words of the fields, the answers for the operands, and the test.
-use Prim.Native.Nat.{ℕ, _-_}
-use mathlib.Core.Path.{refl, sym, _∙_}
-use lib.Dec.{lit<}
-use denote.Ref.{now}
+use Prim.Native.Nat.{_-_}
 use Rattle.evaluators.proofs.+each_chosen+each_member+eval_bare+eval_bool+eval_expr+eval_join+eval_one+eval_pred+eval_quant+eval_select+eval_test+eval_two+eval_value+operand.Lts-eval_test as lts
 use Rattle.table.proofs.node_field.Reads as field
 use Rattle.evaluators.proofs.refusal_of.Reads as refusal
 use Rattle.evaluators.proofs.refused.Reads as refused
 use Rattle.operations.proofs.test.Reads as test
-use Rattle.evaluators.proofs.+each_chosen+each_member+eval_bare+eval_bool+eval_expr+eval_join+eval_one+eval_pred+eval_quant+eval_select+eval_test+eval_two+eval_value+operand.Proof.Base.{Over, eval-test, operand}
-use Rattle.evaluators.proofs.SafeLaws.{ready-node}
-use Rattle.evaluators.proofs.NodeLaws.{TwoFields, held-as, refusal-is}
+use Rattle.evaluators.proofs.+each_chosen+each_member+eval_bare+eval_bool+eval_expr+eval_join+eval_one+eval_pred+eval_quant+eval_select+eval_test+eval_two+eval_value+operand.Proof.Base.{Over, eval-test, operand, ℕ, refl, sym, _∙_, lit<, now, ready-node, held-as, refusal-is}
+use Rattle.evaluators.proofs.NodeLaws.{TwoFields}
 use Rattle.evaluators.proofs.BothLaws.{EvaluatesBoth, left-asks, right-asks, both-stops, both-stops-2, both-formed, operands-ready, test-fields, test-stops, test-unlike, test-truth}
 
 module _ (t : ℕ) where
@@ -46,23 +42,18 @@ module _ (t : ℕ) where
   tried c = c .before .before .before
 
   fields : (v : Here lts.Start) → TwoFields (now (v .args .table)) (v .args .node)
-  fields v = test-fields (v .pre .1 .0) (v .pre .1 .1 .0) (v .pre .1 .1 .1)
+  fields v = test-fields (v .pre .1)
 
   returns : Here lts.Need-returns
   returns c =
       let k = c .before in let e = ran (k .before .before) in let v = lent (word e) in
-      held-as refl (refusal-is (k .enum-told .given .1) (c .refusal-of .ensures)) (test-stops (v .pre .1 .0) (v .pre .1 .1 .0) (v .pre .1 .1 .1)
+      held-as refl (refusal-is (k .enum-told .given .1) (c .refusal-of .ensures)) (test-stops (v .pre .1)
       (both-stops (v .pre .1 .0 .ready) (fields v) (word e .node-field .ensures) (e .operand .ensures) (k .enum-told .given .1)))
-
-  operand-requires-2 : Here lts.Need-operand-requires-2
-  operand-requires-2 c κs =
-      let g = c .before in let m = placed g in let e = ran (m .before .before) in let v = lent (word e) in
-      right-asks (v .pre .0) (v .pre .1 .0) (fields v) (word e .node-field .ensures) (e .operand .ensures) (m .first .given .1) (g .node-field2 .ensures)
 
   returns-2 : Here lts.Need-returns-2
   returns-2 c =
       let k = c .before in let s = ran₂ (k .before .before) in let e = first s in let v = lent (word e) in let g = s .before .before in
-      held-as refl (refusal-is (k .enum-told2 .given .1) (c .refusal-of2 .ensures)) (test-stops (v .pre .1 .0) (v .pre .1 .1 .0) (v .pre .1 .1 .1)
+      held-as refl (refusal-is (k .enum-told2 .given .1) (c .refusal-of2 .ensures)) (test-stops (v .pre .1)
       (both-stops-2 (v .pre .1 .0 .ready) (fields v) (word e .node-field .ensures) (e .operand .ensures) (placed g .first .given .1)
       (g .node-field2 .ensures) (s .operand2 .ensures) (k .enum-told2 .given .1)))
 
@@ -77,16 +68,6 @@ module _ (t : ℕ) where
       both-formed (v .pre .1 .0 .ready) (fields v) (word e .node-field .ensures) (e .operand .ensures) (placed g .first .given .1)
       (g .node-field2 .ensures) (s .operand2 .ensures) (w .second .given .1)
 
-  returns-3 : Here lts.Need-returns-3
-  returns-3 c =
-      let k = c .before in let q = k .before .before in let w = tried q in let p = begun w .pre .1 in
-      held-as refl (sym (c .refused .ensures)) (test-unlike (p .0) (p .1 .0) (p .1 .1) (formed w) (q .test .ensures) (k .enum-told3 .given .1))
-
-  returns-4 : Here lts.Need-returns-4
-  returns-4 c =
-      let q = c .before .before .before in let w = tried q in let p = begun w .pre .1 in
-      test-truth (p .0) (p .1 .0) (p .1 .1) (formed w) (q .test .ensures) (c .before .tested .given .1)
-
   pub closed : {M : Type 1} → lts.Closed claims (eval-test .at t) (eval-test .post) M
   closed =
       lts.spec claims (eval-test .at t) (eval-test .post)
@@ -97,13 +78,16 @@ module _ (t : ℕ) where
       (λ c. let k = c .before in ran (k .before .before) .operand .kept .1 .1 .0)
       returns
       (λ c κs. let m = c .before in (ready-node (lent (word (ran (m .before .before))) .pre .1 .0 .ready), lit< tt))
-      operand-requires-2
+      (λ c κs. let g = c .before in let m = placed g in let e = ran (m .before .before) in let v = lent (word e) in
+      right-asks (v .pre .0) (v .pre .1 .0) (fields v) (word e .node-field .ensures) (e .operand .ensures) (m .first .given .1) (g .node-field2 .ensures))
       (λ c. c .match2 .keys1) (λ c. c .match2 .keys2) (λ c κs. tt)
       (λ c. let k = c .before in let s = ran₂ (k .before .before) in s .operand2 .kept .1 .1 .0 ∙ first s .operand .kept .1 .1 .0)
       returns-2
       (λ c κs. let w = c .before .before in operands-ready (begun w .pre .1 .0 .ready) (formed w))
       (λ c. c .match3 .keys1) (λ c. c .match3 .keys2) (λ c κs. tt)
       (λ c. let w = tried (c .before .before .before) in let s = ran₂ (w .before .before) in s .operand2 .kept .1 .1 .0 ∙ first s .operand .kept .1 .1 .0)
-      returns-3
+      (λ c. let k = c .before in let q = k .before .before in let w = tried q in let p = begun w .pre .1 in
+      held-as refl (sym (c .refused .ensures)) (test-unlike p (formed w) (q .test .ensures) (k .enum-told3 .given .1)))
       (λ c. let w = tried (c .before .before .before) in let s = ran₂ (w .before .before) in s .operand2 .kept .1 .1 .0 ∙ first s .operand .kept .1 .1 .0)
-      returns-4
+      (λ c. let q = c .before .before .before in let w = tried q in let p = begun w .pre .1 in
+      test-truth p (formed w) (q .test .ensures) (c .before .tested .given .1))

@@ -1,12 +1,6 @@
 -- `eval_value`: no visit is left; or the operands stand already and nothing is built; or each arm asks what its evaluator asks of the node, by the
 -- code that the arm tells; the last arm is met by no expression. In `m = .. .match .rest`, `m .1` is that the code is neither 20 nor 26, `m .0 .1`
 -- neither 21 nor 42, and so on back to 25.
-use Prim.Native.Nat.{ℕ}
-use mathlib.Core.Path.{refl, sym}
-use mathlib.Core.Logic.{⊎-elim, inl, inr}
-use native.Mathlib.Omega.{arith}
-use denote.Ref.{now}
-use Rattle.evaluators.specs.Cycle.{Visited, StandingTwo}
 use Rattle.evaluators.proofs.+each_chosen+each_member+eval_bare+eval_bool+eval_expr+eval_join+eval_one+eval_pred+eval_quant+eval_select+eval_test+eval_two+eval_value+operand.Lts-eval_value as lts
 use Rattle.evaluators.proofs.eval_leaf.Reads as eval-leaf
 use Rattle.evaluators.proofs.standing.Reads as standing
@@ -15,11 +9,10 @@ use Rattle.operations.proofs.light.Reads as light
 use Rattle.evaluators.proofs.settle.Reads as settle
 use Rattle.table.proofs.node_kind.Reads as kind
 use Rattle.evaluators.proofs.stopped.Reads as stopped
-use Rattle.evaluators.proofs.+each_chosen+each_member+eval_bare+eval_bool+eval_expr+eval_join+eval_one+eval_pred+eval_quant+eval_select+eval_test+eval_two+eval_value+operand.Proof.Base.{Over, eval-bool, eval-one, eval-select, eval-two, eval-value}
-use Rattle.evaluators.proofs.SafeLaws.{ready-node}
-use Rattle.evaluators.proofs.NodeLaws.{formed-as}
+use Rattle.evaluators.proofs.+each_chosen+each_member+eval_bare+eval_bool+eval_expr+eval_join+eval_one+eval_pred+eval_quant+eval_select+eval_test+eval_two+eval_value+operand.Proof.Base.{Over, eval-bool, eval-one, eval-select, eval-two, eval-value, ℕ, refl, sym, ⊎-elim, inl, inr, arith, now, Visited, ready-node, formed-as, counted}
+use Rattle.evaluators.specs.Cycle.{StandingTwo}
 use Rattle.evaluators.proofs.FormLaws.{light-asks, light-settles, light-evaluates}
-use Rattle.evaluators.proofs.DispatchLaws.{spent-expr, counted, visited-as, expression-code, one-keys, one-range, two-key, from-27, two-low, two-high, no-other, leaf-node, leaf-answer, standing-code, standing-ready, standing-answer}
+use Rattle.evaluators.proofs.DispatchLaws.{spent-expr, visited-as, expression-code, one-keys, one-range, two-key, two-low, two-high, no-other, leaf-node, leaf-answer, standing-code, standing-ready, standing-answer}
 
 module _ (t : ℕ) where
   abbrev claims : lts.Claims
@@ -81,7 +74,7 @@ module _ (t : ℕ) where
   eval-two-requires c κs =
       let k = kinded (c .before .before) in
       let by = ⊎-elim (λ w. two-key _ (w .keys3))
-      (⊎-elim (λ w. let m = w .0 .rest in two-low _ (m .0 .0 .0 .0 .1) (from-27 _ (w .2 .left) (m .0 .0 .0 .0 .0 .1) (m .1)) (w .3 .taken))
+      (⊎-elim (λ w. let m = w .0 .rest in two-low _ (m .0 .0 .0 .0 .1) (m .0 .0 .0 .0 .0 .1) (m .1) (w .2 .left) (w .3 .taken))
       (λ w. let m = w .0 .rest in two-high _ (m .0 .0 .0 .0 .1) (m .0 .0 .0 .1) (w .4 .left) (w .5 .taken))) (c .before .match .came) in
       (omega (arith, lent k .pre .0), (visit k, by))
 

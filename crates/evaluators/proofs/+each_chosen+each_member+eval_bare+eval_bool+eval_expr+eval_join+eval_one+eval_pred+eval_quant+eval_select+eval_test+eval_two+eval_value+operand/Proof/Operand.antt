@@ -1,11 +1,8 @@
 -- `operand`: an identifier's value where a visit is left, and otherwise what `eval_expr` answers. Landmarks: what was lent, and the place.
-use Prim.Native.Nat.{ℕ}
-use mathlib.Core.Path.{refl}
-use native.Mathlib.Omega.{arith}
 use borrow.Author.Tests.{eqb-false}
 use Rattle.evaluators.proofs.+each_chosen+each_member+eval_bare+eval_bool+eval_expr+eval_join+eval_one+eval_pred+eval_quant+eval_select+eval_test+eval_two+eval_value+operand.Lts-operand as lts
 use Rattle.evaluators.proofs.leaf_place.Reads as leaf-place
-use Rattle.evaluators.proofs.+each_chosen+each_member+eval_bare+eval_bool+eval_expr+eval_join+eval_one+eval_pred+eval_quant+eval_select+eval_test+eval_two+eval_value+operand.Proof.Base.{Over, eval-expr, operand}
+use Rattle.evaluators.proofs.+each_chosen+each_member+eval_bare+eval_bool+eval_expr+eval_join+eval_one+eval_pred+eval_quant+eval_select+eval_test+eval_two+eval_value+operand.Proof.Base.{Over, eval-expr, operand, ℕ, refl, arith}
 use Rattle.evaluators.proofs.DispatchLaws.{place-ready, placed-answer}
 
 module _ (t : ℕ) where
@@ -18,11 +15,6 @@ module _ (t : ℕ) where
   abbrev lent : Here lts.After-leaf-place → Here lts.Start
   lent c = c .before .before .before
 
-  returns-2 : Here lts.Need-returns-2
-  returns-2 c =
-      let i = c .before in let v = lent (i .before) in
-      placed-answer (v .pre .1 .0) (i .before .leaf-place .ensures (i .if1 .left)) (eqb-false (v .args .left) 0 (c .if2 .left)) refl
-
   pub closed : {M : Type 1} → lts.Closed claims (operand .at t) (operand .post) M
   closed =
       lts.spec claims (operand .at t) (operand .post)
@@ -31,4 +23,5 @@ module _ (t : ℕ) where
       (λ c. c .before .before .eval-expr .kept .1 .1 .0)
       (λ c. c .before .before .eval-expr .ensures)
       (λ c. let v = lent (c .before .before) in omega (arith, eqb-false (v .args .left) 0 (c .if2 .left)))
-      returns-2
+      (λ c. let i = c .before in let v = lent (i .before) in
+      placed-answer (v .pre .1 .0) (i .before .leaf-place .ensures (i .if1 .left)) (eqb-false (v .args .left) 0 (c .if2 .left)) refl)
