@@ -2,7 +2,7 @@
 use Prim.Native.Nat.{_-_, _<_}
 use native.Mathlib.Omega.{arith}
 use borrow.Author.Count.{falls}
-use borrow.Author.Needs.{scaled-fits, needs}
+use borrow.Author.Needs.{scaled-fits}
 use lib.Dec.{lit<}
 use Rattle.table.proofs.Least.{next-fits}
 use Rattle.evaluate.specs.Arenas.{Marks}

@@ -1,7 +1,7 @@
 -- `standing_two`: nothing is said of 0; otherwise both operands stand already. Landmarks: what was lent, that nothing is built, and the words of the
 -- fields.
 use mathlib.Core.List.{List}
-use mathlib.Core.Path.{_≡_, refl, subst}
+use mathlib.Core.Path.{_≡_, refl}
 use Prim.Native.Nat.{ℕ}
 use native.Mathlib.Omega.{arith}
 use borrow.Author.Tests.{not-false}
