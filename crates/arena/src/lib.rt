@@ -8,22 +8,39 @@ ghost use Rattle.arena.specs.Code.{SomeAt, EndsAt, Compared, Copied, par
 // A cell is its tag times CELL, and its payload.
 pub const CELL: u64 = 4294967296;
 
+// The tags.
+pub const NUMBER_TAG: u64 = 1;
+
+pub const TRUTH_TAG: u64 = 2;
+
+pub const ELEMENT_TAG: u64 = 3;
+
+pub const PAIR_TAG: u64 = 4;
+
+pub const SET_TAG: u64 = 5;
+
 // The cells of scalars: numbers in excess form (ZERO is that of 0), truths, elements. Payloads are added.
-pub const NUMBER: u64 = CELL;
+pub const NUMBER: u64 = NUMBER_TAG * CELL;
 
 pub const EXCESS: u64 = 2147483648;
 
 pub const ZERO: u64 = NUMBER + EXCESS;
 
-pub const TRUTH: u64 = 2 * CELL;
+pub const TRUTH: u64 = TRUTH_TAG * CELL;
 
-pub const ELEMENT: u64 = 3 * CELL;
+pub const ELEMENT: u64 = ELEMENT_TAG * CELL;
+
+// The payload of an element is its given set's number times GIVEN, and its own number.
+pub const GIVEN: u64 = 256;
 
 // The cell of a pair. That of a scalar is less.
-pub const PAIR: u64 = 4 * CELL;
+pub const PAIR: u64 = PAIR_TAG * CELL;
 
 // The cell of the empty set; that of another has the number of its members as payload.
-pub const SET: u64 = 5 * CELL;
+pub const SET: u64 = SET_TAG * CELL;
+
+// The cells of the heaviest value (18).
+pub const HEAVIEST: usize = 256;
 
 // The tag of a cell, and its payload (numbers in excess form).
 pub fn tag(cell: u64) -> u64
@@ -43,10 +60,10 @@ pub fn parts(cell: u64) -> usize
     ensures { λ r. ⌜ (r ≡ partsOf cell) × (r < 4294967296) ⌝ }
 {
     let t = tag(cell);
-    if t == 4 {
+    if t == PAIR_TAG {
         return 2;
     }
-    if t == 5 {
+    if t == SET_TAG {
         return low(cell) as usize;
     }
     0

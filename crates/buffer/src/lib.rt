@@ -11,6 +11,11 @@ ghost use Rattle.buffer.specs.Ordered.{WholeValue};
 ghost use Rattle.buffer.specs.Shared.{SomeTypedRow, mostAlike, MembersFine, setsEnd, Fine};
 ghost use Rattle.buffer.specs.Loaded.{EntryReady, Enters, Loads, LoadReady};
 
+// The last number of an element, and the last payload.
+const LAST_OF_SET: u64 = arena::GIVEN - 1;
+
+const LAST_PAYLOAD: u64 = arena::CELL - 1;
+
 // A cell in the buffer: its payload, its tag times 2^32, and zero bytes from FREE on.
 const FREE: u64 = 256 * arena::CELL;
 
@@ -79,7 +84,7 @@ impl Cursor {
 fn code_cell(cell: u64) -> u64
     ensures { λ r. ⌜ r ≡ codeOf cell ⌝ }
 {
-    if arena::tag(cell) == 1 {
+    if arena::tag(cell) == arena::NUMBER_TAG {
         return arena::NUMBER + (arena::low(cell) + arena::EXCESS) % arena::CELL;
     }
     cell
@@ -99,13 +104,13 @@ fn good_cell(table: &[u8], cell: u64) -> bool
     }
     let t = arena::tag(cell);
     let p = arena::low(cell);
-    if t == 3 {
-        return p % 256 < table::size(table, (p / 256) as usize) as u64;
+    if t == arena::ELEMENT_TAG {
+        return p % arena::GIVEN < table::size(table, (p / arena::GIVEN) as usize) as u64;
     }
-    if t == 2 {
+    if t == arena::TRUTH_TAG {
         return p < 2;
     }
-    t == 5
+    t == arena::SET_TAG
 }
 
 // The cells that the values of n identifiers take at most: 256 each, and one for 8 bytes of the buffer.
@@ -113,7 +118,7 @@ pub fn cells_at_most(n: usize, bytes: usize) -> usize
     requires { ⌜ n ≤ 32 ⌝ }
     ensures { λ r. ⌜ r ≡ cellsAtMost n bytes ⌝ }
 {
-    let most = 256 * n;
+    let most = arena::HEAVIEST * n;
     let held = bytes / 8;
     if most < held {
         return most;
@@ -134,7 +139,7 @@ fn copy_value(table: &[u8], from: Cursor, values: &[u8], s: &mut [u64], top: usi
     let mut left: usize = 1;
     while left > 0 {
         // Each value that is still to be read takes a cell.
-        if left > 256 - n {
+        if left > arena::HEAVIEST - n {
             return Placed::Fault;
         }
         let Step::Cell(x, next) = c.next(table, values) else {
@@ -188,10 +193,10 @@ fn values_fine(s: &[u64], at: usize, n: u64) -> bool
 fn most(x: u64) -> u64
     ensures { λ r. ⌜ r ≡ mostAlike x ⌝ }
 {
-    if arena::tag(x) == 3 {
-        return x / 256 * 256 + 255;
+    if arena::tag(x) == arena::ELEMENT_TAG {
+        return x / arena::GIVEN * arena::GIVEN + LAST_OF_SET;
     }
-    x / arena::CELL * arena::CELL + 4294967295
+    x / arena::CELL * arena::CELL + LAST_PAYLOAD
 }
 
 // Whether n values from `at` on, the first a scalar, rise and share a type: they are scalars, one cell each, up to the greatest of the type.

@@ -57,8 +57,8 @@ fn atoms_alike(x: u64, y: u64) -> bool
     ensures { λ r. ⌜ r ≡ atomsAlike x y ⌝ }
 {
     let t = arena::tag(x);
-    if t == 3 {
-        return x / 256 == y / 256;
+    if t == arena::ELEMENT_TAG {
+        return x / arena::GIVEN == y / arena::GIVEN;
     }
     t == arena::tag(y)
 }
@@ -87,7 +87,7 @@ fn meet(s: &[u64], a: usize, b: usize) -> bool
     }
     let c = a + 1;
     let d = b + 1;
-    if t == 5 {
+    if t == arena::SET_TAG {
         let n = members(s, a);
         let m = members(s, b);
         if n == 1 {
@@ -145,7 +145,7 @@ pub fn is_set(s: &[u64], a: usize) -> bool
     requires { ⌜ SomeTyped (now s) a ⌝ }
     ensures { λ r. ⌜ FitOne (P̂ t̂ ∷ []) (now (s .entry)) a r ⌝ }
 {
-    arena::tag(s[a]) == 5
+    arena::tag(s[a]) == arena::SET_TAG
 }
 
 // P(t × u)
@@ -154,13 +154,13 @@ pub fn is_relation(s: &[u64], a: usize) -> bool
     ensures { λ r. ⌜ FitOne (P̂ (t̂ ×̂ û) ∷ []) (now (s .entry)) a r ⌝ }
 {
     let x = s[a];
-    if arena::tag(x) != 5 {
+    if arena::tag(x) != arena::SET_TAG {
         return false;
     }
     if arena::low(x) == 0 {
         return true;
     }
-    arena::tag(s[a + 1]) == 4
+    arena::tag(s[a + 1]) == arena::PAIR_TAG
 }
 
 // t and t
@@ -210,10 +210,10 @@ pub fn numbers(s: &[u64], a: usize, b: usize) -> bool
     requires { ⌜ Both (now s) a b ⌝ }
     ensures { λ r. ⌜ FitTwo (numᵖ whole ∷ numᵖ whole ∷ []) (now (s .entry)) a b r ⌝ }
 {
-    if arena::tag(s[a]) != 1 {
+    if arena::tag(s[a]) != arena::NUMBER_TAG {
         return false;
     }
-    arena::tag(s[b]) == 1
+    arena::tag(s[b]) == arena::NUMBER_TAG
 }
 
 // Whether the left parts of the n pairs from a on share a type with the value at b.
@@ -284,8 +284,8 @@ fn atom_is(x: u64, c: u8) -> bool
     ensures { λ r. ⌜ r ≡ atomIs x c ⌝ }
 {
     let t = arena::tag(x);
-    if t == 3 {
-        return arena::low(x) / 256 + 16 == c as u64;
+    if t == arena::ELEMENT_TAG {
+        return arena::low(x) / arena::GIVEN + 16 == c as u64;
     }
     t == c as u64
 }
@@ -298,14 +298,14 @@ pub fn has_type(s: &[u64], at: usize, row: &[u8], from: usize) -> bool
     let x = s[at];
     let c = row[from];
     let t = arena::tag(x);
-    if t == 5 {
+    if t == arena::SET_TAG {
         if c != 3 {
             return false;
         }
         let n = arena::low(x) as usize;
         return all_of_type(s, at + 1, n, row, from + 1);
     }
-    if t == 4 {
+    if t == arena::PAIR_TAG {
         if c != 4 {
             return false;
         }

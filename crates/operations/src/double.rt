@@ -56,11 +56,11 @@ fn number(x: u64) -> Outcome
     requires { ⌜ x < 8589934592 ⌝ }
     ensures { λ r. ⌜ NumberDone x r ⌝ }
 {
-    if x < 2147483648 {
+    if x < arena::EXCESS {
         return Outcome::Lacks(17);
     }
-    let n = x - 2147483648;
-    if n > 4294967295 {
+    let n = x - arena::EXCESS;
+    if n >= arena::CELL {
         return Outcome::Lacks(17);
     }
     Outcome::Cell(arena::NUMBER + n)

@@ -8,7 +8,7 @@ pub fn scalar_cell(kind: usize, a: u64, b: u64) -> u64
     ensures { λ r. ⌜ r ≡ scalarCell kind a b ⌝ }
 {
     match kind {
-        22 => arena::ELEMENT + 256 * a + b,
+        22 => arena::ELEMENT + arena::GIVEN * a + b,
         23 => arena::NUMBER + (a + arena::EXCESS) % arena::CELL,
         _ => arena::TRUTH + a,
     }

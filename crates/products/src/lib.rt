@@ -11,6 +11,12 @@ ghost use Rattle.products.specs.Growing.{PutsCell, RunPre, Runs, Singles
 ghost use Rattle.products.specs.Parts.{SomePairs, PartsPre, Takes, Domains, Ranges, chosen, FindPre, Finds, InsertPre, Places, Inserts, movedLast};
 ghost use Rattle.products.specs.Power.{Powers, masks, subsetCount, AddPre, Added, MarkPre, Marks, SubsetPre, Subsets, AllPre, AllSubsets};
 
+// The cells of the heaviest value, beside numbers of members.
+const MOST: u64 = arena::HEAVIEST as u64;
+
+// The cells that it may have behind its first.
+const BEHIND_FIRST: usize = arena::HEAVIEST - 1;
+
 // Members that have been built: where the last one stands (0 where there is none), where they end, their number.
 struct Out {
     last: usize,
@@ -32,7 +38,7 @@ pub fn singleton(s: &mut [u64], a: usize, top: usize) -> usize
     ensures { λ r. ⌜ Singles (now (s .entry)) a top (now (s .exit)) r ⌝ }
 {
     let n = arena::end_of(s, a) - a;
-    if n > 255 {
+    if n > BEHIND_FIRST {
         return 0;
     }
     arena::copy(s, a, n, top + 1);
@@ -57,7 +63,7 @@ pub fn pair(s: &mut [u64], a: usize, b: usize, top: usize) -> usize
 {
     let n = arena::end_of(s, a) - a;
     let m = arena::end_of(s, b) - b;
-    if n + m > 255 {
+    if n + m > BEHIND_FIRST {
         return 0;
     }
     pair_at(s, a, n, b, m, top)
@@ -84,7 +90,7 @@ pub fn elements(s: &mut [u64], g: u64, n: u64, top: usize) -> usize
     requires { ⌜ (g < 16777216) × (n ≤ 32) × (top + 1 + n ≤ length (now s)) ⌝ }
     ensures { λ r. ⌜ Made top (now (s .entry)) (now (s .exit)) (setOf (elementsFrom g 0 n)) r ⌝ }
 {
-    run(s, arena::ELEMENT + 256 * g, n, top)
+    run(s, arena::ELEMENT + arena::GIVEN * g, n, top)
 }
 
 pub fn booleans(s: &mut [u64], top: usize) -> usize
@@ -178,7 +184,7 @@ pub fn product(s: &mut [u64], a: usize, b: usize, top: usize) -> usize
 {
     let x = size_of(s, a);
     let y = size_of(s, b);
-    if product_weight(x, y) > 256 {
+    if product_weight(x, y) > MOST {
         return 0;
     }
     let end = rows(s, a + 1, x.members, b + 1, y.members, top + 1);
@@ -463,7 +469,7 @@ pub fn power(s: &mut [u64], a: usize, top: usize) -> usize
 {
     let x = size_of(s, a);
     let p = subset_count(x.members);
-    if 1 + p + p / 2 * x.cells > 256 {
+    if 1 + p + p / 2 * x.cells > MOST {
         return 0;
     }
     let n = x.members as usize;

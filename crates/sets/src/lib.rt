@@ -517,7 +517,7 @@ fn finish(s: &mut [u64], w: Walk, top: usize, left: bool, right: bool, cells: bo
     requires { ⌜ EndPre left right (now s) w top cells ⌝ }
     ensures { λ r. ⌜ Ended left right (now (s .entry)) w top (now (s .exit)) r ⌝ }
 {
-    let limit = top + 256;
+    let limit = top + arena::HEAVIEST;
     if w.to > limit {
         return 0;
     }
@@ -675,7 +675,7 @@ fn walk_merge(
     requires { ⌜ RunsBelow (now s) a m b n top ⌝ }
     ensures { λ r. ⌜ RunsMerge left both right (now (s .entry)) a m b n top (now (s .exit)) r ⌝ }
 {
-    let limit = top + 256;
+    let limit = top + arena::HEAVIEST;
     let mut w = Walk {
         a: a,
         m: m,
