@@ -144,6 +144,9 @@ pub record SetBelow (s : List ℕ) (top at : ℕ) (vs : Values) : Type 0 where
 abbrev pub SomeSet : List ℕ → ℕ → ℕ → Type 0
 SomeSet s top at = (vs : Values) × SetBelow s top at vs
 
+abbrev pub SetAt : List ℕ → ℕ → Type 0
+SetAt s at = (top : ℕ) × SomeSet s top at
+
 -- A value that fits and weighs at most 256 stands at `at`, below `top`.
 pub record ValueBelow (s : List ℕ) (top at : ℕ) (v : Value) : Type 0 where
   pub stands : ValueAt s at v
@@ -179,3 +182,7 @@ IsPair (set vs) = ⊥
 abbrev pub AllPairs : Values → Type 0
 AllPairs none = Unit {0}
 AllPairs (v ▸ vs) = IsPair v × AllPairs vs
+
+-- A set of pairs stands at `at`, below `top`.
+abbrev pub SomeRelation : List ℕ → ℕ → ℕ → Type 0
+SomeRelation s top at = (vs : Values) × SetBelow s top at vs × AllPairs vs

@@ -20,7 +20,7 @@ use Rattle.laws.proofs.CellsLaws.{Word, Bytes, Encodable, Encodables, byte-at, 
 use Rattle.arena.specs.Code.{cellSize, excess, scalarLow, code, codes, partsOf}
 use Rattle.arena.proofs.CodeLaws.{length-codes}
 use Rattle.arena.proofs.Standing.{_before_, codes-before, count-before}
-use Rattle.buffer.specs.Buffer.{cellFirst, firstCell, codeOf, tagGood, cellGood, scalarsGood, allGood}
+use Rattle.buffer.specs.Buffer.{cellFirst, firstCell, arenaCell, tagGood, cellGood, scalarsGood, allGood}
 use Rattle.buffer.specs.Shared.{AllOf}
 use Rattle.buffer.proofs.CellAt.{first-right}
 use Rattle.rules.proofs.Basics.{and-of}
@@ -94,8 +94,8 @@ code-head (scalar s) = refl
 code-head (pair v w) = rw (append-nil (code w))
 code-head (set s) = refl
 
-number-code : (i : ℤ) → T (inRange i) → 1 * cellSize + excess i ≡ codeOf (1 * cellSize + twos i)
-unfolding codeOf twos excess
+number-code : (i : ℤ) → T (inRange i) → 1 * cellSize + excess i ≡ arenaCell (1 * cellSize + twos i)
+unfolding arenaCell twos excess
 number-code (pos n) t =
     let h = leb→le n 2147483647 t in
     rw (eq-eqb ((1 * cellSize + n) / cellSize) 1 (omega arith)) (omega arith)
@@ -103,11 +103,11 @@ number-code (negsuc n) t =
     let h = leb→le n 2147483647 t in
     rw (eq-eqb ((1 * cellSize + (4294967295 - n)) / cellSize) 1 (omega arith)) (omega arith)
 
-other-code : (t p : ℕ) → p < cellSize → 1 < t → t * cellSize + p ≡ codeOf (t * cellSize + p)
-unfolding codeOf
+other-code : (t p : ℕ) → p < cellSize → 1 < t → t * cellSize + p ≡ arenaCell (t * cellSize + p)
+unfolding arenaCell
 other-code t p h n = rw (ne-eqb ((t * cellSize + p) / cellSize) 1 (λ e. omega arith))
 
-head-coded : (v : Value) → Encodable v → headOf v ≡ codeOf (firstOf v)
+head-coded : (v : Value) → Encodable v → headOf v ≡ arenaCell (firstOf v)
 unfolding twos
 head-coded (scalar (num whole i)) h = number-code i h
 head-coded (scalar (truth true)) h = other-code 2 1 (omega arith) (omega arith)
@@ -161,7 +161,7 @@ pub record Onward (gs bs : List ℕ) (p : ℕ) (cs rest : List ℕ) : Type 0 whe
   pub here : T (cellFirst bs)
   pub good : T (cellGood gs (firstCell bs))
   pub left : List ℕ
-  pub coded : cs ≡ codeOf (firstCell bs) ∷ left
+  pub coded : cs ≡ arenaCell (firstCell bs) ∷ left
   pub next : Ahead gs (drop 8 bs) (p - 1 + partsOf (firstCell bs)) left rest
 
 first-here : (v : Value) (X : List ℕ) → Word (twos (payload v)) →
@@ -178,7 +178,7 @@ spread : (v : Value) (vs : Values) (rest : List ℕ) → cellsOf (v ▸ vs) ++ r
 unfolding cells
 spread v vs rest = rw (cells-inner v, cellsOf-before (inner v) vs) (simp append-assoc)
 
-spread-code : (v : Value) (vs : Values) → Encodable v → codes (v ▸ vs) ≡ codeOf (firstOf v) ∷ codes (inner v before vs)
+spread-code : (v : Value) (vs : Values) → Encodable v → codes (v ▸ vs) ≡ arenaCell (firstOf v) ∷ codes (inner v before vs)
 unfolding code
 spread-code v vs h = rw (code-head v, head-coded v h, codes-before (inner v) vs)
 
@@ -223,7 +223,7 @@ cell-bytes bs v b k t w =
 -- One cell back: the value v has the cell, and us stand behind it.
 module _ {gs bs : List ℕ} {p : ℕ} {cs rest : List ℕ} (b : Bytes bs) (k : T (cellFirst bs)) (l : 0 < p) where
   back-to : (v : Value) (us : Values) {m : ℕ} → tag v ≡ getD bs 4 0 → twos (payload v) ≡ wordAt bs 0 → Held gs v → count (inner v) ≡ m →
-      CellsOf gs (drop 8 bs) (p - 1 + m) cs rest (inner v before us) → Ahead gs bs p (codeOf (firstCell bs) ∷ cs) rest
+      CellsOf gs (drop 8 bs) (p - 1 + m) cs rest (inner v before us) → Ahead gs bs p (arenaCell (firstCell bs) ∷ cs) rest
   back-to v us t q g m h =
       let f : firstOf v ≡ firstCell bs = omega arith in (
         v ▸ us,
@@ -238,7 +238,7 @@ module _ {gs bs : List ℕ} {p : ℕ} {cs rest : List ℕ} (b : Bytes bs) (k : T
   -- by the tag t and the payload q
   module _ {q : ℕ} (w : q ≡ wordAt bs 0) where
     back-by : (t : ℕ) → t ≡ getD bs 4 0 → T (tagGood gs t q) → (vs : Values) → CellsOf gs (drop 8 bs) (p - 1 + partsBy t q) cs rest vs →
-        Ahead gs bs p (codeOf (firstCell bs) ∷ cs) rest
+        Ahead gs bs p (arenaCell (firstCell bs) ∷ cs) rest
     unfolding twos
     back-by zero e g vs h = absurd g
     back-by (suc zero) e g vs h =
@@ -262,7 +262,7 @@ module _ {gs bs : List ℕ} {p : ℕ} {cs rest : List ℕ} (b : Bytes bs) (k : T
         back-to (set (s .front)) (s .back) e (s .counted ∙ w) ((omega (arith, s .counted), j .0), j .1) (s .counted) i
     back-by (suc (suc (suc (suc (suc (suc n)))))) e g vs h = absurd g
 
-  pub back : T (cellGood gs (firstCell bs)) → Ahead gs (drop 8 bs) (p - 1 + partsOf (firstCell bs)) cs rest → Ahead gs bs p (codeOf (firstCell bs) ∷ cs) rest
+  pub back : T (cellGood gs (firstCell bs)) → Ahead gs (drop 8 bs) (p - 1 + partsOf (firstCell bs)) cs rest → Ahead gs bs p (arenaCell (firstCell bs) ∷ cs) rest
   unfolding cellGood
   back g a =
       let o = word-at bs 0 b in

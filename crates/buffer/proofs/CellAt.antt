@@ -14,7 +14,7 @@ use borrow.Author.Tests.{eq-eqb, ne-eqb, lt-leb, le-leb}
 use Rattle.rules.specs.Tables.{wordAt}
 use Rattle.buffer.specs.declared.Step.the-variants.{End}
 use Rattle.laws.proofs.EndLaws.{T-true, T-false, T-and, T-leb, T-eqb}
-use Rattle.buffer.specs.Buffer.{cellFirst, firstCell, codeOf, tagGood, cellGood, GoodCell, StepTakes}
+use Rattle.buffer.specs.Buffer.{cellFirst, firstCell, arenaCell, tagGood, cellGood, GoodCell, StepTakes}
 
 word-drop : (bs : List ℕ) (at k : ℕ) → wordAt bs (at + k) ≡ wordAt (drop at bs) k
 word-drop bs at k =
@@ -83,10 +83,10 @@ module _ (gs bs : List ℕ) (at p q : ℕ) (low : p ≡ wordAt bs at) (high : q 
       let h = first-right (drop at bs) .1 (omega (arith, length-drop at bs), omega arith) in
       record { here = h; number = cell-number h; good = T-true (cellGood gs (p + 4294967296 * q)) .1 (sym e ∙ f); behind = refl }
 
-pub code-number : (x t l : ℕ) → t ≡ x / 4294967296 → t ≡ 1 → l ≡ x % 4294967296 → 4294967296 + (l + 2147483648) % 4294967296 ≡ codeOf x
-unfolding codeOf
+pub code-number : (x t l : ℕ) → t ≡ x / 4294967296 → t ≡ 1 → l ≡ x % 4294967296 → 4294967296 + (l + 2147483648) % 4294967296 ≡ arenaCell x
+unfolding arenaCell
 code-number x t l e f g = rw (eq-eqb (x / 4294967296) 1 (sym e ∙ f), g)
 
-pub code-other : (x t : ℕ) → t ≡ x / 4294967296 → (t ≡ 1 → ⊥) → x ≡ codeOf x
-unfolding codeOf
+pub code-other : (x t : ℕ) → t ≡ x / 4294967296 → (t ≡ 1 → ⊥) → x ≡ arenaCell x
+unfolding arenaCell
 code-other x t e n = rw (ne-eqb (x / 4294967296) 1 (λ f. n (e ∙ f)))

@@ -18,7 +18,7 @@ use Rattle.arena.specs.Code.{code, Stands, Same, partsOf}
 use Rattle.arena.proofs.CodeLaws.{length-code, encodable-fits}
 use Rattle.arena.proofs.Standing.{stands-append, stands-frame, same-refl, same-trans}
 use Rattle.buffer.specs.declared.Step.the-variants.{End}
-use Rattle.buffer.specs.Buffer.{firstCell, codeOf, cellsAtMost, GoodCell, StepTakes, ReadAt}
+use Rattle.buffer.specs.Buffer.{firstCell, arenaCell, cellsAtMost, GoodCell, StepTakes, ReadAt}
 use Rattle.buffer.proofs.CellAt.{cell-held}
 use Rattle.buffer.proofs.FineValues.{good-scalars}
 use Rattle.buffer.proofs.Ahead.{CellsOf, Ahead, onward, back, ahead-read, ahead-long}
@@ -75,14 +75,14 @@ pub walk-room : {gs bs : List ℕ} {from at left n : ℕ} {s₀ s : List ℕ} {t
 walk-room {bs = bs} {at = at} h g l r = let m = cell-held bs at (g .here) in omega (arith, h .spent, h .frame .kept)
 
 module _ {gs bs : List ℕ} {from at left n : ℕ} {s₀ s : List ℕ} {top : ℕ} (h : Walk gs bs from at left n s₀ s top) (l : 0 < left) where
-  pub walk-step : (x next y k : ℕ) → GoodCell gs bs at x next → y ≡ codeOf x → k ≡ partsOf x → top + n < length s →
+  pub walk-step : (x next y k : ℕ) → GoodCell gs bs at x next → y ≡ arenaCell x → k ≡ partsOf x → top + n < length s →
       Walk gs bs from next (left - 1 + k) (n + 1) s₀ (setAt s (top + n) y) top
   walk-step x next y k g e f m =
       let s′ = setAt s (top + n) y in
       let w = set-same s (top + n) (top + n) y (omega arith) in
       let ds = drop at bs in
       let d : drop next bs ≡ drop 8 ds = ap (λ (j : ℕ). drop j bs) (g .behind) ∙ sym (drop-drop 8 at bs) in
-      let c : y ≡ codeOf (firstCell ds) = e ∙ ap codeOf (g .number) in
+      let c : y ≡ arenaCell (firstCell ds) = e ∙ ap arenaCell (g .number) in
       let q : k ≡ partsOf (firstCell ds) = f ∙ ap partsOf (g .number) in
       record {
         written = h .written ++ (y ∷ []);
@@ -95,7 +95,7 @@ module _ {gs bs : List ℕ} {from at left n : ℕ} {s₀ s : List ℕ} {top : �
         bytes = h .bytes;
         whole = λ cs rest a.
             let a′ : Ahead gs (drop 8 ds) (left - 1 + partsOf (firstCell ds)) cs rest = rw (← d, ← q) a in
-            let r = h .whole (codeOf (firstCell ds) ∷ cs) rest (back (bytes-drop at bs (h .bytes)) (g .here) l (rw (g .number) at (g .good)) a′) in
+            let r = h .whole (arenaCell (firstCell ds) ∷ cs) rest (back (bytes-drop at bs (h .bytes)) (g .here) l (rw (g .number) at (g .good)) a′) in
             rw (append-assoc (h .written) (y ∷ []) cs, c) r;
         partly = λ es rest a.
             let p = h .partly es rest a in

@@ -25,8 +25,8 @@ abbrev pub firstCell : List ℕ → ℕ
 firstCell bs = getD bs 4 0 * cellSize + wordAt bs 0
 
 -- The arena's cell for a cell of the buffer.
-unfoldable pub codeOf : ℕ → ℕ
-codeOf x = cond (eqb (x / 4294967296) 1) (4294967296 + (x % 4294967296 + 2147483648) % 4294967296) x
+unfoldable pub arenaCell : ℕ → ℕ
+arenaCell x = cond (eqb (x / 4294967296) 1) (4294967296 + (x % 4294967296 + 2147483648) % 4294967296) x
 
 -- A cell that a value may have, where the given sets have the sizes gs.
 abbrev pub tagGood : List ℕ → ℕ → ℕ → Bool
@@ -88,6 +88,6 @@ pub record CopyReady (table bs : List ℕ) (at : ℕ) (s : List ℕ) (top : ℕ)
   pub readable : Readable table
   pub room : top + cellsAtMost 1 (length bs - at) ≤ length s
 
-abbrev pub Places : List ℕ → List ℕ → ℕ → List ℕ → ℕ → Placed → Type 0
-Places gs bs at s top (At next end) = ReadAt gs bs at s top (next .at) end
-Places gs bs at s top Fault = Unread gs bs at
+abbrev pub CopyAnswers : List ℕ → List ℕ → ℕ → List ℕ → ℕ → Placed → Type 0
+CopyAnswers gs bs at s top (At next end) = ReadAt gs bs at s top (next .at) end
+CopyAnswers gs bs at s top Fault = Unread gs bs at

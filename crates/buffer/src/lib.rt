@@ -5,7 +5,7 @@ ghost use Prim.Native.Nat.{_+_, _≤_, _<_};
 ghost use lib.ListN.{getD};
 ghost use Rattle.rules.specs.Tables.{tableOf};
 ghost use Rattle.rules.specs.Readable.{Header};
-ghost use Rattle.buffer.specs.Buffer.{codeOf, cellGood, cellsAtMost, StepTakes, CopyReady, Places};
+ghost use Rattle.buffer.specs.Buffer.{arenaCell, cellGood, cellsAtMost, StepTakes, CopyReady, CopyAnswers};
 ghost use Rattle.arena.specs.Code.{Same};
 ghost use Rattle.buffer.specs.Ordered.{WholeValue};
 ghost use Rattle.buffer.specs.Shared.{SomeTypedRow, mostAlike, MembersFine, setsEnd, Fine};
@@ -82,7 +82,7 @@ impl Cursor {
 
 // The arena's cell for a cell of the buffer: numbers go from two's complement to excess form.
 fn code_cell(cell: u64) -> u64
-    ensures { λ r. ⌜ r ≡ codeOf cell ⌝ }
+    ensures { λ r. ⌜ r ≡ arenaCell cell ⌝ }
 {
     if arena::tag(cell) == arena::NUMBER_TAG {
         return arena::NUMBER + (arena::low(cell) + arena::EXCESS) % arena::CELL;
@@ -131,7 +131,7 @@ fn copy_value(table: &[u8], from: Cursor, values: &[u8], s: &mut [u64], top: usi
     requires { ⌜ CopyReady (now table) (now values) (from .at) (now s) top ⌝ }
     ensures { λ r. ⌜
         Same top (now (s .entry)) (now (s .exit)) ×
-        Places (tableOf (now (table .entry)) .sizes) (now (values .entry)) (from .at) (now (s .exit)) top r
+        CopyAnswers (tableOf (now (table .entry)) .sizes) (now (values .entry)) (from .at) (now (s .exit)) top r
         ⌝ }
 {
     let mut c = from;

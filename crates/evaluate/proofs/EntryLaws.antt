@@ -38,12 +38,12 @@ use Rattle.evaluators.proofs.NodeLaws.{sizes-small, node-tall, condition-cells}
 use Rattle.evaluate.specs.declared.Evaluation.{Evaluation}
 use Rattle.evaluators.specs.declared.Held.{Held}
 use Rattle.evaluators.specs.Answers.{HeldAs}
-use Rattle.evaluators.specs.Cycle.{conditionCells, expressionCells, Binds, Ready, holdsAt, EvaluatesP}
-use Rattle.evaluators.specs.Nodes.{IsPred, placeOf}
+use Rattle.evaluators.specs.Cycle.{conditionCells, expressionCells, Binds, NodeReady, truthAt, EvaluatesP}
+use Rattle.evaluators.specs.Nodes.{IsPred, entryPlace}
 use Rattle.operations.specs.Good.{GoodAt, SomeGood}
 use Rattle.arena.proofs.ValueParts.{some-inside}
 use Rattle.arena.proofs.FrontLaws.{value-some}
-use Rattle.evaluate.specs.Result.{endingOf, RefusedAt, Reported, Within, Reports}
+use Rattle.evaluate.specs.Result.{endingOf, RefusedAt, Reported, OfBudget, Reports}
 use Rattle.evaluate.specs.Arenas.{Needs, ArenaReady, RoomFor, Measured, RootReady, RootReported, Plain, EntryMarked, Marks}
 use Rattle.evaluate.proofs.ReportLaws.{held-within}
 
@@ -84,7 +84,7 @@ lacking-reported bs buffer s env top a h budget {x} q e d =
     refusal-reported (unloaded-ends bs buffer budget 14 x (tableOf bs) (reading-right bs .1 q) l) d
 
 -- Marks change no place, and functions alone are marked.
-place-plain : {e : ℕ} → e < 65536 → placeOf e ≡ e
+place-plain : {e : ℕ} → e < 65536 → entryPlace e ≡ e
 place-plain h = omega (arith, h)
 
 pub entry-plain : {s : List ℕ} {e : ℕ} → e < 65536 → EntryMarked s e e
@@ -193,7 +193,7 @@ module _ {bs env s : List ℕ} {top : ℕ} (r : RootReady bs env s top) {n : ℕ
     root-tall = ap (height (tableOf bs .nodes)) root-last ∙ sym (some-root 0 (height (tableOf bs .nodes)) (tableOf bs .nodes) nodes-here)
 
     -- The condition at the root may be evaluated.
-    pub node-ready : Ready bs env s top (n - 1) × IsPred bs (n - 1)
+    pub node-ready : NodeReady bs env s top (n - 1) × IsPred bs (n - 1)
     node-ready = (
       record {
         readable = r .readable;
@@ -209,12 +209,12 @@ module _ {bs env s : List ℕ} {top : ℕ} (r : RootReady bs env s top) {n : ℕ
     )
 
     module _ {s′ : List ℕ} {budget : ℕ} {held : Held} (p : EvaluatesP bs env s top (n - 1) budget s′ held) where
-      root-held : (ρ : Env) → Binds bs s top env ρ → HeldAs (holdsAt bs budget (length (tableOf bs .nodes)) (n - 1) ρ 0) budget held
+      root-held : (ρ : Env) → Binds bs s top env ρ → HeldAs (truthAt bs budget (length (tableOf bs .nodes)) (n - 1) ρ 0) budget held
       root-held ρ b = p .answer (length (tableOf bs .nodes)) ρ budget 0 (omega (arith, e, filled, nodes-length bs)) (omega arith) b
 
       -- What is left at the end is of the budget, and the end is that of the run.
-      pub root-within : Within budget held
-      root-within = held-within (holdsAt bs budget (length (tableOf bs .nodes)) (n - 1) (r .values) 0) budget held (root-held (r .values) (r .binds))
+      pub root-within : OfBudget budget held
+      root-within = held-within (truthAt bs budget (length (tableOf bs .nodes)) (n - 1) (r .values) 0) budget held (root-held (r .values) (r .binds))
 
       pub root-reported : {x : Evaluation} → Reports budget held x → RootReported bs env s top budget x
       unfolding run

@@ -12,19 +12,19 @@ use Rattle.evaluators.specs.Answers.{EndsWith, HeldAs}
 use Rattle.evaluate.specs.declared.Truth.{Truth as Decision}
 use Rattle.evaluate.specs.declared.Ending.the-variants.{Decided}
 use Rattle.evaluate.specs.declared.Evaluation.{Evaluation}
-use Rattle.evaluate.specs.Result.{endingOf, RefusedAt, Within, Reports}
+use Rattle.evaluate.specs.Result.{endingOf, RefusedAt, OfBudget, Reports}
 
 -- What an answer has left is of the budget.
-pub held-within : (x : Run Bool) (budget : ℕ) (held : Held) → HeldAs x budget held → Within budget held
+pub held-within : (x : Run Bool) (budget : ℕ) (held : Held) → HeldAs x budget held → OfBudget budget held
 held-within x budget (Truth b l) h = omega (arith, h .steps)
 held-within x budget (Refused r l) h = omega (arith, h .steps)
 
 module _ {held : Held} (budget : ℕ) where
-  pub truth-within : {b : Bool} {l : ℕ} → held ≡ Truth b l → Within budget held → l ≤ budget
-  truth-within e h = subst (λ (z : Held). Within budget z) e h
+  pub truth-within : {b : Bool} {l : ℕ} → held ≡ Truth b l → OfBudget budget held → l ≤ budget
+  truth-within e h = subst (λ (z : Held). OfBudget budget z) e h
 
-  pub refused-within : {r : Refusal} {l : ℕ} → held ≡ Refused r l → Within budget held → l ≤ budget
-  refused-within e h = subst (λ (z : Held). Within budget z) e h
+  pub refused-within : {r : Refusal} {l : ℕ} → held ≡ Refused r l → OfBudget budget held → l ≤ budget
+  refused-within e h = subst (λ (z : Held). OfBudget budget z) e h
 
   pub decided-reports : {b : Bool} {l : ℕ} {t : Decision} → held ≡ Truth b l → endingOf (Decided t) ≡ done b →
       Reports budget held (record { ending = Decided t; steps = budget - l })

@@ -16,7 +16,7 @@ use Rattle.reading.specs.Answers.{rootHeight}
 use Rattle.buffer.specs.Buffer.{cellsAtMost}
 use Rattle.constants.specs.Built.{Builds}
 use Rattle.operations.specs.Good.{FunctionSeen}
-use Rattle.evaluators.specs.Nodes.{placeOf, Marked}
+use Rattle.evaluators.specs.Nodes.{entryPlace, FunctionEntry}
 use Rattle.evaluators.specs.Cycle.{conditionCells, Binds}
 use Rattle.evaluate.specs.declared.Evaluation.{Evaluation}
 use Rattle.evaluate.specs.Result.{Reported}
@@ -71,8 +71,8 @@ Plain env = (x : ℕ) → x < 32 → getD env x 0 < 65536
 
 -- The entry for the value at `at`, marked only where that is seen to be a function.
 pub record EntryMarked (s : List ℕ) (at r : ℕ) : Type 0 where
-  pub place : placeOf r ≡ at
-  pub function : Marked r → FunctionSeen s at true
+  pub place : entryPlace r ≡ at
+  pub function : FunctionEntry r → FunctionSeen s at true
 
 pub record Marks (s env r : List ℕ) : Type 0 where
   pub entries : length r ≡ 32

@@ -37,9 +37,9 @@ pub record Judged (bs values sheet : List ℕ) (budget : ℕ) (r : GuardedRun) :
   pub conforms : r .conforms ≡ conforming bs sheet values
 
 -- What is left is of the budget.
-abbrev pub Within : ℕ → Held → Type 0
-Within budget (Truth b l) = l ≤ budget
-Within budget (Refused r l) = l ≤ budget
+abbrev pub OfBudget : ℕ → Held → Type 0
+OfBudget budget (Truth b l) = l ≤ budget
+OfBudget budget (Refused r l) = l ≤ budget
 
 abbrev pub Reports : ℕ → Held → Evaluation → Type 0
 Reports budget held r = (x : Run Bool) → HeldAs x budget held → Reported x r

@@ -6,7 +6,7 @@ ghost use Rattle.rules.specs.Readable.{Readable};
 ghost use Rattle.rules.specs.Ends.{done};
 ghost use Rattle.rules.specs.Evaluation.{evaluation};
 ghost use Rattle.evaluate.specs.declared.Ending.the-variants.{Decided};
-ghost use Rattle.evaluate.specs.Result.{endingOf, RefusedAt, Judged, Within, Reports};
+ghost use Rattle.evaluate.specs.Result.{endingOf, RefusedAt, Judged, OfBudget, Reports};
 ghost use Rattle.reading.specs.Answers.{rootHeight};
 ghost use Rattle.evaluate.specs.Arenas.{ArenaReady, RoomFor, RootReady, RootReported, Plain, EntryMarked, Marks};
 ghost use Rattle.operations.specs.Good.{SomeGood};
@@ -59,7 +59,7 @@ fn refused(refusal: Refusal, steps: u32) -> Evaluation
 
 // The visits made are those that the budget no longer has.
 fn ended(held: Held, budget: u32) -> Evaluation
-    requires { ⌜ Within budget held ⌝ }
+    requires { ⌜ OfBudget budget held ⌝ }
     ensures { λ r. ⌜ Reports budget held r ⌝ }
 {
     match held {

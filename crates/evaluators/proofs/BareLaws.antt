@@ -1,6 +1,6 @@
 -- Negations passed from a condition down: each turns the answer round, for one visit; and the condition's answer from that of the one reached.
 use Rattle.evaluators.proofs.Terms.{ℕ, suc, _+_, _-_, _<_, Bool, true, false, not, List, some, _≡_, refl, sym, ap, _∙_, subst, arith}
-use Rattle.evaluators.proofs.Terms.{predicate, negation, kindOf, Pred, tableOf, nodeAt, kindAt, predAt, nodeCount, Readable, Env, holdsᵖ, kind-of, Held, Truth, Refused, HeldAs, turnedBy, Ready, holdsAt, Passes, EvaluatesP, fieldA, IsPred, notᵖ}
+use Rattle.evaluators.proofs.Terms.{predicate, negation, kindOf, Pred, tableOf, nodeAt, kindAt, predAt, nodeCount, Readable, Env, holdsᵖ, kind-of, Held, Truth, Refused, HeldAs, turnedBy, NodeReady, truthAt, Passes, EvaluatesP, fieldA, IsPred, notᵖ}
 use Rattle.evaluators.proofs.RunLaws.{then-done, then-refused, returns, visited}
 use Rattle.evaluators.proofs.NodeLaws.{Child, field-child, pred-at, condition-cells, ready-at}
 
@@ -32,7 +32,7 @@ passes-none {bs} {n} {left} e = record {
   is = e;
   lower = omega arith;
   answer = λ f ρ budget steps h l c k.
-      subst (λ (z : Held). HeldAs (holdsAt bs budget f n ρ steps) budget z) (sym (turned-not h)) (k f steps l c);
+      subst (λ (z : Held). HeldAs (truthAt bs budget f n ρ steps) budget z) (sym (turned-not h)) (k f steps l c);
 }
 
 -- One more, at node m.
@@ -44,8 +44,8 @@ module _ {bs : List ℕ} {m k : ℕ} (r : Readable bs) (lt : m < nodeCount bs) (
   not-child = field-child bs r m lt negation not-kind predicate 0 (omega arith) (omega arith) refl
 
   not-held : {l : ℕ} (g : ℕ) (ρ : Env) (budget u : ℕ) (h : Held) → m < g → u + l ≡ budget → 0 < l →
-      ((g u : ℕ) → fieldA bs m < g → u + (l - 1) ≡ budget → HeldAs (holdsAt bs budget g (fieldA bs m) ρ u) budget h) →
-      HeldAs (holdsAt bs budget g m ρ u) budget (turnedBy true h)
+      ((g u : ℕ) → fieldA bs m < g → u + (l - 1) ≡ budget → HeldAs (truthAt bs budget g (fieldA bs m) ρ u) budget h) →
+      HeldAs (truthAt bs budget g m ρ u) budget (turnedBy true h)
   not-held g ρ budget u h below c more on =
       let d = pred-at (tableOf bs .nodes) m negation not-kind g below in
       subst (λ (p : Pred). HeldAs (holdsᵖ budget (tableOf bs .sizes) p ρ u) budget (turnedBy true h)) (sym (d .is))
@@ -58,13 +58,13 @@ module _ {bs : List ℕ} {m k : ℕ} (r : Readable bs) (lt : m < nodeCount bs) (
     is = not-child .is;
     lower = omega (arith, p .lower, not-child .lower);
     answer = λ f ρ budget steps h below c on.
-        subst (λ (z : Held). HeldAs (holdsAt bs budget f n ρ steps) budget z) (turned-twice t h)
+        subst (λ (z : Held). HeldAs (truthAt bs budget f n ρ steps) budget z) (turned-twice t h)
         (p .answer f ρ budget steps (turnedBy true h) below c (λ g u l′ c′. not-held g ρ budget u h l′ c′ more on));
   })
 
 -- What the evaluator of the condition reached is given, and what its answer tells.
-module _ {bs env s : List ℕ} {top n left m l : ℕ} {t : Bool} (r : Ready bs env s top n) (is : IsPred bs n) (p : Passes bs n left m l t) where
-  pub bare-ready : Ready bs env s top m
+module _ {bs env s : List ℕ} {top n left m l : ℕ} {t : Bool} (r : NodeReady bs env s top n) (is : IsPred bs n) (p : Passes bs n left m l t) where
+  pub bare-ready : NodeReady bs env s top m
   bare-ready =
       let high = condition-cells (kindAt (tableOf bs .nodes) n) is in
       ready-at r m (omega (arith, r .node, p .below)) (λ b. omega (arith, r .room b, p .lower, condition-cells (kindAt (tableOf bs .nodes) m) (p .is), high))
@@ -74,6 +74,6 @@ module _ {bs env s : List ℕ} {top n left m l : ℕ} {t : Bool} (r : Ready bs e
   bare-tells {s′} {h} e q = record {
     frame = e .frame;
     answer = λ f ρ budget steps below c b.
-        subst (λ (z : Held). HeldAs (holdsAt bs budget f n ρ steps) budget z) (sym q)
+        subst (λ (z : Held). HeldAs (truthAt bs budget f n ρ steps) budget z) (sym q)
         (p .answer f ρ budget steps h below c (λ g u l′ c′. e .answer g ρ budget u l′ c′ b));
   }

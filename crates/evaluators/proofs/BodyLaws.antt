@@ -1,6 +1,6 @@
 -- The body of a binder: its environment at a member of the range, what the loop's answer is asked for, and the members one after the other.
 use Rattle.evaluators.proofs.Terms.{ℕ, _+_, _-_, _*_, _≤_, _<_, Bool, List, [], _≡_, refl, sym, _∙_, subst, arith, length, getD, setAt, length-set, eq-eqb, ne-eqb, none, _▸_, _with_≔_, NewFirsts}
-use Rattle.evaluators.proofs.Terms.{Value, Values, weight, members, tableOf, Env, code, codes, Stands, Same, SomeAt, EndsAt, stands-frame, same-refl, same-trans, length-code, length-codes, Builds, Sizes, GoodAt, good-fits, good-inside, Held, Truth, HeldAs, Listed, fieldA, fieldC, placeOf, Marked, IsPred, cellsFor, Binds, Ready, Asked, bodyOf, EachReady, holdsAt, EvaluatesP}
+use Rattle.evaluators.proofs.Terms.{Value, Values, weight, members, tableOf, Env, code, codes, Stands, Same, SomeAt, EndsAt, stands-frame, same-refl, same-trans, length-code, length-codes, Builds, Sizes, GoodAt, good-fits, good-inside, Held, Truth, HeldAs, Listed, fieldA, fieldC, entryPlace, FunctionEntry, IsPred, cellsFor, Binds, NodeReady, AsksEach, bodyOf, EachReady, truthAt, EvaluatesP}
 use native.Mathlib.Decide.{ℕ-discrete}
 use lib.Seq.{getD-set-same, getD-set-other}
 use Rattle.laws.proofs.FormedLaws.{with-good}
@@ -32,13 +32,13 @@ binds-body {bs} {s} {top} {env} {inner} {ρ} {x} {at} {w} i l small b g = record
     other : (y : ℕ) → (y ≡ x → ⊥) → getD (setAt inner x at) y 0 ≡ getD env y 0
     other y n = getD-set-other inner x y at 0 n ∙ i .else y n
 
-    go : (y : ℕ) → y < 32 → Dec (y ≡ x) → GoodAt (tableOf bs .sizes) s top (placeOf (getD (setAt inner x at) y 0)) ((ρ with x ≔ w) y)
+    go : (y : ℕ) → y < 32 → Dec (y ≡ x) → GoodAt (tableOf bs .sizes) s top (entryPlace (getD (setAt inner x at) y 0)) ((ρ with x ≔ w) y)
     go y h (yes e) =
-        let p : placeOf (getD (setAt inner x at) y 0) ≡ at = omega (arith, here y e, small) in
+        let p : entryPlace (getD (setAt inner x at) y 0) ≡ at = omega (arith, here y e, small) in
         rw (p, eq-eqb x y (sym e), _with_≔_) g
     go y h (no n) = rw (other y n, ne-eqb x y (λ e. n (sym e)), _with_≔_) (b .at y h)
 
-    known : (y : ℕ) → y < 32 → Dec (y ≡ x) → Marked (getD (setAt inner x at) y 0) → NewFirsts ((ρ with x ≔ w) y)
+    known : (y : ℕ) → y < 32 → Dec (y ≡ x) → FunctionEntry (getD (setAt inner x at) y 0) → NewFirsts ((ρ with x ≔ w) y)
     known y h (yes e) m = absurd (omega (arith, here y e, small, m))
     known y h (no n) m = rw (ne-eqb x y (λ e. n (sym e)), _with_≔_) (b .functions y h (rw (other y n) at m))
 
@@ -54,7 +54,7 @@ listed-frame {gs} {s} {s′} {top} {from} {n} {vs} e l = record {
 
 -- The loop may begin, so there is something to ask.
 abbrev pub some-asked : {bs env s : List ℕ} {top n from count spare : ℕ} (left : ℕ) → EachReady bs env s top n from count spare →
-    Asked bs env s top n from count left
+    AsksEach bs env s top n from count left
 some-asked {n = n} left r = record { asks = some-asks n left (r .ready); range = r .range; listed = r .listed }
 
 -- The first of the values, and those behind it.
@@ -91,10 +91,10 @@ none-left {gs} {s} {top} {from} {n} (v ▸ vs) l h = absurd (omega (arith, l .co
 pub record Loop (bs env s₀ : List ℕ) (top n from count left x : ℕ) (s inner : List ℕ) (at more m : ℕ) : Type 0 where
   pub frame : Same top s₀ s
   pub inside : Inner env inner x
-  pub rest : Asked bs env s₀ top n from count left → Values
-  pub listed : (k : Asked bs env s₀ top n from count left) → Listed (tableOf bs .sizes) s top at more (rest k)
-  pub now : Asked bs env s₀ top n from count left → ℕ
-  pub counts : (k : Asked bs env s₀ top n from count left) → now k + m ≡ k .asks .budget
+  pub rest : AsksEach bs env s₀ top n from count left → Values
+  pub listed : (k : AsksEach bs env s₀ top n from count left) → Listed (tableOf bs .sizes) s top at more (rest k)
+  pub now : AsksEach bs env s₀ top n from count left → ℕ
+  pub counts : (k : AsksEach bs env s₀ top n from count left) → now k + m ≡ k .asks .budget
 
 abbrev pub loop-start : {bs env s : List ℕ} {top n from count left spare : ℕ} (x : ℕ) → EachReady bs env s top n from count spare →
     Loop bs env s top n from count left x s env from count left
@@ -110,7 +110,7 @@ loop-start {env = env} {s = s} {top = top} x r = record {
 -- A turn: the member at `at` is bound to x, and the body, node c, runs, above `to`.
 module _ {bs env s₀ : List ℕ} {top n from count left x : ℕ} {s inner : List ℕ} {at more m spare : ℕ} (r : EachReady bs env s₀ top n from count spare)
     (i : Loop bs env s₀ top n from count left x s inner at more m) (some : 0 < more) where
-  pub member : (k : Asked bs env s₀ top n from count left) → First (tableOf bs .sizes) s top at more (i .rest k)
+  pub member : (k : AsksEach bs env s₀ top n from count left) → First (tableOf bs .sizes) s top at more (i .rest k)
   member k = first-member (i .rest k) (i .listed k) some
 
   -- Some member is left.
@@ -124,7 +124,7 @@ module _ {bs env s₀ : List ℕ} {top n from count left x : ℕ} {s inner : Lis
   member-low = omega (arith, good-inside small (some-member .here), i .frame .kept, r .ready .small)
 
   module _ {to : ℕ} (low : top ≤ to) (ex : x ≡ fieldA bs n) {c : ℕ} (ey : c ≡ fieldC bs n) where
-    member-binds : (k : Asked bs env s₀ top n from count left) → Binds bs s to (setAt inner x at) (k .asks .values with x ≔ member k .value)
+    member-binds : (k : AsksEach bs env s₀ top n from count left) → Binds bs s to (setAt inner x at) (k .asks .values with x ≔ member k .value)
     member-binds k =
         let g = member k .here in
         binds-body (i .inside) (omega (arith, ex, r .name)) member-low (binds-frame to (i .frame) low (k .asks .binds))
@@ -132,7 +132,7 @@ module _ {bs env s₀ : List ℕ} {top n from count left x : ℕ} {s inner : Lis
 
     -- What the body's evaluator asks, where the measures are those of the cycle.
     pub body-asks : {t : ℕ} → 5 * n ≡ t → (Builds bs → to + cellsFor bs (fieldC bs n) ≤ length s) →
-        (5 * c + 3 < t) × (Ready bs (setAt inner x at) s to c × IsPred bs c)
+        (5 * c + 3 < t) × (NodeReady bs (setAt inner x at) s to c × IsPred bs c)
     body-asks e room =
         let b = member-binds (some-asked left r) in (
           omega (arith, r .deeper, ey),
@@ -141,7 +141,7 @@ module _ {bs env s₀ : List ℕ} {top n from count left x : ℕ} {s inner : Lis
 
     -- It has run.
     module _ {s′ : List ℕ} {h : Held} (p : EvaluatesP bs (setAt inner x at) s to c m s′ h) where
-      pub body-ends : (h₀ : Held) → h ≡ h₀ → (k : Asked bs env s₀ top n from count left) →
+      pub body-ends : (h₀ : Held) → h ≡ h₀ → (k : AsksEach bs env s₀ top n from count left) →
           HeldAs (bodyOf k (member k .value) (i .now k)) (k .asks .budget) h₀
       body-ends h₀ e k =
           let u = k .asks in
@@ -149,8 +149,8 @@ module _ {bs env s₀ : List ℕ} {top n from count left x : ℕ} {s inner : Lis
           let t = i .now k in
           let a = held-as refl e p .answer (u .depth) (u .values with x ≔ v) (u .budget) t (omega (arith, ey, r .deeper, u .deep)) (i .counts k)
           (member-binds k) in
-          subst (λ (z : ℕ). HeldAs (holdsAt bs (u .budget) (u .depth) z (u .values with fieldA bs n ≔ v) t) (u .budget) h₀) ey
-          (subst (λ (z : ℕ). HeldAs (holdsAt bs (u .budget) (u .depth) c (u .values with z ≔ v) t) (u .budget) h₀) ex a)
+          subst (λ (z : ℕ). HeldAs (truthAt bs (u .budget) (u .depth) z (u .values with fieldA bs n ≔ v) t) (u .budget) h₀) ey
+          (subst (λ (z : ℕ). HeldAs (truthAt bs (u .budget) (u .depth) c (u .values with z ≔ v) t) (u .budget) h₀) ex a)
 
       pub body-frame : Same top s₀ s′
       body-frame = same-trans top to s₀ s s′ (i .frame) (p .frame) low
@@ -168,7 +168,7 @@ module _ {bs env s₀ : List ℕ} {top n from count left x : ℕ} {s inner : Lis
           record { value = w .value; stands = stays (w .here); fits = good-fits small (w .value) (w .here .good) }
 
       module _ {end : ℕ} (z : EndsAt s′ at end) where
-        pub member-ends : (k : Asked bs env s₀ top n from count left) → end ≡ at + weight (member k .value)
+        pub member-ends : (k : AsksEach bs env s₀ top n from count left) → end ≡ at + weight (member k .value)
         member-ends k = let w = member k in z (w .value) (stays (w .here)) (good-fits small (w .value) (w .here .good))
 
         -- It is true or false; s″ is the arena with what the loop itself has written, above `to`, and the next member stands at `end`.

@@ -1,6 +1,6 @@
 -- The two operands of a node, one after the other: their answers joined, for tests and for operations of two; and the tests.
 use Rattle.evaluators.proofs.Terms.{ℕ, _+_, _-_, _*_, _≤_, _<_, Bool, true, false, List, [], _∷_, _≡_, refl, sym, _∙_, subst, arith}
-use Rattle.evaluators.proofs.Terms.{Value, expression, test, fits, tableOf, End, done, refused, Run, M, return, _>>=_, _>>_, fitting, holdsᵖ, Same, same-trans, GoodAt, SomeOperands, Refusal, Formed, Placed, Stopped, Truth, Refused, EndsWith, PlacedAs, conditionCells, Ready, Visited, Sort, Asks, valueAt, EvaluatesP, EvaluatesE, fieldA, fieldB, IsExpr, Test, holds, TestOf, tested}
+use Rattle.evaluators.proofs.Terms.{Value, expression, test, fits, tableOf, End, done, refused, Run, M, return, _>>=_, _>>_, fitting, holdsᵖ, Same, same-trans, GoodAt, SomeOperands, Refusal, Formed, Placed, Stopped, Truth, Refused, EndsWith, PlacedAs, conditionCells, NodeReady, Visited, Sort, Asks, valueAt, EvaluatesP, EvaluatesE, fieldA, fieldB, IsExpr, Test, holds, TestOf, tested}
 use Rattle.rules.specs.Rules.{testRule}
 use Rattle.rules.specs.Reading.{height}
 use Rattle.operations.specs.declared.Tested.{Tested}
@@ -45,11 +45,11 @@ pub record EvaluatesBoth (bs env s : List ℕ) (top n left : ℕ) (s′ : List �
   pub answer : (i : Asks bs env s top n left) → BothAs (firstIn i) (secondIn i) (i .budget) (tableOf bs .sizes) s′ a mid b next l
 
 -- The first operand's node is `a`.
-module _ {bs env s : List ℕ} {top n : ℕ} (x : Ready bs env s top n) (y : TwoFields bs n) {a : ℕ} (q : a ≡ fieldA bs n) where
+module _ {bs env s : List ℕ} {top n : ℕ} (x : NodeReady bs env s top n) (y : TwoFields bs n) {a : ℕ} (q : a ≡ fieldA bs n) where
   pub left-child : Child bs n a expression
   left-child = subst (λ (z : ℕ). Child bs n z expression) (sym q) (y .left)
 
-  pub left-ready : Ready bs env s top a × IsExpr bs a
+  pub left-ready : NodeReady bs env s top a × IsExpr bs a
   left-ready = (ready-first x left-child, left-child .is)
 
   -- It has been evaluated.
@@ -65,7 +65,7 @@ module _ {bs env s : List ℕ} {top n : ℕ} (x : Ready bs env s top n) (y : Two
       placed : EvaluatesE bs env s top a left s′ (Placed at mid l)
       placed = formed-as refl d h
 
-      pub right-ready : Ready bs env s′ mid m × IsExpr bs m
+      pub right-ready : NodeReady bs env s′ mid m × IsExpr bs m
       right-ready = (ready-child s′ m mid x right-child (h .frame) (placed .bounds .0) (placed .bounds .1), right-child .is)
 
       -- The values of the first, and what is asked of the second.
@@ -109,7 +109,7 @@ module _ {bs env s : List ℕ} {top n : ℕ} (x : Ready bs env s top n) (y : Two
             }
 
 -- What an operation may take for granted of its operands. An abbreviation, so that `next` is seen to be where they end.
-abbrev pub operands-ready : {bs env s : List ℕ} {top n left : ℕ} {s′ : List ℕ} {a mid b next l : ℕ} → Ready bs env s top n →
+abbrev pub operands-ready : {bs env s : List ℕ} {top n left : ℕ} {s′ : List ℕ} {a mid b next l : ℕ} → NodeReady bs env s top n →
     EvaluatesBoth bs env s top n left s′ a mid b next l → SomeOperands s′ a b
 operands-ready {bs} {n = n} {left = left} {next = next} x h =
     let v = h .answer (some-asks n left x) in
@@ -167,9 +167,9 @@ module _ {bs env s : List ℕ} {top k n left : ℕ} (p : Visited bs env s top k 
 -- What an operand's evaluator asks, where the measures are those of the cycle: 5 times the node, and what is left to do there.
 module _ {bs env s : List ℕ} {top k n left t : ℕ} (e : 5 * n + 1 ≡ t) (x : Visited bs env s top k n left) (y : TwoFields bs n)
     {a : ℕ} (q : a ≡ fieldA bs n) where
-  pub left-asks : (5 * a + 4 < t) × (Ready bs env s top a × IsExpr bs a)
+  pub left-asks : (5 * a + 4 < t) × (NodeReady bs env s top a × IsExpr bs a)
   left-asks = (omega (arith, left-child (x .ready) y q .below), left-ready (x .ready) y q)
 
   pub right-asks : {l : ℕ} {s′ : List ℕ} {r : Formed} → EvaluatesE bs env s top a l s′ r → {at mid l′ : ℕ} → r ≡ Placed at mid l′ → {m : ℕ} →
-      m ≡ fieldB bs n → (5 * m + 4 < t) × (Ready bs env s′ mid m × IsExpr bs m)
+      m ≡ fieldB bs n → (5 * m + 4 < t) × (NodeReady bs env s′ mid m × IsExpr bs m)
   right-asks h d q′ = (omega (arith, right-child (x .ready) y q h d q′ .below), right-ready (x .ready) y q h d q′)

@@ -1,6 +1,6 @@
 -- The members that a comprehension chooses: its run member by member, and the set that is built of them.
 use Rattle.evaluators.proofs.Terms.{ℕ, _+_, _-_, _*_, _≤_, _<_, Bool, true, false, cond, List, [], _∷_, _≡_, refl, sym, ap, _∙_, subst, arith, length, setAt, length-set, boolByte, _++_, append-assoc, append-nil, values, weights, select, ValuesAt}
-use Rattle.evaluators.proofs.Terms.{Value, Values, members, count, weight, done, refused, M, tableOf, code, codes, Stands, Same, SomeAt, EndsAt, length-code, length-codes, stands-frame, same-refl, same-trans, copied-stands, Refusal, Held, Truth, Refused, Placed, Stopped, EndsWith, SelectedAs, fieldA, fieldC, IsPred, ChooseReady, Chooses, Ready, Asked, bodyOf, EvaluatesP, EachReady, EvaluatesChosen}
+use Rattle.evaluators.proofs.Terms.{Value, Values, members, count, weight, done, refused, M, tableOf, code, codes, Stands, Same, SomeAt, EndsAt, length-code, length-codes, stands-frame, same-refl, same-trans, copied-stands, Refusal, Held, Truth, Refused, Placed, Stopped, EndsWith, SelectedAs, fieldA, fieldC, IsPred, ChooseReady, Chooses, NodeReady, AsksEach, bodyOf, EvaluatesP, EachReady, EvaluatesChosen}
 use lib.Seq.{getD-set-other}
 use Rattle.arena.proofs.Standing.{stands-append}
 use Rattle.arena.proofs.FrontLaws.{single, codes-append, count-append, weights-append}
@@ -108,7 +108,7 @@ module _ {g : Value → M Bool} {whole : List Value} {budget steps : ℕ} {s : L
 -- Before each turn of the loop.
 pub record Choosing (bs env s₀ : List ℕ) (top n from count left x : ℕ) (s inner : List ℕ) (at more m to chosen : ℕ) : Type 0 where
   pub loop : Loop bs env s₀ top n from count left x s inner at more m
-  pub on : (k : Asked bs env s₀ top n from count left) →
+  pub on : (k : AsksEach bs env s₀ top n from count left) →
       Selecting (bodyOf k) (members (k .range)) (k .asks .budget) (k .asks .steps) s top (loop .rest k) (loop .now k) to chosen
 
 module _ {bs env s₀ : List ℕ} {top n from count left : ℕ} (pre : EachReady bs env s₀ top n from count 256) where
@@ -145,11 +145,11 @@ module _ {bs env s₀ : List ℕ} {top n from count left : ℕ} (pre : EachReady
       low : top ≤ to
       low = omega (arith, choosing-near .0)
 
-      pub choosing-asks : {t : ℕ} → 5 * n ≡ t → (5 * c + 3 < t) × (Ready bs (setAt inner x at) s to c × IsPred bs c)
+      pub choosing-asks : {t : ℕ} → 5 * n ≡ t → (5 * c + 3 < t) × (NodeReady bs (setAt inner x at) s to c × IsPred bs c)
       choosing-asks e = body-asks pre (h .loop) some low name body e (λ _. omega (arith, pre .space (omega arith), choosing-near .1, h .loop .frame .kept))
 
       module _ {s₁ : List ℕ} {r : Held} (e : EvaluatesP bs (setAt inner x at) s to c m s₁ r) where
-        abbrev next : (k : Asked bs env s₀ top n from count left) → First (tableOf bs .sizes) s top at more (h .loop .rest k)
+        abbrev next : (k : AsksEach bs env s₀ top n from count left) → First (tableOf bs .sizes) s top at more (h .loop .rest k)
         next k = member pre (h .loop) some k
 
         -- The body is refused.

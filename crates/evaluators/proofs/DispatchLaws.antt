@@ -1,7 +1,7 @@
 -- Where a node's visit goes: the refusal of a visit beyond the budget, the evaluator by the kind's code, the leaves that are built, and those that
 -- stand already.
 use Rattle.evaluators.proofs.Terms.{ℕ, zero, suc, _+_, _-_, _≤_, _<_, Bool, true, false, cond, List, _≢_, _⊎_, inl, inr, ⊎-elim, Option, nothing, some, _≡_, refl, sym, ap, _∙_, subst, arith, leb, getD, false≢true, _&&_, equal, member, subset, atMost, Leaf, givenSet, elementOf, literal, truthConst, emptySet, boolSet, singleton, power, dom, ran, card, choice, pairing, union, inter, diff, product, apply, plus, minus, interval, leafᵉ, boolᵉ, oneᵉ, twoᵉ, comprehensionᵉ, leafValue, ValueAt, builtLeaf, LeafFits, LeafReady, LeafDone, leafPlace, PlaceReady, StandingReady, LeafNode, LeafFormed}
-use Rattle.evaluators.proofs.Terms.{Value, weight, and, or, implies, iff, forAll, forSome, identifier, Kind, join, negation, test, quant, leaf, boolOf, one, two, comprehension, kindOf, Category, predicate, expression, Node, Pred, Expr, tableOf, nodeAt, kindAt, predOf, predAt, exprAt, nodeCount, Readable, CategoryIs, refused, gives, Env, holdsᵖ, valueᵉ, sizes-length, binds-length, good-weight, Same, same-refl, length-code, BuiltAt, code-of, kind-of, Formed, Placed, Stopped, Refused, EndsWith, fieldA, fieldB, IsPred, IsExpr, placeOf, PlacedLeaf, Binds, Ready, Visited, Sort, holdsAt, EvaluatesP, EvaluatesE}
+use Rattle.evaluators.proofs.Terms.{Value, weight, and, or, implies, iff, forAll, forSome, identifier, Kind, join, negation, test, quant, leaf, boolOf, one, two, comprehension, kindOf, Category, predicate, expression, Node, Pred, Expr, tableOf, nodeAt, kindAt, predOf, predAt, exprAt, nodeCount, Readable, CategoryIs, refused, gives, Env, holdsᵖ, valueᵉ, sizes-length, binds-length, good-weight, Same, same-refl, length-code, BuiltAt, code-of, kind-of, Formed, Placed, Stopped, Refused, EndsWith, fieldA, fieldB, IsPred, IsExpr, entryPlace, PlacedLeaf, Binds, NodeReady, Visited, Sort, truthAt, EvaluatesP, EvaluatesE}
 use native.Mathlib.Decide.{ℕ-discrete, decLt}
 use Rattle.rules.specs.Types.{whole}
 use Rattle.laws.proofs.EndLaws.{T-true, T-and, T-leb}
@@ -39,13 +39,13 @@ expr-spent budget gs ρ s c z (oneᵉ n j a) = unvisited budget n s _ c z
 expr-spent budget gs ρ s c z (twoᵉ n j a b) = unvisited budget n s _ c z
 expr-spent budget gs ρ s c z (comprehensionᵉ n x r p) = unvisited budget n s _ c z
 
-module _ {bs env s : List ℕ} {top n left : ℕ} (r : Ready bs env s top n) where
+module _ {bs env s : List ℕ} {top n left : ℕ} (r : NodeReady bs env s top n) where
   pub spent-pred : left ≡ 0 → EvaluatesP bs env s top n left s (Refused (record { number = 19; place = n }) left)
   unfolding predAt
   spent-pred z = record { frame = same-refl top s; answer = go }
     where
       go : (f : ℕ) (ρ : Env) (budget steps : ℕ) → n < f → steps + left ≡ budget → Binds bs s top env ρ →
-          EndsWith (holdsAt bs budget f n ρ steps) (refused 19 n) budget left
+          EndsWith (truthAt bs budget f n ρ steps) (refused 19 n) budget left
       go zero ρ budget steps l c b = absurd (omega arith)
       go (suc f) ρ budget steps l c b = pred-spent budget (tableOf bs .sizes) ρ steps n c z _ _ _ (kindAt (tableOf bs .nodes) n)
 
@@ -163,7 +163,7 @@ standing-code k (inr (a, b, n)) =
 pub name-below : (bs : List ℕ) → Readable bs → (n : ℕ) → n < nodeCount bs → kindAt (tableOf bs .nodes) n ≡ some (leaf identifier) → fieldA bs n < 32
 name-below bs r n lt e = omega (arith, field-holds bs r n lt (leaf identifier) e 0 (omega arith), binds-length bs, r .header .identifiers)
 
-pub place-ready : {bs env s : List ℕ} {top n : ℕ} → Ready bs env s top n → PlaceReady bs env n
+pub place-ready : {bs env s : List ℕ} {top n : ℕ} → NodeReady bs env s top n → PlaceReady bs env n
 place-ready r = record { readable = r .readable; node = r .node; entries = r .entries }
 
 unbuilt-ready : {bs env : List ℕ} {k n : ℕ} → PlaceReady bs env n → k ≡ nodeAt (tableOf bs .nodes) n .kind → Unbuilt k → StandingReady bs env k n
@@ -256,7 +256,7 @@ module _ {bs env s : List ℕ} {top k n left : ℕ} (v : Visited bs env s top k 
       (λ ρ _. let y = b ρ in let q : here (p .ready .kind) ρ ≡ y .value = cc (y .is) in rw q (y .stands, omega (arith, y .ends), y .light)))
 
 -- An operand that stands already, where a visit is left.
-pub placed-answer : {bs env s : List ℕ} {top n at left l : ℕ} → Ready bs env s top n → PlacedLeaf bs env n at → left ≢ 0 → l ≡ left - 1 →
+pub placed-answer : {bs env s : List ℕ} {top n at left l : ℕ} → NodeReady bs env s top n → PlacedLeaf bs env n at → left ≢ 0 → l ≡ left - 1 →
     EvaluatesE bs env s top n left s (Placed at top l)
 placed-answer r p h q = rw q (standing-answer (counted r _ h refl) p)
 
@@ -271,7 +271,7 @@ light-two {k} h = go (ℕ-discrete k 37) (ℕ-discrete k 39)
 
 -- An identifier's value stands where the environment says.
 pub standing-name-place : {bs env : List ℕ} {n at : ℕ} → PlacedLeaf bs env n at → kindAt (tableOf bs .nodes) n ≡ some (leaf identifier) →
-    at ≡ placeOf (getD env (fieldA bs n) 0)
+    at ≡ entryPlace (getD env (fieldA bs n) 0)
 standing-name-place {bs} {env} {n} p e =
     let d : some (leaf identifier) ≡ some (leaf (p .kind)) = sym e ∙ p .is in
     let q : identifier ≡ p .kind = cc in
@@ -283,12 +283,12 @@ module _ {bs env : List ℕ} {k n : ℕ} (p : StandingReady bs env k n) where
   pub standing-name : k ≡ 20 → fieldA bs n < 32
   standing-name q = name-below bs (p .node .readable) n (p .node .node) (ap kindOf (sym (p .same)) ∙ kind-of k (leaf identifier) q)
 
-  pub placed-name : k ≡ 20 → {x at : ℕ} → x ≡ fieldA bs n → at ≡ placeOf (getD env x 0) → PlacedLeaf bs env n at
+  pub placed-name : k ≡ 20 → {x at : ℕ} → x ≡ fieldA bs n → at ≡ entryPlace (getD env x 0) → PlacedLeaf bs env n at
   placed-name q ex d = record {
     kind = identifier;
     is = ap kindOf (sym (p .same)) ∙ kind-of k (leaf identifier) q;
     unbuilt = refl;
-    place = d ∙ ap (λ (y : ℕ). placeOf (getD env y 0)) ex;
+    place = d ∙ ap (λ (y : ℕ). entryPlace (getD env y 0)) ex;
   }
 
   pub placed-constant : k ≢ 20 → PlacedLeaf bs env n n

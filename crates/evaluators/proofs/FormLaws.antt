@@ -1,6 +1,6 @@
 -- What the evaluators of expressions with operands give, kinds 25, 27 to 41 and 43: the operands' answers, and with them the node's.
 use Rattle.evaluators.proofs.Terms.{ℕ, _+_, _-_, _*_, _≤_, _<_, Bool, true, false, List, [], _∷_, some, _≡_, refl, arith, boolByte}
-use Rattle.evaluators.proofs.Terms.{Value, weight, boolOf, one, two, comprehension, predicate, expression, kindOf, tableOf, Run, gives, valueᵉ, code, same-trans, Gives, SomeOperands, Outcome, kind-of, Builds, Refusal, Truth, Refused, Formed, Placed, Stopped, Set, Unlike, PlacedAs, SelectedAs, SettleReady, fieldA, fieldB, PlacedLeaf, RangeAt, Visited, Sort, Asks, EvaluatesP, EvaluatesE, EachReady, EvaluatesChosen, Settles, truthValue, One, Two, setOf, oneValue, twoValue, oneGiven, twoGiven, OneReady, OneOf, TwoReady, TwoOf, LightOf, KnownFunction, MarkedLeaf}
+use Rattle.evaluators.proofs.Terms.{Value, weight, boolOf, one, two, comprehension, predicate, expression, kindOf, tableOf, Run, gives, valueᵉ, code, same-trans, Gives, SomeOperands, Outcome, kind-of, Builds, Refusal, Truth, Refused, Formed, Placed, Stopped, Set, Unlike, PlacedAs, SelectedAs, SettleReady, fieldA, fieldB, PlacedLeaf, RangeAt, Visited, Sort, Asks, EvaluatesP, EvaluatesE, EachReady, EvaluatesChosen, Settles, truthValue, One, Two, setOf, oneValue, twoValue, oneGiven, twoGiven, OneReady, OneOf, TwoReady, TwoOf, LightOf, KnownFunction, FunctionLeaf}
 use Rattle.rules.specs.Rules.{oneRule, twoRule}
 use Rattle.products.specs.Growing.{PutsCell}
 use Rattle.operations.specs.Outcomes.{IsLight}
@@ -126,7 +126,7 @@ module _ {bs env s : List ℕ} {top k n left : ℕ} (x : Visited bs env s top k 
         both-formed (x .ready) two-fields refl first-stands refl refl (placed-answer r q (omega arith) (omega arith)) refl
 
     -- The first is marked, so it is an identifier's value and known to be a function.
-    known-first : MarkedLeaf bs env (fieldA bs n) → KnownFunction s at true
+    known-first : FunctionLeaf bs env (fieldA bs n) → KnownFunction s at true
     known-first m =
         let b = x .ready .binds in
         let lt = name-below bs (x .ready .readable) (fieldA bs n) (omega (arith, two-fields .left .below, x .ready .node)) (m .is) in

@@ -1,6 +1,6 @@
 -- Joins by their codes; then the run at the node, part by part, and with it what the answers for the conditions below make of the node's.
 use Rattle.evaluators.proofs.Terms.{ℕ, _+_, _-_, _*_, _<_, Bool, true, false, not, cond, Bool·beq, List, _⊎_, inl, inr, _≢_, nothing, some, _≡_, refl, sym, ap, _∙_, subst, arith, eqb}
-use Rattle.evaluators.proofs.Terms.{predicate, and, or, implies, iff, join, holdsᵖ, Same, same-trans, code-of, Refusal, Held, Truth, Refused, HeldAs, Ready, Visited, Sort, Asks, EvaluatesP, fieldA, fieldB, IsPred, Join, DecidesBy, JoinedBy}
+use Rattle.evaluators.proofs.Terms.{predicate, and, or, implies, iff, join, holdsᵖ, Same, same-trans, code-of, Refusal, Held, Truth, Refused, HeldAs, NodeReady, Visited, Sort, Asks, EvaluatesP, fieldA, fieldB, IsPred, Join, DecidesBy, JoinedBy}
 use Rattle.rules.specs.Operations as rules
 use Rattle.operations.proofs.KindLaws.{joinCode, same-join}
 use Rattle.evaluators.proofs.RunLaws.{then-done, then-refused, returns}
@@ -84,7 +84,7 @@ module _ {bs env s : List ℕ} {top k n left : ℕ} (at-join : Visited bs env s 
         join-next : Child bs n m predicate
         join-next = visited-child v (join j) (at-join .1 .1) predicate 1 m (omega arith) (omega arith) refl qb
 
-        pub join-asks : {t : ℕ} → 5 * n + 1 ≡ t → (5 * m + 3 < t) × (Ready bs env s′ top m × IsPred bs m)
+        pub join-asks : {t : ℕ} → 5 * n + 1 ≡ t → (5 * m + 3 < t) × (NodeReady bs env s′ top m × IsPred bs m)
         join-asks e = (omega (arith, join-next .below), (ready-child s′ m top (v .ready) join-next (h .frame) (omega arith) (omega arith), join-next .is))
 
         open-by : rules.decides j y ≡ nothing

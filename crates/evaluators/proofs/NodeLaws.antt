@@ -1,6 +1,6 @@
 -- The children of a node, its tree, what its evaluators pass on to theirs, and its answer from theirs.
 use Rattle.evaluators.proofs.Terms.{ℕ, zero, suc, _+_, _-_, _*_, _≤_, _<_, Bool, true, List, [], _∷_, Option, nothing, some, _≡_, refl, sym, ap, _∙_, subst, arith, T, length, getD, categoryOf, Field, isChild, Table, fieldsIf, pick, held, exprOf, FieldRight, FieldsRight, KindRight, NodeRight, FormedAs, FormedBounds, SettledAs, RefusalOf, StopOf}
-use Rattle.evaluators.proofs.Terms.{Value, Kind, Category, predicate, expression, unused, child, kindOf, fieldsOf, Node, Pred, Expr, tableOf, nodeAt, kindAt, fieldWords, predOf, predAt, exprAt, nodeCount, Readable, CategoryIs, Env, End, refused, Run, M, _>>_, visit, Given, holdsᵖ, valueᵉ, sizes-length, Same, stands-frame, same-refl, same-trans, length-code, built, Builds, Sizes, GoodAt, Gives, Outcome, Held, Refused, Formed, Placed, Stopped, Refusal, EndsWith, HeldAs, fieldA, fieldB, conditionCells, expressionCells, cellsFor, Binds, Ready, Visited, Asks, holdsAt, valueAt, EvaluatesP, EvaluatesE, Settles}
+use Rattle.evaluators.proofs.Terms.{Value, Kind, Category, predicate, expression, unused, child, kindOf, fieldsOf, Node, Pred, Expr, tableOf, nodeAt, kindAt, fieldWords, predOf, predAt, exprAt, nodeCount, Readable, CategoryIs, Env, End, refused, Run, M, _>>_, visit, Given, holdsᵖ, valueᵉ, sizes-length, Same, stands-frame, same-refl, same-trans, length-code, built, Builds, Sizes, GoodAt, Gives, Outcome, Held, Refused, Formed, Placed, Stopped, Refusal, EndsWith, HeldAs, fieldA, fieldB, conditionCells, expressionCells, cellsFor, Binds, NodeReady, Visited, Asks, truthAt, valueAt, EvaluatesP, EvaluatesE, Settles}
 use Rattle.rules.specs.Cells.{good}
 use Rattle.rules.specs.Reading.{height, tallest}
 use Rattle.laws.proofs.TableLaws.{nodes-length, height-at}
@@ -121,8 +121,8 @@ condition-cells nothing e = absurd e
 condition-cells (some k) e = ap (λ (c : Category). elim c [ predicate ↦ 0 | expression ↦ 128 ]) e
 
 -- What an evaluator may take for granted, at a node m of the same table.
-pub ready-at : {bs env s env′ s′ : List ℕ} {top n k : ℕ} {ρ : Env} → Ready bs env s top n → (m : ℕ) → m < nodeCount bs →
-    (Builds bs → k + cellsFor bs m ≤ length s′) → length s′ ≡ length s → length env′ ≡ 32 → Binds bs s′ k env′ ρ → Ready bs env′ s′ k m
+pub ready-at : {bs env s env′ s′ : List ℕ} {top n k : ℕ} {ρ : Env} → NodeReady bs env s top n → (m : ℕ) → m < nodeCount bs →
+    (Builds bs → k + cellsFor bs m ≤ length s′) → length s′ ≡ length s → length env′ ≡ 32 → Binds bs s′ k env′ ρ → NodeReady bs env′ s′ k m
 ready-at {bs} {ρ = ρ} r m l room kept long b = record {
   readable = r .readable;
   node = l;
@@ -136,13 +136,13 @@ ready-at {bs} {ρ = ρ} r m l room kept long b = record {
 
 -- What a node's evaluator may pass on to that of a child, over an arena that is the same below `top`.
 pub ready-child : {bs env s : List ℕ} {top n : ℕ} {c : Category} (s′ : List ℕ) (m k : ℕ) →
-    Ready bs env s top n → Child bs n m c → Same top s s′ → top ≤ k → k ≤ top + 256 → Ready bs env s′ k m
+    NodeReady bs env s top n → Child bs n m c → Same top s s′ → top ≤ k → k ≤ top + 256 → NodeReady bs env s′ k m
 ready-child {bs} s′ m k r c e le near =
     ready-at r m (omega (arith, c .below, r .node)) (λ b. omega (arith, c .lower, c .tall, r .room b, e .kept, expression-cells (kindAt (tableOf bs .nodes) m)))
     (e .kept) (r .entries) (binds-frame k e le (r .binds))
 
 -- So too to that of its first child, where nothing has been written yet.
-pub ready-first : {bs env s : List ℕ} {top n m : ℕ} {c : Category} → Ready bs env s top n → Child bs n m c → Ready bs env s top m
+pub ready-first : {bs env s : List ℕ} {top n m : ℕ} {c : Category} → NodeReady bs env s top n → Child bs n m c → NodeReady bs env s top m
 ready-first {bs} {env} {s} {top} {n} {m} r c = ready-child s m top r c (same-refl top s) (omega arith) (omega arith)
 
 -- The kind of a visited node, and its children.
@@ -170,7 +170,7 @@ module _ {bs env s : List ℕ} {top k n left : ℕ} (v : Visited bs env s top k 
   }
 
 -- There is something to ask.
-abbrev pub some-asks : {bs env s : List ℕ} {top m : ℕ} (n left : ℕ) → Ready bs env s top m → Asks bs env s top n left
+abbrev pub some-asks : {bs env s : List ℕ} {top m : ℕ} (n left : ℕ) → NodeReady bs env s top m → Asks bs env s top n left
 some-asks n left r = record { depth = n; values = r .values; budget = left; steps = 0; deep = omega arith; counts = omega arith; binds = r .binds }
 
 -- After t visits, over an arena that is the same below `top`.
@@ -187,8 +187,8 @@ asks-on k {mid = mid} t e le c = record {
 }
 
 -- What the evaluator of a child asks, where the measures are those of the cycle: 5 times the node, and w that is left to do there.
-pub child-asks : {bs env s : List ℕ} {top n m t : ℕ} {c : Category} (w : ℕ) → w ≤ 5 → 5 * n + 1 ≡ t → Ready bs env s top n → Child bs n m c →
-    (5 * m + w < t) × (Ready bs env s top m × CategoryIs c (kindAt (tableOf bs .nodes) m))
+pub child-asks : {bs env s : List ℕ} {top n m t : ℕ} {c : Category} (w : ℕ) → w ≤ 5 → 5 * n + 1 ≡ t → NodeReady bs env s top n → Child bs n m c →
+    (5 * m + w < t) × (NodeReady bs env s top m × CategoryIs c (kindAt (tableOf bs .nodes) m))
 child-asks w l e r d = (omega (arith, d .below), (ready-first r d, d .is))
 
 -- The visit of the node is within the budget; and what is asked after it.
@@ -219,7 +219,7 @@ formed-as e q h = rw (e, q) at h
 -- The runs at a node below the one that is asked for, and its answer there: b is the child's node a.
 module _ {bs env s : List ℕ} {top n left : ℕ} (i : Asks bs env s top n left) where
   abbrev pub holdsIn : ℕ → Run Bool
-  holdsIn m = holdsAt bs (i .budget) (i .depth) m (i .values) (i .steps)
+  holdsIn m = truthAt bs (i .budget) (i .depth) m (i .values) (i .steps)
 
   abbrev pub valueIn : ℕ → Run Value
   valueIn m = valueAt bs (i .budget) (i .depth) m (i .values) (i .steps)

@@ -1,7 +1,7 @@
 -- The loop over the members of a quantifier's range, turn by turn, and the quantifier's node: what is given for the rest of the range is
 -- given for the whole.
 use Rattle.evaluators.proofs.Terms.{ℕ, _+_, _-_, _*_, _<_, Bool, true, false, not, Bool·beq, List, [], _∷_, some, _≡_, refl, sym, ap, _∙_, arith, eqb, setAt, Quant, quantify, quantOf, EvaluatesEach}
-use Rattle.evaluators.proofs.Terms.{Value, members, forAll, forSome, quant, kindOf, End, done, refused, Run, M, tableOf, holdsᵖ, SomeAt, EndsAt, same-refl, same-trans, code-of, Refusal, Held, Truth, Refused, Formed, Placed, Stopped, Set, Unlike, EndsWith, HeldAs, fieldA, fieldB, fieldC, IsPred, RangeAt, Ready, Visited, Sort, Asked, bodyOf, EachReady, EvaluatesP, EvaluatesE}
+use Rattle.evaluators.proofs.Terms.{Value, members, forAll, forSome, quant, kindOf, End, done, refused, Run, M, tableOf, holdsᵖ, SomeAt, EndsAt, same-refl, same-trans, code-of, Refusal, Held, Truth, Refused, Formed, Placed, Stopped, Set, Unlike, EndsWith, HeldAs, fieldA, fieldB, fieldC, IsPred, RangeAt, NodeReady, Visited, Sort, AsksEach, bodyOf, EachReady, EvaluatesP, EvaluatesE}
 use native.Mathlib.Nat.{le-refl}
 use Rattle.operations.proofs.KindLaws.{quantCode}
 use Rattle.evaluators.proofs.RunLaws.{then-done, then-refused, returns}
@@ -50,7 +50,7 @@ module _ (g : Value → M Bool) where
 -- Before each turn of the loop: what the quantifier gives for the rest of the range it gives for the whole.
 pub record Turning (bs env s₀ : List ℕ) (top : ℕ) (all : Bool) (node from count left x : ℕ) (s inner : List ℕ) (at more n : ℕ) : Type 0 where
   pub loop : Loop bs env s₀ top node from count left x s inner at more n
-  pub gives : (k : Asked bs env s₀ top node from count left) (e : End Bool) (l : ℕ) →
+  pub gives : (k : AsksEach bs env s₀ top node from count left) (e : End Bool) (l : ℕ) →
       EndsWith (quantify (quantOf all) (bodyOf k) (members (loop .rest k)) (loop .now k)) e (k .asks .budget) l →
       EndsWith (quantify (quantOf all) (bodyOf k) (members (k .range)) (k .asks .steps)) e (k .asks .budget) l
 
@@ -63,14 +63,14 @@ turning-start all x r = record { loop = loop-start x r; gives = λ k e l h. h }
 module _ {bs env s₀ : List ℕ} {top : ℕ} {all : Bool} {node from count left x : ℕ} {s inner : List ℕ} {at more n : ℕ}
     (r : EachReady bs env s₀ top node from count 0) (i : Turning bs env s₀ top all node from count left x s inner at more n) (some : 0 < more)
     (ex : x ≡ fieldA bs node) {b : ℕ} (ey : b ≡ fieldC bs node) where
-  pub member-asks : {t : ℕ} → 5 * node ≡ t → (5 * b + 3 < t) × (Ready bs (setAt inner x at) s top b × IsPred bs b)
+  pub member-asks : {t : ℕ} → 5 * node ≡ t → (5 * b + 3 < t) × (NodeReady bs (setAt inner x at) s top b × IsPred bs b)
   member-asks e = body-asks r (i .loop) some (le-refl top) ex ey e (λ b. omega (arith, r .ready .room b, i .loop .frame .kept))
 
   module _ {s′ : List ℕ} {h : Held} (p : EvaluatesP bs (setAt inner x at) s top b n s′ h) where
-    abbrev next : (k : Asked bs env s₀ top node from count left) → First (tableOf bs .sizes) s top at more (i .loop .rest k)
+    abbrev next : (k : AsksEach bs env s₀ top node from count left) → First (tableOf bs .sizes) s top at more (i .loop .rest k)
     next k = member r (i .loop) some k
 
-    ends : (h₀ : Held) → h ≡ h₀ → (k : Asked bs env s₀ top node from count left) → HeldAs (bodyOf k (next k .value) (i .loop .now k)) (k .asks .budget) h₀
+    ends : (h₀ : Held) → h ≡ h₀ → (k : AsksEach bs env s₀ top node from count left) → HeldAs (bodyOf k (next k .value) (i .loop .now k)) (k .asks .budget) h₀
     ends = body-ends r (i .loop) some (le-refl top) ex ey p
 
     pub member-stands : SomeAt s′ at

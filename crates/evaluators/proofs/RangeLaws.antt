@@ -1,7 +1,7 @@
 -- A binder's range: its fields, its part of the node's run, the members of a set that stands in the arena, what the loop over them may take for
 -- granted, and `range_of`.
 use Rattle.evaluators.proofs.Terms.{ℕ, _+_, _-_, _*_, _≤_, _<_, Bool, true, false, List, [], _∷_, some, _≡_, refl, sym, ap, _∙_, subst, arith, T, length, getD, _%_, set, HasType, Fits, typed, demand, cellSize, RangeSet, SomeGood}
-use Rattle.evaluators.proofs.Terms.{Value, Values, count, Kind, Category, expression, predicate, unused, child, kindOf, fieldsOf, fits, tableOf, nodeAt, kindAt, fieldWords, End, refused, Run, M, _>>=_, _>>_, visit, binds-length, good-weight, code, codes, built, Sizes, GoodAt, good-fits, good-inside, Placed, Stopped, Refusal, Set, Unlike, EndsWith, PlacedAs, Listed, fieldA, fieldB, fieldC, RangeAt, expressionCells, Ready, Visited, Asks, Asked, valueAt, EvaluatesE, EachReady}
+use Rattle.evaluators.proofs.Terms.{Value, Values, count, Kind, Category, expression, predicate, unused, child, kindOf, fieldsOf, fits, tableOf, nodeAt, kindAt, fieldWords, End, refused, Run, M, _>>=_, _>>_, visit, binds-length, good-weight, code, codes, built, Sizes, GoodAt, good-fits, good-inside, Placed, Stopped, Refusal, Set, Unlike, EndsWith, PlacedAs, Listed, fieldA, fieldB, fieldC, RangeAt, expressionCells, NodeReady, Visited, Asks, AsksEach, valueAt, EvaluatesE, EachReady}
 use Rattle.rules.specs.Types.{Ty, atom, POW, _⊗_}
 use Rattle.rules.specs.Rules.{P̂, t̂, quantRule}
 use Rattle.laws.proofs.BindingLaws.{binderFields}
@@ -51,7 +51,7 @@ pub record Binder (bs env s : List ℕ) (top k n left a : ℕ) (x : Kind) : Type
   pub word : a ≡ fieldB bs n
 
 module _ {bs env s : List ℕ} {top k n left a : ℕ} {x : Kind} (b : Binder bs env s top k n left a x) where
-  abbrev r : Ready bs env s top n
+  abbrev r : NodeReady bs env s top n
   r = b .visited .ready
 
   child-in : (c : Category) (i m : ℕ) → i < 3 → getD binderFields i unused ≡ child c → m ≡ getD (fieldWords (nodeAt (tableOf bs .nodes) n)) i 0 → Child bs n m c
@@ -133,7 +133,7 @@ module _ {bs env s : List ℕ} {top k n left a : ℕ} {x : Kind} (b : Binder bs 
         is-set = y (tableOf bs .sizes) next (placed .value) small (placed .place)
 
         -- What is asked of the loop over it.
-        abbrev pub in-range : Asked bs env s₁ next n (at + 1) count l
+        abbrev pub in-range : AsksEach bs env s₁ next n (at + 1) count l
         in-range = record {
           asks = asks-on (after (b .visited) i) (valueIn (after (b .visited) i) (fieldB bs n) .steps) (h .frame) (h .bounds .0) (placed .ends .steps);
           range = is-set .members;

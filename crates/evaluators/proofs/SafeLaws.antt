@@ -1,6 +1,6 @@
 -- What the code of the evaluators asks to be safe: nodes that may be read, numbers that fit their width, room.
 use Rattle.evaluators.proofs.Terms.{ℕ, _+_, _-_, _*_, _≤_, _<_, List, _≡_, refl, _∙_, arith, lit<, length, setAt, length-set, scaled-fits, fits-under}
-use Rattle.evaluators.proofs.Terms.{nodeCount, Readable, Same, Builds, Ready, EachReady, nodesAt}
+use Rattle.evaluators.proofs.Terms.{nodeCount, Readable, Same, Builds, NodeReady, EachReady, nodesAt}
 use mir.Syntax.{w64}
 use mir.Val.{Fits}
 use Rattle.table.specs.Layout.{NodeIn}
@@ -19,7 +19,7 @@ module _ {x y : ℕ} (e : x ≡ y) (l : y < 32) where
 pub node-in : {bs : List ℕ} {n : ℕ} → Readable bs → n < nodeCount bs → NodeIn bs (nodesAt bs) n
 node-in r l = record { laid = record { header = r .header; base = refl }; below = l }
 
-module _ {bs env s : List ℕ} {top n : ℕ} (r : Ready bs env s top n) where
+module _ {bs env s : List ℕ} {top n : ℕ} (r : NodeReady bs env s top n) where
   pub ready-node : NodeIn bs (nodesAt bs) n
   ready-node = node-in (r .readable) (r .node)
 

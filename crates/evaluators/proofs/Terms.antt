@@ -42,8 +42,8 @@ pub use Rattle.operations.specs.declared.Outcome.{Outcome}
 pub use Rattle.evaluators.specs.declared.Held.{Held}
 pub use Rattle.evaluators.specs.declared.Held.the-variants.{Truth, Refused}
 pub use Rattle.evaluators.specs.Answers.{HeldAs, turnedBy, Listed, EndsWith, PlacedAs, SelectedAs, SettleReady, FormedAs, FormedBounds, SettledAs, RefusalOf, StopOf, RangeSet}
-pub use Rattle.evaluators.specs.Cycle.{Ready, holdsAt, Passes, EvaluatesP, cellsFor, Binds, Asked, bodyOf, EachReady, conditionCells, Visited, Sort, Asks, valueAt, EvaluatesE, EvaluatesChosen, Settles, expressionCells, EvaluatesEach}
-pub use Rattle.evaluators.specs.Nodes.{fieldA, IsPred, fieldC, placeOf, Marked, fieldB, IsExpr, ChooseReady, Chooses, PlacedLeaf, RangeAt, leafPlace, PlaceReady, StandingReady, LeafNode, LeafFormed, MarkedLeaf, DecidesBy, JoinedBy, quantOf, SomeGood}
+pub use Rattle.evaluators.specs.Cycle.{NodeReady, truthAt, Passes, EvaluatesP, cellsFor, Binds, AsksEach, bodyOf, EachReady, conditionCells, Visited, Sort, Asks, valueAt, EvaluatesE, EvaluatesChosen, Settles, expressionCells, EvaluatesEach}
+pub use Rattle.evaluators.specs.Nodes.{fieldA, IsPred, fieldC, entryPlace, FunctionEntry, fieldB, IsExpr, ChooseReady, Chooses, PlacedLeaf, RangeAt, leafPlace, PlaceReady, StandingReady, LeafNode, LeafFormed, FunctionLeaf, DecidesBy, JoinedBy, quantOf, SomeGood}
 pub use Rattle.evaluators.specs.declared.Formed.{Formed}
 pub use Rattle.evaluators.specs.declared.Formed.the-variants.{Value as Placed, Stopped}
 pub use Rattle.evaluators.specs.declared.Range.the-variants.{Set, Unlike}

@@ -26,15 +26,15 @@ use Rattle.evaluators.specs.declared.Held.{Held}
 use Rattle.evaluators.specs.declared.Formed.{Formed}
 use Rattle.evaluators.specs.declared.Bare.{Bare}
 use Rattle.evaluators.specs.declared.Places.{Places}
-use Rattle.evaluators.specs.Nodes.{IsPred, NoNegation, fieldA, fieldB, fieldC, placeOf, Marked, PlacedLeaf, MarkedLeaf}
+use Rattle.evaluators.specs.Nodes.{IsPred, NoNegation, fieldA, fieldB, fieldC, entryPlace, FunctionEntry, PlacedLeaf, FunctionLeaf}
 use Rattle.evaluators.specs.Answers.{HeldAs, turnedBy, FormedAs, FormedBounds, Listed, ChosenAs, ChosenBounds, SettledAs}
 
 -- The values of the identifiers are good and stand where the environment says, and those that it marks are functions; the constants stand in the
 -- cells of their nodes.
 pub record Binds (bs s : List ℕ) (top : ℕ) (env : List ℕ) (ρ : Env) : Type 0 where
-  pub at : (x : ℕ) → x < 32 → GoodAt (tableOf bs .sizes) s top (placeOf (getD env x 0)) (ρ x)
+  pub at : (x : ℕ) → x < 32 → GoodAt (tableOf bs .sizes) s top (entryPlace (getD env x 0)) (ρ x)
   pub good : (x : ℕ) → T (good (tableOf bs .sizes) (ρ x))
-  pub functions : (x : ℕ) → x < 32 → Marked (getD env x 0) → NewFirsts (ρ x)
+  pub functions : (x : ℕ) → x < 32 → FunctionEntry (getD env x 0) → NewFirsts (ρ x)
   pub constants : Constants bs (nodeCount bs) s
   pub low : nodeCount bs ≤ top
 
@@ -52,7 +52,7 @@ expressionCells (some k) = elim (categoryOf k) [ predicate ↦ 0 | expression �
 abbrev pub cellsFor : List ℕ → ℕ → ℕ
 cellsFor bs n = conditionCells (height (tableOf bs .nodes) n) + expressionCells (kindAt (tableOf bs .nodes) n)
 
-pub record Ready (bs env s : List ℕ) (top n : ℕ) : Type 0 where
+pub record NodeReady (bs env s : List ℕ) (top n : ℕ) : Type 0 where
   pub readable : Readable bs
   pub node : n < nodeCount bs
   pub room : Builds bs → top + cellsFor bs n ≤ length s
@@ -64,7 +64,7 @@ pub record Ready (bs env s : List ℕ) (top n : ℕ) : Type 0 where
 
 -- So too, at a node of the kind k that may still be visited.
 pub record Visited (bs env s : List ℕ) (top k n left : ℕ) : Type 0 where
-  pub ready : Ready bs env s top n
+  pub ready : NodeReady bs env s top n
   pub unspent : 0 < left
   pub kind : k ≡ nodeAt (tableOf bs .nodes) n .kind
 
@@ -73,8 +73,8 @@ abbrev pub Sort : {J : Type 0} → (J → Kind) → ℕ → Type 0
 Sort {J} f k = (j : J) × (kindOf k ≡ some (f j))
 
 -- The runs at a node.
-abbrev pub holdsAt : List ℕ → ℕ → ℕ → ℕ → Env → M Bool
-holdsAt bs budget f n ρ = holdsᵖ budget (tableOf bs .sizes) (predAt f (tableOf bs .nodes) n) ρ
+abbrev pub truthAt : List ℕ → ℕ → ℕ → ℕ → Env → M Bool
+truthAt bs budget f n ρ = holdsᵖ budget (tableOf bs .sizes) (predAt f (tableOf bs .nodes) n) ρ
 
 abbrev pub valueAt : List ℕ → ℕ → ℕ → ℕ → Env → M Value
 valueAt bs budget f n ρ = valueᵉ budget (tableOf bs .sizes) (exprAt f (tableOf bs .nodes) n) ρ
@@ -83,7 +83,7 @@ valueAt bs budget f n ρ = valueᵉ budget (tableOf bs .sizes) (exprAt f (tableO
 pub record EvaluatesP (bs env s : List ℕ) (top n left : ℕ) (s′ : List ℕ) (r : Held) : Type 0 where
   pub frame : Same top s s′
   pub answer : (f : ℕ) (ρ : Env) (budget steps : ℕ) → n < f → steps + left ≡ budget → Binds bs s top env ρ →
-      HeldAs (holdsAt bs budget f n ρ steps) budget r
+      HeldAs (truthAt bs budget f n ρ steps) budget r
 
 -- From node n down negations, a visit for each, to node m, a condition no higher: its answer for the l visits left tells that for node n.
 pub record Passes (bs : List ℕ) (n left m l : ℕ) (t : Bool) : Type 0 where
@@ -91,8 +91,8 @@ pub record Passes (bs : List ℕ) (n left m l : ℕ) (t : Bool) : Type 0 where
   pub is : IsPred bs m
   pub lower : height (tableOf bs .nodes) m ≤ height (tableOf bs .nodes) n
   pub answer : (f : ℕ) (ρ : Env) (budget steps : ℕ) (h : Held) → n < f → steps + left ≡ budget →
-      ((g u : ℕ) → m < g → u + l ≡ budget → HeldAs (holdsAt bs budget g m ρ u) budget h) →
-      HeldAs (holdsAt bs budget f n ρ steps) budget (turnedBy t h)
+      ((g u : ℕ) → m < g → u + l ≡ budget → HeldAs (truthAt bs budget g m ρ u) budget h) →
+      HeldAs (truthAt bs budget f n ρ steps) budget (turnedBy t h)
 
 pub record Bares (bs : List ℕ) (n left : ℕ) (r : Bare) : Type 0 where
   pub passes : Passes bs n left (r .node) (r .left) (r .turned)
@@ -107,7 +107,7 @@ pub record EvaluatesE (bs env s : List ℕ) (top n left : ℕ) (s′ : List ℕ)
 
 -- The body of a binder at each member of its range.
 abbrev pub bodyAt : List ℕ → ℕ → ℕ → ℕ → Env → Value → M Bool
-bodyAt bs budget n f ρ w = holdsAt bs budget f (fieldC bs n) (ρ with fieldA bs n ≔ w)
+bodyAt bs budget n f ρ w = truthAt bs budget f (fieldC bs n) (ρ with fieldA bs n ≔ w)
 
 -- What an answer at a node is asked for: a depth of the trees below it, values of the identifiers, and a budget with the visits made.
 pub record Asks (bs env s : List ℕ) (top n left : ℕ) : Type 0 where
@@ -120,17 +120,17 @@ pub record Asks (bs env s : List ℕ) (top n left : ℕ) : Type 0 where
   pub binds : Binds bs s top env values
 
 -- What the answer of a loop over a range is asked for: the members too; and the body at them.
-pub record Asked (bs env s : List ℕ) (top n from count left : ℕ) : Type 0 where
+pub record AsksEach (bs env s : List ℕ) (top n from count left : ℕ) : Type 0 where
   pub asks : Asks bs env s top n left
   pub range : Values
   pub listed : Listed (tableOf bs .sizes) s top from count range
 
-abbrev pub bodyOf : {bs env s : List ℕ} {top n from count left : ℕ} → Asked bs env s top n from count left → Value → M Bool
+abbrev pub bodyOf : {bs env s : List ℕ} {top n from count left : ℕ} → AsksEach bs env s top n from count left → Value → M Bool
 bodyOf {bs} {n = n} k = bodyAt bs (k .asks .budget) n (k .asks .depth) (k .asks .values)
 
 -- The loop over a range may itself build a set of `spare` cells, if that is not 0.
 pub record EachReady (bs env s : List ℕ) (top n from count spare : ℕ) : Type 0 where
-  pub ready : Ready bs env s top (fieldC bs n)
+  pub ready : NodeReady bs env s top (fieldC bs n)
   pub binder : n < nodeCount bs
   pub deeper : fieldC bs n < n
   pub is : IsPred bs (fieldC bs n)
@@ -141,13 +141,13 @@ pub record EachReady (bs env s : List ℕ) (top n from count spare : ℕ) : Type
 
 pub record EvaluatesEach (bs env s : List ℕ) (top n from count left : ℕ) (j : Quant) (s′ : List ℕ) (r : Held) : Type 0 where
   pub frame : Same top s s′
-  pub answer : (k : Asked bs env s top n from count left) →
+  pub answer : (k : AsksEach bs env s top n from count left) →
       HeldAs (quantify j (bodyOf k) (members (k .range)) (k .asks .steps)) (k .asks .budget) r
 
 pub record EvaluatesChosen (bs env s : List ℕ) (top n from count left : ℕ) (s′ : List ℕ) (r : Formed) : Type 0 where
   pub frame : Same top s s′
   pub bounds : ChosenBounds top r
-  pub answer : (k : Asked bs env s top n from count left) →
+  pub answer : (k : AsksEach bs env s top n from count left) →
       ChosenAs (select (bodyOf k) (members (k .range)) (k .asks .steps)) (k .asks .budget) s′ top r
 
 -- The operands of an operation that builds nothing stand already, and there are visits for the three nodes.
@@ -156,7 +156,7 @@ pub record StandingTwo (bs env : List ℕ) (k n left : ℕ) (r : Places) : Type 
   pub second : PlacedLeaf bs env (fieldB bs n) (r .second)
   pub visits : 3 ≤ left
   pub light : IsLight k
-  pub known : r .known ≡ true → MarkedLeaf bs env (fieldA bs n)
+  pub known : r .known ≡ true → FunctionLeaf bs env (fieldA bs n)
 
 -- What a node gives has been settled at `top`. The node has operands, so that its height is 2 or more.
 pub record Settles (s : List ℕ) (o : Outcome) (mid next top node left : ℕ) (s′ : List ℕ) (r : Formed) : Type 0 where

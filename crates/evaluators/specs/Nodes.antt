@@ -66,15 +66,15 @@ pub record PlaceReady (bs env : List ℕ) (n : ℕ) : Type 0 where
   pub entries : length env ≡ 32
 
 -- An entry of the environment is a place, and 65536 more where the value there is known to be a function.
-abbrev pub placeOf : ℕ → ℕ
-placeOf e = e % 65536
+abbrev pub entryPlace : ℕ → ℕ
+entryPlace e = e % 65536
 
-abbrev pub Marked : ℕ → Type 0
-Marked e = 65536 ≤ e
+abbrev pub FunctionEntry : ℕ → Type 0
+FunctionEntry e = 65536 ≤ e
 
 -- A leaf whose value is not built, and the place where it stands already.
 abbrev pub leafPlace : Leaf → List ℕ → ℕ → ℕ → ℕ
-leafPlace identifier env n a = placeOf (getD env a 0)
+leafPlace identifier env n a = entryPlace (getD env a 0)
 leafPlace givenSet env n a = n
 leafPlace elementOf env n a = n
 leafPlace (literal m) env n a = n
@@ -99,9 +99,9 @@ abbrev pub PlaceAt : List ℕ → List ℕ → ℕ → ℕ → Type 0
 PlaceAt bs env n at = at ≢ 0 → PlacedLeaf bs env n at
 
 -- The node is an identifier whose value is known to be a function.
-pub record MarkedLeaf (bs env : List ℕ) (n : ℕ) : Type 0 where
+pub record FunctionLeaf (bs env : List ℕ) (n : ℕ) : Type 0 where
   pub is : kindAt (tableOf bs .nodes) n ≡ some (leaf identifier)
-  pub marked : Marked (getD env (fieldA bs n) 0)
+  pub marked : FunctionEntry (getD env (fieldA bs n) 0)
 
 -- The node of a leaf that is built.
 pub record LeafNode (bs s : List ℕ) (top k n : ℕ) : Type 0 where

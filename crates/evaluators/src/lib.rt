@@ -10,8 +10,8 @@ ghost use Rattle.rules.specs.Readable.{Readable};
 ghost use Rattle.evaluators.specs.declared.Held.the-variants.{Refused};
 ghost use Rattle.evaluators.specs.declared.Formed.the-variants.{Stopped};
 ghost use Rattle.evaluators.specs.Answers.{RefusalOf, StopOf, turnedBy, SettleReady};
-ghost use Rattle.evaluators.specs.Nodes.{IsPred, IsExpr, NoNegation, DecidesBy, JoinedBy, quantOf, SomeGood, RangeAt, StandingReady, PlacedLeaf, PlaceReady, PlaceAt, MarkedLeaf, LeafNode, LeafFormed, ChooseReady, Chooses};
-ghost use Rattle.evaluators.specs.Cycle.{Ready, Visited, Sort, Bares, EvaluatesP, EvaluatesE, EachReady, EvaluatesEach, EvaluatesChosen, Settles, StandingTwo};
+ghost use Rattle.evaluators.specs.Nodes.{IsPred, IsExpr, NoNegation, DecidesBy, JoinedBy, quantOf, SomeGood, RangeAt, StandingReady, PlacedLeaf, PlaceReady, PlaceAt, FunctionLeaf, LeafNode, LeafFormed, ChooseReady, Chooses};
+ghost use Rattle.evaluators.specs.Cycle.{NodeReady, Visited, Sort, Bares, EvaluatesP, EvaluatesE, EachReady, EvaluatesEach, EvaluatesChosen, Settles, StandingTwo};
 use operations::Outcome;
 use operations::Tested;
 use reading::Refusal;
@@ -148,7 +148,7 @@ pub fn eval_pred(
     node: usize,
     left: u32,
 ) -> Held
-    requires { ⌜ Ready (now table) (now env) (now s) top node × IsPred (now table) node ⌝ }
+    requires { ⌜ NodeReady (now table) (now env) (now s) top node × IsPred (now table) node ⌝ }
     ensures { λ r. ⌜ EvaluatesP (now (table .entry)) (now (env .entry)) (now (s .entry)) top node left (now (s .exit)) r ⌝ }
 {
     let b = strip(table, node, left);
@@ -165,7 +165,7 @@ fn eval_bare(
     node: usize,
     left: u32,
 ) -> Held
-    requires { ⌜ Ready (now table) (now env) (now s) top node × IsPred (now table) node × (0 < left → NoNegation (now table) node) ⌝ }
+    requires { ⌜ NodeReady (now table) (now env) (now s) top node × IsPred (now table) node × (0 < left → NoNegation (now table) node) ⌝ }
     ensures { λ r. ⌜ EvaluatesP (now (table .entry)) (now (env .entry)) (now (s .entry)) top node left (now (s .exit)) r ⌝ }
 {
     if left == 0 {
@@ -393,7 +393,7 @@ fn operand(
     node: usize,
     left: u32,
 ) -> Formed
-    requires { ⌜ Ready (now table) (now env) (now s) top node × IsExpr (now table) node ⌝ }
+    requires { ⌜ NodeReady (now table) (now env) (now s) top node × IsExpr (now table) node ⌝ }
     ensures { λ r. ⌜ EvaluatesE (now (table .entry)) (now (env .entry)) (now (s .entry)) top node left (now (s .exit)) r ⌝ }
 {
     let at = leaf_place(table, env, node);
@@ -416,7 +416,7 @@ fn eval_expr(
     node: usize,
     left: u32,
 ) -> Formed
-    requires { ⌜ Ready (now table) (now env) (now s) top node × IsExpr (now table) node ⌝ }
+    requires { ⌜ NodeReady (now table) (now env) (now s) top node × IsExpr (now table) node ⌝ }
     ensures { λ r. ⌜ EvaluatesE (now (table .entry)) (now (env .entry)) (now (s .entry)) top node left (now (s .exit)) r ⌝ }
 {
     eval_value(table, env, s, top, node, left)
@@ -432,7 +432,7 @@ fn eval_value(
     node: usize,
     left: u32,
 ) -> Formed
-    requires { ⌜ Ready (now table) (now env) (now s) top node × IsExpr (now table) node ⌝ }
+    requires { ⌜ NodeReady (now table) (now env) (now s) top node × IsExpr (now table) node ⌝ }
     ensures { λ r. ⌜ EvaluatesE (now (table .entry)) (now (env .entry)) (now (s .entry)) top node left (now (s .exit)) r ⌝ }
 {
     if left == 0 {
@@ -564,7 +564,7 @@ fn eval_one(
 // Whether the operand at a node is an identifier whose value is known to be a function.
 fn is_marked(table: &[u8], env: &[u32; 32], node: usize) -> bool
     requires { ⌜ PlaceReady (now table) (now env) node ⌝ }
-    ensures { λ r. ⌜ (r ≡ true → MarkedLeaf (now (table .entry)) (now (env .entry)) node) ⌝ }
+    ensures { λ r. ⌜ (r ≡ true → FunctionLeaf (now (table .entry)) (now (env .entry)) node) ⌝ }
 {
     if table::node_kind(table, node) != 20 {
         return false;

@@ -16,7 +16,7 @@ use Rattle.laws.proofs.FitsLaws.{_⊑_, ⊓-split, inhabited→some, some→inh
 use Rattle.arena.specs.Code.{cellSize, EndsAt, IsPair, AllPairs}
 use Rattle.fitting.specs.Agree.{meets, agree, TypedAt, RunAt, SomeTyped, Agreed, AgreedWith, Full, Few, Members, SetHere}
 use Rattle.arena.proofs.ValueParts.{ends-at}
-use Rattle.fitting.specs.Tests.{FitOne, FitTwo, Both, Pairs, AgreedLefts}
+use Rattle.fitting.specs.Tests.{FitOne, FitTwo, Both, PairsAndOne, AgreedLefts}
 use Rattle.fitting.proofs.Sharing.{meets→share, share→meets, no-meet, meets-same, tagOf, tag-type, as-product, ⊓-every, ground, narrowed}
 use Rattle.laws.proofs.EndLaws.{T-true, T-eqb}
 use Rattle.fitting.proofs.Cells.{scalar-low, test-is, as-set, set-run, pair-parts, as-run, run-head, run-tail, run-splits, no-run, run-of, run-end, end-is, tag-is}
@@ -202,10 +202,10 @@ module _ {s : List ℕ} {i n b : ℕ} where
       let (y, z, ys, e, x, p) = as-pairs h k l in
       rw (e, lefts-split x w, ← g y w (left-here x) q, f) (t ys w (rw (end-is d (run-head x)) (run-tail x)) p q)
 
-  pub pairs-first : Pairs s i n b → 0 < n → SomeTyped s i × SomeTyped s (i + 1)
+  pub pairs-first : PairsAndOne s i n b → 0 < n → SomeTyped s i × SomeTyped s (i + 1)
   pairs-first p l = let (y, z, ys, _, x, _) = as-pairs (p .run) (p .pairs) l in ((pair y z, run-head x), (y, left-here x))
 
-  pub pairs-rest : {j : ℕ} → Pairs s i n b → 0 < n → EndsAt s i j → Pairs s j (n - 1) b
+  pub pairs-rest : {j : ℕ} → PairsAndOne s i n b → 0 < n → EndsAt s i j → PairsAndOne s j (n - 1) b
   pairs-rest p l d =
       let (y, z, ys, _, x, q) = as-pairs (p .run) (p .pairs) l in
       record { values = ys; run = rw (end-is d (run-head x)) (run-tail x); pairs = q; second = p .second }
@@ -274,7 +274,7 @@ module _ {s : List ℕ} {a n : ℕ} (f : FitOne (P̂ (t̂ ×̂ û) ∷ []) s a t
       let (y, z, ys, _, x, _) = as-pairs h p l in
       (y, left-here x)
 
-  pub relation-few : {b k : ℕ} → Both s a b → Few s (a + 1 + 1) n k → Pairs s (a + 1) k b
+  pub relation-few : {b k : ℕ} → Both s a b → Few s (a + 1 + 1) n k → PairsAndOne s (a + 1) k b
   relation-few b g =
       let (vs, _, h, p) = relation-pairs (b .first .0) (b .first .1) in
       let x = few-lefts h p g in

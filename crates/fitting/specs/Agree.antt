@@ -106,6 +106,6 @@ pub record OneAndRun (s : List ℕ) (a b m : ℕ) : Type 0 where
   pub second : SomeRun s b m
 
 -- n values and m values.
-pub record Runs (s : List ℕ) (a n b m : ℕ) : Type 0 where
+pub record RunAndRun (s : List ℕ) (a n b m : ℕ) : Type 0 where
   pub first : SomeRun s a n
   pub second : SomeRun s b m

@@ -23,7 +23,7 @@ pub record Both (s : List ℕ) (a b : ℕ) : Type 0 where
   pub second : SomeTyped s b
 
 -- n pairs of one type stand from a on, and a typed value at b.
-pub record Pairs (s : List ℕ) (a n b : ℕ) : Type 0 where
+pub record PairsAndOne (s : List ℕ) (a n b : ℕ) : Type 0 where
   pub values : Values
   pub run : RunAt s a n values
   pub pairs : AllPairs values

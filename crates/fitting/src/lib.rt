@@ -7,8 +7,8 @@ ghost use Rattle.rules.specs.Types.{whole};
 ghost use Rattle.rules.specs.Rules.{t̂, û, P̂, _×̂_, numᵖ};
 ghost use Rattle.arena.specs.Code.{SomeAt};
 ghost use Rattle.fitting.specs.Types.{Decides, typeParts, SomeType, TypeEnds, atomIs, ValuesAndType, OfType, AllOfType};
-ghost use Rattle.fitting.specs.Tests.{FitOne, FitTwo, Both, Pairs, AgreedLefts};
-ghost use Rattle.fitting.specs.Agree.{NoEmpty, SomeTyped, SetHere, Few, Members, atomsAlike, PairOrSet, OneAndRun, Runs, Agreed, AgreedWith, AgreedAll};
+ghost use Rattle.fitting.specs.Tests.{FitOne, FitTwo, Both, PairsAndOne, AgreedLefts};
+ghost use Rattle.fitting.specs.Agree.{NoEmpty, SomeTyped, SetHere, Few, Members, atomsAlike, PairOrSet, OneAndRun, RunAndRun, Agreed, AgreedWith, AgreedAll};
 
 // Whether no cell from `at` to `end` is that of an empty set.
 pub fn full(s: &[u64], at: usize, end: usize) -> bool
@@ -125,7 +125,7 @@ pub fn against(s: &[u64], a: usize, b: usize, m: usize) -> bool
 
 // Whether the n values from a on share a type with the m values from b on.
 fn each(s: &[u64], a: usize, n: usize, b: usize, m: usize) -> bool
-    requires { ⌜ Runs (now s) a n b m ⌝ }
+    requires { ⌜ RunAndRun (now s) a n b m ⌝ }
     ensures { λ r. ⌜ AgreedAll (now (s .entry)) a n b m r ⌝ }
 {
     let mut i = a;
@@ -218,7 +218,7 @@ pub fn numbers(s: &[u64], a: usize, b: usize) -> bool
 
 // Whether the left parts of the n pairs from a on share a type with the value at b.
 fn lefts(s: &[u64], a: usize, n: usize, b: usize) -> bool
-    requires { ⌜ Pairs (now s) a n b ⌝ }
+    requires { ⌜ PairsAndOne (now s) a n b ⌝ }
     ensures { λ r. ⌜ AgreedLefts (now (s .entry)) a n b r ⌝ }
 {
     let mut i = a;

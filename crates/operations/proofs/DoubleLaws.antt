@@ -5,7 +5,7 @@ use lib.Signed.{mag}
 use Rattle.operations.proofs.Terms.{whole, Value, set, Values, int, weight, Pattern, t̂, û, P̂, _×̂_, numᵖ, twoRule, Two, pairing, union, inter, diff, product, apply, plus, minus, interval, two, Given, gives, lacks, twoValue, cellSize, excess, code, CellsFit, SomeSet, SomeValue, Same, SomeRelation, Applies, ImageAt, FitTwo, Outcome, Within, Cell, Lacks, Sizes, GoodAt, weighed, twoGiven, ended, Gives, Operands, TwoReady, TwoDone, TwoOf, MergeDone, sumKind, Shifted, NumberDone}
 use Rattle.arena.proofs.Standing.{same-refl}
 use Rattle.sets.specs.Fronts.{Merges}
-use Rattle.products.specs.Growing.{Pairs, Intervals, Multiplies}
+use Rattle.products.specs.Growing.{PutsPair, Intervals, Multiplies}
 use Rattle.operations.proofs.GoodLaws.{good-value, good-above, good-whole, good-inside}
 use Rattle.operations.proofs.OutcomeLaws.{Makes, makes-frame, makes-gives}
 use Rattle.operations.proofs.FitLaws.{two-any, two-fits, two-sets, two-numbers, two-function, number-low}
@@ -61,7 +61,7 @@ module _ (j : Two) {s : List ℕ} {a b top : ℕ} {r : Bool} (f : FitTwo (twoRul
         (λ gs mid v w small l h k. makes-gives top s s′ end mid (twoValue j v w) (m gs v w small (good-above small h top l) k) z)
 
 module _ {s s′ : List ℕ} {a b top end : ℕ} {o : Outcome} (p : Operands s a b top) where
-  pub pair-done : Pairs s a b top s′ end → o ≡ ended end → TwoDone pairing s a b top s′ o
+  pub pair-done : PutsPair s a b top s′ end → o ≡ ended end → TwoDone pairing s a b top s′ o
   unfolding twoValue
   pair-done m z = two-made pairing two-any refl end p (λ gs v w small h k. m v w (good-value small h) (good-value small k)) z
 

@@ -7,7 +7,7 @@ use Rattle.laws.proofs.CellsLaws.{encodable-wellFormed, few-sizes, good-wellFor
 use Rattle.arena.proofs.CodeLaws.{length-code, encodable-fits}
 use Rattle.arena.proofs.EvenLaws.{typed-even}
 use Rattle.arena.proofs.ValueParts.{value-eq}
-use Rattle.sets.specs.Rows.{Fine}
+use Rattle.sets.specs.Rows.{FineValue}
 use Rattle.fitting.specs.Agree.{TypedAt, SomeTyped}
 use Rattle.fitting.proofs.Cells.{typed-at}
 
@@ -33,7 +33,7 @@ module _ {gs : List ℕ} (small : Sizes gs) where
     even = typed-even vs (good-typed gs (set vs) h);
   }
 
-  pub good-fine : (v : Value) → T (good gs v) → Fine v
+  pub good-fine : (v : Value) → T (good gs v) → FineValue v
   good-fine (scalar x) h = tt
   good-fine (pair v w) h = tt
   good-fine (set vs) h = good-set vs h

@@ -1,11 +1,11 @@
 -- The operations of one operand. For an operand that passes the operation's test it is enough to look at sets, or at sets of pairs; the answer then
 -- tells what the node gives by what has been made, by where the least member stands, or by a cell.
 use Rattle.operations.proofs.Base.{ℕ, _+_, _%_, _≤_, Bool, true, false, not, List, [], _∷_, _≢_, _≡_, refl, ap, sym, subst, _∙_, arith, le-leb, not-true, not-false, pos, length, getD}
-use Rattle.operations.proofs.Terms.{Value, set, Values, none, _▸_, int, members, count, weight, One, singleton, power, dom, ran, card, choice, one, t̂, û, P̂, _×̂_, oneRule, fits, lacks, oneValue, code, SetBelow, SomeSet, SomeValue, Same, FitOne, Sizes, GoodAt, weighed, oneGiven, ended, GivenCell, Gives, OneReady, OneDone, OneOf, sideKind, Outcome, Within, Cell, Lacks}
+use Rattle.operations.proofs.Terms.{Value, set, Values, none, _▸_, int, members, count, weight, One, singleton, power, dom, ran, card, choice, one, t̂, û, P̂, _×̂_, oneRule, fits, lacks, oneValue, code, SetBelow, SomeRelation, SomeSet, SomeValue, Same, FitOne, Sizes, GoodAt, weighed, oneGiven, ended, GivenCell, Gives, OneReady, OneDone, OneOf, sideKind, Outcome, Within, Cell, Lacks}
 use Rattle.arena.proofs.Standing.{same-refl}
 use Rattle.arena.proofs.ValueParts.{first-cell}
 use Rattle.products.specs.Growing.{Singles}
-use Rattle.products.specs.Parts.{SomePairs, Domains, Ranges}
+use Rattle.products.specs.Parts.{Domains, Ranges}
 use Rattle.products.specs.Power.{Powers}
 use Rattle.products.proofs.PowerLaws.{members-count}
 use Rattle.fitting.specs.Agree.{SomeTyped}
@@ -29,8 +29,8 @@ module _ {s : List ℕ} {a top : ℕ} (p : OneReady s a top) where
   pub ready-set : {r : Bool} → FitOne (P̂ t̂ ∷ []) s a r → not r ≡ false → SomeSet s top a × (top + 514 ≤ length s)
   ready-set f e = (one-set (p .small) (p .operand) (λ _. SomeSet s top a) f e (λ vs k. (vs, k)), p .room)
 
-  pub ready-pairs : {r : Bool} → FitOne (P̂ (t̂ ×̂ û) ∷ []) s a r → not r ≡ false → SomePairs s top a × (top + 514 ≤ length s)
-  ready-pairs f e = (one-relation (p .small) (p .operand) (λ _. SomePairs s top a) f e (λ vs k q. (vs, k, q)), p .room)
+  pub ready-pairs : {r : Bool} → FitOne (P̂ (t̂ ×̂ û) ∷ []) s a r → not r ≡ false → SomeRelation s top a × (top + 514 ≤ length s)
+  ready-pairs f e = (one-relation (p .small) (p .operand) (λ _. SomeRelation s top a) f e (λ vs k q. (vs, k, q)), p .room)
 
 -- The answer for an operand that does not fit, and for one that does.
 module _ (j : One) {s : List ℕ} {a top : ℕ} {r : Bool} (f : FitOne (oneRule j .takes) s a r) where

@@ -19,7 +19,7 @@ use Rattle.arena.specs.Code.{code, codes, Stands, ValueAt, Same, CellsFit, Some
 use Rattle.arena.proofs.CodeLaws.{length-code, length-codes, fits-small}
 use Rattle.arena.proofs.Standing.{stands-front, stands-back, stands-append, stands-frame, same-refl, same-trans, copied-stands}
 use Rattle.arena.proofs.FrontLaws.{codes-append, count-append, weights-append, code-greater}
-use Rattle.products.specs.Parts.{Members, lastOf, LastAt, Built, Placed, FindPre, InsertPre, movedLast}
+use Rattle.products.specs.Parts.{StandBetween, lastOf, LastAt, BuiltParts, PlaceBetween, FindPre, InsertPre, movedLast}
 use Rattle.products.specs.declared.Out.{Out}
 use Rattle.products.specs.declared.Place.{Place}
 use Rattle.products.proofs.PartLaws.{insert-next, insert-here, insert-none, last-append, last-split, insert-last}
@@ -54,12 +54,12 @@ module _ {s₀ : List ℕ} {from m n : ℕ} {s : List ℕ} {left : ℕ} (h : Shi
   shifting-end l = record { there = λ i p. h .there i (omega arith) p; before = λ j p. h .before j (omega arith); after = h .after; kept = h .kept }
 
 -- The first of the members that stand, and those behind it.
-module _ {s : List ℕ} {i to : ℕ} {z : Value} {zs : List Value} (h : Members s i to (z ∷ zs)) where
+module _ {s : List ℕ} {i to : ℕ} {z : Value} {zs : List Value} (h : StandBetween s i to (z ∷ zs)) where
   members-first : ValueAt s i z
   unfolding code
   members-first = stands-front s i (code z) (codes (values zs)) (h .stands)
 
-  members-next : (e : ℕ) → e ≡ i + weight z → Members s e to zs
+  members-next : (e : ℕ) → e ≡ i + weight z → StandBetween s e to zs
   unfolding code
   members-next e q = record {
     stands = rw (q, ← length-code z) (stands-back s i (code z) (codes (values zs)) (h .stands));
@@ -69,11 +69,11 @@ module _ {s : List ℕ} {i to : ℕ} {z : Value} {zs : List Value} (h : Members 
 
 -- `find`: hi is what is left of the members; where the value is placed among them, it is placed among all.
 pub record Finding {s : List ℕ} {p end from to : ℕ} (g : FindPre s p end from to) (i : ℕ) (hi : List Value) : Type 0 where
-  pub rest : Members s i to hi
-  pub leads : (r : Place) → Placed (g .value) i hi r → Placed (g .value) from (g .others) r
+  pub rest : StandBetween s i to hi
+  pub leads : (r : Place) → PlaceBetween (g .value) i hi r → PlaceBetween (g .value) from (g .others) r
 
 module _ {s : List ℕ} {p end from to : ℕ} (g : FindPre s p end from to) {i : ℕ} where
-  pub finding-end : (hi : List Value) × Finding g i hi → to ≤ i → Placed (g .value) from (g .others) (record { at = to; equal = false })
+  pub finding-end : (hi : List Value) × Finding g i hi → to ≤ i → PlaceBetween (g .value) from (g .others) (record { at = to; equal = false })
   finding-end ([], h) l = h .leads _ (record { lo = []; hi = []; all = refl; at = omega (arith, h .rest .ends); inserted = insert-none (g .value) })
   finding-end (z ∷ hi, h) l = absurd (omega (arith, h .rest .ends, weight-some z))
 
@@ -86,7 +86,7 @@ module _ {s : List ℕ} {p end from to : ℕ} (g : FindPre s p end from to) {i :
   finding-on (z ∷ hi, h) l e ends = omega (arith, ends z (members-first (h .rest)) (h .rest .fits .0), weight-some z)
 
   module _ (c : ℕ) (compared : Compared s p i c) where
-    pub finding-here : (hi : List Value) × Finding g i hi → i < to → c < 2 → Placed (g .value) from (g .others) (record { at = i; equal = eqb c 1 })
+    pub finding-here : (hi : List Value) × Finding g i hi → i < to → c < 2 → PlaceBetween (g .value) from (g .others) (record { at = i; equal = eqb c 1 })
     finding-here ([], h) l k = absurd (omega (arith, h .rest .ends))
     finding-here (z ∷ hi, h) l k =
         let o = compared (g .value) z (g .below .stands) (members-first (h .rest)) (g .below .fits) (h .rest .fits .0) in
@@ -99,7 +99,7 @@ module _ {s : List ℕ} {p end from to : ℕ} (g : FindPre s p end from to) {i :
         let x = members-first m in
         let o = compared (g .value) z (g .below .stands) x (g .below .fits) (m .fits .0) in
         let greater = code-greater (order (g .value) z) c o (λ f. omega arith) (λ f. omega arith) in
-        let placed : (r : Place) → Placed (g .value) e hi r → Placed (g .value) i (z ∷ hi) r = λ r d. record {
+        let placed : (r : Place) → PlaceBetween (g .value) e hi r → PlaceBetween (g .value) i (z ∷ hi) r = λ r d. record {
           lo = z ∷ d .lo;
           hi = d .hi;
           all = ap (λ (l : List Value). z ∷ l) (d .all);
@@ -109,7 +109,7 @@ module _ {s : List ℕ} {p end from to : ℕ} (g : FindPre s p end from to) {i :
         (hi, record { rest = members-next m e (ends z x (m .fits .0)); leads = λ r d. h .leads r (placed r d) })
 
 -- `place_for`: the last member stands before the end.
-last-stands : (s : List ℕ) (i to : ℕ) (z : Value) (zs : List Value) (last : ℕ) → Members s i to (z ∷ zs) → LastAt last to (z ∷ zs) →
+last-stands : (s : List ℕ) (i to : ℕ) (z : Value) (zs : List Value) (last : ℕ) → StandBetween s i to (z ∷ zs) → LastAt last to (z ∷ zs) →
     ValueAt s last (lastOf z zs) × CellsFit (lastOf z zs)
 last-stands s i to z [] last h l =
     (subst (λ (j : ℕ). ValueAt s j z) (let e : i ≡ last = omega (arith, h .ends) in e) (members-first h), h .fits .0)
@@ -120,20 +120,20 @@ last-low [] l = omega arith
 last-low (z ∷ zs) l = omega arith
 
 module _ {s : List ℕ} {p from : ℕ} {o : Out} {v : Value} (below : ValueBelow s from p v) where
-  pub place-none : (zs : List Value) → Built s from o zs → o .last ≡ 0 → Placed v from zs (record { at = o .to; equal = false })
+  pub place-none : (zs : List Value) → BuiltParts s from o zs → o .last ≡ 0 → PlaceBetween v from zs (record { at = o .to; equal = false })
   place-none [] h e = record { lo = []; hi = []; all = refl; at = h .members .ends; inserted = insert-none v }
   place-none (z ∷ zs) h e =
       let d = last-split z zs in
       let w = ap (λ (l : List Value). weights (values l)) (d .1) ∙ weights-append (d .0) (lastOf z zs ∷ []) in
       absurd (omega (arith, h .last, h .members .ends, below .below, weight-some v))
 
-  pub place-some : (zs : List Value) → Built s from o zs → (o .last ≡ 0 → ⊥) → SomeAt s (o .last)
+  pub place-some : (zs : List Value) → BuiltParts s from o zs → (o .last ≡ 0 → ⊥) → SomeAt s (o .last)
   place-some [] h n = absurd (n (h .last))
   place-some (z ∷ zs) h n =
       let x = last-stands s from (o .to) z zs (o .last) (h .members) (h .last) in record { value = lastOf z zs; stands = x .0; fits = x .1 }
 
-  pub place-last : (zs : List Value) → Built s from o zs → (o .last ≡ 0 → ⊥) → Rising zs → (c : ℕ) → Compared s p (o .last) c → 0 < c →
-      Placed v from zs (record { at = o .to; equal = eqb c 1 })
+  pub place-last : (zs : List Value) → BuiltParts s from o zs → (o .last ≡ 0 → ⊥) → Rising zs → (c : ℕ) → Compared s p (o .last) c → 0 < c →
+      PlaceBetween v from zs (record { at = o .to; equal = eqb c 1 })
   place-last [] h n r c k g = absurd (n (h .last))
   place-last (z ∷ zs) h n r c k g =
       let x = last-stands s from (o .to) z zs (o .last) (h .members) (h .last) in
@@ -181,17 +181,17 @@ module _ {s s₁ s₂ : List ℕ} {p at n m : ℕ} (shifted : Copied s at m (at 
       let back : Stands s₂ at (xs ++ hi) = stands-append s₂ at xs hi middle (rw (← size) at up) in
       stands-append s₂ from lo (xs ++ hi) low (rw place at back)
 
-module _ {s : List ℕ} {p end from : ℕ} {o : Out} (g : InsertPre s p end from o) {q : Place} (d : Placed (g .value) from (rising (g .others)) q) where
+module _ {s : List ℕ} {p end from : ℕ} {o : Out} (g : InsertPre s p end from o) {q : Place} (d : PlaceBetween (g .value) from (rising (g .others)) q) where
   abbrev zs : List Value
   zs = rising (g .others)
 
   abbrev v : Value
   v = g .value
 
-  pub inserts-none : q .equal ≡ true → Same from s s × Built s from o (insert v zs)
+  pub inserts-none : q .equal ≡ true → Same from s s × BuiltParts s from o (insert v zs)
   inserts-none e =
       let z : insert v zs ≡ zs = d .inserted ∙ ap (λ (b : Bool). d .lo ++ cond b (d .hi) (v ∷ d .hi)) e ∙ sym (d .all) in
-      (same-refl from s, subst (λ (l : List Value). Built s from o l) (sym z) (g .built))
+      (same-refl from s, subst (λ (l : List Value). BuiltParts s from o l) (sym z) (g .built))
 
   -- where the value ends; where the place is, and how much follows it
   ends-here : end ≡ p + weight v
@@ -219,7 +219,7 @@ module _ {s : List ℕ} {p end from : ℕ} {o : Out} (g : InsertPre s p end from
         (rw e at (g .built .members .stands)))
 
     pub inserts-put : q .equal ≡ false → (last : ℕ) → last ≡ movedLast (q .at) (o .to) (o .last) (end - p) →
-        Same from s s₂ × Built s₂ from (record { last = last; to = o .to + (end - p); count = o .count + 1 }) (insert v zs)
+        Same from s s₂ × BuiltParts s₂ from (record { last = last; to = o .to + (end - p); count = o .count + 1 }) (insert v zs)
     inserts-put e last f =
         let b = g .built in
         let ins : insert v zs ≡ d .lo ++ (v ∷ d .hi) = d .inserted ∙ ap (λ (b : Bool). d .lo ++ cond b (d .hi) (v ∷ d .hi)) e in

@@ -17,9 +17,9 @@ use Rattle.laws.proofs.Membership.{values-members}
 use Rattle.arena.specs.Code.{code, codes, SetBelow, Made}
 use Rattle.arena.proofs.CodeLaws.{length-codes}
 use Rattle.arena.proofs.FrontLaws.{rises-rising, fit-small}
-use Rattle.products.specs.Growing.{Appended, Grown, Sized}
+use Rattle.products.specs.Growing.{Appended, Grown, SizeIs}
 use Rattle.products.specs.declared.Size.{Size}
-use Rattle.products.specs.Power.{masks, subsetCount, subsetCounts, pick, picked, MarkPre, Marks, SubsetPre, Subsets, AllPre, AllSubsets}
+use Rattle.products.specs.Power.{masks, subsetCount, subsetCounts, subsetFor, picked, MarkPre, Marks, SubsetPre, Subsets, AllPre, AllSubsets}
 use Rattle.products.proofs.GrowLaws.{grown-step, grown-end, grown-left, made-set, made-heavy}
 use Rattle.products.proofs.SubsetLaws.{stand-frame, kept-codes}
 use Rattle.products.proofs.PowerOrder.{powers, power-rising, power-few, power-heavy}
@@ -36,12 +36,12 @@ abbrev pub allFrom : ℕ → ℕ → Values → List ℕ
 allFrom p j vs = codes (values (picked p (drop j masks) (members vs)))
 
 picked-next : (p j mask : ℕ) (vs : Values) → j < 32 → mask ≡ getD masks j 0 →
-    allFrom p j vs ≡ codes (values (keptValue (ltb mask p) (setOf (pick mask (members vs))) [])) ++ allFrom p (j + 1) vs
+    allFrom p j vs ≡ codes (values (keptValue (ltb mask p) (setOf (subsetFor mask (members vs))) [])) ++ allFrom p (j + 1) vs
 unfolding picked
 picked-next p j mask vs l e =
     let d : drop j masks ≡ mask ∷ drop (j + 1) masks = drop-cons masks j 0 l ∙ (cc (add-one j)) in
     ap (λ (ms : List ℕ). codes (values (picked p ms (members vs)))) d
-    ∙ kept-codes (ltb mask p) (setOf (pick mask (members vs))) (picked p (drop (j + 1) masks) (members vs))
+    ∙ kept-codes (ltb mask p) (setOf (subsetFor mask (members vs))) (picked p (drop (j + 1) masks) (members vs))
 
 picked-over : (p j : ℕ) (vs : Values) → 32 ≤ j → allFrom p j vs ≡ []
 unfolding picked code
@@ -81,7 +81,7 @@ members-count none = refl
 members-count (v ▸ vs) = omega (arith, members-count vs)
 
 -- The size of a set is known, and how many subsets it has.
-module _ {s : List ℕ} {a top : ℕ} {x : Size} {p : ℕ} (size : Sized s a x) (is : p ≡ subsetCount (x .members)) {vs : Values} (h : SetBelow s top a vs) where
+module _ {s : List ℕ} {a top : ℕ} {x : Size} {p : ℕ} (size : SizeIs s a x) (is : p ≡ subsetCount (x .members)) {vs : Values} (h : SetBelow s top a vs) where
   abbrev subsetsOf : List Value
   subsetsOf = rising (map setOf (subsets (members vs)))
 

@@ -9,7 +9,7 @@ use lib.IntN.{ℤ, pos, negsuc, sucℤ, subℕ, _+ℤ_, _-ℤ_, +ℤ-one}
 use Rattle.rules.specs.Values.{int, truthValue, values, count, weights}
 use Rattle.rules.specs.Operations.{setOf, upFrom, toCount, elementsFrom}
 use Rattle.arena.specs.Code.{excess, code, codes, CellsFit, Made}
-use Rattle.products.specs.Growing.{cellsFrom, Runs, Intervals}
+use Rattle.products.specs.Growing.{cellsFrom, PutsRun, Intervals}
 use Rattle.products.proofs.GrowLaws.{made-heavy}
 
 pub elements-cells : (g k n : ℕ) → codes (values (elementsFrom g k n)) ≡ cellsFrom (12884901888 + 256 * g + k) n
@@ -25,7 +25,7 @@ unfolding elementsFrom
 elements-count g k zero = refl
 elements-count g k (suc n) = omega (arith, elements-count g (suc k) n)
 
-pub elements-made : (s : List ℕ) (g n top : ℕ) (s′ : List ℕ) (r : ℕ) → Runs s (12884901888 + 256 * g) n top s′ r → Made top s s′ (setOf (elementsFrom g 0 n)) r
+pub elements-made : (s : List ℕ) (g n top : ℕ) (s′ : List ℕ) (r : ℕ) → PutsRun s (12884901888 + 256 * g) n top s′ r → Made top s s′ (setOf (elementsFrom g 0 n)) r
 elements-made s g n top s′ r put =
     let z : 12884901888 + 256 * g + 0 ≡ 12884901888 + 256 * g = omega arith in
     put (values (elementsFrom g 0 n)) (elements-count g 0 n) (elements-cells g 0 n ∙ rw z)
@@ -87,7 +87,7 @@ count-distance (negsuc a) (negsuc b) h k = count-sub (suc a) (suc b) ∙ omega a
 interval-count : (i j : ℤ) (x y : ℕ) → CellsFit (int i) → CellsFit (int j) → excess i ≡ x → excess j ≡ y → toCount (j -ℤ i +ℤ pos 1) ≡ suc y - x
 interval-count i j x y h k p q = ap toCount (+ℤ-one (j -ℤ i)) ∙ count-distance i j (fits-low i h) (fits-low j k) ∙ rw (p, q)
 
-pub interval-made : (s : List ℕ) (x y n top : ℕ) (s′ : List ℕ) (r : ℕ) → n ≡ suc y - x → Runs s (4294967296 + x) n top s′ r → Intervals s x y top s′ r
+pub interval-made : (s : List ℕ) (x y n top : ℕ) (s′ : List ℕ) (r : ℕ) → n ≡ suc y - x → PutsRun s (4294967296 + x) n top s′ r → Intervals s x y top s′ r
 interval-made s x y n top s′ r e put i j h k p q =
     let z : toCount (j -ℤ i +ℤ pos 1) ≡ n = interval-count i j x y h k p q ∙ sym e in
     rw z (put (values (upFrom i n)) (up-sizes i n .0) (up-cells i n (fits-low i h) ∙ ap (λ (c : ℕ). cellsFrom (4294967296 + c) n) p))

@@ -16,7 +16,7 @@ use Rattle.arena.specs.Code.{code, codes, Same, SomeAt, EndsAt, Copied, Front}
 use Rattle.arena.proofs.CodeLaws.{length-code, length-codes}
 use Rattle.arena.proofs.FrontLaws.{single, front-value, front-next, front-below, front-some, value-frame}
 use Rattle.products.specs.Growing.{Appended, Grown}
-use Rattle.products.specs.Power.{pick, AddPre, Added, StandAt, MarkPre, SubsetPre, Subsets}
+use Rattle.products.specs.Power.{subsetFor, AddPre, Added, StandAt, MarkPre, SubsetPre, Subsets}
 use Rattle.products.specs.declared.Out.{Out}
 use Rattle.products.proofs.GrowLaws.{appended-none, appended-copy, grown-start, grown-step, grown-end, grown-left, appended-set}
 
@@ -95,10 +95,10 @@ module _ {keep : Bool} {s : List ℕ} {from end : ℕ} {o : Out} (p : AddPre kee
   add-none e = rw e (record { cells = λ v h z. appended-none s (o .to) (omega (arith, p .room)); counted = omega arith })
 
 -- `subset`: j members have been passed, and m has the bits of those that are left.
-pick-weighs : (m : ℕ) (vs : Values) → weights (values (pick m (members vs))) ≤ weights vs
-unfolding pick
+pick-weighs : (m : ℕ) (vs : Values) → weights (values (subsetFor m (members vs))) ≤ weights vs
+unfolding subsetFor
 pick-weighs m none = omega arith
-pick-weighs m (v ▸ vs) = go (eqb (m % 2) 1) (pick (m / 2) (members vs)) (pick-weighs (m / 2) vs)
+pick-weighs m (v ▸ vs) = go (eqb (m % 2) 1) (subsetFor (m / 2) (members vs)) (pick-weighs (m / 2) vs)
   where
     go : (k : Bool) (r : List Value) → weights (values r) ≤ weights vs → weights (values (keptValue k v r)) ≤ weight v + weights vs
     go true r l = omega arith
@@ -106,7 +106,7 @@ pick-weighs m (v ▸ vs) = go (eqb (m % 2) 1) (pick (m / 2) (members vs)) (pick-
 
 module _ {s₀ at : List ℕ} {n to : ℕ} (g : SubsetPre s₀ at n to) (mask : ℕ) where
   abbrev whole : List Value
-  whole = pick mask (members (g .whole))
+  whole = subsetFor mask (members (g .whole))
 
   light : weights (values whole) ≤ 255
   light = omega (arith, pick-weighs mask (g .whole), g .marked .light)
@@ -114,8 +114,8 @@ module _ {s₀ at : List ℕ} {n to : ℕ} (g : SubsetPre s₀ at n to) (mask : 
   pub record SubsetAt (s : List ℕ) (j m : ℕ) (o : Out) (rest : Values) : Type 0 where
     pub left : n ≡ j + count rest
     pub each : StandAt s₀ at (g .marked .top) j rest
-    pub grown : Grown s₀ (to + 1) s (o .to) (codes (values whole)) (codes (values (pick m (members rest))))
-    pub counted : o .count + count (values (pick m (members rest))) ≡ count (values whole)
+    pub grown : Grown s₀ (to + 1) s (o .to) (codes (values whole)) (codes (values (subsetFor m (members rest))))
+    pub counted : o .count + count (values (subsetFor m (members rest))) ≡ count (values whole)
 
   pub subset-start : SubsetAt s₀ 0 mask (record { last = 0; to = to + 1; count = 0 }) (g .whole)
   subset-start = record {
@@ -131,16 +131,16 @@ module _ {s₀ at : List ℕ} {n to : ℕ} (g : SubsetPre s₀ at n to) (mask : 
 
     pub subset-end : {p : ℕ} → (rest : Values) × SubsetAt s j m o rest → n ≤ j → mask < p →
         Appended s₀ to (setAt s to (21474836480 + o .count)) (o .to) (codes (values (keptValue (ltb mask p) (setOf whole) [])))
-    unfolding pick code
+    unfolding subsetFor code
     subset-end {p} (none, h) l b =
         rw (lt-ltb mask p b, single (setOf whole)) (appended-set (values whole) (grown-end (h .grown)) (omega (arith, h .counted)) (omega (arith, g .room)))
     subset-end (w ▸ ws, h) l b = absurd (omega (arith, h .left))
 
     pub subset-add : (rest : Values) × SubsetAt s j m o rest → j < n → AddPre (eqb (m % 2) 1) s (getD at j 0) (getD at (j + 1) 0) o
-    unfolding pick
+    unfolding subsetFor
     subset-add (none, h) l = absurd (omega (arith, h .left))
     subset-add (w ▸ ws, h) l =
-        let more = pick (m / 2) (members ws) in
+        let more = subsetFor (m / 2) (members ws) in
         let size : getD at (j + 1) 0 - getD at j 0 ≡ weight w = omega (arith, h .each .1) in
         let z = length-codes (values (keptValue (eqb (m % 2) 1) w more)) ∙ kept-sizes (eqb (m % 2) 1) w more (getD at (j + 1) 0 - getD at j 0) size .1 in
         record {
@@ -152,10 +152,10 @@ module _ {s₀ at : List ℕ} {n to : ℕ} (g : SubsetPre s₀ at n to) (mask : 
 
     pub subset-next : (rest : Values) × SubsetAt s j m o rest → j < n → (s′ : List ℕ) (r : Out) →
         Added (eqb (m % 2) 1) s (getD at j 0) (getD at (j + 1) 0) o s′ r → (ws : Values) × SubsetAt s′ (j + 1) (m / 2) r ws
-    unfolding pick
+    unfolding subsetFor
     subset-next (none, h) l s′ r d = absurd (omega (arith, h .left))
     subset-next (w ▸ ws, h) l s′ r d =
-        let more = pick (m / 2) (members ws) in
+        let more = subsetFor (m / 2) (members ws) in
         let there = value-frame (to + 1) s₀ s (g .marked .top) (getD at j 0) w (h .grown .appended .frame) (omega (arith, g .marked .behind)) (h .each .0) in
         let next : SubsetAt s′ (j + 1) (m / 2) r ws = record {
           left = omega (arith, h .left);

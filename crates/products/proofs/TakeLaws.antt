@@ -17,7 +17,7 @@ use Rattle.arena.proofs.Standing.{same-refl, same-trans}
 use Rattle.arena.proofs.ValueParts.{left-stands, right-stands}
 use Rattle.arena.proofs.FrontLaws.{fit-small, front-start, front-next, front-below, value-frame, value-some, value-end}
 use Rattle.products.specs.Growing.{Appended}
-use Rattle.products.specs.Parts.{part, chosen, PartsPre, Built, InsertPre, Inserts}
+use Rattle.products.specs.Parts.{part, chosen, PartsPre, BuiltParts, InsertPre, Inserts}
 use Rattle.products.specs.declared.Out.{Out}
 use Rattle.products.proofs.GrowLaws.{nothing-stands, made-set}
 use Rattle.products.proofs.PartLaws.{insert-weighs, onto, rising-onto}
@@ -57,7 +57,7 @@ pub record Taking (b : Bool) {s₀ : List ℕ} {a top : ℕ} (g : PartsPre s₀ 
   pub all : onto (map (part b) (members rest)) done ≡ onto (map (part b) (members (g .pairs))) []
   pub light : weights (values (rising done)) + weights rest ≤ 255
   pub frame : Same (top + 1) s₀ s
-  pub built : Built s (top + 1) o (rising done)
+  pub built : BuiltParts s (top + 1) o (rising done)
 
 module _ {b : Bool} {s₀ : List ℕ} {a top : ℕ} (g : PartsPre s₀ a top) where
   pub taking-start : (n : ℕ) → n ≡ getD s₀ a 0 % 4294967296 → Taking b g s₀ n (a + 1) (record { last = 0; to = top + 1; count = 0 }) (g .pairs)

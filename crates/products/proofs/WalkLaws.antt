@@ -7,11 +7,11 @@ use native.Mathlib.Nat.{mul-le-mul-right}
 use lib.ListN.{length, getD, length-append, set as setAt}
 use Rattle.rules.specs.Values.{Value, pair, Values, none, _▸_, members, count, weight, weights}
 use Rattle.rules.specs.Operations.{setOf, pairsOf}
-use Rattle.arena.specs.Code.{code, codes, SomeAt, EndsAt, SetBelow, Made, Front}
+use Rattle.arena.specs.Code.{code, codes, SomeAt, EndsAt, SetBelow, SetAt, Made, Front}
 use Rattle.arena.proofs.CodeLaws.{length-codes}
 use Rattle.arena.proofs.FrontLaws.{codes-append, count-append, weights-append, front-start, front-value, front-next, front-below, front-some, front-frame, value-frame, set-end, set-cells}
 use Rattle.products.specs.declared.Size.{Size}
-use Rattle.products.specs.Growing.{Appended, Grown, PairPre, PairPut, rowOf, RowPre, Rows, square, SquarePre, Squares, SetAt, Few, Sized, productWeight}
+use Rattle.products.specs.Growing.{Appended, Grown, PairPre, PairPut, pairsWith, RowPre, Rows, square, SquarePre, Squares, FewCells, SizeIs, productWeight}
 use Rattle.products.proofs.GrowLaws.{grown-step, grown-end, grown-left, made-set}
 use Rattle.laws.proofs.CellsLaws.{count-weights}
 
@@ -55,17 +55,17 @@ module _ {F : Values → List ℕ} {s₀ : List ℕ} {top : ℕ} {vs : Values} {
         (us, next)
 
 -- The pairs of x with the members of a set.
-row-sizes : (x : Value) (ws : Values) → (count (rowOf x ws) ≡ count ws) × (weights (rowOf x ws) ≡ count ws + count ws * weight x + weights ws)
+row-sizes : (x : Value) (ws : Values) → (count (pairsWith x ws) ≡ count ws) × (weights (pairsWith x ws) ≡ count ws + count ws * weight x + weights ws)
 row-sizes x none = omega arith
 row-sizes x (w ▸ ws) = let h = row-sizes x ws in omega arith
 
 -- `row`
 abbrev pub RowAt : {s₀ : List ℕ} {v k b m to : ℕ} → RowPre s₀ v k b m to → List ℕ → ℕ → ℕ → ℕ → Type 0
-RowAt {s₀} {v} {k} {b} {m} {to} g s i left at = WalkAt (λ us. codes (rowOf (g .first) us)) s₀ (g .top) (g .others) to s i left at
+RowAt {s₀} {v} {k} {b} {m} {to} g s i left at = WalkAt (λ us. codes (pairsWith (g .first) us)) s₀ (g .top) (g .others) to s i left at
 
 module _ {s₀ : List ℕ} {v k b m to : ℕ} (g : RowPre s₀ v k b m to) where
   module _ {s : List ℕ} {i left at : ℕ} where
-    pub row-end : RowAt g s i left at → left ≤ 0 → Appended s₀ to s at (codes (rowOf (g .first) (g .others)))
+    pub row-end : RowAt g s i left at → left ≤ 0 → Appended s₀ to s at (codes (pairsWith (g .first) (g .others)))
     unfolding code
     row-end h l = walk-end h l refl
 
@@ -80,7 +80,7 @@ module _ {s₀ : List ℕ} {v k b m to : ℕ} (g : RowPre s₀ v k b m to) where
           record {
             left = omega (arith, g .value .below, g .weighs, h .behind, d .ends);
             right = omega (arith, h .front .below, h .behind, d .ends);
-            room = omega (arith, length-codes (rowOf x (g .others)), length-codes (rowOf x (w ▸ us)), g .weighs, g .room, d .frame .kept);
+            room = omega (arith, length-codes (pairsWith x (g .others)), length-codes (pairsWith x (w ▸ us)), g .weighs, g .room, d .frame .kept);
           }
 
       pub row-next : RowAt g s i left at → 0 < left → (s′ : List ℕ) (r : ℕ) → PairPut s v k i (e - i) at s′ r → RowAt g s′ e (left - 1) r
@@ -92,7 +92,7 @@ module _ {s₀ : List ℕ} {v k b m to : ℕ} (g : RowPre s₀ v k b m to) where
           (put (g .first) w there (front-value s (g .top) i left w us (walk-front h)) (g .weighs) (omega (arith, walk-ends e ends h)))
 
 -- The pairs of the members of two sets.
-square-codes : (v : Value) (vs ws : Values) → codes (square (v ▸ vs) ws) ≡ codes (rowOf v ws) ++ codes (square vs ws)
+square-codes : (v : Value) (vs ws : Values) → codes (square (v ▸ vs) ws) ≡ codes (pairsWith v ws) ++ codes (square vs ws)
 unfolding pairsOf
 square-codes v vs ws = codes-append (map (pair v) (members ws)) (pairsOf (members vs) (members ws))
 
@@ -123,7 +123,7 @@ module _ {s₀ : List ℕ} {a n b m to : ℕ} (g : SquarePre s₀ a n b m to) wh
       square-row (w ▸ us, h) l =
           let d = h .grown .appended in
           let q = grown-left (h .grown) in
-          let k = ap length (square-codes w us (g .rights)) ∙ length-append (codes (rowOf w (g .rights))) (codes (square us (g .rights))) in
+          let k = ap length (square-codes w us (g .rights)) ∙ length-append (codes (pairsWith w (g .rights))) (codes (square us (g .rights))) in
           record {
             top = g .top;
             first = w;
@@ -132,7 +132,7 @@ module _ {s₀ : List ℕ} {a n b m to : ℕ} (g : SquarePre s₀ a n b m to) wh
             weighs = omega (arith, walk-ends e ends h);
             front = front-frame to s₀ s (g .top) b m (g .rights) (d .frame) (g .behind) (g .others);
             behind = omega (arith, d .ends, g .behind);
-            room = omega (arith, length-codes (square (g .lefts) (g .rights)), length-codes (rowOf w (g .rights)), g .room, d .frame .kept);
+            room = omega (arith, length-codes (square (g .lefts) (g .rights)), length-codes (pairsWith w (g .rights)), g .room, d .frame .kept);
           }
 
       pub square-next : SquareAt g s i left at → 0 < left → (s′ : List ℕ) (r : ℕ) → Rows s i (e - i) b m at s′ r → SquareAt g s′ e (left - 1) r
@@ -141,11 +141,11 @@ module _ {s₀ : List ℕ} {a n b m to : ℕ} (g : SquarePre s₀ a n b m to) wh
       square-next (w ▸ us, h) l s′ r put = walk-next e ends h (square-codes w us (g .rights)) (put (square-row (w ▸ us, h) l))
 
 -- `size_of`
-pub size-is : {s : List ℕ} {a e n : ℕ} → SetAt s a → EndsAt s a e → n ≡ getD s a 0 % 4294967296 → Sized s a (record { members = n; cells = e - a - 1 })
+pub size-is : {s : List ℕ} {a e n : ℕ} → SetAt s a → EndsAt s a e → n ≡ getD s a 0 % 4294967296 → SizeIs s a (record { members = n; cells = e - a - 1 })
 size-is {s} {a} {e} {n} g ends low =
-    let f = front-start s (g .top) a (g .whole) (g .below) n low in
+    let f = front-start s (g .0) a (g .1 .0) (g .1 .1) n low in
     record {
-      few = record { members = omega (arith, f .light, f .counted, count-weights (g .whole)); cells = set-cells s (g .top) a (g .whole) (g .below) e ends };
+      few = record { members = omega (arith, f .light, f .counted, count-weights (g .1 .0)); cells = set-cells s (g .0) a (g .1 .0) (g .1 .1) e ends };
       front = λ top vs h. front-start s top a vs h n low;
       cells = λ top vs h. omega (arith, set-end s top a vs h e ends);
     }
@@ -154,12 +154,12 @@ size-is {s} {a} {e} {n} g ends low =
 pub small-product : {n m : ℕ} → n ≤ 255 → m ≤ 255 → n * m ≤ 65025
 small-product {n} {m} p q = omega (arith, mul-le-mul-right m p)
 
-pub small-products : {x y : Size} → Few x → Few y →
+pub small-products : {x y : Size} → FewCells x → FewCells y →
     (x .members * y .members ≤ 65025) × (y .members * x .cells ≤ 65025) × (x .members * y .cells ≤ 65025)
 small-products f g = (small-product (f .members) (g .members), small-product (g .members) (f .cells), small-product (f .members) (g .cells))
 
 -- `product`
-module _ {s : List ℕ} {top a b : ℕ} {x y : Size} (p : Sized s a x) (q : Sized s b y) {vs ws : Values} (h : SetBelow s top a vs) (k : SetBelow s top b ws) where
+module _ {s : List ℕ} {top a b : ℕ} {x y : Size} (p : SizeIs s a x) (q : SizeIs s b y) {vs ws : Values} (h : SetBelow s top a vs) (k : SetBelow s top b ws) where
   -- the weight of the members
   pub product-weighs : weights (square vs ws) ≡ x .members * y .members + y .members * x .cells + x .members * y .cells
   product-weighs = square-sizes vs ws .1 ∙ rw (p .front top vs h .counted, q .front top ws k .counted, p .cells top vs h, q .cells top ws k)

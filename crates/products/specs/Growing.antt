@@ -36,14 +36,14 @@ pub record RunPre (s : List ℕ) (cell n top : ℕ) : Type 0 where
   pub fits : cell ≤ 30000000000
 
 -- The set of n scalars with these cells.
-abbrev pub Runs : List ℕ → ℕ → ℕ → ℕ → List ℕ → ℕ → Type 0
-Runs s cell n top s′ r = (vs : Values) → count vs ≡ n → codes vs ≡ cellsFrom cell n → Made top s s′ (set vs) r
+abbrev pub PutsRun : List ℕ → ℕ → ℕ → ℕ → List ℕ → ℕ → Type 0
+PutsRun s cell n top s′ r = (vs : Values) → count vs ≡ n → codes vs ≡ cellsFrom cell n → Made top s s′ (set vs) r
 
 abbrev pub Singles : List ℕ → ℕ → ℕ → List ℕ → ℕ → Type 0
 Singles s a top s′ r = (v : Value) → ValueBelow s top a v → Made top s s′ (setOf (v ∷ [])) r
 
-abbrev pub Pairs : List ℕ → ℕ → ℕ → ℕ → List ℕ → ℕ → Type 0
-Pairs s a b top s′ r = (v w : Value) → ValueBelow s top a v → ValueBelow s top b w → Made top s s′ (pair v w) r
+abbrev pub PutsPair : List ℕ → ℕ → ℕ → ℕ → List ℕ → ℕ → Type 0
+PutsPair s a b top s′ r = (v w : Value) → ValueBelow s top a v → ValueBelow s top b w → Made top s s′ (pair v w) r
 
 -- The pair of a value of n cells at a and one of m cells at b, written at `to`.
 pub record PairPre (s : List ℕ) (a n b m to : ℕ) : Type 0 where
@@ -59,8 +59,8 @@ Intervals s x y top s′ r =
     (i j : ℤ) → CellsFit (int i) → CellsFit (int j) → excess i ≡ x → excess j ≡ y → Made top s s′ (setOf (upFrom i (toCount (j -ℤ i +ℤ pos 1)))) r
 
 -- The pairs of the value of k cells at v with each of m members from b on, written at `to`.
-abbrev pub rowOf : Value → Values → Values
-rowOf x ws = values (map (pair x) (members ws))
+abbrev pub pairsWith : Value → Values → Values
+pairsWith x ws = values (map (pair x) (members ws))
 
 pub record RowPre (s : List ℕ) (v k b m to : ℕ) : Type 0 where
   pub top : ℕ
@@ -70,10 +70,10 @@ pub record RowPre (s : List ℕ) (v k b m to : ℕ) : Type 0 where
   pub weighs : k ≡ weight first
   pub front : Front s top b m others
   pub behind : top ≤ to
-  pub room : to + weights (rowOf first others) ≤ length s
+  pub room : to + weights (pairsWith first others) ≤ length s
 
 abbrev pub Rows : List ℕ → ℕ → ℕ → ℕ → ℕ → ℕ → List ℕ → ℕ → Type 0
-Rows s v k b m to s′ r = (g : RowPre s v k b m to) → Appended s to s′ r (codes (rowOf (g .first) (g .others)))
+Rows s v k b m to s′ r = (g : RowPre s v k b m to) → Appended s to s′ r (codes (pairsWith (g .first) (g .others)))
 
 -- The pairs of n members from a on with m members from b on, written at `to`.
 abbrev pub square : Values → Values → Values
@@ -91,18 +91,13 @@ pub record SquarePre (s : List ℕ) (a n b m to : ℕ) : Type 0 where
 abbrev pub Squares : List ℕ → ℕ → ℕ → ℕ → ℕ → ℕ → List ℕ → ℕ → Type 0
 Squares s a n b m to s′ r = (g : SquarePre s a n b m to) → Appended s to s′ r (codes (square (g .lefts) (g .rights)))
 
--- A set that stands at a; how many members and cells it has.
-pub record SetAt (s : List ℕ) (a : ℕ) : Type 0 where
-  pub top : ℕ
-  pub whole : Values
-  pub below : SetBelow s top a whole
-
-pub record Few (x : Size) : Type 0 where
+-- How many members and cells a set has.
+pub record FewCells (x : Size) : Type 0 where
   pub members : x .members ≤ 255
   pub cells : x .cells ≤ 255
 
-pub record Sized (s : List ℕ) (a : ℕ) (x : Size) : Type 0 where
-  pub few : Few x
+pub record SizeIs (s : List ℕ) (a : ℕ) (x : Size) : Type 0 where
+  pub few : FewCells x
   pub front : (top : ℕ) (vs : Values) → SetBelow s top a vs → Front s top (a + 1) (x .members) vs
   pub cells : (top : ℕ) (vs : Values) → SetBelow s top a vs → x .cells ≡ weights vs
 

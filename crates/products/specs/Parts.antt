@@ -13,9 +13,6 @@ use Rattle.arena.specs.Code.{ValuesAt, Same, CellsFit, EndsAt, SetBelow, ValueB
 use Rattle.products.specs.declared.Out.{Out}
 use Rattle.products.specs.declared.Place.{Place}
 
-abbrev pub SomePairs : List ℕ → ℕ → ℕ → Type 0
-SomePairs s top a = (vs : Values) × SetBelow s top a vs × AllPairs vs
-
 pub record PartsPre (s : List ℕ) (a top : ℕ) : Type 0 where
   pub pairs : Values
   pub whole : SetBelow s top a pairs
@@ -27,8 +24,8 @@ abbrev pub part : Bool → Value → Value
 part false v = left v
 part true v = right v
 
-abbrev pub Takes : Bool → List ℕ → ℕ → ℕ → List ℕ → ℕ → Type 0
-Takes b s a top s′ r = (vs : Values) → SetBelow s top a vs → AllPairs vs → Made top s s′ (setOf (rising (map (part b) (members vs)))) r
+abbrev pub TakesParts : Bool → List ℕ → ℕ → ℕ → List ℕ → ℕ → Type 0
+TakesParts b s a top s′ r = (vs : Values) → SetBelow s top a vs → AllPairs vs → Made top s s′ (setOf (rising (map (part b) (members vs)))) r
 
 abbrev pub Domains : List ℕ → ℕ → ℕ → List ℕ → ℕ → Type 0
 Domains s a top s′ r = (vs : Values) → SetBelow s top a vs → AllPairs vs → Made top s s′ (setOf (rising (map left (members vs)))) r
@@ -41,7 +38,7 @@ abbrev pub chosen : Bool → ℕ → ℕ → ℕ
 chosen b x y = cond b y x
 
 -- The values zs stand from `from` to `to`.
-pub record Members (s : List ℕ) (from to : ℕ) (zs : List Value) : Type 0 where
+pub record StandBetween (s : List ℕ) (from to : ℕ) (zs : List Value) : Type 0 where
   pub stands : ValuesAt s from (values zs)
   pub fits : All CellsFit zs
   pub ends : to ≡ from + weights (values zs)
@@ -56,13 +53,13 @@ LastAt last to [] = last ≡ 0
 LastAt last to (z ∷ zs) = last + weight (lastOf z zs) ≡ to
 
 -- The members zs have been built from `from` on.
-pub record Built (s : List ℕ) (from : ℕ) (o : Out) (zs : List Value) : Type 0 where
-  pub members : Members s from (o .to) zs
+pub record BuiltParts (s : List ℕ) (from : ℕ) (o : Out) (zs : List Value) : Type 0 where
+  pub members : StandBetween s from (o .to) zs
   pub last : LastAt (o .last) (o .to) zs
   pub counted : o .count ≡ count (values zs)
 
 -- v belongs between lo and hi: it is put there unless it is one of them.
-pub record Placed (v : Value) (from : ℕ) (zs : List Value) (r : Place) : Type 0 where
+pub record PlaceBetween (v : Value) (from : ℕ) (zs : List Value) (r : Place) : Type 0 where
   pub lo : List Value
   pub hi : List Value
   pub all : zs ≡ lo ++ hi
@@ -74,10 +71,10 @@ pub record FindPre (s : List ℕ) (p end from to : ℕ) : Type 0 where
   pub below : ValueBelow s from p value
   pub ends : EndsAt s p end
   pub others : List Value
-  pub members : Members s from to others
+  pub members : StandBetween s from to others
 
 abbrev pub Finds : List ℕ → ℕ → ℕ → ℕ → ℕ → Place → Type 0
-Finds s p end from to r = (g : FindPre s p end from to) → Placed (g .value) from (g .others) r
+Finds s p end from to r = (g : FindPre s p end from to) → PlaceBetween (g .value) from (g .others) r
 
 -- A value below `from`, the rising members built from there on of other values, and room for one more.
 pub record InsertPre (s : List ℕ) (p end from : ℕ) (o : Out) : Type 0 where
@@ -85,15 +82,15 @@ pub record InsertPre (s : List ℕ) (p end from : ℕ) (o : Out) : Type 0 where
   pub below : ValueBelow s from p value
   pub ends : EndsAt s p end
   pub others : List Value
-  pub built : Built s from o (rising others)
+  pub built : BuiltParts s from o (rising others)
   pub room : o .to + weight value ≤ length s
   pub few : o .count ≤ 256
 
-abbrev pub Places : List ℕ → ℕ → ℕ → ℕ → Out → Place → Type 0
-Places s p end from o r = (g : InsertPre s p end from o) → Placed (g .value) from (rising (g .others)) r
+abbrev pub FindsPlace : List ℕ → ℕ → ℕ → ℕ → Out → Place → Type 0
+FindsPlace s p end from o r = (g : InsertPre s p end from o) → PlaceBetween (g .value) from (rising (g .others)) r
 
 abbrev pub Inserts : List ℕ → ℕ → ℕ → ℕ → Out → List ℕ → Out → Type 0
-Inserts s p end from o s′ r = (g : InsertPre s p end from o) → Same from s s′ × Built s′ from r (insert (g .value) (rising (g .others)))
+Inserts s p end from o s′ r = (g : InsertPre s p end from o) → Same from s s′ × BuiltParts s′ from r (insert (g .value) (rising (g .others)))
 
 -- Where the last member stands after one of n cells has been put at `at` among members that ended at `to`.
 abbrev pub movedLast : ℕ → ℕ → ℕ → ℕ → ℕ

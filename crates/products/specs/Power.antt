@@ -27,15 +27,15 @@ abbrev pub subsetCount : ℕ → ℕ
 subsetCount n = cond (ltb 5 n) 64 (getD subsetCounts n 0)
 
 -- The members whose bits m has.
-unfoldable pub pick : ℕ → List Value → List Value
-pick m [] = []
-pick m (v ∷ vs) = keptValue (eqb (m % 2) 1) v (pick (m / 2) vs)
+unfoldable pub subsetFor : ℕ → List Value → List Value
+subsetFor m [] = []
+subsetFor m (v ∷ vs) = keptValue (eqb (m % 2) 1) v (subsetFor (m / 2) vs)
 
 -- The subsets for the masks below p.
 unfoldable pub picked : ℕ → List ℕ → List Value → List Value
-unfolding pick
+unfolding subsetFor
 picked p [] vs = []
-picked p (m ∷ ms) vs = keptValue (ltb m p) (setOf (pick m vs)) (picked p ms vs)
+picked p (m ∷ ms) vs = keptValue (ltb m p) (setOf (subsetFor m vs)) (picked p ms vs)
 
 -- A run copied behind what has been built, as its next member, if it is kept.
 pub record AddPre (keep : Bool) (s : List ℕ) (from end : ℕ) (o : Out) : Type 0 where
@@ -80,7 +80,7 @@ pub record SubsetPre (s at : List ℕ) (n to : ℕ) : Type 0 where
 -- The subset for a mask if the mask is below p.
 abbrev pub Subsets : List ℕ → List ℕ → ℕ → ℕ → ℕ → ℕ → List ℕ → ℕ → Type 0
 Subsets s at n mask p to s′ r =
-    (g : SubsetPre s at n to) → Appended s to s′ r (codes (values (keptValue (ltb mask p) (setOf (pick mask (members (g .whole)))) [])))
+    (g : SubsetPre s at n to) → Appended s to s′ r (codes (values (keptValue (ltb mask p) (setOf (subsetFor mask (members (g .whole)))) [])))
 
 -- All subsets for the masks below p.
 pub record AllPre (s at : List ℕ) (n p to : ℕ) : Type 0 where

@@ -6,9 +6,9 @@ ghost use Prim.Native.Nat.{_+_, _*_, _<_, _≤_};
 ghost use lib.ListN.{length, getD};
 ghost use Rattle.rules.specs.Values.{truthValue};
 ghost use Rattle.rules.specs.Operations.{setOf, elementsFrom};
-ghost use Rattle.arena.specs.Code.{SomeSet, SomeValue, Made, Copied};
-ghost use Rattle.products.specs.Growing.{PutsCell, RunPre, Runs, Singles, Pairs, PairPre, PairPut, Intervals, RowPre, Rows, SquarePre, Squares, SetAt, Few, Sized, productWeight, Multiplies};
-ghost use Rattle.products.specs.Parts.{SomePairs, PartsPre, Takes, Domains, Ranges, chosen, FindPre, Finds, InsertPre, Places, Inserts, movedLast};
+ghost use Rattle.arena.specs.Code.{SomeSet, SetAt, SomeValue, SomeRelation, Made, Copied};
+ghost use Rattle.products.specs.Growing.{PutsCell, RunPre, PutsRun, Singles, PutsPair, PairPre, PairPut, Intervals, RowPre, Rows, SquarePre, Squares, FewCells, SizeIs, productWeight, Multiplies};
+ghost use Rattle.products.specs.Parts.{PartsPre, TakesParts, Domains, Ranges, chosen, FindPre, Finds, InsertPre, FindsPlace, Inserts, movedLast};
 ghost use Rattle.products.specs.Power.{Powers, masks, subsetCount, AddPre, Added, MarkPre, Marks, SubsetPre, Subsets, AllPre, AllSubsets};
 
 // The cells of the heaviest value, beside numbers of members.
@@ -59,7 +59,7 @@ fn pair_at(s: &mut [u64], a: usize, n: usize, b: usize, m: usize, to: usize) -> 
 
 pub fn pair(s: &mut [u64], a: usize, b: usize, top: usize) -> usize
     requires { ⌜ SomeValue (now s) top a × SomeValue (now s) top b × (top + 514 ≤ length (now s)) ⌝ }
-    ensures { λ r. ⌜ Pairs (now (s .entry)) a b top (now (s .exit)) r ⌝ }
+    ensures { λ r. ⌜ PutsPair (now (s .entry)) a b top (now (s .exit)) r ⌝ }
 {
     let n = arena::end_of(s, a) - a;
     let m = arena::end_of(s, b) - b;
@@ -72,7 +72,7 @@ pub fn pair(s: &mut [u64], a: usize, b: usize, top: usize) -> usize
 // The set of n scalars whose cells follow one another as numbers.
 fn run(s: &mut [u64], cell: u64, n: u64, top: usize) -> usize
     requires { ⌜ RunPre (now s) cell n top ⌝ }
-    ensures { λ r. ⌜ Runs (now (s .entry)) cell n top (now (s .exit)) r ⌝ }
+    ensures { λ r. ⌜ PutsRun (now (s .entry)) cell n top (now (s .exit)) r ⌝ }
 {
     let mut to = top + 1;
     let mut i: u64 = 0;
@@ -157,7 +157,7 @@ struct Size {
 
 fn size_of(s: &[u64], a: usize) -> Size
     requires { ⌜ SetAt (now s) a ⌝ }
-    ensures { λ r. ⌜ Sized (now (s .entry)) a r ⌝ }
+    ensures { λ r. ⌜ SizeIs (now (s .entry)) a r ⌝ }
 {
     let n = arena::low(s[a]);
     Size {
@@ -168,7 +168,7 @@ fn size_of(s: &[u64], a: usize) -> Size
 
 // The weight of the product of two sets.
 fn product_weight(x: Size, y: Size) -> u64
-    requires { ⌜ Few x × Few y ⌝ }
+    requires { ⌜ FewCells x × FewCells y ⌝ }
     ensures { λ r. ⌜ r ≡ productWeight x y ⌝ }
 {
     let n = x.members;
@@ -223,7 +223,7 @@ fn find(s: &[u64], p: usize, end: usize, from: usize, to: usize) -> Place
 // The same among the members that have been built. Parts often come in rising order: the last member is looked at first.
 fn place_for(s: &[u64], p: usize, end: usize, from: usize, o: Out) -> Place
     requires { ⌜ InsertPre (now s) p end from o ⌝ }
-    ensures { λ r. ⌜ Places (now (s .entry)) p end from o r ⌝ }
+    ensures { λ r. ⌜ FindsPlace (now (s .entry)) p end from o r ⌝ }
 {
     let to = o.to;
     let last = o.last;
@@ -301,7 +301,7 @@ fn pick(second: bool, a: usize, b: usize) -> usize
 // The set of the first or of the second parts of the pairs of a set.
 fn parts(s: &mut [u64], a: usize, top: usize, second: bool) -> usize
     requires { ⌜ PartsPre (now s) a top ⌝ }
-    ensures { λ r. ⌜ Takes second (now (s .entry)) a top (now (s .exit)) r ⌝ }
+    ensures { λ r. ⌜ TakesParts second (now (s .entry)) a top (now (s .exit)) r ⌝ }
 {
     let from = top + 1;
     let mut left = arena::low(s[a]);
@@ -326,14 +326,14 @@ fn parts(s: &mut [u64], a: usize, top: usize, second: bool) -> usize
 }
 
 pub fn domain(s: &mut [u64], a: usize, top: usize) -> usize
-    requires { ⌜ SomePairs (now s) top a × (top + 514 ≤ length (now s)) ⌝ }
+    requires { ⌜ SomeRelation (now s) top a × (top + 514 ≤ length (now s)) ⌝ }
     ensures { λ r. ⌜ Domains (now (s .entry)) a top (now (s .exit)) r ⌝ }
 {
     parts(s, a, top, false)
 }
 
 pub fn range(s: &mut [u64], a: usize, top: usize) -> usize
-    requires { ⌜ SomePairs (now s) top a × (top + 514 ≤ length (now s)) ⌝ }
+    requires { ⌜ SomeRelation (now s) top a × (top + 514 ≤ length (now s)) ⌝ }
     ensures { λ r. ⌜ Ranges (now (s .entry)) a top (now (s .exit)) r ⌝ }
 {
     parts(s, a, top, true)

@@ -20,7 +20,7 @@ use Rattle.sets.specs.declared.Out.{Out}
 use Rattle.sets.specs.declared.Walk.{Walk}
 use Rattle.sets.specs.declared.Rest.{Rest}
 use Rattle.sets.specs.Merged.{merged}
-use Rattle.sets.specs.Fronts.{keepOf, firstOf, restLeft, restRight, TurnAt, TwoFronts, TwoRuns, RunEnds, Cells, Built, PutPre, Put, RestThere}
+use Rattle.sets.specs.Fronts.{keepOf, firstOf, restLeft, restRight, TurnAt, TwoFronts, TwoRuns, RunEnds, Cells, BuiltTo, PutPre, PutBehind, RestThere}
 use Rattle.sets.specs.Fronts.{Merging, StepPre, Stepped, RestOf, EndPre, Ended, RunsMerge, Walking}
 use Rattle.sets.proofs.MergedLaws.{merged-nil, merged-turn}
 use Rattle.sets.proofs.SearchLaws.{no-front, by-fronts}
@@ -34,7 +34,7 @@ store-frame s to x l = record { same = λ i p. getD-set-other s to i x 0 (λ z. 
 
 module _ {s : List ℕ} {from end k : ℕ} {o : Out} {s′ : List ℕ} where
   pub put-kept : {r : Out} → PutPre s from end k o → Copied s from (end - from) (o .to) s′ → r .to ≡ o .to + (end - from) → r .count ≡ o .count + k →
-      Put true s from end k o s′ r
+      PutBehind true s from end k o s′ r
   put-kept p c x y =
       let f : Same (o .to) s s′ = record { same = c .before; kept = c .kept } in
       record {
@@ -53,7 +53,7 @@ module _ {s : List ℕ} {from end k : ℕ} {o : Out} {s′ : List ℕ} where
       }
 
   -- what has been built stays where nothing below its end is changed
-  pub put-none : Same (o .to) s s′ → Put false s from end k o s′ o
+  pub put-none : Same (o .to) s s′ → PutBehind false s from end k o s′ o
   put-none f = record {
     frame = f;
     near = omega arith;
@@ -87,7 +87,7 @@ abbrev pub outOf : Walk → Out
 outOf w = record { to = w .to; count = w .count }
 
 module _ {l e r : Bool} {s s′ : List ℕ} {w : Walk} {t : Turn} {o : Out} {top : ℕ} {whole : List Value}
-    (turn : TurnAt s (w .a) (w .m) (w .b) (w .n) l e r t) (p : Put (t .keep) s (t .from) (t .end) 1 (outOf w) s′ o)
+    (turn : TurnAt s (w .a) (w .m) (w .b) (w .n) l e r t) (p : PutBehind (t .keep) s (t .from) (t .end) 1 (outOf w) s′ o)
     (h : Merging l e r s top w whole) where
   step-done : (v : Value) (vs : Values) (x : Value) (xs : Values) → Front s top (w .a) (w .m) (v ▸ vs) → Front s top (w .b) (w .n) (x ▸ xs) →
       whole ≡ h .done ++ merged l e r (v ∷ members vs) (x ∷ members xs) → Merging l e r s′ top (after t o) whole
@@ -136,7 +136,7 @@ module _ {l e r : Bool} {s : List ℕ} {w : Walk} (h : StepPre l e r s w) where
       few = omega (arith, h .near, h .merging .built .ends, h .merging .built .counted, count-weights (values (h .merging .done)));
     }
 
-    pub step-returns : {s′ : List ℕ} {o : Out} → Put (t .keep) s (t .from) (t .end) 1 (outOf w) s′ o → Stepped l e r s w s′ (after t o)
+    pub step-returns : {s′ : List ℕ} {o : Out} → PutBehind (t .keep) s (t .from) (t .end) 1 (outOf w) s′ o → Stepped l e r s w s′ (after t o)
     step-returns p = record {
       frame = p .frame;
       near = omega (arith, p .near, step-took .2);
@@ -147,7 +147,7 @@ module _ {l e r : Bool} {s : List ℕ} {w : Walk} (h : StepPre l e r s w) where
 -- `finish`
 
 -- A set's cell before its members.
-set-stands : {s : List ℕ} {top n to : ℕ} {zs : List Value} → Built s top to n zs → top < length s → ValueAt (setAt s top (21474836480 + n)) top (setOf zs)
+set-stands : {s : List ℕ} {top n to : ℕ} {zs : List Value} → BuiltTo s top to n zs → top < length s → ValueAt (setAt s top (21474836480 + n)) top (setOf zs)
 unfolding code
 set-stands {s} {top} {n} {to} {zs} b l =
     let x = 21474836480 + n in
@@ -246,12 +246,12 @@ module _ {l r : Bool} {s : List ℕ} {w : Walk} {top : ℕ} {cells : Bool} (p : 
           few = omega (arith, b .ends, b .counted, count-weights (values (p .merging .done)), z .front .counted, count-weights (z .rest), z .front .light);
         }
 
-    module _ {s′ : List ℕ} {o : Out} (put : Put true s (q .at) end (q .n) (outOf w) s′ o) where
+    module _ {s′ : List ℕ} {o : Out} (put : PutBehind true s (q .at) end (q .n) (outOf w) s′ o) where
       -- the whole has been built
-      all-built : (e : Bool) (whole : List Value) → Merging l e r s top w whole → Built s′ top (o .to) (o .count) whole
+      all-built : (e : Bool) (whole : List Value) → Merging l e r s top w whole → BuiltTo s′ top (o .to) (o .count) whole
       all-built e whole h =
           let z = rested e whole h in
-          subst (Built s′ top (o .to) (o .count)) (sym (z .all))
+          subst (BuiltTo s′ top (o .to) (o .count)) (sym (z .all))
           (put .on top (h .done) (z .rest) (h .built) (z .front .stands) (ends top (z .rest) (z .front)) (z .front .counted))
 
       end-frame : (e : Bool) (whole : List Value) → Merging l e r s top w whole → Same top s s′
@@ -278,7 +278,7 @@ module _ {l r : Bool} {s : List ℕ} {w : Walk} {top : ℕ} {cells : Bool} (p : 
 
 -- `walk_merge` and `merge_cells`
 
-pub built-none : {s : List ℕ} {top : ℕ} → top + 514 ≤ length s → Built s top (top + 1) 0 []
+pub built-none : {s : List ℕ} {top : ℕ} → top + 514 ≤ length s → BuiltTo s top (top + 1) 0 []
 unfolding code
 built-none p = record { stands = record { inside = omega arith; cells = λ i p. absurd (omega arith) }; ends = omega arith; counted = refl }
 

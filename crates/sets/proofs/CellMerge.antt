@@ -26,7 +26,7 @@ use Rattle.sets.specs.declared.Out.{Out}
 use Rattle.sets.specs.declared.Walk.{Walk}
 use Rattle.sets.specs.declared.CellTurn.{CellTurn}
 use Rattle.sets.specs.Merged.{merged}
-use Rattle.sets.specs.Fronts.{TurnAt, Cells, PutPre, Put, Merging, EndPre, Ended, RunsMerge, Walking}
+use Rattle.sets.specs.Fronts.{TurnAt, Cells, PutPre, PutBehind, Merging, EndPre, Ended, RunsMerge, Walking}
 use Rattle.sets.specs.Rows.{Kept, CellTurned, RowsBelow, Ahead, RowMerge}
 use Rattle.sets.proofs.MergedLaws.{merged-turn}
 use Rattle.sets.proofs.TurnLaws.{turn-less, turn-equal, turn-greater, byte-small}
@@ -63,7 +63,7 @@ turn-moves l e r x y =
 
 -- A cell stored at the end of what has been built is kept or not.
 cell-put : (keep : Bool) {s : List ℕ} {from to count : ℕ} → from < to → to < length s → count < 4294967296 →
-    Put keep s from (from + 1) 1 (record { to = to; count = count }) (setAt s to (getD s from 0))
+    PutBehind keep s from (from + 1) 1 (record { to = to; count = count }) (setAt s to (getD s from 0))
     (record { to = to + boolByte keep; count = count + boolByte keep })
 cell-put true {s} {from} {to} l k f =
     put-kept (record { forward = omega arith; behind = omega arith; room = omega arith; few = omega arith }) (record {
@@ -157,7 +157,7 @@ module _ {s : List ℕ} {a m b n top : ℕ} (below : RowsBelow s a m b n top) {p
       let x = rows-small below in
       record { forward = omega arith; behind = omega (arith, h .few); room = omega (arith, h .few, below .room); few = omega (arith, h .few) }
 
-  module _ {l : Bool} {s′ : List ℕ} {o : Out} (put : Put l s a (a + p) p (record { to = top + 1; count = 0 }) s′ o) where
+  module _ {l : Bool} {s′ : List ℕ} {o : Out} (put : PutBehind l s a (a + p) p (record { to = top + 1; count = 0 }) s′ o) where
     counts : (o .to ≡ top + 1 + o .count) × (o .count ≤ p)
     counts = let x = put .even (omega arith) in (omega arith, omega (arith, put .near))
 
@@ -175,7 +175,7 @@ module _ {s : List ℕ} {a m b n top : ℕ} (below : RowsBelow s a m b n top) {p
     frame : Same top s s′
     frame = same-trans top (top + 1) s s s′ (same-refl top s) (put .frame) (omega arith)
 
-    module _ {r : Bool} {s″ : List ℕ} {o′ : Out} (put′ : Put r s′ b (b + q) q o s″ o′) where
+    module _ {r : Bool} {s″ : List ℕ} {o′ : Out} (put′ : PutBehind r s′ b (b + q) q o s″ o′) where
       frame′ : Same top s s″
       frame′ = same-trans top (o .to) s s′ s″ frame (put′ .frame) (omega (arith, counts .0))
 

@@ -13,12 +13,12 @@ use Rattle.rules.specs.Operations.{left, right}
 use Rattle.laws.proofs.OrderLaws.{then-lt, order-pair, before-order, compare-lt, compare-eq, compare-refl}
 use Rattle.laws.proofs.SetOrder.{All}
 use Rattle.laws.proofs.Membership.{all-in, In, in-all}
-use Rattle.arena.specs.Code.{ValueAt, orderCode, SomeAt, EndsAt, Compared, SetBelow, SomeValue, ValueBelow, Front, IsPair, AllPairs, cellSize, AllWeigh, EvenSet}
+use Rattle.arena.specs.Code.{ValueAt, orderCode, SomeAt, EndsAt, Compared, SetBelow, SomeValue, ValueBelow, Front, IsPair, AllPairs, SomeRelation, cellSize, AllWeigh, EvenSet}
 use Rattle.arena.proofs.CodeLaws.{length-codes}
 use Rattle.arena.proofs.ValueParts.{left-stands, right-stands, scalar-cell, scalar-one}
 use Rattle.arena.proofs.FrontLaws.{front-start, front-value, front-next, code-equal, front-below}
 use Rattle.sets.specs.Fronts.{Member, MemberOrNone}
-use Rattle.sets.specs.Pairs.{newFirsts, SomePairs, Relation, Within, SomeRelation, Applies, PairSought, IsFunction, FlatPairs, SomeFlat}
+use Rattle.sets.specs.Pairs.{newFirsts, SomePairs, Relation, WithinSet, Applies, PairSought, IsFunction, FlatPairs, SomeFlat}
 use Rattle.sets.proofs.PairLaws.{on-pair, applied-none, applied-shared, applied-found}
 use Rattle.sets.proofs.SearchLaws.{sought-some, sought-none, key-stands, by-front, no-front}
 use mathlib.Core.Logic.{inl, inr}
@@ -159,7 +159,7 @@ module _ {s : List ℕ} {f e i : ℕ} (sought : PairSought s f e i) (some : i �
   image-found g z {r} ends vs v h k p =
       let m = sought-some (sought vs v h k p) some in
       rw (applied-found v (k .fits) vs p (h .fine) (m .is) (m .among) (m .key) (sym (g vs h p) ∙ z))
-      (on-pair (λ w. ValueBelow s (f + weight (set vs)) i w → Within s f vs r (right w))
+      (on-pair (λ w. ValueBelow s (f + weight (set vs)) i w → WithinSet s f vs r (right w))
       (λ a b w. let x : r ≡ i + 1 + weight a = ends a (left-stands s i a b (w .stands)) (w .fits .0) in record {
         positive = omega arith;
         behind = omega (arith, m .behind);

@@ -22,7 +22,7 @@ use Rattle.arena.proofs.ValueParts.{ends-at, first-cell, scalar-cell, scalar-on
 use Rattle.arena.proofs.FrontLaws.{fit-small, set-inside, front-start, front-value, front-next}
 use Rattle.arena.proofs.EvenLaws.{weights-even, behind, value-at, cell-order}
 use Rattle.sets.specs.Fronts.{Cells, RunEnds}
-use Rattle.sets.specs.Rows.{Row, LowerBound, Found, Fine, SomeFine}
+use Rattle.sets.specs.Rows.{Row, LowerBound, Found, FineValue, SomeFine}
 
 -- `lower_bound`: of the cells passed, those before `from` are below x and those from `from + left` on are not.
 pub record Halving (s : List ℕ) (at step n x from left : ℕ) : Type 0 where
@@ -159,7 +159,7 @@ module _ {s : List ℕ} {top a : ℕ} {vs : Values} (h : SetBelow s top a vs) wh
 pub fine-set : (s : List ℕ) (at : ℕ) → SomeFine s at → 5 * cellSize ≤ getD s at 0 → SomeSet s (length s) at
 fine-set s at h l = go (h .0) (h .1) (h .2)
   where
-    go : (v : Value) → ValueBelow s (length s) at v → Fine v → SomeSet s (length s) at
+    go : (v : Value) → ValueBelow s (length s) at v → FineValue v → SomeSet s (length s) at
     go (scalar (num whole i)) b f = absurd (omega (arith, first-cell s at (scalar (num whole i)) (b .stands) (b .fits) .0))
     go (scalar (truth t)) b f = absurd (omega (arith, first-cell s at (scalar (truth t)) (b .stands) (b .fits) .0))
     go (scalar (element g k)) b f = absurd (omega (arith, first-cell s at (scalar (element g k)) (b .stands) (b .fits) .0))

@@ -127,7 +127,7 @@ abbrev pub RunEnds : List ℕ → ℕ → ℕ → ℕ → Type 0
 RunEnds s at n r = (top : ℕ) (vs : Values) → Front s top at n vs → r ≡ at + weights vs
 
 -- The members zs, n in number, have been built from top + 1 up to `to`.
-pub record Built (s : List ℕ) (top to n : ℕ) (zs : List Value) : Type 0 where
+pub record BuiltTo (s : List ℕ) (top to n : ℕ) (zs : List Value) : Type 0 where
   pub stands : ValuesAt s (top + 1) (values zs)
   pub ends : to ≡ top + 1 + weights (values zs)
   pub counted : n ≡ count (values zs)
@@ -139,12 +139,12 @@ pub record PutPre (s : List ℕ) (from end k : ℕ) (o : Out) : Type 0 where
   pub room : o .to + (end - from) ≤ length s
   pub few : o .count + k ≤ 4294967296
 
-pub record Put (keep : Bool) (s : List ℕ) (from end k : ℕ) (o : Out) (s′ : List ℕ) (r : Out) : Type 0 where
+pub record PutBehind (keep : Bool) (s : List ℕ) (from end k : ℕ) (o : Out) (s′ : List ℕ) (r : Out) : Type 0 where
   pub frame : Same (o .to) s s′
   pub near : r .to ≤ o .to + (end - from)
   pub even : end - from ≡ k → r .to + o .count ≡ o .to + r .count
-  pub on : (top : ℕ) (zs : List Value) (vs : Values) → Built s top (o .to) (o .count) zs → ValuesAt s from vs → end ≡ from + weights vs → k ≡ count vs →
-      Built s′ top (r .to) (r .count) (zs ++ cond keep (members vs) [])
+  pub on : (top : ℕ) (zs : List Value) (vs : Values) → BuiltTo s top (o .to) (o .count) zs → ValuesAt s from vs → end ≡ from + weights vs → k ≡ count vs →
+      BuiltTo s′ top (r .to) (r .count) (zs ++ cond keep (members vs) [])
 
 -- The rest of a set, of one cell each or not.
 abbrev pub RestThere : List ℕ → ℕ → ℕ → Bool → Type 0
@@ -157,7 +157,7 @@ pub record Merging (l b r : Bool) (s : List ℕ) (top : ℕ) (w : Walk) (whole :
   pub done : List Value
   pub onLeft : Front s top (w .a) (w .m) left
   pub onRight : Front s top (w .b) (w .n) right
-  pub built : Built s top (w .to) (w .count) done
+  pub built : BuiltTo s top (w .to) (w .count) done
   pub all : whole ≡ done ++ merged l b r (members left) (members right)
 
 -- One turn of it.

@@ -9,7 +9,7 @@ use Rattle.rules.specs.Values.{Value, set, Values, members, weight, same}
 use Rattle.rules.specs.Runs.{Given, gives, lacks}
 use Rattle.rules.specs.Operations.{left, applied}
 use Rattle.sets.specs.Fronts.{MemberOrNone}
-use Rattle.arena.specs.Code.{AllWeigh, SetBelow, ValueBelow, Front, AllPairs}
+use Rattle.arena.specs.Code.{AllWeigh, SetBelow, ValueBelow, Front, AllPairs, SomeRelation}
 
 -- The pair x does not share its first part with the next one.
 abbrev pub newFirst : Value → List Value → Bool
@@ -28,10 +28,6 @@ SomePairs s at n = (top : ℕ) × (vs : Values) × Front s top at n vs × AllPai
 -- r says whether none of n pairs from `at` on shares its first part with the next one.
 abbrev pub FunctionAt : List ℕ → ℕ → ℕ → Bool → Type 0
 FunctionAt s at n r = (top : ℕ) (vs : Values) → Front s top at n vs → AllPairs vs → r ≡ newFirsts (members vs)
-
--- A set of pairs stands at `at`, below `top`.
-abbrev pub SomeRelation : List ℕ → ℕ → ℕ → Type 0
-SomeRelation s top at = (vs : Values) × SetBelow s top at vs × AllPairs vs
 
 -- Pairs of two values of one cell each: three cells a pair.
 abbrev pub FlatPairs : Values → Type 0
@@ -69,7 +65,7 @@ abbrev pub KnownFunction : List ℕ → ℕ → Bool → Type 0
 KnownFunction s f k = k ≡ true → IsFunction s f true
 
 -- u stands at r, within the set vs at f.
-pub record Within (s : List ℕ) (f : ℕ) (vs : Values) (r : ℕ) (u : Value) : Type 0 where
+pub record WithinSet (s : List ℕ) (f : ℕ) (vs : Values) (r : ℕ) (u : Value) : Type 0 where
   pub positive : 0 < r
   pub behind : f < r
   pub value : ValueBelow s (f + weight (set vs)) r u
@@ -77,7 +73,7 @@ pub record Within (s : List ℕ) (f : ℕ) (vs : Values) (r : ℕ) (u : Value) :
 -- r is where the answer of an application stands, or 0 where there is none (16).
 abbrev pub ImageAt : List ℕ → ℕ → Values → ℕ → Given → Type 0
 ImageAt s f vs r (lacks k) = (k ≡ 16) × (r ≡ 0)
-ImageAt s f vs r (gives u) = Within s f vs r u
+ImageAt s f vs r (gives u) = WithinSet s f vs r u
 
 abbrev pub Applies : List ℕ → ℕ → ℕ → ℕ → Type 0
 Applies s f e r =

@@ -7,7 +7,7 @@ use mathlib.Core.Path.{_≡_}
 use lib.ListN.{length, getD}
 use mir.Val.{boolByte}
 use Rattle.rules.specs.Values.{Value, scalar, pair, set}
-use Rattle.arena.specs.Code.{FineSet, SomeSet, ValueBelow}
+use Rattle.arena.specs.Code.{FineSet, ValueBelow}
 use Rattle.sets.specs.Fronts.{Cells, TwoRuns, Walking}
 use Rattle.sets.specs.declared.CellTurn.{CellTurn}
 use Rattle.sets.specs.declared.Place.{Place}
@@ -33,17 +33,14 @@ pub record Found (s : List ℕ) (at step n x r : ℕ) : Type 0 where
 abbrev pub OfCells : List ℕ → ℕ → Bool → Type 0
 OfCells s a r = r ≡ true → Cells s (a + 1) (getD s a 0 % 4294967296)
 
-abbrev pub SetAt : List ℕ → ℕ → Type 0
-SetAt s a = (top : ℕ) × SomeSet s top a
-
 -- A value that evaluation may have formed stands at `at`.
-abbrev pub Fine : Value → Type 0
-Fine (scalar x) = Unit {0}
-Fine (pair v w) = Unit {0}
-Fine (set vs) = FineSet vs
+abbrev pub FineValue : Value → Type 0
+FineValue (scalar x) = Unit {0}
+FineValue (pair v w) = Unit {0}
+FineValue (set vs) = FineSet vs
 
 abbrev pub SomeFine : List ℕ → ℕ → Type 0
-SomeFine s at = (v : Value) × ValueBelow s (length s) at v × Fine v
+SomeFine s at = (v : Value) × ValueBelow s (length s) at v × FineValue v
 
 -- m members from a on and n from b on, one cell each, stand below `top`.
 pub record TwoRows (s : List ℕ) (a m b n top : ℕ) : Type 0 where

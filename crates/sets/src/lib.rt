@@ -3,11 +3,11 @@ ghost use Prim.Native.Nat.{_+_, _≤_, _<_};
 ghost use mathlib.Core.Bool.{true, cond};
 ghost use mathlib.Core.Path.{_≡_};
 ghost use lib.ListN.{length};
-ghost use Rattle.arena.specs.Code.{EndsAt, SomeSet, SomeValue};
-ghost use Rattle.sets.specs.Fronts.{SeekPre, Sought, Contains, Includes, TwoFronts, TurnAt, TwoRuns, RunIn, SomeFront, RunEnds, PutPre, Put};
+ghost use Rattle.arena.specs.Code.{EndsAt, SomeSet, SetAt, SomeValue, SomeRelation};
+ghost use Rattle.sets.specs.Fronts.{SeekPre, Sought, Contains, Includes, TwoFronts, TurnAt, TwoRuns, RunIn, SomeFront, RunEnds, PutPre, PutBehind};
 ghost use Rattle.sets.specs.Fronts.{RestThere, StepPre, Stepped, RestOf, EndPre, Ended, RunsBelow, RunsMerge, Merges};
-ghost use Rattle.sets.specs.Rows.{Row, LowerBound, Found, SetAt, OfCells, SomeFine, TwoRows, Kept, CellTurned, RowsBelow, Ahead, FrontsMerge};
-ghost use Rattle.sets.specs.Pairs.{SomePairs, FunctionAt, SomeRelation, Applies, SomeFlat, FlatFunctionAt, FlatAt, Relation, PairSought, IsFunction, KnownFunction};
+ghost use Rattle.sets.specs.Rows.{Row, LowerBound, Found, OfCells, SomeFine, TwoRows, Kept, CellTurned, RowsBelow, Ahead, FrontsMerge};
+ghost use Rattle.sets.specs.Pairs.{SomePairs, FunctionAt, Applies, SomeFlat, FlatFunctionAt, FlatAt, Relation, PairSought, IsFunction, KnownFunction};
 
 // A set is small beside one with more than FEW times its members: a search for each member is quicker than a walk over both.
 const FEW: usize = 8;
@@ -446,7 +446,7 @@ fn rest_end(s: &[u64], at: usize, n: u64, cells: bool) -> usize
 // Puts the run from `from` to `end`, of k members, behind what has been built, if it is kept.
 fn put(s: &mut [u64], from: usize, end: usize, k: u64, keep: bool, o: Out) -> Out
     requires { ⌜ PutPre (now s) from end k o ⌝ }
-    ensures { λ r. ⌜ Put keep (now (s .entry)) from end k o (now (s .exit)) r ⌝ }
+    ensures { λ r. ⌜ PutBehind keep (now (s .entry)) from end k o (now (s .exit)) r ⌝ }
 {
     if keep {
         let n = end - from;

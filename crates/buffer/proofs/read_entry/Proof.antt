@@ -8,7 +8,7 @@ use Rattle.rules.specs.Tables.{tableOf}
 use Rattle.arena.proofs.Standing.{same-refl}
 use Rattle.buffer.specs.declared.Placed.{Placed}
 use Rattle.buffer.specs.declared.Placed.the-variants.{At}
-use Rattle.buffer.specs.Buffer.{Places}
+use Rattle.buffer.specs.Buffer.{CopyAnswers}
 use Rattle.buffer.proofs.Loading.{read-whole, read-bad, entry-bound, entry-free, entry-bad}
 use Rattle.buffer.proofs.read_entry.Statement.{statement}
 use Rattle.buffer.proofs.read_entry.Tie as tie
@@ -33,7 +33,7 @@ is-free k = let f = free k in sym (f .before .bind .ensures 0) ∙ f .if1 .left
 -- What the answer of `copy_value` says, once it is known.
 abbrev Copies : Copied → Placed → Type 0
 Copies k q =
-    let a = from k .args in Places (tableOf (a .table .now) .sizes) (a .values .now) (a .from .at) (k .copy-value .last .1 .1 .1 .0) (a .top) q
+    let a = from k .args in CopyAnswers (tableOf (a .table .now) .sizes) (a .values .now) (a .from .at) (k .copy-value .last .1 .1 .1 .0) (a .top) q
 
 -- A value has been copied, and it is fine or not.
 abbrev copied : tie.After-r → Copied

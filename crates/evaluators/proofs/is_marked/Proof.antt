@@ -1,6 +1,6 @@
 -- `is_marked`: the node is an identifier, and the environment marks it. Landmarks: what was lent, that the node is an identifier, and its number.
 use Rattle.evaluators.proofs.Terms.{some, _≡_, sym, ap, _∙_, subst, ℕ, _<_, arith, lit<, getD, leb-true}
-use Rattle.evaluators.proofs.Terms.{kindOf, leaf, identifier, tableOf, kindAt, kind-of, fieldA, Marked}
+use Rattle.evaluators.proofs.Terms.{kindOf, leaf, identifier, tableOf, kindAt, kind-of, fieldA, FunctionEntry}
 use denote.Ref.{now}
 use Rattle.rules.proofs.Basics.{absurd01}
 use Rattle.evaluators.proofs.SafeLaws.{node-in, entry-below, entry-scaled}
@@ -28,5 +28,5 @@ is-marked-spec =
     (λ c. entry-below (c .node-field .ensures) (below (c .before)))
     (λ c. λ e. let f = c .before in let v = lent (f .before) in record {
       is = named (f .before);
-      marked = subst (λ (x : ℕ). Marked (getD (now (v .args .env)) x 0)) (f .node-field .ensures) (leb-true _ _ e);
+      marked = subst (λ (x : ℕ). FunctionEntry (getD (now (v .args .env)) x 0)) (f .node-field .ensures) (leb-true _ _ e);
     }))

@@ -8,7 +8,7 @@ use borrow.Author.Tests.{not-false}
 use denote.Ref.{now}
 use lib.Dec.{lit<}
 use Rattle.operations.specs.Outcomes.{IsLight}
-use Rattle.evaluators.specs.Nodes.{PlacedLeaf, MarkedLeaf}
+use Rattle.evaluators.specs.Nodes.{PlacedLeaf, FunctionLeaf}
 use Rattle.evaluators.proofs.SafeLaws.{ready-node}
 use Rattle.evaluators.proofs.NodeLaws.{TwoFields, ready-first}
 use Rattle.evaluators.proofs.DispatchLaws.{place-ready, light-two}
@@ -42,7 +42,7 @@ fields c = let y = light-two (light c) in two-fields (lent (enough c) .pre .2) (
 placed-as : {bs env : List ℕ} {n m at : ℕ} → n ≡ m → PlacedLeaf bs env n at → PlacedLeaf bs env m at
 placed-as e p = rw e at p
 
-marked-as : {bs env : List ℕ} {n m : ℕ} → n ≡ m → MarkedLeaf bs env n → MarkedLeaf bs env m
+marked-as : {bs env : List ℕ} {n m : ℕ} → n ≡ m → FunctionLeaf bs env n → FunctionLeaf bs env m
 marked-as e p = rw e at p
 
 returns-4 : tie.Need-returns-4

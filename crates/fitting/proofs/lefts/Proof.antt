@@ -4,14 +4,14 @@ use mathlib.Core.Bool.{Bool, true, false}
 use native.Mathlib.Omega.{arith}
 use borrow.Author.Tests.{not-true, not-false}
 use Rattle.fitting.specs.Agree.{SomeTyped}
-use Rattle.fitting.specs.Tests.{Pairs, AgreedLefts}
+use Rattle.fitting.specs.Tests.{PairsAndOne, AgreedLefts}
 use Rattle.fitting.proofs.Cells.{inside, some-at}
 use Rattle.fitting.proofs.Tests.{pairs-first, pairs-rest, lefts-end, lefts-false, lefts-step, lefts-last}
 use Rattle.fitting.proofs.lefts.Statement.{statement}
 use Rattle.fitting.proofs.lefts.Tie as tie
 
 abbrev Inv : tie.InvT-loop
-Inv s a n b i₀ left₀ i left = Pairs s i left b × ((r : Bool) → AgreedLefts s i left b r → AgreedLefts s a n b r)
+Inv s a n b i₀ left₀ i left = PairsAndOne s i left b × ((r : Bool) → AgreedLefts s i left b r → AgreedLefts s a n b r)
 
 abbrev μ : tie.MeasureT-loop
 μ s a n b i₀ left₀ i left = left

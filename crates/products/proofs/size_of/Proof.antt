@@ -14,9 +14,9 @@ size-of-spec =
     tie.close
     (tie.spec
     (λ c. search needs)
-    (λ c. set-inside _ _ _ _ (c .before .before .pre .below))
+    (λ c. set-inside _ _ _ _ (c .before .before .pre .1 .1))
     (λ c κs. search needs)
     (λ c κs. search needs)
-    (λ c. omega (arith, set-end _ _ _ _ (lent (c .before) .pre .below) _ (c .end-of .ensures)))
-    (λ c. omega (arith, set-end _ _ _ _ (lent (c .before) .pre .below) _ (c .end-of .ensures)))
+    (λ c. omega (arith, set-end _ _ _ _ (lent (c .before) .pre .1 .1) _ (c .end-of .ensures)))
+    (λ c. omega (arith, set-end _ _ _ _ (lent (c .before) .pre .1 .1) _ (c .end-of .ensures)))
     (λ c. size-is (lent (c .before) .pre) (c .end-of .ensures) (c .before .low .ensures .0)))
