@@ -39,12 +39,12 @@ use Rattle.evaluate.specs.declared.Evaluation.{Evaluation}
 use Rattle.evaluators.specs.declared.Held.{Held}
 use Rattle.evaluators.specs.Answers.{HeldAs}
 use Rattle.evaluators.specs.Cycle.{conditionCells, expressionCells, Binds, NodeReady, truthAt, EvaluatesP}
-use Rattle.evaluators.specs.Nodes.{IsPred, entryPlace}
-use Rattle.operations.specs.Good.{GoodAt, SomeGood}
+use Rattle.evaluators.specs.Nodes.{IsPred, entryPlace, FunctionEntry}
+use Rattle.operations.specs.Good.{GoodAt, SomeGood, FunctionSeen, NewFirsts}
 use Rattle.arena.proofs.ValueParts.{some-inside}
 use Rattle.arena.proofs.FrontLaws.{value-some}
 use Rattle.evaluate.specs.Result.{endingOf, RefusedAt, Reported, OfBudget, Reports}
-use Rattle.evaluate.specs.Arenas.{Needs, ArenaReady, RoomFor, Measured, RootReady, RootReported, Plain, EntryMarked, Marks}
+use Rattle.evaluate.specs.Arenas.{Needs, ArenaReady, RoomFor, Measured, RootReady, RootReported, Rebinds}
 use Rattle.evaluate.proofs.ReportLaws.{held-within}
 
 -- The arena has room for the constants, and then for the values.
@@ -83,50 +83,48 @@ lacking-reported bs buffer s env top a h budget {x} q e d =
     let l : valuesIn (tableOf bs) buffer ≡ refused 14 x = subst (λ (z : Loaded). Loads (tableOf bs .sizes) (tableOf bs .binds) buffer s env top z) e h in
     refusal-reported (unloaded-ends bs buffer budget 14 x (tableOf bs) (reading-right bs .1 q) l) d
 
--- Marks change no place, and functions alone are marked.
-place-plain : {e : ℕ} → e < 65536 → entryPlace e ≡ e
-place-plain h = omega (arith, h)
+-- Marks: entries that bind the same values, functions alone marked.
+pub rebinds-start : {bs s env : List ℕ} {top : ℕ} → RootReady bs env s top → Rebinds bs s env env
+rebinds-start r = record { entries = r .entries; binds = λ top ρ b. b }
 
-pub entry-plain : {s : List ℕ} {e : ℕ} → e < 65536 → EntryMarked s e e
-entry-plain h = record { place = place-plain h; function = λ m. absurd (omega (arith, h, m)) }
+-- The value at an entry is good.
+pub entry-good : {bs env env′ s : List ℕ} {top : ℕ} → RootReady bs env s top → Rebinds bs s env env′ → (x : ℕ) → x < 32 →
+    SomeGood s (entryPlace (getD env′ x 0))
+entry-good {bs} r m x l =
+    record { sizes = _; small = sizes-small bs (r .readable); top = _; value = _; stands = m .binds _ _ (r .binds) .at x l }
 
-marks-bind : {bs s env env′ : List ℕ} {top : ℕ} {ρ : Env} → Readable bs → Plain env → Marks s env env′ → Binds bs s top env ρ → Binds bs s top env′ ρ
-marks-bind {bs} {s} {env} {env′} {top} {ρ} q p m b = record {
-  at = λ x l. rw (m .each x l .place) (good x l);
-  good = b .good;
-  functions = λ x l f. m .each x l .function f refl (tableOf bs .sizes) top (ρ x) (sizes-small bs q) (good x l);
-  constants = b .constants;
-  low = b .low;
-}
+pub rebinds-more : {bs s env env′ : List ℕ} (x e : ℕ) → Readable bs → Rebinds bs s env env′ → x < 32 → entryPlace e ≡ entryPlace (getD env′ x 0) →
+    FunctionSeen s (entryPlace (getD env′ x 0)) true → Rebinds bs s env (setAt env′ x e)
+rebinds-more {bs} {s} {env} {env′} x e q m l place f = record { entries = length-set env′ x e ∙ m .entries; binds = λ top ρ b. go top ρ (m .binds top ρ b) }
   where
-    good : (x : ℕ) → x < 32 → GoodAt (tableOf bs .sizes) s top (getD env x 0) (ρ x)
-    good x l = rw (place-plain (p x l)) at (b .at x l)
+    here : getD (setAt env′ x e) x 0 ≡ e
+    here = getD-set-same env′ x e 0 (omega (arith, m .entries, l))
 
--- The marks, one after the other.
-pub marks-start : {s env : List ℕ} → length env ≡ 32 → Plain env → Marks s env env
-marks-start l p = record { entries = l; each = λ x h. entry-plain (p x h) }
+    go : (top : ℕ) (ρ : Env) → Binds bs s top env′ ρ → Binds bs s top (setAt env′ x e) ρ
+    go top ρ b = record {
+      at = λ y k. at y k (ℕ-discrete y x);
+      good = b .good;
+      functions = λ y k. functions y k (ℕ-discrete y x);
+      constants = b .constants;
+      low = b .low;
+    }
+      where
+        at : (y : ℕ) → y < 32 → Dec (y ≡ x) → GoodAt (tableOf bs .sizes) s top (entryPlace (getD (setAt env′ x e) y 0)) (ρ y)
+        at y k (yes d) = rw (d, here, place) (b .at x l)
+        at y k (no d) = rw (getD-set-other env′ x y e 0 d) (b .at y k)
 
-pub marks-more : {s env env′ : List ℕ} (x e : ℕ) → Marks s env env′ → x < 32 → EntryMarked s (getD env x 0) e → Marks s env (setAt env′ x e)
-marks-more {s} {env} {env′} x e m l h = record { entries = length-set env′ x e ∙ m .entries; each = λ y k. go y k (ℕ-discrete y x) }
-  where
-    go : (y : ℕ) → y < 32 → Dec (y ≡ x) → EntryMarked s (getD env y 0) (getD (setAt env′ x e) y 0)
-    go y k (yes d) = rw (d, getD-set-same env′ x e 0 (omega (arith, m .entries, l))) h
-    go y k (no d) = rw (getD-set-other env′ x y e 0 d) (m .each y k)
+        functions : (y : ℕ) → y < 32 → Dec (y ≡ x) → FunctionEntry (getD (setAt env′ x e) y 0) → NewFirsts (ρ y)
+        functions y k (yes d) h = rw d (f refl (tableOf bs .sizes) top (ρ x) (sizes-small bs q) (b .at x l))
+        functions y k (no d) h = b .functions y k (rw (getD-set-other env′ x y e 0 d) at h)
 
--- The values stand where the environment says.
-pub entry-good : {bs env s : List ℕ} {top : ℕ} → RootReady bs env s top → Plain env → (x : ℕ) → x < 32 → SomeGood s (getD env x 0)
-entry-good {bs} r p x l =
-    let g = r .binds .at x l in
-    record { sizes = _; small = sizes-small bs (r .readable); top = _; value = _; stands = rw (place-plain (p x l)) at g }
-
-pub marked-ready : {bs s env env′ : List ℕ} {top : ℕ} → RootReady bs env s top → Plain env → Marks s env env′ → RootReady bs env′ s top
-marked-ready r p m = record {
+pub marked-ready : {bs s env env′ : List ℕ} {top : ℕ} → RootReady bs env s top → Rebinds bs s env env′ → RootReady bs env′ s top
+marked-ready r m = record {
   readable = r .readable;
   room = r .room;
   small = r .small;
   entries = m .entries;
   values = r .values;
-  binds = marks-bind (r .readable) p m (r .binds);
+  binds = m .binds _ _ (r .binds);
 }
 
 -- The identifiers' values as an environment, over the arena s with the constants that s′ has.
@@ -138,14 +136,17 @@ module _ (bs : List ℕ) {buffer s env : List ℕ} {top n : ℕ} (b : Bound (tab
   module _ {s₀ s₁ : List ℕ} (r : ArenaReady bs buffer s₀) (o : OnlyBelow (nodeCount bs) s₀ s₁) (c : Constants bs (nodeCount bs) s₁) (e : n ≡ nodeCount bs)
       (same : Same n s₁ s) where
     -- What stands in the arena has a place below its length.
-    pub bound-plain : Plain env
+    bound-plain : (x : ℕ) → x < 32 → getD env x 0 < 65536
     bound-plain x l = let v = b .at x l in omega (arith, some-inside s (getD env x 0) (value-some s top _ _ v), r .small, same .kept, o .kept)
+
+    place-plain : (x : ℕ) → x < 32 → entryPlace (getD env x 0) ≡ getD env x 0
+    place-plain x l = omega (arith, bound-plain x l)
 
     pub bound-binds : Binds bs s top env (λ x. getD (b .values) x noValue)
     bound-binds =
         let g = valuesIn-good (tableOf bs) buffer (b .values) read-all in
         record {
-          at = λ x l. rw (place-plain (bound-plain x l)) (record { stands = b .at x l .stands; below = b .at x l .below; good = g x });
+          at = λ x l. rw (place-plain x l) (record { stands = b .at x l .stands; below = b .at x l .below; good = g x });
           good = g;
           functions = λ x l m. absurd (omega (arith, bound-plain x l, m));
           constants = constants-frame bs s₁ s (nodeCount bs) n same (omega (arith, e)) c;
@@ -163,12 +164,12 @@ module _ (bs : List ℕ) {buffer s env : List ℕ} {top n : ℕ} (b : Bound (tab
     }
 
     -- The end of the run at these values, by the environment that marks them, is that of the evaluation.
-    pub run-reported : (budget : ℕ) {env′ : List ℕ} → Marks s env env′ → {x : Evaluation} → RootReported bs env′ s top budget x →
+    pub run-reported : (budget : ℕ) {env′ : List ℕ} → Rebinds bs s env env′ → {x : Evaluation} → RootReported bs env′ s top budget x →
         Reported (evaluation bs buffer budget) x
     run-reported budget m {x} h =
         subst (λ (z : Run Bool). Reported z x)
         (sym (evaluation-run bs buffer budget (tableOf bs) (b .values) (reading-right bs .1 (r .needs .readable)) read-all))
-        (h (b .values) (marks-bind (r .needs .readable) bound-plain m bound-binds))
+        (h (b .values) (m .binds _ _ bound-binds))
 
 -- The run of the condition.
 module _ {bs env s : List ℕ} {top : ℕ} (r : RootReady bs env s top) {n : ℕ} (e : n ≡ nodeCount bs) where

@@ -15,8 +15,6 @@ use Rattle.rules.specs.Evaluation.{run}
 use Rattle.reading.specs.Answers.{rootHeight}
 use Rattle.buffer.specs.Buffer.{cellsAtMost}
 use Rattle.constants.specs.Built.{Builds}
-use Rattle.operations.specs.Good.{FunctionSeen}
-use Rattle.evaluators.specs.Nodes.{entryPlace, FunctionEntry}
 use Rattle.evaluators.specs.Cycle.{conditionCells, Binds}
 use Rattle.evaluate.specs.declared.Evaluation.{Evaluation}
 use Rattle.evaluate.specs.Result.{Reported}
@@ -65,15 +63,7 @@ abbrev pub RootReported : List ℕ → List ℕ → List ℕ → ℕ → ℕ →
 RootReported bs env s top budget r =
     (vs : List Value) → Binds bs s top env (λ x. getD vs x noValue) → Reported (run (tableOf bs) vs budget) r
 
--- No entry of the environment is marked.
-abbrev pub Plain : List ℕ → Type 0
-Plain env = (x : ℕ) → x < 32 → getD env x 0 < 65536
-
--- The entry for the value at `at`, marked only where that is seen to be a function.
-pub record EntryMarked (s : List ℕ) (at r : ℕ) : Type 0 where
-  pub place : entryPlace r ≡ at
-  pub function : FunctionEntry r → FunctionSeen s at true
-
-pub record Marks (s env r : List ℕ) : Type 0 where
-  pub entries : length r ≡ 32
-  pub each : (x : ℕ) → x < 32 → EntryMarked s (getD env x 0) (getD r x 0)
+-- The entries env′ bind whatever values env binds.
+pub record Rebinds (bs s env env′ : List ℕ) : Type 0 where
+  pub entries : length env′ ≡ 32
+  pub binds : (top : ℕ) (ρ : Env) → Binds bs s top env ρ → Binds bs s top env′ ρ

@@ -8,9 +8,8 @@ ghost use Rattle.rules.specs.Evaluation.{evaluation};
 ghost use Rattle.evaluate.specs.declared.Ending.the-variants.{Decided};
 ghost use Rattle.evaluate.specs.Result.{endingOf, RefusedAt, Judged, OfBudget, Reports};
 ghost use Rattle.reading.specs.Answers.{rootHeight};
-ghost use Rattle.evaluate.specs.Arenas.{ArenaReady, RoomFor, RootReady, RootReported, Plain, EntryMarked, Marks};
-ghost use Rattle.operations.specs.Good.{SomeGood};
-ghost use Prim.Native.Nat.{ℕ, _<_};
+ghost use Rattle.evaluate.specs.Arenas.{ArenaReady, RoomFor, RootReady, RootReported, Rebinds};
+ghost use Prim.Native.Nat.{ℕ};
 
 mod arenas;
 
@@ -103,30 +102,20 @@ fn evaluate_at(table: &[u8], env: &[u32; 32], s: &mut [u64], top: usize, budget:
     ended(held, budget)
 }
 
-// The entry of the environment for a value at `at`.
-fn entry(s: &[u64], at: u32) -> u32
-    requires { ⌜ SomeGood (now s) at × (at < 65536) ⌝ }
-    ensures { λ r. ⌜ EntryMarked (now (s .entry)) at r ⌝ }
-{
-    if operations::known_function(s, at as usize) {
-        return at + evaluators::FUNCTION;
-    }
-    at
-}
-
 // Marks the values that are seen to be functions, so that an application need not ask it anew at each visit.
-fn mark(table: &[u8], s: &[u64], env: [u32; 32]) -> [u32; 32]
-    requires { ⌜ ((top : ℕ) × RootReady (now table) env (now s) top) × Plain env ⌝ }
-    ensures { λ r. ⌜ Marks (now (s .entry)) env r ⌝ }
+fn mark(table: &[u8], s: &[u64], env: &mut [u32; 32])
+    requires { ⌜ ((top : ℕ) × RootReady (now table) (now env) (now s) top) ⌝ }
+    ensures { λ r. ⌜ Rebinds (now (table .entry)) (now (s .entry)) (now (env .entry)) (now (env .exit)) ⌝ }
 {
     let count = table::identifiers(table);
-    let mut marked = env;
     let mut x: usize = 0;
     while x < count {
-        marked[x] = entry(s, env[x]);
+        let at = env[x] % evaluators::FUNCTION;
+        if operations::known_function(s, at as usize) {
+            env[x] = evaluators::FUNCTION + at;
+        }
         x += 1;
     }
-    marked
 }
 
 // Evaluates a readable table over the arena s, in which its constants stand first, and then the values of its identifiers; and tests these
@@ -138,14 +127,14 @@ fn evaluate_in(table: &[u8], values: &[u8], sheet: &[u8], budget: u32, s: &mut [
     constants::put_constants(table, s);
     let count = table::nodes(table);
     let loaded = buffer::load(table, values, s, count);
-    let env = loaded.at;
+    let mut env = loaded.at;
     let answer = loaded.answer;
     match answer {
         Loaded::Refused(x) => unloaded(x),
         Loaded::All(top) => {
             let conforms = conforms::loaded_conform(table, s, &env, sheet);
-            let marked = mark(table, s, env);
-            let evaluation = evaluate_at(table, &marked, s, top, budget);
+            mark(table, s, &mut env);
+            let evaluation = evaluate_at(table, &env, s, top, budget);
             GuardedRun {
                 evaluation,
                 conforms,

@@ -6,8 +6,8 @@ use borrow.Author.Needs.{needs, length-unmapped}
 use Rattle.rules.specs.Tables.{tableOf}
 use Rattle.buffer.specs.Loaded.{Bound}
 use Rattle.conforms.proofs.NameLaws.{refused-not, loads-all}
-use Rattle.evaluate.specs.Arenas.{RootReady, Plain}
-use Rattle.evaluate.proofs.EntryLaws.{nodes-inside, load-ready, lacking-reported, bound-plain, root-ready, marked-ready, run-reported}
+use Rattle.evaluate.specs.Arenas.{RootReady}
+use Rattle.evaluate.proofs.EntryLaws.{nodes-inside, load-ready, lacking-reported, root-ready, marked-ready, run-reported}
 use Rattle.evaluate.proofs.evaluate_in.Statement.{statement}
 use Rattle.evaluate.proofs.evaluate_in.Tie as tie
 
@@ -37,8 +37,8 @@ standing a = loads-all _ _ _ _ _ _ (loaded a .load .ensures .1) (a .answer2 .giv
 abbrev told : tie.After-env2 → tie.After-answer2
 told c = c .before .before .before
 
-abbrev tested : tie.After-mark-arg → tie.After-env2
-tested c = c .before .before
+abbrev tested : tie.After-env3 → tie.After-env2
+tested c = c .before .before .before
 
 abbrev marked : tie.After-evaluate-at-arg → tie.After-mark
 marked c = c .before .before
@@ -50,13 +50,6 @@ loaded-conform-requires c κs =
 
 -- The condition may be evaluated where the values stand.
 module _ (a : tie.After-answer2) where
-  plain : Plain (loaded a .load .result .at)
-  plain =
-      let l = loaded a in
-      let n = counted l in
-      let k = put n in
-      bound-plain _ (standing a) (lent k .pre) (k .put-constants .ensures .1) (k .put-constants .ensures .0) (n .nodes .ensures) (l .load .ensures .0)
-
   ready : let l = loaded a in
       RootReady (lent (put (counted l)) .args .table .now) (l .load .result .at) (l .load .last .1 .1 .0) (a .answer2 .given .0 .0)
   ready =
@@ -70,7 +63,7 @@ evaluate-at-requires : tie.Need-evaluate-at-requires
 evaluate-at-requires c κs =
     let m = marked c in
     let a = told (tested (m .before)) in
-    marked-ready (ready a) (plain a) (m .mark .ensures)
+    marked-ready (ready a) (m .mark .ensures)
 
 returns : tie.Need-returns
 returns c =
@@ -96,7 +89,7 @@ returns-2 c =
       reported =
           run-reported _ (standing a) (lent k .pre) (k .put-constants .ensures .1) (k .put-constants .ensures .0) (n .nodes .ensures) (l .load .ensures .0) _
           (m .mark .ensures) (e .evaluate-at .ensures);
-      conforms = m .before .before .loaded-conform .ensures _ _ _ (standing a);
+      conforms = m .before .before .before .loaded-conform .ensures _ _ _ (standing a);
     }
 
 pub evaluate-in-spec : {M : Type 1} → statement M
@@ -110,7 +103,7 @@ evaluate-in-spec =
     (λ c κs. tt)
     (λ c. c .match .keys2)
     loaded-conform-requires
-    (λ c κs. let a = told (tested c) in ((_, ready a), plain a))
+    (λ c κs. let a = told (tested c) in (_, ready a))
     evaluate-at-requires
     (λ c. search needs)
     returns
