@@ -19,6 +19,13 @@ pub const PAIR_TAG: u64 = 4;
 
 pub const SET_TAG: u64 = 5;
 
+// The orders of two values.
+pub const LESS: u8 = 0;
+
+pub const EQUAL: u8 = 1;
+
+pub const GREATER: u8 = 2;
+
 // The cells of scalars: numbers in excess form (ZERO is that of 0), truths, elements. Payloads are added.
 pub const NUMBER: u64 = NUMBER_TAG * CELL;
 
@@ -95,7 +102,7 @@ pub fn end_of(s: &[u64], at: usize) -> usize
     walk_end(s, at)
 }
 
-// The order of the values at a and b: 0 less, 1 equal, 2 greater. The first ends at `end`.
+// The order of the value at a to that at b. The first ends at `end`.
 pub fn compare(s: &[u64], a: usize, end: usize, b: usize) -> u8
     requires { ⌜ SomeAt (now s) a × SomeAt (now s) b × EndsAt (now s) a end ⌝ }
     ensures { λ r. ⌜ Compared (now (s .entry)) a b r ⌝ }
@@ -106,14 +113,14 @@ pub fn compare(s: &[u64], a: usize, end: usize, b: usize) -> u8
         let x = s[a + i];
         let y = s[b + i];
         if x < y {
-            return 0;
+            return LESS;
         }
         if y < x {
-            return 2;
+            return GREATER;
         }
         i += 1;
     }
-    1
+    EQUAL
 }
 
 // Copies n cells, upward to a place behind them or downward.

@@ -175,7 +175,7 @@ fn values_fine(s: &[u64], at: usize, n: u64) -> bool
     let mut e = end;
     let mut k: u64 = 1;
     while k < n {
-        if arena::compare(s, i, e, e) != 0 {
+        if arena::compare(s, i, e, e) != arena::LESS {
             return false;
         }
         let m = few(one, k);

@@ -206,10 +206,10 @@ fn find(s: &[u64], p: usize, end: usize, from: usize, to: usize) -> Place
     let mut i = from;
     while i < to {
         let c = arena::compare(s, p, end, i);
-        if c < 2 {
+        if c < arena::GREATER {
             return Place {
                 at: i,
-                equal: c == 1,
+                equal: c == arena::EQUAL,
             };
         }
         i = arena::end_of(s, i);
@@ -234,10 +234,10 @@ fn place_for(s: &[u64], p: usize, end: usize, from: usize, o: Out) -> Place
         };
     }
     let d = arena::compare(s, p, end, last);
-    if d > 0 {
+    if d > arena::LESS {
         return Place {
             at: to,
-            equal: d == 1,
+            equal: d == arena::EQUAL,
         };
     }
     find(s, p, end, from, to)

@@ -144,11 +144,11 @@ fn seek(s: &[u64], at: usize, n: u64, e: usize, first: bool) -> usize
     let mut i = at;
     while left > 0 {
         let order = arena::compare(s, e, end, i + first as usize);
-        if order == 1 {
+        if order == arena::EQUAL {
             return i;
         }
         // The members that follow are greater still, and so are their first parts.
-        if order == 0 {
+        if order == arena::LESS {
             return 0;
         }
         i = arena::end_of(s, i);
@@ -185,7 +185,7 @@ fn turn_at(
 {
     let end = arena::end_of(s, a);
     let c = arena::compare(s, a, end, b);
-    if c == 0 {
+    if c == arena::LESS {
         return Turn {
             from: a,
             end: end,
@@ -197,7 +197,7 @@ fn turn_at(
         };
     }
     let end2 = arena::end_of(s, b);
-    if c == 1 {
+    if c == arena::EQUAL {
         return Turn {
             from: a,
             end: end,
@@ -325,7 +325,7 @@ fn is_function(s: &[u64], at: usize, n: u64) -> bool
     while left > 1 {
         let right = arena::end_of(s, i + 1);
         let next = arena::end_of(s, right);
-        if arena::compare(s, i + 1, right, next + 1) == 1 {
+        if arena::compare(s, i + 1, right, next + 1) == arena::EQUAL {
             return false;
         }
         i = next;
