@@ -1,30 +1,28 @@
--- Whether values that stand in a row rise and share a type: value by value, behind the first of them that do; and of scalars by their cells.
-use Prim.Native.Nat.{ℕ, _+_, _*_, _-_, _/_, _≤_, _<_, Ordering, Ordering·lt, Ordering·eq, Ordering·gt}
+-- Whether values that stand in a row rise and share a type: value by value, behind the first of them that do (`Passed`); and where each of them has
+-- one type only, by neighbours alone, since those that are left are fine just where all are (`Rest`).
+use Prim.Native.Nat.{ℕ, _+_, _-_, _≤_, _<_, Ordering, Ordering·lt, Ordering·eq, Ordering·gt}
 use mathlib.Core.Bool.{Bool, true, false, _&&_, cond}
 use mathlib.Core.List.{List}
-use mathlib.Core.Logic.{_↔_, _≢_}
+use mathlib.Core.Logic.{_↔_}
 use mathlib.Core.Path.{_≡_, refl, sym, ap, subst, _∙_}
 use native.Mathlib.Omega.{arith}
-use native.Mathlib.Decide.{ℕ-discrete, decLt}
-use native.Mathlib.Nat.{add-zero}
-use borrow.Author.Tests.{eq-eqb, ne-eqb, lt-ltb, le-ltb}
-use lib.Dec.{T, eqb, ltb}
-use lib.ListN.{length, getD}
+use borrow.Author.Tests.{eq-eqb, ne-eqb}
+use lib.Dec.{T, eqb}
+use lib.ListN.{length}
 use Rattle.rules.specs.Types.{Ty}
 use Rattle.rules.specs.Values.{Value, Values, none, _▸_, count, weights, order, isLt, before as isBefore}
 use Rattle.rules.specs.Fits.{TypeSet, every, _⊓_, typesOf, sharedTypes, inhabited}
 use Rattle.rules.proofs.Basics.{and-split, bool-eq}
 use Rattle.laws.proofs.EndLaws.{T-true, T-false}
 use Rattle.laws.proofs.FitsLaws.{_⊑_, ⊓-join, ⊓-split, some→inhabited}
-use Rattle.arena.specs.Code.{cellSize, codes, Stands, EndsAt, Compared, orderCode}
+use Rattle.arena.specs.Code.{codes, Stands, EndsAt, Compared, orderCode}
 use Rattle.arena.proofs.CodeLaws.{length-codes}
-use Rattle.arena.proofs.Standing.{stands-append, _before_, codes-before, count-before, weights-before, fit-before, found-less, found-greater, found-equal}
-use Rattle.arena.proofs.ValueParts.{one-cell}
-use Rattle.fitting.specs.Agree.{meets, agree, TypedAt, RunAt, SomeTyped, AgreedWith, NoEmpty, Full, StandFor, atomsAlike}
+use Rattle.arena.proofs.Standing.{stands-append, _before_, codes-before, count-before, weights-before, fit-before}
+use Rattle.fitting.specs.Agree.{meets, agree, TypedAt, RunAt, SomeTyped, AgreedWith, NoEmpty, Full, StandFor, Agreed}
 use Rattle.fitting.proofs.Sharing.{meets→share, share→meets, meets-sym, right-typed, with-every, full-first}
-use Rattle.fitting.proofs.Cells.{inside, as-run, run-head, run-of, end-is, full-value, scalar-full, atoms-agree, first-stands, rest-stand}
+use Rattle.fitting.proofs.Cells.{as-run, run-head, run-of, end-is, full-value, first-stands, rest-stand}
 use Rattle.buffer.specs.Ordered.{inOrder}
-use Rattle.buffer.specs.Shared.{AllTyped, TypedRow, mostAlike, fineMembers, SomeTypedRow}
+use Rattle.buffer.specs.Shared.{AllTyped, TypedRow, fineMembers, SomeTypedRow}
 
 -- The first of n values from i on, and the others.
 pub record First (s : List ℕ) (i n : ℕ) (vs : Values) : Type 0 where
@@ -59,28 +57,13 @@ less-code Ordering·lt = refl
 less-code Ordering·eq = refl
 less-code Ordering·gt = refl
 
-module _ {s : List ℕ} {a b : ℕ} {v w : Value} (h : TypedAt s a v) (k : TypedAt s b w) where
-  pub compared-before : {c : ℕ} → Compared s a b c → isBefore v w ≡ eqb c 0
-  unfolding isBefore
-  compared-before f = less-code (order v w) ∙ ap (λ (c : ℕ). eqb c 0) (sym (f v w (h .stands) (k .stands) (h .fits) (k .fits)))
+-- r says whether the value at a is before that at b.
+abbrev pub IsBefore : List ℕ → ℕ → ℕ → Bool → Type 0
+IsBefore s a b r = (v w : Value) → TypedAt s a v → TypedAt s b w → isBefore v w ≡ r
 
-  -- A scalar is before a value just where its cell is less than that value's first.
-  pub cells-before : getD s a 0 < 4 * cellSize → isBefore v w ≡ ltb (getD s a 0) (getD s b 0)
-  cells-before low = go (decLt (getD s a 0) (getD s b 0)) (decLt (getD s b 0) (getD s a 0))
-    where
-      same : getD s a 0 ≡ getD s b 0 → (j : ℕ) → j < 1 → getD s (a + j) 0 ≡ getD s (b + j) 0
-      same e j m = let z : j ≡ 0 = omega arith in rw (z, add-zero a, add-zero b) e
-
-      go : Dec (getD s a 0 < getD s b 0) → Dec (getD s b 0 < getD s a 0) → isBefore v w ≡ ltb (getD s a 0) (getD s b 0)
-      go (yes l) d =
-          compared-before (found-less s a b (a + 1) 0 (one-cell s a low) (λ j m. absurd (omega arith)) (omega arith) (rw (add-zero a, add-zero b) l)) ∙
-          sym (lt-ltb _ _ l)
-      go (no n) (yes l) =
-          compared-before (found-greater s a b (a + 1) 0 (one-cell s a low) (λ j m. absurd (omega arith)) (omega arith) (rw (add-zero a, add-zero b) l)) ∙
-          sym (le-ltb (getD s a 0) (getD s b 0) (omega arith))
-      go (no n) (no m) =
-          compared-before (found-equal s a b (a + 1) 1 (one-cell s a low) (same (omega arith)) (omega arith)) ∙
-          sym (le-ltb (getD s a 0) (getD s b 0) (omega arith))
+pub compared-before : {s : List ℕ} {a b c : ℕ} → Compared s a b c → IsBefore s a b (eqb c 0)
+unfolding isBefore
+compared-before f v w h k = less-code (order v w) ∙ ap (λ (c : ℕ). eqb c 0) (sym (f v w (h .stands) (k .stands) (h .fits) (k .fits)))
 
 -- Types of values that follow one another.
 both-types : (p q : TypeSet) (t : Ty) → (p ⊓ q ⊑ t) ↔ (p ⊑ t × q ⊑ t)
@@ -176,7 +159,7 @@ module _ {s : List ℕ} {at i e k n : ℕ} {vs : Values} (h : Passed s at i e k 
     with-next : {c : ℕ} → Compared s i e c → fineMembers vs ≡ joined (eqb c 0) (sharedTypes (h .front)) (next .value) (next .others)
     with-next f =
         h .same ∙ ap (λ (us : Values). inOrder (h .last ▸ us) && meets (sharedTypes (h .front)) (sharedTypes us)) (next .whole) ∙
-        rw (compared-before (h .here) (next .here) f)
+        rw (compared-before f (h .last) (next .value) (h .here) (next .here))
 
     pub passed-falls : {c : ℕ} → Compared s i e c → (c ≡ 0 → ⊥) → false ≡ fineMembers vs
     passed-falls {c} f z = sym (with-next f ∙ rw (ne-eqb c 0 z))
@@ -216,30 +199,6 @@ module _ {s : List ℕ} {at i e k n : ℕ} {vs : Values} (h : Passed s at i e k 
             there = omega (arith, h .there, weights-before (h .front) (w ▸ none), ends w (next .here .stands) (next .here .fits));
           }
 
--- Two cells are alike where the second, which is greater, is at most the greatest that is alike.
-module _ (x y : ℕ) where
-  by-tag : (P : ℕ → Bool → Type 0) →
-      (x / cellSize ≡ 3 → P (x / 256 * 256 + 255) (eqb (x / 256) (y / 256))) →
-      (x / cellSize ≢ 3 → P (x / cellSize * cellSize + 4294967295) (eqb (x / cellSize) (y / cellSize))) →
-      P (mostAlike x) (atomsAlike x y)
-  by-tag P h k = go (ℕ-discrete (x / cellSize) 3)
-    where
-      go : Dec (x / cellSize ≡ 3) → P (mostAlike x) (atomsAlike x y)
-      go (yes e) = rw (eq-eqb (x / cellSize) 3 e) (h e)
-      go (no n) = rw (ne-eqb (x / cellSize) 3 n) (k n)
-
-  pub alike-within : x < 4 * cellSize → x < y → y ≤ mostAlike x → (atomsAlike x y ≡ true) × (y < 4 * cellSize) × (mostAlike y ≡ mostAlike x)
-  alike-within p l =
-      by-tag (λ m b. y ≤ m → (b ≡ true) × (y < 4 * cellSize) × (mostAlike y ≡ m))
-      (λ t h. (eq-eqb (x / 256) (y / 256) (omega arith), omega arith, rw (eq-eqb (y / cellSize) 3 (omega arith)) (omega arith)))
-      (λ t h. (eq-eqb (x / cellSize) (y / cellSize) (omega arith), omega arith, rw (ne-eqb (y / cellSize) 3 (λ e. t (omega arith))) (omega arith)))
-
-  alike-above : mostAlike x < y → atomsAlike x y ≡ false
-  alike-above =
-      by-tag (λ m b. m < y → b ≡ false)
-      (λ t h. ne-eqb (x / 256) (y / 256) (λ e. omega arith))
-      (λ t h. ne-eqb (x / cellSize) (y / cellSize) (λ e. omega arith))
-
 -- A full value that shares a type with v shares with others only types that v has.
 full-share : (v w : Value) (r : TypeSet) → Full w → agree v w ≡ true → inhabited (typesOf v ⊓ (typesOf w ⊓ r)) ≡ inhabited (typesOf w ⊓ r)
 unfolding agree meets
@@ -258,47 +217,53 @@ few-fine none l h = refl
 few-fine (v ▸ none) l h = sym (T-true _ .0 (with-every (typesOf v) (h .0)))
 few-fine (v ▸ w ▸ ws) l h = absurd (omega arith)
 
--- Two or more are left, the first a scalar: it and the next by their cells.
-module _ {s : List ℕ} {i left : ℕ} {vs : Values} (h : Rest s i left vs) (l : 1 < left) (low : getD s i 0 < 4 * cellSize) where
+-- Two or more are left: the first ends at e, where the next stands.
+module _ {s : List ℕ} {i e left : ℕ} {vs : Values} (h : Rest s i left vs) (l : 1 < left) (ends : EndsAt s i e) where
   first : First s i left (h .rest)
   first = first-of (h .rest) (h .row) (omega arith)
 
-  behind : TypedRow s (i + 1) (left - 1) (first .others)
-  behind = first .row (i + 1) (one-cell s i low)
+  behind : TypedRow s e (left - 1) (first .others)
+  behind = first .row e ends
 
-  second : First s (i + 1) (left - 1) (first .others)
+  second : First s e (left - 1) (first .others)
   second = first-of (first .others) behind (omega arith)
 
-  pub next-inside : i + 1 < length s
-  next-inside = inside (second .value, second .here)
+  pub rest-second : SomeTyped s e
+  rest-second = (second .value, second .here)
 
-  alike : agree (first .value) (second .value) ≡ atomsAlike (getD s i 0) (getD s (i + 1) 0)
-  alike = sym (atoms-agree s i (i + 1) low (first .value) (second .value) (first .here) (second .here))
-
-  by-cells : fineMembers vs ≡ joined (ltb (getD s i 0) (getD s (i + 1) 0)) (typesOf (first .value)) (second .value) (second .others)
+  by-next : {b : Bool} → isBefore (first .value) (second .value) ≡ b → fineMembers vs ≡ joined b (typesOf (first .value)) (second .value) (second .others)
   unfolding meets
-  by-cells =
-      h .same ∙ ap fineMembers (first .whole ∙ ap (λ (us : Values). first .value ▸ us) (second .whole)) ∙ rw (cells-before (first .here) (second .here) low)
+  by-next f = h .same ∙ ap fineMembers (first .whole ∙ ap (λ (us : Values). first .value ▸ us) (second .whole)) ∙ rw f
 
-  pub rest-falls : getD s (i + 1) 0 ≤ getD s i 0 → false ≡ fineMembers vs
-  rest-falls m = sym (by-cells ∙ rw (le-ltb (getD s i 0) (getD s (i + 1) 0) m))
+  before-next : {b c : Bool} → IsBefore s i e b → b ≡ c → isBefore (first .value) (second .value) ≡ c
+  before-next f y = f (first .value) (second .value) (first .here) (second .here) ∙ y
 
-  pub rest-above : mostAlike (getD s i 0) < getD s (i + 1) 0 → false ≡ fineMembers vs
+  alike-next : {b c : Bool} → Agreed s i e b → b ≡ c → agree (first .value) (second .value) ≡ c
+  alike-next g z = sym (g (first .value) (second .value) (first .here) (second .here)) ∙ z
+
+  pub rest-falls : {b : Bool} → IsBefore s i e b → b ≡ false → false ≡ fineMembers vs
+  rest-falls f y = sym (by-next (before-next f y))
+
+  pub rest-unlike : {b : Bool} → Agreed s i e b → b ≡ false → false ≡ fineMembers vs
   unfolding agree
-  rest-above m =
-      let b = ltb (getD s i 0) (getD s (i + 1) 0) in
-      let e = alike ∙ alike-above (getD s i 0) (getD s (i + 1) 0) m in
-      sym (by-cells ∙ unlike b (typesOf (first .value)) (second .value) (second .others) e)
+  rest-unlike g z =
+      let v = first .value in
+      let w = second .value in
+      sym (by-next refl ∙ unlike (isBefore v w) (typesOf v) w (second .others) (alike-next g z))
 
-  pub rest-next : getD s i 0 < getD s (i + 1) 0 → getD s (i + 1) 0 ≤ mostAlike (getD s i 0) → Rest s (i + 1) (left - 1) vs
+  pub rest-next : {b c : Bool} → IsBefore s i e b → b ≡ true → Agreed s i e c → c ≡ true → ((v : Value) → TypedAt s e v → Full v) →
+      Rest s e (left - 1) vs
   unfolding meets
-  rest-next m k =
+  rest-next f y g z k =
       let w = second .value in
       let us = w ▸ second .others in
-      let a = alike-within (getD s i 0) (getD s (i + 1) 0) low m k in
-      let e = full-share (first .value) w (sharedTypes (second .others)) (scalar-full s (i + 1) (a .1) w (second .here)) (alike ∙ a .0) in
+      let q = full-share (first .value) w (sharedTypes (second .others)) (k w (second .here)) (alike-next g z) in
       record {
         rest = us;
-        row = subst (λ (ws : Values). TypedRow s (i + 1) (left - 1) ws) (second .whole) behind;
-        same = by-cells ∙ rw (lt-ltb (getD s i 0) (getD s (i + 1) 0) m) (ap (λ (b : Bool). inOrder us && b) e);
+        row = subst (λ (ws : Values). TypedRow s e (left - 1) ws) (second .whole) behind;
+        same = by-next (before-next f y) ∙ ap (λ (b : Bool). inOrder us && b) q;
       }
+
+-- One is left, or none.
+pub rest-end : {s : List ℕ} {i left : ℕ} {vs : Values} → Rest s i left vs → left ≤ 1 → true ≡ fineMembers vs
+rest-end h l = few-fine (h .rest) (omega (arith, h .row .counted)) (h .row .typed) ∙ sym (h .same)
