@@ -1,12 +1,11 @@
--- Whether values that stand in a row rise and share a type: value by value, behind the first of them that do (`Passed`); and where each of them has
--- one type only, by neighbours alone, since those that are left are fine just where all are (`Rest`).
+-- Whether values that stand in a row rise and share a type, value by value behind the first of them that do (`Passed`). Where the first has one type
+-- only, it stands for them.
 use Prim.Native.Nat.{ℕ, _+_, _-_, _≤_, _<_, Ordering, Ordering·lt, Ordering·eq, Ordering·gt}
 use mathlib.Core.Bool.{Bool, true, false, _&&_, cond}
 use mathlib.Core.List.{List}
 use mathlib.Core.Logic.{_↔_}
 use mathlib.Core.Path.{_≡_, refl, sym, ap, subst, _∙_}
 use native.Mathlib.Omega.{arith}
-use borrow.Author.Tests.{eq-eqb, ne-eqb}
 use lib.Dec.{T, eqb}
 use lib.ListN.{length}
 use Rattle.rules.specs.Types.{Ty}
@@ -18,11 +17,11 @@ use Rattle.laws.proofs.FitsLaws.{_⊑_, ⊓-join, ⊓-split, some→inhabited}
 use Rattle.arena.specs.Code.{codes, Stands, EndsAt, Compared, orderCode}
 use Rattle.arena.proofs.CodeLaws.{length-codes}
 use Rattle.arena.proofs.Standing.{stands-append, _before_, codes-before, count-before, weights-before, fit-before}
-use Rattle.fitting.specs.Agree.{meets, agree, TypedAt, RunAt, SomeTyped, AgreedWith, NoEmpty, Full, StandFor, Agreed}
-use Rattle.fitting.proofs.Sharing.{meets→share, share→meets, meets-sym, right-typed, with-every, full-first}
-use Rattle.fitting.proofs.Cells.{as-run, run-head, run-of, end-is, full-value, first-stands, rest-stand}
+use Rattle.fitting.specs.Agree.{meets, TypedAt, RunAt, SomeTyped, AgreedWith, NoEmpty, Full, StandFor, Agreed}
+use Rattle.fitting.proofs.Sharing.{meets→share, share→meets, meets-sym, with-every, full-first}
+use Rattle.fitting.proofs.Cells.{as-run, run-head, run-of, end-is, full-value, first-stands, rest-stand, with-false, with-last, agreed-back}
 use Rattle.buffer.specs.Ordered.{inOrder}
-use Rattle.buffer.specs.Shared.{AllTyped, TypedRow, fineMembers, SomeTypedRow}
+use Rattle.buffer.specs.Shared.{TypedRow, fineMembers, SomeTypedRow}
 
 -- The first of n values from i on, and the others.
 pub record First (s : List ℕ) (i n : ℕ) (vs : Values) : Type 0 where
@@ -56,6 +55,13 @@ less-code : (o : Ordering) → isLt o ≡ eqb (orderCode o) 0
 less-code Ordering·lt = refl
 less-code Ordering·eq = refl
 less-code Ordering·gt = refl
+
+-- The value at a has one type only.
+abbrev pub FullAt : List ℕ → ℕ → Type 0
+FullAt s a = (v : Value) → TypedAt s a v → Full v
+
+pub full-at : {s : List ℕ} {at end : ℕ} → EndsAt s at end → NoEmpty s at end → FullAt s at
+full-at {s} {at} e n v h = full-value v s at (h .stands) (rw (end-is e h) at n)
 
 -- r says whether the value at a is before that at b.
 abbrev pub IsBefore : List ℕ → ℕ → ℕ → Bool → Type 0
@@ -99,6 +105,7 @@ meets-moved vs w r =
 -- The first k of the values vs from `at` on, the last of which stands at i, rise and share a type; those that are left stand from e on.
 -- All are fine where these rise behind the last and share a type with the first.
 pub record Passed (s : List ℕ) (at i e k n : ℕ) (vs : Values) : Type 0 where
+  pub some : 0 < k
   pub front : Values
   pub last : Value
   pub back : Values
@@ -114,6 +121,7 @@ passed-start ends l vs r =
     let x = first-of vs r l in
     let w = x .value in
     record {
+      some = omega arith;
       front = w ▸ none;
       last = w;
       back = x .others;
@@ -134,13 +142,13 @@ module _ {s : List ℕ} {at i e k n : ℕ} {vs : Values} (h : Passed s at i e k 
       go (w ▸ ws) c = absurd (omega arith)
 
   -- The first m values stand for the first k: all of them, or one that has one type only.
-  pub stand-for : {m end : ℕ} (one : Bool) → 0 < k → EndsAt s at end → (one ≡ true → NoEmpty s at end) → m ≡ cond one 1 k → StandFor s at m (h .front)
-  stand-for false l e f c = record { few = h .front; run = rw c (h .run); same = λ q. refl }
-  stand-for {end = end} true l e f c =
-      let x = as-run (h .run) l in
+  pub stand-for : {m : ℕ} (one : Bool) → (one ≡ true → FullAt s at) → m ≡ cond one 1 k → StandFor s at m (h .front)
+  stand-for false f c = record { few = h .front; run = rw c (h .run); same = λ q. refl }
+  stand-for true f c =
+      let x = as-run (h .run) (h .some) in
       let w = x .0 in
       let y = run-head (x .3) in
-      let g = full-value w s at (y .stands) (rw (end-is e y) at (f refl)) in
+      let g = f refl w y in
       let r = run-of y in
       rw (c, x .2) (record {
         few = w ▸ none;
@@ -156,15 +164,17 @@ module _ {s : List ℕ} {at i e k n : ℕ} {vs : Values} (h : Passed s at i e k 
     pub passed-next : SomeTyped s e
     passed-next = (next .value, next .here)
 
-    with-next : {c : ℕ} → Compared s i e c → fineMembers vs ≡ joined (eqb c 0) (sharedTypes (h .front)) (next .value) (next .others)
+    with-next : {b : Bool} → isBefore (h .last) (next .value) ≡ b → fineMembers vs ≡ joined b (sharedTypes (h .front)) (next .value) (next .others)
     with-next f =
-        h .same ∙ ap (λ (us : Values). inOrder (h .last ▸ us) && meets (sharedTypes (h .front)) (sharedTypes us)) (next .whole) ∙
-        rw (compared-before f (h .last) (next .value) (h .here) (next .here))
+        h .same ∙ ap (λ (us : Values). inOrder (h .last ▸ us) && meets (sharedTypes (h .front)) (sharedTypes us)) (next .whole) ∙ rw f
 
-    pub passed-falls : {c : ℕ} → Compared s i e c → (c ≡ 0 → ⊥) → false ≡ fineMembers vs
-    passed-falls {c} f z = sym (with-next f ∙ rw (ne-eqb c 0 z))
+    before-next : {b c : Bool} → IsBefore s i e b → b ≡ c → isBefore (h .last) (next .value) ≡ c
+    before-next f z = f (h .last) (next .value) (h .here) (next .here) ∙ z
 
-    module _ {c m : ℕ} (f : Compared s i e c) (g : StandFor s at m (h .front)) where
+    pub passed-falls : {b : Bool} → IsBefore s i e b → b ≡ false → false ≡ fineMembers vs
+    passed-falls f z = sym (with-next (before-next f z))
+
+    module _ {m : ℕ} (g : StandFor s at m (h .front)) where
       -- the test of the next value against those that stand for the first
       next-meets : (r : Bool) → AgreedWith s e at m r → meets (sharedTypes (h .front)) (typesOf (next .value)) ≡ r
       next-meets r a =
@@ -172,10 +182,12 @@ module _ {s : List ℕ} {at i e k n : ℕ} {vs : Values} (h : Passed s at i e k 
           sym (a w (g .few) (next .here) (g .run) ∙ meets-sym (typesOf w) (sharedTypes (g .few)) ∙ g .same (typesOf w))
 
       pub passed-unlike : AgreedWith s e at m false → false ≡ fineMembers vs
-      passed-unlike a = sym (with-next f ∙ unlike (eqb c 0) (sharedTypes (h .front)) (next .value) (next .others) (next-meets false a))
+      passed-unlike a =
+          let w = next .value in
+          sym (with-next refl ∙ unlike (isBefore (h .last) w) (sharedTypes (h .front)) w (next .others) (next-meets false a))
 
-      pub passed-step : {j : ℕ} → EndsAt s e j → c ≡ 0 → AgreedWith s e at m true → Passed s at e j (k + 1) n vs
-      passed-step {j} ends z a =
+      pub passed-step : {b : Bool} {j : ℕ} → IsBefore s i e b → b ≡ true → AgreedWith s e at m true → EndsAt s e j → Passed s at e j (k + 1) n vs
+      passed-step {j = j} f z a ends =
           let w = next .value in
           let us = h .front before (w ▸ none) in
           let u = run-of (next .here) in
@@ -183,6 +195,7 @@ module _ {s : List ℕ} {at i e k n : ℕ} {vs : Values} (h : Passed s at i e k 
           let p : e ≡ at + length (codes (h .front)) = omega (arith, h .there, length-codes (h .front)) in
           let q : n - k - 1 ≡ n - (k + 1) = omega arith in
           record {
+            some = omega arith;
             front = us;
             last = w;
             back = next .others;
@@ -195,75 +208,21 @@ module _ {s : List ℕ} {at i e k n : ℕ} {vs : Values} (h : Passed s at i e k 
             };
             here = next .here;
             row = subst (λ (o : ℕ). TypedRow s j o (next .others)) q (next .row j ends);
-            same = with-next f ∙ rw (eq-eqb c 0 z) (ap (λ (b : Bool). inOrder (w ▸ next .others) && b) (meets-moved (h .front) w (sharedTypes (next .others))));
+            same = with-next (before-next f z) ∙ ap (λ (b : Bool). inOrder (w ▸ next .others) && b) (meets-moved (h .front) w (sharedTypes (next .others)));
             there = omega (arith, h .there, weights-before (h .front) (w ▸ none), ends w (next .here .stands) (next .here .fits));
           }
 
--- A full value that shares a type with v shares with others only types that v has.
-full-share : (v w : Value) (r : TypeSet) → Full w → agree v w ≡ true → inhabited (typesOf v ⊓ (typesOf w ⊓ r)) ≡ inhabited (typesOf w ⊓ r)
-unfolding agree meets
-full-share v w r f e =
-    bool-eq _ _ (right-typed (typesOf v) (typesOf w ⊓ r))
-    (λ t. subst T (sym e ∙ meets-sym (typesOf v) (typesOf w) ∙ full-first w r (typesOf v) f t ∙ meets-sym (typesOf w ⊓ r) (typesOf v)) tt)
+    -- The same where the first value has one type only: the next is tested against it.
+    module _ {r : Bool} (full : FullAt s at) (a : Agreed s at e r) where
+      pub first-unlike : r ≡ false → false ≡ fineMembers vs
+      first-unlike z =
+          passed-unlike (stand-for true (λ _. full) refl) (with-false s e at 1 (omega arith) (agreed-back s at e false (subst (Agreed s at e) z a)))
 
--- The values that are left, from i on, are fine just where all are.
-pub record Rest (s : List ℕ) (i left : ℕ) (vs : Values) : Type 0 where
-  pub rest : Values
-  pub row : TypedRow s i left rest
-  pub same : fineMembers vs ≡ fineMembers rest
+      pub first-step : {b : Bool} {j : ℕ} → IsBefore s i e b → b ≡ true → r ≡ true → EndsAt s e j → Passed s at e j (k + 1) n vs
+      first-step f y z =
+          passed-step (stand-for true (λ _. full) refl) f y (with-last s e at 1 refl (agreed-back s at e true (subst (Agreed s at e) z a)))
 
-pub few-fine : (vs : Values) → count vs ≤ 1 → AllTyped vs → true ≡ fineMembers vs
-few-fine none l h = refl
-few-fine (v ▸ none) l h = sym (T-true _ .0 (with-every (typesOf v) (h .0)))
-few-fine (v ▸ w ▸ ws) l h = absurd (omega arith)
-
--- Two or more are left: the first ends at e, where the next stands.
-module _ {s : List ℕ} {i e left : ℕ} {vs : Values} (h : Rest s i left vs) (l : 1 < left) (ends : EndsAt s i e) where
-  first : First s i left (h .rest)
-  first = first-of (h .rest) (h .row) (omega arith)
-
-  behind : TypedRow s e (left - 1) (first .others)
-  behind = first .row e ends
-
-  second : First s e (left - 1) (first .others)
-  second = first-of (first .others) behind (omega arith)
-
-  pub rest-second : SomeTyped s e
-  rest-second = (second .value, second .here)
-
-  by-next : {b : Bool} → isBefore (first .value) (second .value) ≡ b → fineMembers vs ≡ joined b (typesOf (first .value)) (second .value) (second .others)
-  unfolding meets
-  by-next f = h .same ∙ ap fineMembers (first .whole ∙ ap (λ (us : Values). first .value ▸ us) (second .whole)) ∙ rw f
-
-  before-next : {b c : Bool} → IsBefore s i e b → b ≡ c → isBefore (first .value) (second .value) ≡ c
-  before-next f y = f (first .value) (second .value) (first .here) (second .here) ∙ y
-
-  alike-next : {b c : Bool} → Agreed s i e b → b ≡ c → agree (first .value) (second .value) ≡ c
-  alike-next g z = sym (g (first .value) (second .value) (first .here) (second .here)) ∙ z
-
-  pub rest-falls : {b : Bool} → IsBefore s i e b → b ≡ false → false ≡ fineMembers vs
-  rest-falls f y = sym (by-next (before-next f y))
-
-  pub rest-unlike : {b : Bool} → Agreed s i e b → b ≡ false → false ≡ fineMembers vs
-  unfolding agree
-  rest-unlike g z =
-      let v = first .value in
-      let w = second .value in
-      sym (by-next refl ∙ unlike (isBefore v w) (typesOf v) w (second .others) (alike-next g z))
-
-  pub rest-next : {b c : Bool} → IsBefore s i e b → b ≡ true → Agreed s i e c → c ≡ true → ((v : Value) → TypedAt s e v → Full v) →
-      Rest s e (left - 1) vs
-  unfolding meets
-  rest-next f y g z k =
-      let w = second .value in
-      let us = w ▸ second .others in
-      let q = full-share (first .value) w (sharedTypes (second .others)) (k w (second .here)) (alike-next g z) in
-      record {
-        rest = us;
-        row = subst (λ (ws : Values). TypedRow s e (left - 1) ws) (second .whole) behind;
-        same = by-next (before-next f y) ∙ ap (λ (b : Bool). inOrder us && b) q;
-      }
-
--- One is left, or none.
-pub rest-end : {s : List ℕ} {i left : ℕ} {vs : Values} → Rest s i left vs → left ≤ 1 → true ≡ fineMembers vs
-rest-end h l = few-fine (h .rest) (omega (arith, h .row .counted)) (h .row .typed) ∙ sym (h .same)
+-- No values.
+pub none-fine : (vs : Values) → count vs ≡ 0 → true ≡ fineMembers vs
+none-fine none e = refl
+none-fine (v ▸ vs) e = absurd (omega arith)

@@ -3,15 +3,16 @@
 use Prim.Native.Nat.{ℕ, _+_, _*_, _-_, _/_, _≤_, _<_}
 use mathlib.Core.Bool.{Bool, true, false, _&&_}
 use mathlib.Core.List.{List}
-use mathlib.Core.Logic.{_≢_}
+use mathlib.Core.Logic.{_≢_, _↔_}
 use mathlib.Core.Path.{_≡_, refl, sym, subst, _∙_}
 use native.Mathlib.Omega.{arith}
 use native.Mathlib.Decide.{ℕ-discrete, decLt}
 use native.Mathlib.Nat.{add-zero}
 use borrow.Author.Tests.{eq-eqb, ne-eqb, lt-ltb, le-ltb, ltb-true}
-use lib.Dec.{eqb, ltb}
+use lib.Dec.{T, eqb, ltb}
 use lib.ListN.{length, getD}
 use Rattle.rules.specs.Values.{Value, scalar, pair, set, weight}
+use Rattle.laws.proofs.EndLaws.{T-true, T-and, T-eqb}
 use Rattle.laws.proofs.CellsLaws.{weight-some}
 use Rattle.arena.specs.Code.{cellSize, ValueAt, CellsFit, EndsAt, IsScalar}
 use Rattle.arena.proofs.CodeLaws.{length-code}
@@ -21,7 +22,7 @@ use Rattle.fitting.specs.Agree.{TypedAt, SomeTyped, agree, Agreed, Full, atomsA
 use Rattle.fitting.proofs.Sharing.{tags-differ}
 use Rattle.fitting.proofs.Cells.{tag-is, as-pair, PairHere, pair-here, pairs-false, pairs-true, atoms-agree, alike-low, scalar-low}
 use Rattle.buffer.specs.Shared.{leastAlike, mostAlike, ScalarPair, pairBefore}
-use Rattle.buffer.proofs.Members.{IsBefore, compared-before}
+use Rattle.buffer.proofs.Members.{FullAt, IsBefore, compared-before}
 
 -- Two cells are alike where the second is within the bounds of those that are alike to the first.
 module _ (x y : ℕ) where
@@ -35,18 +36,11 @@ module _ (x y : ℕ) where
       go (yes e) = rw (eq-eqb (x / cellSize) 3 e) (h e)
       go (no n) = rw (ne-eqb (x / cellSize) 3 n) (k n)
 
-  pub alike-within : leastAlike x ≤ y → y ≤ mostAlike x → (atomsAlike x y ≡ true) × (leastAlike y ≡ leastAlike x) × (mostAlike y ≡ mostAlike x)
-  alike-within =
-      by-tag (λ l m b. l ≤ y → y ≤ m → (b ≡ true) × (leastAlike y ≡ l) × (mostAlike y ≡ m))
-      (λ t h k. let z = eq-eqb (y / cellSize) 3 (omega arith) in (eq-eqb (x / 256) (y / 256) (omega arith), rw z (omega arith), rw z (omega arith)))
-      (λ t h k.
-      let z = ne-eqb (y / cellSize) 3 (λ e. t (omega arith)) in (eq-eqb (x / cellSize) (y / cellSize) (omega arith), rw z (omega arith), rw z (omega arith)))
-
-  pub alike-outside : (leastAlike x ≤ y → y ≤ mostAlike x → ⊥) → atomsAlike x y ≡ false
-  alike-outside =
-      by-tag (λ l m b. (l ≤ y → y ≤ m → ⊥) → b ≡ false)
-      (λ t h. ne-eqb (x / 256) (y / 256) (λ e. h (omega arith) (omega arith)))
-      (λ t h. ne-eqb (x / cellSize) (y / cellSize) (λ e. h (omega arith) (omega arith)))
+  pub alike-bounds : T (atomsAlike x y) ↔ ((leastAlike x ≤ y) × (y ≤ mostAlike x))
+  alike-bounds =
+      by-tag (λ l m b. T b ↔ ((l ≤ y) × (y ≤ m)))
+      (λ t. simp T-eqb (λ e. (omega arith, omega arith), λ h. omega arith))
+      (λ t. simp T-eqb (λ e. (omega arith, omega arith), λ h. omega arith))
 
   pub least-alike : leastAlike x ≤ x
   least-alike = by-tag (λ l m b. l ≤ x) (λ t. omega arith) (λ t. omega arith)
@@ -95,7 +89,7 @@ pair-value {s} {a} p (set vs) h f = absurd (omega (arith, first-cell s a (set vs
 pub pair-ends : {s : List ℕ} {a : ℕ} → ScalarPair s a → EndsAt s a (a + 3)
 pair-ends p v h f = omega (arith, pair-value p v h f .0)
 
-pub pair-full : {s : List ℕ} {a : ℕ} → ScalarPair s a → (v : Value) → TypedAt s a v → Full v
+pub pair-full : {s : List ℕ} {a : ℕ} → ScalarPair s a → FullAt s a
 pair-full p v h = pair-value p v (h .stands) (h .fits) .1
 
 -- A pair has three cells or more.
@@ -156,51 +150,43 @@ module _ {s : List ℕ} {a b : ℕ} (p : ScalarPair s a) where
             let l = alike-low (leftCell s a) (leftCell s b) (p .left) e in
             pairs-true here there lefts e (right a (p .left)) (right b l) (atoms-agree s (a + 2) (b + 2) (p .right)) v w h k
 
--- The pair of two scalars at a, its cells x and y, and the bounds of the cells that are alike to them: up to `high` for the left one, which does
--- not fall, from `low` to `top` for the right one.
-pub record Bounds (s : List ℕ) (a x y high low top : ℕ) : Type 0 where
-  pub pair : ScalarPair s a
-  pub first : x ≡ leftCell s a
-  pub second : y ≡ rightCell s a
-  pub left : high ≡ mostAlike (leftCell s a)
-  pub least : low ≡ leastAlike (rightCell s a)
-  pub most : top ≡ mostAlike (rightCell s a)
+-- The scalars of the pair at b are within the bounds of the types of those at a.
+pub record Within (s : List ℕ) (a b : ℕ) : Type 0 where
+  pub left : (leastAlike (leftCell s a) ≤ leftCell s b) × (leftCell s b ≤ mostAlike (leftCell s a))
+  pub right : (leastAlike (rightCell s a) ≤ rightCell s b) × (rightCell s b ≤ mostAlike (rightCell s a))
 
-and-false : (b : Bool) {c : Bool} → c ≡ false → (b && c) ≡ false
-and-false true e = e
-and-false false e = refl
+pub parts-bounds : (s : List ℕ) (a b : ℕ) → T (partsAlike s a b) ↔ Within s a b
+parts-bounds s a b = simp (T-and, alike-bounds) (λ h. record { left = h .0; right = h .1 }, λ w. (w .left, w .right))
 
-module _ {s : List ℕ} {a x y high low top : ℕ} (h : Bounds s a x y high low top) (b : ℕ) where
-  pub before-is : {r t : Bool} → r ≡ pairBefore x y (leftCell s b) (rightCell s b) → r ≡ t → partsBefore s a b ≡ t
+-- The pair of two scalars at i, its cells x and y: the left one is not less than that of the pair at a.
+pub record PairBehind (s : List ℕ) (a i x y : ℕ) : Type 0 where
+  pub pair : ScalarPair s i
+  pub first : x ≡ leftCell s i
+  pub second : y ≡ rightCell s i
+  pub rises : leftCell s a ≤ leftCell s i
+
+module _ {s : List ℕ} {a i x y : ℕ} (h : PairBehind s a i x y) (b : ℕ) where
+  pub before-is : {r t : Bool} → r ≡ pairBefore x y (leftCell s b) (rightCell s b) → r ≡ t → partsBefore s i b ≡ t
   before-is e f = rw (← h .first, ← h .second) (sym e ∙ f)
 
-  pub left-outside : (leftCell s b ≤ high → ⊥) → partsAlike s a b ≡ false
-  left-outside l = rw (alike-outside (leftCell s a) (leftCell s b) (λ p q. l (omega (arith, h .left))))
+  left-rises : partsBefore s i b ≡ true → leftCell s a ≤ leftCell s b
+  left-rises f = elim (ℕ-discrete (leftCell s i) (leftCell s b)) [
+    | yes e ↦ omega (arith, h .rises)
+    | no d ↦ let z : ltb (leftCell s i) (leftCell s b) ≡ true = rw (ne-eqb (leftCell s i) (leftCell s b) d) at f in omega (arith, ltb-true, h .rises)
+  ]
 
-  pub right-outside : (low ≤ rightCell s b → rightCell s b ≤ top → ⊥) → partsAlike s a b ≡ false
-  right-outside l =
-      and-false (atomsAlike (leftCell s a) (leftCell s b))
-      (alike-outside (rightCell s a) (rightCell s b) (λ p q. l (omega (arith, h .least)) (omega (arith, h .most))))
+  pub left-least : partsBefore s i b ≡ true → leastAlike (leftCell s a) ≤ leftCell s b
+  left-least f = omega (arith, left-rises f, least-alike (leftCell s a) 0)
 
-  -- the next pair, within them
-  pub bounds-next : getD s b 0 ≡ 4 * cellSize → partsBefore s a b ≡ true → leftCell s b ≤ high → low ≤ rightCell s b → rightCell s b ≤ top →
-      (partsAlike s a b ≡ true) × Bounds s b (leftCell s b) (rightCell s b) high low top
-  bounds-next q f l m n =
-      let u = alike-within (leftCell s a) (leftCell s b) (omega (arith, least-alike (leftCell s a) 0, rises)) (omega (arith, h .left)) in
-      let v = alike-within (rightCell s a) (rightCell s b) (omega (arith, h .least)) (omega (arith, h .most)) in (
-        rw (u .0, v .0),
-        record {
-          pair = record { head = q; left = alike-low _ _ (h .pair .left) (u .0); right = alike-low _ _ (h .pair .right) (v .0) };
-          first = refl;
-          second = refl;
-          left = h .left ∙ sym (u .2);
-          least = h .least ∙ sym (v .1);
-          most = h .most ∙ sym (v .2);
-        },
-      )
-    where
-      rises : leftCell s a ≤ leftCell s b
-      rises = elim (ℕ-discrete (leftCell s a) (leftCell s b)) [
-        | yes e ↦ omega arith
-        | no d ↦ let z : ltb (leftCell s a) (leftCell s b) ≡ true = rw (ne-eqb (leftCell s a) (leftCell s b) d) at f in omega (arith, ltb-true)
-      ]
+  -- the next pair, within the bounds
+  pub pair-next : ScalarPair s a → getD s b 0 ≡ 4 * cellSize → partsBefore s i b ≡ true → Within s a b → PairBehind s a b (leftCell s b) (rightCell s b)
+  pair-next p q f w = record {
+    pair = record {
+      head = q;
+      left = alike-low _ _ (p .left) (T-true _ .0 (alike-bounds (leftCell s a) (leftCell s b) .1 (w .left)));
+      right = alike-low _ _ (p .right) (T-true _ .0 (alike-bounds (rightCell s a) (rightCell s b) .1 (w .right)));
+    };
+    first = refl;
+    second = refl;
+    rises = left-rises f;
+  }

@@ -216,8 +216,8 @@ fn cells_fine(s: &[u64], at: usize, n: u64) -> bool
 {
     let high = most(s[at]);
     let mut i = at;
-    let mut left = n;
-    while left > 1 {
+    let mut k: u64 = 1;
+    while k < n {
         let x = s[i];
         i += 1;
         let y = s[i];
@@ -227,7 +227,7 @@ fn cells_fine(s: &[u64], at: usize, n: u64) -> bool
         if y > high {
             return false;
         }
-        left -= 1;
+        k += 1;
     }
     true
 }
@@ -271,8 +271,8 @@ fn pairs_fine(s: &[u64], at: usize, n: u64) -> bool
     let right_low = least(b);
     let right_high = most(b);
     let mut i = at;
-    let mut left = n;
-    while left > 1 {
+    let mut k: u64 = 1;
+    while k < n {
         i += 3;
         if s[i] != arena::PAIR {
             return false;
@@ -293,7 +293,7 @@ fn pairs_fine(s: &[u64], at: usize, n: u64) -> bool
         }
         a = c;
         b = d;
-        left -= 1;
+        k += 1;
     }
     true
 }

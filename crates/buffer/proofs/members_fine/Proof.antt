@@ -2,7 +2,7 @@
 use native.Mathlib.Omega.{arith}
 use Rattle.fitting.specs.Agree.{SomeTyped}
 use Rattle.fitting.proofs.Cells.{inside}
-use Rattle.buffer.proofs.Members.{some-first, few-fine}
+use Rattle.buffer.proofs.Members.{some-first, none-fine}
 use Rattle.buffer.proofs.members_fine.Statement.{statement}
 use Rattle.buffer.proofs.members_fine.Tie as tie
 
@@ -21,7 +21,7 @@ pub members-fine-spec : {M : Type 1} → statement M
 members-fine-spec =
     tie.close
     (tie.spec
-    (λ c. λ vs r. few-fine vs (omega (arith, c .if1 .taken, r .counted)) (r .typed))
+    (λ c. λ vs r. none-fine vs (omega (arith, c .if1 .taken, r .counted)))
     (λ c. omega (arith, inside (first c)))
     (λ c. inside (first (c .before)))
     (λ c κs. let m = c .before .before in (lent m .pre, omega (arith, m .if1 .left), c .if2 .taken))
