@@ -10,15 +10,15 @@ use lib.Dec.{T, eqb}
 use lib.ListN.{length}
 use Rattle.rules.specs.Types.{Ty}
 use Rattle.rules.specs.Values.{Value, Values, none, _▸_, count, weights, order, isLt, before as isBefore}
-use Rattle.rules.specs.Fits.{TypeSet, every, _⊓_, typesOf, sharedTypes, inhabited}
-use Rattle.rules.proofs.Basics.{and-split, bool-eq}
+use Rattle.rules.specs.Fits.{TypeSet, every, _⊓_, typesOf, sharedTypes}
+use Rattle.rules.proofs.Basics.{and-split}
 use Rattle.laws.proofs.EndLaws.{T-true, T-false}
-use Rattle.laws.proofs.FitsLaws.{_⊑_, ⊓-join, ⊓-split, some→inhabited}
+use Rattle.laws.proofs.FitsLaws.{_⊑_, ⊓-join, ⊓-split, inhabited→some, some→inhabited}
 use Rattle.arena.specs.Code.{codes, Stands, EndsAt, Compared, orderCode}
 use Rattle.arena.proofs.CodeLaws.{length-codes}
 use Rattle.arena.proofs.Standing.{stands-append, _before_, codes-before, count-before, weights-before, fit-before}
 use Rattle.fitting.specs.Agree.{meets, TypedAt, RunAt, SomeTyped, AgreedWith, NoEmpty, Full, StandFor, Agreed}
-use Rattle.fitting.proofs.Sharing.{meets→share, share→meets, meets-sym, with-every, full-first}
+use Rattle.fitting.proofs.Sharing.{meets→share, share→meets, meets-sym, full-first}
 use Rattle.fitting.proofs.Cells.{as-run, run-head, run-of, end-is, full-value, first-stands, rest-stand, with-false, with-last, agreed-back}
 use Rattle.buffer.specs.Ordered.{inOrder}
 use Rattle.buffer.specs.Shared.{TypedRow, fineMembers, SomeTypedRow}
@@ -80,30 +80,13 @@ before-types none ws t = (λ h. (tt, h), λ h. h .1)
 before-types (v ▸ vs) ws t =
     simp (both-types, before-types vs ws t) (λ h. ((h .0, h .1 .0), h .1 .1), λ h. (h .0 .0, (h .0 .1, h .1)))
 
--- What is to be tested of the value w and of those behind it: b, that they rise, and that all share a type of p.
-abbrev joined : Bool → TypeSet → Value → Values → Bool
-joined b p w ws = (b && inOrder (w ▸ ws)) && meets p (typesOf w ⊓ sharedTypes ws)
-
-unlike : (b : Bool) (p : TypeSet) (w : Value) (ws : Values) → meets p (typesOf w) ≡ false → joined b p w ws ≡ false
-unlike b p w ws e =
-    T-false (joined b p w ws) .0 (λ h.
-    let x = meets→share p (typesOf w ⊓ sharedTypes ws) (and-split (b && inOrder (w ▸ ws)) _ h .1) in
-    subst T e (share→meets p (typesOf w) (x .0, x .1, both-types (typesOf w) (sharedTypes ws) (x .0) .0 (x .2) .0)))
-
 -- A value passes from those behind to those in front.
-meets-moved : (vs : Values) (w : Value) (r : TypeSet) → meets (sharedTypes vs) (typesOf w ⊓ r) ≡ meets (sharedTypes (vs before (w ▸ none))) r
-meets-moved vs w r =
-    let p = sharedTypes vs in
-    let q = sharedTypes (vs before (w ▸ none)) in
-    bool-eq (meets p (typesOf w ⊓ r)) (meets q r)
-    (λ h. let x = meets→share p (typesOf w ⊓ r) h in let k = moved (x .0) .0 (x .1, x .2) in share→meets q r (x .0, k .0, k .1))
-    (λ h. let x = meets→share q r h in let k = moved (x .0) .1 (x .1, x .2) in share→meets p (typesOf w ⊓ r) (x .0, k .0, k .1))
-  where
-    moved : (t : Ty) → (sharedTypes vs ⊑ t × typesOf w ⊓ r ⊑ t) ↔ (sharedTypes (vs before (w ▸ none)) ⊑ t × r ⊑ t)
-    moved t = simp (both-types, before-types vs (w ▸ none) t) (λ h. ((h .0, (h .1 .0, tt)), h .1 .1), λ h. (h .0 .0, (h .0 .1 .0, h .1)))
+moved : (vs : Values) (w : Value) (ws : Values) → vs before (w ▸ ws) ≡ (vs before (w ▸ none)) before ws
+moved none w ws = refl
+moved (v ▸ vs) w ws = ap (λ (us : Values). v ▸ us) (moved vs w ws)
 
 -- The first k of the values vs from `at` on, the last of which stands at i, rise and share a type; those that are left stand from e on.
--- All are fine where these rise behind the last and share a type with the first.
+-- All rise where these rise behind the last.
 pub record Passed (s : List ℕ) (at i e k n : ℕ) (vs : Values) : Type 0 where
   pub some : 0 < k
   pub front : Values
@@ -112,11 +95,11 @@ pub record Passed (s : List ℕ) (at i e k n : ℕ) (vs : Values) : Type 0 where
   pub run : RunAt s at k front
   pub here : TypedAt s i last
   pub row : TypedRow s e (n - k) back
-  pub same : fineMembers vs ≡ (inOrder (last ▸ back) && meets (sharedTypes front) (sharedTypes back))
+  pub whole : vs ≡ front before back
+  pub same : inOrder vs ≡ inOrder (last ▸ back)
   pub there : e ≡ at + weights front
 
 pub passed-start : {s : List ℕ} {at n end : ℕ} → EndsAt s at end → 0 < n → (vs : Values) → TypedRow s at n vs → Passed s at at end 1 n vs
-unfolding meets
 passed-start ends l vs r =
     let x = first-of vs r l in
     let w = x .value in
@@ -128,18 +111,20 @@ passed-start ends l vs r =
       run = run-of (x .here);
       here = x .here;
       row = x .row _ ends;
-      same = ap fineMembers (x .whole) ∙ ap (λ (b : Bool). inOrder (w ▸ x .others) && b) (meets-moved none w (sharedTypes (x .others)));
+      whole = x .whole;
+      same = ap inOrder (x .whole);
       there = omega (arith, ends w (x .here .stands) (x .here .fits));
     }
 
 module _ {s : List ℕ} {at i e k n : ℕ} {vs : Values} (h : Passed s at i e k n vs) where
   pub passed-end : n ≤ k → true ≡ fineMembers vs
-  unfolding meets
-  passed-end l = sym (h .same ∙ go (h .back) (h .row .counted))
+  passed-end l = sym (go (h .back) (h .row .counted) (h .whole) (h .same))
     where
-      go : (ws : Values) → n - k ≡ count ws → (inOrder (h .last ▸ ws) && inhabited (sharedTypes (h .front) ⊓ sharedTypes ws)) ≡ true
-      go none c = T-true _ .0 (with-every (sharedTypes (h .front)) (h .run .typed))
-      go (w ▸ ws) c = absurd (omega arith)
+      go : (ws : Values) → n - k ≡ count ws → vs ≡ h .front before ws → inOrder vs ≡ inOrder (h .last ▸ ws) → fineMembers vs ≡ true
+      go none c e o =
+          let (t, x) = inhabited→some (sharedTypes (h .front)) (h .run .typed) in
+          rw (o, e) (T-true _ .0 (some→inhabited (sharedTypes (h .front before none)) t (before-types (h .front) none t .1 (x, tt))))
+      go (w ▸ ws) c e o = absurd (omega arith)
 
   -- The first m values stand for the first k: all of them, or one that has one type only.
   pub stand-for : {m : ℕ} (one : Bool) → (one ≡ true → FullAt s at) → m ≡ cond one 1 k → StandFor s at m (h .front)
@@ -164,15 +149,16 @@ module _ {s : List ℕ} {at i e k n : ℕ} {vs : Values} (h : Passed s at i e k 
     pub passed-next : SomeTyped s e
     passed-next = (next .value, next .here)
 
-    with-next : {b : Bool} → isBefore (h .last) (next .value) ≡ b → fineMembers vs ≡ joined b (sharedTypes (h .front)) (next .value) (next .others)
-    with-next f =
-        h .same ∙ ap (λ (us : Values). inOrder (h .last ▸ us) && meets (sharedTypes (h .front)) (sharedTypes us)) (next .whole) ∙ rw f
+    whole-next : vs ≡ h .front before (next .value ▸ next .others)
+    whole-next = h .whole ∙ ap (λ (us : Values). h .front before us) (next .whole)
 
-    before-next : {b c : Bool} → IsBefore s i e b → b ≡ c → isBefore (h .last) (next .value) ≡ c
-    before-next f z = f (h .last) (next .value) (h .here) (next .here) ∙ z
+    order-next : {b c : Bool} → IsBefore s i e b → b ≡ c → inOrder vs ≡ (c && inOrder (next .value ▸ next .others))
+    order-next f z =
+        h .same ∙ ap (λ (us : Values). inOrder (h .last ▸ us)) (next .whole) ∙
+        ap (λ (b : Bool). b && inOrder (next .value ▸ next .others)) (f (h .last) (next .value) (h .here) (next .here) ∙ z)
 
     pub passed-falls : {b : Bool} → IsBefore s i e b → b ≡ false → false ≡ fineMembers vs
-    passed-falls f z = sym (with-next (before-next f z))
+    passed-falls f z = rw (order-next f z)
 
     module _ {m : ℕ} (g : StandFor s at m (h .front)) where
       -- the test of the next value against those that stand for the first
@@ -184,7 +170,11 @@ module _ {s : List ℕ} {at i e k n : ℕ} {vs : Values} (h : Passed s at i e k 
       pub passed-unlike : AgreedWith s e at m false → false ≡ fineMembers vs
       passed-unlike a =
           let w = next .value in
-          sym (with-next refl ∙ unlike (isBefore (h .last) w) (sharedTypes (h .front)) w (next .others) (next-meets false a))
+          let us = h .front before (w ▸ next .others) in
+          sym (T-false _ .0 (λ f.
+          let (t, x) = inhabited→some (sharedTypes us) (and-split (inOrder us) _ (subst (λ (ws : Values). T (fineMembers ws)) whole-next f) .1) in
+          let (y, z) = before-types (h .front) (w ▸ next .others) t .0 x in
+          subst T (next-meets false a) (share→meets _ _ (t, y, ⊓-split (typesOf w) (sharedTypes (next .others)) t z .0))))
 
       pub passed-step : {b : Bool} {j : ℕ} → IsBefore s i e b → b ≡ true → AgreedWith s e at m true → EndsAt s e j → Passed s at e j (k + 1) n vs
       passed-step {j = j} f z a ends =
@@ -208,7 +198,8 @@ module _ {s : List ℕ} {at i e k n : ℕ} {vs : Values} (h : Passed s at i e k 
             };
             here = next .here;
             row = subst (λ (o : ℕ). TypedRow s j o (next .others)) q (next .row j ends);
-            same = with-next (before-next f z) ∙ ap (λ (b : Bool). inOrder (w ▸ next .others) && b) (meets-moved (h .front) w (sharedTypes (next .others)));
+            whole = whole-next ∙ moved (h .front) w (next .others);
+            same = order-next f z;
             there = omega (arith, h .there, weights-before (h .front) (w ▸ none), ends w (next .here .stands) (next .here .fits));
           }
 
