@@ -12,14 +12,14 @@ use lib.ListN.{length, getD, drop}
 use borrow.Author.Tests.{eq-eqb, ne-eqb, le-leb}
 use Rattle.rules.specs.Types.{whole}
 use Rattle.rules.specs.Values.{num, truth, element, Value, scalar, pair, set, Values, none, _▸_}
-use Rattle.rules.specs.Values.{scalarTag, tag, payload, count}
+use Rattle.rules.specs.Values.{tag, payload, count}
 use Rattle.rules.specs.Tables.{wordAt}
-use Rattle.rules.specs.Cells.{bytes4, twos, signed, inRange, cell, cells, cellsOf, value, good}
+use Rattle.rules.specs.Cells.{twos, signed, inRange, cell, cells, cellsOf, value, good}
 use Rattle.laws.proofs.EndLaws.{T-and}
-use Rattle.laws.proofs.CellsLaws.{Word, Bytes, Encodable, Encodables, byte-at, word-at, word-bytes, bytes-word, twos-signed, signed-range, payload-word, cells-value, count-weights, bit-eqb, cell-parts, eight, Sizes, encodable-wellFormed, good-wellFormed, good-weight}
-use Rattle.arena.specs.Code.{cellSize, excess, scalarLow, code, codes, partsOf}
+use Rattle.laws.proofs.CellsLaws.{Word, Bytes, Encodable, Encodables, word-at, word-bytes, twos-signed, signed-range, payload-word, cells-value, count-weights, bit-eqb, cell-bytes, Sizes, encodable-wellFormed, good-wellFormed, good-weight}
+use Rattle.arena.specs.Code.{cellSize, excess, code, codes, partsOf}
 use Rattle.arena.proofs.CodeLaws.{length-codes}
-use Rattle.arena.proofs.Standing.{_before_, codes-before, count-before}
+use Rattle.arena.proofs.Standing.{_before_, codes-before, count-before, ownCell}
 use Rattle.buffer.specs.Buffer.{cellFirst, firstCell, arenaCell, tagGood, cellGood, scalarsGood, allGood}
 use Rattle.buffer.specs.Shared.{AllOf}
 use Rattle.buffer.proofs.CellAt.{first-right}
@@ -83,12 +83,7 @@ cells-inner (pair v w) = rw (append-nil (cells w))
 cells-inner (set s) = refl
 
 -- The first cell of a value in the arena.
-abbrev headOf : Value → ℕ
-headOf (scalar s) = scalarTag s * cellSize + scalarLow s
-headOf (pair v w) = 4 * cellSize
-headOf (set s) = 5 * cellSize + count s
-
-pub code-head : (v : Value) → code v ≡ headOf v ∷ codes (inner v)
+pub code-head : (v : Value) → code v ≡ ownCell v ∷ codes (inner v)
 unfolding code
 code-head (scalar s) = refl
 code-head (pair v w) = rw (append-nil (code w))
@@ -107,7 +102,7 @@ other-code : (t p : ℕ) → p < cellSize → 1 < t → t * cellSize + p ≡ are
 unfolding arenaCell
 other-code t p h n = rw (ne-eqb ((t * cellSize + p) / cellSize) 1 (λ e. omega arith))
 
-head-coded : (v : Value) → Encodable v → headOf v ≡ arenaCell (firstOf v)
+head-coded : (v : Value) → Encodable v → ownCell v ≡ arenaCell (firstOf v)
 unfolding twos
 head-coded (scalar (num whole i)) h = number-code i h
 head-coded (scalar (truth true)) h = other-code 2 1 (omega arith) (omega arith)
@@ -207,29 +202,17 @@ onward {gs} {bs} {rest = rest} (v ▸ vs) h l =
       );
     }
 
--- The eight bytes of a cell are the first cell of a value with its tag and payload.
-cell-bytes : (bs : List ℕ) (v : Value) → Bytes bs → T (cellFirst bs) → tag v ≡ getD bs 4 0 → twos (payload v) ≡ wordAt bs 0 → bs ≡ cell v ++ drop 8 bs
-unfolding cell
-cell-bytes bs v b k t w =
-    let c = first-right bs .0 k in
-    let z = c .1 in
-    let z₅ : getD bs 5 0 ≡ 0 = omega arith in
-    let z₆ : getD bs 6 0 ≡ 0 = omega arith in
-    let z₇ : getD bs 7 0 ≡ 0 = omega arith in
-    let q = bytes-word (getD bs 0 0) (getD bs 1 0) (getD bs 2 0) (getD bs 3 0)
-    (byte-at bs 0 b) (byte-at bs 1 b) (byte-at bs 2 b) (byte-at bs 3 b) in
-    eight bs (c .0) ∙ cell-parts (bytes4 (twos (payload v))) _ _ _ _ _ _ _ _ _ _ (rw w q) t z₅ z₆ z₇
-
 -- One cell back: the value v has the cell, and us stand behind it.
 module _ {gs bs : List ℕ} {p : ℕ} {cs rest : List ℕ} (b : Bytes bs) (k : T (cellFirst bs)) (l : 0 < p) where
   back-to : (v : Value) (us : Values) {m : ℕ} → tag v ≡ getD bs 4 0 → twos (payload v) ≡ wordAt bs 0 → Held gs v → count (inner v) ≡ m →
       CellsOf gs (drop 8 bs) (p - 1 + m) cs rest (inner v before us) → Ahead gs bs p (arenaCell (firstCell bs) ∷ cs) rest
   back-to v us t q g m h =
-      let f : firstOf v ≡ firstCell bs = omega arith in (
+      let f : firstOf v ≡ firstCell bs = omega arith in
+      let c = first-right bs .0 k in (
         v ▸ us,
         record {
           counted = omega (arith, h .counted, count-before (inner v) us);
-          bytes = cell-bytes bs v b k t q ∙ ap (λ (ds : List ℕ). cell v ++ ds) (h .bytes) ∙ sym (spread v us rest);
+          bytes = cell-bytes bs v b (c .0) (c .1) t q ∙ ap (λ (ds : List ℕ). cell v ++ ds) (h .bytes) ∙ sym (spread v us rest);
           coded = spread-code v us (g .0) ∙ rw (f, h .coded);
           held = (g, all-before (Held gs) (inner v) us .0 (h .held) .1);
         },

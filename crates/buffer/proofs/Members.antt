@@ -1,30 +1,27 @@
--- Whether values that stand in a row rise and share a type: value by value, behind the first of them that do; and of scalars by their cells.
-use Prim.Native.Nat.{ℕ, _+_, _*_, _-_, _/_, _≤_, _<_, Ordering, Ordering·lt, Ordering·eq, Ordering·gt}
+-- Whether values that stand in a row rise and share a type, value by value behind the first of them that do (`Passed`). Where the first has one type
+-- only, it stands for them.
+use Prim.Native.Nat.{ℕ, _+_, _-_, _≤_, _<_, Ordering, Ordering·lt, Ordering·eq, Ordering·gt}
 use mathlib.Core.Bool.{Bool, true, false, _&&_, cond}
 use mathlib.Core.List.{List}
-use mathlib.Core.Logic.{_↔_, _≢_}
+use mathlib.Core.Logic.{_↔_}
 use mathlib.Core.Path.{_≡_, refl, sym, ap, subst, _∙_}
 use native.Mathlib.Omega.{arith}
-use native.Mathlib.Decide.{ℕ-discrete, decLt}
-use native.Mathlib.Nat.{add-zero}
-use borrow.Author.Tests.{eq-eqb, ne-eqb, lt-ltb, le-ltb}
-use lib.Dec.{T, eqb, ltb}
-use lib.ListN.{length, getD}
+use lib.Dec.{T, eqb}
+use lib.ListN.{length}
 use Rattle.rules.specs.Types.{Ty}
 use Rattle.rules.specs.Values.{Value, Values, none, _▸_, count, weights, order, isLt, before as isBefore}
-use Rattle.rules.specs.Fits.{TypeSet, every, _⊓_, typesOf, sharedTypes, inhabited}
-use Rattle.rules.proofs.Basics.{and-split, bool-eq}
+use Rattle.rules.specs.Fits.{TypeSet, every, _⊓_, typesOf, sharedTypes}
+use Rattle.rules.proofs.Basics.{and-split}
 use Rattle.laws.proofs.EndLaws.{T-true, T-false}
-use Rattle.laws.proofs.FitsLaws.{_⊑_, ⊓-join, ⊓-split, some→inhabited}
-use Rattle.arena.specs.Code.{cellSize, codes, Stands, EndsAt, Compared, orderCode}
+use Rattle.laws.proofs.FitsLaws.{_⊑_, ⊓-join, ⊓-split, inhabited→some, some→inhabited}
+use Rattle.arena.specs.Code.{codes, Stands, EndsAt, Compared, orderCode}
 use Rattle.arena.proofs.CodeLaws.{length-codes}
-use Rattle.arena.proofs.Standing.{stands-append, _before_, codes-before, count-before, weights-before, fit-before, found-less, found-greater, found-equal}
-use Rattle.arena.proofs.ValueParts.{one-cell}
-use Rattle.fitting.specs.Agree.{meets, agree, TypedAt, RunAt, SomeTyped, AgreedWith, NoEmpty, Full, StandFor, atomsAlike}
-use Rattle.fitting.proofs.Sharing.{meets→share, share→meets, meets-sym, right-typed, with-every, full-first}
-use Rattle.fitting.proofs.Cells.{inside, as-run, run-head, run-of, end-is, full-value, scalar-full, atoms-agree, first-stands, rest-stand}
+use Rattle.arena.proofs.Standing.{stands-append, _before_, codes-before, count-before, weights-before, fit-before}
+use Rattle.fitting.specs.Agree.{meets, TypedAt, RunAt, SomeTyped, AgreedWith, NoEmpty, Full, StandFor, Agreed}
+use Rattle.fitting.proofs.Sharing.{meets→share, share→meets, meets-sym, full-first}
+use Rattle.fitting.proofs.Cells.{as-run, run-head, run-of, end-is, full-value, first-stands, rest-stand, with-false, with-last, agreed-back}
 use Rattle.buffer.specs.Ordered.{inOrder}
-use Rattle.buffer.specs.Shared.{AllTyped, TypedRow, mostAlike, fineMembers, SomeTypedRow}
+use Rattle.buffer.specs.Shared.{TypedRow, fineMembers, SomeTypedRow}
 
 -- The first of n values from i on, and the others.
 pub record First (s : List ℕ) (i n : ℕ) (vs : Values) : Type 0 where
@@ -59,28 +56,20 @@ less-code Ordering·lt = refl
 less-code Ordering·eq = refl
 less-code Ordering·gt = refl
 
-module _ {s : List ℕ} {a b : ℕ} {v w : Value} (h : TypedAt s a v) (k : TypedAt s b w) where
-  pub compared-before : {c : ℕ} → Compared s a b c → isBefore v w ≡ eqb c 0
-  unfolding isBefore
-  compared-before f = less-code (order v w) ∙ ap (λ (c : ℕ). eqb c 0) (sym (f v w (h .stands) (k .stands) (h .fits) (k .fits)))
+-- The value at a has one type only.
+abbrev pub FullAt : List ℕ → ℕ → Type 0
+FullAt s a = (v : Value) → TypedAt s a v → Full v
 
-  -- A scalar is before a value just where its cell is less than that value's first.
-  pub cells-before : getD s a 0 < 4 * cellSize → isBefore v w ≡ ltb (getD s a 0) (getD s b 0)
-  cells-before low = go (decLt (getD s a 0) (getD s b 0)) (decLt (getD s b 0) (getD s a 0))
-    where
-      same : getD s a 0 ≡ getD s b 0 → (j : ℕ) → j < 1 → getD s (a + j) 0 ≡ getD s (b + j) 0
-      same e j m = let z : j ≡ 0 = omega arith in rw (z, add-zero a, add-zero b) e
+pub full-at : {s : List ℕ} {at end : ℕ} → EndsAt s at end → NoEmpty s at end → FullAt s at
+full-at {s} {at} e n v h = full-value v s at (h .stands) (rw (end-is e h) at n)
 
-      go : Dec (getD s a 0 < getD s b 0) → Dec (getD s b 0 < getD s a 0) → isBefore v w ≡ ltb (getD s a 0) (getD s b 0)
-      go (yes l) d =
-          compared-before (found-less s a b (a + 1) 0 (one-cell s a low) (λ j m. absurd (omega arith)) (omega arith) (rw (add-zero a, add-zero b) l)) ∙
-          sym (lt-ltb _ _ l)
-      go (no n) (yes l) =
-          compared-before (found-greater s a b (a + 1) 0 (one-cell s a low) (λ j m. absurd (omega arith)) (omega arith) (rw (add-zero a, add-zero b) l)) ∙
-          sym (le-ltb (getD s a 0) (getD s b 0) (omega arith))
-      go (no n) (no m) =
-          compared-before (found-equal s a b (a + 1) 1 (one-cell s a low) (same (omega arith)) (omega arith)) ∙
-          sym (le-ltb (getD s a 0) (getD s b 0) (omega arith))
+-- r says whether the value at a is before that at b.
+abbrev pub IsBefore : List ℕ → ℕ → ℕ → Bool → Type 0
+IsBefore s a b r = (v w : Value) → TypedAt s a v → TypedAt s b w → isBefore v w ≡ r
+
+pub compared-before : {s : List ℕ} {a b c : ℕ} → Compared s a b c → IsBefore s a b (eqb c 0)
+unfolding isBefore
+compared-before f v w h k = less-code (order v w) ∙ ap (λ (c : ℕ). eqb c 0) (sym (f v w (h .stands) (k .stands) (h .fits) (k .fits)))
 
 -- Types of values that follow one another.
 both-types : (p q : TypeSet) (t : Ty) → (p ⊓ q ⊑ t) ↔ (p ⊑ t × q ⊑ t)
@@ -91,73 +80,60 @@ before-types none ws t = (λ h. (tt, h), λ h. h .1)
 before-types (v ▸ vs) ws t =
     simp (both-types, before-types vs ws t) (λ h. ((h .0, h .1 .0), h .1 .1), λ h. (h .0 .0, (h .0 .1, h .1)))
 
--- What is to be tested of the value w and of those behind it: b, that they rise, and that all share a type of p.
-abbrev joined : Bool → TypeSet → Value → Values → Bool
-joined b p w ws = (b && inOrder (w ▸ ws)) && meets p (typesOf w ⊓ sharedTypes ws)
-
-unlike : (b : Bool) (p : TypeSet) (w : Value) (ws : Values) → meets p (typesOf w) ≡ false → joined b p w ws ≡ false
-unlike b p w ws e =
-    T-false (joined b p w ws) .0 (λ h.
-    let x = meets→share p (typesOf w ⊓ sharedTypes ws) (and-split (b && inOrder (w ▸ ws)) _ h .1) in
-    subst T e (share→meets p (typesOf w) (x .0, x .1, both-types (typesOf w) (sharedTypes ws) (x .0) .0 (x .2) .0)))
-
 -- A value passes from those behind to those in front.
-meets-moved : (vs : Values) (w : Value) (r : TypeSet) → meets (sharedTypes vs) (typesOf w ⊓ r) ≡ meets (sharedTypes (vs before (w ▸ none))) r
-meets-moved vs w r =
-    let p = sharedTypes vs in
-    let q = sharedTypes (vs before (w ▸ none)) in
-    bool-eq (meets p (typesOf w ⊓ r)) (meets q r)
-    (λ h. let x = meets→share p (typesOf w ⊓ r) h in let k = moved (x .0) .0 (x .1, x .2) in share→meets q r (x .0, k .0, k .1))
-    (λ h. let x = meets→share q r h in let k = moved (x .0) .1 (x .1, x .2) in share→meets p (typesOf w ⊓ r) (x .0, k .0, k .1))
-  where
-    moved : (t : Ty) → (sharedTypes vs ⊑ t × typesOf w ⊓ r ⊑ t) ↔ (sharedTypes (vs before (w ▸ none)) ⊑ t × r ⊑ t)
-    moved t = simp (both-types, before-types vs (w ▸ none) t) (λ h. ((h .0, (h .1 .0, tt)), h .1 .1), λ h. (h .0 .0, (h .0 .1 .0, h .1)))
+moved : (vs : Values) (w : Value) (ws : Values) → vs before (w ▸ ws) ≡ (vs before (w ▸ none)) before ws
+moved none w ws = refl
+moved (v ▸ vs) w ws = ap (λ (us : Values). v ▸ us) (moved vs w ws)
 
 -- The first k of the values vs from `at` on, the last of which stands at i, rise and share a type; those that are left stand from e on.
--- All are fine where these rise behind the last and share a type with the first.
+-- All rise where these rise behind the last.
 pub record Passed (s : List ℕ) (at i e k n : ℕ) (vs : Values) : Type 0 where
+  pub some : 0 < k
   pub front : Values
   pub last : Value
   pub back : Values
   pub run : RunAt s at k front
   pub here : TypedAt s i last
   pub row : TypedRow s e (n - k) back
-  pub same : fineMembers vs ≡ (inOrder (last ▸ back) && meets (sharedTypes front) (sharedTypes back))
+  pub whole : vs ≡ front before back
+  pub same : inOrder vs ≡ inOrder (last ▸ back)
   pub there : e ≡ at + weights front
 
 pub passed-start : {s : List ℕ} {at n end : ℕ} → EndsAt s at end → 0 < n → (vs : Values) → TypedRow s at n vs → Passed s at at end 1 n vs
-unfolding meets
 passed-start ends l vs r =
     let x = first-of vs r l in
     let w = x .value in
     record {
+      some = omega arith;
       front = w ▸ none;
       last = w;
       back = x .others;
       run = run-of (x .here);
       here = x .here;
       row = x .row _ ends;
-      same = ap fineMembers (x .whole) ∙ ap (λ (b : Bool). inOrder (w ▸ x .others) && b) (meets-moved none w (sharedTypes (x .others)));
+      whole = x .whole;
+      same = ap inOrder (x .whole);
       there = omega (arith, ends w (x .here .stands) (x .here .fits));
     }
 
 module _ {s : List ℕ} {at i e k n : ℕ} {vs : Values} (h : Passed s at i e k n vs) where
   pub passed-end : n ≤ k → true ≡ fineMembers vs
-  unfolding meets
-  passed-end l = sym (h .same ∙ go (h .back) (h .row .counted))
+  passed-end l = sym (go (h .back) (h .row .counted) (h .whole) (h .same))
     where
-      go : (ws : Values) → n - k ≡ count ws → (inOrder (h .last ▸ ws) && inhabited (sharedTypes (h .front) ⊓ sharedTypes ws)) ≡ true
-      go none c = T-true _ .0 (with-every (sharedTypes (h .front)) (h .run .typed))
-      go (w ▸ ws) c = absurd (omega arith)
+      go : (ws : Values) → n - k ≡ count ws → vs ≡ h .front before ws → inOrder vs ≡ inOrder (h .last ▸ ws) → fineMembers vs ≡ true
+      go none c e o =
+          let (t, x) = inhabited→some (sharedTypes (h .front)) (h .run .typed) in
+          rw (o, e) (T-true _ .0 (some→inhabited (sharedTypes (h .front before none)) t (before-types (h .front) none t .1 (x, tt))))
+      go (w ▸ ws) c e o = absurd (omega arith)
 
   -- The first m values stand for the first k: all of them, or one that has one type only.
-  pub stand-for : {m end : ℕ} (one : Bool) → 0 < k → EndsAt s at end → (one ≡ true → NoEmpty s at end) → m ≡ cond one 1 k → StandFor s at m (h .front)
-  stand-for false l e f c = record { few = h .front; run = rw c (h .run); same = λ q. refl }
-  stand-for {end = end} true l e f c =
-      let x = as-run (h .run) l in
+  pub stand-for : {m : ℕ} (one : Bool) → (one ≡ true → FullAt s at) → m ≡ cond one 1 k → StandFor s at m (h .front)
+  stand-for false f c = record { few = h .front; run = rw c (h .run); same = λ q. refl }
+  stand-for true f c =
+      let x = as-run (h .run) (h .some) in
       let w = x .0 in
       let y = run-head (x .3) in
-      let g = full-value w s at (y .stands) (rw (end-is e y) at (f refl)) in
+      let g = f refl w y in
       let r = run-of y in
       rw (c, x .2) (record {
         few = w ▸ none;
@@ -173,15 +149,18 @@ module _ {s : List ℕ} {at i e k n : ℕ} {vs : Values} (h : Passed s at i e k 
     pub passed-next : SomeTyped s e
     passed-next = (next .value, next .here)
 
-    with-next : {c : ℕ} → Compared s i e c → fineMembers vs ≡ joined (eqb c 0) (sharedTypes (h .front)) (next .value) (next .others)
-    with-next f =
-        h .same ∙ ap (λ (us : Values). inOrder (h .last ▸ us) && meets (sharedTypes (h .front)) (sharedTypes us)) (next .whole) ∙
-        rw (compared-before (h .here) (next .here) f)
+    whole-next : vs ≡ h .front before (next .value ▸ next .others)
+    whole-next = h .whole ∙ ap (λ (us : Values). h .front before us) (next .whole)
 
-    pub passed-falls : {c : ℕ} → Compared s i e c → (c ≡ 0 → ⊥) → false ≡ fineMembers vs
-    passed-falls {c} f z = sym (with-next f ∙ rw (ne-eqb c 0 z))
+    order-next : {b c : Bool} → IsBefore s i e b → b ≡ c → inOrder vs ≡ (c && inOrder (next .value ▸ next .others))
+    order-next f z =
+        h .same ∙ ap (λ (us : Values). inOrder (h .last ▸ us)) (next .whole) ∙
+        ap (λ (b : Bool). b && inOrder (next .value ▸ next .others)) (f (h .last) (next .value) (h .here) (next .here) ∙ z)
 
-    module _ {c m : ℕ} (f : Compared s i e c) (g : StandFor s at m (h .front)) where
+    pub passed-falls : {b : Bool} → IsBefore s i e b → b ≡ false → false ≡ fineMembers vs
+    passed-falls f z = rw (order-next f z)
+
+    module _ {m : ℕ} (g : StandFor s at m (h .front)) where
       -- the test of the next value against those that stand for the first
       next-meets : (r : Bool) → AgreedWith s e at m r → meets (sharedTypes (h .front)) (typesOf (next .value)) ≡ r
       next-meets r a =
@@ -189,10 +168,16 @@ module _ {s : List ℕ} {at i e k n : ℕ} {vs : Values} (h : Passed s at i e k 
           sym (a w (g .few) (next .here) (g .run) ∙ meets-sym (typesOf w) (sharedTypes (g .few)) ∙ g .same (typesOf w))
 
       pub passed-unlike : AgreedWith s e at m false → false ≡ fineMembers vs
-      passed-unlike a = sym (with-next f ∙ unlike (eqb c 0) (sharedTypes (h .front)) (next .value) (next .others) (next-meets false a))
+      passed-unlike a =
+          let w = next .value in
+          let us = h .front before (w ▸ next .others) in
+          sym (T-false _ .0 (λ f.
+          let (t, x) = inhabited→some (sharedTypes us) (and-split (inOrder us) _ (subst (λ (ws : Values). T (fineMembers ws)) whole-next f) .1) in
+          let (y, z) = before-types (h .front) (w ▸ next .others) t .0 x in
+          subst T (next-meets false a) (share→meets _ _ (t, y, ⊓-split (typesOf w) (sharedTypes (next .others)) t z .0))))
 
-      pub passed-step : {j : ℕ} → EndsAt s e j → c ≡ 0 → AgreedWith s e at m true → Passed s at e j (k + 1) n vs
-      passed-step {j} ends z a =
+      pub passed-step : {b : Bool} {j : ℕ} → IsBefore s i e b → b ≡ true → AgreedWith s e at m true → EndsAt s e j → Passed s at e j (k + 1) n vs
+      passed-step {j = j} f z a ends =
           let w = next .value in
           let us = h .front before (w ▸ none) in
           let u = run-of (next .here) in
@@ -200,6 +185,7 @@ module _ {s : List ℕ} {at i e k n : ℕ} {vs : Values} (h : Passed s at i e k 
           let p : e ≡ at + length (codes (h .front)) = omega (arith, h .there, length-codes (h .front)) in
           let q : n - k - 1 ≡ n - (k + 1) = omega arith in
           record {
+            some = omega arith;
             front = us;
             last = w;
             back = next .others;
@@ -212,93 +198,22 @@ module _ {s : List ℕ} {at i e k n : ℕ} {vs : Values} (h : Passed s at i e k 
             };
             here = next .here;
             row = subst (λ (o : ℕ). TypedRow s j o (next .others)) q (next .row j ends);
-            same = with-next f ∙ rw (eq-eqb c 0 z) (ap (λ (b : Bool). inOrder (w ▸ next .others) && b) (meets-moved (h .front) w (sharedTypes (next .others))));
+            whole = whole-next ∙ moved (h .front) w (next .others);
+            same = order-next f z;
             there = omega (arith, h .there, weights-before (h .front) (w ▸ none), ends w (next .here .stands) (next .here .fits));
           }
 
--- Two cells are alike where the second, which is greater, is at most the greatest that is alike.
-module _ (x y : ℕ) where
-  by-tag : (P : ℕ → Bool → Type 0) →
-      (x / cellSize ≡ 3 → P (x / 256 * 256 + 255) (eqb (x / 256) (y / 256))) →
-      (x / cellSize ≢ 3 → P (x / cellSize * cellSize + 4294967295) (eqb (x / cellSize) (y / cellSize))) →
-      P (mostAlike x) (atomsAlike x y)
-  by-tag P h k = go (ℕ-discrete (x / cellSize) 3)
-    where
-      go : Dec (x / cellSize ≡ 3) → P (mostAlike x) (atomsAlike x y)
-      go (yes e) = rw (eq-eqb (x / cellSize) 3 e) (h e)
-      go (no n) = rw (ne-eqb (x / cellSize) 3 n) (k n)
+    -- The same where the first value has one type only: the next is tested against it.
+    module _ {r : Bool} (full : FullAt s at) (a : Agreed s at e r) where
+      pub first-unlike : r ≡ false → false ≡ fineMembers vs
+      first-unlike z =
+          passed-unlike (stand-for true (λ _. full) refl) (with-false s e at 1 (omega arith) (agreed-back s at e false (subst (Agreed s at e) z a)))
 
-  pub alike-within : x < 4 * cellSize → x < y → y ≤ mostAlike x → (atomsAlike x y ≡ true) × (y < 4 * cellSize) × (mostAlike y ≡ mostAlike x)
-  alike-within p l =
-      by-tag (λ m b. y ≤ m → (b ≡ true) × (y < 4 * cellSize) × (mostAlike y ≡ m))
-      (λ t h. (eq-eqb (x / 256) (y / 256) (omega arith), omega arith, rw (eq-eqb (y / cellSize) 3 (omega arith)) (omega arith)))
-      (λ t h. (eq-eqb (x / cellSize) (y / cellSize) (omega arith), omega arith, rw (ne-eqb (y / cellSize) 3 (λ e. t (omega arith))) (omega arith)))
+      pub first-step : {b : Bool} {j : ℕ} → IsBefore s i e b → b ≡ true → r ≡ true → EndsAt s e j → Passed s at e j (k + 1) n vs
+      first-step f y z =
+          passed-step (stand-for true (λ _. full) refl) f y (with-last s e at 1 refl (agreed-back s at e true (subst (Agreed s at e) z a)))
 
-  alike-above : mostAlike x < y → atomsAlike x y ≡ false
-  alike-above =
-      by-tag (λ m b. m < y → b ≡ false)
-      (λ t h. ne-eqb (x / 256) (y / 256) (λ e. omega arith))
-      (λ t h. ne-eqb (x / cellSize) (y / cellSize) (λ e. omega arith))
-
--- A full value that shares a type with v shares with others only types that v has.
-full-share : (v w : Value) (r : TypeSet) → Full w → agree v w ≡ true → inhabited (typesOf v ⊓ (typesOf w ⊓ r)) ≡ inhabited (typesOf w ⊓ r)
-unfolding agree meets
-full-share v w r f e =
-    bool-eq _ _ (right-typed (typesOf v) (typesOf w ⊓ r))
-    (λ t. subst T (sym e ∙ meets-sym (typesOf v) (typesOf w) ∙ full-first w r (typesOf v) f t ∙ meets-sym (typesOf w ⊓ r) (typesOf v)) tt)
-
--- The values that are left, from i on, are fine just where all are.
-pub record Rest (s : List ℕ) (i left : ℕ) (vs : Values) : Type 0 where
-  pub rest : Values
-  pub row : TypedRow s i left rest
-  pub same : fineMembers vs ≡ fineMembers rest
-
-pub few-fine : (vs : Values) → count vs ≤ 1 → AllTyped vs → true ≡ fineMembers vs
-few-fine none l h = refl
-few-fine (v ▸ none) l h = sym (T-true _ .0 (with-every (typesOf v) (h .0)))
-few-fine (v ▸ w ▸ ws) l h = absurd (omega arith)
-
--- Two or more are left, the first a scalar: it and the next by their cells.
-module _ {s : List ℕ} {i left : ℕ} {vs : Values} (h : Rest s i left vs) (l : 1 < left) (low : getD s i 0 < 4 * cellSize) where
-  first : First s i left (h .rest)
-  first = first-of (h .rest) (h .row) (omega arith)
-
-  behind : TypedRow s (i + 1) (left - 1) (first .others)
-  behind = first .row (i + 1) (one-cell s i low)
-
-  second : First s (i + 1) (left - 1) (first .others)
-  second = first-of (first .others) behind (omega arith)
-
-  pub next-inside : i + 1 < length s
-  next-inside = inside (second .value, second .here)
-
-  alike : agree (first .value) (second .value) ≡ atomsAlike (getD s i 0) (getD s (i + 1) 0)
-  alike = sym (atoms-agree s i (i + 1) low (first .value) (second .value) (first .here) (second .here))
-
-  by-cells : fineMembers vs ≡ joined (ltb (getD s i 0) (getD s (i + 1) 0)) (typesOf (first .value)) (second .value) (second .others)
-  unfolding meets
-  by-cells =
-      h .same ∙ ap fineMembers (first .whole ∙ ap (λ (us : Values). first .value ▸ us) (second .whole)) ∙ rw (cells-before (first .here) (second .here) low)
-
-  pub rest-falls : getD s (i + 1) 0 ≤ getD s i 0 → false ≡ fineMembers vs
-  rest-falls m = sym (by-cells ∙ rw (le-ltb (getD s i 0) (getD s (i + 1) 0) m))
-
-  pub rest-above : mostAlike (getD s i 0) < getD s (i + 1) 0 → false ≡ fineMembers vs
-  unfolding agree
-  rest-above m =
-      let b = ltb (getD s i 0) (getD s (i + 1) 0) in
-      let e = alike ∙ alike-above (getD s i 0) (getD s (i + 1) 0) m in
-      sym (by-cells ∙ unlike b (typesOf (first .value)) (second .value) (second .others) e)
-
-  pub rest-next : getD s i 0 < getD s (i + 1) 0 → getD s (i + 1) 0 ≤ mostAlike (getD s i 0) → Rest s (i + 1) (left - 1) vs
-  unfolding meets
-  rest-next m k =
-      let w = second .value in
-      let us = w ▸ second .others in
-      let a = alike-within (getD s i 0) (getD s (i + 1) 0) low m k in
-      let e = full-share (first .value) w (sharedTypes (second .others)) (scalar-full s (i + 1) (a .1) w (second .here)) (alike ∙ a .0) in
-      record {
-        rest = us;
-        row = subst (λ (ws : Values). TypedRow s (i + 1) (left - 1) ws) (second .whole) behind;
-        same = by-cells ∙ rw (lt-ltb (getD s i 0) (getD s (i + 1) 0) m) (ap (λ (b : Bool). inOrder us && b) e);
-      }
+-- No values.
+pub none-fine : (vs : Values) → count vs ≡ 0 → true ≡ fineMembers vs
+none-fine none e = refl
+none-fine (v ▸ vs) e = absurd (omega arith)

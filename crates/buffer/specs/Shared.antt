@@ -1,9 +1,10 @@
 -- Members that rise and share a type, in every set of a value.
-use Prim.Native.Nat.{ℕ, _+_, _*_, _-_, _/_, _%_}
+use Prim.Native.Nat.{ℕ, _+_, _*_, _-_, _/_, _%_, _<_}
 use mathlib.Core.Bool.{Bool, _&&_, cond}
 use mathlib.Core.List.{List}
 use mathlib.Core.Path.{_≡_}
-use lib.Dec.{T, eqb, leb}
+use lib.Dec.{T, eqb, ltb, leb}
+use lib.ListN.{getD}
 use Rattle.rules.specs.Values.{Value, Values, none, _▸_, count}
 use Rattle.rules.specs.Fits.{typesOf, sharedTypes, inhabited, typed}
 use Rattle.arena.specs.Code.{ValueAt, ValuesAt, CellsFit, AllFit}
@@ -28,9 +29,22 @@ pub record TypedRow (s : List ℕ) (at n : ℕ) (vs : Values) : Type 0 where
 abbrev pub SomeTypedRow : List ℕ → ℕ → ℕ → Type 0
 SomeTypedRow s at n = (vs : Values) × TypedRow s at n vs
 
--- The greatest cell of a scalar that shares a type with the scalar of the cell x.
+-- The least and the greatest cell of a scalar that shares a type with the scalar of the cell x.
+abbrev pub leastAlike : ℕ → ℕ
+leastAlike x = cond (eqb (x / 4294967296) 3) (x / 256 * 256) (x / 4294967296 * 4294967296)
+
 abbrev pub mostAlike : ℕ → ℕ
 mostAlike x = cond (eqb (x / 4294967296) 3) (x / 256 * 256 + 255) (x / 4294967296 * 4294967296 + 4294967295)
+
+-- The cells of a pair of two scalars stand at `at`.
+pub record ScalarPair (s : List ℕ) (at : ℕ) : Type 0 where
+  pub head : getD s at 0 ≡ 17179869184
+  pub left : getD s (at + 1) 0 < 17179869184
+  pub right : getD s (at + 2) 0 < 17179869184
+
+-- The pair of the scalars of the cells a and b is before that of c and d.
+abbrev pub pairBefore : ℕ → ℕ → ℕ → ℕ → Bool
+pairBefore a b c d = cond (eqb a c) (ltb b d) (ltb a c)
 
 -- Values rise and share a type, as the members of a set do; r says whether n values that have types do.
 abbrev pub fineMembers : Values → Bool

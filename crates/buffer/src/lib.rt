@@ -7,8 +7,9 @@ ghost use Rattle.rules.specs.Tables.{tableOf};
 ghost use Rattle.rules.specs.Readable.{Header};
 ghost use Rattle.buffer.specs.Buffer.{arenaCell, cellGood, cellsAtMost, StepTakes, CopyReady, CopyAnswers};
 ghost use Rattle.arena.specs.Code.{Same};
+ghost use Rattle.fitting.specs.Agree.{SomeTyped};
 ghost use Rattle.buffer.specs.Ordered.{WholeValue};
-ghost use Rattle.buffer.specs.Shared.{SomeTypedRow, mostAlike, MembersFine, setsEnd, Fine};
+ghost use Rattle.buffer.specs.Shared.{SomeTypedRow, leastAlike, mostAlike, MembersFine, ScalarPair, pairBefore, setsEnd, Fine};
 ghost use Rattle.buffer.specs.Loaded.{EntryReady, Enters, Loads, LoadReady};
 
 // The last number of an element, and the last payload.
@@ -189,7 +190,16 @@ fn values_fine(s: &[u64], at: usize, n: u64) -> bool
     true
 }
 
-// The greatest cell of a scalar that shares a type with the scalar of the cell x: elements are of one given set.
+// The least and the greatest cell of a scalar that shares a type with the scalar of the cell x: elements are of one given set.
+fn least(x: u64) -> u64
+    ensures { λ r. ⌜ r ≡ leastAlike x ⌝ }
+{
+    if arena::tag(x) == arena::ELEMENT_TAG {
+        return x / arena::GIVEN * arena::GIVEN;
+    }
+    x / arena::CELL * arena::CELL
+}
+
 fn most(x: u64) -> u64
     ensures { λ r. ⌜ r ≡ mostAlike x ⌝ }
 {
@@ -206,8 +216,8 @@ fn cells_fine(s: &[u64], at: usize, n: u64) -> bool
 {
     let high = most(s[at]);
     let mut i = at;
-    let mut left = n;
-    while left > 1 {
+    let mut k: u64 = 1;
+    while k < n {
         let x = s[i];
         i += 1;
         let y = s[i];
@@ -217,7 +227,73 @@ fn cells_fine(s: &[u64], at: usize, n: u64) -> bool
         if y > high {
             return false;
         }
-        left -= 1;
+        k += 1;
+    }
+    true
+}
+
+// Whether the value at `at` is a pair of two scalars.
+fn scalar_pair(s: &[u64], at: usize) -> bool
+    requires { ⌜ SomeTyped (now s) at ⌝ }
+    ensures { λ r. ⌜ (r ≡ true → ScalarPair (now (s .entry)) at) ⌝ }
+{
+    if s[at] != arena::PAIR {
+        return false;
+    }
+    if s[at + 1] >= arena::PAIR {
+        return false;
+    }
+    s[at + 2] < arena::PAIR
+}
+
+// Whether the pair of the scalars of the cells a and b is before that of c and d.
+fn pair_before(a: u64, b: u64, c: u64, d: u64) -> bool
+    ensures { λ r. ⌜ r ≡ pairBefore a b c d ⌝ }
+{
+    if a < c {
+        return true;
+    }
+    if c < a {
+        return false;
+    }
+    b < d
+}
+
+// Whether n values from `at` on, the first a pair of two scalars, rise and share a type: they are such pairs, three cells each, whose scalars
+// are within the bounds of the first's types. The left ones do not fall, so that their least needs no test.
+fn pairs_fine(s: &[u64], at: usize, n: u64) -> bool
+    requires { ⌜ SomeTypedRow (now s) at n × (0 < n) × ScalarPair (now s) at ⌝ }
+    ensures { λ r. ⌜ MembersFine (now (s .entry)) at n r ⌝ }
+{
+    let mut a = s[at + 1];
+    let mut b = s[at + 2];
+    let high = most(a);
+    let right_low = least(b);
+    let right_high = most(b);
+    let mut i = at;
+    let mut k: u64 = 1;
+    while k < n {
+        i += 3;
+        if s[i] != arena::PAIR {
+            return false;
+        }
+        let c = s[i + 1];
+        let d = s[i + 2];
+        if !pair_before(a, b, c, d) {
+            return false;
+        }
+        if c > high {
+            return false;
+        }
+        if d < right_low {
+            return false;
+        }
+        if d > right_high {
+            return false;
+        }
+        a = c;
+        b = d;
+        k += 1;
     }
     true
 }
@@ -232,6 +308,9 @@ fn members_fine(s: &[u64], at: usize, n: u64) -> bool
     }
     if s[at] < arena::PAIR {
         return cells_fine(s, at, n);
+    }
+    if scalar_pair(s, at) {
+        return pairs_fine(s, at, n);
     }
     values_fine(s, at, n)
 }

@@ -436,7 +436,7 @@ pub cell-parts : (ws : List ℕ) (a b c d t x y z u : ℕ) (bs : List ℕ) → w
 cell-parts ws a b c d t x y z u bs e f g h k = rw (e, f, g, h, k)
 
 -- The first eight bytes of a run that reads are a cell.
-cell-bytes : (bs : List ℕ) (v : Value) → Bytes bs → 8 ≤ length bs → getD bs 5 0 + getD bs 6 0 + getD bs 7 0 ≡ 0 →
+pub cell-bytes : (bs : List ℕ) (v : Value) → Bytes bs → 8 ≤ length bs → getD bs 5 0 + getD bs 6 0 + getD bs 7 0 ≡ 0 →
     tag v ≡ getD bs 4 0 → twos (payload v) ≡ wordAt bs 0 → bs ≡ cell v ++ drop 8 bs
 unfolding cell
 cell-bytes bs v b l z t w =

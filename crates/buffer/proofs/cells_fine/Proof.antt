@@ -1,41 +1,55 @@
--- `cells_fine`: the values that are left, the first a scalar of the type, are fine just where all are.
-use Prim.Native.Nat.{_+_, _*_, _<_}
-use mathlib.Core.Path.{_≡_, refl, sym, _∙_}
+-- `cells_fine`: the first k values are scalars that rise and share a type (`Passed`), as far as their cells tell; so does the next where it is greater
+-- than the last of them and at most the greatest of the first's type.
+use Prim.Native.Nat.{ℕ, _+_, _*_, _-_, _≤_, _<_}
 use native.Mathlib.Omega.{arith}
 use borrow.Author.Needs.{needs}
+use borrow.Author.Tests.{lt-ltb, le-ltb}
 use lib.ListN.{length, getD}
 use Rattle.rules.specs.Values.{Values}
+use Rattle.laws.proofs.EndLaws.{T-true, T-false}
 use Rattle.arena.specs.Code.{cellSize}
-use Rattle.fitting.proofs.Cells.{inside}
-use Rattle.buffer.specs.Shared.{TypedRow, mostAlike}
-use Rattle.buffer.proofs.Members.{some-first, alike-within, Rest, few-fine, next-inside, rest-falls, rest-above, rest-next}
+use Rattle.arena.proofs.ValueParts.{one-cell}
+use Rattle.fitting.proofs.Cells.{inside, atoms-agree, alike-low, scalar-full}
+use Rattle.buffer.specs.Shared.{TypedRow}
+use Rattle.buffer.proofs.Members.{some-first, Passed, passed-start, passed-end, passed-next, passed-falls, first-unlike, first-step}
+use Rattle.buffer.proofs.Neighbours.{alike-bounds, least-alike, cell-before}
 use Rattle.buffer.proofs.cells_fine.Statement.{statement}
 use Rattle.buffer.proofs.cells_fine.Tie as tie
 
 abbrev Inv-loop : tie.InvT-loop
-Inv-loop s at n high i₀ left₀ i left =
-    (high ≡ mostAlike (getD s i 0)) × (getD s i 0 < 4 * cellSize) × ((vs : Values) → TypedRow s at n vs → Rest s i left vs)
+Inv-loop s at n high i₀ k₀ i k =
+    (getD s at 0 ≤ getD s i 0) × (getD s i 0 < 4 * cellSize) × ((vs : Values) → TypedRow s at n vs → Passed s at i (i + 1) k n vs)
 
 abbrev μ-loop : tie.MeasureT-loop
-μ-loop s at n high i₀ left₀ i left = left
+μ-loop s at n high i₀ k₀ i k = n - k
 
 at-inside : (p : tie.Start Inv-loop μ-loop) → p .args .at < length (p .args .s .now)
 at-inside p = inside (some-first (p .pre .0) (p .pre .1))
 
--- A turn of the loop, what was lent, and the values that are left; their first cells are inside.
+-- A turn of the loop, the greatest cell, and what was lent; the next value is inside.
 abbrev Turn : Type 0
 Turn = tie.In-loop Inv-loop μ-loop
 
+abbrev begun : Turn → tie.After-most Inv-loop μ-loop
+begun l = l .before .before
+
 abbrev lent : Turn → tie.Start Inv-loop μ-loop
-lent l = let b = l .before .before in b .before .before .before
+lent l = begun l .before .before .before
 
 next-within : (l : Turn) → l .before .loop .i + 1 < length (lent l .args .s .now)
-next-within l =
-    let i = l .before .loop .inv in
-    let r = lent l .pre .0 in
-    next-inside (i .2 (r .0) (r .1)) (l .loop-test .taken) (i .1)
+next-within l = let r = lent l .pre .0 in inside (passed-next (l .before .loop .inv .2 (r .0) (r .1)) (l .loop-test .taken))
 
--- Two cells have been read.
+-- The cell of the first value, of the last that has been passed, and of the next.
+abbrev first : Turn → ℕ
+first l = getD (lent l .args .s .now) (lent l .args .at) 0
+
+abbrev last : Turn → ℕ
+last l = getD (lent l .args .s .now) (l .before .loop .i) 0
+
+abbrev next : Turn → ℕ
+next l = getD (lent l .args .s .now) (l .before .loop .i + 1) 0
+
+-- The last two have been read.
 abbrev turn : tie.After-shared-slice-known4 Inv-loop μ-loop → Turn
 turn b = b .before .before
 
@@ -43,24 +57,30 @@ returns : tie.Need-returns Inv-loop μ-loop
 returns c = λ vs r.
     let l = turn (c .before) in
     let i = l .before .loop .inv in
-    rest-falls (i .2 vs r) (l .loop-test .taken) (i .1) (omega (arith, c .if1 .taken))
+    passed-falls (i .2 vs r) (l .loop-test .taken) (cell-before _ _ _ (i .1)) (le-ltb (last l) (next l) (omega (arith, c .if1 .taken)))
 
 returns-2 : tie.Need-returns-2 Inv-loop μ-loop
 returns-2 c = λ vs r.
     let l = turn (c .before .before) in
-    let i = l .before .loop .inv in
-    rest-above (i .2 vs r) (l .loop-test .taken) (i .1) (omega (arith, c .if2 .taken, i .0))
+    let low = lent l .pre .2 in
+    let z = T-false _ .0 (λ h. omega (arith, alike-bounds (first l) (next l) .0 h .1, c .if2 .taken, begun l .most .ensures)) in
+    first-unlike (l .before .loop .inv .2 vs r) (l .loop-test .taken) (scalar-full _ _ low) (atoms-agree _ _ _ low) z
 
 loop-again : tie.Need-loop-again Inv-loop μ-loop
 loop-again c =
     let l = turn (c .before .before) in
     let i = l .before .loop .inv in
-    let t = lent l .args .s .now in
-    let j = l .before .loop .i in
-    let a = alike-within (getD t j 0) (getD t (j + 1) 0) (i .1) (omega (arith, c .before .if1 .left)) (omega (arith, c .if2 .left, i .0)) in (
-      i .0 ∙ sym (a .2),
-      a .1,
-      λ vs r. rest-next (i .2 vs r) (l .loop-test .taken) (i .1) (omega (arith, c .before .if1 .left)) (omega (arith, c .if2 .left, i .0)),
+    let low = lent l .pre .2 in
+    let x = first l in
+    let y = next l in
+    let g = alike-bounds x y .1 (omega (arith, least-alike x x, i .0, c .before .if1 .left), omega (arith, c .if2 .left, begun l .most .ensures)) in
+    let a = T-true _ .0 g in
+    let z = alike-low x y low a in (
+      omega (arith, i .0, c .before .if1 .left),
+      z,
+      λ vs r.
+          first-step (i .2 vs r) (l .loop-test .taken) (scalar-full _ _ low) (atoms-agree _ _ _ low) (cell-before _ _ _ (i .1))
+          (lt-ltb (last l) y (omega (arith, c .before .if1 .left))) a (one-cell _ _ z),
     )
 
 pub cells-fine-spec : {M : Type 1} → statement M
@@ -72,7 +92,7 @@ cells-fine-spec =
     (λ c. omega (arith, at-inside (c .before)))
     (λ c. at-inside (c .before .before))
     (λ c κs. search needs)
-    (λ c. let p = c .before .before .before in (c .most .ensures, p .pre .2, λ vs r. record { rest = vs; row = r; same = refl }))
+    (λ c. let p = c .before .before .before .pre in (omega arith, p .2, passed-start (one-cell _ _ (p .2)) (p .1)))
     (λ c. omega (arith, next-within c))
     (λ c. omega (arith, next-within (c .before)))
     (λ c. omega (arith, next-within (c .before)))
@@ -83,5 +103,4 @@ cells-fine-spec =
     (λ c. omega (arith, turn (c .before .before) .loop-test .taken))
     (λ c. omega (arith, turn (c .before .before) .loop-test .taken))
     loop-again
-    (λ c. λ vs r.
-    let h = c .before .loop .inv .2 vs r in few-fine (h .rest) (omega (arith, c .loop-test .left, h .row .counted)) (h .row .typed) ∙ sym (h .same)))
+    (λ c. λ vs r. passed-end (c .before .loop .inv .2 vs r) (omega (arith, c .loop-test .left))))
