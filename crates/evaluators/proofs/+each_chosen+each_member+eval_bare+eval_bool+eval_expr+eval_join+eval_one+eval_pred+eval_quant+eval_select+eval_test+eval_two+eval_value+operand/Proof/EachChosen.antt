@@ -5,7 +5,7 @@ use Rattle.evaluators.proofs.choose.Reads as choose
 use Rattle.arena.proofs.end_of.Reads as end-of
 use Rattle.table.proofs.node_field.Reads as field
 use Rattle.evaluators.proofs.stop_of.Reads as stop
-use Rattle.evaluators.proofs.+each_chosen+each_member+eval_bare+eval_bool+eval_expr+eval_join+eval_one+eval_pred+eval_quant+eval_select+eval_test+eval_two+eval_value+operand.Proof.Base.{each-chosen, eval-pred, ℕ, _∙_, arith, lit<, In, Out, one-less, binder-node, entry-below, entry-scaled, stop-is, member-low}
+use Rattle.evaluators.proofs.+each_chosen+each_member+eval_bare+eval_bool+eval_expr+eval_join+eval_one+eval_pred+eval_quant+eval_select+eval_test+eval_two+eval_value+operand.Proof.Base.{OverLoop, each-chosen, eval-pred, ℕ, _∙_, arith, lit<, one-less, binder-node, entry-below, entry-scaled, stop-is, member-low}
 use Rattle.evaluators.proofs.SafeLaws.{above-fits, top-scaled, top-inside, written-kept}
 use Rattle.evaluators.proofs.FormLaws.{chosen-as}
 use Rattle.evaluators.proofs.ChosenLaws.{Choosing, choosing-start, choosing-near, choosing-few, choosing-end, choosing-asks, choosing-refused, choosing-some, choosing-choose, choosing-next}
@@ -21,7 +21,7 @@ module _ (t : ℕ) where
   abbrev claims : lts.Claims
   claims = (field.Asked, field.Learnt, eval-pred .below t, eval-pred .post, stop.Asked, stop.Learnt, end-of.Asked, end-of.Learnt, choose.Asked, choose.Learnt)
 
-  abbrev Here : (lts.Claims → In 3 lts.ps → Out 3 lts.ps lts.r → lts.InvT-loop → lts.MeasureT-loop → Type 0) → Type 0
+  abbrev Here : OverLoop 3 lts.ps lts.r lts.Claims lts.InvT-loop lts.MeasureT-loop → Type 0
   Here T = T claims (each-chosen .at t) (each-chosen .post) Inv μ
 
   abbrev lent : Here lts.After-node-field → Here lts.Start

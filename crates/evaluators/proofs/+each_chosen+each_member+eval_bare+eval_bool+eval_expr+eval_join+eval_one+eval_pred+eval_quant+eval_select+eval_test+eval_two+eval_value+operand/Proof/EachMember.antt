@@ -3,7 +3,7 @@
 use Rattle.evaluators.proofs.+each_chosen+each_member+eval_bare+eval_bool+eval_expr+eval_join+eval_one+eval_pred+eval_quant+eval_select+eval_test+eval_two+eval_value+operand.Lts-each_member as lts
 use Rattle.arena.proofs.end_of.Reads as end-of
 use Rattle.table.proofs.node_field.Reads as field
-use Rattle.evaluators.proofs.+each_chosen+each_member+eval_bare+eval_bool+eval_expr+eval_join+eval_one+eval_pred+eval_quant+eval_select+eval_test+eval_two+eval_value+operand.Proof.Base.{each-member, eval-pred, ℕ, _∙_, arith, lit<, In, Out, one-less, binder-node, entry-below, entry-scaled, member-low}
+use Rattle.evaluators.proofs.+each_chosen+each_member+eval_bare+eval_bool+eval_expr+eval_join+eval_one+eval_pred+eval_quant+eval_select+eval_test+eval_two+eval_value+operand.Proof.Base.{OverLoop, each-member, eval-pred, ℕ, _∙_, arith, lit<, one-less, binder-node, entry-below, entry-scaled, member-low}
 use Rattle.evaluators.proofs.QuantLaws.{differ, agree, Turning, turning-start, member-stands, member-asks, member-refused, member-decides, turning-on, members-done}
 
 abbrev Inv : lts.InvT-loop
@@ -17,7 +17,7 @@ module _ (t : ℕ) where
   abbrev claims : lts.Claims
   claims = (field.Asked, field.Learnt, eval-pred .below t, eval-pred .post, end-of.Asked, end-of.Learnt)
 
-  abbrev Here : (lts.Claims → In 3 lts.ps → Out 3 lts.ps lts.r → lts.InvT-loop → lts.MeasureT-loop → Type 0) → Type 0
+  abbrev Here : OverLoop 3 lts.ps lts.r lts.Claims lts.InvT-loop lts.MeasureT-loop → Type 0
   Here T = T claims (each-member .at t) (each-member .post) Inv μ
 
   abbrev lent : Here lts.After-node-field → Here lts.Start

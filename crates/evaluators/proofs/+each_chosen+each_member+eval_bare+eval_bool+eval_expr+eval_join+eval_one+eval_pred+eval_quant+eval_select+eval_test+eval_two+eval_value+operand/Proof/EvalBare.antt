@@ -10,7 +10,7 @@ module _ (t : ℕ) where
   abbrev claims : lts.Claims
   claims = (refused.Asked, refused.Learnt, kind.Asked, kind.Learnt, test .below t, test .post, quant .below t, quant .post, join .below t, join .post)
 
-  abbrev Here : Over lts.Claims lts.ps lts.r → Type 0
+  abbrev Here : Over 3 lts.ps lts.r lts.Claims → Type 0
   Here T = T claims (eval-bare .at t) (eval-bare .post)
 
   abbrev lent : Here lts.After-node-kind → Here lts.Start

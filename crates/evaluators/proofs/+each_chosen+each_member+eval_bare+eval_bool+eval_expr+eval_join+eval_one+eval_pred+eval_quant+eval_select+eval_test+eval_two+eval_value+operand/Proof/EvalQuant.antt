@@ -25,7 +25,7 @@ module _ (t : ℕ) where
     each-member .post,
   )
 
-  abbrev Here : Over lts.Claims lts.ps lts.r → Type 0
+  abbrev Here : Over 3 lts.ps lts.r lts.Claims → Type 0
   Here T = T claims (eval-quant .at t) (eval-quant .post)
 
   abbrev lent : Here lts.After-node-field → Here lts.Start

@@ -18,7 +18,7 @@ module _ (t : ℕ) where
   abbrev claims : lts.Claims
   claims = (field.Asked, field.Learnt, operand .below t, operand .post, two.Asked, two.Learnt, settle.Asked, settle.Learnt)
 
-  abbrev Here : Over lts.Claims lts.ps lts.r → Type 0
+  abbrev Here : Over 3 lts.ps lts.r lts.Claims → Type 0
   Here T = T claims (eval-two .at t) (eval-two .post)
 
   abbrev lent : Here lts.After-node-field → Here lts.Start

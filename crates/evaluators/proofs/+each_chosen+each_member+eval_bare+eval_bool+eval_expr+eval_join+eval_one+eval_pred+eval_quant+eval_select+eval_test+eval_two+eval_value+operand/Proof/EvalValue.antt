@@ -41,7 +41,7 @@ module _ (t : ℕ) where
     standing.Learnt,
   )
 
-  abbrev Here : Over lts.Claims lts.ps lts.r → Type 0
+  abbrev Here : Over 3 lts.ps lts.r lts.Claims → Type 0
   Here T = T claims (eval-value .at t) (eval-value .post)
 
   abbrev lent : Here lts.After-node-kind → Here lts.Start

@@ -9,7 +9,7 @@ module _ (t : ℕ) where
   abbrev claims : lts.Claims
   claims = (leaf-place.Asked, leaf-place.Learnt, eval-expr .below t, eval-expr .post)
 
-  abbrev Here : Over lts.Claims lts.ps lts.r → Type 0
+  abbrev Here : Over 3 lts.ps lts.r lts.Claims → Type 0
   Here T = T claims (operand .at t) (operand .post)
 
   abbrev lent : Here lts.After-leaf-place → Here lts.Start
