@@ -1,6 +1,6 @@
 -- The two operands of a node, one after the other: their answers joined, for tests and for operations of two; and the tests.
 use Rattle.evaluators.proofs.Terms.{ℕ, _+_, _-_, _*_, _≤_, _<_, Bool, true, false, List, [], _∷_, _≡_, refl, sym, _∙_, subst, arith}
-use Rattle.evaluators.proofs.Terms.{Value, expression, test, fits, tableOf, End, done, refused, Run, M, return, _>>=_, _>>_, fitting, holdsᵖ, Same, same-trans, GoodAt, SomeOperands, Refusal, Formed, Placed, Stopped, Truth, Refused, EndsWith, PlacedAs, conditionCells, NodeReady, Visited, Sort, Asks, valueAt, EvaluatesP, EvaluatesE, fieldA, fieldB, IsExpr, Test, holds, TestOf, tested}
+use Rattle.evaluators.proofs.Terms.{Value, expression, test, fits, tableOf, End, done, refused, Run, M, return, _>>=_, _>>_, fitting, holdsᵖ, Same, same-trans, GoodAt, SomeOperands, Refusal, Formed, Placed, Stopped, Truth, Refused, EndsWith, PlacedAs, conditionCells, NodeReady, Visited, Sort, Asks, valueAt, EvaluatesP, EvaluatesE, fieldA, fieldB, IsExpr, Held, RefusalOf, Test, holds, TestOf, tested}
 use Rattle.rules.specs.Rules.{testRule}
 use Rattle.rules.specs.Reading.{height}
 use Rattle.operations.specs.declared.Tested.{Tested}
@@ -9,7 +9,7 @@ use Rattle.operations.proofs.GoodLaws.{good-above}
 use Rattle.operations.proofs.OutcomeLaws.{test-fit, test-unfit}
 use Rattle.evaluators.proofs.RunLaws.{then-done, then-refused, returns, fitting-on, fitting-refused}
 use Rattle.evaluators.proofs.NodeLaws.{Child, TwoFields, ready-child, ready-first, good-frame, sizes-small, formed-as, some-asks, asks-on}
-use Rattle.evaluators.proofs.NodeLaws.{visited-operands, visits, after, valueIn, formed-below, predᵍ, held-by}
+use Rattle.evaluators.proofs.NodeLaws.{held-as, refusal-is, visited-operands, visits, after, valueIn, formed-below, predᵍ, held-by}
 
 -- Both operands have values: that of the first, x, stands at a, below mid, and then that of the second, y, at b, below next.
 pub record BothAs (x y : Run Value) (budget : ℕ) (gs s : List ℕ) (a mid b next left : ℕ) : Type 0 where
@@ -142,9 +142,10 @@ module _ {bs env s : List ℕ} {top k n left : ℕ} (p : Visited bs env s top k 
   test-fields = visited-operands x (test j) (p .1 .1) refl
 
   -- An operand is refused.
-  pub test-stops : {s′ : List ℕ} {r : Refusal} {l : ℕ} → StopsBoth bs env s top n (left - 1) s′ r l → EvaluatesP bs env s top n left s′ (Refused r l)
+  pub test-stops : {s′ : List ℕ} {f : Formed} {o : Held} {r : Refusal} {l : ℕ} → f ≡ Stopped r l → RefusalOf f o → StopsBoth bs env s top n (left - 1) s′ r l →
+      EvaluatesP bs env s top n left s′ o
   unfolding holdsᵖ
-  test-stops h = held-by x (test j) (p .1 .1) (h .frame) (λ i. visits x i _ (h .answer (after x i) _))
+  test-stops q e h = held-as refl (refusal-is q e) (held-by x (test j) (p .1 .1) (h .frame) (λ i. visits x i _ (h .answer (after x i) _)))
 
   module _ {s′ : List ℕ} {at mid other next l : ℕ} (h : EvaluatesBoth bs env s top n (left - 1) s′ at mid other next l)
       {o : Tested} (op : TestOf k s′ at other o) where

@@ -1,6 +1,6 @@
 -- What the evaluators of expressions with operands give, kinds 25, 27 to 41 and 43: the operands' answers, and with them the node's.
 use Rattle.evaluators.proofs.Terms.{ℕ, _+_, _-_, _*_, _≤_, _<_, Bool, true, false, List, [], _∷_, some, _≡_, refl, arith, boolByte}
-use Rattle.evaluators.proofs.Terms.{Value, weight, boolOf, one, two, comprehension, predicate, expression, kindOf, tableOf, Run, gives, valueᵉ, code, same-trans, Gives, SomeOperands, Outcome, kind-of, Builds, Refusal, Truth, Refused, Formed, Placed, Stopped, Set, Unlike, PlacedAs, SelectedAs, SettleReady, fieldA, fieldB, PlacedLeaf, RangeAt, Visited, Sort, Asks, EvaluatesP, EvaluatesE, EachReady, EvaluatesChosen, Settles, truthValue, One, Two, setOf, oneValue, twoValue, oneGiven, twoGiven, OneReady, OneOf, TwoReady, TwoOf, LightOf, KnownFunction, FunctionLeaf}
+use Rattle.evaluators.proofs.Terms.{Value, weight, boolOf, one, two, comprehension, predicate, expression, kindOf, tableOf, Run, gives, valueᵉ, code, same-trans, Gives, SomeOperands, Outcome, kind-of, Builds, Refusal, Truth, Refused, Formed, Placed, Stopped, Set, Unlike, PlacedAs, SelectedAs, SettleReady, fieldA, fieldB, RangeAt, Visited, Sort, Asks, EvaluatesP, EvaluatesE, EachReady, EvaluatesChosen, Settles, truthValue, One, setOf, oneValue, twoValue, oneGiven, twoGiven, OneReady, OneOf, TwoReady, TwoOf, LightOf, KnownFunction, FunctionLeaf}
 use Rattle.rules.specs.Rules.{oneRule, twoRule}
 use Rattle.products.specs.Growing.{PutsCell}
 use Rattle.operations.specs.Outcomes.{IsLight}
@@ -74,81 +74,83 @@ module _ {bs env s : List ℕ} {top k n m left : ℕ} (p : Visited bs env s top 
       ))
 
 -- 28 to 32, 37 and 39 to 41: the node's operands have been evaluated.
-module _ {bs env s : List ℕ} {top k n left : ℕ} (x : Visited bs env s top k n left) (j : Two) (e : kindOf k ≡ some (two j)) where
+module _ {bs env s : List ℕ} {top k n left : ℕ} (p : Visited bs env s top k n left × Sort two k) where
   pub two-fields : TwoFields bs n
-  two-fields = visited-operands x (two j) e refl
+  two-fields = visited-operands (p .0) (two (p .1 .0)) (p .1 .1) refl
 
   -- What the operation may take for granted of its operands.
   pub two-ready : {s₁ : List ℕ} {at mid other next l : ℕ} → EvaluatesBoth bs env s top n (left - 1) s₁ at mid other next l → TwoReady s₁ at other next
-  two-ready h = record { operands = operands-ready (x .ready) h .1; room = operation-room x (two j) e _ refl refl (h .frame) (h .near) }
+  two-ready h = record {
+    operands = operands-ready (p .0 .ready) h .1;
+    room = operation-room (p .0) (two (p .1 .0)) (p .1 .1) _ refl refl (h .frame) (h .near);
+  }
 
-  pub two-fails : {s₁ : List ℕ} {r : Refusal} {l : ℕ} → StopsBoth bs env s top n (left - 1) s₁ r l → EvaluatesE bs env s top n left s₁ (Stopped r l)
+  pub two-fails : {s₁ : List ℕ} {f : Formed} {r : Refusal} {l : ℕ} → f ≡ Stopped r l → StopsBoth bs env s top n (left - 1) s₁ r l →
+      EvaluatesE bs env s top n left s₁ f
   unfolding valueᵉ
-  two-fails h = stopped-by x (two j) e (h .frame) (λ i. visits x i _ (h .answer (after x i) _))
+  two-fails q h = rw q (stopped-by (p .0) (two (p .1 .0)) (p .1 .1) (h .frame) (λ i. visits (p .0) i _ (h .answer (after (p .0) i) _)))
 
   module _ {s₁ : List ℕ} {at mid other next l : ℕ} (h : EvaluatesBoth bs env s top n (left - 1) s₁ at mid other next l)
       {s₂ : List ℕ} {o : Outcome} (op : TwoOf k s₁ at other next s₂ o) where
     -- What the operation gives for the operands' values.
     given₂ : {y z : Run Value} {budget : ℕ} (v : BothAs y z budget (tableOf bs .sizes) s₁ at mid other next l) →
-        Gives s₂ mid next (twoGiven j (v .first) (v .second)) o
-    given₂ v = op j e .answer (tableOf bs .sizes) mid (v .first) (v .second) (sizes-small bs (x .ready .readable)) (h .order) (v .leftAt) (v .rightAt)
+        Gives s₂ mid next (twoGiven (p .1 .0) (v .first) (v .second)) o
+    given₂ v =
+        op (p .1 .0) (p .1 .1) .answer (tableOf bs .sizes) mid (v .first) (v .second) (sizes-small bs (p .0 .ready .readable))
+        (h .order) (v .leftAt) (v .rightAt)
 
     pub two-settles : SettleReady s₂ o mid next top
     two-settles =
-        let v = h .answer (some-asks n (left - 1) (x .ready)) in
+        let v = h .answer (some-asks n (left - 1) (p .0 .ready)) in
         record {
-          given = twoGiven j (v .first) (v .second);
+          given = twoGiven (p .1 .0) (v .first) (v .second);
           gives = given₂ v;
           low = h .low;
           high = h .high;
           order = h .order;
-          room = omega (arith, two-ready h .room, op j e .frame .kept);
+          room = omega (arith, two-ready h .room, op (p .1 .0) (p .1 .1) .frame .kept);
         }
 
     pub two-evaluates : {s₃ : List ℕ} {r : Formed} → Settles s₂ o mid next top n l s₃ r → EvaluatesE bs env s top n left s₃ r
     unfolding valueᵉ twoGiven
-    two-evaluates st = settles-by x (two j) e (two-fields .left) (h .frame) (omega (arith, h .low, h .order)) (op j e .frame) st (λ i.
-        let v = h .answer (after x i) in (
-          twoGiven j (v .first) (v .second),
-          visits x i _ (then-done _ (v .leftEnds) (then-done _ (v .rightEnds)
-              (fitted-ends n (twoRule j) (v .first ∷ v .second ∷ []) (twoValue j (v .first) (v .second)) _ (v .rightEnds .steps)))),
+    two-evaluates st = settles-by (p .0) (two (p .1 .0)) (p .1 .1) (two-fields .left) (h .frame) (omega (arith, h .low, h .order))
+        (op (p .1 .0) (p .1 .1) .frame) st (λ i. let v = h .answer (after (p .0) i) in (
+          twoGiven (p .1 .0) (v .first) (v .second),
+          visits (p .0) i _ (then-done _ (v .leftEnds) (then-done _ (v .rightEnds)
+              (fitted-ends n (twoRule (p .1 .0)) (v .first ∷ v .second ∷ []) (twoValue (p .1 .0) (v .first) (v .second)) _ (v .rightEnds .steps)))),
           given₂ v,
         ))
 
-  -- Both operands stand already, and there are visits for them.
-  module _ {at other : ℕ} (p : PlacedLeaf bs env (fieldA bs n) at) (q : PlacedLeaf bs env (fieldB bs n) other) (three : 3 ≤ left) where
-    first-stands : EvaluatesE bs env s top (fieldA bs n) (left - 1) s (Placed at top (left - 2))
-    first-stands = placed-answer (left-ready (x .ready) two-fields refl .0) p (omega arith) (omega arith)
-
-    standing-both : EvaluatesBoth bs env s top n (left - 1) s at top other top (left - 3)
-    standing-both =
-        let r = right-ready (x .ready) two-fields refl first-stands refl refl .0 in
-        both-formed (x .ready) two-fields refl first-stands refl refl (placed-answer r q (omega arith) (omega arith)) refl
-
-    -- The first is marked, so it is an identifier's value and known to be a function.
-    known-first : FunctionLeaf bs env (fieldA bs n) → KnownFunction s at true
-    known-first m =
-        let b = x .ready .binds in
-        let lt = name-below bs (x .ready .readable) (fieldA bs n) (omega (arith, two-fields .left .below, x .ready .node)) (m .is) in
-        let y = fieldA bs (fieldA bs n) in
-        rw (standing-name-place p (m .is)) (function-known (sizes-small bs (x .ready .readable)) (b .at y lt) (λ _. b .functions y lt (m .marked)))
-
--- 37, 39 and 40, where the operands stand already.
+-- 37, 39 and 40, where the operands stand already, and there are visits for them.
 module _ {bs env s : List ℕ} {top k n left : ℕ} (x : Visited bs env s top k n left) {r : Places} (z : StandingTwo bs env k n left r) where
-  abbrev both : EvaluatesBoth bs env s top n (left - 1) s (r .first) top (r .second) top (left - 3)
-  both = let y = light-two (z .light) in standing-both x (y .0) (y .1) (z .first) (z .second) (z .visits)
+  abbrev at-two : Visited bs env s top k n left × Sort two k
+  at-two = (x, light-two (z .light))
+
+  first-stands : EvaluatesE bs env s top (fieldA bs n) (left - 1) s (Placed (r .first) top (left - 2))
+  first-stands = placed-answer (left-ready (x .ready) (two-fields at-two) refl .0) (z .first) (omega (arith, z .visits)) (omega arith)
+
+  both : EvaluatesBoth bs env s top n (left - 1) s (r .first) top (r .second) top (left - 3)
+  both =
+      let q = right-ready (x .ready) (two-fields at-two) refl first-stands refl refl .0 in
+      both-formed (x .ready) (two-fields at-two) refl first-stands refl refl (placed-answer q (z .second) (omega (arith, z .visits)) (omega arith)) refl
+
+  -- The first is marked, so it is an identifier's value and known to be a function.
+  known-first : FunctionLeaf bs env (fieldA bs n) → KnownFunction s (r .first) true
+  known-first m =
+      let b = x .ready .binds in
+      let lt = name-below bs (x .ready .readable) (fieldA bs n) (omega (arith, two-fields at-two .left .below, x .ready .node)) (m .is) in
+      let y = fieldA bs (fieldA bs n) in
+      rw (standing-name-place (z .first) (m .is)) (function-known (sizes-small bs (x .ready .readable)) (b .at y lt) (λ _. b .functions y lt (m .marked)))
 
   pub light-asks : SomeOperands s (r .first) (r .second) × KnownFunction s (r .first) (r .known) × IsLight k
-  light-asks =
-      let y = light-two (z .light) in
-      (operands-ready (x .ready) both, λ e. known-first x (y .0) (y .1) (z .first) (z .second) (z .visits) (z .known e) refl, z .light)
+  light-asks = (operands-ready (x .ready) both, λ e. known-first (z .known e) refl, z .light)
 
   module _ {o : Outcome} (op : LightOf k s (r .first) (r .second) o) where
     pub light-settles : SettleReady s o top top top
-    light-settles = let y = light-two (z .light) in two-settles x (y .0) (y .1) both (op top)
+    light-settles = two-settles at-two both (op top)
 
     pub light-evaluates : {s′ : List ℕ} {f : Formed} → Settles s o top top top n (left - 3) s′ f → EvaluatesE bs env s top n left s′ f
-    light-evaluates = let y = light-two (z .light) in two-evaluates x (y .0) (y .1) both (op top)
+    light-evaluates = two-evaluates at-two both (op top)
 
 -- 25: the condition's node is `m`.
 pub byte-small : (b : Bool) → boolByte b ≤ 1

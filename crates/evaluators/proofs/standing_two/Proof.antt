@@ -36,7 +36,7 @@ light : (c : tie.Else2) → IsLight (lent (enough c) .args .kind)
 light c = c .before .is-light .ensures (not-false _ (c .if2 .left))
 
 fields : (c : tie.Else2) → let v = lent (enough c) in TwoFields (now (v .args .table)) (v .args .node)
-fields c = let y = light-two (light c) in two-fields (lent (enough c) .pre .2) (y .0) (y .1)
+fields c = two-fields (lent (enough c) .pre .2, light-two (light c))
 
 -- The same under equal names.
 placed-as : {bs env : List ℕ} {n m at : ℕ} → n ≡ m → PlacedLeaf bs env n at → PlacedLeaf bs env m at
