@@ -1,6 +1,6 @@
 -- What the evaluators of expressions with operands give, kinds 25, 27 to 41 and 43: the operands' answers, and with them the node's.
-use Rattle.evaluators.proofs.Terms.{ℕ, _+_, _-_, _*_, _≤_, _<_, Bool, true, false, List, [], _∷_, some, _≡_, refl, arith, boolByte}
-use Rattle.evaluators.proofs.Terms.{Value, weight, boolOf, one, two, comprehension, predicate, expression, kindOf, tableOf, Run, gives, valueᵉ, code, same-trans, Gives, SomeOperands, Outcome, kind-of, Builds, Refusal, Truth, Refused, Formed, Placed, Stopped, Set, Unlike, PlacedAs, SelectedAs, SettleReady, fieldA, fieldB, RangeAt, Visited, Sort, Asks, EvaluatesP, EvaluatesE, EachReady, EvaluatesChosen, Settles, truthValue, One, setOf, oneValue, twoValue, oneGiven, twoGiven, OneReady, OneOf, TwoReady, TwoOf, LightOf, KnownFunction, FunctionLeaf}
+use Rattle.evaluators.proofs.Terms.{ℕ, _+_, _-_, _*_, _≤_, _<_, Bool, true, false, List, [], _∷_, _≡_, refl, arith, boolByte}
+use Rattle.evaluators.proofs.Terms.{Value, weight, boolOf, one, two, comprehension, predicate, expression, tableOf, Run, gives, valueᵉ, code, same-trans, Gives, SomeOperands, Outcome, kind-of, Builds, Refusal, Truth, Refused, Formed, Placed, Stopped, Set, Unlike, PlacedAs, SelectedAs, SettleReady, fieldA, fieldB, RangeAt, Visited, Sort, Asks, EvaluatesP, EvaluatesE, EachReady, EvaluatesChosen, Settles, truthValue, One, setOf, oneValue, twoValue, oneGiven, twoGiven, OneReady, OneOf, TwoReady, TwoOf, LightOf, KnownFunction, FunctionLeaf}
 use Rattle.rules.specs.Rules.{oneRule, twoRule}
 use Rattle.products.specs.Growing.{PutsCell}
 use Rattle.operations.specs.Outcomes.{IsLight}
@@ -14,7 +14,7 @@ use Rattle.evaluators.proofs.NodeLaws.{some-asks, visits, after, valueI
 use Rattle.evaluators.proofs.BodyLaws.{some-asked}
 use Rattle.evaluators.proofs.DispatchLaws.{name-below, placed-answer, light-two, standing-name-place}
 use Rattle.evaluators.proofs.BothLaws.{operands-ready, BothAs, StopsBoth, EvaluatesBoth, left-ready, right-ready, both-formed}
-use Rattle.evaluators.proofs.RangeLaws.{Binder, range-child, range-stops, range-unlike, each-ready, in-range, range-on}
+use Rattle.evaluators.proofs.RangeLaws.{Binder, Ranged, range-child, range-stops, range-unlike, each-ready, in-range, range-on}
 
 -- 27, 33, 35, 36, 38 and 43: the operand's node is `m`.
 module _ {bs env s : List ℕ} {top k n m left : ℕ} (p : Visited bs env s top k n left × Sort one k) (w : m ≡ fieldA bs n) where
@@ -196,33 +196,36 @@ pub chosen-as : {bs env s : List ℕ} {top n from count left : ℕ} {s′ : List
 chosen-as q h = rw q at h
 
 -- 34: the range's node is `m`.
-module _ {bs env s : List ℕ} {top n m left : ℕ} (x : Visited bs env s top 34 n left) (w : m ≡ fieldB bs n) where
-  select-code : kindOf 34 ≡ some comprehension
-  select-code = kind-of 34 comprehension refl
+pub select-binder : {bs env s : List ℕ} {top n m left : ℕ} → Visited bs env s top 34 n left → m ≡ fieldB bs n → Binder bs env s top 34 n left m comprehension
+select-binder x w = record { visited = x; code = kind-of 34 comprehension refl; fields = refl; word = w }
 
-  pub select-binder : Binder bs env s top 34 n left m comprehension
-  select-binder = record { visited = x; code = select-code; fields = refl; word = w }
-
-  pub select-fails : {s₁ : List ℕ} {r : Refusal} {l : ℕ} → EvaluatesE bs env s top m (left - 1) s₁ (Stopped r l) →
-      EvaluatesE bs env s top n left s₁ (Stopped r l)
+module _ {bs env s : List ℕ} {top k n m left : ℕ} where
+  pub select-fails : Binder bs env s top k n left m comprehension → {s₁ : List ℕ} {f : Formed} {r : Refusal} {l : ℕ} →
+      EvaluatesE bs env s top m (left - 1) s₁ f → f ≡ Stopped r l → EvaluatesE bs env s top n left s₁ f
   unfolding valueᵉ
-  select-fails h = stopped-by x comprehension select-code (h .frame) (λ i. range-stops select-binder i _ h)
+  select-fails b h q = rw q (stopped-by (b .visited) comprehension (b .code) (h .frame) (λ i. range-stops b i _ (rw q at h)))
 
-  module _ {s₁ : List ℕ} {at next l : ℕ} (h : EvaluatesE bs env s top m (left - 1) s₁ (Placed at next l)) where
+  module _ {s₁ : List ℕ} {at next l : ℕ} (g : Ranged bs env s top k n left m comprehension s₁ at next l) where
+    abbrev b : Binder bs env s top k n left m comprehension
+    b = g .binder
+
+    abbrev h : EvaluatesE bs env s top m (left - 1) s₁ (Placed at next l)
+    h = g .placed
+
     pub select-unlike : RangeAt s₁ at Unlike → EvaluatesE bs env s top n left s₁ (Stopped (record { number = 15; place = n }) l)
     unfolding valueᵉ
-    select-unlike y = stopped-by x comprehension select-code (h .frame) (λ i. range-unlike select-binder h y i _)
+    select-unlike y = stopped-by (b .visited) comprehension (b .code) (h .frame) (λ i. range-unlike b h y i _)
 
     module _ {count : ℕ} (y : RangeAt s₁ at (Set count)) where
       pub select-asks : {t : ℕ} → 5 * n + 1 ≡ t → (5 * n < t) × EachReady bs env s₁ next n (at + 1) count 256
-      select-asks e = (omega arith, each-ready select-binder h y 256 (omega arith) (λ _. refl))
+      select-asks e = (omega arith, each-ready b h y 256 (omega arith) (λ _. refl))
 
-      pub chosen-fails : {s₂ : List ℕ} {r : Refusal} {u : ℕ} → EvaluatesChosen bs env s₁ next n (at + 1) count l s₂ (Stopped r u) →
-          EvaluatesE bs env s top n left s₂ (Stopped r u)
+      pub chosen-fails : {s₂ : List ℕ} {f : Formed} {r : Refusal} {u : ℕ} → EvaluatesChosen bs env s₁ next n (at + 1) count l s₂ f → f ≡ Stopped r u →
+          EvaluatesE bs env s top n left s₂ f
       unfolding valueᵉ
-      chosen-fails {s₂} ch =
-          stopped-by x comprehension select-code (same-trans top next s s₁ s₂ (h .frame) (ch .frame) (h .bounds .0)) (λ i.
-          range-on select-binder h y i _ (then-refused _ (ch .answer (in-range select-binder h y i))))
+      chosen-fails {s₂} ch q =
+          rw q (stopped-by (b .visited) comprehension (b .code) (same-trans top next s s₁ s₂ (h .frame) (ch .frame) (h .bounds .0)) (λ i.
+          range-on b h y i _ (then-refused _ (chosen-as q ch .answer (in-range b h y i)))))
 
       module _ {s₂ : List ℕ} {to end u : ℕ} (ch : EvaluatesChosen bs env s₁ next n (at + 1) count l s₂ (Placed to end u)) where
         -- The set has been built at `next`.
@@ -235,22 +238,22 @@ module _ {bs env s : List ℕ} {top n m left : ℕ} (x : Visited bs env s top 34
         pub select-settles : SettleReady s₂ (Built end) next next top
         select-settles =
             let z = ch .answer (some-asked l (select-asks refl .1)) in
-            let d = range-child select-binder in
+            let d = range-child b in
             record {
               given = gives (setOf (z .chosen));
               gives = given z;
               low = h .bounds .0;
               high = h .bounds .1;
               order = omega arith;
-              room = operation-room x comprehension select-code next refl refl (same-trans top next s s₁ s₂ (h .frame) (ch .frame) (h .bounds .0))
+              room = operation-room (b .visited) comprehension (b .code) next refl refl (same-trans top next s s₁ s₂ (h .frame) (ch .frame) (h .bounds .0))
                   (omega (arith, d .lower, d .tall, h .bounds));
             }
 
         pub select-evaluates : {s₃ : List ℕ} {r : Formed} → Settles s₂ (Built end) next next top n u s₃ r → EvaluatesE bs env s top n left s₃ r
         unfolding valueᵉ
-        select-evaluates st = settles-by x comprehension select-code (range-child select-binder) (h .frame) (h .bounds .0) (ch .frame) st (λ i.
-            let z = ch .answer (in-range select-binder h y i) in (
+        select-evaluates st = settles-by (b .visited) comprehension (b .code) (range-child b) (h .frame) (h .bounds .0) (ch .frame) st (λ i.
+            let z = ch .answer (in-range b h y i) in (
               gives (setOf (z .chosen)),
-              range-on select-binder h y i _ (then-done _ (z .ends) (light-form n (setOf (z .chosen)) _ (light z) (z .ends .steps))),
+              range-on b h y i _ (then-done _ (z .ends) (light-form n (setOf (z .chosen)) _ (light z) (z .ends .steps))),
               given z,
             ))

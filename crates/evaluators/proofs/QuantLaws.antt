@@ -1,13 +1,13 @@
 -- The loop over the members of a quantifier's range, turn by turn, and the quantifier's node: what is given for the rest of the range is
 -- given for the whole.
 use Rattle.evaluators.proofs.Terms.{ℕ, _+_, _-_, _*_, _<_, Bool, true, false, not, Bool·beq, List, [], _∷_, some, _≡_, refl, sym, ap, _∙_, arith, eqb, setAt, Quant, quantify, quantOf, EvaluatesEach}
-use Rattle.evaluators.proofs.Terms.{Value, members, forAll, forSome, quant, kindOf, End, done, refused, Run, M, tableOf, holdsᵖ, SomeAt, EndsAt, same-refl, same-trans, code-of, Refusal, Held, Truth, Refused, Formed, Placed, Stopped, Set, Unlike, EndsWith, HeldAs, fieldA, fieldB, fieldC, IsPred, RangeAt, NodeReady, Visited, Sort, AsksEach, bodyOf, EachReady, EvaluatesP, EvaluatesE}
+use Rattle.evaluators.proofs.Terms.{Value, members, forAll, forSome, quant, kindOf, End, done, refused, Run, M, tableOf, holdsᵖ, SomeAt, EndsAt, same-refl, same-trans, code-of, Refusal, RefusalOf, Held, Truth, Refused, Formed, Stopped, Set, Unlike, EndsWith, HeldAs, fieldA, fieldB, fieldC, IsPred, RangeAt, NodeReady, Visited, Sort, AsksEach, bodyOf, EachReady, EvaluatesP, EvaluatesE}
 use native.Mathlib.Nat.{le-refl}
 use Rattle.operations.proofs.KindLaws.{quantCode}
 use Rattle.evaluators.proofs.RunLaws.{then-done, then-refused, returns}
-use Rattle.evaluators.proofs.NodeLaws.{formed-as, held-by}
+use Rattle.evaluators.proofs.NodeLaws.{held-as, formed-as, refusal-is, held-by}
 use Rattle.evaluators.proofs.BodyLaws.{First, none-left, Loop, loop-start, member, member-at, loop-next, body-asks, body-ends, body-frame}
-use Rattle.evaluators.proofs.RangeLaws.{Binder, range-stops, range-unlike, each-ready, in-range, range-on}
+use Rattle.evaluators.proofs.RangeLaws.{Binder, Ranged, range-stops, range-unlike, each-ready, in-range, range-on}
 
 -- Two truths differ, or are the same.
 pub differ : (a b : Bool) → not (Bool·beq a b) ≡ true → a ≡ not b
@@ -129,30 +129,33 @@ held-on (Truth b l) g h = g (done b) l h
 held-on (Refused r l) g h = g (refused (r .number) (r .place)) l h
 
 -- The evaluation of a quantifier's node, whose range is the node `a`.
-module _ {bs env s : List ℕ} {top k n left : ℕ} (d : Visited bs env s top k n left × Sort quant k) {a : ℕ} (ea : a ≡ fieldB bs n) where
-  pub quant-binder : Binder bs env s top k n left a (quant (d .1 .0))
-  quant-binder = record { visited = d .0; code = d .1 .1; fields = refl; word = ea }
+pub quant-binder : {bs env s : List ℕ} {top k n left a : ℕ} (d : Visited bs env s top k n left × Sort quant k) → a ≡ fieldB bs n →
+    Binder bs env s top k n left a (quant (d .1 .0))
+quant-binder d e = record { visited = d .0; code = d .1 .1; fields = refl; word = e }
 
+module _ {bs env s : List ℕ} {top k n left a : ℕ} {j : Quant} where
   -- The range is refused.
-  pub quant-refused : {s′ : List ℕ} {r : Formed} {p : Refusal} {l : ℕ} → EvaluatesE bs env s top a (left - 1) s′ r → r ≡ Stopped p l →
-      EvaluatesP bs env s top n left s′ (Refused p l)
+  pub quant-refused : Binder bs env s top k n left a (quant j) → {s′ : List ℕ} {r : Formed} {o : Held} {p : Refusal} {l : ℕ} →
+      EvaluatesE bs env s top a (left - 1) s′ r → r ≡ Stopped p l → RefusalOf r o → EvaluatesP bs env s top n left s′ o
   unfolding holdsᵖ
-  quant-refused h e = held-by (d .0) (quant (d .1 .0)) (d .1 .1) (h .frame) (λ i. range-stops quant-binder i _ (formed-as refl e h))
+  quant-refused b h e q =
+      held-as refl (refusal-is e q) (held-by (b .visited) (quant j) (b .code) (h .frame) (λ i. range-stops b i _ (formed-as refl e h)))
 
-  module _ {s′ : List ℕ} {at next l : ℕ} (h : EvaluatesE bs env s top a (left - 1) s′ (Placed at next l)) where
+  module _ {s′ : List ℕ} {at next l : ℕ} (g : Ranged bs env s top k n left a (quant j) s′ at next l) where
     -- The range is no set.
     pub quant-unlike : RangeAt s′ at Unlike → EvaluatesP bs env s top n left s′ (Refused (record { number = 15; place = n }) l)
     unfolding holdsᵖ
-    quant-unlike g = held-by (d .0) (quant (d .1 .0)) (d .1 .1) (h .frame) (λ i. range-unlike quant-binder h g i _)
+    quant-unlike y = held-by (g .binder .visited) (quant j) (g .binder .code) (g .placed .frame) (λ i. range-unlike (g .binder) (g .placed) y i _)
 
-    module _ {m : ℕ} (g : RangeAt s′ at (Set m)) where
+    module _ {m : ℕ} (y : RangeAt s′ at (Set m)) where
       pub quant-asks : {t : ℕ} → 5 * n + 1 ≡ t → (5 * n < t) × EachReady bs env s′ next n (at + 1) m 0
-      quant-asks e = (omega arith, each-ready quant-binder h g 0 (omega arith) (λ z. absurd (omega arith)))
+      quant-asks e = (omega arith, each-ready (g .binder) (g .placed) y 0 (omega arith) (λ z. absurd (omega arith)))
 
       pub quant-done : {s″ : List ℕ} {r′ : Held} → EvaluatesEach bs env s′ next n (at + 1) m l (quantOf (eqb k 10)) s″ r′ →
           EvaluatesP bs env s top n left s″ r′
       unfolding holdsᵖ
       quant-done {s″} {r′} u =
-          held-by (d .0) (quant (d .1 .0)) (d .1 .1) (same-trans top next s s′ s″ (h .frame) (u .frame) (h .bounds .0)) (λ i.
-          held-on r′ (λ x v z. range-on quant-binder h g i _ z)
-          (rw (quant-of k (d .1 .0) (d .1 .1)) at (u .answer (in-range quant-binder h g i))))
+          let b = g .binder in
+          let h = g .placed in
+          held-by (b .visited) (quant j) (b .code) (same-trans top next s s′ s″ (h .frame) (u .frame) (h .bounds .0)) (λ i.
+          held-on r′ (λ x v z. range-on b h y i _ z) (rw (quant-of k j (b .code)) at (u .answer (in-range b h y i))))

@@ -50,6 +50,11 @@ pub record Binder (bs env s : List ℕ) (top k n left a : ℕ) (x : Kind) : Type
   pub fields : fieldsOf x ≡ binderFields
   pub word : a ≡ fieldB bs n
 
+-- Its range has been evaluated, and stands at `at`.
+pub record Ranged (bs env s : List ℕ) (top k n left a : ℕ) (x : Kind) (s₁ : List ℕ) (at next l : ℕ) : Type 0 where
+  pub binder : Binder bs env s top k n left a x
+  pub placed : EvaluatesE bs env s top a (left - 1) s₁ (Placed at next l)
+
 module _ {bs env s : List ℕ} {top k n left a : ℕ} {x : Kind} (b : Binder bs env s top k n left a x) where
   abbrev r : NodeReady bs env s top n
   r = b .visited .ready

@@ -27,9 +27,9 @@ use Rattle.evaluators.proofs.eval_join.Kinds as kind
 use Rattle.evaluators.proofs.eval_expr.Kinds as formed
 pub use denote.Ref.{now}
 pub use Rattle.evaluators.proofs.SafeLaws.{ready-node, one-less, binder-node, entry-below, entry-scaled}
-pub use Rattle.evaluators.proofs.NodeLaws.{child-asks, held-as, formed-as, refusal-is, stop-is}
+pub use Rattle.evaluators.proofs.NodeLaws.{child-asks, held-as, formed-as, stop-is}
 pub use Rattle.evaluators.proofs.BodyLaws.{member-low}
-pub use Rattle.evaluators.proofs.RangeLaws.{range-as, range-child, range-good, range-low}
+pub use Rattle.evaluators.proofs.RangeLaws.{Ranged, range-as, range-child, range-good, range-low}
 pub use Rattle.evaluators.proofs.DispatchLaws.{counted}
 
 -- By the shape of the arguments; k is what is left to do at the node.
