@@ -1,6 +1,6 @@
 -- What the evaluators of expressions with operands give, kinds 25, 27 to 41 and 43: the operands' answers, and with them the node's.
 use Rattle.evaluators.proofs.Terms.{ℕ, _+_, _-_, _*_, _≤_, _<_, Bool, true, false, List, [], _∷_, _≡_, refl, arith, boolByte}
-use Rattle.evaluators.proofs.Terms.{Value, weight, boolOf, one, two, comprehension, predicate, expression, tableOf, Run, gives, valueᵉ, code, same-trans, Gives, SomeOperands, Outcome, kind-of, Builds, Refusal, Truth, Refused, Formed, Placed, Stopped, Set, Unlike, PlacedAs, SelectedAs, SettleReady, fieldA, fieldB, RangeAt, Visited, Sort, Asks, EvaluatesP, EvaluatesE, EachReady, EvaluatesChosen, Settles, truthValue, One, setOf, oneValue, twoValue, oneGiven, twoGiven, OneReady, OneOf, TwoReady, TwoOf, LightOf, KnownFunction, FunctionLeaf}
+use Rattle.evaluators.proofs.Terms.{weight, boolOf, one, two, comprehension, predicate, expression, tableOf, gives, valueᵉ, code, same-trans, SomeOperands, Outcome, kind-of, Builds, Refusal, Truth, Refused, Formed, Placed, Stopped, Set, Unlike, PlacedAs, fieldA, fieldB, RangeAt, Visited, Sort, Asks, EvaluatesP, EvaluatesE, EachReady, EvaluatesChosen, truthValue, One, setOf, oneValue, twoValue, oneGiven, twoGiven, OneReady, OneOf, TwoReady, TwoOf, LightOf, KnownFunction, FunctionLeaf}
 use Rattle.rules.specs.Rules.{oneRule, twoRule}
 use Rattle.products.specs.Growing.{PutsCell}
 use Rattle.operations.specs.Outcomes.{IsLight}
@@ -10,10 +10,9 @@ use Rattle.evaluators.specs.declared.Places.{Places}
 use Rattle.evaluators.specs.Cycle.{StandingTwo}
 use Rattle.evaluators.proofs.RunLaws.{then-done, then-refused, light-form, fitted-ends}
 use Rattle.evaluators.proofs.NodeLaws.{Child, TwoFields, sizes-small, visited-builds, operation-room, visited-child, visited-operands}
-use Rattle.evaluators.proofs.NodeLaws.{some-asks, visits, after, valueIn, held-below, formed-below, stopped-by, settled-by, settles-by}
-use Rattle.evaluators.proofs.BodyLaws.{some-asked}
+use Rattle.evaluators.proofs.NodeLaws.{some-asks, visits, after, valueIn, held-below, formed-below, stopped-by, settled-by, Operated}
 use Rattle.evaluators.proofs.DispatchLaws.{name-below, placed-answer, light-two, standing-name-place}
-use Rattle.evaluators.proofs.BothLaws.{operands-ready, BothAs, StopsBoth, EvaluatesBoth, left-ready, right-ready, both-formed}
+use Rattle.evaluators.proofs.BothLaws.{operands-ready, StopsBoth, EvaluatesBoth, left-ready, right-ready, both-formed}
 use Rattle.evaluators.proofs.RangeLaws.{Binder, Ranged, range-child, range-stops, range-unlike, each-ready, in-range, range-on}
 
 -- 27, 33, 35, 36, 38 and 43: the operand's node is `m`.
@@ -48,30 +47,23 @@ module _ {bs env s : List ℕ} {top k n m left : ℕ} (p : Visited bs env s top 
           room = operation-room x (one j) (p .1 .1) next refl refl (h .frame) (omega (arith, one-child .lower, one-child .tall, h .bounds));
         }
 
-    module _ {s₂ : List ℕ} {o : Outcome} (op : OneOf k s₁ at next s₂ o) where
-      -- What the operation gives for the operand's value.
-      given₁ : {y : Run Value} {budget : ℕ} (v : PlacedAs y budget (tableOf bs .sizes) s₁ at next l) → Gives s₂ next next (oneGiven j (v .value)) o
-      given₁ v = op j (p .1 .1) .answer (tableOf bs .sizes) (v .value) (sizes-small bs (x .ready .readable)) (v .place)
-
-      pub one-settles : SettleReady s₂ o next next top
-      one-settles =
-          let v = operand-at (some-asks n (left - 1) (x .ready)) in
-          record {
-            given = oneGiven j (v .value);
-            gives = given₁ v;
-            low = h .bounds .0;
-            high = h .bounds .1;
-            order = omega arith;
-            room = omega (arith, one-ready .room, op j (p .1 .1) .frame .kept);
-          }
-
-      pub one-evaluates : {s₃ : List ℕ} {r : Formed} → Settles s₂ o next next top n l s₃ r → EvaluatesE bs env s top n left s₃ r
-      unfolding valueᵉ oneGiven
-      one-evaluates st = settles-by x (one j) (p .1 .1) one-child (h .frame) (h .bounds .0) (op j (p .1 .1) .frame) st (λ i. let v = operand-at (after x i) in (
+    pub one-operated : {s₂ : List ℕ} {o : Outcome} → OneOf k s₁ at next s₂ o → Operated bs env s top k n left (one j) s₂ o next next l
+    unfolding valueᵉ oneGiven
+    one-operated {s₂} op = record {
+      visited = x;
+      code = p .1 .1;
+      tall = omega (arith, one-child .lower, one-child .tall);
+      frame = same-trans top next s s₁ s₂ (h .frame) (op j (p .1 .1) .frame) (h .bounds .0);
+      low = h .bounds .0;
+      high = h .bounds .1;
+      order = omega arith;
+      room = omega (arith, one-ready .room, op j (p .1 .1) .frame .kept);
+      gives = λ i. let v = operand-at (after x i) in (
         oneGiven j (v .value),
         visits x i _ (then-done _ (v .ends) (fitted-ends n (oneRule j) (v .value ∷ []) (oneValue j (v .value)) _ (v .ends .steps))),
-        given₁ v,
-      ))
+        op j (p .1 .1) .answer (tableOf bs .sizes) (v .value) (sizes-small bs (x .ready .readable)) (v .place),
+      );
+    }
 
 -- 28 to 32, 37 and 39 to 41: the node's operands have been evaluated.
 module _ {bs env s : List ℕ} {top k n left : ℕ} (p : Visited bs env s top k n left × Sort two k) where
@@ -90,36 +82,29 @@ module _ {bs env s : List ℕ} {top k n left : ℕ} (p : Visited bs env s top k 
   unfolding valueᵉ
   two-fails q h = rw q (stopped-by (p .0) (two (p .1 .0)) (p .1 .1) (h .frame) (λ i. visits (p .0) i _ (h .answer (after (p .0) i) _)))
 
-  module _ {s₁ : List ℕ} {at mid other next l : ℕ} (h : EvaluatesBoth bs env s top n (left - 1) s₁ at mid other next l)
-      {s₂ : List ℕ} {o : Outcome} (op : TwoOf k s₁ at other next s₂ o) where
-    -- What the operation gives for the operands' values.
-    given₂ : {y z : Run Value} {budget : ℕ} (v : BothAs y z budget (tableOf bs .sizes) s₁ at mid other next l) →
-        Gives s₂ mid next (twoGiven (p .1 .0) (v .first) (v .second)) o
-    given₂ v =
-        op (p .1 .0) (p .1 .1) .answer (tableOf bs .sizes) mid (v .first) (v .second) (sizes-small bs (p .0 .ready .readable))
-        (h .order) (v .leftAt) (v .rightAt)
-
-    pub two-settles : SettleReady s₂ o mid next top
-    two-settles =
-        let v = h .answer (some-asks n (left - 1) (p .0 .ready)) in
-        record {
-          given = twoGiven (p .1 .0) (v .first) (v .second);
-          gives = given₂ v;
-          low = h .low;
-          high = h .high;
-          order = h .order;
-          room = omega (arith, two-ready h .room, op (p .1 .0) (p .1 .1) .frame .kept);
-        }
-
-    pub two-evaluates : {s₃ : List ℕ} {r : Formed} → Settles s₂ o mid next top n l s₃ r → EvaluatesE bs env s top n left s₃ r
-    unfolding valueᵉ twoGiven
-    two-evaluates st = settles-by (p .0) (two (p .1 .0)) (p .1 .1) (two-fields .left) (h .frame) (omega (arith, h .low, h .order))
-        (op (p .1 .0) (p .1 .1) .frame) st (λ i. let v = h .answer (after (p .0) i) in (
-          twoGiven (p .1 .0) (v .first) (v .second),
-          visits (p .0) i _ (then-done _ (v .leftEnds) (then-done _ (v .rightEnds)
-              (fitted-ends n (twoRule (p .1 .0)) (v .first ∷ v .second ∷ []) (twoValue (p .1 .0) (v .first) (v .second)) _ (v .rightEnds .steps)))),
-          given₂ v,
-        ))
+  pub two-operated : {s₁ : List ℕ} {at mid other next l : ℕ} {s₂ : List ℕ} {o : Outcome} → EvaluatesBoth bs env s top n (left - 1) s₁ at mid other next l →
+      TwoOf k s₁ at other next s₂ o → Operated bs env s top k n left (two (p .1 .0)) s₂ o mid next l
+  unfolding valueᵉ twoGiven
+  two-operated {s₁} {mid = mid} {next = next} {s₂ = s₂} h op =
+      let x = p .0 in
+      let j = p .1 .0 in
+      let done = op j (p .1 .1) in
+      record {
+        visited = x;
+        code = p .1 .1;
+        tall = omega (arith, two-fields .left .lower, two-fields .left .tall);
+        frame = same-trans top next s s₁ s₂ (h .frame) (done .frame) (omega (arith, h .low, h .order));
+        low = h .low;
+        high = h .high;
+        order = h .order;
+        room = omega (arith, two-ready h .room, done .frame .kept);
+        gives = λ i. let v = h .answer (after x i) in (
+          twoGiven j (v .first) (v .second),
+          visits x i _ (then-done _ (v .leftEnds) (then-done _ (v .rightEnds)
+              (fitted-ends n (twoRule j) (v .first ∷ v .second ∷ []) (twoValue j (v .first) (v .second)) _ (v .rightEnds .steps)))),
+          done .answer (tableOf bs .sizes) mid (v .first) (v .second) (sizes-small bs (x .ready .readable)) (h .order) (v .leftAt) (v .rightAt),
+        );
+      }
 
 -- 37, 39 and 40, where the operands stand already, and there are visits for them.
 module _ {bs env s : List ℕ} {top k n left : ℕ} (x : Visited bs env s top k n left) {r : Places} (z : StandingTwo bs env k n left r) where
@@ -145,12 +130,8 @@ module _ {bs env s : List ℕ} {top k n left : ℕ} (x : Visited bs env s top k 
   pub light-asks : SomeOperands s (r .first) (r .second) × KnownFunction s (r .first) (r .known) × IsLight k
   light-asks = (operands-ready (x .ready) both, λ e. known-first (z .known e) refl, z .light)
 
-  module _ {o : Outcome} (op : LightOf k s (r .first) (r .second) o) where
-    pub light-settles : SettleReady s o top top top
-    light-settles = two-settles at-two both (op top)
-
-    pub light-evaluates : {s′ : List ℕ} {f : Formed} → Settles s o top top top n (left - 3) s′ f → EvaluatesE bs env s top n left s′ f
-    light-evaluates = two-evaluates at-two both (op top)
+  pub light-operated : {o : Outcome} → LightOf k s (r .first) (r .second) o → Operated bs env s top k n left (two (at-two .1 .0)) s o top top (left - 3)
+  light-operated op = two-operated at-two both (op top)
 
 -- 25: the condition's node is `m`.
 pub byte-small : (b : Bool) → boolByte b ≤ 1
@@ -227,33 +208,29 @@ module _ {bs env s : List ℕ} {top k n m left : ℕ} where
           rw q (stopped-by (b .visited) comprehension (b .code) (same-trans top next s s₁ s₂ (h .frame) (ch .frame) (h .bounds .0)) (λ i.
           range-on b h y i _ (then-refused _ (chosen-as q ch .answer (in-range b h y i)))))
 
-      module _ {s₂ : List ℕ} {to end u : ℕ} (ch : EvaluatesChosen bs env s₁ next n (at + 1) count l s₂ (Placed to end u)) where
-        -- The set has been built at `next`.
-        light : {y : Run (List Value)} {budget : ℕ} (z : SelectedAs y budget s₂ next end u) → weight (setOf (z .chosen)) ≤ 256
-        light z = omega (arith, z .ending, ch .bounds .1)
-
-        given : {y : Run (List Value)} {budget : ℕ} (z : SelectedAs y budget s₂ next end u) → Gives s₂ next next (gives (setOf (z .chosen))) (Built end)
-        given z = record { value = setOf (z .chosen); is = refl; stands = z .stands; ends = z .ending; light = light z }
-
-        pub select-settles : SettleReady s₂ (Built end) next next top
-        select-settles =
-            let z = ch .answer (some-asked l (select-asks refl .1)) in
-            let d = range-child b in
-            record {
-              given = gives (setOf (z .chosen));
-              gives = given z;
-              low = h .bounds .0;
-              high = h .bounds .1;
-              order = omega arith;
-              room = operation-room (b .visited) comprehension (b .code) next refl refl (same-trans top next s s₁ s₂ (h .frame) (ch .frame) (h .bounds .0))
-                  (omega (arith, d .lower, d .tall, h .bounds));
-            }
-
-        pub select-evaluates : {s₃ : List ℕ} {r : Formed} → Settles s₂ (Built end) next next top n u s₃ r → EvaluatesE bs env s top n left s₃ r
-        unfolding valueᵉ
-        select-evaluates st = settles-by (b .visited) comprehension (b .code) (range-child b) (h .frame) (h .bounds .0) (ch .frame) st (λ i.
-            let z = ch .answer (in-range b h y i) in (
-              gives (setOf (z .chosen)),
-              range-on b h y i _ (then-done _ (z .ends) (light-form n (setOf (z .chosen)) _ (light z) (z .ends .steps))),
-              given z,
-            ))
+      -- The set has been built at `next`.
+      pub select-operated : {s₂ : List ℕ} {f : Formed} {to end u : ℕ} → EvaluatesChosen bs env s₁ next n (at + 1) count l s₂ f → f ≡ Placed to end u →
+          Operated bs env s top k n left comprehension s₂ (Built end) next next u
+      unfolding valueᵉ
+      select-operated {s₂} c q =
+          let ch = chosen-as q c in
+          let d = range-child b in
+          let same = same-trans top next s s₁ s₂ (h .frame) (ch .frame) (h .bounds .0) in
+          record {
+            visited = b .visited;
+            code = b .code;
+            tall = omega (arith, d .lower, d .tall);
+            frame = same;
+            low = h .bounds .0;
+            high = h .bounds .1;
+            order = omega arith;
+            room = operation-room (b .visited) comprehension (b .code) next refl refl same (omega (arith, d .lower, d .tall, h .bounds));
+            gives = λ i.
+                let z = ch .answer (in-range b h y i) in
+                let v = setOf (z .chosen) in
+                let light : weight v ≤ 256 = omega (arith, z .ending, ch .bounds .1) in (
+                  gives v,
+                  range-on b h y i _ (then-done _ (z .ends) (light-form n v _ light (z .ends .steps))),
+                  record { value = v; is = refl; stands = z .stands; ends = z .ending; light = light },
+                );
+          }

@@ -1,5 +1,5 @@
 -- The children of a node, its tree, what its evaluators pass on to theirs, and its answer from theirs.
-use Rattle.evaluators.proofs.Terms.{ℕ, zero, suc, _+_, _-_, _*_, _≤_, _<_, Bool, true, List, [], _∷_, Option, nothing, some, _≡_, refl, sym, ap, _∙_, subst, arith, T, length, getD, categoryOf, Field, isChild, Table, fieldsIf, pick, held, exprOf, FieldRight, FieldsRight, KindRight, NodeRight, FormedAs, FormedBounds, SettledAs, RefusalOf, StopOf}
+use Rattle.evaluators.proofs.Terms.{ℕ, zero, suc, _+_, _-_, _*_, _≤_, _<_, Bool, true, List, [], _∷_, Option, nothing, some, _≡_, refl, sym, ap, _∙_, subst, arith, T, length, getD, categoryOf, Field, isChild, Table, fieldsIf, pick, held, exprOf, FieldRight, FieldsRight, KindRight, NodeRight, FormedAs, FormedBounds, SettledAs, SettleReady, RefusalOf, StopOf}
 use Rattle.evaluators.proofs.Terms.{Value, Kind, Category, predicate, expression, unused, child, kindOf, fieldsOf, Node, Pred, Expr, tableOf, nodeAt, kindAt, fieldWords, predOf, predAt, exprAt, nodeCount, Readable, CategoryIs, Env, End, refused, Run, M, _>>_, visit, Given, holdsᵖ, valueᵉ, sizes-length, Same, stands-frame, same-refl, same-trans, length-code, built, Builds, Sizes, GoodAt, Gives, Outcome, Held, Refused, Formed, Placed, Stopped, Refusal, EndsWith, HeldAs, fieldA, fieldB, conditionCells, expressionCells, cellsFor, Binds, NodeReady, Visited, Asks, truthAt, valueAt, EvaluatesP, EvaluatesE, Settles}
 use Rattle.rules.specs.Cells.{good}
 use Rattle.rules.specs.Reading.{height, tallest}
@@ -293,12 +293,26 @@ module _ {bs env s : List ℕ} {top k n left : ℕ} (v : Visited bs env s top k 
       let y = h i in
       settled-as bs (i .budget) f n (i .values) (i .steps) (v .ready .readable) (i .binds .good) (y .0) (rw q (y .1)) s′ r (y .2))
 
--- So too where `settle` has settled it, over the arena s₂ that the operation leaves; the node has a child.
-pub settles-by : {bs env s : List ℕ} {top k n left : ℕ} (v : Visited bs env s top k n left) (x : Kind) (e : kindOf k ≡ some x) {s₁ s₂ s₃ : List ℕ}
-    {mid next at l m : ℕ} {c : Category} {o : Outcome} {r : Formed} → Child bs n m c →
-    Same top s s₁ → top ≤ at → Same at s₁ s₂ → Settles s₂ o mid next top n l s₃ r →
-    ((i : Asks bs env s top n left) → (g : Given) × EndsWith (treeᵉ x i) (endOf n g) (i .budget) l × Gives s₂ mid next g o) →
-    EvaluatesE bs env s top n left s₃ r
-settles-by {s = s} {top = top} v x e {s₁} {s₂} {s₃} {at = at} d same low over st h =
-    settled-by v x e (same-trans top top s s₂ s₃ (same-trans top at s s₁ s₂ same over low) (st .frame) (omega arith))
-    (st .bounds _ (omega (arith, d .lower, d .tall))) (λ i. let y = h i in (y .0, y .1, st .answer (y .0) (y .2)))
+-- What a node gives stands in the arena s₂ that its operation leaves, to be settled. The node has operands.
+pub record Operated (bs env s : List ℕ) (top k n left : ℕ) (x : Kind) (s₂ : List ℕ) (o : Outcome) (mid next l : ℕ) : Type 0 where
+  pub visited : Visited bs env s top k n left
+  pub code : kindOf k ≡ some x
+  pub tall : 2 ≤ height (tableOf bs .nodes) n
+  pub frame : Same top s s₂
+  pub low : top ≤ mid
+  pub high : mid ≤ top + 256
+  pub order : mid ≤ next
+  pub room : next + 514 ≤ length s₂
+  pub gives : (i : Asks bs env s top n left) → (g : Given) × EndsWith (treeᵉ x i) (endOf n g) (i .budget) l × Gives s₂ mid next g o
+
+module _ {bs env s : List ℕ} {top k n left : ℕ} {x : Kind} {s₂ : List ℕ} {o : Outcome} {mid next l : ℕ}
+    (p : Operated bs env s top k n left x s₂ o mid next l) where
+  pub settle-asks : SettleReady s₂ o mid next top
+  settle-asks =
+      let y = p .gives (some-asks n left (p .visited .ready)) in
+      record { given = y .0; gives = y .2; low = p .low; high = p .high; order = p .order; room = p .room }
+
+  pub settle-tells : {s₃ : List ℕ} {r : Formed} → Settles s₂ o mid next top n l s₃ r → EvaluatesE bs env s top n left s₃ r
+  settle-tells {s₃} st =
+      settled-by (p .visited) x (p .code) (same-trans top top s s₂ s₃ (p .frame) (st .frame) (omega arith)) (st .bounds _ (p .tall)) (λ i.
+      let y = p .gives i in (y .0, y .1, st .answer (y .0) (y .2)))

@@ -5,9 +5,9 @@ use Rattle.table.proofs.node_field.Reads as field
 use Rattle.evaluators.proofs.range_of.Reads as range
 use Rattle.evaluators.proofs.settle.Reads as settle
 use Rattle.evaluators.proofs.stopped.Reads as stopped
-use Rattle.evaluators.proofs.+each_chosen+each_member+eval_bare+eval_bool+eval_expr+eval_join+eval_one+eval_pred+eval_quant+eval_select+eval_test+eval_two+eval_value+operand.Proof.Base.{Over, each-chosen, eval-select, operand, ℕ, refl, sym, _∙_, arith, lit<, now, ready-node, child-asks, formed-as, Ranged, range-as, range-child, range-good, range-low}
+use Rattle.evaluators.proofs.+each_chosen+each_member+eval_bare+eval_bool+eval_expr+eval_join+eval_one+eval_pred+eval_quant+eval_select+eval_test+eval_two+eval_value+operand.Proof.Base.{Over, each-chosen, eval-select, operand, ℕ, refl, sym, _∙_, arith, lit<, now, ready-node, child-asks, formed-as, settle-asks, settle-tells, Ranged, range-as, range-child, range-good, range-low}
 use Rattle.evaluators.proofs.Terms.{comprehension}
-use Rattle.evaluators.proofs.FormLaws.{chosen-as, select-binder, select-fails, select-unlike, select-asks, chosen-fails, select-settles, select-evaluates}
+use Rattle.evaluators.proofs.FormLaws.{select-binder, select-fails, select-unlike, select-asks, chosen-fails, select-operated}
 
 module _ (t : ℕ) where
   abbrev claims : lts.Claims
@@ -85,9 +85,9 @@ module _ (t : ℕ) where
       (λ c. let i = chose (c .before .before) in let a = counted i in let o = a .before .before in
       chosen-fails (ranged (asked o)) (range-as (a .range .given .1) (o .range-of .ensures)) (i .each-chosen .ensures) (c .enum-told3 .given .1))
       (λ c κs. let w = c .before .before in let i = chose (w .before .before) in let a = counted i in let o = a .before .before in
-      select-settles (ranged (asked o)) (range-as (a .range .given .1) (o .range-of .ensures)) (chosen-as (w .chosen .given .1) (i .each-chosen .ensures)))
+      settle-asks (select-operated (ranged (asked o)) (range-as (a .range .given .1) (o .range-of .ensures)) (i .each-chosen .ensures) (w .chosen .given .1)))
       (λ c. let z = c .before .before in let i = chose (settled z .before .before) in let a = counted i in
       z .settle .kept .0 ∙ i .each-chosen .kept .1 .1 .0 ∙ first (a .before .before) .operand .kept .1 .1 .0)
       (λ c. let z = c .before .before in let w = settled z in let i = chose (w .before .before) in let a = counted i in let o = a .before .before in
-      select-evaluates (ranged (asked o)) (range-as (a .range .given .1) (o .range-of .ensures)) (chosen-as (w .chosen .given .1) (i .each-chosen .ensures))
+      settle-tells (select-operated (ranged (asked o)) (range-as (a .range .given .1) (o .range-of .ensures)) (i .each-chosen .ensures) (w .chosen .given .1))
       (z .settle .ensures))

@@ -10,9 +10,9 @@ use Rattle.evaluators.proofs.settle.Reads as settle
 use Rattle.operations.proofs.two.Reads as two
 use Rattle.evaluators.proofs.+each_chosen+each_member+eval_bare+eval_bool+eval_expr+eval_join+eval_one+eval_pred+eval_quant+eval_select+eval_test+eval_two+eval_value+operand.Proof.Base.{Over, eval-two, operand}
 use Rattle.evaluators.proofs.SafeLaws.{ready-node}
-use Rattle.evaluators.proofs.NodeLaws.{TwoFields}
+use Rattle.evaluators.proofs.NodeLaws.{TwoFields, settle-asks, settle-tells}
 use Rattle.evaluators.proofs.BothLaws.{EvaluatesBoth, left-asks, right-asks, both-stops, both-stops-2, both-formed}
-use Rattle.evaluators.proofs.FormLaws.{two-fields, two-ready, two-fails, two-settles, two-evaluates}
+use Rattle.evaluators.proofs.FormLaws.{two-fields, two-ready, two-fails, two-operated}
 
 module _ (t : ℕ) where
   abbrev claims : lts.Claims
@@ -81,8 +81,8 @@ module _ (t : ℕ) where
       two-fails (v .pre .1) q (both-stops-2 (v .pre .1 .0 .ready) (fields v) (word e .node-field .ensures) (e .operand .ensures) (placed g .first .given .1)
       (g .node-field2 .ensures) (s .operand2 .ensures) q))
       (λ c κs. let w = c .before .before in two-ready (begun w .pre .1) (formed w))
-      (λ c κs. let q = c .before .before .before in let w = done q in two-settles (begun w .pre .1) (formed w) (q .two .ensures))
+      (λ c κs. let q = c .before .before .before in let w = done q in settle-asks (two-operated (begun w .pre .1) (formed w) (q .two .ensures)))
       (λ c. let p = c .before .before in let q = settled p in let w = done q in let s = ran₂ (w .before .before) in
       p .settle .kept .0 ∙ q .two .kept .0 ∙ s .operand2 .kept .1 .1 .0 ∙ first s .operand .kept .1 .1 .0)
       (λ c. let p = c .before .before in let q = settled p in let w = done q in
-      two-evaluates (begun w .pre .1) (formed w) (q .two .ensures) (p .settle .ensures))
+      settle-tells (two-operated (begun w .pre .1) (formed w) (q .two .ensures)) (p .settle .ensures))

@@ -9,9 +9,9 @@ use Rattle.operations.proofs.light.Reads as light
 use Rattle.evaluators.proofs.settle.Reads as settle
 use Rattle.table.proofs.node_kind.Reads as kind
 use Rattle.evaluators.proofs.stopped.Reads as stopped
-use Rattle.evaluators.proofs.+each_chosen+each_member+eval_bare+eval_bool+eval_expr+eval_join+eval_one+eval_pred+eval_quant+eval_select+eval_test+eval_two+eval_value+operand.Proof.Base.{Over, eval-bool, eval-one, eval-select, eval-two, eval-value, ℕ, refl, sym, ⊎-elim, inl, inr, arith, now, Visited, ready-node, formed-as, counted}
+use Rattle.evaluators.proofs.+each_chosen+each_member+eval_bare+eval_bool+eval_expr+eval_join+eval_one+eval_pred+eval_quant+eval_select+eval_test+eval_two+eval_value+operand.Proof.Base.{Over, eval-bool, eval-one, eval-select, eval-two, eval-value, ℕ, refl, sym, ⊎-elim, inl, inr, arith, now, Visited, ready-node, formed-as, settle-asks, settle-tells, counted}
 use Rattle.evaluators.specs.Cycle.{StandingTwo}
-use Rattle.evaluators.proofs.FormLaws.{light-asks, light-settles, light-evaluates}
+use Rattle.evaluators.proofs.FormLaws.{light-asks, light-operated}
 use Rattle.evaluators.proofs.DispatchLaws.{spent-expr, visited-as, expression-code, one-keys, one-range, two-key, two-low, two-high, no-other, leaf-node, leaf-answer, standing-code, standing-ready, standing-answer}
 
 module _ (t : ℕ) where
@@ -65,11 +65,6 @@ module _ (t : ℕ) where
   abbrev kinded : Here lts.Else2 → Here lts.After-node-kind
   kinded c = c .before .before .before
 
-  returns-2 : Here lts.Need-returns-2
-  returns-2 c =
-      let s = c .before .before in let l = s .before .before in let t = told l in
-      light-evaluates (visit (looked t .before)) (stands t) (l .light .ensures) (s .settle .ensures)
-
   eval-two-requires : Here lts.Need-eval-two-requires
   eval-two-requires c κs =
       let k = kinded (c .before .before) in
@@ -110,9 +105,10 @@ module _ (t : ℕ) where
       (λ c κs. (_, _, visit c))
       (λ c κs. let t = c .before in light-asks (visit (looked t .before)) (stands t))
       (λ c. stands (told (c .before)) .visits)
-      (λ c κs. let l = c .before in let t = told l in light-settles (visit (looked t .before)) (stands t) (l .light .ensures))
+      (λ c κs. let l = c .before in let t = told l in settle-asks (light-operated (visit (looked t .before)) (stands t) (l .light .ensures)))
       (λ c. c .before .before .settle .kept .0)
-      returns-2
+      (λ c. let s = c .before .before in let l = s .before .before in let t = told l in
+      settle-tells (light-operated (visit (looked t .before)) (stands t) (l .light .ensures)) (s .settle .ensures))
       (λ c κs. let k = kinded (c .before .before) in (omega (arith, lent k .pre .0), visited-as (visit k) (c .before .match .keys1)))
       (λ c κs. let k = kinded (c .before .before) in (omega (arith, lent k .pre .0), visited-as (visit k) (c .before .match .keys4)))
       (λ c. visit (kinded (c .before .before)) .unspent)
