@@ -13,6 +13,7 @@ use Rattle.evaluators.proofs.NodeLaws.{Child, TwoFields, sizes-small, v
 use Rattle.evaluators.proofs.NodeLaws.{some-asks, visits, after, valueIn, held-below, formed-below, stopped-by, settled-by, Operated}
 use Rattle.evaluators.proofs.DispatchLaws.{name-below, placed-answer, light-two, standing-name-place}
 use Rattle.evaluators.proofs.BothLaws.{operands-ready, StopsBoth, EvaluatesBoth, left-ready, right-ready, both-formed}
+use Rattle.evaluators.proofs.ChosenLaws.{chosen-as}
 use Rattle.evaluators.proofs.RangeLaws.{Binder, Ranged, range-child, range-stops, range-unlike, each-ready, in-range, range-on}
 
 -- 27, 33, 35, 36, 38 and 43: the operand's node is `m`.
@@ -170,11 +171,6 @@ module _ {bs env s : List ℕ} {top n m left : ℕ} (x : Visited bs env s top 25
         visits x i _ (then-done _ z (light-form n (truthValue y) _ (omega arith) (z .steps))),
         record { value = truthValue y; is = refl; stands = q .1; below = omega (arith, q .0); same = refl },
       ))
-
--- The same answer under equal names.
-pub chosen-as : {bs env s : List ℕ} {top n from count left : ℕ} {s′ : List ℕ} {r r′ : Formed} → r ≡ r′ →
-    EvaluatesChosen bs env s top n from count left s′ r → EvaluatesChosen bs env s top n from count left s′ r′
-chosen-as q h = rw q at h
 
 -- 34: the range's node is `m`.
 pub select-binder : {bs env s : List ℕ} {top n m left : ℕ} → Visited bs env s top 34 n left → m ≡ fieldB bs n → Binder bs env s top 34 n left m comprehension

@@ -1,12 +1,12 @@
 -- The loop over the members of a quantifier's range, turn by turn, and the quantifier's node: what is given for the rest of the range is
 -- given for the whole.
 use Rattle.evaluators.proofs.Terms.{ℕ, _+_, _-_, _*_, _<_, Bool, true, false, not, Bool·beq, List, [], _∷_, some, _≡_, refl, sym, ap, _∙_, arith, eqb, setAt, Quant, quantify, quantOf, EvaluatesEach}
-use Rattle.evaluators.proofs.Terms.{Value, members, forAll, forSome, quant, kindOf, End, done, refused, Run, M, tableOf, holdsᵖ, SomeAt, EndsAt, same-refl, same-trans, code-of, Refusal, RefusalOf, Held, Truth, Refused, Formed, Stopped, Set, Unlike, EndsWith, HeldAs, fieldA, fieldB, fieldC, IsPred, RangeAt, NodeReady, Visited, Sort, AsksEach, bodyOf, EachReady, EvaluatesP, EvaluatesE}
+use Rattle.evaluators.proofs.Terms.{Value, members, forAll, forSome, quant, kindOf, End, done, refused, Run, M, holdsᵖ, EndsAt, same-refl, same-trans, code-of, Refusal, RefusalOf, Held, Truth, Refused, Formed, Stopped, Set, Unlike, EndsWith, HeldAs, fieldA, fieldB, fieldC, IsPred, RangeAt, NodeReady, Visited, Sort, AsksEach, bodyOf, EachReady, EvaluatesP, EvaluatesE}
 use native.Mathlib.Nat.{le-refl}
 use Rattle.operations.proofs.KindLaws.{quantCode}
 use Rattle.evaluators.proofs.RunLaws.{then-done, then-refused, returns}
 use Rattle.evaluators.proofs.NodeLaws.{held-as, formed-as, refusal-is, held-by}
-use Rattle.evaluators.proofs.BodyLaws.{First, none-left, Loop, loop-start, member, member-at, loop-next, body-asks, body-ends, body-frame}
+use Rattle.evaluators.proofs.BodyLaws.{none-left, Loop, loop-start, body-asks, Ran, ran-at, loop-next, body-ends, body-frame}
 use Rattle.evaluators.proofs.RangeLaws.{Binder, Ranged, range-stops, range-unlike, each-ready, in-range, range-on}
 
 -- Two truths differ, or are the same.
@@ -59,53 +59,47 @@ pub turning-start : {bs env s : List ℕ} {top node from count left : ℕ} (all 
     Turning bs env s top all node from count left x s env from count left
 turning-start all x r = record { loop = loop-start x r; gives = λ k e l h. h }
 
--- A turn: the member at `at` is bound to x, and the body, node b, runs.
-module _ {bs env s₀ : List ℕ} {top : ℕ} {all : Bool} {node from count left x : ℕ} {s inner : List ℕ} {at more n : ℕ}
-    (r : EachReady bs env s₀ top node from count 0) (i : Turning bs env s₀ top all node from count left x s inner at more n) (some : 0 < more)
-    (ex : x ≡ fieldA bs node) {b : ℕ} (ey : b ≡ fieldC bs node) where
-  pub member-asks : {t : ℕ} → 5 * node ≡ t → (5 * b + 3 < t) × (NodeReady bs (setAt inner x at) s top b × IsPred bs b)
-  member-asks e = body-asks r (i .loop) some (le-refl top) ex ey e (λ b. omega (arith, r .ready .room b, i .loop .frame .kept))
+-- A turn: the member at `at` is bound to x, and the body, node b, is to run.
+pub member-asks : {bs env s₀ : List ℕ} {top : ℕ} {all : Bool} {node from count left x : ℕ} {s inner : List ℕ} {at more n b t : ℕ} →
+    EachReady bs env s₀ top node from count 0 → Turning bs env s₀ top all node from count left x s inner at more n → 0 < more → x ≡ fieldA bs node →
+    b ≡ fieldC bs node → 5 * node ≡ t → (5 * b + 3 < t) × (NodeReady bs (setAt inner x at) s top b × IsPred bs b)
+member-asks {top = top} r i l ex ey e = body-asks r (i .loop) l (le-refl top) ex ey e (λ b. omega (arith, r .ready .room b, i .loop .frame .kept))
 
-  module _ {s′ : List ℕ} {h : Held} (p : EvaluatesP bs (setAt inner x at) s top b n s′ h) where
-    abbrev next : (k : AsksEach bs env s₀ top node from count left) → First (tableOf bs .sizes) s top at more (i .loop .rest k)
-    next k = member r (i .loop) some k
+-- It has run.
+module _ {bs env s₀ : List ℕ} {top : ℕ} {all : Bool} {node from count left x : ℕ} {s inner : List ℕ} {at more n b : ℕ} {s′ : List ℕ} {h : Held}
+    (i : Turning bs env s₀ top all node from count left x s inner at more n) (u : Ran (i .loop) 0 top b s′ h) where
+  -- The body is refused.
+  pub member-refused : {q : Refusal} {l : ℕ} → h ≡ Refused q l → EvaluatesEach bs env s₀ top node from count left (quantOf all) s′ h
+  member-refused {q} {l} e = rw e (record {
+    frame = body-frame u;
+    answer = λ k.
+        let v = ran-at u k in
+        i .gives k (refused (q .number) (q .place)) l
+        (rw (v .is) (quantify-refused (bodyOf k) all (v .value) (members (v .rest)) (i .loop .now k) (body-ends u (Refused q l) e k)));
+  })
 
-    ends : (h₀ : Held) → h ≡ h₀ → (k : AsksEach bs env s₀ top node from count left) → HeldAs (bodyOf k (next k .value) (i .loop .now k)) (k .asks .budget) h₀
-    ends = body-ends r (i .loop) some (le-refl top) ex ey p
+  -- The body decides.
+  pub member-decides : (got : Bool) (l : ℕ) → h ≡ Truth got l → got ≡ not all →
+      EvaluatesEach bs env s₀ top node from count left (quantOf all) s′ (Truth got l)
+  member-decides got l e q = rw q (record {
+    frame = body-frame u;
+    answer = λ k.
+        let v = ran-at u k in
+        let a = body-ends u (Truth (not all) l) (e ∙ ap (λ (z : Bool). Truth z l) q) k in
+        i .gives k (done (not all)) l (rw (v .is) (quantify-stops (bodyOf k) all (v .value) (members (v .rest)) (i .loop .now k) a));
+  })
 
-    pub member-stands : SomeAt s′ at
-    member-stands = member-at r (i .loop) some (le-refl top) ex ey p
-
-    -- The body is refused.
-    pub member-refused : {q : Refusal} {l : ℕ} → h ≡ Refused q l → EvaluatesEach bs env s₀ top node from count left (quantOf all) s′ h
-    member-refused {q} {l} e = rw e (record {
-      frame = body-frame r (i .loop) some (le-refl top) ex ey p;
-      answer = λ k.
-          i .gives k (refused (q .number) (q .place)) l
-          (rw (next k .is) (quantify-refused (bodyOf k) all (next k .value) (members (next k .rest)) (i .loop .now k) (ends (Refused q l) e k)));
-    })
-
-    -- The body decides.
-    pub member-decides : (got : Bool) (l : ℕ) → h ≡ Truth got l → got ≡ not all →
-        EvaluatesEach bs env s₀ top node from count left (quantOf all) s′ (Truth got l)
-    member-decides got l e q = rw q (record {
-      frame = body-frame r (i .loop) some (le-refl top) ex ey p;
-      answer = λ k.
-          let a = ends (Truth (not all) l) (e ∙ ap (λ (z : Bool). Truth z l) q) k in
-          i .gives k (done (not all)) l (rw (next k .is) (quantify-stops (bodyOf k) all (next k .value) (members (next k .rest)) (i .loop .now k) a));
-    })
-
-    -- The body does not decide, and the next member stands at `end`.
-    pub turning-on : (got : Bool) (l end : ℕ) → h ≡ Truth got l → got ≡ all → EndsAt s′ at end →
-        Turning bs env s₀ top all node from count left x s′ (setAt inner x at) end (more - 1) l
-    turning-on got l end e q z =
-        let d : h ≡ Truth all l = e ∙ ap (λ (z : Bool). Truth z l) q in
-        record {
-          loop = loop-next r (i .loop) some (le-refl top) ex ey p z all d (same-refl top s′);
-          gives = λ k e₁ l₁ h₁.
-              i .gives k e₁ l₁
-              (rw (next k .is) (quantify-on (bodyOf k) all (next k .value) (members (next k .rest)) (i .loop .now k) (ends (Truth all l) d k) h₁));
-        }
+  -- The body does not decide, and the next member stands at `end`.
+  pub turning-on : (got : Bool) (l end : ℕ) → h ≡ Truth got l → got ≡ all → EndsAt s′ at end →
+      Turning bs env s₀ top all node from count left x s′ (setAt inner x at) end (more - 1) l
+  turning-on got l end e q z =
+      let d : h ≡ Truth all l = e ∙ ap (λ (z : Bool). Truth z l) q in
+      record {
+        loop = loop-next u z all d (same-refl top s′);
+        gives = λ k e₁ l₁ h₁.
+            let v = ran-at u k in
+            i .gives k e₁ l₁ (rw (v .is) (quantify-on (bodyOf k) all (v .value) (members (v .rest)) (i .loop .now k) (body-ends u (Truth all l) d k) h₁));
+      }
 
 -- After the last turn.
 pub members-done : {bs env s₀ : List ℕ} {top : ℕ} {all : Bool} {node from count left x : ℕ} {s inner : List ℕ} {at more n : ℕ} →

@@ -28,7 +28,7 @@ use Rattle.evaluators.proofs.eval_expr.Kinds as formed
 pub use denote.Ref.{now}
 pub use Rattle.evaluators.proofs.SafeLaws.{ready-node, one-less, binder-node, entry-below, entry-scaled}
 pub use Rattle.evaluators.proofs.NodeLaws.{child-asks, held-as, formed-as, stop-is, settle-asks, settle-tells}
-pub use Rattle.evaluators.proofs.BodyLaws.{member-low}
+pub use Rattle.evaluators.proofs.BodyLaws.{member-low, Ran, member-at}
 pub use Rattle.evaluators.proofs.RangeLaws.{Ranged, range-as, range-child, range-good, range-low}
 pub use Rattle.evaluators.proofs.DispatchLaws.{counted}
 
