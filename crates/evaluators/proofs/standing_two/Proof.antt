@@ -1,14 +1,8 @@
 -- `standing_two`: nothing is said of 0; otherwise both operands stand already. Landmarks: what was lent, that nothing is built, and the words of the
 -- fields.
-use mathlib.Core.List.{List}
-use mathlib.Core.Path.{_≡_, refl}
-use Prim.Native.Nat.{ℕ}
-use native.Mathlib.Omega.{arith}
-use borrow.Author.Tests.{not-false}
+use Rattle.evaluators.proofs.Terms.{ℕ, List, _≡_, refl, arith, not-false, lit<, PlacedLeaf, FunctionLeaf}
 use denote.Ref.{now}
-use lib.Dec.{lit<}
 use Rattle.operations.specs.Outcomes.{IsLight}
-use Rattle.evaluators.specs.Nodes.{PlacedLeaf, FunctionLeaf}
 use Rattle.evaluators.proofs.SafeLaws.{ready-node}
 use Rattle.evaluators.proofs.NodeLaws.{TwoFields, ready-first}
 use Rattle.evaluators.proofs.DispatchLaws.{place-ready, light-two}

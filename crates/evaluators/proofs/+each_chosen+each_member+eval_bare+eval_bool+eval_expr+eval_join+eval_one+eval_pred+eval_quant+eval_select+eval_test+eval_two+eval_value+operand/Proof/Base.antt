@@ -1,7 +1,7 @@
 -- The members of the cycle with their measures: the node number falls, or it stays and what is left to do at the node falls. Members with the
 -- same arguments share their kinds: those of `eval_pred` take a node, those of `eval_join` the code of its kind too. And the terms and laws that
 -- several members' proofs use.
-pub use Rattle.evaluators.proofs.Terms.{ℕ, refl, sym, _∙_, arith, lit<, inl, inr, ⊎-elim, Visited}
+pub use Rattle.evaluators.proofs.Terms.{ℕ, _-_, refl, sym, _∙_, arith, lit<, inl, inr, ⊎-elim, Visited}
 use Rattle.evaluators.proofs.Terms.{_+_, _*_}
 use borrow.Fn.Kinds.{In, Out, RK}
 pub use Rattle.fitting.proofs.Cycle.{Over, OverLoop}

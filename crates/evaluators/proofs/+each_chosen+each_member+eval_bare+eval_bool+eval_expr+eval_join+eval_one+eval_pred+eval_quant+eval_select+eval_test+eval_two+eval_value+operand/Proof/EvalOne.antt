@@ -29,12 +29,6 @@ module _ (t : ℕ) where
   abbrev settled : Here lts.After-settle → Here lts.After-one
   settled c = let s = c .before .before in s .before .before
 
-  returns-2 : Here lts.Need-returns-2
-  returns-2 c =
-      let q = settled (c .before .before) in let m = done q in let e = ran (m .before .before) in let p = lent (word e) .pre .1 in
-      settle-tells (one-operated p (word e .node-field .ensures) (formed-as refl (m .first .given .1) (e .operand .ensures)) (q .one .ensures))
-      (c .before .before .settle .ensures)
-
   pub closed : {M : Type 1} → lts.Closed claims (eval-one .at t) (eval-one .post) M
   closed =
       lts.spec claims (eval-one .at t) (eval-one .post)
@@ -50,4 +44,6 @@ module _ (t : ℕ) where
       (λ c κs. let q = c .before .before .before in let m = done q in let e = ran (m .before .before) in let p = lent (word e) .pre .1 in
       settle-asks (one-operated p (word e .node-field .ensures) (formed-as refl (m .first .given .1) (e .operand .ensures)) (q .one .ensures)))
       (λ c. let p = c .before .before in let q = settled p in p .settle .kept .0 ∙ q .one .kept .0 ∙ ran (done q .before .before) .operand .kept .1 .1 .0)
-      returns-2
+      (λ c. let z = c .before .before in let q = settled z in let m = done q in let e = ran (m .before .before) in let p = lent (word e) .pre .1 in
+      settle-tells (one-operated p (word e .node-field .ensures) (formed-as refl (m .first .given .1) (e .operand .ensures)) (q .one .ensures))
+      (z .settle .ensures))

@@ -1,16 +1,11 @@
 -- `eval_two`: the operands one after the other, the operation, and what it gives settled; a refusal of an operand goes on. Landmarks: what
 -- was lent, the words of the fields, the answers for the operands, and the operation.
-use Prim.Native.Nat.{ℕ, _-_}
-use mathlib.Core.Path.{_∙_}
-use lib.Dec.{lit<}
-use denote.Ref.{now}
 use Rattle.evaluators.proofs.+each_chosen+each_member+eval_bare+eval_bool+eval_expr+eval_join+eval_one+eval_pred+eval_quant+eval_select+eval_test+eval_two+eval_value+operand.Lts-eval_two as lts
 use Rattle.table.proofs.node_field.Reads as field
 use Rattle.evaluators.proofs.settle.Reads as settle
 use Rattle.operations.proofs.two.Reads as two
-use Rattle.evaluators.proofs.+each_chosen+each_member+eval_bare+eval_bool+eval_expr+eval_join+eval_one+eval_pred+eval_quant+eval_select+eval_test+eval_two+eval_value+operand.Proof.Base.{Over, eval-two, operand}
-use Rattle.evaluators.proofs.SafeLaws.{ready-node}
-use Rattle.evaluators.proofs.NodeLaws.{TwoFields, settle-asks, settle-tells}
+use Rattle.evaluators.proofs.+each_chosen+each_member+eval_bare+eval_bool+eval_expr+eval_join+eval_one+eval_pred+eval_quant+eval_select+eval_test+eval_two+eval_value+operand.Proof.Base.{Over, eval-two, operand, ℕ, _-_, _∙_, lit<, now, ready-node, settle-asks, settle-tells}
+use Rattle.evaluators.proofs.NodeLaws.{TwoFields}
 use Rattle.evaluators.proofs.BothLaws.{EvaluatesBoth, left-asks, right-asks, both-stops, both-stops-2, both-formed}
 use Rattle.evaluators.proofs.FormLaws.{two-fields, two-ready, two-fails, two-operated}
 

@@ -80,22 +80,6 @@ module _ (t : ℕ) where
       (λ w. let m = w .0 .rest in one-range _ (m .0 .0 .0 .0 .1) (m .0 .0 .1) (w .3 .left) (w .4 .taken)) (c .before .match .came) in
       (omega (arith, lent k .pre .0), (visit k, by))
 
-  standing-requires : Here lts.Need-standing-requires
-  standing-requires c κs =
-      standing-ready (visit (kinded (c .before)))
-      (standing-code _ (⊎-elim (λ w. inl (w .keys6)) (λ w. inr (w .1 .left, w .2 .taken, λ e. w .0 .rest .0 .1 (inl e))) (c .match .came)))
-
-  returns-5 : Here lts.Need-returns-5
-  returns-5 c =
-      let p = c .before .before in let b = p .before .before in let d = visit (kinded (b .before)) in
-      leaf-answer d (leaf-node d (b .match .keys5)) _ _ (p .eval-leaf .ensures)
-
-  returns-6 : Here lts.Need-returns-6
-  returns-6 c =
-      let j = c .before in let m = j .before in let k = kinded (m .before) in let r = expression-code (visit k) (lent k .pre .1 .1) in
-      let n = m .match .rest in
-      ⊎-elim (λ w. absurd (omega (arith, r, w .taken))) (λ w. no-other _ r (w .4 .left) (n .0 .0 .0 .0 .1) (n .0 .1)) (j .if3 .came)
-
   pub closed : {M : Type 1} → lts.Closed claims (eval-value .at t) (eval-value .post) M
   closed =
       lts.spec claims (eval-value .at t) (eval-value .post)
@@ -116,13 +100,17 @@ module _ (t : ℕ) where
       (λ c κs. tt)
       eval-two-requires
       eval-one-requires
-      standing-requires
+      (λ c κs. standing-ready (visit (kinded (c .before)))
+      (standing-code _ (⊎-elim (λ w. inl (w .keys6)) (λ w. inr (w .1 .left, w .2 .taken, λ e. w .0 .rest .0 .1 (inl e))) (c .match .came))))
       (λ c. visit (kinded (c .before .before)) .unspent)
       (λ c. c .before .before .eval-bool .kept .1 .1 .0) (λ c. c .before .before .eval-bool .ensures)
       (λ c. c .before .before .eval-select .kept .1 .1 .0) (λ c. c .before .before .eval-select .ensures)
       (λ c. c .before .before .eval-leaf .kept .1 .0)
-      returns-5
-      returns-6
+      (λ c. let p = c .before .before in let b = p .before .before in let d = visit (kinded (b .before)) in
+      leaf-answer d (leaf-node d (b .match .keys5)) _ _ (p .eval-leaf .ensures))
+      (λ c. let j = c .before in let m = j .before in let k = kinded (m .before) in let r = expression-code (visit k) (lent k .pre .1 .1) in
+      let n = m .match .rest in
+      ⊎-elim (λ w. absurd (omega (arith, r, w .taken))) (λ w. no-other _ r (w .4 .left) (n .0 .0 .0 .0 .1) (n .0 .1)) (j .if3 .came))
       (λ c. c .before .before .eval-two .kept .1 .1 .0) (λ c. c .before .before .eval-two .ensures)
       (λ c. c .before .before .eval-one .kept .1 .1 .0) (λ c. c .before .before .eval-one .ensures)
       (λ c. standing-answer (visit (kinded (c .before .before))) (c .standing .ensures))
