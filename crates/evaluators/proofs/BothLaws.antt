@@ -52,6 +52,10 @@ module _ {bs env s : List ℕ} {top n : ℕ} (x : NodeReady bs env s top n) (y :
   pub left-ready : NodeReady bs env s top a × IsExpr bs a
   left-ready = (ready-first x left-child, left-child .is)
 
+  -- What its evaluator asks, where the measures are those of the cycle: 5 times the node, and what is left to do there.
+  pub left-asks : {t : ℕ} → 5 * n + 1 ≡ t → (5 * a + 4 < t) × (NodeReady bs env s top a × IsExpr bs a)
+  left-asks e = (omega (arith, left-child .below), left-ready)
+
   -- It has been evaluated.
   module _ {left : ℕ} {s′ : List ℕ} {r : Formed} (h : EvaluatesE bs env s top a left s′ r) where
     pub both-stops : {p : Refusal} {l : ℕ} → r ≡ Stopped p l → StopsBoth bs env s top n left s′ p l
@@ -67,6 +71,9 @@ module _ {bs env s : List ℕ} {top n : ℕ} (x : NodeReady bs env s top n) (y :
 
       pub right-ready : NodeReady bs env s′ mid m × IsExpr bs m
       right-ready = (ready-child s′ m mid x right-child (h .frame) (placed .bounds .0) (placed .bounds .1), right-child .is)
+
+      pub right-asks : {t : ℕ} → 5 * n + 1 ≡ t → (5 * m + 4 < t) × (NodeReady bs env s′ mid m × IsExpr bs m)
+      right-asks e = (omega (arith, right-child .below), right-ready)
 
       -- The values of the first, and what is asked of the second.
       first-at : (i : Asks bs env s top n left) → PlacedAs (firstIn i) (i .budget) (tableOf bs .sizes) s′ at mid l
@@ -164,13 +171,3 @@ module _ {bs env s : List ℕ} {top k n left : ℕ} (p : Visited bs env s top k 
 
     pub test-truth : {y : Bool} → o ≡ Tells y → EvaluatesP bs env s top n left s′ (Truth y l)
     test-truth q = held-by x (test j) (p .1 .1) (h .frame) (told q)
-
--- What an operand's evaluator asks, where the measures are those of the cycle: 5 times the node, and what is left to do there.
-module _ {bs env s : List ℕ} {top k n left t : ℕ} (e : 5 * n + 1 ≡ t) (x : Visited bs env s top k n left) (y : TwoFields bs n)
-    {a : ℕ} (q : a ≡ fieldA bs n) where
-  pub left-asks : (5 * a + 4 < t) × (NodeReady bs env s top a × IsExpr bs a)
-  left-asks = (omega (arith, left-child (x .ready) y q .below), left-ready (x .ready) y q)
-
-  pub right-asks : {l : ℕ} {s′ : List ℕ} {r : Formed} → EvaluatesE bs env s top a l s′ r → {at mid l′ : ℕ} → r ≡ Placed at mid l′ → {m : ℕ} →
-      m ≡ fieldB bs n → (5 * m + 4 < t) × (NodeReady bs env s′ mid m × IsExpr bs m)
-  right-asks h d q′ = (omega (arith, right-child (x .ready) y q h d q′ .below), right-ready (x .ready) y q h d q′)

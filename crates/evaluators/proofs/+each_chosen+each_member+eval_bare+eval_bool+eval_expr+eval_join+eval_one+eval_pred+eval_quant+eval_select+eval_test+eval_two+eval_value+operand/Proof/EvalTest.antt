@@ -59,14 +59,14 @@ module _ (t : ℕ) where
       lts.spec claims (eval-test .at t) (eval-test .post)
       (λ c κs. (ready-node (c .before .before .pre .1 .0 .ready), lit< tt))
       (λ c. lent (c .before) .pre .1 .0 .unspent)
-      (λ c κs. let f = c .before in let v = lent f in left-asks (v .pre .0) (v .pre .1 .0) (fields v) (f .node-field .ensures))
+      (λ c κs. let f = c .before in let v = lent f in left-asks (v .pre .1 .0 .ready) (fields v) (f .node-field .ensures) (v .pre .0))
       (λ c. c .match .keys1) (λ c. c .match .keys2) (λ c κs. tt)
       (λ c. let k = c .before in ran (k .before .before) .operand .kept .1 .1 .0)
       (λ c. let k = c .before in let e = ran (k .before .before) in let v = lent (word e) in let q = k .enum-told .given .1 in
       test-stops (v .pre .1) q (c .refusal-of .ensures) (both-stops (v .pre .1 .0 .ready) (fields v) (word e .node-field .ensures) (e .operand .ensures) q))
       (λ c κs. let m = c .before in (ready-node (lent (word (ran (m .before .before))) .pre .1 .0 .ready), lit< tt))
-      (λ c κs. let g = c .before in let m = placed g in let e = ran (m .before .before) in let v = lent (word e) in
-      right-asks (v .pre .0) (v .pre .1 .0) (fields v) (word e .node-field .ensures) (e .operand .ensures) (m .first .given .1) (g .node-field2 .ensures))
+      (λ c κs. let g = c .before in let m = placed g in let e = ran (m .before .before) in let f = word e in let v = lent f in
+      right-asks (v .pre .1 .0 .ready) (fields v) (f .node-field .ensures) (e .operand .ensures) (m .first .given .1) (g .node-field2 .ensures) (v .pre .0))
       (λ c. c .match2 .keys1) (λ c. c .match2 .keys2) (λ c κs. tt)
       (λ c. let k = c .before in let s = ran₂ (k .before .before) in s .operand2 .kept .1 .1 .0 ∙ first s .operand .kept .1 .1 .0)
       (λ c. let k = c .before in let s = ran₂ (k .before .before) in let e = first s in let v = lent (word e) in let g = s .before .before in

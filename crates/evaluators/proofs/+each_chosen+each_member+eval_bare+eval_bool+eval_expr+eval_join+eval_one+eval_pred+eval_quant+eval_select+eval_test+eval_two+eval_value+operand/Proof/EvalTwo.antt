@@ -62,14 +62,14 @@ module _ (t : ℕ) where
       lts.spec claims (eval-two .at t) (eval-two .post)
       (λ c κs. (ready-node (c .before .before .pre .1 .0 .ready), lit< tt))
       (λ c. lent (c .before) .pre .1 .0 .unspent)
-      (λ c κs. let f = c .before in let v = lent f in left-asks (v .pre .0) (v .pre .1 .0) (fields v) (f .node-field .ensures))
+      (λ c κs. let f = c .before in let v = lent f in left-asks (v .pre .1 .0 .ready) (fields v) (f .node-field .ensures) (v .pre .0))
       (λ c. c .match .keys1) (λ c. c .match .keys2)
       (λ c. ran (c .before .before) .operand .kept .1 .1 .0)
       (λ c. let e = ran (c .before .before) in let v = lent (word e) in let q = c .enum-told .given .1 in
       two-fails (v .pre .1) q (both-stops (v .pre .1 .0 .ready) (fields v) (word e .node-field .ensures) (e .operand .ensures) q))
       (λ c κs. let m = c .before in (ready-node (lent (word (ran (m .before .before))) .pre .1 .0 .ready), lit< tt))
-      (λ c κs. let g = c .before in let m = placed g in let e = ran (m .before .before) in let v = lent (word e) in
-      right-asks (v .pre .0) (v .pre .1 .0) (fields v) (word e .node-field .ensures) (e .operand .ensures) (m .first .given .1) (g .node-field2 .ensures))
+      (λ c κs. let g = c .before in let m = placed g in let e = ran (m .before .before) in let f = word e in let v = lent f in
+      right-asks (v .pre .1 .0 .ready) (fields v) (f .node-field .ensures) (e .operand .ensures) (m .first .given .1) (g .node-field2 .ensures) (v .pre .0))
       (λ c. c .match2 .keys1) (λ c. c .match2 .keys2)
       (λ c. let s = ran₂ (c .before .before) in s .operand2 .kept .1 .1 .0 ∙ first s .operand .kept .1 .1 .0)
       (λ c. let s = ran₂ (c .before .before) in let e = first s in let v = lent (word e) in let g = s .before .before in let q = c .enum-told2 .given .1 in
