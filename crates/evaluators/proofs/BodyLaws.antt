@@ -122,9 +122,8 @@ module _ {bs env s₀ : List ℕ} {top n from count left x : ℕ} {s inner : Lis
   module _ {to : ℕ} (low : top ≤ to) (ex : x ≡ fieldA bs n) {c : ℕ} (ey : c ≡ fieldC bs n) where
     member-binds : (k : AsksEach bs env s₀ top n from count left) → Binds bs s to (setAt inner x at) (k .asks .values with x ≔ member k .value)
     member-binds k =
-        let g = member k .here in
         binds-body (i .inside) (omega (arith, ex, r .name)) member-low (binds-frame to (i .frame) low (k .asks .binds))
-        (record { stands = g .stands; below = omega (arith, g .below); good = g .good })
+        (good-frame to (same-refl top s) low (member k .here))
 
     -- What the body's evaluator asks, where the measures are those of the cycle.
     pub body-asks : {t : ℕ} → 5 * n ≡ t → (Builds bs → to + cellsFor bs (fieldC bs n) ≤ length s) →
@@ -169,7 +168,7 @@ module _ {bs env s₀ : List ℕ} {top n from count left x : ℕ} {s inner : Lis
   under = same-trans top to s s s′ (same-refl top s) (u .told .frame) (u .low)
 
   stays : {v : Value} → GoodAt (tableOf bs .sizes) s top at v → Stands s′ at (code v)
-  stays g = good-frame under g .stands
+  stays g = good-frame top under (omega arith) g .stands
 
   pub member-at : SomeAt s′ at
   member-at =

@@ -110,7 +110,7 @@ module _ {bs env s : List ℕ} {top n : ℕ} (x : NodeReady bs env s top n) (y :
                     between = l;
                     leftEnds = v .ends;
                     rightEnds = w .ends;
-                    leftAt = good-frame (h′ .frame) (v .place);
+                    leftAt = good-frame mid (h′ .frame) (omega arith) (v .place);
                     rightAt = w .place;
                   };
             }

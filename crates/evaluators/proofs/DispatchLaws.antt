@@ -12,7 +12,7 @@ use Rattle.constants.proofs.ConstantLaws.{leaf-one}
 use Rattle.laws.proofs.TypedTree.{numberᵉ, number-at}
 use Rattle.operations.specs.Outcomes.{IsLight}
 use Rattle.evaluators.proofs.RunLaws.{unvisited, light-form}
-use Rattle.evaluators.proofs.NodeLaws.{sizes-small, field-holds, visited-kind, visited-builds, visits, after, settled-by}
+use Rattle.evaluators.proofs.NodeLaws.{sizes-small, field-holds, pred-at, visited-kind, visited-builds, visits, after, settled-by}
 use Rattle.evaluators.proofs.SafeLaws.{cell-room}
 
 -- 19: the visits are spent.
@@ -41,13 +41,11 @@ expr-spent budget gs ρ s c z (comprehensionᵉ n x r p) = unvisited budget n s 
 
 module _ {bs env s : List ℕ} {top n left : ℕ} (r : NodeReady bs env s top n) where
   pub spent-pred : left ≡ 0 → EvaluatesP bs env s top n left s (Refused (record { number = 19; place = n }) left)
-  unfolding predAt
-  spent-pred z = record { frame = same-refl top s; answer = go }
-    where
-      go : (f : ℕ) (ρ : Env) (budget steps : ℕ) → n < f → steps + left ≡ budget → Binds bs s top env ρ →
-          EndsWith (truthAt bs budget f n ρ steps) (refused 19 n) budget left
-      go zero ρ budget steps l c b = absurd (omega arith)
-      go (suc f) ρ budget steps l c b = pred-spent budget (tableOf bs .sizes) ρ steps n c z _ _ _ (kindAt (tableOf bs .nodes) n)
+  spent-pred z = record {
+    frame = same-refl top s;
+    answer = λ f ρ budget steps l c b.
+        rw (pred-at (tableOf bs .nodes) n _ refl f l .is) (pred-spent budget (tableOf bs .sizes) ρ steps n c z _ _ _ (kindAt (tableOf bs .nodes) n));
+  }
 
   pub spent-expr : left ≡ 0 → EvaluatesE bs env s top n left s (Stopped (record { number = 19; place = n }) left)
   spent-expr z = record {
@@ -133,15 +131,13 @@ module _ (k : ℕ) where
 codes-within : (k lo hi : ℕ) → leb lo k && leb k hi ≡ true → (lo ≤ k) × (k ≤ hi)
 codes-within k lo hi e = let t = T-and (leb lo k) (leb k hi) .0 (T-true (leb lo k && leb k hi) .1 e) in (T-leb lo k .0 (t .0), T-leb k hi .0 (t .1))
 
-in-first : (a b : Bool) → _≡_ {A = ℕ} (cond a 1 (cond b 2 0)) 1 → a ≡ true
-in-first true b e = refl
-in-first false true e = absurd (omega arith)
-in-first false false e = absurd (omega arith)
-
-in-second : (a b : Bool) → _≡_ {A = ℕ} (cond a 1 (cond b 2 0)) 2 → b ≡ true
-in-second true b e = absurd (omega arith)
-in-second false true e = refl
-in-second false false e = absurd (omega arith)
+in-range : (c : Category) (a b : Bool) → cond a 1 (cond b 2 0) ≡ categoryNumber c → elim c [ predicate ↦ a | expression ↦ b ] ≡ true
+in-range predicate true b e = refl
+in-range predicate false true e = absurd (omega arith)
+in-range predicate false false e = absurd (omega arith)
+in-range expression true b e = absurd (omega arith)
+in-range expression false true e = refl
+in-range expression false false e = absurd (omega arith)
 
 category-is : (c : Category) (o : Option Kind) → CategoryIs c o → categoryCode o ≡ categoryNumber c
 category-is c nothing h = absurd h
@@ -176,10 +172,10 @@ module _ {bs env s : List ℕ} {top k n left : ℕ} (v : Visited bs env s top k 
 
   -- A node's kind is in the range of its category, and so the last arms.
   pub predicate-code : IsPred bs n → (1 ≤ k) × (k ≤ 11)
-  predicate-code h = codes-within k 1 11 (in-first _ (leb 20 k && leb k 43) (by-range k ∙ category-is predicate (kindOf k) (rw (v .kind) h)))
+  predicate-code h = codes-within k 1 11 (in-range predicate _ (leb 20 k && leb k 43) (by-range k ∙ category-is predicate (kindOf k) (rw (v .kind) h)))
 
   pub expression-code : IsExpr bs n → (20 ≤ k) × (k ≤ 43)
-  expression-code h = codes-within k 20 43 (in-second (leb 1 k && leb k 11) _ (by-range k ∙ category-is expression (kindOf k) (rw (v .kind) h)))
+  expression-code h = codes-within k 20 43 (in-range expression (leb 1 k && leb k 11) _ (by-range k ∙ category-is expression (kindOf k) (rw (v .kind) h)))
 
   pub join-kind : IsPred bs n → k ≢ 4 → k < 6 → Sort join k
   unfolding kindOf

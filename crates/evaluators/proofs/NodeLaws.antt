@@ -17,17 +17,17 @@ sizes-small bs r = record {
   small = size-below (tableOf bs .sizes) 32 (λ g h. r .records .sizes g h .1);
 }
 
--- What stands below `top` stays.
-pub good-frame : {gs s s′ : List ℕ} {top at : ℕ} {v : Value} → Same top s s′ → GoodAt gs s top at v → GoodAt gs s′ top at v
-good-frame {gs} {s} {s′} {top} {at} {v} e h = record {
+-- What stands below `top` stays, and so below k.
+pub good-frame : {gs s s′ : List ℕ} {top at : ℕ} {v : Value} (k : ℕ) → Same top s s′ → top ≤ k → GoodAt gs s top at v → GoodAt gs s′ k at v
+good-frame {gs} {s} {s′} {top} {at} {v} k e le h = record {
   stands = stands-frame top s s′ at _ e (omega (arith, h .below, length-code v)) (h .stands);
-  below = h .below;
+  below = omega (arith, h .below);
   good = h .good;
 }
 
 pub binds-frame : {bs s s′ : List ℕ} {top : ℕ} {env : List ℕ} {ρ : Env} (k : ℕ) → Same top s s′ → top ≤ k → Binds bs s top env ρ → Binds bs s′ k env ρ
 binds-frame {bs} {s} {s′} {top} {env} {ρ} k e le b = record {
-  at = λ x h. let g = good-frame e (b .at x h) in record { stands = g .stands; below = omega (arith, g .below); good = g .good };
+  at = λ x h. good-frame k e le (b .at x h);
   good = b .good;
   functions = b .functions;
   constants = constants-frame bs s s′ (nodeCount bs) top e (b .low) (b .constants);
@@ -99,13 +99,13 @@ pub record Deeper (A : Type 0) (x : A) (n : ℕ) (tree : ℕ → A) : Type 0 whe
   pub enough : n ≤ depth
   pub is : x ≡ tree depth
 
-module _ (ns : List Node) (n : ℕ) (k : Kind) (e : kindAt ns n ≡ some k) where
-  pub pred-at : (f : ℕ) → n < f → Deeper Pred (predAt f ns n) n (λ g. predOf (some k) n (nodeAt ns n) (λ m. predAt g ns m) (λ m. exprAt g ns m))
+module _ (ns : List Node) (n : ℕ) (o : Option Kind) (e : kindAt ns n ≡ o) where
+  pub pred-at : (f : ℕ) → n < f → Deeper Pred (predAt f ns n) n (λ g. predOf o n (nodeAt ns n) (λ m. predAt g ns m) (λ m. exprAt g ns m))
   unfolding predAt
   pred-at zero l = absurd (omega arith)
   pred-at (suc f) l = record { depth = f; enough = omega arith; is = rw e }
 
-  pub expr-at : (f : ℕ) → n < f → Deeper Expr (exprAt f ns n) n (λ g. exprOf (some k) n (nodeAt ns n) (λ m. predAt g ns m) (λ m. exprAt g ns m))
+  pub expr-at : (f : ℕ) → n < f → Deeper Expr (exprAt f ns n) n (λ g. exprOf o n (nodeAt ns n) (λ m. predAt g ns m) (λ m. exprAt g ns m))
   unfolding exprAt
   expr-at zero l = absurd (omega arith)
   expr-at (suc f) l = record { depth = f; enough = omega arith; is = rw e }
@@ -263,7 +263,7 @@ module _ {bs env s : List ℕ} {top k n left : ℕ} (v : Visited bs env s top k 
   held-by {r} h = record {
     frame = same;
     answer = λ f ρ budget steps l c b.
-        let d = pred-at (tableOf bs .nodes) n x (visited-kind v x e) f l in
+        let d = pred-at (tableOf bs .nodes) n (some x) (visited-kind v x e) f l in
         subst (λ (p : Pred). HeldAs (holdsᵖ budget (tableOf bs .sizes) p ρ steps) budget r) (sym (d .is))
         (h (record { depth = d .depth; values = ρ; budget = budget; steps = steps; deep = d .enough; counts = c; binds = b }));
   }
@@ -275,7 +275,7 @@ module _ {bs env s : List ℕ} {top k n left : ℕ} (v : Visited bs env s top k 
     frame = same;
     bounds = bounds;
     answer = λ f ρ budget steps l c b.
-        let d = expr-at (tableOf bs .nodes) n x (visited-kind v x e) f l in
+        let d = expr-at (tableOf bs .nodes) n (some x) (visited-kind v x e) f l in
         h f (record { depth = d .depth; values = ρ; budget = budget; steps = steps; deep = d .enough; counts = c; binds = b })
         (ap (λ (z : Expr). valueᵉ budget (tableOf bs .sizes) z ρ steps) (d .is));
   }
