@@ -33,19 +33,6 @@ pub record Selecting (g : Value → M Bool) (whole : List Value) (budget steps :
       EndsWith (select g whole steps) (done (taken ++ ws)) budget l
   pub stops : {k p l : ℕ} → EndsWith (select g (members rest) now) (refused k p) budget l → EndsWith (select g whole steps) (refused k p) budget l
 
-selecting-start : (g : Value → M Bool) (budget steps : ℕ) (s : List ℕ) (top : ℕ) (vs : Values) → top + 1 ≤ length s → weights vs ≤ 255 →
-    Selecting g (members vs) budget steps s top vs steps (top + 1) 0
-unfolding code
-selecting-start g budget steps s top vs h l = record {
-  taken = [];
-  stands = record { inside = omega arith; cells = λ i p. absurd (omega arith) };
-  ends = omega arith;
-  counted = refl;
-  light = omega (arith, l);
-  goes = λ e. e;
-  stops = λ e. e;
-}
-
 -- What is chosen of a member stands behind what has been chosen.
 chosen-stands : (s : List ℕ) (at end : ℕ) (b : Bool) (to : ℕ) (s′ : List ℕ) (r : ℕ) (v : Value) → Chooses s at end b to s′ r →
     Stands s at (code v) → end ≡ at + weight v → to + weight v ≤ length s →
@@ -63,10 +50,6 @@ chosen-cost false v = (refl, omega arith)
 
 module _ {g : Value → M Bool} {whole : List Value} {budget steps : ℕ} {s : List ℕ} {top : ℕ} {rest : Values} {now to chosen : ℕ}
     (h : Selecting g whole budget steps s top rest now to chosen) where
-  -- Where what has been chosen ends, and how many members it has.
-  selecting-near : (top + 1 ≤ to) × (to ≤ top + 256) × (chosen ≤ 255)
-  selecting-near = (omega (arith, h .ends), omega (arith, h .ends, h .light), omega (arith, h .counted, h .light, count-weights (values (h .taken))))
-
   -- After a turn: the arena is s₁ behind the body, and s₂ with the member added if it is chosen.
   selecting-turn : {gs : List ℕ} {at more : ℕ} (u : First gs s top at more rest) (s₁ : List ℕ) (end : ℕ) (b : Bool) {l : ℕ} (s₂ : List ℕ) (r : ℕ) →
       top + 256 ≤ length s → Same to s s₁ → end ≡ at + weight (u .value) → EndsWith (g (u .value) now) (done b) budget l → Chooses s₁ at end b to s₂ r →
@@ -119,14 +102,26 @@ pub record Choosing (bs env s₀ : List ℕ) (top n from count left x : ℕ) (s 
 
 module _ {bs env s₀ : List ℕ} {top n from count left : ℕ} (pre : EachReady bs env s₀ top n from count 256) where
   pub choosing-start : (x : ℕ) → Choosing bs env s₀ top n from count left x s₀ env from count left (top + 1) 0
+  unfolding code
   choosing-start x = record {
     loop = loop-start x pre;
-    on = λ k. selecting-start (bodyOf k) (k .asks .budget) (k .asks .steps) s₀ top (k .range) (omega (arith, pre .space (omega arith))) (k .listed .light);
+    on = λ k. record {
+      taken = [];
+      stands = record { inside = omega (arith, pre .space (omega arith)); cells = λ i p. absurd (omega arith) };
+      ends = omega arith;
+      counted = refl;
+      light = omega (arith, k .listed .light);
+      goes = λ e. e;
+      stops = λ e. e;
+    };
   }
 
   module _ {x : ℕ} {s inner : List ℕ} {at more m to chosen : ℕ} (h : Choosing bs env s₀ top n from count left x s inner at more m to chosen) where
+    -- Where what has been chosen ends, and how many members it has.
     pub choosing-near : (top + 1 ≤ to) × (to ≤ top + 256) × (chosen ≤ 255)
-    choosing-near = selecting-near (h .on (some-asked left pre))
+    choosing-near =
+        let o = h .on (some-asked left pre) in
+        (omega (arith, o .ends), omega (arith, o .ends, o .light), omega (arith, o .counted, o .light, count-weights (values (o .taken))))
 
     pub choosing-few : (b : Bool) → chosen + boolByte b < 18446744073709551616
     choosing-few true = omega (arith, choosing-near .2)
