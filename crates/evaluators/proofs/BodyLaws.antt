@@ -1,10 +1,6 @@
 -- The body of a binder: its environment at a member of the range, what the loop's answer is asked for, and the members one after the other.
 use Rattle.evaluators.proofs.Terms.{ℕ, _+_, _-_, _*_, _≤_, _<_, Bool, List, [], _≡_, refl, sym, _∙_, subst, arith, length, getD, setAt, length-set, eq-eqb, ne-eqb, none, _▸_, _with_≔_, NewFirsts}
-use Rattle.evaluators.proofs.Terms.{Value, Values, weight, members, tableOf, Env, code, codes, Stands, Same, SomeAt, EndsAt, stands-frame, same-refl, same-trans, length-code, length-codes, Builds, Sizes, GoodAt, good-fits, good-inside, Held, Truth, HeldAs, Listed, fieldA, fieldC, entryPlace, FunctionEntry, IsPred, cellsFor, Binds, NodeReady, AsksEach, bodyOf, EachReady, truthAt, EvaluatesP}
-use native.Mathlib.Decide.{ℕ-discrete}
-use lib.Seq.{getD-set-same, getD-set-other}
-use Rattle.laws.proofs.FormedLaws.{with-good}
-use Rattle.arena.proofs.Standing.{stands-front, stands-back}
+use Rattle.evaluators.proofs.Terms.{Value, Values, weight, members, tableOf, Env, code, codes, Stands, Same, SomeAt, EndsAt, stands-frame, same-refl, same-trans, length-code, length-codes, Builds, Sizes, GoodAt, good-fits, good-inside, Held, Truth, HeldAs, Listed, fieldA, fieldC, entryPlace, FunctionEntry, IsPred, cellsFor, Binds, NodeReady, AsksEach, bodyOf, EachReady, truthAt, EvaluatesP, ℕ-discrete, getD-set-same, getD-set-other, with-good, stands-front, stands-back}
 use Rattle.evaluators.proofs.NodeLaws.{sizes-small, good-frame, binds-frame, ready-at, some-asks, held-as}
 
 -- The environment of the body: the binder's own, but for its name x.

@@ -1,11 +1,8 @@
 -- The two operands of a node, one after the other: their answers joined, for tests and for operations of two; and the tests.
 use Rattle.evaluators.proofs.Terms.{ℕ, _+_, _-_, _*_, _≤_, _<_, Bool, true, false, List, [], _∷_, _≡_, refl, sym, _∙_, subst, arith}
-use Rattle.evaluators.proofs.Terms.{Value, expression, test, fits, tableOf, End, done, refused, Run, M, return, _>>=_, _>>_, fitting, holdsᵖ, Same, same-trans, GoodAt, SomeOperands, Refusal, Formed, Placed, Stopped, Truth, Refused, EndsWith, PlacedAs, conditionCells, NodeReady, Visited, Sort, Asks, valueAt, EvaluatesP, EvaluatesE, fieldA, fieldB, IsExpr, Held, RefusalOf, Test, holds, TestOf, tested}
-use Rattle.rules.specs.Rules.{testRule}
-use Rattle.rules.specs.Reading.{height}
+use Rattle.evaluators.proofs.Terms.{Value, expression, test, fits, tableOf, End, done, refused, Run, M, return, _>>=_, _>>_, fitting, holdsᵖ, Same, same-trans, GoodAt, SomeOperands, Refusal, Formed, Placed, Stopped, Truth, Refused, EndsWith, PlacedAs, conditionCells, NodeReady, Visited, Sort, Asks, valueAt, EvaluatesP, EvaluatesE, fieldA, fieldB, IsExpr, Held, RefusalOf, Test, holds, TestOf, tested, testRule, height, good-above}
 use Rattle.operations.specs.declared.Tested.{Tested}
 use Rattle.operations.specs.declared.Tested.the-variants.{Truth as Tells, Unlike}
-use Rattle.operations.proofs.GoodLaws.{good-above}
 use Rattle.operations.proofs.OutcomeLaws.{test-fit, test-unfit}
 use Rattle.evaluators.proofs.RunLaws.{then-done, then-refused, returns, fitting-on, fitting-refused}
 use Rattle.evaluators.proofs.NodeLaws.{Child, TwoFields, ready-child, ready-first, good-frame, sizes-small, formed-as, some-asks, asks-on}

@@ -1,11 +1,8 @@
 -- The members that a comprehension chooses: its run member by member, and the set that is built of them.
 use Rattle.evaluators.proofs.Terms.{ℕ, _+_, _-_, _*_, _≤_, _<_, Bool, true, false, cond, List, [], _∷_, _≡_, refl, sym, ap, _∙_, subst, arith, length, setAt, length-set, boolByte, _++_, append-assoc, append-nil, values, weights, select, ValuesAt}
-use Rattle.evaluators.proofs.Terms.{Value, Values, members, count, weight, done, refused, M, code, codes, Stands, Same, EndsAt, length-code, length-codes, stands-frame, same-refl, same-trans, copied-stands, Refusal, Held, Truth, Refused, Formed, StopOf, Placed, EndsWith, SelectedAs, fieldA, fieldC, IsPred, ChooseReady, Chooses, NodeReady, AsksEach, bodyOf, EachReady, EvaluatesChosen}
-use lib.Seq.{getD-set-other}
-use Rattle.arena.proofs.Standing.{stands-append}
+use Rattle.evaluators.proofs.Terms.{Value, Values, members, count, weight, done, refused, M, code, codes, Stands, Same, EndsAt, length-code, length-codes, stands-frame, same-refl, same-trans, copied-stands, Refusal, Held, Truth, Refused, Formed, StopOf, Placed, EndsWith, SelectedAs, fieldA, fieldC, IsPred, ChooseReady, Chooses, NodeReady, AsksEach, bodyOf, EachReady, EvaluatesChosen, getD-set-other, stands-append, count-weights}
 use Rattle.arena.proofs.FrontLaws.{single, codes-append, count-append, weights-append}
 use Rattle.products.proofs.GrowLaws.{made-set}
-use Rattle.laws.proofs.CellsLaws.{count-weights}
 use Rattle.evaluators.proofs.RunLaws.{then-done, then-refused, returns}
 use Rattle.evaluators.proofs.NodeLaws.{stop-is}
 use Rattle.evaluators.proofs.BodyLaws.{some-asked, First, none-left, Loop, loop-start, body-asks, Ran, ran-at, member-ends, loop-next, body-ends, body-frame}

@@ -1,13 +1,7 @@
 -- What the evaluators of expressions with operands give, kinds 25, 27 to 41 and 43: the operands' answers, and with them the node's.
 use Rattle.evaluators.proofs.Terms.{ℕ, _+_, _-_, _*_, _≤_, _<_, Bool, true, false, List, [], _∷_, _≡_, refl, arith, boolByte}
-use Rattle.evaluators.proofs.Terms.{weight, boolOf, one, two, comprehension, predicate, expression, tableOf, gives, valueᵉ, code, same-trans, SomeOperands, Outcome, kind-of, Builds, Refusal, Truth, Refused, Formed, Placed, Stopped, Set, Unlike, PlacedAs, fieldA, fieldB, RangeAt, Visited, Sort, Asks, EvaluatesP, EvaluatesE, EachReady, EvaluatesChosen, truthValue, One, setOf, oneValue, twoValue, oneGiven, twoGiven, OneReady, OneOf, TwoReady, TwoOf, LightOf, KnownFunction, FunctionLeaf}
-use Rattle.rules.specs.Rules.{oneRule, twoRule}
-use Rattle.products.specs.Growing.{PutsCell}
-use Rattle.operations.specs.Outcomes.{IsLight}
-use Rattle.operations.specs.declared.Outcome.the-variants.{Built}
-use Rattle.operations.proofs.GoodLaws.{function-known}
+use Rattle.evaluators.proofs.Terms.{weight, boolOf, one, two, comprehension, predicate, expression, tableOf, gives, valueᵉ, code, same-trans, SomeOperands, Outcome, kind-of, Builds, Refusal, Truth, Refused, Formed, Placed, Stopped, Set, Unlike, PlacedAs, fieldA, fieldB, RangeAt, Visited, Sort, Asks, EvaluatesP, EvaluatesE, EachReady, EvaluatesChosen, truthValue, One, setOf, oneValue, twoValue, oneGiven, twoGiven, OneReady, OneOf, TwoReady, TwoOf, LightOf, KnownFunction, FunctionLeaf, oneRule, twoRule, PutsCell, IsLight, Built, function-known, StandingTwo}
 use Rattle.evaluators.specs.declared.Places.{Places}
-use Rattle.evaluators.specs.Cycle.{StandingTwo}
 use Rattle.evaluators.proofs.RunLaws.{then-done, then-refused, light-form, fitted-ends}
 use Rattle.evaluators.proofs.NodeLaws.{Child, TwoFields, sizes-small, visited-builds, operation-room, visited-child, visited-operands}
 use Rattle.evaluators.proofs.NodeLaws.{some-asks, visits, after, valueIn, held-below, formed-below, stopped-by, settled-by, Operated}

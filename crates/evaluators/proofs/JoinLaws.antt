@@ -1,8 +1,7 @@
 -- Joins by their codes; then the run at the node, part by part, and with it what the answers for the conditions below make of the node's.
 use Rattle.evaluators.proofs.Terms.{ℕ, _+_, _-_, _*_, _<_, Bool, true, false, not, cond, Bool·beq, List, _⊎_, inl, inr, _≢_, nothing, some, _≡_, refl, sym, ap, _∙_, subst, arith, eqb}
-use Rattle.evaluators.proofs.Terms.{predicate, and, or, implies, iff, join, holdsᵖ, Same, same-trans, code-of, Refusal, Held, Truth, Refused, HeldAs, NodeReady, Visited, Sort, Asks, EvaluatesP, fieldA, fieldB, IsPred, Join, DecidesBy, JoinedBy}
+use Rattle.evaluators.proofs.Terms.{predicate, and, or, implies, iff, join, holdsᵖ, Same, same-trans, code-of, Refusal, Held, Truth, Refused, HeldAs, NodeReady, Visited, Sort, Asks, EvaluatesP, fieldA, fieldB, IsPred, Join, DecidesBy, JoinedBy, joinCode, same-join}
 use Rattle.rules.specs.Operations as rules
-use Rattle.operations.proofs.KindLaws.{joinCode, same-join}
 use Rattle.evaluators.proofs.RunLaws.{then-done, then-refused, returns}
 use Rattle.evaluators.proofs.NodeLaws.{Child, ready-child, visited-child, held-as}
 use Rattle.evaluators.proofs.NodeLaws.{asks-on, visits, after, holdsIn, held-below, held-by}

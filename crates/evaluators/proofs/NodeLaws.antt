@@ -1,13 +1,7 @@
 -- The children of a node, its tree, what its evaluators pass on to theirs, and its answer from theirs.
 use Rattle.evaluators.proofs.Terms.{ℕ, zero, suc, _+_, _-_, _*_, _≤_, _<_, Bool, true, List, [], _∷_, Option, nothing, some, _≡_, refl, sym, ap, _∙_, subst, arith, T, length, getD, categoryOf, Field, isChild, Table, fieldsIf, pick, held, exprOf, FieldRight, FieldsRight, KindRight, NodeRight, FormedAs, FormedBounds, SettledAs, SettleReady, RefusalOf, StopOf}
-use Rattle.evaluators.proofs.Terms.{Value, Kind, Category, predicate, expression, unused, child, kindOf, fieldsOf, Node, Pred, Expr, tableOf, nodeAt, kindAt, fieldWords, predOf, predAt, exprAt, nodeCount, Readable, CategoryIs, Env, End, refused, Run, M, _>>_, visit, Given, holdsᵖ, valueᵉ, sizes-length, Same, stands-frame, same-refl, same-trans, length-code, built, Builds, Sizes, GoodAt, Gives, Outcome, Held, Refused, Formed, Placed, Stopped, Refusal, EndsWith, HeldAs, fieldA, fieldB, conditionCells, expressionCells, cellsFor, Binds, NodeReady, Visited, Asks, truthAt, valueAt, EvaluatesP, EvaluatesE, Settles}
-use Rattle.rules.specs.Cells.{good}
-use Rattle.rules.specs.Reading.{height, tallest}
-use Rattle.laws.proofs.TableLaws.{nodes-length, height-at}
+use Rattle.evaluators.proofs.Terms.{Value, Kind, Category, predicate, expression, unused, child, kindOf, fieldsOf, Node, Pred, Expr, tableOf, nodeAt, kindAt, fieldWords, predOf, predAt, exprAt, nodeCount, Readable, CategoryIs, Env, End, refused, Run, M, _>>_, visit, Given, holdsᵖ, valueᵉ, sizes-length, Same, stands-frame, same-refl, same-trans, length-code, built, Builds, Sizes, GoodAt, Gives, Outcome, Held, Refused, Formed, Placed, Stopped, Refusal, EndsWith, HeldAs, fieldA, fieldB, conditionCells, expressionCells, cellsFor, Binds, NodeReady, Visited, Asks, truthAt, valueAt, EvaluatesP, EvaluatesE, Settles, good, height, tallest, nodes-length, height-at, size-below, value-good, constants-frame}
 use Rattle.reading.proofs.Heights.{tallest-kept}
-use Rattle.laws.proofs.CellsLaws.{size-below}
-use Rattle.laws.proofs.FormedLaws.{value-good}
-use Rattle.constants.proofs.ConstantLaws.{constants-frame}
 use Rattle.evaluators.proofs.RunLaws.{visited, endOf}
 
 -- The sizes of a readable table are small.

@@ -1,9 +1,8 @@
 -- The loop over the members of a quantifier's range, turn by turn, and the quantifier's node: what is given for the rest of the range is
 -- given for the whole.
 use Rattle.evaluators.proofs.Terms.{ℕ, _+_, _-_, _*_, _<_, Bool, true, false, not, Bool·beq, List, [], _∷_, some, _≡_, refl, sym, ap, _∙_, arith, eqb, setAt, Quant, quantify, quantOf, EvaluatesEach}
-use Rattle.evaluators.proofs.Terms.{Value, members, forAll, forSome, quant, kindOf, End, done, refused, Run, M, holdsᵖ, EndsAt, same-refl, same-trans, code-of, Refusal, RefusalOf, Held, Truth, Refused, Formed, Stopped, Set, Unlike, EndsWith, HeldAs, fieldA, fieldB, fieldC, IsPred, RangeAt, NodeReady, Visited, Sort, AsksEach, bodyOf, EachReady, EvaluatesP, EvaluatesE}
+use Rattle.evaluators.proofs.Terms.{Value, members, forAll, forSome, quant, kindOf, End, done, refused, Run, M, holdsᵖ, EndsAt, same-refl, same-trans, code-of, Refusal, RefusalOf, Held, Truth, Refused, Formed, Stopped, Set, Unlike, EndsWith, HeldAs, fieldA, fieldB, fieldC, IsPred, RangeAt, NodeReady, Visited, Sort, AsksEach, bodyOf, EachReady, EvaluatesP, EvaluatesE, quantCode}
 use native.Mathlib.Nat.{le-refl}
-use Rattle.operations.proofs.KindLaws.{quantCode}
 use Rattle.evaluators.proofs.RunLaws.{then-done, then-refused, returns}
 use Rattle.evaluators.proofs.NodeLaws.{held-as, formed-as, refusal-is, held-by}
 use Rattle.evaluators.proofs.BodyLaws.{none-left, Loop, loop-start, body-asks, Ran, ran-at, loop-next, body-ends, body-frame}

@@ -1,6 +1,6 @@
 -- `settle`: by what the operation answers. Landmark: what was lent.
+use Rattle.evaluators.proofs.Terms.{needs}
 use Rattle.evaluators.proofs.SettleLaws.{settles-lacks, settles-within, settles-cell, built-above, settle-room, settles-built}
-use borrow.Author.Needs.{needs}
 use Rattle.evaluators.proofs.settle.Statement.{statement}
 use Rattle.evaluators.proofs.settle.Tie as tie
 

@@ -1,8 +1,6 @@
 -- `standing_two`: nothing is said of 0; otherwise both operands stand already. Landmarks: what was lent, that nothing is built, and the words of the
 -- fields.
-use Rattle.evaluators.proofs.Terms.{ℕ, List, _≡_, refl, arith, not-false, lit<, PlacedLeaf, FunctionLeaf}
-use denote.Ref.{now}
-use Rattle.operations.specs.Outcomes.{IsLight}
+use Rattle.evaluators.proofs.Terms.{ℕ, List, _≡_, refl, arith, not-false, lit<, PlacedLeaf, FunctionLeaf, now, IsLight}
 use Rattle.evaluators.proofs.SafeLaws.{ready-node}
 use Rattle.evaluators.proofs.NodeLaws.{TwoFields, ready-first}
 use Rattle.evaluators.proofs.DispatchLaws.{place-ready, light-two}

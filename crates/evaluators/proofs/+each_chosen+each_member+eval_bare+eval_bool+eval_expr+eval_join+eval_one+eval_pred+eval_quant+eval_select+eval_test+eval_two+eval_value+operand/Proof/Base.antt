@@ -1,7 +1,7 @@
 -- The members of the cycle with their measures: the node number falls, or it stays and what is left to do at the node falls. Members with the
 -- same arguments share their kinds: those of `eval_pred` take a node, those of `eval_join` the code of its kind too. And the terms and laws that
 -- several members' proofs use.
-pub use Rattle.evaluators.proofs.Terms.{ℕ, _-_, refl, sym, _∙_, arith, lit<, inl, inr, ⊎-elim, Visited}
+pub use Rattle.evaluators.proofs.Terms.{ℕ, _-_, refl, sym, _∙_, arith, lit<, inl, inr, ⊎-elim, Visited, StandingTwo, eqb-false, now}
 use Rattle.evaluators.proofs.Terms.{_+_, _*_}
 use borrow.Fn.Kinds.{In, Out, RK}
 pub use Rattle.fitting.proofs.Cycle.{Over, OverLoop}
@@ -25,7 +25,6 @@ use Rattle.evaluators.proofs.each_member.Kinds as every
 use Rattle.evaluators.proofs.eval_pred.Kinds as node
 use Rattle.evaluators.proofs.eval_join.Kinds as kind
 use Rattle.evaluators.proofs.eval_expr.Kinds as formed
-pub use denote.Ref.{now}
 pub use Rattle.evaluators.proofs.SafeLaws.{ready-node, one-less, binder-node, entry-below, entry-scaled}
 pub use Rattle.evaluators.proofs.NodeLaws.{child-asks, held-as, formed-as, stop-is, settle-asks, settle-tells}
 pub use Rattle.evaluators.proofs.BodyLaws.{member-low, Ran, member-at}

@@ -9,8 +9,7 @@ use Rattle.operations.proofs.light.Reads as light
 use Rattle.evaluators.proofs.settle.Reads as settle
 use Rattle.table.proofs.node_kind.Reads as kind
 use Rattle.evaluators.proofs.stopped.Reads as stopped
-use Rattle.evaluators.proofs.+each_chosen+each_member+eval_bare+eval_bool+eval_expr+eval_join+eval_one+eval_pred+eval_quant+eval_select+eval_test+eval_two+eval_value+operand.Proof.Base.{Over, eval-bool, eval-one, eval-select, eval-two, eval-value, ℕ, refl, sym, ⊎-elim, inl, inr, arith, now, Visited, ready-node, formed-as, settle-asks, settle-tells, counted}
-use Rattle.evaluators.specs.Cycle.{StandingTwo}
+use Rattle.evaluators.proofs.+each_chosen+each_member+eval_bare+eval_bool+eval_expr+eval_join+eval_one+eval_pred+eval_quant+eval_select+eval_test+eval_two+eval_value+operand.Proof.Base.{Over, eval-bool, eval-one, eval-select, eval-two, eval-value, ℕ, refl, sym, ⊎-elim, inl, inr, arith, now, Visited, ready-node, formed-as, settle-asks, settle-tells, counted, StandingTwo}
 use Rattle.evaluators.proofs.FormLaws.{light-asks, light-operated}
 use Rattle.evaluators.proofs.DispatchLaws.{spent-expr, visited-as, expression-code, one-keys, one-range, two-key, two-low, two-high, no-other, leaf-node, leaf-answer, standing-code, standing-ready, standing-answer}
 
