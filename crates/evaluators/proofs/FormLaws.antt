@@ -62,7 +62,7 @@ module _ {bs env s : List ℕ} {top k n m left : ℕ} (p : Visited bs env s top 
 
 -- 28 to 32, 37 and 39 to 41: the node's operands have been evaluated.
 module _ {bs env s : List ℕ} {top k n left : ℕ} (p : Visited bs env s top k n left × Sort two k) where
-  pub two-fields : TwoFields bs n
+  pub two-fields : TwoFields bs env s top n
   two-fields = visited-operands (p .0) (two (p .1 .0)) (p .1 .1) refl
 
   -- What the operation may take for granted of its operands.
@@ -93,11 +93,11 @@ module _ {bs env s : List ℕ} {top k n left : ℕ} (p : Visited bs env s top k 
         high = h .high;
         order = h .order;
         room = omega (arith, two-ready h .room, done .frame .kept);
-        gives = λ i. let v = h .answer (after x i) in (
-          twoGiven j (v .first) (v .second),
-          visits x i _ (then-done _ (v .leftEnds) (then-done _ (v .rightEnds)
-              (fitted-ends n (twoRule j) (v .first ∷ v .second ∷ []) (twoValue j (v .first) (v .second)) _ (v .rightEnds .steps)))),
-          done .answer (tableOf bs .sizes) mid (v .first) (v .second) (sizes-small bs (x .ready .readable)) (h .order) (v .leftAt) (v .rightAt),
+        gives = λ i. let v = h .first (after x i) in let w = h .second (after x i) in (
+          twoGiven j (v .value) (w .value),
+          visits x i _ (then-done _ (v .ends) (then-done _ (w .ends)
+              (fitted-ends n (twoRule j) (v .value ∷ w .value ∷ []) (twoValue j (v .value) (w .value)) _ (w .ends .steps)))),
+          done .answer (tableOf bs .sizes) mid (v .value) (w .value) (sizes-small bs (x .ready .readable)) (h .order) (v .place) (w .place),
         );
       }
 
@@ -107,12 +107,12 @@ module _ {bs env s : List ℕ} {top k n left : ℕ} (x : Visited bs env s top k 
   at-two = (x, light-two (z .light))
 
   first-stands : EvaluatesE bs env s top (fieldA bs n) (left - 1) s (Placed (r .first) top (left - 2))
-  first-stands = placed-answer (left-ready (x .ready) (two-fields at-two) refl .0) (z .first) (omega (arith, z .visits)) (omega arith)
+  first-stands = placed-answer (left-ready (two-fields at-two) refl .0) (z .first) (omega (arith, z .visits)) (omega arith)
 
   both : EvaluatesBoth bs env s top n (left - 1) s (r .first) top (r .second) top (left - 3)
   both =
-      let q = right-ready (x .ready) (two-fields at-two) refl first-stands refl refl .0 in
-      both-formed (x .ready) (two-fields at-two) refl first-stands refl refl (placed-answer q (z .second) (omega (arith, z .visits)) (omega arith)) refl
+      let q = right-ready (two-fields at-two) refl first-stands refl refl .0 in
+      both-formed (two-fields at-two) refl first-stands refl refl (placed-answer q (z .second) (omega (arith, z .visits)) (omega arith)) refl
 
   -- The first is marked, so it is an identifier's value and known to be a function.
   known-first : FunctionLeaf bs env (fieldA bs n) → KnownFunction s (r .first) true

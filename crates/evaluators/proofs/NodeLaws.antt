@@ -82,8 +82,9 @@ module _ (bs : List ℕ) (r : Readable bs) (n : ℕ) (lt : n < nodeCount bs) (k 
         tall = node-tall bs r _ (omega (arith, f .0));
       }
 
--- The fields a and b of a node are expressions.
-pub record TwoFields (bs : List ℕ) (n : ℕ) : Type 0 where
+-- A node that may be evaluated, whose fields a and b are expressions.
+pub record TwoFields (bs env s : List ℕ) (top n : ℕ) : Type 0 where
+  pub ready : NodeReady bs env s top n
   pub left : Child bs n (fieldA bs n) expression
   pub right : Child bs n (fieldB bs n) expression
 
@@ -157,8 +158,9 @@ module _ {bs env s : List ℕ} {top k n left : ℕ} (v : Visited bs env s top k 
       m ≡ getD (fieldWords (nodeAt (tableOf bs .nodes) n)) i 0 → Child bs n m c
   visited-child c i m l l′ q w = subst (λ (z : ℕ). Child bs n z c) (sym w) (field-child bs (v .ready .readable) n (v .ready .node) x visited-kind c i l l′ q)
 
-  pub visited-operands : fieldsOf x ≡ child expression ∷ child expression ∷ unused ∷ [] → TwoFields bs n
+  pub visited-operands : fieldsOf x ≡ child expression ∷ child expression ∷ unused ∷ [] → TwoFields bs env s top n
   visited-operands q = record {
+    ready = v .ready;
     left = visited-child expression 0 (fieldA bs n) (omega arith) (rw q (omega arith)) (rw q) refl;
     right = visited-child expression 1 (fieldB bs n) (omega arith) (rw q (omega arith)) (rw q) refl;
   }

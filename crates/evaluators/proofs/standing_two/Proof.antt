@@ -27,7 +27,7 @@ begun c = word (c .before) .before
 light : (c : tie.Else2) → IsLight (lent (enough c) .args .kind)
 light c = c .before .is-light .ensures (not-false _ (c .if2 .left))
 
-fields : (c : tie.Else2) → let v = lent (enough c) in TwoFields (now (v .args .table)) (v .args .node)
+fields : (c : tie.Else2) → let v = lent (enough c) in TwoFields (now (v .args .table)) (now (v .args .env)) (v .pre .0) (v .pre .1) (v .args .node)
 fields c = two-fields (lent (enough c) .pre .2, light-two (light c))
 
 -- The same under equal names.
@@ -58,11 +58,11 @@ standing-two-spec =
     (λ c κs. tt)
     (λ c z. absurd (z refl))
     (λ c κs. (ready-node (lent (enough c) .pre .2 .ready), lit< tt))
-    (λ c κs. let e = c .before in rw (c .node-field .ensures) (place-ready (ready-first (lent (enough e) .pre .2 .ready) (fields e .right))))
+    (λ c κs. let e = c .before in rw (c .node-field .ensures) (place-ready (ready-first (fields e .ready) (fields e .right))))
     (λ c z. absurd (z refl))
     (λ c κs. (ready-node (lent (enough (word c .before)) .pre .2 .ready), lit< tt))
-    (λ c κs. let e = begun c in rw (c .node-field2 .ensures) (place-ready (ready-first (lent (enough e) .pre .2 .ready) (fields e .left))))
+    (λ c κs. let e = begun c in rw (c .node-field2 .ensures) (place-ready (ready-first (fields e .ready) (fields e .left))))
     (λ c κs. let f = c .before in
     let e = begun f in
-    rw (f .node-field2 .ensures) (place-ready (ready-first (lent (enough e) .pre .2 .ready) (fields e .left))))
+    rw (f .node-field2 .ensures) (place-ready (ready-first (fields e .ready) (fields e .left))))
     returns-4)

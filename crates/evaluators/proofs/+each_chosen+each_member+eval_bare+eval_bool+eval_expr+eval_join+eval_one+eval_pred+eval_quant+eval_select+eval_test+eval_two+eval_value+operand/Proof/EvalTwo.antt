@@ -5,7 +5,6 @@ use Rattle.table.proofs.node_field.Reads as field
 use Rattle.evaluators.proofs.settle.Reads as settle
 use Rattle.operations.proofs.two.Reads as two
 use Rattle.evaluators.proofs.+each_chosen+each_member+eval_bare+eval_bool+eval_expr+eval_join+eval_one+eval_pred+eval_quant+eval_select+eval_test+eval_two+eval_value+operand.Proof.Base.{Over, eval-two, operand, ℕ, _-_, _∙_, lit<, now, ready-node, settle-asks, settle-tells}
-use Rattle.evaluators.proofs.NodeLaws.{TwoFields}
 use Rattle.evaluators.proofs.BothLaws.{EvaluatesBoth, left-asks, right-asks, both-stops, both-stops-2, both-formed}
 use Rattle.evaluators.proofs.FormLaws.{two-fields, two-ready, two-fails, two-operated}
 
@@ -43,9 +42,6 @@ module _ (t : ℕ) where
   abbrev settled : Here lts.After-settle → Here lts.After-two
   settled c = let s = c .before .before in s .before .before
 
-  fields : (v : Here lts.Start) → TwoFields (now (v .args .table)) (v .args .node)
-  fields v = two-fields (v .pre .1)
-
   -- Both operands have values.
   formed : (w : Here lts.After-second) →
       let s = ran₂ (w .before .before) in let a = begun w .args in let x = placed (s .before .before) .first .given .0 in
@@ -54,7 +50,7 @@ module _ (t : ℕ) where
       (x .0) (x .1 .0) (y .0) (y .1 .0) (y .1 .1 .0)
   formed w =
       let s = ran₂ (w .before .before) in let e = first s in let v = lent (word e) in let g = s .before .before in
-      both-formed (v .pre .1 .0 .ready) (fields v) (word e .node-field .ensures) (e .operand .ensures) (placed g .first .given .1)
+      both-formed (two-fields (v .pre .1)) (word e .node-field .ensures) (e .operand .ensures) (placed g .first .given .1)
       (g .node-field2 .ensures) (s .operand2 .ensures) (w .second .given .1)
 
   pub closed : {M : Type 1} → lts.Closed claims (eval-two .at t) (eval-two .post) M
@@ -62,18 +58,18 @@ module _ (t : ℕ) where
       lts.spec claims (eval-two .at t) (eval-two .post)
       (λ c κs. (ready-node (c .before .before .pre .1 .0 .ready), lit< tt))
       (λ c. lent (c .before) .pre .1 .0 .unspent)
-      (λ c κs. let f = c .before in let v = lent f in left-asks (v .pre .1 .0 .ready) (fields v) (f .node-field .ensures) (v .pre .0))
+      (λ c κs. let f = c .before in let v = lent f in left-asks (two-fields (v .pre .1)) (f .node-field .ensures) (v .pre .0))
       (λ c. c .match .keys1) (λ c. c .match .keys2)
       (λ c. ran (c .before .before) .operand .kept .1 .1 .0)
       (λ c. let e = ran (c .before .before) in let v = lent (word e) in let q = c .enum-told .given .1 in
-      two-fails (v .pre .1) q (both-stops (v .pre .1 .0 .ready) (fields v) (word e .node-field .ensures) (e .operand .ensures) q))
+      two-fails (v .pre .1) q (both-stops (two-fields (v .pre .1)) (word e .node-field .ensures) (e .operand .ensures) q))
       (λ c κs. let m = c .before in (ready-node (lent (word (ran (m .before .before))) .pre .1 .0 .ready), lit< tt))
       (λ c κs. let g = c .before in let m = placed g in let e = ran (m .before .before) in let f = word e in let v = lent f in
-      right-asks (v .pre .1 .0 .ready) (fields v) (f .node-field .ensures) (e .operand .ensures) (m .first .given .1) (g .node-field2 .ensures) (v .pre .0))
+      right-asks (two-fields (v .pre .1)) (f .node-field .ensures) (e .operand .ensures) (m .first .given .1) (g .node-field2 .ensures) (v .pre .0))
       (λ c. c .match2 .keys1) (λ c. c .match2 .keys2)
       (λ c. let s = ran₂ (c .before .before) in s .operand2 .kept .1 .1 .0 ∙ first s .operand .kept .1 .1 .0)
       (λ c. let s = ran₂ (c .before .before) in let e = first s in let v = lent (word e) in let g = s .before .before in let q = c .enum-told2 .given .1 in
-      two-fails (v .pre .1) q (both-stops-2 (v .pre .1 .0 .ready) (fields v) (word e .node-field .ensures) (e .operand .ensures) (placed g .first .given .1)
+      two-fails (v .pre .1) q (both-stops-2 (two-fields (v .pre .1)) (word e .node-field .ensures) (e .operand .ensures) (placed g .first .given .1)
       (g .node-field2 .ensures) (s .operand2 .ensures) q))
       (λ c κs. let w = c .before .before in two-ready (begun w .pre .1) (formed w))
       (λ c κs. let q = c .before .before .before in let w = done q in settle-asks (two-operated (begun w .pre .1) (formed w) (q .two .ensures)))
