@@ -1,6 +1,6 @@
 -- The loop over the members of a quantifier's range, turn by turn, and the quantifier's node: what is given for the rest of the range is
 -- given for the whole.
-use Rattle.evaluators.proofs.Terms.{ℕ, _+_, _-_, _*_, _<_, Bool, true, false, not, Bool·beq, List, [], _∷_, some, _≡_, refl, sym, ap, _∙_, arith, eqb, setAt, Quant, quantify, quantOf, EvaluatesEach}
+use Rattle.evaluators.proofs.Terms.{ℕ, _+_, _-_, _*_, _<_, Bool, true, false, not, Bool·beq, List, [], _∷_, some, _≡_, refl, sym, ap, _∙_, arith, eqb, false≢true, setAt, Quant, quantify, quantOf, EvaluatesEach}
 use Rattle.evaluators.proofs.Terms.{Value, members, forAll, forSome, quant, kindOf, End, done, refused, Run, M, holdsᵖ, EndsAt, same-refl, same-trans, code-of, Refusal, RefusalOf, Held, Truth, Refused, Formed, Stopped, Set, Unlike, EndsWith, HeldAs, fieldA, fieldB, fieldC, IsPred, RangeAt, NodeReady, Visited, Sort, AsksEach, bodyOf, EachReady, EvaluatesP, EvaluatesE, quantCode}
 use native.Mathlib.Nat.{le-refl}
 use Rattle.evaluators.proofs.RunLaws.{then-done, then-refused, returns}
@@ -21,7 +21,15 @@ agree true false e = e
 agree false true e = sym e
 agree false false e = refl
 
--- A member that does not decide, one that does, and no member.
+-- The answer at a member ends the loop: it is refused, or decides.
+abbrev pub Decided : Bool → Held → Type 0
+Decided all (Truth b l) = b ≡ not all
+Decided all (Refused r l) = Unit {0}
+
+pub refusal-ends : (all : Bool) {h : Held} {r : Refusal} {l : ℕ} → h ≡ Refused r l → Decided all h
+refusal-ends all e = rw e tt
+
+-- A member that does not end it, one that does, and no member.
 module _ (g : Value → M Bool) where
   quantify-on : {budget left l : ℕ} (all : Bool) (v : Value) (vs : List Value) (s : ℕ) {e : End Bool} → EndsWith (g v s) (done all) budget l →
       EndsWith (quantify (quantOf all) g vs (g v s .steps)) e budget left → EndsWith (quantify (quantOf all) g (v ∷ vs) s) e budget left
@@ -29,17 +37,15 @@ module _ (g : Value → M Bool) where
   quantify-on true v vs s h k = then-done _ h k
   quantify-on false v vs s h k = then-done _ h k
 
-  quantify-stops : {budget left : ℕ} (all : Bool) (v : Value) (vs : List Value) (s : ℕ) → EndsWith (g v s) (done (not all)) budget left →
-      EndsWith (quantify (quantOf all) g (v ∷ vs) s) (done (not all)) budget left
+  quantify-ends : (budget : ℕ) (all : Bool) (v : Value) (vs : List Value) (s : ℕ) (h : Held) → Decided all h → HeldAs (g v s) budget h →
+      HeldAs (quantify (quantOf all) g (v ∷ vs) s) budget h
   unfolding quantify
-  quantify-stops true v vs s h = then-done _ h (returns false (h .steps))
-  quantify-stops false v vs s h = then-done _ h (returns true (h .steps))
-
-  quantify-refused : {budget left : ℕ} (all : Bool) (v : Value) (vs : List Value) (s : ℕ) {r p : ℕ} → EndsWith (g v s) (refused r p) budget left →
-      EndsWith (quantify (quantOf all) g (v ∷ vs) s) (refused r p) budget left
-  unfolding quantify
-  quantify-refused true v vs s h = then-refused _ h
-  quantify-refused false v vs s h = then-refused _ h
+  quantify-ends budget true v vs s (Truth true l) d h = absurd (false≢true (sym d))
+  quantify-ends budget true v vs s (Truth false l) d h = then-done _ h (returns false (h .steps))
+  quantify-ends budget false v vs s (Truth true l) d h = then-done _ h (returns true (h .steps))
+  quantify-ends budget false v vs s (Truth false l) d h = absurd (false≢true d)
+  quantify-ends budget true v vs s (Refused r l) d h = then-refused _ h
+  quantify-ends budget false v vs s (Refused r l) d h = then-refused _ h
 
   quantify-none : {budget left : ℕ} (all : Bool) (s : ℕ) → s + left ≡ budget → EndsWith (quantify (quantOf all) g [] s) (done all) budget left
   unfolding quantify
@@ -64,29 +70,24 @@ pub member-asks : {bs env s₀ : List ℕ} {top : ℕ} {all : Bool} {node from c
     b ≡ fieldC bs node → 5 * node ≡ t → (5 * b + 3 < t) × (NodeReady bs (setAt inner x at) s top b × IsPred bs b)
 member-asks {top = top} r i l ex ey e = body-asks r (i .loop) l (le-refl top) ex ey e (λ b. omega (arith, r .ready .room b, i .loop .frame .kept))
 
+-- Any end of one run is that of the other.
+held-on : {x y : Run Bool} {budget : ℕ} (r : Held) → ((e : End Bool) (l : ℕ) → EndsWith x e budget l → EndsWith y e budget l) →
+    HeldAs x budget r → HeldAs y budget r
+held-on (Truth b l) g h = g (done b) l h
+held-on (Refused r l) g h = g (refused (r .number) (r .place)) l h
+
 -- It has run.
 module _ {bs env s₀ : List ℕ} {top : ℕ} {all : Bool} {node from count left x : ℕ} {s inner : List ℕ} {at more n b : ℕ} {s′ : List ℕ} {h : Held}
     (i : Turning bs env s₀ top all node from count left x s inner at more n) (u : Ran (i .loop) 0 top b s′ h) where
-  -- The body is refused.
-  pub member-refused : {q : Refusal} {l : ℕ} → h ≡ Refused q l → EvaluatesEach bs env s₀ top node from count left (quantOf all) s′ h
-  member-refused {q} {l} e = rw e (record {
+  -- The body is refused, or decides.
+  pub member-ends : (h₀ : Held) → h ≡ h₀ → Decided all h₀ → EvaluatesEach bs env s₀ top node from count left (quantOf all) s′ h₀
+  member-ends h₀ e d = record {
     frame = body-frame u;
     answer = λ k.
         let v = ran-at u k in
-        i .gives k (refused (q .number) (q .place)) l
-        (rw (v .is) (quantify-refused (bodyOf k) all (v .value) (members (v .rest)) (i .loop .now k) (body-ends u (Refused q l) e k)));
-  })
-
-  -- The body decides.
-  pub member-decides : (got : Bool) (l : ℕ) → h ≡ Truth got l → got ≡ not all →
-      EvaluatesEach bs env s₀ top node from count left (quantOf all) s′ (Truth got l)
-  member-decides got l e q = rw q (record {
-    frame = body-frame u;
-    answer = λ k.
-        let v = ran-at u k in
-        let a = body-ends u (Truth (not all) l) (e ∙ ap (λ (z : Bool). Truth z l) q) k in
-        i .gives k (done (not all)) l (rw (v .is) (quantify-stops (bodyOf k) all (v .value) (members (v .rest)) (i .loop .now k) a));
-  })
+        held-on h₀ (i .gives k)
+        (rw (v .is) (quantify-ends (bodyOf k) (k .asks .budget) all (v .value) (members (v .rest)) (i .loop .now k) h₀ d (body-ends u h₀ e k)));
+  }
 
   -- The body does not decide, and the next member stands at `end`.
   pub turning-on : (got : Bool) (l end : ℕ) → h ≡ Truth got l → got ≡ all → EndsAt s′ at end →
@@ -114,12 +115,6 @@ members-done {all = all} {n = n} i e =
 -- The quantifier of a kind.
 quant-of : (k : ℕ) (j : Quant) → kindOf k ≡ some (quant j) → quantOf (eqb k 10) ≡ j
 quant-of k j e = rw (code-of k (quant j) e) (elim j as (λ j. quantOf (eqb (quantCode j) 10) ≡ j) [ forAll ↦ refl | forSome ↦ refl ])
-
--- Any end of one run is that of the other.
-held-on : {x y : Run Bool} {budget : ℕ} (r : Held) → ((e : End Bool) (l : ℕ) → EndsWith x e budget l → EndsWith y e budget l) →
-    HeldAs x budget r → HeldAs y budget r
-held-on (Truth b l) g h = g (done b) l h
-held-on (Refused r l) g h = g (refused (r .number) (r .place)) l h
 
 -- The evaluation of a quantifier's node, whose range is the node `a`.
 pub quant-binder : {bs env s : List ℕ} {top k n left a : ℕ} (d : Visited bs env s top k n left × Sort quant k) → a ≡ fieldB bs n →
