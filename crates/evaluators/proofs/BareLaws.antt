@@ -47,7 +47,7 @@ module _ {bs : List ℕ} {m k : ℕ} (r : Readable bs) (lt : m < nodeCount bs) (
       ((g u : ℕ) → fieldA bs m < g → u + (l - 1) ≡ budget → HeldAs (truthAt bs budget g (fieldA bs m) ρ u) budget h) →
       HeldAs (truthAt bs budget g m ρ u) budget (turnedBy true h)
   not-held g ρ budget u h below c more on =
-      let d = pred-at (tableOf bs .nodes) m negation not-kind g below in
+      let d = pred-at (tableOf bs .nodes) m (some negation) not-kind g below in
       subst (λ (p : Pred). HeldAs (holdsᵖ budget (tableOf bs .sizes) p ρ u) budget (turnedBy true h)) (sym (d .is))
       (negated-ends budget (tableOf bs .sizes) m ρ u (predAt (d .depth) (tableOf bs .nodes) (fieldA bs m)) h (omega arith)
       (on (d .depth) (suc u) (omega (arith, d .enough, not-child .below)) (omega arith)))

@@ -1,10 +1,6 @@
 -- The body of a binder: its environment at a member of the range, what the loop's answer is asked for, and the members one after the other.
 use Rattle.evaluators.proofs.Terms.{ℕ, _+_, _-_, _*_, _≤_, _<_, Bool, List, [], _≡_, refl, sym, _∙_, subst, arith, length, getD, setAt, length-set, eq-eqb, ne-eqb, none, _▸_, _with_≔_, NewFirsts}
-use Rattle.evaluators.proofs.Terms.{Value, Values, weight, members, tableOf, Env, code, codes, Stands, Same, SomeAt, EndsAt, stands-frame, same-refl, same-trans, length-code, length-codes, Builds, Sizes, GoodAt, good-fits, good-inside, Held, Truth, HeldAs, Listed, fieldA, fieldC, entryPlace, FunctionEntry, IsPred, cellsFor, Binds, NodeReady, AsksEach, bodyOf, EachReady, truthAt, EvaluatesP}
-use native.Mathlib.Decide.{ℕ-discrete}
-use lib.Seq.{getD-set-same, getD-set-other}
-use Rattle.laws.proofs.FormedLaws.{with-good}
-use Rattle.arena.proofs.Standing.{stands-front, stands-back}
+use Rattle.evaluators.proofs.Terms.{Value, Values, weight, members, tableOf, Env, code, codes, Stands, Same, SomeAt, EndsAt, stands-frame, same-refl, same-trans, length-code, length-codes, Builds, Sizes, GoodAt, good-fits, good-inside, Held, Truth, HeldAs, Listed, fieldA, fieldC, entryPlace, FunctionEntry, IsPred, cellsFor, Binds, NodeReady, AsksEach, bodyOf, EachReady, truthAt, EvaluatesP, ℕ-discrete, getD-set-same, getD-set-other, with-good, stands-front, stands-back}
 use Rattle.evaluators.proofs.NodeLaws.{sizes-small, good-frame, binds-frame, ready-at, some-asks, held-as}
 
 -- The environment of the body: the binder's own, but for its name x.
@@ -107,28 +103,23 @@ loop-start {env = env} {s = s} {top = top} x r = record {
   counts = λ k. k .asks .counts;
 }
 
--- A turn: the member at `at` is bound to x, and the body, node c, runs, above `to`.
+-- A turn: the member at `at` is bound to x, and the body, node c, is to run above `to`.
 module _ {bs env s₀ : List ℕ} {top n from count left x : ℕ} {s inner : List ℕ} {at more m spare : ℕ} (r : EachReady bs env s₀ top n from count spare)
     (i : Loop bs env s₀ top n from count left x s inner at more m) (some : 0 < more) where
   pub member : (k : AsksEach bs env s₀ top n from count left) → First (tableOf bs .sizes) s top at more (i .rest k)
   member k = first-member (i .rest k) (i .listed k) some
 
-  -- Some member is left.
-  abbrev pub some-member : First (tableOf bs .sizes) s top at more (i .rest (some-asked left r))
-  some-member = member (some-asked left r)
-
   small : Sizes (tableOf bs .sizes)
   small = sizes-small bs (r .ready .readable)
 
   pub member-low : at < 65536
-  member-low = omega (arith, good-inside small (some-member .here), i .frame .kept, r .ready .small)
+  member-low = omega (arith, good-inside small (member (some-asked left r) .here), i .frame .kept, r .ready .small)
 
   module _ {to : ℕ} (low : top ≤ to) (ex : x ≡ fieldA bs n) {c : ℕ} (ey : c ≡ fieldC bs n) where
     member-binds : (k : AsksEach bs env s₀ top n from count left) → Binds bs s to (setAt inner x at) (k .asks .values with x ≔ member k .value)
     member-binds k =
-        let g = member k .here in
         binds-body (i .inside) (omega (arith, ex, r .name)) member-low (binds-frame to (i .frame) low (k .asks .binds))
-        (record { stands = g .stands; below = omega (arith, g .below); good = g .good })
+        (good-frame to (same-refl top s) low (member k .here))
 
     -- What the body's evaluator asks, where the measures are those of the cycle.
     pub body-asks : {t : ℕ} → 5 * n ≡ t → (Builds bs → to + cellsFor bs (fieldC bs n) ≤ length s) →
@@ -139,46 +130,59 @@ module _ {bs env s₀ : List ℕ} {top n from count left x : ℕ} {s inner : Lis
           rw ey (ready-at (r .ready) (fieldC bs n) (r .ready .node) room (i .frame .kept) (inner-set at (i .inside) .long) b, r .is),
         )
 
-    -- It has run.
-    module _ {s′ : List ℕ} {h : Held} (p : EvaluatesP bs (setAt inner x at) s to c m s′ h) where
-      pub body-ends : (h₀ : Held) → h ≡ h₀ → (k : AsksEach bs env s₀ top n from count left) →
-          HeldAs (bodyOf k (member k .value) (i .now k)) (k .asks .budget) h₀
-      body-ends h₀ e k =
-          let u = k .asks in
-          let v = member k .value in
-          let t = i .now k in
-          let a = held-as refl e p .answer (u .depth) (u .values with x ≔ v) (u .budget) t (omega (arith, ey, r .deeper, u .deep)) (i .counts k)
-          (member-binds k) in
-          subst (λ (z : ℕ). HeldAs (truthAt bs (u .budget) (u .depth) z (u .values with fieldA bs n ≔ v) t) (u .budget) h₀) ey
-          (subst (λ (z : ℕ). HeldAs (truthAt bs (u .budget) (u .depth) c (u .values with z ≔ v) t) (u .budget) h₀) ex a)
+-- It has run.
+pub record Ran {bs env s₀ : List ℕ} {top n from count left x : ℕ} {s inner : List ℕ} {at more m : ℕ}
+    (i : Loop bs env s₀ top n from count left x s inner at more m) (spare to c : ℕ) (s′ : List ℕ) (h : Held) : Type 0 where
+  pub ready : EachReady bs env s₀ top n from count spare
+  pub some : 0 < more
+  pub low : top ≤ to
+  pub name : x ≡ fieldA bs n
+  pub body : c ≡ fieldC bs n
+  pub told : EvaluatesP bs (setAt inner x at) s to c m s′ h
 
-      pub body-frame : Same top s₀ s′
-      body-frame = same-trans top to s₀ s s′ (i .frame) (p .frame) low
+module _ {bs env s₀ : List ℕ} {top n from count left x : ℕ} {s inner : List ℕ} {at more m : ℕ}
+    {i : Loop bs env s₀ top n from count left x s inner at more m} {spare to c : ℕ} {s′ : List ℕ} {h : Held} (u : Ran i spare to c s′ h) where
+  -- The member that it has run at.
+  abbrev pub ran-at : (k : AsksEach bs env s₀ top n from count left) → First (tableOf bs .sizes) s top at more (i .rest k)
+  ran-at = member (u .ready) i (u .some)
 
-      -- Each member stands as before.
-      pub under : Same top s s′
-      under = same-trans top to s s s′ (same-refl top s) (p .frame) low
+  pub body-ends : (h₀ : Held) → h ≡ h₀ → (k : AsksEach bs env s₀ top n from count left) → HeldAs (bodyOf k (ran-at k .value) (i .now k)) (k .asks .budget) h₀
+  body-ends h₀ e k =
+      let j = k .asks in
+      let v = ran-at k .value in
+      let t = i .now k in
+      let a = held-as refl e (u .told) .answer (j .depth) (j .values with x ≔ v) (j .budget) t (omega (arith, u .body, u .ready .deeper, j .deep)) (i .counts k)
+      (member-binds (u .ready) i (u .some) (u .low) (u .name) (u .body) k) in
+      subst (λ (z : ℕ). HeldAs (truthAt bs (j .budget) (j .depth) z (j .values with fieldA bs n ≔ v) t) (j .budget) h₀) (u .body)
+      (subst (λ (z : ℕ). HeldAs (truthAt bs (j .budget) (j .depth) c (j .values with z ≔ v) t) (j .budget) h₀) (u .name) a)
 
-      stays : {v : Value} → GoodAt (tableOf bs .sizes) s top at v → Stands s′ at (code v)
-      stays g = good-frame under g .stands
+  pub body-frame : Same top s₀ s′
+  body-frame = same-trans top to s₀ s s′ (i .frame) (u .told .frame) (u .low)
 
-      pub member-at : SomeAt s′ at
-      member-at =
-          let w = some-member in
-          record { value = w .value; stands = stays (w .here); fits = good-fits small (w .value) (w .here .good) }
+  -- Each member stands as before.
+  pub under : Same top s s′
+  under = same-trans top to s s s′ (same-refl top s) (u .told .frame) (u .low)
 
-      module _ {end : ℕ} (z : EndsAt s′ at end) where
-        pub member-ends : (k : AsksEach bs env s₀ top n from count left) → end ≡ at + weight (member k .value)
-        member-ends k = let w = member k in z (w .value) (stays (w .here)) (good-fits small (w .value) (w .here .good))
+  stays : {v : Value} → GoodAt (tableOf bs .sizes) s top at v → Stands s′ at (code v)
+  stays g = good-frame top under (omega arith) g .stands
 
-        -- It is true or false; s″ is the arena with what the loop itself has written, above `to`, and the next member stands at `end`.
-        abbrev pub loop-next : (b : Bool) {l : ℕ} {s″ : List ℕ} → h ≡ Truth b l → Same to s′ s″ →
-            Loop bs env s₀ top n from count left x s″ (setAt inner x at) end (more - 1) l
-        loop-next b {l} {s″} e f = record {
-          frame = same-trans top to s₀ s′ s″ body-frame f low;
-          inside = inner-set at (i .inside);
-          rest = λ k. member k .rest;
-          listed = λ k. rw (member-ends k) (listed-frame (same-trans top to s s′ s″ under f low) (member k .behind));
-          now = λ k. bodyOf k (member k .value) (i .now k) .steps;
-          counts = λ k. body-ends (Truth b l) e k .steps;
-        }
+  pub member-at : SomeAt s′ at
+  member-at =
+      let w = ran-at (some-asked left (u .ready)) in
+      record { value = w .value; stands = stays (w .here); fits = good-fits (small (u .ready) i (u .some)) (w .value) (w .here .good) }
+
+  module _ {end : ℕ} (z : EndsAt s′ at end) where
+    pub member-ends : (k : AsksEach bs env s₀ top n from count left) → end ≡ at + weight (ran-at k .value)
+    member-ends k = let w = ran-at k in z (w .value) (stays (w .here)) (good-fits (small (u .ready) i (u .some)) (w .value) (w .here .good))
+
+    -- It is true or false; s″ is the arena with what the loop itself has written, above `to`, and the next member stands at `end`.
+    abbrev pub loop-next : (b : Bool) {l : ℕ} {s″ : List ℕ} → h ≡ Truth b l → Same to s′ s″ →
+        Loop bs env s₀ top n from count left x s″ (setAt inner x at) end (more - 1) l
+    loop-next b {l} {s″} e f = record {
+      frame = same-trans top to s₀ s′ s″ body-frame f (u .low);
+      inside = inner-set at (i .inside);
+      rest = λ k. ran-at k .rest;
+      listed = λ k. rw (member-ends k) (listed-frame (same-trans top to s s′ s″ under f (u .low)) (ran-at k .behind));
+      now = λ k. bodyOf k (ran-at k .value) (i .now k) .steps;
+      counts = λ k. body-ends (Truth b l) e k .steps;
+    }

@@ -1,25 +1,12 @@
 -- The two operands of a node, one after the other: their answers joined, for tests and for operations of two; and the tests.
 use Rattle.evaluators.proofs.Terms.{ℕ, _+_, _-_, _*_, _≤_, _<_, Bool, true, false, List, [], _∷_, _≡_, refl, sym, _∙_, subst, arith}
-use Rattle.evaluators.proofs.Terms.{Value, expression, test, fits, tableOf, End, done, refused, Run, M, return, _>>=_, _>>_, fitting, holdsᵖ, Same, same-trans, GoodAt, SomeOperands, Refusal, Formed, Placed, Stopped, Truth, Refused, EndsWith, PlacedAs, conditionCells, NodeReady, Visited, Sort, Asks, valueAt, EvaluatesP, EvaluatesE, fieldA, fieldB, IsExpr, Test, holds, TestOf, tested}
-use Rattle.rules.specs.Rules.{testRule}
-use Rattle.rules.specs.Reading.{height}
+use Rattle.evaluators.proofs.Terms.{Value, expression, test, fits, tableOf, End, done, refused, Run, M, return, _>>=_, _>>_, fitting, holdsᵖ, Same, same-trans, SomeOperands, Refusal, Formed, Placed, Stopped, Truth, Refused, EndsWith, PlacedAs, conditionCells, NodeReady, Visited, Sort, Asks, valueAt, EvaluatesP, EvaluatesE, fieldA, fieldB, IsExpr, Held, RefusalOf, Test, holds, TestOf, tested, testRule, height, good-above}
 use Rattle.operations.specs.declared.Tested.{Tested}
 use Rattle.operations.specs.declared.Tested.the-variants.{Truth as Tells, Unlike}
-use Rattle.operations.proofs.GoodLaws.{good-above}
 use Rattle.operations.proofs.OutcomeLaws.{test-fit, test-unfit}
 use Rattle.evaluators.proofs.RunLaws.{then-done, then-refused, returns, fitting-on, fitting-refused}
 use Rattle.evaluators.proofs.NodeLaws.{Child, TwoFields, ready-child, ready-first, good-frame, sizes-small, formed-as, some-asks, asks-on}
-use Rattle.evaluators.proofs.NodeLaws.{visited-operands, visits, after, valueIn, formed-below, predᵍ, held-by}
-
--- Both operands have values: that of the first, x, stands at a, below mid, and then that of the second, y, at b, below next.
-pub record BothAs (x y : Run Value) (budget : ℕ) (gs s : List ℕ) (a mid b next left : ℕ) : Type 0 where
-  pub first : Value
-  pub second : Value
-  pub between : ℕ
-  pub leftEnds : EndsWith x (done first) budget between
-  pub rightEnds : EndsWith y (done second) budget left
-  pub leftAt : GoodAt gs s mid a first
-  pub rightAt : GoodAt gs s next b second
+use Rattle.evaluators.proofs.NodeLaws.{held-as, refusal-is, visited-operands, visits, after, valueIn, formed-below, predᵍ, held-by}
 
 -- The run at the second operand, which begins where the first ends.
 module _ {bs env s : List ℕ} {top n left : ℕ} (i : Asks bs env s top n left) where
@@ -29,7 +16,8 @@ module _ {bs env s : List ℕ} {top n left : ℕ} (i : Asks bs env s top n left)
   abbrev pub secondIn : Run Value
   secondIn = valueAt bs (i .budget) (i .depth) (fieldB bs n) (i .values) (firstIn .steps)
 
--- The answers for the operands of a node: one is refused, whatever would follow; or both have values.
+-- The answers for the operands of a node: one is refused, whatever would follow; or both have values, which stand at a, below mid, and then at b,
+-- below next.
 pub record StopsBoth (bs env s : List ℕ) (top n left : ℕ) (s′ : List ℕ) (r : Refusal) (l : ℕ) : Type 1 where
   pub frame : Same top s s′
   pub answer : (i : Asks bs env s top n left) {B : Type 0} (k : Value → Value → M B) →
@@ -42,15 +30,21 @@ pub record EvaluatesBoth (bs env s : List ℕ) (top n left : ℕ) (s′ : List �
   pub high : mid ≤ top + 256
   pub order : mid ≤ next
   pub near : next + 514 ≤ top + conditionCells (height (tableOf bs .nodes) n) + 128
-  pub answer : (i : Asks bs env s top n left) → BothAs (firstIn i) (secondIn i) (i .budget) (tableOf bs .sizes) s′ a mid b next l
+  pub between : ℕ
+  pub first : (i : Asks bs env s top n left) → PlacedAs (firstIn i) (i .budget) (tableOf bs .sizes) s′ a mid between
+  pub second : (i : Asks bs env s top n left) → PlacedAs (secondIn i) (i .budget) (tableOf bs .sizes) s′ b next l
 
 -- The first operand's node is `a`.
-module _ {bs env s : List ℕ} {top n : ℕ} (x : NodeReady bs env s top n) (y : TwoFields bs n) {a : ℕ} (q : a ≡ fieldA bs n) where
+module _ {bs env s : List ℕ} {top n : ℕ} (y : TwoFields bs env s top n) {a : ℕ} (q : a ≡ fieldA bs n) where
   pub left-child : Child bs n a expression
   left-child = subst (λ (z : ℕ). Child bs n z expression) (sym q) (y .left)
 
   pub left-ready : NodeReady bs env s top a × IsExpr bs a
-  left-ready = (ready-first x left-child, left-child .is)
+  left-ready = (ready-first (y .ready) left-child, left-child .is)
+
+  -- What its evaluator asks, where the measures are those of the cycle: 5 times the node, and what is left to do there.
+  pub left-asks : {t : ℕ} → 5 * n + 1 ≡ t → (5 * a + 4 < t) × (NodeReady bs env s top a × IsExpr bs a)
+  left-asks e = (omega (arith, left-child .below), left-ready)
 
   -- It has been evaluated.
   module _ {left : ℕ} {s′ : List ℕ} {r : Formed} (h : EvaluatesE bs env s top a left s′ r) where
@@ -66,7 +60,10 @@ module _ {bs env s : List ℕ} {top n : ℕ} (x : NodeReady bs env s top n) (y :
       placed = formed-as refl d h
 
       pub right-ready : NodeReady bs env s′ mid m × IsExpr bs m
-      right-ready = (ready-child s′ m mid x right-child (h .frame) (placed .bounds .0) (placed .bounds .1), right-child .is)
+      right-ready = (ready-child s′ m mid (y .ready) right-child (h .frame) (placed .bounds .0) (placed .bounds .1), right-child .is)
+
+      pub right-asks : {t : ℕ} → 5 * n + 1 ≡ t → (5 * m + 4 < t) × (NodeReady bs env s′ mid m × IsExpr bs m)
+      right-asks e = (omega (arith, right-child .below), right-ready)
 
       -- The values of the first, and what is asked of the second.
       first-at : (i : Asks bs env s top n left) → PlacedAs (firstIn i) (i .budget) (tableOf bs .sizes) s′ at mid l
@@ -94,27 +91,18 @@ module _ {bs env s : List ℕ} {top n : ℕ} (x : NodeReady bs env s top n) (y :
               high = placed .bounds .1;
               order = k .bounds .0;
               near = omega (arith, left-child .lower, left-child .tall, right-child .lower, placed .bounds, k .bounds);
-              answer = λ i.
-                  let v = first-at i in
-                  let w = formed-below (second i) right-child q′ (Placed other next u) k in
-                  record {
-                    first = v .value;
-                    second = w .value;
-                    between = l;
-                    leftEnds = v .ends;
-                    rightEnds = w .ends;
-                    leftAt = good-frame (h′ .frame) (v .place);
-                    rightAt = w .place;
-                  };
+              between = l;
+              first = λ i. let v = first-at i in record { value = v .value; ends = v .ends; place = good-frame mid (h′ .frame) (omega arith) (v .place) };
+              second = λ i. formed-below (second i) right-child q′ (Placed other next u) k;
             }
 
 -- What an operation may take for granted of its operands. An abbreviation, so that `next` is seen to be where they end.
 abbrev pub operands-ready : {bs env s : List ℕ} {top n left : ℕ} {s′ : List ℕ} {a mid b next l : ℕ} → NodeReady bs env s top n →
     EvaluatesBoth bs env s top n left s′ a mid b next l → SomeOperands s′ a b
 operands-ready {bs} {n = n} {left = left} {next = next} x h =
-    let v = h .answer (some-asks n left x) in
+    let i = some-asks n left x in
     let small = sizes-small bs (x .readable) in
-    (next, record { sizes = _; small = small; first = _; second = _; left = good-above small (v .leftAt) next (h .order); right = v .rightAt })
+    (next, record { sizes = _; small = small; first = _; second = _; left = good-above small (h .first i .place) next (h .order); right = h .second i .place })
 
 -- The end that the test's answer tells: the truth, or 15.
 abbrev toldEnd : ℕ → Tested → End Bool
@@ -138,13 +126,14 @@ module _ {bs env s : List ℕ} {top k n left : ℕ} (p : Visited bs env s top k 
   abbrev j : Test
   j = p .1 .0
 
-  pub test-fields : TwoFields bs n
+  pub test-fields : TwoFields bs env s top n
   test-fields = visited-operands x (test j) (p .1 .1) refl
 
   -- An operand is refused.
-  pub test-stops : {s′ : List ℕ} {r : Refusal} {l : ℕ} → StopsBoth bs env s top n (left - 1) s′ r l → EvaluatesP bs env s top n left s′ (Refused r l)
+  pub test-stops : {s′ : List ℕ} {f : Formed} {o : Held} {r : Refusal} {l : ℕ} → f ≡ Stopped r l → RefusalOf f o → StopsBoth bs env s top n (left - 1) s′ r l →
+      EvaluatesP bs env s top n left s′ o
   unfolding holdsᵖ
-  test-stops h = held-by x (test j) (p .1 .1) (h .frame) (λ i. visits x i _ (h .answer (after x i) _))
+  test-stops q e h = held-as refl (refusal-is q e) (held-by x (test j) (p .1 .1) (h .frame) (λ i. visits x i _ (h .answer (after x i) _)))
 
   module _ {s′ : List ℕ} {at mid other next l : ℕ} (h : EvaluatesBoth bs env s top n (left - 1) s′ at mid other next l)
       {o : Tested} (op : TestOf k s′ at other o) where
@@ -153,23 +142,14 @@ module _ {bs env s : List ℕ} {top k n left : ℕ} (p : Visited bs env s top k 
         EndsWith (holdsᵖ (i .budget) (tableOf bs .sizes) (predᵍ bs n (test j) (i .depth)) (i .values) (i .steps)) (toldEnd n z) (i .budget) l
     unfolding holdsᵖ
     told q i =
-        let v = h .answer (after x i) in
-        let r = op j (p .1 .1) (tableOf bs .sizes) mid next (v .first) (v .second) (sizes-small bs (x .ready .readable)) (v .leftAt) (v .rightAt) in
-        visits x i _ (then-done _ (v .leftEnds) (then-done _ (v .rightEnds)
-        (rw (sym r ∙ q) at (tested-ends n j (v .first) (v .second) _ (v .rightEnds .steps)))))
+        let v = h .first (after x i) in
+        let w = h .second (after x i) in
+        let r = op j (p .1 .1) (tableOf bs .sizes) mid next (v .value) (w .value) (sizes-small bs (x .ready .readable)) (v .place) (w .place) in
+        visits x i _ (then-done _ (v .ends) (then-done _ (w .ends)
+        (rw (sym r ∙ q) at (tested-ends n j (v .value) (w .value) _ (w .ends .steps)))))
 
     pub test-unlike : o ≡ Unlike → EvaluatesP bs env s top n left s′ (Refused (record { number = 15; place = n }) l)
     test-unlike q = held-by x (test j) (p .1 .1) (h .frame) (told q)
 
     pub test-truth : {y : Bool} → o ≡ Tells y → EvaluatesP bs env s top n left s′ (Truth y l)
     test-truth q = held-by x (test j) (p .1 .1) (h .frame) (told q)
-
--- What an operand's evaluator asks, where the measures are those of the cycle: 5 times the node, and what is left to do there.
-module _ {bs env s : List ℕ} {top k n left t : ℕ} (e : 5 * n + 1 ≡ t) (x : Visited bs env s top k n left) (y : TwoFields bs n)
-    {a : ℕ} (q : a ≡ fieldA bs n) where
-  pub left-asks : (5 * a + 4 < t) × (NodeReady bs env s top a × IsExpr bs a)
-  left-asks = (omega (arith, left-child (x .ready) y q .below), left-ready (x .ready) y q)
-
-  pub right-asks : {l : ℕ} {s′ : List ℕ} {r : Formed} → EvaluatesE bs env s top a l s′ r → {at mid l′ : ℕ} → r ≡ Placed at mid l′ → {m : ℕ} →
-      m ≡ fieldB bs n → (5 * m + 4 < t) × (NodeReady bs env s′ mid m × IsExpr bs m)
-  right-asks h d q′ = (omega (arith, right-child (x .ready) y q h d q′ .below), right-ready (x .ready) y q h d q′)

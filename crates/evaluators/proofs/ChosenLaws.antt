@@ -1,13 +1,11 @@
 -- The members that a comprehension chooses: its run member by member, and the set that is built of them.
 use Rattle.evaluators.proofs.Terms.{ℕ, _+_, _-_, _*_, _≤_, _<_, Bool, true, false, cond, List, [], _∷_, _≡_, refl, sym, ap, _∙_, subst, arith, length, setAt, length-set, boolByte, _++_, append-assoc, append-nil, values, weights, select, ValuesAt}
-use Rattle.evaluators.proofs.Terms.{Value, Values, members, count, weight, done, refused, M, tableOf, code, codes, Stands, Same, SomeAt, EndsAt, length-code, length-codes, stands-frame, same-refl, same-trans, copied-stands, Refusal, Held, Truth, Refused, Placed, Stopped, EndsWith, SelectedAs, fieldA, fieldC, IsPred, ChooseReady, Chooses, NodeReady, AsksEach, bodyOf, EvaluatesP, EachReady, EvaluatesChosen}
-use lib.Seq.{getD-set-other}
-use Rattle.arena.proofs.Standing.{stands-append}
+use Rattle.evaluators.proofs.Terms.{Value, Values, members, count, weight, done, refused, M, code, codes, Stands, Same, EndsAt, length-code, length-codes, stands-frame, same-refl, same-trans, copied-stands, Refusal, Held, Truth, Refused, Formed, StopOf, Placed, EndsWith, SelectedAs, fieldA, fieldC, IsPred, ChooseReady, Chooses, NodeReady, AsksEach, bodyOf, EachReady, EvaluatesChosen, getD-set-other, stands-append, count-weights}
 use Rattle.arena.proofs.FrontLaws.{single, codes-append, count-append, weights-append}
 use Rattle.products.proofs.GrowLaws.{made-set}
-use Rattle.laws.proofs.CellsLaws.{count-weights}
 use Rattle.evaluators.proofs.RunLaws.{then-done, then-refused, returns}
-use Rattle.evaluators.proofs.BodyLaws.{some-asked, First, none-left, Loop, loop-start, member, member-at, member-ends, loop-next, body-asks, body-ends, body-frame}
+use Rattle.evaluators.proofs.NodeLaws.{stop-is}
+use Rattle.evaluators.proofs.BodyLaws.{some-asked, First, none-left, Loop, loop-start, body-asks, Ran, ran-at, member-ends, loop-next, body-ends, body-frame}
 
 -- What a member adds to those chosen.
 abbrev picked : Bool → Value → List Value
@@ -32,19 +30,6 @@ pub record Selecting (g : Value → M Bool) (whole : List Value) (budget steps :
       EndsWith (select g whole steps) (done (taken ++ ws)) budget l
   pub stops : {k p l : ℕ} → EndsWith (select g (members rest) now) (refused k p) budget l → EndsWith (select g whole steps) (refused k p) budget l
 
-selecting-start : (g : Value → M Bool) (budget steps : ℕ) (s : List ℕ) (top : ℕ) (vs : Values) → top + 1 ≤ length s → weights vs ≤ 255 →
-    Selecting g (members vs) budget steps s top vs steps (top + 1) 0
-unfolding code
-selecting-start g budget steps s top vs h l = record {
-  taken = [];
-  stands = record { inside = omega arith; cells = λ i p. absurd (omega arith) };
-  ends = omega arith;
-  counted = refl;
-  light = omega (arith, l);
-  goes = λ e. e;
-  stops = λ e. e;
-}
-
 -- What is chosen of a member stands behind what has been chosen.
 chosen-stands : (s : List ℕ) (at end : ℕ) (b : Bool) (to : ℕ) (s′ : List ℕ) (r : ℕ) (v : Value) → Chooses s at end b to s′ r →
     Stands s at (code v) → end ≡ at + weight v → to + weight v ≤ length s →
@@ -62,10 +47,6 @@ chosen-cost false v = (refl, omega arith)
 
 module _ {g : Value → M Bool} {whole : List Value} {budget steps : ℕ} {s : List ℕ} {top : ℕ} {rest : Values} {now to chosen : ℕ}
     (h : Selecting g whole budget steps s top rest now to chosen) where
-  -- Where what has been chosen ends, and how many members it has.
-  selecting-near : (top + 1 ≤ to) × (to ≤ top + 256) × (chosen ≤ 255)
-  selecting-near = (omega (arith, h .ends), omega (arith, h .ends, h .light), omega (arith, h .counted, h .light, count-weights (values (h .taken))))
-
   -- After a turn: the arena is s₁ behind the body, and s₂ with the member added if it is chosen.
   selecting-turn : {gs : List ℕ} {at more : ℕ} (u : First gs s top at more rest) (s₁ : List ℕ) (end : ℕ) (b : Bool) {l : ℕ} (s₂ : List ℕ) (r : ℕ) →
       top + 256 ≤ length s → Same to s s₁ → end ≡ at + weight (u .value) → EndsWith (g (u .value) now) (done b) budget l → Chooses s₁ at end b to s₂ r →
@@ -105,6 +86,11 @@ module _ {g : Value → M Bool} {whole : List Value} {budget steps : ℕ} {s : L
       let l = made .light (omega (arith, h .light)) in
       record { chosen = h .taken; ends = rw (append-nil (h .taken)) at (h .goes {ws = []} {l = n} (rw z (returns [] counts))); stands = l .1; ending = l .0 }
 
+-- The same answer under equal names.
+pub chosen-as : {bs env s : List ℕ} {top n from count left : ℕ} {s′ : List ℕ} {r r′ : Formed} → r ≡ r′ →
+    EvaluatesChosen bs env s top n from count left s′ r → EvaluatesChosen bs env s top n from count left s′ r′
+chosen-as q h = rw q at h
+
 -- Before each turn of the loop.
 pub record Choosing (bs env s₀ : List ℕ) (top n from count left x : ℕ) (s inner : List ℕ) (at more m to chosen : ℕ) : Type 0 where
   pub loop : Loop bs env s₀ top n from count left x s inner at more m
@@ -113,14 +99,26 @@ pub record Choosing (bs env s₀ : List ℕ) (top n from count left x : ℕ) (s 
 
 module _ {bs env s₀ : List ℕ} {top n from count left : ℕ} (pre : EachReady bs env s₀ top n from count 256) where
   pub choosing-start : (x : ℕ) → Choosing bs env s₀ top n from count left x s₀ env from count left (top + 1) 0
+  unfolding code
   choosing-start x = record {
     loop = loop-start x pre;
-    on = λ k. selecting-start (bodyOf k) (k .asks .budget) (k .asks .steps) s₀ top (k .range) (omega (arith, pre .space (omega arith))) (k .listed .light);
+    on = λ k. record {
+      taken = [];
+      stands = record { inside = omega (arith, pre .space (omega arith)); cells = λ i p. absurd (omega arith) };
+      ends = omega arith;
+      counted = refl;
+      light = omega (arith, k .listed .light);
+      goes = λ e. e;
+      stops = λ e. e;
+    };
   }
 
   module _ {x : ℕ} {s inner : List ℕ} {at more m to chosen : ℕ} (h : Choosing bs env s₀ top n from count left x s inner at more m to chosen) where
+    -- Where what has been chosen ends, and how many members it has.
     pub choosing-near : (top + 1 ≤ to) × (to ≤ top + 256) × (chosen ≤ 255)
-    choosing-near = selecting-near (h .on (some-asked left pre))
+    choosing-near =
+        let o = h .on (some-asked left pre) in
+        (omega (arith, o .ends), omega (arith, o .ends, o .light), omega (arith, o .counted, o .light, count-weights (values (o .taken))))
 
     pub choosing-few : (b : Bool) → chosen + boolByte b < 18446744073709551616
     choosing-few true = omega (arith, choosing-near .2)
@@ -140,48 +138,46 @@ module _ {bs env s₀ : List ℕ} {top n from count left : ℕ} (pre : EachReady
               selecting-end (h .on k) (none-left (u .rest k) (u .listed k) z) (u .counts k) (omega (arith, pre .space (omega arith), u .frame .kept));
         }
 
+    pub choosing-low : top ≤ to
+    choosing-low = omega (arith, choosing-near .0)
+
     -- A turn: the identifier x and the body c, as they have been read off the node.
-    module _ (some : 0 < more) (name : x ≡ fieldA bs n) {c : ℕ} (body : c ≡ fieldC bs n) where
-      low : top ≤ to
-      low = omega (arith, choosing-near .0)
+    pub choosing-asks : {c t : ℕ} → 0 < more → x ≡ fieldA bs n → c ≡ fieldC bs n → 5 * n ≡ t →
+        (5 * c + 3 < t) × (NodeReady bs (setAt inner x at) s to c × IsPred bs c)
+    choosing-asks some name body e =
+        body-asks pre (h .loop) some choosing-low name body e (λ _. omega (arith, pre .space (omega arith), choosing-near .1, h .loop .frame .kept))
 
-      pub choosing-asks : {t : ℕ} → 5 * n ≡ t → (5 * c + 3 < t) × (NodeReady bs (setAt inner x at) s to c × IsPred bs c)
-      choosing-asks e = body-asks pre (h .loop) some low name body e (λ _. omega (arith, pre .space (omega arith), choosing-near .1, h .loop .frame .kept))
+-- It has run.
+module _ {bs env s₀ : List ℕ} {top n from count left x : ℕ} {s inner : List ℕ} {at more m to chosen c : ℕ} {s₁ : List ℕ} {r : Held}
+    (h : Choosing bs env s₀ top n from count left x s inner at more m to chosen) (u : Ran (h .loop) 256 to c s₁ r) where
+  -- The body is refused.
+  pub choosing-refused : {p : Refusal} {l : ℕ} {f : Formed} → r ≡ Refused p l → StopOf r f → EvaluatesChosen bs env s₀ top n from count left s₁ f
+  unfolding select
+  choosing-refused {p} {l} is e = chosen-as (stop-is is e) (record {
+    frame = body-frame u;
+    bounds = tt;
+    answer = λ k. h .on k .stops (rw (ran-at u k .is) (then-refused _ (body-ends u (Refused p l) is k)));
+  })
 
-      module _ {s₁ : List ℕ} {r : Held} (e : EvaluatesP bs (setAt inner x at) s to c m s₁ r) where
-        abbrev next : (k : AsksEach bs env s₀ top n from count left) → First (tableOf bs .sizes) s top at more (h .loop .rest k)
-        next k = member pre (h .loop) some k
-
-        -- The body is refused.
-        pub choosing-refused : {p : Refusal} {l : ℕ} → r ≡ Refused p l → EvaluatesChosen bs env s₀ top n from count left s₁ (Stopped p l)
-        unfolding select
-        choosing-refused {p} {l} is = record {
-          frame = body-frame pre (h .loop) some low name body e;
-          bounds = tt;
-          answer = λ k. h .on k .stops (rw (next k .is) (then-refused _ (body-ends pre (h .loop) some low name body e (Refused p l) is k)));
+  -- It is true or false, and the member ends at `end`.
+  module _ {end : ℕ} (ends : EndsAt s₁ at end) where
+    pub choosing-choose : ChooseReady s₁ at end to
+    choosing-choose =
+        let k = some-asked left (u .ready) in
+        let v = ran-at u k in
+        let q = member-ends u ends k in
+        let o = h .on k in
+        record {
+          forward = omega arith;
+          behind = omega (arith, v .here .below, u .low);
+          room = omega (arith, u .ready .space (omega arith), h .loop .frame .kept, u .told .frame .kept, o .ends, o .light, ap weights (v .is));
         }
 
-        pub choosing-some : SomeAt s₁ at
-        choosing-some = member-at pre (h .loop) some low name body e
-
-        -- It is true or false, and the member ends at `end`.
-        module _ {end : ℕ} (ends : EndsAt s₁ at end) where
-          pub choosing-choose : ChooseReady s₁ at end to
-          choosing-choose =
-              let u = next (some-asked left pre) in
-              let q = member-ends pre (h .loop) some low name body e ends (some-asked left pre) in
-              let o = h .on (some-asked left pre) in
-              record {
-                forward = omega arith;
-                behind = omega (arith, u .here .below, low);
-                room = omega (arith, pre .space (omega arith), h .loop .frame .kept, e .frame .kept, o .ends, o .light, ap weights (u .is));
-              }
-
-          pub choosing-next : {yes : Bool} {l : ℕ} {s₂ : List ℕ} {q : ℕ} → r ≡ Truth yes l → Chooses s₁ at end yes to s₂ q →
-              Choosing bs env s₀ top n from count left x s₂ (setAt inner x at) end (more - 1) l q (chosen + boolByte yes)
-          choosing-next {yes} {l} {s₂} {q} is f = record {
-            loop = loop-next pre (h .loop) some low name body e ends yes is (f .frame);
-            on = λ k.
-                selecting-turn (h .on k) (next k) s₁ end yes s₂ q (omega (arith, pre .space (omega arith), h .loop .frame .kept)) (e .frame)
-                (member-ends pre (h .loop) some low name body e ends k) (body-ends pre (h .loop) some low name body e (Truth yes l) is k) f;
-          }
+    pub choosing-next : {yes : Bool} {l : ℕ} {s₂ : List ℕ} {q : ℕ} → r ≡ Truth yes l → Chooses s₁ at end yes to s₂ q →
+        Choosing bs env s₀ top n from count left x s₂ (setAt inner x at) end (more - 1) l q (chosen + boolByte yes)
+    choosing-next {yes} {l} {s₂} {q} is f = record {
+      loop = loop-next u ends yes is (f .frame);
+      on = λ k.
+          selecting-turn (h .on k) (ran-at u k) s₁ end yes s₂ q (omega (arith, u .ready .space (omega arith), h .loop .frame .kept)) (u .told .frame)
+          (member-ends u ends k) (body-ends u (Truth yes l) is k) f;
+    }

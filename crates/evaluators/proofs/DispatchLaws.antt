@@ -1,18 +1,14 @@
 -- Where a node's visit goes: the refusal of a visit beyond the budget, the evaluator by the kind's code, the leaves that are built, and those that
 -- stand already.
 use Rattle.evaluators.proofs.Terms.{ℕ, zero, suc, _+_, _-_, _≤_, _<_, Bool, true, false, cond, List, _≢_, _⊎_, inl, inr, ⊎-elim, Option, nothing, some, _≡_, refl, sym, ap, _∙_, subst, arith, leb, getD, false≢true, _&&_, equal, member, subset, atMost, Leaf, givenSet, elementOf, literal, truthConst, emptySet, boolSet, singleton, power, dom, ran, card, choice, pairing, union, inter, diff, product, apply, plus, minus, interval, leafᵉ, boolᵉ, oneᵉ, twoᵉ, comprehensionᵉ, leafValue, ValueAt, builtLeaf, LeafFits, LeafReady, LeafDone, leafPlace, PlaceReady, StandingReady, LeafNode, LeafFormed}
-use Rattle.evaluators.proofs.Terms.{Value, weight, and, or, implies, iff, forAll, forSome, identifier, Kind, join, negation, test, quant, leaf, boolOf, one, two, comprehension, kindOf, Category, predicate, expression, Node, Pred, Expr, tableOf, nodeAt, kindAt, predOf, predAt, exprAt, nodeCount, Readable, CategoryIs, refused, gives, Env, holdsᵖ, valueᵉ, sizes-length, binds-length, good-weight, Same, same-refl, length-code, BuiltAt, code-of, kind-of, Formed, Placed, Stopped, Refused, EndsWith, fieldA, fieldB, IsPred, IsExpr, entryPlace, PlacedLeaf, Binds, NodeReady, Visited, Sort, truthAt, EvaluatesP, EvaluatesE}
-use native.Mathlib.Decide.{ℕ-discrete, decLt}
-use Rattle.rules.specs.Types.{whole}
+use Rattle.evaluators.proofs.Terms.{Value, weight, and, or, implies, iff, forAll, forSome, identifier, Kind, join, negation, test, quant, leaf, boolOf, one, two, comprehension, kindOf, Category, predicate, expression, Node, Pred, Expr, tableOf, nodeAt, kindAt, predOf, exprAt, nodeCount, Readable, CategoryIs, refused, gives, Env, holdsᵖ, valueᵉ, sizes-length, binds-length, good-weight, Same, same-refl, length-code, BuiltAt, code-of, kind-of, Formed, Placed, Stopped, Refused, EndsWith, fieldA, fieldB, IsPred, IsExpr, entryPlace, PlacedLeaf, Binds, NodeReady, Visited, Sort, EvaluatesP, EvaluatesE, ℕ-discrete, decLt, whole, leaf-one, IsLight}
 use Rattle.laws.proofs.EndLaws.{T-true, T-and, T-leb}
 use Rattle.table.specs.Codes.{codeOf as categoryNumber, categoryCode}
 use Rattle.table.proofs.Access.{by-range}
 use Rattle.constants.specs.Constants.{OneCell}
-use Rattle.constants.proofs.ConstantLaws.{leaf-one}
 use Rattle.laws.proofs.TypedTree.{numberᵉ, number-at}
-use Rattle.operations.specs.Outcomes.{IsLight}
 use Rattle.evaluators.proofs.RunLaws.{unvisited, light-form}
-use Rattle.evaluators.proofs.NodeLaws.{sizes-small, field-holds, visited-kind, visited-builds, visits, after, settled-by}
+use Rattle.evaluators.proofs.NodeLaws.{sizes-small, field-holds, pred-at, visited-kind, visited-builds, visits, after, settled-by}
 use Rattle.evaluators.proofs.SafeLaws.{cell-room}
 
 -- 19: the visits are spent.
@@ -41,13 +37,11 @@ expr-spent budget gs ρ s c z (comprehensionᵉ n x r p) = unvisited budget n s 
 
 module _ {bs env s : List ℕ} {top n left : ℕ} (r : NodeReady bs env s top n) where
   pub spent-pred : left ≡ 0 → EvaluatesP bs env s top n left s (Refused (record { number = 19; place = n }) left)
-  unfolding predAt
-  spent-pred z = record { frame = same-refl top s; answer = go }
-    where
-      go : (f : ℕ) (ρ : Env) (budget steps : ℕ) → n < f → steps + left ≡ budget → Binds bs s top env ρ →
-          EndsWith (truthAt bs budget f n ρ steps) (refused 19 n) budget left
-      go zero ρ budget steps l c b = absurd (omega arith)
-      go (suc f) ρ budget steps l c b = pred-spent budget (tableOf bs .sizes) ρ steps n c z _ _ _ (kindAt (tableOf bs .nodes) n)
+  spent-pred z = record {
+    frame = same-refl top s;
+    answer = λ f ρ budget steps l c b.
+        rw (pred-at (tableOf bs .nodes) n _ refl f l .is) (pred-spent budget (tableOf bs .sizes) ρ steps n c z _ _ _ (kindAt (tableOf bs .nodes) n));
+  }
 
   pub spent-expr : left ≡ 0 → EvaluatesE bs env s top n left s (Stopped (record { number = 19; place = n }) left)
   spent-expr z = record {
@@ -133,15 +127,13 @@ module _ (k : ℕ) where
 codes-within : (k lo hi : ℕ) → leb lo k && leb k hi ≡ true → (lo ≤ k) × (k ≤ hi)
 codes-within k lo hi e = let t = T-and (leb lo k) (leb k hi) .0 (T-true (leb lo k && leb k hi) .1 e) in (T-leb lo k .0 (t .0), T-leb k hi .0 (t .1))
 
-in-first : (a b : Bool) → _≡_ {A = ℕ} (cond a 1 (cond b 2 0)) 1 → a ≡ true
-in-first true b e = refl
-in-first false true e = absurd (omega arith)
-in-first false false e = absurd (omega arith)
-
-in-second : (a b : Bool) → _≡_ {A = ℕ} (cond a 1 (cond b 2 0)) 2 → b ≡ true
-in-second true b e = absurd (omega arith)
-in-second false true e = refl
-in-second false false e = absurd (omega arith)
+in-range : (c : Category) (a b : Bool) → cond a 1 (cond b 2 0) ≡ categoryNumber c → elim c [ predicate ↦ a | expression ↦ b ] ≡ true
+in-range predicate true b e = refl
+in-range predicate false true e = absurd (omega arith)
+in-range predicate false false e = absurd (omega arith)
+in-range expression true b e = absurd (omega arith)
+in-range expression false true e = refl
+in-range expression false false e = absurd (omega arith)
 
 category-is : (c : Category) (o : Option Kind) → CategoryIs c o → categoryCode o ≡ categoryNumber c
 category-is c nothing h = absurd h
@@ -158,6 +150,16 @@ standing-code k (inl (inr e)) = (emptySet, kind-of k (leaf emptySet) e, refl)
 standing-code k (inr (a, b, n)) =
     let from-22 : Along Unbuilt 22 3 = ((elementOf, refl, refl), ((literal whole, refl, refl), ((truthConst, refl, refl), tt))) in
     here-or-on Unbuilt 20 k a (identifier, refl, refl) (λ l. along Unbuilt 22 3 from-22 k (omega (arith, n)) (omega arith))
+
+-- A leaf that is not built is an identifier or a constant, whose place is its node's cell.
+unbuilt-leaf : (j : Leaf) → builtLeaf j ≡ false → (j ≡ identifier) ⊎ (OneCell j × ((env : List ℕ) (n a : ℕ) → leafPlace j env n a ≡ n))
+unbuilt-leaf identifier d = inl refl
+unbuilt-leaf givenSet d = absurd (false≢true (sym d))
+unbuilt-leaf elementOf d = inr (tt, λ env n a. refl)
+unbuilt-leaf (literal m) d = inr (tt, λ env n a. refl)
+unbuilt-leaf truthConst d = inr (tt, λ env n a. refl)
+unbuilt-leaf emptySet d = inr (tt, λ env n a. refl)
+unbuilt-leaf boolSet d = absurd (false≢true (sym d))
 
 -- The word of an identifier is in range.
 pub name-below : (bs : List ℕ) → Readable bs → (n : ℕ) → n < nodeCount bs → kindAt (tableOf bs .nodes) n ≡ some (leaf identifier) → fieldA bs n < 32
@@ -176,10 +178,10 @@ module _ {bs env s : List ℕ} {top k n left : ℕ} (v : Visited bs env s top k 
 
   -- A node's kind is in the range of its category, and so the last arms.
   pub predicate-code : IsPred bs n → (1 ≤ k) × (k ≤ 11)
-  predicate-code h = codes-within k 1 11 (in-first _ (leb 20 k && leb k 43) (by-range k ∙ category-is predicate (kindOf k) (rw (v .kind) h)))
+  predicate-code h = codes-within k 1 11 (in-range predicate _ (leb 20 k && leb k 43) (by-range k ∙ category-is predicate (kindOf k) (rw (v .kind) h)))
 
   pub expression-code : IsExpr bs n → (20 ≤ k) × (k ≤ 43)
-  expression-code h = codes-within k 20 43 (in-second (leb 1 k && leb k 11) _ (by-range k ∙ category-is expression (kindOf k) (rw (v .kind) h)))
+  expression-code h = codes-within k 20 43 (in-range expression (leb 1 k && leb k 11) _ (by-range k ∙ category-is expression (kindOf k) (rw (v .kind) h)))
 
   pub join-kind : IsPred bs n → k ≢ 4 → k < 6 → Sort join k
   unfolding kindOf
@@ -218,15 +220,10 @@ module _ {bs env s : List ℕ} {top k n left : ℕ} (v : Visited bs env s top k 
   standing-good : (j : Leaf) → kindAt (tableOf bs .nodes) n ≡ some (leaf j) → builtLeaf j ≡ false → (ρ : Env) → Binds bs s top env ρ →
       ValueAt s (leafPlace j env n (fieldA bs n)) (here j ρ) × (leafPlace j env n (fieldA bs n) + weight (here j ρ) ≤ top) × (weight (here j ρ) ≤ 256)
   unfolding leafValue
-  standing-good identifier e d ρ b =
-      let g = b .at (fieldA bs n) (name-below bs (v .ready .readable) n (v .ready .node) e) in
-      (g .stands, g .below, good-weight (tableOf bs .sizes) (ρ (fieldA bs n)) (b .good (fieldA bs n)))
-  standing-good givenSet e d ρ b = absurd (false≢true (sym d))
-  standing-good elementOf e d ρ b = constant-good elementOf e tt ρ b
-  standing-good (literal m) e d ρ b = constant-good (literal m) e tt ρ b
-  standing-good truthConst e d ρ b = constant-good truthConst e tt ρ b
-  standing-good emptySet e d ρ b = constant-good emptySet e tt ρ b
-  standing-good boolSet e d ρ b = absurd (false≢true (sym d))
+  standing-good j e d ρ b = ⊎-elim
+      (λ i. let g = b .at (fieldA bs n) (name-below bs (v .ready .readable) n (v .ready .node) (rw i at e)) in
+      rw i (g .stands, g .below, good-weight (tableOf bs .sizes) (ρ (fieldA bs n)) (b .good (fieldA bs n))))
+      (λ o. rw (o .1 env n (fieldA bs n)) (constant-good j e (o .0) ρ b)) (unbuilt-leaf j d)
 
   -- It is light, and so formed at once: where it stands it is the answer.
   module _ (j : Leaf) (e : kindOf k ≡ some (leaf j)) {s′ : List ℕ} (same : Same top s s′) {at next : ℕ} (bounds : (top ≤ next) × (next ≤ top + 33))
@@ -292,16 +289,12 @@ module _ {bs env : List ℕ} {k n : ℕ} (p : StandingReady bs env k n) where
   }
 
   pub placed-constant : k ≢ 20 → PlacedLeaf bs env n n
-  placed-constant q = record { kind = p .kind; is = ap kindOf (sym (p .same)) ∙ p .is; unbuilt = p .unbuilt; place = go (p .kind) (p .is) }
-    where
-      go : (j : Leaf) → kindOf k ≡ some (leaf j) → n ≡ leafPlace j env n (fieldA bs n)
-      go identifier e = absurd (q (code-of k (leaf identifier) e))
-      go givenSet e = refl
-      go elementOf e = refl
-      go (literal m) e = refl
-      go truthConst e = refl
-      go emptySet e = refl
-      go boolSet e = refl
+  placed-constant q = record {
+    kind = p .kind;
+    is = ap kindOf (sym (p .same)) ∙ p .is;
+    unbuilt = p .unbuilt;
+    place = ⊎-elim (λ i. absurd (q (code-of k (leaf identifier) (rw i at (p .is))))) (λ o. sym (o .1 env n _)) (unbuilt-leaf (p .kind) (p .unbuilt));
+  }
 
 -- The arms of `leaf_place`.
 pub place-standing : {bs env : List ℕ} {n k : ℕ} → PlaceReady bs env n → k ≡ nodeAt (tableOf bs .nodes) n .kind → (k ≡ 20) ⊎ ((22 ≤ k) × (k < 25)) →

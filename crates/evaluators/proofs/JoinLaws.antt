@@ -1,8 +1,7 @@
 -- Joins by their codes; then the run at the node, part by part, and with it what the answers for the conditions below make of the node's.
 use Rattle.evaluators.proofs.Terms.{ℕ, _+_, _-_, _*_, _<_, Bool, true, false, not, cond, Bool·beq, List, _⊎_, inl, inr, _≢_, nothing, some, _≡_, refl, sym, ap, _∙_, subst, arith, eqb}
-use Rattle.evaluators.proofs.Terms.{predicate, and, or, implies, iff, join, holdsᵖ, Same, same-trans, code-of, Refusal, Held, Truth, Refused, HeldAs, NodeReady, Visited, Sort, Asks, EvaluatesP, fieldA, fieldB, IsPred, Join, DecidesBy, JoinedBy}
+use Rattle.evaluators.proofs.Terms.{predicate, and, or, implies, iff, join, holdsᵖ, Same, same-trans, code-of, Refusal, Held, Truth, Refused, HeldAs, NodeReady, Visited, Sort, Asks, EvaluatesP, fieldA, fieldB, IsPred, Join, DecidesBy, JoinedBy, joinCode, same-join}
 use Rattle.rules.specs.Operations as rules
-use Rattle.operations.proofs.KindLaws.{joinCode, same-join}
 use Rattle.evaluators.proofs.RunLaws.{then-done, then-refused, returns}
 use Rattle.evaluators.proofs.NodeLaws.{Child, ready-child, visited-child, held-as}
 use Rattle.evaluators.proofs.NodeLaws.{asks-on, visits, after, holdsIn, held-below, held-by}
@@ -13,7 +12,13 @@ first-decides : (p : Bool) → (rules.decides and p ≡ cond (not p) (some false
 first-decides true = (refl, refl, refl)
 first-decides false = (refl, refl, refl)
 
--- A join is known by its code.
+-- A join is known by its code, and 5 is what the others leave.
+iff-left : {k : ℕ} → k ≢ 1 → k ≢ 2 → k ≢ 3 → (j : Join) → k ≡ joinCode j → iff ≡ j
+iff-left n1 n2 n3 and c = absurd (n1 c)
+iff-left n1 n2 n3 or c = absurd (n2 c)
+iff-left n1 n2 n3 implies c = absurd (n3 c)
+iff-left n1 n2 n3 iff c = refl
+
 module _ {k : ℕ} (p : Bool) where
   decides-by : (r : Bool) (i : Join) → k ≡ joinCode i → rules.decides i p ≡ cond r (some (not (eqb (joinCode i) 1))) nothing → DecidesBy k p r
   decides-by r i c h j e = subst (λ (x : Join). rules.decides x p ≡ cond r (some (not (eqb k 1))) nothing) (same-join k i j c e) (rw c h)
@@ -26,26 +31,14 @@ module _ {k : ℕ} (p : Bool) where
   decides-2 c = decides-by p or c (first-decides p .1)
 
   pub decides-5 : ((k ≡ 1) ⊎ (k ≡ 3) → ⊥) → k ≢ 2 → DecidesBy k p false
-  decides-5 n13 n2 j e = go j (code-of k (join j) e)
-    where
-      go : (j : Join) → k ≡ joinCode j → rules.decides j p ≡ nothing
-      go and c = absurd (n13 (inl c))
-      go or c = absurd (n2 c)
-      go implies c = absurd (n13 (inr c))
-      go iff c = refl
+  decides-5 n13 n2 j e = rw (← iff-left (λ c. n13 (inl c)) n2 (λ c. n13 (inr c)) j (code-of k (join j) e))
 
   module _ (q : Bool) where
     pub joined-by : {r : Bool} (i : Join) → k ≡ joinCode i → r ≡ rules.joined i p q → JoinedBy k p q r
     joined-by {r} i c h j e = subst (λ (x : Join). r ≡ rules.joined x p q) (same-join k i j c e) h
 
     pub joined-5 : k ≢ 1 → k ≢ 2 → k ≢ 3 → JoinedBy k p q (Bool·beq p q)
-    joined-5 n1 n2 n3 j e = go j (code-of k (join j) e)
-      where
-        go : (j : Join) → k ≡ joinCode j → Bool·beq p q ≡ rules.joined j p q
-        go and c = absurd (n1 c)
-        go or c = absurd (n2 c)
-        go implies c = absurd (n3 c)
-        go iff c = refl
+    joined-5 n1 n2 n3 j e = rw (← iff-left n1 n2 n3 j (code-of k (join j) e))
 
 -- 1, 2, 3 and 5: the first operand's node is `a`.
 module _ {bs env s : List ℕ} {top k n left : ℕ} (at-join : Visited bs env s top k n left × Sort join k) {a : ℕ} (q : a ≡ fieldA bs n) where

@@ -1,13 +1,7 @@
 -- The children of a node, its tree, what its evaluators pass on to theirs, and its answer from theirs.
-use Rattle.evaluators.proofs.Terms.{ℕ, zero, suc, _+_, _-_, _*_, _≤_, _<_, Bool, true, List, [], _∷_, Option, nothing, some, _≡_, refl, sym, ap, _∙_, subst, arith, T, length, getD, categoryOf, Field, isChild, Table, fieldsIf, pick, held, exprOf, FieldRight, FieldsRight, KindRight, NodeRight, FormedAs, FormedBounds, SettledAs, RefusalOf, StopOf}
-use Rattle.evaluators.proofs.Terms.{Value, Kind, Category, predicate, expression, unused, child, kindOf, fieldsOf, Node, Pred, Expr, tableOf, nodeAt, kindAt, fieldWords, predOf, predAt, exprAt, nodeCount, Readable, CategoryIs, Env, End, refused, Run, M, _>>_, visit, Given, holdsᵖ, valueᵉ, sizes-length, Same, stands-frame, same-refl, same-trans, length-code, built, Builds, Sizes, GoodAt, Gives, Outcome, Held, Refused, Formed, Placed, Stopped, Refusal, EndsWith, HeldAs, fieldA, fieldB, conditionCells, expressionCells, cellsFor, Binds, NodeReady, Visited, Asks, truthAt, valueAt, EvaluatesP, EvaluatesE, Settles}
-use Rattle.rules.specs.Cells.{good}
-use Rattle.rules.specs.Reading.{height, tallest}
-use Rattle.laws.proofs.TableLaws.{nodes-length, height-at}
+use Rattle.evaluators.proofs.Terms.{ℕ, zero, suc, _+_, _-_, _*_, _≤_, _<_, Bool, true, List, [], _∷_, Option, nothing, some, _≡_, refl, sym, ap, _∙_, subst, arith, T, length, getD, categoryOf, Field, isChild, Table, fieldsIf, pick, held, exprOf, FieldRight, FieldsRight, KindRight, NodeRight, FormedAs, FormedBounds, SettledAs, SettleReady, RefusalOf, StopOf}
+use Rattle.evaluators.proofs.Terms.{Value, Kind, Category, predicate, expression, unused, child, kindOf, fieldsOf, Node, Pred, Expr, tableOf, nodeAt, kindAt, fieldWords, predOf, predAt, exprAt, nodeCount, Readable, CategoryIs, Env, End, refused, Run, M, _>>_, visit, Given, holdsᵖ, valueᵉ, sizes-length, Same, stands-frame, same-refl, same-trans, length-code, built, Builds, Sizes, GoodAt, Gives, Outcome, Held, Refused, Formed, Placed, Stopped, Refusal, EndsWith, HeldAs, fieldA, fieldB, conditionCells, expressionCells, cellsFor, Binds, NodeReady, Visited, Asks, truthAt, valueAt, EvaluatesP, EvaluatesE, Settles, good, height, tallest, nodes-length, height-at, size-below, value-good, constants-frame}
 use Rattle.reading.proofs.Heights.{tallest-kept}
-use Rattle.laws.proofs.CellsLaws.{size-below}
-use Rattle.laws.proofs.FormedLaws.{value-good}
-use Rattle.constants.proofs.ConstantLaws.{constants-frame}
 use Rattle.evaluators.proofs.RunLaws.{visited, endOf}
 
 -- The sizes of a readable table are small.
@@ -17,17 +11,17 @@ sizes-small bs r = record {
   small = size-below (tableOf bs .sizes) 32 (λ g h. r .records .sizes g h .1);
 }
 
--- What stands below `top` stays.
-pub good-frame : {gs s s′ : List ℕ} {top at : ℕ} {v : Value} → Same top s s′ → GoodAt gs s top at v → GoodAt gs s′ top at v
-good-frame {gs} {s} {s′} {top} {at} {v} e h = record {
+-- What stands below `top` stays, and so below k.
+pub good-frame : {gs s s′ : List ℕ} {top at : ℕ} {v : Value} (k : ℕ) → Same top s s′ → top ≤ k → GoodAt gs s top at v → GoodAt gs s′ k at v
+good-frame {gs} {s} {s′} {top} {at} {v} k e le h = record {
   stands = stands-frame top s s′ at _ e (omega (arith, h .below, length-code v)) (h .stands);
-  below = h .below;
+  below = omega (arith, h .below);
   good = h .good;
 }
 
 pub binds-frame : {bs s s′ : List ℕ} {top : ℕ} {env : List ℕ} {ρ : Env} (k : ℕ) → Same top s s′ → top ≤ k → Binds bs s top env ρ → Binds bs s′ k env ρ
 binds-frame {bs} {s} {s′} {top} {env} {ρ} k e le b = record {
-  at = λ x h. let g = good-frame e (b .at x h) in record { stands = g .stands; below = omega (arith, g .below); good = g .good };
+  at = λ x h. good-frame k e le (b .at x h);
   good = b .good;
   functions = b .functions;
   constants = constants-frame bs s s′ (nodeCount bs) top e (b .low) (b .constants);
@@ -88,8 +82,9 @@ module _ (bs : List ℕ) (r : Readable bs) (n : ℕ) (lt : n < nodeCount bs) (k 
         tall = node-tall bs r _ (omega (arith, f .0));
       }
 
--- The fields a and b of a node are expressions.
-pub record TwoFields (bs : List ℕ) (n : ℕ) : Type 0 where
+-- A node that may be evaluated, whose fields a and b are expressions.
+pub record TwoFields (bs env s : List ℕ) (top n : ℕ) : Type 0 where
+  pub ready : NodeReady bs env s top n
   pub left : Child bs n (fieldA bs n) expression
   pub right : Child bs n (fieldB bs n) expression
 
@@ -99,13 +94,13 @@ pub record Deeper (A : Type 0) (x : A) (n : ℕ) (tree : ℕ → A) : Type 0 whe
   pub enough : n ≤ depth
   pub is : x ≡ tree depth
 
-module _ (ns : List Node) (n : ℕ) (k : Kind) (e : kindAt ns n ≡ some k) where
-  pub pred-at : (f : ℕ) → n < f → Deeper Pred (predAt f ns n) n (λ g. predOf (some k) n (nodeAt ns n) (λ m. predAt g ns m) (λ m. exprAt g ns m))
+module _ (ns : List Node) (n : ℕ) (o : Option Kind) (e : kindAt ns n ≡ o) where
+  pub pred-at : (f : ℕ) → n < f → Deeper Pred (predAt f ns n) n (λ g. predOf o n (nodeAt ns n) (λ m. predAt g ns m) (λ m. exprAt g ns m))
   unfolding predAt
   pred-at zero l = absurd (omega arith)
   pred-at (suc f) l = record { depth = f; enough = omega arith; is = rw e }
 
-  pub expr-at : (f : ℕ) → n < f → Deeper Expr (exprAt f ns n) n (λ g. exprOf (some k) n (nodeAt ns n) (λ m. predAt g ns m) (λ m. exprAt g ns m))
+  pub expr-at : (f : ℕ) → n < f → Deeper Expr (exprAt f ns n) n (λ g. exprOf o n (nodeAt ns n) (λ m. predAt g ns m) (λ m. exprAt g ns m))
   unfolding exprAt
   expr-at zero l = absurd (omega arith)
   expr-at (suc f) l = record { depth = f; enough = omega arith; is = rw e }
@@ -163,8 +158,9 @@ module _ {bs env s : List ℕ} {top k n left : ℕ} (v : Visited bs env s top k 
       m ≡ getD (fieldWords (nodeAt (tableOf bs .nodes) n)) i 0 → Child bs n m c
   visited-child c i m l l′ q w = subst (λ (z : ℕ). Child bs n z c) (sym w) (field-child bs (v .ready .readable) n (v .ready .node) x visited-kind c i l l′ q)
 
-  pub visited-operands : fieldsOf x ≡ child expression ∷ child expression ∷ unused ∷ [] → TwoFields bs n
+  pub visited-operands : fieldsOf x ≡ child expression ∷ child expression ∷ unused ∷ [] → TwoFields bs env s top n
   visited-operands q = record {
+    ready = v .ready;
     left = visited-child expression 0 (fieldA bs n) (omega arith) (rw q (omega arith)) (rw q) refl;
     right = visited-child expression 1 (fieldB bs n) (omega arith) (rw q (omega arith)) (rw q) refl;
   }
@@ -263,7 +259,7 @@ module _ {bs env s : List ℕ} {top k n left : ℕ} (v : Visited bs env s top k 
   held-by {r} h = record {
     frame = same;
     answer = λ f ρ budget steps l c b.
-        let d = pred-at (tableOf bs .nodes) n x (visited-kind v x e) f l in
+        let d = pred-at (tableOf bs .nodes) n (some x) (visited-kind v x e) f l in
         subst (λ (p : Pred). HeldAs (holdsᵖ budget (tableOf bs .sizes) p ρ steps) budget r) (sym (d .is))
         (h (record { depth = d .depth; values = ρ; budget = budget; steps = steps; deep = d .enough; counts = c; binds = b }));
   }
@@ -275,7 +271,7 @@ module _ {bs env s : List ℕ} {top k n left : ℕ} (v : Visited bs env s top k 
     frame = same;
     bounds = bounds;
     answer = λ f ρ budget steps l c b.
-        let d = expr-at (tableOf bs .nodes) n x (visited-kind v x e) f l in
+        let d = expr-at (tableOf bs .nodes) n (some x) (visited-kind v x e) f l in
         h f (record { depth = d .depth; values = ρ; budget = budget; steps = steps; deep = d .enough; counts = c; binds = b })
         (ap (λ (z : Expr). valueᵉ budget (tableOf bs .sizes) z ρ steps) (d .is));
   }
@@ -293,12 +289,26 @@ module _ {bs env s : List ℕ} {top k n left : ℕ} (v : Visited bs env s top k 
       let y = h i in
       settled-as bs (i .budget) f n (i .values) (i .steps) (v .ready .readable) (i .binds .good) (y .0) (rw q (y .1)) s′ r (y .2))
 
--- So too where `settle` has settled it, over the arena s₂ that the operation leaves; the node has a child.
-pub settles-by : {bs env s : List ℕ} {top k n left : ℕ} (v : Visited bs env s top k n left) (x : Kind) (e : kindOf k ≡ some x) {s₁ s₂ s₃ : List ℕ}
-    {mid next at l m : ℕ} {c : Category} {o : Outcome} {r : Formed} → Child bs n m c →
-    Same top s s₁ → top ≤ at → Same at s₁ s₂ → Settles s₂ o mid next top n l s₃ r →
-    ((i : Asks bs env s top n left) → (g : Given) × EndsWith (treeᵉ x i) (endOf n g) (i .budget) l × Gives s₂ mid next g o) →
-    EvaluatesE bs env s top n left s₃ r
-settles-by {s = s} {top = top} v x e {s₁} {s₂} {s₃} {at = at} d same low over st h =
-    settled-by v x e (same-trans top top s s₂ s₃ (same-trans top at s s₁ s₂ same over low) (st .frame) (omega arith))
-    (st .bounds _ (omega (arith, d .lower, d .tall))) (λ i. let y = h i in (y .0, y .1, st .answer (y .0) (y .2)))
+-- What a node gives stands in the arena s₂ that its operation leaves, to be settled. The node has operands.
+pub record Operated (bs env s : List ℕ) (top k n left : ℕ) (x : Kind) (s₂ : List ℕ) (o : Outcome) (mid next l : ℕ) : Type 0 where
+  pub visited : Visited bs env s top k n left
+  pub code : kindOf k ≡ some x
+  pub tall : 2 ≤ height (tableOf bs .nodes) n
+  pub frame : Same top s s₂
+  pub low : top ≤ mid
+  pub high : mid ≤ top + 256
+  pub order : mid ≤ next
+  pub room : next + 514 ≤ length s₂
+  pub gives : (i : Asks bs env s top n left) → (g : Given) × EndsWith (treeᵉ x i) (endOf n g) (i .budget) l × Gives s₂ mid next g o
+
+module _ {bs env s : List ℕ} {top k n left : ℕ} {x : Kind} {s₂ : List ℕ} {o : Outcome} {mid next l : ℕ}
+    (p : Operated bs env s top k n left x s₂ o mid next l) where
+  pub settle-asks : SettleReady s₂ o mid next top
+  settle-asks =
+      let y = p .gives (some-asks n left (p .visited .ready)) in
+      record { given = y .0; gives = y .2; low = p .low; high = p .high; order = p .order; room = p .room }
+
+  pub settle-tells : {s₃ : List ℕ} {r : Formed} → Settles s₂ o mid next top n l s₃ r → EvaluatesE bs env s top n left s₃ r
+  settle-tells {s₃} st =
+      settled-by (p .visited) x (p .code) (same-trans top top s s₂ s₃ (p .frame) (st .frame) (omega arith)) (st .bounds _ (p .tall)) (λ i.
+      let y = p .gives i in (y .0, y .1, st .answer (y .0) (y .2)))

@@ -1,13 +1,12 @@
 -- The loop over the members of a quantifier's range, turn by turn, and the quantifier's node: what is given for the rest of the range is
 -- given for the whole.
-use Rattle.evaluators.proofs.Terms.{ℕ, _+_, _-_, _*_, _<_, Bool, true, false, not, Bool·beq, List, [], _∷_, some, _≡_, refl, sym, ap, _∙_, arith, eqb, setAt, Quant, quantify, quantOf, EvaluatesEach}
-use Rattle.evaluators.proofs.Terms.{Value, members, forAll, forSome, quant, kindOf, End, done, refused, Run, M, tableOf, holdsᵖ, SomeAt, EndsAt, same-refl, same-trans, code-of, Refusal, Held, Truth, Refused, Formed, Placed, Stopped, Set, Unlike, EndsWith, HeldAs, fieldA, fieldB, fieldC, IsPred, RangeAt, NodeReady, Visited, Sort, AsksEach, bodyOf, EachReady, EvaluatesP, EvaluatesE}
+use Rattle.evaluators.proofs.Terms.{ℕ, _+_, _-_, _*_, _<_, Bool, true, false, not, Bool·beq, List, [], _∷_, some, _≡_, refl, sym, ap, _∙_, arith, eqb, false≢true, setAt, Quant, quantify, quantOf, EvaluatesEach}
+use Rattle.evaluators.proofs.Terms.{Value, members, forAll, forSome, quant, kindOf, End, done, refused, Run, M, holdsᵖ, EndsAt, same-refl, same-trans, code-of, Refusal, RefusalOf, Held, Truth, Refused, Formed, Stopped, Set, Unlike, EndsWith, HeldAs, fieldA, fieldB, fieldC, IsPred, RangeAt, NodeReady, Visited, Sort, AsksEach, bodyOf, EachReady, EvaluatesP, EvaluatesE, quantCode}
 use native.Mathlib.Nat.{le-refl}
-use Rattle.operations.proofs.KindLaws.{quantCode}
 use Rattle.evaluators.proofs.RunLaws.{then-done, then-refused, returns}
-use Rattle.evaluators.proofs.NodeLaws.{formed-as, held-by}
-use Rattle.evaluators.proofs.BodyLaws.{First, none-left, Loop, loop-start, member, member-at, loop-next, body-asks, body-ends, body-frame}
-use Rattle.evaluators.proofs.RangeLaws.{Binder, range-stops, range-unlike, each-ready, in-range, range-on}
+use Rattle.evaluators.proofs.NodeLaws.{held-as, formed-as, refusal-is, held-by}
+use Rattle.evaluators.proofs.BodyLaws.{none-left, Loop, loop-start, body-asks, Ran, ran-at, loop-next, body-ends, body-frame}
+use Rattle.evaluators.proofs.RangeLaws.{Binder, Ranged, range-stops, range-unlike, each-ready, in-range, range-on}
 
 -- Two truths differ, or are the same.
 pub differ : (a b : Bool) → not (Bool·beq a b) ≡ true → a ≡ not b
@@ -22,7 +21,15 @@ agree true false e = e
 agree false true e = sym e
 agree false false e = refl
 
--- A member that does not decide, one that does, and no member.
+-- The answer at a member ends the loop: it is refused, or decides.
+abbrev pub Decided : Bool → Held → Type 0
+Decided all (Truth b l) = b ≡ not all
+Decided all (Refused r l) = Unit {0}
+
+pub refusal-ends : (all : Bool) {h : Held} {r : Refusal} {l : ℕ} → h ≡ Refused r l → Decided all h
+refusal-ends all e = rw e tt
+
+-- A member that does not end it, one that does, and no member.
 module _ (g : Value → M Bool) where
   quantify-on : {budget left l : ℕ} (all : Bool) (v : Value) (vs : List Value) (s : ℕ) {e : End Bool} → EndsWith (g v s) (done all) budget l →
       EndsWith (quantify (quantOf all) g vs (g v s .steps)) e budget left → EndsWith (quantify (quantOf all) g (v ∷ vs) s) e budget left
@@ -30,17 +37,15 @@ module _ (g : Value → M Bool) where
   quantify-on true v vs s h k = then-done _ h k
   quantify-on false v vs s h k = then-done _ h k
 
-  quantify-stops : {budget left : ℕ} (all : Bool) (v : Value) (vs : List Value) (s : ℕ) → EndsWith (g v s) (done (not all)) budget left →
-      EndsWith (quantify (quantOf all) g (v ∷ vs) s) (done (not all)) budget left
+  quantify-ends : (budget : ℕ) (all : Bool) (v : Value) (vs : List Value) (s : ℕ) (h : Held) → Decided all h → HeldAs (g v s) budget h →
+      HeldAs (quantify (quantOf all) g (v ∷ vs) s) budget h
   unfolding quantify
-  quantify-stops true v vs s h = then-done _ h (returns false (h .steps))
-  quantify-stops false v vs s h = then-done _ h (returns true (h .steps))
-
-  quantify-refused : {budget left : ℕ} (all : Bool) (v : Value) (vs : List Value) (s : ℕ) {r p : ℕ} → EndsWith (g v s) (refused r p) budget left →
-      EndsWith (quantify (quantOf all) g (v ∷ vs) s) (refused r p) budget left
-  unfolding quantify
-  quantify-refused true v vs s h = then-refused _ h
-  quantify-refused false v vs s h = then-refused _ h
+  quantify-ends budget true v vs s (Truth true l) d h = absurd (false≢true (sym d))
+  quantify-ends budget true v vs s (Truth false l) d h = then-done _ h (returns false (h .steps))
+  quantify-ends budget false v vs s (Truth true l) d h = then-done _ h (returns true (h .steps))
+  quantify-ends budget false v vs s (Truth false l) d h = absurd (false≢true d)
+  quantify-ends budget true v vs s (Refused r l) d h = then-refused _ h
+  quantify-ends budget false v vs s (Refused r l) d h = then-refused _ h
 
   quantify-none : {budget left : ℕ} (all : Bool) (s : ℕ) → s + left ≡ budget → EndsWith (quantify (quantOf all) g [] s) (done all) budget left
   unfolding quantify
@@ -59,53 +64,42 @@ pub turning-start : {bs env s : List ℕ} {top node from count left : ℕ} (all 
     Turning bs env s top all node from count left x s env from count left
 turning-start all x r = record { loop = loop-start x r; gives = λ k e l h. h }
 
--- A turn: the member at `at` is bound to x, and the body, node b, runs.
-module _ {bs env s₀ : List ℕ} {top : ℕ} {all : Bool} {node from count left x : ℕ} {s inner : List ℕ} {at more n : ℕ}
-    (r : EachReady bs env s₀ top node from count 0) (i : Turning bs env s₀ top all node from count left x s inner at more n) (some : 0 < more)
-    (ex : x ≡ fieldA bs node) {b : ℕ} (ey : b ≡ fieldC bs node) where
-  pub member-asks : {t : ℕ} → 5 * node ≡ t → (5 * b + 3 < t) × (NodeReady bs (setAt inner x at) s top b × IsPred bs b)
-  member-asks e = body-asks r (i .loop) some (le-refl top) ex ey e (λ b. omega (arith, r .ready .room b, i .loop .frame .kept))
+-- A turn: the member at `at` is bound to x, and the body, node b, is to run.
+pub member-asks : {bs env s₀ : List ℕ} {top : ℕ} {all : Bool} {node from count left x : ℕ} {s inner : List ℕ} {at more n b t : ℕ} →
+    EachReady bs env s₀ top node from count 0 → Turning bs env s₀ top all node from count left x s inner at more n → 0 < more → x ≡ fieldA bs node →
+    b ≡ fieldC bs node → 5 * node ≡ t → (5 * b + 3 < t) × (NodeReady bs (setAt inner x at) s top b × IsPred bs b)
+member-asks {top = top} r i l ex ey e = body-asks r (i .loop) l (le-refl top) ex ey e (λ b. omega (arith, r .ready .room b, i .loop .frame .kept))
 
-  module _ {s′ : List ℕ} {h : Held} (p : EvaluatesP bs (setAt inner x at) s top b n s′ h) where
-    abbrev next : (k : AsksEach bs env s₀ top node from count left) → First (tableOf bs .sizes) s top at more (i .loop .rest k)
-    next k = member r (i .loop) some k
+-- Any end of one run is that of the other.
+held-on : {x y : Run Bool} {budget : ℕ} (r : Held) → ((e : End Bool) (l : ℕ) → EndsWith x e budget l → EndsWith y e budget l) →
+    HeldAs x budget r → HeldAs y budget r
+held-on (Truth b l) g h = g (done b) l h
+held-on (Refused r l) g h = g (refused (r .number) (r .place)) l h
 
-    ends : (h₀ : Held) → h ≡ h₀ → (k : AsksEach bs env s₀ top node from count left) → HeldAs (bodyOf k (next k .value) (i .loop .now k)) (k .asks .budget) h₀
-    ends = body-ends r (i .loop) some (le-refl top) ex ey p
+-- It has run.
+module _ {bs env s₀ : List ℕ} {top : ℕ} {all : Bool} {node from count left x : ℕ} {s inner : List ℕ} {at more n b : ℕ} {s′ : List ℕ} {h : Held}
+    (i : Turning bs env s₀ top all node from count left x s inner at more n) (u : Ran (i .loop) 0 top b s′ h) where
+  -- The body is refused, or decides.
+  pub member-ends : (h₀ : Held) → h ≡ h₀ → Decided all h₀ → EvaluatesEach bs env s₀ top node from count left (quantOf all) s′ h₀
+  member-ends h₀ e d = record {
+    frame = body-frame u;
+    answer = λ k.
+        let v = ran-at u k in
+        held-on h₀ (i .gives k)
+        (rw (v .is) (quantify-ends (bodyOf k) (k .asks .budget) all (v .value) (members (v .rest)) (i .loop .now k) h₀ d (body-ends u h₀ e k)));
+  }
 
-    pub member-stands : SomeAt s′ at
-    member-stands = member-at r (i .loop) some (le-refl top) ex ey p
-
-    -- The body is refused.
-    pub member-refused : {q : Refusal} {l : ℕ} → h ≡ Refused q l → EvaluatesEach bs env s₀ top node from count left (quantOf all) s′ h
-    member-refused {q} {l} e = rw e (record {
-      frame = body-frame r (i .loop) some (le-refl top) ex ey p;
-      answer = λ k.
-          i .gives k (refused (q .number) (q .place)) l
-          (rw (next k .is) (quantify-refused (bodyOf k) all (next k .value) (members (next k .rest)) (i .loop .now k) (ends (Refused q l) e k)));
-    })
-
-    -- The body decides.
-    pub member-decides : (got : Bool) (l : ℕ) → h ≡ Truth got l → got ≡ not all →
-        EvaluatesEach bs env s₀ top node from count left (quantOf all) s′ (Truth got l)
-    member-decides got l e q = rw q (record {
-      frame = body-frame r (i .loop) some (le-refl top) ex ey p;
-      answer = λ k.
-          let a = ends (Truth (not all) l) (e ∙ ap (λ (z : Bool). Truth z l) q) k in
-          i .gives k (done (not all)) l (rw (next k .is) (quantify-stops (bodyOf k) all (next k .value) (members (next k .rest)) (i .loop .now k) a));
-    })
-
-    -- The body does not decide, and the next member stands at `end`.
-    pub turning-on : (got : Bool) (l end : ℕ) → h ≡ Truth got l → got ≡ all → EndsAt s′ at end →
-        Turning bs env s₀ top all node from count left x s′ (setAt inner x at) end (more - 1) l
-    turning-on got l end e q z =
-        let d : h ≡ Truth all l = e ∙ ap (λ (z : Bool). Truth z l) q in
-        record {
-          loop = loop-next r (i .loop) some (le-refl top) ex ey p z all d (same-refl top s′);
-          gives = λ k e₁ l₁ h₁.
-              i .gives k e₁ l₁
-              (rw (next k .is) (quantify-on (bodyOf k) all (next k .value) (members (next k .rest)) (i .loop .now k) (ends (Truth all l) d k) h₁));
-        }
+  -- The body does not decide, and the next member stands at `end`.
+  pub turning-on : (got : Bool) (l end : ℕ) → h ≡ Truth got l → got ≡ all → EndsAt s′ at end →
+      Turning bs env s₀ top all node from count left x s′ (setAt inner x at) end (more - 1) l
+  turning-on got l end e q z =
+      let d : h ≡ Truth all l = e ∙ ap (λ (z : Bool). Truth z l) q in
+      record {
+        loop = loop-next u z all d (same-refl top s′);
+        gives = λ k e₁ l₁ h₁.
+            let v = ran-at u k in
+            i .gives k e₁ l₁ (rw (v .is) (quantify-on (bodyOf k) all (v .value) (members (v .rest)) (i .loop .now k) (body-ends u (Truth all l) d k) h₁));
+      }
 
 -- After the last turn.
 pub members-done : {bs env s₀ : List ℕ} {top : ℕ} {all : Bool} {node from count left x : ℕ} {s inner : List ℕ} {at more n : ℕ} →
@@ -122,37 +116,34 @@ members-done {all = all} {n = n} i e =
 quant-of : (k : ℕ) (j : Quant) → kindOf k ≡ some (quant j) → quantOf (eqb k 10) ≡ j
 quant-of k j e = rw (code-of k (quant j) e) (elim j as (λ j. quantOf (eqb (quantCode j) 10) ≡ j) [ forAll ↦ refl | forSome ↦ refl ])
 
--- Any end of one run is that of the other.
-held-on : {x y : Run Bool} {budget : ℕ} (r : Held) → ((e : End Bool) (l : ℕ) → EndsWith x e budget l → EndsWith y e budget l) →
-    HeldAs x budget r → HeldAs y budget r
-held-on (Truth b l) g h = g (done b) l h
-held-on (Refused r l) g h = g (refused (r .number) (r .place)) l h
-
 -- The evaluation of a quantifier's node, whose range is the node `a`.
-module _ {bs env s : List ℕ} {top k n left : ℕ} (d : Visited bs env s top k n left × Sort quant k) {a : ℕ} (ea : a ≡ fieldB bs n) where
-  pub quant-binder : Binder bs env s top k n left a (quant (d .1 .0))
-  quant-binder = record { visited = d .0; code = d .1 .1; fields = refl; word = ea }
+pub quant-binder : {bs env s : List ℕ} {top k n left a : ℕ} (d : Visited bs env s top k n left × Sort quant k) → a ≡ fieldB bs n →
+    Binder bs env s top k n left a (quant (d .1 .0))
+quant-binder d e = record { visited = d .0; code = d .1 .1; fields = refl; word = e }
 
+module _ {bs env s : List ℕ} {top k n left a : ℕ} {j : Quant} where
   -- The range is refused.
-  pub quant-refused : {s′ : List ℕ} {r : Formed} {p : Refusal} {l : ℕ} → EvaluatesE bs env s top a (left - 1) s′ r → r ≡ Stopped p l →
-      EvaluatesP bs env s top n left s′ (Refused p l)
+  pub quant-refused : Binder bs env s top k n left a (quant j) → {s′ : List ℕ} {r : Formed} {o : Held} {p : Refusal} {l : ℕ} →
+      EvaluatesE bs env s top a (left - 1) s′ r → r ≡ Stopped p l → RefusalOf r o → EvaluatesP bs env s top n left s′ o
   unfolding holdsᵖ
-  quant-refused h e = held-by (d .0) (quant (d .1 .0)) (d .1 .1) (h .frame) (λ i. range-stops quant-binder i _ (formed-as refl e h))
+  quant-refused b h e q =
+      held-as refl (refusal-is e q) (held-by (b .visited) (quant j) (b .code) (h .frame) (λ i. range-stops b i _ (formed-as refl e h)))
 
-  module _ {s′ : List ℕ} {at next l : ℕ} (h : EvaluatesE bs env s top a (left - 1) s′ (Placed at next l)) where
+  module _ {s′ : List ℕ} {at next l : ℕ} (g : Ranged bs env s top k n left a (quant j) s′ at next l) where
     -- The range is no set.
     pub quant-unlike : RangeAt s′ at Unlike → EvaluatesP bs env s top n left s′ (Refused (record { number = 15; place = n }) l)
     unfolding holdsᵖ
-    quant-unlike g = held-by (d .0) (quant (d .1 .0)) (d .1 .1) (h .frame) (λ i. range-unlike quant-binder h g i _)
+    quant-unlike y = held-by (g .binder .visited) (quant j) (g .binder .code) (g .placed .frame) (λ i. range-unlike (g .binder) (g .placed) y i _)
 
-    module _ {m : ℕ} (g : RangeAt s′ at (Set m)) where
+    module _ {m : ℕ} (y : RangeAt s′ at (Set m)) where
       pub quant-asks : {t : ℕ} → 5 * n + 1 ≡ t → (5 * n < t) × EachReady bs env s′ next n (at + 1) m 0
-      quant-asks e = (omega arith, each-ready quant-binder h g 0 (omega arith) (λ z. absurd (omega arith)))
+      quant-asks e = (omega arith, each-ready (g .binder) (g .placed) y 0 (omega arith) (λ z. absurd (omega arith)))
 
       pub quant-done : {s″ : List ℕ} {r′ : Held} → EvaluatesEach bs env s′ next n (at + 1) m l (quantOf (eqb k 10)) s″ r′ →
           EvaluatesP bs env s top n left s″ r′
       unfolding holdsᵖ
       quant-done {s″} {r′} u =
-          held-by (d .0) (quant (d .1 .0)) (d .1 .1) (same-trans top next s s′ s″ (h .frame) (u .frame) (h .bounds .0)) (λ i.
-          held-on r′ (λ x v z. range-on quant-binder h g i _ z)
-          (rw (quant-of k (d .1 .0) (d .1 .1)) at (u .answer (in-range quant-binder h g i))))
+          let b = g .binder in
+          let h = g .placed in
+          held-by (b .visited) (quant j) (b .code) (same-trans top next s s′ s″ (h .frame) (u .frame) (h .bounds .0)) (λ i.
+          held-on r′ (λ x v z. range-on b h y i _ z) (rw (quant-of k j (b .code)) at (u .answer (in-range b h y i))))

@@ -1,20 +1,14 @@
 -- A binder's range: its fields, its part of the node's run, the members of a set that stands in the arena, what the loop over them may take for
 -- granted, and `range_of`.
 use Rattle.evaluators.proofs.Terms.{ℕ, _+_, _-_, _*_, _≤_, _<_, Bool, true, false, List, [], _∷_, some, _≡_, refl, sym, ap, _∙_, subst, arith, T, length, getD, _%_, set, HasType, Fits, typed, demand, cellSize, RangeSet, SomeGood}
-use Rattle.evaluators.proofs.Terms.{Value, Values, count, Kind, Category, expression, predicate, unused, child, kindOf, fieldsOf, fits, tableOf, nodeAt, kindAt, fieldWords, End, refused, Run, M, _>>=_, _>>_, visit, binds-length, good-weight, code, codes, built, Sizes, GoodAt, good-fits, good-inside, Placed, Stopped, Refusal, Set, Unlike, EndsWith, PlacedAs, Listed, fieldA, fieldB, fieldC, RangeAt, expressionCells, NodeReady, Visited, Asks, AsksEach, valueAt, EvaluatesE, EachReady}
-use Rattle.rules.specs.Types.{Ty, atom, POW, _⊗_}
-use Rattle.rules.specs.Rules.{P̂, t̂, quantRule}
+use Rattle.evaluators.proofs.Terms.{Value, Values, count, Kind, Category, expression, predicate, unused, child, kindOf, fieldsOf, fits, tableOf, nodeAt, kindAt, fieldWords, End, refused, Run, M, _>>=_, _>>_, visit, binds-length, good-weight, code, codes, built, Sizes, GoodAt, good-fits, good-inside, Placed, Stopped, Refusal, Set, Unlike, EndsWith, PlacedAs, Listed, fieldA, fieldB, fieldC, RangeAt, expressionCells, NodeReady, Visited, Asks, AsksEach, valueAt, EvaluatesE, EachReady, Ty, atom, POW, _⊗_, P̂, t̂, quantRule, good-typed, elems-good, stands-tail, good-typed-at}
 use Rattle.laws.proofs.BindingLaws.{binderFields}
-use Rattle.laws.proofs.CellsLaws.{good-typed}
 use Rattle.laws.proofs.FitsLaws.{typed-right}
-use Rattle.laws.proofs.FormedLaws.{elems-good}
-use Rattle.arena.proofs.Standing.{stands-tail}
 use Rattle.arena.proofs.ValueParts.{first-cell}
 use Rattle.fitting.specs.Agree.{SomeTyped}
 use Rattle.fitting.specs.Tests.{FitOne}
 use Rattle.operations.proofs.SingleLaws.{fits-is-set}
 use Rattle.operations.proofs.FitLaws.{types-fit}
-use Rattle.operations.proofs.GoodLaws.{good-typed-at}
 use Rattle.evaluators.specs.declared.Range.{Range}
 use Rattle.evaluators.proofs.RunLaws.{then-done, then-refused, fitting-on, fitting-refused}
 use Rattle.evaluators.proofs.NodeLaws.{Child, sizes-small, field-holds, condition-cells, ready-child, visited-kind, visited-builds, visited-child}
@@ -49,6 +43,11 @@ pub record Binder (bs env s : List ℕ) (top k n left a : ℕ) (x : Kind) : Type
   pub code : kindOf k ≡ some x
   pub fields : fieldsOf x ≡ binderFields
   pub word : a ≡ fieldB bs n
+
+-- Its range has been evaluated, and stands at `at`.
+pub record Ranged (bs env s : List ℕ) (top k n left a : ℕ) (x : Kind) (s₁ : List ℕ) (at next l : ℕ) : Type 0 where
+  pub binder : Binder bs env s top k n left a x
+  pub placed : EvaluatesE bs env s top a (left - 1) s₁ (Placed at next l)
 
 module _ {bs env s : List ℕ} {top k n left a : ℕ} {x : Kind} (b : Binder bs env s top k n left a x) where
   abbrev r : NodeReady bs env s top n

@@ -1,8 +1,6 @@
 -- Ends of runs, part by part: what follows a part that is done begins at the visits which that part has made.
 use Rattle.evaluators.proofs.Terms.{ℕ, suc, _+_, _≤_, _<_, Bool, true, false, List, _≡_, refl, arith, leb, lt-ltb, le-ltb, le-leb, ltb}
-use Rattle.evaluators.proofs.Terms.{Value, weight, fits, End, done, refused, Run, M, return, _>>_, visit, Given, gives, fitting, EndsWith, goOn, form, lacks, weighed, fitted}
-use Rattle.rules.specs.Cells.{weightLimit}
-use Rattle.rules.specs.Rules.{Rule}
+use Rattle.evaluators.proofs.Terms.{Value, weight, fits, End, done, refused, Run, M, return, _>>_, visit, Given, gives, fitting, EndsWith, goOn, form, lacks, weighed, fitted, weightLimit, Rule}
 
 -- A part x, and f after it.
 module _ {A B : Type 0} {x : Run A} (f : A → M B) {budget left : ℕ} where

@@ -1,9 +1,6 @@
 -- What a node gives is settled at its top, and a member that is chosen is copied behind those before it.
 use Rattle.evaluators.proofs.Terms.{ℕ, _+_, _-_, _≤_, Bool, true, false, List, [], _∷_, _⊎_, inl, inr, _≡_, refl, sym, ap, _∙_, arith, length, Copied, WithinAt, GivenCell}
-use Rattle.evaluators.proofs.Terms.{Value, weight, Given, code, Same, length-code, same-refl, copied-stands, Outcome, BuiltAt, Gives, Formed, Placed, Stopped, SettleReady, ChooseReady, Chooses, Settles}
-use Rattle.operations.specs.declared.Outcome.the-variants.{Built, Within, Cell, Lacks}
-use Rattle.products.specs.Growing.{PutsCell}
-use Rattle.rules.proofs.Basics.{absurd01}
+use Rattle.evaluators.proofs.Terms.{Value, weight, Given, code, Same, length-code, same-refl, copied-stands, Outcome, BuiltAt, Gives, Formed, Placed, Stopped, SettleReady, ChooseReady, Chooses, Settles, Built, Within, Cell, Lacks, PutsCell, absurd01}
 
 -- Copying changes nothing below its place.
 copied-frame : {s s′ : List ℕ} {from n to : ℕ} → Copied s from n to s′ → Same to s s′

@@ -8,25 +8,13 @@ use Rattle.evaluators.proofs.eval_leaf.Tie as tie
 abbrev lent : tie.After-node-field → tie.Start
 lent c = c .before .before .before
 
-leaf-requires : tie.Need-leaf-requires
-leaf-requires c κs =
-    let z = c .before in
-    let a = z .before in
-    leaf-ready (lent a .pre) (a .node-field .ensures) (z .size .ensures)
-
-returns : tie.Need-returns
-returns c =
-    let l = c .before .before in
-    let z = l .before .before in
-    let a = z .before in
-    leaf-formed (lent a .pre) (a .node-field .ensures) (z .size .ensures) (l .leaf .ensures)
-
 pub eval-leaf-spec : {M : Type 1} → statement M
 eval-leaf-spec =
     tie.close
     (tie.spec
     (λ c κs. let p = c .before .before .pre in (node-in (p .readable) (p .node), lit< tt))
     (λ c κs. lent c .pre .readable .header)
-    leaf-requires
+    (λ c κs. let z = c .before in let a = z .before in leaf-ready (lent a .pre) (a .node-field .ensures) (z .size .ensures))
     (λ c. c .before .before .leaf .kept .0)
-    returns)
+    (λ c. let l = c .before .before in let z = l .before .before in let a = z .before in
+    leaf-formed (lent a .pre) (a .node-field .ensures) (z .size .ensures) (l .leaf .ensures)))

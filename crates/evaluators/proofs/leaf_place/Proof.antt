@@ -8,17 +8,13 @@ use Rattle.evaluators.proofs.leaf_place.Tie as tie
 abbrev lent : tie.After-node-kind → tie.Start
 lent c = c .before .before
 
-standing-requires : tie.Need-standing-requires
-standing-requires c κs =
-    let k = c .before in
-    place-standing (lent k .pre) (k .node-kind .ensures) (⊎-elim (λ w. inl (w .keys1)) (λ w. inr (w .1 .left, w .2 .taken)) (c .match .came))
-
 pub leaf-place-spec : {M : Type 1} → statement M
 leaf-place-spec =
     tie.close
     (tie.spec
     (λ c κs. let p = c .before .pre in node-in (p .readable) (p .node))
-    standing-requires
+    (λ c κs. let k = c .before in
+    place-standing (lent k .pre) (k .node-kind .ensures) (⊎-elim (λ w. inl (w .keys1)) (λ w. inr (w .1 .left, w .2 .taken)) (c .match .came)))
     (λ c. λ z. absurd (z refl))
     (λ c. λ z. absurd (z refl))
     (λ c. λ z. c .standing .ensures))

@@ -1,24 +1,11 @@
 -- `settle`: by what the operation answers. Landmark: what was lent.
+use Rattle.evaluators.proofs.Terms.{needs}
 use Rattle.evaluators.proofs.SettleLaws.{settles-lacks, settles-within, settles-cell, built-above, settle-room, settles-built}
-use borrow.Author.Needs.{needs}
 use Rattle.evaluators.proofs.settle.Statement.{statement}
 use Rattle.evaluators.proofs.settle.Tie as tie
 
 abbrev lent : tie.After-r4 → tie.Start
 lent c = c .before .before .before
-
-returns-3 : tie.Need-returns-3
-returns-3 c =
-    let p = c .before .before in
-    let r = p .before .before .before in
-    let v = r .before .before .before in
-    settles-cell (v .pre) (r .r3 .given .1) (p .put-cell .ensures)
-
-returns-4 : tie.Need-returns-4
-returns-4 c =
-    let p = c .before .before in
-    let r = p .before .before .before in
-    settles-built (lent r .pre) (r .r4 .given .1) (p .copy .ensures)
 
 pub settle-spec : {M : Type 1} → statement M
 settle-spec =
@@ -36,6 +23,7 @@ settle-spec =
     (λ c. let r = c .before .before in let v = r .before .before .before in settles-lacks (v .pre) (r .r .given .1) (c .stopped .ensures))
     (λ c. let r = c .before in let v = r .before .before .before in settles-within (v .pre) (r .r2 .given .1))
     (λ c. search needs)
-    returns-3
+    (λ c. let p = c .before .before in let r = p .before .before .before in let v = r .before .before .before in
+    settles-cell (v .pre) (r .r3 .given .1) (p .put-cell .ensures))
     (λ c. search needs)
-    returns-4)
+    (λ c. let p = c .before .before in let r = p .before .before .before in settles-built (lent r .pre) (r .r4 .given .1) (p .copy .ensures)))

@@ -1,14 +1,6 @@
 -- `standing_two`: nothing is said of 0; otherwise both operands stand already. Landmarks: what was lent, that nothing is built, and the words of the
 -- fields.
-use mathlib.Core.List.{List}
-use mathlib.Core.Path.{_≡_, refl}
-use Prim.Native.Nat.{ℕ}
-use native.Mathlib.Omega.{arith}
-use borrow.Author.Tests.{not-false}
-use denote.Ref.{now}
-use lib.Dec.{lit<}
-use Rattle.operations.specs.Outcomes.{IsLight}
-use Rattle.evaluators.specs.Nodes.{PlacedLeaf, FunctionLeaf}
+use Rattle.evaluators.proofs.Terms.{ℕ, List, _≡_, refl, arith, not-false, lit<, PlacedLeaf, FunctionLeaf, now, IsLight}
 use Rattle.evaluators.proofs.SafeLaws.{ready-node}
 use Rattle.evaluators.proofs.NodeLaws.{TwoFields, ready-first}
 use Rattle.evaluators.proofs.DispatchLaws.{place-ready, light-two}
@@ -35,8 +27,8 @@ begun c = word (c .before) .before
 light : (c : tie.Else2) → IsLight (lent (enough c) .args .kind)
 light c = c .before .is-light .ensures (not-false _ (c .if2 .left))
 
-fields : (c : tie.Else2) → let v = lent (enough c) in TwoFields (now (v .args .table)) (v .args .node)
-fields c = let y = light-two (light c) in two-fields (lent (enough c) .pre .2) (y .0) (y .1)
+fields : (c : tie.Else2) → let v = lent (enough c) in TwoFields (now (v .args .table)) (now (v .args .env)) (v .pre .0) (v .pre .1) (v .args .node)
+fields c = two-fields (lent (enough c) .pre .2, light-two (light c))
 
 -- The same under equal names.
 placed-as : {bs env : List ℕ} {n m at : ℕ} → n ≡ m → PlacedLeaf bs env n at → PlacedLeaf bs env m at
@@ -66,11 +58,11 @@ standing-two-spec =
     (λ c κs. tt)
     (λ c z. absurd (z refl))
     (λ c κs. (ready-node (lent (enough c) .pre .2 .ready), lit< tt))
-    (λ c κs. let e = c .before in rw (c .node-field .ensures) (place-ready (ready-first (lent (enough e) .pre .2 .ready) (fields e .right))))
+    (λ c κs. let e = c .before in rw (c .node-field .ensures) (place-ready (ready-first (fields e .ready) (fields e .right))))
     (λ c z. absurd (z refl))
     (λ c κs. (ready-node (lent (enough (word c .before)) .pre .2 .ready), lit< tt))
-    (λ c κs. let e = begun c in rw (c .node-field2 .ensures) (place-ready (ready-first (lent (enough e) .pre .2 .ready) (fields e .left))))
+    (λ c κs. let e = begun c in rw (c .node-field2 .ensures) (place-ready (ready-first (fields e .ready) (fields e .left))))
     (λ c κs. let f = c .before in
     let e = begun f in
-    rw (f .node-field2 .ensures) (place-ready (ready-first (lent (enough e) .pre .2 .ready) (fields e .left))))
+    rw (f .node-field2 .ensures) (place-ready (ready-first (fields e .ready) (fields e .left))))
     returns-4)

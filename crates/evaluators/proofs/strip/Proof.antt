@@ -29,11 +29,6 @@ loop-again c =
     passes-on (lent l .pre .0) (reached l) (k .node-kind .ensures) (omega (arith, c .before .if1 .left)) (l .loop .inv)
     (omega (arith, k .before .loop-test .taken)) (c .node-field .ensures)
 
-returns : tie.Need-returns Inv-loop μ-loop
-returns c =
-    let k = c .before in
-    record { passes = looked k .loop .inv; last = λ _ e. absurd (omega (arith, c .if1 .taken, k .node-kind .ensures)) }
-
 pub strip-spec : {M : Type 1} → statement M
 strip-spec =
     tie.close
@@ -42,7 +37,8 @@ strip-spec =
     μ-loop
     (λ c. passes-none (c .before .pre .2))
     (λ c κs. let l = c .before in node-in (lent l .pre .0) (reached l))
-    returns
+    (λ c. let k = c .before in
+    record { passes = looked k .loop .inv; last = λ _ e. absurd (omega (arith, c .if1 .taken, k .node-kind .ensures)) })
     (λ c κs. let l = looked (c .before) in (node-in (lent l .pre .0) (reached l), lit< tt))
     (λ c. omega (arith, c .before .before .before .loop-test .taken))
     (λ c. omega (arith, c .before .before .before .loop-test .taken))

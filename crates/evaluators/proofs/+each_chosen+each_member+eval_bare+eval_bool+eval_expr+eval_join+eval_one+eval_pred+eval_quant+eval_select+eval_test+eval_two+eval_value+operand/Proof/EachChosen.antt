@@ -5,10 +5,9 @@ use Rattle.evaluators.proofs.choose.Reads as choose
 use Rattle.arena.proofs.end_of.Reads as end-of
 use Rattle.table.proofs.node_field.Reads as field
 use Rattle.evaluators.proofs.stop_of.Reads as stop
-use Rattle.evaluators.proofs.+each_chosen+each_member+eval_bare+eval_bool+eval_expr+eval_join+eval_one+eval_pred+eval_quant+eval_select+eval_test+eval_two+eval_value+operand.Proof.Base.{each-chosen, eval-pred, ℕ, _∙_, arith, lit<, In, Out, one-less, binder-node, entry-below, entry-scaled, stop-is, member-low}
+use Rattle.evaluators.proofs.+each_chosen+each_member+eval_bare+eval_bool+eval_expr+eval_join+eval_one+eval_pred+eval_quant+eval_select+eval_test+eval_two+eval_value+operand.Proof.Base.{OverLoop, each-chosen, eval-pred, ℕ, _∙_, arith, lit<, one-less, binder-node, entry-below, entry-scaled, member-low, Ran, member-at}
 use Rattle.evaluators.proofs.SafeLaws.{above-fits, top-scaled, top-inside, written-kept}
-use Rattle.evaluators.proofs.FormLaws.{chosen-as}
-use Rattle.evaluators.proofs.ChosenLaws.{Choosing, choosing-start, choosing-near, choosing-few, choosing-end, choosing-asks, choosing-refused, choosing-some, choosing-choose, choosing-next}
+use Rattle.evaluators.proofs.ChosenLaws.{Choosing, choosing-start, choosing-near, choosing-few, choosing-end, choosing-low, choosing-asks, choosing-refused, choosing-choose, choosing-next}
 
 abbrev Inv : lts.InvT-loop
 Inv table env s₀ top node from count left x body inner₀ at₀ more₀ n₀ to₀ chosen₀ s inner at more n to chosen =
@@ -21,7 +20,7 @@ module _ (t : ℕ) where
   abbrev claims : lts.Claims
   claims = (field.Asked, field.Learnt, eval-pred .below t, eval-pred .post, stop.Asked, stop.Learnt, end-of.Asked, end-of.Learnt, choose.Asked, choose.Learnt)
 
-  abbrev Here : (lts.Claims → In 3 lts.ps → Out 3 lts.ps lts.r → lts.InvT-loop → lts.MeasureT-loop → Type 0) → Type 0
+  abbrev Here : OverLoop 3 lts.ps lts.r lts.Claims lts.InvT-loop lts.MeasureT-loop → Type 0
   Here T = T claims (each-chosen .at t) (each-chosen .post) Inv μ
 
   abbrev lent : Here lts.After-node-field → Here lts.Start
@@ -42,30 +41,17 @@ module _ (t : ℕ) where
   abbrev ended : Here lts.After-choose → Here lts.After-end-of
   ended c = c .before .before
 
-  returns : Here lts.Need-returns
-  returns c =
-      let k = c .before in let p = ran (k .before .before) in let w = turn p in let g = words (w .before) in
-      chosen-as (stop-is (k .enum-told .given .1) (c .stop-of .ensures))
-      (choosing-refused (lent (g .before) .pre .1) (w .before .loop .inv) (w .loop-test .taken) (g .before .node-field .ensures)
-      (g .node-field2 .ensures) (p .eval-pred .ensures) (k .enum-told .given .1))
-
-  end-of-requires : Here lts.Need-end-of-requires
-  end-of-requires c κs =
-      let h = c .before .before in let p = ran (h .before .before) in let w = turn p in let g = words (w .before) in
-      choosing-some (lent (g .before) .pre .1) (w .before .loop .inv) (w .loop-test .taken) (g .before .node-field .ensures)
-      (g .node-field2 .ensures) (p .eval-pred .ensures)
-
-  choose-requires : Here lts.Need-choose-requires
-  choose-requires c κs =
-      let o = c .before in let p = ran (told o .before .before) in let w = turn p in let g = words (w .before) in
-      choosing-choose (lent (g .before) .pre .1) (w .before .loop .inv) (w .loop-test .taken) (g .before .node-field .ensures)
-      (g .node-field2 .ensures) (p .eval-pred .ensures) (o .end-of .ensures)
-
-  loop-again : Here lts.Need-loop-again
-  loop-again c =
-      let o = ended (c .before .before) in let h = told o in let p = ran (h .before .before) in let w = turn p in let g = words (w .before) in
-      choosing-next (lent (g .before) .pre .1) (w .before .loop .inv) (w .loop-test .taken) (g .before .node-field .ensures)
-      (g .node-field2 .ensures) (p .eval-pred .ensures) (o .end-of .ensures) (h .held .given .1) (c .before .before .choose .ensures)
+  -- The body has run at a member.
+  turned : (p : Here lts.After-eval-pred) → let l = turn p .before in
+      Ran (l .loop .inv .loop) 256 (l .loop .to) (words l .node-field2 .result) (p .eval-pred .last .1 .1 .0) (p .eval-pred .result)
+  turned p = let w = turn p in let g = words (w .before) in let v = lent (g .before) in record {
+    ready = v .pre .1;
+    some = w .loop-test .taken;
+    low = choosing-low (v .pre .1) (w .before .loop .inv);
+    name = g .before .node-field .ensures;
+    body = g .node-field2 .ensures;
+    told = p .eval-pred .ensures;
+  }
 
   pub closed : {M : Type 1} → lts.Closed claims (each-chosen .at t) (each-chosen .post) M
   closed =
@@ -81,15 +67,17 @@ module _ (t : ℕ) where
       choosing-asks (v .pre .1) (w .before .loop .inv) (w .loop-test .taken) (g .before .node-field .ensures) (g .node-field2 .ensures) (v .pre .0))
       (λ c. c .match .keys1) (λ c. c .match .keys2) (λ c κs. tt)
       (λ c. let k = c .before in let p = ran (k .before .before) in p .eval-pred .kept .1 .1 .0 ∙ turn p .before .loop .inv .loop .frame .kept)
-      returns
-      end-of-requires
-      choose-requires
+      (λ c. let k = c .before in let p = ran (k .before .before) in
+      choosing-refused (turn p .before .loop .inv) (turned p) (k .enum-told .given .1) (c .stop-of .ensures))
+      (λ c κs. let h = c .before .before in member-at (turned (ran (h .before .before))))
+      (λ c κs. let o = c .before in let p = ran (told o .before .before) in choosing-choose (turn p .before .loop .inv) (turned p) (o .end-of .ensures))
       (λ c. tt)
       (λ c. let h = told (ended (c .before .before)) in let l = turn (ran (h .before .before)) .before in
       record { fits = choosing-few (lent (words l .before) .pre .1) (l .loop .inv) (h .held .given .0 .0) })
       (λ c. turn (ran (told (ended (c .before .before)) .before .before)) .loop-test .taken)
       (λ c. one-less (turn (ran (told (ended (c .before .before)) .before .before)) .loop-test .taken))
-      loop-again
+      (λ c. let q = c .before .before in let o = ended q in let h = told o in let p = ran (h .before .before) in
+      choosing-next (turn p .before .loop .inv) (turned p) (o .end-of .ensures) (h .held .given .1) (q .choose .ensures))
       (λ c. let l = c .before in omega (arith, choosing-near (lent (words l .before) .pre .1) (l .loop .inv) .2))
       (λ c. top-scaled (lent (words (c .before) .before) .pre .1))
       (λ c. let l = c .before in top-inside (lent (words l .before) .pre .1) (l .loop .inv .loop .frame))

@@ -3,8 +3,8 @@
 use Rattle.evaluators.proofs.+each_chosen+each_member+eval_bare+eval_bool+eval_expr+eval_join+eval_one+eval_pred+eval_quant+eval_select+eval_test+eval_two+eval_value+operand.Lts-each_member as lts
 use Rattle.arena.proofs.end_of.Reads as end-of
 use Rattle.table.proofs.node_field.Reads as field
-use Rattle.evaluators.proofs.+each_chosen+each_member+eval_bare+eval_bool+eval_expr+eval_join+eval_one+eval_pred+eval_quant+eval_select+eval_test+eval_two+eval_value+operand.Proof.Base.{each-member, eval-pred, ℕ, _∙_, arith, lit<, In, Out, one-less, binder-node, entry-below, entry-scaled, member-low}
-use Rattle.evaluators.proofs.QuantLaws.{differ, agree, Turning, turning-start, member-stands, member-asks, member-refused, member-decides, turning-on, members-done}
+use Rattle.evaluators.proofs.+each_chosen+each_member+eval_bare+eval_bool+eval_expr+eval_join+eval_one+eval_pred+eval_quant+eval_select+eval_test+eval_two+eval_value+operand.Proof.Base.{OverLoop, each-member, eval-pred, ℕ, refl, _∙_, arith, lit<, one-less, binder-node, entry-below, entry-scaled, member-low, Ran, member-at}
+use Rattle.evaluators.proofs.QuantLaws.{differ, agree, refusal-ends, Turning, turning-start, member-asks, member-ends, turning-on, members-done}
 
 abbrev Inv : lts.InvT-loop
 Inv table env s₀ top all node from count left x body inner₀ at₀ more₀ n₀ s inner at more n =
@@ -17,7 +17,7 @@ module _ (t : ℕ) where
   abbrev claims : lts.Claims
   claims = (field.Asked, field.Learnt, eval-pred .below t, eval-pred .post, end-of.Asked, end-of.Learnt)
 
-  abbrev Here : (lts.Claims → In 3 lts.ps → Out 3 lts.ps lts.r → lts.InvT-loop → lts.MeasureT-loop → Type 0) → Type 0
+  abbrev Here : OverLoop 3 lts.ps lts.r lts.Claims lts.InvT-loop lts.MeasureT-loop → Type 0
   Here T = T claims (each-member .at t) (each-member .post) Inv μ
 
   abbrev lent : Here lts.After-node-field → Here lts.Start
@@ -32,29 +32,17 @@ module _ (t : ℕ) where
   abbrev ran : Here lts.After-slice-known2 → Here lts.After-eval-pred
   ran c = c .before .before
 
-  returns : Here lts.Need-returns
-  returns c =
-      let p = ran (c .before .before) in let w = turn p in let g = words (w .before) in
-      member-refused (lent (g .before) .pre .1) (w .before .loop .inv) (w .loop-test .taken) (g .before .node-field .ensures)
-      (g .node-field2 .ensures) (p .eval-pred .ensures) (c .enum-told .given .1)
-
-  returns-2 : Here lts.Need-returns-2
-  returns-2 c =
-      let h = c .before .before in let p = ran (h .before .before) in let w = turn p in let g = words (w .before) in
-      member-decides (lent (g .before) .pre .1) (w .before .loop .inv) (w .loop-test .taken) (g .before .node-field .ensures)
-      (g .node-field2 .ensures) (p .eval-pred .ensures) _ _ (h .held .given .1) (differ _ _ (c .if1 .taken))
-
-  end-of-requires : Here lts.Need-end-of-requires
-  end-of-requires c κs =
-      let h = c .before .before .before in let p = ran (h .before .before) in let w = turn p in let g = words (w .before) in
-      member-stands (lent (g .before) .pre .1) (w .before .loop .inv) (w .loop-test .taken) (g .before .node-field .ensures)
-      (g .node-field2 .ensures) (p .eval-pred .ensures)
-
-  loop-again : Here lts.Need-loop-again
-  loop-again c =
-      let i = c .before .before in let h = i .before .before in let p = ran (h .before .before) in let w = turn p in let g = words (w .before) in
-      turning-on (lent (g .before) .pre .1) (w .before .loop .inv) (w .loop-test .taken) (g .before .node-field .ensures)
-      (g .node-field2 .ensures) (p .eval-pred .ensures) _ _ _ (h .held .given .1) (agree _ _ (i .if1 .left)) (c .end-of .ensures)
+  -- The body has run at a member.
+  turned : (p : Here lts.After-eval-pred) → let w = turn p in let g = words (w .before) in
+      Ran (w .before .loop .inv .loop) 0 (lent (g .before) .args .top) (g .node-field2 .result) (p .eval-pred .last .1 .1 .0) (p .eval-pred .result)
+  turned p = let w = turn p in let g = words (w .before) in record {
+    ready = lent (g .before) .pre .1;
+    some = w .loop-test .taken;
+    low = omega arith;
+    name = g .before .node-field .ensures;
+    body = g .node-field2 .ensures;
+    told = p .eval-pred .ensures;
+  }
 
   pub closed : {M : Type 1} → lts.Closed claims (each-member .at t) (each-member .post) M
   closed =
@@ -69,12 +57,14 @@ module _ (t : ℕ) where
       member-asks (v .pre .1) (w .before .loop .inv) (w .loop-test .taken) (g .before .node-field .ensures) (g .node-field2 .ensures) (v .pre .0))
       (λ c. c .match .keys1) (λ c. c .match .keys2)
       (λ c. let p = ran (c .before .before) in p .eval-pred .kept .1 .1 .0 ∙ turn p .before .loop .inv .loop .frame .kept)
-      returns
+      (λ c. let p = ran (c .before .before) in member-ends (turn p .before .loop .inv) (turned p) _ refl (refusal-ends _ (c .enum-told .given .1)))
       (λ c. let h = c .before .before in let p = ran (h .before .before) in p .eval-pred .kept .1 .1 .0 ∙ turn p .before .loop .inv .loop .frame .kept)
-      returns-2
-      end-of-requires
+      (λ c. let h = c .before .before in let p = ran (h .before .before) in
+      member-ends (turn p .before .loop .inv) (turned p) _ (h .held .given .1) (differ _ _ (c .if1 .taken)))
+      (λ c κs. let h = c .before .before .before in member-at (turned (ran (h .before .before))))
       (λ c. let i = c .before .before in let h = i .before .before in turn (ran (h .before .before)) .loop-test .taken)
       (λ c. let i = c .before .before in let h = i .before .before in one-less (turn (ran (h .before .before)) .loop-test .taken))
-      loop-again
+      (λ c. let i = c .before .before in let h = i .before .before in let p = ran (h .before .before) in
+      turning-on (turn p .before .loop .inv) (turned p) _ _ _ (h .held .given .1) (agree _ _ (i .if1 .left)) (c .end-of .ensures))
       (λ c. c .before .loop .inv .loop .frame .kept)
       (λ c. members-done (c .before .loop .inv) (omega (arith, c .loop-test .left)))

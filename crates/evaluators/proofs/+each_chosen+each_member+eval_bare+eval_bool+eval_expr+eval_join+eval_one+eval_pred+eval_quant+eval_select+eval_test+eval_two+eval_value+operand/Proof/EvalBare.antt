@@ -10,7 +10,7 @@ module _ (t : ℕ) where
   abbrev claims : lts.Claims
   claims = (refused.Asked, refused.Learnt, kind.Asked, kind.Learnt, test .below t, test .post, quant .below t, quant .post, join .below t, join .post)
 
-  abbrev Here : Over lts.Claims lts.ps lts.r → Type 0
+  abbrev Here : Over 3 lts.ps lts.r lts.Claims → Type 0
   Here T = T claims (eval-bare .at t) (eval-bare .post)
 
   abbrev lent : Here lts.After-node-kind → Here lts.Start
@@ -23,12 +23,6 @@ module _ (t : ℕ) where
       Visited (now (a .table)) (now (a .env)) (now (a .s)) (a .top) (k .node-kind .result) (a .node) (a .left)
   visit k = counted (lent k .pre .1 .0) _ (k .before .if1 .left) (k .node-kind .ensures)
 
-  eval-join-requires : Here lts.Need-eval-join-requires
-  eval-join-requires c κs =
-      let j = c .before in let r = j .before in let k = kinded r in let d = visit k in let p = lent k .pre .1 in
-      let below = ⊎-elim (λ w. w .taken) (λ w. absurd (omega (arith, w .2 .left, r .if3 .taken))) (j .if4 .came) in
-      (omega (arith, lent k .pre .0), (d, join-kind d (p .1) (λ e. p .2 (d .unspent) (sym (k .node-kind .ensures) ∙ e)) below))
-
   pub closed : {M : Type 1} → lts.Closed claims (eval-bare .at t) (eval-bare .post) M
   closed =
       lts.spec claims (eval-bare .at t) (eval-bare .post)
@@ -39,7 +33,9 @@ module _ (t : ℕ) where
       (omega (arith, lent k .pre .0), (visit k, test-sort _ (b .if4 .left) (a .if5 .taken))))
       (λ c κs. let a = c .before in let b = a .before in let k = kinded (b .before .before) in
       (omega (arith, lent k .pre .0), (visit k, quant-sort _ (b .if5 .left) (a .if6 .taken))))
-      eval-join-requires
+      (λ c κs. let j = c .before in let r = j .before in let k = kinded r in let d = visit k in let p = lent k .pre .1 in
+      let below = ⊎-elim (λ w. w .taken) (λ w. absurd (omega (arith, w .2 .left, r .if3 .taken))) (j .if4 .came) in
+      (omega (arith, lent k .pre .0), (d, join-kind d (p .1) (λ e. p .2 (d .unspent) (sym (k .node-kind .ensures) ∙ e)) below)))
       (λ c κs. tt)
       (λ c. c .before .before .eval-test .kept .1 .1 .0) (λ c. c .before .before .eval-test .ensures)
       (λ c. c .before .before .eval-quant .kept .1 .1 .0) (λ c. c .before .before .eval-quant .ensures)

@@ -12,7 +12,7 @@ module _ (t : ℕ) where
   abbrev claims : lts.Claims
   claims = (field.Asked, field.Learnt, eval-pred .below t, eval-pred .post, stop-of.Asked, stop-of.Learnt, put-cell.Asked, put-cell.Learnt)
 
-  abbrev Here : Over lts.Claims lts.ps lts.r → Type 0
+  abbrev Here : Over 3 lts.ps lts.r lts.Claims → Type 0
   Here T = T claims (eval-bool .at t) (eval-bool .post)
 
   abbrev lent : Here lts.After-node-field → Here lts.Start

@@ -11,7 +11,7 @@ module _ (t : ℕ) where
   abbrev claims : lts.Claims
   claims = (field.Asked, field.Learnt, eval-pred .below t, eval-pred .post, decides.Asked, decides.Learnt, joined.Asked, joined.Learnt)
 
-  abbrev Here : Over lts.Claims lts.ps lts.r → Type 0
+  abbrev Here : Over 3 lts.ps lts.r lts.Claims → Type 0
   Here T = T claims (eval-join .at t) (eval-join .post)
 
   abbrev lent : Here lts.After-node-field → Here lts.Start
@@ -38,25 +38,6 @@ module _ (t : ℕ) where
   abbrev ran₂ : Here lts.After-slice-known3 → Here lts.After-eval-pred2
   ran₂ c = c .before .before
 
-  eval-pred-requires-2 : Here lts.Need-eval-pred-requires-2
-  eval-pred-requires-2 c κs =
-      let g = c .before in let k = decided g in let e = first k in let v = lent (word e) in
-      join-asks (v .pre .1) (word e .node-field .ensures) (e .eval-pred .ensures) (held k .first .given .1) (k .decides .ensures)
-      (g .before .if1 .left) (g .node-field2 .ensures) (v .pre .0)
-
-  returns-3 : Here lts.Need-returns-3
-  returns-3 c =
-      let s = ran₂ (c .before .before) in let g = word₂ s in let k = decided g in let e = first k in let p = lent (word e) .pre .1 in
-      join-stays-2 p (word e .node-field .ensures) (e .eval-pred .ensures) (held k .first .given .1) (k .decides .ensures)
-      (g .before .if1 .left) (g .node-field2 .ensures) (s .eval-pred2 .ensures) (c .enum-told2 .given .1)
-
-  returns-4 : Here lts.Need-returns-4
-  returns-4 c =
-      let w = c .before .before in let s = ran₂ (w .before .before) in let g = word₂ s in let k = decided g in let e = first k in
-      let p = lent (word e) .pre .1 in
-      join-both p (word e .node-field .ensures) (e .eval-pred .ensures) (held k .first .given .1) (k .decides .ensures)
-      (g .before .if1 .left) (g .node-field2 .ensures) (s .eval-pred2 .ensures) (w .second .given .1) (c .joined .ensures)
-
   pub closed : {M : Type 1} → lts.Closed claims (eval-join .at t) (eval-join .post) M
   closed =
       lts.spec claims (eval-join .at t) (eval-join .post)
@@ -73,11 +54,17 @@ module _ (t : ℕ) where
       (λ c. let k = c .before in let e = first k in let p = lent (word e) .pre .1 in
       join-short p (word e .node-field .ensures) (e .eval-pred .ensures) (held k .first .given .1) (k .decides .ensures) (c .if1 .taken))
       (λ c κs. (ready-node (lent (word (first (c .before))) .pre .1 .0 .ready), lit< tt))
-      eval-pred-requires-2
+      (λ c κs. let g = c .before in let k = decided g in let e = first k in let v = lent (word e) in
+      join-asks (v .pre .1) (word e .node-field .ensures) (e .eval-pred .ensures) (held k .first .given .1) (k .decides .ensures)
+      (g .before .if1 .left) (g .node-field2 .ensures) (v .pre .0))
       (λ c. c .match2 .keys1) (λ c. c .match2 .keys2)
       (λ c. let s = ran₂ (c .before .before) in s .eval-pred2 .kept .1 .1 .0 ∙ first (decided (word₂ s)) .eval-pred .kept .1 .1 .0)
-      returns-3
+      (λ c. let s = ran₂ (c .before .before) in let g = word₂ s in let k = decided g in let e = first k in let p = lent (word e) .pre .1 in
+      join-stays-2 p (word e .node-field .ensures) (e .eval-pred .ensures) (held k .first .given .1) (k .decides .ensures)
+      (g .before .if1 .left) (g .node-field2 .ensures) (s .eval-pred2 .ensures) (c .enum-told2 .given .1))
       (λ c κs. tt)
       (λ c. let w = c .before .before in let s = ran₂ (w .before .before) in
       s .eval-pred2 .kept .1 .1 .0 ∙ first (decided (word₂ s)) .eval-pred .kept .1 .1 .0)
-      returns-4
+      (λ c. let w = c .before .before in let s = ran₂ (w .before .before) in let g = word₂ s in let k = decided g in let e = first k in
+      join-both (lent (word e) .pre .1) (word e .node-field .ensures) (e .eval-pred .ensures) (held k .first .given .1) (k .decides .ensures)
+      (g .before .if1 .left) (g .node-field2 .ensures) (s .eval-pred2 .ensures) (w .second .given .1) (c .joined .ensures))

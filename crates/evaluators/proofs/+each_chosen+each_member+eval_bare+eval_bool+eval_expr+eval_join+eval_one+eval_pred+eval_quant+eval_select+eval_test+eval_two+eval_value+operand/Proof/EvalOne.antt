@@ -4,14 +4,14 @@ use Rattle.evaluators.proofs.+each_chosen+each_member+eval_bare+eval_bo
 use Rattle.table.proofs.node_field.Reads as field
 use Rattle.operations.proofs.one.Reads as one
 use Rattle.evaluators.proofs.settle.Reads as settle
-use Rattle.evaluators.proofs.+each_chosen+each_member+eval_bare+eval_bool+eval_expr+eval_join+eval_one+eval_pred+eval_quant+eval_select+eval_test+eval_two+eval_value+operand.Proof.Base.{Over, eval-one, operand, ℕ, refl, sym, _∙_, arith, lit<, ready-node, child-asks, formed-as}
-use Rattle.evaluators.proofs.FormLaws.{one-child, one-fails, one-ready, one-settles, one-evaluates}
+use Rattle.evaluators.proofs.+each_chosen+each_member+eval_bare+eval_bool+eval_expr+eval_join+eval_one+eval_pred+eval_quant+eval_select+eval_test+eval_two+eval_value+operand.Proof.Base.{Over, eval-one, operand, ℕ, refl, sym, _∙_, arith, lit<, ready-node, child-asks, formed-as, settle-asks, settle-tells}
+use Rattle.evaluators.proofs.FormLaws.{one-child, one-fails, one-ready, one-operated}
 
 module _ (t : ℕ) where
   abbrev claims : lts.Claims
   claims = (field.Asked, field.Learnt, operand .below t, operand .post, one.Asked, one.Learnt, settle.Asked, settle.Learnt)
 
-  abbrev Here : Over lts.Claims lts.ps lts.r → Type 0
+  abbrev Here : Over 3 lts.ps lts.r lts.Claims → Type 0
   Here T = T claims (eval-one .at t) (eval-one .post)
 
   abbrev lent : Here lts.After-node-field → Here lts.Start
@@ -29,12 +29,6 @@ module _ (t : ℕ) where
   abbrev settled : Here lts.After-settle → Here lts.After-one
   settled c = let s = c .before .before in s .before .before
 
-  returns-2 : Here lts.Need-returns-2
-  returns-2 c =
-      let q = settled (c .before .before) in let m = done q in let e = ran (m .before .before) in let p = lent (word e) .pre .1 in
-      one-evaluates p (word e .node-field .ensures) (formed-as refl (m .first .given .1) (e .operand .ensures))
-      (q .one .ensures) (c .before .before .settle .ensures)
-
   pub closed : {M : Type 1} → lts.Closed claims (eval-one .at t) (eval-one .post) M
   closed =
       lts.spec claims (eval-one .at t) (eval-one .post)
@@ -48,6 +42,8 @@ module _ (t : ℕ) where
       (λ c κs. let m = c .before .before in let e = ran (m .before .before) in let p = lent (word e) .pre .1 in
       one-ready p (word e .node-field .ensures) (formed-as refl (m .first .given .1) (e .operand .ensures)))
       (λ c κs. let q = c .before .before .before in let m = done q in let e = ran (m .before .before) in let p = lent (word e) .pre .1 in
-      one-settles p (word e .node-field .ensures) (formed-as refl (m .first .given .1) (e .operand .ensures)) (q .one .ensures))
+      settle-asks (one-operated p (word e .node-field .ensures) (formed-as refl (m .first .given .1) (e .operand .ensures)) (q .one .ensures)))
       (λ c. let p = c .before .before in let q = settled p in p .settle .kept .0 ∙ q .one .kept .0 ∙ ran (done q .before .before) .operand .kept .1 .1 .0)
-      returns-2
+      (λ c. let z = c .before .before in let q = settled z in let m = done q in let e = ran (m .before .before) in let p = lent (word e) .pre .1 in
+      settle-tells (one-operated p (word e .node-field .ensures) (formed-as refl (m .first .given .1) (e .operand .ensures)) (q .one .ensures))
+      (z .settle .ensures))

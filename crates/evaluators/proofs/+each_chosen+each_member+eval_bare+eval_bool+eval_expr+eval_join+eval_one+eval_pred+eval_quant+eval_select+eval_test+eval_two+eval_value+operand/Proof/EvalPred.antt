@@ -10,7 +10,7 @@ module _ (t : ℕ) where
   abbrev claims : lts.Claims
   claims = (strip.Asked, strip.Learnt, eval-bare .below t, eval-bare .post, turn.Asked, turn.Learnt)
 
-  abbrev Here : Over lts.Claims lts.ps lts.r → Type 0
+  abbrev Here : Over 3 lts.ps lts.r lts.Claims → Type 0
   Here T = T claims (eval-pred .at t) (eval-pred .post)
 
   abbrev lent : Here lts.After-strip → Here lts.Start

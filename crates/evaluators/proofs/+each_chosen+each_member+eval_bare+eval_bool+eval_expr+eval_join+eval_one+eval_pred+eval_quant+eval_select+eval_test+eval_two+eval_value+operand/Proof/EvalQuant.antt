@@ -5,7 +5,8 @@ use Rattle.table.proofs.node_field.Reads as field
 use Rattle.evaluators.proofs.range_of.Reads as range
 use Rattle.evaluators.proofs.refusal_of.Reads as refusal
 use Rattle.evaluators.proofs.refused.Reads as refused
-use Rattle.evaluators.proofs.+each_chosen+each_member+eval_bare+eval_bool+eval_expr+eval_join+eval_one+eval_pred+eval_quant+eval_select+eval_test+eval_two+eval_value+operand.Proof.Base.{Over, each-member, eval-quant, operand, ℕ, refl, sym, _∙_, arith, lit<, ready-node, child-asks, held-as, formed-as, refusal-is, range-as, range-child, range-good, range-low}
+use Rattle.evaluators.proofs.+each_chosen+each_member+eval_bare+eval_bool+eval_expr+eval_join+eval_one+eval_pred+eval_quant+eval_select+eval_test+eval_two+eval_value+operand.Proof.Base.{Over, each-member, eval-quant, operand, ℕ, refl, sym, _∙_, arith, lit<, now, ready-node, child-asks, held-as, formed-as, Ranged, range-as, range-child, range-good, range-low}
+use Rattle.evaluators.proofs.Terms.{quant}
 use Rattle.evaluators.proofs.QuantLaws.{quant-binder, quant-refused, quant-unlike, quant-asks, quant-done}
 
 module _ (t : ℕ) where
@@ -25,7 +26,7 @@ module _ (t : ℕ) where
     each-member .post,
   )
 
-  abbrev Here : Over lts.Claims lts.ps lts.r → Type 0
+  abbrev Here : Over 3 lts.ps lts.r lts.Claims → Type 0
   Here T = T claims (eval-quant .at t) (eval-quant .post)
 
   abbrev lent : Here lts.After-node-field → Here lts.Start
@@ -46,29 +47,13 @@ module _ (t : ℕ) where
   abbrev counted : Here lts.After-each-member → Here lts.After-range
   counted c = c .before .before .before
 
-  returns : Here lts.Need-returns
-  returns c =
-      let k = c .before in let e = ran (k .before .before) in let f = word e in
-      held-as refl (refusal-is (k .enum-told .given .1) (c .refusal-of .ensures))
-      (quant-refused (lent f .pre .1) (f .node-field .ensures) (e .operand .ensures) (k .enum-told .given .1))
-
-  returns-2 : Here lts.Need-returns-2
-  returns-2 c =
-      let k = c .before in let o = k .before .before in let e = first o in let f = word e in
-      held-as refl (sym (c .refused .ensures)) (quant-unlike (lent f .pre .1) (f .node-field .ensures)
-      (formed-as refl (asked o .first .given .1) (e .operand .ensures)) (range-as (k .enum-told2 .given .1) (o .range-of .ensures)))
-
-  each-member-requires : Here lts.Need-each-member-requires
-  each-member-requires c κs =
-      let a = c .before .before in let o = a .before .before in let e = first o in let v = lent (word e) in
-      quant-asks (v .pre .1) (word e .node-field .ensures) (formed-as refl (asked o .first .given .1) (e .operand .ensures))
-      (range-as (a .range .given .1) (o .range-of .ensures)) (v .pre .0)
-
-  returns-3 : Here lts.Need-returns-3
-  returns-3 c =
-      let i = c .before .before in let a = counted i in let o = a .before .before in let e = first o in let f = word e in
-      quant-done (lent f .pre .1) (f .node-field .ensures) (formed-as refl (asked o .first .given .1) (e .operand .ensures))
-      (range-as (a .range .given .1) (o .range-of .ensures)) (i .each-member .ensures)
+  -- The range has been evaluated.
+  ranged : (m : Here lts.After-first) → let e = ran (m .before .before) in let f = word e in let a = lent f .args in let g = m .first .given .0 in
+      Ranged (now (a .table)) (now (a .env)) (now (a .s)) (a .top) (a .kind) (a .node) (a .left) (f .node-field .result) (quant (lent f .pre .1 .1 .0))
+      (e .operand .last .1 .1 .0) (g .0) (g .1 .0) (g .1 .1 .0)
+  ranged m =
+      let e = ran (m .before .before) in let f = word e in
+      record { binder = quant-binder (lent f .pre .1) (f .node-field .ensures); placed = formed-as refl (m .first .given .1) (e .operand .ensures) }
 
   pub closed : {M : Type 1} → lts.Closed claims (eval-quant .at t) (eval-quant .post) M
   closed =
@@ -79,14 +64,16 @@ module _ (t : ℕ) where
       child-asks 4 (omega arith) (p .0) (p .1 .0 .ready) (range-child (quant-binder (p .1) (f .node-field .ensures))))
       (λ c. c .match .keys1) (λ c. c .match .keys2) (λ c κs. tt)
       (λ c. let k = c .before in ran (k .before .before) .operand .kept .1 .1 .0)
-      returns
-      (λ c κs. let m = c .before .before in let e = ran (m .before .before) in let f = word e in
-      range-good (quant-binder (lent f .pre .1) (f .node-field .ensures)) (formed-as refl (m .first .given .1) (e .operand .ensures)))
+      (λ c. let k = c .before in let e = ran (k .before .before) in let f = word e in
+      quant-refused (quant-binder (lent f .pre .1) (f .node-field .ensures)) (e .operand .ensures) (k .enum-told .given .1) (c .refusal-of .ensures))
+      (λ c κs. let g = ranged (c .before .before) in range-good (g .binder) (g .placed))
       (λ c. c .match2 .keys1) (λ c. c .match2 .keys2) (λ c κs. tt)
       (λ c. first (c .before .before .before) .operand .kept .1 .1 .0)
-      returns-2
-      (λ c. let a = c .before .before in let o = a .before .before in let e = first o in let f = word e in
-      omega (arith, range-low (quant-binder (lent f .pre .1) (f .node-field .ensures)) (formed-as refl (asked o .first .given .1) (e .operand .ensures))))
-      each-member-requires
+      (λ c. let k = c .before in let o = k .before .before in
+      held-as refl (sym (c .refused .ensures)) (quant-unlike (ranged (asked o)) (range-as (k .enum-told2 .given .1) (o .range-of .ensures))))
+      (λ c. let a = c .before .before in let g = ranged (asked (a .before .before)) in omega (arith, range-low (g .binder) (g .placed)))
+      (λ c κs. let a = c .before .before in let o = a .before .before in
+      quant-asks (ranged (asked o)) (range-as (a .range .given .1) (o .range-of .ensures)) (lent (word (first o)) .pre .0))
       (λ c. let i = c .before .before in i .each-member .kept .1 .1 .0 ∙ first (counted i .before .before) .operand .kept .1 .1 .0)
-      returns-3
+      (λ c. let i = c .before .before in let a = counted i in let o = a .before .before in
+      quant-done (ranged (asked o)) (range-as (a .range .given .1) (o .range-of .ensures)) (i .each-member .ensures))

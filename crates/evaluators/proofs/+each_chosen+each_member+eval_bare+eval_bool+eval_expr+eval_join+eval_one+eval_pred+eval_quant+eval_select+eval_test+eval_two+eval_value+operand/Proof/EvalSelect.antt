@@ -5,8 +5,9 @@ use Rattle.table.proofs.node_field.Reads as field
 use Rattle.evaluators.proofs.range_of.Reads as range
 use Rattle.evaluators.proofs.settle.Reads as settle
 use Rattle.evaluators.proofs.stopped.Reads as stopped
-use Rattle.evaluators.proofs.+each_chosen+each_member+eval_bare+eval_bool+eval_expr+eval_join+eval_one+eval_pred+eval_quant+eval_select+eval_test+eval_two+eval_value+operand.Proof.Base.{Over, each-chosen, eval-select, operand, ℕ, refl, sym, _∙_, arith, lit<, ready-node, child-asks, formed-as, range-as, range-child, range-good, range-low}
-use Rattle.evaluators.proofs.FormLaws.{chosen-as, select-binder, select-fails, select-unlike, select-asks, chosen-fails, select-settles, select-evaluates}
+use Rattle.evaluators.proofs.+each_chosen+each_member+eval_bare+eval_bool+eval_expr+eval_join+eval_one+eval_pred+eval_quant+eval_select+eval_test+eval_two+eval_value+operand.Proof.Base.{Over, each-chosen, eval-select, operand, ℕ, refl, sym, _∙_, arith, lit<, now, ready-node, child-asks, formed-as, settle-asks, settle-tells, Ranged, range-as, range-child, range-good, range-low}
+use Rattle.evaluators.proofs.Terms.{comprehension}
+use Rattle.evaluators.proofs.FormLaws.{select-binder, select-fails, select-unlike, select-asks, chosen-fails, select-operated}
 
 module _ (t : ℕ) where
   abbrev claims : lts.Claims
@@ -25,7 +26,7 @@ module _ (t : ℕ) where
     settle.Learnt,
   )
 
-  abbrev Here : Over lts.Claims lts.ps lts.r → Type 0
+  abbrev Here : Over 3 lts.ps lts.r lts.Claims → Type 0
   Here T = T claims (eval-select .at t) (eval-select .post)
 
   abbrev lent : Here lts.After-node-field → Here lts.Start
@@ -52,36 +53,13 @@ module _ (t : ℕ) where
   abbrev settled : Here lts.After-settle → Here lts.After-chosen
   settled c = c .before .before .before
 
-  returns-2 : Here lts.Need-returns-2
-  returns-2 c =
-      let k = c .before in let o = k .before .before in let e = first o in let f = word e in
-      formed-as refl (sym (c .stopped .ensures)) (select-unlike (lent f .pre .1) (f .node-field .ensures)
-      (formed-as refl (asked o .first .given .1) (e .operand .ensures)) (range-as (k .enum-told2 .given .1) (o .range-of .ensures)))
-
-  each-chosen-requires : Here lts.Need-each-chosen-requires
-  each-chosen-requires c κs =
-      let a = c .before .before in let o = a .before .before in let e = first o in let v = lent (word e) in
-      select-asks (v .pre .1) (word e .node-field .ensures) (formed-as refl (asked o .first .given .1) (e .operand .ensures))
-      (range-as (a .range .given .1) (o .range-of .ensures)) (v .pre .0)
-
-  returns-3 : Here lts.Need-returns-3
-  returns-3 c =
-      let i = chose (c .before .before) in let a = counted i in let o = a .before .before in let e = first o in let f = word e in
-      let q = c .enum-told3 .given .1 in
-      formed-as refl (sym q) (chosen-fails (lent f .pre .1) (f .node-field .ensures) (formed-as refl (asked o .first .given .1) (e .operand .ensures))
-      (range-as (a .range .given .1) (o .range-of .ensures)) (chosen-as q (i .each-chosen .ensures)))
-
-  settle-requires : Here lts.Need-settle-requires
-  settle-requires c κs =
-      let w = c .before .before in let i = chose (w .before .before) in let a = counted i in let o = a .before .before in let e = first o in
-      select-settles (lent (word e) .pre .1) (word e .node-field .ensures) (formed-as refl (asked o .first .given .1) (e .operand .ensures))
-      (range-as (a .range .given .1) (o .range-of .ensures)) (chosen-as (w .chosen .given .1) (i .each-chosen .ensures))
-
-  returns-4 : Here lts.Need-returns-4
-  returns-4 c =
-      let w = settled (c .before .before) in let i = chose (w .before .before) in let a = counted i in let o = a .before .before in let e = first o in
-      select-evaluates (lent (word e) .pre .1) (word e .node-field .ensures) (formed-as refl (asked o .first .given .1) (e .operand .ensures))
-      (range-as (a .range .given .1) (o .range-of .ensures)) (chosen-as (w .chosen .given .1) (i .each-chosen .ensures)) (c .before .before .settle .ensures)
+  -- The range has been evaluated.
+  ranged : (m : Here lts.After-first) → let e = ran (m .before .before) in let f = word e in let a = lent f .args in let g = m .first .given .0 in
+      Ranged (now (a .table)) (now (a .env)) (now (a .s)) (a .top) 34 (a .node) (a .left) (f .node-field .result) comprehension
+      (e .operand .last .1 .1 .0) (g .0) (g .1 .0) (g .1 .1 .0)
+  ranged m =
+      let e = ran (m .before .before) in let f = word e in
+      record { binder = select-binder (lent f .pre .1) (f .node-field .ensures); placed = formed-as refl (m .first .given .1) (e .operand .ensures) }
 
   pub closed : {M : Type 1} → lts.Closed claims (eval-select .at t) (eval-select .post) M
   closed =
@@ -92,20 +70,24 @@ module _ (t : ℕ) where
       child-asks 4 (omega arith) (p .0) (p .1 .ready) (range-child (select-binder (p .1) (f .node-field .ensures))))
       (λ c. c .match .keys1) (λ c. c .match .keys2)
       (λ c. ran (c .before .before) .operand .kept .1 .1 .0)
-      (λ c. let e = ran (c .before .before) in let f = word e in let q = c .enum-told .given .1 in
-      formed-as refl (sym q) (select-fails (lent f .pre .1) (f .node-field .ensures) (formed-as refl q (e .operand .ensures))))
-      (λ c κs. let m = c .before .before in let e = ran (m .before .before) in let f = word e in
-      range-good (select-binder (lent f .pre .1) (f .node-field .ensures)) (formed-as refl (m .first .given .1) (e .operand .ensures)))
+      (λ c. let e = ran (c .before .before) in let f = word e in
+      select-fails (select-binder (lent f .pre .1) (f .node-field .ensures)) (e .operand .ensures) (c .enum-told .given .1))
+      (λ c κs. let g = ranged (c .before .before) in range-good (g .binder) (g .placed))
       (λ c. c .match2 .keys1) (λ c. c .match2 .keys2) (λ c κs. tt)
       (λ c. first (c .before .before .before) .operand .kept .1 .1 .0)
-      returns-2
-      (λ c. let a = c .before .before in let o = a .before .before in let e = first o in let f = word e in
-      omega (arith, range-low (select-binder (lent f .pre .1) (f .node-field .ensures)) (formed-as refl (asked o .first .given .1) (e .operand .ensures))))
-      each-chosen-requires
+      (λ c. let k = c .before in let o = k .before .before in
+      formed-as refl (sym (c .stopped .ensures)) (select-unlike (ranged (asked o)) (range-as (k .enum-told2 .given .1) (o .range-of .ensures))))
+      (λ c. let a = c .before .before in let g = ranged (asked (a .before .before)) in omega (arith, range-low (g .binder) (g .placed)))
+      (λ c κs. let a = c .before .before in let o = a .before .before in
+      select-asks (ranged (asked o)) (range-as (a .range .given .1) (o .range-of .ensures)) (lent (word (first o)) .pre .0))
       (λ c. c .match3 .keys1) (λ c. c .match3 .keys2)
       (λ c. let i = chose (c .before .before) in i .each-chosen .kept .1 .1 .0 ∙ first (counted i .before .before) .operand .kept .1 .1 .0)
-      returns-3
-      settle-requires
+      (λ c. let i = chose (c .before .before) in let a = counted i in let o = a .before .before in
+      chosen-fails (ranged (asked o)) (range-as (a .range .given .1) (o .range-of .ensures)) (i .each-chosen .ensures) (c .enum-told3 .given .1))
+      (λ c κs. let w = c .before .before in let i = chose (w .before .before) in let a = counted i in let o = a .before .before in
+      settle-asks (select-operated (ranged (asked o)) (range-as (a .range .given .1) (o .range-of .ensures)) (i .each-chosen .ensures) (w .chosen .given .1)))
       (λ c. let z = c .before .before in let i = chose (settled z .before .before) in let a = counted i in
       z .settle .kept .0 ∙ i .each-chosen .kept .1 .1 .0 ∙ first (a .before .before) .operand .kept .1 .1 .0)
-      returns-4
+      (λ c. let z = c .before .before in let w = settled z in let i = chose (w .before .before) in let a = counted i in let o = a .before .before in
+      settle-tells (select-operated (ranged (asked o)) (range-as (a .range .given .1) (o .range-of .ensures)) (i .each-chosen .ensures) (w .chosen .given .1))
+      (z .settle .ensures))

@@ -1,20 +1,18 @@
 -- `eval_test`: the operands one after the other, and then the test of their values; a refusal of an operand goes on. Landmarks: what was
 -- lent, the words of the fields, the answers for the operands, and the test.
-use Prim.Native.Nat.{_-_}
 use Rattle.evaluators.proofs.+each_chosen+each_member+eval_bare+eval_bool+eval_expr+eval_join+eval_one+eval_pred+eval_quant+eval_select+eval_test+eval_two+eval_value+operand.Lts-eval_test as lts
 use Rattle.table.proofs.node_field.Reads as field
 use Rattle.evaluators.proofs.refusal_of.Reads as refusal
 use Rattle.evaluators.proofs.refused.Reads as refused
 use Rattle.operations.proofs.test.Reads as test
-use Rattle.evaluators.proofs.+each_chosen+each_member+eval_bare+eval_bool+eval_expr+eval_join+eval_one+eval_pred+eval_quant+eval_select+eval_test+eval_two+eval_value+operand.Proof.Base.{Over, eval-test, operand, ℕ, refl, sym, _∙_, lit<, now, ready-node, held-as, refusal-is}
-use Rattle.evaluators.proofs.NodeLaws.{TwoFields}
+use Rattle.evaluators.proofs.+each_chosen+each_member+eval_bare+eval_bool+eval_expr+eval_join+eval_one+eval_pred+eval_quant+eval_select+eval_test+eval_two+eval_value+operand.Proof.Base.{Over, eval-test, operand, ℕ, _-_, refl, sym, _∙_, lit<, now, ready-node, held-as}
 use Rattle.evaluators.proofs.BothLaws.{EvaluatesBoth, left-asks, right-asks, both-stops, both-stops-2, both-formed, operands-ready, test-fields, test-stops, test-unlike, test-truth}
 
 module _ (t : ℕ) where
   abbrev claims : lts.Claims
   claims = (field.Asked, field.Learnt, operand .below t, operand .post, refusal.Asked, refusal.Learnt, test.Asked, test.Learnt, refused.Asked, refused.Learnt)
 
-  abbrev Here : Over lts.Claims lts.ps lts.r → Type 0
+  abbrev Here : Over 3 lts.ps lts.r lts.Claims → Type 0
   Here T = T claims (eval-test .at t) (eval-test .post)
 
   abbrev lent : Here lts.After-node-field → Here lts.Start
@@ -41,22 +39,6 @@ module _ (t : ℕ) where
   abbrev tried : Here lts.After-test → Here lts.After-second
   tried c = c .before .before .before
 
-  fields : (v : Here lts.Start) → TwoFields (now (v .args .table)) (v .args .node)
-  fields v = test-fields (v .pre .1)
-
-  returns : Here lts.Need-returns
-  returns c =
-      let k = c .before in let e = ran (k .before .before) in let v = lent (word e) in
-      held-as refl (refusal-is (k .enum-told .given .1) (c .refusal-of .ensures)) (test-stops (v .pre .1)
-      (both-stops (v .pre .1 .0 .ready) (fields v) (word e .node-field .ensures) (e .operand .ensures) (k .enum-told .given .1)))
-
-  returns-2 : Here lts.Need-returns-2
-  returns-2 c =
-      let k = c .before in let s = ran₂ (k .before .before) in let e = first s in let v = lent (word e) in let g = s .before .before in
-      held-as refl (refusal-is (k .enum-told2 .given .1) (c .refusal-of2 .ensures)) (test-stops (v .pre .1)
-      (both-stops-2 (v .pre .1 .0 .ready) (fields v) (word e .node-field .ensures) (e .operand .ensures) (placed g .first .given .1)
-      (g .node-field2 .ensures) (s .operand2 .ensures) (k .enum-told2 .given .1)))
-
   -- Both operands have values.
   formed : (w : Here lts.After-second) →
       let s = ran₂ (w .before .before) in let a = begun w .args in let x = placed (s .before .before) .first .given .0 in
@@ -65,7 +47,7 @@ module _ (t : ℕ) where
       (x .0) (x .1 .0) (y .0) (y .1 .0) (y .1 .1 .0)
   formed w =
       let s = ran₂ (w .before .before) in let e = first s in let v = lent (word e) in let g = s .before .before in
-      both-formed (v .pre .1 .0 .ready) (fields v) (word e .node-field .ensures) (e .operand .ensures) (placed g .first .given .1)
+      both-formed (test-fields (v .pre .1)) (word e .node-field .ensures) (e .operand .ensures) (placed g .first .given .1)
       (g .node-field2 .ensures) (s .operand2 .ensures) (w .second .given .1)
 
   pub closed : {M : Type 1} → lts.Closed claims (eval-test .at t) (eval-test .post) M
@@ -73,16 +55,19 @@ module _ (t : ℕ) where
       lts.spec claims (eval-test .at t) (eval-test .post)
       (λ c κs. (ready-node (c .before .before .pre .1 .0 .ready), lit< tt))
       (λ c. lent (c .before) .pre .1 .0 .unspent)
-      (λ c κs. let f = c .before in let v = lent f in left-asks (v .pre .0) (v .pre .1 .0) (fields v) (f .node-field .ensures))
+      (λ c κs. let f = c .before in let v = lent f in left-asks (test-fields (v .pre .1)) (f .node-field .ensures) (v .pre .0))
       (λ c. c .match .keys1) (λ c. c .match .keys2) (λ c κs. tt)
       (λ c. let k = c .before in ran (k .before .before) .operand .kept .1 .1 .0)
-      returns
+      (λ c. let k = c .before in let e = ran (k .before .before) in let v = lent (word e) in let q = k .enum-told .given .1 in
+      test-stops (v .pre .1) q (c .refusal-of .ensures) (both-stops (test-fields (v .pre .1)) (word e .node-field .ensures) (e .operand .ensures) q))
       (λ c κs. let m = c .before in (ready-node (lent (word (ran (m .before .before))) .pre .1 .0 .ready), lit< tt))
-      (λ c κs. let g = c .before in let m = placed g in let e = ran (m .before .before) in let v = lent (word e) in
-      right-asks (v .pre .0) (v .pre .1 .0) (fields v) (word e .node-field .ensures) (e .operand .ensures) (m .first .given .1) (g .node-field2 .ensures))
+      (λ c κs. let g = c .before in let m = placed g in let e = ran (m .before .before) in let f = word e in let v = lent f in
+      right-asks (test-fields (v .pre .1)) (f .node-field .ensures) (e .operand .ensures) (m .first .given .1) (g .node-field2 .ensures) (v .pre .0))
       (λ c. c .match2 .keys1) (λ c. c .match2 .keys2) (λ c κs. tt)
       (λ c. let k = c .before in let s = ran₂ (k .before .before) in s .operand2 .kept .1 .1 .0 ∙ first s .operand .kept .1 .1 .0)
-      returns-2
+      (λ c. let k = c .before in let s = ran₂ (k .before .before) in let e = first s in let v = lent (word e) in let g = s .before .before in
+      test-stops (v .pre .1) (k .enum-told2 .given .1) (c .refusal-of2 .ensures) (both-stops-2 (test-fields (v .pre .1)) (word e .node-field .ensures)
+      (e .operand .ensures) (placed g .first .given .1) (g .node-field2 .ensures) (s .operand2 .ensures) (k .enum-told2 .given .1)))
       (λ c κs. let w = c .before .before in operands-ready (begun w .pre .1 .0 .ready) (formed w))
       (λ c. c .match3 .keys1) (λ c. c .match3 .keys2) (λ c κs. tt)
       (λ c. let w = tried (c .before .before .before) in let s = ran₂ (w .before .before) in s .operand2 .kept .1 .1 .0 ∙ first s .operand .kept .1 .1 .0)

@@ -9,9 +9,8 @@ use Rattle.operations.proofs.light.Reads as light
 use Rattle.evaluators.proofs.settle.Reads as settle
 use Rattle.table.proofs.node_kind.Reads as kind
 use Rattle.evaluators.proofs.stopped.Reads as stopped
-use Rattle.evaluators.proofs.+each_chosen+each_member+eval_bare+eval_bool+eval_expr+eval_join+eval_one+eval_pred+eval_quant+eval_select+eval_test+eval_two+eval_value+operand.Proof.Base.{Over, eval-bool, eval-one, eval-select, eval-two, eval-value, ℕ, refl, sym, ⊎-elim, inl, inr, arith, now, Visited, ready-node, formed-as, counted}
-use Rattle.evaluators.specs.Cycle.{StandingTwo}
-use Rattle.evaluators.proofs.FormLaws.{light-asks, light-settles, light-evaluates}
+use Rattle.evaluators.proofs.+each_chosen+each_member+eval_bare+eval_bool+eval_expr+eval_join+eval_one+eval_pred+eval_quant+eval_select+eval_test+eval_two+eval_value+operand.Proof.Base.{Over, eval-bool, eval-one, eval-select, eval-two, eval-value, ℕ, refl, sym, ⊎-elim, inl, inr, arith, now, Visited, ready-node, formed-as, settle-asks, settle-tells, counted, StandingTwo}
+use Rattle.evaluators.proofs.FormLaws.{light-asks, light-operated}
 use Rattle.evaluators.proofs.DispatchLaws.{spent-expr, visited-as, expression-code, one-keys, one-range, two-key, two-low, two-high, no-other, leaf-node, leaf-answer, standing-code, standing-ready, standing-answer}
 
 module _ (t : ℕ) where
@@ -41,7 +40,7 @@ module _ (t : ℕ) where
     standing.Learnt,
   )
 
-  abbrev Here : Over lts.Claims lts.ps lts.r → Type 0
+  abbrev Here : Over 3 lts.ps lts.r lts.Claims → Type 0
   Here T = T claims (eval-value .at t) (eval-value .post)
 
   abbrev lent : Here lts.After-node-kind → Here lts.Start
@@ -65,11 +64,6 @@ module _ (t : ℕ) where
   abbrev kinded : Here lts.Else2 → Here lts.After-node-kind
   kinded c = c .before .before .before
 
-  returns-2 : Here lts.Need-returns-2
-  returns-2 c =
-      let s = c .before .before in let l = s .before .before in let t = told l in
-      light-evaluates (visit (looked t .before)) (stands t) (l .light .ensures) (s .settle .ensures)
-
   eval-two-requires : Here lts.Need-eval-two-requires
   eval-two-requires c κs =
       let k = kinded (c .before .before) in
@@ -85,22 +79,6 @@ module _ (t : ℕ) where
       (λ w. let m = w .0 .rest in one-range _ (m .0 .0 .0 .0 .1) (m .0 .0 .1) (w .3 .left) (w .4 .taken)) (c .before .match .came) in
       (omega (arith, lent k .pre .0), (visit k, by))
 
-  standing-requires : Here lts.Need-standing-requires
-  standing-requires c κs =
-      standing-ready (visit (kinded (c .before)))
-      (standing-code _ (⊎-elim (λ w. inl (w .keys6)) (λ w. inr (w .1 .left, w .2 .taken, λ e. w .0 .rest .0 .1 (inl e))) (c .match .came)))
-
-  returns-5 : Here lts.Need-returns-5
-  returns-5 c =
-      let p = c .before .before in let b = p .before .before in let d = visit (kinded (b .before)) in
-      leaf-answer d (leaf-node d (b .match .keys5)) _ _ (p .eval-leaf .ensures)
-
-  returns-6 : Here lts.Need-returns-6
-  returns-6 c =
-      let j = c .before in let m = j .before in let k = kinded (m .before) in let r = expression-code (visit k) (lent k .pre .1 .1) in
-      let n = m .match .rest in
-      ⊎-elim (λ w. absurd (omega (arith, r, w .taken))) (λ w. no-other _ r (w .4 .left) (n .0 .0 .0 .0 .1) (n .0 .1)) (j .if3 .came)
-
   pub closed : {M : Type 1} → lts.Closed claims (eval-value .at t) (eval-value .post) M
   closed =
       lts.spec claims (eval-value .at t) (eval-value .post)
@@ -110,9 +88,10 @@ module _ (t : ℕ) where
       (λ c κs. (_, _, visit c))
       (λ c κs. let t = c .before in light-asks (visit (looked t .before)) (stands t))
       (λ c. stands (told (c .before)) .visits)
-      (λ c κs. let l = c .before in let t = told l in light-settles (visit (looked t .before)) (stands t) (l .light .ensures))
+      (λ c κs. let l = c .before in let t = told l in settle-asks (light-operated (visit (looked t .before)) (stands t) (l .light .ensures)))
       (λ c. c .before .before .settle .kept .0)
-      returns-2
+      (λ c. let s = c .before .before in let l = s .before .before in let t = told l in
+      settle-tells (light-operated (visit (looked t .before)) (stands t) (l .light .ensures)) (s .settle .ensures))
       (λ c κs. let k = kinded (c .before .before) in (omega (arith, lent k .pre .0), visited-as (visit k) (c .before .match .keys1)))
       (λ c κs. let k = kinded (c .before .before) in (omega (arith, lent k .pre .0), visited-as (visit k) (c .before .match .keys4)))
       (λ c. visit (kinded (c .before .before)) .unspent)
@@ -120,13 +99,17 @@ module _ (t : ℕ) where
       (λ c κs. tt)
       eval-two-requires
       eval-one-requires
-      standing-requires
+      (λ c κs. standing-ready (visit (kinded (c .before)))
+      (standing-code _ (⊎-elim (λ w. inl (w .keys6)) (λ w. inr (w .1 .left, w .2 .taken, λ e. w .0 .rest .0 .1 (inl e))) (c .match .came))))
       (λ c. visit (kinded (c .before .before)) .unspent)
       (λ c. c .before .before .eval-bool .kept .1 .1 .0) (λ c. c .before .before .eval-bool .ensures)
       (λ c. c .before .before .eval-select .kept .1 .1 .0) (λ c. c .before .before .eval-select .ensures)
       (λ c. c .before .before .eval-leaf .kept .1 .0)
-      returns-5
-      returns-6
+      (λ c. let p = c .before .before in let b = p .before .before in let d = visit (kinded (b .before)) in
+      leaf-answer d (leaf-node d (b .match .keys5)) _ _ (p .eval-leaf .ensures))
+      (λ c. let j = c .before in let m = j .before in let k = kinded (m .before) in let r = expression-code (visit k) (lent k .pre .1 .1) in
+      let n = m .match .rest in
+      ⊎-elim (λ w. absurd (omega (arith, r, w .taken))) (λ w. no-other _ r (w .4 .left) (n .0 .0 .0 .0 .1) (n .0 .1)) (j .if3 .came))
       (λ c. c .before .before .eval-two .kept .1 .1 .0) (λ c. c .before .before .eval-two .ensures)
       (λ c. c .before .before .eval-one .kept .1 .1 .0) (λ c. c .before .before .eval-one .ensures)
       (λ c. standing-answer (visit (kinded (c .before .before))) (c .standing .ensures))

@@ -1,15 +1,14 @@
 -- `operand`: an identifier's value where a visit is left, and otherwise what `eval_expr` answers. Landmarks: what was lent, and the place.
-use borrow.Author.Tests.{eqb-false}
 use Rattle.evaluators.proofs.+each_chosen+each_member+eval_bare+eval_bool+eval_expr+eval_join+eval_one+eval_pred+eval_quant+eval_select+eval_test+eval_two+eval_value+operand.Lts-operand as lts
 use Rattle.evaluators.proofs.leaf_place.Reads as leaf-place
-use Rattle.evaluators.proofs.+each_chosen+each_member+eval_bare+eval_bool+eval_expr+eval_join+eval_one+eval_pred+eval_quant+eval_select+eval_test+eval_two+eval_value+operand.Proof.Base.{Over, eval-expr, operand, ℕ, refl, arith}
+use Rattle.evaluators.proofs.+each_chosen+each_member+eval_bare+eval_bool+eval_expr+eval_join+eval_one+eval_pred+eval_quant+eval_select+eval_test+eval_two+eval_value+operand.Proof.Base.{Over, eval-expr, operand, ℕ, refl, arith, eqb-false}
 use Rattle.evaluators.proofs.DispatchLaws.{place-ready, placed-answer}
 
 module _ (t : ℕ) where
   abbrev claims : lts.Claims
   claims = (leaf-place.Asked, leaf-place.Learnt, eval-expr .below t, eval-expr .post)
 
-  abbrev Here : Over lts.Claims lts.ps lts.r → Type 0
+  abbrev Here : Over 3 lts.ps lts.r lts.Claims → Type 0
   Here T = T claims (operand .at t) (operand .post)
 
   abbrev lent : Here lts.After-leaf-place → Here lts.Start
