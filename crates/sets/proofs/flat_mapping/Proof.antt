@@ -2,9 +2,8 @@
 -- number of pairs.
 use borrow.Author.Needs.{needs}
 use borrow.Author.Tests.{not-false}
-use mathlib.Core.Bool.{Bool, true}
+use mathlib.Core.Bool.{Bool}
 use mathlib.Core.List.{List}
-use mathlib.Core.Path.{_≡_}
 use Prim.Native.Nat.{ℕ}
 use Rattle.arena.proofs.FrontLaws.{set-inside}
 use Rattle.rules.proofs.Basics.{absurd01}
