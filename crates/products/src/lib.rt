@@ -8,7 +8,7 @@ ghost use Rattle.rules.specs.Values.{truthValue};
 ghost use Rattle.rules.specs.Operations.{setOf, elementsFrom};
 ghost use Rattle.arena.specs.Code.{SomeSet, SetAt, SomeValue, SomeRelation, Made, Copied};
 ghost use Rattle.products.specs.Growing.{PutsCell, RunPre, PutsRun, Singles, PutsPair, PairPre, PairPut, Intervals, RowPre, Rows, SquarePre, Squares, FewCells, SizeIs, productWeight, Multiplies};
-ghost use Rattle.products.specs.Parts.{PartsPre, TakesParts, Domains, Ranges, chosen, FindPre, Finds, InsertPre, FindsPlace, Inserts, movedLast};
+ghost use Rattle.products.specs.Parts.{PartsPre, TakesParts, Domains, Ranges, chosen, FindPre, Finds, InsertPre, FindsPlace, Inserts, MovedLast};
 ghost use Rattle.products.specs.Power.{Powers, masks, subsetCount, AddPre, Added, MarkPre, Marks, SubsetPre, Subsets, AllPre, AllSubsets};
 
 // The cells of the heaviest value, beside numbers of members.
@@ -260,7 +260,7 @@ fn shift(s: &mut [u64], from: usize, m: usize, n: usize)
 // Where the last member stands after one of n cells has been put at `at` among members that ended at `to`.
 fn moved_last(at: usize, to: usize, last: usize, n: usize) -> usize
     requires { ⌜ last + n < 18446744073709551616 ⌝ }
-    ensures { λ r. ⌜ r ≡ movedLast at to last n ⌝ }
+    ensures { λ r. ⌜ MovedLast at to last n r ⌝ }
 {
     if at == to {
         return at;
