@@ -9,7 +9,7 @@ ghost use Rattle.rules.specs.Operations.{setOf, elementsFrom};
 ghost use Rattle.arena.specs.Code.{SomeSet, SetAt, SomeValue, SomeRelation, Made, Copied};
 ghost use Rattle.products.specs.Growing.{PutsCell, RunPre, PutsRun, Singles, PutsPair, PairPre, PairPut, Intervals, RowPre, Rows, SquarePre, Squares, FewCells, SizeIs, productWeight, Multiplies};
 ghost use Rattle.products.specs.Parts.{PartsPre, TakesParts, Domains, Ranges, chosen, FindPre, Finds, InsertPre, FindsPlace, Inserts, MovedLast};
-ghost use Rattle.products.specs.Power.{Powers, masks, subsetCount, AddPre, Added, MarkPre, Marks, SubsetPre, Subsets, AllPre, AllSubsets};
+ghost use Rattle.products.specs.Power.{Powers, masks, CountsSubsets, AddPre, Added, MarkPre, Marks, SubsetPre, Subsets, AllPre, AllSubsets};
 
 // The cells of the heaviest value, beside numbers of members.
 const MOST: u64 = arena::HEAVIEST as u64;
@@ -438,7 +438,7 @@ const SUBSET_COUNTS: [u64; 6] = [1, 2, 4, 8, 16, 32];
 
 // The number of subsets of n members; 64 for more than five.
 fn subset_count(n: u64) -> u64
-    ensures { λ r. ⌜ (r ≡ subsetCount n) × (r ≤ 64) ⌝ }
+    ensures { λ r. ⌜ CountsSubsets n r ⌝ }
 {
     if n > 5 {
         return 64;
