@@ -11,7 +11,7 @@ use Rattle.arena.specs.Code.{code, codes, SomeAt, EndsAt, SetBelow, SetAt, Made
 use Rattle.arena.proofs.CodeLaws.{length-codes}
 use Rattle.arena.proofs.FrontLaws.{codes-append, count-append, weights-append, front-start, front-value, front-next, front-below, front-some, front-frame, value-frame, set-end, set-cells}
 use Rattle.products.specs.declared.Size.{Size}
-use Rattle.products.specs.Growing.{Appended, Grown, PairPre, PairPut, pairsWith, RowPre, Rows, square, SquarePre, Squares, FewCells, SizeIs, productWeight}
+use Rattle.products.specs.Growing.{Appended, Grown, PairPre, PairPut, pairsWith, RowPre, Rows, square, SquarePre, Squares, FewCells, SmallProducts, SizeIs, productWeight}
 use Rattle.products.proofs.GrowLaws.{grown-step, grown-end, grown-left, made-set}
 use Rattle.laws.proofs.CellsLaws.{count-weights}
 
@@ -154,9 +154,12 @@ size-is {s} {a} {e} {n} g ends low =
 pub small-product : {n m : ℕ} → n ≤ 255 → m ≤ 255 → n * m ≤ 65025
 small-product {n} {m} p q = omega (arith, mul-le-mul-right m p)
 
-pub small-products : {x y : Size} → FewCells x → FewCells y →
-    (x .members * y .members ≤ 65025) × (y .members * x .cells ≤ 65025) × (x .members * y .cells ≤ 65025)
-small-products f g = (small-product (f .members) (g .members), small-product (g .members) (f .cells), small-product (f .members) (g .cells))
+pub small-products : {x y : Size} → FewCells x → FewCells y → SmallProducts x y
+small-products f g = record {
+  pairs = small-product (f .members) (g .members);
+  firsts = small-product (g .members) (f .cells);
+  seconds = small-product (f .members) (g .cells);
+}
 
 -- `product`
 module _ {s : List ℕ} {top a b : ℕ} {x y : Size} (p : SizeIs s a x) (q : SizeIs s b y) {vs ws : Values} (h : SetBelow s top a vs) (k : SetBelow s top b ws) where

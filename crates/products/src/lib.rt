@@ -7,7 +7,7 @@ ghost use lib.ListN.{length, getD};
 ghost use Rattle.rules.specs.Values.{truthValue};
 ghost use Rattle.rules.specs.Operations.{setOf, elementsFrom};
 ghost use Rattle.arena.specs.Code.{SomeSet, SetAt, SomeValue, SomeRelation, Made, Copied};
-ghost use Rattle.products.specs.Growing.{PutsCell, RunPre, PutsRun, Singles, PutsPair, PairPre, PairPut, Intervals, RowPre, Rows, SquarePre, Squares, FewCells, SizeIs, productWeight, Multiplies};
+ghost use Rattle.products.specs.Growing.{PutsCell, RunPre, PutsRun, Singles, PutsPair, PairPre, PairPut, Intervals, RowPre, Rows, SquarePre, Squares, SmallProducts, SizeIs, productWeight, Multiplies};
 ghost use Rattle.products.specs.Parts.{PartsPre, TakesParts, Domains, Ranges, chosen, FindPre, Finds, InsertPre, FindsPlace, Inserts, MovedLast};
 ghost use Rattle.products.specs.Power.{Powers, masks, CountsSubsets, AddPre, Added, MarkPre, Marks, SubsetPre, Subsets, AllPre, AllSubsets};
 
@@ -168,7 +168,7 @@ fn size_of(s: &[u64], a: usize) -> Size
 
 // The weight of the product of two sets.
 fn product_weight(x: Size, y: Size) -> u64
-    requires { ⌜ FewCells x × FewCells y ⌝ }
+    requires { ⌜ SmallProducts x y ⌝ }
     ensures { λ r. ⌜ r ≡ productWeight x y ⌝ }
 {
     let n = x.members;
