@@ -5,6 +5,7 @@ use mathlib.Core.List.{List, [], _∷_, _++_, append-assoc, append-nil}
 use mathlib.Core.Logic.{_⊎_, inl, inr}
 use mathlib.Core.Path.{_≡_, refl, sym, ap, _∙_, subst}
 use native.Mathlib.Omega.{arith}
+use native.Mathlib.Decide.{decLt}
 use lib.ListN.{length, set as setAt, length-set}
 use lib.Seq.{getD-set-same, getD-set-other}
 use Rattle.rules.specs.Values.{Value, Values, none, _▸_, members, values, count, weights, order}
@@ -209,23 +210,23 @@ module _ {l r : Bool} {s : List ℕ} {w : Walk} {top : ℕ} {cells : Bool} (p : 
   right-over k = elim (p .over) [ inl z ↦ absurd (omega arith) | inr y ↦ elim y [ inl z ↦ z | inr z ↦ absurd (omega arith) ] ]
 
   rested : (e : Bool) (whole : List Value) (h : Merging l e r s top w whole) → Rested s top w q (h .done) whole
-  rested e whole h = elim rest [
-    | inl x ↦
-        let z = no-front (λ vs. members vs ≡ []) refl (h .onRight) (omega (arith, right-over (x .0))) in
-        kept l (x .1) (h .onLeft) (λ c. c .0) (h .all ∙ rw (z, merged-nil l e r (members (h .left))))
-    | inr x ↦
-        let z = no-front (λ vs. members vs ≡ []) refl (h .onLeft) (omega (arith, x .0)) in
-        kept r (x .1) (h .onRight) (λ c. c .1) (h .all ∙ rw (z, merged-none l e r (members (h .right))))
+  rested e whole h = elim (decLt 0 (w .m)) [
+    | yes k ↦
+        let z = no-front (λ vs. members vs ≡ []) refl (h .onRight) (omega (arith, right-over k)) in
+        kept l (rest .left k) (h .onLeft) (λ c. c .0) (h .all ∙ rw (z, merged-nil l e r (members (h .left))))
+    | no k ↦
+        let z = no-front (λ vs. members vs ≡ []) refl (h .onLeft) (omega arith) in
+        kept r (rest .right (omega arith)) (h .onRight) (λ c. c .1) (h .all ∙ rw (z, merged-none l e r (members (h .right))))
   ]
     where
-      kept : (k : Bool) {at n : ℕ} {vs : Values} → q ≡ record { at = at; n = cond k n 0 } → Front s top at n vs →
+      kept : (k : Bool) {at n : ℕ} {vs : Values} → (q .at ≡ at) × (q .n ≡ cond k n 0) → Front s top at n vs →
           (Cells s (w .a) (w .m) × Cells s (w .b) (w .n) → Cells s at n) → whole ≡ h .done ++ cond k (members vs) [] → Rested s top w q (h .done) whole
-      kept k {vs = vs} d f c x = subst (λ (z : Rest). Rested s top w z (h .done) whole) (sym d) (record {
+      kept k {vs = vs} d f c x = record {
         rest = cond k vs none;
-        front = front-if k f;
+        front = rw (d .0, d .1) (front-if k f);
         all = x ∙ rw (members-if k vs);
-        thin = λ y. cells-if k (c y);
-      })
+        thin = λ y. rw (d .0, d .1) (cells-if k (c y));
+      }
 
   some-rest : Rested s top w q (p .merging .done) (p .whole)
   some-rest = rested (p .both) (p .whole) (p .merging)

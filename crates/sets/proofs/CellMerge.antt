@@ -8,7 +8,6 @@ use mathlib.Core.Logic.{_⊎_, inl, inr}
 use mathlib.Core.Path.{_≡_, refl, sym, ap, _∙_, subst}
 use native.Mathlib.Omega.{arith}
 use native.Mathlib.Decide.{decLt}
-use lib.Dec.{leb}
 use lib.ListN.{length, getD, set as setAt, length-set}
 use lib.Seq.{getD-set-same, getD-set-other}
 use borrow.Author.Tests.{le-leb, lt-leb}
@@ -27,37 +26,30 @@ use Rattle.sets.specs.declared.Walk.{Walk}
 use Rattle.sets.specs.declared.CellTurn.{CellTurn}
 use Rattle.sets.specs.Merged.{merged}
 use Rattle.sets.specs.Fronts.{TurnAt, Cells, PutPre, PutBehind, Merging, EndPre, Ended, RunsMerge, Walking}
-use Rattle.sets.specs.Rows.{Kept, CellTurned, RowsBelow, Ahead, RowMerge}
+use Rattle.sets.specs.Rows.{CellTurned, RowsBelow, Ahead, RowMerge}
 use Rattle.sets.proofs.MergedLaws.{merged-turn}
 use Rattle.sets.proofs.TurnLaws.{turn-less, turn-equal, turn-greater, byte-small}
 use Rattle.sets.proofs.BuildLaws.{store-frame, put-kept, put-none, built-none, step-on, walking-made, walking-end}
 use Rattle.sets.proofs.RowLaws.{cells-part, cells-first, cells-frame, cells-weigh}
 
--- `cell_turn`, from the lesser of both cells and whether it is kept.
-pub turn-cells : {l e r : Bool} {x y c k : ℕ} → (x ≤ y → c ≡ x) × (y < x → c ≡ y) → Kept l e r x y k →
-    CellTurned l e r x y (record { cell = c; keep = k; left = boolByte (leb x y); right = boolByte (leb y x) })
-turn-cells {l} {e} {r} {x} {y} {c} {k} h d = go (decLt x y) (decLt y x)
-  where
-    go : Dec (x < y) → Dec (y < x) → CellTurned l e r x y (record { cell = c; keep = k; left = boolByte (leb x y); right = boolByte (leb y x) })
-    go (yes p) q = inl (p, cc (h .0 (omega arith), d .less p, le-leb x y (omega arith), lt-leb y x p))
-    go (no n) (yes q) = inr (inr (q, cc (h .1 q, d .greater q, lt-leb x y q, le-leb y x (omega arith))))
-    go (no n) (no m) =
-        let z : x ≡ y = omega arith in inr (inl (z, cc (h .0 (omega arith), d .equal z, le-leb x y (omega arith), le-leb y x (omega arith))))
-
 -- What holds of a turn in each case.
-module _ (l e r : Bool) (x y : ℕ) (P : CellTurn → Type 0) (f : x < y → P (record { cell = x; keep = boolByte l; left = 1; right = 0 }))
-    (g : x ≡ y → P (record { cell = x; keep = boolByte e; left = 1; right = 1 }))
-    (h : y < x → P (record { cell = y; keep = boolByte r; left = 0; right = 1 })) where
-  by-turn : {u : CellTurn} → CellTurned l e r x y u → P u
-  by-turn (inl d) = subst P (sym (d .1)) (f (d .0))
-  by-turn (inr (inl d)) = subst P (sym (d .1)) (g (d .0))
-  by-turn (inr (inr d)) = subst P (sym (d .1)) (h (d .0))
+module _ (l e r : Bool) (x y : ℕ) (P : ℕ → ℕ → ℕ → ℕ → Type 0) (f : x < y → P x (boolByte l) 1 0) (g : x ≡ y → P x (boolByte e) 1 1)
+    (h : y < x → P y (boolByte r) 0 1) where
+  by-turn : {u : CellTurn} → CellTurned l e r x y u → P (u .cell) (u .keep) (u .left) (u .right)
+  by-turn {u} d = go (decLt x y) (decLt y x)
+    where
+      go : Dec (x < y) → Dec (y < x) → P (u .cell) (u .keep) (u .left) (u .right)
+      go (yes p) q = rw (d .lesser .0 (omega arith), d .kept .less p, d .left, le-leb x y (omega arith), d .right, lt-leb y x p) (f p)
+      go (no n) (yes q) = rw (d .lesser .1 q, d .kept .greater q, d .left, lt-leb x y q, d .right, le-leb y x (omega arith)) (h q)
+      go (no n) (no m) =
+          let z : x ≡ y = omega arith in
+          rw (d .lesser .0 (omega arith), d .kept .equal z, d .left, le-leb x y (omega arith), d .right, le-leb y x (omega arith)) (g z)
 
 -- At most one cell further in each set, and further in one.
 pub turn-moves : (l e r : Bool) (x y : ℕ) {u : CellTurn} → CellTurned l e r x y u →
     (u .left ≤ 1) × (u .right ≤ 1) × (0 < u .left + u .right) × (u .keep ≤ 1)
 turn-moves l e r x y =
-    by-turn l e r x y (λ u. (u .left ≤ 1) × (u .right ≤ 1) × (0 < u .left + u .right) × (u .keep ≤ 1))
+    by-turn l e r x y (λ _ k i j. (i ≤ 1) × (j ≤ 1) × (0 < i + j) × (k ≤ 1))
     (λ d. (omega arith, omega arith, omega arith, byte-small l)) (λ d. (omega arith, omega arith, omega arith, byte-small e))
     (λ d. (omega arith, omega arith, omega arith, byte-small r))
 
@@ -272,7 +264,7 @@ module _ {l e r : Bool} {s₀ : List ℕ} {a m b n top : ℕ} {s : List ℕ} {i 
         RowMerge l e r s₀ a m b n top (setAt s to (u .cell)) (i + u .left) (j + u .right) (to + u .keep)
     merge-step =
         let x = merge-inside in
-        by-turn l e r (getD s i 0) (getD s j 0) (λ u. RowMerge l e r s₀ a m b n top (setAt s to (u .cell)) (i + u .left) (j + u .right) (to + u .keep))
+        by-turn l e r (getD s i 0) (getD s j 0) (λ c k p q. RowMerge l e r s₀ a m b n top (setAt s to c) (i + p) (j + q) (to + k))
         (λ d. rw (let z : j + 0 ≡ j = omega arith in z)
         (next l (x .0) (omega arith, omega arith, omega arith, omega arith, omega arith) (turn-less (cell-less s i j ends′ d) ends refl (omega arith))))
         (λ d. next e (x .0) (omega arith, omega arith, omega arith, omega arith, omega arith)
