@@ -172,27 +172,6 @@ end-heavy {l} {r} {s} {w} {top} g b whole h = record {
   heavy = λ k. refl;
 }
 
--- All members of a run, or none.
-front-if : {s : List ℕ} {top at n : ℕ} {vs : Values} (k : Bool) → Front s top at n vs → Front s top at (cond k n 0) (cond k vs none)
-unfolding code
-front-if true f = f
-front-if false f = record {
-  stands = record { inside = omega (arith, f .stands .inside); cells = λ i l. absurd (omega arith) };
-  counted = refl;
-  below = omega (arith, f .below);
-  fits = tt;
-  rises = tt;
-  light = omega arith;
-}
-
-cells-if : {s : List ℕ} {at n : ℕ} (k : Bool) → Cells s at n → Cells s at (cond k n 0)
-cells-if true c = c
-cells-if false c = record { inside = omega (arith, c .inside); each = λ i l. absurd (omega arith) }
-
-members-if : (k : Bool) (vs : Values) → members (cond k vs none) ≡ cond k (members vs) []
-members-if true vs = refl
-members-if false vs = refl
-
 -- What is kept of the set that is not exhausted is all that is left to merge.
 record Rested (s : List ℕ) (top : ℕ) (w : Walk) (q : Rest) (done whole : List Value) : Type 0 where
   pub rest : Values
@@ -210,6 +189,7 @@ module _ {l r : Bool} {s : List ℕ} {w : Walk} {top : ℕ} {cells : Bool} (p : 
   right-over k = elim (p .over) [ inl z ↦ absurd (omega arith) | inr y ↦ elim y [ inl z ↦ z | inr z ↦ absurd (omega arith) ] ]
 
   rested : (e : Bool) (whole : List Value) (h : Merging l e r s top w whole) → Rested s top w q (h .done) whole
+  unfolding code
   rested e whole h = elim (decLt 0 (w .m)) [
     | yes k ↦
         let z = no-front (λ vs. members vs ≡ []) refl (h .onRight) (omega (arith, right-over k)) in
@@ -221,11 +201,19 @@ module _ {l r : Bool} {s : List ℕ} {w : Walk} {top : ℕ} {cells : Bool} (p : 
     where
       kept : (k : Bool) {at n : ℕ} {vs : Values} → (q .at ≡ at) × (q .n ≡ cond k n 0) → Front s top at n vs →
           (Cells s (w .a) (w .m) × Cells s (w .b) (w .n) → Cells s at n) → whole ≡ h .done ++ cond k (members vs) [] → Rested s top w q (h .done) whole
-      kept k {vs = vs} d f c x = record {
-        rest = cond k vs none;
-        front = rw (d .0, d .1) (front-if k f);
-        all = x ∙ rw (members-if k vs);
-        thin = λ y. rw (d .0, d .1) (cells-if k (c y));
+      kept true {vs = vs} d f c x = record { rest = vs; front = rw (d .0, d .1) f; all = x; thin = λ y. rw (d .0, d .1) (c y) }
+      kept false d f c x = record {
+        rest = none;
+        front = rw (d .0, d .1) (record {
+          stands = record { inside = omega (arith, f .stands .inside); cells = λ i l. absurd (omega arith) };
+          counted = refl;
+          below = omega (arith, f .below);
+          fits = tt;
+          rises = tt;
+          light = omega arith;
+        });
+        all = x;
+        thin = λ y. rw (d .0, d .1) (record { inside = omega (arith, c y .inside); each = λ i l. absurd (omega arith) });
       }
 
   some-rest : Rested s top w q (p .merging .done) (p .whole)

@@ -8,17 +8,16 @@ use native.Mathlib.Omega.{arith}
 use native.Mathlib.Decide.{ℕ-discrete, decLt}
 use lib.Dec.{ltb, ltb→lt, lt→ltb}
 use lib.ListN.{length, getD}
-use Rattle.rules.specs.Types.{whole}
-use Rattle.rules.specs.Values.{num, truth, element, Value, scalar, pair, set, Values, none, _▸_, members, weight, order}
+use Rattle.rules.specs.Values.{Value, scalar, pair, set, Values, none, _▸_, members, weight, order}
 use Rattle.rules.specs.Operations.{isIn}
 use Rattle.rules.proofs.Basics.{bool-eq}
 use Rattle.laws.proofs.OrderLaws.{order-eq, compare-refl, compare-lt, before-order}
 use Rattle.laws.proofs.Membership.{In, isIn-right}
 use Rattle.laws.proofs.CellsLaws.{weight-some, count-weights}
 use Rattle.arena.specs.Code.{cellSize, code, ValueAt, Same, CellsFit, EndsAt, partsOf, AllWeigh, EvenSet, SetBelow, SomeSet, ValueBelow, Front}
-use Rattle.arena.proofs.CodeLaws.{length-code, length-codes, fits-small}
-use Rattle.arena.proofs.Standing.{leaf-ends, leaf-parts}
-use Rattle.arena.proofs.ValueParts.{ends-at, first-cell, scalar-cell, scalar-one}
+use Rattle.arena.proofs.CodeLaws.{length-code, length-codes, fits-small, scalar-small}
+use Rattle.arena.proofs.Standing.{leaf-ends, leaf-parts, stands-own}
+use Rattle.arena.proofs.ValueParts.{ends-at, scalar-cell, scalar-one}
 use Rattle.arena.proofs.FrontLaws.{fit-small, set-inside, front-start, front-value, front-next}
 use Rattle.arena.proofs.EvenLaws.{weights-even, behind, value-at, cell-order}
 use Rattle.sets.specs.Fronts.{Cells, RunEnds}
@@ -160,10 +159,8 @@ pub fine-set : (s : List ℕ) (at : ℕ) → SomeFine s at → 5 * cellSize ≤ 
 fine-set s at h l = go (h .0) (h .1) (h .2)
   where
     go : (v : Value) → ValueBelow s (length s) at v → FineValue v → SomeSet s (length s) at
-    go (scalar (num whole i)) b f = absurd (omega (arith, first-cell s at (scalar (num whole i)) (b .stands) (b .fits) .0))
-    go (scalar (truth t)) b f = absurd (omega (arith, first-cell s at (scalar (truth t)) (b .stands) (b .fits) .0))
-    go (scalar (element g k)) b f = absurd (omega (arith, first-cell s at (scalar (element g k)) (b .stands) (b .fits) .0))
-    go (pair v w) b f = absurd (omega (arith, first-cell s at (pair v w) (b .stands) (b .fits) .0))
+    go (scalar x) b f = absurd (omega (arith, stands-own s at (scalar x) (b .stands), scalar-small x (b .fits)))
+    go (pair v w) b f = absurd (omega (arith, stands-own s at (pair v w) (b .stands)))
     go (set vs) b f = (vs, record { stands = b .stands; below = b .below; fine = f })
 
 -- Members of one cell each make a row.

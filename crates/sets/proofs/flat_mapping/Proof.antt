@@ -2,12 +2,10 @@
 -- number of pairs.
 use borrow.Author.Needs.{needs}
 use borrow.Author.Tests.{not-false}
-use mathlib.Core.Bool.{Bool}
-use mathlib.Core.List.{List}
-use Prim.Native.Nat.{ℕ}
+use mathlib.Core.Path.{subst}
 use Rattle.arena.proofs.FrontLaws.{set-inside}
 use Rattle.rules.proofs.Basics.{absurd01}
-use Rattle.sets.specs.Pairs.{IsFunction, KnownFunction}
+use Rattle.sets.specs.Pairs.{IsFunction}
 use Rattle.sets.proofs.flat_mapping.Statement.{statement}
 use Rattle.sets.proofs.flat_mapping.Tie as tie
 
@@ -16,9 +14,6 @@ counted c = c .before .before
 
 abbrev lent : tie.After-low → tie.Start
 lent l = l .before .before .before
-
-told-known : {s : List ℕ} {f : ℕ} {r : Bool} → IsFunction s f r → KnownFunction s f r
-told-known {s} {f} g e = rw e at g
 
 pub flat-mapping-spec : {M : Type 1} → statement M
 flat-mapping-spec =
@@ -33,4 +28,4 @@ flat-mapping-spec =
       record { relation = lent l .pre; counted = l .low .ensures .0; thin = λ _. c .before .of-flat-pairs .ensures (not-false _ (c .if1 .left)) },
       λ e. absurd (absurd01 (cc)),
     ))
-    (λ c. told-known (c .function-at .ensures)))
+    (λ c. λ e. subst (IsFunction _ _) e (c .function-at .ensures)))
