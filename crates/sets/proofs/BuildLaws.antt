@@ -1,28 +1,11 @@
 -- Building a set: members one behind the other, and the walk that merges two sets.
-use Prim.Native.Nat.{ℕ, _+_, _-_, _≤_, _<_, Ordering, Ordering·lt, Ordering·eq, Ordering·gt}
-use mathlib.Core.Bool.{Bool, true, false, cond}
-use mathlib.Core.List.{List, [], _∷_, _++_, append-assoc, append-nil}
-use mathlib.Core.Logic.{_⊎_, inl, inr}
-use mathlib.Core.Path.{_≡_, refl, sym, ap, _∙_, subst}
-use native.Mathlib.Omega.{arith}
-use native.Mathlib.Decide.{decLt}
-use lib.ListN.{length, set as setAt, length-set}
-use lib.Seq.{getD-set-same, getD-set-other}
-use Rattle.rules.specs.Values.{Value, Values, none, _▸_, members, values, count, weights, order}
-use Rattle.rules.specs.Operations.{keptValue, setOf}
+use Rattle.sets.proofs.Base.{ℕ, _+_, _-_, _≤_, _<_, Ordering, Ordering·lt, Ordering·eq, Ordering·gt, Bool, true, false, cond, List, [], _∷_, _++_, append-assoc, append-nil, _⊎_, inl, inr, _≡_, refl, sym, ap, _∙_, subst, arith, decLt, length, setAt, length-set, getD-set-same, getD-set-other}
+use Rattle.sets.proofs.Terms.{Value, Values, none, _▸_, members, values, count, weights, order, keptValue, setOf, code, codes, Stands, ValueAt, Same, Copied, Front, Turn, Out, Walk, Rest, merged, keepOf, firstOf, restLeft, restRight, TurnAt, TwoFronts, TwoRuns, RunEnds, Cells, BuiltTo, PutPre, PutBehind, RestThere, Merging, StepPre, Stepped, RestOf, EndPre, Ended, RunsMerge, Walking}
 use Rattle.laws.proofs.Membership.{values-members}
 use Rattle.laws.proofs.CellsLaws.{count-weights}
-use Rattle.arena.specs.Code.{code, codes, Stands, ValueAt, Same, Copied, Front}
 use Rattle.arena.proofs.CodeLaws.{length-codes}
 use Rattle.arena.proofs.Standing.{stands-append, stands-frame, copied-stands, same-refl, same-trans}
 use Rattle.arena.proofs.FrontLaws.{codes-append, count-append, weights-append, single, front-frame}
-use Rattle.sets.specs.declared.Turn.{Turn}
-use Rattle.sets.specs.declared.Out.{Out}
-use Rattle.sets.specs.declared.Walk.{Walk}
-use Rattle.sets.specs.declared.Rest.{Rest}
-use Rattle.sets.specs.Merged.{merged}
-use Rattle.sets.specs.Fronts.{keepOf, firstOf, restLeft, restRight, TurnAt, TwoFronts, TwoRuns, RunEnds, Cells, BuiltTo, PutPre, PutBehind, RestThere}
-use Rattle.sets.specs.Fronts.{Merging, StepPre, Stepped, RestOf, EndPre, Ended, RunsMerge, Walking}
 use Rattle.sets.proofs.MergedLaws.{merged-nil, merged-turn}
 use Rattle.sets.proofs.SearchLaws.{no-front, by-fronts}
 use Rattle.sets.proofs.TurnLaws.{two-fronts, turn-fewer}

@@ -1,32 +1,14 @@
 -- The merge of two sets whose members are one cell each. A cell that is stored is a value put behind what has been built, or it lies
 -- behind it (`cell-put`); so a turn at two cells is a turn of the merge (`merge-step`). What comes before the other set's first cell is
 -- so many turns on one side (`taken`), with which the merge begins (`merge-start`).
-use Prim.Native.Nat.{ℕ, zero, suc, _+_, _*_, _-_, _≤_, _<_, Ordering·lt, Ordering·gt}
-use mathlib.Core.Bool.{Bool, true, false, cond}
-use mathlib.Core.List.{List, [], _∷_, _++_, append-assoc}
-use mathlib.Core.Logic.{_⊎_, inl, inr}
-use mathlib.Core.Path.{_≡_, refl, sym, ap, _∙_, subst}
-use native.Mathlib.Omega.{arith}
-use native.Mathlib.Decide.{decLt}
-use lib.ListN.{length, getD, set as setAt, length-set}
-use lib.Seq.{getD-set-same, getD-set-other}
-use borrow.Author.Tests.{le-leb, lt-leb}
-use mir.Val.{boolByte}
-use Rattle.rules.specs.Values.{Value, Values, none, _▸_, members, count, weight, weights, order}
-use Rattle.rules.specs.Operations.{keptValue}
+use Rattle.sets.proofs.Base.{ℕ, zero, suc, _+_, _*_, _-_, _≤_, _<_, Ordering·lt, Ordering·gt, Bool, true, false, cond, List, [], _∷_, _++_, append-assoc, _⊎_, inl, inr, _≡_, refl, sym, ap, _∙_, subst, arith, decLt, length, getD, setAt, length-set, getD-set-same, getD-set-other, le-leb, lt-leb, boolByte}
+use Rattle.sets.proofs.Terms.{Value, Values, none, _▸_, members, count, weight, weights, order, keptValue, code, codes, ValuesAt, Same, EndsAt, Front, Out, Walk, CellTurn, merged, TurnAt, Cells, PutPre, PutBehind, Merging, EndPre, Ended, RunsMerge, Walking, CellTurned, RowsBelow, Ahead, RowMerge}
 use Rattle.laws.proofs.CellsLaws.{count-weights}
 use Rattle.laws.proofs.OrderLaws.{flip, order-flip, lt-compare}
-use Rattle.arena.specs.Code.{code, codes, ValuesAt, Same, EndsAt, Front}
 use Rattle.arena.proofs.CodeLaws.{length-code, length-codes}
 use Rattle.arena.proofs.Standing.{stands-append, stands-frame, same-refl, same-trans}
 use Rattle.arena.proofs.FrontLaws.{front-value, front-next, front-frame}
 use Rattle.arena.proofs.EvenLaws.{cell-order, cell-less, cell-equal, cell-greater}
-use Rattle.sets.specs.declared.Out.{Out}
-use Rattle.sets.specs.declared.Walk.{Walk}
-use Rattle.sets.specs.declared.CellTurn.{CellTurn}
-use Rattle.sets.specs.Merged.{merged}
-use Rattle.sets.specs.Fronts.{TurnAt, Cells, PutPre, PutBehind, Merging, EndPre, Ended, RunsMerge, Walking}
-use Rattle.sets.specs.Rows.{CellTurned, RowsBelow, Ahead, RowMerge}
 use Rattle.sets.proofs.MergedLaws.{merged-turn}
 use Rattle.sets.proofs.TurnLaws.{turn-less, turn-equal, turn-greater, byte-small}
 use Rattle.sets.proofs.BuildLaws.{store-frame, put-kept, put-none, built-none, step-on, walking-made, walking-end}

@@ -1,30 +1,18 @@
 -- Relations in the arena. Whether no pair shares its first part with the next one is decided by the pairs that are left (`Checking`); what is found is
 -- an application (`image-found`). Pairs of two values of one cell each are three cells: the order of the first parts of two neighbours is that of their
 -- cells (`cells-order`), so that the first parts make a row (`pair-row`), and e is one where its cell is in the row (`pair-none`, `pair-found`).
-use Prim.Native.Nat.{ℕ, _+_, _-_, _%_, _≤_, _<_, Ordering·lt, Ordering·eq, Ordering·gt, suc, _*_, compare}
-use mathlib.Core.Bool.{Bool, true, false}
-use mathlib.Core.List.{List}
-use mathlib.Core.Path.{_≡_, refl, sym, ap, _∙_, subst}
-use native.Mathlib.Omega.{arith}
-use lib.Dec.{isEq}
-use lib.ListN.{length, getD}
-use Rattle.rules.specs.Values.{Value, pair, set, Values, none, _▸_, members, weight, order, same}
-use Rattle.rules.specs.Operations.{left, right}
+use Rattle.sets.proofs.Base.{ℕ, _+_, _-_, _%_, _≤_, _<_, Ordering·lt, Ordering·eq, Ordering·gt, suc, _*_, compare, Bool, true, false, List, _≡_, refl, sym, ap, _∙_, subst, arith, isEq, length, getD, inl, inr}
+use Rattle.sets.proofs.Terms.{Value, pair, set, Values, none, _▸_, members, weight, order, same, left, right, ValueAt, orderCode, SomeAt, EndsAt, Compared, SetBelow, SomeValue, ValueBelow, Front, IsPair, AllPairs, SomeRelation, cellSize, AllWeigh, EvenSet, Member, MemberOrNone, newFirsts, SomePairs, Relation, WithinSet, Applies, PairSought, IsFunction, FlatPairs, SomeFlat, Row, Found}
 use Rattle.laws.proofs.OrderLaws.{then-lt, order-pair, before-order, compare-lt, compare-eq, compare-refl}
 use Rattle.laws.proofs.SetOrder.{All}
 use Rattle.laws.proofs.Membership.{all-in, In, in-all}
-use Rattle.arena.specs.Code.{ValueAt, orderCode, SomeAt, EndsAt, Compared, SetBelow, SomeValue, ValueBelow, Front, IsPair, AllPairs, SomeRelation, cellSize, AllWeigh, EvenSet}
 use Rattle.arena.proofs.CodeLaws.{length-codes}
 use Rattle.arena.proofs.ValueParts.{left-stands, right-stands, scalar-cell, scalar-one}
 use Rattle.arena.proofs.FrontLaws.{front-start, front-value, front-next, code-equal, front-below}
-use Rattle.sets.specs.Fronts.{Member, MemberOrNone}
-use Rattle.sets.specs.Pairs.{newFirsts, SomePairs, Relation, WithinSet, Applies, PairSought, IsFunction, FlatPairs, SomeFlat}
 use Rattle.sets.proofs.PairLaws.{on-pair, applied-none, applied-shared, applied-found}
 use Rattle.sets.proofs.SearchLaws.{sought-some, sought-none, key-stands, by-front, no-front}
-use mathlib.Core.Logic.{inl, inr}
 use Rattle.laws.proofs.CellsLaws.{weight-some}
 use Rattle.arena.proofs.EvenLaws.{weights-even, value-at, cell-order}
-use Rattle.sets.specs.Rows.{Row, Found}
 use Rattle.sets.proofs.RowLaws.{climb, neighbours, place-of, same-cell, cell-tells}
 
 -- What is shown of two pairs and the rest is shown of pairs, if there are two.

@@ -1,17 +1,8 @@
 -- Merging rising lists is union, intersection and difference: those of the rules (`union-merged`, `inter-merged`, `diff-merged`).
-use Prim.Native.Nat.{Ordering, Ordering·lt, Ordering·eq, Ordering·gt}
-use mathlib.Core.Bool.{Bool, true, false, cond, not, _||_}
-use mathlib.Core.List.{List, [], _∷_, _++_}
-use mathlib.Core.Path.{_≡_, refl, sym, ap, _∙_, subst}
-use lib.Dec.{isEq}
-use Rattle.rules.specs.Values.{Value, order, set, Values, members}
-use Rattle.rules.specs.Operations.{keptValue, insert, rising, isIn, keep, setOf, twoValue}
+use Rattle.sets.proofs.Base.{Ordering, Ordering·lt, Ordering·eq, Ordering·gt, Bool, true, false, cond, not, _||_, List, [], _∷_, _++_, _≡_, refl, sym, ap, _∙_, subst, isEq}
+use Rattle.sets.proofs.Terms.{Value, order, set, Values, members, keptValue, insert, rising, isIn, keep, setOf, twoValue, turned, merged, union, inter, diff, gives, FineSet}
 use Rattle.laws.proofs.OrderLaws.{Small, flip, order-refl, order-flip, order-eq, before-order, order-before, before-trans}
 use Rattle.laws.proofs.SetOrder.{All, Before, Rising, all-imp, kept-all}
-use Rattle.sets.specs.Merged.{turned, merged}
-use Rattle.rules.specs.Kinds.{union, inter, diff}
-use Rattle.rules.specs.Runs.{gives}
-use Rattle.arena.specs.Code.{FineSet}
 use Rattle.arena.proofs.FrontLaws.{rises-rising, fit-small}
 
 -- Of two values that are before one another one is greater.

@@ -1,27 +1,16 @@
 -- Rows of cells. The search halves what is left (`Halving`). The members of a set that weigh one cell each, known by the first
 -- (`flat-cells`), make a row (`cells-row`), and a value is a member where its cell is in the row (`cell-in`).
-use Prim.Native.Nat.{ℕ, zero, suc, _+_, _*_, _-_, _%_, _≤_, _<_, compare}
-use mathlib.Core.List.{List}
-use mathlib.Core.Logic.{inl, inr}
-use mathlib.Core.Path.{_≡_, refl, sym, ap, _∙_, subst}
-use native.Mathlib.Omega.{arith}
-use native.Mathlib.Decide.{ℕ-discrete, decLt}
-use lib.Dec.{ltb, ltb→lt, lt→ltb}
-use lib.ListN.{length, getD}
-use Rattle.rules.specs.Values.{Value, scalar, pair, set, Values, none, _▸_, members, weight, order}
-use Rattle.rules.specs.Operations.{isIn}
+use Rattle.sets.proofs.Base.{ℕ, zero, suc, _+_, _*_, _-_, _%_, _≤_, _<_, compare, List, inl, inr, _≡_, refl, sym, ap, _∙_, subst, arith, ℕ-discrete, decLt, ltb, ltb→lt, lt→ltb, length, getD}
+use Rattle.sets.proofs.Terms.{Value, scalar, pair, set, Values, none, _▸_, members, weight, order, isIn, cellSize, code, ValueAt, Same, CellsFit, EndsAt, partsOf, AllWeigh, EvenSet, SetBelow, SomeSet, ValueBelow, Front, Cells, RunEnds, Row, LowerBound, Found, FineValue, SomeFine}
 use Rattle.rules.proofs.Basics.{bool-eq}
 use Rattle.laws.proofs.OrderLaws.{order-eq, compare-refl, compare-lt, before-order}
 use Rattle.laws.proofs.Membership.{In, isIn-right}
 use Rattle.laws.proofs.CellsLaws.{weight-some, count-weights}
-use Rattle.arena.specs.Code.{cellSize, code, ValueAt, Same, CellsFit, EndsAt, partsOf, AllWeigh, EvenSet, SetBelow, SomeSet, ValueBelow, Front}
 use Rattle.arena.proofs.CodeLaws.{length-code, length-codes, fits-small, scalar-small}
 use Rattle.arena.proofs.Standing.{leaf-ends, leaf-parts, stands-own}
 use Rattle.arena.proofs.ValueParts.{ends-at, scalar-cell, scalar-one}
 use Rattle.arena.proofs.FrontLaws.{fit-small, set-inside, front-start, front-value, front-next}
 use Rattle.arena.proofs.EvenLaws.{weights-even, behind, value-at, cell-order}
-use Rattle.sets.specs.Fronts.{Cells, RunEnds}
-use Rattle.sets.specs.Rows.{Row, LowerBound, Found, FineValue, SomeFine}
 
 -- `lower_bound`: of the cells passed, those before `from` are below x and those from `from + left` on are not.
 pub record Halving (s : List ℕ) (at step n x from left : ℕ) : Type 0 where

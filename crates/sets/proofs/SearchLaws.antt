@@ -1,24 +1,13 @@
 -- Walks over the members that are left of a set, one by one (`by-front`): the search for a value, and where a run of members ends.
-use Prim.Native.Nat.{ℕ, _+_, _-_, _≤_, _<_}
-use mathlib.Core.Bool.{Bool, true, false}
-use mathlib.Core.List.{List, _∷_}
-use mathlib.Core.Logic.{inl, inr}
-use mathlib.Core.Path.{_≡_, refl, sym, subst}
-use native.Mathlib.Omega.{arith}
-use lib.Dec.{ltb, ltb→lt, lt→ltb}
-use lib.ListN.{length}
-use mir.Val.{boolByte}
-use Rattle.rules.specs.Values.{Value, scalar, pair, set, Values, none, _▸_, members, weight, weights, order}
-use Rattle.rules.specs.Operations.{isIn}
+use Rattle.sets.proofs.Base.{ℕ, _+_, _-_, _≤_, _<_, Bool, true, false, List, _∷_, inl, inr, _≡_, refl, sym, subst, arith, ltb, ltb→lt, lt→ltb, length, boolByte}
+use Rattle.sets.proofs.Terms.{Value, scalar, pair, set, Values, none, _▸_, members, weight, weights, order, isIn, ValueAt, CellsFit, orderCode, SomeAt, EndsAt, Compared, ValueBelow, Front, keyOf, Keyed, Member, MemberOrNone}
 use Rattle.rules.proofs.Basics.{bool-eq}
 use Rattle.laws.proofs.OrderLaws.{Small, order-eq, order-refl, order-before, before-irrefl}
 use Rattle.laws.proofs.SetOrder.{All, Before, all-imp}
 use Rattle.laws.proofs.Membership.{In, all-in, isIn-right}
-use Rattle.arena.specs.Code.{ValueAt, CellsFit, orderCode, SomeAt, EndsAt, Compared, ValueBelow, Front}
 use Rattle.arena.proofs.CodeLaws.{fits-small}
 use Rattle.arena.proofs.ValueParts.{left-stands}
 use Rattle.arena.proofs.FrontLaws.{rises-rising, fit-small, front-value, front-below, front-next, front-some, code-less, code-equal}
-use Rattle.sets.specs.Fronts.{keyOf, Keyed, Member, MemberOrNone}
 use Rattle.sets.proofs.PairLaws.{Keeps, pairs-small, less-all}
 
 module _ {s : List ℕ} {top at n : ℕ} (P : Values → Type 0) where

@@ -1,8 +1,5 @@
 -- `find`: x is where it stands if the cells follow one another, or where the search ends, or none of the cells.
-use borrow.Author.Needs.{needs}
-use Prim.Native.Nat.{_+_, _*_, _-_, _<_}
-use native.Mathlib.Omega.{arith}
-use lib.ListN.{length, getD}
+use Rattle.sets.proofs.Base.{needs, _+_, _*_, _-_, _<_, arith, length, getD}
 use Rattle.sets.proofs.RowLaws.{found-here, found-none, found-below, found-over, found-other}
 use Rattle.sets.proofs.find.Statement.{statement}
 use Rattle.sets.proofs.find.Tie as tie

@@ -1,11 +1,9 @@
 -- `flat_mapping`: nothing is said of other relations; of one of flat pairs it is told whether it is a function. Landmarks: what was lent, and the
 -- number of pairs.
-use borrow.Author.Needs.{needs}
-use borrow.Author.Tests.{not-false}
-use mathlib.Core.Path.{subst}
+use Rattle.sets.proofs.Base.{needs, not-false, subst}
+use Rattle.sets.proofs.Terms.{IsFunction}
 use Rattle.arena.proofs.FrontLaws.{set-inside}
 use Rattle.rules.proofs.Basics.{absurd01}
-use Rattle.sets.specs.Pairs.{IsFunction}
 use Rattle.sets.proofs.flat_mapping.Statement.{statement}
 use Rattle.sets.proofs.flat_mapping.Tie as tie
 

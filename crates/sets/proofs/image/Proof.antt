@@ -1,10 +1,7 @@
 -- `image`: the pair with the first part e is looked for; where there is one, f gives its second part if f is a function.
-use borrow.Author.Needs.{needs}
-use native.Mathlib.Omega.{arith}
-use Prim.Native.Nat.{_+_}
-use Rattle.arena.specs.Code.{SomeAt}
+use Rattle.sets.proofs.Base.{needs, arith, _+_}
+use Rattle.sets.proofs.Terms.{SomeAt, Relation}
 use Rattle.arena.proofs.ValueParts.{some-inside}
-use Rattle.sets.specs.Pairs.{Relation}
 use Rattle.sets.proofs.ImageLaws.{image-none, image-shared, first-part, image-found}
 use Rattle.sets.proofs.image.Statement.{statement}
 use Rattle.sets.proofs.image.Tie as tie

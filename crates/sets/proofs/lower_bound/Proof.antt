@@ -1,7 +1,5 @@
 -- `lower_bound`: cells before `from` are below x, those from `from + left` on are not; the one in the middle decides for half of the rest.
-use Prim.Native.Nat.{ℕ, _+_, _*_, _/_, _<_}
-use native.Mathlib.Omega.{arith}
-use lib.ListN.{length}
+use Rattle.sets.proofs.Base.{ℕ, _+_, _*_, _/_, _<_, arith, length}
 use Rattle.sets.proofs.RowLaws.{Halving, halving-start, halving-end, halving-up, halving-down}
 use Rattle.sets.proofs.lower_bound.Statement.{statement}
 use Rattle.sets.proofs.lower_bound.Tie as tie

@@ -1,12 +1,6 @@
 -- `merge_cells`: each turn stores the lesser of the first cells, which is a turn of the merge; at the end one set is exhausted.
-use Prim.Native.Nat.{ℕ, _+_, _-_, _≤_, _<_}
-use mathlib.Core.List.{List}
-use mathlib.Core.Logic.{_⊎_, inl, inr}
-use borrow.Author.Needs.{needs}
-use borrow.Author.Tests.{ltb-true, ltb-false}
-use native.Mathlib.Omega.{arith}
-use lib.ListN.{length, getD}
-use Rattle.sets.specs.Rows.{RowMerge}
+use Rattle.sets.proofs.Base.{ℕ, _+_, _-_, _≤_, _<_, List, _⊎_, inl, inr, needs, ltb-true, ltb-false, arith, length, getD}
+use Rattle.sets.proofs.Terms.{RowMerge}
 use Rattle.sets.proofs.CellMerge.{turn-moves, merge-inside, merge-step, merge-end, merge-made}
 use Rattle.sets.proofs.merge_cells.Statement.{statement}
 use Rattle.sets.proofs.merge_cells.Tie as tie

@@ -1,8 +1,5 @@
 -- `of_cells`: an empty set has no members to speak of; where the first member is a scalar, all members weigh one cell.
-use borrow.Author.Needs.{needs}
-use borrow.Author.Tests.{ltb-true}
-use mathlib.Core.Path.{sym, _∙_}
-use native.Mathlib.Omega.{arith}
+use Rattle.sets.proofs.Base.{needs, ltb-true, sym, _∙_, arith}
 use Rattle.arena.proofs.FrontLaws.{set-inside}
 use Rattle.sets.proofs.RowLaws.{flat-cells, no-cells, first-inside}
 use Rattle.sets.proofs.of_cells.Statement.{statement}

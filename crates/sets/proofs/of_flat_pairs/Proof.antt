@@ -1,10 +1,5 @@
 -- `of_flat_pairs`: an empty relation has no pairs; where both parts of the first pair are scalars, all pairs weigh three cells.
-use borrow.Author.Needs.{needs}
-use mathlib.Core.Path.{sym, _∙_}
-use borrow.Author.Tests.{ltb-true}
-use Prim.Native.Nat.{_+_, _<_}
-use native.Mathlib.Omega.{arith}
-use lib.ListN.{length}
+use Rattle.sets.proofs.Base.{needs, sym, _∙_, ltb-true, _+_, _<_, arith, length}
 use Rattle.rules.proofs.Basics.{absurd01}
 use Rattle.sets.proofs.ImageLaws.{no-pairs, flat-pairs, pair-inside}
 use Rattle.sets.proofs.of_flat_pairs.Statement.{statement}

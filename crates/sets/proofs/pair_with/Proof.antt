@@ -1,11 +1,8 @@
 -- `pair_with`: flat pairs are found by the row of first parts, others one by one.
-use borrow.Author.Needs.{needs}
-use Prim.Native.Nat.{_+_, _*_, _≤_}
-use native.Mathlib.Omega.{arith}
-use lib.ListN.{length}
+use Rattle.sets.proofs.Base.{needs, _+_, _*_, _≤_, arith, length}
+use Rattle.sets.proofs.Terms.{SomeFlat}
 use Rattle.arena.proofs.ValueParts.{some-inside}
 use Rattle.arena.proofs.FrontLaws.{value-some}
-use Rattle.sets.specs.Pairs.{SomeFlat}
 use Rattle.sets.proofs.ImageLaws.{whole, relation-run, flat-inside, pair-row, pair-none, pair-found, relation-flat}
 use Rattle.sets.proofs.pair_with.Statement.{statement}
 use Rattle.sets.proofs.pair_with.Tie as tie

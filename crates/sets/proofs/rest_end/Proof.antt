@@ -1,9 +1,6 @@
 -- `rest_end`: n members of one cell each end n cells further; others are walked, one by one.
-use Prim.Native.Nat.{ℕ, _+_}
-use mathlib.Core.Path.{refl}
-use native.Mathlib.Omega.{arith}
-use Rattle.rules.specs.Values.{Values, weights}
-use Rattle.arena.specs.Code.{Front}
+use Rattle.sets.proofs.Base.{ℕ, _+_, refl, arith}
+use Rattle.sets.proofs.Terms.{Values, weights, Front}
 use Rattle.sets.proofs.RowLaws.{cells-end}
 use Rattle.sets.proofs.SearchLaws.{Running, running-at, running-next, running-end}
 use Rattle.sets.proofs.rest_end.Statement.{statement}

@@ -1,12 +1,8 @@
 -- `seek`: the value is found in the set where it is found among the members that are left.
-use Prim.Native.Nat.{ℕ}
-use native.Mathlib.Omega.{arith}
-use lib.ListN.{length}
-use Rattle.rules.specs.Values.{Value, Values, members}
-use Rattle.arena.specs.Code.{ValueBelow, Front}
+use Rattle.sets.proofs.Base.{ℕ, arith, length}
+use Rattle.sets.proofs.Terms.{Value, Values, members, ValueBelow, Front, Keyed}
 use Rattle.arena.proofs.FrontLaws.{value-some}
 use Rattle.arena.proofs.ValueParts.{some-inside}
-use Rattle.sets.specs.Fronts.{Keyed}
 use Rattle.sets.proofs.SearchLaws.{Seeking, seeking-start, seeking-at, seeking-key, seeking-end, seeking-found, seeking-past, seeking-next}
 use Rattle.sets.proofs.seek.Statement.{statement}
 use Rattle.sets.proofs.seek.Tie as tie

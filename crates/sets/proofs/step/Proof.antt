@@ -1,5 +1,5 @@
 -- `step`: a turn of a merge.
-use borrow.Author.Needs.{needs}
+use Rattle.sets.proofs.Base.{needs}
 use Rattle.sets.proofs.BuildLaws.{step-two, step-put, step-returns}
 use Rattle.sets.proofs.step.Statement.{statement}
 use Rattle.sets.proofs.step.Tie as tie

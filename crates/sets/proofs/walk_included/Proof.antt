@@ -1,8 +1,6 @@
 -- `walk_included`: the answer is whether the members left of the first run are among those left of the second.
-use Prim.Native.Nat.{_+_}
-use borrow.Author.Tests.{not-true, not-false}
-use Rattle.rules.specs.Values.{members}
-use Rattle.rules.specs.Operations.{allIn}
+use Rattle.sets.proofs.Base.{_+_, not-true, not-false}
+use Rattle.sets.proofs.Terms.{members, allIn}
 use Rattle.sets.proofs.TurnLaws.{Including, Includings, including-start, including-end, including-short, including-two, including-turn}
 use Rattle.sets.proofs.walk_included.Statement.{statement}
 use Rattle.sets.proofs.walk_included.Tie as tie
