@@ -1,26 +1,12 @@
 -- A value put among the rising members that stand in the arena. The members are passed while they are less (`Finding`); what stands from the
 -- place on is moved up, the last cell first (`Shifting`), and the value is copied into the gap (`inserts-put`).
-use Prim.Native.Nat.{ℕ, _+_, _-_, _≤_, _<_}
-use mathlib.Core.Bool.{Bool, true, false, cond}
-use mathlib.Core.List.{List, [], _∷_, _++_, append-nil}
-use mathlib.Core.Logic.{_↔_}
-use mathlib.Core.Path.{_≡_, refl, sym, ap, _∙_, subst}
-use native.Mathlib.Omega.{arith}
-use native.Mathlib.Decide.{ℕ-discrete}
-use lib.Dec.{eqb}
-use lib.ListN.{length, getD, set as setAt, length-set}
-use lib.Seq.{getD-set-same, getD-set-other}
-use Rattle.rules.specs.Values.{Value, values, count, weight, weights, order}
-use Rattle.rules.specs.Operations.{insert, rising}
+use Rattle.products.proofs.Base.{ℕ, _+_, _-_, _≤_, _<_, Bool, true, false, cond, List, [], _∷_, _++_, append-nil, _↔_, _≡_, refl, sym, ap, _∙_, subst, arith, ℕ-discrete, eqb, length, getD, setAt, length-set, getD-set-same, getD-set-other}
+use Rattle.products.proofs.Terms.{Value, values, count, weight, weights, order, insert, rising, code, codes, Stands, ValueAt, Same, CellsFit, SomeAt, EndsAt, Compared, Copied, ValueBelow, StandBetween, lastOf, LastAt, BuiltParts, PlaceBetween, FindPre, InsertPre, MovedLast, Out, Place}
 use Rattle.laws.proofs.SetOrder.{Rising, insert-all}
 use Rattle.laws.proofs.CellsLaws.{weight-some}
-use Rattle.arena.specs.Code.{code, codes, Stands, ValueAt, Same, CellsFit, SomeAt, EndsAt, Compared, Copied, ValueBelow}
 use Rattle.arena.proofs.CodeLaws.{length-code, length-codes, fits-small}
 use Rattle.arena.proofs.Standing.{stands-front, stands-back, stands-append, stands-frame, same-refl, same-trans, copied-stands}
 use Rattle.arena.proofs.FrontLaws.{codes-append, count-append, weights-append, code-greater}
-use Rattle.products.specs.Parts.{StandBetween, lastOf, LastAt, BuiltParts, PlaceBetween, FindPre, InsertPre, MovedLast}
-use Rattle.products.specs.declared.Out.{Out}
-use Rattle.products.specs.declared.Place.{Place}
 use Rattle.products.proofs.PartLaws.{insert-next, insert-here, insert-none, last-append, last-split, insert-last}
 
 -- `shift`: of m cells those from `left` on have been moved up by n.

@@ -1,19 +1,10 @@
 -- Lists of parts. `insert` passes the members that are less than its value (`insert-behind`), so the first that is not less decides, and where
 -- the value is not less than the last member, that one does (`insert-last`). `rising` does not mind the order of a list (`rising-onto`).
-use Prim.Native.Nat.{ℕ, _+_, _≤_, _<_, Ordering, Ordering·lt, Ordering·eq, Ordering·gt}
-use mathlib.Core.Bool.{cond}
-use mathlib.Core.List.{List, [], _∷_, _++_, append-assoc}
-use mathlib.Core.Logic.{inl, inr}
-use mathlib.Core.Path.{_≡_, refl, sym, ap, _∙_, subst}
-use native.Mathlib.Omega.{arith}
-use lib.Dec.{eqb}
-use Rattle.rules.specs.Values.{Value, values, weight, weights, order}
-use Rattle.rules.specs.Operations.{placed, insert, rising}
+use Rattle.products.proofs.Base.{ℕ, _+_, _≤_, _<_, Ordering, Ordering·lt, Ordering·eq, Ordering·gt, cond, List, [], _∷_, _++_, append-assoc, inl, inr, _≡_, refl, sym, ap, _∙_, subst, arith, eqb}
+use Rattle.products.proofs.Terms.{Value, values, weight, weights, order, placed, insert, rising, orderCode, lastOf}
 use Rattle.laws.proofs.OrderLaws.{flip, Small, order-flip, order-eq, before-order, order-before, before-trans}
 use Rattle.laws.proofs.SetOrder.{All, Before, Rising, all-imp, rising-all, rising-rising}
 use Rattle.laws.proofs.Membership.{In, all-in, all-self, in-right, in-rising, same-members}
-use Rattle.arena.specs.Code.{orderCode}
-use Rattle.products.specs.Parts.{lastOf}
 
 -- The weight of a list with one value more.
 placed-weighs : (o : Ordering) (v w : Value) (ws r : List Value) → weights (values r) ≤ weight v + weights (values ws) →

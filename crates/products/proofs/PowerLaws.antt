@@ -1,24 +1,11 @@
 -- The power set in the arena: subsets by masks, one behind the other.
-use Prim.Native.Nat.{ℕ, _+_, _*_, _/_, _≤_, _<_}
-use mathlib.Core.List.{List, [], _∷_, _++_, map}
-use mathlib.Core.Path.{_≡_, refl, sym, ap, _∙_, subst}
-use native.Mathlib.Omega.{arith}
-use native.Mathlib.Decide.{decLt}
-use native.Mathlib.Numerals.{add-one}
-use lib.Dec.{ltb}
-use lib.ListN.{length, getD, drop, drop-of-length-le, set as setAt}
-use lib.Seq.{drop-cons}
-use Rattle.rules.specs.Values.{Value, Values, none, _▸_, members, values, count, weights}
-use Rattle.rules.specs.Operations.{setOf, rising, subsets, keptValue}
+use Rattle.products.proofs.Base.{ℕ, _+_, _*_, _/_, _≤_, _<_, List, [], _∷_, _++_, map, _≡_, refl, sym, ap, _∙_, subst, arith, decLt, add-one, ltb, length, getD, drop, drop-of-length-le, setAt, drop-cons}
+use Rattle.products.proofs.Terms.{Value, Values, none, _▸_, members, values, count, weights, setOf, rising, subsets, keptValue, code, codes, SetBelow, Made, Appended, Grown, SizeIs, Size, masks, CountsSubsets, subsetCounts, subsetFor, picked, MarkPre, Marks, SubsetPre, Subsets, AllPre, AllSubsets}
 use Rattle.laws.proofs.SetOrder.{all-at}
 use Rattle.laws.proofs.CellsLaws.{count-weights}
 use Rattle.laws.proofs.Membership.{values-members}
-use Rattle.arena.specs.Code.{code, codes, SetBelow, Made}
 use Rattle.arena.proofs.CodeLaws.{length-codes}
 use Rattle.arena.proofs.FrontLaws.{rises-rising, fit-small}
-use Rattle.products.specs.Growing.{Appended, Grown, SizeIs}
-use Rattle.products.specs.declared.Size.{Size}
-use Rattle.products.specs.Power.{masks, CountsSubsets, subsetCounts, subsetFor, picked, MarkPre, Marks, SubsetPre, Subsets, AllPre, AllSubsets}
 use Rattle.products.proofs.GrowLaws.{grown-step, grown-end, grown-left, made-set, made-heavy}
 use Rattle.products.proofs.SubsetLaws.{stand-frame, kept-codes}
 use Rattle.products.proofs.PowerOrder.{powers, power-rising, power-few, power-heavy}

@@ -1,24 +1,14 @@
 -- `parts`: the pass over the pairs of a set. What has been built is `rising` of the parts so far (`Taking`); each turn puts the part of one pair more.
-use Prim.Native.Nat.{ℕ, _+_, _-_, _%_, _≤_, _<_}
-use mathlib.Core.Bool.{Bool, true, false}
-use mathlib.Core.List.{List, [], _∷_, map}
-use mathlib.Core.Path.{_≡_, refl, ap, _∙_}
-use native.Mathlib.Omega.{arith}
-use lib.ListN.{getD, set as setAt}
-use Rattle.rules.specs.Values.{Value, scalar, pair, set, Values, none, _▸_, members, values, count, weight, weights}
-use Rattle.rules.specs.Operations.{setOf, rising}
+use Rattle.products.proofs.Base.{ℕ, _+_, _-_, _%_, _≤_, _<_, Bool, true, false, List, [], _∷_, map, _≡_, refl, ap, _∙_, arith, getD, setAt}
+use Rattle.products.proofs.Terms.{Value, scalar, pair, set, Values, none, _▸_, members, values, count, weight, weights, setOf, rising, codes, Same, SomeAt, EndsAt, ValueBelow, Made, Front, AllPairs, Appended, part, chosen, PartsPre, BuiltParts, InsertPre, Inserts, Out}
 use Rattle.laws.proofs.OrderLaws.{Small}
 use Rattle.laws.proofs.SetOrder.{all-map}
 use Rattle.laws.proofs.Membership.{left-small, right-small}
 use Rattle.laws.proofs.CellsLaws.{count-weights}
-use Rattle.arena.specs.Code.{codes, Same, SomeAt, EndsAt, ValueBelow, Made, Front, AllPairs}
 use Rattle.arena.proofs.CodeLaws.{length-codes}
 use Rattle.arena.proofs.Standing.{same-refl, same-trans}
 use Rattle.arena.proofs.ValueParts.{left-stands, right-stands}
 use Rattle.arena.proofs.FrontLaws.{fit-small, front-start, front-next, front-below, value-frame, value-some, value-end}
-use Rattle.products.specs.Growing.{Appended}
-use Rattle.products.specs.Parts.{part, chosen, PartsPre, BuiltParts, InsertPre, Inserts}
-use Rattle.products.specs.declared.Out.{Out}
 use Rattle.products.proofs.GrowLaws.{nothing-stands, made-set}
 use Rattle.products.proofs.PartLaws.{insert-weighs, onto, rising-onto}
 

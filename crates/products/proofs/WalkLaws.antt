@@ -1,17 +1,8 @@
 -- Walking the members of sets, and the pairs of one value or of a set's members with those of another.
-use Prim.Native.Nat.{ℕ, _+_, _*_, _-_, _%_, _≤_, _<_}
-use mathlib.Core.List.{List, [], _++_, map}
-use mathlib.Core.Path.{_≡_, refl, sym, ap, _∙_}
-use native.Mathlib.Omega.{arith}
-use native.Mathlib.Nat.{mul-le-mul-right}
-use lib.ListN.{length, getD, length-append, set as setAt}
-use Rattle.rules.specs.Values.{Value, pair, Values, none, _▸_, members, count, weight, weights}
-use Rattle.rules.specs.Operations.{setOf, pairsOf}
-use Rattle.arena.specs.Code.{code, codes, SomeAt, EndsAt, SetBelow, SetAt, Made, Front}
+use Rattle.products.proofs.Base.{ℕ, _+_, _*_, _-_, _%_, _≤_, _<_, List, [], _++_, map, _≡_, refl, sym, ap, _∙_, arith, mul-le-mul-right, length, getD, length-append, setAt}
+use Rattle.products.proofs.Terms.{Value, pair, Values, none, _▸_, members, count, weight, weights, setOf, pairsOf, code, codes, SomeAt, EndsAt, SetBelow, SetAt, Made, Front, Size, Appended, Grown, PairPre, PairPut, pairsWith, RowPre, Rows, square, SquarePre, Squares, FewCells, SmallProducts, SizeIs, productWeight}
 use Rattle.arena.proofs.CodeLaws.{length-codes}
 use Rattle.arena.proofs.FrontLaws.{codes-append, count-append, weights-append, front-start, front-value, front-next, front-below, front-some, front-frame, value-frame, set-end, set-cells}
-use Rattle.products.specs.declared.Size.{Size}
-use Rattle.products.specs.Growing.{Appended, Grown, PairPre, PairPut, pairsWith, RowPre, Rows, square, SquarePre, Squares, FewCells, SmallProducts, SizeIs, productWeight}
 use Rattle.products.proofs.GrowLaws.{grown-step, grown-end, grown-left, made-set}
 use Rattle.laws.proofs.CellsLaws.{count-weights}
 
@@ -162,7 +153,8 @@ small-products f g = record {
 }
 
 -- `product`
-module _ {s : List ℕ} {top a b : ℕ} {x y : Size} (p : SizeIs s a x) (q : SizeIs s b y) {vs ws : Values} (h : SetBelow s top a vs) (k : SetBelow s top b ws) where
+module _ {s : List ℕ} {top a b : ℕ} {x y : Size} (p : SizeIs s a x) (q : SizeIs s b y) {vs ws : Values} (h : SetBelow s top a vs)
+    (k : SetBelow s top b ws) where
   -- the weight of the members
   pub product-weighs : weights (square vs ws) ≡ x .members * y .members + y .members * x .cells + x .members * y .cells
   product-weighs = square-sizes vs ws .1 ∙ rw (p .front top vs h .counted, q .front top ws k .counted, p .cells top vs h, q .cells top ws k)

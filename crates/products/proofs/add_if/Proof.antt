@@ -1,7 +1,5 @@
 -- `add_if`: a member that is kept is copied behind the others; one that is not changes nothing.
-use mathlib.Core.Logic.{inl}
-use native.Mathlib.Omega.{arith}
-use borrow.Author.Needs.{needs}
+use Rattle.products.proofs.Base.{inl, arith, needs}
 use Rattle.products.proofs.SubsetLaws.{add-room, add-made, add-none}
 use Rattle.products.proofs.add_if.Statement.{statement}
 use Rattle.products.proofs.add_if.Tie as tie

@@ -1,10 +1,7 @@
 -- `booleans`: two cells that follow one another.
-use mathlib.Core.Bool.{true, false}
-use mathlib.Core.List.{[], _∷_}
-use mathlib.Core.Path.{refl}
-use Rattle.rules.specs.Values.{truthValue, values}
+use Rattle.products.proofs.Base.{true, false, [], _∷_, refl, needs}
+use Rattle.products.proofs.Terms.{truthValue, values}
 use Rattle.products.proofs.ScalarLaws.{booleans-cells}
-use borrow.Author.Needs.{needs}
 use Rattle.products.proofs.booleans.Statement.{statement}
 use Rattle.products.proofs.booleans.Tie as tie
 

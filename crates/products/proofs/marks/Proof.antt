@@ -1,9 +1,6 @@
 -- `marks`: each turn writes where the next member begins.
-use Prim.Native.Nat.{_-_}
-use mathlib.Core.Path.{refl}
-use native.Mathlib.Omega.{arith}
-use Rattle.rules.specs.Values.{Values}
-use Rattle.products.specs.Power.{MarkPre}
+use Rattle.products.proofs.Base.{_-_, refl, arith}
+use Rattle.products.proofs.Terms.{Values, MarkPre}
 use Rattle.products.proofs.SubsetLaws.{Marking, marking-start, marking-some, marking-end, marking-next}
 use Rattle.products.proofs.marks.Statement.{statement}
 use Rattle.products.proofs.marks.Tie as tie

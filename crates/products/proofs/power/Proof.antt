@@ -1,7 +1,5 @@
 -- `power`: all subsets, unless their set is too heavy.
-use Prim.Native.Nat.{_/_, _*_, _≤_}
-use native.Mathlib.Omega.{arith}
-use borrow.Author.Needs.{needs}
+use Rattle.products.proofs.Base.{_/_, _*_, _≤_, arith, needs}
 use Rattle.products.proofs.PowerLaws.{count-small, power-too-heavy, power-mark, power-pre, power-made}
 use Rattle.products.proofs.WalkLaws.{small-product}
 use Rattle.products.proofs.power.Statement.{statement}

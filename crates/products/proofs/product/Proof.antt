@@ -1,6 +1,5 @@
 -- `product`: all pairs, unless their set is too heavy.
-use native.Mathlib.Omega.{arith}
-use borrow.Author.Needs.{needs}
+use Rattle.products.proofs.Base.{arith, needs}
 use Rattle.products.proofs.GrowLaws.{made-heavy}
 use Rattle.products.proofs.WalkLaws.{small-products, product-weighs, product-pre, product-made}
 use Rattle.products.proofs.product.Statement.{statement}

@@ -1,7 +1,7 @@
 -- `row`: the pairs of a value with each member of a set.
 -- In a need, t is a turn of the loop, m is where its member ends, p is where the pair is put.
-use native.Mathlib.Omega.{arith}
-use Rattle.products.specs.Growing.{RowPre}
+use Rattle.products.proofs.Base.{arith}
+use Rattle.products.proofs.Terms.{RowPre}
 use Rattle.products.proofs.GrowLaws.{grown-start}
 use Rattle.products.proofs.WalkLaws.{RowAt, walk-some, walk-forward, row-end, row-pair, row-next}
 use Rattle.products.proofs.row.Statement.{statement}

@@ -1,7 +1,7 @@
 -- `rows`: a row of pairs for each member of the first set.
 -- In a need, t is a turn of the loop, m is where its member ends, p is where the row is put.
-use native.Mathlib.Omega.{arith}
-use Rattle.products.specs.Growing.{SquarePre}
+use Rattle.products.proofs.Base.{arith}
+use Rattle.products.proofs.Terms.{SquarePre}
 use Rattle.products.proofs.GrowLaws.{grown-start}
 use Rattle.products.proofs.WalkLaws.{SquareAt, walk-some, walk-forward, square-end, square-row, square-next}
 use Rattle.products.proofs.rows.Statement.{statement}
