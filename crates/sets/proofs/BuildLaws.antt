@@ -1,6 +1,6 @@
 -- Building a set: members one behind the other, and the walk that merges two sets.
 use Rattle.sets.proofs.Base.{ℕ, _+_, _-_, _≤_, _<_, Ordering, Ordering·lt, Ordering·eq, Ordering·gt, Bool, true, false, cond, List, [], _∷_, _++_, append-assoc, append-nil, _⊎_, inl, inr, _≡_, refl, sym, ap, _∙_, subst, arith, decLt, length, setAt, length-set, getD-set-same, getD-set-other}
-use Rattle.sets.proofs.Terms.{Value, Values, none, _▸_, members, values, count, weights, order, keptValue, setOf, code, codes, Stands, ValueAt, Same, Copied, Front, Turn, Out, Walk, Rest, merged, keepOf, firstOf, restLeft, restRight, TurnAt, TwoFronts, TwoRuns, RunEnds, Cells, BuiltTo, PutPre, PutBehind, RestThere, Merging, StepPre, Stepped, RestOf, EndPre, Ended, RunsMerge, Walking}
+use Rattle.sets.proofs.Terms.{Value, Values, none, _▸_, members, values, count, weights, order, keptValue, setOf, code, codes, Stands, ValueAt, Same, Copied, Front, Turn, Out, Walk, Rest, merged, keepOf, firstOf, restLeft, restRight, TurnAt, TwoRuns, RunEnds, Cells, BuiltTo, PutPre, PutBehind, RestThere, Merging, StepPre, Stepped, RestOf, EndPre, Ended, RunsMerge, Walking}
 use Rattle.laws.proofs.Membership.{values-members}
 use Rattle.laws.proofs.CellsLaws.{count-weights}
 use Rattle.arena.proofs.CodeLaws.{length-codes}
@@ -8,7 +8,7 @@ use Rattle.arena.proofs.Standing.{stands-append, stands-frame, copied-stands, s
 use Rattle.arena.proofs.FrontLaws.{codes-append, count-append, weights-append, single, front-frame}
 use Rattle.sets.proofs.MergedLaws.{merged-nil, merged-turn}
 use Rattle.sets.proofs.SearchLaws.{no-front, by-fronts}
-use Rattle.sets.proofs.TurnLaws.{two-fronts, turn-fewer}
+use Rattle.sets.proofs.TurnLaws.{turn-fewer}
 
 -- A cell stored above what is looked at.
 pub store-frame : (s : List ℕ) {k : ℕ} (to x : ℕ) → k ≤ to → Same k s (setAt s to x)
@@ -97,9 +97,6 @@ module _ {l e r : Bool} {s s′ : List ℕ} {w : Walk} {t : Turn} {o : Out} {top
       (h .onRight) i j (h .all)
 
 module _ {l e r : Bool} {s : List ℕ} {w : Walk} (h : StepPre l e r s w) where
-  pub step-two : TwoFronts s (w .a) (w .m) (w .b) (w .n)
-  step-two = two-fronts (h .merging .onLeft) (h .merging .onRight) (h .moreLeft) (h .moreRight)
-
   module _ {t : Turn} (turn : TurnAt s (w .a) (w .m) (w .b) (w .n) l e r t) where
     -- what a turn takes, and how many members are left
     step-took : (t .from ≤ t .end) × (t .end ≤ w .to) × (t .end - t .from ≤ 256) × (t .m + t .n < w .m + w .n)

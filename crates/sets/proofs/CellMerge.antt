@@ -2,7 +2,7 @@
 -- behind it (`cell-put`); so a turn at two cells is a turn of the merge (`merge-step`). What comes before the other set's first cell is
 -- so many turns on one side (`taken`), with which the merge begins (`merge-start`).
 use Rattle.sets.proofs.Base.{ℕ, zero, suc, _+_, _*_, _-_, _≤_, _<_, Ordering·lt, Ordering·gt, Bool, true, false, cond, List, [], _∷_, _++_, append-assoc, _⊎_, inl, inr, _≡_, refl, sym, ap, _∙_, subst, arith, decLt, length, getD, setAt, length-set, getD-set-same, getD-set-other, le-leb, lt-leb, boolByte}
-use Rattle.sets.proofs.Terms.{Value, Values, none, _▸_, members, count, weight, weights, order, keptValue, code, codes, ValuesAt, Same, EndsAt, Front, Out, Walk, CellTurn, merged, TurnAt, Cells, PutPre, PutBehind, Merging, EndPre, Ended, RunsMerge, Walking, CellTurned, RowsBelow, Ahead, RowMerge}
+use Rattle.sets.proofs.Terms.{Value, Values, none, _▸_, members, count, weight, weights, order, keptValue, code, codes, ValuesAt, Same, EndsAt, Front, Out, Walk, CellTurn, merged, TurnAt, Cells, PutPre, PutBehind, Merging, EndPre, Walking, CellTurned, RowsBelow, Ahead, RowMerge}
 use Rattle.laws.proofs.CellsLaws.{count-weights}
 use Rattle.laws.proofs.OrderLaws.{flip, order-flip, lt-compare}
 use Rattle.arena.proofs.CodeLaws.{length-code, length-codes}
@@ -11,7 +11,7 @@ use Rattle.arena.proofs.FrontLaws.{front-value, front-next, front-frame}
 use Rattle.arena.proofs.EvenLaws.{cell-order, cell-less, cell-equal, cell-greater}
 use Rattle.sets.proofs.MergedLaws.{merged-turn}
 use Rattle.sets.proofs.TurnLaws.{turn-less, turn-equal, turn-greater, byte-small}
-use Rattle.sets.proofs.BuildLaws.{store-frame, put-kept, put-none, built-none, step-on, walking-made, walking-end}
+use Rattle.sets.proofs.BuildLaws.{store-frame, put-kept, put-none, built-none, step-on, walking-end}
 use Rattle.sets.proofs.RowLaws.{cells-part, cells-first, cells-frame, cells-weigh}
 
 -- What holds of a turn in each case.
@@ -72,10 +72,6 @@ record Taken (k : Bool) (M : List Value → List Value) (s : List ℕ) (top at n
   pub front : Front s top (at + p) (n - p) rest
   pub all : M (members vs) ≡ cond k (members first) [] ++ M (members rest)
 
-kept-cond : (k : Bool) (v : Value) (xs zs : List Value) → keptValue k v (cond k xs [] ++ zs) ≡ cond k (v ∷ xs) [] ++ zs
-kept-cond true v xs zs = refl
-kept-cond false v xs zs = refl
-
 module _ (k : Bool) (M : List Value → List Value → List Value)
     (turn : (x y : Value) (xs ys : List Value) → order x y ≡ Ordering·lt → M (x ∷ xs) (y ∷ ys) ≡ keptValue k x (M xs (y ∷ ys)))
     {s : List ℕ} {top b n : ℕ} where
@@ -120,7 +116,7 @@ module _ (k : Bool) (M : List Value → List Value → List Value)
         counted = omega (arith, t .counted);
         weighs = omega (arith, t .weighs, one);
         front = rw (let z : at + suc p ≡ at + 1 + p = omega arith in z, let z : m - suc p ≡ m - 1 - p = omega arith in z) (t .front);
-        all = turn v y (members vs) (members ys) first ∙ rw (t .all) (kept-cond k v (members (t .first)) (M (members (t .rest)) (y ∷ members ys)));
+        all = turn v y (members vs) (members ys) first ∙ rw (t .all) (elim k [ true ↦ refl | false ↦ refl ]);
       }
 
 -- Both fronts, and where the merge goes on.
@@ -256,16 +252,13 @@ module _ {l e r : Bool} {s₀ : List ℕ} {a m b n top : ℕ} {s : List ℕ} {i 
         (turn-greater (cell-greater s i j ends′ d) ends ends′ (omega arith) (λ z. omega arith) (λ z. omega arith))))
 
   -- The end of the merge.
-  abbrev last : Walk
+  abbrev pub last : Walk
   last = record { a = i; m = a + m - i; b = j; n = b + n - j; to = to; count = to - top - 1 }
 
-  last-walking : Walking l e r s₀ a m b n top s last
+  pub last-walking : Walking l e r s₀ a m b n top s last
   last-walking = rw (let z : to - top - 1 ≡ h .count = omega (arith, h .countIs) in z) (h .walking)
 
   pub merge-end : (a + m ≤ i) ⊎ (b + n ≤ j) → EndPre l r s last top true
   merge-end o =
       walking-end last-walking (h .below .rows .runs) (h .below .room)
       (elim o [ inl z ↦ inl (omega arith) | inr z ↦ inr (inl (omega arith)) ]) λ _. (left-cells, right-cells)
-
-  pub merge-made : {s′ : List ℕ} {k : ℕ} → Ended l r s last top s′ k → RunsMerge l e r s₀ a m b n top s′ k
-  merge-made = walking-made last-walking

@@ -24,34 +24,27 @@ pub merged-turn : (l b r : Bool) (o : Ordering) (v w : Value) (vs ws : List Valu
 unfolding merged
 merged-turn l b r o v w vs ws e = rw e
 
-kept-nil : (r : Bool) (w : Value) (ws : List Value) → cond r (w ∷ ws) [] ≡ keptValue r w (cond r ws [])
-kept-nil true w ws = refl
-kept-nil false w ws = refl
-
 -- A member before all of the first list comes first.
 merged-first : (l b r : Bool) (vs : List Value) (w : Value) (ws : List Value) → All (Before w) vs →
     merged l b r vs (w ∷ ws) ≡ keptValue r w (merged l b r vs ws)
 unfolding merged
-merged-first l b r [] w ws h = kept-nil r w ws
+merged-first l b r [] w ws h = elim r [ true ↦ refl | false ↦ refl ]
 merged-first l b r (v ∷ vs) w ws h = merged-turn l b r Ordering·gt v w vs ws (after-order v w (h .0))
 
 cond-all : (P : Value → Type 0) (k : Bool) (vs : List Value) → All P vs → All P (cond k vs [])
 cond-all P true vs h = h
 cond-all P false vs h = tt
 
-turned-all : (P : Value → Type 0) (l b r : Bool) (o : Ordering) (v w : Value) (x y z : List Value) →
-    P v → P w → All P x → All P y → All P z → All P (turned l b r o v w x y z)
-turned-all P l b r Ordering·lt v w x y z p q i j k = kept-all P l v x p i
-turned-all P l b r Ordering·eq v w x y z p q i j k = kept-all P b v y p j
-turned-all P l b r Ordering·gt v w x y z p q i j k = kept-all P r w z q k
-
 merged-all : (P : Value → Type 0) (l b r : Bool) (vs ws : List Value) → All P vs → All P ws → All P (merged l b r vs ws)
 unfolding merged
 merged-all P l b r [] ws h k = cond-all P r ws k
 merged-all P l b r (v ∷ vs) [] h k = cond-all P l (v ∷ vs) h
 merged-all P l b r (v ∷ vs) (w ∷ ws) h k =
-    turned-all P l b r (order v w) v w (merged l b r vs (w ∷ ws)) (merged l b r vs ws) (merged l b r (v ∷ vs) ws) (h .0) (k .0)
-    (merged-all P l b r vs (w ∷ ws) (h .1) k) (merged-all P l b r vs ws (h .1) (k .1)) (merged-all P l b r (v ∷ vs) ws h (k .1))
+    elim (order v w) as (λ o. All P (turned l b r o v w (merged l b r vs (w ∷ ws)) (merged l b r vs ws) (merged l b r (v ∷ vs) ws))) [
+      | Ordering·lt ↦ kept-all P l v _ (h .0) (merged-all P l b r vs (w ∷ ws) (h .1) k)
+      | Ordering·eq ↦ kept-all P b v _ (h .0) (merged-all P l b r vs ws (h .1) (k .1))
+      | Ordering·gt ↦ kept-all P r w _ (k .0) (merged-all P l b r (v ∷ vs) ws h (k .1))
+    ]
 
 -- Union.
 

@@ -9,7 +9,7 @@ use Rattle.laws.proofs.CellsLaws.{weight-some, count-weights}
 use Rattle.arena.proofs.CodeLaws.{length-code, length-codes, fits-small, scalar-small}
 use Rattle.arena.proofs.Standing.{leaf-ends, leaf-parts, stands-own}
 use Rattle.arena.proofs.ValueParts.{ends-at, scalar-cell, scalar-one}
-use Rattle.arena.proofs.FrontLaws.{fit-small, set-inside, front-start, front-value, front-next}
+use Rattle.arena.proofs.FrontLaws.{fit-small, front-start, front-value, front-next}
 use Rattle.arena.proofs.EvenLaws.{weights-even, behind, value-at, cell-order}
 
 -- `lower_bound`: of the cells passed, those before `from` are below x and those from `from + left` on are not.
@@ -19,13 +19,7 @@ pub record Halving (s : List ℕ) (at step n x from left : ℕ) : Type 0 where
   pub above : (i : ℕ) → from + left ≤ i → i < n → x ≤ getD s (at + step * i) 0
 
 module _ {s : List ℕ} {at step n x : ℕ} where
-  pub halving-start : Halving s at step n x 0 n
-  halving-start = record { few = omega arith; below = λ i l. absurd (omega arith); above = λ i k l. absurd (omega arith) }
-
   module _ {from left : ℕ} (h : Halving s at step n x from left) where
-    pub halving-end : left ≤ 0 → LowerBound s at step n x from
-    halving-end z = record { few = omega (arith, h .few); below = h .below; above = λ i k l. h .above i (omega arith) l }
-
     -- Cell m is below x, and so are those before it; or it is not, and neither are those behind it. k cells are left then.
     module _ (row : Row s at step n) {m : ℕ} (inside : m < n) {k : ℕ} where
       pub halving-up : m + 1 + k ≡ from + left → getD s (at + step * m) 0 < x → Halving s at step n x (m + 1) k
@@ -50,9 +44,6 @@ module _ {s : List ℕ} {at step n x : ℕ} where
   pub found-below : Row s at step n → x < getD s at 0 → Found s at step n x n
   found-below row l = found-none λ i k e.
       omega (arith, row .rises 0 i (omega arith) k, ap (λ (j : ℕ). getD s j 0) (let z : at + step * 0 ≡ at = omega arith in z))
-
-  pub found-over : {r : ℕ} → LowerBound s at step n x r → n ≤ r → Found s at step n x n
-  found-over h l = found-none λ i k e. omega (arith, h .below i (omega arith))
 
   pub found-other : {r : ℕ} → Row s at step n → LowerBound s at step n x r → r < n → (getD s (at + step * r) 0 ≡ x → ⊥) → Found s at step n x n
   found-other {r} row h l d = found-none λ i k e. elim (decLt i r) [
@@ -131,9 +122,6 @@ module _ {s : List ℕ} {top a : ℕ} {vs : Values} (h : SetBelow s top a vs) wh
       go (v ▸ ws) f e =
           let q = scalar-one v (scalar-cell s (a + 1) v (front-value s top (a + 1) _ v ws f) (f .fits .0) l) in
           cells-of f (q .0, subst (λ (k : ℕ). AllWeigh k ws) (q .0) (e (q .1)))
-
-  pub no-cells : getD s a 0 % 4294967296 ≡ 0 → Cells s (a + 1) (getD s a 0 % 4294967296)
-  no-cells e = record { inside = omega (arith, set-inside s top a vs h); each = λ i l. absurd (omega arith) }
 
   -- there is a cell behind the set's own
   pub first-inside : (getD s a 0 % 4294967296 ≡ 0 → ⊥) → a + 1 < length s

@@ -117,9 +117,6 @@ module _ {s : List ℕ} {a m b n : ℕ} {whole : Bool} (h : Including s a m b n 
       by-front (λ vs. whole ≡ allIn (members vs) (members (h .right)) → false ≡ whole)
       (λ v vs f. no-front (λ ws. whole ≡ allIn (v ∷ members vs) (members ws) → false ≡ whole) (λ q. sym q) (h .onRight) (omega arith)) (h .onLeft) l (h .same)
 
-  pub including-two : 0 < m → (n ≡ 0 → ⊥) → TwoFronts s a m b n
-  including-two l z = two-fronts (h .onLeft) (h .onRight) l (omega arith)
-
   pub including-turn : 0 < m → (n ≡ 0 → ⊥) → {t : Turn} → TurnAt s a m b n false true true t →
       (t .keep ≡ true → Including s (t .a) (t .m) (t .b) (t .n) whole × (t .m + t .n < m + n)) × (t .keep ≡ false → false ≡ whole)
   including-turn l z {t} turn =
