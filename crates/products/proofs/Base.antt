@@ -8,7 +8,7 @@ pub use lib.ListN.{drop, drop-of-length-le, getD, length, length-append, length-
 pub use lib.Seq.{drop-cons, getD-set-other, getD-set-same}
 pub use mathlib.Core.Bool.{Bool, cond, false, true}
 pub use mathlib.Core.List.{List, [], _++_, _∷_, append-assoc, append-nil, map}
-pub use mathlib.Core.Logic.{_↔_, inl, inr}
+pub use mathlib.Core.Logic.{_↔_, inl}
 pub use mathlib.Core.Path.{_∙_, _≡_, ap, refl, subst, sym}
 pub use native.Mathlib.Decide.{decLt, ℕ-discrete}
 pub use native.Mathlib.Nat.{mul-le-mul-right}

@@ -29,10 +29,6 @@ picked-next p j mask vs l e =
     ap (λ (ms : List ℕ). codes (values (picked p ms (members vs)))) d
     ∙ kept-codes (ltb mask p) (setOf (subsetFor mask (members vs))) (picked p (drop (j + 1) masks) (members vs))
 
-picked-over : (p j : ℕ) (vs : Values) → 32 ≤ j → allFrom p j vs ≡ []
-unfolding picked code
-picked-over p j vs l = ap (λ (ms : List ℕ). codes (values (picked p ms (members vs)))) (drop-of-length-le masks l)
-
 module _ {s₀ at : List ℕ} {n p to : ℕ} (g : AllPre s₀ at n p to) {s : List ℕ} (j : ℕ) {end : ℕ}
     (h : Grown s₀ to s end (allFrom p 0 (g .whole)) (allFrom p j (g .whole))) where
   pub all-pre : SubsetPre s at n end
@@ -59,7 +55,8 @@ module _ {s₀ at : List ℕ} {n p to : ℕ} (g : AllPre s₀ at n p to) {s : Li
       (subst (λ (c : List ℕ). Grown s₀ to s end (allFrom p 0 (g .whole)) c) (picked-next p j mask (g .whole) l e) h) (put all-pre)
 
   pub all-end : 32 ≤ j → Appended s₀ to s end (codes (values (picked p masks (members (g .whole)))))
-  all-end l = grown-end (subst (λ (c : List ℕ). Grown s₀ to s end (allFrom p 0 (g .whole)) c) (picked-over p j (g .whole) l) h)
+  unfolding picked code
+  all-end l = grown-end (rw (drop-of-length-le masks l) at h)
 
 -- `power`
 pub members-count : (vs : Values) → length (members vs) ≡ count vs

@@ -1,6 +1,6 @@
 -- Sets of scalars whose cells follow one another as numbers: elements of a given set, truths, integers.
-use Rattle.products.proofs.Base.{ℕ, zero, suc, _+_, _*_, _-_, _≤_, _<_, Bool, true, false, cond, List, [], _∷_, _≡_, refl, sym, ap, _∙_, arith, ltb, ltb→lt, nltb→le, ℤ, pos, negsuc, sucℤ, subℕ, _+ℤ_, _-ℤ_, +ℤ-one}
-use Rattle.products.proofs.Terms.{int, truthValue, values, count, weights, setOf, upFrom, toCount, elementsFrom, excess, code, codes, CellsFit, Made, cellsFrom, PutsRun, Intervals}
+use Rattle.products.proofs.Base.{ℕ, zero, suc, _+_, _*_, _-_, _≤_, _<_, Bool, true, false, cond, List, _≡_, refl, sym, ap, _∙_, arith, ltb, ltb→lt, nltb→le, ℤ, pos, negsuc, sucℤ, subℕ, _+ℤ_, _-ℤ_, +ℤ-one}
+use Rattle.products.proofs.Terms.{int, values, count, weights, setOf, upFrom, toCount, elementsFrom, excess, code, codes, CellsFit, Made, cellsFrom, PutsRun, Intervals}
 use Rattle.products.proofs.GrowLaws.{made-heavy}
 
 pub elements-cells : (g k n : ℕ) → codes (values (elementsFrom g k n)) ≡ cellsFrom (12884901888 + 256 * g + k) n
@@ -20,10 +20,6 @@ pub elements-made : (s s′ : List ℕ) (g n top r : ℕ) → PutsRun s (1288490
 elements-made s s′ g n top r put =
     let z : 12884901888 + 256 * g + 0 ≡ 12884901888 + 256 * g = omega arith in
     put (values (elementsFrom g 0 n)) (elements-count g 0 n) (elements-cells g 0 n ∙ rw z)
-
-pub booleans-cells : codes (values (truthValue false ∷ truthValue true ∷ [])) ≡ cellsFrom 8589934592 2
-unfolding code cellsFrom
-booleans-cells = refl
 
 -- Integers no less than −2^31.
 abbrev Low : ℤ → Type 0

@@ -23,7 +23,7 @@ module _ {F : Values → List ℕ} {s₀ : List ℕ} {top : ℕ} {vs : Values} {
   pub walk-some : WalkAt F s₀ top vs to s i left at → 0 < left → SomeAt s i
   walk-some (rest, h) l = front-some s top i left rest (walk-front h) l
 
-  walk-end : WalkAt F s₀ top vs to s i left at → left ≤ 0 → F none ≡ [] → Appended s₀ to s at (F vs)
+  pub walk-end : WalkAt F s₀ top vs to s i left at → left ≤ 0 → F none ≡ [] → Appended s₀ to s at (F vs)
   walk-end (none, h) l e = grown-end (rw e at (h .grown))
   walk-end (w ▸ us, h) l e = absurd (omega (arith, h .front .counted))
 
@@ -56,10 +56,6 @@ RowAt {s₀} {v} {k} {b} {m} {to} g s i left at = WalkAt (λ us. codes (pairsWit
 
 module _ {s₀ : List ℕ} {v k b m to : ℕ} (g : RowPre s₀ v k b m to) where
   module _ {s : List ℕ} {i left at : ℕ} where
-    pub row-end : RowAt g s i left at → left ≤ 0 → Appended s₀ to s at (codes (pairsWith (g .first) (g .others)))
-    unfolding code
-    row-end h l = walk-end h l refl
-
     module _ (e : ℕ) (ends : EndsAt s i e) where
       pub row-pair : RowAt g s i left at → 0 < left → PairPre s v k i (e - i) at
       row-pair (none, h) l = absurd (omega (arith, h .front .counted))
@@ -104,10 +100,6 @@ SquareAt {s₀} {a} {n} {b} {m} {to} g s i left at = WalkAt (λ us. codes (squar
 
 module _ {s₀ : List ℕ} {a n b m to : ℕ} (g : SquarePre s₀ a n b m to) where
   module _ {s : List ℕ} {i left at : ℕ} where
-    pub square-end : SquareAt g s i left at → left ≤ 0 → Appended s₀ to s at (codes (square (g .lefts) (g .rights)))
-    unfolding code pairsOf
-    square-end h l = walk-end h l refl
-
     module _ (e : ℕ) (ends : EndsAt s i e) where
       pub square-row : SquareAt g s i left at → 0 < left → RowPre s i (e - i) b m at
       square-row (none, h) l = absurd (omega (arith, h .front .counted))
