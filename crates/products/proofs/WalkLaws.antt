@@ -54,29 +54,27 @@ row-sizes x (w ▸ ws) = let h = row-sizes x ws in omega arith
 abbrev pub RowAt : {s₀ : List ℕ} {v k b m to : ℕ} → RowPre s₀ v k b m to → List ℕ → ℕ → ℕ → ℕ → Type 0
 RowAt {s₀} {v} {k} {b} {m} {to} g s i left at = WalkAt (λ us. codes (pairsWith (g .first) us)) s₀ (g .top) (g .others) to s i left at
 
-module _ {s₀ : List ℕ} {v k b m to : ℕ} (g : RowPre s₀ v k b m to) where
-  module _ {s : List ℕ} {i left at : ℕ} where
-    module _ (e : ℕ) (ends : EndsAt s i e) where
-      pub row-pair : RowAt g s i left at → 0 < left → PairPre s v k i (e - i) at
-      row-pair (none, h) l = absurd (omega (arith, h .front .counted))
-      row-pair (w ▸ us, h) l =
-          let x = g .first in
-          let d = h .grown .appended in
-          let q = grown-left (h .grown) in
-          let z = walk-ends e ends h in
-          record {
-            left = omega (arith, g .value .below, g .weighs, h .behind, d .ends);
-            right = omega (arith, h .front .below, h .behind, d .ends);
-            room = omega (arith, length-codes (pairsWith x (g .others)), length-codes (pairsWith x (w ▸ us)), g .weighs, g .room, d .frame .kept);
-          }
+module _ {s₀ : List ℕ} {v k b m to : ℕ} (g : RowPre s₀ v k b m to) {s : List ℕ} {i left at : ℕ} (e : ℕ) (ends : EndsAt s i e) where
+  pub row-pair : RowAt g s i left at → 0 < left → PairPre s v k i (e - i) at
+  row-pair (none, h) l = absurd (omega (arith, h .front .counted))
+  row-pair (w ▸ us, h) l =
+      let x = g .first in
+      let d = h .grown .appended in
+      let q = grown-left (h .grown) in
+      let z = walk-ends e ends h in
+      record {
+        left = omega (arith, g .value .below, g .weighs, h .behind, d .ends);
+        right = omega (arith, h .front .below, h .behind, d .ends);
+        room = omega (arith, length-codes (pairsWith x (g .others)), length-codes (pairsWith x (w ▸ us)), g .weighs, g .room, d .frame .kept);
+      }
 
-      pub row-next : RowAt g s i left at → 0 < left → (s′ : List ℕ) (r : ℕ) → PairPut s v k i (e - i) at s′ r → RowAt g s′ e (left - 1) r
-      unfolding code
-      row-next (none, h) l s′ r put = absurd (omega (arith, h .front .counted))
-      row-next (w ▸ us, h) l s′ r put =
-          let there = value-frame to s₀ s (g .top) v (g .first) (h .grown .appended .frame) (h .behind) (g .value) .stands in
-          walk-next e ends h refl
-          (put (g .first) w there (front-value s (g .top) i left w us (walk-front h)) (g .weighs) (omega (arith, walk-ends e ends h)))
+  pub row-next : RowAt g s i left at → 0 < left → (s′ : List ℕ) (r : ℕ) → PairPut s v k i (e - i) at s′ r → RowAt g s′ e (left - 1) r
+  unfolding code
+  row-next (none, h) l s′ r put = absurd (omega (arith, h .front .counted))
+  row-next (w ▸ us, h) l s′ r put =
+      let there = value-frame to s₀ s (g .top) v (g .first) (h .grown .appended .frame) (h .behind) (g .value) .stands in
+      walk-next e ends h refl
+      (put (g .first) w there (front-value s (g .top) i left w us (walk-front h)) (g .weighs) (omega (arith, walk-ends e ends h)))
 
 -- The pairs of the members of two sets.
 square-codes : (v : Value) (vs ws : Values) → codes (square (v ▸ vs) ws) ≡ codes (pairsWith v ws) ++ codes (square vs ws)
@@ -98,30 +96,28 @@ square-sizes (v ▸ vs) ws =
 abbrev pub SquareAt : {s₀ : List ℕ} {a n b m to : ℕ} → SquarePre s₀ a n b m to → List ℕ → ℕ → ℕ → ℕ → Type 0
 SquareAt {s₀} {a} {n} {b} {m} {to} g s i left at = WalkAt (λ us. codes (square us (g .rights))) s₀ (g .top) (g .lefts) to s i left at
 
-module _ {s₀ : List ℕ} {a n b m to : ℕ} (g : SquarePre s₀ a n b m to) where
-  module _ {s : List ℕ} {i left at : ℕ} where
-    module _ (e : ℕ) (ends : EndsAt s i e) where
-      pub square-row : SquareAt g s i left at → 0 < left → RowPre s i (e - i) b m at
-      square-row (none, h) l = absurd (omega (arith, h .front .counted))
-      square-row (w ▸ us, h) l =
-          let d = h .grown .appended in
-          let q = grown-left (h .grown) in
-          let k = ap length (square-codes w us (g .rights)) ∙ length-append (codes (pairsWith w (g .rights))) (codes (square us (g .rights))) in
-          record {
-            top = g .top;
-            first = w;
-            others = g .rights;
-            value = front-below s (g .top) i left w us (walk-front h);
-            weighs = omega (arith, walk-ends e ends h);
-            front = front-frame to s₀ s (g .top) b m (g .rights) (d .frame) (g .behind) (g .others);
-            behind = omega (arith, d .ends, g .behind);
-            room = omega (arith, length-codes (square (g .lefts) (g .rights)), length-codes (pairsWith w (g .rights)), g .room, d .frame .kept);
-          }
+module _ {s₀ : List ℕ} {a n b m to : ℕ} (g : SquarePre s₀ a n b m to) {s : List ℕ} {i left at : ℕ} (e : ℕ) (ends : EndsAt s i e) where
+  pub square-row : SquareAt g s i left at → 0 < left → RowPre s i (e - i) b m at
+  square-row (none, h) l = absurd (omega (arith, h .front .counted))
+  square-row (w ▸ us, h) l =
+      let d = h .grown .appended in
+      let q = grown-left (h .grown) in
+      let k = ap length (square-codes w us (g .rights)) ∙ length-append (codes (pairsWith w (g .rights))) (codes (square us (g .rights))) in
+      record {
+        top = g .top;
+        first = w;
+        others = g .rights;
+        value = front-below s (g .top) i left w us (walk-front h);
+        weighs = omega (arith, walk-ends e ends h);
+        front = front-frame to s₀ s (g .top) b m (g .rights) (d .frame) (g .behind) (g .others);
+        behind = omega (arith, d .ends, g .behind);
+        room = omega (arith, length-codes (square (g .lefts) (g .rights)), length-codes (pairsWith w (g .rights)), g .room, d .frame .kept);
+      }
 
-      pub square-next : SquareAt g s i left at → 0 < left → (s′ : List ℕ) (r : ℕ) → Rows s i (e - i) b m at s′ r → SquareAt g s′ e (left - 1) r
-      unfolding square-row
-      square-next (none, h) l s′ r put = absurd (omega (arith, h .front .counted))
-      square-next (w ▸ us, h) l s′ r put = walk-next e ends h (square-codes w us (g .rights)) (put (square-row (w ▸ us, h) l))
+  pub square-next : SquareAt g s i left at → 0 < left → (s′ : List ℕ) (r : ℕ) → Rows s i (e - i) b m at s′ r → SquareAt g s′ e (left - 1) r
+  unfolding square-row
+  square-next (none, h) l s′ r put = absurd (omega (arith, h .front .counted))
+  square-next (w ▸ us, h) l s′ r put = walk-next e ends h (square-codes w us (g .rights)) (put (square-row (w ▸ us, h) l))
 
 -- `size_of`
 pub size-is : {s : List ℕ} {a e n : ℕ} → SetAt s a → EndsAt s a e → n ≡ getD s a 0 % 4294967296 → SizeIs s a (record { members = n; cells = e - a - 1 })

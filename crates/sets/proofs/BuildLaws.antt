@@ -96,34 +96,33 @@ module _ {l e r : Bool} {s s′ : List ℕ} {w : Walk} {t : Turn} {o : Out} {top
       by-fronts (λ vs xs. whole ≡ h .done ++ merged l e r (members vs) (members xs) → Merging l e r s′ top (after t o) whole) step-done (h .onLeft)
       (h .onRight) i j (h .all)
 
-module _ {l e r : Bool} {s : List ℕ} {w : Walk} (h : StepPre l e r s w) where
-  module _ {t : Turn} (turn : TurnAt s (w .a) (w .m) (w .b) (w .n) l e r t) where
-    -- what a turn takes, and how many members are left
-    step-took : (t .from ≤ t .end) × (t .end ≤ w .to) × (t .end - t .from ≤ 256) × (t .m + t .n < w .m + w .n)
-    step-took =
-        by-fronts (λ _ _. (t .from ≤ t .end) × (t .end ≤ w .to) × (t .end - t .from ≤ 256) × (t .m + t .n < w .m + w .n))
-        (λ v vs x xs f g. let d = turn (h .top) v vs x xs f g in (
-          omega (arith, d .ends),
-          omega (arith, d .ends, d .value .below, h .merging .built .ends),
-          omega (arith, d .ends, d .value .light),
-          omega (arith, turn-fewer s (h .top) l e r (order v x) v vs x xs t d, f .counted, g .counted),
-        )) (h .merging .onLeft) (h .merging .onRight) (h .moreLeft) (h .moreRight)
+module _ {l e r : Bool} {s : List ℕ} {w : Walk} (h : StepPre l e r s w) {t : Turn} (turn : TurnAt s (w .a) (w .m) (w .b) (w .n) l e r t) where
+  -- what a turn takes, and how many members are left
+  step-took : (t .from ≤ t .end) × (t .end ≤ w .to) × (t .end - t .from ≤ 256) × (t .m + t .n < w .m + w .n)
+  step-took =
+      by-fronts (λ _ _. (t .from ≤ t .end) × (t .end ≤ w .to) × (t .end - t .from ≤ 256) × (t .m + t .n < w .m + w .n))
+      (λ v vs x xs f g. let d = turn (h .top) v vs x xs f g in (
+        omega (arith, d .ends),
+        omega (arith, d .ends, d .value .below, h .merging .built .ends),
+        omega (arith, d .ends, d .value .light),
+        omega (arith, turn-fewer s (h .top) l e r (order v x) v vs x xs t d, f .counted, g .counted),
+      )) (h .merging .onLeft) (h .merging .onRight) (h .moreLeft) (h .moreRight)
 
-    pub step-put : PutPre s (t .from) (t .end) 1 (outOf w)
-    step-put = record {
-      forward = step-took .0;
-      behind = step-took .1;
-      room = omega (arith, h .room, step-took .2);
-      few = omega (arith, h .near, h .merging .built .ends, h .merging .built .counted, count-weights (values (h .merging .done)));
-    }
+  pub step-put : PutPre s (t .from) (t .end) 1 (outOf w)
+  step-put = record {
+    forward = step-took .0;
+    behind = step-took .1;
+    room = omega (arith, h .room, step-took .2);
+    few = omega (arith, h .near, h .merging .built .ends, h .merging .built .counted, count-weights (values (h .merging .done)));
+  }
 
-    pub step-returns : {s′ : List ℕ} {o : Out} → PutBehind (t .keep) s (t .from) (t .end) 1 (outOf w) s′ o → Stepped l e r s w s′ (after t o)
-    step-returns p = record {
-      frame = p .frame;
-      near = omega (arith, p .near, step-took .2);
-      fewer = step-took .3;
-      on = λ top whole m. step-on turn p m (h .moreLeft) (h .moreRight);
-    }
+  pub step-returns : {s′ : List ℕ} {o : Out} → PutBehind (t .keep) s (t .from) (t .end) 1 (outOf w) s′ o → Stepped l e r s w s′ (after t o)
+  step-returns p = record {
+    frame = p .frame;
+    near = omega (arith, p .near, step-took .2);
+    fewer = step-took .3;
+    on = λ top whole m. step-on turn p m (h .moreLeft) (h .moreRight);
+  }
 
 -- `finish`
 

@@ -18,19 +18,17 @@ pub record Halving (s : List ℕ) (at step n x from left : ℕ) : Type 0 where
   pub below : (i : ℕ) → i < from → getD s (at + step * i) 0 < x
   pub above : (i : ℕ) → from + left ≤ i → i < n → x ≤ getD s (at + step * i) 0
 
-module _ {s : List ℕ} {at step n x : ℕ} where
-  module _ {from left : ℕ} (h : Halving s at step n x from left) where
-    -- Cell m is below x, and so are those before it; or it is not, and neither are those behind it. k cells are left then.
-    module _ (row : Row s at step n) {m : ℕ} (inside : m < n) {k : ℕ} where
-      pub halving-up : m + 1 + k ≡ from + left → getD s (at + step * m) 0 < x → Halving s at step n x (m + 1) k
-      halving-up e l = record {
-        few = omega (arith, h .few);
-        below = λ i p. omega (arith, row .rises i m (omega arith) inside);
-        above = λ i p q. h .above i (omega arith) q;
-      }
+-- Cell m is below x, and so are those before it; or it is not, and neither are those behind it. k cells are left then.
+module _ {s : List ℕ} {at step n x from left : ℕ} (h : Halving s at step n x from left) (row : Row s at step n) {m : ℕ} (inside : m < n) {k : ℕ} where
+  pub halving-up : m + 1 + k ≡ from + left → getD s (at + step * m) 0 < x → Halving s at step n x (m + 1) k
+  halving-up e l = record {
+    few = omega (arith, h .few);
+    below = λ i p. omega (arith, row .rises i m (omega arith) inside);
+    above = λ i p q. h .above i (omega arith) q;
+  }
 
-      pub halving-down : from + k ≡ m → x ≤ getD s (at + step * m) 0 → Halving s at step n x from k
-      halving-down e l = record { few = omega arith; below = h .below; above = λ i p q. omega (arith, row .rises m i (omega arith) q) }
+  pub halving-down : from + k ≡ m → x ≤ getD s (at + step * m) 0 → Halving s at step n x from k
+  halving-down e l = record { few = omega arith; below = h .below; above = λ i p q. omega (arith, row .rises m i (omega arith) q) }
 
 -- `find`: x is not in the row where the first cell that is not below x is another.
 module _ {s : List ℕ} {at step n x : ℕ} where
