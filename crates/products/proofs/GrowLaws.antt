@@ -1,18 +1,9 @@
 -- Cells written one behind the other, and the values that they are.
-use Prim.Native.Nat.{ℕ, zero, suc, _+_, _-_, _≤_, _<_}
-use mathlib.Core.List.{List, [], _∷_, _++_, append-assoc, append-nil}
-use mathlib.Core.Path.{_≡_, refl, sym, ap, _∙_, subst}
-use native.Mathlib.Omega.{arith}
-use native.Mathlib.Numerals.{add-one}
-use lib.ListN.{length, set as setAt, length-append, length-set}
-use lib.Seq.{getD-set-same, getD-set-other}
-use Rattle.rules.specs.Values.{Value, pair, set, Values, none, _▸_, count, weight}
-use Rattle.rules.specs.Operations.{setOf}
-use Rattle.arena.specs.Code.{code, codes, Stands, EndsAt, Copied, ValueBelow, Made}
+use Rattle.products.proofs.Base.{ℕ, zero, suc, _+_, _-_, _≤_, _<_, List, [], _∷_, _++_, append-assoc, append-nil, _≡_, refl, sym, ap, _∙_, subst, arith, add-one, length, setAt, length-append, length-set, getD-set-same, getD-set-other}
+use Rattle.products.proofs.Terms.{Value, pair, set, Values, none, _▸_, count, weight, setOf, code, codes, Stands, EndsAt, Copied, ValueBelow, Made, Appended, Grown, cellsFrom, RunPre, PairPre, PairPut}
 use Rattle.arena.proofs.CodeLaws.{length-code, length-codes}
 use Rattle.arena.proofs.Standing.{stands-append, stands-frame, same-refl, same-trans, copied-stands}
 use Rattle.arena.proofs.FrontLaws.{single, value-end}
-use Rattle.products.specs.Growing.{Appended, Grown, cellsFrom, RunPre, PairPre, PairPut}
 
 -- Nothing, a cell, or a copied run, written behind what stands.
 pub nothing-stands : (s : List ℕ) (to : ℕ) → to ≤ length s → Stands s to []

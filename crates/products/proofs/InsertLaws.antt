@@ -1,27 +1,12 @@
 -- A value put among the rising members that stand in the arena. The members are passed while they are less (`Finding`); what stands from the
 -- place on is moved up, the last cell first (`Shifting`), and the value is copied into the gap (`inserts-put`).
-use Prim.Native.Nat.{ℕ, _+_, _-_, _≤_, _<_}
-use mathlib.Core.Bool.{Bool, true, false, cond}
-use mathlib.Core.List.{List, [], _∷_, _++_, append-nil}
-use mathlib.Core.Logic.{_↔_}
-use mathlib.Core.Path.{_≡_, refl, sym, ap, _∙_, subst}
-use native.Mathlib.Omega.{arith}
-use native.Mathlib.Decide.{ℕ-discrete}
-use borrow.Author.Tests.{eq-eqb, ne-eqb}
-use lib.Dec.{eqb}
-use lib.ListN.{length, getD, set as setAt, length-set}
-use lib.Seq.{getD-set-same, getD-set-other}
-use Rattle.rules.specs.Values.{Value, values, count, weight, weights, order}
-use Rattle.rules.specs.Operations.{insert, rising}
+use Rattle.products.proofs.Base.{ℕ, _+_, _-_, _≤_, _<_, Bool, true, false, cond, List, [], _∷_, _++_, append-nil, _↔_, _≡_, refl, sym, ap, _∙_, subst, arith, ℕ-discrete, eqb, length, getD, setAt, length-set, getD-set-same, getD-set-other}
+use Rattle.products.proofs.Terms.{Value, values, count, weight, weights, order, insert, rising, code, codes, Stands, ValueAt, Same, CellsFit, SomeAt, EndsAt, Compared, Copied, ValueBelow, StandBetween, lastOf, LastAt, BuiltParts, PlaceBetween, FindPre, InsertPre, MovedLast, Out, Place}
 use Rattle.laws.proofs.SetOrder.{Rising, insert-all}
 use Rattle.laws.proofs.CellsLaws.{weight-some}
-use Rattle.arena.specs.Code.{code, codes, Stands, ValueAt, Same, CellsFit, SomeAt, EndsAt, Compared, Copied, ValueBelow}
 use Rattle.arena.proofs.CodeLaws.{length-code, length-codes, fits-small}
 use Rattle.arena.proofs.Standing.{stands-front, stands-back, stands-append, stands-frame, same-refl, same-trans, copied-stands}
 use Rattle.arena.proofs.FrontLaws.{codes-append, count-append, weights-append, code-greater}
-use Rattle.products.specs.Parts.{StandBetween, lastOf, LastAt, BuiltParts, PlaceBetween, FindPre, InsertPre, movedLast}
-use Rattle.products.specs.declared.Out.{Out}
-use Rattle.products.specs.declared.Place.{Place}
 use Rattle.products.proofs.PartLaws.{insert-next, insert-here, insert-none, last-append, last-split, insert-last}
 
 -- `shift`: of m cells those from `left` on have been moved up by n.
@@ -149,13 +134,12 @@ last-behind : (last to : ℕ) (lo : List Value) (h : Value) (hs : List Value) �
 last-behind last to [] h hs = ((λ l. l), (λ l. l))
 last-behind last to (z ∷ lo) h hs = ((λ l. rw (last-append z lo h hs) at l), (λ l. rw (last-append z lo h hs) l))
 
-last-moved : (o : Out) (at n : ℕ) (v : Value) (lo hi : List Value) → LastAt (o .last) (o .to) (lo ++ hi) → o .to ≡ at + weights (values hi) →
-    n ≡ weight v → LastAt (movedLast at (o .to) (o .last) n) (o .to + n) (lo ++ (v ∷ hi))
-last-moved o at n v lo [] l e w =
-    last-behind (movedLast at (o .to) (o .last) n) (o .to + n) lo v [] .1 (rw (eq-eqb at (o .to) (omega arith)) (omega arith))
-last-moved o at n v lo (h ∷ hs) l e w =
-    let z = last-behind (o .last) (o .to) lo h hs .0 l in
-    last-behind (movedLast at (o .to) (o .last) n) (o .to + n) lo v (h ∷ hs) .1 (rw (ne-eqb at (o .to) (λ q. omega (arith, weight-some h))) (omega arith))
+last-moved : {at to last n r : ℕ} → MovedLast at to last n r → (v : Value) (lo hi : List Value) → LastAt last to (lo ++ hi) → to ≡ at + weights (values hi) →
+    n ≡ weight v → LastAt r (to + n) (lo ++ (v ∷ hi))
+last-moved {to = to} {n = n} {r} m v lo [] l e w = last-behind r (to + n) lo v [] .1 (omega (arith, m .behind (omega arith)))
+last-moved {to = to} {last} {n} {r} m v lo (h ∷ hs) l e w =
+    let z = last-behind last to lo h hs .0 l in
+    last-behind r (to + n) lo v (h ∷ hs) .1 (omega (arith, m .before (λ q. omega (arith, weight-some h))))
 
 -- What stands behind a copied run stays, and what is below it.
 module _ {s : List ℕ} {from n to : ℕ} {s′ : List ℕ} (c : Copied s from n to s′) where
@@ -218,7 +202,7 @@ module _ {s : List ℕ} {p end from : ℕ} {o : Out} (g : InsertPre s p end from
         (omega (arith, follows, length-codes (values (d .hi)))) (omega (arith, follows, g .room)) (omega (arith, g .below .below)) (g .below .stands)
         (rw e at (g .built .members .stands)))
 
-    pub inserts-put : q .equal ≡ false → (last : ℕ) → last ≡ movedLast (q .at) (o .to) (o .last) (end - p) →
+    pub inserts-put : q .equal ≡ false → (last : ℕ) → MovedLast (q .at) (o .to) (o .last) (end - p) last →
         Same from s s₂ × BuiltParts s₂ from (record { last = last; to = o .to + (end - p); count = o .count + 1 }) (insert v zs)
     inserts-put e last f =
         let b = g .built in
@@ -231,7 +215,7 @@ module _ {s : List ℕ} {p end from : ℕ} {o : Out} (g : InsertPre s p end from
               fits = insert-all CellsFit v zs (g .below .fits) (b .members .fits);
               ends = omega (arith, follows, d .at, ap (λ (l : List Value). weights (values l)) ins, weights-append (d .lo) (v ∷ d .hi));
             };
-            last = rw (ins, f) (last-moved o (q .at) (end - p) v (d .lo) (d .hi) (rw (d .all) at (b .last)) follows y);
+            last = rw ins (last-moved f v (d .lo) (d .hi) (rw (d .all) at (b .last)) follows y);
             counted = omega (
               arith,
               b .counted,

@@ -1,4 +1,6 @@
 -- Laws of values built in the arena.
+mod Base
+mod Terms
 pub mod GrowLaws
 pub mod ScalarLaws
 pub mod WalkLaws

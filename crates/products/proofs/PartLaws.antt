@@ -1,31 +1,21 @@
 -- Lists of parts. `insert` passes the members that are less than its value (`insert-behind`), so the first that is not less decides, and where
 -- the value is not less than the last member, that one does (`insert-last`). `rising` does not mind the order of a list (`rising-onto`).
-use Prim.Native.Nat.{ℕ, _+_, _≤_, _<_, Ordering, Ordering·lt, Ordering·eq, Ordering·gt}
-use mathlib.Core.Bool.{cond}
-use mathlib.Core.List.{List, [], _∷_, _++_, append-assoc}
-use mathlib.Core.Logic.{inl, inr}
-use mathlib.Core.Path.{_≡_, refl, sym, ap, _∙_, subst}
-use native.Mathlib.Omega.{arith}
-use lib.Dec.{eqb}
-use Rattle.rules.specs.Values.{Value, values, weight, weights, order}
-use Rattle.rules.specs.Operations.{placed, insert, rising}
+use Rattle.products.proofs.Base.{ℕ, _+_, _≤_, _<_, Ordering, Ordering·lt, Ordering·eq, Ordering·gt, cond, List, [], _∷_, _++_, append-assoc, inl, _≡_, refl, sym, ap, _∙_, subst, arith, eqb}
+use Rattle.products.proofs.Terms.{Value, values, weight, weights, order, placed, insert, rising, orderCode, lastOf}
 use Rattle.laws.proofs.OrderLaws.{flip, Small, order-flip, order-eq, before-order, order-before, before-trans}
 use Rattle.laws.proofs.SetOrder.{All, Before, Rising, all-imp, rising-all, rising-rising}
 use Rattle.laws.proofs.Membership.{In, all-in, all-self, in-right, in-rising, same-members}
-use Rattle.arena.specs.Code.{orderCode}
-use Rattle.products.specs.Parts.{lastOf}
 
 -- The weight of a list with one value more.
-placed-weighs : (o : Ordering) (v w : Value) (ws r : List Value) → weights (values r) ≤ weight v + weights (values ws) →
-    weights (values (placed o v w ws r)) ≤ weight v + (weight w + weights (values ws))
-placed-weighs Ordering·lt v w ws r h = omega arith
-placed-weighs Ordering·eq v w ws r h = omega arith
-placed-weighs Ordering·gt v w ws r h = omega arith
-
 pub insert-weighs : (v : Value) (ws : List Value) → weights (values (insert v ws)) ≤ weight v + weights (values ws)
 unfolding insert
 insert-weighs v [] = omega arith
-insert-weighs v (w ∷ ws) = placed-weighs (order v w) v w ws (insert v ws) (insert-weighs v ws)
+insert-weighs v (w ∷ ws) =
+    elim (order v w) as (λ o. weights (values (placed o v w ws (insert v ws))) ≤ weight v + (weight w + weights (values ws))) [
+      | Ordering·lt ↦ omega arith
+      | Ordering·eq ↦ omega arith
+      | Ordering·gt ↦ omega (arith, insert-weighs v ws)
+    ]
 
 -- `insert` where the first member decides.
 module _ (v w : Value) (ws : List Value) where
@@ -90,21 +80,17 @@ unfolding onto
 onto-all P [] ys h k = k
 onto-all P (x ∷ xs) ys h k = onto-all P xs (x ∷ ys) (h .1) (h .0, k)
 
-in-onto : (x : Value) (xs ys : List Value) → In x ys → In x (onto xs ys)
+all-onto : (P : Value → Type 0) (xs ys : List Value) → All P (onto xs ys) → All P xs × All P ys
 unfolding onto
-in-onto x [] ys i = i
-in-onto x (z ∷ xs) ys i = in-onto x xs (z ∷ ys) (inr i)
-
-onto-in : (xs ys : List Value) → All (λ x. In x (onto xs ys)) xs
-unfolding onto
-onto-in [] ys = tt
-onto-in (x ∷ xs) ys = (in-onto x xs (x ∷ ys) (inl refl), onto-in xs (x ∷ ys))
+all-onto P [] ys h = (tt, h)
+all-onto P (x ∷ xs) ys h = let r = all-onto P xs (x ∷ ys) h in ((r .1 .0, r .0), r .1 .1)
 
 -- Both have the same members.
 pub rising-onto : (xs : List Value) → All Small xs → rising (onto xs []) ≡ rising xs
 rising-onto xs h =
     same-members (rising (onto xs [])) (rising xs) (rising-rising (onto xs [])) (rising-rising xs)
-    (into (onto xs []) xs h (onto-all (λ x. In x xs) xs [] (all-self xs) tt)) (into xs (onto xs []) (onto-all Small xs [] h tt) (onto-in xs []))
+    (into (onto xs []) xs h (onto-all (λ x. In x xs) xs [] (all-self xs) tt))
+    (into xs (onto xs []) (onto-all Small xs [] h tt) (all-onto (λ x. In x (onto xs [])) xs [] (all-self (onto xs [])) .0))
   where
     into : (us ws : List Value) → All Small ws → All (λ x. In x ws) us → All (λ x. In x (rising ws)) (rising us)
     into us ws m c = rising-all (λ x. In x (rising ws)) us (all-imp (λ x. In x ws) (λ x. In x (rising ws)) (λ x i. in-rising x ws m i) us c)

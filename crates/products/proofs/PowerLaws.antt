@@ -1,35 +1,21 @@
 -- The power set in the arena: subsets by masks, one behind the other.
-use Prim.Native.Nat.{ℕ, _+_, _*_, _/_, _≤_, _<_}
-use mathlib.Core.List.{List, [], _∷_, _++_, map}
-use mathlib.Core.Path.{_≡_, refl, sym, ap, _∙_, subst}
-use native.Mathlib.Omega.{arith}
-use native.Mathlib.Decide.{decLt}
-use native.Mathlib.Numerals.{add-one}
-use borrow.Author.Tests.{lt-ltb, le-ltb}
-use lib.Dec.{ltb}
-use lib.ListN.{length, getD, drop, drop-of-length-le, set as setAt}
-use lib.Seq.{drop-cons}
-use Rattle.rules.specs.Values.{Value, Values, none, _▸_, members, values, count, weights}
-use Rattle.rules.specs.Operations.{setOf, rising, subsets, keptValue}
+use Rattle.products.proofs.Base.{ℕ, _+_, _*_, _/_, _≤_, _<_, List, [], _∷_, _++_, map, _≡_, refl, sym, ap, _∙_, subst, arith, decLt, add-one, ltb, length, getD, drop, drop-of-length-le, setAt, drop-cons}
+use Rattle.products.proofs.Terms.{Value, Values, none, _▸_, members, values, count, weights, setOf, rising, subsets, keptValue, code, codes, SetBelow, Made, Appended, Grown, SizeIs, Size, masks, CountsSubsets, subsetCounts, subsetFor, picked, MarkPre, Marks, SubsetPre, Subsets, AllPre, AllSubsets}
 use Rattle.laws.proofs.SetOrder.{all-at}
 use Rattle.laws.proofs.CellsLaws.{count-weights}
 use Rattle.laws.proofs.Membership.{values-members}
-use Rattle.arena.specs.Code.{code, codes, SetBelow, Made}
 use Rattle.arena.proofs.CodeLaws.{length-codes}
 use Rattle.arena.proofs.FrontLaws.{rises-rising, fit-small}
-use Rattle.products.specs.Growing.{Appended, Grown, SizeIs}
-use Rattle.products.specs.declared.Size.{Size}
-use Rattle.products.specs.Power.{masks, subsetCount, subsetCounts, subsetFor, picked, MarkPre, Marks, SubsetPre, Subsets, AllPre, AllSubsets}
 use Rattle.products.proofs.GrowLaws.{grown-step, grown-end, grown-left, made-set, made-heavy}
 use Rattle.products.proofs.SubsetLaws.{stand-frame, kept-codes}
 use Rattle.products.proofs.PowerOrder.{powers, power-rising, power-few, power-heavy}
 
 -- `subset_count`
-pub count-many : (n : ℕ) → 5 < n → 64 ≡ subsetCount n
-count-many n l = rw (lt-ltb 5 n l)
-
-pub count-few : (n : ℕ) → n ≤ 5 → (getD subsetCounts n 0 ≡ subsetCount n) × (getD subsetCounts n 0 ≤ 64)
-count-few n l = (rw (le-ltb 5 n l), all-at (λ k. k ≤ 64) subsetCounts 0 (omega arith) (omega arith) n)
+pub count-small : {n p : ℕ} → CountsSubsets n p → p ≤ 64
+count-small {n} {p} h = elim (decLt 5 n) [
+  | yes l ↦ omega (arith, h .many l)
+  | no l ↦ omega (arith, h .few (omega arith), all-at (λ k. k ≤ 64) subsetCounts 0 (omega arith) (omega arith) n)
+]
 
 -- `all_subsets`: the subsets for the masks from j on
 abbrev pub allFrom : ℕ → ℕ → Values → List ℕ
@@ -42,10 +28,6 @@ picked-next p j mask vs l e =
     let d : drop j masks ≡ mask ∷ drop (j + 1) masks = drop-cons masks j 0 l ∙ (cc (add-one j)) in
     ap (λ (ms : List ℕ). codes (values (picked p ms (members vs)))) d
     ∙ kept-codes (ltb mask p) (setOf (subsetFor mask (members vs))) (picked p (drop (j + 1) masks) (members vs))
-
-picked-over : (p j : ℕ) (vs : Values) → 32 ≤ j → allFrom p j vs ≡ []
-unfolding picked code
-picked-over p j vs l = ap (λ (ms : List ℕ). codes (values (picked p ms (members vs)))) (drop-of-length-le masks l)
 
 module _ {s₀ at : List ℕ} {n p to : ℕ} (g : AllPre s₀ at n p to) {s : List ℕ} (j : ℕ) {end : ℕ}
     (h : Grown s₀ to s end (allFrom p 0 (g .whole)) (allFrom p j (g .whole))) where
@@ -73,7 +55,8 @@ module _ {s₀ at : List ℕ} {n p to : ℕ} (g : AllPre s₀ at n p to) {s : Li
       (subst (λ (c : List ℕ). Grown s₀ to s end (allFrom p 0 (g .whole)) c) (picked-next p j mask (g .whole) l e) h) (put all-pre)
 
   pub all-end : 32 ≤ j → Appended s₀ to s end (codes (values (picked p masks (members (g .whole)))))
-  all-end l = grown-end (subst (λ (c : List ℕ). Grown s₀ to s end (allFrom p 0 (g .whole)) c) (picked-over p j (g .whole) l) h)
+  unfolding picked code
+  all-end l = grown-end (rw (drop-of-length-le masks l) at h)
 
 -- `power`
 pub members-count : (vs : Values) → length (members vs) ≡ count vs
@@ -81,7 +64,7 @@ members-count none = refl
 members-count (v ▸ vs) = omega (arith, members-count vs)
 
 -- The size of a set is known, and how many subsets it has.
-module _ {s : List ℕ} {a top : ℕ} {x : Size} {p : ℕ} (size : SizeIs s a x) (is : p ≡ subsetCount (x .members)) {vs : Values} (h : SetBelow s top a vs) where
+module _ {s : List ℕ} {a top : ℕ} {x : Size} {p : ℕ} (size : SizeIs s a x) (is : CountsSubsets (x .members) p) {vs : Values} (h : SetBelow s top a vs) where
   abbrev subsetsOf : List Value
   subsetsOf = rising (map setOf (subsets (members vs)))
 
@@ -94,7 +77,7 @@ module _ {s : List ℕ} {a top : ℕ} {x : Size} {p : ℕ} (size : SizeIs s a x)
   -- at most five members: the weight and the number of the subsets, and that the masks give them
   few-power : x .members ≤ 5 → (weights (values subsetsOf) ≡ p + p / 2 * x .cells) × (count (values subsetsOf) ≡ p) × (picked p masks (members vs) ≡ subsetsOf)
   few-power l =
-      let e : subsetCount (length (members vs)) ≡ p = ap subsetCount power-members ∙ sym is in
+      let e : getD subsetCounts (length (members vs)) 0 ≡ p = ap (λ (n : ℕ). getD subsetCounts n 0) power-members ∙ sym (is .few l) in
       let w : weights (values (members vs)) ≡ x .cells = ap weights (values-members vs) ∙ sym (size .cells top vs h) in
       rw (power-is, ← e, ← w) (power-few (members vs) (omega (arith, power-members)))
 
@@ -112,7 +95,7 @@ module _ {s : List ℕ} {a top : ℕ} {x : Size} {p : ℕ} (size : SizeIs s a x)
         go : Dec (5 < x .members) → x .members ≤ 5
         go (no l) = omega arith
         go (yes l) =
-            let z : p ≡ 64 = is ∙ sym (count-many (x .members) l) in
+            let z : p ≡ 64 = is .many l in
             let y : 1 + 64 + 64 / 2 * x .cells ≤ 256 = rw z at light in
             absurd (omega (arith, size .cells top vs h, size .front top vs h .counted, count-weights vs))
 

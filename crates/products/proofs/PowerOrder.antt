@@ -1,17 +1,9 @@
 -- The subsets of a rising list in rising order: by their number of members, then in the order of their members.
-use Prim.Native.Nat.{ℕ, zero, suc, _+_, _*_, _/_, _≤_, _<_, Ordering}
-use mathlib.Core.List.{List, [], _∷_, _++_, map}
-use mathlib.Core.Logic.{inl}
-use mathlib.Core.Path.{_≡_, refl, sym, ap, _∙_, subst}
-use native.Mathlib.Omega.{arith}
-use native.Mathlib.Decide.{ℕ-discrete}
-use lib.ListN.{length}
-use Rattle.rules.specs.Values.{Value, set, Values, _▸_, values, count, weights, order, _then_, keys}
-use Rattle.rules.specs.Operations.{setOf, rising, subsets}
+use Rattle.products.proofs.Base.{ℕ, zero, suc, _+_, _*_, _/_, _≤_, _<_, Ordering, List, [], _∷_, _++_, map, inl, _≡_, refl, sym, ap, _∙_, subst, arith, ℕ-discrete, length, getD}
+use Rattle.products.proofs.Terms.{Value, set, Values, _▸_, values, count, weights, order, _then_, keys, setOf, rising, subsets, masks, subsetCounts, picked}
 use Rattle.rules.proofs.Basics.{all-both}
 use Rattle.laws.proofs.OrderLaws.{Small, order-refl, order-before, before-order, lt-compare, compare-refl, key-delimited}
 use Rattle.laws.proofs.SetOrder.{All, Before, Rising, all-imp, all-map, all-append, rising-all, rising-rising, subsets-all}
-use Rattle.products.specs.Power.{masks, subsetCount, picked}
 use Rattle.laws.proofs.CellsLaws.{weight-some}
 use Rattle.laws.proofs.Membership.{In, all-in, in-left, in-right, in-map, in-rising, same-members, small-sets, nil-subset}
 
@@ -197,9 +189,9 @@ more-heavy (suc k) v vs =
 
 -- Five members or fewer: the weight and the number of the subsets, and that the masks give them in order.
 pub power-few : (vs : List Value) → length vs ≤ 5 →
-    (weigh (powers (length vs) vs) ≡ subsetCount (length vs) + subsetCount (length vs) / 2 * weights (values vs)) ×
-    (count (values (map setOf (powers (length vs) vs))) ≡ subsetCount (length vs)) ×
-    (picked (subsetCount (length vs)) masks vs ≡ map setOf (powers (length vs) vs))
+    (weigh (powers (length vs) vs) ≡ getD subsetCounts (length vs) 0 + getD subsetCounts (length vs) 0 / 2 * weights (values vs)) ×
+    (count (values (map setOf (powers (length vs) vs))) ≡ getD subsetCounts (length vs) 0) ×
+    (picked (getD subsetCounts (length vs) 0) masks vs ≡ map setOf (powers (length vs) vs))
 unfolding powers picked
 power-few [] l = (refl, refl, refl)
 power-few (a ∷ []) l = (omega arith, refl, refl)

@@ -1,15 +1,6 @@
 -- Sets of scalars whose cells follow one another as numbers: elements of a given set, truths, integers.
-use Prim.Native.Nat.{ℕ, zero, suc, _+_, _*_, _-_, _≤_, _<_}
-use mathlib.Core.Bool.{Bool, true, false, cond}
-use mathlib.Core.List.{List, [], _∷_}
-use mathlib.Core.Path.{_≡_, refl, sym, ap, _∙_}
-use native.Mathlib.Omega.{arith}
-use lib.Dec.{ltb, ltb→lt, nltb→le}
-use lib.IntN.{ℤ, pos, negsuc, sucℤ, subℕ, _+ℤ_, _-ℤ_, +ℤ-one}
-use Rattle.rules.specs.Values.{int, truthValue, values, count, weights}
-use Rattle.rules.specs.Operations.{setOf, upFrom, toCount, elementsFrom}
-use Rattle.arena.specs.Code.{excess, code, codes, CellsFit, Made}
-use Rattle.products.specs.Growing.{cellsFrom, PutsRun, Intervals}
+use Rattle.products.proofs.Base.{ℕ, zero, suc, _+_, _*_, _-_, _≤_, _<_, Bool, true, false, cond, List, _≡_, refl, sym, ap, _∙_, arith, ltb, ltb→lt, nltb→le, ℤ, pos, negsuc, sucℤ, subℕ, _+ℤ_, _-ℤ_, +ℤ-one}
+use Rattle.products.proofs.Terms.{int, values, count, weights, setOf, upFrom, toCount, elementsFrom, excess, code, codes, CellsFit, Made, cellsFrom, PutsRun, Intervals}
 use Rattle.products.proofs.GrowLaws.{made-heavy}
 
 pub elements-cells : (g k n : ℕ) → codes (values (elementsFrom g k n)) ≡ cellsFrom (12884901888 + 256 * g + k) n
@@ -25,14 +16,10 @@ unfolding elementsFrom
 elements-count g k zero = refl
 elements-count g k (suc n) = omega (arith, elements-count g (suc k) n)
 
-pub elements-made : (s : List ℕ) (g n top : ℕ) (s′ : List ℕ) (r : ℕ) → PutsRun s (12884901888 + 256 * g) n top s′ r → Made top s s′ (setOf (elementsFrom g 0 n)) r
-elements-made s g n top s′ r put =
+pub elements-made : (s s′ : List ℕ) (g n top r : ℕ) → PutsRun s (12884901888 + 256 * g) n top s′ r → Made top s s′ (setOf (elementsFrom g 0 n)) r
+elements-made s s′ g n top r put =
     let z : 12884901888 + 256 * g + 0 ≡ 12884901888 + 256 * g = omega arith in
     put (values (elementsFrom g 0 n)) (elements-count g 0 n) (elements-cells g 0 n ∙ rw z)
-
-pub booleans-cells : codes (values (truthValue false ∷ truthValue true ∷ [])) ≡ cellsFrom 8589934592 2
-unfolding code cellsFrom
-booleans-cells = refl
 
 -- Integers no less than −2^31.
 abbrev Low : ℤ → Type 0

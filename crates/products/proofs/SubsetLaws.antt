@@ -1,23 +1,10 @@
 -- Subsets in the arena: where the members begin is found once (`Marking`); the members whose bits a mask has are copied one behind the other
 -- (`SubsetAt`). In both rest is what is left of the members.
-use Prim.Native.Nat.{ℕ, _+_, _-_, _/_, _%_, _≤_, _<_}
-use mathlib.Core.Bool.{Bool, true, false, cond}
-use mathlib.Core.List.{List, [], _++_, append-nil}
-use mathlib.Core.Path.{_≡_, refl, _∙_, subst}
-use native.Mathlib.Omega.{arith}
-use borrow.Author.Tests.{lt-ltb, le-ltb}
-use lib.Dec.{eqb, ltb}
-use lib.ListN.{length, getD, set as setAt, length-set}
-use lib.Seq.{getD-set-same, getD-set-other}
-use Rattle.rules.specs.Values.{Value, Values, none, _▸_, members, values, count, weight, weights}
-use Rattle.rules.specs.Operations.{setOf, keptValue}
+use Rattle.products.proofs.Base.{ℕ, _+_, _-_, _/_, _%_, _≤_, _<_, Bool, true, false, cond, List, [], _++_, append-nil, _≡_, refl, _∙_, subst, arith, lt-ltb, le-ltb, eqb, ltb, length, getD, setAt, length-set, getD-set-same, getD-set-other}
+use Rattle.products.proofs.Terms.{Value, Values, none, _▸_, members, values, count, weight, weights, setOf, keptValue, code, codes, Same, EndsAt, Copied, Front, Appended, Grown, subsetFor, AddPre, Added, StandAt, MarkPre, SubsetPre, Subsets, Out}
 use Rattle.laws.proofs.CellsLaws.{count-weights}
-use Rattle.arena.specs.Code.{code, codes, Same, SomeAt, EndsAt, Copied, Front}
 use Rattle.arena.proofs.CodeLaws.{length-code, length-codes}
-use Rattle.arena.proofs.FrontLaws.{single, front-value, front-next, front-below, front-some, value-frame}
-use Rattle.products.specs.Growing.{Appended, Grown}
-use Rattle.products.specs.Power.{subsetFor, AddPre, Added, StandAt, MarkPre, SubsetPre, Subsets}
-use Rattle.products.specs.declared.Out.{Out}
+use Rattle.arena.proofs.FrontLaws.{single, front-value, front-next, front-below, value-frame}
 use Rattle.products.proofs.GrowLaws.{appended-none, appended-copy, grown-start, grown-step, grown-end, grown-left, appended-set}
 
 -- What stands below a frame stays.
@@ -43,9 +30,6 @@ module _ {s : List ℕ} {a n : ℕ} (g : MarkPre s a n) {at : List ℕ} where
   }
 
   module _ {j : ℕ} where
-    pub marking-some : (rest : Values) × Marking g at j rest → j < n → SomeAt s (getD at j 0)
-    marking-some (rest, h) l = front-some s (g .top) (getD at j 0) (n - j) rest (h .front) (omega arith)
-
     pub marking-end : (rest : Values) × Marking g at j rest → n ≤ j → StandAt s at (g .top) 0 (g .whole)
     marking-end (none, h) l = h .leads at (λ k q. refl) tt
     marking-end (w ▸ ws, h) l = absurd (omega (arith, h .front .counted))

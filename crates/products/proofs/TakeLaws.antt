@@ -1,24 +1,14 @@
 -- `parts`: the pass over the pairs of a set. What has been built is `rising` of the parts so far (`Taking`); each turn puts the part of one pair more.
-use Prim.Native.Nat.{ℕ, _+_, _-_, _%_, _≤_, _<_}
-use mathlib.Core.Bool.{Bool, true, false}
-use mathlib.Core.List.{List, [], _∷_, map}
-use mathlib.Core.Path.{_≡_, refl, ap, _∙_}
-use native.Mathlib.Omega.{arith}
-use lib.ListN.{getD, set as setAt}
-use Rattle.rules.specs.Values.{Value, scalar, pair, set, Values, none, _▸_, members, values, count, weight, weights}
-use Rattle.rules.specs.Operations.{setOf, rising}
+use Rattle.products.proofs.Base.{ℕ, _+_, _-_, _%_, _≤_, _<_, Bool, true, false, List, [], _∷_, map, _≡_, refl, ap, _∙_, arith, getD, setAt}
+use Rattle.products.proofs.Terms.{Value, scalar, pair, set, Values, none, _▸_, members, values, count, weight, weights, setOf, rising, codes, Same, SomeAt, EndsAt, ValueBelow, Made, Front, AllPairs, Appended, part, chosen, PartsPre, BuiltParts, InsertPre, Inserts, Out}
 use Rattle.laws.proofs.OrderLaws.{Small}
 use Rattle.laws.proofs.SetOrder.{all-map}
 use Rattle.laws.proofs.Membership.{left-small, right-small}
 use Rattle.laws.proofs.CellsLaws.{count-weights}
-use Rattle.arena.specs.Code.{codes, Same, SomeAt, EndsAt, ValueBelow, Made, Front, AllPairs}
 use Rattle.arena.proofs.CodeLaws.{length-codes}
 use Rattle.arena.proofs.Standing.{same-refl, same-trans}
 use Rattle.arena.proofs.ValueParts.{left-stands, right-stands}
 use Rattle.arena.proofs.FrontLaws.{fit-small, front-start, front-next, front-below, value-frame, value-some, value-end}
-use Rattle.products.specs.Growing.{Appended}
-use Rattle.products.specs.Parts.{part, chosen, PartsPre, BuiltParts, InsertPre, Inserts}
-use Rattle.products.specs.declared.Out.{Out}
 use Rattle.products.proofs.GrowLaws.{nothing-stands, made-set}
 use Rattle.products.proofs.PartLaws.{insert-weighs, onto, rising-onto}
 
@@ -36,18 +26,10 @@ module _ {s : List ℕ} {top i : ℕ} {x y : Value} (h : ValueBelow s top i (pai
   pair-ends : (m e : ℕ) → EndsAt s (i + 1) m → EndsAt s m e → e ≡ i + weight (pair x y)
   pair-ends m e f g = omega (arith, value-end s (top + 1) (i + 1) m x first-below f, value-end s (top + 1) m e y (second-below m f) g)
 
-  part-below : (b : Bool) (m e : ℕ) → EndsAt s (i + 1) m → EndsAt s m e →
-      ValueBelow s (top + 1) (chosen b (i + 1) m) (part b (pair x y)) × EndsAt s (chosen b (i + 1) m) (chosen b m e)
-  part-below false m e f g = (first-below, f)
-  part-below true m e f g = (second-below m f, g)
-
-part-lighter : (b : Bool) (x y : Value) → weight (part b (pair x y)) ≤ weight (pair x y)
-part-lighter false x y = omega arith
-part-lighter true x y = omega arith
-
-part-small : (b : Bool) (v : Value) → Small v → Small (part b v)
-part-small false v h = left-small v h
-part-small true v h = right-small v h
+  part-below : (b : Bool) (m e : ℕ) → EndsAt s (i + 1) m → EndsAt s m e → ValueBelow s (top + 1) (chosen b (i + 1) m) (part b (pair x y)) ×
+      EndsAt s (chosen b (i + 1) m) (chosen b m e) × (weight (part b (pair x y)) ≤ weight (pair x y))
+  part-below false m e f g = (first-below, f, omega arith)
+  part-below true m e f g = (second-below m f, g, omega arith)
 
 -- The parts of the members before `rest` have been put; `done` has them, the last one first.
 pub record Taking (b : Bool) {s₀ : List ℕ} {a top : ℕ} (g : PartsPre s₀ a top) (s : List ℕ) (left i : ℕ) (o : Out) (rest : Values) : Type 0 where
@@ -87,8 +69,9 @@ module _ {b : Bool} {s₀ : List ℕ} {a top : ℕ} (g : PartsPre s₀ a top) wh
     unfolding onto
     taking-end (none, h) l =
         let small = fit-small (g .pairs) (g .whole .fine .fits .1) in
-        let e : rising (h .done) ≡ rising (map (part b) (members (g .pairs))) =
-        ap rising (h .all) ∙ rising-onto (map (part b) (members (g .pairs))) (all-map Small Small (part b) (part-small b) (members (g .pairs)) small) in
+        let parts = all-map Small Small (part b)
+        (λ v k. elim b as (λ c. Small (part c v)) [ false ↦ left-small v k | true ↦ right-small v k ]) (members (g .pairs)) small in
+        let e : rising (h .done) ≡ rising (map (part b) (members (g .pairs))) = ap rising (h .all) ∙ rising-onto (map (part b) (members (g .pairs))) parts in
         let m = h .built .members in
         let c : Appended s₀ (top + 1) s (o .to) (codes (values (rising (h .done)))) =
         record { frame = h .frame; stands = m .stands; ends = omega (arith, m .ends, length-codes (values (rising (h .done)))) } in
@@ -145,7 +128,7 @@ module _ {b : Bool} {s₀ : List ℕ} {a top : ℕ} (g : PartsPre s₀ a top) wh
                 pairs = q .pairs .1;
                 done = part b (pair x y) ∷ q .done;
                 all = q .all;
-                light = omega (arith, q .light, insert-weighs (part b (pair x y)) (rising (q .done)), part-lighter b x y);
+                light = omega (arith, q .light, insert-weighs (part b (pair x y)) (rising (q .done)), part-below v b m e ends ends′ .2);
                 frame = same-trans (top + 1) (top + 1) s₀ s s′ (q .frame) (d .0) (omega arith);
                 built = d .1;
               } in

@@ -1,17 +1,8 @@
 -- Walking the members of sets, and the pairs of one value or of a set's members with those of another.
-use Prim.Native.Nat.{ℕ, _+_, _*_, _-_, _%_, _≤_, _<_}
-use mathlib.Core.List.{List, [], _++_, map}
-use mathlib.Core.Path.{_≡_, refl, sym, ap, _∙_}
-use native.Mathlib.Omega.{arith}
-use native.Mathlib.Nat.{mul-le-mul-right}
-use lib.ListN.{length, getD, length-append, set as setAt}
-use Rattle.rules.specs.Values.{Value, pair, Values, none, _▸_, members, count, weight, weights}
-use Rattle.rules.specs.Operations.{setOf, pairsOf}
-use Rattle.arena.specs.Code.{code, codes, SomeAt, EndsAt, SetBelow, SetAt, Made, Front}
+use Rattle.products.proofs.Base.{ℕ, _+_, _*_, _-_, _%_, _≤_, _<_, List, [], _++_, map, _≡_, refl, sym, ap, _∙_, arith, mul-le-mul-right, length, getD, length-append, setAt}
+use Rattle.products.proofs.Terms.{Value, pair, Values, none, _▸_, members, count, weight, weights, setOf, pairsOf, code, codes, SomeAt, EndsAt, SetBelow, SetAt, Made, Front, Size, Appended, Grown, PairPre, PairPut, pairsWith, RowPre, Rows, square, SquarePre, Squares, FewCells, SmallProducts, SizeIs, productWeight}
 use Rattle.arena.proofs.CodeLaws.{length-codes}
 use Rattle.arena.proofs.FrontLaws.{codes-append, count-append, weights-append, front-start, front-value, front-next, front-below, front-some, front-frame, value-frame, set-end, set-cells}
-use Rattle.products.specs.declared.Size.{Size}
-use Rattle.products.specs.Growing.{Appended, Grown, PairPre, PairPut, pairsWith, RowPre, Rows, square, SquarePre, Squares, FewCells, SizeIs, productWeight}
 use Rattle.products.proofs.GrowLaws.{grown-step, grown-end, grown-left, made-set}
 use Rattle.laws.proofs.CellsLaws.{count-weights}
 
@@ -32,7 +23,7 @@ module _ {F : Values → List ℕ} {s₀ : List ℕ} {top : ℕ} {vs : Values} {
   pub walk-some : WalkAt F s₀ top vs to s i left at → 0 < left → SomeAt s i
   walk-some (rest, h) l = front-some s top i left rest (walk-front h) l
 
-  walk-end : WalkAt F s₀ top vs to s i left at → left ≤ 0 → F none ≡ [] → Appended s₀ to s at (F vs)
+  pub walk-end : WalkAt F s₀ top vs to s i left at → left ≤ 0 → F none ≡ [] → Appended s₀ to s at (F vs)
   walk-end (none, h) l e = grown-end (rw e at (h .grown))
   walk-end (w ▸ us, h) l e = absurd (omega (arith, h .front .counted))
 
@@ -63,33 +54,27 @@ row-sizes x (w ▸ ws) = let h = row-sizes x ws in omega arith
 abbrev pub RowAt : {s₀ : List ℕ} {v k b m to : ℕ} → RowPre s₀ v k b m to → List ℕ → ℕ → ℕ → ℕ → Type 0
 RowAt {s₀} {v} {k} {b} {m} {to} g s i left at = WalkAt (λ us. codes (pairsWith (g .first) us)) s₀ (g .top) (g .others) to s i left at
 
-module _ {s₀ : List ℕ} {v k b m to : ℕ} (g : RowPre s₀ v k b m to) where
-  module _ {s : List ℕ} {i left at : ℕ} where
-    pub row-end : RowAt g s i left at → left ≤ 0 → Appended s₀ to s at (codes (pairsWith (g .first) (g .others)))
-    unfolding code
-    row-end h l = walk-end h l refl
+module _ {s₀ : List ℕ} {v k b m to : ℕ} (g : RowPre s₀ v k b m to) {s : List ℕ} {i left at : ℕ} (e : ℕ) (ends : EndsAt s i e) where
+  pub row-pair : RowAt g s i left at → 0 < left → PairPre s v k i (e - i) at
+  row-pair (none, h) l = absurd (omega (arith, h .front .counted))
+  row-pair (w ▸ us, h) l =
+      let x = g .first in
+      let d = h .grown .appended in
+      let q = grown-left (h .grown) in
+      let z = walk-ends e ends h in
+      record {
+        left = omega (arith, g .value .below, g .weighs, h .behind, d .ends);
+        right = omega (arith, h .front .below, h .behind, d .ends);
+        room = omega (arith, length-codes (pairsWith x (g .others)), length-codes (pairsWith x (w ▸ us)), g .weighs, g .room, d .frame .kept);
+      }
 
-    module _ (e : ℕ) (ends : EndsAt s i e) where
-      pub row-pair : RowAt g s i left at → 0 < left → PairPre s v k i (e - i) at
-      row-pair (none, h) l = absurd (omega (arith, h .front .counted))
-      row-pair (w ▸ us, h) l =
-          let x = g .first in
-          let d = h .grown .appended in
-          let q = grown-left (h .grown) in
-          let z = walk-ends e ends h in
-          record {
-            left = omega (arith, g .value .below, g .weighs, h .behind, d .ends);
-            right = omega (arith, h .front .below, h .behind, d .ends);
-            room = omega (arith, length-codes (pairsWith x (g .others)), length-codes (pairsWith x (w ▸ us)), g .weighs, g .room, d .frame .kept);
-          }
-
-      pub row-next : RowAt g s i left at → 0 < left → (s′ : List ℕ) (r : ℕ) → PairPut s v k i (e - i) at s′ r → RowAt g s′ e (left - 1) r
-      unfolding code
-      row-next (none, h) l s′ r put = absurd (omega (arith, h .front .counted))
-      row-next (w ▸ us, h) l s′ r put =
-          let there = value-frame to s₀ s (g .top) v (g .first) (h .grown .appended .frame) (h .behind) (g .value) .stands in
-          walk-next e ends h refl
-          (put (g .first) w there (front-value s (g .top) i left w us (walk-front h)) (g .weighs) (omega (arith, walk-ends e ends h)))
+  pub row-next : RowAt g s i left at → 0 < left → (s′ : List ℕ) (r : ℕ) → PairPut s v k i (e - i) at s′ r → RowAt g s′ e (left - 1) r
+  unfolding code
+  row-next (none, h) l s′ r put = absurd (omega (arith, h .front .counted))
+  row-next (w ▸ us, h) l s′ r put =
+      let there = value-frame to s₀ s (g .top) v (g .first) (h .grown .appended .frame) (h .behind) (g .value) .stands in
+      walk-next e ends h refl
+      (put (g .first) w there (front-value s (g .top) i left w us (walk-front h)) (g .weighs) (omega (arith, walk-ends e ends h)))
 
 -- The pairs of the members of two sets.
 square-codes : (v : Value) (vs ws : Values) → codes (square (v ▸ vs) ws) ≡ codes (pairsWith v ws) ++ codes (square vs ws)
@@ -111,34 +96,28 @@ square-sizes (v ▸ vs) ws =
 abbrev pub SquareAt : {s₀ : List ℕ} {a n b m to : ℕ} → SquarePre s₀ a n b m to → List ℕ → ℕ → ℕ → ℕ → Type 0
 SquareAt {s₀} {a} {n} {b} {m} {to} g s i left at = WalkAt (λ us. codes (square us (g .rights))) s₀ (g .top) (g .lefts) to s i left at
 
-module _ {s₀ : List ℕ} {a n b m to : ℕ} (g : SquarePre s₀ a n b m to) where
-  module _ {s : List ℕ} {i left at : ℕ} where
-    pub square-end : SquareAt g s i left at → left ≤ 0 → Appended s₀ to s at (codes (square (g .lefts) (g .rights)))
-    unfolding code pairsOf
-    square-end h l = walk-end h l refl
+module _ {s₀ : List ℕ} {a n b m to : ℕ} (g : SquarePre s₀ a n b m to) {s : List ℕ} {i left at : ℕ} (e : ℕ) (ends : EndsAt s i e) where
+  pub square-row : SquareAt g s i left at → 0 < left → RowPre s i (e - i) b m at
+  square-row (none, h) l = absurd (omega (arith, h .front .counted))
+  square-row (w ▸ us, h) l =
+      let d = h .grown .appended in
+      let q = grown-left (h .grown) in
+      let k = ap length (square-codes w us (g .rights)) ∙ length-append (codes (pairsWith w (g .rights))) (codes (square us (g .rights))) in
+      record {
+        top = g .top;
+        first = w;
+        others = g .rights;
+        value = front-below s (g .top) i left w us (walk-front h);
+        weighs = omega (arith, walk-ends e ends h);
+        front = front-frame to s₀ s (g .top) b m (g .rights) (d .frame) (g .behind) (g .others);
+        behind = omega (arith, d .ends, g .behind);
+        room = omega (arith, length-codes (square (g .lefts) (g .rights)), length-codes (pairsWith w (g .rights)), g .room, d .frame .kept);
+      }
 
-    module _ (e : ℕ) (ends : EndsAt s i e) where
-      pub square-row : SquareAt g s i left at → 0 < left → RowPre s i (e - i) b m at
-      square-row (none, h) l = absurd (omega (arith, h .front .counted))
-      square-row (w ▸ us, h) l =
-          let d = h .grown .appended in
-          let q = grown-left (h .grown) in
-          let k = ap length (square-codes w us (g .rights)) ∙ length-append (codes (pairsWith w (g .rights))) (codes (square us (g .rights))) in
-          record {
-            top = g .top;
-            first = w;
-            others = g .rights;
-            value = front-below s (g .top) i left w us (walk-front h);
-            weighs = omega (arith, walk-ends e ends h);
-            front = front-frame to s₀ s (g .top) b m (g .rights) (d .frame) (g .behind) (g .others);
-            behind = omega (arith, d .ends, g .behind);
-            room = omega (arith, length-codes (square (g .lefts) (g .rights)), length-codes (pairsWith w (g .rights)), g .room, d .frame .kept);
-          }
-
-      pub square-next : SquareAt g s i left at → 0 < left → (s′ : List ℕ) (r : ℕ) → Rows s i (e - i) b m at s′ r → SquareAt g s′ e (left - 1) r
-      unfolding square-row
-      square-next (none, h) l s′ r put = absurd (omega (arith, h .front .counted))
-      square-next (w ▸ us, h) l s′ r put = walk-next e ends h (square-codes w us (g .rights)) (put (square-row (w ▸ us, h) l))
+  pub square-next : SquareAt g s i left at → 0 < left → (s′ : List ℕ) (r : ℕ) → Rows s i (e - i) b m at s′ r → SquareAt g s′ e (left - 1) r
+  unfolding square-row
+  square-next (none, h) l s′ r put = absurd (omega (arith, h .front .counted))
+  square-next (w ▸ us, h) l s′ r put = walk-next e ends h (square-codes w us (g .rights)) (put (square-row (w ▸ us, h) l))
 
 -- `size_of`
 pub size-is : {s : List ℕ} {a e n : ℕ} → SetAt s a → EndsAt s a e → n ≡ getD s a 0 % 4294967296 → SizeIs s a (record { members = n; cells = e - a - 1 })
@@ -154,12 +133,16 @@ size-is {s} {a} {e} {n} g ends low =
 pub small-product : {n m : ℕ} → n ≤ 255 → m ≤ 255 → n * m ≤ 65025
 small-product {n} {m} p q = omega (arith, mul-le-mul-right m p)
 
-pub small-products : {x y : Size} → FewCells x → FewCells y →
-    (x .members * y .members ≤ 65025) × (y .members * x .cells ≤ 65025) × (x .members * y .cells ≤ 65025)
-small-products f g = (small-product (f .members) (g .members), small-product (g .members) (f .cells), small-product (f .members) (g .cells))
+pub small-products : {x y : Size} → FewCells x → FewCells y → SmallProducts x y
+small-products f g = record {
+  pairs = small-product (f .members) (g .members);
+  firsts = small-product (g .members) (f .cells);
+  seconds = small-product (f .members) (g .cells);
+}
 
 -- `product`
-module _ {s : List ℕ} {top a b : ℕ} {x y : Size} (p : SizeIs s a x) (q : SizeIs s b y) {vs ws : Values} (h : SetBelow s top a vs) (k : SetBelow s top b ws) where
+module _ {s : List ℕ} {top a b : ℕ} {x y : Size} (p : SizeIs s a x) (q : SizeIs s b y) {vs ws : Values} (h : SetBelow s top a vs)
+    (k : SetBelow s top b ws) where
   -- the weight of the members
   pub product-weighs : weights (square vs ws) ≡ x .members * y .members + y .members * x .cells + x .members * y .cells
   product-weighs = square-sizes vs ws .1 ∙ rw (p .front top vs h .counted, q .front top ws k .counted, p .cells top vs h, q .cells top ws k)

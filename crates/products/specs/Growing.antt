@@ -101,6 +101,12 @@ pub record SizeIs (s : List ℕ) (a : ℕ) (x : Size) : Type 0 where
   pub front : (top : ℕ) (vs : Values) → SetBelow s top a vs → Front s top (a + 1) (x .members) vs
   pub cells : (top : ℕ) (vs : Values) → SetBelow s top a vs → x .cells ≡ weights vs
 
+-- The products of such numbers are small.
+pub record SmallProducts (x y : Size) : Type 0 where
+  pub pairs : x .members * y .members ≤ 65025
+  pub firsts : y .members * x .cells ≤ 65025
+  pub seconds : x .members * y .cells ≤ 65025
+
 abbrev pub productWeight : Size → Size → ℕ
 productWeight x y = 1 + x .members * y .members + y .members * x .cells + x .members * y .cells
 

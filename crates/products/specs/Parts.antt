@@ -4,7 +4,6 @@ use Prim.Native.Nat.{ℕ, _+_, _≤_}
 use mathlib.Core.Bool.{Bool, true, false, cond}
 use mathlib.Core.List.{List, [], _∷_, _++_, map}
 use mathlib.Core.Path.{_≡_}
-use lib.Dec.{eqb}
 use lib.ListN.{length}
 use Rattle.rules.specs.Values.{Value, Values, members, values, count, weight, weights}
 use Rattle.rules.specs.Operations.{left, right, setOf, insert, rising}
@@ -92,6 +91,7 @@ FindsPlace s p end from o r = (g : InsertPre s p end from o) → PlaceBetween (g
 abbrev pub Inserts : List ℕ → ℕ → ℕ → ℕ → Out → List ℕ → Out → Type 0
 Inserts s p end from o s′ r = (g : InsertPre s p end from o) → Same from s s′ × BuiltParts s′ from r (insert (g .value) (rising (g .others)))
 
--- Where the last member stands after one of n cells has been put at `at` among members that ended at `to`.
-abbrev pub movedLast : ℕ → ℕ → ℕ → ℕ → ℕ
-movedLast at to last n = cond (eqb at to) at (last + n)
+-- r is where the last member stands after one of n cells has been put at `at` among members that ended at `to`.
+pub record MovedLast (at to last n r : ℕ) : Type 0 where
+  pub behind : at ≡ to → r ≡ at
+  pub before : (at ≡ to → ⊥) → r ≡ last + n

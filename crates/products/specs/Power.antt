@@ -1,5 +1,5 @@
 -- The power set of a set of at most five members: its subsets as bits.
-use Prim.Native.Nat.{ℕ, _+_, _-_, _/_, _%_, _≤_}
+use Prim.Native.Nat.{ℕ, _+_, _-_, _/_, _%_, _≤_, _<_}
 use mathlib.Core.Bool.{Bool, cond}
 use mathlib.Core.List.{List, [], _∷_, map}
 use mathlib.Core.Path.{_≡_}
@@ -19,12 +19,13 @@ abbrev pub masks : List ℕ
 masks =
     0 ∷ 1 ∷ 2 ∷ 4 ∷ 8 ∷ 16 ∷ 3 ∷ 5 ∷ 9 ∷ 17 ∷ 6 ∷ 10 ∷ 18 ∷ 12 ∷ 20 ∷ 24 ∷ 7 ∷ 11 ∷ 19 ∷ 13 ∷ 21 ∷ 25 ∷ 14 ∷ 22 ∷ 26 ∷ 28 ∷ 15 ∷ 23 ∷ 27 ∷ 29 ∷ 30 ∷ 31 ∷ []
 
--- The number of subsets of n members; 64 for more than five.
+-- r is the number of subsets of n members; 64 for more than five.
 abbrev pub subsetCounts : List ℕ
 subsetCounts = 1 ∷ 2 ∷ 4 ∷ 8 ∷ 16 ∷ 32 ∷ []
 
-abbrev pub subsetCount : ℕ → ℕ
-subsetCount n = cond (ltb 5 n) 64 (getD subsetCounts n 0)
+pub record CountsSubsets (n r : ℕ) : Type 0 where
+  pub many : 5 < n → r ≡ 64
+  pub few : n ≤ 5 → r ≡ getD subsetCounts n 0
 
 -- The members whose bits m has.
 unfoldable pub subsetFor : ℕ → List Value → List Value

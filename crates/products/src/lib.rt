@@ -7,9 +7,9 @@ ghost use lib.ListN.{length, getD};
 ghost use Rattle.rules.specs.Values.{truthValue};
 ghost use Rattle.rules.specs.Operations.{setOf, elementsFrom};
 ghost use Rattle.arena.specs.Code.{SomeSet, SetAt, SomeValue, SomeRelation, Made, Copied};
-ghost use Rattle.products.specs.Growing.{PutsCell, RunPre, PutsRun, Singles, PutsPair, PairPre, PairPut, Intervals, RowPre, Rows, SquarePre, Squares, FewCells, SizeIs, productWeight, Multiplies};
-ghost use Rattle.products.specs.Parts.{PartsPre, TakesParts, Domains, Ranges, chosen, FindPre, Finds, InsertPre, FindsPlace, Inserts, movedLast};
-ghost use Rattle.products.specs.Power.{Powers, masks, subsetCount, AddPre, Added, MarkPre, Marks, SubsetPre, Subsets, AllPre, AllSubsets};
+ghost use Rattle.products.specs.Growing.{PutsCell, RunPre, PutsRun, Singles, PutsPair, PairPre, PairPut, Intervals, RowPre, Rows, SquarePre, Squares, SmallProducts, SizeIs, productWeight, Multiplies};
+ghost use Rattle.products.specs.Parts.{PartsPre, TakesParts, Domains, Ranges, chosen, FindPre, Finds, InsertPre, FindsPlace, Inserts, MovedLast};
+ghost use Rattle.products.specs.Power.{Powers, masks, CountsSubsets, AddPre, Added, MarkPre, Marks, SubsetPre, Subsets, AllPre, AllSubsets};
 
 // The cells of the heaviest value, beside numbers of members.
 const MOST: u64 = arena::HEAVIEST as u64;
@@ -168,7 +168,7 @@ fn size_of(s: &[u64], a: usize) -> Size
 
 // The weight of the product of two sets.
 fn product_weight(x: Size, y: Size) -> u64
-    requires { ⌜ FewCells x × FewCells y ⌝ }
+    requires { ⌜ SmallProducts x y ⌝ }
     ensures { λ r. ⌜ r ≡ productWeight x y ⌝ }
 {
     let n = x.members;
@@ -260,7 +260,7 @@ fn shift(s: &mut [u64], from: usize, m: usize, n: usize)
 // Where the last member stands after one of n cells has been put at `at` among members that ended at `to`.
 fn moved_last(at: usize, to: usize, last: usize, n: usize) -> usize
     requires { ⌜ last + n < 18446744073709551616 ⌝ }
-    ensures { λ r. ⌜ r ≡ movedLast at to last n ⌝ }
+    ensures { λ r. ⌜ MovedLast at to last n r ⌝ }
 {
     if at == to {
         return at;
@@ -438,7 +438,7 @@ const SUBSET_COUNTS: [u64; 6] = [1, 2, 4, 8, 16, 32];
 
 // The number of subsets of n members; 64 for more than five.
 fn subset_count(n: u64) -> u64
-    ensures { λ r. ⌜ (r ≡ subsetCount n) × (r ≤ 64) ⌝ }
+    ensures { λ r. ⌜ CountsSubsets n r ⌝ }
 {
     if n > 5 {
         return 64;

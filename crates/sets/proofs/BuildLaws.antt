@@ -1,30 +1,14 @@
 -- Building a set: members one behind the other, and the walk that merges two sets.
-use Prim.Native.Nat.{ℕ, _+_, _-_, _≤_, _<_, Ordering, Ordering·lt, Ordering·eq, Ordering·gt}
-use mathlib.Core.Bool.{Bool, true, false, cond}
-use mathlib.Core.List.{List, [], _∷_, _++_, append-assoc, append-nil}
-use mathlib.Core.Logic.{_⊎_, inl, inr}
-use mathlib.Core.Path.{_≡_, refl, sym, ap, _∙_, subst}
-use native.Mathlib.Omega.{arith}
-use lib.ListN.{length, set as setAt, length-set}
-use lib.Seq.{getD-set-same, getD-set-other}
-use Rattle.rules.specs.Values.{Value, Values, none, _▸_, members, values, count, weights, order}
-use Rattle.rules.specs.Operations.{keptValue, setOf}
+use Rattle.sets.proofs.Base.{ℕ, _+_, _-_, _≤_, _<_, Ordering, Ordering·lt, Ordering·eq, Ordering·gt, Bool, true, false, cond, List, [], _∷_, _++_, append-assoc, append-nil, _⊎_, inl, inr, _≡_, refl, sym, ap, _∙_, subst, arith, decLt, length, setAt, length-set, getD-set-same, getD-set-other}
+use Rattle.sets.proofs.Terms.{Value, Values, none, _▸_, members, values, count, weights, order, keptValue, setOf, code, codes, Stands, ValueAt, Same, Copied, Front, Turn, Out, Walk, Rest, merged, keepOf, firstOf, restLeft, restRight, TurnAt, TwoRuns, RunEnds, Cells, BuiltTo, PutPre, PutBehind, RestThere, Merging, StepPre, Stepped, RestOf, EndPre, Ended, RunsMerge, Walking}
 use Rattle.laws.proofs.Membership.{values-members}
 use Rattle.laws.proofs.CellsLaws.{count-weights}
-use Rattle.arena.specs.Code.{code, codes, Stands, ValueAt, Same, Copied, Front}
 use Rattle.arena.proofs.CodeLaws.{length-codes}
 use Rattle.arena.proofs.Standing.{stands-append, stands-frame, copied-stands, same-refl, same-trans}
 use Rattle.arena.proofs.FrontLaws.{codes-append, count-append, weights-append, single, front-frame}
-use Rattle.sets.specs.declared.Turn.{Turn}
-use Rattle.sets.specs.declared.Out.{Out}
-use Rattle.sets.specs.declared.Walk.{Walk}
-use Rattle.sets.specs.declared.Rest.{Rest}
-use Rattle.sets.specs.Merged.{merged}
-use Rattle.sets.specs.Fronts.{keepOf, firstOf, restLeft, restRight, TurnAt, TwoFronts, TwoRuns, RunEnds, Cells, BuiltTo, PutPre, PutBehind, RestThere}
-use Rattle.sets.specs.Fronts.{Merging, StepPre, Stepped, RestOf, EndPre, Ended, RunsMerge, Walking}
 use Rattle.sets.proofs.MergedLaws.{merged-nil, merged-turn}
 use Rattle.sets.proofs.SearchLaws.{no-front, by-fronts}
-use Rattle.sets.proofs.TurnLaws.{two-fronts, turn-fewer}
+use Rattle.sets.proofs.TurnLaws.{turn-fewer}
 
 -- A cell stored above what is looked at.
 pub store-frame : (s : List ℕ) {k : ℕ} (to x : ℕ) → k ≤ to → Same k s (setAt s to x)
@@ -112,37 +96,33 @@ module _ {l e r : Bool} {s s′ : List ℕ} {w : Walk} {t : Turn} {o : Out} {top
       by-fronts (λ vs xs. whole ≡ h .done ++ merged l e r (members vs) (members xs) → Merging l e r s′ top (after t o) whole) step-done (h .onLeft)
       (h .onRight) i j (h .all)
 
-module _ {l e r : Bool} {s : List ℕ} {w : Walk} (h : StepPre l e r s w) where
-  pub step-two : TwoFronts s (w .a) (w .m) (w .b) (w .n)
-  step-two = two-fronts (h .merging .onLeft) (h .merging .onRight) (h .moreLeft) (h .moreRight)
+module _ {l e r : Bool} {s : List ℕ} {w : Walk} (h : StepPre l e r s w) {t : Turn} (turn : TurnAt s (w .a) (w .m) (w .b) (w .n) l e r t) where
+  -- what a turn takes, and how many members are left
+  step-took : (t .from ≤ t .end) × (t .end ≤ w .to) × (t .end - t .from ≤ 256) × (t .m + t .n < w .m + w .n)
+  step-took =
+      by-fronts (λ _ _. (t .from ≤ t .end) × (t .end ≤ w .to) × (t .end - t .from ≤ 256) × (t .m + t .n < w .m + w .n))
+      (λ v vs x xs f g. let d = turn (h .top) v vs x xs f g in (
+        omega (arith, d .ends),
+        omega (arith, d .ends, d .value .below, h .merging .built .ends),
+        omega (arith, d .ends, d .value .light),
+        omega (arith, turn-fewer s (h .top) l e r (order v x) v vs x xs t d, f .counted, g .counted),
+      )) (h .merging .onLeft) (h .merging .onRight) (h .moreLeft) (h .moreRight)
 
-  module _ {t : Turn} (turn : TurnAt s (w .a) (w .m) (w .b) (w .n) l e r t) where
-    -- what a turn takes, and how many members are left
-    step-took : (t .from ≤ t .end) × (t .end ≤ w .to) × (t .end - t .from ≤ 256) × (t .m + t .n < w .m + w .n)
-    step-took =
-        by-fronts (λ _ _. (t .from ≤ t .end) × (t .end ≤ w .to) × (t .end - t .from ≤ 256) × (t .m + t .n < w .m + w .n))
-        (λ v vs x xs f g. let d = turn (h .top) v vs x xs f g in (
-          omega (arith, d .ends),
-          omega (arith, d .ends, d .value .below, h .merging .built .ends),
-          omega (arith, d .ends, d .value .light),
-          omega (arith, turn-fewer s (h .top) l e r (order v x) v vs x xs t d, f .counted, g .counted),
-        )) (h .merging .onLeft) (h .merging .onRight) (h .moreLeft) (h .moreRight)
+  pub step-put : PutPre s (t .from) (t .end) 1 (outOf w)
+  step-put = record {
+    forward = step-took .0;
+    behind = step-took .1;
+    room = omega (arith, h .room, step-took .2);
+    few = omega (arith, h .near, h .merging .built .ends, h .merging .built .counted, count-weights (values (h .merging .done)));
+  }
 
-    pub step-put : PutPre s (t .from) (t .end) 1 (outOf w)
-    step-put = record {
-      forward = step-took .0;
-      behind = step-took .1;
-      room = omega (arith, h .room, step-took .2);
-      few = omega (arith, h .near, h .merging .built .ends, h .merging .built .counted, count-weights (values (h .merging .done)));
-    }
-
-    pub step-returns : {s′ : List ℕ} {o : Out} → PutBehind (t .keep) s (t .from) (t .end) 1 (outOf w) s′ o → Stepped l e r s w s′ (after t o)
-    step-returns p = record {
-      frame = p .frame;
-      near = omega (arith, p .near, step-took .2);
-      fewer = step-took .3;
-      on = λ top whole m. step-on turn p m (h .moreLeft) (h .moreRight);
-    }
+  pub step-returns : {s′ : List ℕ} {o : Out} → PutBehind (t .keep) s (t .from) (t .end) 1 (outOf w) s′ o → Stepped l e r s w s′ (after t o)
+  step-returns p = record {
+    frame = p .frame;
+    near = omega (arith, p .near, step-took .2);
+    fewer = step-took .3;
+    on = λ top whole m. step-on turn p m (h .moreLeft) (h .moreRight);
+  }
 
 -- `finish`
 
@@ -171,27 +151,6 @@ end-heavy {l} {r} {s} {w} {top} g b whole h = record {
   heavy = λ k. refl;
 }
 
--- All members of a run, or none.
-front-if : {s : List ℕ} {top at n : ℕ} {vs : Values} (k : Bool) → Front s top at n vs → Front s top at (cond k n 0) (cond k vs none)
-unfolding code
-front-if true f = f
-front-if false f = record {
-  stands = record { inside = omega (arith, f .stands .inside); cells = λ i l. absurd (omega arith) };
-  counted = refl;
-  below = omega (arith, f .below);
-  fits = tt;
-  rises = tt;
-  light = omega arith;
-}
-
-cells-if : {s : List ℕ} {at n : ℕ} (k : Bool) → Cells s at n → Cells s at (cond k n 0)
-cells-if true c = c
-cells-if false c = record { inside = omega (arith, c .inside); each = λ i l. absurd (omega arith) }
-
-members-if : (k : Bool) (vs : Values) → members (cond k vs none) ≡ cond k (members vs) []
-members-if true vs = refl
-members-if false vs = refl
-
 -- What is kept of the set that is not exhausted is all that is left to merge.
 record Rested (s : List ℕ) (top : ℕ) (w : Walk) (q : Rest) (done whole : List Value) : Type 0 where
   pub rest : Values
@@ -209,23 +168,32 @@ module _ {l r : Bool} {s : List ℕ} {w : Walk} {top : ℕ} {cells : Bool} (p : 
   right-over k = elim (p .over) [ inl z ↦ absurd (omega arith) | inr y ↦ elim y [ inl z ↦ z | inr z ↦ absurd (omega arith) ] ]
 
   rested : (e : Bool) (whole : List Value) (h : Merging l e r s top w whole) → Rested s top w q (h .done) whole
-  rested e whole h = elim rest [
-    | inl x ↦
-        let z = no-front (λ vs. members vs ≡ []) refl (h .onRight) (omega (arith, right-over (x .0))) in
-        kept l (x .1) (h .onLeft) (λ c. c .0) (h .all ∙ rw (z, merged-nil l e r (members (h .left))))
-    | inr x ↦
-        let z = no-front (λ vs. members vs ≡ []) refl (h .onLeft) (omega (arith, x .0)) in
-        kept r (x .1) (h .onRight) (λ c. c .1) (h .all ∙ rw (z, merged-none l e r (members (h .right))))
+  unfolding code
+  rested e whole h = elim (decLt 0 (w .m)) [
+    | yes k ↦
+        let z = no-front (λ vs. members vs ≡ []) refl (h .onRight) (omega (arith, right-over k)) in
+        kept l (rest .left k) (h .onLeft) (λ c. c .0) (h .all ∙ rw (z, merged-nil l e r (members (h .left))))
+    | no k ↦
+        let z = no-front (λ vs. members vs ≡ []) refl (h .onLeft) (omega arith) in
+        kept r (rest .right (omega arith)) (h .onRight) (λ c. c .1) (h .all ∙ rw (z, merged-none l e r (members (h .right))))
   ]
     where
-      kept : (k : Bool) {at n : ℕ} {vs : Values} → q ≡ record { at = at; n = cond k n 0 } → Front s top at n vs →
+      kept : (k : Bool) {at n : ℕ} {vs : Values} → (q .at ≡ at) × (q .n ≡ cond k n 0) → Front s top at n vs →
           (Cells s (w .a) (w .m) × Cells s (w .b) (w .n) → Cells s at n) → whole ≡ h .done ++ cond k (members vs) [] → Rested s top w q (h .done) whole
-      kept k {vs = vs} d f c x = subst (λ (z : Rest). Rested s top w z (h .done) whole) (sym d) (record {
-        rest = cond k vs none;
-        front = front-if k f;
-        all = x ∙ rw (members-if k vs);
-        thin = λ y. cells-if k (c y);
-      })
+      kept true {vs = vs} d f c x = record { rest = vs; front = rw (d .0, d .1) f; all = x; thin = λ y. rw (d .0, d .1) (c y) }
+      kept false d f c x = record {
+        rest = none;
+        front = rw (d .0, d .1) (record {
+          stands = record { inside = omega (arith, f .stands .inside); cells = λ i l. absurd (omega arith) };
+          counted = refl;
+          below = omega (arith, f .below);
+          fits = tt;
+          rises = tt;
+          light = omega arith;
+        });
+        all = x;
+        thin = λ y. rw (d .0, d .1) (record { inside = omega (arith, c y .inside); each = λ i l. absurd (omega arith) });
+      }
 
   some-rest : Rested s top w q (p .merging .done) (p .whole)
   some-rest = rested (p .both) (p .whole) (p .merging)

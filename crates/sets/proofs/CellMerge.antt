@@ -1,63 +1,37 @@
 -- The merge of two sets whose members are one cell each. A cell that is stored is a value put behind what has been built, or it lies
 -- behind it (`cell-put`); so a turn at two cells is a turn of the merge (`merge-step`). What comes before the other set's first cell is
 -- so many turns on one side (`taken`), with which the merge begins (`merge-start`).
-use Prim.Native.Nat.{ℕ, zero, suc, _+_, _*_, _-_, _≤_, _<_, Ordering·lt, Ordering·gt}
-use mathlib.Core.Bool.{Bool, true, false, cond}
-use mathlib.Core.List.{List, [], _∷_, _++_, append-assoc}
-use mathlib.Core.Logic.{_⊎_, inl, inr}
-use mathlib.Core.Path.{_≡_, refl, sym, ap, _∙_, subst}
-use native.Mathlib.Omega.{arith}
-use native.Mathlib.Decide.{decLt}
-use lib.Dec.{leb}
-use lib.ListN.{length, getD, set as setAt, length-set}
-use lib.Seq.{getD-set-same, getD-set-other}
-use borrow.Author.Tests.{le-leb, lt-leb}
-use mir.Val.{boolByte}
-use Rattle.rules.specs.Values.{Value, Values, none, _▸_, members, count, weight, weights, order}
-use Rattle.rules.specs.Operations.{keptValue}
+use Rattle.sets.proofs.Base.{ℕ, zero, suc, _+_, _*_, _-_, _≤_, _<_, Ordering·lt, Ordering·gt, Bool, true, false, cond, List, [], _∷_, _++_, append-assoc, _⊎_, inl, inr, _≡_, refl, sym, ap, _∙_, subst, arith, decLt, length, getD, setAt, length-set, getD-set-same, getD-set-other, le-leb, lt-leb, boolByte}
+use Rattle.sets.proofs.Terms.{Value, Values, none, _▸_, members, count, weight, weights, order, keptValue, code, codes, ValuesAt, Same, EndsAt, Front, Out, Walk, CellTurn, merged, TurnAt, Cells, PutPre, PutBehind, Merging, EndPre, Walking, CellTurned, RowsBelow, Ahead, RowMerge}
 use Rattle.laws.proofs.CellsLaws.{count-weights}
 use Rattle.laws.proofs.OrderLaws.{flip, order-flip, lt-compare}
-use Rattle.arena.specs.Code.{code, codes, ValuesAt, Same, EndsAt, Front}
 use Rattle.arena.proofs.CodeLaws.{length-code, length-codes}
 use Rattle.arena.proofs.Standing.{stands-append, stands-frame, same-refl, same-trans}
 use Rattle.arena.proofs.FrontLaws.{front-value, front-next, front-frame}
 use Rattle.arena.proofs.EvenLaws.{cell-order, cell-less, cell-equal, cell-greater}
-use Rattle.sets.specs.declared.Out.{Out}
-use Rattle.sets.specs.declared.Walk.{Walk}
-use Rattle.sets.specs.declared.CellTurn.{CellTurn}
-use Rattle.sets.specs.Merged.{merged}
-use Rattle.sets.specs.Fronts.{TurnAt, Cells, PutPre, PutBehind, Merging, EndPre, Ended, RunsMerge, Walking}
-use Rattle.sets.specs.Rows.{Kept, CellTurned, RowsBelow, Ahead, RowMerge}
 use Rattle.sets.proofs.MergedLaws.{merged-turn}
 use Rattle.sets.proofs.TurnLaws.{turn-less, turn-equal, turn-greater, byte-small}
-use Rattle.sets.proofs.BuildLaws.{store-frame, put-kept, put-none, built-none, step-on, walking-made, walking-end}
+use Rattle.sets.proofs.BuildLaws.{store-frame, put-kept, put-none, built-none, step-on, walking-end}
 use Rattle.sets.proofs.RowLaws.{cells-part, cells-first, cells-frame, cells-weigh}
 
--- `cell_turn`, from the lesser of both cells and whether it is kept.
-pub turn-cells : {l e r : Bool} {x y c k : ℕ} → (x ≤ y → c ≡ x) × (y < x → c ≡ y) → Kept l e r x y k →
-    CellTurned l e r x y (record { cell = c; keep = k; left = boolByte (leb x y); right = boolByte (leb y x) })
-turn-cells {l} {e} {r} {x} {y} {c} {k} h d = go (decLt x y) (decLt y x)
-  where
-    go : Dec (x < y) → Dec (y < x) → CellTurned l e r x y (record { cell = c; keep = k; left = boolByte (leb x y); right = boolByte (leb y x) })
-    go (yes p) q = inl (p, cc (h .0 (omega arith), d .less p, le-leb x y (omega arith), lt-leb y x p))
-    go (no n) (yes q) = inr (inr (q, cc (h .1 q, d .greater q, lt-leb x y q, le-leb y x (omega arith))))
-    go (no n) (no m) =
-        let z : x ≡ y = omega arith in inr (inl (z, cc (h .0 (omega arith), d .equal z, le-leb x y (omega arith), le-leb y x (omega arith))))
-
 -- What holds of a turn in each case.
-module _ (l e r : Bool) (x y : ℕ) (P : CellTurn → Type 0) (f : x < y → P (record { cell = x; keep = boolByte l; left = 1; right = 0 }))
-    (g : x ≡ y → P (record { cell = x; keep = boolByte e; left = 1; right = 1 }))
-    (h : y < x → P (record { cell = y; keep = boolByte r; left = 0; right = 1 })) where
-  by-turn : {u : CellTurn} → CellTurned l e r x y u → P u
-  by-turn (inl d) = subst P (sym (d .1)) (f (d .0))
-  by-turn (inr (inl d)) = subst P (sym (d .1)) (g (d .0))
-  by-turn (inr (inr d)) = subst P (sym (d .1)) (h (d .0))
+module _ (l e r : Bool) (x y : ℕ) (P : ℕ → ℕ → ℕ → ℕ → Type 0) (f : x < y → P x (boolByte l) 1 0) (g : x ≡ y → P x (boolByte e) 1 1)
+    (h : y < x → P y (boolByte r) 0 1) where
+  by-turn : {u : CellTurn} → CellTurned l e r x y u → P (u .cell) (u .keep) (u .left) (u .right)
+  by-turn {u} d = go (decLt x y) (decLt y x)
+    where
+      go : Dec (x < y) → Dec (y < x) → P (u .cell) (u .keep) (u .left) (u .right)
+      go (yes p) q = rw (d .lesser .0 (omega arith), d .kept .less p, d .left, le-leb x y (omega arith), d .right, lt-leb y x p) (f p)
+      go (no n) (yes q) = rw (d .lesser .1 q, d .kept .greater q, d .left, lt-leb x y q, d .right, le-leb y x (omega arith)) (h q)
+      go (no n) (no m) =
+          let z : x ≡ y = omega arith in
+          rw (d .lesser .0 (omega arith), d .kept .equal z, d .left, le-leb x y (omega arith), d .right, le-leb y x (omega arith)) (g z)
 
 -- At most one cell further in each set, and further in one.
 pub turn-moves : (l e r : Bool) (x y : ℕ) {u : CellTurn} → CellTurned l e r x y u →
     (u .left ≤ 1) × (u .right ≤ 1) × (0 < u .left + u .right) × (u .keep ≤ 1)
 turn-moves l e r x y =
-    by-turn l e r x y (λ u. (u .left ≤ 1) × (u .right ≤ 1) × (0 < u .left + u .right) × (u .keep ≤ 1))
+    by-turn l e r x y (λ _ k i j. (i ≤ 1) × (j ≤ 1) × (0 < i + j) × (k ≤ 1))
     (λ d. (omega arith, omega arith, omega arith, byte-small l)) (λ d. (omega arith, omega arith, omega arith, byte-small e))
     (λ d. (omega arith, omega arith, omega arith, byte-small r))
 
@@ -97,10 +71,6 @@ record Taken (k : Bool) (M : List Value → List Value) (s : List ℕ) (top at n
   pub weighs : p ≡ weights first
   pub front : Front s top (at + p) (n - p) rest
   pub all : M (members vs) ≡ cond k (members first) [] ++ M (members rest)
-
-kept-cond : (k : Bool) (v : Value) (xs zs : List Value) → keptValue k v (cond k xs [] ++ zs) ≡ cond k (v ∷ xs) [] ++ zs
-kept-cond true v xs zs = refl
-kept-cond false v xs zs = refl
 
 module _ (k : Bool) (M : List Value → List Value → List Value)
     (turn : (x y : Value) (xs ys : List Value) → order x y ≡ Ordering·lt → M (x ∷ xs) (y ∷ ys) ≡ keptValue k x (M xs (y ∷ ys)))
@@ -146,7 +116,7 @@ module _ (k : Bool) (M : List Value → List Value → List Value)
         counted = omega (arith, t .counted);
         weighs = omega (arith, t .weighs, one);
         front = rw (let z : at + suc p ≡ at + 1 + p = omega arith in z, let z : m - suc p ≡ m - 1 - p = omega arith in z) (t .front);
-        all = turn v y (members vs) (members ys) first ∙ rw (t .all) (kept-cond k v (members (t .first)) (M (members (t .rest)) (y ∷ members ys)));
+        all = turn v y (members vs) (members ys) first ∙ rw (t .all) (elim k [ true ↦ refl | false ↦ refl ]);
       }
 
 -- Both fronts, and where the merge goes on.
@@ -272,7 +242,7 @@ module _ {l e r : Bool} {s₀ : List ℕ} {a m b n top : ℕ} {s : List ℕ} {i 
         RowMerge l e r s₀ a m b n top (setAt s to (u .cell)) (i + u .left) (j + u .right) (to + u .keep)
     merge-step =
         let x = merge-inside in
-        by-turn l e r (getD s i 0) (getD s j 0) (λ u. RowMerge l e r s₀ a m b n top (setAt s to (u .cell)) (i + u .left) (j + u .right) (to + u .keep))
+        by-turn l e r (getD s i 0) (getD s j 0) (λ c k p q. RowMerge l e r s₀ a m b n top (setAt s to c) (i + p) (j + q) (to + k))
         (λ d. rw (let z : j + 0 ≡ j = omega arith in z)
         (next l (x .0) (omega arith, omega arith, omega arith, omega arith, omega arith) (turn-less (cell-less s i j ends′ d) ends refl (omega arith))))
         (λ d. next e (x .0) (omega arith, omega arith, omega arith, omega arith, omega arith)
@@ -282,16 +252,13 @@ module _ {l e r : Bool} {s₀ : List ℕ} {a m b n top : ℕ} {s : List ℕ} {i 
         (turn-greater (cell-greater s i j ends′ d) ends ends′ (omega arith) (λ z. omega arith) (λ z. omega arith))))
 
   -- The end of the merge.
-  abbrev last : Walk
+  abbrev pub last : Walk
   last = record { a = i; m = a + m - i; b = j; n = b + n - j; to = to; count = to - top - 1 }
 
-  last-walking : Walking l e r s₀ a m b n top s last
+  pub last-walking : Walking l e r s₀ a m b n top s last
   last-walking = rw (let z : to - top - 1 ≡ h .count = omega (arith, h .countIs) in z) (h .walking)
 
   pub merge-end : (a + m ≤ i) ⊎ (b + n ≤ j) → EndPre l r s last top true
   merge-end o =
       walking-end last-walking (h .below .rows .runs) (h .below .room)
       (elim o [ inl z ↦ inl (omega arith) | inr z ↦ inr (inl (omega arith)) ]) λ _. (left-cells, right-cells)
-
-  pub merge-made : {s′ : List ℕ} {k : ℕ} → Ended l r s last top s′ k → RunsMerge l e r s₀ a m b n top s′ k
-  merge-made = walking-made last-walking

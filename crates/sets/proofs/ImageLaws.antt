@@ -1,30 +1,18 @@
 -- Relations in the arena. Whether no pair shares its first part with the next one is decided by the pairs that are left (`Checking`); what is found is
 -- an application (`image-found`). Pairs of two values of one cell each are three cells: the order of the first parts of two neighbours is that of their
--- cells (`cells-order`), so that the first parts make a row (`pair-row`), and e is one where its cell is in the row (`pair-none`, `pair-found`).
-use Prim.Native.Nat.{ℕ, _+_, _-_, _%_, _≤_, _<_, Ordering·lt, Ordering·eq, Ordering·gt, suc, _*_, compare}
-use mathlib.Core.Bool.{Bool, true, false}
-use mathlib.Core.List.{List}
-use mathlib.Core.Path.{_≡_, refl, sym, ap, _∙_, subst}
-use native.Mathlib.Omega.{arith}
-use lib.Dec.{isEq}
-use lib.ListN.{length, getD}
-use Rattle.rules.specs.Values.{Value, pair, set, Values, none, _▸_, members, weight, order, same}
-use Rattle.rules.specs.Operations.{left, right}
+-- cells (`cells-order`), so that the first parts make a row (`pair-row`), and e is one where its cell is in the row (`flat-none`, `flat-found`).
+use Rattle.sets.proofs.Base.{ℕ, _+_, _-_, _%_, _≤_, _<_, Ordering·lt, Ordering·eq, Ordering·gt, suc, _*_, compare, Bool, true, false, List, _≡_, refl, sym, ap, _∙_, subst, arith, isEq, length, getD, inl, inr}
+use Rattle.sets.proofs.Terms.{Value, pair, set, Values, none, _▸_, members, weight, order, same, left, right, ValueAt, orderCode, SomeAt, EndsAt, Compared, SetBelow, SomeValue, ValueBelow, Front, IsPair, AllPairs, SomeRelation, cellSize, AllWeigh, EvenSet, Member, newFirsts, SomePairs, Relation, WithinSet, Applies, PairSought, IsFunction, FlatPairs, SomeFlat, Row}
 use Rattle.laws.proofs.OrderLaws.{then-lt, order-pair, before-order, compare-lt, compare-eq, compare-refl}
 use Rattle.laws.proofs.SetOrder.{All}
 use Rattle.laws.proofs.Membership.{all-in, In, in-all}
-use Rattle.arena.specs.Code.{ValueAt, orderCode, SomeAt, EndsAt, Compared, SetBelow, SomeValue, ValueBelow, Front, IsPair, AllPairs, SomeRelation, cellSize, AllWeigh, EvenSet}
 use Rattle.arena.proofs.CodeLaws.{length-codes}
 use Rattle.arena.proofs.ValueParts.{left-stands, right-stands, scalar-cell, scalar-one}
 use Rattle.arena.proofs.FrontLaws.{front-start, front-value, front-next, code-equal, front-below}
-use Rattle.sets.specs.Fronts.{Member, MemberOrNone}
-use Rattle.sets.specs.Pairs.{newFirsts, SomePairs, Relation, WithinSet, Applies, PairSought, IsFunction, FlatPairs, SomeFlat}
 use Rattle.sets.proofs.PairLaws.{on-pair, applied-none, applied-shared, applied-found}
 use Rattle.sets.proofs.SearchLaws.{sought-some, sought-none, key-stands, by-front, no-front}
-use mathlib.Core.Logic.{inl, inr}
 use Rattle.laws.proofs.CellsLaws.{weight-some}
 use Rattle.arena.proofs.EvenLaws.{weights-even, value-at, cell-order}
-use Rattle.sets.specs.Rows.{Row, Found}
 use Rattle.sets.proofs.RowLaws.{climb, neighbours, place-of, same-cell, cell-tells}
 
 -- What is shown of two pairs and the rest is shown of pairs, if there are two.
@@ -37,11 +25,7 @@ by-two {s} {top} {i} {n} P k (v ▸ w ▸ ws) f h l =
     on-pair (λ x. Front s top i n (x ▸ w ▸ ws) → P (x ▸ w ▸ ws))
     (λ a b. on-pair (λ y. Front s top i n (pair a b ▸ y ▸ ws) → P (pair a b ▸ y ▸ ws)) (λ c d. k a b c d ws) w (h .1 .0)) v (h .0) f
 
--- Whether two values are the same, by their order.
-same-of : (a c : Value) → order a c ≡ Ordering·eq → same a c ≡ true
-unfolding same
-same-of a c e = rw e
-
+-- Two values that differ, by their order.
 other-of : (a c : Value) → (order a c ≡ Ordering·eq → ⊥) → same a c ≡ false
 unfolding same
 other-of a c =
@@ -71,9 +55,10 @@ module _ {Q : Values → Type 0} {s : List ℕ} {top : ℕ} {vs : Values} {i lef
 
     pub checking-shared : ((a b c d : Value) (ws : Values) → Front s top i left (pair a b ▸ pair c d ▸ ws) → Q (pair a b ▸ pair c d ▸ ws) →
         order a c ≡ Ordering·eq) → false ≡ newFirsts (members vs)
+    unfolding same
     checking-shared o =
         checking-two (λ ws. Q ws → newFirsts (members vs) ≡ newFirsts (members ws) → false ≡ newFirsts (members vs))
-        (λ a b c d ws f k q. sym (q ∙ rw (same-of a c (o a b c d ws f k)))) (h .known) (h .result)
+        (λ a b c d ws f k q. sym (q ∙ rw (o a b c d ws f k))) (h .known) (h .result)
 
     pub checking-next : (k : ℕ) → ((a b c d : Value) (ws : Values) → Front s top i left (pair a b ▸ pair c d ▸ ws) → Q (pair a b ▸ pair c d ▸ ws) →
         (order a c ≡ Ordering·eq → ⊥) × (k ≡ i + weight (pair a b)) × Q (pair c d ▸ ws)) → Checking Q s top vs k (left - 1)
@@ -265,7 +250,7 @@ relation-flat r e = let q = r .relation in (_, _, front-start _ _ _ _ (q .1) _ (
 -- `pair_with`: the cell of e is looked for in the row of first parts.
 module _ {s : List ℕ} {e : ℕ} {v : Value} (value : ValueBelow s (length s) e v) {top at n : ℕ} {vs : Values} (f : Front s top at n vs)
     (flat : FlatPairs vs) where
-  flat-none : ((i : ℕ) → i < n → getD s (at + 1 + 3 * i) 0 ≡ getD s e 0 → ⊥) → All (λ w. left w ≡ v → ⊥) (members vs)
+  pub flat-none : ((i : ℕ) → i < n → getD s (at + 1 + 3 * i) 0 ≡ getD s e 0 → ⊥) → All (λ w. left w ≡ v → ⊥) (members vs)
   flat-none d = in-all (λ w. left w ≡ v → ⊥) (members vs) λ w j q.
       let x = place-of s top 3 FlatPairs three-each w at n vs f flat j in
       let i = x .0 in
@@ -274,7 +259,7 @@ module _ {s : List ℕ} {e : ℕ} {v : Value} (value : ValueBelow s (length s) e
       (subst (λ (j : ℕ). ValueAt s j v) (let z : at + 3 * i + 1 ≡ at + 1 + 3 * i = omega arith in z) (rw (← q) (left-stands s (at + 3 * i) a b h)))
       (value .stands)) w (all-in IsPair w (members vs) (all-pairs vs (flat .1)) j) q (x .2))
 
-  flat-found : (i : ℕ) → i < n → getD s (at + 1 + 3 * i) 0 ≡ getD s e 0 → Member s top at true v (members vs) (at + 3 * i)
+  pub flat-found : (i : ℕ) → i < n → getD s (at + 1 + 3 * i) 0 ≡ getD s e 0 → Member s top at true v (members vs) (at + 3 * i)
   flat-found i l q =
       value-at s top at n 3 (λ ws. FlatPairs ws × ((x : Value) → In x (members ws) → In x (members vs)))
       (λ w ws h. let x = three-each w ws (h .0) in (x .0, (x .1, λ y j. h .1 y (inr j))))
@@ -288,10 +273,3 @@ module _ {s : List ℕ} {e : ℕ} {v : Value} (value : ValueBelow s (length s) e
         behind = b;
         value = front-below s top j m w ws g;
       }) vs f (flat, λ x j. j) i l (omega arith) (ap (λ (j : ℕ). getD s j 0) (let z : at + 3 * i + 1 ≡ at + 1 + 3 * i = omega arith in z) ∙ q)
-
-  module _ {k : ℕ} (found : Found s (at + 1) 3 n (getD s e 0) k) where
-    pub pair-none : k ≡ n → MemberOrNone s top at true v (members vs) 0
-    pair-none z = inr (refl, flat-none (found .lost z))
-
-    pub pair-found : (k ≡ n → ⊥) → MemberOrNone s top at true v (members vs) (at + 3 * k)
-    pair-found z = let l : k < n = omega (arith, found .few) in inl (flat-found k l (found .here l))

@@ -1,4 +1,6 @@
 -- Laws of sets in the arena.
+mod Base
+mod Terms
 pub mod MergedLaws
 pub mod PairLaws
 pub mod SearchLaws

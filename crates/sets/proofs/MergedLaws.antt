@@ -1,17 +1,8 @@
 -- Merging rising lists is union, intersection and difference: those of the rules (`union-merged`, `inter-merged`, `diff-merged`).
-use Prim.Native.Nat.{Ordering, Ordering·lt, Ordering·eq, Ordering·gt}
-use mathlib.Core.Bool.{Bool, true, false, cond, not, _||_}
-use mathlib.Core.List.{List, [], _∷_, _++_}
-use mathlib.Core.Path.{_≡_, refl, sym, ap, _∙_, subst}
-use lib.Dec.{isEq}
-use Rattle.rules.specs.Values.{Value, order, set, Values, members}
-use Rattle.rules.specs.Operations.{keptValue, insert, rising, isIn, keep, setOf, twoValue}
+use Rattle.sets.proofs.Base.{Ordering, Ordering·lt, Ordering·eq, Ordering·gt, Bool, true, false, cond, not, _||_, List, [], _∷_, _++_, _≡_, refl, sym, ap, _∙_, subst, isEq}
+use Rattle.sets.proofs.Terms.{Value, order, set, Values, members, keptValue, insert, rising, isIn, keep, setOf, twoValue, turned, merged, union, inter, diff, gives, FineSet}
 use Rattle.laws.proofs.OrderLaws.{Small, flip, order-refl, order-flip, order-eq, before-order, order-before, before-trans}
 use Rattle.laws.proofs.SetOrder.{All, Before, Rising, all-imp, kept-all}
-use Rattle.sets.specs.Merged.{turned, merged}
-use Rattle.rules.specs.Kinds.{union, inter, diff}
-use Rattle.rules.specs.Runs.{gives}
-use Rattle.arena.specs.Code.{FineSet}
 use Rattle.arena.proofs.FrontLaws.{rises-rising, fit-small}
 
 -- Of two values that are before one another one is greater.
@@ -33,34 +24,27 @@ pub merged-turn : (l b r : Bool) (o : Ordering) (v w : Value) (vs ws : List Valu
 unfolding merged
 merged-turn l b r o v w vs ws e = rw e
 
-kept-nil : (r : Bool) (w : Value) (ws : List Value) → cond r (w ∷ ws) [] ≡ keptValue r w (cond r ws [])
-kept-nil true w ws = refl
-kept-nil false w ws = refl
-
 -- A member before all of the first list comes first.
 merged-first : (l b r : Bool) (vs : List Value) (w : Value) (ws : List Value) → All (Before w) vs →
     merged l b r vs (w ∷ ws) ≡ keptValue r w (merged l b r vs ws)
 unfolding merged
-merged-first l b r [] w ws h = kept-nil r w ws
+merged-first l b r [] w ws h = elim r [ true ↦ refl | false ↦ refl ]
 merged-first l b r (v ∷ vs) w ws h = merged-turn l b r Ordering·gt v w vs ws (after-order v w (h .0))
 
 cond-all : (P : Value → Type 0) (k : Bool) (vs : List Value) → All P vs → All P (cond k vs [])
 cond-all P true vs h = h
 cond-all P false vs h = tt
 
-turned-all : (P : Value → Type 0) (l b r : Bool) (o : Ordering) (v w : Value) (x y z : List Value) →
-    P v → P w → All P x → All P y → All P z → All P (turned l b r o v w x y z)
-turned-all P l b r Ordering·lt v w x y z p q i j k = kept-all P l v x p i
-turned-all P l b r Ordering·eq v w x y z p q i j k = kept-all P b v y p j
-turned-all P l b r Ordering·gt v w x y z p q i j k = kept-all P r w z q k
-
-pub merged-all : (P : Value → Type 0) (l b r : Bool) (vs ws : List Value) → All P vs → All P ws → All P (merged l b r vs ws)
+merged-all : (P : Value → Type 0) (l b r : Bool) (vs ws : List Value) → All P vs → All P ws → All P (merged l b r vs ws)
 unfolding merged
 merged-all P l b r [] ws h k = cond-all P r ws k
 merged-all P l b r (v ∷ vs) [] h k = cond-all P l (v ∷ vs) h
 merged-all P l b r (v ∷ vs) (w ∷ ws) h k =
-    turned-all P l b r (order v w) v w (merged l b r vs (w ∷ ws)) (merged l b r vs ws) (merged l b r (v ∷ vs) ws) (h .0) (k .0)
-    (merged-all P l b r vs (w ∷ ws) (h .1) k) (merged-all P l b r vs ws (h .1) (k .1)) (merged-all P l b r (v ∷ vs) ws h (k .1))
+    elim (order v w) as (λ o. All P (turned l b r o v w (merged l b r vs (w ∷ ws)) (merged l b r vs ws) (merged l b r (v ∷ vs) ws))) [
+      | Ordering·lt ↦ kept-all P l v _ (h .0) (merged-all P l b r vs (w ∷ ws) (h .1) k)
+      | Ordering·eq ↦ kept-all P b v _ (h .0) (merged-all P l b r vs ws (h .1) (k .1))
+      | Ordering·gt ↦ kept-all P r w _ (k .0) (merged-all P l b r (v ∷ vs) ws h (k .1))
+    ]
 
 -- Union.
 
@@ -109,18 +93,14 @@ unfolding rising
 rising-same [] h = refl
 rising-same (w ∷ ws) h = ap (insert w) (rising-same ws (h .1)) ∙ insert-first w ws (h .0)
 
-pub merged-union : (vs ws : List Value) → Rising vs → Rising ws → All Small vs → All Small ws →
+merged-union : (vs ws : List Value) → Rising vs → Rising ws → All Small vs → All Small ws →
     merged true true true vs ws ≡ rising (vs ++ ws)
 unfolding rising merged
 merged-union [] ws h k s t = sym (rising-same ws k)
 merged-union (v ∷ vs) ws h k s t =
     sym (insert-merged v vs h (s .0) ws k t) ∙ ap (insert v) (merged-union vs ws (h .1) k (s .1) t)
 
--- Intersection and difference: a filter of the first list.
-
--- what is kept of the first list
-abbrev filtered : Bool → Bool → List Value → List Value → List Value
-filtered l b ws vs = keep (λ x. cond (isIn x ws) b l) vs
+-- Intersection and difference: a filter of the first list, by a test f of whether its members are in the second.
 
 keep-all-or-none : (l : Bool) (vs : List Value) → keep (λ x. l) vs ≡ cond l vs []
 unfolding keep
@@ -140,38 +120,39 @@ unfolding isIn
 isIn-before v [] h = refl
 isIn-before v (w ∷ ws) h = isIn-turn Ordering·lt v w ws (before-order v w (h .0)) ∙ isIn-before v ws (h .1)
 
--- one member more in the first list
-module _ (l b : Bool) (v : Value) (vs : List Value) (h : Rising (v ∷ vs)) (small : Small v)
-    (rec : (zs : List Value) → Rising zs → All Small zs → merged l b false vs zs ≡ filtered l b zs vs) where
-  filter-turn : (o : Ordering) (w : Value) (zs : List Value) → order v w ≡ o → Rising (w ∷ zs) → All Small (w ∷ zs) →
-      merged l b false (v ∷ vs) zs ≡ keptValue (cond (isIn v zs) b l) v (filtered l b zs vs) →
-      merged l b false (v ∷ vs) (w ∷ zs) ≡ keptValue (cond (isIn v (w ∷ zs)) b l) v (filtered l b (w ∷ zs) vs)
-  filter-turn Ordering·lt w zs e j m r =
-      merged-turn l b false Ordering·lt v w vs zs e
-      ∙ rw (rec (w ∷ zs) j m, isIn-before v (w ∷ zs) (before-all v w zs (order-before v w e) j))
-  filter-turn Ordering·eq w zs e j m r =
-      let q : All (Before w) vs = subst (λ (x : Value). All (Before x) vs) (order-eq v w small (m .0) e) (h .0) in
-      merged-turn l b false Ordering·eq v w vs zs e
-      ∙ rw (← rec (w ∷ zs) j m, merged-first l b false vs w zs q, isIn-turn Ordering·eq v w zs e)
-  filter-turn Ordering·gt w zs e j m r =
-      let q : Before w v = order-before w v (order-flip v w ∙ ap flip e) in
-      merged-turn l b false Ordering·gt v w vs zs e
-      ∙ rw (r, isIn-turn Ordering·gt v w zs e, ← rec (w ∷ zs) j m, merged-first l b false vs w zs (before-all w v vs q h .1), rec zs (j .1) (m .1))
+module _ (f : Bool → Bool) where
+  abbrev filtered : List Value → List Value → List Value
+  filtered ws vs = keep (λ x. f (isIn x ws)) vs
 
-  filter-from : (zs : List Value) → Rising zs → All Small zs → merged l b false (v ∷ vs) zs ≡ keptValue (cond (isIn v zs) b l) v (filtered l b zs vs)
-  unfolding isIn keep
-  filter-from [] j m = merged-nil l b false (v ∷ vs) ∙ sym (keep-all-or-none l (v ∷ vs))
-  filter-from (w ∷ zs) j m = filter-turn (order v w) w zs refl j m (filter-from zs (j .1) (m .1))
+  abbrev both : List Value → List Value → List Value
+  both vs ws = merged (f false) (f true) false vs ws
 
-pub merged-filter : (l b : Bool) (vs ws : List Value) → Rising vs → Rising ws → All Small vs → All Small ws → merged l b false vs ws ≡ filtered l b ws vs
-unfolding keep merged
-merged-filter l b [] ws h k s t = refl
-merged-filter l b (v ∷ vs) ws h k s t = filter-from l b v vs h (s .0) (λ zs j m. merged-filter l b vs zs (h .1) j (s .1) m) ws k t
+  -- one member more in the first list
+  module _ (v : Value) (vs : List Value) (h : Rising (v ∷ vs)) (small : Small v)
+      (rec : (zs : List Value) → Rising zs → All Small zs → both vs zs ≡ filtered zs vs) where
+    filter-turn : (o : Ordering) (w : Value) (zs : List Value) → order v w ≡ o → Rising (w ∷ zs) → All Small (w ∷ zs) →
+        both (v ∷ vs) zs ≡ keptValue (f (isIn v zs)) v (filtered zs vs) → both (v ∷ vs) (w ∷ zs) ≡ keptValue (f (isIn v (w ∷ zs))) v (filtered (w ∷ zs) vs)
+    filter-turn Ordering·lt w zs e j m r =
+        merged-turn (f false) (f true) false Ordering·lt v w vs zs e
+        ∙ rw (rec (w ∷ zs) j m, isIn-before v (w ∷ zs) (before-all v w zs (order-before v w e) j))
+    filter-turn Ordering·eq w zs e j m r =
+        let q : All (Before w) vs = subst (λ (x : Value). All (Before x) vs) (order-eq v w small (m .0) e) (h .0) in
+        merged-turn (f false) (f true) false Ordering·eq v w vs zs e
+        ∙ rw (← rec (w ∷ zs) j m, merged-first (f false) (f true) false vs w zs q, isIn-turn Ordering·eq v w zs e)
+    filter-turn Ordering·gt w zs e j m r =
+        let q = merged-first (f false) (f true) false vs w zs (before-all w v vs (order-before w v (order-flip v w ∙ ap flip e)) h .1) in
+        merged-turn (f false) (f true) false Ordering·gt v w vs zs e
+        ∙ rw (r, isIn-turn Ordering·gt v w zs e, ← rec (w ∷ zs) j m, q, rec zs (j .1) (m .1))
 
-keep-as : (f g : Bool → Bool) → ((b : Bool) → f b ≡ g b) → (p : Value → Bool) (vs : List Value) → keep (λ x. f (p x)) vs ≡ keep (λ x. g (p x)) vs
-unfolding keep
-keep-as f g e p [] = refl
-keep-as f g e p (v ∷ vs) = rw (e (p v), keep-as f g e p vs)
+    filter-from : (zs : List Value) → Rising zs → All Small zs → both (v ∷ vs) zs ≡ keptValue (f (isIn v zs)) v (filtered zs vs)
+    unfolding isIn keep
+    filter-from [] j m = merged-nil (f false) (f true) false (v ∷ vs) ∙ sym (keep-all-or-none (f false) (v ∷ vs))
+    filter-from (w ∷ zs) j m = filter-turn (order v w) w zs refl j m (filter-from zs (j .1) (m .1))
+
+  merged-filter : (vs ws : List Value) → Rising vs → Rising ws → All Small vs → All Small ws → both vs ws ≡ filtered ws vs
+  unfolding keep merged
+  merged-filter [] ws h k s t = refl
+  merged-filter (v ∷ vs) ws h k s t = filter-from v vs h (s .0) (λ zs j m. merged-filter vs zs (h .1) j (s .1) m) ws k t
 
 -- The operations of the rules on two sets.
 module _ (vs ws : Values) (f : FineSet vs) (g : FineSet ws) where
@@ -185,16 +166,8 @@ module _ (vs ws : Values) (f : FineSet vs) (g : FineSet ws) where
 
   pub inter-merged : twoValue inter (set vs) (set ws) ≡ gives (setOf (merged false true false (members vs) (members ws)))
   unfolding twoValue
-  inter-merged =
-      rw (
-        of-sets (λ xs ys. merged false true false xs ys ≡ filtered false true ys xs) (merged-filter false true),
-        keep-as (λ b. cond b true false) (λ b. b) (λ b. elim b [ true ↦ refl | false ↦ refl ]) (λ x. isIn x (members ws)) (members vs),
-      )
+  inter-merged = rw (of-sets (λ xs ys. merged false true false xs ys ≡ keep (λ x. isIn x ys) xs) (merged-filter (λ b. b)))
 
   pub diff-merged : twoValue diff (set vs) (set ws) ≡ gives (setOf (merged true false false (members vs) (members ws)))
   unfolding twoValue
-  diff-merged =
-      rw (
-        of-sets (λ xs ys. merged true false false xs ys ≡ filtered true false ys xs) (merged-filter true false),
-        keep-as (λ b. cond b false true) not (λ b. elim b [ true ↦ refl | false ↦ refl ]) (λ x. isIn x (members ws)) (members vs),
-      )
+  diff-merged = rw (of-sets (λ xs ys. merged true false false xs ys ≡ keep (λ x. not (isIn x ys)) xs) (merged-filter not))

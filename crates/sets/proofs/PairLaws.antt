@@ -1,23 +1,14 @@
 -- Pairs that rise. A pair whose first part is new has a first part less than all that follow (`new-less`); so neighbours tell whether a
 -- set of pairs is a function (`firsts-right`), and a function gives the second part of any pair whose first part is e (`applied-found`).
-use mathlib.Core.Bool.{Bool, true, false, cond}
-use mathlib.Core.List.{List, [], _∷_}
-use mathlib.Core.Logic.{_↔_, _⊎_, inl, inr}
-use mathlib.Core.Path.{_≡_, refl, sym, ap, _∙_, subst}
-use lib.Dec.{T, T-not, not-T}
-use Rattle.rules.specs.Values.{Value, scalar, pair, set, Values, none, _▸_, members, order, same}
-use Rattle.rules.specs.Runs.{gives, lacks}
-use Rattle.rules.specs.Operations.{left, right, keep, pairedWith, isFunction, applied}
+use Rattle.sets.proofs.Base.{Bool, true, false, cond, List, [], _∷_, _↔_, _⊎_, inl, inr, _≡_, refl, sym, ap, _∙_, subst, T, T-not, not-T}
+use Rattle.sets.proofs.Terms.{Value, scalar, pair, set, Values, none, _▸_, members, order, same, gives, lacks, left, right, keep, pairedWith, isFunction, applied, CellsFit, FineSet, IsPair, AllPairs, keyOf, newFirst, newFirsts}
 use Rattle.rules.proofs.Basics.{and-of, and-split, bool-eq}
 use Rattle.laws.proofs.OrderLaws.{Small, order-eq, order-pair, before-order, order-before, before-trans, before-irrefl, same-eq, same-refl, then-lt}
 use Rattle.laws.proofs.SetOrder.{All, Before, Rising, all-imp, keep-rising}
 use Rattle.laws.proofs.Membership.{In, all-in, in-all, left-small, keep-in, same-members}
 use Rattle.laws.proofs.FunctionLaws.{function-right}
-use Rattle.arena.specs.Code.{CellsFit, FineSet, IsPair, AllPairs}
 use Rattle.arena.proofs.CodeLaws.{fits-small}
 use Rattle.arena.proofs.FrontLaws.{rises-rising, fit-small}
-use Rattle.sets.specs.Fronts.{keyOf}
-use Rattle.sets.specs.Pairs.{newFirst, newFirsts}
 
 -- What holds of pairs holds of a value that is one.
 pub on-pair : (P : Value → Type 0) → ((a b : Value) → P (pair a b)) → (w : Value) → IsPair w → P w

@@ -1,28 +1,16 @@
 -- Rows of cells. The search halves what is left (`Halving`). The members of a set that weigh one cell each, known by the first
 -- (`flat-cells`), make a row (`cells-row`), and a value is a member where its cell is in the row (`cell-in`).
-use Prim.Native.Nat.{ℕ, zero, suc, _+_, _*_, _-_, _%_, _≤_, _<_, compare}
-use mathlib.Core.List.{List}
-use mathlib.Core.Logic.{inl, inr}
-use mathlib.Core.Path.{_≡_, refl, sym, ap, _∙_, subst}
-use native.Mathlib.Omega.{arith}
-use native.Mathlib.Decide.{ℕ-discrete, decLt}
-use lib.Dec.{ltb, ltb→lt, lt→ltb}
-use lib.ListN.{length, getD}
-use Rattle.rules.specs.Types.{whole}
-use Rattle.rules.specs.Values.{num, truth, element, Value, scalar, pair, set, Values, none, _▸_, members, weight, order}
-use Rattle.rules.specs.Operations.{isIn}
+use Rattle.sets.proofs.Base.{ℕ, zero, suc, _+_, _*_, _-_, _%_, _≤_, _<_, compare, List, inl, inr, _≡_, refl, sym, ap, _∙_, subst, arith, ℕ-discrete, decLt, ltb, ltb→lt, lt→ltb, length, getD}
+use Rattle.sets.proofs.Terms.{Value, scalar, pair, set, Values, none, _▸_, members, weight, order, isIn, cellSize, code, ValueAt, Same, CellsFit, EndsAt, partsOf, AllWeigh, EvenSet, SetBelow, SomeSet, ValueBelow, Front, Cells, RunEnds, Row, LowerBound, Found, FineValue, SomeFine}
 use Rattle.rules.proofs.Basics.{bool-eq}
 use Rattle.laws.proofs.OrderLaws.{order-eq, compare-refl, compare-lt, before-order}
 use Rattle.laws.proofs.Membership.{In, isIn-right}
 use Rattle.laws.proofs.CellsLaws.{weight-some, count-weights}
-use Rattle.arena.specs.Code.{cellSize, code, ValueAt, Same, CellsFit, EndsAt, partsOf, AllWeigh, EvenSet, SetBelow, SomeSet, ValueBelow, Front}
-use Rattle.arena.proofs.CodeLaws.{length-code, length-codes, fits-small}
-use Rattle.arena.proofs.Standing.{leaf-ends, leaf-parts}
-use Rattle.arena.proofs.ValueParts.{ends-at, first-cell, scalar-cell, scalar-one}
-use Rattle.arena.proofs.FrontLaws.{fit-small, set-inside, front-start, front-value, front-next}
+use Rattle.arena.proofs.CodeLaws.{length-code, length-codes, fits-small, scalar-small}
+use Rattle.arena.proofs.Standing.{leaf-ends, leaf-parts, stands-own}
+use Rattle.arena.proofs.ValueParts.{ends-at, scalar-cell, scalar-one}
+use Rattle.arena.proofs.FrontLaws.{fit-small, front-start, front-value, front-next}
 use Rattle.arena.proofs.EvenLaws.{weights-even, behind, value-at, cell-order}
-use Rattle.sets.specs.Fronts.{Cells, RunEnds}
-use Rattle.sets.specs.Rows.{Row, LowerBound, Found, FineValue, SomeFine}
 
 -- `lower_bound`: of the cells passed, those before `from` are below x and those from `from + left` on are not.
 pub record Halving (s : List ℕ) (at step n x from left : ℕ) : Type 0 where
@@ -30,25 +18,17 @@ pub record Halving (s : List ℕ) (at step n x from left : ℕ) : Type 0 where
   pub below : (i : ℕ) → i < from → getD s (at + step * i) 0 < x
   pub above : (i : ℕ) → from + left ≤ i → i < n → x ≤ getD s (at + step * i) 0
 
-module _ {s : List ℕ} {at step n x : ℕ} where
-  pub halving-start : Halving s at step n x 0 n
-  halving-start = record { few = omega arith; below = λ i l. absurd (omega arith); above = λ i k l. absurd (omega arith) }
+-- Cell m is below x, and so are those before it; or it is not, and neither are those behind it. k cells are left then.
+module _ {s : List ℕ} {at step n x from left : ℕ} (h : Halving s at step n x from left) (row : Row s at step n) {m : ℕ} (inside : m < n) {k : ℕ} where
+  pub halving-up : m + 1 + k ≡ from + left → getD s (at + step * m) 0 < x → Halving s at step n x (m + 1) k
+  halving-up e l = record {
+    few = omega (arith, h .few);
+    below = λ i p. omega (arith, row .rises i m (omega arith) inside);
+    above = λ i p q. h .above i (omega arith) q;
+  }
 
-  module _ {from left : ℕ} (h : Halving s at step n x from left) where
-    pub halving-end : left ≤ 0 → LowerBound s at step n x from
-    halving-end z = record { few = omega (arith, h .few); below = h .below; above = λ i k l. h .above i (omega arith) l }
-
-    -- Cell m is below x, and so are those before it; or it is not, and neither are those behind it. k cells are left then.
-    module _ (row : Row s at step n) {m : ℕ} (inside : m < n) {k : ℕ} where
-      pub halving-up : m + 1 + k ≡ from + left → getD s (at + step * m) 0 < x → Halving s at step n x (m + 1) k
-      halving-up e l = record {
-        few = omega (arith, h .few);
-        below = λ i p. omega (arith, row .rises i m (omega arith) inside);
-        above = λ i p q. h .above i (omega arith) q;
-      }
-
-      pub halving-down : from + k ≡ m → x ≤ getD s (at + step * m) 0 → Halving s at step n x from k
-      halving-down e l = record { few = omega arith; below = h .below; above = λ i p q. omega (arith, row .rises m i (omega arith) q) }
+  pub halving-down : from + k ≡ m → x ≤ getD s (at + step * m) 0 → Halving s at step n x from k
+  halving-down e l = record { few = omega arith; below = h .below; above = λ i p q. omega (arith, row .rises m i (omega arith) q) }
 
 -- `find`: x is not in the row where the first cell that is not below x is another.
 module _ {s : List ℕ} {at step n x : ℕ} where
@@ -62,9 +42,6 @@ module _ {s : List ℕ} {at step n x : ℕ} where
   pub found-below : Row s at step n → x < getD s at 0 → Found s at step n x n
   found-below row l = found-none λ i k e.
       omega (arith, row .rises 0 i (omega arith) k, ap (λ (j : ℕ). getD s j 0) (let z : at + step * 0 ≡ at = omega arith in z))
-
-  pub found-over : {r : ℕ} → LowerBound s at step n x r → n ≤ r → Found s at step n x n
-  found-over h l = found-none λ i k e. omega (arith, h .below i (omega arith))
 
   pub found-other : {r : ℕ} → Row s at step n → LowerBound s at step n x r → r < n → (getD s (at + step * r) 0 ≡ x → ⊥) → Found s at step n x n
   found-other {r} row h l d = found-none λ i k e. elim (decLt i r) [
@@ -144,9 +121,6 @@ module _ {s : List ℕ} {top a : ℕ} {vs : Values} (h : SetBelow s top a vs) wh
           let q = scalar-one v (scalar-cell s (a + 1) v (front-value s top (a + 1) _ v ws f) (f .fits .0) l) in
           cells-of f (q .0, subst (λ (k : ℕ). AllWeigh k ws) (q .0) (e (q .1)))
 
-  pub no-cells : getD s a 0 % 4294967296 ≡ 0 → Cells s (a + 1) (getD s a 0 % 4294967296)
-  no-cells e = record { inside = omega (arith, set-inside s top a vs h); each = λ i l. absurd (omega arith) }
-
   -- there is a cell behind the set's own
   pub first-inside : (getD s a 0 % 4294967296 ≡ 0 → ⊥) → a + 1 < length s
   first-inside e = let f = listing in omega (arith, f .stands .inside, length-codes vs, f .counted, count-weights vs)
@@ -160,10 +134,8 @@ pub fine-set : (s : List ℕ) (at : ℕ) → SomeFine s at → 5 * cellSize ≤ 
 fine-set s at h l = go (h .0) (h .1) (h .2)
   where
     go : (v : Value) → ValueBelow s (length s) at v → FineValue v → SomeSet s (length s) at
-    go (scalar (num whole i)) b f = absurd (omega (arith, first-cell s at (scalar (num whole i)) (b .stands) (b .fits) .0))
-    go (scalar (truth t)) b f = absurd (omega (arith, first-cell s at (scalar (truth t)) (b .stands) (b .fits) .0))
-    go (scalar (element g k)) b f = absurd (omega (arith, first-cell s at (scalar (element g k)) (b .stands) (b .fits) .0))
-    go (pair v w) b f = absurd (omega (arith, first-cell s at (pair v w) (b .stands) (b .fits) .0))
+    go (scalar x) b f = absurd (omega (arith, stands-own s at (scalar x) (b .stands), scalar-small x (b .fits)))
+    go (pair v w) b f = absurd (omega (arith, stands-own s at (pair v w) (b .stands)))
     go (set vs) b f = (vs, record { stands = b .stands; below = b .below; fine = f })
 
 -- Members of one cell each make a row.

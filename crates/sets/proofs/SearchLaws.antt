@@ -1,24 +1,13 @@
 -- Walks over the members that are left of a set, one by one (`by-front`): the search for a value, and where a run of members ends.
-use Prim.Native.Nat.{ℕ, _+_, _-_, _≤_, _<_}
-use mathlib.Core.Bool.{Bool, true, false}
-use mathlib.Core.List.{List, _∷_}
-use mathlib.Core.Logic.{inl, inr}
-use mathlib.Core.Path.{_≡_, refl, sym, subst}
-use native.Mathlib.Omega.{arith}
-use lib.Dec.{ltb, ltb→lt, lt→ltb}
-use lib.ListN.{length}
-use mir.Val.{boolByte}
-use Rattle.rules.specs.Values.{Value, scalar, pair, set, Values, none, _▸_, members, weight, weights, order}
-use Rattle.rules.specs.Operations.{isIn}
+use Rattle.sets.proofs.Base.{ℕ, _+_, _-_, _≤_, _<_, Bool, true, false, List, _∷_, inl, inr, _≡_, refl, sym, subst, arith, ltb, ltb→lt, lt→ltb, length, boolByte}
+use Rattle.sets.proofs.Terms.{Value, scalar, pair, set, Values, none, _▸_, members, weight, weights, order, isIn, ValueAt, CellsFit, orderCode, SomeAt, EndsAt, Compared, ValueBelow, Front, keyOf, Keyed, Member, MemberOrNone}
 use Rattle.rules.proofs.Basics.{bool-eq}
 use Rattle.laws.proofs.OrderLaws.{Small, order-eq, order-refl, order-before, before-irrefl}
 use Rattle.laws.proofs.SetOrder.{All, Before, all-imp}
 use Rattle.laws.proofs.Membership.{In, all-in, isIn-right}
-use Rattle.arena.specs.Code.{ValueAt, CellsFit, orderCode, SomeAt, EndsAt, Compared, ValueBelow, Front}
 use Rattle.arena.proofs.CodeLaws.{fits-small}
 use Rattle.arena.proofs.ValueParts.{left-stands}
-use Rattle.arena.proofs.FrontLaws.{rises-rising, fit-small, front-value, front-below, front-next, front-some, code-less, code-equal}
-use Rattle.sets.specs.Fronts.{keyOf, Keyed, Member, MemberOrNone}
+use Rattle.arena.proofs.FrontLaws.{rises-rising, fit-small, front-value, front-below, front-next, code-less, code-equal}
 use Rattle.sets.proofs.PairLaws.{Keeps, pairs-small, less-all}
 
 module _ {s : List ℕ} {top at n : ℕ} (P : Values → Type 0) where
@@ -45,10 +34,6 @@ key-stands true s i (pair a b) ws k h f = (left-stands s i a b h, f .0)
 key-stands true s i (set x) ws k h f = absurd (k .0)
 key-stands false s i w ws k h f = (subst (λ (j : ℕ). ValueAt s j w) (let e : i ≡ i + 0 = omega arith in e) h, f)
 
-keyed-rest : (first : Bool) (w : Value) (ws : Values) → Keyed first (w ▸ ws) → Keyed first ws
-keyed-rest true w ws k = k .1
-keyed-rest false w ws k = tt
-
 keeps-all : (first : Bool) (vs : Values) → Keyed first vs → All Small (members vs) → All (Keeps first) (members vs)
 keeps-all true vs k h = pairs-small vs k h
 keeps-all false vs k h = all-imp Small (Keeps false) (λ x p. tt) (members vs) h
@@ -70,14 +55,7 @@ pub record Seeking (s : List ℕ) (top at : ℕ) (first : Bool) (v : Value) (vs 
   pub behind : at ≤ i
   pub on : (r : ℕ) → MemberOrNone s top at first v (members rest) r → MemberOrNone s top at first v vs r
 
-pub seeking-start : {s : List ℕ} {top at n : ℕ} {first : Bool} {v : Value} {vs : Values} → Front s top at n vs → Keyed first vs →
-    Seeking s top at first v (members vs) at n
-seeking-start {vs = vs} f k = record { rest = vs; front = f; keyed = k; behind = omega arith; on = λ r x. x }
-
 module _ {s : List ℕ} {top at : ℕ} {first : Bool} {v : Value} {vs : List Value} {i left : ℕ} (h : Seeking s top at first v vs i left) where
-  pub seeking-at : 0 < left → SomeAt s i
-  seeking-at l = front-some s top i left (h .rest) (h .front) l
-
   pub seeking-key : 0 < left → SomeAt s (i + boolByte first)
   seeking-key l =
       by-front (λ ws. Keyed first ws → SomeAt s (i + boolByte first))
@@ -118,7 +96,7 @@ module _ {s : List ℕ} {top at : ℕ} {first : Bool} {v : Value} {vs : List Val
         record {
           rest = ws;
           front = front-next s top i left w ws f r (left - 1) y (omega arith);
-          keyed = keyed-rest first w ws q;
+          keyed = elim first as (λ b. Keyed b (w ▸ ws) → Keyed b ws) [ true ↦ λ k. k .1 | false ↦ λ k. tt ] q;
           behind = omega (arith, h .behind);
           on = λ k m. on k (further w ws (λ e. d (rw (o, e, order-refl v) refl)) k m);
         }) (h .on)
@@ -154,9 +132,6 @@ pub record Running (s : List ℕ) (top i left e : ℕ) : Type 0 where
   pub ends : i + weights rest ≡ e
 
 module _ {s : List ℕ} {top i left e : ℕ} (h : Running s top i left e) where
-  pub running-at : 0 < left → SomeAt s i
-  running-at l = front-some s top i left (h .rest) (h .front) l
-
   pub running-next : {r : ℕ} → 0 < left → EndsAt s i r → Running s top r (left - 1) e
   running-next {r} l ends =
       by-front (λ ws. i + weights ws ≡ e → Running s top r (left - 1) e)

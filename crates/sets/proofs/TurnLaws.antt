@@ -1,28 +1,15 @@
 -- A turn of a walk over two sets, and inclusion, which takes such turns. Where the members are one cell each, a turn goes by the order of two cells as
 -- numbers.
-use Prim.Native.Nat.{ℕ, suc, _+_, _-_, _≤_, _<_, Ordering, Ordering·lt, Ordering·eq, Ordering·gt, _%_}
-use mathlib.Core.Bool.{Bool, true, false, cond}
-use mathlib.Core.List.{List, [], _∷_}
-use mathlib.Core.Path.{_≡_, refl, sym, ap, _∙_, subst}
-use native.Mathlib.Omega.{arith}
-use lib.ListN.{length, getD}
-use Rattle.rules.specs.Values.{Value, Values, _▸_, members, count, weight, order, none}
-use Rattle.rules.specs.Operations.{allIn, isIn}
+use Rattle.sets.proofs.Base.{ℕ, suc, _+_, _-_, _≤_, _<_, Ordering, Ordering·lt, Ordering·eq, Ordering·gt, _%_, Bool, true, false, cond, List, [], _∷_, _≡_, refl, sym, ap, _∙_, subst, arith, length, getD, ltb, eqb, lt-ltb, le-ltb, eqb-true, eqb-false, boolByte}
+use Rattle.sets.proofs.Terms.{Value, Values, _▸_, members, count, weight, order, none, allIn, isIn, CellsFit, orderCode, SomeAt, EndsAt, Compared, Rises, Front, AllFit, SetBelow, Turn, keepOf, restLeft, restRight, Turned, TurnAt, TwoFronts, TwoRuns, Cells, Found, TwoRows}
 use Rattle.laws.proofs.OrderLaws.{flip, order-eq, order-flip, order-before}
 use Rattle.laws.proofs.SetOrder.{All, Before}
-use Rattle.arena.specs.Code.{CellsFit, orderCode, SomeAt, EndsAt, Compared, Rises, Front, AllFit, SetBelow}
 use Rattle.arena.proofs.CodeLaws.{fits-small}
 use Rattle.arena.proofs.FrontLaws.{rises-rising, front-value, front-below, front-next, front-at, code-less, code-equal, code-greater, front-start}
-use Rattle.sets.specs.declared.Turn.{Turn}
-use Rattle.sets.specs.Fronts.{keepOf, restLeft, restRight, Turned, TurnAt, TwoFronts, TwoRuns, Cells}
 use Rattle.sets.proofs.MergedLaws.{after-order, before-all, isIn-turn, isIn-before}
 use Rattle.sets.proofs.SearchLaws.{by-front, no-front, by-fronts}
-use lib.Dec.{ltb, eqb}
-use borrow.Author.Tests.{lt-ltb, le-ltb, eqb-true, eqb-false}
-use mir.Val.{boolByte}
 use Rattle.rules.proofs.Basics.{absurd01}
 use Rattle.arena.proofs.EvenLaws.{cell-less, cell-equal, cell-greater}
-use Rattle.sets.specs.Rows.{Found, TwoRows}
 use Rattle.sets.proofs.RowLaws.{cells-first, cells-part, cells-weigh, cell-in}
 
 -- Where the first member ends, and what is left behind it.
@@ -129,9 +116,6 @@ module _ {s : List ℕ} {a m b n : ℕ} {whole : Bool} (h : Including s a m b n 
   including-short l z =
       by-front (λ vs. whole ≡ allIn (members vs) (members (h .right)) → false ≡ whole)
       (λ v vs f. no-front (λ ws. whole ≡ allIn (v ∷ members vs) (members ws) → false ≡ whole) (λ q. sym q) (h .onRight) (omega arith)) (h .onLeft) l (h .same)
-
-  pub including-two : 0 < m → (n ≡ 0 → ⊥) → TwoFronts s a m b n
-  including-two l z = two-fronts (h .onLeft) (h .onRight) l (omega arith)
 
   pub including-turn : 0 < m → (n ≡ 0 → ⊥) → {t : Turn} → TurnAt s a m b n false true true t →
       (t .keep ≡ true → Including s (t .a) (t .m) (t .b) (t .n) whole × (t .m + t .n < m + n)) × (t .keep ≡ false → false ≡ whole)

@@ -177,9 +177,9 @@ pub record Stepped (l b r : Bool) (s : List ℕ) (w : Walk) (s′ : List ℕ) (w
   pub on : (top : ℕ) (whole : List Value) → Merging l b r s top w whole → Merging l b r s′ top w′ whole
 
 -- What is kept of what is left at the end of a walk, in the left set or in the right.
-abbrev pub RestOf : Walk → Bool → Bool → Rest → Type 0
-RestOf w l r q =
-    ((0 < w .m) × (q ≡ record { at = w .a; n = cond l (w .m) 0 })) ⊎ ((w .m ≡ 0) × (q ≡ record { at = w .b; n = cond r (w .n) 0 }))
+pub record RestOf (w : Walk) (l r : Bool) (q : Rest) : Type 0 where
+  pub left : 0 < w .m → (q .at ≡ w .a) × (q .n ≡ cond l (w .m) 0)
+  pub right : w .m ≡ 0 → (q .at ≡ w .b) × (q .n ≡ cond r (w .n) 0)
 
 -- The end of a merge: the rest is put behind what has been built, and the set's cell before it.
 pub record EndPre (l r : Bool) (s : List ℕ) (w : Walk) (top : ℕ) (cells : Bool) : Type 0 where

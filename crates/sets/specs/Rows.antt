@@ -2,8 +2,8 @@
 use Prim.Native.Nat.{ℕ, _+_, _*_, _-_, _%_, _≤_, _<_}
 use mathlib.Core.Bool.{Bool, true}
 use mathlib.Core.List.{List}
-use mathlib.Core.Logic.{_⊎_}
 use mathlib.Core.Path.{_≡_}
+use lib.Dec.{leb}
 use lib.ListN.{length, getD}
 use mir.Val.{boolByte}
 use Rattle.rules.specs.Values.{Value, scalar, pair, set}
@@ -55,11 +55,11 @@ pub record Kept (l e r : Bool) (x y k : ℕ) : Type 0 where
   pub greater : y < x → k ≡ boolByte r
 
 -- A turn of a walk over both: the lesser of the first cells, whether it is kept, and by how many cells both rows move on.
-abbrev pub CellTurned : Bool → Bool → Bool → ℕ → ℕ → CellTurn → Type 0
-CellTurned l e r x y t =
-    ((x < y) × (t ≡ record { cell = x; keep = boolByte l; left = 1; right = 0 })) ⊎
-    (((x ≡ y) × (t ≡ record { cell = x; keep = boolByte e; left = 1; right = 1 })) ⊎
-    ((y < x) × (t ≡ record { cell = y; keep = boolByte r; left = 0; right = 1 })))
+pub record CellTurned (l e r : Bool) (x y : ℕ) (t : CellTurn) : Type 0 where
+  pub lesser : (x ≤ y → t .cell ≡ x) × (y < x → t .cell ≡ y)
+  pub kept : Kept l e r x y (t .keep)
+  pub left : t .left ≡ boolByte (leb x y)
+  pub right : t .right ≡ boolByte (leb y x)
 
 -- They are merged above `top`.
 pub record RowsBelow (s : List ℕ) (a m b n top : ℕ) : Type 0 where

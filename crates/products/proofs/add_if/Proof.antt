@@ -1,15 +1,10 @@
 -- `add_if`: a member that is kept is copied behind the others; one that is not changes nothing.
-use mathlib.Core.Logic.{inl}
-use native.Mathlib.Omega.{arith}
-use borrow.Author.Needs.{needs}
+use Rattle.products.proofs.Base.{inl, arith, needs}
 use Rattle.products.proofs.SubsetLaws.{add-room, add-made, add-none}
 use Rattle.products.proofs.add_if.Statement.{statement}
 use Rattle.products.proofs.add_if.Tie as tie
 
 -- The member is kept, and what was lent; it has been copied.
-abbrev kept : tie.After-copy-arg → tie.Then1
-kept m = m .before
-
 abbrev lent : tie.Then1 → tie.Start
 lent m = m .before .before
 
@@ -21,10 +16,10 @@ add-if-spec =
     tie.close
     (tie.spec
     (λ c. search needs)
-    (λ c κs. let q = lent (kept c) .pre in let r = add-room q (kept c .if1 .taken) in
+    (λ c κs. let q = lent (c .before) .pre in let r = add-room q (c .before .if1 .taken) in
     (omega (arith, q .forward, q .behind), omega arith, inl (omega (arith, q .forward, q .behind))))
-    (λ c. let k = kept (put c .before) in omega (arith, add-room (lent k .pre) (k .if1 .taken)))
+    (λ c. let k = put c .before .before in omega (arith, add-room (lent k .pre) (k .if1 .taken)))
     (λ c. search needs)
     (λ c. search needs)
-    (λ c. let m = put (c .before) in let k = kept (m .before) in add-made (lent k .pre) (k .if1 .taken) (m .copy .ensures))
+    (λ c. let m = put (c .before) in let k = m .before .before in add-made (lent k .pre) (k .if1 .taken) (m .copy .ensures))
     (λ c. add-none (c .before .before .pre) (c .if1 .left)))

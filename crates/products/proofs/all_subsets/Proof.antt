@@ -1,11 +1,6 @@
 -- `all_subsets`: mask by mask. The array is the list of masks.
-use Prim.Native.Nat.{ℕ, _-_}
-use mathlib.Core.List.{List}
-use mathlib.Core.Path.{_≡_, refl, ap}
-use native.Mathlib.Omega.{arith}
-use lib.ListN.{getD}
-use Rattle.products.specs.Growing.{Grown}
-use Rattle.products.specs.Power.{AllPre, masks}
+use Rattle.products.proofs.Base.{ℕ, _-_, List, _≡_, refl, ap, arith, getD}
+use Rattle.products.proofs.Terms.{Grown, AllPre, masks}
 use Rattle.products.proofs.GrowLaws.{grown-start}
 use Rattle.products.proofs.PowerLaws.{allFrom, all-pre, all-next, all-end}
 use Rattle.products.proofs.all_subsets.Statement.{statement}

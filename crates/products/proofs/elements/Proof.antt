@@ -1,6 +1,6 @@
 -- `elements`: the cells of a given set's elements follow one another.
 use Rattle.products.proofs.ScalarLaws.{elements-made}
-use borrow.Author.Needs.{needs}
+use Rattle.products.proofs.Base.{needs}
 use Rattle.products.proofs.elements.Statement.{statement}
 use Rattle.products.proofs.elements.Tie as tie
 

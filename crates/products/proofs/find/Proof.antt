@@ -1,10 +1,7 @@
 -- `find`: the members passed are less than the value, so what is left of them decides.
-use Prim.Native.Nat.{_-_}
-use mathlib.Core.List.{List}
-use native.Mathlib.Omega.{arith}
-use Rattle.rules.specs.Values.{Value}
+use Rattle.products.proofs.Base.{_-_, List, arith}
+use Rattle.products.proofs.Terms.{Value, FindPre}
 use Rattle.arena.proofs.FrontLaws.{value-some}
-use Rattle.products.specs.Parts.{FindPre}
 use Rattle.products.proofs.InsertLaws.{Finding, finding-end, finding-some, finding-on, finding-here, finding-next}
 use Rattle.products.proofs.find.Statement.{statement}
 use Rattle.products.proofs.find.Tie as tie

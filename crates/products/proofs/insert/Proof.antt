@@ -1,9 +1,5 @@
 -- `insert`: a value that is there changes nothing; otherwise the members from its place on are moved up and it is copied into the gap.
-use mathlib.Core.Logic.{inl}
-use Prim.Native.Nat.{_+_, _-_, _≤_}
-use lib.ListN.{length}
-use borrow.Author.Needs.{needs}
-use native.Mathlib.Omega.{arith}
+use Rattle.products.proofs.Base.{inl, _+_, _-_, _≤_, length, needs, arith}
 use Rattle.products.proofs.InsertLaws.{insert-near, inserts-none, inserts-put}
 use Rattle.products.proofs.insert.Statement.{statement}
 use Rattle.products.proofs.insert.Tie as tie

@@ -1,7 +1,6 @@
 -- `interval`: the cells of integers in excess form follow one another.
-use native.Mathlib.Omega.{arith}
+use Rattle.products.proofs.Base.{arith, needs}
 use Rattle.products.proofs.ScalarLaws.{interval-made, interval-heavy}
-use borrow.Author.Needs.{needs}
 use Rattle.products.proofs.interval.Statement.{statement}
 use Rattle.products.proofs.interval.Tie as tie
 

@@ -1,10 +1,8 @@
 -- `marks`: each turn writes where the next member begins.
-use Prim.Native.Nat.{_-_}
-use mathlib.Core.Path.{refl}
-use native.Mathlib.Omega.{arith}
-use Rattle.rules.specs.Values.{Values}
-use Rattle.products.specs.Power.{MarkPre}
-use Rattle.products.proofs.SubsetLaws.{Marking, marking-start, marking-some, marking-end, marking-next}
+use Rattle.products.proofs.Base.{_-_, refl, arith}
+use Rattle.products.proofs.Terms.{Values, MarkPre}
+use Rattle.arena.proofs.FrontLaws.{front-some}
+use Rattle.products.proofs.SubsetLaws.{Marking, marking-start, marking-end, marking-next}
 use Rattle.products.proofs.marks.Statement.{statement}
 use Rattle.products.proofs.marks.Tie as tie
 
@@ -28,7 +26,7 @@ marks-spec =
     (λ c. λ g. (g .whole, marking-start g refl refl))
     (λ c. omega (arith, c .loop-test .taken, lent (c .before) .pre .few))
     (λ c. omega (arith, c .loop-test .taken, lent (c .before) .pre .few))
-    (λ c κs. let g = lent (c .before) .pre in marking-some g (c .before .loop .inv g) (c .loop-test .taken))
+    (λ c κs. front-some _ _ _ _ _ (c .before .loop .inv (lent (c .before) .pre) .1 .front) (omega (arith, c .loop-test .taken)))
     (λ c. omega (arith, c .before .loop-test .taken, lent (turn c) .pre .few))
     (λ c. omega (arith, c .before .loop-test .taken, lent (turn c) .pre .few))
     (λ c. omega (arith, c .before .loop-test .taken, lent (turn c) .pre .few))

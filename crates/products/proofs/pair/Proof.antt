@@ -1,8 +1,7 @@
 -- `pair`: the pair of two values, unless it is too heavy.
-use native.Mathlib.Omega.{arith}
+use Rattle.products.proofs.Base.{arith, needs}
 use Rattle.arena.proofs.FrontLaws.{value-some, value-end}
 use Rattle.products.proofs.GrowLaws.{made-heavy, pair-sizes, pair-pre, pair-made}
-use borrow.Author.Needs.{needs}
 use Rattle.products.proofs.pair.Statement.{statement}
 use Rattle.products.proofs.pair.Tie as tie
 

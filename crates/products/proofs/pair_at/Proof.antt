@@ -1,8 +1,5 @@
 -- `pair_at`: both parts copied, behind the cell of their pair.
-use mathlib.Core.Logic.{inl}
-use mathlib.Core.Path.{_∙_}
-use native.Mathlib.Omega.{arith}
-use borrow.Author.Needs.{needs}
+use Rattle.products.proofs.Base.{inl, _∙_, arith, needs}
 use Rattle.products.proofs.GrowLaws.{pair-put}
 use Rattle.products.proofs.pair_at.Statement.{statement}
 use Rattle.products.proofs.pair_at.Tie as tie

@@ -1,9 +1,7 @@
 -- `parts`: each turn puts the part of one pair more among those that have been put.
-use native.Mathlib.Omega.{arith}
-use borrow.Author.Needs.{needs}
-use Rattle.rules.specs.Values.{Values}
+use Rattle.products.proofs.Base.{arith, needs}
+use Rattle.products.proofs.Terms.{Values, PartsPre}
 use Rattle.arena.proofs.FrontLaws.{set-inside}
-use Rattle.products.specs.Parts.{PartsPre}
 use Rattle.products.proofs.TakeLaws.{Taking, taking-start, taking-near, taking-end, taking-first, taking-inside, taking-second, taking-insert, taking-next}
 use Rattle.products.proofs.parts.Statement.{statement}
 use Rattle.products.proofs.parts.Tie as tie

@@ -1,5 +1,5 @@
 -- `place_for`: the last member decides unless the value is less; then the walk does.
-use native.Mathlib.Omega.{arith}
+use Rattle.products.proofs.Base.{arith}
 use Rattle.laws.proofs.SetOrder.{rising-rising}
 use Rattle.arena.proofs.FrontLaws.{value-some}
 use Rattle.products.proofs.InsertLaws.{place-none, place-some, place-last, place-find}

@@ -1,8 +1,7 @@
 -- `product`: all pairs, unless their set is too heavy.
-use native.Mathlib.Omega.{arith}
-use borrow.Author.Needs.{needs}
+use Rattle.products.proofs.Base.{arith, needs}
 use Rattle.products.proofs.GrowLaws.{made-heavy}
-use Rattle.products.proofs.WalkLaws.{product-weighs, product-pre, product-made}
+use Rattle.products.proofs.WalkLaws.{small-products, product-weighs, product-pre, product-made}
 use Rattle.products.proofs.product.Statement.{statement}
 use Rattle.products.proofs.product.Tie as tie
 
@@ -25,7 +24,7 @@ product-spec =
     (tie.spec
     (λ c κs. search needs)
     (λ c κs. search needs)
-    (λ c κs. search needs)
+    (λ c κs. small-products (first c .size-of .ensures .few) (c .size-of2 .ensures .few))
     (λ c. search needs)
     (λ c. λ vs ws h k. let w = c .before in let y = w .before in
     made-heavy (omega (arith, product-weighs (first y .size-of .ensures) (y .size-of2 .ensures) h k, w .product-weight .ensures, c .if1 .taken)))

@@ -1,7 +1,6 @@
 -- `put_cell`: one cell at top.
-use native.Mathlib.Omega.{arith}
+use Rattle.products.proofs.Base.{arith, needs}
 use Rattle.products.proofs.GrowLaws.{cell-made}
-use borrow.Author.Needs.{needs}
 use Rattle.products.proofs.put_cell.Statement.{statement}
 use Rattle.products.proofs.put_cell.Tie as tie
 

@@ -1,9 +1,9 @@
 -- `row`: the pairs of a value with each member of a set.
 -- In a need, t is a turn of the loop, m is where its member ends, p is where the pair is put.
-use native.Mathlib.Omega.{arith}
-use Rattle.products.specs.Growing.{RowPre}
+use Rattle.products.proofs.Base.{refl, arith}
+use Rattle.products.proofs.Terms.{code, RowPre}
 use Rattle.products.proofs.GrowLaws.{grown-start}
-use Rattle.products.proofs.WalkLaws.{RowAt, walk-some, walk-forward, row-end, row-pair, row-next}
+use Rattle.products.proofs.WalkLaws.{RowAt, walk-some, walk-forward, walk-end, row-pair, row-next}
 use Rattle.products.proofs.row.Statement.{statement}
 use Rattle.products.proofs.row.Tie as tie
 
@@ -17,6 +17,7 @@ abbrev lent : tie.In-loop Inv-loop μ-loop → tie.Start Inv-loop μ-loop
 lent t = t .before .before .before
 
 pub row-spec : {M : Type 1} → statement M
+unfolding code
 row-spec =
     tie.close
     (tie.spec Inv-loop μ-loop
@@ -31,4 +32,4 @@ row-spec =
     (λ c. λ g. let p = c .before .before in let m = p .before .before in let t = m .before .before in
     row-next g _ (m .end-of .ensures) (t .before .loop .inv g) (t .loop-test .taken) _ _ (p .pair-at .ensures))
     (λ c. c .before .loop .inv (c .before .before .before .pre) .1 .grown .appended .frame .kept)
-    (λ c. λ g. row-end g (c .before .loop .inv g) (c .loop-test .left)))
+    (λ c. λ g. walk-end (c .before .loop .inv g) (c .loop-test .left) refl))

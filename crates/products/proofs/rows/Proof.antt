@@ -1,9 +1,9 @@
 -- `rows`: a row of pairs for each member of the first set.
 -- In a need, t is a turn of the loop, m is where its member ends, p is where the row is put.
-use native.Mathlib.Omega.{arith}
-use Rattle.products.specs.Growing.{SquarePre}
+use Rattle.products.proofs.Base.{refl, arith}
+use Rattle.products.proofs.Terms.{code, pairsOf, SquarePre}
 use Rattle.products.proofs.GrowLaws.{grown-start}
-use Rattle.products.proofs.WalkLaws.{SquareAt, walk-some, walk-forward, square-end, square-row, square-next}
+use Rattle.products.proofs.WalkLaws.{SquareAt, walk-some, walk-forward, walk-end, square-row, square-next}
 use Rattle.products.proofs.rows.Statement.{statement}
 use Rattle.products.proofs.rows.Tie as tie
 
@@ -17,6 +17,7 @@ abbrev lent : tie.In-loop Inv-loop μ-loop → tie.Start Inv-loop μ-loop
 lent t = t .before .before .before
 
 pub rows-spec : {M : Type 1} → statement M
+unfolding code pairsOf
 rows-spec =
     tie.close
     (tie.spec Inv-loop μ-loop
@@ -31,4 +32,4 @@ rows-spec =
     (λ c. λ g. let p = c .before .before in let m = p .before .before in let t = m .before .before in
     square-next g _ (m .end-of .ensures) (t .before .loop .inv g) (t .loop-test .taken) _ _ (p .row .ensures))
     (λ c. c .before .loop .inv (c .before .before .before .pre) .1 .grown .appended .frame .kept)
-    (λ c. λ g. square-end g (c .before .loop .inv g) (c .loop-test .left)))
+    (λ c. λ g. walk-end (c .before .loop .inv g) (c .loop-test .left) refl))

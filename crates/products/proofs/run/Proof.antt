@@ -1,8 +1,6 @@
 -- `run`: cells that follow one another, behind the cell of their set.
-use Prim.Native.Nat.{_-_}
-use native.Mathlib.Omega.{arith}
-use borrow.Author.Needs.{needs}
-use Rattle.products.specs.Growing.{cellsFrom}
+use Rattle.products.proofs.Base.{_-_, arith, needs}
+use Rattle.products.proofs.Terms.{cellsFrom}
 use Rattle.products.proofs.GrowLaws.{appended-none, Running, running-inside, running-next, running-end}
 use Rattle.products.proofs.run.Statement.{statement}
 use Rattle.products.proofs.run.Tie as tie

@@ -1,6 +1,5 @@
 -- `shift`: the cells from `left` on have been moved, those below are as they were.
-use native.Mathlib.Omega.{arith}
-use mathlib.Core.Path.{refl}
+use Rattle.products.proofs.Base.{arith, refl}
 use Rattle.products.proofs.InsertLaws.{Shifting, shifting-next, shifting-end}
 use Rattle.products.proofs.shift.Statement.{statement}
 use Rattle.products.proofs.shift.Tie as tie

@@ -1,9 +1,7 @@
 -- `singleton`: a value copied behind the cell of a set of one member.
-use mathlib.Core.Logic.{inl}
-use native.Mathlib.Omega.{arith}
+use Rattle.products.proofs.Base.{inl, arith, needs}
 use Rattle.arena.proofs.FrontLaws.{value-some, value-end}
 use Rattle.products.proofs.GrowLaws.{made-heavy, single-made}
-use borrow.Author.Needs.{needs}
 use Rattle.products.proofs.singleton.Statement.{statement}
 use Rattle.products.proofs.singleton.Tie as tie
 

@@ -1,6 +1,5 @@
 -- `size_of`: the payload of the set's cell, and what lies between that cell and the set's end.
-use native.Mathlib.Omega.{arith}
-use borrow.Author.Needs.{needs}
+use Rattle.products.proofs.Base.{arith, needs}
 use Rattle.arena.proofs.FrontLaws.{set-inside, set-end}
 use Rattle.products.proofs.WalkLaws.{size-is}
 use Rattle.products.proofs.size_of.Statement.{statement}

@@ -1,9 +1,6 @@
 -- `subset`: the members whose bits the mask has. In a need, l is a turn of the loop, m is where the member begins, p is where it has been put.
-use Prim.Native.Nat.{_-_}
-use native.Mathlib.Omega.{arith}
-use borrow.Author.Needs.{needs}
-use Rattle.rules.specs.Values.{Values}
-use Rattle.products.specs.Power.{SubsetPre}
+use Rattle.products.proofs.Base.{_-_, arith, needs}
+use Rattle.products.proofs.Terms.{Values, SubsetPre}
 use Rattle.products.proofs.SubsetLaws.{SubsetAt, subset-none, subset-start, subset-few, subset-add, subset-next, subset-end}
 use Rattle.products.proofs.subset.Statement.{statement}
 use Rattle.products.proofs.subset.Tie as tie

@@ -1,15 +1,9 @@
 -- `contains`: where the members are one cell each, the value is a member if its cell is one of theirs; other sets are walked.
-use borrow.Author.Needs.{needs}
-use Prim.Native.Nat.{_+_}
-use native.Mathlib.Omega.{arith}
-use mathlib.Core.Path.{sym, subst}
-use lib.ListN.{length}
-use Rattle.rules.specs.Values.{Values}
-use Rattle.arena.specs.Code.{SetBelow, Front}
+use Rattle.sets.proofs.Base.{needs, _+_, arith, sym, subst, length}
+use Rattle.sets.proofs.Terms.{Values, SetBelow, Front, Cells}
 use Rattle.arena.proofs.CodeLaws.{fits-small}
 use Rattle.arena.proofs.ValueParts.{some-inside}
 use Rattle.arena.proofs.FrontLaws.{fit-small, set-inside, front-start, value-some}
-use Rattle.sets.specs.Fronts.{Cells}
 use Rattle.sets.proofs.SearchLaws.{sought-in}
 use Rattle.sets.proofs.RowLaws.{cells-row, cell-in}
 use Rattle.sets.proofs.contains.Statement.{statement}

@@ -1,9 +1,6 @@
 -- `find`: x is where it stands if the cells follow one another, or where the search ends, or none of the cells.
-use borrow.Author.Needs.{needs}
-use Prim.Native.Nat.{_+_, _*_, _-_, _<_}
-use native.Mathlib.Omega.{arith}
-use lib.ListN.{length, getD}
-use Rattle.sets.proofs.RowLaws.{found-here, found-none, found-below, found-over, found-other}
+use Rattle.sets.proofs.Base.{needs, _+_, _*_, _-_, _<_, arith, length, getD}
+use Rattle.sets.proofs.RowLaws.{found-here, found-none, found-below, found-other}
 use Rattle.sets.proofs.find.Statement.{statement}
 use Rattle.sets.proofs.find.Tie as tie
 
@@ -44,4 +41,4 @@ find-spec =
     (λ c. inside (c .before))
     (λ c. found-here (c .before .before .if5 .taken) (c .if6 .taken))
     (λ c. let t = c .before .before in found-other (above (t .before .before .before) .pre) (t .before .lower-bound .ensures) (t .if5 .taken) (c .if6 .left))
-    (λ c. found-over (c .before .lower-bound .ensures) (c .if5 .left)))
+    (λ c. found-none λ i k e. omega (arith, c .before .lower-bound .ensures .below i (omega (arith, c .if5 .left)))))

@@ -1,8 +1,6 @@
 -- `finish`: the rest of one set, then the cell of the set that has been built.
-use Prim.Native.Nat.{_≤_}
-use native.Mathlib.Omega.{arith}
+use Rattle.sets.proofs.Base.{_≤_, arith, needs}
 use Rattle.sets.proofs.BuildLaws.{end-heavy, end-rest, end-put, end-over, end-count, end-made}
-use borrow.Author.Needs.{needs}
 use Rattle.sets.proofs.finish.Statement.{statement}
 use Rattle.sets.proofs.finish.Tie as tie
 

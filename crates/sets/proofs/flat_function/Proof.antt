@@ -1,11 +1,6 @@
 -- `flat_function`: of the pairs that are left none shares its first part with the next one exactly where none of all does.
-use Prim.Native.Nat.{ℕ, _+_, _≤_}
-use mathlib.Core.Path.{refl}
-use native.Mathlib.Omega.{arith}
-use lib.ListN.{length}
-use Rattle.rules.specs.Values.{Values}
-use Rattle.arena.specs.Code.{AllWeigh, Front}
-use Rattle.sets.specs.Pairs.{FlatPairs}
+use Rattle.sets.proofs.Base.{ℕ, _+_, _≤_, refl, arith, length}
+use Rattle.sets.proofs.Terms.{Values, AllWeigh, Front, FlatPairs}
 use Rattle.sets.proofs.ImageLaws.{Checking, checking-end, checking-inside, flat-shared, flat-next}
 use Rattle.sets.proofs.flat_function.Statement.{statement}
 use Rattle.sets.proofs.flat_function.Tie as tie

@@ -1,14 +1,9 @@
 -- `flat_mapping`: nothing is said of other relations; of one of flat pairs it is told whether it is a function. Landmarks: what was lent, and the
 -- number of pairs.
-use borrow.Author.Needs.{needs}
-use borrow.Author.Tests.{not-false}
-use mathlib.Core.Bool.{Bool, true}
-use mathlib.Core.List.{List}
-use mathlib.Core.Path.{_≡_}
-use Prim.Native.Nat.{ℕ}
+use Rattle.sets.proofs.Base.{needs, not-false, subst}
+use Rattle.sets.proofs.Terms.{IsFunction}
 use Rattle.arena.proofs.FrontLaws.{set-inside}
 use Rattle.rules.proofs.Basics.{absurd01}
-use Rattle.sets.specs.Pairs.{IsFunction, KnownFunction}
 use Rattle.sets.proofs.flat_mapping.Statement.{statement}
 use Rattle.sets.proofs.flat_mapping.Tie as tie
 
@@ -17,9 +12,6 @@ counted c = c .before .before
 
 abbrev lent : tie.After-low → tie.Start
 lent l = l .before .before .before
-
-told-known : {s : List ℕ} {f : ℕ} {r : Bool} → IsFunction s f r → KnownFunction s f r
-told-known {s} {f} g e = rw e at g
 
 pub flat-mapping-spec : {M : Type 1} → statement M
 flat-mapping-spec =
@@ -34,4 +26,4 @@ flat-mapping-spec =
       record { relation = lent l .pre; counted = l .low .ensures .0; thin = λ _. c .before .of-flat-pairs .ensures (not-false _ (c .if1 .left)) },
       λ e. absurd (absurd01 (cc)),
     ))
-    (λ c. told-known (c .function-at .ensures)))
+    (λ c. λ e. subst (IsFunction _ _) e (c .function-at .ensures)))

@@ -1,9 +1,5 @@
 -- `front`: where the first cell is below y, the halving tells how many are.
-use borrow.Author.Needs.{needs}
-use Prim.Native.Nat.{_<_}
-use native.Mathlib.Omega.{arith}
-use lib.ListN.{length}
-use borrow.Author.Tests.{eqb-false}
+use Rattle.sets.proofs.Base.{needs, _<_, arith, length, eqb-false}
 use Rattle.sets.proofs.front.Statement.{statement}
 use Rattle.sets.proofs.front.Tie as tie
 

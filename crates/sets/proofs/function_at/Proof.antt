@@ -1,5 +1,5 @@
 -- `function_at`: it is known; otherwise neighbours are compared, by cells where the pairs are flat. Landmark: what was lent.
-use borrow.Author.Needs.{needs}
+use Rattle.sets.proofs.Base.{needs}
 use Rattle.sets.proofs.ImageLaws.{whole, relation-run, relation-flat}
 use Rattle.sets.proofs.function_at.Statement.{statement}
 use Rattle.sets.proofs.function_at.Tie as tie

@@ -1,26 +1,20 @@
 -- `image`: the pair with the first part e is looked for; where there is one, f gives its second part if f is a function.
-use borrow.Author.Needs.{needs}
-use native.Mathlib.Omega.{arith}
-use Prim.Native.Nat.{_+_}
-use Rattle.arena.specs.Code.{SomeAt}
+use Rattle.sets.proofs.Base.{needs, arith, _+_}
+use Rattle.sets.proofs.Terms.{SomeAt, Relation}
 use Rattle.arena.proofs.ValueParts.{some-inside}
-use Rattle.sets.specs.Pairs.{Relation}
 use Rattle.sets.proofs.ImageLaws.{image-none, image-shared, first-part, image-found}
 use Rattle.sets.proofs.image.Statement.{statement}
 use Rattle.sets.proofs.image.Tie as tie
 
 -- It is known how many pairs there are, and whether they are flat; then the search has ended, and a pair is found.
-abbrev listed : tie.After-of-flat-pairs → tie.After-low
-listed o = o .before
+abbrev lent : tie.After-low → tie.Start
+lent l = l .before .before .before
 
-abbrev lent : tie.After-of-flat-pairs → tie.Start
-lent o = listed o .before .before .before
+relation : (o : tie.After-of-flat-pairs) → let q = lent (o .before) .args in Relation (q .s .now) (q .f) (o .before .low .result) (o .of-flat-pairs .result)
+relation o = record { relation = lent (o .before) .pre .1; counted = o .before .low .ensures .0; thin = o .of-flat-pairs .ensures }
 
-relation : (o : tie.After-of-flat-pairs) → Relation (lent o .args .s .now) (lent o .args .f) (listed o .low .result) (o .of-flat-pairs .result)
-relation o = record { relation = lent o .pre .1; counted = listed o .low .ensures .0; thin = o .of-flat-pairs .ensures }
-
-some : (t : tie.Else1) → SomeAt (lent (t .before .before) .args .s .now) (t .before .pair-with .result + 1)
-some t = let q = lent (t .before .before) .pre in first-part (t .before .pair-with .ensures) (t .if1 .left) (q .0) (q .1)
+some : (t : tie.Else1) → SomeAt (lent (t .before .before .before) .args .s .now) (t .before .pair-with .result + 1)
+some t = let q = lent (t .before .before .before) .pre in first-part (t .before .pair-with .ensures) (t .if1 .left) (q .0) (q .1)
 
 pub image-spec : {M : Type 1} → statement M
 image-spec =
@@ -30,9 +24,9 @@ image-spec =
     (λ c. search needs)
     (λ c κs. search needs)
     (λ c κs. search needs)
-    (λ c κs. (lent c .pre .0, relation c))
+    (λ c κs. (lent (c .before) .pre .0, relation c))
     (λ c. image-none (c .before .pair-with .ensures) (c .if1 .taken))
-    (λ c κs. let o = c .before .before in (relation o, lent o .pre .2))
+    (λ c κs. let o = c .before .before in (relation o, lent (o .before) .pre .2))
     (λ c. omega (arith, some-inside _ _ (some (c .before .before))))
     (λ c κs. some (c .before .before))
     (λ c. let g = c .before .before in

@@ -1,9 +1,7 @@
 -- `included`: a set with more members is not included; rows of cells are compared by cells, other sets are walked.
-use borrow.Author.Needs.{needs}
-use Prim.Native.Nat.{_+_}
-use mathlib.Core.Bool.{Bool}
+use Rattle.sets.proofs.Base.{needs, _+_, Bool}
+use Rattle.sets.proofs.Terms.{Includes, RunIn}
 use Rattle.arena.proofs.FrontLaws.{front-start}
-use Rattle.sets.specs.Fronts.{Includes, RunIn}
 use Rattle.sets.proofs.TurnLaws.{including-start, including-fewer, two-runs, two-rows}
 use Rattle.sets.proofs.included.Statement.{statement}
 use Rattle.sets.proofs.included.Tie as tie

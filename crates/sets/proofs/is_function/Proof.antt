@@ -1,9 +1,6 @@
 -- `is_function`: of the pairs that are left none shares its first part with the next one exactly where none of all does.
-use Prim.Native.Nat.{ℕ, _+_}
-use mathlib.Core.Path.{refl}
-use native.Mathlib.Omega.{arith}
-use Rattle.rules.specs.Values.{Values}
-use Rattle.arena.specs.Code.{SomeAt, Front, AllPairs}
+use Rattle.sets.proofs.Base.{ℕ, _+_, refl, arith}
+use Rattle.sets.proofs.Terms.{Values, SomeAt, Front, AllPairs}
 use Rattle.arena.proofs.ValueParts.{some-inside}
 use Rattle.sets.proofs.ImageLaws.{Checking, checking-end, first-some, second-some, next-some, walk-shared, walk-next}
 use Rattle.sets.proofs.is_function.Statement.{statement}

@@ -1,8 +1,6 @@
 -- `lower_bound`: cells before `from` are below x, those from `from + left` on are not; the one in the middle decides for half of the rest.
-use Prim.Native.Nat.{ℕ, _+_, _*_, _/_, _<_}
-use native.Mathlib.Omega.{arith}
-use lib.ListN.{length}
-use Rattle.sets.proofs.RowLaws.{Halving, halving-start, halving-end, halving-up, halving-down}
+use Rattle.sets.proofs.Base.{ℕ, _+_, _*_, _/_, _<_, arith, length}
+use Rattle.sets.proofs.RowLaws.{Halving, halving-up, halving-down}
 use Rattle.sets.proofs.lower_bound.Statement.{statement}
 use Rattle.sets.proofs.lower_bound.Tie as tie
 
@@ -31,7 +29,7 @@ lower-bound-spec =
     (tie.spec
     Inv-loop
     μ-loop
-    (λ c. halving-start)
+    (λ c. record { few = omega arith; below = λ i l. absurd (omega arith); above = λ i k l. absurd (omega arith) })
     (λ c. omega (arith, few c))
     (λ c. omega (arith, inside c))
     (λ c. omega (arith, inside c))
@@ -46,4 +44,5 @@ lower-bound-spec =
     (λ c. omega (arith, c .before .before .loop-test .taken))
     (λ c. let t = c .before .before in
     halving-down (t .before .loop .inv) (lent t .pre) (few t) (omega arith) (omega (arith, c .if1 .left)))
-    (λ c. halving-end (c .before .loop .inv) (c .loop-test .left)))
+    (λ c. let h = c .before .loop .inv in
+    record { few = omega (arith, h .few); below = h .below; above = λ i k l. h .above i (omega (arith, c .loop-test .left)) l }))

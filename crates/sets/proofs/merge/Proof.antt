@@ -1,9 +1,7 @@
 -- `merge`: rows of cells are merged by cells, other sets are walked.
-use borrow.Author.Needs.{needs}
-use Prim.Native.Nat.{ℕ, _+_}
-use mathlib.Core.List.{List}
+use Rattle.sets.proofs.Base.{needs, ℕ, _+_, List}
+use Rattle.sets.proofs.Terms.{RunsMerge, Merges}
 use Rattle.arena.proofs.FrontLaws.{front-start}
-use Rattle.sets.specs.Fronts.{RunsMerge, Merges}
 use Rattle.sets.proofs.TurnLaws.{two-runs, two-rows}
 use Rattle.sets.proofs.merge.Statement.{statement}
 use Rattle.sets.proofs.merge.Tie as tie

@@ -1,13 +1,8 @@
 -- `merge_cells`: each turn stores the lesser of the first cells, which is a turn of the merge; at the end one set is exhausted.
-use Prim.Native.Nat.{ℕ, _+_, _-_, _≤_, _<_}
-use mathlib.Core.List.{List}
-use mathlib.Core.Logic.{_⊎_, inl, inr}
-use borrow.Author.Needs.{needs}
-use borrow.Author.Tests.{ltb-true, ltb-false}
-use native.Mathlib.Omega.{arith}
-use lib.ListN.{length, getD}
-use Rattle.sets.specs.Rows.{RowMerge}
-use Rattle.sets.proofs.CellMerge.{turn-moves, merge-inside, merge-step, merge-end, merge-made}
+use Rattle.sets.proofs.Base.{ℕ, _+_, _-_, _≤_, _<_, List, inl, inr, needs, ltb-true, ltb-false, arith, length, getD}
+use Rattle.sets.proofs.Terms.{RowMerge}
+use Rattle.sets.proofs.CellMerge.{turn-moves, merge-inside, merge-step, merge-end, last-walking}
+use Rattle.sets.proofs.BuildLaws.{walking-made}
 use Rattle.sets.proofs.merge_cells.Statement.{statement}
 use Rattle.sets.proofs.merge_cells.Tie as tie
 
@@ -60,11 +55,7 @@ moves c =
     let q = lent l .args in
     turn-moves (q .left) (q .both) (q .right) (getD (l .loop .s) (l .loop .i) 0) (getD (l .loop .s) (l .loop .j) 0) (c .cell-turn .ensures)
 
--- One of both sets is exhausted.
-exhausted : (c : tie.Left-loop Inv-loop μ-loop) → let l = c .before in
-    (lent l .args .a + lent l .args .m ≤ l .loop .i) ⊎ (lent l .args .b + lent l .args .n ≤ l .loop .j)
-exhausted c = elim (c .loop-test .came) [ inl x ↦ inr (ltb-false _ _ (x .1 .left)) | inr x ↦ inl (x .left) ]
-
+-- The loop is left.
 abbrev left : tie.After-finish Inv-loop μ-loop → tie.At-loop Inv-loop μ-loop
 left f = f .before .before .before
 
@@ -98,6 +89,7 @@ merge-cells-spec =
     (λ c. merging (c .before) .onRight .1)
     (λ c. omega (arith, merging (c .before) .countIs))
     (λ c. omega (arith, merging (c .before) .countIs))
-    (λ c κs. let k = c .before in merge-end (merging (k .before)) (exhausted k))
+    (λ c κs. let k = c .before in
+    merge-end (merging (k .before)) (elim (k .loop-test .came) [ inl x ↦ inr (ltb-false _ _ (x .1 .left)) | inr x ↦ inl (x .left) ]))
     (λ c. omega (arith, merging (left (c .before .before)) .walking .frame .kept))
-    (λ c. let f = c .before .before in merge-made (merging (left f)) (f .finish .ensures)))
+    (λ c. let f = c .before .before in walking-made (last-walking (merging (left f))) (f .finish .ensures)))

@@ -1,6 +1,5 @@
 -- `merge_fronts`: the cells of one set before the first of the other are its turns of the merge, one after the other.
-use borrow.Author.Needs.{needs}
-use native.Mathlib.Omega.{arith}
+use Rattle.sets.proofs.Base.{needs, arith}
 use Rattle.sets.proofs.RowLaws.{cells-row}
 use Rattle.sets.proofs.CellMerge.{first-put, second-put, merge-start}
 use Rattle.sets.proofs.merge_fronts.Statement.{statement}

@@ -1,24 +1,16 @@
 -- `of_flat_pairs`: an empty relation has no pairs; where both parts of the first pair are scalars, all pairs weigh three cells.
-use borrow.Author.Needs.{needs}
-use mathlib.Core.Path.{sym, _∙_}
-use borrow.Author.Tests.{ltb-true}
-use Prim.Native.Nat.{_+_, _<_}
-use native.Mathlib.Omega.{arith}
-use lib.ListN.{length}
+use Rattle.sets.proofs.Base.{needs, sym, _∙_, ltb-true, _+_, _<_, arith, length}
 use Rattle.rules.proofs.Basics.{absurd01}
 use Rattle.sets.proofs.ImageLaws.{no-pairs, flat-pairs, pair-inside}
 use Rattle.sets.proofs.of_flat_pairs.Statement.{statement}
 use Rattle.sets.proofs.of_flat_pairs.Tie as tie
 
 -- There is a first pair.
-abbrev known : tie.Else1 → tie.After-low
-known t = t .before
+abbrev lent : tie.After-low → tie.Start
+lent l = l .before .before .before
 
-abbrev lent : tie.Else1 → tie.Start
-lent t = known t .before .before .before
-
-inside : (t : tie.Else1) → lent t .args .f + 3 < length (lent t .args .s .now)
-inside t = let q = lent t .pre in pair-inside (q .1) (q .2) (λ e. t .if1 .left (known t .low .ensures .0 ∙ e))
+inside : (t : tie.Else1) → lent (t .before) .args .f + 3 < length (lent (t .before) .args .s .now)
+inside t = let q = lent (t .before) .pre in pair-inside (q .1) (q .2) (λ e. t .if1 .left (t .before .low .ensures .0 ∙ e))
 
 pub of-flat-pairs-spec : {M : Type 1} → statement M
 of-flat-pairs-spec =
@@ -35,5 +27,5 @@ of-flat-pairs-spec =
     (λ c. search needs)
     (λ c. inside (c .before .before .before))
     (λ c. λ e top vs h p. let t = c .before .before .before in
-    flat-pairs h p (λ z. t .if1 .left (known t .low .ensures .0 ∙ z)) (c .before .if2 .taken) (ltb-true _ _ e))
+    flat-pairs h p (λ z. t .if1 .left (t .before .low .ensures .0 ∙ z)) (c .before .if2 .taken) (ltb-true _ _ e))
     (λ c. λ e. absurd01 (cc e)))

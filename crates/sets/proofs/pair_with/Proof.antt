@@ -1,12 +1,9 @@
 -- `pair_with`: flat pairs are found by the row of first parts, others one by one.
-use borrow.Author.Needs.{needs}
-use Prim.Native.Nat.{_+_, _*_, _≤_}
-use native.Mathlib.Omega.{arith}
-use lib.ListN.{length}
+use Rattle.sets.proofs.Base.{needs, _+_, _*_, _≤_, _<_, inl, inr, refl, arith, length}
+use Rattle.sets.proofs.Terms.{SomeFlat}
 use Rattle.arena.proofs.ValueParts.{some-inside}
 use Rattle.arena.proofs.FrontLaws.{value-some}
-use Rattle.sets.specs.Pairs.{SomeFlat}
-use Rattle.sets.proofs.ImageLaws.{whole, relation-run, flat-inside, pair-row, pair-none, pair-found, relation-flat}
+use Rattle.sets.proofs.ImageLaws.{whole, relation-run, flat-inside, pair-row, flat-none, flat-found, relation-flat}
 use Rattle.sets.proofs.pair_with.Statement.{statement}
 use Rattle.sets.proofs.pair_with.Tie as tie
 
@@ -37,12 +34,13 @@ pair-with-spec =
     (λ c κs. let q = some (c .before) in pair-row (q .2) (q .3))
     (λ c. λ vs v h k p. let b = c .before in
     let q = lent (flat b) .pre .1 in
-    pair-none k (whole h (q .counted)) (q .thin (flat b .if1 .taken) _ vs h p) (b .find .ensures) (c .if2 .taken))
+    inr (refl, flat-none k (whole h (q .counted)) (q .thin (flat b .if1 .taken) _ vs h p) (b .find .ensures .lost (c .if2 .taken))))
     (λ c. omega (arith, inside c))
     (λ c. omega (arith, inside c))
     (λ c. λ vs v h k p. let b = c .before in
     let q = lent (flat b) .pre .1 in
-    pair-found k (whole h (q .counted)) (q .thin (flat b .if1 .taken) _ vs h p) (b .find .ensures) (c .if2 .left))
+    let l : b .find .result < lent (flat b) .args .n = omega (arith, b .find .ensures .few, c .if2 .left) in
+    inl (flat-found k (whole h (q .counted)) (q .thin (flat b .if1 .taken) _ vs h p) _ l (b .find .ensures .here l)))
     (λ c κs. let q = c .before .before .pre in
     let r = relation-run (q .1) in
     record { value = q .0; top = _; rest = _; front = r .2; keyed = r .3 })

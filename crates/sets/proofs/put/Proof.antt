@@ -1,7 +1,5 @@
 -- `put`: a run copied behind what has been built.
-use borrow.Author.Needs.{needs}
-use mathlib.Core.Logic.{inl}
-use native.Mathlib.Omega.{arith}
+use Rattle.sets.proofs.Base.{needs, inl, arith}
 use Rattle.arena.proofs.Standing.{same-refl}
 use Rattle.sets.proofs.BuildLaws.{put-kept, put-none}
 use Rattle.sets.proofs.put.Statement.{statement}

@@ -1,11 +1,9 @@
 -- `rest_end`: n members of one cell each end n cells further; others are walked, one by one.
-use Prim.Native.Nat.{ℕ, _+_}
-use mathlib.Core.Path.{refl}
-use native.Mathlib.Omega.{arith}
-use Rattle.rules.specs.Values.{Values, weights}
-use Rattle.arena.specs.Code.{Front}
+use Rattle.sets.proofs.Base.{ℕ, _+_, refl, arith}
+use Rattle.sets.proofs.Terms.{Values, weights, Front}
+use Rattle.arena.proofs.FrontLaws.{front-some}
 use Rattle.sets.proofs.RowLaws.{cells-end}
-use Rattle.sets.proofs.SearchLaws.{Running, running-at, running-next, running-end}
+use Rattle.sets.proofs.SearchLaws.{Running, running-next, running-end}
 use Rattle.sets.proofs.rest_end.Statement.{statement}
 use Rattle.sets.proofs.rest_end.Tie as tie
 
@@ -27,7 +25,7 @@ rest-end-spec =
     (λ c. omega (arith, c .before .before .pre .1 (c .if1 .taken) .inside))
     (λ c. cells-end (c .before .before .pre .1 (c .if1 .taken)))
     (λ c. λ top vs h. record { rest = vs; front = h; ends = refl })
-    (λ c κs. running-at (c .before .loop .inv _ _ (lent (c .before) .pre .0 .2)) (c .loop-test .taken))
+    (λ c κs. front-some _ _ _ _ _ (c .before .loop .inv _ _ (lent (c .before) .pre .0 .2) .front) (c .loop-test .taken))
     (λ c. omega (arith, c .before .loop-test .taken))
     (λ c. omega (arith, c .before .loop-test .taken))
     (λ c. λ top vs h. running-next (c .before .before .loop .inv top vs h) (c .before .loop-test .taken) (c .end-of .ensures))

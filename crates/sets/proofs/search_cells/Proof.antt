@@ -1,5 +1,5 @@
 -- `search_cells`: the first set is included where each of its members that are left is found in the second.
-use native.Mathlib.Omega.{arith}
+use Rattle.sets.proofs.Base.{arith}
 use Rattle.sets.proofs.RowLaws.{cells-row, cells-part}
 use Rattle.sets.proofs.TurnLaws.{including-end, RowWalk, row-start, including-sought}
 use Rattle.sets.proofs.search_cells.Statement.{statement}

@@ -1,13 +1,9 @@
 -- `seek`: the value is found in the set where it is found among the members that are left.
-use Prim.Native.Nat.{ℕ}
-use native.Mathlib.Omega.{arith}
-use lib.ListN.{length}
-use Rattle.rules.specs.Values.{Value, Values, members}
-use Rattle.arena.specs.Code.{ValueBelow, Front}
-use Rattle.arena.proofs.FrontLaws.{value-some}
+use Rattle.sets.proofs.Base.{ℕ, arith, length}
+use Rattle.sets.proofs.Terms.{Value, Values, members, ValueBelow, Front, Keyed}
+use Rattle.arena.proofs.FrontLaws.{value-some, front-some}
 use Rattle.arena.proofs.ValueParts.{some-inside}
-use Rattle.sets.specs.Fronts.{Keyed}
-use Rattle.sets.proofs.SearchLaws.{Seeking, seeking-start, seeking-at, seeking-key, seeking-end, seeking-found, seeking-past, seeking-next}
+use Rattle.sets.proofs.SearchLaws.{Seeking, seeking-key, seeking-end, seeking-found, seeking-past, seeking-next}
 use Rattle.sets.proofs.seek.Statement.{statement}
 use Rattle.sets.proofs.seek.Tie as tie
 
@@ -41,7 +37,7 @@ seek-spec =
     Inv-loop
     μ-loop
     (λ c κs. value-some _ _ _ _ (c .before .pre .value .1))
-    (λ c. λ top vs v f k h. seeking-start f k)
+    (λ c. λ top vs v f k h. record { rest = vs; front = f; keyed = k; behind = omega arith; on = λ r x. x })
     (λ c. tt)
     (λ c. omega (arith, some-inside _ _ (seeking-key (seeking c) (c .loop-test .taken))))
     (λ c κs. (value-some _ _ _ _ (lent c .pre .value .1), seeking-key (seeking c) (c .loop-test .taken), ended c .end-of .ensures))
@@ -51,7 +47,7 @@ seek-spec =
     (λ c. λ top vs v f k h. let o = c .before .before in
     let t = o .before in
     seeking-past (t .before .loop .inv top vs v f k h) h (o .compare .ensures) (t .loop-test .taken) (c .if2 .taken))
-    (λ c κs. let t = c .before .before .before in seeking-at (seeking t) (t .loop-test .taken))
+    (λ c κs. let t = c .before .before .before in front-some _ _ _ _ _ (seeking t .front) (t .loop-test .taken))
     (λ c. omega (arith, greater c .before .loop-test .taken))
     (λ c. omega (arith, greater c .before .loop-test .taken))
     (λ c. λ top vs v f k h. let o = greater c in

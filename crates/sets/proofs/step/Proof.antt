@@ -1,6 +1,7 @@
 -- `step`: a turn of a merge.
-use borrow.Author.Needs.{needs}
-use Rattle.sets.proofs.BuildLaws.{step-two, step-put, step-returns}
+use Rattle.sets.proofs.Base.{needs}
+use Rattle.sets.proofs.BuildLaws.{step-put, step-returns}
+use Rattle.sets.proofs.TurnLaws.{two-fronts}
 use Rattle.sets.proofs.step.Statement.{statement}
 use Rattle.sets.proofs.step.Tie as tie
 
@@ -12,7 +13,7 @@ pub step-spec : {M : Type 1} → statement M
 step-spec =
     tie.close
     (tie.spec
-    (λ c κs. step-two (c .before .before .pre))
+    (λ c κs. let p = c .before .before .pre in two-fronts (p .merging .onLeft) (p .merging .onRight) (p .moreLeft) (p .moreRight))
     (λ c κs. let t = c .before in step-put (lent t .pre) (t .turn-at .ensures))
     (λ c. search needs)
     (λ c. let p = c .before .before in

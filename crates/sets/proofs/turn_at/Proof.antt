@@ -1,5 +1,5 @@
 -- `turn_at`: the first of two members, by their order.
-use native.Mathlib.Omega.{arith}
+use Rattle.sets.proofs.Base.{arith}
 use Rattle.sets.proofs.TurnLaws.{turn-less, turn-equal, turn-greater, two-left, two-right, two-some}
 use Rattle.sets.proofs.turn_at.Statement.{statement}
 use Rattle.sets.proofs.turn_at.Tie as tie

@@ -1,10 +1,6 @@
 -- `value_end`: a set whose members are one cell each ends as many cells behind its own as it has members; other values are walked.
-use borrow.Author.Needs.{needs}
-use mathlib.Core.Path.{subst}
-use native.Mathlib.Omega.{arith}
-use lib.ListN.{length}
-use Prim.Native.Nat.{_<_}
-use Rattle.arena.specs.Code.{SomeSet, EndsAt}
+use Rattle.sets.proofs.Base.{needs, subst, arith, length, _<_}
+use Rattle.sets.proofs.Terms.{SomeSet, EndsAt}
 use Rattle.arena.proofs.FrontLaws.{value-some}
 use Rattle.arena.proofs.ValueParts.{some-inside}
 use Rattle.sets.proofs.RowLaws.{fine-set, cells-ends}

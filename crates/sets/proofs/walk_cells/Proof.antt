@@ -1,9 +1,5 @@
 -- `walk_cells`: the first set is included where the members that are left of it are among those left of the second.
-use Prim.Native.Nat.{_<_}
-use native.Mathlib.Omega.{arith}
-use mathlib.Core.Bool.{Bool}
-use lib.Dec.{eqb}
-use lib.ListN.{length, getD}
+use Rattle.sets.proofs.Base.{_<_, arith, Bool, eqb, length, getD}
 use Rattle.sets.proofs.TurnLaws.{including-end, RowWalk, row-start, including-fewer, including-less, byte-small, row-step}
 use Rattle.sets.proofs.walk_cells.Statement.{statement}
 use Rattle.sets.proofs.walk_cells.Tie as tie

@@ -1,9 +1,7 @@
 -- `walk_included`: the answer is whether the members left of the first run are among those left of the second.
-use Prim.Native.Nat.{_+_}
-use borrow.Author.Tests.{not-true, not-false}
-use Rattle.rules.specs.Values.{members}
-use Rattle.rules.specs.Operations.{allIn}
-use Rattle.sets.proofs.TurnLaws.{Including, Includings, including-start, including-end, including-short, including-two, including-turn}
+use Rattle.sets.proofs.Base.{_+_, arith, not-true, not-false}
+use Rattle.sets.proofs.Terms.{members, allIn}
+use Rattle.sets.proofs.TurnLaws.{Including, Includings, including-start, including-end, including-short, two-fronts, including-turn}
 use Rattle.sets.proofs.walk_included.Statement.{statement}
 use Rattle.sets.proofs.walk_included.Tie as tie
 
@@ -30,7 +28,7 @@ walk-included-spec =
     μ-loop
     (λ c. including-start _ _ _ _ _)
     (λ c. λ vs ws f g. including-short (c .before .before .loop .inv vs ws f g) (c .before .loop-test .taken) (c .if1 .taken))
-    (λ c κs. including-two (including c) (c .before .loop-test .taken) (c .if1 .left))
+    (λ c κs. let h = including c in two-fronts (h .onLeft) (h .onRight) (c .before .loop-test .taken) (omega (arith, c .if1 .left)))
     (λ c. λ vs ws f g. let t = c .before .before in
     let e = t .before in
     including-turn (loop e .loop .inv vs ws f g) (e .before .loop-test .taken) (e .if1 .left) (t .turn-at .ensures) .1 (not-true _ (c .if2 .taken)))

@@ -1,12 +1,7 @@
 -- `walk_merge`: the walk goes on while both runs have members left and what is built is not too heavy.
-use Prim.Native.Nat.{_+_, _<_}
-use mathlib.Core.Logic.{_⊎_, inl, inr}
-use mathlib.Core.Path.{_≡_}
-use borrow.Author.Needs.{needs}
-use borrow.Author.Tests.{ltb-true, ltb-false, leb-true, leb-false}
-use native.Mathlib.Omega.{arith}
+use Rattle.sets.proofs.Base.{_+_, _<_, _⊎_, inl, inr, _≡_, needs, ltb-true, ltb-false, leb-true, leb-false, arith}
+use Rattle.sets.proofs.Terms.{Walking}
 use Rattle.rules.proofs.Basics.{absurd01}
-use Rattle.sets.specs.Fronts.{Walking}
 use Rattle.sets.proofs.BuildLaws.{walking-start, walking-step, walking-next, walking-end, walking-made}
 use Rattle.sets.proofs.walk_merge.Statement.{statement}
 use Rattle.sets.proofs.walk_merge.Tie as tie
