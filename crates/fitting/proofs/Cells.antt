@@ -3,7 +3,7 @@ use Prim.Native.Nat.{ℕ, _+_, _*_, _-_, _/_, _%_, _≤_, _<_}
 use mathlib.Core.Bool.{Bool, true, false, _&&_}
 use mathlib.Core.List.{List}
 use mathlib.Core.Logic.{_≢_, inl, inr}
-use borrow.Author.Tests.{eq-eqb, ne-eqb, eqb-true}
+use borrow.Author.Tests.{eq-eqb, ne-eqb}
 use mathlib.Core.Path.{_≡_, refl, sym, _∙_}
 use native.Mathlib.Omega.{arith}
 use native.Mathlib.Decide.{ℕ-discrete}
@@ -89,6 +89,11 @@ pub scalar-low : (x : Scalar) → scalarTag x < 4
 scalar-low (num whole i) = omega arith
 scalar-low (truth b) = omega arith
 scalar-low (element g k) = omega arith
+
+tag-most : (v : Value) → tag v ≤ 5
+tag-most (scalar x) = omega (arith, scalar-low x)
+tag-most (pair v w) = omega arith
+tag-most (set vs) = omega arith
 
 pub tag-pair : (v : Value) → tag v ≡ 4 → (x : Value) × (y : Value) × (v ≡ pair x y)
 tag-pair (scalar x) e = absurd (omega (arith, scalar-low x))
@@ -270,25 +275,9 @@ atoms-agree s a b l (scalar (element g₀ k₀)) (scalar (element g₁ k₁)) h 
 atoms-agree s a b l (pair x y) w h k = absurd (omega (arith, tag-is h))
 atoms-agree s a b l (set vs) w h k = absurd (omega (arith, tag-is h))
 
-pub alike-low : (x y : ℕ) → x < 4 * cellSize → atomsAlike x y ≡ true → y < 4 * cellSize
-alike-low x y l e = elim (ℕ-discrete (x / cellSize) 3) [
-  | yes t ↦ let g : eqb (x / 256) (y / 256) ≡ true = rw (eq-eqb (x / cellSize) 3 t) at e in omega (arith, eqb-true (x / 256) (y / 256) g)
-  | no n ↦ let g : eqb (x / cellSize) (y / cellSize) ≡ true = rw (ne-eqb (x / cellSize) 3 n) at e in
-      omega (arith, eqb-true (x / cellSize) (y / cellSize) g)
-]
-
-pub agreed-back : (s : List ℕ) (a b : ℕ) (r : Bool) → Agreed s a b r → Agreed s b a r
-unfolding agree
-agreed-back s a b r g v w h k = g w v k h ∙ meets-sym (typesOf w) (typesOf v)
-
 -- A pair or a set that is no set is a pair.
 pub other-pair : {s : List ℕ} {a : ℕ} → SomeTyped s a → PairOrSet s a → getD s a 0 / cellSize ≢ 5 → getD s a 0 / cellSize ≡ 4
-other-pair {s} {a} x l n = go (x .0) (tag-is (x .1))
-  where
-    go : (v : Value) → getD s a 0 / cellSize ≡ tag v → getD s a 0 / cellSize ≡ 4
-    go (scalar x) e = absurd (omega (arith, scalar-low x))
-    go (pair v w) e = e
-    go (set vs) e = absurd (n e)
+other-pair x l n = omega (arith, tag-is (x .1), tag-most (x .0))
 
 pub scalar-full : (s : List ℕ) (at : ℕ) → getD s at 0 < 4 * cellSize → (v : Value) → TypedAt s at v → Full v
 scalar-full s at l (scalar x) h = tt

@@ -79,6 +79,17 @@ meets-sym p q =
     (λ h. let x = meets→share p q h in share→meets q p (x .0, x .2, x .1))
     (λ h. let x = meets→share q p h in share→meets p q (x .0, x .2, x .1))
 
+-- The types of sets and of pairs.
+pub as-power : (p : TypeSet) (t : Ty) → powˢ p ⊑ t → (u : Ty) × (t ≡ POW u) × (p ⊑ u)
+as-power p (atom a) h = absurd h
+as-power p (POW t) h = (t, refl, h)
+as-power p (t ⊗ u) h = absurd h
+
+pub as-product : (p q : TypeSet) (t : Ty) → (p ×ˢ q) ⊑ t → (u : Ty) × (w : Ty) × (t ≡ u ⊗ w) × (p ⊑ u) × (q ⊑ w)
+as-product p q (atom a) h = absurd h
+as-product p q (POW t) h = absurd h
+as-product p q (t ⊗ u) h = (t, u, refl, h .0, h .1)
+
 -- The tag of the values of a type.
 abbrev pub tagOf : Ty → ℕ
 tagOf (atom (number whole)) = 1
@@ -91,12 +102,8 @@ pub tag-type : (v : Value) (t : Ty) → typesOf v ⊑ t → tag v ≡ tagOf t
 tag-type (scalar (num whole i)) t h = sym (ap tagOf h)
 tag-type (scalar (truth b)) t h = sym (ap tagOf h)
 tag-type (scalar (element g k)) t h = sym (ap tagOf h)
-tag-type (pair v w) (atom a) h = absurd h
-tag-type (pair v w) (POW t) h = absurd h
-tag-type (pair v w) (t ⊗ u) h = refl
-tag-type (set s) (atom a) h = absurd h
-tag-type (set s) (POW t) h = refl
-tag-type (set s) (t ⊗ u) h = absurd h
+tag-type (pair v w) t h = sym (ap tagOf (as-product (typesOf v) (typesOf w) t h .2))
+tag-type (set s) t h = sym (ap tagOf (as-power (sharedTypes s) t h .1))
 
 -- Values of different tags share no type.
 pub tags-differ : (v w : Value) → tag v ≢ tag w → agree v w ≡ false
@@ -115,17 +122,6 @@ pub ⊓-every : (p : TypeSet) → p ⊓ every ≡ p
 
 pub with-every : (p : TypeSet) → T (inhabited p) → T (inhabited (p ⊓ every))
 with-every p h = rw (⊓-every p) h
-
--- The types of sets and of pairs.
-pub as-power : (p : TypeSet) (t : Ty) → powˢ p ⊑ t → (u : Ty) × (t ≡ POW u) × (p ⊑ u)
-as-power p (atom a) h = absurd h
-as-power p (POW t) h = (t, refl, h)
-as-power p (t ⊗ u) h = absurd h
-
-pub as-product : (p q : TypeSet) (t : Ty) → (p ×ˢ q) ⊑ t → (u : Ty) × (w : Ty) × (t ≡ u ⊗ w) × (p ⊑ u) × (q ⊑ w)
-as-product p q (atom a) h = absurd h
-as-product p q (POW t) h = absurd h
-as-product p q (t ⊗ u) h = (t, u, refl, h .0, h .1)
 
 -- A full value has at most one type.
 mutual
