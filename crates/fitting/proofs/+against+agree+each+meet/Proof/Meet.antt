@@ -8,7 +8,7 @@ use borrow.Author.Tests.{not-true, not-false}
 use lib.ListN.{getD}
 use Rattle.fitting.proofs.Sharing.{tags-differ}
 use Rattle.fitting.specs.Agree.{SetHere, SomeRun, Agreed, AgreedAll}
-use Rattle.fitting.proofs.Cells.{inside, tag-is, members-run, run-first, run-one, sets-agree, other-pair, PairHere, pair-here, some-at, end-bounds, pairs-false, pairs-true}
+use Rattle.fitting.proofs.Cells.{inside, tag-is, members-run, run-first, run-whole, rest-last, sets-agree, other-pair, PairHere, pair-here, some-at, end-bounds, pairs-false, pairs-true}
 use Rattle.fitting.proofs.Cycle.{Over}
 use Rattle.arena.proofs.tag.Reads as tag
 use Rattle.arena.proofs.end_of.Reads as end-of
@@ -104,7 +104,8 @@ module _ (t : ℕ) where
         omega (arith, given m .pre .0, inside (set-a (sets m) .value)),
         record { first = run-first (run-a m) (omega (arith, c .if3 .taken)); second = run-b m },
       ))
-      (λ c. by-members (c .before .before) (λ ws k. run-one _ (c .before .if3 .taken) (λ v h. c .against .ensures v ws h k)))
+      (λ c. by-members (c .before .before) (λ p.
+      let n = c .before .if3 .taken in rest-last (run-whole _ (p .first)) (omega (arith, n)) (λ v h. c .against .ensures v _ h (p .second .1)) n))
       (λ c κs. let m = c .before in (omega (arith, given m .pre .0, inside (set-a (sets m) .value)), record { first = run-a m; second = run-b m }))
       (λ c. by-members (c .before .before) (c .each .ensures))
       (λ c κs. let p = lent (c .before) .pre in
