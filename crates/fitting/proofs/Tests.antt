@@ -2,13 +2,13 @@
 use Prim.Native.Nat.{ℕ, _+_, _/_, _%_, _<_}
 use mathlib.Core.Bool.{Bool, true, false, _&&_, cond, and-true, and-false}
 use mathlib.Core.List.{List, [], _∷_}
-use mathlib.Core.Logic.{_≢_, _↔_, inl, inr}
+use mathlib.Core.Logic.{_≢_, inl, inr}
 use mathlib.Core.Path.{_≡_, refl, sym, ap, _∙_, subst}
 use native.Mathlib.Omega.{arith}
 use lib.Dec.{T, eqb, eqb→eq}
 use lib.ListN.{getD}
 use borrow.Author.Tests.{eq-eqb, ne-eqb, eqb-true}
-use Rattle.rules.specs.Types.{whole, number, bool, given, Ty, atom, POW, _⊗_}
+use Rattle.rules.specs.Types.{whole, Ty, _⊗_}
 use Rattle.rules.specs.Values.{num, truth, element, Value, scalar, pair, set, Values, none, _▸_, scalarTag, tag}
 use Rattle.rules.specs.Rules.{t̂, û, P̂, _×̂_, numᵖ}
 use Rattle.rules.specs.Fits.{TypeSet, every, noType, atomˢ, powˢ, _×ˢ_, _⊓_, typesOf, sharedTypes, inhabited, anything, nothing-fits, asked, fits}
@@ -18,7 +18,7 @@ use Rattle.fitting.specs.Agree.{meets, agree, TypedAt, RunAt, SomeTyped,
 use Rattle.fitting.specs.Tests.{FitOne, FitTwo, Both, PairsAndOne, AgreedLefts}
 use Rattle.fitting.proofs.Sharing.{meets→share, share→meets, no-meet, meets-same, tagOf, tag-type, as-product, ⊓-every, ground, narrowed}
 use Rattle.laws.proofs.EndLaws.{T-true, T-eqb}
-use Rattle.fitting.proofs.Cells.{scalar-low, test-is, as-pair, as-set, set-run, pair-parts, PairHere, pair-here, as-run, run-head, no-run, run-of, OneMeets, tag-is}
+use Rattle.fitting.proofs.Cells.{scalar-low, tag-pair, test-is, as-pair, as-set, set-run, pair-parts, PairHere, pair-here, as-run, run-head, no-run, run-of, OneMeets, tag-is}
 use Rattle.rules.proofs.Basics.{absurd01, bool-eq}
 
 -- The types of a set's members; none where the value is no set.
@@ -133,22 +133,15 @@ module _ {s : List ℕ} {a b : ℕ} where
       last b = elim b [ true ↦ refl | false ↦ refl ]
 
 -- A value with a product type is a pair, and the other way round.
-product : (t : Ty) → anyPair ⊑ t ↔ (tagOf t ≡ 4)
-product (atom (number whole)) = (λ h. absurd h, λ e. absurd (omega arith))
-product (atom bool) = (λ h. absurd h, λ e. absurd (omega arith))
-product (atom (given g)) = (λ h. absurd h, λ e. absurd (omega arith))
-product (POW t) = (λ h. absurd h, λ e. absurd (omega arith))
-product (t ⊗ u) = (λ h. refl, λ e. (tt, tt))
-
 first-pair : (x : Value) (r : TypeSet) → T (inhabited (typesOf x ⊓ r)) → eqb (tag x) 4 ≡ meets (typesOf x ⊓ r) anyPair
 first-pair x r l =
     bool-eq (eqb (tag x) 4) (meets (typesOf x ⊓ r) anyPair)
-    (λ h. let y = inhabited→some (typesOf x ⊓ r) l in
-    share→meets (typesOf x ⊓ r) anyPair (y .0, y .1, product (y .0) .1 (sym (of (y .0) (y .1)) ∙ eqb→eq (tag x) 4 h)))
-    (λ h. let y = meets→share (typesOf x ⊓ r) anyPair h in T-eqb (tag x) 4 .1 (of (y .0) (y .1) ∙ product (y .0) .0 (y .2)))
-  where
-    of : (t : Ty) → (typesOf x ⊓ r) ⊑ t → tag x ≡ tagOf t
-    of t h = tag-type x t (⊓-split (typesOf x) r t h .0)
+    (λ h. let (y, z, e) = tag-pair x (eqb→eq (tag x) 4 h) in
+    let (t, k) = inhabited→some (typesOf x ⊓ r) l in
+    let (_, _, d, _, _) = as-product (typesOf y) (typesOf z) t (subst (λ (v : Value). typesOf v ⊑ t) e (⊓-split (typesOf x) r t k .0)) in
+    share→meets (typesOf x ⊓ r) anyPair (t, k, rw d (tt, tt)))
+    (λ h. let (t, k, p) = meets→share (typesOf x ⊓ r) anyPair h in
+    T-eqb (tag x) 4 .1 (tag-type x t (⊓-split (typesOf x) r t k .0) ∙ ap tagOf (as-product every every t p .2)))
 
 -- Relations.
 module _ {s : List ℕ} {a : ℕ} where

@@ -34,7 +34,8 @@ module _ (t : ℕ) where
       lts.spec claims (each .at t) (each .post) Inv μ
       (λ c. (omega arith, λ p. run-whole (sharedTypes (p .second .0)) (p .first)))
       (λ c κs. let p = lent c .pre in (omega (arith, p .0, c .before .loop .inv .0), record { first = next c; second = p .1 .second }))
-      (λ c p. let l = c .before .before in rest-no (l .before .loop .inv .1 p) (l .loop-test .taken) (λ v h. c .before .against .ensures v _ h (p .second .1)) (c .if1 .taken))
+      (λ c p. let l = c .before .before in
+      rest-no (l .before .loop .inv .1 p) (l .loop-test .taken) (λ v h. c .before .against .ensures v _ h (p .second .1)) (c .if1 .taken))
       (λ c κs. some-at (next (c .before .before)))
       (λ c. c .before .before .before .loop-test .taken)
       (λ c. omega (arith, c .before .before .before .loop-test .taken))
