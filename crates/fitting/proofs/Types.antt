@@ -10,12 +10,12 @@ use lib.ListN.{length, getD, replicate, length-append}
 use borrow.Author.Tests.{eq-eqb, ne-eqb, eqb-true, not-true, not-false}
 use Rattle.rules.specs.Types.{whole, Atom, number, bool, given, Ty, atom, POW, _⊗_, atomCode, weightᵀ, prefix, row}
 use Rattle.rules.specs.Values.{Scalar, num, truth, element, Value, scalar, pair, set, Values, none, _▸_, scalarTag, count, weight}
-use Rattle.rules.specs.Fits.{atomOf, typesOf, sharedTypes, HaveType}
+use Rattle.rules.specs.Fits.{atomOf, typesOf, sharedTypes, HasType, HaveType}
 use Rattle.laws.proofs.FitsLaws.{has→types}
 use Rattle.rules.proofs.TypeLaws.{weight-positive, prefix-length, prefixes, atomCode-injective}
 use Rattle.arena.specs.Code.{cellSize, scalarLow, Stands, ValueAt, ValuesAt, ScalarFits, CellsFit, AllFit, SomeAt, EndsAt}
 use Rattle.arena.proofs.Standing.{stands-head, stands-tail, stands-front, stands-back}
-use Rattle.fitting.specs.Types.{TypeAt, SomeType, TypeEnds, typeParts, Decides, atomIs, OfType, AllOfType, ValuesAndType}
+use Rattle.fitting.specs.Types.{TypeAt, SomeType, TypeEnds, typeParts, Decides, atomIs, OfType, ValuesAndType}
 use Rattle.arena.proofs.ValueParts.{first-cell, left-stands, right-stands}
 use Rattle.fitting.proofs.Cells.{tag-set, tag-pair, members-stand, first-stands, rest-stand}
 use Rattle.fitting.proofs.Sharing.{as-power, as-product}
@@ -141,14 +141,16 @@ both-yes d e f = record { sound = λ z. (d .sound e, f .sound z); complete = λ 
 pub refuses : {A : Type 0} → (A → ⊥) → Decides false A
 refuses n = record { sound = λ e. absurd (false≢true e); complete = λ a. absurd (n a) }
 
--- A pair against a product: the right part and its type stand where the left ones end.
-pub record PairAndProduct (s : List ℕ) (at : ℕ) (row : List ℕ) (from : ℕ) : Type 0 where
-  pub isPair : getD s at 0 / cellSize ≡ 4
-  pub isProduct : getD row from 0 ≡ 4
+-- A pair against a product: the right part and its type stand where the left ones end. The left part has another type, or has its own and the right
+-- part decides.
+pub record PairAndProduct {s : List ℕ} {at : ℕ} {row : List ℕ} {from : ℕ} (v : SomeAt s at) (t : SomeType row from) : Type 0 where
   pub left : SomeAt s (at + 1)
   pub right : (c : ℕ) → EndsAt s (at + 1) c → SomeAt s c
   pub type : SomeType row (from + 1)
   pub next : (e : ℕ) → TypeEnds row (from + 1) e → SomeType row e
+  pub no : {q : Bool} → OfType s (at + 1) row (from + 1) q → q ≡ false → Decides false (HasType (v .value) (t .0))
+  pub yes : {q r : Bool} {c e : ℕ} → OfType s (at + 1) row (from + 1) q → q ≡ true → EndsAt s (at + 1) c → TypeEnds row (from + 1) e →
+      OfType s c row e r → Decides r (HasType (v .value) (t .0))
 
 -- A value by the tag of its cell, with its members or its parts.
 module _ {s : List ℕ} {at : ℕ} (v : Value) (h : ValueAt s at v) (f : CellsFit v) where
@@ -178,47 +180,32 @@ module _ {s : List ℕ} {at : ℕ} {row : List ℕ} {from : ℕ} where
       let (x, y, e, _, _, _, _) = pair-only v h f tag in
       refuses (λ z. n (first-code row from t k ∙ ap head (as-product (typesOf x) (typesOf y) t (has→types (pair x y) t (rw e at z)) .2)))
 
-  pub set-type : {n : ℕ} {r : Bool} → getD s at 0 / cellSize ≡ 5 → getD row from 0 ≡ 3 → n ≡ getD s at 0 % cellSize →
-      AllOfType s (at + 1) n row (from + 1) r → OfType s at row from r
-  set-type tag c m g v t h f k =
-      let (vs, e, i, a, q) = set-only v h f tag in
-      let (u, d, j) = is-pow row from t k c in
-      rw (e, d) (g (record { values = vs; stands = i; fits = a; counted = q ∙ sym m; type = (u, j) }))
+  -- by some value and some type there
+  pub of-some : {r : Bool} → ((v : SomeAt s at) (t : SomeType row from) → Decides r (HasType (v .value) (t .0))) → OfType s at row from r
+  of-some g v t h f k = g (record { value = v; stands = h; fits = f }) (t, k)
 
-  -- the parts of a pair against those of a product: the left part has another type, or has its own and the right part decides
-  pub pair-left : {q : Bool} → PairAndProduct s at row from → OfType s (at + 1) row (from + 1) q → q ≡ false → OfType s at row from false
-  pair-left o g n v t h f k =
-      let (x, y, e, i, j, a, b) = pair-only v h f (o .isPair) in
-      let (u, w, d, p, q) = is-product row from t k (o .isProduct) in
-      rw (e, d) (both-no (g x u i a p) n)
+  module _ (v : SomeAt s at) (t : SomeType row from) where
+    -- a set against POW(u): the members decide
+    pub set-asks : {n : ℕ} → getD s at 0 / cellSize ≡ 5 → getD row from 0 ≡ 3 → n ≡ getD s at 0 % cellSize →
+        (p : ValuesAndType s (at + 1) n row (from + 1)) ×
+        ((r : Bool) → Decides r (HaveType (p .values) (p .type .0)) → Decides r (HasType (v .value) (t .0)))
+    set-asks tag c m =
+        let (vs, e, i, a, q) = set-only (v .value) (v .stands) (v .fits) tag in
+        let (u, d, j) = is-pow row from (t .0) (t .1) c in
+        (record { values = vs; stands = i; fits = a; counted = q ∙ sym m; type = (u, j) }, λ r g. rw (e, d) g)
 
-  pub pair-right : {end next : ℕ} {q r : Bool} → PairAndProduct s at row from → OfType s (at + 1) row (from + 1) q → q ≡ true →
-      EndsAt s (at + 1) end → TypeEnds row (from + 1) next → OfType s end row next r → OfType s at row from r
-  pair-right o g n l m z v t h f k =
-      let (x, y, e, i, j, a, b) = pair-only v h f (o .isPair) in
-      let (u, w, d, p, q) = is-product row from t k (o .isProduct) in
-      rw (e, d) (both-yes (g x u i a p) n (z y w (rw (l x i a) j) b (rw (m u p) q)))
-
-  -- what the tests of the members and of the parts ask
-  pub set-asks : {n : ℕ} → SomeAt s at → SomeType row from → getD s at 0 / cellSize ≡ 5 → getD row from 0 ≡ 3 → n ≡ getD s at 0 % cellSize →
-      ValuesAndType s (at + 1) n row (from + 1)
-  set-asks v t tag c m =
-      let (vs, _, i, a, q) = set-only (v .value) (v .stands) (v .fits) tag in
-      let (u, _, j) = is-pow row from (t .0) (t .1) c in
-      record { values = vs; stands = i; fits = a; counted = q ∙ sym m; type = (u, j) }
-
-  pub pair-asks : SomeAt s at → SomeType row from → getD s at 0 / cellSize ≡ 4 → getD row from 0 ≡ 4 → PairAndProduct s at row from
-  pair-asks v t tag c =
-      let (x, y, _, i, j, a, b) = pair-only (v .value) (v .stands) (v .fits) tag in
-      let (u, w, _, p, q) = is-product row from (t .0) (t .1) c in
-      record {
-        isPair = tag;
-        isProduct = c;
-        left = record { value = x; stands = i; fits = a };
-        right = λ d e. record { value = y; stands = rw (e x i a) j; fits = b };
-        type = (u, p);
-        next = λ d e. (w, rw (e u p) q);
-      }
+    pub pair-asks : getD s at 0 / cellSize ≡ 4 → getD row from 0 ≡ 4 → PairAndProduct v t
+    pair-asks tag c =
+        let (x, y, d, i, j, a, b) = pair-only (v .value) (v .stands) (v .fits) tag in
+        let (u, w, e, p, q) = is-product row from (t .0) (t .1) c in
+        record {
+          left = record { value = x; stands = i; fits = a };
+          right = λ c l. record { value = y; stands = rw (l x i a) j; fits = b };
+          type = (u, p);
+          next = λ c m. (w, rw (m u p) q);
+          no = λ g n. rw (d, e) (both-no (g x u i a p) n);
+          yes = λ g n l m z. rw (d, e) (both-yes (g x u i a p) n (z y w (rw (l x i a) j) b (rw (m u p) q)));
+        }
 
 pub ends-behind : {s : List ℕ} {at end : ℕ} → SomeAt s at → EndsAt s at end → at < end
 ends-behind x e = omega (arith, e (x .value) (x .stands) (x .fits), weight-some (x .value))
