@@ -17,10 +17,7 @@ Share p q = (t : Ty) × (p ⊑ t) × (q ⊑ t)
 
 pub meets→share : (p q : TypeSet) → T (meets p q) → Share p q
 unfolding meets
-meets→share p q h =
-    let r = inhabited→some (p ⊓ q) h in
-    let k = ⊓-split p q (r .0) (r .1) in
-    (r .0, k .0, k .1)
+meets→share p q h = let (t, k) = inhabited→some (p ⊓ q) h in let (x, y) = ⊓-split p q t k in (t, x, y)
 
 pub share→meets : (p q : TypeSet) → Share p q → T (meets p q)
 unfolding meets
@@ -34,11 +31,10 @@ pub pairwise : (p q r : TypeSet) → T (inhabited (p ⊓ q)) → T (inhabited (p
 pairwise every q r h k l = l
 pairwise noType q r h k l = h
 pairwise (atomˢ a) q r h k l =
-    let x = inhabited→some (atomˢ a ⊓ q) h in
-    let y = inhabited→some (atomˢ a ⊓ r) k in
-    let z = ⊓-split (atomˢ a) r (y .0) (y .1) in
-    let e = z .0 ∙ sym (⊓-split (atomˢ a) q (x .0) (x .1) .0) in
-    some→inhabited ((atomˢ a ⊓ q) ⊓ r) (x .0) (⊓-join (atomˢ a ⊓ q) r (x .0) (x .1) (rw e at (z .1)))
+    let (t, x) = inhabited→some (atomˢ a ⊓ q) h in
+    let (u, y) = inhabited→some (atomˢ a ⊓ r) k in
+    let (e, z) = ⊓-split (atomˢ a) r u y in
+    some→inhabited ((atomˢ a ⊓ q) ⊓ r) t (⊓-join (atomˢ a ⊓ q) r t x (subst (λ (v : Ty). r ⊑ v) (e ∙ sym (⊓-split (atomˢ a) q t x .0)) z))
 pairwise (powˢ p) every r h k l = k
 pairwise (powˢ p) noType r h k l = absurd h
 pairwise (powˢ p) (atomˢ b) r h k l = absurd h

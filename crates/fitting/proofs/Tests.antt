@@ -19,7 +19,7 @@ use Rattle.fitting.specs.Tests.{FitOne, FitTwo, Both, PairsAndOne, Agree
 use Rattle.fitting.proofs.Sharing.{meets→share, share→meets, no-meet, meets-same, tagOf, tag-type, as-product, ⊓-every, ground, narrowed}
 use Rattle.laws.proofs.EndLaws.{T-true, T-eqb}
 use Rattle.fitting.proofs.Cells.{scalar-low, tag-pair, test-is, as-pair, as-set, set-run, pair-parts, PairHere, pair-here, as-run, run-head, no-run, run-of, OneMeets, tag-is}
-use Rattle.rules.proofs.Basics.{absurd01, bool-eq}
+use Rattle.rules.proofs.Basics.{bool-eq}
 
 -- The types of a set's members; none where the value is no set.
 abbrev pub inner : Value → TypeSet
@@ -216,14 +216,12 @@ applies-not f v w h k =
     let p = as-product (typesOf w) every (x .0) (x .2) in
     subst T (sym (f v h ∙ fits-relation v)) (share→meets (inner v) anyPair (x .0, x .1, subst (λ (t : Ty). anyPair ⊑ t) (sym (p .2)) (tt, tt)))))
 
-all-pairs : (vs : Values) (t u : Ty) → sharedTypes vs ⊑ t ⊗ u → AllPairs vs
+pub all-pairs : (vs : Values) (t u : Ty) → sharedTypes vs ⊑ t ⊗ u → AllPairs vs
 all-pairs none t u h = tt
-all-pairs (v ▸ vs) t u h = let (x, y) = ⊓-split (typesOf v) (sharedTypes vs) (t ⊗ u) h in (one v x, all-pairs vs t u y)
-  where
-    one : (v : Value) → typesOf v ⊑ t ⊗ u → IsPair v
-    one (scalar x) h = absurd01 (cc)
-    one (pair x y) h = tt
-    one (set vs) h = h
+all-pairs (v ▸ vs) t u h =
+    let (k, l) = ⊓-split (typesOf v) (sharedTypes vs) (t ⊗ u) h in
+    let (x, y, e) = tag-pair v (tag-type v (t ⊗ u) k) in
+    (rw e tt, all-pairs vs t u l)
 
 -- A relation is a set of pairs, n of them.
 module _ {s : List ℕ} {a n : ℕ} (f : FitOne (P̂ (t̂ ×̂ û) ∷ []) s a true) (c : n ≡ getD s a 0 % cellSize) where
