@@ -9,11 +9,11 @@ use lib.Dec.{eqb}
 use lib.ListN.{length, getD, replicate, length-append}
 use borrow.Author.Tests.{eq-eqb, ne-eqb, eqb-true, not-true, not-false}
 use Rattle.rules.specs.Types.{whole, Atom, number, bool, given, Ty, atom, POW, _⊗_, atomCode, weightᵀ, prefix, row}
-use Rattle.rules.specs.Values.{Scalar, num, truth, element, Value, scalar, pair, set, Values, none, _▸_, scalarTag, count, weight}
+use Rattle.rules.specs.Values.{Scalar, num, truth, element, scalar, pair, set, Values, none, _▸_, scalarTag, tag, count}
 use Rattle.rules.specs.Fits.{atomOf, typesOf, sharedTypes, HasType, HaveType}
 use Rattle.laws.proofs.FitsLaws.{has→types}
 use Rattle.rules.proofs.TypeLaws.{weight-positive, prefix-length, prefixes, atomCode-injective}
-use Rattle.arena.specs.Code.{cellSize, scalarLow, Stands, ValueAt, ValuesAt, ScalarFits, CellsFit, AllFit, SomeAt, EndsAt}
+use Rattle.arena.specs.Code.{cellSize, scalarLow, Stands, ValuesAt, ScalarFits, AllFit, SomeAt, EndsAt}
 use Rattle.arena.proofs.Standing.{stands-head, stands-tail, stands-front, stands-back}
 use Rattle.fitting.specs.Types.{TypeAt, SomeType, TypeEnds, typeParts, Decides, atomIs, OfType, ValuesAndType}
 use Rattle.arena.proofs.ValueParts.{first-cell, left-stands, right-stands}
@@ -152,59 +152,54 @@ pub record PairAndProduct {s : List ℕ} {at : ℕ} {row : List ℕ} {from : ℕ
   pub yes : {q r : Bool} {c e : ℕ} → OfType s (at + 1) row (from + 1) q → q ≡ true → EndsAt s (at + 1) c → TypeEnds row (from + 1) e →
       OfType s c row e r → Decides r (HasType (v .value) (t .0))
 
--- A value by the tag of its cell, with its members or its parts.
-module _ {s : List ℕ} {at : ℕ} (v : Value) (h : ValueAt s at v) (f : CellsFit v) where
-  set-only : getD s at 0 / cellSize ≡ 5 → (vs : Values) × (v ≡ set vs) × ValuesAt s (at + 1) vs × AllFit vs × (count vs ≡ getD s at 0 % cellSize)
-  set-only t =
-      let (vs, e) = tag-set v (sym (first-cell s at v h f .0) ∙ t) in
-      let i = rw e at h in
-      let g = rw e at f in
-      (vs, e, members-stand s at vs i, g .1, sym (first-cell s at (set vs) i g .1))
-
-  pair-only : getD s at 0 / cellSize ≡ 4 →
-      (x : Value) × (y : Value) × (v ≡ pair x y) × ValueAt s (at + 1) x × ValueAt s (at + 1 + weight x) y × CellsFit x × CellsFit y
-  pair-only t =
-      let (x, y, e) = tag-pair v (sym (first-cell s at v h f .0) ∙ t) in
-      let i = rw e at h in
-      let g = rw e at f in
-      (x, y, e, left-stands s at x y i, right-stands s at x y i, g .0, g .1)
+some-tag : {s : List ℕ} {at n : ℕ} (v : SomeAt s at) → getD s at 0 / cellSize ≡ n → tag (v .value) ≡ n
+some-tag {s} {at} v e = sym (first-cell s at (v .value) (v .stands) (v .fits) .0) ∙ e
 
 module _ {s : List ℕ} {at : ℕ} {row : List ℕ} {from : ℕ} where
-  pub set-no : getD s at 0 / cellSize ≡ 5 → getD row from 0 ≢ 3 → OfType s at row from false
-  set-no tag n v t h f k =
-      let (vs, e, _, _, _) = set-only v h f tag in
-      refuses (λ y. n (first-code row from t k ∙ ap head (as-power (sharedTypes vs) t (has→types (set vs) t (rw e at y)) .1)))
-
-  pub pair-no : getD s at 0 / cellSize ≡ 4 → getD row from 0 ≢ 4 → OfType s at row from false
-  pair-no tag n v t h f k =
-      let (x, y, e, _, _, _, _) = pair-only v h f tag in
-      refuses (λ z. n (first-code row from t k ∙ ap head (as-product (typesOf x) (typesOf y) t (has→types (pair x y) t (rw e at z)) .2)))
-
   -- by some value and some type there
   pub of-some : {r : Bool} → ((v : SomeAt s at) (t : SomeType row from) → Decides r (HasType (v .value) (t .0))) → OfType s at row from r
   of-some g v t h f k = g (record { value = v; stands = h; fits = f }) (t, k)
 
   module _ (v : SomeAt s at) (t : SomeType row from) where
+    -- another code than that of POW for a set, than that of a product for a pair
+    pub set-no : getD s at 0 / cellSize ≡ 5 → getD row from 0 ≢ 3 → Decides false (HasType (v .value) (t .0))
+    set-no e n =
+        let (vs, d) = tag-set (v .value) (some-tag v e) in
+        refuses (λ y. n (first-code row from (t .0) (t .1) ∙ ap head (as-power (sharedTypes vs) (t .0) (has→types (set vs) (t .0) (rw d at y)) .1)))
+
+    pub pair-no : getD s at 0 / cellSize ≡ 4 → getD row from 0 ≢ 4 → Decides false (HasType (v .value) (t .0))
+    pair-no e n =
+        let (x, y, d) = tag-pair (v .value) (some-tag v e) in
+        refuses (λ z. n (first-code row from (t .0) (t .1) ∙
+        ap head (as-product (typesOf x) (typesOf y) (t .0) (has→types (pair x y) (t .0) (rw d at z)) .2)))
+
     -- a set against POW(u): the members decide
     pub set-asks : {n : ℕ} → getD s at 0 / cellSize ≡ 5 → getD row from 0 ≡ 3 → n ≡ getD s at 0 % cellSize →
         (p : ValuesAndType s (at + 1) n row (from + 1)) ×
         ((r : Bool) → Decides r (HaveType (p .values) (p .type .0)) → Decides r (HasType (v .value) (t .0)))
-    set-asks tag c m =
-        let (vs, e, i, a, q) = set-only (v .value) (v .stands) (v .fits) tag in
-        let (u, d, j) = is-pow row from (t .0) (t .1) c in
-        (record { values = vs; stands = i; fits = a; counted = q ∙ sym m; type = (u, j) }, λ r g. rw (e, d) g)
+    set-asks e c m =
+        let (vs, d) = tag-set (v .value) (some-tag v e) in
+        let h = rw d at (v .stands) in
+        let f = rw d at (v .fits) in
+        let (u, g, k) = is-pow row from (t .0) (t .1) c in
+        let q = sym (m ∙ first-cell s at (set vs) h f .1) in
+        (record { values = vs; stands = members-stand s at vs h; fits = f .1; counted = q; type = (u, k) }, λ r a. rw (d, g) a)
 
     pub pair-asks : getD s at 0 / cellSize ≡ 4 → getD row from 0 ≡ 4 → PairAndProduct v t
-    pair-asks tag c =
-        let (x, y, d, i, j, a, b) = pair-only (v .value) (v .stands) (v .fits) tag in
-        let (u, w, e, p, q) = is-product row from (t .0) (t .1) c in
+    pair-asks e c =
+        let (x, y, d) = tag-pair (v .value) (some-tag v e) in
+        let h = rw d at (v .stands) in
+        let (a, b) = rw d at (v .fits) in
+        let i = left-stands s at x y h in
+        let j = right-stands s at x y h in
+        let (u, w, g, p, q) = is-product row from (t .0) (t .1) c in
         record {
           left = record { value = x; stands = i; fits = a };
           right = λ c l. record { value = y; stands = rw (l x i a) j; fits = b };
           type = (u, p);
           next = λ c m. (w, rw (m u p) q);
-          no = λ g n. rw (d, e) (both-no (g x u i a p) n);
-          yes = λ g n l m z. rw (d, e) (both-yes (g x u i a p) n (z y w (rw (l x i a) j) b (rw (m u p) q)));
+          no = λ o n. rw (d, g) (both-no (o x u i a p) n);
+          yes = λ o n l m z. rw (d, g) (both-yes (o x u i a p) n (z y w (rw (l x i a) j) b (rw (m u p) q)));
         }
 
 pub ends-behind : {s : List ℕ} {at end : ℕ} → SomeAt s at → EndsAt s at end → at < end

@@ -80,7 +80,7 @@ module _ (t : ℕ) where
       (λ c. value-inside (c .before .before .before))
       (λ c. let m = c .before in code-inside (m .before .before .before))
       (λ c κs. search needs)
-      (λ c. set-no (is-tag (c .before .before) 5 (c .before .if1 .taken)) (c .if2 .taken))
+      (λ c. of-some (λ v t. set-no v t (is-tag (c .before .before) 5 (c .before .if1 .taken)) (c .if2 .taken)))
       (λ c κs. search needs)
       (λ c. omega (arith, value-inside (lent (of-set c))))
       (λ c. omega (arith, code-inside (lent (of-set c))))
@@ -92,7 +92,7 @@ module _ (t : ℕ) where
       (λ c. let d = c .before in of-some (λ v t.
       let (p, tells) = set-asks v t (is-tag (of-set d) 5 (d .before .before .if1 .taken)) (d .before .if2 .left) (d .low .ensures .0) in
       tells _ (c .all-of-type .ensures p)))
-      (λ c. pair-no (is-tag (c .before .before .before) 4 (c .before .if3 .taken)) (c .if4 .taken))
+      (λ c. of-some (λ v t. pair-no v t (is-tag (c .before .before .before) 4 (c .before .if3 .taken)) (c .if4 .taken)))
       (λ c. omega (arith, value-inside (lent (of-pair c))))
       (λ c. omega (arith, code-inside (lent (of-pair c))))
       (λ c κs. let m = of-pair c in (omega (arith, lent m .pre .0, value-inside (lent m)), (given c .left, given c .type)))
