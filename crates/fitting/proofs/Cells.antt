@@ -215,22 +215,18 @@ pair-here v t =
 -- Two values by their parts or members.
 module _ {s : List ℕ} {a b : ℕ} where
   -- pairs whose left parts share no type, or do, and then the right parts decide
-  pub pairs-false : {q : Bool} → PairHere s a → PairHere s b → Agreed s (a + 1) (b + 1) q → q ≡ false → Agreed s a b false
+  pub pairs-agree : {q : Bool} → PairHere s a → PairHere s b → Agreed s (a + 1) (b + 1) q → (v w : Value) → TypedAt s a v → TypedAt s b w →
+      (q ≡ false → false ≡ agree v w) ×
+      ((c d : ℕ) (r : Bool) → q ≡ true → EndsAt s (a + 1) c → EndsAt s (b + 1) d → Agreed s c d r → r ≡ agree v w)
   unfolding agree meets
-  pairs-false t u g n v w h k =
-      let (v₁, v₂, e, x) = as-pair h (t .isPair) in
-      let (w₁, w₂, f, y) = as-pair k (u .isPair) in
-      rw (e, f, ← g v₁ w₁ (pair-parts x .0) (pair-parts y .0), n)
-
-  pub pairs-true : {c d : ℕ} {q r : Bool} → PairHere s a → PairHere s b → Agreed s (a + 1) (b + 1) q → q ≡ true →
-      EndsAt s (a + 1) c → EndsAt s (b + 1) d → Agreed s c d r → Agreed s a b r
-  unfolding agree meets
-  pairs-true t u g n l m i v w h k =
+  pairs-agree t u g v w h k =
       let (v₁, v₂, e, x) = as-pair h (t .isPair) in
       let (w₁, w₂, f, y) = as-pair k (u .isPair) in
       let (x₁, x₂) = pair-parts x in
-      let (y₁, y₂) = pair-parts y in
-      rw (e, f, ← g v₁ w₁ x₁ y₁, n) (i v₂ w₂ (rw (end-is l x₁) x₂) (rw (end-is m y₁) y₂))
+      let (y₁, y₂) = pair-parts y in (
+        λ n. rw (e, f, ← g v₁ w₁ x₁ y₁, n),
+        λ c d r n l m i. rw (e, f, ← g v₁ w₁ x₁ y₁, n) (i v₂ w₂ (rw (end-is l x₁) x₂) (rw (end-is m y₁) y₂)),
+      )
 
   pub sets-agree : {n m : ℕ} {r : Bool} → getD s a 0 / cellSize ≡ 5 → getD s b 0 / cellSize ≡ 5 →
       Members s a n → Members s b m → AgreedAll s (a + 1) n (b + 1) m r → Agreed s a b r
