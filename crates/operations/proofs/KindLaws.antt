@@ -1,7 +1,7 @@
 -- Kind codes: a code has one kind, and a kind one code.
 use Rattle.operations.proofs.Base.{ℕ, zero, suc, _+_, Bool, true, _&&_, List, [], _∷_, _≡_, refl, ap, sym, _∙_, arith, T, eqb, eqb→eq, getD, absurd01}
 use mathlib.Core.Option.{Option, none as nothing, some}
-use Rattle.operations.proofs.Terms.{whole, Join, and, or, implies, iff, Test, equal, member, subset, atMost, Quant, forAll, forSome, Leaf, identifier, givenSet, elementOf, literal, truthConst, emptySet, boolSet, singleton, power, dom, ran, card, choice, pairing, union, inter, diff, product, apply, plus, minus, interval, Kind, join, negation, test, quant, leaf, boolOf, one, two, comprehension, kinds, kindOf}
+use Rattle.operations.proofs.Terms.{whole, Join, and, or, implies, iff, equal, member, subset, atMost, Quant, forAll, forSome, Leaf, identifier, givenSet, elementOf, literal, truthConst, emptySet, boolSet, singleton, power, dom, ran, card, choice, pairing, union, inter, diff, product, apply, plus, minus, interval, Kind, join, negation, test, quant, leaf, boolOf, one, two, comprehension, kinds, kindOf}
 use Rattle.laws.proofs.OrderLaws.{and-left, and-right}
 
 -- Each kind with its code.
@@ -81,9 +81,6 @@ same-kind k x y e f = let d : some x ≡ some y = sym (kind-of k x e) ∙ f in c
 
 pub same-join : (k : ℕ) (i j : Join) → k ≡ joinCode i → kindOf k ≡ some (join j) → i ≡ j
 same-join k i j e f = cc (same-kind k (join i) (join j) e f)
-
-pub same-test : (k : ℕ) (i j : Test) → k ≡ codeOf (test i) → kindOf k ≡ some (test j) → i ≡ j
-same-test k i j e f = cc (same-kind k (test i) (test j) e f)
 
 pub same-leaf : (k : ℕ) (i j : Leaf) → k ≡ codeOf (leaf i) → kindOf k ≡ some (leaf j) → i ≡ j
 same-leaf k i j e f = cc (same-kind k (leaf i) (leaf j) e f)
