@@ -62,8 +62,7 @@ listed-at i [] t n x e = absurd01 (cc)
 listed-at i (nothing ∷ ks) t zero x e = absurd01 (cc)
 listed-at i (nothing ∷ ks) t (suc n) x e = let c = listed-at (suc i) ks t n x e in omega arith
 listed-at i (some y ∷ ks) t zero x e =
-    let d : y ≡ x = cc in
-    let c : i ≡ codeOf x = eqb→eq i (codeOf y) (and-left (eqb i (codeOf y)) (listed (suc i) ks) t) ∙ ap codeOf d in omega arith
+    let d : y ≡ x = cc in omega (arith, ap codeOf d, eqb→eq i (codeOf y) (and-left (eqb i (codeOf y)) (listed (suc i) ks) t))
 listed-at i (some y ∷ ks) t (suc n) x e = let c = listed-at (suc i) ks (and-right (eqb i (codeOf y)) (listed (suc i) ks) t) n x e in omega arith
 
 -- The code of a kind, and the kind of a code.

@@ -1,6 +1,6 @@
 -- What the tests of kinds 6 to 9 answer: for operands that pass the test's own test it is enough to look at sets, and two numbers are told by their
 -- cells.
-use Rattle.operations.proofs.Base.{ℕ, _+_, _≤_, Ordering, Ordering·lt, Ordering·eq, Ordering·gt, Bool, true, false, not, _≢_, List, [], _∷_, _≡_, refl, sym, ap, _∙_, subst, arith, le-leb, lt-leb, not-true, not-false, T, leb, leb→le, le→leb, eqb, eqb→eq, eqb-refl, isEq, ℤ, pos, negsuc, length, getD, bool-eq}
+use Rattle.operations.proofs.Base.{ℕ, _+_, _≤_, Ordering·lt, Ordering·eq, Ordering·gt, Bool, true, false, not, _≢_, List, [], _∷_, _≡_, refl, sym, ap, _∙_, subst, arith, le-leb, lt-leb, not-true, not-false, T, leb, leb→le, le→leb, eqb, eqb→eq, eqb-refl, isEq, ℤ, pos, negsuc, length, getD, bool-eq}
 use lib.Signed.{leZ}
 use Rattle.operations.proofs.Terms.{whole, Value, int, payload, order, same, Test, equal, member, subset, atMost, test, t̂, P̂, numᵖ, testRule, fits, holds, excess, code, orderCode, SomeSet, SomeValue, Compared, FitTwo, Sizes, GoodAt, Truth, Unlike, Operands, tested, TestDone, NumberCell, NumbersTold, TestOf}
 use Rattle.laws.proofs.OrderLaws.{same-eq, same-refl}
@@ -21,14 +21,9 @@ module _ (j : Test) {s : List ℕ} {a b : ℕ} {r : Bool} (f : FitTwo (testRule 
   test-told t e g gs mid top v w small h k = ap Truth (g gs mid top v w small h k) ∙ sym (test-fit j v w (two-fits small h k _ f ∙ not-false r e))
 
 -- 6: the number 1 is that of equal values.
-same-code : (o : Ordering) → eqb (orderCode o) 1 ≡ isEq o
-same-code Ordering·lt = refl
-same-code Ordering·eq = refl
-same-code Ordering·gt = refl
-
 holds-equal : (v w : Value) (r : ℕ) → r ≡ orderCode (order v w) → eqb r 1 ≡ holds equal v w
 unfolding holds same
-holds-equal v w r e = rw e (same-code (order v w))
+holds-equal v w r e = rw e (elim (order v w) as (λ o. eqb (orderCode o) 1 ≡ isEq o) [ Ordering·lt ↦ refl | Ordering·eq ↦ refl | Ordering·gt ↦ refl ])
 
 module _ {s : List ℕ} {a b : ℕ} {r : Bool} where
   pub equal-told : (q : ℕ) → FitTwo (t̂ ∷ t̂ ∷ []) s a b r → not r ≡ false → Compared s a b q → TestDone equal s a b (Truth (eqb q 1))
