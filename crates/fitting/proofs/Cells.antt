@@ -1,10 +1,10 @@
 -- Values that stand in the arena: what their cells tell of the types that they share.
 use Prim.Native.Nat.{ℕ, _+_, _*_, _-_, _/_, _%_, _≤_, _<_}
-use mathlib.Core.Bool.{Bool, true, false, _&&_}
+use mathlib.Core.Bool.{Bool, true, false, not, _&&_}
 use mathlib.Core.List.{List}
 use mathlib.Core.Logic.{_≢_, inl, inr}
-use borrow.Author.Tests.{eq-eqb, ne-eqb, eqb-true}
-use mathlib.Core.Path.{_≡_, refl, sym, _∙_}
+use borrow.Author.Tests.{eq-eqb, ne-eqb, not-true, not-false}
+use mathlib.Core.Path.{_≡_, refl, sym, _∙_, subst}
 use native.Mathlib.Omega.{arith}
 use native.Mathlib.Decide.{ℕ-discrete}
 use lib.Dec.{T, eqb}
@@ -12,12 +12,12 @@ use lib.ListN.{length, getD}
 use Rattle.rules.specs.Types.{whole, number, bool}
 use Rattle.rules.specs.Values.{Scalar, num, truth, element, Value, scalar, pair, set, Values, none, _▸_, scalarTag, tag, count, weight, weights}
 use Rattle.rules.specs.Fits.{TypeSet, atomˢ, _⊓_, typesOf, sharedTypes, inhabited, typed}
-use Rattle.arena.specs.Code.{cellSize, code, codes, ValueAt, ValuesAt, CellsFit, SomeAt, EndsAt}
+use Rattle.arena.specs.Code.{cellSize, code, codes, ValueAt, ValuesAt, CellsFit, SomeAt, EndsAt, AllPairs}
 use Rattle.arena.proofs.CodeLaws.{length-code}
 use Rattle.arena.proofs.Standing.{stands-head, stands-tail, stands-front, stands-back}
 use Rattle.arena.proofs.FrontLaws.{single}
 use Rattle.arena.proofs.ValueParts.{some-inside, first-cell, left-stands, right-stands}
-use Rattle.fitting.specs.Agree.{meets, agree, TypedAt, RunAt, SomeTyped, SomeRun, Agreed, AgreedWith, AgreedAll, emptyCell, NoEmpty, Members, Full, FullSet, FullAll, Few, atomsAlike, PairOrSet, SetHere}
+use Rattle.fitting.specs.Agree.{meets, agree, TypedAt, RunAt, SomeTyped, SomeRun, Agreed, AgreedAll, emptyCell, NoEmpty, Members, Full, FullSet, FullAll, Few, atomsAlike, PairOrSet, SetHere}
 use Rattle.fitting.proofs.Sharing.{full-first, meets-sym, meets-same, with-every, meets-first, left-typed, right-typed, ⊓-every}
 use Rattle.rules.proofs.Basics.{and-split}
 use Rattle.laws.proofs.CellsLaws.{weight-some}
@@ -90,6 +90,11 @@ scalar-low (num whole i) = omega arith
 scalar-low (truth b) = omega arith
 scalar-low (element g k) = omega arith
 
+tag-most : (v : Value) → tag v ≤ 5
+tag-most (scalar x) = omega (arith, scalar-low x)
+tag-most (pair v w) = omega arith
+tag-most (set vs) = omega arith
+
 pub tag-pair : (v : Value) → tag v ≡ 4 → (x : Value) × (y : Value) × (v ≡ pair x y)
 tag-pair (scalar x) e = absurd (omega (arith, scalar-low x))
 tag-pair (pair x y) e = (x, y, refl)
@@ -144,60 +149,56 @@ module _ {s : List ℕ} {a n : ℕ} where
       counted = omega (arith, h .counted);
     }
 
-    pub run-splits : (q : TypeSet) → meets (sharedTypes (x ▸ ys)) q ≡ (meets (typesOf x) q && meets (sharedTypes ys) q)
-    run-splits q = meets-first (typesOf x) (sharedTypes ys) q (h .typed)
-
 pub run-first : {s : List ℕ} {at n : ℕ} → SomeRun s at n → 0 < n → SomeTyped s at
 run-first r l = let (x, ys, e, k) = as-run (r .1) l in (x, run-head k)
 
-pub run-rest : {s : List ℕ} {at n end : ℕ} → SomeRun s at n → 0 < n → EndsAt s at end → SomeRun s end (n - 1)
-run-rest r l e = let (x, ys, _, k) = as-run (r .1) l in (ys, rw (end-is e (run-head k)) (run-tail k))
+-- A run of values against a set of types q, one after the other: those that are passed have a type in q, and the rest decides.
+abbrev pub OneMeets : List ℕ → ℕ → TypeSet → Bool → Type 0
+OneMeets s at q r = (v : Value) → TypedAt s at v → r ≡ meets (typesOf v) q
 
--- A run of values against a set of types, value by value.
-module _ (s : List ℕ) (at : ℕ) (q : TypeSet) where
-  abbrev pub OneMeets : Bool → Type 0
-  OneMeets r = (v : Value) → TypedAt s at v → r ≡ meets (typesOf v) q
+pub record Rest (s : List ℕ) (at n : ℕ) (q : TypeSet) (vs : Values) : Type 0 where
+  pub values : Values
+  pub run : RunAt s at n values
+  pub same : meets (sharedTypes vs) q ≡ meets (sharedTypes values) q
+  pub pairs : AllPairs vs → AllPairs values
 
-  abbrev pub RunMeets : ℕ → Bool → Type 0
-  RunMeets n r = (vs : Values) → RunAt s at n vs → r ≡ meets (sharedTypes vs) q
+pub run-whole : {s : List ℕ} {at n : ℕ} (q : TypeSet) (vs : SomeRun s at n) → Rest s at n q (vs .0)
+run-whole q vs = record { values = vs .0; run = vs .1; same = refl; pairs = λ a. a }
 
-module _ {s : List ℕ} {at n : ℕ} (q : TypeSet) where
-  pub run-end : n ≡ 0 → T (inhabited q) → RunMeets s at q n true
+module _ {s : List ℕ} {at n : ℕ} {q : TypeSet} {vs : Values} (p : Rest s at n q vs) where
+  pub rest-first : 0 < n → SomeTyped s at
+  rest-first l = run-first (p .values, p .run) l
+
+  pub rest-end : n ≡ 0 → T (inhabited q) → true ≡ meets (sharedTypes vs) q
   unfolding meets
-  run-end z t vs h = let e : vs ≡ none = no-run h z in rw e (sym (T-true (inhabited q) .0 t))
+  rest-end z t = let e : p .values ≡ none = no-run (p .run) z in sym (p .same ∙ rw e (T-true (inhabited q) .0 t))
 
-  pub run-false : {c : Bool} → 0 < n → OneMeets s at q c → c ≡ false → RunMeets s at q n false
-  run-false l g f vs h = let (x, ys, e, k) = as-run h l in rw (e, run-splits k q, ← g x (run-head k), f)
+  module _ (l : 0 < n) {c : Bool} (g : OneMeets s at q c) where
+    splits : {xs ys : Values} {x : Value} → xs ≡ x ▸ ys → RunAt s at n (x ▸ ys) → meets (sharedTypes xs) q ≡ (c && meets (sharedTypes ys) q)
+    splits {ys = ys} {x = x} e k = rw e (rw (g x (run-head k)) (meets-first (typesOf x) (sharedTypes ys) q (k .typed)))
 
-  pub run-step : {end : ℕ} {c r : Bool} → 0 < n → OneMeets s at q c → c ≡ true → EndsAt s at end → RunMeets s end q (n - 1) r → RunMeets s at q n r
-  run-step l g f d t vs h =
-      let (x, ys, e, k) = as-run h l in
-      rw (e, run-splits k q, ← g x (run-head k), f) (t ys (rw (end-is d (run-head k)) (run-tail k)))
+    pub rest-no : not c ≡ true → false ≡ meets (sharedTypes vs) q
+    rest-no f = let (x, ys, e, k) = as-run (p .run) l in sym (p .same ∙ splits e k ∙ rw (not-true c f))
 
-  pub run-one : {r : Bool} → n ≡ 1 → OneMeets s at q r → RunMeets s at q n r
-  run-one m g vs h = let (x, ys, e, k) = as-run h (omega arith) in rw (e, no-run (run-tail k) (omega arith), ⊓-every (typesOf x)) (g x (run-head k))
+    pub rest-yes : {end : ℕ} → not c ≡ false → EndsAt s at end → Rest s end (n - 1) q vs
+    rest-yes f d =
+        let (x, ys, e, k) = as-run (p .run) l in
+        record {
+          values = ys;
+          run = rw (end-is d (run-head k)) (run-tail k);
+          same = p .same ∙ splits e k ∙ rw (not-false c f);
+          pairs = λ a. (subst AllPairs e (p .pairs a)) .1;
+        }
 
--- A value against a run: the run against the types of the value.
-module _ (s : List ℕ) (a j left : ℕ) where
-  with-types : (r : Bool) → ((v : Value) → TypedAt s a v → RunMeets s j (typesOf v) left r) → AgreedWith s a j left r
-  with-types r f v ws h k = f v h ws k ∙ meets-sym (sharedTypes ws) (typesOf v)
+    pub rest-last : n ≡ 1 → c ≡ meets (sharedTypes vs) q
+    rest-last m =
+        let (x, ys, e, k) = as-run (p .run) l in
+        sym (p .same ∙ rw (e, no-run (run-tail k) (omega arith), ⊓-every (typesOf x)) (sym (g x (run-head k))))
 
-  one-meets : (r : Bool) → Agreed s a j r → (v : Value) → TypedAt s a v → OneMeets s j (typesOf v) r
-  unfolding agree
-  one-meets r g v h w k = g v w h k ∙ meets-sym (typesOf v) (typesOf w)
-
-  pub with-end : left ≡ 0 → AgreedWith s a j left true
-  with-end z = with-types true (λ v h. run-end (typesOf v) z (h .typed))
-
-  pub with-false : 0 < left → Agreed s a j false → AgreedWith s a j left false
-  with-false l g = with-types false (λ v h. run-false (typesOf v) l (one-meets false g v h) refl)
-
-  pub with-step : (j2 : ℕ) (r : Bool) → 0 < left → Agreed s a j true → EndsAt s j j2 → AgreedWith s a j2 (left - 1) r → AgreedWith s a j left r
-  with-step j2 r l g e t =
-      with-types r (λ v h. run-step (typesOf v) l (one-meets true g v h) refl e (λ ws k. t v ws h k ∙ meets-sym (typesOf v) (sharedTypes ws)))
-
-  pub with-last : left ≡ 1 → Agreed s a j true → AgreedWith s a j left true
-  with-last e g = with-types true (λ v h. run-one (typesOf v) e (one-meets true g v h))
+-- Two values against each other: the second against the types of the first.
+pub one-meets : {s : List ℕ} {a b : ℕ} {r : Bool} → Agreed s a b r → (v : SomeTyped s a) → OneMeets s b (typesOf (v .0)) r
+unfolding agree
+one-meets g v w k = g (v .0) w (v .1) k ∙ meets-sym (typesOf (v .0)) (typesOf w)
 
 -- A pair: its right part stands where the left one ends.
 pub record PairHere (s : List ℕ) (a : ℕ) : Type 0 where
@@ -214,22 +215,18 @@ pair-here v t =
 -- Two values by their parts or members.
 module _ {s : List ℕ} {a b : ℕ} where
   -- pairs whose left parts share no type, or do, and then the right parts decide
-  pub pairs-false : {q : Bool} → PairHere s a → PairHere s b → Agreed s (a + 1) (b + 1) q → q ≡ false → Agreed s a b false
+  pub pairs-agree : {q : Bool} → PairHere s a → PairHere s b → Agreed s (a + 1) (b + 1) q → (v w : Value) → TypedAt s a v → TypedAt s b w →
+      (q ≡ false → false ≡ agree v w) ×
+      ((c d : ℕ) (r : Bool) → q ≡ true → EndsAt s (a + 1) c → EndsAt s (b + 1) d → Agreed s c d r → r ≡ agree v w)
   unfolding agree meets
-  pairs-false t u g n v w h k =
-      let (v₁, v₂, e, x) = as-pair h (t .isPair) in
-      let (w₁, w₂, f, y) = as-pair k (u .isPair) in
-      rw (e, f, ← g v₁ w₁ (pair-parts x .0) (pair-parts y .0), n)
-
-  pub pairs-true : {c d : ℕ} {q r : Bool} → PairHere s a → PairHere s b → Agreed s (a + 1) (b + 1) q → q ≡ true →
-      EndsAt s (a + 1) c → EndsAt s (b + 1) d → Agreed s c d r → Agreed s a b r
-  unfolding agree meets
-  pairs-true t u g n l m i v w h k =
+  pairs-agree t u g v w h k =
       let (v₁, v₂, e, x) = as-pair h (t .isPair) in
       let (w₁, w₂, f, y) = as-pair k (u .isPair) in
       let (x₁, x₂) = pair-parts x in
-      let (y₁, y₂) = pair-parts y in
-      rw (e, f, ← g v₁ w₁ x₁ y₁, n) (i v₂ w₂ (rw (end-is l x₁) x₂) (rw (end-is m y₁) y₂))
+      let (y₁, y₂) = pair-parts y in (
+        λ n. rw (e, f, ← g v₁ w₁ x₁ y₁, n),
+        λ c d r n l m i. rw (e, f, ← g v₁ w₁ x₁ y₁, n) (i v₂ w₂ (rw (end-is l x₁) x₂) (rw (end-is m y₁) y₂)),
+      )
 
   pub sets-agree : {n m : ℕ} {r : Bool} → getD s a 0 / cellSize ≡ 5 → getD s b 0 / cellSize ≡ 5 →
       Members s a n → Members s b m → AgreedAll s (a + 1) n (b + 1) m r → Agreed s a b r
@@ -239,7 +236,7 @@ module _ {s : List ℕ} {a b : ℕ} where
       let (ws, f, y) = as-set k u in
       let p = c vs x in
       let q = d ws y in
-      rw (e, f) (g (q .few) (q .run) (p .few) (p .run) ∙
+      rw (e, f) (g (record { first = (p .few, p .run); second = (q .few, q .run) }) ∙
       meets-same (sharedTypes (p .few)) (sharedTypes vs) (sharedTypes (q .few)) (sharedTypes ws) (p .same) (q .same))
 
 -- A scalar and another value, by their cells.
@@ -270,25 +267,9 @@ atoms-agree s a b l (scalar (element g₀ k₀)) (scalar (element g₁ k₁)) h 
 atoms-agree s a b l (pair x y) w h k = absurd (omega (arith, tag-is h))
 atoms-agree s a b l (set vs) w h k = absurd (omega (arith, tag-is h))
 
-pub alike-low : (x y : ℕ) → x < 4 * cellSize → atomsAlike x y ≡ true → y < 4 * cellSize
-alike-low x y l e = elim (ℕ-discrete (x / cellSize) 3) [
-  | yes t ↦ let g : eqb (x / 256) (y / 256) ≡ true = rw (eq-eqb (x / cellSize) 3 t) at e in omega (arith, eqb-true (x / 256) (y / 256) g)
-  | no n ↦ let g : eqb (x / cellSize) (y / cellSize) ≡ true = rw (ne-eqb (x / cellSize) 3 n) at e in
-      omega (arith, eqb-true (x / cellSize) (y / cellSize) g)
-]
-
-pub agreed-back : (s : List ℕ) (a b : ℕ) (r : Bool) → Agreed s a b r → Agreed s b a r
-unfolding agree
-agreed-back s a b r g v w h k = g w v k h ∙ meets-sym (typesOf w) (typesOf v)
-
 -- A pair or a set that is no set is a pair.
 pub other-pair : {s : List ℕ} {a : ℕ} → SomeTyped s a → PairOrSet s a → getD s a 0 / cellSize ≢ 5 → getD s a 0 / cellSize ≡ 4
-other-pair {s} {a} x l n = go (x .0) (tag-is (x .1))
-  where
-    go : (v : Value) → getD s a 0 / cellSize ≡ tag v → getD s a 0 / cellSize ≡ 4
-    go (scalar x) e = absurd (omega (arith, scalar-low x))
-    go (pair v w) e = e
-    go (set vs) e = absurd (n e)
+other-pair x l n = omega (arith, tag-is (x .1), tag-most (x .0))
 
 pub scalar-full : (s : List ℕ) (at : ℕ) → getD s at 0 < 4 * cellSize → (v : Value) → TypedAt s at v → Full v
 scalar-full s at l (scalar x) h = tt

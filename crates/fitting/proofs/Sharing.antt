@@ -17,10 +17,7 @@ Share p q = (t : Ty) × (p ⊑ t) × (q ⊑ t)
 
 pub meets→share : (p q : TypeSet) → T (meets p q) → Share p q
 unfolding meets
-meets→share p q h =
-    let r = inhabited→some (p ⊓ q) h in
-    let k = ⊓-split p q (r .0) (r .1) in
-    (r .0, k .0, k .1)
+meets→share p q h = let (t, k) = inhabited→some (p ⊓ q) h in let (x, y) = ⊓-split p q t k in (t, x, y)
 
 pub share→meets : (p q : TypeSet) → Share p q → T (meets p q)
 unfolding meets
@@ -34,11 +31,10 @@ pub pairwise : (p q r : TypeSet) → T (inhabited (p ⊓ q)) → T (inhabited (p
 pairwise every q r h k l = l
 pairwise noType q r h k l = h
 pairwise (atomˢ a) q r h k l =
-    let x = inhabited→some (atomˢ a ⊓ q) h in
-    let y = inhabited→some (atomˢ a ⊓ r) k in
-    let z = ⊓-split (atomˢ a) r (y .0) (y .1) in
-    let e = z .0 ∙ sym (⊓-split (atomˢ a) q (x .0) (x .1) .0) in
-    some→inhabited ((atomˢ a ⊓ q) ⊓ r) (x .0) (⊓-join (atomˢ a ⊓ q) r (x .0) (x .1) (rw e at (z .1)))
+    let (t, x) = inhabited→some (atomˢ a ⊓ q) h in
+    let (u, y) = inhabited→some (atomˢ a ⊓ r) k in
+    let (e, z) = ⊓-split (atomˢ a) r u y in
+    some→inhabited ((atomˢ a ⊓ q) ⊓ r) t (⊓-join (atomˢ a ⊓ q) r t x (subst (λ (v : Ty). r ⊑ v) (e ∙ sym (⊓-split (atomˢ a) q t x .0)) z))
 pairwise (powˢ p) every r h k l = k
 pairwise (powˢ p) noType r h k l = absurd h
 pairwise (powˢ p) (atomˢ b) r h k l = absurd h
@@ -79,6 +75,17 @@ meets-sym p q =
     (λ h. let x = meets→share p q h in share→meets q p (x .0, x .2, x .1))
     (λ h. let x = meets→share q p h in share→meets p q (x .0, x .2, x .1))
 
+-- The types of sets and of pairs.
+pub as-power : (p : TypeSet) (t : Ty) → powˢ p ⊑ t → (u : Ty) × (t ≡ POW u) × (p ⊑ u)
+as-power p (atom a) h = absurd h
+as-power p (POW t) h = (t, refl, h)
+as-power p (t ⊗ u) h = absurd h
+
+pub as-product : (p q : TypeSet) (t : Ty) → (p ×ˢ q) ⊑ t → (u : Ty) × (w : Ty) × (t ≡ u ⊗ w) × (p ⊑ u) × (q ⊑ w)
+as-product p q (atom a) h = absurd h
+as-product p q (POW t) h = absurd h
+as-product p q (t ⊗ u) h = (t, u, refl, h .0, h .1)
+
 -- The tag of the values of a type.
 abbrev pub tagOf : Ty → ℕ
 tagOf (atom (number whole)) = 1
@@ -91,12 +98,8 @@ pub tag-type : (v : Value) (t : Ty) → typesOf v ⊑ t → tag v ≡ tagOf t
 tag-type (scalar (num whole i)) t h = sym (ap tagOf h)
 tag-type (scalar (truth b)) t h = sym (ap tagOf h)
 tag-type (scalar (element g k)) t h = sym (ap tagOf h)
-tag-type (pair v w) (atom a) h = absurd h
-tag-type (pair v w) (POW t) h = absurd h
-tag-type (pair v w) (t ⊗ u) h = refl
-tag-type (set s) (atom a) h = absurd h
-tag-type (set s) (POW t) h = refl
-tag-type (set s) (t ⊗ u) h = absurd h
+tag-type (pair v w) t h = sym (ap tagOf (as-product (typesOf v) (typesOf w) t h .2))
+tag-type (set s) t h = sym (ap tagOf (as-power (sharedTypes s) t h .1))
 
 -- Values of different tags share no type.
 pub tags-differ : (v w : Value) → tag v ≢ tag w → agree v w ≡ false
@@ -115,17 +118,6 @@ pub ⊓-every : (p : TypeSet) → p ⊓ every ≡ p
 
 pub with-every : (p : TypeSet) → T (inhabited p) → T (inhabited (p ⊓ every))
 with-every p h = rw (⊓-every p) h
-
--- The types of sets and of pairs.
-pub as-power : (p : TypeSet) (t : Ty) → powˢ p ⊑ t → (u : Ty) × (t ≡ POW u) × (p ⊑ u)
-as-power p (atom a) h = absurd h
-as-power p (POW t) h = (t, refl, h)
-as-power p (t ⊗ u) h = absurd h
-
-pub as-product : (p q : TypeSet) (t : Ty) → (p ×ˢ q) ⊑ t → (u : Ty) × (w : Ty) × (t ≡ u ⊗ w) × (p ⊑ u) × (q ⊑ w)
-as-product p q (atom a) h = absurd h
-as-product p q (POW t) h = absurd h
-as-product p q (t ⊗ u) h = (t, u, refl, h .0, h .1)
 
 -- A full value has at most one type.
 mutual

@@ -1,26 +1,25 @@
 -- Refusal 15 at the lists of operand types that the rules have, as questions on the types of the operands.
-use Prim.Native.Nat.{ℕ, _+_, _-_, _/_, _%_, _<_}
+use Prim.Native.Nat.{ℕ, _+_, _/_, _%_, _<_}
 use mathlib.Core.Bool.{Bool, true, false, _&&_, cond, and-true, and-false}
 use mathlib.Core.List.{List, [], _∷_}
-use mathlib.Core.Logic.{_≢_, _↔_, inl, inr}
+use mathlib.Core.Logic.{_≢_, inl, inr}
 use mathlib.Core.Path.{_≡_, refl, sym, ap, _∙_, subst}
 use native.Mathlib.Omega.{arith}
 use lib.Dec.{T, eqb, eqb→eq}
 use lib.ListN.{getD}
 use borrow.Author.Tests.{eq-eqb, ne-eqb, eqb-true}
-use Rattle.rules.specs.Types.{whole, number, bool, given, Ty, atom, POW, _⊗_}
+use Rattle.rules.specs.Types.{whole, Ty, _⊗_}
 use Rattle.rules.specs.Values.{num, truth, element, Value, scalar, pair, set, Values, none, _▸_, scalarTag, tag}
 use Rattle.rules.specs.Rules.{t̂, û, P̂, _×̂_, numᵖ}
 use Rattle.rules.specs.Fits.{TypeSet, every, noType, atomˢ, powˢ, _×ˢ_, _⊓_, typesOf, sharedTypes, inhabited, anything, nothing-fits, asked, fits}
 use Rattle.laws.proofs.FitsLaws.{_⊑_, ⊓-split, inhabited→some, some→inhabited}
-use Rattle.arena.specs.Code.{cellSize, EndsAt, IsPair, AllPairs}
+use Rattle.arena.specs.Code.{cellSize, IsPair, AllPairs}
 use Rattle.fitting.specs.Agree.{meets, agree, TypedAt, RunAt, SomeTyped, Agreed, AgreedWith, Full, Few, Members, SetHere}
-use Rattle.arena.proofs.ValueParts.{ends-at}
 use Rattle.fitting.specs.Tests.{FitOne, FitTwo, Both, PairsAndOne, AgreedLefts}
 use Rattle.fitting.proofs.Sharing.{meets→share, share→meets, no-meet, meets-same, tagOf, tag-type, as-product, ⊓-every, ground, narrowed}
 use Rattle.laws.proofs.EndLaws.{T-true, T-eqb}
-use Rattle.fitting.proofs.Cells.{scalar-low, test-is, as-set, set-run, pair-parts, as-run, run-head, run-tail, run-splits, no-run, run-of, run-end, end-is, tag-is}
-use Rattle.rules.proofs.Basics.{absurd01, and-of, bool-eq}
+use Rattle.fitting.proofs.Cells.{scalar-low, tag-pair, test-is, as-pair, as-set, set-run, pair-parts, PairHere, pair-here, as-run, run-head, no-run, run-of, OneMeets, tag-is}
+use Rattle.rules.proofs.Basics.{bool-eq}
 
 -- The types of a set's members; none where the value is no set.
 abbrev pub inner : Value → TypeSet
@@ -134,22 +133,15 @@ module _ {s : List ℕ} {a b : ℕ} where
       last b = elim b [ true ↦ refl | false ↦ refl ]
 
 -- A value with a product type is a pair, and the other way round.
-product : (t : Ty) → anyPair ⊑ t ↔ (tagOf t ≡ 4)
-product (atom (number whole)) = (λ h. absurd h, λ e. absurd (omega arith))
-product (atom bool) = (λ h. absurd h, λ e. absurd (omega arith))
-product (atom (given g)) = (λ h. absurd h, λ e. absurd (omega arith))
-product (POW t) = (λ h. absurd h, λ e. absurd (omega arith))
-product (t ⊗ u) = (λ h. refl, λ e. (tt, tt))
-
 first-pair : (x : Value) (r : TypeSet) → T (inhabited (typesOf x ⊓ r)) → eqb (tag x) 4 ≡ meets (typesOf x ⊓ r) anyPair
 first-pair x r l =
     bool-eq (eqb (tag x) 4) (meets (typesOf x ⊓ r) anyPair)
-    (λ h. let y = inhabited→some (typesOf x ⊓ r) l in
-    share→meets (typesOf x ⊓ r) anyPair (y .0, y .1, product (y .0) .1 (sym (of (y .0) (y .1)) ∙ eqb→eq (tag x) 4 h)))
-    (λ h. let y = meets→share (typesOf x ⊓ r) anyPair h in T-eqb (tag x) 4 .1 (of (y .0) (y .1) ∙ product (y .0) .0 (y .2)))
-  where
-    of : (t : Ty) → (typesOf x ⊓ r) ⊑ t → tag x ≡ tagOf t
-    of t h = tag-type x t (⊓-split (typesOf x) r t h .0)
+    (λ h. let (y, z, e) = tag-pair x (eqb→eq (tag x) 4 h) in
+    let (t, k) = inhabited→some (typesOf x ⊓ r) l in
+    let (_, _, d, _, _) = as-product (typesOf y) (typesOf z) t (subst (λ (v : Value). typesOf v ⊑ t) e (⊓-split (typesOf x) r t k .0)) in
+    share→meets (typesOf x ⊓ r) anyPair (t, k, rw d (tt, tt)))
+    (λ h. let (t, k, p) = meets→share (typesOf x ⊓ r) anyPair h in
+    T-eqb (tag x) 4 .1 (tag-type x t (⊓-split (typesOf x) r t k .0) ∙ ap tagOf (as-product every every t p .2)))
 
 -- Relations.
 module _ {s : List ℕ} {a : ℕ} where
@@ -169,50 +161,22 @@ module _ {s : List ℕ} {a : ℕ} where
       let (y, ys, d, k) = as-run (set-run x) (omega arith) in
       test-is b (getD s (a + 1) 0 / cellSize) 4 f g ∙ rw (fits-relation v, e, d, tag-is (run-head k)) (first-pair y (sharedTypes ys) (k .typed))
 
--- The first of some pairs, and the rest.
-module _ {s : List ℕ} {i n : ℕ} where
-  as-pairs : {vs : Values} → RunAt s i n vs → AllPairs vs → 0 < n →
-      (y : Value) × (z : Value) × (ys : Values) × (vs ≡ pair y z ▸ ys) × RunAt s i n (pair y z ▸ ys) × AllPairs ys
-  as-pairs {vs = none} h p l = absurd (omega (arith, h .counted))
-  as-pairs {vs = scalar x ▸ ys} h p l = absurd (p .0)
-  as-pairs {vs = set x ▸ ys} h p l = absurd (p .0)
-  as-pairs {vs = pair y z ▸ ys} h p l = (y, z, ys, refl, h, p .1)
+-- The first of some pairs.
+pair-tag : (v : Value) → IsPair v → tag v ≡ 4
+pair-tag (scalar x) h = absurd h
+pair-tag (pair x y) h = refl
+pair-tag (set vs) h = absurd h
 
-  module _ {y z : Value} {ys : Values} (h : RunAt s i n (pair y z ▸ ys)) where
-    left-here : TypedAt s (i + 1) y
-    left-here = pair-parts (run-head h) .0
+pub pairs-first : {s : List ℕ} {i n : ℕ} {vs : Values} → RunAt s i n vs → AllPairs vs → 0 < n → PairHere s i
+pairs-first h p l = let (x, ys, e, k) = as-run h l in pair-here (x, run-head k) (tag-is (run-head k) ∙ pair-tag x (subst AllPairs e p .0))
 
-    -- a pair fits an argument where its left part does
-    lefts-split : (w : Value) → meets (sharedTypes (pair y z ▸ ys)) (typesOf w ×ˢ every) ≡ (agree y w && meets (sharedTypes ys) (typesOf w ×ˢ every))
-    unfolding agree meets
-    lefts-split w =
-        let e : (meets (typesOf y) (typesOf w) && inhabited (typesOf z ⊓ every)) ≡ meets (typesOf y) (typesOf w) =
-        rw (⊓-every (typesOf z), T-true (inhabited (typesOf z)) .0 (pair-parts (run-head h) .1 .typed)) (and-true _) in
-        run-splits h (typesOf w ×ˢ every) ∙ ap (λ (b : Bool). b && meets (sharedTypes ys) (typesOf w ×ˢ every)) e
-
-module _ {s : List ℕ} {i n b : ℕ} where
-  pub lefts-end : n ≡ 0 → AgreedLefts s i n b true
-  lefts-end e vs w h k q = run-end (typesOf w ×ˢ every) e (and-of (inhabited (typesOf w)) true (q .typed) tt) vs h
-
-  pub lefts-false : {r : Bool} → 0 < n → Agreed s (i + 1) b r → r ≡ false → AgreedLefts s i n b false
-  lefts-false l g f vs w h k q = let (y, z, ys, e, x, p) = as-pairs h k l in rw (e, lefts-split x w, ← g y w (left-here x) q, f)
-
-  pub lefts-step : {j : ℕ} {r c : Bool} → 0 < n → Agreed s (i + 1) b c → c ≡ true → EndsAt s i j → AgreedLefts s j (n - 1) b r → AgreedLefts s i n b r
-  lefts-step l g f d t vs w h k q =
-      let (y, z, ys, e, x, p) = as-pairs h k l in
-      rw (e, lefts-split x w, ← g y w (left-here x) q, f) (t ys w (rw (end-is d (run-head x)) (run-tail x)) p q)
-
-  pub pairs-first : PairsAndOne s i n b → 0 < n → SomeTyped s i × SomeTyped s (i + 1)
-  pairs-first p l = let (y, z, ys, _, x, _) = as-pairs (p .run) (p .pairs) l in ((pair y z, run-head x), (y, left-here x))
-
-  pub pairs-rest : {j : ℕ} → PairsAndOne s i n b → 0 < n → EndsAt s i j → PairsAndOne s j (n - 1) b
-  pairs-rest p l d =
-      let (y, z, ys, _, x, q) = as-pairs (p .run) (p .pairs) l in
-      record { values = ys; run = rw (end-is d (run-head x)) (run-tail x); pairs = q; second = p .second }
-
--- The only pair that is left.
-pub lefts-last : {s : List ℕ} {i n b : ℕ} {c : Bool} → SomeTyped s i → n ≡ 1 → Agreed s (i + 1) b c → c ≡ true → AgreedLefts s i n b true
-lefts-last {s} {i} x e g f = lefts-step (omega (arith, e)) g f (ends-at s i (x .0) (x .1 .stands) (x .1 .fits)) (lefts-end (omega (arith, e)))
+-- A pair fits an argument where its left part does.
+pub left-meets : {s : List ℕ} {i b : ℕ} {r : Bool} → PairHere s i → (w : SomeTyped s b) → Agreed s (i + 1) b r → OneMeets s i (typesOf (w .0) ×ˢ every) r
+unfolding agree meets
+left-meets p w g v h =
+    let (y, z, e, k) = as-pair h (p .isPair) in
+    let (l, m) = pair-parts k in
+    rw (e, g y (w .0) l (w .1), ⊓-every (typesOf z), T-true (inhabited (typesOf z)) .0 (m .typed)) (sym (and-true _))
 
 -- Where the left part of a pair is full, what it agrees with agrees with the left parts of all.
 full-left : (y z w : Value) (r : TypeSet) → Full y → T (inhabited (typesOf (pair y z) ⊓ r)) →
@@ -239,8 +203,11 @@ few-lefts {vs = pair y z ▸ ys} h p (inr (e, l, f)) = record {
   few = pair y z ▸ none;
   run = rw e (run-of (run-head h));
   pairs = (tt, tt);
-  same = λ w. rw (⊓-every (typesOf (pair y z))) (full-left y z w (sharedTypes ys) (f y (left-here h)) (h .typed));
+  same = λ w. rw (⊓-every (typesOf (pair y z))) (full-left y z w (sharedTypes ys) (f y (pair-parts (run-head h) .0)) (h .typed));
 }
+
+abbrev lefts-and : {s : List ℕ} {at k b : ℕ} {vs : Values} → LeftsFor s at k vs → SomeTyped s b → PairsAndOne s at k b
+lefts-and x w = record { values = x .few; run = x .run; pairs = x .pairs; second = w }
 
 -- Relations and arguments.
 pub applies-not : {s : List ℕ} {a b : ℕ} → FitOne (P̂ (t̂ ×̂ û) ∷ []) s a false → FitTwo (P̂ (t̂ ×̂ û) ∷ t̂ ∷ []) s a b false
@@ -249,14 +216,12 @@ applies-not f v w h k =
     let p = as-product (typesOf w) every (x .0) (x .2) in
     subst T (sym (f v h ∙ fits-relation v)) (share→meets (inner v) anyPair (x .0, x .1, subst (λ (t : Ty). anyPair ⊑ t) (sym (p .2)) (tt, tt)))))
 
-all-pairs : (vs : Values) (t u : Ty) → sharedTypes vs ⊑ t ⊗ u → AllPairs vs
+pub all-pairs : (vs : Values) (t u : Ty) → sharedTypes vs ⊑ t ⊗ u → AllPairs vs
 all-pairs none t u h = tt
-all-pairs (v ▸ vs) t u h = let (x, y) = ⊓-split (typesOf v) (sharedTypes vs) (t ⊗ u) h in (one v x, all-pairs vs t u y)
-  where
-    one : (v : Value) → typesOf v ⊑ t ⊗ u → IsPair v
-    one (scalar x) h = absurd01 (cc)
-    one (pair x y) h = tt
-    one (set vs) h = h
+all-pairs (v ▸ vs) t u h =
+    let (k, l) = ⊓-split (typesOf v) (sharedTypes vs) (t ⊗ u) h in
+    let (x, y, e) = tag-pair v (tag-type v (t ⊗ u) k) in
+    (rw e tt, all-pairs vs t u l)
 
 -- A relation is a set of pairs, n of them.
 module _ {s : List ℕ} {a n : ℕ} (f : FitOne (P̂ (t̂ ×̂ û) ∷ []) s a true) (c : n ≡ getD s a 0 % cellSize) where
@@ -269,19 +234,13 @@ module _ {s : List ℕ} {a n : ℕ} (f : FitOne (P̂ (t̂ ×̂ û) ∷ []) s a t
       (vs, refl, rw c (set-run h), all-pairs vs u w (rw e at x))
 
   pub relation-left : SomeTyped s a → 0 < n → SomeTyped s (a + 1 + 1)
-  relation-left v l =
-      let (vs, _, h, p) = relation-pairs (v .0) (v .1) in
-      let (y, z, ys, _, x, _) = as-pairs h p l in
-      (y, left-here x)
+  relation-left v l = let (vs, _, h, p) = relation-pairs (v .0) (v .1) in pairs-first h p l .left
 
   pub relation-few : {b k : ℕ} → Both s a b → Few s (a + 1 + 1) n k → PairsAndOne s (a + 1) k b
-  relation-few b g =
-      let (vs, _, h, p) = relation-pairs (b .first .0) (b .first .1) in
-      let x = few-lefts h p g in
-      record { values = x .few; run = x .run; pairs = x .pairs; second = b .second }
+  relation-few b g = let (vs, _, h, p) = relation-pairs (b .first .0) (b .first .1) in lefts-and (few-lefts h p g) (b .second)
 
   pub applies-fit : (b k : ℕ) (r : Bool) → Few s (a + 1 + 1) n k → AgreedLefts s (a + 1) k b r → FitTwo (P̂ (t̂ ×̂ û) ∷ t̂ ∷ []) s a b r
   applies-fit b k r g t v w h j =
       let (vs, e, i, p) = relation-pairs v h in
       let x = few-lefts i p g in
-      t (x .few) w (x .run) (x .pairs) j ∙ x .same w ∙ rw (fits-applies v w, e)
+      t (lefts-and x (w, j)) ∙ x .same w ∙ rw (fits-applies v w, e)

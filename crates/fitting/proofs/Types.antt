@@ -1,21 +1,21 @@
 -- Values of the arena against types in prefix codes.
 use Prim.Native.Nat.{ℕ, _+_, _-_, _/_, _%_, _≤_, _<_}
-use mathlib.Core.Bool.{Bool, true, false, false≢true}
+use mathlib.Core.Bool.{Bool, true, false, not, false≢true}
 use mathlib.Core.List.{List, [], _∷_, _++_, append-assoc, append-nil}
 use mathlib.Core.Logic.{_≢_}
 use mathlib.Core.Path.{_≡_, refl, sym, ap, _∙_, subst}
 use native.Mathlib.Omega.{arith}
 use lib.Dec.{eqb}
 use lib.ListN.{length, getD, replicate, length-append}
-use borrow.Author.Tests.{eq-eqb, ne-eqb, eqb-true}
+use borrow.Author.Tests.{eq-eqb, ne-eqb, eqb-true, not-true, not-false}
 use Rattle.rules.specs.Types.{whole, Atom, number, bool, given, Ty, atom, POW, _⊗_, atomCode, weightᵀ, prefix, row}
-use Rattle.rules.specs.Values.{Scalar, num, truth, element, Value, scalar, pair, set, Values, none, _▸_, scalarTag, count, weight}
-use Rattle.rules.specs.Fits.{atomOf, typesOf, sharedTypes}
+use Rattle.rules.specs.Values.{Scalar, num, truth, element, scalar, pair, set, Values, none, _▸_, scalarTag, tag, count}
+use Rattle.rules.specs.Fits.{atomOf, typesOf, sharedTypes, HasType, HaveType}
 use Rattle.laws.proofs.FitsLaws.{has→types}
 use Rattle.rules.proofs.TypeLaws.{weight-positive, prefix-length, prefixes, atomCode-injective}
-use Rattle.arena.specs.Code.{cellSize, scalarLow, Stands, ValueAt, ValuesAt, ScalarFits, CellsFit, AllFit, SomeAt, EndsAt}
+use Rattle.arena.specs.Code.{cellSize, scalarLow, Stands, ValuesAt, ScalarFits, AllFit, SomeAt, EndsAt}
 use Rattle.arena.proofs.Standing.{stands-head, stands-tail, stands-front, stands-back}
-use Rattle.fitting.specs.Types.{TypeAt, SomeType, TypeEnds, typeParts, Decides, atomIs, OfType, AllOfType, ValuesAndType}
+use Rattle.fitting.specs.Types.{TypeAt, SomeType, TypeEnds, typeParts, Decides, atomIs, OfType, ValuesAndType}
 use Rattle.arena.proofs.ValueParts.{first-cell, left-stands, right-stands}
 use Rattle.fitting.proofs.Cells.{tag-set, tag-pair, members-stand, first-stands, rest-stand}
 use Rattle.fitting.proofs.Sharing.{as-power, as-product}
@@ -79,23 +79,22 @@ types-start row from t h =
 pub parts-atom : (c : ℕ) → c ≢ 3 → c ≢ 4 → typeParts c ≡ 0
 parts-atom c n m = rw (ne-eqb c 3 n, ne-eqb c 4 m)
 
+-- A type with the code c has been begun: the types us stand behind it.
+step-to : {row : List ℕ} {i e c : ℕ} (left : ℕ) (us : List Ty) → Stands row i (c ∷ prefixes us) → length us ≡ left - 1 + typeParts c →
+    i + 1 + length (prefixes us) ≡ e → PendingTypes row (i + 1) (left - 1 + typeParts (getD row i 0)) e
+step-to {row} {i} {c = c} left us h n m =
+    (us, record { counted = rw (stands-head row i c (prefixes us) h) n; codes = stands-tail row i c (prefixes us) h; ends = m })
+
 module _ {row : List ℕ} {i left e : ℕ} where
   pub types-step : PendingTypes row i left e → 0 < left → PendingTypes row (i + 1) (left - 1 + typeParts (getD row i 0)) e
   unfolding prefixes
   types-step ([], p) l = absurd (omega (arith, p .counted))
   types-step (atom a ∷ ts, p) l =
-      let q = ap typeParts (stands-head row i (atomCode a) (prefixes ts) (p .codes)) ∙ parts-atom (atomCode a) (atom-code a .0) (atom-code a .1) in
-      let k = stands-tail row i (atomCode a) (prefixes ts) (p .codes) in
-      (ts, record { counted = rw q (omega (arith, p .counted)); codes = k; ends = omega (arith, p .ends) })
-  types-step (POW u ∷ ts, p) l =
-      let q = ap typeParts (stands-head row i 3 (prefix u ++ prefixes ts) (p .codes)) in
-      let k = stands-tail row i 3 (prefix u ++ prefixes ts) (p .codes) in
-      (u ∷ ts, record { counted = rw q (omega (arith, p .counted)); codes = k; ends = omega (arith, p .ends) })
+      step-to left ts (p .codes) (rw (parts-atom (atomCode a) (atom-code a .0) (atom-code a .1)) (omega (arith, p .counted))) (omega (arith, p .ends))
+  types-step (POW u ∷ ts, p) l = step-to left (u ∷ ts) (p .codes) (omega (arith, p .counted)) (omega (arith, p .ends))
   types-step ((u ⊗ w) ∷ ts, p) l =
-      let q = ap typeParts (stands-head row i 4 ((prefix u ++ prefix w) ++ prefixes ts) (p .codes)) in
-      let k = stands-tail row i 4 ((prefix u ++ prefix w) ++ prefixes ts) (p .codes) in
       let a = append-assoc (prefix u) (prefix w) (prefixes ts) in
-      (u ∷ w ∷ ts, record { counted = rw q (omega (arith, p .counted)); codes = rw a at k; ends = omega (arith, p .ends, ap length a) })
+      step-to left (u ∷ w ∷ ts) (rw a at (p .codes)) (omega (arith, p .counted)) (omega (arith, p .ends, ap length a))
 
   pub types-end : PendingTypes row i left e → left ≡ 0 → i ≡ e
   unfolding prefixes
@@ -142,115 +141,104 @@ both-yes d e f = record { sound = λ z. (d .sound e, f .sound z); complete = λ 
 pub refuses : {A : Type 0} → (A → ⊥) → Decides false A
 refuses n = record { sound = λ e. absurd (false≢true e); complete = λ a. absurd (n a) }
 
--- A pair against a product: the right part and its type stand where the left ones end.
-pub record PairAndProduct (s : List ℕ) (at : ℕ) (row : List ℕ) (from : ℕ) : Type 0 where
-  pub isPair : getD s at 0 / cellSize ≡ 4
-  pub isProduct : getD row from 0 ≡ 4
+-- A pair against a product: the right part and its type stand where the left ones end. The left part has another type, or has its own and the right
+-- part decides.
+pub record PairAndProduct {s : List ℕ} {at : ℕ} {row : List ℕ} {from : ℕ} (v : SomeAt s at) (t : SomeType row from) : Type 0 where
   pub left : SomeAt s (at + 1)
   pub right : (c : ℕ) → EndsAt s (at + 1) c → SomeAt s c
   pub type : SomeType row (from + 1)
   pub next : (e : ℕ) → TypeEnds row (from + 1) e → SomeType row e
+  pub no : {q : Bool} → OfType s (at + 1) row (from + 1) q → q ≡ false → Decides false (HasType (v .value) (t .0))
+  pub yes : {q r : Bool} {c e : ℕ} → OfType s (at + 1) row (from + 1) q → q ≡ true → EndsAt s (at + 1) c → TypeEnds row (from + 1) e →
+      OfType s c row e r → Decides r (HasType (v .value) (t .0))
 
--- A value by the tag of its cell, with its members or its parts.
-module _ {s : List ℕ} {at : ℕ} (v : Value) (h : ValueAt s at v) (f : CellsFit v) where
-  set-only : getD s at 0 / cellSize ≡ 5 → (vs : Values) × (v ≡ set vs) × ValuesAt s (at + 1) vs × AllFit vs × (count vs ≡ getD s at 0 % cellSize)
-  set-only t =
-      let (vs, e) = tag-set v (sym (first-cell s at v h f .0) ∙ t) in
-      let i = rw e at h in
-      let g = rw e at f in
-      (vs, e, members-stand s at vs i, g .1, sym (first-cell s at (set vs) i g .1))
-
-  pair-only : getD s at 0 / cellSize ≡ 4 →
-      (x : Value) × (y : Value) × (v ≡ pair x y) × ValueAt s (at + 1) x × ValueAt s (at + 1 + weight x) y × CellsFit x × CellsFit y
-  pair-only t =
-      let (x, y, e) = tag-pair v (sym (first-cell s at v h f .0) ∙ t) in
-      let i = rw e at h in
-      let g = rw e at f in
-      (x, y, e, left-stands s at x y i, right-stands s at x y i, g .0, g .1)
+some-tag : {s : List ℕ} {at n : ℕ} (v : SomeAt s at) → getD s at 0 / cellSize ≡ n → tag (v .value) ≡ n
+some-tag {s} {at} v e = sym (first-cell s at (v .value) (v .stands) (v .fits) .0) ∙ e
 
 module _ {s : List ℕ} {at : ℕ} {row : List ℕ} {from : ℕ} where
-  pub set-no : getD s at 0 / cellSize ≡ 5 → getD row from 0 ≢ 3 → OfType s at row from false
-  set-no tag n v t h f k =
-      let (vs, e, _, _, _) = set-only v h f tag in
-      refuses (λ y. n (first-code row from t k ∙ ap head (as-power (sharedTypes vs) t (has→types (set vs) t (rw e at y)) .1)))
+  -- by some value and some type there
+  pub of-some : {r : Bool} → ((v : SomeAt s at) (t : SomeType row from) → Decides r (HasType (v .value) (t .0))) → OfType s at row from r
+  of-some g v t h f k = g (record { value = v; stands = h; fits = f }) (t, k)
 
-  pub pair-no : getD s at 0 / cellSize ≡ 4 → getD row from 0 ≢ 4 → OfType s at row from false
-  pair-no tag n v t h f k =
-      let (x, y, e, _, _, _, _) = pair-only v h f tag in
-      refuses (λ z. n (first-code row from t k ∙ ap head (as-product (typesOf x) (typesOf y) t (has→types (pair x y) t (rw e at z)) .2)))
+  module _ (v : SomeAt s at) (t : SomeType row from) where
+    -- another code than that of POW for a set, than that of a product for a pair
+    pub set-no : getD s at 0 / cellSize ≡ 5 → getD row from 0 ≢ 3 → Decides false (HasType (v .value) (t .0))
+    set-no e n =
+        let (vs, d) = tag-set (v .value) (some-tag v e) in
+        refuses (λ y. n (first-code row from (t .0) (t .1) ∙ ap head (as-power (sharedTypes vs) (t .0) (has→types (set vs) (t .0) (rw d at y)) .1)))
 
-  pub set-type : {n : ℕ} {r : Bool} → getD s at 0 / cellSize ≡ 5 → getD row from 0 ≡ 3 → n ≡ getD s at 0 % cellSize →
-      AllOfType s (at + 1) n row (from + 1) r → OfType s at row from r
-  set-type tag c m g v t h f k =
-      let (vs, e, i, a, q) = set-only v h f tag in
-      let (u, d, j) = is-pow row from t k c in
-      rw (e, d) (g vs u i a (q ∙ sym m) j)
+    pub pair-no : getD s at 0 / cellSize ≡ 4 → getD row from 0 ≢ 4 → Decides false (HasType (v .value) (t .0))
+    pair-no e n =
+        let (x, y, d) = tag-pair (v .value) (some-tag v e) in
+        refuses (λ z. n (first-code row from (t .0) (t .1) ∙
+        ap head (as-product (typesOf x) (typesOf y) (t .0) (has→types (pair x y) (t .0) (rw d at z)) .2)))
 
-  -- the parts of a pair against those of a product: the left part has another type, or has its own and the right part decides
-  pub pair-left : {q : Bool} → PairAndProduct s at row from → OfType s (at + 1) row (from + 1) q → q ≡ false → OfType s at row from false
-  pair-left o g n v t h f k =
-      let (x, y, e, i, j, a, b) = pair-only v h f (o .isPair) in
-      let (u, w, d, p, q) = is-product row from t k (o .isProduct) in
-      rw (e, d) (both-no (g x u i a p) n)
+    -- a set against POW(u): the members decide
+    pub set-asks : {n : ℕ} → getD s at 0 / cellSize ≡ 5 → getD row from 0 ≡ 3 → n ≡ getD s at 0 % cellSize →
+        (p : ValuesAndType s (at + 1) n row (from + 1)) ×
+        ((r : Bool) → Decides r (HaveType (p .values) (p .type .0)) → Decides r (HasType (v .value) (t .0)))
+    set-asks e c m =
+        let (vs, d) = tag-set (v .value) (some-tag v e) in
+        let h = rw d at (v .stands) in
+        let f = rw d at (v .fits) in
+        let (u, g, k) = is-pow row from (t .0) (t .1) c in
+        let q = sym (m ∙ first-cell s at (set vs) h f .1) in
+        (record { values = vs; stands = members-stand s at vs h; fits = f .1; counted = q; type = (u, k) }, λ r a. rw (d, g) a)
 
-  pub pair-right : {end next : ℕ} {q r : Bool} → PairAndProduct s at row from → OfType s (at + 1) row (from + 1) q → q ≡ true →
-      EndsAt s (at + 1) end → TypeEnds row (from + 1) next → OfType s end row next r → OfType s at row from r
-  pair-right o g n l m z v t h f k =
-      let (x, y, e, i, j, a, b) = pair-only v h f (o .isPair) in
-      let (u, w, d, p, q) = is-product row from t k (o .isProduct) in
-      rw (e, d) (both-yes (g x u i a p) n (z y w (rw (l x i a) j) b (rw (m u p) q)))
-
-  -- what the tests of the members and of the parts ask
-  pub set-asks : {n : ℕ} → SomeAt s at → SomeType row from → getD s at 0 / cellSize ≡ 5 → getD row from 0 ≡ 3 → n ≡ getD s at 0 % cellSize →
-      ValuesAndType s (at + 1) n row (from + 1)
-  set-asks v t tag c m =
-      let (vs, _, i, a, q) = set-only (v .value) (v .stands) (v .fits) tag in
-      let (u, _, j) = is-pow row from (t .0) (t .1) c in
-      record { values = vs; stands = i; fits = a; counted = q ∙ sym m; type = (u, j) }
-
-  pub pair-asks : SomeAt s at → SomeType row from → getD s at 0 / cellSize ≡ 4 → getD row from 0 ≡ 4 → PairAndProduct s at row from
-  pair-asks v t tag c =
-      let (x, y, _, i, j, a, b) = pair-only (v .value) (v .stands) (v .fits) tag in
-      let (u, w, _, p, q) = is-product row from (t .0) (t .1) c in
-      record {
-        isPair = tag;
-        isProduct = c;
-        left = record { value = x; stands = i; fits = a };
-        right = λ d e. record { value = y; stands = rw (e x i a) j; fits = b };
-        type = (u, p);
-        next = λ d e. (w, rw (e u p) q);
-      }
+    pub pair-asks : getD s at 0 / cellSize ≡ 4 → getD row from 0 ≡ 4 → PairAndProduct v t
+    pair-asks e c =
+        let (x, y, d) = tag-pair (v .value) (some-tag v e) in
+        let h = rw d at (v .stands) in
+        let (a, b) = rw d at (v .fits) in
+        let i = left-stands s at x y h in
+        let j = right-stands s at x y h in
+        let (u, w, g, p, q) = is-product row from (t .0) (t .1) c in
+        record {
+          left = record { value = x; stands = i; fits = a };
+          right = λ c l. record { value = y; stands = rw (l x i a) j; fits = b };
+          type = (u, p);
+          next = λ c m. (w, rw (m u p) q);
+          no = λ o n. rw (d, g) (both-no (o x u i a p) n);
+          yes = λ o n l m z. rw (d, g) (both-yes (o x u i a p) n (z y w (rw (l x i a) j) b (rw (m u p) q)));
+        }
 
 pub ends-behind : {s : List ℕ} {at end : ℕ} → SomeAt s at → EndsAt s at end → at < end
 ends-behind x e = omega (arith, e (x .value) (x .stands) (x .fits), weight-some (x .value))
 
--- The members of a set, one after the other.
-module _ {s : List ℕ} {i left : ℕ} {row : List ℕ} {from : ℕ} where
-  pub all-of-end : left ≡ 0 → AllOfType s i left row from true
-  all-of-end z none t h f c k = record { sound = λ e. tt; complete = λ u. refl }
-  all-of-end z (x ▸ ys) t h f c k = absurd (omega arith)
+-- The members of a set, one after the other: those that are passed have the type, and the rest, ws, decides.
+pub record ValuesLeft (s : List ℕ) (at n : ℕ) (t : Ty) (vs ws : Values) : Type 0 where
+  pub stands : ValuesAt s at ws
+  pub fits : AllFit ws
+  pub counted : count ws ≡ n
+  pub tells : (r : Bool) → Decides r (HaveType ws t) → Decides r (HaveType vs t)
 
-  pub all-of-no : {q : Bool} → 0 < left → OfType s i row from q → q ≡ false → AllOfType s i left row from false
-  all-of-no l g e none t h f c k = absurd (omega arith)
-  all-of-no l g e (x ▸ ys) t h f c k = both-no (g x t (first-stands s i x ys h) (f .0) k) e
+abbrev pub SomeLeft : List ℕ → ℕ → ℕ → Ty → Values → Type 0
+SomeLeft s at n t vs = (ws : Values) × ValuesLeft s at n t vs ws
 
-  pub all-of-step : {j : ℕ} {q r : Bool} → 0 < left → OfType s i row from q → q ≡ true → EndsAt s i j → AllOfType s j (left - 1) row from r →
-      AllOfType s i left row from r
-  all-of-step l g y e z none t h f c k = absurd (omega arith)
-  all-of-step l g y e z (x ▸ ys) t h f c k =
-      let a = first-stands s i x ys h in
-      both-yes (g x t a (f .0) k) y (z ys t (rw (e x a (f .0)) (rest-stand s i x ys h)) (f .1) (omega arith) k)
+module _ {s : List ℕ} {at n : ℕ} {t : Ty} {vs : Values} where
+  pub left-end : SomeLeft s at n t vs → n ≡ 0 → Decides true (HaveType vs t)
+  left-end (none, p) z = p .tells true (record { sound = λ e. tt; complete = λ u. refl })
+  left-end (x ▸ ys, p) z = absurd (omega (arith, p .counted))
 
-  pub values-next : ValuesAndType s i left row from → 0 < left → SomeAt s i × ((j : ℕ) → EndsAt s i j → ValuesAndType s j (left - 1) row from)
-  values-next p l = go (p .values) (p .stands) (p .fits) (p .counted)
-    where
-      go : (vs : Values) → ValuesAt s i vs → AllFit vs → count vs ≡ left → SomeAt s i × ((j : ℕ) → EndsAt s i j → ValuesAndType s j (left - 1) row from)
-      go none h f c = absurd (omega arith)
-      go (x ▸ ys) h f c =
-          let a = first-stands s i x ys h in (
-            record { value = x; stands = a; fits = f .0 },
-            λ j e. record { values = ys; stands = rw (e x a (f .0)) (rest-stand s i x ys h); fits = f .1; counted = omega arith; type = p .type },
-          )
+  pub left-first : SomeLeft s at n t vs → 0 < n → SomeAt s at
+  left-first (none, p) l = absurd (omega (arith, p .counted))
+  left-first (x ▸ ys, p) l = record { value = x; stands = first-stands s at x ys (p .stands); fits = p .fits .0 }
+
+  module _ {row : List ℕ} {from : ℕ} {c : Bool} (k : TypeAt row from t) (l : 0 < n) (g : OfType s at row from c) where
+    pub left-no : SomeLeft s at n t vs → not c ≡ true → Decides false (HaveType vs t)
+    left-no (none, p) f = absurd (omega (arith, p .counted))
+    left-no (x ▸ ys, p) f = p .tells false (both-no (g x t (first-stands s at x ys (p .stands)) (p .fits .0) k) (not-true c f))
+
+    pub left-yes : {end : ℕ} → SomeLeft s at n t vs → not c ≡ false → EndsAt s at end → SomeLeft s end (n - 1) t vs
+    left-yes (none, p) f e = absurd (omega (arith, p .counted))
+    left-yes (x ▸ ys, p) f e =
+        let a = first-stands s at x ys (p .stands) in
+        (ys, record {
+          stands = rw (e x a (p .fits .0)) (rest-stand s at x ys (p .stands));
+          fits = p .fits .1;
+          counted = omega (arith, p .counted);
+          tells = λ r d. p .tells r (both-yes (g x t a (p .fits .0) k) (not-false c f) d);
+        })
 
 -- The row of a type begins with its codes.
 pub row-type : (sheet : List ℕ) (from : ℕ) (t : Ty) → Stands sheet from (row t) → TypeAt sheet from t

@@ -47,10 +47,6 @@ Agreed s a b r = (v w : Value) → TypedAt s a v → TypedAt s b w → r ≡ agr
 abbrev pub AgreedWith : List ℕ → ℕ → ℕ → ℕ → Bool → Type 0
 AgreedWith s a b m r = (v : Value) (ws : Values) → TypedAt s a v → RunAt s b m ws → r ≡ meets (typesOf v) (sharedTypes ws)
 
--- r says whether the n values from a on share a type with the m values from b on.
-abbrev pub AgreedAll : List ℕ → ℕ → ℕ → ℕ → ℕ → Bool → Type 0
-AgreedAll s a n b m r = (ws : Values) → RunAt s b m ws → (vs : Values) → RunAt s a n vs → r ≡ meets (sharedTypes vs) (sharedTypes ws)
-
 abbrev pub emptyCell : ℕ
 emptyCell = 21474836480
 
@@ -109,3 +105,7 @@ pub record OneAndRun (s : List ℕ) (a b m : ℕ) : Type 0 where
 pub record RunAndRun (s : List ℕ) (a n b m : ℕ) : Type 0 where
   pub first : SomeRun s a n
   pub second : SomeRun s b m
+
+-- r says whether they share a type.
+abbrev pub AgreedAll : List ℕ → ℕ → ℕ → ℕ → ℕ → Bool → Type 0
+AgreedAll s a n b m r = (p : RunAndRun s a n b m) → r ≡ meets (sharedTypes (p .first .0)) (sharedTypes (p .second .0))

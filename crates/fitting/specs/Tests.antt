@@ -29,7 +29,6 @@ pub record PairsAndOne (s : List ℕ) (a n b : ℕ) : Type 0 where
   pub pairs : AllPairs values
   pub second : SomeTyped s b
 
--- r says whether the left parts of the n pairs from a on share a type with the value at b.
+-- r says whether the left parts of the pairs share a type with the value.
 abbrev pub AgreedLefts : List ℕ → ℕ → ℕ → ℕ → Bool → Type 0
-AgreedLefts s a n b r =
-    (vs : Values) (w : Value) → RunAt s a n vs → AllPairs vs → TypedAt s b w → r ≡ meets (sharedTypes vs) (typesOf w ×ˢ every)
+AgreedLefts s a n b r = (p : PairsAndOne s a n b) → r ≡ meets (sharedTypes (p .values)) (typesOf (p .second .0) ×ˢ every)

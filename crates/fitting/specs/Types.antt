@@ -38,11 +38,6 @@ atomIs x c = cond (eqb (x / 4294967296) 3) (eqb (x % 4294967296 / 256 + 16) c) (
 abbrev pub OfType : List ℕ → ℕ → List ℕ → ℕ → Bool → Type 0
 OfType s at row from r = (v : Value) (t : Ty) → ValueAt s at v → CellsFit v → TypeAt row from t → Decides r (HasType v t)
 
--- r says whether the n values from `at` on have the type at `from`.
-abbrev pub AllOfType : List ℕ → ℕ → ℕ → List ℕ → ℕ → Bool → Type 0
-AllOfType s at n row from r =
-    (vs : Values) (t : Ty) → ValuesAt s at vs → AllFit vs → count vs ≡ n → TypeAt row from t → Decides r (HaveType vs t)
-
 -- n values and a type.
 pub record ValuesAndType (s : List ℕ) (at n : ℕ) (row : List ℕ) (from : ℕ) : Type 0 where
   pub values : Values
@@ -50,3 +45,7 @@ pub record ValuesAndType (s : List ℕ) (at n : ℕ) (row : List ℕ) (from : �
   pub fits : AllFit values
   pub counted : count values ≡ n
   pub type : SomeType row from
+
+-- r says whether the values have the type.
+abbrev pub AllOfType : List ℕ → ℕ → ℕ → List ℕ → ℕ → Bool → Type 0
+AllOfType s at n row from r = (p : ValuesAndType s at n row from) → Decides r (HaveType (p .values) (p .type .0))

@@ -1,5 +1,5 @@
 -- What the laws use of Rattle's libraries.
-pub use Prim.Native.Nat.{Ordering, Ordering·eq, Ordering·gt, Ordering·lt, _%_, _*_, _+_, _-_, _<_, _≤_, suc, zero, ℕ}
+pub use Prim.Native.Nat.{Ordering·eq, Ordering·gt, Ordering·lt, _%_, _*_, _+_, _-_, _<_, _≤_, suc, zero, ℕ}
 pub use mathlib.Core.Bool.{Bool, _&&_, cond, false, false≢true, not, true}
 pub use mathlib.Core.List.{List, [], _∷_}
 pub use mathlib.Core.Logic.{_≢_, _⊎_, inl, inr}

@@ -1,10 +1,11 @@
 -- Operands that fit. The types that a test of refusal 15 tells, what good values of a type are, and so, for each list of operand types that the rules
 -- have, that what holds of operands of that form (sets, sets of pairs, numbers) holds of all good operands that pass the test.
 use Rattle.operations.proofs.Base.{ℕ, _%_, Bool, true, false, not, not-false, List, [], _∷_, _≡_, sym, _∙_, subst, arith, ℤ, length, getD, absurd01}
-use Rattle.operations.proofs.Terms.{whole, Ty, POW, _⊗_, INTEGER, num, truth, element, Value, scalar, pair, set, Values, none, _▸_, members, int, Pattern, t̂, û, P̂, _×̂_, numᵖ, inst, HasType, HaveType, Fits, fits, typed, FitOne, FitTwo, Both, excess, code, IsPair, AllPairs, SetBelow, newFirsts, SomeRelation, KnownFunction, Sizes, GoodAt, SomeGood, NewFirsts, FunctionSeen, Operands, NumberCell}
+use Rattle.operations.proofs.Terms.{whole, Ty, POW, _⊗_, INTEGER, num, truth, element, Value, scalar, pair, set, Values, members, int, Pattern, t̂, û, P̂, _×̂_, numᵖ, inst, HasType, HaveType, Fits, fits, typed, FitOne, FitTwo, Both, excess, code, AllPairs, SetBelow, newFirsts, SomeRelation, KnownFunction, Sizes, GoodAt, SomeGood, NewFirsts, FunctionSeen, Operands, NumberCell}
 use Rattle.laws.proofs.EndLaws.{T-true}
-use Rattle.laws.proofs.FitsLaws.{fits-right, typed-right}
+use Rattle.laws.proofs.FitsLaws.{fits-right, have→sharedTypes, typed-right}
 use Rattle.arena.proofs.Standing.{stands-head}
+use Rattle.fitting.proofs.Tests.{all-pairs}
 use Rattle.operations.proofs.GoodLaws.{good-fits, good-typed-at, good-whole, good-set-at}
 
 -- Operands that fit have the types of the rule.
@@ -50,22 +51,13 @@ good-as-number {v = set vs} small h P q f = absurd q
 pub number-low : {i : ℤ} {x y : ℕ} → y ≡ x % 4294967296 → NumberCell i x → excess i ≡ y
 number-low e h = omega (arith, h .is, h .fits .0)
 
-pair-typed : (v : Value) (t u : Ty) → HasType v (t ⊗ u) → IsPair v
-pair-typed (scalar x) t u h = absurd01 (cc)
-pair-typed (pair v w) t u h = tt
-pair-typed (set vs) t u h = absurd h
-
-pairs-typed : (vs : Values) (t u : Ty) → HaveType vs (t ⊗ u) → AllPairs vs
-pairs-typed none t u h = tt
-pairs-typed (v ▸ vs) t u h = (pair-typed v t u (h .0), pairs-typed vs t u (h .1))
-
 -- A good value of a type POW(t) is a set that can be an operand.
 module _ {gs s : List ℕ} {top a : ℕ} {v : Value} (small : Sizes gs) (h : GoodAt gs s top a v) (P : Value → Type 0) where
   good-as-set : (t : Ty) → HasType v (POW t) → ((vs : Values) → HaveType vs t → SetBelow s top a vs → P (set vs)) → P v
   good-as-set t q g = on-set (λ y. GoodAt gs s top a y → P y) v t q (λ vs q i. g vs q (good-set-at small vs i)) h
 
   good-as-pairs : (t u : Ty) → HasType v (POW (t ⊗ u)) → ((vs : Values) → SetBelow s top a vs → AllPairs vs → P (set vs)) → P v
-  good-as-pairs t u q g = good-as-set (t ⊗ u) q (λ vs q i. g vs i (pairs-typed vs t u q))
+  good-as-pairs t u q g = good-as-set (t ⊗ u) q (λ vs q i. g vs i (all-pairs vs t u (have→sharedTypes vs (t ⊗ u) q)))
 
 -- One operand.
 module _ {gs s : List ℕ} {top a : ℕ} {v : Value} (small : Sizes gs) (h : GoodAt gs s top a v) where

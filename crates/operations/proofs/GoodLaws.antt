@@ -2,7 +2,7 @@
 use Rattle.operations.proofs.Base.{ℕ, _≤_, _<_, Bool, true, _&&_, List, _≡_, arith, T, length}
 use Rattle.operations.proofs.Terms.{Value, scalar, pair, set, Values, none, _▸_, CellsFit, SomeAt, Rises, FineSet, SetBelow, ValueBelow, KnownFunction, Sizes, GoodAt, SomeGood, NewFirsts}
 use Rattle.rules.specs.Cells.{wellFormed, risingAll, precedes, good}
-use Rattle.laws.proofs.OrderLaws.{and-left, and-right}
+use Rattle.rules.proofs.Basics.{and-split}
 use Rattle.laws.proofs.CellsLaws.{encodable-wellFormed, few-sizes, good-wellFormed, good-weight, good-typed, weight-some}
 use Rattle.arena.proofs.CodeLaws.{length-code, encodable-fits}
 use Rattle.arena.proofs.EvenLaws.{typed-even}
@@ -14,10 +14,8 @@ use Rattle.fitting.proofs.Cells.{typed-at}
 rising-rises : (gs : List ℕ) (s : Values) → T (risingAll gs s) → Rises s
 rising-rises gs none h = tt
 rising-rises gs (v ▸ vs) h =
-    let a = wellFormed gs v in
-    let b = precedes v vs in
-    let c = risingAll gs vs in
-    (and-right a b (and-left (a && b) c h), rising-rises gs vs (and-right (a && b) c h))
+    let (k, l) = and-split (wellFormed gs v && precedes v vs) (risingAll gs vs) h in
+    (and-split (wellFormed gs v) (precedes v vs) k .1, rising-rises gs vs l)
 
 module _ {gs : List ℕ} (small : Sizes gs) where
   pub good-fits : (v : Value) → T (good gs v) → CellsFit v

@@ -1,7 +1,7 @@
 -- Kind codes: a code has one kind, and a kind one code.
 use Rattle.operations.proofs.Base.{ℕ, zero, suc, _+_, Bool, true, _&&_, List, [], _∷_, _≡_, refl, ap, sym, _∙_, arith, T, eqb, eqb→eq, getD, absurd01}
 use mathlib.Core.Option.{Option, none as nothing, some}
-use Rattle.operations.proofs.Terms.{whole, Join, and, or, implies, iff, Test, equal, member, subset, atMost, Quant, forAll, forSome, Leaf, identifier, givenSet, elementOf, literal, truthConst, emptySet, boolSet, singleton, power, dom, ran, card, choice, pairing, union, inter, diff, product, apply, plus, minus, interval, Kind, join, negation, test, quant, leaf, boolOf, one, two, comprehension, kinds, kindOf}
+use Rattle.operations.proofs.Terms.{whole, Join, and, or, implies, iff, equal, member, subset, atMost, Quant, forAll, forSome, Leaf, identifier, givenSet, elementOf, literal, truthConst, emptySet, boolSet, singleton, power, dom, ran, card, choice, pairing, union, inter, diff, product, apply, plus, minus, interval, Kind, join, negation, test, quant, leaf, boolOf, one, two, comprehension, kinds, kindOf}
 use Rattle.laws.proofs.OrderLaws.{and-left, and-right}
 
 -- Each kind with its code.
@@ -62,8 +62,7 @@ listed-at i [] t n x e = absurd01 (cc)
 listed-at i (nothing ∷ ks) t zero x e = absurd01 (cc)
 listed-at i (nothing ∷ ks) t (suc n) x e = let c = listed-at (suc i) ks t n x e in omega arith
 listed-at i (some y ∷ ks) t zero x e =
-    let d : y ≡ x = cc in
-    let c : i ≡ codeOf x = eqb→eq i (codeOf y) (and-left (eqb i (codeOf y)) (listed (suc i) ks) t) ∙ ap codeOf d in omega arith
+    let d : y ≡ x = cc in omega (arith, ap codeOf d, eqb→eq i (codeOf y) (and-left (eqb i (codeOf y)) (listed (suc i) ks) t))
 listed-at i (some y ∷ ks) t (suc n) x e = let c = listed-at (suc i) ks (and-right (eqb i (codeOf y)) (listed (suc i) ks) t) n x e in omega arith
 
 -- The code of a kind, and the kind of a code.
@@ -81,9 +80,6 @@ same-kind k x y e f = let d : some x ≡ some y = sym (kind-of k x e) ∙ f in c
 
 pub same-join : (k : ℕ) (i j : Join) → k ≡ joinCode i → kindOf k ≡ some (join j) → i ≡ j
 same-join k i j e f = cc (same-kind k (join i) (join j) e f)
-
-pub same-test : (k : ℕ) (i j : Test) → k ≡ codeOf (test i) → kindOf k ≡ some (test j) → i ≡ j
-same-test k i j e f = cc (same-kind k (test i) (test j) e f)
 
 pub same-leaf : (k : ℕ) (i j : Leaf) → k ≡ codeOf (leaf i) → kindOf k ≡ some (leaf j) → i ≡ j
 same-leaf k i j e f = cc (same-kind k (leaf i) (leaf j) e f)

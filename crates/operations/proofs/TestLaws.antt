@@ -1,6 +1,6 @@
 -- What the tests of kinds 6 to 9 answer: for operands that pass the test's own test it is enough to look at sets, and two numbers are told by their
 -- cells.
-use Rattle.operations.proofs.Base.{ℕ, _+_, _≤_, Ordering, Ordering·lt, Ordering·eq, Ordering·gt, Bool, true, false, not, _≢_, List, [], _∷_, _≡_, refl, sym, ap, _∙_, subst, arith, le-leb, lt-leb, not-true, not-false, T, leb, leb→le, le→leb, eqb, eqb→eq, eqb-refl, isEq, ℤ, pos, negsuc, length, getD, bool-eq}
+use Rattle.operations.proofs.Base.{ℕ, _+_, _≤_, Ordering·lt, Ordering·eq, Ordering·gt, Bool, true, false, not, _≢_, List, [], _∷_, _≡_, refl, sym, ap, _∙_, subst, arith, le-leb, lt-leb, not-true, not-false, T, leb, leb→le, le→leb, eqb, eqb→eq, eqb-refl, isEq, ℤ, pos, negsuc, length, getD, bool-eq}
 use lib.Signed.{leZ}
 use Rattle.operations.proofs.Terms.{whole, Value, int, payload, order, same, Test, equal, member, subset, atMost, test, t̂, P̂, numᵖ, testRule, fits, holds, excess, code, orderCode, SomeSet, SomeValue, Compared, FitTwo, Sizes, GoodAt, Truth, Unlike, Operands, tested, TestDone, NumberCell, NumbersTold, TestOf}
 use Rattle.laws.proofs.OrderLaws.{same-eq, same-refl}
@@ -10,7 +10,7 @@ use Rattle.operations.specs.declared.Tested.{Tested}
 use Rattle.operations.proofs.GoodLaws.{good-fits, good-value, good-whole}
 use Rattle.operations.proofs.OutcomeLaws.{test-unfit, test-fit}
 use Rattle.operations.proofs.FitLaws.{two-fits, two-sets, two-member, two-numbers}
-use Rattle.operations.proofs.KindLaws.{codeOf, code-of, same-test}
+use Rattle.operations.proofs.KindLaws.{codeOf, code-of, same-kind}
 
 module _ (j : Test) {s : List ℕ} {a b : ℕ} {r : Bool} (f : FitTwo (testRule j .takes) s a b r) where
   pub test-unlike : not r ≡ true → TestDone j s a b Unlike
@@ -21,14 +21,9 @@ module _ (j : Test) {s : List ℕ} {a b : ℕ} {r : Bool} (f : FitTwo (testRule 
   test-told t e g gs mid top v w small h k = ap Truth (g gs mid top v w small h k) ∙ sym (test-fit j v w (two-fits small h k _ f ∙ not-false r e))
 
 -- 6: the number 1 is that of equal values.
-same-code : (o : Ordering) → eqb (orderCode o) 1 ≡ isEq o
-same-code Ordering·lt = refl
-same-code Ordering·eq = refl
-same-code Ordering·gt = refl
-
 holds-equal : (v w : Value) (r : ℕ) → r ≡ orderCode (order v w) → eqb r 1 ≡ holds equal v w
 unfolding holds same
-holds-equal v w r e = rw e (same-code (order v w))
+holds-equal v w r e = rw e (elim (order v w) as (λ o. eqb (orderCode o) 1 ≡ isEq o) [ Ordering·lt ↦ refl | Ordering·eq ↦ refl | Ordering·gt ↦ refl ])
 
 module _ {s : List ℕ} {a b : ℕ} {r : Bool} where
   pub equal-told : (q : ℕ) → FitTwo (t̂ ∷ t̂ ∷ []) s a b r → not r ≡ false → Compared s a b q → TestDone equal s a b (Truth (eqb q 1))
@@ -96,14 +91,12 @@ cells-same m n x y c d = bool-eq (eqb x y) (same (int m) (int n)) told back
 module _ {k x y : ℕ} where
   pub numbers-equal : k ≡ 6 → NumbersTold k x y (Truth (eqb x y))
   unfolding tested fits holds
-  numbers-equal e j f m n c d =
-      subst (λ (i : Test). Truth (eqb x y) ≡ tested i (int m) (int n)) (same-test k equal j e f) (ap Truth (cells-same m n x y c d))
+  numbers-equal e j f m n c d = let i : equal ≡ j = cc (same-kind k (test equal) (test j) e f) in rw (← i) (ap Truth (cells-same m n x y c d))
 
   pub numbers-at-most : k ≡ 9 → NumbersTold k x y (Truth (leb x y))
   unfolding tested fits holds
   numbers-at-most e j f m n c d =
-      subst (λ (i : Test). Truth (leb x y) ≡ tested i (int m) (int n)) (same-test k (atMost whole) j e f)
-      (ap Truth (cells-order m n x y c d))
+      let i : atMost whole ≡ j = cc (same-kind k (test (atMost whole)) (test j) e f) in rw (← i) (ap Truth (cells-order m n x y c d))
 
   pub numbers-unlike : k ≢ 6 → k ≢ 9 → NumbersTold k x y Unlike
   unfolding tested fits
@@ -119,7 +112,7 @@ module _ {s : List ℕ} {a b : ℕ} {o : Tested} where
   test-numbers k f e m j q gs mid top v w small h l = two-numbers small h l (λ x y. o ≡ tested j x y) f e (m j q)
 
   pub test-of : {k : ℕ} (i : Test) → k ≡ codeOf (test i) → TestDone i s a b o → TestOf k s a b o
-  test-of {k} i e d j f = subst (λ (h : Test). TestDone h s a b o) (same-test k i j e f) d
+  test-of {k} i e d j f = subst (λ (h : Test). TestDone h s a b o) (cc (same-kind k (test i) (test j) e f)) d
 
   pub test-last : {k : ℕ} → k ≢ 6 → k ≢ 7 → k ≢ 8 → TestDone (atMost whole) s a b o → TestOf k s a b o
   test-last {k} n6 n7 n8 d equal e = absurd (n6 (code-of k (test equal) e))

@@ -1,10 +1,7 @@
--- `test`: two numbers by their cells, any other operands by the codes of kinds 6 to 9. Landmark: the operands that were lent.
+-- `test`: two numbers by their cells, any other operands by the codes of kinds 6 to 9. In the needs, m is where two numbers are found.
 use Rattle.operations.proofs.Common.{not, ap, needs, whole, equal, member, subset, atMost, ready-first, ready-second, ready-both, test-unlike, test-numbers, test-of, test-last}
 use Rattle.operations.proofs.test.Statement.{statement}
 use Rattle.operations.proofs.test.Tie as tie
-
-abbrev lent : tie.Then1 → tie.Start
-lent c = c .before .before .before
 
 pub test-spec : {M : Type 1} → statement M
 test-spec =
@@ -12,9 +9,9 @@ test-spec =
     (tie.spec
     (λ c κs. ready-both (c .before .pre .1))
     (λ c. search needs)
-    (λ c. ready-first (lent (c .before) .pre .1))
+    (λ c. let m = c .before in ready-first (m .before .before .before .pre .1))
     (λ c. search needs)
-    (λ c. ready-second (lent (c .before .before) .pre .1))
+    (λ c. let m = c .before .before in ready-second (m .before .before .before .pre .1))
     (λ c κs. search needs)
     (λ c. let t = c .before .before .before in test-numbers _ (t .before .numbers .ensures) (ap not (t .if1 .taken)) (c .numbers2 .ensures))
     (λ c κs. search needs)

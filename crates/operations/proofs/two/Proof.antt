@@ -3,13 +3,6 @@ use Rattle.operations.proofs.Common.{false≢true, refl, needs, whole, 
 use Rattle.operations.proofs.two.Statement.{statement}
 use Rattle.operations.proofs.two.Tie as tie
 
-returns-9 : tie.Need-returns-9
-returns-9 c =
-    let m = c .before .before in
-    let n = m .before .before .match .rest in
-    two-last (n .0 .0 .0 .0 .0 .0 .0 .1) (n .0 .0 .0 .0 .0 .0 .1) (n .0 .0 .0 .0 .0 .1) (n .0 .0 .0 .0 .1) (n .0 .0 .0 .1) (n .0 .0 .1) (n .0 .1) (n .1)
-    (m .interval .ensures)
-
 pub two-spec : {M : Type 1} → statement M
 two-spec =
     tie.close
@@ -42,4 +35,6 @@ two-spec =
     (λ c. search needs)
     (λ c. two-of (minus whole) (c .before .before .match .keys8) (c .sum2 .ensures _))
     (λ c. search needs)
-    returns-9)
+    (λ c. let m = c .before .before in let n = m .before .before .match .rest in
+    two-last (n .0 .0 .0 .0 .0 .0 .0 .1) (n .0 .0 .0 .0 .0 .0 .1) (n .0 .0 .0 .0 .0 .1) (n .0 .0 .0 .0 .1) (n .0 .0 .0 .1) (n .0 .0 .1) (n .0 .1) (n .1)
+    (m .interval .ensures)))

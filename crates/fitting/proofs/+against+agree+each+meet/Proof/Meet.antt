@@ -7,8 +7,8 @@ use borrow.Author.Needs.{needs}
 use borrow.Author.Tests.{not-true, not-false}
 use lib.ListN.{getD}
 use Rattle.fitting.proofs.Sharing.{tags-differ}
-use Rattle.fitting.specs.Agree.{SetHere, SomeRun, Agreed, AgreedAll}
-use Rattle.fitting.proofs.Cells.{inside, tag-is, members-run, run-first, run-one, sets-agree, other-pair, PairHere, pair-here, some-at, end-bounds, pairs-false, pairs-true}
+use Rattle.fitting.specs.Agree.{SetHere, RunAndRun, Agreed, AgreedAll}
+use Rattle.fitting.proofs.Cells.{inside, tag-is, members-run, run-first, run-whole, rest-last, sets-agree, other-pair, PairHere, pair-here, some-at, end-bounds, pairs-agree}
 use Rattle.fitting.proofs.Cycle.{Over}
 use Rattle.arena.proofs.tag.Reads as tag
 use Rattle.arena.proofs.end_of.Reads as end-of
@@ -60,11 +60,9 @@ module _ (t : ℕ) where
   abbrev given : Here lts.After-members2 → Here lts.Start
   given m = lent (sets m .before)
 
-  run-a : (m : Here lts.After-members2) → SomeRun (given m .args .s .now) (given m .args .a + 1) (m .before .members .result)
-  run-a m = members-run (set-a (sets m)) (m .before .members .ensures)
-
-  run-b : (m : Here lts.After-members2) → SomeRun (given m .args .s .now) (given m .args .b + 1) (m .members2 .result)
-  run-b m = members-run (set-b (sets m)) (m .members2 .ensures)
+  runs : (m : Here lts.After-members2) → let p = given m .args in
+      RunAndRun (p .s .now) (p .a + 1) (m .before .members .result) (p .b + 1) (m .members2 .result)
+  runs m = record { first = members-run (set-a (sets m)) (m .before .members .ensures); second = members-run (set-b (sets m)) (m .members2 .ensures) }
 
   by-members : (m : Here lts.After-members2) {r : Bool} →
       AgreedAll (given m .args .s .now) (given m .args .a + 1) (m .before .members .result) (given m .args .b + 1) (m .members2 .result) r →
@@ -102,22 +100,23 @@ module _ (t : ℕ) where
       (λ c κs. set-b (c .before))
       (λ c κs. let m = c .before in (
         omega (arith, given m .pre .0, inside (set-a (sets m) .value)),
-        record { first = run-first (run-a m) (omega (arith, c .if3 .taken)); second = run-b m },
+        record { first = run-first (runs m .first) (omega (arith, c .if3 .taken)); second = runs m .second },
       ))
-      (λ c. by-members (c .before .before) (λ ws k. run-one _ (c .before .if3 .taken) (λ v h. c .against .ensures v ws h k)))
-      (λ c κs. let m = c .before in (omega (arith, given m .pre .0, inside (set-a (sets m) .value)), record { first = run-a m; second = run-b m }))
+      (λ c. by-members (c .before .before) (λ p.
+      let n = c .before .if3 .taken in rest-last (run-whole _ (p .first)) (omega (arith, n)) (λ v h. c .against .ensures v _ h (p .second .1)) n))
+      (λ c κs. let m = c .before in (omega (arith, given m .pre .0, inside (set-a (sets m) .value)), runs m))
       (λ c. by-members (c .before .before) (c .each .ensures))
       (λ c κs. let p = lent (c .before) .pre in
       (omega (arith, p .0, inside (p .1 .0 .first)), record { first = pair-a c .left; second = pair-b c .left }))
-      (λ c. let m = c .before .before in pairs-false (pair-a m) (pair-b m) (c .before .agree .ensures) (not-true _ (c .if4 .taken)))
+      (λ c v w h k. let m = c .before .before in
+      pairs-agree (pair-a m) (pair-b m) (c .before .agree .ensures) v w h k .0 (not-true _ (c .if4 .taken)))
       (λ c κs. some-at (pair-a (pairs c) .left))
       (λ c κs. some-at (pair-b (pairs (c .before)) .left))
       (λ c κs. let e = c .before .end-of .ensures in
       let m = pairs (c .before .before) in
       let p = lent (m .before) .pre in
       (omega (arith, p .0, end-bounds (pair-a m .left) e), record { first = pair-a m .right _ e; second = pair-b m .right _ (c .end-of2 .ensures) }))
-      (λ c. let e = c .before .before in
+      (λ c v w h k. let e = c .before .before in
       let l = e .before in
-      let m = pairs l in
-      pairs-true (pair-a m) (pair-b m) (l .before .agree .ensures) (not-false _ (l .if4 .left))
-      (e .end-of .ensures) (c .before .end-of2 .ensures) (c .agree2 .ensures))
+      pairs-agree (pair-a (pairs l)) (pair-b (pairs l)) (l .before .agree .ensures) v w h k .1 _ _ _
+      (not-false _ (l .if4 .left)) (e .end-of .ensures) (c .before .end-of2 .ensures) (c .agree2 .ensures))

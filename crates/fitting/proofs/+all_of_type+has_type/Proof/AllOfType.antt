@@ -1,19 +1,16 @@
 -- `all_of_type`: the values that are left decide.
 use Prim.Native.Nat.{ℕ, _≤_}
-use mathlib.Core.Bool.{Bool, true, false}
 use native.Mathlib.Omega.{arith}
-use borrow.Author.Tests.{not-true, not-false}
 use Rattle.arena.specs.Code.{SomeAt}
-use Rattle.fitting.specs.Types.{ValuesAndType, AllOfType}
-use Rattle.fitting.proofs.Types.{ends-behind, values-next, all-of-end, all-of-no, all-of-step}
+use Rattle.fitting.specs.Types.{ValuesAndType}
+use Rattle.fitting.proofs.Types.{SomeLeft, ends-behind, left-first, left-end, left-no, left-yes}
 use Rattle.fitting.proofs.Cycle.{OverLoop}
 use Rattle.arena.proofs.end_of.Reads as end-of
 use Rattle.fitting.proofs.+all_of_type+has_type.Lts-all_of_type as lts
 use Rattle.fitting.proofs.+all_of_type+has_type.Proof.Base.{all-of-type, has-type}
 
 abbrev Inv : lts.InvT-loop
-Inv s at n row from i₀ left₀ i left =
-    ValuesAndType s i left row from × (at ≤ i) × ((r : Bool) → AllOfType s i left row from r → AllOfType s at n row from r)
+Inv s at n row from i₀ left₀ i left = (at ≤ i) × ((p : ValuesAndType s at n row from) → SomeLeft s i left (p .type .0) (p .values))
 
 abbrev μ : lts.MeasureT-loop
 μ s at n row from i₀ left₀ i left = left
@@ -26,33 +23,26 @@ module _ (t : ℕ) where
   Here T = T claims (all-of-type .at t) (all-of-type .post) Inv μ
 
   -- A turn of the loop: what was lent, and the next value.
-  abbrev lent : Here lts.At-loop → Here lts.Start
-  lent l = l .before .before .before
+  abbrev lent : Here lts.In-loop → Here lts.Start
+  lent l = let a = l .before in a .before .before .before
 
-  next : (l : Here lts.In-loop) → SomeAt (lent (l .before) .args .s .now) (l .before .loop .i)
-  next l = values-next (l .before .loop .inv .0) (l .loop-test .taken) .0
-
-  loop-again : Here lts.Need-loop-again
-  loop-again c =
-      let m = c .before in
-      let l = m .before .before in
-      let i = l .before .loop .inv in
-      let q = l .loop-test .taken in
-      let e = c .end-of .ensures in (
-        values-next (i .0) q .1 _ e,
-        omega (arith, i .1, ends-behind (next l) e),
-        λ r g. i .2 r (all-of-step q (m .before .has-type .ensures) (not-false _ (m .if1 .left)) e g),
-      )
+  next : (l : Here lts.In-loop) → SomeAt (lent l .args .s .now) (l .before .loop .i)
+  next l = left-first (l .before .loop .inv .1 (lent l .pre .1)) (l .loop-test .taken)
 
   pub closed : {M : Type 1} → lts.Closed claims (all-of-type .at t) (all-of-type .post) M
   closed =
       lts.spec claims (all-of-type .at t) (all-of-type .post) Inv μ
-      (λ c. (c .before .before .pre .1, omega arith, λ r g. g))
-      (λ c κs. let i = c .before .loop .inv in (omega (arith, lent (c .before) .pre .0, i .1), (next c, i .0 .type)))
-      (λ c. let l = c .before .before in
-      l .before .loop .inv .2 false (all-of-no (l .loop-test .taken) (c .before .has-type .ensures) (not-true _ (c .if1 .taken))))
+      (λ c. (omega arith, λ p. (p .values, record { stands = p .stands; fits = p .fits; counted = p .counted; tells = λ r d. d })))
+      (λ c κs. let p = lent c .pre in (omega (arith, p .0, c .before .loop .inv .0), (next c, p .1 .type)))
+      (λ c p. let l = c .before .before in
+      left-no (p .type .1) (l .loop-test .taken) (c .before .has-type .ensures) (l .before .loop .inv .1 p) (c .if1 .taken))
       (λ c κs. next (c .before .before))
       (λ c. c .before .before .before .loop-test .taken)
       (λ c. omega (arith, c .before .before .before .loop-test .taken))
-      loop-again
-      (λ c. c .before .loop .inv .2 true (all-of-end (omega (arith, c .loop-test .left))))
+      (λ c. let m = c .before in
+      let l = m .before .before in
+      let e = c .end-of .ensures in (
+        omega (arith, l .before .loop .inv .0, ends-behind (next l) e),
+        λ p. left-yes (p .type .1) (l .loop-test .taken) (m .before .has-type .ensures) (l .before .loop .inv .1 p) (m .if1 .left) e,
+      ))
+      (λ c p. left-end (c .before .loop .inv .1 p) (omega (arith, c .loop-test .left)))

@@ -5,8 +5,10 @@ use native.Mathlib.Omega.{arith}
 use borrow.Author.Needs.{needs}
 use borrow.Author.Tests.{not-true, not-false}
 use lib.ListN.{length, getD}
+use Rattle.arena.specs.Code.{SomeAt}
 use Rattle.arena.proofs.ValueParts.{some-inside}
-use Rattle.fitting.proofs.Types.{PairAndProduct, type-inside, ends-behind, is-atom, set-no, pair-no, set-type, set-asks, pair-asks, pair-left, pair-right}
+use Rattle.fitting.specs.Types.{SomeType}
+use Rattle.fitting.proofs.Types.{PairAndProduct, type-inside, ends-behind, is-atom, set-no, pair-no, of-some, set-asks, pair-asks}
 use Rattle.fitting.proofs.Cycle.{Over}
 use Rattle.arena.proofs.low.Reads as low
 use Rattle.arena.proofs.tag.Reads as tag
@@ -60,20 +62,16 @@ module _ (t : ℕ) where
   abbrev of-pair : Here lts.Else4 → Here lts.After-tag
   of-pair c = c .before .before .before
 
-  parts : (c : Here lts.Else4) → let a = lent (of-pair c) .args in PairAndProduct (a .s .now) (a .at) (a .row .now) (a .from)
-  parts c = let m = of-pair c in let p = lent m .pre .1 in pair-asks (p .0) (p .1) (is-tag m 4 (c .before .if3 .taken)) (c .if4 .left)
+  abbrev parts : (c : Here lts.Else4) → let a = lent (of-pair c) .args in
+      (v : SomeAt (a .s .now) (a .at)) (t : SomeType (a .row .now) (a .from)) → PairAndProduct v t
+  parts c v t = pair-asks v t (is-tag (of-pair c) 4 (c .before .if3 .taken)) (c .if4 .left)
+
+  given : (c : Here lts.Else4) → let p = lent (of-pair c) .pre .1 in PairAndProduct (p .0) (p .1)
+  given c = let p = lent (of-pair c) .pre .1 in parts c (p .0) (p .1)
 
   -- The left part has its type.
   abbrev pair : Here lts.Else5 → Here lts.Else4
   pair c = c .before .before
-
-  has-type-requires-2 : Here lts.Need-has-type-requires-2
-  has-type-requires-2 c κs =
-      let e = c .before .end-of .ensures in
-      let m = pair (c .before .before) in
-      let p = parts m in
-      -- The second type begins where the first one ends: an `omega`, which fails where the code hands over another place.
-      (omega (arith, lent (of-pair m) .pre .0, ends-behind (p .left) e), (p .right _ e, p .next _ (λ u h. omega (arith, c .type-end .ensures u h))))
 
   pub closed : {M : Type 1} → lts.Closed claims (has-type .at t) (has-type .post) M
   closed =
@@ -82,31 +80,34 @@ module _ (t : ℕ) where
       (λ c. value-inside (c .before .before .before))
       (λ c. let m = c .before in code-inside (m .before .before .before))
       (λ c κs. search needs)
-      (λ c. set-no (is-tag (c .before .before) 5 (c .before .if1 .taken)) (c .if2 .taken))
+      (λ c. of-some (λ v t. set-no v t (is-tag (c .before .before) 5 (c .before .if1 .taken)) (c .if2 .taken)))
       (λ c κs. search needs)
       (λ c. omega (arith, value-inside (lent (of-set c))))
       (λ c. omega (arith, code-inside (lent (of-set c))))
       (λ c κs. let m = of-set c in
       let p = lent m .pre in (
         omega (arith, p .0, value-inside (lent m)),
-        set-asks (p .1 .0) (p .1 .1) (is-tag m 5 (c .before .before .if1 .taken)) (c .before .if2 .left) (c .low .ensures .0),
+        set-asks (p .1 .0) (p .1 .1) (is-tag m 5 (c .before .before .if1 .taken)) (c .before .if2 .left) (c .low .ensures .0) .0,
       ))
-      (λ c. let d = c .before in
-      set-type (is-tag (of-set d) 5 (d .before .before .if1 .taken)) (d .before .if2 .left) (d .low .ensures .0) (c .all-of-type .ensures))
-      (λ c. pair-no (is-tag (c .before .before .before) 4 (c .before .if3 .taken)) (c .if4 .taken))
+      (λ c. let d = c .before in of-some (λ v t.
+      let (p, tells) = set-asks v t (is-tag (of-set d) 5 (d .before .before .if1 .taken)) (d .before .if2 .left) (d .low .ensures .0) in
+      tells _ (c .all-of-type .ensures p)))
+      (λ c. of-some (λ v t. pair-no v t (is-tag (c .before .before .before) 4 (c .before .if3 .taken)) (c .if4 .taken)))
       (λ c. omega (arith, value-inside (lent (of-pair c))))
       (λ c. omega (arith, code-inside (lent (of-pair c))))
-      (λ c κs. let m = of-pair c in (omega (arith, lent m .pre .0, value-inside (lent m)), (parts c .left, parts c .type)))
-      (λ c. let d = c .before .before in
-      pair-left (parts d) (c .before .has-type .ensures) (not-true _ (c .if5 .taken)))
-      (λ c κs. parts (pair c) .left)
-      (λ c κs. parts (pair (c .before)) .type)
-      has-type-requires-2
+      (λ c κs. let m = of-pair c in (omega (arith, lent m .pre .0, value-inside (lent m)), (given c .left, given c .type)))
+      (λ c. of-some (λ v t. parts (c .before .before) v t .no (c .before .has-type .ensures) (not-true _ (c .if5 .taken))))
+      (λ c κs. given (pair c) .left)
+      (λ c κs. given (pair (c .before)) .type)
+      -- The second type begins where the first one ends: an `omega`, which fails where the code hands over another place.
+      (λ c κs. let e = c .before .end-of .ensures in
+      let m = pair (c .before .before) in
+      let p = given m in
+      (omega (arith, lent (of-pair m) .pre .0, ends-behind (p .left) e), (p .right _ e, p .next _ (λ u h. omega (arith, c .type-end .ensures u h)))))
       (λ c. let e = c .before .before in
       let l = e .before in
-      let d = pair l in
-      pair-right (parts d) (l .before .has-type .ensures) (not-false _ (l .if5 .left))
-      (e .end-of .ensures) (c .before .type-end .ensures) (c .has-type2 .ensures))
+      let q = not-false _ (l .if5 .left) in
+      of-some (λ v t. parts (pair l) v t .yes (l .before .has-type .ensures) q (e .end-of .ensures) (c .before .type-end .ensures) (c .has-type2 .ensures)))
       (λ c κs. search needs)
       (λ c. let e = c .before .before .before .tag .ensures in
       is-atom (c .atom-is .ensures) (λ q. c .before .before .if1 .left (e ∙ q)) (λ q. c .before .if3 .left (e ∙ q)))

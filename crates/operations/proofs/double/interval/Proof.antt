@@ -7,15 +7,6 @@ use Rattle.operations.proofs.double.interval.Tie as tie
 abbrev lent : tie.After-numbers → tie.Start
 lent c = c .before .before .before
 
-returns-2 : tie.Need-returns-2
-returns-2 c =
-    let m = c .before .before .before in
-    let y = m .before .before in
-    let x = y .before .before in
-    let e = x .before .before in
-    interval-done (e .before .numbers .ensures) (e .if1 .left) (x .low .ensures .0) (y .low2 .ensures .0) (lent (e .before) .pre .operands)
-    (m .interval .ensures) (c .built .ensures)
-
 pub interval-spec : {M : Type 1} → statement M
 interval-spec =
     tie.close
@@ -32,4 +23,9 @@ interval-spec =
     (λ c κs. search needs)
     (λ c κs. search needs)
     (λ c. search needs)
-    returns-2)
+    (λ c. let m = c .before .before .before in
+    let y = m .before .before in
+    let x = y .before .before in
+    let e = x .before .before in
+    interval-done (e .before .numbers .ensures) (e .if1 .left) (x .low .ensures .0) (y .low2 .ensures .0) (lent (e .before) .pre .operands)
+    (m .interval .ensures) (c .built .ensures)))

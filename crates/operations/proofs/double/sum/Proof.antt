@@ -6,20 +6,6 @@ use Rattle.operations.proofs.double.sum.Tie as tie
 abbrev lent : tie.Else1 → tie.Start
 lent c = c .before .before .before
 
-returns-2 : tie.Need-returns-2
-returns-2 c _ =
-    let y = c .before .before in
-    let x = y .before .before in
-    let e = x .before .before in
-    rw (c .before .if2 .taken) (minus-done (e .before .numbers .ensures) (e .if1 .left) (x .low .ensures .0) (y .low2 .ensures .0) (c .number .ensures))
-
-returns-3 : tie.Need-returns-3
-returns-3 c _ =
-    let y = c .before .before in
-    let x = y .before .before in
-    let e = x .before .before in
-    rw (c .before .if2 .left) (plus-done (e .before .numbers .ensures) (e .if1 .left) (x .low .ensures .0) (y .low2 .ensures .0) (c .number2 .ensures))
-
 pub sum-spec : {M : Type 1} → statement M
 sum-spec =
     tie.close
@@ -35,7 +21,9 @@ sum-spec =
     (λ c. search needs)
     (λ c. search needs)
     (λ c κs. search needs)
-    returns-2
+    (λ c _. let y = c .before .before in let x = y .before .before in let e = x .before .before in
+    rw (c .before .if2 .taken) (minus-done (e .before .numbers .ensures) (e .if1 .left) (x .low .ensures .0) (y .low2 .ensures .0) (c .number .ensures)))
     (λ c. search needs)
     (λ c κs. search needs)
-    returns-3)
+    (λ c _. let y = c .before .before in let x = y .before .before in let e = x .before .before in
+    rw (c .before .if2 .left) (plus-done (e .before .numbers .ensures) (e .if1 .left) (x .low .ensures .0) (y .low2 .ensures .0) (c .number2 .ensures))))

@@ -6,20 +6,6 @@ use Rattle.operations.proofs.single.side.Tie as tie
 abbrev lent : tie.After-is-relation → tie.Start
 lent c = c .before .before .before
 
-returns-2 : tie.Need-returns-2
-returns-2 c =
-    let m = c .before .before .before in
-    let t = m .before .before in
-    let e = t .before in
-    rw (t .if2 .taken) (range-done (lent (e .before) .pre) (e .before .is-relation .ensures) (e .if1 .left) (m .range .ensures) (c .built .ensures))
-
-returns-3 : tie.Need-returns-3
-returns-3 c =
-    let m = c .before .before .before in
-    let t = m .before .before in
-    let e = t .before in
-    rw (t .if2 .left) (domain-done (lent (e .before) .pre) (e .before .is-relation .ensures) (e .if1 .left) (m .domain .ensures) (c .built2 .ensures))
-
 pub side-spec : {M : Type 1} → statement M
 side-spec =
     tie.close
@@ -30,8 +16,10 @@ side-spec =
     (λ c κs. let e = c .before .before in ready-pairs (lent (e .before) .pre) (e .before .is-relation .ensures) (e .if1 .left))
     (λ c κs. search needs)
     (λ c. search needs)
-    returns-2
+    (λ c. let m = c .before .before .before in let t = m .before .before in let e = t .before in
+    rw (t .if2 .taken) (range-done (lent (e .before) .pre) (e .before .is-relation .ensures) (e .if1 .left) (m .range .ensures) (c .built .ensures)))
     (λ c κs. let e = c .before .before in ready-pairs (lent (e .before) .pre) (e .before .is-relation .ensures) (e .if1 .left))
     (λ c κs. search needs)
     (λ c. search needs)
-    returns-3)
+    (λ c. let m = c .before .before .before in let t = m .before .before in let e = t .before in
+    rw (t .if2 .left) (domain-done (lent (e .before) .pre) (e .before .is-relation .ensures) (e .if1 .left) (m .domain .ensures) (c .built2 .ensures))))
