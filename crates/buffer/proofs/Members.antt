@@ -17,9 +17,9 @@ use Rattle.laws.proofs.FitsLaws.{_⊑_, ⊓-join, ⊓-split, inhabited→some, 
 use Rattle.arena.specs.Code.{codes, Stands, EndsAt, Compared, orderCode}
 use Rattle.arena.proofs.CodeLaws.{length-codes}
 use Rattle.arena.proofs.Standing.{stands-append, _before_, codes-before, count-before, weights-before, fit-before}
-use Rattle.fitting.specs.Agree.{meets, TypedAt, RunAt, SomeTyped, AgreedWith, NoEmpty, Full, StandFor, Agreed}
+use Rattle.fitting.specs.Agree.{meets, agree, TypedAt, RunAt, SomeTyped, AgreedWith, NoEmpty, Full, StandFor, Agreed}
 use Rattle.fitting.proofs.Sharing.{meets→share, share→meets, meets-sym, full-first}
-use Rattle.fitting.proofs.Cells.{as-run, run-head, run-of, end-is, full-value, first-stands, rest-stand, with-false, with-last, agreed-back}
+use Rattle.fitting.proofs.Cells.{as-run, run-head, run-of, end-is, full-value, first-stands, rest-stand, run-whole, rest-last}
 use Rattle.buffer.specs.Ordered.{inOrder}
 use Rattle.buffer.specs.Shared.{TypedRow, fineMembers, SomeTypedRow}
 
@@ -84,6 +84,12 @@ before-types (v ▸ vs) ws t =
 moved : (vs : Values) (w : Value) (ws : Values) → vs before (w ▸ ws) ≡ (vs before (w ▸ none)) before ws
 moved none w ws = refl
 moved (v ▸ vs) w ws = ap (λ (us : Values). v ▸ us) (moved vs w ws)
+
+-- A value against a run of one.
+agreed-one : {s : List ℕ} {a b : ℕ} {r : Bool} → Agreed s a b r → AgreedWith s b a 1 r
+unfolding agree
+agreed-one g w us k u =
+    rest-last (run-whole (typesOf w) (us, u)) (omega arith) (λ v h. g v w h k) refl ∙ meets-sym (sharedTypes us) (typesOf w)
 
 -- The first k of the values vs from `at` on, the last of which stands at i, rise and share a type; those that are left stand from e on.
 -- All rise where these rise behind the last.
@@ -207,11 +213,11 @@ module _ {s : List ℕ} {at i e k n : ℕ} {vs : Values} (h : Passed s at i e k 
     module _ {r : Bool} (full : FullAt s at) (a : Agreed s at e r) where
       pub first-unlike : r ≡ false → false ≡ fineMembers vs
       first-unlike z =
-          passed-unlike (stand-for true (λ _. full) refl) (with-false s e at 1 (omega arith) (agreed-back s at e false (subst (Agreed s at e) z a)))
+          passed-unlike (stand-for true (λ _. full) refl) (subst (AgreedWith s e at 1) z (agreed-one a))
 
       pub first-step : {b : Bool} {j : ℕ} → IsBefore s i e b → b ≡ true → r ≡ true → EndsAt s e j → Passed s at e j (k + 1) n vs
       first-step f y z =
-          passed-step (stand-for true (λ _. full) refl) f y (with-last s e at 1 refl (agreed-back s at e true (subst (Agreed s at e) z a)))
+          passed-step (stand-for true (λ _. full) refl) f y (subst (AgreedWith s e at 1) z (agreed-one a))
 
 -- No values.
 pub none-fine : (vs : Values) → count vs ≡ 0 → true ≡ fineMembers vs

@@ -20,7 +20,7 @@ use Rattle.arena.proofs.Standing.{Agree, agree-next, found-less, found-greater,
 use Rattle.arena.proofs.ValueParts.{first-cell, scalar-cell, scalar-one, one-cell, left-stands, right-stands}
 use Rattle.fitting.specs.Agree.{TypedAt, SomeTyped, agree, Agreed, Full, atomsAlike}
 use Rattle.fitting.proofs.Sharing.{tags-differ}
-use Rattle.fitting.proofs.Cells.{tag-is, as-pair, PairHere, pair-here, pairs-false, pairs-true, atoms-agree, alike-low, scalar-low}
+use Rattle.fitting.proofs.Cells.{tag-is, as-pair, PairHere, pair-here, pairs-agree, atoms-agree, scalar-low}
 use Rattle.buffer.specs.Shared.{leastAlike, mostAlike, ScalarPair, pairBefore}
 use Rattle.buffer.proofs.Members.{FullAt, IsBefore, compared-before}
 
@@ -44,6 +44,9 @@ module _ (x y : ℕ) where
 
   pub least-alike : leastAlike x ≤ x
   least-alike = by-tag (λ l m b. l ≤ x) (λ t. omega arith) (λ t. omega arith)
+
+  pub alike-low : x < 4 * cellSize → atomsAlike x y ≡ true → y < 4 * cellSize
+  alike-low l e = let h = alike-bounds .0 (T-true _ .1 e) in by-tag (λ n m b. y ≤ m → y < 4 * cellSize) (λ t k. omega arith) (λ t k. omega arith) (h .1)
 
 -- The order of two values by the first cells that differ, or by the last cells.
 by-cell : (s : List ℕ) (a b end i : ℕ) → EndsAt s a end → i < end - a → Agree s a b i →
@@ -145,10 +148,10 @@ module _ {s : List ℕ} {a b : ℕ} (p : ScalarPair s a) where
         lefts = atoms-agree s (a + 1) (b + 1) (p .left)
 
         go : (c : Bool) → atomsAlike (leftCell s a) (leftCell s b) ≡ c → (c && atomsAlike (rightCell s a) (rightCell s b)) ≡ agree v w
-        go false e = pairs-false here there lefts e v w h k
+        go false e = pairs-agree here there lefts v w h k .0 e
         go true e =
             let l = alike-low (leftCell s a) (leftCell s b) (p .left) e in
-            pairs-true here there lefts e (right a (p .left)) (right b l) (atoms-agree s (a + 2) (b + 2) (p .right)) v w h k
+            pairs-agree here there lefts v w h k .1 _ _ _ e (right a (p .left)) (right b l) (atoms-agree s (a + 2) (b + 2) (p .right))
 
 -- The scalars of the pair at b are within the bounds of the types of those at a.
 pub record Within (s : List ℕ) (a b : ℕ) : Type 0 where

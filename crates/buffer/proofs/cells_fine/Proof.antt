@@ -9,10 +9,10 @@ use Rattle.rules.specs.Values.{Values}
 use Rattle.laws.proofs.EndLaws.{T-true, T-false}
 use Rattle.arena.specs.Code.{cellSize}
 use Rattle.arena.proofs.ValueParts.{one-cell}
-use Rattle.fitting.proofs.Cells.{inside, atoms-agree, alike-low, scalar-full}
+use Rattle.fitting.proofs.Cells.{inside, atoms-agree, scalar-full}
 use Rattle.buffer.specs.Shared.{TypedRow}
 use Rattle.buffer.proofs.Members.{some-first, Passed, passed-start, passed-end, passed-next, passed-falls, first-unlike, first-step}
-use Rattle.buffer.proofs.Neighbours.{alike-bounds, least-alike, cell-before}
+use Rattle.buffer.proofs.Neighbours.{alike-bounds, alike-low, least-alike, cell-before}
 use Rattle.buffer.proofs.cells_fine.Statement.{statement}
 use Rattle.buffer.proofs.cells_fine.Tie as tie
 
