@@ -18,7 +18,7 @@ use Rattle.arena.specs.Code.{cellSize, ValueAt, CellsFit, EndsAt, IsScalar}
 use Rattle.arena.proofs.CodeLaws.{length-code}
 use Rattle.arena.proofs.Standing.{Agree, agree-next, found-less, found-greater, found-equal}
 use Rattle.arena.proofs.ValueParts.{first-cell, scalar-cell, scalar-one, one-cell, left-stands, right-stands}
-use Rattle.fitting.specs.Agree.{TypedAt, SomeTyped, agree, Agreed, Full, atomsAlike}
+use Rattle.fitting.specs.Agree.{SomeTyped, agree, Agreed, Full, atomsAlike}
 use Rattle.fitting.proofs.Sharing.{tags-differ}
 use Rattle.fitting.proofs.Cells.{tag-is, as-pair, PairHere, pair-here, pairs-agree, atoms-agree, scalar-low}
 use Rattle.buffer.specs.Shared.{leastAlike, mostAlike, ScalarPair, pairBefore}
@@ -41,6 +41,9 @@ module _ (x y : ℕ) where
       by-tag (λ l m b. T b ↔ ((l ≤ y) × (y ≤ m)))
       (λ t. simp T-eqb (λ e. (omega arith, omega arith), λ h. omega arith))
       (λ t. simp T-eqb (λ e. (omega arith, omega arith), λ h. omega arith))
+
+  pub alike-within : leastAlike x ≤ y → y ≤ mostAlike x → atomsAlike x y ≡ true
+  alike-within l m = T-true _ .0 (alike-bounds .1 (l, m))
 
   pub least-alike : leastAlike x ≤ x
   least-alike = by-tag (λ l m b. l ≤ x) (λ t. omega arith) (λ t. omega arith)
@@ -112,10 +115,9 @@ partsAlike s a b = atomsAlike (leftCell s a) (leftCell s b) && atomsAlike (right
 module _ {s : List ℕ} {a b : ℕ} (p : ScalarPair s a) where
   -- that is no pair
   pub pair-other : getD s b 0 ≢ 4 * cellSize → Agreed s a b false
-  pair-other n v w h k = sym (tags-differ v w (λ e. n (own (as-pair k (omega (arith, tag-is h, tag-is k, p .head))))))
-    where
-      own : (x : Value) × (y : Value) × (w ≡ pair x y) × TypedAt s b (pair x y) → getD s b 0 ≡ 4 * cellSize
-      own q = let (x, y, _, t) = q in let c = first-cell s b (pair x y) (t .stands) (t .fits) in omega (arith, c)
+  pair-other n v w h k =
+      sym (tags-differ v w (λ e.
+      let (x, y, _, t) = as-pair k (omega (arith, tag-is h, tag-is k, p .head)) in n (omega (arith, first-cell s b (pair x y) (t .stands) (t .fits)))))
 
   -- and another pair
   module _ (q : getD s b 0 ≡ 4 * cellSize) where
@@ -158,8 +160,8 @@ pub record Within (s : List ℕ) (a b : ℕ) : Type 0 where
   pub left : (leastAlike (leftCell s a) ≤ leftCell s b) × (leftCell s b ≤ mostAlike (leftCell s a))
   pub right : (leastAlike (rightCell s a) ≤ rightCell s b) × (rightCell s b ≤ mostAlike (rightCell s a))
 
-pub parts-bounds : (s : List ℕ) (a b : ℕ) → T (partsAlike s a b) ↔ Within s a b
-parts-bounds s a b = simp (T-and, alike-bounds) (λ h. record { left = h .0; right = h .1 }, λ w. (w .left, w .right))
+pub parts-within : (s : List ℕ) (a b : ℕ) → T (partsAlike s a b) → Within s a b
+parts-within s a b = simp (T-and, alike-bounds) (λ h. record { left = h .0; right = h .1 })
 
 -- The pair of two scalars at i, its cells x and y: the left one is not less than that of the pair at a.
 pub record PairBehind (s : List ℕ) (a i x y : ℕ) : Type 0 where
@@ -172,24 +174,24 @@ module _ {s : List ℕ} {a i x y : ℕ} (h : PairBehind s a i x y) (b : ℕ) whe
   pub before-is : {r t : Bool} → r ≡ pairBefore x y (leftCell s b) (rightCell s b) → r ≡ t → partsBefore s i b ≡ t
   before-is e f = rw (← h .first, ← h .second) (sym e ∙ f)
 
-  left-rises : partsBefore s i b ≡ true → leftCell s a ≤ leftCell s b
-  left-rises f = elim (ℕ-discrete (leftCell s i) (leftCell s b)) [
-    | yes e ↦ omega (arith, h .rises)
-    | no d ↦ let z : ltb (leftCell s i) (leftCell s b) ≡ true = rw (ne-eqb (leftCell s i) (leftCell s b) d) at f in omega (arith, ltb-true, h .rises)
-  ]
-
-  pub left-least : partsBefore s i b ≡ true → leastAlike (leftCell s a) ≤ leftCell s b
-  left-least f = omega (arith, left-rises f, least-alike (leftCell s a) 0)
-
   -- the next pair, within the bounds
-  pub pair-next : ScalarPair s a → getD s b 0 ≡ 4 * cellSize → partsBefore s i b ≡ true → Within s a b → PairBehind s a b (leftCell s b) (rightCell s b)
-  pair-next p q f w = record {
-    pair = record {
-      head = q;
-      left = alike-low _ _ (p .left) (T-true _ .0 (alike-bounds (leftCell s a) (leftCell s b) .1 (w .left)));
-      right = alike-low _ _ (p .right) (T-true _ .0 (alike-bounds (rightCell s a) (rightCell s b) .1 (w .right)));
-    };
-    first = refl;
-    second = refl;
-    rises = left-rises f;
-  }
+  pub pair-next : ScalarPair s a → getD s b 0 ≡ 4 * cellSize → partsBefore s i b ≡ true → leftCell s b ≤ mostAlike (leftCell s a) →
+      leastAlike (rightCell s a) ≤ rightCell s b → rightCell s b ≤ mostAlike (rightCell s a) →
+      (partsAlike s a b ≡ true) × PairBehind s a b (leftCell s b) (rightCell s b)
+  pair-next p q f l m n =
+      let u = alike-within (leftCell s a) (leftCell s b) (omega (arith, rises, least-alike (leftCell s a) 0)) l in
+      let v = alike-within (rightCell s a) (rightCell s b) m n in (
+        rw (u, v),
+        record {
+          pair = record { head = q; left = alike-low _ _ (p .left) u; right = alike-low _ _ (p .right) v };
+          first = refl;
+          second = refl;
+          rises = rises;
+        },
+      )
+    where
+      rises : leftCell s a ≤ leftCell s b
+      rises = elim (ℕ-discrete (leftCell s i) (leftCell s b)) [
+        | yes e ↦ omega (arith, h .rises)
+        | no d ↦ let z : ltb (leftCell s i) (leftCell s b) ≡ true = rw (ne-eqb (leftCell s i) (leftCell s b) d) at f in omega (arith, ltb-true, h .rises)
+      ]

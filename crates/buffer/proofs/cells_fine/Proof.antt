@@ -6,13 +6,14 @@ use borrow.Author.Needs.{needs}
 use borrow.Author.Tests.{lt-ltb, le-ltb}
 use lib.ListN.{length, getD}
 use Rattle.rules.specs.Values.{Values}
-use Rattle.laws.proofs.EndLaws.{T-true, T-false}
+use Rattle.laws.proofs.EndLaws.{T-false}
 use Rattle.arena.specs.Code.{cellSize}
 use Rattle.arena.proofs.ValueParts.{one-cell}
+use Rattle.fitting.specs.Agree.{atomsAlike}
 use Rattle.fitting.proofs.Cells.{inside, atoms-agree, scalar-full}
 use Rattle.buffer.specs.Shared.{TypedRow}
 use Rattle.buffer.proofs.Members.{some-first, Passed, passed-start, passed-end, passed-next, passed-falls, first-unlike, first-step}
-use Rattle.buffer.proofs.Neighbours.{alike-bounds, alike-low, least-alike, cell-before}
+use Rattle.buffer.proofs.Neighbours.{alike-bounds, alike-within, alike-low, least-alike, cell-before}
 use Rattle.buffer.proofs.cells_fine.Statement.{statement}
 use Rattle.buffer.proofs.cells_fine.Tie as tie
 
@@ -63,7 +64,7 @@ returns-2 : tie.Need-returns-2 Inv-loop μ-loop
 returns-2 c = λ vs r.
     let l = turn (c .before .before) in
     let low = lent l .pre .2 in
-    let z = T-false _ .0 (λ h. omega (arith, alike-bounds (first l) (next l) .0 h .1, c .if2 .taken, begun l .most .ensures)) in
+    let z = T-false (atomsAlike (first l) (next l)) .0 (λ h. omega (arith, alike-bounds (first l) (next l) .0 h .1, c .if2 .taken, begun l .most .ensures)) in
     first-unlike (l .before .loop .inv .2 vs r) (l .loop-test .taken) (scalar-full _ _ low) (atoms-agree _ _ _ low) z
 
 loop-again : tie.Need-loop-again Inv-loop μ-loop
@@ -73,8 +74,7 @@ loop-again c =
     let low = lent l .pre .2 in
     let x = first l in
     let y = next l in
-    let g = alike-bounds x y .1 (omega (arith, least-alike x x, i .0, c .before .if1 .left), omega (arith, c .if2 .left, begun l .most .ensures)) in
-    let a = T-true _ .0 g in
+    let a = alike-within x y (omega (arith, least-alike x x, i .0, c .before .if1 .left)) (omega (arith, c .if2 .left, begun l .most .ensures)) in
     let z = alike-low x y low a in (
       omega (arith, i .0, c .before .if1 .left),
       z,

@@ -8,12 +8,12 @@ use borrow.Author.Needs.{needs}
 use borrow.Author.Tests.{not-true, not-false}
 use lib.ListN.{length}
 use Rattle.rules.specs.Values.{Values}
-use Rattle.laws.proofs.EndLaws.{T-true, T-false}
+use Rattle.laws.proofs.EndLaws.{T-false}
 use Rattle.fitting.specs.Agree.{SomeTyped}
 use Rattle.fitting.proofs.Cells.{inside}
 use Rattle.buffer.specs.Shared.{TypedRow, MembersFine}
 use Rattle.buffer.proofs.Members.{some-first, Passed, passed-start, passed-end, passed-next, passed-falls, first-unlike, first-step}
-use Rattle.buffer.proofs.Neighbours.{pair-ends, pair-full, pair-inside, pair-other, partsBefore, pairs-before, pairs-alike, Within, parts-bounds, PairBehind, before-is, left-least, pair-next}
+use Rattle.buffer.proofs.Neighbours.{pair-ends, pair-full, pair-inside, pair-other, partsBefore, pairs-before, pairs-alike, Within, parts-within, PairBehind, before-is, pair-next}
 use Rattle.buffer.proofs.pairs_fine.Statement.{statement}
 use Rattle.buffer.proofs.pairs_fine.Tie as tie
 
@@ -75,7 +75,7 @@ unlike b f vs r =
     let l = turn m in
     let p = lent l .pre .2 in
     first-unlike (l .before .loop .inv .1 vs r) (l .loop-test .taken) (pair-full p) (pairs-alike p (m .if1 .left))
-    (T-false _ .0 (λ h. f (parts-bounds (lent l .args .s .now) (lent l .args .at) (place l) .0 h)))
+    (T-false _ .0 (λ h. f (parts-within (lent l .args .s .now) (lent l .args .at) (place l) h)))
 
 returns : tie.Need-returns Inv-loop μ-loop
 returns c = λ vs r.
@@ -100,15 +100,12 @@ loop-again c =
     let p = lent l .pre .2 in
     let g = begun l in
     let e = before b (not-false _ (d .before .if2 .left)) in
-    let w : Within (lent l .args .s .now) (lent l .args .at) (place l) = record {
-      left = (left-least (i .0) (place l) e, omega (arith, d .if3 .left, g .before .before .most .ensures));
-      right = (omega (arith, c .before .if4 .left, g .before .least .ensures), omega (arith, c .if5 .left, g .most2 .ensures));
-    } in
-    let k = pair-next (i .0) (place l) p (m .if1 .left) e w in (
-      k,
+    let k = pair-next (i .0) (place l) p (m .if1 .left) e (omega (arith, d .if3 .left, g .before .before .most .ensures))
+    (omega (arith, c .before .if4 .left, g .before .least .ensures)) (omega (arith, c .if5 .left, g .most2 .ensures)) in (
+      k .1,
       λ vs r.
-          first-step (i .1 vs r) (l .loop-test .taken) (pair-full p) (pairs-alike p (m .if1 .left)) (pairs-before (i .0 .pair) (m .if1 .left)) e
-          (T-true _ .0 (parts-bounds _ _ _ .1 w)) (pair-ends (k .pair)),
+          first-step (i .1 vs r) (l .loop-test .taken) (pair-full p) (pairs-alike p (m .if1 .left)) (pairs-before (i .0 .pair) (m .if1 .left)) e (k .0)
+          (pair-ends (k .1 .pair)),
     )
 
 pub pairs-fine-spec : {M : Type 1} → statement M
