@@ -27,19 +27,23 @@ pub struct Cursor {
 
 // What stands there: a cell as one number, its tag times 2^32 and its payload, and the place behind it; or none.
 pub enum Step {
-    Cell(u64, Cursor),
+    Cell { cell: u64, next: Cursor },
     End,
 }
 
 // A value that has been read into the arena up to `end`, and the place behind it in the buffer; or a fault of the buffer.
 pub enum Placed {
-    At(Cursor, usize),
+    At { next: Cursor, end: usize },
     Fault,
 }
 
 // The value of an identifier: where it stands, the place behind it in the buffer, and the arena's new top; or a fault.
 enum Entry {
-    Of(usize, Cursor, usize),
+    Of {
+        place: usize,
+        next: Cursor,
+        end: usize,
+    },
     Bad,
 }
 
@@ -77,7 +81,10 @@ impl Cursor {
         if !good_cell(table, x) {
             return Step::End;
         }
-        Step::Cell(x, Cursor { at: at + 8 })
+        Step::Cell {
+            cell: x,
+            next: Cursor { at: at + 8 },
+        }
     }
 }
 
@@ -143,7 +150,7 @@ fn copy_value(table: &[u8], from: Cursor, values: &[u8], s: &mut [u64], top: usi
         if left > arena::HEAVIEST - n {
             return Placed::Fault;
         }
-        let Step::Cell(x, next) = c.next(table, values) else {
+        let Step::Cell { cell: x, next } = c.next(table, values) else {
             return Placed::Fault;
         };
         s[top + n] = code_cell(x);
@@ -151,7 +158,10 @@ fn copy_value(table: &[u8], from: Cursor, values: &[u8], s: &mut [u64], top: usi
         n += 1;
         c = next;
     }
-    Placed::At(c, top + n)
+    Placed::At {
+        next: c,
+        end: top + n,
+    }
 }
 
 // How many of k values that share a type stand for all of them: the first, where it has one type only.
@@ -365,15 +375,23 @@ fn read_entry(
         ⌝ }
 {
     if table::bind(table, x) != 0 {
-        return Entry::Of(none, from, top);
+        return Entry::Of {
+            place: none,
+            next: from,
+            end: top,
+        };
     }
     let r = copy_value(table, from, values, s, top);
     match r {
-        Placed::At(next, end) => {
+        Placed::At { next, end } => {
             if !fine(s, top, end) {
                 return Entry::Bad;
             }
-            Entry::Of(top, next, end)
+            Entry::Of {
+                place: top,
+                next,
+                end,
+            }
         }
         Placed::Fault => Entry::Bad,
     }
@@ -395,7 +413,12 @@ pub fn load(table: &[u8], values: &[u8], s: &mut [u64], top: usize) -> Environme
     let mut end = top + 1;
     let mut x: usize = 0;
     while x < count {
-        let Entry::Of(place, next, e) = read_entry(table, x, c, values, s, top, end) else {
+        let Entry::Of {
+            place,
+            next,
+            end: e,
+        } = read_entry(table, x, c, values, s, top, end)
+        else {
             return Environment {
                 at: env,
                 answer: Loaded::Refused(x),
