@@ -158,24 +158,20 @@ record Rested (s : List ℕ) (top : ℕ) (w : Walk) (q : Rest) (done whole : Lis
   pub all : whole ≡ done ++ members rest
   pub thin : Cells s (w .a) (w .m) × Cells s (w .b) (w .n) → Cells s (q .at) (q .n)
 
-merged-none : (l b r : Bool) (ws : List Value) → merged l b r [] ws ≡ cond r ws []
-unfolding merged
-merged-none l b r ws = refl
-
 module _ {l r : Bool} {s : List ℕ} {w : Walk} {top : ℕ} {cells : Bool} (p : EndPre l r s w top cells) (light : w .to ≤ top + 256) {q : Rest}
     (rest : RestOf w l r q) where
   right-over : 0 < w .m → w .n ≡ 0
   right-over k = elim (p .over) [ inl z ↦ absurd (omega arith) | inr y ↦ elim y [ inl z ↦ z | inr z ↦ absurd (omega arith) ] ]
 
   rested : (e : Bool) (whole : List Value) (h : Merging l e r s top w whole) → Rested s top w q (h .done) whole
-  unfolding code
+  unfolding code merged
   rested e whole h = elim (decLt 0 (w .m)) [
     | yes k ↦
         let z = no-front (λ vs. members vs ≡ []) refl (h .onRight) (omega (arith, right-over k)) in
         kept l (rest .left k) (h .onLeft) (λ c. c .0) (h .all ∙ rw (z, merged-nil l e r (members (h .left))))
     | no k ↦
         let z = no-front (λ vs. members vs ≡ []) refl (h .onLeft) (omega arith) in
-        kept r (rest .right (omega arith)) (h .onRight) (λ c. c .1) (h .all ∙ rw (z, merged-none l e r (members (h .right))))
+        kept r (rest .right (omega arith)) (h .onRight) (λ c. c .1) (h .all ∙ rw z)
   ]
     where
       kept : (k : Bool) {at n : ℕ} {vs : Values} → (q .at ≡ at) × (q .n ≡ cond k n 0) → Front s top at n vs →
