@@ -28,12 +28,11 @@ module _ (l e r : Bool) (x y : ℕ) (P : ℕ → ℕ → ℕ → ℕ → Type 0)
           rw (d .lesser .0 (omega arith), d .kept .equal z, d .left, le-leb x y (omega arith), d .right, le-leb y x (omega arith)) (g z)
 
 -- At most one cell further in each set, and further in one.
-pub turn-moves : (l e r : Bool) (x y : ℕ) {u : CellTurn} → CellTurned l e r x y u →
+pub turn-moves : {l e r : Bool} {x y : ℕ} {u : CellTurn} → CellTurned l e r x y u →
     (u .left ≤ 1) × (u .right ≤ 1) × (0 < u .left + u .right) × (u .keep ≤ 1)
-turn-moves l e r x y =
-    by-turn l e r x y (λ _ k i j. (i ≤ 1) × (j ≤ 1) × (0 < i + j) × (k ≤ 1))
-    (λ d. (omega arith, omega arith, omega arith, byte-small l)) (λ d. (omega arith, omega arith, omega arith, byte-small e))
-    (λ d. (omega arith, omega arith, omega arith, byte-small r))
+turn-moves {l} {e} {r} {x} {y} =
+    by-turn l e r x y (λ _ k i j. (i ≤ 1) × (j ≤ 1) × (0 < i + j) × (k ≤ 1)) (λ d. (omega arith, omega arith, omega arith, byte-small l))
+    (λ d. (omega arith, omega arith, omega arith, byte-small e)) (λ d. (omega arith, omega arith, omega arith, byte-small r))
 
 -- A cell stored at the end of what has been built is kept or not.
 cell-put : (keep : Bool) {s : List ℕ} {from to count : ℕ} → from < to → to < length s → count < 4294967296 →
