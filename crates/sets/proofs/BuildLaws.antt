@@ -1,5 +1,5 @@
 -- Building a set: members one behind the other, and the walk that merges two sets.
-use Rattle.sets.proofs.Base.{ℕ, _+_, _-_, _≤_, _<_, Ordering, Ordering·lt, Ordering·eq, Ordering·gt, Bool, true, false, cond, List, [], _∷_, _++_, append-assoc, append-nil, _⊎_, inl, inr, _≡_, refl, sym, ap, _∙_, subst, arith, decLt, length, setAt, length-set, getD-set-same, getD-set-other}
+use Rattle.sets.proofs.Base.{zero, suc, getD, ℕ, _+_, _-_, _≤_, _<_, Ordering, Ordering·lt, Ordering·eq, Ordering·gt, Bool, true, false, cond, List, [], _∷_, _++_, append-assoc, append-nil, _⊎_, inl, inr, _≡_, refl, sym, ap, _∙_, subst, arith, decLt, length, setAt, length-set, getD-set-same, getD-set-other}
 use Rattle.sets.proofs.Terms.{Value, Values, none, _▸_, members, values, count, weights, order, keptValue, setOf, code, codes, Stands, ValueAt, Same, Copied, Front, Turn, Out, Walk, Rest, merged, keepOf, firstOf, restLeft, restRight, TurnAt, TwoRuns, RunEnds, Cells, BuiltTo, PutPre, PutBehind, RestThere, Merging, StepPre, Stepped, RestOf, EndPre, Ended, RunsMerge, Walking}
 use Rattle.laws.proofs.Membership.{values-members}
 use Rattle.laws.proofs.CellsLaws.{count-weights}
@@ -129,17 +129,16 @@ module _ {l e r : Bool} {s : List ℕ} {w : Walk} (h : StepPre l e r s w) {t : T
 -- A set's cell before its members.
 set-stands : {s : List ℕ} {top n to : ℕ} {zs : List Value} → BuiltTo s top to n zs → top < length s → ValueAt (setAt s top (21474836480 + n)) top (setOf zs)
 unfolding code
-set-stands {s} {top} {n} {to} {zs} b l =
-    let x = 21474836480 + n in
-    stands-append (setAt s top x) top ((21474836480 + count (values zs)) ∷ []) (codes (values zs)) (record {
-      inside = omega (arith, length-set s top x);
-      cells = λ i p. let e : i ≡ 0 = omega arith in
-          let d : top + i ≡ top = omega arith in
-          rw (d, e) (getD-set-same s top x 0 l ∙ omega (arith, b .counted));
-    }) (record {
-      inside = omega (arith, length-set s top x, b .stands .inside);
-      cells = λ i p. getD-set-other s top (top + 1 + i) x 0 (λ z. omega arith) ∙ b .stands .cells i p;
-    })
+set-stands {s} {top} {n} {to} {zs} b l = record { inside = omega (arith, length-set s top x, b .stands .inside); cells = cell }
+  where
+    x : ℕ
+    x = 21474836480 + n
+
+    cell : (i : ℕ) → i < suc (length (codes (values zs))) → getD (setAt s top x) (top + i) 0 ≡ getD ((21474836480 + count (values zs)) ∷ codes (values zs)) i 0
+    cell zero p = rw (let z : top + 0 ≡ top = omega arith in z) (getD-set-same s top x 0 l ∙ omega (arith, b .counted))
+    cell (suc i) p =
+        rw (let z : top + suc i ≡ top + 1 + i = omega arith in z)
+        (getD-set-other s top (top + 1 + i) x 0 (λ e. omega arith) ∙ b .stands .cells i (omega arith))
 
 -- What has been built, which is part of the whole, is too heavy already.
 pub end-heavy : {l r : Bool} {s : List ℕ} {w : Walk} {top : ℕ} → top + 256 < w .to → Ended l r s w top s 0
