@@ -186,8 +186,7 @@ module _ {s : List ℕ} {p end from : ℕ} {o : Out} (g : InsertPre s p end from
 
   pub insert-near : (p ≤ end) × (end ≤ q .at) × (q .at ≤ o .to) × (o .to + (end - p) ≤ length s) × (o .last ≤ o .to)
   insert-near =
-      let e = ends-here in
-      (omega arith, omega (arith, g .below .below, d .at), omega (arith, follows), omega (arith, g .room), last-low zs (g .built .last))
+      omega (arith, ends-here, g .below .below, d .at, follows, g .room, last-low zs (g .built .last))
 
   module _ {s₁ s₂ : List ℕ} (shifted : Copied s (q .at) (o .to - q .at) (q .at + (end - p)) s₁) (copied : Copied s₁ p (end - p) (q .at) s₂) where
     -- the codes of the members before the place, of the value, and of the members behind it

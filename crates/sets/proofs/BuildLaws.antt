@@ -101,20 +101,12 @@ module _ {l e r : Bool} {s : List ℕ} {w : Walk} (h : StepPre l e r s w) {t : T
   step-took : (t .from ≤ t .end) × (t .end ≤ w .to) × (t .end - t .from ≤ 256) × (t .m + t .n < w .m + w .n)
   step-took =
       by-fronts (λ _ _. (t .from ≤ t .end) × (t .end ≤ w .to) × (t .end - t .from ≤ 256) × (t .m + t .n < w .m + w .n))
-      (λ v vs x xs f g. let d = turn (h .top) v vs x xs f g in (
-        omega (arith, d .ends),
-        omega (arith, d .ends, d .value .below, h .merging .built .ends),
-        omega (arith, d .ends, d .value .light),
-        omega (arith, turn-fewer s (h .top) l e r (order v x) v vs x xs t d, f .counted, g .counted),
-      )) (h .merging .onLeft) (h .merging .onRight) (h .moreLeft) (h .moreRight)
+      (λ v vs x xs f g. let d = turn (h .top) v vs x xs f g in
+      omega (arith, d .ends, d .value, h .merging .built, turn-fewer s (h .top) l e r (order v x) v vs x xs t d, f .counted, g .counted))
+      (h .merging .onLeft) (h .merging .onRight) (h .moreLeft) (h .moreRight)
 
   pub step-put : PutPre s (t .from) (t .end) 1 (outOf w)
-  step-put = record {
-    forward = step-took .0;
-    behind = step-took .1;
-    room = omega (arith, h .room, step-took .2);
-    few = omega (arith, h .near, h .merging .built .ends, h .merging .built .counted, count-weights (values (h .merging .done)));
-  }
+  step-put = omega (arith, step-took, h .room, h .near, h .merging .built, count-weights (values (h .merging .done)))
 
   pub step-returns : {s′ : List ℕ} {o : Out} → PutBehind (t .keep) s (t .from) (t .end) 1 (outOf w) s′ o → Stepped l e r s w s′ (after t o)
   step-returns p = record {
@@ -202,12 +194,7 @@ module _ {l r : Bool} {s : List ℕ} {w : Walk} {top : ℕ} {cells : Bool} (p : 
         let z = some-rest in
         let x : end ≡ q .at + weights (z .rest) = ends top (z .rest) (z .front) in
         let b = p .merging .built in
-        record {
-          forward = omega arith;
-          behind = omega (arith, z .front .below, b .ends);
-          room = omega (arith, z .front .light, p .room);
-          few = omega (arith, b .ends, b .counted, count-weights (values (p .merging .done)), z .front .counted, count-weights (z .rest), z .front .light);
-        }
+        omega (arith, z .front, p .room, b, count-weights (values (p .merging .done)), count-weights (z .rest))
 
     module _ {s′ : List ℕ} {o : Out} (put : PutBehind true s (q .at) end (q .n) (outOf w) s′ o) where
       -- the whole has been built
