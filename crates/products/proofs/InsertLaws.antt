@@ -206,6 +206,8 @@ module _ {s : List ℕ} {p end from : ℕ} {o : Out} (g : InsertPre s p end from
     inserts-put e last f =
         let b = g .built in
         let ins : insert v zs ≡ d .lo ++ (v ∷ d .hi) = d .inserted ∙ ap (λ (b : Bool). d .lo ++ cond b (d .hi) (v ∷ d .hi)) e in
+        let old = ap (λ (l : List Value). count (values l)) (d .all) ∙ count-append (d .lo) (d .hi) in
+        let new = ap (λ (l : List Value). count (values l)) ins ∙ count-append (d .lo) (v ∷ d .hi) in
         let y : end - p ≡ weight v = omega (arith, ends-here) in (
           gap-same shifted copied from (omega (arith, d .at)),
           record {
@@ -215,13 +217,6 @@ module _ {s : List ℕ} {p end from : ℕ} {o : Out} (g : InsertPre s p end from
               ends = omega (arith, follows, d .at, ap (λ (l : List Value). weights (values l)) ins, weights-append (d .lo) (v ∷ d .hi));
             };
             last = rw ins (last-moved f v (d .lo) (d .hi) (rw (d .all) at (b .last)) follows y);
-            counted = omega (
-              arith,
-              b .counted,
-              ap (λ (l : List Value). count (values l)) ins,
-              ap (λ (l : List Value). count (values l)) (d .all),
-              count-append (d .lo) (d .hi),
-              count-append (d .lo) (v ∷ d .hi),
-            );
+            counted = omega (arith, b .counted, old, new);
           },
         )
