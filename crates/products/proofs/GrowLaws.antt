@@ -1,5 +1,5 @@
 -- Cells written one behind the other, and the values that they are.
-use Rattle.products.proofs.Base.{ℕ, zero, suc, _+_, _-_, _≤_, _<_, List, [], _∷_, _++_, append-assoc, append-nil, _≡_, refl, sym, ap, _∙_, subst, arith, add-one, length, setAt, length-append, length-set, getD-set-same, getD-set-other}
+use Rattle.products.proofs.Base.{getD, ℕ, zero, suc, _+_, _-_, _≤_, _<_, List, [], _∷_, _++_, append-assoc, append-nil, _≡_, refl, sym, ap, _∙_, subst, arith, add-one, length, setAt, length-append, length-set, getD-set-same, getD-set-other}
 use Rattle.products.proofs.Terms.{Value, pair, set, Values, none, _▸_, count, weight, setOf, code, codes, Stands, EndsAt, Copied, ValueBelow, Made, Appended, Grown, cellsFrom, RunPre, PairPre, PairPut}
 use Rattle.arena.proofs.CodeLaws.{length-code, length-codes}
 use Rattle.arena.proofs.Standing.{stands-append, stands-frame, same-refl, same-trans, copied-stands}
@@ -12,15 +12,23 @@ nothing-stands s to l = record { inside = omega arith; cells = λ i p. absurd (o
 pub appended-none : (s : List ℕ) (to : ℕ) → to ≤ length s → Appended s to s to []
 appended-none s to l = record { frame = same-refl to s; stands = nothing-stands s to l; ends = omega arith }
 
-pub appended-cell : (s : List ℕ) (to x : ℕ) → to < length s → Appended s to (setAt s to x) (to + 1) (x ∷ [])
-appended-cell s to x l = record {
-  frame = record { same = λ i p. getD-set-other s to i x 0 (λ e. omega arith); kept = length-set s to x };
-  stands = record {
-    inside = omega (arith, length-set s to x);
-    cells = λ i p. let e : i ≡ 0 = omega arith in let d : to + i ≡ to = omega arith in rw (d, e) (getD-set-same s to x 0 l);
-  };
-  ends = omega arith;
+-- A cell before what has been written, as a set's before its members.
+appended-head : {s : List ℕ} {top : ℕ} {s′ : List ℕ} {r : ℕ} {cs : List ℕ} (x : ℕ) → Appended s (top + 1) s′ r cs → top < length s →
+    Appended s top (setAt s′ top x) r (x ∷ cs)
+appended-head {s} {top} {s′} {r} {cs} x a l = record {
+  frame = record { same = λ i p. getD-set-other s′ top i x 0 (λ e. omega arith) ∙ a .frame .same i (omega arith); kept = length-set s′ top x ∙ a .frame .kept };
+  stands = record { inside = omega (arith, length-set s′ top x, a .stands .inside); cells = cell };
+  ends = omega (arith, a .ends);
 }
+  where
+    cell : (i : ℕ) → i < suc (length cs) → getD (setAt s′ top x) (top + i) 0 ≡ getD (x ∷ cs) i 0
+    cell zero p = rw (let z : top + 0 ≡ top = omega arith in z) (getD-set-same s′ top x 0 (omega (arith, a .frame .kept)))
+    cell (suc i) p =
+        rw (let z : top + suc i ≡ top + 1 + i = omega arith in z)
+        (getD-set-other s′ top (top + 1 + i) x 0 (λ e. omega arith) ∙ a .stands .cells i (omega arith))
+
+pub appended-cell : (s : List ℕ) (to x : ℕ) → to < length s → Appended s to (setAt s to x) (to + 1) (x ∷ [])
+appended-cell s to x l = appended-head x (appended-none s (to + 1) (omega arith)) l
 
 pub appended-copy : {s : List ℕ} {from n to : ℕ} {s′ cs : List ℕ} → Copied s from n to s′ → Stands s from cs → length cs ≡ n → to + n ≤ length s →
     Appended s to s′ (to + n) cs
@@ -60,21 +68,6 @@ made {v = v} a l =
 
 pub made-heavy : {s : List ℕ} {top : ℕ} {v : Value} → 256 < weight v → Made top s s v 0
 made-heavy {s} {top} l = record { frame = same-refl top s; light = λ k. absurd (omega arith); heavy = λ k. refl }
-
--- A cell before what has been written, as a set's before its members.
-appended-head : {s : List ℕ} {top : ℕ} {s′ : List ℕ} {r : ℕ} {cs : List ℕ} (x : ℕ) → Appended s (top + 1) s′ r cs → top < length s →
-    Appended s top (setAt s′ top x) r (x ∷ cs)
-appended-head {s} {top} {s′} {r} {cs} x a l =
-    let y = appended-cell s′ top x (omega (arith, a .frame .kept)) in
-    let k : Stands (setAt s′ top x) (top + 1) cs = record {
-      inside = omega (arith, y .frame .kept, a .stands .inside);
-      cells = λ i p. getD-set-other s′ top (top + 1 + i) x 0 (λ z. omega arith) ∙ a .stands .cells i p;
-    } in
-    record {
-      frame = record { same = λ i p. y .frame .same i p ∙ a .frame .same i (omega arith); kept = y .frame .kept ∙ a .frame .kept };
-      stands = stands-append (setAt s′ top x) top (x ∷ []) cs (y .stands) k;
-      ends = omega (arith, a .ends);
-    }
 
 pub appended-set : {s : List ℕ} {top : ℕ} {s′ : List ℕ} {r n : ℕ} (vs : Values) → Appended s (top + 1) s′ r (codes vs) → n ≡ count vs → top < length s →
     Appended s top (setAt s′ top (21474836480 + n)) r (code (set vs))

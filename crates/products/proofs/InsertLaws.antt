@@ -186,8 +186,7 @@ module _ {s : List ℕ} {p end from : ℕ} {o : Out} (g : InsertPre s p end from
 
   pub insert-near : (p ≤ end) × (end ≤ q .at) × (q .at ≤ o .to) × (o .to + (end - p) ≤ length s) × (o .last ≤ o .to)
   insert-near =
-      let e = ends-here in
-      (omega arith, omega (arith, g .below .below, d .at), omega (arith, follows), omega (arith, g .room), last-low zs (g .built .last))
+      omega (arith, ends-here, g .below .below, d .at, follows, g .room, last-low zs (g .built .last))
 
   module _ {s₁ s₂ : List ℕ} (shifted : Copied s (q .at) (o .to - q .at) (q .at + (end - p)) s₁) (copied : Copied s₁ p (end - p) (q .at) s₂) where
     -- the codes of the members before the place, of the value, and of the members behind it
@@ -207,6 +206,8 @@ module _ {s : List ℕ} {p end from : ℕ} {o : Out} (g : InsertPre s p end from
     inserts-put e last f =
         let b = g .built in
         let ins : insert v zs ≡ d .lo ++ (v ∷ d .hi) = d .inserted ∙ ap (λ (b : Bool). d .lo ++ cond b (d .hi) (v ∷ d .hi)) e in
+        let old = ap (λ (l : List Value). count (values l)) (d .all) ∙ count-append (d .lo) (d .hi) in
+        let new = ap (λ (l : List Value). count (values l)) ins ∙ count-append (d .lo) (v ∷ d .hi) in
         let y : end - p ≡ weight v = omega (arith, ends-here) in (
           gap-same shifted copied from (omega (arith, d .at)),
           record {
@@ -216,13 +217,6 @@ module _ {s : List ℕ} {p end from : ℕ} {o : Out} (g : InsertPre s p end from
               ends = omega (arith, follows, d .at, ap (λ (l : List Value). weights (values l)) ins, weights-append (d .lo) (v ∷ d .hi));
             };
             last = rw ins (last-moved f v (d .lo) (d .hi) (rw (d .all) at (b .last)) follows y);
-            counted = omega (
-              arith,
-              b .counted,
-              ap (λ (l : List Value). count (values l)) ins,
-              ap (λ (l : List Value). count (values l)) (d .all),
-              count-append (d .lo) (d .hi),
-              count-append (d .lo) (v ∷ d .hi),
-            );
+            counted = omega (arith, b .counted, old, new);
           },
         )

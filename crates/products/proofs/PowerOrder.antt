@@ -178,14 +178,9 @@ unfolding powers combos
 more-heavy zero v vs = omega arith
 more-heavy (suc k) v vs =
     let new = map (λ s. v ∷ s) (combos (suc k) vs) in
-    omega (
-      arith,
-      more-heavy k v vs,
-      weigh-with v (combos (suc k) vs),
-      weigh-append (powers k vs) (combos (suc k) vs),
-      weigh-append new (combos (suc (suc k)) vs),
-      weigh-append (powers (suc k) (v ∷ vs)) (combos (suc (suc k)) (v ∷ vs)),
-    )
+    let x = weigh-append new (combos (suc (suc k)) vs) in
+    let y = weigh-append (powers (suc k) (v ∷ vs)) (combos (suc (suc k)) (v ∷ vs)) in
+    omega (arith, more-heavy k v vs, weigh-with v (combos (suc k) vs), weigh-append (powers k vs) (combos (suc k) vs))
 
 -- Five members or fewer: the weight and the number of the subsets, and that the masks give them in order.
 pub power-few : (vs : List Value) → length vs ≤ 5 →
@@ -215,8 +210,5 @@ power-heavy (a ∷ b ∷ c ∷ d ∷ []) l = absurd (omega arith)
 power-heavy (a ∷ b ∷ c ∷ d ∷ f ∷ []) l = absurd (omega arith)
 power-heavy (a ∷ b ∷ c ∷ d ∷ f ∷ g ∷ []) l = six-heavy a b c d f g
 power-heavy (a ∷ b ∷ c ∷ d ∷ f ∷ g ∷ h ∷ vs) l =
-    omega (
-      arith,
-      power-heavy (b ∷ c ∷ d ∷ f ∷ g ∷ h ∷ vs) (omega arith),
-      more-heavy (length (b ∷ c ∷ d ∷ f ∷ g ∷ h ∷ vs)) a (b ∷ c ∷ d ∷ f ∷ g ∷ h ∷ vs),
-    )
+    let ws = b ∷ c ∷ d ∷ f ∷ g ∷ h ∷ vs in
+    omega (arith, power-heavy (b ∷ c ∷ d ∷ f ∷ g ∷ h ∷ vs) (omega arith), more-heavy (length ws) a ws)

@@ -127,12 +127,9 @@ module _ {s₀ at : List ℕ} {n to : ℕ} (g : SubsetPre s₀ at n to) (mask : 
         let more = subsetFor (m / 2) (members ws) in
         let size : getD at (j + 1) 0 - getD at j 0 ≡ weight w = omega (arith, h .each .1) in
         let z = length-codes (values (keptValue (eqb (m % 2) 1) w more)) ∙ kept-sizes (eqb (m % 2) 1) w more (getD at (j + 1) 0 - getD at j 0) size .1 in
-        record {
-          forward = omega (arith, h .each .1);
-          behind = omega (arith, h .each .0 .below, h .each .1, g .marked .behind, h .grown .appended .ends);
-          room = omega (arith, z, grown-left (h .grown), length-codes (values whole), light, g .room, h .grown .appended .frame .kept);
-          few = omega (arith, subset-few (w ▸ ws, h));
-        }
+        let a = h .grown .appended in
+        let y = length-codes (values whole) in
+        omega (arith, h .each .0, h .each .1, g .marked, g .room, a .ends, a .frame .kept, grown-left (h .grown), light, subset-few (w ▸ ws, h))
 
     pub subset-next : (rest : Values) × SubsetAt s j m o rest → j < n → (s′ : List ℕ) (r : Out) →
         Added (eqb (m % 2) 1) s (getD at j 0) (getD at (j + 1) 0) o s′ r → (ws : Values) × SubsetAt s′ (j + 1) (m / 2) r ws

@@ -62,11 +62,8 @@ module _ {s₀ : List ℕ} {v k b m to : ℕ} (g : RowPre s₀ v k b m to) {s : 
       let d = h .grown .appended in
       let q = grown-left (h .grown) in
       let z = walk-ends e ends h in
-      record {
-        left = omega (arith, g .value .below, g .weighs, h .behind, d .ends);
-        right = omega (arith, h .front .below, h .behind, d .ends);
-        room = omega (arith, length-codes (pairsWith x (g .others)), length-codes (pairsWith x (w ▸ us)), g .weighs, g .room, d .frame .kept);
-      }
+      let y = length-codes (pairsWith x (g .others)) in
+      omega (arith, g .value, g .weighs, g .room, h .behind, h .front, d .ends, d .frame .kept, length-codes (pairsWith x (w ▸ us)))
 
   pub row-next : RowAt g s i left at → 0 < left → (s′ : List ℕ) (r : ℕ) → PairPut s v k i (e - i) at s′ r → RowAt g s′ e (left - 1) r
   unfolding code

@@ -1,5 +1,5 @@
 -- Building a set: members one behind the other, and the walk that merges two sets.
-use Rattle.sets.proofs.Base.{ℕ, _+_, _-_, _≤_, _<_, Ordering, Ordering·lt, Ordering·eq, Ordering·gt, Bool, true, false, cond, List, [], _∷_, _++_, append-assoc, append-nil, _⊎_, inl, inr, _≡_, refl, sym, ap, _∙_, subst, arith, decLt, length, setAt, length-set, getD-set-same, getD-set-other}
+use Rattle.sets.proofs.Base.{zero, suc, getD, ℕ, _+_, _-_, _≤_, _<_, Ordering, Ordering·lt, Ordering·eq, Ordering·gt, Bool, true, false, cond, List, [], _∷_, _++_, append-assoc, append-nil, _⊎_, inl, inr, _≡_, refl, sym, ap, _∙_, subst, arith, decLt, length, setAt, length-set, getD-set-same, getD-set-other}
 use Rattle.sets.proofs.Terms.{Value, Values, none, _▸_, members, values, count, weights, order, keptValue, setOf, code, codes, Stands, ValueAt, Same, Copied, Front, Turn, Out, Walk, Rest, merged, keepOf, firstOf, restLeft, restRight, TurnAt, TwoRuns, RunEnds, Cells, BuiltTo, PutPre, PutBehind, RestThere, Merging, StepPre, Stepped, RestOf, EndPre, Ended, RunsMerge, Walking}
 use Rattle.laws.proofs.Membership.{values-members}
 use Rattle.laws.proofs.CellsLaws.{count-weights}
@@ -101,20 +101,12 @@ module _ {l e r : Bool} {s : List ℕ} {w : Walk} (h : StepPre l e r s w) {t : T
   step-took : (t .from ≤ t .end) × (t .end ≤ w .to) × (t .end - t .from ≤ 256) × (t .m + t .n < w .m + w .n)
   step-took =
       by-fronts (λ _ _. (t .from ≤ t .end) × (t .end ≤ w .to) × (t .end - t .from ≤ 256) × (t .m + t .n < w .m + w .n))
-      (λ v vs x xs f g. let d = turn (h .top) v vs x xs f g in (
-        omega (arith, d .ends),
-        omega (arith, d .ends, d .value .below, h .merging .built .ends),
-        omega (arith, d .ends, d .value .light),
-        omega (arith, turn-fewer s (h .top) l e r (order v x) v vs x xs t d, f .counted, g .counted),
-      )) (h .merging .onLeft) (h .merging .onRight) (h .moreLeft) (h .moreRight)
+      (λ v vs x xs f g. let d = turn (h .top) v vs x xs f g in
+      omega (arith, d .ends, d .value, h .merging .built, turn-fewer s (h .top) l e r (order v x) v vs x xs t d, f .counted, g .counted))
+      (h .merging .onLeft) (h .merging .onRight) (h .moreLeft) (h .moreRight)
 
   pub step-put : PutPre s (t .from) (t .end) 1 (outOf w)
-  step-put = record {
-    forward = step-took .0;
-    behind = step-took .1;
-    room = omega (arith, h .room, step-took .2);
-    few = omega (arith, h .near, h .merging .built .ends, h .merging .built .counted, count-weights (values (h .merging .done)));
-  }
+  step-put = omega (arith, step-took, h .room, h .near, h .merging .built, count-weights (values (h .merging .done)))
 
   pub step-returns : {s′ : List ℕ} {o : Out} → PutBehind (t .keep) s (t .from) (t .end) 1 (outOf w) s′ o → Stepped l e r s w s′ (after t o)
   step-returns p = record {
@@ -129,17 +121,16 @@ module _ {l e r : Bool} {s : List ℕ} {w : Walk} (h : StepPre l e r s w) {t : T
 -- A set's cell before its members.
 set-stands : {s : List ℕ} {top n to : ℕ} {zs : List Value} → BuiltTo s top to n zs → top < length s → ValueAt (setAt s top (21474836480 + n)) top (setOf zs)
 unfolding code
-set-stands {s} {top} {n} {to} {zs} b l =
-    let x = 21474836480 + n in
-    stands-append (setAt s top x) top ((21474836480 + count (values zs)) ∷ []) (codes (values zs)) (record {
-      inside = omega (arith, length-set s top x);
-      cells = λ i p. let e : i ≡ 0 = omega arith in
-          let d : top + i ≡ top = omega arith in
-          rw (d, e) (getD-set-same s top x 0 l ∙ omega (arith, b .counted));
-    }) (record {
-      inside = omega (arith, length-set s top x, b .stands .inside);
-      cells = λ i p. getD-set-other s top (top + 1 + i) x 0 (λ z. omega arith) ∙ b .stands .cells i p;
-    })
+set-stands {s} {top} {n} {to} {zs} b l = record { inside = omega (arith, length-set s top x, b .stands .inside); cells = cell }
+  where
+    x : ℕ
+    x = 21474836480 + n
+
+    cell : (i : ℕ) → i < suc (length (codes (values zs))) → getD (setAt s top x) (top + i) 0 ≡ getD ((21474836480 + count (values zs)) ∷ codes (values zs)) i 0
+    cell zero p = rw (let z : top + 0 ≡ top = omega arith in z) (getD-set-same s top x 0 l ∙ omega (arith, b .counted))
+    cell (suc i) p =
+        rw (let z : top + suc i ≡ top + 1 + i = omega arith in z)
+        (getD-set-other s top (top + 1 + i) x 0 (λ e. omega arith) ∙ b .stands .cells i (omega arith))
 
 -- What has been built, which is part of the whole, is too heavy already.
 pub end-heavy : {l r : Bool} {s : List ℕ} {w : Walk} {top : ℕ} → top + 256 < w .to → Ended l r s w top s 0
@@ -158,24 +149,20 @@ record Rested (s : List ℕ) (top : ℕ) (w : Walk) (q : Rest) (done whole : Lis
   pub all : whole ≡ done ++ members rest
   pub thin : Cells s (w .a) (w .m) × Cells s (w .b) (w .n) → Cells s (q .at) (q .n)
 
-merged-none : (l b r : Bool) (ws : List Value) → merged l b r [] ws ≡ cond r ws []
-unfolding merged
-merged-none l b r ws = refl
-
 module _ {l r : Bool} {s : List ℕ} {w : Walk} {top : ℕ} {cells : Bool} (p : EndPre l r s w top cells) (light : w .to ≤ top + 256) {q : Rest}
     (rest : RestOf w l r q) where
   right-over : 0 < w .m → w .n ≡ 0
   right-over k = elim (p .over) [ inl z ↦ absurd (omega arith) | inr y ↦ elim y [ inl z ↦ z | inr z ↦ absurd (omega arith) ] ]
 
   rested : (e : Bool) (whole : List Value) (h : Merging l e r s top w whole) → Rested s top w q (h .done) whole
-  unfolding code
+  unfolding code merged
   rested e whole h = elim (decLt 0 (w .m)) [
     | yes k ↦
         let z = no-front (λ vs. members vs ≡ []) refl (h .onRight) (omega (arith, right-over k)) in
         kept l (rest .left k) (h .onLeft) (λ c. c .0) (h .all ∙ rw (z, merged-nil l e r (members (h .left))))
     | no k ↦
         let z = no-front (λ vs. members vs ≡ []) refl (h .onLeft) (omega arith) in
-        kept r (rest .right (omega arith)) (h .onRight) (λ c. c .1) (h .all ∙ rw (z, merged-none l e r (members (h .right))))
+        kept r (rest .right (omega arith)) (h .onRight) (λ c. c .1) (h .all ∙ rw z)
   ]
     where
       kept : (k : Bool) {at n : ℕ} {vs : Values} → (q .at ≡ at) × (q .n ≡ cond k n 0) → Front s top at n vs →
@@ -207,12 +194,7 @@ module _ {l r : Bool} {s : List ℕ} {w : Walk} {top : ℕ} {cells : Bool} (p : 
         let z = some-rest in
         let x : end ≡ q .at + weights (z .rest) = ends top (z .rest) (z .front) in
         let b = p .merging .built in
-        record {
-          forward = omega arith;
-          behind = omega (arith, z .front .below, b .ends);
-          room = omega (arith, z .front .light, p .room);
-          few = omega (arith, b .ends, b .counted, count-weights (values (p .merging .done)), z .front .counted, count-weights (z .rest), z .front .light);
-        }
+        omega (arith, z .front, p .room, b, count-weights (values (p .merging .done)), count-weights (z .rest))
 
     module _ {s′ : List ℕ} {o : Out} (put : PutBehind true s (q .at) end (q .n) (outOf w) s′ o) where
       -- the whole has been built

@@ -28,12 +28,11 @@ module _ (l e r : Bool) (x y : ℕ) (P : ℕ → ℕ → ℕ → ℕ → Type 0)
           rw (d .lesser .0 (omega arith), d .kept .equal z, d .left, le-leb x y (omega arith), d .right, le-leb y x (omega arith)) (g z)
 
 -- At most one cell further in each set, and further in one.
-pub turn-moves : (l e r : Bool) (x y : ℕ) {u : CellTurn} → CellTurned l e r x y u →
+pub turn-moves : {l e r : Bool} {x y : ℕ} {u : CellTurn} → CellTurned l e r x y u →
     (u .left ≤ 1) × (u .right ≤ 1) × (0 < u .left + u .right) × (u .keep ≤ 1)
-turn-moves l e r x y =
+turn-moves {l} {e} {r} {x} {y} =
     by-turn l e r x y (λ _ k i j. (i ≤ 1) × (j ≤ 1) × (0 < i + j) × (k ≤ 1))
-    (λ d. (omega arith, omega arith, omega arith, byte-small l)) (λ d. (omega arith, omega arith, omega arith, byte-small e))
-    (λ d. (omega arith, omega arith, omega arith, byte-small r))
+    (λ d. omega (arith, byte-small l)) (λ d. omega (arith, byte-small e)) (λ d. omega (arith, byte-small r))
 
 -- A cell stored at the end of what has been built is kept or not.
 cell-put : (keep : Bool) {s : List ℕ} {from to count : ℕ} → from < to → to < length s → count < 4294967296 →
@@ -54,13 +53,7 @@ cell-put false {s} {from} {to} {count} l k f =
 rows-small : {s : List ℕ} {a m b n top : ℕ} → RowsBelow s a m b n top → (m ≤ 255) × (n ≤ 255) × (a + m ≤ top) × (b + n ≤ top)
 rows-small p =
     let q = p .rows .runs in
-    let x = count-weights (q .first) in
-    let y = count-weights (q .second) in (
-      omega (arith, q .onLeft .counted, q .onLeft .light),
-      omega (arith, q .onRight .counted, q .onRight .light),
-      omega (arith, q .onLeft .counted, q .onLeft .below),
-      omega (arith, q .onRight .counted, q .onRight .below),
-    )
+    omega (arith, q .onLeft, q .onRight, count-weights (q .first), count-weights (q .second))
 
 -- The first p of a run's members, which are less than the other run's first, are taken one by one: M merges the rest.
 record Taken (k : Bool) (M : List Value → List Value) (s : List ℕ) (top at n : ℕ) (vs : Values) (p : ℕ) : Type 0 where
@@ -123,24 +116,14 @@ module _ (k : Bool) (M : List Value → List Value → List Value)
 module _ {s : List ℕ} {a m b n top : ℕ} (below : RowsBelow s a m b n top) {p q : ℕ} (h : Ahead s a m b n p)
     (k : Ahead s b n (a + p) (m - p) q) where
   pub first-put : PutPre s a (a + p) p (record { to = top + 1; count = 0 })
-  first-put =
-      let x = rows-small below in
-      record { forward = omega arith; behind = omega (arith, h .few); room = omega (arith, h .few, below .room); few = omega (arith, h .few) }
+  first-put = omega (arith, rows-small below, h .few, below .room)
 
   module _ {l : Bool} {s′ : List ℕ} {o : Out} (put : PutBehind l s a (a + p) p (record { to = top + 1; count = 0 }) s′ o) where
     counts : (o .to ≡ top + 1 + o .count) × (o .count ≤ p)
     counts = let x = put .even (omega arith) in (omega arith, omega (arith, put .near))
 
     pub second-put : PutPre s′ b (b + q) q o
-    second-put =
-        let x = rows-small below in
-        let y = counts in
-        record {
-          forward = omega arith;
-          behind = omega (arith, k .few);
-          room = omega (arith, h .few, k .few, below .room, put .frame .kept);
-          few = omega (arith, h .few, k .few);
-        }
+    second-put = omega (arith, rows-small below, counts, h .few, k .few, below .room, put .frame .kept)
 
     frame : Same top s s′
     frame = same-trans top (top + 1) s s s′ (same-refl top s) (put .frame) (omega arith)
@@ -204,11 +187,7 @@ module _ {l e r : Bool} {s₀ : List ℕ} {a m b n top : ℕ} {s : List ℕ} {i 
   -- A turn at two sets that both have cells left.
   module _ (some : i < a + m) (some′ : j < b + n) where
     pub merge-inside : (i < top) × (j < top) × (to < length s) × (to + 1 ≤ top + 512)
-    merge-inside =
-        let x = rows-small (h .below) in
-        let y = h .below .room in
-        let z = h .walking .frame .kept in
-        (omega arith, omega arith, omega (arith, h .few, h .countIs), omega (arith, h .few, h .countIs))
+    merge-inside = omega (arith, rows-small (h .below), h .below .room, h .walking .frame .kept, h .few, h .countIs)
 
     ends : EndsAt s i (i + 1)
     ends = cells-first left-cells (omega arith)
@@ -243,13 +222,10 @@ module _ {l e r : Bool} {s₀ : List ℕ} {a m b n top : ℕ} {s : List ℕ} {i 
     merge-step =
         let x = merge-inside in
         by-turn l e r (getD s i 0) (getD s j 0) (λ c k p q. RowMerge l e r s₀ a m b n top (setAt s to c) (i + p) (j + q) (to + k))
-        (λ d. rw (let z : j + 0 ≡ j = omega arith in z)
-        (next l (x .0) (omega arith, omega arith, omega arith, omega arith, omega arith) (turn-less (cell-less s i j ends′ d) ends refl (omega arith))))
-        (λ d. next e (x .0) (omega arith, omega arith, omega arith, omega arith, omega arith)
-        (turn-equal (cell-equal s i j ends′ d) ends ends′ (omega arith) refl (omega arith)))
+        (λ d. rw (let z : j + 0 ≡ j = omega arith in z) (next l (x .0) (omega arith) (turn-less (cell-less s i j ends′ d) ends refl (omega arith))))
+        (λ d. next e (x .0) (omega arith) (turn-equal (cell-equal s i j ends′ d) ends ends′ (omega arith) refl (omega arith)))
         (λ d. rw (let z : i + 0 ≡ i = omega arith in z)
-        (next r (x .1) (omega arith, omega arith, omega arith, omega arith, omega arith)
-        (turn-greater (cell-greater s i j ends′ d) ends ends′ (omega arith) (λ z. omega arith) (λ z. omega arith))))
+        (next r (x .1) (omega arith) (turn-greater (cell-greater s i j ends′ d) ends ends′ (omega arith) (λ z. omega arith) (λ z. omega arith))))
 
   -- The end of the merge.
   abbrev pub last : Walk

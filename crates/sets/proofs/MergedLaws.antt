@@ -1,7 +1,7 @@
 -- Merging rising lists is union, intersection and difference: those of the rules (`union-merged`, `inter-merged`, `diff-merged`).
 use Rattle.sets.proofs.Base.{Ordering, Ordering·lt, Ordering·eq, Ordering·gt, Bool, true, false, cond, not, _||_, List, [], _∷_, _++_, _≡_, refl, sym, ap, _∙_, subst, isEq}
-use Rattle.sets.proofs.Terms.{Value, order, set, Values, members, keptValue, insert, rising, isIn, keep, setOf, twoValue, turned, merged, union, inter, diff, gives, FineSet}
-use Rattle.laws.proofs.OrderLaws.{Small, flip, order-refl, order-flip, order-eq, before-order, order-before, before-trans}
+use Rattle.sets.proofs.Terms.{placed, Value, order, set, Values, members, keptValue, insert, rising, isIn, keep, setOf, twoValue, turned, merged, union, inter, diff, gives, FineSet}
+use Rattle.laws.proofs.OrderLaws.{Small, flip, order-flip, order-eq, before-order, order-before, before-trans}
 use Rattle.laws.proofs.SetOrder.{All, Before, Rising, all-imp, kept-all}
 use Rattle.arena.proofs.FrontLaws.{rises-rising, fit-small}
 
@@ -12,10 +12,7 @@ after-order v w h = order-flip w v ∙ ap flip (before-order w v h)
 -- An exhausted second list leaves the first.
 pub merged-nil : (l b r : Bool) (vs : List Value) → merged l b r vs [] ≡ cond l vs []
 unfolding merged
-merged-nil true b true [] = refl
-merged-nil true b false [] = refl
-merged-nil false b true [] = refl
-merged-nil false b false [] = refl
+merged-nil l b r [] = elim l [ true ↦ elim r [ true ↦ refl | false ↦ refl ] | false ↦ elim r [ true ↦ refl | false ↦ refl ] ]
 merged-nil l b r (v ∷ vs) = refl
 
 -- A turn, by the order of the first members.
@@ -31,14 +28,10 @@ unfolding merged
 merged-first l b r [] w ws h = elim r [ true ↦ refl | false ↦ refl ]
 merged-first l b r (v ∷ vs) w ws h = merged-turn l b r Ordering·gt v w vs ws (after-order v w (h .0))
 
-cond-all : (P : Value → Type 0) (k : Bool) (vs : List Value) → All P vs → All P (cond k vs [])
-cond-all P true vs h = h
-cond-all P false vs h = tt
-
 merged-all : (P : Value → Type 0) (l b r : Bool) (vs ws : List Value) → All P vs → All P ws → All P (merged l b r vs ws)
 unfolding merged
-merged-all P l b r [] ws h k = cond-all P r ws k
-merged-all P l b r (v ∷ vs) [] h k = cond-all P l (v ∷ vs) h
+merged-all P l b r [] ws h k = elim r as (λ c. All P (cond c ws [])) [ true ↦ k | false ↦ tt ]
+merged-all P l b r (v ∷ vs) [] h k = elim l as (λ c. All P (cond c (v ∷ vs) [])) [ true ↦ h | false ↦ tt ]
 merged-all P l b r (v ∷ vs) (w ∷ ws) h k =
     elim (order v w) as (λ o. All P (turned l b r o v w (merged l b r vs (w ∷ ws)) (merged l b r vs ws) (merged l b r (v ∷ vs) ws))) [
       | Ordering·lt ↦ kept-all P l v _ (h .0) (merged-all P l b r vs (w ∷ ws) (h .1) k)
@@ -48,18 +41,14 @@ merged-all P l b r (v ∷ vs) (w ∷ ws) h k =
 
 -- Union.
 
+insert-turn : (o : Ordering) (v w : Value) (ws : List Value) → order v w ≡ o → insert v (w ∷ ws) ≡ placed o v w ws (insert v ws)
+unfolding insert
+insert-turn o v w ws e = rw e
+
 insert-first : (v : Value) (ws : List Value) → All (Before v) ws → insert v ws ≡ v ∷ ws
 unfolding insert
 insert-first v [] h = refl
-insert-first v (w ∷ ws) h = rw (before-order v w (h .0))
-
-insert-equal : (v : Value) (ws : List Value) → insert v (v ∷ ws) ≡ v ∷ ws
-unfolding insert
-insert-equal v ws = rw (order-refl v)
-
-insert-greater : (v w : Value) (ws : List Value) → Before w v → insert v (w ∷ ws) ≡ w ∷ insert v ws
-unfolding insert
-insert-greater v w ws h = rw (after-order v w h)
+insert-first v (w ∷ ws) h = insert-turn Ordering·lt v w ws (before-order v w (h .0))
 
 -- the first member of a rising list, and those before it
 pub before-all : (v w : Value) (ws : List Value) → Before v w → Rising (w ∷ ws) → All (Before v) (w ∷ ws)
@@ -80,12 +69,12 @@ insert-merged v vs h s (w ∷ ws) k t = go (order v w) refl (insert-merged v vs 
     go Ordering·eq e r =
         let q : v ≡ w = order-eq v w s (t .0) e in
         ap (insert v) (merged-first true true true vs w ws (subst (λ (x : Value). All (Before x) vs) q (h .0)))
-        ∙ subst (λ (x : Value). insert v (x ∷ merged true true true vs ws) ≡ v ∷ merged true true true vs ws) q (insert-equal v (merged true true true vs ws))
+        ∙ insert-turn Ordering·eq v w (merged true true true vs ws) e ∙ ap (λ (x : Value). x ∷ merged true true true vs ws) (sym q)
         ∙ sym (merged-turn true true true Ordering·eq v w vs ws e)
     go Ordering·gt e r =
         let q : Before w v = order-before w v (order-flip v w ∙ ap flip e) in
         ap (insert v) (merged-first true true true vs w ws (before-all w v vs q h .1))
-        ∙ insert-greater v w (merged true true true vs ws) q ∙ ap (λ (l : List Value). w ∷ l) r
+        ∙ insert-turn Ordering·gt v w (merged true true true vs ws) e ∙ ap (λ (l : List Value). w ∷ l) r
         ∙ sym (merged-turn true true true Ordering·gt v w vs ws e)
 
 rising-same : (ws : List Value) → Rising ws → rising ws ≡ ws

@@ -1,7 +1,7 @@
 -- What the proofs use of the specifications: values and the operations of the rules, the arena, and this crate's.
 pub use Rattle.rules.specs.Kinds.{diff, inter, union}
 unfoldable pub use Rattle.rules.specs.Operations.{allIn, applied, insert, isIn, keep, pairedWith, rising, twoValue}
-pub use Rattle.rules.specs.Operations.{isFunction, keptValue, left, right, setOf}
+pub use Rattle.rules.specs.Operations.{isFunction, keptValue, left, placed, right, setOf}
 pub use Rattle.rules.specs.Runs.{gives, lacks}
 unfoldable pub use Rattle.rules.specs.Values.{same}
 pub use Rattle.rules.specs.Values.{Value, Values, _▸_, count, members, none, order, pair, scalar, set, values, weight, weights}

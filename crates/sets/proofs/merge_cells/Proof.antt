@@ -1,5 +1,5 @@
 -- `merge_cells`: each turn stores the lesser of the first cells, which is a turn of the merge; at the end one set is exhausted.
-use Rattle.sets.proofs.Base.{ℕ, _+_, _-_, _≤_, _<_, List, inl, inr, needs, ltb-true, ltb-false, arith, length, getD}
+use Rattle.sets.proofs.Base.{ℕ, _+_, _-_, _≤_, _<_, List, inl, inr, needs, ltb-true, ltb-false, arith, length}
 use Rattle.sets.proofs.Terms.{RowMerge}
 use Rattle.sets.proofs.CellMerge.{turn-moves, merge-inside, merge-step, merge-end, last-walking}
 use Rattle.sets.proofs.BuildLaws.{walking-made}
@@ -39,21 +39,11 @@ inside t = merge-inside (merging (loop t)) (t .before .loop-test .taken) (others
 -- `top` and a room above it are inside, and fit 64 bits even times 8.
 high : (t : tie.Then1 Inv-loop μ-loop) → let l = loop t in
     (lent l .args .top + 514 ≤ length (l .loop .s)) × (lent l .args .top + 514 ≤ 2305843009213693952)
-high t = let l = loop t in (omega (arith, lent l .pre .room, merging l .walking .frame .kept), fits (lent l))
-  where
-    fits : (q : tie.Start Inv-loop μ-loop) → q .args .top + 514 ≤ 2305843009213693952
-    fits q = omega (arith, q .pre .room)
+high t = let l = loop t in (omega (arith, lent l .pre .room, merging l .walking .frame .kept), omega (arith, lent l .pre .room, lent l .good))
 
 -- The turn is known.
 abbrev both : tie.After-cell-turn Inv-loop μ-loop → tie.Then1 Inv-loop μ-loop
 both c = c .before .before .before
-
-moves : (c : tie.After-cell-turn Inv-loop μ-loop) → let u = c .cell-turn .result in
-    (u .left ≤ 1) × (u .right ≤ 1) × (0 < u .left + u .right) × (u .keep ≤ 1)
-moves c =
-    let l = loop (both c) in
-    let q = lent l .args in
-    turn-moves (q .left) (q .both) (q .right) (getD (l .loop .s) (l .loop .i) 0) (getD (l .loop .s) (l .loop .j) 0) (c .cell-turn .ensures)
 
 -- The loop is left.
 abbrev left : tie.After-finish Inv-loop μ-loop → tie.At-loop Inv-loop μ-loop
@@ -76,12 +66,12 @@ merge-cells-spec =
     (λ c κs. tt)
     (λ c. omega (arith, inside (both c) .3, high (both c) .1))
     (λ c. inside (both c) .2)
-    (λ c. let u = c .before in omega (arith, inside (both u) .3, high (both u) .1, moves u .3))
-    (λ c. let u = c .before .before in omega (arith, inside (both u) .0, high (both u) .1, moves u .0))
-    (λ c. let u = c .before .before .before in omega (arith, inside (both u) .1, high (both u) .1, moves u .1))
+    (λ c. let u = c .before in omega (arith, inside (both u) .3, high (both u) .1, turn-moves (u .cell-turn .ensures) .3))
+    (λ c. let u = c .before .before in omega (arith, inside (both u) .0, high (both u) .1, turn-moves (u .cell-turn .ensures) .0))
+    (λ c. let u = c .before .before .before in omega (arith, inside (both u) .1, high (both u) .1, turn-moves (u .cell-turn .ensures) .1))
     (λ c. let u = c .before .before .before in
     let t = both u in
-    omega (arith, t .before .loop-test .taken, others t, moves u .2))
+    omega (arith, t .before .loop-test .taken, others t, turn-moves (u .cell-turn .ensures) .2))
     (λ c. λ s₀ h. let u = c .before .before .before in
     let t = both u in
     merge-step (loop t .loop .inv s₀ h) (t .before .loop-test .taken) (others t) (u .cell-turn .ensures))

@@ -5,7 +5,7 @@ use Rattle.sets.proofs.ImageLaws.{no-pairs, flat-pairs, pair-inside}
 use Rattle.sets.proofs.of_flat_pairs.Statement.{statement}
 use Rattle.sets.proofs.of_flat_pairs.Tie as tie
 
--- There is a first pair.
+-- The number of pairs is known; then there is a first pair.
 abbrev lent : tie.After-low → tie.Start
 lent l = l .before .before .before
 
