@@ -136,8 +136,12 @@ module _ {s : List ℕ} {j end : ℕ} where
       )
 
 -- What is left of any value from `at` to `end` at the cell i is fine.
-abbrev pub FineFrom : List ℕ → ℕ → ℕ → Type 0
+abbrev FineFrom : List ℕ → ℕ → ℕ → Type 0
 FineFrom s at i = (v : Value) → ValueAt s at v → CellsFit v → AllOf IsFine (after (i - at) (v ▸ none))
+
+-- The same, with i a place from `at` to `end`.
+abbrev pub FineDown : List ℕ → ℕ → ℕ → ℕ → Type 0
+FineDown s at end i = (at ≤ i) × (i ≤ end) × FineFrom s at i
 
 module _ {s : List ℕ} {at end : ℕ} (e : EndsAt s at end) (v : Value) (h : ValueAt s at v) (f : CellsFit v) where
   reach : (n : ℕ) {j : ℕ} → at + n ≡ j → j ≤ end → Left s j end (after n (v ▸ none))
@@ -149,27 +153,34 @@ module _ {s : List ℕ} {at end : ℕ} (e : EndsAt s at end) (v : Value) (h : Va
       subst (λ (i : ℕ). Left s i end (after (suc n) (v ▸ none))) p (left-next (after n (v ▸ none)) (reach n refl (omega arith)) (omega arith))
 
 -- The cell before i.
-module _ {s : List ℕ} {at end i : ℕ} (e : EndsAt s at end) (low : at < i) (high : i ≤ end) (a : FineFrom s at i) where
+module _ {s : List ℕ} {at end i : ℕ} (e : EndsAt s at end) (low : at < i) (d : FineDown s at end i) where
   behind : (v : Value) → ValueAt s at v → CellsFit v → AllOf IsFine (next (after (i - 1 - at) (v ▸ none)))
-  behind v h f = let p : i - at ≡ suc (i - 1 - at) = omega arith in subst (λ (n : ℕ). AllOf IsFine (after n (v ▸ none))) p (a v h f)
+  behind v h f = let p : i - at ≡ suc (i - 1 - at) = omega arith in subst (λ (n : ℕ). AllOf IsFine (after n (v ▸ none))) p (d .2 v h f)
 
-  pub from-other : getD s (i - 1) 0 < 5 * cellSize → FineFrom s at (i - 1)
-  from-other n v h f = other-fine _ (reach e v h f (i - 1 - at) (omega arith) (omega arith)) n (behind v h f)
+  left : (v : Value) (h : ValueAt s at v) (f : CellsFit v) → Left s (i - 1) end (after (i - 1 - at) (v ▸ none))
+  left v h f = reach e v h f (i - 1 - at) (omega arith) (omega (arith, d .1))
+
+  down : FineFrom s at (i - 1) → FineDown s at end (i - 1)
+  down a = (omega arith, omega (arith, d .1), a)
+
+  pub from-other : getD s (i - 1) 0 < 5 * cellSize → FineDown s at end (i - 1)
+  from-other n = down (λ v h f. other-fine _ (left v h f) n (behind v h f))
 
   module _ (m : 5 * cellSize ≤ getD s (i - 1) 0) where
     members : (v : Value) → ValueAt s at v → CellsFit v → (ms : Values) × (us : Values) × (after (i - 1 - at) (v ▸ none) ≡ set ms ▸ us) ×
         TypedRow s (i - 1 + 1) (getD s (i - 1) 0 % cellSize) ms
-    members v h f = as-set _ (reach e v h f (i - 1 - at) (omega arith) (omega arith)) (omega arith) m (behind v h f)
+    members v h f = as-set _ (left v h f) (omega (arith, d .1)) m (behind v h f)
 
     pub from-members : SomeAt s at → SomeTypedRow s (i - 1 + 1) (getD s (i - 1) 0 % cellSize)
     from-members x = let t = members (x .value) (x .stands) (x .fits) in (t .0, t .3)
 
     module _ {r : Bool} (k : MembersFine s (i - 1 + 1) (getD s (i - 1) 0 % cellSize) r) where
-      pub from-set : r ≡ true → FineFrom s at (i - 1)
-      from-set z v h f =
+      pub from-set : r ≡ true → FineDown s at end (i - 1)
+      from-set z =
+          down (λ v h f.
           let t = members v h f in
           rw (t .2) (fine-next (set (t .0)) (t .1) .1
-          (T-true _ .1 (sym (k (t .0) (t .3)) ∙ z), subst (λ (us : Values). AllOf IsFine (next us)) (t .2) (behind v h f)))
+          (T-true _ .1 (sym (k (t .0) (t .3)) ∙ z), subst (λ (us : Values). AllOf IsFine (next us)) (t .2) (behind v h f))))
 
       pub from-fails : r ≡ false → (v : Value) → ValueAt s at v → CellsFit v → false ≡ (ordered v && typed v)
       from-fails z v h f =
@@ -177,10 +188,10 @@ module _ {s : List ℕ} {at end i : ℕ} (e : EndsAt s at end) (low : at < i) (h
           sym (T-false _ .0 (λ q. T-false _ .1 (sym (k (t .0) (t .3)) ∙ z)
           (fine-next (set (t .0)) (t .1) .0 (subst (AllOf IsFine) (t .2) (after-fine (i - 1 - at) (v ▸ none) (q, tt))) .0)))
 
-pub from-start : {s : List ℕ} {at : ℕ} → FineFrom s at at → (v : Value) → ValueAt s at v → CellsFit v → true ≡ (ordered v && typed v)
-from-start {at = at} a v h f =
-    let p : at - at ≡ 0 = omega arith in
-    sym (T-true _ .0 (subst (λ (n : ℕ). AllOf IsFine (after n (v ▸ none))) p (a v h f) .0))
+pub from-start : {s : List ℕ} {at end i : ℕ} → FineDown s at end i → i ≤ at → (v : Value) → ValueAt s at v → CellsFit v → true ≡ (ordered v && typed v)
+from-start {at = at} {i = i} d l v h f =
+    let p : i - at ≡ 0 = omega arith in
+    sym (T-true _ .0 (subst (λ (n : ℕ). AllOf IsFine (after n (v ▸ none))) p (d .2 v h f) .0))
 
 -- Values that weigh no more than they are many are scalars and empty sets.
 each-one : (vs : Values) → weights vs ≤ count vs → AllOf IsFine (vs before none)
@@ -211,10 +222,10 @@ module _ {s : List ℕ} {at end : ℕ} (e : EndsAt s at end) where
       go none l = tt
       go (w ▸ ws) l = absurd (omega (arith, l .ends, weight-some w))
 
-  pub from-sets : {i : ℕ} → at < end → i ≡ setsEnd (getD s at 0) at end → (at ≤ i) × (i ≤ end) × FineFrom s at i
+  pub from-sets : {i : ℕ} → at < end → i ≡ setsEnd (getD s at 0) at end → FineDown s at end i
   from-sets l p = rw p (go (isFlat (getD s at 0) (end - at)) refl)
     where
-      go : (b : Bool) → isFlat (getD s at 0) (end - at) ≡ b → (at ≤ cond b (at + 1) end) × (cond b (at + 1) end ≤ end) × FineFrom s at (cond b (at + 1) end)
+      go : (b : Bool) → isFlat (getD s at 0) (end - at) ≡ b → FineDown s at end (cond b (at + 1) end)
       go true q = (omega arith, omega arith, from-flat q)
       go false q = (omega arith, omega arith, from-end)
 

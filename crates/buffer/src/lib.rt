@@ -17,6 +17,9 @@ const LAST_OF_SET: u64 = arena::GIVEN - 1;
 
 const LAST_PAYLOAD: u64 = arena::CELL - 1;
 
+// The cells of a pair of two scalars.
+const PAIR_CELLS: usize = 3;
+
 // A cell in the buffer: its payload, its tag times 2^32, and zero bytes from FREE on.
 const FREE: u64 = 256 * arena::CELL;
 
@@ -283,7 +286,7 @@ fn pairs_fine(s: &[u64], at: usize, n: u64) -> bool
     let mut i = at;
     let mut k: u64 = 1;
     while k < n {
-        i += 3;
+        i += PAIR_CELLS;
         if s[i] != arena::PAIR {
             return false;
         }

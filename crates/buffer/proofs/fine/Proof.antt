@@ -1,16 +1,15 @@
 -- `fine`: from the last set's cell backward, what is left of the value from the cell i on is fine.
 use Prim.Native.Nat.{_≤_, _<_}
-use mathlib.Core.Path.{_≡_}
 use native.Mathlib.Omega.{arith}
 use borrow.Author.Needs.{needs}
 use borrow.Author.Tests.{not-true, not-false}
 use lib.ListN.{length}
-use Rattle.buffer.proofs.FineValues.{end-inside, FineFrom, from-sets, from-other, from-members, from-set, from-fails, from-start}
+use Rattle.buffer.proofs.FineValues.{end-inside, FineDown, from-sets, from-other, from-members, from-set, from-fails, from-start}
 use Rattle.buffer.proofs.fine.Statement.{statement}
 use Rattle.buffer.proofs.fine.Tie as tie
 
 abbrev Inv-loop : tie.InvT-loop
-Inv-loop s at end i₀ i = (at ≤ i) × (i ≤ end) × FineFrom s at i
+Inv-loop s at end i₀ i = FineDown s at end i
 
 abbrev μ-loop : tie.MeasureT-loop
 μ-loop s at end i₀ i = i
@@ -32,44 +31,22 @@ turn m = m .before .before .before
 members-fine-requires : tie.Need-members-fine-requires Inv-loop μ-loop
 members-fine-requires c κs =
     let l = turn c in
-    let i = l .before .loop .inv in
     let p = lent l .pre in
-    rw (c .low .ensures .0) (from-members (p .ends) (l .loop-test .taken) (i .1) (i .2) (c .before .if1 .taken) (p .value))
+    rw (c .low .ensures .0) (from-members (p .ends) (l .loop-test .taken) (l .before .loop .inv) (c .before .if1 .taken) (p .value))
 
 returns : tie.Need-returns Inv-loop μ-loop
 returns c =
     let m = c .before .before in
     let l = turn m in
-    let i = l .before .loop .inv in
-    from-fails (lent l .pre .ends) (l .loop-test .taken) (i .1) (i .2) (m .before .if1 .taken)
+    from-fails (lent l .pre .ends) (l .loop-test .taken) (l .before .loop .inv) (m .before .if1 .taken)
     (rw (m .low .ensures .0) at (c .before .members-fine .ensures)) (not-true _ (c .if2 .taken))
 
 loop-again : tie.Need-loop-again Inv-loop μ-loop
 loop-again c =
     let m = c .before .before in
     let l = turn m in
-    let i = l .before .loop .inv in (
-      omega (arith, l .loop-test .taken),
-      omega (arith, i .1),
-      from-set (lent l .pre .ends) (l .loop-test .taken) (i .1) (i .2) (m .before .if1 .taken)
-          (rw (m .low .ensures .0) at (c .before .members-fine .ensures)) (not-false _ (c .if2 .left)),
-    )
-
-loop-again-2 : tie.Need-loop-again-2 Inv-loop μ-loop
-loop-again-2 c =
-    let l = c .before .before in
-    let i = l .before .loop .inv in (
-      omega (arith, l .loop-test .taken),
-      omega (arith, i .1),
-      from-other (lent l .pre .ends) (l .loop-test .taken) (i .1) (i .2) (omega (arith, c .if1 .left)),
-    )
-
-returns-2 : tie.Need-returns-2 Inv-loop μ-loop
-returns-2 c =
-    let a = c .before in
-    let b = a .before in
-    let e : a .loop .i ≡ b .before .before .before .args .at = omega (arith, c .loop-test .left, a .loop .inv .0) in
-    from-start (rw e at (a .loop .inv .2))
+    from-set (lent l .pre .ends) (l .loop-test .taken) (l .before .loop .inv) (m .before .if1 .taken)
+    (rw (m .low .ensures .0) at (c .before .members-fine .ensures)) (not-false _ (c .if2 .left))
 
 pub fine-spec : {M : Type 1} → statement M
 fine-spec =
@@ -91,5 +68,5 @@ fine-spec =
     (λ c. omega (arith, turn (c .before .before) .loop-test .taken))
     loop-again
     (λ c. omega (arith, c .before .before .loop-test .taken))
-    loop-again-2
-    returns-2)
+    (λ c. let l = c .before .before in from-other (lent l .pre .ends) (l .loop-test .taken) (l .before .loop .inv) (omega (arith, c .if1 .left)))
+    (λ c. from-start (c .before .loop .inv) (omega (arith, c .loop-test .left))))

@@ -119,17 +119,9 @@ loop-again c =
     let l = more (turn k) in
     loading-step (at k .loop .inv) (arena k) _ _ _ (l .0) (l .1) (k .read-entry .ensures .0) (entered m)
 
-returns-2 : tie.Need-returns-2 Inv-loop μ-loop
-returns-2 c =
-    let e = c .before .before in
-    let a = e .before in
-    (framed a, loading-surplus (a .loop .inv) (omega (arith, e .loop-test .left, all (a .before) .0)) (c .if1 .taken))
-
-returns-3 : tie.Need-returns-3 Inv-loop μ-loop
-returns-3 c =
-    let e = c .before .before in
-    let a = e .before in
-    (framed a, loading-end (a .loop .inv) (omega (arith, e .loop-test .left, all (a .before) .0)) (omega (arith, c .if1 .left)))
+-- Behind the loop: no identifier is left.
+no-more : (e : tie.After-loop Inv-loop μ-loop) → let a = e .before in length (tableOf (lent (a .before) .args .table .now) .binds) ≤ a .loop .x
+no-more e = omega (arith, e .loop-test .left, all (e .before .before) .0)
 
 pub load-spec : {M : Type 1} → statement M
 load-spec =
@@ -155,6 +147,6 @@ load-spec =
     (λ c. omega (arith, turn (read (c .before)) .loop-test .taken))
     loop-again
     (λ c. framed (c .before .before .before) .kept)
-    returns-2
+    (λ c. let e = c .before .before in (framed (e .before), loading-surplus (e .before .loop .inv) (no-more e) (c .if1 .taken)))
     (λ c. framed (c .before .before .before) .kept)
-    returns-3)
+    (λ c. let e = c .before .before in (framed (e .before), loading-end (e .before .loop .inv) (no-more e) (omega (arith, c .if1 .left)))))
