@@ -140,7 +140,7 @@ category-is c nothing h = absurd h
 category-is c (some x) h = ap categoryNumber h
 
 -- A leaf that stands already, an identifier or a constant of one cell: its arm of `eval_value`.
-abbrev Unbuilt : ℕ → Type 0
+abbrev pub Unbuilt : ℕ → Type 0
 Unbuilt k = (j : Leaf) × (kindOf k ≡ some (leaf j)) × (builtLeaf j ≡ false)
 
 pub standing-code : (k : ℕ) → ((k ≡ 20) ⊎ (k ≡ 26)) ⊎ ((20 ≤ k) × (k < 25) × (k ≢ 21)) → Unbuilt k
@@ -168,7 +168,7 @@ name-below bs r n lt e = omega (arith, field-holds bs r n lt (leaf identifier) e
 pub place-ready : {bs env s : List ℕ} {top n : ℕ} → NodeReady bs env s top n → PlaceReady bs env n
 place-ready r = record { readable = r .readable; node = r .node; entries = r .entries }
 
-unbuilt-ready : {bs env : List ℕ} {k n : ℕ} → PlaceReady bs env n → k ≡ nodeAt (tableOf bs .nodes) n .kind → Unbuilt k → StandingReady bs env k n
+pub unbuilt-ready : {bs env : List ℕ} {k n : ℕ} → PlaceReady bs env n → k ≡ nodeAt (tableOf bs .nodes) n .kind → Unbuilt k → StandingReady bs env k n
 unbuilt-ready p e u = record { node = p; same = e; kind = u .0; is = u .1; unbuilt = u .2 }
 
 -- What the evaluators of the leaves take for granted.
@@ -295,12 +295,6 @@ module _ {bs env : List ℕ} {k n : ℕ} (p : StandingReady bs env k n) where
     unbuilt = p .unbuilt;
     place = ⊎-elim (λ i. absurd (q (code-of k (leaf identifier) (rw i at (p .is))))) (λ o. sym (o .1 env n _)) (unbuilt-leaf (p .kind) (p .unbuilt));
   }
-
--- The arms of `leaf_place`.
-pub place-standing : {bs env : List ℕ} {n k : ℕ} → PlaceReady bs env n → k ≡ nodeAt (tableOf bs .nodes) n .kind → (k ≡ 20) ⊎ ((22 ≤ k) × (k < 25)) →
-    StandingReady bs env k n
-place-standing {k = k} p e h =
-    unbuilt-ready p e (standing-code k (⊎-elim (λ q. inl (inl q)) (λ q. inr (omega (arith, q .0), q .1, λ z. absurd (omega (arith, q .0)))) h))
 
 -- 21 and 42, with the word and the size that have been read.
 module _ {bs s : List ℕ} {top k n a z : ℕ} (p : LeafNode bs s top k n) (ea : a ≡ fieldA bs n) (ez : z ≡ getD (tableOf bs .sizes) a 0) where

@@ -5,7 +5,6 @@ use Rattle.evaluators.proofs.Terms.{Value, Values, count, Kind, Categor
 use Rattle.laws.proofs.BindingLaws.{binderFields}
 use Rattle.laws.proofs.FitsLaws.{typed-right}
 use Rattle.arena.proofs.ValueParts.{first-cell}
-use Rattle.fitting.specs.Agree.{SomeTyped}
 use Rattle.fitting.specs.Tests.{FitOne}
 use Rattle.operations.proofs.SingleLaws.{fits-is-set}
 use Rattle.operations.proofs.FitLaws.{types-fit}
@@ -153,12 +152,6 @@ range-as q h = rw q at h
 
 -- `range_of`: the first cell of a set has the number of its members.
 module _ {s : List ℕ} {at : ℕ} where
-  pub some-typed : SomeGood s at → SomeTyped s at
-  some-typed p = (p .value, good-typed-at (p .small) (p .stands))
-
-  pub some-inside : SomeGood s at → at < length s
-  some-inside p = good-inside (p .small) (p .stands)
-
   module _ {r : Bool} (f : FitOne (P̂ t̂ ∷ []) s at r) where
     pub range-not : r ≡ false → RangeAt s at Unlike
     range-not e gs top v q h = sym (f v (good-typed-at q h)) ∙ e
