@@ -15,9 +15,9 @@ inner-set {env} {inner} {x} at h = record { long = length-set inner x at ∙ h .
 binds-body : {bs s : List ℕ} {top : ℕ} {env inner : List ℕ} {ρ : Env} {x at : ℕ} {w : Value} → Inner env inner x → x < 32 → at < 65536 →
     Binds bs s top env ρ → GoodAt (tableOf bs .sizes) s top at w → Binds bs s top (setAt inner x at) (ρ with x ≔ w)
 binds-body {bs} {s} {top} {env} {inner} {ρ} {x} {at} {w} i l small b g = record {
-  at = λ y h. go y h (ℕ-discrete y x);
+  at = λ y h. go y h (ℕ-discrete y x) .0;
   good = with-good (tableOf bs .sizes) ρ x w (b .good) (g .good);
-  functions = λ y h. known y h (ℕ-discrete y x);
+  functions = λ y h. go y h (ℕ-discrete y x) .1;
   constants = b .constants;
   low = b .low;
 }
@@ -28,15 +28,12 @@ binds-body {bs} {s} {top} {env} {inner} {ρ} {x} {at} {w} i l small b g = record
     other : (y : ℕ) → (y ≡ x → ⊥) → getD (setAt inner x at) y 0 ≡ getD env y 0
     other y n = getD-set-other inner x y at 0 n ∙ i .else y n
 
-    go : (y : ℕ) → y < 32 → Dec (y ≡ x) → GoodAt (tableOf bs .sizes) s top (entryPlace (getD (setAt inner x at) y 0)) ((ρ with x ≔ w) y)
+    go : (y : ℕ) → y < 32 → Dec (y ≡ x) → GoodAt (tableOf bs .sizes) s top (entryPlace (getD (setAt inner x at) y 0)) ((ρ with x ≔ w) y) ×
+        (FunctionEntry (getD (setAt inner x at) y 0) → NewFirsts ((ρ with x ≔ w) y))
     go y h (yes e) =
         let p : entryPlace (getD (setAt inner x at) y 0) ≡ at = omega (arith, here y e, small) in
-        rw (p, eq-eqb x y (sym e), _with_≔_) g
-    go y h (no n) = rw (other y n, ne-eqb x y (λ e. n (sym e)), _with_≔_) (b .at y h)
-
-    known : (y : ℕ) → y < 32 → Dec (y ≡ x) → FunctionEntry (getD (setAt inner x at) y 0) → NewFirsts ((ρ with x ≔ w) y)
-    known y h (yes e) m = absurd (omega (arith, here y e, small, m))
-    known y h (no n) m = rw (ne-eqb x y (λ e. n (sym e)), _with_≔_) (b .functions y h (rw (other y n) at m))
+        (rw (p, eq-eqb x y (sym e), _with_≔_) g, λ m. absurd (omega (arith, here y e, small, m)))
+    go y h (no n) = rw (other y n, ne-eqb x y (λ e. n (sym e)), _with_≔_) (b .at y h, b .functions y h)
 
 -- Values below `top` stay.
 pub listed-frame : {gs s s′ : List ℕ} {top from n : ℕ} {vs : Values} → Same top s s′ → Listed gs s top from n vs → Listed gs s′ top from n vs

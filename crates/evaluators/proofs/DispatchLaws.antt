@@ -1,8 +1,7 @@
 -- Where a node's visit goes: the refusal of a visit beyond the budget, the evaluator by the kind's code, the leaves that are built, and those that
 -- stand already.
-use Rattle.evaluators.proofs.Terms.{ℕ, zero, suc, _+_, _-_, _≤_, _<_, Bool, true, false, cond, List, _≢_, _⊎_, inl, inr, ⊎-elim, Option, nothing, some, _≡_, refl, sym, ap, _∙_, subst, arith, leb, getD, false≢true, _&&_, equal, member, subset, atMost, Leaf, givenSet, elementOf, literal, truthConst, emptySet, boolSet, singleton, power, dom, ran, card, choice, pairing, union, inter, diff, product, apply, plus, minus, interval, leafᵉ, boolᵉ, oneᵉ, twoᵉ, comprehensionᵉ, leafValue, ValueAt, builtLeaf, LeafFits, LeafReady, LeafDone, leafPlace, PlaceReady, StandingReady, LeafNode, LeafFormed}
+use Rattle.evaluators.proofs.Terms.{T-true, T-and, T-leb, ℕ, zero, suc, _+_, _-_, _≤_, _<_, Bool, true, false, cond, List, _≢_, _⊎_, inl, inr, ⊎-elim, Option, nothing, some, _≡_, refl, sym, ap, _∙_, subst, arith, leb, getD, false≢true, _&&_, equal, member, subset, atMost, Leaf, givenSet, elementOf, literal, truthConst, emptySet, boolSet, singleton, power, dom, ran, card, choice, pairing, union, inter, diff, product, apply, plus, minus, interval, leafᵉ, boolᵉ, oneᵉ, twoᵉ, comprehensionᵉ, leafValue, ValueAt, builtLeaf, LeafFits, LeafReady, LeafDone, leafPlace, PlaceReady, StandingReady, LeafNode, LeafFormed}
 use Rattle.evaluators.proofs.Terms.{Value, weight, and, or, implies, iff, forAll, forSome, identifier, Kind, join, negation, test, quant, leaf, boolOf, one, two, comprehension, kindOf, Category, predicate, expression, Node, Pred, Expr, tableOf, nodeAt, kindAt, predOf, exprAt, nodeCount, Readable, CategoryIs, refused, gives, Env, holdsᵖ, valueᵉ, sizes-length, binds-length, good-weight, Same, same-refl, length-code, BuiltAt, code-of, kind-of, Formed, Placed, Stopped, Refused, EndsWith, fieldA, fieldB, IsPred, IsExpr, entryPlace, PlacedLeaf, Binds, NodeReady, Visited, Sort, EvaluatesP, EvaluatesE, ℕ-discrete, decLt, whole, leaf-one, IsLight}
-use Rattle.laws.proofs.EndLaws.{T-true, T-and, T-leb}
 use Rattle.table.specs.Codes.{codeOf as categoryNumber, categoryCode}
 use Rattle.table.proofs.Access.{by-range}
 use Rattle.constants.specs.Constants.{OneCell}
