@@ -5,7 +5,7 @@ use Rattle.operations.specs.declared.Tested.{Tested}
 use Rattle.operations.specs.declared.Tested.the-variants.{Truth as Tells, Unlike}
 use Rattle.operations.proofs.OutcomeLaws.{test-fit, test-unfit}
 use Rattle.evaluators.proofs.RunLaws.{then-done, then-refused, returns, fitting-on, fitting-refused}
-use Rattle.evaluators.proofs.NodeLaws.{Child, TwoFields, ready-child, ready-first, good-frame, sizes-small, formed-as, some-asks, asks-on}
+use Rattle.evaluators.proofs.NodeLaws.{Child, TwoFields, ready-child, child-asks, good-frame, sizes-small, formed-as, some-asks, asks-on}
 use Rattle.evaluators.proofs.NodeLaws.{held-as, refusal-is, visited-operands, visits, after, valueIn, formed-below, predᵍ, held-by}
 
 -- The run at the second operand, which begins where the first ends.
@@ -39,12 +39,9 @@ module _ {bs env s : List ℕ} {top n : ℕ} (y : TwoFields bs env s top n) {a :
   pub left-child : Child bs n a expression
   left-child = subst (λ (z : ℕ). Child bs n z expression) (sym q) (y .left)
 
-  pub left-ready : NodeReady bs env s top a × IsExpr bs a
-  left-ready = (ready-first (y .ready) left-child, left-child .is)
-
   -- What its evaluator asks, where the measures are those of the cycle: 5 times the node, and what is left to do there.
   pub left-asks : {t : ℕ} → 5 * n + 1 ≡ t → (5 * a + 4 < t) × (NodeReady bs env s top a × IsExpr bs a)
-  left-asks e = (omega (arith, left-child .below), left-ready)
+  left-asks e = child-asks 4 (omega arith) e (y .ready) left-child
 
   -- It has been evaluated.
   module _ {left : ℕ} {s′ : List ℕ} {r : Formed} (h : EvaluatesE bs env s top a left s′ r) where

@@ -172,9 +172,6 @@ unbuilt-ready p e u = record { node = p; same = e; kind = u .0; is = u .1; unbui
 
 -- What the evaluators of the leaves take for granted.
 module _ {bs env s : List ℕ} {top k n left : ℕ} (v : Visited bs env s top k n left) where
-  pub standing-ready : Unbuilt k → StandingReady bs env k n
-  standing-ready = unbuilt-ready (place-ready (v .ready)) (v .kind)
-
   -- A node's kind is in the range of its category, and so the last arms.
   pub predicate-code : IsPred bs n → (1 ≤ k) × (k ≤ 11)
   predicate-code h = codes-within k 1 11 (in-range predicate _ (leb 20 k && leb k 43) (by-range k ∙ category-is predicate (kindOf k) (rw (v .kind) h)))

@@ -1,5 +1,5 @@
--- What the code of the evaluators asks to be safe: nodes that may be read, entries of the environment, room.
-use Rattle.evaluators.proofs.Terms.{ℕ, _+_, _*_, _≤_, _<_, List, _≡_, refl, arith, lit<, length, scaled-fits}
+-- What the code of the evaluators asks to be safe: nodes that may be read, entries of the environment, room, a truth's number.
+use Rattle.evaluators.proofs.Terms.{ℕ, _+_, _*_, _≤_, _<_, Bool, true, false, boolByte, List, _≡_, refl, arith, lit<, length, scaled-fits}
 use Rattle.evaluators.proofs.Terms.{nodeCount, Readable, Same, Builds, NodeReady, EachReady, nodesAt}
 use mir.Syntax.{w64}
 use mir.Val.{Fits}
@@ -26,3 +26,8 @@ module _ {bs env s : List ℕ} {top n : ℕ} (r : NodeReady bs env s top n) wher
 
 pub binder-node : {bs env s : List ℕ} {top n from count spare : ℕ} → EachReady bs env s top n from count spare → NodeIn bs (nodesAt bs) n
 binder-node r = node-in (r .ready .readable) (r .binder)
+
+-- A truth as a number.
+pub byte-small : (b : Bool) → boolByte b ≤ 1
+byte-small true = omega arith
+byte-small false = omega arith

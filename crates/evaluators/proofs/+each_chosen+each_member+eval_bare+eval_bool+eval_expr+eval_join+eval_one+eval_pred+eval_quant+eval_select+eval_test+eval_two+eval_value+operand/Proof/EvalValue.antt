@@ -11,7 +11,7 @@ use Rattle.table.proofs.node_kind.Reads as kind
 use Rattle.evaluators.proofs.stopped.Reads as stopped
 use Rattle.evaluators.proofs.+each_chosen+each_member+eval_bare+eval_bool+eval_expr+eval_join+eval_one+eval_pred+eval_quant+eval_select+eval_test+eval_two+eval_value+operand.Proof.Base.{Over, eval-bool, eval-one, eval-select, eval-two, eval-value, ℕ, refl, sym, ⊎-elim, inl, inr, arith, now, Visited, ready-node, formed-as, settle-asks, settle-tells, counted, StandingTwo}
 use Rattle.evaluators.proofs.FormLaws.{light-asks, light-operated}
-use Rattle.evaluators.proofs.DispatchLaws.{spent-expr, visited-as, expression-code, one-keys, one-range, two-key, two-low, two-high, no-other, leaf-node, leaf-answer, standing-code, standing-ready, standing-answer}
+use Rattle.evaluators.proofs.DispatchLaws.{spent-expr, visited-as, expression-code, one-keys, one-range, two-key, two-low, two-high, no-other, leaf-node, leaf-answer, standing-code, place-ready, unbuilt-ready, standing-answer}
 
 module _ (t : ℕ) where
   abbrev claims : lts.Claims
@@ -99,7 +99,7 @@ module _ (t : ℕ) where
       (λ c κs. tt)
       eval-two-requires
       eval-one-requires
-      (λ c κs. standing-ready (visit (kinded (c .before)))
+      (λ c κs. let d = visit (kinded (c .before)) in unbuilt-ready (place-ready (d .ready)) (d .kind)
       (standing-code _ (⊎-elim (λ w. inl (w .keys6)) (λ w. inr (w .1 .left, w .2 .taken, λ e. w .0 .rest .0 .1 (inl e))) (c .match .came))))
       (λ c. visit (kinded (c .before .before)) .unspent)
       (λ c. c .before .before .eval-bool .kept .1 .1 .0) (λ c. c .before .before .eval-bool .ensures)
