@@ -1,6 +1,6 @@
 -- The body of a binder: its environment at a member of the range, what the loop's answer is asked for, and the members one after the other.
 use Rattle.evaluators.proofs.Terms.{ℕ, _+_, _-_, _*_, _≤_, _<_, Bool, List, [], _≡_, refl, sym, _∙_, subst, arith, length, getD, setAt, length-set, eq-eqb, ne-eqb, none, _▸_, _with_≔_, NewFirsts}
-use Rattle.evaluators.proofs.Terms.{Value, Values, weight, members, tableOf, Env, code, codes, Stands, Same, SomeAt, EndsAt, stands-frame, same-refl, same-trans, length-code, length-codes, Builds, Sizes, GoodAt, good-fits, good-inside, Held, Truth, HeldAs, Listed, fieldA, fieldC, entryPlace, FunctionEntry, IsPred, cellsFor, Binds, NodeReady, AsksEach, bodyOf, EachReady, truthAt, EvaluatesP, ℕ-discrete, getD-set-same, getD-set-other, with-good, stands-front, stands-back}
+use Rattle.evaluators.proofs.Terms.{CellsFit, Value, Values, weight, members, tableOf, Env, code, codes, Stands, Same, SomeAt, EndsAt, stands-frame, same-refl, same-trans, length-code, length-codes, Builds, GoodAt, good-fits, good-inside, Held, Truth, HeldAs, Listed, fieldA, fieldC, entryPlace, FunctionEntry, IsPred, cellsFor, Binds, NodeReady, AsksEach, bodyOf, EachReady, truthAt, EvaluatesP, ℕ-discrete, getD-set-same, getD-set-other, with-good, stands-front, stands-back}
 use Rattle.evaluators.proofs.NodeLaws.{sizes-small, good-frame, binds-frame, ready-at, some-asks, held-as}
 
 -- The environment of the body: the binder's own, but for its name x.
@@ -106,11 +106,8 @@ module _ {bs env s₀ : List ℕ} {top n from count left x : ℕ} {s inner : Lis
   pub member : (k : AsksEach bs env s₀ top n from count left) → First (tableOf bs .sizes) s top at more (i .rest k)
   member k = first-member (i .rest k) (i .listed k) some
 
-  small : Sizes (tableOf bs .sizes)
-  small = sizes-small bs (r .ready .readable)
-
   pub member-low : at < 65536
-  member-low = omega (arith, good-inside small (member (some-asked left r) .here), i .frame .kept, r .ready .small)
+  member-low = omega (arith, good-inside (sizes-small bs (r .ready .readable)) (member (some-asked left r) .here), i .frame .kept, r .ready .small)
 
   module _ {to : ℕ} (low : top ≤ to) (ex : x ≡ fieldA bs n) {c : ℕ} (ey : c ≡ fieldC bs n) where
     member-binds : (k : AsksEach bs env s₀ top n from count left) → Binds bs s to (setAt inner x at) (k .asks .values with x ≔ member k .value)
@@ -156,21 +153,21 @@ module _ {bs env s₀ : List ℕ} {top n from count left x : ℕ} {s inner : Lis
   pub body-frame : Same top s₀ s′
   body-frame = same-trans top to s₀ s s′ (i .frame) (u .told .frame) (u .low)
 
-  -- Each member stands as before.
+  -- The member stands as before, and fits.
   pub under : Same top s s′
   under = same-trans top to s s s′ (same-refl top s) (u .told .frame) (u .low)
 
-  stays : {v : Value} → GoodAt (tableOf bs .sizes) s top at v → Stands s′ at (code v)
-  stays g = good-frame top under (omega arith) g .stands
+  stays : (k : AsksEach bs env s₀ top n from count left) → Stands s′ at (code (ran-at k .value)) × CellsFit (ran-at k .value)
+  stays k =
+      let g = ran-at k .here in
+      (good-frame top under (omega arith) g .stands, good-fits (sizes-small bs (u .ready .ready .readable)) _ (g .good))
 
   pub member-at : SomeAt s′ at
-  member-at =
-      let w = ran-at (some-asked left (u .ready)) in
-      record { value = w .value; stands = stays (w .here); fits = good-fits (small (u .ready) i (u .some)) (w .value) (w .here .good) }
+  member-at = let k = some-asked left (u .ready) in record { value = ran-at k .value; stands = stays k .0; fits = stays k .1 }
 
   module _ {end : ℕ} (z : EndsAt s′ at end) where
     pub member-ends : (k : AsksEach bs env s₀ top n from count left) → end ≡ at + weight (ran-at k .value)
-    member-ends k = let w = ran-at k in z (w .value) (stays (w .here)) (good-fits (small (u .ready) i (u .some)) (w .value) (w .here .good))
+    member-ends k = z (ran-at k .value) (stays k .0) (stays k .1)
 
     -- It is true or false; s″ is the arena with what the loop itself has written, above `to`, and the next member stands at `end`.
     abbrev pub loop-next : (b : Bool) {l : ℕ} {s″ : List ℕ} → h ≡ Truth b l → Same to s′ s″ →

@@ -36,7 +36,7 @@ pub use Rattle.rules.specs.Rules.{testRule, oneRule, twoRule, P̂, t̂, quantRu
 pub use Rattle.rules.proofs.Basics.{absurd01}
 pub use Rattle.operations.proofs.KindLaws.{kind-of, code-of, joinCode, same-join, quantCode}
 unfoldable pub use Rattle.arena.specs.Code.{code}
-pub use Rattle.arena.specs.Code.{codes, Stands, Same, SomeAt, EndsAt, ValuesAt, ValueAt, cellSize, Copied}
+pub use Rattle.arena.specs.Code.{CellsFit, codes, Stands, Same, SomeAt, EndsAt, ValuesAt, ValueAt, cellSize, Copied}
 pub use Rattle.arena.proofs.Standing.{stands-frame, same-refl, same-trans, copied-stands, stands-append, stands-tail, stands-front, stands-back}
 pub use Rattle.arena.proofs.CodeLaws.{length-code, length-codes}
 pub use Rattle.products.specs.Growing.{PutsCell}
