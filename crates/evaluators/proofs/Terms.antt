@@ -28,7 +28,7 @@ pub use Rattle.rules.specs.Values.{Value, Values, weight, members, count, none,
 pub use Rattle.rules.specs.Fits.{fits}
 unfoldable pub use Rattle.rules.specs.Fits.{typed}
 pub use Rattle.rules.specs.Ends.{End, done, refused}
-pub use Rattle.rules.specs.Runs.{Run, M, return, _>>=_, _>>_, gives, visit, Given, demand, goOn, form, lacks}
+pub use Rattle.rules.specs.Runs.{Run, M, return, _>>=_, _>>_, gives, visit, Given, demand, emit, goOn, form, lacks}
 pub use Rattle.rules.specs.Cells.{good, weightLimit}
 unfoldable pub use Rattle.rules.specs.Reading.{tallest, height}
 pub use Rattle.rules.specs.Types.{whole}
