@@ -1,6 +1,6 @@
 -- The body of a binder: its environment at a member of the range, what the loop's answer is asked for, and the members one after the other.
 use Rattle.evaluators.proofs.Terms.{ℕ, _+_, _-_, _*_, _≤_, _<_, Bool, List, [], _≡_, refl, sym, _∙_, subst, arith, length, getD, setAt, length-set, eq-eqb, ne-eqb, none, _▸_, _with_≔_, NewFirsts}
-use Rattle.evaluators.proofs.Terms.{Value, Values, weight, members, tableOf, Env, code, codes, Stands, Same, SomeAt, EndsAt, stands-frame, same-refl, same-trans, length-code, length-codes, Builds, Sizes, GoodAt, good-fits, good-inside, Held, Truth, HeldAs, Listed, fieldA, fieldC, entryPlace, FunctionEntry, IsPred, cellsFor, Binds, NodeReady, AsksEach, bodyOf, EachReady, truthAt, EvaluatesP, ℕ-discrete, getD-set-same, getD-set-other, with-good, stands-front, stands-back}
+use Rattle.evaluators.proofs.Terms.{CellsFit, Value, Values, weight, members, tableOf, Env, code, codes, Stands, Same, SomeAt, EndsAt, stands-frame, same-refl, same-trans, length-code, length-codes, Builds, GoodAt, good-fits, good-inside, Held, Truth, HeldAs, Listed, fieldA, fieldC, entryPlace, FunctionEntry, IsPred, cellsFor, Binds, NodeReady, AsksEach, bodyOf, EachReady, truthAt, EvaluatesP, ℕ-discrete, getD-set-same, getD-set-other, with-good, stands-front, stands-back}
 use Rattle.evaluators.proofs.NodeLaws.{sizes-small, good-frame, binds-frame, ready-at, some-asks, held-as}
 
 -- The environment of the body: the binder's own, but for its name x.
@@ -15,9 +15,9 @@ inner-set {env} {inner} {x} at h = record { long = length-set inner x at ∙ h .
 binds-body : {bs s : List ℕ} {top : ℕ} {env inner : List ℕ} {ρ : Env} {x at : ℕ} {w : Value} → Inner env inner x → x < 32 → at < 65536 →
     Binds bs s top env ρ → GoodAt (tableOf bs .sizes) s top at w → Binds bs s top (setAt inner x at) (ρ with x ≔ w)
 binds-body {bs} {s} {top} {env} {inner} {ρ} {x} {at} {w} i l small b g = record {
-  at = λ y h. go y h (ℕ-discrete y x);
+  at = λ y h. go y h (ℕ-discrete y x) .0;
   good = with-good (tableOf bs .sizes) ρ x w (b .good) (g .good);
-  functions = λ y h. known y h (ℕ-discrete y x);
+  functions = λ y h. go y h (ℕ-discrete y x) .1;
   constants = b .constants;
   low = b .low;
 }
@@ -28,15 +28,12 @@ binds-body {bs} {s} {top} {env} {inner} {ρ} {x} {at} {w} i l small b g = record
     other : (y : ℕ) → (y ≡ x → ⊥) → getD (setAt inner x at) y 0 ≡ getD env y 0
     other y n = getD-set-other inner x y at 0 n ∙ i .else y n
 
-    go : (y : ℕ) → y < 32 → Dec (y ≡ x) → GoodAt (tableOf bs .sizes) s top (entryPlace (getD (setAt inner x at) y 0)) ((ρ with x ≔ w) y)
+    go : (y : ℕ) → y < 32 → Dec (y ≡ x) → GoodAt (tableOf bs .sizes) s top (entryPlace (getD (setAt inner x at) y 0)) ((ρ with x ≔ w) y) ×
+        (FunctionEntry (getD (setAt inner x at) y 0) → NewFirsts ((ρ with x ≔ w) y))
     go y h (yes e) =
         let p : entryPlace (getD (setAt inner x at) y 0) ≡ at = omega (arith, here y e, small) in
-        rw (p, eq-eqb x y (sym e), _with_≔_) g
-    go y h (no n) = rw (other y n, ne-eqb x y (λ e. n (sym e)), _with_≔_) (b .at y h)
-
-    known : (y : ℕ) → y < 32 → Dec (y ≡ x) → FunctionEntry (getD (setAt inner x at) y 0) → NewFirsts ((ρ with x ≔ w) y)
-    known y h (yes e) m = absurd (omega (arith, here y e, small, m))
-    known y h (no n) m = rw (ne-eqb x y (λ e. n (sym e)), _with_≔_) (b .functions y h (rw (other y n) at m))
+        (rw (p, eq-eqb x y (sym e), _with_≔_) g, λ m. absurd (omega (arith, here y e, small, m)))
+    go y h (no n) = rw (other y n, ne-eqb x y (λ e. n (sym e)), _with_≔_) (b .at y h, b .functions y h)
 
 -- Values below `top` stay.
 pub listed-frame : {gs s s′ : List ℕ} {top from n : ℕ} {vs : Values} → Same top s s′ → Listed gs s top from n vs → Listed gs s′ top from n vs
@@ -109,11 +106,8 @@ module _ {bs env s₀ : List ℕ} {top n from count left x : ℕ} {s inner : Lis
   pub member : (k : AsksEach bs env s₀ top n from count left) → First (tableOf bs .sizes) s top at more (i .rest k)
   member k = first-member (i .rest k) (i .listed k) some
 
-  small : Sizes (tableOf bs .sizes)
-  small = sizes-small bs (r .ready .readable)
-
   pub member-low : at < 65536
-  member-low = omega (arith, good-inside small (member (some-asked left r) .here), i .frame .kept, r .ready .small)
+  member-low = omega (arith, good-inside (sizes-small bs (r .ready .readable)) (member (some-asked left r) .here), i .frame .kept, r .ready .small)
 
   module _ {to : ℕ} (low : top ≤ to) (ex : x ≡ fieldA bs n) {c : ℕ} (ey : c ≡ fieldC bs n) where
     member-binds : (k : AsksEach bs env s₀ top n from count left) → Binds bs s to (setAt inner x at) (k .asks .values with x ≔ member k .value)
@@ -159,21 +153,21 @@ module _ {bs env s₀ : List ℕ} {top n from count left x : ℕ} {s inner : Lis
   pub body-frame : Same top s₀ s′
   body-frame = same-trans top to s₀ s s′ (i .frame) (u .told .frame) (u .low)
 
-  -- Each member stands as before.
+  -- The member stands as before, and fits.
   pub under : Same top s s′
   under = same-trans top to s s s′ (same-refl top s) (u .told .frame) (u .low)
 
-  stays : {v : Value} → GoodAt (tableOf bs .sizes) s top at v → Stands s′ at (code v)
-  stays g = good-frame top under (omega arith) g .stands
+  stays : (k : AsksEach bs env s₀ top n from count left) → Stands s′ at (code (ran-at k .value)) × CellsFit (ran-at k .value)
+  stays k =
+      let g = ran-at k .here in
+      (good-frame top under (omega arith) g .stands, good-fits (sizes-small bs (u .ready .ready .readable)) _ (g .good))
 
   pub member-at : SomeAt s′ at
-  member-at =
-      let w = ran-at (some-asked left (u .ready)) in
-      record { value = w .value; stands = stays (w .here); fits = good-fits (small (u .ready) i (u .some)) (w .value) (w .here .good) }
+  member-at = let k = some-asked left (u .ready) in record { value = ran-at k .value; stands = stays k .0; fits = stays k .1 }
 
   module _ {end : ℕ} (z : EndsAt s′ at end) where
     pub member-ends : (k : AsksEach bs env s₀ top n from count left) → end ≡ at + weight (ran-at k .value)
-    member-ends k = let w = ran-at k in z (w .value) (stays (w .here)) (good-fits (small (u .ready) i (u .some)) (w .value) (w .here .good))
+    member-ends k = z (ran-at k .value) (stays k .0) (stays k .1)
 
     -- It is true or false; s″ is the arena with what the loop itself has written, above `to`, and the next member stands at `end`.
     abbrev pub loop-next : (b : Bool) {l : ℕ} {s″ : List ℕ} → h ≡ Truth b l → Same to s′ s″ →

@@ -1,11 +1,10 @@
 -- The two operands of a node, one after the other: their answers joined, for tests and for operations of two; and the tests.
-use Rattle.evaluators.proofs.Terms.{ℕ, _+_, _-_, _*_, _≤_, _<_, Bool, true, false, List, [], _∷_, _≡_, refl, sym, _∙_, subst, arith}
+use Rattle.evaluators.proofs.Terms.{cond, demand, ℕ, _+_, _-_, _*_, _≤_, _<_, Bool, true, false, List, [], _∷_, _≡_, refl, sym, _∙_, subst, arith}
 use Rattle.evaluators.proofs.Terms.{Value, expression, test, fits, tableOf, End, done, refused, Run, M, return, _>>=_, _>>_, fitting, holdsᵖ, Same, same-trans, SomeOperands, Refusal, Formed, Placed, Stopped, Truth, Refused, EndsWith, PlacedAs, conditionCells, NodeReady, Visited, Sort, Asks, valueAt, EvaluatesP, EvaluatesE, fieldA, fieldB, IsExpr, Held, RefusalOf, Test, holds, TestOf, tested, testRule, height, good-above}
 use Rattle.operations.specs.declared.Tested.{Tested}
 use Rattle.operations.specs.declared.Tested.the-variants.{Truth as Tells, Unlike}
-use Rattle.operations.proofs.OutcomeLaws.{test-fit, test-unfit}
-use Rattle.evaluators.proofs.RunLaws.{then-done, then-refused, returns, fitting-on, fitting-refused}
-use Rattle.evaluators.proofs.NodeLaws.{Child, TwoFields, ready-child, ready-first, good-frame, sizes-small, formed-as, some-asks, asks-on}
+use Rattle.evaluators.proofs.RunLaws.{then-done, then-refused, returns}
+use Rattle.evaluators.proofs.NodeLaws.{Child, TwoFields, ready-child, child-asks, good-frame, sizes-small, formed-as, some-asks, asks-on}
 use Rattle.evaluators.proofs.NodeLaws.{held-as, refusal-is, visited-operands, visits, after, valueIn, formed-below, predᵍ, held-by}
 
 -- The run at the second operand, which begins where the first ends.
@@ -39,12 +38,9 @@ module _ {bs env s : List ℕ} {top n : ℕ} (y : TwoFields bs env s top n) {a :
   pub left-child : Child bs n a expression
   left-child = subst (λ (z : ℕ). Child bs n z expression) (sym q) (y .left)
 
-  pub left-ready : NodeReady bs env s top a × IsExpr bs a
-  left-ready = (ready-first (y .ready) left-child, left-child .is)
-
   -- What its evaluator asks, where the measures are those of the cycle: 5 times the node, and what is left to do there.
   pub left-asks : {t : ℕ} → 5 * n + 1 ≡ t → (5 * a + 4 < t) × (NodeReady bs env s top a × IsExpr bs a)
-  left-asks e = (omega (arith, left-child .below), left-ready)
+  left-asks e = child-asks 4 (omega arith) e (y .ready) left-child
 
   -- It has been evaluated.
   module _ {left : ℕ} {s′ : List ℕ} {r : Formed} (h : EvaluatesE bs env s top a left s′ r) where
@@ -111,12 +107,11 @@ toldEnd n Unlike = refused 15 n
 
 tested-ends : {budget left : ℕ} (n : ℕ) (j : Test) (v w : Value) (s : ℕ) → s + left ≡ budget →
     EndsWith ((fitting n (testRule j) (v ∷ w ∷ []) >> return (holds j v w)) s) (toldEnd n (tested j v w)) budget left
-tested-ends {budget} {left} n j v w s c = go (fits (testRule j .takes) (v ∷ w ∷ [])) refl
-  where
-    go : (b : Bool) → fits (testRule j .takes) (v ∷ w ∷ []) ≡ b →
-        EndsWith ((fitting n (testRule j) (v ∷ w ∷ []) >> return (holds j v w)) s) (toldEnd n (tested j v w)) budget left
-    go true d = rw (test-fit j v w d) (fitting-on n (testRule j) _ _ s d (returns (holds j v w) c))
-    go false d = rw (test-unfit j v w d) (fitting-refused n (testRule j) _ _ s d c)
+unfolding tested
+tested-ends {budget} {left} n j v w s c =
+    elim (fits (testRule j .takes) (v ∷ w ∷ [])) as (λ b.
+    EndsWith ((demand b 15 n >> return (holds j v w)) s) (toldEnd n (cond b (Tells (holds j v w)) Unlike)) budget left)
+    [ true ↦ returns (holds j v w) c | false ↦ record { end = refl; steps = c } ]
 
 -- 6 to 9
 module _ {bs env s : List ℕ} {top k n left : ℕ} (p : Visited bs env s top k n left × Sort test k) where

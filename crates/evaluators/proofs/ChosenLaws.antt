@@ -120,10 +120,6 @@ module _ {bs env s₀ : List ℕ} {top n from count left : ℕ} (pre : EachReady
         let o = h .on (some-asked left pre) in
         (omega (arith, o .ends), omega (arith, o .ends, o .light), omega (arith, o .counted, o .light, count-weights (values (o .taken))))
 
-    pub choosing-few : (b : Bool) → chosen + boolByte b < 18446744073709551616
-    choosing-few true = omega (arith, choosing-near .2)
-    choosing-few false = omega (arith, choosing-near .2)
-
     -- No member is left.
     pub choosing-end : more ≡ 0 → EvaluatesChosen bs env s₀ top n from count left (setAt s top (21474836480 + chosen)) (Placed top to m)
     choosing-end z =

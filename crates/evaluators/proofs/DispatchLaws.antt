@@ -1,8 +1,7 @@
 -- Where a node's visit goes: the refusal of a visit beyond the budget, the evaluator by the kind's code, the leaves that are built, and those that
 -- stand already.
-use Rattle.evaluators.proofs.Terms.{ℕ, zero, suc, _+_, _-_, _≤_, _<_, Bool, true, false, cond, List, _≢_, _⊎_, inl, inr, ⊎-elim, Option, nothing, some, _≡_, refl, sym, ap, _∙_, subst, arith, leb, getD, false≢true, _&&_, equal, member, subset, atMost, Leaf, givenSet, elementOf, literal, truthConst, emptySet, boolSet, singleton, power, dom, ran, card, choice, pairing, union, inter, diff, product, apply, plus, minus, interval, leafᵉ, boolᵉ, oneᵉ, twoᵉ, comprehensionᵉ, leafValue, ValueAt, builtLeaf, LeafFits, LeafReady, LeafDone, leafPlace, PlaceReady, StandingReady, LeafNode, LeafFormed}
-use Rattle.evaluators.proofs.Terms.{Value, weight, and, or, implies, iff, forAll, forSome, identifier, Kind, join, negation, test, quant, leaf, boolOf, one, two, comprehension, kindOf, Category, predicate, expression, Node, Pred, Expr, tableOf, nodeAt, kindAt, predOf, exprAt, nodeCount, Readable, CategoryIs, refused, gives, Env, holdsᵖ, valueᵉ, sizes-length, binds-length, good-weight, Same, same-refl, length-code, BuiltAt, code-of, kind-of, Formed, Placed, Stopped, Refused, EndsWith, fieldA, fieldB, IsPred, IsExpr, entryPlace, PlacedLeaf, Binds, NodeReady, Visited, Sort, EvaluatesP, EvaluatesE, ℕ-discrete, decLt, whole, leaf-one, IsLight}
-use Rattle.laws.proofs.EndLaws.{T-true, T-and, T-leb}
+use Rattle.evaluators.proofs.Terms.{T-true, T-and, T-leb, ℕ, zero, suc, _+_, _-_, _≤_, _<_, Bool, true, false, cond, List, _≢_, _⊎_, inl, inr, ⊎-elim, Option, nothing, some, _≡_, refl, sym, ap, _∙_, subst, arith, leb, getD, false≢true, _&&_, equal, member, subset, atMost, Leaf, givenSet, elementOf, literal, truthConst, emptySet, boolSet, singleton, power, dom, ran, card, choice, pairing, union, inter, diff, product, apply, plus, minus, interval, leafᵉ, boolᵉ, oneᵉ, twoᵉ, comprehensionᵉ, leafValue, ValueAt, builtLeaf, LeafFits, LeafReady, LeafDone, leafPlace, PlaceReady, StandingReady, LeafNode, LeafFormed}
+use Rattle.evaluators.proofs.Terms.{Value, weight, and, or, implies, iff, forAll, forSome, identifier, Kind, join, negation, test, quant, leaf, boolOf, one, two, comprehension, kindOf, Category, predicate, expression, Node, Pred, Expr, tableOf, nodeAt, kindAt, predOf, exprAt, nodeCount, Readable, CategoryIs, refused, gives, Env, holdsᵖ, valueᵉ, sizes-length, binds-length, good-weight, Same, same-refl, length-code, BuiltAt, code-of, kind-of, Formed, Placed, Stopped, Refused, EndsWith, fieldA, fieldB, IsPred, IsExpr, entryPlace, PlacedLeaf, Binds, NodeReady, Visited, Sort, EvaluatesP, EvaluatesE, decLt, whole, leaf-one, IsLight}
 use Rattle.table.specs.Codes.{codeOf as categoryNumber, categoryCode}
 use Rattle.table.proofs.Access.{by-range}
 use Rattle.constants.specs.Constants.{OneCell}
@@ -95,11 +94,11 @@ module _ (k : ℕ) where
   one-keys (inr (inr (inl e))) = (card, kind-of k (one card) e)
   one-keys (inr (inr (inr e))) = (choice, kind-of k (one choice) e)
 
-  pub one-range : (Some-one → ⊥) → k ≢ 34 → 33 ≤ k → k < 37 → Sort one k
+  pub one-range : k ≢ 34 → 33 ≤ k → k < 37 → Sort one k
   unfolding kindOf
-  one-range n m a b =
-      along (λ (m : ℕ). Sort one m) 35 2 ((dom, refl), ((ran, refl), tt)) k
-      (let d : k ≢ 33 = λ e. n (inr (inl e)) in omega (arith, d, m)) (omega arith)
+  one-range d a b =
+      along (λ (m : ℕ). m ≢ 34 → Sort one m) 33 4
+      ((λ d. (power, refl)), ((λ d. absurd (d refl)), ((λ d. (dom, refl)), ((λ d. (ran, refl)), tt)))) k a (omega arith) d
 
   pub two-key : k ≡ 37 → Sort two k
   two-key e = (apply, kind-of k (two apply) e)
@@ -117,11 +116,12 @@ module _ (k : ℕ) where
       along (λ (m : ℕ). Sort two m) 28 5 ((pairing, refl), ((union, refl), ((inter, refl), ((diff, refl), ((product, refl), tt))))) k
       (let n26 : k ≢ 26 = λ e. m (inr e) in let n27 : k ≢ 27 = λ e. n (inl e) in omega (arith, n25, n26, n27)) (omega arith)
 
-  pub two-high : (Some-one → ⊥) → k ≢ 37 → 37 ≤ k → k < 42 → Sort two k
+  pub two-high : k ≢ 38 → 37 ≤ k → k < 42 → Sort two k
   unfolding kindOf
-  two-high n m a b =
-      along (λ (m : ℕ). Sort two m) 39 3 ((plus whole, refl), ((minus whole, refl), ((interval, refl), tt))) k
-      (let d : k ≢ 38 = λ e. n (inr (inr (inl e))) in omega (arith, d, m)) (omega arith)
+  two-high d a b =
+      along (λ (m : ℕ). m ≢ 38 → Sort two m) 37 5
+      ((λ d. (apply, refl)), ((λ d. absurd (d refl)), ((λ d. (plus whole, refl)), ((λ d. (minus whole, refl)), ((λ d. (interval, refl)), tt))))) k
+      a (omega arith) d
 
 -- The ranges of the codes of predicates and of expressions.
 codes-within : (k lo hi : ℕ) → leb lo k && leb k hi ≡ true → (lo ≤ k) × (k ≤ hi)
@@ -140,7 +140,7 @@ category-is c nothing h = absurd h
 category-is c (some x) h = ap categoryNumber h
 
 -- A leaf that stands already, an identifier or a constant of one cell: its arm of `eval_value`.
-abbrev Unbuilt : ℕ → Type 0
+abbrev pub Unbuilt : ℕ → Type 0
 Unbuilt k = (j : Leaf) × (kindOf k ≡ some (leaf j)) × (builtLeaf j ≡ false)
 
 pub standing-code : (k : ℕ) → ((k ≡ 20) ⊎ (k ≡ 26)) ⊎ ((20 ≤ k) × (k < 25) × (k ≢ 21)) → Unbuilt k
@@ -168,14 +168,11 @@ name-below bs r n lt e = omega (arith, field-holds bs r n lt (leaf identifier) e
 pub place-ready : {bs env s : List ℕ} {top n : ℕ} → NodeReady bs env s top n → PlaceReady bs env n
 place-ready r = record { readable = r .readable; node = r .node; entries = r .entries }
 
-unbuilt-ready : {bs env : List ℕ} {k n : ℕ} → PlaceReady bs env n → k ≡ nodeAt (tableOf bs .nodes) n .kind → Unbuilt k → StandingReady bs env k n
+pub unbuilt-ready : {bs env : List ℕ} {k n : ℕ} → PlaceReady bs env n → k ≡ nodeAt (tableOf bs .nodes) n .kind → Unbuilt k → StandingReady bs env k n
 unbuilt-ready p e u = record { node = p; same = e; kind = u .0; is = u .1; unbuilt = u .2 }
 
 -- What the evaluators of the leaves take for granted.
 module _ {bs env s : List ℕ} {top k n left : ℕ} (v : Visited bs env s top k n left) where
-  pub standing-ready : Unbuilt k → StandingReady bs env k n
-  standing-ready = unbuilt-ready (place-ready (v .ready)) (v .kind)
-
   -- A node's kind is in the range of its category, and so the last arms.
   pub predicate-code : IsPred bs n → (1 ≤ k) × (k ≤ 11)
   predicate-code h = codes-within k 1 11 (in-range predicate _ (leb 20 k && leb k 43) (by-range k ∙ category-is predicate (kindOf k) (rw (v .kind) h)))
@@ -259,12 +256,7 @@ placed-answer r p h q = rw q (standing-answer (counted r _ h refl) p)
 
 -- 37, 39 and 40 have two operands.
 pub light-two : {k : ℕ} → IsLight k → Sort two k
-light-two {k} h = go (ℕ-discrete k 37) (ℕ-discrete k 39)
-  where
-    go : Dec (k ≡ 37) → Dec (k ≡ 39) → Sort two k
-    go (yes e) d = (apply, kind-of k (two apply) e)
-    go (no n) (yes e) = (plus whole, kind-of k (two (plus whole)) e)
-    go (no n) (no m) = (minus whole, kind-of k (two (minus whole)) (omega (arith, h .low, h .high, h .other, n, m)))
+light-two {k} h = two-high k (h .other) (h .low) (omega (arith, h .high))
 
 -- An identifier's value stands where the environment says.
 pub standing-name-place : {bs env : List ℕ} {n at : ℕ} → PlacedLeaf bs env n at → kindAt (tableOf bs .nodes) n ≡ some (leaf identifier) →
@@ -295,12 +287,6 @@ module _ {bs env : List ℕ} {k n : ℕ} (p : StandingReady bs env k n) where
     unbuilt = p .unbuilt;
     place = ⊎-elim (λ i. absurd (q (code-of k (leaf identifier) (rw i at (p .is))))) (λ o. sym (o .1 env n _)) (unbuilt-leaf (p .kind) (p .unbuilt));
   }
-
--- The arms of `leaf_place`.
-pub place-standing : {bs env : List ℕ} {n k : ℕ} → PlaceReady bs env n → k ≡ nodeAt (tableOf bs .nodes) n .kind → (k ≡ 20) ⊎ ((22 ≤ k) × (k < 25)) →
-    StandingReady bs env k n
-place-standing {k = k} p e h =
-    unbuilt-ready p e (standing-code k (⊎-elim (λ q. inl (inl q)) (λ q. inr (omega (arith, q .0), q .1, λ z. absurd (omega (arith, q .0)))) h))
 
 -- 21 and 42, with the word and the size that have been read.
 module _ {bs s : List ℕ} {top k n a z : ℕ} (p : LeafNode bs s top k n) (ea : a ≡ fieldA bs n) (ez : z ≡ getD (tableOf bs .sizes) a 0) where

@@ -3,10 +3,10 @@ use Rattle.evaluators.proofs.Terms.{ℕ, _+_, _-_, _*_, _≤_, _<_, Boo
 use Rattle.evaluators.proofs.Terms.{weight, boolOf, one, two, comprehension, predicate, expression, tableOf, gives, valueᵉ, code, same-trans, SomeOperands, Outcome, kind-of, Builds, Refusal, Truth, Refused, Formed, Placed, Stopped, Set, Unlike, PlacedAs, fieldA, fieldB, RangeAt, Visited, Sort, Asks, EvaluatesP, EvaluatesE, EachReady, EvaluatesChosen, truthValue, One, setOf, oneValue, twoValue, oneGiven, twoGiven, OneReady, OneOf, TwoReady, TwoOf, LightOf, KnownFunction, FunctionLeaf, oneRule, twoRule, PutsCell, IsLight, Built, function-known, StandingTwo}
 use Rattle.evaluators.specs.declared.Places.{Places}
 use Rattle.evaluators.proofs.RunLaws.{then-done, then-refused, light-form, fitted-ends}
-use Rattle.evaluators.proofs.NodeLaws.{Child, TwoFields, sizes-small, visited-builds, operation-room, visited-child, visited-operands}
+use Rattle.evaluators.proofs.NodeLaws.{Child, TwoFields, ready-first, sizes-small, visited-builds, operation-room, visited-child, visited-operands}
 use Rattle.evaluators.proofs.NodeLaws.{some-asks, visits, after, valueIn, held-below, formed-below, stopped-by, settled-by, Operated}
 use Rattle.evaluators.proofs.DispatchLaws.{name-below, placed-answer, light-two, standing-name-place}
-use Rattle.evaluators.proofs.BothLaws.{operands-ready, StopsBoth, EvaluatesBoth, left-ready, right-ready, both-formed}
+use Rattle.evaluators.proofs.BothLaws.{operands-ready, StopsBoth, EvaluatesBoth, right-ready, both-formed}
 use Rattle.evaluators.proofs.ChosenLaws.{chosen-as}
 use Rattle.evaluators.proofs.RangeLaws.{Binder, Ranged, range-child, range-stops, range-unlike, each-ready, in-range, range-on}
 
@@ -107,7 +107,7 @@ module _ {bs env s : List ℕ} {top k n left : ℕ} (x : Visited bs env s top k 
   at-two = (x, light-two (z .light))
 
   first-stands : EvaluatesE bs env s top (fieldA bs n) (left - 1) s (Placed (r .first) top (left - 2))
-  first-stands = placed-answer (left-ready (two-fields at-two) refl .0) (z .first) (omega (arith, z .visits)) (omega arith)
+  first-stands = placed-answer (ready-first (x .ready) (two-fields at-two .left)) (z .first) (omega (arith, z .visits)) (omega arith)
 
   both : EvaluatesBoth bs env s top n (left - 1) s (r .first) top (r .second) top (left - 3)
   both =
@@ -129,10 +129,6 @@ module _ {bs env s : List ℕ} {top k n left : ℕ} (x : Visited bs env s top k 
   light-operated op = two-operated at-two both (op top)
 
 -- 25: the condition's node is `m`.
-pub byte-small : (b : Bool) → boolByte b ≤ 1
-byte-small true = omega arith
-byte-small false = omega arith
-
 truth-code : (b : Bool) → code (truthValue b) ≡ (8589934592 + boolByte b) ∷ []
 unfolding code
 truth-code true = refl

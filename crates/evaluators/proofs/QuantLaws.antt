@@ -1,6 +1,6 @@
 -- The loop over the members of a quantifier's range, turn by turn, and the quantifier's node: what is given for the rest of the range is
 -- given for the whole.
-use Rattle.evaluators.proofs.Terms.{ℕ, _+_, _-_, _*_, _<_, Bool, true, false, not, Bool·beq, List, [], _∷_, some, _≡_, refl, sym, ap, _∙_, arith, eqb, false≢true, setAt, Quant, quantify, quantOf, EvaluatesEach}
+use Rattle.evaluators.proofs.Terms.{ℕ, _+_, _-_, _*_, _<_, Bool, true, false, not, cond, Bool·beq, List, [], _∷_, some, _≡_, refl, sym, ap, _∙_, arith, eqb, false≢true, setAt, Quant, quantify, quantOf, EvaluatesEach}
 use Rattle.evaluators.proofs.Terms.{Value, members, forAll, forSome, quant, kindOf, End, done, refused, Run, M, holdsᵖ, EndsAt, same-refl, same-trans, code-of, Refusal, RefusalOf, Held, Truth, Refused, Formed, Stopped, Set, Unlike, EndsWith, HeldAs, fieldA, fieldB, fieldC, IsPred, RangeAt, NodeReady, Visited, Sort, AsksEach, bodyOf, EachReady, EvaluatesP, EvaluatesE, quantCode}
 use native.Mathlib.Nat.{le-refl}
 use Rattle.evaluators.proofs.RunLaws.{then-done, then-refused, returns}
@@ -9,17 +9,11 @@ use Rattle.evaluators.proofs.BodyLaws.{none-left, Loop, loop-start, bod
 use Rattle.evaluators.proofs.RangeLaws.{Binder, Ranged, range-stops, range-unlike, each-ready, in-range, range-on}
 
 -- Two truths differ, or are the same.
-pub differ : (a b : Bool) → not (Bool·beq a b) ≡ true → a ≡ not b
-differ true true e = sym e
-differ true false e = refl
-differ false true e = refl
-differ false false e = e
-
-pub agree : (a b : Bool) → not (Bool·beq a b) ≡ false → a ≡ b
-agree true true e = refl
-agree true false e = e
-agree false true e = sym e
-agree false false e = refl
+pub compared : (a b : Bool) {r : Bool} → not (Bool·beq a b) ≡ r → a ≡ cond r (not b) b
+compared true true e = rw (← e)
+compared true false e = rw (← e)
+compared false true e = rw (← e)
+compared false false e = rw (← e)
 
 -- The answer at a member ends the loop: it is refused, or decides.
 abbrev pub Decided : Bool → Held → Type 0

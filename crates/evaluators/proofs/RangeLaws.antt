@@ -1,14 +1,12 @@
 -- A binder's range: its fields, its part of the node's run, the members of a set that stands in the arena, what the loop over them may take for
 -- granted, and `range_of`.
-use Rattle.evaluators.proofs.Terms.{ℕ, _+_, _-_, _*_, _≤_, _<_, Bool, true, false, List, [], _∷_, some, _≡_, refl, sym, ap, _∙_, subst, arith, T, length, getD, _%_, set, HasType, Fits, typed, demand, cellSize, RangeSet, SomeGood}
-use Rattle.evaluators.proofs.Terms.{Value, Values, count, Kind, Category, expression, predicate, unused, child, kindOf, fieldsOf, fits, tableOf, nodeAt, kindAt, fieldWords, End, refused, Run, M, _>>=_, _>>_, visit, binds-length, good-weight, code, codes, built, Sizes, GoodAt, good-fits, good-inside, Placed, Stopped, Refusal, Set, Unlike, EndsWith, PlacedAs, Listed, fieldA, fieldB, fieldC, RangeAt, expressionCells, NodeReady, Visited, Asks, AsksEach, valueAt, EvaluatesE, EachReady, Ty, atom, POW, _⊗_, P̂, t̂, quantRule, good-typed, elems-good, stands-tail, good-typed-at}
+use Rattle.evaluators.proofs.Terms.{ℕ, _+_, _-_, _*_, _≤_, _<_, Bool, true, false, List, [], _∷_, some, _≡_, refl, sym, ap, _∙_, subst, arith, T, length, getD, _%_, set, typed, demand, cellSize, RangeSet, SomeGood, T-true}
+use Rattle.evaluators.proofs.Terms.{Value, Values, count, Kind, Category, expression, predicate, unused, child, kindOf, fieldsOf, fits, tableOf, nodeAt, kindAt, fieldWords, End, refused, Run, M, _>>=_, _>>_, visit, binds-length, good-weight, code, codes, built, Sizes, GoodAt, good-fits, good-inside, Placed, Stopped, Refusal, Set, Unlike, EndsWith, PlacedAs, Listed, fieldA, fieldB, fieldC, RangeAt, expressionCells, NodeReady, Visited, Asks, AsksEach, valueAt, EvaluatesE, EachReady, P̂, t̂, quantRule, good-typed, elems-good, stands-tail, good-typed-at}
 use Rattle.laws.proofs.BindingLaws.{binderFields}
-use Rattle.laws.proofs.FitsLaws.{typed-right}
 use Rattle.arena.proofs.ValueParts.{first-cell}
-use Rattle.fitting.specs.Agree.{SomeTyped}
 use Rattle.fitting.specs.Tests.{FitOne}
+use Rattle.fitting.proofs.Tests.{fits-set}
 use Rattle.operations.proofs.SingleLaws.{fits-is-set}
-use Rattle.operations.proofs.FitLaws.{types-fit}
 use Rattle.evaluators.specs.declared.Range.{Range}
 use Rattle.evaluators.proofs.RunLaws.{then-done, then-refused, fitting-on, fitting-refused}
 use Rattle.evaluators.proofs.NodeLaws.{Child, sizes-small, field-holds, condition-cells, ready-child, visited-kind, visited-builds, visited-child}
@@ -30,12 +28,8 @@ range-listed {gs} {s} {top} {at} h r =
 
 -- A set that has a type can be a range.
 set-fits : (vs : Values) → T (typed (set vs)) → fits (P̂ t̂ ∷ []) (set vs ∷ []) ≡ true
-set-fits vs h = let x = typed-right (set vs) .0 h in types-fit (P̂ t̂ ∷ []) (set vs ∷ []) (go (x .0) (x .1))
-  where
-    go : (t : Ty) → HasType (set vs) t → Fits (P̂ t̂ ∷ []) (set vs ∷ [])
-    go (atom a) k = absurd k
-    go (POW u) k = (u, u, (k, tt))
-    go (u ⊗ w) k = absurd k
+unfolding typed
+set-fits vs h = fits-set (set vs) ∙ T-true (typed (set vs)) .0 h
 
 -- A binder's node is visited; its range is the node a.
 pub record Binder (bs env s : List ℕ) (top k n left a : ℕ) (x : Kind) : Type 0 where
@@ -153,12 +147,6 @@ range-as q h = rw q at h
 
 -- `range_of`: the first cell of a set has the number of its members.
 module _ {s : List ℕ} {at : ℕ} where
-  pub some-typed : SomeGood s at → SomeTyped s at
-  some-typed p = (p .value, good-typed-at (p .small) (p .stands))
-
-  pub some-inside : SomeGood s at → at < length s
-  some-inside p = good-inside (p .small) (p .stands)
-
   module _ {r : Bool} (f : FitOne (P̂ t̂ ∷ []) s at r) where
     pub range-not : r ≡ false → RangeAt s at Unlike
     range-not e gs top v q h = sym (f v (good-typed-at q h)) ∙ e

@@ -1,5 +1,5 @@
 -- Ends of runs, part by part: what follows a part that is done begins at the visits which that part has made.
-use Rattle.evaluators.proofs.Terms.{ℕ, suc, _+_, _≤_, _<_, Bool, true, false, List, _≡_, refl, arith, leb, lt-ltb, le-ltb, le-leb, ltb}
+use Rattle.evaluators.proofs.Terms.{ℕ, cond, demand, emit, suc, _+_, _≤_, _<_, true, false, List, _≡_, refl, arith, leb, lt-ltb, le-ltb, le-leb, ltb}
 use Rattle.evaluators.proofs.Terms.{Value, weight, fits, End, done, refused, Run, M, return, _>>_, visit, Given, gives, fitting, EndsWith, goOn, form, lacks, weighed, fitted, weightLimit, Rule}
 
 -- A part x, and f after it.
@@ -29,11 +29,9 @@ endOf n (lacks k) = refused k n
 
 pub form-ends : {budget left : ℕ} (n : ℕ) (g : Given) (s : ℕ) → s + left ≡ budget → EndsWith (form n g s) (endOf n (weighed g)) budget left
 form-ends n (lacks k) s c = record { end = refl; steps = c }
-form-ends {budget} {left} n (gives v) s c = go (leb (weight v) weightLimit) refl
-  where
-    go : (b : Bool) → leb (weight v) weightLimit ≡ b → EndsWith (form n (gives v) s) (endOf n (weighed (gives v))) budget left
-    go true e = record { end = rw e; steps = rw e c }
-    go false e = record { end = rw e; steps = rw e c }
+form-ends {budget} {left} n (gives v) s c =
+    elim (leb (weight v) weightLimit) as (λ b. EndsWith ((demand b 18 n >> emit n v) s) (endOf n (cond b (gives v) (lacks 18))) budget left)
+    [ true ↦ record { end = refl; steps = c } | false ↦ record { end = refl; steps = c } ]
 
 -- A value that is not heavy is formed.
 pub light-form : {budget left : ℕ} (n : ℕ) (w : Value) (s : ℕ) → weight w ≤ 256 → s + left ≡ budget → EndsWith (form n (gives w) s) (done w) budget left
@@ -50,8 +48,7 @@ module _ {B : Type 0} {budget left : ℕ} (n : ℕ) (r : Rule) (vs : List Value)
 -- 15, and then what is given.
 pub fitted-ends : {budget left : ℕ} (n : ℕ) (r : Rule) (vs : List Value) (g : Given) (s : ℕ) → s + left ≡ budget →
     EndsWith ((fitting n r vs >> form n g) s) (endOf n (fitted (r .takes) vs g)) budget left
-fitted-ends {budget} {left} n r vs g s c = go (fits (r .takes) vs) refl
-  where
-    go : (b : Bool) → fits (r .takes) vs ≡ b → EndsWith ((fitting n r vs >> form n g) s) (endOf n (fitted (r .takes) vs g)) budget left
-    go true e = let k = form-ends n g s c in record { end = rw e (k .end); steps = rw e (k .steps) }
-    go false e = record { end = rw e; steps = rw e c }
+fitted-ends {budget} {left} n r vs g s c =
+    let k = form-ends n g s c in
+    elim (fits (r .takes) vs) as (λ b. EndsWith ((demand b 15 n >> form n g) s) (endOf n (cond b (weighed g) (lacks 15))) budget left)
+    [ true ↦ record { end = k .end; steps = k .steps } | false ↦ record { end = refl; steps = c } ]

@@ -1,12 +1,9 @@
--- What the code of the evaluators asks to be safe: nodes that may be read, numbers that fit their width, room.
-use Rattle.evaluators.proofs.Terms.{ℕ, _+_, _-_, _*_, _≤_, _<_, List, _≡_, refl, _∙_, arith, lit<, length, setAt, length-set, scaled-fits, fits-under}
+-- What the code of the evaluators asks to be safe: nodes that may be read, entries of the environment, room, a truth's number.
+use Rattle.evaluators.proofs.Terms.{ℕ, _+_, _*_, _≤_, _<_, Bool, true, false, boolByte, List, _≡_, refl, arith, lit<, length, scaled-fits}
 use Rattle.evaluators.proofs.Terms.{nodeCount, Readable, Same, Builds, NodeReady, EachReady, nodesAt}
 use mir.Syntax.{w64}
 use mir.Val.{Fits}
 use Rattle.table.specs.Layout.{NodeIn}
-
-pub one-less : {n : ℕ} → 0 < n → n - 1 < n
-one-less h = omega (arith, h)
 
 -- The node of an identifier, or of a binder, has it in an environment of 32 entries.
 module _ {x y : ℕ} (e : x ≡ y) (l : y < 32) where
@@ -27,21 +24,10 @@ module _ {bs env s : List ℕ} {top n : ℕ} (r : NodeReady bs env s top n) wher
   pub cell-room : {s′ : List ℕ} → Builds bs → Same top s s′ → top + 33 ≤ length s′
   cell-room b e = omega (arith, r .room b, e .kept)
 
-module _ {bs env s : List ℕ} {top n from count : ℕ} {spare : ℕ} (r : EachReady bs env s top n from count spare) where
-  pub binder-node : NodeIn bs (nodesAt bs) n
-  binder-node = node-in (r .ready .readable) (r .binder)
+pub binder-node : {bs env s : List ℕ} {top n from count spare : ℕ} → EachReady bs env s top n from count spare → NodeIn bs (nodesAt bs) n
+binder-node r = node-in (r .ready .readable) (r .binder)
 
--- The first cell of a set that is built.
-module _ {bs env s : List ℕ} {top n from count : ℕ} (r : EachReady bs env s top n from count 256) where
-  pub above-fits : Fits w64 (top + 1)
-  above-fits = fits-under w64 (top + 1) 4294967296 (omega (arith, r .space (omega arith), r .ready .small)) tt
-
-  pub top-scaled : Fits w64 (top * 8)
-  top-scaled = fits-under w64 (top * 8) 34359738368 (omega (arith, r .space (omega arith), r .ready .small)) tt
-
-  pub top-inside : {s′ : List ℕ} → Same top s s′ → top < length s′
-  top-inside e = omega (arith, r .space (omega arith), e .kept)
-
--- Writing it keeps the arena as long as it was.
-pub written-kept : {s s′ : List ℕ} {top : ℕ} (x : ℕ) → Same top s s′ → length (setAt s′ top x) ≡ length s
-written-kept {s} {s′} {top} x e = length-set s′ top x ∙ e .kept
+-- A truth as a number.
+pub byte-small : (b : Bool) → boolByte b ≤ 1
+byte-small true = omega arith
+byte-small false = omega arith

@@ -25,17 +25,18 @@ pub use Rattle.rules.specs.Operations.{Env, holds, setOf, oneValue, twoValue, _
 unfoldable pub use Rattle.rules.specs.Evaluation.{holdsᵖ, valueᵉ, select, quantify}
 pub use Rattle.rules.specs.Evaluation.{fitting}
 pub use Rattle.rules.specs.Values.{Value, Values, weight, members, count, none, _▸_, values, weights, truthValue, set}
-pub use Rattle.rules.specs.Fits.{fits, HasType, Fits, typed}
+pub use Rattle.rules.specs.Fits.{fits}
+unfoldable pub use Rattle.rules.specs.Fits.{typed}
 pub use Rattle.rules.specs.Ends.{End, done, refused}
-pub use Rattle.rules.specs.Runs.{Run, M, return, _>>=_, _>>_, gives, visit, Given, demand, goOn, form, lacks}
+pub use Rattle.rules.specs.Runs.{Run, M, return, _>>=_, _>>_, gives, visit, Given, demand, emit, goOn, form, lacks}
 pub use Rattle.rules.specs.Cells.{good, weightLimit}
 unfoldable pub use Rattle.rules.specs.Reading.{tallest, height}
-pub use Rattle.rules.specs.Types.{whole, Ty, atom, POW, _⊗_}
+pub use Rattle.rules.specs.Types.{whole}
 pub use Rattle.rules.specs.Rules.{testRule, oneRule, twoRule, P̂, t̂, quantRule, Rule}
 pub use Rattle.rules.proofs.Basics.{absurd01}
 pub use Rattle.operations.proofs.KindLaws.{kind-of, code-of, joinCode, same-join, quantCode}
 unfoldable pub use Rattle.arena.specs.Code.{code}
-pub use Rattle.arena.specs.Code.{codes, Stands, Same, SomeAt, EndsAt, ValuesAt, ValueAt, cellSize, Copied}
+pub use Rattle.arena.specs.Code.{CellsFit, codes, Stands, Same, SomeAt, EndsAt, ValuesAt, ValueAt, cellSize, Copied}
 pub use Rattle.arena.proofs.Standing.{stands-frame, same-refl, same-trans, copied-stands, stands-append, stands-tail, stands-front, stands-back}
 pub use Rattle.arena.proofs.CodeLaws.{length-code, length-codes}
 pub use Rattle.products.specs.Growing.{PutsCell}
@@ -48,6 +49,7 @@ pub use Rattle.operations.specs.Outcomes.{SomeOperands, BuiltAt, Gives, TestOf,
 pub use Rattle.reading.specs.declared.Refusal.{Refusal}
 pub use Rattle.laws.proofs.CellsLaws.{good-weight, size-below, count-weights, good-typed}
 pub use Rattle.laws.proofs.TableLaws.{sizes-length, binds-length, nodes-length, height-at}
+pub use Rattle.laws.proofs.EndLaws.{T-true, T-and, T-leb}
 pub use Rattle.laws.proofs.FormedLaws.{value-good, elems-good, with-good}
 pub use Rattle.operations.specs.declared.Outcome.{Outcome}
 pub use Rattle.operations.specs.declared.Outcome.the-variants.{Built, Within, Cell, Lacks}

@@ -1,6 +1,5 @@
 -- `is_marked`: the node is an identifier, and the environment marks it. Landmarks: what was lent, that the node is an identifier, and its number.
-use Rattle.evaluators.proofs.Terms.{some, _≡_, sym, ap, _∙_, subst, ℕ, _<_, arith, lit<, getD, leb-true}
-use Rattle.evaluators.proofs.Terms.{kindOf, leaf, identifier, tableOf, kindAt, kind-of, fieldA, FunctionEntry, now, absurd01}
+use Rattle.evaluators.proofs.Terms.{some, _≡_, sym, ap, _∙_, subst, ℕ, _<_, arith, lit<, getD, leb-true, kindOf, leaf, identifier, tableOf, kindAt, kind-of, fieldA, FunctionEntry, now, absurd01}
 use Rattle.evaluators.proofs.SafeLaws.{node-in, entry-below, entry-scaled}
 use Rattle.evaluators.proofs.DispatchLaws.{name-below}
 use Rattle.evaluators.proofs.is_marked.Statement.{statement}

@@ -62,7 +62,6 @@ standing-two-spec =
     (λ c z. absurd (z refl))
     (λ c κs. (ready-node (lent (enough (word c .before)) .pre .2 .ready), lit< tt))
     (λ c κs. let e = begun c in rw (c .node-field2 .ensures) (place-ready (ready-first (fields e .ready) (fields e .left))))
-    (λ c κs. let f = c .before in
-    let e = begun f in
+    (λ c κs. let f = c .before in let e = begun f in
     rw (f .node-field2 .ensures) (place-ready (ready-first (fields e .ready) (fields e .left))))
     returns-4)

@@ -1,6 +1,5 @@
 -- `strip`. The invariant: the node reached tells the answer for the first one. Landmarks: what was lent, and a turn.
-use Rattle.evaluators.proofs.Terms.{_<_, arith, lit<}
-use Rattle.evaluators.proofs.Terms.{nodeCount, Passes}
+use Rattle.evaluators.proofs.Terms.{_<_, arith, lit<, nodeCount, Passes}
 use Rattle.evaluators.proofs.SafeLaws.{node-in}
 use Rattle.evaluators.proofs.BareLaws.{passes-none, passes-on}
 use Rattle.evaluators.proofs.strip.Statement.{statement}
@@ -22,13 +21,6 @@ looked c = c .before .before
 reached : (l : tie.At-loop Inv-loop μ-loop) → l .loop .n < nodeCount (lent l .args .table .now)
 reached l = omega (arith, lent l .pre .1, l .loop .inv .below)
 
-loop-again : tie.Need-loop-again Inv-loop μ-loop
-loop-again c =
-    let k = c .before .before in
-    let l = looked k in
-    passes-on (lent l .pre .0) (reached l) (k .node-kind .ensures) (omega (arith, c .before .if1 .left)) (l .loop .inv)
-    (omega (arith, k .before .loop-test .taken)) (c .node-field .ensures)
-
 pub strip-spec : {M : Type 1} → statement M
 strip-spec =
     tie.close
@@ -42,5 +34,7 @@ strip-spec =
     (λ c κs. let l = looked (c .before) in (node-in (lent l .pre .0) (reached l), lit< tt))
     (λ c. omega (arith, c .before .before .before .loop-test .taken))
     (λ c. omega (arith, c .before .before .before .loop-test .taken))
-    loop-again
+    (λ c. let k = c .before .before in let l = looked k in
+    passes-on (lent l .pre .0) (reached l) (k .node-kind .ensures) (omega (arith, c .before .if1 .left)) (l .loop .inv)
+    (omega (arith, k .before .loop-test .taken)) (c .node-field .ensures))
     (λ c. record { passes = c .before .loop .inv; last = λ m. absurd (omega (arith, m, c .loop-test .left)) }))

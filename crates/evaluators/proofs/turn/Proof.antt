@@ -1,6 +1,5 @@
 -- `turn`: by the answer below the negations.
-use Rattle.evaluators.proofs.Terms.{sym, ap}
-use Rattle.evaluators.proofs.Terms.{turnedBy}
+use Rattle.evaluators.proofs.Terms.{sym, ap, turnedBy}
 use Rattle.evaluators.proofs.turn.Statement.{statement}
 use Rattle.evaluators.proofs.turn.Tie as tie
 

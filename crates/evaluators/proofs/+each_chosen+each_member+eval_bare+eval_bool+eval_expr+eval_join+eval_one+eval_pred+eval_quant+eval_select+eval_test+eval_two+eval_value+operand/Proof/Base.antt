@@ -25,7 +25,7 @@ use Rattle.evaluators.proofs.each_member.Kinds as every
 use Rattle.evaluators.proofs.eval_pred.Kinds as node
 use Rattle.evaluators.proofs.eval_join.Kinds as kind
 use Rattle.evaluators.proofs.eval_expr.Kinds as formed
-pub use Rattle.evaluators.proofs.SafeLaws.{ready-node, one-less, binder-node, entry-below, entry-scaled}
+pub use Rattle.evaluators.proofs.SafeLaws.{ready-node, binder-node, entry-below, entry-scaled, byte-small}
 pub use Rattle.evaluators.proofs.NodeLaws.{child-asks, held-as, formed-as, stop-is, settle-asks, settle-tells}
 pub use Rattle.evaluators.proofs.BodyLaws.{member-low, Ran, member-at}
 pub use Rattle.evaluators.proofs.RangeLaws.{Ranged, range-as, range-child, range-good, range-low}

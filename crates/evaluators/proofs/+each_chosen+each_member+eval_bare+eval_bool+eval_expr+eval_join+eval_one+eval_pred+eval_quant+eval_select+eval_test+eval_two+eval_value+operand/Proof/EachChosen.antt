@@ -5,9 +5,10 @@ use Rattle.evaluators.proofs.choose.Reads as choose
 use Rattle.arena.proofs.end_of.Reads as end-of
 use Rattle.table.proofs.node_field.Reads as field
 use Rattle.evaluators.proofs.stop_of.Reads as stop
-use Rattle.evaluators.proofs.+each_chosen+each_member+eval_bare+eval_bool+eval_expr+eval_join+eval_one+eval_pred+eval_quant+eval_select+eval_test+eval_two+eval_value+operand.Proof.Base.{OverLoop, each-chosen, eval-pred, ℕ, _∙_, arith, lit<, one-less, binder-node, entry-below, entry-scaled, member-low, Ran, member-at}
-use Rattle.evaluators.proofs.SafeLaws.{above-fits, top-scaled, top-inside, written-kept}
-use Rattle.evaluators.proofs.ChosenLaws.{Choosing, choosing-start, choosing-near, choosing-few, choosing-end, choosing-low, choosing-asks, choosing-refused, choosing-choose, choosing-next}
+use Rattle.evaluators.proofs.+each_chosen+each_member+eval_bare+eval_bool+eval_expr+eval_join+eval_one+eval_pred+eval_quant+eval_select+eval_test+eval_two+eval_value+operand.Proof.Base.{OverLoop, each-chosen, eval-pred, ℕ, _∙_, arith, lit<, binder-node, entry-below, entry-scaled, byte-small, member-low, Ran, member-at}
+use Rattle.evaluators.proofs.Terms.{fits-under}
+use mir.Syntax.{w64}
+use Rattle.evaluators.proofs.ChosenLaws.{Choosing, choosing-start, choosing-near, choosing-end, choosing-low, choosing-asks, choosing-refused, choosing-choose, choosing-next}
 
 abbrev Inv : lts.InvT-loop
 Inv table env s₀ top node from count left x body inner₀ at₀ more₀ n₀ to₀ chosen₀ s inner at more n to chosen =
@@ -58,7 +59,7 @@ module _ (t : ℕ) where
       lts.spec claims (each-chosen .at t) (each-chosen .post) Inv μ
       (λ c κs. (binder-node (c .before .before .pre .1), lit< tt))
       (λ c κs. (binder-node (lent c .pre .1), lit< tt))
-      (λ c. above-fits (lent (c .before .before) .pre .1))
+      (λ c. let r = lent (c .before .before) .pre .1 in fits-under w64 _ 4294967296 (omega (arith, r .space (omega arith), r .ready .small)) tt)
       (λ c. choosing-start (lent (c .before .before) .pre .1) _)
       (λ c. let l = c .before in omega (arith, member-low (lent (words l .before) .pre .1) (l .loop .inv .loop) (c .loop-test .taken)))
       (λ c. let f = words (c .before) .before in entry-scaled (f .node-field .ensures) (lent f .pre .1 .name))
@@ -73,13 +74,13 @@ module _ (t : ℕ) where
       (λ c κs. let o = c .before in let p = ran (told o .before .before) in choosing-choose (turn p .before .loop .inv) (turned p) (o .end-of .ensures))
       (λ c. tt)
       (λ c. let h = told (ended (c .before .before)) in let l = turn (ran (h .before .before)) .before in
-      record { fits = choosing-few (lent (words l .before) .pre .1) (l .loop .inv) (h .held .given .0 .0) })
+      record { fits = omega (arith, choosing-near (lent (words l .before) .pre .1) (l .loop .inv) .2, byte-small (h .held .given .0 .0)) })
       (λ c. turn (ran (told (ended (c .before .before)) .before .before)) .loop-test .taken)
-      (λ c. one-less (turn (ran (told (ended (c .before .before)) .before .before)) .loop-test .taken))
+      (λ c. omega (arith, turn (ran (told (ended (c .before .before)) .before .before)) .loop-test .taken))
       (λ c. let q = c .before .before in let o = ended q in let h = told o in let p = ran (h .before .before) in
       choosing-next (turn p .before .loop .inv) (turned p) (o .end-of .ensures) (h .held .given .1) (q .choose .ensures))
       (λ c. let l = c .before in omega (arith, choosing-near (lent (words l .before) .pre .1) (l .loop .inv) .2))
-      (λ c. top-scaled (lent (words (c .before) .before) .pre .1))
-      (λ c. let l = c .before in top-inside (lent (words l .before) .pre .1) (l .loop .inv .loop .frame))
-      (λ c. written-kept _ (c .before .loop .inv .loop .frame))
+      (λ c. let r = lent (words (c .before) .before) .pre .1 in fits-under w64 _ 34359738368 (omega (arith, r .space (omega arith), r .ready .small)) tt)
+      (λ c. let l = c .before in omega (arith, lent (words l .before) .pre .1 .space (omega arith), l .loop .inv .loop .frame .kept))
+      (λ c. let l = c .before in choosing-end (lent (words l .before) .pre .1) (l .loop .inv) (omega (arith, c .loop-test .left)) .frame .kept)
       (λ c. let l = c .before in choosing-end (lent (words l .before) .pre .1) (l .loop .inv) (omega (arith, c .loop-test .left)))

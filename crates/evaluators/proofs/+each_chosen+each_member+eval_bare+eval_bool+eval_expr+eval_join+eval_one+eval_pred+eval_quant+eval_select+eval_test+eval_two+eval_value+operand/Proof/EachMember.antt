@@ -3,8 +3,8 @@
 use Rattle.evaluators.proofs.+each_chosen+each_member+eval_bare+eval_bool+eval_expr+eval_join+eval_one+eval_pred+eval_quant+eval_select+eval_test+eval_two+eval_value+operand.Lts-each_member as lts
 use Rattle.arena.proofs.end_of.Reads as end-of
 use Rattle.table.proofs.node_field.Reads as field
-use Rattle.evaluators.proofs.+each_chosen+each_member+eval_bare+eval_bool+eval_expr+eval_join+eval_one+eval_pred+eval_quant+eval_select+eval_test+eval_two+eval_value+operand.Proof.Base.{OverLoop, each-member, eval-pred, ℕ, refl, _∙_, arith, lit<, one-less, binder-node, entry-below, entry-scaled, member-low, Ran, member-at}
-use Rattle.evaluators.proofs.QuantLaws.{differ, agree, refusal-ends, Turning, turning-start, member-asks, member-ends, turning-on, members-done}
+use Rattle.evaluators.proofs.+each_chosen+each_member+eval_bare+eval_bool+eval_expr+eval_join+eval_one+eval_pred+eval_quant+eval_select+eval_test+eval_two+eval_value+operand.Proof.Base.{OverLoop, each-member, eval-pred, ℕ, refl, _∙_, arith, lit<, binder-node, entry-below, entry-scaled, member-low, Ran, member-at}
+use Rattle.evaluators.proofs.QuantLaws.{compared, refusal-ends, Turning, turning-start, member-asks, member-ends, turning-on, members-done}
 
 abbrev Inv : lts.InvT-loop
 Inv table env s₀ top all node from count left x body inner₀ at₀ more₀ n₀ s inner at more n =
@@ -60,11 +60,11 @@ module _ (t : ℕ) where
       (λ c. let p = ran (c .before .before) in member-ends (turn p .before .loop .inv) (turned p) _ refl (refusal-ends _ (c .enum-told .given .1)))
       (λ c. let h = c .before .before in let p = ran (h .before .before) in p .eval-pred .kept .1 .1 .0 ∙ turn p .before .loop .inv .loop .frame .kept)
       (λ c. let h = c .before .before in let p = ran (h .before .before) in
-      member-ends (turn p .before .loop .inv) (turned p) _ (h .held .given .1) (differ _ _ (c .if1 .taken)))
+      member-ends (turn p .before .loop .inv) (turned p) _ (h .held .given .1) (compared _ _ (c .if1 .taken)))
       (λ c κs. let h = c .before .before .before in member-at (turned (ran (h .before .before))))
       (λ c. let i = c .before .before in let h = i .before .before in turn (ran (h .before .before)) .loop-test .taken)
-      (λ c. let i = c .before .before in let h = i .before .before in one-less (turn (ran (h .before .before)) .loop-test .taken))
+      (λ c. let i = c .before .before in let h = i .before .before in omega (arith, turn (ran (h .before .before)) .loop-test .taken))
       (λ c. let i = c .before .before in let h = i .before .before in let p = ran (h .before .before) in
-      turning-on (turn p .before .loop .inv) (turned p) _ _ _ (h .held .given .1) (agree _ _ (i .if1 .left)) (c .end-of .ensures))
+      turning-on (turn p .before .loop .inv) (turned p) _ _ _ (h .held .given .1) (compared _ _ (i .if1 .left)) (c .end-of .ensures))
       (λ c. c .before .loop .inv .loop .frame .kept)
       (λ c. members-done (c .before .loop .inv) (omega (arith, c .loop-test .left)))

@@ -11,7 +11,7 @@ use Rattle.table.proofs.node_kind.Reads as kind
 use Rattle.evaluators.proofs.stopped.Reads as stopped
 use Rattle.evaluators.proofs.+each_chosen+each_member+eval_bare+eval_bool+eval_expr+eval_join+eval_one+eval_pred+eval_quant+eval_select+eval_test+eval_two+eval_value+operand.Proof.Base.{Over, eval-bool, eval-one, eval-select, eval-two, eval-value, ℕ, refl, sym, ⊎-elim, inl, inr, arith, now, Visited, ready-node, formed-as, settle-asks, settle-tells, counted, StandingTwo}
 use Rattle.evaluators.proofs.FormLaws.{light-asks, light-operated}
-use Rattle.evaluators.proofs.DispatchLaws.{spent-expr, visited-as, expression-code, one-keys, one-range, two-key, two-low, two-high, no-other, leaf-node, leaf-answer, standing-code, standing-ready, standing-answer}
+use Rattle.evaluators.proofs.DispatchLaws.{spent-expr, visited-as, expression-code, one-keys, one-range, two-key, two-low, two-high, no-other, leaf-node, leaf-answer, standing-code, place-ready, unbuilt-ready, standing-answer}
 
 module _ (t : ℕ) where
   abbrev claims : lts.Claims
@@ -64,21 +64,6 @@ module _ (t : ℕ) where
   abbrev kinded : Here lts.Else2 → Here lts.After-node-kind
   kinded c = c .before .before .before
 
-  eval-two-requires : Here lts.Need-eval-two-requires
-  eval-two-requires c κs =
-      let k = kinded (c .before .before) in
-      let by = ⊎-elim (λ w. two-key _ (w .keys3))
-      (⊎-elim (λ w. let m = w .0 .rest in two-low _ (m .0 .0 .0 .0 .1) (m .0 .0 .0 .0 .0 .1) (m .1) (w .2 .left) (w .3 .taken))
-      (λ w. let m = w .0 .rest in two-high _ (m .0 .0 .0 .0 .1) (m .0 .0 .0 .1) (w .4 .left) (w .5 .taken))) (c .before .match .came) in
-      (omega (arith, lent k .pre .0), (visit k, by))
-
-  eval-one-requires : Here lts.Need-eval-one-requires
-  eval-one-requires c κs =
-      let k = kinded (c .before .before) in
-      let by = ⊎-elim (λ w. one-keys _ (w .keys2))
-      (λ w. let m = w .0 .rest in one-range _ (m .0 .0 .0 .0 .1) (m .0 .0 .1) (w .3 .left) (w .4 .taken)) (c .before .match .came) in
-      (omega (arith, lent k .pre .0), (visit k, by))
-
   pub closed : {M : Type 1} → lts.Closed claims (eval-value .at t) (eval-value .post) M
   closed =
       lts.spec claims (eval-value .at t) (eval-value .post)
@@ -97,9 +82,15 @@ module _ (t : ℕ) where
       (λ c. visit (kinded (c .before .before)) .unspent)
       (λ c κs. leaf-node (visit (kinded (c .before .before))) (c .before .match .keys5))
       (λ c κs. tt)
-      eval-two-requires
-      eval-one-requires
-      (λ c κs. standing-ready (visit (kinded (c .before)))
+      (λ c κs. let k = kinded (c .before .before) in
+      let by = ⊎-elim (λ w. two-key _ (w .keys3))
+      (⊎-elim (λ w. let m = w .0 .rest in two-low _ (m .0 .0 .0 .0 .1) (m .0 .0 .0 .0 .0 .1) (m .1) (w .2 .left) (w .3 .taken))
+      (λ w. two-high _ (λ e. w .0 .rest .0 .0 .0 .0 .1 (inr (inr (inl e)))) (w .4 .left) (w .5 .taken))) (c .before .match .came) in
+      (omega (arith, lent k .pre .0), (visit k, by)))
+      (λ c κs. let k = kinded (c .before .before) in
+      let by = ⊎-elim (λ w. one-keys _ (w .keys2)) (λ w. one-range _ (w .0 .rest .0 .0 .1) (w .3 .left) (w .4 .taken)) (c .before .match .came) in
+      (omega (arith, lent k .pre .0), (visit k, by)))
+      (λ c κs. let d = visit (kinded (c .before)) in unbuilt-ready (place-ready (d .ready)) (d .kind)
       (standing-code _ (⊎-elim (λ w. inl (w .keys6)) (λ w. inr (w .1 .left, w .2 .taken, λ e. w .0 .rest .0 .1 (inl e))) (c .match .came))))
       (λ c. visit (kinded (c .before .before)) .unspent)
       (λ c. c .before .before .eval-bool .kept .1 .1 .0) (λ c. c .before .before .eval-bool .ensures)
