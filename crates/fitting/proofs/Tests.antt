@@ -13,7 +13,7 @@ use Rattle.rules.specs.Values.{num, truth, element, Value, scalar, pair, set, V
 use Rattle.rules.specs.Rules.{t̂, û, P̂, _×̂_, numᵖ}
 use Rattle.rules.specs.Fits.{TypeSet, every, noType, atomˢ, powˢ, _×ˢ_, _⊓_, typesOf, sharedTypes, inhabited, anything, nothing-fits, asked, fits}
 use Rattle.laws.proofs.FitsLaws.{_⊑_, ⊓-split, inhabited→some, some→inhabited}
-use Rattle.arena.specs.Code.{cellSize, IsPair, AllPairs}
+use Rattle.arena.specs.Code.{cellSize, AllPairs}
 use Rattle.fitting.specs.Agree.{meets, agree, TypedAt, RunAt, SomeTyped, Agreed, AgreedWith, Full, Few, Members, SetHere}
 use Rattle.fitting.specs.Tests.{FitOne, FitTwo, Both, PairsAndOne, AgreedLefts}
 use Rattle.fitting.proofs.Sharing.{meets→share, share→meets, no-meet, meets-same, tagOf, tag-type, as-product, ⊓-every, ground, narrowed}
@@ -162,13 +162,11 @@ module _ {s : List ℕ} {a : ℕ} where
       test-is b (getD s (a + 1) 0 / cellSize) 4 f g ∙ rw (fits-relation v, e, d, tag-is (run-head k)) (first-pair y (sharedTypes ys) (k .typed))
 
 -- The first of some pairs.
-pair-tag : (v : Value) → IsPair v → tag v ≡ 4
-pair-tag (scalar x) h = absurd h
-pair-tag (pair x y) h = refl
-pair-tag (set vs) h = absurd h
-
 pub pairs-first : {s : List ℕ} {i n : ℕ} {vs : Values} → RunAt s i n vs → AllPairs vs → 0 < n → PairHere s i
-pairs-first h p l = let (x, ys, e, k) = as-run h l in pair-here (x, run-head k) (tag-is (run-head k) ∙ pair-tag x (subst AllPairs e p .0))
+pairs-first {vs = none} h p l = absurd (omega (arith, h .counted))
+pairs-first {vs = scalar x ▸ ys} h p l = absurd (p .0)
+pairs-first {vs = set x ▸ ys} h p l = absurd (p .0)
+pairs-first {vs = pair y z ▸ ys} h p l = pair-here (pair y z, run-head h) (tag-is (run-head h))
 
 -- A pair fits an argument where its left part does.
 pub left-meets : {s : List ℕ} {i b : ℕ} {r : Bool} → PairHere s i → (w : SomeTyped s b) → Agreed s (i + 1) b r → OneMeets s i (typesOf (w .0) ×ˢ every) r
