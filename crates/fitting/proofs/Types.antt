@@ -232,13 +232,15 @@ module _ {s : List ℕ} {at n : ℕ} {t : Ty} {vs : Values} where
     pub left-yes : {end : ℕ} → SomeLeft s at n t vs → not c ≡ false → EndsAt s at end → SomeLeft s end (n - 1) t vs
     left-yes (none, p) f e = absurd (omega (arith, p .counted))
     left-yes (x ▸ ys, p) f e =
-        let a = first-stands s at x ys (p .stands) in
-        (ys, record {
-          stands = rw (e x a (p .fits .0)) (rest-stand s at x ys (p .stands));
-          fits = p .fits .1;
-          counted = omega (arith, p .counted);
-          tells = λ r d. p .tells r (both-yes (g x t a (p .fits .0) k) (not-false c f) d);
-        })
+        let a = first-stands s at x ys (p .stands) in (
+          ys,
+          record {
+            stands = rw (e x a (p .fits .0)) (rest-stand s at x ys (p .stands));
+            fits = p .fits .1;
+            counted = omega (arith, p .counted);
+            tells = λ r d. p .tells r (both-yes (g x t a (p .fits .0) k) (not-false c f) d);
+          },
+        )
 
 -- The row of a type begins with its codes.
 pub row-type : (sheet : List ℕ) (from : ℕ) (t : Ty) → Stands sheet from (row t) → TypeAt sheet from t
