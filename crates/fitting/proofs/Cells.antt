@@ -228,12 +228,11 @@ module _ {s : List ℕ} {a b : ℕ} where
         λ c d r n l m i. rw (e, f, ← g v₁ w₁ x₁ y₁, n) (i v₂ w₂ (rw (end-is l x₁) x₂) (rw (end-is m y₁) y₂)),
       )
 
-  pub sets-agree : {n m : ℕ} {r : Bool} → getD s a 0 / cellSize ≡ 5 → getD s b 0 / cellSize ≡ 5 →
-      Members s a n → Members s b m → AgreedAll s (a + 1) n (b + 1) m r → Agreed s a b r
+  pub sets-agree : {n m : ℕ} {r : Bool} → SetHere s a → SetHere s b → Members s a n → Members s b m → AgreedAll s (a + 1) n (b + 1) m r → Agreed s a b r
   unfolding agree meets
   sets-agree t u c d g v w h k =
-      let (vs, e, x) = as-set h t in
-      let (ws, f, y) = as-set k u in
+      let (vs, e, x) = as-set h (t .isSet) in
+      let (ws, f, y) = as-set k (u .isSet) in
       let p = c vs x in
       let q = d ws y in
       rw (e, f) (g (record { first = (p .few, p .run); second = (q .few, q .run) }) ∙

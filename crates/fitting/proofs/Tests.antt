@@ -13,7 +13,7 @@ use Rattle.rules.specs.Values.{num, truth, element, Value, scalar, pair, set, V
 use Rattle.rules.specs.Rules.{t̂, û, P̂, _×̂_, numᵖ}
 use Rattle.rules.specs.Fits.{TypeSet, every, noType, atomˢ, powˢ, _×ˢ_, _⊓_, typesOf, sharedTypes, inhabited, anything, nothing-fits, asked, fits}
 use Rattle.laws.proofs.FitsLaws.{_⊑_, ⊓-split, inhabited→some, some→inhabited}
-use Rattle.arena.specs.Code.{cellSize, IsPair, AllPairs}
+use Rattle.arena.specs.Code.{cellSize, AllPairs}
 use Rattle.fitting.specs.Agree.{meets, agree, TypedAt, RunAt, SomeTyped, Agreed, AgreedWith, Full, Few, Members, SetHere}
 use Rattle.fitting.specs.Tests.{FitOne, FitTwo, Both, PairsAndOne, AgreedLefts}
 use Rattle.fitting.proofs.Sharing.{meets→share, share→meets, no-meet, meets-same, tagOf, tag-type, as-product, ⊓-every, ground, narrowed}
@@ -162,13 +162,11 @@ module _ {s : List ℕ} {a : ℕ} where
       test-is b (getD s (a + 1) 0 / cellSize) 4 f g ∙ rw (fits-relation v, e, d, tag-is (run-head k)) (first-pair y (sharedTypes ys) (k .typed))
 
 -- The first of some pairs.
-pair-tag : (v : Value) → IsPair v → tag v ≡ 4
-pair-tag (scalar x) h = absurd h
-pair-tag (pair x y) h = refl
-pair-tag (set vs) h = absurd h
-
 pub pairs-first : {s : List ℕ} {i n : ℕ} {vs : Values} → RunAt s i n vs → AllPairs vs → 0 < n → PairHere s i
-pairs-first h p l = let (x, ys, e, k) = as-run h l in pair-here (x, run-head k) (tag-is (run-head k) ∙ pair-tag x (subst AllPairs e p .0))
+pairs-first {vs = none} h p l = absurd (omega (arith, h .counted))
+pairs-first {vs = scalar x ▸ ys} h p l = absurd (p .0)
+pairs-first {vs = set x ▸ ys} h p l = absurd (p .0)
+pairs-first {vs = pair y z ▸ ys} h p l = pair-here (pair y z, run-head h) (tag-is (run-head h))
 
 -- A pair fits an argument where its left part does.
 pub left-meets : {s : List ℕ} {i b : ℕ} {r : Bool} → PairHere s i → (w : SomeTyped s b) → Agreed s (i + 1) b r → OneMeets s i (typesOf (w .0) ×ˢ every) r
@@ -188,26 +186,17 @@ full-left y z w r f l = narrowed (typesOf (pair y z)) r (typesOf w ×ˢ every) l
     rw e (a .0, tt))
 
 -- The first k of some pairs have left parts that stand for all.
-record LeftsFor (s : List ℕ) (at k : ℕ) (vs : Values) : Type 0 where
-  few : Values
-  run : RunAt s at k few
-  pairs : AllPairs few
-  same : (w : Value) → meets (sharedTypes few) (typesOf w ×ˢ every) ≡ meets (sharedTypes vs) (typesOf w ×ˢ every)
-
-few-lefts : {s : List ℕ} {at n k : ℕ} {vs : Values} → RunAt s at n vs → AllPairs vs → Few s (at + 1) n k → LeftsFor s at k vs
-few-lefts {vs = vs} h p (inl e) = record { few = vs; run = rw e h; pairs = p; same = λ w. refl }
-few-lefts {vs = none} h p (inr (e, l, f)) = absurd (omega (arith, h .counted))
-few-lefts {vs = scalar x ▸ ys} h p (inr f) = absurd (p .0)
-few-lefts {vs = set x ▸ ys} h p (inr f) = absurd (p .0)
-few-lefts {vs = pair y z ▸ ys} h p (inr (e, l, f)) = record {
-  few = pair y z ▸ none;
-  run = rw e (run-of (run-head h));
-  pairs = (tt, tt);
-  same = λ w. rw (⊓-every (typesOf (pair y z))) (full-left y z w (sharedTypes ys) (f y (pair-parts (run-head h) .0)) (h .typed));
-}
-
-abbrev lefts-and : {s : List ℕ} {at k b : ℕ} {vs : Values} → LeftsFor s at k vs → SomeTyped s b → PairsAndOne s at k b
-lefts-and x w = record { values = x .few; run = x .run; pairs = x .pairs; second = w }
+few-lefts : {s : List ℕ} {at n k b : ℕ} {vs : Values} (w : SomeTyped s b) → RunAt s at n vs → AllPairs vs → Few s (at + 1) n k →
+    (p : PairsAndOne s at k b) ×
+    (meets (sharedTypes (p .values)) (typesOf (p .second .0) ×ˢ every) ≡ meets (sharedTypes vs) (typesOf (w .0) ×ˢ every))
+few-lefts {vs = vs} w h p (inl e) = (record { values = vs; run = rw e h; pairs = p; second = w }, refl)
+few-lefts {vs = none} w h p (inr (e, l, f)) = absurd (omega (arith, h .counted))
+few-lefts {vs = scalar x ▸ ys} w h p (inr f) = absurd (p .0)
+few-lefts {vs = set x ▸ ys} w h p (inr f) = absurd (p .0)
+few-lefts {vs = pair y z ▸ ys} w h p (inr (e, l, f)) = (
+  record { values = pair y z ▸ none; run = rw e (run-of (run-head h)); pairs = (tt, tt); second = w },
+  rw (⊓-every (typesOf (pair y z))) (full-left y z (w .0) (sharedTypes ys) (f y (pair-parts (run-head h) .0)) (h .typed)),
+)
 
 -- Relations and arguments.
 pub applies-not : {s : List ℕ} {a b : ℕ} → FitOne (P̂ (t̂ ×̂ û) ∷ []) s a false → FitTwo (P̂ (t̂ ×̂ û) ∷ t̂ ∷ []) s a b false
@@ -237,10 +226,10 @@ module _ {s : List ℕ} {a n : ℕ} (f : FitOne (P̂ (t̂ ×̂ û) ∷ []) s a t
   relation-left v l = let (vs, _, h, p) = relation-pairs (v .0) (v .1) in pairs-first h p l .left
 
   pub relation-few : {b k : ℕ} → Both s a b → Few s (a + 1 + 1) n k → PairsAndOne s (a + 1) k b
-  relation-few b g = let (vs, _, h, p) = relation-pairs (b .first .0) (b .first .1) in lefts-and (few-lefts h p g) (b .second)
+  relation-few b g = let (vs, _, h, p) = relation-pairs (b .first .0) (b .first .1) in few-lefts (b .second) h p g .0
 
   pub applies-fit : (b k : ℕ) (r : Bool) → Few s (a + 1 + 1) n k → AgreedLefts s (a + 1) k b r → FitTwo (P̂ (t̂ ×̂ û) ∷ t̂ ∷ []) s a b r
   applies-fit b k r g t v w h j =
       let (vs, e, i, p) = relation-pairs v h in
-      let x = few-lefts i p g in
-      t (lefts-and x (w, j)) ∙ x .same w ∙ rw (fits-applies v w, e)
+      let (x, same) = few-lefts (w, j) i p g in
+      t x ∙ same ∙ rw (fits-applies v w, e)

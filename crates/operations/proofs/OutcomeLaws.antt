@@ -1,15 +1,7 @@
 -- How the answers of the functions below tell what a node gives.
 use Rattle.operations.proofs.Base.{ℕ, _<_, true, false, List, [], _∷_, _≡_, sym, subst, arith, decLt, eq-eqb, ne-eqb, le-leb, lt-leb}
-use Rattle.operations.proofs.Terms.{Value, weight, testRule, Test, fits, Given, gives, lacks, holds, Same, Made, Outcome, Built, Lacks, Truth, Unlike, weighed, tested, ended, Gives}
+use Rattle.operations.proofs.Terms.{Value, weight, testRule, Test, fits, Given, gives, lacks, holds, Same, Made, Outcome, Truth, Unlike, weighed, tested, ended, Gives}
 use Rattle.laws.proofs.CellsLaws.{weight-some}
-
-pub ended-none : (end : ℕ) → end ≡ 0 → Lacks 18 ≡ ended end
-unfolding ended
-ended-none end e = rw (eq-eqb end 0 e)
-
-pub ended-some : (end : ℕ) → (end ≡ 0 → ⊥) → Built end ≡ ended end
-unfolding ended
-ended-some end e = rw (ne-eqb end 0 e)
 
 -- A value is given, and has been made.
 abbrev pub Makes : ℕ → List ℕ → List ℕ → ℕ → Given → Type 0

@@ -19,5 +19,5 @@ unfoldable pub use Rattle.operations.specs.Outcomes.{ended, oneGiven, te
 pub use Rattle.operations.specs.Outcomes.{BuiltAt, GivenCell, Gives, LeafDone, LeafFits, LeafReady, NumberCell, NumbersTold, OneDone, OneOf, OneReady, Operands, TestDone, TestOf, TwoDone, TwoOf, TwoReady, weighed}
 pub use Rattle.operations.specs.Parts.{MergeDone, NumberDone, Shifted, sideKind, sumKind}
 pub use Rattle.operations.specs.declared.Outcome.{Outcome}
-pub use Rattle.operations.specs.declared.Outcome.the-variants.{Built, Cell, Lacks, Within}
+pub use Rattle.operations.specs.declared.Outcome.the-variants.{Cell, Lacks, Within}
 pub use Rattle.operations.specs.declared.Tested.the-variants.{Truth, Unlike}

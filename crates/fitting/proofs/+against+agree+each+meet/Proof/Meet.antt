@@ -1,13 +1,12 @@
 -- `meet`: by the tags of the two values. A pair or a set that is no set is a pair.
 use Prim.Native.Nat.{ℕ, _+_, _/_}
-use mathlib.Core.Bool.{Bool}
 use mathlib.Core.Path.{_≡_, sym, _∙_}
 use native.Mathlib.Omega.{arith}
 use borrow.Author.Needs.{needs}
 use borrow.Author.Tests.{not-true, not-false}
 use lib.ListN.{getD}
 use Rattle.fitting.proofs.Sharing.{tags-differ}
-use Rattle.fitting.specs.Agree.{SetHere, RunAndRun, Agreed, AgreedAll}
+use Rattle.fitting.specs.Agree.{SetHere, RunAndRun}
 use Rattle.fitting.proofs.Cells.{inside, tag-is, members-run, run-first, run-whole, rest-last, sets-agree, other-pair, PairHere, pair-here, some-at, end-bounds, pairs-agree}
 use Rattle.fitting.proofs.Cycle.{Over}
 use Rattle.arena.proofs.tag.Reads as tag
@@ -64,11 +63,6 @@ module _ (t : ℕ) where
       RunAndRun (p .s .now) (p .a + 1) (m .before .members .result) (p .b + 1) (m .members2 .result)
   runs m = record { first = members-run (set-a (sets m)) (m .before .members .ensures); second = members-run (set-b (sets m)) (m .members2 .ensures) }
 
-  by-members : (m : Here lts.After-members2) {r : Bool} →
-      AgreedAll (given m .args .s .now) (given m .args .a + 1) (m .before .members .result) (given m .args .b + 1) (m .members2 .result) r →
-      Agreed (given m .args .s .now) (given m .args .a) (given m .args .b) r
-  by-members m = sets-agree (set-a (sets m) .isSet) (set-b (sets m) .isSet) (m .before .members .ensures) (m .members2 .ensures)
-
   -- They are pairs.
   pair-a : (c : Here lts.Else2) → PairHere (lent (c .before) .args .s .now) (lent (c .before) .args .a)
   pair-a c =
@@ -102,10 +96,12 @@ module _ (t : ℕ) where
         omega (arith, given m .pre .0, inside (set-a (sets m) .value)),
         record { first = run-first (runs m .first) (omega (arith, c .if3 .taken)); second = runs m .second },
       ))
-      (λ c. by-members (c .before .before) (λ p.
+      (λ c. let m = c .before .before in
+      sets-agree (set-a (sets m)) (set-b (sets m)) (m .before .members .ensures) (m .members2 .ensures) (λ p.
       let n = c .before .if3 .taken in rest-last (run-whole _ (p .first)) (omega (arith, n)) (λ v h. c .against .ensures v _ h (p .second .1)) n))
       (λ c κs. let m = c .before in (omega (arith, given m .pre .0, inside (set-a (sets m) .value)), runs m))
-      (λ c. by-members (c .before .before) (c .each .ensures))
+      (λ c. let m = c .before .before in
+      sets-agree (set-a (sets m)) (set-b (sets m)) (m .before .members .ensures) (m .members2 .ensures) (c .each .ensures))
       (λ c κs. let p = lent (c .before) .pre in
       (omega (arith, p .0, inside (p .1 .0 .first)), record { first = pair-a c .left; second = pair-b c .left }))
       (λ c v w h k. let m = c .before .before in

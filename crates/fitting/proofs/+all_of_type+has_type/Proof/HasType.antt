@@ -47,11 +47,8 @@ module _ (t : ℕ) where
   code-inside p = type-inside (p .pre .1 .1)
 
   -- The tag is known; it is a set's and the code is POW's, or a pair's and the code a product's.
-  abbrev read : Here lts.After-tag → Here lts.After-shared-slice-known2
-  read m = m .before .before .before
-
   abbrev lent : Here lts.After-tag → Here lts.Start
-  lent m = read m .before .before
+  lent m = let r = m .before .before .before in r .before .before
 
   is-tag : (m : Here lts.After-tag) (n : ℕ) → m .tag .result ≡ n → getD (lent m .args .s .now) (lent m .args .at) 0 / 4294967296 ≡ n
   is-tag m n e = sym (m .tag .ensures) ∙ e

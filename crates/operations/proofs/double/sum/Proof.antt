@@ -21,9 +21,13 @@ sum-spec =
     (λ c. search needs)
     (λ c. search needs)
     (λ c κs. search needs)
-    (λ c _. let y = c .before .before in let x = y .before .before in let e = x .before .before in
+    (λ c _. let y = c .before .before in
+    let x = y .before .before in
+    let e = x .before .before in
     rw (c .before .if2 .taken) (minus-done (e .before .numbers .ensures) (e .if1 .left) (x .low .ensures .0) (y .low2 .ensures .0) (c .number .ensures)))
     (λ c. search needs)
     (λ c κs. search needs)
-    (λ c _. let y = c .before .before in let x = y .before .before in let e = x .before .before in
+    (λ c _. let y = c .before .before in
+    let x = y .before .before in
+    let e = x .before .before in
     rw (c .before .if2 .left) (plus-done (e .before .numbers .ensures) (e .if1 .left) (x .low .ensures .0) (y .low2 .ensures .0) (c .number2 .ensures))))

@@ -1,10 +1,7 @@
--- `power`: the subsets of a set. Landmark: the operand that was lent. In the needs, m is where the set has been made, e where the operand fits.
+-- `power`: the subsets of a set. In the needs, m is where the set has been made, e where the operand fits, i where it is tested.
 use Rattle.operations.proofs.Common.{needs, power, ready-typed, ready-set, one-unlike, power-done}
 use Rattle.operations.proofs.single.power.Statement.{statement}
 use Rattle.operations.proofs.single.power.Tie as tie
-
-abbrev lent : tie.After-is-set → tie.Start
-lent c = c .before .before .before
 
 pub power-spec : {M : Type 1} → statement M
 power-spec =
@@ -13,8 +10,8 @@ power-spec =
     (λ c κs. ready-typed (c .before .before .pre))
     (λ c. search needs)
     (λ c. one-unlike power (c .before .is-set .ensures) (c .if1 .taken))
-    (λ c κs. let e = c .before in ready-set (lent (e .before) .pre) (e .before .is-set .ensures) (e .if1 .left))
+    (λ c κs. let e = c .before in let i = e .before in ready-set (i .before .before .before .pre) (i .is-set .ensures) (e .if1 .left))
     (λ c κs. search needs)
     (λ c. search needs)
-    (λ c. let m = c .before .before .before in let e = m .before .before in
-    power-done (lent (e .before) .pre) (e .before .is-set .ensures) (e .if1 .left) (m .power .ensures) (c .built .ensures)))
+    (λ c. let m = c .before .before .before in let e = m .before .before in let i = e .before in
+    power-done (i .before .before .before .pre) (i .is-set .ensures) (e .if1 .left) (m .power .ensures) (c .built .ensures)))

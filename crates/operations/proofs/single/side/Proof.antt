@@ -16,10 +16,14 @@ side-spec =
     (λ c κs. let e = c .before .before in ready-pairs (lent (e .before) .pre) (e .before .is-relation .ensures) (e .if1 .left))
     (λ c κs. search needs)
     (λ c. search needs)
-    (λ c. let m = c .before .before .before in let t = m .before .before in let e = t .before in
+    (λ c. let m = c .before .before .before in
+    let t = m .before .before in
+    let e = t .before in
     rw (t .if2 .taken) (range-done (lent (e .before) .pre) (e .before .is-relation .ensures) (e .if1 .left) (m .range .ensures) (c .built .ensures)))
     (λ c κs. let e = c .before .before in ready-pairs (lent (e .before) .pre) (e .before .is-relation .ensures) (e .if1 .left))
     (λ c κs. search needs)
     (λ c. search needs)
-    (λ c. let m = c .before .before .before in let t = m .before .before in let e = t .before in
+    (λ c. let m = c .before .before .before in
+    let t = m .before .before in
+    let e = t .before in
     rw (t .if2 .left) (domain-done (lent (e .before) .pre) (e .before .is-relation .ensures) (e .if1 .left) (m .domain .ensures) (c .built2 .ensures))))
