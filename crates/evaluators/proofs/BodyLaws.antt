@@ -119,10 +119,9 @@ module _ {bs env s₀ : List ℕ} {top n from count left x : ℕ} {s inner : Lis
     pub body-asks : {t : ℕ} → 5 * n ≡ t → (Builds bs → to + cellsFor bs (fieldC bs n) ≤ length s) →
         (5 * c + 3 < t) × (NodeReady bs (setAt inner x at) s to c × IsPred bs c)
     body-asks e room =
-        let b = member-binds (some-asked left r) in (
-          omega (arith, r .deeper, ey),
-          rw ey (ready-at (r .ready) (fieldC bs n) (r .ready .node) room (i .frame .kept) (inner-set at (i .inside) .long) b, r .is),
-        )
+        let b = member-binds (some-asked left r) in
+        let ready = ready-at (r .ready) (fieldC bs n) (r .ready .node) room (i .frame .kept) (inner-set at (i .inside) .long) b in
+        (omega (arith, r .deeper, ey), rw ey (ready, r .is))
 
 -- It has run.
 pub record Ran {bs env s₀ : List ℕ} {top n from count left x : ℕ} {s inner : List ℕ} {at more m : ℕ}

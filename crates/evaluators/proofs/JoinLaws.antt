@@ -1,5 +1,5 @@
 -- Joins by their codes; then the run at the node, part by part, and with it what the answers for the conditions below make of the node's.
-use Rattle.evaluators.proofs.Terms.{ℕ, _+_, _-_, _*_, _<_, Bool, true, false, not, cond, Bool·beq, List, _⊎_, inl, inr, _≢_, nothing, some, _≡_, refl, sym, ap, _∙_, subst, arith, eqb}
+use Rattle.evaluators.proofs.Terms.{ℕ, _+_, _-_, _*_, _<_, Bool, true, false, not, cond, Bool·beq, List, _⊎_, inl, inr, _≢_, nothing, some, _≡_, refl, sym, subst, arith, eqb}
 use Rattle.evaluators.proofs.Terms.{predicate, and, or, implies, iff, join, holdsᵖ, Same, same-trans, code-of, Refusal, Held, Truth, Refused, HeldAs, NodeReady, Visited, Sort, Asks, EvaluatesP, fieldA, fieldB, IsPred, Join, DecidesBy, JoinedBy, joinCode, same-join}
 use Rattle.rules.specs.Operations as rules
 use Rattle.evaluators.proofs.RunLaws.{then-done, then-refused, returns}
@@ -63,14 +63,15 @@ module _ {bs env s : List ℕ} {top k n left : ℕ} (at-join : Visited bs env s 
         held-as refl (sym d) (held-by v (join j) (at-join .1 .1) (h .frame) (λ i. visits v i _ (then-refused _ (join-first (Refused p l) d i))))
 
     module _ {y : Bool} {l : ℕ} (d : r ≡ Truth y l) {o : Bool} (by : DecidesBy k y o) where
+      decided : {b : Bool} → o ≡ b → rules.decides j y ≡ cond b (some (not (eqb k 1))) nothing
+      decided c = rw c at (by j (at-join .1 .1))
+
       -- It decides.
       pub join-short : o ≡ true → EvaluatesP bs env s top n left s′ (Truth (not (eqb k 1)) l)
       unfolding holdsᵖ
       join-short c =
           held-by v (join j) (at-join .1 .1) (h .frame) (λ i.
-          let w = join-first (Truth y l) d i in
-          visits v i _ (then-done _ w
-          (rw (by j (at-join .1 .1) ∙ ap (λ (x : Bool). cond x (some (not (eqb k 1))) nothing) c) (returns _ (w .steps)))))
+          let w = join-first (Truth y l) d i in visits v i _ (then-done _ w (rw (decided c) (returns _ (w .steps)))))
 
       -- It does not, and the second operand's node is `m`.
       module _ (c : o ≡ false) {m : ℕ} (qb : m ≡ fieldB bs n) where
@@ -79,9 +80,6 @@ module _ {bs env s : List ℕ} {top k n left : ℕ} (at-join : Visited bs env s 
 
         pub join-asks : {t : ℕ} → 5 * n + 1 ≡ t → (5 * m + 3 < t) × (NodeReady bs env s′ top m × IsPred bs m)
         join-asks e = (omega (arith, join-next .below), (ready-child s′ m top (v .ready) join-next (h .frame) (omega arith) (omega arith), join-next .is))
-
-        open-by : rules.decides j y ≡ nothing
-        open-by = by j (at-join .1 .1) ∙ ap (λ (x : Bool). cond x (some (not (eqb k 1))) nothing) c
 
         -- What is asked of it.
         abbrev second : Asks bs env s top n left → Asks bs env s′ top n l
@@ -95,7 +93,7 @@ module _ {bs env s : List ℕ} {top k n left : ℕ} (at-join : Visited bs env s 
           unfolding holdsᵖ
           join-stays-2 {p} {u} d′ =
               held-as refl (sym d′) (held-by v (join j) (at-join .1 .1) join-frame (λ i.
-              visits v i _ (then-done _ (join-first (Truth y l) d i) (rw open-by
+              visits v i _ (then-done _ (join-first (Truth y l) d i) (rw (decided c)
               (then-refused _ (held-below (second i) join-next qb (Refused p u) (held-as refl d′ h′)))))))
 
           pub join-both : {z w : Bool} {u : ℕ} → r′ ≡ Truth z u → JoinedBy k y z w → EvaluatesP bs env s top n left s″ (Truth w u)
@@ -103,5 +101,5 @@ module _ {bs env s : List ℕ} {top k n left : ℕ} (at-join : Visited bs env s 
           join-both {z} {w} {u} d′ is =
               held-by v (join j) (at-join .1 .1) join-frame (λ i.
               let t = held-below (second i) join-next qb (Truth z u) (held-as refl d′ h′) in
-              visits v i _ (then-done _ (join-first (Truth y l) d i) (rw open-by
+              visits v i _ (then-done _ (join-first (Truth y l) d i) (rw (decided c)
               (then-done _ t (rw (sym (is j (at-join .1 .1))) (returns w (t .steps)))))))

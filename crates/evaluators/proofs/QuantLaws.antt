@@ -16,11 +16,11 @@ compared false true e = rw (← e)
 compared false false e = rw (← e)
 
 -- The answer at a member ends the loop: it is refused, or decides.
-abbrev pub Decided : Bool → Held → Type 0
-Decided all (Truth b l) = b ≡ not all
-Decided all (Refused r l) = Unit {0}
+abbrev pub EndsLoop : Bool → Held → Type 0
+EndsLoop all (Truth b l) = b ≡ not all
+EndsLoop all (Refused r l) = Unit {0}
 
-pub refusal-ends : (all : Bool) {h : Held} {r : Refusal} {l : ℕ} → h ≡ Refused r l → Decided all h
+pub refusal-ends : (all : Bool) {h : Held} {r : Refusal} {l : ℕ} → h ≡ Refused r l → EndsLoop all h
 refusal-ends all e = rw e tt
 
 -- A member that does not end it, one that does, and no member.
@@ -31,7 +31,7 @@ module _ (g : Value → M Bool) where
   quantify-on true v vs s h k = then-done _ h k
   quantify-on false v vs s h k = then-done _ h k
 
-  quantify-ends : (budget : ℕ) (all : Bool) (v : Value) (vs : List Value) (s : ℕ) (h : Held) → Decided all h → HeldAs (g v s) budget h →
+  quantify-ends : (budget : ℕ) (all : Bool) (v : Value) (vs : List Value) (s : ℕ) (h : Held) → EndsLoop all h → HeldAs (g v s) budget h →
       HeldAs (quantify (quantOf all) g (v ∷ vs) s) budget h
   unfolding quantify
   quantify-ends budget true v vs s (Truth true l) d h = absurd (false≢true (sym d))
@@ -74,7 +74,7 @@ held-on (Refused r l) g h = g (refused (r .number) (r .place)) l h
 module _ {bs env s₀ : List ℕ} {top : ℕ} {all : Bool} {node from count left x : ℕ} {s inner : List ℕ} {at more n b : ℕ} {s′ : List ℕ} {h : Held}
     (i : Turning bs env s₀ top all node from count left x s inner at more n) (u : Ran (i .loop) 0 top b s′ h) where
   -- The body is refused, or decides.
-  pub member-ends : (h₀ : Held) → h ≡ h₀ → Decided all h₀ → EvaluatesEach bs env s₀ top node from count left (quantOf all) s′ h₀
+  pub member-ends : (h₀ : Held) → h ≡ h₀ → EndsLoop all h₀ → EvaluatesEach bs env s₀ top node from count left (quantOf all) s′ h₀
   member-ends h₀ e d = record {
     frame = body-frame u;
     answer = λ k.
