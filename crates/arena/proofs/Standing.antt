@@ -71,23 +71,23 @@ ownCell (scalar x) = scalarTag x * cellSize + scalarLow x
 ownCell (pair v w) = 4 * cellSize
 ownCell (set vs) = 5 * cellSize + count vs
 
-abbrev inner : Value → Values
+abbrev pub inner : Value → Values
 inner (scalar x) = none
 inner (pair v w) = v ▸ w ▸ none
 inner (set vs) = vs
 
-code-inner : (v : Value) → code v ≡ ownCell v ∷ codes (inner v)
+pub code-inner : (v : Value) → code v ≡ ownCell v ∷ codes (inner v)
 unfolding code
 code-inner (scalar x) = refl
 code-inner (pair v w) = ap (λ (l : List ℕ). (4 * cellSize) ∷ (code v ++ l)) (sym (append-nil (code w)))
 code-inner (set vs) = refl
 
-weight-inner : (v : Value) → weight v ≡ 1 + weights (inner v)
+pub weight-inner : (v : Value) → weight v ≡ 1 + weights (inner v)
 weight-inner (scalar x) = omega arith
 weight-inner (pair v w) = omega arith
 weight-inner (set vs) = omega arith
 
-fit-inner : (v : Value) → CellsFit v → AllFit (inner v)
+pub fit-inner : (v : Value) → CellsFit v → AllFit (inner v)
 fit-inner (scalar x) f = tt
 fit-inner (pair v w) f = (f .0, (f .1, tt))
 fit-inner (set vs) f = f .1

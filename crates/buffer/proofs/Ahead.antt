@@ -1,7 +1,7 @@
 -- A run of bytes as the cells of a number of values that follow one another: one cell further, and one back.
 use Prim.Native.Nat.{ℕ, zero, suc, _+_, _*_, _-_, _/_, _%_, _≤_, _<_}
 use mathlib.Core.Bool.{true, false, cond}
-use mathlib.Core.List.{List, [], _∷_, _++_, append-assoc, append-nil}
+use mathlib.Core.List.{List, _∷_, _++_, append-assoc, append-nil}
 use mathlib.Core.Logic.{_↔_}
 use mathlib.Core.Option.{some}
 use mathlib.Core.Path.{_≡_, refl, sym, ap, subst, _∙_}
@@ -19,7 +19,7 @@ use Rattle.laws.proofs.EndLaws.{T-and}
 use Rattle.laws.proofs.CellsLaws.{Word, Bytes, Encodable, Encodables, word-at, word-bytes, twos-signed, signed-range, payload-word, cells-value, count-weights, bit-eqb, cell-bytes, Sizes, encodable-wellFormed, good-wellFormed, good-weight}
 use Rattle.arena.specs.Code.{cellSize, excess, code, codes, partsOf}
 use Rattle.arena.proofs.CodeLaws.{length-codes}
-use Rattle.arena.proofs.Standing.{_before_, codes-before, count-before, ownCell}
+use Rattle.arena.proofs.Standing.{_before_, codes-before, count-before, ownCell, inner, code-inner}
 use Rattle.buffer.specs.Buffer.{cellFirst, firstCell, arenaCell, tagGood, cellGood, scalarsGood, allGood}
 use Rattle.buffer.specs.Shared.{AllOf}
 use Rattle.buffer.proofs.CellAt.{first-right}
@@ -66,12 +66,6 @@ split (suc n) (v ▸ vs) h =
     let s = split n vs (omega arith) in
     record { front = v ▸ s .front; back = s .back; whole = ap (λ (w : Values). v ▸ w) (s .whole); counted = omega (arith, s .counted) }
 
--- What follows a value's first cell.
-abbrev pub inner : Value → Values
-inner (scalar s) = none
-inner (pair v w) = v ▸ w ▸ none
-inner (set s) = s
-
 -- A value's first cell as a number.
 abbrev firstOf : Value → ℕ
 firstOf v = tag v * cellSize + twos (payload v)
@@ -81,13 +75,6 @@ unfolding cells
 cells-inner (scalar s) = rw (append-nil (cell (scalar s)))
 cells-inner (pair v w) = rw (append-nil (cells w))
 cells-inner (set s) = refl
-
--- The first cell of a value in the arena.
-pub code-head : (v : Value) → code v ≡ ownCell v ∷ codes (inner v)
-unfolding code
-code-head (scalar s) = refl
-code-head (pair v w) = rw (append-nil (code w))
-code-head (set s) = refl
 
 number-code : (i : ℤ) → T (inRange i) → 1 * cellSize + excess i ≡ arenaCell (1 * cellSize + twos i)
 unfolding arenaCell twos excess
@@ -175,7 +162,7 @@ spread v vs rest = rw (cells-inner v, cellsOf-before (inner v) vs) (simp append-
 
 spread-code : (v : Value) (vs : Values) → Encodable v → codes (v ▸ vs) ≡ arenaCell (firstOf v) ∷ codes (inner v before vs)
 unfolding code
-spread-code v vs h = rw (code-head v, head-coded v h, codes-before (inner v) vs)
+spread-code v vs h = rw (code-inner v, head-coded v h, codes-before (inner v) vs)
 
 pub onward : {gs bs : List ℕ} {p : ℕ} {cs rest : List ℕ} (vs : Values) → CellsOf gs bs p cs rest vs → 0 < p → Onward gs bs p cs rest
 onward none h l = absurd (omega (arith, h .counted))

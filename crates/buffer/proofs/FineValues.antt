@@ -14,16 +14,16 @@ use Rattle.rules.specs.Fits.{typesOf, sharedTypes, inhabited, typed}
 use Rattle.rules.specs.Cells.{good, wellFormed, risingAll, weightLimit}
 use Rattle.laws.proofs.EndLaws.{T-true, T-false, T-and, T-leb, T-eqb}
 use Rattle.laws.proofs.CellsLaws.{weight-some, count-weights, good-wellFormed}
-use Rattle.arena.specs.Code.{cellSize, code, codes, Stands, ValueAt, ValuesAt, CellsFit, AllFit, SomeAt, EndsAt}
+use Rattle.arena.specs.Code.{cellSize, code, codes, ValueAt, ValuesAt, CellsFit, AllFit, SomeAt, EndsAt}
 use Rattle.arena.proofs.CodeLaws.{length-code}
 use Rattle.arena.proofs.FrontLaws.{single}
-use Rattle.arena.proofs.Standing.{stands-tail, _before_, codes-before, weights-before, fit-before}
+use Rattle.arena.proofs.Standing.{stands-tail, _before_, codes-before, weights-before, fit-before, ownCell, inner, code-inner, weight-inner, fit-inner}
 use Rattle.arena.proofs.ValueParts.{first-cell}
 use Rattle.fitting.proofs.Cells.{first-stands, members-stand, scalar-low}
 use Rattle.fitting.proofs.Sharing.{left-typed, right-typed}
 use Rattle.buffer.specs.Ordered.{ordered, orderedAll, inOrder}
 use Rattle.buffer.specs.Shared.{AllOf, AllTyped, TypedRow, SomeTypedRow, fineMembers, MembersFine, isFlat, setsEnd}
-use Rattle.buffer.proofs.Ahead.{inner, all-before, code-head}
+use Rattle.buffer.proofs.Ahead.{all-before}
 use Rattle.buffer.specs.Buffer.{scalarsGood, allGood}
 
 -- Values that are fine: the members of a set are where it is, and share a type.
@@ -87,22 +87,14 @@ record Left (s : List ℕ) (i end : ℕ) (ws : Values) : Type 0 where
   fits : AllFit ws
   ends : i + weights ws ≡ end
 
-inner-fits : (v : Value) → CellsFit v → AllFit (inner v) × (weight v ≡ 1 + weights (inner v))
-inner-fits (scalar s) h = (tt, refl)
-inner-fits (pair v w) h = ((h .0, (h .1, tt)), omega arith)
-inner-fits (set s) h = (h .1, refl)
-
 left-next : {s : List ℕ} {i end : ℕ} (ws : Values) → Left s i end ws → i < end → Left s (i + 1) end (next ws)
 unfolding code
 left-next none h l = absurd (omega (arith, h .ends))
-left-next {s} {i} (w ▸ ws) h l =
-    let g = inner-fits w (h .fits .0) in
-    record {
-      stands = rw (codes-before (inner w) ws)
-          (stands-tail s i _ (codes (inner w) ++ codes ws) (subst (λ (l : List ℕ). Stands s i (l ++ codes ws)) (code-head w) (h .stands)));
-      fits = fit-before (inner w) ws (g .0) (h .fits .1);
-      ends = omega (arith, weights-before (inner w) ws, g .1, h .ends);
-    }
+left-next {s} {i} (w ▸ ws) h l = record {
+  stands = rw (codes-before (inner w) ws) (stands-tail s i (ownCell w) (codes (inner w) ++ codes ws) (rw (code-inner w) at (h .stands)));
+  fits = fit-before (inner w) ws (fit-inner w (h .fits .0)) (h .fits .1);
+  ends = omega (arith, weights-before (inner w) ws, weight-inner w, h .ends);
+}
 
 -- Values whose first cell stands at j.
 module _ {s : List ℕ} {j end : ℕ} where

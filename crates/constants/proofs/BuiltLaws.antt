@@ -3,7 +3,7 @@ use Prim.Native.Nat.{ℕ, _≤_, _<_}
 use mathlib.Core.Bool.{Bool, true, false, not, _&&_, _||_, Bool·beq, true≢false, false≢true}
 use mathlib.Core.List.{List}
 use mathlib.Core.Option.{none as nothing}
-use mathlib.Core.Path.{_≡_, refl, sym, ap, _∙_}
+use mathlib.Core.Path.{_≡_, refl, sym, _∙_}
 use native.Mathlib.Omega.{arith}
 use native.Mathlib.Decide.{decLt}
 use lib.Dec.{T, eqb, leb}
@@ -13,7 +13,7 @@ use Rattle.rules.specs.Kinds.{kinds, kindOf}
 use Rattle.rules.specs.Tables.{tableOf, kindAt, nodeCount}
 use Rattle.laws.proofs.EndLaws.{T-allBelow}
 use Rattle.table.proofs.Least.{Passing}
-use Rattle.constants.specs.Built.{built, Builds, DecidesBuilds}
+use Rattle.constants.specs.Built.{built, DecidesBuilds}
 
 -- The codes of the kinds whose nodes do.
 abbrev builtCode : ℕ → Bool

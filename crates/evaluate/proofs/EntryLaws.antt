@@ -1,5 +1,5 @@
 -- From the bytes of a table and its values to the run at the root, and what each refusal before it reports.
-use Prim.Native.Nat.{ℕ, _+_, _-_, _*_, _≤_, _<_}
+use Prim.Native.Nat.{ℕ, _+_, _-_, _≤_, _<_}
 use mathlib.Core.Bool.{Bool, true}
 use mathlib.Core.List.{List}
 use mathlib.Core.Logic.{_≢_}
@@ -27,7 +27,7 @@ use Rattle.reading.specs.declared.Height.the-variants.{Refused as Unmeasured}
 use Rattle.reading.proofs.Promise.{unmeasured-refused}
 use Rattle.reading.specs.declared.Refusal.{Refusal}
 use Rattle.buffer.specs.declared.Loaded.{Loaded}
-use Rattle.buffer.specs.declared.Loaded.the-variants.{All, Refused as Lacking}
+use Rattle.buffer.specs.declared.Loaded.the-variants.{Refused as Lacking}
 use Rattle.buffer.specs.Loaded.{Bound, Loads, LoadReady}
 use Rattle.arena.specs.Code.{Same}
 use Rattle.buffer.specs.Buffer.{cellsAtMost}

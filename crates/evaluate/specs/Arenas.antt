@@ -1,7 +1,6 @@
 -- The arenas that an evaluation may be made in, and the room that it needs: a cell for each node's constant, one for identifiers without a value, the
 -- values' cells, and what the condition takes above them.
 use Prim.Native.Nat.{ℕ, _+_, _*_, _≤_, _<_}
-use mathlib.Core.Bool.{true}
 use mathlib.Core.List.{List}
 use mathlib.Core.Path.{_≡_}
 use lib.ListN.{length, getD}
