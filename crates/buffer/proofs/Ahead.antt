@@ -21,7 +21,8 @@ use Rattle.arena.specs.Code.{cellSize, excess, code, codes, partsOf}
 use Rattle.arena.proofs.CodeLaws.{length-codes}
 use Rattle.arena.proofs.Standing.{_before_, codes-before, count-before, ownCell, inner, code-inner}
 use Rattle.buffer.specs.Buffer.{cellFirst, firstCell, arenaCell, tagGood, cellGood, scalarsGood, allGood}
-use Rattle.buffer.specs.Shared.{AllOf}
+use Rattle.canonical.specs.Shared.{AllOf}
+use Rattle.canonical.proofs.FineValues.{all-before}
 use Rattle.buffer.proofs.CellAt.{first-right}
 use Rattle.rules.proofs.Basics.{and-of}
 
@@ -36,12 +37,6 @@ Held gs v = Encodable v × T (scalarsGood gs v)
 
 abbrev pub AllHeld : List ℕ → Values → Type 0
 AllHeld gs vs = AllOf (Held gs) vs
-
-pub all-before : (P : Value → Type 0) (vs ws : Values) → AllOf P (vs before ws) ↔ (AllOf P vs × AllOf P ws)
-all-before P none ws = (λ h. (tt, h), λ h. h .1)
-all-before P (v ▸ vs) ws =
-    let r = all-before P vs ws in
-    (λ h. let p = r .0 (h .1) in ((h .0, p .0), p .1), λ h. (h .0 .0, r .1 (h .0 .1, h .1)))
 
 held-all : (gs : List ℕ) (vs : Values) → AllHeld gs vs ↔ (Encodables vs × T (allGood gs vs))
 held-all gs none = (λ h. (tt, tt), λ h. tt)

@@ -1,8 +1,6 @@
 -- Laws of reading the values buffer.
 pub mod CellAt
 pub mod Ahead
+pub mod GoodValues
 pub mod Walk
-pub mod Members
-pub mod Neighbours
-pub mod FineValues
 pub mod Loading

@@ -21,11 +21,11 @@ use Rattle.arena.proofs.FrontLaws.{value-frame}
 use Rattle.arena.proofs.Standing.{same-refl, same-trans}
 use Rattle.arena.proofs.ValueParts.{ends-at}
 use Rattle.buffer.specs.Buffer.{cellsAtMost, ReadAt, Unread}
-use Rattle.buffer.specs.Ordered.{ordered, WholeValue}
-use Rattle.buffer.specs.Shared.{Fine}
+use Rattle.canonical.specs.Ordered.{ordered, WholeValue}
+use Rattle.canonical.specs.Shared.{Fine}
 use Rattle.buffer.specs.Loaded.{Entered, Bound}
 use Rattle.rules.proofs.Basics.{and-of}
-use Rattle.buffer.proofs.FineValues.{good-ordered, good-of}
+use Rattle.buffer.proofs.GoodValues.{good-ordered, good-of}
 use Rattle.buffer.proofs.Walk.{set-stands}
 
 -- One value.

@@ -20,7 +20,7 @@ use Rattle.arena.proofs.Standing.{stands-append, stands-frame, same-refl, same-
 use Rattle.buffer.specs.declared.Step.the-variants.{End}
 use Rattle.buffer.specs.Buffer.{firstCell, arenaCell, cellsAtMost, GoodCell, StepTakes, ReadAt}
 use Rattle.buffer.proofs.CellAt.{cell-held}
-use Rattle.buffer.proofs.FineValues.{good-scalars}
+use Rattle.buffer.proofs.GoodValues.{good-scalars}
 use Rattle.buffer.proofs.Ahead.{CellsOf, Ahead, onward, back, ahead-read, ahead-long}
 
 -- The entries of a slice of bytes.

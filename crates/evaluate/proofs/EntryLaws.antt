@@ -34,12 +34,12 @@ use Rattle.buffer.specs.Buffer.{cellsAtMost}
 use Rattle.constants.specs.Built.{Builds}
 use Rattle.constants.specs.Constants.{Constants, OnlyBelow}
 use Rattle.constants.proofs.ConstantLaws.{constants-frame}
-use Rattle.evaluators.proofs.NodeLaws.{sizes-small, node-tall, condition-cells}
+use Rattle.visits.proofs.NodeLaws.{sizes-small, node-tall, condition-cells}
 use Rattle.evaluate.specs.declared.Evaluation.{Evaluation}
-use Rattle.evaluators.specs.declared.Held.{Held}
-use Rattle.evaluators.specs.Answers.{HeldAs}
-use Rattle.evaluators.specs.Cycle.{conditionCells, expressionCells, Binds, NodeReady, truthAt, EvaluatesP}
-use Rattle.evaluators.specs.Nodes.{IsPred, entryPlace, FunctionEntry}
+use Rattle.visits.specs.declared.Held.{Held}
+use Rattle.visits.specs.Answers.{HeldAs}
+use Rattle.visits.specs.Cycle.{conditionCells, expressionCells, Binds, NodeReady, truthAt, EvaluatesP}
+use Rattle.visits.specs.Nodes.{IsPred, entryPlace, FunctionEntry}
 use Rattle.operations.specs.Good.{GoodAt, SomeGood, FunctionSeen, NewFirsts}
 use Rattle.arena.proofs.ValueParts.{some-inside}
 use Rattle.arena.proofs.FrontLaws.{value-some}

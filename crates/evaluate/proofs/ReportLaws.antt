@@ -6,9 +6,9 @@ use native.Mathlib.Omega.{arith}
 use Rattle.rules.specs.Ends.{done, refused}
 use Rattle.rules.specs.Runs.{Run}
 use Rattle.reading.specs.declared.Refusal.{Refusal}
-use Rattle.evaluators.specs.declared.Held.{Held}
-use Rattle.evaluators.specs.declared.Held.the-variants.{Truth, Refused}
-use Rattle.evaluators.specs.Answers.{EndsWith, HeldAs}
+use Rattle.visits.specs.declared.Held.{Held}
+use Rattle.visits.specs.declared.Held.the-variants.{Truth, Refused}
+use Rattle.visits.specs.Answers.{EndsWith, HeldAs}
 use Rattle.evaluate.specs.declared.Truth.{Truth as Decision}
 use Rattle.evaluate.specs.declared.Ending.the-variants.{Decided}
 use Rattle.evaluate.specs.declared.Evaluation.{Evaluation}

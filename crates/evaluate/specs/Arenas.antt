@@ -14,7 +14,7 @@ use Rattle.rules.specs.Evaluation.{run}
 use Rattle.reading.specs.Answers.{rootHeight}
 use Rattle.buffer.specs.Buffer.{cellsAtMost}
 use Rattle.constants.specs.Built.{Builds}
-use Rattle.evaluators.specs.Cycle.{conditionCells, Binds}
+use Rattle.visits.specs.Cycle.{conditionCells, Binds}
 use Rattle.evaluate.specs.declared.Evaluation.{Evaluation}
 use Rattle.evaluate.specs.Result.{Reported}
 

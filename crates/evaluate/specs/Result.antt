@@ -7,9 +7,9 @@ use Rattle.rules.specs.Ends.{End, done, refused}
 use Rattle.rules.specs.Runs.{Run}
 use Rattle.rules.specs.Evaluation.{evaluation}
 use Rattle.conforms.specs.Conforming.{conforming}
-use Rattle.evaluators.specs.declared.Held.{Held}
-use Rattle.evaluators.specs.declared.Held.the-variants.{Truth, Refused}
-use Rattle.evaluators.specs.Answers.{HeldAs}
+use Rattle.visits.specs.declared.Held.{Held}
+use Rattle.visits.specs.declared.Held.the-variants.{Truth, Refused}
+use Rattle.visits.specs.Answers.{HeldAs}
 use Rattle.evaluate.specs.declared.Truth.the-variants.{True, False}
 use Rattle.evaluate.specs.declared.Ending.{Ending}
 use Rattle.evaluate.specs.declared.Ending.the-variants.{Decided, Refused as Ended}

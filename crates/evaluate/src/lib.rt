@@ -14,9 +14,9 @@ ghost use Prim.Native.Nat.{ℕ};
 mod arenas;
 
 use buffer::Loaded;
-use evaluators::Held;
 use reading::Height;
 use reading::Refusal;
+use visits::Held;
 
 pub enum Truth {
     True,
@@ -110,9 +110,9 @@ fn mark(table: &[u8], s: &[u64], env: &mut [u32; 32])
     let count = table::identifiers(table);
     let mut x: usize = 0;
     while x < count {
-        let at = env[x] % evaluators::FUNCTION;
+        let at = env[x] % visits::FUNCTION;
         if operations::known_function(s, at as usize) {
-            env[x] = evaluators::FUNCTION + at;
+            env[x] = visits::FUNCTION + at;
         }
         x += 1;
     }

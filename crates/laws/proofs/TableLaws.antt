@@ -1,7 +1,7 @@
 -- Laws of Tables.antt and of `upward`: how many records a table has and where each stands in the bytes; the children of
 -- a right node are below it; height and free occurrence at a node, by those of its children; the root, where there is one.
 use Prim.Native.Nat.{ℕ, zero, suc, _+_, _*_, _≤_, _<_, max}
-use mathlib.Core.Bool.{Bool, true, false, not, _&&_, _||_}
+use mathlib.Core.Bool.{Bool, true, false, not, _&&_, _||_, cond}
 use mathlib.Core.List.{List, [], _∷_}
 use mathlib.Core.Option.{Option, none as nothing, some}
 use mathlib.Core.Path.{_≡_, refl, ap, ap₂, _∙_}
@@ -12,7 +12,7 @@ use Rattle.rules.specs.Kinds.{Kind, predicate, expression, isChild}
 use Rattle.rules.specs.Kinds.{Field, unused, child, use-of, binder-of, setNumber, elementNumber, anyWord, truthBit}
 use Rattle.rules.specs.Tables.{wordAt, wordsFrom, Node, nodeFrom, nodesFrom, Table, tableOf, nodeAt, kindAt, noNode}
 use Rattle.rules.specs.Tables.{givenCount, identifierCount, nodeCount, identifiersAt, nodesAt}
-use Rattle.rules.specs.Tables.{fieldsAt, fieldsIf, fieldWords, pick, held, Pred, predAt, lastNode, ofRoot, conditionOf}
+use Rattle.rules.specs.Tables.{fieldsAt, fieldsIf, fieldWords, keptIf, pick, held, Pred, predAt, lastNode, ofRoot, conditionOf}
 use Rattle.rules.specs.Reading.{occurrences, upward, tallest, heightStep, height}
 use Rattle.rules.specs.Reading.{occursIn, occursInAny, bindsHere, occursStep, occursFree}
 use Rattle.rules.specs.Readable.{FieldRight, FieldsRight, KindRight, NodeRight}
@@ -124,6 +124,11 @@ each-occurs P m (y ∷ ms) h o = go (eqb m y) refl (λ q. each-occurs P m ms (h 
 -- A child that occurs in a right node, by its number.
 pub child-below : (tb : Table) (n m : ℕ) → NodeRight tb n → 1 ≤ occurrences m (held isChild (nodeAt (tb .nodes) n)) → m < n
 child-below tb n m h o = each-occurs (λ m. m < n) m (held isChild (nodeAt (tb .nodes) n)) (held-below tb n h) o
+
+pub tallest-kept : (h : ℕ → ℕ) (b : Bool) (x : ℕ) (xs : List ℕ) → tallest h (keptIf b x xs) ≡ max (cond b (h x) 0) (tallest h xs)
+unfolding tallest
+tallest-kept h true x xs = refl
+tallest-kept h false x xs = omega arith
 
 pub tallest-below : (n : ℕ) (h k : ℕ → ℕ) → ((m : ℕ) → m < n → h m ≡ k m) → (ms : List ℕ) → Each (λ m. m < n) ms → tallest h ms ≡ tallest k ms
 unfolding tallest

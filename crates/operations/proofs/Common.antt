@@ -7,4 +7,4 @@ pub use Rattle.operations.proofs.GoodLaws.{good-fine, good-some, good-v
 pub use Rattle.operations.proofs.LeafLaws.{booleans-done, cell-element, cell-number, cell-truth, elements-done, elements-ready}
 pub use Rattle.operations.proofs.SingleLaws.{card-done, choice-none, choice-some, domain-done, one-last, one-of, one-unlike, power-done, range-done, ready-pairs, ready-set, ready-typed, ready-value, side-unlike, singleton-done}
 pub use Rattle.operations.proofs.TestLaws.{equal-told, member-ready, member-told, numbers-at-most, numbers-equal, numbers-unlike, subset-ready, subset-told, test-last, test-numbers, test-of, test-unlike}
-pub use Rattle.sets.proofs.MergedLaws.{diff-merged, inter-merged, union-merged}
+pub use Rattle.merging.proofs.MergedLaws.{diff-merged, inter-merged, union-merged}

@@ -4,7 +4,7 @@ use Rattle.operations.proofs.Base.{ℕ, zero, suc, _+_, _-_, _%_, _≤_
 use lib.Signed.{mag}
 use Rattle.operations.proofs.Terms.{whole, Value, set, Values, int, weight, Pattern, t̂, û, P̂, _×̂_, numᵖ, twoRule, Two, pairing, union, inter, diff, product, apply, plus, minus, interval, two, Given, gives, lacks, twoValue, cellSize, excess, code, CellsFit, SomeSet, SomeValue, Same, SomeRelation, Applies, ImageAt, FitTwo, Outcome, Within, Cell, Lacks, Sizes, GoodAt, weighed, twoGiven, ended, Gives, Operands, TwoReady, TwoDone, TwoOf, MergeDone, sumKind, Shifted, NumberDone}
 use Rattle.arena.proofs.Standing.{same-refl}
-use Rattle.sets.specs.Fronts.{Merges}
+use Rattle.merging.specs.Walks.{Merges}
 use Rattle.products.specs.Growing.{PutsPair, Intervals, Multiplies}
 use Rattle.operations.proofs.GoodLaws.{good-value, good-above, good-whole, good-inside}
 use Rattle.operations.proofs.OutcomeLaws.{Makes, makes-frame, makes-gives}

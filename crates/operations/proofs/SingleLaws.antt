@@ -5,9 +5,9 @@ use Rattle.operations.proofs.Terms.{Value, set, Values, none, _▸_, in
 use Rattle.arena.proofs.Standing.{same-refl}
 use Rattle.arena.proofs.ValueParts.{first-cell}
 use Rattle.products.specs.Growing.{Singles}
-use Rattle.products.specs.Parts.{Domains, Ranges}
-use Rattle.products.specs.Power.{Powers}
-use Rattle.products.proofs.PowerLaws.{members-count}
+use Rattle.parts.specs.Parts.{Domains, Ranges}
+use Rattle.powers.specs.Power.{Powers}
+use Rattle.powers.proofs.PowerLaws.{members-count}
 use Rattle.fitting.specs.Agree.{SomeTyped}
 use Rattle.fitting.proofs.Cells.{members-stand, first-stands}
 use Rattle.operations.proofs.GoodLaws.{good-value, good-typed-at}

@@ -12,7 +12,7 @@ unfoldable pub use Rattle.rules.specs.Operations.{elementsFrom, holds, leafValu
 pub use Rattle.rules.specs.Operations.{Env, setOf}
 unfoldable pub use Rattle.arena.specs.Code.{code, excess}
 pub use Rattle.arena.specs.Code.{AllPairs, CellsFit, Compared, FineSet, Made, Rises, Same, SetBelow, SomeAt, SomeRelation, SomeSet, SomeValue, ValueBelow, cellSize, orderCode}
-pub use Rattle.sets.specs.Pairs.{Applies, ImageAt, KnownFunction, newFirsts}
+pub use Rattle.functions.specs.Pairs.{Applies, ImageAt, KnownFunction, newFirsts}
 pub use Rattle.fitting.specs.Tests.{Both, FitOne, FitTwo}
 pub use Rattle.operations.specs.Good.{FunctionSeen, GoodAt, NewFirsts, Sizes, SomeGood}
 unfoldable pub use Rattle.operations.specs.Outcomes.{ended, oneGiven, tested, twoGiven}

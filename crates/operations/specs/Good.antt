@@ -8,8 +8,8 @@ use lib.ListN.{length, getD}
 use Rattle.rules.specs.Values.{Value, set, Values, members, weight}
 use Rattle.rules.specs.Cells.{good}
 use Rattle.arena.specs.Code.{ValueAt}
-use Rattle.sets.specs.Pairs.{newFirsts}
-pub use Rattle.sets.specs.Pairs.{KnownFunction}
+use Rattle.functions.specs.Pairs.{newFirsts}
+pub use Rattle.functions.specs.Pairs.{KnownFunction}
 
 -- The sizes of the given sets of a readable table.
 pub record Sizes (gs : List ℕ) : Type 0 where

@@ -3,7 +3,7 @@ use crate::Outcome;
 use crate::built;
 ghost use Prim.Native.Nat.{ℕ, _<_};
 ghost use Rattle.rules.specs.Kinds.{product, apply, interval};
-ghost use Rattle.sets.specs.Pairs.{KnownFunction};
+ghost use Rattle.functions.specs.Pairs.{KnownFunction};
 ghost use Rattle.operations.specs.Outcomes.{SomeOperands, TwoReady, TwoDone};
 ghost use Rattle.operations.specs.Parts.{MergeDone, sumKind, NumberDone};
 
@@ -23,7 +23,7 @@ pub fn merge(
     if !fitting::alike_sets(s, a, b) {
         return Outcome::Lacks(15);
     }
-    built(sets::merge(s, a, b, top, left, both, right))
+    built(merging::merge(s, a, b, top, left, both, right))
 }
 
 pub fn product(s: &mut [u64], a: usize, b: usize, top: usize) -> Outcome
@@ -44,7 +44,7 @@ pub fn apply(s: &[u64], a: usize, b: usize, known: bool) -> Outcome
     if !fitting::applies(s, a, b) {
         return Outcome::Lacks(15);
     }
-    let at = sets::image(s, a, b, known);
+    let at = functions::image(s, a, b, known);
     if at == 0 {
         return Outcome::Lacks(16);
     }

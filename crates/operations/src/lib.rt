@@ -3,7 +3,7 @@ ghost use mathlib.Core.Path.{_≡_};
 ghost use mathlib.Core.Bool.{true};
 ghost use Rattle.operations.specs.Outcomes.{ended, OneReady, OneOf, SomeOperands, TwoReady, TwoOf, IsLight, LightOf, TestOf, LeafReady, LeafDone};
 ghost use Rattle.operations.specs.Good.{SomeGood, FunctionSeen};
-ghost use Rattle.sets.specs.Pairs.{KnownFunction};
+ghost use Rattle.functions.specs.Pairs.{KnownFunction};
 
 mod double;
 pub mod leaves;
@@ -95,7 +95,7 @@ pub fn known_function(s: &[u64], a: usize) -> bool
     if !fitting::is_relation(s, a) {
         return false;
     }
-    sets::flat_mapping(s, a)
+    functions::flat_mapping(s, a)
 }
 
 // Kinds 28 to 32, 37 and 39 to 41: two operands, at a and b.

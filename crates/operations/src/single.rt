@@ -14,7 +14,7 @@ pub fn power(s: &mut [u64], a: usize, top: usize) -> Outcome
     if !fitting::is_set(s, a) {
         return Outcome::Lacks(15);
     }
-    built(products::power(s, a, top))
+    built(powers::power(s, a, top))
 }
 
 // 35 and 36: the left parts of a set of pairs, or (if right) the right parts.
@@ -26,9 +26,9 @@ pub fn side(s: &mut [u64], a: usize, top: usize, right: bool) -> Outcome
         return Outcome::Lacks(15);
     }
     if right {
-        return built(products::range(s, a, top));
+        return built(parts::range(s, a, top));
     }
-    built(products::domain(s, a, top))
+    built(parts::domain(s, a, top))
 }
 
 pub fn card(s: &[u64], a: usize) -> Outcome

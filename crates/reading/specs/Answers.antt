@@ -2,8 +2,9 @@
 use Prim.Native.Nat.{ℕ}
 use mathlib.Core.List.{List}
 use Rattle.rules.specs.Ends.{End, done, refused, _>>=_, requireAll}
-use Rattle.rules.specs.Tables.{Table, tableOf, givenCount, identifierCount, nodeCount, ofRoot}
-use Rattle.rules.specs.Reading.{sizeGood, bindGood, nodeGood, parentGood, heightGood, binding, height, reading}
+use Rattle.rules.specs.Tables.{Table, tableOf, givenCount, identifierCount, nodeCount}
+use Rattle.rules.specs.Reading.{sizeGood, bindGood, nodeGood, parentGood, heightGood, binding, reading}
+pub use Rattle.trees.specs.Arrays.{rootHeight}
 use Rattle.reading.specs.declared.Height.{Height}
 use Rattle.reading.specs.declared.Height.the-variants.{Root, Refused as Unmeasured}
 use Rattle.reading.specs.declared.Reading.{Reading}
@@ -35,10 +36,6 @@ readingRecords bs = do
 abbrev pub heightOf : Height → End ℕ
 heightOf (Root h) = done h
 heightOf (Unmeasured r) = refused (r .number) (r .place)
-
--- 0 where there is no root.
-abbrev pub rootHeight : Table → ℕ
-rootHeight t = ofRoot (t .nodes) 0 (height (t .nodes))
 
 -- The root's height of a table that passes.
 abbrev pub measured : End Table → End ℕ

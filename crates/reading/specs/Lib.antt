@@ -1,4 +1,2 @@
 -- What the functions of this crate compute, in the terms of the rules.
 pub mod Answers
-pub mod Arrays
-pub mod Words

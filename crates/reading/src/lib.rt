@@ -1,15 +1,9 @@
 // Reading a table: refusals 1 to 9 of document 01.
 ghost use mathlib.Core.Path.{_≡_};
-ghost use lib.ListN.{length};
-ghost use Rattle.rules.specs.Tables.{tableOf, nodeCount};
 ghost use Rattle.rules.specs.Readable.{Header};
 ghost use Rattle.rules.specs.Reading.{reading};
 ghost use Rattle.table.specs.Layout.{Fielded};
-ghost use Rattle.reading.specs.Answers.{readingOf, readingRecords, readingTree, heightOf, rootHeight, measured, readingHeight};
-ghost use Rattle.reading.specs.Arrays.{Heights};
-
-mod binding;
-mod tree;
+ghost use Rattle.reading.specs.Answers.{readingOf, readingRecords, readingTree, heightOf, measured, readingHeight};
 
 // A refusal's number and place. The number is a usize, small as it is: with a u8 the compiler copies the answers that hold it byte by byte.
 pub struct Refusal {
@@ -34,29 +28,17 @@ fn refused(number: usize, place: usize) -> Height
     Height::Refused(Refusal { number, place })
 }
 
-// The height of the root by those of all nodes, 0 where there is none.
-fn root_height(table: &[u8], heights: &[u8]) -> usize
-    requires { ⌜ Header (now table) × (length (now heights) ≡ 512) × Heights (now table) (nodeCount (now table)) (now heights) ⌝ }
-    ensures { λ r. ⌜ r ≡ rootHeight (tableOf (now (table .entry))) ⌝ }
-{
-    let count = table::nodes(table);
-    if count == 0 {
-        return 0;
-    }
-    table::wide(heights[count - 1])
-}
-
 // Refusals 7 to 9 of a table whose records are right, or the root's height.
 fn read_tree(table: &[u8], at: usize) -> Height
     requires { ⌜ Fielded (now table) at ⌝ }
     ensures { λ r. ⌜ heightOf r ≡ measured (readingTree (now (table .entry))) ⌝ }
 {
-    let n = tree::first_bad_parent(table, at);
+    let n = trees::first_bad_parent(table, at);
     if n < table::nodes(table) {
         return refused(7, n);
     }
     let mut heights = [0u8; 512];
-    let m = tree::set_heights(table, at, &mut heights);
+    let m = trees::set_heights(table, at, &mut heights);
     if m < table::nodes(table) {
         return refused(8, m);
     }
@@ -64,7 +46,7 @@ fn read_tree(table: &[u8], at: usize) -> Height
     if x < table::identifiers(table) {
         return refused(9, x);
     }
-    let h = root_height(table, &heights);
+    let h = trees::root_height(table, &heights);
     Height::Root(h)
 }
 

@@ -1,6 +1,6 @@
 -- Walks over the members that are left of a set, one by one (`by-front`): the search for a value, and where a run of members ends.
 use Rattle.sets.proofs.Base.{ℕ, _+_, _-_, _≤_, _<_, Bool, true, false, List, _∷_, inl, inr, _≡_, refl, sym, subst, arith, ltb, ltb→lt, lt→ltb, length, boolByte}
-use Rattle.sets.proofs.Terms.{Value, scalar, pair, set, Values, none, _▸_, members, weight, weights, order, isIn, ValueAt, CellsFit, orderCode, SomeAt, EndsAt, Compared, ValueBelow, Front, keyOf, Keyed, Member, MemberOrNone}
+use Rattle.sets.proofs.Terms.{Value, scalar, pair, set, Values, none, _▸_, members, weight, order, isIn, ValueAt, CellsFit, orderCode, SomeAt, EndsAt, Compared, ValueBelow, Front, keyOf, Keyed, Member, MemberOrNone}
 use Rattle.rules.proofs.Basics.{bool-eq}
 use Rattle.laws.proofs.OrderLaws.{Small, order-eq, order-refl, order-before, before-irrefl}
 use Rattle.laws.proofs.SetOrder.{All, Before, all-imp}
@@ -8,7 +8,7 @@ use Rattle.laws.proofs.Membership.{In, all-in, isIn-right}
 use Rattle.arena.proofs.CodeLaws.{fits-small}
 use Rattle.arena.proofs.ValueParts.{left-stands}
 use Rattle.arena.proofs.FrontLaws.{rises-rising, fit-small, front-value, front-below, front-next, code-less, code-equal}
-use Rattle.sets.proofs.PairLaws.{Keeps, pairs-small, less-all}
+use Rattle.sets.proofs.KeyLaws.{Keeps, pairs-small, less-all}
 
 module _ {s : List ℕ} {top at n : ℕ} (P : Values → Type 0) where
   -- What is shown of a first member and the rest is shown of members, if there are any; and what is shown of none, if there are none.
@@ -124,20 +124,3 @@ sought-in {v = v} {vs} {r} (inl m) l p q =
 sought-in {v = v} {vs} {r} (inr n) l p q =
     bool-eq (ltb 0 r) (isIn v vs) (λ t. absurd (omega (arith, n .0, ltb→lt 0 r t)))
     (λ t. absurd (all-in (λ w. w ≡ v → ⊥) v vs (n .1) (isIn-right v vs p q .0 t) refl))
-
--- Walking a run of members: e is where it ends.
-pub record Running (s : List ℕ) (top i left e : ℕ) : Type 0 where
-  pub rest : Values
-  pub front : Front s top i left rest
-  pub ends : i + weights rest ≡ e
-
-module _ {s : List ℕ} {top i left e : ℕ} (h : Running s top i left e) where
-  pub running-next : {r : ℕ} → 0 < left → EndsAt s i r → Running s top r (left - 1) e
-  running-next {r} l ends =
-      by-front (λ ws. i + weights ws ≡ e → Running s top r (left - 1) e)
-      (λ w ws f q. let x : r ≡ i + weight w = ends w (front-value s top i left w ws f) (f .fits .0) in
-      record { rest = ws; front = front-next s top i left w ws f r (left - 1) x (omega arith); ends = omega arith })
-      (h .front) l (h .ends)
-
-  pub running-end : left ≤ 0 → i ≡ e
-  running-end l = no-front (λ ws. i + weights ws ≡ e → i ≡ e) (λ q. omega arith) (h .front) l (h .ends)

@@ -6,7 +6,7 @@ use Rattle.laws.proofs.OrderLaws.{flip, order-eq, order-flip, order-before}
 use Rattle.laws.proofs.SetOrder.{All, Before}
 use Rattle.arena.proofs.CodeLaws.{fits-small}
 use Rattle.arena.proofs.FrontLaws.{rises-rising, front-value, front-below, front-next, front-at, code-less, code-equal, code-greater, front-start}
-use Rattle.sets.proofs.MergedLaws.{after-order, before-all, isIn-turn, isIn-before}
+use Rattle.sets.proofs.MemberLaws.{after-order, before-all, isIn-turn, isIn-before}
 use Rattle.sets.proofs.SearchLaws.{by-front, no-front, by-fronts}
 use Rattle.rules.proofs.Basics.{absurd01}
 use Rattle.arena.proofs.EvenLaws.{cell-less, cell-equal, cell-greater}

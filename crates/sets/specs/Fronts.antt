@@ -1,20 +1,16 @@
 -- Walks over the members of sets in the arena, and what the operations answer.
-use Prim.Native.Nat.{ℕ, _+_, _-_, _≤_, _<_, Ordering, Ordering·lt, Ordering·eq, Ordering·gt}
-use mathlib.Core.Bool.{Bool, true, false, cond}
-use mathlib.Core.List.{List, [], _++_}
+use Prim.Native.Nat.{ℕ, _+_, _≤_, _<_, Ordering, Ordering·lt, Ordering·eq, Ordering·gt}
+use mathlib.Core.Bool.{Bool, true, false}
+use mathlib.Core.List.{List}
 use mathlib.Core.Logic.{_⊎_}
 use mathlib.Core.Path.{_≡_}
 use lib.ListN.{length, getD}
-use Rattle.rules.specs.Values.{Value, Values, _▸_, members, values, count, weight, weights, order}
-use Rattle.rules.specs.Operations.{left, isIn, allIn, setOf}
+use Rattle.rules.specs.Values.{Value, Values, _▸_, members, weight, weights, order}
+use Rattle.rules.specs.Operations.{left, isIn, allIn}
 use Rattle.rules.specs.Safety.{All}
 use Rattle.laws.proofs.Membership.{In}
-use Rattle.arena.specs.Code.{ValuesAt, SetBelow, ValueBelow, SomeValue, Same, partsOf, Made, Front, AllPairs}
+use Rattle.arena.specs.Code.{SetBelow, ValueBelow, SomeValue, partsOf, Front, AllPairs}
 use Rattle.sets.specs.declared.Turn.{Turn}
-use Rattle.sets.specs.declared.Out.{Out}
-use Rattle.sets.specs.declared.Walk.{Walk}
-use Rattle.sets.specs.declared.Rest.{Rest}
-use Rattle.sets.specs.Merged.{merged}
 
 -- What is held against a value that is sought: a member, or its first part.
 abbrev pub keyOf : Bool → Value → Value
@@ -113,100 +109,11 @@ pub record TwoFronts (s : List ℕ) (a m b n : ℕ) : Type 0 where
   pub onLeft : Front s top a m (first ▸ rest)
   pub onRight : Front s top b n (first′ ▸ rest′)
 
--- A run of members from `at` on.
-abbrev pub SomeFront : List ℕ → ℕ → ℕ → Type 0
-SomeFront s at n = (top : ℕ) × (vs : Values) × Front s top at n vs
-
 -- No parts follow the n cells from `at` on: each is a whole value.
 pub record Cells (s : List ℕ) (at n : ℕ) : Type 0 where
   pub inside : at + n ≤ length s
   pub each : (i : ℕ) → i < n → partsOf (getD s (at + i) 0) ≡ 0
 
--- r is where it ends.
+-- r is where n members from `at` on end.
 abbrev pub RunEnds : List ℕ → ℕ → ℕ → ℕ → Type 0
 RunEnds s at n r = (top : ℕ) (vs : Values) → Front s top at n vs → r ≡ at + weights vs
-
--- The members zs, n in number, have been built from top + 1 up to `to`.
-pub record BuiltTo (s : List ℕ) (top to n : ℕ) (zs : List Value) : Type 0 where
-  pub stands : ValuesAt s (top + 1) (values zs)
-  pub ends : to ≡ top + 1 + weights (values zs)
-  pub counted : n ≡ count (values zs)
-
--- The run from `from` to `end`, of k members, is put behind what has been built, if kept.
-pub record PutPre (s : List ℕ) (from end k : ℕ) (o : Out) : Type 0 where
-  pub forward : from ≤ end
-  pub behind : end ≤ o .to
-  pub room : o .to + (end - from) ≤ length s
-  pub few : o .count + k ≤ 4294967296
-
-pub record PutBehind (keep : Bool) (s : List ℕ) (from end k : ℕ) (o : Out) (s′ : List ℕ) (r : Out) : Type 0 where
-  pub frame : Same (o .to) s s′
-  pub near : r .to ≤ o .to + (end - from)
-  pub even : end - from ≡ k → r .to + o .count ≡ o .to + r .count
-  pub on : (top : ℕ) (zs : List Value) (vs : Values) → BuiltTo s top (o .to) (o .count) zs → ValuesAt s from vs → end ≡ from + weights vs → k ≡ count vs →
-      BuiltTo s′ top (r .to) (r .count) (zs ++ cond keep (members vs) [])
-
--- The rest of a set, of one cell each or not.
-abbrev pub RestThere : List ℕ → ℕ → ℕ → Bool → Type 0
-RestThere s at n cells = SomeFront s at n × (cells ≡ true → Cells s at n)
-
--- A walk over two sets that merges them into the members `whole`: those built, and those that are left to merge.
-pub record Merging (l b r : Bool) (s : List ℕ) (top : ℕ) (w : Walk) (whole : List Value) : Type 0 where
-  pub left : Values
-  pub right : Values
-  pub done : List Value
-  pub onLeft : Front s top (w .a) (w .m) left
-  pub onRight : Front s top (w .b) (w .n) right
-  pub built : BuiltTo s top (w .to) (w .count) done
-  pub all : whole ≡ done ++ merged l b r (members left) (members right)
-
--- One turn of it.
-pub record StepPre (l b r : Bool) (s : List ℕ) (w : Walk) : Type 0 where
-  pub top : ℕ
-  pub whole : List Value
-  pub merging : Merging l b r s top w whole
-  pub room : w .to + 256 ≤ length s
-  pub near : w .to ≤ top + 256
-  pub moreLeft : 0 < w .m
-  pub moreRight : 0 < w .n
-
-pub record Stepped (l b r : Bool) (s : List ℕ) (w : Walk) (s′ : List ℕ) (w′ : Walk) : Type 0 where
-  pub frame : Same (w .to) s s′
-  pub near : w′ .to ≤ w .to + 256
-  pub fewer : w′ .m + w′ .n < w .m + w .n
-  pub on : (top : ℕ) (whole : List Value) → Merging l b r s top w whole → Merging l b r s′ top w′ whole
-
--- What is kept of what is left at the end of a walk, in the left set or in the right.
-pub record RestOf (w : Walk) (l r : Bool) (q : Rest) : Type 0 where
-  pub left : 0 < w .m → (q .at ≡ w .a) × (q .n ≡ cond l (w .m) 0)
-  pub right : w .m ≡ 0 → (q .at ≡ w .b) × (q .n ≡ cond r (w .n) 0)
-
--- The end of a merge: the rest is put behind what has been built, and the set's cell before it.
-pub record EndPre (l r : Bool) (s : List ℕ) (w : Walk) (top : ℕ) (cells : Bool) : Type 0 where
-  pub both : Bool
-  pub whole : List Value
-  pub merging : Merging l both r s top w whole
-  pub room : top + 514 ≤ length s
-  pub over : (w .m ≡ 0) ⊎ ((w .n ≡ 0) ⊎ (top + 256 < w .to))
-  pub thin : cells ≡ true → Cells s (w .a) (w .m) × Cells s (w .b) (w .n)
-
-abbrev pub Ended : Bool → Bool → List ℕ → Walk → ℕ → List ℕ → ℕ → Type 0
-Ended l r s w top s′ k = (b : Bool) (whole : List Value) → Merging l b r s top w whole → Made top s s′ (setOf whole) k
-
--- The result of a merge of two runs, and of two sets.
-pub record RunsBelow (s : List ℕ) (a m b n top : ℕ) : Type 0 where
-  pub runs : TwoRuns s a m b n top
-  pub room : top + 514 ≤ length s
-
-abbrev pub RunsMerge : Bool → Bool → Bool → List ℕ → ℕ → ℕ → ℕ → ℕ → ℕ → List ℕ → ℕ → Type 0
-RunsMerge l e r s a m b n top s′ k =
-    (vs ws : Values) → Front s top a m vs → Front s top b n ws → Made top s s′ (setOf (merged l e r (members vs) (members ws))) k
-
--- A merge on its way: the runs are unchanged below `top`.
-pub record Walking (l e r : Bool) (s₀ : List ℕ) (a m b n top : ℕ) (s : List ℕ) (w : Walk) : Type 0 where
-  pub frame : Same top s₀ s
-  pub on : (vs ws : Values) → Front s₀ top a m vs → Front s₀ top b n ws → Merging l e r s top w (merged l e r (members vs) (members ws))
-
-abbrev pub Merges : Bool → Bool → Bool → List ℕ → ℕ → ℕ → ℕ → List ℕ → ℕ → Type 0
-Merges l e r s a b top s′ k =
-    (vs ws : Values) → SetBelow s top a vs → SetBelow s top b ws → Made top s s′ (setOf (merged l e r (members vs) (members ws))) k

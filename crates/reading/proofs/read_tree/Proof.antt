@@ -8,7 +8,7 @@ use Rattle.rules.specs.Ends.{done}
 use Rattle.rules.specs.Tables.{nodeCount}
 use Rattle.table.proofs.Least.{below}
 use Rattle.reading.specs.Answers.{readingTree}
-use Rattle.reading.specs.Arrays.{Heights}
+use Rattle.trees.specs.Arrays.{Heights}
 use Rattle.reading.proofs.Stages.{stage-refused, stage-passed}
 use Rattle.reading.proofs.read_tree.Statement.{statement}
 use Rattle.reading.proofs.read_tree.Tie as tie

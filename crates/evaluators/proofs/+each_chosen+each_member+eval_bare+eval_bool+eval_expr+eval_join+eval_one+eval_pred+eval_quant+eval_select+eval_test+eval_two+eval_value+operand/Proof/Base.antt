@@ -1,8 +1,8 @@
 -- The members of the cycle with their measures: the node number falls, or it stays and what is left to do at the node falls. Members with the
 -- same arguments share their kinds: those of `eval_pred` take a node, those of `eval_join` the code of its kind too. And the terms and laws that
 -- several members' proofs use.
-pub use Rattle.evaluators.proofs.Terms.{ℕ, _-_, refl, sym, _∙_, arith, lit<, inl, inr, ⊎-elim, Visited, StandingTwo, eqb-false, now}
-use Rattle.evaluators.proofs.Terms.{_+_, _*_}
+pub use Rattle.visits.proofs.Terms.{ℕ, _-_, refl, sym, _∙_, arith, lit<, inl, inr, ⊎-elim, Visited, StandingTwo, eqb-false, now}
+use Rattle.visits.proofs.Terms.{_+_, _*_}
 use borrow.Fn.Kinds.{In, Out, RK}
 pub use Rattle.fitting.proofs.Cycle.{Over, OverLoop}
 use Rattle.fitting.proofs.Cycle.{Member, member}
@@ -25,11 +25,11 @@ use Rattle.evaluators.proofs.each_member.Kinds as every
 use Rattle.evaluators.proofs.eval_pred.Kinds as node
 use Rattle.evaluators.proofs.eval_join.Kinds as kind
 use Rattle.evaluators.proofs.eval_expr.Kinds as formed
-pub use Rattle.evaluators.proofs.SafeLaws.{ready-node, binder-node, entry-below, entry-scaled, byte-small}
-pub use Rattle.evaluators.proofs.NodeLaws.{child-asks, held-as, formed-as, stop-is, settle-asks, settle-tells}
-pub use Rattle.evaluators.proofs.BodyLaws.{member-low, Ran, member-at}
-pub use Rattle.evaluators.proofs.RangeLaws.{Ranged, range-as, range-child, range-good, range-low}
-pub use Rattle.evaluators.proofs.DispatchLaws.{counted}
+pub use Rattle.visits.proofs.SafeLaws.{ready-node, binder-node, entry-below, entry-scaled, byte-small}
+pub use Rattle.visits.proofs.NodeLaws.{child-asks, held-as, formed-as, stop-is, settle-asks, settle-tells}
+pub use Rattle.visits.proofs.BodyLaws.{member-low, Ran, member-at}
+pub use Rattle.visits.proofs.RangeLaws.{Ranged, range-as, range-child, range-good, range-low}
+pub use Rattle.visits.proofs.DispatchLaws.{counted}
 
 -- By the shape of the arguments; k is what is left to do at the node.
 abbrev of-node : (k : ℕ) (r : RK 3) → In 3 node.ps → Out 3 node.ps r → Member 3 node.ps r

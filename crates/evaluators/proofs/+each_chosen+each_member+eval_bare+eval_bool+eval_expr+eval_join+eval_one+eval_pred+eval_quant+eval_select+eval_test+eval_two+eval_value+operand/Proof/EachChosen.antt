@@ -1,14 +1,14 @@
 -- `each_chosen`: the body at one member after the other, each that it holds at copied behind those before, and the set's own cell last.
 -- Landmarks: what was lent, the words of the fields, the turn, the answer of the body, and where the member ends.
 use Rattle.evaluators.proofs.+each_chosen+each_member+eval_bare+eval_bool+eval_expr+eval_join+eval_one+eval_pred+eval_quant+eval_select+eval_test+eval_two+eval_value+operand.Lts-each_chosen as lts
-use Rattle.evaluators.proofs.choose.Reads as choose
+use Rattle.visits.proofs.choose.Reads as choose
 use Rattle.arena.proofs.end_of.Reads as end-of
 use Rattle.table.proofs.node_field.Reads as field
-use Rattle.evaluators.proofs.stop_of.Reads as stop
+use Rattle.visits.proofs.stop_of.Reads as stop
 use Rattle.evaluators.proofs.+each_chosen+each_member+eval_bare+eval_bool+eval_expr+eval_join+eval_one+eval_pred+eval_quant+eval_select+eval_test+eval_two+eval_value+operand.Proof.Base.{OverLoop, each-chosen, eval-pred, ℕ, _∙_, arith, lit<, binder-node, entry-below, entry-scaled, byte-small, member-low, Ran, member-at}
-use Rattle.evaluators.proofs.Terms.{fits-under}
+use Rattle.visits.proofs.Terms.{fits-under}
 use mir.Syntax.{w64}
-use Rattle.evaluators.proofs.ChosenLaws.{Choosing, choosing-start, choosing-near, choosing-end, choosing-low, choosing-asks, choosing-refused, choosing-choose, choosing-next}
+use Rattle.visits.proofs.ChosenLaws.{Choosing, choosing-start, choosing-near, choosing-end, choosing-low, choosing-asks, choosing-refused, choosing-choose, choosing-next}
 
 abbrev Inv : lts.InvT-loop
 Inv table env s₀ top node from count left x body inner₀ at₀ more₀ n₀ to₀ chosen₀ s inner at more n to chosen =

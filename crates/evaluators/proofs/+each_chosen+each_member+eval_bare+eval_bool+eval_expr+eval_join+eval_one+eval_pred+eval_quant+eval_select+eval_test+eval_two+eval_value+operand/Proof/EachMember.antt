@@ -4,7 +4,7 @@ use Rattle.evaluators.proofs.+each_chosen+each_member+eval_bare+eval_bo
 use Rattle.arena.proofs.end_of.Reads as end-of
 use Rattle.table.proofs.node_field.Reads as field
 use Rattle.evaluators.proofs.+each_chosen+each_member+eval_bare+eval_bool+eval_expr+eval_join+eval_one+eval_pred+eval_quant+eval_select+eval_test+eval_two+eval_value+operand.Proof.Base.{OverLoop, each-member, eval-pred, ℕ, refl, _∙_, arith, lit<, binder-node, entry-below, entry-scaled, member-low, Ran, member-at}
-use Rattle.evaluators.proofs.QuantLaws.{compared, refusal-ends, Turning, turning-start, member-asks, member-ends, turning-on, members-done}
+use Rattle.visits.proofs.QuantLaws.{compared, refusal-ends, Turning, turning-start, member-asks, member-ends, turning-on, members-done}
 
 abbrev Inv : lts.InvT-loop
 Inv table env s₀ top all node from count left x body inner₀ at₀ more₀ n₀ s inner at more n =

@@ -2,9 +2,9 @@
 -- by no condition. Landmarks: what was lent, the kind, and that it is none of the first arms'.
 use Rattle.evaluators.proofs.+each_chosen+each_member+eval_bare+eval_bool+eval_expr+eval_join+eval_one+eval_pred+eval_quant+eval_select+eval_test+eval_two+eval_value+operand.Lts-eval_bare as lts
 use Rattle.table.proofs.node_kind.Reads as kind
-use Rattle.evaluators.proofs.refused.Reads as refused
+use Rattle.visits.proofs.refused.Reads as refused
 use Rattle.evaluators.proofs.+each_chosen+each_member+eval_bare+eval_bool+eval_expr+eval_join+eval_one+eval_pred+eval_quant+eval_select+eval_test+eval_two+eval_value+operand.Proof.Base.{Over, eval-bare, eval-join as join, eval-quant as quant, eval-test as test, ℕ, refl, sym, _∙_, ⊎-elim, arith, now, Visited, ready-node, held-as, counted}
-use Rattle.evaluators.proofs.DispatchLaws.{spent-pred, predicate-code, test-sort, quant-sort, join-kind}
+use Rattle.visits.proofs.DispatchLaws.{spent-pred, predicate-code, test-sort, quant-sort, join-kind}
 
 module _ (t : ℕ) where
   abbrev claims : lts.Claims

@@ -3,10 +3,10 @@
 use Rattle.evaluators.proofs.+each_chosen+each_member+eval_bare+eval_bool+eval_expr+eval_join+eval_one+eval_pred+eval_quant+eval_select+eval_test+eval_two+eval_value+operand.Lts-eval_bool as lts
 use Rattle.table.proofs.node_field.Reads as field
 use Rattle.products.proofs.put_cell.Reads as put-cell
-use Rattle.evaluators.proofs.stop_of.Reads as stop-of
+use Rattle.visits.proofs.stop_of.Reads as stop-of
 use Rattle.evaluators.proofs.+each_chosen+each_member+eval_bare+eval_bool+eval_expr+eval_join+eval_one+eval_pred+eval_quant+eval_select+eval_test+eval_two+eval_value+operand.Proof.Base.{Over, eval-bool, eval-pred, ℕ, refl, _∙_, arith, lit<, ready-node, byte-small, child-asks, held-as, formed-as, stop-is}
-use Rattle.evaluators.proofs.SafeLaws.{cell-room}
-use Rattle.evaluators.proofs.FormLaws.{bool-child, bool-builds, bool-fails, bool-evaluates}
+use Rattle.visits.proofs.SafeLaws.{cell-room}
+use Rattle.visits.proofs.FormLaws.{bool-child, bool-builds, bool-fails, bool-evaluates}
 
 module _ (t : ℕ) where
   abbrev claims : lts.Claims

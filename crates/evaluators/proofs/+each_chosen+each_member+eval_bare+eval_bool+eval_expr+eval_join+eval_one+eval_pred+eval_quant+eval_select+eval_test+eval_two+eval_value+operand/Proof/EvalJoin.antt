@@ -1,11 +1,11 @@
 -- `eval_join`: the first operand, and where it does not decide the second. Landmarks: what was lent, the words of the fields, the answers
 -- for the operands, and whether the first decides.
 use Rattle.evaluators.proofs.+each_chosen+each_member+eval_bare+eval_bool+eval_expr+eval_join+eval_one+eval_pred+eval_quant+eval_select+eval_test+eval_two+eval_value+operand.Lts-eval_join as lts
-use Rattle.evaluators.proofs.decides.Reads as decides
-use Rattle.evaluators.proofs.joined.Reads as joined
+use Rattle.visits.proofs.decides.Reads as decides
+use Rattle.visits.proofs.joined.Reads as joined
 use Rattle.table.proofs.node_field.Reads as field
 use Rattle.evaluators.proofs.+each_chosen+each_member+eval_bare+eval_bool+eval_expr+eval_join+eval_one+eval_pred+eval_quant+eval_select+eval_test+eval_two+eval_value+operand.Proof.Base.{Over, eval-join, eval-pred, ℕ, arith, _∙_, lit<, ready-node, child-asks}
-use Rattle.evaluators.proofs.JoinLaws.{join-child, join-stays, join-short, join-asks, join-stays-2, join-both}
+use Rattle.visits.proofs.JoinLaws.{join-child, join-stays, join-short, join-asks, join-stays-2, join-both}
 
 module _ (t : ℕ) where
   abbrev claims : lts.Claims

@@ -3,9 +3,9 @@
 use Rattle.evaluators.proofs.+each_chosen+each_member+eval_bare+eval_bool+eval_expr+eval_join+eval_one+eval_pred+eval_quant+eval_select+eval_test+eval_two+eval_value+operand.Lts-eval_one as lts
 use Rattle.table.proofs.node_field.Reads as field
 use Rattle.operations.proofs.one.Reads as one
-use Rattle.evaluators.proofs.settle.Reads as settle
+use Rattle.visits.proofs.settle.Reads as settle
 use Rattle.evaluators.proofs.+each_chosen+each_member+eval_bare+eval_bool+eval_expr+eval_join+eval_one+eval_pred+eval_quant+eval_select+eval_test+eval_two+eval_value+operand.Proof.Base.{Over, eval-one, operand, ℕ, refl, sym, _∙_, arith, lit<, ready-node, child-asks, formed-as, settle-asks, settle-tells}
-use Rattle.evaluators.proofs.FormLaws.{one-child, one-fails, one-ready, one-operated}
+use Rattle.visits.proofs.FormLaws.{one-child, one-fails, one-ready, one-operated}
 
 module _ (t : ℕ) where
   abbrev claims : lts.Claims

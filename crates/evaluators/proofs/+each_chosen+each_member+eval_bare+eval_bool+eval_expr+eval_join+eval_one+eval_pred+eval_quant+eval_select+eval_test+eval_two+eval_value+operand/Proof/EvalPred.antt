@@ -1,10 +1,10 @@
 -- `eval_pred`: the answer for the condition below the negations, turned round where their number is odd. Landmarks: what was lent, and the
 -- condition reached.
 use Rattle.evaluators.proofs.+each_chosen+each_member+eval_bare+eval_bool+eval_expr+eval_join+eval_one+eval_pred+eval_quant+eval_select+eval_test+eval_two+eval_value+operand.Lts-eval_pred as lts
-use Rattle.evaluators.proofs.strip.Reads as strip
-use Rattle.evaluators.proofs.turn.Reads as turn
+use Rattle.visits.proofs.strip.Reads as strip
+use Rattle.visits.proofs.turn.Reads as turn
 use Rattle.evaluators.proofs.+each_chosen+each_member+eval_bare+eval_bool+eval_expr+eval_join+eval_one+eval_pred+eval_quant+eval_select+eval_test+eval_two+eval_value+operand.Proof.Base.{Over, eval-bare, eval-pred, ℕ, arith}
-use Rattle.evaluators.proofs.BareLaws.{bare-ready, bare-tells}
+use Rattle.visits.proofs.BareLaws.{bare-ready, bare-tells}
 
 module _ (t : ℕ) where
   abbrev claims : lts.Claims

@@ -2,12 +2,12 @@
 -- range, and its members.
 use Rattle.evaluators.proofs.+each_chosen+each_member+eval_bare+eval_bool+eval_expr+eval_join+eval_one+eval_pred+eval_quant+eval_select+eval_test+eval_two+eval_value+operand.Lts-eval_quant as lts
 use Rattle.table.proofs.node_field.Reads as field
-use Rattle.evaluators.proofs.range_of.Reads as range
-use Rattle.evaluators.proofs.refusal_of.Reads as refusal
-use Rattle.evaluators.proofs.refused.Reads as refused
+use Rattle.visits.proofs.range_of.Reads as range
+use Rattle.visits.proofs.refusal_of.Reads as refusal
+use Rattle.visits.proofs.refused.Reads as refused
 use Rattle.evaluators.proofs.+each_chosen+each_member+eval_bare+eval_bool+eval_expr+eval_join+eval_one+eval_pred+eval_quant+eval_select+eval_test+eval_two+eval_value+operand.Proof.Base.{Over, each-member, eval-quant, operand, ℕ, refl, sym, _∙_, arith, lit<, now, ready-node, child-asks, held-as, formed-as, Ranged, range-as, range-child, range-good, range-low}
-use Rattle.evaluators.proofs.Terms.{quant}
-use Rattle.evaluators.proofs.QuantLaws.{quant-binder, quant-refused, quant-unlike, quant-asks, quant-done}
+use Rattle.visits.proofs.Terms.{quant}
+use Rattle.visits.proofs.QuantLaws.{quant-binder, quant-refused, quant-unlike, quant-asks, quant-done}
 
 module _ (t : ℕ) where
   abbrev claims : lts.Claims

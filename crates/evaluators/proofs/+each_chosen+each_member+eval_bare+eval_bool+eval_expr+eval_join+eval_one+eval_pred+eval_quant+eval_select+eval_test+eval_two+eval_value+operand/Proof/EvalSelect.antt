@@ -2,12 +2,12 @@
 -- the field, the answer for the range, its members, and those chosen.
 use Rattle.evaluators.proofs.+each_chosen+each_member+eval_bare+eval_bool+eval_expr+eval_join+eval_one+eval_pred+eval_quant+eval_select+eval_test+eval_two+eval_value+operand.Lts-eval_select as lts
 use Rattle.table.proofs.node_field.Reads as field
-use Rattle.evaluators.proofs.range_of.Reads as range
-use Rattle.evaluators.proofs.settle.Reads as settle
-use Rattle.evaluators.proofs.stopped.Reads as stopped
+use Rattle.visits.proofs.range_of.Reads as range
+use Rattle.visits.proofs.settle.Reads as settle
+use Rattle.visits.proofs.stopped.Reads as stopped
 use Rattle.evaluators.proofs.+each_chosen+each_member+eval_bare+eval_bool+eval_expr+eval_join+eval_one+eval_pred+eval_quant+eval_select+eval_test+eval_two+eval_value+operand.Proof.Base.{Over, each-chosen, eval-select, operand, ℕ, refl, sym, _∙_, arith, lit<, now, ready-node, child-asks, formed-as, settle-asks, settle-tells, Ranged, range-as, range-child, range-good, range-low}
-use Rattle.evaluators.proofs.Terms.{comprehension}
-use Rattle.evaluators.proofs.FormLaws.{select-binder, select-fails, select-unlike, select-asks, chosen-fails, select-operated}
+use Rattle.visits.proofs.Terms.{comprehension}
+use Rattle.visits.proofs.FormLaws.{select-binder, select-fails, select-unlike, select-asks, chosen-fails, select-operated}
 
 module _ (t : ℕ) where
   abbrev claims : lts.Claims

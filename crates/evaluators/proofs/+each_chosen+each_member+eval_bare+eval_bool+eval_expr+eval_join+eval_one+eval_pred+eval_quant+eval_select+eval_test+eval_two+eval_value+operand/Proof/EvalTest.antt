@@ -2,11 +2,11 @@
 -- lent, the words of the fields, the answers for the operands, and the test.
 use Rattle.evaluators.proofs.+each_chosen+each_member+eval_bare+eval_bool+eval_expr+eval_join+eval_one+eval_pred+eval_quant+eval_select+eval_test+eval_two+eval_value+operand.Lts-eval_test as lts
 use Rattle.table.proofs.node_field.Reads as field
-use Rattle.evaluators.proofs.refusal_of.Reads as refusal
-use Rattle.evaluators.proofs.refused.Reads as refused
+use Rattle.visits.proofs.refusal_of.Reads as refusal
+use Rattle.visits.proofs.refused.Reads as refused
 use Rattle.operations.proofs.test.Reads as test
 use Rattle.evaluators.proofs.+each_chosen+each_member+eval_bare+eval_bool+eval_expr+eval_join+eval_one+eval_pred+eval_quant+eval_select+eval_test+eval_two+eval_value+operand.Proof.Base.{Over, eval-test, operand, ℕ, _-_, refl, sym, _∙_, lit<, now, ready-node, held-as}
-use Rattle.evaluators.proofs.BothLaws.{EvaluatesBoth, left-asks, right-asks, both-stops, both-stops-2, both-formed, operands-ready, test-fields, test-stops, test-unlike, test-truth}
+use Rattle.visits.proofs.BothLaws.{EvaluatesBoth, left-asks, right-asks, both-stops, both-stops-2, both-formed, operands-ready, test-fields, test-stops, test-unlike, test-truth}
 
 module _ (t : ℕ) where
   abbrev claims : lts.Claims

@@ -2,11 +2,11 @@
 -- was lent, the words of the fields, the answers for the operands, and the operation.
 use Rattle.evaluators.proofs.+each_chosen+each_member+eval_bare+eval_bool+eval_expr+eval_join+eval_one+eval_pred+eval_quant+eval_select+eval_test+eval_two+eval_value+operand.Lts-eval_two as lts
 use Rattle.table.proofs.node_field.Reads as field
-use Rattle.evaluators.proofs.settle.Reads as settle
+use Rattle.visits.proofs.settle.Reads as settle
 use Rattle.operations.proofs.two.Reads as two
 use Rattle.evaluators.proofs.+each_chosen+each_member+eval_bare+eval_bool+eval_expr+eval_join+eval_one+eval_pred+eval_quant+eval_select+eval_test+eval_two+eval_value+operand.Proof.Base.{Over, eval-two, operand, ℕ, _-_, _∙_, lit<, now, ready-node, settle-asks, settle-tells}
-use Rattle.evaluators.proofs.BothLaws.{EvaluatesBoth, left-asks, right-asks, both-stops, both-stops-2, both-formed}
-use Rattle.evaluators.proofs.FormLaws.{two-fields, two-ready, two-fails, two-operated}
+use Rattle.visits.proofs.BothLaws.{EvaluatesBoth, left-asks, right-asks, both-stops, both-stops-2, both-formed}
+use Rattle.visits.proofs.FormLaws.{two-fields, two-ready, two-fails, two-operated}
 
 module _ (t : ℕ) where
   abbrev claims : lts.Claims

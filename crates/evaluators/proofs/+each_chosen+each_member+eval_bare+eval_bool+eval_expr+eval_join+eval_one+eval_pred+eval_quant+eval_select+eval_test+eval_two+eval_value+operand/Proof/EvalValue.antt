@@ -2,16 +2,16 @@
 -- code that the arm tells; the last arm is met by no expression. In `m = .. .match .rest`, `m .1` is that the code is neither 20 nor 26, `m .0 .1`
 -- neither 21 nor 42, and so on back to 25.
 use Rattle.evaluators.proofs.+each_chosen+each_member+eval_bare+eval_bool+eval_expr+eval_join+eval_one+eval_pred+eval_quant+eval_select+eval_test+eval_two+eval_value+operand.Lts-eval_value as lts
-use Rattle.evaluators.proofs.eval_leaf.Reads as eval-leaf
-use Rattle.evaluators.proofs.standing.Reads as standing
-use Rattle.evaluators.proofs.standing_two.Reads as two
+use Rattle.visits.proofs.eval_leaf.Reads as eval-leaf
+use Rattle.visits.proofs.standing.Reads as standing
+use Rattle.visits.proofs.standing_two.Reads as two
 use Rattle.operations.proofs.light.Reads as light
-use Rattle.evaluators.proofs.settle.Reads as settle
+use Rattle.visits.proofs.settle.Reads as settle
 use Rattle.table.proofs.node_kind.Reads as kind
-use Rattle.evaluators.proofs.stopped.Reads as stopped
+use Rattle.visits.proofs.stopped.Reads as stopped
 use Rattle.evaluators.proofs.+each_chosen+each_member+eval_bare+eval_bool+eval_expr+eval_join+eval_one+eval_pred+eval_quant+eval_select+eval_test+eval_two+eval_value+operand.Proof.Base.{Over, eval-bool, eval-one, eval-select, eval-two, eval-value, ℕ, refl, sym, ⊎-elim, inl, inr, arith, now, Visited, ready-node, formed-as, settle-asks, settle-tells, counted, StandingTwo}
-use Rattle.evaluators.proofs.FormLaws.{light-asks, light-operated}
-use Rattle.evaluators.proofs.DispatchLaws.{spent-expr, visited-as, expression-code, one-keys, one-range, two-key, two-low, two-high, no-other, leaf-node, leaf-answer, standing-code, place-ready, unbuilt-ready, standing-answer}
+use Rattle.visits.proofs.FormLaws.{light-asks, light-operated}
+use Rattle.visits.proofs.DispatchLaws.{spent-expr, visited-as, expression-code, one-keys, one-range, two-key, two-low, two-high, no-other, leaf-node, leaf-answer, standing-code, place-ready, unbuilt-ready, standing-answer}
 
 module _ (t : ℕ) where
   abbrev claims : lts.Claims

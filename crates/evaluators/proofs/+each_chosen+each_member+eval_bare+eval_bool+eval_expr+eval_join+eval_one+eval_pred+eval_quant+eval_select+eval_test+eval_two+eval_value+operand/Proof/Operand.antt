@@ -1,8 +1,8 @@
 -- `operand`: an identifier's value where a visit is left, and otherwise what `eval_expr` answers. Landmarks: what was lent, and the place.
 use Rattle.evaluators.proofs.+each_chosen+each_member+eval_bare+eval_bool+eval_expr+eval_join+eval_one+eval_pred+eval_quant+eval_select+eval_test+eval_two+eval_value+operand.Lts-operand as lts
-use Rattle.evaluators.proofs.leaf_place.Reads as leaf-place
+use Rattle.visits.proofs.leaf_place.Reads as leaf-place
 use Rattle.evaluators.proofs.+each_chosen+each_member+eval_bare+eval_bool+eval_expr+eval_join+eval_one+eval_pred+eval_quant+eval_select+eval_test+eval_two+eval_value+operand.Proof.Base.{Over, eval-expr, operand, ℕ, refl, arith, eqb-false}
-use Rattle.evaluators.proofs.DispatchLaws.{place-ready, placed-answer}
+use Rattle.visits.proofs.DispatchLaws.{place-ready, placed-answer}
 
 module _ (t : ℕ) where
   abbrev claims : lts.Claims

@@ -1,0 +1,2 @@
+-- The identifiers of a table as words.
+pub mod Words

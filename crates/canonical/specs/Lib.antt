@@ -1,0 +1,3 @@
+-- Values whose sets are in order and have a type.
+pub mod Ordered
+pub mod Shared

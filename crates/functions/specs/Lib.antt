@@ -1,0 +1,2 @@
+-- Relations in the arena.
+pub mod Pairs

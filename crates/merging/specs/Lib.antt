@@ -1,0 +1,4 @@
+-- Sets merged in the arena.
+pub mod Merged
+pub mod Walks
+pub mod RowMerges

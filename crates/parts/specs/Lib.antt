@@ -1,0 +1,2 @@
+-- Domain and range in the arena.
+pub mod Parts

@@ -1,0 +1,2 @@
+-- Power sets in the arena.
+pub mod Power

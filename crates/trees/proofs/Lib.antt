@@ -1,0 +1,3 @@
+-- Laws of the tree of a table's nodes.
+pub mod Counting
+pub mod Heights

@@ -1,0 +1,2 @@
+-- The tree of a table's nodes.
+pub mod Arrays
