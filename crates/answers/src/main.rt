@@ -5,11 +5,11 @@
 // 1,048,576 are taken, more than any right one has. What ends the batch early is its last line: `long` for a longer one,
 // `cut` for an input that ends inside a case, `unknown` for another first word.
 use checker::Checked;
-use evaluate::Ending;
-use evaluate::Truth;
 use libc::STDIN_FILENO;
 use libc::STDOUT_FILENO;
 use reading::Refusal;
+use reports::Ending;
+use reports::Truth;
 ghost use Prim.Native.Nat.{_≤_, _<_};
 ghost use mathlib.Core.Path.{_≡_};
 ghost use lib.ListN.{length};

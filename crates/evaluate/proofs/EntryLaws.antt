@@ -35,7 +35,7 @@ use Rattle.constants.specs.Built.{Builds}
 use Rattle.constants.specs.Constants.{Constants, OnlyBelow}
 use Rattle.constants.proofs.ConstantLaws.{constants-frame}
 use Rattle.visits.proofs.NodeLaws.{sizes-small, node-tall, condition-cells}
-use Rattle.evaluate.specs.declared.Evaluation.{Evaluation}
+use Rattle.reports.specs.declared.Evaluation.{Evaluation}
 use Rattle.visits.specs.declared.Held.{Held}
 use Rattle.visits.specs.Answers.{HeldAs}
 use Rattle.visits.specs.Cycle.{conditionCells, expressionCells, Binds, NodeReady, truthAt, EvaluatesP}
@@ -43,9 +43,9 @@ use Rattle.visits.specs.Nodes.{IsPred, entryPlace, FunctionEntry}
 use Rattle.operations.specs.Good.{GoodAt, SomeGood, FunctionSeen, NewFirsts}
 use Rattle.arena.proofs.ValueParts.{some-inside}
 use Rattle.arena.proofs.FrontLaws.{value-some}
-use Rattle.evaluate.specs.Result.{endingOf, RefusedAt, Reported, OfBudget, Reports}
+use Rattle.reports.specs.Result.{endingOf, RefusedAt, Reported, OfBudget, Reports}
 use Rattle.evaluate.specs.Arenas.{Needs, ArenaReady, RoomFor, Measured, RootReady, RootReported, Rebinds}
-use Rattle.evaluate.proofs.ReportLaws.{held-within}
+use Rattle.reports.proofs.ReportLaws.{held-within}
 
 -- The arena has room for the constants, and then for the values.
 pub nodes-inside : {bs buffer s : List ℕ} → ArenaReady bs buffer s → nodeCount bs ≤ length s

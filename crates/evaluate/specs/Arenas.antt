@@ -15,8 +15,8 @@ use Rattle.reading.specs.Answers.{rootHeight}
 use Rattle.buffer.specs.Buffer.{cellsAtMost}
 use Rattle.constants.specs.Built.{Builds}
 use Rattle.visits.specs.Cycle.{conditionCells, Binds}
-use Rattle.evaluate.specs.declared.Evaluation.{Evaluation}
-use Rattle.evaluate.specs.Result.{Reported}
+use Rattle.reports.specs.declared.Evaluation.{Evaluation}
+use Rattle.reports.specs.Result.{Reported}
 
 -- What the root takes, which is a condition, where any node builds a value.
 abbrev pub rootCells : List ℕ → ℕ

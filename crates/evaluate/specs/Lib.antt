@@ -1,3 +1,3 @@
 -- Evaluate: what it reports, and the arenas.
-pub mod Result
+pub mod Judged
 pub mod Arenas

@@ -1,7 +1,7 @@
 // Arenas of seven sizes, so that a call on a small table does not pay for a large one.
 use crate::GuardedRun;
 use crate::evaluate_in;
-ghost use Rattle.evaluate.specs.Result.{Judged};
+ghost use Rattle.evaluate.specs.Judged.{Judged};
 ghost use Rattle.evaluate.specs.Arenas.{Needs, largestArena, Measured};
 
 fn least(table: &[u8], values: &[u8], sheet: &[u8], budget: u32) -> GuardedRun

@@ -3,10 +3,9 @@ ghost use mathlib.Core.Path.{_≡_};
 ghost use mathlib.Core.Bool.{false};
 ghost use Rattle.rules.specs.Tables.{tableOf};
 ghost use Rattle.rules.specs.Readable.{Readable};
-ghost use Rattle.rules.specs.Ends.{done};
 ghost use Rattle.rules.specs.Evaluation.{evaluation};
-ghost use Rattle.evaluate.specs.declared.Ending.the-variants.{Decided};
-ghost use Rattle.evaluate.specs.Result.{endingOf, RefusedAt, Judged, OfBudget, Reports};
+ghost use Rattle.reports.specs.Result.{endingOf, RefusedAt};
+ghost use Rattle.evaluate.specs.Judged.{Judged};
 ghost use Rattle.reading.specs.Answers.{rootHeight};
 ghost use Rattle.evaluate.specs.Arenas.{ArenaReady, RoomFor, RootReady, RootReported, Rebinds};
 ghost use Prim.Native.Nat.{ℕ};
@@ -16,24 +15,9 @@ mod arenas;
 use buffer::Loaded;
 use reading::Height;
 use reading::Refusal;
-use visits::Held;
-
-pub enum Truth {
-    True,
-    False,
-}
-
-// How an evaluation ends: with the condition's truth, or with a refusal's number and place.
-pub enum Ending {
-    Decided(Truth),
-    Refused(Refusal),
-}
-
-// The end, and the visits made.
-pub struct Evaluation {
-    pub ending: Ending,
-    pub steps: u32,
-}
+use reports::Ending;
+use reports::Evaluation;
+use reports::Truth;
 
 // An evaluation, and whether the values have the types that a sheet gives to the identifiers.
 pub struct GuardedRun {
@@ -41,41 +25,12 @@ pub struct GuardedRun {
     pub conforms: bool,
 }
 
-fn truth_of(yes: bool) -> Truth
-    ensures { λ r. ⌜ endingOf (Decided r) ≡ done yes ⌝ }
-{
-    if yes { Truth::True } else { Truth::False }
-}
-
-fn refused(refusal: Refusal, steps: u32) -> Evaluation
-    ensures { λ r. ⌜ RefusedAt (refusal .number) (refusal .place) steps r ⌝ }
-{
-    Evaluation {
-        ending: Ending::Refused(refusal),
-        steps: steps,
-    }
-}
-
-// The visits made are those that the budget no longer has.
-fn ended(held: Held, budget: u32) -> Evaluation
-    requires { ⌜ OfBudget budget held ⌝ }
-    ensures { λ r. ⌜ Reports budget held r ⌝ }
-{
-    match held {
-        Held::Truth { yes, left } => Evaluation {
-            ending: Ending::Decided(truth_of(yes)),
-            steps: budget - left,
-        },
-        Held::Refused { refusal, left } => refused(refusal, budget - left),
-    }
-}
-
 // 14 at an identifier.
 fn unloaded(x: usize) -> GuardedRun
     ensures { λ r. ⌜ RefusedAt 14 x 0 (r .evaluation) × (r .conforms ≡ false) ⌝ }
 {
     GuardedRun {
-        evaluation: refused(
+        evaluation: reports::refused(
             Refusal {
                 number: 14,
                 place: x,
@@ -99,7 +54,7 @@ fn evaluate_at(table: &[u8], env: &[u32; 32], s: &mut [u64], top: usize, budget:
         };
     }
     let held = evaluators::eval_pred(table, env, s, top, count - 1, budget);
-    ended(held, budget)
+    reports::ended(held, budget)
 }
 
 // Marks the values that are seen to be functions, so that an application need not ask it anew at each visit.
@@ -184,7 +139,7 @@ pub fn evaluate(table: &[u8], values: &[u8], budget: u32) -> Evaluation
 {
     let height = reading::read_height(table);
     match height {
-        Height::Refused(r) => refused(r, 0),
+        Height::Refused(r) => reports::refused(r, 0),
         Height::Root(h) => {
             // No sheet: whether the values conform is not asked.
             let run = evaluate_sized(table, values, &table[..0], budget, h);

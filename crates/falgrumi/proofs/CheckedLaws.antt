@@ -19,7 +19,8 @@ use Rattle.typing.specs.Model.{verdict}
 use Rattle.conforms.specs.Conforming.{conforming}
 use Rattle.conforms.proofs.ConformingLaws.{conforming-right}
 use Rattle.falgrumi.specs.Guarantee.{Report, checkedEvaluation, TellsGuarantee}
-use Rattle.falgrumi.specs.Answers.{InByte, reportedEnd}
+use Rattle.reports.specs.Told.{InByte}
+use Rattle.falgrumi.specs.Answers.{reportedEnd}
 use Rattle.falgrumi.proofs.Demand.{guarantee, accepted-fits}
 use Rattle.falgrumi.proofs.EndNumbers.{NumberFrom, verdict-numbers, accepted-numbers, verdict-byte, evaluation-byte}
 

@@ -13,7 +13,7 @@ use Rattle.laws.proofs.EndLaws.{refuses-imp}
 use Rattle.laws.proofs.RefusalLaws.{verdict-refuses, evaluation-refuses, readable-refuses}
 use Rattle.typing.specs.Model.{verdict}
 use Rattle.typing.proofs.VerdictRight.{verdict-right}
-use Rattle.falgrumi.specs.Answers.{InByte}
+use Rattle.reports.specs.Told.{InByte}
 
 -- An answer, or a refusal whose number is from lo to hi.
 abbrev pub NumberFrom : {A : Type 0} → ℕ → ℕ → End A → Type 0

@@ -13,7 +13,7 @@ use Rattle.rules.specs.Evaluation.{evaluation}
 use Rattle.rules.specs.Safety.{EndsSafely, Any, All}
 use Rattle.conforms.specs.Conforming.{HasWritten, Conforming, conforming}
 use Rattle.typing.specs.Model.{verdict}
-use Rattle.evaluate.specs.Result.{endingOf}
+use Rattle.reports.specs.Result.{endingOf}
 use Rattle.falgrumi.specs.declared.Guarded.{Guarded}
 use Rattle.falgrumi.specs.declared.Guarded.the-variants.{Refused, Evaluated}
 

@@ -1,12 +1,11 @@
 // The public library, for C and Rust.
 use checker::Checked;
-use evaluate::Ending;
-use evaluate::Evaluation;
 use evaluate::GuardedRun;
-use evaluate::Truth;
 use reading::Height;
 use reading::Refusal;
-ghost use Prim.Native.Nat.{_<_};
+use reports::Ending;
+use reports::Evaluation;
+use reports::Truth;
 ghost use mathlib.Core.Path.{_≡_};
 ghost use lib.ListN.{length};
 ghost use Rattle.rules.specs.Values.{bit};
@@ -16,18 +15,10 @@ ghost use Rattle.rules.specs.Verdict.{sheetAfter};
 ghost use Rattle.typing.specs.Model.{verdict};
 ghost use Rattle.rules.specs.Evaluation.{evaluation};
 ghost use Rattle.reading.specs.Answers.{rootHeight};
-ghost use Rattle.evaluate.specs.Result.{endingOf};
 ghost use Rattle.conforms.specs.Conforming.{conforming};
 ghost use Rattle.falgrumi.specs.Guarantee.{checkedEvaluation, guardedOf};
-ghost use Rattle.falgrumi.specs.Answers.{byteOf, InByte, TellsEnd, TellsRun, TellsReport};
-
-// A refusal's number as a byte: none is over 19.
-fn number_byte(number: usize) -> u8
-    requires { ⌜ number < 256 ⌝ }
-    ensures { λ r. ⌜ r ≡ number ⌝ }
-{
-    number as u8
-}
+ghost use Rattle.reports.specs.Told.{TellsEnd, TellsRun};
+ghost use Rattle.falgrumi.specs.Answers.{TellsReport};
 
 // Check: the refusal's number, 0 where the table is accepted; its place goes to `place`.
 #[no_mangle]
@@ -45,18 +36,8 @@ pub extern "C" fn falgrumi_check(table: &[u8], sheet: &mut [u8], place: &mut u64
         }
         Checked::Refused(r) => {
             *place = r.place as u64;
-            number_byte(r.number)
+            reports::number_byte(r.number)
         }
-    }
-}
-
-// 1 for true, 0 for false.
-fn truth_byte(t: Truth) -> u8
-    ensures { λ r. ⌜ r ≡ byteOf t ⌝ }
-{
-    match t {
-        Truth::True => 1,
-        Truth::False => 0,
     }
 }
 
@@ -64,27 +45,6 @@ fn bool_byte(b: bool) -> u8
     ensures { λ r. ⌜ r ≡ bit b ⌝ }
 {
     if b { 1 } else { 0 }
-}
-
-// Answers the number of an evaluation's refusal, 0 where there is none, and writes the rest.
-fn tell(e: Evaluation, truth: &mut u8, place: &mut u64, steps: &mut u32) -> u8
-    requires { ⌜ InByte (endingOf (e .ending)) ⌝ }
-    ensures { λ r. ⌜ TellsRun (endingOf (e .ending)) (e .steps) r (now (truth .exit)) (now (place .exit)) (now (steps .exit)) ⌝ }
-{
-    *steps = e.steps;
-    let ending = e.ending;
-    match ending {
-        Ending::Decided(t) => {
-            *truth = truth_byte(t);
-            *place = 0;
-            0
-        }
-        Ending::Refused(x) => {
-            *truth = 0;
-            *place = x.place as u64;
-            number_byte(x.number)
-        }
-    }
 }
 
 // Evaluate: the refusal's number, 0 where there is none. Its place goes to `place`, the condition's truth to `truth`, the
@@ -104,7 +64,7 @@ pub extern "C" fn falgrumi_evaluate(
         ⌝ }
 {
     let e = evaluate::evaluate(table, values, budget);
-    tell(e, truth, place, steps)
+    reports::tell(e, truth, place, steps)
 }
 
 // Whether the values give each free identifier a value of the type in its row of the sheet.
@@ -181,12 +141,12 @@ pub extern "C" fn falgrumi_checked_evaluate(
                 ending: Ending::Refused(r),
                 steps: 0,
             };
-            tell(e, truth, place, steps)
+            reports::tell(e, truth, place, steps)
         }
         Guarded::Evaluated(g) => {
             *conforms = bool_byte(g.conforms);
             let e = g.evaluation;
-            tell(e, truth, place, steps)
+            reports::tell(e, truth, place, steps)
         }
     }
 }

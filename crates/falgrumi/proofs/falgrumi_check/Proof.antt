@@ -8,9 +8,10 @@ use borrow.Author.Needs.{needs}
 use Rattle.rules.specs.Ends.{End, done}
 use Rattle.typing.specs.Model.{verdict}
 use Rattle.checker.specs.Answers.{answerOf}
-use Rattle.falgrumi.specs.Answers.{TellsEnd}
+use Rattle.reports.specs.Told.{TellsEnd}
 use Rattle.falgrumi.proofs.EndNumbers.{verdict-byte}
-use Rattle.falgrumi.proofs.Numbers.{answered-told, told-byte}
+use Rattle.falgrumi.proofs.Numbers.{answered-told}
+use Rattle.reports.proofs.ToldLaws.{told-byte}
 use Rattle.falgrumi.proofs.falgrumi_check.Statement.{statement}
 use Rattle.falgrumi.proofs.falgrumi_check.Tie as tie
 

@@ -1,8 +1,8 @@
 -- `falgrumi_evaluate`: the end and the steps of `evaluate`, as numbers. Landmark: the evaluation.
 use mathlib.Core.Path.{sym, subst}
-use Rattle.falgrumi.specs.Answers.{InByte}
+use Rattle.reports.specs.Told.{InByte}
 use Rattle.falgrumi.proofs.EndNumbers.{evaluation-byte}
-use Rattle.falgrumi.proofs.Numbers.{run-told}
+use Rattle.reports.proofs.ToldLaws.{run-told}
 use borrow.Author.Needs.{needs}
 use Rattle.falgrumi.proofs.falgrumi_evaluate.Statement.{statement}
 use Rattle.falgrumi.proofs.falgrumi_evaluate.Tie as tie

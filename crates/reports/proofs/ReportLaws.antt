@@ -9,10 +9,10 @@ use Rattle.reading.specs.declared.Refusal.{Refusal}
 use Rattle.visits.specs.declared.Held.{Held}
 use Rattle.visits.specs.declared.Held.the-variants.{Truth, Refused}
 use Rattle.visits.specs.Answers.{EndsWith, HeldAs}
-use Rattle.evaluate.specs.declared.Truth.{Truth as Decision}
-use Rattle.evaluate.specs.declared.Ending.the-variants.{Decided}
-use Rattle.evaluate.specs.declared.Evaluation.{Evaluation}
-use Rattle.evaluate.specs.Result.{endingOf, RefusedAt, OfBudget, Reports}
+use Rattle.reports.specs.declared.Truth.{Truth as Decision}
+use Rattle.reports.specs.declared.Ending.the-variants.{Decided}
+use Rattle.reports.specs.declared.Evaluation.{Evaluation}
+use Rattle.reports.specs.Result.{endingOf, RefusedAt, OfBudget, Reports}
 
 -- What an answer has left is of the budget.
 pub held-within : (x : Run Bool) (budget : ℕ) (held : Held) → HeldAs x budget held → OfBudget budget held

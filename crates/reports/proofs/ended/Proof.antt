@@ -1,8 +1,8 @@
 -- `ended`: what is held is what the run ends with, and the visits made are what the budget has no more.
 use native.Mathlib.Omega.{arith}
-use Rattle.evaluate.proofs.ReportLaws.{truth-within, refused-within, decided-reports, refused-reports}
-use Rattle.evaluate.proofs.ended.Statement.{statement}
-use Rattle.evaluate.proofs.ended.Tie as tie
+use Rattle.reports.proofs.ReportLaws.{truth-within, refused-within, decided-reports, refused-reports}
+use Rattle.reports.proofs.ended.Statement.{statement}
+use Rattle.reports.proofs.ended.Tie as tie
 
 enum-known-held : tie.Need-enum-known-held
 enum-known-held c = c .match .keys1

@@ -1,8 +1,8 @@
 -- `truth_of`
 use mathlib.Core.Path.{ap, sym}
 use Rattle.rules.specs.Ends.{done}
-use Rattle.evaluate.proofs.truth_of.Statement.{statement}
-use Rattle.evaluate.proofs.truth_of.Tie as tie
+use Rattle.reports.proofs.truth_of.Statement.{statement}
+use Rattle.reports.proofs.truth_of.Tie as tie
 
 returns : tie.Need-returns
 returns c = ap done (sym (c .if1 .taken))

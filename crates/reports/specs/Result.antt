@@ -1,20 +1,16 @@
 -- What an evaluation reports, in the terms of document 01.
 use Prim.Native.Nat.{ℕ, _≤_}
 use mathlib.Core.Bool.{Bool, true, false}
-use mathlib.Core.List.{List}
 use mathlib.Core.Path.{_≡_}
 use Rattle.rules.specs.Ends.{End, done, refused}
 use Rattle.rules.specs.Runs.{Run}
-use Rattle.rules.specs.Evaluation.{evaluation}
-use Rattle.conforms.specs.Conforming.{conforming}
 use Rattle.visits.specs.declared.Held.{Held}
 use Rattle.visits.specs.declared.Held.the-variants.{Truth, Refused}
 use Rattle.visits.specs.Answers.{HeldAs}
-use Rattle.evaluate.specs.declared.Truth.the-variants.{True, False}
-use Rattle.evaluate.specs.declared.Ending.{Ending}
-use Rattle.evaluate.specs.declared.Ending.the-variants.{Decided, Refused as Ended}
-use Rattle.evaluate.specs.declared.Evaluation.{Evaluation}
-use Rattle.evaluate.specs.declared.GuardedRun.{GuardedRun}
+use Rattle.reports.specs.declared.Truth.the-variants.{True, False}
+use Rattle.reports.specs.declared.Ending.{Ending}
+use Rattle.reports.specs.declared.Ending.the-variants.{Decided, Refused as Ended}
+use Rattle.reports.specs.declared.Evaluation.{Evaluation}
 
 abbrev pub endingOf : Ending → End Bool
 endingOf (Decided True) = done true
@@ -30,11 +26,6 @@ pub record RefusedAt (number place steps : ℕ) (r : Evaluation) : Type 0 where
 pub record Reported (x : Run Bool) (r : Evaluation) : Type 0 where
   pub ending : endingOf (r .ending) ≡ x .end
   pub spent : r .steps ≡ x .steps
-
--- The report of an evaluation, and whether the values conform to the sheet.
-pub record Judged (bs values sheet : List ℕ) (budget : ℕ) (r : GuardedRun) : Type 0 where
-  pub reported : Reported (evaluation bs values budget) (r .evaluation)
-  pub conforms : r .conforms ≡ conforming bs sheet values
 
 -- What is left is of the budget.
 abbrev pub OfBudget : ℕ → Held → Type 0

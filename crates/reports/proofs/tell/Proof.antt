@@ -1,12 +1,12 @@
 -- `tell`: an evaluation's end and steps, as numbers, by the form of its end.
 use mathlib.Core.Path.{subst}
-use Rattle.evaluate.specs.declared.Ending.{Ending}
-use Rattle.evaluate.specs.Result.{endingOf}
-use Rattle.falgrumi.specs.Answers.{InByte}
-use Rattle.falgrumi.proofs.Numbers.{decided-told, refused-told}
+use Rattle.reports.specs.declared.Ending.{Ending}
+use Rattle.reports.specs.Result.{endingOf}
+use Rattle.reports.specs.Told.{InByte}
+use Rattle.reports.proofs.ToldLaws.{decided-told, refused-told}
 use borrow.Author.Needs.{needs}
-use Rattle.falgrumi.proofs.tell.Statement.{statement}
-use Rattle.falgrumi.proofs.tell.Tie as tie
+use Rattle.reports.proofs.tell.Statement.{statement}
+use Rattle.reports.proofs.tell.Tie as tie
 
 number-byte-requires : tie.Need-number-byte-requires
 number-byte-requires c κs =

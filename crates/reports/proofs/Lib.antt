@@ -1,0 +1,3 @@
+-- Laws of the report of an evaluation.
+pub mod ReportLaws
+pub mod ToldLaws

@@ -1,0 +1,3 @@
+-- The report of an evaluation.
+pub mod Result
+pub mod Told
