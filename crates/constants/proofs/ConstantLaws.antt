@@ -19,9 +19,9 @@ use Rattle.laws.proofs.CellsLaws.{bit-eqb, signed-high, signed-low}
 use Rattle.laws.proofs.TableLaws.{nodes-length, nodes-entry, sizes-length}
 use Rattle.arena.specs.Code.{excess, code, Stands, Same}
 use Rattle.arena.proofs.Standing.{stands-frame}
-use Rattle.operations.specs.Leaves.{Narrow, scalarCell}
-use Rattle.operations.proofs.KindLaws.{code-of, kind-of, same-leaf}
-use Rattle.operations.proofs.LeafLaws.{cell-element, cell-number, cell-truth}
+use Rattle.constants.specs.Leaves.{Narrow, scalarCell}
+use Rattle.laws.proofs.KindLaws.{code-of, kind-of, same-leaf}
+use Rattle.constants.proofs.CellLaws.{cell-element, cell-number, cell-truth}
 use Rattle.constants.specs.Constants.{OneCell, leafAt, CellOf, Constants, OnlyBelow}
 
 -- The code of a constant's kind.

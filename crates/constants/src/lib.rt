@@ -5,8 +5,21 @@ ghost use lib.ListN.{length};
 ghost use Rattle.rules.specs.Tables.{nodeCount, nodesAt};
 ghost use Rattle.rules.specs.Readable.{Readable};
 ghost use Rattle.rules.specs.Kinds.{kindOf};
+ghost use Rattle.constants.specs.Leaves.{Narrow, scalarCell};
 ghost use Rattle.constants.specs.Built.{built, DecidesBuilds};
 ghost use Rattle.constants.specs.Constants.{CellOf, Constants, OnlyBelow};
+
+// The cell of an element (22), an integer (23) or a truth (24). An integer's word is in two's complement, its cell in excess form.
+fn scalar_cell(kind: usize, a: u64, b: u64) -> u64
+    requires { ⌜ Narrow kind a b ⌝ }
+    ensures { λ r. ⌜ r ≡ scalarCell kind a b ⌝ }
+{
+    match kind {
+        22 => arena::ELEMENT + arena::GIVEN * a + b,
+        23 => arena::NUMBER + (a + arena::EXCESS) % arena::CELL,
+        _ => arena::TRUTH + a,
+    }
+}
 
 // The cell of the constant at node n: kinds 22 to 24 and 26. Another node has 0.
 fn constant_cell(table: &[u8], at: usize, n: usize) -> u64
@@ -25,7 +38,7 @@ fn constant_cell(table: &[u8], at: usize, n: usize) -> u64
     }
     let a = table::field(table, at, n, 0);
     let b = table::field(table, at, n, 1);
-    operations::leaves::scalar_cell(kind, a as u64, b as u64)
+    scalar_cell(kind, a as u64, b as u64)
 }
 
 // Puts each constant into the cell of its node.

@@ -5,6 +5,7 @@ pub mod TreeLaws
 pub mod ReadingLaws
 pub mod BindingLaws
 pub mod OrderLaws
+pub mod KindLaws
 pub mod CellsLaws
 pub mod FitsLaws
 pub mod TreeInduction

@@ -9,7 +9,7 @@ use Rattle.products.specs.Growing.{PutsPair, Intervals, Multiplies}
 use Rattle.operations.proofs.GoodLaws.{good-value, good-above, good-whole, good-inside}
 use Rattle.operations.proofs.OutcomeLaws.{Makes, makes-frame, makes-gives}
 use Rattle.operations.proofs.FitLaws.{two-any, two-fits, two-sets, two-numbers, two-function, number-low}
-use Rattle.operations.proofs.KindLaws.{codeOf, code-of, same-kind}
+use Rattle.laws.proofs.KindLaws.{codeOf, code-of, same-kind}
 
 -- What the functions below ask of the operands.
 module _ {s : List ℕ} {a b top : ℕ} (p : Operands s a b top) where

@@ -1,19 +1,8 @@
--- The leaves: their cells, and that what the functions below have built is their value.
-use Rattle.operations.proofs.Base.{ℕ, zero, suc, _+_, _*_, _%_, _≤_, _<_, true, false, List, [], _∷_, _≢_, _≡_, refl, sym, subst, arith, length, eq-eqb, ne-eqb}
+-- The leaves that are built: what the functions below have built is their value.
+use Rattle.operations.proofs.Base.{ℕ, zero, suc, _+_, _≤_, _<_, true, false, List, [], _∷_, _≢_, _≡_, refl, sym, subst, arith, length}
 use mathlib.Core.Option.{some}
 use Rattle.operations.proofs.Terms.{Value, truthValue, values, weight, weights, Leaf, identifier, givenSet, elementOf, literal, truthConst, emptySet, boolSet, leaf, kindOf, gives, Env, setOf, elementsFrom, leafValue, Made, BuiltAt, LeafFits, LeafReady, LeafDone}
-use Rattle.operations.specs.Leaves.{scalarCell}
-use Rattle.operations.proofs.KindLaws.{code-of, same-leaf}
-
--- The cell by the kind's code.
-pub cell-element : (k a b : ℕ) → k ≡ 22 → 12884901888 + 256 * a + b ≡ scalarCell k a b
-cell-element k a b e = rw (eq-eqb k 22 e)
-
-pub cell-number : (k a b : ℕ) → k ≡ 23 → 4294967296 + (a + 2147483648) % 4294967296 ≡ scalarCell k a b
-cell-number k a b e = rw (ne-eqb k 22 (λ f. omega arith), eq-eqb k 23 e)
-
-pub cell-truth : (k a b : ℕ) → k ≢ 22 → k ≢ 23 → 8589934592 + a ≡ scalarCell k a b
-cell-truth k a b n m = rw (ne-eqb k 22 n, ne-eqb k 23 m)
+use Rattle.laws.proofs.KindLaws.{code-of, same-leaf}
 
 -- What is asked for a given set.
 pub elements-ready : {k a size : ℕ} {s : List ℕ} {top : ℕ} → LeafReady k a size s top → k ≡ 21 →

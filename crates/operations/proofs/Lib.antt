@@ -4,7 +4,6 @@ mod Terms
 pub mod GoodLaws
 pub mod OutcomeLaws
 pub mod FitLaws
-pub mod KindLaws
 pub mod SingleLaws
 pub mod LeafLaws
 pub mod DoubleLaws

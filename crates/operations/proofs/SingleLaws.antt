@@ -13,7 +13,7 @@ use Rattle.fitting.proofs.Cells.{members-stand, first-stands}
 use Rattle.operations.proofs.GoodLaws.{good-value, good-typed-at}
 use Rattle.operations.proofs.OutcomeLaws.{Makes, makes-frame, makes-gives}
 use Rattle.operations.proofs.FitLaws.{fit-types, on-set, one-any, one-fits, one-set, one-relation}
-use Rattle.operations.proofs.KindLaws.{codeOf, code-of, same-kind}
+use Rattle.laws.proofs.KindLaws.{codeOf, code-of, same-kind}
 
 pub fits-is-set : (v : Value) → fits (P̂ t̂ ∷ []) (v ∷ []) ≡ true → (vs : Values) × (v ≡ set vs)
 fits-is-set v e = let x = fit-types (P̂ t̂ ∷ []) (v ∷ []) e in on-set (λ y. (vs : Values) × (y ≡ set vs)) v (x .0) (x .2 .0) (λ vs _. (vs, refl))

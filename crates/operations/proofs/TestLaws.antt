@@ -10,7 +10,7 @@ use Rattle.operations.specs.declared.Tested.{Tested}
 use Rattle.operations.proofs.GoodLaws.{good-fits, good-value, good-whole}
 use Rattle.operations.proofs.OutcomeLaws.{test-unfit, test-fit}
 use Rattle.operations.proofs.FitLaws.{two-fits, two-sets, two-member, two-numbers}
-use Rattle.operations.proofs.KindLaws.{codeOf, code-of, same-kind}
+use Rattle.laws.proofs.KindLaws.{codeOf, code-of, same-kind}
 
 module _ (j : Test) {s : List ℕ} {a b : ℕ} {r : Bool} (f : FitTwo (testRule j .takes) s a b r) where
   pub test-unlike : not r ≡ true → TestDone j s a b Unlike

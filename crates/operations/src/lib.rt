@@ -6,7 +6,6 @@ ghost use Rattle.operations.specs.Good.{SomeGood, FunctionSeen};
 ghost use Rattle.functions.specs.Pairs.{KnownFunction};
 
 mod double;
-pub mod leaves;
 mod single;
 mod tests;
 

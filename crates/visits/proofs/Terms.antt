@@ -34,7 +34,7 @@ unfoldable pub use Rattle.rules.specs.Reading.{tallest, height}
 pub use Rattle.rules.specs.Types.{whole}
 pub use Rattle.rules.specs.Rules.{testRule, oneRule, twoRule, P̂, t̂, quantRule, Rule}
 pub use Rattle.rules.proofs.Basics.{absurd01}
-pub use Rattle.operations.proofs.KindLaws.{kind-of, code-of, joinCode, same-join, quantCode}
+pub use Rattle.laws.proofs.KindLaws.{kind-of, code-of, joinCode, same-join, quantCode}
 unfoldable pub use Rattle.arena.specs.Code.{code}
 pub use Rattle.arena.specs.Code.{CellsFit, codes, Stands, Same, SomeAt, EndsAt, ValuesAt, ValueAt, cellSize, Copied}
 pub use Rattle.arena.proofs.Standing.{stands-frame, same-refl, same-trans, copied-stands, stands-append, stands-tail, stands-front, stands-back}

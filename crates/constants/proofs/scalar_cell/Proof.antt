@@ -1,7 +1,8 @@
 -- `scalar_cell`: the cell by the kind's code.
-use Rattle.operations.proofs.Common.{cell-element, cell-number, cell-truth, needs}
-use Rattle.operations.proofs.leaves.scalar_cell.Statement.{statement}
-use Rattle.operations.proofs.leaves.scalar_cell.Tie as tie
+use borrow.Author.Needs.{needs}
+use Rattle.constants.proofs.CellLaws.{cell-element, cell-number, cell-truth}
+use Rattle.constants.proofs.scalar_cell.Statement.{statement}
+use Rattle.constants.proofs.scalar_cell.Tie as tie
 
 pub scalar-cell-spec : {M : Type 1} → statement M
 scalar-cell-spec =

@@ -1,8 +1,17 @@
 -- Kind codes: a code has one kind, and a kind one code.
-use Rattle.operations.proofs.Base.{ℕ, zero, suc, _+_, Bool, true, _&&_, List, [], _∷_, _≡_, refl, ap, sym, _∙_, arith, T, eqb, eqb→eq, getD, absurd01}
+use Prim.Native.Nat.{ℕ, zero, suc, _+_}
+use mathlib.Core.Bool.{Bool, true, _&&_}
+use mathlib.Core.List.{List, [], _∷_}
 use mathlib.Core.Option.{Option, none as nothing, some}
-use Rattle.operations.proofs.Terms.{whole, Join, and, or, implies, iff, equal, member, subset, atMost, Quant, forAll, forSome, Leaf, identifier, givenSet, elementOf, literal, truthConst, emptySet, boolSet, singleton, power, dom, ran, card, choice, pairing, union, inter, diff, product, apply, plus, minus, interval, Kind, join, negation, test, quant, leaf, boolOf, one, two, comprehension, kinds, kindOf}
+use mathlib.Core.Path.{_≡_, refl, ap, sym, _∙_}
+use native.Mathlib.Omega.{arith}
+use lib.Dec.{T, eqb, eqb→eq}
+use lib.ListN.{getD}
+use Rattle.rules.specs.Types.{whole}
+unfoldable use Rattle.rules.specs.Kinds.{kindOf}
+use Rattle.rules.specs.Kinds.{Join, and, or, implies, iff, equal, member, subset, atMost, Quant, forAll, forSome, Leaf, identifier, givenSet, elementOf, literal, truthConst, emptySet, boolSet, singleton, power, dom, ran, card, choice, pairing, union, inter, diff, product, apply, plus, minus, interval, Kind, join, negation, test, quant, leaf, boolOf, one, two, comprehension, kinds}
+use Rattle.rules.proofs.Basics.{absurd01}
 use Rattle.laws.proofs.OrderLaws.{and-left, and-right}
 
 -- Each kind with its code.
 abbrev pub coded : (x : Kind) → (k : ℕ) × (getD kinds k nothing ≡ some x)
