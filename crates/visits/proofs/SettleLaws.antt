@@ -1,6 +1,6 @@
 -- What a node gives is settled at its top, and a member that is chosen is copied behind those before it.
 use Rattle.visits.proofs.Terms.{ℕ, _+_, _-_, _≤_, Bool, true, false, List, [], _∷_, _⊎_, inl, inr, _≡_, refl, sym, ap, _∙_, arith, length, Copied, WithinAt, GivenCell}
-use Rattle.visits.proofs.Terms.{Value, weight, Given, code, Same, length-code, same-refl, copied-stands, Outcome, BuiltAt, Gives, Formed, Placed, Stopped, SettleReady, ChooseReady, Chooses, Settles, Built, Within, Cell, Lacks, PutsCell, absurd01}
+use Rattle.visits.proofs.Terms.{subst, ValueAt, Value, weight, Given, code, Same, length-code, same-refl, copied-stands, Outcome, BuiltAt, Gives, Formed, Placed, Stopped, SettleReady, ChooseReady, Chooses, Settles, Built, Within, Cell, Lacks, PutsCell, absurd01}
 
 -- Copying changes nothing below its place.
 copied-frame : {s s′ : List ℕ} {from n to : ℕ} → Copied s from n to s′ → Same to s s′
@@ -57,6 +57,19 @@ module _ {s : List ℕ} {r : Outcome} {mid next top : ℕ} (p : SettleReady s r 
 
     pub built-above : next ≤ end
     built-above = let b = built-as (p .given) (p .gives) in omega (arith, b .ends)
+
+    -- It has been built where it belongs.
+    pub settles-there : {node left : ℕ} → next ≡ top → Settles s r mid next top node left s (Placed top end left)
+    settles-there z =
+        let b = built-as (p .given) (p .gives) in
+        record {
+          frame = same-refl top s;
+          bounds = λ h l. omega (arith, b .ends, b .light);
+          answer = λ g h.
+              let x = built-as g h in
+              let y = subst (λ (i : ℕ). ValueAt s i (x .value)) z (x .stands) in
+              record { value = x .value; is = x .is; stands = y; below = omega (arith, x .ends); same = refl };
+        }
 
     pub settle-room : (next + (end - next) ≤ length s) × (top + (end - next) ≤ length s) × ((next + (end - next) ≤ top) ⊎ (top ≤ next))
     settle-room =

@@ -16,7 +16,7 @@ pub use lib.Dec.{leb, eqb, T, lit<, ltb}
 pub use borrow.Author.Needs.{needs, scaled-fits, fits-under}
 pub use denote.Ref.{now}
 unfoldable pub use Rattle.rules.specs.Kinds.{kindOf}
-pub use Rattle.rules.specs.Kinds.{predicate, negation, expression, test, and, or, implies, iff, forAll, forSome, identifier, Kind, join, quant, leaf, boolOf, one, two, comprehension, Category, unused, child, fieldsOf, Test, equal, member, subset, atMost, Leaf, givenSet, elementOf, literal, truthConst, emptySet, boolSet, singleton, power, dom, ran, card, choice, pairing, union, inter, diff, product, apply, plus, minus, interval, One, Two, Join, categoryOf, Field, isChild, Quant}
+pub use Rattle.rules.specs.Kinds.{predicate, negation, expression, test, and, or, implies, iff, forAll, forSome, identifier, Kind, join, quant, leaf, boolOf, one, two, comprehension, Category, unused, child, fieldsOf, Test, equal, member, subset, atMost, Leaf, givenSet, elementOf, literal, truthConst, emptySet, boolSet, singleton, power, dom, ran, card, choice, pairing, union, inter, diff, product, apply, plus, minus, interval, One, Join, categoryOf, Field, isChild, Quant}
 unfoldable pub use Rattle.rules.specs.Tables.{predAt, exprAt, held}
 pub use Rattle.rules.specs.Tables.{Pred, tableOf, nodeAt, kindAt, nodeCount, Node, Expr, predOf, fieldWords, notᵖ, leafᵉ, boolᵉ, oneᵉ, twoᵉ, comprehensionᵉ, Table, fieldsIf, pick, exprOf, nodesAt}
 pub use Rattle.rules.specs.Readable.{Readable, CategoryIs, FieldRight, FieldsRight, KindRight, NodeRight}

@@ -240,6 +240,10 @@ pub fn settle(
             Formed::Value { at: top, end, left }
         }
         Outcome::Built(end) => {
+            // Operands that stand already take no cells: then the value has been built at top.
+            if next == top {
+                return Formed::Value { at: top, end, left };
+            }
             let n = end - next;
             arena::copy(s, next, n, top);
             Formed::Value {
