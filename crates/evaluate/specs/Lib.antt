@@ -1,3 +1,3 @@
--- Evaluate: what it reports, and the arenas.
+-- Evaluate: what it answers, and the arenas.
 pub mod Judged
 pub mod Arenas

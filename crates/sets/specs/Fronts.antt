@@ -1,4 +1,4 @@
--- Walks over the members of sets in the arena, and what the operations answer.
+-- Walks over the members of sets in the arena, and what membership and inclusion answer.
 use Prim.Native.Nat.{ℕ, _+_, _≤_, _<_, Ordering, Ordering·lt, Ordering·eq, Ordering·gt}
 use mathlib.Core.Bool.{Bool, true, false}
 use mathlib.Core.List.{List}

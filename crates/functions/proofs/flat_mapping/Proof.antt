@@ -1,5 +1,6 @@
 -- `flat_mapping`: nothing is said of other relations; of one of flat pairs it is told whether it is a function. Landmarks: what was lent, and the
 -- number of pairs.
+use mathlib.Core.Bool.{false≢true}
 use Rattle.sets.proofs.Base.{needs, not-false, subst}
 use Rattle.functions.proofs.Terms.{IsFunction}
 use Rattle.arena.proofs.FrontLaws.{set-inside}
@@ -24,6 +25,6 @@ flat-mapping-spec =
     (λ c. λ e. absurd (absurd01 (cc)))
     (λ c κs. let l = counted c in (
       record { relation = lent l .pre; counted = l .low .ensures .0; thin = λ _. c .before .of-flat-pairs .ensures (not-false _ (c .if1 .left)) },
-      λ e. absurd (absurd01 (cc)),
+      λ e. absurd (false≢true e),
     ))
     (λ c. λ e. subst (IsFunction _ _) e (c .function-at .ensures)))
