@@ -47,15 +47,19 @@ impl PartialOrd for Value {
     }
 }
 
-/// The order of values: tag, then payload, then parts from left to right. A
-/// set's payload is its count, so sets of fewer members come first.
+/// The order of values: tag, then payload, then a pair's parts from left to
+/// right, a set's members from the greatest down (document 02, N6). A set's
+/// payload is its count, so sets of fewer members come first.
 pub fn order(a: &Value, b: &Value) -> Ordering {
     match (a, b) {
         (Value::Integer(m), Value::Integer(n)) => m.cmp(n),
         (Value::Truth(p), Value::Truth(q)) => p.cmp(q),
         (Value::Element(g, k), Value::Element(h, l)) => (g, k).cmp(&(h, l)),
         (Value::Pair(a, b), Value::Pair(c, d)) => order(a, c).then_with(|| order(b, d)),
-        (Value::Set(a), Value::Set(b)) => a.len().cmp(&b.len()).then_with(|| a.cmp(b)),
+        (Value::Set(a), Value::Set(b)) => {
+            let from_the_greatest = || a.iter().rev().cmp(b.iter().rev());
+            a.len().cmp(&b.len()).then_with(from_the_greatest)
+        }
         _ => a.tag().cmp(&b.tag()),
     }
 }

@@ -3,7 +3,7 @@
 use Prim.Native.Nat.{ℕ, zero, suc, _+_, _*_, _≤_, _<_, suc-le-suc}
 use Prim.Native.Nat.{compare, Ordering, Ordering·lt, Ordering·eq, Ordering·gt, compare·zero-suc, compare·suc-zero, compare·suc-suc}
 use mathlib.Core.Bool.{Bool, true, false, _&&_}
-use mathlib.Core.List.{List, [], _∷_, _++_, append-assoc}
+use mathlib.Core.List.{List, [], _∷_, _++_, append-assoc, append-nil}
 use mathlib.Core.Logic.{_⊎_, inl, inr}
 use mathlib.Core.Path.{_≡_, refl, ap, sym, subst, _∙_}
 use native.Mathlib.Nat.{le-of-suc-le-suc}
@@ -12,7 +12,7 @@ use lib.IntN.{ℤ, pos, negsuc}
 use lib.Dec.{T, isEq, eqb→eq, ltb→lt}
 use lib.ListN.{getD}
 use Rattle.rules.specs.Types.{whole}
-use Rattle.rules.specs.Values.{Scalar, num, truth, element, Value, scalar, pair, set, Values, none, _▸_, int, count, scalarTag, scalarPayload}
+use Rattle.rules.specs.Values.{Scalar, num, truth, element, Value, scalar, pair, set, Values, none, _▸_, int, values, count, scalarTag, scalarPayload}
 use Rattle.rules.specs.Values.{compareℤ, _then_, lex, key, keys, order, same, isLt, before}
 use Rattle.rules.specs.Cells.{wellFormed, risingAll, precedes}
 
@@ -208,7 +208,7 @@ mutual
   keys-delimited none (w ▸ ws) e = absurd (omega arith)
   keys-delimited (v ▸ vs) none e = absurd (omega arith)
   keys-delimited (v ▸ vs) (w ▸ ws) e =
-      delimited-append (key v) (keys vs) (key w) (keys ws) (key-delimited v w) (keys-delimited vs ws (omega arith))
+      delimited-append (keys vs) (key v) (keys ws) (key w) (keys-delimited vs ws (omega arith)) (key-delimited v w)
 
 -- Elements have numbers below 256, so that 256·g + k tells g and k.
 abbrev pub SmallScalar : Scalar → Type 0
@@ -228,7 +228,7 @@ abbrev mutual
 
 -- Small values have different keys.
 
-scalar-eq : (s r : Scalar) → SmallScalar s → SmallScalar r → scalarTag s ≡ scalarTag r → scalarPayload s ≡ scalarPayload r → s ≡ r
+pub scalar-eq : (s r : Scalar) → SmallScalar s → SmallScalar r → scalarTag s ≡ scalarTag r → scalarPayload s ≡ scalarPayload r → s ≡ r
 scalar-eq (num whole i) (num whole j) h k e f = cc
 scalar-eq (num whole i) (truth b) h k e f = cc
 scalar-eq (num whole i) (element g n) h k e f = cc
@@ -270,9 +270,9 @@ mutual
   keys-eq none (w ▸ ws) x y c h k e = absurd (omega arith)
   keys-eq (v ▸ vs) none x y c h k e = absurd (omega arith)
   keys-eq (v ▸ vs) (w ▸ ws) x y c h k e =
-      let q : key v ++ (keys vs ++ x) ≡ key w ++ (keys ws ++ y) = cc (append-assoc (key v) (keys vs) x, append-assoc (key w) (keys ws) y) in
-      let f = key-eq v w (keys vs ++ x) (keys ws ++ y) (h .0) (k .0) q in
-      let g = keys-eq vs ws x y (omega arith) (h .1) (k .1) (f .1) in
+      let q : keys vs ++ (key v ++ x) ≡ keys ws ++ (key w ++ y) = cc (append-assoc (keys vs) (key v) x, append-assoc (keys ws) (key w) y) in
+      let f = keys-eq vs ws (key v ++ x) (key w ++ y) (omega arith) (h .1) (k .1) q in
+      let g = key-eq v w x y (h .0) (k .0) (f .1) in
       (cc (f .0, g .0), g .1)
 
 -- The laws of the order.
@@ -301,6 +301,31 @@ order-eq v w h k e = key-eq v w [] [] h k (ap (λ (l : List ℤ). l ++ []) (lex-
 pub order-pair : (a b c d : Value) → order (pair a b) (pair c d) ≡ (order a c then order b d)
 unfolding order
 order-pair a b c d = key-delimited a c (key b) (key d)
+
+-- A set with fewer members comes first; sets of equal count are ordered by their members from the greatest down (N6).
+pub order-fewer : (s r : Values) → count s < count r → order (set s) (set r) ≡ Ordering·lt
+unfolding order
+order-fewer s r l = rw (lt-compare (count s) (count r) l)
+
+pub order-cons : (v w : Value) (s r : Values) → count s ≡ count r → order (set (v ▸ s)) (set (w ▸ r)) ≡ (order (set s) (set r) then order v w)
+unfolding order
+order-cons v w s r e = rw (e, compare-refl (1 + count r), compare-refl (count r)) (keys-delimited s r e (key v) (key w))
+
+-- So of lists that rise, of which the last is the greatest: the last ones decide, then those before them.
+keys-last : (vs : List Value) (u : Value) → keys (values (vs ++ (u ∷ []))) ≡ key u ++ keys (values vs)
+keys-last [] u = sym (append-nil (key u))
+keys-last (v ∷ vs) u = ap (λ (l : List ℤ). l ++ key v) (keys-last vs u) ∙ append-assoc (key u) (keys (values vs)) (key v)
+
+count-last : (vs : List Value) (u : Value) → count (values (vs ++ (u ∷ []))) ≡ 1 + count (values vs)
+count-last [] u = refl
+count-last (v ∷ vs) u = omega (arith, count-last vs u)
+
+pub order-last : (vs ws : List Value) (u x : Value) → count (values vs) ≡ count (values ws) →
+    order (set (values (vs ++ (u ∷ [])))) (set (values (ws ++ (x ∷ [])))) ≡ (order u x then order (set (values vs)) (set (values ws)))
+unfolding order
+order-last vs ws u x e =
+    rw (count-last vs u, count-last ws x, keys-last vs u, keys-last ws x, e, compare-refl (1 + count (values ws)), compare-refl (count (values ws)))
+    (key-delimited u x (keys (values vs)) (keys (values ws)))
 
 -- Numbers are ordered as integers.
 pub order-int : (i j : ℤ) → order (int i) (int j) ≡ compareℤ i j

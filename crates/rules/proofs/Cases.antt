@@ -358,6 +358,35 @@ applicationCases =
     -- a pair that both sides of a union have is one pair: ({(1,2)}∪{(1,2)})(1)=2
     plain (unionAtOne 2 2) (done true) 13 ∷ []
 
+-- choice(x)=y, for the cells of x and y
+abbrev leastIs : List ℕ → List ℕ → End Bool → ℕ → Case
+leastIs x y = valued (table [] (0 ∷ 0 ∷ []) (node₁ 20 0 ∷ node₁ 43 0 ∷ node₁ 20 1 ∷ node₂ 6 1 2 ∷ [])) (toBytes (x ++ y))
+
+abbrev twoInSet : List ℕ → List ℕ → List ℕ
+twoInSet v w = 2 ∷ 5 ∷ (v ++ w)
+
+abbrev ofTwo : ℕ → ℕ → List ℕ
+ofTwo m n = twoInSet (integerCell m) (integerCell n)
+
+-- Document 02, N6
+abbrev orderCases : List Case
+orderCases =
+    -- members from the least up: {2,3} precedes {1,4}; the other way round is malformed now, and was good
+    leastIs (twoInSet (ofTwo 2 3) (ofTwo 1 4)) (ofTwo 2 3) (done true) 4 ∷
+    leastIs (twoInSet (ofTwo 1 4) (ofTwo 2 3)) (ofTwo 1 4) (refused 14 0) 0 ∷
+    -- the count ignored: {4} precedes {1,2}
+    leastIs (twoInSet (oneInSet (integerCell 4)) (ofTwo 1 2)) (oneInSet (integerCell 4)) (done true) 4 ∷
+    -- the greatest only: {1,4} precedes {2,4}, and the two are not the same
+    leastIs (twoInSet (ofTwo 1 4) (ofTwo 2 4)) (ofTwo 1 4) (done true) 4 ∷
+    leastIs (twoInSet (ofTwo 1 4) (ofTwo 2 4)) (ofTwo 2 4) (done false) 4 ∷
+    -- one level only: sets of sets of sets, and of pairs of sets
+    leastIs (twoInSet (oneInSet (ofTwo 2 3)) (oneInSet (ofTwo 1 4))) (oneInSet (ofTwo 2 3)) (done true) 4 ∷
+    leastIs (twoInSet (oneInSet (ofTwo 1 4)) (oneInSet (ofTwo 2 3))) (oneInSet (ofTwo 1 4)) (refused 14 0) 0 ∷
+    leastIs (twoInSet (pairCells (ofTwo 2 3) (integerCell 9)) (pairCells (ofTwo 1 4) (integerCell 0))) (pairCells (ofTwo 2 3) (integerCell 9)) (done true) 4 ∷
+    -- pairs from right to left: (1,{1,4}) precedes (2,{2,3})
+    leastIs (twoInSet (pairCells (integerCell 1) (ofTwo 1 4)) (pairCells (integerCell 2) (ofTwo 2 3)))
+    (pairCells (integerCell 1) (ofTwo 1 4)) (done true) 4 ∷ []
+
 abbrev runCases : List Case
 runCases =
     -- `decides` and `joined` with another truth: ∧ and ⇒ skip (∨ does in P5), and the truths where nothing is skipped
@@ -395,6 +424,10 @@ EndsAsTold c = evaluated c ≡ (c .ends, c .steps)
 pub application-right : All EndsAsTold applicationCases
 unfolding evaluation
 application-right = (refl, (refl, (refl, (refl, (refl, (refl, (refl, (refl, (refl, (refl, (refl, (refl, (refl, tt)))))))))))))
+
+pub order-right : All EndsAsTold orderCases
+unfolding evaluation
+order-right = (refl, (refl, (refl, (refl, (refl, (refl, (refl, (refl, (refl, tt)))))))))
 
 -- `isFunction` does not rely on the order of the members: here the pairs that share a first part are no neighbours.
 pub apart-no-function :

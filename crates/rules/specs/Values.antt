@@ -97,7 +97,8 @@ unfoldable pub lex : List ℤ → List ℤ → Ordering
 lex [] ys = elim ys [ [] ↦ Ordering·eq | y ∷ ys′ ↦ Ordering·lt ]
 lex (x ∷ xs) ys = elim ys [ [] ↦ Ordering·gt | y ∷ ys′ ↦ (let o = lex xs ys′ in compareℤ x y then o) ]
 
--- What decides between values: the tag, then the payload, then the parts from left to right.
+-- What decides between values: the tag, then the payload, then the parts of a pair from left to right and the members of a set
+-- from the greatest down (document 02, N6).
 abbrev mutual
   pub key : Value → List ℤ
   key (scalar s) = pos (scalarTag s) ∷ scalarPayload s ∷ []
@@ -106,7 +107,7 @@ abbrev mutual
 
   pub keys : Values → List ℤ
   keys none = []
-  keys (v ▸ vs) = key v ++ keys vs
+  keys (v ▸ vs) = keys vs ++ key v
 
 -- The order of values.
 unfoldable pub order : Value → Value → Ordering
