@@ -10,6 +10,7 @@ pub mod cases;
 pub mod check;
 pub mod evaluate;
 pub mod examples;
+pub mod former;
 pub mod generate;
 pub mod kinds;
 pub mod listing;

@@ -1,4 +1,4 @@
-//! The readings of document 01's open points, by their numbers.
+//! The readings of document 01's open points, by their numbers, and what document 02's requests ask.
 
 mod common;
 
@@ -7,6 +7,7 @@ use reference::batch::{check_answer, evaluate_answer};
 use reference::build::Draft;
 use reference::check::check;
 use reference::examples;
+use reference::former;
 use reference::kinds::Kind;
 use reference::listing::listing;
 use reference::values::{cell, set, Value};
@@ -741,13 +742,18 @@ fn r22_order_of_values() {
         both(int(2), int(0)),
         ints(&[]),
         ints(&[9]),
-        ints(&[1, 4]),
         ints(&[2, 3]),
+        ints(&[1, 4]),
         ints(&[0, 1, 2]),
     ];
-    for i in 0..rising.len() {
-        for j in 0..rising.len() {
-            assert_eq!(rising[i].cmp(&rising[j]), i.cmp(&j), "{i} {j}");
+    assert_rising(&rising);
+}
+
+/// Each value before all that stand behind it.
+fn assert_rising(values: &[Value]) {
+    for (i, a) in values.iter().enumerate() {
+        for (j, b) in values.iter().enumerate() {
+            assert_eq!(a.cmp(b), i.cmp(&j), "{a:?} and {b:?}");
         }
     }
 }
@@ -867,4 +873,377 @@ fn n1_evaluate_tests_the_values_first_and_then_is_true() {
         assert_eq!(answer(&[], &one), "refused 14 0 0");
         assert_eq!(answer(&[1], &one), "refused 9 0 0");
     }
+}
+
+fn of(members: &[&Value]) -> Value {
+    set(members.iter().copied().cloned().collect())
+}
+
+/// Document 02, N6: pairs of values whose order it turns round, the lesser
+/// first.
+fn turned_pairs() -> Vec<[Value; 2]> {
+    let [one, two, three, four] = [1, 2, 3, 4].map(|n| ints(&[n]));
+    let (low, high) = (ints(&[2, 3]), ints(&[1, 4]));
+    let left = |part: &Value, n| both(part.clone(), int(n));
+    let right = |n, part: &Value| both(int(n), part.clone());
+    vec![
+        [low.clone(), high.clone()],
+        [ints(&[0, 1]), ints(&[-1, 5])],
+        [ints(&[2, 3, 4]), ints(&[0, 1, 5])],
+        [ints(&[1, 3, 5]), ints(&[0, 4, 5])],
+        // By a set inside, by the greatest set, by both.
+        [of(&[&low]), of(&[&high])],
+        [of(&[&two, &three]), of(&[&one, &four])],
+        [of(&[&four, &low]), of(&[&one, &high])],
+        [of(&[&low, &high]), of(&[&ints(&[0, 1]), &ints(&[3, 4])])],
+        [of(&[&of(&[&low])]), of(&[&of(&[&high])])],
+        [of(&[&of(&[&two, &three])]), of(&[&of(&[&one, &four])])],
+        [
+            of(&[&of(&[&two]), &of(&[&three])]),
+            of(&[&of(&[&one]), &of(&[&four])]),
+        ],
+        // Sets in pairs, alone and in sets.
+        [left(&low, 1), left(&high, 0)],
+        [right(1, &low), right(1, &high)],
+        [right(1, &of(&[&low])), right(1, &of(&[&high]))],
+        [of(&[&left(&low, 1)]), of(&[&left(&high, 0)])],
+        [of(&[&right(0, &low)]), of(&[&right(0, &high)])],
+        [
+            of(&[&right(0, &low), &right(1, &ints(&[]))]),
+            of(&[&right(0, &high), &right(1, &ints(&[]))]),
+        ],
+        [
+            of(&[&right(2, &low), &right(3, &low)]),
+            of(&[&right(1, &low), &right(4, &low)]),
+        ],
+    ]
+}
+
+/// Pairs of values, the lesser first, that N6 leaves as they were.
+fn unturned_pairs() -> Vec<[Value; 2]> {
+    let (low, high) = (ints(&[2, 3]), ints(&[1, 4]));
+    vec![
+        // The count comes first.
+        [ints(&[9]), high.clone()],
+        [ints(&[8, 9]), ints(&[0, 1, 2])],
+        [of(&[&ints(&[7, 8, 9])]), of(&[&low, &high])],
+        [of(&[&ints(&[9])]), of(&[&low])],
+        // Both ends agree.
+        [high.clone(), ints(&[2, 4])],
+        [ints(&[1, 3]), ints(&[2, 4])],
+        [of(&[&ints(&[1]), &low]), of(&[&ints(&[4]), &high])],
+        [of(&[&of(&[&ints(&[1, 3])])]), of(&[&of(&[&ints(&[2, 4])])])],
+        // Pairs go from left to right.
+        [both(int(0), high.clone()), both(int(1), low.clone())],
+        [both(high.clone(), int(0)), both(high.clone(), int(1))],
+        [both(int(1), int(4)), both(int(2), int(3))],
+        [of(&[&both(int(1), int(4))]), of(&[&both(int(2), int(3))])],
+    ]
+}
+
+#[test]
+fn n6_sets_of_equal_count_go_by_their_greatest_members() {
+    let twos = [
+        [0, 1],
+        [0, 2],
+        [1, 2],
+        [0, 3],
+        [1, 3],
+        [2, 3],
+        [0, 4],
+        [1, 4],
+    ];
+    assert_rising(&twos.map(|members| ints(&members)));
+    let threes = [[0, 1, 4], [0, 2, 4], [1, 2, 4], [0, 3, 4], [0, 1, 5]];
+    assert_rising(&threes.map(|members| ints(&members)));
+    let elements = |k, l| set(vec![Value::Element(0, k), Value::Element(0, l)]);
+    assert_rising(&[elements(1, 2), elements(0, 3), elements(1, 3)]);
+    let former = |a: &Value, b: &Value| former::order(&former::arranged(a), &former::arranged(b));
+    for [a, b] in turned_pairs() {
+        assert_rising(&[a.clone(), b.clone()]);
+        assert!(former(&a, &b).is_gt(), "{a:?} and {b:?}");
+    }
+    for [a, b] in unturned_pairs() {
+        assert_rising(&[a.clone(), b.clone()]);
+        assert!(former(&a, &b).is_lt(), "{a:?} and {b:?}");
+    }
+}
+
+/// choice(x0) = x1
+fn least_is(s: &Value, e: &Value) -> String {
+    let d = draft(|d| {
+        let (x, y) = (d.identifier(0), d.identifier(0));
+        let s = d.using(x);
+        let least = d.one(Kind::Choice, s);
+        let e = d.using(y);
+        d.two(Kind::Equal, least, e);
+    });
+    evaluated(&d, &[s.clone(), e.clone()])
+}
+
+#[test]
+fn n6_choice_gives_the_least() {
+    for [a, b] in turned_pairs().into_iter().chain(unturned_pairs()) {
+        let both = set(vec![b.clone(), a.clone()]);
+        assert_eq!(least_is(&both, &a), "true 4", "{both:?}");
+        assert_eq!(least_is(&both, &b), "false 4", "{both:?}");
+    }
+}
+
+#[test]
+fn n6_14_asks_for_members_that_rise_in_the_new_order() {
+    let told = |value: Value, good: &str| {
+        let answer = evaluated(&lent(&[]), std::slice::from_ref(&value));
+        assert_eq!(answer, good, "{value:?}");
+    };
+    let (good, bad) = ("true 3", "refused 14 0 0");
+    for [a, b] in turned_pairs().into_iter().chain(unturned_pairs()) {
+        let rising = || Value::Set(vec![a.clone(), b.clone()]);
+        let falling = || Value::Set(vec![b.clone(), a.clone()]);
+        let twice = || Value::Set(vec![a.clone(), a.clone()]);
+        told(rising(), good);
+        told(falling(), bad);
+        told(twice(), bad);
+        // In a set of one member, and in pairs.
+        let inside: [fn(Value) -> Value; 4] = [
+            |v| Value::Set(vec![v]),
+            |v| both(int(7), v),
+            |v| both(v, int(7)),
+            |v| Value::Set(vec![both(int(7), v)]),
+        ];
+        for within in inside {
+            told(within(rising()), good);
+            told(within(falling()), bad);
+            told(within(twice()), bad);
+        }
+    }
+    // Only the comparison is turned: a set's own members still rise.
+    let falling = |m, n| Value::Set(vec![int(n), int(m)]);
+    told(Value::Set(vec![falling(2, 3), falling(1, 4)]), bad);
+    told(Value::Set(vec![falling(1, 4), falling(2, 3)]), bad);
+}
+
+#[test]
+fn n6_a_buffer_in_the_former_order_is_malformed_at_its_identifier() {
+    // x0 = x2 ∧ ∀x1∈x3·1=1: x1 is bound.
+    let d = draft(|d| {
+        d.flags.extend([0, 1, 0, 0]);
+        let (e, f) = (d.using(0), d.using(2));
+        let p = d.two(Kind::Equal, e, f);
+        let s = d.using(3);
+        let body = one_is_one(d);
+        let q = d.node(Kind::ForAll, 1, s, body);
+        d.two(Kind::And, p, q);
+    });
+    for [a, b] in turned_pairs() {
+        let now = set(vec![a.clone(), b.clone()]);
+        let before = former::arranged(&now);
+        assert_ne!(before, now);
+        let answer = |values: [&Value; 3]| evaluated(&d, &values.map(Value::clone));
+        assert_eq!(answer([&now, &now, &now]), "true 12");
+        assert_eq!(answer([&before, &now, &now]), "refused 14 0 0");
+        assert_eq!(answer([&now, &before, &now]), "refused 14 2 0");
+        assert_eq!(answer([&now, &now, &before]), "refused 14 3 0");
+        assert_eq!(answer([&now, &before, &before]), "refused 14 2 0");
+    }
+}
+
+/// The members of a set in the order in which a quantifier takes them: each is
+/// found by ∃z∈S·z=y after 3 visits for each member up to it. `range` writes S,
+/// an expression of `visits` nodes over the values.
+fn taken_in_order(
+    values: &[Value],
+    visits: usize,
+    range: impl Fn(&mut Draft) -> u32,
+    members: &[Value],
+) {
+    let d = draft(|d| {
+        d.flags.resize(values.len(), 0);
+        let s = range(d);
+        let (y, z) = (d.identifier(0), d.identifier(1));
+        let (e, f) = (d.using(z), d.using(y));
+        let same = d.two(Kind::Equal, e, f);
+        d.node(Kind::Exists, z, s, same);
+    });
+    for (i, member) in members.iter().enumerate() {
+        let lent = [values, std::slice::from_ref(member)].concat();
+        let steps = 1 + visits + 3 * (i + 1);
+        assert_eq!(evaluated(&d, &lent), format!("true {steps}"), "{member:?}");
+    }
+    let counted = draft(|d| {
+        d.flags.resize(values.len(), 0);
+        let s = range(d);
+        let (card, n) = (d.one(Kind::Card, s), d.integer(members.len() as i32));
+        d.two(Kind::Equal, card, n);
+    });
+    assert_eq!(evaluated(&counted, values), format!("true {}", visits + 3));
+}
+
+#[test]
+fn n6_quantifiers_take_members_from_the_least_up() {
+    let groups = [[0, 1], [2, 3], [1, 4], [0, 5]].map(|members| ints(&members));
+    let whole = set(groups.to_vec());
+    taken_in_order(std::slice::from_ref(&whole), 1, |d| d.using(0), &groups);
+    let d = draft(|d| {
+        let (x, y, z) = (d.identifier(0), d.identifier(0), d.identifier(1));
+        let (s, e, f) = (d.using(x), d.using(z), d.using(y));
+        let same = d.two(Kind::Equal, e, f);
+        let other = d.one(Kind::Not, same);
+        d.node(Kind::ForAll, z, s, other);
+    });
+    for (group, answer) in groups
+        .iter()
+        .zip(["false 6", "false 10", "false 14", "false 18"])
+    {
+        assert_eq!(evaluated(&d, &[whole.clone(), group.clone()]), answer);
+    }
+    assert_eq!(evaluated(&d, &[whole, ints(&[0])]), "true 18");
+}
+
+#[test]
+fn n6_power_sets_go_by_count_and_then_from_the_greatest() {
+    let power = |d: &mut Draft| {
+        let s = d.using(0);
+        d.one(Kind::Power, s)
+    };
+    let rising: [&[i32]; 16] = [
+        &[],
+        &[1],
+        &[2],
+        &[3],
+        &[4],
+        &[1, 2],
+        &[1, 3],
+        &[2, 3],
+        &[1, 4],
+        &[2, 4],
+        &[3, 4],
+        &[1, 2, 3],
+        &[1, 2, 4],
+        &[1, 3, 4],
+        &[2, 3, 4],
+        &[1, 2, 3, 4],
+    ];
+    let subsets = rising.map(ints);
+    taken_in_order(&[ints(&[1, 2, 3, 4])], 2, power, &subsets);
+    let [low, high, most] = [[2, 3], [1, 4], [0, 5]].map(|members| ints(&members));
+    let families = [
+        of(&[]),
+        of(&[&low]),
+        of(&[&high]),
+        of(&[&most]),
+        of(&[&low, &high]),
+        of(&[&low, &most]),
+        of(&[&high, &most]),
+        of(&[&low, &high, &most]),
+    ];
+    taken_in_order(&[families[7].clone()], 2, power, &families);
+}
+
+#[test]
+fn n6_domains_ranges_and_products_rise_in_the_new_order() {
+    let groups = [[0, 1], [2, 3], [1, 4], [0, 5]].map(|members| ints(&members));
+    // The integers beside the groups rise, fall or are the same.
+    for step in [1, -1, 0] {
+        let beside = |group: &Value, i: usize| (group.clone(), int(step * i as i32));
+        let parts = || groups.iter().enumerate().map(|(i, group)| beside(group, i));
+        let firsts = set(parts().map(|(group, n)| both(group, n)).collect());
+        let seconds = set(parts().map(|(group, n)| both(n, group)).collect());
+        for (kind, relation) in [(Kind::Domain, firsts), (Kind::Range, seconds)] {
+            let part = |d: &mut Draft| {
+                let f = d.using(0);
+                d.one(kind, f)
+            };
+            taken_in_order(&[relation], 2, part, &groups);
+        }
+    }
+    let product = |d: &mut Draft| {
+        let (s, r) = (d.using(0), d.using(1));
+        d.two(Kind::Product, s, r)
+    };
+    let numbers = ints(&[1, 2]);
+    let pairs = groups
+        .iter()
+        .flat_map(|group| [1, 2].map(|n| both(group.clone(), int(n))));
+    let pairs: Vec<Value> = pairs.collect();
+    taken_in_order(&[set(groups.to_vec()), numbers.clone()], 3, product, &pairs);
+    let pairs = [1, 2]
+        .into_iter()
+        .flat_map(|n| groups.clone().map(|group| both(int(n), group)));
+    let pairs: Vec<Value> = pairs.collect();
+    taken_in_order(&[numbers, set(groups.to_vec())], 3, product, &pairs);
+}
+
+#[test]
+fn n6_unions_and_comprehensions_rise_in_the_new_order() {
+    let groups = [[0, 1], [2, 3], [1, 4], [0, 5]].map(|members| ints(&members));
+    let [least, low, high, most] = &groups;
+    let join = |kind: Kind, s: &[&Value], r: &[&Value], made: &[&Value]| {
+        let joined = |d: &mut Draft| {
+            let (s, r) = (d.using(0), d.using(1));
+            d.two(kind, s, r)
+        };
+        let made: Vec<Value> = made.iter().map(|&group| group.clone()).collect();
+        taken_in_order(&[of(s), of(r)], 3, joined, &made);
+    };
+    join(Kind::Union, &[high], &[low], &[low, high]);
+    join(
+        Kind::Union,
+        &[least, high],
+        &[low, most],
+        &[least, low, high, most],
+    );
+    join(Kind::Union, &[low, high], &[high, most], &[low, high, most]);
+    join(
+        Kind::Intersection,
+        &[least, low, high],
+        &[low, high, most],
+        &[low, high],
+    );
+    join(
+        Kind::Difference,
+        &[least, low, high, most],
+        &[least, high],
+        &[low, most],
+    );
+    // choice({w∈x0|w=w}) = {2,3}
+    let d = draft(|d| {
+        let (x, w) = (d.identifier(0), d.identifier(1));
+        let (s, body) = (d.using(x), one_is_one_using(d, w));
+        let all = d.node(Kind::Comprehension, w, s, body);
+        let (least, e) = (d.one(Kind::Choice, all), d.literal(low));
+        d.two(Kind::Equal, least, e);
+    });
+    assert_eq!(evaluated(&d, &[of(&[low, high])]), "true 15");
+}
+
+#[test]
+fn n6_tests_and_applications_find_sets_wherever_they_stand() {
+    let groups = [[0, 1], [2, 3], [1, 4], [0, 5]].map(|members| ints(&members));
+    let whole = set(groups.to_vec());
+    let relation = |kind: Kind, e: &Value, s: &Value| {
+        let d = draft(|d| {
+            let (x, y) = (d.identifier(0), d.identifier(0));
+            let (e, s) = (d.using(x), d.using(y));
+            d.two(kind, e, s);
+        });
+        evaluated(&d, &[e.clone(), s.clone()])
+    };
+    let numbered = groups
+        .iter()
+        .zip(1..)
+        .map(|(group, n)| both(group.clone(), int(n)));
+    let f = set(numbered.collect());
+    for (i, group) in groups.iter().enumerate() {
+        let rest = groups.iter().filter(|other| *other != group).cloned();
+        let rest = set(rest.collect());
+        assert_eq!(relation(Kind::Member, group, &whole), "true 3");
+        assert_eq!(relation(Kind::Member, group, &rest), "false 3");
+        assert_eq!(relation(Kind::Subset, &rest, &whole), "true 3");
+        assert_eq!(relation(Kind::Subset, &whole, &rest), "false 3");
+        let answer = if i == 0 { "true 5" } else { "false 5" };
+        assert_eq!(applied(&f, group), answer);
+    }
+    assert_eq!(applied(&f, &ints(&[0, 4])), "refused 16 2 4");
+    assert_eq!(applied(&former::arranged(&f), &groups[0]), "refused 14 0 0");
 }
