@@ -1,5 +1,5 @@
 //! Cases beyond P1 to P12, each with Evaluate's answer: damaged tables,
-//! values buffers, and what the kinds give. The batch has them after the
+//! values buffers, the order of values, and what the kinds give. The batch has them after the
 //! conditions of document 01. Nodes stand as in the document: kind, a, b, c.
 
 use crate::batch::Case;
@@ -71,6 +71,7 @@ pub fn all() -> Vec<Answered> {
     found.extend(buffers());
     found.extend(predicates());
     found.extend(applications());
+    found.extend(orders());
     found.extend(operations());
     found
 }
@@ -319,6 +320,290 @@ fn applications() -> Vec<Answered> {
         at(&[(in_set, 5), (in_set, 6)], in_set, UNDEFINED),
         at(&[(none, 6), (in_set, 5), (in_set, 6)], none, UNDEFINED),
         at(&[(none, 6), (in_set, 5), (in_set, 6)], other_set, UNDEFINED),
+    ]
+}
+
+/// The cells of values; a set's members stand as they are given, rising or not.
+type Cells = Vec<u32>;
+
+fn number(n: i32) -> Cells {
+    vec![n as u32, 1]
+}
+
+fn pair(first: &Cells, second: &Cells) -> Cells {
+    [&[0, 4], &first[..], second].concat()
+}
+
+fn set(members: &[&Cells]) -> Cells {
+    let mut found = vec![members.len() as u32, 5];
+    members.iter().for_each(|member| found.extend(*member));
+    found
+}
+
+fn group(members: &[i32]) -> Cells {
+    let members: Vec<Cells> = members.iter().map(|&n| number(n)).collect();
+    set(&members.iter().collect::<Vec<_>>())
+}
+
+/// Document 02, N6: sets of the same count go by their members from the
+/// greatest down, at every depth.
+fn orders() -> Vec<Answered> {
+    let mut found = lent_orders();
+    found.extend(formed_orders());
+    found.extend(sets_of_groups());
+    found
+}
+
+/// choice(x)=y for lent values: the least member of x, or refusal 14.
+fn lent_orders() -> Vec<Answered> {
+    let nodes = [one(20, 0), one(43, 0), one(20, 1), two(6, 1, 2)];
+    let at = |x: &Cells, y: &Cells, answer| {
+        with_cells(table(&[4], &[0, 0], &nodes), &[&x[..], y].concat(), answer)
+    };
+    let mut found = Vec::new();
+    // The two in this order are a set whose choice is the first; in the other
+    // order they are malformed.
+    let mut rising = |first: &Cells, second: &Cells| {
+        found.push(at(&set(&[first, second]), first, "true 4"));
+        found.push(at(&set(&[first, second]), second, "false 4"));
+        found.push(at(&set(&[second, first]), first, "refused 14 0 0"));
+    };
+    let (zero, one) = (number(0), number(1));
+    let (low, high) = (group(&[2, 3]), group(&[1, 4]));
+    let [single_1, single_2, single_3, single_4] = [1, 2, 3, 4].map(|n| group(&[n]));
+    // Groups; before N6 all but the second went the other way.
+    rising(&low, &high);
+    rising(&group(&[1, 4]), &group(&[2, 4]));
+    rising(&group(&[2, 3, 4]), &group(&[0, 1, 5]));
+    rising(&group(&[1, 3, 5]), &group(&[0, 4, 5]));
+    rising(&group(&[0, 1]), &group(&[-1, 5]));
+    let elements = |k: u32, l: u32| set(&[&vec![k, 3], &vec![l, 3]]);
+    rising(&elements(1, 2), &elements(0, 3));
+    // The count comes first.
+    rising(&group(&[9]), &high);
+    rising(&group(&[8, 9]), &group(&[0, 1, 2]));
+    // Sets of groups: by a group inside, by the greatest group, by both.
+    rising(&set(&[&low]), &set(&[&high]));
+    rising(&set(&[&single_2, &single_3]), &set(&[&single_1, &single_4]));
+    rising(&set(&[&single_4, &low]), &set(&[&single_1, &high]));
+    rising(&set(&[&single_1, &low]), &set(&[&single_4, &high]));
+    let apart = set(&[&group(&[0, 1]), &group(&[3, 4])]);
+    rising(&set(&[&low, &high]), &apart);
+    // One level deeper.
+    rising(&set(&[&set(&[&low])]), &set(&[&set(&[&high])]));
+    let [deep_1, deep_2, deep_3, deep_4] =
+        [&single_1, &single_2, &single_3, &single_4].map(|single| set(&[single]));
+    rising(&set(&[&deep_2, &deep_3]), &set(&[&deep_1, &deep_4]));
+    // Pairs still go from left to right.
+    rising(&pair(&low, &one), &pair(&high, &zero));
+    rising(&pair(&one, &low), &pair(&one, &high));
+    rising(&pair(&low, &low), &pair(&low, &high));
+    rising(&pair(&zero, &high), &pair(&one, &low));
+    rising(&pair(&high, &zero), &pair(&high, &one));
+    // Sets of pairs.
+    rising(&set(&[&pair(&low, &one)]), &set(&[&pair(&high, &zero)]));
+    let pairs = |m, n| set(&[&pair(&number(m), &zero), &pair(&number(n), &zero)]);
+    rising(&pairs(2, 3), &pairs(1, 4));
+    let with_empty = |part| set(&[&pair(&zero, part), &pair(&one, &set(&[]))]);
+    rising(&with_empty(&low), &with_empty(&high));
+    // Three groups; a fault at the front and at the end.
+    let (least, most) = (group(&[0, 1]), group(&[0, 5]));
+    found.push(at(&set(&[&least, &low, &high]), &least, "true 4"));
+    found.push(at(&set(&[&low, &high, &most]), &low, "true 4"));
+    found.push(at(&set(&[&least, &high, &low]), &least, "refused 14 0 0"));
+    found.push(at(&set(&[&high, &low, &most]), &low, "refused 14 0 0"));
+    // A member twice, and a fault in the second value.
+    for member in [&low, &set(&[&low]), &pair(&low, &one)] {
+        found.push(at(&set(&[member, member]), member, "refused 14 0 0"));
+    }
+    for (first, second) in [
+        (&low, &high),
+        (&set(&[&low]), &set(&[&high])),
+        (&pair(&low, &one), &pair(&high, &zero)),
+    ] {
+        let family = set(&[first, second]);
+        found.push(at(&set(&[&family]), &family, "true 4"));
+        found.push(at(
+            &set(&[&family]),
+            &set(&[second, first]),
+            "refused 14 1 0",
+        ));
+    }
+    // The members of a group still rise.
+    let falling = [group(&[3, 2]), group(&[4, 1])];
+    found.push(at(
+        &set(&[&falling[0], &falling[1]]),
+        &low,
+        "refused 14 0 0",
+    ));
+    // In a set of one set, and in pairs: well formed, and then no set.
+    let (now, before) = (set(&[&low, &high]), set(&[&high, &low]));
+    found.push(at(&set(&[&now]), &now, "true 4"));
+    found.push(at(&set(&[&before]), &now, "refused 14 0 0"));
+    for other in [&zero, &now] {
+        found.push(at(&pair(other, &now), &zero, "refused 15 1 3"));
+        found.push(at(&pair(&now, other), &zero, "refused 15 1 3"));
+        found.push(at(&pair(other, &before), &zero, "refused 14 0 0"));
+        found.push(at(&pair(&before, other), &zero, "refused 14 0 0"));
+    }
+    found
+}
+
+/// ∃z∈S·z=y for an expression S of x: true after 3 visits for each member of S
+/// up to y.
+fn formed_orders() -> Vec<Answered> {
+    let seek = |range: &[Node], x: &Cells, y: &Cells, answer| {
+        let mut nodes = range.to_vec();
+        let s = nodes.len() as u32;
+        nodes.extend([
+            one(20, 2),
+            one(20, 1),
+            two(6, s, s + 1),
+            [11, 2, s - 1, s + 2],
+        ]);
+        with_cells(
+            table(&[], &[0, 0, 1], &nodes),
+            &[&x[..], y].concat(),
+            answer,
+        )
+    };
+    let x = one(20, 0);
+    let (zero, unit) = (number(0), number(1));
+    let (least, low, high) = (group(&[0, 1]), group(&[2, 3]), group(&[1, 4]));
+    let lent = |y, answer| seek(&[x], &set(&[&least, &low, &high]), y, answer);
+    let four = group(&[1, 2, 3, 4]);
+    let subsets = |y: &[i32], answer| seek(&[x, one(33, 0)], &four, &group(y), answer);
+    let (now, lows, highs) = (set(&[&low, &high]), set(&[&low]), set(&[&high]));
+    let families = |y, answer| seek(&[x, one(33, 0)], &now, y, answer);
+    let half = |kind, first: &Cells, second: &Cells, y, answer| {
+        seek(&[x, one(kind, 0)], &set(&[first, second]), y, answer)
+    };
+    let product = |m, n, answer| seek(&[x, x, two(32, 0, 1)], &now, &pair(m, n), answer);
+    // {w∈x|¬({w}=x)}, which is x where x has two members, as the range.
+    let chosen = |y: &Cells, answer| {
+        let nodes = [
+            x,
+            one(20, 3),
+            one(27, 1),
+            x,
+            two(6, 2, 3),
+            one(4, 4),
+            [34, 3, 0, 5],
+            one(20, 2),
+            one(20, 1),
+            two(6, 7, 8),
+            [11, 2, 6, 9],
+        ];
+        let bytes = table(&[], &[0, 0, 1, 1], &nodes);
+        with_cells(bytes, &[&now[..], y].concat(), answer)
+    };
+    // ∀z∈x·¬(z=y).
+    let every = |y: &Cells, answer| {
+        let nodes = [
+            x,
+            one(20, 2),
+            one(20, 1),
+            two(6, 1, 2),
+            one(4, 3),
+            [10, 2, 0, 4],
+        ];
+        let bytes = table(&[], &[0, 0, 1], &nodes);
+        with_cells(bytes, &[&now[..], y].concat(), answer)
+    };
+    vec![
+        lent(&least, "true 5"),
+        lent(&low, "true 8"),
+        lent(&high, "true 11"),
+        lent(&group(&[0, 4]), "false 11"),
+        every(&low, "false 6"),
+        every(&high, "false 10"),
+        every(&least, "true 10"),
+        subsets(&[], "true 6"),
+        subsets(&[4], "true 18"),
+        subsets(&[1, 2], "true 21"),
+        subsets(&[1, 3], "true 24"),
+        subsets(&[2, 3], "true 27"),
+        subsets(&[1, 4], "true 30"),
+        subsets(&[2, 4], "true 33"),
+        subsets(&[3, 4], "true 36"),
+        subsets(&[1, 2, 3], "true 39"),
+        subsets(&[2, 3, 4], "true 48"),
+        subsets(&[1, 2, 3, 4], "true 51"),
+        families(&lows, "true 9"),
+        families(&highs, "true 12"),
+        families(&now, "true 15"),
+        half(35, &pair(&low, &unit), &pair(&high, &zero), &low, "true 6"),
+        half(35, &pair(&low, &unit), &pair(&high, &zero), &high, "true 9"),
+        half(36, &pair(&zero, &low), &pair(&zero, &high), &low, "true 6"),
+        half(36, &pair(&zero, &high), &pair(&unit, &low), &low, "true 6"),
+        half(36, &pair(&zero, &high), &pair(&unit, &low), &high, "true 9"),
+        product(&low, &low, "true 7"),
+        product(&low, &high, "true 10"),
+        product(&high, &low, "true 13"),
+        product(&high, &high, "true 16"),
+        chosen(&low, "true 16"),
+        chosen(&high, "true 19"),
+    ]
+}
+
+/// What unions, tests and applications give for sets of groups.
+fn sets_of_groups() -> Vec<Answered> {
+    let (low, high, most) = (group(&[2, 3]), group(&[1, 4]), group(&[0, 5]));
+    // The union, intersection or difference of x and y is z.
+    let made = |kind, x: &[&Cells], y: &[&Cells], z: &[&Cells]| {
+        let nodes = [
+            one(20, 0),
+            one(20, 1),
+            two(kind, 0, 1),
+            one(20, 2),
+            two(6, 2, 3),
+        ];
+        let words = [set(x), set(y), set(z)].concat();
+        with_cells(table(&[], &[0, 0, 0], &nodes), &words, "true 5")
+    };
+    let member = |x: &Cells, y: &[&Cells], answer| {
+        let nodes = [one(20, 0), one(20, 1), two(7, 0, 1)];
+        let words = [&x[..], &set(y)].concat();
+        with_cells(table(&[], &[0, 0], &nodes), &words, answer)
+    };
+    let subset = |x: &[&Cells], y: &[&Cells], answer| {
+        let nodes = [one(20, 0), one(20, 1), two(8, 0, 1)];
+        with_cells(
+            table(&[], &[0, 0], &nodes),
+            &[set(x), set(y)].concat(),
+            answer,
+        )
+    };
+    // f(e)=6, where f has pairs of {2,3} with 5 and of {1,4} with 6.
+    let (five, six) = (pair(&low, &number(5)), pair(&high, &number(6)));
+    let applied = |f: &[&Cells], e: &Cells, answer| {
+        let nodes = [one(20, 0), one(20, 1), two(37, 0, 1), int(6), two(6, 2, 3)];
+        let words = [&set(f)[..], e].concat();
+        with_cells(table(&[], &[0, 0], &nodes), &words, answer)
+    };
+    vec![
+        made(29, &[&high], &[&low], &[&low, &high]),
+        made(29, &[&low, &most], &[&high], &[&low, &high, &most]),
+        made(29, &[&low, &high], &[&low, &high], &[&low, &high]),
+        made(30, &[&low, &high], &[&high, &most], &[&high]),
+        made(30, &[&low, &most], &[&high], &[]),
+        made(31, &[&low, &high], &[&high, &most], &[&low]),
+        made(31, &[&low, &high, &most], &[&high], &[&low, &most]),
+        member(&low, &[&low, &high], "true 3"),
+        member(&high, &[&low, &high], "true 3"),
+        member(&high, &[&low, &most], "false 3"),
+        subset(&[&high], &[&low, &high, &most], "true 3"),
+        subset(&[&low, &most], &[&low, &high, &most], "true 3"),
+        subset(&[&low, &high], &[&low, &most], "false 3"),
+        applied(&[&five, &six], &high, "true 5"),
+        applied(&[&five, &six], &low, "false 5"),
+        applied(&[&five, &six], &most, "refused 16 2 4"),
+        applied(&[&six, &five], &high, "refused 14 0 0"),
+        applied(
+            &[&five, &six, &pair(&high, &number(7))],
+            &low,
+            "refused 16 2 4",
+        ),
     ]
 }
 
