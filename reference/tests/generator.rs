@@ -54,12 +54,15 @@ fn every_kind_and_every_answer_is_reached() {
 
 #[test]
 fn tables_without_nodes_reach_every_answer_that_they_can_have() {
-    let mut generator = Generator::new(2, false, None);
     let mut stats = Stats::default();
-    (0..12_000)
-        .map(|_| generator.case())
-        .filter(|case| case.table().get(12..16) == Some(&[0; 4]))
-        .for_each(|case| stats.add(&case));
+    // The classes that have them.
+    for class in [Class::Damaged, Class::Buffers, Class::Boundary] {
+        let mut generator = Generator::new(3, false, Some(class));
+        (0..6_000)
+            .map(|_| generator.case())
+            .filter(|case| case.table().get(12..16) == Some(&[0; 4]))
+            .for_each(|case| stats.add(&case));
+    }
     assert_reaches(&stats, "check", &refusals([3, 4, 5, 9, 10, 12].into_iter()));
     assert_reaches(&stats, "check", &["accepted".to_string()]);
     assert_reaches(&stats, "evaluate", &refusals([3, 4, 5, 9, 14].into_iter()));

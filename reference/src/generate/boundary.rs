@@ -1,11 +1,11 @@
 //! Conditions at the limits of document 01, just inside and just outside.
 
-use super::{templates, typed, Condition};
+use super::{groups, templates, typed, Condition};
 use crate::build::Draft;
 use crate::kinds::Kind;
 use crate::random::Random;
 use crate::table::MAX_HEIGHT;
-use crate::types::{pow, Type};
+use crate::types::Type;
 use crate::values::{self, Value};
 
 /// A condition at some limit; in small mode only at those that need few nodes.
@@ -20,6 +20,9 @@ pub fn condition(rng: &mut Random, small: bool) -> Condition {
         applications,
         applications,
         integer_ends,
+        // Sets of the same count in many places.
+        order,
+        order,
         order,
         shared_empty,
         elements,
@@ -39,7 +42,7 @@ pub fn condition(rng: &mut Random, small: bool) -> Condition {
         loops,
     ];
     // The small ones stand first.
-    let some = if small { &limits[..13] } else { limits };
+    let some = if small { &limits[..15] } else { limits };
     rng.pick(some)(rng)
 }
 
@@ -103,23 +106,82 @@ fn integer_ends(rng: &mut Random) -> Condition {
     with_value(d, Value::Integer(*rng.pick(&ENDS)))
 }
 
-/// The least member of a lent set of sets or pairs: the order of values.
+/// The least member of a set, and the visits of a quantifier that ends at some
+/// member: the order of values. Mostly sets of the same count tell the members
+/// apart; the set is lent, or an operation makes it.
 fn order(rng: &mut Random) -> Condition {
-    let t = match rng.chance(60) {
-        true => pow(Type::Integer),
-        false => typed::random_type(rng, 0, 2),
+    let members: Vec<Value> = match rng.below(6) {
+        0..=3 => groups::turned(rng),
+        4 => groups::some(rng),
+        _ => {
+            let t = typed::random_type(rng, 0, 2);
+            let any = || typed::random_value(rng, &t, &[], true);
+            std::iter::repeat_with(any).take(3).collect()
+        }
     };
-    let members: Vec<Value> = (0..3)
-        .map(|_| typed::random_value(rng, &t, &[], true))
-        .collect();
     let guess = rng.pick(&members).clone();
     let mut d = Draft::default();
     let x = d.identifier(0);
     let e = d.using(x);
-    let least = d.one(Kind::Choice, e);
-    let f = d.literal(&guess);
-    d.two(Kind::Equal, least, f);
-    with_value(d, values::set(members))
+    let (s, lent, guess) = match rng.below(6) {
+        0 => (d.one(Kind::Domain, e), related(rng, members, true), guess),
+        1 => (d.one(Kind::Range, e), related(rng, members, false), guess),
+        2 => {
+            let f = d.literal(rng.pick(&members));
+            let single = d.one(Kind::Singleton, f);
+            let kind = *rng.pick(&[Kind::Union, Kind::Difference]);
+            (d.two(kind, e, single), values::set(members), guess)
+        }
+        3 => {
+            let count = rng.between(3, 5) as usize;
+            let whole = groups::group(rng, count);
+            (d.one(Kind::Power, e), whole, groups::group(rng, 2))
+        }
+        _ => (e, values::set(members), guess),
+    };
+    let mut values = vec![Some(lent)];
+    let f = match rng.chance(50) {
+        true => d.literal(&guess),
+        false => {
+            values.push(Some(guess));
+            let y = d.identifier(0);
+            d.using(y)
+        }
+    };
+    if rng.chance(40) {
+        let least = d.one(Kind::Choice, s);
+        d.two(Kind::Equal, least, f);
+    } else {
+        values.push(None);
+        quantified(rng, &mut d, s, f);
+    }
+    Condition { draft: d, values }
+}
+
+/// ∃z∈s·z=f or ∀z∈s·¬(z=f): both end where z is f.
+fn quantified(rng: &mut Random, d: &mut Draft, s: u32, f: u32) {
+    let z = d.identifier(1);
+    let e = d.using(z);
+    let same = d.two(Kind::Equal, e, f);
+    match rng.chance(50) {
+        true => d.node(Kind::Exists, z, s, same),
+        false => {
+            let other = d.one(Kind::Not, same);
+            d.node(Kind::ForAll, z, s, other)
+        }
+    };
+}
+
+/// The set of the members, each beside an integer, as its first part or second.
+fn related(rng: &mut Random, members: Vec<Value>, first: bool) -> Value {
+    let pairs = members.into_iter().map(|member| {
+        let n = Value::Integer(rng.below(3) as i32);
+        match first {
+            true => values::pair(member, n),
+            false => values::pair(n, member),
+        }
+    });
+    values::set(pairs.collect())
 }
 
 /// f(e)=n for values of f and e, f of few pairs: e stands outside the domain

@@ -1,6 +1,7 @@
 //! Values buffers with each fault of refusal 14, and sound ones of other types.
 
-use super::{typed, Condition};
+use super::{groups, typed, Condition};
+use crate::former;
 use crate::random::Random;
 use crate::values::{self, cell, Value};
 
@@ -59,7 +60,7 @@ fn replaced(rng: &mut Random, condition: &Condition) -> Vec<u8> {
 
 fn odd_value(rng: &mut Random, sizes: &[u32], out: &mut Vec<u8>) {
     let sets = sizes.len() as u32;
-    match rng.below(11) {
+    match rng.below(14) {
         // Members that do not rise, or repeat.
         0 => raw_set(rng, out, &[Value::Integer(2), Value::Integer(1)]),
         1 => raw_set(rng, out, &[Value::Truth(true), Value::Truth(true)]),
@@ -88,6 +89,7 @@ fn odd_value(rng: &mut Random, sizes: &[u32], out: &mut Vec<u8>) {
             let payload = *rng.pick(&[0, 1, 2]);
             out.extend(cell(rng.below(8) as u8, payload));
         }
+        10..=12 => groups_as_before(rng, out),
         _ => {
             let t = typed::random_type(rng, sizes.len(), 2);
             typed::random_value(rng, &t, sizes, false).write_cells(out);
@@ -107,6 +109,21 @@ fn raw_set(rng: &mut Random, out: &mut Vec<u8>, members: &[Value]) {
     }
     out.extend(cell(5, members.len() as u32));
     members.iter().for_each(|member| member.write_cells(out));
+}
+
+/// A set in which sets of the same count meet, as a writer from before document
+/// 02's N6 leaves it: its members do not rise any more. One time in four it
+/// stands as it should.
+fn groups_as_before(rng: &mut Random, out: &mut Vec<u8>) {
+    let now = values::set(groups::turned(rng));
+    let written = match rng.chance(25) {
+        true => now,
+        false => former::arranged(&now),
+    };
+    match written {
+        Value::Set(members) if rng.chance(70) => raw_set(rng, out, &members),
+        inner => raw_set(rng, out, &[inner]),
+    }
 }
 
 /// {(1, a), (2, ∅), (3, b)}: the empty set fits both neighbours, which need

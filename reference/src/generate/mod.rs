@@ -3,6 +3,7 @@
 mod boundary;
 mod buffers;
 mod damage;
+mod groups;
 mod sized;
 mod templates;
 mod typed;
