@@ -9,6 +9,8 @@ const P1: &[u8] = include_bytes!("../../tables/p1");
 const P2: &[u8] = include_bytes!("../../tables/p2");
 const P3: &[u8] = include_bytes!("../../tables/p3");
 const GATE: &[u8] = include_bytes!("../../tables/gate");
+/// choice(x0) = {G0.1} ∪ {G0.2}, for a set x0 of groups of bins.
+const GROUPS: &[u8] = include_bytes!("../../tables/groups");
 /// x is element 1 of G0.
 const ELEMENT: &[u8] = &[1, 0, 0, 0, 3, 0, 0, 0];
 
@@ -205,6 +207,42 @@ fn application_means_a_function() {
     );
     assert_eq!(gate(&[(0, 0)]), ends(Err(refused(16, 3)), 12));
     assert_eq!(gate(&[]), ends(Err(refused(16, 3)), 7));
+}
+
+/// Document 02, N6: of two groups with the same count that with the greatest bin comes last. The other order of the same
+/// groups, which rose before, is malformed.
+#[test]
+fn groups_go_by_their_greatest_bins() {
+    let rising: &[u8] = include_bytes!("../../tests/values/groups-rising");
+    let former: &[u8] = include_bytes!("../../tests/values/groups-former");
+    let malformed = ends(Err(refused(14, 0)), 0);
+    assert_eq!(evaluate(GROUPS, rising, 100), ends(Ok(true), 8));
+    assert_eq!(evaluate(GROUPS, former, 100), malformed);
+    let sheet = check(GROUPS).expect("the table is accepted");
+    assert!(conforms(GROUPS, sheet.bytes(), rising));
+    assert!(!conforms(GROUPS, sheet.bytes(), former));
+    let set = |members: &[Vec<u8>]| {
+        let count = members.len() as u8;
+        [vec![count, 0, 0, 0, 5, 0, 0, 0], members.concat()].concat()
+    };
+    let group = |bins: &[u8]| {
+        let bins: Vec<Vec<u8>> = bins.iter().map(|&k| vec![k, 0, 0, 0, 3, 0, 0, 0]).collect();
+        set(&bins)
+    };
+    let at = |groups: &[&[u8]]| {
+        let groups: Vec<Vec<u8>> = groups.iter().map(|bins| group(bins)).collect();
+        evaluate(GROUPS, &set(&groups), 100)
+    };
+    assert_eq!(at(&[&[1, 2], &[0, 3]]), ends(Ok(true), 8));
+    assert_eq!(at(&[&[0, 3], &[1, 2]]), malformed);
+    // The count comes first, and bins still rise in their group.
+    assert_eq!(at(&[&[3], &[1, 2]]), ends(Ok(false), 8));
+    assert_eq!(at(&[&[1, 2], &[3]]), malformed);
+    assert_eq!(at(&[&[2, 1], &[3, 0]]), malformed);
+    assert_eq!(at(&[&[1, 2], &[1, 2]]), malformed);
+    assert_eq!(at(&[&[0, 2], &[1, 2], &[0, 3]]), ends(Ok(false), 8));
+    assert_eq!(at(&[&[1, 2], &[0, 3], &[1, 3]]), ends(Ok(true), 8));
+    assert_eq!(at(&[&[1, 2], &[1, 3], &[0, 3]]), malformed);
 }
 
 #[test]
