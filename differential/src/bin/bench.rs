@@ -174,6 +174,28 @@ fn large_sets() -> Case {
     case(&draft, &[members(0, 120), members(80, 200), members(0, 200), members(80, 120)])
 }
 
+/// For all s in a: a \/ b = c and s : c, where c has all 66 sets of two of 0..11, and a and b two thirds of them each.
+fn families() -> Case {
+    let mut draft = Draft::default();
+    let names: Vec<u32> = (0..3).map(|_| draft.identifier(0)).collect();
+    let s = draft.identifier(1);
+    let range = draft.using(names[0]);
+    let (a, b) = (draft.using(names[0]), draft.using(names[1]));
+    let union = draft.two(Kind::Union, a, b);
+    let c = draft.using(names[2]);
+    let equal = draft.two(Kind::Equal, union, c);
+    let (member, whole) = (draft.using(s), draft.using(names[2]));
+    let test = draft.two(Kind::Member, member, whole);
+    let body = draft.two(Kind::And, equal, test);
+    draft.node(Kind::ForAll, s, range, body);
+    // By the rest of their sums, so that the sets of a and b alternate.
+    let without = |rest: i32| {
+        let twos = (0..12).flat_map(|m| (m + 1..12).map(move |n| (m, n))).filter(|(m, n)| (m + n) % 3 != rest);
+        set(twos.map(|(m, n)| set(vec![Value::Integer(m), Value::Integer(n)])).collect())
+    };
+    case(&draft, &[without(0), without(1), without(3)])
+}
+
 /// For all x in 1..200: card(POW(a)) = 16 and card(b * c) = 60.
 fn powers() -> Case {
     let mut draft = Draft::default();
@@ -230,6 +252,7 @@ fn evaluation() {
         ("integer loops", integer_loops(), 10),
         ("nested quantifiers over sets", nested_sets(), 50),
         ("unions of large sets", large_sets(), 50),
+        ("unions of sets of sets", families(), 50),
         ("power sets and products", powers(), 50),
         ("function of 80 pairs", applications(), 200),
     ];

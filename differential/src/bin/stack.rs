@@ -38,6 +38,11 @@ fn chain() -> Value {
     (0..127).fold(Value::Integer(1), |value, _| pair(Value::Integer(1), value))
 }
 
+/// A set of two members of 127 cells each that differ in the innermost: their order is decided there.
+fn twins() -> Value {
+    set([1, 2].map(|n| (0..126).fold(Value::Integer(n), |value, _| set(vec![value]))).to_vec())
+}
+
 /// The case with a value for each free identifier; with `more`, unused identifiers that have the first value too, as many as the table can
 /// have, so that the values take the most room.
 fn filled(mut draft: Draft, mut values: Vec<Value>, more: bool) -> Case {
@@ -104,7 +109,7 @@ fn deep_types() -> Case {
 
 fn made() -> Vec<Case> {
     let mut cases = vec![deep_types()];
-    for value in [Value::Integer(1), nested(), chain()] {
+    for value in [Value::Integer(1), nested(), chain(), twins()] {
         for more in [false, true] {
             cases.extend([0, MAX_HEIGHT as usize - 2].map(|count| negations(count, &value, more)));
             cases.extend([false, true].map(|select| binders(select, &value, more)));
