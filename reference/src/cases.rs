@@ -377,6 +377,8 @@ fn lent_orders() -> Vec<Answered> {
     rising(&group(&[2, 3, 4]), &group(&[0, 1, 5]));
     rising(&group(&[1, 3, 5]), &group(&[0, 4, 5]));
     rising(&group(&[0, 1]), &group(&[-1, 5]));
+    let long = |m, n| group(&[m, n].into_iter().chain(20..40).collect::<Vec<_>>());
+    rising(&long(5, 6), &long(1, 10));
     let elements = |k: u32, l: u32| set(&[&vec![k, 3], &vec![l, 3]]);
     rising(&elements(1, 2), &elements(0, 3));
     // The count comes first.
@@ -404,6 +406,14 @@ fn lent_orders() -> Vec<Answered> {
     rising(&set(&[&pair(&low, &one)]), &set(&[&pair(&high, &zero)]));
     let pairs = |m, n| set(&[&pair(&number(m), &zero), &pair(&number(n), &zero)]);
     rising(&pairs(2, 3), &pairs(1, 4));
+    // Of integers: the first parts decide, whatever the second ones are.
+    let of = |pairs: &[[i32; 2]]| {
+        let pairs = pairs.iter().map(|&[m, n]| pair(&number(m), &number(n)));
+        set(&pairs.collect::<Vec<_>>().iter().collect::<Vec<_>>())
+    };
+    rising(&of(&[[1, 4]]), &of(&[[2, 3]]));
+    rising(&of(&[[2, 0], [3, 9]]), &of(&[[1, 5], [4, 0]]));
+    rising(&of(&[[2, 0], [3, 0]]), &of(&[[1, 9], [3, 1]]));
     let with_empty = |part| set(&[&pair(&zero, part), &pair(&one, &set(&[]))]);
     rising(&with_empty(&low), &with_empty(&high));
     // Three groups; a fault at the front and at the end.

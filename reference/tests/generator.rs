@@ -225,7 +225,7 @@ fn application(f: &Value, e: &Value) -> (bool, Vec<Value>) {
 fn application_means_a_function() {
     let mut generator = Generator::new(41, false, None);
     let (mut given, mut refused) = (0, [[0; 2]; 2]);
-    for _ in 0..8_000 {
+    for _ in 0..12_000 {
         let class = Class::ALL[generator_class(&mut generator)];
         let sample = generator.sample(class);
         let (evaluation, seen) = observe(&sample.table, &sample.values, sample.budget);

@@ -891,6 +891,7 @@ fn turned_pairs() -> Vec<[Value; 2]> {
         [ints(&[0, 1]), ints(&[-1, 5])],
         [ints(&[2, 3, 4]), ints(&[0, 1, 5])],
         [ints(&[1, 3, 5]), ints(&[0, 4, 5])],
+        [ints(&[5, 6, 20, 30, 40]), ints(&[1, 10, 20, 30, 40])],
         // By a set inside, by the greatest set, by both.
         [of(&[&low]), of(&[&high])],
         [of(&[&two, &three]), of(&[&one, &four])],
@@ -901,6 +902,15 @@ fn turned_pairs() -> Vec<[Value; 2]> {
         [
             of(&[&of(&[&two]), &of(&[&three])]),
             of(&[&of(&[&one]), &of(&[&four])]),
+        ],
+        // Sets of pairs.
+        [
+            of(&[&both(int(2), int(0)), &both(int(3), int(9))]),
+            of(&[&both(int(1), int(5)), &both(int(4), int(0))]),
+        ],
+        [
+            of(&[&both(int(2), int(0)), &both(int(3), int(0))]),
+            of(&[&both(int(1), int(9)), &both(int(3), int(1))]),
         ],
         // Sets in pairs, alone and in sets.
         [left(&low, 1), left(&high, 0)],

@@ -21,7 +21,7 @@ pub fn some(rng: &mut Random) -> Vec<Value> {
     // Two groups of two fit into small cases, where hardly another form does.
     let (form, count, many) = match rng.chance(40) {
         true => (0, 2, 2),
-        false => (rng.below(9), 2 + rng.below(3), 2 + rng.below(3)),
+        false => (rng.below(11), 2 + rng.below(3), 2 + rng.below(3)),
     };
     (0..many).map(|_| value(rng, form, count)).collect()
 }
@@ -35,18 +35,35 @@ fn value(rng: &mut Random, form: usize, count: usize) -> Value {
         5 => two(rng, |rng| group(rng, count / 2)),
         6 => left(rng, count),
         7 => right(rng, count),
-        _ if count == 2 => two(rng, |rng| left(rng, 2)),
-        _ => two(rng, |rng| right(rng, 2)),
+        8 if count == 2 => two(rng, |rng| left(rng, 2)),
+        8 => two(rng, |rng| right(rng, 2)),
+        9 => values::set((0..count).map(|_| point(rng)).collect()),
+        _ => long(rng, count),
     }
 }
 
 /// That many of the integers 0 to 5.
 pub fn group(rng: &mut Random, count: usize) -> Value {
-    let mut members: Vec<i32> = (0..6).collect();
-    while members.len() > count {
-        members.remove(rng.below(members.len()));
+    Value::Set(integers(rng, count))
+}
+
+fn integers(rng: &mut Random, count: usize) -> Vec<Value> {
+    let mut found: Vec<Value> = (0..6).map(Value::Integer).collect();
+    while found.len() > count {
+        found.remove(rng.below(found.len()));
     }
-    Value::Set(members.into_iter().map(Value::Integer).collect())
+    found
+}
+
+/// A group with greater members that all such groups have.
+fn long(rng: &mut Random, count: usize) -> Value {
+    let greater = (10..10 + 3 * count as i32).map(Value::Integer);
+    Value::Set(integers(rng, count).into_iter().chain(greater).collect())
+}
+
+fn point(rng: &mut Random) -> Value {
+    let [m, n] = [0; 2].map(|_| Value::Integer(rng.below(3) as i32));
+    values::pair(m, n)
 }
 
 fn two(rng: &mut Random, member: impl Fn(&mut Random) -> Value) -> Value {
