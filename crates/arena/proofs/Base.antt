@@ -1,7 +1,7 @@
 -- What the laws use of Rattle's libraries.
 pub use Prim.Native.Nat.{Ordering, Ordering·eq, Ordering·gt, Ordering·lt, _%_, _*_, _+_, _-_, _/_, _<_, _≤_, compare, suc, zero, ℕ}
 pub use mathlib.Core.Bool.{Bool, cond, false, true}
-pub use mathlib.Core.List.{List, [], _++_, _∷_, append-assoc, append-cancel-left, append-nil}
+pub use mathlib.Core.List.{List, [], _++_, _∷_, append-assoc, append-nil}
 pub use mathlib.Core.Logic.{_⊎_, inl, inr}
 pub use mathlib.Core.Path.{_∙_, _≡_, ap, refl, subst, sym}
 pub use native.Mathlib.Omega.{arith}

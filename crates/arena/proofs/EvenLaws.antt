@@ -1,14 +1,15 @@
 -- Members of one weight. Values of one type, one of them flat, weigh the same; in a row of values that each weigh k, value i stands
 -- k · i cells behind the first (`value-at`); a value of one cell compares with another by its cell.
-use Rattle.arena.proofs.Base.{ℕ, zero, suc, _+_, _*_, _-_, _≤_, _<_, compare, List, _≡_, refl, sym, ap, _∙_, subst, arith, add-zero, ℕ-discrete, T, getD}
+use Rattle.arena.proofs.Base.{ℕ, zero, suc, _+_, _*_, _-_, _≤_, _<_, compare, List, _≡_, refl, sym, ap, _∙_, subst, arith, T, getD}
 use Rattle.rules.specs.Types.{Ty, atom, POW, _⊗_}
 use Rattle.rules.specs.Values.{Value, scalar, pair, set, Values, none, _▸_, count, weight, weights, order}
 use Rattle.rules.specs.Fits.{HasType, HaveType, typed}
-use Rattle.laws.proofs.OrderLaws.{order-refl, compare-refl, lt-compare}
-use Rattle.laws.proofs.CellsLaws.{weight-some}
+use Rattle.laws.proofs.OrderLaws.{flip, order-flip, compare-flip, compare-refl, lt-compare}
+use Rattle.laws.proofs.CellsLaws.{count-weights}
 use Rattle.laws.proofs.FitsLaws.{typed-right}
-use Rattle.arena.specs.Code.{code, ValueAt, CellsFit, orderCode, EndsAt, Compared, IsScalar, Flat, AllWeigh, EvenSet, Front}
-use Rattle.arena.proofs.CodeLaws.{length-code, gt-compare, first-differs, all-agree}
+use Rattle.arena.specs.Code.{ValueAt, CellsFit, orderCode, EndsAt, Compared, IsScalar, Flat, AllWeigh, EvenSet, Front}
+use Rattle.arena.proofs.Standing.{inner, weight-inner, stands-own}
+use Rattle.arena.proofs.CellOrder.{gt-compare, leaf-order}
 use Rattle.arena.proofs.FrontLaws.{front-next}
 
 -- Values of one type.
@@ -80,26 +81,18 @@ module _ (s : List ℕ) (top at n k : ℕ) (Q : Values → Type 0) (one : (v : V
       first none g e = absurd (omega (arith, g .counted))
       first (w ▸ ws) g e = p (at + k * i) (n - i) w ws g e
 
--- The order of two values, the second of one cell.
+-- The order of two values, one of which is one cell: first cells decide.
+pub first-cell-order : (s : List ℕ) (a b : ℕ) (v w : Value) → ValueAt s a v → ValueAt s b w → CellsFit v → CellsFit w → weight v ≡ 1 →
+    order v w ≡ compare (getD s a 0) (getD s b 0)
+first-cell-order s a b v w h k p q one =
+    rw (stands-own s a v h, stands-own s b w k) (leaf-order v w p q (omega (arith, weight-inner v, count-weights (inner v))))
+
+-- The second of one cell.
 module _ (s : List ℕ) (a b : ℕ) where
   pub cell-order : (v w : Value) → ValueAt s a v → ValueAt s b w → CellsFit v → CellsFit w → weight w ≡ 1 →
       order v w ≡ compare (getD s a 0) (getD s b 0)
-  cell-order v w h k p q one = go (ℕ-discrete (getD s a 0) (getD s b 0))
-    where
-      cells : (s : List ℕ) (a : ℕ) (v : Value) → ValueAt s a v → getD s a 0 ≡ getD (code v) 0 0
-      cells s a v h = ap (λ (i : ℕ). getD s i 0) (sym (add-zero a)) ∙ h .cells 0 (omega (arith, length-code v, weight-some v))
-
-      alike : getD s a 0 ≡ getD s b 0 → (j : ℕ) → j < weight w → getD (code v) j 0 ≡ getD (code w) j 0
-      alike e zero l = sym (cells s a v h) ∙ e ∙ cells s b w k
-      alike e (suc j) l = absurd (omega arith)
-
-      go : Dec (getD s a 0 ≡ getD s b 0) → order v w ≡ compare (getD s a 0) (getD s b 0)
-      go (yes e) =
-          let x : v ≡ w = all-agree v w p q (λ j l m. alike e j m) in
-          rw (x, e) (order-refl w ∙ sym (compare-refl (getD s b 0)))
-      go (no n) =
-          rw (cells s a v h, cells s b w k)
-          (first-differs v w 0 p q (weight-some v) (weight-some w) (λ j m. absurd (omega arith)) (λ e. n (cells s a v h ∙ e ∙ sym (cells s b w k))))
+  cell-order v w h k p q one =
+      order-flip w v ∙ ap flip (first-cell-order s b a w v k h q p one) ∙ sym (compare-flip (getD s b 0) (getD s a 0))
 
   pub cell-compared : EndsAt s b (b + 1) → Compared s a b (orderCode (compare (getD s a 0) (getD s b 0)))
   cell-compared e v w h k p q = ap orderCode (sym (cell-order v w h k p q (omega (arith, e w k q))))

@@ -1,9 +1,8 @@
--- Values that stand in the arena: their cells one by one, where they end, how two compare, and what copying keeps.
-use Rattle.arena.proofs.Base.{ℕ, suc, _+_, _*_, _-_, _/_, _%_, _≤_, _<_, compare, List, _∷_, _++_, append-assoc, append-nil, _⊎_, inl, inr, _≡_, refl, sym, ap, _∙_, subst, arith, add-zero, ℕ-discrete, decLt, length, getD, setAt, length-append, length-set, List·getD-append, getD-append-add, getD-set-same, getD-set-other, eq-eqb, ne-eqb}
+-- Values that stand in the arena: their cells one by one, where they end, how far two agree, and what copying keeps.
+use Rattle.arena.proofs.Base.{ℕ, suc, _+_, _*_, _-_, _/_, _%_, _≤_, _<_, List, _∷_, _++_, append-assoc, append-nil, _⊎_, inl, inr, _≡_, refl, sym, ap, _∙_, arith, add-zero, ℕ-discrete, decLt, length, getD, setAt, length-append, length-set, List·getD-append, getD-append-add, getD-set-same, getD-set-other, eq-eqb, ne-eqb}
 use Rattle.rules.specs.Values.{Value, scalar, pair, set, Values, none, _▸_, scalarTag, count, weight, weights}
-use Rattle.laws.proofs.OrderLaws.{order-refl, lt-compare}
-use Rattle.arena.specs.Code.{cellSize, scalarLow, code, codes, Stands, ValueAt, ValuesAt, Same, CellsFit, AllFit, orderCode, SomeAt, EndsAt, Compared, Copied, partsOf}
-use Rattle.arena.proofs.CodeLaws.{length-code, length-codes, scalar-small, gt-compare, first-differs, all-agree}
+use Rattle.arena.specs.Code.{cellSize, scalarLow, code, codes, Stands, ValueAt, ValuesAt, Same, CellsFit, AllFit, SomeAt, EndsAt, Copied, partsOf}
+use Rattle.arena.proofs.CodeLaws.{length-code, length-codes, scalar-small, all-agree}
 use Rattle.laws.proofs.CellsLaws.{count-weights}
 
 -- The first cell of a run, and the rest of it.
@@ -111,7 +110,7 @@ parts-inner (scalar x) f =
 parts-inner (pair v w) f = refl
 parts-inner (set vs) f = parts-set (ownCell (set vs)) 5 (count vs) (omega (arith, f .0)) (λ e. omega arith) refl (omega (arith, f .0))
 
-parts-stand : (s : List ℕ) (at : ℕ) (v : Value) → ValueAt s at v → CellsFit v → count (inner v) ≡ partsOf (getD s at 0)
+pub parts-stand : (s : List ℕ) (at : ℕ) (v : Value) → ValueAt s at v → CellsFit v → count (inner v) ≡ partsOf (getD s at 0)
 parts-stand s at v h f = parts-inner v f ∙ ap partsOf (sym (stands-own s at v h))
 
 -- A cell that no parts follow is a whole value.
@@ -172,7 +171,7 @@ module _ (s : List ℕ) (i left e : ℕ) (p : Pending s i left e) where
 abbrev pub Agree : List ℕ → ℕ → ℕ → ℕ → Type 0
 Agree s a b i = (j : ℕ) → j < i → getD s (a + j) 0 ≡ getD s (b + j) 0
 
-cells-agree : (s : List ℕ) (a b : ℕ) (v w : Value) → ValueAt s a v → ValueAt s b w → (j : ℕ) → j < weight v → j < weight w →
+pub cells-agree : (s : List ℕ) (a b : ℕ) (v w : Value) → ValueAt s a v → ValueAt s b w → (j : ℕ) → j < weight v → j < weight w →
     getD s (a + j) 0 ≡ getD s (b + j) 0 → getD (code v) j 0 ≡ getD (code w) j 0
 cells-agree s a b v w h k j l m e = sym (h .cells j (omega (arith, length-code v))) ∙ e ∙ k .cells j (omega (arith, length-code w))
 
@@ -206,28 +205,6 @@ agree-next s a b i g p q j l = go (ℕ-discrete j i)
     go : Dec (j ≡ i) → getD s (a + j) 0 ≡ getD s (b + j) 0
     go (yes f) = rw f (omega arith)
     go (no n) = g j (omega arith)
-
-module _ (s : List ℕ) (a b end i : ℕ) (ends : EndsAt s a end) (g : Agree s a b i) where
-  found : i < end - a → (getD s (a + i) 0 ≡ getD s (b + i) 0 → ⊥) → Compared s a b (orderCode (compare (getD s (a + i) 0) (getD s (b + i) 0)))
-  found l d v w h k p q =
-      let x = ends v h p in
-      let m = in-second s a b i v w h k p q (omega arith) g in
-      let c = h .cells i (omega (arith, length-code v)) in
-      let e = k .cells i (omega (arith, length-code w)) in
-      rw (c, e) (ap orderCode (sym (first-differs v w i p q (omega arith) m
-      (λ j n. cells-agree s a b v w h k j (omega arith) (omega arith) (g j n)) (λ f. d (c ∙ f ∙ sym e)))))
-
-  pub found-less : i < end - a → getD s (a + i) 0 < getD s (b + i) 0 → Compared s a b 0
-  found-less l d = subst (Compared s a b) (ap orderCode (lt-compare _ _ d)) (found l (λ e. omega arith))
-
-  pub found-greater : i < end - a → getD s (b + i) 0 < getD s (a + i) 0 → Compared s a b 2
-  found-greater l d = subst (Compared s a b) (ap orderCode (gt-compare _ _ d)) (found l (λ e. omega arith))
-
-  pub found-equal : end - a ≤ i → Compared s a b 1
-  found-equal l v w h k p q =
-      let x = ends v h p in
-      let e = all-agree v w p q (λ j m o. cells-agree s a b v w h k j m o (g j (omega arith))) in
-      rw (← e, order-refl v)
 
 -- Copying, cell by cell.
 pub copied-start : (s : List ℕ) (from to : ℕ) → Copied s from 0 to s

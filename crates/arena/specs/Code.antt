@@ -1,7 +1,7 @@
 -- Values as runs of cells in the arena. A cell is its tag times 2^32 and its payload, numbers in excess form, so that the
 -- order of cells as numbers is the order of document 01 by tag and then payload.
 use Prim.Native.Nat.{ℕ, _+_, _*_, _-_, _/_, _%_, _≤_, _<_, Ordering, Ordering·lt, Ordering·eq, Ordering·gt}
-use mathlib.Core.Bool.{cond}
+use mathlib.Core.Bool.{Bool, true, false, cond}
 use mathlib.Core.List.{List, [], _∷_, _++_}
 use mathlib.Core.Path.{_≡_}
 use lib.Dec.{T, eqb}
@@ -10,6 +10,8 @@ use lib.ListN.{length, getD}
 use lib.Signed.{mag}
 use Rattle.rules.specs.Cells.{precedes}
 use Rattle.rules.specs.Values.{Scalar, num, truth, element, Value, scalar, pair, set, Values, none, _▸_, scalarTag, bit, count, weight, weights, order}
+use Rattle.rules.specs.Values.{same, _then_}
+use Rattle.arena.specs.declared.Rows.{Rows}
 
 abbrev pub cellSize : ℕ
 cellSize = 4294967296
@@ -90,6 +92,71 @@ EndsAt s at r = (v : Value) → ValueAt s at v → CellsFit v → r ≡ at + wei
 -- r is the order of the values at a and b.
 abbrev pub Compared : List ℕ → ℕ → ℕ → ℕ → Type 0
 Compared s a b r = (v w : Value) → ValueAt s a v → ValueAt s b w → CellsFit v → CellsFit w → r ≡ orderCode (order v w)
+
+-- r says whether they are the same.
+abbrev pub SameAt : List ℕ → ℕ → ℕ → Bool → Type 0
+SameAt s a b r = (v w : Value) → ValueAt s a v → ValueAt s b w → CellsFit v → CellsFit w → r ≡ same v w
+
+-- The order o of some values, and p of the next: the first difference decides, or (last) the last one.
+abbrev pub thenNext : Bool → Ordering → Ordering → Ordering
+thenNext false o p = o then p
+thenNext true o p = p then o
+
+-- The order of two rows of as many values, from left to right: that of the first that differ, or (last) of the last.
+unfoldable pub rowOrder : Bool → Values → Values → Ordering
+unfolding order
+rowOrder last none ws = Ordering·eq
+rowOrder last (v ▸ vs) ws = elim ws [ none ↦ Ordering·eq | w ▸ ws′ ↦ (let o = rowOrder last vs ws′ in thenNext last (order v w) o) ]
+
+-- So as numbers.
+abbrev pub ThenNext : Bool → ℕ → ℕ → ℕ → Type 0
+ThenNext last m n r = (o p : Ordering) → m ≡ orderCode o → n ≡ orderCode p → r ≡ orderCode (thenNext last o p)
+
+-- n values that fit stand one behind the other from `at` on.
+pub record RowAt (s : List ℕ) (at n : ℕ) (vs : Values) : Type 0 where
+  pub stands : ValuesAt s at vs
+  pub fit : AllFit vs
+  pub counted : count vs ≡ n
+
+abbrev pub SomeRow : List ℕ → ℕ → ℕ → Type 0
+SomeRow s at n = (vs : Values) × RowAt s at n vs
+
+-- Of two rows that are compared from left to right, vs from i on and ws from j on are left, up to e and f; m is the order of those that have
+-- been passed, and with the order of those that are left it gives that of the whole.
+pub record RowsLeft (s : List ℕ) (i j n : ℕ) (last : Bool) (m : ℕ) (whole : Ordering) (e f : ℕ) (vs ws : Values) : Type 0 where
+  pub passed : Ordering
+  pub known : m ≡ orderCode passed
+  pub first : RowAt s i n vs
+  pub second : RowAt s j n ws
+  pub firstEnd : i + weights vs ≡ e
+  pub secondEnd : j + weights ws ≡ f
+  pub decides : thenNext last passed (rowOrder last vs ws) ≡ whole
+
+abbrev pub SomeLeft : List ℕ → ℕ → ℕ → ℕ → Bool → ℕ → Ordering → ℕ → ℕ → Type 0
+SomeLeft s i j n last m whole e f = (vs : Values) × (ws : Values) × RowsLeft s i j n last m whole e f vs ws
+
+-- n values from a on and n from b on have been compared as far as r says.
+pub record RowsBegun (s : List ℕ) (a b n : ℕ) (last : Bool) (r : Rows) : Type 0 where
+  pub behind : a ≤ r .a
+  pub few : r .a ≤ a + n
+  pub left : (vs ws : Values) → RowAt s a n vs → RowAt s b n ws →
+      SomeLeft s (r .a) (r .b) (n - (r .a - a)) last (r .order) (rowOrder last vs ws) (a + weights vs) (b + weights ws)
+
+-- r has the order o, and where m cells from a on and n from b on end.
+pub record Met (a b : ℕ) (o : Ordering) (m n : ℕ) (r : Rows) : Type 0 where
+  pub order : r .order ≡ orderCode o
+  pub first : r .a ≡ a + m
+  pub second : r .b ≡ b + n
+
+-- The values at a and b have been compared.
+abbrev pub ValuesCompared : List ℕ → ℕ → ℕ → Rows → Type 0
+ValuesCompared s a b r =
+    (v w : Value) → ValueAt s a v → ValueAt s b w → CellsFit v → CellsFit w → Met a b (order v w) (weight v) (weight w) r
+
+-- So n values from a on and n from b on.
+abbrev pub RowsCompared : List ℕ → ℕ → ℕ → ℕ → Bool → Rows → Type 0
+RowsCompared s a b n last r =
+    (vs ws : Values) → RowAt s a n vs → RowAt s b n ws → Met a b (rowOrder last vs ws) (weights vs) (weights ws) r
 
 -- n cells from `from` on have been copied to `to`, and nothing else is changed.
 pub record Copied (s : List ℕ) (from n to : ℕ) (s′ : List ℕ) : Type 0 where

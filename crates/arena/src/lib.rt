@@ -2,8 +2,9 @@
 ghost use mathlib.Core.Path.{_≡_};
 ghost use mathlib.Core.Logic.{_⊎_};
 ghost use Prim.Native.Nat.{ℕ, _+_, _*_, _-_, _<_, _≤_, _/_, _%_};
+ghost use Prim.Native.Nat.{compare as compared};
 ghost use lib.ListN.{length, getD, set};
-ghost use Rattle.arena.specs.Code.{SomeAt, EndsAt, Compared, Copied, partsOf};
+ghost use Rattle.arena.specs.Code.{SomeAt, EndsAt, Compared, SameAt, Copied, partsOf, orderCode, ThenNext, SomeRow, ValuesCompared, RowsBegun, RowsCompared};
 
 // A cell is its tag times CELL, and its payload.
 pub const CELL: u64 = 4294967296;
@@ -102,7 +103,145 @@ pub fn end_of(s: &[u64], at: usize) -> usize
     walk_end(s, at)
 }
 
-// The order of the value at a to that at b. The first ends at `end`.
+// Whether the values at a and b are the same. The first ends at `end`.
+pub fn same(s: &[u64], a: usize, end: usize, b: usize) -> bool
+    requires { ⌜ SomeAt (now s) a × SomeAt (now s) b × EndsAt (now s) a end ⌝ }
+    ensures { λ r. ⌜ SameAt (now (s .entry)) a b r ⌝ }
+{
+    let n = end - a;
+    let mut i: usize = 0;
+    while i < n {
+        if s[a + i] != s[b + i] {
+            return false;
+        }
+        i += 1;
+    }
+    true
+}
+
+// Two rows of values that have been compared: their order, and where they end.
+struct Rows {
+    order: u8,
+    a: usize,
+    b: usize,
+}
+
+// The order o of some values and then p of the next: the first that is a difference decides, or (if last) the last.
+fn then_next(last: bool, o: u8, p: u8) -> u8
+    ensures { λ r. ⌜ ThenNext last o p r ⌝ }
+{
+    if p == EQUAL {
+        return o;
+    }
+    if last {
+        return p;
+    }
+    if o == EQUAL {
+        return p;
+    }
+    o
+}
+
+// The order of two cells.
+fn cell_order(x: u64, y: u64) -> u8
+    ensures { λ r. ⌜ r ≡ orderCode (compared x y) ⌝ }
+{
+    if x < y {
+        return LESS;
+    }
+    if y < x {
+        return GREATER;
+    }
+    EQUAL
+}
+
+// Two values whose own cells differ: these decide.
+fn apart(s: &[u64], a: usize, b: usize) -> Rows
+    requires { ⌜ SomeAt (now s) a × SomeAt (now s) b × (getD (now s) a 0 ≡ getD (now s) b 0 → ⊥) ⌝ }
+    ensures { λ r. ⌜ ValuesCompared (now (s .entry)) a b r ⌝ }
+{
+    let order = cell_order(s[a], s[b]);
+    let end = end_of(s, a);
+    let other = end_of(s, b);
+    Rows {
+        order: order,
+        a: end,
+        b: other,
+    }
+}
+
+// Two values: their own cells, then what stands behind these, the parts of a pair from left to right, the members of a set from the greatest down.
+fn compare_values(s: &[u64], a: usize, b: usize) -> Rows
+    requires { ⌜ SomeAt (now s) a × SomeAt (now s) b ⌝ }
+    ensures { λ r. ⌜ ValuesCompared (now (s .entry)) a b r ⌝ }
+{
+    let x = s[a];
+    if x != s[b] {
+        return apart(s, a, b);
+    }
+    compare_rows(s, a + 1, b + 1, parts(x), x > PAIR)
+}
+
+// n values from a on and n from b on, as far as both are scalars.
+fn compare_cells(s: &[u64], a: usize, b: usize, n: usize, last: bool) -> Rows
+    requires { ⌜ SomeRow (now s) a n × SomeRow (now s) b n ⌝ }
+    ensures { λ r. ⌜ RowsBegun (now (s .entry)) a b n last r ⌝ }
+{
+    let mut i: usize = 0;
+    let mut order = EQUAL;
+    while i < n {
+        let x = s[a + i];
+        let y = s[b + i];
+        if x >= PAIR {
+            break;
+        }
+        if y >= PAIR {
+            break;
+        }
+        order = then_next(last, order, cell_order(x, y));
+        i += 1;
+    }
+    Rows {
+        order: order,
+        a: a + i,
+        b: b + i,
+    }
+}
+
+// n values from a on and n from b on, in one walk from the first up. Of the members of a set the last difference decides, that of the greatest.
+fn compare_rows(s: &[u64], a: usize, b: usize, n: usize, last: bool) -> Rows
+    requires { ⌜ SomeRow (now s) a n × SomeRow (now s) b n ⌝ }
+    ensures { λ r. ⌜ RowsCompared (now (s .entry)) a b n last r ⌝ }
+{
+    let begun = compare_cells(s, a, b, n, last);
+    let mut order = begun.order;
+    let mut i = begun.a;
+    let mut j = begun.b;
+    let mut left = n - (i - a);
+    while left > 0 {
+        let r = compare_values(s, i, j);
+        order = then_next(last, order, r.order);
+        i = r.a;
+        j = r.b;
+        left -= 1;
+    }
+    Rows {
+        order: order,
+        a: i,
+        b: j,
+    }
+}
+
+// The order of the value at a to that at b, whatever they hold.
+fn compare_whole(s: &[u64], a: usize, b: usize) -> u8
+    requires { ⌜ SomeAt (now s) a × SomeAt (now s) b ⌝ }
+    ensures { λ r. ⌜ Compared (now (s .entry)) a b r ⌝ }
+{
+    let r = compare_values(s, a, b);
+    r.order
+}
+
+// The same, where the first ends at `end`. As long as no set with members stands in both, the first cells that differ decide.
 pub fn compare(s: &[u64], a: usize, end: usize, b: usize) -> u8
     requires { ⌜ SomeAt (now s) a × SomeAt (now s) b × EndsAt (now s) a end ⌝ }
     ensures { λ r. ⌜ Compared (now (s .entry)) a b r ⌝ }
@@ -117,6 +256,9 @@ pub fn compare(s: &[u64], a: usize, end: usize, b: usize) -> u8
         }
         if y < x {
             return GREATER;
+        }
+        if x > SET {
+            return compare_whole(s, a, b);
         }
         i += 1;
     }

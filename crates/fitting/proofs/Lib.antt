@@ -3,4 +3,3 @@ pub mod Sharing
 pub mod Cells
 pub mod Tests
 pub mod Types
-pub mod Cycle

@@ -4,8 +4,8 @@
 pub use Rattle.visits.proofs.Terms.{ℕ, _-_, refl, sym, _∙_, arith, lit<, inl, inr, ⊎-elim, Visited, StandingTwo, eqb-false, now}
 use Rattle.visits.proofs.Terms.{_+_, _*_}
 use borrow.Fn.Kinds.{In, Out, RK}
-pub use Rattle.fitting.proofs.Cycle.{Over, OverLoop}
-use Rattle.fitting.proofs.Cycle.{Member, member}
+pub use Rattle.arena.proofs.Cycle.{Over, OverLoop}
+use Rattle.arena.proofs.Cycle.{Member, member}
 use Rattle.evaluators.proofs.each_chosen.Reads as each-chosen-reads
 use Rattle.evaluators.proofs.each_member.Reads as each-member-reads
 use Rattle.evaluators.proofs.eval_bare.Reads as eval-bare-reads

@@ -7,7 +7,7 @@ use Rattle.rules.specs.Fits.{typesOf}
 use Rattle.fitting.specs.Agree.{SomeTyped, SomeRun}
 use Rattle.fitting.proofs.Sharing.{meets-sym}
 use Rattle.fitting.proofs.Cells.{some-at, Rest, run-whole, rest-first, rest-end, rest-no, rest-yes, rest-last, one-meets}
-use Rattle.fitting.proofs.Cycle.{OverLoop}
+use Rattle.arena.proofs.Cycle.{OverLoop}
 use Rattle.arena.proofs.end_of.Reads as end-of
 use Rattle.fitting.proofs.+against+agree+each+meet.Lts-against as lts
 use Rattle.fitting.proofs.+against+agree+each+meet.Proof.Base.{against, agree}

@@ -9,7 +9,7 @@ use Rattle.fitting.proofs.meet.Reads as meet-reads
 use Rattle.fitting.proofs.against.Kinds as one-run
 use Rattle.fitting.proofs.agree.Kinds as two
 use Rattle.fitting.proofs.each.Kinds as runs
-use Rattle.fitting.proofs.Cycle.{Member, member}
+use Rattle.arena.proofs.Cycle.{Member, member}
 
 abbrev pub meet : Member 1 two.ps two.r
 meet = member 1 two.ps two.r (λ κs a. 4 * (length (a .0 .now) - a .1 .0)) meet-reads.Pre meet-reads.Post

@@ -4,7 +4,7 @@ use native.Mathlib.Omega.{arith}
 use Rattle.rules.specs.Fits.{sharedTypes}
 use Rattle.fitting.specs.Agree.{SomeTyped, RunAndRun}
 use Rattle.fitting.proofs.Cells.{some-at, end-bounds, Rest, run-whole, rest-first, rest-end, rest-no, rest-yes}
-use Rattle.fitting.proofs.Cycle.{OverLoop}
+use Rattle.arena.proofs.Cycle.{OverLoop}
 use Rattle.arena.proofs.end_of.Reads as end-of
 use Rattle.fitting.proofs.+against+agree+each+meet.Lts-each as lts
 use Rattle.fitting.proofs.+against+agree+each+meet.Proof.Base.{against, each}

@@ -8,7 +8,7 @@ use lib.ListN.{getD}
 use Rattle.fitting.proofs.Sharing.{tags-differ}
 use Rattle.fitting.specs.Agree.{SetHere, RunAndRun}
 use Rattle.fitting.proofs.Cells.{inside, tag-is, members-run, run-first, run-whole, rest-last, sets-agree, other-pair, PairHere, pair-here, some-at, end-bounds, pairs-agree}
-use Rattle.fitting.proofs.Cycle.{Over}
+use Rattle.arena.proofs.Cycle.{Over}
 use Rattle.arena.proofs.tag.Reads as tag
 use Rattle.arena.proofs.end_of.Reads as end-of
 use Rattle.fitting.proofs.members.Reads as members

@@ -4,7 +4,7 @@ use native.Mathlib.Omega.{arith}
 use Rattle.arena.specs.Code.{SomeAt}
 use Rattle.fitting.specs.Types.{ValuesAndType}
 use Rattle.fitting.proofs.Types.{SomeLeft, ends-behind, left-first, left-end, left-no, left-yes}
-use Rattle.fitting.proofs.Cycle.{OverLoop}
+use Rattle.arena.proofs.Cycle.{OverLoop}
 use Rattle.arena.proofs.end_of.Reads as end-of
 use Rattle.fitting.proofs.+all_of_type+has_type.Lts-all_of_type as lts
 use Rattle.fitting.proofs.+all_of_type+has_type.Proof.Base.{all-of-type, has-type}

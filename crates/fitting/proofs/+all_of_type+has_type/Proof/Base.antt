@@ -6,7 +6,7 @@ use Rattle.fitting.proofs.all_of_type.Reads as all-of-type-reads
 use Rattle.fitting.proofs.has_type.Reads as has-type-reads
 use Rattle.fitting.proofs.all_of_type.Kinds as run
 use Rattle.fitting.proofs.has_type.Kinds as one
-use Rattle.fitting.proofs.Cycle.{Member, member}
+use Rattle.arena.proofs.Cycle.{Member, member}
 
 abbrev pub has-type : Member 2 one.ps one.r
 has-type = member 2 one.ps one.r (λ κs a. 2 * (length (a .0 .now) - a .1 .0)) has-type-reads.Pre has-type-reads.Post

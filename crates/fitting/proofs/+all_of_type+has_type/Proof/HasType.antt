@@ -9,7 +9,7 @@ use Rattle.arena.specs.Code.{SomeAt}
 use Rattle.arena.proofs.ValueParts.{some-inside}
 use Rattle.fitting.specs.Types.{SomeType}
 use Rattle.fitting.proofs.Types.{PairAndProduct, type-inside, ends-behind, is-atom, set-no, pair-no, of-some, set-asks, pair-asks}
-use Rattle.fitting.proofs.Cycle.{Over}
+use Rattle.arena.proofs.Cycle.{Over}
 use Rattle.arena.proofs.low.Reads as low
 use Rattle.arena.proofs.tag.Reads as tag
 use Rattle.arena.proofs.end_of.Reads as end-of
